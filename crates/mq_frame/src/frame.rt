@@ -1,0 +1,75 @@
+use mq_base::Items;
+use mq_message::{Dest, Message};
+use std::alloc::AllocError;
+
+/// What one end of a channel tells the other.
+#[derive(Drop)]
+pub struct Frame {
+    /// The stamp of the entry that offered it.
+    pub stamp: u64,
+    /// The session that the sender of the channel is in.
+    pub session: u64,
+    pub kind: FrameKind,
+}
+
+/// The six kinds of frames. Units of work are numbered from 1 within their session.
+#[derive(Drop)]
+pub enum FrameKind {
+    /// The sender asks for a session. With `force` the receiver takes over its last sequence number.
+    Bind {
+        last: u32,
+        force: bool,
+    },
+    /// The receiver is bound; its last unit of work and last sequence number.
+    Status {
+        unit_session: u64,
+        unit_n: u64,
+        last: u32,
+    },
+    /// The message of that index, from 1, in unit `n`, with its sequence number and where it goes.
+    Msg {
+        n: u64,
+        index: u32,
+        number: u32,
+        dest: Dest,
+        message: Message,
+    },
+    /// Unit `n` is prepared: it has `count` messages, and the last sequence number is `last`.
+    End {
+        n: u64,
+        count: u32,
+        last: u32,
+    },
+    /// The receiver has committed unit `n`.
+    Ack {
+        n: u64,
+    },
+    /// The receiver refuses unit `n`, with the reason code.
+    Err {
+        n: u64,
+        reason: u32,
+    },
+}
+
+/// What an end of a channel sees when it looks for an item.
+#[derive(Drop)]
+pub enum Seen {
+    /// No item waits.
+    Nothing,
+    /// An item whose bytes are no frame.
+    Spoiled,
+    Frame(Frame),
+}
+
+/// A list of frames.
+pub type Frames = Items<Frame>;
+
+/// Why a decoder gave no frames.
+#[derive(Clone, Copy, Debug, PartialEq, Eq)]
+pub enum FrameFault {
+    /// No continuation of the bytes is a list of frames. The number of bytes, since the last reset,
+    /// before the first one after which this is so.
+    BadFrame(u64),
+    /// There was no memory; nothing has changed.
+    NoMemory,
+}
