@@ -1,0 +1,56 @@
+use mq_base::Items;
+use mq_objects::Keyword;
+
+/// The lines that a command shows; none but for DISPLAY.
+#[derive(Drop)]
+pub struct Shown {
+    pub lines: Items<Items<u8>>,
+}
+
+/// Why a command on objects is refused, in the order in which the causes are tried.
+#[derive(Clone, Copy, Debug, PartialEq, Eq)]
+pub enum ScRefusal {
+    /// The manager is down.
+    Down,
+    Exists,
+    Missing,
+    BadValue(Keyword),
+    InUse,
+    NotEmpty,
+    NoMemory,
+    Disk,
+    Cut,
+}
+
+/// Why a restart is refused.
+#[derive(Clone, Copy, Debug, PartialEq, Eq)]
+pub enum RestartFault {
+    Up,
+    Disk,
+    Cut,
+    /// The bytes are no log of this manager; the place of the gate at fault.
+    BadLog(u64),
+    NoMemory,
+}
+
+/// Whether a restart found the body of the write that was stopped.
+#[derive(Clone, Copy, Debug, PartialEq, Eq)]
+pub struct Kept {
+    pub kept: bool,
+}
+
+/// What stopped a forced write: the armed cut, or the disk.
+#[derive(Clone, Copy, Debug, PartialEq, Eq)]
+pub enum Stop {
+    Cut,
+    Disk,
+}
+
+/// How an inner call ends without its answer: it is refused, it finds no memory, or its forced
+/// write was stopped.
+#[derive(Clone, Copy, Debug, PartialEq, Eq)]
+pub enum Halt<F> {
+    Refused(F),
+    NoMemory,
+    Stopped(Stop),
+}
