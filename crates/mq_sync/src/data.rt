@@ -1,0 +1,57 @@
+use crate::unit::Unit;
+use mq_base::Items;
+use mq_message::Ident;
+use mq_name::QName;
+
+/// An end of a channel.
+#[derive(Clone, Copy, Debug, PartialEq, Eq)]
+pub enum End {
+    Sender,
+    Receiver,
+}
+
+/// A unit that was prepared and isn't settled: its messages, and the last sequence number with it.
+#[derive(Drop)]
+pub struct InDoubt {
+    pub unit: Unit,
+    pub idents: Items<Ident>,
+    pub last: u32,
+}
+
+/// What a sender has hardened. `last` is the last sequence number without the unit in doubt; `force` says that an
+/// operator has set it since the last prepared unit.
+#[derive(Drop)]
+pub struct SenderData {
+    pub partner: QName,
+    pub session: u64,
+    pub last: u32,
+    pub force: bool,
+    pub in_doubt: Option<InDoubt>,
+}
+
+/// What a receiver has hardened: its present session, closed or not, and the last unit that it committed, with its
+/// last sequence number (LSTLUWID and LSTSEQNO).
+#[derive(Drop)]
+pub struct ReceiverData {
+    pub partner: QName,
+    pub session: u64,
+    pub closed: bool,
+    pub unit: Unit,
+    pub last: u32,
+}
+
+/// What one manager has hardened of a channel. It has both where a channel's direction was turned round between runs.
+#[derive(Drop)]
+pub struct ChannelData {
+    pub sender: Option<SenderData>,
+    pub receiver: Option<ReceiverData>,
+}
+
+/// What a sender sees of its transmission queue: whether gets are enabled, whether free rows have expired, and how
+/// many rows are free.
+#[derive(Clone, Copy, Debug, PartialEq, Eq)]
+pub struct Stock {
+    pub enabled: bool,
+    pub expired: bool,
+    pub free: u64,
+}
