@@ -2,7 +2,7 @@ ghost use Rattle.std.specs.Prelude.{◌≡◌, ◌+◌, ◌-◌, ◌^◌, ◌<�
 ghost use Rattle.std.specs.List.{list_any};
 ghost use Rattle.mq_queue.specs.declared.row.Row.{Row};
 ghost use Rattle.mq_queue.specs.Rows.{insert_row, keep, retag};
-ghost use Rattle.mq_queue.specs.Queues.{Lacks, row_of, first_of, message_of, has_other_ident, is_free_one, is_held_one, hold_row, release_row};
+ghost use Rattle.mq_queue.specs.Queues.{Lacks, IsQueue, row_of, first_of, message_of, has_other_ident, is_free_one, is_held_one, hold_row, release_row};
 
 use crate::row::Row;
 use mq_message::{Holder, Ident, Message, Place, Want};
@@ -54,7 +54,8 @@ pub trait Queue {
 
     /// The first free row above `after` that has the ids asked for; none where there is none.
     fn first(&self, want: &Want, after: Option<Place>) -> Option<(Place, Ident)>
-        ensures { result ≡ first_of want.now after (rows self.now) };
+        ensures first { result ≡ first_of want.now after (rows self.now) }
+        ensures queue { IsQueue (rows self.now) (arrivals self.now) };
 
     /// The message with an ident, free or held.
     fn row(&self, ident: &Ident) -> Option<&Message>
