@@ -2,9 +2,10 @@ ghost use Rattle.std.specs.Prelude.{◌≡◌, []};
 ghost use Rattle.mq_queue.specs.Queues.{IsQueue};
 ghost use Rattle.mq_queue.specs.Standing.{Standing};
 
-use crate::queue::{NoMemory, Queue};
+use crate::queue::Queue;
 use crate::row::Row;
 use crate::rows::{hold_one, is_takable, lane_of, put_row, release_one, take_row};
+use mq_base::NoMemory;
 use mq_message::{Holder, Ident, Message, Place, Want};
 use std::alloc::Global;
 use std::marker::Model;

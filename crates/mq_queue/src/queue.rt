@@ -5,18 +5,8 @@ ghost use Rattle.mq_queue.specs.Rows.{insert_row, keep, retag};
 ghost use Rattle.mq_queue.specs.Queues.{Lacks, IsQueue, row_of, first_of, message_of, has_other_ident, is_free_one, is_held_one, hold_row, release_row};
 
 use crate::row::Row;
+use mq_base::NoMemory;
 use mq_message::{Holder, Ident, Message, Place, Want};
-use std::alloc::AllocError;
-
-/// There is no memory.
-#[derive(Clone, Copy, Debug, PartialEq, Eq)]
-pub struct NoMemory;
-
-impl From<AllocError> for NoMemory {
-    fn from(_: AllocError) -> Self {
-        NoMemory
-    }
-}
 
 /// A list of committed rows in order of place, each free or held; no ident stands twice.
 ///

@@ -1,6 +1,7 @@
 ghost use Rattle.std.specs.Prelude.{◌≡◌, ◌+◌, ◌<◌, ◌≤◌};
 
 use super::*;
+use mq_base::NoMemory;
 use mq_message::{Bytes, Holder, Ident, Md, Message, Want};
 use std::alloc::{AllocError, Global};
 use std::test::*;
