@@ -1,0 +1,4 @@
+pub mod DescriptorLaws
+pub mod HeadLaws
+pub mod LayoutLaws
+pub mod TableLaws
