@@ -1,7 +1,6 @@
 -- A descriptor is read back from its bytes, and its bytes from it.
-use Rattle.std.proofs.Common.{◌≡◌, ℕ, ◌≤◌, ◌<◌, ◌++◌, List, [], length, take, refl, sym, ap, ◌∙◌, arith, codes, Bool, true, false, pos, length-append}
-use Rattle.std.specs.Prelude.{Option, Some, None, Result, Ok, Err, IfOk, nat_lt, ⊤}
-use Rattle.std.proofs.lemmas.Bool.Decides.{nat_tests}
+use Rattle.std.proofs.Common.{◌≡◌, ℕ, ◌≤◌, ◌++◌, List, [], length, take, refl, sym, ap, ◌∙◌, arith, codes, Bool, true, false, pos, length-append}
+use Rattle.std.specs.Prelude.{Option, Some, None, Ok, IfOk, nat_lt}
 use Rattle.std.proofs.lemmas.Bool.{ltb-false}
 use Rattle.mq_name.proofs.Numbers.{AreBytes}
 use Rattle.mq_message.specs.declared.message.Md.{Md}

@@ -1,6 +1,6 @@
 -- What the first two fields of a structure tell.
-use Rattle.std.proofs.Common.{◌≡◌, ℕ, ◌+◌, ◌≤◌, ◌<◌, ℤ, pos, List, length, Bool, true, false, refl, sym, ap, ◌∙◌, arith, ltb}
-use Rattle.std.specs.Prelude.{Option, Some, None, Result, Ok, Err, nat_lt, not, if◌then◌else◌}
+use Rattle.std.proofs.Common.{◌≡◌, ℕ, ◌+◌, ◌≤◌, pos, List, Bool, true, false, refl, arith}
+use Rattle.std.specs.Prelude.{Option, Some, None, nat_lt, not, if◌then◌else◌}
 use Rattle.std.specs.Ordering.{int_eq}
 use Rattle.std.specs.Cmp.{signed_Decides}
 use Rattle.std.specs.Str.{bytes_eq}
@@ -9,7 +9,7 @@ use Rattle.std.proofs.lemmas.Bool.Decides.{nat_tests}
 use Rattle.mq_message.specs.declared.head.HeadFault.{HeadFault}
 use Rattle.mq_message.specs.declared.head.HeadFault.TheVariants.{BadId, BadVersion}
 use Rattle.mq_message.specs.Layout.{long_of, part}
-use Rattle.mq_message.specs.Descriptor.{head_fault, id_fault, or_short, unless}
+use Rattle.mq_message.specs.Descriptor.{id_fault, or_short}
 
 pub record Heads (id : List ℕ) (place : ℕ) (bytes : List ℕ) : Type 0 where
   pub id_stands : part place 4 bytes ≡ id

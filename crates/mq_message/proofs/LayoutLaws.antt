@@ -1,5 +1,5 @@
 -- What is written field by field, and what is read back.
-use Rattle.std.proofs.Common.{◌≡◌, List, ℕ, ℤ, ◌++◌, ap, refl, sym, ◌∙◌, ◌%◌, ◌^◌, ◌<◌, [], ◌∷◌, arith, w32, to_z, of_z, FitsSigned}
+use Rattle.std.proofs.Common.{◌≡◌, List, ℕ, ℤ, ◌++◌, ap, ◌∙◌, ◌^◌, ◌<◌, [], ◌∷◌, arith, w32, to_z, of_z, FitsSigned}
 use Rattle.std.proofs.lemmas.List.{append_assoc}
 use Rattle.std.proofs.lemmas.Int.{to_z-of_z}
 use Rattle.mq_message.specs.Layout.{long_bytes, unsigned_bytes}

@@ -1,5 +1,5 @@
 -- A structure as a table of named fields, the bytes of its values, and the values in its bytes.
-use Rattle.std.specs.Prelude.{◌≡◌, ℕ, ◌+◌, ◌*◌, ◌^◌, ◌<◌, ◌==◌, ℤ, Bool, true, false, ◌&&◌, List, [], ◌∷◌, ◌++◌, length, take, drop, FitsSigned}
+use Rattle.std.specs.Prelude.{◌≡◌, ℕ, ◌+◌, ◌^◌, ◌<◌, ◌==◌, ℤ, Bool, true, ◌&&◌, List, [], ◌∷◌, ◌++◌, length, take, drop, FitsSigned}
 use Rattle.std.specs.Int.{w32, cast_unsigned, cast_signed}
 use Rattle.byteorder.specs.Endian.{big_bytes, big_number}
 

@@ -1,6 +1,6 @@
 use Rattle.std.proofs.Common.{◌≡◌, ℕ, List, [], ◌++◌, take, arith, rules, sym, ap, refl, ◌∙◌, codes, pos}
 use Rattle.std.proofs.lemmas.List.{take_all, append-nil}
-use Rattle.mq_message.specs.Layout.{long_bytes, unsigned_bytes}
+use Rattle.mq_message.specs.Layout.{long_bytes}
 use Rattle.mq_message.proofs.LayoutLaws.{behind, behind_long}
 use Rattle.mq_message.specs.Descriptor.{md_bytes, md_read}
 use Rattle.mq_message.proofs.DescriptorLaws.{MdFits, md_read-md_bytes}
