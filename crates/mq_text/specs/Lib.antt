@@ -1,0 +1,4 @@
+pub mod Lines
+pub mod Quoting
+pub mod Pieces
+pub mod Numbers

@@ -1,0 +1,15 @@
+//! Bytes as lines, pieces and numbers: what the readers of commands, rules and scenarios share.
+#![tactic(auto)]
+
+mod lines;
+mod numbers;
+mod piece;
+mod quoting;
+
+pub use lines::{behind, cut, next_line};
+pub use numbers::{NumberFault, number, signed};
+pub use piece::{Piece, PieceFault, PieceKind, pieces};
+pub use quoting::{unquoted, upper};
+
+#[cfg(test)]
+mod tests;
