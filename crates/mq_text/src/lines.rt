@@ -1,4 +1,4 @@
-ghost use Rattle.std.specs.Prelude.{◌≡◌, ◌+◌, ◌<◌, ◌∷◌, ◌==◌, [], MatchOption, IfSome, Some, None, position, length, option_copied};
+ghost use Rattle.std.specs.Prelude.{◌≡◌, ◌⊎◌, ◌+◌, ◌<◌, ◌∷◌, ◌==◌, [], MatchOption, IfSome, Some, None, position, length, option_copied};
 ghost use Rattle.std.specs.Option.{option_map};
 ghost use Rattle.mq_text.specs.Lines.{behind, cut, lines_of};
 
@@ -34,6 +34,7 @@ pub fn cut(bytes: &[u8], byte: u8) -> Option<(&[u8], &[u8])>
 pub fn next_line(text: &[u8]) -> Option<(&[u8], &[u8])>
     ensures line { MatchOption result (lines_of text.now ≡ []) (λ p. lines_of text.now ≡ p.0.now ∷ lines_of p.1.now) }
     ensures shorter { IfSome result (λ p. length p.1.now < length text.now) }
+    ensures whole { IfSome result (λ p. (length p.0.now + length p.1.now + 1 ≡ length text.now) ⊎ (p.1.now ≡ [])) }
 {
     if text.is_empty() {
         return None;
