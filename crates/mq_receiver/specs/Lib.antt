@@ -1,0 +1,3 @@
+pub mod States
+pub mod Table
+pub mod After

@@ -1,0 +1,31 @@
+use mq_sync::Unit;
+
+/// What a receiver's turn does.
+#[derive(Clone, Copy, Debug, PartialEq, Eq)]
+pub enum ReceiverDoes {
+    /// Nothing; no item waits.
+    Still,
+    /// Pops the item that waits.
+    Ignore,
+    /// Pushes the frame that is owed.
+    PushOwed,
+    /// Pops BIND and hardens its session as bound.
+    Bind,
+    /// Pops MSG and keeps its message.
+    Keep,
+    /// Pops END, places the messages of this unit and hardens it as received.
+    Place(Unit),
+    /// Pops END of the last unit, which is acknowledged again.
+    Again,
+    /// Pops a spoiled frame and hardens the bound session as closed.
+    Close,
+}
+
+/// What came of a turn. `Full` stands for a refused push, `Refused` for a batch that can't be placed, with the reason
+/// code; it goes with `Place` alone.
+#[derive(Clone, Copy, Debug, PartialEq, Eq)]
+pub enum ReceiverOut {
+    Done,
+    Full,
+    Refused(u32),
+}
