@@ -1,8 +1,9 @@
-use crate::agents::{Note, Unit};
+use crate::agents::Note;
 use mq_base::Items;
 use mq_codes::Reason;
 use mq_message::{Dest, Holder, Ident};
 use mq_name::{ChName, QName};
+use mq_sync::Unit;
 
 /// Why a row went.
 #[derive(Clone, Copy, Debug, PartialEq, Eq)]

@@ -1,5 +1,5 @@
-//! Plain data of calls: arguments, answers, free choices, what a call changed, channel data, records
-//! of the log, and the parts of a manager's state.
+//! Plain data of calls: arguments, answers, free choices, what a call changed, records of the log,
+//! and the parts of a manager's state.
 //!
 //! All of it is data without behaviour: definitions and contracts speak of these very types. A
 //! publication's answer will stand beside `Sent`, with the idents of its copies.
@@ -13,13 +13,10 @@ mod deltas;
 mod records;
 mod state;
 
-pub use agents::{
-    AgentStop, ChannelData, End, InDoubt, Messages, Note, PlaceFault, PrepareFault, ReceiverData,
-    SeizeFault, SenderData, Settle, Stock, Unit,
-};
+pub use agents::{AgentStop, Messages, Note, PlaceFault, PrepareFault, SeizeFault};
 pub use answers::{Answer, Appl, Get, GetAnswer, Got, Hconn, Hobj, Input, Open, Sent, Take};
 pub use choices::{Choice, Return};
 pub use commands::{Halt, Kept, RestartFault, ScRefusal, Shown, Stop};
 pub use deltas::{Delta, Did, Why};
-pub use records::{Add, LogRecord, ObjectChange, Remove};
+pub use records::{Add, LogRecord, Remove};
 pub use state::{Batch, Connection, Handle, Item, ReceiverSide, Seizure, SenderSide};

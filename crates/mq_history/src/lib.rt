@@ -1,0 +1,21 @@
+//! What happened at one queue manager: its opening, its entries, its marks; and what a scenario
+//! gives it. Plain data alone: what it means stands in the definitions of the plain node.
+#![tactic(auto)]
+
+mod acts;
+mod calls;
+mod history;
+mod opening;
+mod scenario;
+mod scripts;
+mod story;
+
+pub use acts::{Act, Acted, Command, Op, OpRefusal};
+pub use calls::{Actor, Call, Chance, Effect, Entry, Reply};
+pub use history::{History, Mark};
+pub use opening::{Image, StoredQueue};
+pub use scenario::{
+    CableLine, Fault, ManagerLine, MonitorLine, Scenario, ScriptPart, Section, Step,
+};
+pub use scripts::{Body, GetOptions, PutOptions, ScriptLine};
+pub use story::{Apart, Conflict, ManagerPlaces};

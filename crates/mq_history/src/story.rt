@@ -1,0 +1,38 @@
+use crate::opening::StoredQueue;
+use mq_base::Items;
+use mq_message::Ident;
+use mq_name::{ChName, QName};
+use mq_objects::Definitions;
+use mq_sync::Unit;
+
+/// The first operator's settlement that the receiver doesn't bear out: at which manager, of which
+/// unit.
+#[derive(Clone, Copy)]
+pub struct Conflict {
+    pub manager: u8,
+    pub channel: ChName,
+    pub unit: Unit,
+}
+
+/// Why the logs of a scenario's managers don't belong together. Cables are places in the scenario.
+#[derive(Clone, Copy)]
+pub enum Apart {
+    /// A kept partner is not the cable's other end.
+    Partner(u16),
+    /// The receiver's session is above the sender's; both.
+    Session(u16, u64, u64),
+    /// The receiver's last unit is above the sender's unit in doubt; both.
+    Unit(u16, Unit, Unit),
+    /// An ident stands in two rows.
+    Twice(Ident),
+    /// An ident is of a later incarnation than its manager's log knew, which was this one.
+    Newer(Ident, u64),
+}
+
+/// A manager's definitions, and its rows, queue by queue.
+#[derive(Drop)]
+pub struct ManagerPlaces {
+    pub name: QName,
+    pub definitions: Definitions,
+    pub queues: Items<StoredQueue>,
+}

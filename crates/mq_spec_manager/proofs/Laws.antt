@@ -1,0 +1,78 @@
+-- What is kept: laws that go by the shape of a call, whatever its tests are.
+use Rattle.std.specs.Prelude.{◌≡◌, ℕ, Bool, true, false, List, Option, Some, None, Result, Ok, Err, refl}
+use Rattle.std.proofs.Common.{◌∙◌}
+use Rattle.mq_message.specs.declared.message.Md.{Md}
+use Rattle.mq_resolve.specs.declared.route.Route.{Route}
+use Rattle.mq_resolve.specs.Resolved.{resolve}
+use Rattle.mq_codes.specs.declared.reason.Reason.{Reason}
+use Rattle.mq_calls.specs.declared.answers.Hconn.{Hconn}
+use Rattle.mq_calls.specs.declared.answers.Hobj.{Hobj}
+use Rattle.mq_calls.specs.declared.answers.Open.{Open}
+use Rattle.mq_message.specs.declared.message.Message.{Message}
+use Rattle.mq_calls.specs.declared.records.LogRecord.{LogRecord}
+use Rattle.mq_spec_state.specs.State.Change.{CountIdent}
+use Rattle.mq_spec_state.specs.State.{Plain, Connection, Handle}
+use Rattle.mq_spec_state.specs.Steps.{Step, Test, refusal, refused_or, tested, next, logged, do_part}
+use Rattle.mq_spec_state.specs.Reads.{handle_at}
+use Rattle.mq_spec_state.specs.Changes.{apply, apply_all, place, try_if}
+use Rattle.mq_spec_manager.specs.Handles.{connected, for_connection, for_handle, mqopen, option_tests, open_tests, open_step, open_up, open_resolved}
+use Rattle.mq_spec_manager.specs.Put.{mqput, output_tests, put_tests, put_step, put_up, put_handle, put_route, put_part, unit_record, placed, queue_at, new_message, handle_route}
+
+-- a call that is refused keeps all; one that passes keeps what its own step keeps
+kept_by : {F T : Type 0} (P : Plain → Type 0) (o : Option F) (s : Step F T) (p : Plain) → P p → P (next s p) → P (next (refused_or o s) p)
+kept_by P None s p old new = new
+kept_by P (Some reason) s p old new = old
+
+pub kept : {F T : Type 0} (P : Plain → Type 0) (ts : List (Test F)) (s : Step F T) (p : Plain) → P p → P (next s p) → P (next (tested ts s) p)
+kept P ts s p old new = kept_by P (refusal ts) s p old new
+
+pub kept_connection : {T : Type 0} (P : Plain → Type 0) (r : Result Connection Reason) (call : Connection → Step Reason T) (p : Plain) → P p → ((c : Connection) → P (next (call c) p)) → P (next (for_connection r call) p)
+kept_connection P (Err reason) call p old new = old
+kept_connection P (Ok c) call p old new = new c
+
+pub kept_handle : {T : Type 0} (P : Plain → Type 0) (h : Option Handle) (call : Handle → Step Reason T) (p : Plain) → P p → ((h : Handle) → P (next (call h) p)) → P (next (for_handle h call) p)
+kept_handle P None call p old new = old
+kept_handle P (Some h) call p old new = new h
+
+-- an open changes no queue
+abbrev SameQueues : Plain → Plain → Type 0
+SameQueues p q = q.queues ≡ p.queues
+
+open_kept : (c : Connection) (how : Open) (r : Result Route Reason) (p : Plain) → SameQueues p (next (open_resolved c how r p) p)
+open_kept c how (Err reason) p = refl
+open_kept c how (Ok route) p = kept (SameQueues p) (open_tests c how route p) (open_step c how route) p refl refl
+
+pub open_keeps_queues : (hc : Hconn) (name qmgr : List ℕ) (how : Open) (p : Plain) → SameQueues p (next (mqopen hc name qmgr how p) p)
+open_keeps_queues hc name qmgr how p = kept_connection (SameQueues p) (connected hc p) (open_up name qmgr how p) p refl
+    (λ c. kept (SameQueues p) (option_tests how) (open_resolved c how (resolve p.definitions p.given.name name qmgr) p) p refl (open_kept c how (resolve p.definitions p.given.name name qmgr) p))
+
+-- a put changes no definition
+abbrev SameDefinitions : Plain → Plain → Type 0
+SameDefinitions p q = q.definitions ≡ p.definitions
+
+tried : (b : Bool) (name : List ℕ) (p : Plain) → (try_if b name p).definitions ≡ p.definitions
+tried true name p = refl
+tried false name p = refl
+
+-- a change that is none of the definitions' keeps them
+pub placed_keeps : (name : List ℕ) (m : Message) (p : Plain) → (apply_all (placed name m) p).definitions ≡ p.definitions
+placed_keeps name m p = tried _ name (place name m p)
+
+logged_keeps : (r : Option LogRecord) (p : Plain) → (logged r p).definitions ≡ p.definitions
+logged_keeps None p = refl
+logged_keeps (Some r) p = refl
+
+put_part_kept : (sync : Bool) (c : Connection) (name : List ℕ) (m : Message) (p : Plain) → (do_part (put_part sync c name m) p).definitions ≡ p.definitions
+put_part_kept true c name m p = refl
+put_part_kept false c name m p = placed_keeps name m (apply CountIdent (logged (unit_record name m) p)) ∙ logged_keeps (unit_record name m) p
+
+put_kept : (sync : Bool) (c : Connection) (route : Route) (md : Md) (body : List ℕ) (p : Plain) → SameDefinitions p (next (put_route c route md body sync p) p)
+put_kept sync c route md body p =
+    kept (SameDefinitions p) (put_tests c route md body sync (new_message c route md body p) p) (put_step c route md sync (new_message c route md body p)) p refl
+    (put_part_kept sync c (queue_at route.end) (new_message c route md body p) p)
+
+pub put_keeps_definitions : (hc : Hconn) (ho : Hobj) (md : Md) (body : List ℕ) (sync : Bool) (p : Plain) → SameDefinitions p (next (mqput hc ho md body sync p) p)
+put_keeps_definitions hc ho md body sync p =
+    kept_connection (SameDefinitions p) (connected hc p) (put_up ho md body sync p) p refl
+    (λ c. kept_handle (SameDefinitions p) (handle_at ho.number c.handles) (put_handle md body sync p c) p refl
+    (λ h. kept (SameDefinitions p) (output_tests h) (put_route c (handle_route h) md body sync p) p refl (put_kept sync c (handle_route h) md body p)))

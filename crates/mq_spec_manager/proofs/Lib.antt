@@ -1,0 +1,5 @@
+pub mod Script
+mod Vectors
+mod MoreVectors
+mod Laws
+mod LostWrites

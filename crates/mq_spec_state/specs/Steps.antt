@@ -1,0 +1,183 @@
+-- What a call is: refused, or an answer with what it does, in one or two parts, each behind at most one forced write;
+-- and how the free choices end it.
+use Rattle.std.specs.Prelude.{◌≡◌, ℕ, zero, suc, is_some, ◌+◌, ◌-◌, ◌<◌, ◌≤◌, Bool, true, List, [], ◌∷◌, ◌++◌, map, if◌then◌else◌, Option, Some, None, Result, Ok, Err}
+use Rattle.mq_calls.specs.declared.commands.Stop.{Stop}
+use Rattle.mq_calls.specs.declared.commands.Stop.TheVariants as stops
+use Rattle.mq_calls.specs.declared.choices.Choice.{Choice}
+use Rattle.mq_calls.specs.declared.choices.Choice.TheVariants.{Runs, NoMemory, Stopped}
+use Rattle.mq_calls.specs.declared.commands.Halt.{Halt}
+use Rattle.mq_calls.specs.declared.commands.Halt.TheVariants as halts
+use Rattle.mq_calls.specs.declared.deltas.Did.{Did}
+use Rattle.mq_calls.specs.declared.records.LogRecord.{LogRecord}
+use Rattle.mq_spec_state.specs.State.{Plain, Change, Noted, LogState}
+use Rattle.mq_spec_state.specs.State.Which.{Nonpersistent}
+use Rattle.mq_spec_state.specs.State.Running.{Down}
+use Rattle.mq_spec_state.specs.Changes.{apply_all, kept_in}
+use Rattle.mq_spec_state.specs.Sizes.{need}
+
+-- a record that is forced, if any, and what is done behind it
+pub record Part : Type 0 where
+  pub forced : Option LogRecord
+  pub changes : List Change
+  pub delta : List Did
+
+pub data Step (F T : Type 0) : Type 0 where
+  Refuse : (reason : F) → Step F T
+  Do : (reply : T) → (parts : List Part) → Step F T
+
+-- A table of refusals: the first that applies.
+pub record Test (F : Type 0) : Type 0 where
+  pub applies : Bool
+  pub reason : F
+
+abbrev pub when : {F : Type 0} → Bool → F → Test F
+when b reason = record { applies = b; reason = reason }
+
+abbrev pub refusal : {F : Type 0} → List (Test F) → Option F
+refusal [] = None
+refusal (t ∷ ts) = if t.applies then Some t.reason else refusal ts
+
+abbrev pub refused_or : {F T : Type 0} → Option F → Step F T → Step F T
+refused_or None step = step
+refused_or (Some reason) step = Refuse reason
+
+-- the step, where no refusal of the table applies
+abbrev pub tested : {F T : Type 0} → List (Test F) → Step F T → Step F T
+tested ts step = refused_or (refusal ts) step
+
+abbrev pub silent : List Change → Part
+silent changes = record { forced = None; changes = changes; delta = [] }
+
+-- an answer that changes nothing
+abbrev pub say : {F T : Type 0} → T → Step F T
+say reply = Do reply []
+
+-- The free choices of a call are `Choice`: it runs; it finds no memory; or one of its writes is stopped, and so many
+-- device calls are left before an armed cut.
+
+pub data Outcome (F T : Type 0) : Type 0 where
+  Answered : (reply : T) → Outcome F T
+  Refused : (reason : F) → Outcome F T
+  Wanting : Outcome F T
+  Broken : (by : Stop) → Outcome F T
+
+pub record After (F T : Type 0) : Type 0 where
+  pub outcome : Outcome F T
+  pub delta : List Did
+  pub next : Plain
+
+-- a record stands in the log; to write it takes four device calls
+abbrev pub stands_in : LogRecord → LogState → LogState
+stands_in r log = record log { length = log.length + need r }
+
+abbrev pub written : LogRecord → LogState → LogState
+written r log = record log { length = log.length + need r; armed = log.armed - 4 }
+
+abbrev pub logged : Option LogRecord → Plain → Plain
+logged None p = p
+logged (Some r) p = record p { log = written r p.log }
+
+abbrev pub do_part : Part → Plain → Plain
+do_part part p = apply_all part.changes (logged part.forced p)
+
+abbrev pub do_all : List Part → Plain → Plain
+do_all [] p = p
+do_all (part ∷ parts) p = do_all parts (do_part part p)
+
+abbrev pub delta_of : List Part → List Did
+delta_of [] = []
+delta_of (part ∷ parts) = part.delta ++ delta_of parts
+
+abbrev pub volatile_gone : Plain → Plain
+volatile_gone p = record p { queues = map (kept_in Nonpersistent) p.queues }
+
+-- A stopped write freezes the manager: it is down with the note, its nonpersistent rows go, all else waits for the restart.
+abbrev pub freeze : Option Noted → ℕ → Plain → Plain
+freeze note left p = record (volatile_gone p) { running = Down note 0; log = record p.log { armed = left } }
+
+abbrev pub note_of : Part → Option LogRecord → Option Noted
+note_of part None = None
+note_of part (Some r) = Some (record { written = r; changes = part.changes; delta = part.delta })
+
+-- the parts before the stopped one are done
+abbrev pub stopped_at : ℕ → List Part → ℕ → Plain → Plain
+stopped_at n [] left p = p
+stopped_at zero (part ∷ parts) left p = freeze (note_of part part.forced) left p
+stopped_at (suc n) (part ∷ parts) left p = stopped_at n parts left (do_part part p)
+
+abbrev pub delta_before : ℕ → List Part → List Did
+delta_before n [] = []
+delta_before zero (part ∷ parts) = []
+delta_before (suc n) (part ∷ parts) = part.delta ++ delta_before n parts
+
+abbrev pub chosen : {F T : Type 0} → Choice → T → List Part → Plain → After F T
+chosen Runs reply parts p = record { outcome = Answered reply; delta = delta_of parts; next = do_all parts p }
+chosen NoMemory reply parts p = record { outcome = Wanting; delta = []; next = p }
+chosen (Stopped by n left) reply parts p = record { outcome = Broken by; delta = delta_before n parts; next = stopped_at n parts left p }
+
+-- what a step comes to under a choice
+abbrev pub after : {F T : Type 0} → Step F T → Choice → Plain → After F T
+after (Refuse reason) choice p = record { outcome = Refused reason; delta = []; next = p }
+after (Do reply parts) choice p = chosen choice reply parts p
+
+-- Which choices there are. Each forced write makes four device calls that count for an armed cut.
+abbrev pub write_calls : List Part → ℕ
+write_calls [] = 0
+write_calls (part ∷ parts) = if is_some part.forced then 4 + write_calls parts else write_calls parts
+
+abbrev pub calls_before : ℕ → List Part → ℕ
+calls_before n [] = 0
+calls_before zero (part ∷ parts) = 0
+calls_before (suc n) (part ∷ parts) = if is_some part.forced then 4 + calls_before n parts else calls_before n parts
+
+abbrev pub IsWrite : ℕ → List Part → Type 0
+IsWrite n [] = ⊥
+IsWrite zero (part ∷ parts) = is_some part.forced ≡ true
+IsWrite (suc n) (part ∷ parts) = IsWrite n parts
+
+-- the cut comes exactly at the armed call; the disk may stop any call before it
+abbrev pub StopsAt : Stop → ℕ → ℕ → ℕ → Type 0
+StopsAt stops.Cut armed before left = (before < armed) × (armed ≤ before + 4) × (left ≡ 0)
+StopsAt stops.Disk armed before left = (0 < armed → (before < armed) × (0 < left) × (before + left < armed)) × (armed ≤ before + left + 4) × (armed ≡ 0 → left ≡ 0)
+
+abbrev pub Possible : Choice → List Part → ℕ → Type 0
+Possible Runs parts armed = 0 < armed → write_calls parts < armed
+Possible NoMemory parts armed = Unit {0}
+Possible (Stopped by n left) parts armed = IsWrite n parts × StopsAt by armed (calls_before n parts) left
+
+-- a call that takes no memory never finds none
+abbrev pub IsNotWanting : Choice → Type 0
+IsNotWanting Runs = Unit {0}
+IsNotWanting NoMemory = ⊥
+IsNotWanting (Stopped by n left) = Unit {0}
+
+-- A body meets a step: its result names the choice. What a forced write takes of an armed cut is part of it.
+abbrev pub Ran : List Part → ℕ → Type 0
+Ran parts armed = Possible Runs parts armed
+
+-- stopped in the part of that number, with so many calls left
+pub record StoppedIn (by : Stop) (parts : List Part) (old new : Plain) : Type 0 where
+  pub part : ℕ
+  pub write : IsWrite part parts
+  pub stop : StopsAt by old.log.armed (calls_before part parts) new.log.armed
+  pub next : new ≡ stopped_at part parts new.log.armed old
+
+abbrev pub MeetsDone : {F T : Type 0} → Plain → T → List Part → Result T (Halt F) → Plain → Type 0
+MeetsDone old reply parts (Ok value) new = (value ≡ reply) × Ran parts old.log.armed × (new ≡ do_all parts old)
+MeetsDone old reply parts (Err (halts.Refused reason)) new = ⊥
+MeetsDone old reply parts (Err halts.NoMemory) new = new ≡ old
+MeetsDone old reply parts (Err (halts.Stopped by)) new = StoppedIn by parts old new
+
+abbrev pub MeetsRefusal : {F T : Type 0} → Plain → F → Result T (Halt F) → Plain → Type 0
+MeetsRefusal old reason (Ok value) new = ⊥
+MeetsRefusal old reason (Err (halts.Refused other)) new = (other ≡ reason) × (new ≡ old)
+MeetsRefusal old reason (Err halts.NoMemory) new = ⊥
+MeetsRefusal old reason (Err (halts.Stopped by)) new = ⊥
+
+abbrev pub Meets : {F T : Type 0} → Plain → Step F T → Result T (Halt F) → Plain → Type 0
+Meets old (Refuse reason) result new = MeetsRefusal old reason result new
+Meets old (Do reply parts) result new = MeetsDone old reply parts result new
+
+-- the state after a call that runs, and its answer
+abbrev pub next : {F T : Type 0} → Step F T → Plain → Plain
+next step p = (after step Runs p).next
