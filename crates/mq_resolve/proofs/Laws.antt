@@ -1,9 +1,8 @@
 -- What follows from the tables of name resolution.
-use Rattle.std.proofs.Common.{◌≡◌, ℕ, Bool, true, false, cond, ◌&&◌, List, [], ◌∷◌, ◌++◌, refl, sym, ap, ◌∙◌, Option, Some, None, Result, Ok, Err}
+use Rattle.std.proofs.Common.{◌≡◌, ℕ, Bool, true, false, ◌&&◌, List, [], ◌∷◌, ◌++◌, refl, ap, ◌∙◌, Option, Some, None, Result, Ok, Err}
 use Rattle.std.specs.Prelude.{IsTrue, IfOk, not, ◌||◌, if◌then◌else◌}
 use Rattle.mq_codes.specs.declared.reason.Reason.{Reason}
 use Rattle.mq_codes.specs.declared.reason.Reason.TheVariants as reasons
-use Rattle.mq_objects.specs.declared.object.LocalQueue.{LocalQueue}
 use Rattle.mq_objects.specs.declared.object.Object.{Object}
 use Rattle.mq_objects.specs.declared.object.Object.TheVariants as objects
 use Rattle.mq_objects.specs.declared.object.Definitions.{Definitions}
@@ -12,7 +11,7 @@ use Rattle.mq_resolve.specs.declared.route.PathStep.{PathStep}
 use Rattle.mq_resolve.specs.declared.route.PathStep.TheVariants.{Queue}
 use Rattle.mq_resolve.specs.declared.route.Route.{Route}
 use Rattle.mq_resolve.specs.declared.way.Way.{Way}
-use Rattle.mq_resolve.specs.Resolved.{Row, row, first_row, is_blank, is_here, is_local, is_alias, is_remote, is_undefined, is_normal, is_xmitq, is_transmission_queue, target, remote_name, remote_manager, xmitq, named_way, default_way, default_rows, default_table, transmission_rows, transmission_table, transmission, via, remote_rows, remote_table, by_definition, here, look_up_rows, look_up_table, look_up, is_manager_alias, by_manager_alias, whole_rows, whole_table, resolve, end_stands}
+use Rattle.mq_resolve.specs.Resolved.{Row, row, first_row, is_blank, is_here, is_local, is_alias, is_remote, is_undefined, is_normal, is_xmitq, is_transmission_queue, target, remote_name, remote_manager, xmitq, default_way, default_rows, default_table, transmission_rows, transmission_table, transmission, via, remote_rows, remote_table, by_definition, here, look_up_rows, look_up_table, look_up, is_manager_alias, by_manager_alias, whole_rows, whole_table, resolve, end_stands}
 
 -- what holds of each answer where its row is reached and applies, and of the last
 abbrev pub EachRow : {A : Type 0} → (A → Type 0) → List (Row A) → A → Type 0

@@ -7,7 +7,7 @@ use mq_name::QName;
 use mq_objects::{Defs, LocalQueue, Object, Usage};
 
 /// A transmission queue, and whether the manager's DEFXMITQ gave it.
-#[derive(Clone, Copy)]
+#[derive(Clone, Copy, Debug, PartialEq, Eq)]
 pub struct Way {
     pub queue: QName,
     pub by_default: bool,
