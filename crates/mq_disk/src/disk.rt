@@ -7,7 +7,7 @@ use mq_base::Failed;
 
 /// A disk of bytes, numbered from 0. A call answers `Failed` only where the disk's count of faults rose. What is
 /// written or cut is pending until a sync: a crash may leave it done, not done, or done in part.
-pub trait Disk: Drop + Send {
+pub trait Disk: Drop {
     /// Whether the disk tells its bytes. The clauses on content hold where it does.
     ghost tells: { Type 0 };
 
