@@ -24,7 +24,9 @@ use Rattle.mq_objects.specs.declared.command.Delete.{Delete}
 use Rattle.mq_objects.specs.declared.command.Display.{Display}
 use Rattle.mq_objects.specs.declared.command.Command.{Command}
 use Rattle.mq_objects.specs.declared.command.Command.TheVariants as commands
-use Rattle.mq_objects.specs.Names.{named, name_of, is_kind, is_transmission, is_by_priority}
+use Rattle.mq_objects.specs.declared.object.Definitions.{Definitions}
+use Rattle.mq_objects.specs.Changed.{set, set_attributes, delete as delete_object}
+use Rattle.mq_objects.specs.Names.{named, name_of, is_kind, is_transmission, is_by_priority, subject_space, subject_name}
 use Rattle.mq_objects.specs.Defaults.{new_object}
 use Rattle.mq_objects.specs.Settings.{set_all, set_all_manager}
 use Rattle.mq_objects.specs.Attributes.{Attribute, attributes, manager_attributes, kind_word, in_brackets, shown_attribute, number_of, same_keyword}
@@ -257,3 +259,15 @@ command_up (commands.Display d) p = display_of d.subjects d p
 
 abbrev pub command : Command → Plain → Step ScRefusal Shown
 command c p = tested (when (not (is_up p.running)) refusals.Down ∷ []) (command_up c p)
+
+-- The definitions after a command that was accepted.
+abbrev pub altered : Option Object → Alter → Definitions → Definitions
+altered None a d = d
+altered (Some old) a d = set (set_all a.settings old) d
+
+abbrev pub definitions_after : Command → Definitions → Definitions
+definitions_after (commands.Define c) d = set (defined_object c.subject c.settings) d
+definitions_after (commands.Alter c) d = altered (named c.subject d) c d
+definitions_after (commands.AlterManager c) d = set_attributes (set_all_manager c.settings d.manager) d
+definitions_after (commands.Delete c) d = delete_object (subject_space c.subject) (subject_name c.subject) d
+definitions_after (commands.Display c) d = d

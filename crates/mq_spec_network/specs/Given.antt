@@ -1,0 +1,53 @@
+-- What a scenario gives each manager.
+use Rattle.std.specs.Prelude.{ℕ, ◌+◌, ◌==◌, List, [], ◌∷◌, ◌++◌, if◌then◌else◌, Option, Some, None, suc, slice_get}
+use Rattle.mq_history.specs.declared.scenario.ManagerLine.{ManagerLine}
+use Rattle.mq_history.specs.declared.scenario.CableLine.{CableLine}
+use Rattle.mq_history.specs.declared.scenario.MonitorLine.{MonitorLine}
+use Rattle.mq_history.specs.declared.scenario.Scenario.{Scenario}
+use Rattle.mq_receiver.specs.States.{receiver_of}
+use Rattle.mq_sender.specs.States.{new_sender}
+use Rattle.mq_spec_state.specs.State.{Given}
+use Rattle.mq_spec_node.specs.Node.{Own, ChannelEnd, Monitor}
+use Rattle.mq_spec_node.specs.Node.ChannelEnd.{Sends, Receives}
+use Rattle.mq_spec_node.specs.Replays.{Surroundings}
+
+abbrev pub name_or : Option ManagerLine → List ℕ
+name_or None = []
+name_or (Some m) = m.name
+
+abbrev pub name_at : Scenario → ℕ → List ℕ
+name_at s m = name_or (slice_get s.managers m)
+
+-- The end of a cable at a manager, if it has one there.
+abbrev pub sends_from : Scenario → ℕ → CableLine → List ChannelEnd
+sends_from s cable c = Sends (record { cable = cable; channel = c.channel; partner = name_at s c.receiver; machine = new_sender }) ∷ []
+
+abbrev pub receives_at : Scenario → ℕ → CableLine → List ChannelEnd
+receives_at s cable c = Receives (record { cable = cable; channel = c.channel; partner = name_at s c.sender; machine = receiver_of None; kept = [] }) ∷ []
+
+abbrev pub end_at : Scenario → ℕ → ℕ → CableLine → List ChannelEnd
+end_at s m cable c = if c.sender == m then sends_from s cable c else (if c.receiver == m then receives_at s cable c else [])
+
+abbrev pub ends_from : Scenario → ℕ → ℕ → List CableLine → List ChannelEnd
+ends_from s m cable [] = []
+ends_from s m cable (c ∷ cs) = end_at s m cable c ++ ends_from s m (suc cable) cs
+
+abbrev pub monitors_from : ℕ → ℕ → List MonitorLine → List Monitor
+monitors_from m number [] = []
+monitors_from m number (l ∷ ls) =
+    if l.manager == m then record { number = number; connection = None; handle = None } ∷ monitors_from m (suc number) ls
+    else monitors_from m (suc number) ls
+
+abbrev pub log_max_or : Option ManagerLine → ℕ
+log_max_or None = 0
+log_max_or (Some m) = m.log_max
+
+-- a manager's number is one above its place
+abbrev pub given_at : Scenario → ℕ → Given
+given_at s m = record { number = m + 1; name = name_at s m; log_max = log_max_or (slice_get s.managers m) }
+
+abbrev pub own_at : Scenario → ℕ → Own
+own_at s m = record { ends = ends_from s m 0 s.cables; handlers = []; monitors = monitors_from m 0 s.monitors }
+
+abbrev pub surroundings : Scenario → ℕ → Surroundings
+surroundings s m = record { given = given_at s m; own = own_at s m }

@@ -1,0 +1,12 @@
+pub mod Story
+pub mod Given
+pub mod Ledger
+pub mod Standing
+pub mod Conflict
+pub mod Order
+pub mod Apart
+pub mod Cables
+pub mod Turns
+pub mod Pump
+pub mod Steps
+pub mod Lawful

@@ -1,0 +1,371 @@
+-- The entries of each step of a scenario.
+use Rattle.std.specs.Prelude.{◌≡◌, ◌≢◌, ◌<◌, ◌≤◌, ◌⊎◌, ℕ, suc, ◌+◌, ◌-◌, min, ◌==◌, Bool, true, false, not, ◌&&◌, nat_le, List, [], ◌∷◌, ◌++◌, if◌then◌else◌, Option, Some, None, Ok, Err, length, filter, count_by, slice_get, take, codes}
+use Rattle.std.specs.Str.{bytes_eq}
+use Rattle.mq_calls.specs.declared.answers.Answer.{Answer}
+use Rattle.mq_calls.specs.declared.answers.Answer.TheVariants as answers
+use Rattle.mq_calls.specs.declared.answers.Input.TheVariants as inputs
+use Rattle.mq_calls.specs.declared.answers.Open.{Open}
+use Rattle.mq_calls.specs.declared.answers.Hconn.{Hconn}
+use Rattle.mq_calls.specs.declared.answers.Hobj.{Hobj}
+use Rattle.mq_calls.specs.declared.answers.Get.{Get}
+use Rattle.mq_calls.specs.declared.answers.Got.{Got}
+use Rattle.mq_calls.specs.declared.answers.Take.TheVariants as takes
+use Rattle.mq_calls.specs.declared.commands.RestartFault.TheVariants as faults
+use Rattle.mq_frame.specs.declared.frame.Seen.TheVariants as items
+use Rattle.mq_history.specs.declared.acts.Act.{Act}
+use Rattle.mq_history.specs.declared.acts.Act.TheVariants as acts
+use Rattle.mq_history.specs.declared.acts.Acted.TheVariants as acted
+use Rattle.mq_history.specs.declared.acts.Command.{Command}
+use Rattle.mq_history.specs.declared.calls.Actor.{Actor}
+use Rattle.mq_history.specs.declared.calls.Actor.TheVariants as actors
+use Rattle.mq_history.specs.declared.calls.Call.{Call}
+use Rattle.mq_history.specs.declared.calls.Call.TheVariants as calls
+use Rattle.mq_history.specs.declared.calls.Reply.{Reply}
+use Rattle.mq_history.specs.declared.calls.Reply.TheVariants as replies
+use Rattle.mq_history.specs.declared.calls.Entry.{Entry}
+use Rattle.mq_history.specs.declared.scenario.MonitorLine.{MonitorLine}
+use Rattle.mq_history.specs.declared.scenario.ScriptPart.{ScriptPart}
+use Rattle.mq_history.specs.declared.scenario.Section.{Section}
+use Rattle.mq_history.specs.declared.scenario.Scenario.{Scenario}
+use Rattle.mq_history.specs.declared.scenario.Step.{Step}
+use Rattle.mq_history.specs.declared.scenario.Step.TheVariants as steps
+use Rattle.mq_spec_manager.specs.Heads.{field, trimmed}
+use Rattle.mq_spec_manager.specs.Handles.{connected as handles_connected}
+use Rattle.mq_spec_node.specs.Node.{Node, Monitor}
+use Rattle.mq_spec_node.specs.Deeds.{Deed}
+use Rattle.mq_spec_node.specs.Happens.{deed_of}
+use Rattle.mq_spec_node.specs.Scripts.{script_appl}
+use Rattle.mq_spec_network.specs.Story.{Mem}
+use Rattle.mq_spec_network.specs.Turns.{Network, node_at, is_up_at, deed_at, is_idle}
+use Rattle.mq_spec_network.specs.Pump.{Pumped, is_trigger}
+
+-- Trigger turns stand where they are due, and are told apart from a step's own entries.
+abbrev pub mains : List Entry → List Entry
+mains es = filter (λ (e : Entry). not (is_trigger e.call)) es
+
+-- the network after these entries more, manager by manager
+abbrev pub later : Network → (ℕ → List Entry) → Network
+later w seg = record w { done = λ m. w.done m ++ seg m }
+
+-- one manager alone does something
+abbrev pub Alone : ℕ → (ℕ → List Entry) → Type 0
+Alone m seg = (n : ℕ) → n ≢ m → seg n ≡ []
+
+-- Asked by an operator: one event for each command.
+abbrev pub Asks : Act → Entry → Type 0
+Asks act e = (e.actor ≡ actors.Operator) × (e.call ≡ calls.Act act)
+
+abbrev pub Obeys : List Command → List Entry → Type 0
+Obeys [] es = es ≡ []
+Obeys (c ∷ cs) [] = ⊥
+Obeys (c ∷ cs) (e ∷ es) = Asks (acts.Obey c) e × Obeys cs es
+
+abbrev pub AsksOnce : Act → List Entry → Type 0
+AsksOnce act [] = ⊥
+AsksOnce act (e ∷ es) = Asks act e × (es ≡ [])
+
+abbrev pub ObeysSection : Option Section → (ℕ → List Entry) → Type 0
+ObeysSection None seg = ⊥
+ObeysSection (Some s) seg = Obeys s.commands (mains (seg s.manager)) × Alone s.manager seg
+
+-- CLOCK: one event for each manager.
+abbrev pub IsClock : ℕ → Entry → Type 0
+IsClock by e = (e.actor ≡ actors.Clock) × (e.call ≡ calls.Act (acts.Clock by))
+
+abbrev pub AreClocks : List ℕ → List Entry → Type 0
+AreClocks [] es = es ≡ []
+AreClocks (by ∷ bys) [] = ⊥
+AreClocks (by ∷ bys) (e ∷ es) = IsClock by e × AreClocks bys es
+
+-- RUN: the next lines of the script. A get that waits has the clocks advanced to its deadline, at each manager.
+abbrev pub is_script : ℕ → Actor → Bool
+is_script k (actors.Script n) = n == k
+is_script k _ = false
+
+abbrev pub lines_done : ℕ → List Entry → ℕ
+lines_done k es = count_by (λ (e : Entry). is_script k e.actor) (mains es)
+
+abbrev pub waits_until : Call → Option ℕ
+waits_until (calls.Mqget hc ho get until) = until
+waits_until _ = None
+
+abbrev pub moment_of : Option Node → ℕ
+moment_of None = 0
+moment_of (Some n) = n.manager.moment
+
+-- the lines of a script, with the advances before its gets
+abbrev pub RunsLines : ℕ → ℕ → List ℕ → List Entry → Type 0
+RunsLines k moment bys [] = bys ≡ []
+RunsLines k moment [] (e ∷ es) = (e.actor ≡ actors.Script k) × RunsLines k moment [] es
+RunsLines k moment (by ∷ bys) (e ∷ []) = (e.actor ≡ actors.Script k) × ⊥
+RunsLines k moment (by ∷ bys) (e ∷ g ∷ es) =
+    ((e.actor ≡ actors.Script k) × RunsLines k moment (by ∷ bys) (g ∷ es))
+    ⊎ (IsClock by e × (0 < by) × (waits_until g.call ≡ Some (moment + by)) × RunsLines k (moment + by) bys (g ∷ es))
+
+pub record Runs (w : Network) (k m many : ℕ) (seg : ℕ → List Entry) : Type 0 where
+  pub advances : List ℕ
+  pub lines : RunsLines k (moment_of (node_at w m)) advances (mains (seg m))
+  pub count : lines_done k (seg m) ≡ many
+  pub clocks : (n : ℕ) → n ≢ m → n < length w.scenario.managers → AreClocks advances (mains (seg n))
+  pub beyond : (n : ℕ) → length w.scenario.managers ≤ n → seg n ≡ []
+
+abbrev pub lines_left : Network → ℕ → ScriptPart → ℕ
+lines_left w k p = length p.lines - lines_done k (w.done p.manager)
+
+abbrev pub at_most : Option ℕ → ℕ → ℕ
+at_most None left = left
+at_most (Some n) left = min n left
+
+abbrev pub RunsScript : Network → ℕ → Option ℕ → Option ScriptPart → (ℕ → List Entry) → Type 0
+RunsScript w k n None seg = ⊥
+RunsScript w k n (Some p) seg = Runs w k p.manager (at_most n (lines_left w k p)) seg
+
+-- HANDLE: turns of the handler until so many, or until the next would be idle.
+abbrev pub turn_is_idle : Option Deed → Bool
+turn_is_idle None = true
+turn_is_idle (Some d) = false
+
+abbrev pub handler_idle : ℕ → Option Node → Bool
+handler_idle k n = turn_is_idle (deed_at (actors.Handler k) calls.Turn items.Nothing n)
+
+abbrev pub AreTurnsOf : ℕ → List Entry → Type 0
+AreTurnsOf k [] = Unit {0}
+AreTurnsOf k (e ∷ es) = (e.actor ≡ actors.Handler k) × (e.call ≡ calls.Turn) × AreTurnsOf k es
+
+pub record Handles (w : Network) (k n m : ℕ) (seg : ℕ → List Entry) : Type 0 where
+  pub turns : AreTurnsOf k (mains (seg m))
+  pub most : length (mains (seg m)) ≤ n
+  pub enough : (length (mains (seg m)) ≡ n) ⊎ (handler_idle k (node_at (later w seg) m) ≡ true)
+  pub alone : Alone m seg
+
+-- WATCH: the monitor connects and opens its queue; where that fails it disconnects; where it is connected, nothing.
+abbrev pub shared : Open
+shared = record { input = inputs.Shared; browse = false; output = false }
+
+abbrev pub Does : Actor → Call → Entry → Type 0
+Does actor call e = (e.actor ≡ actor) × (e.call ≡ call)
+
+abbrev pub is_opened : Reply → Bool
+is_opened (replies.Opened (answers.Ok ho)) = true
+is_opened _ = false
+
+abbrev pub WatchEnds : Actor → Hconn → Bool → List Entry → Type 0
+WatchEnds actor hc true es = es ≡ []
+WatchEnds actor hc false [] = ⊥
+WatchEnds actor hc false (e ∷ es) = Does actor (calls.Mqdisc hc) e × (es ≡ [])
+
+abbrev pub WatchOpens : Actor → MonitorLine → Hconn → List Entry → Type 0
+WatchOpens actor l hc [] = ⊥
+WatchOpens actor l hc (e ∷ es) = Does actor (calls.Mqopen hc l.queue [] shared) e × WatchEnds actor hc (is_opened e.reply) es
+
+abbrev pub WatchGoesOn : Actor → MonitorLine → Reply → List Entry → Type 0
+WatchGoesOn actor l (replies.Connected (answers.Ok hc)) es = WatchOpens actor l hc es
+WatchGoesOn actor l _ es = es ≡ []
+
+abbrev pub WatchBegins : ℕ → MonitorLine → List Entry → Type 0
+WatchBegins k l [] = ⊥
+WatchBegins k l (e ∷ es) = Does (actors.Monitor k) (calls.Mqconn [] (script_appl l.label)) e × WatchGoesOn (actors.Monitor k) l e.reply es
+
+abbrev pub Watches : ℕ → MonitorLine → (live : Bool) → List Entry → Type 0
+Watches k l true es = es ≡ []
+Watches k l false es = WatchBegins k l es
+
+-- SERVE: turns of the monitor, each a get without wait; where the message's ApplId names a script of this manager of which
+-- no line was done, all its lines follow.
+abbrev pub is_monitor : ℕ → Actor → Bool
+is_monitor k (actors.Monitor n) = n == k
+is_monitor k _ = false
+
+abbrev pub is_of_monitor : ℕ → Entry → Bool
+is_of_monitor k e = is_monitor k e.actor
+
+-- the text of ApplId in a trigger message
+abbrev pub appl_id : List ℕ → List ℕ
+appl_id body = trimmed (field 172 256 body)
+
+abbrev pub got_body : Reply → List ℕ
+got_body (replies.Got (answers.Ok g)) = g.body
+got_body _ = []
+
+abbrev pub is_tm : List ℕ → Bool
+is_tm body = nat_le 684 (length body) && bytes_eq (take 4 body) (codes "TM  ")
+
+abbrev pub script_named : ℕ → ℕ → List ℕ → List ScriptPart → Option ℕ
+script_named m k label [] = None
+script_named m k label (p ∷ ps) = if p.manager == m && bytes_eq label p.label then Some k else script_named m (suc k) label ps
+
+abbrev pub unless_begun : List Entry → Option ℕ → Option ℕ
+unless_begun es None = None
+unless_begun es (Some k) = if lines_done k es == 0 then Some k else None
+
+-- the script that a monitor's get begins, at a manager that has done this so far
+abbrev pub begins : Scenario → ℕ → List Entry → Reply → Option ℕ
+begins s m es reply = if is_tm (got_body reply) then unless_begun es (script_named m 0 (appl_id (got_body reply)) s.scripts) else None
+
+abbrev pub lines_of : Option ScriptPart → ℕ
+lines_of None = 0
+lines_of (Some p) = length p.lines
+
+abbrev pub begun_by : Option ℕ → Scenario → List (ℕ × ℕ)
+begun_by None s = []
+begun_by (Some k) s = (k, lines_of (slice_get s.scripts k)) ∷ []
+
+-- the monitor's turns with the scripts that they begin: each script's lines are all behind its turn
+abbrev pub begun_lines : Scenario → ℕ → ℕ → List Entry → List Entry → List (ℕ × ℕ)
+begun_lines s m k before [] = []
+begun_lines s m k before (e ∷ es) =
+    if is_of_monitor k e then begun_by (begins s m before e.reply) s ++ begun_lines s m k (before ++ e ∷ []) es
+    else begun_lines s m k (before ++ e ∷ []) es
+
+abbrev pub AllBegun : List (ℕ × ℕ) → List Entry → Type 0
+AllBegun [] es = Unit {0}
+AllBegun (b ∷ bs) es = (lines_done b.0 es ≡ b.1) × AllBegun bs es
+
+abbrev pub IsServed : ℕ → List (ℕ × ℕ) → Entry → Type 0
+IsServed k begun e = (e.actor ≡ actors.Monitor k) ⊎ ((e.actor ≡ actors.Clock) ⊎ ((b : ℕ × ℕ) × Mem b begun × (e.actor ≡ actors.Script b.0)))
+
+abbrev pub AllServed : ℕ → List (ℕ × ℕ) → List Entry → Type 0
+AllServed k begun [] = Unit {0}
+AllServed k begun (e ∷ es) = IsServed k begun e × AllServed k begun es
+
+abbrev pub monitor_turns : ℕ → List Entry → ℕ
+monitor_turns k es = count_by (is_of_monitor k) (mains es)
+
+abbrev pub is_failed : Answer Got → Bool
+is_failed (answers.Ok g) = false
+is_failed (answers.Warning reason g) = true
+is_failed (answers.Failed reason) = true
+
+-- the monitor's next get would find nothing
+abbrev pub monitor_get : Get
+monitor_get = record { sync = false; take = takes.Next; want = record { msg_id = None; correl_id = None }; room = 4194304; truncate = false }
+
+abbrev pub gets_nothing : Option Deed → Bool
+gets_nothing None = true
+gets_nothing (Some d) = elim d.reply as (λ r. Bool) [
+  | replies.Connected a ↦ true
+  | replies.Opened a ↦ true
+  | replies.Ended a ↦ true
+  | replies.Put a ↦ true
+  | replies.Got a ↦ is_failed a
+  | replies.Acted a ↦ true
+  | replies.Changed ↦ true
+  | replies.Tried ↦ true
+  | replies.Triggered q ↦ true
+  | replies.Stopped by ↦ true
+]
+
+abbrev pub monitor_in : ℕ → List Monitor → Option Monitor
+monitor_in k [] = None
+monitor_in k (m ∷ ms) = if m.number == k then Some m else monitor_in k ms
+
+abbrev pub monitor_deed : ℕ → Option Hconn → Option Hobj → Node → Option Deed
+monitor_deed k None ho n = None
+monitor_deed k (Some hc) None n = None
+monitor_deed k (Some hc) (Some ho) n = deed_of 0 (actors.Monitor k) (calls.Mqget hc ho monitor_get None) items.Nothing n
+
+abbrev pub monitor_next : ℕ → Option Monitor → Node → Option Deed
+monitor_next k None n = None
+monitor_next k (Some m) n = monitor_deed k m.connection m.handle n
+
+abbrev pub monitor_idle : ℕ → Option Node → Bool
+monitor_idle k None = true
+monitor_idle k (Some n) = gets_nothing (monitor_next k (monitor_in k n.own.monitors) n)
+
+pub record Serves (w : Network) (k n m : ℕ) (seg : ℕ → List Entry) : Type 0 where
+  pub advances : List ℕ
+  pub served : AllServed k (begun_lines w.scenario m k (w.done m) (mains (seg m))) (mains (seg m))
+  pub whole : AllBegun (begun_lines w.scenario m k (w.done m) (mains (seg m))) (seg m)
+  pub most : monitor_turns k (seg m) ≤ n
+  pub enough : (monitor_turns k (seg m) ≡ n) ⊎ (monitor_idle k (node_at (later w seg) m) ≡ true)
+  pub clocks : (other : ℕ) → other ≢ m → other < length w.scenario.managers → AreClocks advances (mains (seg other))
+  pub beyond : (other : ℕ) → length w.scenario.managers ≤ other → seg other ≡ []
+
+-- PHASE: lines of its scripts, turns and timeouts of channel ends between them; then, script by script, all lines that are
+-- left, as a RUN has them.
+abbrev pub IsInPhase : List ℕ → Actor → Type 0
+IsInPhase ks (actors.Script k) = Mem k ks
+IsInPhase ks (actors.Sender cable) = Unit {0}
+IsInPhase ks (actors.Receiver cable) = Unit {0}
+IsInPhase ks _ = ⊥
+
+abbrev pub AllInPhase : List ℕ → List Entry → Type 0
+AllInPhase ks [] = Unit {0}
+AllInPhase ks (e ∷ es) = IsInPhase ks e.actor × AllInPhase ks es
+
+abbrev pub FinishesAll : List ℕ → Network → (ℕ → List Entry) → Type 0
+FinishesAll [] w seg = (m : ℕ) → seg m ≡ []
+FinishesAll (k ∷ ks) w seg =
+    (first : ℕ → List Entry) × (rest : ℕ → List Entry) × ((m : ℕ) → seg m ≡ first m ++ rest m)
+    × RunsScript w k None (slice_get w.scenario.scripts k) first × FinishesAll ks (later w first) rest
+
+pub record InPhase (w : Network) (ks : List ℕ) (seg : ℕ → List Entry) : Type 0 where
+  pub first : ℕ → List Entry
+  pub rest : ℕ → List Entry
+  pub parts : (m : ℕ) → seg m ≡ first m ++ rest m
+  pub between : (m : ℕ) → AllInPhase ks (mains (first m))
+  pub finished : FinishesAll ks (later w first) rest
+
+abbrev pub has_connection : Option Hconn → Node → Bool
+has_connection None n = false
+has_connection (Some hc) n = elim (handles_connected hc n.manager) as (λ r. Bool) [ Ok c ↦ true | Err reason ↦ false ]
+
+abbrev pub is_live : Option Monitor → Node → Bool
+is_live None n = false
+is_live (Some m) n = has_connection m.connection n
+
+-- What a step has, and whether it ended idle.
+abbrev pub monitor_live : ℕ → Option Node → Bool
+monitor_live k None = false
+monitor_live k (Some n) = is_live (monitor_in k n.own.monitors) n
+
+abbrev pub WatchesAt : Network → ℕ → Option MonitorLine → (ℕ → List Entry) → Type 0
+WatchesAt w k None seg = ⊥
+WatchesAt w k (Some l) seg = Watches k l (monitor_live k (node_at w l.manager)) (mains (seg l.manager)) × Alone l.manager seg
+
+abbrev pub ServesAt : Network → ℕ → ℕ → Option MonitorLine → (ℕ → List Entry) → Type 0
+ServesAt w k n None seg = ⊥
+ServesAt w k n (Some l) seg = Serves w k n l.manager seg
+
+abbrev pub HandlesAt : Network → ℕ → ℕ → (ℕ → List Entry) → Type 0
+HandlesAt w k n seg = (m : ℕ) × Handles w k n m seg
+
+abbrev pub StepIs : Network → Step → (ℕ → List Entry) → Type 0
+StepIs w (steps.Obey k) seg = ObeysSection (slice_get w.scenario.sections k) seg
+StepIs w (steps.Do m c) seg = AsksOnce (acts.Obey c) (mains (seg m)) × Alone m seg
+StepIs w (steps.Run k n) seg = RunsScript w k n (slice_get w.scenario.scripts k) seg
+StepIs w (steps.Phase ks) seg = InPhase w ks seg
+StepIs w (steps.Pump n) seg = Pumped n w (later w seg)
+StepIs w (steps.Handle k n) seg = HandlesAt w k n seg
+StepIs w (steps.Watch k) seg = WatchesAt w k (slice_get w.scenario.monitors k) seg
+StepIs w (steps.Serve k n) seg = ServesAt w k n (slice_get w.scenario.monitors k) seg
+StepIs w (steps.Crash m) seg = AsksOnce acts.Crash (mains (seg m)) × Alone m seg
+StepIs w (steps.Restart m) seg = AsksOnce acts.Restart (mains (seg m)) × Alone m seg
+StepIs w (steps.Cut m k) seg = AsksOnce (acts.Cut k) (mains (seg m)) × Alone m seg
+StepIs w (steps.Clock by) seg = (m : ℕ) → m < length w.scenario.managers → AreClocks (by ∷ []) (mains (seg m))
+
+-- a mark is idle exactly where its step is a PUMP after which nothing can change, or a HANDLE whose next turn would be idle
+abbrev pub IsMark : Network → Step → (ℕ → List Entry) → Bool → Type 0
+IsMark w (steps.Pump n) seg idle = idle ≡ is_idle (later w seg)
+IsMark w (steps.Handle k n) seg idle = (m : ℕ) × Handles w k n m seg × (idle ≡ handler_idle k (node_at (later w seg) m))
+IsMark w _ seg idle = idle ≡ false
+
+-- Last come the restarts of managers that are down; one that a cut stops is done once more.
+abbrev pub is_cut : Reply → Bool
+is_cut (replies.Acted (acted.Start faults.Cut)) = true
+is_cut _ = false
+
+abbrev pub RestartsAgain : Bool → List Entry → Type 0
+RestartsAgain true es = AsksOnce acts.Restart es
+RestartsAgain false es = es ≡ []
+
+abbrev pub RestartsOnce : List Entry → Type 0
+RestartsOnce [] = ⊥
+RestartsOnce (e ∷ es) = Asks acts.Restart e × RestartsAgain (is_cut e.reply) es
+
+abbrev pub RestartsIf : Bool → List Entry → Type 0
+RestartsIf true es = es ≡ []
+RestartsIf false es = RestartsOnce es
+
+abbrev pub LastRestarts : Network → (ℕ → List Entry) → Type 0
+LastRestarts w seg = (m : ℕ) → m < length w.scenario.managers → RestartsIf (is_up_at (node_at w m)) (mains (seg m))

@@ -1,0 +1,2 @@
+pub mod Pair
+mod Turns

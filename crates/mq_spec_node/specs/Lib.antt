@@ -1,0 +1,9 @@
+pub mod Node
+pub mod Deeds
+pub mod Senders
+pub mod Receivers
+pub mod Operators
+pub mod Openings
+pub mod Happens
+pub mod Replays
+pub mod Scripts

@@ -1,0 +1,69 @@
+-- When a history replays: each entry's reply and effect are those of its event, one after the other.
+use Rattle.std.specs.Prelude.{◌≡◌, ℕ, ◌+◌, ◌<◌, max, List, [], ◌∷◌}
+use Rattle.mq_frame.specs.declared.frame.Seen.{Seen}
+use Rattle.mq_frame.specs.declared.frame.Seen.TheVariants as items
+use Rattle.mq_history.specs.declared.calls.Entry.{Entry}
+use Rattle.mq_history.specs.declared.calls.Chance.{Chance}
+use Rattle.mq_history.specs.declared.calls.Chance.TheVariants as chances
+use Rattle.mq_history.specs.declared.history.History.{History}
+use Rattle.mq_spec_state.specs.State.{Given}
+use Rattle.mq_spec_node.specs.Node.{Node, Own}
+use Rattle.mq_spec_node.specs.Deeds.{Done}
+use Rattle.mq_spec_node.specs.Happens.{event, IsEvent}
+use Rattle.mq_spec_node.specs.Openings.{first_node}
+
+-- what the entry's event comes to at a node
+abbrev pub done_by : Entry → Node → Done
+done_by e n = event e.stamp e.actor e.call e.chance e.effect.popped n
+
+-- the node to which entries lead
+abbrev pub after : Node → List Entry → Node
+after n [] = n
+after n (e ∷ es) = after (done_by e n).next es
+
+-- A stamp is one above the last; at a pop it is one above the greater of that and the frame's. Of a spoiled frame
+-- nothing is known but that it is above the last.
+abbrev pub IsStamp : ℕ → Seen → ℕ → Type 0
+IsStamp last items.Nothing stamp = stamp ≡ last + 1
+IsStamp last items.Spoiled stamp = last < stamp
+IsStamp last (items.Frame f) stamp = stamp ≡ max last f.stamp + 1
+
+-- an entry tells what its event is and does
+pub record Tells (n : Node) (last : ℕ) (e : Entry) : Type 0 where
+  pub stamp : IsStamp last e.effect.popped e.stamp
+  pub event : IsEvent e.stamp e.actor e.call e.chance e.effect.popped n
+  pub reply : e.reply ≡ (done_by e n).reply
+  pub delta : e.effect.delta ≡ (done_by e n).delta
+  pub pushed : e.effect.pushed ≡ (done_by e n).pushed
+  pub received : e.effect.received ≡ (done_by e n).received
+
+abbrev pub Follows : Node → ℕ → List Entry → Type 0
+Follows n last [] = Unit {0}
+Follows n last (e ∷ es) = Tells n last e × Follows (done_by e n).next e.stamp es
+
+-- what the scenario gives a manager: number, name, LOGMAX, and its ends, handlers and monitors
+pub record Surroundings : Type 0 where
+  pub given : Given
+  pub own : Own
+
+abbrev pub opening_node : Surroundings → History → Node
+opening_node s h = first_node s.given s.own h.opening h.moment
+
+-- A history replays where it is of this manager and its entries follow from its opening.
+pub record Replays (s : Surroundings) (h : History) : Type 0 where
+  pub number : h.number ≡ s.given.number
+  pub name : h.name ≡ s.given.name
+  pub follows : Follows (opening_node s h) 0 h.entries
+
+abbrev pub state_of : Surroundings → History → Node
+state_of s h = after (opening_node s h) h.entries
+
+-- no restart read an image that the history does not allow
+abbrev pub IsOwn : Chance → Type 0
+IsOwn (chances.Call choice) = Unit {0}
+IsOwn (chances.Restart choice) = Unit {0}
+IsOwn (chances.Foreign image) = ⊥
+
+abbrev pub NoneForeign : List Entry → Type 0
+NoneForeign [] = Unit {0}
+NoneForeign (e ∷ es) = IsOwn e.chance × NoneForeign es
