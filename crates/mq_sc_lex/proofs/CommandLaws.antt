@@ -11,6 +11,9 @@ use Rattle.mq_sc_lex.specs.declared.token.Line.{Line}
 use Rattle.mq_sc_lex.specs.declared.tokens.Meaning.{Meaning}
 use Rattle.mq_sc_lex.specs.declared.tokens.Meaning.TheVariants as meanings
 use Rattle.mq_sc_lex.specs.declared.tokens.Commanding.{Commanding}
+use Rattle.std.specs.Prelude.{Result, Ok, Err}
+use Rattle.mq_sc_lex.specs.declared.fault.LexFault.{LexFault}
+use Rattle.mq_sc_lex.specs.Commands.{behind_lines}
 use Rattle.mq_sc_lex.specs.Tokens.{bytes_of, slice_of, span_of, meaning_of, put_meaning, commands_in, numbered, meaning_added}
 
 -- tokens before the first command
@@ -59,3 +62,8 @@ piece_more s marks ps i d total lt h =
     let next : drop i ps ≡ get_or ps i d ∷ drop (i + 1) ps = rw (add-one, drop-cons ps i d) refl in
     meaning_more (meaning_of (get_or ps i d).kind (slice_of (bytes_of marks) (get_or ps i d))) (span_of marks (get_or ps i d)) s (commands_in marks (drop (i + 1) ps))
     ∙ sym (ap (λ (qs : List Piece). goes_on s (commands_in marks qs)) next) ∙ h
+
+-- nothing stands before what is read first
+pub first_read : (read : Result (List Line) LexFault) (lines : List Line) → behind_lines [] read ≡ Ok lines → read ≡ Ok lines
+first_read (Ok ls) lines h = h
+first_read (Err fault) lines h = absurd cc

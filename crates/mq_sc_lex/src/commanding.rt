@@ -1,4 +1,5 @@
 ghost use Rattle.std.specs.Prelude.{◌≡◌, length};
+ghost use Rattle.mq_sc_lex.specs.Tokens.{commands_of_marks};
 ghost use Rattle.mq_sc_lex.specs.Commands.{commands_of_lines, commands_of, Gives};
 
 use crate::fault::LexFault;
@@ -10,6 +11,18 @@ use std::alloc::Global;
 
 /// The commands of a text in order.
 pub type Lines = Items<Line>;
+
+/// The commands of one joined line.
+pub fn line_commands(alloc: Global, marks: &[Mark]) -> Result<Lines, LexFault>
+    ensures { Gives result (commands_of_marks marks.now) }
+{
+    let mut commanding = Commanding {
+        lines: Items::new(alloc),
+        current: Items::new(alloc),
+    };
+    commanding.add_line(alloc, marks)?;
+    Ok(commanding.lines)
+}
 
 fn commands_of_lines(alloc: Global, lines: &[Items<Mark>]) -> Result<Lines, LexFault>
     ensures { Gives result (commands_of_lines lines.now) }

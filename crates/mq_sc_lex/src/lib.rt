@@ -7,8 +7,9 @@ mod joining;
 mod token;
 mod tokens;
 
-pub use commanding::{Lines, commands};
+pub use commanding::{Lines, commands, line_commands};
 pub use fault::LexFault;
+pub use joining::{Joined, Mark, join_lines};
 pub use token::{Line, Span, Token, TokenKind};
 
 #[cfg(test)]

@@ -1,4 +1,4 @@
-ghost use Rattle.std.specs.Prelude.{◌≡◌, ◌<◌, ◌-◌, ◌^◌, min};
+ghost use Rattle.std.specs.Prelude.{◌≡◌, ◌<◌, ◌≤◌, ◌-◌, ◌^◌, min, IfOk};
 ghost use Rattle.std.specs.List.{list_all};
 ghost use Rattle.mq_text.specs.Numbers.{is_digit, is_number, value_of, is_negative, small_negative, number_in, signed_of};
 
@@ -61,7 +61,8 @@ fn value_of(text: &[u8]) -> u64
 #[tactic(auto, unfolding(crate::specs::Numbers::number_in))]
 pub fn number(text: &[u8], low: u64, high: u64) -> Result<u64, NumberFault>
     requires { high < 2 ^ 64 - 1 }
-    ensures { result ≡ number_in low high text.now }
+    ensures number { result ≡ number_in low high text.now }
+    ensures range { IfOk result (λ n. (low ≤ n) × (n ≤ high)) }
 {
     if is_number(text) {
         let value = value_of(text);
