@@ -1,0 +1,11 @@
+pub mod Core
+pub mod Told
+pub mod Sending
+pub mod Sent
+pub mod Receiving
+pub mod Taken
+pub mod Operating
+pub mod Following
+pub mod Opened
+pub mod Closing
+pub mod Noted

@@ -1,0 +1,16 @@
+use Rattle.mq_law_channel.proofs.Closing.{alone_of, turn_leaves, start_leaves, stop_leaves, rest_leaves, reset_leaves, dead_later, places_live}
+use Rattle.mq_law_channel.proofs.closed_sessions_stay_closed.Goals as goal
+
+pub returns : goal.returns
+returns c = record {
+  facts = alone_of;
+  turn = λ t d a r. (turn_leaves t d a r).alone;
+  turn_later = λ t d a r. (turn_leaves t d a r).later;
+  start = λ d a. (start_leaves d a).alone;
+  stop = λ d a. (stop_leaves d a).alone;
+  stop_later = λ d a. (stop_leaves d a).later;
+  rest = λ d a. (rest_leaves d a).alone;
+  reset = λ last d a. (reset_leaves last d a).alone;
+  dead = dead_later;
+  live = λ t d u a e. places_live t d a u e;
+}

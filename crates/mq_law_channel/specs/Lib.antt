@@ -1,0 +1,5 @@
+pub mod Facts
+pub mod Channel
+pub mod Turns
+pub mod Following
+pub mod Opening

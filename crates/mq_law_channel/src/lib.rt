@@ -1,0 +1,89 @@
+//! What holds of one channel, whatever its cable loses, repeats, delays or spoils, and whenever its ends stop.
+//!
+//! A channel is what its two ends have hardened, their machines, the messages that are being sent and those that the
+//! receiver keeps, and every frame that was ever offered, in either direction. Any of these may come at any time,
+//! again, late or never. Beside the channel stands what the proof follows: what each unit has, which unit the sender
+//! holds, and which units an operator has settled. `Facts` ties the two, and each step keeps it.
+#![tactic(auto)]
+
+ghost use Rattle.std.specs.Prelude.{◌≡◌, ℕ, Bool, true, false, List, Some, if◌then◌else◌};
+ghost use Rattle.mq_sync.specs.declared.unit.Unit.{Unit as Luw};
+ghost use Rattle.mq_sync.specs.declared.unit.Settle.TheVariants as settles;
+ghost use Rattle.mq_sync.specs.declared.data.InDoubt.{InDoubt};
+ghost use Rattle.mq_sync.specs.declared.data.SenderData.{SenderData};
+ghost use Rattle.mq_sync.specs.declared.data.ReceiverData.{ReceiverData};
+ghost use Rattle.mq_sender.specs.declared.state.Limits.{Limits};
+ghost use Rattle.mq_sender.specs.declared.state.SenderState.TheVariants.{Inactive};
+ghost use Rattle.mq_sender.specs.declared.state.Sender.{Sender};
+ghost use Rattle.mq_sender.specs.States.{is_running};
+ghost use Rattle.mq_receiver.specs.declared.turns.ReceiverDoes.TheVariants.{Place};
+ghost use Rattle.mq_receiver.specs.States.{is_bound};
+ghost use Rattle.mq_law_channel.specs.Facts.{Dead, Letter};
+ghost use Rattle.mq_law_channel.specs.Channel.{Channel, Facts, Past, far};
+ghost use Rattle.mq_law_channel.specs.Following.{Alone, Awaited, Later, Placed, RefusesUnits, Said};
+ghost use Rattle.mq_law_channel.specs.Opening.{Belong, opened, past_opened};
+ghost use Rattle.mq_law_channel.specs.Turns.{ReceiverMay, ReceiverTurn, SenderMay, SenderTurn, past_resolved, receiver_does, receiver_numbered, receiver_restarted, receiver_rests, receiver_started, receiver_stopped, receiver_turn, released, resolved, sender_does, sender_numbered, sender_past, sender_past_restarted, sender_restarted, sender_rests, sender_started, sender_stopped, sender_timed_out, sender_turn};
+
+/// Where two logs belong together, the channel begins with the facts; the unit in doubt has any messages.
+pub fn a_channel_begins_with_the_facts()
+    ensures { (s : SenderData) (r : ReceiverData) (letters : List Letter) → Belong s r → Facts (opened s r) (past_opened s r letters) }
+{}
+
+/// Each turn of the sender keeps the facts: a session hardened, BIND, a batch held, messages, a unit prepared or one
+/// for which the log has no room, END, STATUS, ACK, ERR, and what is ignored. So does a timeout.
+pub fn turns_of_a_sender_keep_the_facts()
+    ensures turn { (t : SenderTurn) (c : Channel) (p : Past) → Facts c p → SenderMay t c → Facts (sender_turn t c) (sender_past t c p) }
+    ensures timeout { (c : Channel) (p : Past) → Facts c p → Facts (sender_timed_out c) p }
+{}
+
+/// Each turn of the receiver keeps the facts: what is owed pushed, a session bound, messages kept, a unit committed,
+/// acknowledged again or refused, a spoiled frame, and what is ignored.
+pub fn turns_of_a_receiver_keep_the_facts()
+    ensures { (t : ReceiverTurn) (c : Channel) (p : Past) → Facts c p → ReceiverMay t c p → Facts (receiver_turn t c) p }
+{}
+
+/// An operator's START, STOP, RESET and RESOLVE keep the facts, each in the states in which it is accepted.
+pub fn operators_keep_the_facts()
+    ensures sender_starts { (limits : Limits) (c : Channel) (p : Past) → Facts c p → is_running c.sender.state ≡ false → Facts (sender_started limits c) p }
+    ensures receiver_starts { (c : Channel) (p : Past) → Facts c p → is_bound c.receiver.state ≡ false → Facts (receiver_started c) p }
+    ensures sender_stops { (c : Channel) (p : Past) → Facts c p → Facts (sender_stopped c) (released p) }
+    ensures receiver_stops { (c : Channel) (p : Past) → Facts c p → Facts (receiver_stopped c) p }
+    ensures sender_resets { (last : ℕ) (c : Channel) (p : Past) → Facts c p → is_running c.sender.state ≡ false → Facts (sender_numbered last c) p }
+    ensures receiver_resets { (last : ℕ) (c : Channel) (p : Past) → Facts c p → Facts (receiver_numbered last c) p }
+    ensures resolves_commit { (c : Channel) (p : Past) (d : InDoubt) → Facts c p → is_running c.sender.state ≡ false → c.sends.in_doubt ≡ Some d → Facts (resolved settles.Commit c) (past_resolved settles.Commit d p) }
+    ensures resolves_backout { (c : Channel) (p : Past) (d : InDoubt) → Facts c p → is_running c.sender.state ≡ false → c.sends.in_doubt ≡ Some d → Facts (resolved settles.Backout c) (past_resolved settles.Backout d p) }
+{}
+
+/// A stop of either manager keeps the facts. A turn whose write is stopped leaves the channel as it is until the
+/// restart, which does the turn where its write was kept, and then what a stop does.
+pub fn stops_and_restarts_keep_the_facts()
+    ensures sender { (m : Sender) (c : Channel) (p : Past) → Facts c p → m.state ≡ Inactive → Facts (sender_rests m c) (released p) }
+    ensures receiver { (c : Channel) (p : Past) → Facts c p → Facts (receiver_rests c) p }
+    ensures sender_noted { (kept : Bool) (t : SenderTurn) (m : Sender) (c : Channel) (p : Past) → Facts c p → SenderMay t c → m.state ≡ Inactive → Facts (sender_restarted kept t m c) (sender_past_restarted kept t c p) }
+    ensures receiver_noted { (kept : Bool) (t : ReceiverTurn) (c : Channel) (p : Past) → Facts c p → ReceiverMay t c p → Facts (receiver_restarted kept t c) p }
+{}
+
+/// What the queues need. At a receiver's commit what is kept is what was sent, the unit is above the last one, and it
+/// is its sender's unit in doubt, unless an operator has settled that. What a sender is told of its unit is so: one
+/// settled as committed is the receiver's last unit; one settled as backed out was not committed, and its session is
+/// closed.
+pub fn queues_can_rest_on_a_channel()
+    ensures placed { (t : ReceiverTurn) (c : Channel) (p : Past) (u : Luw) → Facts c p → ReceiverMay t c p → receiver_does t c ≡ Place u → Placed c p u }
+    ensures awaited { (t : ReceiverTurn) (c : Channel) (p : Past) (u : Luw) → Facts c p → ReceiverMay t c p → receiver_does t c ≡ Place u → p.near.undone u ≡ false → Awaited c p u }
+    ensures said { (t : SenderTurn) (c : Channel) (p : Past) → Facts c p → SenderMay t c → Said (sender_does t c) t c p }
+{}
+
+/// What a receiver has closed or passed stays so, and no unit of it is committed: so a unit that was settled as backed
+/// out is never committed later. This rests on the receiver alone, and holds also after a conflict.
+pub fn closed_sessions_stay_closed()
+    ensures facts { (c : Channel) (p : Past) → Facts c p → Alone c }
+    ensures turn { (t : ReceiverTurn) (c : Channel) → Alone c → RefusesUnits t c → Alone (receiver_turn t c) }
+    ensures turn_later { (t : ReceiverTurn) (c : Channel) → Alone c → RefusesUnits t c → Later c.receives (receiver_turn t c).receives }
+    ensures start { (c : Channel) → Alone c → Alone (receiver_started c) }
+    ensures stop { (c : Channel) → Alone c → Alone (receiver_stopped c) }
+    ensures stop_later { (c : Channel) → Alone c → Later c.receives (receiver_stopped c).receives }
+    ensures rest { (c : Channel) → Alone c → Alone (receiver_rests c) }
+    ensures reset { (last : ℕ) (c : Channel) → Alone c → Alone (receiver_numbered last c) }
+    ensures dead { (c d : Channel) (x : ℕ) → Later c.receives d.receives → Dead (far c) x → Dead (far d) x }
+    ensures live { (t : ReceiverTurn) (c : Channel) (u : Luw) → Alone c → receiver_does t c ≡ Place u → ¬ Dead (far c) u.session }
+{}
