@@ -1,1 +1,3 @@
 pub mod KeyedLemmas
+pub mod KeptLemmas
+pub mod WrittenLemmas
