@@ -1,0 +1,5 @@
+pub mod PieceLaws
+pub mod LoopLaws
+pub mod WordLaws
+pub mod LineLaws
+pub mod PartLaws

@@ -1,0 +1,12 @@
+use Rattle.std.proofs.Common.{◌∙◌, sym}
+use Rattle.mq_model.specs.Grammar.{lines_of}
+use Rattle.mq_scenario.specs.Reading.{call_of}
+use Rattle.mq_scenario.specs.Views.{called_line}
+use Rattle.mq_scenario.proofs.LoopLaws.{more, none}
+use Rattle.mq_scenario.proofs.reader.behind_calls.Goals as goal
+
+pub skipping-preserved : goal.skipping-preserved
+skipping-preserved c = sym (more call_of (lines_of c.skipping.rest.now) (lines_of c.in-Some.behind.now) (called_line c.in-Some._called) c.in-Some.ensures.line).1 ∙ c.skipping.invariant
+
+pub returns : goal.returns
+returns c = sym (none call_of (lines_of c.skipping.rest.now) c.in_default.ensures.line).1 ∙ c.skipping.invariant

@@ -1,0 +1,10 @@
+//! Scenarios from their text.
+#![tactic(auto)]
+
+mod fault;
+mod lines;
+mod pieces;
+mod reader;
+
+pub use fault::{Cause, ScenarioFault};
+pub use reader::{one_scenario_law, read_scenario};

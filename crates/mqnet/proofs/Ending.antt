@@ -1,0 +1,86 @@
+-- From the parts of a call to its end.
+use Rattle.std.proofs.Common.{◌≡◌, ℕ, suc, ◌≤◌, ◌<◌, ◌^◌, ◌∙◌, Bool, true, false, cond, eqb, get_or, map, List, [], ◌∷◌, ◌++◌, length, refl, sym, inl, inr, ap, arith, subst, length-append}
+use Rattle.std.specs.Prelude.{Option, Some, codes}
+use Rattle.std.specs.Str.{bytes_eq}
+use Rattle.std.proofs.lemmas.Slice.Eq.{bytes_eq-Decides}
+use Rattle.std.proofs.lemmas.List.{length-map}
+use Rattle.mq_base.specs.Outside.{Rose, Told, IsLonger}
+use Rattle.mq_model.specs.declared.calls.Entry.{Entry}
+use Rattle.mq_model.specs.declared.scenario.Scenario.{Scenario}
+use Rattle.mq_model.specs.declared.scenario.ScriptLine.{ScriptLine}
+use Rattle.mq_model.specs.declared.scenario.ScriptLine.TheVariants as script
+use Rattle.mq_model.specs.Grammar.{lines_of, onto_first, define_text, script_lines, IsScenario, IsScript}
+use Rattle.mq_model.specs.Lawful.{Obeys, IsRunTo}
+use Rattle.mq_scenario.specs.declared.fault.Cause.{Cause}
+use Rattle.mqnet.specs.declared.network.Status.{Status}
+use Rattle.mqnet.specs.declared.network.Status.TheVariants as status
+use Rattle.mqnet.specs.Headline.{IsScenarioRead, IsRun, ReadNoScenario, Completes}
+
+-- A scenario is not longer than its text
+
+more_lines : (b : ℕ) (bytes : List ℕ) → length (lines_of bytes) ≤ length bytes → (t : Bool) → length (cond t ([] ∷ lines_of bytes) (onto_first b (lines_of bytes))) ≤ suc (length bytes)
+more_lines b bytes le true = omega (arith, le)
+more_lines b bytes le false = onto (lines_of bytes) le where
+  onto : (ls : List (List ℕ)) → length ls ≤ length bytes → length (onto_first b ls) ≤ suc (length bytes)
+  onto [] h = omega arith
+  onto (l ∷ ls) h = omega (arith, h)
+
+few_lines : (bytes : List ℕ) → length (lines_of bytes) ≤ length bytes
+few_lines [] = omega arith
+few_lines (b ∷ bytes) = more_lines b bytes (few_lines bytes) (eqb b 10)
+
+pub few_queues : (bytes : List ℕ) (s : Scenario) → IsScenario s bytes → length bytes ≤ 1048576 → length s.queues < 2 ^ 40
+few_queues bytes s h le =
+    let texts : List (List ℕ) = map define_text s.queues in
+    let rest : List (List ℕ) = codes "ENDMQSC" ∷ script_lines s in
+    let all : length (lines_of bytes) ≡ suc (suc (suc (length (texts ++ rest)))) = ap length h.lines in
+    omega (arith, all, few_lines bytes, length-append texts rest, length-map s.queues define_text, le)
+
+short_script : (lines : List ScriptLine) → IsScript lines → length lines < 2 ^ 40
+short_script (script.Connect ∷ script.Open label queue ∷ calls) h = omega (arith, h.1.1)
+short_script _ h = absurd h
+
+pub few_names : (left : Option (List ℕ)) (s : Scenario) → IsScenarioRead left s → length s.queues < 2 ^ 40
+few_names left s h = few_queues h.bytes s h.scenario h.read.1
+
+pub short_lines : (left : Option (List ℕ)) (s : Scenario) → IsScenarioRead left s → length s.lines < 2 ^ 40
+short_lines left s h = short_script s.lines h.scenario.form.lines
+
+-- A whole run
+
+obeys_length : (names : List (List ℕ)) (es : List Entry) → Obeys names es [] → length es ≡ length names
+obeys_length [] [] h = refl
+obeys_length (n ∷ ns) [] h = absurd (let e : [] ≡ n ∷ ns = h in cc)
+obeys_length [] (e ∷ es) h = absurd h
+obeys_length (n ∷ ns) (e ∷ es) h = omega (arith, obeys_length ns es h.2)
+
+-- has an entry for each definition
+pub enough : (s : Scenario) (es : List Entry) → IsRunTo s es [] [] → length s.queues ≤ length es
+enough s es h = omega (arith, obeys_length s.queues h.obeyed h.obeys, ap length h.parts, length-append h.obeyed h.ran)
+
+-- a list of one word
+pub word_is : {A : Type 0} (f : A → List ℕ) (ws : List A) (w : A) (text : List ℕ) (r : Bool) → 1 ≤ length ws → length ws < 2 → w ≡ get_or ws 0 w → r ≡ bytes_eq (f w) text
+    → (r ≡ true → map f ws ≡ text ∷ []) × (map f ws ≡ text ∷ [] → r ≡ true)
+word_is f [] w text r le lt e h = absurd (omega arith)
+word_is f (x ∷ y ∷ zs) w text r le lt e h = absurd (omega arith)
+word_is f (x ∷ []) w text r le lt e h =
+    let d = bytes_eq-Decides (f w) text in (
+      λ t. ap (λ (z : List ℕ). z ∷ []) (ap f (sym e) ∙ d.0 (sym h ∙ t)),
+      λ m. h ∙ d.1 (ap f e ∙ cc (m)),
+    )
+
+-- from the causes of the other statuses
+pub completes : (words : List (List ℕ)) (left : Option (List ℕ)) (r0 r1 w0 w1 : ℕ) (st : Status) → (st ≡ status.BadWords → IsRun words → ⊥) → ((line : ℕ) (cause : Cause) → st ≡ status.BadScenario line cause → ReadNoScenario left line cause) → (st ≡ status.ReadFault → Rose r0 r1)
+    → ((n : ℕ) → st ≡ status.WriteFault n → Rose w0 w1) → (st ≡ status.TooLong → IsLonger left 1048576) → Completes words left r0 r1 w0 w1 st
+completes words left r0 r1 w0 w1 status.Ok bw bs rf wf tl = λ bytes s run told few is nr nw. inl refl
+completes words left r0 r1 w0 w1 status.NoMemory bw bs rf wf tl = λ bytes s run told few is nr nw. inr refl
+completes words left r0 r1 w0 w1 status.BadWords bw bs rf wf tl = λ bytes s run told few is nr nw. absurd (bw refl run)
+completes words left r0 r1 w0 w1 (status.BadScenario line cause) bw bs rf wf tl = λ bytes s run told few is nr nw.
+    let no = bs line cause refl in
+    let same : Told (Some bytes) no.bytes = subst (λ (l : Option (List ℕ)). Told l no.bytes) told no.read.0 in
+    absurd (no.none s (subst (IsScenario s) same is))
+completes words left r0 r1 w0 w1 status.ReadFault bw bs rf wf tl = λ bytes s run told few is nr nw. absurd (nr (rf refl))
+completes words left r0 r1 w0 w1 (status.WriteFault n) bw bs rf wf tl = λ bytes s run told few is nr nw. absurd (nw (wf n refl))
+completes words left r0 r1 w0 w1 status.TooLong bw bs rf wf tl = λ bytes s run told few is nr nw.
+    let longer : IsLonger (Some bytes) 1048576 = subst (λ (l : Option (List ℕ)). IsLonger l 1048576) told (tl refl) in
+    absurd (omega (arith, longer, few))
