@@ -18,7 +18,7 @@ use Rattle.mq_receiver.specs.Table.{is_new_bind, continues, kind_completes, comp
 use Rattle.mq_receiver.specs.After.{kept_kind}
 use Rattle.mq_law_channel.specs.Facts.{Dead}
 use Rattle.mq_law_channel.specs.Channel.{Channel, Past, far, Facts}
-use Rattle.mq_law_channel.specs.Turns.{ReceiverTurn, receiver_does, receiver_done, receiver_turned, receiver_turn, receiver_started, receiver_numbered, is_open, receiver_stopped, receiver_rests}
+use Rattle.mq_law_channel.specs.Turns.{ReceiverTurn, receiver_does, receiver_done, receiver_turned, receiver_turn, receiver_started, receiver_numbered, is_open, receiver_stopped, receiver_halted, receiver_rests}
 use Rattle.mq_law_channel.specs.Following.{Alone, Later, RefusesUnits}
 use Rattle.mq_law_channel.proofs.Told.{bool_case, by_lines, and_both, nat_yes}
 use Rattle.mq_law_channel.proofs.Receiving.{lt_yes}
@@ -115,6 +115,9 @@ start_leaves c a = record { alone = record { session = a.session; open_ = λ z. 
 
 pub rest_leaves : (c : Channel) → Alone c → Left c (receiver_rests c)
 rest_leaves c a = record { alone = record { session = refl; open_ = λ z. absurd cc }; later = same_later c.receives }
+
+pub halt_leaves : (c : Channel) → Alone c → Left c (receiver_halted c)
+halt_leaves c a = record { alone = record { session = a.session; open_ = λ z. absurd cc }; later = same_later c.receives }
 
 pub reset_leaves : (last : ℕ) (c : Channel) → Alone c → Left c (receiver_numbered last c)
 reset_leaves last c a = record { alone = record { session = a.session; open_ = a.open_ }; later = inr (refl, λ z. z) }

@@ -9,3 +9,7 @@ pub mod Following
 pub mod Opened
 pub mod Closing
 pub mod Noted
+pub mod Counting
+pub mod Numbering
+pub mod Recounting
+pub mod Agreeing

@@ -13,7 +13,7 @@ use Rattle.mq_sender.specs.States as senders
 use Rattle.mq_receiver.specs.States as receivers
 use Rattle.mq_law_channel.specs.Facts.{Letter, Near, Sound}
 use Rattle.mq_law_channel.specs.Channel.{Channel, Past, tales, far, Quiet, Fits, Facts}
-use Rattle.mq_law_channel.specs.Turns.{emptied, released, sender_started, sender_stopped, sender_rests, sender_timed_out, sender_numbered, receiver_numbered, resolved, undone, past_resolved, receiver_started, is_open, receiver_stopped, receiver_rests}
+use Rattle.mq_law_channel.specs.Turns.{emptied, released, sender_started, sender_stopped, sender_rests, sender_timed_out, sender_numbered, receiver_numbered, resolved, undone, past_resolved, receiver_started, is_open, receiver_stopped, receiver_halted, receiver_rests}
 use Rattle.mq_law_channel.proofs.Core.{empties, undoes, closes, unbinds, rests}
 use Rattle.mq_law_channel.proofs.Told.{bool_case}
 use Rattle.mq_law_channel.proofs.Receiving.{took}
@@ -191,3 +191,6 @@ receiver_stops c p h = bool_case (is_open c.receives) (λ b. Facts (record c { r
 
 pub receiver_inactive : (c : Channel) (p : Past) → Facts c p → Facts (receiver_rests c) p
 receiver_inactive c p h = took c p c.receives (receivers.receiver_of (Some c.receives)) [] c.back h (unbinds p.near (far c) p.content (tales c.out) (tales c.back) h.sound) refl refl refl (λ a. absurd cc)
+
+pub receiver_halts : (c : Channel) (p : Past) → Facts c p → Facts (receiver_halted c) p
+receiver_halts c p h = took c p c.receives (receivers.halted c.receiver) [] c.back h (unbinds p.near (far c) p.content (tales c.out) (tales c.back) h.sound) h.tied.bound_session h.tied.bound_unit h.tied.bound_last (λ a. absurd cc)

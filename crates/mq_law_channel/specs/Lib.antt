@@ -3,3 +3,4 @@ pub mod Channel
 pub mod Turns
 pub mod Following
 pub mod Opening
+pub mod Counting

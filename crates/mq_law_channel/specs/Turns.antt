@@ -256,7 +256,11 @@ receiver_stopped c = record c {
   kept = [];
 }
 
--- the receiver's manager has stopped, and starts again from what is hardened
+-- the receiver's manager has stopped
+abbrev pub receiver_halted : Channel → Channel
+receiver_halted c = record c { receiver = receivers.halted c.receiver; kept = [] }
+
+-- and starts again from what is hardened
 abbrev pub receiver_rests : Channel → Channel
 receiver_rests c = record c { receiver = receivers.receiver_of (Some c.receives); kept = [] }
 

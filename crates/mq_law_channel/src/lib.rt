@@ -6,23 +6,27 @@
 //! holds, and which units an operator has settled. `Facts` ties the two, and each step keeps it.
 #![tactic(auto)]
 
-ghost use Rattle.std.specs.Prelude.{◌≡◌, ℕ, Bool, true, false, List, Some, if◌then◌else◌};
+ghost use Rattle.std.specs.Prelude.{◌≡◌, ◌≢◌, ℕ, Bool, true, false, List, Option, Some, None};
 ghost use Rattle.mq_sync.specs.declared.unit.Unit.{Unit as Luw};
+ghost use Rattle.mq_sync.specs.declared.unit.Settle.{Settle};
 ghost use Rattle.mq_sync.specs.declared.unit.Settle.TheVariants as settles;
 ghost use Rattle.mq_sync.specs.declared.data.InDoubt.{InDoubt};
 ghost use Rattle.mq_sync.specs.declared.data.SenderData.{SenderData};
 ghost use Rattle.mq_sync.specs.declared.data.ReceiverData.{ReceiverData};
 ghost use Rattle.mq_sender.specs.declared.state.Limits.{Limits};
-ghost use Rattle.mq_sender.specs.declared.state.SenderState.TheVariants.{Inactive};
+ghost use Rattle.mq_sender.specs.declared.state.SenderState.TheVariants.{Inactive, Running};
+ghost use Rattle.mq_sender.specs.declared.turns.SenderDoes.TheVariants as sends;
+ghost use Rattle.mq_sender.specs.declared.turns.SenderOut.TheVariants as outs;
 ghost use Rattle.mq_sender.specs.declared.state.Sender.{Sender};
 ghost use Rattle.mq_sender.specs.States.{is_running};
 ghost use Rattle.mq_receiver.specs.declared.turns.ReceiverDoes.TheVariants.{Place};
 ghost use Rattle.mq_receiver.specs.States.{is_bound};
 ghost use Rattle.mq_law_channel.specs.Facts.{Dead, Letter};
 ghost use Rattle.mq_law_channel.specs.Channel.{Channel, Facts, Past, far};
+ghost use Rattle.mq_law_channel.specs.Counting.{Agree, Count, Numbers, SenderAgrees, count_opened, count_set, sender_count};
 ghost use Rattle.mq_law_channel.specs.Following.{Alone, Awaited, Later, Placed, RefusesUnits, Said};
 ghost use Rattle.mq_law_channel.specs.Opening.{Belong, opened, past_opened};
-ghost use Rattle.mq_law_channel.specs.Turns.{ReceiverMay, ReceiverTurn, SenderMay, SenderTurn, past_resolved, receiver_does, receiver_numbered, receiver_restarted, receiver_rests, receiver_started, receiver_stopped, receiver_turn, released, resolved, sender_does, sender_numbered, sender_past, sender_past_restarted, sender_restarted, sender_rests, sender_started, sender_stopped, sender_timed_out, sender_turn};
+ghost use Rattle.mq_law_channel.specs.Turns.{ReceiverMay, ReceiverTurn, SenderMay, SenderTurn, past_resolved, receiver_does, receiver_halted, receiver_numbered, receiver_restarted, receiver_rests, receiver_started, receiver_stopped, receiver_turn, released, resolved, sender_does, sender_numbered, sender_past, sender_past_restarted, sender_restarted, sender_rests, sender_started, sender_stopped, sender_timed_out, sender_turn};
 
 /// Where two logs belong together, the channel begins with the facts; the unit in doubt has any messages.
 pub fn a_channel_begins_with_the_facts()
@@ -58,6 +62,7 @@ pub fn operators_keep_the_facts()
 /// restart, which does the turn where its write was kept, and then what a stop does.
 pub fn stops_and_restarts_keep_the_facts()
     ensures sender { (m : Sender) (c : Channel) (p : Past) → Facts c p → m.state ≡ Inactive → Facts (sender_rests m c) (released p) }
+    ensures receiver_halts { (c : Channel) (p : Past) → Facts c p → Facts (receiver_halted c) p }
     ensures receiver { (c : Channel) (p : Past) → Facts c p → Facts (receiver_rests c) p }
     ensures sender_noted { (kept : Bool) (t : SenderTurn) (m : Sender) (c : Channel) (p : Past) → Facts c p → SenderMay t c → m.state ≡ Inactive → Facts (sender_restarted kept t m c) (sender_past_restarted kept t c p) }
     ensures receiver_noted { (kept : Bool) (t : ReceiverTurn) (c : Channel) (p : Past) → Facts c p → ReceiverMay t c p → Facts (receiver_restarted kept t c) p }
@@ -82,8 +87,37 @@ pub fn closed_sessions_stay_closed()
     ensures start { (c : Channel) → Alone c → Alone (receiver_started c) }
     ensures stop { (c : Channel) → Alone c → Alone (receiver_stopped c) }
     ensures stop_later { (c : Channel) → Alone c → Later c.receives (receiver_stopped c).receives }
+    ensures halt { (c : Channel) → Alone c → Alone (receiver_halted c) }
     ensures rest { (c : Channel) → Alone c → Alone (receiver_rests c) }
     ensures reset { (last : ℕ) (c : Channel) → Alone c → Alone (receiver_numbered last c) }
     ensures dead { (c d : Channel) (x : ℕ) → Later c.receives d.receives → Dead (far c) x → Dead (far d) x }
     ensures live { (t : ReceiverTurn) (c : Channel) (u : Luw) → Alone c → receiver_does t c ≡ Place u → ¬ Dead (far c) u.session }
+{}
+
+/// Sequence numbers. Beside the facts stands the last number of each unit, and whether an operator has set a number.
+/// Each step keeps what ties them; a RESET alone sets the mark.
+pub fn steps_keep_the_numbers()
+    ensures begins { (s : SenderData) (r : ReceiverData) (letters : List Letter) → Agree s r → Numbers (opened s r) (past_opened s r letters) (count_opened s false) }
+    ensures begins_set { (s : SenderData) (r : ReceiverData) (letters : List Letter) → Numbers (opened s r) (past_opened s r letters) (count_opened s true) }
+    ensures sender { (t : SenderTurn) (c : Channel) (p : Past) (n : Count) → Facts c p → Numbers c p n → SenderMay t c → SenderAgrees t c p → Numbers (sender_turn t c) (sender_past t c p) (sender_count t c p n) }
+    ensures receiver { (t : ReceiverTurn) (c : Channel) (p : Past) (n : Count) → Facts c p → Numbers c p n → ReceiverMay t c p → Numbers (receiver_turn t c) p n }
+    ensures timeout { (c : Channel) (p : Past) (n : Count) → Numbers c p n → Numbers (sender_timed_out c) p n }
+    ensures sender_starts { (limits : Limits) (c : Channel) (p : Past) (n : Count) → Numbers c p n → Numbers (sender_started limits c) p n }
+    ensures sender_stops { (c : Channel) (p : Past) (n : Count) → Facts c p → Numbers c p n → Numbers (sender_stopped c) (released p) n }
+    ensures sender_rests { (m : Sender) (c : Channel) (p : Past) (n : Count) → Facts c p → Numbers c p n → m.state ≡ Inactive → Numbers (sender_rests m c) (released p) n }
+    ensures sender_resets { (last : ℕ) (c : Channel) (p : Past) (n : Count) → Numbers c p n → is_running c.sender.state ≡ false → c.sends.in_doubt ≡ None → Numbers (sender_numbered last c) p (count_set n) }
+    ensures receiver_resets { (last : ℕ) (c : Channel) (p : Past) (n : Count) → Numbers c p n → Numbers (receiver_numbered last c) p (count_set n) }
+    ensures resolves_commit { (c : Channel) (p : Past) (n : Count) (d : InDoubt) → Facts c p → Numbers c p n → is_running c.sender.state ≡ false → c.sends.in_doubt ≡ Some d → Numbers (resolved settles.Commit c) (past_resolved settles.Commit d p) n }
+    ensures resolves_backout { (c : Channel) (p : Past) (n : Count) (d : InDoubt) → Facts c p → Numbers c p n → is_running c.sender.state ≡ false → c.sends.in_doubt ≡ Some d → d.unit ≢ c.receives.unit → Numbers (resolved settles.Backout c) (past_resolved settles.Backout d p) n }
+    ensures receiver_starts { (c : Channel) (p : Past) (n : Count) → Numbers c p n → Numbers (receiver_started c) p n }
+    ensures receiver_stops { (c : Channel) (p : Past) (n : Count) → Numbers c p n → Numbers (receiver_stopped c) p n }
+    ensures receiver_halts { (c : Channel) (p : Past) (n : Count) → Numbers c p n → Numbers (receiver_halted c) p n }
+    ensures receiver_rests { (c : Channel) (p : Past) (n : Count) → Numbers c p n → Numbers (receiver_rests c) p n }
+{}
+
+/// Where no operator has set a number, and STATUS bears each RESOLVE out, the two ends' last numbers are the same
+/// after each settlement: the sender runs, and is never stopped for its numbers.
+pub fn no_sequence_error_without_a_reset()
+    ensures { (t : SenderTurn) (c : Channel) (p : Past) (n : Count) (settle : Option Settle) (partner : ℕ) → Facts c p → Numbers c p n → SenderMay t c → SenderAgrees t c p → n.set ≡ false
+        → t.outcome ≡ outs.Done → sender_does t c ≡ sends.Bound settle partner → (sender_turn t c).sender.state ≡ Running }
 {}

@@ -1,4 +1,4 @@
-use Rattle.mq_law_channel.proofs.Closing.{alone_of, turn_leaves, start_leaves, stop_leaves, rest_leaves, reset_leaves, dead_later, places_live}
+use Rattle.mq_law_channel.proofs.Closing.{alone_of, turn_leaves, start_leaves, stop_leaves, halt_leaves, rest_leaves, reset_leaves, dead_later, places_live}
 use Rattle.mq_law_channel.proofs.closed_sessions_stay_closed.Goals as goal
 
 pub returns : goal.returns
@@ -9,6 +9,7 @@ returns c = record {
   start = λ d a. (start_leaves d a).alone;
   stop = λ d a. (stop_leaves d a).alone;
   stop_later = λ d a. (stop_leaves d a).later;
+  halt = λ d a. (halt_leaves d a).alone;
   rest = λ d a. (rest_leaves d a).alone;
   reset = λ last d a. (reset_leaves last d a).alone;
   dead = dead_later;
