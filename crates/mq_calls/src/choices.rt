@@ -1,4 +1,5 @@
-use crate::commands::{RestartFault, Stop};
+use crate::commands::RestartFault;
+use mq_disk::Stop;
 
 /// What a manager's state and a call leave open. Only these come from outside.
 #[derive(Clone, Copy, Debug, PartialEq, Eq)]

@@ -1,4 +1,5 @@
 use mq_base::Items;
+use mq_disk::Stop;
 use mq_objects::Keyword;
 
 /// The lines that a command shows; none but for DISPLAY.
@@ -37,13 +38,6 @@ pub enum RestartFault {
 #[derive(Clone, Copy, Debug, PartialEq, Eq)]
 pub struct Kept {
     pub kept: bool,
-}
-
-/// What stopped a forced write: the armed cut, or the disk.
-#[derive(Clone, Copy, Debug, PartialEq, Eq)]
-pub enum Stop {
-    Cut,
-    Disk,
 }
 
 /// How an inner call ends without its answer: it is refused, it finds no memory, or its forced

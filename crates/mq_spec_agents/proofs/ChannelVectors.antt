@@ -21,7 +21,7 @@ use Rattle.mq_objects.specs.declared.command.Command.{Command}
 use Rattle.mq_objects.specs.declared.command.Command.TheVariants as commands
 use Rattle.mq_calls.specs.declared.answers.Open.{Open}
 use Rattle.mq_calls.specs.declared.answers.Input.TheVariants as inputs
-use Rattle.mq_calls.specs.declared.commands.Stop.TheVariants as stops
+use Rattle.mq_disk.specs.declared.cutter.Stop.TheVariants as stops
 use Rattle.mq_calls.specs.declared.commands.ScRefusal.{ScRefusal}
 use Rattle.mq_calls.specs.declared.commands.ScRefusal.TheVariants as refusals
 use Rattle.mq_calls.specs.declared.commands.Shown.{Shown}
@@ -32,7 +32,9 @@ use Rattle.mq_sync.specs.declared.data.InDoubt.{InDoubt}
 use Rattle.mq_codes.specs.declared.reason.Reason.TheVariants as reasons
 use Rattle.mq_spec_state.specs.State.{Plain}
 use Rattle.mq_spec_state.specs.Reads.{stored, sender_data, depth, in_doubt_of, reserved}
-use Rattle.mq_spec_manager.specs.Stamps.{put_date, put_time}
+use Rattle.mq_message.specs.Layout.{long_bytes, long_of}
+use Rattle.mq_heads.specs.Headers.{dlh_bytes, dlh_in, tm_bytes}
+use Rattle.mq_clock.specs.Stamps.{put_date, put_time, reached}
 use Rattle.mq_spec_state.specs.Steps.{Step, next, after}
 use Rattle.mq_spec_state.specs.Steps.Step.{Refuse}
 use Rattle.mq_calls.specs.declared.choices.Choice.TheVariants.{Stopped}
@@ -55,12 +57,15 @@ manager number name attributes given moment =
 
 -- Dates: of the moment 0, of 2026-01-01, and the last one.
 date_first : put_date 0 ≡ codes "19700101"
+unfolding put_date reached
 date_first = refl
 
 date_later : put_date 1767225600000 ≡ codes "20260101"
+unfolding put_date reached
 date_later = refl
 
 date_last : put_date 253402300799999 ++ put_time 253402300799999 ≡ codes "9999123123595999"
+unfolding put_date put_time reached
 date_last = refl
 
 -- A commit is cut in its write: kept it is done at the restart, else nothing of it is.
@@ -120,6 +125,7 @@ abbrev lengths : List ℕ → Plain → List ℕ
 lengths name p = map (λ (row : Row). length row.message.body) (stored name p).rows
 
 trigger_length : lengths (codes "INITQ") third_committed ≡ 684 ∷ []
+unfolding tm_bytes long_bytes
 trigger_length = refl
 
 trigger_off : (stored q1 third_committed).switched_off ≡ true
@@ -172,6 +178,7 @@ abbrev dead_at : Plain
 dead_at = receives (codes "NOQ") (paris [])
 
 dead_row : rows_line (codes "DLQ") dead_at ≡ (1 ∷ 1 ∷ 1 ∷ []) ∷ []
+unfolding dlh_bytes long_bytes put_date put_time reached
 dead_row = refl
 
 abbrev bodies : List ℕ → Plain → List (List ℕ)
@@ -181,15 +188,19 @@ abbrev formats : List ℕ → Plain → List (List ℕ)
 formats name p = map (λ (row : Row). row.message.md.format) (stored name p).rows
 
 dead_length : map length (bodies (codes "DLQ") dead_at) ≡ 177 ∷ []
+unfolding dlh_bytes long_bytes put_date put_time reached
 dead_length = refl
 
 dead_head : map (take 12) (bodies (codes "DLQ") dead_at) ≡ (68 ∷ 76 ∷ 72 ∷ 32 ∷ 0 ∷ 0 ∷ 0 ∷ 1 ∷ 0 ∷ 0 ∷ 8 ∷ 37 ∷ []) ∷ []
+unfolding dlh_bytes long_bytes put_date put_time reached
 dead_head = refl
 
 dead_end : map (drop 128) (bodies (codes "DLQ") dead_at) ≡ (codes "LON.PAR                     2026010100000000HELLO") ∷ []
+unfolding dlh_bytes long_bytes put_date put_time reached
 dead_end = refl
 
 dead_format : formats (codes "DLQ") dead_at ≡ codes "MQDEAD  " ∷ []
+unfolding dlh_bytes long_bytes put_date put_time reached
 dead_format = refl
 
 -- With the dead-letter queue full the batch is refused by the message's own reason.
@@ -204,12 +215,15 @@ abbrev retried : Plain
 retried = next (move_row (codes "DLQ") ident1 (record { queue = codes "NOQ"; qmgr = codes "PARIS" }) true with_noq) with_noq
 
 retried_body : bodies (codes "NOQ") retried ≡ codes "HELLO" ∷ []
+unfolding dlh_bytes long_bytes put_date put_time reached dlh_in long_of
 retried_body = refl
 
 retried_format : formats (codes "NOQ") retried ≡ codes "MQSTR   " ∷ []
+unfolding dlh_bytes long_bytes put_date put_time reached dlh_in long_of
 retried_format = refl
 
 retried_gone : rows_line (codes "DLQ") retried ≡ []
+unfolding dlh_bytes long_bytes put_date put_time reached dlh_in long_of
 retried_gone = refl
 
 -- A sender: it takes its queue, holds a batch, prepares it and settles it; a message that comes back meanwhile drops the held row.

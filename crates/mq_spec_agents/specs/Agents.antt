@@ -51,8 +51,10 @@ use Rattle.mq_spec_state.specs.Changes.{apply_all}
 use Rattle.mq_spec_state.specs.Sizes.{need}
 use Rattle.mq_spec_state.specs.Steps.{Step, Part, Test, when, refusal, tested, silent, say}
 use Rattle.mq_spec_state.specs.Steps.Step.{Refuse, Do}
-use Rattle.mq_spec_manager.specs.Stamps.{put_date, put_time}
-use Rattle.mq_spec_manager.specs.Heads.{Dlh, dlh_bytes, field, int_field}
+use Rattle.mq_clock.specs.Stamps.{put_date, put_time}
+use Rattle.mq_name.specs.Name.{padded}
+use Rattle.mq_heads.specs.declared.headers.Dlh.{Dlh}
+use Rattle.mq_heads.specs.Headers.{dlh_bytes, dlh_in}
 use Rattle.mq_spec_manager.specs.Handles.{is_transmission_queue, is_unfit}
 use Rattle.mq_spec_manager.specs.Put.{queue_at, dest_at, output_only, placing_tests, placed}
 use Rattle.mq_spec_manager.specs.Get.{removal_parts, expired_parts, idents_of}
@@ -324,14 +326,14 @@ dead_md md = record md { format = codes "MQDEAD  "; encoding = pos 273; coded_ch
 
 abbrev pub dead_head : List ℕ → Reason → Message → ℕ → Dlh
 dead_head channel reason m moment = record {
-  reason = number reason;
-  queue = (names_of m.route).queue;
-  qmgr = (names_of m.route).qmgr;
+  reason = pos (number reason);
+  dest_q_name = padded 48 (names_of m.route).queue;
+  dest_q_mgr_name = padded 48 (names_of m.route).qmgr;
   encoding = m.md.encoding;
   coded_char_set_id = m.md.coded_char_set_id;
   format = m.md.format;
   put_appl_type = pos 0;
-  put_appl_name = channel;
+  put_appl_name = padded 28 channel;
   put_date = put_date moment;
   put_time = put_time moment;
 }
@@ -435,7 +437,7 @@ next_row queue after p = find (λ (row : Row). is_free row && is_after after row
 -- without the header of a dead letter, which gives back three fields
 abbrev pub bare_message : Message → Message
 bare_message m = record m {
-  md = record m.md { format = field 116 8 m.body; encoding = int_field 108 m.body; coded_char_set_id = int_field 112 m.body };
+  md = record m.md { format = (dlh_in m.body).format; encoding = (dlh_in m.body).encoding; coded_char_set_id = (dlh_in m.body).coded_char_set_id };
   body = drop 172 m.body;
 }
 

@@ -16,7 +16,7 @@ use Rattle.mq_calls.specs.declared.answers.Input.TheVariants as inputs
 use Rattle.mq_calls.specs.declared.answers.GetAnswer.{GetAnswer}
 use Rattle.mq_codes.specs.declared.reason.Reason.{Reason}
 use Rattle.mq_calls.specs.declared.answers.Take.TheVariants as takes
-use Rattle.mq_calls.specs.declared.commands.Stop.TheVariants as stops
+use Rattle.mq_disk.specs.declared.cutter.Stop.TheVariants as stops
 use Rattle.mq_calls.specs.declared.commands.ScRefusal.TheVariants as refusals
 use Rattle.mq_calls.specs.declared.deltas.Did.TheVariants as did
 use Rattle.mq_calls.specs.declared.deltas.Why.TheVariants as whys

@@ -41,7 +41,8 @@ use Rattle.mq_spec_state.specs.State.Change.{Leave, Hold, SetCursor, Pend}
 use Rattle.mq_spec_state.specs.Reads.{stored, is_persistent, is_input, handle_at, is_expired, more_need, is_full}
 use Rattle.mq_spec_state.specs.Steps.{Step, Part, Test, when, tested, silent, say}
 use Rattle.mq_spec_state.specs.Steps.Step.{Do}
-use Rattle.mq_spec_manager.specs.Heads.{xqh_bytes}
+use Rattle.mq_heads.specs.Headers.{xqh_bytes}
+use Rattle.mq_spec_manager.specs.Heads.{xqh_of}
 use Rattle.mq_spec_manager.specs.Handles.{connected, for_connection, for_handle}
 use Rattle.mq_spec_manager.specs.Put.{queue_at, sync_full}
 
@@ -119,7 +120,7 @@ scanned get h p = scan (asked get) p (looked_at get.take h.cursor (stored (queue
 -- What an application reads: on a transmission queue a message behind its header.
 abbrev pub read_body : Option Dest → Message → List ℕ
 read_body None m = m.body
-read_body (Some dest) m = xqh_bytes dest m.md ++ m.body
+read_body (Some dest) m = xqh_bytes (xqh_of dest m.md) ++ m.body
 
 abbrev pub read_md : Option Dest → Md → Md
 read_md None md = md

@@ -1,4 +1,3 @@
-pub mod Stamps
 pub mod Heads
 pub mod Handles
 pub mod Put

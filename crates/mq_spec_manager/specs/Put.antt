@@ -36,8 +36,9 @@ use Rattle.mq_spec_state.specs.State.Change.{Place, Try, Pend, CountIdent}
 use Rattle.mq_spec_state.specs.Reads.{is_int, is_persistent, handle_at, depth, put_bytes, more_need, is_full}
 use Rattle.mq_spec_state.specs.Steps.{Step, Part, Test, when, tested}
 use Rattle.mq_spec_state.specs.Steps.Step.{Refuse, Do}
-use Rattle.mq_spec_manager.specs.Stamps.{put_date, put_time}
-use Rattle.mq_spec_manager.specs.Heads.{made_id, trimmed}
+use Rattle.mq_clock.specs.Stamps.{put_date, put_time}
+use Rattle.mq_message.specs.Descriptor.{made_id}
+use Rattle.mq_spec_manager.specs.Heads.{trimmed}
 use Rattle.mq_spec_manager.specs.Handles.{connected, for_connection, for_handle, is_unfit}
 
 -- The queue on which the row is put, and where it goes from there.

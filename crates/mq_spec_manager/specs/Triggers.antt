@@ -15,8 +15,9 @@ use Rattle.mq_spec_state.specs.State.Change.{Place, CountIdent, Serve}
 use Rattle.mq_spec_state.specs.Reads.{stored, is_up}
 use Rattle.mq_spec_state.specs.Steps.{Step, Part, refusal, say, silent}
 use Rattle.mq_spec_state.specs.Steps.Step.{Do}
-use Rattle.mq_spec_manager.specs.Stamps.{put_date, put_time}
-use Rattle.mq_spec_manager.specs.Heads.{tm_bytes, own_md}
+use Rattle.mq_clock.specs.Stamps.{put_date, put_time}
+use Rattle.mq_heads.specs.Headers.{tm_bytes}
+use Rattle.mq_spec_manager.specs.Heads.{tm_of, own_md}
 use Rattle.mq_spec_manager.specs.Put.{next_ident, placing_tests}
 
 -- there are no refusals of a trigger turn
@@ -33,7 +34,7 @@ trigger_message ident q process i moment = record {
   md = own_md ident (codes "MQTRIG  ") (pos i.default_priority) (pos 0) (put_date moment) (put_time moment);
   route = None;
   deadline = None;
-  body = tm_bytes q process;
+  body = tm_bytes (tm_of q process);
 }
 
 -- the initiation queue takes the message, or the trigger is dropped

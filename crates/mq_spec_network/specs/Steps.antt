@@ -29,7 +29,8 @@ use Rattle.mq_history.specs.declared.scenario.Section.{Section}
 use Rattle.mq_history.specs.declared.scenario.Scenario.{Scenario}
 use Rattle.mq_history.specs.declared.scenario.Step.{Step}
 use Rattle.mq_history.specs.declared.scenario.Step.TheVariants as steps
-use Rattle.mq_spec_manager.specs.Heads.{field, trimmed}
+use Rattle.mq_heads.specs.Headers.{tm_in}
+use Rattle.mq_spec_manager.specs.Heads.{is_tm, trimmed}
 use Rattle.mq_spec_manager.specs.Handles.{connected as handles_connected}
 use Rattle.mq_spec_node.specs.Node.{Node, Monitor}
 use Rattle.mq_spec_node.specs.Deeds.{Deed}
@@ -97,7 +98,7 @@ moment_of (Some n) = n.manager.moment
 abbrev pub RunsLines : ℕ → ℕ → List ℕ → List Entry → Type 0
 RunsLines k moment bys [] = bys ≡ []
 RunsLines k moment [] (e ∷ es) = (e.actor ≡ actors.Script k) × RunsLines k moment [] es
-RunsLines k moment (by ∷ bys) (e ∷ []) = (e.actor ≡ actors.Script k) × ⊥
+RunsLines k moment (by ∷ bys) (e ∷ []) = ⊥
 RunsLines k moment (by ∷ bys) (e ∷ g ∷ es) =
     ((e.actor ≡ actors.Script k) × RunsLines k moment (by ∷ bys) (g ∷ es))
     ⊎ (IsClock by e × (0 < by) × (waits_until g.call ≡ Some (moment + by)) × RunsLines k (moment + by) bys (g ∷ es))
@@ -181,14 +182,11 @@ is_of_monitor k e = is_monitor k e.actor
 
 -- the text of ApplId in a trigger message
 abbrev pub appl_id : List ℕ → List ℕ
-appl_id body = trimmed (field 172 256 body)
+appl_id body = trimmed (tm_in body).appl_id
 
 abbrev pub got_body : Reply → List ℕ
 got_body (replies.Got (answers.Ok g)) = g.body
 got_body _ = []
-
-abbrev pub is_tm : List ℕ → Bool
-is_tm body = nat_le 684 (length body) && bytes_eq (take 4 body) (codes "TM  ")
 
 abbrev pub script_named : ℕ → ℕ → List ℕ → List ScriptPart → Option ℕ
 script_named m k label [] = None

@@ -1,8 +1,8 @@
 -- What a call is: refused, or an answer with what it does, in one or two parts, each behind at most one forced write;
 -- and how the free choices end it.
 use Rattle.std.specs.Prelude.{◌≡◌, ℕ, zero, suc, is_some, ◌+◌, ◌-◌, ◌<◌, ◌≤◌, Bool, true, List, [], ◌∷◌, ◌++◌, map, if◌then◌else◌, Option, Some, None, Result, Ok, Err}
-use Rattle.mq_calls.specs.declared.commands.Stop.{Stop}
-use Rattle.mq_calls.specs.declared.commands.Stop.TheVariants as stops
+use Rattle.mq_disk.specs.declared.cutter.Stop.{Stop}
+use Rattle.mq_disk.specs.declared.cutter.Stop.TheVariants as stops
 use Rattle.mq_calls.specs.declared.choices.Choice.{Choice}
 use Rattle.mq_calls.specs.declared.choices.Choice.TheVariants.{Runs, NoMemory, Stopped}
 use Rattle.mq_calls.specs.declared.commands.Halt.{Halt}
