@@ -1,8 +1,6 @@
 use crate::acts::{Act, Acted};
 use crate::opening::Image;
-use mq_calls::{
-    Answer, Appl, Choice, Delta, Get, Got, Hconn, Hobj, Messages, Open, Return, Sent,
-};
+use mq_calls::{Answer, Appl, Choice, Delta, Get, Got, Hconn, Hobj, Messages, Open, Return, Sent};
 use mq_disk::Stop;
 use mq_frame::{Frame, Seen};
 use mq_message::{Bytes, Md};

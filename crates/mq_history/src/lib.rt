@@ -15,7 +15,7 @@ pub use calls::{Actor, Call, Chance, Effect, Entry, Reply};
 pub use history::{History, Mark};
 pub use opening::{Image, StoredQueue};
 pub use scenario::{
-    CableLine, Fault, ManagerLine, MonitorLine, Scenario, ScriptPart, Section, Step,
+    CableLine, Fault, ManagerLine, MonitorLine, RulesPart, Scenario, ScriptPart, Section, Step,
 };
 pub use scripts::{Body, GetOptions, PutOptions, ScriptLine};
 pub use story::{Apart, Conflict, ManagerPlaces};

@@ -2,6 +2,7 @@ use crate::acts::Command;
 use crate::scripts::ScriptLine;
 use mq_base::Items;
 use mq_name::{ChName, Label, QName};
+use mq_rules::Table;
 
 /// A QMGR line.
 #[derive(Clone, Copy)]
@@ -49,6 +50,14 @@ pub struct ScriptPart {
     pub lines: Items<ScriptLine>,
 }
 
+/// A RULES section.
+#[derive(Drop)]
+pub struct RulesPart {
+    pub label: Label,
+    pub manager: u16,
+    pub table: Table,
+}
+
 /// A MONITOR line.
 #[derive(Clone, Copy)]
 pub struct MonitorLine {
@@ -82,6 +91,7 @@ pub struct Scenario {
     pub managers: Items<ManagerLine>,
     pub cables: Items<CableLine>,
     pub sections: Items<Section>,
+    pub rules: Items<RulesPart>,
     pub scripts: Items<ScriptPart>,
     pub monitors: Items<MonitorLine>,
     pub steps: Items<Step>,

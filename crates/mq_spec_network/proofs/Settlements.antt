@@ -55,6 +55,7 @@ scenario = record {
   managers = record { name = codes "LONDON"; log_max = 268435456 } ∷ record { name = codes "PARIS"; log_max = 268435456 } ∷ [];
   cables = record { channel = channel; sender = 0; receiver = 1; out = []; back = [] } ∷ [];
   sections = [];
+  rules = [];
   scripts = [];
   monitors = [];
   steps = [];

@@ -3,11 +3,12 @@ use Rattle.std.specs.Prelude.{ℕ, ◌+◌, ◌==◌, List, [], ◌∷◌, ◌++
 use Rattle.mq_history.specs.declared.scenario.ManagerLine.{ManagerLine}
 use Rattle.mq_history.specs.declared.scenario.CableLine.{CableLine}
 use Rattle.mq_history.specs.declared.scenario.MonitorLine.{MonitorLine}
+use Rattle.mq_history.specs.declared.scenario.RulesPart.{RulesPart}
 use Rattle.mq_history.specs.declared.scenario.Scenario.{Scenario}
 use Rattle.mq_receiver.specs.States.{receiver_of}
 use Rattle.mq_sender.specs.States.{new_sender}
 use Rattle.mq_spec_state.specs.State.{Given}
-use Rattle.mq_spec_node.specs.Node.{Own, ChannelEnd, Monitor}
+use Rattle.mq_spec_node.specs.Node.{Own, ChannelEnd, Handler, Monitor}
 use Rattle.mq_spec_node.specs.Node.ChannelEnd.{Sends, Receives}
 use Rattle.mq_spec_node.specs.Replays.{Surroundings}
 
@@ -32,6 +33,12 @@ abbrev pub ends_from : Scenario → ℕ → ℕ → List CableLine → List Chan
 ends_from s m cable [] = []
 ends_from s m cable (c ∷ cs) = end_at s m cable c ++ ends_from s m (suc cable) cs
 
+abbrev pub handlers_from : ℕ → ℕ → List RulesPart → List Handler
+handlers_from m number [] = []
+handlers_from m number (r ∷ rs) =
+    if r.manager == m then record { number = number; table = r.table; tried = [] } ∷ handlers_from m (suc number) rs
+    else handlers_from m (suc number) rs
+
 abbrev pub monitors_from : ℕ → ℕ → List MonitorLine → List Monitor
 monitors_from m number [] = []
 monitors_from m number (l ∷ ls) =
@@ -47,7 +54,7 @@ abbrev pub given_at : Scenario → ℕ → Given
 given_at s m = record { number = m + 1; name = name_at s m; log_max = log_max_or (slice_get s.managers m) }
 
 abbrev pub own_at : Scenario → ℕ → Own
-own_at s m = record { ends = ends_from s m 0 s.cables; handlers = []; monitors = monitors_from m 0 s.monitors }
+own_at s m = record { ends = ends_from s m 0 s.cables; handlers = handlers_from m 0 s.rules; monitors = monitors_from m 0 s.monitors }
 
 abbrev pub surroundings : Scenario → ℕ → Surroundings
 surroundings s m = record { given = given_at s m; own = own_at s m }

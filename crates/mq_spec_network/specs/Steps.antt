@@ -24,6 +24,7 @@ use Rattle.mq_history.specs.declared.calls.Reply.{Reply}
 use Rattle.mq_history.specs.declared.calls.Reply.TheVariants as replies
 use Rattle.mq_history.specs.declared.calls.Entry.{Entry}
 use Rattle.mq_history.specs.declared.scenario.MonitorLine.{MonitorLine}
+use Rattle.mq_history.specs.declared.scenario.RulesPart.{RulesPart}
 use Rattle.mq_history.specs.declared.scenario.ScriptPart.{ScriptPart}
 use Rattle.mq_history.specs.declared.scenario.Section.{Section}
 use Rattle.mq_history.specs.declared.scenario.Scenario.{Scenario}
@@ -325,8 +326,13 @@ abbrev pub ServesAt : Network → ℕ → ℕ → Option MonitorLine → (ℕ �
 ServesAt w k n None seg = ⊥
 ServesAt w k n (Some l) seg = Serves w k n l.manager seg
 
-abbrev pub HandlesAt : Network → ℕ → ℕ → (ℕ → List Entry) → Type 0
-HandlesAt w k n seg = (m : ℕ) × Handles w k n m seg
+abbrev pub HandlesAt : Network → ℕ → ℕ → Option RulesPart → (ℕ → List Entry) → Type 0
+HandlesAt w k n None seg = ⊥
+HandlesAt w k n (Some r) seg = Handles w k n r.manager seg
+
+abbrev pub handles_idle : ℕ → Option RulesPart → Network → Bool
+handles_idle k None w = false
+handles_idle k (Some r) w = handler_idle k (node_at w r.manager)
 
 abbrev pub StepIs : Network → Step → (ℕ → List Entry) → Type 0
 StepIs w (steps.Obey k) seg = ObeysSection (slice_get w.scenario.sections k) seg
@@ -334,7 +340,7 @@ StepIs w (steps.Do m c) seg = AsksOnce (acts.Obey c) (mains (seg m)) × Alone m 
 StepIs w (steps.Run k n) seg = RunsScript w k n (slice_get w.scenario.scripts k) seg
 StepIs w (steps.Phase ks) seg = InPhase w ks seg
 StepIs w (steps.Pump n) seg = Pumped n w (later w seg)
-StepIs w (steps.Handle k n) seg = HandlesAt w k n seg
+StepIs w (steps.Handle k n) seg = HandlesAt w k n (slice_get w.scenario.rules k) seg
 StepIs w (steps.Watch k) seg = WatchesAt w k (slice_get w.scenario.monitors k) seg
 StepIs w (steps.Serve k n) seg = ServesAt w k n (slice_get w.scenario.monitors k) seg
 StepIs w (steps.Crash m) seg = AsksOnce acts.Crash (mains (seg m)) × Alone m seg
@@ -345,7 +351,7 @@ StepIs w (steps.Clock by) seg = (m : ℕ) → m < length w.scenario.managers →
 -- a mark is idle exactly where its step is a PUMP after which nothing can change, or a HANDLE whose next turn would be idle
 abbrev pub IsMark : Network → Step → (ℕ → List Entry) → Bool → Type 0
 IsMark w (steps.Pump n) seg idle = idle ≡ is_idle (later w seg)
-IsMark w (steps.Handle k n) seg idle = (m : ℕ) × Handles w k n m seg × (idle ≡ handler_idle k (node_at (later w seg) m))
+IsMark w (steps.Handle k n) seg idle = idle ≡ handles_idle k (slice_get w.scenario.rules k) (later w seg)
 IsMark w _ seg idle = idle ≡ false
 
 -- Last come the restarts of managers that are down; one that a cut stops is done once more.

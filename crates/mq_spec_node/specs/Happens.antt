@@ -11,6 +11,9 @@ use Rattle.mq_calls.specs.declared.answers.Got.{Got}
 use Rattle.mq_calls.specs.declared.answers.GetAnswer.{GetAnswer}
 use Rattle.mq_calls.specs.declared.answers.GetAnswer.TheVariants as get_answers
 use Rattle.mq_calls.specs.declared.choices.Choice.{Choice}
+use Rattle.mq_calls.specs.declared.choices.Return.{Return}
+use Rattle.mq_calls.specs.declared.choices.Return.TheVariants.{Fails}
+use Rattle.mq_calls.specs.declared.commands.RestartFault.TheVariants as faults
 use Rattle.mq_calls.specs.declared.choices.Choice.TheVariants.{Runs}
 use Rattle.mq_calls.specs.declared.commands.Shown.{Shown}
 use Rattle.mq_calls.specs.declared.commands.ScRefusal.{ScRefusal}
@@ -47,6 +50,7 @@ use Rattle.mq_spec_node.specs.Deeds.{Deed, Done, told, parts_of, mqi_deed, ended
 use Rattle.mq_spec_node.specs.Senders.{sender_deed, timeout_deed}
 use Rattle.mq_spec_node.specs.Receivers.{receiver_deed}
 use Rattle.mq_spec_node.specs.Operators.{operate, show_status}
+use Rattle.mq_spec_node.specs.Handlers.{handler_deed}
 use Rattle.mq_spec_node.specs.Openings.{resumed}
 
 -- MQGET. One that may still wait is no event.
@@ -96,9 +100,14 @@ abbrev pub receiver_turn : ℕ → Option ReceiverEnd → Seen → Node → Opti
 receiver_turn stamp None seen n = None
 receiver_turn stamp (Some e) seen n = receiver_deed stamp e seen n
 
+abbrev pub handler_turn : Option Handler → Node → Option Deed
+handler_turn None n = None
+handler_turn (Some h) n = handler_deed h n
+
 abbrev pub turn_up : ℕ → Actor → Seen → Node → Option Deed
 turn_up stamp (actors.Sender cable) seen n = sender_turn stamp (sender_end cable n.own) seen n
 turn_up stamp (actors.Receiver cable) seen n = receiver_turn stamp (receiver_end cable n.own) seen n
+turn_up stamp (actors.Handler number) seen n = handler_turn (handler_in number n.own.handlers) n
 turn_up stamp _ seen n = None
 
 abbrev pub where_up : Running → Option Deed → Option Deed
@@ -213,11 +222,16 @@ RunsAlone (chances.Call choice) = choice ≡ Runs
 RunsAlone (chances.Restart choice) = ⊥
 RunsAlone (chances.Foreign image) = ⊥
 
+-- a restart that finds no memory is no event
+abbrev pub IsToldReturn : Return → Type 0
+IsToldReturn (Fails faults.NoMemory in_write left) = ⊥
+IsToldReturn _ = Unit {0}
+
 -- A restart of a manager that is up is refused, whatever comes; one of a manager that is down ends as it can.
 abbrev pub IsReturn : Running → Chance → ℕ → Type 0
 IsReturn running (chances.Call choice) armed = ⊥
 IsReturn Up (chances.Restart choice) armed = Unit {0}
-IsReturn (Down noted starts) (chances.Restart choice) armed = CanReturn choice noted starts armed
+IsReturn (Down noted starts) (chances.Restart choice) armed = CanReturn choice noted starts armed × IsToldReturn choice
 IsReturn Up (chances.Foreign image) armed = ⊥
 IsReturn (Down noted starts) (chances.Foreign image) armed = Unit {0}
 

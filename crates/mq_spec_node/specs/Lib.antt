@@ -3,6 +3,7 @@ pub mod Deeds
 pub mod Senders
 pub mod Receivers
 pub mod Operators
+pub mod Handlers
 pub mod Openings
 pub mod Happens
 pub mod Replays

@@ -7,6 +7,7 @@ use Rattle.mq_calls.specs.declared.answers.Hconn.{Hconn}
 use Rattle.mq_calls.specs.declared.answers.Hobj.{Hobj}
 use Rattle.mq_sender.specs.declared.state.Sender.{Sender}
 use Rattle.mq_receiver.specs.declared.state.Receiver.{Receiver}
+use Rattle.mq_rules.specs.declared.rule.Table.{Table}
 use Rattle.mq_spec_state.specs.State.{Plain}
 
 -- the sender end of a cable: the cable's place in the scenario, the channel, the manager at the other end, the machine
@@ -37,9 +38,10 @@ pub record Tried : Type 0 where
   pub failed : ℕ
   pub due : ℕ
 
--- a handler and a monitor, by their places in the scenario
+-- a handler, with its rules table, and a monitor, by their places in the scenario
 pub record Handler : Type 0 where
   pub number : ℕ
+  pub table : Table
   pub tried : List Tried
 
 pub record Monitor : Type 0 where
