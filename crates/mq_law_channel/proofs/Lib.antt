@@ -13,3 +13,4 @@ pub mod Counting
 pub mod Numbering
 pub mod Recounting
 pub mod Agreeing
+pub mod Reaching

@@ -1,19 +1,21 @@
 -- What the queues of a network need of a channel.
-use Rattle.std.specs.Prelude.{ℕ, ◌≡◌, ◌≢◌, ◌<◌, ◌⊎◌, true, false, Option, Some, None}
+use Rattle.std.specs.Prelude.{ℕ, ◌≡◌, ◌≢◌, ◌<◌, ◌≤◌, ◌⊎◌, Bool, true, false, Option, Some, None}
 use Rattle.mq_sync.specs.declared.unit.Unit.{Unit as Luw}
 use Rattle.mq_sync.specs.declared.unit.Settle.{Settle}
 use Rattle.mq_sync.specs.declared.unit.Settle.TheVariants as settles
 use Rattle.mq_sync.specs.declared.data.InDoubt.{InDoubt}
 use Rattle.mq_sync.specs.declared.data.ReceiverData.{ReceiverData}
 use Rattle.mq_sync.specs.Units.{Below}
+use Rattle.mq_sender.specs.declared.state.SenderState.{SenderState}
+use Rattle.mq_sender.specs.declared.state.SenderState.TheVariants.{Inactive, Stopped, Starting, Hailing, Binding, Running, Sending, Ready, Waiting}
 use Rattle.mq_sender.specs.declared.turns.SenderDoes.{SenderDoes}
 use Rattle.mq_sender.specs.declared.turns.SenderDoes.TheVariants as sends
 use Rattle.mq_sender.specs.Table.{status_unit}
 use Rattle.mq_receiver.specs.declared.turns.ReceiverDoes.TheVariants as takes
 use Rattle.mq_receiver.specs.declared.turns.ReceiverOut.TheVariants as ends
 use Rattle.mq_receiver.specs.States.{is_bound}
-use Rattle.mq_law_channel.specs.Facts.{Dead}
-use Rattle.mq_law_channel.specs.Channel.{Channel, Past, far}
+use Rattle.mq_law_channel.specs.Facts.{Dead, Ends, Mem}
+use Rattle.mq_law_channel.specs.Channel.{Channel, Past, far, tales}
 use Rattle.mq_law_channel.specs.Turns.{SenderTurn, ReceiverTurn, receiver_does}
 
 -- At a receiver's commit of a unit: its session is the receiver's, which isn't closed; what is kept is what was sent;
@@ -64,3 +66,20 @@ Later r q = (r.session < q.session) ⊎ ((q.session ≡ r.session) × (r.closed 
 -- Refused goes with Place alone
 abbrev pub RefusesUnits : ReceiverTurn → Channel → Type 0
 RefusesUnits t c = (reason : ℕ) → t.outcome ≡ ends.Refused reason → (u : Luw) × (receiver_does t c ≡ takes.Place u)
+
+-- a sender that has had its STATUS in the present session
+abbrev pub is_in_session : SenderState → Bool
+is_in_session Inactive = false
+is_in_session (Stopped cause) = false
+is_in_session Starting = false
+is_in_session Hailing = false
+is_in_session Binding = false
+is_in_session Running = true
+is_in_session (Sending sent number) = true
+is_in_session Ready = true
+is_in_session Waiting = true
+
+-- no unit is sent, and no END offered, before the receiver has bound its session
+pub record Reached (c : Channel) (p : Past) : Type 0 where
+  pub bound : is_in_session c.sender.state ≡ true → p.near.session ≤ c.receives.session
+  pub ends : (u : Luw) (k last : ℕ) → Mem (Ends u k last) (tales c.out) → u.session ≤ c.receives.session

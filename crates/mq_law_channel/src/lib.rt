@@ -24,7 +24,7 @@ ghost use Rattle.mq_receiver.specs.States.{is_bound};
 ghost use Rattle.mq_law_channel.specs.Facts.{Dead, Letter};
 ghost use Rattle.mq_law_channel.specs.Channel.{Channel, Facts, Past, far};
 ghost use Rattle.mq_law_channel.specs.Counting.{Agree, Count, Numbers, SenderAgrees, count_opened, count_set, sender_count};
-ghost use Rattle.mq_law_channel.specs.Following.{Alone, Awaited, Later, Placed, RefusesUnits, Said};
+ghost use Rattle.mq_law_channel.specs.Following.{Alone, Awaited, Later, Placed, Reached, RefusesUnits, Said, is_in_session};
 ghost use Rattle.mq_law_channel.specs.Opening.{Belong, opened, past_opened};
 ghost use Rattle.mq_law_channel.specs.Turns.{ReceiverMay, ReceiverTurn, SenderMay, SenderTurn, past_resolved, receiver_does, receiver_halted, receiver_numbered, receiver_restarted, receiver_rests, receiver_started, receiver_stopped, receiver_turn, released, resolved, sender_does, sender_numbered, sender_past, sender_past_restarted, sender_restarted, sender_rests, sender_started, sender_stopped, sender_timed_out, sender_turn};
 
@@ -92,6 +92,16 @@ pub fn closed_sessions_stay_closed()
     ensures reset { (last : ℕ) (c : Channel) → Alone c → Alone (receiver_numbered last c) }
     ensures dead { (c d : Channel) (x : ℕ) → Later c.receives d.receives → Dead (far c) x → Dead (far d) x }
     ensures live { (t : ReceiverTurn) (c : Channel) (u : Luw) → Alone c → receiver_does t c ≡ Place u → ¬ Dead (far c) u.session }
+{}
+
+/// No unit is sent, and no END offered, before the receiver has bound its session. It stays so under a sender that is
+/// started, stopped, reset, resolved or at rest, and under all that only raises the receiver's session.
+pub fn no_unit_is_sent_before_its_session_is_bound()
+    ensures begins { (s : SenderData) (r : ReceiverData) (letters : List Letter) → Reached (opened s r) (past_opened s r letters) }
+    ensures sender { (t : SenderTurn) (c : Channel) (p : Past) → Facts c p → SenderMay t c → Reached c p → Reached (sender_turn t c) (sender_past t c p) }
+    ensures timeout { (c : Channel) (p : Past) → Reached c p → Reached (sender_timed_out c) p }
+    ensures rests { (c d : Channel) (p q : Past) → Reached c p → is_in_session d.sender.state ≡ false → d.out ≡ c.out → d.receives ≡ c.receives → Reached d q }
+    ensures receiver { (c d : Channel) (p : Past) → Reached c p → Later c.receives d.receives → d.sender ≡ c.sender → d.out ≡ c.out → Reached d p }
 {}
 
 /// Sequence numbers. Beside the facts stands the last number of each unit, and whether an operator has set a number.
