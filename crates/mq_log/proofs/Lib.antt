@@ -1,0 +1,6 @@
+mod Forced
+mod Framed
+mod Logs
+mod Opened
+mod Scanned
+mod Standing

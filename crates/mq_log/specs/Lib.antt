@@ -1,0 +1,6 @@
+pub mod Bodies
+pub mod Force
+pub mod Open
+pub mod Sound
+pub mod State
+pub mod Walk

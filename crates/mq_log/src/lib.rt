@@ -1,0 +1,15 @@
+//! A forced log on a disk: bodies behind gates. A body stands in the log once its gate is open on the disk.
+#![tactic(auto)]
+
+mod bodies;
+mod force;
+mod log;
+mod open;
+mod scan;
+
+pub use bodies::{Bodies, Split, next_body};
+pub use log::{Log, LogFull, Unstarted};
+pub use open::StartFault;
+
+#[cfg(test)]
+mod tests;
