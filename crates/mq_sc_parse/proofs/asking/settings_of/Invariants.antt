@@ -1,0 +1,7 @@
+use Rattle.std.proofs.Common.{◌≡◌, drop}
+use Rattle.mq_sc_parse.specs.Asking.{settings_of}
+use Rattle.mq_sc_parse.proofs.AskLaws.{behind}
+use Rattle.mq_sc_parse.proofs.asking.settings_of.Given as goal
+
+abbrev pub invariant-loop-item : goal.invariant-loop-item
+invariant-loop-item l = behind l.settings (settings_of l.verb l.kind (drop l.item-index l.items)) ≡ settings_of l.verb l.kind l.items

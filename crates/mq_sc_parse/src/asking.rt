@@ -1,0 +1,138 @@
+ghost use Rattle.std.specs.Prelude.{◌≡◌, IfOk};
+ghost use Rattle.mq_sc_parse.specs.Asking.{given_item, settings_of, keyword_of, asked_key, asked_item, asked_of, Gives};
+
+use crate::attributes::{Kind, key_of};
+use crate::fault::ScFault;
+use crate::giving::{Given, given_of};
+use crate::keys::Key;
+use crate::splitting::{Item, Value};
+use crate::verbs::Verb;
+use mq_base::Items;
+use mq_objects::{Keyword, Setting};
+use std::alloc::{AllocError, Global};
+
+/// What a keyword of DISPLAY asks.
+#[derive(Drop)]
+pub enum Asked {
+    /// It has a value.
+    Bad,
+    /// Nothing of its own: ALL.
+    Nothing,
+    Keyword(Keyword),
+}
+
+fn given_item(alloc: Global, verb: Verb, kind: Kind, item: &Item) -> Result<Given, AllocError>
+    ensures { IfOk result (λ g. g ≡ given_item verb kind item.now) }
+{
+    match key_of(verb, kind, item.word.as_slice()) {
+        Some(key) => given_of(alloc, kind, key, &item.value),
+        None => Ok(Given::Bad),
+    }
+}
+
+/// What the keywords give in order.
+pub fn settings_of(
+    alloc: Global,
+    verb: Verb,
+    kind: Kind,
+    items: &[Item],
+) -> Result<Items<Setting>, ScFault>
+    ensures { Gives result (settings_of verb kind items.now) }
+{
+    let mut settings = Items::new(alloc);
+    for item in items {
+        match given_item(alloc, verb, kind, item)? {
+            Given::Bad => return Err(ScFault::BadValue(item.span)),
+            Given::Nothing => {}
+            Given::Setting(setting) => settings.push(setting)?,
+        }
+    }
+    Ok(settings)
+}
+
+fn keyword_of(key: Key) -> Keyword
+    ensures { result ≡ keyword_of key }
+{
+    match key {
+        Key::DefPrty => Keyword::DefPrty,
+        Key::DefPsist => Keyword::DefPsist,
+        Key::Get => Keyword::Get,
+        Key::InitQ => Keyword::InitQ,
+        Key::MaxDepth => Keyword::MaxDepth,
+        Key::MaxMsgL => Keyword::MaxMsgL,
+        Key::MsgDlvSq => Keyword::MsgDlvSq,
+        Key::Process => Keyword::Process,
+        Key::Put => Keyword::Put,
+        Key::TrigData => Keyword::TrigData,
+        Key::TrigDpth => Keyword::TrigDpth,
+        Key::Trigger => Keyword::Trigger,
+        Key::NoTrigger => Keyword::Trigger,
+        Key::TrigMPri => Keyword::TrigMPri,
+        Key::TrigType => Keyword::TrigType,
+        Key::Usage => Keyword::Usage,
+        Key::Target => Keyword::Target,
+        Key::TargQ => Keyword::Target,
+        Key::RName => Keyword::RName,
+        Key::RQMName => Keyword::RQMName,
+        Key::XmitQ => Keyword::XmitQ,
+        Key::ChlType => Keyword::ChlType,
+        Key::BatchSz => Keyword::BatchSz,
+        Key::SeqWrap => Keyword::SeqWrap,
+        Key::ShortRty => Keyword::ShortRty,
+        Key::UseDlq => Keyword::UseDlq,
+        Key::NpmSpeed => Keyword::NpmSpeed,
+        Key::ApplicId => Keyword::ApplicId,
+        Key::ApplType => Keyword::ApplType,
+        Key::EnvrData => Keyword::EnvrData,
+        Key::UserData => Keyword::UserData,
+        Key::DeadQ => Keyword::DeadQ,
+        Key::DefXmitQ => Keyword::DefXmitQ,
+        Key::MaxHands => Keyword::MaxHands,
+        Key::MaxUMsgs => Keyword::MaxUMsgs,
+        Key::TrigInt => Keyword::TrigInt,
+        Key::MaxPrty => Keyword::MaxPrty,
+        Key::CurDepth => Keyword::CurDepth,
+        _ => Keyword::Kept,
+    }
+}
+
+fn asked_key(key: Key) -> Asked
+    ensures { result ≡ asked_key key }
+{
+    match key {
+        Key::All => Asked::Nothing,
+        other => Asked::Keyword(keyword_of(other)),
+    }
+}
+
+fn asked_item(verb: Verb, kind: Kind, item: &Item) -> Asked
+    ensures { result ≡ asked_item verb kind item.now }
+{
+    match key_of(verb, kind, item.word.as_slice()) {
+        Some(key) => match &item.value {
+            Value::Absent => asked_key(key),
+            Value::Text(_) | Value::Malformed => Asked::Bad,
+        },
+        None => Asked::Bad,
+    }
+}
+
+/// The keywords that a DISPLAY names, in order.
+pub fn asked_of(
+    alloc: Global,
+    verb: Verb,
+    kind: Kind,
+    items: &[Item],
+) -> Result<Items<Keyword>, ScFault>
+    ensures { Gives result (asked_of verb kind items.now) }
+{
+    let mut keywords = Items::new(alloc);
+    for item in items {
+        match asked_item(verb, kind, item) {
+            Asked::Bad => return Err(ScFault::BadValue(item.span)),
+            Asked::Nothing => {}
+            Asked::Keyword(keyword) => keywords.push(keyword)?,
+        }
+    }
+    Ok(keywords)
+}

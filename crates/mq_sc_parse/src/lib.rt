@@ -1,0 +1,22 @@
+//! Commands from lines of tokens.
+#![tactic(auto)]
+
+mod asking;
+mod attributes;
+mod checks;
+mod command;
+mod fault;
+mod giving;
+mod keys;
+mod naming;
+mod parsing;
+mod splitting;
+mod values;
+mod verbs;
+
+pub use command::{Command, Op};
+pub use fault::ScFault;
+pub use parsing::parse;
+
+#[cfg(test)]
+mod tests;

@@ -1,0 +1,158 @@
+ghost use Rattle.std.specs.Prelude.{◌≡◌, find};
+ghost use Rattle.mq_sc_parse.specs.Verbs.{verb_text, verb_short, object_text, object_short, takes, is_verb, is_object, verb_of, object_of};
+
+/// The first word of a command.
+#[derive(Clone, Copy, Debug, PartialEq, Eq)]
+pub enum Verb {
+    Define,
+    Alter,
+    Delete,
+    Display,
+    Start,
+    Stop,
+    Reset,
+    Resolve,
+}
+
+/// What a command is on.
+#[derive(Clone, Copy, Debug, PartialEq, Eq)]
+pub enum Noun {
+    Local,
+    Alias,
+    Remote,
+    Channel,
+    Process,
+    Manager,
+    Queue,
+    Status,
+}
+
+pub const VERBS: [Verb; 8] = [
+    Verb::Define,
+    Verb::Alter,
+    Verb::Delete,
+    Verb::Display,
+    Verb::Start,
+    Verb::Stop,
+    Verb::Reset,
+    Verb::Resolve,
+];
+
+pub const NOUNS: [Noun; 8] = [
+    Noun::Local,
+    Noun::Alias,
+    Noun::Remote,
+    Noun::Channel,
+    Noun::Process,
+    Noun::Manager,
+    Noun::Queue,
+    Noun::Status,
+];
+
+impl Verb {
+    pub fn text(self) -> &'static [u8]
+        ensures { result.now ≡ verb_text self }
+    {
+        match self {
+            Verb::Define => b"DEFINE",
+            Verb::Alter => b"ALTER",
+            Verb::Delete => b"DELETE",
+            Verb::Display => b"DISPLAY",
+            Verb::Start => b"START",
+            Verb::Stop => b"STOP",
+            Verb::Reset => b"RESET",
+            Verb::Resolve => b"RESOLVE",
+        }
+    }
+
+    /// The short form, or the verb itself where it has none.
+    pub fn short(self) -> &'static [u8]
+        ensures { result.now ≡ verb_short self }
+    {
+        match self {
+            Verb::Define => b"DEF",
+            Verb::Alter => b"ALT",
+            Verb::Delete => b"DELETE",
+            Verb::Display => b"DIS",
+            Verb::Start => b"START",
+            Verb::Stop => b"STOP",
+            Verb::Reset => b"RESET",
+            Verb::Resolve => b"RESOLVE",
+        }
+    }
+}
+
+impl Noun {
+    pub fn text(self) -> &'static [u8]
+        ensures { result.now ≡ object_text self }
+    {
+        match self {
+            Noun::Local => b"QLOCAL",
+            Noun::Alias => b"QALIAS",
+            Noun::Remote => b"QREMOTE",
+            Noun::Channel => b"CHANNEL",
+            Noun::Process => b"PROCESS",
+            Noun::Manager => b"QMGR",
+            Noun::Queue => b"QUEUE",
+            Noun::Status => b"CHSTATUS",
+        }
+    }
+
+    /// The synonym, or the word itself where it has none.
+    pub fn short(self) -> &'static [u8]
+        ensures { result.now ≡ object_short self }
+    {
+        match self {
+            Noun::Local => b"QL",
+            Noun::Alias => b"QA",
+            Noun::Remote => b"QR",
+            Noun::Channel => b"CHL",
+            Noun::Process => b"PRO",
+            Noun::Manager => b"QMGR",
+            Noun::Queue => b"QUEUE",
+            Noun::Status => b"CHS",
+        }
+    }
+}
+
+/// Which verb goes with which object.
+pub fn takes(verb: Verb, noun: Noun) -> bool
+    ensures { result ≡ takes verb noun }
+{
+    match verb {
+        Verb::Define | Verb::Delete => !matches!(noun, Noun::Manager | Noun::Queue | Noun::Status),
+        Verb::Alter => !matches!(noun, Noun::Queue | Noun::Status),
+        Verb::Display => true,
+        Verb::Start | Verb::Stop | Verb::Reset | Verb::Resolve => matches!(noun, Noun::Channel),
+    }
+}
+
+fn is_verb(verb: Verb, word: &[u8]) -> bool
+    ensures { result ≡ is_verb word.now verb }
+{
+    verb.text() == word || verb.short() == word
+}
+
+fn is_object(verb: Verb, noun: Noun, word: &[u8]) -> bool
+    ensures { result ≡ is_object verb word.now noun }
+{
+    takes(verb, noun) && (noun.text() == word || noun.short() == word)
+}
+
+#[tactic(auto, unfolding(crate::specs::Verbs::verb_of))]
+pub fn verb_of(word: &[u8]) -> Option<Verb>
+    ensures { result ≡ verb_of word.now }
+{
+    VERBS.iter().copied().find(|verb| is_verb(*verb, word))
+}
+
+/// The object that a word names behind a verb.
+#[tactic(auto, unfolding(crate::specs::Verbs::object_of))]
+pub fn object_of(verb: Verb, word: &[u8]) -> Option<Noun>
+    ensures { result ≡ object_of verb word.now }
+{
+    NOUNS
+        .iter()
+        .copied()
+        .find(|noun| is_object(verb, *noun, word))
+}
