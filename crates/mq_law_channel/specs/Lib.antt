@@ -4,3 +4,4 @@ pub mod Turns
 pub mod Following
 pub mod Opening
 pub mod Counting
+pub mod Example

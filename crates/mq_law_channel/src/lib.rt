@@ -10,11 +10,12 @@ ghost use Rattle.std.specs.Prelude.{◌≡◌, ◌≢◌, ℕ, Bool, true, false
 ghost use Rattle.mq_sync.specs.declared.unit.Unit.{Unit as Luw};
 ghost use Rattle.mq_sync.specs.declared.unit.Settle.{Settle};
 ghost use Rattle.mq_sync.specs.declared.unit.Settle.TheVariants as settles;
+ghost use Rattle.mq_sync.specs.Units.{unit_named};
 ghost use Rattle.mq_sync.specs.declared.data.InDoubt.{InDoubt};
 ghost use Rattle.mq_sync.specs.declared.data.SenderData.{SenderData};
 ghost use Rattle.mq_sync.specs.declared.data.ReceiverData.{ReceiverData};
 ghost use Rattle.mq_sender.specs.declared.state.Limits.{Limits};
-ghost use Rattle.mq_sender.specs.declared.state.SenderState.TheVariants.{Inactive, Running};
+ghost use Rattle.mq_sender.specs.declared.state.SenderState.TheVariants.{Inactive, Running, Waiting};
 ghost use Rattle.mq_sender.specs.declared.turns.SenderDoes.TheVariants as sends;
 ghost use Rattle.mq_sender.specs.declared.turns.SenderOut.TheVariants as outs;
 ghost use Rattle.mq_sender.specs.declared.state.Sender.{Sender};
@@ -24,6 +25,7 @@ ghost use Rattle.mq_receiver.specs.States.{is_bound};
 ghost use Rattle.mq_law_channel.specs.Facts.{Dead, Letter};
 ghost use Rattle.mq_law_channel.specs.Channel.{Channel, Facts, Past, far};
 ghost use Rattle.mq_law_channel.specs.Counting.{Agree, Count, Numbers, SenderAgrees, count_opened, count_set, sender_count};
+ghost use Rattle.mq_law_channel.specs.Example.{acknowledged, delivered, delivered_late};
 ghost use Rattle.mq_law_channel.specs.Following.{Alone, Awaited, Later, Placed, Reached, RefusesUnits, Said, is_in_session};
 ghost use Rattle.mq_law_channel.specs.Opening.{Belong, opened, past_opened};
 ghost use Rattle.mq_law_channel.specs.Turns.{ReceiverMay, ReceiverTurn, SenderMay, SenderTurn, past_resolved, receiver_does, receiver_halted, receiver_numbered, receiver_restarted, receiver_rests, receiver_started, receiver_stopped, receiver_turn, released, resolved, sender_does, sender_numbered, sender_past, sender_past_restarted, sender_restarted, sender_rests, sender_started, sender_stopped, sender_timed_out, sender_turn};
@@ -130,4 +132,13 @@ pub fn steps_keep_the_numbers()
 pub fn no_sequence_error_without_a_reset()
     ensures { (t : SenderTurn) (c : Channel) (p : Past) (n : Count) (settle : Option Settle) (partner : ℕ) → Facts c p → Numbers c p n → SenderMay t c → SenderAgrees t c p → n.set ≡ false
         → t.outcome ≡ outs.Done → sender_does t c ≡ sends.Bound settle partner → (sender_turn t c).sender.state ≡ Running }
+{}
+
+/// The facts are of channels that do send: one message goes over by the tables' own turns, and is committed once, also
+/// where its ACK is lost.
+pub fn a_message_goes_over()
+    ensures doubt { (l : Letter) → (acknowledged l).sender.state ≡ Waiting }
+    ensures committed { (l : Letter) → (acknowledged l).receives.unit ≡ unit_named 1 1 }
+    ensures settled { (l : Letter) → ((delivered l).sends.in_doubt ≡ None) × ((delivered l).sends.last ≡ 1) × ((delivered l).receives.last ≡ 1) × ((delivered l).sender.state ≡ Running) }
+    ensures late { (l : Letter) → ((delivered_late l).sends.in_doubt ≡ None) × ((delivered_late l).sends.session ≡ 2) × ((delivered_late l).sends.last ≡ 1) × ((delivered_late l).receives.unit ≡ unit_named 1 1) × ((delivered_late l).sender.state ≡ Running) }
 {}
