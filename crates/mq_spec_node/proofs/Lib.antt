@@ -1,2 +1,3 @@
 pub mod Pair
 mod Turns
+mod Letters

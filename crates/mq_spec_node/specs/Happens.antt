@@ -45,7 +45,7 @@ use Rattle.mq_spec_manager.specs.Units.{mqcmit, mqback, mqdisc}
 use Rattle.mq_spec_manager.specs.Commands.{command}
 use Rattle.mq_spec_manager.specs.Triggers.{first_due, trigger_turn}
 use Rattle.mq_spec_manager.specs.Stops.{stop, restart, cut, advance_clock, CanReturn}
-use Rattle.mq_spec_node.specs.Node.{Node, Own, Monitor, SenderEnd, ReceiverEnd, sender_end, receiver_end, change_monitor}
+use Rattle.mq_spec_node.specs.Node.{Node, Own, Monitor, Handler, SenderEnd, ReceiverEnd, sender_end, receiver_end, handler_in, change_monitor}
 use Rattle.mq_spec_node.specs.Deeds.{Deed, Done, told, parts_of, mqi_deed, ended_deed, node_of, begun_anew, quiet, done, CanCome}
 use Rattle.mq_spec_node.specs.Senders.{sender_deed, timeout_deed}
 use Rattle.mq_spec_node.specs.Receivers.{receiver_deed}

@@ -1,0 +1,112 @@
+-- A dead-letter handler whose first rule fails twice, computed from the definitions.
+use Rattle.std.specs.Prelude.{◌≡◌, ℕ, pos, true, false, List, [], ◌∷◌, ◌++◌, Option, Some, None, length, map, codes, refl}
+use Rattle.mq_codes.specs.declared.reason.Reason.TheVariants as reasons
+use Rattle.mq_message.specs.declared.message.Ident.{Ident}
+use Rattle.mq_message.specs.declared.message.Message.{Message}
+use Rattle.mq_message.specs.Layout.{long_bytes, long_of}
+use Rattle.mq_heads.specs.Headers.{dlh_bytes, dlh_in, dlh_read}
+use Rattle.mq_clock.specs.Stamps.{put_date, put_time, reached}
+use Rattle.mq_frame.specs.declared.frame.Seen.TheVariants as items
+use Rattle.mq_queue.specs.declared.row.Row.{Row}
+use Rattle.mq_objects.specs.declared.object.Object.{Object}
+use Rattle.mq_objects.specs.declared.setting.Setting.TheVariants as settings
+use Rattle.mq_objects.specs.declared.command.Subject.TheVariants as subjects
+use Rattle.mq_history.specs.declared.acts.Act.TheVariants as acts
+use Rattle.mq_history.specs.declared.calls.Actor.TheVariants as actors
+use Rattle.mq_history.specs.declared.calls.Call.{Call}
+use Rattle.mq_history.specs.declared.calls.Call.TheVariants as calls
+use Rattle.mq_history.specs.declared.opening.Image.{Image}
+use Rattle.mq_history.specs.declared.opening.StoredQueue.{StoredQueue}
+use Rattle.mq_rules.specs.declared.rule.Rule.{Rule}
+use Rattle.mq_rules.specs.declared.rule.Table.{Table}
+use Rattle.mq_rules.specs.declared.rule.Action.TheVariants as actions
+use Rattle.mq_rules.specs.declared.rule.Condition.TheVariants as conditions
+use Rattle.mq_rules.specs.declared.rule.NumberField.TheVariants as numbers
+use Rattle.mq_rules.specs.declared.rule.Target.TheVariants as targets
+use Rattle.mq_rules.specs.declared.rule.Wait.TheVariants as waits
+use Rattle.mq_spec_state.specs.Reads.{stored}
+use Rattle.mq_spec_manager.specs.Commands.{defined_object}
+use Rattle.mq_spec_manager.proofs.Script.{script_md, ident_numbers}
+use Rattle.mq_spec_agents.specs.Agents.{dead_message}
+use Rattle.mq_spec_node.specs.Node.{Node, Own, Handler}
+use Rattle.mq_spec_node.specs.Deeds.{Deed}
+use Rattle.mq_spec_node.specs.Happens.{event, deed_of}
+use Rattle.mq_spec_node.specs.Openings.{first_node}
+use Rattle.mq_spec_node.proofs.Pair.{image, runs}
+
+-- a dead letter of reason 2053
+abbrev letter : Message
+letter = dead_message (codes "LON.PAR") reasons.QueueFull
+    (record { ident = record { manager = 1; incarnation = 1; number = 1 }; md = script_md (pos 0) (pos 1); route = Some (record { queue = codes "Q1"; qmgr = codes "PARIS" }); deadline = None; body = codes "HELLO" })
+    0
+
+abbrev of_2053 : Rule
+of_2053 = record {
+  conditions = conditions.Number numbers.Reason (pos 2053) ∷ [];
+  action = actions.Forward (record { queue = targets.Name (codes "FULLQ"); qmgr = targets.Name []; header = false });
+  retries = 2;
+}
+
+abbrev discards : Rule
+discards = record { conditions = conditions.Number numbers.Reason (pos 2053) ∷ []; action = actions.Discard; retries = 1 }
+
+abbrev rules : Table
+rules = record { input_q = []; retry_interval = 60; wait = waits.No; rules = of_2053 ∷ discards ∷ [] }
+
+abbrev given : List Object
+given = defined_object (subjects.Local (codes "DLQ")) [] ∷ defined_object (subjects.Local (codes "FULLQ")) (settings.MaxDepth 0 ∷ []) ∷ []
+
+abbrev letters : StoredQueue
+letters = record { name = codes "DLQ"; rows = record { place = record { lane = 9; arrival = 1 }; message = letter; by = None } ∷ []; arrivals = 1 }
+
+abbrev handled : Node
+handled = first_node (record { number = 2; name = codes "PARIS"; log_max = 268435456 })
+    (record { ends = []; handlers = record { number = 0; table = rules; tried = [] } ∷ []; monitors = [] })
+    (record (image given (codes "DLQ")) { queues = letters ∷ [] }) 0
+
+-- a turn, and whether there is one
+abbrev turn : Node → Node
+turn n = (event 1 (actors.Handler 0) calls.Turn runs items.Nothing n).next
+
+abbrev count : Option Deed → ℕ
+count None = 0
+count (Some d) = 1
+
+abbrev turns : Node → ℕ
+turns n = count (deed_of 1 (actors.Handler 0) calls.Turn items.Nothing n)
+
+abbrev later : Node → Node
+later n = (event 1 actors.Clock (calls.Act (acts.Clock 60000)) runs items.Nothing n).next
+
+abbrev dead_rows : Node → List (List ℕ)
+dead_rows n = map (λ (row : Row). ident_numbers row.message.ident) (stored (codes "DLQ") n.manager).rows
+
+-- One try fails; the next is due after a minute.
+first_turn : turns handled ≡ 1
+unfolding dlh_bytes dlh_in dlh_read long_bytes long_of put_date put_time reached
+first_turn = refl
+
+no_second_turn : turns (turn handled) ≡ 0
+unfolding dlh_bytes dlh_in dlh_read long_bytes long_of put_date put_time reached
+no_second_turn = refl
+
+-- A minute later the second try fails, and the next rule is in force at once: it discards the row.
+second_turn : turns (later (turn handled)) ≡ 1
+unfolding dlh_bytes dlh_in dlh_read long_bytes long_of put_date put_time reached
+second_turn = refl
+
+third_turn : turns (turn (later (turn handled))) ≡ 1
+unfolding dlh_bytes dlh_in dlh_read long_bytes long_of put_date put_time reached
+third_turn = refl
+
+still_there : dead_rows (turn (later (turn handled))) ≡ (1 ∷ 1 ∷ 1 ∷ []) ∷ []
+unfolding dlh_bytes dlh_in dlh_read long_bytes long_of put_date put_time reached
+still_there = refl
+
+discarded : dead_rows (turn (turn (later (turn handled)))) ≡ []
+unfolding dlh_bytes dlh_in dlh_read long_bytes long_of put_date put_time reached
+discarded = refl
+
+idle_then : turns (turn (turn (later (turn handled)))) ≡ 0
+unfolding dlh_bytes dlh_in dlh_read long_bytes long_of put_date put_time reached
+idle_then = refl
