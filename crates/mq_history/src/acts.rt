@@ -1,15 +1,5 @@
 use mq_calls::{RestartFault, ScRefusal, Shown};
-use mq_name::ChName;
-use mq_sync::Settle;
-
-/// A command on a channel's end. Source: MQSC reference, START, STOP, RESET and RESOLVE CHANNEL.
-#[derive(Clone, Copy)]
-pub enum Op {
-    Start(ChName),
-    Stop(ChName),
-    Reset(ChName, u32),
-    Resolve(ChName, Settle),
-}
+use mq_sc_parse::Command;
 
 /// Why a command on a channel's end is refused; `Down` is tried first, then as each command says.
 #[derive(Clone, Copy, Debug, PartialEq, Eq)]
@@ -30,15 +20,6 @@ pub enum OpRefusal {
     NoMemory,
     Disk,
     Cut,
-}
-
-/// An MQSC command.
-#[derive(Drop)]
-pub enum Command {
-    Objects(mq_objects::Command),
-    Operate(Op),
-    /// DISPLAY CHSTATUS of a name, or of each that begins so.
-    ShowStatus { name: ChName, any_end: bool },
 }
 
 /// What a step or a script asks of a manager beside MQI calls.

@@ -10,7 +10,7 @@ mod scenario;
 mod scripts;
 mod story;
 
-pub use acts::{Act, Acted, Command, Op, OpRefusal};
+pub use acts::{Act, Acted, OpRefusal};
 pub use calls::{Actor, Call, Chance, Effect, Entry, Reply};
 pub use history::{History, Mark};
 pub use opening::{Image, StoredQueue};

@@ -1,8 +1,8 @@
-use crate::acts::Command;
 use crate::scripts::ScriptLine;
 use mq_base::Items;
 use mq_name::{ChName, Label, QName};
 use mq_rules::Table;
+use mq_sc_parse::Command;
 
 /// A QMGR line.
 #[derive(Clone, Copy)]

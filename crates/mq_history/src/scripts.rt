@@ -1,7 +1,7 @@
-use crate::acts::Command;
 use mq_calls::{Open, Take};
 use mq_message::{Bytes, Want};
 use mq_name::{Label, QName};
+use mq_sc_parse::Command;
 
 /// The body of a put.
 #[derive(Drop)]

@@ -7,8 +7,8 @@ use Rattle.mq_sync.specs.declared.unit.Settle.{Settle}
 use Rattle.mq_sync.specs.declared.unit.Settle.TheVariants as settles
 use Rattle.mq_history.specs.declared.acts.Act.{Act}
 use Rattle.mq_history.specs.declared.acts.Act.TheVariants as acts
-use Rattle.mq_history.specs.declared.acts.Command.TheVariants as commands
-use Rattle.mq_history.specs.declared.acts.Op.TheVariants as ops
+use Rattle.mq_sc_parse.specs.declared.command.Command.TheVariants as commands
+use Rattle.mq_sc_parse.specs.declared.command.Op.TheVariants as ops
 use Rattle.mq_history.specs.declared.calls.Actor.TheVariants as actors
 use Rattle.mq_history.specs.declared.calls.Call.{Call}
 use Rattle.mq_history.specs.declared.calls.Call.TheVariants as calls
@@ -43,7 +43,7 @@ abbrev without_ack : Pair → Pair
 without_ack p = record p { back = [] }
 
 abbrev lost : Pair
-lost = without_ack (rounds 7 begun)
+lost = without_ack (rounds 8 begun)
 
 lost_turns : turns lost ≡ 11
 lost_turns = refl

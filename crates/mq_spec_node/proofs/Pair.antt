@@ -12,8 +12,8 @@ use Rattle.mq_objects.specs.Defaults.{new_manager}
 use Rattle.mq_calls.specs.declared.choices.Choice.TheVariants.{Runs}
 use Rattle.mq_history.specs.declared.acts.Act.{Act}
 use Rattle.mq_history.specs.declared.acts.Act.TheVariants as acts
-use Rattle.mq_history.specs.declared.acts.Command.TheVariants as commands
-use Rattle.mq_history.specs.declared.acts.Op.TheVariants as ops
+use Rattle.mq_sc_parse.specs.declared.command.Command.TheVariants as commands
+use Rattle.mq_sc_parse.specs.declared.command.Op.TheVariants as ops
 use Rattle.mq_history.specs.declared.calls.Actor.{Actor}
 use Rattle.mq_history.specs.declared.calls.Actor.TheVariants as actors
 use Rattle.mq_history.specs.declared.calls.Call.{Call}

@@ -22,8 +22,8 @@ use Rattle.mq_calls.specs.declared.commands.Kept.{Kept}
 use Rattle.mq_calls.specs.declared.deltas.Did.{Did}
 use Rattle.mq_history.specs.declared.acts.Act.TheVariants as acts
 use Rattle.mq_history.specs.declared.acts.Acted.TheVariants as acted
-use Rattle.mq_history.specs.declared.acts.Command.{Command}
-use Rattle.mq_history.specs.declared.acts.Command.TheVariants as commands
+use Rattle.mq_sc_parse.specs.declared.command.Command.{Command}
+use Rattle.mq_sc_parse.specs.declared.command.Command.TheVariants as commands
 use Rattle.mq_history.specs.declared.calls.Actor.{Actor}
 use Rattle.mq_history.specs.declared.calls.Actor.TheVariants as actors
 use Rattle.mq_history.specs.declared.calls.Call.{Call}

@@ -16,8 +16,8 @@ use Rattle.mq_calls.specs.declared.agents.Note.TheVariants as notes
 use Rattle.mq_calls.specs.declared.agents.SeizeFault.{SeizeFault}
 use Rattle.mq_calls.specs.declared.agents.SeizeFault.TheVariants as seize_faults
 use Rattle.mq_calls.specs.declared.commands.ScRefusal.TheVariants as refusals
-use Rattle.mq_history.specs.declared.acts.Op.{Op}
-use Rattle.mq_history.specs.declared.acts.Op.TheVariants as ops
+use Rattle.mq_sc_parse.specs.declared.command.Op.{Op}
+use Rattle.mq_sc_parse.specs.declared.command.Op.TheVariants as ops
 use Rattle.mq_history.specs.declared.acts.OpRefusal.{OpRefusal}
 use Rattle.mq_history.specs.declared.acts.OpRefusal.TheVariants as reasons
 use Rattle.mq_history.specs.declared.acts.Acted.TheVariants as acted
