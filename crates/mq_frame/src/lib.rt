@@ -1,6 +1,21 @@
 //! The frames that the two ends of a channel exchange.
 #![tactic(auto)]
 
+mod decoder;
+mod fault;
 mod frame;
+mod framing;
+mod laws;
+mod reading;
+mod shape;
+mod sight;
+mod writing;
 
+pub use decoder::Decoder;
 pub use frame::{Frame, FrameFault, FrameKind, Frames, Seen};
+pub use laws::{bytes_are_cut_in_one_way, no_frame_begins_another};
+pub use sight::seen_of;
+pub use writing::{encode, push_message};
+
+#[cfg(test)]
+mod tests;

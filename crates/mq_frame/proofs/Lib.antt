@@ -1,0 +1,10 @@
+pub mod Readers
+pub mod Pieces
+pub mod Names
+pub mod Descriptor
+pub mod DescriptorCode
+pub mod Parts
+pub mod Shapes
+pub mod KindReaders
+pub mod Adding
+pub mod Streams
