@@ -69,13 +69,25 @@ impl LocalQueue {
     pub fn write_attributes(&self, how: &How, text: &mut Items<u8>) -> Result<(), AllocError>
         ensures { OnOk result (text.new ≡ put_all how.now.style how.now.asked.now text.old (local_attributes self.now)) }
     {
+        self.write_triggered(how, text, self.trigger)
+    }
+
+    /// The same with TRIGGER or NOTRIGGER as it is given, and not as the queue is defined.
+    pub fn write_triggered(
+        &self,
+        how: &How,
+        text: &mut Items<u8>,
+        trigger: bool,
+    ) -> Result<(), AllocError>
+        ensures { OnOk result (text.new ≡ put_all how.now.style how.now.asked.now text.old (local_attributes (record self.now { trigger = trigger }))) }
+    {
         let q = self;
         write_number(
             how,
             text,
             Keyword::DefPrty,
             "DEFPRTY",
-            u32::from(q.default_priority),
+            u64::from(q.default_priority),
         )?;
         write_word(
             how,
@@ -98,8 +110,20 @@ impl LocalQueue {
             "INITQ",
             q.initiation_queue.text(),
         )?;
-        write_number(how, text, Keyword::MaxDepth, "MAXDEPTH", q.max_depth)?;
-        write_number(how, text, Keyword::MaxMsgL, "MAXMSGL", q.max_message_length)?;
+        write_number(
+            how,
+            text,
+            Keyword::MaxDepth,
+            "MAXDEPTH",
+            u64::from(q.max_depth),
+        )?;
+        write_number(
+            how,
+            text,
+            Keyword::MaxMsgL,
+            "MAXMSGL",
+            u64::from(q.max_message_length),
+        )?;
         write_word(
             how,
             text,
@@ -122,14 +146,20 @@ impl LocalQueue {
             "TRIGDATA",
             q.trigger_data.as_slice(),
         )?;
-        write_number(how, text, Keyword::TrigDpth, "TRIGDPTH", q.trigger_depth)?;
-        write_flag(how, text, Keyword::Trigger, trigger_flag(q.trigger))?;
+        write_number(
+            how,
+            text,
+            Keyword::TrigDpth,
+            "TRIGDPTH",
+            u64::from(q.trigger_depth),
+        )?;
+        write_flag(how, text, Keyword::Trigger, trigger_flag(trigger))?;
         write_number(
             how,
             text,
             Keyword::TrigMPri,
             "TRIGMPRI",
-            u32::from(q.trigger_priority),
+            u64::from(q.trigger_priority),
         )?;
         write_word(
             how,
@@ -153,7 +183,7 @@ impl AliasQueue {
             text,
             Keyword::DefPrty,
             "DEFPRTY",
-            u32::from(q.default_priority),
+            u64::from(q.default_priority),
         )?;
         write_word(
             how,
@@ -191,7 +221,7 @@ impl RemoteQueue {
             text,
             Keyword::DefPrty,
             "DEFPRTY",
-            u32::from(q.default_priority),
+            u64::from(q.default_priority),
         )?;
         write_word(
             how,
@@ -233,9 +263,15 @@ impl Channel {
         match self.kind {
             ChannelKind::Sender(batch, retry, xmitq) => {
                 write_word(how, text, Keyword::ChlType, "CHLTYPE", "SDR")?;
-                write_number(how, text, Keyword::BatchSz, "BATCHSZ", batch)?;
-                write_number(how, text, Keyword::SeqWrap, "SEQWRAP", self.sequence_wrap)?;
-                write_number(how, text, Keyword::ShortRty, "SHORTRTY", retry)?;
+                write_number(how, text, Keyword::BatchSz, "BATCHSZ", u64::from(batch))?;
+                write_number(
+                    how,
+                    text,
+                    Keyword::SeqWrap,
+                    "SEQWRAP",
+                    u64::from(self.sequence_wrap),
+                )?;
+                write_number(how, text, Keyword::ShortRty, "SHORTRTY", u64::from(retry))?;
                 write_text(how, text, Keyword::XmitQ, "XMITQ", xmitq.text())?;
                 write_word(
                     how,
@@ -248,7 +284,13 @@ impl Channel {
             ChannelKind::Receiver(dead) => {
                 write_word(how, text, Keyword::ChlType, "CHLTYPE", "RCVR")?;
                 write_word(how, text, Keyword::UseDlq, "USEDLQ", yes_or_no(dead))?;
-                write_number(how, text, Keyword::SeqWrap, "SEQWRAP", self.sequence_wrap)?;
+                write_number(
+                    how,
+                    text,
+                    Keyword::SeqWrap,
+                    "SEQWRAP",
+                    u64::from(self.sequence_wrap),
+                )?;
                 write_word(
                     how,
                     text,
@@ -273,7 +315,13 @@ impl Process {
             "APPLICID",
             self.appl_id.as_slice(),
         )?;
-        write_number(how, text, Keyword::ApplType, "APPLTYPE", self.appl_type)?;
+        write_number(
+            how,
+            text,
+            Keyword::ApplType,
+            "APPLTYPE",
+            u64::from(self.appl_type),
+        )?;
         write_text(
             how,
             text,
@@ -311,10 +359,34 @@ impl ManagerAttributes {
             "DEFXMITQ",
             m.default_transmission_queue.text(),
         )?;
-        write_number(how, text, Keyword::MaxHands, "MAXHANDS", m.max_handles)?;
-        write_number(how, text, Keyword::MaxMsgL, "MAXMSGL", m.max_message_length)?;
-        write_number(how, text, Keyword::MaxUMsgs, "MAXUMSGS", m.max_uncommitted)?;
-        write_number(how, text, Keyword::TrigInt, "TRIGINT", m.trigger_interval)
+        write_number(
+            how,
+            text,
+            Keyword::MaxHands,
+            "MAXHANDS",
+            u64::from(m.max_handles),
+        )?;
+        write_number(
+            how,
+            text,
+            Keyword::MaxMsgL,
+            "MAXMSGL",
+            u64::from(m.max_message_length),
+        )?;
+        write_number(
+            how,
+            text,
+            Keyword::MaxUMsgs,
+            "MAXUMSGS",
+            u64::from(m.max_uncommitted),
+        )?;
+        write_number(
+            how,
+            text,
+            Keyword::TrigInt,
+            "TRIGINT",
+            u64::from(m.trigger_interval),
+        )
     }
 }
 

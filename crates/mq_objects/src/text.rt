@@ -83,7 +83,7 @@ pub fn write_number(
     text: &mut Items<u8>,
     keyword: Keyword,
     word: &str,
-    n: u32,
+    n: u64,
 ) -> Result<(), AllocError>
     ensures { OnOk result (text.new ≡ put how.now.style how.now.asked.now text.old (number_of keyword word.now n)) }
 {
