@@ -1,0 +1,10 @@
+//! Texts of rules tables of the dead-letter handler (IBM MQ, "The dead-letter queue handler rules
+//! table"), in this project's subset.
+#![tactic(auto)]
+
+mod fault;
+mod keyword;
+mod pairs;
+mod values;
+
+pub use fault::RulesFault;
