@@ -6,9 +6,9 @@ use Rattle.mq_rules_text.specs.declared.fault.RulesFault.{RulesFault}
 use Rattle.mq_rules_text.specs.declared.fault.RulesFault.TheVariants as faults
 
 -- the next step of reading, where the one before it gave something
-abbrev pub then : {A B E : Type 0} → Result A E → (A → Result B E) → Result B E
-then (Ok x) next = next x
-then (Err fault) next = Err fault
+abbrev pub and_then : {A B E : Type 0} → Result A E → (A → Result B E) → Result B E
+and_then (Ok x) next = next x
+and_then (Err fault) next = Err fault
 
 -- the fault of an entry that begins on a line
 abbrev pub fault_at : ℕ → Flaw → RulesFault

@@ -8,7 +8,6 @@ use Rattle.mq_rules_text.specs.declared.fault.Flaw.{Flaw}
 use Rattle.mq_rules_text.specs.declared.fault.Flaw.TheVariants.{Form}
 use Rattle.mq_rules_text.specs.declared.keyword.Keyword.{Keyword}
 use Rattle.mq_rules_text.specs.declared.pairs.Pair.{Pair}
-use Rattle.mq_rules_text.specs.Faults.{then}
 use Rattle.mq_rules_text.specs.Keywords.{keyword_of, is_control, same_keyword}
 
 -- a word without quotes

@@ -109,7 +109,8 @@ pub fn is_control(keyword: Keyword) -> bool
     ensures { result ≡ is_control keyword }
 {
     match keyword {
-        Keyword::InputQueue | Keyword::InputManager | Keyword::RetryInterval | Keyword::Wait => true,
+        Keyword::InputQueue | Keyword::InputManager | Keyword::RetryInterval | Keyword::Wait =>
+            true,
         Keyword::Text(_)
         | Keyword::Number(_)
         | Keyword::Action

@@ -2,9 +2,16 @@
 //! table"), in this project's subset.
 #![tactic(auto)]
 
+mod control;
+mod draft;
 mod fault;
 mod keyword;
 mod pairs;
+mod reading;
 mod values;
 
 pub use fault::RulesFault;
+pub use reading::table;
+
+#[cfg(test)]
+mod tests;
