@@ -6,3 +6,4 @@ pub mod Values
 pub mod Checks
 pub mod Asking
 pub mod Parsing
+pub mod Tables

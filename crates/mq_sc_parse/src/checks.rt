@@ -103,6 +103,7 @@ fn channel_kind(items: &[Item]) -> Kind
     }
 }
 
+/// Whose attributes a command names.
 pub fn kind_of(noun: Noun, items: &[Item]) -> Kind
     ensures { result ≡ kind_of noun items.now }
 {

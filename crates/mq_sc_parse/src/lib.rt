@@ -11,12 +11,14 @@ mod keys;
 mod naming;
 mod parsing;
 mod splitting;
+mod tables;
 mod values;
 mod verbs;
 
 pub use command::{Command, Op};
 pub use fault::ScFault;
 pub use parsing::parse;
+pub use tables::shown_attributes_are_known;
 
 #[cfg(test)]
 mod tests;

@@ -120,6 +120,7 @@ pub fn subject_of(noun: Noun, text: &[u8]) -> Option<Subject>
     }
 }
 
+/// What a DISPLAY of a noun is on.
 pub fn subjects_of(noun: Noun) -> Subjects
     ensures { result ≡ subjects_of noun }
 {

@@ -25,7 +25,7 @@ pub struct Item {
     pub value: Value,
 }
 
-pub fn is_open(token: &Token) -> bool
+fn is_open(token: &Token) -> bool
     ensures { result ≡ is_open token.now }
 {
     match &token.kind {

@@ -42,6 +42,7 @@ pub fn priority_value(value: &Value) -> Option<u8>
     }
 }
 
+/// Whether a text is nothing but blanks.
 pub fn are_blanks(text: &[u8]) -> bool
     ensures { result ≡ are_blanks text.now }
 {
@@ -115,18 +116,21 @@ pub fn choice_value(value: &Value, yes: &[u8], no: &[u8]) -> Option<bool>
     }
 }
 
+/// YES or NO.
 pub fn yes_or_no(value: &Value) -> Option<bool>
     ensures { result ≡ yes_or_no value.now }
 {
     choice_value(value, b"YES", b"NO")
 }
 
+/// ENABLED or DISABLED.
 pub fn enabled_or_not(value: &Value) -> Option<bool>
     ensures { result ≡ enabled_or_not value.now }
 {
     choice_value(value, b"ENABLED", b"DISABLED")
 }
 
+/// PRIORITY or FIFO.
 pub fn delivery_value(value: &Value) -> Option<Delivery>
     ensures { result ≡ delivery_of (choice_value (codes "PRIORITY") (codes "FIFO") value.now) }
 {
@@ -137,6 +141,7 @@ pub fn delivery_value(value: &Value) -> Option<Delivery>
     }
 }
 
+/// NORMAL or XMITQ.
 pub fn usage_value(value: &Value) -> Option<Usage>
     ensures { result ≡ usage_of (choice_value (codes "NORMAL") (codes "XMITQ") value.now) }
 {
@@ -147,6 +152,7 @@ pub fn usage_value(value: &Value) -> Option<Usage>
     }
 }
 
+/// SDR or RCVR.
 pub fn type_value(value: &Value) -> Option<ChannelType>
     ensures { result ≡ type_of (choice_value (codes "SDR") (codes "RCVR") value.now) }
 {
@@ -175,6 +181,7 @@ fn trigger_type_of(text: &[u8]) -> Option<TriggerType>
     None
 }
 
+/// FIRST, EVERY, DEPTH or NONE.
 pub fn trigger_type_value(value: &Value) -> Option<TriggerType>
     ensures { result ≡ trigger_type_value value.now }
 {
@@ -193,6 +200,7 @@ fn appl_type_of(text: &[u8]) -> Option<u32>
     number_of(text, 0, 999_999_999)
 }
 
+/// UNIX, which is 6, or a number from 0 to 999,999,999.
 pub fn appl_type_value(value: &Value) -> Option<u32>
     ensures { result ≡ appl_type_value value.now }
 {

@@ -50,6 +50,7 @@ pub const NOUNS: [Noun; 8] = [
 ];
 
 impl Verb {
+    /// The word as it is written in full.
     pub fn text(self) -> &'static [u8]
         ensures { result.now ≡ verb_text self }
     {
@@ -83,6 +84,7 @@ impl Verb {
 }
 
 impl Noun {
+    /// The word as it is written in full.
     pub fn text(self) -> &'static [u8]
         ensures { result.now ≡ object_text self }
     {
@@ -139,6 +141,7 @@ fn is_object(verb: Verb, noun: Noun, word: &[u8]) -> bool
     takes(verb, noun) && (noun.text() == word || noun.short() == word)
 }
 
+/// The verb that a word is.
 #[tactic(auto, unfolding(crate::specs::Verbs::verb_of))]
 pub fn verb_of(word: &[u8]) -> Option<Verb>
     ensures { result ≡ verb_of word.now }
