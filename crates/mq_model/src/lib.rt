@@ -3,7 +3,9 @@
 #![tactic(auto)]
 
 mod calls;
+mod ledger;
 mod scenario;
 
 pub use calls::{Actor, Answer, Bound, Call, Entry, Got, Mark, Reply, Sent};
+pub use ledger::{Lead, Ledger, Shelf};
 pub use scenario::{Scenario, ScriptLine};
