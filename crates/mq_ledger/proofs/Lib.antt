@@ -1,3 +1,4 @@
 pub mod RowLaws
 pub mod ShelfLaws
 pub mod ToldLaws
+pub mod CodeLaws

@@ -1,4 +1,4 @@
--- The report's text, as a function of the scenario and the history.
+-- The report's text, as a function of the scenario and the history. Its ledger is the fold over the entries.
 use Rattle.std.specs.Prelude.{ℕ, ◌+◌, ◌==◌, ◌&&◌, min, nat_le, nat_lt, List, [], ◌∷◌, ◌++◌, if◌then◌else◌, Option, Some, None, length, take, drop, map, count_by, codes, ℤ, pos, negsuc}
 use Rattle.std.specs.List.{flat_map}
 use Rattle.std.specs.Fmt.{decimal}
@@ -18,7 +18,9 @@ use Rattle.mq_model.specs.declared.calls.Reply.TheVariants as replies
 use Rattle.mq_model.specs.declared.calls.Entry.{Entry}
 use Rattle.mq_model.specs.declared.scenario.Scenario.{Scenario}
 use Rattle.mq_model.specs.Plain.{Local}
+use Rattle.mq_model.specs.declared.ledger.Shelf.{Shelf}
 use Rattle.mq_model.specs.Replay.{History}
+use Rattle.mq_model.specs.Ledger.{ledger}
 
 -- a number in four places with zeros, more digits where needed
 abbrev pub zeros : ℕ → List ℕ
@@ -115,8 +117,8 @@ abbrev pub ledger_line : List ℕ → List ℕ → List Row → List ℕ
 ledger_line manager name [] = []
 ledger_line manager name (row ∷ rows) = manager ++ codes " " ++ name ++ flat_map ident_line (row ∷ rows) ++ codes "\n"
 
-abbrev pub ledger_text : List ℕ → Local → List ℕ
-ledger_text manager queue = ledger_line manager queue.name queue.rows
+abbrev pub ledger_text : List ℕ → Shelf → List ℕ
+ledger_text manager shelf = ledger_line manager shelf.queue shelf.rows
 
 -- single lines
 unfoldable pub heading : Scenario → List ℕ
@@ -141,9 +143,12 @@ steps_part s ran = obey_line s ++ flat_map (λ (name : List ℕ). codes "  OK\n"
 abbrev pub queues_part : Scenario → List Local → List ℕ
 queues_part s queues = manager_line s ++ flat_map queue_text queues
 
-abbrev pub ledger_part : Scenario → List Local → List ℕ
-ledger_part s queues = codes "CHANNELS\nLEDGER\n" ++ flat_map (ledger_text s.manager) queues ++ codes "STATUS 0\n"
+abbrev pub ledger_part : Scenario → List Shelf → List ℕ
+ledger_part s shelves = codes "CHANNELS\nLEDGER\n" ++ flat_map (ledger_text s.manager) shelves ++ codes "STATUS 0\n"
 
--- the report of a run whose first entries are those of the section
+-- the report of a run whose first entries are those of the section, with its ledger
+abbrev pub report_with : Scenario → History → List Shelf → List ℕ
+report_with s h shelves = script_part s (drop (length s.queues) h.entries) ++ steps_part s (drop (length s.queues) h.entries) ++ queues_part s h.state.queues ++ ledger_part s shelves
+
 abbrev pub report : Scenario → History → List ℕ
-report s h = script_part s (drop (length s.queues) h.entries) ++ steps_part s (drop (length s.queues) h.entries) ++ queues_part s h.state.queues ++ ledger_part s h.state.queues
+report s h = report_with s h (ledger h.entries).shelves

@@ -2,13 +2,13 @@ ghost use Rattle.std.specs.Prelude.{◌≡◌, ◌-◌, ◌≤◌, ◌++◌, OnO
 ghost use Rattle.mq_queue.specs.Rows.{is_free};
 ghost use Rattle.std.specs.String.{string_bytes};
 ghost use Rattle.std.specs.List.{flat_map};
-ghost use Rattle.mq_model.specs.Report.{queued_priority, persist_text, holder_text, row_front, row_middle, row_back, row_text, queue_text, ident_line, ledger_line, ledger_text, heading, obey_line, run_line, manager_line, script_part, steps_part, queues_part, ledger_part, report};
+ghost use Rattle.mq_model.specs.Report.{queued_priority, persist_text, holder_text, row_front, row_middle, row_back, row_text, queue_text, ident_line, ledger_line, ledger_text, heading, obey_line, run_line, manager_line, script_part, steps_part, queues_part, ledger_part, report_with};
 ghost use Rattle.mq_node.specs.Locals.{locals};
 ghost use Rattle.mq_node.specs.Views.{local_of};
 
 use crate::script::push_script;
 use mq_message::Holder;
-use mq_model::{Entry, Scenario};
+use mq_model::{Entry, Ledger, Scenario, Shelf};
 use mq_name::QName;
 use mq_node::{LocalQueue, Node};
 use mq_queue::Row;
@@ -152,11 +152,11 @@ fn push_ledger_line(
     out.push_str("\n")
 }
 
-fn push_ledger(out: &mut String, manager: &QName, queues: &[LocalQueue]) -> Result<(), AllocError>
-    ensures { OnOk result (string_bytes out.new ≡ string_bytes out.old ++ flat_map (ledger_text manager.now) (locals queues.now)) }
+fn push_ledger(out: &mut String, manager: &QName, shelves: &[Shelf]) -> Result<(), AllocError>
+    ensures { OnOk result (string_bytes out.new ≡ string_bytes out.old ++ flat_map (ledger_text manager.now) shelves.now) }
 {
-    for queue in queues {
-        push_ledger_line(out, manager, queue.name(), queue.rows())?;
+    for shelf in shelves {
+        push_ledger_line(out, manager, &shelf.queue, shelf.rows.as_slice())?;
     }
     Ok(())
 }
@@ -242,25 +242,30 @@ fn push_queues_part(
 fn push_ledger_part(
     out: &mut String,
     scenario: &Scenario,
-    queues: &[LocalQueue],
+    shelves: &[Shelf],
 ) -> Result<(), AllocError>
-    ensures { OnOk result (string_bytes out.new ≡ string_bytes out.old ++ ledger_part scenario.now (locals queues.now)) }
+    ensures { OnOk result (string_bytes out.new ≡ string_bytes out.old ++ ledger_part scenario.now shelves.now) }
 {
     out.push_str("CHANNELS\nLEDGER\n")?;
-    push_ledger(out, &scenario.manager, queues)?;
+    push_ledger(out, &scenario.manager, shelves)?;
     out.push_str("STATUS 0\n")
 }
 
-/// The report of a run of a scenario.
-pub fn report_text(alloc: Global, scenario: &Scenario, node: &Node) -> Result<String, AllocError>
+/// The report of a run of a scenario, with its ledger.
+pub fn report_text(
+    alloc: Global,
+    scenario: &Scenario,
+    node: &Node,
+    ledger: &Ledger,
+) -> Result<String, AllocError>
     requires { length scenario.now.queues ≤ length node.now.entries }
-    ensures { IfOk result (λ text. string_bytes text ≡ report scenario.now node.now) }
+    ensures { IfOk result (λ text. string_bytes text ≡ report_with scenario.now node.now ledger.now.shelves) }
 {
     let mut out = String::new(alloc);
     let (_, ran) = node.entries().split_at(scenario.queues.len());
     push_script_part(&mut out, scenario, ran)?;
     push_steps_part(&mut out, scenario, ran)?;
     push_queues_part(&mut out, scenario, node.queues())?;
-    push_ledger_part(&mut out, scenario, node.queues())?;
+    push_ledger_part(&mut out, scenario, ledger.shelves.as_slice())?;
     Ok(out)
 }

@@ -1,6 +1,7 @@
 -- From the parts of a call to its end.
 use Rattle.std.proofs.Common.{◌≡◌, ℕ, suc, ◌≤◌, ◌<◌, ◌^◌, ◌∙◌, Bool, true, false, cond, eqb, get_or, map, List, [], ◌∷◌, ◌++◌, length, refl, sym, inl, inr, ap, arith, subst, length-append}
-use Rattle.std.specs.Prelude.{Option, Some, codes}
+use Rattle.std.specs.Prelude.{Option, Some, None, codes}
+use Rattle.std.specs.Io.KnownBytes.{Keeps}
 use Rattle.std.specs.Str.{bytes_eq}
 use Rattle.std.proofs.lemmas.Slice.Eq.{bytes_eq-Decides}
 use Rattle.std.proofs.lemmas.List.{length-map}
@@ -10,11 +11,15 @@ use Rattle.mq_model.specs.declared.scenario.Scenario.{Scenario}
 use Rattle.mq_model.specs.declared.scenario.ScriptLine.{ScriptLine}
 use Rattle.mq_model.specs.declared.scenario.ScriptLine.TheVariants as script
 use Rattle.mq_model.specs.Grammar.{lines_of, onto_first, define_text, script_lines, IsScenario, IsScript}
-use Rattle.mq_model.specs.Lawful.{Obeys, IsRunTo}
+use Rattle.mq_model.specs.Replay.{History, IsHistory}
+use Rattle.mq_model.specs.Lawful.{Obeys, IsRunTo, WholeRun, PartRun}
+use Rattle.mq_model.specs.Report.{report}
+use Rattle.mq_ledger.proofs.ToldLaws.{headline}
 use Rattle.mq_scenario.specs.declared.fault.Cause.{Cause}
 use Rattle.mqnet.specs.declared.network.Status.{Status}
 use Rattle.mqnet.specs.declared.network.Status.TheVariants as status
-use Rattle.mqnet.specs.Headline.{IsScenarioRead, IsRun, ReadNoScenario, Completes}
+use Rattle.mqnet.specs.declared.network.Network.{Network}
+use Rattle.mqnet.specs.Headline.{IsScenarioRead, IsRun, ReadNoScenario, Completes, Reports, Writes, RanWhole, RanSome, first_moment}
 
 -- A scenario is not longer than its text
 
@@ -57,6 +62,34 @@ obeys_length (n ∷ ns) (e ∷ es) h = omega (arith, obeys_length ns es h.2)
 -- has an entry for each definition
 pub enough : (s : Scenario) (es : List Entry) → IsRunTo s es [] [] → length s.queues ≤ length es
 enough s es h = omega (arith, obeys_length s.queues h.obeyed h.obeys, ap length h.parts, length-append h.obeyed h.ran)
+
+-- What was run and written
+
+ran_part : (start : ℕ) (s : Scenario) (node : History) → IsHistory node → PartRun s node.entries node.marks → node.opening ≡ first_moment start → RanSome start s node
+ran_part start s node history run opening = record { some = inr (history, run); opening = opening; headline = headline node history }
+
+pub ran_whole : (start : ℕ) (s : Scenario) (node : History) → IsHistory node → WholeRun s node.entries node.marks → node.opening ≡ first_moment start → RanWhole start s node
+ran_whole start s node history run opening = record { lawful = (history, run); opening = opening; headline = headline node history }
+
+abbrev pub network : Scenario → History → Network
+network s node = record { scenario = s; node = node }
+
+pub reported : (start : ℕ) (old new : Option (List ℕ)) (s : Scenario) (node : History) (st : Status) → RanWhole start s node → Writes old new (report s node) st → Reports start old new s st (Some (network s node))
+reported start old new s node status.Ok h w = (refl, h, w)
+reported start old new s node (status.WriteFault n) h w = (refl, h, w)
+reported start old new s node status.NoMemory h w = (refl, record { some = inl h.lawful; opening = h.opening; headline = h.headline }, w)
+reported start old new s node status.BadWords h w = w
+reported start old new s node (status.BadScenario line cause) h w = w
+reported start old new s node status.ReadFault h w = w
+reported start old new s node status.TooLong h w = w
+
+keeps_same : (o : Option (List ℕ)) → Keeps o o
+keeps_same None = tt
+keeps_same (Some xs) = refl
+
+-- a run that ended within a step
+pub ran_short : (start : ℕ) (old : Option (List ℕ)) (s : Scenario) (node : History) → IsHistory node → PartRun s node.entries node.marks → node.opening ≡ first_moment start → Reports start old old s status.NoMemory (Some (network s node))
+ran_short start old s node history run opening = (refl, ran_part start s node history run opening, keeps_same old)
 
 -- a list of one word
 pub word_is : {A : Type 0} (f : A → List ℕ) (ws : List A) (w : A) (text : List ℕ) (r : Bool) → 1 ≤ length ws → length ws < 2 → w ≡ get_or ws 0 w → r ≡ bytes_eq (f w) text

@@ -6,6 +6,7 @@ use Rattle.mq_model.specs.declared.scenario.Scenario.{Scenario}
 use Rattle.mq_model.specs.Grammar.{IsScenario}
 use Rattle.mq_model.specs.Replay.{History}
 use Rattle.mq_model.specs.Lawful.{IsLawful, IsPart}
+use Rattle.mq_model.specs.Told.{HasHeadline}
 use Rattle.mq_model.specs.Report.{report}
 use Rattle.mq_scenario.specs.declared.fault.Cause.{Cause}
 use Rattle.mq_scenario.specs.declared.fault.Cause.TheVariants.{NotBuilt}
@@ -31,15 +32,18 @@ pub record IsScenarioRead (left : Option (List ℕ)) (s : Scenario) : Type 0 whe
   pub read : WasRead left bytes
   pub scenario : IsScenario s bytes
 
--- the history is that of the scenario, each step whole, from the moment of the beginning
+-- the history is that of the scenario, each step whole, from the moment of the beginning; and after each
+-- prefix of it the rows stand as the ledger says, once and in order
 pub record RanWhole (start : ℕ) (s : Scenario) (h : History) : Type 0 where
   pub lawful : IsLawful s h
   pub opening : h.opening ≡ first_moment start
+  pub headline : HasHeadline h
 
 -- the same, where the run may have ended within a step
 pub record RanSome (start : ℕ) (s : Scenario) (h : History) : Type 0 where
   pub some : IsLawful s h ⊎ IsPart s h
   pub opening : h.opening ≡ first_moment start
+  pub headline : HasHeadline h
 
 -- the report was written, all of it or its front
 abbrev pub WroteReport : Option (List ℕ) → Option (List ℕ) → Network → Type 0

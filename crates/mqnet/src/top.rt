@@ -8,6 +8,7 @@ ghost use Rattle.mqnet.specs.declared.network.Status.TheVariants.{BadWords, BadS
 
 use crate::network::{Ended, Network, Status};
 use mq_base::{ReadStop, Sink, Source, read_all, write_all};
+use mq_ledger::ledger_of;
 use mq_model::Scenario;
 use mq_node::{Node, run};
 use mq_report::report_text;
@@ -24,13 +25,17 @@ fn is_run(words: &[String]) -> bool
     }
 }
 
-/// Writes the report of a run.
+/// Writes the report of a run, with the ledger of its history.
 fn write_report<K: Sink>(alloc: Global, scenario: &Scenario, node: &Node, sink: &mut K) -> Status
     requires { length scenario.now.queues ≤ length node.now.entries }
     ensures writes { Writes (K.held sink.old) (K.held sink.new) (report scenario.now node.now) result }
     ensures write_fault { (n : ℕ) → result ≡ WriteFault n → Rose (K.faults sink.old) (K.faults sink.new) }
 {
-    let text = match report_text(alloc, scenario, node) {
+    let ledger = match ledger_of(alloc, node.entries()) {
+        Err(_) => return Status::NoMemory,
+        Ok(ledger) => ledger,
+    };
+    let text = match report_text(alloc, scenario, node, &ledger) {
         Err(_) => return Status::NoMemory,
         Ok(text) => text,
     };
@@ -130,7 +135,8 @@ pub fn mqnet<S: Source, K: Sink>(
     sink: &mut K,
     start: u64,
 ) -> Ended
-    // By status: the story is lawful for the scenario of the bytes read, and the report is written, or nothing.
+    // By status: the story is lawful for the scenario of the bytes read, after each prefix of it the rows stand
+    // as the ledger says, once and in order, and the report is written, or nothing.
     ensures ends { Ends (S.left source.old) start (K.held sink.old) (K.held sink.new) result.status result.network }
     ensures bad_words { result.status ≡ BadWords ↔ (IsRun (map string_bytes words.now) → ⊥) }
     ensures bad_scenario { (line : ℕ) (cause : Cause) → result.status ≡ BadScenario line cause → ReadNoScenario (S.left source.old) line cause }
