@@ -1,0 +1,4 @@
+pub mod Uses
+pub mod Planned
+pub mod Displayed
+pub mod Commands

@@ -1,0 +1,14 @@
+//! What a command on objects does at a manager: what refuses it, the change that it makes, the lines
+//! that it shows.
+#![tactic(auto)]
+
+mod answers;
+mod changes;
+mod command;
+mod display;
+mod in_use;
+mod plans;
+
+pub use answers::{Plan, Planned};
+pub use command::{apply, plan};
+pub use in_use::InUse;
