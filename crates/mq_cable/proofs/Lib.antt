@@ -1,0 +1,4 @@
+pub mod OfferLaws
+pub mod Taking
+pub mod Fits
+pub mod MadeLaws

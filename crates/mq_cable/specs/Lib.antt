@@ -1,0 +1,5 @@
+pub mod Lists
+pub mod Ends
+pub mod Laws
+pub mod Faults
+pub mod Offers
