@@ -1,5 +1,5 @@
 -- A descriptor is its head and the bytes of its other fields.
-use Rattle.std.proofs.Common.{◌≡◌, ℕ, zero, suc, ◌+◌, ◌≤◌, true, List, [], ◌∷◌, ◌++◌, length, take, drop, refl, sym, ap, subst, ◌∙◌, arith, FitsSigned, w32, rules, codes, pos, eqb, ◌&&◌}
+use Rattle.std.proofs.Common.{◌≡◌, ℕ, zero, suc, ◌+◌, ◌≤◌, true, List, [], ◌∷◌, ◌++◌, length, take, drop, Option, Some, None, Ok, refl, sym, ap, subst, ◌∙◌, arith, FitsSigned, w32, rules, codes, pos, eqb, ◌&&◌}
 use Rattle.std.proofs.Math.Facts.{sfits_to_z}
 use Rattle.std.proofs.lemmas.Bool.{and_parts, eqb-true}
 use Rattle.std.proofs.lemmas.List.{append-nil, take-append-drop, take_all, length-drop, get_or-drop}
@@ -7,7 +7,8 @@ use Rattle.byteorder.specs.Endian.{big_number}
 use Rattle.byteorder.specs.Numbers.{big_from-lt}
 use Rattle.mq_message.specs.declared.message.Md.{Md}
 use Rattle.mq_message.specs.Layout.{Kind, Long, Unsigned, Characters, Raw, Field, long_bytes, long_of, unsigned_of, value_in, part, values_in, has_width, stand_from, size, Fits, AllFit}
-use Rattle.mq_message.specs.Descriptor.{md_fields, md_values, md_bytes, md_in}
+use Rattle.mq_message.specs.declared.head.HeadFault.{HeadFault}
+use Rattle.mq_message.specs.Descriptor.{md_fields, md_values, md_bytes, md_in, md_read, head_fault, unless}
 use Rattle.mq_message.proofs.TableLaws.{length-part}
 use Rattle.mq_message.proofs.HeadLaws.{Heads}
 use Rattle.mq_message.proofs.DescriptorLaws.{MdFits, length-md_bytes, md_in-md_bytes, md_bytes-md_in}
@@ -95,3 +96,16 @@ md_taken fields n h =
     let small : IsBytes bytes = IsBytes-append md_head fields head_bytes h in
     let same : md_bytes (md_in bytes) ≡ bytes = md_bytes-md_in bytes small (omega (arith, long)) (heads_stand fields) ∙ take_all 324 bytes (omega (arith, long)) in
     (record { fits = md_fits fields n small; bytes = subst IsBytes (sym same) small }, same)
+
+read_in : (o : Option HeadFault) (v m : Md) → unless o v ≡ Ok m → v ≡ m
+read_in None v m e = cc
+read_in (Some f) v m e = absurd cc
+
+-- what is read back from its own bytes is a descriptor
+pub md_written : (m : Md) (bytes : List ℕ) → bytes ≡ md_bytes m → length bytes ≡ 324 → IsBytes bytes → md_read bytes ≡ Ok m → IsMd m
+unfolding md_read
+md_written m bytes e n small r =
+    let head : take 8 bytes ≡ md_head = ap (take 8) e ∙ head_first m in
+    let whole : bytes ≡ md_head ++ drop 8 bytes = sym (take-append-drop 8 bytes) ∙ ap (λ (x : List ℕ). x ++ drop 8 bytes) head in
+    let taken = md_taken (drop 8 bytes) (omega (arith, length-drop 8 bytes, n)) (IsBytes-drop 8 bytes small) in
+    subst IsMd (ap md_in (sym whole) ∙ read_in (head_fault 324 (codes "MD  ") bytes) (md_in bytes) m r) taken.0

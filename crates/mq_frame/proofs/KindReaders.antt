@@ -383,7 +383,7 @@ length_fields (kinds.End n count last) h = refl
 length_fields (kinds.Ack n) h = refl
 length_fields (kinds.Err n reason) h = refl
 
-length_content : (f : Frame) → IsKind f.kind → length (content_bytes f) ≡ shape_length (shape_of_kind f.kind)
+pub length_content : (f : Frame) → IsKind f.kind → length (content_bytes f) ≡ shape_length (shape_of_kind f.kind)
 unfolding content_bytes
 length_content f h = omega (arith, length_fields f.kind h, length-append (fields_bytes f.kind) [])
 

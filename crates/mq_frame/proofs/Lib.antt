@@ -8,3 +8,4 @@ pub mod Shapes
 pub mod KindReaders
 pub mod Adding
 pub mod Streams
+pub mod Bodies

@@ -1,12 +1,15 @@
 -- Frames one after the other: what stands at the front, what is left, and where it goes wrong.
 use Rattle.std.proofs.Common.{◌≡◌, ℕ, suc, ◌+◌, ◌-◌, ◌<◌, ◌≤◌, List, [], ◌∷◌, ◌++◌, length, take, drop, None, Ok, Err, refl, sym, ap, subst, ◌∙◌, append_assoc, arith}
 use Rattle.std.specs.List.{flat_map, AllByRecursion}
-use Rattle.std.proofs.lemmas.List.{append-nil, length-append, take_at, drop_at}
+use Rattle.std.proofs.lemmas.List.{append-nil, take-append-drop, length-append, take_at, drop_at}
 use Rattle.std.proofs.lemmas.List.Concat.{flat_map-append}
 use Rattle.mq_frame.specs.declared.fault.Miss.TheVariants.{Short, Wrong}
 use Rattle.mq_frame.specs.declared.fault.Miss.{Miss}
 use Rattle.mq_frame.specs.declared.frame.Frame.{Frame}
 use Rattle.mq_frame.specs.declared.frame.FrameKind.TheVariants as kinds
+use Rattle.mq_frame.specs.declared.frame.Seen.{Seen}
+use Rattle.mq_frame.specs.declared.frame.Seen.TheVariants as seens
+use Rattle.mq_frame.specs.Sight.{Shows}
 use Rattle.mq_frame.specs.Frames.{frame_bytes, IsFrame, MayGoOn, IsBadAt, IsPartial, IsCut}
 use Rattle.mq_frame.specs.Decoding.{Decoding, counted, HasGiven}
 use Rattle.mq_frame.specs.Reading.{IsBytes, frame_at}
@@ -245,3 +248,23 @@ shows_more bytes f rest some e g is p = some (one_ok (frame_at bytes) f g rest [
 
 pub shows_none : (bytes : List ℕ) (miss : Miss) → frame_at bytes ≡ Err miss → (g : Frame) → IsFrame g → bytes ≡ frame_bytes g → ⊥
 shows_none bytes miss e g is p = ok_err (frame_at bytes) (g, []) miss (read_whole g bytes is p) e
+
+-- ---- what may go on
+
+pub cut_may : (bytes : List ℕ) (frames : List Frame) (rest : List ℕ) → IsCut bytes frames rest → MayGoOn bytes
+cut_may bytes frames rest h = subst MayGoOn (sym h.whole) (may_behind frames rest h.each (partial_may rest h.partial))
+
+pub bad_never : (bytes : List ℕ) (place : ℕ) → IsBadAt bytes place → MayGoOn bytes → ⊥
+bad_never bytes place h (frames, more, are) =
+    let regrouped : take (place + 1) bytes ++ (drop (place + 1) bytes ++ more) ≡ bytes ++ more = sym (append_assoc (take (place + 1) bytes) (drop (place + 1) bytes) more) ∙ ap (λ (x : List ℕ). x ++ more) (take-append-drop (place + 1) bytes) in
+    h.after (frames, drop (place + 1) bytes ++ more, record { each = are.each; whole = regrouped ∙ are.whole })
+
+-- bytes show one thing
+pub one_sight : (bytes : List ℕ) (seen other : Seen) → Shows bytes seen → Shows bytes other → seen ≡ other
+one_sight bytes seens.Nothing other h k = absurd h
+one_sight bytes seen seens.Nothing h k = absurd k
+one_sight bytes seens.Spoiled seens.Spoiled h k = refl
+one_sight bytes seens.Spoiled (seens.Frame g) h k = absurd (h g k.0 k.1)
+one_sight bytes (seens.Frame f) seens.Spoiled h k = absurd (k f h.0 h.1)
+one_sight bytes (seens.Frame f) (seens.Frame g) h k =
+    ap seens.Frame (one_frame f g [] [] h.0 k.0 (ap (λ (x : List ℕ). x ++ []) (sym h.1 ∙ k.1))).0

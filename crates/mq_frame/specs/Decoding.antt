@@ -1,5 +1,5 @@
 -- A decoder: what it has been given, and what it holds of it.
-use Rattle.std.specs.Prelude.{◌≡◌, ℕ, ◌-◌, ◌^◌, ◌≤◌, List, length, min, Option, None, Some}
+use Rattle.std.specs.Prelude.{◌≡◌, ℕ, ◌-◌, ◌^◌, ◌<◌, ◌≤◌, List, ◌++◌, length, min, Option, None, Some}
 use Rattle.std.specs.List.{flat_map}
 use Rattle.mq_frame.specs.declared.fault.Miss.TheVariants.{Short, Wrong}
 use Rattle.mq_frame.specs.declared.fault.Stop.{Stop}
@@ -7,7 +7,7 @@ use Rattle.mq_frame.specs.declared.fault.Stop.TheVariants as stops
 use Rattle.mq_frame.specs.declared.frame.Frame.{Frame}
 use Rattle.mq_frame.specs.declared.frame.FrameFault.{FrameFault}
 use Rattle.mq_frame.specs.declared.frame.FrameFault.TheVariants.{BadFrame, NoMemory}
-use Rattle.mq_frame.specs.Frames.{frame_bytes, IsBadAt, IsCut}
+use Rattle.mq_frame.specs.Frames.{frame_bytes, IsBadAt, IsPartial, IsCut}
 
 -- the bytes of a frame that isn't whole yet, the number of bytes before them since the last reset, and the
 -- place where the bytes went wrong
@@ -41,3 +41,7 @@ abbrev pub StopsWell : Stop → List ℕ → Type 0
 StopsWell stops.NoMemory bytes = Unit {0}
 StopsWell (stops.Miss Short) bytes = ⊥
 StopsWell (stops.Miss (Wrong left)) bytes = (left ≤ length bytes) × IsBadAt bytes (length bytes - left)
+
+-- however the bytes go on, they are a part of a frame as long as there are fewer of them than that
+abbrev pub StaysPartial : List ℕ → ℕ → Type 0
+StaysPartial bytes wanted = (more : List ℕ) → length (bytes ++ more) < wanted → IsPartial (bytes ++ more)

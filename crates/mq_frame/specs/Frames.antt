@@ -105,6 +105,20 @@ pub record IsFrame (f : Frame) : Type 0 where
   pub session : f.session < 2 ^ 64
   pub kind : IsKind f.kind
 
+-- what the types don't say of a message that has a spelling: no deadline of all ones, no body above the longest
+pub record HasWords (m : Message) : Type 0 where
+  pub deadline : IfSome m.deadline (λ moment. moment < 2 ^ 64 - 1)
+  pub body : length m.body ≤ most_body
+
+-- what the types don't say of a frame of that kind: an index and a count are from 1, a message has no route
+abbrev pub HasSpelling : FrameKind → Type 0
+HasSpelling (kinds.Bind last force) = Unit {0}
+HasSpelling (kinds.Status session n last) = Unit {0}
+HasSpelling (kinds.Msg n index number dest message) = (0 < index) × HasWords message × (message.route ≡ None)
+HasSpelling (kinds.End n count last) = 0 < count
+HasSpelling (kinds.Ack n) = Unit {0}
+HasSpelling (kinds.Err n reason) = Unit {0}
+
 -- ---- a stream
 
 -- the bytes are these frames, one after the other

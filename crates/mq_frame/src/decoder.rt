@@ -1,27 +1,37 @@
 ghost use Rattle.std.specs.Prelude.{◌≡◌, ◌≤◌, ◌-◌, ◌++◌, [], ℕ, List, length, drop, IfOk, IfErr, IfSome, Err};
-ghost use Rattle.mq_frame.specs.Frames.{IsCut};
-ghost use Rattle.mq_frame.specs.Decoding.{StopsWell};
+ghost use Rattle.byteorder.specs.Endian.{big_number};
+ghost use Rattle.mq_frame.specs.Frames.{IsCut, IsPartial};
+ghost use Rattle.mq_frame.specs.Decoding.{StopsWell, StaysPartial};
 
 use crate::fault::{Miss, Stop};
 use crate::frame::{FrameFault, Frames};
 use crate::framing::frame_at;
+use byteorder::{BigEndian, ByteOrder};
 use std::alloc::Global;
 use std::marker::Model;
 
-/// Gives the frames of a stream of bytes that comes in pieces, whatever the pieces.
+/// How many bytes of a message's frame stand before its body.
+const BODY_PLACE: usize = 487;
+
+/// Gives the frames of a stream of bytes that comes in pieces, whatever the pieces. The bytes of a body are
+/// read once, when all of them are there.
 #[derive(Drop)]
 pub struct Decoder {
     held: Vec<u8>,
+    /// With fewer bytes held than this there is nothing to read yet.
+    wanted: usize,
     before: u64,
     broken: Option<u64>,
 }
 
 impl Model for Decoder {
-    ghost use Rattle.mq_frame.specs.Decoding.{Decoding};
+    ghost use Rattle.mq_frame.specs.Decoding.{Decoding, StaysPartial};
 
     ghost Value = { Decoding };
 
     ghost view = { λ d. record { held = d.held.items; before = d.before; broken = d.broken } };
+
+    ghost invariant = { λ d. StaysPartial d.held.items d.wanted };
 }
 
 impl Decoder {
@@ -35,6 +45,7 @@ impl Decoder {
     {
         Decoder {
             held: Vec::new(alloc),
+            wanted: 0,
             before: 0,
             broken: None,
         }
@@ -45,6 +56,7 @@ impl Decoder {
         ensures { HasGiven self.new [] [] }
     {
         self.held.clear();
+        self.wanted = 0;
         self.before = 0;
         self.broken = None;
     }
@@ -70,10 +82,14 @@ impl Decoder {
         if self.held.extend_from_slice(piece).is_err() {
             return Err(FrameFault::NoMemory);
         }
+        if self.held.len() < self.wanted {
+            return Ok(Frames::new(alloc));
+        }
         match frames_at(alloc, &self.held) {
             Ok((frames, left)) => {
                 let done = self.held.len() - left;
                 drop_front(&mut self.held, done);
+                self.wanted = wanted(&self.held);
                 self.before = self.before.saturating_add(done as u64);
                 Ok(frames)
             }
@@ -86,6 +102,7 @@ impl Decoder {
                 Miss::Wrong(left) => {
                     let place = self.before.saturating_add((self.held.len() - left) as u64);
                     self.broken = Some(place);
+                    self.wanted = 0;
                     Err(FrameFault::BadFrame(place))
                 }
             },
@@ -101,6 +118,18 @@ fn drop_front(bytes: &mut Vec<u8>, count: usize)
     if count > 0 {
         bytes.drain(..count);
     }
+}
+
+/// How many bytes there must be before there is anything to read in a part of a frame that goes on: all of it,
+/// once its body has begun.
+fn wanted(bytes: &[u8]) -> usize
+    requires { IsPartial bytes.now }
+    ensures { StaysPartial bytes.now result }
+{
+    if bytes.len() < BODY_PLACE {
+        return 0;
+    }
+    BigEndian::read_u32(bytes) as usize + 4
 }
 
 /// The frames at the front of some bytes, and how many bytes are left behind them.

@@ -13,7 +13,10 @@ mod writing;
 
 pub use decoder::Decoder;
 pub use frame::{Frame, FrameFault, FrameKind, Frames, Seen};
-pub use laws::{bytes_are_cut_in_one_way, no_frame_begins_another};
+pub use laws::{
+    bytes_are_cut_in_one_way, bytes_show_one_thing, no_frame_begins_another,
+    wrong_bytes_never_go_on,
+};
 pub use sight::seen_of;
 pub use writing::{encode, push_message};
 

@@ -1,6 +1,8 @@
-ghost use Rattle.std.specs.Prelude.{◌≡◌, ◌++◌, ◌∷◌, [], OnOk, IfOk, length};
+ghost use Rattle.std.specs.Prelude.{◌≡◌, ◌++◌, ◌∷◌, [], OnOk, IfOk, IfSome, length};
 ghost use Rattle.byteorder.specs.Endian.{big_bytes};
-ghost use Rattle.mq_frame.specs.Frames.{ident_bytes, deadline_bytes, dest_bytes, route_bytes, message_bytes, flag, kind_number, fields_bytes, content_bytes, frame_bytes};
+ghost use Rattle.mq_frame.specs.Frames.{ident_bytes, deadline_bytes, dest_bytes, route_bytes, message_bytes, flag, kind_number, fields_bytes, content_bytes, frame_bytes, IsIdent, IsDest, IsMessage, IsKind, IsFrame, HasSpelling, HasWords};
+ghost use Rattle.mq_frame.specs.declared.frame.Seen.TheVariants as seen;
+ghost use Rattle.mq_frame.specs.Sight.{Shows};
 
 use crate::frame::{Frame, FrameKind};
 use byteorder::{BigEndian, ByteOrder};
@@ -35,7 +37,8 @@ fn push_length(out: &mut Bytes, number: usize) -> Result<(), AllocError>
 }
 
 fn push_ident(out: &mut Bytes, ident: &Ident) -> Result<(), AllocError>
-    ensures { OnOk result (out.new ≡ out.old ++ ident_bytes ident.now) }
+    ensures bytes { OnOk result (out.new ≡ out.old ++ ident_bytes ident.now) }
+    ensures ident { OnOk result (IsIdent ident.now) }
 {
     out.push(ident.manager)?;
     push_u64(out, ident.incarnation)?;
@@ -43,7 +46,8 @@ fn push_ident(out: &mut Bytes, ident: &Ident) -> Result<(), AllocError>
 }
 
 fn push_dest(out: &mut Bytes, dest: &Dest) -> Result<(), AllocError>
-    ensures { OnOk result (out.new ≡ out.old ++ dest_bytes dest.now) }
+    ensures bytes { OnOk result (out.new ≡ out.old ++ dest_bytes dest.now) }
+    ensures dest { OnOk result (IsDest dest.now) }
 {
     out.extend_from_slice(dest.queue.bytes())?;
     out.extend_from_slice(dest.qmgr.bytes())
@@ -60,7 +64,8 @@ fn push_deadline(out: &mut Bytes, deadline: Option<u64>) -> Result<(), AllocErro
 }
 
 fn push_route(out: &mut Bytes, route: &Option<Dest>) -> Result<(), AllocError>
-    ensures { OnOk result (out.new ≡ out.old ++ route_bytes route.now) }
+    ensures bytes { OnOk result (out.new ≡ out.old ++ route_bytes route.now) }
+    ensures dest { OnOk result (IfSome route.now IsDest) }
 {
     match route {
         None => out.push(0),
@@ -77,7 +82,9 @@ fn push_route(out: &mut Bytes, route: &Option<Dest>) -> Result<(), AllocError>
 ///
 /// No memory: a part of them may have been added.
 pub fn push_message(out: &mut Bytes, message: &Message) -> Result<(), AllocError>
-    ensures { OnOk result (out.new ≡ out.old ++ message_bytes message.now) }
+    ensures bytes { OnOk result (out.new ≡ out.old ++ message_bytes message.now) }
+    // its fields have their ranges
+    ensures message { OnOk result (HasWords message.now → IsMessage message.now) }
 {
     push_ident(out, &message.ident)?;
     out.extend_from_slice(&md_to_bytes(&message.md))?;
@@ -107,7 +114,8 @@ fn flag(set: bool) -> u8
 }
 
 fn push_fields(out: &mut Bytes, kind: &FrameKind) -> Result<(), AllocError>
-    ensures { OnOk result (out.new ≡ out.old ++ fields_bytes kind.now) }
+    ensures bytes { OnOk result (out.new ≡ out.old ++ fields_bytes kind.now) }
+    ensures kind { OnOk result (HasSpelling kind.now → IsKind kind.now) }
 {
     match kind {
         FrameKind::Bind { last, force } => {
@@ -150,7 +158,8 @@ fn push_fields(out: &mut Bytes, kind: &FrameKind) -> Result<(), AllocError>
 }
 
 fn content(alloc: Global, frame: &Frame) -> Result<Bytes, AllocError>
-    ensures { IfOk result (λ out. out ≡ content_bytes frame.now) }
+    ensures bytes { IfOk result (λ out. out ≡ content_bytes frame.now) }
+    ensures frame { IfOk result (λ _. HasSpelling frame.now.kind → IsFrame frame.now) }
 {
     let mut out = Bytes::new(alloc);
     out.push(kind_number(&frame.kind))?;
@@ -160,9 +169,16 @@ fn content(alloc: Global, frame: &Frame) -> Result<Bytes, AllocError>
     Ok(out)
 }
 
-/// The bytes of a frame.
+/// The bytes of a frame: the length of what follows in four bytes, the kind, the stamp, the session, and the
+/// kind's fields, each number highest byte first (this project's choice).
+///
+/// # Errors
+///
+/// No memory.
 pub fn encode(alloc: Global, frame: &Frame) -> Result<Bytes, NoMemory>
-    ensures { IfOk result (λ out. out ≡ frame_bytes frame.now) }
+    ensures bytes { IfOk result (λ out. out ≡ frame_bytes frame.now) }
+    // what the types don't say of a frame is all that keeps its bytes from showing it again
+    ensures frame { IfOk result (λ out. HasSpelling frame.now.kind → Shows out (seen.Frame frame.now)) }
 {
     let content = content(alloc, frame)?;
     let mut out = Bytes::new(alloc);
