@@ -1,46 +1,19 @@
 -- The ledger's code: changes at a place, and one change after another.
-use Rattle.std.proofs.Common.{◌≡◌, ℕ, zero, suc, ◌+◌, ◌<◌, ◌≤◌, Bool, true, false, cond, ltb, List, [], ◌∷◌, ◌++◌, length, map, drop, get_or, refl, sym, ap, ◌∙◌, arith, subst, drop-cons}
-use Rattle.std.specs.Prelude.{Option, Some, None, Result, Ok, Err, OnOk, find, position, not, slice_get, slice_set}
-use Rattle.std.specs.List.{position_or_len, remove}
-use Rattle.std.specs.Option.{option_map}
+use Rattle.std.proofs.Common.{◌≡◌, ℕ, zero, suc, ◌+◌, ◌<◌, ◌≤◌, Bool, true, false, cond, List, [], ◌∷◌, ◌++◌, length, drop, get_or, refl, sym, ap, ◌∙◌, arith, subst, drop-cons}
+use Rattle.std.specs.Prelude.{Some, None, Result, Ok, Err, OnOk, position, slice_get, slice_set}
+use Rattle.std.specs.List.{position_or_len, AllByRecursion}
 use Rattle.std.specs.Str.{bytes_eq}
 use Rattle.std.proofs.lemmas.Bool.Decides.{nat_tests}
-use Rattle.mq_message.specs.declared.message.Ident.{Ident}
 use Rattle.mq_message.specs.declared.message.Message.{Message}
-use Rattle.mq_queue.specs.declared.row.Row.{Row}
-use Rattle.mq_queue.specs.Rows.{keep}
-use Rattle.mq_queue.proofs.Edits.{place_some}
-use Rattle.mq_model.specs.declared.calls.Got.{Got}
 use Rattle.mq_model.specs.declared.calls.Entry.{Entry}
 use Rattle.mq_model.specs.declared.ledger.Shelf.{Shelf}
+use Rattle.mq_model.specs.declared.ledger.Lead.{Lead}
 use Rattle.mq_model.specs.declared.ledger.Ledger.{Ledger}
-use Rattle.mq_model.specs.Ledger.{placed_on, place_on, with_get, take_away, follow, ledger_from}
-
--- A row goes
-
-remove_next : {X : Type 0} (x : X) (xs : List X) (i : ℕ) → remove (x ∷ xs) (1 + i) ≡ x ∷ remove xs i
-remove_next x xs i = let e : 1 + i ≡ suc i = omega arith in rw e refl
-
-gone_step : (test : Row → Bool) (x : Row) (xs : List Row) → (position_or_len test xs < length xs → keep (λ (row : Row). not (test row)) (remove xs (position_or_len test xs)) ≡ keep (λ (row : Row). not (test row)) xs)
-    → (t : Bool) → test x ≡ t → position_or_len test (x ∷ xs) < length (x ∷ xs) → keep (λ (row : Row). not (test row)) (remove (x ∷ xs) (position_or_len test (x ∷ xs))) ≡ keep (λ (row : Row). not (test row)) (x ∷ xs)
-gone_step test x xs ih true e lt = rw e refl
-gone_step test x xs ih false e lt =
-    let less : position_or_len test xs < length xs = omega (arith, rw e at lt) in
-    rw (e, remove_next x xs (position_or_len test xs), e) (ap (λ (rows : List Row). x ∷ rows) (ih less))
-
-gone : (test : Row → Bool) (rows : List Row) → position_or_len test rows < length rows → keep (λ (row : Row). not (test row)) (remove rows (position_or_len test rows)) ≡ keep (λ (row : Row). not (test row)) rows
-gone test [] lt = absurd (omega arith)
-gone test (x ∷ xs) lt = gone_step test x xs (gone test xs) (test x) refl lt
-
--- the row that goes was to go
-pub one_goes : (test : Row → Bool) (rows : List Row) (at : ℕ) → position test rows ≡ Some at → keep (λ (row : Row). not (test row)) (remove rows at) ≡ keep (λ (row : Row). not (test row)) rows
-one_goes test rows at e =
-    let p = place_some test rows at e in
-    let lt : position_or_len test rows < length rows = omega (arith, p.0, p.1) in
-    ap (λ (i : ℕ). keep (λ (row : Row). not (test row)) (remove rows i)) p.0 ∙ gone test rows lt
-
-pub at_within : (test : Row → Bool) (rows : List Row) (at : ℕ) → position test rows ≡ Some at → at < length rows
-at_within test rows at e = (place_some test rows at e).1
+use Rattle.mq_model.specs.Ledger.{placed_on, place_on, ledger}
+use Rattle.mq_ledger.specs.Later.{goes, goings, follow_unless, thin_from}
+use Rattle.mq_ledger.specs.Lanes.{AllRise}
+use Rattle.mq_ledger.proofs.LaneLaws.{rise_thin}
+use Rattle.mq_ledger.proofs.ThinLaws.{thin_is}
 
 -- A shelf changes
 
@@ -95,43 +68,47 @@ pub placed_ok : {E : Type 0} (r : Result (Unit {0}) E) (name : List ℕ) (messag
 placed_ok (Ok u) name message s new shelves at e h n = ap (slice_set shelves at) n ∙ placed_there name message s shelves at e h
 placed_ok (Err f) name message s new shelves at e h n = tt
 
--- Each shelf changes in turn
-
-abbrev pub mapped_to : (Shelf → Shelf) → ℕ → List Shelf → List Shelf
-mapped_to f zero xs = xs
-mapped_to f (suc i) [] = []
-mapped_to f (suc i) (x ∷ xs) = f x ∷ mapped_to f i xs
-
-next_of : (f : Shelf → Shelf) (i : ℕ) (xs : List Shelf) (x : Shelf) → slice_get (mapped_to f i xs) i ≡ Some x → slice_set (mapped_to f i xs) i (f x) ≡ mapped_to f (suc i) xs
-next_of f zero [] x e = absurd cc
-next_of f zero (y ∷ ys) x e = let same : x ≡ y = cc in ap (λ (z : Shelf). f z ∷ ys) same
-next_of f (suc i) [] x e = absurd cc
-next_of f (suc i) (y ∷ ys) x e = ap (λ (ss : List Shelf). f y ∷ ss) (next_of f i ys x e)
-
-pub next_mapped : (f : Shelf → Shelf) (i : ℕ) (xs now : List Shelf) (x : Shelf) → now ≡ mapped_to f i xs → slice_get now i ≡ Some x → slice_set now i (f x) ≡ mapped_to f (i + 1) xs
-next_mapped f i xs now x e h =
-    let s : i + 1 ≡ suc i = omega arith in
-    ap (λ (ss : List Shelf). slice_set ss i (f x)) e ∙ next_of f i xs x (ap (λ (ss : List Shelf). slice_get ss i) (sym e) ∙ h) ∙ ap (λ (k : ℕ). mapped_to f k xs) (sym s)
-
-pub all_mapped : (f : Shelf → Shelf) (i : ℕ) (xs : List Shelf) → length xs ≤ i → mapped_to f i xs ≡ map f xs
-all_mapped f zero [] le = refl
-all_mapped f zero (x ∷ xs) le = absurd (omega (arith, le))
-all_mapped f (suc i) [] le = refl
-all_mapped f (suc i) (x ∷ xs) le = ap (λ (ss : List Shelf). f x ∷ ss) (all_mapped f i xs (omega (arith, le)))
-
--- A get
-
-pub no_get : (o : Option Got) (l : Ledger) → None ≡ option_map (λ (got : Got). got.ident) o → l ≡ with_get o l
-no_get None l e = refl
-no_get (Some got) l e = absurd cc
-
-pub a_get : (o : Option Got) (l new : Ledger) (ident : Ident) → Some ident ≡ option_map (λ (got : Got). got.ident) o → new ≡ record l { shelves = take_away ident l.shelves } → new ≡ with_get o l
-a_get None l new ident e h = absurd cc
-a_get (Some got) l new ident e h = let same : ident ≡ got.ident = cc in h ∙ ap (λ (i : Ident). record l { shelves = take_away i l.shelves }) same
+-- a shelf that stands at a place
+pub at_shelf : (P : Shelf → Type 0) (shelves : List Shelf) (i : ℕ) (x : Shelf) → AllByRecursion P shelves → slice_get shelves i ≡ Some x → P x
+at_shelf P [] i x all e = absurd cc
+at_shelf P (y ∷ ys) zero x all e = let same : y ≡ x = cc in subst P same all.0
+at_shelf P (y ∷ ys) (suc i) x all e = at_shelf P ys i x all.1 e
 
 -- An entry more
 
-pub follow_next : (l next : Ledger) (es : List Entry) (i : ℕ) (e : Entry) → i < length es → e ≡ get_or es i e → next ≡ follow e.call e.reply l → ledger_from next (drop (i + 1) es) ≡ ledger_from l (drop i es)
-follow_next l next es i e lt is n =
-    let step : drop i es ≡ e ∷ drop (i + 1) es = (let s : i + 1 ≡ suc i = omega arith in rw s (drop-cons es i e lt ∙ ap (λ (x : Entry). x ∷ drop (suc i) es) (sym is))) in
-    ap (λ (x : Ledger). ledger_from x (drop (i + 1) es)) n ∙ ap (ledger_from l) (sym step)
+-- the next entry, and what is said of it behind all else
+pub entry_next : (es : List Entry) (i : ℕ) (e : Entry) → i < length es → e ≡ get_or es i e → drop i es ≡ e ∷ drop (i + 1) es
+entry_next es i e lt is = let s : i + 1 ≡ suc i = omega arith in rw s (drop-cons es i e lt ∙ ap (λ (x : Entry). x ∷ drop (suc i) es) (sym is))
+
+no_last : (ys : List Bool) (y : Bool) → [] ≡ ys ++ y ∷ [] → ⊥
+no_last [] y e = cc
+no_last (b ∷ ys) y e = cc
+
+last_two : (xs ys : List Bool) (x y : Bool) → xs ++ x ∷ [] ≡ ys ++ y ∷ [] → (xs ≡ ys) × (x ≡ y)
+last_two [] [] x y e = (refl, cc)
+last_two [] (b ∷ ys) x y e = absurd (no_last ys y (let t : [] ≡ ys ++ y ∷ [] = cc in t))
+last_two (a ∷ xs) [] x y e = absurd (no_last xs x (let t : [] ≡ xs ++ x ∷ [] = cc in t))
+last_two (a ∷ xs) (b ∷ ys) x y e =
+    let t : xs ++ x ∷ [] ≡ ys ++ y ∷ [] = cc in
+    let h : a ≡ b = cc in
+    let both = last_two xs ys x y t in
+    (ap (λ (l : List Bool). a ∷ l) both.0 ∙ ap (λ (z : Bool). z ∷ ys) h, both.1)
+
+-- what was said of the next entry stands last
+pub goings_next : (es : List Entry) (i : ℕ) (e : Entry) (old new : List Bool) (gone : Bool) → drop i es ≡ e ∷ drop (i + 1) es → old ≡ goings (drop i es) → old ≡ new ++ gone ∷ []
+    → (new ≡ goings (drop (i + 1) es)) × (gone ≡ goes e (drop (i + 1) es))
+goings_next es i e old new gone step o n = last_two new (goings (drop (i + 1) es)) gone (goes e (drop (i + 1) es)) (sym n ∙ o ∙ ap goings step)
+
+pub begun : (es : List Entry) (shelves : List Shelf) (leads : List Lead) → shelves ≡ [] → leads ≡ [] → thin_from (record { shelves = shelves; leads = leads }) es ≡ ledger es
+begun es shelves leads s l = ap (λ (ss : List Shelf). thin_from (record { shelves = ss; leads = leads }) es) s ∙ ap (λ (ls : List Lead). thin_from (record { shelves = []; leads = ls }) es) l ∙ thin_is es
+
+pub begun_rising : (shelves : List Shelf) → shelves ≡ [] → AllRise shelves
+begun_rising shelves s = subst AllRise (sym s) tt
+
+pub still_rising : (l next : Ledger) (gone : Bool) (e : Entry) → AllRise l.shelves → next ≡ follow_unless gone e.call e.reply l → AllRise next.shelves
+still_rising l next gone e rise n = subst (λ (x : Ledger). AllRise x.shelves) (sym n) (rise_thin gone e.call e.reply l rise)
+
+pub thin_next : (l next : Ledger) (gone : Bool) (es : List Entry) (i : ℕ) (e : Entry) → drop i es ≡ e ∷ drop (i + 1) es → gone ≡ goes e (drop (i + 1) es) → next ≡ follow_unless gone e.call e.reply l
+    → thin_from next (drop (i + 1) es) ≡ thin_from l (drop i es)
+thin_next l next gone es i e step g n =
+    ap (λ (x : Ledger). thin_from x (drop (i + 1) es)) (n ∙ ap (λ (t : Bool). follow_unless t e.call e.reply l) g) ∙ ap (thin_from l) (sym step)

@@ -1,6 +1,6 @@
 -- Rows of a queue and rows of the ledger.
-use Rattle.std.proofs.Common.{◌≡◌, ℕ, suc, ◌+◌, ◌<◌, ◌≤◌, Bool, true, false, cond, eqb, List, [], ◌∷◌, ◌++◌, map, refl, sym, ap, ◌∙◌, arith, subst}
-use Rattle.std.specs.Prelude.{Option, Some, None, find, not, nat_le, ◌&&◌}
+use Rattle.std.proofs.Common.{◌≡◌, ℕ, ◌+◌, ◌<◌, ◌≤◌, Bool, true, false, cond, List, [], ◌∷◌, map, refl, ap, ◌∙◌, arith, subst}
+use Rattle.std.specs.Prelude.{Some, find, not, nat_le}
 use Rattle.std.specs.List.{AllByRecursion}
 use Rattle.std.proofs.lemmas.Bool.Decides.{nat_tests}
 use Rattle.mq_message.specs.declared.message.Ident.{Ident}
@@ -10,6 +10,7 @@ use Rattle.mq_queue.specs.Queues.{has_other_ident}
 use Rattle.mq_queue.proofs.QueueLaws.{all_insert, all_keep, all_imply}
 use Rattle.mq_model.specs.Ledger.{bare_row}
 use Rattle.mq_model.specs.Told.{times_in, AreLater, InPutOrder}
+use Rattle.mq_ledger.specs.Lanes.{LanesRise}
 
 abbrev pub one : Bool → ℕ
 one t = cond t 1 0
@@ -111,15 +112,10 @@ found_times test row (x ∷ rows) e = found_step test x row rows (found_times te
 
 -- Order
 
--- lanes rise
-abbrev pub LanesRise : List Row → Type 0
-LanesRise [] = Unit {0}
-LanesRise (row ∷ rows) = AllByRecursion (λ (later : Row). row.place.lane ≤ later.place.lane) rows × LanesRise rows
-
-le_of : (a b : ℕ) → nat_le a b ≡ true → a ≤ b
+pub le_of : (a b : ℕ) → nat_le a b ≡ true → a ≤ b
 le_of a b e = grind (arith, nat_tests)
 
-lt_of : (a b : ℕ) → nat_le a b ≡ false → b < a
+pub lt_of : (a b : ℕ) → nat_le a b ≡ false → b < a
 lt_of a b e = grind (arith, nat_tests)
 
 lanes_step : (new row : Row) (rows : List Row) → AllByRecursion (λ (later : Row). row.place.lane ≤ later.place.lane) rows → LanesRise rows → LanesRise (insert_row new rows) → (t : Bool) → nat_le row.place.lane new.place.lane ≡ t

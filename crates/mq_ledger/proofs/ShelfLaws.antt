@@ -1,21 +1,22 @@
 -- Queues and shelves of the ledger.
 use Rattle.std.proofs.Common.{◌≡◌, ℕ, ◌+◌, ◌<◌, ◌≤◌, Bool, true, false, cond, List, [], ◌∷◌, ◌++◌, map, refl, sym, ap, ◌∙◌, arith, subst}
-use Rattle.std.specs.Prelude.{Option, Some, None, find, ◌==◌}
+use Rattle.std.specs.Prelude.{Some, find}
 use Rattle.std.specs.List.{AllByRecursion}
 use Rattle.std.specs.Option.{option_map}
 use Rattle.mq_message.specs.declared.message.Ident.{Ident}
 use Rattle.mq_message.specs.declared.message.Message.{Message}
 use Rattle.mq_queue.specs.declared.row.Row.{Row}
-use Rattle.mq_queue.specs.Rows.{same_ident, has_ident, insert_row, keep}
+use Rattle.mq_queue.specs.Rows.{same_ident, keep}
 use Rattle.mq_queue.specs.Queues.{row_of, has_other_ident}
 use Rattle.mq_queue.proofs.QueueLaws.{all_insert, all_keep, all_imply}
 use Rattle.mq_queue.proofs.Edits.{same_is}
 use Rattle.mq_model.specs.declared.ledger.Shelf.{Shelf}
 use Rattle.mq_model.specs.declared.ledger.Lead.{Lead}
 use Rattle.mq_model.specs.Plain.{Local, Open, is_named, is_handle, change, place, take_out, defined}
-use Rattle.mq_model.specs.Ledger.{bare_row, posted_row, placed_on, place_on, without_ident, take_away, is_lead}
+use Rattle.mq_model.specs.Ledger.{bare_row, placed_on, place_on, without_ident, take_away, is_lead}
 use Rattle.mq_model.specs.Told.{shelf_of, times_in, times, InPutOrder}
-use Rattle.mq_ledger.proofs.RowLaws.{one, bare_insert, bare_keep, times_bare, times_insert, times_keep, times_gone, keep_all, LanesRise, lanes_insert, lanes_keep, order_insert, order_keep, order_bare}
+use Rattle.mq_ledger.specs.Lanes.{LanesRise}
+use Rattle.mq_ledger.proofs.RowLaws.{one, bare_insert, bare_keep, times_bare, times_insert, times_keep, times_gone, keep_all, lanes_insert, lanes_keep, order_insert, order_keep, order_bare}
 
 -- How often an ident stands in queues
 

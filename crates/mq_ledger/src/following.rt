@@ -1,12 +1,14 @@
 //! The ledger follows the entries.
 ghost use Rattle.std.specs.Prelude.{◌≡◌, OnOk, IfOk};
-ghost use Rattle.std.specs.Option.{option_map};
 ghost use Rattle.mq_model.specs.Lawful.{new_handle};
-ghost use Rattle.mq_model.specs.Ledger.{sent_of, got_of, sent_message, with_queue, with_open, with_put, with_get, follow, ledger};
+ghost use Rattle.mq_model.specs.Ledger.{sent_message, with_queue, with_open, with_put, ledger};
+ghost use Rattle.mq_ledger.specs.Lanes.{AllRise};
+ghost use Rattle.mq_ledger.specs.Later.{follow_unless};
 
-use crate::shelves::{lead_of, place_on, take_away};
+use crate::later::{goings, sent_of};
+use crate::shelves::{lead_of, place_on};
 use mq_base::{Items, NoMemory};
-use mq_message::{Bytes, Ident, Message};
+use mq_message::{Bytes, Message};
 use mq_model::{Answer, Call, Entry, Lead, Ledger, Reply, Sent, Shelf};
 use mq_name::QName;
 use std::alloc::Global;
@@ -18,34 +20,6 @@ fn new_handle(reply: &Reply) -> Option<u64>
     match reply {
         Reply::Opened(Answer::Ok(number)) => Some(*number),
         Reply::Opened(Answer::Warning(_, number)) => Some(*number),
-        _ => None,
-    }
-}
-
-/// What a committed put gave back.
-fn sent_of(reply: &Reply) -> Option<Sent>
-    ensures { result ≡ sent_of reply.now }
-{
-    match reply {
-        Reply::Put(Answer::Ok(sent)) => Some(*sent),
-        Reply::Put(Answer::Warning(_, sent)) => Some(*sent),
-        _ => None,
-    }
-}
-
-/// The ident that a committed get took.
-fn got_ident(reply: &Reply) -> Option<Ident>
-    ensures { result ≡ option_map (λ got. got.ident) (got_of reply.now) }
-{
-    match reply {
-        Reply::Got(Answer::Ok(got)) => Some(got.ident),
-        Reply::Got(Answer::Warning(reason, got)) => {
-            if reason.number() == 2080 {
-                None
-            } else {
-                Some(got.ident)
-            }
-        }
         _ => None,
     }
 }
@@ -95,6 +69,7 @@ fn put(
     body: &Bytes,
     sent: Option<Sent>,
 ) -> Result<(), NoMemory>
+    requires { AllRise ledger.old.shelves }
     ensures { OnOk result (ledger.new ≡ with_put handle body.now sent ledger.old) }
 {
     let Some(sent) = sent else {
@@ -109,41 +84,47 @@ fn put(
     }
 }
 
-fn get(ledger: &mut Ledger, reply: &Reply)
-    ensures { ledger.new ≡ with_get (got_of reply.now) ledger.old }
-{
-    match got_ident(reply) {
-        None => {}
-        Some(ident) => take_away(&mut ledger.shelves, &ident),
-    }
-}
-
-/// What an entry does to the ledger.
-fn follow(alloc: Global, ledger: &mut Ledger, call: &Call, reply: &Reply) -> Result<(), NoMemory>
-    ensures { OnOk result (ledger.new ≡ follow call.now reply.now ledger.old) }
+/// What an entry does to the ledger where no get takes anything away, and no put that goes is placed.
+fn follow(
+    alloc: Global,
+    ledger: &mut Ledger,
+    call: &Call,
+    reply: &Reply,
+    gone: bool,
+) -> Result<(), NoMemory>
+    requires { AllRise ledger.old.shelves }
+    ensures { OnOk result (ledger.new ≡ follow_unless gone call.now reply.now ledger.old) }
 {
     match call {
         Call::Define(name) => define(alloc, ledger, name),
         Call::Connect => Ok(()),
         Call::Open(name) => open(ledger, name, new_handle(reply)),
-        Call::Put(handle, _, body) => put(alloc, ledger, *handle, body, sent_of(reply)),
-        Call::Get(_) => {
-            get(ledger, reply);
-            Ok(())
+        Call::Put(handle, _, body) => {
+            if gone {
+                Ok(())
+            } else {
+                put(alloc, ledger, *handle, body, sent_of(reply))
+            }
         }
+        Call::Get(_) => Ok(()),
     }
 }
 
-/// The ledger of a history's entries.
+/// The ledger of a history's entries. A message that a later get takes is never placed, so that no get
+/// has to look for its row.
 pub fn ledger_of(alloc: Global, entries: &[Entry]) -> Result<Ledger, NoMemory>
     ensures { IfOk result (λ l. l ≡ ledger entries.now) }
 {
+    let mut goings = goings(alloc, entries)?;
     let mut ledger = Ledger {
         shelves: Items::new(alloc),
         leads: Items::new(alloc),
     };
     for entry in entries {
-        follow(alloc, &mut ledger, &entry.call, &entry.reply)?;
+        let Some(gone) = goings.pop() else {
+            unreachable!();
+        };
+        follow(alloc, &mut ledger, &entry.call, &entry.reply, gone)?;
     }
     Ok(ledger)
 }

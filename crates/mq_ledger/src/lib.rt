@@ -2,6 +2,7 @@
 #![tactic(auto)]
 
 mod following;
+mod later;
 mod laws;
 mod rows;
 mod shelves;

@@ -1,12 +1,12 @@
 //! Shelves of the ledger.
 ghost use Rattle.std.specs.Prelude.{◌≡◌, position, find, OnOk};
 ghost use Rattle.std.specs.Str.{bytes_eq};
-ghost use Rattle.std.specs.Option.{option_map};
-ghost use Rattle.mq_model.specs.Ledger.{placed_on, place_on, without_ident, take_away, lead_of};
+ghost use Rattle.mq_model.specs.Ledger.{placed_on, place_on, lead_of};
+ghost use Rattle.mq_ledger.specs.Lanes.{LanesRise, AllRise};
 
-use crate::rows::{drop_ident, posted_row, put_row};
+use crate::rows::{posted_row, put_row};
 use mq_base::{Items, NoMemory};
-use mq_message::{Ident, Message};
+use mq_message::Message;
 use mq_model::{Lead, Shelf};
 use mq_name::QName;
 
@@ -19,6 +19,7 @@ fn shelf_at(shelves: &[Shelf], name: &QName) -> Option<usize>
 }
 
 fn place_on_shelf(shelf: &mut Shelf, message: Message) -> Result<(), NoMemory>
+    requires { LanesRise shelf.old.rows }
     ensures { OnOk result (shelf.new ≡ placed_on message shelf.old) }
 {
     let row = posted_row(shelf.by_priority, message);
@@ -27,6 +28,7 @@ fn place_on_shelf(shelf: &mut Shelf, message: Message) -> Result<(), NoMemory>
 
 /// Places a message on the first shelf of a name.
 pub fn place_on(shelves: &mut Items<Shelf>, name: &QName, message: Message) -> Result<(), NoMemory>
+    requires { AllRise shelves.old }
     ensures { OnOk result (shelves.new ≡ place_on name.now message shelves.old) }
 {
     match shelf_at(shelves.as_slice(), name) {
@@ -35,22 +37,6 @@ pub fn place_on(shelves: &mut Items<Shelf>, name: &QName, message: Message) -> R
             let shelf = shelves.at_mut(at);
             place_on_shelf(shelf, message)
         }
-    }
-}
-
-fn drop_from(shelf: &mut Shelf, ident: &Ident)
-    ensures { shelf.new ≡ without_ident ident.now shelf.old }
-{
-    drop_ident(&mut shelf.rows, ident);
-}
-
-/// The ident has no place any more.
-pub fn take_away(shelves: &mut Items<Shelf>, ident: &Ident)
-    ensures { shelves.new ≡ take_away ident.now shelves.old }
-{
-    for at in 0..shelves.len() {
-        let shelf = shelves.at_mut(at);
-        drop_from(shelf, ident);
     }
 }
 

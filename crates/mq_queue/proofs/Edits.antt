@@ -1,6 +1,6 @@
 -- A row goes in at the end of its lane; the one row that passes a test goes out, or is changed at its place.
 use Rattle.std.proofs.Common.{◌≡◌, ℕ, suc, ◌+◌, ◌<◌, ◌≤◌, Bool, true, false, cond, eqb, List, [], ◌∷◌, length, get_or, refl, sym, ap, subst, ◌∙◌, arith}
-use Rattle.std.specs.Prelude.{Some, None, find, position, not, nat_lt, nat_le, slice_get, slice_set, ◌&&◌}
+use Rattle.std.specs.Prelude.{◌↔◌, Option, Some, None, IsSome, IfSome, OnSome, find, position, not, nat_lt, nat_le, slice_get, slice_set, ◌&&◌}
 use Rattle.std.specs.List.{position_or_len, insert, remove, list_any, AllByRecursion}
 use Rattle.std.proofs.lemmas.List.Sums.{prefix_len-le-length}
 use Rattle.std.proofs.lemmas.List.Folds.{find_at}
@@ -164,6 +164,16 @@ some_there test rows i e = let at = place_some test rows i e in sym (some_any te
 
 pub some_goes : (test : Row → Bool) (rows : List Row) (i : ℕ) → position test rows ≡ Some i → AtMostOne test rows → remove rows i ≡ keep (λ (row : Row). not (test row)) rows
 some_goes test rows i e one = ap (remove rows) (place_some test rows i e).0 ∙ remove_one test rows one
+
+-- what is taken out of a ring at that place
+pub some_taken : (test : Row → Bool) (rows : List Row) (n i : ℕ) (taken : Option Row) → n ≡ length rows → position test rows ≡ Some i → (IsSome taken ↔ (i < n)) → IfSome taken (λ (row : Row). row ≡ get_or rows i row) → taken ≡ find test rows
+some_taken test rows n i None long e is v = absurd (let t : false ≡ true = is.1 (omega (arith, long, (place_some test rows i e).1)) in cc)
+some_taken test rows n i (Some row) long e is v = some_found test rows i row e v
+
+pub some_left : (test : Row → Bool) (rows left : List Row) (n i : ℕ) (taken : Option Row) → n ≡ length rows → position test rows ≡ Some i → (IsSome taken ↔ (i < n)) → OnSome taken (left ≡ remove rows i) → AtMostOne test rows
+    → left ≡ keep (λ (row : Row). not (test row)) rows
+some_left test rows left n i None long e is v one = absurd (let t : false ≡ true = is.1 (omega (arith, long, (place_some test rows i e).1)) in cc)
+some_left test rows left n i (Some row) long e is v one = v ∙ some_goes test rows i e one
 
 pub some_turned : (test : Row → Bool) (f : Row → Row) (rows : List Row) (i : ℕ) (row : Row) → position test rows ≡ Some i → row ≡ get_or rows i row → AtMostOne test rows
     → slice_set rows i (f row) ≡ retag (λ (r : Row). cond (test r) (f r) r) rows

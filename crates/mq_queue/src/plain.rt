@@ -8,27 +8,31 @@ use crate::rows::{hold_one, is_takable, lane_of, put_row, release_one, take_row}
 use mq_base::NoMemory;
 use mq_message::{Holder, Ident, Message, Place, Want};
 use std::alloc::Global;
+use std::collections::VecDeque;
 use std::marker::Model;
 
-/// A queue as a vector of rows.
+/// A queue as a ring of rows, so that a row at its front goes out, and one at the end of the last lane
+/// comes in, with no other row moved.
 #[derive(Drop)]
 pub struct PlainQueue {
     by_priority: bool,
-    rows: Vec<Row>,
+    rows: VecDeque<Row>,
     arrivals: u64,
+    /// For how many more rows `reserve` made room.
+    room: usize,
 }
 
 impl Model for PlainQueue {
-    ghost use Rattle.std.specs.Prelude.{◌-◌};
-    ghost use Rattle.std.specs.Vec.{vec_len, vec_capacity};
+    ghost use Rattle.std.specs.Prelude.{◌+◌, ◌≤◌};
+    ghost use Rattle.std.specs.VecDeque.{deque_len, deque_capacity};
     ghost use Rattle.mq_queue.specs.Standing.{Standing};
     ghost use Rattle.mq_queue.specs.Queues.{IsQueue};
 
     ghost Value = { Standing };
 
-    ghost view = { λ q. record { by_priority = q.by_priority; rows = q.rows.items; arrivals = q.arrivals; room = vec_capacity q.rows - vec_len q.rows } };
+    ghost view = { λ q. record { by_priority = q.by_priority; rows = q.rows.items; arrivals = q.arrivals; room = q.room } };
 
-    ghost invariant = { λ q. IsQueue q.rows.items q.arrivals };
+    ghost invariant = { λ q. IsQueue q.rows.items q.arrivals × (deque_len q.rows + q.room ≤ deque_capacity q.rows) };
 }
 
 impl PlainQueue {
@@ -40,14 +44,15 @@ impl PlainQueue {
     {
         PlainQueue {
             by_priority,
-            rows: Vec::new(alloc),
+            rows: VecDeque::new(alloc),
             arrivals: 0,
+            room: 0,
         }
     }
 
     /// The rows in order.
-    pub fn rows(&self) -> &[Row]
-        ensures rows { result.now ≡ self.now.rows }
+    pub fn rows(&self) -> &VecDeque<Row>
+        ensures rows { result.now.items ≡ self.now.rows }
         ensures queue { IsQueue self.now.rows self.now.arrivals }
     {
         &self.rows
@@ -72,14 +77,21 @@ impl Queue for PlainQueue {
     ghost room = { λ q. q.room };
 
     fn reserve(&mut self, more: u64) -> Result<(), NoMemory> {
+        if more as usize <= self.room {
+            return Ok(());
+        }
         match self.rows.reserve(more as usize) {
-            Ok(()) => Ok(()),
+            Ok(()) => {
+                self.room = more as usize;
+                Ok(())
+            }
             Err(_) => Err(NoMemory),
         }
     }
 
     fn insert(&mut self, message: Message) {
         let lane = lane_of(self.by_priority, &message);
+        self.room -= 1;
         self.arrivals += 1;
         let place = Place {
             lane,

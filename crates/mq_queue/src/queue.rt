@@ -1,4 +1,4 @@
-ghost use Rattle.std.specs.Prelude.{◌≡◌, ◌+◌, ◌-◌, ◌^◌, ◌<◌, ◌≤◌, ℕ, Bool, List, OnOk, option_copied};
+ghost use Rattle.std.specs.Prelude.{◌≡◌, ◌+◌, ◌-◌, ◌^◌, ◌<◌, ◌≤◌, ℕ, Bool, List, OnOk, OnErr, option_copied};
 ghost use Rattle.std.specs.List.{list_any};
 ghost use Rattle.mq_queue.specs.declared.row.Row.{Row};
 ghost use Rattle.mq_queue.specs.Rows.{insert_row, keep, retag};
@@ -24,9 +24,11 @@ pub trait Queue {
     /// For how many more rows there is memory.
     ghost room: { Self → ℕ };
 
-    /// Makes room for so many more rows. A refusal leaves the queue as it was.
+    /// Makes room for so many more rows. Room that is there is never refused, and a refusal leaves the
+    /// queue as it was.
     fn reserve(&mut self, more: u64) -> Result<(), NoMemory>
         ensures enough { OnOk result (more ≤ room self.new) }
+        ensures refused { OnErr result (room self.old < more) }
         ensures room { room self.old ≤ room self.new }
         ensures rows { rows self.new ≡ rows self.old }
         ensures arrivals { arrivals self.new ≡ arrivals self.old }

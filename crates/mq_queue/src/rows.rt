@@ -1,12 +1,14 @@
-//! The rows of a plain queue: one vector in order of place.
-ghost use Rattle.std.specs.Prelude.{◌≡◌, ◌+◌, ◌-◌, ◌^◌, ◌<◌, ◌≤◌, ℕ, List, Option, [], find, position, length, nat_lt, nat_le, ◌&&◌};
-ghost use Rattle.std.specs.Vec.{vec_len, vec_capacity};
-ghost use Rattle.std.specs.List.{position_or_len, list_any};
+//! The rows of a plain queue: one ring in order of place.
+ghost use Rattle.std.specs.Prelude.{◌≡◌, ◌+◌, ◌-◌, ◌^◌, ◌<◌, ◌≤◌, ℕ, List, Option, [], find, position, length, ◌&&◌};
+ghost use Rattle.std.specs.VecDeque.{deque_len, deque_capacity};
+ghost use Rattle.std.specs.List.{list_any};
 ghost use Rattle.mq_queue.specs.Rows.{insert_row, keep, retag, has_ident, is_id, is_wanted, is_after, is_free};
-ghost use Rattle.mq_queue.specs.Queues.{AreDistinct, is_takable, is_free_one, is_held_one, has_other_ident, hold_row, release_row, freed, lane_of};
+ghost use Rattle.mq_queue.specs.Ends.{IsEndOfLane};
+ghost use Rattle.mq_queue.specs.Queues.{AreDistinct, AreInOrder, is_takable, is_free_one, is_held_one, has_other_ident, hold_row, release_row, freed, lane_of};
 
 use crate::row::{Row, lane_at};
 use mq_message::{Holder, Ident, Message, Place, Want};
+use std::collections::VecDeque;
 
 /// The lane of a message: by its priority, or the one lane of first in, first out.
 pub fn lane_of(by_priority: bool, message: &Message) -> u8
@@ -62,50 +64,42 @@ pub fn is_takable(want: &Want, after: Option<Place>, row: &Row) -> bool
     is_free(row) && is_after(after, row) && is_wanted(want, row)
 }
 
-fn later_lane(rows: &[Row], lane: u8) -> Option<usize>
-    ensures { result ≡ position (λ row. nat_lt lane row.place.lane) rows.now }
-{
-    rows.iter().position(|row| lane < row.place.lane)
-}
-
 /// Where the first row of a later lane stands, or the end.
-#[tactic(auto, using(crate::proofs::Edits::place_some, crate::proofs::Edits::place_none, crate::proofs::Edits::within))]
-fn end_of_lane(rows: &[Row], lane: u8) -> usize
-    ensures place { result ≡ position_or_len (λ row. nat_lt lane row.place.lane) rows.now }
-    ensures within { result ≤ length rows.now }
+fn end_of_lane(rows: &VecDeque<Row>, lane: u8) -> usize
+    requires { AreInOrder rows.now.items }
+    ensures place { IsEndOfLane lane rows.now.items result }
+    ensures within { result ≤ deque_len rows.now }
 {
-    match later_lane(rows, lane) {
-        Some(at) => at,
-        None => rows.len(),
-    }
+    rows.partition_point(|row| row.place.lane <= lane)
 }
 
-fn place_of(rows: &[Row], ident: &Ident) -> Option<usize>
-    ensures { result ≡ position (has_ident ident.now) rows.now }
+fn place_of(rows: &VecDeque<Row>, ident: &Ident) -> Option<usize>
+    ensures { result ≡ position (has_ident ident.now) rows.now.items }
 {
     rows.iter().position(|row| row.message.ident == *ident)
 }
 
-fn place_of_free(rows: &[Row], ident: &Ident) -> Option<usize>
-    ensures { result ≡ position (is_free_one ident.now) rows.now }
+fn place_of_free(rows: &VecDeque<Row>, ident: &Ident) -> Option<usize>
+    ensures { result ≡ position (is_free_one ident.now) rows.now.items }
 {
     rows.iter()
         .position(|row| row.message.ident == *ident && is_free(row))
 }
 
-fn place_of_held(rows: &[Row], ident: &Ident) -> Option<usize>
-    ensures { result ≡ position (is_held_one ident.now) rows.now }
+fn place_of_held(rows: &VecDeque<Row>, ident: &Ident) -> Option<usize>
+    ensures { result ≡ position (is_held_one ident.now) rows.now.items }
 {
     rows.iter()
         .position(|row| row.message.ident == *ident && !is_free(row))
 }
 
 /// Puts a row in at the end of its lane.
-pub fn put_row(rows: &mut Vec<Row>, row: Row)
-    requires { vec_len rows.old < vec_capacity rows.old }
+pub fn put_row(rows: &mut VecDeque<Row>, row: Row)
+    requires room { deque_len rows.old < deque_capacity rows.old }
+    requires order { AreInOrder rows.old.items }
     ensures rows { rows.new.items ≡ insert_row row rows.old.items }
-    ensures len { vec_len rows.new ≡ vec_len rows.old + 1 }
-    ensures capacity { vec_capacity rows.new ≡ vec_capacity rows.old }
+    ensures len { deque_len rows.new ≡ deque_len rows.old + 1 }
+    ensures capacity { deque_capacity rows.old ≤ deque_capacity rows.new }
 {
     let at = end_of_lane(rows, row.place.lane);
     match rows.insert(at, row) {
@@ -115,26 +109,26 @@ pub fn put_row(rows: &mut Vec<Row>, row: Row)
 }
 
 /// Takes the row with an ident out.
-pub fn take_row(rows: &mut Vec<Row>, ident: &Ident) -> Option<Row>
+pub fn take_row(rows: &mut VecDeque<Row>, ident: &Ident) -> Option<Row>
     requires { AreDistinct rows.old.items }
     ensures found { result ≡ find (has_ident ident.now) rows.old.items }
     ensures rows { rows.new.items ≡ keep (has_other_ident ident.now) rows.old.items }
-    ensures len { vec_len rows.new ≤ vec_len rows.old }
-    ensures capacity { vec_capacity rows.new ≡ vec_capacity rows.old }
+    ensures len { deque_len rows.new ≤ deque_len rows.old }
+    ensures capacity { deque_capacity rows.new ≡ deque_capacity rows.old }
 {
     match place_of(rows, ident) {
         None => None,
-        Some(at) => Some(rows.remove(at)),
+        Some(at) => rows.remove(at),
     }
 }
 
 /// Holds the free row with an ident.
-pub fn hold_one(rows: &mut Vec<Row>, ident: &Ident, by: &Holder) -> bool
+pub fn hold_one(rows: &mut VecDeque<Row>, ident: &Ident, by: &Holder) -> bool
     requires { AreDistinct rows.old.items }
     ensures held { result ≡ list_any (is_free_one ident.now) rows.old.items }
     ensures rows { rows.new.items ≡ retag (hold_row ident.now by.now) rows.old.items }
-    ensures len { vec_len rows.new ≡ vec_len rows.old }
-    ensures capacity { vec_capacity rows.new ≡ vec_capacity rows.old }
+    ensures len { deque_len rows.new ≡ deque_len rows.old }
+    ensures capacity { deque_capacity rows.new ≡ deque_capacity rows.old }
 {
     match place_of_free(rows, ident) {
         None => false,
@@ -156,12 +150,12 @@ fn free_row(row: &mut Row, backed_out: bool)
 }
 
 /// Frees the held row with an ident.
-pub fn release_one(rows: &mut Vec<Row>, ident: &Ident, backed_out: bool) -> bool
+pub fn release_one(rows: &mut VecDeque<Row>, ident: &Ident, backed_out: bool) -> bool
     requires { AreDistinct rows.old.items }
     ensures released { result ≡ list_any (is_held_one ident.now) rows.old.items }
     ensures rows { rows.new.items ≡ retag (release_row ident.now backed_out) rows.old.items }
-    ensures len { vec_len rows.new ≡ vec_len rows.old }
-    ensures capacity { vec_capacity rows.new ≡ vec_capacity rows.old }
+    ensures len { deque_len rows.new ≡ deque_len rows.old }
+    ensures capacity { deque_capacity rows.new ≡ deque_capacity rows.old }
 {
     match place_of_held(rows, ident) {
         None => false,

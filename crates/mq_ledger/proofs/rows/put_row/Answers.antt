@@ -1,7 +1,8 @@
-use Rattle.std.proofs.Common.{◌∙◌, ap, ℕ}
-use Rattle.std.specs.List.{insert}
-use Rattle.mq_queue.proofs.Edits.{insert_at_end}
+use Rattle.std.proofs.Common.{◌∙◌}
+use Rattle.mq_queue.proofs.EndLaws.{placed_at_end}
 use Rattle.mq_ledger.proofs.rows.put_row.Goals as goal
 
 pub returns : goal.returns
-returns c = c.in_ok-insert.ensures.ok ∙ ap (λ (n : ℕ). insert c.args.rows.now n c.args.row) (rw c.as_slice.ensures at c.end_of_lane-at.ensures.place) ∙ insert_at_end c.args.rows.now c.args.row
+returns c =
+    c.in_ok-insert.ensures.ok
+    ∙ placed_at_end c.args.rows.now c.args.row c.end_of_lane-at.result (rw c.as_slice.ensures at c.end_of_lane-at.ensures.within) (rw c.as_slice.ensures at c.end_of_lane-at.ensures.place)

@@ -7,16 +7,16 @@ use Rattle.mq_queue.proofs.Edits.{none_there, none_turned, some_there, some_turn
 use Rattle.mq_queue.proofs.rows.release_one.Goals as goal
 
 pub returns-in-None-clause-released : goal.returns-in-None-clause-released
-returns-in-None-clause-released c = none_there (is_held_one c.args.ident.now) c.args.rows.now.items (sym (rw c.deref.ensures.value at c.in-None.ensures))
+returns-in-None-clause-released c = none_there (is_held_one c.args.ident.now) c.args.rows.now.items (sym c.in-None.ensures)
 
 pub returns-in-None-clause-rows : goal.returns-in-None-clause-rows
-returns-in-None-clause-rows c = none_turned (is_held_one c.args.ident.now) (freed c.args.backed_out) c.args.rows.now.items (sym (rw c.deref.ensures.value at c.in-None.ensures))
+returns-in-None-clause-rows c = none_turned (is_held_one c.args.ident.now) (freed c.args.backed_out) c.args.rows.now.items (sym c.in-None.ensures)
 
 pub returns-in-Some-clause-released : goal.returns-in-Some-clause-released
-returns-in-Some-clause-released c = some_there (is_held_one c.args.ident.now) c.args.rows.now.items c.in-Some.at (sym (rw c.deref.ensures.value at c.in-Some.ensures))
+returns-in-Some-clause-released c = some_there (is_held_one c.args.ident.now) c.args.rows.now.items c.in-Some.at (sym c.in-Some.ensures)
 
 pub returns-in-Some-clause-rows : goal.returns-in-Some-clause-rows
 returns-in-Some-clause-rows c =
     ap (λ (row : Row). slice_set c.args.rows.now.items c.in-Some.at row) c.free_row.ensures
-    ∙ some_turned (is_held_one c.args.ident.now) (freed c.args.backed_out) c.args.rows.now.items c.in-Some.at c.index_mut.result.now (sym (rw c.deref.ensures.value at c.in-Some.ensures)) c.index_mut.ensures.value
+    ∙ some_turned (is_held_one c.args.ident.now) (freed c.args.backed_out) c.args.rows.now.items c.in-Some.at c.index_mut.result.now (sym c.in-Some.ensures) c.index_mut.ensures.value
     (by_ident_and c.args.ident.now (λ (row : Row). not (is_free row)) c.args.rows.now.items c.requires)
