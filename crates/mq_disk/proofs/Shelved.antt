@@ -1,5 +1,5 @@
 -- The first disk of a name and side, and what stands where one is taken.
-use Rattle.std.proofs.Common.{◌≡◌, inl, inr, ℕ, zero, suc, ◌+◌, ◌<◌, List, [], ◌∷◌, ◌++◌, length, drop, get_or, sym, ◌∙◌, ap, subst, arith}
+use Rattle.std.proofs.Common.{◌≡◌, inl, inr, ℕ, zero, suc, ◌+◌, ◌<◌, ◌≤◌, List, [], ◌∷◌, ◌++◌, length, drop, get_or, sym, ◌∙◌, ap, subst, arith}
 use Rattle.std.proofs.lemmas.List.{drop_more}
 use Rattle.std.specs.List.{remove}
 use Rattle.mq_disk.specs.declared.shelf.Side.{Side}
@@ -29,6 +29,27 @@ module _ {D : Type 0} where
   inside [] name side place first = absurd first
   inside (slot ∷ slots) name side zero first = omega arith
   inside (slot ∷ slots) name side (suc place) first = omega (arith, inside slots name side place first.1)
+
+  -- the disk at that place is of that name and side
+  pub is_at : (slots : List (Slot D)) (name : List ℕ) (side : Side) (place : ℕ) (slot : Slot D) → FirstAt slots name side place → IsOf (get_or slots place slot) name side
+  is_at [] name side place slot first = absurd first
+  is_at (s ∷ slots) name side zero slot first = first
+  is_at (s ∷ slots) name side (suc place) slot first = is_at slots name side place slot first.1
+
+  -- where the disk in front isn't of that name and side, the first of them stands behind it
+  pub behind : (slots : List (Slot D)) (k : ℕ) (slot : Slot D) (name : List ℕ) (side : Side) → get_or slots k slot ≡ slot → (IsOf slot name side → ⊥)
+      → ((j : ℕ) → FirstAt slots name side j → k ≤ j) → (j : ℕ) → FirstAt slots name side j → k + 1 ≤ j
+  behind slots k slot name side is other passed j first =
+      let not_here : j ≡ k → ⊥ = λ e. other (subst (λ (s : Slot D). IsOf s name side) is (is_at slots name side k slot (subst (λ (n : ℕ). FirstAt slots name side n) e first))) in
+      omega (arith, passed j first, not_here)
+
+  -- a disk that stands there is the first somewhere
+  pub somewhere : (seen : D → List ℕ) (slots : List (Slot D)) (name : List ℕ) (side : Side) (bytes : List ℕ) → Stands seen slots name side bytes → (place : ℕ) × FirstAt slots name side place
+  somewhere seen [] name side bytes stands = absurd stands
+  somewhere seen (s ∷ slots) name side bytes (inl stands) = (zero, stands.0)
+  somewhere seen (s ∷ slots) name side bytes (inr stands) =
+      let rest = somewhere seen slots name side bytes stands.1 in
+      (suc rest.0, (stands.0, rest.1))
 
   -- what the disk at that place has
   pub taken : (seen : D → List ℕ) (slots : List (Slot D)) (name : List ℕ) (side : Side) (place : ℕ) (slot : Slot D) → FirstAt slots name side place

@@ -2,6 +2,7 @@
 ghost use Rattle.std.specs.Prelude.{◌≡◌, ◌≤◌};
 ghost use Rattle.mq_base.specs.Outside.{raised, Rose, HasCause};
 ghost use Rattle.mq_base.specs.Memory.{is_failing};
+ghost use Rattle.mq_disk.specs.Fuse.{faults_after};
 
 use mq_base::Failed;
 
@@ -19,6 +20,7 @@ pub fn fault(faults: &mut u64) -> Failed
 pub fn noted<T>(answer: Result<T, Failed>, faults: &mut u64) -> Result<T, Failed>
     ensures same { result ≡ answer }
     ensures cause { HasCause faults.old faults.new result }
+    ensures counted { faults.new ≡ faults_after result faults.old }
 {
     match answer {
         Ok(value) => Ok(value),

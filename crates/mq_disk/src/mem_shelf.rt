@@ -1,5 +1,8 @@
 // Disks in memory by name.
-ghost use Rattle.std.specs.Prelude.{◌≡◌, ◌↔◌, ◌++◌, [], ◌∷◌, IsTrue, IfSome, OnOk, OnErr};
+ghost use Rattle.std.specs.Prelude.{◌≡◌, ◌≤◌, ◌↔◌, ◌++◌, ℕ, List, [], ◌∷◌, false, None, IsTrue, IsOk, IfSome, IfOk, OnOk, OnErr, IsErrOf};
+ghost use Rattle.mq_base.specs.Outside.{raised, Rose};
+ghost use Rattle.mq_base.specs.Memory.{is_failing};
+ghost use Rattle.mq_disk.specs.declared.shelf.Side.{Side};
 ghost use Rattle.mq_disk.specs.Shelves.{IsOf, FirstAt, Stands};
 
 use crate::counted::{fault, is_failing};
@@ -48,7 +51,8 @@ impl<D> Slot<D> {
 
 // The place of the first disk of that name and side.
 fn find<D>(slots: &[Slot<D>], name: &QName, side: Side) -> Option<usize>
-    ensures { IfSome result (λ place. FirstAt slots.now name.now side place) }
+    ensures found { IfSome result (λ place. FirstAt slots.now name.now side place) }
+    ensures nowhere { result ≡ None → (place : ℕ) → FirstAt slots.now name.now side place → ⊥ }
 {
     let mut place = 0;
     for slot in slots {
@@ -91,7 +95,16 @@ impl<D: Disk> Shelf for MemShelf<D> {
 
     ghost faults = { λ s. s.faults };
 
-    fn take(&mut self, name: &QName, side: Side) -> Result<D, TakeFault> {
+    fn take(&mut self, name: &QName, side: Side) -> Result<D, TakeFault>
+        ensures fresh { IfOk result (λ d. D.faults d ≡ 0) }
+        ensures bytes { IfOk result (λ d. (b : List ℕ) → Stands D.seen self.old.slots name.now side b → D.seen d ≡ b) }
+        ensures others { (n : List ℕ) (s : Side) (b : List ℕ) → ((n ≡ name.now) × (s ≡ side) → ⊥) → Stands D.seen self.old.slots n s b → Stands D.seen self.new.slots n s b }
+        ensures refused { OnErr result ((n : List ℕ) (s : Side) (b : List ℕ) → Stands D.seen self.old.slots n s b → Stands D.seen self.new.slots n s b) }
+        ensures later { self.old.faults ≤ self.new.faults }
+        ensures failed { IsErrOf result TakeFault.Failed → Rose self.old.faults self.new.faults }
+        ensures there { is_failing self.old.failing self.old.calls ≡ false → (b : List ℕ) → Stands D.seen self.old.slots name.now side b → IsOk result }
+        ensures counted { self.new ≡ record self.old { slots = self.new.slots; calls = raised self.old.calls; faults = self.new.faults } }
+    {
         if is_failing(&self.failing, &mut self.calls) {
             fault(&mut self.faults);
             return Err(TakeFault::Failed);

@@ -1,6 +1,6 @@
 mod Forced
 mod Framed
-mod Logs
+pub mod Logs
 mod Opened
 mod Scanned
 mod Standing

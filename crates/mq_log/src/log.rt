@@ -100,7 +100,7 @@ impl<D: Disk> Log<D> {
         self.end as u128 + 1 + self.held as u128 + bytes as u128 <= self.most as u128
     }
 
-    /// Reserves bytes of the largest length, and takes their memory.
+    /// Reserves bytes of the largest length, and takes their memory. It lacks memory only where room was missing.
     pub fn reserve(&mut self, bytes: u64) -> Result<(), LogFull>
         requires live { self.old.live ≡ true }
         ensures full { IsErrOf result LogFull.Full ↔ (self.old.max < log_length self.old.bodies + self.old.reserved + bytes) }
@@ -109,6 +109,7 @@ impl<D: Disk> Log<D> {
         ensures taken { OnOk result (self.new.reserved ≤ self.new.room) }
         ensures within { OnOk result (log_length self.new.bodies + self.new.reserved ≤ self.new.max) }
         ensures room { self.old.room ≤ self.new.room }
+        ensures memory { IsErrOf result LogFull.NoMemory → self.old.room < self.old.reserved + bytes }
     {
         if !self.fits(bytes) {
             return Err(LogFull::Full);
@@ -126,11 +127,12 @@ impl<D: Disk> Log<D> {
         self.held -= bytes;
     }
 
-    /// Takes the memory for so many bytes beside those that are reserved.
+    /// Takes the memory for so many bytes beside those that are reserved. It fails only where room was missing.
     pub fn room(&mut self, bytes: u64) -> Result<(), NoMemory>
         ensures same { self.new ≡ record self.old { room = self.new.room } }
         ensures ok { OnOk result (self.new.reserved + bytes ≤ self.new.room) }
         ensures room { self.old.room ≤ self.new.room }
+        ensures memory { OnErr result (self.old.room < self.old.reserved + bytes) }
     {
         let Some(all) = self.held.checked_add(bytes) else {
             return Err(NoMemory);
@@ -280,11 +282,12 @@ impl<D: Disk> Log<D> {
     }
 
     /// Gives the disk back. What a crash may leave of it is the log of these bodies, or of these and the one whose forced
-    /// write was stopped.
+    /// write was stopped. The calls of a log that takes more aren't stopped.
     pub fn end(self) -> Cutter<D>
         ensures images { D.tells → (c : List ℕ) → D.may_leave result.inner c → IsLogOf self.bodies self.pending c }
         ensures armed { result.armed ≡ self.armed }
         ensures faults { D.faults result.inner ≡ self.faults }
+        ensures passes { self.live ≡ true → result.stopped ≡ false }
     {
         let Log {
             disk,
