@@ -4,8 +4,8 @@ use Rattle.std.specs.Prelude.{Option, Some, None}
 use Rattle.std.proofs.Math.Seq.{drop-cons}
 use Rattle.std.proofs.Math.ListN.{drop_of_length-le}
 use Rattle.mq_sc_lex.specs.declared.token.Span.{Span}
-use Rattle.mq_sc_parse.specs.declared.verbs.Verb.{Verb}
-use Rattle.mq_sc_parse.specs.declared.attributes.Kind.{Kind}
+use Rattle.mq_sc_keys.specs.declared.verbs.Verb.{Verb}
+use Rattle.mq_sc_keys.specs.declared.attributes.Kind.{Kind}
 use Rattle.mq_sc_parse.specs.declared.splitting.Item.{Item}
 use Rattle.mq_sc_parse.specs.Checks.{is_among, repeated_from}
 

@@ -4,21 +4,21 @@ use Rattle.mq_objects.specs.declared.setting.Setting.{Setting}
 use Rattle.mq_objects.specs.declared.setting.Keyword.{Keyword}
 use Rattle.mq_objects.specs.declared.setting.Keyword.TheVariants as words
 use Rattle.mq_sc_lex.specs.declared.token.Span.{Span}
-use Rattle.mq_sc_parse.specs.declared.keys.Key.{Key}
-use Rattle.mq_sc_parse.specs.declared.keys.Key.TheVariants as keys
-use Rattle.mq_sc_parse.specs.declared.verbs.Verb.{Verb}
-use Rattle.mq_sc_parse.specs.declared.attributes.Kind.{Kind}
+use Rattle.mq_sc_keys.specs.declared.keys.Key.{Key}
+use Rattle.mq_sc_keys.specs.declared.keys.Key.TheVariants as keys
+use Rattle.mq_sc_keys.specs.declared.verbs.Verb.{Verb}
+use Rattle.mq_sc_keys.specs.declared.attributes.Kind.{Kind}
 use Rattle.mq_sc_parse.specs.declared.splitting.Item.{Item}
-use Rattle.mq_sc_parse.specs.declared.splitting.Value.{Value}
-use Rattle.mq_sc_parse.specs.declared.splitting.Value.TheVariants as values
-use Rattle.mq_sc_parse.specs.declared.giving.Given.{Given}
-use Rattle.mq_sc_parse.specs.declared.giving.Given.TheVariants as given
+use Rattle.mq_sc_keys.specs.declared.value.Value.{Value}
+use Rattle.mq_sc_keys.specs.declared.value.Value.TheVariants as values
+use Rattle.mq_sc_keys.specs.declared.giving.Given.{Given}
+use Rattle.mq_sc_keys.specs.declared.giving.Given.TheVariants as given
 use Rattle.mq_sc_parse.specs.declared.asking.Asked.{Asked}
 use Rattle.mq_sc_parse.specs.declared.asking.Asked.TheVariants as asked
 use Rattle.mq_sc_parse.specs.declared.fault.ScFault.{ScFault}
 use Rattle.mq_sc_parse.specs.declared.fault.ScFault.TheVariants as faults
-use Rattle.mq_sc_parse.specs.Attributes.{key_of}
-use Rattle.mq_sc_parse.specs.Values.{given_of}
+use Rattle.mq_sc_keys.specs.Attributes.{key_of}
+use Rattle.mq_sc_keys.specs.Values.{given_of}
 
 abbrev pub given_by : Kind → Option Key → Value → Given
 given_by kind None v = given.Bad

@@ -5,16 +5,16 @@ use Rattle.std.specs.Str.{bytes_eq}
 use Rattle.mq_objects.specs.declared.setting.ChannelType.{ChannelType}
 use Rattle.mq_objects.specs.declared.setting.ChannelType.TheVariants as types
 use Rattle.mq_sc_lex.specs.declared.token.Span.{Span}
-use Rattle.mq_sc_parse.specs.declared.keys.Key.{Key}
-use Rattle.mq_sc_parse.specs.declared.verbs.Verb.{Verb}
-use Rattle.mq_sc_parse.specs.declared.verbs.Noun.{Noun}
-use Rattle.mq_sc_parse.specs.declared.verbs.Noun.TheVariants as nouns
-use Rattle.mq_sc_parse.specs.declared.attributes.Kind.{Kind}
-use Rattle.mq_sc_parse.specs.declared.attributes.Kind.TheVariants as kinds
+use Rattle.mq_sc_keys.specs.declared.keys.Key.{Key}
+use Rattle.mq_sc_keys.specs.declared.verbs.Verb.{Verb}
+use Rattle.mq_sc_keys.specs.declared.verbs.Noun.{Noun}
+use Rattle.mq_sc_keys.specs.declared.verbs.Noun.TheVariants as nouns
+use Rattle.mq_sc_keys.specs.declared.attributes.Kind.{Kind}
+use Rattle.mq_sc_keys.specs.declared.attributes.Kind.TheVariants as kinds
 use Rattle.mq_sc_parse.specs.declared.splitting.Item.{Item}
-use Rattle.mq_sc_parse.specs.Keys.{key_text, group_of}
-use Rattle.mq_sc_parse.specs.Attributes.{key_of}
-use Rattle.mq_sc_parse.specs.Values.{choice_value, type_of}
+use Rattle.mq_sc_keys.specs.Keys.{key_text, group_of}
+use Rattle.mq_sc_keys.specs.Attributes.{key_of}
+use Rattle.mq_sc_keys.specs.Values.{choice_value, type_of}
 
 abbrev pub is_unknown : Verb → Kind → Item → Bool
 is_unknown verb kind i = is_none (key_of verb kind i.word)

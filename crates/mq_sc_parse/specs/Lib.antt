@@ -1,8 +1,4 @@
-pub mod Keys
-pub mod Verbs
 pub mod Splitting
-pub mod Attributes
-pub mod Values
 pub mod Checks
 pub mod Asking
 pub mod Parsing

@@ -13,15 +13,15 @@ use Rattle.mq_objects.specs.declared.command.Command.TheVariants as objects
 use Rattle.mq_sc_lex.specs.declared.token.Token.{Token}
 use Rattle.mq_sc_lex.specs.declared.token.Span.{Span}
 use Rattle.mq_sc_lex.specs.declared.token.Line.{Line}
-use Rattle.mq_sc_parse.specs.declared.verbs.Verb.{Verb}
-use Rattle.mq_sc_parse.specs.declared.verbs.Verb.TheVariants as verbs
-use Rattle.mq_sc_parse.specs.declared.verbs.Noun.{Noun}
-use Rattle.mq_sc_parse.specs.declared.verbs.Noun.TheVariants as nouns
-use Rattle.mq_sc_parse.specs.declared.attributes.Kind.{Kind}
-use Rattle.mq_sc_parse.specs.declared.attributes.Kind.TheVariants as kinds
+use Rattle.mq_sc_keys.specs.declared.verbs.Verb.{Verb}
+use Rattle.mq_sc_keys.specs.declared.verbs.Verb.TheVariants as verbs
+use Rattle.mq_sc_keys.specs.declared.verbs.Noun.{Noun}
+use Rattle.mq_sc_keys.specs.declared.verbs.Noun.TheVariants as nouns
+use Rattle.mq_sc_keys.specs.declared.attributes.Kind.{Kind}
+use Rattle.mq_sc_keys.specs.declared.attributes.Kind.TheVariants as kinds
 use Rattle.mq_sc_parse.specs.declared.splitting.Item.{Item}
-use Rattle.mq_sc_parse.specs.declared.splitting.Value.{Value}
-use Rattle.mq_sc_parse.specs.declared.splitting.Value.TheVariants as values
+use Rattle.mq_sc_keys.specs.declared.value.Value.{Value}
+use Rattle.mq_sc_keys.specs.declared.value.Value.TheVariants as values
 use Rattle.mq_sc_parse.specs.declared.command.Op.TheVariants as ops
 use Rattle.mq_sc_parse.specs.declared.command.Command.{Command}
 use Rattle.mq_sc_parse.specs.declared.command.Command.TheVariants as commands
@@ -29,9 +29,9 @@ use Rattle.mq_sc_parse.specs.declared.fault.ScFault.{ScFault}
 use Rattle.mq_sc_parse.specs.declared.fault.ScFault.TheVariants as faults
 use Rattle.mq_sc_parse.specs.declared.naming.Named.{Named}
 use Rattle.mq_sc_parse.specs.declared.naming.Pattern.{Pattern}
-use Rattle.mq_sc_parse.specs.Verbs.{verb_of, object_of}
+use Rattle.mq_sc_keys.specs.Verbs.{verb_of, object_of}
 use Rattle.mq_sc_parse.specs.Splitting.{word_of_kind, value_at, value_len, items_of}
-use Rattle.mq_sc_parse.specs.Values.{are_blanks, name_or_none, number_value, choice_value}
+use Rattle.mq_sc_keys.specs.Values.{are_blanks, name_or_none, number_value, choice_value}
 use Rattle.mq_sc_parse.specs.Checks.{first_unknown, first_repeated, has_word, kind_of, lacks}
 use Rattle.mq_sc_parse.specs.Asking.{settings_of, asked_of}
 

@@ -4,8 +4,8 @@ use Rattle.std.specs.List.{position_or_len}
 use Rattle.mq_sc_lex.specs.declared.token.Token.{Token}
 use Rattle.mq_sc_lex.specs.declared.token.TokenKind.{TokenKind}
 use Rattle.mq_sc_lex.specs.declared.token.TokenKind.TheVariants as tokens
-use Rattle.mq_sc_parse.specs.declared.splitting.Value.{Value}
-use Rattle.mq_sc_parse.specs.declared.splitting.Value.TheVariants as values
+use Rattle.mq_sc_keys.specs.declared.value.Value.{Value}
+use Rattle.mq_sc_keys.specs.declared.value.Value.TheVariants as values
 use Rattle.mq_sc_parse.specs.declared.splitting.Item.{Item}
 
 abbrev pub is_open_kind : TokenKind → Bool

@@ -3,10 +3,10 @@ use Rattle.std.specs.Prelude.{◌≡◌, Bool, true, false, Option, Some, None, 
 use Rattle.std.specs.List.{list_all}
 use Rattle.mq_objects.specs.declared.setting.Keyword.{Keyword}
 use Rattle.mq_objects.specs.Attributes.{Attribute, same_keyword}
-use Rattle.mq_sc_parse.specs.declared.keys.Key.{Key}
-use Rattle.mq_sc_parse.specs.declared.verbs.Verb.TheVariants as verbs
-use Rattle.mq_sc_parse.specs.declared.attributes.Kind.{Kind}
-use Rattle.mq_sc_parse.specs.Attributes.{key_of}
+use Rattle.mq_sc_keys.specs.declared.keys.Key.{Key}
+use Rattle.mq_sc_keys.specs.declared.verbs.Verb.TheVariants as verbs
+use Rattle.mq_sc_keys.specs.declared.attributes.Kind.{Kind}
+use Rattle.mq_sc_keys.specs.Attributes.{key_of}
 use Rattle.mq_sc_parse.specs.Asking.{keyword_of}
 
 abbrev pub means : Keyword → Option Key → Bool

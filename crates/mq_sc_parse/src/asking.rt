@@ -1,14 +1,11 @@
 ghost use Rattle.std.specs.Prelude.{◌≡◌, IfOk};
 ghost use Rattle.mq_sc_parse.specs.Asking.{given_item, settings_of, keyword_of, asked_key, asked_item, asked_of, Gives};
 
-use crate::attributes::{Kind, key_of};
 use crate::fault::ScFault;
-use crate::giving::{Given, given_of};
-use crate::keys::Key;
-use crate::splitting::{Item, Value};
-use crate::verbs::Verb;
+use crate::splitting::Item;
 use mq_base::Items;
 use mq_objects::{Keyword, Setting};
+use mq_sc_keys::{Given, Key, Kind, Value, Verb, given_of, key_of};
 use std::alloc::{AllocError, Global};
 
 /// What a keyword of DISPLAY asks.

@@ -3,11 +3,9 @@ ghost use Rattle.std.specs.List.{list_any};
 ghost use Rattle.std.specs.Str.{bytes_eq};
 ghost use Rattle.mq_sc_parse.specs.Checks.{is_unknown, first_unknown, item_group, is_among, first_repeated, has_word, item_of, kind_of_type, type_of_item, channel_kind, kind_of, lacks};
 
-use crate::attributes::{Kind, key_of};
 use crate::splitting::Item;
-use crate::values::type_value;
-use crate::verbs::{Noun, Verb};
 use mq_objects::ChannelType;
+use mq_sc_keys::{Kind, Noun, Verb, key_of, type_value};
 use mq_sc_lex::Span;
 
 fn is_unknown(verb: Verb, kind: Kind, item: &Item) -> bool

@@ -2,18 +2,13 @@
 #![tactic(auto)]
 
 mod asking;
-mod attributes;
 mod checks;
 mod command;
 mod fault;
-mod giving;
-mod keys;
 mod naming;
 mod parsing;
 mod splitting;
 mod tables;
-mod values;
-mod verbs;
 
 pub use command::{Command, Op};
 pub use fault::ScFault;

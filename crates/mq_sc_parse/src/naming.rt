@@ -1,16 +1,15 @@
 ghost use Rattle.std.specs.Prelude.{◌≡◌, ◌-◌, length, slice_get, IfOk};
 ghost use Rattle.std.specs.Option.{option_map};
-ghost use Rattle.mq_sc_parse.specs.declared.splitting.Value.TheVariants.{Text};
+ghost use Rattle.mq_sc_keys.specs.declared.value.Value.TheVariants.{Text};
 ghost use Rattle.mq_sc_parse.specs.Asking.{Gives};
 ghost use Rattle.mq_sc_parse.specs.Parsing.{some_or, named_as, value_span, has_name, named_at, channel_name, queue_name, subject_of, subjects_of, is_star, pattern_of, prefix_of, is_prefix, channel_of};
 
 use crate::fault::ScFault;
-use crate::splitting::{Value, value_at, value_len};
-use crate::values::are_blanks;
-use crate::verbs::Noun;
+use crate::splitting::{value_at, value_len};
 use mq_base::Items;
 use mq_name::{ChName, QName};
 use mq_objects::{Subject, Subjects};
+use mq_sc_keys::{Noun, Value, are_blanks};
 use mq_sc_lex::{Span, Token};
 use std::alloc::{AllocError, Global};
 

@@ -3,7 +3,6 @@ ghost use Rattle.mq_sc_parse.specs.Asking.{Gives};
 ghost use Rattle.mq_sc_parse.specs.Parsing.{first_span, second_span, last_span, first_word, second_word, behind, fault_of, asked_or_all, define_of, alter_manager_of, alter_object_of, alter_of, delete_of, show_objects, show_status, status_named, show_named, display_named, display_of, is_status, start_of, stop_of, number_of, reset_of, settle_of, resolve_of, command_of, checked_command, parse_of};
 
 use crate::asking::{asked_of, settings_of};
-use crate::attributes::Kind;
 use crate::checks::{first_repeated, first_unknown, has_word, kind_of, lacks};
 use crate::command::{Command, Op};
 use crate::fault::ScFault;
@@ -12,10 +11,9 @@ use crate::naming::{
     subjects_of,
 };
 use crate::splitting::{Item, items_of, word_of};
-use crate::values::{choice_value, number_value};
-use crate::verbs::{Noun, Verb, object_of, verb_of};
 use mq_base::Items;
 use mq_objects::{Alter, AlterManager, Define, Delete, Display, Keyword};
+use mq_sc_keys::{Kind, Noun, Verb, choice_value, number_value, object_of, verb_of};
 use mq_sc_lex::{Line, Span, Token};
 use mq_sync::Settle;
 use std::alloc::Global;

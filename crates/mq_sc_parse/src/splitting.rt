@@ -1,21 +1,12 @@
 ghost use Rattle.std.specs.Prelude.{◌≡◌, ◌+◌, ◌≤◌, position, length, IfOk, if◌then◌else◌};
 ghost use Rattle.std.specs.List.{position_or_len};
-ghost use Rattle.mq_sc_parse.specs.declared.splitting.Value.TheVariants.{Text, Absent};
+ghost use Rattle.mq_sc_keys.specs.declared.value.Value.TheVariants.{Text, Absent};
 ghost use Rattle.mq_sc_parse.specs.Splitting.{is_open_kind, is_close_kind, is_word_kind, is_open, is_close, word_of_kind, text_value, bracketed, value_at, value_len, item_at, item_len, items_of};
 
 use mq_base::Items;
+use mq_sc_keys::Value;
 use mq_sc_lex::{Span, Token, TokenKind};
 use std::alloc::{AllocError, Global};
-
-/// What stands in brackets behind a keyword.
-#[derive(Drop)]
-pub enum Value {
-    Absent,
-    /// One word or one quoted text.
-    Text(Items<u8>),
-    /// Not one value in a pair of brackets.
-    Malformed,
-}
 
 /// A keyword of a command, as it is written, and its value. A token that can't be a keyword has no word.
 #[derive(Drop)]

@@ -6,7 +6,7 @@ ghost use Rattle.mq_objects.specs.declared.object.Process.{Process};
 ghost use Rattle.mq_objects.specs.declared.object.ManagerAttributes.{ManagerAttributes};
 ghost use Rattle.mq_objects.specs.declared.object.ChannelKind.TheVariants as channels;
 ghost use Rattle.mq_objects.specs.Attributes.{local_attributes, alias_attributes, remote_attributes, channel_attributes, process_attributes, manager_attributes};
-ghost use Rattle.mq_sc_parse.specs.declared.attributes.Kind.TheVariants as kinds;
+ghost use Rattle.mq_sc_keys.specs.declared.attributes.Kind.TheVariants as kinds;
 ghost use Rattle.mq_sc_parse.specs.Tables.{AllKnown};
 
 /// Each attribute that DISPLAY shows is known by its word where an object of that kind is defined.

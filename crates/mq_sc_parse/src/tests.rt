@@ -80,7 +80,7 @@ fn the_refusals_come_in_order(rt: HostRuntime) {
 }
 
 #[test]
-fn values_within_their_ranges(rt: HostRuntime) {
+fn commands_of_each_kind_are_read(rt: HostRuntime) {
     let good = [
         "def ql(a) defprty(0) defpsist(no) get(enabled) initq(' ') maxdepth(0) maxmsgl(0) msgdlvsq(fifo) put(disabled)",
         "def ql(a) defprty(9) defpsist(yes) get(disabled) initq(i) maxdepth(999999999) maxmsgl(4194304) msgdlvsq(priority)",
@@ -105,6 +105,10 @@ fn values_within_their_ranges(rt: HostRuntime) {
         "resolve channel(c) action(backout)",
     ];
     all_answer(&rt, rt.alloc(), &good, "OK");
+}
+
+#[test]
+fn values_out_of_their_ranges_are_bad(rt: HostRuntime) {
     let bad = [
         "def ql(a) maxdepth(1000000000)",
         "def ql(a) maxmsgl(4194305)",
@@ -128,6 +132,10 @@ fn values_within_their_ranges(rt: HostRuntime) {
         "resolve channel(c) action(undo)",
     ];
     all_answer(&rt, rt.alloc(), &bad, "BadValue");
+}
+
+#[test]
+fn keywords_belong_to_verbs_and_objects(rt: HostRuntime) {
     let unknown = [
         "def ql(a) target(q)",
         "def qa(a) usage(normal)",
@@ -139,6 +147,10 @@ fn values_within_their_ranges(rt: HostRuntime) {
         "start chl(c) seqnum(1)",
     ];
     all_answer(&rt, rt.alloc(), &unknown, "UnknownKeyword");
+}
+
+#[test]
+fn opposites_and_synonyms_repeat(rt: HostRuntime) {
     let repeated = [
         "def ql(a) trigger notrigger",
         "def ql(a) share noshare",

@@ -1,9 +1,9 @@
 use Rattle.std.proofs.Common.{◌≡◌, Bool, true, false, refl}
 use Rattle.mq_objects.specs.declared.setting.Keyword.TheVariants as keywords
 use Rattle.mq_objects.specs.Attributes.{flag_of, trigger_flag}
-use Rattle.mq_sc_parse.specs.declared.attributes.Kind.TheVariants as kinds
-use Rattle.mq_sc_parse.specs.Keys.{key_in}
-use Rattle.mq_sc_parse.specs.Attributes.{key_of}
+use Rattle.mq_sc_keys.specs.declared.attributes.Kind.TheVariants as kinds
+use Rattle.mq_sc_keys.specs.Keys.{key_in}
+use Rattle.mq_sc_keys.specs.Attributes.{key_of}
 use Rattle.mq_sc_parse.specs.Tables.{is_known}
 use Rattle.mq_sc_parse.proofs.tables.shown_attributes_are_known.Goals as goal
 

@@ -1,12 +1,12 @@
 -- Which keywords a command may have, by its verb and its object.
 use Rattle.std.specs.Prelude.{ℕ, List, [], Option, Some, None}
-use Rattle.mq_sc_parse.specs.declared.keys.Key.{Key}
-use Rattle.mq_sc_parse.specs.declared.keys.TheConstants.{LOCAL, ALIAS, REMOTE, SENDER, RECEIVER, CHANNEL, PROCESS, MANAGER, QUEUE, DEFINE_OPTIONS, ALTER_OPTIONS, QUEUE_SHOWN, MANAGER_SHOWN, SHOWN, RESET_KEYS, RESOLVE_KEYS}
-use Rattle.mq_sc_parse.specs.declared.attributes.Kind.{Kind}
-use Rattle.mq_sc_parse.specs.declared.attributes.Kind.TheVariants as kinds
-use Rattle.mq_sc_parse.specs.declared.verbs.Verb.{Verb}
-use Rattle.mq_sc_parse.specs.declared.verbs.Verb.TheVariants as verbs
-use Rattle.mq_sc_parse.specs.Keys.{key_in}
+use Rattle.mq_sc_keys.specs.declared.keys.Key.{Key}
+use Rattle.mq_sc_keys.specs.declared.keys.TheConstants.{LOCAL, ALIAS, REMOTE, SENDER, RECEIVER, CHANNEL, PROCESS, MANAGER, QUEUE, DEFINE_OPTIONS, ALTER_OPTIONS, QUEUE_SHOWN, MANAGER_SHOWN, SHOWN, RESET_KEYS, RESOLVE_KEYS}
+use Rattle.mq_sc_keys.specs.declared.attributes.Kind.{Kind}
+use Rattle.mq_sc_keys.specs.declared.attributes.Kind.TheVariants as kinds
+use Rattle.mq_sc_keys.specs.declared.verbs.Verb.{Verb}
+use Rattle.mq_sc_keys.specs.declared.verbs.Verb.TheVariants as verbs
+use Rattle.mq_sc_keys.specs.Keys.{key_in}
 
 abbrev pub attributes_of : Kind → List Key
 attributes_of kinds.Local = LOCAL

@@ -16,15 +16,15 @@ use Rattle.mq_objects.specs.declared.setting.ChannelType.{ChannelType}
 use Rattle.mq_objects.specs.declared.setting.ChannelType.TheVariants as types
 use Rattle.mq_objects.specs.declared.setting.Setting.{Setting}
 use Rattle.mq_objects.specs.declared.setting.Setting.TheVariants as settings
-use Rattle.mq_sc_parse.specs.declared.keys.Key.{Key}
-use Rattle.mq_sc_parse.specs.declared.keys.Key.TheVariants as keys
-use Rattle.mq_sc_parse.specs.declared.splitting.Value.{Value}
-use Rattle.mq_sc_parse.specs.declared.splitting.Value.TheVariants as values
-use Rattle.mq_sc_parse.specs.declared.giving.Given.{Given}
-use Rattle.mq_sc_parse.specs.declared.giving.Given.TheVariants as given
-use Rattle.mq_sc_parse.specs.declared.attributes.Kind.{Kind}
-use Rattle.mq_sc_parse.specs.declared.attributes.Kind.TheVariants as kinds
-use Rattle.mq_sc_parse.specs.Keys.{key_text, group_of}
+use Rattle.mq_sc_keys.specs.declared.keys.Key.{Key}
+use Rattle.mq_sc_keys.specs.declared.keys.Key.TheVariants as keys
+use Rattle.mq_sc_keys.specs.declared.value.Value.{Value}
+use Rattle.mq_sc_keys.specs.declared.value.Value.TheVariants as values
+use Rattle.mq_sc_keys.specs.declared.giving.Given.{Given}
+use Rattle.mq_sc_keys.specs.declared.giving.Given.TheVariants as given
+use Rattle.mq_sc_keys.specs.declared.attributes.Kind.{Kind}
+use Rattle.mq_sc_keys.specs.declared.attributes.Kind.TheVariants as kinds
+use Rattle.mq_sc_keys.specs.Keys.{key_text, group_of}
 
 abbrev pub number_or_none : Result ℕ NumberFault → Option ℕ
 number_or_none (Ok n) = Some n
@@ -140,6 +140,50 @@ length_given kinds.Sender v = kept_value keys.MaxMsgL v
 length_given kinds.Receiver v = kept_value keys.MaxMsgL v
 length_given _ v = set_to settings.MaxMessageLength (number_value 0 4194304 v)
 
+-- what an attribute without effect gives, or an option: DEFINE and ALTER know no other
+abbrev pub given_without_effect : Key → Value → Given
+given_without_effect keys.Descr v = kept_value keys.Descr v
+given_without_effect keys.Share v = kept_flag keys.Share v
+given_without_effect keys.NoShare v = kept_flag keys.NoShare v
+given_without_effect keys.DefSOpt v = kept_value keys.DefSOpt v
+given_without_effect keys.BoThresh v = kept_value keys.BoThresh v
+given_without_effect keys.BoQName v = kept_value keys.BoQName v
+given_without_effect keys.HardenBo v = kept_flag keys.HardenBo v
+given_without_effect keys.NoHardenBo v = kept_flag keys.NoHardenBo v
+given_without_effect keys.QDepthHi v = kept_value keys.QDepthHi v
+given_without_effect keys.QDepthLo v = kept_value keys.QDepthLo v
+given_without_effect keys.ConName v = kept_value keys.ConName v
+given_without_effect keys.TrpType v = kept_value keys.TrpType v
+given_without_effect keys.DiscInt v = kept_value keys.DiscInt v
+given_without_effect keys.HbInt v = kept_value keys.HbInt v
+given_without_effect keys.BatchInt v = kept_value keys.BatchInt v
+given_without_effect keys.LongRty v = kept_value keys.LongRty v
+given_without_effect keys.LongTmr v = kept_value keys.LongTmr v
+given_without_effect keys.ShortTmr v = kept_value keys.ShortTmr v
+given_without_effect keys.Replace v = alone given.Nothing v
+given_without_effect keys.NoReplace v = alone given.Nothing v
+given_without_effect keys.Force v = alone given.Nothing v
+given_without_effect _ v = given.Bad
+
+-- what an attribute of channels, processes and the manager gives
+abbrev pub given_beside_queues : Key → Value → Given
+given_beside_queues keys.ChlType v = set_to settings.ChannelType (type_of (choice_value (codes "SDR") (codes "RCVR") v))
+given_beside_queues keys.BatchSz v = set_to settings.BatchSize (number_value 1 9999 v)
+given_beside_queues keys.SeqWrap v = set_to settings.SequenceWrap (number_value 100 999999999 v)
+given_beside_queues keys.ShortRty v = set_to settings.ShortRetry (number_value 0 999999999 v)
+given_beside_queues keys.UseDlq v = set_to settings.UseDeadLetterQueue (yes_or_no v)
+given_beside_queues keys.NpmSpeed v = set_to settings.Fast (choice_value (codes "FAST") (codes "NORMAL") v)
+given_beside_queues keys.ApplicId v = set_to settings.ApplId (text_value 256 v)
+given_beside_queues keys.ApplType v = set_to settings.ApplType (appl_type_value v)
+given_beside_queues keys.EnvrData v = set_to settings.EnvironmentData (text_value 128 v)
+given_beside_queues keys.UserData v = set_to settings.UserData (text_value 128 v)
+given_beside_queues keys.DeadQ v = set_to settings.DeadLetterQueue (name_value v)
+given_beside_queues keys.DefXmitQ v = set_to settings.DefaultTransmissionQueue (name_value v)
+given_beside_queues keys.MaxHands v = set_to settings.MaxHandles (number_value 0 999999999 v)
+given_beside_queues keys.MaxUMsgs v = set_to settings.MaxUncommitted (number_value 1 999999999 v)
+given_beside_queues keys.TrigInt v = set_to settings.TriggerInterval (number_value 0 999999999 v)
+given_beside_queues key v = given_without_effect key v
+
 -- what a keyword of DEFINE or ALTER gives
 abbrev pub given_of : Kind → Key → Value → Given
 given_of kind keys.DefPrty v = set_to settings.DefaultPriority (number_value 0 9 v)
@@ -163,44 +207,4 @@ given_of kind keys.TargQ v = set_to settings.Target (name_value v)
 given_of kind keys.RName v = set_to settings.RemoteName (name_value v)
 given_of kind keys.RQMName v = set_to settings.RemoteManager (name_value v)
 given_of kind keys.XmitQ v = set_to settings.TransmissionQueue (name_value v)
-given_of kind keys.ChlType v = set_to settings.ChannelType (type_of (choice_value (codes "SDR") (codes "RCVR") v))
-given_of kind keys.BatchSz v = set_to settings.BatchSize (number_value 1 9999 v)
-given_of kind keys.SeqWrap v = set_to settings.SequenceWrap (number_value 100 999999999 v)
-given_of kind keys.ShortRty v = set_to settings.ShortRetry (number_value 0 999999999 v)
-given_of kind keys.UseDlq v = set_to settings.UseDeadLetterQueue (yes_or_no v)
-given_of kind keys.NpmSpeed v = set_to settings.Fast (choice_value (codes "FAST") (codes "NORMAL") v)
-given_of kind keys.ApplicId v = set_to settings.ApplId (text_value 256 v)
-given_of kind keys.ApplType v = set_to settings.ApplType (appl_type_value v)
-given_of kind keys.EnvrData v = set_to settings.EnvironmentData (text_value 128 v)
-given_of kind keys.UserData v = set_to settings.UserData (text_value 128 v)
-given_of kind keys.DeadQ v = set_to settings.DeadLetterQueue (name_value v)
-given_of kind keys.DefXmitQ v = set_to settings.DefaultTransmissionQueue (name_value v)
-given_of kind keys.MaxHands v = set_to settings.MaxHandles (number_value 0 999999999 v)
-given_of kind keys.MaxUMsgs v = set_to settings.MaxUncommitted (number_value 1 999999999 v)
-given_of kind keys.TrigInt v = set_to settings.TriggerInterval (number_value 0 999999999 v)
-given_of kind keys.MaxPrty v = given.Bad
-given_of kind keys.CurDepth v = given.Bad
-given_of kind keys.Descr v = kept_value keys.Descr v
-given_of kind keys.Share v = kept_flag keys.Share v
-given_of kind keys.NoShare v = kept_flag keys.NoShare v
-given_of kind keys.DefSOpt v = kept_value keys.DefSOpt v
-given_of kind keys.BoThresh v = kept_value keys.BoThresh v
-given_of kind keys.BoQName v = kept_value keys.BoQName v
-given_of kind keys.HardenBo v = kept_flag keys.HardenBo v
-given_of kind keys.NoHardenBo v = kept_flag keys.NoHardenBo v
-given_of kind keys.QDepthHi v = kept_value keys.QDepthHi v
-given_of kind keys.QDepthLo v = kept_value keys.QDepthLo v
-given_of kind keys.ConName v = kept_value keys.ConName v
-given_of kind keys.TrpType v = kept_value keys.TrpType v
-given_of kind keys.DiscInt v = kept_value keys.DiscInt v
-given_of kind keys.HbInt v = kept_value keys.HbInt v
-given_of kind keys.BatchInt v = kept_value keys.BatchInt v
-given_of kind keys.LongRty v = kept_value keys.LongRty v
-given_of kind keys.LongTmr v = kept_value keys.LongTmr v
-given_of kind keys.ShortTmr v = kept_value keys.ShortTmr v
-given_of kind keys.Replace v = alone given.Nothing v
-given_of kind keys.NoReplace v = alone given.Nothing v
-given_of kind keys.Force v = alone given.Nothing v
-given_of kind keys.All v = given.Bad
-given_of kind keys.SeqNum v = given.Bad
-given_of kind keys.Action v = given.Bad
+given_of kind key v = given_beside_queues key v

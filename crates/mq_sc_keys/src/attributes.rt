@@ -1,5 +1,5 @@
 ghost use Rattle.std.specs.Prelude.{◌≡◌};
-ghost use Rattle.mq_sc_parse.specs.Attributes.{attributes_of, shown_of, options_of, named_by, key_of};
+ghost use Rattle.mq_sc_keys.specs.Attributes.{attributes_of, shown_of, options_of, named_by, key_of};
 
 use crate::keys::{
     ALIAS, ALTER_OPTIONS, CHANNEL, DEFINE_OPTIONS, Key, LOCAL, MANAGER, MANAGER_SHOWN, PROCESS,

@@ -1,6 +1,6 @@
 ghost use Rattle.std.specs.Prelude.{◌≡◌, find};
 ghost use Rattle.std.specs.Str.{bytes_eq};
-ghost use Rattle.mq_sc_parse.specs.Keys.{key_text, group_of, key_in};
+ghost use Rattle.mq_sc_keys.specs.Keys.{key_text, text_beside_queues, text_without_effect, group_of, key_in};
 
 /// A keyword of a command behind its object. Source: MQSC reference, DEFINE, ALTER and DISPLAY of
 /// queues, channels, processes and the queue manager.
@@ -236,18 +236,25 @@ pub const QUEUE: [Key; 31] = [
     Key::QDepthLo,
 ];
 
+/// What DEFINE knows beside the attributes.
 pub const DEFINE_OPTIONS: [Key; 2] = [Key::Replace, Key::NoReplace];
 
+/// What ALTER knows beside the attributes.
 pub const ALTER_OPTIONS: [Key; 1] = [Key::Force];
 
+/// What DISPLAY of queues knows beside the attributes.
 pub const QUEUE_SHOWN: [Key; 2] = [Key::All, Key::CurDepth];
 
+/// What DISPLAY QMGR knows beside the attributes.
 pub const MANAGER_SHOWN: [Key; 2] = [Key::All, Key::MaxPrty];
 
+/// What every other DISPLAY knows beside the attributes.
 pub const SHOWN: [Key; 1] = [Key::All];
 
+/// What RESET knows.
 pub const RESET_KEYS: [Key; 1] = [Key::SeqNum];
 
+/// What RESOLVE knows.
 pub const RESOLVE_KEYS: [Key; 1] = [Key::Action];
 
 impl Key {
@@ -277,6 +284,15 @@ impl Key {
             Key::RName => b"RNAME",
             Key::RQMName => b"RQMNAME",
             Key::XmitQ => b"XMITQ",
+            other => other.text_beside_queues(),
+        }
+    }
+
+    /// An attribute of channels, processes and the manager, or what only DISPLAY shows.
+    fn text_beside_queues(self) -> &'static [u8]
+        ensures { result.now ≡ text_beside_queues self }
+    {
+        match self {
             Key::ChlType => b"CHLTYPE",
             Key::BatchSz => b"BATCHSZ",
             Key::SeqWrap => b"SEQWRAP",
@@ -294,6 +310,15 @@ impl Key {
             Key::TrigInt => b"TRIGINT",
             Key::MaxPrty => b"MAXPRTY",
             Key::CurDepth => b"CURDEPTH",
+            other => other.text_without_effect(),
+        }
+    }
+
+    /// An attribute without effect, or an option of a command.
+    fn text_without_effect(self) -> &'static [u8]
+        ensures { result.now ≡ text_without_effect self }
+    {
+        match self {
             Key::Descr => b"DESCR",
             Key::Share => b"SHARE",
             Key::NoShare => b"NOSHARE",
@@ -318,6 +343,7 @@ impl Key {
             Key::All => b"ALL",
             Key::SeqNum => b"SEQNUM",
             Key::Action => b"ACTION",
+            _ => b"",
         }
     }
 

@@ -1,11 +1,11 @@
 ghost use Rattle.std.specs.Prelude.{◌≡◌, IfOk};
 ghost use Rattle.mq_objects.specs.declared.setting.Setting.TheVariants as settings;
-ghost use Rattle.mq_sc_parse.specs.declared.giving.Given.TheVariants as given;
-ghost use Rattle.mq_sc_parse.specs.Values.{is_absent, alone, kept_value, kept_flag, length_given, given_of};
+ghost use Rattle.mq_sc_keys.specs.declared.giving.Given.TheVariants as given;
+ghost use Rattle.mq_sc_keys.specs.Values.{is_absent, alone, kept_value, kept_flag, length_given, given_without_effect, given_beside_queues, given_of};
 
 use crate::attributes::Kind;
 use crate::keys::Key;
-use crate::splitting::Value;
+use crate::value::Value;
 use crate::values::{
     appl_type_value, choice_value, delivery_value, enabled_or_not, name_value, number_value,
     priority_value, text_value, trigger_type_value, type_value, usage_value, yes_or_no,
@@ -98,6 +98,58 @@ fn length_given(alloc: Global, kind: Kind, value: &Value) -> Result<Given, Alloc
     }
 }
 
+/// What an attribute without effect gives, or an option.
+fn given_without_effect(alloc: Global, key: Key, value: &Value) -> Result<Given, AllocError>
+    ensures { IfOk result (λ g. g ≡ given_without_effect key value.now) }
+{
+    match key {
+        Key::Share | Key::NoShare | Key::HardenBo | Key::NoHardenBo => kept_flag(alloc, key, value),
+        Key::Descr
+        | Key::DefSOpt
+        | Key::BoThresh
+        | Key::BoQName
+        | Key::QDepthHi
+        | Key::QDepthLo
+        | Key::ConName
+        | Key::TrpType
+        | Key::DiscInt
+        | Key::HbInt
+        | Key::BatchInt
+        | Key::LongRty
+        | Key::LongTmr
+        | Key::ShortTmr => kept_value(alloc, key, value),
+        Key::Replace | Key::NoReplace | Key::Force => Ok(option_flag(value)),
+        _ => Ok(Given::Bad),
+    }
+}
+
+/// What an attribute gives that is none of queues, or an option.
+fn given_beside_queues(alloc: Global, key: Key, value: &Value) -> Result<Given, AllocError>
+    ensures { IfOk result (λ g. g ≡ given_beside_queues key value.now) }
+{
+    match key {
+        Key::ChlType => set!(type_value(value), Setting::ChannelType),
+        Key::BatchSz => set!(number_value(value, 1, 9999), Setting::BatchSize),
+        Key::SeqWrap => set!(number_value(value, 100, 999_999_999), Setting::SequenceWrap),
+        Key::ShortRty => set!(number_value(value, 0, 999_999_999), Setting::ShortRetry),
+        Key::UseDlq => set!(yes_or_no(value), Setting::UseDeadLetterQueue),
+        Key::NpmSpeed => set!(choice_value(value, b"FAST", b"NORMAL"), Setting::Fast),
+        Key::ApplicId => set!(text_value(alloc, value, 256)?, Setting::ApplId),
+        Key::ApplType => set!(appl_type_value(value), Setting::ApplType),
+        Key::EnvrData => set!(text_value(alloc, value, 128)?, Setting::EnvironmentData),
+        Key::UserData => set!(text_value(alloc, value, 128)?, Setting::UserData),
+        Key::DeadQ => set!(name_value(value), Setting::DeadLetterQueue),
+        Key::DefXmitQ => set!(name_value(value), Setting::DefaultTransmissionQueue),
+        Key::MaxHands => set!(number_value(value, 0, 999_999_999), Setting::MaxHandles),
+        Key::MaxUMsgs => set!(number_value(value, 1, 999_999_999), Setting::MaxUncommitted),
+        Key::TrigInt => set!(
+            number_value(value, 0, 999_999_999),
+            Setting::TriggerInterval
+        ),
+        other => given_without_effect(alloc, other, value),
+    }
+}
+
 /// What a keyword gives with its value.
 pub fn given_of(alloc: Global, kind: Kind, key: Key, value: &Value) -> Result<Given, AllocError>
     ensures { IfOk result (λ g. g ≡ given_of kind key value.now) }
@@ -123,40 +175,6 @@ pub fn given_of(alloc: Global, kind: Kind, key: Key, value: &Value) -> Result<Gi
         Key::RName => set!(name_value(value), Setting::RemoteName),
         Key::RQMName => set!(name_value(value), Setting::RemoteManager),
         Key::XmitQ => set!(name_value(value), Setting::TransmissionQueue),
-        Key::ChlType => set!(type_value(value), Setting::ChannelType),
-        Key::BatchSz => set!(number_value(value, 1, 9999), Setting::BatchSize),
-        Key::SeqWrap => set!(number_value(value, 100, 999_999_999), Setting::SequenceWrap),
-        Key::ShortRty => set!(number_value(value, 0, 999_999_999), Setting::ShortRetry),
-        Key::UseDlq => set!(yes_or_no(value), Setting::UseDeadLetterQueue),
-        Key::NpmSpeed => set!(choice_value(value, b"FAST", b"NORMAL"), Setting::Fast),
-        Key::ApplicId => set!(text_value(alloc, value, 256)?, Setting::ApplId),
-        Key::ApplType => set!(appl_type_value(value), Setting::ApplType),
-        Key::EnvrData => set!(text_value(alloc, value, 128)?, Setting::EnvironmentData),
-        Key::UserData => set!(text_value(alloc, value, 128)?, Setting::UserData),
-        Key::DeadQ => set!(name_value(value), Setting::DeadLetterQueue),
-        Key::DefXmitQ => set!(name_value(value), Setting::DefaultTransmissionQueue),
-        Key::MaxHands => set!(number_value(value, 0, 999_999_999), Setting::MaxHandles),
-        Key::MaxUMsgs => set!(number_value(value, 1, 999_999_999), Setting::MaxUncommitted),
-        Key::TrigInt => set!(
-            number_value(value, 0, 999_999_999),
-            Setting::TriggerInterval
-        ),
-        Key::Share | Key::NoShare | Key::HardenBo | Key::NoHardenBo => kept_flag(alloc, key, value),
-        Key::Replace | Key::NoReplace | Key::Force => Ok(option_flag(value)),
-        Key::MaxPrty | Key::CurDepth | Key::All | Key::SeqNum | Key::Action => Ok(Given::Bad),
-        Key::Descr
-        | Key::DefSOpt
-        | Key::BoThresh
-        | Key::BoQName
-        | Key::QDepthHi
-        | Key::QDepthLo
-        | Key::ConName
-        | Key::TrpType
-        | Key::DiscInt
-        | Key::HbInt
-        | Key::BatchInt
-        | Key::LongRty
-        | Key::LongTmr
-        | Key::ShortTmr => kept_value(alloc, key, value),
+        other => given_beside_queues(alloc, other, value),
     }
 }

@@ -1,11 +1,11 @@
 -- Verbs and objects of commands.
 use Rattle.std.specs.Prelude.{ℕ, Bool, true, false, ◌&&◌, ◌||◌, List, Option, codes, find}
 use Rattle.std.specs.Str.{bytes_eq}
-use Rattle.mq_sc_parse.specs.declared.verbs.Verb.{Verb}
-use Rattle.mq_sc_parse.specs.declared.verbs.Verb.TheVariants as verbs
-use Rattle.mq_sc_parse.specs.declared.verbs.Noun.{Noun}
-use Rattle.mq_sc_parse.specs.declared.verbs.Noun.TheVariants as nouns
-use Rattle.mq_sc_parse.specs.declared.verbs.TheConstants.{VERBS, NOUNS}
+use Rattle.mq_sc_keys.specs.declared.verbs.Verb.{Verb}
+use Rattle.mq_sc_keys.specs.declared.verbs.Verb.TheVariants as verbs
+use Rattle.mq_sc_keys.specs.declared.verbs.Noun.{Noun}
+use Rattle.mq_sc_keys.specs.declared.verbs.Noun.TheVariants as nouns
+use Rattle.mq_sc_keys.specs.declared.verbs.TheConstants.{VERBS, NOUNS}
 
 abbrev pub verb_text : Verb → List ℕ
 verb_text verbs.Define = codes "DEFINE"

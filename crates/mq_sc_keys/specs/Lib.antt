@@ -1,0 +1,4 @@
+pub mod Keys
+pub mod Verbs
+pub mod Attributes
+pub mod Values

@@ -1,0 +1,19 @@
+//! The words of commands: verbs, objects and keywords, which goes with which, and the values of keywords.
+#![tactic(auto)]
+
+mod attributes;
+mod giving;
+mod keys;
+mod value;
+mod values;
+mod verbs;
+
+pub use attributes::{Kind, key_of};
+pub use giving::{Given, given_of};
+pub use keys::Key;
+pub use value::Value;
+pub use values::{are_blanks, choice_value, number_value, type_value};
+pub use verbs::{Noun, Verb, object_of, verb_of};
+
+#[cfg(test)]
+mod tests;

@@ -1,0 +1,11 @@
+use mq_base::Items;
+
+/// What stands in brackets behind a keyword.
+#[derive(Drop)]
+pub enum Value {
+    Absent,
+    /// One word or one quoted text.
+    Text(Items<u8>),
+    /// Not one value in a pair of brackets.
+    Malformed,
+}
