@@ -12,3 +12,6 @@ mod plans;
 pub use answers::{Plan, Planned};
 pub use command::{apply, plan};
 pub use in_use::InUse;
+
+#[cfg(test)]
+mod tests;
