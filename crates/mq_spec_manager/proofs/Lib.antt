@@ -3,3 +3,4 @@ mod Vectors
 mod MoreVectors
 mod Laws
 mod LostWrites
+pub mod Accepted

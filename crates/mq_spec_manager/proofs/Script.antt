@@ -33,7 +33,7 @@ use Rattle.mq_objects.specs.declared.object.Object.{Object}
 
 -- a manager at its first start
 abbrev pub empty_image : Image
-empty_image = record { definitions = nothing_defined; queues = []; senders = []; receivers = []; incarnation = 0; length = 1 }
+empty_image = record { definitions = nothing_defined; queues = []; senders = []; receivers = []; incarnation = 1; length = 64 }
 
 abbrev pub london : ℕ → Plain
 london max = begun (record { number = 1; name = codes "LONDON"; log_max = max }) empty_image 0

@@ -19,7 +19,7 @@ use Rattle.mq_spec_state.specs.State.{Plain, Given, Queue, Batch, SenderSide, Re
 use Rattle.mq_spec_state.specs.State.Which.{HeldBy, HeldByUnits, Nonpersistent}
 use Rattle.mq_spec_state.specs.State.Change.{Release, Leave, Uncount, ForgetAll}
 use Rattle.mq_spec_state.specs.State.Running.{Up, Down}
-use Rattle.mq_spec_state.specs.Changes.{apply_all}
+use Rattle.mq_spec_state.specs.Changes.{apply_all, uncounted_in}
 use Rattle.mq_spec_state.specs.Reads.{stands}
 use Rattle.mq_spec_state.specs.Sizes.{need}
 use Rattle.mq_spec_state.specs.Steps.{After, stands_in}
@@ -124,7 +124,8 @@ CanReturn (Fails (faults.BadLog place) in_write left) noted starts armed = (in_w
 CanReturn (Fails faults.NoMemory in_write left) noted starts armed = Unit {0}
 CanReturn (Fails faults.Up in_write left) noted starts armed = ⊥
 
--- A first start, from what the log's bodies give.
+-- A first start, from what it read of the log: definitions, rows and channel data; the incarnation that it begins, and the
+-- log's length with what it appended. BackoutCount is 0 in every row, and no trigger is due.
 pub record Image : Type 0 where
   pub definitions : Definitions
   pub queues : List Queue
@@ -138,12 +139,12 @@ begun given image moment = record {
   given = given;
   running = Up;
   definitions = image.definitions;
-  queues = image.queues;
+  queues = map uncounted_in image.queues;
   connections = [];
   channels = record { senders = image.senders; receivers = image.receivers; seizures = []; batches = []; bound = [] };
   moment = moment;
-  numbers = record { incarnation = image.incarnation + 1; idents = 0; connections = 0 };
-  log = record { length = image.length + need (records.Started given.number given.name image.incarnation); armed = 0 };
+  numbers = record { incarnation = image.incarnation; idents = 0; connections = 0 };
+  log = record { length = image.length; armed = 0 };
 }
 
 -- the k-th device call from now on is to be stopped; with 0 none

@@ -1,1 +1,8 @@
 mod Settlements
+mod OneManager
+mod Faults
+mod Pumping
+mod Binding
+mod Serving
+mod Phases
+mod FaultyPumps

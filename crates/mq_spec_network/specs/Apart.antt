@@ -70,13 +70,16 @@ abbrev pub cables_apart : Scenario → List Plain → ℕ → List CableLine →
 cables_apart s ps cable [] = None
 cables_apart s ps cable (c ∷ cs) = or_else (cable_apart s ps cable c) (cables_apart s ps (suc cable) cs)
 
--- The standing idents, manager by manager, queue by queue in order of definition, in order of rows.
-abbrev pub standing_idents_of : Scenario → List Plain → Plain → List Ident
-standing_idents_of s ps p =
-    flat_map (λ (q : LocalQueue). map (λ (row : Row). row.message.ident) (standing_in s ps p (stored q.name p).rows)) (locals_of p.definitions)
+-- Idents of rows, manager by manager, queue by queue in order of definition, in order of rows: those of all rows, and those
+-- that count here.
+abbrev pub idents_in : (List Row → List Row) → Plain → List Ident
+idents_in f p = flat_map (λ (q : LocalQueue). map (λ (row : Row). row.message.ident) (f (stored q.name p).rows)) (locals_of p.definitions)
+
+abbrev pub row_idents : List Plain → List Ident
+row_idents ps = flat_map (idents_in (λ rows. rows)) ps
 
 abbrev pub standing_idents : Scenario → List Plain → List Ident
-standing_idents s ps = flat_map (standing_idents_of s ps) ps
+standing_idents s ps = flat_map (λ (p : Plain). idents_in (standing_in s ps p) p) ps
 
 -- the incarnation up to which a manager's log knew its idents: the one before that which the first start began
 abbrev pub known : Option Plain → Option ℕ
@@ -91,19 +94,20 @@ abbrev pub newer_case : Ident → Option ℕ → Option Apart
 newer_case ident None = None
 newer_case ident (Some known) = case (nat_lt known ident.incarnation) (cases.Newer ident known)
 
+-- an ident that counts twice; one in any row that its manager's log doesn't know yet
 abbrev pub ident_case : List Plain → List Ident → Ident → Option Apart
-ident_case ps all ident = first_of (
-    case (nat_lt 1 (count_by (same_ident ident) all)) (cases.Twice ident)
+ident_case ps standing ident = first_of (
+    case (nat_lt 1 (count_by (same_ident ident) standing)) (cases.Twice ident)
     ∷ newer_case ident (known (maker ps ident.manager))
     ∷ [])
 
 abbrev pub idents_apart : List Plain → List Ident → List Ident → Option Apart
-idents_apart ps all [] = None
-idents_apart ps all (ident ∷ idents) = or_else (ident_case ps all ident) (idents_apart ps all idents)
+idents_apart ps standing [] = None
+idents_apart ps standing (ident ∷ idents) = or_else (ident_case ps standing ident) (idents_apart ps standing idents)
 
 -- The first case that holds: cable by cable, then ident by ident.
 abbrev pub apart_of : Scenario → List Plain → Option Apart
-apart_of s ps = or_else (cables_apart s ps 0 s.cables) (idents_apart ps (standing_idents s ps) (standing_idents s ps))
+apart_of s ps = or_else (cables_apart s ps 0 s.cables) (idents_apart ps (standing_idents s ps) (row_idents ps))
 
 abbrev pub apart : Scenario → List History → Option Apart
 apart s hs = apart_of s (opening_managers s hs)

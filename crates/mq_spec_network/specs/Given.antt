@@ -1,5 +1,5 @@
 -- What a scenario gives each manager.
-use Rattle.std.specs.Prelude.{ℕ, ◌+◌, ◌==◌, List, [], ◌∷◌, ◌++◌, if◌then◌else◌, Option, Some, None, suc, slice_get}
+use Rattle.std.specs.Prelude.{ℕ, ◌+◌, ◌==◌, min, List, [], ◌∷◌, ◌++◌, if◌then◌else◌, Option, Some, None, suc, slice_get}
 use Rattle.mq_history.specs.declared.scenario.ManagerLine.{ManagerLine}
 use Rattle.mq_history.specs.declared.scenario.CableLine.{CableLine}
 use Rattle.mq_history.specs.declared.scenario.MonitorLine.{MonitorLine}
@@ -58,3 +58,11 @@ own_at s m = record { ends = ends_from s m 0 s.cables; handlers = handlers_from 
 
 abbrev pub surroundings : Scenario → ℕ → Surroundings
 surroundings s m = record { given = given_at s m; own = own_at s m }
+
+-- The moment with which each manager begins: that of the MOMENT line, or the run's own, at most this one.
+abbrev pub moment_or : Option ℕ → ℕ → ℕ
+moment_or None start = min start 253300000000000
+moment_or (Some moment) start = moment
+
+abbrev pub first_moment : Scenario → ℕ → ℕ
+first_moment s start = moment_or s.moment start

@@ -1,5 +1,5 @@
 -- When the histories of a scenario's managers make a lawful story.
-use Rattle.std.specs.Prelude.{◌≡◌, ◌<◌, ◌≤◌, ℕ, zero, suc, Bool, false, List, [], ◌∷◌, ◌++◌, Option, Some, None, length, take, drop, slice_get}
+use Rattle.std.specs.Prelude.{◌≡◌, ◌<◌, ◌≤◌, ℕ, zero, suc, Bool, true, false, not, List, [], ◌∷◌, ◌++◌, Option, Some, None, is_some, length, take, drop, slice_get}
 use Rattle.mq_history.specs.declared.calls.Actor.{Actor}
 use Rattle.mq_history.specs.declared.calls.Call.TheVariants as calls
 use Rattle.mq_history.specs.declared.calls.Entry.{Entry}
@@ -17,8 +17,8 @@ use Rattle.mq_spec_node.specs.Scripts.{AreLines, fresh}
 use Rattle.mq_spec_network.specs.Story.{entries_at}
 use Rattle.mq_spec_network.specs.Given.{surroundings}
 use Rattle.mq_spec_network.specs.Cables.{Carries, is_sender, is_receiver, by}
-use Rattle.mq_spec_network.specs.Turns.{Network}
-use Rattle.mq_spec_network.specs.Steps.{mains, is_script, StepIs, IsMark, LastRestarts}
+use Rattle.mq_spec_network.specs.Turns.{Network, node_at}
+use Rattle.mq_spec_network.specs.Steps.{mains, later, is_script, StepIs, IsMark, LastRestarts}
 
 -- Trigger turns stand where they are due: behind the entry after which one is, by its actor, until none is.
 abbrev pub TriggerIs : Option Deed → Option Actor → Entry → Type 0
@@ -37,8 +37,12 @@ pub record IsHistory (s : Scenario) (m : ℕ) (h : History) : Type 0 where
 
 -- Each frame that was popped was offered before, as the faults have it.
 pub record IsCarried (cable : ℕ) (c : CableLine) (hs : List History) : Type 0 where
-  pub out : Carries c.out (by (is_sender cable) (entries_at hs c.sender)) (by (is_receiver cable) (entries_at hs c.receiver))
-  pub back : Carries c.back (by (is_receiver cable) (entries_at hs c.receiver)) (by (is_sender cable) (entries_at hs c.sender))
+  pub out : Carries c.out (by (is_sender cable) (entries_at hs c.sender)) (is_receiver cable) (entries_at hs c.receiver)
+  pub back : Carries c.back (by (is_receiver cable) (entries_at hs c.receiver)) (is_sender cable) (entries_at hs c.sender)
+
+-- The entries of a script are its lines.
+abbrev pub ScriptIs : Scenario → List History → ℕ → ScriptPart → Type 0
+ScriptIs s hs k p = AreLines p.label fresh p.lines (by (is_script k) (mains (entries_at hs p.manager)))
 
 -- The marks part each history into the steps.
 abbrev pub marks_or : Option History → List Mark
@@ -81,9 +85,15 @@ steps_done hs = length (marks_at hs 0)
 abbrev pub rest_at : List History → ℕ → List Entry
 rest_at hs m = drop (step_begin hs (steps_done hs) m) (entries_at hs m)
 
+-- no trigger is due at a manager
+abbrev pub none_due : Option Node → Bool
+none_due None = true
+none_due (Some n) = not (is_some (trigger_deed n))
+
 pub record IsWhole (s : Scenario) (hs : List History) (k : ℕ) (step : Step) : Type 0 where
   pub entries : StepIs (network_before s hs k) step (step_entries hs k)
   pub idle : (m : ℕ) → m < length hs → IsMark (network_before s hs k) step (step_entries hs k) (mark_idle (slice_get (marks_at hs m) k))
+  pub served : (m : ℕ) → m < length hs → none_due (node_at (later (network_before s hs k) (step_entries hs k)) m) ≡ true
   pub rising : (m : ℕ) → step_begin hs k m ≤ step_end hs k m
   pub within : (m : ℕ) → step_end hs k m ≤ length (entries_at hs m)
 
@@ -108,7 +118,7 @@ pub record IsLawful (s : Scenario) (hs : List History) : Type 0 where
   pub all : length hs ≡ length s.managers
   pub histories : (m : ℕ) (h : History) → slice_get hs m ≡ Some h → IsHistory s m h
   pub cables : (n : ℕ) (c : CableLine) → slice_get s.cables n ≡ Some c → IsCarried n c hs
-  pub scripts : (k : ℕ) (p : ScriptPart) → slice_get s.scripts k ≡ Some p → AreLines p.label fresh p.lines (by (is_script k) (mains (entries_at hs p.manager)))
+  pub scripts : (k : ℕ) (p : ScriptPart) → slice_get s.scripts k ≡ Some p → ScriptIs s hs k p
   pub steps : AreSteps s hs
 
 -- every step is done whole, and the last restarts too

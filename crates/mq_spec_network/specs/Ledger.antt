@@ -55,12 +55,17 @@ use Rattle.mq_spec_manager.specs.Stops.{last_moment}
 use Rattle.mq_spec_agents.specs.Agents.{names_of, bare_if, dead_message}
 use Rattle.mq_spec_network.specs.Story.{Line}
 
+-- a call whose write was stopped, and the moment at which it was made
+pub record Stopped : Type 0 where
+  pub entry : Entry
+  pub moment : ℕ
+
 -- what is told of a manager beside its places: its moment, the opens and units of its connections, the call whose write
 -- was stopped, if any
 pub record Users : Type 0 where
   pub moment : ℕ
   pub connections : List Connection
-  pub cut : Option Entry
+  pub cut : Option Stopped
 
 -- places and users by manager, in the scenario's order; the idents that a committed get, an expiry or a DISCARD took; the
 -- idents of committed gets
@@ -424,14 +429,17 @@ post_call m calls.Trigger reply ms ds l = trigger m reply ds l
 abbrev pub post : ℕ → Entry → List Did → Ledger → Ledger
 post m e ds l = post_call m e.call e.reply e.effect.received ds (take_all_gone m ds l)
 
--- A call whose write was stopped counts at the restart that finds it, and not before; what it had removed before is
--- gone. Its manager's nonpersistent rows go at once.
+-- A call whose write was stopped counts at the restart that finds it, and not before, with the moment at which it was
+-- made; what it had removed before is gone. Its manager's nonpersistent rows go at once.
 abbrev pub cut : ℕ → Entry → Ledger → Ledger
-cut m e l = lose m (with_users m (λ u. record u { cut = Some e }) (take_all_gone m e.effect.delta l))
+cut m e l = lose m (with_users m (λ u. record u { cut = Some (record { entry = e; moment = u.moment }) }) (take_all_gone m e.effect.delta l))
 
-abbrev pub found : ℕ → Option Entry → List Did → Ledger → Ledger
+abbrev pub at_moment : ℕ → ℕ → Ledger → Ledger
+at_moment m moment l = with_users m (λ u. record u { moment = moment }) l
+
+abbrev pub found : ℕ → Option Stopped → List Did → Ledger → Ledger
 found m None ds l = l
-found m (Some e) ds l = post m e ds l
+found m (Some s) ds l = at_moment m (users_at m l).moment (post m s.entry ds (at_moment m s.moment l))
 
 abbrev pub up_again : ℕ → Ledger → Ledger
 up_again m l = stop m (with_users m (λ u. record u { cut = None }) l)

@@ -10,3 +10,4 @@ pub mod Turns
 pub mod Pump
 pub mod Steps
 pub mod Lawful
+pub mod Promised

@@ -17,7 +17,7 @@ use Rattle.mq_history.specs.declared.calls.Chance.{Chance}
 use Rattle.mq_history.specs.declared.calls.Chance.TheVariants as chances
 use Rattle.mq_calls.specs.declared.choices.Return.TheVariants.{Comes}
 use Rattle.mq_spec_network.specs.Story.{Line, Mem}
-use Rattle.mq_spec_network.specs.Ledger.{Ledger, users_at, posted, ledger_rows, dead_reason}
+use Rattle.mq_spec_network.specs.Ledger.{Ledger, Stopped, users_at, posted, ledger_rows, dead_reason}
 
 abbrev pub Before : {A : Type 0} → A → A → List A → Type 0
 Before x y [] = ⊥
@@ -77,11 +77,11 @@ pub record KeepsOrder (fs : List Forced) (m : ℕ) (ds : List Did) (ms : List Me
   pub list : KeepsList ds ms after m
 
 -- the messages that an entry commits at its receiver: its own, or those of the call that its restart found
-abbrev pub messages_or : Option Entry → List Message
+abbrev pub messages_or : Option Stopped → List Message
 messages_or None = []
-messages_or (Some e) = e.effect.received
+messages_or (Some s) = s.entry.effect.received
 
-abbrev pub messages_found : Chance → List Message → Option Entry → List Message
+abbrev pub messages_found : Chance → List Message → Option Stopped → List Message
 messages_found (chances.Restart (Comes true started)) ms cut = messages_or cut
 messages_found _ ms cut = ms
 

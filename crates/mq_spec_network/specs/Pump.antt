@@ -1,5 +1,5 @@
 -- A PUMP: turns in rounds, cable by cable, the sender's and then the receiver's; after a round of none, timeouts.
-use Rattle.std.specs.Prelude.{◌≡◌, ◌⊎◌, ◌≤◌, ℕ, suc, ◌==◌, Bool, true, false, ◌||◌, List, [], ◌∷◌, ◌++◌, if◌then◌else◌, Option, Some, None}
+use Rattle.std.specs.Prelude.{◌≡◌, ◌⊎◌, ◌≤◌, ℕ, zero, suc, Bool, true, false, ◌||◌, List, [], ◌∷◌, ◌++◌, if◌then◌else◌, Option, Some, None}
 use Rattle.mq_frame.specs.declared.frame.Frame.{Frame}
 use Rattle.mq_frame.specs.declared.frame.Seen.{Seen}
 use Rattle.mq_frame.specs.declared.frame.Seen.TheVariants as items
@@ -12,9 +12,16 @@ use Rattle.mq_history.specs.declared.scenario.CableLine.{CableLine}
 use Rattle.mq_spec_node.specs.Deeds.{Deed}
 use Rattle.mq_spec_network.specs.Turns.{Network, Direction, out_of, back_of, out_way, back_way, waiting, extras_of, changes, sender_turn, receiver_turn, timeout_turn, is_idle}
 
+-- these entries at one manager alone
+abbrev pub alone_at : ℕ → List Entry → ℕ → List Entry
+alone_at zero es zero = es
+alone_at zero es (suc n) = []
+alone_at (suc m) es zero = []
+alone_at (suc m) es (suc n) = alone_at m es n
+
 -- entries more at one manager
 abbrev pub done_more : ℕ → List Entry → Network → Network
-done_more m es w = record w { done = λ n. if n == m then w.done n ++ es else w.done n }
+done_more m es w = record w { done = λ n. w.done n ++ alone_at m es n }
 
 abbrev pub is_trigger : Call → Bool
 is_trigger calls.Trigger = true
@@ -91,7 +98,7 @@ timeouts_on cable (c ∷ cs) all = AtTimeout cable (c ∷ cs)
 
 -- The slots of a pump, one after the other, from where a round stands, and the network that they leave.
 abbrev pub Pumps : List Slot → Stand → Network → Network → Type 0
-Pumps [] at w w' = w' ≡ w
+Pumps [] at w w' = (m : ℕ) → w'.done m ≡ w.done m
 Pumps (s ∷ ss) (AtSender cable [] any) w w' = ⊥
 Pumps (s ∷ ss) (AtSender cable (c ∷ cs) any) w w' =
     SenderSlot w cable c s × Pumps ss (AtReceiver cable c cs (any || is_taken s)) (with_slot c.sender s w) w'

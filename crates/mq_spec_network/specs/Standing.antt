@@ -1,5 +1,5 @@
 -- The standing rows of a network: the committed rows of each queue, less those of a batch whose receiver has them.
-use Rattle.std.specs.Prelude.{ℕ, pos, Bool, false, not, List, [], ◌∷◌, if◌then◌else◌, Option, Some, None, map, filter, slice_get, suc}
+use Rattle.std.specs.Prelude.{ℕ, ◌+◌, ◌==◌, ◌&&◌, pos, Bool, false, not, List, [], ◌∷◌, if◌then◌else◌, Option, Some, None, map, filter, slice_get, suc}
 use Rattle.std.specs.Str.{bytes_eq}
 use Rattle.mq_message.specs.declared.place.Holder.{Holder}
 use Rattle.mq_message.specs.declared.place.Holder.TheVariants as holders
@@ -25,6 +25,11 @@ abbrev pub cable_named : List ℕ → List CableLine → Option CableLine
 cable_named channel [] = None
 cable_named channel (c ∷ cs) = if bytes_eq channel c.channel then Some c else cable_named channel cs
 
+-- the cable of that channel on which the manager of a number sends; one that was turned round since doesn't count
+abbrev pub cable_from : ℕ → List ℕ → List CableLine → Option CableLine
+cable_from number channel [] = None
+cable_from number channel (c ∷ cs) = if bytes_eq channel c.channel && (c.sender + 1 == number) then Some c else cable_from number channel cs
+
 -- The managers of a network at some moment, by place.
 abbrev pub last_unit_of : Option ReceiverData → Luw
 last_unit_of None = no_unit
@@ -44,7 +49,7 @@ is_doubted None last = false
 is_doubted (Some d) last = same_unit d.unit last
 
 abbrev pub counts_there : Scenario → List Plain → Plain → List ℕ → Bool
-counts_there s ps p channel = is_doubted (in_doubt_of (sender_data channel p)) (last_unit ps channel (cable_named channel s.cables))
+counts_there s ps p channel = is_doubted (in_doubt_of (sender_data channel p)) (last_unit ps channel (cable_from p.given.number channel s.cables))
 
 abbrev pub is_held_there : Scenario → List Plain → Plain → Option Holder → Bool
 is_held_there s ps p None = false

@@ -1,5 +1,5 @@
 -- The entries of each step of a scenario.
-use Rattle.std.specs.Prelude.{◌≡◌, ◌≢◌, ◌<◌, ◌≤◌, ◌⊎◌, ℕ, suc, ◌+◌, ◌-◌, min, ◌==◌, Bool, true, false, not, ◌&&◌, nat_le, List, [], ◌∷◌, ◌++◌, if◌then◌else◌, Option, Some, None, Ok, Err, length, filter, count_by, slice_get, take, codes}
+use Rattle.std.specs.Prelude.{◌≡◌, ◌≢◌, ◌<◌, ◌≤◌, ◌⊎◌, ℕ, zero, suc, ◌+◌, ◌==◌, Bool, true, false, not, ◌&&◌, List, [], ◌∷◌, ◌++◌, if◌then◌else◌, Option, Some, None, Ok, Err, length, filter, count_by, slice_get, take, drop}
 use Rattle.std.specs.Str.{bytes_eq}
 use Rattle.mq_calls.specs.declared.answers.Answer.{Answer}
 use Rattle.mq_calls.specs.declared.answers.Answer.TheVariants as answers
@@ -30,16 +30,19 @@ use Rattle.mq_history.specs.declared.scenario.Section.{Section}
 use Rattle.mq_history.specs.declared.scenario.Scenario.{Scenario}
 use Rattle.mq_history.specs.declared.scenario.Step.{Step}
 use Rattle.mq_history.specs.declared.scenario.Step.TheVariants as steps
+use Rattle.mq_history.specs.declared.scripts.ScriptLine.{ScriptLine}
 use Rattle.mq_heads.specs.Headers.{tm_in}
 use Rattle.mq_spec_manager.specs.Heads.{is_tm, trimmed}
 use Rattle.mq_spec_manager.specs.Handles.{connected as handles_connected}
 use Rattle.mq_spec_node.specs.Node.{Node, Monitor}
 use Rattle.mq_spec_node.specs.Deeds.{Deed}
 use Rattle.mq_spec_node.specs.Happens.{deed_of}
-use Rattle.mq_spec_node.specs.Scripts.{script_appl}
+use Rattle.mq_spec_node.specs.Replays.{after}
+use Rattle.mq_spec_node.specs.Scripts.{script_appl, deadline, wait_of, until_of}
 use Rattle.mq_spec_network.specs.Story.{Mem}
 use Rattle.mq_spec_network.specs.Turns.{Network, node_at, is_up_at, deed_at, is_idle}
-use Rattle.mq_spec_network.specs.Pump.{Pumped, is_trigger}
+use Rattle.mq_spec_network.specs.Cables.{by}
+use Rattle.mq_spec_network.specs.Pump.{Pumped, AllTriggers, is_trigger, alone_at}
 
 -- Trigger turns stand where they are due, and are told apart from a step's own entries.
 abbrev pub mains : List Entry → List Entry
@@ -72,12 +75,12 @@ ObeysSection (Some s) seg = Obeys s.commands (mains (seg s.manager)) × Alone s.
 
 -- CLOCK: one event for each manager.
 abbrev pub IsClock : ℕ → Entry → Type 0
-IsClock by e = (e.actor ≡ actors.Clock) × (e.call ≡ calls.Act (acts.Clock by))
+IsClock ms e = (e.actor ≡ actors.Clock) × (e.call ≡ calls.Act (acts.Clock ms))
 
 abbrev pub AreClocks : List ℕ → List Entry → Type 0
 AreClocks [] es = es ≡ []
-AreClocks (by ∷ bys) [] = ⊥
-AreClocks (by ∷ bys) (e ∷ es) = IsClock by e × AreClocks bys es
+AreClocks (ms ∷ more) [] = ⊥
+AreClocks (ms ∷ more) (e ∷ es) = IsClock ms e × AreClocks more es
 
 -- RUN: the next lines of the script. A get that waits has the clocks advanced to its deadline, at each manager.
 abbrev pub is_script : ℕ → Actor → Bool
@@ -87,40 +90,70 @@ is_script k _ = false
 abbrev pub lines_done : ℕ → List Entry → ℕ
 lines_done k es = count_by (λ (e : Entry). is_script k e.actor) (mains es)
 
-abbrev pub waits_until : Call → Option ℕ
-waits_until (calls.Mqget hc ho get until) = until
-waits_until _ = None
-
 abbrev pub moment_of : Option Node → ℕ
 moment_of None = 0
 moment_of (Some n) = n.manager.moment
 
--- the lines of a script, with the advances before its gets
-abbrev pub RunsLines : ℕ → ℕ → List ℕ → List Entry → Type 0
-RunsLines k moment bys [] = bys ≡ []
-RunsLines k moment [] (e ∷ es) = (e.actor ≡ actors.Script k) × RunsLines k moment [] es
-RunsLines k moment (by ∷ bys) (e ∷ []) = ⊥
-RunsLines k moment (by ∷ bys) (e ∷ g ∷ es) =
-    ((e.actor ≡ actors.Script k) × RunsLines k moment (by ∷ bys) (g ∷ es))
-    ⊎ (IsClock by e × (0 < by) × (waits_until g.call ≡ Some (moment + by)) × RunsLines k (moment + by) bys (g ∷ es))
+-- the deadline of a line's get, from the moment of its first try: this one, or one at which it was tried before
+abbrev pub TriedBefore : Option ℕ → Option ℕ → Option ℕ → Type 0
+TriedBefore None wait until = ⊥
+TriedBefore (Some moment) wait until = until ≡ deadline moment wait
 
-pub record Runs (w : Network) (k m many : ℕ) (seg : ℕ → List Entry) : Type 0 where
+abbrev pub IsUntil : Option ℕ → ℕ → Option ℕ → Option ℕ → Type 0
+IsUntil tried moment wait until = (until ≡ deadline moment wait) ⊎ TriedBefore tried wait until
+
+-- a get that would still wait is no event
+abbrev pub Waits : Entry → Node → Type 0
+Waits e n = deed_of e.stamp e.actor e.call items.Nothing n ≡ None
+
+-- where a get waits, and only there, the clock advances to its deadline at once: by so many milliseconds, 0 where none does
+abbrev pub Advances : ℕ → Node → Entry → List Entry → Type 0
+Advances zero n e clock = clock ≡ []
+Advances (suc more) n e clock =
+    Waits e n × (until_of e.call ≡ Some (n.manager.moment + suc more)) × AreClocks (suc more ∷ []) clock
+
+-- One line: the clock's advance, its entry, and the trigger turns that are due behind it.
+pub record DoesLine (k : ℕ) (tried : Option ℕ) (n : Node) (l : ScriptLine) (ms : ℕ) (es : List Entry) : Type 0 where
+  pub clock : List Entry
+  pub entry : Entry
+  pub behind : List Entry
+  pub parts : es ≡ clock ++ entry ∷ behind
+  pub advance : Advances ms n entry clock
+  pub until : IsUntil tried n.manager.moment (wait_of l) (until_of entry.call)
+  pub actor : entry.actor ≡ actors.Script k
+  pub triggers : AllTriggers behind
+
+abbrev pub advance_by : ℕ → List ℕ
+advance_by zero = []
+advance_by (suc more) = suc more ∷ []
+
+-- these lines, one after the other; the first may have been tried before
+abbrev pub RunsLines : ℕ → Option ℕ → Node → List ScriptLine → List ℕ → List Entry → Type 0
+RunsLines k tried n [] advances es = (advances ≡ []) × (es ≡ [])
+RunsLines k tried n (l ∷ ls) advances es =
+    (ms : ℕ) × (more : List ℕ) × (first : List Entry) × (rest : List Entry) × (advances ≡ advance_by ms ++ more) × (es ≡ first ++ rest)
+    × DoesLine k tried n l ms first × RunsLines k None (after n first) ls more rest
+
+abbrev pub RunsAt : ℕ → Option ℕ → Option Node → List ScriptLine → List ℕ → List Entry → Type 0
+RunsAt k tried None ls advances es = ⊥
+RunsAt k tried (Some n) ls advances es = RunsLines k tried n ls advances es
+
+pub record Runs (w : Network) (k m : ℕ) (tried : Option ℕ) (ls : List ScriptLine) (seg : ℕ → List Entry) : Type 0 where
   pub advances : List ℕ
-  pub lines : RunsLines k (moment_of (node_at w m)) advances (mains (seg m))
-  pub count : lines_done k (seg m) ≡ many
+  pub lines : RunsAt k tried (node_at w m) ls advances (seg m)
   pub clocks : (n : ℕ) → n ≢ m → n < length w.scenario.managers → AreClocks advances (mains (seg n))
   pub beyond : (n : ℕ) → length w.scenario.managers ≤ n → seg n ≡ []
 
-abbrev pub lines_left : Network → ℕ → ScriptPart → ℕ
-lines_left w k p = length p.lines - lines_done k (w.done p.manager)
+abbrev pub lines_left : Network → ℕ → ScriptPart → List ScriptLine
+lines_left w k p = drop (lines_done k (w.done p.manager)) p.lines
 
-abbrev pub at_most : Option ℕ → ℕ → ℕ
-at_most None left = left
-at_most (Some n) left = min n left
+abbrev pub at_most : Option ℕ → List ScriptLine → List ScriptLine
+at_most None ls = ls
+at_most (Some n) ls = take n ls
 
-abbrev pub RunsScript : Network → ℕ → Option ℕ → Option ScriptPart → (ℕ → List Entry) → Type 0
-RunsScript w k n None seg = ⊥
-RunsScript w k n (Some p) seg = Runs w k p.manager (at_most n (lines_left w k p)) seg
+abbrev pub RunsScript : Network → ℕ → Option ℕ → Option ℕ → Option ScriptPart → (ℕ → List Entry) → Type 0
+RunsScript w k tried n None seg = ⊥
+RunsScript w k tried n (Some p) seg = Runs w k p.manager tried (at_most n (lines_left w k p)) seg
 
 -- HANDLE: turns of the handler until so many, or until the next would be idle.
 abbrev pub turn_is_idle : Option Deed → Bool
@@ -173,14 +206,7 @@ Watches k l true es = es ≡ []
 Watches k l false es = WatchBegins k l es
 
 -- SERVE: turns of the monitor, each a get without wait; where the message's ApplId names a script of this manager of which
--- no line was done, all its lines follow.
-abbrev pub is_monitor : ℕ → Actor → Bool
-is_monitor k (actors.Monitor n) = n == k
-is_monitor k _ = false
-
-abbrev pub is_of_monitor : ℕ → Entry → Bool
-is_of_monitor k e = is_monitor k e.actor
-
+-- no line was done, all its lines follow, as a RUN has them.
 -- the text of ApplId in a trigger message
 abbrev pub appl_id : List ℕ → List ℕ
 appl_id body = trimmed (tm_in body).appl_id
@@ -200,35 +226,6 @@ unless_begun es (Some k) = if lines_done k es == 0 then Some k else None
 -- the script that a monitor's get begins, at a manager that has done this so far
 abbrev pub begins : Scenario → ℕ → List Entry → Reply → Option ℕ
 begins s m es reply = if is_tm (got_body reply) then unless_begun es (script_named m 0 (appl_id (got_body reply)) s.scripts) else None
-
-abbrev pub lines_of : Option ScriptPart → ℕ
-lines_of None = 0
-lines_of (Some p) = length p.lines
-
-abbrev pub begun_by : Option ℕ → Scenario → List (ℕ × ℕ)
-begun_by None s = []
-begun_by (Some k) s = (k, lines_of (slice_get s.scripts k)) ∷ []
-
--- the monitor's turns with the scripts that they begin: each script's lines are all behind its turn
-abbrev pub begun_lines : Scenario → ℕ → ℕ → List Entry → List Entry → List (ℕ × ℕ)
-begun_lines s m k before [] = []
-begun_lines s m k before (e ∷ es) =
-    if is_of_monitor k e then begun_by (begins s m before e.reply) s ++ begun_lines s m k (before ++ e ∷ []) es
-    else begun_lines s m k (before ++ e ∷ []) es
-
-abbrev pub AllBegun : List (ℕ × ℕ) → List Entry → Type 0
-AllBegun [] es = Unit {0}
-AllBegun (b ∷ bs) es = (lines_done b.0 es ≡ b.1) × AllBegun bs es
-
-abbrev pub IsServed : ℕ → List (ℕ × ℕ) → Entry → Type 0
-IsServed k begun e = (e.actor ≡ actors.Monitor k) ⊎ ((e.actor ≡ actors.Clock) ⊎ ((b : ℕ × ℕ) × Mem b begun × (e.actor ≡ actors.Script b.0)))
-
-abbrev pub AllServed : ℕ → List (ℕ × ℕ) → List Entry → Type 0
-AllServed k begun [] = Unit {0}
-AllServed k begun (e ∷ es) = IsServed k begun e × AllServed k begun es
-
-abbrev pub monitor_turns : ℕ → List Entry → ℕ
-monitor_turns k es = count_by (is_of_monitor k) (mains es)
 
 abbrev pub is_failed : Answer Got → Bool
 is_failed (answers.Ok g) = false
@@ -258,52 +255,104 @@ abbrev pub monitor_in : ℕ → List Monitor → Option Monitor
 monitor_in k [] = None
 monitor_in k (m ∷ ms) = if m.number == k then Some m else monitor_in k ms
 
-abbrev pub monitor_deed : ℕ → Option Hconn → Option Hobj → Node → Option Deed
-monitor_deed k None ho n = None
-monitor_deed k (Some hc) None n = None
-monitor_deed k (Some hc) (Some ho) n = deed_of 0 (actors.Monitor k) (calls.Mqget hc ho monitor_get None) items.Nothing n
+-- the get of a monitor that is connected
+abbrev pub monitor_call : Option Hconn → Option Hobj → Option Call
+monitor_call None ho = None
+monitor_call (Some hc) None = None
+monitor_call (Some hc) (Some ho) = Some (calls.Mqget hc ho monitor_get None)
 
-abbrev pub monitor_next : ℕ → Option Monitor → Node → Option Deed
-monitor_next k None n = None
-monitor_next k (Some m) n = monitor_deed k m.connection m.handle n
+abbrev pub call_of : Option Monitor → Option Call
+call_of None = None
+call_of (Some m) = monitor_call m.connection m.handle
+
+abbrev pub monitor_next : ℕ → Option Node → Option Call
+monitor_next k None = None
+monitor_next k (Some n) = call_of (monitor_in k n.own.monitors)
+
+abbrev pub monitor_deed : ℕ → Option Call → Option Node → Option Deed
+monitor_deed k None n = None
+monitor_deed k (Some call) n = deed_at (actors.Monitor k) call items.Nothing n
 
 abbrev pub monitor_idle : ℕ → Option Node → Bool
-monitor_idle k None = true
-monitor_idle k (Some n) = gets_nothing (monitor_next k (monitor_in k n.own.monitors) n)
+monitor_idle k n = gets_nothing (monitor_deed k (monitor_next k n) n)
 
-pub record Serves (w : Network) (k n m : ℕ) (seg : ℕ → List Entry) : Type 0 where
-  pub advances : List ℕ
-  pub served : AllServed k (begun_lines w.scenario m k (w.done m) (mains (seg m))) (mains (seg m))
-  pub whole : AllBegun (begun_lines w.scenario m k (w.done m) (mains (seg m))) (seg m)
-  pub most : monitor_turns k (seg m) ≤ n
-  pub enough : (monitor_turns k (seg m) ≡ n) ⊎ (monitor_idle k (node_at (later w seg) m) ≡ true)
-  pub clocks : (other : ℕ) → other ≢ m → other < length w.scenario.managers → AreClocks advances (mains (seg other))
-  pub beyond : (other : ℕ) → length w.scenario.managers ≤ other → seg other ≡ []
+-- a turn that isn't idle: this get, by the monitor
+abbrev pub MonitorTurn : ℕ → Option Call → List Entry → Type 0
+MonitorTurn k call [] = ⊥
+MonitorTurn k call (e ∷ es) = (e.actor ≡ actors.Monitor k) × (Some e.call ≡ call) × AllTriggers es
 
--- PHASE: lines of its scripts, turns and timeouts of channel ends between them; then, script by script, all lines that are
--- left, as a RUN has them.
-abbrev pub IsInPhase : List ℕ → Actor → Type 0
-IsInPhase ks (actors.Script k) = Mem k ks
-IsInPhase ks (actors.Sender cable) = Unit {0}
-IsInPhase ks (actors.Receiver cable) = Unit {0}
-IsInPhase ks _ = ⊥
+-- the script that it begins
+abbrev pub begun_by : Network → ℕ → List Entry → Option ℕ
+begun_by w m [] = None
+begun_by w m (e ∷ es) = begins w.scenario m (w.done m) e.reply
 
-abbrev pub AllInPhase : List ℕ → List Entry → Type 0
-AllInPhase ks [] = Unit {0}
-AllInPhase ks (e ∷ es) = IsInPhase ks e.actor × AllInPhase ks es
+abbrev pub RunsBegun : Network → Option ℕ → (ℕ → List Entry) → Type 0
+RunsBegun w None seg = (m : ℕ) → seg m ≡ []
+RunsBegun w (Some script) seg = RunsScript w script None None (slice_get w.scenario.scripts script) seg
 
-abbrev pub FinishesAll : List ℕ → Network → (ℕ → List Entry) → Type 0
-FinishesAll [] w seg = (m : ℕ) → seg m ≡ []
-FinishesAll (k ∷ ks) w seg =
+abbrev pub EndsIdle : Network → (k m : ℕ) → (ℕ → List Entry) → Type 0
+EndsIdle w k m seg = (monitor_idle k (node_at w m) ≡ true) × ((n : ℕ) → seg n ≡ [])
+
+-- at most so many turns, and fewer only where the next would be idle
+abbrev pub Serves : ℕ → Network → (k m : ℕ) → (ℕ → List Entry) → Type 0
+Serves zero w k m seg = (n : ℕ) → seg n ≡ []
+Serves (suc left) w k m seg =
+    EndsIdle w k m seg
+    ⊎ ((turn : List Entry) × (run : ℕ → List Entry) × (rest : ℕ → List Entry) × ((n : ℕ) → seg n ≡ alone_at m turn n ++ run n ++ rest n)
+    × (monitor_idle k (node_at w m) ≡ false) × MonitorTurn k (monitor_next k (node_at w m)) turn
+    × RunsBegun (later w (alone_at m turn)) (begun_by w m turn) run
+    × Serves left (later (later w (alone_at m turn)) run) k m rest)
+
+-- PHASE: lines of its scripts, each at its script's manager, turns and timeouts of channel ends between them; then, script by
+-- script, all lines that are left, as a RUN has them. No clock advances before that, so a get that waits was first tried at
+-- the phase's moment, or when the script is finished.
+abbrev pub IsScriptOf : Option ScriptPart → ℕ → Type 0
+IsScriptOf None m = ⊥
+IsScriptOf (Some p) m = p.manager ≡ m
+
+abbrev pub IsInPhase : Network → List ℕ → ℕ → Call → Actor → Type 0
+IsInPhase w ks m call (actors.Script k) = Mem k ks × IsScriptOf (slice_get w.scenario.scripts k) m
+IsInPhase w ks m call (actors.Sender cable) = (call ≡ calls.Turn) ⊎ (call ≡ calls.Timeout)
+IsInPhase w ks m call (actors.Receiver cable) = call ≡ calls.Turn
+IsInPhase w ks m call _ = ⊥
+
+abbrev pub AllInPhase : Network → List ℕ → ℕ → List Entry → Type 0
+AllInPhase w ks m [] = Unit {0}
+AllInPhase w ks m (e ∷ es) = IsInPhase w ks m e.call e.actor × AllInPhase w ks m es
+
+-- lines whose gets were first tried at this moment
+abbrev pub AreTried : ℕ → List ScriptLine → List Entry → Type 0
+AreTried moment ls [] = Unit {0}
+AreTried moment [] (e ∷ es) = ⊥
+AreTried moment (l ∷ ls) (e ∷ es) = (until_of e.call ≡ deadline moment (wait_of l)) × AreTried moment ls es
+
+abbrev pub ScriptTried : Network → ℕ → Option ScriptPart → (ℕ → List Entry) → Type 0
+ScriptTried w k None seg = ⊥
+ScriptTried w k (Some p) seg = AreTried (moment_of (node_at w p.manager)) (lines_left w k p) (by (is_script k) (mains (seg p.manager)))
+
+abbrev pub AllTried : Network → List ℕ → (ℕ → List Entry) → Type 0
+AllTried w [] seg = Unit {0}
+AllTried w (k ∷ ks) seg = ScriptTried w k (slice_get w.scenario.scripts k) seg × AllTried w ks seg
+
+abbrev pub moment_for : Network → Option ScriptPart → Option ℕ
+moment_for w None = None
+moment_for w (Some p) = Some (moment_of (node_at w p.manager))
+
+-- the lines left of each script in turn; the first one of each may have been tried when the phase began
+abbrev pub FinishesAll : (begun : Network) → List ℕ → Network → (ℕ → List Entry) → Type 0
+FinishesAll begun [] w seg = (m : ℕ) → seg m ≡ []
+FinishesAll begun (k ∷ ks) w seg =
     (first : ℕ → List Entry) × (rest : ℕ → List Entry) × ((m : ℕ) → seg m ≡ first m ++ rest m)
-    × RunsScript w k None (slice_get w.scenario.scripts k) first × FinishesAll ks (later w first) rest
+    × RunsScript w k (moment_for begun (slice_get w.scenario.scripts k)) None (slice_get w.scenario.scripts k) first
+    × FinishesAll begun ks (later w first) rest
 
 pub record InPhase (w : Network) (ks : List ℕ) (seg : ℕ → List Entry) : Type 0 where
   pub first : ℕ → List Entry
   pub rest : ℕ → List Entry
   pub parts : (m : ℕ) → seg m ≡ first m ++ rest m
-  pub between : (m : ℕ) → AllInPhase ks (mains (first m))
-  pub finished : FinishesAll ks (later w first) rest
+  pub between : (m : ℕ) → AllInPhase w ks m (mains (first m))
+  pub tried : AllTried w ks first
+  pub finished : FinishesAll w ks (later w first) rest
 
 abbrev pub has_connection : Option Hconn → Node → Bool
 has_connection None n = false
@@ -324,7 +373,7 @@ WatchesAt w k (Some l) seg = Watches k l (monitor_live k (node_at w l.manager)) 
 
 abbrev pub ServesAt : Network → ℕ → ℕ → Option MonitorLine → (ℕ → List Entry) → Type 0
 ServesAt w k n None seg = ⊥
-ServesAt w k n (Some l) seg = Serves w k n l.manager seg
+ServesAt w k n (Some l) seg = Serves n w k l.manager seg
 
 abbrev pub HandlesAt : Network → ℕ → ℕ → Option RulesPart → (ℕ → List Entry) → Type 0
 HandlesAt w k n None seg = ⊥
@@ -337,7 +386,7 @@ handles_idle k (Some r) w = handler_idle k (node_at w r.manager)
 abbrev pub StepIs : Network → Step → (ℕ → List Entry) → Type 0
 StepIs w (steps.Obey k) seg = ObeysSection (slice_get w.scenario.sections k) seg
 StepIs w (steps.Do m c) seg = AsksOnce (acts.Obey c) (mains (seg m)) × Alone m seg
-StepIs w (steps.Run k n) seg = RunsScript w k n (slice_get w.scenario.scripts k) seg
+StepIs w (steps.Run k n) seg = RunsScript w k None n (slice_get w.scenario.scripts k) seg
 StepIs w (steps.Phase ks) seg = InPhase w ks seg
 StepIs w (steps.Pump n) seg = Pumped n w (later w seg)
 StepIs w (steps.Handle k n) seg = HandlesAt w k n (slice_get w.scenario.rules k) seg
@@ -346,7 +395,7 @@ StepIs w (steps.Serve k n) seg = ServesAt w k n (slice_get w.scenario.monitors k
 StepIs w (steps.Crash m) seg = AsksOnce acts.Crash (mains (seg m)) × Alone m seg
 StepIs w (steps.Restart m) seg = AsksOnce acts.Restart (mains (seg m)) × Alone m seg
 StepIs w (steps.Cut m k) seg = AsksOnce (acts.Cut k) (mains (seg m)) × Alone m seg
-StepIs w (steps.Clock by) seg = (m : ℕ) → m < length w.scenario.managers → AreClocks (by ∷ []) (mains (seg m))
+StepIs w (steps.Clock ms) seg = (m : ℕ) → m < length w.scenario.managers → AreClocks (ms ∷ []) (mains (seg m))
 
 -- a mark is idle exactly where its step is a PUMP after which nothing can change, or a HANDLE whose next turn would be idle
 abbrev pub IsMark : Network → Step → (ℕ → List Entry) → Bool → Type 0

@@ -11,7 +11,7 @@ use Rattle.mq_history.specs.declared.calls.Call.TheVariants as calls
 use Rattle.mq_history.specs.declared.calls.Entry.{Entry}
 use Rattle.mq_history.specs.declared.history.History.{History}
 use Rattle.mq_history.specs.declared.scenario.CableLine.{CableLine}
-use Rattle.mq_history.specs.declared.scenario.Fault.{Fault}
+use Rattle.mq_cable.specs.declared.fault.Fault.{Fault}
 use Rattle.mq_history.specs.declared.scenario.Scenario.{Scenario}
 use Rattle.mq_sender.specs.declared.state.SenderState.{SenderState}
 use Rattle.mq_sender.specs.declared.state.SenderState.TheVariants as states
@@ -90,7 +90,7 @@ abbrev pub now_of : Direction → Frame → List Lying
 now_of d f = at_once d.faults (next_number d) f
 
 abbrev pub due_of : Direction → Frame → List Lying
-due_of d f = due_after d.faults (next_number d) (frames_of (offered_by d.pushes) ++ f ∷ [])
+due_of d f = due_after d.faults (frames_of (offered_by d.pushes) ++ f ∷ [])
 
 -- A push is refused where the frame is to lie there now, and the cable is full.
 abbrev pub push_refused : Direction → Option Frame → Bool

@@ -1,7 +1,6 @@
 -- A dead-letter handler whose first rule fails twice, computed from the definitions.
-use Rattle.std.specs.Prelude.{◌≡◌, ℕ, pos, true, false, List, [], ◌∷◌, ◌++◌, Option, Some, None, length, map, codes, refl}
+use Rattle.std.specs.Prelude.{◌≡◌, ℕ, pos, false, List, [], ◌∷◌, Option, Some, None, map, codes, refl}
 use Rattle.mq_codes.specs.declared.reason.Reason.TheVariants as reasons
-use Rattle.mq_message.specs.declared.message.Ident.{Ident}
 use Rattle.mq_message.specs.declared.message.Message.{Message}
 use Rattle.mq_message.specs.Layout.{long_bytes, long_of}
 use Rattle.mq_heads.specs.Headers.{dlh_bytes, dlh_in, dlh_read}
@@ -13,9 +12,7 @@ use Rattle.mq_objects.specs.declared.setting.Setting.TheVariants as settings
 use Rattle.mq_objects.specs.declared.command.Subject.TheVariants as subjects
 use Rattle.mq_history.specs.declared.acts.Act.TheVariants as acts
 use Rattle.mq_history.specs.declared.calls.Actor.TheVariants as actors
-use Rattle.mq_history.specs.declared.calls.Call.{Call}
 use Rattle.mq_history.specs.declared.calls.Call.TheVariants as calls
-use Rattle.mq_history.specs.declared.opening.Image.{Image}
 use Rattle.mq_history.specs.declared.opening.StoredQueue.{StoredQueue}
 use Rattle.mq_rules.specs.declared.rule.Rule.{Rule}
 use Rattle.mq_rules.specs.declared.rule.Table.{Table}
@@ -28,7 +25,7 @@ use Rattle.mq_spec_state.specs.Reads.{stored}
 use Rattle.mq_spec_manager.specs.Commands.{defined_object}
 use Rattle.mq_spec_manager.proofs.Script.{script_md, ident_numbers}
 use Rattle.mq_spec_agents.specs.Agents.{dead_message}
-use Rattle.mq_spec_node.specs.Node.{Node, Own, Handler}
+use Rattle.mq_spec_node.specs.Node.{Node}
 use Rattle.mq_spec_node.specs.Deeds.{Deed}
 use Rattle.mq_spec_node.specs.Happens.{event, deed_of}
 use Rattle.mq_spec_node.specs.Openings.{first_node}

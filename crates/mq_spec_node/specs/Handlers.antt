@@ -1,10 +1,9 @@
 -- Turns of the dead-letter handler.
-use Rattle.std.specs.Prelude.{ℕ, ◌+◌, ◌*◌, ◌==◌, nat_le, Bool, true, false, not, ◌&&◌, List, [], ◌∷◌, ◌++◌, if◌then◌else◌, Option, Some, None, find, filter, slice_get, codes}
+use Rattle.std.specs.Prelude.{ℕ, ◌+◌, ◌*◌, nat_le, Bool, true, false, not, ◌&&◌, List, [], ◌∷◌, ◌++◌, if◌then◌else◌, Option, Some, None, find, filter, slice_get, codes}
 use Rattle.std.specs.Str.{bytes_eq}
 use Rattle.mq_codes.specs.declared.reason.Reason.{Reason}
 use Rattle.mq_message.specs.declared.message.Ident.{Ident}
 use Rattle.mq_message.specs.declared.message.Dest.{Dest}
-use Rattle.mq_message.specs.declared.message.Md.{Md}
 use Rattle.mq_message.specs.declared.message.Message.{Message}
 use Rattle.mq_heads.specs.declared.headers.Dlh.{Dlh}
 use Rattle.mq_heads.specs.Headers.{dlh_in}
@@ -22,7 +21,7 @@ use Rattle.mq_rules.specs.declared.rule.Target.TheVariants as targets
 use Rattle.mq_rules.specs.Choice.{decision, target_name}
 use Rattle.mq_spec_state.specs.State.{Plain}
 use Rattle.mq_spec_state.specs.Reads.{stored}
-use Rattle.mq_spec_state.specs.Steps.{Step, Part}
+use Rattle.mq_spec_state.specs.Steps.{Step}
 use Rattle.mq_spec_state.specs.Steps.Step.{Refuse, Do}
 use Rattle.mq_spec_manager.specs.Heads.{is_dead}
 use Rattle.mq_spec_agents.specs.Agents.{move_row, discard}

@@ -1,7 +1,12 @@
 -- When a history replays: each entry's reply and effect are those of its event, one after the other.
-use Rattle.std.specs.Prelude.{◌≡◌, ℕ, ◌+◌, ◌<◌, max, List, [], ◌∷◌}
+use Rattle.std.specs.Prelude.{◌≡◌, ℕ, ◌+◌, ◌<◌, max, List, [], ◌∷◌, Option, Some, None}
+use Rattle.mq_frame.specs.declared.frame.Frame.{Frame}
 use Rattle.mq_frame.specs.declared.frame.Seen.{Seen}
 use Rattle.mq_frame.specs.declared.frame.Seen.TheVariants as items
+use Rattle.mq_history.specs.declared.calls.Actor.{Actor}
+use Rattle.mq_history.specs.declared.calls.Actor.TheVariants as actors
+use Rattle.mq_history.specs.declared.calls.Call.{Call}
+use Rattle.mq_history.specs.declared.calls.Call.TheVariants as calls
 use Rattle.mq_history.specs.declared.calls.Entry.{Entry}
 use Rattle.mq_history.specs.declared.calls.Chance.{Chance}
 use Rattle.mq_history.specs.declared.calls.Chance.TheVariants as chances
@@ -22,11 +27,27 @@ after n [] = n
 after n (e ∷ es) = after (done_by e n).next es
 
 -- A stamp is one above the last; at a pop it is one above the greater of that and the frame's. Of a spoiled frame
--- nothing is known but that it is above the last.
+-- a history knows only that it is above the last; the cable's items say the rest.
 abbrev pub IsStamp : ℕ → Seen → ℕ → Type 0
 IsStamp last items.Nothing stamp = stamp ≡ last + 1
 IsStamp last items.Spoiled stamp = last < stamp
 IsStamp last (items.Frame f) stamp = stamp ≡ max last f.stamp + 1
+
+-- Only a turn of a channel's end pops, and one that pushes pops nothing.
+abbrev pub MayPop : Option Frame → Call → Actor → Type 0
+MayPop None calls.Turn (actors.Sender cable) = Unit {0}
+MayPop None calls.Turn (actors.Receiver cable) = Unit {0}
+MayPop _ _ _ = ⊥
+
+abbrev pub IsPop : Seen → Option Frame → Call → Actor → Type 0
+IsPop items.Nothing pushed call actor = Unit {0}
+IsPop items.Spoiled pushed call actor = MayPop pushed call actor
+IsPop (items.Frame f) pushed call actor = MayPop pushed call actor
+
+-- extra items follow a frame that is offered
+abbrev pub AreExtras : Option Frame → ℕ → Type 0
+AreExtras None extras = extras ≡ 0
+AreExtras (Some f) extras = Unit {0}
 
 -- an entry tells what its event is and does
 pub record Tells (n : Node) (last : ℕ) (e : Entry) : Type 0 where
@@ -36,6 +57,8 @@ pub record Tells (n : Node) (last : ℕ) (e : Entry) : Type 0 where
   pub delta : e.effect.delta ≡ (done_by e n).delta
   pub pushed : e.effect.pushed ≡ (done_by e n).pushed
   pub received : e.effect.received ≡ (done_by e n).received
+  pub popped : IsPop e.effect.popped e.effect.pushed e.call e.actor
+  pub extras : AreExtras e.effect.pushed e.effect.extras
 
 abbrev pub Follows : Node → ℕ → List Entry → Type 0
 Follows n last [] = Unit {0}

@@ -167,12 +167,14 @@ remembers (lines.Mqclose handle) reply m = closed handle reply m
 remembers (lines.Mqget handle o) reply m = got reply m
 remembers _ reply m = m
 
--- the deadline of a get that waits is set at its first try, at some moment
+-- The deadline of a get that waits is set at its first try: the moment of that try and so many milliseconds. Which moment
+-- that was, the step says in which the line stands.
+abbrev pub deadline : ℕ → Option ℕ → Option ℕ
+deadline moment None = None
+deadline moment (Some wait) = Some (min (moment + wait) last_moment)
+
 abbrev pub IsDeadline : Option ℕ → Option ℕ → Type 0
-IsDeadline None None = Unit {0}
-IsDeadline None (Some until) = ⊥
-IsDeadline (Some wait) None = ⊥
-IsDeadline (Some wait) (Some until) = (moment : ℕ) × (until ≡ min (moment + wait) last_moment)
+IsDeadline wait until = (moment : ℕ) × (until ≡ deadline moment wait)
 
 abbrev pub wait_of : ScriptLine → Option ℕ
 wait_of (lines.Mqget handle o) = o.wait

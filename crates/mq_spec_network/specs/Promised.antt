@@ -1,0 +1,36 @@
+-- What is promised of a lawful story of a joined network.
+use Rattle.std.specs.Prelude.{◌≡◌, ℕ, false, List, ◌++◌, flat_map, map}
+use Rattle.mq_message.specs.declared.message.Ident.{Ident}
+use Rattle.mq_queue.specs.declared.row.Row.{Row}
+use Rattle.mq_queue.specs.Rows.{same_ident}
+use Rattle.mq_history.specs.declared.history.History.{History}
+use Rattle.mq_history.specs.declared.scenario.Scenario.{Scenario}
+use Rattle.mq_spec_state.specs.State.{Plain, Queue}
+use Rattle.mq_spec_network.specs.Story.{Line, Chain, IsStory}
+use Rattle.mq_spec_network.specs.Ledger.{ledger, ledger_rows}
+use Rattle.mq_spec_network.specs.Standing.{standing, standing_in, managers_at, opening_ledger, rows_told}
+use Rattle.mq_spec_network.specs.Conflict.{NoConflict}
+use Rattle.mq_spec_network.specs.Order.{AllInOrder}
+
+-- no ident comes twice
+abbrev pub AreDistinct : List Ident → Type 0
+AreDistinct idents = Chain (λ x y. same_ident x y ≡ false) idents
+
+-- the idents of all standing rows of a network
+abbrev pub standing_on : Scenario → List Plain → Plain → Queue → List Ident
+standing_on s ps p q = map (λ (row : Row). row.message.ident) (standing_in s ps p q.rows)
+
+abbrev pub all_standing : Scenario → List Plain → List Ident
+all_standing s ps = flat_map (λ (p : Plain). flat_map (standing_on s ps p) p.queues) ps
+
+-- After a prefix of the story: the standing rows of each queue are the ledger's, list for list; each ident stands at most
+-- once, and is in at most one committed get; and each receiver's commit kept the order.
+pub record Holds (s : Scenario) (hs : List History) (p : List Line) : Type 0 where
+  pub rows : (m : ℕ) (name : List ℕ) → rows_told (standing s (managers_at s p hs) m name) ≡ rows_told (ledger_rows m name (ledger (opening_ledger s hs) p))
+  pub once : AreDistinct (all_standing s (managers_at s p hs))
+  pub got_once : AreDistinct (ledger (opening_ledger s hs) p).got
+  pub order : AllInOrder (opening_ledger s hs) p
+
+-- This holds of each prefix in which no operator's settlement is at odds with its receiver.
+abbrev pub Promised : Scenario → List History → Type 0
+Promised s hs = (story p rest : List Line) → IsStory hs story → story ≡ p ++ rest → NoConflict s hs p → Holds s hs p
