@@ -1,0 +1,4 @@
+pub mod Sections
+pub mod Reading
+pub mod Views
+pub mod Forms

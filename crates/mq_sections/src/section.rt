@@ -1,0 +1,12 @@
+use mq_base::Items;
+use mq_name::{Label, QName};
+use mq_sc_parse::Command;
+
+/// A scenario with one manager and one section of commands, which is obeyed once as the only step.
+#[derive(Drop)]
+pub struct Section {
+    pub manager: QName,
+    pub label: Label,
+    /// The section's commands, in order.
+    pub commands: Items<Command>,
+}
