@@ -13,13 +13,20 @@ use Rattle.mq_model.specs.declared.scenario.ScriptLine.TheVariants as script
 use Rattle.mq_model.specs.Grammar.{lines_of, onto_first, define_text, script_lines, IsScenario, IsScript}
 use Rattle.mq_model.specs.Replay.{History, IsHistory}
 use Rattle.mq_model.specs.Lawful.{Obeys, IsRunTo, WholeRun, PartRun}
-use Rattle.mq_model.specs.Report.{report}
 use Rattle.mq_ledger.proofs.ToldLaws.{headline}
 use Rattle.mq_scenario.specs.declared.fault.Cause.{Cause}
 use Rattle.mqnet.specs.declared.network.Status.{Status}
 use Rattle.mqnet.specs.declared.network.Status.TheVariants as status
+use Rattle.mq_sections.specs.declared.section.Section.{Section}
+use Rattle.mq_sections.specs.declared.form.Form.{Form}
+use Rattle.mq_sections.specs.declared.form.Form.TheVariants as forms
+use Rattle.mq_sections.specs.Forms.{IsForm}
+use Rattle.mq_obey.specs.declared.events.CommandNode.{CommandNode}
+use Rattle.mq_obey.specs.Obeyed.{IsObeyed, IsObeyedInPart}
 use Rattle.mqnet.specs.declared.network.Network.{Network}
-use Rattle.mqnet.specs.Headline.{IsScenarioRead, IsRun, ReadNoScenario, Completes, Reports, Writes, RanWhole, RanSome, first_moment}
+use Rattle.mqnet.specs.declared.network.Network.TheVariants as networks
+use Rattle.mqnet.specs.Fits.{FitsForm}
+use Rattle.mqnet.specs.Headline.{IsFormRead, IsRun, ReadNoScenario, Completes, Ends, Reports, Writes, RanWhole, RanSome, ObeyedWhole, first_moment, form_of, DidWhole, DidSome, report_of}
 
 -- A scenario is not longer than its text
 
@@ -45,11 +52,9 @@ short_script : (lines : List ScriptLine) → IsScript lines → length lines < 2
 short_script (script.Connect ∷ script.Open label queue ∷ calls) h = omega (arith, h.1.1)
 short_script _ h = absurd h
 
-pub few_names : (left : Option (List ℕ)) (s : Scenario) → IsScenarioRead left s → length s.queues < 2 ^ 40
-few_names left s h = few_queues h.bytes s h.scenario h.read.1
-
-pub short_lines : (left : Option (List ℕ)) (s : Scenario) → IsScenarioRead left s → length s.lines < 2 ^ 40
-short_lines left s h = short_script s.lines h.scenario.form.lines
+pub fits : (left : Option (List ℕ)) (f : Form) → IsFormRead left f → FitsForm f
+fits left (forms.Script s) h = (few_queues h.bytes s h.form h.read.1, short_script s.lines h.form.form.lines)
+fits left (forms.Section s) h = tt
 
 -- A whole run
 
@@ -71,25 +76,51 @@ ran_part start s node history run opening = record { some = inr (history, run); 
 pub ran_whole : (start : ℕ) (s : Scenario) (node : History) → IsHistory node → WholeRun s node.entries node.marks → node.opening ≡ first_moment start → RanWhole start s node
 ran_whole start s node history run opening = record { lawful = (history, run); opening = opening; headline = headline node history }
 
-abbrev pub network : Scenario → History → Network
-network s node = record { scenario = s; node = node }
+abbrev pub script_run : Scenario → History → Network
+script_run s node = networks.Script (record { scenario = s; node = node })
 
-pub reported : (start : ℕ) (old new : Option (List ℕ)) (s : Scenario) (node : History) (st : Status) → RanWhole start s node → Writes old new (report s node) st → Reports start old new s st (Some (network s node))
-reported start old new s node status.Ok h w = (refl, h, w)
-reported start old new s node (status.WriteFault n) h w = (refl, h, w)
-reported start old new s node status.NoMemory h w = (refl, record { some = inl h.lawful; opening = h.opening; headline = h.headline }, w)
-reported start old new s node status.BadWords h w = w
-reported start old new s node (status.BadScenario line cause) h w = w
-reported start old new s node status.ReadFault h w = w
-reported start old new s node status.TooLong h w = w
+abbrev pub section_run : Section → CommandNode → Network
+section_run s node = networks.Section (record { section = s; node = node })
+
+some_of_whole : (start : ℕ) (n : Network) → DidWhole start n → DidSome start n
+some_of_whole start (networks.Script run) h = record { some = inl h.lawful; opening = h.opening; headline = h.headline }
+some_of_whole start (networks.Section run) h = record { some = inl h.obeyed; opening = h.opening }
+
+pub reported : (start : ℕ) (old new : Option (List ℕ)) (n : Network) (st : Status) → DidWhole start n → Writes old new (report_of n) st → Reports start old new (form_of n) st (Some n)
+reported start old new n status.Ok h w = (refl, h, w)
+reported start old new n (status.WriteFault written) h w = (refl, h, w)
+reported start old new n status.NoMemory h w = (refl, some_of_whole start n h, w)
+reported start old new n status.BadWords h w = w
+reported start old new n (status.BadScenario line cause) h w = w
+reported start old new n status.ReadFault h w = w
+reported start old new n status.TooLong h w = w
 
 keeps_same : (o : Option (List ℕ)) → Keeps o o
 keeps_same None = tt
 keeps_same (Some xs) = refl
 
 -- a run that ended within a step
-pub ran_short : (start : ℕ) (old : Option (List ℕ)) (s : Scenario) (node : History) → IsHistory node → PartRun s node.entries node.marks → node.opening ≡ first_moment start → Reports start old old s status.NoMemory (Some (network s node))
+pub ran_short : (start : ℕ) (old : Option (List ℕ)) (s : Scenario) (node : History) → IsHistory node → PartRun s node.entries node.marks → node.opening ≡ first_moment start → Reports start old old (forms.Script s) status.NoMemory (Some (script_run s node))
 ran_short start old s node history run opening = (refl, ran_part start s node history run opening, keeps_same old)
+
+pub obeyed_whole : (start : ℕ) (s : Section) (node : CommandNode) → IsObeyed s node → node.opening ≡ first_moment start → ObeyedWhole start s node
+obeyed_whole start s node h opening = record { obeyed = h; opening = opening }
+
+pub obeyed_short : (start : ℕ) (old : Option (List ℕ)) (s : Section) (node : CommandNode) → IsObeyedInPart s node → node.opening ≡ first_moment start → Reports start old old (forms.Section s) status.NoMemory (Some (section_run s node))
+obeyed_short start old s node h opening = (refl, record { some = inr h; opening = opening }, keeps_same old)
+
+-- what was run is what was read
+pub ends : (left : Option (List ℕ)) (start : ℕ) (old new : Option (List ℕ)) (f : Form) (st : Status) (n : Option Network) → IsFormRead left f → Reports start old new f st n → Ends left start old new st n
+ends left start old new f status.Ok (Some n) r h = (subst (IsFormRead left) (sym h.0) r, h.1, h.2)
+ends left start old new f status.Ok None r h = h
+ends left start old new f (status.WriteFault written) (Some n) r h = (subst (IsFormRead left) (sym h.0) r, h.1, h.2)
+ends left start old new f (status.WriteFault written) None r h = h
+ends left start old new f status.NoMemory (Some n) r h = (subst (IsFormRead left) (sym h.0) r, h.1, h.2)
+ends left start old new f status.NoMemory None r h = h
+ends left start old new f status.BadWords n r h = absurd h
+ends left start old new f (status.BadScenario line cause) n r h = absurd h
+ends left start old new f status.ReadFault n r h = absurd h
+ends left start old new f status.TooLong n r h = absurd h
 
 -- a list of one word
 pub word_is : {A : Type 0} (f : A → List ℕ) (ws : List A) (w : A) (text : List ℕ) (r : Bool) → 1 ≤ length ws → length ws < 2 → w ≡ get_or ws 0 w → r ≡ bytes_eq (f w) text
@@ -105,15 +136,15 @@ word_is f (x ∷ []) w text r le lt e h =
 -- from the causes of the other statuses
 pub completes : (words : List (List ℕ)) (left : Option (List ℕ)) (r0 r1 w0 w1 : ℕ) (st : Status) → (st ≡ status.BadWords → IsRun words → ⊥) → ((line : ℕ) (cause : Cause) → st ≡ status.BadScenario line cause → ReadNoScenario left line cause) → (st ≡ status.ReadFault → Rose r0 r1)
     → ((n : ℕ) → st ≡ status.WriteFault n → Rose w0 w1) → (st ≡ status.TooLong → IsLonger left 1048576) → Completes words left r0 r1 w0 w1 st
-completes words left r0 r1 w0 w1 status.Ok bw bs rf wf tl = λ bytes s run told few is nr nw. inl refl
-completes words left r0 r1 w0 w1 status.NoMemory bw bs rf wf tl = λ bytes s run told few is nr nw. inr refl
-completes words left r0 r1 w0 w1 status.BadWords bw bs rf wf tl = λ bytes s run told few is nr nw. absurd (bw refl run)
-completes words left r0 r1 w0 w1 (status.BadScenario line cause) bw bs rf wf tl = λ bytes s run told few is nr nw.
+completes words left r0 r1 w0 w1 status.Ok bw bs rf wf tl = λ bytes f run told few is nr nw. inl refl
+completes words left r0 r1 w0 w1 status.NoMemory bw bs rf wf tl = λ bytes f run told few is nr nw. inr refl
+completes words left r0 r1 w0 w1 status.BadWords bw bs rf wf tl = λ bytes f run told few is nr nw. absurd (bw refl run)
+completes words left r0 r1 w0 w1 (status.BadScenario line cause) bw bs rf wf tl = λ bytes f run told few is nr nw.
     let no = bs line cause refl in
     let same : Told (Some bytes) no.bytes = subst (λ (l : Option (List ℕ)). Told l no.bytes) told no.read.0 in
-    absurd (no.none s (subst (IsScenario s) same is))
-completes words left r0 r1 w0 w1 status.ReadFault bw bs rf wf tl = λ bytes s run told few is nr nw. absurd (nr (rf refl))
-completes words left r0 r1 w0 w1 (status.WriteFault n) bw bs rf wf tl = λ bytes s run told few is nr nw. absurd (nw (wf n refl))
-completes words left r0 r1 w0 w1 status.TooLong bw bs rf wf tl = λ bytes s run told few is nr nw.
+    absurd (no.none f (subst (IsForm f) same is))
+completes words left r0 r1 w0 w1 status.ReadFault bw bs rf wf tl = λ bytes f run told few is nr nw. absurd (nr (rf refl))
+completes words left r0 r1 w0 w1 (status.WriteFault n) bw bs rf wf tl = λ bytes f run told few is nr nw. absurd (nw (wf n refl))
+completes words left r0 r1 w0 w1 status.TooLong bw bs rf wf tl = λ bytes f run told few is nr nw.
     let longer : IsLonger (Some bytes) 1048576 = subst (λ (l : Option (List ℕ)). IsLonger l 1048576) told (tl refl) in
     absurd (omega (arith, longer, few))

@@ -3,7 +3,9 @@ ghost use Rattle.mqnet.specs.Numbers.{status_number};
 
 use mq_model::Scenario;
 use mq_node::Node;
+use mq_obey::CommandNode;
 use mq_scenario::Cause;
+use mq_sections::Section;
 
 /// How a call of the program ended.
 #[derive(Clone, Copy, Debug, PartialEq, Eq)]
@@ -40,11 +42,25 @@ impl Status {
     }
 }
 
-/// The scenario and the node that ran it.
+/// A scenario of queues and a script, and the node that ran it.
 #[derive(Drop)]
-pub struct Network {
+pub struct ScriptRun {
     pub scenario: Scenario,
     pub node: Node,
+}
+
+/// A section of commands, and the manager that obeyed it.
+#[derive(Drop)]
+pub struct SectionRun {
+    pub section: Section,
+    pub node: CommandNode,
+}
+
+/// The scenario of either form with the node that ran it.
+#[derive(Drop)]
+pub enum Network {
+    Script(ScriptRun),
+    Section(SectionRun),
 }
 
 /// How a call of the program ended, with the network where the scenario was run.

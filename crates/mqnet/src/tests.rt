@@ -1,6 +1,7 @@
 use crate::top::mqnet;
 use mq_base::{MemSink, MemSource};
 use std::alloc::{AllocError, Global};
+use std::process::Abort;
 use std::test::*;
 
 const HEAD: &str = "NETWORK
@@ -125,4 +126,76 @@ fn each_status_comes_by_its_cause(rt: HostRuntime) -> Result<(), Fail> {
         }
     }
     Ok(())
+}
+
+const SECTION: &str = "NETWORK
+QMGR LONDON
+MQSC D1 LONDON
+def ql(q1) descr('It''s') maxdepth(10)
+alter qlocal(Q1) +
+  put(disabled)
+dis ql(Q1) put maxdepth
+delete qalias(q1)
+define qlocal(Q1)
+ENDMQSC
+STEPS
+OBEY D1
+ENDSTEPS
+";
+
+const ANSWERS: &str = "MQNET 1
+STEPS
+0001 OBEY D1
+  OK
+  OK
+  OK
+    QLOCAL(Q1) MAXDEPTH(10) PUT(DISABLED)
+  REFUSED MISSING
+  REFUSED EXISTS
+QUEUES
+QMGR LONDON UP
+Q1 DEPTH 0
+CHANNELS
+LEDGER
+STATUS 0
+";
+
+const NO_COMMAND: &str = "NETWORK
+QMGR LONDON
+MQSC D1 LONDON
+define qlocal(Q1)
+defin qlocal(Q2)
+ENDMQSC
+STEPS
+OBEY D1
+ENDSTEPS
+";
+
+/// Runs the text: the status is as wanted, and the output too.
+fn assert_run(
+    rt: &impl Abort,
+    alloc: Global,
+    text: &str,
+    status: u8,
+    output: &str,
+) -> Result<(), Fail> {
+    let mut words = Vec::new(alloc);
+    words.push(String::from_str(alloc, "run")?)?;
+    let text = String::from_str(alloc, text)?;
+    let mut source = MemSource::new(text.into_bytes(), Vec::new(alloc));
+    let mut sink = MemSink::new(alloc, 4096, Vec::new(alloc))?;
+    let ended = mqnet(alloc, &words, &mut source, &mut sink, 0);
+    assert_eq!(rt; ended.status.number(), status);
+    assert_eq!(rt; str::from_utf8(sink.held())?, output);
+    Ok(())
+}
+
+#[test]
+fn a_section_is_obeyed(rt: HostRuntime) -> Result<(), Fail> {
+    assert_run(&rt, rt.alloc(), SECTION, 0, ANSWERS)
+}
+
+#[test]
+fn a_section_with_a_line_that_is_no_command_runs_nothing(rt: HostRuntime) -> Result<(), Fail> {
+    assert_run(&rt, rt.alloc(), NO_COMMAND, 2, "")
 }

@@ -3,16 +3,21 @@ ghost use Rattle.std.specs.String.{string_bytes};
 ghost use Rattle.mq_base.specs.Outside.{Rose, IsLonger};
 ghost use Rattle.mq_model.specs.Report.{report};
 ghost use Rattle.mq_scenario.specs.declared.fault.Cause.{Cause};
-ghost use Rattle.mqnet.specs.Headline.{IsRun, Ends, ReadNoScenario, Writes, Reports, Refused, IsScenarioRead, Completes};
+ghost use Rattle.mq_sections.specs.declared.form.Form.TheVariants as forms;
+ghost use Rattle.mq_obey.specs.Report as section_report;
+ghost use Rattle.mqnet.specs.Headline.{IsRun, first_moment, Ends, ReadNoScenario, Writes, Reports, Refused, IsFormRead, Completes};
+ghost use Rattle.mqnet.specs.Fits.{FitsForm};
 ghost use Rattle.mqnet.specs.declared.network.Status.TheVariants.{BadWords, BadScenario, ReadFault, WriteFault, NoMemory, TooLong};
 
-use crate::network::{Ended, Network, Status};
+use crate::network::{Ended, Network, ScriptRun, SectionRun, Status};
 use mq_base::{ReadStop, Sink, Source, read_all, write_all};
 use mq_ledger::ledger_of;
 use mq_model::Scenario;
 use mq_node::{Node, run};
+use mq_obey::{CommandNode, obey, report_bytes};
 use mq_report::report_text;
-use mq_scenario::{ScenarioFault, read_scenario};
+use mq_scenario::ScenarioFault;
+use mq_sections::{Form, Section, read_form};
 use std::alloc::Global;
 
 /// The words are the one word `run`.
@@ -22,6 +27,24 @@ fn is_run(words: &[String]) -> bool
     match words {
         [word] => word.as_str() == "run",
         _ => false,
+    }
+}
+
+/// The moment of a run's beginning.
+fn first_moment(start: u64) -> u64
+    ensures { result ≡ first_moment start }
+{
+    start.min(253_300_000_000_000)
+}
+
+/// Writes a text.
+fn write_text<K: Sink>(text: &[u8], sink: &mut K) -> Status
+    ensures writes { Writes (K.held sink.old) (K.held sink.new) text.now result }
+    ensures write_fault { (n : ℕ) → result ≡ WriteFault n → Rose (K.faults sink.old) (K.faults sink.new) }
+{
+    match write_all(sink, text) {
+        Ok(()) => Status::Ok,
+        Err(fault) => Status::WriteFault(fault.written),
     }
 }
 
@@ -39,20 +62,17 @@ fn write_report<K: Sink>(alloc: Global, scenario: &Scenario, node: &Node, sink: 
         Err(_) => return Status::NoMemory,
         Ok(text) => text,
     };
-    match write_all(sink, text.as_bytes()) {
-        Ok(()) => Status::Ok,
-        Err(fault) => Status::WriteFault(fault.written),
-    }
+    write_text(text.as_bytes(), sink)
 }
 
-/// Runs a scenario that was read, from a moment on, and writes its report.
-fn run_and_report<K: Sink>(alloc: Global, scenario: Scenario, start: u64, sink: &mut K) -> Ended
+/// Runs a scenario with a script from a moment on, and writes its report.
+fn run_script<K: Sink>(alloc: Global, scenario: Scenario, start: u64, sink: &mut K) -> Ended
     requires few { length scenario.queues < 2 ^ 40 }
     requires short { length scenario.lines < 2 ^ 40 }
-    ensures reports { Reports start (K.held sink.old) (K.held sink.new) scenario result.status result.network }
+    ensures reports { Reports start (K.held sink.old) (K.held sink.new) (forms.Script scenario) result.status result.network }
     ensures write_fault { (n : ℕ) → result.status ≡ WriteFault n → Rose (K.faults sink.old) (K.faults sink.new) }
 {
-    let moment = start.min(253_300_000_000_000);
+    let moment = first_moment(start);
     let mut node = match Node::begin(alloc, moment, 2) {
         Ok(node) => node,
         Err(_) => return Ended {
@@ -65,21 +85,72 @@ fn run_and_report<K: Sink>(alloc: Global, scenario: Scenario, start: u64, sink: 
     match ran {
         Err(_) => Ended {
             status: Status::NoMemory,
-            network: Some(Network { scenario, node }),
+            network: Some(Network::Script(ScriptRun { scenario, node })),
         },
         Ok(()) => {
             let status = write_report(alloc, &scenario, &node, sink);
             Ended {
                 status,
-                network: Some(Network { scenario, node }),
+                network: Some(Network::Script(ScriptRun { scenario, node })),
             }
         }
     }
 }
 
+/// Writes the report of a section that was obeyed.
+fn write_answers<K: Sink>(
+    alloc: Global,
+    section: &Section,
+    node: &CommandNode,
+    sink: &mut K,
+) -> Status
+    ensures writes { Writes (K.held sink.old) (K.held sink.new) (section_report.report section.now node.now) result }
+    ensures write_fault { (n : ℕ) → result ≡ WriteFault n → Rose (K.faults sink.old) (K.faults sink.new) }
+{
+    let text = match report_bytes(alloc, section, node) {
+        Err(_) => return Status::NoMemory,
+        Ok(text) => text,
+    };
+    write_text(text.as_slice(), sink)
+}
+
+/// Obeys a section from a moment on, and writes its report.
+fn run_section<K: Sink>(alloc: Global, section: Section, start: u64, sink: &mut K) -> Ended
+    ensures reports { Reports start (K.held sink.old) (K.held sink.new) (forms.Section section) result.status result.network }
+    ensures write_fault { (n : ℕ) → result.status ≡ WriteFault n → Rose (K.faults sink.old) (K.faults sink.new) }
+{
+    let moment = first_moment(start);
+    let mut node = CommandNode::begin(alloc, moment);
+    match obey(alloc, &section, &mut node) {
+        Err(_) => Ended {
+            status: Status::NoMemory,
+            network: Some(Network::Section(SectionRun { section, node })),
+        },
+        Ok(()) => {
+            let status = write_answers(alloc, &section, &node, sink);
+            Ended {
+                status,
+                network: Some(Network::Section(SectionRun { section, node })),
+            }
+        }
+    }
+}
+
+/// Runs a scenario that was read, from a moment on, and writes its report.
+fn run_and_report<K: Sink>(alloc: Global, form: Form, start: u64, sink: &mut K) -> Ended
+    requires { FitsForm form }
+    ensures reports { Reports start (K.held sink.old) (K.held sink.new) form result.status result.network }
+    ensures write_fault { (n : ℕ) → result.status ≡ WriteFault n → Rose (K.faults sink.old) (K.faults sink.new) }
+{
+    match form {
+        Form::Script(scenario) => run_script(alloc, scenario, start, sink),
+        Form::Section(section) => run_section(alloc, section, start, sink),
+    }
+}
+
 /// Reads the scenario of the source to its end.
-fn read_text<S: Source>(alloc: Global, source: &mut S) -> Result<Scenario, Status>
-    ensures found { IfOk result (IsScenarioRead (S.left source.old)) }
+fn read_text<S: Source>(alloc: Global, source: &mut S) -> Result<Form, Status>
+    ensures found { IfOk result (IsFormRead (S.left source.old)) }
     ensures refused { IfErr result (Refused (S.left source.old) (S.faults source.old) (S.faults source.new)) }
 {
     let text = match read_all(alloc, source, 1_048_576) {
@@ -88,8 +159,8 @@ fn read_text<S: Source>(alloc: Global, source: &mut S) -> Result<Scenario, Statu
         Err(ReadStop::TooLong) => return Err(Status::TooLong),
         Err(ReadStop::NoMemory) => return Err(Status::NoMemory),
     };
-    match read_scenario(alloc, &text) {
-        Ok(scenario) => Ok(scenario),
+    match read_form(alloc, &text) {
+        Ok(form) => Ok(form),
         Err(ScenarioFault::BadLine(line, cause)) => Err(Status::BadScenario(line, cause)),
         Err(ScenarioFault::NoMemory) => Err(Status::NoMemory),
     }
@@ -117,7 +188,7 @@ fn obey_words<S: Source, K: Sink>(
         };
     }
     match read_text(alloc, source) {
-        Ok(scenario) => run_and_report(alloc, scenario, start, sink),
+        Ok(form) => run_and_report(alloc, form, start, sink),
         Err(status) => Ended {
             status,
             network: None,
@@ -135,8 +206,9 @@ pub fn mqnet<S: Source, K: Sink>(
     sink: &mut K,
     start: u64,
 ) -> Ended
-    // By status: the story is lawful for the scenario of the bytes read, after each prefix of it the rows stand
-    // as the ledger says, once and in order, and the report is written, or nothing.
+    // By status: the story is lawful for the scenario of the bytes read, of either form: after each prefix of a
+    // script's the rows stand as the ledger says, once and in order; of a section's commands each is answered in
+    // its place. The report is written, or nothing.
     ensures ends { Ends (S.left source.old) start (K.held sink.old) (K.held sink.new) result.status result.network }
     ensures bad_words { result.status ≡ BadWords ↔ (IsRun (map string_bytes words.now) → ⊥) }
     ensures bad_scenario { (line : ℕ) (cause : Cause) → result.status ≡ BadScenario line cause → ReadNoScenario (S.left source.old) line cause }
