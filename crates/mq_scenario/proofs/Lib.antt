@@ -3,3 +3,4 @@ pub mod LoopLaws
 pub mod WordLaws
 pub mod LineLaws
 pub mod PartLaws
+mod DistinctLaws

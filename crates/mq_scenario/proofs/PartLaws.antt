@@ -16,12 +16,12 @@ use Rattle.mq_scenario.specs.Reading.{line_at, word_at, taken, left, front_of, r
 use Rattle.mq_scenario.proofs.WordLaws.{some_bind, bind_some, guard, guarded, some_is, both, both_true, same_text, text_same, not_true}
 use Rattle.mq_scenario.proofs.LineLaws.{pair, manager_is, manager_there, labelled_is, labelled_there, labelled_behind, behind_there, define_is, define_there, define_none, open_is, open_there, call_is, call_there, call_none}
 
-abbrev Lines : Type 0
+abbrev pub Lines : Type 0
 Lines = List (List ℕ)
 
 -- One line
 
-abbrev with_rest : {X : Type 0} → Lines → X → X × Lines
+abbrev pub with_rest : {X : Type 0} → Lines → X → X × Lines
 with_rest rest x = (x, rest)
 
 line_step : {X : Type 0} (read : List ℕ → Option X) (raw : List ℕ) (raws : Lines) (p : X × Lines) → option_and_then (λ (x : X). Some (with_rest raws x)) (read raw) ≡ Some p → (first : List ℕ) × (raw ∷ raws ≡ first ∷ p.1) × (read first ≡ Some p.0)
@@ -30,23 +30,23 @@ line_step {X} read raw raws p e =
     let same = some_is (with_rest raws a.0) p a.2 in
     (raw, ap (λ (q : X × Lines). raw ∷ q.1) same, a.1 ∙ ap (λ (q : X × Lines). Some q.0) same)
 
-line_is : {X : Type 0} (read : List ℕ → Option X) (raws : Lines) (p : X × Lines) → line_at read raws ≡ Some p → (first : List ℕ) × (raws ≡ first ∷ p.1) × (read first ≡ Some p.0)
+pub line_is : {X : Type 0} (read : List ℕ → Option X) (raws : Lines) (p : X × Lines) → line_at read raws ≡ Some p → (first : List ℕ) × (raws ≡ first ∷ p.1) × (read first ≡ Some p.0)
 unfolding line_at
 line_is read [] p e = absurd cc
 line_is read (raw ∷ raws) p e = line_step read raw raws p e
 
-line_there : {X : Type 0} (read : List ℕ → Option X) (raw : List ℕ) (raws : Lines) (x : X) → read raw ≡ Some x → line_at read (raw ∷ raws) ≡ Some (with_rest raws x)
+pub line_there : {X : Type 0} (read : List ℕ → Option X) (raw : List ℕ) (raws : Lines) (x : X) → read raw ≡ Some x → line_at read (raw ∷ raws) ≡ Some (with_rest raws x)
 unfolding line_at
 line_there {X} read raw raws x e = bind_some (read raw) (λ (y : X). Some (with_rest raws y)) x (Some (with_rest raws x)) e refl
 
-word_is : (word : List ℕ) (raws rest : Lines) → word_at word raws ≡ Some rest → raws ≡ word ∷ rest
+pub word_is : (word : List ℕ) (raws rest : Lines) → word_at word raws ≡ Some rest → raws ≡ word ∷ rest
 unfolding word_at
 word_is word [] rest e = absurd cc
 word_is word (raw ∷ raws) rest e =
     let g = guard (bytes_eq raw word) (Some raws) rest e in
     ap (λ (l : List ℕ). l ∷ raws) (same_text raw word g.0) ∙ ap (λ (ls : Lines). word ∷ ls) (some_is raws rest g.1)
 
-word_there : (word : List ℕ) (rest : Lines) → word_at word (word ∷ rest) ≡ Some rest
+pub word_there : (word : List ℕ) (rest : Lines) → word_at word (word ∷ rest) ≡ Some rest
 unfolding word_at
 word_there word rest = guarded (bytes_eq word word) (Some rest) (text_same word word refl)
 
@@ -78,7 +78,7 @@ taken_there {X} read text P there stop rest none (x ∷ xs) all =
 
 -- The heading
 
-head_is : (raws : Lines) (p : List ℕ × Lines) → head_at raws ≡ Some p → (raws ≡ codes "NETWORK" ∷ manager_text p.0 ∷ p.1) × IsWritten p.0
+pub head_is : (raws : Lines) (p : List ℕ × Lines) → head_at raws ≡ Some p → (raws ≡ codes "NETWORK" ∷ manager_text p.0 ∷ p.1) × IsWritten p.0
 unfolding head_at
 head_is raws p e =
     let a = some_bind (word_at (codes "NETWORK") raws) (line_at manager_of) p e in
@@ -86,7 +86,7 @@ head_is raws p e =
     let m = manager_is l.0 p.0 l.2 in
     (word_is (codes "NETWORK") raws a.0 a.1 ∙ ap (λ (ls : Lines). codes "NETWORK" ∷ ls) (l.1 ∙ ap (λ (x : List ℕ). x ∷ p.1) m.0), m.1)
 
-head_there : (manager : List ℕ) (rest : Lines) → IsWritten manager → head_at (codes "NETWORK" ∷ manager_text manager ∷ rest) ≡ Some (with_rest rest manager)
+pub head_there : (manager : List ℕ) (rest : Lines) → IsWritten manager → head_at (codes "NETWORK" ∷ manager_text manager ∷ rest) ≡ Some (with_rest rest manager)
 unfolding head_at
 head_there manager rest m =
     bind_some (word_at (codes "NETWORK") (codes "NETWORK" ∷ manager_text manager ∷ rest)) (line_at manager_of) (manager_text manager ∷ rest) (Some (with_rest rest manager)) (word_there (codes "NETWORK") (manager_text manager ∷ rest))
@@ -261,7 +261,7 @@ pub record IsParts (raws : Lines) (p : Parts) : Type 0 where
   pub opened : IsLabel p.script.handle × IsWritten p.script.queue
   pub other : bytes_eq p.section p.script.label ≡ false
 
-no_lines : (ls : Lines) → match_empty ls ≡ true → ls ≡ []
+pub no_lines : (ls : Lines) → match_empty ls ≡ true → ls ≡ []
 no_lines [] e = refl
 no_lines (l ∷ ls) e = absurd cc
 
@@ -391,7 +391,7 @@ pub found_is : (text : List ℕ) (r : Result Scenario ScenarioFault) → IfOk r 
 found_is text (Ok s) h = read_is text s h
 found_is text (Err f) h = tt
 
-not_both : {A : Type 0} (o : Option A) (x : A) → o ≡ None → o ≡ Some x → ⊥
+pub not_both : {A : Type 0} (o : Option A) (x : A) → o ≡ None → o ≡ Some x → ⊥
 not_both o x n e = cc
 
 refusal_is : (text : List ℕ) (f : ScenarioFault) → IsRefusal (scenario_at (lines_of text)) f → IsRefused text f

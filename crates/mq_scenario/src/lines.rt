@@ -15,7 +15,7 @@ pub struct Defined<'a> {
 }
 
 /// The first line of a text, and what stands behind it.
-fn next_line(text: &[u8]) -> Option<(&[u8], &[u8])>
+pub fn next_line(text: &[u8]) -> Option<(&[u8], &[u8])>
     ensures line { MatchOption result (lines_of text.now ≡ []) (λ p. lines_of text.now ≡ p.0.now ∷ lines_of p.1.now) }
     ensures shorter { IfSome result (λ p. length p.1.now < length text.now) }
 {
@@ -28,6 +28,7 @@ fn next_line(text: &[u8]) -> Option<(&[u8], &[u8])>
     }
 }
 
+/// The text behind its first line, where that line is the word.
 #[tactic(auto, unfolding(crate::specs::Reading::word_at))]
 pub fn word_line<'a>(text: &'a [u8], word: &[u8]) -> Option<&'a [u8]>
     ensures { option_map (λ r. lines_of r.now) result ≡ word_at word.now (lines_of text.now) }
@@ -39,6 +40,7 @@ pub fn word_line<'a>(text: &'a [u8], word: &[u8]) -> Option<&'a [u8]>
     Some(rest)
 }
 
+/// The name behind QMGR in the first line of a text, and the text behind that line.
 #[tactic(auto, unfolding(crate::specs::Reading::line_at))]
 pub fn manager_line(text: &[u8]) -> Option<(QName, &[u8])>
     ensures { option_map (λ x. (x.0, lines_of x.1.now)) result ≡ line_at manager_of (lines_of text.now) }
@@ -47,6 +49,8 @@ pub fn manager_line(text: &[u8]) -> Option<(QName, &[u8])>
     Some((pieces::manager_of(line)?, rest))
 }
 
+/// The label and the manager's name behind a word in the first line of a text, and the text behind that
+/// line.
 #[tactic(auto, unfolding(crate::specs::Reading::line_at))]
 pub fn labelled_line<'a>(text: &'a [u8], word: &[u8]) -> Option<((Label, QName), &'a [u8])>
     ensures { option_map (λ x. (x.0, lines_of x.1.now)) result ≡ line_at (labelled_of word.now) (lines_of text.now) }
@@ -55,6 +59,7 @@ pub fn labelled_line<'a>(text: &'a [u8], word: &[u8]) -> Option<((Label, QName),
     Some((pieces::labelled_of(line, word)?, rest))
 }
 
+/// The label behind a word in the first line of a text, and the text behind that line.
 #[tactic(auto, unfolding(crate::specs::Reading::line_at))]
 pub fn label_line<'a>(text: &'a [u8], word: &[u8]) -> Option<(Label, &'a [u8])>
     ensures { option_map (λ x. (x.0, lines_of x.1.now)) result ≡ line_at (label_behind word.now) (lines_of text.now) }

@@ -1,6 +1,6 @@
 ghost use Rattle.std.specs.Prelude.{◌≡◌, ◌++◌, ℕ, List, IfOk, IfErr, OnOk, Some};
 ghost use Rattle.std.specs.Option.{option_map};
-ghost use Rattle.mq_model.specs.Grammar.{lines_of, are_distinct, is_among, IsScenario};
+ghost use Rattle.mq_model.specs.Grammar.{lines_of, are_distinct, IsScenario};
 ghost use Rattle.mq_model.specs.declared.scenario.Scenario.{Scenario};
 ghost use Rattle.mq_scenario.specs.Reading.{head_at, section_at, script_at, steps_at, parts_at, scenario_at, match_empty, define_of, call_of, taken, left, is_whole, scenario_of, script_lines};
 ghost use Rattle.mq_scenario.specs.Views.{parts_of, script_of, IsRefusal, IsRefused};
@@ -14,6 +14,7 @@ use mq_base::{Items, NoMemory};
 use mq_model::{Scenario, ScriptLine};
 use mq_name::{Label, QName};
 use std::alloc::Global;
+use std::collections::HashSet;
 
 /// A script's label, the handle and the queue of its open, and the text from its puts and gets on.
 #[derive(Clone, Copy)]
@@ -176,23 +177,21 @@ fn push_calls(alloc: Global, lines: &mut Items<ScriptLine>, text: &[u8]) -> Resu
     Ok(())
 }
 
-fn is_among(name: &QName, others: &[QName]) -> bool
-    ensures { result ≡ is_among name.now others.now }
+/// No name stands twice: from the last on, none is among those behind it.
+fn are_distinct(alloc: Global, names: &[QName]) -> Result<bool, NoMemory>
+    ensures { IfOk result (λ b. b ≡ are_distinct names.now) }
 {
-    others.iter().any(|other| other == name)
-}
-
-fn are_distinct(names: &[QName]) -> bool
-    ensures { result ≡ are_distinct names.now }
-{
+    let mut behind = HashSet::new(alloc);
     let mut rest = names;
-    'comparing: while let Some((name, others)) = rest.split_first() {
-        if is_among(name, others) {
-            return false;
+    'comparing: while let Some((name, others)) = rest.split_last() {
+        match behind.insert(*name) {
+            Ok(true) => {}
+            Ok(false) => return Ok(false),
+            Err(_) => return Err(NoMemory),
         }
         rest = others;
     }
-    true
+    Ok(true)
 }
 
 /// The lines of a script.
@@ -220,12 +219,11 @@ fn scenario_of(alloc: Global, parts: &Parts) -> Result<Scenario, NoMemory>
 }
 
 /// There is some queue, no name stands twice, and puts and gets are not too many.
-fn is_whole(scenario: &Scenario) -> bool
-    ensures { result ≡ is_whole scenario.now }
+fn is_whole(alloc: Global, scenario: &Scenario) -> Result<bool, NoMemory>
+    ensures { IfOk result (λ b. b ≡ is_whole scenario.now) }
 {
-    0 < scenario.queues.len()
-        && are_distinct(scenario.queues.as_slice())
-        && scenario.lines.len() <= 4002
+    let distinct = are_distinct(alloc, scenario.queues.as_slice())?;
+    Ok(0 < scenario.queues.len() && distinct && scenario.lines.len() <= 4002)
 }
 
 /// Reads line by line.
@@ -241,10 +239,11 @@ fn read_lines(alloc: Global, text: &[u8]) -> Result<Scenario, ScenarioFault>
         Ok(scenario) => scenario,
         Err(_) => return Err(ScenarioFault::NoMemory),
     };
-    if !is_whole(&scenario) {
-        return Err(ScenarioFault::BadLine(0, Cause::NotBuilt));
+    match is_whole(alloc, &scenario) {
+        Ok(true) => Ok(scenario),
+        Ok(false) => Err(ScenarioFault::BadLine(0, Cause::NotBuilt)),
+        Err(_) => Err(ScenarioFault::NoMemory),
     }
-    Ok(scenario)
 }
 
 /// The scenario of a text.

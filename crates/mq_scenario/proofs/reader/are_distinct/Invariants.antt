@@ -1,9 +1,10 @@
-use Rattle.std.proofs.Common.{◌≡◌, length}
+use Rattle.std.proofs.Common.{◌≡◌, ◌++◌, ℕ, List, true, length}
 use Rattle.mq_model.specs.Grammar.{are_distinct}
+use Rattle.mq_scenario.proofs.DistinctLaws.{Holds}
 use Rattle.mq_scenario.proofs.reader.are_distinct.Given as goal
 
 abbrev pub invariant-comparing : goal.invariant-comparing
-invariant-comparing l = are_distinct l.rest ≡ are_distinct l.fn.names
+invariant-comparing l = (behind : List (List ℕ)) × (l.fn.names ≡ l.rest ++ behind) × (are_distinct behind ≡ true) × Holds l.behind behind
 
 abbrev pub decreases-comparing : goal.decreases-comparing
 decreases-comparing l = length l.rest
