@@ -13,9 +13,10 @@ mod story;
 pub use acts::{Act, Acted, OpRefusal};
 pub use calls::{Actor, Call, Chance, Effect, Entry, Reply};
 pub use history::{History, Mark};
+pub use mq_cable::{Fault, Faults};
 pub use opening::{Image, StoredQueue};
 pub use scenario::{
-    CableLine, Fault, ManagerLine, MonitorLine, RulesPart, Scenario, ScriptPart, Section, Step,
+    CableLine, ManagerLine, MonitorLine, RulesPart, Scenario, ScriptPart, Section, Step,
 };
 pub use scripts::{Body, GetOptions, PutOptions, ScriptLine};
 pub use story::{Apart, Conflict, ManagerPlaces};

@@ -1,5 +1,6 @@
 use crate::scripts::ScriptLine;
 use mq_base::Items;
+use mq_cable::Faults;
 use mq_name::{ChName, Label, QName};
 use mq_rules::Table;
 use mq_sc_parse::Command;
@@ -11,27 +12,14 @@ pub struct ManagerLine {
     pub log_max: u32,
 }
 
-/// A scripted fault of one direction of a cable, on its k-th offered frame, from 1.
-#[derive(Clone, Copy, Debug, PartialEq, Eq)]
-pub enum Fault {
-    /// It is not pushed.
-    Drop(u32),
-    /// It is pushed only after this later frame.
-    Late(u32, u32),
-    /// It is pushed, and again after this frame, itself or a later one.
-    Copy(u32, u32),
-    /// It is pushed with hex ff as its first byte.
-    Spoil(u32),
-}
-
 /// A CABLE line. Managers are places in the scenario, from 0.
 #[derive(Drop)]
 pub struct CableLine {
     pub channel: ChName,
     pub sender: u16,
     pub receiver: u16,
-    pub out: Items<Fault>,
-    pub back: Items<Fault>,
+    pub out: Faults,
+    pub back: Faults,
 }
 
 /// An MQSC section.

@@ -15,6 +15,7 @@ use mq_model::{Answer, Call, Got, Reply, Sent};
 use mq_name::QName;
 use mq_queue::{PlainQueue, Queue, Row};
 use std::alloc::{AllocError, Global};
+use std::collections::VecDeque;
 use std::marker::Model;
 
 /// A local queue.
@@ -147,8 +148,8 @@ impl LocalQueue {
     }
 
     /// The rows in order.
-    pub fn rows(&self) -> &[Row]
-        ensures { result.now ≡ self.now.queue.rows }
+    pub fn rows(&self) -> &VecDeque<Row>
+        ensures { result.now.items ≡ self.now.queue.rows }
     {
         self.queue.rows()
     }

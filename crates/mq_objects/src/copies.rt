@@ -14,6 +14,7 @@ pub fn copy_text(alloc: Global, text: &Items<u8>) -> Result<Items<u8>, AllocErro
 }
 
 impl KeptAttribute {
+    /// A copy, or `AllocError` where memory is short.
     pub fn try_clone(&self, alloc: Global) -> Result<KeptAttribute, AllocError>
         ensures { IfOk result (λ copy. copy ≡ self.now) }
     {
@@ -35,6 +36,7 @@ fn copy_kept(alloc: Global, kept: &Items<KeptAttribute>) -> Result<Items<KeptAtt
 }
 
 impl LocalQueue {
+    /// A copy, or `AllocError` where memory is short.
     pub fn try_clone(&self, alloc: Global) -> Result<LocalQueue, AllocError>
         ensures { IfOk result (λ copy. copy ≡ self.now) }
     {
@@ -61,6 +63,7 @@ impl LocalQueue {
 }
 
 impl AliasQueue {
+    /// A copy, or `AllocError` where memory is short.
     pub fn try_clone(&self, alloc: Global) -> Result<AliasQueue, AllocError>
         ensures { IfOk result (λ copy. copy ≡ self.now) }
     {
@@ -77,6 +80,7 @@ impl AliasQueue {
 }
 
 impl RemoteQueue {
+    /// A copy, or `AllocError` where memory is short.
     pub fn try_clone(&self, alloc: Global) -> Result<RemoteQueue, AllocError>
         ensures { IfOk result (λ copy. copy ≡ self.now) }
     {
@@ -94,6 +98,7 @@ impl RemoteQueue {
 }
 
 impl Channel {
+    /// A copy, or `AllocError` where memory is short.
     pub fn try_clone(&self, alloc: Global) -> Result<Channel, AllocError>
         ensures { IfOk result (λ copy. copy ≡ self.now) }
     {
@@ -108,6 +113,7 @@ impl Channel {
 }
 
 impl Process {
+    /// A copy, or `AllocError` where memory is short.
     pub fn try_clone(&self, alloc: Global) -> Result<Process, AllocError>
         ensures { IfOk result (λ copy. copy ≡ self.now) }
     {
@@ -123,6 +129,7 @@ impl Process {
 }
 
 impl ManagerAttributes {
+    /// A copy, or `AllocError` where memory is short.
     pub fn try_clone(&self, alloc: Global) -> Result<ManagerAttributes, AllocError>
         ensures { IfOk result (λ copy. copy ≡ self.now) }
     {
@@ -139,6 +146,7 @@ impl ManagerAttributes {
 }
 
 impl Object {
+    /// A copy, or `AllocError` where memory is short.
     pub fn try_clone(&self, alloc: Global) -> Result<Object, AllocError>
         ensures { IfOk result (λ copy. copy ≡ self.now) }
     {

@@ -38,6 +38,7 @@ impl LocalQueue {
 }
 
 impl AliasQueue {
+    /// An alias queue of which a command gives no attribute.
     pub fn new(alloc: Global, name: QName) -> AliasQueue
         ensures { result ≡ new_alias name }
     {
@@ -54,6 +55,7 @@ impl AliasQueue {
 }
 
 impl RemoteQueue {
+    /// A remote queue of which a command gives no attribute.
     pub fn new(alloc: Global, name: QName) -> RemoteQueue
         ensures { result ≡ new_remote name }
     {
@@ -87,6 +89,7 @@ impl Channel {
 }
 
 impl Process {
+    /// A process of which a command gives no attribute.
     pub fn new(alloc: Global, name: QName) -> Process
         ensures { result ≡ new_process name }
     {

@@ -59,6 +59,7 @@ impl Defs {
         self.map.len()
     }
 
+    /// Whether no object is defined.
     pub fn is_empty(&self) -> bool
         ensures { result ≡ (length self.now.definitions.objects == 0) }
     {

@@ -13,6 +13,7 @@ use mq_name::QName;
 use mq_node::{LocalQueue, Node};
 use mq_queue::Row;
 use std::alloc::{AllocError, Global};
+use std::collections::VecDeque;
 
 /// The priority at which a row is queued.
 fn queued_priority(priority: i32) -> u8
@@ -74,11 +75,11 @@ fn push_row(out: &mut String, row: &Row) -> Result<(), AllocError>
     push_row_back(out, row)
 }
 
-fn push_rows(out: &mut String, rows: &[Row]) -> Result<(), AllocError>
-    ensures { OnOk result (string_bytes out.new ≡ string_bytes out.old ++ flat_map row_text rows.now) }
+fn push_rows(out: &mut String, rows: &VecDeque<Row>) -> Result<(), AllocError>
+    ensures { OnOk result (string_bytes out.new ≡ string_bytes out.old ++ flat_map row_text rows.now.items) }
 {
-    for row in rows {
-        push_row(out, row)?;
+    for at in 0..rows.len() {
+        push_row(out, &rows[at])?;
     }
     Ok(())
 }
@@ -93,8 +94,8 @@ fn is_free(row: &Row) -> bool
 }
 
 /// The number of free rows.
-fn depth(rows: &[Row]) -> usize
-    ensures { result ≡ count_by is_free rows.now }
+fn depth(rows: &VecDeque<Row>) -> usize
+    ensures { result ≡ count_by is_free rows.now.items }
 {
     rows.iter().filter(|row| is_free(row)).count()
 }

@@ -23,6 +23,7 @@ impl Model for Path {
 }
 
 impl Path {
+    /// A path of no step.
     pub fn new() -> Path
         ensures { result ≡ [] }
     {
@@ -40,6 +41,7 @@ impl Path {
         self.as_slice().len()
     }
 
+    /// The steps, in the order of their use.
     pub fn as_slice(&self) -> &[PathStep]
         ensures steps { result.now ≡ self.now }
         ensures most { length self.now ≤ 5 }
