@@ -3,3 +3,7 @@ pub mod Lines
 pub mod LineReads
 pub mod Joins
 pub mod Whole
+pub mod Words
+pub mod Splits
+pub mod Checked
+pub mod Meant
