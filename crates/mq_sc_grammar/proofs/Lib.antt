@@ -7,3 +7,4 @@ pub mod Words
 pub mod Splits
 pub mod Checked
 pub mod Meant
+pub mod Parsed
