@@ -3,7 +3,6 @@ use Rattle.std.proofs.Common.{◌≡◌, ◌⊎◌, ℕ, Bool, true, false, cond
 use Rattle.std.specs.Prelude.{Option, Some, None, map, find, is_none, not, ◌||◌, codes}
 use Rattle.std.specs.Bool.{Decides}
 use Rattle.std.specs.Option.{option_map}
-use Rattle.std.specs.List.{list_any}
 use Rattle.std.specs.Str.{bytes_eq}
 use Rattle.std.proofs.lemmas.Bool.{cond-true, cond-false}
 use Rattle.std.proofs.lemmas.Bool.Decides.{Decides-or}
@@ -19,11 +18,11 @@ use Rattle.mq_sc_keys.specs.declared.attributes.Kind.TheVariants as kinds
 use Rattle.mq_sc_keys.specs.declared.value.Value.{Value}
 use Rattle.mq_sc_keys.specs.Keys.{key_text, group_of}
 use Rattle.mq_sc_keys.specs.Attributes.{key_of}
-use Rattle.mq_sc_keys.specs.Values.{choice_of, choice_value, type_of}
+use Rattle.mq_sc_keys.specs.Values.{choice_value, type_of}
 use Rattle.mq_sc_parse.specs.declared.splitting.Item.{Item}
 use Rattle.mq_sc_parse.specs.Checks.{is_unknown, span_of_item, first_unknown, group_text, item_group, is_among, repeated_from, first_repeated, has_word, item_of, kind_of_type, type_of_item, channel_kind, kind_of, lacks}
 use Rattle.mq_sc_grammar.specs.Spelling.{Clause}
-use Rattle.mq_sc_grammar.specs.Commands.{Among, AreDistinct, Tells, keys_of, Says, Has, IsChannelKind, IsKind, AreKnown, AreSingle, value_of, HasNeeded}
+use Rattle.mq_sc_grammar.specs.Commands.{Among, Tells, keys_of, Says, Has, IsChannelKind, IsKind, AreKnown, AreSingle, value_of, HasNeeded}
 use Rattle.mq_sc_grammar.proofs.Words.{bytes_same, same_bytes, one_key, key_read}
 use Rattle.mq_sc_grammar.proofs.Splits.{Spell}
 

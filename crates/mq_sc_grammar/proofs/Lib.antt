@@ -8,3 +8,4 @@ pub mod Splits
 pub mod Checked
 pub mod Meant
 pub mod Parsed
+pub mod Readings

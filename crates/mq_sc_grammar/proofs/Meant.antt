@@ -1,6 +1,6 @@
 -- What clauses come to, and what a reader makes of them, both ways.
-use Rattle.std.proofs.Common.{◌≡◌, ◌⊎◌, ℕ, suc, ◌+◌, ◌-◌, Bool, true, false, cond, List, [], ◌∷◌, ◌++◌, length, take, refl, sym, ap, subst, ◌∙◌, inl, inr, slice_get, arith}
-use Rattle.std.specs.Prelude.{Option, Some, None, Result, Ok, Err, map, codes, ◌==◌}
+use Rattle.std.proofs.Common.{◌≡◌, ℕ, suc, ◌-◌, Bool, true, false, cond, List, [], ◌∷◌, ◌++◌, length, take, refl, sym, ap, subst, ◌∙◌, inl, inr, slice_get, arith}
+use Rattle.std.specs.Prelude.{Option, Some, None, Result, Ok, Err, map, codes}
 use Rattle.std.specs.Str.{bytes_eq}
 use Rattle.std.proofs.lemmas.Bool.{cond-true, cond-false, eqb-true}
 use Rattle.mq_text.specs.declared.numbers.NumberFault.{NumberFault}
@@ -29,13 +29,13 @@ use Rattle.mq_sc_parse.specs.declared.asking.Asked.TheVariants as asked
 use Rattle.mq_sc_parse.specs.declared.fault.ScFault.{ScFault}
 use Rattle.mq_sc_parse.specs.declared.fault.ScFault.TheVariants as faults
 use Rattle.mq_sc_parse.specs.declared.naming.Pattern.{Pattern}
-use Rattle.mq_sc_parse.specs.Asking.{given_by, given_item, onto_settings, put_given, settings_of, keyword_of, asked_key, asked_by, asked_item, onto_keywords, put_asked, asked_of}
+use Rattle.mq_sc_parse.specs.Asking.{given_by, given_item, put_given, settings_of, keyword_of, asked_key, asked_by, asked_item, put_asked, asked_of}
 use Rattle.mq_sc_parse.specs.Checks.{has_word}
 use Rattle.mq_sc_parse.specs.Parsing.{some_or, is_star, pattern_of, asked_or_all, number_of, settle_as, settle_of}
 use Rattle.mq_sc_grammar.specs.Spelling.{Clause}
 use Rattle.mq_sc_grammar.specs.Commands.{Among, keys_of, Says, Has, AreKnown, AreSingle, value_of, IsOnto, AreGiven, AreBare, AreAsked, IsPattern, IsNumber, IsSettle}
-use Rattle.mq_sc_grammar.proofs.Words.{bytes_same, same_bytes, key_found}
-use Rattle.mq_sc_grammar.proofs.Splits.{Spell, IsWhole, AreWhole}
+use Rattle.mq_sc_grammar.proofs.Words.{bytes_same, same_bytes}
+use Rattle.mq_sc_grammar.proofs.Splits.{Spell, AreWhole}
 use Rattle.mq_sc_grammar.proofs.Checked.{AllKnown, known_at, first_value, once, says_decides}
 
 -- ---- settings
@@ -269,7 +269,7 @@ only_first key text c cs is single h =
 is_this : (key : Key) (value : Option (List ℕ)) (c : Clause) (text : List ℕ) → c.key ≡ key → c.value ≡ Some text → record { key = key; value = Some text } ≡ c
 is_this key value c text k v = ap (λ (x : Key). record { key = x; value = Some text }) (sym k) ∙ ap (λ (x : Option (List ℕ)). record { key = c.key; value = x }) (sym v)
 
-one_of_one : (key only : Key) → Among key (only ∷ []) → key ≡ only
+pub one_of_one : (key only : Key) → Among key (only ∷ []) → key ≡ only
 one_of_one key only (inl e) = e
 one_of_one key only (inr h) = absurd h
 

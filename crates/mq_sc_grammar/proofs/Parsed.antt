@@ -1,31 +1,14 @@
 -- Commands that are meant, and what a reader makes of their tokens, both ways.
-use Rattle.std.proofs.Common.{◌≡◌, ℕ, zero, suc, Bool, true, false, cond, List, [], ◌∷◌, ◌++◌, length, drop, refl, sym, ap, subst, ◌∙◌, arith}
-use Rattle.std.specs.Prelude.{Option, Some, None, Result, Ok, Err, codes, min, map}
-use Rattle.std.specs.Bool.{Decides}
-use Rattle.std.proofs.lemmas.Bool.{cond-true, cond-false}
-use Rattle.mq_sync.specs.declared.unit.Settle.{Settle}
-use Rattle.mq_objects.specs.declared.setting.Setting.{Setting}
-use Rattle.mq_objects.specs.declared.setting.Keyword.{Keyword}
-use Rattle.mq_objects.specs.declared.command.Subject.{Subject}
+use Rattle.std.proofs.Common.{◌≡◌, Bool, true, false, cond, List, [], refl, sym, ap, ◌∙◌}
+use Rattle.std.specs.Prelude.{Option, Some, None, Result, Ok, Err, codes}
 use Rattle.mq_objects.specs.declared.command.Command.TheVariants as objects
 use Rattle.mq_sc_lex.specs.declared.token.Span.{Span}
-use Rattle.mq_sc_lex.specs.declared.token.Token.{Token}
-use Rattle.mq_sc_lex.specs.declared.token.TokenKind.{TokenKind}
-use Rattle.mq_sc_lex.specs.declared.token.TokenKind.TheVariants as tokens
-use Rattle.mq_sc_lex.specs.declared.token.Line.{Line}
-use Rattle.mq_sc_keys.specs.declared.keys.Key.{Key}
 use Rattle.mq_sc_keys.specs.declared.keys.Key.TheVariants as keys
-use Rattle.mq_sc_keys.specs.declared.verbs.Verb.{Verb}
 use Rattle.mq_sc_keys.specs.declared.verbs.Verb.TheVariants as verbs
 use Rattle.mq_sc_keys.specs.declared.verbs.Noun.{Noun}
 use Rattle.mq_sc_keys.specs.declared.verbs.Noun.TheVariants as nouns
 use Rattle.mq_sc_keys.specs.declared.attributes.Kind.{Kind}
 use Rattle.mq_sc_keys.specs.declared.attributes.Kind.TheVariants as kinds
-use Rattle.mq_sc_keys.specs.declared.value.Value.{Value}
-use Rattle.mq_sc_keys.specs.declared.value.Value.TheVariants as values
-use Rattle.mq_sc_keys.specs.Attributes.{key_of}
-use Rattle.mq_sc_keys.specs.Verbs.{verb_of, object_of}
-use Rattle.mq_sc_keys.specs.Values.{are_blanks}
 use Rattle.mq_sc_parse.specs.declared.splitting.Item.{Item}
 use Rattle.mq_sc_parse.specs.declared.naming.Named.{Named}
 use Rattle.mq_sc_parse.specs.declared.naming.Pattern.{Pattern}
@@ -34,13 +17,12 @@ use Rattle.mq_sc_parse.specs.declared.command.Command.{Command}
 use Rattle.mq_sc_parse.specs.declared.command.Command.TheVariants as commands
 use Rattle.mq_sc_parse.specs.declared.fault.ScFault.{ScFault}
 use Rattle.mq_sc_parse.specs.declared.fault.ScFault.TheVariants as faults
-use Rattle.mq_sc_parse.specs.Splitting.{value_at, value_len, items_from, items_of, word_of_kind}
 use Rattle.mq_sc_parse.specs.Asking.{settings_of, asked_of}
-use Rattle.mq_sc_parse.specs.Checks.{first_unknown, first_repeated, has_word, kind_of, lacks}
-use Rattle.mq_sc_parse.specs.Parsing.{◌>>=◌, some_or, behind, named_as, value_span, named_at, channel_name, subject_of, subjects_of, pattern_of, prefix_of, is_prefix, unknown_or, fault_of, unless_fault, define_of, alter_manager_of, alter_object_of, alter_of, delete_of, asked_or_all, show_objects, show_status, status_named, show_named, display_of, start_of, stop_of, number_of, reset_of, settle_of, resolve_of, command_of}
-use Rattle.mq_sc_grammar.specs.Spelling.{IsBracketed, IsNamed, Clause}
-use Rattle.mq_sc_grammar.specs.Commands.{Says, Tells, AreKnown, AreSingle, IsDefine, IsAlter, IsAlterManager, IsDelete, IsDisplay, IsDisplayManager, IsDisplayStatus, MeansAlter, MeansDisplay, Means}
-use Rattle.mq_sc_grammar.proofs.Splits.{Spell, kinds_of, value_read, value_found}
+use Rattle.mq_sc_parse.specs.Checks.{has_word, lacks}
+use Rattle.mq_sc_parse.specs.Parsing.{◌>>=◌, some_or, channel_name, subject_of, subjects_of, pattern_of, prefix_of, is_prefix, define_of, alter_manager_of, alter_object_of, delete_of, asked_or_all, show_objects, show_status, status_named, show_named, start_of, stop_of, number_of, reset_of, settle_of, resolve_of}
+use Rattle.mq_sc_grammar.specs.Spelling.{Clause}
+use Rattle.mq_sc_grammar.specs.Commands.{Says, AreKnown, AreSingle, IsDefine, IsAlter, IsAlterManager, IsDelete, IsDisplay, IsDisplayManager, IsDisplayStatus, Means}
+use Rattle.mq_sc_grammar.proofs.Splits.{Spell}
 use Rattle.mq_sc_grammar.proofs.Checked.{says_decides, tells, told, needed_read, needed_found}
 use Rattle.mq_sc_grammar.proofs.Meant.{settings_read, settings_found, keywords_of, bare_read, bare_found, asks_read, asks_found, pattern_read, pattern_found, number_read, number_found, settle_read, settle_found}
 
@@ -60,7 +42,7 @@ some_ok fault (Some y) x e = cc
 -- ---- each command
 
 module _ (noun : Noun) (kind : Kind) (name : Named) (cs : List Clause) (items : List Item) (s : Spell cs items) (c : Command) where
-  define_read : (last : Span) → AreKnown verbs.Define kind cs → IsDefine noun kind name.text cs c → define_of noun kind name items last ≡ ok_command c
+  pub define_read : (last : Span) → AreKnown verbs.Define kind cs → IsDefine noun kind name.text cs c → define_of noun kind name items last ≡ ok_command c
   unfolding define_of
   define_read last known h =
       let given = settings_read verbs.Define kind cs items h.settings s known h.gives in
@@ -68,25 +50,25 @@ module _ (noun : Noun) (kind : Kind) (name : Named) (cs : List Clause) (items : 
       let word = told (has_word (codes "REPLACE") items) h.replace (Says keys.Replace cs) (says_decides keys.Replace cs items s) h.replaces in
       rw (h.named, given, needed, word) (ap ok_command (sym h.is))
 
-  alter_read : AreKnown verbs.Alter kind cs → IsAlter noun kind name.text cs c → alter_object_of noun kind name items ≡ ok_command c
+  pub alter_read : AreKnown verbs.Alter kind cs → IsAlter noun kind name.text cs c → alter_object_of noun kind name items ≡ ok_command c
   unfolding alter_object_of
   alter_read known h =
       let given = settings_read verbs.Alter kind cs items h.settings s known h.gives in
       let word = told (has_word (codes "FORCE") items) h.force (Says keys.Force cs) (says_decides keys.Force cs items s) h.forces in
       rw (h.named, given, word) (ap ok_command (sym h.is))
 
-  delete_read : IsDelete noun name.text c → delete_of noun name ≡ ok_command c
+  pub delete_read : IsDelete noun name.text c → delete_of noun name ≡ ok_command c
   unfolding delete_of
   delete_read h = rw h.named (ap ok_command (sym h.is))
 
-  display_read : AreKnown verbs.Display kind cs → IsDisplay noun name.text cs c → show_named noun kind name items ≡ ok_command c
+  pub display_read : AreKnown verbs.Display kind cs → IsDisplay noun name.text cs c → show_named noun kind name items ≡ ok_command c
   unfolding show_named show_objects
   display_read known h =
       let pattern = pattern_read name.text h.text h.any_end h.pattern in
       let asked = bare_read kind cs items s known h.bare in
       rw (pattern, h.begins, asked, asks_read cs items h.asked s h.asks) (ap ok_command (sym h.is))
 
-  define_found : (last : Span) → AreKnown verbs.Define kind cs → define_of noun kind name items last ≡ ok_command c → IsDefine noun kind name.text cs c
+  pub define_found : (last : Span) → AreKnown verbs.Define kind cs → define_of noun kind name items last ≡ ok_command c → IsDefine noun kind name.text cs c
   unfolding define_of
   define_found last known e =
       let a = then_ok (some_or (faults.BadValue name.span) (subject_of noun name.text)) _ c e in
@@ -107,7 +89,7 @@ module _ (noun : Noun) (kind : Kind) (name : Named) (cs : List Clause) (items : 
       not_lacking true last d x f = absurd cc
       not_lacking false last d x f = (refl, cc)
 
-  alter_found : AreKnown verbs.Alter kind cs → alter_object_of noun kind name items ≡ ok_command c → IsAlter noun kind name.text cs c
+  pub alter_found : AreKnown verbs.Alter kind cs → alter_object_of noun kind name items ≡ ok_command c → IsAlter noun kind name.text cs c
   unfolding alter_object_of
   alter_found known e =
       let a = then_ok (some_or (faults.BadValue name.span) (subject_of noun name.text)) _ c e in
@@ -123,14 +105,14 @@ module _ (noun : Noun) (kind : Kind) (name : Named) (cs : List Clause) (items : 
         is = cc;
       }
 
-  delete_found : delete_of noun name ≡ ok_command c → IsDelete noun name.text c
+  pub delete_found : delete_of noun name ≡ ok_command c → IsDelete noun name.text c
   unfolding delete_of
   delete_found e =
       let a = then_ok (some_or (faults.BadValue name.span) (subject_of noun name.text)) _ c e in
       let same : ok_command (commands.Objects (objects.Delete (record { subject = a.0 }))) ≡ ok_command c = a.2 in
       record { subject = a.0; named = some_ok (faults.BadValue name.span) (subject_of noun name.text) a.0 a.1; is = cc }
 
-  display_found : AreKnown verbs.Display kind cs → show_named noun kind name items ≡ ok_command c → IsDisplay noun name.text cs c
+  pub display_found : AreKnown verbs.Display kind cs → show_named noun kind name items ≡ ok_command c → IsDisplay noun name.text cs c
   unfolding show_named show_objects
   display_found known e =
       let p : Pattern = pattern_of name.text in
@@ -157,14 +139,14 @@ module _ (noun : Noun) (kind : Kind) (name : Named) (cs : List Clause) (items : 
 
 -- the commands that are not named by a noun of their own
 module _ (kind : Kind) (name : Named) (cs : List Clause) (items : List Item) (s : Spell cs items) (c : Command) where
-  manager_read : AreKnown verbs.Alter kinds.Manager cs → IsAlterManager kinds.Manager cs c → alter_manager_of items ≡ ok_command c
+  pub manager_read : AreKnown verbs.Alter kinds.Manager cs → IsAlterManager kinds.Manager cs c → alter_manager_of items ≡ ok_command c
   unfolding alter_manager_of
   manager_read known h =
       let given = settings_read verbs.Alter kinds.Manager cs items h.settings s known h.gives in
       let word = told (has_word (codes "FORCE") items) h.force (Says keys.Force cs) (says_decides keys.Force cs items s) h.forces in
       rw (given, word) (ap ok_command (sym h.is))
 
-  manager_found : AreKnown verbs.Alter kinds.Manager cs → alter_manager_of items ≡ ok_command c → IsAlterManager kinds.Manager cs c
+  pub manager_found : AreKnown verbs.Alter kinds.Manager cs → alter_manager_of items ≡ ok_command c → IsAlterManager kinds.Manager cs c
   unfolding alter_manager_of
   manager_found known e =
       let b = then_ok (settings_of verbs.Alter kinds.Manager items) _ c e in
@@ -177,11 +159,11 @@ module _ (kind : Kind) (name : Named) (cs : List Clause) (items : List Item) (s 
         is = cc;
       }
 
-  shown_read : AreKnown verbs.Display kind cs → IsDisplayManager cs c → show_objects nouns.Manager kind [] false items ≡ ok_command c
+  pub shown_read : AreKnown verbs.Display kind cs → IsDisplayManager cs c → show_objects nouns.Manager kind [] false items ≡ ok_command c
   unfolding show_objects
   shown_read known h = rw (bare_read kind cs items s known h.bare, asks_read cs items h.asked s h.asks) (ap ok_command (sym h.is))
 
-  shown_found : AreKnown verbs.Display kind cs → show_objects nouns.Manager kind [] false items ≡ ok_command c → IsDisplayManager cs c
+  pub shown_found : AreKnown verbs.Display kind cs → show_objects nouns.Manager kind [] false items ≡ ok_command c → IsDisplayManager cs c
   unfolding show_objects
   shown_found known e =
       let a = then_ok (asked_of verbs.Display kind items) _ c e in
@@ -191,13 +173,13 @@ module _ (kind : Kind) (name : Named) (cs : List Clause) (items : List Item) (s 
       let is : ok_command (commands.Objects (objects.Display (record { subjects = subjects_of nouns.Manager; name = []; any_end = false; asked = asked_or_all items a.0 }))) ≡ ok_command c = a.2 in
       record { asked = asked_or_all items (keywords_of cs); bare = bare; asks = asks_found cs items s; is = cc }
 
-  status_read : AreKnown verbs.Display kinds.Status cs → IsDisplayStatus name.text cs c → status_named name items ≡ ok_command c
+  pub status_read : AreKnown verbs.Display kinds.Status cs → IsDisplayStatus name.text cs c → status_named name items ≡ ok_command c
   unfolding status_named show_status
   status_read known h =
       let pattern = pattern_read name.text h.text h.any_end h.pattern in
       rw (pattern, h.begins, bare_read kinds.Status cs items s known h.bare) (ap ok_command (sym h.is))
 
-  status_found : status_named name items ≡ ok_command c → IsDisplayStatus name.text cs c
+  pub status_found : status_named name items ≡ ok_command c → IsDisplayStatus name.text cs c
   unfolding status_named show_status
   status_found e =
       let p : Pattern = pattern_of name.text in
@@ -217,33 +199,33 @@ module _ (kind : Kind) (name : Named) (cs : List Clause) (items : List Item) (s 
 -- ---- commands on the ends of channels
 
 module _ (noun : Noun) (kind : Kind) (name : Named) (cs : List Clause) (items : List Item) (s : Spell cs items) (c : Command) where
-  start_read : Means verbs.Start noun kind name.text cs c → start_of name ≡ ok_command c
+  pub start_read : Means verbs.Start noun kind name.text cs c → start_of name ≡ ok_command c
   unfolding start_of
   start_read (channel, named, is) = rw named (ap ok_command (sym is))
 
-  start_found : start_of name ≡ ok_command c → Means verbs.Start noun kind name.text cs c
+  pub start_found : start_of name ≡ ok_command c → Means verbs.Start noun kind name.text cs c
   unfolding start_of
   start_found e =
       let a = then_ok (some_or (faults.BadValue name.span) (channel_name name.text)) _ c e in
       let is : ok_command (commands.Operate (ops.Start a.0)) ≡ ok_command c = a.2 in
       (a.0, some_ok (faults.BadValue name.span) (channel_name name.text) a.0 a.1, cc)
 
-  stop_read : Means verbs.Stop noun kind name.text cs c → stop_of name ≡ ok_command c
+  pub stop_read : Means verbs.Stop noun kind name.text cs c → stop_of name ≡ ok_command c
   unfolding stop_of
   stop_read (channel, named, is) = rw named (ap ok_command (sym is))
 
-  stop_found : stop_of name ≡ ok_command c → Means verbs.Stop noun kind name.text cs c
+  pub stop_found : stop_of name ≡ ok_command c → Means verbs.Stop noun kind name.text cs c
   unfolding stop_of
   stop_found e =
       let a = then_ok (some_or (faults.BadValue name.span) (channel_name name.text)) _ c e in
       let is : ok_command (commands.Operate (ops.Stop a.0)) ≡ ok_command c = a.2 in
       (a.0, some_ok (faults.BadValue name.span) (channel_name name.text) a.0 a.1, cc)
 
-  reset_read : AreKnown verbs.Reset kind cs → AreSingle cs → Means verbs.Reset noun kind name.text cs c → reset_of name items ≡ ok_command c
+  pub reset_read : AreKnown verbs.Reset kind cs → AreSingle cs → Means verbs.Reset noun kind name.text cs c → reset_of name items ≡ ok_command c
   unfolding reset_of
   reset_read known single (channel, n, named, number, is) = rw (named, number_read kind cs items n s known single number) (ap ok_command (sym is))
 
-  reset_found : AreKnown verbs.Reset kind cs → reset_of name items ≡ ok_command c → Means verbs.Reset noun kind name.text cs c
+  pub reset_found : AreKnown verbs.Reset kind cs → reset_of name items ≡ ok_command c → Means verbs.Reset noun kind name.text cs c
   unfolding reset_of
   reset_found known e =
       let a = then_ok (some_or (faults.BadValue name.span) (channel_name name.text)) _ c e in
@@ -251,11 +233,11 @@ module _ (noun : Noun) (kind : Kind) (name : Named) (cs : List Clause) (items : 
       let is : ok_command (commands.Operate (ops.Reset a.0 b.0)) ≡ ok_command c = b.2 in
       (a.0, b.0, some_ok (faults.BadValue name.span) (channel_name name.text) a.0 a.1, number_found kind cs items b.0 s known b.1, cc)
 
-  resolve_read : (last : Span) → AreKnown verbs.Resolve kind cs → AreSingle cs → Means verbs.Resolve noun kind name.text cs c → resolve_of name items last ≡ ok_command c
+  pub resolve_read : (last : Span) → AreKnown verbs.Resolve kind cs → AreSingle cs → Means verbs.Resolve noun kind name.text cs c → resolve_of name items last ≡ ok_command c
   unfolding resolve_of
   resolve_read last known single (channel, settle, named, settles, is) = rw (named, settle_read kind cs items last settle s known single settles) (ap ok_command (sym is))
 
-  resolve_found : (last : Span) → AreKnown verbs.Resolve kind cs → resolve_of name items last ≡ ok_command c → Means verbs.Resolve noun kind name.text cs c
+  pub resolve_found : (last : Span) → AreKnown verbs.Resolve kind cs → resolve_of name items last ≡ ok_command c → Means verbs.Resolve noun kind name.text cs c
   unfolding resolve_of
   resolve_found last known e =
       let a = then_ok (some_or (faults.BadValue name.span) (channel_name name.text)) _ c e in

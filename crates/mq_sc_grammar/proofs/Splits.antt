@@ -1,6 +1,6 @@
 -- Tokens that spell clauses, and the keywords that a reader splits them into, both ways.
 use Rattle.std.proofs.Common.{◌≡◌, ℕ, zero, suc, ◌+◌, ◌≤◌, Bool, true, false, cond, List, [], ◌∷◌, ◌++◌, length, drop, refl, sym, ap, subst, ◌∙◌, arith}
-use Rattle.std.specs.Prelude.{Option, Some, None, map}
+use Rattle.std.specs.Prelude.{Option, Some, None}
 use Rattle.std.specs.List.{position_or_len}
 use Rattle.std.proofs.lemmas.Bool.{cond-true, cond-false}
 use Rattle.std.proofs.lemmas.List.{length-drop}
@@ -15,13 +15,10 @@ use Rattle.mq_sc_keys.specs.declared.value.Value.TheVariants as values
 use Rattle.mq_sc_keys.specs.Keys.{key_text}
 use Rattle.mq_sc_keys.specs.Attributes.{key_of}
 use Rattle.mq_sc_parse.specs.declared.splitting.Item.{Item}
-use Rattle.mq_sc_parse.specs.Splitting.{is_open_kind, is_close_kind, is_word_kind, is_open, is_close, word_of_kind, text_value, bracketed, value_at, value_len, item_at, item_len, items_from}
-use Rattle.mq_sc_grammar.specs.Spelling.{IsValue, IsBracketed, Clause, IsValuePart, IsClause, AreClauses}
+use Rattle.mq_sc_parse.specs.Splitting.{is_open_kind, is_close_kind, is_word_kind, is_open, is_close, word_of_kind, text_value, bracketed, value_at, value_len, item_len, items_from}
+use Rattle.mq_sc_grammar.specs.Spelling.{kinds_of, IsValue, IsBracketed, Clause, IsValuePart, AreClauses}
 use Rattle.mq_sc_grammar.specs.Commands.{value_of, AreKnown}
 use Rattle.mq_sc_grammar.proofs.Words.{key_found, no_word}
-
-abbrev pub kinds_of : List Token → List TokenKind
-kinds_of ts = map (λ (t : Token). t.kind) ts
 
 -- the keywords with their values are these clauses
 abbrev pub Spell : List Clause → List Item → Type 0
@@ -85,6 +82,13 @@ word_kind (tokens.Word w) e = refl
 word_kind (tokens.Quoted w) e = absurd cc
 word_kind tokens.Open e = absurd cc
 word_kind tokens.Close e = absurd cc
+
+-- what is no word has no letters
+pub word_kind_of : (k : TokenKind) → (word_of_kind k ≡ [] → ⊥) → k ≡ tokens.Word (word_of_kind k)
+word_kind_of (tokens.Word w) never = refl
+word_kind_of (tokens.Quoted w) never = absurd (never refl)
+word_kind_of tokens.Open never = absurd (never refl)
+word_kind_of tokens.Close never = absurd (never refl)
 
 text_kind : (text : List ℕ) (k : TokenKind) → text_value k ≡ values.Text text → IsValue text k
 text_kind text (tokens.Word w) e = cc

@@ -1,8 +1,8 @@
 -- Verbs, objects and keywords as they are written, and which word a reader finds.
-use Rattle.std.proofs.Common.{◌≡◌, ◌⊎◌, ℕ, Bool, true, false, cond, List, [], ◌∷◌, ◌++◌, refl, sym, ap, subst, ◌∙◌, inl, inr}
-use Rattle.std.specs.Prelude.{Option, Some, None, find, ◌||◌, ◌&&◌}
+use Rattle.std.proofs.Common.{◌≡◌, ◌⊎◌, ℕ, Bool, true, false, cond, List, [], ◌∷◌, ◌++◌, refl, sym, ap, ◌∙◌, inl, inr}
+use Rattle.std.specs.Prelude.{Option, Some, None, find, ◌||◌}
 use Rattle.std.specs.Str.{bytes_eq}
-use Rattle.std.proofs.lemmas.Bool.{and_parts, cond-true, cond-false, cases_Bool}
+use Rattle.std.proofs.lemmas.Bool.{and_parts}
 use Rattle.std.proofs.lemmas.Bool.Decides.{Decides-or}
 use Rattle.std.proofs.lemmas.Slice.Eq.{bytes_eq-Decides}
 use Rattle.mq_sc_keys.specs.declared.keys.Key.{Key}
@@ -115,6 +115,21 @@ unfolding object_of
 object_found verb noun word f =
     let p = and_parts (takes verb noun) (bytes_eq (object_text noun) word || bytes_eq (object_short noun) word) (found (is_object verb word) NOUNS noun f).0 in
     (p.0, either_word (object_text noun) (object_short noun) word p.1)
+
+no_verb_of : verb_of [] ≡ None
+unfolding verb_of
+no_verb_of = refl
+
+pub no_verb : (verb : Verb) → verb_of [] ≡ Some verb → ⊥
+no_verb verb e = absurd (let f : None ≡ Some verb = sym no_verb_of ∙ e in cc)
+
+no_object_of : (verb : Verb) → object_of verb [] ≡ None
+unfolding object_of
+no_object_of verbs.Define = refl
+no_object_of _ = refl
+
+pub no_object : (verb : Verb) (noun : Noun) → object_of verb [] ≡ Some noun → ⊥
+no_object verb noun e = absurd (let f : None ≡ Some noun = sym (no_object_of verb) ∙ e in cc)
 
 -- ---- keywords
 

@@ -1,5 +1,6 @@
 -- How a command is spelled, as tokens: a verb, an object, the object's name in brackets, and clauses.
-use Rattle.std.specs.Prelude.{◌≡◌, ◌⊎◌, ℕ, false, List, [], ◌∷◌, ◌++◌, Option, Some, None}
+use Rattle.std.specs.Prelude.{◌≡◌, ◌⊎◌, ℕ, false, List, [], ◌∷◌, ◌++◌, map, Option, Some, None}
+use Rattle.mq_sc_lex.specs.declared.token.Token.{Token}
 use Rattle.mq_sc_lex.specs.declared.token.TokenKind.{TokenKind}
 use Rattle.mq_sc_lex.specs.declared.token.TokenKind.TheVariants as tokens
 use Rattle.mq_sc_keys.specs.declared.keys.Key.{Key}
@@ -9,6 +10,10 @@ use Rattle.mq_sc_keys.specs.declared.verbs.Noun.TheVariants as nouns
 use Rattle.mq_sc_keys.specs.Keys.{key_text}
 use Rattle.mq_sc_keys.specs.Verbs.{verb_text, verb_short, object_text, object_short}
 use Rattle.mq_sc_keys.specs.Values.{are_blanks}
+
+-- the tokens without their places
+abbrev pub kinds_of : List Token → List TokenKind
+kinds_of ts = map (λ (t : Token). t.kind) ts
 
 -- a verb in full or in its short form
 abbrev pub IsVerbWord : Verb → List ℕ → Type 0

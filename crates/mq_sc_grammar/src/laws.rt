@@ -1,7 +1,12 @@
 ghost use Rattle.std.specs.Prelude.{◌≡◌, ℕ, List, Ok};
 ghost use Rattle.mq_sc_lex.specs.declared.token.Line.{Line};
+ghost use Rattle.mq_sc_lex.specs.declared.token.TokenKind.{TokenKind};
 ghost use Rattle.mq_sc_lex.specs.Commands.{commands_of};
+ghost use Rattle.mq_sc_parse.specs.declared.command.Command.{Command};
+ghost use Rattle.mq_sc_parse.specs.Parsing.{parse_of};
 ghost use Rattle.mq_sc_grammar.specs.Texts.{IsCommands};
+ghost use Rattle.mq_sc_grammar.specs.Spelling.{kinds_of};
+ghost use Rattle.mq_sc_grammar.specs.Commands.{IsCommand};
 
 /// A text is that of one list of commands at most.
 pub fn one_list_of_commands()
@@ -12,4 +17,15 @@ pub fn one_list_of_commands()
 pub fn commands_are_those_of_the_text()
     ensures found { (text : List ℕ) (lines : List Line) → commands_of text ≡ Ok lines → IsCommands text lines }
     ensures read { (text : List ℕ) (lines : List Line) → IsCommands text lines → commands_of text ≡ Ok lines }
+{}
+
+/// The tokens of a line are those of one command at most.
+pub fn a_line_is_one_command()
+    ensures { (kinds : List TokenKind) (command other : Command) → IsCommand kinds command → IsCommand kinds other → command ≡ other }
+{}
+
+/// The reader of lines answers a command exactly where the line's tokens are those of this command.
+pub fn a_command_is_read_where_it_is_written()
+    ensures found { (line : Line) (command : Command) → parse_of line ≡ Ok command → IsCommand (kinds_of line.tokens) command }
+    ensures read { (line : Line) (command : Command) → IsCommand (kinds_of line.tokens) command → parse_of line ≡ Ok command }
 {}

@@ -1,7 +1,10 @@
-//! What a text of MQSC commands is, as a relation between the text and its commands, and that the reader
-//! reads just these texts.
+//! What a text of MQSC commands is, as a relation between the text and the lines of tokens that it has, and
+//! what a line is, as a relation between its tokens and a command; and that the readers read just these.
 #![tactic(auto)]
 
 mod laws;
 
-pub use laws::{commands_are_those_of_the_text, one_list_of_commands};
+pub use laws::{
+    a_command_is_read_where_it_is_written, a_line_is_one_command, commands_are_those_of_the_text,
+    one_list_of_commands,
+};
