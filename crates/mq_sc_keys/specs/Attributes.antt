@@ -1,7 +1,8 @@
 -- Which keywords a command may have, by its verb and its object.
-use Rattle.std.specs.Prelude.{ℕ, List, [], Option, Some, None}
+use Rattle.std.specs.Prelude.{ℕ, List, [], ◌∷◌, Option, Some, None}
 use Rattle.mq_sc_keys.specs.declared.keys.Key.{Key}
-use Rattle.mq_sc_keys.specs.declared.keys.TheConstants.{LOCAL, ALIAS, REMOTE, SENDER, RECEIVER, CHANNEL, PROCESS, MANAGER, QUEUE, DEFINE_OPTIONS, ALTER_OPTIONS, QUEUE_SHOWN, MANAGER_SHOWN, SHOWN, RESET_KEYS, RESOLVE_KEYS}
+use Rattle.mq_sc_keys.specs.declared.keys.Key.TheVariants as keys
+use Rattle.mq_sc_keys.specs.declared.keys.TheConstants.{LOCAL, ALIAS, REMOTE, SENDER, RECEIVER, CHANNEL, PROCESS, MANAGER, QUEUE}
 use Rattle.mq_sc_keys.specs.declared.attributes.Kind.{Kind}
 use Rattle.mq_sc_keys.specs.declared.attributes.Kind.TheVariants as kinds
 use Rattle.mq_sc_keys.specs.declared.verbs.Verb.{Verb}
@@ -22,17 +23,17 @@ attributes_of kinds.Status = []
 
 -- DISPLAY knows ALL, the depth of local queues and the greatest priority of the manager too
 abbrev pub shown_of : Kind → List Key
-shown_of kinds.Local = QUEUE_SHOWN
-shown_of kinds.Queue = QUEUE_SHOWN
-shown_of kinds.Manager = MANAGER_SHOWN
-shown_of _ = SHOWN
+shown_of kinds.Local = keys.All ∷ keys.CurDepth ∷ []
+shown_of kinds.Queue = keys.All ∷ keys.CurDepth ∷ []
+shown_of kinds.Manager = keys.All ∷ keys.MaxPrty ∷ []
+shown_of _ = keys.All ∷ []
 
 abbrev pub options_of : Verb → Kind → List Key
-options_of verbs.Define kind = DEFINE_OPTIONS
-options_of verbs.Alter kind = ALTER_OPTIONS
+options_of verbs.Define kind = keys.Replace ∷ keys.NoReplace ∷ []
+options_of verbs.Alter kind = keys.Force ∷ []
 options_of verbs.Display kind = shown_of kind
-options_of verbs.Reset kind = RESET_KEYS
-options_of verbs.Resolve kind = RESOLVE_KEYS
+options_of verbs.Reset kind = keys.SeqNum ∷ []
+options_of verbs.Resolve kind = keys.Action ∷ []
 options_of verbs.Delete kind = []
 options_of verbs.Start kind = []
 options_of verbs.Stop kind = []

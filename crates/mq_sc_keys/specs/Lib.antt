@@ -2,3 +2,4 @@ pub mod Keys
 pub mod Verbs
 pub mod Attributes
 pub mod Values
+pub mod Shown

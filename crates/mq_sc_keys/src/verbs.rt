@@ -1,4 +1,4 @@
-ghost use Rattle.std.specs.Prelude.{◌≡◌, find};
+ghost use Rattle.std.specs.Prelude.{◌≡◌, find, true, Some};
 ghost use Rattle.mq_sc_keys.specs.Verbs.{verb_text, verb_short, object_text, object_short, takes, is_verb, is_object, verb_of, object_of};
 
 /// The first word of a command.
@@ -159,3 +159,9 @@ pub fn object_of(verb: Verb, word: &[u8]) -> Option<Noun>
         .copied()
         .find(|noun| is_object(verb, *noun, word))
 }
+
+/// A verb is found by its text and by its short form, and so is an object behind a verb that takes it.
+pub fn words_are_found()
+    ensures verbs { (verb : Verb) → (verb_of (verb_text verb) ≡ Some verb) × (verb_of (verb_short verb) ≡ Some verb) }
+    ensures objects { (verb : Verb) (noun : Noun) → takes verb noun ≡ true → (object_of verb (object_text noun) ≡ Some noun) × (object_of verb (object_short noun) ≡ Some noun) }
+{}

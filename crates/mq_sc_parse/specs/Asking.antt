@@ -2,7 +2,6 @@
 use Rattle.std.specs.Prelude.{◌≡◌, List, [], ◌∷◌, Option, Some, None, Result, Ok, Err}
 use Rattle.mq_objects.specs.declared.setting.Setting.{Setting}
 use Rattle.mq_objects.specs.declared.setting.Keyword.{Keyword}
-use Rattle.mq_objects.specs.declared.setting.Keyword.TheVariants as words
 use Rattle.mq_sc_lex.specs.declared.token.Span.{Span}
 use Rattle.mq_sc_keys.specs.declared.keys.Key.{Key}
 use Rattle.mq_sc_keys.specs.declared.keys.Key.TheVariants as keys
@@ -18,6 +17,7 @@ use Rattle.mq_sc_parse.specs.declared.asking.Asked.TheVariants as asked
 use Rattle.mq_sc_parse.specs.declared.fault.ScFault.{ScFault}
 use Rattle.mq_sc_parse.specs.declared.fault.ScFault.TheVariants as faults
 use Rattle.mq_sc_keys.specs.Attributes.{key_of}
+use Rattle.mq_sc_keys.specs.Shown.{keyword_of}
 use Rattle.mq_sc_keys.specs.Values.{given_of}
 
 abbrev pub given_by : Kind → Option Key → Value → Given
@@ -40,48 +40,6 @@ put_given span (given.Setting s) rest = onto_settings s rest
 abbrev pub settings_of : Verb → Kind → List Item → Result (List Setting) ScFault
 settings_of verb kind [] = Ok []
 settings_of verb kind (i ∷ is) = put_given i.span (given_item verb kind i) (settings_of verb kind is)
-
--- what DISPLAY shows for a keyword: an attribute without effect is not shown
-abbrev pub keyword_of : Key → Keyword
-keyword_of keys.DefPrty = words.DefPrty
-keyword_of keys.DefPsist = words.DefPsist
-keyword_of keys.Get = words.Get
-keyword_of keys.InitQ = words.InitQ
-keyword_of keys.MaxDepth = words.MaxDepth
-keyword_of keys.MaxMsgL = words.MaxMsgL
-keyword_of keys.MsgDlvSq = words.MsgDlvSq
-keyword_of keys.Process = words.Process
-keyword_of keys.Put = words.Put
-keyword_of keys.TrigData = words.TrigData
-keyword_of keys.TrigDpth = words.TrigDpth
-keyword_of keys.Trigger = words.Trigger
-keyword_of keys.NoTrigger = words.Trigger
-keyword_of keys.TrigMPri = words.TrigMPri
-keyword_of keys.TrigType = words.TrigType
-keyword_of keys.Usage = words.Usage
-keyword_of keys.Target = words.Target
-keyword_of keys.TargQ = words.Target
-keyword_of keys.RName = words.RName
-keyword_of keys.RQMName = words.RQMName
-keyword_of keys.XmitQ = words.XmitQ
-keyword_of keys.ChlType = words.ChlType
-keyword_of keys.BatchSz = words.BatchSz
-keyword_of keys.SeqWrap = words.SeqWrap
-keyword_of keys.ShortRty = words.ShortRty
-keyword_of keys.UseDlq = words.UseDlq
-keyword_of keys.NpmSpeed = words.NpmSpeed
-keyword_of keys.ApplicId = words.ApplicId
-keyword_of keys.ApplType = words.ApplType
-keyword_of keys.EnvrData = words.EnvrData
-keyword_of keys.UserData = words.UserData
-keyword_of keys.DeadQ = words.DeadQ
-keyword_of keys.DefXmitQ = words.DefXmitQ
-keyword_of keys.MaxHands = words.MaxHands
-keyword_of keys.MaxUMsgs = words.MaxUMsgs
-keyword_of keys.TrigInt = words.TrigInt
-keyword_of keys.MaxPrty = words.MaxPrty
-keyword_of keys.CurDepth = words.CurDepth
-keyword_of _ = words.Kept
 
 -- ALL asks for nothing of its own
 abbrev pub asked_key : Key → Asked

@@ -2,4 +2,3 @@ pub mod Splitting
 pub mod Checks
 pub mod Asking
 pub mod Parsing
-pub mod Tables

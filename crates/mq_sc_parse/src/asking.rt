@@ -1,11 +1,11 @@
 ghost use Rattle.std.specs.Prelude.{◌≡◌, IfOk};
-ghost use Rattle.mq_sc_parse.specs.Asking.{given_item, settings_of, keyword_of, asked_key, asked_item, asked_of, Gives};
+ghost use Rattle.mq_sc_parse.specs.Asking.{given_item, settings_of, asked_key, asked_item, asked_of, Gives};
 
 use crate::fault::ScFault;
 use crate::splitting::Item;
 use mq_base::Items;
 use mq_objects::{Keyword, Setting};
-use mq_sc_keys::{Given, Key, Kind, Value, Verb, given_of, key_of};
+use mq_sc_keys::{Given, Key, Kind, Value, Verb, given_of, key_of, keyword_of};
 use std::alloc::{AllocError, Global};
 
 /// What a keyword of DISPLAY asks.
@@ -45,52 +45,6 @@ pub fn settings_of(
         }
     }
     Ok(settings)
-}
-
-fn keyword_of(key: Key) -> Keyword
-    ensures { result ≡ keyword_of key }
-{
-    match key {
-        Key::DefPrty => Keyword::DefPrty,
-        Key::DefPsist => Keyword::DefPsist,
-        Key::Get => Keyword::Get,
-        Key::InitQ => Keyword::InitQ,
-        Key::MaxDepth => Keyword::MaxDepth,
-        Key::MaxMsgL => Keyword::MaxMsgL,
-        Key::MsgDlvSq => Keyword::MsgDlvSq,
-        Key::Process => Keyword::Process,
-        Key::Put => Keyword::Put,
-        Key::TrigData => Keyword::TrigData,
-        Key::TrigDpth => Keyword::TrigDpth,
-        Key::Trigger => Keyword::Trigger,
-        Key::NoTrigger => Keyword::Trigger,
-        Key::TrigMPri => Keyword::TrigMPri,
-        Key::TrigType => Keyword::TrigType,
-        Key::Usage => Keyword::Usage,
-        Key::Target => Keyword::Target,
-        Key::TargQ => Keyword::Target,
-        Key::RName => Keyword::RName,
-        Key::RQMName => Keyword::RQMName,
-        Key::XmitQ => Keyword::XmitQ,
-        Key::ChlType => Keyword::ChlType,
-        Key::BatchSz => Keyword::BatchSz,
-        Key::SeqWrap => Keyword::SeqWrap,
-        Key::ShortRty => Keyword::ShortRty,
-        Key::UseDlq => Keyword::UseDlq,
-        Key::NpmSpeed => Keyword::NpmSpeed,
-        Key::ApplicId => Keyword::ApplicId,
-        Key::ApplType => Keyword::ApplType,
-        Key::EnvrData => Keyword::EnvrData,
-        Key::UserData => Keyword::UserData,
-        Key::DeadQ => Keyword::DeadQ,
-        Key::DefXmitQ => Keyword::DefXmitQ,
-        Key::MaxHands => Keyword::MaxHands,
-        Key::MaxUMsgs => Keyword::MaxUMsgs,
-        Key::TrigInt => Keyword::TrigInt,
-        Key::MaxPrty => Keyword::MaxPrty,
-        Key::CurDepth => Keyword::CurDepth,
-        _ => Keyword::Kept,
-    }
 }
 
 fn asked_key(key: Key) -> Asked

@@ -4,8 +4,8 @@ use Rattle.mq_objects.specs.Attributes.{flag_of, trigger_flag}
 use Rattle.mq_sc_keys.specs.declared.attributes.Kind.TheVariants as kinds
 use Rattle.mq_sc_keys.specs.Keys.{key_in}
 use Rattle.mq_sc_keys.specs.Attributes.{key_of}
-use Rattle.mq_sc_parse.specs.Tables.{is_known}
-use Rattle.mq_sc_parse.proofs.tables.shown_attributes_are_known.Goals as goal
+use Rattle.mq_sc_keys.specs.Shown.{is_known}
+use Rattle.mq_sc_keys.proofs.shown.shown_attributes_are_known.Goals as goal
 
 flag_known : (b : Bool) → is_known kinds.Local (flag_of keywords.Trigger (trigger_flag b)) ≡ true
 unfolding key_of key_in
