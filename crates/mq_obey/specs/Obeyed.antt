@@ -7,7 +7,7 @@ use Rattle.mq_calls.specs.declared.commands.ScRefusal.{ScRefusal}
 use Rattle.mq_calls.specs.declared.commands.ScRefusal.TheVariants as causes
 use Rattle.mq_sc_parse.specs.declared.command.Command.{Command}
 use Rattle.mq_sc_parse.specs.declared.command.Command.TheVariants as commands
-use Rattle.mq_sc_apply.specs.Uses.{Uses}
+use Rattle.mq_sc_apply.specs.Uses.{nothing_used}
 use Rattle.mq_sc_apply.specs.Commands.{plan, reply, after}
 use Rattle.mq_model.specs.Lawful.{mark_at}
 use Rattle.mq_sections.specs.declared.section.Section.{Section}
@@ -15,18 +15,6 @@ use Rattle.mq_obey.specs.declared.events.Refusal.{Refusal}
 use Rattle.mq_obey.specs.declared.events.Refusal.TheVariants as refusals
 use Rattle.mq_obey.specs.declared.events.Event.{Event}
 use Rattle.mq_obey.specs.declared.events.CommandNode.{CommandNode}
-
--- no handle is open, no channel runs, no queue has a row
-abbrev pub nothing_used : Uses
-nothing_used = record {
-  on_path = λ name. false;
-  defxmitq_on_path = false;
-  sending = λ name. false;
-  channel_busy = λ name. false;
-  has_rows = λ name. false;
-  depth = λ name. 0;
-  trigger_off = λ name. false;
-}
 
 -- the answer of a command on objects
 abbrev pub told : Result Shown ScRefusal → Result Shown Refusal

@@ -3,7 +3,8 @@ ghost use Rattle.mq_sc_apply.specs.Commands.{plan};
 ghost use Rattle.mq_objects.specs.Changed.{changed};
 ghost use Rattle.mq_sc_parse.specs.declared.command.Command.TheVariants as kinds;
 ghost use Rattle.mq_obey.specs.declared.events.Refusal.TheVariants as refusals;
-ghost use Rattle.mq_obey.specs.Obeyed.{nothing_used, is_want, status_reply, event_of, after_command, IsFresh, HasObeyed, HasObeyedSome, IsObeyed, IsObeyedInPart};
+ghost use Rattle.mq_sc_apply.specs.Uses.{nothing_used};
+ghost use Rattle.mq_obey.specs.Obeyed.{is_want, status_reply, event_of, after_command, IsFresh, HasObeyed, HasObeyedSome, IsObeyed, IsObeyedInPart};
 
 use crate::events::{CommandNode, Event, Refusal};
 use mq_base::{Items, NoMemory};

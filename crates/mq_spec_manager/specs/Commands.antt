@@ -20,7 +20,7 @@ use Rattle.mq_calls.specs.declared.records.LogRecord.TheVariants as records
 use Rattle.mq_sc_apply.specs.declared.answers.Planned.{Planned}
 use Rattle.mq_sc_apply.specs.declared.answers.Plan.{Plan}
 use Rattle.mq_sc_apply.specs.declared.answers.Plan.TheVariants as plans
-use Rattle.mq_sc_apply.specs.Uses.{Uses}
+use Rattle.mq_sc_apply.specs.Uses.{Uses, nothing_used}
 use Rattle.mq_sc_apply.specs.Commands.{plan, after}
 use Rattle.mq_spec_state.specs.State.{Plain, Change}
 use Rattle.mq_spec_state.specs.State.Change.{ChangeObjects, Renew, DropQueue, SwitchOn, MakeStale}
@@ -82,16 +82,5 @@ abbrev pub command : Command → Plain → Step ScRefusal Shown
 command c p = tested (when (not (is_up p.running)) refusals.Down ∷ []) (planned_step (plan c p.given.name p.definitions (uses_of p)) p.definitions)
 
 -- The definitions after a command that was accepted: those that it makes where nothing is in use.
-abbrev pub unused : Uses
-unused = record {
-  on_path = λ name. false;
-  defxmitq_on_path = false;
-  sending = λ name. false;
-  channel_busy = λ name. false;
-  has_rows = λ name. false;
-  depth = λ name. 0;
-  trigger_off = λ name. false;
-}
-
 abbrev pub definitions_after : Command → Definitions → Definitions
-definitions_after c d = after (plan c [] d unused) d
+definitions_after c d = after (plan c [] d nothing_used) d
