@@ -29,7 +29,8 @@ use Rattle.mq_sc_parse.specs.declared.asking.Asked.TheVariants as asked
 use Rattle.mq_sc_parse.specs.declared.fault.ScFault.{ScFault}
 use Rattle.mq_sc_parse.specs.declared.fault.ScFault.TheVariants as faults
 use Rattle.mq_sc_parse.specs.declared.naming.Pattern.{Pattern}
-use Rattle.mq_sc_parse.specs.Asking.{given_by, given_item, put_given, settings_of, keyword_of, asked_key, asked_by, asked_item, put_asked, asked_of}
+use Rattle.mq_sc_parse.specs.Asking.{given_by, given_item, put_given, settings_of, asked_key, asked_by, asked_item, put_asked, asked_of}
+use Rattle.mq_sc_keys.specs.Shown.{keyword_of}
 use Rattle.mq_sc_parse.specs.Checks.{has_word}
 use Rattle.mq_sc_parse.specs.Parsing.{some_or, is_star, pattern_of, asked_or_all, number_of, settle_as, settle_of}
 use Rattle.mq_sc_grammar.specs.Spelling.{Clause}

@@ -28,7 +28,7 @@ use Rattle.mq_sc_keys.specs.Values.{given_of}
 use Rattle.mq_sc_parse.specs.declared.command.Op.TheVariants as ops
 use Rattle.mq_sc_parse.specs.declared.command.Command.{Command}
 use Rattle.mq_sc_parse.specs.declared.command.Command.TheVariants as commands
-use Rattle.mq_sc_parse.specs.Asking.{keyword_of}
+use Rattle.mq_sc_keys.specs.Shown.{keyword_of}
 use Rattle.mq_sc_parse.specs.Parsing.{channel_name, subject_of, subjects_of, prefix_of, is_prefix}
 use Rattle.mq_sc_grammar.specs.Spelling.{IsVerbWord, IsObjectWord, IsNamed, Clause, AreClauses}
 
