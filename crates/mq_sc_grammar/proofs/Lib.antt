@@ -9,3 +9,5 @@ pub mod Checked
 pub mod Meant
 pub mod Parsed
 pub mod Readings
+pub mod Items
+pub mod Firsts

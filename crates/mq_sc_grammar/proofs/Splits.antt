@@ -65,13 +65,13 @@ value_read text (o ∷ k ∷ c ∷ ts) front ks (kind, is, e) h =
     let closing : c.kind ≡ tokens.Close = cc in
     subst (Valued text (o ∷ k ∷ c ∷ ts)) rest (three_valued text o k c ts opening closing (subst (IsValue text) same is))
 
-open_kind : (k : TokenKind) → is_open_kind k ≡ true → k ≡ tokens.Open
+pub open_kind : (k : TokenKind) → is_open_kind k ≡ true → k ≡ tokens.Open
 open_kind (tokens.Word w) e = absurd cc
 open_kind (tokens.Quoted w) e = absurd cc
 open_kind tokens.Open e = refl
 open_kind tokens.Close e = absurd cc
 
-close_kind : (k : TokenKind) → is_close_kind k ≡ true → k ≡ tokens.Close
+pub close_kind : (k : TokenKind) → is_close_kind k ≡ true → k ≡ tokens.Close
 close_kind (tokens.Word w) e = absurd cc
 close_kind (tokens.Quoted w) e = absurd cc
 close_kind tokens.Open e = absurd cc
@@ -138,7 +138,7 @@ closed_never : (k : TokenKind) (t : Bool) → cond t (text_value k) values.Malfo
 closed_never k true e = text_never k e
 closed_never k false e = absurd cc
 
-bracketed_never : (ts : List Token) → bracketed ts ≡ values.Absent → ⊥
+pub bracketed_never : (ts : List Token) → bracketed ts ≡ values.Absent → ⊥
 bracketed_never [] e = absurd cc
 bracketed_never (k ∷ []) e = absurd cc
 bracketed_never (k ∷ c ∷ ts) e = closed_never k.kind (is_close c) e
@@ -165,7 +165,7 @@ absent_read (c ∷ cs) (t ∷ ts) (first, rest, e, is, more) =
 
 -- ---- what is spelled is split
 
-three_passed : (ts : List Token) → items_from ts 3 ≡ items_from (drop 3 ts) 0
+pub three_passed : (ts : List Token) → items_from ts 3 ≡ items_from (drop 3 ts) 0
 three_passed [] = refl
 three_passed (a ∷ []) = refl
 three_passed (a ∷ b ∷ []) = refl

@@ -2,3 +2,4 @@ pub mod Written
 pub mod Texts
 pub mod Spelling
 pub mod Commands
+pub mod Faults
