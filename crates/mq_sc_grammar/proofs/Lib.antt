@@ -11,3 +11,4 @@ pub mod Parsed
 pub mod Readings
 pub mod Items
 pub mod Firsts
+pub mod BadValues

@@ -109,7 +109,7 @@ none_known : (verb : Verb) (kind : Kind) (items : List Item) → ((key : Key) �
 none_known verb kind [] never known = tt
 none_known verb kind (i ∷ is) never known = absurd (never known.0.0 (key_found verb kind known.0.0 i.word known.0.1).0)
 
-not_two : (verb : Verb) (kind : Kind) (only : Key) (i j : Item) (is : List Item) → key_of verb kind i.word ≡ Some only → key_of verb kind j.word ≡ Some only → first_repeated verb kind (i ∷ j ∷ is) ≡ None → ⊥
+pub not_two : (verb : Verb) (kind : Kind) (only : Key) (i j : Item) (is : List Item) → key_of verb kind i.word ≡ Some only → key_of verb kind j.word ≡ Some only → first_repeated verb kind (i ∷ j ∷ is) ≡ None → ⊥
 unfolding first_repeated
 not_two verb kind only i j is p q e =
     let same : bytes_eq (item_group verb kind i) (item_group verb kind j) ≡ true = same_bytes (item_group verb kind i) (item_group verb kind j) (ap group_text p ∙ sym (ap group_text q)) in
