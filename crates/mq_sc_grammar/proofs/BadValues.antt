@@ -230,3 +230,283 @@ module _ (bad : Item → Type 0) (lacking : Type 0) (items : List Item) (at last
 
 only_name : (items : List Item) (last : Span) (c : Command) → Later (λ (j : Item). ⊥) ⊥ items last (Ok c)
 only_name items last c = record { valued = λ i h. absurd (never_first items i h); lacked = λ h l. absurd l; well = λ h l. (c, refl) }
+
+-- ---- each command
+
+-- XMITQ is there or not
+word_decides : (word : List ℕ) (items : List Item) → Decides (has_word word items) (SomeIs (λ (i : Item). i.word ≡ word) items)
+word_decides word [] = (λ e. absurd cc, λ h. absurd h)
+word_decides word (j ∷ js) = Decides-or (bytes_eq j.word word) (has_word word js) (bytes_eq-Decides j.word word) (word_decides word js)
+
+turned : (b : Bool) (P : Type 0) → Decides b P → Decides (not b) (P → ⊥)
+turned true P d = (λ e. absurd cc, λ never. absurd (never (d.0 refl)))
+turned false P d = (λ e p. absurd (let f : false ≡ true = d.1 p in cc), λ never. refl)
+
+lacks_decides : (kind : Kind) (items : List Item) → Decides (lacks kind items) (IsLacking verbs.Define kind items)
+lacks_decides kinds.Channel items = (λ e. tt, λ h. refl)
+lacks_decides kinds.Sender items = turned (has_word (codes "XMITQ") items) (SomeIs (λ (i : Item). i.word ≡ codes "XMITQ") items) (word_decides (codes "XMITQ") items)
+lacks_decides _ items = (λ e. absurd cc, λ h. absurd h)
+
+lack_then : (bad : Item → Type 0) (L : Type 0) (items : List Item) (last : Span) (b : Bool) (ss : Result (List Setting) ScFault) (g : List Setting → Command) → Decides b L → ((i : Item) → IsFirst bad i items → ss ≡ bad_at i.span) → (NoneIs bad items → (x : List Setting) × (ss ≡ Ok x))
+    → Later bad L items last (ss >>= (λ x. cond b (bad_at last) (Ok (g x))))
+lack_then bad L items last true ss g d first none =
+    record {
+      valued = λ i h. ap (λ r. r >>= (λ x. bad_at last)) (first i h);
+      lacked = λ h l. ap (λ r. r >>= (λ x. bad_at last)) (none h).1;
+      well = λ h l. absurd (l (d.0 refl));
+    }
+lack_then bad L items last false ss g d first none =
+    record {
+      valued = λ i h. ap (λ r. r >>= (λ x. Ok (g x))) (first i h);
+      lacked = λ h l. absurd (let f : false ≡ true = d.1 l in cc);
+      well = λ h l. (g (none h).0, ap (λ r. r >>= (λ x. Ok (g x))) (none h).1);
+    }
+
+module _ (noun : Noun) (kind : Kind) (name : Named) (items : List Item) (last : Span) where
+  define_answers : AllKnown verbs.Define kind items → Answers (subject_of noun name.text ≡ None) (GivesBad verbs.Define kind) (IsLacking verbs.Define kind items) items name.span last (define_of noun kind name items last)
+  unfolding define_of
+  define_answers known =
+      behind_name (GivesBad verbs.Define kind) (IsLacking verbs.Define kind items) items name.span last (subject_of noun name.text) _ (λ subject.
+      lack_then (GivesBad verbs.Define kind) (IsLacking verbs.Define kind items) items last (lacks kind items) (settings_of verbs.Define kind items)
+      (λ settings. commands.Objects (objects.Define (record { subject = subject; replace = has_word (codes "REPLACE") items; settings = settings }))) (lacks_decides kind items)
+      (λ i h. settings_bad verbs.Define kind items i known h) (λ h. settings_good verbs.Define kind items known h))
+
+  alter_answers : AllKnown verbs.Alter kind items → Answers (subject_of noun name.text ≡ None) (GivesBad verbs.Alter kind) ⊥ items name.span last (alter_object_of noun kind name items)
+  unfolding alter_object_of
+  alter_answers known =
+      behind_name (GivesBad verbs.Alter kind) ⊥ items name.span last (subject_of noun name.text) _ (λ subject.
+      values_then (GivesBad verbs.Alter kind) ⊥ items name.span last (settings_of verbs.Alter kind items) (λ settings. commands.Objects (objects.Alter (record { subject = subject; force = has_word (codes "FORCE") items; settings = settings })))
+      (λ i h. settings_bad verbs.Alter kind items i known h) (λ h. settings_good verbs.Alter kind items known h) (λ l. l))
+
+  delete_answers : Answers (subject_of noun name.text ≡ None) (λ (j : Item). ⊥) ⊥ items name.span last (delete_of noun name)
+  unfolding delete_of
+  delete_answers = behind_name (λ (j : Item). ⊥) ⊥ items name.span last (subject_of noun name.text) _ (λ subject. only_name items last (commands.Objects (objects.Delete (record { subject = subject }))))
+
+  objects_answers : (text : List ℕ) (any_end : Bool) → AllKnown verbs.Display kind items → Later HasValue ⊥ items last (show_objects noun kind text any_end items)
+  unfolding show_objects
+  objects_answers text any_end known =
+      values_then HasValue ⊥ items name.span last (asked_of verbs.Display kind items) (λ ks. commands.Objects (objects.Display (record { subjects = subjects_of noun; name = text; any_end = any_end; asked = asked_or_all items ks })))
+      (λ i h. asked_bad kind items i known h) (λ h. asked_good kind items known h) (λ l. l)
+
+  abbrev NoPrefix : Type 0
+  NoPrefix = (text : List ℕ) × (any_end : Bool) × IsPattern name.text text any_end × (is_prefix noun text ≡ false)
+
+  no_prefix : NoPrefix → is_prefix noun (pattern_of name.text).text ≡ false
+  no_prefix (text, any_end, pattern, e) = ap (λ (p : Pattern). is_prefix noun p.text) (pattern_read name.text text any_end pattern) ∙ e
+
+  begun : (b : Bool) → is_prefix noun (pattern_of name.text).text ≡ b → (r : Result Command ScFault) → Later HasValue ⊥ items last r → Answers NoPrefix HasValue ⊥ items name.span last (cond b r (bad_at name.span))
+  begun true e r later =
+      let never : NoPrefix → ⊥ = λ n. absurd (let f : false ≡ true = sym (no_prefix n) ∙ e in cc) in
+      record { named = λ n. absurd (never n); valued = λ n i h. later.valued i h; lacked = λ n h l. absurd l; well = λ n h l. later.well h l }
+  begun false e r later =
+      let is : NoPrefix = ((pattern_of name.text).text, (pattern_of name.text).any_end, pattern_found name.text, e) in
+      record { named = λ n. refl; valued = λ n i h. absurd (n is); lacked = λ n h l. absurd l; well = λ n h l. absurd (n is) }
+
+  display_answers : AllKnown verbs.Display kind items → Answers NoPrefix HasValue ⊥ items name.span last (show_named noun kind name items)
+  unfolding show_named
+  display_answers known =
+      begun (is_prefix noun (pattern_of name.text).text) refl (show_objects noun kind (pattern_of name.text).text (pattern_of name.text).any_end items) (objects_answers (pattern_of name.text).text (pattern_of name.text).any_end known)
+
+module _ (kind : Kind) (name : Named) (items : List Item) (last : Span) where
+  manager_answers : AllKnown verbs.Alter kinds.Manager items → Answers ⊥ (GivesBad verbs.Alter kinds.Manager) ⊥ items name.span last (alter_manager_of items)
+  unfolding alter_manager_of
+  manager_answers known =
+      without_name (GivesBad verbs.Alter kinds.Manager) ⊥ items name.span last _
+      (values_then (GivesBad verbs.Alter kinds.Manager) ⊥ items name.span last (settings_of verbs.Alter kinds.Manager items) (λ settings. commands.Objects (objects.AlterManager (record { force = has_word (codes "FORCE") items; settings = settings })))
+      (λ i h. settings_bad verbs.Alter kinds.Manager items i known h) (λ h. settings_good verbs.Alter kinds.Manager items known h) (λ l. l))
+
+  shown_answers : AllKnown verbs.Display kinds.Manager items → Answers ⊥ HasValue ⊥ items name.span last (show_objects nouns.Manager kinds.Manager [] false items)
+  shown_answers known = without_name HasValue ⊥ items name.span last (show_objects nouns.Manager kinds.Manager [] false items) (objects_answers nouns.Manager kinds.Manager name items last [] false known)
+
+  abbrev NoChannel : Type 0
+  NoChannel = (text : List ℕ) × (any_end : Bool) × IsPattern name.text text any_end × (prefix_of (channel_name text) text ≡ None)
+
+  no_channel : NoChannel → prefix_of (channel_name (pattern_of name.text).text) (pattern_of name.text).text ≡ None
+  no_channel (text, any_end, pattern, e) = ap (λ (p : Pattern). prefix_of (channel_name p.text) p.text) (pattern_read name.text text any_end pattern) ∙ e
+
+  status_answers : AllKnown verbs.Display kinds.Status items → Answers NoChannel HasValue ⊥ items name.span last (status_named name items)
+  unfolding status_named show_status
+  status_answers known =
+      renamed HasValue ⊥ items name.span last (prefix_of (channel_name (pattern_of name.text).text) (pattern_of name.text).text ≡ None) NoChannel _
+      (λ e. ((pattern_of name.text).text, (pattern_of name.text).any_end, pattern_found name.text, e)) (λ n. no_channel n)
+      (behind_name HasValue ⊥ items name.span last (prefix_of (channel_name (pattern_of name.text).text) (pattern_of name.text).text) _ (λ channel.
+      values_then HasValue ⊥ items name.span last (asked_of verbs.Display kinds.Status items) (λ ks. commands.ShowStatus channel (pattern_of name.text).any_end)
+      (λ i h. asked_bad kinds.Status items i known h) (λ h. asked_good kinds.Status items known h) (λ l. l)))
+
+  start_answers : Answers (channel_name name.text ≡ None) (λ (j : Item). ⊥) ⊥ items name.span last (start_of name)
+  unfolding start_of
+  start_answers = behind_name (λ (j : Item). ⊥) ⊥ items name.span last (channel_name name.text) _ (λ channel. only_name items last (commands.Operate (ops.Start channel)))
+
+  stop_answers : Answers (channel_name name.text ≡ None) (λ (j : Item). ⊥) ⊥ items name.span last (stop_of name)
+  unfolding stop_of
+  stop_answers = behind_name (λ (j : Item). ⊥) ⊥ items name.span last (channel_name name.text) _ (λ channel. only_name items last (commands.Operate (ops.Stop channel)))
+
+  reset_answers : AllKnown verbs.Reset kind items → first_repeated verbs.Reset kind items ≡ None → Answers (channel_name name.text ≡ None) BadNumber ⊥ items name.span last (reset_of name items)
+  unfolding reset_of
+  reset_answers known single =
+      behind_name BadNumber ⊥ items name.span last (channel_name name.text) _ (λ channel.
+      values_then BadNumber ⊥ items name.span last (number_of items) (λ n. commands.Operate (ops.Reset channel n)) (λ i h. number_bad kind items i known single h) (λ h. number_good kind items h) (λ l. l))
+
+  resolve_answers : AllKnown verbs.Resolve kind items → first_repeated verbs.Resolve kind items ≡ None → Answers (channel_name name.text ≡ None) BadSettle (items ≡ []) items name.span last (resolve_of name items last)
+  unfolding resolve_of
+  resolve_answers known single =
+      behind_name BadSettle (items ≡ []) items name.span last (channel_name name.text) _ (λ channel. record {
+        valued = λ i h. ap (λ r. r >>= (λ x. Ok (commands.Operate (ops.Resolve channel x)))) (settle_bad kind items i last known single h);
+        lacked = λ h l. ap (λ (is : List Item). settle_of is last >>= (λ x. Ok (commands.Operate (ops.Resolve channel x)))) l;
+        well = λ h l. (commands.Operate (ops.Resolve channel (settle_good kind items last h l).0), ap (λ r. r >>= (λ x. Ok (commands.Operate (ops.Resolve channel x)))) (settle_good kind items last h l).1);
+      })
+
+-- ---- any command
+
+module _ (name : Named) (items : List Item) (last : Span) where
+  abbrev So : Verb → Noun → Result Command ScFault → Type 0
+  So verb noun r = Answers (IsBadName verb noun name.text) (IsBad verb (kind_of noun items)) (IsLacking verb (kind_of noun items) items) items name.span last r
+
+  alters : (noun : Noun) → AllKnown verbs.Alter (kind_of noun items) items → So verbs.Alter noun (alter_of noun (kind_of noun items) name items)
+  alters nouns.Manager known = manager_answers kinds.Manager name items last known
+  alters nouns.Local known = alter_answers nouns.Local kinds.Local name items last known
+  alters nouns.Alias known = alter_answers nouns.Alias kinds.Alias name items last known
+  alters nouns.Remote known = alter_answers nouns.Remote kinds.Remote name items last known
+  alters nouns.Channel known = alter_answers nouns.Channel (kind_of nouns.Channel items) name items last known
+  alters nouns.Process known = alter_answers nouns.Process kinds.Process name items last known
+  alters nouns.Queue known = alter_answers nouns.Queue kinds.Queue name items last known
+  alters nouns.Status known = alter_answers nouns.Status kinds.Status name items last known
+
+  displays : (noun : Noun) → AllKnown verbs.Display (kind_of noun items) items → So verbs.Display noun (display_of noun (kind_of noun items) name items)
+  displays nouns.Manager known = shown_answers kinds.Manager name items last known
+  displays nouns.Status known = status_answers kinds.Status name items last known
+  displays nouns.Local known = display_answers nouns.Local kinds.Local name items last known
+  displays nouns.Alias known = display_answers nouns.Alias kinds.Alias name items last known
+  displays nouns.Remote known = display_answers nouns.Remote kinds.Remote name items last known
+  displays nouns.Channel known = display_answers nouns.Channel (kind_of nouns.Channel items) name items last known
+  displays nouns.Process known = display_answers nouns.Process kinds.Process name items last known
+  displays nouns.Queue known = display_answers nouns.Queue kinds.Queue name items last known
+
+  pub command_answers : (verb : Verb) (noun : Noun) → AllKnown verb (kind_of noun items) items → first_repeated verb (kind_of noun items) items ≡ None → So verb noun (command_of verb noun (kind_of noun items) name items last)
+  command_answers verbs.Define noun known single = define_answers noun (kind_of noun items) name items last known
+  command_answers verbs.Alter noun known single = alters noun known
+  command_answers verbs.Delete noun known single = delete_answers noun (kind_of noun items) name items last
+  command_answers verbs.Display noun known single = displays noun known
+  command_answers verbs.Start noun known single = start_answers (kind_of noun items) name items last
+  command_answers verbs.Stop noun known single = stop_answers (kind_of noun items) name items last
+  command_answers verbs.Reset noun known single = reset_answers (kind_of noun items) name items last known single
+  command_answers verbs.Resolve noun known single = resolve_answers (kind_of noun items) name items last known single
+
+-- ---- each of these can be told
+
+abbrev Told : Type 0 → Type 0
+Told P = P ⊎ (P → ⊥)
+
+told_none : {A : Type 0} (o : Option A) → Told (o ≡ None)
+told_none None = inl refl
+told_none (Some a) = inr (λ e. absurd cc)
+
+told_by : (b : Bool) (P : Type 0) → Decides b P → Told P
+told_by true P d = inl (d.0 refl)
+told_by false P d = inr (λ p. absurd (let f : false ≡ true = d.1 p in cc))
+
+told_like : (P Q : Type 0) → (P → Q) → (Q → P) → Told P → Told Q
+told_like P Q f g (inl p) = inl (f p)
+told_like P Q f g (inr n) = inr (λ q. n (g q))
+
+told_false : (b : Bool) → Told (b ≡ false)
+told_false true = inr (λ e. absurd cc)
+told_false false = inl refl
+
+told_prefix : (noun : Noun) (kind : Kind) (name : Named) (items : List Item) (last : Span) → Told (NoPrefix noun kind name items last)
+told_prefix noun kind name items last =
+    told_like (is_prefix noun (pattern_of name.text).text ≡ false) (NoPrefix noun kind name items last) (λ e. ((pattern_of name.text).text, (pattern_of name.text).any_end, pattern_found name.text, e)) (λ n. no_prefix noun kind name items last n)
+    (told_false (is_prefix noun (pattern_of name.text).text))
+
+module _ (name : Named) (items : List Item) (last : Span) where
+  alter_told : (noun : Noun) → Told (IsBadName verbs.Alter noun name.text)
+  alter_told nouns.Manager = inr (λ n. n)
+  alter_told nouns.Local = told_none (subject_of nouns.Local name.text)
+  alter_told nouns.Alias = told_none (subject_of nouns.Alias name.text)
+  alter_told nouns.Remote = told_none (subject_of nouns.Remote name.text)
+  alter_told nouns.Channel = told_none (subject_of nouns.Channel name.text)
+  alter_told nouns.Process = told_none (subject_of nouns.Process name.text)
+  alter_told nouns.Queue = told_none (subject_of nouns.Queue name.text)
+  alter_told nouns.Status = told_none (subject_of nouns.Status name.text)
+
+  display_told : (noun : Noun) → Told (IsBadName verbs.Display noun name.text)
+  display_told nouns.Manager = inr (λ n. n)
+  display_told nouns.Status =
+      told_like (prefix_of (channel_name (pattern_of name.text).text) (pattern_of name.text).text ≡ None) (NoChannel kinds.Status name items last)
+      (λ e. ((pattern_of name.text).text, (pattern_of name.text).any_end, pattern_found name.text, e)) (λ n. no_channel kinds.Status name items last n) (told_none (prefix_of (channel_name (pattern_of name.text).text) (pattern_of name.text).text))
+  display_told nouns.Local = told_prefix nouns.Local kinds.Local name items last
+  display_told nouns.Alias = told_prefix nouns.Alias kinds.Alias name items last
+  display_told nouns.Remote = told_prefix nouns.Remote kinds.Remote name items last
+  display_told nouns.Channel = told_prefix nouns.Channel kinds.Channel name items last
+  display_told nouns.Process = told_prefix nouns.Process kinds.Process name items last
+  display_told nouns.Queue = told_prefix nouns.Queue kinds.Queue name items last
+
+  pub name_told : (verb : Verb) (noun : Noun) → Told (IsBadName verb noun name.text)
+  name_told verbs.Define noun = told_none (subject_of noun name.text)
+  name_told verbs.Alter noun = alter_told noun
+  name_told verbs.Delete noun = told_none (subject_of noun name.text)
+  name_told verbs.Display noun = display_told noun
+  name_told verbs.Start noun = told_none (channel_name name.text)
+  name_told verbs.Stop noun = told_none (channel_name name.text)
+  name_told verbs.Reset noun = told_none (channel_name name.text)
+  name_told verbs.Resolve noun = told_none (channel_name name.text)
+
+told_nil : (items : List Item) → Told (items ≡ [])
+told_nil [] = inl refl
+told_nil (i ∷ is) = inr (λ e. absurd cc)
+
+pub lack_told : (verb : Verb) (kind : Kind) (items : List Item) → Told (IsLacking verb kind items)
+lack_told verbs.Define kind items = told_by (lacks kind items) (IsLacking verbs.Define kind items) (lacks_decides kind items)
+lack_told verbs.Resolve kind items = told_nil items
+lack_told _ kind items = inr (λ l. l)
+
+abbrev is_bad_given : Given → Bool
+is_bad_given given.Bad = true
+is_bad_given given.Nothing = false
+is_bad_given (given.Setting s) = false
+
+abbrev bad_by : Kind → Option Key → Value → Bool
+bad_by kind None v = false
+bad_by kind (Some key) v = is_bad_given (given_of kind key v)
+
+bad_given_is : (g : Given) → Decides (is_bad_given g) (g ≡ given.Bad)
+bad_given_is given.Bad = (λ e. refl, λ e. refl)
+bad_given_is given.Nothing = (λ e. absurd cc, λ e. absurd cc)
+bad_given_is (given.Setting s) = (λ e. absurd cc, λ e. absurd cc)
+
+gives_by : (verb : Verb) (kind : Kind) (i : Item) (o : Option Key) → key_of verb kind i.word ≡ o → Decides (bad_by kind o i.value) (GivesBad verb kind i)
+gives_by verb kind i None e = (λ f. absurd cc, λ h. absurd (let f : None ≡ Some h.0 = sym e ∙ ap (key_of verb kind) h.1.1 ∙ key_read verb kind h.0 h.1.0 in cc))
+gives_by verb kind i (Some key) e =
+    let d = bad_given_is (given_of kind key i.value) in
+    let same = λ (h : GivesBad verb kind i). let f : Some h.0 ≡ Some key = sym (ap (key_of verb kind) h.1.1 ∙ key_read verb kind h.0 h.1.0) ∙ e in let k : h.0 ≡ key = cc in k in
+    (λ f. (key, key_found verb kind key i.word e, d.0 f), λ h. d.1 (ap (λ (k : Key). given_of kind k i.value) (sym (same h)) ∙ h.2))
+
+gives_decides : (verb : Verb) (kind : Kind) (i : Item) → Decides (bad_by kind (key_of verb kind i.word) i.value) (GivesBad verb kind i)
+gives_decides verb kind i = gives_by verb kind i (key_of verb kind i.word) refl
+
+abbrev has_value : Value → Bool
+has_value values.Absent = false
+has_value (values.Text text) = true
+has_value values.Malformed = true
+
+value_decides : (v : Value) → Decides (has_value v) (v ≡ values.Absent → ⊥)
+value_decides values.Absent = (λ e. absurd cc, λ never. absurd (never refl))
+value_decides (values.Text text) = (λ e f. absurd cc, λ never. refl)
+value_decides values.Malformed = (λ e f. absurd cc, λ never. refl)
+
+none_decides : {A : Type 0} (o : Option A) → Decides (is_none o) (o ≡ None)
+none_decides None = (λ e. refl, λ e. refl)
+none_decides (Some a) = (λ e. absurd cc, λ e. absurd cc)
+
+no_decides : Decides false ⊥
+no_decides = (λ e. absurd cc, λ e. absurd e)
+
+pub decide_bad : (verb : Verb) (kind : Kind) (items : List Item) → ((i : Item) × IsFirst (IsBad verb kind) i items) ⊎ NoneIs (IsBad verb kind) items
+decide_bad verbs.Define kind items = decide (λ (i : Item). bad_by kind (key_of verbs.Define kind i.word) i.value) (GivesBad verbs.Define kind) (λ i. gives_decides verbs.Define kind i) items
+decide_bad verbs.Alter kind items = decide (λ (i : Item). bad_by kind (key_of verbs.Alter kind i.word) i.value) (GivesBad verbs.Alter kind) (λ i. gives_decides verbs.Alter kind i) items
+decide_bad verbs.Display kind items = decide (λ (i : Item). has_value i.value) HasValue (λ i. value_decides i.value) items
+decide_bad verbs.Reset kind items = decide (λ (i : Item). is_none (number_value 0 999999999 i.value)) BadNumber (λ i. none_decides (number_value 0 999999999 i.value)) items
+decide_bad verbs.Resolve kind items = decide (λ (i : Item). is_none (choice_value (codes "COMMIT") (codes "BACKOUT") i.value)) BadSettle (λ i. none_decides (choice_value (codes "COMMIT") (codes "BACKOUT") i.value)) items
+decide_bad verbs.Delete kind items = decide (λ (i : Item). false) (λ (i : Item). ⊥) (λ i. no_decides) items
+decide_bad verbs.Start kind items = decide (λ (i : Item). false) (λ (i : Item). ⊥) (λ i. no_decides) items
+decide_bad verbs.Stop kind items = decide (λ (i : Item). false) (λ (i : Item). ⊥) (λ i. no_decides) items
