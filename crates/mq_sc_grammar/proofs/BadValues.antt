@@ -1,16 +1,14 @@
 -- What a reader answers where a name or a value is bad, where a keyword is missing, and where all is well.
-use Rattle.std.proofs.Common.{◌≡◌, ◌⊎◌, ℕ, Bool, true, false, cond, List, [], ◌∷◌, ◌++◌, refl, sym, ap, subst, ◌∙◌, inl, inr}
+use Rattle.std.proofs.Common.{◌≡◌, ◌⊎◌, ℕ, Bool, true, false, cond, List, [], ◌∷◌, refl, sym, ap, ◌∙◌, inl, inr}
 use Rattle.std.specs.Prelude.{Option, Some, None, Result, Ok, Err, is_none, not, codes}
 use Rattle.std.specs.Bool.{Decides}
 use Rattle.std.specs.Str.{bytes_eq}
-use Rattle.std.proofs.lemmas.Bool.{cond-true, cond-false}
 use Rattle.std.proofs.lemmas.Bool.Decides.{Decides-or}
 use Rattle.std.proofs.lemmas.Slice.Eq.{bytes_eq-Decides}
 use Rattle.mq_sync.specs.declared.unit.Settle.{Settle}
 use Rattle.mq_sync.specs.declared.unit.Settle.TheVariants as settles
 use Rattle.mq_objects.specs.declared.setting.Setting.{Setting}
 use Rattle.mq_objects.specs.declared.setting.Keyword.{Keyword}
-use Rattle.mq_objects.specs.declared.command.Subject.{Subject}
 use Rattle.mq_objects.specs.declared.command.Command.TheVariants as objects
 use Rattle.mq_sc_lex.specs.declared.token.Span.{Span}
 use Rattle.mq_sc_keys.specs.declared.keys.Key.{Key}
@@ -25,9 +23,7 @@ use Rattle.mq_sc_keys.specs.declared.value.Value.{Value}
 use Rattle.mq_sc_keys.specs.declared.value.Value.TheVariants as values
 use Rattle.mq_sc_keys.specs.declared.giving.Given.{Given}
 use Rattle.mq_sc_keys.specs.declared.giving.Given.TheVariants as given
-use Rattle.mq_sc_keys.specs.Keys.{key_text}
 use Rattle.mq_sc_keys.specs.Attributes.{key_of}
-use Rattle.mq_sc_keys.specs.Verbs.{takes}
 use Rattle.mq_sc_keys.specs.Values.{given_of, number_value, choice_value}
 use Rattle.mq_sc_parse.specs.declared.splitting.Item.{Item}
 use Rattle.mq_sc_parse.specs.declared.asking.Asked.{Asked}
@@ -41,7 +37,7 @@ use Rattle.mq_sc_parse.specs.declared.fault.ScFault.{ScFault}
 use Rattle.mq_sc_parse.specs.declared.fault.ScFault.TheVariants as faults
 use Rattle.mq_sc_parse.specs.Asking.{given_by, given_item, put_given, settings_of, asked_key, asked_by, asked_item, put_asked, asked_of}
 use Rattle.mq_sc_parse.specs.Checks.{first_repeated, has_word, kind_of, lacks}
-use Rattle.mq_sc_parse.specs.Parsing.{◌>>=◌, some_or, has_name, channel_name, subject_of, subjects_of, pattern_of, prefix_of, is_prefix, define_of, alter_manager_of, alter_object_of, alter_of, delete_of, asked_or_all, show_objects, show_status, status_named, show_named, display_of, start_of, stop_of, number_of, reset_of, settle_as, settle_of, resolve_of, command_of}
+use Rattle.mq_sc_parse.specs.Parsing.{◌>>=◌, some_or, channel_name, subject_of, subjects_of, pattern_of, prefix_of, is_prefix, define_of, alter_manager_of, alter_object_of, alter_of, delete_of, asked_or_all, show_objects, show_status, status_named, show_named, display_of, start_of, stop_of, number_of, reset_of, settle_as, settle_of, resolve_of, command_of}
 use Rattle.mq_sc_grammar.specs.Commands.{IsPattern}
 use Rattle.mq_sc_grammar.specs.Faults.{IsFirst, NoneIs, SomeIs, IsKeyword, IsBadName, IsBad, IsLacking}
 use Rattle.mq_sc_grammar.proofs.Words.{key_read, key_found}

@@ -7,7 +7,6 @@ use Rattle.std.proofs.lemmas.Bool.{cond-true, cond-false}
 use Rattle.std.proofs.lemmas.Bool.Decides.{Decides-or}
 use Rattle.std.proofs.lemmas.List.{append-nil}
 use Rattle.std.proofs.lemmas.Slice.Eq.{bytes_eq-Decides}
-use Rattle.mq_sc_lex.specs.declared.token.Span.{Span}
 use Rattle.mq_sc_keys.specs.declared.keys.Key.{Key}
 use Rattle.mq_sc_keys.specs.declared.verbs.Verb.{Verb}
 use Rattle.mq_sc_keys.specs.declared.verbs.Noun.{Noun}
@@ -103,7 +102,7 @@ module _ (verb : Verb) (kind : Kind) where
   pub decide_unknown : (items : List Item) → ((i : Item) × IsFirst (IsUnknown verb kind) i items) ⊎ NoneIs (IsUnknown verb kind) items
   decide_unknown items = decide (is_unknown verb kind) (IsUnknown verb kind) (λ j. unknown_decides j) items
 
--- ---- repeated keywords
+  -- ---- repeated keywords
 
   the_key : (i : Item) (key other : Key) → key_of verb kind i.word ≡ Some key → IsKeyword verb kind other i.word → other ≡ key
   the_key i key other e h =

@@ -1,5 +1,5 @@
 -- The keywords of any tokens, and what a reader splits them into, both ways.
-use Rattle.std.proofs.Common.{◌≡◌, ℕ, zero, suc, ◌+◌, ◌≤◌, Bool, true, false, cond, List, [], ◌∷◌, ◌++◌, length, take, drop, refl, sym, ap, subst, ◌∙◌, append_assoc, arith}
+use Rattle.std.proofs.Common.{◌≡◌, ℕ, zero, suc, ◌+◌, ◌≤◌, Bool, true, false, cond, List, [], ◌∷◌, ◌++◌, length, take, drop, refl, sym, ap, subst, ◌∙◌, arith}
 use Rattle.std.specs.Prelude.{not}
 use Rattle.std.specs.List.{position_or_len}
 use Rattle.std.proofs.lemmas.Bool.{cond-true, cond-false}
@@ -102,14 +102,14 @@ unopened (t ∷ ts) h =
     let at : value_at (t ∷ ts) ≡ values.Absent = cond-false (is_open t) (bracketed ts) values.Absent isnt in
     record { at = at; passes = ap (items_from (t ∷ ts)) (absent_found (t ∷ ts) at) }
 
-three_tokens : (behind rest : List Token) (a b c : TokenKind) → kinds_of behind ≡ a ∷ b ∷ c ∷ [] → drop 3 (behind ++ rest) ≡ rest
+pub three_tokens : (behind rest : List Token) (a b c : TokenKind) → kinds_of behind ≡ a ∷ b ∷ c ∷ [] → drop 3 (behind ++ rest) ≡ rest
 three_tokens [] rest a b c e = absurd cc
 three_tokens (x ∷ []) rest a b c e = absurd cc
 three_tokens (x ∷ y ∷ []) rest a b c e = absurd cc
 three_tokens (x ∷ y ∷ z ∷ []) rest a b c e = refl
 three_tokens (x ∷ y ∷ z ∷ w ∷ ts) rest a b c e = absurd cc
 
-kinds_both : (xs ys : List Token) → kinds_of (xs ++ ys) ≡ kinds_of xs ++ kinds_of ys
+pub kinds_both : (xs ys : List Token) → kinds_of (xs ++ ys) ≡ kinds_of xs ++ kinds_of ys
 kinds_both [] ys = refl
 kinds_both (x ∷ xs) ys = ap (λ (l : List TokenKind). x.kind ∷ l) (kinds_both xs ys)
 
@@ -174,7 +174,7 @@ take_three (a ∷ b ∷ c ∷ ts) kind e =
     let r : c.kind ≡ tokens.Close = cc in
     cc
 
-text_split : (text : List ℕ) (ts : List Token) → value_at ts ≡ values.Text text → IsBracketed text (kinds_of (take 3 ts))
+pub text_split : (text : List ℕ) (ts : List Token) → value_at ts ≡ values.Text text → IsBracketed text (kinds_of (take 3 ts))
 text_split text ts e =
     let b = value_found text ts e in
     let whole : kinds_of ts ≡ tokens.Open ∷ b.is.0 ∷ tokens.Close ∷ kinds_of (drop 3 ts) = b.kinds ∙ ap (λ (l : List TokenKind). l ++ kinds_of (drop 3 ts)) b.is.2 in
@@ -219,9 +219,9 @@ closed_split o ts values.Malformed is e =
     let whole : o ∷ ts ≡ (o ∷ (u.inside ++ u.closing)) ++ u.rest = ap (λ (l : List Token). o ∷ l) u.whole in
     let bracket : IsBracket (o ∷ (u.inside ++ u.closing)) u.rest = record { opening = o; inside = u.inside; closing = u.closing; opens = open_kind o.kind is; within = u.within; closes = u.closes; is = refl } in
     let never : (text : List ℕ) → IsBracketed text (kinds_of (o ∷ (u.inside ++ u.closing))) → ⊥ = λ text h. absurd (
-      let v = value_read text (o ∷ ts) (kinds_of (o ∷ (u.inside ++ u.closing))) (kinds_of u.rest) h (ap kinds_of whole ∙ kinds_both (o ∷ (u.inside ++ u.closing)) u.rest) in
-      let f : values.Text text ≡ values.Malformed = sym v.at ∙ e in
-      cc) in
+    let v = value_read text (o ∷ ts) (kinds_of (o ∷ (u.inside ++ u.closing))) (kinds_of u.rest) h (ap kinds_of whole ∙ kinds_both (o ∷ (u.inside ++ u.closing)) u.rest) in
+    let f : values.Text text ≡ values.Malformed = sym v.at ∙ e in
+    cc) in
     record { behind = o ∷ (u.inside ++ u.closing); rest = u.rest; whole = whole; value = subst (λ (v : Value). IsValueBehind v (o ∷ (u.inside ++ u.closing)) u.rest) (sym e) (bracket, never) }
 
 open_split : (o : Token) (ts : List Token) (b : Bool) → is_open o ≡ b → Split (o ∷ ts)

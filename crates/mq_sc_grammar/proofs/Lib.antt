@@ -12,3 +12,4 @@ pub mod Readings
 pub mod Items
 pub mod Firsts
 pub mod BadValues
+pub mod Faulted

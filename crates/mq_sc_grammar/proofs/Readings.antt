@@ -228,7 +228,7 @@ module _ (name : Named) (items : List Item) (c : Command) where
 
 -- ---- names
 
-drop_min : (ts : List Token) (n : ℕ) → behind n ts ≡ drop n ts
+pub drop_min : (ts : List Token) (n : ℕ) → behind n ts ≡ drop n ts
 drop_min [] zero = refl
 drop_min [] (suc n) = let none : min 0 (suc n) ≡ 0 = omega arith in rw none refl
 drop_min (t ∷ ts) zero = let none : min (suc (length ts)) 0 ≡ 0 = omega arith in rw none refl

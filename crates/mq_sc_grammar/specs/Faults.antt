@@ -1,5 +1,5 @@
 -- Why a line is no command: the first cause in the order of the faults, and of one cause the first place.
-use Rattle.std.specs.Prelude.{◌≡◌, ◌⊎◌, ℕ, Bool, true, false, List, [], ◌∷◌, ◌++◌, Option, Some, None, codes}
+use Rattle.std.specs.Prelude.{◌≡◌, ◌⊎◌, ℕ, Bool, true, false, List, [], ◌∷◌, ◌++◌, None, codes}
 use Rattle.mq_sc_lex.specs.declared.token.Span.{Span}
 use Rattle.mq_sc_lex.specs.declared.token.Token.{Token}
 use Rattle.mq_sc_lex.specs.declared.token.TokenKind.{TokenKind}
@@ -232,8 +232,8 @@ abbrev pub IsBadAt : List Token → Parts → Span → Type 0
 IsBadAt ts p span =
     (IsBadName p.verb p.noun p.name × (span ≡ p.name_place))
     ⊎ ((IsBadName p.verb p.noun p.name → ⊥)
-        × (((i : Item) × IsFirst (IsBad p.verb p.kind) i p.items × (span ≡ i.span))
-            ⊎ (NoneIs (IsBad p.verb p.kind) p.items × IsLacking p.verb p.kind p.items × IsLastPlace ts span)))
+    × (((i : Item) × IsFirst (IsBad p.verb p.kind) i p.items × (span ≡ i.span))
+    ⊎ (NoneIs (IsBad p.verb p.kind) p.items × IsLacking p.verb p.kind p.items × IsLastPlace ts span)))
 
 -- a line is no command for this cause, at this place
 abbrev pub IsFault : Line → ScFault → Type 0

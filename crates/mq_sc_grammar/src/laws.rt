@@ -1,12 +1,14 @@
-ghost use Rattle.std.specs.Prelude.{◌≡◌, ℕ, List, Ok};
+ghost use Rattle.std.specs.Prelude.{◌≡◌, ◌⊎◌, ℕ, List, Ok, Err};
 ghost use Rattle.mq_sc_lex.specs.declared.token.Line.{Line};
 ghost use Rattle.mq_sc_lex.specs.declared.token.TokenKind.{TokenKind};
 ghost use Rattle.mq_sc_lex.specs.Commands.{commands_of};
 ghost use Rattle.mq_sc_parse.specs.declared.command.Command.{Command};
+ghost use Rattle.mq_sc_parse.specs.declared.fault.ScFault.{ScFault};
 ghost use Rattle.mq_sc_parse.specs.Parsing.{parse_of};
 ghost use Rattle.mq_sc_grammar.specs.Texts.{IsCommands};
 ghost use Rattle.mq_sc_grammar.specs.Spelling.{kinds_of};
 ghost use Rattle.mq_sc_grammar.specs.Commands.{IsCommand};
+ghost use Rattle.mq_sc_grammar.specs.Faults.{IsFault};
 
 /// A text is that of one list of commands at most.
 pub fn one_list_of_commands()
@@ -28,4 +30,17 @@ pub fn a_line_is_one_command()
 pub fn a_command_is_read_where_it_is_written()
     ensures found { (line : Line) (command : Command) → parse_of line ≡ Ok command → IsCommand (kinds_of line.tokens) command }
     ensures read { (line : Line) (command : Command) → IsCommand (kinds_of line.tokens) command → parse_of line ≡ Ok command }
+{}
+
+/// The reader of lines answers a fault, other than that memory ran out, exactly where it is the line's.
+pub fn a_fault_is_told_where_it_stands()
+    ensures found { (line : Line) (fault : ScFault) → parse_of line ≡ Err fault → IsFault line fault }
+    ensures read { (line : Line) (fault : ScFault) → IsFault line fault → parse_of line ≡ Err fault }
+{}
+
+/// Each line is a command or has a fault, never both, and has one fault at most.
+pub fn a_line_is_a_command_or_has_a_fault()
+    ensures either { (line : Line) → ((command : Command) × IsCommand (kinds_of line.tokens) command) ⊎ ((fault : ScFault) × IsFault line fault) }
+    ensures never_both { (line : Line) (command : Command) (fault : ScFault) → IsCommand (kinds_of line.tokens) command → IsFault line fault → ⊥ }
+    ensures one_fault { (line : Line) (fault other : ScFault) → IsFault line fault → IsFault line other → fault ≡ other }
 {}
