@@ -13,3 +13,4 @@ pub mod Items
 pub mod Firsts
 pub mod BadValues
 pub mod Faulted
+pub mod Vectors
