@@ -107,11 +107,11 @@ NoneSeen seen (c ∷ cs) = (Among (group_of c.key) (groups_of seen) → ⊥) × 
 abbrev no_place : Option Span
 no_place = None
 
-decided_false : (b : Bool) (P : Type 0) → Decides b P → (P → ⊥) → b ≡ false
+pub decided_false : (b : Bool) (P : Type 0) → Decides b P → (P → ⊥) → b ≡ false
 decided_false true P d never = absurd (never (d.0 refl))
 decided_false false P d never = refl
 
-decided_no : (b : Bool) (P : Type 0) → Decides b P → b ≡ false → P → ⊥
+pub decided_no : (b : Bool) (P : Type 0) → Decides b P → b ≡ false → P → ⊥
 decided_no b P d e p = absurd (let f : true ≡ false = sym (d.1 p) ∙ e in cc)
 
 seen_read : (verb : Verb) (kind : Kind) (es cs : List Clause) (earlier items : List Item) → Spell es earlier → Spell cs items → AreKnown verb kind es → AreKnown verb kind cs → NoneSeen es cs → repeated_from verb kind earlier items ≡ no_place

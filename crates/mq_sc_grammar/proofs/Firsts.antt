@@ -22,7 +22,7 @@ use Rattle.mq_sc_parse.specs.declared.splitting.Item.{Item}
 use Rattle.mq_sc_parse.specs.Checks.{is_unknown, span_of_item, first_unknown, group_text, item_group, is_among, repeated_from, first_repeated, item_of, kind_of_type, type_of_item, channel_kind, kind_of}
 use Rattle.mq_sc_grammar.specs.Faults.{IsFirst, NoneIs, SomeIs, IsKeyword, IsUnknown, AreAlike, NoneAlike, IsRepeat, IsTyped, IsChannelOf, IsKindOf}
 use Rattle.mq_sc_grammar.proofs.Words.{bytes_same, same_bytes, one_key, key_read, key_found}
-use Rattle.mq_sc_grammar.proofs.Checked.{AllKnown}
+use Rattle.mq_sc_grammar.proofs.Checked.{decided_false, decided_no, AllKnown}
 
 abbrev pub some_item : Item → Option Item
 some_item i = Some i
@@ -34,11 +34,7 @@ no_item = None
 
 module _ (test : Item → Bool) (P : Item → Type 0) (each : (i : Item) → Decides (test i) (P i)) where
   fails : (i : Item) → (P i → ⊥) → test i ≡ false
-  fails i never = by (test i) (each i)
-    where
-      by : (b : Bool) → Decides b (P i) → b ≡ false
-      by true d = absurd (never (d.0 refl))
-      by false d = refl
+  fails i never = decided_false (test i) (P i) (each i) never
 
   pub first_read : (i : Item) (items : List Item) → IsFirst P i items → find test items ≡ some_item i
   first_read i [] h = absurd h
@@ -55,14 +51,8 @@ module _ (test : Item → Bool) (P : Item → Type 0) (each : (i : Item) → Dec
     where
       by : (b : Bool) → test j ≡ b → ((i : Item) × IsFirst P i is) ⊎ NoneIs P is → ((i : Item) × IsFirst P i (j ∷ is)) ⊎ NoneIs P (j ∷ is)
       by true e later = inl (j, inl ((each j).0 e, refl))
-      by false e (inl h) = inl (h.0, inr (isnt e, h.1))
-        where
-          isnt : test j ≡ false → P j → ⊥
-          isnt f p = absurd (let c : true ≡ false = sym ((each j).1 p) ∙ f in cc)
-      by false e (inr h) = inr (isnt e, h)
-        where
-          isnt : test j ≡ false → P j → ⊥
-          isnt f p = absurd (let c : true ≡ false = sym ((each j).1 p) ∙ f in cc)
+      by false e (inl h) = inl (h.0, inr (decided_no (test j) (P j) (each j) e, h.1))
+      by false e (inr h) = inr (decided_no (test j) (P j) (each j) e, h)
 
   pub first_found : (i : Item) (items : List Item) → find test items ≡ some_item i → IsFirst P i items
   first_found i items e = by (decide items)
@@ -73,13 +63,6 @@ module _ (test : Item → Bool) (P : Item → Type 0) (each : (i : Item) → Dec
           let same : h.0 ≡ i = cc in
           subst (λ (k : Item). IsFirst P k items) same h.1
       by (inr h) = absurd (let f : no_item ≡ some_item i = sym (none_read items h) ∙ e in cc)
-
-isnt_true : (b : Bool) (P : Type 0) → Decides b P → (P → ⊥) → b ≡ false
-isnt_true true P d never = absurd (never (d.0 refl))
-isnt_true false P d never = refl
-
-isnt_so : (b : Bool) (P : Type 0) → Decides b P → b ≡ false → P → ⊥
-isnt_so b P d e p = absurd (let f : true ≡ false = sym (d.1 p) ∙ e in cc)
 
 -- ---- unknown keywords
 
@@ -145,7 +128,7 @@ module _ (verb : Verb) (kind : Kind) where
   fresh_read seen [] ks k h = refl
   fresh_read seen (i ∷ is) ks k h =
       let d = among_decides i k.0.0 k.0.1 seen ks in
-      let isnt : is_among verb kind i seen ≡ false = isnt_true (is_among verb kind i seen) (SomeIs (Alike i) seen) d h.0 in
+      let isnt : is_among verb kind i seen ≡ false = decided_false (is_among verb kind i seen) (SomeIs (Alike i) seen) d h.0 in
       cond-false (is_among verb kind i seen) (Some i.span) (repeated_from verb kind (seen ++ i ∷ []) is) isnt ∙ fresh_read (seen ++ i ∷ []) is (known_more seen i k.0.0 k.0.1 ks) k.1 h.1
 
   repeat_read : (seen front : List Item) (i : Item) (later : List Item) → AllKnown verb kind seen → AllKnown verb kind (front ++ i ∷ later) → Fresh seen front → SomeIs (Alike i) (seen ++ front) → repeated_from verb kind seen (front ++ i ∷ later) ≡ Some i.span
@@ -154,7 +137,7 @@ module _ (verb : Verb) (kind : Kind) where
       cond-true (is_among verb kind i seen) (Some i.span) (repeated_from verb kind (seen ++ i ∷ []) later) (d.1 (subst (SomeIs (Alike i)) (append-nil seen) again))
   repeat_read seen (f ∷ front) i later ks k h again =
       let d = among_decides f k.0.0 k.0.1 seen ks in
-      let isnt : is_among verb kind f seen ≡ false = isnt_true (is_among verb kind f seen) (SomeIs (Alike f) seen) d h.0 in
+      let isnt : is_among verb kind f seen ≡ false = decided_false (is_among verb kind f seen) (SomeIs (Alike f) seen) d h.0 in
       cond-false (is_among verb kind f seen) (Some f.span) (repeated_from verb kind (seen ++ f ∷ []) (front ++ i ∷ later)) isnt
       ∙ repeat_read (seen ++ f ∷ []) front i later (known_more seen f k.0.0 k.0.1 ks) k.1 h.1 (subst (SomeIs (Alike i)) (sym (append_assoc seen (f ∷ []) front)) again)
 
@@ -178,10 +161,10 @@ module _ (verb : Verb) (kind : Kind) where
         item = a.item;
         later = a.later;
         whole = ap (λ (l : List Item). i ∷ l) a.whole;
-        fresh = (isnt_so (is_among verb kind i seen) (SomeIs (Alike i) seen) d e, a.fresh);
+        fresh = (decided_no (is_among verb kind i seen) (SomeIs (Alike i) seen) d e, a.fresh);
         before = subst (SomeIs (Alike a.item)) (append_assoc seen (i ∷ []) a.front) a.before;
       })
-      by false e d (inr f) = inr (isnt_so (is_among verb kind i seen) (SomeIs (Alike i) seen) d e, f)
+      by false e d (inr f) = inr (decided_no (is_among verb kind i seen) (SomeIs (Alike i) seen) d e, f)
 
   -- none is like one of those that were seen
   abbrev Apart : (seen items : List Item) → Type 0

@@ -5,11 +5,12 @@ pub mod Joins
 pub mod Whole
 pub mod Words
 pub mod Splits
+pub mod Items
+pub mod Names
 pub mod Checked
 pub mod Meant
 pub mod Parsed
 pub mod Readings
-pub mod Items
 pub mod Firsts
 pub mod BadValues
 pub mod Faulted

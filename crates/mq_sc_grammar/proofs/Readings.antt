@@ -1,6 +1,6 @@
 -- A command and the tokens that spell it, as a reader takes them, both ways.
-use Rattle.std.proofs.Common.{◌≡◌, ℕ, zero, suc, ◌≤◌, Bool, true, false, cond, List, [], ◌∷◌, ◌++◌, length, drop, refl, sym, ap, subst, ◌∙◌, arith}
-use Rattle.std.specs.Prelude.{Option, Some, None, Result, Ok, Err, codes, min, map}
+use Rattle.std.proofs.Common.{◌≡◌, ℕ, ◌≤◌, Bool, true, false, cond, List, [], ◌∷◌, ◌++◌, length, refl, sym, ap, subst, ◌∙◌, arith}
+use Rattle.std.specs.Prelude.{Option, Some, None, Result, Ok, Err, codes, map}
 use Rattle.std.specs.Str.{bytes_eq}
 use Rattle.mq_sync.specs.declared.unit.Settle.{Settle}
 use Rattle.mq_sc_lex.specs.declared.token.Span.{Span}
@@ -20,20 +20,22 @@ use Rattle.mq_sc_keys.specs.declared.value.Value.{Value}
 use Rattle.mq_sc_keys.specs.declared.value.Value.TheVariants as values
 use Rattle.mq_sc_keys.specs.Attributes.{key_of, named_by, options_of}
 use Rattle.mq_sc_keys.specs.Verbs.{verb_of, object_of}
-use Rattle.mq_sc_keys.specs.Values.{are_blanks, number_value, choice_value}
+use Rattle.mq_sc_keys.specs.Values.{number_value, choice_value}
 use Rattle.mq_sc_parse.specs.declared.splitting.Item.{Item}
 use Rattle.mq_sc_parse.specs.declared.naming.Named.{Named}
 use Rattle.mq_sc_parse.specs.declared.command.Command.{Command}
 use Rattle.mq_sc_parse.specs.declared.fault.ScFault.{ScFault}
 use Rattle.mq_sc_parse.specs.declared.fault.ScFault.TheVariants as faults
-use Rattle.mq_sc_parse.specs.Splitting.{value_at, value_len, items_from, items_of, word_of_kind}
+use Rattle.mq_sc_parse.specs.Splitting.{items_from, items_of, word_of_kind}
 use Rattle.mq_sc_parse.specs.Asking.{settings_of, asked_of}
 use Rattle.mq_sc_parse.specs.Checks.{first_unknown, first_repeated, item_group, group_text, kind_of}
-use Rattle.mq_sc_parse.specs.Parsing.{some_or, first_span, second_span, last_span, first_word, second_word, behind, named_as, value_span, has_name, named_at, channel_name, subject_of, pattern_of, prefix_of, is_prefix, unknown_or, fault_of, unless_fault, define_of, alter_manager_of, alter_object_of, alter_of, show_objects, show_status, status_named, show_named, display_of, number_of, settle_as, settle_of, reset_of, resolve_of, command_of, checked_command, parse_of}
-use Rattle.mq_sc_grammar.specs.Spelling.{kinds_of, IsBracketed, IsNamed, Clause, AreClauses}
+use Rattle.mq_sc_parse.specs.Parsing.{some_or, first_span, second_span, last_span, first_word, second_word, behind, named_at, channel_name, subject_of, pattern_of, prefix_of, is_prefix, unknown_or, fault_of, unless_fault, define_of, alter_manager_of, alter_object_of, alter_of, show_objects, show_status, status_named, show_named, display_of, number_of, settle_as, settle_of, reset_of, resolve_of, command_of, checked_command, parse_of}
+use Rattle.mq_sc_grammar.specs.Spelling.{kinds_of, IsNamed, Clause, AreClauses}
 use Rattle.mq_sc_grammar.specs.Commands.{Among, AreKnown, AreSingle, IsKind, MeansAlter, MeansDisplay, Means, IsCommand}
 use Rattle.mq_sc_grammar.proofs.Words.{same_bytes, key_found, verb_read, verb_found, object_read, object_found, no_verb, no_object}
-use Rattle.mq_sc_grammar.proofs.Splits.{Spell, value_read, value_found, word_kind_of, AreWhole, items_read, items_found}
+use Rattle.mq_sc_grammar.proofs.Splits.{Spell, word_kind_of, AreWhole, items_read, items_found}
+use Rattle.mq_sc_grammar.proofs.Items.{kinds_both}
+use Rattle.mq_sc_grammar.proofs.Names.{drop_min, NameAt, name_in, took, part_place, Parted, parted}
 use Rattle.mq_sc_grammar.proofs.Checked.{AllKnown, known_read, known_found, single_read, single_found, kind_read, kind_found}
 use Rattle.mq_sc_grammar.proofs.Meant.{given_whole, asked_whole, one_of_one}
 use Rattle.mq_sc_grammar.proofs.Parsed.{ok_command, then_ok, some_ok, define_read, define_found, alter_read, alter_found, delete_read, delete_found, display_read, display_found, manager_read, manager_found, shown_read, shown_found, status_read, status_found, start_read, start_found, stop_read, stop_found, reset_read, reset_found, resolve_read, resolve_found}
@@ -226,87 +228,6 @@ module _ (name : Named) (items : List Item) (c : Command) where
   all_whole verbs.Reset noun last known single e = reset_whole (kind_of noun items) known single e
   all_whole verbs.Resolve noun last known single e = resolve_whole (kind_of noun items) last known single e
 
--- ---- names
-
-pub drop_min : (ts : List Token) (n : ℕ) → behind n ts ≡ drop n ts
-drop_min [] zero = refl
-drop_min [] (suc n) = let none : min 0 (suc n) ≡ 0 = omega arith in rw none refl
-drop_min (t ∷ ts) zero = let none : min (suc (length ts)) 0 ≡ 0 = omega arith in rw none refl
-drop_min (t ∷ ts) (suc n) = let more : min (suc (length ts)) (suc n) ≡ suc (min (length ts) n) = omega arith in rw more (drop_min ts n)
-
-pub record NameRead (noun : Noun) (object : Span) (name : List ℕ) (ts : List Token) (ks : List TokenKind) : Type 0 where
-  pub named : Named
-  pub read : named_at noun object ts ≡ Ok named
-  pub text : named.text ≡ name
-  pub rest : kinds_of (behind named.len ts) ≡ ks
-
-object_named : (noun : Noun) (object : Span) (name : List ℕ) (ts : List Token) (part ks : List TokenKind) → has_name noun ≡ true → IsBracketed name part → are_blanks name ≡ false → kinds_of ts ≡ part ++ ks → NameRead noun object name ts ks
-unfolding named_at
-object_named noun object name ts part ks has is blank e =
-    let v = value_read name ts part ks is e in
-    record {
-      named = record { text = name; span = value_span object ts; len = 3 };
-      read = rw (has, v.at, v.long, blank) refl;
-      text = refl;
-      rest = ap kinds_of (drop_min ts 3) ∙ v.rest;
-    }
-
-pub name_read : (noun : Noun) (object : Span) (name : List ℕ) (ts : List Token) (part ks : List TokenKind) → IsNamed noun name part → kinds_of ts ≡ part ++ ks → NameRead noun object name ts ks
-unfolding named_at
-name_read nouns.Manager object name ts part ks h e =
-    record {
-      named = record { text = []; span = object; len = 0 };
-      read = refl;
-      text = sym h.0;
-      rest = ap kinds_of (drop_min ts 0) ∙ e ∙ ap (λ (l : List TokenKind). l ++ ks) h.1;
-    }
-name_read nouns.Local object name ts part ks h e = object_named nouns.Local object name ts part ks refl h.0 h.1 e
-name_read nouns.Alias object name ts part ks h e = object_named nouns.Alias object name ts part ks refl h.0 h.1 e
-name_read nouns.Remote object name ts part ks h e = object_named nouns.Remote object name ts part ks refl h.0 h.1 e
-name_read nouns.Channel object name ts part ks h e = object_named nouns.Channel object name ts part ks refl h.0 h.1 e
-name_read nouns.Process object name ts part ks h e = object_named nouns.Process object name ts part ks refl h.0 h.1 e
-name_read nouns.Queue object name ts part ks h e = object_named nouns.Queue object name ts part ks refl h.0 h.1 e
-name_read nouns.Status object name ts part ks h e = object_named nouns.Status object name ts part ks refl h.0 h.1 e
-
--- the name that a reader took, and its tokens
-pub record NameFound (noun : Noun) (named : Named) (ts : List Token) : Type 0 where
-  pub part : List TokenKind
-  pub is : IsNamed noun named.text part
-  pub kinds : kinds_of ts ≡ part ++ kinds_of (behind named.len ts)
-
-record TextNamed (named : Named) (ts : List Token) : Type 0 where
-  pub part : List TokenKind
-  pub is : IsBracketed named.text part
-  pub blank : are_blanks named.text ≡ false
-  pub kinds : kinds_of ts ≡ part ++ kinds_of (behind named.len ts)
-
-text_named : (object span : Span) (ts : List Token) (text : List ℕ) (named : Named) → value_at ts ≡ values.Text text → (b : Bool) → are_blanks text ≡ b → cond b (Err (faults.MissingName object)) (Ok (record { text = text; span = span; len = value_len ts })) ≡ Ok named → TextNamed named ts
-text_named object span ts text named at true blank e = absurd cc
-text_named object span ts text named at false blank e =
-    let v = value_found text ts at in
-    let same : record { text = text; span = span; len = value_len ts } ≡ named = cc in
-    let rest : behind (value_len ts) ts ≡ drop 3 ts = drop_min ts (value_len ts) ∙ ap (λ (n : ℕ). drop n ts) v.long in
-    subst (λ (n : Named). TextNamed n ts) same
-    (record { part = v.front; is = v.is; blank = blank; kinds = v.kinds ∙ ap (λ (l : List Token). v.front ++ kinds_of l) (sym rest) })
-
-named_found : (object span : Span) (ts : List Token) (v : Value) (named : Named) → value_at ts ≡ v → named_as object span (value_len ts) v ≡ Ok named → TextNamed named ts
-named_found object span ts values.Absent named at e = absurd cc
-named_found object span ts values.Malformed named at e = absurd cc
-named_found object span ts (values.Text text) named at e = text_named object span ts text named at (are_blanks text) refl e
-
-pub name_found : (noun : Noun) (object : Span) (ts : List Token) (named : Named) → named_at noun object ts ≡ Ok named → NameFound noun named ts
-unfolding named_at
-name_found nouns.Manager object ts named e =
-    let same : record { text = []; span = object; len = 0 } ≡ named = cc in
-    subst (λ (n : Named). NameFound nouns.Manager n ts) same (record { part = []; is = (refl, refl); kinds = sym (ap kinds_of (drop_min ts 0)) })
-name_found nouns.Local object ts named e = let f = named_found object (value_span object ts) ts (value_at ts) named refl e in record { part = f.part; is = (f.is, f.blank); kinds = f.kinds }
-name_found nouns.Alias object ts named e = let f = named_found object (value_span object ts) ts (value_at ts) named refl e in record { part = f.part; is = (f.is, f.blank); kinds = f.kinds }
-name_found nouns.Remote object ts named e = let f = named_found object (value_span object ts) ts (value_at ts) named refl e in record { part = f.part; is = (f.is, f.blank); kinds = f.kinds }
-name_found nouns.Channel object ts named e = let f = named_found object (value_span object ts) ts (value_at ts) named refl e in record { part = f.part; is = (f.is, f.blank); kinds = f.kinds }
-name_found nouns.Process object ts named e = let f = named_found object (value_span object ts) ts (value_at ts) named refl e in record { part = f.part; is = (f.is, f.blank); kinds = f.kinds }
-name_found nouns.Queue object ts named e = let f = named_found object (value_span object ts) ts (value_at ts) named refl e in record { part = f.part; is = (f.is, f.blank); kinds = f.kinds }
-name_found nouns.Status object ts named e = let f = named_found object (value_span object ts) ts (value_at ts) named refl e in record { part = f.part; is = (f.is, f.blank); kinds = f.kinds }
-
 -- ---- the checks, and a command behind them
 
 checked_read : (verb : Verb) (noun : Noun) (kind : Kind) (named : Named) (last : Span) (cs : List Clause) (items : List Item) (c : Command) → Spell cs items → IsKind noun cs kind → AreKnown verb kind cs → AreSingle cs → Means verb noun kind named.text cs c → checked_command verb noun named last items ≡ ok_command c
@@ -359,8 +280,22 @@ checked_found verb noun named last ts c e =
 abbrev pub line_of : ℕ → List Token → Line
 line_of number ts = record { number = number; tokens = ts }
 
-tokens_read : (number : ℕ) (t u : Token) (ts : List Token) (c : Command) → IsCommand (kinds_of (t ∷ u ∷ ts)) c → parse_of (line_of number (t ∷ u ∷ ts)) ≡ ok_command c
+-- behind a verb and an object stand a name and clauses
+rest_read : (number : ℕ) (t u : Token) (ts : List Token) (c : Command) (h : IsCommand (kinds_of (t ∷ u ∷ ts)) c) → verb_of (word_of_kind t.kind) ≡ Some h.verb → object_of h.verb (word_of_kind u.kind) ≡ Some h.noun
+    → (p : Parted ts h.name_part h.clause_part) (place : Span) → NameAt h.noun u.span h.name place (p.first ++ p.later) p.later → parse_of (line_of number (t ∷ u ∷ ts)) ≡ ok_command c
 unfolding parse_of items_of
+rest_read number t u ts c h verb noun p place n =
+    let two : behind 2 (t ∷ u ∷ ts) ≡ p.first ++ p.later = drop_min (t ∷ u ∷ ts) 2 ∙ p.whole in
+    let spell = items_read h.clauses p.later (subst (AreClauses h.clauses) (sym p.is_rest) h.are_clauses) in
+    let means : Means h.verb h.noun h.kind n.named.text h.clauses c = subst (λ (x : List ℕ). Means h.verb h.noun h.kind x h.clauses c) (sym n.text) h.means in
+    rw (verb, noun, two, n.read, n.behind_it) (checked_read h.verb h.noun h.kind n.named (last_span number (t ∷ u ∷ ts)) h.clauses (items_from p.later 0) c spell h.is_kind h.known h.single means)
+
+part_read : (number : ℕ) (t u : Token) (ts : List Token) (c : Command) (h : IsCommand (kinds_of (t ∷ u ∷ ts)) c) → verb_of (word_of_kind t.kind) ≡ Some h.verb → object_of h.verb (word_of_kind u.kind) ≡ Some h.noun → Parted ts h.name_part h.clause_part → parse_of (line_of number (t ∷ u ∷ ts)) ≡ ok_command c
+part_read number t u ts c h verb noun p =
+    let place = part_place p.first in
+    rest_read number t u ts c h verb noun p place.0 (name_in h.noun u.span h.name place.0 p.first p.later (subst (IsNamed h.noun h.name) (sym p.is_front) h.is_named) place.1)
+
+tokens_read : (number : ℕ) (t u : Token) (ts : List Token) (c : Command) → IsCommand (kinds_of (t ∷ u ∷ ts)) c → parse_of (line_of number (t ∷ u ∷ ts)) ≡ ok_command c
 tokens_read number t u ts c h =
     let whole : t.kind ∷ u.kind ∷ kinds_of ts ≡ tokens.Word h.verb_word ∷ tokens.Word h.object_word ∷ (h.name_part ++ h.clause_part) = h.whole in
     let first : t.kind ≡ tokens.Word h.verb_word = cc in
@@ -368,11 +303,7 @@ tokens_read number t u ts c h =
     let rest : kinds_of ts ≡ h.name_part ++ h.clause_part = cc in
     let verb : verb_of (word_of_kind t.kind) ≡ Some h.verb = ap (λ (k : TokenKind). verb_of (word_of_kind k)) first ∙ verb_read h.verb h.verb_word h.is_verb in
     let noun : object_of h.verb (word_of_kind u.kind) ≡ Some h.noun = ap (λ (k : TokenKind). object_of h.verb (word_of_kind k)) second ∙ object_read h.verb h.noun h.object_word h.goes h.is_object in
-    let later : behind 2 (t ∷ u ∷ ts) ≡ ts = drop_min (t ∷ u ∷ ts) 2 in
-    let n = name_read h.noun u.span h.name ts h.name_part h.clause_part h.is_named rest in
-    let spell = items_read h.clauses (behind n.named.len ts) (subst (AreClauses h.clauses) (sym n.rest) h.are_clauses) in
-    let means : Means h.verb h.noun h.kind n.named.text h.clauses c = subst (λ (x : List ℕ). Means h.verb h.noun h.kind x h.clauses c) (sym n.text) h.means in
-    rw (verb, noun, later, n.read) (checked_read h.verb h.noun h.kind n.named (last_span number (t ∷ u ∷ ts)) h.clauses (items_from (behind n.named.len ts) 0) c spell h.is_kind h.known h.single means)
+    part_read number t u ts c h verb noun (parted ts h.name_part h.clause_part rest)
 
 too_short : (k : List TokenKind) (v w : List ℕ) (more : List TokenKind) → k ≡ tokens.Word v ∷ tokens.Word w ∷ more → length k ≤ 1 → ⊥
 too_short k v w more e le = absurd (let n : length k ≡ length (tokens.Word v ∷ tokens.Word w ∷ more) = ap length e in omega (arith, n))
@@ -418,7 +349,8 @@ tokens_found number (t ∷ u ∷ ts) c h =
     let later : behind 2 (t ∷ u ∷ ts) ≡ ts = drop_min (t ∷ u ∷ ts) 2 in
     let named = subst (λ (l : List Token). named_at h.noun u.span l ≡ Ok h.named) later h.is_named in
     let checked = subst (λ (l : List Token). checked_command h.verb h.noun h.named (last_span number (t ∷ u ∷ ts)) (items_of (behind h.named.len l)) ≡ ok_command c) later h.checked in
-    let n = name_found h.noun u.span ts h.named named in
+    let n = took h.noun u.span ts h.named named in
+    let rest : kinds_of ts ≡ kinds_of n.part ++ kinds_of (behind h.named.len ts) = ap kinds_of n.whole ∙ kinds_both n.part n.rest ∙ ap (λ (l : List Token). kinds_of n.part ++ kinds_of l) (sym n.behind_it) in
     let k = checked_found h.verb h.noun h.named (last_span number (t ∷ u ∷ ts)) (behind h.named.len ts) c checked in
     let o = object_found h.verb h.noun (word_of_kind u.kind) h.is_object in
     let first : t.kind ≡ tokens.Word (word_of_kind t.kind) = word_kind_of t.kind (λ e. no_verb h.verb (sym (ap verb_of e) ∙ h.is_verb)) in
@@ -431,14 +363,14 @@ tokens_found number (t ∷ u ∷ ts) c h =
       object_word = word_of_kind u.kind;
       name = h.named.text;
       clauses = k.clauses;
-      name_part = n.part;
+      name_part = kinds_of n.part;
       clause_part = kinds_of (behind h.named.len ts);
       is_verb = verb_found h.verb (word_of_kind t.kind) h.is_verb;
       goes = o.0;
       is_object = o.1;
       is_named = n.is;
       are_clauses = k.are;
-      whole = ap (λ (x : TokenKind). x ∷ u.kind ∷ kinds_of ts) first ∙ ap (λ (x : TokenKind). tokens.Word (word_of_kind t.kind) ∷ x ∷ kinds_of ts) second ∙ ap (λ (l : List TokenKind). tokens.Word (word_of_kind t.kind) ∷ tokens.Word (word_of_kind u.kind) ∷ l) n.kinds;
+      whole = ap (λ (x : TokenKind). x ∷ u.kind ∷ kinds_of ts) first ∙ ap (λ (x : TokenKind). tokens.Word (word_of_kind t.kind) ∷ x ∷ kinds_of ts) second ∙ ap (λ (l : List TokenKind). tokens.Word (word_of_kind t.kind) ∷ tokens.Word (word_of_kind u.kind) ∷ l) rest;
       is_kind = k.is_kind;
       known = k.known;
       single = k.single;
