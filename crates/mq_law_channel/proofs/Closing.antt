@@ -1,5 +1,5 @@
 -- What a receiver has closed or passed stays so, also after a conflict.
-use Rattle.std.proofs.Common.{ℕ, ◌≡◌, ◌<◌, ◌⊎◌, Bool, true, false, not, [], refl, ap, sym, ◌∙◌, subst, arith, inl, inr}
+use Rattle.std.proofs.Common.{ℕ, ◌≡◌, ◌<◌, ◌≤◌, ◌⊎◌, Bool, true, false, not, [], refl, ap, sym, ◌∙◌, subst, arith, inl, inr}
 use Rattle.std.specs.Prelude.{◌==◌, ◌&&◌, if◌then◌else◌}
 use Rattle.mq_frame.specs.declared.frame.FrameKind.{FrameKind}
 use Rattle.mq_frame.specs.declared.frame.FrameKind.TheVariants.{Msg}
@@ -28,6 +28,16 @@ alone_of c p h = record { session = h.tied.bound_session; open_ = λ e. (h.sound
 
 pub same_later : (r : ReceiverData) → Later r r
 same_later r = inr (refl, λ e. e)
+
+pub later_on : (q r s : ReceiverData) → Later q r → Later r s → Later q s
+later_on q r s (inl a) (inl b) = inl (omega (arith, a, b))
+later_on q r s (inl a) (inr b) = inl (omega (arith, a, b.0))
+later_on q r s (inr a) (inl b) = inl (omega (arith, a.0, b))
+later_on q r s (inr a) (inr b) = inr (b.0 ∙ a.0, λ e. b.1 (a.1 e))
+
+pub later_rises : (q r : ReceiverData) → Later q r → q.session ≤ r.session
+later_rises q r (inl a) = omega (arith, a)
+later_rises q r (inr a) = omega (arith, a.0)
 
 -- what a step leaves
 pub record Left (c d : Channel) : Type 0 where

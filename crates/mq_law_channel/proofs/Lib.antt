@@ -14,3 +14,4 @@ pub mod Numbering
 pub mod Recounting
 pub mod Agreeing
 pub mod Reaching
+pub mod Holding

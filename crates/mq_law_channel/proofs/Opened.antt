@@ -8,8 +8,8 @@ use Rattle.mq_sync.specs.declared.data.InDoubt.{InDoubt}
 use Rattle.mq_sync.specs.declared.data.SenderData.{SenderData}
 use Rattle.mq_sync.specs.declared.data.ReceiverData.{ReceiverData}
 use Rattle.mq_sync.specs.Units.{unit_named, Upto}
-use Rattle.mq_law_channel.specs.Facts.{Letter}
-use Rattle.mq_law_channel.specs.Channel.{Facts}
+use Rattle.mq_law_channel.specs.Facts.{Letter, now}
+use Rattle.mq_law_channel.specs.Channel.{Channel, Past, Facts}
 use Rattle.mq_law_channel.specs.Opening.{opened, Belong, number_in, doubt_unit, doubt_number, past_opened}
 use Rattle.mq_law_channel.proofs.Told.{bool_case, nat_yes}
 
@@ -78,3 +78,20 @@ begins_facts s r letters b =
         came = λ e. absurd cc;
       };
     }
+
+-- What a run leaves.
+pub unit_low : (u v : Luw) → Upto u v → u.session ≤ v.session
+unit_low u v (inl e) = omega (arith, e)
+unit_low u v (inr e) = omega (arith, e.0)
+
+pub belongs_again : (c : Channel) (p : Past) → Facts c p → Belong c.sends c.receives
+belongs_again c p h = record {
+  sessions = subst (λ (x : ℕ). c.receives.session ≤ x) h.tied.session h.sound.sessions;
+  unit = λ d e.
+      let k = h.sound.held d.unit (h.tied.in_doubt d e).0 in
+      (k.0, subst (λ (x : ℕ). d.unit.session ≤ x) h.tied.session (unit_low d.unit (now p.near) k.1), k.2);
+  last = h.sound.last_session;
+}
+
+pub begins_again : (c : Channel) (p : Past) (letters : List Letter) → Facts c p → Facts (opened c.sends c.receives) (past_opened c.sends c.receives letters)
+begins_again c p letters h = begins_facts c.sends c.receives letters (belongs_again c p h)

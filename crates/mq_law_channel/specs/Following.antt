@@ -83,3 +83,7 @@ is_in_session Waiting = true
 pub record Reached (c : Channel) (p : Past) : Type 0 where
   pub bound : is_in_session c.sender.state ≡ true → p.near.session ≤ c.receives.session
   pub ends : (u : Luw) (k last : ℕ) → Mem (Ends u k last) (tales c.out) → u.session ≤ c.receives.session
+
+-- the unit that the sender holds is of a session at most the receiver's, also where its END was never offered
+abbrev pub HeldWithin : Channel → Past → Type 0
+HeldWithin c p = (u : Luw) → p.near.holds ≡ Some u → u.session ≤ c.receives.session

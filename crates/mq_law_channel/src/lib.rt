@@ -6,7 +6,7 @@
 //! holds, and which units an operator has settled. `Facts` ties the two, and each step keeps it.
 #![tactic(auto)]
 
-ghost use Rattle.std.specs.Prelude.{◌≡◌, ◌≢◌, ℕ, Bool, true, false, List, Option, Some, None};
+ghost use Rattle.std.specs.Prelude.{◌≡◌, ◌≢◌, ◌≤◌, ℕ, Bool, true, false, List, Option, Some, None};
 ghost use Rattle.mq_sync.specs.declared.unit.Unit.{Unit as Luw};
 ghost use Rattle.mq_sync.specs.declared.unit.Settle.{Settle};
 ghost use Rattle.mq_sync.specs.declared.unit.Settle.TheVariants as settles;
@@ -26,13 +26,20 @@ ghost use Rattle.mq_law_channel.specs.Facts.{Dead, Letter};
 ghost use Rattle.mq_law_channel.specs.Channel.{Channel, Facts, Past, far};
 ghost use Rattle.mq_law_channel.specs.Counting.{Agree, Count, Numbers, SenderAgrees, count_opened, count_set, sender_count};
 ghost use Rattle.mq_law_channel.specs.Example.{acknowledged, delivered, delivered_late};
-ghost use Rattle.mq_law_channel.specs.Following.{Alone, Awaited, Later, Placed, Reached, RefusesUnits, Said, is_in_session};
+ghost use Rattle.mq_law_channel.specs.Following.{Alone, Awaited, HeldWithin, Later, Placed, Reached, RefusesUnits, Said, is_in_session};
 ghost use Rattle.mq_law_channel.specs.Opening.{Belong, opened, past_opened};
 ghost use Rattle.mq_law_channel.specs.Turns.{ReceiverMay, ReceiverTurn, SenderMay, SenderTurn, past_resolved, receiver_does, receiver_halted, receiver_numbered, receiver_restarted, receiver_rests, receiver_started, receiver_stopped, receiver_turn, released, resolved, sender_does, sender_numbered, sender_past, sender_past_restarted, sender_restarted, sender_rests, sender_started, sender_stopped, sender_timed_out, sender_turn};
 
 /// Where two logs belong together, the channel begins with the facts; the unit in doubt has any messages.
 pub fn a_channel_begins_with_the_facts()
     ensures { (s : SenderData) (r : ReceiverData) (letters : List Letter) → Belong s r → Facts (opened s r) (past_opened s r letters) }
+{}
+
+/// What an earlier run left is what a later one may begin from: two logs of a channel with the facts belong together, and
+/// so the channel that opens with them, its unit in doubt with any messages, has the facts again.
+pub fn a_channel_can_begin_again()
+    ensures belong { (c : Channel) (p : Past) → Facts c p → Belong c.sends c.receives }
+    ensures facts { (c : Channel) (p : Past) (letters : List Letter) → Facts c p → Facts (opened c.sends c.receives) (past_opened c.sends c.receives letters) }
 {}
 
 /// Each turn of the sender keeps the facts: a session hardened, BIND, a batch held, messages, a unit prepared or one
@@ -81,17 +88,25 @@ pub fn queues_can_rest_on_a_channel()
 {}
 
 /// What a receiver has closed or passed stays so, and no unit of it is committed: so a unit that was settled as backed
-/// out is never committed later. This rests on the receiver alone, and holds also after a conflict.
+/// out is never committed later. Each step of the receiver leaves its data `Later`, its session never falls, and `same`
+/// and `later` chain the steps of a run. This rests on the receiver alone, and holds also after a conflict.
 pub fn closed_sessions_stay_closed()
     ensures facts { (c : Channel) (p : Past) → Facts c p → Alone c }
     ensures turn { (t : ReceiverTurn) (c : Channel) → Alone c → RefusesUnits t c → Alone (receiver_turn t c) }
     ensures turn_later { (t : ReceiverTurn) (c : Channel) → Alone c → RefusesUnits t c → Later c.receives (receiver_turn t c).receives }
     ensures start { (c : Channel) → Alone c → Alone (receiver_started c) }
+    ensures start_later { (c : Channel) → Alone c → Later c.receives (receiver_started c).receives }
     ensures stop { (c : Channel) → Alone c → Alone (receiver_stopped c) }
     ensures stop_later { (c : Channel) → Alone c → Later c.receives (receiver_stopped c).receives }
     ensures halt { (c : Channel) → Alone c → Alone (receiver_halted c) }
+    ensures halt_later { (c : Channel) → Alone c → Later c.receives (receiver_halted c).receives }
     ensures rest { (c : Channel) → Alone c → Alone (receiver_rests c) }
+    ensures rest_later { (c : Channel) → Alone c → Later c.receives (receiver_rests c).receives }
     ensures reset { (last : ℕ) (c : Channel) → Alone c → Alone (receiver_numbered last c) }
+    ensures reset_later { (last : ℕ) (c : Channel) → Alone c → Later c.receives (receiver_numbered last c).receives }
+    ensures same { (r : ReceiverData) → Later r r }
+    ensures later { (q r s : ReceiverData) → Later q r → Later r s → Later q s }
+    ensures rises { (q r : ReceiverData) → Later q r → q.session ≤ r.session }
     ensures dead { (c d : Channel) (x : ℕ) → Later c.receives d.receives → Dead (far c) x → Dead (far d) x }
     ensures live { (t : ReceiverTurn) (c : Channel) (u : Luw) → Alone c → receiver_does t c ≡ Place u → ¬ Dead (far c) u.session }
 {}
@@ -104,6 +119,26 @@ pub fn no_unit_is_sent_before_its_session_is_bound()
     ensures timeout { (c : Channel) (p : Past) → Reached c p → Reached (sender_timed_out c) p }
     ensures rests { (c d : Channel) (p q : Past) → Reached c p → is_in_session d.sender.state ≡ false → d.out ≡ c.out → d.receives ≡ c.receives → Reached d q }
     ensures receiver { (c d : Channel) (p : Past) → Reached c p → Later c.receives d.receives → d.sender ≡ c.sender → d.out ≡ c.out → Reached d p }
+{}
+
+/// A prepared unit's session is at most the receiver's: that of the unit which a sender holds, in doubt or not, also where
+/// its END was never offered. It is so whenever the sender is in session, from the opening on where it is so of the unit
+/// in doubt there, and each step keeps it; logs that an earlier run left so begin a later one so. Two logs may belong
+/// together without it, as where the receiver's log is new: then it is so from the first STATUS on.
+pub fn a_unit_in_doubt_is_within_the_receivers_sessions()
+    ensures begins { (s : SenderData) (r : ReceiverData) (letters : List Letter) → ((d : InDoubt) → s.in_doubt ≡ Some d → d.unit.session ≤ r.session) → HeldWithin (opened s r) (past_opened s r letters) }
+    ensures in_session { (c : Channel) (p : Past) → Facts c p → Reached c p → is_in_session c.sender.state ≡ true → HeldWithin c p }
+    ensures sender { (t : SenderTurn) (c : Channel) (p : Past) → Reached c p → HeldWithin c p → HeldWithin (sender_turn t c) (sender_past t c p) }
+    ensures timeout { (c : Channel) (p : Past) → HeldWithin c p → HeldWithin (sender_timed_out c) p }
+    ensures sender_starts { (limits : Limits) (c : Channel) (p : Past) → HeldWithin c p → HeldWithin (sender_started limits c) p }
+    ensures sender_stops { (c : Channel) (p : Past) → HeldWithin c p → HeldWithin (sender_stopped c) (released p) }
+    ensures sender_rests { (m : Sender) (c : Channel) (p : Past) → HeldWithin c p → HeldWithin (sender_rests m c) (released p) }
+    ensures sender_noted { (kept : Bool) (t : SenderTurn) (m : Sender) (c : Channel) (p : Past) → Reached c p → HeldWithin c p → HeldWithin (sender_restarted kept t m c) (sender_past_restarted kept t c p) }
+    ensures sender_resets { (last : ℕ) (c : Channel) (p : Past) → HeldWithin c p → HeldWithin (sender_numbered last c) p }
+    ensures resolves { (settle : Settle) (c : Channel) (p : Past) (d : InDoubt) → HeldWithin c p → HeldWithin (resolved settle c) (past_resolved settle d p) }
+    ensures receiver { (c d : Channel) (p : Past) → HeldWithin c p → Later c.receives d.receives → HeldWithin d p }
+    ensures in_doubt { (c : Channel) (p : Past) (d : InDoubt) → Facts c p → HeldWithin c p → c.sends.in_doubt ≡ Some d → d.unit.session ≤ c.receives.session }
+    ensures again { (c : Channel) (p : Past) (letters : List Letter) → Facts c p → HeldWithin c p → HeldWithin (opened c.sends c.receives) (past_opened c.sends c.receives letters) }
 {}
 
 /// Sequence numbers. Beside the facts stands the last number of each unit, and whether an operator has set a number.
