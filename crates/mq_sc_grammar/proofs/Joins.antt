@@ -9,9 +9,9 @@ use Rattle.mq_sc_lex.specs.declared.joining.Mark.{Mark}
 use Rattle.mq_sc_lex.specs.declared.joining.Joined.{Joined}
 use Rattle.mq_sc_lex.specs.declared.joining.Ending.{Ending}
 use Rattle.mq_sc_lex.specs.declared.joining.Ending.TheVariants.{Whole, Plus, Minus}
-use Rattle.mq_sc_lex.specs.Joining.{is_blank, are_blank, is_comment, sign, is_sign, ending_of, body_of, passed as passed_len, marks_from, part_of, before_first, add_part, joined_from}
+use Rattle.mq_sc_lex.specs.Joining.{is_blank, are_blank, is_comment, sign, is_sign, ending_of, body_of, passed as passed_len, marks_from, part_of, before_first, add_part, is_open, joined_from}
 use Rattle.mq_sc_lex.proofs.EndLaws.{blanks_body}
-use Rattle.mq_sc_grammar.specs.Texts.{IsComment, BeginsUnblank, EndsSo, BeginsSo, IsPart, IsOnto, AreJoined}
+use Rattle.mq_sc_grammar.specs.Texts.{IsComment, BeginsUnblank, EndsSo, BeginsSo, IsPart, IsBefore, IsOnto, AreJoined}
 
 -- ---- how a line ends
 
@@ -217,93 +217,56 @@ part_found before line at bytes isnt =
 
 -- ---- all of them
 
-abbrev pub done : List (List Mark) → Joined
-done lines = record { lines = lines; unfinished = false }
+abbrev pub done : Ending → List (List Mark) → Joined
+done last lines = record { lines = lines; unfinished = is_open last }
 
-onto_read : (e : Ending) (part : List Mark) (later lines : List (List Mark)) → IsOnto e part later lines → add_part part e (done later) ≡ done lines
-onto_read Whole part later lines h = ap done (sym h)
-onto_read Plus part later lines (first, others, e, h) = ap (λ (l : List (List Mark)). done (before_first part l)) e ∙ ap done (sym h)
-onto_read Minus part later lines (first, others, e, h) = ap (λ (l : List (List Mark)). done (before_first part l)) e ∙ ap done (sym h)
+before_read : (part : List Mark) (later lines : List (List Mark)) → IsBefore part later lines → before_first part later ≡ lines
+before_read part [] lines h = sym h
+before_read part (first ∷ others) lines h = sym h
 
-pub joined_read : (rows : List (List ℕ)) (before : Ending) (line at : ℕ) (lines : List (List Mark)) → AreJoined before line at rows lines → joined_from before line at rows ≡ done lines
-joined_read [] Whole line at lines h = ap done (sym h)
-joined_read [] Plus line at lines h = absurd h
-joined_read [] Minus line at lines h = absurd h
-joined_read (bytes ∷ rest) before line at lines (inl (c, h)) =
+onto_read : (e : Ending) (part : List Mark) (last : Ending) (later lines : List (List Mark)) → IsOnto e part later lines → add_part part e (done last later) ≡ done last lines
+onto_read Whole part last later lines h = ap (done last) (sym h)
+onto_read Plus part last later lines h = ap (done last) (before_read part later lines h)
+onto_read Minus part last later lines h = ap (done last) (before_read part later lines h)
+
+pub joined_read : (rows : List (List ℕ)) (before : Ending) (line at : ℕ) (last : Ending) (lines : List (List Mark)) → AreJoined before line at rows last lines → joined_from before line at rows ≡ done last lines
+joined_read [] before line at last lines h = ap (λ (e : Ending). done e []) (sym h.0) ∙ ap (done last) (sym h.1)
+joined_read (bytes ∷ rest) before line at last lines (inl (c, h)) =
     cond-true (is_comment bytes) (joined_from before (line + 1) (at + length bytes + 1) rest) (add_part (part_of before line at bytes) (ending_of bytes) (joined_from (ending_of bytes) (line + 1) (at + length bytes + 1) rest)) (comment_read bytes c)
-    ∙ joined_read rest before (line + 1) (at + length bytes + 1) lines h
-joined_read (bytes ∷ rest) before line at lines (inr (e, part, later, p, onto, h)) =
+    ∙ joined_read rest before (line + 1) (at + length bytes + 1) last lines h
+joined_read (bytes ∷ rest) before line at last lines (inr (e, part, later, p, onto, h)) =
     let r = part_read before line at bytes e part p in
     let isnt : is_comment bytes ≡ false = no_comment bytes p.no_comment (is_comment bytes) refl in
     cond-false (is_comment bytes) (joined_from before (line + 1) (at + length bytes + 1) rest) (add_part (part_of before line at bytes) (ending_of bytes) (joined_from (ending_of bytes) (line + 1) (at + length bytes + 1) rest)) isnt
     ∙ ap (λ (x : Ending). add_part (part_of before line at bytes) x (joined_from x (line + 1) (at + length bytes + 1) rest)) r.0
     ∙ ap (λ (x : List Mark). add_part x e (joined_from e (line + 1) (at + length bytes + 1) rest)) r.1
-    ∙ ap (add_part part e) (joined_read rest e (line + 1) (at + length bytes + 1) later h)
-    ∙ onto_read e part later lines onto
+    ∙ ap (add_part part e) (joined_read rest e (line + 1) (at + length bytes + 1) last later h)
+    ∙ onto_read e part last later lines onto
 
-abbrev GoesOn : Ending → Type 0
-GoesOn Whole = ⊥
-GoesOn Plus = Unit {0}
-GoesOn Minus = Unit {0}
+before_some : (part : List Mark) (later : List (List Mark)) → IsBefore part later (before_first part later)
+before_some part [] = refl
+before_some part (first ∷ others) = refl
 
-record SomeLine (lines : List (List Mark)) : Type 0 where
-  pub first : List Mark
-  pub others : List (List Mark)
-  pub are : lines ≡ first ∷ others
+onto_some : (e : Ending) (part : List Mark) (later : List (List Mark)) → (lines : List (List Mark)) × IsOnto e part later lines
+onto_some Whole part later = (part ∷ later, refl)
+onto_some Plus part later = (before_first part later, before_some part later)
+onto_some Minus part later = (before_first part later, before_some part later)
 
-some_first : (part : List Mark) (lines : List (List Mark)) → SomeLine (before_first part lines)
-some_first part [] = record { first = part; others = []; are = refl }
-some_first part (l ∷ ls) = record { first = part ++ l; others = ls; are = refl }
+-- what physical lines make
+pub record Made (before : Ending) (line at : ℕ) (rows : List (List ℕ)) : Type 0 where
+  pub last : Ending
+  pub lines : List (List Mark)
+  pub are : AreJoined before line at rows last lines
 
-some_added : (part : List Mark) (e : Ending) (j : Joined) → SomeLine (add_part part e j).lines
-some_added part Whole j = record { first = part; others = j.lines; are = refl }
-some_added part Plus j = some_first part j.lines
-some_added part Minus j = some_first part j.lines
+made_row : (before : Ending) (line at : ℕ) (bytes : List ℕ) (rest : List (List ℕ)) → ((e : Ending) → Made e (line + 1) (at + length bytes + 1) rest) → (t : Bool) → is_comment bytes ≡ t → Made before line at (bytes ∷ rest)
+made_row before line at bytes rest more true c =
+    let m = more before in
+    record { last = m.last; lines = m.lines; are = inl (comment_found bytes c, m.are) }
+made_row before line at bytes rest more false c =
+    let m = more (ending_of bytes) in
+    let o = onto_some (ending_of bytes) (part_of before line at bytes) m.lines in
+    record { last = m.last; lines = o.0; are = inr (ending_of bytes, part_of before line at bytes, m.lines, part_found before line at bytes c, o.1, m.are) }
 
-some_step : (here added : Joined) → (here.unfinished ≡ false → SomeLine here.lines) → SomeLine added.lines → (t : Bool) → (cond t here added).unfinished ≡ false → SomeLine (cond t here added).lines
-some_step here added one other true u = one u
-some_step here added one other false u = other
-
-some_line : (rows : List (List ℕ)) (before : Ending) (line at : ℕ) → GoesOn before → (joined_from before line at rows).unfinished ≡ false → SomeLine (joined_from before line at rows).lines
-some_line [] Whole line at g u = absurd g
-some_line [] Plus line at g u = absurd cc
-some_line [] Minus line at g u = absurd cc
-some_line (bytes ∷ rest) before line at g u =
-    some_step (joined_from before (line + 1) (at + length bytes + 1) rest) (add_part (part_of before line at bytes) (ending_of bytes) (joined_from (ending_of bytes) (line + 1) (at + length bytes + 1) rest))
-    (λ v. some_line rest before (line + 1) (at + length bytes + 1) g v) (some_added (part_of before line at bytes) (ending_of bytes) (joined_from (ending_of bytes) (line + 1) (at + length bytes + 1) rest)) (is_comment bytes) u
-
-rest_done : (part : List Mark) (e : Ending) (j : Joined) → (add_part part e j).unfinished ≡ false → j.unfinished ≡ false
-rest_done part Whole j u = u
-rest_done part Plus j u = u
-rest_done part Minus j u = u
-
-onto_first : (part : List Mark) (lines : List (List Mark)) → SomeLine lines → (first : List Mark) × (others : List (List Mark)) × (lines ≡ first ∷ others) × (before_first part lines ≡ (part ++ first) ∷ others)
-onto_first part lines s = (s.first, s.others, s.are, ap (before_first part) s.are)
-
-onto_found : (e : Ending) (part : List Mark) (line at : ℕ) (rest : List (List ℕ)) → (joined_from e line at rest).unfinished ≡ false → IsOnto e part (joined_from e line at rest).lines (add_part part e (joined_from e line at rest)).lines
-onto_found Whole part line at rest u = refl
-onto_found Plus part line at rest u = onto_first part (joined_from Plus line at rest).lines (some_line rest Plus line at tt u)
-onto_found Minus part line at rest u = onto_first part (joined_from Minus line at rest).lines (some_line rest Minus line at tt u)
-
-found_row : (before : Ending) (line at : ℕ) (bytes : List ℕ) (rest : List (List ℕ))
-    → ((e : Ending) → (joined_from e (line + 1) (at + length bytes + 1) rest).unfinished ≡ false → AreJoined e (line + 1) (at + length bytes + 1) rest (joined_from e (line + 1) (at + length bytes + 1) rest).lines)
-    → (t : Bool) → is_comment bytes ≡ t
-    → (cond t (joined_from before (line + 1) (at + length bytes + 1) rest) (add_part (part_of before line at bytes) (ending_of bytes) (joined_from (ending_of bytes) (line + 1) (at + length bytes + 1) rest))).unfinished ≡ false
-    → AreJoined before line at (bytes ∷ rest) (cond t (joined_from before (line + 1) (at + length bytes + 1) rest) (add_part (part_of before line at bytes) (ending_of bytes) (joined_from (ending_of bytes) (line + 1) (at + length bytes + 1) rest))).lines
-found_row before line at bytes rest more true c u = inl (comment_found bytes c, more before u)
-found_row before line at bytes rest more false c u =
-    let closed = rest_done (part_of before line at bytes) (ending_of bytes) (joined_from (ending_of bytes) (line + 1) (at + length bytes + 1) rest) u in
-    inr (
-      ending_of bytes,
-      part_of before line at bytes,
-      (joined_from (ending_of bytes) (line + 1) (at + length bytes + 1) rest).lines,
-      part_found before line at bytes c,
-      onto_found (ending_of bytes) (part_of before line at bytes) (line + 1) (at + length bytes + 1) rest closed,
-      more (ending_of bytes) closed,
-    )
-
-pub joined_found : (rows : List (List ℕ)) (before : Ending) (line at : ℕ) → (joined_from before line at rows).unfinished ≡ false → AreJoined before line at rows (joined_from before line at rows).lines
-joined_found [] Whole line at u = refl
-joined_found [] Plus line at u = absurd cc
-joined_found [] Minus line at u = absurd cc
-joined_found (bytes ∷ rest) before line at u = found_row before line at bytes rest (λ e v. joined_found rest e (line + 1) (at + length bytes + 1) v) (is_comment bytes) refl u
+pub made : (rows : List (List ℕ)) (before : Ending) (line at : ℕ) → Made before line at rows
+made [] before line at = record { last = before; lines = []; are = (refl, refl) }
+made (bytes ∷ rest) before line at = made_row before line at bytes rest (λ e. made rest e (line + 1) (at + length bytes + 1)) (is_comment bytes) refl

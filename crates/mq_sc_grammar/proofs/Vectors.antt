@@ -1,4 +1,4 @@
--- Worked rows: texts of one command, and the command that each is, or why it is none.
+-- Worked rows: texts of one command, and the command that each is, or why it is none; texts that are none of commands.
 use Rattle.std.proofs.Common.{◌≡◌, ℕ, false, List, [], ◌∷◌, refl}
 use Rattle.std.specs.Prelude.{Option, Some, None, Result, Ok, Err, codes}
 use Rattle.mq_text.specs.Numbers.{number_in}
@@ -10,6 +10,7 @@ use Rattle.mq_objects.specs.declared.command.Subjects.TheVariants as shown
 use Rattle.mq_objects.specs.declared.command.Command.TheVariants as objects
 use Rattle.mq_sc_lex.specs.declared.token.Line.{Line}
 use Rattle.mq_sc_lex.specs.declared.fault.LexFault.{LexFault}
+use Rattle.mq_sc_lex.specs.declared.fault.LexFault.TheVariants as texts
 use Rattle.mq_sc_lex.specs.Joining.{joined_of}
 use Rattle.mq_sc_lex.specs.Tokens.{commands_of_marks}
 use Rattle.mq_sc_lex.specs.Commands.{commands_of}
@@ -28,7 +29,8 @@ use Rattle.mq_sc_grammar.specs.Texts.{IsCommands}
 use Rattle.mq_sc_grammar.specs.Spelling.{kinds_of}
 use Rattle.mq_sc_grammar.specs.Commands.{IsCommand}
 use Rattle.mq_sc_grammar.specs.Faults.{IsFault}
-use Rattle.mq_sc_grammar.proofs.Whole.{text_found}
+use Rattle.mq_sc_grammar.specs.TextFaults.{IsTextFault}
+use Rattle.mq_sc_grammar.proofs.Whole.{text_found, text_fault_found}
 use Rattle.mq_sc_grammar.proofs.Readings.{command_found}
 use Rattle.mq_sc_grammar.proofs.Faulted.{fault_found}
 
@@ -43,6 +45,10 @@ record Isnt (text : List ℕ) (fault : ScFault) : Type 0 where
   pub line : Line
   pub written : IsCommands text (line ∷ [])
   pub told : IsFault line fault
+
+-- the text is none of commands for this cause
+record HasNone (text : List ℕ) (fault : LexFault) : Type 0 where
+  pub told : IsTextFault text fault
 
 abbrev of_lines : Result (List Line) LexFault → Option (Result Command ScFault)
 of_lines (Ok (line ∷ [])) = Some (parse_of line)
@@ -68,6 +74,9 @@ isnt_by text fault (Err other) e h = absurd cc
 
 isnt : (text : List ℕ) (fault : ScFault) → answer text ≡ Some (Err fault) → Isnt text fault
 isnt text fault h = isnt_by text fault (commands_of text) refl h
+
+none : (text : List ℕ) (fault : LexFault) → commands_of text ≡ Err fault → HasNone text fault
+none text fault e = record { told = text_fault_found text fault e }
 
 -- ---- commands
 
@@ -127,3 +136,25 @@ too_high = isnt _ _ refl
 no_action : Isnt (codes "RESOLVE CHANNEL(C)") (faults.BadValue (record { line = 1; start = 17; end = 18 }))
 unfolding commands_of joined_of commands_of_marks pieces_of parse_of verb_of object_of named_at items_of checked_command fault_of first_unknown first_repeated channel_kind resolve_of
 no_action = isnt _ _ refl
+
+-- ---- texts that are none of commands
+
+-- a quote on the second physical line of a joined one
+on_the_second : HasNone (codes "DEFINE QLOCAL(A) +\n  DESCR('one)\n") (texts.OpenQuote 2)
+unfolding commands_of joined_of commands_of_marks pieces_of
+on_the_second = none _ _ refl
+
+-- a quote that its line's end and the next line leave open, behind a whole command; a semicolon behind it ends nothing
+on_the_first : HasNone (codes "STOP CHANNEL(C)\nDEFINE QLOCAL(A) DESCR('it''s -\n one); DELETE QLOCAL(B)") (texts.OpenQuote 2)
+unfolding commands_of joined_of commands_of_marks pieces_of
+on_the_first = none _ _ refl
+
+-- only a comment stands behind a line that goes on
+goes_on : HasNone (codes "DEFINE QLOCAL(A) +\n* and no more\n") texts.OpenContinuation
+unfolding commands_of joined_of commands_of_marks pieces_of
+goes_on = none _ _ refl
+
+-- both at once: the quote is told
+both : HasNone (codes "DELETE QLOCAL('A) +") (texts.OpenQuote 1)
+unfolding commands_of joined_of commands_of_marks pieces_of
+both = none _ _ refl

@@ -3,3 +3,4 @@ pub mod Texts
 pub mod Spelling
 pub mod Commands
 pub mod Faults
+pub mod TextFaults

@@ -40,25 +40,29 @@ pub record IsPart (before : Ending) (line at : ℕ) (bytes : List ℕ) (ending :
   pub begins : BeginsSo before body passed text
   pub is : part ≡ marks_from line (at + length passed) text
 
+-- a part before the first line behind it, or alone where no line is
+abbrev pub IsBefore : List Mark → (later lines : List (List Mark)) → Type 0
+IsBefore part [] lines = lines ≡ part ∷ []
+IsBefore part (first ∷ others) lines = lines ≡ (part ++ first) ∷ others
+
 -- a part that ends its line, or goes on with the first line behind it
 abbrev pub IsOnto : Ending → List Mark → (later lines : List (List Mark)) → Type 0
 IsOnto Whole part later lines = lines ≡ part ∷ later
-IsOnto Plus part later lines = (first : List Mark) × (others : List (List Mark)) × (later ≡ first ∷ others) × (lines ≡ (part ++ first) ∷ others)
-IsOnto Minus part later lines = (first : List Mark) × (others : List (List Mark)) × (later ≡ first ∷ others) × (lines ≡ (part ++ first) ∷ others)
-
-abbrev pub IsEnd : Ending → List (List Mark) → Type 0
-IsEnd Whole lines = lines ≡ []
-IsEnd Plus lines = ⊥
-IsEnd Minus lines = ⊥
+IsOnto Plus part later lines = IsBefore part later lines
+IsOnto Minus part later lines = IsBefore part later lines
 
 -- the lines that physical lines make, from the number of the first and its place on, where the one before them ended
--- so; the last one doesn't go on
-abbrev pub AreJoined : Ending → ℕ → ℕ → List (List ℕ) → List (List Mark) → Type 0
-AreJoined before line at [] lines = IsEnd before lines
-AreJoined before line at (bytes ∷ rest) lines =
-    (IsComment bytes × AreJoined before (line + 1) (at + length bytes + 1) rest lines)
-    ⊎ ((ending : Ending) × (part : List Mark) × (later : List (List Mark)) × IsPart before line at bytes ending part × IsOnto ending part later lines × AreJoined ending (line + 1) (at + length bytes + 1) rest later)
+-- so; and how the last one ends that is no comment
+abbrev pub AreJoined : Ending → ℕ → ℕ → List (List ℕ) → Ending → List (List Mark) → Type 0
+AreJoined before line at [] last lines = (last ≡ before) × (lines ≡ [])
+AreJoined before line at (bytes ∷ rest) last lines =
+    (IsComment bytes × AreJoined before (line + 1) (at + length bytes + 1) rest last lines)
+    ⊎ ((ending : Ending) × (part : List Mark) × (later : List (List Mark)) × IsPart before line at bytes ending part × IsOnto ending part later lines × AreJoined ending (line + 1) (at + length bytes + 1) rest last later)
 
--- the text is that of these commands
+-- the lines of a text, the last of which ends so
+abbrev pub AreLinesOf : List ℕ → Ending → List (List Mark) → Type 0
+AreLinesOf text last lines = AreJoined Whole 1 0 (lines_of text) last lines
+
+-- the text is that of these commands: its last line doesn't go on
 abbrev pub IsCommands : List ℕ → List Line → Type 0
-IsCommands text lines = (joined : List (List Mark)) × AreJoined Whole 1 0 (lines_of text) joined × AreOfLines joined lines
+IsCommands text lines = (joined : List (List Mark)) × AreLinesOf text Whole joined × AreOfLines joined lines

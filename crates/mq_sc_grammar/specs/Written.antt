@@ -59,10 +59,14 @@ pub record Part : Type 0 where
   pub meaning : Meaning
   pub marks : List Mark
 
--- a line is its parts, one behind the other
+-- a line begins with these parts, one behind the other, and this rest stands behind them
+abbrev pub BeginsWith : List Part → (rest marks : List Mark) → Type 0
+BeginsWith [] rest marks = marks ≡ rest
+BeginsWith (p ∷ ps) rest marks = (later : List Mark) × (marks ≡ p.marks ++ later) × IsText p.meaning (bytes_of p.marks) × EndsAt p.meaning (bytes_of later) × BeginsWith ps rest later
+
+-- a line is its parts
 abbrev pub IsLine : List Part → List Mark → Type 0
-IsLine [] marks = marks ≡ []
-IsLine (p ∷ ps) marks = (rest : List Mark) × (marks ≡ p.marks ++ rest) × IsText p.meaning (bytes_of p.marks) × EndsAt p.meaning (bytes_of rest) × IsLine ps rest
+IsLine parts marks = BeginsWith parts [] marks
 
 -- from the first byte up to the last
 abbrev pub span_of_marks : List Mark → Span

@@ -1,11 +1,13 @@
 ghost use Rattle.std.specs.Prelude.{◌≡◌, ◌⊎◌, ℕ, List, Ok, Err};
 ghost use Rattle.mq_sc_lex.specs.declared.token.Line.{Line};
 ghost use Rattle.mq_sc_lex.specs.declared.token.TokenKind.{TokenKind};
+ghost use Rattle.mq_sc_lex.specs.declared.fault.LexFault.{LexFault};
 ghost use Rattle.mq_sc_lex.specs.Commands.{commands_of};
 ghost use Rattle.mq_sc_parse.specs.declared.command.Command.{Command};
 ghost use Rattle.mq_sc_parse.specs.declared.fault.ScFault.{ScFault};
 ghost use Rattle.mq_sc_parse.specs.Parsing.{parse_of};
 ghost use Rattle.mq_sc_grammar.specs.Texts.{IsCommands};
+ghost use Rattle.mq_sc_grammar.specs.TextFaults.{IsTextFault};
 ghost use Rattle.mq_sc_grammar.specs.Spelling.{kinds_of};
 ghost use Rattle.mq_sc_grammar.specs.Commands.{IsCommand};
 ghost use Rattle.mq_sc_grammar.specs.Faults.{IsFault};
@@ -19,6 +21,19 @@ pub fn one_list_of_commands()
 pub fn commands_are_those_of_the_text()
     ensures found { (text : List ℕ) (lines : List Line) → commands_of text ≡ Ok lines → IsCommands text lines }
     ensures read { (text : List ℕ) (lines : List Line) → IsCommands text lines → commands_of text ≡ Ok lines }
+{}
+
+/// The reader of texts answers a fault, other than that memory ran out, exactly where it is the text's.
+pub fn a_text_fault_is_told()
+    ensures found { (text : List ℕ) (fault : LexFault) → commands_of text ≡ Err fault → IsTextFault text fault }
+    ensures read { (text : List ℕ) (fault : LexFault) → IsTextFault text fault → commands_of text ≡ Err fault }
+{}
+
+/// Each text is that of a list of commands or has a fault, never both, and has one fault at most.
+pub fn a_text_has_commands_or_a_fault()
+    ensures either { (text : List ℕ) → ((lines : List Line) × IsCommands text lines) ⊎ ((fault : LexFault) × IsTextFault text fault) }
+    ensures never_both { (text : List ℕ) (lines : List Line) (fault : LexFault) → IsCommands text lines → IsTextFault text fault → ⊥ }
+    ensures one_fault { (text : List ℕ) (fault other : LexFault) → IsTextFault text fault → IsTextFault text other → fault ≡ other }
 {}
 
 /// The tokens of a line are those of one command at most.
