@@ -7,7 +7,7 @@ use Rattle.std.proofs.lemmas.Bool.{cases_eq}
 use Rattle.std.proofs.lemmas.Bool.Decides.{nat_tests}
 use Rattle.std.specs.Prelude.{slice_index, Option, Some, None}
 use Rattle.mq_log.specs.Bodies.{number_bytes, number_of, frame, frames, bodies_within, bodies_of, Fits, AllFit, IsLog, IsNoLog}
-use Rattle.mq_log.specs.State.{front_bodies, IsBeforeOrAfter, IsLogOf}
+use Rattle.mq_log.specs.State.{front_bodies, log_length, IsBeforeOrAfter, IsLogOf}
 use Rattle.mq_log.specs.declared.open.StartFault.{StartFault}
 use Rattle.mq_log.specs.declared.open.StartFault.TheVariants.{Disk, Cut, BadLog, NoMemory}
 use Rattle.mq_log.specs.Open.{Front, IsBad, IsBadOf, IsNotBad}
@@ -223,3 +223,9 @@ no_bad_fault c bodies pending (BadLog place) log bad = not_bad_of c bodies pendi
 no_bad_fault c bodies pending Disk log bad = tt
 no_bad_fault c bodies pending Cut log bad = tt
 no_bad_fault c bodies pending NoMemory log bad = tt
+
+-- the length of a log with one more body
+pub log_length-push : (bodies : List (List ℕ)) (body : List ℕ) → log_length (bodies ++ body ∷ []) ≡ log_length bodies + (5 + length body)
+log_length-push bodies body =
+    let pushed : length (frames (bodies ++ body ∷ [])) ≡ length (frames bodies ++ frame body) = ap length (frames-push bodies body) in
+    omega (arith, pushed, length-append (frames bodies) (frame body), length-append (number_bytes (length body)) body, length-number_bytes (length body))

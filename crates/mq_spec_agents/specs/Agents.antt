@@ -1,5 +1,5 @@
 -- What channel ends and the handler ask of a manager that is up.
-use Rattle.std.specs.Prelude.{ℕ, pos, zero, suc, ◌+◌, nat_lt, nat_le, Bool, true, false, not, ◌&&◌, ◌||◌, List, [], ◌∷◌, ◌++◌, if◌then◌else◌, Option, Some, None, Result, Ok, Err, length, map, filter, take, drop, find, flat_map, codes, slice_get}
+use Rattle.std.specs.Prelude.{ℕ, pos, zero, suc, ◌+◌, nat_lt, nat_le, Bool, true, false, not, ◌&&◌, ◌||◌, List, [], ◌∷◌, ◌++◌, if◌then◌else◌, Option, Some, None, Result, Ok, Err, length, map, filter, take, drop, find, flat_map, codes, slice_get, ◌==◌}
 use Rattle.std.specs.List.{list_any}
 use Rattle.std.specs.Option.{option_map}
 use Rattle.mq_codes.specs.declared.reason.Reason.{Reason}
@@ -43,7 +43,8 @@ use Rattle.mq_calls.specs.declared.records.Add.{Add}
 use Rattle.mq_calls.specs.declared.records.Remove.{Remove}
 use Rattle.mq_calls.specs.declared.records.LogRecord.{LogRecord}
 use Rattle.mq_calls.specs.declared.records.LogRecord.TheVariants as records
-use Rattle.mq_spec_state.specs.State.{Plain, Seizure, Batch, Change}
+use Rattle.mq_spec_state.specs.State.{Plain, Seizure, Batch, Change, Connection, Item}
+use Rattle.mq_calls.specs.declared.state.Item.TheVariants.{Put as ItemPut, Take as ItemTake}
 use Rattle.mq_spec_state.specs.State.Which.{Among, HeldBy}
 use Rattle.mq_spec_state.specs.State.Change.{Leave, Hold, Release, SetSender, SetReceiver, Seize, Unseize, AddBatch, DropBatch, SetBound}
 use Rattle.mq_spec_state.specs.Reads.{stored, sender_data, receiver_data, is_persistent, is_expired, free_rows, depth, seizure_of, batch_of, in_doubt_of, is_open_for_input, has_held_by_other, is_full}
@@ -281,8 +282,21 @@ abbrev pub standing_by : List ℕ → Option (List ℕ) → Standing
 standing_by queue None = Present
 standing_by queue (Some channel) = InDoubtAt channel queue
 
+-- an uncommitted put has the ident; it is one of this manager that was not given yet
+abbrev pub has_put : Ident → Item → Bool
+has_put ident (ItemPut queue message) = same_ident ident message.ident
+has_put ident (ItemTake queue other persistent) = false
+
+abbrev pub is_pending : Ident → Plain → Bool
+is_pending ident p = list_any (λ (c : Connection). list_any (has_put ident) c.unit) p.connections
+
+abbrev pub is_unborn : Ident → Plain → Bool
+is_unborn ident p =
+    ident.manager == p.given.number
+    && (nat_lt p.numbers.incarnation ident.incarnation || (ident.incarnation == p.numbers.incarnation && nat_lt p.numbers.idents ident.number))
+
 abbrev pub standing_of : Ident → Option (List ℕ × Row) → Plain → Standing
-standing_of ident None p = Absent
+standing_of ident None p = if is_pending ident p || is_unborn ident p then Present else Absent
 standing_of ident (Some at) p = standing_by at.0 (doubter_by ident at.1.by p)
 
 -- an in-doubt unit without one of its idents

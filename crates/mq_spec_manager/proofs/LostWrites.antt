@@ -1,12 +1,12 @@
 -- A stopped write that a restart does not find leaves what a stop before the call would have left.
-use Rattle.std.specs.Prelude.{◌≡◌, Bool, true, false, not, List, [], ◌∷◌, Option, Some, None, map, refl}
+use Rattle.std.specs.Prelude.{◌≡◌, Bool, true, false, not, ◌&&◌, List, [], ◌∷◌, Option, Some, None, map, refl}
 use Rattle.std.proofs.Common.{ap, ◌∙◌, arith}
 use Rattle.mq_message.specs.declared.message.Message.{Message}
 use Rattle.mq_message.specs.declared.place.Place.{Place}
 use Rattle.mq_message.specs.declared.place.Holder.{Holder}
 use Rattle.mq_message.specs.declared.place.Holder.TheVariants as holders
 use Rattle.mq_queue.specs.declared.row.Row.{Row}
-use Rattle.mq_queue.specs.Rows.{keep, retag}
+use Rattle.mq_queue.specs.Rows.{keep, retag, is_free}
 use Rattle.mq_spec_state.specs.Reads.{is_persistent, is_by_unit}
 use Rattle.mq_spec_state.specs.State.{Queue}
 use Rattle.mq_spec_state.specs.State.Which.{HeldByUnits, Nonpersistent}
@@ -16,7 +16,7 @@ abbrev lasting : Row → Bool
 lasting row = not (not (is_persistent row.message))
 
 abbrev let_go : Row → Row
-let_go row = release_if (is_by_unit row.by) true row
+let_go row = release_if (is_by_unit row.by && not (is_free row)) true row
 
 abbrev row_by : Place → Message → Option Holder → Row
 row_by place message by = record { place = place; message = message; by = by }

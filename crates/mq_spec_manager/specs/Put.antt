@@ -1,7 +1,8 @@
 -- MQPUT and MQPUT1.
 use Rattle.std.specs.Prelude.{ℕ, ℤ, pos, negsuc, ◌+◌, ◌*◌, ◌==◌, nat_lt, nat_le, Bool, true, false, not, ◌&&◌, List, [], ◌∷◌, ◌++◌, if◌then◌else◌, Option, Some, None, Result, Ok, Err, length}
 use Rattle.std.specs.List.{list_any, list_all}
-use Rattle.mq_name.specs.Name.{padded}
+use Rattle.mq_name.specs.Name.{padded, name_of}
+use Rattle.mq_name.specs.declared.fault.NameFault.{NameFault}
 use Rattle.mq_codes.specs.declared.reason.Reason.{Reason}
 use Rattle.mq_codes.specs.declared.reason.Reason.TheVariants as reasons
 use Rattle.mq_message.specs.declared.message.Ident.{Ident}
@@ -108,9 +109,14 @@ replies_by own queue (Some (objects.Remote q)) = record { queue = padded 48 q.re
 replies_by own queue (Some (objects.Channel c)) = record { queue = queue; qmgr = padded 48 own }
 replies_by own queue (Some (objects.Process c)) = record { queue = queue; qmgr = padded 48 own }
 
+-- the queue that a field names, where its text is a name
+abbrev pub named_by : Result (List ℕ) NameFault → Definitions → Option Object
+named_by (Err fault) d = None
+named_by (Ok name) d = queue_of name d
+
 abbrev pub replies_to : List ℕ → List ℕ → List ℕ → Definitions → Replies
 replies_to queue qmgr own d =
-    if not (is_blank queue) && is_blank qmgr then replies_by own queue (queue_of (trimmed queue) d)
+    if not (is_blank queue) && is_blank qmgr then replies_by own queue (named_by (name_of 48 (trimmed queue)) d)
     else record { queue = queue; qmgr = qmgr }
 
 abbrev pub next_ident : Plain → Ident

@@ -1,7 +1,6 @@
 -- The ends of units: MQCMIT, MQBACK, MQDISC.
 use Rattle.std.specs.Prelude.{true, List, [], ◌∷◌, ◌++◌, if◌then◌else◌, Option, Some, None, flat_map}
 use Rattle.mq_codes.specs.declared.reason.Reason.{Reason}
-use Rattle.mq_message.specs.declared.place.Holder.TheVariants as holders
 use Rattle.mq_calls.specs.declared.answers.Hconn.{Hconn}
 use Rattle.mq_calls.specs.declared.answers.Answer.{Answer}
 use Rattle.mq_calls.specs.declared.answers.Answer.TheVariants as answers
@@ -14,7 +13,7 @@ use Rattle.mq_calls.specs.declared.records.LogRecord.{LogRecord}
 use Rattle.mq_calls.specs.declared.records.LogRecord.TheVariants as records
 use Rattle.mq_spec_state.specs.State.{Plain, Connection, Item, Change}
 use Rattle.mq_calls.specs.declared.state.Item.TheVariants.{Put, Take}
-use Rattle.mq_spec_state.specs.State.Which.{HeldBy}
+use Rattle.mq_spec_state.specs.State.Which.{Among}
 use Rattle.mq_spec_state.specs.State.Change.{Leave, Release, EndUnit, Disconnect}
 use Rattle.mq_spec_state.specs.Reads.{is_persistent}
 use Rattle.mq_spec_state.specs.Steps.{Step, Part}
@@ -55,9 +54,18 @@ abbrev pub released_did : Item → List Did
 released_did (Put queue message) = []
 released_did (Take queue ident persistent) = did.Released queue ident ∷ []
 
+-- the rows that it holds go; or they are free again at their places
+abbrev pub taken_item : Item → List Change
+taken_item (Put queue message) = []
+taken_item (Take queue ident persistent) = Leave (Among queue (ident ∷ [])) ∷ []
+
+abbrev pub freed_item : Item → List Change
+freed_item (Put queue message) = []
+freed_item (Take queue ident persistent) = Release (Among queue (ident ∷ [])) true ∷ []
+
 -- the held rows go, then the puts are placed
 abbrev pub commit_changes : Connection → List Change
-commit_changes c = Leave (HeldBy (holders.Unit c.number)) ∷ flat_map placed_item c.unit ++ EndUnit c.number ∷ []
+commit_changes c = flat_map taken_item c.unit ++ flat_map placed_item c.unit ++ EndUnit c.number ∷ []
 
 abbrev pub commit_delta : Connection → List Did
 commit_delta c = flat_map removed_item c.unit ++ flat_map placed_did c.unit
@@ -72,7 +80,7 @@ mqcmit hc p = for_connection (connected hc p) (λ c. Do (answers.Ok tt) (commit_
 abbrev pub backout_part : Connection → Part
 backout_part c = record {
   forced = None;
-  changes = Release (HeldBy (holders.Unit c.number)) true ∷ EndUnit c.number ∷ [];
+  changes = flat_map freed_item c.unit ++ EndUnit c.number ∷ [];
   delta = flat_map released_did c.unit;
 }
 

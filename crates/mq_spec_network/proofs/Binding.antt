@@ -1,6 +1,6 @@
 -- A PUMP of two managers: five turns until nothing can change any more, and the cable carries BIND one way and STATUS the
 -- other.
-use Rattle.std.specs.Prelude.{◌≡◌, ℕ, zero, suc, true, false, List, [], ◌∷◌, None, refl, codes}
+use Rattle.std.specs.Prelude.{◌≡◌, ℕ, true, false, List, [], ◌∷◌, None, refl, codes}
 use Rattle.std.proofs.Common.{arith, inl, inr}
 use Rattle.mq_frame.specs.declared.frame.Frame.{Frame}
 use Rattle.mq_frame.specs.declared.frame.FrameKind.TheVariants.{Bind, Status}
@@ -22,11 +22,14 @@ use Rattle.mq_spec_node.specs.Replays.{opening_node}
 use Rattle.mq_spec_node.proofs.Pair.{at_london, at_paris, image, channel, runs, entry_of, start}
 use Rattle.mq_spec_network.specs.Given.{surroundings}
 use Rattle.mq_spec_network.specs.Cables.{whole}
-use Rattle.mq_spec_network.specs.Turns.{Network, is_idle}
-use Rattle.mq_spec_network.specs.Pump.{Slot, SenderSlot, ReceiverSlot, with_slot, turns}
-use Rattle.mq_spec_network.specs.Pump.Slot.{Skipped, Taken}
-use Rattle.mq_spec_network.specs.Steps.{StepIs, IsMark, later}
-use Rattle.mq_spec_network.specs.Lawful.{IsCarried}
+use Rattle.mq_spec_network.specs.Turns.{Network, does, is_idle}
+use Rattle.mq_spec_network.specs.Tasks.{Task, tasks_of}
+use Rattle.mq_spec_network.specs.Tasks.Slot.{Sends, Receives}
+use Rattle.mq_spec_network.specs.Tasks.Task.{Pump}
+use Rattle.mq_spec_network.specs.Steps.{Goes, Served, Takes, turn_in}
+use Rattle.mq_spec_network.specs.Steps.Goes.{stays}
+use Rattle.mq_spec_network.specs.Lawful.{IsCarried, network_begun, ends_idle}
+use Rattle.mq_spec_network.proofs.Rounds.{two_served, takes, skips, rests}
 
 abbrev pub cable_with : List Fault → CableLine
 cable_with faults = record { channel = channel; sender = 0; receiver = 1; out = faults; back = [] }
@@ -107,91 +110,75 @@ runs_now = entry 6 (actors.Sender 0) calls.Turn (items.Frame status) binding
 abbrev histories : List History
 histories = london (starts ∷ hardens ∷ binds ∷ runs_now ∷ []) ∷ paris (is_bound ∷ answers ∷ []) ∷ []
 
--- what was done, manager by manager
-abbrev pub done : List Entry → List Entry → ℕ → List Entry
-done here there zero = here
-done here there (suc zero) = there
-done here there (suc (suc m)) = []
+-- before the PUMP London has started its channel
+abbrev pub network_with : List Fault → Network
+network_with faults = does 0 (starts ∷ []) (network_begun (scenario_with faults) (london [] ∷ paris [] ∷ []))
 
 abbrev network : Network
-network = record { scenario = scenario; histories = histories; done = done (starts ∷ []) [] }
+network = network_with []
 
-abbrev seg : ℕ → List Entry
-seg = done (hardens ∷ binds ∷ runs_now ∷ []) (is_bound ∷ answers ∷ [])
-
-abbrev slots : List Slot
-slots =
-    Taken (hardens ∷ []) ∷ Skipped ∷ Taken (binds ∷ []) ∷ Taken (is_bound ∷ []) ∷ Skipped ∷ Taken (answers ∷ []) ∷ Taken (runs_now ∷ []) ∷ Skipped ∷ []
-
-five_turns : turns slots ≡ 5
-five_turns = refl
-
-idle_then : is_idle (later network seg) ≡ true
-idle_then = refl
-
--- Slot by slot.
+-- Turn by turn.
 abbrev after1 : Network
-after1 = with_slot 0 (Taken (hardens ∷ [])) network
-
-abbrev after2 : Network
-after2 = with_slot 1 Skipped after1
+after1 = does 0 (hardens ∷ []) network
 
 abbrev after3 : Network
-after3 = with_slot 0 (Taken (binds ∷ [])) after2
+after3 = does 0 (binds ∷ []) after1
 
 abbrev after4 : Network
-after4 = with_slot 1 (Taken (is_bound ∷ [])) after3
-
-abbrev after5 : Network
-after5 = with_slot 0 Skipped after4
+after4 = does 1 (is_bound ∷ []) after3
 
 abbrev after6 : Network
-after6 = with_slot 1 (Taken (answers ∷ [])) after5
+after6 = does 1 (answers ∷ []) after4
 
 abbrev after7 : Network
-after7 = with_slot 0 (Taken (runs_now ∷ [])) after6
+after7 = does 0 (runs_now ∷ []) after6
 
-abbrev after8 : Network
-after8 = with_slot 1 Skipped after7
+idle_then : is_idle after7 ≡ true
+idle_then = refl
 
-slot1 : SenderSlot network 0 cable (Taken (hardens ∷ []))
-slot1 = (refl, (refl, refl, refl, refl, tt))
+abbrev IsLeft : Network → List Task → Type 0
+IsLeft w ts = Goes network (tasks_of network (steps.Pump 100)) w ts
 
-slot2 : ReceiverSlot after1 0 cable Skipped
-slot2 = refl
+turn1 : Takes (turn_in network Sends 0 cable) 0 hardens
+turn1 = record { changes = refl; is = (refl, refl, refl); popped = refl; extras = refl }
 
-slot3 : SenderSlot after2 0 cable (Taken (binds ∷ []))
-slot3 = (refl, (refl, refl, refl, refl, tt))
+turn3 : Takes (turn_in after1 Sends 0 cable) 0 binds
+turn3 = record { changes = refl; is = (refl, refl, refl); popped = refl; extras = refl }
 
-slot4 : ReceiverSlot after3 0 cable (Taken (is_bound ∷ []))
-slot4 = (refl, (refl, refl, refl, refl, tt))
+turn4 : Takes (turn_in after3 Receives 0 cable) 1 is_bound
+turn4 = record { changes = refl; is = (refl, refl, refl); popped = refl; extras = refl }
 
-slot5 : SenderSlot after4 0 cable Skipped
-slot5 = refl
+turn6 : Takes (turn_in after4 Receives 0 cable) 1 answers
+turn6 = record { changes = refl; is = (refl, refl, refl); popped = refl; extras = refl }
 
-slot6 : ReceiverSlot after5 0 cable (Taken (answers ∷ []))
-slot6 = (refl, (refl, refl, refl, refl, tt))
+turn7 : Takes (turn_in after6 Sends 0 cable) 0 runs_now
+turn7 = record { changes = refl; is = (refl, refl, refl); popped = refl; extras = refl }
 
-slot7 : SenderSlot after6 0 cable (Taken (runs_now ∷ []))
-slot7 = (refl, (refl, refl, refl, refl, tt))
+served1 : Served after1
+served1 = two_served after1 (λ m. refl) refl refl
 
-slot8 : ReceiverSlot after7 0 cable Skipped
-slot8 = refl
+served4 : Served after4
+served4 = two_served after4 (λ m. refl) refl refl
 
-same_done : (m : ℕ) → (later network seg).done m ≡ after8.done m
-same_done zero = refl
-same_done (suc zero) = refl
-same_done (suc (suc m)) = refl
+served6 : Served after6
+served6 = two_served after6 (λ m. refl) refl refl
 
-the_pump : StepIs network (steps.Pump 100) seg
-the_pump = record {
-  slots = slots;
-  run = (slot1, (slot2, (slot3, (slot4, (slot5, (slot6, (slot7, (slot8, same_done))))))));
-  most = omega arith;
-  enough = inr idle_then;
-}
+served7 : Served after7
+served7 = two_served after7 (λ m. refl) refl refl
 
-marked : IsMark network (steps.Pump 100) seg true
+round1 : IsLeft after1 (Pump 99 Sends 0 false ∷ [])
+round1 = skips _ (skips _ (takes 0 hardens stays turn1) served1 (refl, refl)) served1 refl
+
+round2 : IsLeft after4 (Pump 97 Sends 0 false ∷ [])
+round2 = skips _ (takes 1 is_bound (takes 0 binds round1 turn3) turn4) served4 refl
+
+round3 : IsLeft after6 (Pump 96 Sends 0 false ∷ [])
+round3 = skips _ (takes 1 answers (skips _ round2 served4 (refl, refl)) turn6) served6 refl
+
+the_pump : IsLeft after7 []
+the_pump = rests (takes 0 runs_now round3 turn7) served7 idle_then
+
+marked : ends_idle after7 (steps.Pump 100) ≡ true
 marked = refl
 
 -- The cable carries both frames.

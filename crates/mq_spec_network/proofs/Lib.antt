@@ -1,8 +1,15 @@
 mod Settlements
-mod OneManager
 mod Faults
+pub mod Going
+pub mod Rounds
+pub mod Threads
+pub mod NextLines
+pub mod Standing
 mod Pumping
 mod Binding
+mod FaultyPumps
 mod Serving
 mod Phases
-mod FaultyPumps
+mod OneManager
+mod Waiting
+mod Parts

@@ -1,7 +1,8 @@
 -- A scenario of one manager, one section and one script: what it does is a lawful story, every step whole, and its ledger
 -- holds what its queue holds.
-use Rattle.std.specs.Prelude.{◌≡◌, ◌≢◌, ◌<◌, ◌≤◌, ℕ, zero, suc, pos, negsuc, true, false, List, [], ◌∷◌, ◌++◌, Option, Some, None, slice_get, drop, replicate, length, map, codes, refl}
+use Rattle.std.specs.Prelude.{◌≡◌, ◌≢◌, ◌<◌, ◌≤◌, ℕ, zero, suc, ◌==◌, pos, negsuc, false, List, [], ◌∷◌, Option, Some, None, slice_get, drop, replicate, length, take, map, codes, refl}
 use Rattle.std.proofs.Common.{ap, subst, arith, inl, ◌∙◌}
+use Rattle.std.proofs.lemmas.Bool.Decides.{nat_tests}
 use Rattle.mq_queue.specs.declared.row.Row.{Row}
 use Rattle.mq_objects.specs.declared.command.Subject.TheVariants as subjects
 use Rattle.mq_objects.specs.declared.command.Command.TheVariants as object_commands
@@ -16,10 +17,10 @@ use Rattle.mq_history.specs.declared.calls.Call.{Call}
 use Rattle.mq_history.specs.declared.calls.Call.TheVariants as calls
 use Rattle.mq_history.specs.declared.calls.Entry.{Entry}
 use Rattle.mq_history.specs.declared.history.History.{History}
+use Rattle.mq_history.specs.declared.history.Mark.{Mark}
 use Rattle.mq_history.specs.declared.scenario.CableLine.{CableLine}
 use Rattle.mq_history.specs.declared.scenario.ScriptPart.{ScriptPart}
 use Rattle.mq_history.specs.declared.scenario.Scenario.{Scenario}
-use Rattle.mq_history.specs.declared.scenario.Step.{Step}
 use Rattle.mq_history.specs.declared.scenario.Step.TheVariants as steps
 use Rattle.mq_history.specs.declared.scripts.Body.TheVariants as bodies
 use Rattle.mq_history.specs.declared.scripts.GetOptions.{GetOptions}
@@ -29,19 +30,25 @@ use Rattle.mq_history.specs.declared.scripts.ScriptLine.TheVariants as lines
 use Rattle.mq_spec_manager.proofs.Script.{connection, handle, shared_output, ident_numbers}
 use Rattle.mq_spec_node.specs.Node.{Node}
 use Rattle.mq_spec_node.specs.Happens.{event}
-use Rattle.mq_spec_node.specs.Replays.{opening_node}
-use Rattle.mq_spec_node.specs.Scripts.{script_appl, put_md, get_of, deadline, wait_of, until_of}
+use Rattle.mq_spec_node.specs.Replays.{NoneForeign, opening_node}
+use Rattle.mq_spec_node.specs.Scripts.{script_appl, put_md, get_of}
 use Rattle.mq_spec_node.proofs.Pair.{entry_of, runs, image}
 use Rattle.mq_spec_network.specs.Given.{surroundings}
+use Rattle.mq_spec_network.specs.Turns.{Network, does, more_at}
+use Rattle.mq_spec_network.specs.Tasks.{Task, tasks_of, tasks_next}
+use Rattle.mq_spec_network.specs.Tasks.Task.{Ask, Script, Lines, Restart}
+use Rattle.mq_spec_network.specs.Steps.{Goes, Served, IsNext}
+use Rattle.mq_spec_network.specs.Steps.Goes.{stays, moves, passes}
+use Rattle.mq_spec_network.specs.Lawful.{IsHistory, IsCarried, IsFar, AreSteps, ScriptIs, IsLawful, IsDone, AreOwn, Went, Stands, network_begun, marks_at}
+use Rattle.mq_spec_network.specs.Lawful.Went.{begins, ends}
+use Rattle.mq_spec_network.proofs.Going.{same_network, elsewhere}
+use Rattle.mq_spec_network.proofs.Rounds.{one_served}
 use Rattle.mq_spec_network.specs.Story.{weave, entries_at}
 use Rattle.mq_spec_network.specs.Ledger.{ledger, ledger_rows}
 use Rattle.mq_spec_network.specs.Standing.{standing, managers_at, rows_told, opening_ledger}
 use Rattle.mq_spec_network.specs.Conflict.{NoConflict}
 use Rattle.mq_spec_network.specs.Order.{AllInOrder}
 use Rattle.mq_spec_network.specs.Apart.{IsJoined}
-use Rattle.mq_spec_network.specs.Lawful.{IsHistory, IsCarried, IsWhole, AreSteps, ScriptIs, IsLawful, IsDone, network_before, none_due, step_entries, rest_at, marks_at, mark_idle, step_begin, step_end}
-use Rattle.mq_spec_network.specs.Turns.{node_at}
-use Rattle.mq_spec_network.specs.Steps.{StepIs, LastRestarts, DoesLine, RunsLines, later}
 
 abbrev define_q1 : Command
 define_q1 = commands.Objects (object_commands.Define (record { subject = subjects.Local (codes "Q1"); replace = false; settings = [] }))
@@ -73,6 +80,9 @@ script =
     ∷ lines.Mqget (codes "H1") get_options
     ∷ []
 
+abbrev script_a : ScriptPart
+script_a = record { label = codes "A"; manager = 0; lines = script }
+
 abbrev scenario : Scenario
 scenario = record {
   moment = None;
@@ -80,7 +90,7 @@ scenario = record {
   cables = [];
   sections = record { label = codes "D1"; manager = 0; commands = define_q1 ∷ [] } ∷ [];
   rules = [];
-  scripts = record { label = codes "A"; manager = 0; lines = script } ∷ [];
+  scripts = script_a ∷ [];
   monitors = [];
   steps = steps.Obey 0 ∷ steps.Run 0 None ∷ [];
 }
@@ -168,7 +178,6 @@ is_london = record {
       ),
     );
   };
-  own = (tt, (tt, (tt, (tt, (tt, tt)))));
   triggers = (tt, (tt, (tt, (tt, (tt, tt)))));
 }
 
@@ -197,143 +206,146 @@ each_script : (k : ℕ) (p : ScriptPart) → slice_get scenario.scripts k ≡ So
 each_script zero p e = subst (λ x. ScriptIs scenario histories 0 x) (ap script_or e) the_script
 each_script (suc k) p e = absurd cc
 
--- the first step: the section's one command; the second: the script's four lines
-others_rest : (k : ℕ) (n : ℕ) → n ≢ 0 → step_entries histories k n ≡ []
-others_rest k zero ne = absurd (ne refl)
-others_rest zero (suc n) ne = refl
-others_rest (suc k) (suc n) ne = refl
+-- Step by step, entry by entry.
+abbrev network0 : Network
+network0 = network_begun scenario histories
 
-first_step : StepIs (network_before scenario histories 0) (steps.Obey 0) (step_entries histories 0)
-first_step = (((refl, refl), refl), others_rest 0)
+abbrev network1 : Network
+network1 = does 0 (entry 1 actors.Operator (calls.Act (acts.Obey define_q1)) node0 ∷ []) network0
 
-done_line : (n : Node) (l : ScriptLine) (e : Entry) → e.actor ≡ actors.Script 0 → None ≡ deadline n.manager.moment (wait_of l) → until_of e.call ≡ None
-    → DoesLine 0 None n l 0 (e ∷ [])
-done_line n l e actor wait until = record {
-  clock = [];
-  entry = e;
-  behind = [];
-  parts = refl;
-  advance = refl;
-  until = inl (until ∙ wait);
-  actor = actor;
-  triggers = tt;
-}
+abbrev network2 : Network
+network2 = does 0 (entry 2 (actors.Script 0) connects obeyed ∷ []) network1
 
-four_lines : RunsLines 0 None obeyed script [] (step_entries histories 1 0)
-four_lines = (
-  0,
-  [],
-  entry 2 (actors.Script 0) connects obeyed ∷ [],
-  drop 1 (step_entries histories 1 0),
-  refl,
-  refl,
-  done_line obeyed (lines.Mqconn []) _ refl refl refl,
-  (
-    0,
-    [],
-    entry 3 (actors.Script 0) opens connected ∷ [],
-    drop 2 (step_entries histories 1 0),
-    refl,
-    refl,
-    done_line connected _ _ refl refl refl,
-    (
-      0,
-      [],
-      entry 4 (actors.Script 0) puts opened ∷ [],
-      drop 3 (step_entries histories 1 0),
-      refl,
-      refl,
-      done_line opened _ _ refl refl refl,
-      (
-        0,
-        [],
-        entry 5 (actors.Script 0) gets has_put ∷ [],
-        [],
-        refl,
-        refl,
-        done_line has_put _ _ refl refl refl,
-        (refl, refl),
-      ),
-    ),
-  ),
-)
+abbrev network3 : Network
+network3 = does 0 (entry 3 (actors.Script 0) opens connected ∷ []) network2
 
-second_step : StepIs (network_before scenario histories 1) (steps.Run 0 None) (step_entries histories 1)
-second_step = record {
-  advances = [];
-  lines = four_lines;
-  clocks = λ n ne lt. absurd (ne (only_one n lt));
-  beyond = λ n le. others_rest 1 n (not_zero n le);
-}
+abbrev network4 : Network
+network4 = does 0 (entry 4 (actors.Script 0) puts opened ∷ []) network3
+
+abbrev network5 : Network
+network5 = does 0 (entry 5 (actors.Script 0) gets has_put ∷ []) network4
+
+served1 : Served network1
+served1 = one_served network1 (λ m. refl) refl
+
+served5 : Served network5
+served5 = one_served network5 (λ m. refl) refl
+
+-- the first step: the section's one command
+first_step : Goes network0 (tasks_of network0 (steps.Obey 0)) network1 []
+first_step = moves network0 (Ask 0 actors.Operator (calls.Act (acts.Obey define_q1))) [] 0 _ stays (refl, refl, refl)
+
+-- the second: the script's four lines
+abbrev IsLeft : Network → List Task → Type 0
+IsLeft w ts = Goes network1 (tasks_of network1 (steps.Run 0 None)) w ts
+
+line1 : IsNext network1 0 script_a None (lines.Mqconn []) 0 (entry 2 (actors.Script 0) connects obeyed)
+line1 = record { until = inl refl; is = (refl, refl, refl) }
+
+line2 : IsNext network2 0 script_a None (lines.Mqopen (codes "H1") (codes "Q1") [] shared_output) 0 (entry 3 (actors.Script 0) opens connected)
+line2 = record { until = inl refl; is = (refl, refl, refl) }
+
+line3 : IsNext network3 0 script_a None (lines.Mqput (codes "H1") (bodies.Text (codes "HELLO")) put_options) 0 (entry 4 (actors.Script 0) puts opened)
+line3 = record { until = inl refl; is = (refl, refl, refl) }
+
+line4 : IsNext network4 0 script_a None (lines.Mqget (codes "H1") get_options) 0 (entry 5 (actors.Script 0) gets has_put)
+line4 = record { until = inl refl; is = (refl, refl, refl) }
+
+begun : IsLeft network1 (Lines 0 script_a None script ∷ [])
+begun = passes network1 (Script 0 script_a None None) (Lines 0 script_a None script ∷ []) [] stays served1 refl
+
+two_lines : IsLeft network3 (Lines 0 script_a None (drop 2 script) ∷ [])
+two_lines = moves network2 (Lines 0 script_a None (drop 1 script)) [] 0 _ (moves network1 (Lines 0 script_a None script) [] 0 _ begun line1) line2
+
+four_lines : IsLeft network5 (Lines 0 script_a None [] ∷ [])
+four_lines = moves network4 (Lines 0 script_a None (drop 3 script)) [] 0 _ (moves network3 (Lines 0 script_a None (drop 2 script)) [] 0 _ two_lines line3) line4
+
+second_step : IsLeft network5 []
+second_step = passes network5 (Lines 0 script_a None []) [] [] four_lines served5 refl
+
+-- the last restarts: the one manager is up
+last_restarts : Goes network5 (tasks_next network5 []) network5 []
+last_restarts = passes network5 (Restart 0) [] [] stays served5 (refl, refl)
+
+abbrev marks : ℕ → List Mark
+marks m = record { entries = length (network1.done m); idle = false } ∷ record { entries = length (network5.done m); idle = false } ∷ []
+
+both_steps : Went network0 scenario.steps marks network5
+both_steps = ends (steps.Obey 0 ∷ []) _ network1 network5 (steps.Run 0 None) (ends [] _ network0 network1 (steps.Obey 0) begins first_step served1) second_step served5
 
 above : (m : ℕ) → suc m < 1 → ⊥
 above m lt = omega arith
 
-idle_at : (k m : ℕ) → m < 1 → mark_idle (slice_get (marks_at histories m) k) ≡ false
-idle_at zero zero lt = refl
-idle_at (suc zero) zero lt = refl
-idle_at (suc (suc k)) zero lt = refl
-idle_at k (suc m) lt = absurd (above m lt)
-
-rising_first : (m : ℕ) → step_begin histories 0 m ≤ step_end histories 0 m
-rising_first zero = omega arith
-rising_first (suc m) = omega arith
-
-rising_second : (m : ℕ) → step_begin histories 1 m ≤ step_end histories 1 m
-rising_second zero = omega arith
-rising_second (suc m) = omega arith
-
-within_first : (m : ℕ) → step_end histories 0 m ≤ length (entries_at histories m)
-within_first zero = omega arith
-within_first (suc m) = omega arith
-
-served_first : (m : ℕ) → m < 1 → none_due (node_at (later (network_before scenario histories 0) (step_entries histories 0)) m) ≡ true
-served_first zero lt = refl
-served_first (suc m) lt = absurd (above m lt)
-
-served_second : (m : ℕ) → m < 1 → none_due (node_at (later (network_before scenario histories 1) (step_entries histories 1)) m) ≡ true
-served_second zero lt = refl
-served_second (suc m) lt = absurd (above m lt)
-
-within_second : (m : ℕ) → step_end histories 1 m ≤ length (entries_at histories m)
-within_second zero = omega arith
-within_second (suc m) = omega arith
-
-up_with_nothing : LastRestarts (network_before scenario histories 2) (λ m. rest_at histories m ++ [])
-up_with_nothing zero lt = refl
-up_with_nothing (suc m) lt = absurd (above m lt)
-
-each_mark : (m : ℕ) → m < 1 → length (marks_at histories m) ≡ 2
+each_mark : (m : ℕ) → m < 1 → marks_at histories m ≡ marks m
 each_mark zero lt = refl
 each_mark (suc m) lt = absurd (above m lt)
 
-whole_first : IsWhole scenario histories 0 (steps.Obey 0)
-whole_first = record { entries = first_step; idle = λ m lt. idle_at 0 m lt; served = served_first; rising = rising_first; within = within_first }
+far_from_zero : (m : ℕ) → (suc m == 0) ≡ false
+far_from_zero m = grind (arith, nat_tests)
 
-whole_second : IsWhole scenario histories 1 (steps.Run 0 None)
-whole_second = record { entries = second_step; idle = λ m lt. idle_at 1 m lt; served = served_second; rising = rising_second; within = within_second }
+elsewhere_one : (es : List Entry) (done : ℕ → List Entry) (m : ℕ) → more_at 0 es done (suc m) ≡ done (suc m)
+elsewhere_one es done m = elsewhere 0 (suc m) es done (far_from_zero m)
 
-abbrev step_or : Option Step → Step
-step_or None = steps.Obey 0
-step_or (Some step) = step
+at_three : (m : ℕ) → network3.done (suc m) ≡ []
+at_three m = elsewhere_one _ network2.done m ∙ elsewhere_one _ network1.done m ∙ elsewhere_one _ network0.done m
 
-each_step : (k : ℕ) (step : Step) → k < 2 → slice_get scenario.steps k ≡ Some step → IsWhole scenario histories k step
-each_step zero step lt e = subst (λ x. IsWhole scenario histories 0 x) (ap step_or e) whole_first
-each_step (suc zero) step lt e = subst (λ x. IsWhole scenario histories 1 x) (ap step_or e) whole_second
-each_step (suc (suc k)) step lt e = absurd cc
+at_five : (m : ℕ) → network5.done (suc m) ≡ []
+at_five m = elsewhere_one _ network4.done m ∙ elsewhere_one _ network3.done m ∙ at_three m
 
-up_at_the_end : LastRestarts (network_before scenario histories 2) (rest_at histories)
-up_at_the_end zero lt = refl
-up_at_the_end (suc m) lt = absurd (above m lt)
+each_entry : (m : ℕ) → network5.done m ≡ entries_at histories m
+each_entry zero = refl
+each_entry (suc m) = at_five m
+
+it_is_done : IsDone scenario histories
+it_is_done = record {
+  marks = marks;
+  now = network5;
+  stands = record { before = network5; parts = refl; went = both_steps; goes = last_restarts };
+  entries = each_entry;
+  noted = each_mark;
+}
 
 the_steps : AreSteps scenario histories
-the_steps = record { marks = each_mark; most = omega arith; whole = each_step; rest = (λ m. [], up_with_nothing) }
+the_steps = record { whole = scenario.steps; rest = []; tasks = []; far = it_is_done }
+
+-- The same run, ended after its third event, is lawful too.
+abbrev cut_short : List History
+cut_short = record london { entries = take 3 entries; marks = record { entries = 1; idle = false } ∷ [] } ∷ []
+
+each_entry_then : (m : ℕ) → network3.done m ≡ entries_at cut_short m
+each_entry_then zero = refl
+each_entry_then (suc m) = at_three m
+
+each_mark_then : (m : ℕ) → m < 1 → marks_at cut_short m ≡ record { entries = length (network1.done m); idle = false } ∷ []
+each_mark_then zero lt = refl
+each_mark_then (suc m) lt = absurd (above m lt)
+
+same_first : (m : ℕ) → network0.first m ≡ (network_begun scenario cut_short).first m
+same_first zero = refl
+same_first (suc m) = refl
+
+same_start : network0 ≡ network_begun scenario cut_short
+same_start = same_network network0 (network_begun scenario cut_short) refl same_first (λ m. refl)
+
+a_part : IsFar scenario cut_short (steps.Obey 0 ∷ []) (steps.Run 0 None ∷ []) (Lines 0 script_a None (drop 2 script) ∷ [])
+a_part = record {
+  marks = λ m. record { entries = length (network1.done m); idle = false } ∷ [];
+  now = network3;
+  stands = subst (λ (w : Network). Stands w (steps.Obey 0 ∷ []) (steps.Run 0 None ∷ []) (λ m. record { entries = length (network1.done m); idle = false } ∷ []) network3 (Lines 0 script_a None (drop 2 script) ∷ [])) same_start
+      (record { before = network1; parts = refl; went = ends [] _ network0 network1 (steps.Obey 0) begins first_step served1; goes = two_lines });
+  entries = each_entry_then;
+  noted = each_mark_then;
+}
+
+none_foreign : (m : ℕ) (h : History) → slice_get histories m ≡ Some h → NoneForeign h.entries
+none_foreign zero h e = subst (λ (x : History). NoneForeign x.entries) (ap history_or e) (tt, (tt, (tt, (tt, (tt, tt)))))
+none_foreign (suc m) h e = absurd cc
+
+all_own : AreOwn histories
+all_own = none_foreign
 
 it_is_lawful : IsLawful scenario histories
 it_is_lawful = record { all = refl; histories = each_history; cables = no_cable; scripts = each_script; steps = the_steps }
-
-it_is_done : IsDone scenario histories
-it_is_done = record { steps = refl; restarts = up_at_the_end }
 
 -- the ledger of this story has nothing left, as the queue has
 nothing_left : map (λ (row : Row). ident_numbers row.message.ident) (ledger_rows 0 (codes "Q1") (ledger (opening_ledger scenario histories) (weave histories))) ≡ []

@@ -1,6 +1,6 @@
 -- A PHASE of two scripts of one line, the second one's line first; and what doesn't belong into a phase.
-use Rattle.std.specs.Prelude.{◌≡◌, ℕ, zero, suc, List, [], ◌∷◌, ◌++◌, Option, Some, None, slice_get, codes, refl}
-use Rattle.std.proofs.Common.{ap, inl, inr, arith}
+use Rattle.std.specs.Prelude.{◌≡◌, ℕ, List, [], ◌∷◌, Option, Some, None, codes, refl}
+use Rattle.std.proofs.Common.{ap, sym, inl, inr, arith, ◌∙◌}
 use Rattle.mq_frame.specs.declared.frame.Seen.TheVariants as items
 use Rattle.mq_history.specs.declared.calls.Actor.{Actor}
 use Rattle.mq_history.specs.declared.calls.Actor.TheVariants as actors
@@ -8,8 +8,10 @@ use Rattle.mq_history.specs.declared.calls.Call.{Call}
 use Rattle.mq_history.specs.declared.calls.Call.TheVariants as calls
 use Rattle.mq_history.specs.declared.calls.Entry.{Entry}
 use Rattle.mq_history.specs.declared.history.History.{History}
+use Rattle.mq_history.specs.declared.scenario.ScriptPart.{ScriptPart}
 use Rattle.mq_history.specs.declared.scenario.Scenario.{Scenario}
 use Rattle.mq_history.specs.declared.scenario.Step.TheVariants as steps
+use Rattle.mq_history.specs.declared.scripts.ScriptLine.{ScriptLine}
 use Rattle.mq_history.specs.declared.scripts.ScriptLine.TheVariants as lines
 use Rattle.mq_spec_manager.proofs.Script.{connection}
 use Rattle.mq_spec_node.specs.Node.{Node}
@@ -19,9 +21,20 @@ use Rattle.mq_spec_node.specs.Scripts.{script_appl}
 use Rattle.mq_spec_node.proofs.Pair.{entry_of, runs, image}
 use Rattle.mq_spec_network.specs.Given.{surroundings}
 use Rattle.mq_spec_network.specs.Story.{Mem}
-use Rattle.mq_spec_network.specs.Turns.{Network}
-use Rattle.mq_spec_network.specs.Pump.{alone_at}
-use Rattle.mq_spec_network.specs.Steps.{StepIs, RunsScript, FinishesAll, AllInPhase, IsInPhase, IsUntil, mains, later}
+use Rattle.mq_spec_network.specs.Turns.{Network, does}
+use Rattle.mq_spec_network.specs.ScriptLines.{IsUntil, left_after}
+use Rattle.mq_spec_network.specs.Tasks.{Task, Trying, tasks_of}
+use Rattle.mq_spec_network.specs.Tasks.Task.{Phase, Script, Lines}
+use Rattle.mq_spec_network.specs.Steps.{Goes, Served, InPhase, PhaseLine}
+use Rattle.mq_spec_network.specs.Steps.Goes.{stays, moves, passes}
+use Rattle.mq_spec_network.specs.Lawful.{network_begun}
+use Rattle.mq_spec_network.proofs.Rounds.{one_served}
+
+abbrev script_a : ScriptPart
+script_a = record { label = codes "A"; manager = 0; lines = lines.Mqconn [] ∷ [] }
+
+abbrev script_b : ScriptPart
+script_b = record { label = codes "B"; manager = 0; lines = lines.Mqconn [] ∷ [] }
 
 abbrev scenario : Scenario
 scenario = record {
@@ -31,8 +44,8 @@ scenario = record {
   sections = [];
   rules = [];
   scripts =
-      record { label = codes "A"; manager = 0; lines = lines.Mqconn [] ∷ [] }
-      ∷ record { label = codes "B"; manager = 0; lines = lines.Mqconn [] ∷ [] }
+      script_a
+      ∷ script_b
       ∷ record { label = codes "C"; manager = 0; lines = lines.Mqconn [] ∷ [] } ∷ [];
   monitors = [];
   steps = steps.Phase (0 ∷ 1 ∷ []) ∷ [];
@@ -59,68 +72,99 @@ node1 = (event 1 (actors.Script 1) (connects (codes "B")) runs items.Nothing nod
 abbrev a_then : Entry
 a_then = entry 2 (actors.Script 0) (connects (codes "A")) node1
 
-abbrev both : List Entry
-both = b_first ∷ a_then ∷ []
-
 abbrev network : Network
-network = record { scenario = scenario; histories = london both ∷ []; done = λ m. [] }
+network = network_begun scenario (london [] ∷ [])
 
-abbrev seg : ℕ → List Entry
-seg = alone_at 0 both
+abbrev network1 : Network
+network1 = does 0 (b_first ∷ []) network
 
-abbrev ks : List ℕ
-ks = 0 ∷ 1 ∷ []
+abbrev network2 : Network
+network2 = does 0 (a_then ∷ []) network1
 
-with_nothing : (m : ℕ) → seg m ≡ seg m ++ []
-with_nothing zero = refl
-with_nothing (suc m) = refl
+abbrev trying_a : Trying
+trying_a = record { script = 0; part = script_a; moment = 0 }
 
-between : (m : ℕ) → AllInPhase network ks m (mains (seg m))
-between zero = ((inr (inl refl), refl), ((inl refl, refl), tt))
-between (suc m) = tt
+abbrev trying_b : Trying
+trying_b = record { script = 1; part = script_b; moment = 0 }
 
-abbrev ended : Network
-ended = later network seg
+abbrev scripts : List Trying
+scripts = trying_a ∷ trying_b ∷ []
 
-b_at_its_end : RunsScript (later ended (λ m. [])) 1 (Some 0) None (slice_get scenario.scripts 1) (λ m. [])
-b_at_its_end = record { advances = []; lines = (refl, refl); clocks = λ n ne lt. refl; beyond = λ n le. refl }
+abbrev behind : List Task
+behind = Script 0 script_a (Some 0) None ∷ Script 1 script_b (Some 0) None ∷ []
 
-a_at_its_end : RunsScript ended 0 (Some 0) None (slice_get scenario.scripts 0) (λ m. [])
-a_at_its_end = record { advances = []; lines = (refl, refl); clocks = λ n ne lt. refl; beyond = λ n le. refl }
+begins_with : tasks_of network (steps.Phase (0 ∷ 1 ∷ [])) ≡ Phase scripts ∷ behind
+begins_with = refl
 
-finished : FinishesAll network ks ended (λ m. [])
-finished = ((λ m. []), (λ m. []), (λ m. refl), a_at_its_end, ((λ m. []), (λ m. []), (λ m. refl), b_at_its_end, (λ m. refl)))
+b_goes_first : InPhase scripts (network.done 0) 0 b_first (actors.Script 1)
+b_goes_first = (trying_b, inr (inl refl), (refl, (refl, refl, refl)))
 
-the_phase : StepIs network (steps.Phase ks) seg
-the_phase = record {
-  first = seg;
-  rest = λ m. [];
-  parts = with_nothing;
-  between = between;
-  tried = ((refl, tt), ((refl, tt), tt));
-  finished = finished;
-}
+a_goes_then : InPhase scripts (network1.done 0) 0 a_then (actors.Script 0)
+a_goes_then = (trying_a, inl refl, (refl, (refl, refl, refl)))
+
+none_due_then : Served network2
+none_due_then = one_served network2 (λ m. refl) refl
+
+abbrev IsLeft : Network → List Task → Type 0
+IsLeft w ts = Goes network (tasks_of network (steps.Phase (0 ∷ 1 ∷ []))) w ts
+
+between : IsLeft network2 (Phase scripts ∷ behind)
+between = moves network1 (Phase scripts) behind 0 a_then (moves network (Phase scripts) behind 0 b_first stays b_goes_first) a_goes_then
+
+-- each script is at its end
+a_is_done : IsLeft network2 (Script 1 script_b (Some 0) None ∷ [])
+a_is_done = passes
+    network2
+    (Lines 0 script_a (Some 0) [])
+    []
+    (Script 1 script_b (Some 0) None ∷ [])
+    (passes network2 (Script 0 script_a (Some 0) None) (Lines 0 script_a (Some 0) [] ∷ []) (Script 1 script_b (Some 0) None ∷ []) (passes network2 (Phase scripts) [] behind between none_due_then refl) none_due_then refl)
+    none_due_then
+    refl
+
+the_phase : IsLeft network2 []
+the_phase = passes
+    network2
+    (Lines 1 script_b (Some 0) [])
+    []
+    []
+    (passes network2 (Script 1 script_b (Some 0) None) (Lines 1 script_b (Some 0) [] ∷ []) [] a_is_done none_due_then refl)
+    none_due_then
+    refl
 
 -- A channel end takes turns in a phase, and does nothing else; a script that the step doesn't name does no line; and no
 -- clock advances before the scripts are finished.
-end_takes_turns : IsInPhase network ks 0 calls.Turn (actors.Receiver 0)
+abbrev turn : Entry
+turn = entry 3 (actors.Receiver 0) calls.Turn node1
+
+end_takes_turns : InPhase scripts (network2.done 0) 0 turn (actors.Receiver 0)
 end_takes_turns = refl
 
 not_a_turn : calls.Mqcmit (connection 1) ≡ calls.Turn → ⊥
 not_a_turn e = absurd cc
 
-no_commit_by_an_end : IsInPhase network ks 0 (calls.Mqcmit (connection 1)) (actors.Receiver 0) → ⊥
+no_commit_by_an_end : InPhase scripts (network2.done 0) 0 (entry 3 (actors.Receiver 0) (calls.Mqcmit (connection 1)) node1) (actors.Receiver 0) → ⊥
 no_commit_by_an_end h = not_a_turn h
 
-not_named : Mem 2 ks → ⊥
-not_named (inl e) = omega arith
-not_named (inr (inl e)) = omega arith
-not_named (inr (inr none)) = none
+zero_not_two : ◌≡◌ {A = ℕ} 0 2 → ⊥
+zero_not_two e = omega arith
 
-no_other_script : IsInPhase network ks 0 (connects (codes "C")) (actors.Script 2) → ⊥
-no_other_script h = not_named h.0
+one_not_two : ◌≡◌ {A = ℕ} 1 2 → ⊥
+one_not_two e = omega arith
 
-no_clock : IsInPhase network ks 0 calls.Turn actors.Clock → ⊥
+not_two : (t : Trying) → Mem t scripts → t.script ≡ 2 → ⊥
+not_two t (inl e) s = zero_not_two (sym (ap (λ (x : Trying). x.script) e) ∙ s)
+not_two t (inr (inl e)) s = one_not_two (sym (ap (λ (x : Trying). x.script) e) ∙ s)
+not_two t (inr (inr none)) s = none
+
+its_script : (ls : List ScriptLine) (t : Trying) → PhaseLine 2 t (network2.done 0) ls 0 (entry 3 (actors.Script 2) (connects (codes "C")) node1) → t.script ≡ 2
+its_script [] t line = absurd line
+its_script (l ∷ ls) t line = line.0
+
+no_other_script : InPhase scripts (network2.done 0) 0 (entry 3 (actors.Script 2) (connects (codes "C")) node1) (actors.Script 2) → ⊥
+no_other_script (t, mem, line) = not_two t mem (its_script (left_after 2 t.part (network2.done 0)) t line)
+
+no_clock : InPhase scripts (network2.done 0) 0 turn actors.Clock → ⊥
 no_clock h = h
 
 -- A get that waits 500 milliseconds, tried first at moment 0 or at 200.

@@ -1,7 +1,6 @@
 -- A PUMP over a cable that drops its first frame: the session is hardened, BIND is offered and lost, and after a round of
 -- none comes the timeout.
-use Rattle.std.specs.Prelude.{◌≡◌, ℕ, zero, suc, true, false, List, [], ◌∷◌, None, refl, codes}
-use Rattle.std.proofs.Common.{arith, inl}
+use Rattle.std.specs.Prelude.{◌≡◌, ℕ, true, false, List, [], ◌∷◌, Some, None, refl, codes}
 use Rattle.mq_frame.specs.declared.frame.Seen.TheVariants as items
 use Rattle.mq_history.specs.declared.calls.Actor.{Actor}
 use Rattle.mq_history.specs.declared.calls.Actor.TheVariants as actors
@@ -18,10 +17,14 @@ use Rattle.mq_spec_node.specs.Happens.{event}
 use Rattle.mq_spec_node.specs.Replays.{opening_node}
 use Rattle.mq_spec_node.proofs.Pair.{at_london, at_paris, image, channel, runs, entry_of, start}
 use Rattle.mq_spec_network.specs.Given.{surroundings}
-use Rattle.mq_spec_network.specs.Turns.{Network, is_idle, out_of}
-use Rattle.mq_spec_network.specs.Pump.{Slot, SenderSlot, ReceiverSlot, TimeoutSlot, with_slot, alone_at, turns}
-use Rattle.mq_spec_network.specs.Pump.Slot.{Skipped, Taken}
-use Rattle.mq_spec_network.specs.Steps.{StepIs, later}
+use Rattle.mq_spec_network.specs.Turns.{Network, does, is_idle, out_of}
+use Rattle.mq_spec_network.specs.Tasks.{Task, tasks_of}
+use Rattle.mq_spec_network.specs.Tasks.Slot.{Sends, TimesOut}
+use Rattle.mq_spec_network.specs.Tasks.Task.{Pump}
+use Rattle.mq_spec_network.specs.Steps.{Goes, Served, Takes, turn_in, PumpSkips}
+use Rattle.mq_spec_network.specs.Steps.Goes.{stays}
+use Rattle.mq_spec_network.specs.Lawful.{network_begun}
+use Rattle.mq_spec_network.proofs.Rounds.{two_served, takes, skips, ends}
 
 abbrev cable : CableLine
 cable = record { channel = channel; sender = 0; receiver = 1; out = Drop 1 ∷ []; back = [] }
@@ -75,87 +78,62 @@ abbrev times_out : Entry
 times_out = entry 4 (actors.Sender 0) calls.Timeout binding
 
 abbrev network : Network
-network = record { scenario = scenario; histories = london (starts ∷ hardens ∷ binds ∷ times_out ∷ []) ∷ paris ∷ []; done = alone_at 0 (starts ∷ []) }
+network = does 0 (starts ∷ []) (network_begun scenario (london [] ∷ paris ∷ []))
 
-abbrev seg : ℕ → List Entry
-seg = alone_at 0 (hardens ∷ binds ∷ times_out ∷ [])
+abbrev hardened : Network
+hardened = does 0 (hardens ∷ []) network
 
-abbrev slots : List Slot
-slots = Taken (hardens ∷ []) ∷ Skipped ∷ Taken (binds ∷ []) ∷ Skipped ∷ Skipped ∷ Skipped ∷ Taken (times_out ∷ []) ∷ []
+abbrev dropped : Network
+dropped = does 0 (binds ∷ []) hardened
 
-three_turns : turns slots ≡ 3
-three_turns = refl
+abbrev timed_out : Network
+timed_out = does 0 (times_out ∷ []) dropped
 
 -- BIND was offered, and nothing lies on the cable
-nothing_lies : out_of (later network seg) 0 cable ≡ []
+nothing_lies : out_of timed_out 0 cable ≡ []
 nothing_lies = refl
 
 -- something can change before and after
 busy_before : is_idle network ≡ false
 busy_before = refl
 
-busy_after : is_idle (later network seg) ≡ false
+busy_after : is_idle timed_out ≡ false
 busy_after = refl
 
 -- Slot by slot.
-abbrev hardened : Network
-hardened = with_slot 0 (Taken (hardens ∷ [])) network
+abbrev Is_left : Network → List Task → Type 0
+Is_left w ts = Goes network (tasks_of network (steps.Pump 3)) w ts
 
-abbrev heard_none : Network
-heard_none = with_slot 1 Skipped hardened
+served_hardened : Served hardened
+served_hardened = two_served hardened (λ m. refl) refl refl
 
-abbrev bound : Network
-bound = with_slot 0 (Taken (binds ∷ [])) heard_none
+served_dropped : Served dropped
+served_dropped = two_served dropped (λ m. refl) refl refl
 
-abbrev dropped : Network
-dropped = with_slot 1 Skipped bound
+hardens_first : Takes (turn_in network Sends 0 cable) 0 hardens
+hardens_first = record { changes = refl; is = (refl, refl, refl); popped = refl; extras = refl }
 
-abbrev waited : Network
-waited = with_slot 0 Skipped dropped
+binds_then : Takes (turn_in hardened Sends 0 cable) 0 binds
+binds_then = record { changes = refl; is = (refl, refl, refl); popped = refl; extras = refl }
 
-abbrev waited_both : Network
-waited_both = with_slot 1 Skipped waited
+times_out_last : Takes (turn_in dropped TimesOut 0 cable) 0 times_out
+times_out_last = record { changes = refl; is = (refl, refl, refl); popped = refl; extras = refl }
 
-abbrev timed_out : Network
-timed_out = with_slot 0 (Taken (times_out ∷ [])) waited_both
+first_round : Is_left hardened (Pump 2 Sends 0 false ∷ [])
+first_round = skips _ (skips _ (takes 0 hardens stays hardens_first) served_hardened (refl, refl)) served_hardened refl
 
-first_slot : SenderSlot network 0 cable (Taken (hardens ∷ []))
-first_slot = (refl, (refl, refl, refl, refl, tt))
+second_round : Is_left dropped (Pump 1 Sends 0 false ∷ [])
+second_round = skips _ (skips _ (takes 0 binds first_round binds_then) served_dropped (refl, refl)) served_dropped refl
 
-second_slot : ReceiverSlot hardened 0 cable Skipped
-second_slot = refl
+round_of_none : Is_left dropped (Pump 1 TimesOut 0 false ∷ [])
+round_of_none = skips _ (skips _ (skips _ second_round served_dropped (refl, refl)) served_dropped (refl, refl)) served_dropped refl
 
-third_slot : SenderSlot heard_none 0 cable (Taken (binds ∷ []))
-third_slot = (refl, (refl, refl, refl, refl, tt))
-
-fourth_slot : ReceiverSlot bound 0 cable Skipped
-fourth_slot = refl
-
-fifth_slot : SenderSlot dropped 0 cable Skipped
-fifth_slot = refl
-
-sixth_slot : ReceiverSlot waited 0 cable Skipped
-sixth_slot = refl
-
-last_slot : TimeoutSlot waited_both 0 cable (Taken (times_out ∷ []))
-last_slot = (refl, (refl, refl, refl, refl, tt))
-
-same_done : (m : ℕ) → (later network seg).done m ≡ timed_out.done m
-same_done zero = refl
-same_done (suc zero) = refl
-same_done (suc (suc m)) = refl
-
-the_pump : StepIs network (steps.Pump 3) seg
-the_pump = record {
-  slots = slots;
-  run = (first_slot, (second_slot, (third_slot, (fourth_slot, (fifth_slot, (sixth_slot, (last_slot, same_done)))))));
-  most = omega arith;
-  enough = inl refl;
-}
+the_pump : Is_left timed_out []
+the_pump = ends (takes 0 times_out round_of_none times_out_last) (two_served timed_out (λ m. refl) refl refl)
 
 -- a turn that would change something isn't skipped, nor does a timeout come in its place
 true_or_false : true ≡ false → ⊥
 true_or_false e = absurd cc
 
-not_skipped : SenderSlot network 0 cable Skipped → ⊥
-not_skipped h = true_or_false h
+not_skipped : (next : List Task) → PumpSkips network 3 Sends 0 false (Some cable) next → ⊥
+not_skipped next h = true_or_false h.0

@@ -1,7 +1,7 @@
 -- A monitor that is served: a put triggers its queue, the monitor's get begins the script that the trigger message names,
 -- and that script runs to its end.
-use Rattle.std.specs.Prelude.{◌≡◌, ◌<◌, ◌≤◌, ℕ, zero, suc, true, false, List, [], ◌∷◌, ◌++◌, Some, None, slice_get, codes, refl}
-use Rattle.std.proofs.Common.{arith, inl, inr}
+use Rattle.std.specs.Prelude.{◌≡◌, ℕ, true, false, List, [], ◌∷◌, Some, None, codes, refl}
+use Rattle.std.proofs.Common.{inl}
 use Rattle.mq_heads.specs.Headers.{tm_read, tm_bytes, tm_in}
 use Rattle.mq_message.specs.Layout.{long_bytes, long_of}
 use Rattle.mq_objects.specs.declared.object.Object.{Object}
@@ -15,6 +15,8 @@ use Rattle.mq_history.specs.declared.calls.Call.{Call}
 use Rattle.mq_history.specs.declared.calls.Call.TheVariants as calls
 use Rattle.mq_history.specs.declared.calls.Entry.{Entry}
 use Rattle.mq_history.specs.declared.history.History.{History}
+use Rattle.mq_history.specs.declared.scenario.MonitorLine.{MonitorLine}
+use Rattle.mq_history.specs.declared.scenario.ScriptPart.{ScriptPart}
 use Rattle.mq_history.specs.declared.scenario.Scenario.{Scenario}
 use Rattle.mq_history.specs.declared.scenario.Step.TheVariants as steps
 use Rattle.mq_history.specs.declared.scripts.ScriptLine.TheVariants as lines
@@ -26,9 +28,14 @@ use Rattle.mq_spec_node.specs.Replays.{opening_node}
 use Rattle.mq_spec_node.specs.Scripts.{script_appl}
 use Rattle.mq_spec_node.proofs.Pair.{entry_of, runs, image}
 use Rattle.mq_spec_network.specs.Given.{surroundings}
-use Rattle.mq_spec_network.specs.Turns.{Network, node_at}
-use Rattle.mq_spec_network.specs.Pump.{alone_at}
-use Rattle.mq_spec_network.specs.Steps.{StepIs, DoesLine, RunsScript, MonitorTurn, monitor_idle, monitor_next, monitor_get, begun_by, shared, later}
+use Rattle.mq_spec_network.specs.Turns.{Network, node_at, does}
+use Rattle.mq_spec_network.specs.Monitors.{monitor_idle, monitor_get, begins, shared}
+use Rattle.mq_spec_network.specs.Tasks.{Task, tasks_of}
+use Rattle.mq_spec_network.specs.Tasks.Task.{Script, Lines, Serve}
+use Rattle.mq_spec_network.specs.Steps.{Goes, Served, Moves, MonitorGets, left_by}
+use Rattle.mq_spec_network.specs.Steps.Goes.{stays, moves, passes}
+use Rattle.mq_spec_network.specs.Lawful.{network_begun}
+use Rattle.mq_spec_network.proofs.Rounds.{one_served}
 
 -- every message on Q makes a trigger due, whose process names script B
 abbrev defined : List Object
@@ -38,6 +45,15 @@ defined =
     ∷ defined_object (subjects.Local (codes "Q")) (settings.Trigger true ∷ settings.TriggerType triggers.Every ∷ settings.InitiationQueue (codes "INITQ") ∷ settings.Process (codes "P") ∷ [])
     ∷ []
 
+abbrev script_a : ScriptPart
+script_a = record { label = codes "A"; manager = 0; lines = [] }
+
+abbrev script_b : ScriptPart
+script_b = record { label = codes "B"; manager = 0; lines = lines.Mqconn [] ∷ [] }
+
+abbrev monitor : MonitorLine
+monitor = record { label = codes "M"; manager = 0; queue = codes "INITQ" }
+
 abbrev scenario : Scenario
 scenario = record {
   moment = None;
@@ -45,8 +61,8 @@ scenario = record {
   cables = [];
   sections = [];
   rules = [];
-  scripts = record { label = codes "A"; manager = 0; lines = [] } ∷ record { label = codes "B"; manager = 0; lines = lines.Mqconn [] ∷ [] } ∷ [];
-  monitors = record { label = codes "M"; manager = 0; queue = codes "INITQ" } ∷ [];
+  scripts = script_a ∷ script_b ∷ [];
+  monitors = monitor ∷ [];
   steps = steps.Serve 0 5 ∷ [];
 }
 
@@ -100,7 +116,7 @@ before =
     ∷ []
 
 abbrev network : Network
-network = record { scenario = scenario; histories = london before ∷ []; done = alone_at 0 before }
+network = does 0 before (network_begun scenario (london [] ∷ []))
 
 -- The monitor's turn, and the script that it begins.
 abbrev gets : Call
@@ -122,55 +138,72 @@ busy : monitor_idle 0 (node_at network 0) ≡ false
 unfolding tm_bytes long_bytes
 busy = refl
 
-the_turn : MonitorTurn 0 (monitor_next 0 (node_at network 0)) (got ∷ [])
-the_turn = (refl, refl, tt)
-
-it_begins_b : begun_by network 0 (got ∷ []) ≡ Some 1
+-- its get begins script B, of which no line was done
+it_begins_b : begins scenario 0 (network.done 0) got.reply ≡ Some 1
 unfolding tm_read tm_bytes tm_in long_bytes long_of
 it_begins_b = refl
+
+the_turn : MonitorGets 0 monitor network 0 got
+unfolding tm_bytes long_bytes
+the_turn = (refl, refl, refl, refl)
 
 -- a monitor may not do anything else in its turn
 not_its_get : Some (calls.Mqcmit (connection 1)) ≡ Some gets → ⊥
 not_its_get e = absurd cc
 
-no_commit : MonitorTurn 0 (monitor_next 0 (node_at network 0)) (entry 6 (actors.Monitor 0) (calls.Mqcmit (connection 1)) node5 ∷ []) → ⊥
-no_commit t = not_its_get t.1
+no_commit : MonitorGets 0 monitor network 0 (entry 6 (actors.Monitor 0) (calls.Mqcmit (connection 1)) node5) → ⊥
+no_commit (now, at, by, call) = not_its_get call
 
 abbrev served : Network
-served = later network (alone_at 0 (got ∷ []))
+served = does 0 (got ∷ []) network
 
 abbrev done : Network
-done = later served (alone_at 0 (ran ∷ []))
+done = does 0 (ran ∷ []) served
 
 idle_then : monitor_idle 0 (node_at done 0) ≡ true
 unfolding tm_bytes long_bytes
 idle_then = refl
 
-only_one : (n : ℕ) → n < 1 → n ≡ 0
-only_one n lt = omega arith
+none_due_then : Served served
+unfolding tm_bytes long_bytes
+none_due_then = one_served served (λ m. refl) refl
 
-none : 1 ≤ 0 → ⊥
-none le = omega arith
+none_due_at_last : Served done
+unfolding tm_bytes long_bytes
+none_due_at_last = one_served done (λ m. refl) refl
 
-nowhere_else : (es : List Entry) (n : ℕ) → 1 ≤ n → alone_at 0 es n ≡ []
-nowhere_else es zero le = absurd (none le)
-nowhere_else es (suc n) le = refl
+abbrev IsLeft : Network → List Task → Type 0
+IsLeft w ts = Goes network (tasks_of network (steps.Serve 0 5)) w ts
 
-b_line : DoesLine 1 None node6 (lines.Mqconn []) 0 (ran ∷ [])
-b_line = record { clock = []; entry = ran; behind = []; parts = refl; advance = refl; until = inl refl; actor = refl; triggers = tt }
-
-b_runs : RunsScript served 1 None None (slice_get scenario.scripts 1) (alone_at 0 (ran ∷ []))
-b_runs = record {
-  advances = [];
-  lines = (0, [], ran ∷ [], [], refl, refl, b_line, (refl, refl));
-  clocks = λ n ne lt. absurd (ne (only_one n lt));
-  beyond = nowhere_else (ran ∷ []);
-}
-
-parted : (n : ℕ) → alone_at 0 (got ∷ ran ∷ []) n ≡ alone_at 0 (got ∷ []) n ++ alone_at 0 (ran ∷ []) n ++ []
-parted zero = refl
-parted (suc n) = refl
-
-the_step : StepIs network (steps.Serve 0 5) (alone_at 0 (got ∷ ran ∷ []))
+after_the_get : left_by network (Serve 0 monitor 5) got ≡ Script 1 script_b None None ∷ Serve 0 monitor 4 ∷ []
 unfolding tm_read tm_bytes tm_in long_bytes long_of
-the_step = inr (got ∷ [], alone_at 0 (ran ∷ []), (λ n. []), parted, busy, the_turn, b_runs, inl (idle_then, (λ n. refl)))
+after_the_get = refl
+
+has_got : IsLeft served (Script 1 script_b None None ∷ Serve 0 monitor 4 ∷ [])
+unfolding tm_read tm_bytes tm_in long_bytes long_of
+has_got = moves network (Serve 0 monitor 5) [] 0 got stays the_turn
+
+has_lines : IsLeft served (Lines 1 script_b None (lines.Mqconn [] ∷ []) ∷ Serve 0 monitor 4 ∷ [])
+has_lines = passes served (Script 1 script_b None None) (Lines 1 script_b None (lines.Mqconn [] ∷ []) ∷ []) (Serve 0 monitor 4 ∷ []) has_got none_due_then refl
+
+b_line : Moves served (Lines 1 script_b None (lines.Mqconn [] ∷ [])) 0 ran
+b_line = record { until = inl refl; is = (refl, refl, refl) }
+
+has_run : IsLeft done (Lines 1 script_b None [] ∷ Serve 0 monitor 4 ∷ [])
+has_run = moves served (Lines 1 script_b None (lines.Mqconn [] ∷ [])) (Serve 0 monitor 4 ∷ []) 0 ran has_lines b_line
+
+is_done : IsLeft done (Serve 0 monitor 4 ∷ [])
+is_done = passes done (Lines 1 script_b None []) [] (Serve 0 monitor 4 ∷ []) has_run none_due_at_last refl
+
+the_step : IsLeft done []
+the_step = passes done (Serve 0 monitor 4) [] [] is_done none_due_at_last (idle_then, refl)
+
+-- A trigger turn is no line of a script: B's line would be left.
+abbrev triggered : Entry
+triggered = entry 7 (actors.Script 1) calls.Trigger node6
+
+not_connects : calls.Trigger ≡ began → ⊥
+not_connects e = absurd cc
+
+no_trigger_for_a_line : Moves served (Lines 1 script_b None (lines.Mqconn [] ∷ [])) 0 triggered → ⊥
+no_trigger_for_a_line h = not_connects h.is.2

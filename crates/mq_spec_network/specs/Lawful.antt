@@ -1,24 +1,28 @@
 -- When the histories of a scenario's managers make a lawful story.
-use Rattle.std.specs.Prelude.{◌≡◌, ◌<◌, ◌≤◌, ℕ, zero, suc, Bool, true, false, not, List, [], ◌∷◌, ◌++◌, Option, Some, None, is_some, length, take, drop, slice_get}
+use Rattle.std.specs.Prelude.{◌≡◌, ◌<◌, ℕ, Bool, false, List, [], ◌∷◌, ◌++◌, Option, Some, None, length, slice_get}
 use Rattle.mq_history.specs.declared.calls.Actor.{Actor}
 use Rattle.mq_history.specs.declared.calls.Call.TheVariants as calls
 use Rattle.mq_history.specs.declared.calls.Entry.{Entry}
 use Rattle.mq_history.specs.declared.history.History.{History}
 use Rattle.mq_history.specs.declared.history.Mark.{Mark}
 use Rattle.mq_history.specs.declared.scenario.CableLine.{CableLine}
+use Rattle.mq_history.specs.declared.scenario.RulesPart.{RulesPart}
 use Rattle.mq_history.specs.declared.scenario.ScriptPart.{ScriptPart}
 use Rattle.mq_history.specs.declared.scenario.Scenario.{Scenario}
 use Rattle.mq_history.specs.declared.scenario.Step.{Step}
+use Rattle.mq_history.specs.declared.scenario.Step.TheVariants as steps
 use Rattle.mq_spec_node.specs.Node.{Node}
 use Rattle.mq_spec_node.specs.Deeds.{Deed}
 use Rattle.mq_spec_node.specs.Happens.{trigger_deed}
-use Rattle.mq_spec_node.specs.Replays.{Replays, NoneForeign, done_by, opening_node}
+use Rattle.mq_spec_node.specs.Replays.{Surroundings, Replays, NoneForeign, done_by, opening_node}
 use Rattle.mq_spec_node.specs.Scripts.{AreLines, fresh}
 use Rattle.mq_spec_network.specs.Story.{entries_at}
 use Rattle.mq_spec_network.specs.Given.{surroundings}
 use Rattle.mq_spec_network.specs.Cables.{Carries, is_sender, is_receiver, by}
-use Rattle.mq_spec_network.specs.Turns.{Network, node_at}
-use Rattle.mq_spec_network.specs.Steps.{mains, later, is_script, StepIs, IsMark, LastRestarts}
+use Rattle.mq_spec_network.specs.Turns.{Network, node_at, is_idle}
+use Rattle.mq_spec_network.specs.ScriptLines.{lines_by}
+use Rattle.mq_spec_network.specs.Tasks.{Task, tasks_of, tasks_next}
+use Rattle.mq_spec_network.specs.Steps.{Goes, Served, handler_idle}
 
 -- Trigger turns stand where they are due: behind the entry after which one is, by its actor, until none is.
 abbrev pub TriggerIs : Option Deed → Option Actor → Entry → Type 0
@@ -32,7 +36,6 @@ TriggersStand last n (e ∷ es) = TriggerIs (trigger_deed n) last e × TriggersS
 -- Each history is its manager's, and replays with what the scenario gives it.
 pub record IsHistory (s : Scenario) (m : ℕ) (h : History) : Type 0 where
   pub replays : Replays (surroundings s m) h
-  pub own : NoneForeign h.entries
   pub triggers : TriggersStand None (opening_node (surroundings s m) h) h.entries
 
 -- Each frame that was popped was offered before, as the faults have it.
@@ -42,9 +45,8 @@ pub record IsCarried (cable : ℕ) (c : CableLine) (hs : List History) : Type 0 
 
 -- The entries of a script are its lines.
 abbrev pub ScriptIs : Scenario → List History → ℕ → ScriptPart → Type 0
-ScriptIs s hs k p = AreLines p.label fresh p.lines (by (is_script k) (mains (entries_at hs p.manager)))
+ScriptIs s hs k p = AreLines p.label fresh p.lines (lines_by k (entries_at hs p.manager))
 
--- The marks part each history into the steps.
 abbrev pub marks_or : Option History → List Mark
 marks_or None = []
 marks_or (Some h) = h.marks
@@ -52,65 +54,55 @@ marks_or (Some h) = h.marks
 abbrev pub marks_at : List History → ℕ → List Mark
 marks_at hs m = marks_or (slice_get hs m)
 
-abbrev pub mark_entries : Option Mark → ℕ
-mark_entries None = 0
-mark_entries (Some mark) = mark.entries
+abbrev pub first_of : Surroundings → Option History → Option Node
+first_of g None = None
+first_of g (Some h) = Some (opening_node g h)
 
-abbrev pub mark_idle : Option Mark → Bool
-mark_idle None = false
-mark_idle (Some mark) = mark.idle
+-- the network before anything is done
+abbrev pub network_begun : Scenario → List History → Network
+network_begun s hs = record { scenario = s; first = λ m. first_of (surroundings s m) (slice_get hs m); done = λ m. [] }
 
--- where step k ends, and where it begins
-abbrev pub step_end : List History → ℕ → ℕ → ℕ
-step_end hs k m = mark_entries (slice_get (marks_at hs m) k)
+-- A mark is idle exactly where its step is a PUMP after which nothing can change, or a HANDLE whose next turn would be idle.
+abbrev pub handles_idle : ℕ → Option RulesPart → Network → Bool
+handles_idle k None w = false
+handles_idle k (Some r) w = handler_idle k (node_at w r.manager)
 
-abbrev pub step_begin : List History → ℕ → ℕ → ℕ
-step_begin hs zero m = 0
-step_begin hs (suc k) m = step_end hs k m
+abbrev pub ends_idle : Network → Step → Bool
+ends_idle w (steps.Pump n) = is_idle w
+ends_idle w (steps.Handle k n) = handles_idle k (slice_get w.scenario.rules k) w
+ends_idle w _ = false
 
-abbrev pub before_step : List History → ℕ → ℕ → List Entry
-before_step hs k m = take (step_begin hs k m) (entries_at hs m)
+-- each manager notes how much it did
+abbrev pub mark_of : Network → Step → ℕ → Mark
+mark_of w step m = record { entries = length (w.done m); idle = ends_idle w step }
 
-abbrev pub step_entries : List History → ℕ → ℕ → List Entry
-step_entries hs k m = drop (step_begin hs k m) (take (step_end hs k m) (entries_at hs m))
+-- These steps were done whole, one after the other, with these marks.
+pub data Went (w0 : Network) : List Step → (ℕ → List Mark) → Network → Type 0 where
+  begins : Went w0 [] (λ m. []) w0
+  ends : (whole : List Step) (marks : ℕ → List Mark) (before w : Network) (step : Step) → Went w0 whole marks before → Goes before (tasks_of before step) w [] → Served w
+      → Went w0 (whole ++ step ∷ []) (λ m. marks m ++ mark_of w step m ∷ []) w
 
-abbrev pub network_before : Scenario → List History → ℕ → Network
-network_before s hs k = record { scenario = s; histories = hs; done = before_step hs k }
+-- How far a run is in its steps: some are whole, and of the next, or of the last restarts, a part is done, which may be
+-- empty; these tasks are left of it.
+pub record Stands (w0 : Network) (whole rest : List Step) (marks : ℕ → List Mark) (now : Network) (tasks : List Task) : Type 0 where
+  pub before : Network
+  pub parts : w0.scenario.steps ≡ whole ++ rest
+  pub went : Went w0 whole marks before
+  pub goes : Goes before (tasks_next before rest) now tasks
 
--- so many steps are done, at each manager
-abbrev pub steps_done : List History → ℕ
-steps_done hs = length (marks_at hs 0)
-
--- the entries behind the last mark
-abbrev pub rest_at : List History → ℕ → List Entry
-rest_at hs m = drop (step_begin hs (steps_done hs) m) (entries_at hs m)
-
--- no trigger is due at a manager
-abbrev pub none_due : Option Node → Bool
-none_due None = true
-none_due (Some n) = not (is_some (trigger_deed n))
-
-pub record IsWhole (s : Scenario) (hs : List History) (k : ℕ) (step : Step) : Type 0 where
-  pub entries : StepIs (network_before s hs k) step (step_entries hs k)
-  pub idle : (m : ℕ) → m < length hs → IsMark (network_before s hs k) step (step_entries hs k) (mark_idle (slice_get (marks_at hs m) k))
-  pub served : (m : ℕ) → m < length hs → none_due (node_at (later (network_before s hs k) (step_entries hs k)) m) ≡ true
-  pub rising : (m : ℕ) → step_begin hs k m ≤ step_end hs k m
-  pub within : (m : ℕ) → step_end hs k m ≤ length (entries_at hs m)
-
--- A part of a step is what its entries begin with, manager by manager.
-abbrev pub IsPartOf : ((ℕ → List Entry) → Type 0) → (ℕ → List Entry) → Type 0
-IsPartOf P seg = (more : ℕ → List Entry) × P (λ m. seg m ++ more m)
-
--- what follows the last mark: a part of the next step, or of the last restarts
-abbrev pub RestIs : Scenario → List History → Option Step → Type 0
-RestIs s hs (Some step) = IsPartOf (StepIs (network_before s hs (steps_done hs)) step) (rest_at hs)
-RestIs s hs None = IsPartOf (LastRestarts (network_before s hs (steps_done hs))) (rest_at hs)
+-- That is what the histories have.
+pub record IsFar (s : Scenario) (hs : List History) (whole rest : List Step) (tasks : List Task) : Type 0 where
+  pub marks : ℕ → List Mark
+  pub now : Network
+  pub stands : Stands (network_begun s hs) whole rest marks now tasks
+  pub entries : (m : ℕ) → now.done m ≡ entries_at hs m
+  pub noted : (m : ℕ) → m < length hs → marks_at hs m ≡ marks m
 
 pub record AreSteps (s : Scenario) (hs : List History) : Type 0 where
-  pub marks : (m : ℕ) → m < length hs → length (marks_at hs m) ≡ steps_done hs
-  pub most : steps_done hs ≤ length s.steps
-  pub whole : (k : ℕ) (step : Step) → k < steps_done hs → slice_get s.steps k ≡ Some step → IsWhole s hs k step
-  pub rest : RestIs s hs (slice_get s.steps (steps_done hs))
+  pub whole : List Step
+  pub rest : List Step
+  pub tasks : List Task
+  pub far : IsFar s hs whole rest tasks
 
 -- Lawful: histories that replay; frames that were offered; scripts line by line; the steps in order, with their marks; and
 -- each stopped write where the armed call was reached or a disk failed, which is part of what replays.
@@ -121,7 +113,10 @@ pub record IsLawful (s : Scenario) (hs : List History) : Type 0 where
   pub scripts : (k : ℕ) (p : ScriptPart) → slice_get s.scripts k ≡ Some p → ScriptIs s hs k p
   pub steps : AreSteps s hs
 
+-- Where each disk tells its bytes, no restart read an image that its history does not allow.
+abbrev pub AreOwn : List History → Type 0
+AreOwn hs = (m : ℕ) (h : History) → slice_get hs m ≡ Some h → NoneForeign h.entries
+
 -- every step is done whole, and the last restarts too
-pub record IsDone (s : Scenario) (hs : List History) : Type 0 where
-  pub steps : steps_done hs ≡ length s.steps
-  pub restarts : LastRestarts (network_before s hs (steps_done hs)) (rest_at hs)
+abbrev pub IsDone : Scenario → List History → Type 0
+IsDone s hs = IsFar s hs s.steps [] []

@@ -444,15 +444,20 @@ found m (Some s) ds l = at_moment m (users_at m l).moment (post m s.entry ds (at
 abbrev pub up_again : ℕ → Ledger → Ledger
 up_again m l = stop m (with_users m (λ u. record u { cut = None }) l)
 
-abbrev pub returned : ℕ → Chance → List Did → Ledger → Ledger
-returned m (chances.Restart (Comes true started)) ds l = up_again m (found m (users_at m l).cut ds l)
-returned m (chances.Restart (Comes false started)) ds l = up_again m l
-returned m _ ds l = l
+-- a restart of a manager that is up is refused, whatever it would have found
+abbrev pub come_up : ℕ → Chance → List Did → Ledger → Ledger
+come_up m (chances.Restart (Comes true started)) ds l = up_again m (found m (users_at m l).cut ds l)
+come_up m (chances.Restart (Comes false started)) ds l = up_again m l
+come_up m _ ds l = l
+
+abbrev pub returned : ℕ → Reply → Chance → List Did → Ledger → Ledger
+returned m (replies.Acted acted.Done) chance ds l = come_up m chance ds l
+returned m _ chance ds l = l
 
 -- Each entry of a story, one after the other.
 abbrev pub posted : ℕ → Entry → Reply → Ledger → Ledger
 posted m e (replies.Stopped by) l = cut m e l
-posted m e reply l = returned m e.chance e.effect.delta (post m e e.effect.delta l)
+posted m e reply l = returned m reply e.chance e.effect.delta (post m e e.effect.delta l)
 
 abbrev pub ledger : Ledger → List Line → Ledger
 ledger l [] = l

@@ -7,7 +7,10 @@ pub mod Order
 pub mod Apart
 pub mod Cables
 pub mod Turns
-pub mod Pump
+pub mod ScriptLines
+pub mod Monitors
+pub mod Tasks
 pub mod Steps
 pub mod Lawful
 pub mod Promised
+pub mod Openings

@@ -13,6 +13,9 @@ use Rattle.mq_calls.specs.declared.deltas.Did.{Did}
 use Rattle.mq_calls.specs.declared.deltas.Did.TheVariants as did
 use Rattle.mq_calls.specs.declared.deltas.Why.TheVariants as whys
 use Rattle.mq_history.specs.declared.calls.Entry.{Entry}
+use Rattle.mq_history.specs.declared.acts.Acted.TheVariants as acted
+use Rattle.mq_history.specs.declared.calls.Reply.{Reply}
+use Rattle.mq_history.specs.declared.calls.Reply.TheVariants as replies
 use Rattle.mq_history.specs.declared.calls.Chance.{Chance}
 use Rattle.mq_history.specs.declared.calls.Chance.TheVariants as chances
 use Rattle.mq_calls.specs.declared.choices.Return.TheVariants.{Comes}
@@ -81,12 +84,17 @@ abbrev pub messages_or : Option Stopped → List Message
 messages_or None = []
 messages_or (Some s) = s.entry.effect.received
 
-abbrev pub messages_found : Chance → List Message → Option Stopped → List Message
-messages_found (chances.Restart (Comes true started)) ms cut = messages_or cut
-messages_found _ ms cut = ms
+abbrev pub messages_of : Chance → List Message → Option Stopped → List Message
+messages_of (chances.Restart (Comes true started)) ms cut = messages_or cut
+messages_of _ ms cut = ms
+
+-- a restart that is refused found nothing
+abbrev pub messages_found : Reply → Chance → List Message → Option Stopped → List Message
+messages_found (replies.Acted acted.Done) chance ms cut = messages_of chance ms cut
+messages_found _ chance ms cut = ms
 
 abbrev pub committed_messages : Ledger → Line → List Message
-committed_messages l x = messages_found x.entry.chance x.entry.effect.received (users_at x.manager l).cut
+committed_messages l x = messages_found x.entry.reply x.entry.chance x.entry.effect.received (users_at x.manager l).cut
 
 abbrev pub unit_received : List Did → Option (List ℕ × Luw)
 unit_received [] = None

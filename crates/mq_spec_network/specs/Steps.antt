@@ -1,21 +1,11 @@
--- The entries of each step of a scenario.
-use Rattle.std.specs.Prelude.{◌≡◌, ◌≢◌, ◌<◌, ◌≤◌, ◌⊎◌, ℕ, zero, suc, ◌+◌, ◌==◌, Bool, true, false, not, ◌&&◌, List, [], ◌∷◌, ◌++◌, if◌then◌else◌, Option, Some, None, Ok, Err, length, filter, count_by, slice_get, take, drop}
-use Rattle.std.specs.Str.{bytes_eq}
-use Rattle.mq_calls.specs.declared.answers.Answer.{Answer}
+-- How a step goes on, entry by entry: what may come next, and what is left of it then.
+use Rattle.std.specs.Prelude.{◌≡◌, ◌⊎◌, ℕ, zero, suc, ◌+◌, Bool, true, false, not, List, [], ◌∷◌, ◌++◌, Option, Some, None, slice_get, is_some}
 use Rattle.mq_calls.specs.declared.answers.Answer.TheVariants as answers
-use Rattle.mq_calls.specs.declared.answers.Input.TheVariants as inputs
-use Rattle.mq_calls.specs.declared.answers.Open.{Open}
 use Rattle.mq_calls.specs.declared.answers.Hconn.{Hconn}
-use Rattle.mq_calls.specs.declared.answers.Hobj.{Hobj}
-use Rattle.mq_calls.specs.declared.answers.Get.{Get}
-use Rattle.mq_calls.specs.declared.answers.Got.{Got}
-use Rattle.mq_calls.specs.declared.answers.Take.TheVariants as takes
 use Rattle.mq_calls.specs.declared.commands.RestartFault.TheVariants as faults
 use Rattle.mq_frame.specs.declared.frame.Seen.TheVariants as items
-use Rattle.mq_history.specs.declared.acts.Act.{Act}
 use Rattle.mq_history.specs.declared.acts.Act.TheVariants as acts
 use Rattle.mq_history.specs.declared.acts.Acted.TheVariants as acted
-use Rattle.mq_sc_parse.specs.declared.command.Command.{Command}
 use Rattle.mq_history.specs.declared.calls.Actor.{Actor}
 use Rattle.mq_history.specs.declared.calls.Actor.TheVariants as actors
 use Rattle.mq_history.specs.declared.calls.Call.{Call}
@@ -24,136 +14,129 @@ use Rattle.mq_history.specs.declared.calls.Reply.{Reply}
 use Rattle.mq_history.specs.declared.calls.Reply.TheVariants as replies
 use Rattle.mq_history.specs.declared.calls.Entry.{Entry}
 use Rattle.mq_history.specs.declared.scenario.MonitorLine.{MonitorLine}
-use Rattle.mq_history.specs.declared.scenario.RulesPart.{RulesPart}
 use Rattle.mq_history.specs.declared.scenario.ScriptPart.{ScriptPart}
-use Rattle.mq_history.specs.declared.scenario.Section.{Section}
 use Rattle.mq_history.specs.declared.scenario.Scenario.{Scenario}
-use Rattle.mq_history.specs.declared.scenario.Step.{Step}
-use Rattle.mq_history.specs.declared.scenario.Step.TheVariants as steps
 use Rattle.mq_history.specs.declared.scripts.ScriptLine.{ScriptLine}
-use Rattle.mq_heads.specs.Headers.{tm_in}
-use Rattle.mq_spec_manager.specs.Heads.{is_tm, trimmed}
-use Rattle.mq_spec_manager.specs.Handles.{connected as handles_connected}
-use Rattle.mq_spec_node.specs.Node.{Node, Monitor}
+use Rattle.mq_spec_node.specs.Node.{Node}
 use Rattle.mq_spec_node.specs.Deeds.{Deed}
-use Rattle.mq_spec_node.specs.Happens.{deed_of}
-use Rattle.mq_spec_node.specs.Replays.{after}
+use Rattle.mq_frame.specs.declared.frame.Frame.{Frame}
+use Rattle.mq_frame.specs.declared.frame.Seen.{Seen}
+use Rattle.mq_history.specs.declared.scenario.CableLine.{CableLine}
+use Rattle.mq_spec_node.specs.Happens.{trigger_deed}
 use Rattle.mq_spec_node.specs.Scripts.{script_appl, deadline, wait_of, until_of}
 use Rattle.mq_spec_network.specs.Story.{Mem}
-use Rattle.mq_spec_network.specs.Turns.{Network, node_at, is_up_at, deed_at, is_idle}
-use Rattle.mq_spec_network.specs.Cables.{by}
-use Rattle.mq_spec_network.specs.Pump.{Pumped, AllTriggers, is_trigger, alone_at}
+use Rattle.mq_spec_network.specs.Turns.{Network, Direction, node_at, does, is_up_at, deed_at, out_of, back_of, out_way, back_way, waiting, extras_of, changes, sender_turn, receiver_turn, timeout_turn, is_idle}
+use Rattle.mq_spec_network.specs.ScriptLines.{left_after, call_after, lines_left, at_most, call_next, IsUntil, still_waits}
+use Rattle.mq_spec_network.specs.Monitors.{shared, is_opened, begins, monitor_next, monitor_idle, monitor_live}
+use Rattle.mq_spec_network.specs.Tasks.{Slot, Task, Trying, clocks, moment_of, run_script}
+use Rattle.mq_spec_network.specs.Tasks.Slot.{Sends, Receives, TimesOut}
+use Rattle.mq_spec_network.specs.Tasks.Task.{Ask, Script, Lines, Phase, Pump, Handle, Serve, Watch, Open, Restart}
 
--- Trigger turns stand where they are due, and are told apart from a step's own entries.
-abbrev pub mains : List Entry → List Entry
-mains es = filter (λ (e : Entry). not (is_trigger e.call)) es
+-- this call, by this actor, at this manager
+abbrev pub Is : ℕ → Actor → Call → ℕ → Entry → Type 0
+Is at actor call m e = (m ≡ at) × (e.actor ≡ actor) × (e.call ≡ call)
 
--- the network after these entries more, manager by manager
-abbrev pub later : Network → (ℕ → List Entry) → Network
-later w seg = record w { done = λ m. w.done m ++ seg m }
+-- RUN, and what a monitor or a phase has of it: the next line. A get that is tried has its deadline.
+pub record IsNext (w : Network) (k : ℕ) (p : ScriptPart) (tried : Option ℕ) (l : ScriptLine) (m : ℕ) (e : Entry) : Type 0 where
+  pub until : IsUntil tried (moment_of (node_at w p.manager)) (wait_of l) (until_of e.call)
+  pub is : Is p.manager (actors.Script k) (call_next w k p (until_of e.call) l) m e
 
--- one manager alone does something
-abbrev pub Alone : ℕ → (ℕ → List Entry) → Type 0
-Alone m seg = (n : ℕ) → n ≢ m → seg n ≡ []
+-- One that would still wait: the clocks advance to its deadline, and then it comes.
+pub record Waits (w : Network) (k : ℕ) (p : ScriptPart) (tried : Option ℕ) (l : ScriptLine) (ls : List ScriptLine) (next : List Task) : Type 0 where
+  pub until : ℕ
+  pub by : ℕ
+  pub tried_then : IsUntil tried (moment_of (node_at w p.manager)) (wait_of l) (Some until)
+  pub waits : still_waits w k p (call_next w k p (Some until) l) ≡ true
+  pub left : until ≡ moment_of (node_at w p.manager) + by
+  pub behind : next ≡ clocks w.scenario by ++ Ask p.manager (actors.Script k) (call_next w k p (Some until) l) ∷ Lines k p None ls ∷ []
 
--- Asked by an operator: one event for each command.
-abbrev pub Asks : Act → Entry → Type 0
-Asks act e = (e.actor ≡ actors.Operator) × (e.call ≡ calls.Act act)
+-- PHASE: the next line of one of its scripts, each get first tried at the phase's first moment; turns and timeouts of
+-- channel ends. No clock advances. Only what this manager did so far counts: a phase's entries have no other order.
+abbrev pub PhaseLine : ℕ → Trying → List Entry → List ScriptLine → ℕ → Entry → Type 0
+PhaseLine k t done [] m e = ⊥
+PhaseLine k t done (l ∷ ls) m e =
+    (t.script ≡ k) × Is t.part.manager (actors.Script k) (call_after k t.part done (deadline t.moment (wait_of l)) l) m e
 
-abbrev pub Obeys : List Command → List Entry → Type 0
-Obeys [] es = es ≡ []
-Obeys (c ∷ cs) [] = ⊥
-Obeys (c ∷ cs) (e ∷ es) = Asks (acts.Obey c) e × Obeys cs es
+abbrev pub InPhase : List Trying → List Entry → ℕ → Entry → Actor → Type 0
+InPhase ts done m e (actors.Script k) = (t : Trying) × Mem t ts × PhaseLine k t done (left_after k t.part done) m e
+InPhase ts done m e (actors.Sender cable) = (e.call ≡ calls.Turn) ⊎ (e.call ≡ calls.Timeout)
+InPhase ts done m e (actors.Receiver cable) = e.call ≡ calls.Turn
+InPhase ts done m e _ = ⊥
 
-abbrev pub AsksOnce : Act → List Entry → Type 0
-AsksOnce act [] = ⊥
-AsksOnce act (e ∷ es) = Asks act e × (es ≡ [])
+-- what one manager did in a phase, after what it had done before
+abbrev pub AllInPhase : List Trying → ℕ → List Entry → List Entry → Type 0
+AllInPhase ts m done [] = Unit {0}
+AllInPhase ts m done (e ∷ es) = (InPhase ts done m e e.actor ⊎ (e.call ≡ calls.Trigger)) × AllInPhase ts m (done ++ e ∷ []) es
 
-abbrev pub ObeysSection : Option Section → (ℕ → List Entry) → Type 0
-ObeysSection None seg = ⊥
-ObeysSection (Some s) seg = Obeys s.commands (mains (seg s.manager)) × Alone s.manager seg
+-- PUMP: turns in rounds, cable by cable, the sender's and then the receiver's; after a round of none, timeouts.
+pub record Turn : Type 0 where
+  pub manager : ℕ
+  pub actor : Actor
+  pub call : Call
+  pub seen : Seen
+  pub way : Direction
+  pub deed : Option Deed
 
--- CLOCK: one event for each manager.
-abbrev pub IsClock : ℕ → Entry → Type 0
-IsClock ms e = (e.actor ≡ actors.Clock) × (e.call ≡ calls.Act (acts.Clock ms))
+abbrev pub turn_in : Network → Slot → ℕ → CableLine → Turn
+turn_in w Sends cable c = record {
+  manager = c.sender;
+  actor = actors.Sender cable;
+  call = calls.Turn;
+  seen = waiting (back_of w cable c);
+  way = out_way w cable c;
+  deed = sender_turn w cable c;
+}
+turn_in w Receives cable c = record {
+  manager = c.receiver;
+  actor = actors.Receiver cable;
+  call = calls.Turn;
+  seen = waiting (out_of w cable c);
+  way = back_way w cable c;
+  deed = receiver_turn w cable c;
+}
+turn_in w TimesOut cable c = record {
+  manager = c.sender;
+  actor = actors.Sender cable;
+  call = calls.Timeout;
+  seen = items.Nothing;
+  way = out_way w cable c;
+  deed = timeout_turn w cable c;
+}
 
-abbrev pub AreClocks : List ℕ → List Entry → Type 0
-AreClocks [] es = es ≡ []
-AreClocks (ms ∷ more) [] = ⊥
-AreClocks (ms ∷ more) (e ∷ es) = IsClock ms e × AreClocks more es
+abbrev pub pushed_of : Option Deed → Option Frame
+pushed_of None = None
+pushed_of (Some deed) = deed.pushed
 
--- RUN: the next lines of the script. A get that waits has the clocks advanced to its deadline, at each manager.
-abbrev pub is_script : ℕ → Actor → Bool
-is_script k (actors.Script n) = n == k
-is_script k _ = false
+-- a turn that pushes pops nothing
+abbrev pub popped_by : Seen → Option Frame → Seen
+popped_by seen None = seen
+popped_by seen (Some f) = items.Nothing
 
-abbrev pub lines_done : ℕ → List Entry → ℕ
-lines_done k es = count_by (λ (e : Entry). is_script k e.actor) (mains es)
+-- a turn that changes something, with the item that waited, and so many extra items as find room
+pub record Takes (t : Turn) (m : ℕ) (e : Entry) : Type 0 where
+  pub changes : changes t.way t.deed ≡ true
+  pub is : Is t.manager t.actor t.call m e
+  pub popped : e.effect.popped ≡ popped_by t.seen (pushed_of t.deed)
+  pub extras : e.effect.extras ≡ extras_of t.way (pushed_of t.deed)
 
-abbrev pub moment_of : Option Node → ℕ
-moment_of None = 0
-moment_of (Some n) = n.manager.moment
+abbrev pub PumpTakes : Network → Slot → ℕ → Option CableLine → ℕ → Entry → Type 0
+PumpTakes w slot cable None m e = ⊥
+PumpTakes w slot cable (Some c) m e = Takes (turn_in w slot cable c) m e
 
--- the deadline of a line's get, from the moment of its first try: this one, or one at which it was tried before
-abbrev pub TriedBefore : Option ℕ → Option ℕ → Option ℕ → Type 0
-TriedBefore None wait until = ⊥
-TriedBefore (Some moment) wait until = until ≡ deadline moment wait
+abbrev pub pump_on : ℕ → Slot → ℕ → Bool → List Task
+pump_on left Sends cable any = Pump left Receives cable any ∷ []
+pump_on left Receives cable any = Pump left Sends (suc cable) any ∷ []
+pump_on left TimesOut cable any = Pump left TimesOut (suc cable) any ∷ []
 
-abbrev pub IsUntil : Option ℕ → ℕ → Option ℕ → Option ℕ → Type 0
-IsUntil tried moment wait until = (until ≡ deadline moment wait) ⊎ TriedBefore tried wait until
+-- after the last cable comes the next round, or, where no turn of this one was taken, the timeouts
+abbrev pub next_round : ℕ → Slot → Bool → List Task
+next_round left Sends true = Pump left Sends 0 false ∷ []
+next_round left Sends false = Pump left TimesOut 0 false ∷ []
+next_round left _ any = Pump left Sends 0 false ∷ []
 
--- a get that would still wait is no event
-abbrev pub Waits : Entry → Node → Type 0
-Waits e n = deed_of e.stamp e.actor e.call items.Nothing n ≡ None
-
--- where a get waits, and only there, the clock advances to its deadline at once: by so many milliseconds, 0 where none does
-abbrev pub Advances : ℕ → Node → Entry → List Entry → Type 0
-Advances zero n e clock = clock ≡ []
-Advances (suc more) n e clock =
-    Waits e n × (until_of e.call ≡ Some (n.manager.moment + suc more)) × AreClocks (suc more ∷ []) clock
-
--- One line: the clock's advance, its entry, and the trigger turns that are due behind it.
-pub record DoesLine (k : ℕ) (tried : Option ℕ) (n : Node) (l : ScriptLine) (ms : ℕ) (es : List Entry) : Type 0 where
-  pub clock : List Entry
-  pub entry : Entry
-  pub behind : List Entry
-  pub parts : es ≡ clock ++ entry ∷ behind
-  pub advance : Advances ms n entry clock
-  pub until : IsUntil tried n.manager.moment (wait_of l) (until_of entry.call)
-  pub actor : entry.actor ≡ actors.Script k
-  pub triggers : AllTriggers behind
-
-abbrev pub advance_by : ℕ → List ℕ
-advance_by zero = []
-advance_by (suc more) = suc more ∷ []
-
--- these lines, one after the other; the first may have been tried before
-abbrev pub RunsLines : ℕ → Option ℕ → Node → List ScriptLine → List ℕ → List Entry → Type 0
-RunsLines k tried n [] advances es = (advances ≡ []) × (es ≡ [])
-RunsLines k tried n (l ∷ ls) advances es =
-    (ms : ℕ) × (more : List ℕ) × (first : List Entry) × (rest : List Entry) × (advances ≡ advance_by ms ++ more) × (es ≡ first ++ rest)
-    × DoesLine k tried n l ms first × RunsLines k None (after n first) ls more rest
-
-abbrev pub RunsAt : ℕ → Option ℕ → Option Node → List ScriptLine → List ℕ → List Entry → Type 0
-RunsAt k tried None ls advances es = ⊥
-RunsAt k tried (Some n) ls advances es = RunsLines k tried n ls advances es
-
-pub record Runs (w : Network) (k m : ℕ) (tried : Option ℕ) (ls : List ScriptLine) (seg : ℕ → List Entry) : Type 0 where
-  pub advances : List ℕ
-  pub lines : RunsAt k tried (node_at w m) ls advances (seg m)
-  pub clocks : (n : ℕ) → n ≢ m → n < length w.scenario.managers → AreClocks advances (mains (seg n))
-  pub beyond : (n : ℕ) → length w.scenario.managers ≤ n → seg n ≡ []
-
-abbrev pub lines_left : Network → ℕ → ScriptPart → List ScriptLine
-lines_left w k p = drop (lines_done k (w.done p.manager)) p.lines
-
-abbrev pub at_most : Option ℕ → List ScriptLine → List ScriptLine
-at_most None ls = ls
-at_most (Some n) ls = take n ls
-
-abbrev pub RunsScript : Network → ℕ → Option ℕ → Option ℕ → Option ScriptPart → (ℕ → List Entry) → Type 0
-RunsScript w k tried n None seg = ⊥
-RunsScript w k tried n (Some p) seg = Runs w k p.manager tried (at_most n (lines_left w k p)) seg
+abbrev pub PumpSkips : Network → ℕ → Slot → ℕ → Bool → Option CableLine → List Task → Type 0
+PumpSkips w left slot cable any None next = next ≡ next_round left slot any
+PumpSkips w left slot cable any (Some c) next = (changes (turn_in w slot cable c).way (turn_in w slot cable c).deed ≡ false) × (next ≡ pump_on left slot cable any)
 
 -- HANDLE: turns of the handler until so many, or until the next would be idle.
 abbrev pub turn_is_idle : Option Deed → Bool
@@ -163,262 +146,103 @@ turn_is_idle (Some d) = false
 abbrev pub handler_idle : ℕ → Option Node → Bool
 handler_idle k n = turn_is_idle (deed_at (actors.Handler k) calls.Turn items.Nothing n)
 
-abbrev pub AreTurnsOf : ℕ → List Entry → Type 0
-AreTurnsOf k [] = Unit {0}
-AreTurnsOf k (e ∷ es) = (e.actor ≡ actors.Handler k) × (e.call ≡ calls.Turn) × AreTurnsOf k es
-
-pub record Handles (w : Network) (k n m : ℕ) (seg : ℕ → List Entry) : Type 0 where
-  pub turns : AreTurnsOf k (mains (seg m))
-  pub most : length (mains (seg m)) ≤ n
-  pub enough : (length (mains (seg m)) ≡ n) ⊎ (handler_idle k (node_at (later w seg) m) ≡ true)
-  pub alone : Alone m seg
-
--- WATCH: the monitor connects and opens its queue; where that fails it disconnects; where it is connected, nothing.
-abbrev pub shared : Open
-shared = record { input = inputs.Shared; browse = false; output = false }
-
-abbrev pub Does : Actor → Call → Entry → Type 0
-Does actor call e = (e.actor ≡ actor) × (e.call ≡ call)
-
-abbrev pub is_opened : Reply → Bool
-is_opened (replies.Opened (answers.Ok ho)) = true
-is_opened _ = false
-
-abbrev pub WatchEnds : Actor → Hconn → Bool → List Entry → Type 0
-WatchEnds actor hc true es = es ≡ []
-WatchEnds actor hc false [] = ⊥
-WatchEnds actor hc false (e ∷ es) = Does actor (calls.Mqdisc hc) e × (es ≡ [])
-
-abbrev pub WatchOpens : Actor → MonitorLine → Hconn → List Entry → Type 0
-WatchOpens actor l hc [] = ⊥
-WatchOpens actor l hc (e ∷ es) = Does actor (calls.Mqopen hc l.queue [] shared) e × WatchEnds actor hc (is_opened e.reply) es
-
-abbrev pub WatchGoesOn : Actor → MonitorLine → Reply → List Entry → Type 0
-WatchGoesOn actor l (replies.Connected (answers.Ok hc)) es = WatchOpens actor l hc es
-WatchGoesOn actor l _ es = es ≡ []
-
-abbrev pub WatchBegins : ℕ → MonitorLine → List Entry → Type 0
-WatchBegins k l [] = ⊥
-WatchBegins k l (e ∷ es) = Does (actors.Monitor k) (calls.Mqconn [] (script_appl l.label)) e × WatchGoesOn (actors.Monitor k) l e.reply es
-
-abbrev pub Watches : ℕ → MonitorLine → (live : Bool) → List Entry → Type 0
-Watches k l true es = es ≡ []
-Watches k l false es = WatchBegins k l es
-
 -- SERVE: turns of the monitor, each a get without wait; where the message's ApplId names a script of this manager of which
 -- no line was done, all its lines follow, as a RUN has them.
--- the text of ApplId in a trigger message
-abbrev pub appl_id : List ℕ → List ℕ
-appl_id body = trimmed (tm_in body).appl_id
+abbrev pub MonitorGets : ℕ → MonitorLine → Network → ℕ → Entry → Type 0
+MonitorGets k l w m e =
+    (monitor_idle k (node_at w l.manager) ≡ false) × (m ≡ l.manager) × (e.actor ≡ actors.Monitor k) × (Some e.call ≡ monitor_next k (node_at w l.manager))
 
-abbrev pub got_body : Reply → List ℕ
-got_body (replies.Got (answers.Ok g)) = g.body
-got_body _ = []
+abbrev pub begun : Scenario → Option ℕ → List Task
+begun s None = []
+begun s (Some k) = run_script k None (slice_get s.scripts k)
 
-abbrev pub script_named : ℕ → ℕ → List ℕ → List ScriptPart → Option ℕ
-script_named m k label [] = None
-script_named m k label (p ∷ ps) = if p.manager == m && bytes_eq label p.label then Some k else script_named m (suc k) label ps
+-- WATCH: the monitor connects and opens its queue; where that fails it disconnects; where it is connected, nothing.
+abbrev pub opens : ℕ → MonitorLine → Reply → List Task
+opens k l (replies.Connected (answers.Ok hc)) = Open k l hc ∷ []
+opens k l _ = []
 
-abbrev pub unless_begun : List Entry → Option ℕ → Option ℕ
-unless_begun es None = None
-unless_begun es (Some k) = if lines_done k es == 0 then Some k else None
+abbrev pub gives_up : ℕ → MonitorLine → Hconn → Bool → List Task
+gives_up k l hc true = []
+gives_up k l hc false = Ask l.manager (actors.Monitor k) (calls.Mqdisc hc) ∷ []
 
--- the script that a monitor's get begins, at a manager that has done this so far
-abbrev pub begins : Scenario → ℕ → List Entry → Reply → Option ℕ
-begins s m es reply = if is_tm (got_body reply) then unless_begun es (script_named m 0 (appl_id (got_body reply)) s.scripts) else None
-
-abbrev pub is_failed : Answer Got → Bool
-is_failed (answers.Ok g) = false
-is_failed (answers.Warning reason g) = true
-is_failed (answers.Failed reason) = true
-
--- the monitor's next get would find nothing
-abbrev pub monitor_get : Get
-monitor_get = record { sync = false; take = takes.Next; want = record { msg_id = None; correl_id = None }; room = 4194304; truncate = false }
-
-abbrev pub gets_nothing : Option Deed → Bool
-gets_nothing None = true
-gets_nothing (Some d) = elim d.reply as (λ r. Bool) [
-  | replies.Connected a ↦ true
-  | replies.Opened a ↦ true
-  | replies.Ended a ↦ true
-  | replies.Put a ↦ true
-  | replies.Got a ↦ is_failed a
-  | replies.Acted a ↦ true
-  | replies.Changed ↦ true
-  | replies.Tried ↦ true
-  | replies.Triggered q ↦ true
-  | replies.Stopped by ↦ true
-]
-
-abbrev pub monitor_in : ℕ → List Monitor → Option Monitor
-monitor_in k [] = None
-monitor_in k (m ∷ ms) = if m.number == k then Some m else monitor_in k ms
-
--- the get of a monitor that is connected
-abbrev pub monitor_call : Option Hconn → Option Hobj → Option Call
-monitor_call None ho = None
-monitor_call (Some hc) None = None
-monitor_call (Some hc) (Some ho) = Some (calls.Mqget hc ho monitor_get None)
-
-abbrev pub call_of : Option Monitor → Option Call
-call_of None = None
-call_of (Some m) = monitor_call m.connection m.handle
-
-abbrev pub monitor_next : ℕ → Option Node → Option Call
-monitor_next k None = None
-monitor_next k (Some n) = call_of (monitor_in k n.own.monitors)
-
-abbrev pub monitor_deed : ℕ → Option Call → Option Node → Option Deed
-monitor_deed k None n = None
-monitor_deed k (Some call) n = deed_at (actors.Monitor k) call items.Nothing n
-
-abbrev pub monitor_idle : ℕ → Option Node → Bool
-monitor_idle k n = gets_nothing (monitor_deed k (monitor_next k n) n)
-
--- a turn that isn't idle: this get, by the monitor
-abbrev pub MonitorTurn : ℕ → Option Call → List Entry → Type 0
-MonitorTurn k call [] = ⊥
-MonitorTurn k call (e ∷ es) = (e.actor ≡ actors.Monitor k) × (Some e.call ≡ call) × AllTriggers es
-
--- the script that it begins
-abbrev pub begun_by : Network → ℕ → List Entry → Option ℕ
-begun_by w m [] = None
-begun_by w m (e ∷ es) = begins w.scenario m (w.done m) e.reply
-
-abbrev pub RunsBegun : Network → Option ℕ → (ℕ → List Entry) → Type 0
-RunsBegun w None seg = (m : ℕ) → seg m ≡ []
-RunsBegun w (Some script) seg = RunsScript w script None None (slice_get w.scenario.scripts script) seg
-
-abbrev pub EndsIdle : Network → (k m : ℕ) → (ℕ → List Entry) → Type 0
-EndsIdle w k m seg = (monitor_idle k (node_at w m) ≡ true) × ((n : ℕ) → seg n ≡ [])
-
--- at most so many turns, and fewer only where the next would be idle
-abbrev pub Serves : ℕ → Network → (k m : ℕ) → (ℕ → List Entry) → Type 0
-Serves zero w k m seg = (n : ℕ) → seg n ≡ []
-Serves (suc left) w k m seg =
-    EndsIdle w k m seg
-    ⊎ ((turn : List Entry) × (run : ℕ → List Entry) × (rest : ℕ → List Entry) × ((n : ℕ) → seg n ≡ alone_at m turn n ++ run n ++ rest n)
-    × (monitor_idle k (node_at w m) ≡ false) × MonitorTurn k (monitor_next k (node_at w m)) turn
-    × RunsBegun (later w (alone_at m turn)) (begun_by w m turn) run
-    × Serves left (later (later w (alone_at m turn)) run) k m rest)
-
--- PHASE: lines of its scripts, each at its script's manager, turns and timeouts of channel ends between them; then, script by
--- script, all lines that are left, as a RUN has them. No clock advances before that, so a get that waits was first tried at
--- the phase's moment, or when the script is finished.
-abbrev pub IsScriptOf : Option ScriptPart → ℕ → Type 0
-IsScriptOf None m = ⊥
-IsScriptOf (Some p) m = p.manager ≡ m
-
-abbrev pub IsInPhase : Network → List ℕ → ℕ → Call → Actor → Type 0
-IsInPhase w ks m call (actors.Script k) = Mem k ks × IsScriptOf (slice_get w.scenario.scripts k) m
-IsInPhase w ks m call (actors.Sender cable) = (call ≡ calls.Turn) ⊎ (call ≡ calls.Timeout)
-IsInPhase w ks m call (actors.Receiver cable) = call ≡ calls.Turn
-IsInPhase w ks m call _ = ⊥
-
-abbrev pub AllInPhase : Network → List ℕ → ℕ → List Entry → Type 0
-AllInPhase w ks m [] = Unit {0}
-AllInPhase w ks m (e ∷ es) = IsInPhase w ks m e.call e.actor × AllInPhase w ks m es
-
--- lines whose gets were first tried at this moment
-abbrev pub AreTried : ℕ → List ScriptLine → List Entry → Type 0
-AreTried moment ls [] = Unit {0}
-AreTried moment [] (e ∷ es) = ⊥
-AreTried moment (l ∷ ls) (e ∷ es) = (until_of e.call ≡ deadline moment (wait_of l)) × AreTried moment ls es
-
-abbrev pub ScriptTried : Network → ℕ → Option ScriptPart → (ℕ → List Entry) → Type 0
-ScriptTried w k None seg = ⊥
-ScriptTried w k (Some p) seg = AreTried (moment_of (node_at w p.manager)) (lines_left w k p) (by (is_script k) (mains (seg p.manager)))
-
-abbrev pub AllTried : Network → List ℕ → (ℕ → List Entry) → Type 0
-AllTried w [] seg = Unit {0}
-AllTried w (k ∷ ks) seg = ScriptTried w k (slice_get w.scenario.scripts k) seg × AllTried w ks seg
-
-abbrev pub moment_for : Network → Option ScriptPart → Option ℕ
-moment_for w None = None
-moment_for w (Some p) = Some (moment_of (node_at w p.manager))
-
--- the lines left of each script in turn; the first one of each may have been tried when the phase began
-abbrev pub FinishesAll : (begun : Network) → List ℕ → Network → (ℕ → List Entry) → Type 0
-FinishesAll begun [] w seg = (m : ℕ) → seg m ≡ []
-FinishesAll begun (k ∷ ks) w seg =
-    (first : ℕ → List Entry) × (rest : ℕ → List Entry) × ((m : ℕ) → seg m ≡ first m ++ rest m)
-    × RunsScript w k (moment_for begun (slice_get w.scenario.scripts k)) None (slice_get w.scenario.scripts k) first
-    × FinishesAll begun ks (later w first) rest
-
-pub record InPhase (w : Network) (ks : List ℕ) (seg : ℕ → List Entry) : Type 0 where
-  pub first : ℕ → List Entry
-  pub rest : ℕ → List Entry
-  pub parts : (m : ℕ) → seg m ≡ first m ++ rest m
-  pub between : (m : ℕ) → AllInPhase w ks m (mains (first m))
-  pub tried : AllTried w ks first
-  pub finished : FinishesAll w ks (later w first) rest
-
-abbrev pub has_connection : Option Hconn → Node → Bool
-has_connection None n = false
-has_connection (Some hc) n = elim (handles_connected hc n.manager) as (λ r. Bool) [ Ok c ↦ true | Err reason ↦ false ]
-
-abbrev pub is_live : Option Monitor → Node → Bool
-is_live None n = false
-is_live (Some m) n = has_connection m.connection n
-
--- What a step has, and whether it ended idle.
-abbrev pub monitor_live : ℕ → Option Node → Bool
-monitor_live k None = false
-monitor_live k (Some n) = is_live (monitor_in k n.own.monitors) n
-
-abbrev pub WatchesAt : Network → ℕ → Option MonitorLine → (ℕ → List Entry) → Type 0
-WatchesAt w k None seg = ⊥
-WatchesAt w k (Some l) seg = Watches k l (monitor_live k (node_at w l.manager)) (mains (seg l.manager)) × Alone l.manager seg
-
-abbrev pub ServesAt : Network → ℕ → ℕ → Option MonitorLine → (ℕ → List Entry) → Type 0
-ServesAt w k n None seg = ⊥
-ServesAt w k n (Some l) seg = Serves n w k l.manager seg
-
-abbrev pub HandlesAt : Network → ℕ → ℕ → Option RulesPart → (ℕ → List Entry) → Type 0
-HandlesAt w k n None seg = ⊥
-HandlesAt w k n (Some r) seg = Handles w k n r.manager seg
-
-abbrev pub handles_idle : ℕ → Option RulesPart → Network → Bool
-handles_idle k None w = false
-handles_idle k (Some r) w = handler_idle k (node_at w r.manager)
-
-abbrev pub StepIs : Network → Step → (ℕ → List Entry) → Type 0
-StepIs w (steps.Obey k) seg = ObeysSection (slice_get w.scenario.sections k) seg
-StepIs w (steps.Do m c) seg = AsksOnce (acts.Obey c) (mains (seg m)) × Alone m seg
-StepIs w (steps.Run k n) seg = RunsScript w k None n (slice_get w.scenario.scripts k) seg
-StepIs w (steps.Phase ks) seg = InPhase w ks seg
-StepIs w (steps.Pump n) seg = Pumped n w (later w seg)
-StepIs w (steps.Handle k n) seg = HandlesAt w k n (slice_get w.scenario.rules k) seg
-StepIs w (steps.Watch k) seg = WatchesAt w k (slice_get w.scenario.monitors k) seg
-StepIs w (steps.Serve k n) seg = ServesAt w k n (slice_get w.scenario.monitors k) seg
-StepIs w (steps.Crash m) seg = AsksOnce acts.Crash (mains (seg m)) × Alone m seg
-StepIs w (steps.Restart m) seg = AsksOnce acts.Restart (mains (seg m)) × Alone m seg
-StepIs w (steps.Cut m k) seg = AsksOnce (acts.Cut k) (mains (seg m)) × Alone m seg
-StepIs w (steps.Clock ms) seg = (m : ℕ) → m < length w.scenario.managers → AreClocks (ms ∷ []) (mains (seg m))
-
--- a mark is idle exactly where its step is a PUMP after which nothing can change, or a HANDLE whose next turn would be idle
-abbrev pub IsMark : Network → Step → (ℕ → List Entry) → Bool → Type 0
-IsMark w (steps.Pump n) seg idle = idle ≡ is_idle (later w seg)
-IsMark w (steps.Handle k n) seg idle = idle ≡ handles_idle k (slice_get w.scenario.rules k) (later w seg)
-IsMark w _ seg idle = idle ≡ false
-
--- Last come the restarts of managers that are down; one that a cut stops is done once more.
+-- A restart that a cut stops is done once more.
 abbrev pub is_cut : Reply → Bool
 is_cut (replies.Acted (acted.Start faults.Cut)) = true
 is_cut _ = false
 
-abbrev pub RestartsAgain : Bool → List Entry → Type 0
-RestartsAgain true es = AsksOnce acts.Restart es
-RestartsAgain false es = es ≡ []
+abbrev pub once_more : ℕ → Bool → List Task
+once_more m true = Ask m actors.Operator (calls.Act acts.Restart) ∷ []
+once_more m false = []
 
-abbrev pub RestartsOnce : List Entry → Type 0
-RestartsOnce [] = ⊥
-RestartsOnce (e ∷ es) = Asks acts.Restart e × RestartsAgain (is_cut e.reply) es
+-- The entry that a task may have next,
+abbrev pub Moves : Network → Task → ℕ → Entry → Type 0
+Moves w (Ask at actor call) m e = Is at actor call m e
+Moves w (Script k p tried most) m e = ⊥
+Moves w (Lines k p tried []) m e = ⊥
+Moves w (Lines k p tried (l ∷ ls)) m e = IsNext w k p tried l m e
+Moves w (Phase ts) m e = InPhase ts (w.done m) m e e.actor
+Moves w (Pump zero slot cable any) m e = ⊥
+Moves w (Pump (suc left) slot cable any) m e = PumpTakes w slot cable (slice_get w.scenario.cables cable) m e
+Moves w (Handle k at zero) m e = ⊥
+Moves w (Handle k at (suc left)) m e = Is at (actors.Handler k) calls.Turn m e
+Moves w (Serve k l zero) m e = ⊥
+Moves w (Serve k l (suc left)) m e = MonitorGets k l w m e
+Moves w (Watch k l) m e = (monitor_live k (node_at w l.manager) ≡ false) × Is l.manager (actors.Monitor k) (calls.Mqconn [] (script_appl l.label)) m e
+Moves w (Open k l hc) m e = Is l.manager (actors.Monitor k) (calls.Mqopen hc l.queue [] shared) m e
+Moves w (Restart at) m e = (is_up_at (node_at w at) ≡ false) × Is at actors.Operator (calls.Act acts.Restart) m e
 
-abbrev pub RestartsIf : Bool → List Entry → Type 0
-RestartsIf true es = es ≡ []
-RestartsIf false es = RestartsOnce es
+-- and what is left of the task after it.
+abbrev pub left_by : Network → Task → Entry → List Task
+left_by w (Ask at actor call) e = []
+left_by w (Script k p tried most) e = []
+left_by w (Lines k p tried []) e = []
+left_by w (Lines k p tried (l ∷ ls)) e = Lines k p None ls ∷ []
+left_by w (Phase ts) e = Phase ts ∷ []
+left_by w (Pump zero slot cable any) e = []
+left_by w (Pump (suc left) slot cable any) e = pump_on left slot cable true
+left_by w (Handle k at zero) e = []
+left_by w (Handle k at (suc left)) e = Handle k at left ∷ []
+left_by w (Serve k l zero) e = []
+left_by w (Serve k l (suc left)) e = begun w.scenario (begins w.scenario l.manager (w.done l.manager) e.reply) ++ Serve k l left ∷ []
+left_by w (Watch k l) e = opens k l e.reply
+left_by w (Open k l hc) e = gives_up k l hc (is_opened e.reply)
+left_by w (Restart at) e = once_more at (is_cut e.reply)
 
-abbrev pub LastRestarts : Network → (ℕ → List Entry) → Type 0
-LastRestarts w seg = (m : ℕ) → m < length w.scenario.managers → RestartsIf (is_up_at (node_at w m)) (mains (seg m))
+-- What takes a task's place where none comes: nothing, where it is at its end.
+abbrev pub Passes : Network → Task → List Task → Type 0
+Passes w (Ask at actor call) next = ⊥
+Passes w (Script k p tried most) next = next ≡ Lines k p tried (at_most most (lines_left w k p)) ∷ []
+Passes w (Lines k p tried []) next = next ≡ []
+Passes w (Lines k p tried (l ∷ ls)) next = Waits w k p tried l ls next
+Passes w (Phase ts) next = next ≡ []
+Passes w (Pump zero slot cable any) next = next ≡ []
+Passes w (Pump (suc left) slot cable any) next =
+    ((is_idle w ≡ true) × (next ≡ [])) ⊎ PumpSkips w (suc left) slot cable any (slice_get w.scenario.cables cable) next
+Passes w (Handle k at zero) next = next ≡ []
+Passes w (Handle k at (suc left)) next = (handler_idle k (node_at w at) ≡ true) × (next ≡ [])
+Passes w (Serve k l zero) next = next ≡ []
+Passes w (Serve k l (suc left)) next = (monitor_idle k (node_at w l.manager) ≡ true) × (next ≡ [])
+Passes w (Watch k l) next = (monitor_live k (node_at w l.manager) ≡ true) × (next ≡ [])
+Passes w (Open k l hc) next = ⊥
+Passes w (Restart at) next = (is_up_at (node_at w at) ≡ true) × (next ≡ [])
+
+-- no trigger is due at a manager
+abbrev pub none_due : Option Node → Bool
+none_due None = true
+none_due (Some n) = not (is_some (trigger_deed n))
+
+abbrev pub Served : Network → Type 0
+Served w = (m : ℕ) → none_due (node_at w m) ≡ true
+
+-- From a network with these tasks to another, with those that are left: entry by entry, in the order in which they were
+-- done. Each such list is a part of what the tasks ask; where none is left, it is the whole.
+pub data Goes (w0 : Network) (all : List Task) : Network → List Task → Type 0 where
+  stays : Goes w0 all w0 all
+  moves : (w : Network) (t : Task) (ts : List Task) (m : ℕ) (e : Entry) → Goes w0 all w (t ∷ ts) → Moves w t m e → Goes w0 all (does m (e ∷ []) w) (left_by w t e ++ ts)
+  serves : (w : Network) (ts : List Task) (m : ℕ) (e : Entry) → Goes w0 all w ts → e.call ≡ calls.Trigger → Goes w0 all (does m (e ∷ []) w) ts
+  passes : (w : Network) (t : Task) (next ts : List Task) → Goes w0 all w (t ∷ ts) → Served w → Passes w t next → Goes w0 all w (next ++ ts)
+
+-- trigger turns, behind the entry after which they are due
+abbrev pub AreTriggers : List Entry → Type 0
+AreTriggers [] = Unit {0}
+AreTriggers (e ∷ es) = (e.call ≡ calls.Trigger) × AreTriggers es

@@ -1,5 +1,5 @@
 -- Turns of channel ends over the cables of one thread, and when nothing can change.
-use Rattle.std.specs.Prelude.{ℕ, suc, ◌+◌, ◌-◌, min, ◌==◌, nat_le, Bool, true, false, not, ◌&&◌, ◌||◌, List, [], ◌∷◌, ◌++◌, Option, Some, None, length, is_some, slice_get}
+use Rattle.std.specs.Prelude.{ℕ, suc, ◌+◌, ◌-◌, min, ◌==◌, nat_le, Bool, true, false, not, ◌&&◌, ◌||◌, List, [], ◌∷◌, ◌++◌, if◌then◌else◌, Option, Some, None, length, is_some}
 use Rattle.mq_frame.specs.declared.frame.Frame.{Frame}
 use Rattle.mq_frame.specs.declared.frame.Seen.{Seen}
 use Rattle.mq_frame.specs.declared.frame.Seen.TheVariants as items
@@ -9,7 +9,6 @@ use Rattle.mq_history.specs.declared.calls.Actor.TheVariants as actors
 use Rattle.mq_history.specs.declared.calls.Call.{Call}
 use Rattle.mq_history.specs.declared.calls.Call.TheVariants as calls
 use Rattle.mq_history.specs.declared.calls.Entry.{Entry}
-use Rattle.mq_history.specs.declared.history.History.{History}
 use Rattle.mq_history.specs.declared.scenario.CableLine.{CableLine}
 use Rattle.mq_cable.specs.declared.fault.Fault.{Fault}
 use Rattle.mq_history.specs.declared.scenario.Scenario.{Scenario}
@@ -20,22 +19,28 @@ use Rattle.mq_spec_agents.specs.Agents.{stock}
 use Rattle.mq_spec_node.specs.Node.{Node, SenderEnd, ReceiverEnd, sender_end, receiver_end}
 use Rattle.mq_spec_node.specs.Deeds.{Deed}
 use Rattle.mq_spec_node.specs.Happens.{deed_of}
-use Rattle.mq_spec_node.specs.Replays.{after, opening_node}
-use Rattle.mq_spec_network.specs.Given.{surroundings}
+use Rattle.mq_spec_node.specs.Replays.{after}
 use Rattle.mq_spec_network.specs.Cables.{Lying, Offered, is_sender, is_receiver, by, offered_by, lying, at_once, due_after}
 
--- What the managers did so far, by place; all that a network is follows from it.
+-- The nodes with which the managers began, and what each did since, by place; all that a network is follows from it.
 pub record Network : Type 0 where
   pub scenario : Scenario
-  pub histories : List History
+  pub first : ℕ → Option Node
   pub done : ℕ → List Entry
 
-abbrev pub node_of : Scenario → ℕ → List Entry → Option History → Option Node
-node_of s m es None = None
-node_of s m es (Some h) = Some (after (opening_node (surroundings s m) h) es)
+abbrev pub node_of : Option Node → List Entry → Option Node
+node_of None es = None
+node_of (Some n) es = Some (after n es)
 
 abbrev pub node_at : Network → ℕ → Option Node
-node_at w m = node_of w.scenario m (w.done m) (slice_get w.histories m)
+node_at w m = node_of (w.first m) (w.done m)
+
+-- entries more at one manager
+abbrev pub more_at : ℕ → List Entry → (ℕ → List Entry) → ℕ → List Entry
+more_at m es done n = if n == m then done n ++ es else done n
+
+abbrev pub does : ℕ → List Entry → Network → Network
+does m es w = record w { done = more_at m es w.done }
 
 abbrev pub is_up_at : Option Node → Bool
 is_up_at None = false

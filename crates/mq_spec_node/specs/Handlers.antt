@@ -1,5 +1,5 @@
 -- Turns of the dead-letter handler.
-use Rattle.std.specs.Prelude.{ℕ, ◌+◌, ◌*◌, nat_le, Bool, true, false, not, ◌&&◌, List, [], ◌∷◌, ◌++◌, if◌then◌else◌, Option, Some, None, find, filter, slice_get, codes}
+use Rattle.std.specs.Prelude.{ℕ, ◌+◌, ◌*◌, nat_le, Bool, true, false, not, ◌&&◌, List, [], ◌∷◌, ◌++◌, if◌then◌else◌, Option, Some, None, length, find, filter, slice_get, codes}
 use Rattle.std.specs.Str.{bytes_eq}
 use Rattle.mq_codes.specs.declared.reason.Reason.{Reason}
 use Rattle.mq_message.specs.declared.message.Ident.{Ident}
@@ -90,10 +90,15 @@ tried_deed h own = told replies.Tried (with_handler h own)
 abbrev pub ignored : List ℕ → Ident → Handler → Own → Deed
 ignored queue ident h own = tried_deed (tried_as queue ident None 0 0 h) own
 
+-- the next rule that matches; where none is left, the place behind the last one, by which the next turn ignores the row
+abbrev pub next_rule : Table → Option ℕ → ℕ
+next_rule t None = length t.rules
+next_rule t (Some k) = k
+
 -- After a failed try the next one is due RETRYINT seconds later; after so many the next matching rule is in force at once.
 abbrev pub failed : List ℕ → Message → ℕ → Rule → ℕ → Handler → Plain → Own → Deed
 failed queue m k rule n h p own =
-    if nat_le rule.retries n then tried_deed (tried_as queue m.ident (matching h.table m (k + 1)) 0 0 h) own
+    if nat_le rule.retries n then tried_deed (tried_as queue m.ident (Some (next_rule h.table (matching h.table m (k + 1)))) 0 0 h) own
     else tried_deed (tried_as queue m.ident (Some k) n (p.moment + 1000 * h.table.retry_interval) h) own
 
 abbrev pub moved : List ℕ → Message → ℕ → Rule → ℕ → Handler → Plain → Own → Step Reason (Unit {0}) → Deed

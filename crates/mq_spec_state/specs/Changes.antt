@@ -6,7 +6,8 @@ use Rattle.mq_message.specs.declared.message.Message.{Message}
 use Rattle.mq_message.specs.declared.place.Holder.{Holder}
 use Rattle.mq_queue.specs.declared.row.Row.{Row}
 use Rattle.mq_queue.specs.Lanes.{lane_at}
-use Rattle.mq_queue.specs.Rows.{same_ident, insert_row, keep, retag, held_by}
+use Rattle.mq_queue.specs.Rows.{same_ident, insert_row, keep, retag, held_by, is_free}
+use Rattle.mq_queue.specs.Queues.{freed}
 use Rattle.mq_objects.specs.declared.object.LocalQueue.{LocalQueue}
 use Rattle.mq_objects.specs.Names.{local_of, is_by_priority}
 use Rattle.mq_objects.specs.Changed.{changed}
@@ -61,23 +62,17 @@ abbrev pub retag_if : Bool → Option Holder → Row → Row
 retag_if true by row = record row { by = by }
 retag_if false by row = row
 
+-- a free row is held
 abbrev pub held_in : Which → Holder → Queue → Queue
-held_in which by q = record q { rows = retag (λ (row : Row). retag_if (selects which q.name row) (Some by) row) q.rows }
-
-abbrev pub one_more : ℤ → ℤ
-one_more (pos n) = pos (n + 1)
-one_more (negsuc n) = pos 0
-
-abbrev pub counted_back : Bool → Row → Row
-counted_back true row = record row { message = record row.message { md = record row.message.md { backout_count = one_more row.message.md.backout_count } }; by = None }
-counted_back false row = record row { by = None }
+held_in which by q = record q { rows = retag (λ (row : Row). retag_if (selects which q.name row && is_free row) (Some by) row) q.rows }
 
 abbrev pub release_if : Bool → Bool → Row → Row
-release_if true counted row = counted_back counted row
+release_if true counted row = freed counted row
 release_if false counted row = row
 
+-- a held row is free again, and counts a backout or not
 abbrev pub released_in : Which → Bool → Queue → Queue
-released_in which counted q = record q { rows = retag (λ (row : Row). release_if (selects which q.name row) counted row) q.rows }
+released_in which counted q = record q { rows = retag (λ (row : Row). release_if (selects which q.name row && not (is_free row)) counted row) q.rows }
 
 abbrev pub uncounted : Row → Row
 uncounted row = record row { message = record row.message { md = record row.message.md { backout_count = pos 0 } } }
