@@ -1,3 +1,5 @@
+//! Completion codes: how a call ended.
+
 ghost use Rattle.std.specs.Prelude.{◌≡◌};
 
 /// How a call ended (IBM MQ reference, "API completion and reason codes").
@@ -14,7 +16,7 @@ pub enum Completion {
 impl Completion {
     ghost use Rattle.mq_codes.specs.Completions.{completion_number};
 
-    /// 0, 1 or 2.
+    /// The manual's number of the completion code: 0, 1 or 2.
     pub fn number(&self) -> u32
         ensures { result ≡ completion_number self.now }
     {

@@ -1,3 +1,5 @@
+//! Frames from a stream of bytes that comes in pieces.
+
 ghost use Rattle.std.specs.Prelude.{◌≡◌, ◌≤◌, ◌-◌, ◌++◌, [], ℕ, List, length, drop, IfOk, IfErr, IfSome, Err};
 ghost use Rattle.byteorder.specs.Endian.{big_number};
 ghost use Rattle.mq_frame.specs.Frames.{IsCut, IsPartial};

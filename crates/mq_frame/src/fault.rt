@@ -1,3 +1,5 @@
+//! Why bytes give no frame.
+
 ghost use Rattle.std.specs.Prelude.{◌≡◌};
 ghost use Rattle.mq_frame.specs.declared.fault.Stop.TheVariants as stops;
 
@@ -16,6 +18,7 @@ pub enum Miss {
 #[derive(Clone, Copy, Debug, PartialEq, Eq)]
 pub enum Stop {
     NoMemory,
+    /// The bytes are none, or not yet.
     Miss(Miss),
 }
 

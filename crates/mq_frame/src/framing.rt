@@ -1,3 +1,5 @@
+//! A frame from the front of some bytes.
+
 ghost use Rattle.std.specs.Prelude.{◌≡◌, ◌≤◌};
 ghost use Rattle.byteorder.specs.Endian.{big_bytes};
 ghost use Rattle.mq_frame.specs.Frames.{most_body};

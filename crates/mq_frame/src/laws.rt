@@ -1,3 +1,5 @@
+//! What holds of all frames, as functions with empty bodies whose contracts are the theorems.
+
 ghost use Rattle.std.specs.Prelude.{◌≡◌, ◌++◌, ℕ, List};
 ghost use Rattle.mq_frame.specs.declared.frame.Frame.{Frame};
 ghost use Rattle.mq_frame.specs.declared.frame.Seen.{Seen};

@@ -1,3 +1,5 @@
+//! Numbers, names and structures from the front of some bytes.
+
 ghost use Rattle.std.specs.Prelude.{◌≡◌, ◌≤◌, ◌<◌, ◌^◌, ◌-◌, ◌∷◌, [], length, take, drop, slice_index};
 ghost use Rattle.byteorder.specs.Endian.{big_bytes};
 ghost use Rattle.mq_name.specs.Name.{IsName};

@@ -1,3 +1,5 @@
+//! What an end of a channel sees of an item.
+
 ghost use Rattle.std.specs.Prelude.{◌≡◌, IfOk};
 ghost use Rattle.mq_frame.specs.Sight.{Shows};
 

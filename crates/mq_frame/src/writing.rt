@@ -1,3 +1,5 @@
+//! Frames as bytes.
+
 ghost use Rattle.std.specs.Prelude.{◌≡◌, ◌++◌, ◌∷◌, [], OnOk, IfOk, IfSome, length};
 ghost use Rattle.byteorder.specs.Endian.{big_bytes};
 ghost use Rattle.mq_frame.specs.Frames.{ident_bytes, deadline_bytes, dest_bytes, route_bytes, message_bytes, flag, kind_number, fields_bytes, content_bytes, frame_bytes, IsIdent, IsDest, IsMessage, IsKind, IsFrame, HasSpelling, HasWords};

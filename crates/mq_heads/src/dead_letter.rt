@@ -7,10 +7,10 @@ use crate::headers::Dlh;
 use mq_message::fields::{array_at, long_at, put_array, put_long};
 use mq_message::{HeadFault, id_fault};
 
-/// How many bytes the structure has.
+/// The length of an MQDLH of version 1, in bytes.
 pub const DLH_SIZE: usize = 172;
 
-/// The dead-letter header's bytes.
+/// The dead-letter header's bytes: the manual's layout, numbers highest byte first.
 pub fn dlh_to_bytes(header: &Dlh) -> [u8; 172]
     ensures bytes { result ≡ dlh_bytes header.now }
     // what is written is read back

@@ -9,10 +9,10 @@ use crate::headers::Xqh;
 use mq_message::fields::{array_at, put_array, put_long};
 use mq_message::{HeadFault, id_fault, md_of, md_to_bytes};
 
-/// How many bytes the structure has.
+/// The length of an MQXQH of version 1, in bytes.
 pub const XQH_SIZE: usize = 428;
 
-/// The transmission queue header's bytes.
+/// The transmission queue header's bytes: the manual's layout, numbers highest byte first.
 pub fn xqh_to_bytes(header: &Xqh) -> [u8; 428]
     ensures bytes { result ≡ xqh_bytes header.now }
     // what is written is read back

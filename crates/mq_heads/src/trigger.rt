@@ -7,10 +7,10 @@ use crate::headers::Tm;
 use mq_message::fields::{array_at, long_at, put_array, put_long};
 use mq_message::{HeadFault, id_fault};
 
-/// How many bytes the structure has.
+/// The length of an MQTM of version 1, in bytes.
 pub const TM_SIZE: usize = 684;
 
-/// The trigger message's bytes.
+/// The trigger message's bytes: the manual's layout, numbers highest byte first.
 pub fn tm_to_bytes(header: &Tm) -> [u8; 684]
     ensures bytes { result ≡ tm_bytes header.now }
     // what is written is read back

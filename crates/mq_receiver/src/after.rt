@@ -1,3 +1,5 @@
+//! The state after a turn.
+
 ghost use Rattle.std.specs.Prelude.{◌≡◌};
 ghost use Rattle.mq_receiver.specs.After.{bound_to, done_after, kept_kind, kind_last, last_by, number_bound, received, refused_after, receiver_after};
 

@@ -1,3 +1,5 @@
+//! Start, stop and restart of a receiver, the frame that it owes, and what is read of it.
+
 ghost use Rattle.std.specs.Prelude.{◌≡◌, option_copied};
 ghost use Rattle.mq_receiver.specs.States.{receiver_of, started, stopped, halted, numbered, is_bound, is_stopped, unit_begun, messages_came, owed_frame};
 

@@ -1,3 +1,5 @@
+//! The turn table: what a receiver does next.
+
 ghost use Rattle.std.specs.Prelude.{◌≡◌, false, is_some};
 ghost use Rattle.mq_frame.specs.declared.frame.Seen.TheVariants as items;
 ghost use Rattle.mq_receiver.specs.Table.{continued, ended, of_session, receiver_next};
@@ -8,8 +10,8 @@ use mq_frame::{Frame, FrameKind, Seen};
 use mq_sync::Unit;
 
 impl Receiver {
-    /// What the next turn does: the first line of the turn table that applies. `defined` says that the end's
-    /// definition is there.
+    /// What the next turn does: the first line of the turn table that applies (this project's choice). `defined`
+    /// says that the end's definition is there.
     pub fn next(&self, seen: &Seen, defined: bool) -> ReceiverDoes
         ensures { result ≡ receiver_next self.now seen.now defined }
     {

@@ -1,3 +1,5 @@
+//! What a turn of a receiver does, and what came of it.
+
 use mq_sync::Unit;
 
 /// What a receiver's turn does.
@@ -21,11 +23,12 @@ pub enum ReceiverDoes {
     Close,
 }
 
-/// What came of a turn. `Full` stands for a refused push, `Refused` for a batch that can't be placed, with the reason
-/// code; it goes with `Place` alone.
+/// What came of a turn.
 #[derive(Clone, Copy, Debug, PartialEq, Eq)]
 pub enum ReceiverOut {
     Done,
+    /// The cable refused the push.
     Full,
+    /// The batch can't be placed, for this reason code; it goes with `Place` alone.
     Refused(u32),
 }

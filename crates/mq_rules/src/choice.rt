@@ -1,3 +1,5 @@
+//! The first rule that a dead letter meets, and the names that its action stands for.
+
 ghost use Rattle.std.specs.Prelude.{◌≡◌, ◌≤◌, length, position, drop};
 ghost use Rattle.mq_rules.specs.Choice.{text_field, number_field, holds, matches, decision, target_name, name_in};
 
@@ -62,7 +64,7 @@ fn first_match(rules: &[Rule], md: &Md, dlh: &Dlh) -> Option<usize>
 }
 
 /// The number of the first rule that matches a dead letter, of those from a number on, counted from 0.
-/// It takes no memory.
+/// It takes no memory. Source: IBM MQ, "How the rules table is processed".
 pub fn decide(table: &Table, md: &Md, dlh: &Dlh, from: u32) -> Option<u32>
     ensures { result ≡ decision table.now.rules md.now dlh.now from }
 {

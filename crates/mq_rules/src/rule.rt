@@ -1,28 +1,41 @@
+//! What a rules table says. Source: IBM MQ, "The dead-letter queue handler rules table".
+
 use mq_base::Items;
 use mq_name::QName;
 
-/// A text that a rule tests. The destination and the format are those of the dead-letter header, the
-/// others those of the descriptor.
+/// A text that a rule tests.
 #[derive(Clone, Copy, Debug, PartialEq, Eq)]
 pub enum TextField {
+    /// APPLIDAT: the descriptor's ApplIdentityData.
     IdentityData,
+    /// APPLNAME: the descriptor's PutApplName.
     ApplicationName,
+    /// DESTQ: the header's DestQName.
     DestQueue,
+    /// DESTQM: the header's DestQMgrName.
     DestQueueManager,
+    /// FORMAT: the header's Format, that of the body behind it.
     Format,
+    /// REPLYQ: the descriptor's ReplyToQ.
     ReplyQueue,
+    /// REPLYQM: the descriptor's ReplyToQMgr.
     ReplyQueueManager,
+    /// USERID: the descriptor's UserIdentifier.
     UserIdentifier,
 }
 
-/// A number that a rule tests. The reason is that of the dead-letter header, the others are those of
-/// the descriptor.
+/// A number that a rule tests.
 #[derive(Clone, Copy, Debug, PartialEq, Eq)]
 pub enum NumberField {
+    /// APPLTYPE: the descriptor's PutApplType.
     ApplicationType,
+    /// FEEDBACK: the descriptor's Feedback.
     Feedback,
+    /// MSGTYPE: the descriptor's MsgType.
     MessageType,
+    /// PERSIST: the descriptor's Persistence.
     Persistence,
+    /// REASON: the header's Reason.
     Reason,
 }
 
@@ -40,52 +53,69 @@ pub enum Condition {
 #[derive(Clone, Copy)]
 pub enum Target {
     Name(QName),
+    /// `&DESTQ`: the header's DestQName.
     DestQueue,
+    /// `&DESTQM`: the header's DestQMgrName.
     DestQueueManager,
+    /// `&REPLYQ`: the descriptor's ReplyToQ.
     ReplyQueue,
+    /// `&REPLYQM`: the descriptor's ReplyToQMgr.
     ReplyQueueManager,
 }
 
-/// Where a message is forwarded, and whether it keeps its dead-letter header.
+/// Where a message is forwarded.
 #[derive(Clone, Copy)]
 pub struct Forward {
+    /// FWDQ.
     pub queue: Target,
+    /// FWDQM; the blank name is the handler's own manager.
     pub qmgr: Target,
+    /// HEADER: the message keeps its dead-letter header.
     pub header: bool,
 }
 
 /// What is done with a message that a rule matches.
 #[derive(Clone, Copy)]
 pub enum Action {
+    /// The message is removed.
     Discard,
+    /// It stays on the queue.
     Ignore,
+    /// It is put to its destination once more.
     Retry,
+    /// It is put elsewhere.
     Forward(Forward),
 }
 
-/// A rule: it matches where each of its conditions holds. `retries` is the number of failed tries
-/// after which the next matching rule is in force.
+/// A rule: it matches where each of its conditions holds.
 #[derive(Drop)]
 pub struct Rule {
     pub conditions: Items<Condition>,
     pub action: Action,
+    /// RETRY: after so many failed tries the next matching rule is in force; 1 to 999,999,999.
     pub retries: u32,
 }
 
-/// How long a handler waits for messages. It is kept and has no effect here.
+/// How long a handler waits for messages. It is kept and has no effect here (this project's choice).
 #[derive(Clone, Copy, Debug, PartialEq, Eq)]
 pub enum Wait {
+    /// For ever.
     Yes,
+    /// Not at all.
     No,
+    /// 0 to 999,999,999 seconds.
     Seconds(u32),
 }
 
-/// A rules table: the input queue, blank for the manager's dead-letter queue, the seconds between two
-/// tries, and the rules in order.
+/// A rules table.
 #[derive(Drop)]
 pub struct Table {
+    /// INPUTQ: the queue whose messages are handled; blank for the manager's dead-letter queue.
     pub input_q: QName,
+    /// RETRYINT: the seconds between two tries, 1 to 999,999,999.
     pub retry_interval: u32,
+    /// WAIT.
     pub wait: Wait,
+    /// In order; the first that matches is in force.
     pub rules: Items<Rule>,
 }

@@ -11,16 +11,18 @@ use crate::values::{name_or_blank, ranged, wait_of};
 use mq_name::QName;
 use mq_rules::Wait;
 
-/// What the control entry says: the input queue, blank for the dead-letter queue, the seconds between
-/// two tries, and how long the handler waits.
+/// What the control entry says.
 #[derive(Clone, Copy)]
 pub struct Control {
+    /// INPUTQ; blank for the manager's dead-letter queue.
     pub input_q: QName,
+    /// RETRYINT, 1 to 999,999,999 seconds.
     pub retry_interval: u32,
+    /// WAIT.
     pub wait: Wait,
 }
 
-/// What holds where there is no control entry.
+/// What holds where there is no control entry: the dead-letter queue, tries 60 seconds apart, WAIT(YES).
 pub fn default_control() -> Control
     ensures { result ≡ default_control }
 {
@@ -107,7 +109,11 @@ fn settled(own: &QName, pairs: &[Pair]) -> Result<Control, Flaw>
     Ok(control)
 }
 
-/// What the control entry says.
+/// What the control entry of the handler of a manager of that name says.
+///
+/// # Errors
+///
+/// `Keyword` or `Value`, the first that applies.
 #[tactic(auto, unfolding(crate::specs::Entries::control_of))]
 pub fn control_of(own: &QName, pairs: &[Pair]) -> Result<Control, Flaw>
     ensures { result ≡ control_of own.now pairs.now }

@@ -17,10 +17,15 @@ use std::alloc::Global;
 #[derive(Drop)]
 pub struct Draft {
     pub conditions: Items<Condition>,
+    /// ACTION.
     pub action: Option<Verb>,
+    /// FWDQ.
     pub queue: Option<Target>,
+    /// FWDQM, the blank name where it isn't given.
     pub qmgr: Target,
+    /// HEADER, YES where it isn't given.
     pub header: bool,
+    /// RETRY, 1 to 999,999,999, and 1 where it isn't given.
     pub retries: u32,
 }
 
@@ -129,6 +134,10 @@ fn finished(draft: Draft) -> Result<Rule, Flaw>
 }
 
 /// The rule that an entry says.
+///
+/// # Errors
+///
+/// The first that applies of `Keyword`, `Value`, `Action`, `Target`; `Memory`.
 #[tactic(auto, unfolding(crate::specs::Entries::rule_of))]
 pub fn rule_of(alloc: Global, pairs: &[Pair]) -> Result<Rule, Flaw>
     ensures { Reads result (rule_of pairs.now) }

@@ -1,3 +1,5 @@
+//! Why a text is no rules table.
+
 ghost use Rattle.std.specs.Prelude.{◌≡◌};
 ghost use Rattle.mq_rules_text.specs.Faults.{fault_at};
 
@@ -23,6 +25,7 @@ pub enum RulesFault {
     /// ACTION(FWD) without FWDQ.
     #[error("line {0}: ACTION(FWD) without FWDQ")]
     FwdqMissing(usize),
+    /// Memory ran out.
     #[error("out of memory")]
     NoMemory,
 }
@@ -30,11 +33,17 @@ pub enum RulesFault {
 /// What is wrong with an entry.
 #[derive(Clone, Copy, Debug, PartialEq, Eq)]
 pub enum Flaw {
+    /// It isn't a list of KEYWORD(value).
     Form,
+    /// A word that is no keyword of such an entry, or one given twice.
     Keyword,
+    /// A value that its keyword doesn't take.
     Value,
+    /// No ACTION.
     Action,
+    /// ACTION(FWD) without FWDQ.
     Target,
+    /// Memory ran out.
     Memory,
 }
 

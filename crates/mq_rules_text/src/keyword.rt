@@ -1,3 +1,5 @@
+//! The keywords of rules tables. Source: IBM MQ, "The dead-letter queue handler rules table".
+
 ghost use Rattle.std.specs.Prelude.{◌≡◌};
 ghost use Rattle.mq_rules_text.specs.Keywords.{text_word, number_word, word, keyword_of, is_control, same_keyword};
 
@@ -11,12 +13,17 @@ pub enum Keyword {
     /// A number that a rule tests.
     Number(NumberField),
     Action,
+    /// FWDQ.
     ForwardQueue,
+    /// FWDQM.
     ForwardManager,
     Header,
     Retry,
+    /// INPUTQ.
     InputQueue,
+    /// INPUTQM.
     InputManager,
+    /// RETRYINT.
     RetryInterval,
     Wait,
 }
@@ -93,7 +100,7 @@ fn word(keyword: Keyword) -> &'static str
     }
 }
 
-/// The keyword that a word is.
+/// The keyword that a word is, in upper case; None where it is none.
 #[tactic(auto, unfolding(crate::specs::Keywords::keyword_of))]
 pub fn keyword_of(text: &[u8]) -> Option<Keyword>
     ensures { result ≡ keyword_of text.now }

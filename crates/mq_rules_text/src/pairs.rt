@@ -1,3 +1,5 @@
+//! Entries as pairs of a keyword and its value.
+
 ghost use Rattle.std.specs.Prelude.{◌≡◌, option_copied};
 ghost use Rattle.std.specs.List.{list_any, list_all};
 ghost use Rattle.mq_rules_text.specs.Faults.{Reads};
@@ -9,9 +11,10 @@ use mq_base::Items;
 use mq_sc_lex::{Token, TokenKind};
 use std::alloc::Global;
 
-/// A word with the value behind it in brackets, and the keyword that the word is.
+/// A word with the value behind it in brackets.
 #[derive(Drop)]
 pub struct Pair {
+    /// The keyword that the word is, if it is one.
     pub keyword: Option<Keyword>,
     pub value: Items<u8>,
 }

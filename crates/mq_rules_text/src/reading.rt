@@ -1,3 +1,5 @@
+//! The rules table of a text, entry by entry.
+
 ghost use Rattle.std.specs.Prelude.{◌≡◌, ◌<◌, ◌^◌, length};
 ghost use Rattle.mq_text.specs.Lines.{lines_of};
 ghost use Rattle.mq_rules_text.specs.Faults.{Reads, Gives};

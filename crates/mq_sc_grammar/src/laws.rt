@@ -1,3 +1,5 @@
+//! The laws of texts and lines, as functions with empty bodies whose contracts are the theorems.
+
 ghost use Rattle.std.specs.Prelude.{◌≡◌, ◌⊎◌, ℕ, List, Ok, Err};
 ghost use Rattle.mq_sc_lex.specs.declared.token.Line.{Line};
 ghost use Rattle.mq_sc_lex.specs.declared.token.TokenKind.{TokenKind};

@@ -1,6 +1,6 @@
 -- What DISPLAY shows of an object, and the rules of the keyword tables: who defines an object of a kind may name what DISPLAY shows of
 -- it, what is kept without effect, and nothing else.
-use Rattle.std.specs.Prelude.{◌≡◌, ℕ, Bool, true, false, ◌||◌, Option, Some, None, List, [], ◌∷◌, codes, is_some}
+use Rattle.std.specs.Prelude.{◌≡◌, ℕ, Bool, true, false, not, ◌||◌, Option, Some, None, List, [], ◌∷◌, codes, is_some}
 use Rattle.std.specs.List.{list_all, list_any}
 use Rattle.std.specs.Str.{bytes_eq}
 use Rattle.mq_objects.specs.declared.setting.Keyword.{Keyword}
@@ -11,7 +11,7 @@ use Rattle.mq_sc_keys.specs.declared.keys.Key.TheVariants as keys
 use Rattle.mq_sc_keys.specs.declared.verbs.Verb.TheVariants as verbs
 use Rattle.mq_sc_keys.specs.declared.attributes.Kind.{Kind}
 use Rattle.mq_sc_keys.specs.declared.attributes.Kind.TheVariants as kinds
-use Rattle.mq_sc_keys.specs.Keys.{key_text, key_in}
+use Rattle.mq_sc_keys.specs.Keys.{key_text, key_in, group_of}
 use Rattle.mq_sc_keys.specs.Attributes.{attributes_of, key_of}
 
 -- what DISPLAY shows for a keyword: an attribute without effect is not shown
@@ -93,15 +93,24 @@ is_kept kind key = list_any (bytes_eq (key_text key)) (kept_words kind)
 abbrev pub knows : List Key → List ℕ → Bool
 knows table word = is_some (key_in table word)
 
--- each keyword is one that is shown or kept, and each that is kept is a keyword
+abbrev pub is_in : List Key → Key → Bool
+is_in table key = knows table (key_text key)
+
+-- the keywords that are another one's opposite or other spelling
+abbrev pub other_spellings : List Key
+other_spellings = keys.NoTrigger ∷ keys.TargQ ∷ keys.NoShare ∷ keys.NoHardenBo ∷ keys.NoReplace ∷ []
+
+-- a table that has a keyword has its other spelling
+abbrev pub goes_along : List Key → Key → Bool
+goes_along table other = not (is_in table (group_of other)) || is_in table other
+
+-- each keyword is one that is shown or kept; each that is kept is a keyword, and so is each other spelling of one
 pub record NoneElse (kind : Kind) (attributes : List Attribute) : Type 0 where
   pub named : list_all (λ (key : Key). is_shown attributes key || is_kept kind key) (attributes_of kind) ≡ true
   pub kept : list_all (knows (attributes_of kind)) (kept_words kind) ≡ true
+  pub spelled : list_all (goes_along (attributes_of kind)) other_spellings ≡ true
 
 -- ---- tables of several kinds
-
-abbrev pub is_in : List Key → Key → Bool
-is_in table key = knows table (key_text key)
 
 abbrev pub in_one_of : List (List Key) → Key → Bool
 in_one_of tables key = list_any (λ (table : List Key). is_in table key) tables

@@ -1,3 +1,5 @@
+//! Which keywords go with a verb and a kind of object.
+
 ghost use Rattle.std.specs.Prelude.{◌≡◌};
 ghost use Rattle.mq_sc_keys.specs.Attributes.{attributes_of, shown_of, options_of, named_by, key_of};
 
@@ -13,12 +15,15 @@ pub enum Kind {
     Local,
     Alias,
     Remote,
+    /// A channel whose type isn't given.
     Channel,
     Sender,
     Receiver,
     Process,
     Manager,
+    /// A queue of any kind, as DISPLAY QUEUE asks.
     Queue,
+    /// The state of channels, as DISPLAY CHSTATUS asks.
     Status,
 }
 
@@ -81,7 +86,8 @@ fn named_by(verb: Verb, kind: Kind) -> &'static [Key]
     }
 }
 
-/// The keyword of a command that a word is.
+/// The keyword of a command that a word is; None where the verb has no such keyword for this kind.
+/// Source: MQSC reference, DEFINE, ALTER, DISPLAY, RESET CHANNEL and RESOLVE CHANNEL.
 #[tactic(auto, unfolding(crate::specs::Attributes::key_of))]
 pub fn key_of(verb: Verb, kind: Kind, word: &[u8]) -> Option<Key>
     ensures { result ≡ key_of verb kind word.now }

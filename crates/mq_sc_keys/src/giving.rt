@@ -1,3 +1,5 @@
+//! What a keyword with its value gives an object: the ranges of all attributes.
+
 ghost use Rattle.std.specs.Prelude.{◌≡◌, IfOk};
 ghost use Rattle.mq_objects.specs.declared.setting.Setting.TheVariants as settings;
 ghost use Rattle.mq_sc_keys.specs.declared.giving.Given.TheVariants as given;
@@ -21,6 +23,7 @@ pub enum Given {
     Bad,
     /// No attribute: REPLACE, NOREPLACE, FORCE.
     Nothing,
+    /// An attribute with its value.
     Setting(Setting),
 }
 
@@ -150,7 +153,12 @@ fn given_beside_queues(alloc: Global, key: Key, value: &Value) -> Result<Given, 
     }
 }
 
-/// What a keyword gives with its value.
+/// What a keyword gives with its value. Source: MQSC reference, DEFINE QLOCAL, DEFINE QALIAS, DEFINE
+/// QREMOTE, DEFINE CHANNEL, DEFINE PROCESS and ALTER QMGR; the subset is this project's choice.
+///
+/// # Errors
+///
+/// No memory. A value that the keyword may not have is `Bad`.
 pub fn given_of(alloc: Global, kind: Kind, key: Key, value: &Value) -> Result<Given, AllocError>
     ensures { IfOk result (λ g. g ≡ given_of kind key value.now) }
 {

@@ -1,3 +1,5 @@
+//! The keywords, and those of each kind of object. Source: MQSC reference.
+
 ghost use Rattle.std.specs.Prelude.{◌≡◌, find};
 ghost use Rattle.std.specs.Str.{bytes_eq};
 ghost use Rattle.mq_sc_keys.specs.Keys.{key_text, text_beside_queues, text_without_effect, group_of, key_in};

@@ -1,3 +1,5 @@
+//! What DISPLAY shows for a keyword, and rules over the tables of keywords.
+
 ghost use Rattle.std.specs.Prelude.{◌≡◌, ℕ, Bool, List, [], ◌∷◌};
 ghost use Rattle.mq_objects.specs.declared.object.LocalQueue.{LocalQueue};
 ghost use Rattle.mq_objects.specs.declared.object.AliasQueue.{AliasQueue};
@@ -71,8 +73,9 @@ pub fn shown_attributes_are_known()
     ensures manager { (m : ManagerAttributes) → AllKnown kinds.Manager (manager_attributes m) }
 {}
 
-/// Where an object of a kind is defined, no keyword is known but those that DISPLAY shows, with their
-/// other spellings, and those that are kept without effect; each of these is known.
+/// Where an object of a kind is defined, no keyword is known but those that DISPLAY shows and those that
+/// are kept without effect, in any spelling; each that is kept is known, and each other spelling of a
+/// known one.
 pub fn known_keywords_are_shown_or_kept()
     ensures local { (q : LocalQueue) → NoneElse kinds.Local (local_attributes q) }
     ensures alias { (q : AliasQueue) → NoneElse kinds.Alias (alias_attributes q) }

@@ -1,8 +1,11 @@
+//! What stands behind a keyword.
+
 use mq_base::Items;
 
 /// What stands in brackets behind a keyword.
 #[derive(Drop)]
 pub enum Value {
+    /// No brackets stand there.
     Absent,
     /// One word or one quoted text.
     Text(Items<u8>),

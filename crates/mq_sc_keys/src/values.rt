@@ -1,3 +1,5 @@
+//! Numbers, names, texts and words that values are.
+
 ghost use Rattle.std.specs.Prelude.{◌≡◌, ◌<◌, ◌≤◌, ◌^◌, IfOk, IfSome};
 ghost use Rattle.std.specs.Prelude.{codes};
 ghost use Rattle.mq_text.specs.Numbers.{number_in};
@@ -21,7 +23,7 @@ fn number_of(text: &[u8], low: u32, high: u32) -> Option<u32>
     }
 }
 
-/// A number from `low` to `high`.
+/// A number from `low` to `high`; None where the value is none.
 pub fn number_value(value: &Value, low: u32, high: u32) -> Option<u32>
     ensures number { result ≡ number_value low high value.now }
     ensures within { IfSome result (λ n. n ≤ high) }
@@ -81,6 +83,10 @@ fn short_text(alloc: Global, text: &Items<u8>, most: usize) -> Result<Option<Ite
 }
 
 /// A text as it is given, of at most so many bytes.
+///
+/// # Errors
+///
+/// No memory. None where the value is no such text.
 pub fn text_value(
     alloc: Global,
     value: &Value,
@@ -106,7 +112,7 @@ fn choice_of(text: &[u8], yes: &[u8], no: &[u8]) -> Option<bool>
     None
 }
 
-/// Which of two words.
+/// Which of two words: whether it is the first; None where it is neither.
 pub fn choice_value(value: &Value, yes: &[u8], no: &[u8]) -> Option<bool>
     ensures { result ≡ choice_value yes.now no.now value.now }
 {

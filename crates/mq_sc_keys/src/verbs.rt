@@ -1,7 +1,9 @@
+//! The verbs, the objects, and which go together.
+
 ghost use Rattle.std.specs.Prelude.{◌≡◌, find, true, Some};
 ghost use Rattle.mq_sc_keys.specs.Verbs.{verb_text, verb_short, object_text, object_short, takes, is_verb, is_object, verb_of, object_of};
 
-/// The first word of a command.
+/// The first word of a command. Source: MQSC reference.
 #[derive(Clone, Copy, Debug, PartialEq, Eq)]
 pub enum Verb {
     Define,
@@ -14,7 +16,7 @@ pub enum Verb {
     Resolve,
 }
 
-/// What a command is on.
+/// What a command is on. Source: MQSC reference.
 #[derive(Clone, Copy, Debug, PartialEq, Eq)]
 pub enum Noun {
     Local,
@@ -23,10 +25,13 @@ pub enum Noun {
     Channel,
     Process,
     Manager,
+    /// Queues of any kind.
     Queue,
+    /// The state of channels.
     Status,
 }
 
+/// Every verb.
 pub const VERBS: [Verb; 8] = [
     Verb::Define,
     Verb::Alter,
@@ -38,6 +43,7 @@ pub const VERBS: [Verb; 8] = [
     Verb::Resolve,
 ];
 
+/// Every object.
 pub const NOUNS: [Noun; 8] = [
     Noun::Local,
     Noun::Alias,
@@ -141,7 +147,7 @@ fn is_object(verb: Verb, noun: Noun, word: &[u8]) -> bool
     takes(verb, noun) && (noun.text() == word || noun.short() == word)
 }
 
-/// The verb that a word is.
+/// The verb that a word is, in upper case, in full or short; None where it is none.
 #[tactic(auto, unfolding(crate::specs::Verbs::verb_of))]
 pub fn verb_of(word: &[u8]) -> Option<Verb>
     ensures { result ≡ verb_of word.now }
@@ -149,7 +155,8 @@ pub fn verb_of(word: &[u8]) -> Option<Verb>
     VERBS.iter().copied().find(|verb| is_verb(*verb, word))
 }
 
-/// The object that a word names behind a verb.
+/// The object that a word names behind a verb, in upper case, in full or short; None where none goes
+/// with the verb.
 #[tactic(auto, unfolding(crate::specs::Verbs::object_of))]
 pub fn object_of(verb: Verb, word: &[u8]) -> Option<Noun>
     ensures { result ≡ object_of verb word.now }

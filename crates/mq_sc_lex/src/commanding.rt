@@ -1,3 +1,5 @@
+//! The commands of a text.
+
 ghost use Rattle.std.specs.Prelude.{◌≡◌, length};
 ghost use Rattle.mq_sc_lex.specs.Tokens.{commands_of_marks};
 ghost use Rattle.mq_sc_lex.specs.Commands.{commands_of_lines, commands_of, Gives};
@@ -12,7 +14,11 @@ use std::alloc::Global;
 /// The commands of a text in order.
 pub type Lines = Items<Line>;
 
-/// The commands of one joined line.
+/// The commands of one joined line, parted by semicolons.
+///
+/// # Errors
+///
+/// `OpenQuote` with the line of the first quote that isn't closed; `NoMemory`.
 pub fn line_commands(alloc: Global, marks: &[Mark]) -> Result<Lines, LexFault>
     ensures { Gives result (commands_of_marks marks.now) }
 {

@@ -1,3 +1,5 @@
+//! Why a text has no commands.
+
 ghost use Rattle.std.specs.Prelude.{◌≡◌};
 ghost use Rattle.mq_sc_lex.specs.declared.fault.LexFault.TheVariants.{NoMemory};
 
@@ -13,6 +15,7 @@ pub enum LexFault {
     /// The last line goes on, and no line follows.
     #[error("the last line is continued")]
     OpenContinuation,
+    /// Memory ran out.
     #[error("out of memory")]
     NoMemory,
 }

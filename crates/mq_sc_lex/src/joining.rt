@@ -1,3 +1,5 @@
+//! Physical lines joined where they go on, each byte with its place.
+
 ghost use Rattle.std.specs.Prelude.{◌≡◌, ◌+◌, ◌<◌, ◌≤◌, ◌++◌, ◌^◌, length, take, drop, OnOk, IfOk};
 ghost use Rattle.std.specs.List.{prefix_len};
 ghost use Rattle.mq_sc_lex.specs.Joining.{is_blank, is_comment, ending_of, body_of, passed, marks_from, part_of, line_added, finished, IsTrimmed, joined_of};
@@ -7,12 +9,15 @@ use mq_text::next_line;
 use std::alloc::{AllocError, Global};
 use std::mem;
 
-/// A byte, the line on which it stands, counted from 1, and its place in the text, from `start` up to `end`.
+/// A byte of a text, with its place.
 #[derive(Clone, Copy, Debug, PartialEq, Eq)]
 pub struct Mark {
     pub byte: u8,
+    /// The physical line on which it stands, counted from 1.
     pub line: usize,
+    /// Its place in the text, counted from 0.
     pub start: usize,
+    /// The place behind it.
     pub end: usize,
 }
 
@@ -31,6 +36,7 @@ pub enum Ending {
 #[derive(Drop)]
 pub struct Joined {
     pub lines: Items<Items<Mark>>,
+    /// The last of them ends with a sign, and no line follows.
     pub unfinished: bool,
 }
 
@@ -188,7 +194,12 @@ impl Joining {
     }
 }
 
-/// The lines that the physical lines of a text make.
+/// The lines that the physical lines of a text make, comments left out. Source: MQSC reference, "Rules
+/// for using MQSC commands".
+///
+/// # Errors
+///
+/// No memory.
 pub fn join_lines(alloc: Global, text: &[u8]) -> Result<Joined, AllocError>
     ensures { IfOk result (λ j. j ≡ joined_of text.now) }
 {

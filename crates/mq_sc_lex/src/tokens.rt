@@ -1,3 +1,5 @@
+//! The tokens of a joined line.
+
 ghost use Rattle.std.specs.Prelude.{◌≡◌, ◌<◌, ◌≤◌, ◌++◌, ◌∷◌, [], length, slice_get, IfOk, OnOk};
 ghost use Rattle.mq_sc_lex.specs.Tokens.{bytes_of, slice_of, span_of, line_at, meaning_of, meaning_added, numbered, commands_of_marks, GivesPieces};
 ghost use Rattle.mq_text.specs.Pieces.{pieces_of, AreSlices};
@@ -14,6 +16,7 @@ use std::mem;
 /// What a piece of a line means to its command.
 #[derive(Drop)]
 pub enum Meaning {
+    /// It is a token.
     Token(TokenKind),
     /// It only parts words.
     Gap,

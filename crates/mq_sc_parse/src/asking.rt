@@ -1,3 +1,5 @@
+//! What the keywords of a command give, and what those of DISPLAY ask.
+
 ghost use Rattle.std.specs.Prelude.{◌≡◌, IfOk};
 ghost use Rattle.mq_sc_parse.specs.Asking.{given_item, settings_of, asked_key, asked_item, asked_of, Gives};
 
@@ -15,6 +17,7 @@ pub enum Asked {
     Bad,
     /// Nothing of its own: ALL.
     Nothing,
+    /// To show this one.
     Keyword(Keyword),
 }
 

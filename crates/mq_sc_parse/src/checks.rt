@@ -1,3 +1,5 @@
+//! Whose attributes a command names, and keywords that are unknown, repeated or missing.
+
 ghost use Rattle.std.specs.Prelude.{◌≡◌, find, option_copied, codes};
 ghost use Rattle.std.specs.List.{list_any};
 ghost use Rattle.std.specs.Str.{bytes_eq};

@@ -1,3 +1,5 @@
+//! What a command is.
+
 use mq_name::ChName;
 use mq_sync::Settle;
 
@@ -6,16 +8,24 @@ use mq_sync::Settle;
 pub enum Op {
     Start(ChName),
     Stop(ChName),
-    /// RESET with its sequence number.
+    /// RESET with its sequence number, 0 to 999,999,999.
     Reset(ChName, u32),
+    /// RESOLVE with its ACTION.
     Resolve(ChName, Settle),
 }
 
-/// An MQSC command.
+/// An MQSC command (MQSC reference).
 #[derive(Drop)]
 pub enum Command {
+    /// DEFINE, ALTER, DELETE or DISPLAY of objects.
     Objects(mq_objects::Command),
+    /// START, STOP, RESET or RESOLVE of a channel's end.
     Operate(Op),
     /// DISPLAY CHSTATUS of a name, or of each that begins so.
-    ShowStatus { name: ChName, any_end: bool },
+    ShowStatus {
+        /// The name, or the beginning of one, which may be blank.
+        name: ChName,
+        /// A `*` stood behind it.
+        any_end: bool,
+    },
 }

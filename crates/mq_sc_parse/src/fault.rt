@@ -1,3 +1,5 @@
+//! Why a line is no command.
+
 ghost use Rattle.std.specs.Prelude.{◌≡◌};
 ghost use Rattle.mq_sc_parse.specs.declared.fault.ScFault.TheVariants.{NoMemory};
 
@@ -9,6 +11,7 @@ use thiserror::Error;
 /// told, and of one cause the first place.
 #[derive(Clone, Copy, Debug, PartialEq, Eq, Error)]
 pub enum ScFault {
+    /// The first word is no verb.
     #[error("unknown verb at {0:?}")]
     UnknownVerb(Span),
     /// No object that goes with the verb.
@@ -26,6 +29,7 @@ pub enum ScFault {
     /// A value that the keyword may not have; a keyword that is needed is missing (at the last token).
     #[error("a bad value at {0:?}")]
     BadValue(Span),
+    /// Memory ran out.
     #[error("out of memory")]
     NoMemory,
 }

@@ -1,3 +1,5 @@
+//! The name behind an object, and what it means.
+
 ghost use Rattle.std.specs.Prelude.{◌≡◌, ◌-◌, length, slice_get, IfOk};
 ghost use Rattle.std.specs.Option.{option_map};
 ghost use Rattle.mq_sc_keys.specs.declared.value.Value.TheVariants.{Text};
@@ -13,11 +15,14 @@ use mq_sc_keys::{Noun, Value, are_blanks};
 use mq_sc_lex::{Span, Token};
 use std::alloc::{AllocError, Global};
 
-/// The name that stands behind an object, its place, and how many tokens it takes with its brackets.
+/// The name that stands behind an object.
 #[derive(Drop)]
 pub struct Named {
+    /// It isn't blank; empty for the manager, which has none.
     pub text: Items<u8>,
+    /// Where it stands.
     pub span: Span,
+    /// How many tokens it takes with its brackets.
     pub len: usize,
 }
 
@@ -25,6 +30,7 @@ pub struct Named {
 #[derive(Drop)]
 pub struct Pattern {
     pub text: Items<u8>,
+    /// Names that begin so are meant.
     pub any_end: bool,
 }
 

@@ -1,3 +1,5 @@
+//! The command of a line of tokens.
+
 ghost use Rattle.std.specs.Prelude.{◌≡◌, ◌-◌, length, slice_get};
 ghost use Rattle.mq_sc_parse.specs.Asking.{Gives};
 ghost use Rattle.mq_sc_parse.specs.Parsing.{first_span, second_span, last_span, first_word, second_word, behind, fault_of, asked_or_all, define_of, alter_manager_of, alter_object_of, alter_of, delete_of, show_objects, show_status, status_named, show_named, display_named, display_of, is_status, start_of, stop_of, number_of, reset_of, settle_of, resolve_of, command_of, checked_command, parse_of};

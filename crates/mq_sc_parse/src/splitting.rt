@@ -1,3 +1,5 @@
+//! The tokens behind an object as keywords with their values.
+
 ghost use Rattle.std.specs.Prelude.{◌≡◌, ◌+◌, ◌≤◌, position, length, IfOk, if◌then◌else◌};
 ghost use Rattle.std.specs.List.{position_or_len};
 ghost use Rattle.mq_sc_keys.specs.declared.value.Value.TheVariants.{Text, Absent};
@@ -11,7 +13,9 @@ use std::alloc::{AllocError, Global};
 /// A keyword of a command, as it is written, and its value. A token that can't be a keyword has no word.
 #[derive(Drop)]
 pub struct Item {
+    /// In upper case.
     pub word: Items<u8>,
+    /// Where the word stands.
     pub span: Span,
     pub value: Value,
 }

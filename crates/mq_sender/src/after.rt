@@ -1,3 +1,5 @@
+//! The state after a turn.
+
 ghost use Rattle.std.specs.Prelude.{◌≡◌};
 ghost use Rattle.mq_sender.specs.After.{settled, agreed, done_after, number_sent, sender_after};
 

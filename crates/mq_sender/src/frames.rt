@@ -1,3 +1,5 @@
+//! The frames that a sender pushes.
+
 ghost use Rattle.std.specs.Prelude.{◌≡◌};
 ghost use Rattle.mq_sender.specs.After.{number_next};
 ghost use Rattle.mq_sender.specs.Frames.{bind_frame, message_frame, end_frame};

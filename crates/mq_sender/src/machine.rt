@@ -1,3 +1,5 @@
+//! Start, stop and timeout of a sender, and what is read of it.
+
 ghost use Rattle.std.specs.Prelude.{◌≡◌};
 ghost use Rattle.mq_sender.specs.States.{new_sender, started, stopped, halted, is_running, awaits, timed_out, unit_begun};
 

@@ -1,3 +1,5 @@
+//! The turn table: what a sender does next.
+
 ghost use Rattle.std.specs.Prelude.{◌≡◌, ◌+◌, ◌^◌, ◌<◌, min};
 ghost use Rattle.mq_frame.specs.declared.frame.Seen.TheVariants as items;
 ghost use Rattle.mq_sync.specs.declared.data.Stock.{Stock as StockValue};
@@ -9,8 +11,8 @@ use mq_frame::{Frame, FrameKind, Seen};
 use mq_sync::{Settle, Stock, Unit, settle_of};
 
 impl Sender {
-    /// What the next turn does: the first line of the turn table that applies. The numbers of sessions and units
-    /// have room for one more.
+    /// What the next turn does: the first line of the turn table that applies (this project's choice). The numbers
+    /// of sessions and units have room for one more.
     pub fn next(&self, seen: &Seen, stock: &Stock) -> SenderDoes
         requires sessions { self.now.kept.session + 1 < 2 ^ 64 }
         requires units { self.now.begun + 1 < 2 ^ 64 }

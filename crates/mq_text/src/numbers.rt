@@ -1,3 +1,5 @@
+//! Decimal numbers within a range.
+
 ghost use Rattle.std.specs.Prelude.{◌≡◌, ◌<◌, ◌≤◌, ◌-◌, ◌^◌, min, IfOk};
 ghost use Rattle.std.specs.List.{list_all};
 ghost use Rattle.mq_text.specs.Numbers.{is_digit, is_number, value_of, is_negative, small_negative, number_in, signed_of};
@@ -7,6 +9,7 @@ use thiserror::Error;
 /// Why a text is no number of a range.
 #[derive(Clone, Copy, Debug, PartialEq, Eq, Error)]
 pub enum NumberFault {
+    /// Not decimal digits, with or without a minus in front.
     #[error("not a number")]
     NoNumber,
     /// A number, but not in the range, however many digits it has.
@@ -57,7 +60,11 @@ fn value_of(text: &[u8]) -> u64
     value
 }
 
-/// The number that a text is, from `low` to `high`.
+/// The number that a text is, from `low` to `high`: decimal digits, leading zeros allowed.
+///
+/// # Errors
+///
+/// `OutOfRange` where it is a number outside the range, or one with a minus; else `NoNumber`.
 #[tactic(auto, unfolding(crate::specs::Numbers::number_in))]
 pub fn number(text: &[u8], low: u64, high: u64) -> Result<u64, NumberFault>
     requires { high < 2 ^ 64 - 1 }
@@ -87,7 +94,11 @@ fn negative(value: u64) -> Result<i32, NumberFault>
     Ok((-(value as i64)) as i32)
 }
 
-/// The number that a text is, with a minus or without, in 32 bits.
+/// The number that a text is, with a minus or without, in 32 signed bits.
+///
+/// # Errors
+///
+/// `OutOfRange` where it is a number outside these; else `NoNumber`.
 #[tactic(auto, unfolding(crate::specs::Numbers::signed_of))]
 pub fn signed(text: &[u8]) -> Result<i32, NumberFault>
     ensures { result ≡ signed_of text.now }

@@ -1,3 +1,5 @@
+//! Words, texts in quotes, brackets, commas and semicolons of a text.
+
 ghost use Rattle.std.specs.Prelude.{◌≡◌, ◌+◌, ◌<◌, ◌≤◌, length, position, IfOk};
 ghost use Rattle.std.specs.List.{position_or_len};
 ghost use Rattle.mq_text.specs.Pieces.{is_break, front_of, pieces_of, FrontFits, Gives, AreSlices};
@@ -15,17 +17,21 @@ pub enum PieceKind {
     Word,
     /// Text in single quotes, which are part of the piece.
     Quoted,
+    /// An opening bracket.
     Open,
+    /// A closing bracket.
     Close,
     Comma,
     Semicolon,
 }
 
-/// A piece of a text: the bytes from `start` up to `end`.
+/// A piece of a text: its bytes, of which there is one at least.
 #[derive(Clone, Copy, Debug, PartialEq, Eq)]
 pub struct Piece {
     pub kind: PieceKind,
+    /// The place of the first byte, counted from 0.
     pub start: usize,
+    /// The place behind the last byte.
     pub end: usize,
 }
 
@@ -34,7 +40,7 @@ pub struct Piece {
 pub enum Front {
     /// A blank.
     Gap,
-    /// A piece and its length.
+    /// A piece and its length in bytes.
     Piece(PieceKind, usize),
     /// A quote that nothing closes.
     Unclosed,
@@ -43,9 +49,10 @@ pub enum Front {
 /// Why a text has no pieces.
 #[derive(Clone, Copy, Debug, PartialEq, Eq, Error)]
 pub enum PieceFault {
-    /// The quote at this place is not closed.
+    /// The quote at this place, counted from 0, is not closed.
     #[error("the quote at byte {0} is not closed")]
     OpenQuote(usize),
+    /// Memory ran out.
     #[error("out of memory")]
     NoMemory,
 }
@@ -98,7 +105,12 @@ fn front_of(bytes: &[u8]) -> Front
     }
 }
 
-/// The pieces of a text in order. Blanks part them and are none.
+/// The pieces of a text in order. Blanks part them and are none. Source: MQSC reference, "Rules for
+/// using MQSC commands".
+///
+/// # Errors
+///
+/// `OpenQuote` with the first quote that isn't closed; `NoMemory`.
 pub fn pieces(alloc: Global, text: &[u8]) -> Result<Items<Piece>, PieceFault>
     ensures exact { Gives result (pieces_of text.now) }
     ensures slices { IfOk result (λ ps. AreSlices 0 ps (length text.now)) }

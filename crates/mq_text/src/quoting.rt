@@ -1,3 +1,5 @@
+//! Texts in single quotes, and the folding of letters.
+
 ghost use Rattle.std.specs.Prelude.{◌≡◌, ◌<◌, ◌≤◌, length, IfOk, IfSome};
 ghost use Rattle.std.specs.Str.{str_to_ascii_uppercase};
 ghost use Rattle.mq_text.specs.Quoting.{quoted_len, undoubled, unquoted};
@@ -5,7 +7,8 @@ ghost use Rattle.mq_text.specs.Quoting.{quoted_len, undoubled, unquoted};
 use mq_base::Items;
 use std::alloc::{AllocError, Global};
 
-/// Behind an opening quote: how many bytes there are up to the closing one and with it.
+/// Behind an opening quote: how many bytes there are up to the closing one and with it; None where
+/// nothing closes it.
 pub fn quoted_len(bytes: &[u8]) -> Option<usize>
     ensures len { result ≡ quoted_len bytes.now }
     ensures within { IfSome result (λ n. n ≤ length bytes.now) }
@@ -43,7 +46,11 @@ fn undoubled(alloc: Global, bytes: &[u8]) -> Result<Items<u8>, AllocError>
     Ok(text)
 }
 
-/// The text of a piece in quotes.
+/// The text of a piece in quotes, which begins with its opening quote. Two quotes in it stand for one.
+///
+/// # Errors
+///
+/// No memory.
 pub fn unquoted(alloc: Global, piece: &[u8]) -> Result<Items<u8>, AllocError>
     ensures { IfOk result (λ t. t ≡ unquoted piece.now) }
 {
@@ -53,7 +60,11 @@ pub fn unquoted(alloc: Global, piece: &[u8]) -> Result<Items<u8>, AllocError>
     }
 }
 
-/// The bytes with `a` to `z` as `A` to `Z`.
+/// The bytes with `a` to `z` as `A` to `Z`; all others stay.
+///
+/// # Errors
+///
+/// No memory.
 pub fn upper(alloc: Global, bytes: &[u8]) -> Result<Items<u8>, AllocError>
     ensures { IfOk result (λ t. t ≡ str_to_ascii_uppercase bytes.now) }
 {
