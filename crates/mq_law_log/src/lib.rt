@@ -1,0 +1,111 @@
+//! What an image of a manager's log is: what of its state lasts, what each record does, and that each
+//! part of a call does to what lasts what its forced record says. So a crash at any moment leaves the
+//! image before the part or the one behind it, and a restart has just this image.
+#![tactic(auto)]
+
+ghost use Rattle.std.specs.Prelude.{◌≡◌, ℕ, ◌==◌, nat_lt, Bool, true, false, List, [], ◌∷◌, ◌++◌, Option, None, Ok, length};
+ghost use Rattle.std.specs.List.{AllByRecursion};
+ghost use Rattle.mq_message.specs.declared.message.Dest.{Dest};
+ghost use Rattle.mq_message.specs.declared.message.Md.{Md};
+ghost use Rattle.mq_message.specs.declared.message.Message.{Message};
+ghost use Rattle.mq_message.specs.declared.place.Holder.TheVariants as holders;
+ghost use Rattle.mq_queue.specs.declared.row.Row.{Row};
+ghost use Rattle.mq_objects.specs.declared.object.Definitions.{Definitions};
+ghost use Rattle.mq_objects.specs.declared.object.ManagerAttributes.{ManagerAttributes};
+ghost use Rattle.mq_sync.specs.declared.unit.Unit.{Unit as Luw};
+ghost use Rattle.mq_sync.specs.declared.data.End.{End};
+ghost use Rattle.mq_sc_apply.specs.declared.answers.Planned.{Planned};
+ghost use Rattle.mq_calls.specs.declared.answers.Hconn.{Hconn};
+ghost use Rattle.mq_calls.specs.declared.answers.Hobj.{Hobj};
+ghost use Rattle.mq_calls.specs.declared.agents.Note.TheVariants as notes;
+ghost use Rattle.mq_calls.specs.declared.deltas.Why.{Why};
+ghost use Rattle.mq_calls.specs.declared.records.LogRecord.{LogRecord};
+ghost use Rattle.mq_spec_state.specs.State.{Batch, Change, Connection, Given, LogState, Noted, Plain, Which};
+ghost use Rattle.mq_spec_state.specs.State.Which.{Among, HeldBy};
+ghost use Rattle.mq_spec_state.specs.State.Change.{AddBatch, ChangeObjects, DropBatch, Hold, Leave, Release};
+ghost use Rattle.mq_spec_state.specs.Reads.{in_doubt_of, is_persistent, receiver_data, sender_data};
+ghost use Rattle.mq_spec_state.specs.Changes.{apply, apply_all};
+ghost use Rattle.mq_spec_state.specs.Sizes.{record_size};
+ghost use Rattle.mq_spec_state.specs.Steps.{Part, do_part};
+ghost use Rattle.mq_spec_manager.specs.Put.{mqput, put_part};
+ghost use Rattle.mq_spec_manager.specs.Get.{removal_part, taking_part};
+ghost use Rattle.mq_spec_manager.specs.Units.{commit_part, mqcmit, mqdisc};
+ghost use Rattle.mq_spec_manager.specs.Commands.{object_part};
+ghost use Rattle.mq_spec_manager.specs.Stops.{at_rest, redone_if, restarted as present_restarted};
+ghost use Rattle.mq_spec_agents.specs.Agents.{Absent, InDoubtAt, Landed, Landing, harden_part, landed, move_part, receiver_or, sender_or};
+ghost use Rattle.mq_law_log.specs.Image.{has_batch, lasting};
+ghost use Rattle.mq_law_log.specs.Records.{can_change, can_prepare, can_receive, empty_image, fits, image, is_unit_in_doubt};
+ghost use Rattle.mq_law_log.specs.Bytes.{IsRecord, record_bytes};
+ghost use Rattle.mq_law_log.specs.Keeps.{AllLand, CameBack, Does, HoldsJust, HoldsNone, IsNew, IsPlaceable, IsTakeable, Keeps, LandTold, StepKeeps, SwitchesAt, is_aside, received_part};
+ghost use Rattle.mq_law_log.specs.Sound.{AreFree, IsSound, IsUnit};
+ghost use Rattle.mq_law_log.specs.Restarts.{IsHarmless, appended, begun, next_started, prepare_part, raised, restarted};
+
+/// A put, a removal of rows and the end of a unit, in a sound manager.
+pub fn forced_writes_make_crashes_harmless()
+    ensures puts { (c : Connection) (queue : List ℕ) (m : Message) (p : Plain) → IsSound p → fits queue m p.definitions ≡ true → IsNew m.ident p → IsHarmless (put_part false c queue m) p }
+    ensures removals { (why : Why) (queue : List ℕ) (rows : List Row) (p : Plain) → IsSound p → AreFree queue rows p → IsHarmless (removal_part why queue rows) p }
+    ensures commits { (more : List Change) (c : Connection) (p : Plain) → ((q : Plain) → lasting (apply_all more q) ≡ lasting q) → IsSound p → IsUnit c.unit p → IsHarmless (commit_part more c) p }
+{}
+
+/// What the ends of channels harden.
+pub fn hardened_writes_make_crashes_harmless()
+    ensures sessions { (channel partner : List ℕ) (session : ℕ) (p : Plain) → nat_lt (sender_or (sender_data channel p)).session session ≡ true → IsHarmless (harden_part channel (notes.Session partner session) p) p }
+    ensures resolved { (channel : List ℕ) (unit : Luw) (commit operator : Bool) (p : Plain) → has_batch channel p.channels.batches ≡ false → is_unit_in_doubt unit (sender_or (sender_data channel p)).in_doubt ≡ true
+        → IsHarmless (harden_part channel (notes.Resolved unit commit operator) p) p }
+    ensures bound { (channel partner : List ℕ) (session last : ℕ) (p : Plain) → nat_lt (receiver_or (receiver_data channel p)).session session ≡ true → IsHarmless (harden_part channel (notes.Bound partner session last) p) p }
+    ensures closed { (channel : List ℕ) (session : ℕ) (p : Plain) → nat_lt 0 session ≡ true → (session == (receiver_or (receiver_data channel p)).session) ≡ true → IsHarmless (harden_part channel (notes.Closed session) p) p }
+{}
+
+/// A stop changes nothing that lasts, and a restart has what lasts, of the next incarnation.
+pub fn stops_and_restarts_keep_what_lasts()
+    ensures stops { (p : Plain) → lasting (at_rest p) ≡ lasting p }
+    ensures restarts { (kept : Bool) (started : ℕ) (noted : Option Noted) (p : Plain) → lasting (restarted kept started noted p) ≡ raised started (lasting (redone_if kept noted p)) }
+    ensures present { (kept : Bool) (started : ℕ) (noted : Option Noted) (p : Plain) → lasting (present_restarted kept started noted p) ≡ raised started (lasting (redone_if kept noted p)) }
+{}
+
+/// Where the image of the log's records is what lasts, it is so after each part that keeps the law, and after a restart.
+pub fn the_log_tells_what_lasts()
+    ensures parts { (d : Definitions) (x : LogRecord) (xs : List LogRecord) (part : Part) (p : Plain) → image p.given d (x ∷ xs) ≡ Ok (lasting p) → Keeps part p
+        → image p.given d ((x ∷ xs) ++ appended part.forced) ≡ Ok (lasting (do_part part p)) }
+    ensures restarts { (d : Definitions) (x : LogRecord) (xs : List LogRecord) (kept : Bool) (started : ℕ) (noted : Option Noted) (p : Plain)
+        → image (redone_if kept noted p).given d (x ∷ xs) ≡ Ok (lasting (redone_if kept noted p))
+        → image (redone_if kept noted p).given d ((x ∷ xs) ++ next_started started (redone_if kept noted p) ∷ []) ≡ Ok (lasting (restarted kept started noted p)) }
+    ensures bytes { (r : LogRecord) → IsRecord r → length (record_bytes r) ≡ record_size r }
+{}
+
+/// Each part of MQPUT, MQCMIT and MQDISC keeps the law in a sound manager.
+pub fn puts_and_ends_of_units_keep_the_law()
+    ensures mqput { (hc : Hconn) (ho : Hobj) (md : Md) (body : List ℕ) (sync : Bool) (p : Plain) → IsSound p → StepKeeps (mqput hc ho md body sync p) p }
+    ensures mqcmit { (hc : Hconn) (p : Plain) → IsSound p → StepKeeps (mqcmit hc p) p }
+    ensures mqdisc { (hc : Hconn) (p : Plain) → IsSound p → StepKeeps (mqdisc hc p) p }
+{}
+
+/// A batch that is prepared; batches that are held or released, rows that units hold, and puts that wait in a unit last nowhere.
+pub fn batches_and_units_last_as_their_records_say()
+    ensures prepared { (b : Batch) (last : ℕ) (p : Plain) → has_batch b.channel p.channels.batches ≡ true → AllByRecursion (HoldsJust b) p.queues
+        → can_prepare b.unit b.idents (sender_or (sender_data b.channel p)) (lasting p).shelves ≡ true → IsHarmless (prepare_part b last p) p }
+    ensures numbers { (channel : List ℕ) (end : End) (last : ℕ) (p : Plain) → in_doubt_of (sender_data channel p) ≡ None → IsHarmless (harden_part channel (notes.SeqSet end last) p) p }
+    ensures batches { (b : Batch) (p : Plain) → AllByRecursion (HoldsNone b.channel) p.queues → lasting (apply_all (Hold (Among b.queue b.idents) (holders.Batch b.channel) ∷ AddBatch b ∷ []) p) ≡ lasting p }
+    ensures releases { (channel : List ℕ) (p : Plain) → has_batch channel p.channels.batches ≡ true → lasting (apply_all (Release (HeldBy (holders.Batch channel)) false ∷ DropBatch channel ∷ []) p) ≡ lasting p }
+    ensures units { (which : Which) (n : ℕ) (p : Plain) → lasting (apply (Hold which (holders.Unit n)) p) ≡ lasting p }
+    ensures takes { (c : Connection) (queue : List ℕ) (row : Row) (p : Plain) → Does (taking_part true c queue row) p }
+    ensures asides { (c : Change) (p : Plain) → is_aside c ≡ true → lasting (apply c p) ≡ lasting p }
+    ensures pending { (c : Connection) (queue : List ℕ) (m : Message) (p : Plain) → Does (put_part true c queue m) p }
+{}
+
+/// A handler's move, object commands, and a receiver's commit whose messages each do so.
+pub fn moves_and_object_commands_do_as_their_records_say()
+    ensures moves { (from : List ℕ) (to : Dest) (bare : Bool) (l : Landing) (p : Plain) → IsTakeable (is_persistent l.message) from l.message.ident (lasting p)
+        → IsPlaceable l.queue l.message (apply (Leave (Among from (l.message.ident ∷ []))) p) → Does (move_part from to bare l) p }
+    ensures objects { (planned : Planned) (p : Plain) → can_change planned.change p.definitions (lasting p).shelves ≡ true
+        → SwitchesAt planned.change planned p.definitions (apply (ChangeObjects planned.change) p) → Does (object_part planned p.definitions) p }
+    ensures received { (channel : List ℕ) (unit : Luw) (last : ℕ) (ms : List Message) (l : Landed) (p : Plain) → landed channel ms p ≡ Ok l → AllLand channel ms p
+        → can_receive unit (receiver_or (receiver_data channel p)) ≡ true → Does (received_part channel unit last l p) p }
+    ensures back { (channel queue : List ℕ) (l : Landing) (p : Plain) → is_persistent l.message ≡ true → CameBack channel queue l p → LandTold true l (InDoubtAt channel queue) p }
+    ensures absent { (l : Landing) (p : Plain) → IsPlaceable l.queue l.message p → LandTold (is_persistent l.message) l Absent p }
+{}
+
+/// A manager that begins on an empty log is sound.
+pub fn a_manager_begins_soundly()
+    ensures { (g : Given) (m : ManagerAttributes) (log : LogState) (moment : ℕ) → IsSound (begun g (empty_image (record { manager = m; objects = [] })) log moment) }
+{}

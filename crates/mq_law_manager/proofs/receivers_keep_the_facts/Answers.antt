@@ -1,0 +1,5 @@
+use Rattle.mq_law_manager.proofs.Receiving.{receive_keeps}
+use Rattle.mq_law_manager.proofs.receivers_keep_the_facts.Goals as goal
+
+pub returns : goal.returns
+returns c = receive_keeps

@@ -1,0 +1,94 @@
+-- What holds of the rows of one manager, always.
+use Rattle.std.specs.Prelude.{ℕ, ◌≡◌, ◌≢◌, ◌⊎◌, Bool, false, List, [], ◌∷◌, Option, Some, None}
+use Rattle.mq_message.specs.declared.message.Ident.{Ident}
+use Rattle.mq_message.specs.declared.place.Holder.TheVariants as holders
+use Rattle.mq_queue.specs.declared.row.Row.{Row}
+use Rattle.mq_queue.specs.Queues.{AreInOrder, AreCounted}
+use Rattle.mq_sync.specs.declared.data.InDoubt.{InDoubt}
+use Rattle.mq_calls.specs.declared.records.Add.{Add}
+use Rattle.mq_spec_state.specs.State.{Plain, Batch}
+use Rattle.mq_spec_state.specs.Reads.{is_persistent}
+use Rattle.mq_law_manager.specs.View.{View, Taken, view}
+
+abbrev pub Mem : {A : Type 0} → A → List A → Type 0
+Mem x [] = ⊥
+Mem x (y ∷ ys) = (x ≡ y) ⊎ Mem x ys
+
+-- each key at most once
+abbrev pub Differ : {A : Type 0} → (A → Ident) → List A → Type 0
+Differ key [] = Unit {0}
+Differ key (x ∷ xs) = ((y : _) → Mem y xs → key x ≢ key y) × Differ key xs
+
+abbrev pub ident_of : Row → Ident
+ident_of row = row.message.ident
+
+abbrev pub put_ident : Add → Ident
+put_ident a = a.message.ident
+
+abbrev pub taken_ident : Taken → Ident
+taken_ident t = t.ident
+
+-- Each ident is at most once at the manager: in one row, or in one uncommitted put; and each of its own was given.
+pub record AreApart (rows : List ℕ → List Row) (puts : ℕ → List Add) (unborn : Ident → Bool) : Type 0 where
+  pub once : (q : List ℕ) → Differ ident_of (rows q)
+  pub alone : (q d : List ℕ) (h k : Row) → Mem h (rows q) → Mem k (rows d) → h.message.ident ≡ k.message.ident → q ≡ d
+  pub given : (q : List ℕ) (h : Row) → Mem h (rows q) → unborn h.message.ident ≡ false
+  pub put_once : (n : ℕ) → Differ put_ident (puts n)
+  pub put_alone : (n l : ℕ) (a b : Add) → Mem a (puts n) → Mem b (puts l) → a.message.ident ≡ b.message.ident → n ≡ l
+  pub put_given : (n : ℕ) (a : Add) → Mem a (puts n) → unborn a.message.ident ≡ false
+  pub waiting : (n : ℕ) (a : Add) (q : List ℕ) (h : Row) → Mem a (puts n) → Mem h (rows q) → a.message.ident ≢ h.message.ident
+
+-- a row of that ident and persistence, held by that unit
+pub record IsHeld (rows : List Row) (n : ℕ) (i : Ident) (persistent : Bool) : Type 0 where
+  pub row : Row
+  pub there : Mem row rows
+  pub is : row.message.ident ≡ i
+  pub by : row.by ≡ Some (holders.Unit n)
+  pub lasts : is_persistent row.message ≡ persistent
+
+-- The rows that units hold are just what they have got.
+pub record AreTaken (rows : List ℕ → List Row) (takes : ℕ → List Taken) : Type 0 where
+  pub held : (q : List ℕ) (h : Row) (n : ℕ) → Mem h (rows q) → h.by ≡ Some (holders.Unit n) → Mem (record { queue = q; ident = h.message.ident; persistent = is_persistent h.message }) (takes n)
+  pub there : (n : ℕ) (t : Taken) → Mem t (takes n) → IsHeld (rows t.queue) n t.ident t.persistent
+  pub take_once : (n : ℕ) → Differ taken_ident (takes n)
+
+-- a row of that ident, held by the channel's batch
+pub record IsBatched (rows : List Row) (c : List ℕ) (i : Ident) : Type 0 where
+  pub row : Row
+  pub there : Mem row rows
+  pub is : row.message.ident ≡ i
+  pub by : row.by ≡ Some (holders.Batch c)
+
+-- an ident on a queue is of the batch that is not prepared, or of the unit in doubt
+abbrev pub IsOf : List ℕ → Ident → Option Batch → Option InDoubt → Type 0
+IsOf q i (Some b) d = (q ≡ b.queue) × Mem i b.idents
+IsOf q i None (Some d) = Mem i d.idents
+IsOf q i None None = ⊥
+
+-- The rows that batches hold are those of the batch that is not prepared, all of them, or are named by the unit in doubt;
+-- no channel has both.
+pub record AreBatched (rows : List ℕ → List Row) (batch : List ℕ → Option Batch) (doubt : List ℕ → Option InDoubt) : Type 0 where
+  pub of : (q : List ℕ) (h : Row) (c : List ℕ) → Mem h (rows q) → h.by ≡ Some (holders.Batch c) → IsOf q h.message.ident (batch c) (doubt c)
+  pub full : (c : List ℕ) (b : Batch) (i : Ident) → batch c ≡ Some b → Mem i b.idents → IsBatched (rows b.queue) c i
+  pub one : (c : List ℕ) (b : Batch) → batch c ≡ Some b → doubt c ≡ None
+
+-- Rows stand in order of place, and came in among the first so many.
+pub record AreOrdered (rows : List ℕ → List Row) (arrivals : List ℕ → ℕ) : Type 0 where
+  pub in_order : (q : List ℕ) → AreInOrder (rows q)
+  pub counted : (q : List ℕ) → AreCounted (arrivals q) (rows q)
+
+pub record Holds (v : View) : Type 0 where
+  pub apart : AreApart v.rows v.puts v.unborn
+  pub taken : AreTaken v.rows v.takes
+  pub batched : AreBatched v.rows v.batch v.doubt
+  pub ordered : AreOrdered v.rows v.arrivals
+
+abbrev pub Sound : Plain → Type 0
+Sound p = Holds (view p)
+
+-- What is left of the facts at a manager that a stopped write has frozen: nonpersistent rows went, of units and of batches too.
+pub record AreStill (v : View) : Type 0 where
+  pub apart : AreApart v.rows v.puts v.unborn
+  pub held : (q : List ℕ) (h : Row) (n : ℕ) → Mem h (v.rows q) → h.by ≡ Some (holders.Unit n) → Mem (record { queue = q; ident = h.message.ident; persistent = is_persistent h.message }) (v.takes n)
+  pub of : (q : List ℕ) (h : Row) (c : List ℕ) → Mem h (v.rows q) → h.by ≡ Some (holders.Batch c) → IsOf q h.message.ident (v.batch c) (v.doubt c)
+  pub ordered : AreOrdered v.rows v.arrivals

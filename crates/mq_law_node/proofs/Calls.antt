@@ -1,0 +1,236 @@
+-- MQI calls, object commands, trigger turns, moves and discards: all their changes are quiet.
+use Rattle.std.proofs.Common.{ℕ, ◌≡◌, Bool, true, false, List, [], ◌∷◌, ◌++◌, length, refl, ap}
+use Rattle.std.specs.Prelude.{Option, Some, None, Result, Ok, Err, ◌&&◌, if◌then◌else◌, flat_map, filter}
+use Rattle.mq_codes.specs.declared.reason.Reason.{Reason}
+use Rattle.mq_message.specs.declared.message.Ident.{Ident}
+use Rattle.mq_message.specs.declared.message.Dest.{Dest}
+use Rattle.mq_message.specs.declared.message.Md.{Md}
+use Rattle.mq_message.specs.declared.message.Message.{Message}
+use Rattle.mq_queue.specs.declared.row.Row.{Row}
+use Rattle.mq_queue.specs.Rows.{has_ident}
+use Rattle.mq_objects.specs.declared.object.Definitions.{Definitions}
+use Rattle.mq_objects.specs.declared.object.LocalQueue.{LocalQueue}
+use Rattle.mq_objects.specs.declared.object.Process.{Process}
+use Rattle.mq_objects.specs.declared.object.Object.{Object}
+use Rattle.mq_objects.specs.declared.object.Object.TheVariants as objects
+use Rattle.mq_objects.specs.declared.command.Subject.{Subject}
+use Rattle.mq_objects.specs.declared.command.Subject.TheVariants as subjects
+use Rattle.mq_objects.specs.declared.change.ObjectChange.{ObjectChange}
+use Rattle.mq_objects.specs.declared.change.ObjectChange.TheVariants as changes
+use Rattle.mq_objects.specs.Names.{local_of, locals_of, process_of}
+use Rattle.mq_resolve.specs.declared.route.Route.{Route}
+use Rattle.mq_resolve.specs.declared.route.PathStep.{PathStep}
+use Rattle.mq_resolve.specs.Resolved.{resolve}
+use Rattle.mq_sc_apply.specs.declared.answers.Planned.{Planned}
+use Rattle.mq_sc_apply.specs.declared.answers.Plan.{Plan}
+use Rattle.mq_sc_apply.specs.declared.answers.Plan.TheVariants as plans
+use Rattle.mq_calls.specs.declared.commands.ScRefusal.{ScRefusal}
+use Rattle.mq_codes.specs.declared.reason.Reason.TheVariants as reasons
+use Rattle.mq_calls.specs.declared.answers.Answer.TheVariants as answers
+use Rattle.mq_calls.specs.declared.answers.Hconn.{Hconn}
+use Rattle.mq_calls.specs.declared.answers.Hobj.{Hobj}
+use Rattle.mq_calls.specs.declared.answers.Open.{Open}
+use Rattle.mq_calls.specs.declared.answers.Appl.{Appl}
+use Rattle.mq_calls.specs.declared.answers.Get.{Get}
+use Rattle.mq_calls.specs.declared.deltas.Why.{Why}
+use Rattle.mq_calls.specs.declared.state.Item.{Item}
+use Rattle.mq_calls.specs.declared.state.Item.TheVariants.{Put, Take}
+use Rattle.mq_calls.specs.declared.state.Handle.{Handle}
+use Rattle.mq_calls.specs.declared.state.Connection.{Connection}
+use Rattle.mq_spec_state.specs.State.{Plain, Change}
+use Rattle.mq_spec_state.specs.State.Change.{Disconnect, EndUnit, Connect, SetCursor}
+use Rattle.mq_spec_state.specs.Reads.{handle_at, stored}
+use Rattle.mq_spec_state.specs.Steps.{Step, Part, Test, refused_or, refusal, tested, silent, when}
+use Rattle.mq_spec_state.specs.Steps.Step.{Do}
+use Rattle.mq_spec_manager.specs.Handles.{connected, for_connection, for_handle, mqconn, mqopen, mqclose, open_up, open_resolved, close_up, close_handle, new_connection, new_hconn, conn_tests, open_tests, open_step, option_tests, is_unfit}
+use Rattle.mq_spec_manager.specs.Put.{mqput, mqput1, put_up, put_handle, put_route, put_part, put1_resolved, new_message, put_tests, put_step, queue_at, output_tests, handle_route, output_only}
+use Rattle.mq_spec_manager.specs.Get.{mqget, get_up, get_handle, get_scanned, get_found, with_row, without_row, found_part, taking_part, expired_parts, removal_parts, is_destructive, scanned, is_left, is_waiting, is_under, room_tests, get_tests}
+use Rattle.mq_calls.specs.declared.deltas.Why.TheVariants as whys
+use Rattle.mq_objects.specs.Names.{name_of}
+use Rattle.mq_resolve.specs.declared.route.PathStep.TheVariants as steps
+use Rattle.mq_spec_manager.specs.Units.{mqcmit, mqback, mqdisc, commit_part, commit_changes, taken_item, freed_item, placed_item, backout_part}
+use Rattle.mq_spec_manager.specs.Commands.{planned_step, follows, renewed, renewed_if, stale_if, switched_if, dropped}
+use Rattle.mq_spec_manager.specs.Triggers.{trigger_at, serve, serve_by, serve_into, put_trigger, takes_it, first_due}
+use Rattle.mq_spec_agents.specs.Agents.{move_found, move_resolved, landing, route_tests, move_full, move_part, discard}
+use Rattle.mq_law_node.specs.Quiet.{all_quiet, parts_quiet, step_quiet}
+use Rattle.mq_law_node.proofs.Named.{bool_case}
+use Rattle.mq_law_node.proofs.Quiet.{quiet_behind, quiet_parts_behind}
+
+pub refused_quiet : {F T : Type 0} (o : Option F) (s : Step F T) → step_quiet s ≡ true → step_quiet (refused_or o s) ≡ true
+refused_quiet None s h = h
+refused_quiet (Some reason) s h = refl
+
+pub tested_quiet : {F T : Type 0} (ts : List (Test F)) (s : Step F T) → step_quiet s ≡ true → step_quiet (tested ts s) ≡ true
+tested_quiet ts s h = refused_quiet (refusal ts) s h
+
+pub connection_quiet : {T : Type 0} (r : Result Connection Reason) (f : Connection → Step Reason T) → ((c : Connection) → step_quiet (f c) ≡ true) → step_quiet (for_connection r f) ≡ true
+connection_quiet (Ok c) f h = h c
+connection_quiet (Err reason) f h = refl
+
+pub handle_quiet : {T : Type 0} (o : Option Handle) (f : Handle → Step Reason T) → ((h : Handle) → step_quiet (f h) ≡ true) → step_quiet (for_handle o f) ≡ true
+handle_quiet None f k = refl
+handle_quiet (Some h) f k = k h
+
+-- handles
+pub mqconn_quiet : (qmgr : List ℕ) (appl : Appl) (p : Plain) → step_quiet (mqconn qmgr appl p) ≡ true
+mqconn_quiet qmgr appl p = tested_quiet (conn_tests qmgr p) (Do (answers.Ok (new_hconn p)) (silent (Connect (new_connection appl p) ∷ []) ∷ [])) refl
+
+pub open_quiet : (c : Connection) (how : Open) (r : Result Route Reason) (p : Plain) → step_quiet (open_resolved c how r p) ≡ true
+open_quiet c how (Err reason) p = refl
+open_quiet c how (Ok route) p = tested_quiet (open_tests c how route p) (open_step c how route) refl
+
+pub mqopen_quiet : (hc : Hconn) (name qmgr : List ℕ) (how : Open) (p : Plain) → step_quiet (mqopen hc name qmgr how p) ≡ true
+mqopen_quiet hc name qmgr how p = connection_quiet (connected hc p) (open_up name qmgr how p) (λ c. tested_quiet (option_tests how) (open_resolved c how (resolve p.definitions p.given.name name qmgr) p) (open_quiet c how (resolve p.definitions p.given.name name qmgr) p))
+
+pub mqclose_quiet : (hc : Hconn) (ho : Hobj) (p : Plain) → step_quiet (mqclose hc ho p) ≡ true
+mqclose_quiet hc ho p = connection_quiet (connected hc p) (close_up ho) (λ c. handle_quiet (handle_at ho.number c.handles) (close_handle c) (λ h. refl))
+
+-- puts
+pub put_part_quiet : (sync : Bool) (c : Connection) (queue : List ℕ) (m : Message) → all_quiet (put_part sync c queue m).changes ≡ true
+put_part_quiet true c queue m = refl
+put_part_quiet false c queue m = refl
+
+pub put_route_quiet : (c : Connection) (route : Route) (md : Md) (body : List ℕ) (sync : Bool) (p : Plain) → step_quiet (put_route c route md body sync p) ≡ true
+put_route_quiet c route md body sync p = tested_quiet (put_tests c route md body sync (new_message c route md body p) p) (put_step c route md sync (new_message c route md body p)) (ap (λ (b : Bool). b && true) (put_part_quiet sync c (queue_at route.end) (new_message c route md body p)))
+
+pub mqput_quiet : (hc : Hconn) (ho : Hobj) (md : Md) (body : List ℕ) (sync : Bool) (p : Plain) → step_quiet (mqput hc ho md body sync p) ≡ true
+mqput_quiet hc ho md body sync p = connection_quiet (connected hc p) (put_up ho md body sync p) (λ c. handle_quiet (handle_at ho.number c.handles) (put_handle md body sync p c) (λ h. tested_quiet (output_tests h) (put_route c (handle_route h) md body sync p) (put_route_quiet c (handle_route h) md body sync p)))
+
+pub put1_quiet : (r : Result Route Reason) (md : Md) (body : List ℕ) (sync : Bool) (p : Plain) (c : Connection) → step_quiet (put1_resolved r md body sync p c) ≡ true
+put1_quiet (Err reason) md body sync p c = refl
+put1_quiet (Ok route) md body sync p c = tested_quiet (when (is_unfit output_only route.end p) reasons.OptionNotValidForType ∷ []) (put_route c route md body sync p) (put_route_quiet c route md body sync p)
+
+pub mqput1_quiet : (hc : Hconn) (name qmgr : List ℕ) (md : Md) (body : List ℕ) (sync : Bool) (p : Plain) → step_quiet (mqput1 hc name qmgr md body sync p) ≡ true
+mqput1_quiet hc name qmgr md body sync p = connection_quiet (connected hc p) (put1_resolved (resolve p.definitions p.given.name name qmgr) md body sync p) (put1_quiet (resolve p.definitions p.given.name name qmgr) md body sync p)
+
+-- gets
+pub removal_quiet : (why : Why) (queue : List ℕ) (rows : List Row) → parts_quiet (removal_parts why queue rows) ≡ true
+removal_quiet why queue [] = refl
+removal_quiet why queue (row ∷ rows) = refl
+
+pub taking_quiet : (sync : Bool) (c : Connection) (queue : List ℕ) (row : Row) → all_quiet (taking_part sync c queue row).changes ≡ true
+taking_quiet true c queue row = refl
+taking_quiet false c queue row = refl
+
+pub found_quiet : (get : Get) (c : Connection) (h : Handle) (queue : List ℕ) (row : Row) → all_quiet (found_part get c h queue row).changes ≡ true
+found_quiet get c h queue row = bool_case (is_destructive get.take) (λ b. all_quiet (if b then taking_part get.sync c queue row else silent (SetCursor c.number h.number row.place ∷ [])).changes ≡ true) (λ e. taking_quiet get.sync c queue row) (λ e. refl)
+
+pub with_row_quiet : (cut : Bool) (get : Get) (c : Connection) (h : Handle) (queue : List ℕ) (row : Row) (before : List Part) → parts_quiet before ≡ true → step_quiet (with_row cut get c h queue row before) ≡ true
+with_row_quiet true get c h queue row before q = q
+with_row_quiet false get c h queue row before q = quiet_parts_behind before (found_part get c h queue row ∷ []) q (ap (λ (b : Bool). b && true) (found_quiet get c h queue row))
+
+pub without_row_quiet : (under waiting : Bool) (before : List Part) → parts_quiet before ≡ true → step_quiet (without_row under waiting before) ≡ true
+without_row_quiet true waiting before q = q
+without_row_quiet false true before q = refl
+without_row_quiet false false before q = q
+
+pub get_found_quiet : (get : Get) (until : Option ℕ) (p : Plain) (c : Connection) (h : Handle) (before : List Part) (row : Option Row) → parts_quiet before ≡ true → step_quiet (get_found get until p c h before row) ≡ true
+get_found_quiet get until p c h before None q = without_row_quiet (is_under get.take) (is_waiting until p) before q
+get_found_quiet get until p c h before (Some row) q = with_row_quiet (is_left get row.message) get c h (queue_at h.leads) row before q
+
+pub get_handle_quiet : (get : Get) (until : Option ℕ) (p : Plain) (c : Connection) (h : Handle) → step_quiet (get_handle get until p c h) ≡ true
+get_handle_quiet get until p c h = tested_quiet (get_tests get p c h) (get_scanned get until p c h (scanned get h p))
+    (tested_quiet (room_tests get c (scanned get h p) p) (get_found get until p c h (expired_parts (queue_at h.leads) (scanned get h p).expired) (scanned get h p).found)
+    (get_found_quiet get until p c h (expired_parts (queue_at h.leads) (scanned get h p).expired) (scanned get h p).found (removal_quiet whys.Expired (queue_at h.leads) (scanned get h p).expired)))
+
+pub mqget_quiet : (hc : Hconn) (ho : Hobj) (get : Get) (until : Option ℕ) (p : Plain) → step_quiet (mqget hc ho get until p) ≡ true
+mqget_quiet hc ho get until p = connection_quiet (connected hc p) (get_up ho get until p) (λ c. handle_quiet (handle_at ho.number c.handles) (get_handle get until p c) (λ h. get_handle_quiet get until p c h))
+
+-- units
+pub placed_items_quiet : (items : List Item) → all_quiet (flat_map placed_item items) ≡ true
+placed_items_quiet [] = refl
+placed_items_quiet (Put queue m ∷ items) = placed_items_quiet items
+placed_items_quiet (Take queue ident persistent ∷ items) = placed_items_quiet items
+
+pub taken_items_quiet : (items : List Item) → all_quiet (flat_map taken_item items) ≡ true
+taken_items_quiet [] = refl
+taken_items_quiet (Put queue m ∷ items) = taken_items_quiet items
+taken_items_quiet (Take queue ident persistent ∷ items) = taken_items_quiet items
+
+pub freed_items_quiet : (items : List Item) → all_quiet (flat_map freed_item items) ≡ true
+freed_items_quiet [] = refl
+freed_items_quiet (Put queue m ∷ items) = freed_items_quiet items
+freed_items_quiet (Take queue ident persistent ∷ items) = freed_items_quiet items
+
+pub commit_quiet : (more : List Change) (c : Connection) → all_quiet more ≡ true → all_quiet (commit_part more c).changes ≡ true
+commit_quiet more c q =
+    let items : all_quiet (flat_map taken_item c.unit ++ flat_map placed_item c.unit) ≡ true = quiet_behind (flat_map taken_item c.unit) (flat_map placed_item c.unit) (taken_items_quiet c.unit) (placed_items_quiet c.unit) in
+    quiet_behind (commit_changes c) more (quiet_behind (flat_map taken_item c.unit ++ flat_map placed_item c.unit) (EndUnit c.number ∷ []) items refl) q
+
+pub mqcmit_quiet : (hc : Hconn) (p : Plain) → step_quiet (mqcmit hc p) ≡ true
+mqcmit_quiet hc p = connection_quiet (connected hc p) (λ c. Do (answers.Ok tt) (commit_part [] c ∷ [])) (λ c. ap (λ (b : Bool). b && true) (commit_quiet [] c refl))
+
+pub mqback_quiet : (hc : Hconn) (p : Plain) → step_quiet (mqback hc p) ≡ true
+mqback_quiet hc p = connection_quiet (connected hc p) (λ c. Do (answers.Ok tt) (backout_part c ∷ []))
+    (λ c. ap (λ (b : Bool). b && true) (quiet_behind (flat_map freed_item c.unit) (EndUnit c.number ∷ []) (freed_items_quiet c.unit) refl))
+
+pub mqdisc_quiet : (hc : Hconn) (p : Plain) → step_quiet (mqdisc hc p) ≡ true
+mqdisc_quiet hc p = connection_quiet (connected hc p) (λ c. Do (answers.Ok tt) (commit_part (Disconnect c.number ∷ []) c ∷ [])) (λ c. ap (λ (b : Bool). b && true) (commit_quiet (Disconnect c.number ∷ []) c refl))
+
+-- object commands
+pub stale_quiet : (b : Bool) (step : PathStep) → all_quiet (stale_if b step) ≡ true
+stale_quiet true step = refl
+stale_quiet false step = refl
+
+pub switched_quiet : (b : Bool) (name : List ℕ) → all_quiet (switched_if b name) ≡ true
+switched_quiet true name = refl
+switched_quiet false name = refl
+
+pub renewed_if_quiet : (o : Option LocalQueue) (name : List ℕ) → all_quiet (renewed_if o name) ≡ true
+renewed_if_quiet None name = refl
+renewed_if_quiet (Some q) name = refl
+
+pub renewed_quiet : (o : Object) (d : Definitions) → all_quiet (renewed o d) ≡ true
+renewed_quiet (objects.Local q) d = renewed_if_quiet (local_of q.name d) q.name
+renewed_quiet o d = refl
+
+pub dropped_quiet : (s : Subject) → all_quiet (dropped s) ≡ true
+dropped_quiet (subjects.Local name) = refl
+dropped_quiet s = refl
+
+pub follows_quiet : (change : ObjectChange) (planned : Planned) (d : Definitions) → all_quiet (follows change planned d) ≡ true
+follows_quiet (changes.Set new) planned d = quiet_behind (renewed new d ++ stale_if planned.reroutes (steps.Queue (name_of new))) (switched_if planned.switches_on (name_of new))
+    (quiet_behind (renewed new d) (stale_if planned.reroutes (steps.Queue (name_of new))) (renewed_quiet new d) (stale_quiet planned.reroutes (steps.Queue (name_of new))))
+    (switched_quiet planned.switches_on (name_of new))
+follows_quiet (changes.SetManager m) planned d = stale_quiet planned.reroutes steps.DefXmitq
+follows_quiet (changes.Delete subject) planned d = dropped_quiet subject
+
+pub planned_quiet : (r : Result Plan ScRefusal) (d : Definitions) → step_quiet (planned_step r d) ≡ true
+planned_quiet (Ok (plans.Change planned)) d = ap (λ (b : Bool). b && true) (follows_quiet planned.change planned d)
+planned_quiet (Ok (plans.Show shown)) d = refl
+planned_quiet (Err refusal) d = refl
+
+-- triggers
+pub put_trigger_quiet : (o : Option Reason) (q : LocalQueue) (process : Process) (i : LocalQueue) (p : Plain) → all_quiet (put_trigger o q process i p).changes ≡ true
+put_trigger_quiet None q process i p = refl
+put_trigger_quiet (Some reason) q process i p = refl
+
+pub serve_into_quiet : (b : Bool) (q : LocalQueue) (process : Process) (i : LocalQueue) (p : Plain) → all_quiet (serve_into b q process i p).changes ≡ true
+serve_into_quiet true q process i p = refl
+serve_into_quiet false q process i p = put_trigger_quiet (takes_it i p) q process i p
+
+pub serve_by_quiet : (q : LocalQueue) (o : Option Process) (i : Option LocalQueue) (p : Plain) → all_quiet (serve_by q o i p).changes ≡ true
+serve_by_quiet q None i p = refl
+serve_by_quiet q (Some process) None p = refl
+serve_by_quiet q (Some process) (Some i) p = serve_into_quiet _ q process i p
+
+pub serve_quiet : (o : Option LocalQueue) (p : Plain) → step_quiet (serve o p) ≡ true
+serve_quiet None p = refl
+serve_quiet (Some q) p = ap (λ (b : Bool). b && true) (serve_by_quiet q (process_of q.process p.definitions) (local_of q.initiation_queue p.definitions) p)
+
+pub trigger_quiet : (b : Bool) (p : Plain) → step_quiet (trigger_at b p) ≡ true
+trigger_quiet false p = refl
+trigger_quiet true p = serve_quiet (first_due (locals_of p.definitions) p) p
+
+-- the handler's calls
+pub move_resolved_quiet : (from : List ℕ) (to : Dest) (bare : Bool) (r : Result Route Reason) (m : Message) (p : Plain) → step_quiet (move_resolved from to bare r m p) ≡ true
+move_resolved_quiet from to bare (Err reason) m p = refl
+move_resolved_quiet from to bare (Ok route) m p =
+    tested_quiet (route_tests route (length (landing route m).message.body) p ++ when (move_full from (landing route m) p) reasons.ResourceProblem ∷ []) (Do tt (move_part from to bare (landing route m) ∷ [])) refl
+
+pub move_quiet : (from : List ℕ) (to : Dest) (bare : Bool) (o : Option Message) (p : Plain) → step_quiet (move_found from to bare o p) ≡ true
+move_quiet from to bare None p = refl
+move_quiet from to bare (Some m) p = move_resolved_quiet from to bare (resolve p.definitions p.given.name to.queue to.qmgr) _ p
+
+pub discard_quiet : (queue : List ℕ) (ident : Ident) (p : Plain) → step_quiet (discard queue ident p) ≡ true
+discard_quiet queue ident p = removal_quiet whys.Discarded queue (filter (has_ident ident) (stored queue p).rows)
