@@ -1,3 +1,4 @@
+//! Want of memory, as calls answer it.
 ghost use Rattle.std.specs.Prelude.{◌≡◌};
 
 use std::alloc::{AllocError, AllocFailed};

@@ -1,3 +1,4 @@
+//! Why bytes are no structure of the manual.
 use thiserror::Error;
 
 /// Why bytes are no structure, in the order in which it is tried.
