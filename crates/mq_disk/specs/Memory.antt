@@ -52,6 +52,7 @@ cut_left Torn n left = take n left
 abbrev pub leaves : DiskState → List ℕ → Type 0
 leaves m c = (c ≡ m.left) ⊎ (c ≡ m.seen)
 
+-- the call to come is one of those that fail
 abbrev pub is_listed : DiskState → Bool
 is_listed m = is_failing m.failing m.calls
 
@@ -59,6 +60,7 @@ is_listed m = is_failing m.failing m.calls
 abbrev pub is_refused : ℕ → List ℕ → DiskState → Bool
 is_refused place piece m = is_listed m || nat_lt (m.room - place) (length piece)
 
+-- what a call answers
 abbrev pub answer : {T : Type 0} → Bool → T → Result T Failed
 answer refused value = if refused then Err (record {}) else Ok value
 
@@ -69,6 +71,7 @@ failed m = record m { calls = raised m.calls; faults = raised m.faults }
 abbrev pub passed : DiskState → DiskState
 passed m = record m { calls = raised m.calls }
 
+-- the state after each kind of call
 abbrev pub after_read : DiskState → DiskState
 after_read m = if is_listed m then failed m else passed m
 

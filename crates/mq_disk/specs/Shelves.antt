@@ -4,6 +4,7 @@ use Rattle.mq_disk.specs.declared.shelf.Side.{Side}
 use Rattle.mq_disk.specs.declared.mem_shelf.Slot.{Slot}
 
 module _ {D : Type 0} where
+  -- the disk of that name and side
   abbrev pub IsOf : Slot D → List ℕ → Side → Type 0
   IsOf slot name side = (slot.name ≡ name) × (slot.side ≡ side)
 

@@ -1,4 +1,4 @@
-// Counts of calls and of faults.
+//! Counts of calls and of faults.
 ghost use Rattle.std.specs.Prelude.{◌≡◌, ◌≤◌};
 ghost use Rattle.mq_base.specs.Outside.{raised, Rose, HasCause};
 ghost use Rattle.mq_base.specs.Memory.{is_failing};

@@ -1,4 +1,4 @@
-// A cut between the log and a disk: the call at which the cut was armed isn't made, and no call after it until a restart.
+//! A cut between the log and a disk: the call at which the cut was armed isn't made, and no call after it until a restart.
 ghost use Rattle.std.specs.Prelude.{◌≡◌, ◌⊎◌, ◌+◌, ◌≤◌, max, ℕ, List, length, take, drop, false, IfOk, OnOk, OnErr, IsErrOf};
 ghost use Rattle.mq_base.specs.Outside.{Rose, HasCause};
 ghost use Rattle.mq_disk.specs.Disk.{Only, NothingNew, Torn, Cut, overwritten};
@@ -28,6 +28,7 @@ impl From<Failed> for Stop {
 /// A disk whose calls can be cut.
 #[derive(Drop)]
 pub struct Cutter<D: Disk> {
+    /// The disk behind it.
     pub inner: D,
     /// The number of the write or sync from now at which the cut is armed, 0 where none is.
     pub armed: u32,

@@ -1,4 +1,4 @@
-// A disk: its present bytes, and what a crash may leave of them.
+//! A disk: its present bytes, and what a crash may leave of them.
 ghost use Rattle.std.specs.Prelude.{◌≡◌, ◌+◌, ◌≤◌, max, List, ℕ, length, take, drop, IfOk, OnOk, OnErr};
 ghost use Rattle.mq_base.specs.Outside.{HasCause};
 ghost use Rattle.mq_disk.specs.Disk.{Only, NothingNew, Follows, Torn, Cut, overwritten};

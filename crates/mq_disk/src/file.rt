@@ -1,4 +1,4 @@
-// Disks over files, and the shelf of a folder. Their bytes aren't told: this is the trusted edge.
+//! Disks over files, and the shelf of a folder. Their bytes aren't told: this is the trusted edge.
 ghost use Rattle.std.specs.Prelude.{◌≡◌, [], IfOk};
 ghost use Rattle.mq_disk.specs.Files.{file_name_of};
 

@@ -1,4 +1,4 @@
-// A disk that fails after a number of calls.
+//! A disk that fails after a number of calls.
 ghost use Rattle.std.specs.Prelude.{◌≡◌, ◌⊎◌, ◌+◌, ◌-◌, ◌<◌, ◌≤◌, ◌↔◌, max, length, take, drop, Some, IsErr, IfOk, OnOk, OnErr};
 ghost use Rattle.mq_base.specs.Outside.{Rose, HasCause};
 ghost use Rattle.mq_disk.specs.Disk.{Only, NothingNew, Follows, Torn, Cut, overwritten};

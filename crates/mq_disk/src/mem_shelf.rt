@@ -1,4 +1,4 @@
-// Disks in memory by name.
+//! Disks in memory by name.
 ghost use Rattle.std.specs.Prelude.{◌≡◌, ◌≤◌, ◌↔◌, ◌++◌, ℕ, List, [], ◌∷◌, false, None, IsTrue, IsOk, IfSome, IfOk, OnOk, OnErr, IsErrOf};
 ghost use Rattle.mq_base.specs.Outside.{raised, Rose};
 ghost use Rattle.mq_base.specs.Memory.{is_failing};

@@ -1,4 +1,4 @@
-// A disk in memory.
+//! A disk in memory.
 ghost use Rattle.std.specs.Prelude.{◌≡◌, ◌+◌, ◌≤◌, max, length, take, drop, refl, ⊤, IfOk, OnOk, OnErr};
 ghost use Rattle.std.proofs.Common.{inr};
 ghost use Rattle.mq_base.specs.Outside.{HasCause};

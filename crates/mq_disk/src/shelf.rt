@@ -1,4 +1,4 @@
-// Where the disks of managers stand.
+//! Where the disks of managers stand.
 ghost use Rattle.std.specs.Prelude.{◌≡◌, ◌≤◌, ℕ, List, IfOk, OnErr, IsErrOf};
 ghost use Rattle.mq_base.specs.Outside.{Rose};
 ghost use Rattle.mq_disk.specs.declared.shelf.Side.{Side};
@@ -9,7 +9,9 @@ use mq_name::QName;
 /// A manager has two disks for its log. Side A is the first.
 #[derive(Clone, Copy, Debug, PartialEq, Eq)]
 pub enum Side {
+    /// The first, in the file `NAME.a.qlog`.
     A,
+    /// The second, in the file `NAME.b.qlog`.
     B,
 }
 
@@ -18,11 +20,13 @@ pub enum Side {
 pub enum TakeFault {
     /// There is no such disk, or it can't be opened. The shelf's count of faults rose.
     Failed,
+    /// The memory of the disk or of its place on the shelf couldn't be taken.
     NoMemory,
 }
 
 /// Where the disks of managers stand.
 pub trait Shelf {
+    /// The disks of the shelf.
     type D: Disk;
 
     /// The bytes that the disk of a manager's side has, where the shelf tells them.

@@ -1,4 +1,4 @@
-// The bytes of a disk in memory and what a restart would leave of them, in memory that was taken when they were made.
+//! The bytes of a disk in memory and what a restart would leave of them, in memory that was taken when they were made.
 ghost use Rattle.std.specs.Prelude.{◌≡◌, ◌+◌, ◌-◌, ◌≤◌, max, length, take, IfOk, vec_capacity};
 ghost use Rattle.mq_disk.specs.Disk.{overwritten};
 ghost use Rattle.mq_disk.specs.Memory.{TwinState, after_part};

@@ -163,6 +163,18 @@ not_bad_of c bodies None place log bad = not_both c bodies place log bad
 not_bad_of c bodies (Some body) place (inl log) bad = not_both c bodies place log bad
 not_bad_of c bodies (Some body) place (inr log) bad = not_both c (bodies ++ body ∷ []) place log bad
 
+-- a log with a body has more than one byte
+pub long_log : (c : List ℕ) (bodies : List (List ℕ)) → 0 < length bodies → IsLog c bodies → 1 < length c
+long_log c [] some log = absurd (omega (arith, some))
+long_log c (b ∷ bs) some (inl (few, none)) = absurd (omega (arith, ap length none))
+long_log c (b ∷ bs) some (inr (gate, rest, log)) =
+    omega (arith, ap length log.whole, length-append (frame b ++ frames bs) (gate ∷ rest), length-append (frame b) (frames bs), length-append (number_bytes (length b)) b, length-number_bytes (length b))
+
+pub long_log_of : (c : List ℕ) (bodies : List (List ℕ)) (pending : Option (List ℕ)) → 0 < length bodies → IsLogOf bodies pending c → 1 < length c
+long_log_of c bodies None some log = long_log c bodies some log
+long_log_of c bodies (Some body) some (inl log) = long_log c bodies some log
+long_log_of c bodies (Some body) some (inr log) = long_log c (bodies ++ body ∷ []) (omega (arith, length-append bodies (body ∷ []))) log
+
 -- behind any gate the piece counts or it doesn't
 pub either : (c : List ℕ) (bodies : List (List ℕ)) (body : List ℕ) (gate : ℕ) (rest : List ℕ) → AllFit bodies → Fits body → c ≡ frames bodies ++ gate ∷ (piece body ++ rest)
     → IsLog c bodies ⊎ IsLog c (bodies ++ body ∷ [])

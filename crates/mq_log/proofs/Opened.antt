@@ -30,6 +30,7 @@ sound_fresh tells size seen may stopped bytes end is at inside passes written on
       fits = subst AllFit (sym none) tt;
       gate = omega (arith, one, at);
       shut = λ is_open. absurd (omega (arith, gate, is_open));
+      behind = inl (omega (arith, one, at));
       settled = λ _. record {
         whole = omega (arith, one, at);
         inside = omega (arith, inside, at);
@@ -53,6 +54,7 @@ sound_read tells size seen may stopped bytes read at end inside front shut is la
       fits = front'.fits;
       gate = omega (arith, whole);
       shut = λ is_open. shut (sym gate ∙ is_open);
+      behind = inl whole;
       settled = λ _. record {
         whole = whole;
         inside = fits;
@@ -86,6 +88,12 @@ stands tells size seen may stopped bytes end false sound t c left = sound.stood 
 none_behind : (bytes : List ℕ) (end : ℕ) → length bytes ≡ end + 1 → body_behind end bytes ≡ None
 none_behind bytes end whole = grind (arith, nat_tests)
 
+-- the pending body is the one behind the last gate, whether the log takes more or not
+pub pending_is : (tells : Type 0) (size : ℕ) (seen : List ℕ) (may : List ℕ → Type 0) (stopped : Bool) (bytes : List ℕ) (end : ℕ) (live : Bool) → Sound tells size seen may stopped bytes end live
+    → (if live then None else body_behind end bytes) ≡ body_behind end bytes
+pending_is tells size seen may stopped bytes end true s = sym (none_behind bytes end (s.settled refl).whole)
+pending_is tells size seen may stopped bytes end false s = refl
+
 read_same : (bodies : List (List ℕ)) (pending : Option (List ℕ)) (c d : List ℕ) → (c ≡ d) ⊎ ((length c ≤ 1) × (length d ≤ 1)) → IsLogOf bodies pending d → IsLogOf bodies pending c
 read_same bodies pending c d (inl is) log = subst (λ (l : List ℕ). IsLogOf bodies pending l) (sym is) log
 read_same bodies pending c d (inr (few_c, few_d)) log = short_log_of c d bodies pending few_c few_d log
@@ -98,17 +106,14 @@ dead tells size seen may stopped bytes end live sound size' seen' may' stopped' 
   fits = sound.fits;
   gate = sound.gate;
   shut = sound.shut;
+  behind = sound.behind;
   settled = λ alive. absurd (cc alive);
   stood = λ _ t c left.
       let from = reads t c left in
       let was = stands tells size seen may stopped bytes end live sound t from.0 from.1 in
       let found : IsLogOf (front_bodies end bytes) (if live then None else body_behind end bytes) c = read_same (front_bodies end bytes) (if live then None else body_behind end bytes) c from.0 from.2 was in
-      subst (λ (o : Option (List ℕ)). IsLogOf (front_bodies end bytes) o c) (same live sound) found;
+      subst (λ (o : Option (List ℕ)). IsLogOf (front_bodies end bytes) o c) (pending_is _ _ _ _ _ _ _ live sound) found;
 }
-  where
-    same : (live : Bool) → Sound tells size seen may stopped bytes end live → (if live then None else body_behind end bytes) ≡ body_behind end bytes
-    same true s = sym (none_behind bytes end (s.settled refl).whole)
-    same false s = refl
 
 pub same_reads : (old new : List ℕ → Type 0) → ((c : List ℕ) → new c → old c) → Reads old new
 same_reads old new nothing c left = (c, nothing c left, inl refl)

@@ -117,6 +117,7 @@ module _ (tells : Type 0) (size : ℕ) (seen : List ℕ) (may : List ℕ → Typ
         fits = subst AllFit (sym front) (fits-push bodies body sound.fits fit);
         gate = omega (arith, long, at_end);
         shut = λ is_open. absurd (omega (arith, zero_gate, is_open));
+        behind = inl (omega (arith, long, at_end));
         settled = λ _. record {
           whole = omega (arith, long, at_end);
           inside = omega (arith, inside, size_staged, at_end);
@@ -146,6 +147,7 @@ module _ (tells : Type 0) (size : ℕ) (seen : List ℕ) (may : List ℕ → Typ
         fits = subst AllFit (sym front) sound.fits;
         gate = omega (arith, ap length is, length-append bytes (piece body), old_settled.whole);
         shut = λ is_open. sound.shut (sym (gate_staged end bytes body sound.framed sound.fits old_settled.whole staged is) ∙ is_open);
+        behind = inr (omega (arith, ap length is, length-append bytes (piece body), old_settled.whole, length-piece body));
         settled = λ alive. absurd (cc alive);
         stood = λ _ t c left.
             let found : IsLogOf bodies (Some body) c = ⊎_elim (before fit t c) (after fit t c) (images t c left) in

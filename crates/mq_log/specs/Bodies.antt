@@ -6,6 +6,7 @@ use Rattle.std.specs.Int.{to_be_bytes, from_be_bytes, w32}
 unfoldable pub number_bytes : ℕ → List ℕ
 number_bytes n = to_be_bytes w32 n
 
+-- the number that four bytes are
 unfoldable pub number_of : List ℕ → ℕ
 number_of bytes = from_be_bytes w32 bytes
 
@@ -13,6 +14,7 @@ number_of bytes = from_be_bytes w32 bytes
 abbrev pub frame : List ℕ → List ℕ
 frame body = 165 ∷ (number_bytes (length body) ++ body)
 
+-- the bytes of bodies one behind the other
 abbrev pub frames : List (List ℕ) → List ℕ
 frames [] = []
 frames (body ∷ bodies) = frame body ++ frames bodies
@@ -21,6 +23,7 @@ frames (body ∷ bodies) = frame body ++ frames bodies
 abbrev pub Fits : List ℕ → Type 0
 Fits body = length body < 2 ^ 32
 
+-- each of them does
 abbrev pub AllFit : List (List ℕ) → Type 0
 AllFit [] = Unit {0}
 AllFit (body ∷ bodies) = Fits body × AllFit bodies

@@ -1,5 +1,6 @@
 pub mod Bodies
 pub mod Force
+pub mod Images
 pub mod Open
 pub mod Sound
 pub mod State

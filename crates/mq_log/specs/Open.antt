@@ -4,11 +4,12 @@ use Rattle.mq_disk.specs.declared.cutter.Stop.{Stop}
 use Rattle.mq_disk.specs.declared.cutter.Stop.TheVariants.{Cut as ByCut, Disk as ByDisk}
 use Rattle.mq_log.specs.declared.open.StartFault.{StartFault}
 use Rattle.mq_log.specs.declared.open.StartFault.TheVariants.{Disk, Cut, BadLog, NoMemory}
-use Rattle.mq_log.specs.declared.scan.Found.{Found}
-use Rattle.mq_log.specs.declared.scan.Found.TheVariants.{Closed, Bad, More}
+use Rattle.mq_log.specs.declared.scan.Gate.{Gate}
+use Rattle.mq_log.specs.declared.scan.Gate.TheVariants.{Closed, Bad, More}
 use Rattle.mq_log.specs.Bodies.{number_of, frames, AllFit, IsNoLog}
 use Rattle.mq_log.specs.State.{front_bodies}
 
+-- a start stops as the disk's call did
 abbrev pub fault_of : Stop → StartFault
 fault_of ByCut = Cut
 fault_of ByDisk = Disk
@@ -24,7 +25,7 @@ pub record IsBad (at size : ℕ) (bytes : List ℕ) : Type 0 where
   pub cut_short : (size < at + 5) ⊎ ((at + 5 ≤ length bytes) × (size ≤ at + 5 + number_of (take 4 (drop (at + 1) bytes))))
 
 -- what was found among the bytes that were read of a disk of this size
-abbrev pub Finds : ℕ → List ℕ → Found → Type 0
+abbrev pub Finds : ℕ → List ℕ → Gate → Type 0
 Finds size bytes (Closed at) = (at < length bytes) × Front at bytes × (slice_index bytes at ≢ 165)
 Finds size bytes (Bad at) = (at < length bytes) × Front at bytes × IsBad at size bytes
 Finds size bytes (More at) = (at < length bytes) × Front at bytes × (length bytes < size)
@@ -44,6 +45,7 @@ IsBadOf seen Disk = Unit {0}
 IsBadOf seen Cut = Unit {0}
 IsBadOf seen NoMemory = Unit {0}
 
+-- no bad log
 abbrev pub IsNotBad : StartFault → Type 0
 IsNotBad (BadLog place) = ⊥
 IsNotBad Disk = Unit {0}
@@ -61,14 +63,19 @@ Refused n m armed stopped NoMemory left after = (stopped ≡ false) × (after �
 abbrev pub Made : ℕ → ℕ → Bool → ℕ → Bool → Type 0
 Made n armed stopped left after = (stopped ≡ false) × (after ≡ false) × (left ≡ armed - n) × (0 < armed → n < armed)
 
+-- how the calls of a start end
 abbrev pub StartEnds : {T : Type 0} → ℕ → ℕ → ℕ → Bool → Result T StartFault → ℕ → Bool → Type 0
 StartEnds n m armed stopped (Ok _) left after = Made n armed stopped left after
 StartEnds n m armed stopped (Err fault) left after = Refused n m armed stopped fault left after
 
--- how a restart ends: one call counts, and three on a disk that held no log
-abbrev pub RestartEnds : ℕ → Result (Unit {0}) StartFault → ℕ → Type 0
-RestartEnds armed (Ok _) left = ((left ≡ armed - 1) × (0 < armed → 1 < armed)) ⊎ ((left ≡ armed - 3) × (0 < armed → 3 < armed))
-RestartEnds armed (Err Cut) left = (0 < armed) × (armed ≤ 3) × (left ≡ 0)
-RestartEnds armed (Err Disk) left = (left ≤ armed) × (0 < armed → 0 < left) × (armed ≤ left + 3)
-RestartEnds armed (Err (BadLog _)) left = (left ≡ armed - 1) × (0 < armed → 1 < armed)
-RestartEnds armed (Err NoMemory) left = (left ≤ armed) × (0 < armed → 0 < left) × (armed ≤ left + 1)
+-- how a restart ends, of whose calls n count where nothing stops it
+abbrev pub RestartEnds : {T : Type 0} → ℕ → ℕ → Result T StartFault → ℕ → Type 0
+RestartEnds n armed (Ok _) left = (left ≡ armed - n) × (0 < armed → n < armed)
+RestartEnds n armed (Err Cut) left = (0 < armed) × (armed ≤ n) × (left ≡ 0)
+RestartEnds n armed (Err Disk) left = (left ≤ armed) × (0 < armed → 0 < left) × (armed ≤ left + n)
+RestartEnds n armed (Err (BadLog _)) left = (left ≡ armed - 1) × (0 < armed → 1 < armed)
+RestartEnds n armed (Err NoMemory) left = (left ≡ armed - 1) × (0 < armed → 1 < armed)
+
+-- one call counts, and three on a disk that held no log
+abbrev pub EndsByOneOrThree : {T : Type 0} → ℕ → Result T StartFault → ℕ → Type 0
+EndsByOneOrThree armed result left = RestartEnds 1 armed result left ⊎ RestartEnds 3 armed result left

@@ -1,4 +1,4 @@
-// The bodies of a log, one behind the other.
+//! The bodies of a log, one behind the other.
 ghost use Rattle.std.specs.Prelude.{◌≡◌, List, ℕ};
 ghost use Rattle.mq_log.specs.Bodies.{frames, AllFit};
 ghost use Rattle.mq_log.specs.Walk.{Walks};
@@ -9,13 +9,16 @@ use crate::scan::{OPEN, body_length};
 /// the number of bytes in front of it.
 #[derive(Clone, Copy)]
 pub struct Bodies<'a> {
+    /// Their bytes, from the first gate to the end of the last body.
     pub framed: &'a [u8],
 }
 
 /// A body, and the bodies behind it.
 #[derive(Clone, Copy)]
 pub struct Split<'a> {
+    /// The bytes of the body alone.
     pub body: &'a [u8],
+    /// The bodies behind it.
     pub rest: Bodies<'a>,
 }
 

@@ -1,4 +1,4 @@
-// Writes that are on the disk when they return.
+//! Writes that are on the disk when they return.
 ghost use Rattle.std.specs.Prelude.{◌≡◌, ◌⊎◌, ◌+◌, ◌^◌, ◌≤◌, ◌<◌, max, ℕ, List, [], ◌∷◌, ◌++◌, length, take, drop, false, OnOk, OnErr, IsErrOf};
 ghost use Rattle.mq_base.specs.Outside.{Rose};
 ghost use Rattle.mq_disk.specs.Disk.{Only, Torn, overwritten};

@@ -3,11 +3,13 @@
 
 mod bodies;
 mod force;
+mod images;
 mod log;
 mod open;
 mod scan;
 
 pub use bodies::{Bodies, Split, next_body};
+pub use images::Found;
 pub use log::{Log, LogFull, Unstarted};
 pub use open::StartFault;
 

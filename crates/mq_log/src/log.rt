@@ -1,14 +1,16 @@
-// The forced log.
-ghost use Rattle.std.specs.Prelude.{◌≡◌, ◌+◌, ◌-◌, ◌^◌, ◌≤◌, ◌<◌, ◌↔◌, ℕ, [], ◌∷◌, ◌++◌, length, true, false, None, Some, OnOk, OnErr, IfOk, IfErr, IsErrOf, IsTrue, MatchResult, List, vec_len, vec_capacity};
+//! The forced log.
+ghost use Rattle.std.specs.Prelude.{◌≡◌, ◌≢◌, ◌+◌, ◌-◌, ◌^◌, ◌≤◌, ◌<◌, ◌↔◌, ℕ, [], ◌∷◌, ◌++◌, length, true, false, None, Some, OnOk, OnErr, IfOk, IfErr, IsErrOf, IsTrue, MatchResult, List, vec_len, vec_capacity};
 ghost use Rattle.mq_base.specs.Outside.{Rose};
 ghost use Rattle.mq_log.specs.Force.{Stops};
 ghost use Rattle.mq_log.specs.Bodies.{number_bytes, frames, AllFit, IsLog};
 ghost use Rattle.mq_log.specs.declared.log.LogFull.TheVariants.{NoMemory};
-ghost use Rattle.mq_log.specs.State.{LogState, log_length, Appended, IsBeforeOrAfter, IsLogOf};
-ghost use Rattle.mq_log.specs.Open.{RestartEnds, IsBadOf, IsNotBad, Reads, Made, Refused, start_calls};
+ghost use Rattle.mq_log.specs.State.{LogState, log_length, Appended, IsLogOf};
+ghost use Rattle.mq_log.specs.Images.{IsFound};
+ghost use Rattle.mq_log.specs.Open.{RestartEnds, EndsByOneOrThree, IsBadOf, IsNotBad, Reads, Made, Refused, start_calls};
 
 use crate::bodies::Bodies;
 use crate::force::force;
+use crate::images::{Found, compare};
 use crate::open::{StartFault, open_log};
 use crate::scan::OPEN;
 use mq_base::NoMemory;
@@ -34,7 +36,9 @@ pub struct Log<D: Disk> {
 /// A log that wasn't started, with its disk for a later restart.
 #[derive(Drop)]
 pub struct Unstarted<D: Disk> {
+    /// Why it wasn't.
     pub fault: StartFault,
+    /// The disk, with its armed cut.
     pub disk: Cutter<D>,
 }
 
@@ -81,6 +85,7 @@ fn stage(bytes: &mut Vec<u8>, head: &[u8], adds: &[u8], removes: &[u8])
 pub enum LogFull {
     /// The length, what is reserved and the bytes pass the largest length.
     Full,
+    /// The memory for the bytes couldn't be taken.
     NoMemory,
 }
 
@@ -202,14 +207,19 @@ impl<D: Disk> Log<D> {
         }
     }
 
-    /// The disk restarts, and the log is read from it again: the bodies are those from before, and the one whose forced
-    /// write was stopped is among them or isn't. Nothing is reserved then.
-    pub fn restart(&mut self, alloc: Global) -> Result<(), StartFault>
-        ensures found { D.tells → OnOk result (IsBeforeOrAfter self.old.bodies self.old.pending self.new.bodies) }
+    /// The disk restarts, and the log is read from it again. The answer says whether the bodies are those from before,
+    /// or these and the one whose forced write was stopped, which then stands at the place behind them; others are found
+    /// only where the bytes were changed from outside. Nothing is reserved then. Where bodies are read, one call counts
+    /// for an armed cut.
+    pub fn restart(&mut self, alloc: Global) -> Result<Found, StartFault>
+        ensures found { IfOk result (λ found. IsFound self.old.bodies self.old.pending found self.new.bodies) }
+        ensures known { D.tells → IfOk result (λ found. found ≢ Found.Other) }
         ensures ok { OnOk result (self.new ≡ record self.old { bodies = self.new.bodies; live = true; pending = None; reserved = 0; room = self.new.room; armed = self.new.armed; faults = self.new.faults }) }
         ensures err { OnErr result (self.new ≡ record self.old { live = false; room = self.new.room; armed = self.new.armed; faults = self.new.faults }) }
         ensures good { D.tells → IfErr result IsNotBad }
-        ensures ends { RestartEnds self.old.armed result self.new.armed }
+        ensures ends { EndsByOneOrThree self.old.armed result self.new.armed }
+        ensures one { OnOk result (0 < length self.new.bodies → RestartEnds 1 self.old.armed result self.new.armed) }
+        ensures told { D.tells → 0 < length self.old.bodies → RestartEnds 1 self.old.armed result self.new.armed }
         ensures later { self.old.faults ≤ self.new.faults }
         ensures disk { IsErrOf result StartFault.Disk → Rose self.old.faults self.new.faults }
     {
@@ -217,11 +227,14 @@ impl<D: Disk> Log<D> {
         self.disk.restart()?;
         match open_log(alloc, &mut self.disk) {
             Ok(bytes) => {
-                self.end = bytes.len() - 1;
+                let end = bytes.len() - 1;
+                let (read, _) = bytes.split_at(end);
+                let found = compare(&self.bytes, self.end, read);
+                self.end = end;
                 self.bytes = bytes;
                 self.held = 0;
                 self.live = true;
-                Ok(())
+                Ok(found)
             }
             Err(fault) => Err(fault),
         }

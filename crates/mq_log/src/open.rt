@@ -1,4 +1,4 @@
-// The start of a log: its bytes are read, or an empty log is made.
+//! The start of a log: its bytes are read, or an empty log is made.
 ghost use Rattle.std.specs.Prelude.{◌≡◌, ◌⊎◌, ◌+◌, ◌-◌, ◌≤◌, ◌<◌, min, max, ℕ, List, [], ◌∷◌, length, take, true, false, OnOk, OnErr, IfOk, IfErr, IsErrOf, vec_len};
 ghost use Rattle.mq_base.specs.Outside.{Rose};
 ghost use Rattle.mq_disk.specs.Disk.{Only, NothingNew};
@@ -9,7 +9,7 @@ ghost use Rattle.mq_log.specs.State.{front_bodies};
 ghost use Rattle.mq_log.specs.Sound.{Sound};
 ghost use Rattle.mq_log.specs.Open.{IsBadOf, IsNotBad, Reads, StartEnds, start_calls};
 
-use crate::scan::{Found, scan};
+use crate::scan::{Gate, scan};
 use mq_disk::{Cutter, Disk, Failed, Stop};
 use std::alloc::{AllocError, AllocFailed, Global};
 
@@ -25,6 +25,7 @@ pub enum StartFault {
     Cut,
     /// The bytes aren't a log: behind the open gate at this place the length, the body or the next gate don't fit.
     BadLog(u64),
+    /// The memory for the bytes of the log couldn't be taken.
     NoMemory,
 }
 
@@ -92,6 +93,7 @@ fn fresh_log<D: Disk>(alloc: Global, disk: &mut Cutter<D>) -> Result<Vec<u8>, St
     ensures sound { IfOk result (λ bytes. Sound D.tells (D.size disk.new.inner) (D.seen disk.new.inner) (D.may_leave disk.new.inner) disk.new.stopped bytes.items (vec_len bytes - 1) true) }
     ensures read { D.tells → IfOk result (λ bytes. IsLog (D.seen disk.old.inner) (front_bodies (vec_len bytes - 1) bytes.items)) }
     ensures images { D.tells → Reads (D.may_leave disk.old.inner) (D.may_leave disk.new.inner) }
+    ensures one { IfOk result (λ bytes. vec_len bytes ≡ 1) }
     ensures ends { StartEnds 2 0 disk.old.armed disk.old.stopped result disk.new.armed disk.new.stopped }
     ensures bad { IfErr result IsNotBad }
     ensures later { D.faults disk.old.inner ≤ D.faults disk.new.inner }
@@ -150,12 +152,12 @@ fn read_log<D: Disk>(alloc: Global, disk: &mut Cutter<D>, size: u64) -> Result<V
     'reading: loop {
         read_more(disk, &mut bytes, size)?;
         match scan(&bytes, at, size) {
-            Found::Closed(end) => {
+            Gate::Closed(end) => {
                 bytes.truncate(end + 1);
                 return Ok(bytes);
             }
-            Found::Bad(place) => return Err(StartFault::BadLog(place as u64)),
-            Found::More(gate) => at = gate,
+            Gate::Bad(place) => return Err(StartFault::BadLog(place as u64)),
+            Gate::More(gate) => at = gate,
         }
     }
 }
@@ -165,6 +167,7 @@ pub fn open_log<D: Disk>(alloc: Global, disk: &mut Cutter<D>) -> Result<Vec<u8>,
     ensures sound { IfOk result (λ bytes. Sound D.tells (D.size disk.new.inner) (D.seen disk.new.inner) (D.may_leave disk.new.inner) disk.new.stopped bytes.items (vec_len bytes - 1) true) }
     ensures read { D.tells → IfOk result (λ bytes. IsLog (D.seen disk.old.inner) (front_bodies (vec_len bytes - 1) bytes.items)) }
     ensures images { D.tells → Reads (D.may_leave disk.old.inner) (D.may_leave disk.new.inner) }
+    ensures few { IfOk result (λ bytes. D.size disk.old.inner < 2 → vec_len bytes ≡ 1) }
     ensures ends { StartEnds (start_calls (D.size disk.old.inner)) 1 disk.old.armed disk.old.stopped result disk.new.armed disk.new.stopped }
     ensures bad { D.tells → IfErr result (IsBadOf (D.seen disk.old.inner)) }
     ensures later { D.faults disk.old.inner ≤ D.faults disk.new.inner }

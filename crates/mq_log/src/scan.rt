@@ -1,4 +1,4 @@
-// The search for the last gate among the bytes that were read.
+//! The search for the last gate among the bytes that were read.
 ghost use Rattle.std.specs.Prelude.{◌≡◌, ◌+◌, ◌≤◌, ◌<◌, ◌^◌, length, take, drop};
 ghost use Rattle.mq_log.specs.Bodies.{number_of, number_bytes};
 ghost use Rattle.mq_log.specs.Open.{Front, Finds};
@@ -8,7 +8,7 @@ pub const OPEN: u8 = 0xa5;
 
 /// What stands at the place of a gate.
 #[derive(Clone, Copy, Debug, PartialEq, Eq)]
-pub enum Found {
+pub enum Gate {
     /// The first gate that isn't open.
     Closed(usize),
     /// An open gate whose length, body or next gate don't fit the disk.
@@ -33,7 +33,7 @@ pub fn body_length(bytes: &[u8], gate: usize) -> usize
 }
 
 /// Goes from a gate on to the first gate that isn't open, as far as the bytes go. The disk has `size` bytes.
-pub fn scan(bytes: &[u8], from: usize, size: u64) -> Found
+pub fn scan(bytes: &[u8], from: usize, size: u64) -> Gate
     requires gate { from < length bytes.now }
     requires front { Front from bytes.now }
     requires size { length bytes.now ≤ size }
@@ -44,19 +44,19 @@ pub fn scan(bytes: &[u8], from: usize, size: u64) -> Found
         let behind = bytes.len() - at - 1;
         let left = size - at as u64 - 1;
         if left < 4 {
-            return Found::Bad(at);
+            return Gate::Bad(at);
         }
         if behind < 4 {
-            return Found::More(at);
+            return Gate::More(at);
         }
         let body = body_length(bytes, at);
         if left - 4 <= body as u64 {
-            return Found::Bad(at);
+            return Gate::Bad(at);
         }
         if behind - 4 <= body {
-            return Found::More(at);
+            return Gate::More(at);
         }
         at += 5 + body;
     }
-    Found::Closed(at)
+    Gate::Closed(at)
 }

@@ -1,13 +1,17 @@
-// A disk that counts its calls.
+//! A disk that counts its calls.
 
 use mq_disk::{Disk, Failed};
 
 /// How many calls of each kind a disk got. The length is asked without a count.
 #[derive(Clone, Copy, Debug, PartialEq, Eq)]
 pub struct Calls {
+    /// Calls of `read_at`.
     pub reads: u64,
+    /// Calls of `write_at`.
     pub writes: u64,
+    /// Calls of `cut`.
     pub cuts: u64,
+    /// Calls of `sync`.
     pub syncs: u64,
 }
 
@@ -24,7 +28,9 @@ impl Calls {
 /// A disk that passes each call on and counts it.
 #[derive(Drop)]
 pub struct Counting<D: Disk> {
+    /// The disk that the calls are passed on to.
     pub inner: D,
+    /// The calls so far.
     pub calls: Calls,
 }
 

@@ -1,4 +1,4 @@
-// Appends and a start, with their calls and times.
+//! Appends and a start, with their calls and times.
 ghost use Rattle.std.specs.Prelude.{◌≡◌, ◌+◌, ◌≤◌, min, true, ℕ, List, length, IfOk};
 ghost use Rattle.mq_log.specs.Bodies.{frames, AllFit};
 
@@ -18,18 +18,24 @@ const MOST: u64 = 1 << 32;
 /// Some appends, and the time that they took in microseconds.
 #[derive(Clone, Copy)]
 pub struct Round {
+    /// How many bodies were appended.
     pub appended: u32,
+    /// In microseconds.
     pub time: u64,
 }
 
 /// What appends to a log, in two halves, and another start of it came to.
 #[derive(Clone, Copy)]
 pub struct Measured {
+    /// The first half of the appends.
     pub first: Round,
+    /// The second half.
     pub second: Round,
     /// The calls of the first start and of the appends.
     pub at_appends: Calls,
+    /// How many bodies the other start read.
     pub read: u32,
+    /// The calls of the other start.
     pub at_start: Calls,
     /// The time of the other start in microseconds.
     pub start_time: u64,
