@@ -34,6 +34,15 @@ pub enum RestartFault {
     NoMemory,
 }
 
+/// Why a first start is refused.
+#[derive(Clone, Copy, Debug, PartialEq, Eq)]
+pub enum BeginFault {
+    Disk,
+    /// The bytes are no log of this manager; the place of the gate at fault.
+    BadLog(u64),
+    NoMemory,
+}
+
 /// Whether a restart found the body of the write that was stopped.
 #[derive(Clone, Copy, Debug, PartialEq, Eq)]
 pub struct Kept {

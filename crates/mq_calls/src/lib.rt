@@ -10,13 +10,15 @@ mod answers;
 mod choices;
 mod commands;
 mod deltas;
+mod image;
 mod records;
 mod state;
 
 pub use agents::{AgentStop, Messages, Note, PlaceFault, PrepareFault, SeizeFault};
 pub use answers::{Answer, Appl, Get, GetAnswer, Got, Hconn, Hobj, Input, Open, Sent, Take};
 pub use choices::{Choice, Return};
-pub use commands::{Halt, Kept, RestartFault, ScRefusal, Shown};
+pub use commands::{BeginFault, Halt, Kept, RestartFault, ScRefusal, Shown};
 pub use deltas::{Delta, Did, Why};
+pub use image::{Image, Shelf};
 pub use records::{Add, LogRecord, Remove};
 pub use state::{Batch, Connection, Handle, Item, ReceiverSide, Seizure, SenderSide};

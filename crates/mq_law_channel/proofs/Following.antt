@@ -5,7 +5,7 @@ use Rattle.mq_sync.specs.declared.unit.Unit.{Unit as Luw}
 use Rattle.mq_sync.specs.declared.unit.Settle.TheVariants as settles
 use Rattle.mq_sync.specs.declared.data.InDoubt.{InDoubt}
 use Rattle.mq_sync.specs.Units.{unit_named, same_unit, Below}
-use Rattle.mq_sender.specs.declared.state.Doubt.{Doubt}
+use Rattle.mq_sync.specs.declared.data.Doubt.{Doubt}
 use Rattle.mq_sender.specs.declared.state.Kept.{Kept}
 use Rattle.mq_sender.specs.declared.state.SenderState.TheVariants.{Binding}
 use Rattle.mq_sender.specs.declared.turns.SenderDoes.{SenderDoes}

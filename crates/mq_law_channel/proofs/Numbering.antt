@@ -10,7 +10,7 @@ use Rattle.mq_sync.specs.declared.data.InDoubt.{InDoubt}
 use Rattle.mq_sync.specs.declared.data.SenderData.{SenderData}
 use Rattle.mq_sync.specs.Numbers.{number_after}
 use Rattle.mq_sync.specs.Units.{unit_named, same_unit}
-use Rattle.mq_sender.specs.declared.state.Doubt.{Doubt}
+use Rattle.mq_sync.specs.declared.data.Doubt.{Doubt}
 use Rattle.mq_sender.specs.declared.state.Kept.{Kept}
 use Rattle.mq_sender.specs.declared.state.SenderState.{SenderState}
 use Rattle.mq_sender.specs.declared.state.SenderState.TheVariants.{Stopped, Binding, Running, Sending, Ready}
@@ -247,10 +247,10 @@ numbers_prepared t c p n h k line done =
       fits = last;
     }
   where
-    unit_of : (d : InDoubt) → Some (record { unit = unit_begun c.sender; idents = t.idents; last = number_sent c.sender.state c.sender.kept.last }) ≡ Some d → unit_begun c.sender ≡ d.unit
+    unit_of : (d : InDoubt) → Some (record { unit = unit_begun c.sender; queue = t.queue; idents = t.idents; last = number_sent c.sender.state c.sender.kept.last }) ≡ Some d → unit_begun c.sender ≡ d.unit
     unit_of d e = ap (λ (o : Option InDoubt). elim o as (λ x. Luw) [ None ↦ unit_begun c.sender | Some x ↦ x.unit ]) e
 
-    last_of : (d : InDoubt) → Some (record { unit = unit_begun c.sender; idents = t.idents; last = number_sent c.sender.state c.sender.kept.last }) ≡ Some d → number_sent c.sender.state c.sender.kept.last ≡ d.last
+    last_of : (d : InDoubt) → Some (record { unit = unit_begun c.sender; queue = t.queue; idents = t.idents; last = number_sent c.sender.state c.sender.kept.last }) ≡ Some d → number_sent c.sender.state c.sender.kept.last ≡ d.last
     last_of d e = ap (λ (o : Option InDoubt). elim o as (λ x. ℕ) [ None ↦ 0 | Some x ↦ x.last ]) e
 
 pub numbers_ended : (t : SenderTurn) (c : Channel) (p : Past) (n : Count) → Facts c p → Numbers c p n → is_ready c.sender.state ≡ true

@@ -8,7 +8,7 @@ use Rattle.mq_sync.specs.declared.unit.Settle.TheVariants as settles
 use Rattle.mq_sync.specs.declared.data.InDoubt.{InDoubt}
 use Rattle.mq_sync.specs.declared.data.SenderData.{SenderData}
 use Rattle.mq_sync.specs.Units.{unit_named, settlement}
-use Rattle.mq_sender.specs.declared.state.Doubt.{Doubt}
+use Rattle.mq_sync.specs.declared.data.Doubt.{Doubt}
 use Rattle.mq_sender.specs.declared.state.Kept.{Kept}
 use Rattle.mq_sender.specs.declared.state.StopCause.TheVariants.{SequenceError}
 use Rattle.mq_sender.specs.declared.state.SenderState.{SenderState}
@@ -289,7 +289,7 @@ prepares_unit t c p h line =
       };
     }
   where
-    unit_of : (q : Doubt) (d : InDoubt) → Some (record { unit = q.unit; idents = t.idents; last = q.last }) ≡ Some d → q.unit ≡ d.unit
+    unit_of : (q : Doubt) (d : InDoubt) → Some (record { unit = q.unit; queue = t.queue; idents = t.idents; last = q.last }) ≡ Some d → q.unit ≡ d.unit
     unit_of q d e = ap (λ (o : Option InDoubt). elim o as (λ x. Luw) [ None ↦ q.unit | Some x ↦ x.unit ]) e
 
 pub pushes_end : (t : SenderTurn) (c : Channel) (p : Past) → Facts c p → is_ready c.sender.state ≡ true

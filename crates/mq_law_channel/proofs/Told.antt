@@ -11,7 +11,7 @@ use Rattle.mq_sync.specs.declared.unit.Unit.{Unit as Luw}
 use Rattle.mq_sync.specs.declared.data.InDoubt.{InDoubt}
 use Rattle.mq_sync.specs.Units.{unit_named, same_unit}
 use Rattle.mq_sync.specs.Turns.{Line, first_line}
-use Rattle.mq_sender.specs.declared.state.Doubt.{Doubt}
+use Rattle.mq_sync.specs.declared.data.Doubt.{Doubt}
 use Rattle.mq_sender.specs.States.{doubt_of}
 use Rattle.mq_sender.specs.Table.{kind_is_status, is_status, kind_unit, kind_last, status_unit, status_last, names_doubt, kind_is_ack, kind_is_err, is_ack, is_err}
 use Rattle.mq_law_channel.specs.Facts.{Letter, Tale, Sends, Ends, Tells, Acks, Errs, Mem, given}

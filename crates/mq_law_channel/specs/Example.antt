@@ -30,6 +30,7 @@ sends_with seen letters free c = sender_turn (record {
   stamp = 0;
   seen = seen;
   stock = record { enabled = true; expired = false; free = free };
+  queue = [];
   outcome = outs.Done;
   letters = letters;
   idents = [];

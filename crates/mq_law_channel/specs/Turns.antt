@@ -1,6 +1,8 @@
 -- The steps of a channel: turns of its two ends, timeouts, operators' commands, stops and restarts.
 use Rattle.std.specs.Prelude.{ℕ, ◌+◌, ◌≡◌, nat_lt, Bool, true, false, not, ◌==◌, ◌&&◌, List, [], ◌∷◌, ◌++◌, length, Option, Some, None, slice_get, if◌then◌else◌}
 use Rattle.mq_message.specs.declared.message.Ident.{Ident}
+use Rattle.mq_message.specs.declared.message.Dest.{Dest}
+use Rattle.mq_message.specs.declared.message.Message.{Message}
 use Rattle.mq_frame.specs.declared.frame.Frame.{Frame}
 use Rattle.mq_frame.specs.declared.frame.FrameKind.{FrameKind}
 use Rattle.mq_frame.specs.declared.frame.FrameKind.TheVariants.{Msg}
@@ -14,6 +16,8 @@ use Rattle.mq_sync.specs.declared.data.SenderData.{SenderData}
 use Rattle.mq_sync.specs.declared.data.ReceiverData.{ReceiverData}
 use Rattle.mq_sync.specs.declared.data.Stock.{Stock}
 use Rattle.mq_sync.specs.Units.{unit_named}
+use Rattle.mq_sync.specs.Settlement.{data_prepared}
+pub use Rattle.mq_sync.specs.Settlement.{data_settled}
 use Rattle.mq_sender.specs.declared.state.Limits.{Limits}
 use Rattle.mq_sender.specs.declared.state.Sender.{Sender}
 use Rattle.mq_sender.specs.declared.turns.SenderDoes.{SenderDoes}
@@ -22,7 +26,7 @@ use Rattle.mq_sender.specs.declared.turns.SenderOut.{SenderOut}
 use Rattle.mq_sender.specs.declared.turns.SenderOut.TheVariants as outs
 use Rattle.mq_sender.specs.States as senders
 use Rattle.mq_sender.specs.Table.{sender_next, messages_sent}
-use Rattle.mq_sender.specs.After.{sender_after, doubt_last, number_sent}
+use Rattle.mq_sender.specs.After.{sender_after, number_sent}
 use Rattle.mq_sender.specs.Frames.{bind_frame, message_frame, end_frame}
 use Rattle.mq_receiver.specs.declared.state.Owed.{Owed}
 use Rattle.mq_receiver.specs.declared.state.Receiver.{Receiver}
@@ -32,7 +36,7 @@ use Rattle.mq_receiver.specs.declared.turns.ReceiverOut.{ReceiverOut}
 use Rattle.mq_receiver.specs.declared.turns.ReceiverOut.TheVariants as ends
 use Rattle.mq_receiver.specs.States as receivers
 use Rattle.mq_receiver.specs.Table.{receiver_next}
-use Rattle.mq_receiver.specs.After.{receiver_after, bound_by, last_by}
+use Rattle.mq_receiver.specs.After.{receiver_after, bound_by, last_by, kept_messages}
 use Rattle.mq_law_channel.specs.Facts.{Letter, Mem, given, marked}
 use Rattle.mq_law_channel.specs.Channel.{Channel, Past}
 
@@ -42,12 +46,13 @@ SeenIn items.Nothing offered = Unit {0}
 SeenIn items.Spoiled offered = Unit {0}
 SeenIn (items.Frame f) offered = Mem f offered
 
--- SENDER. A turn: the stamp, what waits, the transmission queue, what came of the turn, and of the batch that it
--- begins, if it begins one, the messages and their idents.
+-- SENDER. A turn: the stamp, what waits, the transmission queue's rows and its name, what came of the turn, and of the
+-- batch that it begins, if it begins one, the messages and their idents.
 pub record SenderTurn : Type 0 where
   pub stamp : ℕ
   pub seen : Seen
   pub stock : Stock
+  pub queue : List ℕ
   pub outcome : SenderOut
   pub letters : List Letter
   pub idents : List Ident
@@ -55,22 +60,18 @@ pub record SenderTurn : Type 0 where
 abbrev pub sender_does : SenderTurn → Channel → SenderDoes
 sender_does t c = sender_next c.sender t.seen t.stock
 
--- what is hardened: the unit in doubt is settled
-abbrev pub data_settled : Option Settle → SenderData → SenderData
-data_settled None d = d
-data_settled (Some settles.Commit) d = record d { last = doubt_last (senders.doubt_of d.in_doubt) d.last; in_doubt = None }
-data_settled (Some settles.Backout) d = record d { in_doubt = None }
+-- the unit that is prepared, of these messages on that queue
+abbrev pub prepared_unit : Sender → (queue : List ℕ) → List Ident → InDoubt
+prepared_unit m queue idents = record { unit = senders.unit_begun m; queue = queue; idents = idents; last = number_sent m.state m.kept.last }
 
-abbrev pub data_prepared : Sender → List Ident → SenderData → SenderData
-data_prepared m idents d = record d { force = false; in_doubt = Some (record { unit = senders.unit_begun m; idents = idents; last = number_sent m.state m.kept.last }) }
-
-abbrev pub data_sent : SenderDoes → Sender → List Ident → SenderData → SenderData
-data_sent (sends.HardenSession session) m idents d = record d { session = session }
-data_sent sends.Prepare m idents d = data_prepared m idents d
-data_sent (sends.Bound settle partner) m idents d = data_settled settle d
-data_sent sends.Commit m idents d = data_settled (Some settles.Commit) d
-data_sent (sends.Backout reason) m idents d = data_settled (Some settles.Backout) d
-data_sent _ m idents d = d
+-- what is hardened
+abbrev pub data_sent : SenderDoes → Sender → InDoubt → SenderData → SenderData
+data_sent (sends.HardenSession session) m doubt d = record d { session = session }
+data_sent sends.Prepare m doubt d = data_prepared doubt d
+data_sent (sends.Bound settle partner) m doubt d = data_settled settle d
+data_sent sends.Commit m doubt d = data_settled (Some settles.Commit) d
+data_sent (sends.Backout reason) m doubt d = data_settled (Some settles.Backout) d
+data_sent _ m doubt d = d
 
 abbrev pub letter_offered : ℕ → Sender → (n index : ℕ) → Option Letter → List Frame → List Frame
 letter_offered stamp m n index None out = out
@@ -90,7 +91,7 @@ batch_after _ t c = c.batch
 
 abbrev pub sender_done : SenderDoes → SenderTurn → Channel → Channel
 sender_done d t c = record c {
-  sends = data_sent d c.sender t.idents c.sends;
+  sends = data_sent d c.sender (prepared_unit c.sender t.queue t.idents) c.sends;
   sender = sender_after c.sender d outs.Done;
   batch = batch_after d t c;
   out = sender_offers d t c;
@@ -154,11 +155,11 @@ data_received (takes.Place unit) seen m d = record d { unit = unit; last = last_
 data_received takes.Close seen m d = record d { closed = true }
 data_received _ seen m d = d
 
--- message 1 begins a unit, the next ones come behind it
+abbrev pub letter_of : Dest → Message → Letter
+letter_of dest message = record { dest = dest; message = message }
+
 abbrev pub letters_kind : FrameKind → List Letter → List Letter
-letters_kind (Msg n index number dest message) kept =
-    if index == 1 then record { dest = dest; message = message } ∷ [] else kept ++ record { dest = dest; message = message } ∷ []
-letters_kind _ kept = kept
+letters_kind k kept = kept_messages letter_of k kept
 
 abbrev pub letters_seen : Seen → List Letter → List Letter
 letters_seen (items.Frame f) kept = letters_kind f.kind kept

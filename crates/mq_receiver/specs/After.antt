@@ -1,5 +1,7 @@
 -- A receiver's state after a turn.
-use Rattle.std.specs.Prelude.{ℕ, Some, None, if◌then◌else◌}
+use Rattle.std.specs.Prelude.{ℕ, ◌==◌, List, [], ◌∷◌, ◌++◌, Some, None, if◌then◌else◌}
+use Rattle.mq_message.specs.declared.message.Dest.{Dest}
+use Rattle.mq_message.specs.declared.message.Message.{Message}
 use Rattle.mq_frame.specs.declared.frame.FrameKind.{FrameKind}
 use Rattle.mq_frame.specs.declared.frame.FrameKind.TheVariants.{Bind, Msg, End}
 use Rattle.mq_frame.specs.declared.frame.Seen.{Seen}
@@ -29,6 +31,11 @@ bound_by _ r = r
 abbrev pub kept_kind : FrameKind → Receiver → Receiver
 kept_kind (Msg n index number dest message) r = record r { state = Bound n index }
 kept_kind _ r = r
+
+-- The messages that a receiver keeps: message 1 begins a unit, the next ones come behind it.
+abbrev pub kept_messages : {A : Type 0} → (made : Dest → Message → A) → FrameKind → List A → List A
+kept_messages made (Msg n index number dest message) kept = if index == 1 then made dest message ∷ [] else kept ++ made dest message ∷ []
+kept_messages made _ kept = kept
 
 -- a message is kept
 abbrev pub kept_by : Seen → Receiver → Receiver

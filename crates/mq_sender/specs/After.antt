@@ -3,7 +3,7 @@ use Rattle.std.specs.Prelude.{ℕ, false, Option, Some, None, ◌==◌, if◌the
 use Rattle.mq_sync.specs.declared.unit.Settle.{Settle}
 use Rattle.mq_sync.specs.declared.unit.Settle.TheVariants as settles
 use Rattle.mq_sync.specs.Numbers.{number_after}
-use Rattle.mq_sender.specs.declared.state.Doubt.{Doubt}
+pub use Rattle.mq_sync.specs.Settlement.{doubt_last}
 use Rattle.mq_sender.specs.declared.state.Kept.{Kept}
 use Rattle.mq_sender.specs.declared.state.StopCause.TheVariants.{SequenceError, Reason}
 use Rattle.mq_sender.specs.declared.state.SenderState.{SenderState}
@@ -14,11 +14,6 @@ use Rattle.mq_sender.specs.declared.turns.SenderDoes.TheVariants as does
 use Rattle.mq_sender.specs.declared.turns.SenderOut.{SenderOut}
 use Rattle.mq_sender.specs.declared.turns.SenderOut.TheVariants.{Done, Full, NoRoom}
 use Rattle.mq_sender.specs.States.{unit_begun}
-
--- the last number of the unit in doubt, if there is one
-abbrev pub doubt_last : Option Doubt → ℕ → ℕ
-doubt_last None last = last
-doubt_last (Some d) last = d.last
 
 -- The unit in doubt is settled: a commit takes its last number over.
 abbrev pub settled : Option Settle → Kept → Kept

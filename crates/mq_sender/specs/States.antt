@@ -1,20 +1,15 @@
 -- The states of a sender, and what an operator, a stop of the manager and a timeout make of them.
 use Rattle.std.specs.Prelude.{◌+◌, nat_lt, Bool, true, false, Option, Some, None, if◌then◌else◌}
 use Rattle.mq_sync.specs.declared.unit.Unit.{Unit as Luw}
-use Rattle.mq_sync.specs.declared.data.InDoubt.{InDoubt}
 use Rattle.mq_sync.specs.declared.data.SenderData.{SenderData}
 use Rattle.mq_sync.specs.Units.{unit_named}
-use Rattle.mq_sender.specs.declared.state.Doubt.{Doubt}
+pub use Rattle.mq_sync.specs.Settlement.{doubt_of}
 use Rattle.mq_sender.specs.declared.state.Kept.{Kept}
 use Rattle.mq_sender.specs.declared.state.Limits.{Limits}
 use Rattle.mq_sender.specs.declared.state.StopCause.TheVariants.{Operator, NoAnswer}
 use Rattle.mq_sender.specs.declared.state.SenderState.{SenderState}
 use Rattle.mq_sender.specs.declared.state.SenderState.TheVariants.{Inactive, Stopped, Starting, Hailing, Binding, Running, Sending, Ready, Waiting}
 use Rattle.mq_sender.specs.declared.state.Sender.{Sender}
-
-abbrev pub doubt_of : Option InDoubt → Option Doubt
-doubt_of None = None
-doubt_of (Some d) = Some (record { unit = d.unit; last = d.last })
 
 -- what a sender has of its hardened data
 abbrev pub kept_of : Option SenderData → Kept

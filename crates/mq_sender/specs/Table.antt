@@ -9,7 +9,7 @@ use Rattle.mq_sync.specs.declared.unit.Settle.{Settle}
 use Rattle.mq_sync.specs.declared.data.Stock.{Stock}
 use Rattle.mq_sync.specs.Units.{unit_named, no_unit, same_unit, settlement}
 use Rattle.mq_sync.specs.Turns.{Line, line, first_line}
-use Rattle.mq_sender.specs.declared.state.Doubt.{Doubt}
+use Rattle.mq_sync.specs.declared.data.Doubt.{Doubt}
 use Rattle.mq_sender.specs.declared.state.SenderState.{SenderState}
 use Rattle.mq_sender.specs.declared.state.SenderState.TheVariants.{Starting, Hailing, Binding, Running, Sending, Ready, Waiting}
 use Rattle.mq_sender.specs.declared.state.Sender.{Sender}

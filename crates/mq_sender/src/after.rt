@@ -3,9 +3,9 @@
 ghost use Rattle.std.specs.Prelude.{◌≡◌};
 ghost use Rattle.mq_sender.specs.After.{settled, agreed, done_after, number_sent, sender_after};
 
-use crate::state::{Doubt, Kept, Sender, SenderState, StopCause};
+use crate::state::{Kept, Sender, SenderState, StopCause};
 use crate::turns::{SenderDoes, SenderOut};
-use mq_sync::Settle;
+use mq_sync::{Doubt, Settle};
 
 /// The reason code for a log that has no room.
 const RESOURCE_PROBLEM: u32 = 2102;

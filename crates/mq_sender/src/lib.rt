@@ -10,7 +10,7 @@ mod state;
 mod table;
 mod turns;
 
-pub use state::{Doubt, Kept, Limits, Sender, SenderState, StopCause};
+pub use state::{Kept, Limits, Sender, SenderState, StopCause};
 pub use turns::{SenderDoes, SenderOut};
 
 #[cfg(test)]

@@ -2,17 +2,10 @@
 //! project's own.
 
 ghost use Rattle.std.specs.Prelude.{◌≡◌, option_copied};
-ghost use Rattle.mq_sender.specs.States.{doubt_of, kept_of};
+ghost use Rattle.mq_sync.specs.Settlement.{doubt_of};
+ghost use Rattle.mq_sender.specs.States.{kept_of};
 
-use mq_sync::{InDoubt, SenderData, Unit};
-
-/// A unit that is prepared and not settled.
-#[derive(Clone, Copy, Debug, PartialEq, Eq)]
-pub struct Doubt {
-    pub unit: Unit,
-    /// The last sequence number in it, 1 to SEQWRAP.
-    pub last: u32,
-}
+use mq_sync::{Doubt, InDoubt, SenderData};
 
 /// What a running sender has of its hardened data.
 #[derive(Clone, Copy, Debug, PartialEq, Eq)]

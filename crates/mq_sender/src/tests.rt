@@ -1,6 +1,6 @@
 use super::*;
 use mq_frame::{Frame, FrameKind, Seen};
-use mq_sync::{Settle, Stock};
+use mq_sync::{Doubt, Settle, Stock};
 use std::process::Abort;
 use std::test::*;
 

@@ -43,17 +43,17 @@ use Rattle.mq_spec_manager.specs.Put.{mqput}
 use Rattle.mq_spec_manager.specs.Units.{mqcmit}
 use Rattle.mq_spec_manager.specs.Commands.{command, defined_object}
 use Rattle.mq_spec_manager.specs.Triggers.{trigger_turn}
-use Rattle.mq_spec_manager.specs.Stops.{begun, restart, cut}
+use Rattle.mq_spec_manager.specs.Stops.{restart, cut}
 use Rattle.mq_calls.specs.declared.choices.Return.TheVariants.{Comes}
-use Rattle.mq_spec_agents.specs.Agents.{seize, hold_batch, prepare, harden, receive, move_row, batch_row}
-use Rattle.mq_spec_manager.proofs.Script.{empty_image, london_with, local, connect, connection, handle, shared_output, open_at, script_md, plain_md, persistent_md, put_line, line, rows_line, ident_numbers}
+use Rattle.mq_spec_agents.specs.Words.{seize, hold_batch, prepare, harden, receive, move_row, batch_row}
+use Rattle.mq_spec_manager.proofs.Script.{starting, london_with, local, connect, connection, handle, shared_output, open_at, script_md, plain_md, persistent_md, put_line, line, rows_line, ident_numbers}
 
 abbrev q1 : List ℕ
 q1 = codes "Q1"
 
 abbrev manager : ℕ → List ℕ → ManagerAttributes → List Object → ℕ → Plain
 manager number name attributes given moment =
-    begun (record { number = number; name = name; log_max = 268435456 }) (record empty_image { definitions = record { objects = given; manager = attributes } }) moment
+    starting number name 268435456 (record { objects = given; manager = attributes }) moment
 
 -- Dates: of the moment 0, of 2026-01-01, and the last one.
 date_first : put_date 0 ≡ codes "19700101"

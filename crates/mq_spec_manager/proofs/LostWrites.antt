@@ -1,19 +1,22 @@
--- A stopped write that a restart does not find leaves what a stop before the call would have left.
-use Rattle.std.specs.Prelude.{◌≡◌, Bool, true, false, not, ◌&&◌, List, [], ◌∷◌, Option, Some, None, map, refl}
+-- A stopped write that a restart does not find leaves what a stop before the call would have left: a frozen manager keeps
+-- all that lasts, and so does a stop.
+use Rattle.std.specs.Prelude.{◌≡◌, ℕ, Bool, true, false, not, ◌&&◌, List, [], ◌∷◌, Option, Some, None, map, refl}
 use Rattle.std.proofs.Common.{ap, ◌∙◌, arith}
-use Rattle.mq_message.specs.declared.message.Message.{Message}
-use Rattle.mq_message.specs.declared.place.Place.{Place}
 use Rattle.mq_message.specs.declared.place.Holder.{Holder}
 use Rattle.mq_message.specs.declared.place.Holder.TheVariants as holders
+use Rattle.mq_message.specs.declared.place.Place.{Place}
+use Rattle.mq_message.specs.declared.message.Message.{Message}
 use Rattle.mq_queue.specs.declared.row.Row.{Row}
 use Rattle.mq_queue.specs.Rows.{keep, retag, is_free}
 use Rattle.mq_spec_state.specs.Reads.{is_persistent, is_by_unit}
-use Rattle.mq_spec_state.specs.State.{Queue}
+use Rattle.mq_spec_state.specs.State.{Plain, Queue, Batch, Noted}
 use Rattle.mq_spec_state.specs.State.Which.{HeldByUnits, Nonpersistent}
 use Rattle.mq_spec_state.specs.Changes.{release_if, kept_in, released_in, forgotten}
+use Rattle.mq_spec_state.specs.Images.{Image, Shelf, lasting, lasting_row, lasting_rows, shelf_of, shelves_of}
+use Rattle.mq_spec_state.specs.Steps.{freeze}
 
-abbrev lasting : Row → Bool
-lasting row = not (not (is_persistent row.message))
+abbrev stays : Row → Bool
+stays row = not (not (is_persistent row.message))
 
 abbrev let_go : Row → Row
 let_go row = release_if (is_by_unit row.by && not (is_free row)) true row
@@ -21,43 +24,46 @@ let_go row = release_if (is_by_unit row.by && not (is_free row)) true row
 abbrev row_by : Place → Message → Option Holder → Row
 row_by place message by = record { place = place; message = message; by = by }
 
--- letting go twice is letting go once, and leaves a row as lasting as it was
-let_go_twice : (place : Place) (message : Message) (by : Option Holder) → let_go (let_go (row_by place message by)) ≡ let_go (row_by place message by)
-let_go_twice place message None = refl
-let_go_twice place message (Some (holders.Unit n)) = refl
-let_go_twice place message (Some (holders.Batch c)) = refl
+-- a row that a unit lets go lasts as it did
+let_go_lasts : (bs : List Batch) (place : Place) (message : Message) (by : Option Holder) → lasting_row bs (let_go (row_by place message by)) ≡ lasting_row bs (row_by place message by)
+let_go_lasts bs place message None = refl
+let_go_lasts bs place message (Some (holders.Unit n)) = refl
+let_go_lasts bs place message (Some (holders.Batch c)) = refl
 
-let_go_lasts : (place : Place) (message : Message) (by : Option Holder) → lasting (let_go (row_by place message by)) ≡ lasting (row_by place message by)
-let_go_lasts place message None = refl
-let_go_lasts place message (Some (holders.Unit n)) = refl
-let_go_lasts place message (Some (holders.Batch c)) = refl
+let_go_stays : (place : Place) (message : Message) (by : Option Holder) → is_persistent (let_go (row_by place message by)).message ≡ is_persistent message
+let_go_stays place message None = refl
+let_go_stays place message (Some (holders.Unit n)) = refl
+let_go_stays place message (Some (holders.Batch c)) = refl
 
--- what a restart makes of rows that were frozen, and of rows that were stopped
-abbrev rested : List Row → List Row
-rested rows = keep lasting (retag let_go rows)
+kept_lasts : (bs : List Batch) (rows : List Row) → lasting_rows bs (keep stays rows) ≡ lasting_rows bs rows
+kept_lasts bs [] = refl
+kept_lasts bs (row ∷ rows) = grind (arith, kept_lasts bs rows)
 
-keep_go : (rows : List Row) → keep lasting (retag let_go rows) ≡ retag let_go (keep lasting rows)
-keep_go [] = refl
-keep_go (row ∷ rows) = grind (arith, keep_go rows, let_go_lasts row.place row.message row.by)
+gone_lasts : (bs : List Batch) (rows : List Row) → lasting_rows bs (retag let_go rows) ≡ lasting_rows bs rows
+gone_lasts bs [] = refl
+gone_lasts bs (row ∷ rows) = grind (arith, gone_lasts bs rows, let_go_lasts bs row.place row.message row.by, let_go_stays row.place row.message row.by)
 
-keep_twice : (rows : List Row) → keep lasting (keep lasting rows) ≡ keep lasting rows
-keep_twice [] = refl
-keep_twice (row ∷ rows) = grind (arith, keep_twice rows)
-
-go_twice : (rows : List Row) → retag let_go (retag let_go rows) ≡ retag let_go rows
-go_twice [] = refl
-go_twice (row ∷ rows) = grind (arith, go_twice rows, let_go_twice row.place row.message row.by)
-
-pub rested_same : (rows : List Row) → rested (keep lasting rows) ≡ rested (rested rows)
-rested_same rows = grind (arith, keep_go, keep_twice, go_twice)
-
--- the queues of a manager: what a stop does to them, units and nonpersistent rows alone
+-- the queues of a manager: what a stopped write does to them, and what a stop does, units and nonpersistent rows alone
 abbrev stop_queue : Queue → Queue
 stop_queue q = forgotten (kept_in Nonpersistent (released_in HeldByUnits true q))
 
-queue_same : (q : Queue) → stop_queue (kept_in Nonpersistent q) ≡ stop_queue (stop_queue q)
-queue_same q = ap (λ (rows : List Row). record { name = q.name; rows = rows; arrivals = q.arrivals; due = 0; last_due = None; switched_off = false }) (rested_same q.rows)
+abbrev shelf_with : List ℕ → List Row → Shelf
+shelf_with name rows = record { name = name; rows = rows }
 
-queues_same : (qs : List Queue) → map stop_queue (map (kept_in Nonpersistent) qs) ≡ map stop_queue (map stop_queue qs)
-queues_same [] = refl
-queues_same (q ∷ qs) = ap (λ (x : Queue). x ∷ map stop_queue (map (kept_in Nonpersistent) qs)) (queue_same q) ∙ ap (λ (xs : List Queue). stop_queue (stop_queue q) ∷ xs) (queues_same qs)
+shelf_frozen : (bs : List Batch) (q : Queue) → shelf_of bs (kept_in Nonpersistent q) ≡ shelf_of bs q
+shelf_frozen bs q = ap (shelf_with q.name) (kept_lasts bs q.rows)
+
+shelf_stopped : (bs : List Batch) (q : Queue) → shelf_of bs (stop_queue q) ≡ shelf_of bs q
+shelf_stopped bs q = ap (shelf_with q.name) (kept_lasts bs (retag let_go q.rows) ∙ gone_lasts bs q.rows)
+
+pub shelves_frozen : (bs : List Batch) (qs : List Queue) → shelves_of bs (map (kept_in Nonpersistent) qs) ≡ shelves_of bs qs
+shelves_frozen bs [] = refl
+shelves_frozen bs (q ∷ qs) = λ i. shelf_frozen bs q i ∷ shelves_frozen bs qs i
+
+pub shelves_stopped : (bs : List Batch) (qs : List Queue) → shelves_of bs (map stop_queue qs) ≡ shelves_of bs qs
+shelves_stopped bs [] = refl
+shelves_stopped bs (q ∷ qs) = λ i. shelf_stopped bs q i ∷ shelves_stopped bs qs i
+
+-- a manager that a stopped write has frozen has the image that it had before the call
+pub frozen_lasts : (stopped : Option Noted) (left : ℕ) (p : Plain) → lasting (freeze stopped left p) ≡ lasting p
+frozen_lasts stopped left p = λ i. record (lasting p) { shelves = shelves_frozen p.channels.batches p.queues i }

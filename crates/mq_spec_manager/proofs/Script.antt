@@ -26,21 +26,31 @@ use Rattle.mq_spec_state.specs.State.{Plain}
 use Rattle.mq_spec_state.specs.Reads.{stored}
 use Rattle.mq_spec_state.specs.Steps.{Step, next}
 use Rattle.mq_spec_state.specs.Steps.Step.{Refuse, Do}
-use Rattle.mq_spec_manager.specs.Stops.{Image, begun}
+use Rattle.mq_spec_state.specs.Images.{Image, Shelf}
+use Rattle.mq_spec_manager.specs.Stops.{first_start}
 use Rattle.mq_spec_manager.specs.Handles.{mqconn, mqopen}
 use Rattle.mq_spec_manager.specs.Commands.{command, defined_object}
 use Rattle.mq_objects.specs.declared.object.Object.{Object}
+use Rattle.mq_objects.specs.declared.object.LocalQueue.{LocalQueue}
+use Rattle.mq_objects.specs.declared.object.Definitions.{Definitions}
+use Rattle.mq_objects.specs.Names.{locals_of}
 
 -- a manager at its first start
-abbrev pub empty_image : Image
-empty_image = record { definitions = nothing_defined; queues = []; senders = []; receivers = []; incarnation = 1; length = 64 }
+abbrev pub empty_shelf : LocalQueue → Shelf
+empty_shelf q = record { name = q.name; rows = [] }
+
+abbrev pub image_of : Definitions → Image
+image_of d = record { definitions = d; shelves = map empty_shelf (locals_of d); senders = []; receivers = []; incarnation = 0 }
+
+abbrev pub starting : ℕ → List ℕ → ℕ → Definitions → ℕ → Plain
+starting number name max d moment = first_start (record { number = number; name = name; log_max = max }) (image_of d) 1 moment
 
 abbrev pub london : ℕ → Plain
-london max = begun (record { number = 1; name = codes "LONDON"; log_max = max }) empty_image 0
+london max = starting 1 (codes "LONDON") max nothing_defined 0
 
 -- the same with these objects, which its log had
 abbrev pub london_with : ℕ → List Object → Plain
-london_with max given = begun (record { number = 1; name = codes "LONDON"; log_max = max }) (record empty_image { definitions = record nothing_defined { objects = given } }) 0
+london_with max given = starting 1 (codes "LONDON") max (record nothing_defined { objects = given }) 0
 
 abbrev pub local : List ℕ → List Setting → Object
 local name given = defined_object (subjects.Local name) given

@@ -1,7 +1,6 @@
 -- First start, stop, restart, cut, clock.
-use Rattle.std.specs.Prelude.{◌≡◌, ℕ, ◌+◌, ◌-◌, ◌*◌, ◌<◌, ◌≤◌, min, filter, Bool, true, false, List, [], ◌∷◌, ◌++◌, Option, Some, None, map}
+use Rattle.std.specs.Prelude.{◌≡◌, ℕ, ◌+◌, ◌-◌, ◌*◌, ◌<◌, ◌≤◌, ◌⊎◌, min, filter, Bool, true, false, List, [], ◌∷◌, ◌++◌, Option, Some, None, map}
 use Rattle.mq_message.specs.declared.place.Holder.TheVariants as holders
-use Rattle.mq_objects.specs.declared.object.Definitions.{Definitions}
 use Rattle.mq_calls.specs.declared.choices.Return.{Return}
 use Rattle.mq_calls.specs.declared.choices.Return.TheVariants.{Comes, Fails}
 use Rattle.mq_calls.specs.declared.commands.RestartFault.{RestartFault}
@@ -15,14 +14,15 @@ use Rattle.mq_calls.specs.declared.deltas.Did.TheVariants as did
 use Rattle.mq_calls.specs.declared.records.Add.{Add}
 use Rattle.mq_calls.specs.declared.records.LogRecord.{LogRecord}
 use Rattle.mq_calls.specs.declared.records.LogRecord.TheVariants as records
-use Rattle.mq_spec_state.specs.State.{Plain, Given, Queue, Batch, SenderSide, ReceiverSide, Change, Noted, Running}
+use Rattle.mq_spec_state.specs.State.{Plain, Given, Batch, Change, Noted, Running, LogState}
 use Rattle.mq_spec_state.specs.State.Which.{HeldBy, HeldByUnits, Nonpersistent}
-use Rattle.mq_spec_state.specs.State.Change.{Release, Leave, Uncount, ForgetAll}
+use Rattle.mq_spec_state.specs.State.Change.{Release, Leave, ForgetAll}
 use Rattle.mq_spec_state.specs.State.Running.{Up, Down}
-use Rattle.mq_spec_state.specs.Changes.{apply_all, uncounted_in}
+use Rattle.mq_spec_state.specs.Changes.{apply_all}
+use Rattle.mq_spec_state.specs.Images.{Image, lasting, begun, raised}
 use Rattle.mq_spec_state.specs.Reads.{stands}
 use Rattle.mq_spec_state.specs.Sizes.{need}
-use Rattle.mq_spec_state.specs.Steps.{After, stands_in}
+use Rattle.mq_spec_state.specs.Steps.{After, stands_in, calls_of_write}
 use Rattle.mq_spec_state.specs.Steps.Outcome.{Answered, Refused, Wanting}
 
 -- What a stop does: units are backed out, batches that are not prepared are released, nonpersistent rows go.
@@ -45,8 +45,16 @@ stop p = stop_at p.running p
 -- How a restart ends is `Return`: it comes up, the stopped write found or not, with so many Started records of stopped
 -- restarts; or it fails, in its own Started write or before it, with so many calls left before an armed cut.
 
-abbrev pub started_record : Plain → LogRecord
-started_record p = records.Started p.given.number p.given.name p.numbers.incarnation
+-- a Started record; the one of a restart, behind those of restarts that were stopped
+abbrev pub started_record : Given → ℕ → LogRecord
+started_record given incarnation = records.Started given.number given.name incarnation
+
+abbrev pub next_started : ℕ → Plain → LogRecord
+next_started started p = started_record p.given (p.numbers.incarnation + started + 1)
+
+-- what one takes of the log
+abbrev pub started_need : Given → ℕ
+started_need given = need (started_record given 0)
 
 -- what a kept write does, with its record in the log
 abbrev pub redone : Noted → Plain → Plain
@@ -57,16 +65,24 @@ redone_if true (Some n) p = redone n p
 redone_if true None p = p
 redone_if false noted p = p
 
--- the next incarnation counts from 1; the restart makes five device calls
-abbrev pub risen : ℕ → Plain → Plain
-risen started p = record p {
-  running = Up;
-  numbers = record { incarnation = p.numbers.incarnation + started + 1; idents = 0; connections = 0 };
-  log = record { length = p.log.length + (started + 1) * need (started_record p); armed = p.log.armed - 5 };
-}
+-- Device calls of a start: before the Started record one, or three where the log is empty; and that record's. A restart
+-- that finds what the history allows finds a log, so it makes five.
+abbrev pub calls_of_start : ℕ
+calls_of_start = 1
 
+abbrev pub calls_of_empty_start : ℕ
+calls_of_empty_start = 3
+
+abbrev pub calls_of_restart : ℕ
+calls_of_restart = calls_of_start + calls_of_write
+
+abbrev pub grown : ℕ → Plain → LogState
+grown started p = record { length = p.log.length + (started + 1) * started_need p.given; armed = p.log.armed - calls_of_restart }
+
+-- A restart gives what recovery gives of the log: what lasts, in the next incarnation.
 abbrev pub restarted : Bool → ℕ → Option Noted → Plain → Plain
-restarted kept started noted p = risen started (apply_all (Uncount ∷ []) (at_rest (redone_if kept noted p)))
+restarted kept started noted p =
+    begun p.given (raised started (lasting (redone_if kept noted p))) (grown started (redone_if kept noted p)) p.moment
 
 -- what a kept write did to rows that last: those that its record adds, and those that stand since the stop
 abbrev pub adds_of : LogRecord → List Add
@@ -116,36 +132,32 @@ CanBeKept true None = ⊥
 CanBeKept true (Some n) = Unit {0}
 CanBeKept false noted = Unit {0}
 
-abbrev pub CanReturn : Return → Option Noted → ℕ → ℕ → Type 0
-CanReturn (Comes kept started) noted starts armed = CanBeKept kept noted × (started ≤ starts) × (0 < armed → 5 < armed)
-CanReturn (Fails faults.Cut in_write left) noted starts armed = (armed ≤ 5) × (left ≡ 0) × (in_write ≡ true → 1 < armed) × (in_write ≡ false → armed ≡ 1)
-CanReturn (Fails faults.Disk in_write left) noted starts armed = (left ≤ armed) × (0 < armed → 0 < left) × (armed ≤ left + 5)
-CanReturn (Fails (faults.BadLog place) in_write left) noted starts armed = (in_write ≡ false) × (left ≡ armed - 1) × (0 < armed → 1 < armed)
-CanReturn (Fails faults.NoMemory in_write left) noted starts armed = Unit {0}
-CanReturn (Fails faults.Up in_write left) noted starts armed = ⊥
+-- an armed cut has so many calls less, at least and at most, and is still to come
+abbrev pub Spent : (least most armed left : ℕ) → Type 0
+Spent least most armed left = ((armed ≡ 0) × (left ≡ 0)) ⊎ ((0 < left) × (left + least ≤ armed) × (armed ≤ left + most))
 
--- A first start, from what it read of the log: definitions, rows and channel data; the incarnation that it begins, and the
--- log's length with what it appended. BackoutCount is 0 in every row, and no trigger is due.
-pub record Image : Type 0 where
-  pub definitions : Definitions
-  pub queues : List Queue
-  pub senders : List SenderSide
-  pub receivers : List ReceiverSide
-  pub incarnation : ℕ
-  pub length : ℕ
+-- with at most so many device calls before the Started record
+abbrev pub CanReturnWith : (first : ℕ) → Return → Option Noted → (starts armed : ℕ) → Type 0
+CanReturnWith first (Comes kept started) noted starts armed = CanBeKept kept noted × (started ≤ starts) × (0 < armed → calls_of_restart < armed)
+CanReturnWith first (Fails faults.Cut true left) noted starts armed = (left ≡ 0) × (calls_of_start < armed) × (armed ≤ first + calls_of_write)
+CanReturnWith first (Fails faults.Cut false left) noted starts armed = (left ≡ 0) × (0 < armed) × (armed ≤ first)
+CanReturnWith first (Fails faults.Disk true left) noted starts armed = Spent (calls_of_start + 1) (first + calls_of_write) armed left
+CanReturnWith first (Fails faults.Disk false left) noted starts armed = Spent 0 first armed left
+CanReturnWith first (Fails (faults.BadLog place) true left) noted starts armed = ⊥
+CanReturnWith first (Fails (faults.BadLog place) false left) noted starts armed = Spent calls_of_start calls_of_start armed left
+CanReturnWith first (Fails faults.NoMemory in_write left) noted starts armed = Unit {0}
+CanReturnWith first (Fails faults.Up in_write left) noted starts armed = ⊥
 
-abbrev pub begun : Given → Image → ℕ → Plain
-begun given image moment = record {
-  given = given;
-  running = Up;
-  definitions = image.definitions;
-  queues = map uncounted_in image.queues;
-  connections = [];
-  channels = record { senders = image.senders; receivers = image.receivers; seizures = []; batches = []; bound = [] };
-  moment = moment;
-  numbers = record { incarnation = image.incarnation; idents = 0; connections = 0 };
-  log = record { length = image.length; armed = 0 };
-}
+abbrev pub CanReturn : Return → Option Noted → (starts armed : ℕ) → Type 0
+CanReturn choice noted starts armed = CanReturnWith calls_of_empty_start choice noted starts armed
+
+-- over a disk that tells its bytes, the log is never found empty
+abbrev pub CanReturnTold : Return → Option Noted → (starts armed : ℕ) → Type 0
+CanReturnTold choice noted starts armed = CanReturnWith calls_of_start choice noted starts armed
+
+-- A first start, of an image of its log and the log's length: one Started record more, no cut is armed.
+abbrev pub first_start : Given → Image → (length moment : ℕ) → Plain
+first_start given image length moment = begun given (raised 0 image) (record { length = length + started_need given; armed = 0 }) moment
 
 -- the k-th device call from now on is to be stopped; with 0 none
 abbrev pub cut : ℕ → Plain → Plain

@@ -1,7 +1,10 @@
 -- What each change does. Rows are only placed, kept or retagged.
-use Rattle.std.specs.Prelude.{ℕ, ℤ, pos, negsuc, ◌+◌, ◌-◌, ◌==◌, Bool, true, false, not, ◌&&◌, ◌||◌, List, [], ◌∷◌, ◌++◌, if◌then◌else◌, Option, Some, None, map, filter}
+use Rattle.std.specs.Prelude.{ℕ, ℤ, ◌+◌, ◌-◌, ◌==◌, Bool, true, false, not, ◌&&◌, ◌||◌, List, [], ◌∷◌, ◌++◌, if◌then◌else◌, Option, Some, None, map, filter}
 use Rattle.std.specs.List.{list_any}
 use Rattle.std.specs.Str.{bytes_eq}
+use Rattle.std.specs.Ordering.{is_lt, nat_cmp}
+use Rattle.std.specs.Cmp.Lexicographic.{slice_cmp}
+use Rattle.mq_message.specs.declared.message.Ident.{Ident}
 use Rattle.mq_message.specs.declared.message.Message.{Message}
 use Rattle.mq_message.specs.declared.place.Holder.{Holder}
 use Rattle.mq_queue.specs.declared.row.Row.{Row}
@@ -12,9 +15,10 @@ use Rattle.mq_objects.specs.declared.object.LocalQueue.{LocalQueue}
 use Rattle.mq_objects.specs.Names.{local_of, is_by_priority}
 use Rattle.mq_objects.specs.Changed.{changed}
 use Rattle.mq_resolve.specs.declared.route.PathStep.{PathStep}
+use Rattle.mq_sync.specs.declared.data.InDoubt.{InDoubt}
 use Rattle.mq_spec_state.specs.State.{Plain, Queue, Connection, Handle, Seizure, Batch, SenderSide, ReceiverSide, Channels, Which, Change, fresh_queue}
 use Rattle.mq_spec_state.specs.State.Which.{Among, HeldBy, HeldByUnits, Nonpersistent}
-use Rattle.mq_spec_state.specs.State.Change.{Place as Places, Try, Leave, Hold, Release, Uncount, Connect, Disconnect, OpenHandle, CloseHandle, SetCursor, Pend, EndUnit, MakeStale, CountIdent, ChangeObjects, Renew, DropQueue, SwitchOn, Serve, SetSender, SetReceiver, Seize, Unseize, AddBatch, DropBatch, SetBound, SetMoment, ForgetAll}
+use Rattle.mq_spec_state.specs.State.Change.{Place as Places, Try, Leave, Hold, Release, Connect, Disconnect, OpenHandle, CloseHandle, SetCursor, Pend, EndUnit, MakeStale, CountIdent, ChangeObjects, Renew, DropQueue, SwitchOn, Serve, SetSender, SetReceiver, Undoubt, Seize, Unseize, AddBatch, DropBatch, SetBound, SetMoment, ForgetAll}
 use Rattle.mq_spec_state.specs.Reads.{stored, is_persistent, is_by_unit, has_step}
 use Rattle.mq_spec_state.specs.Condition.{condition, is_depth}
 
@@ -26,13 +30,32 @@ set_queue new (q ∷ qs) = if bytes_eq new.name q.name then new ∷ qs else q �
 abbrev pub with_queue : Queue → Plain → Plain
 with_queue q p = record p { queues = set_queue q p.queues }
 
+-- What is kept by channel stands in order of the channels' names: the new one takes the place of the one that has its
+-- name, or comes before the first whose name is greater.
+abbrev pub comes_before : List ℕ → List ℕ → Bool
+comes_before a b = is_lt (slice_cmp nat_cmp a b)
+
+abbrev pub set_named : {A : Type 0} → (A → List ℕ) → A → List A → List A
+set_named name new [] = new ∷ []
+set_named name new (x ∷ xs) =
+    if bytes_eq (name new) (name x) then new ∷ xs else (if comes_before (name new) (name x) then new ∷ x ∷ xs else x ∷ set_named name new xs)
+
 abbrev pub set_sender : SenderSide → List SenderSide → List SenderSide
-set_sender new [] = new ∷ []
-set_sender new (s ∷ ss) = if bytes_eq new.channel s.channel then new ∷ ss else s ∷ set_sender new ss
+set_sender new sides = set_named (λ (s : SenderSide). s.channel) new sides
 
 abbrev pub set_receiver : ReceiverSide → List ReceiverSide → List ReceiverSide
-set_receiver new [] = new ∷ []
-set_receiver new (r ∷ rs) = if bytes_eq new.channel r.channel then new ∷ rs else r ∷ set_receiver new rs
+set_receiver new sides = set_named (λ (r : ReceiverSide). r.channel) new sides
+
+-- a unit in doubt without one of its idents
+abbrev pub less_ident : Ident → Option InDoubt → Option InDoubt
+less_ident ident None = None
+less_ident ident (Some d) = Some (record d { idents = filter (λ other. not (same_ident ident other)) d.idents })
+
+abbrev pub off_list : Ident → SenderSide → SenderSide
+off_list ident s = record s { hardened = record s.hardened { in_doubt = less_ident ident s.hardened.in_doubt } }
+
+abbrev pub off_lists : Ident → List SenderSide → List SenderSide
+off_lists ident sides = map (off_list ident) sides
 
 -- the rows that are meant, on the queue of a name
 abbrev pub selects : Which → List ℕ → Row → Bool
@@ -73,12 +96,6 @@ release_if false counted row = row
 -- a held row is free again, and counts a backout or not
 abbrev pub released_in : Which → Bool → Queue → Queue
 released_in which counted q = record q { rows = retag (λ (row : Row). release_if (selects which q.name row && not (is_free row)) counted row) q.rows }
-
-abbrev pub uncounted : Row → Row
-uncounted row = record row { message = record row.message { md = record row.message.md { backout_count = pos 0 } } }
-
-abbrev pub uncounted_in : Queue → Queue
-uncounted_in q = record q { rows = retag uncounted q.rows }
 
 -- a trigger becomes due now; a queue with TRIGTYPE(DEPTH) then counts as NOTRIGGER
 abbrev pub made_due : Bool → ℕ → Queue → Queue
@@ -124,7 +141,7 @@ abbrev pub unbound : List ℕ → Channels → Channels
 unbound channel c = record c { bound = filter (λ other. not (bytes_eq channel other)) c.bound }
 
 abbrev pub set_bound : Bool → List ℕ → Channels → Channels
-set_bound true channel c = record c { bound = (unbound channel c).bound ++ channel ∷ [] }
+set_bound true channel c = record c { bound = set_named (λ (name : List ℕ). name) channel c.bound }
 set_bound false channel c = unbound channel c
 
 abbrev pub forgotten : Queue → Queue
@@ -136,7 +153,6 @@ apply (Try name priority) p = try_trigger name priority p
 apply (Leave which) p = record p { queues = map (kept_in which) p.queues }
 apply (Hold which by) p = record p { queues = map (held_in which by) p.queues }
 apply (Release which counted) p = record p { queues = map (released_in which counted) p.queues }
-apply Uncount p = record p { queues = map uncounted_in p.queues }
 apply (Connect c) p = record p { connections = p.connections ++ c ∷ []; numbers = record p.numbers { connections = p.numbers.connections + 1 } }
 apply (Disconnect number) p = record p { connections = filter (λ (c : Connection). not (c.number == number)) p.connections }
 apply (OpenHandle number h) p = with_connection number (λ c. record c { handles = c.handles ++ h ∷ []; last_handle = c.last_handle + 1 }) p
@@ -153,9 +169,10 @@ apply (SwitchOn name) p = with_queue (record (stored name p) { switched_off = fa
 apply (Serve name) p = with_queue (record (stored name p) { due = (stored name p).due - 1 }) p
 apply (SetSender channel d) p = record p { channels = record p.channels { senders = set_sender (record { channel = channel; hardened = d }) p.channels.senders } }
 apply (SetReceiver channel d) p = record p { channels = record p.channels { receivers = set_receiver (record { channel = channel; hardened = d }) p.channels.receivers } }
-apply (Seize s) p = record p { channels = record p.channels { seizures = p.channels.seizures ++ s ∷ [] } }
+apply (Undoubt ident) p = record p { channels = record p.channels { senders = off_lists ident p.channels.senders } }
+apply (Seize s) p = record p { channels = record p.channels { seizures = set_named (λ (x : Seizure). x.channel) s p.channels.seizures } }
 apply (Unseize channel) p = record p { channels = unseized channel p.channels }
-apply (AddBatch b) p = record p { channels = record p.channels { batches = p.channels.batches ++ b ∷ [] } }
+apply (AddBatch b) p = record p { channels = record p.channels { batches = set_named (λ (x : Batch). x.channel) b p.channels.batches } }
 apply (DropBatch channel) p = record p { channels = without_batch channel p.channels }
 apply (SetBound channel bound) p = record p { channels = set_bound bound channel p.channels }
 apply (SetMoment moment) p = record p { moment = moment }

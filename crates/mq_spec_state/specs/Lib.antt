@@ -3,4 +3,7 @@ pub mod Sizes
 pub mod Reads
 pub mod Condition
 pub mod Changes
+pub mod Images
 pub mod Steps
+pub mod Meeting
+pub mod Counts

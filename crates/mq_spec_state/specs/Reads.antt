@@ -8,8 +8,6 @@ use Rattle.mq_message.specs.declared.place.Holder.{Holder}
 use Rattle.mq_message.specs.declared.place.Holder.TheVariants as holders
 use Rattle.mq_queue.specs.declared.row.Row.{Row}
 use Rattle.mq_queue.specs.Rows.{has_ident, is_free}
-use Rattle.mq_objects.specs.declared.object.LocalQueue.{LocalQueue}
-use Rattle.mq_objects.specs.Names.{locals_of}
 use Rattle.mq_resolve.specs.declared.route.RouteEnd.{RouteEnd}
 use Rattle.mq_resolve.specs.declared.route.RouteEnd.TheVariants.{Local, Via}
 use Rattle.mq_resolve.specs.declared.route.PathStep.{PathStep}
@@ -209,4 +207,4 @@ is_expired p row = is_past p.moment row.message.deadline
 
 -- the ident stands somewhere at this manager
 abbrev pub stands : Ident → Plain → Bool
-stands ident p = list_any (λ (q : LocalQueue). list_any (has_ident ident) (stored q.name p).rows) (locals_of p.definitions)
+stands ident p = list_any (λ (q : Queue). list_any (has_ident ident) q.rows) p.queues

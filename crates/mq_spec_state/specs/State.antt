@@ -36,7 +36,8 @@ pub record Queue : Type 0 where
   pub last_due : Option ℕ
   pub switched_off : Bool
 
--- the hardened data of channel ends; what their running ends have here: queues, batches, and which receivers are bound
+-- the hardened data of channel ends; what their running ends have here: queues, batches, and which receivers are bound;
+-- each list in order of the channels' names, one entry a channel
 pub record Channels : Type 0 where
   pub senders : List SenderSide
   pub receivers : List ReceiverSide
@@ -71,7 +72,6 @@ pub data Change : Type 0 where
   Leave : (which : Which) → Change
   Hold : (which : Which) → (by : Holder) → Change
   Release : (which : Which) → (counted : Bool) → Change
-  Uncount : Change
   -- connections, handles, units
   Connect : (connection : Connection) → Change
   Disconnect : (number : ℕ) → Change
@@ -92,6 +92,8 @@ pub data Change : Type 0 where
   -- channel ends
   SetSender : (channel : List ℕ) → (d : SenderData) → Change
   SetReceiver : (channel : List ℕ) → (d : ReceiverData) → Change
+  -- (a message came back for good: no unit in doubt has its ident any more)
+  Undoubt : (ident : Ident) → Change
   Seize : (seizure : Seizure) → Change
   Unseize : (channel : List ℕ) → Change
   AddBatch : (batch : Batch) → Change

@@ -1,12 +1,10 @@
 -- What a call is: refused, or an answer with what it does, in one or two parts, each behind at most one forced write;
 -- and how the free choices end it.
-use Rattle.std.specs.Prelude.{◌≡◌, ℕ, zero, suc, is_some, ◌+◌, ◌-◌, ◌<◌, ◌≤◌, Bool, true, List, [], ◌∷◌, ◌++◌, map, if◌then◌else◌, Option, Some, None, Result, Ok, Err}
+use Rattle.std.specs.Prelude.{◌≡◌, ℕ, zero, suc, is_some, ◌+◌, ◌-◌, ◌<◌, ◌≤◌, Bool, true, List, [], ◌∷◌, ◌++◌, map, if◌then◌else◌, Option, Some, None}
 use Rattle.mq_disk.specs.declared.cutter.Stop.{Stop}
 use Rattle.mq_disk.specs.declared.cutter.Stop.TheVariants as stops
 use Rattle.mq_calls.specs.declared.choices.Choice.{Choice}
 use Rattle.mq_calls.specs.declared.choices.Choice.TheVariants.{Runs, NoMemory, Stopped}
-use Rattle.mq_calls.specs.declared.commands.Halt.{Halt}
-use Rattle.mq_calls.specs.declared.commands.Halt.TheVariants as halts
 use Rattle.mq_calls.specs.declared.deltas.Did.{Did}
 use Rattle.mq_calls.specs.declared.records.LogRecord.{LogRecord}
 use Rattle.mq_spec_state.specs.State.{Plain, Change, Noted, LogState}
@@ -66,12 +64,23 @@ pub record After (F T : Type 0) : Type 0 where
   pub delta : List Did
   pub next : Plain
 
--- a record stands in the log; to write it takes four device calls
+-- a forced write makes four device calls, which count for an armed cut
+abbrev pub calls_of_write : ℕ
+calls_of_write = 4
+
+abbrev pub forced_calls : Option LogRecord → ℕ
+forced_calls None = 0
+forced_calls (Some r) = calls_of_write
+
+abbrev pub calls_of : Part → ℕ
+calls_of part = forced_calls part.forced
+
+-- a record stands in the log; it is written there
 abbrev pub stands_in : LogRecord → LogState → LogState
 stands_in r log = record log { length = log.length + need r }
 
 abbrev pub written : LogRecord → LogState → LogState
-written r log = record log { length = log.length + need r; armed = log.armed - 4 }
+written r log = record log { length = log.length + need r; armed = log.armed - calls_of_write }
 
 abbrev pub logged : Option LogRecord → Plain → Plain
 logged None p = p
@@ -120,63 +129,42 @@ abbrev pub after : {F T : Type 0} → Step F T → Choice → Plain → After F 
 after (Refuse reason) choice p = record { outcome = Refused reason; delta = []; next = p }
 after (Do reply parts) choice p = chosen choice reply parts p
 
--- Which choices there are. Each forced write makes four device calls that count for an armed cut.
+-- Which choices there are. The device calls of all parts, of those before a part, and of a part itself.
 abbrev pub write_calls : List Part → ℕ
 write_calls [] = 0
-write_calls (part ∷ parts) = if is_some part.forced then 4 + write_calls parts else write_calls parts
+write_calls (part ∷ parts) = calls_of part + write_calls parts
 
 abbrev pub calls_before : ℕ → List Part → ℕ
 calls_before n [] = 0
 calls_before zero (part ∷ parts) = 0
-calls_before (suc n) (part ∷ parts) = if is_some part.forced then 4 + calls_before n parts else calls_before n parts
+calls_before (suc n) (part ∷ parts) = calls_of part + calls_before n parts
+
+abbrev pub calls_at : ℕ → List Part → ℕ
+calls_at n [] = 0
+calls_at zero (part ∷ parts) = calls_of part
+calls_at (suc n) (part ∷ parts) = calls_at n parts
 
 abbrev pub IsWrite : ℕ → List Part → Type 0
 IsWrite n [] = ⊥
 IsWrite zero (part ∷ parts) = is_some part.forced ≡ true
 IsWrite (suc n) (part ∷ parts) = IsWrite n parts
 
--- the cut comes exactly at the armed call; the disk may stop any call before it
-abbrev pub StopsAt : Stop → ℕ → ℕ → ℕ → Type 0
-StopsAt stops.Cut armed before left = (before < armed) × (armed ≤ before + 4) × (left ≡ 0)
-StopsAt stops.Disk armed before left = (0 < armed → (before < armed) × (0 < left) × (before + left < armed)) × (armed ≤ before + left + 4) × (armed ≡ 0 → left ≡ 0)
+-- in a write of so many calls the cut comes exactly at the armed call; the disk may stop any call before it
+abbrev pub StopsAt : Stop → (calls armed before left : ℕ) → Type 0
+StopsAt stops.Cut calls armed before left = (before < armed) × (armed ≤ before + calls) × (left ≡ 0)
+StopsAt stops.Disk calls armed before left =
+    (0 < armed → (before < armed) × (0 < left) × (before + left < armed)) × (armed ≤ before + left + calls) × (armed ≡ 0 → left ≡ 0)
 
 abbrev pub Possible : Choice → List Part → ℕ → Type 0
 Possible Runs parts armed = 0 < armed → write_calls parts < armed
 Possible NoMemory parts armed = Unit {0}
-Possible (Stopped by n left) parts armed = IsWrite n parts × StopsAt by armed (calls_before n parts) left
+Possible (Stopped by n left) parts armed = IsWrite n parts × StopsAt by (calls_at n parts) armed (calls_before n parts) left
 
 -- a call that takes no memory never finds none
 abbrev pub IsNotWanting : Choice → Type 0
 IsNotWanting Runs = Unit {0}
 IsNotWanting NoMemory = ⊥
 IsNotWanting (Stopped by n left) = Unit {0}
-
--- A body meets a step: its result names the choice. What a forced write takes of an armed cut is part of it.
-abbrev pub Ran : List Part → ℕ → Type 0
-Ran parts armed = Possible Runs parts armed
-
--- stopped in the part of that number, with so many calls left
-pub record StoppedIn (by : Stop) (parts : List Part) (old new : Plain) : Type 0 where
-  pub part : ℕ
-  pub write : IsWrite part parts
-  pub stop : StopsAt by old.log.armed (calls_before part parts) new.log.armed
-  pub next : new ≡ stopped_at part parts new.log.armed old
-
-abbrev pub MeetsDone : {F T : Type 0} → Plain → T → List Part → Result T (Halt F) → Plain → Type 0
-MeetsDone old reply parts (Ok value) new = (value ≡ reply) × Ran parts old.log.armed × (new ≡ do_all parts old)
-MeetsDone old reply parts (Err (halts.Refused reason)) new = ⊥
-MeetsDone old reply parts (Err halts.NoMemory) new = new ≡ old
-MeetsDone old reply parts (Err (halts.Stopped by)) new = StoppedIn by parts old new
-
-abbrev pub MeetsRefusal : {F T : Type 0} → Plain → F → Result T (Halt F) → Plain → Type 0
-MeetsRefusal old reason (Ok value) new = ⊥
-MeetsRefusal old reason (Err (halts.Refused other)) new = (other ≡ reason) × (new ≡ old)
-MeetsRefusal old reason (Err halts.NoMemory) new = ⊥
-MeetsRefusal old reason (Err (halts.Stopped by)) new = ⊥
-
-abbrev pub Meets : {F T : Type 0} → Plain → Step F T → Result T (Halt F) → Plain → Type 0
-Meets old (Refuse reason) result new = MeetsRefusal old reason result new
-Meets old (Do reply parts) result new = MeetsDone old reply parts result new
 
 -- the state after a call that runs, and its answer
 abbrev pub next : {F T : Type 0} → Step F T → Plain → Plain

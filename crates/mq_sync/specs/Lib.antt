@@ -1,3 +1,4 @@
 pub mod Units
 pub mod Numbers
 pub mod Turns
+pub mod Settlement

@@ -10,11 +10,20 @@ pub enum End {
     Receiver,
 }
 
-/// A unit that was prepared and isn't settled: its messages, and the last sequence number with it.
+/// A unit that was prepared and isn't settled: the transmission queue that it was taken from, its messages, and the
+/// last sequence number with it.
 #[derive(Drop)]
 pub struct InDoubt {
     pub unit: Unit,
+    pub queue: QName,
     pub idents: Items<Ident>,
+    pub last: u32,
+}
+
+/// What a running sender keeps of a unit in doubt: its name, and the last sequence number with it.
+#[derive(Clone, Copy, Debug, PartialEq, Eq)]
+pub struct Doubt {
+    pub unit: Unit,
     pub last: u32,
 }
 

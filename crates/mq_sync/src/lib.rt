@@ -5,7 +5,7 @@ mod data;
 mod numbers;
 mod unit;
 
-pub use data::{ChannelData, End, InDoubt, ReceiverData, SenderData, Stock};
+pub use data::{ChannelData, Doubt, End, InDoubt, ReceiverData, SenderData, Stock};
 pub use numbers::next_number;
 pub use unit::{Settle, Unit, settle_of};
 

@@ -1,0 +1,26 @@
+use crate::state::{ReceiverSide, SenderSide};
+use mq_base::Items;
+use mq_name::QName;
+use mq_objects::Definitions;
+use mq_queue::Row;
+
+/// A local queue as a log keeps it: its rows that last, in order of place. Their arrivals are 0, for a log knows none.
+#[derive(Drop)]
+pub struct Shelf {
+    pub name: QName,
+    pub rows: Items<Row>,
+}
+
+/// What a log keeps of a manager.
+#[derive(Drop)]
+pub struct Image {
+    pub definitions: Definitions,
+    /// One for each local queue, in order of definition.
+    pub shelves: Items<Shelf>,
+    /// In order of the channels' names, one a channel.
+    pub senders: Items<SenderSide>,
+    /// In order of the channels' names, one a channel.
+    pub receivers: Items<ReceiverSide>,
+    /// The greatest one that was started, 0 for none.
+    pub incarnation: u64,
+}

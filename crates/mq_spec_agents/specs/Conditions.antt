@@ -1,0 +1,129 @@
+-- What the calls of channel ends and of the handler ask.
+use Rattle.std.specs.List.{list_any, AllByRecursion}
+use Rattle.std.specs.Option.{option_map}
+use Rattle.std.specs.Prelude.{ℕ, Bool, true, false, not, ◌&&◌, List, [], ◌∷◌, Option, Some, None, find, ◌≡◌, ◌<◌, ◌≤◌, IsSome, is_some}
+use Rattle.mq_codes.specs.Numbers.{number}
+use Rattle.mq_message.specs.declared.message.Ident.{Ident}
+use Rattle.mq_message.specs.declared.place.Holder.TheVariants as holders
+use Rattle.mq_queue.specs.Rows.{same_ident, has_ident, held_by}
+use Rattle.mq_queue.specs.declared.row.Row.{Row}
+use Rattle.mq_objects.specs.Names.{local_of, channel_of, is_transmission}
+use Rattle.mq_objects.specs.declared.object.LocalQueue.{LocalQueue}
+use Rattle.mq_sync.specs.Settlement.{sender_or, receiver_or}
+use Rattle.mq_sync.specs.Units.{Below}
+use Rattle.mq_sync.specs.declared.data.End.TheVariants as ends
+use Rattle.mq_sync.specs.declared.data.InDoubt.{InDoubt}
+use Rattle.mq_sync.specs.declared.unit.Unit.{Unit as Luw}
+use Rattle.mq_calls.specs.declared.agents.Note.{Note}
+use Rattle.mq_calls.specs.declared.agents.Note.TheVariants as notes
+use Rattle.mq_spec_state.specs.Images.{rests_by}
+use Rattle.mq_spec_state.specs.Reads.{stored, sender_data, receiver_data, seizure_of, batch_of, in_doubt_of, is_up}
+use Rattle.mq_spec_state.specs.State.{Plain, Batch, Queue}
+use Rattle.mq_spec_manager.specs.Heads.{is_dead}
+use Rattle.mq_spec_agents.specs.Batches.{hold_batch, release_batch, prepare}
+use Rattle.mq_spec_agents.specs.Hardening.{harden}
+use Rattle.mq_spec_agents.specs.Moves.{move_row, discard}
+use Rattle.mq_spec_agents.specs.Receiving.{receive}
+use Rattle.mq_spec_agents.specs.Seizing.{kept, is_sender, is_receiver, seize, stock, expire}
+
+-- What the calls of channel ends and of the handler ask of a manager that is up. Whoever makes the call has seen to it.
+abbrev pub IsUp : Plain → Type 0
+IsUp p = is_up p.running ≡ true
+
+-- seize, receive: the end is defined here
+abbrev pub IsSenderHere : List ℕ → Plain → Type 0
+IsSenderHere channel p = is_sender (channel_of channel p.definitions) ≡ true
+
+abbrev pub IsReceiverHere : List ℕ → Plain → Type 0
+IsReceiverHere channel p = is_receiver (channel_of channel p.definitions) ≡ true
+
+-- stock, expire, hold_batch: the channel has seized its queue
+abbrev pub HasSeized : List ℕ → Plain → Type 0
+HasSeized channel p = IsSome (seizure_of channel p.channels.seizures)
+
+-- prepare, release_batch: it has a batch that is not prepared
+abbrev pub HasBatch : List ℕ → Plain → Type 0
+HasBatch channel p = IsSome (batch_of channel p.channels.batches)
+
+abbrev pub HasNoBatch : List ℕ → Plain → Type 0
+HasNoBatch channel p = batch_of channel p.channels.batches ≡ None
+
+abbrev pub HasNoDoubt : List ℕ → Plain → Type 0
+HasNoDoubt channel p = in_doubt_of (sender_data channel p) ≡ None
+
+abbrev pub HoldsNone : List ℕ → Queue → Type 0
+HoldsNone channel q = AllByRecursion (λ (row : Row). held_by (holders.Batch channel) row.by ≡ false) q.rows
+
+-- hold_batch: the channel holds nothing
+pub record CanHold (channel : List ℕ) (p : Plain) : Type 0 where
+  pub seized : HasSeized channel p
+  pub batch : HasNoBatch channel p
+  pub doubt : HasNoDoubt channel p
+  pub rows : AllByRecursion (HoldsNone channel) p.queues
+
+-- a row of one of the idents is a unit's in doubt
+abbrev pub is_row_in_doubt : List Batch → List Ident → Row → Bool
+is_row_in_doubt bs idents row = is_some (rests_by bs row.by) && list_any (same_ident row.message.ident) idents
+
+abbrev pub NoneInDoubt : List Batch → List Ident → Queue → Type 0
+NoneInDoubt bs idents q = AllByRecursion (λ (row : Row). is_row_in_doubt bs idents row ≡ false) q.rows
+
+abbrev pub AreApart : List Ident → Type 0
+AreApart [] = Unit {0}
+AreApart (ident ∷ idents) = (list_any (same_ident ident) idents ≡ false) × AreApart idents
+
+-- a unit with a name of its own
+abbrev pub IsUnit : Luw → Type 0
+IsUnit unit = (0 < unit.session) × (0 < unit.n)
+
+-- prepare: the batch can be a unit in doubt
+pub record IsPreparable (b : Batch) (channel : List ℕ) (p : Plain) : Type 0 where
+  pub unit : IsUnit b.unit
+  pub session : b.unit.session ≤ (sender_or (sender_data channel p)).session
+  pub doubt : HasNoDoubt channel p
+  pub apart : AreApart b.idents
+  pub rows : AllByRecursion (NoneInDoubt p.channels.batches b.idents) p.queues
+
+pub record CanPrepare (channel : List ℕ) (p : Plain) : Type 0 where
+  pub batch : Batch
+  pub own : batch_of channel p.channels.batches ≡ Some batch
+  pub fits : IsPreparable batch channel p
+
+-- harden: sessions rise; a session is closed once; the unit in doubt is the one that is settled, and no batch is held
+-- beside it; a number is set where nothing is in doubt
+abbrev pub unit_of : InDoubt → Luw
+unit_of d = d.unit
+
+abbrev pub CanHarden : List ℕ → Note → Plain → Type 0
+CanHarden channel (notes.Session partner session) p = (sender_or (sender_data channel p)).session < session
+CanHarden channel (notes.Resolved unit commit operator) p =
+    (option_map unit_of (in_doubt_of (sender_data channel p)) ≡ Some unit) × HasNoBatch channel p
+CanHarden channel (notes.Bound partner session last) p = (receiver_or (receiver_data channel p)).session < session
+CanHarden channel (notes.Closed session) p =
+    (0 < session) × (session ≡ (receiver_or (receiver_data channel p)).session) × ((receiver_or (receiver_data channel p)).closed ≡ false)
+CanHarden channel (notes.SeqSet ends.Sender last) p = HasNoDoubt channel p
+CanHarden channel (notes.SeqSet ends.Receiver last) p = Unit {0}
+
+-- receive: the unit is above the last one, of the kept session, which is open
+pub record CanReceive (channel : List ℕ) (unit : Luw) (p : Plain) : Type 0 where
+  pub here : IsReceiverHere channel p
+  pub named : IsUnit unit
+  pub session : unit.session ≡ (receiver_or (receiver_data channel p)).session
+  pub live : (receiver_or (receiver_data channel p)).closed ≡ false
+  pub above : Below (receiver_or (receiver_data channel p)).unit unit
+
+-- move_row, discard: an ordinary local queue, on which a row of the ident is free
+abbrev pub is_ordinary : Option LocalQueue → Bool
+is_ordinary None = false
+is_ordinary (Some q) = not (is_transmission q.usage)
+
+pub record HasFreeRow (queue : List ℕ) (ident : Ident) (p : Plain) : Type 0 where
+  pub row : Row
+  pub ordinary : is_ordinary (local_of queue p.definitions) ≡ true
+  pub found : find (has_ident ident) (stored queue p).rows ≡ Some row
+  pub free : row.by ≡ None
+
+-- where its header goes, it has one
+pub record CanMove (queue : List ℕ) (ident : Ident) (bare : Bool) (p : Plain) : Type 0 where
+  pub free : HasFreeRow queue ident p
+  pub dead : bare ≡ true → is_dead free.row.message.body ≡ true
