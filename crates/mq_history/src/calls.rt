@@ -1,3 +1,4 @@
+//! Events as a history keeps them: who acts, what is called, what came from outside, what was answered and what it did.
 use crate::acts::{Act, Acted};
 use crate::opening::Image;
 use mq_calls::{Answer, Appl, Choice, Delta, Get, Got, Hconn, Hobj, Messages, Open, Return, Sent};
@@ -11,17 +12,23 @@ use mq_name::QName;
 #[derive(Clone, Copy, Debug, PartialEq, Eq)]
 pub enum Actor {
     Script(u16),
+    /// The sender end of a cable.
     Sender(u16),
+    /// The receiver end of a cable.
     Receiver(u16),
+    /// The dead-letter handler of a rules table.
     Handler(u16),
     Monitor(u16),
+    /// Who gives commands, stops, restarts and arms cuts.
     Operator,
+    /// What advances moments.
     Clock,
 }
 
 /// An event of one manager, with its arguments.
 #[derive(Drop)]
 pub enum Call {
+    /// `qmgr` is blank for the script's own manager.
     Mqconn {
         qmgr: QName,
         appl: Appl,
@@ -29,6 +36,7 @@ pub enum Call {
     Mqdisc {
         hc: Hconn,
     },
+    /// `qmgr` is blank where the name alone is to be resolved.
     Mqopen {
         hc: Hconn,
         name: QName,
@@ -54,6 +62,7 @@ pub enum Call {
         body: Bytes,
         sync: bool,
     },
+    /// `until` is the moment up to which it may wait, in milliseconds since 1970; none where it doesn't.
     Mqget {
         hc: Hconn,
         ho: Hobj,
@@ -66,6 +75,7 @@ pub enum Call {
     Mqback {
         hc: Hconn,
     },
+    /// What a step or a script asks beside MQI calls.
     Act(Act),
     /// A turn of the channel's end or of the handler that acts.
     Turn,
@@ -75,24 +85,32 @@ pub enum Call {
     Trigger,
 }
 
-/// What came from outside: the free choices of a call or of a restart; or a restart read an image
-/// that is none of those which this history allows, and went on from it.
+/// What came from outside.
 #[derive(Drop)]
 pub enum Chance {
+    /// The free choice of a call.
     Call(Choice),
+    /// How a restart ended.
     Restart(Return),
-    Foreign(Image),
+    /// A restart read an image that is none of those which this history allows, and went on from it, with so
+    /// many device calls left before an armed cut, 0 for none.
+    Foreign { image: Image, left: u32 },
 }
 
 /// What the event answered.
 #[derive(Drop)]
 pub enum Reply {
+    /// Of MQCONN.
     Connected(Answer<Hconn>),
+    /// Of MQOPEN.
     Opened(Answer<Hobj>),
     /// Of MQDISC, MQCLOSE, MQCMIT and MQBACK.
     Ended(Answer<()>),
+    /// Of MQPUT and MQPUT1.
     Put(Answer<Sent>),
+    /// Of MQGET.
     Got(Answer<Got>),
+    /// Of what is asked beside MQI calls.
     Acted(Acted),
     /// Of a turn of a channel's end, and of a timeout.
     Changed,
@@ -104,21 +122,26 @@ pub enum Reply {
     Stopped(Stop),
 }
 
-/// What the event did: to rows and channel data; on the cables: the frame offered, the number of
-/// extra items pushed after it, and what was popped; and, of a receiver's commit, the messages that
-/// it placed or was about to place, in order, each with the names that came with it.
+/// What the event did.
 #[derive(Drop)]
 pub struct Effect {
+    /// What was done to rows and channel data, in order.
     pub delta: Delta,
+    /// The frame that was offered on the cable that the end writes.
     pub pushed: Option<Frame>,
+    /// How many extra items were pushed after it: frames that a scripted fault held back or repeats.
     pub extras: u32,
+    /// What was popped from the cable that the end reads.
     pub popped: Seen,
+    /// Of a receiver's commit, the messages that it placed or was about to place, in order, each with the names
+    /// that came with it; else none.
     pub received: Messages,
 }
 
 /// An event as the history keeps it.
 #[derive(Drop)]
 pub struct Entry {
+    /// Lamport's clock: one above the last at this manager, and at a pop above the frame's too; from 1.
     pub stamp: u64,
     pub actor: Actor,
     pub call: Call,

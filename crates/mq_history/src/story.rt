@@ -1,3 +1,5 @@
+//! What a story shows: an operator's settlement at odds with its receiver, logs that don't belong together, and
+//! where rows stand.
 use crate::opening::StoredQueue;
 use mq_base::Items;
 use mq_message::Ident;
@@ -5,12 +7,13 @@ use mq_name::{ChName, QName};
 use mq_objects::Definitions;
 use mq_sync::Unit;
 
-/// The first operator's settlement that the receiver doesn't bear out: at which manager, of which
-/// unit.
+/// The first operator's settlement that the receiver doesn't bear out.
 #[derive(Clone, Copy)]
 pub struct Conflict {
+    /// The manager's number, 1 to 8.
     pub manager: u8,
     pub channel: ChName,
+    /// The unit that was settled.
     pub unit: Unit,
 }
 
@@ -34,5 +37,6 @@ pub enum Apart {
 pub struct ManagerPlaces {
     pub name: QName,
     pub definitions: Definitions,
+    /// Lists by name; one may have no definition any more.
     pub queues: Items<StoredQueue>,
 }

@@ -12,16 +12,18 @@ use Rattle.mq_history.specs.declared.calls.Chance.TheVariants as chances
 use Rattle.mq_history.specs.declared.calls.Reply.TheVariants as replies
 use Rattle.mq_history.specs.declared.calls.Entry.{Entry}
 use Rattle.mq_cable.specs.declared.fault.Fault.TheVariants.{Drop, Late, Copy, Spoil}
-use Rattle.mq_spec_network.specs.Cables.{Lying, Offered, Carries, Takes, Within, made, whole, spoiled, lying, is_receiver, is_popped}
+use Rattle.mq_cable.specs.Faults.{Offer, Within}
+use Rattle.mq_spec_node.specs.Doers.{is_receiver}
+use Rattle.mq_spec_network.specs.Cables.{Lying, Carries, Takes, made, whole, spoiled, lying, is_popped}
 
 -- frames that are told apart by their stamps
 abbrev frame : ℕ → Frame
 frame n = record { stamp = n; session = 1; kind = Ack n }
 
-abbrev offered : ℕ → ℕ → Offered
-offered n extras = record { frame = frame n; extras = extras }
+abbrev offered : ℕ → ℕ → Offer Lying
+offered n extras = record { item = whole (frame n); extras = extras }
 
-abbrev alone : ℕ → Offered
+abbrev alone : ℕ → Offer Lying
 alone n = offered n 0
 
 -- without faults, what is offered
@@ -48,7 +50,7 @@ first_copied = refl
 copied_at_once : made (Copy 1 1 ∷ []) (offered 1 1 ∷ alone 2 ∷ []) ≡ whole (frame 1) ∷ whole (frame 1) ∷ whole (frame 2) ∷ []
 copied_at_once = refl
 
-first_spoiled : made (Spoil 1 ∷ []) (alone 1 ∷ alone 2 ∷ []) ≡ spoiled (frame 1) ∷ whole (frame 2) ∷ []
+first_spoiled : made (Spoil 1 ∷ []) (alone 1 ∷ alone 2 ∷ []) ≡ spoiled (whole (frame 1)) ∷ whole (frame 2) ∷ []
 first_spoiled = refl
 
 -- the copy of the second and the late third come after the fourth, in the order of their numbers
@@ -101,7 +103,7 @@ second_of_two : Carries (Drop 1 ∷ []) (pushes 1 ∷ pushes 2 ∷ []) (is_recei
 second_of_two = record { taken = whole (frame 2) ∷ []; left = []; whole = refl; takes = inr (refl, refl, refl, refl); within = (omega arith, (omega arith, tt)) }
 
 one_spoiled : Carries (Spoil 1 ∷ []) (pushes 1 ∷ []) (is_receiver 0) (pops 2 items.Spoiled ∷ [])
-one_spoiled = record { taken = spoiled (frame 1) ∷ []; left = []; whole = refl; takes = inr (refl, refl, refl, refl); within = (omega arith, tt) }
+one_spoiled = record { taken = spoiled (whole (frame 1)) ∷ []; left = []; whole = refl; takes = inr (refl, refl, refl, refl); within = (omega arith, tt) }
 
 -- What no cable carries: a frame before its turn, one that was never offered, one with a stamp that is not smaller; and a
 -- stamp that is further above a spoiled frame's than by one.
@@ -155,4 +157,4 @@ not_two : ◌≡◌ {A = ℕ} 9 2 → ⊥
 not_two e = omega arith
 
 none_too_late : Carries (Spoil 1 ∷ []) (pushes 1 ∷ []) (is_receiver 0) (pops 9 items.Spoiled ∷ []) → ⊥
-none_too_late c = wrong_stamp 9 items.Spoiled (spoiled (frame 1)) c.taken c.left c.whole not_two refl c.takes
+none_too_late c = wrong_stamp 9 items.Spoiled (spoiled (whole (frame 1))) c.taken c.left c.whole not_two refl c.takes

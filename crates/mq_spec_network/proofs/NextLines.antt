@@ -11,7 +11,9 @@ use Rattle.mq_history.specs.declared.scripts.ScriptLine.{ScriptLine}
 use Rattle.mq_history.specs.declared.scripts.ScriptLine.TheVariants as lines
 use Rattle.mq_spec_node.specs.Scripts.{Memory, line_call, remembers, until_of}
 use Rattle.mq_spec_network.specs.Turns.{Network, does}
-use Rattle.mq_spec_network.specs.ScriptLines.{is_trigger, mains, is_script, lines_by, lines_done, memory_after, memory_by, left_after, lines_left}
+use Rattle.mq_spec_node.specs.Doers.{is_trigger, mains, is_script}
+use Rattle.mq_spec_node.specs.Lines.{lines_by, lines_done, memory_after, memory_by, left_after}
+use Rattle.mq_spec_network.specs.ScriptLines.{lines_left}
 use Rattle.mq_spec_network.specs.Steps.{AreTriggers, IsNext}
 use Rattle.mq_spec_network.proofs.Going.{here}
 

@@ -5,7 +5,7 @@ use Rattle.std.proofs.lemmas.Bool.Decides.{nat_tests}
 use Rattle.mq_history.specs.declared.calls.Call.TheVariants as calls
 use Rattle.mq_history.specs.declared.calls.Entry.{Entry}
 use Rattle.mq_spec_network.specs.Turns.{Network, more_at}
-use Rattle.mq_spec_network.specs.ScriptLines.{left_after}
+use Rattle.mq_spec_node.specs.Lines.{left_after}
 use Rattle.mq_spec_network.specs.Tasks.{Task}
 use Rattle.mq_spec_network.specs.Tasks.Task.{Script, Lines}
 use Rattle.mq_spec_network.specs.Steps.{Goes, Moves, Passes, AreTriggers}

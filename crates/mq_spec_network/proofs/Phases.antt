@@ -22,7 +22,8 @@ use Rattle.mq_spec_node.proofs.Pair.{entry_of, runs, image}
 use Rattle.mq_spec_network.specs.Given.{surroundings}
 use Rattle.mq_spec_network.specs.Story.{Mem}
 use Rattle.mq_spec_network.specs.Turns.{Network, does}
-use Rattle.mq_spec_network.specs.ScriptLines.{IsUntil, left_after}
+use Rattle.mq_spec_node.specs.Lines.{left_after}
+use Rattle.mq_spec_network.specs.ScriptLines.{IsUntil}
 use Rattle.mq_spec_network.specs.Tasks.{Task, Trying, tasks_of}
 use Rattle.mq_spec_network.specs.Tasks.Task.{Phase, Script, Lines}
 use Rattle.mq_spec_network.specs.Steps.{Goes, Served, InPhase, PhaseLine}

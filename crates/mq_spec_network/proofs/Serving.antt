@@ -29,10 +29,10 @@ use Rattle.mq_spec_node.specs.Scripts.{script_appl}
 use Rattle.mq_spec_node.proofs.Pair.{entry_of, runs, image}
 use Rattle.mq_spec_network.specs.Given.{surroundings}
 use Rattle.mq_spec_network.specs.Turns.{Network, node_at, does}
-use Rattle.mq_spec_network.specs.Monitors.{monitor_idle, monitor_get, begins, shared}
+use Rattle.mq_spec_node.specs.Monitors.{monitor_get, begins, shared}
 use Rattle.mq_spec_network.specs.Tasks.{Task, tasks_of}
 use Rattle.mq_spec_network.specs.Tasks.Task.{Script, Lines, Serve}
-use Rattle.mq_spec_network.specs.Steps.{Goes, Served, Moves, MonitorGets, left_by}
+use Rattle.mq_spec_network.specs.Steps.{Goes, Served, Moves, MonitorGets, serves_nothing, scripts_at, left_by}
 use Rattle.mq_spec_network.specs.Steps.Goes.{stays, moves, passes}
 use Rattle.mq_spec_network.specs.Lawful.{network_begun}
 use Rattle.mq_spec_network.proofs.Rounds.{one_served}
@@ -134,12 +134,12 @@ got = entry 6 (actors.Monitor 0) gets node5
 abbrev ran : Entry
 ran = entry 7 (actors.Script 1) began node6
 
-busy : monitor_idle 0 (node_at network 0) ≡ false
+busy : serves_nothing 0 (node_at network 0) ≡ false
 unfolding tm_bytes long_bytes
 busy = refl
 
 -- its get begins script B, of which no line was done
-it_begins_b : begins scenario 0 (network.done 0) got.reply ≡ Some 1
+it_begins_b : begins (scripts_at (node_at network 0)) (network.done 0) got.reply ≡ Some 1
 unfolding tm_read tm_bytes tm_in long_bytes long_of
 it_begins_b = refl
 
@@ -160,7 +160,7 @@ served = does 0 (got ∷ []) network
 abbrev done : Network
 done = does 0 (ran ∷ []) served
 
-idle_then : monitor_idle 0 (node_at done 0) ≡ true
+idle_then : serves_nothing 0 (node_at done 0) ≡ true
 unfolding tm_bytes long_bytes
 idle_then = refl
 

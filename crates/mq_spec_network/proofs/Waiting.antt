@@ -27,7 +27,7 @@ use Rattle.mq_spec_node.specs.Scripts.{script_appl, get_of}
 use Rattle.mq_spec_node.proofs.Pair.{entry_of, runs, image}
 use Rattle.mq_spec_network.specs.Given.{surroundings}
 use Rattle.mq_spec_network.specs.Turns.{Network, does}
-use Rattle.mq_spec_network.specs.Monitors.{shared}
+use Rattle.mq_spec_node.specs.Monitors.{shared}
 use Rattle.mq_spec_network.specs.Tasks.{Task, tasks_of}
 use Rattle.mq_spec_network.specs.Tasks.Task.{Ask, Script, Lines}
 use Rattle.mq_spec_network.specs.Steps.{Goes, Served, IsNext, Waits}

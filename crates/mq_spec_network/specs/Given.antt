@@ -4,11 +4,12 @@ use Rattle.mq_history.specs.declared.scenario.ManagerLine.{ManagerLine}
 use Rattle.mq_history.specs.declared.scenario.CableLine.{CableLine}
 use Rattle.mq_history.specs.declared.scenario.MonitorLine.{MonitorLine}
 use Rattle.mq_history.specs.declared.scenario.RulesPart.{RulesPart}
+use Rattle.mq_history.specs.declared.scenario.ScriptPart.{ScriptPart}
 use Rattle.mq_history.specs.declared.scenario.Scenario.{Scenario}
 use Rattle.mq_receiver.specs.States.{receiver_of}
 use Rattle.mq_sender.specs.States.{new_sender}
 use Rattle.mq_spec_state.specs.State.{Given}
-use Rattle.mq_spec_node.specs.Node.{Own, ChannelEnd, Handler, Monitor}
+use Rattle.mq_spec_node.specs.Node.{Own, ChannelEnd, Handler, Monitor, Script}
 use Rattle.mq_spec_node.specs.Node.ChannelEnd.{Sends, Receives}
 use Rattle.mq_spec_node.specs.Replays.{Surroundings}
 
@@ -42,8 +43,14 @@ handlers_from m number (r ∷ rs) =
 abbrev pub monitors_from : ℕ → ℕ → List MonitorLine → List Monitor
 monitors_from m number [] = []
 monitors_from m number (l ∷ ls) =
-    if l.manager == m then record { number = number; connection = None; handle = None } ∷ monitors_from m (suc number) ls
+    if l.manager == m then record { number = number; line = l; connection = None; handle = None } ∷ monitors_from m (suc number) ls
     else monitors_from m (suc number) ls
+
+abbrev pub scripts_from : ℕ → ℕ → List ScriptPart → List Script
+scripts_from m number [] = []
+scripts_from m number (p ∷ ps) =
+    if p.manager == m then record { number = number; part = p } ∷ scripts_from m (suc number) ps
+    else scripts_from m (suc number) ps
 
 abbrev pub log_max_or : Option ManagerLine → ℕ
 log_max_or None = 0
@@ -54,7 +61,12 @@ abbrev pub given_at : Scenario → ℕ → Given
 given_at s m = record { number = m + 1; name = name_at s m; log_max = log_max_or (slice_get s.managers m) }
 
 abbrev pub own_at : Scenario → ℕ → Own
-own_at s m = record { ends = ends_from s m 0 s.cables; handlers = handlers_from m 0 s.rules; monitors = monitors_from m 0 s.monitors }
+own_at s m = record {
+  ends = ends_from s m 0 s.cables;
+  handlers = handlers_from m 0 s.rules;
+  monitors = monitors_from m 0 s.monitors;
+  scripts = scripts_from m 0 s.scripts;
+}
 
 abbrev pub surroundings : Scenario → ℕ → Surroundings
 surroundings s m = record { given = given_at s m; own = own_at s m }

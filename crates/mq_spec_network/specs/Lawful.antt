@@ -14,24 +14,16 @@ use Rattle.mq_history.specs.declared.scenario.Step.TheVariants as steps
 use Rattle.mq_spec_node.specs.Node.{Node}
 use Rattle.mq_spec_node.specs.Deeds.{Deed}
 use Rattle.mq_spec_node.specs.Happens.{trigger_deed}
-use Rattle.mq_spec_node.specs.Replays.{Surroundings, Replays, NoneForeign, done_by, opening_node}
+use Rattle.mq_spec_node.specs.Replays.{Surroundings, Replays, TriggersStand, NoneForeign, opening_node}
 use Rattle.mq_spec_node.specs.Scripts.{AreLines, fresh}
 use Rattle.mq_spec_network.specs.Story.{entries_at}
 use Rattle.mq_spec_network.specs.Given.{surroundings}
-use Rattle.mq_spec_network.specs.Cables.{Carries, is_sender, is_receiver, by}
+use Rattle.mq_spec_node.specs.Doers.{is_sender, is_receiver, by}
+use Rattle.mq_spec_node.specs.Lines.{lines_by}
+use Rattle.mq_spec_network.specs.Cables.{Carries}
 use Rattle.mq_spec_network.specs.Turns.{Network, node_at, is_idle}
-use Rattle.mq_spec_network.specs.ScriptLines.{lines_by}
 use Rattle.mq_spec_network.specs.Tasks.{Task, tasks_of, tasks_next}
 use Rattle.mq_spec_network.specs.Steps.{Goes, Served, handler_idle}
-
--- Trigger turns stand where they are due: behind the entry after which one is, by its actor, until none is.
-abbrev pub TriggerIs : Option Deed → Option Actor → Entry → Type 0
-TriggerIs None last e = Unit {0}
-TriggerIs (Some d) last e = (e.call ≡ calls.Trigger) × (Some e.actor ≡ last)
-
-abbrev pub TriggersStand : Option Actor → Node → List Entry → Type 0
-TriggersStand last n [] = Unit {0}
-TriggersStand last n (e ∷ es) = TriggerIs (trigger_deed n) last e × TriggersStand (Some e.actor) (done_by e n).next es
 
 -- Each history is its manager's, and replays with what the scenario gives it.
 pub record IsHistory (s : Scenario) (m : ℕ) (h : History) : Type 0 where

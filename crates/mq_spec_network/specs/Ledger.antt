@@ -335,6 +335,19 @@ dead_reason ident [] = None
 dead_reason ident (did.Placed queue other dead ∷ ds) = if same_ident ident other then dead else dead_reason ident ds
 dead_reason ident (_ ∷ ds) = dead_reason ident ds
 
+-- the row that is placed is the ledger's own, with the names that came; the message that came counts only where its ident
+-- had no place
+abbrev pub row_at : Ident → List ManagerPlaces → Option Row
+row_at ident [] = None
+row_at ident (p ∷ ps) = elim (row_in ident p.queues) as (λ r. Option Row) [ None ↦ row_at ident ps | Some row ↦ Some row ]
+
+abbrev pub own_or : Message → Option Row → Message
+own_or came None = came
+own_or came (Some row) = record row.message { route = came.route }
+
+abbrev pub own_row : Ledger → Message → Message
+own_row before came = own_or came (row_at came.ident before.places)
+
 abbrev pub is_admitted : Ledger → Message → Bool
 is_admitted before m = list_any (same_ident m.ident) (placed_idents before) || (not (is_persistent m) && not (list_any (same_ident m.ident) before.gone))
 
@@ -350,7 +363,7 @@ place_received m channel message (Some reason) l =
 abbrev pub place_list : ℕ → List ℕ → List Did → Ledger → List Message → Ledger → Ledger
 place_list m channel ds before [] l = l
 place_list m channel ds before (message ∷ ms) l =
-    place_list m channel ds before ms (when (is_admitted before message) (place_received m channel message (dead_reason message.ident ds)) l)
+    place_list m channel ds before ms (when (is_admitted before message) (place_received m channel (own_row before message) (dead_reason message.ident ds)) l)
 
 abbrev pub receive : ℕ → List ℕ → List Message → List Did → Ledger → Ledger
 receive m channel ms ds l = place_list m channel ds l ms (take_everywhere (idents_of ms) l)

@@ -8,7 +8,6 @@ pub mod Apart
 pub mod Cables
 pub mod Turns
 pub mod ScriptLines
-pub mod Monitors
 pub mod Tasks
 pub mod Steps
 pub mod Lawful

@@ -18,6 +18,7 @@ use Rattle.mq_history.specs.declared.scenario.ScriptPart.{ScriptPart}
 use Rattle.mq_history.specs.declared.scenario.Scenario.{Scenario}
 use Rattle.mq_history.specs.declared.scripts.ScriptLine.{ScriptLine}
 use Rattle.mq_spec_node.specs.Node.{Node}
+use Rattle.mq_spec_node.specs.Node.{Script as OwnScript}
 use Rattle.mq_spec_node.specs.Deeds.{Deed}
 use Rattle.mq_frame.specs.declared.frame.Frame.{Frame}
 use Rattle.mq_frame.specs.declared.frame.Seen.{Seen}
@@ -25,9 +26,10 @@ use Rattle.mq_history.specs.declared.scenario.CableLine.{CableLine}
 use Rattle.mq_spec_node.specs.Happens.{trigger_deed}
 use Rattle.mq_spec_node.specs.Scripts.{script_appl, deadline, wait_of, until_of}
 use Rattle.mq_spec_network.specs.Story.{Mem}
-use Rattle.mq_spec_network.specs.Turns.{Network, Direction, node_at, does, is_up_at, deed_at, out_of, back_of, out_way, back_way, waiting, extras_of, changes, sender_turn, receiver_turn, timeout_turn, is_idle}
-use Rattle.mq_spec_network.specs.ScriptLines.{left_after, call_after, lines_left, at_most, call_next, IsUntil, still_waits}
-use Rattle.mq_spec_network.specs.Monitors.{shared, is_opened, begins, monitor_next, monitor_idle, monitor_live}
+use Rattle.mq_spec_network.specs.Turns.{Network, Direction, node_at, does, is_up_at, where_there, deed_at, out_of, back_of, out_way, back_way, waiting, extras_of, changes, sender_turn, receiver_turn, timeout_turn, is_idle}
+use Rattle.mq_spec_node.specs.Lines.{left_after, call_after, is_none}
+use Rattle.mq_spec_node.specs.Monitors.{shared, is_opened, begins, monitor_next, monitor_idle, monitor_live}
+use Rattle.mq_spec_network.specs.ScriptLines.{lines_left, at_most, call_next, IsUntil, still_waits}
 use Rattle.mq_spec_network.specs.Tasks.{Slot, Task, Trying, clocks, moment_of, run_script}
 use Rattle.mq_spec_network.specs.Tasks.Slot.{Sends, Receives, TimesOut}
 use Rattle.mq_spec_network.specs.Tasks.Task.{Ask, Script, Lines, Phase, Pump, Handle, Serve, Watch, Open, Restart}
@@ -139,24 +141,29 @@ PumpSkips w left slot cable any None next = next ≡ next_round left slot any
 PumpSkips w left slot cable any (Some c) next = (changes (turn_in w slot cable c).way (turn_in w slot cable c).deed ≡ false) × (next ≡ pump_on left slot cable any)
 
 -- HANDLE: turns of the handler until so many, or until the next would be idle.
-abbrev pub turn_is_idle : Option Deed → Bool
-turn_is_idle None = true
-turn_is_idle (Some d) = false
-
 abbrev pub handler_idle : ℕ → Option Node → Bool
-handler_idle k n = turn_is_idle (deed_at (actors.Handler k) calls.Turn items.Nothing n)
+handler_idle k n = is_none (deed_at (actors.Handler k) calls.Turn items.Nothing n)
 
 -- SERVE: turns of the monitor, each a get without wait; where the message's ApplId names a script of this manager of which
 -- no line was done, all its lines follow, as a RUN has them.
+abbrev pub serves_nothing : ℕ → Option Node → Bool
+serves_nothing k n = where_there true (monitor_idle k) n
+
 abbrev pub MonitorGets : ℕ → MonitorLine → Network → ℕ → Entry → Type 0
 MonitorGets k l w m e =
-    (monitor_idle k (node_at w l.manager) ≡ false) × (m ≡ l.manager) × (e.actor ≡ actors.Monitor k) × (Some e.call ≡ monitor_next k (node_at w l.manager))
+    (serves_nothing k (node_at w l.manager) ≡ false) × (m ≡ l.manager) × (e.actor ≡ actors.Monitor k) × (Some e.call ≡ where_there None (monitor_next k) (node_at w l.manager))
+
+abbrev pub scripts_at : Option Node → List OwnScript
+scripts_at n = where_there [] (λ (x : Node). x.own.scripts) n
 
 abbrev pub begun : Scenario → Option ℕ → List Task
 begun s None = []
 begun s (Some k) = run_script k None (slice_get s.scripts k)
 
 -- WATCH: the monitor connects and opens its queue; where that fails it disconnects; where it is connected, nothing.
+abbrev pub is_watching : ℕ → Option Node → Bool
+is_watching k n = where_there false (monitor_live k) n
+
 abbrev pub opens : ℕ → MonitorLine → Reply → List Task
 opens k l (replies.Connected (answers.Ok hc)) = Open k l hc ∷ []
 opens k l _ = []
@@ -187,7 +194,7 @@ Moves w (Handle k at zero) m e = ⊥
 Moves w (Handle k at (suc left)) m e = Is at (actors.Handler k) calls.Turn m e
 Moves w (Serve k l zero) m e = ⊥
 Moves w (Serve k l (suc left)) m e = MonitorGets k l w m e
-Moves w (Watch k l) m e = (monitor_live k (node_at w l.manager) ≡ false) × Is l.manager (actors.Monitor k) (calls.Mqconn [] (script_appl l.label)) m e
+Moves w (Watch k l) m e = (is_watching k (node_at w l.manager) ≡ false) × Is l.manager (actors.Monitor k) (calls.Mqconn [] (script_appl l.label)) m e
 Moves w (Open k l hc) m e = Is l.manager (actors.Monitor k) (calls.Mqopen hc l.queue [] shared) m e
 Moves w (Restart at) m e = (is_up_at (node_at w at) ≡ false) × Is at actors.Operator (calls.Act acts.Restart) m e
 
@@ -203,7 +210,7 @@ left_by w (Pump (suc left) slot cable any) e = pump_on left slot cable true
 left_by w (Handle k at zero) e = []
 left_by w (Handle k at (suc left)) e = Handle k at left ∷ []
 left_by w (Serve k l zero) e = []
-left_by w (Serve k l (suc left)) e = begun w.scenario (begins w.scenario l.manager (w.done l.manager) e.reply) ++ Serve k l left ∷ []
+left_by w (Serve k l (suc left)) e = begun w.scenario (begins (scripts_at (node_at w l.manager)) (w.done l.manager) e.reply) ++ Serve k l left ∷ []
 left_by w (Watch k l) e = opens k l e.reply
 left_by w (Open k l hc) e = gives_up k l hc (is_opened e.reply)
 left_by w (Restart at) e = once_more at (is_cut e.reply)
@@ -221,8 +228,8 @@ Passes w (Pump (suc left) slot cable any) next =
 Passes w (Handle k at zero) next = next ≡ []
 Passes w (Handle k at (suc left)) next = (handler_idle k (node_at w at) ≡ true) × (next ≡ [])
 Passes w (Serve k l zero) next = next ≡ []
-Passes w (Serve k l (suc left)) next = (monitor_idle k (node_at w l.manager) ≡ true) × (next ≡ [])
-Passes w (Watch k l) next = (monitor_live k (node_at w l.manager) ≡ true) × (next ≡ [])
+Passes w (Serve k l (suc left)) next = (serves_nothing k (node_at w l.manager) ≡ true) × (next ≡ [])
+Passes w (Watch k l) next = (is_watching k (node_at w l.manager) ≡ true) × (next ≡ [])
 Passes w (Open k l hc) next = ⊥
 Passes w (Restart at) next = (is_up_at (node_at w at) ≡ true) × (next ≡ [])
 

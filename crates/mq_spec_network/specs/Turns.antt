@@ -20,7 +20,9 @@ use Rattle.mq_spec_node.specs.Node.{Node, SenderEnd, ReceiverEnd, sender_end, re
 use Rattle.mq_spec_node.specs.Deeds.{Deed}
 use Rattle.mq_spec_node.specs.Happens.{deed_of}
 use Rattle.mq_spec_node.specs.Replays.{after}
-use Rattle.mq_spec_network.specs.Cables.{Lying, Offered, is_sender, is_receiver, by, offered_by, lying, at_once, due_after}
+use Rattle.mq_cable.specs.Faults.{fault_of, now_of, due_after, offered_of}
+use Rattle.mq_spec_node.specs.Doers.{is_sender, is_receiver, by}
+use Rattle.mq_spec_network.specs.Cables.{Lying, whole, spoiled, offered_by, lying}
 
 -- The nodes with which the managers began, and what each did since, by place; all that a network is follows from it.
 pub record Network : Type 0 where
@@ -66,6 +68,11 @@ is_empty (x ∷ xs) = false
 abbrev pub is_full : List Lying → Bool
 is_full xs = nat_le 64 (length xs)
 
+-- what holds of the node that is there
+abbrev pub where_there : {A : Type 0} → A → (Node → A) → Option Node → A
+where_there none f None = none
+where_there none f (Some n) = f n
+
 abbrev pub deed_at : Actor → Call → Seen → Option Node → Option Deed
 deed_at actor call seen None = None
 deed_at actor call seen (Some n) = deed_of 0 actor call seen n
@@ -82,30 +89,26 @@ out_way w cable c = record { faults = c.out; pushes = by (is_sender cable) (w.do
 abbrev pub back_way : Network → ℕ → CableLine → Direction
 back_way w cable c = record { faults = c.back; pushes = by (is_receiver cable) (w.done c.receiver); items = back_of w cable c }
 
-abbrev pub frames_of : List Offered → List Frame
-frames_of [] = []
-frames_of (o ∷ os) = o.frame ∷ frames_of os
-
 -- the number of the next frame that is offered
 abbrev pub next_number : Direction → ℕ
 next_number d = suc (length (offered_by d.pushes))
 
 -- what the next frame puts there at once, and what is due after it
-abbrev pub now_of : Direction → Frame → List Lying
-now_of d f = at_once d.faults (next_number d) f
+abbrev pub put_now : Direction → Frame → List Lying
+put_now d f = now_of spoiled (fault_of (next_number d) d.faults) (whole f)
 
 abbrev pub due_of : Direction → Frame → List Lying
-due_of d f = due_after d.faults (frames_of (offered_by d.pushes) ++ f ∷ [])
+due_of d f = due_after d.faults (offered_of (offered_by d.pushes) ++ whole f ∷ [])
 
 -- A push is refused where the frame is to lie there now, and the cable is full.
 abbrev pub push_refused : Direction → Option Frame → Bool
 push_refused d None = false
-push_refused d (Some f) = not (is_empty (now_of d f)) && is_full d.items
+push_refused d (Some f) = not (is_empty (put_now d f)) && is_full d.items
 
 -- so many extra items find room
 abbrev pub extras_of : Direction → Option Frame → ℕ
 extras_of d None = 0
-extras_of d (Some f) = min (length (due_of d f)) (64 - (length d.items + length (now_of d f)))
+extras_of d (Some f) = min (length (due_of d f)) (64 - (length d.items + length (put_now d f)))
 
 -- A turn of an end, if it is one: what it does, and whether a full cable refuses its push.
 abbrev pub refused_by : Direction → Deed → Bool

@@ -58,7 +58,7 @@ letters = record { name = codes "DLQ"; rows = record { place = record { lane = 9
 
 abbrev handled : Node
 handled = first_node (record { number = 2; name = codes "PARIS"; log_max = 268435456 })
-    (record { ends = []; handlers = record { number = 0; table = rules; tried = [] } ∷ []; monitors = [] })
+    (record { ends = []; handlers = record { number = 0; table = rules; tried = [] } ∷ []; monitors = []; scripts = [] })
     (record (image given (codes "DLQ")) { queues = letters ∷ [] }) 0
 
 -- a turn, and whether there is one

@@ -60,10 +60,10 @@ at_paris =
     ∷ defined_object (subjects.Channel channel) (settings.ChannelType channel_types.Receiver ∷ []) ∷ []
 
 abbrev pub london_own : Own
-london_own = record { ends = Sends (record { cable = 0; channel = channel; partner = codes "PARIS"; machine = new_sender }) ∷ []; handlers = []; monitors = [] }
+london_own = record { ends = Sends (record { cable = 0; channel = channel; partner = codes "PARIS"; machine = new_sender }) ∷ []; handlers = []; monitors = []; scripts = [] }
 
 abbrev pub paris_own : Own
-paris_own = record { ends = Receives (record { cable = 0; channel = channel; partner = codes "LONDON"; machine = receiver_of None; kept = [] }) ∷ []; handlers = []; monitors = [] }
+paris_own = record { ends = Receives (record { cable = 0; channel = channel; partner = codes "LONDON"; machine = receiver_of None; kept = [] }) ∷ []; handlers = []; monitors = []; scripts = [] }
 
 abbrev pub london : ℕ → Node
 london batch = first_node (record { number = 1; name = codes "LONDON"; log_max = 268435456 }) london_own (image (at_london batch) []) 0

@@ -20,7 +20,7 @@ use Rattle.mq_history.specs.declared.calls.Reply.TheVariants as replies
 use Rattle.mq_receiver.specs.States as receivers
 use Rattle.mq_sender.specs.States as senders
 use Rattle.mq_spec_state.specs.State.{Plain}
-use Rattle.mq_spec_state.specs.Reads.{is_up, receiver_data}
+use Rattle.mq_spec_state.specs.Reads.{receiver_data}
 use Rattle.mq_spec_state.specs.Steps.{Step, Part, Possible, do_all, delta_of, delta_before, stopped_at}
 use Rattle.mq_spec_state.specs.Steps.Step.{Refuse, Do}
 use Rattle.mq_spec_node.specs.Node.{Node, Own, ChannelEnd, Handler, Tried}
@@ -68,7 +68,8 @@ still_tried delta t = not (list_any (went t.queue t.ident) delta)
 abbrev pub forgotten_rows : List Did → Own → Own
 forgotten_rows delta own = record own { handlers = map (λ (h : Handler). record h { tried = filter (still_tried delta) h.tried }) own.handlers }
 
--- Where its manager is down, the ends are inactive and unbound, and all tries are forgotten.
+-- A stop: the ends are inactive and unbound, and all tries are forgotten. A stopped write leaves them as they are, unseen,
+-- as it leaves the rest, until a restart.
 abbrev pub end_at_rest : ChannelEnd → ChannelEnd
 end_at_rest (Sends e) = Sends (record e { machine = senders.halted e.machine })
 end_at_rest (Receives e) = Receives (record e { machine = receivers.halted e.machine; kept = [] })
@@ -79,20 +80,16 @@ untried own = record own { handlers = map (λ (h : Handler). record h { tried = 
 abbrev pub own_at_rest : Own → Own
 own_at_rest own = untried (record own { ends = map end_at_rest own.ends })
 
-abbrev pub rested : Bool → Own → Own
-rested true own = own
-rested false own = own_at_rest own
-
 abbrev pub node_of : Plain → Own → Node
-node_of p own = record { manager = p; own = rested (is_up p.running) own }
+node_of p own = record { manager = p; own = own }
 
--- A receiver begins with what is hardened.
+-- A start: senders are inactive, receivers begin with what is hardened, and no row was tried.
 abbrev pub end_begun : Plain → ChannelEnd → ChannelEnd
-end_begun p (Sends e) = Sends e
+end_begun p (Sends e) = Sends (record e { machine = senders.halted e.machine })
 end_begun p (Receives e) = Receives (record e { machine = receivers.receiver_of (receiver_data e.channel p); kept = [] })
 
 abbrev pub begun_anew : Plain → Own → Node
-begun_anew p own = node_of p (record own { ends = map (end_begun p) own.ends })
+begun_anew p own = node_of p (untried (record own { ends = map (end_begun p) own.ends }))
 
 -- What an event comes to.
 pub record Done : Type 0 where

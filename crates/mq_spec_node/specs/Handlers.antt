@@ -1,5 +1,5 @@
 -- Turns of the dead-letter handler.
-use Rattle.std.specs.Prelude.{ℕ, ◌+◌, ◌*◌, nat_le, Bool, true, false, not, ◌&&◌, List, [], ◌∷◌, ◌++◌, if◌then◌else◌, Option, Some, None, length, find, filter, slice_get, codes}
+use Rattle.std.specs.Prelude.{ℕ, ◌+◌, ◌*◌, nat_le, Bool, true, false, not, ◌&&◌, List, [], ◌∷◌, ◌++◌, if◌then◌else◌, Option, Some, None, find, filter, slice_get, codes}
 use Rattle.std.specs.Str.{bytes_eq}
 use Rattle.mq_codes.specs.declared.reason.Reason.{Reason}
 use Rattle.mq_message.specs.declared.message.Ident.{Ident}
@@ -44,14 +44,10 @@ is_tried queue ident t = bytes_eq queue t.queue && same_ident ident t.ident
 abbrev pub tries_of : List ℕ → Ident → Handler → Option Tried
 tries_of queue ident h = find (is_tried queue ident) h.tried
 
-abbrev pub is_due_by : ℕ → Option ℕ → ℕ → Bool
-is_due_by moment None due = false
-is_due_by moment (Some rule) due = nat_le due moment
-
 -- not ignored, and the next try is due
 abbrev pub is_due : ℕ → Option Tried → Bool
 is_due moment None = true
-is_due moment (Some t) = is_due_by moment t.rule t.due
+is_due moment (Some t) = not t.ignored && nat_le t.due moment
 
 -- a free dead letter whose next try is due
 abbrev pub is_letter : Row → Bool
@@ -63,7 +59,7 @@ is_handled queue h p row = is_letter row && is_due p.moment (tries_of queue row.
 abbrev pub next_letter : List ℕ → Handler → Plain → Option Row
 next_letter queue h p = find (is_handled queue h p) (stored queue p).rows
 
--- The rule in force: the first that matches, or the one of the tries so far.
+-- The rule in force: the first that matches, of all or from a number on.
 abbrev pub head_of : Message → Dlh
 head_of m = dlh_in m.body
 
@@ -72,34 +68,32 @@ matching t m from = decision t.rules m.md (head_of m) from
 
 abbrev pub rule_in_force : Table → Message → Option Tried → Option ℕ
 rule_in_force t m None = matching t m 0
-rule_in_force t m (Some tried) = tried.rule
+rule_in_force t m (Some tried) = matching t m tried.from
 
 abbrev pub failed_of : Option Tried → ℕ
 failed_of None = 0
 failed_of (Some t) = t.failed
 
 -- what the handler knows of a row after a try
-abbrev pub tried_as : List ℕ → Ident → Option ℕ → ℕ → ℕ → Handler → Handler
-tried_as queue ident rule failed due h =
-    record h { tried = filter (λ (t : Tried). not (is_tried queue ident t)) h.tried ++ record { queue = queue; ident = ident; rule = rule; failed = failed; due = due } ∷ [] }
+abbrev pub tried_as : Tried → Handler → Handler
+tried_as new h = record h { tried = filter (λ (t : Tried). not (is_tried new.queue new.ident t)) h.tried ++ new ∷ [] }
 
 abbrev pub tried_deed : Handler → Own → Deed
 tried_deed h own = told replies.Tried (with_handler h own)
 
 -- IGNORE, or no rule left: the row is ignored by this handler from now on.
 abbrev pub ignored : List ℕ → Ident → Handler → Own → Deed
-ignored queue ident h own = tried_deed (tried_as queue ident None 0 0 h) own
+ignored queue ident h own = tried_deed (tried_as (record { queue = queue; ident = ident; ignored = true; from = 0; failed = 0; due = 0 }) h) own
 
--- the next rule that matches; where none is left, the place behind the last one, by which the next turn ignores the row
-abbrev pub next_rule : Table → Option ℕ → ℕ
-next_rule t None = length t.rules
-next_rule t (Some k) = k
+-- After a failed try the next one is due RETRYINT seconds later; after so many the next matching rule is in force at once,
+-- for the next turn, which ignores the row where there is none.
+abbrev pub try_later : List ℕ → Ident → ℕ → ℕ → Rule → Handler → Plain → Tried
+try_later queue ident k n rule h p =
+    if nat_le rule.retries n then record { queue = queue; ident = ident; ignored = false; from = k + 1; failed = 0; due = 0 }
+    else record { queue = queue; ident = ident; ignored = false; from = k; failed = n; due = p.moment + 1000 * h.table.retry_interval }
 
--- After a failed try the next one is due RETRYINT seconds later; after so many the next matching rule is in force at once.
 abbrev pub failed : List ℕ → Message → ℕ → Rule → ℕ → Handler → Plain → Own → Deed
-failed queue m k rule n h p own =
-    if nat_le rule.retries n then tried_deed (tried_as queue m.ident (Some (next_rule h.table (matching h.table m (k + 1)))) 0 0 h) own
-    else tried_deed (tried_as queue m.ident (Some k) n (p.moment + 1000 * h.table.retry_interval) h) own
+failed queue m k rule n h p own = tried_deed (tried_as (try_later queue m.ident k n rule h p) h) own
 
 abbrev pub moved : List ℕ → Message → ℕ → Rule → ℕ → Handler → Plain → Own → Step Reason (Unit {0}) → Deed
 moved queue m k rule n h p own (Refuse reason) = failed queue m k rule (n + 1) h p own

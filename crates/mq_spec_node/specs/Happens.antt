@@ -1,5 +1,5 @@
 -- What each event does at a node.
-use Rattle.std.specs.Prelude.{◌≡◌, ℕ, Bool, true, false, List, [], Option, Some, None}
+use Rattle.std.specs.Prelude.{◌≡◌, ◌≢◌, ◌≤◌, ◌<◌, ◌+◌, ℕ, Bool, true, false, List, [], Option, Some, None}
 use Rattle.mq_codes.specs.declared.reason.Reason.{Reason}
 use Rattle.mq_codes.specs.declared.reason.Reason.TheVariants as reasons
 use Rattle.mq_objects.specs.declared.object.LocalQueue.{LocalQueue}
@@ -33,7 +33,7 @@ use Rattle.mq_history.specs.declared.calls.Chance.TheVariants as chances
 use Rattle.mq_history.specs.declared.calls.Reply.{Reply}
 use Rattle.mq_history.specs.declared.calls.Reply.TheVariants as replies
 use Rattle.mq_history.specs.declared.opening.Image.{Image}
-use Rattle.mq_spec_state.specs.State.{Plain, Running}
+use Rattle.mq_spec_state.specs.State.{Plain, Noted, Running}
 use Rattle.mq_spec_state.specs.State.Running.{Up, Down}
 use Rattle.mq_spec_state.specs.Steps.{Step, Part, Outcome, After}
 use Rattle.mq_spec_state.specs.Steps.Step.{Refuse, Do}
@@ -44,16 +44,16 @@ use Rattle.mq_spec_manager.specs.Get.{mqget}
 use Rattle.mq_spec_manager.specs.Units.{mqcmit, mqback, mqdisc}
 use Rattle.mq_spec_manager.specs.Commands.{command}
 use Rattle.mq_spec_manager.specs.Triggers.{first_due, trigger_turn}
-use Rattle.mq_spec_manager.specs.Stops.{stop, restart, cut, advance_clock, CanReturn}
+use Rattle.mq_spec_manager.specs.Stops.{stop, restart, cut, advance_clock, CanBeKept, CanReturn, restarted as restarted_plain}
 use Rattle.mq_spec_node.specs.Node.{Node, Own, Monitor, Handler, SenderEnd, ReceiverEnd, sender_end, receiver_end, handler_in, change_monitor}
-use Rattle.mq_spec_node.specs.Deeds.{Deed, Done, told, parts_of, mqi_deed, ended_deed, node_of, begun_anew, quiet, done, CanCome}
+use Rattle.mq_spec_node.specs.Deeds.{Deed, Done, told, parts_of, mqi_deed, ended_deed, node_of, own_at_rest, begun_anew, quiet, done, CanCome}
 use Rattle.mq_spec_node.specs.Senders.{sender_deed, timeout_deed}
 use Rattle.mq_spec_node.specs.Receivers.{receiver_deed}
 use Rattle.mq_spec_node.specs.Operators.{operate, show_status}
 use Rattle.mq_spec_node.specs.Handlers.{handler_deed}
-use Rattle.mq_spec_node.specs.Openings.{resumed}
+use Rattle.mq_spec_node.specs.Openings.{resumed, most_restart_calls}
 
--- MQGET. One that may still wait is no event.
+-- MQGET. One that may still wait is no event, whatever comes from outside: it takes no memory, and waits.
 abbrev pub get_done : GetAnswer → Option (Answer Got)
 get_done get_answers.NotYet = None
 get_done (get_answers.Done answer) = Some answer
@@ -88,8 +88,12 @@ abbrev pub trigger_deed_of : Option LocalQueue → Node → Option Deed
 trigger_deed_of None n = None
 trigger_deed_of (Some q) n = Some (record (told (replies.Triggered q.name) n.own) { parts = parts_of (trigger_turn n.manager) })
 
+abbrev pub where_up : Running → Option Deed → Option Deed
+where_up Up deed = deed
+where_up (Down noted starts) deed = None
+
 abbrev pub trigger_deed : Node → Option Deed
-trigger_deed n = elim n.manager.running as (λ r. Option Deed) [ Up ↦ trigger_deed_of (first_due (locals_of n.manager.definitions) n.manager) n | Down noted starts ↦ None ]
+trigger_deed n = where_up n.manager.running (trigger_deed_of (first_due (locals_of n.manager.definitions) n.manager) n)
 
 -- A turn of what acts, at a manager that is up.
 abbrev pub sender_turn : ℕ → Option SenderEnd → Seen → Node → Option Deed
@@ -109,10 +113,6 @@ turn_up stamp (actors.Sender cable) seen n = sender_turn stamp (sender_end cable
 turn_up stamp (actors.Receiver cable) seen n = receiver_turn stamp (receiver_end cable n.own) seen n
 turn_up stamp (actors.Handler number) seen n = handler_turn (handler_in number n.own.handlers) n
 turn_up stamp _ seen n = None
-
-abbrev pub where_up : Running → Option Deed → Option Deed
-where_up Up deed = deed
-where_up (Down noted starts) deed = None
 
 abbrev pub timeout_of : Option SenderEnd → Node → Option Deed
 timeout_of None n = None
@@ -175,8 +175,12 @@ crash_reply (Refused fault) = replies.Acted (acted.Start fault)
 crash_reply Wanting = replies.Acted acted.Done
 crash_reply (Broken by) = replies.Stopped by
 
+abbrev pub own_crashed : Outcome RestartFault Bool → Own → Own
+own_crashed (Answered true) own = own_at_rest own
+own_crashed _ own = own
+
 abbrev pub crashed : After RestartFault Bool → Node → Done
-crashed a n = quiet (crash_reply a.outcome) a.delta (node_of a.next n.own)
+crashed a n = quiet (crash_reply a.outcome) a.delta (node_of a.next (own_crashed a.outcome n.own))
 
 -- A restart: its ends begin with what is hardened.
 abbrev pub restarted_as : Outcome RestartFault Kept → List Did → Plain → Node → Done
@@ -189,18 +193,18 @@ abbrev pub restarted : After RestartFault Kept → Node → Done
 restarted a n = restarted_as a.outcome a.delta a.next n
 
 -- The restart of an image that is none of those which the history allows goes on from it.
-abbrev pub restarted_from : Image → Node → Done
-restarted_from image n = quiet (replies.Acted acted.Done) [] (begun_anew (resumed image n.manager) n.own)
+abbrev pub restarted_from : Image → ℕ → Node → Done
+restarted_from image left n = quiet (replies.Acted acted.Done) [] (begun_anew (resumed image left n.manager) n.own)
 
 abbrev pub restart_event : Chance → Node → Done
 restart_event (chances.Call choice) n = nothing n
 restart_event (chances.Restart choice) n = restarted (restart choice n.manager) n
-restart_event (chances.Foreign image) n = restarted_from image n
+restart_event (chances.Foreign image left) n = restarted_from image left n
 
 abbrev pub choice_event : Chance → Option Deed → Node → Done
 choice_event (chances.Call choice) d n = done_or d choice n
 choice_event (chances.Restart choice) d n = nothing n
-choice_event (chances.Foreign image) d n = nothing n
+choice_event (chances.Foreign image left) d n = nothing n
 
 -- The event, at this stamp, by this actor, with what came from outside and what waited on the cable.
 abbrev pub event : ℕ → Actor → Call → Chance → Seen → Node → Done
@@ -215,29 +219,39 @@ abbrev pub IsDeed : Option Deed → Chance → Node → Type 0
 IsDeed None chance n = ⊥
 IsDeed (Some d) (chances.Call choice) n = CanCome d choice n
 IsDeed (Some d) (chances.Restart choice) n = ⊥
-IsDeed (Some d) (chances.Foreign image) n = ⊥
+IsDeed (Some d) (chances.Foreign image left) n = ⊥
 
 abbrev pub RunsAlone : Chance → Type 0
 RunsAlone (chances.Call choice) = choice ≡ Runs
 RunsAlone (chances.Restart choice) = ⊥
-RunsAlone (chances.Foreign image) = ⊥
+RunsAlone (chances.Foreign image left) = ⊥
 
 -- a restart that finds no memory is no event
 abbrev pub IsToldReturn : Return → Type 0
 IsToldReturn (Fails faults.NoMemory in_write left) = ⊥
 IsToldReturn _ = Unit {0}
 
--- A restart of a manager that is up is refused, whatever comes; one of a manager that is down ends as it can.
-abbrev pub IsReturn : Running → Chance → ℕ → Type 0
-IsReturn running (chances.Call choice) armed = ⊥
-IsReturn Up (chances.Restart choice) armed = Unit {0}
-IsReturn (Down noted starts) (chances.Restart choice) armed = CanReturn choice noted starts armed × IsToldReturn choice
-IsReturn Up (chances.Foreign image) armed = ⊥
-IsReturn (Down noted starts) (chances.Foreign image) armed = Unit {0}
+-- An image is foreign where it is none of those which the manager's history allows: with the noted write or without it, and
+-- with any of the Started records of restarts that were stopped.
+abbrev pub IsForeign : Image → Option Noted → ℕ → Plain → Type 0
+IsForeign image noted starts p = (kept : Bool) (started : ℕ) → CanBeKept kept noted → started ≤ starts
+    → resumed image (restarted_plain kept started noted p).log.armed p ≢ restarted_plain kept started noted p
+
+-- so many device calls may be left before an armed cut that isn't reached: a restart makes at most this many
+abbrev pub CanBeLeft : ℕ → ℕ → Type 0
+CanBeLeft left armed = (left ≤ armed) × (0 < armed → 0 < left) × (armed ≤ left + most_restart_calls)
+
+-- A restart of a manager that is up is refused and is nothing else; one of a manager that is down ends as it can.
+abbrev pub IsReturn : Chance → Running → Plain → Type 0
+IsReturn (chances.Call choice) running p = ⊥
+IsReturn (chances.Restart choice) Up p = choice ≡ Fails faults.Up false p.log.armed
+IsReturn (chances.Restart choice) (Down noted starts) p = CanReturn choice noted starts p.log.armed × IsToldReturn choice
+IsReturn (chances.Foreign image left) Up p = ⊥
+IsReturn (chances.Foreign image left) (Down noted starts) p = IsForeign image noted starts p × CanBeLeft left p.log.armed
 
 abbrev pub IsEvent : ℕ → Actor → Call → Chance → Seen → Node → Type 0
 IsEvent stamp actor (calls.Act acts.Crash) chance seen n = RunsAlone chance
-IsEvent stamp actor (calls.Act acts.Restart) chance seen n = IsReturn n.manager.running chance n.manager.log.armed
+IsEvent stamp actor (calls.Act acts.Restart) chance seen n = IsReturn chance n.manager.running n.manager
 IsEvent stamp actor (calls.Act (acts.Cut k)) chance seen n = RunsAlone chance
 IsEvent stamp actor (calls.Act (acts.Clock by)) chance seen n = RunsAlone chance
 IsEvent stamp actor call chance seen n = IsDeed (deed_of stamp actor call seen n) chance n

@@ -8,3 +8,7 @@ pub mod Openings
 pub mod Happens
 pub mod Replays
 pub mod Scripts
+pub mod Doers
+pub mod Lines
+pub mod Monitors
+pub mod Answers

@@ -1,5 +1,5 @@
 -- The plain node: a plain manager, and what the scenario gives it beside: ends of channels, handlers, monitors.
-use Rattle.std.specs.Prelude.{ℕ, ◌==◌, List, [], ◌∷◌, if◌then◌else◌, Option, Some, None, map}
+use Rattle.std.specs.Prelude.{ℕ, ◌==◌, Bool, List, [], ◌∷◌, if◌then◌else◌, Option, Some, None, map}
 use Rattle.std.specs.Str.{bytes_eq}
 use Rattle.mq_message.specs.declared.message.Ident.{Ident}
 use Rattle.mq_message.specs.declared.message.Message.{Message}
@@ -8,6 +8,8 @@ use Rattle.mq_calls.specs.declared.answers.Hobj.{Hobj}
 use Rattle.mq_sender.specs.declared.state.Sender.{Sender}
 use Rattle.mq_receiver.specs.declared.state.Receiver.{Receiver}
 use Rattle.mq_rules.specs.declared.rule.Table.{Table}
+use Rattle.mq_history.specs.declared.scenario.MonitorLine.{MonitorLine}
+use Rattle.mq_history.specs.declared.scenario.ScriptPart.{ScriptPart}
 use Rattle.mq_spec_state.specs.State.{Plain}
 
 -- the sender end of a cable: the cable's place in the scenario, the channel, the manager at the other end, the machine
@@ -29,16 +31,18 @@ pub data ChannelEnd : Type 0 where
   Sends : (e : SenderEnd) → ChannelEnd
   Receives : (e : ReceiverEnd) → ChannelEnd
 
--- a dead letter that a handler has tried: the rule in force, none where it is ignored from now on; the failed tries of
--- that rule; the moment at which the next try is due
+-- a dead letter that a handler has tried: whether it is ignored from now on; the number of the rule from which on the
+-- first that matches is in force; the failed tries of that rule; the moment at which the next try is due
 pub record Tried : Type 0 where
   pub queue : List ℕ
   pub ident : Ident
-  pub rule : Option ℕ
+  pub ignored : Bool
+  pub from : ℕ
   pub failed : ℕ
   pub due : ℕ
 
--- a handler, with its rules table, and a monitor, by their places in the scenario
+-- a handler with its rules table, a monitor with its connection and its open queue, and a script; by their places in the
+-- scenario
 pub record Handler : Type 0 where
   pub number : ℕ
   pub table : Table
@@ -46,14 +50,20 @@ pub record Handler : Type 0 where
 
 pub record Monitor : Type 0 where
   pub number : ℕ
+  pub line : MonitorLine
   pub connection : Option Hconn
   pub handle : Option Hobj
+
+pub record Script : Type 0 where
+  pub number : ℕ
+  pub part : ScriptPart
 
 -- all that is a node's own beside its manager; ends stand in the order of their cables
 pub record Own : Type 0 where
   pub ends : List ChannelEnd
   pub handlers : List Handler
   pub monitors : List Monitor
+  pub scripts : List Script
 
 pub record Node : Type 0 where
   pub manager : Plain
@@ -102,7 +112,7 @@ set_end new (e ∷ es) = if cable_of e == cable_of new then new ∷ es else e �
 abbrev pub with_end : ChannelEnd → Own → Own
 with_end new own = record own { ends = set_end new own.ends }
 
--- A handler, a monitor by number.
+-- A handler, a monitor, a script by number.
 abbrev pub handler_in : ℕ → List Handler → Option Handler
 handler_in number [] = None
 handler_in number (h ∷ hs) = if h.number == number then Some h else handler_in number hs
@@ -112,3 +122,11 @@ with_handler new own = record own { handlers = map (λ (h : Handler). if h.numbe
 
 abbrev pub change_monitor : ℕ → (Monitor → Monitor) → Own → Own
 change_monitor number f own = record own { monitors = map (λ (m : Monitor). if m.number == number then f m else m) own.monitors }
+
+abbrev pub monitor_in : ℕ → List Monitor → Option Monitor
+monitor_in number [] = None
+monitor_in number (m ∷ ms) = if m.number == number then Some m else monitor_in number ms
+
+abbrev pub script_in : ℕ → List Script → Option ScriptPart
+script_in number [] = None
+script_in number (s ∷ ss) = if s.number == number then Some s.part else script_in number ss

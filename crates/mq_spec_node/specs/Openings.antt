@@ -1,5 +1,5 @@
 -- A node at its first start, and after a restart that read another image.
-use Rattle.std.specs.Prelude.{ℕ, ◌-◌, false, None, map}
+use Rattle.std.specs.Prelude.{ℕ, false, None, map}
 use Rattle.mq_history.specs.declared.opening.Image.{Image}
 use Rattle.mq_history.specs.declared.opening.StoredQueue.{StoredQueue}
 use Rattle.mq_spec_state.specs.State.{Plain, Given, Queue}
@@ -26,9 +26,13 @@ image_read image = record {
 abbrev pub opened : Given → Image → ℕ → Plain
 opened given image moment = begun given (image_read image) moment
 
--- a restart makes five device calls of those before an armed cut
-abbrev pub resumed : Image → Plain → Plain
-resumed image p = record (opened p.given image p.moment) { log = record { length = image.length; armed = p.log.armed - 5 } }
+-- the most device calls that a restart makes: on a log that was emptied the start's three, and four of its Started record
+abbrev pub most_restart_calls : ℕ
+most_restart_calls = 7
+
+-- a restart from an image that the history doesn't allow, with so many calls left before an armed cut
+abbrev pub resumed : Image → ℕ → Plain → Plain
+resumed image left p = record (opened p.given image p.moment) { log = record { length = image.length; armed = left } }
 
 -- the first start
 abbrev pub first_node : Given → Own → Image → ℕ → Node

@@ -1,9 +1,12 @@
 -- Turns of a receiver.
-use Rattle.std.specs.Prelude.{ℕ, ◌==◌, Bool, true, false, not, List, [], ◌∷◌, ◌++◌, if◌then◌else◌, Option, Some, None, filter}
+use Rattle.std.specs.Prelude.{ℕ, ◌==◌, Bool, true, false, List, [], ◌∷◌, ◌++◌, if◌then◌else◌, Option, Some, None, ◌||◌}
+use Rattle.std.specs.List.{list_any}
 use Rattle.std.specs.Option.{option_map}
 use Rattle.mq_codes.specs.declared.reason.Reason.{Reason}
 use Rattle.mq_codes.specs.Numbers.{number}
+use Rattle.mq_message.specs.declared.message.Ident.{Ident}
 use Rattle.mq_message.specs.declared.message.Message.{Message}
+use Rattle.mq_queue.specs.Rows.{same_ident}
 use Rattle.mq_objects.specs.declared.object.ChannelKind.TheVariants as kinds
 use Rattle.mq_objects.specs.declared.object.Channel.{Channel}
 use Rattle.mq_objects.specs.declared.object.Definitions.{Definitions}
@@ -60,9 +63,15 @@ close_parts e p = parts_of (harden e.channel (notes.Closed e.machine.session) p)
 abbrev pub bind_parts : ReceiverEnd → Receiver → Plain → List Part
 bind_parts e bound p = parts_of (harden e.channel (notes.Bound e.partner bound.session bound.last) p) ++ parts_of (set_bound e.channel true p)
 
--- A message of a batch that stands here otherwise is kept out.
+-- A message of a batch that stands here otherwise is kept out, and so is the second one of an ident.
+abbrev pub taken_behind : List Ident → List Message → Plain → List Message
+taken_behind taken [] p = []
+taken_behind taken (m ∷ ms) p =
+    if is_present (standing_at m.ident p) || list_any (same_ident m.ident) taken then taken_behind taken ms p
+    else m ∷ taken_behind (m.ident ∷ taken) ms p
+
 abbrev pub taken_in : List Message → Plain → List Message
-taken_in ms p = filter (λ (m : Message). not (is_present (standing_at m.ident p))) ms
+taken_in ms p = taken_behind [] ms p
 
 -- the batch is placed; or it is refused, its session closed, and ERR owed
 abbrev pub place_deed : ReceiverEnd → Luw → Seen → Step Reason (Unit {0}) → Node → Deed

@@ -13,8 +13,8 @@ use Rattle.mq_history.specs.declared.calls.Chance.TheVariants as chances
 use Rattle.mq_history.specs.declared.history.History.{History}
 use Rattle.mq_spec_state.specs.State.{Given}
 use Rattle.mq_spec_node.specs.Node.{Node, Own}
-use Rattle.mq_spec_node.specs.Deeds.{Done}
-use Rattle.mq_spec_node.specs.Happens.{event, IsEvent}
+use Rattle.mq_spec_node.specs.Deeds.{Deed, Done}
+use Rattle.mq_spec_node.specs.Happens.{event, IsEvent, trigger_deed}
 use Rattle.mq_spec_node.specs.Openings.{first_node}
 
 -- what the entry's event comes to at a node
@@ -64,7 +64,7 @@ abbrev pub Follows : Node → ℕ → List Entry → Type 0
 Follows n last [] = Unit {0}
 Follows n last (e ∷ es) = Tells n last e × Follows (done_by e n).next e.stamp es
 
--- what the scenario gives a manager: number, name, LOGMAX, and its ends, handlers and monitors
+-- What the scenario gives a manager: number, name, LOGMAX, and its ends, handlers, monitors and scripts.
 pub record Surroundings : Type 0 where
   pub given : Given
   pub own : Own
@@ -81,11 +81,21 @@ pub record Replays (s : Surroundings) (h : History) : Type 0 where
 abbrev pub state_of : Surroundings → History → Node
 state_of s h = after (opening_node s h) h.entries
 
+-- A trigger turn stands where one is due, with the actor of the entry before it, and nothing else stands there: where a turn
+-- found no memory, whatever is asked of the node next serves first what is due.
+abbrev pub TriggerIs : Option Deed → Option Actor → Entry → Type 0
+TriggerIs None last e = Unit {0}
+TriggerIs (Some d) last e = (e.call ≡ calls.Trigger) × (Some e.actor ≡ last)
+
+abbrev pub TriggersStand : Option Actor → Node → List Entry → Type 0
+TriggersStand last n [] = Unit {0}
+TriggersStand last n (e ∷ es) = TriggerIs (trigger_deed n) last e × TriggersStand (Some e.actor) (done_by e n).next es
+
 -- no restart read an image that the history does not allow
 abbrev pub IsOwn : Chance → Type 0
 IsOwn (chances.Call choice) = Unit {0}
 IsOwn (chances.Restart choice) = Unit {0}
-IsOwn (chances.Foreign image) = ⊥
+IsOwn (chances.Foreign image left) = ⊥
 
 abbrev pub NoneForeign : List Entry → Type 0
 NoneForeign [] = Unit {0}

@@ -1,5 +1,5 @@
--- The monitors of a scenario: what they do, and which scripts they begin.
-use Rattle.std.specs.Prelude.{ℕ, suc, ◌==◌, Bool, true, false, ◌&&◌, List, [], ◌∷◌, if◌then◌else◌, Option, Some, None, Ok, Err}
+-- Monitors: what they do, and which scripts they begin.
+use Rattle.std.specs.Prelude.{ℕ, ◌==◌, Bool, true, false, List, [], ◌∷◌, if◌then◌else◌, Option, Some, None, Ok, Err}
 use Rattle.std.specs.Str.{bytes_eq}
 use Rattle.mq_calls.specs.declared.answers.Answer.{Answer}
 use Rattle.mq_calls.specs.declared.answers.Answer.TheVariants as answers
@@ -17,15 +17,13 @@ use Rattle.mq_history.specs.declared.calls.Call.TheVariants as calls
 use Rattle.mq_history.specs.declared.calls.Reply.{Reply}
 use Rattle.mq_history.specs.declared.calls.Reply.TheVariants as replies
 use Rattle.mq_history.specs.declared.calls.Entry.{Entry}
-use Rattle.mq_history.specs.declared.scenario.ScriptPart.{ScriptPart}
-use Rattle.mq_history.specs.declared.scenario.Scenario.{Scenario}
 use Rattle.mq_heads.specs.Headers.{tm_in}
 use Rattle.mq_spec_manager.specs.Heads.{is_tm, trimmed}
 use Rattle.mq_spec_manager.specs.Handles.{connected as handles_connected}
-use Rattle.mq_spec_node.specs.Node.{Node, Monitor}
+use Rattle.mq_spec_node.specs.Node.{Node, Monitor, Script, monitor_in}
 use Rattle.mq_spec_node.specs.Deeds.{Deed}
-use Rattle.mq_spec_network.specs.Turns.{deed_at}
-use Rattle.mq_spec_network.specs.ScriptLines.{lines_done}
+use Rattle.mq_spec_node.specs.Happens.{deed_of}
+use Rattle.mq_spec_node.specs.Lines.{lines_done}
 
 -- How a monitor opens its queue.
 abbrev pub shared : Open
@@ -43,17 +41,17 @@ abbrev pub got_body : Reply → List ℕ
 got_body (replies.Got (answers.Ok g)) = g.body
 got_body _ = []
 
-abbrev pub script_named : ℕ → ℕ → List ℕ → List ScriptPart → Option ℕ
-script_named m k label [] = None
-script_named m k label (p ∷ ps) = if p.manager == m && bytes_eq label p.label then Some k else script_named m (suc k) label ps
+abbrev pub script_named : List ℕ → List Script → Option ℕ
+script_named label [] = None
+script_named label (s ∷ ss) = if bytes_eq label s.part.label then Some s.number else script_named label ss
 
 abbrev pub unless_begun : List Entry → Option ℕ → Option ℕ
 unless_begun es None = None
 unless_begun es (Some k) = if lines_done k es == 0 then Some k else None
 
--- the script that a monitor's get begins, at a manager that has done this so far
-abbrev pub begins : Scenario → ℕ → List Entry → Reply → Option ℕ
-begins s m es reply = if is_tm (got_body reply) then unless_begun es (script_named m 0 (appl_id (got_body reply)) s.scripts) else None
+-- the script of this manager that a monitor's get begins, after what its manager did so far
+abbrev pub begins : List Script → List Entry → Reply → Option ℕ
+begins ss es reply = if is_tm (got_body reply) then unless_begun es (script_named (appl_id (got_body reply)) ss) else None
 
 abbrev pub is_failed : Answer Got → Bool
 is_failed (answers.Ok g) = false
@@ -79,10 +77,6 @@ gets_nothing (Some d) = elim d.reply as (λ r. Bool) [
   | replies.Stopped by ↦ true
 ]
 
-abbrev pub monitor_in : ℕ → List Monitor → Option Monitor
-monitor_in k [] = None
-monitor_in k (m ∷ ms) = if m.number == k then Some m else monitor_in k ms
-
 -- the get of a monitor that is connected
 abbrev pub monitor_call : Option Hconn → Option Hobj → Option Call
 monitor_call None ho = None
@@ -93,17 +87,17 @@ abbrev pub call_of : Option Monitor → Option Call
 call_of None = None
 call_of (Some m) = monitor_call m.connection m.handle
 
-abbrev pub monitor_next : ℕ → Option Node → Option Call
-monitor_next k None = None
-monitor_next k (Some n) = call_of (monitor_in k n.own.monitors)
+abbrev pub monitor_next : ℕ → Node → Option Call
+monitor_next k n = call_of (monitor_in k n.own.monitors)
 
-abbrev pub monitor_deed : ℕ → Option Call → Option Node → Option Deed
+abbrev pub monitor_deed : ℕ → Option Call → Node → Option Deed
 monitor_deed k None n = None
-monitor_deed k (Some call) n = deed_at (actors.Monitor k) call items.Nothing n
+monitor_deed k (Some call) n = deed_of 0 (actors.Monitor k) call items.Nothing n
 
-abbrev pub monitor_idle : ℕ → Option Node → Bool
+abbrev pub monitor_idle : ℕ → Node → Bool
 monitor_idle k n = gets_nothing (monitor_deed k (monitor_next k n) n)
 
+-- whether it has a connection that lives
 abbrev pub has_connection : Option Hconn → Node → Bool
 has_connection None n = false
 has_connection (Some hc) n = elim (handles_connected hc n.manager) as (λ r. Bool) [ Ok c ↦ true | Err reason ↦ false ]
@@ -112,6 +106,5 @@ abbrev pub is_live : Option Monitor → Node → Bool
 is_live None n = false
 is_live (Some m) n = has_connection m.connection n
 
-abbrev pub monitor_live : ℕ → Option Node → Bool
-monitor_live k None = false
-monitor_live k (Some n) = is_live (monitor_in k n.own.monitors) n
+abbrev pub monitor_live : ℕ → Node → Bool
+monitor_live k n = is_live (monitor_in k n.own.monitors) n
