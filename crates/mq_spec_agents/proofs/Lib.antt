@@ -1,1 +1,2 @@
 mod ChannelVectors
+mod RowsStanding

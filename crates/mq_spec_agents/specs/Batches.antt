@@ -1,7 +1,6 @@
 -- A sender's batch: rows are held, released, or prepared as the unit in doubt.
 use Rattle.std.specs.Option.{option_map}
 use Rattle.std.specs.Prelude.{ℕ, zero, suc, false, List, [], ◌∷◌, Option, Some, None, length, map, take, find, slice_get}
-use Rattle.mq_codes.specs.Numbers.{number}
 use Rattle.mq_message.specs.declared.message.Ident.{Ident}
 use Rattle.mq_message.specs.declared.message.Message.{Message}
 use Rattle.mq_message.specs.declared.place.Holder.TheVariants as holders

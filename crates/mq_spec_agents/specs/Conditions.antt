@@ -2,7 +2,6 @@
 use Rattle.std.specs.List.{list_any, AllByRecursion}
 use Rattle.std.specs.Option.{option_map}
 use Rattle.std.specs.Prelude.{ℕ, Bool, true, false, not, ◌&&◌, List, [], ◌∷◌, Option, Some, None, find, ◌≡◌, ◌<◌, ◌≤◌, IsSome, is_some}
-use Rattle.mq_codes.specs.Numbers.{number}
 use Rattle.mq_message.specs.declared.message.Ident.{Ident}
 use Rattle.mq_message.specs.declared.place.Holder.TheVariants as holders
 use Rattle.mq_queue.specs.Rows.{same_ident, has_ident, held_by}
@@ -20,11 +19,7 @@ use Rattle.mq_spec_state.specs.Images.{rests_by}
 use Rattle.mq_spec_state.specs.Reads.{stored, sender_data, receiver_data, seizure_of, batch_of, in_doubt_of, is_up}
 use Rattle.mq_spec_state.specs.State.{Plain, Batch, Queue}
 use Rattle.mq_spec_manager.specs.Heads.{is_dead}
-use Rattle.mq_spec_agents.specs.Batches.{hold_batch, release_batch, prepare}
-use Rattle.mq_spec_agents.specs.Hardening.{harden}
-use Rattle.mq_spec_agents.specs.Moves.{move_row, discard}
-use Rattle.mq_spec_agents.specs.Receiving.{receive}
-use Rattle.mq_spec_agents.specs.Seizing.{kept, is_sender, is_receiver, seize, stock, expire}
+use Rattle.mq_spec_agents.specs.Seizing.{is_sender, is_receiver}
 
 -- What the calls of channel ends and of the handler ask of a manager that is up. Whoever makes the call has seen to it.
 abbrev pub IsUp : Plain → Type 0

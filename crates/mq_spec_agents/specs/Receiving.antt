@@ -1,5 +1,5 @@
 -- The commit of a receiver: a batch of messages is placed.
-use Rattle.std.specs.Prelude.{ℕ, ◌+◌, Bool, true, false, List, [], ◌∷◌, ◌++◌, if◌then◌else◌, Some, Result, Ok, Err}
+use Rattle.std.specs.Prelude.{ℕ, Bool, true, false, List, [], ◌∷◌, ◌++◌, if◌then◌else◌, Some, Result, Ok, Err}
 use Rattle.mq_codes.specs.declared.reason.Reason.{Reason}
 use Rattle.mq_codes.specs.declared.reason.Reason.TheVariants as reasons
 use Rattle.mq_message.specs.declared.message.Message.{Message}
@@ -15,7 +15,7 @@ use Rattle.mq_spec_state.specs.Reads.{receiver_data, is_persistent, is_full}
 use Rattle.mq_spec_state.specs.Sizes.{need}
 use Rattle.mq_spec_state.specs.State.{Plain, Change}
 use Rattle.mq_spec_state.specs.State.Change.{SetReceiver}
-use Rattle.mq_spec_state.specs.Steps.{Step, Part, when, refusal, tested}
+use Rattle.mq_spec_state.specs.Steps.{Step, Part, when, tested}
 use Rattle.mq_spec_state.specs.Steps.Step.{Refuse, Do}
 use Rattle.mq_spec_manager.specs.Put.{placed}
 use Rattle.mq_spec_agents.specs.Landing.{Landing, land}

@@ -1,6 +1,6 @@
 -- How the ident of a message that a channel brings stands at the manager already.
 use Rattle.std.specs.List.{list_any}
-use Rattle.std.specs.Prelude.{ℕ, ◌+◌, nat_lt, Bool, true, false, not, ◌&&◌, ◌||◌, List, [], ◌∷◌, ◌++◌, if◌then◌else◌, Option, Some, None, find, ◌==◌}
+use Rattle.std.specs.Prelude.{ℕ, nat_lt, Bool, true, false, not, ◌&&◌, ◌||◌, List, [], ◌∷◌, ◌++◌, if◌then◌else◌, Option, Some, None, find, ◌==◌}
 use Rattle.mq_message.specs.declared.message.Ident.{Ident}
 use Rattle.mq_message.specs.declared.message.Message.{Message}
 use Rattle.mq_message.specs.declared.place.Holder.{Holder}
@@ -16,8 +16,6 @@ use Rattle.mq_spec_state.specs.Reads.{sender_data, is_persistent, in_doubt_of}
 use Rattle.mq_spec_state.specs.State.{Plain, Change, Connection, Item, Queue}
 use Rattle.mq_spec_state.specs.State.Change.{Leave, Undoubt}
 use Rattle.mq_spec_state.specs.State.Which.{Among}
-use Rattle.mq_spec_manager.specs.Put.{placed}
-use Rattle.mq_spec_agents.specs.Seizing.{kept}
 
 -- How an ident stands at the manager. A message that comes back to the row of a unit in doubt drops that row, where both
 -- last or neither does; one that stands otherwise is kept out.

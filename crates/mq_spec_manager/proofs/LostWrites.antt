@@ -1,6 +1,6 @@
 -- A stopped write that a restart does not find leaves what a stop before the call would have left: a frozen manager keeps
 -- all that lasts, and so does a stop.
-use Rattle.std.specs.Prelude.{◌≡◌, ℕ, Bool, true, false, not, ◌&&◌, List, [], ◌∷◌, Option, Some, None, map, refl}
+use Rattle.std.specs.Prelude.{◌≡◌, ℕ, Bool, true, not, ◌&&◌, List, [], ◌∷◌, Option, Some, None, map, refl}
 use Rattle.std.proofs.Common.{ap, ◌∙◌, arith}
 use Rattle.mq_message.specs.declared.place.Holder.{Holder}
 use Rattle.mq_message.specs.declared.place.Holder.TheVariants as holders
@@ -12,7 +12,7 @@ use Rattle.mq_spec_state.specs.Reads.{is_persistent, is_by_unit}
 use Rattle.mq_spec_state.specs.State.{Plain, Queue, Batch, Noted}
 use Rattle.mq_spec_state.specs.State.Which.{HeldByUnits, Nonpersistent}
 use Rattle.mq_spec_state.specs.Changes.{release_if, kept_in, released_in, forgotten}
-use Rattle.mq_spec_state.specs.Images.{Image, Shelf, lasting, lasting_row, lasting_rows, shelf_of, shelves_of}
+use Rattle.mq_spec_state.specs.Images.{Shelf, lasting, lasting_row, lasting_rows, shelf_of, shelves_of}
 use Rattle.mq_spec_state.specs.Steps.{freeze}
 
 abbrev stays : Row → Bool

@@ -1,5 +1,5 @@
 -- Counters of a manager, of which none comes near the end of its 64 bits: what its calls rest on.
-use Rattle.std.specs.Prelude.{ℕ, ◌+◌, ◌^◌, ◌≤◌, None, Some}
+use Rattle.std.specs.Prelude.{ℕ, ◌+◌, ◌^◌, ◌≤◌}
 use Rattle.std.specs.List.{AllByRecursion}
 use Rattle.mq_spec_state.specs.State.{Plain, Queue, Connection, Running}
 use Rattle.mq_spec_state.specs.State.Running.{Up, Down}
