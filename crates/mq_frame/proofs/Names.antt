@@ -260,7 +260,7 @@ front_none_at bytes n is e =
     let none : length bytes ≡ 0 = omega (arith, length-take n bytes, ap length h) in
     front_len bytes 0 (omega arith) (omega arith) refl (λ p. at_end bytes 0 (omega arith))
 
-all_no_bad : (field : List ℕ) (o : Option ℕ) → position bad_byte field ≡ o → list_all is_name_byte field ≡ true → o ≡ None
+pub all_no_bad : (field : List ℕ) (o : Option ℕ) → position bad_byte field ≡ o → list_all is_name_byte field ≡ true → o ≡ None
 all_no_bad field None e all = refl
 all_no_bad field (Some place) e all =
     let h = position-Some bad_byte field place 0 e in

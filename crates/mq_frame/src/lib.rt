@@ -6,12 +6,13 @@ mod fault;
 mod frame;
 mod framing;
 mod laws;
-mod reading;
+pub mod reading;
 mod shape;
 mod sight;
 mod writing;
 
 pub use decoder::Decoder;
+pub use fault::{Miss, Stop};
 pub use frame::{Frame, FrameFault, FrameKind, Frames, Seen};
 pub use laws::{
     bytes_are_cut_in_one_way, bytes_show_one_thing, no_frame_begins_another,

@@ -1,0 +1,9 @@
+pub mod WordLaws
+pub mod ExactLaws
+pub mod PartLaws
+pub mod ListLaws
+pub mod LoopLaws
+pub mod KindLaws
+pub mod BodyLaws
+pub mod SizeLaws
+pub mod RoomLaws
