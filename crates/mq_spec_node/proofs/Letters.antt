@@ -107,3 +107,28 @@ discarded = refl
 idle_then : turns (turn (turn (later (turn handled)))) ≡ 0
 unfolding dlh_bytes dlh_in dlh_read long_bytes long_of put_date put_time reached
 idle_then = refl
+
+-- One rule that retries once, to a queue that isn't there: the first turn is its last try, the second ignores the row.
+abbrev retries_once : Rule
+retries_once = record { conditions = conditions.Number numbers.Reason (pos 2053) ∷ []; action = actions.Retry; retries = 1 }
+
+abbrev retried : Node
+retried = first_node (record { number = 2; name = codes "PARIS"; log_max = 268435456 })
+    (record { ends = []; handlers = record { number = 0; table = record rules { rules = retries_once ∷ [] }; tried = [] } ∷ []; monitors = []; scripts = [] })
+    (record (image given (codes "DLQ")) { queues = letters ∷ [] }) 0
+
+last_try : turns retried ≡ 1
+unfolding dlh_bytes dlh_in dlh_read long_bytes long_of put_date put_time reached
+last_try = refl
+
+then_ignored : turns (turn retried) ≡ 1
+unfolding dlh_bytes dlh_in dlh_read long_bytes long_of put_date put_time reached
+then_ignored = refl
+
+idle_behind : turns (turn (turn retried)) ≡ 0
+unfolding dlh_bytes dlh_in dlh_read long_bytes long_of put_date put_time reached
+idle_behind = refl
+
+still_in_queue : dead_rows (turn (turn retried)) ≡ (1 ∷ 1 ∷ 1 ∷ []) ∷ []
+unfolding dlh_bytes dlh_in dlh_read long_bytes long_of put_date put_time reached
+still_in_queue = refl
