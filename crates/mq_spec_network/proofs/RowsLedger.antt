@@ -1,5 +1,5 @@
 -- The ledger, computed: at a receiver's commit it places its own row; a RESTART that is refused leaves it.
-use Rattle.std.specs.Prelude.{◌≡◌, ℕ, pos, Bool, List, [], ◌∷◌, Option, Some, None, map, codes, refl}
+use Rattle.std.specs.Prelude.{◌≡◌, ℕ, pos, List, [], ◌∷◌, Some, None, map, codes, refl}
 use Rattle.mq_frame.specs.declared.frame.Seen.TheVariants as items
 use Rattle.mq_message.specs.declared.message.Message.{Message}
 use Rattle.mq_objects.specs.declared.object.Object.{Object}
@@ -18,7 +18,7 @@ use Rattle.mq_history.specs.declared.calls.Reply.TheVariants as replies
 use Rattle.mq_history.specs.declared.story.ManagerPlaces.{ManagerPlaces}
 use Rattle.mq_spec_manager.specs.Commands.{defined_object}
 use Rattle.mq_spec_manager.proofs.Script.{script_md}
-use Rattle.mq_spec_network.specs.Ledger.{Ledger, Users, no_users, place, receive, posted, ledger_rows}
+use Rattle.mq_spec_network.specs.Ledger.{Ledger, no_users, place, receive, posted, ledger_rows}
 
 -- A message of LONDON's, with this body.
 abbrev message : List ℕ → Message

@@ -1,5 +1,5 @@
 -- With what a network may begin: scenarios whose parts name what is there, and managers as recovery gives them.
-use Rattle.std.specs.Prelude.{ℕ, ◌≡◌, ◌≢◌, ◌<◌, ◌≤◌, true, false, List, Some, map, length, slice_get}
+use Rattle.std.specs.Prelude.{ℕ, ◌≡◌, ◌≢◌, ◌≤◌, true, false, List, Some, map, slice_get}
 use Rattle.std.specs.Str.{bytes_eq}
 use Rattle.mq_message.specs.declared.message.Ident.{Ident}
 use Rattle.mq_message.specs.declared.place.Holder.TheVariants as holders
@@ -10,53 +10,16 @@ use Rattle.mq_sync.specs.declared.data.InDoubt.{InDoubt}
 use Rattle.mq_sync.specs.declared.data.SenderData.{SenderData}
 use Rattle.mq_sync.specs.declared.data.ReceiverData.{ReceiverData}
 use Rattle.mq_history.specs.declared.history.History.{History}
-use Rattle.mq_history.specs.declared.scenario.ManagerLine.{ManagerLine}
-use Rattle.mq_history.specs.declared.scenario.CableLine.{CableLine}
-use Rattle.mq_history.specs.declared.scenario.MonitorLine.{MonitorLine}
-use Rattle.mq_history.specs.declared.scenario.RulesPart.{RulesPart}
-use Rattle.mq_history.specs.declared.scenario.ScriptPart.{ScriptPart}
-use Rattle.mq_history.specs.declared.scenario.Section.{Section}
 use Rattle.mq_history.specs.declared.scenario.Scenario.{Scenario}
-use Rattle.mq_history.specs.declared.scenario.Step.{Step}
-use Rattle.mq_history.specs.declared.scenario.Step.TheVariants as steps
 use Rattle.mq_spec_state.specs.State.{Plain, Queue}
 use Rattle.mq_spec_state.specs.Reads.{stored, is_persistent, sender_data, receiver_data, in_doubt_of}
 use Rattle.mq_spec_network.specs.Story.{Mem, Chain}
 use Rattle.mq_spec_network.specs.Standing.{opening_managers}
 use Rattle.mq_spec_network.specs.Promised.{AreDistinct}
 
--- Scenarios. No two names of a kind are equal.
+-- No two names are equal.
 abbrev pub Apart : List (List ℕ) → Type 0
 Apart names = Chain (λ (x y : List ℕ). bytes_eq x y ≡ false) names
-
-abbrev pub NoneTwice : List ℕ → Type 0
-NoneTwice ks = Chain (λ (x y : ℕ). x ≢ y) ks
-
-abbrev pub StepIn : Scenario → Step → Type 0
-StepIn s (steps.Obey k) = k < length s.sections
-StepIn s (steps.Do m c) = m < length s.managers
-StepIn s (steps.Run k n) = k < length s.scripts
-StepIn s (steps.Phase ks) = ((k : ℕ) → Mem k ks → k < length s.scripts) × NoneTwice ks
-StepIn s (steps.Pump n) = Unit {0}
-StepIn s (steps.Handle k n) = k < length s.rules
-StepIn s (steps.Watch k) = k < length s.monitors
-StepIn s (steps.Serve k n) = k < length s.monitors
-StepIn s (steps.Crash m) = m < length s.managers
-StepIn s (steps.Restart m) = m < length s.managers
-StepIn s (steps.Cut m k) = m < length s.managers
-StepIn s (steps.Clock ms) = Unit {0}
-
-pub record IsScenario (s : Scenario) : Type 0 where
-  pub few : length s.managers ≤ 8
-  pub managers : Apart (map (λ (m : ManagerLine). m.name) s.managers)
-  pub channels : Apart (map (λ (c : CableLine). c.channel) s.cables)
-  pub labels : Apart (map (λ (p : ScriptPart). p.label) s.scripts)
-  pub cables : (c : CableLine) → Mem c s.cables → (c.sender < length s.managers) × (c.receiver < length s.managers) × (c.sender ≢ c.receiver)
-  pub sections : (p : Section) → Mem p s.sections → p.manager < length s.managers
-  pub rules : (r : RulesPart) → Mem r s.rules → r.manager < length s.managers
-  pub scripts : (p : ScriptPart) → Mem p s.scripts → p.manager < length s.managers
-  pub monitors : (l : MonitorLine) → Mem l s.monitors → l.manager < length s.managers
-  pub steps : (step : Step) → Mem step s.steps → StepIn s step
 
 -- Openings.
 abbrev pub row_idents : List Row → List Ident

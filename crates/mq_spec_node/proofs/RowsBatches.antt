@@ -1,5 +1,5 @@
 -- A batch that has one ident twice, computed: one message is placed, and the receiver's commit tells one.
-use Rattle.std.specs.Prelude.{◌≡◌, pos, List, [], ◌∷◌, Some, None, map, codes, refl}
+use Rattle.std.specs.Prelude.{◌≡◌, pos, [], ◌∷◌, Some, None, map, codes, refl}
 use Rattle.mq_message.specs.declared.message.Message.{Message}
 use Rattle.mq_frame.specs.declared.frame.Seen.TheVariants as items
 use Rattle.mq_queue.specs.declared.row.Row.{Row}
