@@ -4,3 +4,4 @@ pub mod Letters
 pub mod RowsRestarts
 pub mod RowsBatches
 pub mod RowsWaits
+pub mod RowsImages

@@ -14,7 +14,7 @@ use Rattle.mq_spec_node.specs.Deeds.{Deed}
 use Rattle.mq_spec_node.specs.Receivers.{place_deed}
 use Rattle.mq_spec_node.proofs.Pair.{paris, at_paris, channel}
 
-abbrev message : Message
+abbrev pub message : Message
 message = record {
   ident = record { manager = 1; incarnation = 1; number = 1 };
   md = script_md (pos 0) (pos 1);

@@ -1,5 +1,5 @@
 -- Restarts, computed: of a manager that runs, and of one whose receiver's commit was cut.
-use Rattle.std.specs.Prelude.{◌≡◌, ℕ, Bool, true, false, List, [], ◌∷◌, map, refl, codes}
+use Rattle.std.specs.Prelude.{◌≡◌, ℕ, Bool, true, false, List, [], ◌∷◌, None, map, refl, codes}
 use Rattle.mq_disk.specs.declared.cutter.Stop.TheVariants as stops
 use Rattle.mq_frame.specs.declared.frame.Seen.TheVariants as items
 use Rattle.mq_message.specs.declared.message.Message.{Message}
@@ -14,11 +14,18 @@ use Rattle.mq_history.specs.declared.calls.Call.TheVariants as calls
 use Rattle.mq_history.specs.declared.calls.Chance.TheVariants as chances
 use Rattle.mq_history.specs.declared.calls.Reply.TheVariants as replies
 use Rattle.mq_history.specs.declared.calls.Call.{Call}
-use Rattle.mq_spec_manager.proofs.Script.{connection, handle, persistent_md, ident_numbers}
+use Rattle.mq_spec_manager.proofs.Script.{script_appl, connection, handle, plain_md, persistent_md, ident_numbers}
+use Rattle.mq_spec_state.specs.State.{Queue}
+use Rattle.mq_spec_state.specs.Reads.{stored}
+use Rattle.mq_spec_state.specs.Images.{lasting}
+use Rattle.mq_queue.specs.declared.row.Row.{Row}
+use Rattle.mq_message.specs.declared.message.Md.{Md}
+use Rattle.mq_calls.specs.declared.answers.Hconn.{Hconn}
+use Rattle.std.proofs.Common.{arith}
 use Rattle.mq_spec_node.specs.Node.{Node, ChannelEnd}
 use Rattle.mq_spec_node.specs.Node.ChannelEnd.{Sends, Receives}
 use Rattle.mq_spec_node.specs.Deeds.{Done}
-use Rattle.mq_spec_node.specs.Happens.{event, IsEvent}
+use Rattle.mq_spec_node.specs.Happens.{event, IsEvent, IsForeign}
 use Rattle.mq_spec_node.proofs.Pair.{Pair, paris, at_paris, runs, front, rounds, sender_turn}
 use Rattle.mq_spec_node.proofs.Turns.{script, begun, idents}
 
@@ -77,3 +84,33 @@ lost = refl
 
 found : idents (codes "Q1") (returns (Comes true 0) cut_commit.next).next ≡ (1 ∷ 1 ∷ 1 ∷ []) ∷ []
 found = refl
+
+-- PARIS has one nonpersistent message and then a persistent one; after a stop and a restart the row that lasts is its
+-- first, and so many have arrived.
+abbrev here : Call → Node → Node
+here call n = (event 1 (actors.Script 0) call runs items.Nothing n).next
+
+abbrev hc : Hconn
+hc = record { manager = 2; incarnation = 1; number = 1 }
+
+abbrev put_here : Md → Node → Node
+put_here md n = here (calls.Mqput1 hc (codes "Q1") [] md (codes "HELLO") false) n
+
+abbrev two : Node
+two = put_here persistent_md (put_here plain_md (here (calls.Mqconn [] script_appl) running))
+
+abbrev stopped : Node
+stopped = (event 2 actors.Operator (calls.Act acts.Crash) runs items.Nothing two).next
+
+abbrev arrivals : Queue → List ℕ
+arrivals q = q.arrivals ∷ map (λ (row : Row). row.place.arrival) q.rows
+
+both_there : arrivals (stored (codes "Q1") two.manager) ≡ 2 ∷ 1 ∷ 2 ∷ []
+both_there = refl
+
+numbered_anew : arrivals (stored (codes "Q1") (returns (Comes false 0) stopped).next.manager) ≡ 1 ∷ 1 ∷ []
+numbered_anew = refl
+
+-- what that log has is not foreign: the same image and the same length
+expected_is_not_foreign : IsForeign (lasting stopped.manager) stopped.manager.log.length None 0 stopped.manager → ⊥
+expected_is_not_foreign h = h false 0 tt (omega arith) (record { read = refl; long = refl })

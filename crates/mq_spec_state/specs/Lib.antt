@@ -7,3 +7,4 @@ pub mod Images
 pub mod Steps
 pub mod Meeting
 pub mod Counts
+pub mod Recovery
