@@ -1,3 +1,4 @@
+pub mod Terms
 pub mod State
 pub mod Sizes
 pub mod Reads
@@ -7,3 +8,4 @@ pub mod Images
 pub mod Steps
 pub mod Meeting
 pub mod Counts
+pub mod Words
