@@ -99,6 +99,7 @@ abbrev pub is_sending : SenderState → Bool
 is_sending (Sending sent number) = true
 is_sending _ = false
 
+-- how far a unit is sent
 abbrev pub messages_sent : SenderState → ℕ
 messages_sent (Sending sent number) = sent
 messages_sent _ = 0

@@ -1,8 +1,7 @@
 -- Worked rows of channels, triggers, stops in a write, stale handles and moves, computed from the definitions.
 use Rattle.std.specs.Prelude.{◌≡◌, ℕ, pos, Bool, true, false, List, [], ◌∷◌, ◌++◌, Option, Some, None, length, codes, refl, take, drop, map, flat_map}
 use Rattle.std.specs.Option.{option_map}
-use Rattle.mq_message.specs.declared.message.Ident.{Ident}
-use Rattle.mq_message.specs.declared.message.Message.{Message}
+use Rattle.mq_spec_state.specs.Words.{Ident, Message, Object, ManagerAttributes, Command, Open, ScRefusal, Shown, Luw, InDoubt, Plain, stored, sender_data, depth, in_doubt_of, reserved, Step, next, after, Refuse}
 use Rattle.mq_queue.specs.declared.row.Row.{Row}
 use Rattle.mq_objects.specs.Changed.{set}
 use Rattle.mq_objects.specs.Attributes.{Attribute, attributes, shown_attribute, define_text}
@@ -11,39 +10,23 @@ use Rattle.std.specs.Fmt.{digits}
 use Rattle.mq_objects.specs.Defaults.{new_manager}
 use Rattle.mq_objects.specs.declared.object.Usage.TheVariants as usages
 use Rattle.mq_objects.specs.declared.object.TriggerType.TheVariants as triggers
-use Rattle.mq_objects.specs.declared.object.Object.{Object}
-use Rattle.mq_objects.specs.declared.object.ManagerAttributes.{ManagerAttributes}
 use Rattle.mq_objects.specs.declared.setting.ChannelType.TheVariants as channel_types
 use Rattle.mq_objects.specs.declared.setting.Setting.{Setting}
 use Rattle.mq_objects.specs.declared.setting.Setting.TheVariants as settings
 use Rattle.mq_objects.specs.declared.command.Subject.TheVariants as subjects
-use Rattle.mq_objects.specs.declared.command.Command.{Command}
 use Rattle.mq_objects.specs.declared.command.Command.TheVariants as commands
-use Rattle.mq_calls.specs.declared.answers.Open.{Open}
 use Rattle.mq_calls.specs.declared.answers.Input.TheVariants as inputs
 use Rattle.mq_disk.specs.declared.cutter.Stop.TheVariants as stops
-use Rattle.mq_calls.specs.declared.commands.ScRefusal.{ScRefusal}
 use Rattle.mq_calls.specs.declared.commands.ScRefusal.TheVariants as refusals
-use Rattle.mq_calls.specs.declared.commands.Shown.{Shown}
-use Rattle.mq_sync.specs.declared.unit.Unit.{Unit as Luw}
 use Rattle.mq_calls.specs.declared.agents.SeizeFault.TheVariants as seize_faults
 use Rattle.mq_calls.specs.declared.agents.Note.TheVariants as notes
-use Rattle.mq_sync.specs.declared.data.InDoubt.{InDoubt}
 use Rattle.mq_codes.specs.declared.reason.Reason.TheVariants as reasons
-use Rattle.mq_spec_state.specs.State.{Plain}
-use Rattle.mq_spec_state.specs.Reads.{stored, sender_data, depth, in_doubt_of, reserved}
 use Rattle.mq_message.specs.Layout.{long_bytes, long_of}
 use Rattle.mq_heads.specs.Headers.{dlh_bytes, dlh_in, tm_bytes}
 use Rattle.mq_clock.specs.Stamps.{put_date, put_time, reached}
-use Rattle.mq_spec_state.specs.Steps.{Step, next, after}
-use Rattle.mq_spec_state.specs.Steps.Step.{Refuse}
 use Rattle.mq_calls.specs.declared.choices.Choice.TheVariants.{Stopped}
-use Rattle.mq_spec_manager.specs.Handles.{mqclose}
-use Rattle.mq_spec_manager.specs.Put.{mqput}
-use Rattle.mq_spec_manager.specs.Units.{mqcmit}
-use Rattle.mq_spec_manager.specs.Commands.{command, defined_object}
-use Rattle.mq_spec_manager.specs.Triggers.{trigger_turn}
-use Rattle.mq_spec_manager.specs.Stops.{restart, cut}
+use Rattle.mq_spec_manager.specs.Words.{mqclose, mqput, mqcmit, command, trigger_turn, restart, cut}
+use Rattle.mq_spec_manager.specs.Commands.{defined_object}
 use Rattle.mq_calls.specs.declared.choices.Return.TheVariants.{Comes}
 use Rattle.mq_spec_agents.specs.Words.{seize, hold_batch, prepare, harden, receive, move_row, batch_row}
 use Rattle.mq_spec_manager.proofs.Script.{starting, london_with, local, connect, connection, handle, shared_output, open_at, script_md, plain_md, persistent_md, put_line, line, rows_line, ident_numbers}

@@ -1,27 +1,16 @@
 -- Messages that come to a manager where their ident stands already: held by a unit in doubt, with the same persistence or the
 -- other; on that unit's list alone; pending, or of a number not given yet; twice in one batch.
 use Rattle.std.specs.Prelude.{◌≡◌, ℕ, pos, Bool, true, false, List, [], ◌∷◌, Option, Some, None, Result, Ok, Err, length, map, codes, refl}
-use Rattle.mq_codes.specs.declared.reason.Reason.{Reason}
-use Rattle.mq_message.specs.declared.message.Ident.{Ident}
-use Rattle.mq_message.specs.declared.message.Message.{Message}
-use Rattle.mq_objects.specs.declared.object.Object.{Object}
+use Rattle.mq_spec_state.specs.Words.{Reason, Ident, Message, Object, SenderSide, Luw, InDoubt, Plain, sender_data, in_doubt_of, apply, next}
 use Rattle.mq_objects.specs.declared.object.Usage.TheVariants as usages
 use Rattle.mq_objects.specs.declared.setting.ChannelType.TheVariants as channel_types
 use Rattle.mq_objects.specs.declared.setting.Setting.TheVariants as settings
 use Rattle.mq_objects.specs.declared.command.Subject.TheVariants as subjects
 use Rattle.mq_calls.specs.declared.agents.Note.TheVariants as notes
 use Rattle.mq_calls.specs.declared.choices.Return.TheVariants.{Comes}
-use Rattle.mq_calls.specs.declared.state.SenderSide.{SenderSide}
-use Rattle.mq_sync.specs.declared.unit.Unit.{Unit as Luw}
-use Rattle.mq_sync.specs.declared.data.InDoubt.{InDoubt}
-use Rattle.mq_spec_state.specs.State.{Plain}
 use Rattle.mq_spec_state.specs.State.Change.{Place}
-use Rattle.mq_spec_state.specs.Reads.{sender_data, in_doubt_of}
-use Rattle.mq_spec_state.specs.Changes.{apply}
-use Rattle.mq_spec_state.specs.Steps.{next}
 use Rattle.mq_spec_manager.specs.Commands.{defined_object}
-use Rattle.mq_spec_manager.specs.Put.{mqput}
-use Rattle.mq_spec_manager.specs.Stops.{stop, restart}
+use Rattle.mq_spec_manager.specs.Words.{mqput, stop, restart}
 use Rattle.mq_spec_agents.specs.Words.{Landed, landed, messages_taken, receive, seize, hold_batch, prepare, harden}
 use Rattle.mq_spec_manager.proofs.Script.{london_with, local, connect, connection, handle, shared_output, open_at, script_md, persistent_md, ident_numbers, rows_line}
 

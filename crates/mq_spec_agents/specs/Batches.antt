@@ -1,29 +1,15 @@
 -- A sender's batch: rows are held, released, or prepared as the unit in doubt.
 use Rattle.std.specs.Option.{option_map}
 use Rattle.std.specs.Prelude.{ℕ, zero, suc, false, List, [], ◌∷◌, Option, Some, None, length, map, take, find, slice_get}
-use Rattle.mq_message.specs.declared.message.Ident.{Ident}
-use Rattle.mq_message.specs.declared.message.Message.{Message}
+use Rattle.mq_spec_state.specs.Words.{Ident, Message, sender_or, data_prepared, InDoubt, SenderData, Luw, PrepareFault, LogRecord, Batch, stored, sender_data, free_rows, batch_of, is_full, need, Plain, Change, Among, HeldBy, Step, when, tested, say, Do}
 use Rattle.mq_message.specs.declared.place.Holder.TheVariants as holders
 use Rattle.mq_queue.specs.Rows.{has_ident}
 use Rattle.mq_queue.specs.declared.row.Row.{Row}
-use Rattle.mq_sync.specs.Settlement.{sender_or, data_prepared}
-use Rattle.mq_sync.specs.declared.data.InDoubt.{InDoubt}
-use Rattle.mq_sync.specs.declared.data.SenderData.{SenderData}
-use Rattle.mq_sync.specs.declared.unit.Unit.{Unit as Luw}
-use Rattle.mq_calls.specs.declared.agents.PrepareFault.{PrepareFault}
 use Rattle.mq_calls.specs.declared.agents.PrepareFault.TheVariants as prepare_faults
 use Rattle.mq_calls.specs.declared.deltas.Did.TheVariants as did
-use Rattle.mq_calls.specs.declared.records.LogRecord.{LogRecord}
 use Rattle.mq_calls.specs.declared.records.LogRecord.TheVariants as records
-use Rattle.mq_spec_state.specs.Reads.{stored, sender_data, free_rows, batch_of, is_full}
-use Rattle.mq_spec_state.specs.Sizes.{need}
-use Rattle.mq_spec_state.specs.State.{Plain, Batch, Change}
 use Rattle.mq_spec_state.specs.State.Change.{Hold, Release, SetSender, AddBatch, DropBatch}
-use Rattle.mq_spec_state.specs.State.Which.{Among, HeldBy}
-use Rattle.mq_spec_state.specs.Steps.{Step, when, tested, say}
-use Rattle.mq_spec_state.specs.Steps.Step.{Do}
-use Rattle.mq_spec_manager.specs.Get.{idents_of}
-use Rattle.mq_spec_manager.specs.Triggers.{Never}
+use Rattle.mq_spec_manager.specs.Words.{idents_of, Never}
 use Rattle.mq_spec_agents.specs.Seizing.{queue_of_sender}
 
 -- Batches. The first free rows are held, at most so many.
@@ -59,6 +45,7 @@ abbrev pub batch_row : List ℕ → ℕ → Plain → Option Message
 batch_row channel index p =
     row_with (at_number index (batch_idents (batch_of channel p.channels.batches))) (stored (batch_queue (batch_of channel p.channels.batches)) p).rows
 
+-- a batch that is not prepared is released
 abbrev pub release_of : List ℕ → Option Batch → Step Never (Unit {0})
 release_of channel None = say tt
 release_of channel (Some b) = Do tt (record {

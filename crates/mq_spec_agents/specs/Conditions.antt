@@ -2,23 +2,14 @@
 use Rattle.std.specs.List.{list_any, AllByRecursion}
 use Rattle.std.specs.Option.{option_map}
 use Rattle.std.specs.Prelude.{ℕ, Bool, true, false, not, ◌&&◌, List, [], ◌∷◌, Option, Some, None, find, ◌≡◌, ◌<◌, ◌≤◌, IsSome, is_some}
-use Rattle.mq_message.specs.declared.message.Ident.{Ident}
+use Rattle.mq_spec_state.specs.Words.{Ident, LocalQueue, sender_or, receiver_or, Below, InDoubt, Luw, Note, Batch, rests_by, stored, sender_data, receiver_data, seizure_of, batch_of, in_doubt_of, is_up, Plain, Queue}
 use Rattle.mq_message.specs.declared.place.Holder.TheVariants as holders
 use Rattle.mq_queue.specs.Rows.{same_ident, has_ident, held_by}
 use Rattle.mq_queue.specs.declared.row.Row.{Row}
 use Rattle.mq_objects.specs.Names.{local_of, channel_of, is_transmission}
-use Rattle.mq_objects.specs.declared.object.LocalQueue.{LocalQueue}
-use Rattle.mq_sync.specs.Settlement.{sender_or, receiver_or}
-use Rattle.mq_sync.specs.Units.{Below}
 use Rattle.mq_sync.specs.declared.data.End.TheVariants as ends
-use Rattle.mq_sync.specs.declared.data.InDoubt.{InDoubt}
-use Rattle.mq_sync.specs.declared.unit.Unit.{Unit as Luw}
-use Rattle.mq_calls.specs.declared.agents.Note.{Note}
 use Rattle.mq_calls.specs.declared.agents.Note.TheVariants as notes
-use Rattle.mq_spec_state.specs.Images.{rests_by}
-use Rattle.mq_spec_state.specs.Reads.{stored, sender_data, receiver_data, seizure_of, batch_of, in_doubt_of, is_up}
-use Rattle.mq_spec_state.specs.State.{Plain, Batch, Queue}
-use Rattle.mq_spec_manager.specs.Heads.{is_dead}
+use Rattle.mq_spec_manager.specs.Words.{is_dead}
 use Rattle.mq_spec_agents.specs.Seizing.{is_sender, is_receiver}
 
 -- What the calls of channel ends and of the handler ask of a manager that is up. Whoever makes the call has seen to it.

@@ -1,26 +1,16 @@
 -- What channel ends harden beside their messages.
 use Rattle.std.specs.Prelude.{ℕ, Bool, true, false, List, [], ◌∷◌, ◌++◌, Some, map, filter, flat_map}
-use Rattle.mq_message.specs.declared.place.Holder.{Holder}
+use Rattle.mq_spec_state.specs.Words.{Holder, sender_or, receiver_or, data_settled, settle_by, End, Note, Did, Remove, sender_data, receiver_data, Plain, Change, Queue, HeldBy, Step, Part, Do}
 use Rattle.mq_message.specs.declared.place.Holder.TheVariants as holders
 use Rattle.mq_queue.specs.Rows.{held_by}
 use Rattle.mq_queue.specs.declared.row.Row.{Row}
-use Rattle.mq_sync.specs.Settlement.{sender_or, receiver_or, data_settled, settle_by}
-use Rattle.mq_sync.specs.declared.data.End.{End}
 use Rattle.mq_sync.specs.declared.data.End.TheVariants as ends
-use Rattle.mq_calls.specs.declared.agents.Note.{Note}
 use Rattle.mq_calls.specs.declared.agents.Note.TheVariants as notes
-use Rattle.mq_calls.specs.declared.deltas.Did.{Did}
 use Rattle.mq_calls.specs.declared.deltas.Did.TheVariants as did
 use Rattle.mq_calls.specs.declared.deltas.Why.TheVariants as whys
 use Rattle.mq_calls.specs.declared.records.LogRecord.TheVariants as records
-use Rattle.mq_calls.specs.declared.records.Remove.{Remove}
-use Rattle.mq_spec_state.specs.Reads.{sender_data, receiver_data}
-use Rattle.mq_spec_state.specs.State.{Plain, Change, Queue}
 use Rattle.mq_spec_state.specs.State.Change.{Leave, Release, SetSender, SetReceiver}
-use Rattle.mq_spec_state.specs.State.Which.{HeldBy}
-use Rattle.mq_spec_state.specs.Steps.{Step, Part}
-use Rattle.mq_spec_state.specs.Steps.Step.{Do}
-use Rattle.mq_spec_manager.specs.Triggers.{Never}
+use Rattle.mq_spec_manager.specs.Words.{Never}
 
 -- Harden. The rows that a holder has, queue by queue.
 abbrev pub held_on : Holder → Queue → List Remove

@@ -2,26 +2,15 @@
 use Rattle.std.specs.Prelude.{ℕ, pos, ◌+◌, nat_lt, nat_le, Bool, true, false, not, ◌&&◌, List, [], ◌∷◌, ◌++◌, Option, Some, None, Result, Ok, Err, length, codes}
 use Rattle.mq_name.specs.Name.{padded}
 use Rattle.mq_codes.specs.Numbers.{number}
-use Rattle.mq_codes.specs.declared.reason.Reason.{Reason}
+use Rattle.mq_spec_state.specs.Words.{Reason, Dest, Md, Message, Channel, ChannelKind, LocalQueue, Route, depth, Plain, Test, when, refusal}
 use Rattle.mq_codes.specs.declared.reason.Reason.TheVariants as reasons
-use Rattle.mq_message.specs.declared.message.Dest.{Dest}
-use Rattle.mq_message.specs.declared.message.Md.{Md}
-use Rattle.mq_message.specs.declared.message.Message.{Message}
 use Rattle.mq_objects.specs.Names.{local_of, channel_of, is_transmission}
-use Rattle.mq_objects.specs.declared.object.Channel.{Channel}
-use Rattle.mq_objects.specs.declared.object.ChannelKind.{ChannelKind}
 use Rattle.mq_objects.specs.declared.object.ChannelKind.TheVariants as kinds
-use Rattle.mq_objects.specs.declared.object.LocalQueue.{LocalQueue}
 use Rattle.mq_resolve.specs.Resolved.{resolve}
-use Rattle.mq_resolve.specs.declared.route.Route.{Route}
 use Rattle.mq_heads.specs.Headers.{dlh_bytes}
 use Rattle.mq_heads.specs.declared.headers.Dlh.{Dlh}
 use Rattle.mq_clock.specs.Stamps.{put_date, put_time}
-use Rattle.mq_spec_state.specs.Reads.{depth}
-use Rattle.mq_spec_state.specs.State.{Plain}
-use Rattle.mq_spec_state.specs.Steps.{Test, when, refusal}
-use Rattle.mq_spec_manager.specs.Handles.{is_unfit}
-use Rattle.mq_spec_manager.specs.Put.{queue_at, dest_at, output_only, placing_tests}
+use Rattle.mq_spec_manager.specs.Words.{is_unfit, queue_at, dest_at, output_only, placing_tests}
 
 -- The names that came with a message.
 abbrev pub names_of : Option Dest → Dest
@@ -40,6 +29,7 @@ landing route m = record { queue = queue_at route.end; message = record m { rout
 abbrev pub route_tests : Route → ℕ → Plain → List (Test Reason)
 route_tests route bytes p = when (is_unfit output_only route.end p) reasons.OptionNotValidForType ∷ placing_tests route bytes p
 
+-- as a dead letter: behind a header with the reason and the names that it came with
 abbrev pub dead_md : Md → Md
 dead_md md = record md { format = codes "MQDEAD  "; encoding = pos 273; coded_char_set_id = pos 1208 }
 
@@ -61,6 +51,7 @@ abbrev pub dead_message : List ℕ → Reason → Message → ℕ → Message
 dead_message channel reason m moment =
     record m { md = dead_md m.md; route = None; body = dlh_bytes (dead_head channel reason m moment) ++ m.body }
 
+-- the dead-letter queue takes it, with 172 bytes more
 abbrev pub can_take_dead : Option LocalQueue → ℕ → Plain → Bool
 can_take_dead None bytes p = false
 can_take_dead (Some q) bytes p =
@@ -75,15 +66,18 @@ abbrev pub kind_uses_dead : ChannelKind → Bool
 kind_uses_dead (kinds.Sender batch retry xmitq) = false
 kind_uses_dead (kinds.Receiver dead) = dead
 
+-- the channel has USEDLQ(YES)
 abbrev pub uses_dead : Option Channel → Bool
 uses_dead None = false
 uses_dead (Some c) = kind_uses_dead c.kind
 
+-- the message as a dead letter, or the refusal
 abbrev pub dead_letter : List ℕ → Reason → Message → Plain → Result Landing Reason
 dead_letter channel reason m p =
     dead_or (uses_dead (channel_of channel p.definitions) && can_take_dead (local_of p.definitions.manager.dead_letter_queue p.definitions) (length m.body) p)
     channel reason m p
 
+-- the message by its route, or as a dead letter
 abbrev pub land_tested : Option Reason → Route → List ℕ → Message → Plain → Result Landing Reason
 land_tested None route channel m p = Ok (landing route m)
 land_tested (Some reason) route channel m p = dead_letter channel reason m p

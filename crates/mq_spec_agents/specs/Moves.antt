@@ -1,30 +1,16 @@
 -- The dead-letter handler's calls.
 use Rattle.std.specs.Prelude.{ℕ, Bool, true, false, ◌&&◌, List, [], ◌∷◌, ◌++◌, if◌then◌else◌, Option, Some, None, Result, Ok, Err, length, filter, drop, find}
-use Rattle.mq_codes.specs.declared.reason.Reason.{Reason}
+use Rattle.mq_spec_state.specs.Words.{Reason, Dest, Ident, Message, Place as RowPlace, Route, LogRecord, stored, is_persistent, is_full, need, Plain, Among, Step, Part, when, tested, say, Refuse, Do}
 use Rattle.mq_codes.specs.declared.reason.Reason.TheVariants as reasons
-use Rattle.mq_message.specs.declared.message.Dest.{Dest}
-use Rattle.mq_message.specs.declared.message.Ident.{Ident}
-use Rattle.mq_message.specs.declared.message.Message.{Message}
-use Rattle.mq_message.specs.declared.place.Place.{Place as RowPlace}
 use Rattle.mq_queue.specs.Rows.{has_ident, is_free, is_after}
 use Rattle.mq_queue.specs.declared.row.Row.{Row}
 use Rattle.mq_resolve.specs.Resolved.{resolve}
-use Rattle.mq_resolve.specs.declared.route.Route.{Route}
 use Rattle.mq_calls.specs.declared.deltas.Did.TheVariants as did
 use Rattle.mq_calls.specs.declared.deltas.Why.TheVariants as whys
-use Rattle.mq_calls.specs.declared.records.LogRecord.{LogRecord}
 use Rattle.mq_calls.specs.declared.records.LogRecord.TheVariants as records
 use Rattle.mq_heads.specs.Headers.{dlh_in}
-use Rattle.mq_spec_state.specs.Reads.{stored, is_persistent, is_full}
-use Rattle.mq_spec_state.specs.Sizes.{need}
-use Rattle.mq_spec_state.specs.State.{Plain}
 use Rattle.mq_spec_state.specs.State.Change.{Leave}
-use Rattle.mq_spec_state.specs.State.Which.{Among}
-use Rattle.mq_spec_state.specs.Steps.{Step, Part, when, tested, say}
-use Rattle.mq_spec_state.specs.Steps.Step.{Refuse, Do}
-use Rattle.mq_spec_manager.specs.Get.{removal_parts}
-use Rattle.mq_spec_manager.specs.Put.{placed}
-use Rattle.mq_spec_manager.specs.Triggers.{Never}
+use Rattle.mq_spec_manager.specs.Words.{removal_parts, placed, Never}
 use Rattle.mq_spec_agents.specs.Batches.{row_with}
 use Rattle.mq_spec_agents.specs.Landing.{Landing, landing, route_tests}
 
@@ -52,6 +38,7 @@ move_full from l p = is_persistent l.message && is_full (need (moved_record from
 abbrev pub moved_forced : List ℕ → Landing → Option LogRecord
 moved_forced from l = if is_persistent l.message then Some (moved_record from l) else None
 
+-- a move, behind its record where the message lasts
 abbrev pub move_part : List ℕ → Dest → Bool → Landing → Part
 move_part from to bare l = record {
   forced = moved_forced from l;
@@ -66,6 +53,7 @@ move_landing from to bare route l p = tested (
     ∷ [])
     (Do tt (move_part from to bare l ∷ []))
 
+-- the move of a row by a rule's target
 abbrev pub move_resolved : List ℕ → Dest → Bool → Result Route Reason → Message → Plain → Step Reason (Unit {0})
 move_resolved from to bare (Err reason) m p = Refuse reason
 move_resolved from to bare (Ok route) m p = move_landing from to bare route (landing route m) p

@@ -1,23 +1,11 @@
 -- The commit of a receiver: a batch of messages is placed.
 use Rattle.std.specs.Prelude.{ℕ, Bool, true, false, List, [], ◌∷◌, ◌++◌, if◌then◌else◌, Some, Result, Ok, Err}
-use Rattle.mq_codes.specs.declared.reason.Reason.{Reason}
+use Rattle.mq_spec_state.specs.Words.{Reason, Message, receiver_or, Luw, Did, Add, LogRecord, apply_all, receiver_data, is_persistent, is_full, need, Plain, Change, Step, Part, when, tested, Refuse, Do}
 use Rattle.mq_codes.specs.declared.reason.Reason.TheVariants as reasons
-use Rattle.mq_message.specs.declared.message.Message.{Message}
-use Rattle.mq_sync.specs.Settlement.{receiver_or}
-use Rattle.mq_sync.specs.declared.unit.Unit.{Unit as Luw}
-use Rattle.mq_calls.specs.declared.deltas.Did.{Did}
 use Rattle.mq_calls.specs.declared.deltas.Did.TheVariants as did
-use Rattle.mq_calls.specs.declared.records.Add.{Add}
-use Rattle.mq_calls.specs.declared.records.LogRecord.{LogRecord}
 use Rattle.mq_calls.specs.declared.records.LogRecord.TheVariants as records
-use Rattle.mq_spec_state.specs.Changes.{apply_all}
-use Rattle.mq_spec_state.specs.Reads.{receiver_data, is_persistent, is_full}
-use Rattle.mq_spec_state.specs.Sizes.{need}
-use Rattle.mq_spec_state.specs.State.{Plain, Change}
 use Rattle.mq_spec_state.specs.State.Change.{SetReceiver}
-use Rattle.mq_spec_state.specs.Steps.{Step, Part, when, tested}
-use Rattle.mq_spec_state.specs.Steps.Step.{Refuse, Do}
-use Rattle.mq_spec_manager.specs.Put.{placed}
+use Rattle.mq_spec_manager.specs.Words.{placed}
 use Rattle.mq_spec_agents.specs.Landing.{Landing, land}
 use Rattle.mq_spec_agents.specs.Standing.{Standing, standing_at, is_present, drop_changes, drop_did}
 

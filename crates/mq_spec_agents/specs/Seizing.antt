@@ -2,24 +2,11 @@
 use Rattle.std.specs.Prelude.{ℕ, nat_lt, Bool, true, false, not, ◌||◌, List, [], ◌∷◌, Option, Some, None, length, filter}
 use Rattle.mq_queue.specs.declared.row.Row.{Row}
 use Rattle.mq_objects.specs.Names.{local_of, channel_of}
-use Rattle.mq_objects.specs.declared.object.Channel.{Channel}
-use Rattle.mq_objects.specs.declared.object.ChannelKind.{ChannelKind}
+use Rattle.mq_spec_state.specs.Words.{Channel, ChannelKind, LocalQueue, ChannelData, ReceiverData, SenderData, Stock, SeizeFault, Seizure, sender_data, receiver_data, is_expired, free_rows, seizure_of, is_open_for_input, has_held_by_other, Plain, Step, when, tested, silent, Do}
 use Rattle.mq_objects.specs.declared.object.ChannelKind.TheVariants as kinds
-use Rattle.mq_objects.specs.declared.object.LocalQueue.{LocalQueue}
-use Rattle.mq_sync.specs.declared.data.ChannelData.{ChannelData}
-use Rattle.mq_sync.specs.declared.data.ReceiverData.{ReceiverData}
-use Rattle.mq_sync.specs.declared.data.SenderData.{SenderData}
-use Rattle.mq_sync.specs.declared.data.Stock.{Stock}
-use Rattle.mq_calls.specs.declared.agents.SeizeFault.{SeizeFault}
 use Rattle.mq_calls.specs.declared.agents.SeizeFault.TheVariants as seize_faults
-use Rattle.mq_spec_state.specs.Reads.{sender_data, receiver_data, is_expired, free_rows, seizure_of, is_open_for_input, has_held_by_other}
-use Rattle.mq_spec_state.specs.State.{Plain, Seizure}
 use Rattle.mq_spec_state.specs.State.Change.{Seize, Unseize, SetBound}
-use Rattle.mq_spec_state.specs.Steps.{Step, when, tested, silent}
-use Rattle.mq_spec_state.specs.Steps.Step.{Do}
-use Rattle.mq_spec_manager.specs.Get.{expired_parts}
-use Rattle.mq_spec_manager.specs.Handles.{is_transmission_queue}
-use Rattle.mq_spec_manager.specs.Triggers.{Never}
+use Rattle.mq_spec_manager.specs.Words.{expired_parts, is_transmission_queue, Never}
 
 -- What is kept: the hardened data of the ends here; none where nothing was hardened yet.
 abbrev pub kept_by : Option SenderData → Option ReceiverData → Option ChannelData
@@ -84,6 +71,7 @@ is_enabled (Some q) = q.get_enabled
 abbrev pub expired_rows : List ℕ → Plain → List Row
 expired_rows queue p = filter (is_expired p) (free_rows queue p)
 
+-- what a sender sees of its queue
 abbrev pub stock_of : List ℕ → Plain → Stock
 stock_of queue p = record {
   enabled = is_enabled (local_of queue p.definitions);

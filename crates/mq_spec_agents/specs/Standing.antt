@@ -1,21 +1,14 @@
 -- How the ident of a message that a channel brings stands at the manager already.
 use Rattle.std.specs.List.{list_any}
 use Rattle.std.specs.Prelude.{ℕ, nat_lt, Bool, true, false, not, ◌&&◌, ◌||◌, List, [], ◌∷◌, ◌++◌, if◌then◌else◌, Option, Some, None, find, ◌==◌}
-use Rattle.mq_message.specs.declared.message.Ident.{Ident}
-use Rattle.mq_message.specs.declared.message.Message.{Message}
-use Rattle.mq_message.specs.declared.place.Holder.{Holder}
+use Rattle.mq_spec_state.specs.Words.{Ident, Message, Holder, InDoubt, Did, Connection, Item, sender_data, is_persistent, in_doubt_of, Plain, Change, Queue, Among}
 use Rattle.mq_message.specs.declared.place.Holder.TheVariants as holders
 use Rattle.mq_queue.specs.Rows.{same_ident, has_ident}
 use Rattle.mq_queue.specs.declared.row.Row.{Row}
-use Rattle.mq_sync.specs.declared.data.InDoubt.{InDoubt}
-use Rattle.mq_calls.specs.declared.deltas.Did.{Did}
 use Rattle.mq_calls.specs.declared.deltas.Did.TheVariants as did
 use Rattle.mq_calls.specs.declared.deltas.Why.TheVariants as whys
 use Rattle.mq_calls.specs.declared.state.Item.TheVariants.{Put as ItemPut, Take as ItemTake}
-use Rattle.mq_spec_state.specs.Reads.{sender_data, is_persistent, in_doubt_of}
-use Rattle.mq_spec_state.specs.State.{Plain, Change, Connection, Item, Queue}
 use Rattle.mq_spec_state.specs.State.Change.{Leave, Undoubt}
-use Rattle.mq_spec_state.specs.State.Which.{Among}
 
 -- How an ident stands at the manager. A message that comes back to the row of a unit in doubt drops that row, where both
 -- last or neither does; one that stands otherwise is kept out.
@@ -64,6 +57,7 @@ abbrev pub same_flag : Bool → Bool → Bool
 same_flag true b = b
 same_flag false b = not b
 
+-- how the ident of a message stands
 abbrev pub standing_by : Message → Option RowAt → Plain → Standing
 standing_by m None p = if is_pending m.ident p || is_unborn m.ident p then Present else Absent
 standing_by m (Some at) p =

@@ -1,23 +1,18 @@
 -- An accepted command changes the definitions as it would where nothing is in use: what is in use decides of refusals alone.
 use Rattle.std.specs.Prelude.{◌≡◌, ℕ, Bool, true, false, not, ◌&&◌, ◌||◌, List, [], ◌∷◌, Option, Some, None, Result, Ok, Err, refl}
 use Rattle.std.proofs.Common.{ap, ◌∙◌}
-use Rattle.mq_objects.specs.declared.object.Object.{Object}
+use Rattle.mq_spec_state.specs.Words.{Object, ManagerAttributes, Definitions, Command, Shown, ScRefusal}
 use Rattle.mq_objects.specs.declared.object.Object.TheVariants as objects
-use Rattle.mq_objects.specs.declared.object.ManagerAttributes.{ManagerAttributes}
-use Rattle.mq_objects.specs.declared.object.Definitions.{Definitions}
 use Rattle.mq_objects.specs.declared.setting.Keyword.{Keyword}
 use Rattle.mq_objects.specs.declared.command.Define.{Define}
 use Rattle.mq_objects.specs.declared.command.Alter.{Alter}
 use Rattle.mq_objects.specs.declared.command.Delete.{Delete}
 use Rattle.mq_objects.specs.declared.command.Display.{Display}
-use Rattle.mq_objects.specs.declared.command.Command.{Command}
 use Rattle.mq_objects.specs.declared.command.Command.TheVariants as commands
 use Rattle.mq_objects.specs.Changed.{changed as changed_by}
 use Rattle.mq_objects.specs.Names.{named, is_kind}
 use Rattle.mq_objects.specs.Settings.{set_all, set_all_manager}
 use Rattle.mq_resolve.specs.Resolved.{row, first_row}
-use Rattle.mq_calls.specs.declared.commands.Shown.{Shown}
-use Rattle.mq_calls.specs.declared.commands.ScRefusal.{ScRefusal}
 use Rattle.mq_calls.specs.declared.commands.ScRefusal.TheVariants as refusals
 use Rattle.mq_sc_apply.specs.declared.answers.Planned.{Planned}
 use Rattle.mq_sc_apply.specs.declared.answers.Plan.TheVariants as plans

@@ -1,20 +1,9 @@
 -- What is kept: laws that go by the shape of a call, whatever its tests are.
 use Rattle.std.specs.Prelude.{◌≡◌, ℕ, Bool, true, false, List, Option, Some, None, Result, Ok, Err, refl}
 use Rattle.std.proofs.Common.{◌∙◌}
-use Rattle.mq_message.specs.declared.message.Md.{Md}
-use Rattle.mq_resolve.specs.declared.route.Route.{Route}
+use Rattle.mq_spec_state.specs.Words.{Md, Route, Reason, Hconn, Hobj, Open, Message, LogRecord, Connection, Handle, Plain, Step, Test, refusal, refused_or, tested, next, logged, do_part, handle_at, apply, apply_all, place, try_if}
 use Rattle.mq_resolve.specs.Resolved.{resolve}
-use Rattle.mq_codes.specs.declared.reason.Reason.{Reason}
-use Rattle.mq_calls.specs.declared.answers.Hconn.{Hconn}
-use Rattle.mq_calls.specs.declared.answers.Hobj.{Hobj}
-use Rattle.mq_calls.specs.declared.answers.Open.{Open}
-use Rattle.mq_message.specs.declared.message.Message.{Message}
-use Rattle.mq_calls.specs.declared.records.LogRecord.{LogRecord}
 use Rattle.mq_spec_state.specs.State.Change.{CountIdent}
-use Rattle.mq_spec_state.specs.State.{Plain, Connection, Handle}
-use Rattle.mq_spec_state.specs.Steps.{Step, Test, refusal, refused_or, tested, next, logged, do_part}
-use Rattle.mq_spec_state.specs.Reads.{handle_at}
-use Rattle.mq_spec_state.specs.Changes.{apply, apply_all, place, try_if}
 use Rattle.mq_spec_manager.specs.Handles.{connected, for_connection, for_handle, mqopen, option_tests, open_tests, open_step, open_up, open_resolved}
 use Rattle.mq_spec_manager.specs.Put.{mqput, output_tests, put_tests, put_step, put_up, put_handle, put_route, put_part, unit_record, placed, queue_at, new_message, handle_route}
 

@@ -2,18 +2,10 @@
 -- all that lasts, and so does a stop.
 use Rattle.std.specs.Prelude.{◌≡◌, ℕ, Bool, true, not, ◌&&◌, List, [], ◌∷◌, Option, Some, None, map, refl}
 use Rattle.std.proofs.Common.{ap, ◌∙◌, arith}
-use Rattle.mq_message.specs.declared.place.Holder.{Holder}
+use Rattle.mq_spec_state.specs.Words.{Holder, Place, Message, Batch, Shelf, is_persistent, is_by_unit, Plain, Queue, Noted, HeldByUnits, Nonpersistent, release_if, kept_in, released_in, forgotten, lasting, lasting_row, lasting_rows, shelf_of, shelves_of, freeze}
 use Rattle.mq_message.specs.declared.place.Holder.TheVariants as holders
-use Rattle.mq_message.specs.declared.place.Place.{Place}
-use Rattle.mq_message.specs.declared.message.Message.{Message}
 use Rattle.mq_queue.specs.declared.row.Row.{Row}
 use Rattle.mq_queue.specs.Rows.{keep, retag, is_free}
-use Rattle.mq_spec_state.specs.Reads.{is_persistent, is_by_unit}
-use Rattle.mq_spec_state.specs.State.{Plain, Queue, Batch, Noted}
-use Rattle.mq_spec_state.specs.State.Which.{HeldByUnits, Nonpersistent}
-use Rattle.mq_spec_state.specs.Changes.{release_if, kept_in, released_in, forgotten}
-use Rattle.mq_spec_state.specs.Images.{Shelf, lasting, lasting_row, lasting_rows, shelf_of, shelves_of}
-use Rattle.mq_spec_state.specs.Steps.{freeze}
 
 abbrev stays : Row → Bool
 stays row = not (not (is_persistent row.message))

@@ -1,28 +1,20 @@
 -- More refusals, a get that forces twice, and what DISPLAY shows, computed from the definitions.
 use Rattle.std.specs.Prelude.{◌≡◌, ℕ, pos, ◌+◌, Bool, true, false, List, [], ◌∷◌, None, codes, refl}
 use Rattle.std.specs.Fmt.{digits}
-use Rattle.mq_message.specs.declared.message.Md.{Md}
+use Rattle.mq_spec_state.specs.Words.{Md, Command, Open, Input, GetAnswer, Reason, Plain, Step, After, next, after, Refuse, Do}
 use Rattle.mq_objects.specs.declared.object.Usage.TheVariants as usages
 use Rattle.mq_objects.specs.declared.setting.Keyword.TheVariants as keywords
 use Rattle.mq_objects.specs.declared.setting.Setting.{Setting}
 use Rattle.mq_objects.specs.declared.setting.Setting.TheVariants as settings
 use Rattle.mq_objects.specs.declared.command.Subject.TheVariants as subjects
 use Rattle.mq_objects.specs.declared.command.Subjects.TheVariants as shows
-use Rattle.mq_objects.specs.declared.command.Command.{Command}
 use Rattle.mq_objects.specs.declared.command.Command.TheVariants as commands
-use Rattle.mq_calls.specs.declared.answers.Open.{Open}
-use Rattle.mq_calls.specs.declared.answers.Input.{Input}
 use Rattle.mq_calls.specs.declared.answers.Input.TheVariants as inputs
-use Rattle.mq_calls.specs.declared.answers.GetAnswer.{GetAnswer}
-use Rattle.mq_codes.specs.declared.reason.Reason.{Reason}
 use Rattle.mq_calls.specs.declared.answers.Take.TheVariants as takes
 use Rattle.mq_disk.specs.declared.cutter.Stop.TheVariants as stops
 use Rattle.mq_calls.specs.declared.commands.ScRefusal.TheVariants as refusals
 use Rattle.mq_calls.specs.declared.deltas.Did.TheVariants as did
 use Rattle.mq_calls.specs.declared.deltas.Why.TheVariants as whys
-use Rattle.mq_spec_state.specs.State.{Plain}
-use Rattle.mq_spec_state.specs.Steps.{Step, After, next, after}
-use Rattle.mq_spec_state.specs.Steps.Step.{Refuse, Do}
 use Rattle.mq_calls.specs.declared.choices.Choice.TheVariants.{Stopped}
 use Rattle.mq_spec_manager.specs.Handles.{mqopen}
 use Rattle.mq_spec_manager.specs.Put.{mqput}

@@ -5,11 +5,7 @@ use Rattle.std.proofs.Common.{arith, inl, inr}
 use Rattle.mq_queue.specs.declared.row.Row.{Row}
 use Rattle.mq_calls.specs.declared.choices.Return.TheVariants.{Comes, Fails}
 use Rattle.mq_calls.specs.declared.commands.RestartFault.TheVariants as faults
-use Rattle.mq_spec_state.specs.State.{Plain}
-use Rattle.mq_spec_state.specs.Reads.{stored}
-use Rattle.mq_spec_state.specs.Changes.{with_queue}
-use Rattle.mq_spec_state.specs.Images.{lasting}
-use Rattle.mq_spec_state.specs.Steps.{next}
+use Rattle.mq_spec_state.specs.Words.{Plain, stored, with_queue, lasting, next}
 use Rattle.mq_spec_manager.specs.Put.{mqput}
 use Rattle.mq_spec_manager.specs.Stops.{stop, restart, CanReturn, CanReturnTold, first_start, next_started}
 use Rattle.mq_calls.specs.declared.records.LogRecord.TheVariants as records

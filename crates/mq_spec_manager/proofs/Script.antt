@@ -1,38 +1,18 @@
 -- Calls of a script, and what its report would show, for worked rows.
 use Rattle.std.specs.Prelude.{ℕ, ℤ, pos, negsuc, Bool, true, false, List, [], ◌∷◌, None, map, replicate, codes}
-use Rattle.mq_codes.specs.declared.reason.Reason.{Reason}
+use Rattle.mq_spec_state.specs.Words.{Reason, Ident, Md, Hconn, Hobj, Appl, Open, Answer, Sent, Got, Get, Take, GetAnswer, Image, Shelf, Object, LocalQueue, Definitions, Plain, stored, Step, next, Refuse, Do}
 use Rattle.mq_codes.specs.Numbers.{number}
-use Rattle.mq_message.specs.declared.message.Ident.{Ident}
-use Rattle.mq_message.specs.declared.message.Md.{Md}
 use Rattle.mq_queue.specs.declared.row.Row.{Row}
 use Rattle.mq_objects.specs.Defaults.{nothing_defined}
 use Rattle.mq_objects.specs.declared.setting.Setting.{Setting}
 use Rattle.mq_objects.specs.declared.command.Subject.TheVariants as subjects
 use Rattle.mq_objects.specs.declared.command.Command.TheVariants as commands
-use Rattle.mq_calls.specs.declared.answers.Hconn.{Hconn}
-use Rattle.mq_calls.specs.declared.answers.Hobj.{Hobj}
-use Rattle.mq_calls.specs.declared.answers.Appl.{Appl}
-use Rattle.mq_calls.specs.declared.answers.Open.{Open}
 use Rattle.mq_calls.specs.declared.answers.Input.TheVariants as inputs
-use Rattle.mq_calls.specs.declared.answers.Answer.{Answer}
 use Rattle.mq_calls.specs.declared.answers.Answer.TheVariants as answers
-use Rattle.mq_calls.specs.declared.answers.Sent.{Sent}
-use Rattle.mq_calls.specs.declared.answers.Got.{Got}
-use Rattle.mq_calls.specs.declared.answers.Get.{Get}
-use Rattle.mq_calls.specs.declared.answers.Take.{Take}
-use Rattle.mq_calls.specs.declared.answers.GetAnswer.{GetAnswer}
 use Rattle.mq_calls.specs.declared.answers.GetAnswer.TheVariants as get_answers
-use Rattle.mq_spec_state.specs.State.{Plain}
-use Rattle.mq_spec_state.specs.Reads.{stored}
-use Rattle.mq_spec_state.specs.Steps.{Step, next}
-use Rattle.mq_spec_state.specs.Steps.Step.{Refuse, Do}
-use Rattle.mq_spec_state.specs.Images.{Image, Shelf}
 use Rattle.mq_spec_manager.specs.Stops.{first_start}
 use Rattle.mq_spec_manager.specs.Handles.{mqconn, mqopen}
 use Rattle.mq_spec_manager.specs.Commands.{command, defined_object}
-use Rattle.mq_objects.specs.declared.object.Object.{Object}
-use Rattle.mq_objects.specs.declared.object.LocalQueue.{LocalQueue}
-use Rattle.mq_objects.specs.declared.object.Definitions.{Definitions}
 use Rattle.mq_objects.specs.Names.{locals_of}
 
 -- a manager at its first start

@@ -1,26 +1,16 @@
 -- Worked rows, computed from the definitions.
 use Rattle.std.specs.Prelude.{◌≡◌, ℕ, pos, true, false, List, [], ◌∷◌, Some, None, Result, Ok, Err, replicate, codes, refl}
-use Rattle.mq_codes.specs.declared.reason.Reason.{Reason}
+use Rattle.mq_spec_state.specs.Words.{Reason, Md, Definitions, Route, Got, Answer, GetAnswer, Plain, depth, Step, next, Refuse, Do}
 use Rattle.mq_codes.specs.declared.reason.Reason.TheVariants as reasons
-use Rattle.mq_message.specs.declared.message.Md.{Md}
 use Rattle.mq_objects.specs.declared.object.Usage.TheVariants as usages
 use Rattle.mq_objects.specs.declared.setting.Setting.TheVariants as settings
-use Rattle.mq_objects.specs.declared.object.Definitions.{Definitions}
 use Rattle.mq_resolve.specs.declared.route.RouteEnd.TheVariants.{Via}
 use Rattle.mq_resolve.specs.declared.route.PathStep.TheVariants as steps
-use Rattle.mq_resolve.specs.declared.route.Route.{Route}
 use Rattle.mq_resolve.specs.Resolved.{resolve}
 use Rattle.mq_calls.specs.declared.answers.Input.TheVariants as inputs
 use Rattle.mq_calls.specs.declared.answers.Take.TheVariants as takes
-use Rattle.mq_calls.specs.declared.answers.Got.{Got}
-use Rattle.mq_calls.specs.declared.answers.Answer.{Answer}
 use Rattle.mq_calls.specs.declared.answers.Answer.TheVariants as answers
-use Rattle.mq_calls.specs.declared.answers.GetAnswer.{GetAnswer}
 use Rattle.mq_calls.specs.declared.answers.GetAnswer.TheVariants as get_answers
-use Rattle.mq_spec_state.specs.State.{Plain}
-use Rattle.mq_spec_state.specs.Reads.{depth}
-use Rattle.mq_spec_state.specs.Steps.{Step, next}
-use Rattle.mq_spec_state.specs.Steps.Step.{Refuse, Do}
 use Rattle.mq_spec_manager.specs.Handles.{mqconn, mqopen, mqclose}
 use Rattle.mq_spec_manager.specs.Put.{mqput}
 use Rattle.mq_spec_manager.specs.Get.{mqget}

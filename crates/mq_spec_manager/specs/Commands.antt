@@ -1,20 +1,12 @@
 -- Commands on objects at a plain manager: their answers and changes are those that are planned from the definitions and
 -- from what the manager says of the use of its objects.
 use Rattle.std.specs.Prelude.{ℕ, Bool, true, false, not, List, [], ◌∷◌, ◌++◌, Option, Some, None, Result, Ok, Err}
-use Rattle.mq_objects.specs.declared.object.LocalQueue.{LocalQueue}
-use Rattle.mq_objects.specs.declared.object.Object.{Object}
+use Rattle.mq_spec_state.specs.Words.{LocalQueue, Object, Definitions, Subject, Command, ObjectChange, PathStep, Shown, ScRefusal, Plain, Change, stored, is_up, depth, has_rows, read_by_sender, on_path, channel_busy, Step, Part, when, tested, say, Refuse, Do}
 use Rattle.mq_objects.specs.declared.object.Object.TheVariants as objects
-use Rattle.mq_objects.specs.declared.object.Definitions.{Definitions}
-use Rattle.mq_objects.specs.declared.command.Subject.{Subject}
 use Rattle.mq_objects.specs.declared.command.Subject.TheVariants as subjects
-use Rattle.mq_objects.specs.declared.command.Command.{Command}
-use Rattle.mq_objects.specs.declared.change.ObjectChange.{ObjectChange}
 use Rattle.mq_objects.specs.declared.change.ObjectChange.TheVariants as changes
 use Rattle.mq_objects.specs.Names.{name_of, local_of}
-use Rattle.mq_resolve.specs.declared.route.PathStep.{PathStep}
 use Rattle.mq_resolve.specs.declared.route.PathStep.TheVariants as steps
-use Rattle.mq_calls.specs.declared.commands.Shown.{Shown}
-use Rattle.mq_calls.specs.declared.commands.ScRefusal.{ScRefusal}
 use Rattle.mq_calls.specs.declared.commands.ScRefusal.TheVariants as refusals
 use Rattle.mq_calls.specs.declared.records.LogRecord.TheVariants as records
 use Rattle.mq_sc_apply.specs.declared.answers.Planned.{Planned}
@@ -22,11 +14,7 @@ use Rattle.mq_sc_apply.specs.declared.answers.Plan.{Plan}
 use Rattle.mq_sc_apply.specs.declared.answers.Plan.TheVariants as plans
 use Rattle.mq_sc_apply.specs.Uses.{Uses, nothing_used}
 use Rattle.mq_sc_apply.specs.Commands.{plan, after}
-use Rattle.mq_spec_state.specs.State.{Plain, Change}
 use Rattle.mq_spec_state.specs.State.Change.{ChangeObjects, Renew, DropQueue, SwitchOn, MakeStale}
-use Rattle.mq_spec_state.specs.Reads.{stored, is_up, depth, has_rows, read_by_sender, on_path, channel_busy}
-use Rattle.mq_spec_state.specs.Steps.{Step, Part, when, tested, say}
-use Rattle.mq_spec_state.specs.Steps.Step.{Refuse, Do}
 pub use Rattle.mq_sc_apply.specs.Planned.{defined_object}
 
 -- what a plain manager says of the use of its objects
@@ -63,6 +51,7 @@ abbrev pub dropped : Subject → List Change
 dropped (subjects.Local name) = DropQueue name ∷ []
 dropped _ = []
 
+-- what a change of objects does beside
 abbrev pub follows : ObjectChange → Planned → Definitions → List Change
 follows (changes.Set new) planned d =
     renewed new d ++ stale_if planned.reroutes (steps.Queue (name_of new)) ++ switched_if planned.switches_on (name_of new)

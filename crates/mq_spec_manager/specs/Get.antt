@@ -1,46 +1,22 @@
 -- MQGET.
 use Rattle.std.specs.Prelude.{ℕ, pos, ◌+◌, ◌*◌, nat_lt, Bool, true, false, not, ◌&&◌, List, [], ◌∷◌, ◌++◌, if◌then◌else◌, Option, Some, None, length, map, filter, take, codes}
 use Rattle.std.specs.List.{list_any}
-use Rattle.mq_codes.specs.declared.reason.Reason.{Reason}
+use Rattle.mq_spec_state.specs.Words.{Reason, Ident, Dest, Md, Message, Place, Want, Object, Definitions, PathStep, Hconn, Hobj, Answer, Take, Get, Got, GetAnswer, Why, Remove, LogRecord, Connection, Handle, Plain, Among, stored, is_persistent, is_input, handle_at, is_expired, more_need, is_full, Step, Part, Test, when, tested, silent, say, Do}
 use Rattle.mq_codes.specs.declared.reason.Reason.TheVariants as reasons
-use Rattle.mq_message.specs.declared.message.Ident.{Ident}
-use Rattle.mq_message.specs.declared.message.Dest.{Dest}
-use Rattle.mq_message.specs.declared.message.Md.{Md}
-use Rattle.mq_message.specs.declared.message.Message.{Message}
-use Rattle.mq_message.specs.declared.place.Place.{Place}
-use Rattle.mq_message.specs.declared.place.Want.{Want}
 use Rattle.mq_message.specs.declared.place.Holder.TheVariants as holders
 use Rattle.mq_queue.specs.declared.row.Row.{Row}
 use Rattle.mq_queue.specs.Rows.{is_free, is_wanted, is_after, same_place}
-use Rattle.mq_objects.specs.declared.object.Object.{Object}
 use Rattle.mq_objects.specs.declared.object.Object.TheVariants as objects
-use Rattle.mq_objects.specs.declared.object.Definitions.{Definitions}
 use Rattle.mq_objects.specs.Names.{queue_of}
-use Rattle.mq_resolve.specs.declared.route.PathStep.{PathStep}
 use Rattle.mq_resolve.specs.declared.route.PathStep.TheVariants as steps
-use Rattle.mq_calls.specs.declared.answers.Hconn.{Hconn}
-use Rattle.mq_calls.specs.declared.answers.Hobj.{Hobj}
-use Rattle.mq_calls.specs.declared.answers.Answer.{Answer}
 use Rattle.mq_calls.specs.declared.answers.Answer.TheVariants as answers
-use Rattle.mq_calls.specs.declared.answers.Take.{Take}
 use Rattle.mq_calls.specs.declared.answers.Take.TheVariants as takes
-use Rattle.mq_calls.specs.declared.answers.Get.{Get}
-use Rattle.mq_calls.specs.declared.answers.Got.{Got}
-use Rattle.mq_calls.specs.declared.answers.GetAnswer.{GetAnswer}
 use Rattle.mq_calls.specs.declared.answers.GetAnswer.TheVariants.{NotYet, Done}
 use Rattle.mq_calls.specs.declared.deltas.Did.TheVariants as did
-use Rattle.mq_calls.specs.declared.deltas.Why.{Why}
 use Rattle.mq_calls.specs.declared.deltas.Why.TheVariants as reasons_gone
-use Rattle.mq_calls.specs.declared.records.Remove.{Remove}
-use Rattle.mq_calls.specs.declared.records.LogRecord.{LogRecord}
 use Rattle.mq_calls.specs.declared.records.LogRecord.TheVariants as records
-use Rattle.mq_spec_state.specs.State.{Plain, Connection, Handle}
 use Rattle.mq_calls.specs.declared.state.Item.TheVariants.{Take as Taken}
-use Rattle.mq_spec_state.specs.State.Which.{Among}
 use Rattle.mq_spec_state.specs.State.Change.{Leave, Hold, SetCursor, Pend}
-use Rattle.mq_spec_state.specs.Reads.{stored, is_persistent, is_input, handle_at, is_expired, more_need, is_full}
-use Rattle.mq_spec_state.specs.Steps.{Step, Part, Test, when, tested, silent, say}
-use Rattle.mq_spec_state.specs.Steps.Step.{Do}
 use Rattle.mq_heads.specs.Headers.{xqh_bytes}
 use Rattle.mq_spec_manager.specs.Heads.{xqh_of}
 use Rattle.mq_spec_manager.specs.Handles.{connected, for_connection, for_handle}
@@ -159,6 +135,7 @@ found_need get c None = 0
 found_need get c (Some row) =
     if is_destructive get.take && is_persistent row.message && not (is_left get row.message) then taking_need get.sync c else 0
 
+-- the room that a get needs
 abbrev pub scan_need : Get → Connection → Scan → ℕ
 scan_need get c s = expired_need (persistent_rows s.expired) + found_need get c s.found
 
@@ -227,6 +204,7 @@ abbrev pub get_scanned : Get → Option ℕ → Plain → Connection → Handle 
 get_scanned get until p c h s =
     tested (room_tests get c s p) (get_found get until p c h (expired_parts (queue_at h.leads) s.expired) s.found)
 
+-- the refusals in their order
 abbrev pub get_tests : Get → Plain → Connection → Handle → List (Test Reason)
 get_tests get p c h =
     when h.stale reasons.ObjectChanged
@@ -243,5 +221,6 @@ get_handle get until p c h = tested (get_tests get p c h)
 abbrev pub get_up : Hobj → Get → Option ℕ → Plain → Connection → Step Reason GetAnswer
 get_up ho get until p c = for_handle (handle_at ho.number c.handles) (get_handle get until p c)
 
+-- MQGET, from its connection and its handle on
 abbrev pub mqget : Hconn → Hobj → Get → Option ℕ → Plain → Step Reason GetAnswer
 mqget hc ho get until p = for_connection (connected hc p) (get_up ho get until p)

@@ -1,27 +1,14 @@
 -- Connections and handles: the connection check, MQCONN, MQOPEN, MQCLOSE.
 use Rattle.std.specs.Prelude.{ℕ, ◌+◌, ◌==◌, nat_le, Bool, false, not, ◌&&◌, ◌||◌, List, [], ◌∷◌, if◌then◌else◌, Option, Some, None, Result, Ok, Err, length}
 use Rattle.std.specs.Str.{bytes_eq}
-use Rattle.mq_codes.specs.declared.reason.Reason.{Reason}
+use Rattle.mq_spec_state.specs.Words.{Reason, LocalQueue, RouteEnd, Route, Hconn, Hobj, Appl, Answer, Input, Open, Connection, Handle, Plain, is_up, connection_at, handle_at, is_input, is_open_for_input, exclusive_handle, read_by_sender, has_held, Step, Test, when, tested, silent, Refuse, Do}
 use Rattle.mq_codes.specs.declared.reason.Reason.TheVariants as reasons
-use Rattle.mq_objects.specs.declared.object.LocalQueue.{LocalQueue}
 use Rattle.mq_objects.specs.Names.{local_of, is_transmission}
-use Rattle.mq_resolve.specs.declared.route.RouteEnd.{RouteEnd}
 use Rattle.mq_resolve.specs.declared.route.RouteEnd.TheVariants.{Local, Via}
-use Rattle.mq_resolve.specs.declared.route.Route.{Route}
 use Rattle.mq_resolve.specs.Resolved.{resolve}
-use Rattle.mq_calls.specs.declared.answers.Hconn.{Hconn}
-use Rattle.mq_calls.specs.declared.answers.Hobj.{Hobj}
-use Rattle.mq_calls.specs.declared.answers.Appl.{Appl}
-use Rattle.mq_calls.specs.declared.answers.Answer.{Answer}
 use Rattle.mq_calls.specs.declared.answers.Answer.TheVariants as answers
-use Rattle.mq_calls.specs.declared.answers.Input.{Input}
 use Rattle.mq_calls.specs.declared.answers.Input.TheVariants as inputs
-use Rattle.mq_calls.specs.declared.answers.Open.{Open}
-use Rattle.mq_spec_state.specs.State.{Plain, Connection, Handle}
 use Rattle.mq_spec_state.specs.State.Change.{Connect, OpenHandle, CloseHandle}
-use Rattle.mq_spec_state.specs.Reads.{is_up, connection_at, handle_at, is_input, is_open_for_input, exclusive_handle, read_by_sender, has_held}
-use Rattle.mq_spec_state.specs.Steps.{Step, Test, when, tested, silent}
-use Rattle.mq_spec_state.specs.Steps.Step.{Refuse, Do}
 
 -- The connection check. None, or another manager's; or of this incarnation while it runs, and no such connection lives.
 abbrev pub is_other : Hconn → Plain → Bool
@@ -102,6 +89,7 @@ is_in_use how (Via xq rq rqm) p = false
 abbrev pub new_handle : Open → Route → Connection → Handle
 new_handle how route c = record { number = c.last_handle + 1; how = how; leads = route.end; path = route.path; stale = false; cursor = None }
 
+-- the refusals behind a route
 abbrev pub open_tests : Connection → Open → Route → Plain → List (Test Reason)
 open_tests c how route p =
     when (is_unfit how route.end p) reasons.OptionNotValidForType
@@ -115,6 +103,7 @@ open_step c how route = Do (answers.Ok (record { number = c.last_handle + 1 })) 
 abbrev pub open_route : Connection → Open → Route → Plain → Step Reason (Answer Hobj)
 open_route c how route p = tested (open_tests c how route p) (open_step c how route)
 
+-- MQOPEN, from its options and its route on
 abbrev pub open_resolved : Connection → Open → Result Route Reason → Plain → Step Reason (Answer Hobj)
 open_resolved c how (Err reason) p = Refuse reason
 open_resolved c how (Ok route) p = open_route c how route p

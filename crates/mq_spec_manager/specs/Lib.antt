@@ -6,3 +6,4 @@ pub mod Units
 pub mod Commands
 pub mod Triggers
 pub mod Stops
+pub mod Words

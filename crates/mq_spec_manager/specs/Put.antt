@@ -3,40 +3,19 @@ use Rattle.std.specs.Prelude.{ℕ, ℤ, pos, negsuc, ◌+◌, ◌*◌, ◌==◌,
 use Rattle.std.specs.List.{list_any, list_all}
 use Rattle.mq_name.specs.Name.{padded, name_of}
 use Rattle.mq_name.specs.declared.fault.NameFault.{NameFault}
-use Rattle.mq_codes.specs.declared.reason.Reason.{Reason}
+use Rattle.mq_spec_state.specs.Words.{Reason, Ident, Dest, Md, Message, LocalQueue, Object, Definitions, RouteEnd, PathStep, Route, Hconn, Hobj, Appl, Answer, Sent, Open, LogRecord, Connection, Handle, Plain, Change, is_int, is_persistent, handle_at, depth, put_bytes, more_need, is_full, Step, Part, Test, when, tested, Refuse, Do}
 use Rattle.mq_codes.specs.declared.reason.Reason.TheVariants as reasons
-use Rattle.mq_message.specs.declared.message.Ident.{Ident}
-use Rattle.mq_message.specs.declared.message.Dest.{Dest}
-use Rattle.mq_message.specs.declared.message.Md.{Md}
-use Rattle.mq_message.specs.declared.message.Message.{Message}
-use Rattle.mq_objects.specs.declared.object.LocalQueue.{LocalQueue}
-use Rattle.mq_objects.specs.declared.object.Object.{Object}
 use Rattle.mq_objects.specs.declared.object.Object.TheVariants as objects
-use Rattle.mq_objects.specs.declared.object.Definitions.{Definitions}
 use Rattle.mq_objects.specs.Names.{queue_of, local_of}
-use Rattle.mq_resolve.specs.declared.route.RouteEnd.{RouteEnd}
 use Rattle.mq_resolve.specs.declared.route.RouteEnd.TheVariants.{Local, Via}
-use Rattle.mq_resolve.specs.declared.route.PathStep.{PathStep}
 use Rattle.mq_resolve.specs.declared.route.PathStep.TheVariants as steps
-use Rattle.mq_resolve.specs.declared.route.Route.{Route}
 use Rattle.mq_resolve.specs.Resolved.{resolve}
-use Rattle.mq_calls.specs.declared.answers.Hconn.{Hconn}
-use Rattle.mq_calls.specs.declared.answers.Hobj.{Hobj}
-use Rattle.mq_calls.specs.declared.answers.Appl.{Appl}
-use Rattle.mq_calls.specs.declared.answers.Answer.{Answer}
 use Rattle.mq_calls.specs.declared.answers.Answer.TheVariants as answers
-use Rattle.mq_calls.specs.declared.answers.Sent.{Sent}
-use Rattle.mq_calls.specs.declared.answers.Open.{Open}
 use Rattle.mq_calls.specs.declared.answers.Input.TheVariants as inputs
 use Rattle.mq_calls.specs.declared.deltas.Did.TheVariants as did
-use Rattle.mq_calls.specs.declared.records.LogRecord.{LogRecord}
 use Rattle.mq_calls.specs.declared.records.LogRecord.TheVariants as records
-use Rattle.mq_spec_state.specs.State.{Plain, Connection, Handle, Change}
 use Rattle.mq_calls.specs.declared.state.Item.TheVariants.{Put}
 use Rattle.mq_spec_state.specs.State.Change.{Place, Try, Pend, CountIdent}
-use Rattle.mq_spec_state.specs.Reads.{is_int, is_persistent, handle_at, depth, put_bytes, more_need, is_full}
-use Rattle.mq_spec_state.specs.Steps.{Step, Part, Test, when, tested}
-use Rattle.mq_spec_state.specs.Steps.Step.{Refuse, Do}
 use Rattle.mq_clock.specs.Stamps.{put_date, put_time}
 use Rattle.mq_message.specs.Descriptor.{made_id}
 use Rattle.mq_spec_manager.specs.Heads.{trimmed}
@@ -189,6 +168,7 @@ abbrev pub max_depth : Option LocalQueue → ℕ
 max_depth None = 0
 max_depth (Some q) = q.max_depth
 
+-- in the order in which they are tried
 abbrev pub inhibited_tests : List PathStep → Plain → List (Test Reason)
 inhibited_tests path p = when (list_any (is_disabled_at p.definitions) path) reasons.PutInhibited ∷ []
 

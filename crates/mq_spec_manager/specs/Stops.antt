@@ -1,28 +1,14 @@
 -- First start, stop, restart, cut, clock.
 use Rattle.std.specs.Prelude.{◌≡◌, ℕ, ◌+◌, ◌-◌, ◌*◌, ◌<◌, ◌≤◌, ◌⊎◌, min, filter, Bool, true, false, List, [], ◌∷◌, ◌++◌, Option, Some, None, map}
 use Rattle.mq_message.specs.declared.place.Holder.TheVariants as holders
-use Rattle.mq_calls.specs.declared.choices.Return.{Return}
+use Rattle.mq_spec_state.specs.Words.{Return, RestartFault, Kept, Ident, Did, Add, LogRecord, Batch, Image, Plain, Given, Change, Noted, Running, LogState, HeldBy, HeldByUnits, Nonpersistent, Up, Down, apply_all, lasting, begun, raised, stands, need, After, stands_in, calls_of_write}
 use Rattle.mq_calls.specs.declared.choices.Return.TheVariants.{Comes, Fails}
-use Rattle.mq_calls.specs.declared.commands.RestartFault.{RestartFault}
 use Rattle.mq_calls.specs.declared.commands.RestartFault.TheVariants as faults
-use Rattle.mq_calls.specs.declared.commands.Kept.{Kept}
 use Rattle.std.specs.List.{list_any}
-use Rattle.mq_message.specs.declared.message.Ident.{Ident}
 use Rattle.mq_queue.specs.Rows.{same_ident}
-use Rattle.mq_calls.specs.declared.deltas.Did.{Did}
 use Rattle.mq_calls.specs.declared.deltas.Did.TheVariants as did
-use Rattle.mq_calls.specs.declared.records.Add.{Add}
-use Rattle.mq_calls.specs.declared.records.LogRecord.{LogRecord}
 use Rattle.mq_calls.specs.declared.records.LogRecord.TheVariants as records
-use Rattle.mq_spec_state.specs.State.{Plain, Given, Batch, Change, Noted, Running, LogState}
-use Rattle.mq_spec_state.specs.State.Which.{HeldBy, HeldByUnits, Nonpersistent}
 use Rattle.mq_spec_state.specs.State.Change.{Release, Leave, ForgetAll}
-use Rattle.mq_spec_state.specs.State.Running.{Up, Down}
-use Rattle.mq_spec_state.specs.Changes.{apply_all}
-use Rattle.mq_spec_state.specs.Images.{Image, lasting, begun, raised}
-use Rattle.mq_spec_state.specs.Reads.{stands}
-use Rattle.mq_spec_state.specs.Sizes.{need}
-use Rattle.mq_spec_state.specs.Steps.{After, stands_in, calls_of_write}
 use Rattle.mq_spec_state.specs.Steps.Outcome.{Answered, Refused, Wanting}
 
 -- What a stop does: units are backed out, batches that are not prepared are released, nonpersistent rows go.
@@ -108,12 +94,14 @@ redone_delta true (Some n) p = filter (lasts n.written p) n.delta
 redone_delta true None p = []
 redone_delta false noted p = []
 
+-- a restart that is refused, in its Started write or before it
 abbrev pub failed : RestartFault → Bool → ℕ → Option Noted → ℕ → Plain → After RestartFault Kept
 failed faults.NoMemory in_write left noted starts p = record { outcome = Wanting; delta = []; next = p }
 failed fault true left noted starts p =
     record { outcome = Refused fault; delta = []; next = record p { running = Down noted (starts + 1); log = record p.log { armed = left } } }
 failed fault false left noted starts p = record { outcome = Refused fault; delta = []; next = record p { log = record p.log { armed = left } } }
 
+-- a restart of a manager that is down; one that is up is refused
 abbrev pub restart_down : Return → Option Noted → ℕ → Plain → After RestartFault Kept
 restart_down (Comes kept started) noted starts p =
     record { outcome = Answered (record { kept = kept }); delta = redone_delta kept noted p; next = restarted kept started noted p }

@@ -1,20 +1,11 @@
 -- A trigger turn: the first queue with a trigger due is served.
 use Rattle.std.specs.Prelude.{ℕ, pos, nat_lt, Bool, true, false, List, [], ◌∷◌, if◌then◌else◌, Option, Some, None, codes}
-use Rattle.mq_codes.specs.declared.reason.Reason.{Reason}
-use Rattle.mq_message.specs.declared.message.Ident.{Ident}
-use Rattle.mq_message.specs.declared.message.Message.{Message}
-use Rattle.mq_objects.specs.declared.object.LocalQueue.{LocalQueue}
-use Rattle.mq_objects.specs.declared.object.Process.{Process}
+use Rattle.mq_spec_state.specs.Words.{Reason, Ident, Message, LocalQueue, Process, Route, Plain, stored, is_up, Step, Part, refusal, say, silent, Do}
 use Rattle.mq_objects.specs.Names.{local_of, locals_of, process_of, is_transmission}
 use Rattle.mq_resolve.specs.declared.route.RouteEnd.TheVariants.{Local}
 use Rattle.mq_resolve.specs.declared.route.PathStep.TheVariants as steps
-use Rattle.mq_resolve.specs.declared.route.Route.{Route}
 use Rattle.mq_calls.specs.declared.deltas.Did.TheVariants as did
-use Rattle.mq_spec_state.specs.State.{Plain}
 use Rattle.mq_spec_state.specs.State.Change.{Place, CountIdent, Serve}
-use Rattle.mq_spec_state.specs.Reads.{stored, is_up}
-use Rattle.mq_spec_state.specs.Steps.{Step, Part, refusal, say, silent}
-use Rattle.mq_spec_state.specs.Steps.Step.{Do}
 use Rattle.mq_clock.specs.Stamps.{put_date, put_time}
 use Rattle.mq_heads.specs.Headers.{tm_bytes}
 use Rattle.mq_spec_manager.specs.Heads.{tm_of, own_md}
@@ -52,6 +43,7 @@ put_trigger None q process i p = record {
   delta = did.Placed i.name (next_ident p) None ∷ [];
 }
 
+-- where the process or the queue is gone, the trigger is dropped
 abbrev pub serve_into : Bool → LocalQueue → Process → LocalQueue → Plain → Part
 serve_into true q process i p = silent (Serve q.name ∷ [])
 serve_into false q process i p = put_trigger (takes_it i p) q process i p

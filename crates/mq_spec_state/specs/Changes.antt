@@ -4,18 +4,13 @@ use Rattle.std.specs.List.{list_any}
 use Rattle.std.specs.Str.{bytes_eq}
 use Rattle.std.specs.Ordering.{is_lt, nat_cmp}
 use Rattle.std.specs.Cmp.Lexicographic.{slice_cmp}
-use Rattle.mq_message.specs.declared.message.Ident.{Ident}
-use Rattle.mq_message.specs.declared.message.Message.{Message}
-use Rattle.mq_message.specs.declared.place.Holder.{Holder}
+use Rattle.mq_spec_state.specs.Terms.{Ident, Message, Holder, LocalQueue, PathStep, InDoubt}
 use Rattle.mq_queue.specs.declared.row.Row.{Row}
 use Rattle.mq_queue.specs.Lanes.{lane_at}
 use Rattle.mq_queue.specs.Rows.{same_ident, insert_row, keep, retag, held_by, is_free}
 use Rattle.mq_queue.specs.Queues.{freed}
-use Rattle.mq_objects.specs.declared.object.LocalQueue.{LocalQueue}
 use Rattle.mq_objects.specs.Names.{local_of, is_by_priority}
 use Rattle.mq_objects.specs.Changed.{changed}
-use Rattle.mq_resolve.specs.declared.route.PathStep.{PathStep}
-use Rattle.mq_sync.specs.declared.data.InDoubt.{InDoubt}
 use Rattle.mq_spec_state.specs.State.{Plain, Queue, Connection, Handle, Seizure, Batch, SenderSide, ReceiverSide, Channels, Which, Change, fresh_queue}
 use Rattle.mq_spec_state.specs.State.Which.{Among, HeldBy, HeldByUnits, Nonpersistent}
 use Rattle.mq_spec_state.specs.State.Change.{Place as Places, Try, Leave, Hold, Release, Connect, Disconnect, OpenHandle, CloseHandle, SetCursor, Pend, EndUnit, MakeStale, CountIdent, ChangeObjects, Renew, DropQueue, SwitchOn, Serve, SetSender, SetReceiver, Undoubt, Seize, Unseize, AddBatch, DropBatch, SetBound, SetMoment, ForgetAll}
@@ -78,9 +73,11 @@ placed_in lane message q = record q { rows = insert_row (new_row lane (q.arrival
 abbrev pub place : List ℕ → Message → Plain → Plain
 place name message p = with_queue (placed_in (lane_of (local_of name p.definitions) message.md.priority) message (stored name p)) p
 
+-- the rows that are meant go
 abbrev pub kept_in : Which → Queue → Queue
 kept_in which q = record q { rows = keep (λ (row : Row). not (selects which q.name row)) q.rows }
 
+-- a row that is meant has another holder
 abbrev pub retag_if : Bool → Option Holder → Row → Row
 retag_if true by row = record row { by = by }
 retag_if false by row = row
@@ -131,6 +128,7 @@ stale_if false h = h
 abbrev pub made_stale : PathStep → Connection → Connection
 made_stale step c = record c { handles = map (λ (h : Handle). stale_if (has_step step h) h) c.handles }
 
+-- what a channel has here is gone: its queue, its batch, its bond
 abbrev pub unseized : List ℕ → Channels → Channels
 unseized channel c = record c { seizures = filter (λ (s : Seizure). not (bytes_eq channel s.channel)) c.seizures }
 
@@ -140,13 +138,16 @@ without_batch channel c = record c { batches = filter (λ (b : Batch). not (byte
 abbrev pub unbound : List ℕ → Channels → Channels
 unbound channel c = record c { bound = filter (λ other. not (bytes_eq channel other)) c.bound }
 
+-- a receiver is bound, or not
 abbrev pub set_bound : Bool → List ℕ → Channels → Channels
 set_bound true channel c = record c { bound = set_named (λ (name : List ℕ). name) channel c.bound }
 set_bound false channel c = unbound channel c
 
+-- a queue after a stop: no trigger is due
 abbrev pub forgotten : Queue → Queue
 forgotten q = record q { due = 0; last_due = None; switched_off = false }
 
+-- what each change does
 abbrev pub apply : Change → Plain → Plain
 apply (Places name message) p = place name message p
 apply (Try name priority) p = try_trigger name priority p
@@ -178,6 +179,7 @@ apply (SetBound channel bound) p = record p { channels = set_bound bound channel
 apply (SetMoment moment) p = record p { moment = moment }
 apply ForgetAll p = record p { connections = []; channels = record p.channels { seizures = []; batches = []; bound = [] }; queues = map forgotten p.queues }
 
+-- changes in order
 abbrev pub apply_all : List Change → Plain → Plain
 apply_all [] p = p
 apply_all (c ∷ cs) p = apply_all cs (apply c p)

@@ -2,8 +2,7 @@
 use Rattle.std.specs.Prelude.{ℕ, pos, ◌+◌, Bool, false, List, [], ◌∷◌, if◌then◌else◌, Option, Some, None, length, map}
 use Rattle.std.specs.List.{list_any}
 use Rattle.std.specs.Str.{bytes_eq}
-use Rattle.mq_message.specs.declared.message.Message.{Message}
-use Rattle.mq_message.specs.declared.place.Holder.{Holder}
+use Rattle.mq_spec_state.specs.Terms.{Message, Holder}
 use Rattle.mq_message.specs.declared.place.Holder.TheVariants as holders
 use Rattle.mq_queue.specs.declared.row.Row.{Row}
 pub use Rattle.mq_calls.specs.declared.image.Shelf.{Shelf}
@@ -28,6 +27,7 @@ uncounted_message m = record m { md = record m.md { backout_count = pos 0 } }
 abbrev pub lasting_row : List Batch → Row → Row
 lasting_row bs row = record { place = record { lane = row.place.lane; arrival = 0 }; message = uncounted_message row.message; by = rests_by bs row.by }
 
+-- a row as it lasts, and the rows that do
 abbrev pub lasting_rows : List Batch → List Row → List Row
 lasting_rows bs [] = []
 lasting_rows bs (row ∷ rows) = if is_persistent row.message then lasting_row bs row ∷ lasting_rows bs rows else lasting_rows bs rows
@@ -39,6 +39,7 @@ abbrev pub shelves_of : List Batch → List Queue → List Shelf
 shelves_of bs [] = []
 shelves_of bs (q ∷ qs) = shelf_of bs q ∷ shelves_of bs qs
 
+-- the image of a manager
 abbrev pub lasting : Plain → Image
 lasting p = record {
   definitions = p.definitions;

@@ -1,3 +1,4 @@
+pub mod Terms
 pub mod State
 pub mod Sizes
 pub mod Reads
@@ -8,3 +9,4 @@ pub mod Steps
 pub mod Meeting
 pub mod Counts
 pub mod Recovery
+pub mod Words

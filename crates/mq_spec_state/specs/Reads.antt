@@ -2,21 +2,13 @@
 use Rattle.std.specs.Prelude.{ℕ, ℤ, pos, negsuc, ◌+◌, ◌==◌, nat_lt, nat_le, Bool, true, false, not, ◌&&◌, ◌||◌, List, [], ◌∷◌, if◌then◌else◌, Option, Some, None, length, sum_by, count_by, is_some, filter}
 use Rattle.std.specs.List.{list_any}
 use Rattle.std.specs.Str.{bytes_eq}
-use Rattle.mq_message.specs.declared.message.Ident.{Ident}
-use Rattle.mq_message.specs.declared.message.Message.{Message}
-use Rattle.mq_message.specs.declared.place.Holder.{Holder}
+use Rattle.mq_spec_state.specs.Terms.{Ident, Message, Holder, RouteEnd, PathStep, Input, InDoubt, SenderData, ReceiverData}
 use Rattle.mq_message.specs.declared.place.Holder.TheVariants as holders
 use Rattle.mq_queue.specs.declared.row.Row.{Row}
 use Rattle.mq_queue.specs.Rows.{has_ident, is_free}
-use Rattle.mq_resolve.specs.declared.route.RouteEnd.{RouteEnd}
 use Rattle.mq_resolve.specs.declared.route.RouteEnd.TheVariants.{Local, Via}
-use Rattle.mq_resolve.specs.declared.route.PathStep.{PathStep}
 use Rattle.mq_resolve.specs.declared.route.PathStep.TheVariants as steps
-use Rattle.mq_calls.specs.declared.answers.Input.{Input}
 use Rattle.mq_calls.specs.declared.answers.Input.TheVariants as inputs
-use Rattle.mq_sync.specs.declared.data.InDoubt.{InDoubt}
-use Rattle.mq_sync.specs.declared.data.SenderData.{SenderData}
-use Rattle.mq_sync.specs.declared.data.ReceiverData.{ReceiverData}
 use Rattle.mq_spec_state.specs.State.{Plain, Queue, Connection, Handle, Item, Seizure, Batch, SenderSide, ReceiverSide, Running, fresh_queue}
 use Rattle.mq_calls.specs.declared.state.Item.TheVariants.{Put, Take}
 use Rattle.mq_spec_state.specs.State.Running.{Up, Down}
@@ -33,6 +25,7 @@ queue_in name (q ∷ qs) = if bytes_eq name q.name then q else queue_in name qs
 abbrev pub stored : List ℕ → Plain → Queue
 stored name p = queue_in name p.queues
 
+-- the hardened data of a channel's ends, by name
 abbrev pub sender_in : List ℕ → List SenderSide → Option SenderData
 sender_in channel [] = None
 sender_in channel (s ∷ ss) = if bytes_eq channel s.channel then Some s.hardened else sender_in channel ss

@@ -1,13 +1,9 @@
 -- How many bytes records take in the log.
 use Rattle.std.specs.Prelude.{ℕ, ◌+◌, ◌*◌, List, Option, Some, None, length, sum_by}
-use Rattle.mq_message.specs.declared.message.Message.{Message}
-use Rattle.mq_message.specs.declared.message.Dest.{Dest}
+use Rattle.mq_spec_state.specs.Terms.{Message, Dest, Add, ObjectChange, LogRecord}
 use Rattle.mq_objects.specs.Names.{name_of, subject_name}
 use Rattle.mq_objects.specs.Attributes.{define_text, manager_text, delete_text}
-use Rattle.mq_calls.specs.declared.records.Add.{Add}
-use Rattle.mq_objects.specs.declared.change.ObjectChange.{ObjectChange}
 use Rattle.mq_objects.specs.declared.change.ObjectChange.TheVariants as changes
-use Rattle.mq_calls.specs.declared.records.LogRecord.{LogRecord}
 use Rattle.mq_calls.specs.declared.records.LogRecord.TheVariants as records
 
 -- two names where a message has a route

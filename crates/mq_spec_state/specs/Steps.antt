@@ -3,10 +3,8 @@
 use Rattle.std.specs.Prelude.{◌≡◌, ℕ, zero, suc, is_some, ◌+◌, ◌-◌, ◌<◌, ◌≤◌, Bool, true, List, [], ◌∷◌, ◌++◌, map, if◌then◌else◌, Option, Some, None}
 use Rattle.mq_disk.specs.declared.cutter.Stop.{Stop}
 use Rattle.mq_disk.specs.declared.cutter.Stop.TheVariants as stops
-use Rattle.mq_calls.specs.declared.choices.Choice.{Choice}
+use Rattle.mq_spec_state.specs.Terms.{Choice, Did, LogRecord}
 use Rattle.mq_calls.specs.declared.choices.Choice.TheVariants.{Runs, NoMemory, Stopped}
-use Rattle.mq_calls.specs.declared.deltas.Did.{Did}
-use Rattle.mq_calls.specs.declared.records.LogRecord.{LogRecord}
 use Rattle.mq_spec_state.specs.State.{Plain, Change, Noted, LogState}
 use Rattle.mq_spec_state.specs.State.Which.{Nonpersistent}
 use Rattle.mq_spec_state.specs.State.Running.{Down}
@@ -86,6 +84,7 @@ abbrev pub logged : Option LogRecord → Plain → Plain
 logged None p = p
 logged (Some r) p = record p { log = written r p.log }
 
+-- the parts are done in order
 abbrev pub do_part : Part → Plain → Plain
 do_part part p = apply_all part.changes (logged part.forced p)
 
@@ -93,10 +92,12 @@ abbrev pub do_all : List Part → Plain → Plain
 do_all [] p = p
 do_all (part ∷ parts) p = do_all parts (do_part part p)
 
+-- what the parts tell
 abbrev pub delta_of : List Part → List Did
 delta_of [] = []
 delta_of (part ∷ parts) = part.delta ++ delta_of parts
 
+-- nonpersistent rows go
 abbrev pub volatile_gone : Plain → Plain
 volatile_gone p = record p { queues = map (kept_in Nonpersistent) p.queues }
 
