@@ -1,5 +1,5 @@
 -- The words of this crate and of those below. (The changes of a manager, `State.Change`, are imported where they are used.)
-pub use Rattle.mq_spec_state.specs.Terms.{Reason, Ident, Dest, Md, Message, Place, Want, Holder, Definitions, Object, LocalQueue, Process, Channel, ChannelKind, ManagerAttributes, TriggerType, ObjectChange, Subject, Command, Route, RouteEnd, PathStep, Path, Luw, Settle, End, InDoubt, Doubt, SenderData, ReceiverData, ChannelData, Stock, Shelf, Image, Item, Handle, Connection, Seizure, Batch, SenderSide, ReceiverSide, Choice, Return, Add, Remove, LogRecord, Shown, ScRefusal, RestartFault, BeginFault, Kept, Halt, Why, Did, Hconn, Hobj, Appl, Answer, Input, Open, Sent, Take, Get, Got, GetAnswer, AgentStop, SeizeFault, PrepareFault, PlaceFault, Note, no_unit, unit_named, same_unit, Below, Upto, data_settled, data_prepared, settle_by, is_commit, sender_or, receiver_or, failed_by, value_of}
+pub use Rattle.mq_spec_state.specs.Terms.{Reason, Ident, Dest, Md, Message, Place, Want, Holder, Definitions, Object, LocalQueue, Process, Channel, ChannelKind, ManagerAttributes, TriggerType, ObjectChange, Subject, Command, Route, RouteEnd, PathStep, Path, Luw, Settle, End, InDoubt, Doubt, SenderData, ReceiverData, ChannelData, Stock, Shelf, Image, Item, Handle, Connection, Seizure, Batch, SenderSide, ReceiverSide, Choice, Return, Add, Remove, LogRecord, Shown, ScRefusal, RestartFault, BeginFault, Kept, Halt, Why, Did, Hconn, Hobj, Appl, Answer, Input, Open, Sent, Take, Get, Got, GetAnswer, AgentStop, SeizeFault, PrepareFault, PlaceFault, Note, no_unit, unit_named, same_unit, Below, Upto, data_settled, data_prepared, settle_by, is_commit, sender_or, receiver_or, failed_by, value_of, Row, same_ident, has_ident, is_free, is_after, is_wanted, same_place, held_by, keep, retag, insert_row, queue_of, local_of, locals_of, process_of, channel_of, is_transmission, is_by_priority}
 pub use Rattle.mq_spec_state.specs.State.{Given, Queue, Channels, Numbers, LogState, Which, Change, Noted, Running, Plain, fresh_queue}
 pub use Rattle.mq_spec_state.specs.Sizes.{route_size, message_size, add_size, change_text, record_size, need}
 pub use Rattle.mq_spec_state.specs.Reads.{is_up, queue_in, stored, sender_in, sender_data, receiver_in, receiver_data, is_int, is_persistent, connection_at, handle_at, is_put_to, puts_to, depth, has_rows, route_bytes, put_bytes, item_bytes, with_head, unit_need, more_need, reserved, is_full, is_input, is_exclusive, leads_to, any_handle, read_by_handle, exclusive_handle, read_by_sender, is_open_for_input, is_by_unit, has_held, is_by_other, has_held_by_other, is_step, has_step, on_path, seizure_of, batch_of, in_doubt_of, channel_busy, has_priority, free_rows, is_past, is_expired, stands}
