@@ -1,5 +1,5 @@
 -- The order that messages of one channel keep.
-use Rattle.std.specs.Prelude.{ℕ, ◌≡◌, ◌⊎◌, Bool, true, not, ◌&&◌, List, [], ◌∷◌, Option, Some, None, filter, map}
+use Rattle.std.specs.Prelude.{ℕ, ◌≡◌, ◌⊎◌, Bool, true, not, ◌&&◌, List, [], ◌∷◌, Option, Some, None, filter}
 use Rattle.std.specs.List.{list_any}
 use Rattle.std.specs.Str.{bytes_eq}
 use Rattle.mq_spec_network.specs.Terms.{Ident, Message, Row, same_ident, Luw, same_unit, Did, Entry, Reply, Chance, Comes}
