@@ -5,7 +5,7 @@ use Rattle.std.specs.List.{AllByRecursion}
 use Rattle.mq_cable.specs.declared.item.Item.{Item}
 use Rattle.mq_cable.specs.declared.fault.Fault.{Fault}
 use Rattle.mq_cable.specs.declared.fault.Fault.TheVariants as faults
-use Rattle.mq_cable.specs.Faults.{fault_of, pushed_now, comes_after, due_if, due_from, due_after, pushed_of, Offered, made_from, made, offered_of, IsMadeOf}
+use Rattle.mq_cable.specs.Faults.{fault_of, pushed_now, comes_after, due_if, due_from, due_after, pushed_of, pushed_by, Offer, Offered, made_from, made, made_after, made_of, offered_of, IsMadeOf}
 
 -- ---- no faults
 
@@ -31,20 +31,20 @@ all_from before (o ∷ os) =
 pub all_pushed : (os : List Offered) → made [] os ≡ offered_of os
 all_pushed os = all_from [] os
 
--- ---- one more
+-- ---- one more, of any items
 
-more_from : (fs : List Fault) (before : List Item) (os : List Offered) (o : Offered) → made_from fs before (os ++ o ∷ []) ≡ made_from fs before os ++ pushed_of fs (before ++ offered_of os) o.item o.extras
-more_from fs before [] o =
-    append-nil (pushed_of fs before o.item o.extras) ∙ ap (λ (b : List Item). pushed_of fs b o.item o.extras) (sym (append-nil before))
-more_from fs before (p ∷ os) o =
-    let first = pushed_of fs before p.item p.extras in
+more_from : {A : Type 0} (spoil : A → A) (fs : List Fault) (before : List A) (os : List (Offer A)) (o : Offer A) → made_after spoil fs before (os ++ o ∷ []) ≡ made_after spoil fs before os ++ pushed_by spoil fs (before ++ offered_of os) o.item o.extras
+more_from {A} spoil fs before [] o =
+    append-nil (pushed_by spoil fs before o.item o.extras) ∙ ap (λ (b : List A). pushed_by spoil fs b o.item o.extras) (sym (append-nil before))
+more_from {A} spoil fs before (p ∷ os) o =
+    let first = pushed_by spoil fs before p.item p.extras in
     let next = before ++ p.item ∷ [] in
-    ap (λ (l : List Item). first ++ l) (more_from fs next os o)
-    ∙ sym (append_assoc first (made_from fs next os) (pushed_of fs (next ++ offered_of os) o.item o.extras))
-    ∙ ap (λ (b : List Item). (first ++ made_from fs next os) ++ pushed_of fs b o.item o.extras) (append_assoc before (p.item ∷ []) (offered_of os))
+    ap (λ (l : List A). first ++ l) (more_from spoil fs next os o)
+    ∙ sym (append_assoc first (made_after spoil fs next os) (pushed_by spoil fs (next ++ offered_of os) o.item o.extras))
+    ∙ ap (λ (b : List A). (first ++ made_after spoil fs next os) ++ pushed_by spoil fs b o.item o.extras) (append_assoc before (p.item ∷ []) (offered_of os))
 
-pub one_more : (fs : List Fault) (os : List Offered) (o : Offered) → made fs (os ++ o ∷ []) ≡ made fs os ++ pushed_of fs (offered_of os) o.item o.extras
-one_more fs os o = more_from fs [] os o
+pub one_more : {A : Type 0} (spoil : A → A) (fs : List Fault) (os : List (Offer A)) (o : Offer A) → made_of spoil fs (os ++ o ∷ []) ≡ made_of spoil fs os ++ pushed_by spoil fs (offered_of os) o.item o.extras
+one_more spoil fs os o = more_from spoil fs [] os o
 
 -- ---- each was offered
 

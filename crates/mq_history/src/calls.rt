@@ -1,7 +1,8 @@
 //! Events as a history keeps them: who acts, what is called, what came from outside, what was answered and what it did.
 use crate::acts::{Act, Acted};
-use crate::opening::Image;
-use mq_calls::{Answer, Appl, Choice, Delta, Get, Got, Hconn, Hobj, Messages, Open, Return, Sent};
+use mq_calls::{
+    Answer, Appl, Choice, Delta, Get, Got, Hconn, Hobj, Image, Messages, Open, Return, Sent,
+};
 use mq_disk::Stop;
 use mq_frame::{Frame, Seen};
 use mq_message::{Bytes, Md};
@@ -92,9 +93,13 @@ pub enum Chance {
     Call(Choice),
     /// How a restart ended.
     Restart(Return),
-    /// A restart read an image that is none of those which this history allows, and went on from it, with so
-    /// many device calls left before an armed cut, 0 for none.
-    Foreign { image: Image, left: u32 },
+    /// A restart read a log that is none of those which this history allows, and went on from it: what it read,
+    /// the log's length in bytes then, and how many device calls are left before an armed cut, 0 for none.
+    Foreign {
+        image: Image,
+        length: u64,
+        left: u32,
+    },
 }
 
 /// What the event answered.

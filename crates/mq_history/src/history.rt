@@ -1,7 +1,7 @@
 //! What happened at one manager: its opening, its entries in order, and its marks.
 use crate::calls::Entry;
-use crate::opening::Image;
 use mq_base::Items;
+use mq_calls::Image;
 use mq_name::QName;
 
 /// A step's end.
@@ -21,6 +21,8 @@ pub struct History {
     pub name: QName,
     /// What its first start read of the log.
     pub opening: Image,
+    /// The log's length in bytes then, before its Started record.
+    pub length: u64,
     /// The moment with which it began, in milliseconds since 1970.
     pub moment: u64,
     /// In order; their stamps rise.

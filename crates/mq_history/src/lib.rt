@@ -5,7 +5,6 @@
 mod acts;
 mod calls;
 mod history;
-mod opening;
 mod scenario;
 mod scripts;
 mod story;
@@ -14,7 +13,7 @@ pub use acts::{Act, Acted, OpRefusal};
 pub use calls::{Actor, Call, Chance, Effect, Entry, Reply};
 pub use history::{History, Mark};
 pub use mq_cable::{Fault, Faults};
-pub use opening::{Image, StoredQueue};
+pub use mq_calls::{Image, Shelf};
 pub use scenario::{
     CableLine, ManagerLine, MonitorLine, RulesPart, Scenario, ScriptPart, Section, Step,
 };

@@ -1,7 +1,7 @@
 //! What a story shows: an operator's settlement at odds with its receiver, logs that don't belong together, and
 //! where rows stand.
-use crate::opening::StoredQueue;
 use mq_base::Items;
+use mq_calls::Shelf;
 use mq_message::Ident;
 use mq_name::{ChName, QName};
 use mq_objects::Definitions;
@@ -37,6 +37,6 @@ pub enum Apart {
 pub struct ManagerPlaces {
     pub name: QName,
     pub definitions: Definitions,
-    /// Lists by name; one may have no definition any more.
-    pub queues: Items<StoredQueue>,
+    /// Lists by name, each in order of place with no count of arrivals; one may have no definition any more.
+    pub queues: Items<Shelf>,
 }

@@ -4,6 +4,7 @@ use Rattle.mq_message.specs.declared.message.Dest.{Dest}
 use Rattle.mq_message.specs.declared.message.Message.{Message}
 use Rattle.mq_sync.specs.declared.unit.Unit.{Unit as Luw}
 use Rattle.mq_sync.specs.Units.{unit_named, Upto, same_unit}
+pub use Rattle.mq_base.specs.Members.{Mem}
 
 -- what a message frame carries
 pub record Letter : Type 0 where
@@ -38,10 +39,6 @@ pub record Far : Type 0 where
   pub latest : ℕ
   pub kept : List Letter
   pub owes : Option Tale
-
-abbrev pub Mem : {A : Type 0} → A → List A → Type 0
-Mem x [] = ⊥
-Mem x (y ∷ ys) = (x ≡ y) ⊎ Mem x ys
 
 -- the receiver takes nothing of this session any more
 abbrev pub Dead : Far → ℕ → Type 0

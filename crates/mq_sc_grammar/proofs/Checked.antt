@@ -22,7 +22,7 @@ use Rattle.mq_sc_keys.specs.Values.{choice_value, type_of}
 use Rattle.mq_sc_parse.specs.declared.splitting.Item.{Item}
 use Rattle.mq_sc_parse.specs.Checks.{is_unknown, span_of_item, first_unknown, group_text, item_group, is_among, repeated_from, first_repeated, has_word, item_of, kind_of_type, type_of_item, channel_kind, kind_of, lacks}
 use Rattle.mq_sc_grammar.specs.Spelling.{Clause}
-use Rattle.mq_sc_grammar.specs.Commands.{Among, Tells, keys_of, Says, Has, IsChannelKind, IsKind, AreKnown, AreSingle, value_of, HasNeeded}
+use Rattle.mq_sc_grammar.specs.Commands.{Mem, Tells, keys_of, Says, Has, IsChannelKind, IsKind, AreKnown, AreSingle, value_of, HasNeeded}
 use Rattle.mq_sc_grammar.proofs.Words.{bytes_same, same_bytes, one_key, key_read}
 use Rattle.mq_sc_grammar.proofs.Splits.{Spell}
 
@@ -71,7 +71,7 @@ known_found verb kind items h = find_all verb kind items (no_span (find (is_unkn
 abbrev pub groups_of : List Clause → List Key
 groups_of cs = map group_of (keys_of cs)
 
-Decides-among : (test : Bool) (x y : Key) (ys : List Key) (more : Bool) → Decides test (x ≡ y) → Decides more (Among x ys) → Decides (test || more) (Among x (y ∷ ys))
+Decides-among : (test : Bool) (x y : Key) (ys : List Key) (more : Bool) → Decides test (x ≡ y) → Decides more (Mem x ys) → Decides (test || more) (Mem x (y ∷ ys))
 Decides-among test x y ys more d e = Decides-or test more d e
 
 group_at : (verb : Verb) (kind : Kind) (c : Clause) (cs : List Clause) (i : Item) → AreKnown verb kind (c ∷ cs) → i.word ≡ key_text c.key → item_group verb kind i ≡ key_text (group_of c.key)
@@ -80,7 +80,7 @@ group_at verb kind c cs i known e = ap group_text (known_at verb kind c cs i kno
 same_group : (x y : List ℕ) (a b : Key) → x ≡ key_text a → y ≡ key_text b → Decides (bytes_eq y x) (a ≡ b)
 same_group x y a b p q = (λ e. one_key a b (sym p ∙ sym (bytes_same y x e) ∙ q), λ e. same_bytes y x (q ∙ ap key_text (sym e) ∙ sym p))
 
-among_decides : (verb : Verb) (kind : Kind) (i : Item) (key : Key) (es : List Clause) (earlier : List Item) → item_group verb kind i ≡ key_text key → Spell es earlier → AreKnown verb kind es → Decides (is_among verb kind i earlier) (Among key (groups_of es))
+among_decides : (verb : Verb) (kind : Kind) (i : Item) (key : Key) (es : List Clause) (earlier : List Item) → item_group verb kind i ≡ key_text key → Spell es earlier → AreKnown verb kind es → Decides (is_among verb kind i earlier) (Mem key (groups_of es))
 among_decides verb kind i key [] [] g s known = (λ e. absurd cc, λ h. absurd h)
 among_decides verb kind i key [] (e ∷ es) g s known = absurd s
 among_decides verb kind i key (c ∷ cs) [] g s known = absurd s
@@ -102,7 +102,7 @@ known_more verb kind (e ∷ es) c cs known h = (known.0, known_more verb kind es
 -- no group is among those before it, of which some were seen
 abbrev pub NoneSeen : (seen : List Clause) (cs : List Clause) → Type 0
 NoneSeen seen [] = Unit {0}
-NoneSeen seen (c ∷ cs) = (Among (group_of c.key) (groups_of seen) → ⊥) × NoneSeen (seen ++ c ∷ []) cs
+NoneSeen seen (c ∷ cs) = (Mem (group_of c.key) (groups_of seen) → ⊥) × NoneSeen (seen ++ c ∷ []) cs
 
 abbrev no_place : Option Span
 no_place = None
@@ -120,7 +120,7 @@ seen_read verb kind es [] earlier (i ∷ is) se s ke k h = absurd s
 seen_read verb kind es (c ∷ cs) earlier [] se s ke k h = absurd s
 seen_read verb kind es (c ∷ cs) earlier (i ∷ is) se s ke k h =
     let d = among_decides verb kind i (group_of c.key) es earlier (group_at verb kind c cs i k s.0) se ke in
-    let isnt = decided_false (is_among verb kind i earlier) (Among (group_of c.key) (groups_of es)) d h.0 in
+    let isnt = decided_false (is_among verb kind i earlier) (Mem (group_of c.key) (groups_of es)) d h.0 in
     cond-false (is_among verb kind i earlier) (Some i.span) (repeated_from verb kind (earlier ++ i ∷ []) is) isnt
     ∙ seen_read verb kind (es ++ c ∷ []) cs (earlier ++ i ∷ []) is (spell_more es earlier c i se s.0 s.1) s.2 (known_more verb kind es c cs ke k) k.1 h.1
 
@@ -135,11 +135,11 @@ seen_found verb kind es (c ∷ cs) earlier [] se s ke k h = absurd s
 seen_found verb kind es (c ∷ cs) earlier (i ∷ is) se s ke k h =
     let d = among_decides verb kind i (group_of c.key) es earlier (group_at verb kind c cs i k s.0) se ke in
     let n = not_here (is_among verb kind i earlier) i.span (repeated_from verb kind (earlier ++ i ∷ []) is) h in
-    (decided_no (is_among verb kind i earlier) (Among (group_of c.key) (groups_of es)) d n.0, seen_found verb kind (es ++ c ∷ []) cs (earlier ++ i ∷ []) is (spell_more es earlier c i se s.0 s.1) s.2 (known_more verb kind es c cs ke k) k.1 n.1)
+    (decided_no (is_among verb kind i earlier) (Mem (group_of c.key) (groups_of es)) d n.0, seen_found verb kind (es ++ c ∷ []) cs (earlier ++ i ∷ []) is (spell_more es earlier c i se s.0 s.1) s.2 (known_more verb kind es c cs ke k) k.1 n.1)
 
 -- ---- none seen before, and distinct
 
-groups_more : (es : List Clause) (c : Clause) (g : Key) → Among g (groups_of (es ++ c ∷ [])) → Among g (groups_of es) ⊎ (g ≡ group_of c.key)
+groups_more : (es : List Clause) (c : Clause) (g : Key) → Mem g (groups_of (es ++ c ∷ [])) → Mem g (groups_of es) ⊎ (g ≡ group_of c.key)
 groups_more [] c g (inl e) = inr e
 groups_more [] c g (inr h) = absurd h
 groups_more (d ∷ ds) c g (inl e) = inl (inl e)
@@ -148,33 +148,33 @@ groups_more (d ∷ ds) c g (inr h) = elim (groups_more ds c g h) [
   | inr e ↦ inr e
 ]
 
-groups_last : (es : List Clause) (c : Clause) → Among (group_of c.key) (groups_of (es ++ c ∷ []))
+groups_last : (es : List Clause) (c : Clause) → Mem (group_of c.key) (groups_of (es ++ c ∷ []))
 groups_last [] c = inl refl
 groups_last (d ∷ ds) c = inr (groups_last ds c)
 
-groups_kept : (es : List Clause) (c : Clause) (g : Key) → Among g (groups_of es) → Among g (groups_of (es ++ c ∷ []))
+groups_kept : (es : List Clause) (c : Clause) (g : Key) → Mem g (groups_of es) → Mem g (groups_of (es ++ c ∷ []))
 groups_kept [] c g h = absurd h
 groups_kept (d ∷ ds) c g (inl e) = inl e
 groups_kept (d ∷ ds) c g (inr h) = inr (groups_kept ds c g h)
 
-distinct_seen : (es cs : List Clause) → AreSingle cs → ((g : Key) → Among g (groups_of cs) → Among g (groups_of es) → ⊥) → NoneSeen es cs
+distinct_seen : (es cs : List Clause) → AreSingle cs → ((g : Key) → Mem g (groups_of cs) → Mem g (groups_of es) → ⊥) → NoneSeen es cs
 distinct_seen es [] h apart = tt
 distinct_seen es (c ∷ cs) h apart = (apart (group_of c.key) (inl refl), distinct_seen (es ++ c ∷ []) cs h.1 (λ g m n. later g m (groups_more es c g n)))
   where
-    later : (g : Key) → Among g (groups_of cs) → Among g (groups_of es) ⊎ (g ≡ group_of c.key) → ⊥
+    later : (g : Key) → Mem g (groups_of cs) → Mem g (groups_of es) ⊎ (g ≡ group_of c.key) → ⊥
     later g m (inl n) = apart g (inr m) n
-    later g m (inr e) = h.0 (subst (λ (x : Key). Among x (groups_of cs)) e m)
+    later g m (inr e) = h.0 (subst (λ (x : Key). Mem x (groups_of cs)) e m)
 
-seen_apart : (es cs : List Clause) → NoneSeen es cs → (g : Key) → Among g (groups_of cs) → Among g (groups_of es) → ⊥
+seen_apart : (es cs : List Clause) → NoneSeen es cs → (g : Key) → Mem g (groups_of cs) → Mem g (groups_of es) → ⊥
 seen_apart es [] h g m n = m
-seen_apart es (c ∷ cs) h g (inl e) n = h.0 (subst (λ (x : Key). Among x (groups_of es)) e n)
+seen_apart es (c ∷ cs) h g (inl e) n = h.0 (subst (λ (x : Key). Mem x (groups_of es)) e n)
 seen_apart es (c ∷ cs) h g (inr m) n = seen_apart (es ++ c ∷ []) cs h.1 g m (groups_kept es c g n)
 
 seen_distinct : (es cs : List Clause) → NoneSeen es cs → AreSingle cs
 seen_distinct es [] h = tt
 seen_distinct es (c ∷ cs) h = (λ m. seen_apart (es ++ c ∷ []) cs h.1 (group_of c.key) m (groups_last es c), seen_distinct (es ++ c ∷ []) cs h.1)
 
-none_before : (g : Key) (cs : List Clause) → Among g (groups_of cs) → Among g (groups_of []) → ⊥
+none_before : (g : Key) (cs : List Clause) → Mem g (groups_of cs) → Mem g (groups_of []) → ⊥
 none_before g cs m n = n
 
 pub single_read : (verb : Verb) (kind : Kind) (cs : List Clause) (items : List Item) → Spell cs items → AreKnown verb kind cs → AreSingle cs → first_repeated verb kind items ≡ None
@@ -227,7 +227,7 @@ value_spelled word [] (i ∷ is) s = absurd s
 value_spelled word (c ∷ cs) [] s = absurd s
 value_spelled word (c ∷ cs) (i ∷ is) s = value_step word c cs i is (bytes_eq (key_text c.key) word) refl s.0 s.1 (value_spelled word cs is s.2)
 
-key_among : (key : Key) (text : List ℕ) (cs : List Clause) → Has key text cs → Among (group_of key) (groups_of cs)
+key_among : (key : Key) (text : List ℕ) (cs : List Clause) → Has key text cs → Mem (group_of key) (groups_of cs)
 key_among key text [] h = absurd h
 key_among key text (c ∷ cs) (inl e) = inl (ap (λ (x : Clause). group_of x.key) e)
 key_among key text (c ∷ cs) (inr h) = inr (key_among key text cs h)
@@ -241,7 +241,7 @@ value_once : (key : Key) (text : List ℕ) (c : Clause) (cs : List Clause) → A
 value_once key text c cs single more (inl e) true b = ap (λ (x : Clause). Some x.value) (sym e)
 value_once key text c cs single more (inr h) true b =
     let same : key ≡ c.key = sym (one_key c.key key (bytes_same (key_text c.key) (key_text key) b)) in
-    absurd (single.0 (subst (λ (x : Key). Among (group_of x) (groups_of cs)) same (key_among key text cs h)))
+    absurd (single.0 (subst (λ (x : Key). Mem (group_of x) (groups_of cs)) same (key_among key text cs h)))
 value_once key text c cs single more (inl e) false b = absurd (let f : false ≡ true = sym b ∙ same_bytes (key_text c.key) (key_text key) (ap (λ (x : Clause). key_text x.key) (sym e)) in cc)
 value_once key text c cs single more (inr h) false b = more h
 

@@ -34,7 +34,7 @@ use Rattle.mq_sc_keys.specs.Shown.{keyword_of}
 use Rattle.mq_sc_parse.specs.Checks.{has_word}
 use Rattle.mq_sc_parse.specs.Parsing.{some_or, is_star, pattern_of, asked_or_all, number_of, settle_as, settle_of}
 use Rattle.mq_sc_grammar.specs.Spelling.{Clause}
-use Rattle.mq_sc_grammar.specs.Commands.{Among, keys_of, Says, Has, AreKnown, AreSingle, value_of, IsOnto, AreGiven, AreBare, AreAsked, IsPattern, IsNumber, IsSettle}
+use Rattle.mq_sc_grammar.specs.Commands.{Mem, keys_of, Says, Has, AreKnown, AreSingle, value_of, IsOnto, AreGiven, AreBare, AreAsked, IsPattern, IsNumber, IsSettle}
 use Rattle.mq_sc_grammar.proofs.Words.{bytes_same, same_bytes}
 use Rattle.mq_sc_grammar.proofs.Splits.{Spell, AreWhole}
 use Rattle.mq_sc_grammar.proofs.Checked.{AllKnown, known_at, first_value, once, says_decides}
@@ -270,7 +270,7 @@ only_first key text c cs is single h =
 is_this : (key : Key) (value : Option (List ℕ)) (c : Clause) (text : List ℕ) → c.key ≡ key → c.value ≡ Some text → record { key = key; value = Some text } ≡ c
 is_this key value c text k v = ap (λ (x : Key). record { key = x; value = Some text }) (sym k) ∙ ap (λ (x : Option (List ℕ)). record { key = c.key; value = x }) (sym v)
 
-pub one_of_one : (key only : Key) → Among key (only ∷ []) → key ≡ only
+pub one_of_one : (key only : Key) → Mem key (only ∷ []) → key ≡ only
 one_of_one key only (inl e) = e
 one_of_one key only (inr h) = absurd h
 

@@ -31,7 +31,7 @@ use Rattle.mq_sc_parse.specs.Asking.{settings_of, asked_of}
 use Rattle.mq_sc_parse.specs.Checks.{first_unknown, first_repeated, item_group, group_text, kind_of}
 use Rattle.mq_sc_parse.specs.Parsing.{some_or, first_span, second_span, last_span, first_word, second_word, behind, named_at, channel_name, subject_of, pattern_of, prefix_of, is_prefix, unknown_or, fault_of, unless_fault, define_of, alter_manager_of, alter_object_of, alter_of, show_objects, show_status, status_named, show_named, display_of, number_of, settle_as, settle_of, reset_of, resolve_of, command_of, checked_command, parse_of}
 use Rattle.mq_sc_grammar.specs.Spelling.{kinds_of, IsNamed, Clause, AreClauses}
-use Rattle.mq_sc_grammar.specs.Commands.{Among, AreKnown, AreSingle, IsKind, MeansAlter, MeansDisplay, Means, IsCommand}
+use Rattle.mq_sc_grammar.specs.Commands.{Mem, AreKnown, AreSingle, IsKind, MeansAlter, MeansDisplay, Means, IsCommand}
 use Rattle.mq_sc_grammar.proofs.Words.{same_bytes, key_found, verb_read, verb_found, object_read, object_found, no_verb, no_object}
 use Rattle.mq_sc_grammar.proofs.Splits.{Spell, word_kind_of, AreWhole, items_read, items_found}
 use Rattle.mq_sc_grammar.proofs.Items.{kinds_both}
@@ -107,7 +107,7 @@ module _ (name : Named) (cs : List Clause) (items : List Item) (s : Spell cs ite
 -- ---- a command that is read has whole clauses
 
 -- a command that has no keywords
-none_known : (verb : Verb) (kind : Kind) (items : List Item) → ((key : Key) → Among key (named_by verb kind ++ options_of verb kind) → ⊥) → AllKnown verb kind items → AreWhole verb kind items
+none_known : (verb : Verb) (kind : Kind) (items : List Item) → ((key : Key) → Mem key (named_by verb kind ++ options_of verb kind) → ⊥) → AllKnown verb kind items → AreWhole verb kind items
 none_known verb kind [] never known = tt
 none_known verb kind (i ∷ is) never known = absurd (never known.0.0 (key_found verb kind known.0.0 i.word known.0.1).0)
 
@@ -118,7 +118,7 @@ not_two verb kind only i j is p q e =
     absurd (let f : Some j.span ≡ None = rw same at e in cc)
 
 -- a command that has but one keyword
-one_known : (verb : Verb) (kind : Kind) (only : Key) (items : List Item) → ((key : Key) → Among key (named_by verb kind ++ options_of verb kind) → key ≡ only) → AllKnown verb kind items → first_repeated verb kind items ≡ None
+one_known : (verb : Verb) (kind : Kind) (only : Key) (items : List Item) → ((key : Key) → Mem key (named_by verb kind ++ options_of verb kind) → key ≡ only) → AllKnown verb kind items → first_repeated verb kind items ≡ None
     → ((i : Item) (is : List Item) → items ≡ i ∷ is → i.value ≡ values.Malformed → ⊥) → AreWhole verb kind items
 one_known verb kind only [] each known single whole = tt
 one_known verb kind only (i ∷ []) each known single whole = ((known.0.0, known.0.1, whole i [] refl), tt)

@@ -17,30 +17,30 @@ use Rattle.mq_sc_keys.specs.Keys.{key_text, key_in}
 use Rattle.mq_sc_keys.specs.Attributes.{named_by, options_of, or_in, key_of}
 use Rattle.mq_sc_keys.specs.Verbs.{verb_text, verb_short, object_text, object_short, takes, is_verb, is_object, verb_of, object_of}
 use Rattle.mq_sc_grammar.specs.Spelling.{IsVerbWord, IsObjectWord}
-use Rattle.mq_sc_grammar.specs.Commands.{Among}
+use Rattle.mq_sc_grammar.specs.Commands.{Mem}
 
 -- ---- lists and what is found in them
 
-find_at : {A : Type 0} (test : A → Bool) (x y : A) (xs : List A) → (find test xs ≡ Some y → (test y ≡ true) × Among y xs) → (t : Bool) → test x ≡ t → cond t (Some x) (find test xs) ≡ Some y → (test y ≡ true) × Among y (x ∷ xs)
+find_at : {A : Type 0} (test : A → Bool) (x y : A) (xs : List A) → (find test xs ≡ Some y → (test y ≡ true) × Mem y xs) → (t : Bool) → test x ≡ t → cond t (Some x) (find test xs) ≡ Some y → (test y ≡ true) × Mem y (x ∷ xs)
 find_at test x y xs more true e f =
     let same : x ≡ y = cc in
     (ap test (sym same) ∙ e, inl (sym same))
 find_at test x y xs more false e f = let m = more f in (m.0, inr m.1)
 
-pub found : {A : Type 0} (test : A → Bool) (xs : List A) (y : A) → find test xs ≡ Some y → (test y ≡ true) × Among y xs
+pub found : {A : Type 0} (test : A → Bool) (xs : List A) (y : A) → find test xs ≡ Some y → (test y ≡ true) × Mem y xs
 found test [] y f = absurd cc
 found test (x ∷ xs) y f = find_at test x y xs (λ g. found test xs y g) (test x) refl f
 
-pub among_front : {A : Type 0} (x : A) (xs ys : List A) → Among x xs → Among x (xs ++ ys)
+pub among_front : {A : Type 0} (x : A) (xs ys : List A) → Mem x xs → Mem x (xs ++ ys)
 among_front x [] ys h = absurd h
 among_front x (z ∷ xs) ys (inl e) = inl e
 among_front x (z ∷ xs) ys (inr h) = inr (among_front x xs ys h)
 
-pub among_behind : {A : Type 0} (x : A) (xs ys : List A) → Among x ys → Among x (xs ++ ys)
+pub among_behind : {A : Type 0} (x : A) (xs ys : List A) → Mem x ys → Mem x (xs ++ ys)
 among_behind x [] ys h = h
 among_behind x (z ∷ xs) ys h = inr (among_behind x xs ys h)
 
-pub among_either : {A : Type 0} (x : A) (xs ys : List A) → Among x (xs ++ ys) → Among x xs ⊎ Among x ys
+pub among_either : {A : Type 0} (x : A) (xs ys : List A) → Mem x (xs ++ ys) → Mem x xs ⊎ Mem x ys
 among_either x [] ys h = inr h
 among_either x (z ∷ xs) ys (inl e) = inl (inl e)
 among_either x (z ∷ xs) ys (inr h) = elim (among_either x xs ys h) [
@@ -215,37 +215,37 @@ key_written _ e = absurd cc
 abbrev no_key : Option Key
 no_key = None
 
-in_at : (k : Key) (ks : List Key) (key : Key) → (Among key ks → key_in ks (key_text key) ≡ Some key) → Among key (k ∷ ks) → (t : Bool) → bytes_eq (key_text k) (key_text key) ≡ t → cond t (Some k) (key_in ks (key_text key)) ≡ Some key
+in_at : (k : Key) (ks : List Key) (key : Key) → (Mem key ks → key_in ks (key_text key) ≡ Some key) → Mem key (k ∷ ks) → (t : Bool) → bytes_eq (key_text k) (key_text key) ≡ t → cond t (Some k) (key_in ks (key_text key)) ≡ Some key
 in_at k ks key more h true e = ap (λ (x : Key). Some x) (one_key k key (bytes_same (key_text k) (key_text key) e))
 in_at k ks key more (inl same) false e = absurd (let f : false ≡ true = sym e ∙ same_bytes (key_text k) (key_text key) (ap key_text (sym same)) in cc)
 in_at k ks key more (inr h) false e = more h
 
-in_read : (ks : List Key) (key : Key) → Among key ks → key_in ks (key_text key) ≡ Some key
+in_read : (ks : List Key) (key : Key) → Mem key ks → key_in ks (key_text key) ≡ Some key
 unfolding key_in
 in_read [] key h = absurd h
 in_read (k ∷ ks) key h = in_at k ks key (λ m. in_read ks key m) h (bytes_eq (key_text k) (key_text key)) refl
 
-in_found : (ks : List Key) (key : Key) (word : List ℕ) → key_in ks word ≡ Some key → Among key ks × (word ≡ key_text key)
+in_found : (ks : List Key) (key : Key) (word : List ℕ) → key_in ks word ≡ Some key → Mem key ks × (word ≡ key_text key)
 unfolding key_in
 in_found ks key word f =
     let p = found (λ (k : Key). bytes_eq (key_text k) word) ks key f in
     (p.1, sym (bytes_same (key_text key) word p.0))
 
-or_read : (named options : List Key) (key : Key) → Among key named ⊎ Among key options → (r : Option Key) → key_in named (key_text key) ≡ r → or_in options (key_text key) r ≡ Some key
+or_read : (named options : List Key) (key : Key) → Mem key named ⊎ Mem key options → (r : Option Key) → key_in named (key_text key) ≡ r → or_in options (key_text key) r ≡ Some key
 or_read named options key (inl h) r e = ap (or_in options (key_text key)) (sym e ∙ in_read named key h)
 or_read named options key (inr h) None e = in_read options key h
 or_read named options key (inr h) (Some k) e = ap (λ (x : Key). Some x) (sym (one_key key k (in_found named k (key_text key) e).1))
 
 -- a keyword that the command may have is found by its word
-pub key_read : (verb : Verb) (kind : Kind) (key : Key) → Among key (named_by verb kind ++ options_of verb kind) → key_of verb kind (key_text key) ≡ Some key
+pub key_read : (verb : Verb) (kind : Kind) (key : Key) → Mem key (named_by verb kind ++ options_of verb kind) → key_of verb kind (key_text key) ≡ Some key
 unfolding key_of
 key_read verb kind key h = or_read (named_by verb kind) (options_of verb kind) key (among_either key (named_by verb kind) (options_of verb kind) h) (key_in (named_by verb kind) (key_text key)) refl
 
-or_found : (named options : List Key) (word : List ℕ) (key : Key) (r : Option Key) → key_in named word ≡ r → or_in options word r ≡ Some key → Among key (named ++ options) × (word ≡ key_text key)
+or_found : (named options : List Key) (word : List ℕ) (key : Key) (r : Option Key) → key_in named word ≡ r → or_in options word r ≡ Some key → Mem key (named ++ options) × (word ≡ key_text key)
 or_found named options word key None e f = let p = in_found options key word f in (among_behind key named options p.0, p.1)
 or_found named options word key (Some k) e f = let p = in_found named key word (e ∙ f) in (among_front key named options p.0, p.1)
 
-pub key_found : (verb : Verb) (kind : Kind) (key : Key) (word : List ℕ) → key_of verb kind word ≡ Some key → Among key (named_by verb kind ++ options_of verb kind) × (word ≡ key_text key)
+pub key_found : (verb : Verb) (kind : Kind) (key : Key) (word : List ℕ) → key_of verb kind word ≡ Some key → Mem key (named_by verb kind ++ options_of verb kind) × (word ≡ key_text key)
 unfolding key_of
 key_found verb kind key word f = or_found (named_by verb kind) (options_of verb kind) word key (key_in (named_by verb kind) word) refl f
 

@@ -31,15 +31,7 @@ use Rattle.mq_sc_parse.specs.declared.command.Command.TheVariants as commands
 use Rattle.mq_sc_keys.specs.Shown.{keyword_of}
 use Rattle.mq_sc_parse.specs.Parsing.{channel_name, subject_of, subjects_of, prefix_of, is_prefix}
 use Rattle.mq_sc_grammar.specs.Spelling.{IsVerbWord, IsObjectWord, IsNamed, Clause, AreClauses}
-
--- x is one of these
-abbrev pub Among : {A : Type 0} → A → List A → Type 0
-Among x [] = ⊥
-Among x (y ∷ ys) = (x ≡ y) ⊎ Among x ys
-
-abbrev pub AreDistinct : {A : Type 0} → List A → Type 0
-AreDistinct [] = Unit {0}
-AreDistinct (x ∷ xs) = (Among x xs → ⊥) × AreDistinct xs
+pub use Rattle.mq_base.specs.Members.{Mem, AreDistinct}
 
 -- an answer of yes or no
 abbrev pub Tells : Bool → Type 0 → Type 0
@@ -53,11 +45,11 @@ keys_of clauses = map (λ (c : Clause). c.key) clauses
 
 -- the keyword is there, with a value or without
 abbrev pub Says : Key → List Clause → Type 0
-Says key clauses = Among key (keys_of clauses)
+Says key clauses = Mem key (keys_of clauses)
 
 -- the keyword is there with this value
 abbrev pub Has : Key → List ℕ → List Clause → Type 0
-Has key text clauses = Among (record { key = key; value = Some text }) clauses
+Has key text clauses = Mem (record { key = key; value = Some text }) clauses
 
 -- a channel is of the type that the command gives it, or of either
 abbrev pub IsChannelKind : List Clause → Kind → Type 0
@@ -80,7 +72,7 @@ IsKind nouns.Status clauses kind = kind ≡ kinds.Status
 -- each keyword is an attribute of the object, or an option of the verb
 abbrev pub AreKnown : Verb → Kind → List Clause → Type 0
 AreKnown verb kind [] = Unit {0}
-AreKnown verb kind (c ∷ cs) = Among c.key (named_by verb kind ++ options_of verb kind) × AreKnown verb kind cs
+AreKnown verb kind (c ∷ cs) = Mem c.key (named_by verb kind ++ options_of verb kind) × AreKnown verb kind cs
 
 -- no keyword comes twice, nor together with its opposite or its other spelling
 abbrev pub AreSingle : List Clause → Type 0

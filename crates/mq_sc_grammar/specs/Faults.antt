@@ -24,7 +24,7 @@ use Rattle.mq_sc_parse.specs.declared.fault.ScFault.{ScFault}
 use Rattle.mq_sc_parse.specs.declared.fault.ScFault.TheVariants as faults
 use Rattle.mq_sc_parse.specs.Parsing.{channel_name, subject_of, prefix_of, is_prefix}
 use Rattle.mq_sc_grammar.specs.Spelling.{kinds_of, IsVerbWord, IsObjectWord, IsBracketed, IsNamed}
-use Rattle.mq_sc_grammar.specs.Commands.{Among, IsPattern}
+use Rattle.mq_sc_grammar.specs.Commands.{Mem, IsPattern}
 
 -- ---- the first that is so, and none
 
@@ -128,7 +128,7 @@ IsNamePlace _ span = Unit {0}
 
 -- a keyword of the command is written so
 abbrev pub IsKeyword : Verb → Kind → Key → List ℕ → Type 0
-IsKeyword verb kind key word = Among key (named_by verb kind ++ options_of verb kind) × (word ≡ key_text key)
+IsKeyword verb kind key word = Mem key (named_by verb kind ++ options_of verb kind) × (word ≡ key_text key)
 
 abbrev pub IsUnknown : Verb → Kind → Item → Type 0
 IsUnknown verb kind i = (key : Key) → IsKeyword verb kind key i.word → ⊥

@@ -53,10 +53,10 @@ abbrev scenario : Scenario
 scenario = scenario_with []
 
 abbrev pub london : List Entry → History
-london es = record { number = 1; name = codes "LONDON"; opening = image (at_london 1) []; moment = 0; entries = es; marks = [] }
+london es = record { number = 1; name = codes "LONDON"; opening = image (at_london 1) []; length = 1; moment = 0; entries = es; marks = [] }
 
 abbrev pub paris : List Entry → History
-paris es = record { number = 2; name = codes "PARIS"; opening = image at_paris []; moment = 0; entries = es; marks = [] }
+paris es = record { number = 2; name = codes "PARIS"; opening = image at_paris []; length = 1; moment = 0; entries = es; marks = [] }
 
 abbrev pub london0 : Node
 london0 = opening_node (surroundings scenario 0) (london [])

@@ -13,3 +13,4 @@ mod Phases
 mod OneManager
 mod Waiting
 mod Parts
+mod RowsLedger

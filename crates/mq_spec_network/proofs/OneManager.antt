@@ -97,7 +97,7 @@ scenario = record {
 
 -- what was done, entry by entry
 abbrev node0 : Node
-node0 = opening_node (surroundings scenario 0) (record { number = 1; name = codes "LONDON"; opening = image [] []; moment = 0; entries = []; marks = [] })
+node0 = opening_node (surroundings scenario 0) (record { number = 1; name = codes "LONDON"; opening = image [] []; length = 1; moment = 0; entries = []; marks = [] })
 
 abbrev entry : ℕ → Actor → Call → Node → Entry
 entry stamp actor call n = entry_of stamp actor call runs items.Nothing (event stamp actor call runs items.Nothing n)
@@ -143,6 +143,7 @@ london = record {
   number = 1;
   name = codes "LONDON";
   opening = image [] [];
+  length = 1;
   moment = 0;
   entries = entries;
   marks = record { entries = 1; idle = false } ∷ record { entries = 5; idle = false } ∷ [];

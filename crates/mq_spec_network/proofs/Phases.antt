@@ -53,7 +53,7 @@ scenario = record {
 }
 
 abbrev london : List Entry → History
-london es = record { number = 1; name = codes "LONDON"; opening = image [] []; moment = 0; entries = es; marks = [] }
+london es = record { number = 1; name = codes "LONDON"; opening = image [] []; length = 1; moment = 0; entries = es; marks = [] }
 
 abbrev node0 : Node
 node0 = opening_node (surroundings scenario 0) (london [])

@@ -42,10 +42,10 @@ scenario = record {
 }
 
 abbrev london : List Entry → History
-london es = record { number = 1; name = codes "LONDON"; opening = image (at_london 1) []; moment = 0; entries = es; marks = [] }
+london es = record { number = 1; name = codes "LONDON"; opening = image (at_london 1) []; length = 1; moment = 0; entries = es; marks = [] }
 
 abbrev paris : History
-paris = record { number = 2; name = codes "PARIS"; opening = image at_paris []; moment = 0; entries = []; marks = [] }
+paris = record { number = 2; name = codes "PARIS"; opening = image at_paris []; length = 1; moment = 0; entries = []; marks = [] }
 
 abbrev node0 : Node
 node0 = opening_node (surroundings scenario 0) (london [])

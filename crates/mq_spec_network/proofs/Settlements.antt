@@ -59,8 +59,8 @@ scenario = record {
 
 abbrev histories : Pair → List History
 histories p =
-    record { number = 1; name = codes "LONDON"; opening = image (at_london 50) []; moment = 0; entries = reverse p.sent; marks = [] }
-    ∷ record { number = 2; name = codes "PARIS"; opening = image at_paris []; moment = 1767225600000; entries = reverse p.received; marks = [] } ∷ []
+    record { number = 1; name = codes "LONDON"; opening = image (at_london 50) []; length = 1; moment = 0; entries = reverse p.sent; marks = [] }
+    ∷ record { number = 2; name = codes "PARIS"; opening = image at_paris []; length = 1; moment = 1767225600000; entries = reverse p.received; marks = [] } ∷ []
 
 abbrev story : Pair → List Line
 story p = weave (histories p)

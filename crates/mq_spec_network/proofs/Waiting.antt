@@ -60,10 +60,10 @@ abbrev defined : List Object
 defined = defined_object (subjects.Local (codes "Q1")) [] ∷ []
 
 abbrev london : History
-london = record { number = 1; name = codes "LONDON"; opening = image defined []; moment = 0; entries = []; marks = [] }
+london = record { number = 1; name = codes "LONDON"; opening = image defined []; length = 1; moment = 0; entries = []; marks = [] }
 
 abbrev paris : History
-paris = record { number = 2; name = codes "PARIS"; opening = image [] []; moment = 0; entries = []; marks = [] }
+paris = record { number = 2; name = codes "PARIS"; opening = image [] []; length = 1; moment = 0; entries = []; marks = [] }
 
 abbrev node0 : Node
 node0 = opening_node (surroundings scenario 0) london

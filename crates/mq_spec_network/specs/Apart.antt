@@ -17,7 +17,7 @@ use Rattle.mq_history.specs.declared.story.Apart.{Apart}
 use Rattle.mq_history.specs.declared.story.Apart.TheVariants as cases
 use Rattle.mq_spec_state.specs.State.{Plain}
 use Rattle.mq_spec_state.specs.Reads.{stored, sender_data, receiver_data}
-use Rattle.mq_spec_agents.specs.Agents.{sender_or, receiver_or}
+use Rattle.mq_sync.specs.Settlement.{sender_or, receiver_or}
 use Rattle.mq_spec_network.specs.Given.{name_at}
 use Rattle.mq_spec_network.specs.Standing.{standing_in, opening_managers}
 

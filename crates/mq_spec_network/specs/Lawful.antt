@@ -1,8 +1,5 @@
 -- When the histories of a scenario's managers make a lawful story.
 use Rattle.std.specs.Prelude.{◌≡◌, ◌<◌, ℕ, Bool, false, List, [], ◌∷◌, ◌++◌, Option, Some, None, length, slice_get}
-use Rattle.mq_history.specs.declared.calls.Actor.{Actor}
-use Rattle.mq_history.specs.declared.calls.Call.TheVariants as calls
-use Rattle.mq_history.specs.declared.calls.Entry.{Entry}
 use Rattle.mq_history.specs.declared.history.History.{History}
 use Rattle.mq_history.specs.declared.history.Mark.{Mark}
 use Rattle.mq_history.specs.declared.scenario.CableLine.{CableLine}
@@ -12,8 +9,6 @@ use Rattle.mq_history.specs.declared.scenario.Scenario.{Scenario}
 use Rattle.mq_history.specs.declared.scenario.Step.{Step}
 use Rattle.mq_history.specs.declared.scenario.Step.TheVariants as steps
 use Rattle.mq_spec_node.specs.Node.{Node}
-use Rattle.mq_spec_node.specs.Deeds.{Deed}
-use Rattle.mq_spec_node.specs.Happens.{trigger_deed}
 use Rattle.mq_spec_node.specs.Replays.{Surroundings, Replays, TriggersStand, NoneForeign, opening_node}
 use Rattle.mq_spec_node.specs.Scripts.{AreLines, fresh}
 use Rattle.mq_spec_network.specs.Story.{entries_at}

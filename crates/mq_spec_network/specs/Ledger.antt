@@ -43,7 +43,7 @@ use Rattle.mq_history.specs.declared.calls.Chance.TheVariants as chances
 use Rattle.mq_history.specs.declared.calls.Reply.{Reply}
 use Rattle.mq_history.specs.declared.calls.Reply.TheVariants as replies
 use Rattle.mq_history.specs.declared.calls.Entry.{Entry}
-use Rattle.mq_history.specs.declared.opening.StoredQueue.{StoredQueue}
+use Rattle.mq_calls.specs.declared.image.Shelf.{Shelf}
 use Rattle.mq_history.specs.declared.story.ManagerPlaces.{ManagerPlaces}
 use Rattle.mq_spec_state.specs.Reads.{connection_at, handle_at, is_persistent}
 use Rattle.mq_spec_state.specs.Changes.{lane_of, new_row, change_connection}
@@ -52,7 +52,7 @@ use Rattle.mq_spec_manager.specs.Get.{is_destructive}
 use Rattle.mq_spec_manager.specs.Commands.{definitions_after}
 use Rattle.mq_spec_manager.specs.Triggers.{trigger_message}
 use Rattle.mq_spec_manager.specs.Stops.{last_moment}
-use Rattle.mq_spec_agents.specs.Agents.{names_of, bare_if, dead_message}
+use Rattle.mq_spec_agents.specs.Words.{names_of, bare_if, dead_message}
 use Rattle.mq_spec_network.specs.Story.{Line}
 
 -- a call whose write was stopped, and the moment at which it was made
@@ -108,11 +108,11 @@ abbrev pub with_users : ℕ → (Users → Users) → Ledger → Ledger
 with_users m f l = record l { users = change_at m f l.users }
 
 -- To place: the row stands last in its lane, on a queue by name.
-abbrev pub put_on : ℕ → Message → StoredQueue → StoredQueue
-put_on lane m q = record q { rows = insert_row (new_row lane (q.arrivals + 1) m) q.rows; arrivals = q.arrivals + 1 }
+abbrev pub put_on : ℕ → Message → Shelf → Shelf
+put_on lane m q = record q { rows = insert_row (new_row lane 0 m) q.rows }
 
-abbrev pub put_in : List ℕ → ℕ → Message → List StoredQueue → List StoredQueue
-put_in name lane m [] = put_on lane m (record { name = name; rows = []; arrivals = 0 }) ∷ []
+abbrev pub put_in : List ℕ → ℕ → Message → List Shelf → List Shelf
+put_in name lane m [] = put_on lane m (record { name = name; rows = [] }) ∷ []
 put_in name lane m (q ∷ qs) = if bytes_eq name q.name then put_on lane m q ∷ qs else q ∷ put_in name lane m qs
 
 abbrev pub place_at : List ℕ → Message → ManagerPlaces → ManagerPlaces
@@ -125,11 +125,11 @@ place m name message l = with_places m (place_at name message) l
 abbrev pub is_one_of : List Ident → Row → Bool
 is_one_of idents row = list_any (same_ident row.message.ident) idents
 
-abbrev pub leave_queues : (Row → Bool) → List StoredQueue → List StoredQueue
-leave_queues stays qs = map (λ (q : StoredQueue). record q { rows = keep stays q.rows }) qs
+abbrev pub leave_queues : (Row → Bool) → List Shelf → List Shelf
+leave_queues stays qs = map (λ (q : Shelf). record q { rows = keep stays q.rows }) qs
 
 abbrev pub idents_at : ManagerPlaces → List Ident
-idents_at p = flat_map (λ (q : StoredQueue). map (λ (row : Row). row.message.ident) q.rows) p.queues
+idents_at p = flat_map (λ (q : Shelf). map (λ (row : Row). row.message.ident) q.rows) p.queues
 
 abbrev pub placed_idents : Ledger → List Ident
 placed_idents l = flat_map idents_at l.places
@@ -301,7 +301,7 @@ take_all_gone m [] l = l
 take_all_gone m (d ∷ ds) l = take_all_gone m ds (take_gone m d l)
 
 -- A handler's move: the ident goes from its place here to the queue of the rule's target, with its header or without.
-abbrev pub row_in : Ident → List StoredQueue → Option Row
+abbrev pub row_in : Ident → List Shelf → Option Row
 row_in ident [] = None
 row_in ident (q ∷ qs) = elim (find (has_ident ident) q.rows) as (λ r. Option Row) [ None ↦ row_in ident qs | Some row ↦ Some row ]
 
@@ -477,7 +477,7 @@ ledger l [] = l
 ledger l (x ∷ xs) = ledger (posted x.manager x.entry x.entry.reply l) xs
 
 -- the rows of a queue
-abbrev pub rows_in : List ℕ → List StoredQueue → List Row
+abbrev pub rows_in : List ℕ → List Shelf → List Row
 rows_in name [] = []
 rows_in name (q ∷ qs) = if bytes_eq name q.name then q.rows else rows_in name qs
 

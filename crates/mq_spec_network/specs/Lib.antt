@@ -12,4 +12,3 @@ pub mod Tasks
 pub mod Steps
 pub mod Lawful
 pub mod Promised
-pub mod Openings

@@ -1,16 +1,20 @@
 -- What is promised of a lawful story of a joined network.
-use Rattle.std.specs.Prelude.{◌≡◌, ℕ, false, List, ◌++◌, flat_map, map}
+use Rattle.std.specs.Prelude.{◌≡◌, ℕ, false, List, ◌++◌, Some, slice_get, flat_map, map}
 use Rattle.mq_message.specs.declared.message.Ident.{Ident}
 use Rattle.mq_queue.specs.declared.row.Row.{Row}
 use Rattle.mq_queue.specs.Rows.{same_ident}
 use Rattle.mq_history.specs.declared.history.History.{History}
 use Rattle.mq_history.specs.declared.scenario.Scenario.{Scenario}
+use Rattle.mq_history.specs.Scenarios.{IsScenario}
 use Rattle.mq_spec_state.specs.State.{Plain, Queue}
+use Rattle.mq_spec_state.specs.Recovery.{IsImage}
 use Rattle.mq_spec_network.specs.Story.{Line, Chain, IsStory}
 use Rattle.mq_spec_network.specs.Ledger.{ledger, ledger_rows}
 use Rattle.mq_spec_network.specs.Standing.{standing, standing_in, managers_at, opening_ledger, rows_told}
 use Rattle.mq_spec_network.specs.Conflict.{NoConflict}
 use Rattle.mq_spec_network.specs.Order.{AllInOrder}
+use Rattle.mq_spec_network.specs.Apart.{IsJoined}
+use Rattle.mq_spec_network.specs.Lawful.{IsLawful, AreOwn}
 
 -- no ident comes twice
 abbrev pub AreDistinct : List Ident → Type 0
@@ -31,6 +35,19 @@ pub record Holds (s : Scenario) (hs : List History) (p : List Line) : Type 0 whe
   pub got_once : AreDistinct (ledger (opening_ledger s hs) p).got
   pub order : AllInOrder (opening_ledger s hs) p
 
+-- each history begins with an image of a log
+abbrev pub AreImages : List History → Type 0
+AreImages hs = (m : ℕ) (h : History) → slice_get hs m ≡ Some h → IsImage h.opening
+
+-- What it is promised of: a lawful story of a scenario, begun with images of logs that belong together, over disks that tell
+-- their bytes.
+pub record Premises (s : Scenario) (hs : List History) : Type 0 where
+  pub scenario : IsScenario s
+  pub openings : AreImages hs
+  pub joined : IsJoined s hs
+  pub lawful : IsLawful s hs
+  pub own : AreOwn hs
+
 -- This holds of each prefix in which no operator's settlement is at odds with its receiver.
 abbrev pub Promised : Scenario → List History → Type 0
-Promised s hs = (story p rest : List Line) → IsStory hs story → story ≡ p ++ rest → NoConflict s hs p → Holds s hs p
+Promised s hs = Premises s hs → (story p rest : List Line) → IsStory hs story → story ≡ p ++ rest → NoConflict s hs p → Holds s hs p

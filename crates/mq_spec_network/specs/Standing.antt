@@ -11,7 +11,7 @@ use Rattle.mq_sync.specs.Units.{no_unit, same_unit}
 use Rattle.mq_history.specs.declared.scenario.CableLine.{CableLine}
 use Rattle.mq_history.specs.declared.scenario.Scenario.{Scenario}
 use Rattle.mq_history.specs.declared.history.History.{History}
-use Rattle.mq_history.specs.declared.opening.StoredQueue.{StoredQueue}
+use Rattle.mq_calls.specs.declared.image.Shelf.{Shelf}
 use Rattle.mq_history.specs.declared.story.ManagerPlaces.{ManagerPlaces}
 use Rattle.mq_spec_state.specs.State.{Plain, Queue}
 use Rattle.mq_spec_state.specs.Reads.{stored, sender_data, receiver_data, in_doubt_of}
@@ -92,8 +92,8 @@ abbrev pub opening_managers : Scenario → List History → List Plain
 opening_managers s hs = managers_at s [] hs
 
 -- The ledger begins with the standing rows of the first starts.
-abbrev pub stored_standing : Scenario → List Plain → Plain → Queue → StoredQueue
-stored_standing s ps p q = record { name = q.name; rows = standing_in s ps p q.rows; arrivals = q.arrivals }
+abbrev pub stored_standing : Scenario → List Plain → Plain → Queue → Shelf
+stored_standing s ps p q = record { name = q.name; rows = standing_in s ps p q.rows }
 
 abbrev pub places_of : Scenario → List Plain → Plain → ManagerPlaces
 places_of s ps p = record { name = p.given.name; definitions = p.definitions; queues = map (stored_standing s ps p) p.queues }

@@ -2,6 +2,7 @@
 use Rattle.std.specs.Prelude.{ℕ, ◌≡◌, ◌<◌, ◌⊎◌, nat_lt, Bool, List, [], ◌∷◌, Option, Some, None, slice_get, ◌==◌, ◌&&◌, ◌||◌, if◌then◌else◌, suc}
 use Rattle.mq_history.specs.declared.calls.Entry.{Entry}
 use Rattle.mq_history.specs.declared.history.History.{History}
+pub use Rattle.mq_base.specs.Members.{Mem, Chain}
 
 -- an entry of the story: the manager's place in the scenario, and its entry
 pub record Line : Type 0 where
@@ -11,15 +12,6 @@ pub record Line : Type 0 where
 -- by Lamport's clock: the smaller stamp first, of equal ones the smaller manager
 abbrev pub Earlier : Line → Line → Type 0
 Earlier x y = (x.entry.stamp < y.entry.stamp) ⊎ ((x.entry.stamp ≡ y.entry.stamp) × (x.manager < y.manager))
-
-abbrev pub Mem : {A : Type 0} → A → List A → Type 0
-Mem x [] = ⊥
-Mem x (y ∷ ys) = (x ≡ y) ⊎ Mem x ys
-
--- each stands in this relation to all that come later
-abbrev pub Chain : {A : Type 0} → (A → A → Type 0) → List A → Type 0
-Chain R [] = Unit {0}
-Chain R (x ∷ xs) = ((y : _) → Mem y xs → R x y) × Chain R xs
 
 abbrev pub Ranked : List Line → Type 0
 Ranked xs = Chain Earlier xs

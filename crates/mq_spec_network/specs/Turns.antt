@@ -15,7 +15,7 @@ use Rattle.mq_history.specs.declared.scenario.Scenario.{Scenario}
 use Rattle.mq_sender.specs.declared.state.SenderState.{SenderState}
 use Rattle.mq_sender.specs.declared.state.SenderState.TheVariants as states
 use Rattle.mq_spec_state.specs.Reads.{is_up}
-use Rattle.mq_spec_agents.specs.Agents.{stock}
+use Rattle.mq_spec_agents.specs.Words.{stock}
 use Rattle.mq_spec_node.specs.Node.{Node, SenderEnd, ReceiverEnd, sender_end, receiver_end}
 use Rattle.mq_spec_node.specs.Deeds.{Deed}
 use Rattle.mq_spec_node.specs.Happens.{deed_of}

@@ -13,7 +13,7 @@ use Rattle.mq_objects.specs.declared.command.Subject.TheVariants as subjects
 use Rattle.mq_history.specs.declared.acts.Act.TheVariants as acts
 use Rattle.mq_history.specs.declared.calls.Actor.TheVariants as actors
 use Rattle.mq_history.specs.declared.calls.Call.TheVariants as calls
-use Rattle.mq_history.specs.declared.opening.StoredQueue.{StoredQueue}
+use Rattle.mq_calls.specs.declared.image.Shelf.{Shelf}
 use Rattle.mq_rules.specs.declared.rule.Rule.{Rule}
 use Rattle.mq_rules.specs.declared.rule.Table.{Table}
 use Rattle.mq_rules.specs.declared.rule.Action.TheVariants as actions
@@ -24,7 +24,7 @@ use Rattle.mq_rules.specs.declared.rule.Wait.TheVariants as waits
 use Rattle.mq_spec_state.specs.Reads.{stored}
 use Rattle.mq_spec_manager.specs.Commands.{defined_object}
 use Rattle.mq_spec_manager.proofs.Script.{script_md, ident_numbers}
-use Rattle.mq_spec_agents.specs.Agents.{dead_message}
+use Rattle.mq_spec_agents.specs.Words.{dead_message}
 use Rattle.mq_spec_node.specs.Node.{Node}
 use Rattle.mq_spec_node.specs.Deeds.{Deed}
 use Rattle.mq_spec_node.specs.Happens.{event, deed_of}
@@ -53,13 +53,16 @@ rules = record { input_q = []; retry_interval = 60; wait = waits.No; rules = of_
 abbrev given : List Object
 given = defined_object (subjects.Local (codes "DLQ")) [] ∷ defined_object (subjects.Local (codes "FULLQ")) (settings.MaxDepth 0 ∷ []) ∷ []
 
-abbrev letters : StoredQueue
-letters = record { name = codes "DLQ"; rows = record { place = record { lane = 9; arrival = 1 }; message = letter; by = None } ∷ []; arrivals = 1 }
+abbrev shelf : List ℕ → List Row → Shelf
+shelf name rows = record { name = name; rows = rows }
+
+abbrev letters : List Shelf
+letters = shelf (codes "DLQ") (record { place = record { lane = 9; arrival = 0 }; message = letter; by = None } ∷ []) ∷ shelf (codes "FULLQ") [] ∷ []
 
 abbrev handled : Node
 handled = first_node (record { number = 2; name = codes "PARIS"; log_max = 268435456 })
     (record { ends = []; handlers = record { number = 0; table = rules; tried = [] } ∷ []; monitors = []; scripts = [] })
-    (record (image given (codes "DLQ")) { queues = letters ∷ [] }) 0
+    (record (image given (codes "DLQ")) { shelves = letters }) 1 0
 
 -- a turn, and whether there is one
 abbrev turn : Node → Node
@@ -107,3 +110,28 @@ discarded = refl
 idle_then : turns (turn (turn (later (turn handled)))) ≡ 0
 unfolding dlh_bytes dlh_in dlh_read long_bytes long_of put_date put_time reached
 idle_then = refl
+
+-- One rule that retries once, to a queue that isn't there: the first turn is its last try, the second ignores the row.
+abbrev retries_once : Rule
+retries_once = record { conditions = conditions.Number numbers.Reason (pos 2053) ∷ []; action = actions.Retry; retries = 1 }
+
+abbrev retried : Node
+retried = first_node (record { number = 2; name = codes "PARIS"; log_max = 268435456 })
+    (record { ends = []; handlers = record { number = 0; table = record rules { rules = retries_once ∷ [] }; tried = [] } ∷ []; monitors = []; scripts = [] })
+    (record (image given (codes "DLQ")) { shelves = letters }) 1 0
+
+last_try : turns retried ≡ 1
+unfolding dlh_bytes dlh_in dlh_read long_bytes long_of put_date put_time reached
+last_try = refl
+
+then_ignored : turns (turn retried) ≡ 1
+unfolding dlh_bytes dlh_in dlh_read long_bytes long_of put_date put_time reached
+then_ignored = refl
+
+idle_behind : turns (turn (turn retried)) ≡ 0
+unfolding dlh_bytes dlh_in dlh_read long_bytes long_of put_date put_time reached
+idle_behind = refl
+
+still_in_queue : dead_rows (turn (turn retried)) ≡ (1 ∷ 1 ∷ 1 ∷ []) ∷ []
+unfolding dlh_bytes dlh_in dlh_read long_bytes long_of put_date put_time reached
+still_in_queue = refl

@@ -1,3 +1,7 @@
 pub mod Pair
-mod Turns
-mod Letters
+pub mod Turns
+pub mod Letters
+pub mod RowsRestarts
+pub mod RowsBatches
+pub mod RowsWaits
+pub mod RowsImages

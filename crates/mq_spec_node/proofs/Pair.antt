@@ -21,10 +21,11 @@ use Rattle.mq_history.specs.declared.calls.Call.TheVariants as calls
 use Rattle.mq_history.specs.declared.calls.Chance.{Chance}
 use Rattle.mq_history.specs.declared.calls.Chance.TheVariants as chances
 use Rattle.mq_history.specs.declared.calls.Entry.{Entry}
-use Rattle.mq_history.specs.declared.opening.Image.{Image}
+use Rattle.mq_calls.specs.declared.image.Image.{Image}
 use Rattle.mq_receiver.specs.States.{receiver_of}
 use Rattle.mq_sender.specs.States.{new_sender}
 use Rattle.mq_spec_manager.specs.Commands.{defined_object}
+use Rattle.mq_spec_manager.proofs.Script.{image_of}
 use Rattle.mq_spec_node.specs.Node.{Node, Own}
 use Rattle.mq_spec_node.specs.Node.ChannelEnd.{Sends, Receives}
 use Rattle.mq_spec_node.specs.Deeds.{Deed, Done}
@@ -35,14 +36,7 @@ abbrev pub channel : List ℕ
 channel = codes "LON.PAR"
 
 abbrev pub image : List Object → List ℕ → Image
-image given dead = record {
-  definitions = record { objects = given; manager = record new_manager { dead_letter_queue = dead } };
-  queues = [];
-  senders = [];
-  receivers = [];
-  incarnation = 1;
-  length = 64;
-}
+image given dead = image_of (record { objects = given; manager = record new_manager { dead_letter_queue = dead } })
 
 -- LONDON, with a transmission queue and a sender for PARIS
 abbrev pub sender_kind : ℕ → Object
@@ -66,10 +60,10 @@ abbrev pub paris_own : Own
 paris_own = record { ends = Receives (record { cable = 0; channel = channel; partner = codes "LONDON"; machine = receiver_of None; kept = [] }) ∷ []; handlers = []; monitors = []; scripts = [] }
 
 abbrev pub london : ℕ → Node
-london batch = first_node (record { number = 1; name = codes "LONDON"; log_max = 268435456 }) london_own (image (at_london batch) []) 0
+london batch = first_node (record { number = 1; name = codes "LONDON"; log_max = 268435456 }) london_own (image (at_london batch) []) 1 0
 
 abbrev pub paris : List Object → List ℕ → Node
-paris given dead = first_node (record { number = 2; name = codes "PARIS"; log_max = 268435456 }) paris_own (image given dead) 1767225600000
+paris given dead = first_node (record { number = 2; name = codes "PARIS"; log_max = 268435456 }) paris_own (image given dead) 1 1767225600000
 
 -- Both, with what lies between them, and their entries, the latest first.
 pub record Pair : Type 0 where

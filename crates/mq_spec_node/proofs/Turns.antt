@@ -16,19 +16,19 @@ use Rattle.mq_spec_node.proofs.Pair.{Pair, pair, london, paris, at_paris, channe
 abbrev output_alone : Open
 output_alone = record { input = inputs.No; browse = false; output = true }
 
-abbrev script : Call → Pair → Pair
+abbrev pub script : Call → Pair → Pair
 script call p = at_sender (actors.Script 0) call runs p
 
 abbrev put : Call
 put = calls.Mqput (connection 1) (handle 1) plain_md (codes "HELLO") false
 
-abbrev begun : ℕ → Pair
+abbrev pub begun : ℕ → Pair
 begun batch = script (calls.Mqopen (connection 1) (codes "R1") [] output_alone) (script (calls.Mqconn [] script_appl) (operate start (pair (london batch) (paris at_paris []))))
 
 abbrev one : Pair
 one = rounds 20 (script put (begun 1))
 
-abbrev idents : List ℕ → Node → List (List ℕ)
+abbrev pub idents : List ℕ → Node → List (List ℕ)
 idents name n = map (λ (row : Row). ident_numbers row.message.ident) (stored name n.manager).rows
 
 -- One message: twelve turns, and then no more.

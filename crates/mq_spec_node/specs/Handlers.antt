@@ -24,7 +24,7 @@ use Rattle.mq_spec_state.specs.Reads.{stored}
 use Rattle.mq_spec_state.specs.Steps.{Step}
 use Rattle.mq_spec_state.specs.Steps.Step.{Refuse, Do}
 use Rattle.mq_spec_manager.specs.Heads.{is_dead}
-use Rattle.mq_spec_agents.specs.Agents.{move_row, discard}
+use Rattle.mq_spec_agents.specs.Words.{move_row, discard}
 use Rattle.mq_spec_node.specs.Node.{Node, Own, Handler, Tried, with_handler}
 use Rattle.mq_spec_node.specs.Deeds.{Deed, told, parts_of}
 

@@ -32,7 +32,7 @@ use Rattle.mq_history.specs.declared.calls.Chance.{Chance}
 use Rattle.mq_history.specs.declared.calls.Chance.TheVariants as chances
 use Rattle.mq_history.specs.declared.calls.Reply.{Reply}
 use Rattle.mq_history.specs.declared.calls.Reply.TheVariants as replies
-use Rattle.mq_history.specs.declared.opening.Image.{Image}
+use Rattle.mq_calls.specs.declared.image.Image.{Image}
 use Rattle.mq_spec_state.specs.State.{Plain, Noted, Running}
 use Rattle.mq_spec_state.specs.State.Running.{Up, Down}
 use Rattle.mq_spec_state.specs.Steps.{Step, Part, Outcome, After}
@@ -44,7 +44,8 @@ use Rattle.mq_spec_manager.specs.Get.{mqget}
 use Rattle.mq_spec_manager.specs.Units.{mqcmit, mqback, mqdisc}
 use Rattle.mq_spec_manager.specs.Commands.{command}
 use Rattle.mq_spec_manager.specs.Triggers.{first_due, trigger_turn}
-use Rattle.mq_spec_manager.specs.Stops.{stop, restart, cut, advance_clock, CanBeKept, CanReturn, restarted as restarted_plain}
+use Rattle.mq_spec_state.specs.Images.{lasting, raised}
+use Rattle.mq_spec_manager.specs.Stops.{stop, restart, cut, advance_clock, redone_if, grown, started_need, calls_of_restart, Spent, CanBeKept, CanReturn}
 use Rattle.mq_spec_node.specs.Node.{Node, Own, Monitor, Handler, SenderEnd, ReceiverEnd, sender_end, receiver_end, handler_in, change_monitor}
 use Rattle.mq_spec_node.specs.Deeds.{Deed, Done, told, parts_of, mqi_deed, ended_deed, node_of, own_at_rest, begun_anew, quiet, done, CanCome}
 use Rattle.mq_spec_node.specs.Senders.{sender_deed, timeout_deed}
@@ -193,18 +194,18 @@ abbrev pub restarted : After RestartFault Kept → Node → Done
 restarted a n = restarted_as a.outcome a.delta a.next n
 
 -- The restart of an image that is none of those which the history allows goes on from it.
-abbrev pub restarted_from : Image → ℕ → Node → Done
-restarted_from image left n = quiet (replies.Acted acted.Done) [] (begun_anew (resumed image left n.manager) n.own)
+abbrev pub restarted_from : Image → (length left : ℕ) → Node → Done
+restarted_from image length left n = quiet (replies.Acted acted.Done) [] (begun_anew (resumed image length left n.manager) n.own)
 
 abbrev pub restart_event : Chance → Node → Done
 restart_event (chances.Call choice) n = nothing n
 restart_event (chances.Restart choice) n = restarted (restart choice n.manager) n
-restart_event (chances.Foreign image left) n = restarted_from image left n
+restart_event (chances.Foreign image length left) n = restarted_from image length left n
 
 abbrev pub choice_event : Chance → Option Deed → Node → Done
 choice_event (chances.Call choice) d n = done_or d choice n
 choice_event (chances.Restart choice) d n = nothing n
-choice_event (chances.Foreign image left) d n = nothing n
+choice_event (chances.Foreign image length left) d n = nothing n
 
 -- The event, at this stamp, by this actor, with what came from outside and what waited on the cable.
 abbrev pub event : ℕ → Actor → Call → Chance → Seen → Node → Done
@@ -219,35 +220,34 @@ abbrev pub IsDeed : Option Deed → Chance → Node → Type 0
 IsDeed None chance n = ⊥
 IsDeed (Some d) (chances.Call choice) n = CanCome d choice n
 IsDeed (Some d) (chances.Restart choice) n = ⊥
-IsDeed (Some d) (chances.Foreign image left) n = ⊥
+IsDeed (Some d) (chances.Foreign image length left) n = ⊥
 
 abbrev pub RunsAlone : Chance → Type 0
 RunsAlone (chances.Call choice) = choice ≡ Runs
 RunsAlone (chances.Restart choice) = ⊥
-RunsAlone (chances.Foreign image left) = ⊥
+RunsAlone (chances.Foreign image length left) = ⊥
 
 -- a restart that finds no memory is no event
 abbrev pub IsToldReturn : Return → Type 0
 IsToldReturn (Fails faults.NoMemory in_write left) = ⊥
 IsToldReturn _ = Unit {0}
 
--- An image is foreign where it is none of those which the manager's history allows: with the noted write or without it, and
+-- A log is foreign where it is none of those which the manager's history allows: with the noted write or without it, and
 -- with any of the Started records of restarts that were stopped.
-abbrev pub IsForeign : Image → Option Noted → ℕ → Plain → Type 0
-IsForeign image noted starts p = (kept : Bool) (started : ℕ) → CanBeKept kept noted → started ≤ starts
-    → resumed image (restarted_plain kept started noted p).log.armed p ≢ restarted_plain kept started noted p
+pub record IsAllowed (image : Image) (length : ℕ) (kept : Bool) (started : ℕ) (noted : Option Noted) (p : Plain) : Type 0 where
+  pub read : raised 0 image ≡ raised started (lasting (redone_if kept noted p))
+  pub long : length + started_need p.given ≡ (grown started (redone_if kept noted p)).length
 
--- so many device calls may be left before an armed cut that isn't reached: a restart makes at most this many
-abbrev pub CanBeLeft : ℕ → ℕ → Type 0
-CanBeLeft left armed = (left ≤ armed) × (0 < armed → 0 < left) × (armed ≤ left + most_restart_calls)
+abbrev pub IsForeign : Image → (length : ℕ) → Option Noted → (starts : ℕ) → Plain → Type 0
+IsForeign image length noted starts p = (kept : Bool) (started : ℕ) → CanBeKept kept noted → started ≤ starts → IsAllowed image length kept started noted p → ⊥
 
 -- A restart of a manager that is up is refused and is nothing else; one of a manager that is down ends as it can.
 abbrev pub IsReturn : Chance → Running → Plain → Type 0
 IsReturn (chances.Call choice) running p = ⊥
 IsReturn (chances.Restart choice) Up p = choice ≡ Fails faults.Up false p.log.armed
 IsReturn (chances.Restart choice) (Down noted starts) p = CanReturn choice noted starts p.log.armed × IsToldReturn choice
-IsReturn (chances.Foreign image left) Up p = ⊥
-IsReturn (chances.Foreign image left) (Down noted starts) p = IsForeign image noted starts p × CanBeLeft left p.log.armed
+IsReturn (chances.Foreign image length left) Up p = ⊥
+IsReturn (chances.Foreign image length left) (Down noted starts) p = IsForeign image length noted starts p × Spent calls_of_restart most_restart_calls p.log.armed left
 
 abbrev pub IsEvent : ℕ → Actor → Call → Chance → Seen → Node → Type 0
 IsEvent stamp actor (calls.Act acts.Crash) chance seen n = RunsAlone chance

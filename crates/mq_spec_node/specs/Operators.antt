@@ -33,11 +33,11 @@ use Rattle.mq_spec_state.specs.State.{Plain}
 use Rattle.mq_spec_state.specs.Reads.{is_up, sender_data, receiver_data, in_doubt_of}
 use Rattle.mq_spec_state.specs.Steps.{Step, Test, Part, when, refusal}
 use Rattle.mq_spec_state.specs.Steps.Step.{Refuse, Do}
-use Rattle.mq_spec_agents.specs.Agents.{seize, leave, release_batch, harden, set_bound, sender_or, receiver_or}
+use Rattle.mq_spec_agents.specs.Words.{seize, leave, release_batch, harden, set_bound}
+use Rattle.mq_sync.specs.Settlement.{is_commit, sender_or, receiver_or}
 use Rattle.mq_spec_node.specs.Node.{Node, Own, ChannelEnd, SenderEnd, ReceiverEnd, sender_named, receiver_named, with_end}
 use Rattle.mq_spec_node.specs.Node.ChannelEnd.{Sends, Receives}
 use Rattle.mq_spec_node.specs.Deeds.{Deed, told, parts_of}
-use Rattle.mq_spec_node.specs.Senders.{is_commit}
 
 abbrev pub refused : OpRefusal → Own → Deed
 refused reason own = told (replies.Acted (acted.Op reason)) own

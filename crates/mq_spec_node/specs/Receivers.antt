@@ -4,7 +4,7 @@ use Rattle.std.specs.List.{list_any}
 use Rattle.std.specs.Option.{option_map}
 use Rattle.mq_codes.specs.declared.reason.Reason.{Reason}
 use Rattle.mq_codes.specs.Numbers.{number}
-use Rattle.mq_message.specs.declared.message.Ident.{Ident}
+use Rattle.mq_message.specs.declared.message.Dest.{Dest}
 use Rattle.mq_message.specs.declared.message.Message.{Message}
 use Rattle.mq_queue.specs.Rows.{same_ident}
 use Rattle.mq_objects.specs.declared.object.ChannelKind.TheVariants as kinds
@@ -24,28 +24,22 @@ use Rattle.mq_receiver.specs.declared.turns.ReceiverOut.TheVariants as outs
 use Rattle.mq_receiver.specs.declared.state.Receiver.{Receiver}
 use Rattle.mq_receiver.specs.States.{owed_frame}
 use Rattle.mq_receiver.specs.Table.{receiver_next}
-use Rattle.mq_receiver.specs.After.{receiver_after, bound_by, last_by}
+use Rattle.mq_receiver.specs.After.{receiver_after, kept_messages, bound_by, last_by}
 use Rattle.mq_spec_state.specs.State.{Plain}
 use Rattle.mq_spec_state.specs.Steps.{Step, Part}
 use Rattle.mq_spec_state.specs.Steps.Step.{Refuse, Do}
-use Rattle.mq_spec_agents.specs.Agents.{harden, set_bound, receive, is_present, standing_at}
+use Rattle.mq_spec_agents.specs.Words.{harden, set_bound, receive, messages_taken, is_receiver}
 use Rattle.mq_spec_node.specs.Node.{Node, Own, ReceiverEnd, with_end}
 use Rattle.mq_spec_node.specs.Node.ChannelEnd.{Receives}
 use Rattle.mq_spec_node.specs.Deeds.{Deed, parts_of, turned}
 
 -- the end's definition is there
-abbrev pub is_receiver : Option Channel → Bool
-is_receiver None = false
-is_receiver (Some c) = elim c.kind as (λ k. Bool) [ kinds.Sender batch retry xmitq ↦ false | kinds.Receiver dead ↦ true ]
-
 abbrev pub is_receiver_defined : List ℕ → Definitions → Bool
 is_receiver_defined channel d = is_receiver (channel_of channel d)
 
--- The messages that a receiver keeps: message 1 begins a unit, the next ones come behind it.
+-- The messages that a receiver keeps, each with the names that came with it.
 abbrev pub kept_kind : FrameKind → List Message → List Message
-kept_kind (Msg n index number dest message) kept =
-    if index == 1 then record message { route = Some dest } ∷ [] else kept ++ record message { route = Some dest } ∷ []
-kept_kind _ kept = kept
+kept_kind k kept = kept_messages (λ (dest : Dest) (message : Message). record message { route = Some dest }) k kept
 
 abbrev pub kept_seen : Seen → List Message → List Message
 kept_seen (items.Frame f) kept = kept_kind f.kind kept
@@ -63,22 +57,12 @@ close_parts e p = parts_of (harden e.channel (notes.Closed e.machine.session) p)
 abbrev pub bind_parts : ReceiverEnd → Receiver → Plain → List Part
 bind_parts e bound p = parts_of (harden e.channel (notes.Bound e.partner bound.session bound.last) p) ++ parts_of (set_bound e.channel true p)
 
--- A message of a batch that stands here otherwise is kept out, and so is the second one of an ident.
-abbrev pub taken_behind : List Ident → List Message → Plain → List Message
-taken_behind taken [] p = []
-taken_behind taken (m ∷ ms) p =
-    if is_present (standing_at m.ident p) || list_any (same_ident m.ident) taken then taken_behind taken ms p
-    else m ∷ taken_behind (m.ident ∷ taken) ms p
-
-abbrev pub taken_in : List Message → Plain → List Message
-taken_in ms p = taken_behind [] ms p
-
 -- the batch is placed; or it is refused, its session closed, and ERR owed
 abbrev pub place_deed : ReceiverEnd → Luw → Seen → Step Reason (Unit {0}) → Node → Deed
 place_deed e unit seen (Refuse reason) n =
     turned (close_parts e n.manager) None (end_after e (does.Place unit) seen (outs.Refused (number reason)) [] n.own)
 place_deed e unit seen (Do reply parts) n =
-    record (turned parts None (end_after e (does.Place unit) seen outs.Done [] n.own)) { received = taken_in e.kept n.manager }
+    record (turned parts None (end_after e (does.Place unit) seen outs.Done [] n.own)) { received = messages_taken e.channel e.kept n.manager }
 
 abbrev pub receiver_deed_by : ℕ → ReceiverEnd → Seen → ReceiverDoes → Node → Option Deed
 receiver_deed_by stamp e seen does.Still n = None

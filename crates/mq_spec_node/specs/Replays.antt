@@ -70,7 +70,7 @@ pub record Surroundings : Type 0 where
   pub own : Own
 
 abbrev pub opening_node : Surroundings → History → Node
-opening_node s h = first_node s.given s.own h.opening h.moment
+opening_node s h = first_node s.given s.own h.opening h.length h.moment
 
 -- A history replays where it is of this manager and its entries follow from its opening.
 pub record Replays (s : Surroundings) (h : History) : Type 0 where
@@ -95,7 +95,7 @@ TriggersStand last n (e ∷ es) = TriggerIs (trigger_deed n) last e × TriggersS
 abbrev pub IsOwn : Chance → Type 0
 IsOwn (chances.Call choice) = Unit {0}
 IsOwn (chances.Restart choice) = Unit {0}
-IsOwn (chances.Foreign image left) = ⊥
+IsOwn (chances.Foreign image length left) = ⊥
 
 abbrev pub NoneForeign : List Entry → Type 0
 NoneForeign [] = Unit {0}

@@ -8,9 +8,10 @@ use Rattle.mq_sync.specs.declared.unit.Unit.{Unit as Luw}
 use Rattle.mq_sync.specs.declared.unit.Settle.{Settle}
 use Rattle.mq_sync.specs.declared.unit.Settle.TheVariants as settles
 use Rattle.mq_sync.specs.Units.{no_unit, unit_named}
+use Rattle.mq_sync.specs.Settlement.{is_commit}
 use Rattle.mq_calls.specs.declared.agents.Note.TheVariants as notes
 use Rattle.mq_calls.specs.declared.agents.PrepareFault.{PrepareFault}
-use Rattle.mq_sender.specs.declared.state.Doubt.{Doubt}
+use Rattle.mq_sync.specs.declared.data.Doubt.{Doubt}
 use Rattle.mq_sender.specs.declared.state.SenderState.{SenderState}
 use Rattle.mq_sender.specs.declared.turns.SenderDoes.{SenderDoes}
 use Rattle.mq_sender.specs.declared.turns.SenderDoes.TheVariants as does
@@ -24,7 +25,7 @@ use Rattle.mq_sender.specs.Frames.{bind_frame, message_frame, end_frame}
 use Rattle.mq_spec_state.specs.State.{Plain}
 use Rattle.mq_spec_state.specs.Steps.{Step, Part, do_all}
 use Rattle.mq_spec_state.specs.Steps.Step.{Refuse, Do}
-use Rattle.mq_spec_agents.specs.Agents.{names_of, stock, expire, hold_batch, batch_row, release_batch, prepare, harden, leave}
+use Rattle.mq_spec_agents.specs.Words.{names_of, stock, expire, hold_batch, batch_row, release_batch, prepare, harden, leave}
 use Rattle.mq_spec_node.specs.Node.{Node, Own, SenderEnd, with_end}
 use Rattle.mq_spec_node.specs.Node.ChannelEnd.{Sends}
 use Rattle.mq_spec_node.specs.Deeds.{Deed, parts_of, turned}
@@ -45,10 +46,6 @@ carried stamp e n index m = message_frame stamp e.machine n index (names_of m.ro
 abbrev pub doubted : Option Doubt → Luw
 doubted None = no_unit
 doubted (Some d) = d.unit
-
-abbrev pub is_commit : Settle → Bool
-is_commit settles.Commit = true
-is_commit settles.Backout = false
 
 -- the unit in doubt is settled by its receiver's word
 abbrev pub settle_parts : SenderEnd → Bool → Plain → List Part

@@ -9,3 +9,4 @@ pub mod Steps
 pub mod Meeting
 pub mod Counts
 pub mod Words
+pub mod Recovery

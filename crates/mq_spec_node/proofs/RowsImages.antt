@@ -1,0 +1,46 @@
+-- An image of a log with one message, and one that is none: its row is held by a unit that isn't there.
+use Rattle.std.specs.Prelude.{◌≡◌, ℕ, [], ◌∷◌, Option, Some, None, codes, refl}
+use Rattle.std.proofs.Common.{arith}
+use Rattle.std.proofs.lemmas.List.Elements.{All-cons, All-nil}
+use Rattle.mq_message.specs.declared.place.Holder.{Holder}
+use Rattle.mq_message.specs.declared.place.Holder.TheVariants as holders
+use Rattle.mq_queue.specs.declared.row.Row.{Row}
+use Rattle.mq_spec_state.specs.Images.{Image, Shelf}
+use Rattle.mq_spec_state.specs.Recovery.{IsImage, IsShelf, IsLasting, IsSenderSide, IsReceiverSide}
+use Rattle.mq_spec_node.proofs.Pair.{at_paris, image}
+use Rattle.mq_spec_node.proofs.RowsBatches.{message}
+
+abbrev row : Option Holder → Row
+row by = record { place = record { lane = 9; arrival = 0 }; message = record message { route = None }; by = by }
+
+abbrev shelf : Option Holder → Shelf
+shelf by = record { name = codes "Q1"; rows = row by ∷ [] }
+
+abbrev one : Option Holder → Image
+one by = record (image at_paris []) { shelves = shelf by ∷ [] }
+
+free_row : IsLasting (one None) (codes "Q1") (row None)
+free_row = record { persistent = refl; lane = refl; uncounted = refl; unbacked = refl; routed = refl; held = tt }
+
+free_shelf : IsShelf (one None) (shelf None)
+free_shelf = record {
+  rows = All-cons (IsLasting (one None) (codes "Q1")) (row None) [] free_row (All-nil (IsLasting (one None) (codes "Q1")));
+  sorted = λ i j d lt le. absurd (omega (arith, lt, le));
+  distinct = λ i j d lt le. absurd (omega (arith, lt, le));
+}
+
+one_is : IsImage (one None)
+one_is = record {
+  shelves = refl;
+  named = λ i j d lt le. absurd (omega (arith, lt, le));
+  rows = All-cons (IsShelf (one None)) (shelf None) [] free_shelf (All-nil (IsShelf (one None)));
+  apart = λ i j d lt le. absurd (omega (arith, lt, le));
+  senders = All-nil IsSenderSide;
+  receivers = All-nil IsReceiverSide;
+  senders_sorted = λ i j d lt le. absurd (omega (arith, le));
+  receivers_sorted = λ i j d lt le. absurd (omega (arith, le));
+}
+
+-- a row that "unit 1" holds: the next connection's MQCMIT would take it with no get
+none_held : IsImage (one (Some (holders.Unit 1))) → ⊥
+none_held h = ((h.rows 0 (shelf None) (omega arith)).rows 0 (row None) (omega arith)).held
