@@ -1,2 +1,2 @@
-mod ChannelVectors
+mod RowsChannels
 mod RowsStanding

@@ -1,12 +1,9 @@
 -- What the calls of channel ends and of the handler ask.
 use Rattle.std.specs.List.{list_any, AllByRecursion}
 use Rattle.std.specs.Option.{option_map}
-use Rattle.std.specs.Prelude.{ℕ, Bool, true, false, not, ◌&&◌, List, [], ◌∷◌, Option, Some, None, find, ◌≡◌, ◌<◌, ◌≤◌, IsSome, is_some}
-use Rattle.mq_spec_state.specs.Words.{Ident, LocalQueue, sender_or, receiver_or, Below, InDoubt, Luw, Note, Batch, rests_by, stored, sender_data, receiver_data, seizure_of, batch_of, in_doubt_of, is_up, Plain, Queue}
+use Rattle.std.specs.Prelude.{AllPairs, ℕ, Bool, true, false, not, ◌&&◌, List, [], ◌∷◌, Option, Some, None, find, ◌≡◌, ◌<◌, ◌≤◌, IsSome, is_some}
+use Rattle.mq_spec_state.specs.Words.{Ident, LocalQueue, sender_or, receiver_or, Below, InDoubt, Luw, Note, Batch, rests_by, stored, sender_data, receiver_data, seizure_of, batch_of, in_doubt_of, is_up, Plain, Queue, same_ident, has_ident, held_by, Row, local_of, channel_of, is_transmission}
 use Rattle.mq_message.specs.declared.place.Holder.TheVariants as holders
-use Rattle.mq_queue.specs.Rows.{same_ident, has_ident, held_by}
-use Rattle.mq_queue.specs.declared.row.Row.{Row}
-use Rattle.mq_objects.specs.Names.{local_of, channel_of, is_transmission}
 use Rattle.mq_sync.specs.declared.data.End.TheVariants as ends
 use Rattle.mq_calls.specs.declared.agents.Note.TheVariants as notes
 use Rattle.mq_spec_manager.specs.Words.{is_dead}
@@ -54,10 +51,6 @@ is_row_in_doubt bs idents row = is_some (rests_by bs row.by) && list_any (same_i
 abbrev pub NoneInDoubt : List Batch → List Ident → Queue → Type 0
 NoneInDoubt bs idents q = AllByRecursion (λ (row : Row). is_row_in_doubt bs idents row ≡ false) q.rows
 
-abbrev pub AreApart : List Ident → Type 0
-AreApart [] = Unit {0}
-AreApart (ident ∷ idents) = (list_any (same_ident ident) idents ≡ false) × AreApart idents
-
 -- a unit with a name of its own
 abbrev pub IsUnit : Luw → Type 0
 IsUnit unit = (0 < unit.session) × (0 < unit.n)
@@ -67,7 +60,7 @@ pub record IsPreparable (b : Batch) (channel : List ℕ) (p : Plain) : Type 0 wh
   pub unit : IsUnit b.unit
   pub session : b.unit.session ≤ (sender_or (sender_data channel p)).session
   pub doubt : HasNoDoubt channel p
-  pub apart : AreApart b.idents
+  pub apart : AllPairs (λ (x y : Ident). same_ident x y ≡ false) b.idents
   pub rows : AllByRecursion (NoneInDoubt p.channels.batches b.idents) p.queues
 
 pub record CanPrepare (channel : List ℕ) (p : Plain) : Type 0 where

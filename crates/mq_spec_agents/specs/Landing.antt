@@ -2,9 +2,8 @@
 use Rattle.std.specs.Prelude.{ℕ, pos, ◌+◌, nat_lt, nat_le, Bool, true, false, not, ◌&&◌, List, [], ◌∷◌, ◌++◌, Option, Some, None, Result, Ok, Err, length, codes}
 use Rattle.mq_name.specs.Name.{padded}
 use Rattle.mq_codes.specs.Numbers.{number}
-use Rattle.mq_spec_state.specs.Words.{Reason, Dest, Md, Message, Channel, ChannelKind, LocalQueue, Route, depth, Plain, Test, when, refusal}
+use Rattle.mq_spec_state.specs.Words.{Reason, Dest, Md, Message, Channel, ChannelKind, LocalQueue, Route, depth, Plain, Test, when, refusal, local_of, channel_of, is_transmission}
 use Rattle.mq_codes.specs.declared.reason.Reason.TheVariants as reasons
-use Rattle.mq_objects.specs.Names.{local_of, channel_of, is_transmission}
 use Rattle.mq_objects.specs.declared.object.ChannelKind.TheVariants as kinds
 use Rattle.mq_resolve.specs.Resolved.{resolve}
 use Rattle.mq_heads.specs.Headers.{dlh_bytes}

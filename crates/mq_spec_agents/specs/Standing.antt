@@ -1,10 +1,8 @@
 -- How the ident of a message that a channel brings stands at the manager already.
 use Rattle.std.specs.List.{list_any}
 use Rattle.std.specs.Prelude.{ℕ, nat_lt, Bool, true, false, not, ◌&&◌, ◌||◌, List, [], ◌∷◌, ◌++◌, if◌then◌else◌, Option, Some, None, find, ◌==◌}
-use Rattle.mq_spec_state.specs.Words.{Ident, Message, Holder, InDoubt, Did, Connection, Item, sender_data, is_persistent, in_doubt_of, Plain, Change, Queue, Among}
+use Rattle.mq_spec_state.specs.Words.{Ident, Message, Holder, InDoubt, Did, Connection, Item, sender_data, is_persistent, in_doubt_of, Plain, Change, Queue, Among, same_ident, has_ident, Row}
 use Rattle.mq_message.specs.declared.place.Holder.TheVariants as holders
-use Rattle.mq_queue.specs.Rows.{same_ident, has_ident}
-use Rattle.mq_queue.specs.declared.row.Row.{Row}
 use Rattle.mq_calls.specs.declared.deltas.Did.TheVariants as did
 use Rattle.mq_calls.specs.declared.deltas.Why.TheVariants as whys
 use Rattle.mq_calls.specs.declared.state.Item.TheVariants.{Put as ItemPut, Take as ItemTake}

@@ -1,10 +1,11 @@
 -- What is kept: laws that go by the shape of a call, whatever its tests are.
 use Rattle.std.specs.Prelude.{◌≡◌, ℕ, Bool, true, false, List, Option, Some, None, Result, Ok, Err, refl}
 use Rattle.std.proofs.Common.{◌∙◌}
-use Rattle.mq_spec_state.specs.Words.{Md, Route, Reason, Hconn, Hobj, Open, Message, LogRecord, Connection, Handle, Plain, Step, Test, refusal, refused_or, tested, next, logged, do_part, handle_at, apply, apply_all, place, try_if}
+use Rattle.mq_spec_state.specs.Steps.{◌>>=◌}
+use Rattle.mq_spec_state.specs.Words.{going_on, none_of, Answer, Md, Route, Reason, Hconn, Hobj, Open, Message, LogRecord, Connection, Handle, Plain, Step, Test, refusal, refused_or, tested, next, logged, do_part, handle_at, apply, apply_all, place, try_if}
 use Rattle.mq_resolve.specs.Resolved.{resolve}
 use Rattle.mq_spec_state.specs.State.Change.{CountIdent}
-use Rattle.mq_spec_manager.specs.Handles.{connected, for_connection, for_handle, mqopen, option_tests, open_tests, open_step, open_up, open_resolved}
+use Rattle.mq_spec_manager.specs.Handles.{connected, for_connection, for_handle, mqopen, option_tests, open_tests, open_step}
 use Rattle.mq_spec_manager.specs.Put.{mqput, output_tests, put_tests, put_step, put_up, put_handle, put_route, put_part, unit_record, placed, queue_at, new_message, handle_route}
 
 -- a call that is refused keeps all; one that passes keeps what its own step keeps
@@ -14,6 +15,10 @@ kept_by P (Some reason) s p old new = old
 
 pub kept : {F T : Type 0} (P : Plain → Type 0) (ts : List (Test F)) (s : Step F T) (p : Plain) → P p → P (next s p) → P (next (tested ts s) p)
 kept P ts s p old new = kept_by P (refusal ts) s p old new
+
+pub kept_on : {A F T : Type 0} (P : Plain → Type 0) (r : Result A F) (rest : A → Step F T) (p : Plain) → P p → ((x : A) → P (next (rest x) p)) → P (next (going_on r rest) p)
+kept_on P (Err reason) rest p old new = old
+kept_on P (Ok x) rest p old new = new x
 
 pub kept_connection : {T : Type 0} (P : Plain → Type 0) (r : Result Connection Reason) (call : Connection → Step Reason T) (p : Plain) → P p → ((c : Connection) → P (next (call c) p)) → P (next (for_connection r call) p)
 kept_connection P (Err reason) call p old new = old
@@ -27,13 +32,17 @@ kept_handle P (Some h) call p old new = new h
 abbrev SameQueues : Plain → Plain → Type 0
 SameQueues p q = q.queues ≡ p.queues
 
-open_kept : (c : Connection) (how : Open) (r : Result Route Reason) (p : Plain) → SameQueues p (next (open_resolved c how r p) p)
-open_kept c how (Err reason) p = refl
-open_kept c how (Ok route) p = kept (SameQueues p) (open_tests c how route p) (open_step c how route) p refl refl
+abbrev routed : Connection → Open → Plain → Route → Step Reason (Answer Hobj)
+routed c how p route = none_of (open_tests c how route p) >>= (λ fits. open_step c how route)
+
+abbrev asked : List ℕ → List ℕ → Open → Plain → Connection → Step Reason (Answer Hobj)
+asked name qmgr how p c = none_of (option_tests how) >>= (λ chosen. resolve p.definitions p.given.name name qmgr >>= routed c how p)
 
 pub open_keeps_queues : (hc : Hconn) (name qmgr : List ℕ) (how : Open) (p : Plain) → SameQueues p (next (mqopen hc name qmgr how p) p)
-open_keeps_queues hc name qmgr how p = kept_connection (SameQueues p) (connected hc p) (open_up name qmgr how p) p refl
-    (λ c. kept (SameQueues p) (option_tests how) (open_resolved c how (resolve p.definitions p.given.name name qmgr) p) p refl (open_kept c how (resolve p.definitions p.given.name name qmgr) p))
+open_keeps_queues hc name qmgr how p = kept_on (SameQueues p) (connected hc p) (asked name qmgr how p) p refl
+    (λ c. kept_on (SameQueues p) (none_of (option_tests how)) (λ chosen. resolve p.definitions p.given.name name qmgr >>= routed c how p) p refl
+    (λ chosen. kept_on (SameQueues p) (resolve p.definitions p.given.name name qmgr) (routed c how p) p refl
+    (λ route. kept_on (SameQueues p) (none_of (open_tests c how route p)) (λ fits. open_step c how route) p refl (λ fits. refl))))
 
 -- a put changes no definition
 abbrev SameDefinitions : Plain → Plain → Type 0

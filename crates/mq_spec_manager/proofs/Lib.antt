@@ -1,6 +1,6 @@
 pub mod Script
-mod Vectors
-mod MoreVectors
+mod RowsCalls
+mod RowsRefusals
 mod RowsBackouts
 mod RowsRestarts
 mod RowsMeetings

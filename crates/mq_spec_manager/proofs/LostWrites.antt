@@ -2,10 +2,8 @@
 -- all that lasts, and so does a stop.
 use Rattle.std.specs.Prelude.{◌≡◌, ℕ, Bool, true, not, ◌&&◌, List, [], ◌∷◌, Option, Some, None, map, refl}
 use Rattle.std.proofs.Common.{ap, ◌∙◌, arith}
-use Rattle.mq_spec_state.specs.Words.{Holder, Place, Message, Batch, Shelf, is_persistent, is_by_unit, Plain, Queue, Noted, HeldByUnits, Nonpersistent, release_if, kept_in, released_in, forgotten, lasting, lasting_row, lasting_rows, shelf_of, shelves_of, freeze}
+use Rattle.mq_spec_state.specs.Words.{Holder, Place, Message, Batch, Shelf, is_persistent, is_by_unit, Plain, Queue, Noted, HeldByUnits, Nonpersistent, release_if, kept_in, released_in, forgotten, lasting, lasting_row, lasting_rows, shelf_of, shelves_of, freeze, Row, keep, retag, is_free}
 use Rattle.mq_message.specs.declared.place.Holder.TheVariants as holders
-use Rattle.mq_queue.specs.declared.row.Row.{Row}
-use Rattle.mq_queue.specs.Rows.{keep, retag, is_free}
 
 abbrev stays : Row → Bool
 stays row = not (not (is_persistent row.message))

@@ -1,8 +1,7 @@
 -- Calls of a script, and what its report would show, for worked rows.
 use Rattle.std.specs.Prelude.{ℕ, ℤ, pos, negsuc, Bool, true, false, List, [], ◌∷◌, None, map, replicate, codes}
-use Rattle.mq_spec_state.specs.Words.{Reason, Ident, Md, Hconn, Hobj, Appl, Open, Answer, Sent, Got, Get, Take, GetAnswer, Image, Shelf, Object, LocalQueue, Definitions, Plain, stored, Step, next, Refuse, Do}
+use Rattle.mq_spec_state.specs.Words.{Reason, Ident, Md, Hconn, Hobj, Appl, Open, Answer, Sent, Got, Get, Take, GetAnswer, Image, Shelf, Object, LocalQueue, Definitions, Plain, stored, Step, next, Refuse, Do, Row, locals_of}
 use Rattle.mq_codes.specs.Numbers.{number}
-use Rattle.mq_queue.specs.declared.row.Row.{Row}
 use Rattle.mq_objects.specs.Defaults.{nothing_defined}
 use Rattle.mq_objects.specs.declared.setting.Setting.{Setting}
 use Rattle.mq_objects.specs.declared.command.Subject.TheVariants as subjects
@@ -13,7 +12,6 @@ use Rattle.mq_calls.specs.declared.answers.GetAnswer.TheVariants as get_answers
 use Rattle.mq_spec_manager.specs.Stops.{first_start}
 use Rattle.mq_spec_manager.specs.Handles.{mqconn, mqopen}
 use Rattle.mq_spec_manager.specs.Commands.{command, defined_object}
-use Rattle.mq_objects.specs.Names.{locals_of}
 
 -- a manager at its first start
 abbrev pub empty_shelf : LocalQueue → Shelf

@@ -1,13 +1,10 @@
 -- MQGET.
 use Rattle.std.specs.Prelude.{ℕ, pos, ◌+◌, ◌*◌, nat_lt, Bool, true, false, not, ◌&&◌, List, [], ◌∷◌, ◌++◌, if◌then◌else◌, Option, Some, None, length, map, filter, take, codes}
 use Rattle.std.specs.List.{list_any}
-use Rattle.mq_spec_state.specs.Words.{Reason, Ident, Dest, Md, Message, Place, Want, Object, Definitions, PathStep, Hconn, Hobj, Answer, Take, Get, Got, GetAnswer, Why, Remove, LogRecord, Connection, Handle, Plain, Among, stored, is_persistent, is_input, handle_at, is_expired, more_need, is_full, Step, Part, Test, when, tested, silent, say, Do}
+use Rattle.mq_spec_state.specs.Words.{Reason, Ident, Dest, Md, Message, Place, Want, Object, Definitions, PathStep, Hconn, Hobj, Answer, Take, Get, Got, GetAnswer, Why, Remove, LogRecord, Connection, Handle, Plain, Among, stored, is_persistent, is_input, handle_at, is_expired, more_need, is_full, Step, Part, Test, when, tested, silent, say, Do, Row, is_free, is_wanted, is_after, same_place, queue_of}
 use Rattle.mq_codes.specs.declared.reason.Reason.TheVariants as reasons
 use Rattle.mq_message.specs.declared.place.Holder.TheVariants as holders
-use Rattle.mq_queue.specs.declared.row.Row.{Row}
-use Rattle.mq_queue.specs.Rows.{is_free, is_wanted, is_after, same_place}
 use Rattle.mq_objects.specs.declared.object.Object.TheVariants as objects
-use Rattle.mq_objects.specs.Names.{queue_of}
 use Rattle.mq_resolve.specs.declared.route.PathStep.TheVariants as steps
 use Rattle.mq_calls.specs.declared.answers.Answer.TheVariants as answers
 use Rattle.mq_calls.specs.declared.answers.Take.TheVariants as takes

@@ -1,9 +1,9 @@
 -- Connections and handles: the connection check, MQCONN, MQOPEN, MQCLOSE.
 use Rattle.std.specs.Prelude.{ℕ, ◌+◌, ◌==◌, nat_le, Bool, false, not, ◌&&◌, ◌||◌, List, [], ◌∷◌, if◌then◌else◌, Option, Some, None, Result, Ok, Err, length}
 use Rattle.std.specs.Str.{bytes_eq}
-use Rattle.mq_spec_state.specs.Words.{Reason, LocalQueue, RouteEnd, Route, Hconn, Hobj, Appl, Answer, Input, Open, Connection, Handle, Plain, is_up, connection_at, handle_at, is_input, is_open_for_input, exclusive_handle, read_by_sender, has_held, Step, Test, when, tested, silent, Refuse, Do}
+use Rattle.mq_spec_state.specs.Steps.{◌>>=◌}
+use Rattle.mq_spec_state.specs.Words.{none_of, Reason, LocalQueue, RouteEnd, Route, Hconn, Hobj, Appl, Answer, Input, Open, Connection, Handle, Plain, is_up, connection_at, handle_at, is_input, is_open_for_input, exclusive_handle, read_by_sender, has_held, Step, Test, when, tested, silent, Refuse, Do, local_of, is_transmission}
 use Rattle.mq_codes.specs.declared.reason.Reason.TheVariants as reasons
-use Rattle.mq_objects.specs.Names.{local_of, is_transmission}
 use Rattle.mq_resolve.specs.declared.route.RouteEnd.TheVariants.{Local, Via}
 use Rattle.mq_resolve.specs.Resolved.{resolve}
 use Rattle.mq_calls.specs.declared.answers.Answer.TheVariants as answers
@@ -57,7 +57,7 @@ abbrev pub mqconn : List ℕ → Appl → Plain → Step Reason (Answer Hconn)
 mqconn qmgr appl p = tested (conn_tests qmgr p)
     (Do (answers.Ok (new_hconn p)) (silent (Connect (new_connection appl p) ∷ []) ∷ []))
 
--- MQOPEN. Input or browse is asked of no local queue, or output of a transmission queue.
+-- What an MQOPEN asks for. Input or browse is asked of no local queue, or output of a transmission queue.
 abbrev pub is_nothing : Open → Bool
 is_nothing how = not (is_input how.input) && not how.browse && not how.output
 
@@ -100,22 +100,17 @@ open_tests c how route p =
 abbrev pub open_step : Connection → Open → Route → Step Reason (Answer Hobj)
 open_step c how route = Do (answers.Ok (record { number = c.last_handle + 1 })) (silent (OpenHandle c.number (new_handle how route c) ∷ []) ∷ [])
 
-abbrev pub open_route : Connection → Open → Route → Plain → Step Reason (Answer Hobj)
-open_route c how route p = tested (open_tests c how route p) (open_step c how route)
-
--- MQOPEN, from its options and its route on
-abbrev pub open_resolved : Connection → Open → Result Route Reason → Plain → Step Reason (Answer Hobj)
-open_resolved c how (Err reason) p = Refuse reason
-open_resolved c how (Ok route) p = open_route c how route p
-
+-- MQOPEN
 abbrev pub option_tests : Open → List (Test Reason)
 option_tests how = when (is_nothing how) reasons.OptionsError ∷ []
 
-abbrev pub open_up : List ℕ → List ℕ → Open → Plain → Connection → Step Reason (Answer Hobj)
-open_up name qmgr how p c = tested (option_tests how) (open_resolved c how (resolve p.definitions p.given.name name qmgr) p)
-
 abbrev pub mqopen : Hconn → List ℕ → List ℕ → Open → Plain → Step Reason (Answer Hobj)
-mqopen hc name qmgr how p = for_connection (connected hc p) (open_up name qmgr how p)
+mqopen hc name qmgr how p = do
+  c ← connected hc p
+  chosen ← none_of (option_tests how)
+  route ← resolve p.definitions p.given.name name qmgr
+  fits ← none_of (open_tests c how route p)
+  open_step c how route
 
 -- MQCLOSE: a stale handle closes too.
 abbrev pub close_handle : Connection → Handle → Step Reason (Answer (Unit {0}))

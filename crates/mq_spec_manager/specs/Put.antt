@@ -3,10 +3,9 @@ use Rattle.std.specs.Prelude.{ℕ, ℤ, pos, negsuc, ◌+◌, ◌*◌, ◌==◌,
 use Rattle.std.specs.List.{list_any, list_all}
 use Rattle.mq_name.specs.Name.{padded, name_of}
 use Rattle.mq_name.specs.declared.fault.NameFault.{NameFault}
-use Rattle.mq_spec_state.specs.Words.{Reason, Ident, Dest, Md, Message, LocalQueue, Object, Definitions, RouteEnd, PathStep, Route, Hconn, Hobj, Appl, Answer, Sent, Open, LogRecord, Connection, Handle, Plain, Change, is_int, is_persistent, handle_at, depth, put_bytes, more_need, is_full, Step, Part, Test, when, tested, Refuse, Do}
+use Rattle.mq_spec_state.specs.Words.{Reason, Ident, Dest, Md, Message, LocalQueue, Object, Definitions, RouteEnd, PathStep, Route, Hconn, Hobj, Appl, Answer, Sent, Open, LogRecord, Connection, Handle, Plain, Change, is_int, is_persistent, handle_at, depth, put_bytes, more_need, is_full, Step, Part, Test, when, tested, Refuse, Do, queue_of, local_of}
 use Rattle.mq_codes.specs.declared.reason.Reason.TheVariants as reasons
 use Rattle.mq_objects.specs.declared.object.Object.TheVariants as objects
-use Rattle.mq_objects.specs.Names.{queue_of, local_of}
 use Rattle.mq_resolve.specs.declared.route.RouteEnd.TheVariants.{Local, Via}
 use Rattle.mq_resolve.specs.declared.route.PathStep.TheVariants as steps
 use Rattle.mq_resolve.specs.Resolved.{resolve}

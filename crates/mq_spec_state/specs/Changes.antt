@@ -4,12 +4,9 @@ use Rattle.std.specs.List.{list_any}
 use Rattle.std.specs.Str.{bytes_eq}
 use Rattle.std.specs.Ordering.{is_lt, nat_cmp}
 use Rattle.std.specs.Cmp.Lexicographic.{slice_cmp}
-use Rattle.mq_spec_state.specs.Terms.{Ident, Message, Holder, LocalQueue, PathStep, InDoubt}
-use Rattle.mq_queue.specs.declared.row.Row.{Row}
+use Rattle.mq_spec_state.specs.Terms.{Ident, Message, Holder, LocalQueue, PathStep, InDoubt, Row, same_ident, insert_row, keep, retag, held_by, is_free, local_of, is_by_priority}
 use Rattle.mq_queue.specs.Lanes.{lane_at}
-use Rattle.mq_queue.specs.Rows.{same_ident, insert_row, keep, retag, held_by, is_free}
 use Rattle.mq_queue.specs.Queues.{freed}
-use Rattle.mq_objects.specs.Names.{local_of, is_by_priority}
 use Rattle.mq_objects.specs.Changed.{changed}
 use Rattle.mq_spec_state.specs.State.{Plain, Queue, Connection, Handle, Seizure, Batch, SenderSide, ReceiverSide, Channels, Which, Change, fresh_queue}
 use Rattle.mq_spec_state.specs.State.Which.{Among, HeldBy, HeldByUnits, Nonpersistent}

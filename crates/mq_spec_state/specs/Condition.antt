@@ -1,9 +1,8 @@
 -- The condition of a trigger, tried once for a row that a commit has placed.
 use Rattle.std.specs.Prelude.{ℕ, ℤ, ◌+◌, ◌==◌, nat_le, Bool, true, false, not, ◌&&◌, ◌||◌, Option, Some, None, is_some}
 use Rattle.mq_queue.specs.Queues.{count_waiting}
-use Rattle.mq_spec_state.specs.Terms.{LocalQueue, TriggerType}
+use Rattle.mq_spec_state.specs.Terms.{LocalQueue, TriggerType, local_of, process_of, is_transmission}
 use Rattle.mq_objects.specs.declared.object.TriggerType.TheVariants as triggers
-use Rattle.mq_objects.specs.Names.{local_of, process_of, is_transmission}
 use Rattle.mq_spec_state.specs.State.{Plain}
 use Rattle.mq_spec_state.specs.Reads.{stored, has_priority, is_open_for_input, read_by_handle}
 

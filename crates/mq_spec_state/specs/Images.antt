@@ -2,9 +2,8 @@
 use Rattle.std.specs.Prelude.{ℕ, pos, ◌+◌, Bool, false, List, [], ◌∷◌, if◌then◌else◌, Option, Some, None, length, map}
 use Rattle.std.specs.List.{list_any}
 use Rattle.std.specs.Str.{bytes_eq}
-use Rattle.mq_spec_state.specs.Terms.{Message, Holder}
+use Rattle.mq_spec_state.specs.Terms.{Message, Holder, Row}
 use Rattle.mq_message.specs.declared.place.Holder.TheVariants as holders
-use Rattle.mq_queue.specs.declared.row.Row.{Row}
 pub use Rattle.mq_calls.specs.declared.image.Shelf.{Shelf}
 pub use Rattle.mq_calls.specs.declared.image.Image.{Image}
 use Rattle.mq_spec_state.specs.State.{Plain, Given, Queue, Batch, LogState}

@@ -2,10 +2,8 @@
 use Rattle.std.specs.Prelude.{ℕ, ℤ, pos, negsuc, ◌+◌, ◌==◌, nat_lt, nat_le, Bool, true, false, not, ◌&&◌, ◌||◌, List, [], ◌∷◌, if◌then◌else◌, Option, Some, None, length, sum_by, count_by, is_some, filter}
 use Rattle.std.specs.List.{list_any}
 use Rattle.std.specs.Str.{bytes_eq}
-use Rattle.mq_spec_state.specs.Terms.{Ident, Message, Holder, RouteEnd, PathStep, Input, InDoubt, SenderData, ReceiverData}
+use Rattle.mq_spec_state.specs.Terms.{Ident, Message, Holder, RouteEnd, PathStep, Input, InDoubt, SenderData, ReceiverData, Row, has_ident, is_free}
 use Rattle.mq_message.specs.declared.place.Holder.TheVariants as holders
-use Rattle.mq_queue.specs.declared.row.Row.{Row}
-use Rattle.mq_queue.specs.Rows.{has_ident, is_free}
 pub use Rattle.mq_queue.specs.Rows.{is_int, is_persistent, is_by_unit, has_priority}
 use Rattle.mq_resolve.specs.declared.route.RouteEnd.TheVariants.{Local, Via}
 use Rattle.mq_resolve.specs.declared.route.PathStep.TheVariants as steps

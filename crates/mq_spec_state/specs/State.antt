@@ -1,17 +1,6 @@
 -- The state of a plain manager.
 use Rattle.std.specs.Prelude.{ℕ, ℤ, Bool, false, List, [], Option, None}
-use Rattle.mq_message.specs.declared.message.Ident.{Ident}
-use Rattle.mq_message.specs.declared.message.Message.{Message}
-use Rattle.mq_message.specs.declared.place.Place.{Place as RowPlace}
-use Rattle.mq_message.specs.declared.place.Holder.{Holder}
-use Rattle.mq_queue.specs.declared.row.Row.{Row}
-use Rattle.mq_objects.specs.declared.object.Definitions.{Definitions}
-use Rattle.mq_resolve.specs.declared.route.PathStep.{PathStep}
-use Rattle.mq_calls.specs.declared.deltas.Did.{Did}
-use Rattle.mq_sync.specs.declared.data.SenderData.{SenderData}
-use Rattle.mq_sync.specs.declared.data.ReceiverData.{ReceiverData}
-use Rattle.mq_objects.specs.declared.change.ObjectChange.{ObjectChange}
-use Rattle.mq_calls.specs.declared.records.LogRecord.{LogRecord}
+use Rattle.mq_spec_state.specs.Terms.{Ident, Message, Place as RowPlace, Holder, Row, Definitions, PathStep, Did, SenderData, ReceiverData, ObjectChange, LogRecord}
 pub use Rattle.mq_calls.specs.declared.state.Item.{Item}
 pub use Rattle.mq_calls.specs.declared.state.Handle.{Handle}
 pub use Rattle.mq_calls.specs.declared.state.Connection.{Connection}

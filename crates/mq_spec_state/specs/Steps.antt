@@ -1,6 +1,6 @@
 -- What a call is: refused, or an answer with what it does, in one or two parts, each behind at most one forced write;
 -- and how the free choices end it.
-use Rattle.std.specs.Prelude.{◌≡◌, ℕ, zero, suc, is_some, ◌+◌, ◌-◌, ◌<◌, ◌≤◌, Bool, true, List, [], ◌∷◌, ◌++◌, map, if◌then◌else◌, Option, Some, None}
+use Rattle.std.specs.Prelude.{◌≡◌, ℕ, zero, suc, is_some, ◌+◌, ◌-◌, ◌<◌, ◌≤◌, Bool, true, List, [], ◌∷◌, ◌++◌, map, if◌then◌else◌, Option, Some, None, Result, Ok, Err}
 use Rattle.mq_disk.specs.declared.cutter.Stop.{Stop}
 use Rattle.mq_disk.specs.declared.cutter.Stop.TheVariants as stops
 use Rattle.mq_spec_state.specs.Terms.{Choice, Did, LogRecord}
@@ -41,6 +41,24 @@ refused_or (Some reason) step = Refuse reason
 abbrev pub tested : {F T : Type 0} → List (Test F) → Step F T → Step F T
 tested ts step = refused_or (refusal ts) step
 
+-- A call that is read from the top: what is found goes on, a refusal ends it.
+abbrev pub going_on : {A F T : Type 0} → Result A F → (A → Step F T) → Step F T
+going_on (Err reason) rest = Refuse reason
+going_on (Ok found) rest = rest found
+
+infixl 10 ◌>>=◌
+abbrev pub ◌>>=◌ : {A F T : Type 0} → Result A F → (A → Step F T) → Step F T
+r >>= rest = going_on r rest
+
+abbrev pub passed : {F : Type 0} → Option F → Result (Unit {0}) F
+passed None = Ok tt
+passed (Some reason) = Err reason
+
+-- no refusal of the table applies
+abbrev pub none_of : {F : Type 0} → List (Test F) → Result (Unit {0}) F
+none_of ts = passed (refusal ts)
+
+-- changes without a write, of which nothing is told
 abbrev pub silent : List Change → Part
 silent changes = record { forced = None; changes = changes; delta = [] }
 

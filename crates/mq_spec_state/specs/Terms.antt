@@ -72,3 +72,6 @@ pub use Rattle.mq_calls.specs.declared.agents.Note.{Note}
 pub use Rattle.mq_sync.specs.Units.{no_unit, unit_named, same_unit, Below, Upto}
 pub use Rattle.mq_sync.specs.Settlement.{data_settled, data_prepared, settle_by, is_commit, sender_or, receiver_or}
 pub use Rattle.mq_calls.specs.Reading.{failed_by, value_of}
+pub use Rattle.mq_queue.specs.declared.row.Row.{Row}
+pub use Rattle.mq_queue.specs.Rows.{same_ident, has_ident, is_free, is_after, is_wanted, same_place, held_by, keep, retag, insert_row}
+pub use Rattle.mq_objects.specs.Names.{queue_of, local_of, locals_of, process_of, channel_of, is_transmission, is_by_priority}
