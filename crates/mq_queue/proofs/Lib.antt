@@ -1,3 +1,6 @@
 pub mod Edits
 pub mod QueueLaws
 pub mod EndLaws
+pub mod CountLaws
+pub mod PlaceLaws
+pub mod StopLaws

@@ -1,5 +1,5 @@
 -- What is a queue stays one: rows are placed, kept and retagged.
-use Rattle.std.proofs.Common.{◌≡◌, ℕ, ◌+◌, ◌<◌, ◌≤◌, Bool, true, false, cond, eqb, List, [], ◌∷◌, refl, sym, ap, subst, ◌∙◌, arith}
+use Rattle.std.proofs.Common.{◌≡◌, ℕ, suc, ◌+◌, ◌<◌, ◌≤◌, Bool, true, false, cond, eqb, List, [], ◌∷◌, length, refl, sym, ap, subst, ◌∙◌, arith}
 use Rattle.std.specs.Prelude.{Some, None, find, nat_lt, nat_le, ◌&&◌, ◌||◌}
 use Rattle.std.specs.Option.{option_map}
 use Rattle.std.specs.List.{AllByRecursion}
@@ -9,8 +9,8 @@ use Rattle.mq_message.specs.declared.message.Message.{Message}
 use Rattle.mq_message.specs.declared.place.Place.{Place}
 use Rattle.mq_message.specs.declared.place.Holder.{Holder}
 use Rattle.mq_queue.specs.declared.row.Row.{Row}
-use Rattle.mq_queue.specs.Rows.{same_ident, has_ident, is_before, insert_row, keep, retag}
-use Rattle.mq_queue.specs.Queues.{Lacks, AreDistinct, AllBehind, AreInOrder, IsQueue, row_of, hold_row, release_row, freed, is_free_one, is_held_one, message_of}
+use Rattle.mq_queue.specs.Rows.{same_ident, has_ident, is_before, is_by_unit, insert_row, keep, retag}
+use Rattle.mq_queue.specs.Queues.{Lacks, AreDistinct, AllBehind, AreInOrder, IsQueue, row_of, hold_row, release_row, freed, is_free_one, is_held_one, message_of, unit_freed}
 
 -- What holds of each row
 
@@ -82,6 +82,10 @@ pub order_insert : (new : Row) (rows : List Row) → AllByRecursion (λ (row : R
 order_insert new [] lt o = (tt, tt)
 order_insert new (row ∷ rows) lt o = order_step new row rows lt.0 o.0 o.1 (order_insert new rows lt.1 o.1) (nat_le row.place.lane new.place.lane) refl
 
+pub length_placed : (new : Row) (rows : List Row) → length (insert_row new rows) ≡ length rows + 1
+length_placed new [] = refl
+length_placed new (x ∷ xs) = grind (arith, length_placed new xs)
+
 pub queue_placed : (by_priority : Bool) (message : Message) (rows : List Row) (n : ℕ) → Lacks message.ident rows → IsQueue rows n → IsQueue (insert_row (row_of by_priority message (n + 1)) rows) (n + 1)
 queue_placed by_priority message rows n lacks q =
     let new : Row = row_of by_priority message (n + 1) in
@@ -89,6 +93,7 @@ queue_placed by_priority message rows n lacks q =
       distinct = distinct_insert new rows lacks q.distinct;
       in_order = order_insert new rows (all_imply (λ (row : Row). row.place.arrival ≤ n) (λ (row : Row). row.place.arrival < n + 1) (λ row le. omega (arith, le)) rows q.counted) q.in_order;
       counted = all_insert (λ (row : Row). row.place.arrival ≤ n + 1) new rows (omega arith) (all_imply (λ (row : Row). row.place.arrival ≤ n) (λ (row : Row). row.place.arrival ≤ n + 1) (λ row le. omega (arith, le)) rows q.counted);
+      fits = omega (arith, q.fits, length_placed new rows);
     }
 
 -- Rows are kept
@@ -109,11 +114,16 @@ pub order_keep : (test : Row → Bool) (rows : List Row) → AreInOrder rows →
 order_keep test [] o = tt
 order_keep test (row ∷ rows) o = order_keep_step row (keep test rows) (all_keep (λ (r : Row). is_before row.place r.place ≡ true) test rows o.0) (order_keep test rows o.1) (test row)
 
+pub length_kept : (test : Row → Bool) (rows : List Row) → length (keep test rows) ≤ length rows
+length_kept test [] = omega arith
+length_kept test (x ∷ xs) = grind (arith, length_kept test xs)
+
 pub queue_kept : (test : Row → Bool) (rows : List Row) (n : ℕ) → IsQueue rows n → IsQueue (keep test rows) n
 queue_kept test rows n q = record {
   distinct = distinct_keep test rows q.distinct;
   in_order = order_keep test rows q.in_order;
   counted = all_keep (λ (row : Row). row.place.arrival ≤ n) test rows q.counted;
+  fits = omega (arith, q.fits, length_kept test rows);
 }
 
 -- Rows are retagged: each keeps its place and its ident
@@ -137,11 +147,16 @@ order_retag change k (row ∷ rows) o = (
   order_retag change k rows o.1,
 )
 
+pub length_retagged : (change : Row → Row) (rows : List Row) → length (retag change rows) ≡ length rows
+length_retagged change [] = refl
+length_retagged change (x ∷ xs) = ap (λ n. suc n) (length_retagged change xs)
+
 pub queue_retagged : (change : Row → Row) → KeepsPlaces change → (rows : List Row) (n : ℕ) → IsQueue rows n → IsQueue (retag change rows) n
 queue_retagged change k rows n q = record {
   distinct = distinct_retag change k rows q.distinct;
   in_order = order_retag change k rows q.in_order;
   counted = all_retag (λ (row : Row). row.place.arrival ≤ n) (λ (row : Row). row.place.arrival ≤ n) change (λ row le. subst (λ (p : Place). p.arrival ≤ n) (sym (k row).0) le) rows q.counted;
+  fits = omega (arith, q.fits, length_retagged change rows);
 }
 
 hold_step : (by : Holder) (row : Row) (t : Bool) → ((cond t (record row { by = Some by }) row).place ≡ row.place) × ((cond t (record row { by = Some by }) row).message.ident ≡ row.message.ident)
@@ -161,6 +176,26 @@ release_step backed_out row false = (refl, refl)
 
 pub release_keeps : (ident : Ident) (backed_out : Bool) → KeepsPlaces (release_row ident backed_out)
 release_keeps ident backed_out row = release_step backed_out row (is_held_one ident row)
+
+-- What a stop does.
+
+unit_step : (row : Row) (t : Bool) → ((cond t (freed true row) row).place ≡ row.place) × ((cond t (freed true row) row).message.ident ≡ row.message.ident)
+unit_step row true = (refl, refl)
+unit_step row false = (refl, refl)
+
+pub unit_keeps : KeepsPlaces unit_freed
+unit_keeps row = unit_step row (is_by_unit row.by)
+
+-- rows that are kept or changed by tests and changes that agree
+pub keep_same : (a b : Row → Bool) → ((row : Row) → a row ≡ b row) → (rows : List Row) → keep a rows ≡ keep b rows
+keep_same a b h [] = refl
+keep_same a b h (x ∷ xs) = rw (h x, keep_same a b h xs) refl
+
+pub retag_same : (a b : Row → Row) → ((row : Row) → a row ≡ b row) → (rows : List Row) → retag a rows ≡ retag b rows
+retag_same a b h [] = refl
+retag_same a b h (x ∷ xs) = rw (h x, retag_same a b h xs) refl
+
+-- No row is lacked that is found.
 
 absent_step : (ident : Ident) (x : Row) (xs : List Row) → (option_map (λ (row : Row). row.message) (find (has_ident ident) xs) ≡ None → Lacks ident xs)
     → (t : Bool) → has_ident ident x ≡ t → option_map (λ (row : Row). row.message) (find (has_ident ident) (x ∷ xs)) ≡ None → Lacks ident (x ∷ xs)

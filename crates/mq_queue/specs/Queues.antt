@@ -1,5 +1,5 @@
 -- What a queue is, and what its calls do: a row is placed last in its lane, rows are kept, rows are retagged.
-use Rattle.std.specs.Prelude.{◌≡◌, ℕ, ◌≤◌, ◌&&◌, not, Bool, true, false, List, [], ◌∷◌, if◌then◌else◌, Option, Some, None, find, ℤ, pos, ◌+ℤ◌}
+use Rattle.std.specs.Prelude.{◌≡◌, ℕ, ◌≤◌, ◌&&◌, not, Bool, true, false, List, [], ◌∷◌, length, count_by, if◌then◌else◌, Option, Some, None, find, ℤ, pos, ◌+ℤ◌}
 use Rattle.std.specs.List.{AllByRecursion}
 use Rattle.std.specs.Option.{option_map}
 use Rattle.std.specs.Int.{w32, saturate_signed}
@@ -10,7 +10,7 @@ use Rattle.mq_message.specs.declared.place.Want.{Want}
 use Rattle.mq_message.specs.declared.place.Holder.{Holder}
 use Rattle.mq_queue.specs.declared.row.Row.{Row}
 use Rattle.mq_queue.specs.Lanes.{lane_at}
-use Rattle.mq_queue.specs.Rows.{has_ident, is_free, is_before, is_after, is_wanted}
+use Rattle.mq_queue.specs.Rows.{has_ident, is_free, is_before, is_after, is_wanted, same_place, is_persistent, has_priority, is_by_unit}
 
 -- no row has the ident
 abbrev pub Lacks : Ident → List Row → Type 0
@@ -39,6 +39,7 @@ pub record IsQueue (rows : List Row) (arrivals : ℕ) : Type 0 where
   pub distinct : AreDistinct rows
   pub in_order : AreInOrder rows
   pub counted : AreCounted arrivals rows
+  pub fits : length rows ≤ arrivals
 
 -- the lane of a message: by its priority, or the one lane of first in, first out
 abbrev pub lane_of : Bool → Message → ℕ
@@ -48,6 +49,10 @@ lane_of by_priority message = if by_priority then lane_at message.md.priority el
 abbrev pub row_of : Bool → Message → ℕ → Row
 row_of by_priority message n = record { place = record { lane = lane_of by_priority message; arrival = n }; message = message; by = None }
 
+-- a free row that has the ids asked for
+abbrev pub is_fitting : Want → Row → Bool
+is_fitting want row = is_free row && is_wanted want row
+
 -- a row that a get may take
 abbrev pub is_takable : Want → Option Place → Row → Bool
 is_takable want after row = is_free row && (is_after after row && is_wanted want row)
@@ -56,10 +61,27 @@ is_takable want after row = is_free row && (is_after after row && is_wanted want
 abbrev pub first_of : Want → Option Place → List Row → Option (Place × Ident)
 first_of want after rows = option_map (λ (row : Row). (row.place, row.message.ident)) (find (is_takable want after) rows)
 
+-- the row at a place
+abbrev pub is_at : Place → Row → Bool
+is_at place row = same_place row.place place
+
+-- a free row of at least this priority
+abbrev pub is_waiting : ℕ → Row → Bool
+is_waiting least row = is_free row && has_priority least row.message.md.priority
+
+-- how many there are
+abbrev pub count_waiting : ℕ → List Row → ℕ
+count_waiting least rows = count_by (is_waiting least) rows
+
+-- a row that a stop keeps
+abbrev pub is_lasting : Row → Bool
+is_lasting row = is_persistent row.message
+
 -- the message with that ident
 abbrev pub message_of : Ident → List Row → Option Message
 message_of ident rows = option_map (λ (row : Row). row.message) (find (has_ident ident) rows)
 
+-- Rows by their ident.
 abbrev pub has_other_ident : Ident → Row → Bool
 has_other_ident ident row = not (has_ident ident row)
 
@@ -77,6 +99,7 @@ hold_row ident by row = if is_free_one ident row then record row { by = Some by 
 abbrev pub one_more : ℤ → ℤ
 one_more count = saturate_signed w32 (count +ℤ pos 1)
 
+-- its BackoutCount is one higher
 abbrev pub backed_out_once : Message → Message
 backed_out_once message = record message { md = record message.md { backout_count = one_more message.md.backout_count } }
 
@@ -87,3 +110,7 @@ freed backed_out row = record row { message = if backed_out then backed_out_once
 -- the held row with that ident is free again
 abbrev pub release_row : Ident → Bool → Row → Row
 release_row ident backed_out row = if is_held_one ident row then freed backed_out row else row
+
+-- a row that a unit holds is free again, and counts a backout
+abbrev pub unit_freed : Row → Row
+unit_freed row = if is_by_unit row.by then freed true row else row

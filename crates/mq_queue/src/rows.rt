@@ -1,77 +1,17 @@
-//! The rows of a plain queue: one ring in order of place.
-ghost use Rattle.std.specs.Prelude.{◌≡◌, ◌+◌, ◌-◌, ◌^◌, ◌<◌, ◌≤◌, ℕ, List, Option, [], find, position, length, ◌&&◌};
+//! What is done to the rows of a plain queue, and to the counters of those that are free.
+ghost use Rattle.std.specs.Prelude.{◌≡◌, ◌+◌, ◌<◌, ◌≤◌, None, find, position};
 ghost use Rattle.std.specs.VecDeque.{deque_len, deque_capacity};
 ghost use Rattle.std.specs.List.{list_any};
-ghost use Rattle.mq_queue.specs.Rows.{insert_row, keep, retag, has_ident, is_id, is_wanted, is_after, is_free};
-ghost use Rattle.mq_queue.specs.Ends.{IsEndOfLane};
-ghost use Rattle.mq_queue.specs.Queues.{AreDistinct, AreInOrder, is_takable, is_free_one, is_held_one, has_other_ident, hold_row, release_row, freed, lane_of};
+ghost use Rattle.mq_queue.specs.Rows.{insert_row, keep, retag, has_ident};
+ghost use Rattle.mq_queue.specs.Queues.{AreDistinct, AreInOrder, is_free_one, is_held_one, has_other_ident, hold_row, release_row, freed, unit_freed, is_lasting};
+ghost use Rattle.mq_queue.specs.Counts.{AreCounts};
 
-use crate::row::{Row, lane_at};
-use mq_message::{Holder, Ident, Message, Place, Want};
+use crate::asked::{is_by_unit, is_free, is_persistent};
+use crate::counts::{count_in, count_out};
+use crate::places::end_of_lane;
+use crate::row::Row;
+use mq_message::{Holder, Ident};
 use std::collections::VecDeque;
-
-/// The lane of a message: by its priority, or the one lane of first in, first out.
-pub fn lane_of(by_priority: bool, message: &Message) -> u8
-    ensures { result ≡ lane_of by_priority message.now }
-{
-    if by_priority {
-        lane_at(message.md.priority)
-    } else {
-        0
-    }
-}
-
-fn is_free(row: &Row) -> bool
-    ensures { result ≡ is_free row.now }
-{
-    match row.by {
-        None => true,
-        Some(_) => false,
-    }
-}
-
-fn is_id(wanted: &Option<[u8; 24]>, id: &[u8; 24]) -> bool
-    ensures { result ≡ is_id wanted.now id.now }
-{
-    match wanted {
-        None => true,
-        Some(wanted) => wanted == id,
-    }
-}
-
-fn is_wanted(want: &Want, row: &Row) -> bool
-    ensures { result ≡ is_wanted want.now row.now }
-{
-    is_id(&want.msg_id, &row.message.md.msg_id) && is_id(&want.correl_id, &row.message.md.correl_id)
-}
-
-fn is_after(after: Option<Place>, row: &Row) -> bool
-    ensures { result ≡ is_after after row.now }
-{
-    match after {
-        None => true,
-        Some(place) => {
-            place.lane < row.place.lane
-                || (place.lane == row.place.lane && place.arrival < row.place.arrival)
-        }
-    }
-}
-
-/// A row that a get may take.
-pub fn is_takable(want: &Want, after: Option<Place>, row: &Row) -> bool
-    ensures { result ≡ is_takable want.now after row.now }
-{
-    is_free(row) && is_after(after, row) && is_wanted(want, row)
-}
-
-/// Where the first row of a later lane stands, or the end.
-fn end_of_lane(rows: &VecDeque<Row>, lane: u8) -> usize
-    requires { AreInOrder rows.now.items }
-    ensures place { IsEndOfLane lane rows.now.items result }
-    ensures within { result ≤ deque_len rows.now }
-{
-    rows.partition_point(|row| row.place.lane <= lane)
-}
 
 fn place_of(rows: &VecDeque<Row>, ident: &Ident) -> Option<usize>
     ensures { result ≡ position (has_ident ident.now) rows.now.items }
@@ -94,13 +34,16 @@ fn place_of_held(rows: &VecDeque<Row>, ident: &Ident) -> Option<usize>
 }
 
 /// Puts a row in at the end of its lane.
-pub fn put_row(rows: &mut VecDeque<Row>, row: Row)
+pub fn put_row(rows: &mut VecDeque<Row>, frees: &mut [u64; 10], row: Row)
     requires room { deque_len rows.old < deque_capacity rows.old }
     requires order { AreInOrder rows.old.items }
+    requires counts { AreCounts frees.old rows.old.items }
     ensures rows { rows.new.items ≡ insert_row row rows.old.items }
     ensures len { deque_len rows.new ≡ deque_len rows.old + 1 }
     ensures capacity { deque_capacity rows.old ≤ deque_capacity rows.new }
+    ensures counts { AreCounts frees.new rows.new.items }
 {
+    count_in(frees, &row);
     let at = end_of_lane(rows, row.place.lane);
     match rows.insert(at, row) {
         Ok(()) => {}
@@ -109,30 +52,38 @@ pub fn put_row(rows: &mut VecDeque<Row>, row: Row)
 }
 
 /// Takes the row with an ident out.
-pub fn take_row(rows: &mut VecDeque<Row>, ident: &Ident) -> Option<Row>
-    requires { AreDistinct rows.old.items }
+pub fn take_row(rows: &mut VecDeque<Row>, frees: &mut [u64; 10], ident: &Ident) -> Option<Row>
+    requires distinct { AreDistinct rows.old.items }
+    requires counts { AreCounts frees.old rows.old.items }
     ensures found { result ≡ find (has_ident ident.now) rows.old.items }
     ensures rows { rows.new.items ≡ keep (has_other_ident ident.now) rows.old.items }
     ensures len { deque_len rows.new ≤ deque_len rows.old }
     ensures capacity { deque_capacity rows.new ≡ deque_capacity rows.old }
+    ensures counts { AreCounts frees.new rows.new.items }
 {
     match place_of(rows, ident) {
         None => None,
-        Some(at) => rows.remove(at),
+        Some(at) => {
+            count_out(frees, &rows[at]);
+            rows.remove(at)
+        }
     }
 }
 
 /// Holds the free row with an ident.
-pub fn hold_one(rows: &mut VecDeque<Row>, ident: &Ident, by: &Holder) -> bool
-    requires { AreDistinct rows.old.items }
+pub fn hold_one(rows: &mut VecDeque<Row>, frees: &mut [u64; 10], ident: &Ident, by: &Holder) -> bool
+    requires distinct { AreDistinct rows.old.items }
+    requires counts { AreCounts frees.old rows.old.items }
     ensures held { result ≡ list_any (is_free_one ident.now) rows.old.items }
     ensures rows { rows.new.items ≡ retag (hold_row ident.now by.now) rows.old.items }
     ensures len { deque_len rows.new ≡ deque_len rows.old }
     ensures capacity { deque_capacity rows.new ≡ deque_capacity rows.old }
+    ensures counts { AreCounts frees.new rows.new.items }
 {
     match place_of_free(rows, ident) {
         None => false,
         Some(at) => {
+            count_out(frees, &rows[at]);
             rows[at].by = Some(*by);
             true
         }
@@ -150,18 +101,49 @@ fn free_row(row: &mut Row, backed_out: bool)
 }
 
 /// Frees the held row with an ident.
-pub fn release_one(rows: &mut VecDeque<Row>, ident: &Ident, backed_out: bool) -> bool
-    requires { AreDistinct rows.old.items }
+pub fn release_one(rows: &mut VecDeque<Row>, frees: &mut [u64; 10], ident: &Ident, backed_out: bool) -> bool
+    requires distinct { AreDistinct rows.old.items }
+    requires counts { AreCounts frees.old rows.old.items }
     ensures released { result ≡ list_any (is_held_one ident.now) rows.old.items }
     ensures rows { rows.new.items ≡ retag (release_row ident.now backed_out) rows.old.items }
     ensures len { deque_len rows.new ≡ deque_len rows.old }
     ensures capacity { deque_capacity rows.new ≡ deque_capacity rows.old }
+    ensures counts { AreCounts frees.new rows.new.items }
 {
     match place_of_held(rows, ident) {
         None => false,
         Some(at) => {
             free_row(&mut rows[at], backed_out);
+            count_in(frees, &rows[at]);
             true
         }
+    }
+}
+
+/// The rows whose messages are persistent stay.
+pub fn keep_lasting(rows: &mut VecDeque<Row>)
+    ensures rows { rows.new.items ≡ keep is_lasting rows.old.items }
+    ensures len { deque_len rows.new ≤ deque_len rows.old }
+    ensures capacity { deque_capacity rows.new ≡ deque_capacity rows.old }
+{
+    rows.retain(|row| is_persistent(&row.message));
+}
+
+fn free_by_unit(row: &mut Row)
+    ensures { row.new ≡ unit_freed row.old }
+{
+    if is_by_unit(row) {
+        free_row(row, true);
+    }
+}
+
+/// The rows that units hold are free again, each with one backout more.
+pub fn free_units(rows: &mut VecDeque<Row>)
+    ensures rows { rows.new.items ≡ retag unit_freed rows.old.items }
+    ensures len { deque_len rows.new ≡ deque_len rows.old }
+    ensures capacity { deque_capacity rows.new ≡ deque_capacity rows.old }
+{
+    for at in 0..rows.len() {
+        free_by_unit(&mut rows[at]);
     }
 }

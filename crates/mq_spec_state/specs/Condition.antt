@@ -1,7 +1,6 @@
 -- The condition of a trigger, tried once for a row that a commit has placed.
-use Rattle.std.specs.Prelude.{ℕ, ℤ, ◌+◌, ◌==◌, nat_le, Bool, true, false, not, ◌&&◌, ◌||◌, Option, Some, None, count_by, is_some}
-use Rattle.mq_queue.specs.declared.row.Row.{Row}
-use Rattle.mq_queue.specs.Rows.{is_free}
+use Rattle.std.specs.Prelude.{ℕ, ℤ, ◌+◌, ◌==◌, nat_le, Bool, true, false, not, ◌&&◌, ◌||◌, Option, Some, None, is_some}
+use Rattle.mq_queue.specs.Queues.{count_waiting}
 use Rattle.mq_spec_state.specs.Terms.{LocalQueue, TriggerType}
 use Rattle.mq_objects.specs.declared.object.TriggerType.TheVariants as triggers
 use Rattle.mq_objects.specs.Names.{local_of, process_of, is_transmission}
@@ -10,7 +9,7 @@ use Rattle.mq_spec_state.specs.Reads.{stored, has_priority, is_open_for_input, r
 
 -- free rows of priority at least TRIGMPRI; uncommitted messages are not counted
 abbrev pub waiting : LocalQueue → Plain → ℕ
-waiting q p = count_by (λ (row : Row). is_free row && has_priority q.trigger_priority row.message.md.priority) (stored q.name p).rows
+waiting q p = count_waiting q.trigger_priority (stored q.name p).rows
 
 -- a trigger of this queue became due since the start, and so long ago
 abbrev pub is_long_ago : ℕ → ℕ → Option ℕ → Bool

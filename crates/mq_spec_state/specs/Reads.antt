@@ -6,6 +6,7 @@ use Rattle.mq_spec_state.specs.Terms.{Ident, Message, Holder, RouteEnd, PathStep
 use Rattle.mq_message.specs.declared.place.Holder.TheVariants as holders
 use Rattle.mq_queue.specs.declared.row.Row.{Row}
 use Rattle.mq_queue.specs.Rows.{has_ident, is_free}
+pub use Rattle.mq_queue.specs.Rows.{is_int, is_persistent, is_by_unit, has_priority}
 use Rattle.mq_resolve.specs.declared.route.RouteEnd.TheVariants.{Local, Via}
 use Rattle.mq_resolve.specs.declared.route.PathStep.TheVariants as steps
 use Rattle.mq_calls.specs.declared.answers.Input.TheVariants as inputs
@@ -39,14 +40,6 @@ receiver_in channel (r ∷ rs) = if bytes_eq channel r.channel then Some r.harde
 
 abbrev pub receiver_data : List ℕ → Plain → Option ReceiverData
 receiver_data channel p = receiver_in channel p.channels.receivers
-
--- a whole number that is this one
-abbrev pub is_int : ℕ → ℤ → Bool
-is_int n (pos m) = n == m
-is_int n (negsuc m) = false
-
-abbrev pub is_persistent : Message → Bool
-is_persistent m = is_int 1 m.md.persistence
 
 abbrev pub connection_at : ℕ → List Connection → Option Connection
 connection_at number [] = None
@@ -131,12 +124,6 @@ read_by_sender name p = list_any (λ (s : Seizure). bytes_eq name s.queue) p.cha
 abbrev pub is_open_for_input : List ℕ → Plain → Bool
 is_open_for_input name p = read_by_handle name p || read_by_sender name p
 
--- a unit holds one of its rows
-abbrev pub is_by_unit : Option Holder → Bool
-is_by_unit None = false
-is_by_unit (Some (holders.Unit n)) = true
-is_by_unit (Some (holders.Batch c)) = false
-
 -- a row is held, by a unit or a batch
 abbrev pub has_held : List ℕ → Plain → Bool
 has_held name p = list_any (λ (row : Row). not (is_free row)) (stored name p).rows
@@ -181,11 +168,6 @@ in_doubt_of (Some d) = d.in_doubt
 abbrev pub channel_busy : List ℕ → Plain → Bool
 channel_busy channel p =
     is_some (seizure_of channel p.channels.seizures) || list_any (bytes_eq channel) p.channels.bound || is_some (in_doubt_of (sender_data channel p))
-
--- free rows of at least this lane's priority
-abbrev pub has_priority : ℕ → ℤ → Bool
-has_priority least (pos n) = nat_le least n
-has_priority least (negsuc n) = least == 0
 
 abbrev pub free_rows : List ℕ → Plain → List Row
 free_rows name p = filter is_free (stored name p).rows

@@ -18,4 +18,4 @@ returns-in-Some-clause-held c = some_there (is_free_one c.args.ident.now) c.args
 pub returns-in-Some-clause-rows : goal.returns-in-Some-clause-rows
 returns-in-Some-clause-rows c =
     some_turned (is_free_one c.args.ident.now) (λ (row : Row). record row { by = Some c.args.by.now }) c.args.rows.now.items c.in-Some.at c.index_mut.result.now (sym c.in-Some.ensures) c.index_mut.ensures.value
-    (by_ident_and c.args.ident.now is_free c.args.rows.now.items c.requires)
+    (by_ident_and c.args.ident.now is_free c.args.rows.now.items c.requires.distinct)

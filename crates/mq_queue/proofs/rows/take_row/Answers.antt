@@ -15,4 +15,4 @@ returns-in-Some-clause-found c =
 
 pub returns-in-Some-clause-rows : goal.returns-in-Some-clause-rows
 returns-in-Some-clause-rows c =
-    some_left (has_ident c.args.ident.now) c.args.rows.now.items _ _ c.in-Some.at c.remove.result c.args.rows.now.ok.0 (sym c.in-Some.ensures) c.remove.ensures.variant c.remove.ensures.items (by_ident c.args.ident.now c.args.rows.now.items c.requires)
+    some_left (has_ident c.args.ident.now) c.args.rows.now.items _ _ c.in-Some.at c.remove.result c.args.rows.now.ok.0 (sym c.in-Some.ensures) c.remove.ensures.variant c.remove.ensures.items (by_ident c.args.ident.now c.args.rows.now.items c.requires.distinct)

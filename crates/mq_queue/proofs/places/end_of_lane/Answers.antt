@@ -1,7 +1,7 @@
 use Rattle.std.proofs.Common.{leb, rules}
 use Rattle.std.proofs.lemmas.List.Sorted.{IsPartitionPoint-from_clause, IsPartitionedBy-leb}
 use Rattle.mq_queue.proofs.EndLaws.{rising}
-use Rattle.mq_queue.proofs.rows.end_of_lane.Goals as goal
+use Rattle.mq_queue.proofs.places.end_of_lane.Goals as goal
 
 pub returns-clause-place : goal.returns-clause-place
 returns-clause-place c =
