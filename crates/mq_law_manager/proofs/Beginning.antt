@@ -47,7 +47,7 @@ image_holds given image moment h = record {
   };
   taken = record { held = λ q x n m e. absurd (h.held q x n m e); there = λ n t m. absurd m; take_once = λ n. tt };
   batched = record { of = λ q x c m e. of_doubt q x.message.ident (doubt_in image c) (h.batch q x c m e); full = λ c b i e m. absurd cc; one = λ c b e. absurd cc };
-  ordered = record { in_order = h.in_order; counted = h.counted };
+  ordered = record { in_order = h.in_order; counted = h.counted; fits = h.fits };
 }
 
 pub begun_holds : (given : Given) (image : Image) (moment : ℕ) → IsImage given.number image → Sound (begun given image moment)

@@ -1,5 +1,5 @@
 -- What holds of the rows of one manager, always.
-use Rattle.std.specs.Prelude.{ℕ, ◌≡◌, ◌≢◌, ◌⊎◌, Bool, false, List, [], ◌∷◌, Option, Some, None}
+use Rattle.std.specs.Prelude.{ℕ, ◌≡◌, ◌≢◌, ◌≤◌, ◌⊎◌, Bool, false, List, [], ◌∷◌, length, Option, Some, None}
 use Rattle.mq_message.specs.declared.message.Ident.{Ident}
 use Rattle.mq_message.specs.declared.place.Holder.TheVariants as holders
 use Rattle.mq_queue.specs.declared.row.Row.{Row}
@@ -76,6 +76,7 @@ pub record AreBatched (rows : List ℕ → List Row) (batch : List ℕ → Optio
 pub record AreOrdered (rows : List ℕ → List Row) (arrivals : List ℕ → ℕ) : Type 0 where
   pub in_order : (q : List ℕ) → AreInOrder (rows q)
   pub counted : (q : List ℕ) → AreCounted (arrivals q) (rows q)
+  pub fits : (q : List ℕ) → length (rows q) ≤ arrivals q
 
 pub record Holds (v : View) : Type 0 where
   pub apart : AreApart v.rows v.puts v.unborn

@@ -1,5 +1,5 @@
 -- What an image of a log has, of which a manager begins: what recovery is to give.
-use Rattle.std.specs.Prelude.{ℕ, ◌≡◌, ◌≢◌, ◌<◌, List, Option, Some}
+use Rattle.std.specs.Prelude.{ℕ, ◌≡◌, ◌≢◌, ◌<◌, ◌≤◌, length, List, Option, Some}
 use Rattle.mq_message.specs.declared.place.Holder.TheVariants as holders
 use Rattle.mq_queue.specs.declared.row.Row.{Row}
 use Rattle.mq_queue.specs.Queues.{AreInOrder, AreCounted}
@@ -19,6 +19,7 @@ pub record IsImage (manager : ℕ) (image : Image) : Type 0 where
   -- rows are in order of place, counted by their queue, each ident once at the manager, and its own of an earlier incarnation
   pub in_order : (q : List ℕ) → AreInOrder (rows_in image q)
   pub counted : (q : List ℕ) → AreCounted (queue_in q image.queues).arrivals (rows_in image q)
+  pub fits : (q : List ℕ) → length (rows_in image q) ≤ (queue_in q image.queues).arrivals
   pub once : (q : List ℕ) → Differ ident_of (rows_in image q)
   pub alone : (q d : List ℕ) (h k : Row) → Mem h (rows_in image q) → Mem k (rows_in image d) → h.message.ident ≡ k.message.ident → q ≡ d
   pub older : (q : List ℕ) (h : Row) → Mem h (rows_in image q) → h.message.ident.manager ≡ manager → h.message.ident.incarnation < image.incarnation

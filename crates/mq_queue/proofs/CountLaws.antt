@@ -1,6 +1,6 @@
 -- Free rows are counted as rows are placed, taken out and changed.
 use Rattle.std.proofs.Common.{◌≡◌, ℕ, zero, suc, ◌+◌, ◌<◌, ◌≤◌, ◌^◌, Bool, true, false, cond, List, [], ◌∷◌, length, take, get_or, refl, sym, ap, subst, ◌∙◌, arith, get_or-set_same}
-use Rattle.std.specs.Prelude.{Some, count_by, position, nat_lt, nat_le, not, ℤ, pos, negsuc, ◌||◌, slice_get, slice_set, ◌&&◌}
+use Rattle.std.specs.Prelude.{Some, count_by, position, nat_lt, not, ℤ, pos, negsuc, ◌||◌, slice_get, slice_set, ◌&&◌}
 use Rattle.std.specs.List.{list_any}
 use Rattle.std.proofs.lemmas.List.{length-take}
 use Rattle.std.proofs.lemmas.List.Recursion.{is_count_by}
@@ -10,9 +10,9 @@ use Rattle.std.proofs.lemmas.Option.{slice_get_read}
 use Rattle.std.proofs.lemmas.Bool.Decides.{nat_tests}
 use Rattle.mq_message.specs.declared.message.Ident.{Ident}
 use Rattle.mq_queue.specs.declared.row.Row.{Row}
-use Rattle.mq_queue.specs.Rows.{has_ident, is_free, has_priority, insert_row}
+use Rattle.mq_queue.specs.Rows.{has_ident, is_free, has_priority}
 use Rattle.mq_queue.specs.Queues.{is_waiting, count_waiting, is_held_one}
-use Rattle.mq_queue.specs.Counts.{AreCounts, weight, IsOneMore, HaveRoom, AreEnough}
+use Rattle.mq_queue.specs.Counts.{AreCounts, weight, IsOneMore, HaveRoom}
 
 -- The count as a recursion.
 

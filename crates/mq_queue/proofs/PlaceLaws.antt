@@ -150,7 +150,7 @@ found_at place (x ∷ xs) zero row o h e =
     let same : x ≡ row = cc in
     subst (λ (r : Row). find (is_at place) (x ∷ xs) ≡ cond (is_at place r) (Some r) None) same
     (step_at place x xs (is_at place x) refl (λ no. none_at place xs (λ k d lt.
-        behind_apart (get_or xs k d).place place (before_trans place x.place (get_or xs k d).place (behind_or_at x.place place (h.1 0 x (omega arith) (omega arith)) no) (behind_at x.place xs k d o.0 lt)))))
+    behind_apart (get_or xs k d).place place (before_trans place x.place (get_or xs k d).place (behind_or_at x.place place (h.1 0 x (omega arith) (omega arith)) no) (behind_at x.place xs k d o.0 lt)))))
 found_at place (x ∷ xs) (suc at) row o h e =
     rw (before_apart x.place place (h.0 0 x (omega arith) (omega arith)))
     (found_at place xs at row o.1 ((λ k d a b. h.0 (suc k) d (omega arith) (omega (arith, b))), (λ k d a b. h.1 (suc k) d (omega (arith, a)) (omega (arith, b)))) e)

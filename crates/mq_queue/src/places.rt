@@ -51,7 +51,11 @@ fn row_from<'a>(rows: &'a VecDeque<Row>, start: usize, want: &Want) -> Option<&'
 }
 
 /// The first free row behind a place that has the ids asked for.
-pub fn first_takable<'a>(rows: &'a VecDeque<Row>, want: &Want, after: Option<Place>) -> Option<&'a Row>
+pub fn first_takable<'a>(
+    rows: &'a VecDeque<Row>,
+    want: &Want,
+    after: Option<Place>,
+) -> Option<&'a Row>
     requires { AreInOrder rows.now.items }
     ensures { option_copied result ≡ find (is_takable want.now after) rows.now.items }
 {

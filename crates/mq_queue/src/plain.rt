@@ -163,6 +163,7 @@ impl Queue for PlainQueue {
             }
         }
     }
+
     fn keep_lasting(&mut self) {
         keep_lasting(&mut self.rows);
         self.frees = counts_of(&self.rows);

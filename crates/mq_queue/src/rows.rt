@@ -101,7 +101,12 @@ fn free_row(row: &mut Row, backed_out: bool)
 }
 
 /// Frees the held row with an ident.
-pub fn release_one(rows: &mut VecDeque<Row>, frees: &mut [u64; 10], ident: &Ident, backed_out: bool) -> bool
+pub fn release_one(
+    rows: &mut VecDeque<Row>,
+    frees: &mut [u64; 10],
+    ident: &Ident,
+    backed_out: bool,
+) -> bool
     requires distinct { AreDistinct rows.old.items }
     requires counts { AreCounts frees.old rows.old.items }
     ensures released { result ≡ list_any (is_held_one ident.now) rows.old.items }
