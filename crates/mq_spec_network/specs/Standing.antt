@@ -1,7 +1,7 @@
 -- The standing rows of a network: the committed rows of each queue, less those of a batch whose receiver has them.
-use Rattle.std.specs.Prelude.{ℕ, ◌+◌, ◌==◌, ◌&&◌, pos, Bool, false, not, List, [], ◌∷◌, if◌then◌else◌, Option, Some, None, map, filter, slice_get, suc}
+use Rattle.std.specs.Prelude.{ℕ, ◌+◌, ◌==◌, ◌&&◌, pos, Bool, false, not, List, [], ◌∷◌, if◌then◌else◌, Option, Some, None, map, slice_get, suc}
 use Rattle.std.specs.Str.{bytes_eq}
-use Rattle.mq_spec_network.specs.Terms.{Holder, Row, Luw, InDoubt, ReceiverData, no_unit, same_unit, CableLine, Scenario, History, Shelf, ManagerPlaces, Plain, Queue, stored, sender_data, receiver_data, in_doubt_of, Node, after, opening_node}
+use Rattle.mq_spec_network.specs.Terms.{Holder, Row, keep, Luw, InDoubt, ReceiverData, no_unit, same_unit, CableLine, Scenario, History, Shelf, ManagerPlaces, Plain, Queue, stored, sender_data, receiver_data, in_doubt_of, Node, after, opening_node}
 use Rattle.mq_message.specs.declared.place.Holder.TheVariants as holders
 use Rattle.mq_spec_network.specs.Story.{Line, part}
 use Rattle.mq_spec_network.specs.Given.{surroundings}
@@ -43,7 +43,7 @@ is_held_there s ps p (Some (holders.Unit n)) = false
 is_held_there s ps p (Some (holders.Batch channel)) = counts_there s ps p channel
 
 abbrev pub standing_in : Scenario → List Plain → Plain → List Row → List Row
-standing_in s ps p rows = filter (λ (row : Row). not (is_held_there s ps p row.by)) rows
+standing_in s ps p rows = keep (λ (row : Row). not (is_held_there s ps p row.by)) rows
 
 abbrev pub standing_of : Scenario → List Plain → List ℕ → Option Plain → List Row
 standing_of s ps name None = []

@@ -15,4 +15,5 @@ pub mod Doers
 pub mod Lines
 pub mod Monitors
 pub mod Answers
+pub mod Values
 pub mod Words

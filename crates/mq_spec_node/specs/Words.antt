@@ -15,3 +15,4 @@ pub use Rattle.mq_spec_node.specs.Doers.{is_sender, is_receiver, is_script, by, 
 pub use Rattle.mq_spec_node.specs.Lines.{lines_by, lines_done, memory_after, memory_by, left_after, call_after, is_none, waits_at, Next, deadline_kept, next_if, next_until, next_of, next_by}
 pub use Rattle.mq_spec_node.specs.Monitors.{shared, is_opened, appl_id, got_body, script_named, unless_begun, begins, is_failed, monitor_get, gets_nothing, monitor_call, call_of, monitor_next, monitor_deed, monitor_idle, has_connection, is_live, monitor_live}
 pub use Rattle.mq_spec_node.specs.Answers.{sc_stopped, op_stopped, start_stopped, command_stopped, act_stopped, stopped_as, answer_of}
+pub use Rattle.mq_spec_node.specs.Values.{NodeValue, stamp_after, IsReplayed, more_entries, Grows, is_spent, item_of, item_if, items_of, PopsOne, Pops}
