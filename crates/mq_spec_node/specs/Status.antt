@@ -2,6 +2,7 @@
 use Rattle.std.specs.Prelude.{ℕ, Bool, List, [], ◌∷◌, ◌++◌, if◌then◌else◌, Option, Some, None, length, map, filter, take, codes}
 use Rattle.std.specs.Fmt.{decimal}
 use Rattle.std.specs.Str.{bytes_eq}
+use Rattle.mq_objects.specs.Attributes.{in_brackets}
 use Rattle.mq_spec_node.specs.Terms.{InDoubt, SenderData, ReceiverData, no_unit, unit_text, SenderState, ReceiverState, Plain, is_up, sender_data, receiver_data, sender_or, receiver_or}
 use Rattle.mq_calls.specs.declared.commands.ScRefusal.TheVariants as refusals
 use Rattle.mq_history.specs.declared.acts.Acted.TheVariants as acted
@@ -29,25 +30,22 @@ receiver_word receiver_states.Inactive = codes "INACTIVE"
 receiver_word receiver_states.Stopped = codes "STOPPED"
 receiver_word (receiver_states.Bound latest came) = codes "RUNNING"
 
-abbrev pub word_in : List ℕ → List ℕ → List ℕ
-word_in word value = word ++ codes "(" ++ value ++ codes ")"
-
 -- the unit in doubt and its last number, or no unit and the last number
 abbrev pub doubt_words : ℕ → Option InDoubt → List ℕ
-doubt_words last None = word_in (codes " INDOUBT") (codes "NO") ++ word_in (codes " CURLUWID") (unit_text no_unit) ++ word_in (codes " CURSEQNO") (decimal last)
-doubt_words last (Some d) = word_in (codes " INDOUBT") (codes "YES") ++ word_in (codes " CURLUWID") (unit_text d.unit) ++ word_in (codes " CURSEQNO") (decimal d.last)
+doubt_words last None = in_brackets (codes " INDOUBT") (codes "NO") ++ in_brackets (codes " CURLUWID") (unit_text no_unit) ++ in_brackets (codes " CURSEQNO") (decimal last)
+doubt_words last (Some d) = in_brackets (codes " INDOUBT") (codes "YES") ++ in_brackets (codes " CURLUWID") (unit_text d.unit) ++ in_brackets (codes " CURSEQNO") (decimal d.last)
 
 abbrev pub sender_words : SenderData → List ℕ
 sender_words d = doubt_words d.last d.in_doubt
 
 abbrev pub receiver_words : ReceiverData → List ℕ
-receiver_words d = word_in (codes " LSTLUWID") (unit_text d.unit) ++ word_in (codes " LSTSEQNO") (decimal d.last)
+receiver_words d = in_brackets (codes " LSTLUWID") (unit_text d.unit) ++ in_brackets (codes " LSTSEQNO") (decimal d.last)
 
 abbrev pub status_line : Plain → ChannelEnd → List ℕ
 status_line p (Sends e) =
-    word_in (codes "CHSTATUS") e.channel ++ word_in (codes " STATUS") (sender_word e.machine.state) ++ sender_words (sender_or (sender_data e.channel p))
+    in_brackets (codes "CHSTATUS") e.channel ++ in_brackets (codes " STATUS") (sender_word e.machine.state) ++ sender_words (sender_or (sender_data e.channel p))
 status_line p (Receives e) =
-    word_in (codes "CHSTATUS") e.channel ++ word_in (codes " STATUS") (receiver_word e.machine.state) ++ receiver_words (receiver_or (receiver_data e.channel p))
+    in_brackets (codes "CHSTATUS") e.channel ++ in_brackets (codes " STATUS") (receiver_word e.machine.state) ++ receiver_words (receiver_or (receiver_data e.channel p))
 
 -- a whole name, or the beginning of one
 abbrev pub channel_at : ChannelEnd → List ℕ

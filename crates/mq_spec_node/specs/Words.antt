@@ -4,7 +4,7 @@ pub use Rattle.mq_spec_node.specs.Deeds.{Deed, told, parts_of, mqi_deed, ended_d
 pub use Rattle.mq_spec_node.specs.Senders.{sender_end_after, leave_if_stopped, carried, doubted, settle_parts, settle_parts_if, sent, begin_deed, prepare_deed, sender_deed_by, sender_deed, after_timeout, timeout_deed}
 pub use Rattle.mq_spec_node.specs.Receivers.{is_receiver_defined, kept_kind, kept_seen, receiver_end_after, close_parts, bind_parts, place_deed, receiver_deed_by, receiver_deed}
 pub use Rattle.mq_spec_node.specs.Operators.{refused, operated, refused_or, tested, end_of_kind, end_defined, end_here, kind_limits, limits_of, limits_here, seize_refusal, sender_started, start_seized, start_end, is_open, close_open, stop_end, is_bad_number, is_in_doubt, reset_end, resolve_doubt, resolve_end, operate_up, operate}
-pub use Rattle.mq_spec_node.specs.Status.{sender_word, receiver_word, word_in, doubt_words, sender_words, receiver_words, status_line, channel_at, is_asked, shown, show_status}
+pub use Rattle.mq_spec_node.specs.Status.{sender_word, receiver_word, doubt_words, sender_words, receiver_words, status_line, channel_at, is_asked, shown, show_status}
 pub use Rattle.mq_spec_node.specs.Handlers.{input_queue, is_readable, is_tried, tries_of, is_due, is_letter, is_handled, next_letter, head_of, matching, rule_in_force, failed_of, tried_as, tried_deed, ignored, try_later, failed, moved, forward_to, retry_to, acted, ruled, in_force, letter_deed, handler_row, handler_on, handler_deed}
 pub use Rattle.mq_spec_node.specs.Openings.{most_restart_calls, resumed, first_node}
 pub use Rattle.mq_spec_node.specs.Calls.{get_done, got_deed, get_deed, command_deed, obey_deed, trigger_deed_of, where_up, trigger_deed, sender_turn, receiver_turn, handler_turn, turn_up, timeout_of, timeout_by, deed_of}
