@@ -92,6 +92,7 @@ pushed_of fs before x extras = pushed_by spoiled fs before x extras
 abbrev pub Offered : Type 0
 Offered = Offer Item
 
+-- what the faults make of them
 abbrev pub made_from : List Fault → (before : List Item) → List Offered → List Item
 made_from fs before os = made_after spoiled fs before os
 

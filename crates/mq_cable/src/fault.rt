@@ -1,3 +1,4 @@
+//! Scripted faults of one direction, and which one is on a frame.
 ghost use Rattle.std.specs.Prelude.{◌≡◌};
 ghost use Rattle.mq_cable.specs.Faults.{names, fault_of};
 

@@ -1,3 +1,4 @@
+//! Laws of what the scripted faults make of the items that are offered.
 ghost use Rattle.std.specs.Prelude.{◌≡◌, ◌++◌, ◌∷◌, [], List};
 ghost use Rattle.std.specs.List.{AllByRecursion};
 ghost use Rattle.mq_cable.specs.declared.item.Item.{Item};

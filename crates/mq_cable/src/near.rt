@@ -1,3 +1,4 @@
+//! Both directions of a channel in one thread.
 use crate::item::{Full, Item};
 use crate::items::Items;
 use crate::wire::Wire;
@@ -9,9 +10,13 @@ const MOST: usize = 64;
 /// as fetched.
 #[derive(Drop)]
 pub struct Near {
+    /// The direction read.
     pub read: Items,
+    /// The direction written.
     pub write: Items,
+    /// How many pushes were answered Full.
     pub fulls: u64,
+    /// How many fetches were answered false.
     pub empties: u64,
 }
 

@@ -1,3 +1,4 @@
+//! The offering of frames on one direction, with its scripted faults.
 ghost use Rattle.std.specs.Prelude.{◌≡◌, ℕ, suc, ◌+◌, ◌<◌, ◌≤◌, ◌^◌, [], ◌∷◌, ◌++◌, List, length, take, IfOk, IfErr, OnOk, OnErr, Some, None};
 ghost use Rattle.mq_cable.specs.declared.item.Item.{Item};
 ghost use Rattle.mq_cable.specs.declared.fault.Fault.TheVariants as faults;

@@ -1,3 +1,4 @@
+//! Extra items: those that a fault holds back or repeats.
 ghost use Rattle.std.specs.Prelude.{◌≡◌, ℕ, ◌<◌, ◌≤◌, ◌^◌, [], ◌∷◌, List, length, take, map, filter, MatchOption, All};
 ghost use Rattle.std.specs.List.{position, remove};
 ghost use Rattle.mq_cable.specs.declared.item.Item.{Item};
@@ -10,6 +11,7 @@ use crate::wire::Wire;
 /// An item that is still to be pushed, and the number of the frame after which it is.
 #[derive(Drop)]
 pub struct Kept {
+    /// The number of a frame, from 1.
     pub after: u64,
     pub item: Item,
 }

@@ -1,3 +1,4 @@
+//! The two directions that one end of a channel uses.
 ghost use Rattle.std.specs.Prelude.{◌≡◌, ℕ, ◌≤◌, ◌^◌, [], ◌∷◌, ◌++◌, List, Option, IfErr, OnOk, IfSome, IsSome, MatchBool};
 ghost use Rattle.std.specs.Option.{option_copied};
 ghost use Rattle.mq_base.specs.Outside.{Rose};

@@ -7,3 +7,4 @@ pub mod Commands
 pub mod Triggers
 pub mod Stops
 pub mod Words
+pub mod Waiting

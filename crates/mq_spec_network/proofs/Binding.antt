@@ -26,7 +26,7 @@ use Rattle.mq_spec_network.specs.Turns.{Network, does, is_idle}
 use Rattle.mq_spec_network.specs.Tasks.{Task, tasks_of}
 use Rattle.mq_spec_network.specs.Tasks.Slot.{Sends, Receives}
 use Rattle.mq_spec_network.specs.Tasks.Task.{Pump}
-use Rattle.mq_spec_network.specs.Steps.{Goes, Served, Takes, turn_in}
+use Rattle.mq_spec_network.specs.Steps.{Goes, Served, TakesTurn, turn_in}
 use Rattle.mq_spec_network.specs.Steps.Goes.{stays}
 use Rattle.mq_spec_network.specs.Lawful.{IsCarried, network_begun, ends_idle}
 use Rattle.mq_spec_network.proofs.Rounds.{two_served, takes, skips, rests}
@@ -139,19 +139,19 @@ idle_then = refl
 abbrev IsLeft : Network → List Task → Type 0
 IsLeft w ts = Goes network (tasks_of network (steps.Pump 100)) w ts
 
-turn1 : Takes (turn_in network Sends 0 cable) 0 hardens
+turn1 : TakesTurn (turn_in network Sends 0 cable) 0 hardens
 turn1 = record { changes = refl; is = (refl, refl, refl); popped = refl; extras = refl }
 
-turn3 : Takes (turn_in after1 Sends 0 cable) 0 binds
+turn3 : TakesTurn (turn_in after1 Sends 0 cable) 0 binds
 turn3 = record { changes = refl; is = (refl, refl, refl); popped = refl; extras = refl }
 
-turn4 : Takes (turn_in after3 Receives 0 cable) 1 is_bound
+turn4 : TakesTurn (turn_in after3 Receives 0 cable) 1 is_bound
 turn4 = record { changes = refl; is = (refl, refl, refl); popped = refl; extras = refl }
 
-turn6 : Takes (turn_in after4 Receives 0 cable) 1 answers
+turn6 : TakesTurn (turn_in after4 Receives 0 cable) 1 answers
 turn6 = record { changes = refl; is = (refl, refl, refl); popped = refl; extras = refl }
 
-turn7 : Takes (turn_in after6 Sends 0 cable) 0 runs_now
+turn7 : TakesTurn (turn_in after6 Sends 0 cable) 0 runs_now
 turn7 = record { changes = refl; is = (refl, refl, refl); popped = refl; extras = refl }
 
 served1 : Served after1

@@ -15,7 +15,7 @@ use Rattle.mq_spec_network.specs.Turns.{Network, does, is_idle, out_of}
 use Rattle.mq_spec_network.specs.Tasks.{Task, tasks_of}
 use Rattle.mq_spec_network.specs.Tasks.Slot.{Sends, Receives, TimesOut}
 use Rattle.mq_spec_network.specs.Tasks.Task.{Pump}
-use Rattle.mq_spec_network.specs.Steps.{Goes, Served, Takes, turn_in}
+use Rattle.mq_spec_network.specs.Steps.{Goes, Served, TakesTurn, turn_in}
 use Rattle.mq_spec_network.specs.Steps.Goes.{stays}
 use Rattle.mq_spec_network.proofs.Rounds.{two_served, takes, skips, rests, ends}
 use Rattle.mq_spec_network.proofs.Binding.{cable_with, network_with, paris0, entry, then, bind, binding, bound, hardens, binds, is_bound, answers, runs_now}
@@ -54,22 +54,22 @@ copy7 = does 0 (runs_now ∷ []) copy6
 abbrev copy8 : Network
 copy8 = does 1 (ignores ∷ []) copy7
 
-copy_hardens : Takes (turn_in copy0 Sends 0 copied) 0 hardens
+copy_hardens : TakesTurn (turn_in copy0 Sends 0 copied) 0 hardens
 copy_hardens = record { changes = refl; is = (refl, refl, refl); popped = refl; extras = refl }
 
-copy_binds : Takes (turn_in copy1 Sends 0 copied) 0 binds_twice
+copy_binds : TakesTurn (turn_in copy1 Sends 0 copied) 0 binds_twice
 copy_binds = record { changes = refl; is = (refl, refl, refl); popped = refl; extras = refl }
 
-copy_is_bound : Takes (turn_in copy3 Receives 0 copied) 1 is_bound
+copy_is_bound : TakesTurn (turn_in copy3 Receives 0 copied) 1 is_bound
 copy_is_bound = record { changes = refl; is = (refl, refl, refl); popped = refl; extras = refl }
 
-copy_answers : Takes (turn_in copy4 Receives 0 copied) 1 answers
+copy_answers : TakesTurn (turn_in copy4 Receives 0 copied) 1 answers
 copy_answers = record { changes = refl; is = (refl, refl, refl); popped = refl; extras = refl }
 
-copy_runs : Takes (turn_in copy6 Sends 0 copied) 0 runs_now
+copy_runs : TakesTurn (turn_in copy6 Sends 0 copied) 0 runs_now
 copy_runs = record { changes = refl; is = (refl, refl, refl); popped = refl; extras = refl }
 
-copy_ignores : Takes (turn_in copy7 Receives 0 copied) 1 ignores
+copy_ignores : TakesTurn (turn_in copy7 Receives 0 copied) 1 ignores
 copy_ignores = record { changes = refl; is = (refl, refl, refl); popped = refl; extras = refl }
 
 copy_lies : out_of copy4 0 copied ≡ whole bind ∷ []
@@ -130,16 +130,16 @@ spoil4 = does 1 (drops_it ∷ []) spoil3
 abbrev spoil7 : Network
 spoil7 = does 0 (times_out ∷ []) spoil4
 
-spoil_hardens : Takes (turn_in spoil0 Sends 0 broken) 0 hardens
+spoil_hardens : TakesTurn (turn_in spoil0 Sends 0 broken) 0 hardens
 spoil_hardens = record { changes = refl; is = (refl, refl, refl); popped = refl; extras = refl }
 
-spoil_binds : Takes (turn_in spoil1 Sends 0 broken) 0 binds
+spoil_binds : TakesTurn (turn_in spoil1 Sends 0 broken) 0 binds
 spoil_binds = record { changes = refl; is = (refl, refl, refl); popped = refl; extras = refl }
 
-spoil_drops : Takes (turn_in spoil3 Receives 0 broken) 1 drops_it
+spoil_drops : TakesTurn (turn_in spoil3 Receives 0 broken) 1 drops_it
 spoil_drops = record { changes = refl; is = (refl, refl, refl); popped = refl; extras = refl }
 
-spoil_times_out : Takes (turn_in spoil4 TimesOut 0 broken) 0 times_out
+spoil_times_out : TakesTurn (turn_in spoil4 TimesOut 0 broken) 0 times_out
 spoil_times_out = record { changes = refl; is = (refl, refl, refl); popped = refl; extras = refl }
 
 spoil_served1 : Served spoil1
@@ -206,19 +206,19 @@ late8 = does 0 (hardens_again ∷ []) late7
 abbrev late10 : Network
 late10 = does 0 (binds_again ∷ []) late8
 
-late_hardens : Takes (turn_in late0 Sends 0 waiting_on) 0 hardens
+late_hardens : TakesTurn (turn_in late0 Sends 0 waiting_on) 0 hardens
 late_hardens = record { changes = refl; is = (refl, refl, refl); popped = refl; extras = refl }
 
-late_binds : Takes (turn_in late1 Sends 0 waiting_on) 0 binds
+late_binds : TakesTurn (turn_in late1 Sends 0 waiting_on) 0 binds
 late_binds = record { changes = refl; is = (refl, refl, refl); popped = refl; extras = refl }
 
-late_times_out : Takes (turn_in late3 TimesOut 0 waiting_on) 0 times_out
+late_times_out : TakesTurn (turn_in late3 TimesOut 0 waiting_on) 0 times_out
 late_times_out = record { changes = refl; is = (refl, refl, refl); popped = refl; extras = refl }
 
-late_hardens_again : Takes (turn_in late7 Sends 0 waiting_on) 0 hardens_again
+late_hardens_again : TakesTurn (turn_in late7 Sends 0 waiting_on) 0 hardens_again
 late_hardens_again = record { changes = refl; is = (refl, refl, refl); popped = refl; extras = refl }
 
-late_binds_again : Takes (turn_in late8 Sends 0 waiting_on) 0 binds_again
+late_binds_again : TakesTurn (turn_in late8 Sends 0 waiting_on) 0 binds_again
 late_binds_again = record { changes = refl; is = (refl, refl, refl); popped = refl; extras = refl }
 
 late_lies : out_of late10 0 waiting_on ≡ whole bind_again ∷ whole bind ∷ []

@@ -21,7 +21,7 @@ use Rattle.mq_spec_network.specs.Turns.{Network, does, is_idle, out_of}
 use Rattle.mq_spec_network.specs.Tasks.{Task, tasks_of}
 use Rattle.mq_spec_network.specs.Tasks.Slot.{Sends, TimesOut}
 use Rattle.mq_spec_network.specs.Tasks.Task.{Pump}
-use Rattle.mq_spec_network.specs.Steps.{Goes, Served, Takes, turn_in, PumpSkips}
+use Rattle.mq_spec_network.specs.Steps.{Goes, Served, TakesTurn, turn_in, PumpSkips}
 use Rattle.mq_spec_network.specs.Steps.Goes.{stays}
 use Rattle.mq_spec_network.specs.Lawful.{network_begun}
 use Rattle.mq_spec_network.proofs.Rounds.{two_served, takes, skips, ends}
@@ -110,13 +110,13 @@ served_hardened = two_served hardened (λ m. refl) refl refl
 served_dropped : Served dropped
 served_dropped = two_served dropped (λ m. refl) refl refl
 
-hardens_first : Takes (turn_in network Sends 0 cable) 0 hardens
+hardens_first : TakesTurn (turn_in network Sends 0 cable) 0 hardens
 hardens_first = record { changes = refl; is = (refl, refl, refl); popped = refl; extras = refl }
 
-binds_then : Takes (turn_in hardened Sends 0 cable) 0 binds
+binds_then : TakesTurn (turn_in hardened Sends 0 cable) 0 binds
 binds_then = record { changes = refl; is = (refl, refl, refl); popped = refl; extras = refl }
 
-times_out_last : Takes (turn_in dropped TimesOut 0 cable) 0 times_out
+times_out_last : TakesTurn (turn_in dropped TimesOut 0 cable) 0 times_out
 times_out_last = record { changes = refl; is = (refl, refl, refl); popped = refl; extras = refl }
 
 first_round : Is_left hardened (Pump 2 Sends 0 false ∷ [])

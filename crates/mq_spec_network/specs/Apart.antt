@@ -1,30 +1,13 @@
 -- Whether the logs of a scenario's managers belong together.
 use Rattle.std.specs.Prelude.{ℕ, ◌≡◌, ◌-◌, ◌==◌, nat_lt, Bool, true, false, not, ◌&&◌, ◌||◌, List, [], ◌∷◌, Option, Some, None, map, flat_map, length, slice_get, zero, suc, count_by}
 use Rattle.std.specs.Str.{bytes_eq}
-use Rattle.mq_message.specs.declared.message.Ident.{Ident}
-use Rattle.mq_queue.specs.declared.row.Row.{Row}
-use Rattle.mq_queue.specs.Rows.{same_ident}
-use Rattle.mq_objects.specs.declared.object.LocalQueue.{LocalQueue}
-use Rattle.mq_objects.specs.Names.{locals_of}
-use Rattle.mq_sync.specs.declared.unit.Unit.{Unit as Luw}
-use Rattle.mq_sync.specs.declared.data.InDoubt.{InDoubt}
-use Rattle.mq_sync.specs.declared.data.SenderData.{SenderData}
-use Rattle.mq_sync.specs.declared.data.ReceiverData.{ReceiverData}
-use Rattle.mq_history.specs.declared.history.History.{History}
-use Rattle.mq_history.specs.declared.scenario.CableLine.{CableLine}
-use Rattle.mq_history.specs.declared.scenario.Scenario.{Scenario}
-use Rattle.mq_history.specs.declared.story.Apart.{Apart}
+pub use Rattle.std.specs.Option.{option_or as or_else}
+use Rattle.mq_spec_network.specs.Terms.{Ident, Row, same_ident, LocalQueue, locals_of, Luw, InDoubt, SenderData, ReceiverData, History, CableLine, Scenario, Apart, Plain, stored, sender_data, receiver_data, sender_or, receiver_or}
 use Rattle.mq_history.specs.declared.story.Apart.TheVariants as cases
-use Rattle.mq_spec_state.specs.State.{Plain}
-use Rattle.mq_spec_state.specs.Reads.{stored, sender_data, receiver_data}
-use Rattle.mq_sync.specs.Settlement.{sender_or, receiver_or}
 use Rattle.mq_spec_network.specs.Given.{name_at}
 use Rattle.mq_spec_network.specs.Standing.{standing_in, opening_managers}
 
-abbrev pub or_else : Option Apart → Option Apart → Option Apart
-or_else None rest = rest
-or_else (Some a) rest = Some a
-
+-- the first case of a list, if any
 abbrev pub first_of : List (Option Apart) → Option Apart
 first_of [] = None
 first_of (a ∷ as_) = or_else a (first_of as_)

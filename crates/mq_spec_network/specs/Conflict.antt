@@ -2,18 +2,10 @@
 use Rattle.std.specs.Prelude.{ℕ, ◌==◌, nat_lt, Bool, true, false, not, ◌&&◌, ◌||◌, List, [], ◌∷◌, if◌then◌else◌, Option, Some, None, flat_map, slice_get, ◌+◌, ◌≡◌}
 use Rattle.std.specs.List.{list_any}
 use Rattle.std.specs.Str.{bytes_eq}
-use Rattle.mq_sync.specs.declared.unit.Unit.{Unit as Luw}
-use Rattle.mq_sync.specs.declared.data.ReceiverData.{ReceiverData}
-use Rattle.mq_sync.specs.Units.{no_unit, same_unit}
+pub use Rattle.std.specs.Option.{option_or as or_else}
+use Rattle.mq_spec_network.specs.Terms.{Luw, ReceiverData, no_unit, same_unit, Did, History, CableLine, Scenario, Conflict, Plain, receiver_data}
 use Rattle.mq_calls.specs.declared.agents.Note.TheVariants as notes
-use Rattle.mq_calls.specs.declared.deltas.Did.{Did}
 use Rattle.mq_calls.specs.declared.deltas.Did.TheVariants as did
-use Rattle.mq_history.specs.declared.history.History.{History}
-use Rattle.mq_history.specs.declared.scenario.CableLine.{CableLine}
-use Rattle.mq_history.specs.declared.scenario.Scenario.{Scenario}
-use Rattle.mq_history.specs.declared.story.Conflict.{Conflict}
-use Rattle.mq_spec_state.specs.State.{Plain}
-use Rattle.mq_spec_state.specs.Reads.{receiver_data}
 use Rattle.mq_spec_network.specs.Story.{Line}
 use Rattle.mq_spec_network.specs.Standing.{opening_managers, last_unit, cable_named}
 
@@ -93,10 +85,6 @@ conflict_did s ps whole m _ = None
 
 abbrev pub conflict_in : Scenario → List Plain → List Deed → Deed → Option Conflict
 conflict_in s ps whole d = conflict_did s ps whole d.manager d.did
-
-abbrev pub or_else : Option Conflict → Option Conflict → Option Conflict
-or_else None rest = rest
-or_else (Some c) rest = Some c
 
 abbrev pub first_conflict : Scenario → List Plain → List Deed → List Deed → Option Conflict
 first_conflict s ps whole [] = None

@@ -1,17 +1,6 @@
 -- What a scenario gives each manager.
 use Rattle.std.specs.Prelude.{ℕ, ◌+◌, ◌==◌, min, List, [], ◌∷◌, ◌++◌, if◌then◌else◌, Option, Some, None, suc, slice_get}
-use Rattle.mq_history.specs.declared.scenario.ManagerLine.{ManagerLine}
-use Rattle.mq_history.specs.declared.scenario.CableLine.{CableLine}
-use Rattle.mq_history.specs.declared.scenario.MonitorLine.{MonitorLine}
-use Rattle.mq_history.specs.declared.scenario.RulesPart.{RulesPart}
-use Rattle.mq_history.specs.declared.scenario.ScriptPart.{ScriptPart}
-use Rattle.mq_history.specs.declared.scenario.Scenario.{Scenario}
-use Rattle.mq_receiver.specs.States.{receiver_of}
-use Rattle.mq_sender.specs.States.{new_sender}
-use Rattle.mq_spec_state.specs.State.{Given}
-use Rattle.mq_spec_node.specs.Node.{Own, ChannelEnd, Handler, Monitor, Script}
-use Rattle.mq_spec_node.specs.Node.ChannelEnd.{Sends, Receives}
-use Rattle.mq_spec_node.specs.Replays.{Surroundings}
+use Rattle.mq_spec_network.specs.Terms.{ManagerLine, CableLine, MonitorLine, RulesPart, ScriptPart, Scenario, receiver_of, new_sender, Given, Own, ChannelEnd, Handler, Monitor, Script, Sends, Receives, Surroundings}
 
 abbrev pub name_or : Option ManagerLine → List ℕ
 name_or None = []
@@ -34,6 +23,7 @@ abbrev pub ends_from : Scenario → ℕ → ℕ → List CableLine → List Chan
 ends_from s m cable [] = []
 ends_from s m cable (c ∷ cs) = end_at s m cable c ++ ends_from s m (suc cable) cs
 
+-- the handlers, monitors and scripts of a manager, numbered by their places in the scenario
 abbrev pub handlers_from : ℕ → ℕ → List RulesPart → List Handler
 handlers_from m number [] = []
 handlers_from m number (r ∷ rs) =
@@ -52,6 +42,7 @@ scripts_from m number (p ∷ ps) =
     if p.manager == m then record { number = number; part = p } ∷ scripts_from m (suc number) ps
     else scripts_from m (suc number) ps
 
+-- what a QMGR line gives
 abbrev pub log_max_or : Option ManagerLine → ℕ
 log_max_or None = 0
 log_max_or (Some m) = m.log_max

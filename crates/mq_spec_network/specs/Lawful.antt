@@ -1,20 +1,9 @@
 -- When the histories of a scenario's managers make a lawful story.
 use Rattle.std.specs.Prelude.{◌≡◌, ◌<◌, ℕ, Bool, false, List, [], ◌∷◌, ◌++◌, Option, Some, None, length, slice_get}
-use Rattle.mq_history.specs.declared.history.History.{History}
-use Rattle.mq_history.specs.declared.history.Mark.{Mark}
-use Rattle.mq_history.specs.declared.scenario.CableLine.{CableLine}
-use Rattle.mq_history.specs.declared.scenario.RulesPart.{RulesPart}
-use Rattle.mq_history.specs.declared.scenario.ScriptPart.{ScriptPart}
-use Rattle.mq_history.specs.declared.scenario.Scenario.{Scenario}
-use Rattle.mq_history.specs.declared.scenario.Step.{Step}
+use Rattle.mq_spec_network.specs.Terms.{History, Mark, CableLine, RulesPart, ScriptPart, Scenario, Step, Node, Surroundings, Replays, TriggersStand, NoneForeign, opening_node, AreLines, fresh, is_sender, is_receiver, by, lines_by}
 use Rattle.mq_history.specs.declared.scenario.Step.TheVariants as steps
-use Rattle.mq_spec_node.specs.Node.{Node}
-use Rattle.mq_spec_node.specs.Replays.{Surroundings, Replays, TriggersStand, NoneForeign, opening_node}
-use Rattle.mq_spec_node.specs.Scripts.{AreLines, fresh}
 use Rattle.mq_spec_network.specs.Story.{entries_at}
 use Rattle.mq_spec_network.specs.Given.{surroundings}
-use Rattle.mq_spec_node.specs.Doers.{is_sender, is_receiver, by}
-use Rattle.mq_spec_node.specs.Lines.{lines_by}
 use Rattle.mq_spec_network.specs.Cables.{Carries}
 use Rattle.mq_spec_network.specs.Turns.{Network, node_at, is_idle}
 use Rattle.mq_spec_network.specs.Tasks.{Task, tasks_of, tasks_next}
@@ -41,13 +30,13 @@ marks_or (Some h) = h.marks
 abbrev pub marks_at : List History → ℕ → List Mark
 marks_at hs m = marks_or (slice_get hs m)
 
-abbrev pub first_of : Surroundings → Option History → Option Node
-first_of g None = None
-first_of g (Some h) = Some (opening_node g h)
+abbrev pub node_begun : Surroundings → Option History → Option Node
+node_begun g None = None
+node_begun g (Some h) = Some (opening_node g h)
 
 -- the network before anything is done
 abbrev pub network_begun : Scenario → List History → Network
-network_begun s hs = record { scenario = s; first = λ m. first_of (surroundings s m) (slice_get hs m); done = λ m. [] }
+network_begun s hs = record { scenario = s; first = λ m. node_begun (surroundings s m) (slice_get hs m); done = λ m. [] }
 
 -- A mark is idle exactly where its step is a PUMP after which nothing can change, or a HANDLE whose next turn would be idle.
 abbrev pub handles_idle : ℕ → Option RulesPart → Network → Bool

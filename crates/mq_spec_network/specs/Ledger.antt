@@ -2,57 +2,17 @@
 use Rattle.std.specs.Prelude.{ℕ, zero, suc, ◌+◌, ◌==◌, min, Bool, true, false, not, ◌&&◌, ◌||◌, List, [], ◌∷◌, ◌++◌, if◌then◌else◌, Option, Some, None, Result, Ok, Err, map, filter, flat_map, find, slice_get}
 use Rattle.std.specs.List.{list_any}
 use Rattle.std.specs.Str.{bytes_eq}
-use Rattle.mq_codes.specs.declared.reason.Reason.{Reason}
+use Rattle.mq_spec_network.specs.Terms.{Reason, Ident, Dest, Md, Message, Row, same_ident, has_ident, insert_row, keep, LocalQueue, Process, local_of, process_of, new_manager, Route, resolve, Hconn, Hobj, Appl, Open, Get, Got, Comes, Did, Why, Item, Put, Take, Handle, Connection, Command, Call, Chance, Reply, Entry, Shelf, ManagerPlaces, connection_at, handle_at, is_persistent, lane_of, new_row, change_connection, Here, message_put, queue_at, dest_at, handle_route, is_destructive, definitions_after, trigger_message, last_moment, names_of, bare_if, dead_message}
 use Rattle.mq_codes.specs.declared.reason.Reason.TheVariants as reasons
-use Rattle.mq_message.specs.declared.message.Ident.{Ident}
-use Rattle.mq_message.specs.declared.message.Dest.{Dest}
-use Rattle.mq_message.specs.declared.message.Md.{Md}
-use Rattle.mq_message.specs.declared.message.Message.{Message}
-use Rattle.mq_queue.specs.declared.row.Row.{Row}
-use Rattle.mq_queue.specs.Rows.{same_ident, has_ident, insert_row, keep}
-use Rattle.mq_objects.specs.declared.object.LocalQueue.{LocalQueue}
-use Rattle.mq_objects.specs.declared.object.Process.{Process}
-use Rattle.mq_objects.specs.Names.{local_of, process_of}
-use Rattle.mq_objects.specs.Defaults.{new_manager}
-use Rattle.mq_resolve.specs.declared.route.Route.{Route}
-use Rattle.mq_resolve.specs.Resolved.{resolve}
-use Rattle.mq_calls.specs.declared.answers.Hconn.{Hconn}
-use Rattle.mq_calls.specs.declared.answers.Hobj.{Hobj}
-use Rattle.mq_calls.specs.declared.answers.Appl.{Appl}
-use Rattle.mq_calls.specs.declared.answers.Open.{Open}
 use Rattle.mq_calls.specs.declared.answers.Answer.TheVariants as answers
-use Rattle.mq_calls.specs.declared.answers.Get.{Get}
-use Rattle.mq_calls.specs.declared.answers.Got.{Got}
-use Rattle.mq_calls.specs.declared.choices.Return.TheVariants.{Comes}
-use Rattle.mq_calls.specs.declared.deltas.Did.{Did}
 use Rattle.mq_calls.specs.declared.deltas.Did.TheVariants as did
-use Rattle.mq_calls.specs.declared.deltas.Why.{Why}
 use Rattle.mq_calls.specs.declared.deltas.Why.TheVariants as whys
-use Rattle.mq_calls.specs.declared.state.Item.{Item}
-use Rattle.mq_calls.specs.declared.state.Item.TheVariants.{Put, Take}
-use Rattle.mq_calls.specs.declared.state.Handle.{Handle}
-use Rattle.mq_calls.specs.declared.state.Connection.{Connection}
 use Rattle.mq_history.specs.declared.acts.Act.TheVariants as acts
 use Rattle.mq_history.specs.declared.acts.Acted.TheVariants as acted
-use Rattle.mq_sc_parse.specs.declared.command.Command.{Command}
 use Rattle.mq_sc_parse.specs.declared.command.Command.TheVariants as commands
-use Rattle.mq_history.specs.declared.calls.Call.{Call}
 use Rattle.mq_history.specs.declared.calls.Call.TheVariants as calls
-use Rattle.mq_history.specs.declared.calls.Chance.{Chance}
 use Rattle.mq_history.specs.declared.calls.Chance.TheVariants as chances
-use Rattle.mq_history.specs.declared.calls.Reply.{Reply}
 use Rattle.mq_history.specs.declared.calls.Reply.TheVariants as replies
-use Rattle.mq_history.specs.declared.calls.Entry.{Entry}
-use Rattle.mq_calls.specs.declared.image.Shelf.{Shelf}
-use Rattle.mq_history.specs.declared.story.ManagerPlaces.{ManagerPlaces}
-use Rattle.mq_spec_state.specs.Reads.{connection_at, handle_at, is_persistent}
-use Rattle.mq_spec_state.specs.Changes.{lane_of, new_row, change_connection}
-use Rattle.mq_spec_manager.specs.Put.{Here, message_put, queue_at, dest_at, handle_route}
-use Rattle.mq_spec_manager.specs.Get.{is_destructive}
-use Rattle.mq_spec_manager.specs.Commands.{definitions_after}
-use Rattle.mq_spec_manager.specs.Triggers.{trigger_message}
-use Rattle.mq_spec_manager.specs.Stops.{last_moment}
-use Rattle.mq_spec_agents.specs.Words.{names_of, bare_if, dead_message}
 use Rattle.mq_spec_network.specs.Story.{Line}
 
 -- a call whose write was stopped, and the moment at which it was made
@@ -93,9 +53,11 @@ users_or (Some u) = u
 abbrev pub places_at : ℕ → Ledger → ManagerPlaces
 places_at m l = places_or (slice_get l.places m)
 
+-- users by place
 abbrev pub users_at : ℕ → Ledger → Users
 users_at m l = users_or (slice_get l.users m)
 
+-- the one at a place changes, the others stay
 abbrev pub change_at : {A : Type 0} → ℕ → (A → A) → List A → List A
 change_at m f [] = []
 change_at zero f (x ∷ xs) = f x ∷ xs
@@ -137,6 +99,7 @@ placed_idents l = flat_map idents_at l.places
 abbrev pub is_placed_at : Ident → ManagerPlaces → Bool
 is_placed_at ident p = list_any (same_ident ident) (idents_at p)
 
+-- one that has no place at this manager stays where it is
 abbrev pub take_from : ℕ → Ident → Ledger → Ledger
 take_from m ident l = with_places m (λ p. record p { queues = leave_queues (λ (row : Row). not (has_ident ident row)) p.queues }) l
 
@@ -170,6 +133,7 @@ connect m hc appl l = with_users m (λ u. record u { connections = u.connections
 abbrev pub disconnect : ℕ → Hconn → Ledger → Ledger
 disconnect m hc l = with_users m (λ u. record u { connections = filter (λ (c : Connection). not (c.number == hc.number)) u.connections }) l
 
+-- an open: where its name leads by the definitions of that moment
 abbrev pub resolved_at : ℕ → List ℕ → List ℕ → Ledger → Result Route Reason
 resolved_at m name qmgr l = resolve (places_at m l).definitions (places_at m l).name name qmgr
 
@@ -180,6 +144,7 @@ abbrev pub open_to : ℕ → Hconn → Open → Hobj → Result Route Reason →
 open_to m hc how ho (Err reason) l = l
 open_to m hc how ho (Ok route) l = on_connection m hc (opened_by how ho route) l
 
+-- a handle is gone; an item joins the unit
 abbrev pub close : Hobj → Connection → Connection
 close ho c = record c { handles = filter (λ (h : Handle). not (h.number == ho.number)) c.handles }
 
@@ -207,6 +172,7 @@ abbrev pub put1_by : Bool → ℕ → Hconn → Connection → Result Route Reas
 put1_by sync m hc c (Err reason) ident md body l = l
 put1_by sync m hc c (Ok route) ident md body l = put_by sync m hc c route ident md body l
 
+-- MQPUT1: where its name leads now
 abbrev pub put1 : Bool → ℕ → Hconn → List ℕ → List ℕ → Option Connection → Option Ident → Md → List ℕ → Ledger → Ledger
 put1 sync m hc name qmgr None ident md body l = l
 put1 sync m hc name qmgr (Some c) None md body l = l
@@ -355,6 +321,7 @@ abbrev pub place_routed : ℕ → Message → Result Route Reason → Ledger →
 place_routed m message (Err reason) l = l
 place_routed m message (Ok route) l = place m (queue_at route.end) (record message { route = dest_at route.end }) l
 
+-- one message: by the names that came, or behind a header of the reason on the dead-letter queue
 abbrev pub place_received : ℕ → List ℕ → Message → Option Reason → Ledger → Ledger
 place_received m channel message None l = place_routed m message (resolved_at m (names_of message.route).queue (names_of message.route).qmgr l) l
 place_received m channel message (Some reason) l =
@@ -365,6 +332,7 @@ place_list m channel ds before [] l = l
 place_list m channel ds before (message ∷ ms) l =
     place_list m channel ds before ms (when (is_admitted before message) (place_received m channel (own_row before message) (dead_reason message.ident ds)) l)
 
+-- all of them, and the channel on which they came, if the delta tells a commit
 abbrev pub receive : ℕ → List ℕ → List Message → List Did → Ledger → Ledger
 receive m channel ms ds l = place_list m channel ds l ms (take_everywhere (idents_of ms) l)
 

@@ -1,3 +1,4 @@
+pub mod Terms
 pub mod Story
 pub mod Given
 pub mod Ledger
@@ -12,3 +13,4 @@ pub mod Tasks
 pub mod Steps
 pub mod Lawful
 pub mod Promised
+pub mod Words

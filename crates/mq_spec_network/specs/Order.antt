@@ -1,25 +1,16 @@
 -- The order that messages of one channel keep.
-use Rattle.std.specs.Prelude.{ℕ, ◌≡◌, ◌⊎◌, Bool, true, not, ◌&&◌, List, [], ◌∷◌, Option, Some, None, filter, map}
+use Rattle.std.specs.Prelude.{ℕ, ◌≡◌, ◌⊎◌, Bool, true, not, ◌&&◌, List, [], ◌∷◌, Option, Some, None, filter}
 use Rattle.std.specs.List.{list_any}
-use Rattle.mq_message.specs.declared.message.Ident.{Ident}
-use Rattle.mq_message.specs.declared.message.Message.{Message}
-use Rattle.mq_queue.specs.declared.row.Row.{Row}
-use Rattle.mq_queue.specs.Rows.{same_ident}
-use Rattle.mq_sync.specs.declared.unit.Unit.{Unit as Luw}
-use Rattle.mq_sync.specs.Units.{same_unit}
 use Rattle.std.specs.Str.{bytes_eq}
+use Rattle.mq_spec_network.specs.Terms.{Ident, Message, Row, same_ident, Luw, same_unit, Did, Entry, Reply, Chance, Comes}
 use Rattle.mq_calls.specs.declared.agents.Note.TheVariants as notes
-use Rattle.mq_calls.specs.declared.deltas.Did.{Did}
 use Rattle.mq_calls.specs.declared.deltas.Did.TheVariants as did
 use Rattle.mq_calls.specs.declared.deltas.Why.TheVariants as whys
-use Rattle.mq_history.specs.declared.calls.Entry.{Entry}
 use Rattle.mq_history.specs.declared.acts.Acted.TheVariants as acted
-use Rattle.mq_history.specs.declared.calls.Reply.{Reply}
 use Rattle.mq_history.specs.declared.calls.Reply.TheVariants as replies
-use Rattle.mq_history.specs.declared.calls.Chance.{Chance}
 use Rattle.mq_history.specs.declared.calls.Chance.TheVariants as chances
-use Rattle.mq_calls.specs.declared.choices.Return.TheVariants.{Comes}
 use Rattle.mq_spec_network.specs.Story.{Line, Mem}
+pub use Rattle.mq_spec_network.specs.Ledger.{idents_of}
 use Rattle.mq_spec_network.specs.Ledger.{Ledger, Stopped, users_at, posted, ledger_rows, dead_reason}
 
 abbrev pub Before : {A : Type 0} → A → A → List A → Type 0
@@ -49,6 +40,7 @@ forced_after idents (d ∷ ds) fs = forced_after idents ds (forced_by idents d f
 abbrev pub forced_in : Entry → List Forced → List Forced
 forced_in e fs = forced_after (sent_idents e.effect.delta) e.effect.delta fs
 
+-- those of other units
 abbrev pub others : List ℕ → Luw → List Forced → List Forced
 others channel unit fs = filter (λ (f : Forced). not (bytes_eq channel f.channel && same_unit unit f.unit)) fs
 
@@ -61,9 +53,6 @@ unforced fs rows = filter (λ (row : Row). not (is_forced fs row.message.ident))
 
 -- A commit of a list at a receiver, against the ledger just before it: what stands before a row of the list on its queue,
 -- with its priority, is in the list too, and before it.
-abbrev pub idents_of : List Message → List Ident
-idents_of ms = map (λ (m : Message). m.ident) ms
-
 abbrev pub KeepsQueue : List Ident → List Row → Type 0
 KeepsQueue idents rows = (x y : Row) → Before x y rows → Mem y.message.ident idents → x.place.lane ≡ y.place.lane
     → Mem x.message.ident idents × Before x.message.ident y.message.ident idents

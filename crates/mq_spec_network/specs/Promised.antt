@@ -1,13 +1,6 @@
 -- What is promised of a lawful story of a joined network.
 use Rattle.std.specs.Prelude.{◌≡◌, ℕ, false, List, ◌++◌, Some, slice_get, flat_map, map}
-use Rattle.mq_message.specs.declared.message.Ident.{Ident}
-use Rattle.mq_queue.specs.declared.row.Row.{Row}
-use Rattle.mq_queue.specs.Rows.{same_ident}
-use Rattle.mq_history.specs.declared.history.History.{History}
-use Rattle.mq_history.specs.declared.scenario.Scenario.{Scenario}
-use Rattle.mq_history.specs.Scenarios.{IsScenario}
-use Rattle.mq_spec_state.specs.State.{Plain, Queue}
-use Rattle.mq_spec_state.specs.Recovery.{IsImage}
+use Rattle.mq_spec_network.specs.Terms.{Ident, Row, same_ident, History, Scenario, IsScenario, Plain, Queue, IsImage}
 use Rattle.mq_spec_network.specs.Story.{Line, Chain, IsStory}
 use Rattle.mq_spec_network.specs.Ledger.{ledger, ledger_rows}
 use Rattle.mq_spec_network.specs.Standing.{standing, standing_in, managers_at, opening_ledger, rows_told}

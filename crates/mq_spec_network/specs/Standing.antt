@@ -1,22 +1,8 @@
 -- The standing rows of a network: the committed rows of each queue, less those of a batch whose receiver has them.
-use Rattle.std.specs.Prelude.{ℕ, ◌+◌, ◌==◌, ◌&&◌, pos, Bool, false, not, List, [], ◌∷◌, if◌then◌else◌, Option, Some, None, map, filter, slice_get, suc}
+use Rattle.std.specs.Prelude.{ℕ, ◌+◌, ◌==◌, ◌&&◌, pos, Bool, false, not, List, [], ◌∷◌, if◌then◌else◌, Option, Some, None, map, slice_get, suc}
 use Rattle.std.specs.Str.{bytes_eq}
-use Rattle.mq_message.specs.declared.place.Holder.{Holder}
+use Rattle.mq_spec_network.specs.Terms.{Holder, Row, keep, Luw, InDoubt, ReceiverData, no_unit, same_unit, CableLine, Scenario, History, Shelf, ManagerPlaces, Plain, Queue, stored, sender_data, receiver_data, in_doubt_of, Node, after, opening_node}
 use Rattle.mq_message.specs.declared.place.Holder.TheVariants as holders
-use Rattle.mq_queue.specs.declared.row.Row.{Row}
-use Rattle.mq_sync.specs.declared.unit.Unit.{Unit as Luw}
-use Rattle.mq_sync.specs.declared.data.InDoubt.{InDoubt}
-use Rattle.mq_sync.specs.declared.data.ReceiverData.{ReceiverData}
-use Rattle.mq_sync.specs.Units.{no_unit, same_unit}
-use Rattle.mq_history.specs.declared.scenario.CableLine.{CableLine}
-use Rattle.mq_history.specs.declared.scenario.Scenario.{Scenario}
-use Rattle.mq_history.specs.declared.history.History.{History}
-use Rattle.mq_calls.specs.declared.image.Shelf.{Shelf}
-use Rattle.mq_history.specs.declared.story.ManagerPlaces.{ManagerPlaces}
-use Rattle.mq_spec_state.specs.State.{Plain, Queue}
-use Rattle.mq_spec_state.specs.Reads.{stored, sender_data, receiver_data, in_doubt_of}
-use Rattle.mq_spec_node.specs.Node.{Node}
-use Rattle.mq_spec_node.specs.Replays.{after, opening_node}
 use Rattle.mq_spec_network.specs.Story.{Line, part}
 use Rattle.mq_spec_network.specs.Given.{surroundings}
 use Rattle.mq_spec_network.specs.Ledger.{Ledger}
@@ -57,12 +43,13 @@ is_held_there s ps p (Some (holders.Unit n)) = false
 is_held_there s ps p (Some (holders.Batch channel)) = counts_there s ps p channel
 
 abbrev pub standing_in : Scenario → List Plain → Plain → List Row → List Row
-standing_in s ps p rows = filter (λ (row : Row). not (is_held_there s ps p row.by)) rows
+standing_in s ps p rows = keep (λ (row : Row). not (is_held_there s ps p row.by)) rows
 
 abbrev pub standing_of : Scenario → List Plain → List ℕ → Option Plain → List Row
 standing_of s ps name None = []
 standing_of s ps name (Some p) = standing_in s ps p (stored name p).rows
 
+-- by place
 abbrev pub standing : Scenario → List Plain → ℕ → List ℕ → List Row
 standing s ps m name = standing_of s ps name (slice_get ps m)
 

@@ -1,34 +1,17 @@
 -- How a step goes on, entry by entry: what may come next, and what is left of it then.
 use Rattle.std.specs.Prelude.{◌≡◌, ◌⊎◌, ℕ, zero, suc, ◌+◌, Bool, true, false, not, List, [], ◌∷◌, ◌++◌, Option, Some, None, slice_get, is_some}
+use Rattle.mq_spec_network.specs.Terms.{Hconn, Actor, Call, Reply, Entry, MonitorLine, ScriptPart, Scenario, ScriptLine, Node, OwnScript, Frame, Seen, CableLine, trigger_deed, script_appl, deadline, wait_of, until_of, left_after, call_after, is_none, shared, is_opened, begins, monitor_next, monitor_idle, monitor_live}
 use Rattle.mq_calls.specs.declared.answers.Answer.TheVariants as answers
-use Rattle.mq_calls.specs.declared.answers.Hconn.{Hconn}
 use Rattle.mq_calls.specs.declared.commands.RestartFault.TheVariants as faults
 use Rattle.mq_frame.specs.declared.frame.Seen.TheVariants as items
 use Rattle.mq_history.specs.declared.acts.Act.TheVariants as acts
 use Rattle.mq_history.specs.declared.acts.Acted.TheVariants as acted
-use Rattle.mq_history.specs.declared.calls.Actor.{Actor}
 use Rattle.mq_history.specs.declared.calls.Actor.TheVariants as actors
-use Rattle.mq_history.specs.declared.calls.Call.{Call}
 use Rattle.mq_history.specs.declared.calls.Call.TheVariants as calls
-use Rattle.mq_history.specs.declared.calls.Reply.{Reply}
 use Rattle.mq_history.specs.declared.calls.Reply.TheVariants as replies
-use Rattle.mq_history.specs.declared.calls.Entry.{Entry}
-use Rattle.mq_history.specs.declared.scenario.MonitorLine.{MonitorLine}
-use Rattle.mq_history.specs.declared.scenario.ScriptPart.{ScriptPart}
-use Rattle.mq_history.specs.declared.scenario.Scenario.{Scenario}
-use Rattle.mq_history.specs.declared.scripts.ScriptLine.{ScriptLine}
-use Rattle.mq_spec_node.specs.Node.{Node}
-use Rattle.mq_spec_node.specs.Node.{Script as OwnScript}
 use Rattle.mq_spec_node.specs.Deeds.{Deed}
-use Rattle.mq_frame.specs.declared.frame.Frame.{Frame}
-use Rattle.mq_frame.specs.declared.frame.Seen.{Seen}
-use Rattle.mq_history.specs.declared.scenario.CableLine.{CableLine}
-use Rattle.mq_spec_node.specs.Happens.{trigger_deed}
-use Rattle.mq_spec_node.specs.Scripts.{script_appl, deadline, wait_of, until_of}
 use Rattle.mq_spec_network.specs.Story.{Mem}
 use Rattle.mq_spec_network.specs.Turns.{Network, Direction, node_at, does, is_up_at, where_there, deed_at, out_of, back_of, out_way, back_way, waiting, extras_of, changes, sender_turn, receiver_turn, timeout_turn, is_idle}
-use Rattle.mq_spec_node.specs.Lines.{left_after, call_after, is_none}
-use Rattle.mq_spec_node.specs.Monitors.{shared, is_opened, begins, monitor_next, monitor_idle, monitor_live}
 use Rattle.mq_spec_network.specs.ScriptLines.{lines_left, at_most, call_next, IsUntil, still_waits}
 use Rattle.mq_spec_network.specs.Tasks.{Slot, Task, Trying, clocks, moment_of, run_script}
 use Rattle.mq_spec_network.specs.Tasks.Slot.{Sends, Receives, TimesOut}
@@ -115,7 +98,7 @@ popped_by seen None = seen
 popped_by seen (Some f) = items.Nothing
 
 -- a turn that changes something, with the item that waited, and so many extra items as find room
-pub record Takes (t : Turn) (m : ℕ) (e : Entry) : Type 0 where
+pub record TakesTurn (t : Turn) (m : ℕ) (e : Entry) : Type 0 where
   pub changes : changes t.way t.deed ≡ true
   pub is : Is t.manager t.actor t.call m e
   pub popped : e.effect.popped ≡ popped_by t.seen (pushed_of t.deed)
@@ -123,7 +106,7 @@ pub record Takes (t : Turn) (m : ℕ) (e : Entry) : Type 0 where
 
 abbrev pub PumpTakes : Network → Slot → ℕ → Option CableLine → ℕ → Entry → Type 0
 PumpTakes w slot cable None m e = ⊥
-PumpTakes w slot cable (Some c) m e = Takes (turn_in w slot cable c) m e
+PumpTakes w slot cable (Some c) m e = TakesTurn (turn_in w slot cable c) m e
 
 abbrev pub pump_on : ℕ → Slot → ℕ → Bool → List Task
 pump_on left Sends cable any = Pump left Receives cable any ∷ []

@@ -1,22 +1,10 @@
 -- What is left of a step: tasks, the first one first.
 use Rattle.std.specs.Prelude.{ℕ, suc, Bool, false, List, [], ◌∷◌, ◌++◌, Option, Some, None, slice_get}
-use Rattle.mq_calls.specs.declared.answers.Hconn.{Hconn}
+use Rattle.mq_spec_network.specs.Terms.{Hconn, Command, Actor, Call, ManagerLine, MonitorLine, RulesPart, ScriptPart, Section, Scenario, Step, ScriptLine, Node}
 use Rattle.mq_history.specs.declared.acts.Act.TheVariants as acts
-use Rattle.mq_sc_parse.specs.declared.command.Command.{Command}
-use Rattle.mq_history.specs.declared.calls.Actor.{Actor}
 use Rattle.mq_history.specs.declared.calls.Actor.TheVariants as actors
-use Rattle.mq_history.specs.declared.calls.Call.{Call}
 use Rattle.mq_history.specs.declared.calls.Call.TheVariants as calls
-use Rattle.mq_history.specs.declared.scenario.ManagerLine.{ManagerLine}
-use Rattle.mq_history.specs.declared.scenario.MonitorLine.{MonitorLine}
-use Rattle.mq_history.specs.declared.scenario.RulesPart.{RulesPart}
-use Rattle.mq_history.specs.declared.scenario.ScriptPart.{ScriptPart}
-use Rattle.mq_history.specs.declared.scenario.Section.{Section}
-use Rattle.mq_history.specs.declared.scenario.Scenario.{Scenario}
-use Rattle.mq_history.specs.declared.scenario.Step.{Step}
 use Rattle.mq_history.specs.declared.scenario.Step.TheVariants as steps
-use Rattle.mq_history.specs.declared.scripts.ScriptLine.{ScriptLine}
-use Rattle.mq_spec_node.specs.Node.{Node}
 use Rattle.mq_spec_network.specs.Turns.{Network, node_at}
 
 -- what a cable is given in a pump's rounds
@@ -51,9 +39,9 @@ pub data Task : Type 0 where
   -- a restart, if the manager is down
   Restart : (m : ℕ) → Task
 
-abbrev pub obey : ℕ → List Command → List Task
-obey m [] = []
-obey m (c ∷ cs) = Ask m actors.Operator (calls.Act (acts.Obey c)) ∷ obey m cs
+abbrev pub obey_all : ℕ → List Command → List Task
+obey_all m [] = []
+obey_all m (c ∷ cs) = Ask m actors.Operator (calls.Act (acts.Obey c)) ∷ obey_all m cs
 
 abbrev pub clocks_from : ℕ → List ManagerLine → ℕ → List Task
 clocks_from m [] ms = []
@@ -70,7 +58,7 @@ moment_of (Some n) = n.manager.moment
 -- The parts of a scenario that a step names.
 abbrev pub obey_section : Option Section → List Task
 obey_section None = []
-obey_section (Some part) = obey part.manager part.commands
+obey_section (Some part) = obey_all part.manager part.commands
 
 abbrev pub run_script : ℕ → Option ℕ → Option ScriptPart → List Task
 run_script k most None = []
@@ -88,6 +76,7 @@ abbrev pub serve_by : ℕ → ℕ → Option MonitorLine → List Task
 serve_by k n None = []
 serve_by k n (Some l) = Serve k l n ∷ []
 
+-- the scripts of a phase
 abbrev pub try_one : Network → ℕ → Option ScriptPart → List Trying
 try_one w k None = []
 try_one w k (Some p) = record { script = k; part = p; moment = moment_of (node_at w p.manager) } ∷ []

@@ -1,27 +1,11 @@
 -- Turns of channel ends over the cables of one thread, and when nothing can change.
 use Rattle.std.specs.Prelude.{ℕ, suc, ◌+◌, ◌-◌, min, ◌==◌, nat_le, Bool, true, false, not, ◌&&◌, ◌||◌, List, [], ◌∷◌, ◌++◌, if◌then◌else◌, Option, Some, None, length, is_some}
-use Rattle.mq_frame.specs.declared.frame.Frame.{Frame}
-use Rattle.mq_frame.specs.declared.frame.Seen.{Seen}
+use Rattle.mq_spec_network.specs.Terms.{Frame, Seen, Stock, Actor, Call, Entry, CableLine, Fault, Scenario, SenderState, is_up, stock, Node, SenderEnd, ReceiverEnd, sender_end, receiver_end, deed_of, after, fault_of, now_of, due_after, offered_of, is_sender, is_receiver, by}
 use Rattle.mq_frame.specs.declared.frame.Seen.TheVariants as items
-use Rattle.mq_sync.specs.declared.data.Stock.{Stock}
-use Rattle.mq_history.specs.declared.calls.Actor.{Actor}
 use Rattle.mq_history.specs.declared.calls.Actor.TheVariants as actors
-use Rattle.mq_history.specs.declared.calls.Call.{Call}
 use Rattle.mq_history.specs.declared.calls.Call.TheVariants as calls
-use Rattle.mq_history.specs.declared.calls.Entry.{Entry}
-use Rattle.mq_history.specs.declared.scenario.CableLine.{CableLine}
-use Rattle.mq_cable.specs.declared.fault.Fault.{Fault}
-use Rattle.mq_history.specs.declared.scenario.Scenario.{Scenario}
-use Rattle.mq_sender.specs.declared.state.SenderState.{SenderState}
 use Rattle.mq_sender.specs.declared.state.SenderState.TheVariants as states
-use Rattle.mq_spec_state.specs.Reads.{is_up}
-use Rattle.mq_spec_agents.specs.Words.{stock}
-use Rattle.mq_spec_node.specs.Node.{Node, SenderEnd, ReceiverEnd, sender_end, receiver_end}
 use Rattle.mq_spec_node.specs.Deeds.{Deed}
-use Rattle.mq_spec_node.specs.Happens.{deed_of}
-use Rattle.mq_spec_node.specs.Replays.{after}
-use Rattle.mq_cable.specs.Faults.{fault_of, now_of, due_after, offered_of}
-use Rattle.mq_spec_node.specs.Doers.{is_sender, is_receiver, by}
 use Rattle.mq_spec_network.specs.Cables.{Lying, whole, spoiled, offered_by, lying}
 
 -- The nodes with which the managers began, and what each did since, by place; all that a network is follows from it.
@@ -165,6 +149,7 @@ receiver_idle w cable c (Some n) =
     not (is_up n.manager.running) || receiver_blocked w cable c
     || (is_empty (out_of w cable c) && owes_nothing (receiver_end cable n.own))
 
+-- both ends of each cable
 abbrev pub cable_idle : Network → ℕ → CableLine → Bool
 cable_idle w cable c = sender_idle w cable c (node_at w c.sender) && receiver_idle w cable c (node_at w c.receiver)
 

@@ -1,5 +1,5 @@
 -- An image of a log with one message, and one that is none: its row is held by a unit that isn't there.
-use Rattle.std.specs.Prelude.{◌≡◌, ℕ, [], ◌∷◌, Option, Some, None, codes, refl}
+use Rattle.std.specs.Prelude.{[], ◌∷◌, Option, Some, None, codes, refl}
 use Rattle.std.proofs.Common.{arith}
 use Rattle.std.proofs.lemmas.List.Elements.{All-cons, All-nil}
 use Rattle.mq_message.specs.declared.place.Holder.{Holder}

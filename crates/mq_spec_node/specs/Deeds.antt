@@ -3,26 +3,13 @@
 use Rattle.std.specs.Prelude.{ℕ, Bool, false, not, ◌&&◌, List, [], Option, Some, None, map, filter}
 use Rattle.std.specs.List.{list_any}
 use Rattle.std.specs.Str.{bytes_eq}
-use Rattle.mq_codes.specs.declared.reason.Reason.{Reason}
+use Rattle.mq_spec_node.specs.Terms.{Reason, Ident, Message, same_ident, Frame, Answer, Choice, Runs, NoMemory, Stopped, Did, Reply, Plain, receiver_data, Step, Part, Possible, do_all, delta_of, delta_before, stopped_at, Refuse, Do}
 use Rattle.mq_codes.specs.declared.reason.Reason.TheVariants as reasons
-use Rattle.mq_message.specs.declared.message.Ident.{Ident}
-use Rattle.mq_message.specs.declared.message.Message.{Message}
-use Rattle.mq_queue.specs.Rows.{same_ident}
-use Rattle.mq_frame.specs.declared.frame.Frame.{Frame}
-use Rattle.mq_calls.specs.declared.answers.Answer.{Answer}
 use Rattle.mq_calls.specs.declared.answers.Answer.TheVariants as answers
-use Rattle.mq_calls.specs.declared.choices.Choice.{Choice}
-use Rattle.mq_calls.specs.declared.choices.Choice.TheVariants.{Runs, NoMemory, Stopped}
-use Rattle.mq_calls.specs.declared.deltas.Did.{Did}
 use Rattle.mq_calls.specs.declared.deltas.Did.TheVariants as did
-use Rattle.mq_history.specs.declared.calls.Reply.{Reply}
 use Rattle.mq_history.specs.declared.calls.Reply.TheVariants as replies
 use Rattle.mq_receiver.specs.States as receivers
 use Rattle.mq_sender.specs.States as senders
-use Rattle.mq_spec_state.specs.State.{Plain}
-use Rattle.mq_spec_state.specs.Reads.{receiver_data}
-use Rattle.mq_spec_state.specs.Steps.{Step, Part, Possible, do_all, delta_of, delta_before, stopped_at}
-use Rattle.mq_spec_state.specs.Steps.Step.{Refuse, Do}
 use Rattle.mq_spec_node.specs.Node.{Node, Own, ChannelEnd, Handler, Tried}
 use Rattle.mq_spec_node.specs.Node.ChannelEnd.{Sends, Receives}
 

@@ -1,10 +1,8 @@
 -- Whose entries are whose.
 use Rattle.std.specs.Prelude.{ℕ, ◌==◌, Bool, true, false, not, List, filter}
-use Rattle.mq_history.specs.declared.calls.Actor.{Actor}
+use Rattle.mq_spec_node.specs.Terms.{Actor, Call, Entry}
 use Rattle.mq_history.specs.declared.calls.Actor.TheVariants as actors
-use Rattle.mq_history.specs.declared.calls.Call.{Call}
 use Rattle.mq_history.specs.declared.calls.Call.TheVariants as calls
-use Rattle.mq_history.specs.declared.calls.Entry.{Entry}
 
 -- the sender end of a cable, the receiver end, a script
 abbrev pub is_sender : ℕ → Actor → Bool

@@ -1,30 +1,10 @@
 -- Turns of the dead-letter handler.
 use Rattle.std.specs.Prelude.{ℕ, ◌+◌, ◌*◌, nat_le, Bool, true, false, not, ◌&&◌, List, [], ◌∷◌, ◌++◌, if◌then◌else◌, Option, Some, None, find, filter, slice_get, codes}
 use Rattle.std.specs.Str.{bytes_eq}
-use Rattle.mq_codes.specs.declared.reason.Reason.{Reason}
-use Rattle.mq_message.specs.declared.message.Ident.{Ident}
-use Rattle.mq_message.specs.declared.message.Dest.{Dest}
-use Rattle.mq_message.specs.declared.message.Message.{Message}
-use Rattle.mq_heads.specs.declared.headers.Dlh.{Dlh}
-use Rattle.mq_heads.specs.Headers.{dlh_in}
-use Rattle.mq_queue.specs.declared.row.Row.{Row}
-use Rattle.mq_queue.specs.Rows.{same_ident, is_free}
-use Rattle.mq_objects.specs.declared.object.LocalQueue.{LocalQueue}
-use Rattle.mq_objects.specs.Names.{local_of, is_transmission}
+use Rattle.mq_spec_node.specs.Terms.{Reason, Ident, Dest, Message, Dlh, dlh_in, Row, same_ident, is_free, LocalQueue, local_of, is_transmission, Table, Rule, Action, Forward, decision, target_name, Plain, stored, Step, Refuse, Do, is_dead, move_row, discard}
 use Rattle.mq_history.specs.declared.calls.Reply.TheVariants as replies
-use Rattle.mq_rules.specs.declared.rule.Table.{Table}
-use Rattle.mq_rules.specs.declared.rule.Rule.{Rule}
-use Rattle.mq_rules.specs.declared.rule.Action.{Action}
 use Rattle.mq_rules.specs.declared.rule.Action.TheVariants as actions
-use Rattle.mq_rules.specs.declared.rule.Forward.{Forward}
 use Rattle.mq_rules.specs.declared.rule.Target.TheVariants as targets
-use Rattle.mq_rules.specs.Choice.{decision, target_name}
-use Rattle.mq_spec_state.specs.State.{Plain}
-use Rattle.mq_spec_state.specs.Reads.{stored}
-use Rattle.mq_spec_state.specs.Steps.{Step}
-use Rattle.mq_spec_state.specs.Steps.Step.{Refuse, Do}
-use Rattle.mq_spec_manager.specs.Heads.{is_dead}
-use Rattle.mq_spec_agents.specs.Words.{move_row, discard}
 use Rattle.mq_spec_node.specs.Node.{Node, Own, Handler, Tried, with_handler}
 use Rattle.mq_spec_node.specs.Deeds.{Deed, told, parts_of}
 
@@ -120,6 +100,7 @@ abbrev pub in_force : List ℕ → Message → Option ℕ → ℕ → Handler �
 in_force queue m None n h p own = ignored queue m.ident h own
 in_force queue m (Some k) n h p own = ruled queue m k (slice_get h.table.rules k) n h p own
 
+-- the turn of a dead letter, of the next one that is handled
 abbrev pub letter_deed : List ℕ → Message → Option Tried → Handler → Plain → Own → Deed
 letter_deed queue m t h p own = in_force queue m (rule_in_force h.table m t) (failed_of t) h p own
 

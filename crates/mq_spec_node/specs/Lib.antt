@@ -1,10 +1,13 @@
+pub mod Terms
 pub mod Node
 pub mod Deeds
 pub mod Senders
 pub mod Receivers
 pub mod Operators
+pub mod Status
 pub mod Handlers
 pub mod Openings
+pub mod Calls
 pub mod Happens
 pub mod Replays
 pub mod Scripts
@@ -12,3 +15,5 @@ pub mod Doers
 pub mod Lines
 pub mod Monitors
 pub mod Answers
+pub mod Values
+pub mod Words

@@ -1,25 +1,14 @@
 -- Monitors: what they do, and which scripts they begin.
 use Rattle.std.specs.Prelude.{ℕ, ◌==◌, Bool, true, false, List, [], ◌∷◌, if◌then◌else◌, Option, Some, None, Ok, Err}
 use Rattle.std.specs.Str.{bytes_eq}
-use Rattle.mq_calls.specs.declared.answers.Answer.{Answer}
+use Rattle.mq_spec_node.specs.Terms.{Answer, Open, Hconn, Hobj, Get, Got, Call, Reply, Entry, tm_in, is_tm, trimmed, handles_connected}
 use Rattle.mq_calls.specs.declared.answers.Answer.TheVariants as answers
 use Rattle.mq_calls.specs.declared.answers.Input.TheVariants as inputs
-use Rattle.mq_calls.specs.declared.answers.Open.{Open}
-use Rattle.mq_calls.specs.declared.answers.Hconn.{Hconn}
-use Rattle.mq_calls.specs.declared.answers.Hobj.{Hobj}
-use Rattle.mq_calls.specs.declared.answers.Get.{Get}
-use Rattle.mq_calls.specs.declared.answers.Got.{Got}
 use Rattle.mq_calls.specs.declared.answers.Take.TheVariants as takes
 use Rattle.mq_frame.specs.declared.frame.Seen.TheVariants as items
 use Rattle.mq_history.specs.declared.calls.Actor.TheVariants as actors
-use Rattle.mq_history.specs.declared.calls.Call.{Call}
 use Rattle.mq_history.specs.declared.calls.Call.TheVariants as calls
-use Rattle.mq_history.specs.declared.calls.Reply.{Reply}
 use Rattle.mq_history.specs.declared.calls.Reply.TheVariants as replies
-use Rattle.mq_history.specs.declared.calls.Entry.{Entry}
-use Rattle.mq_heads.specs.Headers.{tm_in}
-use Rattle.mq_spec_manager.specs.Heads.{is_tm, trimmed}
-use Rattle.mq_spec_manager.specs.Handles.{connected as handles_connected}
 use Rattle.mq_spec_node.specs.Node.{Node, Monitor, Script, monitor_in}
 use Rattle.mq_spec_node.specs.Deeds.{Deed}
 use Rattle.mq_spec_node.specs.Happens.{deed_of}

@@ -1,16 +1,7 @@
 -- The plain node: a plain manager, and what the scenario gives it beside: ends of channels, handlers, monitors.
 use Rattle.std.specs.Prelude.{ℕ, ◌==◌, Bool, List, [], ◌∷◌, if◌then◌else◌, Option, Some, None, map}
 use Rattle.std.specs.Str.{bytes_eq}
-use Rattle.mq_message.specs.declared.message.Ident.{Ident}
-use Rattle.mq_message.specs.declared.message.Message.{Message}
-use Rattle.mq_calls.specs.declared.answers.Hconn.{Hconn}
-use Rattle.mq_calls.specs.declared.answers.Hobj.{Hobj}
-use Rattle.mq_sender.specs.declared.state.Sender.{Sender}
-use Rattle.mq_receiver.specs.declared.state.Receiver.{Receiver}
-use Rattle.mq_rules.specs.declared.rule.Table.{Table}
-use Rattle.mq_history.specs.declared.scenario.MonitorLine.{MonitorLine}
-use Rattle.mq_history.specs.declared.scenario.ScriptPart.{ScriptPart}
-use Rattle.mq_spec_state.specs.State.{Plain}
+use Rattle.mq_spec_node.specs.Terms.{Ident, Message, Hconn, Hobj, Sender, Receiver, Table, MonitorLine, ScriptPart, Plain}
 
 -- the sender end of a cable: the cable's place in the scenario, the channel, the manager at the other end, the machine
 pub record SenderEnd : Type 0 where
@@ -88,12 +79,14 @@ as_receiver None = None
 as_receiver (Some (Sends e)) = None
 as_receiver (Some (Receives e)) = Some e
 
+-- the end of that cable, where it is of that kind
 abbrev pub sender_end : ℕ → Own → Option SenderEnd
 sender_end cable own = as_sender (end_in cable own.ends)
 
 abbrev pub receiver_end : ℕ → Own → Option ReceiverEnd
 receiver_end cable own = as_receiver (end_in cable own.ends)
 
+-- the end of a channel, by its name
 abbrev pub sender_named : List ℕ → List ChannelEnd → Option SenderEnd
 sender_named channel [] = None
 sender_named channel (Sends e ∷ es) = if bytes_eq channel e.channel then Some e else sender_named channel es

@@ -1,10 +1,6 @@
 -- A node at its first start, and after a restart that read a log which its history doesn't allow.
 use Rattle.std.specs.Prelude.{ℕ, ◌+◌}
-use Rattle.mq_calls.specs.declared.image.Image.{Image}
-use Rattle.mq_spec_state.specs.State.{Plain, Given}
-use Rattle.mq_spec_state.specs.Steps.{calls_of_write}
-use Rattle.mq_spec_state.specs.Images.{begun, raised}
-use Rattle.mq_spec_manager.specs.Stops.{first_start, started_need, calls_of_empty_start}
+use Rattle.mq_spec_node.specs.Terms.{Image, Plain, Given, calls_of_write, begun, raised, first_start, started_need, calls_of_empty_start}
 use Rattle.mq_spec_node.specs.Node.{Node, Own}
 use Rattle.mq_spec_node.specs.Deeds.{begun_anew}
 

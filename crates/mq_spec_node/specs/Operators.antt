@@ -1,40 +1,16 @@
--- Commands on the ends of channels: START, STOP, RESET, RESOLVE and DISPLAY CHSTATUS.
-use Rattle.std.specs.Prelude.{ℕ, ◌-◌, ◌==◌, nat_lt, Bool, true, false, not, ◌&&◌, ◌||◌, List, [], ◌∷◌, ◌++◌, if◌then◌else◌, Option, Some, None, length, map, filter, take, codes, is_some}
-use Rattle.std.specs.Fmt.{decimal}
-use Rattle.std.specs.Str.{bytes_eq}
-use Rattle.mq_objects.specs.declared.object.ChannelKind.{ChannelKind}
+-- Commands on the ends of channels: START, STOP, RESET and RESOLVE.
+use Rattle.std.specs.Prelude.{ℕ, ◌-◌, ◌==◌, nat_lt, Bool, true, false, not, ◌&&◌, ◌||◌, List, [], ◌∷◌, ◌++◌, if◌then◌else◌, Option, Some, None, is_some}
+use Rattle.mq_spec_node.specs.Terms.{ChannelKind, Channel, channel_of, Settle, InDoubt, ReceiverData, SeizeFault, Op, OpRefusal, Limits, Plain, is_up, sender_data, receiver_data, in_doubt_of, Step, Test, Part, when, refusal, Refuse, Do, seize, leave, release_batch, harden, set_bound, is_commit, receiver_or}
 use Rattle.mq_objects.specs.declared.object.ChannelKind.TheVariants as kinds
-use Rattle.mq_objects.specs.declared.object.Channel.{Channel}
-use Rattle.mq_objects.specs.Names.{channel_of}
-use Rattle.mq_sync.specs.declared.unit.Settle.{Settle}
 use Rattle.mq_sync.specs.declared.data.End.TheVariants as end_kinds
-use Rattle.mq_sync.specs.declared.data.InDoubt.{InDoubt}
-use Rattle.mq_sync.specs.declared.data.SenderData.{SenderData}
-use Rattle.mq_sync.specs.declared.data.ReceiverData.{ReceiverData}
-use Rattle.mq_sync.specs.Units.{no_unit, unit_text}
 use Rattle.mq_calls.specs.declared.agents.Note.TheVariants as notes
-use Rattle.mq_calls.specs.declared.agents.SeizeFault.{SeizeFault}
 use Rattle.mq_calls.specs.declared.agents.SeizeFault.TheVariants as seize_faults
-use Rattle.mq_calls.specs.declared.commands.ScRefusal.TheVariants as refusals
-use Rattle.mq_sc_parse.specs.declared.command.Op.{Op}
 use Rattle.mq_sc_parse.specs.declared.command.Op.TheVariants as ops
-use Rattle.mq_history.specs.declared.acts.OpRefusal.{OpRefusal}
 use Rattle.mq_history.specs.declared.acts.OpRefusal.TheVariants as reasons
 use Rattle.mq_history.specs.declared.acts.Acted.TheVariants as acted
 use Rattle.mq_history.specs.declared.calls.Reply.TheVariants as replies
-use Rattle.mq_sender.specs.declared.state.Limits.{Limits}
-use Rattle.mq_sender.specs.declared.state.SenderState.{SenderState}
-use Rattle.mq_sender.specs.declared.state.SenderState.TheVariants as sender_states
 use Rattle.mq_sender.specs.States as senders
-use Rattle.mq_receiver.specs.declared.state.ReceiverState.{ReceiverState}
-use Rattle.mq_receiver.specs.declared.state.ReceiverState.TheVariants as receiver_states
 use Rattle.mq_receiver.specs.States as receivers
-use Rattle.mq_spec_state.specs.State.{Plain}
-use Rattle.mq_spec_state.specs.Reads.{is_up, sender_data, receiver_data, in_doubt_of}
-use Rattle.mq_spec_state.specs.Steps.{Step, Test, Part, when, refusal}
-use Rattle.mq_spec_state.specs.Steps.Step.{Refuse, Do}
-use Rattle.mq_spec_agents.specs.Words.{seize, leave, release_batch, harden, set_bound}
-use Rattle.mq_sync.specs.Settlement.{is_commit, sender_or, receiver_or}
 use Rattle.mq_spec_node.specs.Node.{Node, Own, ChannelEnd, SenderEnd, ReceiverEnd, sender_named, receiver_named, with_end}
 use Rattle.mq_spec_node.specs.Node.ChannelEnd.{Sends, Receives}
 use Rattle.mq_spec_node.specs.Deeds.{Deed, told, parts_of}
@@ -160,56 +136,3 @@ operate_up (ops.Resolve channel settle) n = resolve_end settle (sender_named cha
 
 abbrev pub operate : Op → Node → Deed
 operate op n = tested (when (not (is_up n.manager.running)) reasons.Down ∷ []) n.own (operate_up op n)
-
--- DISPLAY CHSTATUS: a line for each end of a cable here that has the name.
-abbrev pub sender_word : SenderState → List ℕ
-sender_word sender_states.Inactive = codes "INACTIVE"
-sender_word (sender_states.Stopped cause) = codes "STOPPED"
-sender_word sender_states.Starting = codes "STARTING"
-sender_word sender_states.Hailing = codes "STARTING"
-sender_word sender_states.Binding = codes "BINDING"
-sender_word sender_states.Running = codes "RUNNING"
-sender_word (sender_states.Sending sent number) = codes "RUNNING"
-sender_word sender_states.Ready = codes "RUNNING"
-sender_word sender_states.Waiting = codes "RUNNING"
-
-abbrev pub receiver_word : ReceiverState → List ℕ
-receiver_word receiver_states.Inactive = codes "INACTIVE"
-receiver_word receiver_states.Stopped = codes "STOPPED"
-receiver_word (receiver_states.Bound latest came) = codes "RUNNING"
-
-abbrev pub word_in : List ℕ → List ℕ → List ℕ
-word_in word value = word ++ codes "(" ++ value ++ codes ")"
-
--- the unit in doubt and its last number, or no unit and the last number
-abbrev pub doubt_words : ℕ → Option InDoubt → List ℕ
-doubt_words last None = word_in (codes " INDOUBT") (codes "NO") ++ word_in (codes " CURLUWID") (unit_text no_unit) ++ word_in (codes " CURSEQNO") (decimal last)
-doubt_words last (Some d) = word_in (codes " INDOUBT") (codes "YES") ++ word_in (codes " CURLUWID") (unit_text d.unit) ++ word_in (codes " CURSEQNO") (decimal d.last)
-
-abbrev pub sender_words : SenderData → List ℕ
-sender_words d = doubt_words d.last d.in_doubt
-
-abbrev pub receiver_words : ReceiverData → List ℕ
-receiver_words d = word_in (codes " LSTLUWID") (unit_text d.unit) ++ word_in (codes " LSTSEQNO") (decimal d.last)
-
-abbrev pub status_line : Plain → ChannelEnd → List ℕ
-status_line p (Sends e) =
-    word_in (codes "CHSTATUS") e.channel ++ word_in (codes " STATUS") (sender_word e.machine.state) ++ sender_words (sender_or (sender_data e.channel p))
-status_line p (Receives e) =
-    word_in (codes "CHSTATUS") e.channel ++ word_in (codes " STATUS") (receiver_word e.machine.state) ++ receiver_words (receiver_or (receiver_data e.channel p))
-
-abbrev pub channel_at : ChannelEnd → List ℕ
-channel_at (Sends e) = e.channel
-channel_at (Receives e) = e.channel
-
-abbrev pub is_asked : List ℕ → Bool → ChannelEnd → Bool
-is_asked name any_end e = if any_end then bytes_eq name (take (length name) (channel_at e)) else bytes_eq name (channel_at e)
-
-abbrev pub shown : Own → Bool → List (List ℕ) → Deed
-shown own any_end [] = if any_end then told (replies.Acted (acted.Shown (record { lines = [] }))) own else told (replies.Acted (acted.Sc refusals.Missing)) own
-shown own any_end (line ∷ lines) = told (replies.Acted (acted.Shown (record { lines = line ∷ lines }))) own
-
-abbrev pub show_status : List ℕ → Bool → Node → Deed
-show_status name any_end n =
-    if is_up n.manager.running then shown n.own any_end (map (status_line n.manager) (filter (is_asked name any_end) n.own.ends))
-    else told (replies.Acted (acted.Sc refusals.Down)) n.own

@@ -1,34 +1,12 @@
 -- Turns of a receiver.
-use Rattle.std.specs.Prelude.{ℕ, ◌==◌, Bool, true, false, List, [], ◌∷◌, ◌++◌, if◌then◌else◌, Option, Some, None, ◌||◌}
-use Rattle.std.specs.List.{list_any}
+use Rattle.std.specs.Prelude.{ℕ, Bool, true, false, List, [], ◌++◌, Option, Some, None}
 use Rattle.std.specs.Option.{option_map}
-use Rattle.mq_codes.specs.declared.reason.Reason.{Reason}
-use Rattle.mq_codes.specs.Numbers.{number}
-use Rattle.mq_message.specs.declared.message.Dest.{Dest}
-use Rattle.mq_message.specs.declared.message.Message.{Message}
-use Rattle.mq_queue.specs.Rows.{same_ident}
-use Rattle.mq_objects.specs.declared.object.ChannelKind.TheVariants as kinds
-use Rattle.mq_objects.specs.declared.object.Channel.{Channel}
-use Rattle.mq_objects.specs.declared.object.Definitions.{Definitions}
-use Rattle.mq_objects.specs.Names.{channel_of}
-use Rattle.mq_frame.specs.declared.frame.FrameKind.{FrameKind}
-use Rattle.mq_frame.specs.declared.frame.FrameKind.TheVariants.{Msg}
-use Rattle.mq_frame.specs.declared.frame.Seen.{Seen}
+use Rattle.mq_spec_node.specs.Terms.{Reason, number, Dest, Message, Definitions, channel_of, FrameKind, Seen, Luw, ReceiverDoes, ReceiverOut, Receiver, owed_frame, receiver_next, receiver_after, kept_messages, bound_by, last_by, Plain, Step, Part, Refuse, Do, harden, set_bound, receive, messages_taken}
 use Rattle.mq_frame.specs.declared.frame.Seen.TheVariants as items
-use Rattle.mq_sync.specs.declared.unit.Unit.{Unit as Luw}
 use Rattle.mq_calls.specs.declared.agents.Note.TheVariants as notes
-use Rattle.mq_receiver.specs.declared.turns.ReceiverDoes.{ReceiverDoes}
 use Rattle.mq_receiver.specs.declared.turns.ReceiverDoes.TheVariants as does
-use Rattle.mq_receiver.specs.declared.turns.ReceiverOut.{ReceiverOut}
 use Rattle.mq_receiver.specs.declared.turns.ReceiverOut.TheVariants as outs
-use Rattle.mq_receiver.specs.declared.state.Receiver.{Receiver}
-use Rattle.mq_receiver.specs.States.{owed_frame}
-use Rattle.mq_receiver.specs.Table.{receiver_next}
-use Rattle.mq_receiver.specs.After.{receiver_after, kept_messages, bound_by, last_by}
-use Rattle.mq_spec_state.specs.State.{Plain}
-use Rattle.mq_spec_state.specs.Steps.{Step, Part}
-use Rattle.mq_spec_state.specs.Steps.Step.{Refuse, Do}
-use Rattle.mq_spec_agents.specs.Words.{harden, set_bound, receive, messages_taken, is_receiver}
+use Rattle.mq_spec_agents.specs.Words.{is_receiver}
 use Rattle.mq_spec_node.specs.Node.{Node, Own, ReceiverEnd, with_end}
 use Rattle.mq_spec_node.specs.Node.ChannelEnd.{Receives}
 use Rattle.mq_spec_node.specs.Deeds.{Deed, parts_of, turned}
@@ -46,8 +24,8 @@ kept_seen (items.Frame f) kept = kept_kind f.kind kept
 kept_seen _ kept = kept
 
 -- the end after a turn, with these messages kept
-abbrev pub end_after : ReceiverEnd → ReceiverDoes → Seen → ReceiverOut → List Message → Own → Own
-end_after e d seen out kept own = with_end (Receives (record e { machine = receiver_after e.machine d seen out; kept = kept })) own
+abbrev pub receiver_end_after : ReceiverEnd → ReceiverDoes → Seen → ReceiverOut → List Message → Own → Own
+receiver_end_after e d seen out kept own = with_end (Receives (record e { machine = receiver_after e.machine d seen out; kept = kept })) own
 
 -- the session is hardened as closed, and the end unbound
 abbrev pub close_parts : ReceiverEnd → Plain → List Part
@@ -60,22 +38,22 @@ bind_parts e bound p = parts_of (harden e.channel (notes.Bound e.partner bound.s
 -- the batch is placed; or it is refused, its session closed, and ERR owed
 abbrev pub place_deed : ReceiverEnd → Luw → Seen → Step Reason (Unit {0}) → Node → Deed
 place_deed e unit seen (Refuse reason) n =
-    turned (close_parts e n.manager) None (end_after e (does.Place unit) seen (outs.Refused (number reason)) [] n.own)
+    turned (close_parts e n.manager) None (receiver_end_after e (does.Place unit) seen (outs.Refused (number reason)) [] n.own)
 place_deed e unit seen (Do reply parts) n =
-    record (turned parts None (end_after e (does.Place unit) seen outs.Done [] n.own)) { received = messages_taken e.channel e.kept n.manager }
+    record (turned parts None (receiver_end_after e (does.Place unit) seen outs.Done [] n.own)) { received = messages_taken e.channel e.kept n.manager }
 
 abbrev pub receiver_deed_by : ℕ → ReceiverEnd → Seen → ReceiverDoes → Node → Option Deed
 receiver_deed_by stamp e seen does.Still n = None
 receiver_deed_by stamp e seen does.Ignore n = Some (turned [] None n.own)
 receiver_deed_by stamp e seen does.PushOwed n =
-    Some (turned [] (option_map (owed_frame stamp) e.machine.owes) (end_after e does.PushOwed seen outs.Done e.kept n.own))
+    Some (turned [] (option_map (owed_frame stamp) e.machine.owes) (receiver_end_after e does.PushOwed seen outs.Done e.kept n.own))
 receiver_deed_by stamp e seen does.Bind n =
-    Some (turned (bind_parts e (bound_by seen e.machine) n.manager) None (end_after e does.Bind seen outs.Done [] n.own))
-receiver_deed_by stamp e seen does.Keep n = Some (turned [] None (end_after e does.Keep seen outs.Done (kept_seen seen e.kept) n.own))
+    Some (turned (bind_parts e (bound_by seen e.machine) n.manager) None (receiver_end_after e does.Bind seen outs.Done [] n.own))
+receiver_deed_by stamp e seen does.Keep n = Some (turned [] None (receiver_end_after e does.Keep seen outs.Done (kept_seen seen e.kept) n.own))
 receiver_deed_by stamp e seen (does.Place unit) n =
     Some (place_deed e unit seen (receive e.channel unit (last_by seen e.machine.last) e.kept n.manager) n)
-receiver_deed_by stamp e seen does.Again n = Some (turned [] None (end_after e does.Again seen outs.Done e.kept n.own))
-receiver_deed_by stamp e seen does.Close n = Some (turned (close_parts e n.manager) None (end_after e does.Close seen outs.Done [] n.own))
+receiver_deed_by stamp e seen does.Again n = Some (turned [] None (receiver_end_after e does.Again seen outs.Done e.kept n.own))
+receiver_deed_by stamp e seen does.Close n = Some (turned (close_parts e n.manager) None (receiver_end_after e does.Close seen outs.Done [] n.own))
 
 -- A turn: the first line of the receiver's table that applies.
 abbrev pub receiver_deed : ℕ → ReceiverEnd → Seen → Node → Option Deed

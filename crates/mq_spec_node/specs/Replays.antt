@@ -1,17 +1,10 @@
 -- When a history replays: each entry's reply and effect are those of its event, one after the other.
 use Rattle.std.specs.Prelude.{◌≡◌, ℕ, ◌+◌, ◌<◌, max, List, [], ◌∷◌, Option, Some, None}
-use Rattle.mq_frame.specs.declared.frame.Frame.{Frame}
-use Rattle.mq_frame.specs.declared.frame.Seen.{Seen}
+use Rattle.mq_spec_node.specs.Terms.{Frame, Seen, Actor, Call, Entry, Chance, History, Given}
 use Rattle.mq_frame.specs.declared.frame.Seen.TheVariants as items
-use Rattle.mq_history.specs.declared.calls.Actor.{Actor}
 use Rattle.mq_history.specs.declared.calls.Actor.TheVariants as actors
-use Rattle.mq_history.specs.declared.calls.Call.{Call}
 use Rattle.mq_history.specs.declared.calls.Call.TheVariants as calls
-use Rattle.mq_history.specs.declared.calls.Entry.{Entry}
-use Rattle.mq_history.specs.declared.calls.Chance.{Chance}
 use Rattle.mq_history.specs.declared.calls.Chance.TheVariants as chances
-use Rattle.mq_history.specs.declared.history.History.{History}
-use Rattle.mq_spec_state.specs.State.{Given}
 use Rattle.mq_spec_node.specs.Node.{Node, Own}
 use Rattle.mq_spec_node.specs.Deeds.{Deed, Done}
 use Rattle.mq_spec_node.specs.Happens.{event, IsEvent, trigger_deed}

@@ -1,27 +1,13 @@
 -- Scripts: the call that each line makes, and what a script remembers.
 use Rattle.std.specs.Prelude.{◌≡◌, ℕ, pos, ◌+◌, min, not, List, [], ◌∷◌, if◌then◌else◌, Option, Some, None, Ok, Err, filter, replicate}
 use Rattle.std.specs.Str.{bytes_eq}
-use Rattle.mq_name.specs.Name.{padded, name_of}
-use Rattle.mq_message.specs.declared.message.Md.{Md}
-use Rattle.mq_calls.specs.declared.answers.Appl.{Appl}
+use Rattle.mq_spec_node.specs.Terms.{padded, name_of, Md, Appl, Hconn, Hobj, Get, Call, Reply, Entry, Body, PutOptions, GetOptions, ScriptLine, trimmed, last_moment}
 use Rattle.mq_calls.specs.declared.answers.Answer.TheVariants as answers
-use Rattle.mq_calls.specs.declared.answers.Hconn.{Hconn}
-use Rattle.mq_calls.specs.declared.answers.Hobj.{Hobj}
-use Rattle.mq_calls.specs.declared.answers.Get.{Get}
 use Rattle.mq_history.specs.declared.acts.Act.TheVariants as acts
-use Rattle.mq_history.specs.declared.calls.Call.{Call}
 use Rattle.mq_history.specs.declared.calls.Call.TheVariants as calls
-use Rattle.mq_history.specs.declared.calls.Reply.{Reply}
 use Rattle.mq_history.specs.declared.calls.Reply.TheVariants as replies
-use Rattle.mq_history.specs.declared.calls.Entry.{Entry}
-use Rattle.mq_history.specs.declared.scripts.Body.{Body}
 use Rattle.mq_history.specs.declared.scripts.Body.TheVariants as bodies
-use Rattle.mq_history.specs.declared.scripts.PutOptions.{PutOptions}
-use Rattle.mq_history.specs.declared.scripts.GetOptions.{GetOptions}
-use Rattle.mq_history.specs.declared.scripts.ScriptLine.{ScriptLine}
 use Rattle.mq_history.specs.declared.scripts.ScriptLine.TheVariants as lines
-use Rattle.mq_spec_manager.specs.Heads.{trimmed}
-use Rattle.mq_spec_manager.specs.Stops.{last_moment}
 
 -- a label that is bound to an open handle
 pub record Bound : Type 0 where
@@ -108,6 +94,7 @@ abbrev pub reply_target : Option Md → Target
 reply_target None = nowhere
 reply_target (Some md) = queue_target (trimmed md.reply_to_q) (trimmed md.reply_to_q_mgr)
 
+-- CorrelId of a reply
 abbrev pub last_id : Option Md → List ℕ
 last_id None = replicate 24 0
 last_id (Some md) = md.msg_id
@@ -116,6 +103,7 @@ abbrev pub reply_correl : Option (List ℕ) → Option Md → List ℕ
 reply_correl None last = last_id last
 reply_correl (Some id) last = id
 
+-- the options of a get
 abbrev pub get_of : GetOptions → Get
 get_of o = record { sync = o.sync; take = o.take; want = o.want; room = o.room; truncate = o.truncate }
 
@@ -159,6 +147,7 @@ got (replies.Got (answers.Ok g)) m = record m { last = Some g.md }
 got (replies.Got (answers.Warning reason g)) m = record m { last = Some g.md }
 got _ m = m
 
+-- by the line
 abbrev pub remembers : ScriptLine → Reply → Memory → Memory
 remembers (lines.Mqconn name) reply m = record m { connection = connected reply; handles = [] }
 remembers lines.Mqdisc reply m = record m { connection = None; handles = [] }

@@ -1,38 +1,17 @@
 -- Turns and timeouts of a sender.
 use Rattle.std.specs.Prelude.{ℕ, Bool, true, false, List, [], ◌++◌, if◌then◌else◌, Option, Some, None}
 use Rattle.std.specs.Option.{option_map}
-use Rattle.mq_message.specs.declared.message.Message.{Message}
-use Rattle.mq_frame.specs.declared.frame.Frame.{Frame}
-use Rattle.mq_frame.specs.declared.frame.Seen.{Seen}
-use Rattle.mq_sync.specs.declared.unit.Unit.{Unit as Luw}
-use Rattle.mq_sync.specs.declared.unit.Settle.{Settle}
-use Rattle.mq_sync.specs.declared.unit.Settle.TheVariants as settles
-use Rattle.mq_sync.specs.Units.{no_unit, unit_named}
-use Rattle.mq_sync.specs.Settlement.{is_commit}
+use Rattle.mq_spec_node.specs.Terms.{Message, Frame, Seen, Luw, Settle, no_unit, unit_named, is_commit, PrepareFault, Doubt, SenderState, SenderDoes, SenderOut, Sender, is_running, awaits, timed_out, sender_next, sender_after, number_sent, bind_frame, message_frame, end_frame, Plain, Step, Part, do_all, Refuse, Do, names_of, stock, expire, hold_batch, batch_row, release_batch, prepare, harden, leave}
 use Rattle.mq_calls.specs.declared.agents.Note.TheVariants as notes
-use Rattle.mq_calls.specs.declared.agents.PrepareFault.{PrepareFault}
-use Rattle.mq_sync.specs.declared.data.Doubt.{Doubt}
-use Rattle.mq_sender.specs.declared.state.SenderState.{SenderState}
-use Rattle.mq_sender.specs.declared.turns.SenderDoes.{SenderDoes}
 use Rattle.mq_sender.specs.declared.turns.SenderDoes.TheVariants as does
-use Rattle.mq_sender.specs.declared.turns.SenderOut.{SenderOut}
 use Rattle.mq_sender.specs.declared.turns.SenderOut.TheVariants as outs
-use Rattle.mq_sender.specs.declared.state.Sender.{Sender}
-use Rattle.mq_sender.specs.States.{is_running, awaits, timed_out}
-use Rattle.mq_sender.specs.Table.{sender_next}
-use Rattle.mq_sender.specs.After.{sender_after, number_sent}
-use Rattle.mq_sender.specs.Frames.{bind_frame, message_frame, end_frame}
-use Rattle.mq_spec_state.specs.State.{Plain}
-use Rattle.mq_spec_state.specs.Steps.{Step, Part, do_all}
-use Rattle.mq_spec_state.specs.Steps.Step.{Refuse, Do}
-use Rattle.mq_spec_agents.specs.Words.{names_of, stock, expire, hold_batch, batch_row, release_batch, prepare, harden, leave}
 use Rattle.mq_spec_node.specs.Node.{Node, Own, SenderEnd, with_end}
 use Rattle.mq_spec_node.specs.Node.ChannelEnd.{Sends}
 use Rattle.mq_spec_node.specs.Deeds.{Deed, parts_of, turned}
 
 -- the end after a turn
-abbrev pub end_after : SenderEnd → SenderDoes → SenderOut → Own → Own
-end_after e d out own = with_end (Sends (record e { machine = sender_after e.machine d out })) own
+abbrev pub sender_end_after : SenderEnd → SenderDoes → SenderOut → Own → Own
+sender_end_after e d out own = with_end (Sends (record e { machine = sender_after e.machine d out })) own
 
 -- a sender that stops ends its open of the transmission queue
 abbrev pub leave_if_stopped : List ℕ → SenderState → Plain → List Part
@@ -58,7 +37,7 @@ settle_parts_if e (Some s) p = settle_parts e (is_commit s) p
 -- what is done at the manager, with the end's state after it and the frame that is offered
 abbrev pub sent : SenderEnd → SenderDoes → List Part → Option Frame → Node → Deed
 sent e d parts pushed n =
-    turned (parts ++ leave_if_stopped e.channel (sender_after e.machine d outs.Done).state n.manager) pushed (end_after e d outs.Done n.own)
+    turned (parts ++ leave_if_stopped e.channel (sender_after e.machine d outs.Done).state n.manager) pushed (sender_end_after e d outs.Done n.own)
 
 -- a batch is held, and its first message goes
 abbrev pub begin_deed : ℕ → SenderEnd → (k count : ℕ) → List Part → Node → Deed
@@ -68,7 +47,7 @@ begin_deed stamp e k count parts n =
 -- the log may lack the room: the batch is released, and the sender stops
 abbrev pub prepare_deed : SenderEnd → Step PrepareFault (Unit {0}) → Node → Deed
 prepare_deed e (Refuse fault) n =
-    turned (parts_of (release_batch e.channel n.manager) ++ parts_of (leave e.channel n.manager)) None (end_after e does.Prepare outs.NoRoom n.own)
+    turned (parts_of (release_batch e.channel n.manager) ++ parts_of (leave e.channel n.manager)) None (sender_end_after e does.Prepare outs.NoRoom n.own)
 prepare_deed e (Do reply parts) n = sent e does.Prepare parts None n
 
 abbrev pub sender_deed_by : ℕ → SenderEnd → SenderDoes → Node → Option Deed

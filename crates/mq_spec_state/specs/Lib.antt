@@ -8,5 +8,5 @@ pub mod Images
 pub mod Steps
 pub mod Meeting
 pub mod Counts
-pub mod Words
 pub mod Recovery
+pub mod Words
