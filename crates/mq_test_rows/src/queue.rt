@@ -5,7 +5,7 @@ ghost use Rattle.std.specs.Prelude.{◌≡◌, ◌+◌, ◌<◌, ◌≤◌};
 use crate::fixture::descriptor;
 use mq_base::NoMemory;
 use mq_message::{Bytes, Holder, Ident, Md, Message, Want};
-use mq_queue::{PlainQueue, Queue};
+use mq_queue::{PlainQueue, Queue, Row};
 use std::alloc::{AllocError, Global};
 use std::test::*;
 
@@ -22,9 +22,11 @@ fn ident(number: u64) -> Ident {
     }
 }
 
+/// A message with this ident; the second is not persistent.
 fn message(alloc: Global, number: u64, priority: i32) -> Message {
     let md = Md {
         priority,
+        persistence: if number == 2 { 0 } else { 1 },
         ..descriptor()
     };
     Message {
@@ -105,5 +107,44 @@ fn a_row_that_comes_back_has_its_place_and_one_backout_more(rt: HostRuntime) -> 
     assert!(rt; queue.remove(&first).is_some());
     assert!(rt; queue.remove(&first).is_none());
     assert_eq!(rt; numbers(rt.alloc(), &queue)?.as_slice(), [1, 3].as_slice());
+    Ok(())
+}
+
+/// The number of a row's ident, 0 where there is no row.
+fn number_of(row: Option<&Row>) -> u64 {
+    match row {
+        Some(row) => row.message.ident.number,
+        None => 0,
+    }
+}
+
+#[test]
+fn rows_are_counted_and_found_by_their_places(rt: HostRuntime) -> Result<(), Fail> {
+    let mut queue = three(rt.alloc(), true)?;
+    let (place, first) = queue.first(&ANY, None).ok_or("empty")?;
+    assert_eq!(rt; (queue.len(), queue.free(0), queue.free(1)), (3, 3, 1));
+    assert_eq!(rt; number_of(queue.first_row(&ANY, None)), 2);
+    assert!(rt; queue.hold(&first, &Holder::Unit(7)));
+    assert_eq!(rt; (queue.len(), queue.free(0), queue.free(1)), (3, 2, 0));
+    assert_eq!(rt; number_of(queue.first_row(&ANY, None)), 1);
+    assert_eq!(rt; number_of(queue.next_row(None)), 2);
+    assert_eq!(rt; number_of(queue.next_row(Some(place))), 1);
+    assert_eq!(rt; number_of(queue.at(place)), 2);
+    Ok(())
+}
+
+#[test]
+fn a_stop_keeps_persistent_rows_and_frees_those_of_units(rt: HostRuntime) -> Result<(), Fail> {
+    let mut queue = three(rt.alloc(), false)?;
+    assert!(rt; queue.hold(&ident(1), &Holder::Unit(7)));
+    queue.keep_lasting();
+    assert_eq!(rt; numbers(rt.alloc(), &queue)?.as_slice(), [1, 3].as_slice());
+    queue.free_units();
+    assert!(rt; queue.hold(&ident(1), &Holder::Unit(8)));
+    let count = match queue.row(&ident(1)) {
+        Some(message) => message.md.backout_count,
+        None => 0,
+    };
+    assert_eq!(rt; count, 1);
     Ok(())
 }
