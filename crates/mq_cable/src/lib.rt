@@ -19,6 +19,3 @@ pub use laws::{
 pub use near::Near;
 pub use offers::{OfferFault, Offers};
 pub use wire::Wire;
-
-#[cfg(test)]
-mod tests;

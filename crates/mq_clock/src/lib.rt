@@ -69,6 +69,3 @@ fn two_digits(number: u8) -> [u8; 2]
 {
     [b'0' + number / 10, b'0' + number % 10]
 }
-
-#[cfg(test)]
-mod tests;

@@ -20,6 +20,3 @@ pub use mem_shelf::MemShelf;
 pub use memory::{Image, MemDisk};
 pub use mq_base::Failed;
 pub use shelf::{Shelf, Side, TakeFault};
-
-#[cfg(test)]
-mod tests;

@@ -20,6 +20,3 @@ pub use laws::{
 };
 pub use sight::seen_of;
 pub use writing::{encode, push_message};
-
-#[cfg(test)]
-mod tests;

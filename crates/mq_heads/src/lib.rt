@@ -11,6 +11,3 @@ pub use dead_letter::{DLH_SIZE, dlh_of, dlh_to_bytes};
 pub use headers::{Dlh, Tm, Xqh};
 pub use transmission::{XQH_SIZE, xqh_of, xqh_to_bytes};
 pub use trigger::{TM_SIZE, tm_of, tm_to_bytes};
-
-#[cfg(test)]
-mod tests;

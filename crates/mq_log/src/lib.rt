@@ -12,6 +12,3 @@ pub use bodies::{Bodies, Split, next_body};
 pub use images::Found;
 pub use log::{Log, LogFull, Unstarted};
 pub use open::StartFault;
-
-#[cfg(test)]
-mod tests;

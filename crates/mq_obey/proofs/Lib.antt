@@ -1,2 +1,1 @@
 pub mod ObeyLaws
-pub mod ReportLaws

@@ -9,6 +9,3 @@ mod report;
 pub use events::{CommandNode, Event, Refusal};
 pub use obeying::{NoUse, obey};
 pub use report::report_bytes;
-
-#[cfg(test)]
-mod tests;

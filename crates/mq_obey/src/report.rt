@@ -96,8 +96,10 @@ fn push_depth(out: &mut Items<u8>, object: &Object) -> Result<(), AllocError>
 fn push_depths(out: &mut Items<u8>, defs: &Defs) -> Result<(), AllocError>
     ensures { OnOk result (out.new ≡ out.old ++ flat_map depth_text defs.now.definitions.objects) }
 {
-    for place in 0..defs.len() {
-        let object = defs.object_at(place).unwrap();
+    for slot in defs.slots() {
+        let Some(object) = slot else {
+            continue;
+        };
         push_depth(out, object)?;
     }
     Ok(())

@@ -1,3 +1,5 @@
-pub mod KeyedLemmas
+pub mod FiledLemmas
 pub mod KeptLemmas
+pub mod KeyLemmas
+pub mod SlotLemmas
 pub mod WrittenLemmas

@@ -7,7 +7,7 @@ use Rattle.mq_objects.specs.declared.setting.Keyword.{Keyword}
 use Rattle.mq_objects.specs.declared.text.Style.{Style}
 use Rattle.mq_objects.specs.declared.text.Style.TheVariants.{Command}
 use Rattle.mq_objects.specs.Attributes.{Attribute, command_attribute, kept_attribute}
-use Rattle.mq_objects.specs.Written.{is_asked, styled, put, put_all, put_kept}
+use Rattle.mq_objects.specs.Written.{is_asked, styled, put_all, put_kept}
 
 pub put_all-command : (text : List ℕ) (as_ : List Attribute) → put_all Command [] text as_ ≡ text ++ flat_map (λ (a : Attribute). command_attribute a.word a.value) as_
 put_all-command text [] = sym (append-nil text)

@@ -1,5 +1,6 @@
+//! Each kind's attributes as text, in the order of its table.
 ghost use Rattle.std.specs.Prelude.{◌≡◌, OnOk};
-ghost use Rattle.mq_objects.specs.Attributes.{yes_or_no, enabled_or_not, delivery_word, trigger_word, usage_word, speed_word, trigger_flag, local_attributes, alias_attributes, remote_attributes, channel_attributes, process_attributes, manager_attributes, attributes};
+ghost use Rattle.mq_objects.specs.Attributes.{yes_or_no, enabled_or_not, delivery_word, trigger_word, usage_word, speed_word, trigger_flag, first_of_local, second_of_local, trigger_of_local, local_attributes, alias_attributes, remote_attributes, channel_attributes, process_attributes, manager_attributes, attributes};
 ghost use Rattle.mq_objects.specs.Written.{put_all};
 
 use crate::object::{
@@ -72,6 +73,115 @@ impl LocalQueue {
         self.write_triggered(how, text, self.trigger)
     }
 
+    // DEFPRTY to MAXDEPTH.
+    fn write_first(&self, how: &How, text: &mut Items<u8>) -> Result<(), AllocError>
+        ensures { OnOk result (text.new ≡ put_all how.now.style how.now.asked.now text.old (first_of_local self.now)) }
+    {
+        write_number(
+            how,
+            text,
+            Keyword::DefPrty,
+            "DEFPRTY",
+            u64::from(self.default_priority),
+        )?;
+        write_word(
+            how,
+            text,
+            Keyword::DefPsist,
+            "DEFPSIST",
+            yes_or_no(self.default_persistent),
+        )?;
+        write_word(
+            how,
+            text,
+            Keyword::Get,
+            "GET",
+            enabled_or_not(self.get_enabled),
+        )?;
+        write_text(
+            how,
+            text,
+            Keyword::InitQ,
+            "INITQ",
+            self.initiation_queue.text(),
+        )?;
+        write_number(
+            how,
+            text,
+            Keyword::MaxDepth,
+            "MAXDEPTH",
+            u64::from(self.max_depth),
+        )
+    }
+
+    // MAXMSGL to PUT.
+    fn write_second(&self, how: &How, text: &mut Items<u8>) -> Result<(), AllocError>
+        ensures { OnOk result (text.new ≡ put_all how.now.style how.now.asked.now text.old (second_of_local self.now)) }
+    {
+        write_number(
+            how,
+            text,
+            Keyword::MaxMsgL,
+            "MAXMSGL",
+            u64::from(self.max_message_length),
+        )?;
+        write_word(
+            how,
+            text,
+            Keyword::MsgDlvSq,
+            "MSGDLVSQ",
+            delivery_word(self.delivery),
+        )?;
+        write_text(how, text, Keyword::Process, "PROCESS", self.process.text())?;
+        write_word(
+            how,
+            text,
+            Keyword::Put,
+            "PUT",
+            enabled_or_not(self.put_enabled),
+        )
+    }
+
+    // What begins with TRIG, with TRIGGER or NOTRIGGER as it is given.
+    fn write_trigger(
+        &self,
+        how: &How,
+        text: &mut Items<u8>,
+        trigger: bool,
+    ) -> Result<(), AllocError>
+        ensures { OnOk result (text.new ≡ put_all how.now.style how.now.asked.now text.old (trigger_of_local (record self.now { trigger = trigger }))) }
+    {
+        write_text(
+            how,
+            text,
+            Keyword::TrigData,
+            "TRIGDATA",
+            self.trigger_data.as_slice(),
+        )?;
+        write_number(
+            how,
+            text,
+            Keyword::TrigDpth,
+            "TRIGDPTH",
+            u64::from(self.trigger_depth),
+        )?;
+        write_flag(how, text, Keyword::Trigger, trigger_flag(trigger))?;
+        write_number(
+            how,
+            text,
+            Keyword::TrigMPri,
+            "TRIGMPRI",
+            u64::from(self.trigger_priority),
+        )?;
+        write_word(
+            how,
+            text,
+            Keyword::TrigType,
+            "TRIGTYPE",
+            trigger_word(self.trigger_type),
+        )
+    }
+
     /// The same with TRIGGER or NOTRIGGER as it is given, and not as the queue is defined.
     pub fn write_triggered(
         &self,
@@ -81,94 +191,10 @@ impl LocalQueue {
     ) -> Result<(), AllocError>
         ensures { OnOk result (text.new ≡ put_all how.now.style how.now.asked.now text.old (local_attributes (record self.now { trigger = trigger }))) }
     {
-        let q = self;
-        write_number(
-            how,
-            text,
-            Keyword::DefPrty,
-            "DEFPRTY",
-            u64::from(q.default_priority),
-        )?;
-        write_word(
-            how,
-            text,
-            Keyword::DefPsist,
-            "DEFPSIST",
-            yes_or_no(q.default_persistent),
-        )?;
-        write_word(
-            how,
-            text,
-            Keyword::Get,
-            "GET",
-            enabled_or_not(q.get_enabled),
-        )?;
-        write_text(
-            how,
-            text,
-            Keyword::InitQ,
-            "INITQ",
-            q.initiation_queue.text(),
-        )?;
-        write_number(
-            how,
-            text,
-            Keyword::MaxDepth,
-            "MAXDEPTH",
-            u64::from(q.max_depth),
-        )?;
-        write_number(
-            how,
-            text,
-            Keyword::MaxMsgL,
-            "MAXMSGL",
-            u64::from(q.max_message_length),
-        )?;
-        write_word(
-            how,
-            text,
-            Keyword::MsgDlvSq,
-            "MSGDLVSQ",
-            delivery_word(q.delivery),
-        )?;
-        write_text(how, text, Keyword::Process, "PROCESS", q.process.text())?;
-        write_word(
-            how,
-            text,
-            Keyword::Put,
-            "PUT",
-            enabled_or_not(q.put_enabled),
-        )?;
-        write_text(
-            how,
-            text,
-            Keyword::TrigData,
-            "TRIGDATA",
-            q.trigger_data.as_slice(),
-        )?;
-        write_number(
-            how,
-            text,
-            Keyword::TrigDpth,
-            "TRIGDPTH",
-            u64::from(q.trigger_depth),
-        )?;
-        write_flag(how, text, Keyword::Trigger, trigger_flag(trigger))?;
-        write_number(
-            how,
-            text,
-            Keyword::TrigMPri,
-            "TRIGMPRI",
-            u64::from(q.trigger_priority),
-        )?;
-        write_word(
-            how,
-            text,
-            Keyword::TrigType,
-            "TRIGTYPE",
-            trigger_word(q.trigger_type),
-        )?;
-        write_word(how, text, Keyword::Usage, "USAGE", usage_word(q.usage))
+        self.write_first(how, text)?;
+        self.write_second(how, text)?;
+        self.write_trigger(how, text, trigger)?;
+        write_word(how, text, Keyword::Usage, "USAGE", usage_word(self.usage))
     }
 }
 

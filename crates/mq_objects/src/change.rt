@@ -1,3 +1,4 @@
+//! Changes of what is defined.
 use crate::command::Subject;
 use crate::object::{ManagerAttributes, Object};
 

@@ -1,3 +1,4 @@
+//! Objects as the commands that define them: the texts that the log keeps.
 ghost use Rattle.std.specs.Prelude.{◌≡◌, [], ◌++◌, OnOk, IfOk, codes};
 ghost use Rattle.mq_objects.specs.Names.{name_of, subject_name};
 ghost use Rattle.mq_objects.specs.Attributes.{kind_word, subject_word, is_flag, in_brackets, quoted, kept_attribute, kept_of, attributes, manager_attributes, define_text, manager_text, delete_text};

@@ -1,3 +1,4 @@
+//! Copies of objects, which an ALTER changes.
 ghost use Rattle.std.specs.Prelude.{◌≡◌, IfOk};
 
 use crate::object::{

@@ -1,3 +1,4 @@
+//! Objects of which a command gives no attribute.
 ghost use Rattle.std.specs.Prelude.{◌≡◌};
 ghost use Rattle.mq_objects.specs.Defaults.{new_local, new_alias, new_remote, new_channel, new_process, new_manager, new_object};
 

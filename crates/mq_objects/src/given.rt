@@ -1,3 +1,4 @@
+//! Objects with the attributes that a command gives.
 ghost use Rattle.std.specs.Prelude.{◌≡◌, OnOk, position};
 ghost use Rattle.std.specs.Str.{bytes_eq};
 ghost use Rattle.mq_objects.specs.Settings.{keep_attribute, set_local, set_alias, set_remote, typed, set_kind, set_channel, set_process, set_manager, set_object, set_all, set_all_manager};

@@ -1,3 +1,4 @@
+//! Attributes as text.
 ghost use Rattle.std.specs.Prelude.{◌≡◌, ◌++◌, OnOk, codes};
 ghost use Rattle.mq_objects.specs.Attributes.{number_of, word_of, text_of, flag_of, keyword_number, same_keyword, in_brackets, doubled, quoted, blank_or};
 ghost use Rattle.std.specs.List.{list_any};
@@ -10,15 +11,20 @@ use std::alloc::{AllocError, Global};
 /// How attributes are written: as DISPLAY shows them, or as a command gives them.
 #[derive(Clone, Copy, Debug, PartialEq, Eq)]
 pub enum Style {
+    /// As DISPLAY shows them: texts bare, and a blank for an empty one.
     Shown,
+    /// As a command gives them: texts in quotes.
     Command,
 }
 
 /// How attributes are written, and which: those asked, or all where none is.
 #[derive(Clone, Copy)]
 pub struct How<'a> {
+    /// Where memory is taken.
     pub alloc: Global,
+    /// How they are written.
     pub style: Style,
+    /// The keywords asked, none for all.
     pub asked: &'a [Keyword],
 }
 

@@ -5,6 +5,7 @@ use Rattle.mq_frame.specs.declared.frame.FrameKind.{FrameKind}
 use Rattle.mq_frame.specs.declared.frame.FrameKind.TheVariants.{Bind, Msg, End}
 use Rattle.mq_frame.specs.declared.frame.Seen.{Seen}
 use Rattle.mq_frame.specs.declared.frame.Seen.TheVariants as items
+pub use Rattle.mq_frame.specs.Sight.{waits}
 use Rattle.mq_sync.specs.declared.unit.Unit.{Unit as Luw}
 use Rattle.mq_sync.specs.Units.{unit_named, no_unit, same_unit}
 use Rattle.mq_sync.specs.Turns.{Line, line, first_line}
@@ -14,11 +15,6 @@ use Rattle.mq_receiver.specs.declared.turns.ReceiverDoes.TheVariants as does
 use Rattle.mq_receiver.specs.States.{is_bound, is_stopped, latest_begun, messages_came}
 
 -- What waits.
-abbrev pub waits : Seen → Bool
-waits items.Nothing = false
-waits items.Spoiled = true
-waits (items.Frame f) = true
-
 abbrev pub is_spoiled : Seen → Bool
 is_spoiled items.Spoiled = true
 is_spoiled _ = false

@@ -12,6 +12,3 @@ mod turns;
 
 pub use state::{Owed, Receiver, ReceiverState};
 pub use turns::{ReceiverDoes, ReceiverOut};
-
-#[cfg(test)]
-mod tests;

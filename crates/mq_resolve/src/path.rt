@@ -1,3 +1,4 @@
+//! The definitions that a name led over.
 ghost use Rattle.std.specs.Prelude.{◌≡◌, ◌<◌, ◌≤◌, [], ◌∷◌, ◌++◌, length};
 
 use crate::route::PathStep;

@@ -1,3 +1,4 @@
+//! The walk from a name to where it leads, over aliases and remote queues.
 ghost use Rattle.std.specs.Prelude.{◌≡◌, ◌≤◌, ◌++◌, ◌∷◌, length, [], Some, Ok, false, IfOk, IsTrue};
 ghost use Rattle.mq_objects.specs.Names.{queue_of};
 ghost use Rattle.mq_objects.specs.declared.object.Object.TheVariants as objects;

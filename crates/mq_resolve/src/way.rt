@@ -1,3 +1,4 @@
+//! The transmission queue that leads to another manager.
 ghost use Rattle.std.specs.Prelude.{◌≡◌, ℕ, List, [], false};
 ghost use Rattle.mq_resolve.specs.Resolved.{transmission, default_table, is_transmission_queue, is_blank};
 ghost use Rattle.mq_objects.specs.Names.{queue_of};
@@ -9,7 +10,9 @@ use mq_objects::{Defs, LocalQueue, Object, Usage};
 /// A transmission queue, and whether the manager's DEFXMITQ gave it.
 #[derive(Clone, Copy, Debug, PartialEq, Eq)]
 pub struct Way {
+    /// The transmission queue's name.
     pub queue: QName,
+    /// DEFXMITQ named it.
     pub by_default: bool,
 }
 

@@ -1,5 +1,6 @@
 -- Patterns of texts.
 use Rattle.std.specs.Prelude.{◌≡◌, ◌≤◌, ℕ, ◌==◌, Bool, true, false, ◌&&◌, ◌||◌, List, [], ◌∷◌, length, drop, slice_index_or, if◌then◌else◌}
+pub use Rattle.mq_name.specs.Name.{onto_text, trimmed}
 
 -- the text itself, or what is left of it behind some of its bytes, passes
 abbrev pub some_rest : (List ℕ → Bool) → List ℕ → Bool
@@ -16,15 +17,6 @@ abbrev pub like : List ℕ → List ℕ → Bool
 like [] [] = true
 like [] (b ∷ bs) = false
 like (c ∷ pattern) text = if c == 42 then some_rest (like pattern) text else first_and_rest c (like pattern) text
-
-abbrev pub onto_text : ℕ → List ℕ → List ℕ
-onto_text b [] = if b == 32 then [] else b ∷ []
-onto_text b (c ∷ cs) = b ∷ c ∷ cs
-
--- a field's text without the blanks at its end
-abbrev pub trimmed : List ℕ → List ℕ
-trimmed [] = []
-trimmed (b ∷ bs) = onto_text b (trimmed bs)
 
 -- for each place of a text, whether what is left from there on is like the pattern
 pub record AreLike (places : List Bool) (pattern text : List ℕ) : Type 0 where

@@ -8,6 +8,3 @@ mod rule;
 
 pub use choice::decide;
 pub use rule::{Action, Condition, Forward, NumberField, Rule, Table, Target, TextField, Wait};
-
-#[cfg(test)]
-mod tests;

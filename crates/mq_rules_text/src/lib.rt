@@ -12,6 +12,3 @@ mod values;
 
 pub use fault::RulesFault;
 pub use reading::table;
-
-#[cfg(test)]
-mod tests;

@@ -1,3 +1,4 @@
+//! What a change of an object means for its users: which changes lead a name elsewhere, and which use forbids them.
 ghost use Rattle.std.specs.Prelude.{◌≡◌};
 ghost use Rattle.mq_objects.specs.Names.{is_kind, is_transmission, is_by_priority};
 ghost use Rattle.mq_sc_apply.specs.Planned.{same_usage, same_delivery, leads_elsewhere, changes_usage, changes_rows, is_on_path, is_sent_from, is_busy, is_filled, is_used};

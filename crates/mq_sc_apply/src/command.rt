@@ -1,3 +1,4 @@
+//! Commands on objects: what each does, and that it is done.
 ghost use Rattle.std.specs.Prelude.{◌≡◌, OnOk, OnErr};
 ghost use Rattle.mq_sc_apply.specs.Commands.{Gives, to_change, to_show, plan, reply, after};
 

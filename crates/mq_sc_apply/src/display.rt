@@ -1,7 +1,8 @@
-ghost use Rattle.std.specs.Prelude.{◌≡◌, [], ◌∷◌, ◌++◌, OnOk, IfOk};
+//! DISPLAY: the lines that it shows.
+ghost use Rattle.std.specs.Prelude.{◌≡◌, false, [], ◌∷◌, ◌++◌, OnOk, IfOk};
 ghost use Rattle.mq_objects.specs.Attributes.{in_brackets};
 ghost use Rattle.mq_objects.specs.Written.{put_all};
-ghost use Rattle.mq_sc_apply.specs.Displayed.{is_meant, has_name, is_shown, local_shown, shown_attributes, manager_shown, object_line, manager_line, lines_of, object_lines, lines_found, display};
+ghost use Rattle.mq_sc_apply.specs.Displayed.{is_meant, searched_space, has_name, is_shown, local_shown, shown_attributes, manager_shown, object_line, manager_line, lines_of, object_lines, lines_found, display};
 ghost use Rattle.mq_sc_apply.specs.Commands.{Gives};
 
 use crate::in_use::InUse;
@@ -9,7 +10,7 @@ use mq_base::Items;
 use mq_calls::{ScRefusal, Shown};
 use mq_name::QName;
 use mq_objects::{
-    Defs, Display, How, Keyword, LocalQueue, ManagerAttributes, Object, Style, Subjects,
+    Defs, Display, How, Keyword, LocalQueue, ManagerAttributes, NameSpace, Object, Style, Subjects,
     write_number,
 };
 use std::alloc::{AllocError, Global};
@@ -157,6 +158,41 @@ fn push_line<U: InUse>(
     lines.push(line)
 }
 
+/// The name space of what a DISPLAY asks for. The manager has none, and its DISPLAY names no object.
+fn searched_space(subjects: Subjects) -> NameSpace
+    ensures { result ≡ searched_space subjects }
+{
+    match subjects {
+        Subjects::Locals
+        | Subjects::Aliases
+        | Subjects::Remotes
+        | Subjects::Queues
+        | Subjects::Manager => NameSpace::Queues,
+        Subjects::Channels => NameSpace::Channels,
+        Subjects::Processes => NameSpace::Processes,
+    }
+}
+
+/// The lines that a whole name shows: that of the one object with it, if it is meant.
+fn lines_of_one<U: InUse>(
+    alloc: Global,
+    defs: &Defs,
+    command: &Display,
+    uses: &U,
+) -> Result<Items<Items<u8>>, AllocError>
+    requires { command.now.any_end ≡ false }
+    ensures { IfOk result (λ lines. lines ≡ object_lines command.now defs.now.definitions (U.facts uses.now)) }
+{
+    let mut lines = Items::new(alloc);
+    let space = searched_space(command.subjects);
+    let Some(object) = defs.by_name(space, command.name.as_slice()) else {
+        return Ok(lines);
+    };
+    push_line(alloc, &mut lines, command, object, uses)?;
+    Ok(lines)
+}
+
+/// The lines of all objects that a command shows, in order of definition.
 fn object_lines<U: InUse>(
     alloc: Global,
     defs: &Defs,
@@ -165,9 +201,14 @@ fn object_lines<U: InUse>(
 ) -> Result<Items<Items<u8>>, AllocError>
     ensures { IfOk result (λ lines. lines ≡ object_lines command.now defs.now.definitions (U.facts uses.now)) }
 {
+    if !command.any_end {
+        return lines_of_one(alloc, defs, command, uses);
+    }
     let mut lines = Items::new(alloc);
-    for place in 0..defs.len() {
-        let object = defs.object_at(place).unwrap();
+    for slot in defs.slots() {
+        let Some(object) = slot else {
+            continue;
+        };
         push_line(alloc, &mut lines, command, object, uses)?;
     }
     Ok(lines)

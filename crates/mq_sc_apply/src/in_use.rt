@@ -1,3 +1,4 @@
+//! What the rest of a manager tells of the use of its objects.
 ghost use Rattle.std.specs.Prelude.{◌≡◌};
 ghost use Rattle.mq_sc_apply.specs.Uses.{Uses};
 

@@ -12,6 +12,3 @@ mod plans;
 pub use answers::{Plan, Planned};
 pub use command::{apply, plan};
 pub use in_use::InUse;
-
-#[cfg(test)]
-mod tests;

@@ -1,3 +1,4 @@
+//! DEFINE, ALTER and DELETE: what refuses them, and the change that each makes.
 ghost use Rattle.std.specs.Prelude.{◌≡◌, Some, OnOk, IfOk, filter};
 ghost use Rattle.std.specs.List.{list_any};
 ghost use Rattle.mq_objects.specs.Settings.{set_all, set_all_manager};

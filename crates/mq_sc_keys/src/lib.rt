@@ -18,6 +18,3 @@ pub use shown::{
 pub use value::Value;
 pub use values::{are_blanks, choice_value, number_value, type_value};
 pub use verbs::{Noun, Verb, object_of, verb_of, words_are_found};
-
-#[cfg(test)]
-mod tests;

@@ -11,6 +11,3 @@ pub use commanding::{Lines, commands, line_commands};
 pub use fault::LexFault;
 pub use joining::{Joined, Mark, join_lines};
 pub use token::{Line, Span, Token, TokenKind};
-
-#[cfg(test)]
-mod tests;

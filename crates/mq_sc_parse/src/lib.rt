@@ -12,6 +12,3 @@ mod splitting;
 pub use command::{Command, Op};
 pub use fault::ScFault;
 pub use parsing::parse;
-
-#[cfg(test)]
-mod tests;

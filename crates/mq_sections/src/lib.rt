@@ -9,6 +9,3 @@ mod section;
 pub use form::{Form, one_form_law, read_form};
 pub use reader::{one_section_law, read_section};
 pub use section::Section;
-
-#[cfg(test)]
-mod tests;

@@ -4,6 +4,7 @@ use Rattle.mq_frame.specs.declared.frame.FrameKind.{FrameKind}
 use Rattle.mq_frame.specs.declared.frame.FrameKind.TheVariants.{Status, Ack, Err}
 use Rattle.mq_frame.specs.declared.frame.Seen.{Seen}
 use Rattle.mq_frame.specs.declared.frame.Seen.TheVariants as items
+pub use Rattle.mq_frame.specs.Sight.{waits}
 use Rattle.mq_sync.specs.declared.unit.Unit.{Unit as Luw}
 use Rattle.mq_sync.specs.declared.unit.Settle.{Settle}
 use Rattle.mq_sync.specs.declared.data.Stock.{Stock}
@@ -17,11 +18,6 @@ use Rattle.mq_sender.specs.declared.turns.SenderDoes.{SenderDoes}
 use Rattle.mq_sender.specs.declared.turns.SenderDoes.TheVariants as does
 
 -- What waits.
-abbrev pub waits : Seen → Bool
-waits items.Nothing = false
-waits items.Spoiled = true
-waits (items.Frame f) = true
-
 abbrev pub kind_is_status : FrameKind → Bool
 kind_is_status (Status session n last) = true
 kind_is_status _ = false

@@ -12,6 +12,3 @@ mod turns;
 
 pub use state::{Kept, Limits, Sender, SenderState, StopCause};
 pub use turns::{SenderDoes, SenderOut};
-
-#[cfg(test)]
-mod tests;

@@ -3,6 +3,7 @@ use Rattle.std.specs.List.{list_any, AllByRecursion}
 use Rattle.std.specs.Option.{option_map}
 use Rattle.std.specs.Prelude.{AllPairs, ℕ, Bool, true, false, not, ◌&&◌, List, [], ◌∷◌, Option, Some, None, find, ◌≡◌, ◌<◌, ◌≤◌, IsSome, is_some}
 use Rattle.mq_spec_state.specs.Words.{Ident, LocalQueue, sender_or, receiver_or, Below, InDoubt, Luw, Note, Batch, rests_by, stored, sender_data, receiver_data, seizure_of, batch_of, in_doubt_of, is_up, Plain, Queue, same_ident, has_ident, held_by, Row, local_of, channel_of, is_transmission}
+use Rattle.mq_spec_state.specs.Recovery.{IsNumbered}
 use Rattle.mq_message.specs.declared.place.Holder.TheVariants as holders
 use Rattle.mq_sync.specs.declared.data.End.TheVariants as ends
 use Rattle.mq_calls.specs.declared.agents.Note.TheVariants as notes
@@ -51,13 +52,9 @@ is_row_in_doubt bs idents row = is_some (rests_by bs row.by) && list_any (same_i
 abbrev pub NoneInDoubt : List Batch → List Ident → Queue → Type 0
 NoneInDoubt bs idents q = AllByRecursion (λ (row : Row). is_row_in_doubt bs idents row ≡ false) q.rows
 
--- a unit with a name of its own
-abbrev pub IsUnit : Luw → Type 0
-IsUnit unit = (0 < unit.session) × (0 < unit.n)
-
 -- prepare: the batch can be a unit in doubt
 pub record IsPreparable (b : Batch) (channel : List ℕ) (p : Plain) : Type 0 where
-  pub unit : IsUnit b.unit
+  pub unit : IsNumbered b.unit
   pub session : b.unit.session ≤ (sender_or (sender_data channel p)).session
   pub doubt : HasNoDoubt channel p
   pub apart : AllPairs (λ (x y : Ident). same_ident x y ≡ false) b.idents
@@ -86,7 +83,7 @@ CanHarden channel (notes.SeqSet ends.Receiver last) p = Unit {0}
 -- receive: the unit is above the last one, of the kept session, which is open
 pub record CanReceive (channel : List ℕ) (unit : Luw) (p : Plain) : Type 0 where
   pub here : IsReceiverHere channel p
-  pub named : IsUnit unit
+  pub named : IsNumbered unit
   pub session : unit.session ≡ (receiver_or (receiver_data channel p)).session
   pub live : (receiver_or (receiver_data channel p)).closed ≡ false
   pub above : Below (receiver_or (receiver_data channel p)).unit unit

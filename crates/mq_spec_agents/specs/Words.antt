@@ -7,4 +7,4 @@ pub use Rattle.mq_spec_agents.specs.Standing.Standing.{Absent, InDoubtAt, Presen
 pub use Rattle.mq_spec_agents.specs.Landing.{names_of, Landing, landing, route_tests, dead_md, dead_head, dead_message, can_take_dead, dead_or, kind_uses_dead, uses_dead, dead_letter, land_tested, land_resolved, land}
 pub use Rattle.mq_spec_agents.specs.Receiving.{Landed, nothing_landed, add_of, land_changes, before, landed_by, landed_unless, landed, taken_of, messages_taken, received_record, received_part, receive_landed, receive}
 pub use Rattle.mq_spec_agents.specs.Moves.{next_row, bare_message, bare_if, moved_record, move_full, moved_forced, move_part, move_landing, move_resolved, move_found, move_row, discard_rows, discard}
-pub use Rattle.mq_spec_agents.specs.Conditions.{IsUp, IsSenderHere, IsReceiverHere, HasSeized, HasBatch, HasNoBatch, HasNoDoubt, HoldsNone, CanHold, is_row_in_doubt, NoneInDoubt, IsUnit, IsPreparable, CanPrepare, unit_of, CanHarden, CanReceive, is_ordinary, HasFreeRow, CanMove}
+pub use Rattle.mq_spec_agents.specs.Conditions.{IsUp, IsSenderHere, IsReceiverHere, HasSeized, HasBatch, HasNoBatch, HasNoDoubt, HoldsNone, CanHold, is_row_in_doubt, NoneInDoubt, IsPreparable, CanPrepare, unit_of, CanHarden, CanReceive, is_ordinary, HasFreeRow, CanMove}

@@ -24,6 +24,6 @@ pub record AreAtMost (most : ℕ) (p : Plain) : Type 0 where
   pub queues : AllByRecursion (IsCounted most p) p.queues
   pub log : p.log.length + reserved p ≤ most
 
--- There is room for one event more, and many.
-abbrev pub AreFew : Plain → Type 0
-AreFew p = AreAtMost (2 ^ 63) p
+-- there is room for many events more
+abbrev pub AreLow : Plain → Type 0
+AreLow p = AreAtMost (2 ^ 63) p

@@ -179,12 +179,6 @@ Possible Runs parts armed = 0 < armed → write_calls parts < armed
 Possible NoMemory parts armed = Unit {0}
 Possible (Stopped by n left) parts armed = IsWrite n parts × StopsAt by (calls_at n parts) armed (calls_before n parts) left
 
--- a call that takes no memory never finds none
-abbrev pub IsNotWanting : Choice → Type 0
-IsNotWanting Runs = Unit {0}
-IsNotWanting NoMemory = ⊥
-IsNotWanting (Stopped by n left) = Unit {0}
-
 -- the state after a call that runs, and its answer
 abbrev pub next : {F T : Type 0} → Step F T → Plain → Plain
 next step p = (after step Runs p).next

@@ -6,9 +6,9 @@ pub use Rattle.mq_spec_state.specs.Reads.{is_up, queue_in, stored, sender_in, se
 pub use Rattle.mq_spec_state.specs.Condition.{waiting, is_long_ago, by_type, is_served, is_triggered, condition, is_depth}
 pub use Rattle.mq_spec_state.specs.Changes.{set_queue, with_queue, comes_before, set_named, set_sender, set_receiver, less_ident, off_list, off_lists, selects, lane_of, new_row, placed_in, place, kept_in, retag_if, held_in, release_if, released_in, made_due, depth_type, try_if, try_trigger, change_connection, change_handle, with_connection, stale_if, made_stale, unseized, without_batch, unbound, set_bound, forgotten, apply, apply_all}
 pub use Rattle.mq_spec_state.specs.Images.{has_batch, rests_by, uncounted_message, lasting_row, lasting_rows, shelf_of, shelves_of, lasting, numbered, queue_on, begun, raised}
-pub use Rattle.mq_spec_state.specs.Steps.{going_on, passed, none_of, Part, Step, Test, when, refusal, refused_or, tested, silent, say, Outcome, After, calls_of_write, forced_calls, calls_of, stands_in, written, logged, do_part, do_all, delta_of, volatile_gone, freeze, note_of, stopped_at, delta_before, chosen, after, write_calls, calls_before, calls_at, IsWrite, StopsAt, Possible, IsNotWanting, next}
+pub use Rattle.mq_spec_state.specs.Steps.{going_on, passed, none_of, Part, Step, Test, when, refusal, refused_or, tested, silent, say, Outcome, After, calls_of_write, forced_calls, calls_of, stands_in, written, logged, do_part, do_all, delta_of, volatile_gone, freeze, note_of, stopped_at, delta_before, chosen, after, write_calls, calls_before, calls_at, IsWrite, StopsAt, Possible, next}
 pub use Rattle.mq_spec_state.specs.Meeting.{ManagerValue, untouched, done_all, broken_at, Wants, WantsBehind, WantsBefore, Ran, StoppedIn, MeetsDone, MeetsRefusal, MeetsAs, Meets, MeetsOrWants, MeetsInRoom, answer_of}
-pub use Rattle.mq_spec_state.specs.Counts.{starts_of, IsCounted, AreAtMost, AreFew}
+pub use Rattle.mq_spec_state.specs.Counts.{starts_of, IsCounted, AreAtMost, AreLow}
 pub use Rattle.mq_spec_state.specs.State.Which.{Among, HeldBy, HeldByUnits, Nonpersistent}
 pub use Rattle.mq_spec_state.specs.State.Running.{Up, Down}
 pub use Rattle.mq_spec_state.specs.Steps.Step.{Refuse, Do}

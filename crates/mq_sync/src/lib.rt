@@ -8,6 +8,3 @@ mod unit;
 pub use data::{ChannelData, Doubt, End, InDoubt, ReceiverData, SenderData, Stock};
 pub use numbers::next_number;
 pub use unit::{Settle, Unit, settle_of};
-
-#[cfg(test)]
-mod tests;

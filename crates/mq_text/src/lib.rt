@@ -10,6 +10,3 @@ pub use lines::{behind, cut, next_line};
 pub use numbers::{NumberFault, number, signed};
 pub use piece::{Piece, PieceFault, PieceKind, pieces};
 pub use quoting::{unquoted, upper};
-
-#[cfg(test)]
-mod tests;
