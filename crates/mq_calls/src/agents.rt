@@ -1,3 +1,5 @@
+//! What channel ends and the dead-letter handler ask of a manager, and why it is not done (this project's choice).
+
 use mq_base::Items;
 use mq_codes::Reason;
 use mq_message::Message;

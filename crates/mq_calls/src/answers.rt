@@ -1,3 +1,5 @@
+//! Arguments and answers of the MQI calls. Source: MQI application reference, the calls' descriptions.
+
 use mq_codes::Reason;
 use mq_message::{Bytes, Ident, Md, Want};
 

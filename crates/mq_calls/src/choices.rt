@@ -1,3 +1,5 @@
+//! What a manager's state and a call leave open (this project's choice).
+
 use crate::commands::RestartFault;
 use mq_disk::Stop;
 

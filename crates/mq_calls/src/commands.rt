@@ -1,3 +1,5 @@
+//! Refusals of commands, first starts and restarts, and how an inner call ends without its answer.
+
 use mq_base::Items;
 use mq_disk::Stop;
 use mq_objects::Keyword;

@@ -1,3 +1,5 @@
+//! What a call did, for the history (this project's choice).
+
 use crate::agents::Note;
 use mq_base::Items;
 use mq_codes::Reason;

@@ -1,3 +1,5 @@
+//! What a log keeps of a manager.
+
 use crate::state::{ReceiverSide, SenderSide};
 use mq_base::Items;
 use mq_name::QName;

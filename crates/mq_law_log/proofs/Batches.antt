@@ -1,6 +1,6 @@
 -- Batches that are held, released, prepared.
 use Rattle.std.proofs.Common.{ℕ, ◌≡◌, Bool, true, false, List, [], ◌∷◌, refl, ap, sym, ◌∙◌, subst}
-use Rattle.std.specs.Prelude.{Option, Some, None, not, ◌&&◌, ◌||◌, if◌then◌else◌, filter, ◌++◌}
+use Rattle.std.specs.Prelude.{Option, Some, None, not, ◌&&◌, ◌||◌, if◌then◌else◌, filter}
 use Rattle.std.specs.List.{AllByRecursion}
 use Rattle.std.specs.Str.{bytes_eq}
 use Rattle.mq_message.specs.declared.place.Holder.{Holder}
@@ -11,9 +11,10 @@ use Rattle.mq_spec_state.specs.State.{Plain, Queue, Batch}
 use Rattle.mq_spec_state.specs.State.Which.{Among, HeldBy}
 use Rattle.mq_spec_state.specs.State.Change.{Hold, Release, AddBatch, DropBatch}
 use Rattle.mq_spec_state.specs.Reads.{is_persistent, sender_data}
-use Rattle.mq_spec_state.specs.Changes.{apply_all, selects, held_in, released_in, release_if, retag_if}
-use Rattle.mq_spec_agents.specs.Agents.{prepared_record, prepared_changes, sender_or}
-use Rattle.mq_law_log.specs.Image.{Shelf, lasting, lasting_row, lasting_rows, shelf_of, shelves_of, has_batch}
+use Rattle.mq_spec_state.specs.Changes.{apply_all, selects, held_in, released_in, release_if, retag_if, set_named, comes_before}
+use Rattle.mq_spec_agents.specs.Words.{prepared_record, prepared_changes}
+use Rattle.mq_sync.specs.Settlement.{sender_or}
+use Rattle.mq_spec_state.specs.Images.{Shelf, lasting, lasting_row, lasting_rows, shelf_of, shelves_of, has_batch}
 use Rattle.mq_law_log.specs.Records.{on_all, held_rows, with_sender, can_prepare}
 use Rattle.mq_law_log.specs.Keeps.{Told, HoldsJust, HoldsNone}
 use Rattle.mq_law_log.proofs.Rows.{bool_case, name_is, name_self}
@@ -61,24 +62,41 @@ gone_other channel other (b ∷ bs) e = bool_case (bytes_eq channel b.channel) (
     differs : (a b c : List ℕ) → bytes_eq a b ≡ false → bytes_eq a c ≡ true → bytes_eq b c ≡ false
     differs a b c x y = bool_case (bytes_eq b c) (λ t. bytes_eq b c ≡ t → t ≡ false) (λ z w. absurd (cc (x, name_self a, name_is a c y, name_is b c w))) (λ z w. refl) refl
 
-come_itself : (channel : List ℕ) (b : Batch) (bs : List Batch) → b.channel ≡ channel → has_batch channel (bs ++ b ∷ []) ≡ true
-come_itself channel b [] e = ap (λ (x : List ℕ). bytes_eq channel x || false) e ∙ ap (λ (x : Bool). x || false) (name_self channel)
-come_itself channel b (c ∷ cs) e = ap (λ (x : Bool). bytes_eq channel c.channel || x) (come_itself channel b cs e) ∙ bool_case (bytes_eq channel c.channel) (λ x. (x || true) ≡ true) (λ z. refl) (λ z. refl)
+abbrev with_batch : Batch → List Batch → List Batch
+with_batch b bs = set_named (λ (x : Batch). x.channel) b bs
 
-come_other : (other : List ℕ) (b : Batch) (bs : List Batch) → bytes_eq other b.channel ≡ false → has_batch other (bs ++ b ∷ []) ≡ has_batch other bs
+comes_first : (channel : List ℕ) (b : Batch) (bs : List Batch) → b.channel ≡ channel → has_batch channel (b ∷ bs) ≡ true
+comes_first channel b bs e = ap (λ (x : List ℕ). bytes_eq channel x || has_batch channel bs) e ∙ ap (λ (x : Bool). x || has_batch channel bs) (name_self channel)
+
+come_itself : (channel : List ℕ) (b : Batch) (bs : List Batch) → b.channel ≡ channel → has_batch channel (with_batch b bs) ≡ true
+come_itself channel b [] e = comes_first channel b [] e
+come_itself channel b (c ∷ cs) e = bool_case (bytes_eq b.channel c.channel)
+    (λ x. has_batch channel (if x then b ∷ cs else (if comes_before b.channel c.channel then b ∷ c ∷ cs else c ∷ with_batch b cs)) ≡ true)
+    (λ z. comes_first channel b cs e)
+    (λ z. bool_case (comes_before b.channel c.channel) (λ x. has_batch channel (if x then b ∷ c ∷ cs else c ∷ with_batch b cs) ≡ true)
+    (λ z. comes_first channel b (c ∷ cs) e)
+    (λ z. ap (λ (x : Bool). bytes_eq channel c.channel || x) (come_itself channel b cs e) ∙ bool_case (bytes_eq channel c.channel) (λ x. (x || true) ≡ true) (λ z. refl) (λ z. refl)))
+
+come_other : (other : List ℕ) (b : Batch) (bs : List Batch) → bytes_eq other b.channel ≡ false → has_batch other (with_batch b bs) ≡ has_batch other bs
 come_other other b [] e = ap (λ (x : Bool). x || false) e
-come_other other b (c ∷ cs) e = ap (λ (x : Bool). bytes_eq other c.channel || x) (come_other other b cs e)
+come_other other b (c ∷ cs) e = bool_case (bytes_eq b.channel c.channel)
+    (λ x. bytes_eq b.channel c.channel ≡ x → has_batch other (if x then b ∷ cs else (if comes_before b.channel c.channel then b ∷ c ∷ cs else c ∷ with_batch b cs)) ≡ has_batch other (c ∷ cs))
+    (λ y z. ap (λ (n : List ℕ). bytes_eq other n || has_batch other cs) (name_is b.channel c.channel z))
+    (λ y z. bool_case (comes_before b.channel c.channel) (λ x. has_batch other (if x then b ∷ c ∷ cs else c ∷ with_batch b cs) ≡ has_batch other (c ∷ cs))
+    (λ w. ap (λ (x : Bool). x || has_batch other (c ∷ cs)) e)
+    (λ w. ap (λ (x : Bool). bytes_eq other c.channel || x) (come_other other b cs e)))
+    refl
 
 turned : (a b : List ℕ) → bytes_eq a b ≡ false → bytes_eq b a ≡ false
 turned a b e = bool_case (bytes_eq b a) (λ t. bytes_eq b a ≡ t → t ≡ false) (λ z w. absurd (cc (e, name_self a, name_is b a w))) (λ z w. refl) refl
 
 -- A batch is held: nothing that lasts.
 held_row : (b : Batch) (bs : List Batch) (t : Bool) (row : Row) → held_by (holders.Batch b.channel) row.by ≡ false
-    → lasting_row (bs ++ b ∷ []) (retag_if (t && is_free row) (Some (holders.Batch b.channel)) row) ≡ lasting_row bs row
+    → lasting_row (with_batch b bs) (retag_if (t && is_free row) (Some (holders.Batch b.channel)) row) ≡ lasting_row bs row
 held_row b bs t row = by_holder t row.by
   where
     by_holder : (t : Bool) (by : Option Holder) → held_by (holders.Batch b.channel) by ≡ false
-        → lasting_row (bs ++ b ∷ []) (retag_if (t && is_free (record row { by = by })) (Some (holders.Batch b.channel)) (record row { by = by })) ≡ lasting_row bs (record row { by = by })
+        → lasting_row (with_batch b bs) (retag_if (t && is_free (record row { by = by })) (Some (holders.Batch b.channel)) (record row { by = by })) ≡ lasting_row bs (record row { by = by })
     by_holder true None e = ap (λ (x : Bool). record (lasting_row bs row) { by = if x then None else Some (holders.Batch b.channel) }) (come_itself b.channel b bs refl)
     by_holder false None e = refl
     by_holder true (Some (holders.Unit n)) e = refl
@@ -93,12 +111,12 @@ tagged_persists false by row = refl
 pub holding_aside : (b : Batch) (p : Plain) → AllByRecursion (HoldsNone b.channel) p.queues
     → lasting (apply_all (Hold (Among b.queue b.idents) (holders.Batch b.channel) ∷ AddBatch b ∷ []) p) ≡ lasting p
 holding_aside b p h = ap (λ (x : List Shelf). record (lasting p) { shelves = x })
-    (shelves_alike (p.channels.batches ++ b ∷ []) p.channels.batches (held_in (Among b.queue b.idents) (holders.Batch b.channel)) p.queues
-    (all_map (HoldsNone b.channel) (λ (q : Queue). shelf_of (p.channels.batches ++ b ∷ []) (held_in (Among b.queue b.idents) (holders.Batch b.channel) q) ≡ shelf_of p.channels.batches q)
+    (shelves_alike (with_batch b p.channels.batches) p.channels.batches (held_in (Among b.queue b.idents) (holders.Batch b.channel)) p.queues
+    (all_map (HoldsNone b.channel) (λ (q : Queue). shelf_of (with_batch b p.channels.batches) (held_in (Among b.queue b.idents) (holders.Batch b.channel) q) ≡ shelf_of p.channels.batches q)
     (λ q e. ap (λ (x : List Row). record (shelf_of p.channels.batches q) { rows = x })
-    (rows_alike_each (p.channels.batches ++ b ∷ []) p.channels.batches (λ (row : Row). retag_if (selects (Among b.queue b.idents) q.name row && is_free row) (Some (holders.Batch b.channel)) row) q.rows
+    (rows_alike_each (with_batch b p.channels.batches) p.channels.batches (λ (row : Row). retag_if (selects (Among b.queue b.idents) q.name row && is_free row) (Some (holders.Batch b.channel)) row) q.rows
     (λ row. tagged_persists (selects (Among b.queue b.idents) q.name row && is_free row) (Some (holders.Batch b.channel)) row)
-    (all_map (λ (row : Row). held_by (holders.Batch b.channel) row.by ≡ false) (λ (row : Row). lasting_row (p.channels.batches ++ b ∷ []) (retag_if (selects (Among b.queue b.idents) q.name row && is_free row) (Some (holders.Batch b.channel)) row) ≡ lasting_row p.channels.batches row)
+    (all_map (λ (row : Row). held_by (holders.Batch b.channel) row.by ≡ false) (λ (row : Row). lasting_row (with_batch b p.channels.batches) (retag_if (selects (Among b.queue b.idents) q.name row && is_free row) (Some (holders.Batch b.channel)) row) ≡ lasting_row p.channels.batches row)
     (λ row w. held_row b p.channels.batches (selects (Among b.queue b.idents) q.name row) row w) q.rows e))) p.queues h))
 
 -- A batch is released: nothing that lasts.
@@ -164,6 +182,6 @@ pub prepared_does : (b : Batch) (last : ℕ) (p : Plain) → has_batch b.channel
     → Told (Some (prepared_record b.channel last b)) p (lasting (apply_all (prepared_changes b.channel last b (sender_or (sender_data b.channel p))) p))
 prepared_does b last p h e can = (
   can,
-  ap (λ (x : List Shelf). with_sender b.channel (record (sender_or (sender_data b.channel p)) { force = false; in_doubt = Some (record { unit = b.unit; idents = b.idents; last = last }) }) (record (lasting p) { shelves = x }))
+  ap (λ (x : List Shelf). with_sender b.channel (record (sender_or (sender_data b.channel p)) { force = false; in_doubt = Some (record { unit = b.unit; queue = b.queue; idents = b.idents; last = last }) }) (record (lasting p) { shelves = x }))
       (prepared_shelves b p.channels.batches h p.queues e),
 )

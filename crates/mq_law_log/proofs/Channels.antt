@@ -16,8 +16,9 @@ use Rattle.mq_spec_state.specs.State.{Plain, Queue, Batch}
 use Rattle.mq_spec_state.specs.State.Which.{HeldBy}
 use Rattle.mq_spec_state.specs.Reads.{is_persistent, sender_data, receiver_data, in_doubt_of}
 use Rattle.mq_spec_state.specs.Changes.{apply, kept_in, released_in, release_if}
-use Rattle.mq_spec_agents.specs.Agents.{harden_part, sender_or, receiver_or, settled, settle_change}
-use Rattle.mq_law_log.specs.Image.{Shelf, Image, lasting, lasting_row, rests_by, shelf_of, has_batch}
+use Rattle.mq_spec_agents.specs.Words.{harden_part, settle_change}
+use Rattle.mq_sync.specs.Settlement.{sender_or, receiver_or, data_settled, settle_by}
+use Rattle.mq_spec_state.specs.Images.{Shelf, Image, lasting, lasting_row, rests_by, shelf_of, has_batch}
 use Rattle.mq_law_log.specs.Records.{less_rows, freed_row, freed_rows, with_sender, with_receiver, settled_rows, is_unit_in_doubt}
 use Rattle.mq_law_log.specs.Keeps.{Does}
 use Rattle.mq_law_log.proofs.Rows.{bool_case, name_is, rows_kept, rows_tagged}
@@ -83,5 +84,5 @@ settled_lasts false channel p h = ap (λ (x : List Shelf). record (lasting p) { 
 
 pub resolved_does : (channel : List ℕ) (unit : Luw) (commit operator : Bool) (p : Plain) → has_batch channel p.channels.batches ≡ false → is_unit_in_doubt unit (sender_or (sender_data channel p)).in_doubt ≡ true
     → Does (harden_part channel (notes.Resolved unit commit operator) p) p
-resolved_does channel unit true operator p h e = (e, ap (λ (i : Image). with_sender channel (settled true (sender_or (sender_data channel p))) i) (settled_lasts true channel p h))
-resolved_does channel unit false operator p h e = (e, ap (λ (i : Image). with_sender channel (settled false (sender_or (sender_data channel p))) i) (settled_lasts false channel p h))
+resolved_does channel unit true operator p h e = (e, ap (λ (i : Image). with_sender channel (data_settled (Some (settle_by true)) (sender_or (sender_data channel p))) i) (settled_lasts true channel p h))
+resolved_does channel unit false operator p h e = (e, ap (λ (i : Image). with_sender channel (data_settled (Some (settle_by false)) (sender_or (sender_data channel p))) i) (settled_lasts false channel p h))

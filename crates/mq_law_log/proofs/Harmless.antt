@@ -21,8 +21,9 @@ use Rattle.mq_spec_state.specs.Steps.{Part, logged, volatile_gone, stands_in, no
 use Rattle.mq_spec_manager.specs.Put.{put_part}
 use Rattle.mq_spec_manager.specs.Get.{removal_part}
 use Rattle.mq_spec_manager.specs.Units.{commit_part, taken_item}
-use Rattle.mq_spec_agents.specs.Agents.{harden_part, sender_or, receiver_or}
-use Rattle.mq_law_log.specs.Image.{Image, lasting, has_batch}
+use Rattle.mq_spec_agents.specs.Words.{harden_part}
+use Rattle.mq_sync.specs.Settlement.{sender_or, receiver_or}
+use Rattle.mq_spec_state.specs.Images.{Image, lasting, has_batch}
 use Rattle.mq_law_log.specs.Records.{fits, is_unit_in_doubt, can_prepare}
 use Rattle.mq_law_log.specs.Keeps.{Does, HoldsJust, IsNew, AreGone, AreTakeable}
 use Rattle.mq_law_log.specs.Sound.{IsSound, IsUnit, AreFree}

@@ -22,9 +22,9 @@ use Rattle.mq_spec_state.specs.Changes.{apply, apply_all, selects}
 use Rattle.mq_spec_manager.specs.Put.{placed, put_part}
 use Rattle.mq_spec_manager.specs.Get.{taking_part}
 use Rattle.mq_spec_manager.specs.Units.{adds_of, removes_of, record_of, placed_item, taken_item, commit_part, commit_changes}
-use Rattle.mq_spec_agents.specs.Agents.{Landing, move_part, moved_record}
+use Rattle.mq_spec_agents.specs.Words.{Landing, move_part, moved_record}
 use Rattle.mq_message.specs.declared.message.Dest.{Dest}
-use Rattle.mq_law_log.specs.Image.{Shelf, Image, lasting}
+use Rattle.mq_spec_state.specs.Images.{Shelf, Image, lasting}
 use Rattle.mq_law_log.specs.Records.{left, less_rows, on_all, shelved, added, added_all, removed, removed_all, can_add, can_add_all, can_remove, can_remove_all, stands_on}
 use Rattle.mq_law_log.specs.Keeps.{Told, Does, IsPlaceable, ArePlaceable, IsTakeable, AreTakeable, less_item}
 use Rattle.mq_law_log.proofs.Rows.{bool_case, ident_self}

@@ -11,7 +11,7 @@ use Rattle.mq_queue.specs.Rows.{same_ident, has_ident, insert_row, keep, retag}
 use Rattle.mq_queue.specs.Queues.{Lacks}
 use Rattle.mq_spec_state.specs.State.{Batch}
 use Rattle.mq_spec_state.specs.Reads.{is_persistent}
-use Rattle.mq_law_log.specs.Image.{lasting_row, lasting_rows}
+use Rattle.mq_spec_state.specs.Images.{lasting_row, lasting_rows}
 use Rattle.mq_law_log.specs.Keeps.{AreLaned}
 
 pub bool_case : (t : Bool) (P : Bool → Type 0) → (t ≡ true → P true) → (t ≡ false → P false) → P t

@@ -11,8 +11,9 @@ use Rattle.mq_queue.specs.Queues.{Lacks}
 use Rattle.mq_spec_state.specs.State.{Queue, Batch, SenderSide}
 use Rattle.mq_spec_state.specs.Reads.{queue_in}
 use Rattle.mq_spec_state.specs.Changes.{set_queue}
-use Rattle.mq_spec_agents.specs.Agents.{doubts, less_ident}
-use Rattle.mq_law_log.specs.Image.{Shelf, shelf_of, shelves_of, lasting_rows}
+use Rattle.mq_spec_agents.specs.Words.{doubts}
+use Rattle.mq_spec_state.specs.Changes.{less_ident}
+use Rattle.mq_spec_state.specs.Images.{Shelf, shelf_of, shelves_of, lasting_rows}
 use Rattle.mq_law_log.specs.Records.{shelf_in, set_shelf, on_all, without_ident, off_lists, stands_on, is_free_at}
 use Rattle.mq_law_log.specs.Keeps.{has_queue}
 use Rattle.mq_law_log.proofs.Rows.{bool_case, name_is, name_self, none_kept_out, lacks_last}
@@ -86,6 +87,23 @@ pub none_off : (ident : Ident) (ss : List SenderSide) → AllByRecursion (λ (s 
 none_off ident [] h = refl
 none_off ident (s ∷ ss) h = ap (λ (x : Option InDoubt). record s { hardened = record s.hardened { in_doubt = x } } ∷ off_lists ident ss) (not_listed ident s.hardened.in_doubt h.0)
     ∙ ap (λ (x : List SenderSide). s ∷ x) (none_off ident ss h.1)
+
+-- an ident that is taken off all lists is in none
+gone_from : (ident : Ident) (xs : List Ident) → list_any (same_ident ident) (filter (λ (x : Ident). not (same_ident ident x)) xs) ≡ false
+gone_from ident [] = refl
+gone_from ident (x ∷ xs) = bool_case (same_ident ident x)
+    (λ b. same_ident ident x ≡ b → list_any (same_ident ident) (if not b then x ∷ filter (λ (y : Ident). not (same_ident ident y)) xs else filter (λ (y : Ident). not (same_ident ident y)) xs) ≡ false)
+    (λ e h. gone_from ident xs)
+    (λ e h. ap (λ (b : Bool). b || list_any (same_ident ident) (filter (λ (y : Ident). not (same_ident ident y)) xs)) h ∙ gone_from ident xs)
+    refl
+
+gone_doubt : (ident : Ident) (d : Option InDoubt) → doubts ident (less_ident ident d) ≡ false
+gone_doubt ident None = refl
+gone_doubt ident (Some d) = gone_from ident d.idents
+
+pub off_all : (ident : Ident) (ss : List SenderSide) → AllByRecursion (λ (s : SenderSide). doubts ident s.hardened.in_doubt ≡ false) (off_lists ident ss)
+off_all ident [] = tt
+off_all ident (s ∷ ss) = (gone_doubt ident s.hardened.in_doubt, off_all ident ss)
 
 none_free : (ident : Ident) (rows : List Row) → Lacks ident rows → list_any (is_free_at ident) rows ≡ false
 none_free ident [] h = refl

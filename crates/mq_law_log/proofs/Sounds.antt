@@ -9,7 +9,7 @@ use Rattle.mq_spec_state.specs.Changes.{apply_all}
 use Rattle.mq_spec_manager.specs.Put.{put_part}
 use Rattle.mq_spec_manager.specs.Get.{removal_part}
 use Rattle.mq_spec_manager.specs.Units.{commit_part, taken_item}
-use Rattle.mq_law_log.specs.Image.{lasting}
+use Rattle.mq_spec_state.specs.Images.{lasting}
 use Rattle.mq_law_log.specs.Records.{fits}
 use Rattle.mq_law_log.specs.Keeps.{Does, IsNew}
 use Rattle.mq_law_log.specs.Sound.{IsSound, IsUnit, AreFree}

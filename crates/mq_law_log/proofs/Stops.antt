@@ -10,12 +10,12 @@ use Rattle.mq_queue.specs.Rows.{keep, held_by, is_free}
 use Rattle.mq_calls.specs.declared.records.LogRecord.{LogRecord}
 use Rattle.mq_spec_state.specs.State.{Plain, Queue, Batch, Noted}
 use Rattle.mq_spec_state.specs.State.Which.{HeldBy, HeldByUnits, Nonpersistent}
-use Rattle.mq_spec_state.specs.State.Change.{Release, Leave, ForgetAll, Uncount}
+use Rattle.mq_spec_state.specs.State.Change.{Release, Leave, ForgetAll}
 use Rattle.mq_spec_state.specs.Reads.{is_persistent, is_by_unit}
-use Rattle.mq_spec_state.specs.Changes.{apply, apply_all, kept_in, released_in, release_if, forgotten, uncounted, uncounted_in}
+use Rattle.mq_spec_state.specs.Changes.{apply, apply_all, kept_in, released_in, release_if, forgotten}
 use Rattle.mq_spec_state.specs.Steps.{Part, do_part, logged, freeze, stands_in, note_of}
-use Rattle.mq_spec_manager.specs.Stops.{at_rest, release_batch, redone_if, restarted as old_restarted}
-use Rattle.mq_law_log.specs.Image.{Shelf, Image, lasting, lasting_row, lasting_rows, rests_by, shelf_of, shelves_of, has_batch, numbered, queue_on}
+use Rattle.mq_spec_manager.specs.Stops.{at_rest, release_batch, redone_if}
+use Rattle.mq_spec_state.specs.Images.{Shelf, Image, lasting, lasting_row, lasting_rows, rests_by, shelf_of, shelves_of, has_batch, numbered, queue_on}
 use Rattle.mq_law_log.specs.Records.{doing, applies}
 use Rattle.mq_law_log.specs.Keeps.{Told, Does, Keeps}
 use Rattle.mq_law_log.specs.Restarts.{raised, restarted, next_started}
@@ -164,13 +164,3 @@ undone_is noted left started p = restart_recovers false started noted (freeze no
 -- the Started record of a restart is what raises the incarnation
 pub raised_is : (started : ℕ) (p : Plain) → raised started (lasting p) ≡ doing (next_started started p) (lasting p)
 raised_is started p = ap (λ (n : ℕ). record (lasting p) { incarnation = n }) (higher p.numbers.incarnation started)
-
--- The restart of the plain manager as it stands differs in the numbers of rows alone: it has the same image.
-uncount_lasts : (p : Plain) → lasting (apply Uncount p) ≡ lasting p
-uncount_lasts p = ap (λ (x : List Shelf). record (lasting p) { shelves = x })
-    (shelves_alike p.channels.batches p.channels.batches uncounted_in p.queues
-    (all_of (λ (q : Queue). shelf_of p.channels.batches (uncounted_in q) ≡ shelf_of p.channels.batches q)
-    (λ (q : Queue). ap (λ (x : List Row). record (shelf_of p.channels.batches q) { rows = x }) (rows_alike p.channels.batches p.channels.batches uncounted (λ row. refl) (λ row. refl) q.rows)) p.queues))
-
-pub present_restart : (kept : Bool) (started : ℕ) (noted : Option Noted) (p : Plain) → lasting (old_restarted kept started noted p) ≡ raised started (lasting (redone_if kept noted p))
-present_restart kept started noted p = ap (raised started) (uncount_lasts (at_rest (redone_if kept noted p)) ∙ rest_lasts (redone_if kept noted p))

@@ -8,7 +8,7 @@ use Rattle.mq_calls.specs.declared.records.LogRecord.{LogRecord}
 use Rattle.mq_spec_state.specs.State.{Plain, Given, Noted}
 use Rattle.mq_spec_state.specs.Steps.{Part, do_part}
 use Rattle.mq_spec_manager.specs.Stops.{redone_if}
-use Rattle.mq_law_log.specs.Image.{Image, lasting}
+use Rattle.mq_spec_state.specs.Images.{Image, lasting}
 use Rattle.mq_law_log.specs.Records.{applies, doing, taken, imaged, is_started, empty_image, image}
 use Rattle.mq_law_log.specs.Keeps.{Told, Keeps}
 use Rattle.mq_law_log.specs.Restarts.{restarted, next_started, appended}

@@ -1,5 +1,5 @@
 -- The law of a part: what is forced does to the image what the part does to what lasts.
-use Rattle.std.specs.Prelude.{◌≡◌, ℕ, nat_le, Bool, true, false, List, [], ◌∷◌, ◌++◌, Option, Some, None, Ok}
+use Rattle.std.specs.Prelude.{◌≡◌, ℕ, nat_le, Bool, true, false, List, [], ◌∷◌, Option, Some, None, Ok}
 use Rattle.std.specs.List.{AllByRecursion, list_any}
 use Rattle.std.specs.Str.{bytes_eq}
 use Rattle.mq_message.specs.declared.message.Ident.{Ident}
@@ -13,8 +13,8 @@ use Rattle.mq_spec_state.specs.State.Which.{Among}
 use Rattle.mq_message.specs.declared.message.Message.{Message}
 use Rattle.mq_calls.specs.declared.state.Item.{Item}
 use Rattle.mq_calls.specs.declared.state.Item.TheVariants.{Put, Take}
-use Rattle.mq_spec_state.specs.Reads.{stored, is_persistent, receiver_data, sender_data}
-use Rattle.mq_spec_state.specs.Changes.{apply_all, selects, set_sender}
+use Rattle.mq_spec_state.specs.Reads.{stored, is_persistent}
+use Rattle.mq_spec_state.specs.Changes.{apply_all, selects}
 use Rattle.mq_spec_state.specs.Steps.{Part, Step, do_part}
 use Rattle.mq_spec_state.specs.Steps.Step.{Refuse, Do}
 use Rattle.mq_spec_manager.specs.Put.{placed}
@@ -24,12 +24,11 @@ use Rattle.mq_objects.specs.declared.change.ObjectChange.TheVariants as changes
 use Rattle.mq_objects.specs.Names.{name_of}
 use Rattle.mq_sc_apply.specs.declared.answers.Planned.{Planned}
 use Rattle.mq_spec_manager.specs.Commands.{renewed}
-use Rattle.mq_sync.specs.declared.unit.Unit.{Unit as Luw}
-use Rattle.mq_calls.specs.declared.deltas.Did.TheVariants as did
-use Rattle.mq_spec_state.specs.State.Change.{SetReceiver, Connect, Disconnect, OpenHandle, CloseHandle, SetCursor, Pend, EndUnit, MakeStale, CountIdent, Seize, Unseize, SetBound, SetMoment}
-use Rattle.mq_spec_agents.specs.Agents.{doubts, Landing, Landed, Standing, standing_at, is_present, land, land_changes, received_record, receiver_or, sender_or, less_ident}
-use Rattle.mq_law_log.specs.Image.{Image, Shelf, lasting}
-use Rattle.mq_law_log.specs.Records.{applies, doing, fits, stands_on, off_lists, can_add, added, can_remove, removed}
+use Rattle.mq_spec_state.specs.State.Change.{Connect, Disconnect, OpenHandle, CloseHandle, SetCursor, Pend, EndUnit, MakeStale, CountIdent, Seize, Unseize, SetBound, SetMoment}
+use Rattle.mq_spec_agents.specs.Words.{doubts, Landing, Standing, standing_at, is_present, land, land_changes}
+pub use Rattle.mq_spec_agents.specs.Receiving.{received_part}
+use Rattle.mq_spec_state.specs.Images.{Image, Shelf, lasting}
+use Rattle.mq_law_log.specs.Records.{applies, doing, fits, stands_on, can_add, added, can_remove, removed}
 
 -- what a forced record, or none, must say of a change of what lasts
 abbrev pub Told : Option LogRecord → Plain → Image → Type 0
@@ -112,20 +111,13 @@ SwitchesAt (changes.Delete subject) planned d p = Unit {0}
 -- A message that a receiver's commit places, at the state that it meets.
 abbrev pub LandTold : Bool → Landing → Standing → Plain → Type 0
 LandTold true l s p = (can_add (record { queue = l.queue; message = l.message }) (lasting p) ≡ true)
-    × (lasting (apply_all (land_changes l s p) p) ≡ added (record { queue = l.queue; message = l.message }) (lasting p))
-LandTold false l s p = lasting (apply_all (land_changes l s p) p) ≡ lasting p
+    × (lasting (apply_all (land_changes l s) p) ≡ added (record { queue = l.queue; message = l.message }) (lasting p))
+LandTold false l s p = lasting (apply_all (land_changes l s) p) ≡ lasting p
 
 abbrev pub AllLand : List ℕ → List Message → Plain → Type 0
 AllLand channel [] p = Unit {0}
-AllLand channel (m ∷ ms) p = ((l : Landing) → is_present (standing_at m.ident p) ≡ false → land channel m p ≡ Ok l → LandTold (is_persistent l.message) l (standing_at m.ident p) p × AllLand channel ms (apply_all (land_changes l (standing_at m.ident p) p) p))
-    × (is_present (standing_at m.ident p) ≡ true → AllLand channel ms p)
-
-abbrev pub received_part : List ℕ → Luw → ℕ → Landed → Plain → Part
-received_part channel unit last l p = record {
-  forced = Some (received_record channel unit last l);
-  changes = l.changes ++ SetReceiver channel (record (receiver_or (receiver_data channel p)) { unit = unit; last = last }) ∷ [];
-  delta = l.delta ++ did.Received channel unit ∷ [];
-}
+AllLand channel (m ∷ ms) p = ((l : Landing) → is_present (standing_at m p) ≡ false → land channel m p ≡ Ok l → LandTold (is_persistent l.message) l (standing_at m p) p × AllLand channel ms (apply_all (land_changes l (standing_at m p)) p))
+    × (is_present (standing_at m p) ≡ true → AllLand channel ms p)
 
 -- changes of what no log keeps
 abbrev pub is_aside : Change → Bool
@@ -144,12 +136,17 @@ is_aside (SetBound channel bound) = true
 is_aside (SetMoment moment) = true
 is_aside _ = false
 
--- A message that came back to where a unit in doubt holds its ident: nobody else has it, and one list.
-pub record CameBack (channel queue : List ℕ) (l : Landing) (p : Plain) : Type 0 where
+-- A message that can land where no row has its ident; lists of units in doubt may have it.
+pub record IsLandable (queue : List ℕ) (m : Message) (p : Plain) : Type 0 where
+  pub there : has_queue queue p.queues ≡ true
+  pub laned : AreLaned (stored queue p).rows
+  pub fit : is_persistent m ≡ true → fits queue m p.definitions ≡ true
+  pub rows : is_persistent m ≡ true → AllByRecursion (λ (q : Queue). Lacks m.ident q.rows) p.queues
+
+-- A message that came back to where a unit in doubt holds its ident: nobody else has it.
+pub record CameBack (queue : List ℕ) (l : Landing) (p : Plain) : Type 0 where
   pub elsewhere : AllByRecursion (λ (s : Shelf). bytes_eq s.name queue ≡ false → Lacks l.message.ident s.rows) (lasting p).shelves
   pub held : stands_on l.message.ident (lasting p).shelves ≡ false
-  pub listed : set_sender (record { channel = channel; hardened = record (sender_or (sender_data channel p)) { in_doubt = less_ident l.message.ident (sender_or (sender_data channel p)).in_doubt } }) p.channels.senders
-      ≡ off_lists l.message.ident p.channels.senders
   pub there : has_queue l.queue p.queues ≡ true
   pub laned : AllByRecursion (λ (q : Queue). AreLaned q.rows) p.queues
   pub fit : fits l.queue l.message p.definitions ≡ true

@@ -28,12 +28,13 @@ use Rattle.mq_calls.specs.declared.records.Add.{Add}
 use Rattle.mq_calls.specs.declared.records.Remove.{Remove}
 use Rattle.mq_calls.specs.declared.records.LogRecord.{LogRecord}
 use Rattle.mq_calls.specs.declared.records.LogRecord.TheVariants as records
-use Rattle.mq_spec_state.specs.State.{SenderSide, Given, Which}
+use Rattle.mq_spec_state.specs.State.{Given, Which}
 use Rattle.mq_spec_state.specs.State.Which.{Among, HeldBy}
 use Rattle.mq_spec_state.specs.Reads.{sender_in, receiver_in}
 use Rattle.mq_spec_state.specs.Changes.{selects, lane_of, new_row, retag_if, set_sender, set_receiver}
-use Rattle.mq_spec_agents.specs.Agents.{sender_or, receiver_or, settled, less_ident}
-use Rattle.mq_law_log.specs.Image.{Shelf, Image, uncounted_message}
+use Rattle.mq_sync.specs.Settlement.{sender_or, receiver_or, data_prepared, data_settled, settle_by}
+pub use Rattle.mq_spec_state.specs.Changes.{off_lists}
+use Rattle.mq_spec_state.specs.Images.{Shelf, Image, uncounted_message}
 
 -- Shelves by name.
 abbrev pub shelf_in : List ℕ → List Shelf → Shelf
@@ -76,13 +77,6 @@ held_rows which by s = record s { rows = retag (λ (row : Row). retag_if (select
 -- An add drops the row of its ident that a unit in doubt holds, and takes the ident off each list.
 abbrev pub without_ident : Ident → Shelf → Shelf
 without_ident ident s = record s { rows = keep (λ (row : Row). not (has_ident ident row)) s.rows }
-
-abbrev pub off_list : Ident → SenderSide → SenderSide
-off_list ident s = record s { hardened = record s.hardened { in_doubt = less_ident ident s.hardened.in_doubt } }
-
-abbrev pub off_lists : Ident → List SenderSide → List SenderSide
-off_lists ident [] = []
-off_lists ident (s ∷ ss) = off_list ident s ∷ off_lists ident ss
 
 abbrev pub cleared : Ident → Image → Image
 cleared ident i = record i { shelves = on_all (without_ident ident) i.shelves; senders = off_lists ident i.senders }
@@ -139,9 +133,9 @@ doing (records.Objects change) i = record i { definitions = changed change i.def
 doing (records.Unit adds removes) i = added_all adds (removed_all removes i)
 doing (records.Session channel partner session) i = with_sender channel (record (sender_at channel i) { partner = partner; session = session }) i
 doing (records.Prepared channel unit last queue idents) i =
-    with_sender channel (record (sender_at channel i) { force = false; in_doubt = Some (record { unit = unit; idents = idents; last = last }) })
+    with_sender channel (data_prepared (record { unit = unit; queue = queue; idents = idents; last = last }) (sender_at channel i))
     (on_shelves (on_all (held_rows (Among queue idents) (holders.Batch channel))) i)
-doing (records.Resolved channel unit commit operator) i = with_sender channel (settled commit (sender_at channel i)) (settled_rows commit channel i)
+doing (records.Resolved channel unit commit operator) i = with_sender channel (data_settled (Some (settle_by commit)) (sender_at channel i)) (settled_rows commit channel i)
 doing (records.Bound channel partner session last) i = with_receiver channel (record (receiver_at channel i) { partner = partner; session = session; closed = false; last = last }) i
 doing (records.Closed channel session) i = with_receiver channel (record (receiver_at channel i) { closed = (receiver_at channel i).closed || session == (receiver_at channel i).session }) i
 doing (records.Received channel unit last adds) i = (λ (j : Image). with_receiver channel (record (receiver_at channel j) { unit = unit; last = last }) j) (added_all adds i)

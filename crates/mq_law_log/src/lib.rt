@@ -31,12 +31,13 @@ ghost use Rattle.mq_spec_manager.specs.Put.{mqput, put_part};
 ghost use Rattle.mq_spec_manager.specs.Get.{removal_part, taking_part};
 ghost use Rattle.mq_spec_manager.specs.Units.{commit_part, mqcmit, mqdisc};
 ghost use Rattle.mq_spec_manager.specs.Commands.{object_part};
-ghost use Rattle.mq_spec_manager.specs.Stops.{at_rest, redone_if, restarted as present_restarted};
-ghost use Rattle.mq_spec_agents.specs.Agents.{Absent, InDoubtAt, Landed, Landing, harden_part, landed, move_part, receiver_or, sender_or};
-ghost use Rattle.mq_law_log.specs.Image.{has_batch, lasting};
+ghost use Rattle.mq_spec_manager.specs.Stops.{at_rest, redone_if};
+ghost use Rattle.mq_spec_agents.specs.Words.{Absent, InDoubtAt, Landed, Landing, harden_part, landed, move_part};
+ghost use Rattle.mq_sync.specs.Settlement.{receiver_or, sender_or};
+ghost use Rattle.mq_spec_state.specs.Images.{has_batch, lasting};
 ghost use Rattle.mq_law_log.specs.Records.{can_change, can_prepare, can_receive, empty_image, fits, image, is_unit_in_doubt};
 ghost use Rattle.mq_law_log.specs.Bytes.{IsRecord, record_bytes};
-ghost use Rattle.mq_law_log.specs.Keeps.{AllLand, CameBack, Does, HoldsJust, HoldsNone, IsNew, IsPlaceable, IsTakeable, Keeps, LandTold, StepKeeps, SwitchesAt, is_aside, received_part};
+ghost use Rattle.mq_law_log.specs.Keeps.{AllLand, CameBack, Does, HoldsJust, HoldsNone, IsLandable, IsNew, IsPlaceable, IsTakeable, Keeps, LandTold, StepKeeps, SwitchesAt, is_aside, received_part};
 ghost use Rattle.mq_law_log.specs.Sound.{AreFree, IsSound, IsUnit};
 ghost use Rattle.mq_law_log.specs.Restarts.{IsHarmless, appended, begun, next_started, prepare_part, raised, restarted};
 
@@ -60,7 +61,6 @@ pub fn hardened_writes_make_crashes_harmless()
 pub fn stops_and_restarts_keep_what_lasts()
     ensures stops { (p : Plain) → lasting (at_rest p) ≡ lasting p }
     ensures restarts { (kept : Bool) (started : ℕ) (noted : Option Noted) (p : Plain) → lasting (restarted kept started noted p) ≡ raised started (lasting (redone_if kept noted p)) }
-    ensures present { (kept : Bool) (started : ℕ) (noted : Option Noted) (p : Plain) → lasting (present_restarted kept started noted p) ≡ raised started (lasting (redone_if kept noted p)) }
 {}
 
 /// Where the image of the log's records is what lasts, it is so after each part that keeps the law, and after a restart.
@@ -101,8 +101,8 @@ pub fn moves_and_object_commands_do_as_their_records_say()
         → SwitchesAt planned.change planned p.definitions (apply (ChangeObjects planned.change) p) → Does (object_part planned p.definitions) p }
     ensures received { (channel : List ℕ) (unit : Luw) (last : ℕ) (ms : List Message) (l : Landed) (p : Plain) → landed channel ms p ≡ Ok l → AllLand channel ms p
         → can_receive unit (receiver_or (receiver_data channel p)) ≡ true → Does (received_part channel unit last l p) p }
-    ensures back { (channel queue : List ℕ) (l : Landing) (p : Plain) → is_persistent l.message ≡ true → CameBack channel queue l p → LandTold true l (InDoubtAt channel queue) p }
-    ensures absent { (l : Landing) (p : Plain) → IsPlaceable l.queue l.message p → LandTold (is_persistent l.message) l Absent p }
+    ensures back { (queue : List ℕ) (l : Landing) (p : Plain) → is_persistent l.message ≡ true → CameBack queue l p → LandTold true l (InDoubtAt queue) p }
+    ensures absent { (l : Landing) (p : Plain) → IsLandable l.queue l.message p → LandTold (is_persistent l.message) l Absent p }
 {}
 
 /// A manager that begins on an empty log is sound.

@@ -39,6 +39,7 @@ receiver_in channel (r ∷ rs) = if bytes_eq channel r.channel then Some r.harde
 abbrev pub receiver_data : List ℕ → Plain → Option ReceiverData
 receiver_data channel p = receiver_in channel p.channels.receivers
 
+-- connections and handles, by number
 abbrev pub connection_at : ℕ → List Connection → Option Connection
 connection_at number [] = None
 connection_at number (c ∷ cs) = if c.number == number then Some c else connection_at number cs

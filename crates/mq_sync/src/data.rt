@@ -1,3 +1,5 @@
+//! What the two ends of a channel harden, and what a sender sees of its transmission queue.
+
 use crate::unit::Unit;
 use mq_base::Items;
 use mq_message::Ident;

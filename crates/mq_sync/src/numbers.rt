@@ -1,3 +1,5 @@
+//! Sequence numbers of a channel. Source: MQSC reference, DEFINE CHANNEL, SEQWRAP.
+
 ghost use Rattle.std.specs.Prelude.{◌≡◌, ◌≤◌};
 ghost use Rattle.mq_sync.specs.Numbers.{number_after};
 

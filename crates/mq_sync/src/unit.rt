@@ -1,3 +1,6 @@
+//! Units of a channel and their settlement. Source: distributed queuing, in-doubt channels; the names of units
+//! are this project's own.
+
 ghost use Rattle.std.specs.Prelude.{◌≡◌, ◌↔◌, Some};
 ghost use Rattle.mq_sync.specs.Units.{settlement, unit_text};
 
