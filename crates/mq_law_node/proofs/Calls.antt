@@ -51,7 +51,7 @@ use Rattle.mq_resolve.specs.declared.route.PathStep.TheVariants as steps
 use Rattle.mq_spec_manager.specs.Units.{mqcmit, mqback, mqdisc, commit_part, commit_changes, taken_item, freed_item, placed_item, backout_part}
 use Rattle.mq_spec_manager.specs.Commands.{planned_step, follows, renewed, renewed_if, stale_if, switched_if, dropped}
 use Rattle.mq_spec_manager.specs.Triggers.{trigger_at, serve, serve_by, serve_into, put_trigger, takes_it, first_due}
-use Rattle.mq_spec_agents.specs.Agents.{move_found, move_resolved, landing, route_tests, move_full, move_part, discard}
+use Rattle.mq_spec_agents.specs.Words.{move_found, move_resolved, landing, route_tests, move_full, move_part, discard}
 use Rattle.mq_law_node.specs.Quiet.{all_quiet, parts_quiet, step_quiet}
 use Rattle.mq_law_node.proofs.Named.{bool_case}
 use Rattle.mq_law_node.proofs.Quiet.{quiet_behind, quiet_parts_behind}

@@ -38,7 +38,7 @@ use Rattle.mq_spec_manager.specs.Get.{mqget}
 use Rattle.mq_spec_manager.specs.Units.{mqcmit, mqback, mqdisc}
 use Rattle.mq_spec_manager.specs.Commands.{command, planned_step, uses_of}
 use Rattle.mq_spec_manager.specs.Triggers.{first_due, trigger_turn}
-use Rattle.mq_spec_agents.specs.Agents.{move_row, row_with, discard}
+use Rattle.mq_spec_agents.specs.Words.{move_row, row_with, discard}
 use Rattle.mq_spec_state.specs.Reads.{stored}
 use Rattle.mq_spec_node.specs.Node.{Node, Own, Handler, handler_in}
 use Rattle.mq_spec_node.specs.Deeds.{Deed, told, parts_of, mqi_deed, ended_deed}
@@ -54,7 +54,7 @@ use Rattle.mq_sync.specs.declared.data.ReceiverData.{ReceiverData}
 use Rattle.mq_sender.specs.Table.{is_sending}
 use Rattle.mq_spec_state.specs.Reads.{sender_data, receiver_data}
 use Rattle.mq_spec_state.specs.Steps.{do_all}
-use Rattle.mq_spec_agents.specs.Agents.{sender_or, receiver_or}
+use Rattle.mq_sync.specs.Settlement.{sender_or, receiver_or}
 use Rattle.mq_spec_node.specs.Node.{end_in}
 use Rattle.mq_law_channel.specs.Channel.{Channel, Past}
 use Rattle.mq_law_node.specs.Ends.{Where, told_sends, told_receives, Reads, SendsAs, TakesAs, offering, Sent}

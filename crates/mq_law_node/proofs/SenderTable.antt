@@ -29,7 +29,8 @@ use Rattle.mq_spec_state.specs.Changes.{retag_if, selects}
 use Rattle.mq_spec_state.specs.Sizes.{need}
 use Rattle.mq_spec_state.specs.Steps.{Step, do_all}
 use Rattle.mq_spec_manager.specs.Get.{idents_of}
-use Rattle.mq_spec_agents.specs.Agents.{queue_of_sender, hold_batch, batch_row, batch_idents, batch_queue, row_with, stock, prepare_of, prepared_record, release_of, leave, sender_or}
+use Rattle.mq_sync.specs.Settlement.{sender_or}
+use Rattle.mq_spec_agents.specs.Words.{queue_of_sender, hold_batch, batch_row, batch_idents, batch_queue, row_with, stock, prepare_of, prepared_record, release_of, leave}
 use Rattle.mq_spec_node.specs.Node.{Node}
 use Rattle.mq_spec_node.specs.Deeds.{parts_of}
 use Rattle.mq_spec_node.specs.Senders.{sender_deed_by, sender_deed, prepare_deed}
@@ -41,7 +42,7 @@ use Rattle.mq_calls.specs.declared.agents.PrepareFault.TheVariants as prepare_fa
 use Rattle.mq_spec_state.specs.Steps.{refused_or}
 use Rattle.mq_spec_state.specs.Steps.Step.{Do}
 use Rattle.mq_calls.specs.declared.deltas.Did.TheVariants as did
-use Rattle.mq_spec_agents.specs.Agents.{prepared_changes}
+use Rattle.mq_spec_agents.specs.Words.{prepared_changes}
 use Rattle.mq_calls.specs.declared.agents.PrepareFault.{PrepareFault}
 use Rattle.mq_law_node.specs.Ends.{prepare_out, Where, sender_of, told_sends, letter_of, letters_of, Reads, SendsAs, EachSent, Guard, turn_of, batch_letters, out_of}
 use Rattle.mq_law_node.proofs.Named.{bool_case, name_self}
