@@ -27,6 +27,7 @@ use Rattle.mq_sc_apply.specs.declared.answers.Plan.TheVariants as plans
 use Rattle.mq_calls.specs.declared.commands.ScRefusal.{ScRefusal}
 use Rattle.mq_codes.specs.declared.reason.Reason.TheVariants as reasons
 use Rattle.mq_calls.specs.declared.answers.Answer.TheVariants as answers
+use Rattle.mq_calls.specs.declared.answers.Answer.{Answer}
 use Rattle.mq_calls.specs.declared.answers.Hconn.{Hconn}
 use Rattle.mq_calls.specs.declared.answers.Hobj.{Hobj}
 use Rattle.mq_calls.specs.declared.answers.Open.{Open}
@@ -40,9 +41,9 @@ use Rattle.mq_calls.specs.declared.state.Connection.{Connection}
 use Rattle.mq_spec_state.specs.State.{Plain, Change}
 use Rattle.mq_spec_state.specs.State.Change.{Disconnect, EndUnit, Connect, SetCursor}
 use Rattle.mq_spec_state.specs.Reads.{handle_at, stored}
-use Rattle.mq_spec_state.specs.Steps.{Step, Part, Test, refused_or, refusal, tested, silent, when}
+use Rattle.mq_spec_state.specs.Steps.{◌>>=◌, going_on, none_of, Step, Part, Test, refused_or, refusal, tested, silent, when}
 use Rattle.mq_spec_state.specs.Steps.Step.{Do}
-use Rattle.mq_spec_manager.specs.Handles.{connected, for_connection, for_handle, mqconn, mqopen, mqclose, open_up, open_resolved, close_up, close_handle, new_connection, new_hconn, conn_tests, open_tests, open_step, option_tests, is_unfit}
+use Rattle.mq_spec_manager.specs.Handles.{connected, for_connection, for_handle, mqconn, mqopen, mqclose, close_up, close_handle, new_connection, new_hconn, conn_tests, open_tests, open_step, option_tests, is_unfit}
 use Rattle.mq_spec_manager.specs.Put.{mqput, mqput1, put_up, put_handle, put_route, put_part, put1_resolved, new_message, put_tests, put_step, queue_at, output_tests, handle_route, output_only}
 use Rattle.mq_spec_manager.specs.Get.{mqget, get_up, get_handle, get_scanned, get_found, with_row, without_row, found_part, taking_part, expired_parts, removal_parts, is_destructive, scanned, is_left, is_waiting, is_under, room_tests, get_tests}
 use Rattle.mq_calls.specs.declared.deltas.Why.TheVariants as whys
@@ -51,7 +52,7 @@ use Rattle.mq_resolve.specs.declared.route.PathStep.TheVariants as steps
 use Rattle.mq_spec_manager.specs.Units.{mqcmit, mqback, mqdisc, commit_part, commit_changes, taken_item, freed_item, placed_item, backout_part}
 use Rattle.mq_spec_manager.specs.Commands.{planned_step, follows, renewed, renewed_if, stale_if, switched_if, dropped}
 use Rattle.mq_spec_manager.specs.Triggers.{trigger_at, serve, serve_by, serve_into, put_trigger, takes_it, first_due}
-use Rattle.mq_spec_agents.specs.Agents.{move_found, move_resolved, landing, route_tests, move_full, move_part, discard}
+use Rattle.mq_spec_agents.specs.Words.{move_found, move_resolved, landing, route_tests, move_full, move_part, discard}
 use Rattle.mq_law_node.specs.Quiet.{all_quiet, parts_quiet, step_quiet}
 use Rattle.mq_law_node.proofs.Named.{bool_case}
 use Rattle.mq_law_node.proofs.Quiet.{quiet_behind, quiet_parts_behind}
@@ -75,12 +76,21 @@ handle_quiet (Some h) f k = k h
 pub mqconn_quiet : (qmgr : List ℕ) (appl : Appl) (p : Plain) → step_quiet (mqconn qmgr appl p) ≡ true
 mqconn_quiet qmgr appl p = tested_quiet (conn_tests qmgr p) (Do (answers.Ok (new_hconn p)) (silent (Connect (new_connection appl p) ∷ []) ∷ [])) refl
 
-pub open_quiet : (c : Connection) (how : Open) (r : Result Route Reason) (p : Plain) → step_quiet (open_resolved c how r p) ≡ true
-open_quiet c how (Err reason) p = refl
-open_quiet c how (Ok route) p = tested_quiet (open_tests c how route p) (open_step c how route) refl
+pub going_quiet : {A F T : Type 0} (r : Result A F) (f : A → Step F T) → ((a : A) → step_quiet (f a) ≡ true) → step_quiet (going_on r f) ≡ true
+going_quiet (Ok a) f h = h a
+going_quiet (Err reason) f h = refl
+
+abbrev routed : Connection → Open → Plain → Route → Step Reason (Answer Hobj)
+routed c how p route = none_of (open_tests c how route p) >>= (λ fits. open_step c how route)
+
+abbrev asked : List ℕ → List ℕ → Open → Plain → Connection → Step Reason (Answer Hobj)
+asked name qmgr how p c = none_of (option_tests how) >>= (λ chosen. resolve p.definitions p.given.name name qmgr >>= routed c how p)
 
 pub mqopen_quiet : (hc : Hconn) (name qmgr : List ℕ) (how : Open) (p : Plain) → step_quiet (mqopen hc name qmgr how p) ≡ true
-mqopen_quiet hc name qmgr how p = connection_quiet (connected hc p) (open_up name qmgr how p) (λ c. tested_quiet (option_tests how) (open_resolved c how (resolve p.definitions p.given.name name qmgr) p) (open_quiet c how (resolve p.definitions p.given.name name qmgr) p))
+mqopen_quiet hc name qmgr how p = going_quiet (connected hc p) (asked name qmgr how p)
+    (λ c. going_quiet (none_of (option_tests how)) (λ chosen. resolve p.definitions p.given.name name qmgr >>= routed c how p)
+    (λ chosen. going_quiet (resolve p.definitions p.given.name name qmgr) (routed c how p)
+    (λ route. going_quiet (none_of (open_tests c how route p)) (λ fits. open_step c how route) (λ fits. refl))))
 
 pub mqclose_quiet : (hc : Hconn) (ho : Hobj) (p : Plain) → step_quiet (mqclose hc ho p) ≡ true
 mqclose_quiet hc ho p = connection_quiet (connected hc p) (close_up ho) (λ c. handle_quiet (handle_at ho.number c.handles) (close_handle c) (λ h. refl))

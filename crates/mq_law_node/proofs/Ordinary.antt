@@ -1,6 +1,6 @@
 -- Events that are no turn of a channel's end, no timeout and no operator's command leave all channels as they are.
 use Rattle.std.proofs.Common.{ℕ, ◌≡◌, Bool, true, false, List, [], ◌∷◌, refl, ap, sym, ◌∙◌}
-use Rattle.std.specs.Prelude.{Option, Some, None, if◌then◌else◌, map, filter, nat_le, ◌+◌, ◌*◌, not, slice_get}
+use Rattle.std.specs.Prelude.{Option, Some, None, if◌then◌else◌, map, filter, ◌+◌, not, slice_get}
 use Rattle.mq_codes.specs.declared.reason.Reason.{Reason}
 use Rattle.mq_message.specs.declared.message.Message.{Message}
 use Rattle.mq_queue.specs.declared.row.Row.{Row}
@@ -38,12 +38,12 @@ use Rattle.mq_spec_manager.specs.Get.{mqget}
 use Rattle.mq_spec_manager.specs.Units.{mqcmit, mqback, mqdisc}
 use Rattle.mq_spec_manager.specs.Commands.{command, planned_step, uses_of}
 use Rattle.mq_spec_manager.specs.Triggers.{first_due, trigger_turn}
-use Rattle.mq_spec_agents.specs.Agents.{move_row, row_with, discard}
+use Rattle.mq_spec_agents.specs.Words.{move_row, row_with, discard}
 use Rattle.mq_spec_state.specs.Reads.{stored}
 use Rattle.mq_spec_node.specs.Node.{Node, Own, Handler, handler_in}
 use Rattle.mq_spec_node.specs.Deeds.{Deed, told, parts_of, mqi_deed, ended_deed}
 use Rattle.mq_spec_node.specs.Handlers as handlers
-use Rattle.mq_spec_node.specs.Operators.{shown, status_line, is_asked}
+use Rattle.mq_spec_node.specs.Status.{shown, status_line, is_asked}
 use Rattle.mq_spec_node.specs.Happens.{get_done, got_deed, get_deed, command_deed, obey_deed, trigger_deed_of, trigger_deed, handler_turn, turn_up, where_up, deed_of}
 use Rattle.mq_law_node.specs.Quiet.{parts_quiet, step_quiet, IsQuietDeed, EachQuiet, IsCommandQuiet, IsTurnQuiet, IsOrdinary}
 use Rattle.mq_law_node.proofs.Named.{bool_case}
@@ -54,7 +54,7 @@ use Rattle.mq_sync.specs.declared.data.ReceiverData.{ReceiverData}
 use Rattle.mq_sender.specs.Table.{is_sending}
 use Rattle.mq_spec_state.specs.Reads.{sender_data, receiver_data}
 use Rattle.mq_spec_state.specs.Steps.{do_all}
-use Rattle.mq_spec_agents.specs.Agents.{sender_or, receiver_or}
+use Rattle.mq_sync.specs.Settlement.{sender_or, receiver_or}
 use Rattle.mq_spec_node.specs.Node.{end_in}
 use Rattle.mq_law_channel.specs.Channel.{Channel, Past}
 use Rattle.mq_law_node.specs.Ends.{Where, told_sends, told_receives, Reads, SendsAs, TakesAs, offering, Sent}
@@ -101,10 +101,7 @@ shown_is_quiet own any_end (line ∷ lines) = told_is_quiet _ own
 
 -- the handler
 pub failed_is_quiet : (queue : List ℕ) (m : Message) (k : ℕ) (rule : Rule) (tries : ℕ) (h : Handler) (p : Plain) (own : Own) → IsQuietDeed own (handlers.failed queue m k rule tries h p own)
-failed_is_quiet queue m k rule tries h p own = bool_case (nat_le rule.retries tries)
-    (λ b. IsQuietDeed own (if b then handlers.tried_deed (handlers.tried_as queue m.ident (Some (handlers.next_rule h.table (handlers.matching h.table m (k + 1)))) 0 0 h) own
-    else handlers.tried_deed (handlers.tried_as queue m.ident (Some k) tries (p.moment + 1000 * h.table.retry_interval) h) own))
-    (λ e. record { parts = refl; ends = refl; pushed = refl }) (λ e. record { parts = refl; ends = refl; pushed = refl })
+failed_is_quiet queue m k rule tries h p own = record { parts = refl; ends = refl; pushed = refl }
 
 pub moved_is_quiet : (queue : List ℕ) (m : Message) (k : ℕ) (rule : Rule) (tries : ℕ) (h : Handler) (p : Plain) (own : Own) (s : Step Reason (Unit {0})) → step_quiet s ≡ true → IsQuietDeed own (handlers.moved queue m k rule tries h p own s)
 moved_is_quiet queue m k rule tries h p own (Refuse reason) q = failed_is_quiet queue m k rule (tries + 1) h p own
@@ -145,10 +142,6 @@ pub running_case : (r : Running) (P : Running → Type 0) → P Up → ((noted :
 running_case Up P a b = a
 running_case (Down noted starts) P a b = b noted starts
 
-pub trigger_is_quiet : (n : Node) → EachQuiet n.own (trigger_deed n)
-trigger_is_quiet n = running_case n.manager.running (λ r. EachQuiet n.own (elim r as (λ r. Option Deed) [ Up ↦ trigger_deed_of (first_due (locals_of n.manager.definitions) n.manager) n | Down noted starts ↦ None ]))
-    (trigger_of_quiet (first_due (locals_of n.manager.definitions) n.manager) n) (λ noted starts. tt)
-
 pub obeyed_is_quiet : (c : Command) (n : Node) → IsCommandQuiet c → IsQuietDeed n.own (obey_deed c n)
 obeyed_is_quiet (commands.Objects c) n o = command_is_quiet n.own (command c n.manager)
     (quiet.tested_quiet (when (not (is_up n.manager.running)) refusals.Down ∷ []) (planned_step (plan c n.manager.given.name n.manager.definitions (uses_of n.manager)) n.manager.definitions)
@@ -168,6 +161,9 @@ turn_is_quiet stamp actor seen n o = tt
 pub where_up_quiet : (r : Running) (own : Own) (d : Option Deed) → EachQuiet own d → EachQuiet own (where_up r d)
 where_up_quiet Up own d h = h
 where_up_quiet (Down noted starts) own d h = tt
+
+pub trigger_is_quiet : (n : Node) → EachQuiet n.own (trigger_deed n)
+trigger_is_quiet n = where_up_quiet n.manager.running n.own (trigger_deed_of (first_due (locals_of n.manager.definitions) n.manager) n) (trigger_of_quiet (first_due (locals_of n.manager.definitions) n.manager) n)
 
 -- ALL ORDINARY EVENTS
 pub ordinary_is_quiet : (stamp : ℕ) (actor : Actor) (call : Call) (seen : Seen) (n : Node) → IsOrdinary actor call → EachQuiet n.own (deed_of stamp actor call seen n)

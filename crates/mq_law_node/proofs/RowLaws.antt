@@ -6,10 +6,10 @@ use Rattle.mq_queue.specs.declared.row.Row.{Row}
 use Rattle.mq_queue.specs.Rows.{keep, retag, is_free}
 use Rattle.mq_objects.specs.Names.{local_of}
 use Rattle.mq_spec_state.specs.State.{Plain, Queue, Change, fresh_queue}
-use Rattle.mq_spec_state.specs.State.Change.{Place as Places, Try, Leave, Hold, Release, Uncount, Renew, DropQueue, SwitchOn, Serve, SetBound, ForgetAll}
+use Rattle.mq_spec_state.specs.State.Change.{Place as Places, Try, Leave, Hold, Release, Renew, DropQueue, SwitchOn, Serve, SetBound, ForgetAll}
 use Rattle.mq_spec_state.specs.Reads.{queue_in, stored}
 use Rattle.mq_spec_state.specs.Condition.{condition}
-use Rattle.mq_spec_state.specs.Changes.{apply, set_queue, lane_of, placed_in, kept_in, held_in, released_in, uncounted_in, selects, retag_if, release_if, try_if, made_due, depth_type, forgotten}
+use Rattle.mq_spec_state.specs.Changes.{apply, set_queue, lane_of, placed_in, kept_in, held_in, released_in, selects, retag_if, release_if, try_if, made_due, depth_type, forgotten}
 use Rattle.mq_law_node.specs.Rows.{RowKind, Same, Placed, Emptied, row_kind, rows_do, rows_at}
 use Rattle.mq_law_node.proofs.Named.{bool_case, name_is, set_here, set_behind, queue_set}
 use Rattle.mq_law_node.proofs.Batches.{queue_mapped}
@@ -50,7 +50,6 @@ rows_applied name (Hold which by) p = ap (λ (q : Queue). q.rows) (queue_mapped 
     ∙ ap (λ (x : List ℕ). retag (λ (row : Row). retag_if (selects which x row && is_free row) (Some by) row) (stored name p).rows) (found_name name p.queues)
 rows_applied name (Release which counted) p = ap (λ (q : Queue). q.rows) (queue_mapped (released_in which counted) name p.queues (λ q. refl) refl)
     ∙ ap (λ (x : List ℕ). retag (λ (row : Row). release_if (selects which x row && not (is_free row)) counted row) (stored name p).rows) (found_name name p.queues)
-rows_applied name Uncount p = ap (λ (q : Queue). q.rows) (queue_mapped uncounted_in name p.queues (λ q. refl) refl)
 rows_applied name ForgetAll p = ap (λ (q : Queue). q.rows) (queue_mapped forgotten name p.queues (λ q. refl) refl)
 rows_applied name (Renew queue) p = rows_set name queue (fresh_queue queue) p Emptied refl refl
 rows_applied name (DropQueue queue) p = ap (λ (q : Queue). q.rows) (queue_dropped name queue p.queues)

@@ -29,25 +29,26 @@ use Rattle.mq_spec_state.specs.Changes.{retag_if, selects}
 use Rattle.mq_spec_state.specs.Sizes.{need}
 use Rattle.mq_spec_state.specs.Steps.{Step, do_all}
 use Rattle.mq_spec_manager.specs.Get.{idents_of}
-use Rattle.mq_spec_agents.specs.Agents.{queue_of_sender, hold_batch, batch_row, batch_idents, batch_queue, row_with, stock, prepare_of, prepared_record, release_of, leave, sender_or}
+use Rattle.mq_sync.specs.Settlement.{sender_or}
+use Rattle.mq_spec_agents.specs.Words.{queue_of_sender, hold_batch, batch_row, batch_idents, batch_queue, row_with, stock, prepare_of, prepared_record, release_of, leave}
 use Rattle.mq_spec_node.specs.Node.{Node}
 use Rattle.mq_spec_node.specs.Deeds.{parts_of}
 use Rattle.mq_spec_node.specs.Senders.{sender_deed_by, sender_deed, prepare_deed}
 use Rattle.mq_law_channel.specs.Facts.{Letter}
 use Rattle.mq_law_channel.specs.Channel.{Channel}
 use Rattle.mq_law_channel.specs.Turns.{SenderTurn, SenderMay, SeenIn, sender_done, sender_turned, sender_turn, letter_offered}
-use Rattle.mq_law_node.specs.Data.{sends_at, first_batch, sender_in_parts, batch_in_parts}
+use Rattle.mq_law_node.specs.Data.{sends_at, sender_in_parts, batch_in_parts}
 use Rattle.mq_calls.specs.declared.agents.PrepareFault.TheVariants as prepare_faults
 use Rattle.mq_spec_state.specs.Steps.{refused_or}
 use Rattle.mq_spec_state.specs.Steps.Step.{Do}
 use Rattle.mq_calls.specs.declared.deltas.Did.TheVariants as did
-use Rattle.mq_spec_agents.specs.Agents.{prepared_changes}
+use Rattle.mq_spec_agents.specs.Words.{prepared_changes}
 use Rattle.mq_calls.specs.declared.agents.PrepareFault.{PrepareFault}
 use Rattle.mq_law_node.specs.Ends.{prepare_out, Where, sender_of, told_sends, letter_of, letters_of, Reads, SendsAs, EachSent, Guard, turn_of, batch_letters, out_of}
 use Rattle.mq_law_node.proofs.Named.{bool_case, name_self}
-use Rattle.mq_law_node.proofs.DataLaws.{batch_added}
+use Rattle.mq_law_node.proofs.Named.{batch_set}
 use Rattle.mq_law_node.proofs.Batches.{queue_held, reads_held, held_ident, take_mem, filter_mem}
-use Rattle.mq_law_node.proofs.SenderTurns.{leaves, ends_set, found_data, carried_offers, idle_apart, binding_apart, waiting_apart, guarded, ignores, hardens, hails, expires, ends_unit, settling, agreed_apart}
+use Rattle.mq_law_node.proofs.SenderTurns.{leaves, ends_set, found_data, carried_offers, binding_apart, waiting_apart, guarded, ignores, hardens, hails, expires, ends_unit, settling, agreed_apart}
 
 -- BEGIN
 abbrev batch_begun : Where → Sender → ℕ → ℕ → Plain → Batch
@@ -61,17 +62,16 @@ batch_begun w m k count p = record {
 abbrev held_plain : Where → Sender → ℕ → ℕ → Plain → Plain
 held_plain w m k count p = do_all (parts_of (hold_batch w.channel (unit_named m.kept.session k) count p)) p
 
-pub begun_found : (w : Where) (m : Sender) (k count : ℕ) (p : Plain) → batch_of w.channel p.channels.batches ≡ None → batch_of w.channel (held_plain w m k count p).channels.batches ≡ Some (batch_begun w m k count p)
-begun_found w m k count p none = batch_added w.channel (batch_begun w m k count p) p.channels.batches
-    ∙ ap (λ (o : Option Batch). first_batch w.channel (batch_begun w m k count p) o) none
-    ∙ ap (λ (b : Bool). if b then Some (batch_begun w m k count p) else None) (name_self w.channel)
+pub begun_found : (w : Where) (m : Sender) (k count : ℕ) (p : Plain) → batch_of w.channel (held_plain w m k count p).channels.batches ≡ Some (batch_begun w m k count p)
+begun_found w m k count p = batch_set w.channel (batch_begun w m k count p) p.channels.batches
+    ∙ ap (λ (b : Bool). if b then Some (batch_begun w m k count p) else batch_of w.channel p.channels.batches) (name_self w.channel)
 
-pub begun_reads : (w : Where) (m : Sender) (k count : ℕ) (p : Plain) → batch_of w.channel p.channels.batches ≡ None → AreDistinct (stored (queue_of_sender w.channel p) p).rows
+pub begun_reads : (w : Where) (m : Sender) (k count : ℕ) (p : Plain) → AreDistinct (stored (queue_of_sender w.channel p) p).rows
     → Reads w.channel (letters_of (take count (free_rows (queue_of_sender w.channel p) p))) (held_plain w m k count p)
-begun_reads w m k count p none distinct i =
+begun_reads w m k count p distinct i =
     let q : List ℕ = queue_of_sender w.channel p in
     let held : List Row = take count (free_rows q p) in
-    ap (λ (o : Option Batch). option_map letter_of (row_with (slice_get (batch_idents o) i) (stored (batch_queue o) (held_plain w m k count p)).rows)) (begun_found w m k count p none)
+    ap (λ (o : Option Batch). option_map letter_of (row_with (slice_get (batch_idents o) i) (stored (batch_queue o) (held_plain w m k count p)).rows)) (begun_found w m k count p)
     ∙ ap (λ (x : Queue). option_map letter_of (row_with (slice_get (idents_of held) i) x.rows)) (queue_held (Among q (idents_of held)) (holders.Batch w.channel) q p.queues)
     ∙ reads_held (λ (row : Row). retag_if (selects (Among q (idents_of held)) (stored q p).name row && is_free row) (Some (holders.Batch w.channel)) row) (stored q p).rows held i
     (λ r. held_ident (selects (Among q (idents_of held)) (stored q p).name r && is_free r) (Some (holders.Batch w.channel)) r)
@@ -82,12 +82,11 @@ pub begins_unit : (w : Where) (stamp : ℕ) (seen : Seen) (n : Node) (c : Channe
     → Guard c.sender (stock w.channel n.manager) (does.Begin k count)
     → EachSent w n (sender_deed_by stamp (sender_of w c.sender) (does.Begin k count) n) c.out (sender_done (does.Begin k count) (turn_of w stamp seen c.sender n.manager) c)
 begins_unit w stamp seen n c k count h up distinct g =
-    let none : batch_of w.channel n.manager.channels.batches ≡ None = h.unbatched (idle_apart c.sender.state g.0) in
     let reads : Reads w.channel (batch_letters w c.sender n.manager) (held_plain w c.sender k count n.manager) =
-    subst (λ (x : ℕ). Reads w.channel (letters_of (take x (free_rows (queue_of_sender w.channel n.manager) n.manager))) (held_plain w c.sender k count n.manager)) g.2 (begun_reads w c.sender k count n.manager none distinct) in
+    subst (λ (x : ℕ). Reads w.channel (letters_of (take x (free_rows (queue_of_sender w.channel n.manager) n.manager))) (held_plain w c.sender k count n.manager)) g.2 (begun_reads w c.sender k count n.manager distinct) in
     leaves w n _ c c.sends (sender_after c.sender (does.Begin k count) outs.Done) (batch_letters w c.sender n.manager) _ up
     (ends_set w n _ c.sender h.here) h.data_
-    (λ e. record { batch = batch_begun w c.sender k count n.manager; is = begun_found w c.sender k count n.manager none; unit = refl; reads = reads })
+    (λ e. record { batch = batch_begun w c.sender k count n.manager; is = begun_found w c.sender k count n.manager; unit = refl; reads = reads })
     (λ e. absurd cc)
     (carried_offers stamp w c.sender k 1 (batch_row w.channel 1 (held_plain w c.sender k count n.manager)) c.out
     ∙ ap (λ (o : Option Letter). letter_offered stamp c.sender k 1 o c.out) (reads 0))
@@ -142,7 +141,7 @@ prepares w stamp seen n c h up g =
     (ends_set w n _ c.sender h.here)
     (ap (λ (k : Kept). record k { force = false; doubt = Some (record { unit = unit_begun c.sender; last = last }) }) h.data_
     ∙ ap (λ (u : Luw). record (told_sends (sends_at w.channel n.manager)) { force = false; doubt = Some (record { unit = u; last = last }) }) (sym b.unit)
-    ∙ found_data w.channel (record (sends_at w.channel n.manager) { force = false; in_doubt = Some (record { unit = b.batch.unit; idents = b.batch.idents; last = last }) }) (sender_data w.channel n.manager))
+    ∙ found_data w.channel (record (sends_at w.channel n.manager) { force = false; in_doubt = Some (record { unit = b.batch.unit; queue = b.batch.queue; idents = b.batch.idents; last = last }) }) (sender_data w.channel n.manager))
     (λ z. absurd cc)
     (λ z. ap (λ (x : Bool). if x then None else batch_of w.channel n.manager.channels.batches) (name_self w.channel))
     refl))

@@ -11,7 +11,7 @@ use Rattle.mq_queue.specs.declared.row.Row.{Row}
 use Rattle.mq_queue.specs.Rows.{same_ident, has_ident, insert_row, keep, retag, held_by, is_free}
 use Rattle.mq_spec_state.specs.State.{Plain, Change, Which}
 use Rattle.mq_spec_state.specs.State.Which.{Among, HeldBy, HeldByUnits, Nonpersistent}
-use Rattle.mq_spec_state.specs.State.Change.{Place as Places, Leave, Hold, Release, Uncount, Renew, DropQueue}
+use Rattle.mq_spec_state.specs.State.Change.{Place as Places, Leave, Hold, Release, Renew, DropQueue}
 use Rattle.mq_spec_state.specs.Reads.{stored, is_by_unit}
 use Rattle.mq_spec_state.specs.Changes.{apply, apply_all, lane_of, new_row, selects, retag_if, release_if}
 use Rattle.mq_objects.specs.Names.{local_of}
@@ -107,7 +107,6 @@ gentle_spares name (Places queue m) p x h e = bool_case (bytes_eq name queue) (Î
 gentle_spares name (Leave which) p x h e = spares_leave name which p x h e
 gentle_spares name (Hold which by) p x h e = spares_hold name which by p x h e
 gentle_spares name (Release which counted) p x h e = spares_release name which counted p x h e
-gentle_spares name Uncount p x h e = absurd cc
 gentle_spares name (Renew queue) p x h e = absurd cc
 gentle_spares name (DropQueue queue) p x h e = absurd cc
 gentle_spares name c p x h e = tt

@@ -10,10 +10,10 @@ use Rattle.mq_queue.specs.declared.row.Row.{Row}
 use Rattle.mq_queue.specs.Rows.{insert_row, keep, retag, same_ident, is_free}
 use Rattle.mq_objects.specs.Names.{local_of}
 use Rattle.mq_spec_state.specs.State.{Plain, Change, Which}
-use Rattle.mq_spec_state.specs.State.Change.{Place, Leave, Hold, Release, Uncount, Renew, DropQueue}
+use Rattle.mq_spec_state.specs.State.Change.{Place, Leave, Hold, Release, Renew, DropQueue}
 use Rattle.mq_spec_state.specs.State.Which.{Among, HeldBy, HeldByUnits, Nonpersistent}
 use Rattle.mq_spec_state.specs.Reads.{stored}
-use Rattle.mq_spec_state.specs.Changes.{apply, lane_of, new_row, selects, retag_if, release_if, uncounted}
+use Rattle.mq_spec_state.specs.Changes.{apply, lane_of, new_row, selects, retag_if, release_if}
 
 pub data RowKind : Type 0 where
   Same : RowKind
@@ -27,7 +27,6 @@ row_kind name (Place queue m) p = if bytes_eq name queue then Placed (lane_of (l
 row_kind name (Leave which) p = Kept (λ (row : Row). not (selects which name row))
 row_kind name (Hold which by) p = Retagged (λ (row : Row). retag_if (selects which name row && is_free row) (Some by) row)
 row_kind name (Release which counted) p = Retagged (λ (row : Row). release_if (selects which name row && not (is_free row)) counted row)
-row_kind name Uncount p = Retagged uncounted
 row_kind name (Renew queue) p = if bytes_eq name queue then Emptied else Same
 row_kind name (DropQueue queue) p = if bytes_eq name queue then Emptied else Same
 row_kind name _ p = Same
@@ -71,7 +70,6 @@ is_gentle i (Place queue m) = not (same_ident m.ident i)
 is_gentle i (Leave which) = spared_which i which
 is_gentle i (Hold which by) = spared_which i which
 is_gentle i (Release which counted) = spared_which i which
-is_gentle i Uncount = false
 is_gentle i (Renew queue) = false
 is_gentle i (DropQueue queue) = false
 is_gentle i _ = true
