@@ -1,12 +1,11 @@
 -- The change of objects that the text of a command in the log makes.
-use Rattle.std.specs.Prelude.{◌≡◌, ℕ, Bool, true, false, not, ◌&&◌, List, [], ◌∷◌, if◌then◌else◌, Option, Some, None, Result, Ok, Err, codes}
-use Rattle.std.specs.List.{list_all}
+use Rattle.std.specs.Prelude.{ℕ, Bool, true, false, not, ◌&&◌, ◌==◌, count_by, length, List, [], ◌∷◌, if◌then◌else◌, Option, Some, None, Result, Ok, Err, codes}
 use Rattle.mq_objects.specs.declared.object.Object.{Object}
 use Rattle.mq_objects.specs.declared.object.ManagerAttributes.{ManagerAttributes}
 use Rattle.mq_objects.specs.declared.change.ObjectChange.{ObjectChange}
 use Rattle.mq_objects.specs.declared.change.ObjectChange.TheVariants as changes
-use Rattle.mq_objects.specs.declared.command.Define.{Define}
-use Rattle.mq_objects.specs.declared.command.AlterManager.{AlterManager}
+use Rattle.mq_objects.specs.declared.setting.Setting.{Setting}
+use Rattle.mq_objects.specs.declared.setting.Setting.TheVariants as settings
 use Rattle.mq_objects.specs.declared.command.Command.{Command as ObjectCommand}
 use Rattle.mq_objects.specs.declared.command.Command.TheVariants as commands
 use Rattle.mq_objects.specs.Attributes.{Attribute, attributes, manager_attributes}
@@ -26,9 +25,14 @@ use Rattle.mq_sc_parse.specs.Parsing.{parse_of}
 use Rattle.mq_record.specs.declared.record.Operation.{Operation}
 use Rattle.mq_record.specs.declared.record.Operation.TheVariants.{Set, Delete}
 
--- each attribute is given by its own keyword
-abbrev pub gives_all : List Item → List Attribute → Bool
-gives_all items wanted = list_all (λ (a : Attribute). has_word a.word items) wanted
+-- it isn't one that is kept without effect
+abbrev pub has_effect : Setting → Bool
+has_effect (settings.Kept keyword value) = false
+has_effect _ = true
+
+-- As many attributes as the kind has. A command gives none twice and none that its kind lacks, so it gives each.
+abbrev pub gives_all : List Setting → List Attribute → Bool
+gives_all given wanted = count_by has_effect given == length wanted
 
 -- a DEFINE that says nothing of an object that is there
 abbrev pub is_plain : List Item → Bool
@@ -42,8 +46,8 @@ altered_if whole m = if whole then Some (changes.SetManager m) else None
 
 -- a set is a DEFINE or an ALTER QMGR that gives every attribute, a delete a DELETE
 abbrev pub meant_by : Operation → List Item → ObjectCommand → Option ObjectChange
-meant_by Set items (commands.Define d) = defined_if (is_plain items && gives_all items (attributes (defined_object d.subject d.settings))) (defined_object d.subject d.settings)
-meant_by Set items (commands.AlterManager a) = altered_if (gives_all items (manager_attributes new_manager)) (set_all_manager a.settings new_manager)
+meant_by Set items (commands.Define d) = defined_if (is_plain items && gives_all d.settings (attributes (defined_object d.subject d.settings))) (defined_object d.subject d.settings)
+meant_by Set items (commands.AlterManager a) = altered_if (gives_all a.settings (manager_attributes new_manager)) (set_all_manager a.settings new_manager)
 meant_by Set items (commands.Alter a) = None
 meant_by Set items (commands.Delete d) = None
 meant_by Set items (commands.Display d) = None
