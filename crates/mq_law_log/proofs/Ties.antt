@@ -8,7 +8,7 @@ use Rattle.mq_spec_manager.specs.Stops.{redone_if}
 use Rattle.mq_spec_state.specs.Images.{Image, lasting}
 use Rattle.mq_spec_log.specs.Records.{doing}
 use Rattle.mq_spec_log.specs.Applies.{Start, applies}
-use Rattle.mq_recover.specs.Bodies.{record_of, image}
+use Rattle.mq_spec_log.specs.Bodies.{record_of, image}
 use Rattle.mq_spec_log.proofs.BodyLaws.{image_more}
 use Rattle.mq_law_log.specs.Keeps.{Told, Keeps}
 use Rattle.mq_law_log.specs.Restarts.{restarted, next_started}

@@ -33,7 +33,7 @@ ghost use Rattle.mq_spec_agents.specs.Words.{Absent, InDoubtAt, Landed, Landing,
 ghost use Rattle.mq_sync.specs.Settlement.{receiver_or, sender_or};
 ghost use Rattle.mq_spec_state.specs.Images.{has_batch, lasting};
 ghost use Rattle.mq_spec_log.specs.Applies.{Start, applies, can_change, can_prepare, can_receive, fits, is_unit_in_doubt};
-ghost use Rattle.mq_recover.specs.Bodies.{empty_image, image, record_of};
+ghost use Rattle.mq_spec_log.specs.Bodies.{empty_image, image, record_of};
 ghost use Rattle.mq_law_log.specs.Keeps.{AllLand, CameBack, Does, HoldsJust, HoldsNone, IsLandable, IsNew, IsPlaceable, IsTakeable, Keeps, LandTold, StepKeeps, SwitchesAt, is_aside, received_part};
 ghost use Rattle.mq_law_log.specs.Sound.{AreFree, IsSound, IsUnit};
 ghost use Rattle.mq_law_log.specs.Restarts.{IsHarmless, begun, next_started, prepare_part, raised, restarted};
