@@ -19,9 +19,11 @@ is_failing failing call = list_any (λ n. n == call) failing
 abbrev pub given : ℕ → SourceState → List ℕ
 given room s = take (min (length s.left) room) s.left
 
+-- how many bytes a read gives, into a buffer of that length
 abbrev pub read_answer : ℕ → SourceState → Result ℕ Failed
 read_answer room s = if is_failing s.failing s.calls then Err (record {}) else Ok (min (length s.left) room)
 
+-- the source after it
 abbrev pub after_read : ℕ → SourceState → SourceState
 after_read room s = if is_failing s.failing s.calls then record s { calls = raised s.calls; faults = raised s.faults } else record s { left = drop (min (length s.left) room) s.left; calls = raised s.calls }
 
@@ -37,8 +39,10 @@ pub record SinkState : Type 0 where
 abbrev pub is_refused : List ℕ → SinkState → Bool
 is_refused piece s = is_failing s.failing s.calls || nat_lt (s.room - length s.held) (length piece)
 
+-- how many bytes a write takes: the piece, or none
 abbrev pub write_answer : List ℕ → SinkState → Result ℕ Failed
 write_answer piece s = if is_refused piece s then Err (record {}) else Ok (length piece)
 
+-- the sink after it
 abbrev pub after_write : List ℕ → SinkState → SinkState
 after_write piece s = if is_refused piece s then record s { calls = raised s.calls; faults = raised s.faults } else record s { held = s.held ++ piece; calls = raised s.calls }

@@ -15,7 +15,8 @@ use Rattle.mq_spec_state.specs.Changes.{apply_all, selects, held_in, released_in
 use Rattle.mq_spec_agents.specs.Words.{prepared_record, prepared_changes}
 use Rattle.mq_sync.specs.Settlement.{sender_or}
 use Rattle.mq_spec_state.specs.Images.{Shelf, lasting, lasting_row, lasting_rows, shelf_of, shelves_of, has_batch}
-use Rattle.mq_law_log.specs.Records.{on_all, held_rows, with_sender, can_prepare}
+use Rattle.mq_spec_log.specs.Shelves.{on_all, held_rows, with_sender}
+use Rattle.mq_spec_log.specs.Applies.{can_prepare}
 use Rattle.mq_law_log.specs.Keeps.{Told, HoldsJust, HoldsNone}
 use Rattle.mq_law_log.proofs.Rows.{bool_case, name_is, name_self}
 use Rattle.mq_law_log.proofs.Shelves.{shelves_alike, all_of}

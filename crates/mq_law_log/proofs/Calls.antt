@@ -18,7 +18,7 @@ use Rattle.mq_resolve.specs.declared.route.Route.{Route}
 use Rattle.mq_calls.specs.declared.answers.Hobj.{Hobj}
 use Rattle.mq_spec_state.specs.Reads.{handle_at}
 use Rattle.mq_spec_manager.specs.Put.{queue_at, put_part, put_tests, put_step, new_message, put_route, put_handle, put_up, handle_route, mqput}
-use Rattle.mq_law_log.specs.Records.{fits}
+use Rattle.mq_spec_log.specs.Applies.{fits}
 use Rattle.mq_spec_manager.specs.Units.{mqcmit, mqdisc, commit_part}
 use Rattle.mq_law_log.specs.Keeps.{StepKeeps, Keeps, IsNew}
 use Rattle.mq_law_log.specs.Sound.{IsSound, IsUnit, LeadsWell}

@@ -15,7 +15,7 @@ use Rattle.mq_spec_state.specs.Reads.{stored, is_persistent}
 use Rattle.mq_spec_state.specs.Condition.{condition}
 use Rattle.mq_spec_state.specs.Changes.{apply, lane_of, placed_in, kept_in, held_in, selects, retag_if, try_if, made_due, depth_type, new_row}
 use Rattle.mq_spec_state.specs.Images.{Shelf, lasting, shelf_of, shelves_of, lasting_row}
-use Rattle.mq_law_log.specs.Records.{left, shelved, set_shelf, less_rows, shelved_in, cleared}
+use Rattle.mq_spec_log.specs.Shelves.{left, shelved, set_shelf, less_rows, shelved_in, cleared}
 use Rattle.mq_law_log.specs.Keeps.{AreLaned, has_queue, IsNew, is_aside}
 use Rattle.mq_law_log.proofs.Rows.{bool_case, rows_kept, rows_alike, row_aside, row_placed}
 use Rattle.mq_law_log.proofs.Shelves.{shelves_set, shelf_found, shelves_mapped, shelves_alike, all_of, found_name, shelf_again, none_without, none_off, set_is_there}

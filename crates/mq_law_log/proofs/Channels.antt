@@ -19,7 +19,9 @@ use Rattle.mq_spec_state.specs.Changes.{apply, kept_in, released_in, release_if}
 use Rattle.mq_spec_agents.specs.Words.{harden_part, settle_change}
 use Rattle.mq_sync.specs.Settlement.{sender_or, receiver_or, data_settled, settle_by}
 use Rattle.mq_spec_state.specs.Images.{Shelf, Image, lasting, lasting_row, rests_by, shelf_of, has_batch}
-use Rattle.mq_law_log.specs.Records.{less_rows, freed_row, freed_rows, with_sender, with_receiver, settled_rows, is_unit_in_doubt}
+use Rattle.mq_spec_log.specs.Shelves.{less_rows, freed_row, freed_rows, with_sender, with_receiver}
+use Rattle.mq_spec_log.specs.Records.{settled_rows}
+use Rattle.mq_spec_log.specs.Applies.{is_unit_in_doubt}
 use Rattle.mq_law_log.specs.Keeps.{Does}
 use Rattle.mq_law_log.proofs.Rows.{bool_case, name_is, rows_kept, rows_tagged}
 use Rattle.mq_law_log.proofs.Shelves.{shelves_mapped}

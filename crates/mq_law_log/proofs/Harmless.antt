@@ -24,7 +24,7 @@ use Rattle.mq_spec_manager.specs.Units.{commit_part, taken_item}
 use Rattle.mq_spec_agents.specs.Words.{harden_part}
 use Rattle.mq_sync.specs.Settlement.{sender_or, receiver_or}
 use Rattle.mq_spec_state.specs.Images.{Image, lasting, has_batch}
-use Rattle.mq_law_log.specs.Records.{fits, is_unit_in_doubt, can_prepare}
+use Rattle.mq_spec_log.specs.Applies.{fits, is_unit_in_doubt, can_prepare}
 use Rattle.mq_law_log.specs.Keeps.{Does, HoldsJust, IsNew, AreGone, AreTakeable}
 use Rattle.mq_law_log.specs.Sound.{IsSound, IsUnit, AreFree}
 use Rattle.mq_law_log.specs.Restarts.{IsHarmless, prepare_part}

@@ -20,7 +20,8 @@ use Rattle.mq_spec_state.specs.Reads.{stored}
 use Rattle.mq_spec_state.specs.Changes.{apply, apply_all}
 use Rattle.mq_spec_manager.specs.Commands.{stale_if, switched_if, renewed_if, renewed, dropped, follows, object_part}
 use Rattle.mq_spec_state.specs.Images.{Shelf, lasting, shelf_of, shelves_of}
-use Rattle.mq_law_log.specs.Records.{shelves_after, shelf_if, can_change}
+use Rattle.mq_spec_log.specs.Records.{shelves_after, shelf_if}
+use Rattle.mq_spec_log.specs.Applies.{can_change}
 use Rattle.mq_law_log.specs.Keeps.{Does, has_queue, SwitchesAt}
 use Rattle.mq_law_log.proofs.Rows.{bool_case}
 use Rattle.mq_law_log.proofs.Shelves.{shelves_set, shelf_again}

@@ -25,7 +25,8 @@ use Rattle.mq_spec_manager.specs.Units.{adds_of, removes_of, record_of, placed_i
 use Rattle.mq_spec_agents.specs.Words.{Landing, move_part, moved_record}
 use Rattle.mq_message.specs.declared.message.Dest.{Dest}
 use Rattle.mq_spec_state.specs.Images.{Shelf, Image, lasting}
-use Rattle.mq_law_log.specs.Records.{left, less_rows, on_all, shelved, added, added_all, removed, removed_all, can_add, can_add_all, can_remove, can_remove_all, stands_on}
+use Rattle.mq_spec_log.specs.Shelves.{left, less_rows, on_all, shelved, added, added_all, removed, removed_all}
+use Rattle.mq_spec_log.specs.Applies.{can_add, can_add_all, can_remove, can_remove_all, stands_on}
 use Rattle.mq_law_log.specs.Keeps.{Told, Does, IsPlaceable, ArePlaceable, IsTakeable, AreTakeable, less_item}
 use Rattle.mq_law_log.proofs.Rows.{bool_case, ident_self}
 use Rattle.mq_law_log.proofs.Shelves.{none_stands}

@@ -21,7 +21,7 @@ use Rattle.mq_spec_state.specs.Condition.{condition}
 use Rattle.mq_spec_state.specs.Changes.{apply, apply_all, set_queue, placed_in, lane_of, new_row, kept_in, selects, try_if, made_due, depth_type}
 use Rattle.mq_spec_manager.specs.Put.{placed}
 use Rattle.mq_spec_manager.specs.Units.{taken_item}
-use Rattle.mq_law_log.specs.Records.{fits, fits_local}
+use Rattle.mq_spec_log.specs.Applies.{fits, fits_local}
 use Rattle.mq_law_log.specs.Keeps.{AreLaned, has_queue, IsNew, IsPlaceable, ArePlaceable}
 use Rattle.mq_law_log.specs.Sound.{IsItem, item_ident, AreApart, IsSound}
 use Rattle.mq_law_log.proofs.Rows.{bool_case, name_is}

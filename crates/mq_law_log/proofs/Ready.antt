@@ -17,7 +17,8 @@ use Rattle.mq_spec_state.specs.State.Which.{Among}
 use Rattle.mq_spec_state.specs.Reads.{stored, queue_in, is_persistent, is_by_unit}
 use Rattle.mq_spec_state.specs.Changes.{selects}
 use Rattle.mq_spec_state.specs.Images.{Shelf, Image, lasting, lasting_row, lasting_rows, shelves_of}
-use Rattle.mq_law_log.specs.Records.{shelf_in, on_all, less_rows, is_free_at}
+use Rattle.mq_spec_log.specs.Shelves.{shelf_in, on_all, less_rows}
+use Rattle.mq_spec_log.specs.Applies.{is_free_at}
 use Rattle.mq_law_log.specs.Keeps.{IsTakeable, AreTakeable, AreGone, less_item}
 use Rattle.mq_law_log.specs.Sound.{all_rows, Mem, IsItem, item_ident, AreApart, IsUnit, IsSound, AreFree}
 use Rattle.mq_law_log.proofs.Rows.{bool_case, ident_self, lacks_last}

@@ -22,7 +22,8 @@ use Rattle.mq_spec_agents.specs.Words.{Landing, Landed, Standing, Absent, InDoub
 use Rattle.mq_sync.specs.Settlement.{receiver_or}
 use Rattle.mq_spec_state.specs.Changes.{off_lists}
 use Rattle.mq_spec_state.specs.Images.{Shelf, Image, lasting}
-use Rattle.mq_law_log.specs.Records.{added, added_all, can_add_all, can_receive, with_receiver, shelved, cleared, stands_on, on_all, less_rows, without_ident}
+use Rattle.mq_spec_log.specs.Shelves.{added, added_all, with_receiver, shelved, cleared, on_all, less_rows, without_ident}
+use Rattle.mq_spec_log.specs.Applies.{can_add_all, can_receive, stands_on}
 use Rattle.mq_law_log.specs.Keeps.{IsPlaceable, IsLandable, LandTold, AllLand, AreLaned, CameBack, Does, received_part}
 use Rattle.mq_law_log.proofs.Rows.{bool_case}
 use Rattle.mq_law_log.proofs.Changes.{left_lasts, placed_lasts, placed_is_there, tried_lasts}

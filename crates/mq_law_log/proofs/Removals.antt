@@ -14,7 +14,8 @@ use Rattle.mq_spec_state.specs.Reads.{is_persistent}
 use Rattle.mq_spec_state.specs.Changes.{apply, selects}
 use Rattle.mq_spec_manager.specs.Get.{removal_part, removal_record, removes_of, idents_of, persistent_rows}
 use Rattle.mq_spec_state.specs.Images.{Shelf, Image, lasting}
-use Rattle.mq_law_log.specs.Records.{left, less_rows, on_all, removed, removed_all, can_remove_all}
+use Rattle.mq_spec_log.specs.Shelves.{left, less_rows, on_all, removed, removed_all}
+use Rattle.mq_spec_log.specs.Applies.{can_remove_all}
 use Rattle.mq_law_log.specs.Keeps.{Told, Does, AreGone, IsTakeable, less_item}
 use Rattle.mq_law_log.proofs.Rows.{bool_case}
 use Rattle.mq_law_log.proofs.Changes.{left_lasts}

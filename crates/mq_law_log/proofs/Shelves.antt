@@ -14,7 +14,9 @@ use Rattle.mq_spec_state.specs.Changes.{set_queue}
 use Rattle.mq_spec_agents.specs.Words.{doubts}
 use Rattle.mq_spec_state.specs.Changes.{less_ident}
 use Rattle.mq_spec_state.specs.Images.{Shelf, shelf_of, shelves_of, lasting_rows}
-use Rattle.mq_law_log.specs.Records.{shelf_in, set_shelf, on_all, without_ident, off_lists, stands_on, is_free_at}
+use Rattle.mq_spec_log.specs.Shelves.{shelf_in, set_shelf, on_all, without_ident}
+use Rattle.mq_spec_state.specs.Changes.{off_lists}
+use Rattle.mq_spec_log.specs.Applies.{stands_on, is_free_at}
 use Rattle.mq_law_log.specs.Keeps.{has_queue}
 use Rattle.mq_law_log.proofs.Rows.{bool_case, name_is, name_self, none_kept_out, lacks_last}
 

@@ -10,7 +10,7 @@ use Rattle.mq_spec_manager.specs.Put.{put_part}
 use Rattle.mq_spec_manager.specs.Get.{removal_part}
 use Rattle.mq_spec_manager.specs.Units.{commit_part, taken_item}
 use Rattle.mq_spec_state.specs.Images.{lasting}
-use Rattle.mq_law_log.specs.Records.{fits}
+use Rattle.mq_spec_log.specs.Applies.{fits}
 use Rattle.mq_law_log.specs.Keeps.{Does, IsNew}
 use Rattle.mq_law_log.specs.Sound.{IsSound, IsUnit, AreFree}
 use Rattle.mq_law_log.proofs.Parts.{put_does, commit_does}

@@ -16,7 +16,8 @@ use Rattle.mq_spec_state.specs.Changes.{apply, apply_all, kept_in, released_in, 
 use Rattle.mq_spec_state.specs.Steps.{Part, do_part, logged, freeze, stands_in, note_of}
 use Rattle.mq_spec_manager.specs.Stops.{at_rest, release_batch, redone_if}
 use Rattle.mq_spec_state.specs.Images.{Shelf, Image, lasting, lasting_row, lasting_rows, rests_by, shelf_of, shelves_of, has_batch, numbered, queue_on}
-use Rattle.mq_law_log.specs.Records.{doing, applies}
+use Rattle.mq_spec_log.specs.Records.{doing}
+use Rattle.mq_spec_log.specs.Applies.{suits}
 use Rattle.mq_law_log.specs.Keeps.{Told, Does, Keeps}
 use Rattle.mq_law_log.specs.Restarts.{raised, restarted, next_started}
 use Rattle.mq_law_log.proofs.Rows.{bool_case, name_is, name_self, rows_alike}
@@ -139,21 +140,21 @@ thawed r noted left p = record (freeze noted left p) { log = stands_in r (freeze
 
 pub redone_is : (part : Part) (r : LogRecord) (left started : ℕ) (p : Plain) → part.forced ≡ Some r
     → Does part (thawed r (note_of part part.forced) left p)
-    → (applies p.given r (lasting p) ≡ true)
+    → (suits p.given r (lasting p) ≡ true)
     × (lasting (restarted true started (note_of part part.forced) (freeze (note_of part part.forced) left p)) ≡ raised started (doing r (lasting p)))
 redone_is part r left started p e h = by_record part.forced e h
   where
     by_record : (f : Option LogRecord) → f ≡ Some r → Told f (thawed r (note_of part f) left p) (lasting (apply_all part.changes (thawed r (note_of part f) left p)))
-        → (applies p.given r (lasting p) ≡ true) × (lasting (restarted true started (note_of part f) (freeze (note_of part f) left p)) ≡ raised started (doing r (lasting p)))
+        → (suits p.given r (lasting p) ≡ true) × (lasting (restarted true started (note_of part f) (freeze (note_of part f) left p)) ≡ raised started (doing r (lasting p)))
     by_record None e h = absurd (cc e)
     by_record (Some s) e h = same s (cc e) h
       where
         same : (s : LogRecord) → s ≡ r → Told (Some s) (thawed r (note_of part (Some s)) left p) (lasting (apply_all part.changes (thawed r (note_of part (Some s)) left p)))
-            → (applies p.given r (lasting p) ≡ true) × (lasting (restarted true started (note_of part (Some s)) (freeze (note_of part (Some s)) left p)) ≡ raised started (doing r (lasting p)))
+            → (suits p.given r (lasting p) ≡ true) × (lasting (restarted true started (note_of part (Some s)) (freeze (note_of part (Some s)) left p)) ≡ raised started (doing r (lasting p)))
         same s w h = subst (λ (x : LogRecord). Told (Some x) (thawed r (note_of part (Some x)) left p) (lasting (apply_all part.changes (thawed r (note_of part (Some x)) left p)))
-            → (applies p.given r (lasting p) ≡ true) × (lasting (restarted true started (note_of part (Some x)) (freeze (note_of part (Some x)) left p)) ≡ raised started (doing r (lasting p)))) (sym w)
+            → (suits p.given r (lasting p) ≡ true) × (lasting (restarted true started (note_of part (Some x)) (freeze (note_of part (Some x)) left p)) ≡ raised started (doing r (lasting p)))) (sym w)
             (λ (k : Told (Some r) (thawed r (note_of part (Some r)) left p) (lasting (apply_all part.changes (thawed r (note_of part (Some r)) left p)))). (
-              subst (λ (i : Image). applies p.given r i ≡ true) (frozen_lasts (note_of part (Some r)) left p) k.0,
+              subst (λ (i : Image). suits p.given r i ≡ true) (frozen_lasts (note_of part (Some r)) left p) k.0,
               restart_recovers true started (note_of part (Some r)) (freeze (note_of part (Some r)) left p)
                   ∙ ap (raised started) (k.1 ∙ ap (doing r) (frozen_lasts (note_of part (Some r)) left p)),
             )) h

@@ -28,12 +28,14 @@ use Rattle.mq_spec_state.specs.State.Change.{Connect, Disconnect, OpenHandle, Cl
 use Rattle.mq_spec_agents.specs.Words.{doubts, Landing, Standing, standing_at, is_present, land, land_changes}
 pub use Rattle.mq_spec_agents.specs.Receiving.{received_part}
 use Rattle.mq_spec_state.specs.Images.{Image, Shelf, lasting}
-use Rattle.mq_law_log.specs.Records.{applies, doing, fits, stands_on, can_add, added, can_remove, removed}
+use Rattle.mq_spec_log.specs.Applies.{suits, fits, stands_on, can_add, can_remove}
+use Rattle.mq_spec_log.specs.Records.{doing}
+use Rattle.mq_spec_log.specs.Shelves.{added, removed}
 
 -- what a forced record, or none, must say of a change of what lasts
 abbrev pub Told : Option LogRecord → Plain → Image → Type 0
 Told None p new = new ≡ lasting p
-Told (Some r) p new = (applies p.given r (lasting p) ≡ true) × (new ≡ doing r (lasting p))
+Told (Some r) p new = (suits p.given r (lasting p) ≡ true) × (new ≡ doing r (lasting p))
 
 -- what is done behind the record, wherever the log stands
 abbrev pub Does : Part → Plain → Type 0

@@ -1,5 +1,5 @@
 -- How a manager comes up from an image: a first start and each restart do the same.
-use Rattle.std.specs.Prelude.{◌≡◌, ℕ, true, false, List, [], ◌∷◌, Option, Some, None}
+use Rattle.std.specs.Prelude.{◌≡◌, ℕ, true, false, [], ◌∷◌, Some}
 use Rattle.mq_calls.specs.declared.records.LogRecord.{LogRecord}
 use Rattle.mq_spec_state.specs.State.{Plain, Batch}
 use Rattle.mq_spec_state.specs.Steps.{Part, freeze, note_of}
@@ -10,7 +10,8 @@ use Rattle.mq_spec_agents.specs.Words.{prepared_record, prepared_changes}
 use Rattle.mq_sync.specs.Settlement.{sender_or}
 pub use Rattle.mq_spec_state.specs.Images.{begun, raised}
 use Rattle.mq_spec_state.specs.Images.{lasting}
-use Rattle.mq_law_log.specs.Records.{applies, doing}
+use Rattle.mq_spec_log.specs.Applies.{suits}
+use Rattle.mq_spec_log.specs.Records.{doing}
 use Rattle.mq_law_log.specs.Keeps.{Keeps}
 
 -- A part's write makes a crash harmless: where it succeeds the image is as the record says; where it is stopped, a restart that finds
@@ -18,7 +19,7 @@ use Rattle.mq_law_log.specs.Keeps.{Keeps}
 pub record IsHarmless (part : Part) (p : Plain) : Type 0 where
   pub keeps : Keeps part p
   pub found : (r : LogRecord) (left started : ℕ) → part.forced ≡ Some r
-      → (applies p.given r (lasting p) ≡ true)
+      → (suits p.given r (lasting p) ≡ true)
       × (lasting (restarted true started (note_of part part.forced) (freeze (note_of part part.forced) left p)) ≡ raised started (doing r (lasting p)))
   pub lost : (left started : ℕ) → lasting (restarted false started (note_of part part.forced) (freeze (note_of part part.forced) left p)) ≡ raised started (lasting p)
 
@@ -29,8 +30,3 @@ prepare_part b last p = record {
   changes = prepared_changes b.channel last b (sender_or (sender_data b.channel p));
   delta = did.Prepared b.channel b.unit ∷ [];
 }
-
--- the records that a part appends
-abbrev pub appended : Option LogRecord → List LogRecord
-appended None = []
-appended (Some r) = r ∷ []

@@ -12,7 +12,7 @@ use Rattle.mq_calls.specs.declared.state.Item.TheVariants.{Put, Take}
 use Rattle.mq_spec_state.specs.State.{Plain, Queue, Connection, Handle, Batch}
 use Rattle.mq_spec_state.specs.Reads.{stored, is_persistent, is_by_unit}
 use Rattle.mq_spec_manager.specs.Put.{next_ident, dest_at, queue_at}
-use Rattle.mq_law_log.specs.Records.{fits}
+use Rattle.mq_spec_log.specs.Applies.{fits}
 use Rattle.mq_law_log.specs.Keeps.{AreLaned, has_queue, IsNew, HoldsJust}
 
 abbrev pub all_rows : List Queue → List Row

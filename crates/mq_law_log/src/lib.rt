@@ -10,8 +10,6 @@ ghost use Rattle.mq_message.specs.declared.message.Md.{Md};
 ghost use Rattle.mq_message.specs.declared.message.Message.{Message};
 ghost use Rattle.mq_message.specs.declared.place.Holder.TheVariants as holders;
 ghost use Rattle.mq_queue.specs.declared.row.Row.{Row};
-ghost use Rattle.mq_objects.specs.declared.object.Definitions.{Definitions};
-ghost use Rattle.mq_objects.specs.declared.object.ManagerAttributes.{ManagerAttributes};
 ghost use Rattle.mq_sync.specs.declared.unit.Unit.{Unit as Luw};
 ghost use Rattle.mq_sync.specs.declared.data.End.{End};
 ghost use Rattle.mq_sc_apply.specs.declared.answers.Planned.{Planned};
@@ -25,7 +23,6 @@ ghost use Rattle.mq_spec_state.specs.State.Which.{Among, HeldBy};
 ghost use Rattle.mq_spec_state.specs.State.Change.{AddBatch, ChangeObjects, DropBatch, Hold, Leave, Release};
 ghost use Rattle.mq_spec_state.specs.Reads.{in_doubt_of, is_persistent, receiver_data, sender_data};
 ghost use Rattle.mq_spec_state.specs.Changes.{apply, apply_all};
-ghost use Rattle.mq_spec_state.specs.Sizes.{record_size};
 ghost use Rattle.mq_spec_state.specs.Steps.{Part, do_part};
 ghost use Rattle.mq_spec_manager.specs.Put.{mqput, put_part};
 ghost use Rattle.mq_spec_manager.specs.Get.{removal_part, taking_part};
@@ -35,11 +32,11 @@ ghost use Rattle.mq_spec_manager.specs.Stops.{at_rest, redone_if};
 ghost use Rattle.mq_spec_agents.specs.Words.{Absent, InDoubtAt, Landed, Landing, harden_part, landed, move_part};
 ghost use Rattle.mq_sync.specs.Settlement.{receiver_or, sender_or};
 ghost use Rattle.mq_spec_state.specs.Images.{has_batch, lasting};
-ghost use Rattle.mq_law_log.specs.Records.{can_change, can_prepare, can_receive, empty_image, fits, image, is_unit_in_doubt};
-ghost use Rattle.mq_law_log.specs.Bytes.{IsRecord, record_bytes};
+ghost use Rattle.mq_spec_log.specs.Applies.{Start, applies, can_change, can_prepare, can_receive, fits, is_unit_in_doubt};
+ghost use Rattle.mq_recover.specs.Bodies.{empty_image, image, record_of};
 ghost use Rattle.mq_law_log.specs.Keeps.{AllLand, CameBack, Does, HoldsJust, HoldsNone, IsLandable, IsNew, IsPlaceable, IsTakeable, Keeps, LandTold, StepKeeps, SwitchesAt, is_aside, received_part};
 ghost use Rattle.mq_law_log.specs.Sound.{AreFree, IsSound, IsUnit};
-ghost use Rattle.mq_law_log.specs.Restarts.{IsHarmless, appended, begun, next_started, prepare_part, raised, restarted};
+ghost use Rattle.mq_law_log.specs.Restarts.{IsHarmless, begun, next_started, prepare_part, raised, restarted};
 
 /// A put, a removal of rows and the end of a unit, in a sound manager.
 pub fn forced_writes_make_crashes_harmless()
@@ -63,14 +60,15 @@ pub fn stops_and_restarts_keep_what_lasts()
     ensures restarts { (kept : Bool) (started : ℕ) (noted : Option Noted) (p : Plain) → lasting (restarted kept started noted p) ≡ raised started (lasting (redone_if kept noted p)) }
 {}
 
-/// Where the image of the log's records is what lasts, it is so after each part that keeps the law, and after a restart.
+/// Where the image of the log's bodies is what lasts, it is so after each part that keeps the law and whose record is the
+/// next body, and after a restart with its Started record.
 pub fn the_log_tells_what_lasts()
-    ensures parts { (d : Definitions) (x : LogRecord) (xs : List LogRecord) (part : Part) (p : Plain) → image p.given d (x ∷ xs) ≡ Ok (lasting p) → Keeps part p
-        → image p.given d ((x ∷ xs) ++ appended part.forced) ≡ Ok (lasting (do_part part p)) }
-    ensures restarts { (d : Definitions) (x : LogRecord) (xs : List LogRecord) (kept : Bool) (started : ℕ) (noted : Option Noted) (p : Plain)
-        → image (redone_if kept noted p).given d (x ∷ xs) ≡ Ok (lasting (redone_if kept noted p))
-        → image (redone_if kept noted p).given d ((x ∷ xs) ++ next_started started (redone_if kept noted p) ∷ []) ≡ Ok (lasting (restarted kept started noted p)) }
-    ensures bytes { (r : LogRecord) → IsRecord r → length (record_bytes r) ≡ record_size r }
+    ensures parts { (start : Start) (first : List ℕ) (bodies : List (List ℕ)) (next : List ℕ) (r : LogRecord) (part : Part) (p : Plain) → image p.given start (first ∷ bodies) ≡ Ok (lasting p) → part.forced ≡ Some r
+        → record_of next ≡ Some r → applies p.given start r (lasting p) ≡ true → Keeps part p → image p.given start (first ∷ bodies ++ next ∷ []) ≡ Ok (lasting (do_part part p)) }
+    ensures restarts { (start : Start) (first : List ℕ) (bodies : List (List ℕ)) (next : List ℕ) (kept : Bool) (started : ℕ) (noted : Option Noted) (p : Plain)
+        → image (redone_if kept noted p).given start (first ∷ bodies) ≡ Ok (lasting (redone_if kept noted p)) → record_of next ≡ Some (next_started started (redone_if kept noted p))
+        → applies (redone_if kept noted p).given start (next_started started (redone_if kept noted p)) (lasting (redone_if kept noted p)) ≡ true
+        → image (redone_if kept noted p).given start (first ∷ bodies ++ next ∷ []) ≡ Ok (lasting (restarted kept started noted p)) }
 {}
 
 /// Each part of MQPUT, MQCMIT and MQDISC keeps the law in a sound manager.
@@ -107,5 +105,5 @@ pub fn moves_and_object_commands_do_as_their_records_say()
 
 /// A manager that begins on an empty log is sound.
 pub fn a_manager_begins_soundly()
-    ensures { (g : Given) (m : ManagerAttributes) (log : LogState) (moment : ℕ) → IsSound (begun g (empty_image (record { manager = m; objects = [] })) log moment) }
+    ensures { (g : Given) (log : LogState) (moment : ℕ) → IsSound (begun g empty_image log moment) }
 {}

@@ -21,11 +21,12 @@ use Rattle.mq_spec_state.specs.Sizes.{need}
 use Rattle.mq_spec_state.specs.Steps.{when, logged, do_part}
 use Rattle.mq_spec_state.specs.Steps.Step.{Do}
 use Rattle.mq_calls.specs.declared.deltas.Did.TheVariants as did
-use Rattle.mq_spec_agents.specs.Agents.{release_batch, release_of, prepare, prepare_of, prepared_record, prepared_changes, sender_or, harden, harden_part, settle_change, settled}
+use Rattle.mq_sync.specs.Settlement.{sender_or, settle_by, data_prepared, data_settled}
+use Rattle.mq_spec_agents.specs.Words.{release_batch, release_of, prepare, prepare_of, prepared_record, prepared_doubt, prepared_changes, harden, harden_part, settle_change, CanHarden}
 use Rattle.mq_law_manager.specs.View.{View, view, at_name, kept_all, retagged_all}
 use Rattle.mq_law_manager.specs.Facts.{ident_of, Sound, Holds}
 use Rattle.mq_law_manager.specs.Seen.{goes_if, freed_if, drop_in, doubt_in}
-use Rattle.mq_law_manager.specs.Kept.{IsSettling, Keeps}
+use Rattle.mq_law_manager.specs.Kept.{Keeps}
 use Rattle.mq_law_manager.proofs.Lists.{bool_case, is_false, name_yes, name_self, mem_keep, mem_kept, mem_retag, mem_retagged}
 use Rattle.mq_law_manager.proofs.Apart as apart
 use Rattle.mq_law_manager.proofs.TakenLaws as taken
@@ -152,10 +153,10 @@ prepare_keeps_of : (c : List ℕ) (last : ℕ) (o : Option Batch) (p : Plain) �
 prepare_keeps_of c last None p is h = tt
 prepare_keeps_of c last (Some b) p is h = tested_keeps (when (is_full (need (prepared_record c last b)) p) prepare_faults.NoRoom ∷ [])
     (Do tt (record { forced = Some (prepared_record c last b); changes = prepared_changes c last b (sender_or (sender_data c p)); delta = did.Prepared c b.unit ∷ [] } ∷ [])) p (λ e. (
-      let d : SenderData = record (sender_or (sender_data c p)) { force = false; in_doubt = Some (record { unit = b.unit; idents = b.idents; last = last }) } in
+      let d : SenderData = data_prepared (prepared_doubt last b) (sender_or (sender_data c p)) in
           let q : Plain = logged (Some (prepared_record c last b)) p in
           subst Holds (sym (applied (DropBatch c) (apply (SetSender c d) q) tt)) (subst (λ (v : View). Holds (drop_in c v)) (sym (applied (SetSender c d) q tt))
-          (record { apart = h.apart; taken = h.taken; batched = batched.prepares (view p).rows (view p).batch (view p).doubt c b (record { unit = b.unit; idents = b.idents; last = last }) is refl h.batched; ordered = h.ordered })),
+          (record { apart = h.apart; taken = h.taken; batched = batched.prepares (view p).rows (view p).batch (view p).doubt c b (prepared_doubt last b) is refl h.batched; ordered = h.ordered })),
       tt,
     ))
 
@@ -174,7 +175,7 @@ sender_doubt None = refl
 sender_doubt (Some d) = refl
 
 -- a unit in doubt is settled: no batch is held beside it
-settled_doubt : (commit : Bool) (d : SenderData) → (settled commit d).in_doubt ≡ None
+settled_doubt : (commit : Bool) (d : SenderData) → (data_settled (Some (settle_by commit)) d).in_doubt ≡ None
 settled_doubt true d = refl
 settled_doubt false d = refl
 
@@ -190,12 +191,12 @@ settle_keeps commit c d p none batch h =
     which false at less = subst Holds (sym (applied (SetSender c d) (apply (Release (HeldBy (holders.Batch c)) false) p) tt)) (subst (λ (v : View). Holds (doubt_in c d v)) (sym (applied (Release (HeldBy (holders.Batch c)) false) p tt))
         (subst (λ (f : List ℕ → Option Batch). Holds (record (view p) { rows = retagged_all (freed_if (HeldBy (holders.Batch c)) false) (view p).rows; batch = f; doubt = at_name c d.in_doubt (view p).doubt })) (λ i k. at k i) (frees_batch (view p) c (at_name c d.in_doubt (view p).doubt) less h)))
 
-harden_keeps_of : (c : List ℕ) (note : Note) (p : Plain) → IsSettling c note p → Sound p → Sound (do_part (harden_part c note p) p)
+harden_keeps_of : (c : List ℕ) (note : Note) (p : Plain) → CanHarden c note p → Sound p → Sound (do_part (harden_part c note p) p)
 harden_keeps_of c (notes.Session partner session) p s h =
     let d : SenderData = record (sender_or (sender_data c p)) { partner = partner; session = session } in
     same_doubt c d (logged (harden_part c (notes.Session partner session) p).forced p) (sender_doubt (sender_data c p)) h
 harden_keeps_of c (notes.Resolved unit commit operator) p s h =
-    settle_keeps commit c (settled commit (sender_or (sender_data c p))) (logged (harden_part c (notes.Resolved unit commit operator) p).forced p) (settled_doubt commit (sender_or (sender_data c p))) s h
+    settle_keeps commit c (data_settled (Some (settle_by commit)) (sender_or (sender_data c p))) (logged (harden_part c (notes.Resolved unit commit operator) p).forced p) (settled_doubt commit (sender_or (sender_data c p))) s.1 h
 harden_keeps_of c (notes.Bound partner session last) p s h = h
 harden_keeps_of c (notes.Closed session) p s h = h
 harden_keeps_of c (notes.SeqSet ends.Sender last) p s h =
@@ -203,5 +204,5 @@ harden_keeps_of c (notes.SeqSet ends.Sender last) p s h =
     same_doubt c d (logged (harden_part c (notes.SeqSet ends.Sender last) p).forced p) (sender_doubt (sender_data c p)) h
 harden_keeps_of c (notes.SeqSet ends.Receiver last) p s h = h
 
-pub harden_keeps : (c : List ℕ) (note : Note) (p : Plain) → IsSettling c note p → Sound p → Keeps (harden c note p) p
+pub harden_keeps : (c : List ℕ) (note : Note) (p : Plain) → CanHarden c note p → Sound p → Keeps (harden c note p) p
 harden_keeps c note p s h = (harden_keeps_of c note p s h, tt)

@@ -1,54 +1,133 @@
--- A manager that begins with an image has what holds of a manager's rows.
-use Rattle.std.proofs.Common.{ℕ, ◌≡◌, ◌<◌, Bool, true, false, List, refl, sym, subst, arith}
-use Rattle.std.specs.Prelude.{Option, Some, None, ◌==◌, ◌&&◌, ◌||◌, nat_lt}
+-- An image of a log has what a manager begins with.
+use Rattle.std.proofs.Common.{ℕ, suc, ◌≡◌, ◌≢◌, ◌≤◌, ◌<◌, ◌+◌, true, false, List, [], ◌∷◌, length, refl, ap, sym, subst, ◌∙◌, arith, inl, inr}
+use Rattle.std.specs.Prelude.{Option, None, Some, if◌then◌else◌, ◌==◌, ◌&&◌, ◌||◌, nat_lt, All, AllPairs}
+use Rattle.std.specs.Str.{bytes_eq}
+use Rattle.std.specs.List.{list_any}
 use Rattle.std.proofs.lemmas.Bool.Decides.{nat_tests}
 use Rattle.mq_message.specs.declared.message.Ident.{Ident}
+use Rattle.mq_message.specs.declared.place.Holder.{Holder}
+use Rattle.mq_message.specs.declared.place.Holder.TheVariants as holders
+use Rattle.mq_queue.specs.declared.row.Row.{Row}
+use Rattle.mq_queue.specs.Rows.{same_ident}
 use Rattle.mq_sync.specs.declared.data.InDoubt.{InDoubt}
-use Rattle.mq_spec_state.specs.State.{Plain, Given}
-use Rattle.mq_spec_state.specs.State.Change.{Uncount}
-use Rattle.mq_spec_manager.specs.Stops.{Image, begun}
-use Rattle.mq_law_manager.specs.View.{view}
-use Rattle.mq_law_manager.specs.Facts.{Mem, IsOf, Sound, Holds}
-use Rattle.mq_law_manager.specs.Opening.{IsImage, doubt_in}
-use Rattle.mq_law_manager.proofs.SeenLaws.{applied}
-use Rattle.mq_law_manager.proofs.Steps.{uncounts}
+use Rattle.mq_spec_state.specs.State.{Given}
+use Rattle.mq_spec_state.specs.Reads.{sender_in, in_doubt_of}
+use Rattle.mq_spec_state.specs.Images.{Image, Shelf, raised}
+use Rattle.mq_spec_state.specs.Recovery.{IsImage, IsShelf, IsLasting, IsHeldWell, IsListed, AreApart, AreKnown}
+use Rattle.mq_spec_manager.specs.Stops.{first_start, started_need}
+use Rattle.mq_law_manager.specs.Facts.{Mem, Chain, Differ, ident_of, IsOf, AreLaned, Sound}
+use Rattle.mq_law_manager.proofs.Lists.{bool_case, ident_yes, ident_self, name_yes}
+use Rattle.mq_law_manager.proofs.Numbered.{ImageRests, rows_on, begins}
 
--- the manager before backout counts are blank
-abbrev plain_image : Given → Image → ℕ → Plain
-plain_image given image moment = record (begun given image moment) { queues = image.queues }
+-- All of a list, by what is in it
 
-by_older : (m x i k j : ℕ) → (m ≡ x → i < k) → ((m == x) && (nat_lt k i || ((i == k) && nat_lt 0 j))) ≡ false
-by_older m x i k j older = bool_case_of (m == x) refl
+pub all_mem : {A : Type 0} (P : A → Type 0) (xs : List A) (x : A) → All P xs → Mem x xs → P x
+all_mem P [] x h m = absurd m
+all_mem P (y ∷ ys) x h (inl e) = subst P (sym e) (h 0 y (some (length ys)))
   where
-    less : (i k j : ℕ) → i < k → (nat_lt k i || ((i == k) && nat_lt 0 j)) ≡ false
-    less i k j lt = grind (arith, nat_tests)
+    some : (n : ℕ) → 0 < suc n
+    some n = omega arith
+all_mem P (y ∷ ys) x h (inr m) = all_mem P ys x (λ k d lt. h (suc k) d (next k (length ys) lt)) m
+  where
+    next : (k n : ℕ) → k < n → suc k < suc n
+    next k n lt = omega (arith, lt)
+
+pub pairs_chain : {A : Type 0} (R : A → A → Type 0) (xs : List A) → AllPairs R xs → Chain R xs
+pairs_chain R [] h = tt
+pairs_chain R (x ∷ xs) h = (
+  λ y m. all_mem (R x) xs y (λ k d lt. h 0 (suc k) d (some k) (next k (length xs) lt)) m,
+  pairs_chain R xs (λ i j d lt le. h (suc i) (suc j) d (next i j lt) (next j (length xs) le)),
+)
+  where
+    some : (n : ℕ) → 0 < suc n
+    some n = omega arith
+
+    next : (k n : ℕ) → k < n → suc k < suc n
+    next k n lt = omega (arith, lt)
+
+-- Rows of an image
+
+on_shelf : (name : List ℕ) (ss : List Shelf) (h : Row) → Mem h (rows_on name ss) → (s : Shelf) × Mem s ss × (name ≡ s.name) × Mem h s.rows
+on_shelf name [] h m = absurd m
+on_shelf name (s ∷ ss) h m = bool_case (bytes_eq name s.name) (λ b. bytes_eq name s.name ≡ b → Mem h (if b then s.rows else rows_on name ss) → (t : Shelf) × Mem t (s ∷ ss) × (name ≡ t.name) × Mem h t.rows)
+    (λ e z k. (s, inl refl, name_yes name s.name z, k)) (λ e z k. let t = on_shelf name ss h k in (t.0, inr t.1, t.2, t.3)) refl m
+
+-- what holds of each shelf holds of the rows of a name
+each : (P : List Row → Type 0) → P [] → (ss : List Shelf) → ((s : Shelf) → Mem s ss → P s.rows) → (name : List ℕ) → P (rows_on name ss)
+each P none [] h name = none
+each P none (s ∷ ss) h name = bool_case (bytes_eq name s.name) (λ b. P (if b then s.rows else rows_on name ss)) (λ e. h s (inl refl)) (λ e. each P none ss (λ t m. h t (inr m)) name)
+
+not_same : (a b : Ident) → same_ident a b ≡ false → a ≢ b
+not_same a b e w = cc (e, ap (λ (i : Ident). same_ident i b) w, ident_self b)
+
+differing : (rows : List Row) → Chain (λ (x y : Row). same_ident x.message.ident y.message.ident ≡ false) rows → Differ ident_of rows
+differing [] h = tt
+differing (x ∷ xs) h = (λ y m. not_same x.message.ident y.message.ident (h.0 y m), differing xs h.1)
+
+-- no ident stands on two shelves
+apart : (s t : Shelf) (h k : Row) → AreApart s t → Mem h s.rows → Mem k t.rows → h.message.ident ≢ k.message.ident
+apart s t h k a m n = not_same h.message.ident k.message.ident (all_mem (λ (y : Row). same_ident h.message.ident y.message.ident ≡ false) t.rows k (all_mem (λ (x : Row). All (λ (y : Row). same_ident x.message.ident y.message.ident ≡ false) t.rows) s.rows h a m) n)
+
+one_queue : (ss : List Shelf) → Chain AreApart ss → (q d : List ℕ) (h k : Row) → Mem h (rows_on q ss) → Mem k (rows_on d ss) → h.message.ident ≡ k.message.ident → q ≡ d
+one_queue [] c q d h k m n e = absurd m
+one_queue (s ∷ ss) c q d h k m n e =
+    bool_case (bytes_eq q s.name) (λ b. bytes_eq q s.name ≡ b → Mem h (if b then s.rows else rows_on q ss) → q ≡ d)
+    (λ z w x. bool_case (bytes_eq d s.name) (λ b. bytes_eq d s.name ≡ b → Mem k (if b then s.rows else rows_on d ss) → q ≡ d)
+    (λ y v u. name_yes q s.name w ∙ sym (name_yes d s.name v))
+    (λ y v u. let t = on_shelf d ss k u in absurd (apart s t.0 h k (c.0 t.0 t.1) x t.3 e)) refl n)
+    (λ z w x. bool_case (bytes_eq d s.name) (λ b. Mem k (if b then s.rows else rows_on d ss) → q ≡ d)
+    (λ y u. let t = on_shelf q ss h x in absurd (apart s t.0 k h (c.0 t.0 t.1) u t.3 (sym e)))
+    (λ y u. one_queue ss c.1 q d h k x u e) n) refl m
+
+-- who holds a row
+no_unit : (image : Image) (q : List ℕ) (i : Ident) (b : Option Holder) (n : ℕ) → IsHeldWell image q i b → b ≢ Some (holders.Unit n)
+no_unit image q i None n h e = cc e
+no_unit image q i (Some (holders.Unit k)) n h e = h
+no_unit image q i (Some (holders.Batch c)) n h e = cc e
+
+any_mem : (i : Ident) (is : List Ident) → list_any (same_ident i) is ≡ true → Mem i is
+any_mem i [] e = absurd cc
+any_mem i (x ∷ xs) e = bool_case (same_ident i x) (λ b. same_ident i x ≡ b → (b || list_any (same_ident i) xs) ≡ true → Mem i (x ∷ xs)) (λ z w f. inl (ident_yes i x w)) (λ z w f. inr (any_mem i xs f)) refl e
+
+listed : (q : List ℕ) (i : Ident) (o : Option InDoubt) → IsListed q i o → IsOf q i None o
+listed q i None h = h
+listed q i (Some d) h = any_mem i d.idents h.1
+
+abbrev the_batch : List ℕ → Option Holder → List ℕ
+the_batch d None = d
+the_batch d (Some (holders.Unit n)) = d
+the_batch d (Some (holders.Batch c)) = c
+
+of_doubt : (image : Image) (q : List ℕ) (i : Ident) (b : Option Holder) (c : List ℕ) → IsHeldWell image q i b → b ≡ Some (holders.Batch c) → IsOf q i None (in_doubt_of (sender_in c image.senders))
+of_doubt image q i None c h e = absurd cc
+of_doubt image q i (Some (holders.Unit n)) c h e = absurd h
+of_doubt image q i (Some (holders.Batch k)) c h e = subst (λ (x : List ℕ). IsOf q i None (in_doubt_of (sender_in x image.senders))) (ap (the_batch k) e) (listed q i (in_doubt_of (sender_in k image.senders)) h)
+
+-- idents of incarnations that the log knows
+known : (m x i k j : ℕ) → (m ≡ x → i ≤ k) → ((m == x) && (nat_lt (k + 0 + 1) i || ((i == k + 0 + 1) && nat_lt 0 j))) ≡ false
+known m x i k j older = bool_case (m == x) (λ t. (m == x) ≡ t → (t && (nat_lt (k + 0 + 1) i || ((i == k + 0 + 1) && nat_lt 0 j))) ≡ false) (λ z e. less i k j (older (is m x e))) (λ z e. refl) refl
+  where
+    less : (i k j : ℕ) → i ≤ k → (nat_lt (k + 0 + 1) i || ((i == k + 0 + 1) && nat_lt 0 j)) ≡ false
+    less i k j le = grind (arith, nat_tests)
 
     is : (m x : ℕ) → (m == x) ≡ true → m ≡ x
     is m x e = grind (arith, nat_tests)
 
-    bool_case_of : (t : Bool) → (m == x) ≡ t → (t && (nat_lt k i || ((i == k) && nat_lt 0 j))) ≡ false
-    bool_case_of true e = less i k j (older (is m x e))
-    bool_case_of false e = refl
-
-of_doubt : (q : List ℕ) (i : Ident) (o : Option InDoubt) → ((d : InDoubt) × (o ≡ Some d) × Mem i d.idents) → IsOf q i None o
-of_doubt q i None w = absurd (cc (w.1))
-of_doubt q i (Some d) w = let is : d ≡ w.0 = cc (w.1) in subst (λ (x : InDoubt). Mem i x.idents) (sym is) w.2
-
-pub image_holds : (given : Given) (image : Image) (moment : ℕ) → IsImage given.number image → Sound (plain_image given image moment)
-image_holds given image moment h = record {
-  apart = record {
-    once = h.once;
-    alone = h.alone;
-    given = λ q x m. by_older x.message.ident.manager given.number x.message.ident.incarnation image.incarnation x.message.ident.number (h.older q x m);
-    put_once = λ n. tt;
-    put_alone = λ n l a b m k e. absurd m;
-    put_given = λ n a m. absurd m;
-    waiting = λ n a q x m k e. m;
-  };
-  taken = record { held = λ q x n m e. absurd (h.held q x n m e); there = λ n t m. absurd m; take_once = λ n. tt };
-  batched = record { of = λ q x c m e. of_doubt q x.message.ident (doubt_in image c) (h.batch q x c m e); full = λ c b i e m. absurd cc; one = λ c b e. absurd cc };
-  ordered = record { in_order = h.in_order; counted = h.counted; fits = h.fits };
+pub image_rests : (given : Given) (image : Image) → IsImage image → AreKnown given.number image → ImageRests given (raised 0 image)
+image_rests given image h k = record {
+  once = λ q. each (Differ ident_of) tt image.shelves (λ s m. differing s.rows (pairs_chain (λ (x y : Row). same_ident x.message.ident y.message.ident ≡ false) s.rows (all_mem (IsShelf image) image.shelves s h.rows m).distinct)) q;
+  alone = λ q d x y m n e. one_queue image.shelves (pairs_chain AreApart image.shelves h.apart) q d x y m n e;
+  given = λ q x m.
+      let s = on_shelf q image.shelves x m in
+      known x.message.ident.manager given.number x.message.ident.incarnation image.incarnation x.message.ident.number (all_mem (λ (row : Row). row.message.ident.manager ≡ given.number → row.message.ident.incarnation ≤ image.incarnation) s.0.rows x
+      (all_mem (λ (t : Shelf). All (λ (row : Row). row.message.ident.manager ≡ given.number → row.message.ident.incarnation ≤ image.incarnation) t.rows) image.shelves s.0 k s.1) s.3);
+  laned = λ q. each AreLaned tt image.shelves (λ s m. pairs_chain (λ (x y : Row). x.place.lane ≤ y.place.lane) s.rows (all_mem (IsShelf image) image.shelves s h.rows m).sorted) q;
+  units = λ q x n m. let s = on_shelf q image.shelves x m in no_unit image s.0.name x.message.ident x.by n (held s.0 s.1 x s.3);
+  of = λ q x c m e. let s = on_shelf q image.shelves x m in subst (λ (name : List ℕ). IsOf name x.message.ident None (in_doubt_of (sender_in c image.senders))) (sym s.2) (of_doubt image s.0.name x.message.ident x.by c (held s.0 s.1 x s.3) e);
 }
+  where
+    held : (s : Shelf) → Mem s image.shelves → (x : Row) → Mem x s.rows → IsHeldWell image s.name x.message.ident x.by
+    held s m x n = (all_mem (IsLasting image s.name) s.rows x (all_mem (IsShelf image) image.shelves s h.rows m).rows n).held
 
-pub begun_holds : (given : Given) (image : Image) (moment : ℕ) → IsImage given.number image → Sound (begun given image moment)
-begun_holds given image moment h = subst Holds (sym (applied Uncount (plain_image given image moment) tt)) (uncounts (view (plain_image given image moment)) (image_holds given image moment h))
+pub first_start_holds : (given : Given) (image : Image) (size moment : ℕ) → IsImage image → AreKnown given.number image → Sound (first_start given image size moment)
+first_start_holds given image size moment h k = begins given (raised 0 image) (record { length = size + started_need given; armed = 0 }) moment (image_rests given image h k)

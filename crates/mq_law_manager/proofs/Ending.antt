@@ -18,7 +18,7 @@ use Rattle.mq_law_manager.proofs.SeenLaws.{applied}
 use Rattle.mq_law_manager.proofs.Apart as apart
 use Rattle.mq_law_manager.proofs.OrderLaws as ordered
 
-still : (v : View) → Holds v → AreStill v
+pub still : (v : View) → Holds v → AreStill v
 still v h = record { apart = h.apart; held = h.taken.held; of = h.batched.of; ordered = h.ordered }
 
 fewer : (v : View) (test : List ℕ → Row → Bool) → Holds v → AreStill (with_rows (kept_all test v.rows) v)

@@ -26,13 +26,13 @@ use Rattle.mq_spec_manager.specs.Handles.{is_transmission_queue}
 use Rattle.mq_calls.specs.declared.agents.SeizeFault.TheVariants as seize_faults
 use Rattle.mq_spec_manager.specs.Put.{placed, next_ident}
 use Rattle.mq_spec_manager.specs.Triggers.{trigger_turn, trigger_at, serve, serve_by, serve_into, put_trigger, takes_it, first_due, trigger_message}
-use Rattle.mq_spec_agents.specs.Agents.{seize, leave, set_bound, channel_queue, expire, queue_of_sender, expired_rows, discard, move_row, move_found, move_resolved, move_part, moved_forced, Landing, landing, bare_if, route_tests, move_full}
+use Rattle.mq_spec_agents.specs.Words.{seize, leave, set_bound, channel_queue, expire, queue_of_sender, expired_rows, discard, move_row, move_found, move_resolved, move_part, moved_forced, Landing, landing, bare_if, route_tests, move_full, HasFreeRow, CanMove}
 use Rattle.mq_objects.specs.Names.{channel_of}
 use Rattle.mq_law_manager.specs.View.{View, view}
 use Rattle.mq_law_manager.specs.Facts.{Mem, Sound, Holds}
 use Rattle.mq_law_manager.specs.Seen.{goes_if, row_for}
 use Rattle.mq_law_manager.specs.Kept.{Keeps}
-use Rattle.mq_law_manager.proofs.Lists.{bool_case, ident_yes, mem_keep}
+use Rattle.mq_law_manager.proofs.Lists.{bool_case, ident_yes, mem_keep, one_row}
 use Rattle.mq_law_manager.proofs.Apart.{IsNew}
 use Rattle.mq_law_manager.proofs.SeenLaws.{applied}
 use Rattle.mq_law_manager.proofs.Steps.{places, free_is, among_one}
@@ -90,18 +90,25 @@ expire_keeps channel p h =
     let b = mem_filter r is_free ((view p).rows q) a.0 in
     (b.0, free_is r b.1))
 
--- (the handler asks for a row that is free)
-pub discard_keeps : (queue : List ℕ) (ident : Ident) (p : Plain) → Sound p → ((r : Row) → Mem r ((view p).rows queue) → r.message.ident ≡ ident → r.by ≡ None) → Keeps (discard queue ident p) p
-discard_keeps queue ident p h loose = removals_keep whys.Discarded queue (filter (has_ident ident) (stored queue p).rows) p h (λ r m.
-    let a = mem_filter r (has_ident ident) ((view p).rows queue) m in (a.0, loose r a.0 (ident_yes r.message.ident ident a.1)))
-
--- a row that leaves its queue, and is placed on another
+-- a row that is looked for by its ident
 pub find_mem : (ident : Ident) (rows : List Row) (r : Row) → find (has_ident ident) rows ≡ Some r → Mem r rows × (r.message.ident ≡ ident)
 find_mem ident [] r = λ e. absurd cc
 find_mem ident (x ∷ xs) r = bool_case (has_ident ident x) (λ b. has_ident ident x ≡ b → cond b (Some x) (find (has_ident ident) xs) ≡ Some r → Mem r (x ∷ xs) × (r.message.ident ≡ ident))
     (λ z w e. let is : x ≡ r = cc e in (inl (sym is), sym (ap (λ (y : Row). y.message.ident) is) ∙ ident_yes x.message.ident ident w))
     (λ z w e. let k = find_mem ident xs r e in (inr k.0, k.1)) refl
 
+-- a row of that ident there is free
+is_loose : (queue : List ℕ) (ident : Ident) (p : Plain) → Sound p → HasFreeRow queue ident p → (r : Row) → Mem r ((view p).rows queue) → r.message.ident ≡ ident → r.by ≡ None
+is_loose queue ident p h f r m e =
+    let k = find_mem ident ((view p).rows queue) f.row f.found in
+    ap (λ (x : Row). x.by) (one_row ((view p).rows queue) r f.row (h.apart.once queue) m k.0 (e ∙ sym k.1)) ∙ f.free
+
+-- (the handler asks for a row that is free)
+pub discard_keeps : (queue : List ℕ) (ident : Ident) (p : Plain) → Sound p → HasFreeRow queue ident p → Keeps (discard queue ident p) p
+discard_keeps queue ident p h free = removals_keep whys.Discarded queue (filter (has_ident ident) (stored queue p).rows) p h (λ r m.
+    let a = mem_filter r (has_ident ident) ((view p).rows queue) m in (a.0, is_loose queue ident p h free r a.0 (ident_yes r.message.ident ident a.1)))
+
+-- a row that leaves its queue, and is placed on another
 pub left_new : (p : Plain) (q : List ℕ) (r : Row) → Sound p → Mem r ((view p).rows q)
     → IsNew r.message.ident (view (apply (Leave (Among q (r.message.ident ∷ []))) p)).rows (view p).puts (view p).unborn
 left_new p q r h there =
@@ -140,10 +147,10 @@ move_resolved_keeps from to bare (Err reason) m r p h there free is = tt
 move_resolved_keeps from to bare (Ok route) m r p h there free is = tested_keeps (route_tests route (length m.body) p ++ when (move_full from (landing route m) p) reasons.ResourceProblem ∷ []) _ p
     (λ e. (move_part_keeps from to bare (landing route m) r p h there free is, tt))
 
-pub move_row_keeps : (from : List ℕ) (ident : Ident) (to : Dest) (bare : Bool) (p : Plain) → Sound p → ((r : Row) → Mem r ((view p).rows from) → r.message.ident ≡ ident → r.by ≡ None) → Keeps (move_row from ident to bare p) p
-move_row_keeps from ident to bare p h loose = at (find (has_ident ident) (stored from p).rows) refl
+pub move_row_keeps : (from : List ℕ) (ident : Ident) (to : Dest) (bare : Bool) (p : Plain) → Sound p → CanMove from ident bare p → Keeps (move_row from ident to bare p) p
+move_row_keeps from ident to bare p h can = at (find (has_ident ident) (stored from p).rows) refl
   where
     at : (o : Option Row) → find (has_ident ident) (stored from p).rows ≡ o → Keeps (move_found from to bare (elim o as (λ x. Option Message) [ None ↦ None | Some row ↦ Some row.message ]) p) p
     at None e = tt
     at (Some r) e = let k = find_mem ident ((view p).rows from) r e in
-        move_resolved_keeps from to bare (resolve p.definitions p.given.name to.queue to.qmgr) (bare_if bare r.message) r p h k.0 (loose r k.0 k.1) (bare_same bare r.message)
+        move_resolved_keeps from to bare (resolve p.definitions p.given.name to.queue to.qmgr) (bare_if bare r.message) r p h k.0 (is_loose from ident p h can.free r k.0 k.1) (bare_same bare r.message)

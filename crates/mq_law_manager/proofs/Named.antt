@@ -1,12 +1,13 @@
 -- Lists keyed by names: what is set, added, dropped or mapped is found, and nothing else changes.
-use Rattle.std.proofs.Common.{ℕ, ◌≡◌, Bool, true, false, List, [], ◌∷◌, ◌++◌, refl, ap, sym, ◌∙◌, subst}
+use Rattle.std.proofs.Common.{ℕ, ◌≡◌, Bool, true, false, List, [], ◌∷◌, refl, ap, sym, ◌∙◌, subst}
 use Rattle.std.specs.Prelude.{Option, Some, None, if◌then◌else◌, filter, not, map}
 use Rattle.std.specs.Str.{bytes_eq}
 use Rattle.std.proofs.lemmas.Slice.Eq.{bytes_eq-Decides}
+use Rattle.mq_message.specs.declared.message.Ident.{Ident}
 use Rattle.mq_sync.specs.declared.data.SenderData.{SenderData}
 use Rattle.mq_spec_state.specs.State.{SenderSide, Queue, Batch, fresh_queue}
-use Rattle.mq_spec_state.specs.Reads.{sender_in, queue_in, batch_of}
-use Rattle.mq_spec_state.specs.Changes.{set_sender, set_queue}
+use Rattle.mq_spec_state.specs.Reads.{sender_in, queue_in, batch_of, in_doubt_of}
+use Rattle.mq_spec_state.specs.Changes.{set_sender, set_queue, set_named, comes_before, less_ident, off_list, off_lists}
 use Rattle.mq_law_manager.proofs.Lists.{bool_case}
 
 pub name_is : (a b : List ℕ) → bytes_eq a b ≡ true → a ≡ b
@@ -39,15 +40,39 @@ pub set_here : {A : Type 0} (channel other key : List ℕ) (new here rest : A) �
 set_here {A} channel other key new here rest e = subst (λ (x : List ℕ). (if bytes_eq channel other then new else rest) ≡ (if bytes_eq channel other then new else (if bytes_eq channel x then here else rest))) (name_is other key e)
     (bool_case (bytes_eq channel other) (λ (b : Bool). (if b then new else rest) ≡ (if b then new else (if b then here else rest))) (λ z. refl) (λ z. refl))
 
+-- what is kept by channel, in order of the channels' names
 pub sender_set : (channel other : List ℕ) (d : SenderData) (ss : List SenderSide)
     → sender_in channel (set_sender (record { channel = other; hardened = d }) ss) ≡ (if bytes_eq channel other then Some d else sender_in channel ss)
 sender_set channel other d [] = refl
 sender_set channel other d (s ∷ ss) = bool_case (bytes_eq other s.channel)
-    (λ b. sender_in channel (if b then record { channel = other; hardened = d } ∷ ss else s ∷ set_sender (record { channel = other; hardened = d }) ss)
+    (λ b. sender_in channel (if b then record { channel = other; hardened = d } ∷ ss else (if comes_before other s.channel then record { channel = other; hardened = d } ∷ s ∷ ss else s ∷ set_sender (record { channel = other; hardened = d }) ss))
     ≡ (if bytes_eq channel other then Some d else (if bytes_eq channel s.channel then Some s.hardened else sender_in channel ss)))
     (λ e. set_here channel other s.channel (Some d) (Some s.hardened) (sender_in channel ss) e)
-    (λ e. ap (λ (x : Option SenderData). if bytes_eq channel s.channel then Some s.hardened else x) (sender_set channel other d ss)
-    ∙ set_behind channel other s.channel (Some d) (Some s.hardened) (sender_in channel ss) e)
+    (λ e. bool_case (comes_before other s.channel) (λ b. sender_in channel (if b then record { channel = other; hardened = d } ∷ s ∷ ss else s ∷ set_sender (record { channel = other; hardened = d }) ss)
+    ≡ (if bytes_eq channel other then Some d else (if bytes_eq channel s.channel then Some s.hardened else sender_in channel ss)))
+    (λ z. refl)
+    (λ z. ap (λ (x : Option SenderData). if bytes_eq channel s.channel then Some s.hardened else x) (sender_set channel other d ss)
+    ∙ set_behind channel other s.channel (Some d) (Some s.hardened) (sender_in channel ss) e))
+
+pub batch_set : (channel : List ℕ) (b : Batch) (bs : List Batch)
+    → batch_of channel (set_named (λ (x : Batch). x.channel) b bs) ≡ (if bytes_eq channel b.channel then Some b else batch_of channel bs)
+batch_set channel b [] = refl
+batch_set channel b (x ∷ xs) = bool_case (bytes_eq b.channel x.channel)
+    (λ t. batch_of channel (if t then b ∷ xs else (if comes_before b.channel x.channel then b ∷ x ∷ xs else x ∷ set_named (λ (y : Batch). y.channel) b xs))
+    ≡ (if bytes_eq channel b.channel then Some b else (if bytes_eq channel x.channel then Some x else batch_of channel xs)))
+    (λ e. set_here channel b.channel x.channel (Some b) (Some x) (batch_of channel xs) e)
+    (λ e. bool_case (comes_before b.channel x.channel) (λ t. batch_of channel (if t then b ∷ x ∷ xs else x ∷ set_named (λ (y : Batch). y.channel) b xs)
+    ≡ (if bytes_eq channel b.channel then Some b else (if bytes_eq channel x.channel then Some x else batch_of channel xs)))
+    (λ z. refl)
+    (λ z. ap (λ (o : Option Batch). if bytes_eq channel x.channel then Some x else o) (batch_set channel b xs)
+    ∙ set_behind channel b.channel x.channel (Some b) (Some x) (batch_of channel xs) e))
+
+-- an ident that no unit in doubt has any more
+pub doubt_less : (channel : List ℕ) (ident : Ident) (ss : List SenderSide) → in_doubt_of (sender_in channel (off_lists ident ss)) ≡ less_ident ident (in_doubt_of (sender_in channel ss))
+doubt_less channel ident [] = refl
+doubt_less channel ident (s ∷ ss) = bool_case (bytes_eq channel s.channel)
+    (λ b. in_doubt_of (if b then Some (off_list ident s).hardened else sender_in channel (off_lists ident ss)) ≡ less_ident ident (in_doubt_of (if b then Some s.hardened else sender_in channel ss)))
+    (λ e. refl) (λ e. doubt_less channel ident ss)
 
 pub queue_set : (name : List ℕ) (new : Queue) (qs : List Queue) → queue_in name (set_queue new qs) ≡ (if bytes_eq name new.name then new else queue_in name qs)
 queue_set name new [] = refl
@@ -77,18 +102,6 @@ queue_mapped f name (q ∷ qs) h k = ap (λ (x : List ℕ). if bytes_eq name x t
 
 abbrev none_at : Option Batch
 none_at = None
-
--- a batch that stands behind others
-abbrev pub or_batch : List ℕ → Batch → Option Batch → Option Batch
-or_batch channel b (Some other) = Some other
-or_batch channel b None = if bytes_eq channel b.channel then Some b else None
-
-pub batch_added : (channel : List ℕ) (b : Batch) (bs : List Batch) → batch_of channel (bs ++ b ∷ []) ≡ or_batch channel b (batch_of channel bs)
-batch_added channel b [] = refl
-batch_added channel b (x ∷ xs) = bool_case (bytes_eq channel x.channel)
-    (λ t. (if t then Some x else batch_of channel (xs ++ b ∷ [])) ≡ or_batch channel b (if t then Some x else batch_of channel xs))
-    (λ e. refl)
-    (λ e. batch_added channel b xs)
 
 pub batch_dropped : (channel other : List ℕ) (bs : List Batch) → batch_of channel (filter (λ (b : Batch). not (bytes_eq other b.channel)) bs) ≡ (if bytes_eq channel other then None else batch_of channel bs)
 batch_dropped channel other [] = bool_case (bytes_eq channel other) (λ t. none_at ≡ (if t then None else None)) (λ e. refl) (λ e. refl)

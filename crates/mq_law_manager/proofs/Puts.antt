@@ -19,10 +19,10 @@ use Rattle.mq_calls.specs.declared.state.Item.TheVariants.{Put}
 use Rattle.mq_spec_state.specs.State.Change.{CountIdent, Pend, OpenHandle, CloseHandle}
 use Rattle.mq_spec_state.specs.Reads.{connection_at, handle_at}
 use Rattle.mq_spec_state.specs.Changes.{apply, apply_all}
-use Rattle.mq_spec_state.specs.Steps.{Step, when, logged, do_part}
-use Rattle.mq_spec_manager.specs.Handles.{connected, for_handle, mqconn, mqopen, mqclose, open_up, open_resolved, close_up, close_handle, new_connection, conn_tests, open_tests, open_step, option_tests, new_handle, is_unfit}
+use Rattle.mq_spec_state.specs.Steps.{Step, when, logged, do_part, going_on, none_of}
+use Rattle.mq_spec_manager.specs.Handles.{connected, for_handle, mqconn, mqopen, mqclose, close_up, close_handle, new_connection, conn_tests, open_tests, open_step, option_tests, new_handle, is_unfit}
 use Rattle.mq_spec_manager.specs.Put.{mqput, mqput1, put_up, put_handle, put_route, put_part, put1_resolved, new_message, put_tests, put_step, queue_at, output_tests, handle_route, output_only, next_ident, placed, unit_record}
-use Rattle.mq_spec_agents.specs.Agents.{is_unborn}
+use Rattle.mq_spec_agents.specs.Words.{is_unborn}
 use Rattle.mq_law_manager.specs.View.{view}
 use Rattle.mq_law_manager.specs.Facts.{Sound, Holds}
 use Rattle.mq_law_manager.specs.Kept.{Keeps}
@@ -101,12 +101,14 @@ mqput1_keeps hc name qmgr md body sync p h = for_live (connected hc p) (put1_res
 pub mqconn_keeps : (qmgr : List ℕ) (appl : Appl) (p : Plain) → Sound p → Keeps (mqconn qmgr appl p) p
 mqconn_keeps qmgr appl p h = tested_keeps (conn_tests qmgr p) _ p (λ e. (subst Holds (sym (connects (new_connection appl p) p refl)) h, tt))
 
-open_keeps : (c : Connection) (how : Open) (r : Result Route Reason) (p : Plain) → Sound p → Keeps (open_resolved c how r p) p
-open_keeps c how (Err reason) p h = tt
-open_keeps c how (Ok route) p h = tested_keeps (open_tests c how route p) (open_step c how route) p (λ e. (subst Holds (sym (applied (OpenHandle c.number (new_handle how route c)) p tt)) h, tt))
+-- a call that goes on with what is found, or is refused
+on_keeps : {A F T : Type 0} (r : Result A F) (rest : A → Step F T) (p : Plain) → ((x : A) → Keeps (rest x) p) → Keeps (going_on r rest) p
+on_keeps (Err reason) rest p k = tt
+on_keeps (Ok x) rest p k = k x
 
 pub mqopen_keeps : (hc : Hconn) (name qmgr : List ℕ) (how : Open) (p : Plain) → Sound p → Keeps (mqopen hc name qmgr how p) p
-mqopen_keeps hc name qmgr how p h = for_live (connected hc p) (open_up name qmgr how p) p (λ c e. tested_keeps (option_tests how) (open_resolved c how (resolve p.definitions p.given.name name qmgr) p) p (λ w. open_keeps c how (resolve p.definitions p.given.name name qmgr) p h))
+mqopen_keeps hc name qmgr how p h = on_keeps (connected hc p) _ p (λ c. on_keeps (none_of (option_tests how)) _ p (λ u. on_keeps (resolve p.definitions p.given.name name qmgr) _ p
+    (λ route. on_keeps (none_of (open_tests c how route p)) (λ fits. open_step c how route) p (λ w. (subst Holds (sym (applied (OpenHandle c.number (new_handle how route c)) p tt)) h, tt)))))
 
 pub mqclose_keeps : (hc : Hconn) (ho : Hobj) (p : Plain) → Sound p → Keeps (mqclose hc ho p) p
 mqclose_keeps hc ho p h = for_live (connected hc p) (close_up ho) p (λ c e. for_open (handle_at ho.number c.handles) (close_handle c) p (λ x w. (subst Holds (sym (applied (CloseHandle c.number x.number) p tt)) h, tt)))

@@ -1,4 +1,4 @@
--- What a receiver's end commits keeps what holds of a manager's rows, where rows stand on queues that are defined.
+-- What a receiver's end commits keeps what holds of a manager's rows.
 use Rattle.std.proofs.Common.{ℕ, ◌≡◌, ◌≢◌, Bool, true, false, List, [], ◌∷◌, ◌++◌, refl, ap, sym, subst, ◌∙◌, length, arith, inl, inr}
 use Rattle.std.specs.Prelude.{Option, Some, None, Result, Ok, Err, is_some, cond, ◌==◌, if◌then◌else◌, not, ◌&&◌, ◌||◌, filter, find, nat_le, ℤ}
 use Rattle.std.specs.List.{list_any}
@@ -13,57 +13,43 @@ use Rattle.mq_message.specs.declared.place.Holder.TheVariants as holders
 use Rattle.mq_queue.specs.declared.row.Row.{Row}
 use Rattle.mq_queue.specs.Rows.{same_ident, has_ident}
 use Rattle.mq_objects.specs.declared.object.LocalQueue.{LocalQueue}
-use Rattle.mq_objects.specs.declared.object.Object.{Object}
-use Rattle.mq_objects.specs.declared.object.Object.TheVariants as objects
-use Rattle.mq_objects.specs.declared.object.Definitions.{Definitions}
-use Rattle.mq_objects.specs.Names.{Queues, local_of, locals_in, locals_of, as_local, object_in, channel_of, process_of}
+use Rattle.mq_objects.specs.Names.{local_of, channel_of, process_of}
 use Rattle.mq_resolve.specs.declared.route.Route.{Route}
 use Rattle.mq_resolve.specs.Resolved.{resolve}
 use Rattle.mq_sync.specs.declared.unit.Unit.{Unit as Luw}
 use Rattle.mq_sync.specs.declared.data.InDoubt.{InDoubt}
-use Rattle.mq_sync.specs.declared.data.SenderData.{SenderData}
 use Rattle.mq_sync.specs.declared.data.ReceiverData.{ReceiverData}
 use Rattle.mq_calls.specs.declared.records.Add.{Add}
 use Rattle.mq_calls.specs.declared.records.LogRecord.{LogRecord}
-use Rattle.mq_spec_state.specs.State.{Plain, Change, Connection, Item, Batch, LogState, Which}
+use Rattle.mq_spec_state.specs.State.{Plain, Change, Connection, Item, Batch, LogState, Queue}
 use Rattle.mq_calls.specs.declared.state.Item.TheVariants.{Put, Take}
 use Rattle.mq_spec_state.specs.State.Which.{Among}
-use Rattle.mq_spec_state.specs.State.Change.{Place as Places, Try, Leave, SetSender, SetReceiver, SetBound}
-use Rattle.mq_spec_state.specs.Reads.{stored, connection_at, sender_data, receiver_data, in_doubt_of, is_persistent, is_full, depth, has_priority}
+use Rattle.mq_spec_state.specs.State.Change.{Try, Leave, SetReceiver, Undoubt, SetBound}
+use Rattle.mq_spec_state.specs.Reads.{stored, queue_in, connection_at, receiver_data, is_persistent, is_full, depth, has_priority}
 use Rattle.mq_spec_state.specs.Condition.{condition, by_type, is_served}
 use Rattle.mq_objects.specs.declared.object.TriggerType.{TriggerType}
 use Rattle.mq_objects.specs.declared.object.TriggerType.TheVariants as triggers
-use Rattle.mq_spec_state.specs.Changes.{apply, apply_all, try_if}
+use Rattle.mq_spec_state.specs.Changes.{apply, apply_all, try_if, less_ident}
 use Rattle.mq_spec_state.specs.Sizes.{need}
 use Rattle.mq_spec_state.specs.Steps.{Test, when, refusal, logged, written}
 use Rattle.mq_spec_state.specs.Steps.Step.{Do}
-use Rattle.mq_calls.specs.declared.deltas.Did.TheVariants as did
 use Rattle.mq_spec_manager.specs.Put.{placed, queue_at, max_depth, full_tests, placing_tests, inhibited_tests, length_tests, output_only}
 use Rattle.mq_spec_manager.specs.Handles.{is_unfit}
-use Rattle.mq_spec_agents.specs.Agents.{row_of, doubts, doubter_by, Standing, Absent, InDoubtAt, Present, standing_by, has_put, is_pending, is_unborn, standing_of, standing_at, is_present, less_ident, less, drop_changes, Landing, route_tests, can_take_dead, dead_or, dead_letter, uses_dead, land, land_resolved, land_tested, names_of, Landed, before, landed, land_changes, received_record, receive, receive_landed, sender_or, receiver_or}
+use Rattle.mq_sync.specs.Settlement.{receiver_or}
+use Rattle.mq_spec_agents.specs.Words.{RowAt, row_found, row_of, doubts, is_doubted_by, Standing, Absent, InDoubtAt, Present, same_flag, standing_by, has_put, is_pending, is_unborn, standing_at, is_present, undoubted, drop_changes, Landing, route_tests, can_take_dead, dead_or, dead_letter, uses_dead, land, land_resolved, land_tested, names_of, Landed, before, landed_by, landed_unless, landed, land_changes, received_record, received_part, receive, receive_landed}
 use Rattle.mq_law_manager.specs.View.{View, view, puts_in, items_of}
-use Rattle.mq_law_manager.specs.Facts.{Mem, ident_of, IsOf, Sound, Holds}
-use Rattle.mq_law_manager.specs.Seen.{goes_if, row_for}
-use Rattle.mq_law_manager.specs.Kept.{Keeps, AreDefined}
-use Rattle.mq_law_manager.proofs.Lists.{bool_case, ident_yes, ident_self, name_yes, mem_keep, mem_inserted_at, one_row}
+use Rattle.mq_law_manager.specs.Facts.{Mem, ident_of, IsOf, Sound, Holds, AreNamed}
+use Rattle.mq_law_manager.specs.Seen.{goes_if}
+use Rattle.mq_law_manager.specs.Kept.{Keeps}
+use Rattle.mq_law_manager.proofs.Lists.{bool_case, ident_yes, ident_self, one_row}
 use Rattle.mq_law_manager.proofs.Apart.{IsNew}
+use Rattle.mq_law_manager.proofs.Named as named
+use Rattle.mq_law_manager.proofs.Named.{name_turned}
+use Rattle.mq_law_manager.proofs.QueueNames.{all_named}
 use Rattle.mq_law_manager.proofs.SeenLaws.{applied}
 use Rattle.mq_law_manager.proofs.Steps.{goes, among_other}
 use Rattle.mq_law_manager.proofs.Units.{sound_placed, behind, tested_keeps}
 use Rattle.mq_law_manager.proofs.Handling.{find_mem, left_new}
-
--- Local queues by name, and in order
-
-pub locals_have : (q : List ℕ) (os : List Object) → is_some (as_local (object_in Queues q os)) ≡ true → (l : LocalQueue) × Mem l (locals_in os) × (l.name ≡ q)
-locals_have q [] e = absurd cc
-locals_have q (objects.Local l ∷ rest) e = bool_case (bytes_eq q l.name) (λ b. bytes_eq q l.name ≡ b → is_some (as_local (if b then Some (objects.Local l) else object_in Queues q rest)) ≡ true → (x : LocalQueue) × Mem x (l ∷ locals_in rest) × (x.name ≡ q))
-    (λ z w f. (l, inl refl, sym (name_yes q l.name w))) (λ z w f. let k = locals_have q rest f in (k.0, inr k.1, k.2)) refl e
-locals_have q (objects.Alias l ∷ rest) e = bool_case (bytes_eq q l.name) (λ b. is_some (as_local (if b then Some (objects.Alias l) else object_in Queues q rest)) ≡ true → (x : LocalQueue) × Mem x (locals_in rest) × (x.name ≡ q))
-    (λ z f. absurd cc) (λ z f. locals_have q rest f) e
-locals_have q (objects.Remote l ∷ rest) e = bool_case (bytes_eq q l.name) (λ b. is_some (as_local (if b then Some (objects.Remote l) else object_in Queues q rest)) ≡ true → (x : LocalQueue) × Mem x (locals_in rest) × (x.name ≡ q))
-    (λ z f. absurd cc) (λ z f. locals_have q rest f) e
-locals_have q (objects.Channel l ∷ rest) e = locals_have q rest e
-locals_have q (objects.Process l ∷ rest) e = locals_have q rest e
 
 -- A row is looked for by its ident
 
@@ -76,37 +62,44 @@ find_none i (x ∷ xs) h e m = bool_case (has_ident i x) (λ b. has_ident i x �
     at w f (inl k) = λ y. cc (w, ap (λ (r : Row). same_ident r.message.ident i) k, ap (λ (j : Ident). same_ident j i) y, ident_self i)
     at w f (inr k) = f k
 
-row_absent : (i : Ident) (ls : List LocalQueue) (p : Plain) → row_of i ls p ≡ None → (l : LocalQueue) → Mem l ls → (h : Row) → Mem h ((view p).rows l.name) → i ≢ h.message.ident
-row_absent i [] p e l m h k = absurd m
-row_absent i (q ∷ qs) p e l m h k = at (λ f n. row_absent i qs p f l n h k) (find (has_ident i) (stored q.name p).rows) refl e m
+row_absent : (i : Ident) (qs : List Queue) → row_of i qs ≡ None → (d : List ℕ) (h : Row) → Mem h (queue_in d qs).rows → i ≢ h.message.ident
+row_absent i [] e d h m = absurd m
+row_absent i (q ∷ qs) e d h m = at (λ f n. row_absent i qs f d h n) (find (has_ident i) q.rows) refl e
   where
-    at : (row_of i qs p ≡ None → Mem l qs → i ≢ h.message.ident) → (o : Option Row) → find (has_ident i) (stored q.name p).rows ≡ o → (elim o as (λ r. Option (List ℕ × Row)) [ None ↦ row_of i qs p | Some row ↦ Some (q.name, row) ]) ≡ None → Mem l (q ∷ qs) → i ≢ h.message.ident
-    at rest (Some r) w f n = absurd cc
-    at rest None w f (inl n) = λ y. find_none i (stored q.name p).rows h w (subst (λ (z : LocalQueue). Mem h ((view p).rows z.name)) n k) (sym y)
-    at rest None w f (inr n) = rest f n
+    at : (row_of i qs ≡ None → Mem h (queue_in d qs).rows → i ≢ h.message.ident) → (o : Option Row) → find (has_ident i) q.rows ≡ o → row_found o q.name (row_of i qs) ≡ None → i ≢ h.message.ident
+    at rest (Some r) w f = absurd cc
+    at rest None w f = bool_case (bytes_eq d q.name) (λ b. Mem h (if b then q else queue_in d qs).rows → i ≢ h.message.ident)
+        (λ z n y. find_none i q.rows h w n (sym y)) (λ z n. rest f n) m
 
-abbrev at_of : List ℕ → Row → List ℕ × Row
-at_of a x = (a, x)
+abbrev found_at : RowAt → Option RowAt → RowAt
+found_at d None = d
+found_at d (Some at) = at
 
-abbrev first_at : List ℕ → Option (List ℕ × Row) → List ℕ
-first_at d None = d
-first_at d (Some z) = z.0
-
-abbrev second_at : Row → Option (List ℕ × Row) → Row
-second_at r None = r
-second_at r (Some z) = z.1
-
-pair : (a d : List ℕ) (x r : Row) → Some (at_of a x) ≡ Some (at_of d r) → (a ≡ d) × (x ≡ r)
-pair a d x r w = (ap (first_at d) w, ap (second_at r) w)
-
-row_there : (i : Ident) (ls : List LocalQueue) (p : Plain) (d : List ℕ) (r : Row) → row_of i ls p ≡ Some (at_of d r) → Mem r ((view p).rows d) × (r.message.ident ≡ i)
-row_there i [] p d r e = absurd cc
-row_there i (q ∷ qs) p d r e = at (λ f. row_there i qs p d r f) (find (has_ident i) (stored q.name p).rows) refl e
+-- a row that is found is of a queue that is there
+row_named : (i : Ident) (qs : List Queue) (at : RowAt) → row_of i qs ≡ Some at → (q : Queue) × Mem q qs × (q.name ≡ at.queue)
+row_named i [] at e = absurd cc
+row_named i (q ∷ qs) at e = by (λ f. row_named i qs at f) (find (has_ident i) q.rows) e
   where
-    at : (row_of i qs p ≡ Some (at_of d r) → Mem r ((view p).rows d) × (r.message.ident ≡ i)) → (o : Option Row) → find (has_ident i) (stored q.name p).rows ≡ o → (elim o as (λ r. Option (List ℕ × Row)) [ None ↦ row_of i qs p | Some row ↦ Some (q.name, row) ]) ≡ Some (at_of d r) → Mem r ((view p).rows d) × (r.message.ident ≡ i)
-    at rest None w f = rest f
-    at rest (Some x) w f = let k = find_mem i (stored q.name p).rows x w in let z = pair q.name d x r f in
-        (subst (λ (y : Row). Mem y ((view p).rows d)) z.1 (subst (λ (n : List ℕ). Mem x ((view p).rows n)) z.0 k.0), sym (ap ident_of z.1) ∙ k.1)
+    by : (row_of i qs ≡ Some at → (x : Queue) × Mem x qs × (x.name ≡ at.queue)) → (o : Option Row) → row_found o q.name (row_of i qs) ≡ Some at → (x : Queue) × Mem x (q ∷ qs) × (x.name ≡ at.queue)
+    by rest (Some r) f = (q, inl refl, ap (λ (o : Option RowAt). (found_at at o).queue) f)
+    by rest None f = let k = rest f in (k.0, inr k.1, k.2)
+
+row_there : (i : Ident) (qs : List Queue) (at : RowAt) → AreNamed qs → row_of i qs ≡ Some at → Mem at.row (queue_in at.queue qs).rows × (at.row.message.ident ≡ i)
+row_there i [] at n e = absurd cc
+row_there i (q ∷ qs) at n e = by (λ f. row_there i qs at n.1 f) (find (has_ident i) q.rows) refl e
+  where
+    by : (row_of i qs ≡ Some at → Mem at.row (queue_in at.queue qs).rows × (at.row.message.ident ≡ i)) → (o : Option Row) → find (has_ident i) q.rows ≡ o → row_found o q.name (row_of i qs) ≡ Some at → Mem at.row (queue_in at.queue (q ∷ qs)).rows × (at.row.message.ident ≡ i)
+    by rest (Some r) w f =
+        let k = find_mem i q.rows r w in
+        let here : q.name ≡ at.queue = ap (λ (o : Option RowAt). (found_at at o).queue) f in
+        let row : r ≡ at.row = ap (λ (o : Option RowAt). (found_at at o).row) f in (
+          subst (λ (x : Row). Mem x (queue_in at.queue (q ∷ qs)).rows) row (subst (λ (b : Bool). Mem r (if b then q else queue_in at.queue qs).rows) (sym (named.name_yes at.queue q.name (sym here))) k.0),
+          sym (ap ident_of row) ∙ k.1,
+        )
+    by rest None w f =
+        let k = rest f in
+        let x = row_named i qs at f in
+        (subst (λ (b : Bool). Mem at.row (if b then q else queue_in at.queue qs).rows) (sym (name_turned at.queue q.name ∙ ap (bytes_eq q.name) (sym x.2) ∙ n.0 x.0 x.1)) k.0, k.1)
 
 -- Uncommitted puts are looked for
 
@@ -128,40 +121,48 @@ pending_absent i n (c ∷ cs) a e = let z = or_none (list_any (has_put i) c.unit
 
 -- What a standing says
 
-pub record IsDoubted (c q : List ℕ) (i : Ident) (p : Plain) : Type 0 where
+pub record IsDoubted (q : List ℕ) (i : Ident) (p : Plain) : Type 0 where
   pub row : Row
   pub there : Mem row ((view p).rows q)
   pub is : row.message.ident ≡ i
-  pub by : row.by ≡ Some (holders.Batch c)
-  pub doubted : doubts i ((view p).doubt c) ≡ true
+  pub channel : List ℕ
+  pub by : row.by ≡ Some (holders.Batch channel)
+  pub doubted : doubts i ((view p).doubt channel) ≡ true
 
 abbrev pub IsStanding : Standing → Ident → Plain → Type 0
 IsStanding Absent i p = IsNew i (view p).rows (view p).puts (view p).unborn
-IsStanding (InDoubtAt c q) i p = IsDoubted c q i p
+IsStanding (InDoubtAt q) i p = IsDoubted q i p
 IsStanding Present i p = Unit {0}
 
-by_standing : (i : Ident) (p : Plain) (d : List ℕ) (r : Row) (b : Option Holder) → r.by ≡ b → Mem r ((view p).rows d) → r.message.ident ≡ i → IsStanding (standing_by d (doubter_by i b p)) i p
-by_standing i p d r None e m is = tt
-by_standing i p d r (Some (holders.Unit n)) e m is = tt
-by_standing i p d r (Some (holders.Batch c)) e m is = bool_case (doubts i ((view p).doubt c)) (λ t. doubts i ((view p).doubt c) ≡ t → IsStanding (standing_by d (if t then Some c else None)) i p)
-    (λ z w. record { row = r; there = m; is = is; by = e; doubted = w }) (λ z w. tt) refl
+left_of : (a b : Bool) → (a && b) ≡ true → a ≡ true
+left_of true b e = refl
+left_of false b e = absurd cc
 
-pub standing_is : (i : Ident) (p : Plain) → AreDefined p → IsStanding (standing_at i p) i p
-standing_is i p defined = at (row_of i (locals_of p.definitions) p) refl
+doubted_by : (i : Ident) (p : Plain) (d : List ℕ) (r : Row) (b : Option Holder) → r.by ≡ b → Mem r ((view p).rows d) → r.message.ident ≡ i → is_doubted_by i b p ≡ true → IsDoubted d i p
+doubted_by i p d r None e m is w = absurd cc
+doubted_by i p d r (Some (holders.Unit n)) e m is w = absurd cc
+doubted_by i p d r (Some (holders.Batch c)) e m is w = record { row = r; there = m; is = is; channel = c; by = e; doubted = w }
+
+pub standing_is : (m : Message) (p : Plain) → AreNamed p.queues → IsStanding (standing_at m p) m.ident p
+standing_is m p names = at (row_of m.ident p.queues) refl
   where
-    at : (o : Option (List ℕ × Row)) → row_of i (locals_of p.definitions) p ≡ o → IsStanding (standing_of i o p) i p
-    at (Some z) e = let k = row_there i (locals_of p.definitions) p z.0 z.1 e in by_standing i p z.0 z.1 z.1.by refl k.0 k.1
-    at None e = bool_case (is_pending i p || is_unborn i p) (λ b. (is_pending i p || is_unborn i p) ≡ b → IsStanding (if b then Present else Absent) i p) (λ z w. tt)
-        (λ z w. let n = or_none (is_pending i p) (is_unborn i p) w in record {
+    at : (o : Option RowAt) → row_of m.ident p.queues ≡ o → IsStanding (standing_by m o p) m.ident p
+    at (Some z) e =
+        let k = row_there m.ident p.queues z names e in
+        let same : Bool = same_flag (is_persistent m) (is_persistent z.row.message) in
+        bool_case (is_doubted_by m.ident z.row.by p && same) (λ b. (is_doubted_by m.ident z.row.by p && same) ≡ b → IsStanding (if b then InDoubtAt z.queue else Present) m.ident p)
+        (λ y w. doubted_by m.ident p z.queue z.row z.row.by refl k.0 k.1 (left_of (is_doubted_by m.ident z.row.by p) same w)) (λ y w. tt) refl
+    at None e = bool_case (is_pending m.ident p || is_unborn m.ident p) (λ b. (is_pending m.ident p || is_unborn m.ident p) ≡ b → IsStanding (if b then Present else Absent) m.ident p) (λ z w. tt)
+        (λ z w. let n = or_none (is_pending m.ident p) (is_unborn m.ident p) w in record {
           given = n.1;
-          no_row = λ q h m. let k = locals_have q p.definitions.objects (defined q h m) in row_absent i (locals_of p.definitions) p e k.0 k.1 h (subst (λ (x : List ℕ). Mem h ((view p).rows x)) (sym k.2) m);
-          no_put = λ n a m. pending_absent i n p.connections a (or_none (is_pending i p) (is_unborn i p) w).0 m;
+          no_row = λ q h k. row_absent m.ident p.queues e q h k;
+          no_put = λ n a k. pending_absent m.ident n p.connections a (or_none (is_pending m.ident p) (is_unborn m.ident p) w).0 k;
         }) refl
 
 -- A message that came back to a row of a unit in doubt: the row goes, and the unit may forget it
 
-doubted_alone : (c q : List ℕ) (i : Ident) (p : Plain) → Sound p → IsDoubted c q i p → (d : List ℕ) (x : Row) → Mem x ((view p).rows d) → x.message.ident ≡ i → x.by ≡ Some (holders.Batch c)
-doubted_alone c q i p h s d x m e =
+doubted_alone : (q : List ℕ) (i : Ident) (p : Plain) → Sound p → (s : IsDoubted q i p) → (d : List ℕ) (x : Row) → Mem x ((view p).rows d) → x.message.ident ≡ i → x.by ≡ Some (holders.Batch s.channel)
+doubted_alone q i p h s d x m e =
     let same : x.message.ident ≡ s.row.message.ident = e ∙ sym s.is in
     let queue : d ≡ q = h.apart.alone d q x s.row m s.there same in
     ap (λ (r : Row). r.by) (one_row ((view p).rows q) x s.row (h.apart.once q) (subst (λ (n : List ℕ). Mem x ((view p).rows n)) queue m) s.there same) ∙ s.by
@@ -174,12 +175,12 @@ the_channel (Some (holders.Batch c)) = c
 no_batch_of : (c : List ℕ) (i : Ident) (p : Plain) → Sound p → doubts i ((view p).doubt c) ≡ true → (b : Batch) → (view p).batch c ≡ Some b → ⊥
 no_batch_of c i p h e b is = cc (ap (doubts i) (h.batched.one c b is), e)
 
-doubt_left : (c q : List ℕ) (i : Ident) (p : Plain) → Sound p → IsDoubted c q i p → Sound (apply (Leave (Among q (i ∷ []))) p)
-doubt_left c q i p h s = subst Holds (sym (applied (Leave (Among q (i ∷ []))) p tt)) (goes (view p) (goes_if (Among q (i ∷ []))) h
-    (λ d x n m by. ap not (among_other q i d x (λ e. cc (by, doubted_alone c q i p h s d x m e))))
+doubt_left : (q : List ℕ) (i : Ident) (p : Plain) → Sound p → IsDoubted q i p → Sound (apply (Leave (Among q (i ∷ []))) p)
+doubt_left q i p h s = subst Holds (sym (applied (Leave (Among q (i ∷ []))) p tt)) (goes (view p) (goes_if (Among q (i ∷ []))) h
+    (λ d x n m by. ap not (among_other q i d x (λ e. cc (by, doubted_alone q i p h s d x m e))))
     (λ d x k b m by is. ap not (among_other q i d x (λ e.
-    let same : k ≡ c = ap the_channel (sym by ∙ doubted_alone c q i p h s d x m e) in
-    no_batch_of c i p h s.doubted b (ap (view p).batch (sym same) ∙ is)))))
+    let same : k ≡ s.channel = ap the_channel (sym by ∙ doubted_alone q i p h s d x m e) in
+    no_batch_of s.channel i p h s.doubted b (ap (view p).batch (sym same) ∙ is)))))
 
 less_of : (q : List ℕ) (i j : Ident) (b : Option Batch) (o : Option InDoubt) → j ≢ i → IsOf q j b o → IsOf q j b (less_ident i o)
 less_of q i j (Some b) o ne s = s
@@ -196,45 +197,32 @@ less_none : (i : Ident) (o : Option InDoubt) → o ≡ None → less_ident i o �
 less_none i None e = refl
 less_none i (Some d) e = absurd cc
 
-sound_less : (c : List ℕ) (i : Ident) (d : SenderData) (p : Plain) → Sound p → d.in_doubt ≡ less_ident i ((view p).doubt c) → ((q : List ℕ) (x : Row) → Mem x ((view p).rows q) → x.message.ident ≢ i) → Sound (apply (SetSender c d) p)
-sound_less c i d p h is gone =
+-- no unit in doubt has an ident any more that stands in no row
+sound_undoubted : (i : Ident) (p : Plain) → Sound p → ((q : List ℕ) (x : Row) → Mem x ((view p).rows q) → i ≢ x.message.ident) → Sound (apply (Undoubt i) p)
+sound_undoubted i p h gone =
     let v : View = view p in
-    subst Holds (sym (applied (SetSender c d) p tt)) (record {
+    subst Holds (sym (applied (Undoubt i) p tt)) (record {
       apart = h.apart;
       taken = h.taken;
       batched = record {
-        of = λ q x k m e. bool_case (bytes_eq k c) (λ t. bytes_eq k c ≡ t → IsOf q x.message.ident (v.batch k) (if t then d.in_doubt else v.doubt k))
-            (λ z w. subst (λ (o : Option InDoubt). IsOf q x.message.ident (v.batch k) o) (ap (λ (n : List ℕ). less_ident i (v.doubt n)) (name_yes k c w) ∙ sym is) (less_of q i x.message.ident (v.batch k) (v.doubt k) (gone q x m) (h.batched.of q x k m e)))
-            (λ z w. h.batched.of q x k m e) refl;
+        of = λ q x k m e. less_of q i x.message.ident (v.batch k) (v.doubt k) (λ z. gone q x m (sym z)) (h.batched.of q x k m e);
         full = h.batched.full;
-        one = λ k b e. bool_case (bytes_eq k c) (λ t. bytes_eq k c ≡ t → (if t then d.in_doubt else v.doubt k) ≡ None)
-            (λ z w. is ∙ less_none i (v.doubt c) (ap v.doubt (sym (name_yes k c w)) ∙ h.batched.one k b e)) (λ z w. h.batched.one k b e) refl;
+        one = λ k b e. less_none i (v.doubt k) (h.batched.one k b e);
       };
       ordered = h.ordered;
     })
 
-sender_doubt : (o : Option SenderData) → (sender_or o).in_doubt ≡ in_doubt_of o
-sender_doubt None = refl
-sender_doubt (Some d) = refl
+-- a message is placed that is new: it is off all lists, where it lasts
+new_lands : (b : Bool) (q : List ℕ) (m : Message) (p : Plain) → Sound p → IsNew m.ident (view p).rows (view p).puts (view p).unborn → Sound (apply_all (undoubted b m.ident ++ placed q m) p)
+new_lands true q m p h new = sound_placed q m (apply (Undoubt m.ident) p) (sound_undoubted m.ident p h new.no_row) new
+new_lands false q m p h new = sound_placed q m p h new
 
 -- a message lands where it stands nowhere, or after its row was dropped
-land_sound : (q : List ℕ) (m : Message) (s : Standing) (p : Plain) → Sound p → IsStanding s m.ident p → is_present s ≡ false → Sound (apply_all (drop_changes m s p ++ placed q m) p)
-land_sound q m Absent p h s e = sound_placed q m p h s
+land_sound : (q : List ℕ) (m : Message) (s : Standing) (p : Plain) → Sound p → IsStanding s m.ident p → is_present s ≡ false → Sound (apply_all (drop_changes m s ++ placed q m) p)
+land_sound q m Absent p h s e = new_lands (is_persistent m) q m p h s
 land_sound q m Present p h s e = absurd cc
-land_sound q m (InDoubtAt c from) p h s e =
-    let left : Plain = apply (Leave (Among from (m.ident ∷ []))) p in
-    let d : SenderData = sender_or (sender_data c p) in
-    let gone : Sound left = doubt_left c from m.ident p h s in
-    let new : IsNew m.ident (view left).rows (view p).puts (view p).unborn = subst (λ (i : Ident). IsNew i (view (apply (Leave (Among from (i ∷ []))) p)).rows (view p).puts (view p).unborn) s.is (left_new p from s.row h s.there) in
-    at (is_persistent m) left d gone new
-  where
-    at : (b : Bool) (left : Plain) (d : SenderData) → Sound (apply (Leave (Among from (m.ident ∷ []))) p) → IsNew m.ident (view (apply (Leave (Among from (m.ident ∷ []))) p)).rows (view p).puts (view p).unborn
-        → Sound (apply_all (less b m.ident (sender_or (sender_data c p)) c ++ placed q m) (apply (Leave (Among from (m.ident ∷ []))) p))
-    at false left d gone new = sound_placed q m (apply (Leave (Among from (m.ident ∷ []))) p) gone new
-    at true left d gone new =
-        let x : SenderData = record (sender_or (sender_data c p)) { in_doubt = less_ident m.ident (sender_or (sender_data c p)).in_doubt } in
-        sound_placed q m (apply (SetSender c x) (apply (Leave (Among from (m.ident ∷ []))) p))
-        (sound_less c m.ident x (apply (Leave (Among from (m.ident ∷ []))) p) gone (ap (less_ident m.ident) (sender_doubt (sender_data c p))) (λ n y k w. new.no_row n y k (sym w))) new
+land_sound q m (InDoubtAt from) p h s e = new_lands (is_persistent m) q m (apply (Leave (Among from (m.ident ∷ []))) p) (doubt_left from m.ident p h s)
+    (subst (λ (i : Ident). IsNew i (view (apply (Leave (Among from (i ∷ []))) p)).rows (view p).puts (view p).unborn) s.is (left_new p from s.row h s.there))
 
 -- Where a message lands, the queue is defined
 
@@ -284,72 +272,34 @@ land_is channel m p = at (resolve p.definitions p.given.name (names_of m.route).
     at (Err reason) = dead_is channel reason m p
     at (Ok route) = tests route (refusal (route_tests route (length m.body) p)) refl
 
--- Rows stay on queues that are defined
-
-tried_definitions : (b : Bool) (name : List ℕ) (p : Plain) → (try_if b name p).definitions ≡ p.definitions
-tried_definitions true name p = refl
-tried_definitions false name p = refl
-
-defined_placed : (name : List ℕ) (m : Message) (p : Plain) → AreDefined p → is_some (local_of name p.definitions) ≡ true → AreDefined (apply_all (placed name m) p)
-defined_placed name m p d is q h n =
-    let placed_one : Plain = apply (Places name m) p in
-    let row : Row = row_for name m p in
-    let same : (apply_all (placed name m) p).definitions ≡ p.definitions = tried_definitions (condition (local_of name placed_one.definitions) m.md.priority placed_one) name placed_one in
-    let there : Mem h ((view placed_one).rows q) = subst (λ (v : View). Mem h (v.rows q)) (applied (Try name m.md.priority) placed_one tt) n in
-    ap (λ (x : Definitions). is_some (local_of q x)) same
-    ∙ elim (mem_inserted_at name row (view p).rows q h (subst (λ (v : View). Mem h (v.rows q)) (applied (Places name m) p tt) there)) [
-      | inl z ↦ ap (λ (x : List ℕ). is_some (local_of x p.definitions)) z.0 ∙ is
-      | inr z ↦ d q h z
-    ]
-
-defined_left : (which : Which) (p : Plain) → AreDefined p → AreDefined (apply (Leave which) p)
-defined_left which p d q h n = d q h (mem_keep (goes_if which q) h ((view p).rows q) (subst (λ (v : View). Mem h (v.rows q)) (applied (Leave which) p tt) n)).0
-
-land_defined : (q : List ℕ) (m : Message) (s : Standing) (p : Plain) → AreDefined p → is_some (local_of q p.definitions) ≡ true → AreDefined (apply_all (drop_changes m s p ++ placed q m) p)
-land_defined q m Absent p d is = defined_placed q m p d is
-land_defined q m Present p d is = defined_placed q m p d is
-land_defined q m (InDoubtAt c from) p d is = at (is_persistent m)
-  where
-    at : (b : Bool) → AreDefined (apply_all (less b m.ident (sender_or (sender_data c p)) c ++ placed q m) (apply (Leave (Among from (m.ident ∷ []))) p))
-    at false = defined_placed q m (apply (Leave (Among from (m.ident ∷ []))) p) (defined_left (Among from (m.ident ∷ [])) p d) is
-    at true = defined_placed q m (apply (SetSender c (record (sender_or (sender_data c p)) { in_doubt = less_ident m.ident (sender_or (sender_data c p)).in_doubt })) (apply (Leave (Among from (m.ident ∷ []))) p))
-        (λ n x k. defined_left (Among from (m.ident ∷ [])) p d n x k) is
-
 -- The batch, message by message
 
 abbrev pub EachLanded : Plain → Result Landed Reason → Type 0
 EachLanded p (Err reason) = Unit {0}
 EachLanded p (Ok l) = Sound (apply_all l.changes p)
 
-before_keeps : (l : Landing) (s : Standing) (p : Plain) (rest : Result Landed Reason) → EachLanded (apply_all (land_changes l s p) p) rest → EachLanded p (before l s p rest)
-before_keeps l s p (Err reason) h = tt
-before_keeps l s p (Ok rest) h = subst Sound (sym (behind (land_changes l s p) rest.changes p)) h
+before_keeps : (m : Message) (l : Landing) (s : Standing) (p : Plain) (rest : Result Landed Reason) → EachLanded (apply_all (land_changes l s) p) rest → EachLanded p (before m l s rest)
+before_keeps m l s p (Err reason) h = tt
+before_keeps m l s p (Ok rest) h = subst Sound (sym (behind (land_changes l s) rest.changes p)) h
 
-pub landed_keeps : (channel : List ℕ) (ms : List Message) (p : Plain) → Sound p → AreDefined p → EachLanded p (landed channel ms p)
-landed_keeps channel [] p h d = h
-landed_keeps channel (m ∷ ms) p h d =
-    let s : Standing = standing_at m.ident p in
-    bool_case (is_present s) (λ b. is_present s ≡ b → EachLanded p (elim b as (λ b. Result Landed Reason) [
-      | true ↦ landed channel ms p
-      | false ↦ elim (land channel m p) as (λ l. Result Landed Reason) [
-        | Err reason ↦ Err reason
-        | Ok l ↦ before l (standing_at m.ident p) p (landed channel ms (apply_all (land_changes l (standing_at m.ident p) p) p))
-      ]
-    ]))
-    (λ z w. landed_keeps channel ms p h d)
-    (λ z w. at (λ q. landed_keeps channel ms q) w (land channel m p) (land_is channel m p)) refl
-  where
-    at : ((q : Plain) → Sound q → AreDefined q → EachLanded q (landed channel ms q)) → is_present (standing_at m.ident p) ≡ false → (o : Result Landing Reason) → IsLanding m p o → EachLanded p (elim o as (λ l. Result Landed Reason) [
-      | Err reason ↦ Err reason
-      | Ok l ↦ before l (standing_at m.ident p) p (landed channel ms (apply_all (land_changes l (standing_at m.ident p) p) p))
-    ])
-    at rest w (Err reason) k = tt
-    at rest w (Ok l) k =
-        let s : Standing = standing_at m.ident p in
-        before_keeps l s p (landed channel ms (apply_all (land_changes l s p) p))
-        (rest (apply_all (land_changes l s p) p)
-        (land_sound l.queue l.message s p h (subst (λ (i : Ident). IsStanding s i p) (sym k.0) (standing_is m.ident p d)) w)
-        (land_defined l.queue l.message s p d k.1))
+abbrev AllLand : (Plain → Result Landed Reason) → Type 0
+AllLand rest = (q : Plain) → Sound q → AreNamed q.queues → EachLanded q (rest q)
+
+by_keeps : (o : Result Landing Reason) (m : Message) (s : Standing) (p : Plain) (rest : Plain → Result Landed Reason) → Sound p → AreNamed p.queues → AllLand rest → IsLanding m p o → IsStanding s m.ident p → is_present s ≡ false
+    → EachLanded p (landed_by o m s p rest)
+by_keeps (Err reason) m s p rest h names all is st e = tt
+by_keeps (Ok l) m s p rest h names all is st e =
+    let q : Plain = apply_all (land_changes l s) p in
+    before_keeps m l s p (rest q) (all q (land_sound l.queue l.message s p h (subst (λ (i : Ident). IsStanding s i p) (sym is.0) st) e) (all_named (land_changes l s) p names))
+
+unless_keeps : (b : Bool) (channel : List ℕ) (m : Message) (s : Standing) (p : Plain) (rest : Plain → Result Landed Reason) → Sound p → AreNamed p.queues → AllLand rest → IsStanding s m.ident p → is_present s ≡ b
+    → EachLanded p (landed_unless b channel m s p rest)
+unless_keeps true channel m s p rest h names all st e = all p h names
+unless_keeps false channel m s p rest h names all st e = by_keeps (land channel m p) m s p rest h names all (land_is channel m p) st e
+
+pub landed_keeps : (channel : List ℕ) (ms : List Message) (p : Plain) → Sound p → AreNamed p.queues → EachLanded p (landed channel ms p)
+landed_keeps channel [] p h names = h
+landed_keeps channel (m ∷ ms) p h names = unless_keeps (is_present (standing_at m p)) channel m (standing_at m p) p (λ q. landed channel ms q) h names (λ q k n. landed_keeps channel ms q k n) (standing_is m p names) refl
 
 -- What the log has says nothing of rows
 
@@ -393,8 +343,8 @@ receive_keeps_of channel unit last (Ok l) p h =
     let x : ReceiverData = record (receiver_or (receiver_data channel p)) { unit = unit; last = last } in
     let q : Plain = logged (Some r) p in
     tested_keeps (when (is_full (need r) p) reasons.ResourceProblem ∷ [])
-    (Do tt (record { forced = Some r; changes = l.changes ++ SetReceiver channel x ∷ []; delta = l.delta ++ did.Received channel unit ∷ [] } ∷ [])) p
+    (Do tt (received_part channel unit last l p ∷ [])) p
     (λ e. (subst Sound (sym (behind l.changes (SetReceiver channel x ∷ []) q)) (subst Sound (sym (log_aside l.changes (written r p.log) p)) h), tt))
 
-pub receive_keeps : (channel : List ℕ) (unit : Luw) (last : ℕ) (batch : List Message) (p : Plain) → AreDefined p → Sound p → Keeps (receive channel unit last batch p) p
-receive_keeps channel unit last batch p d h = receive_keeps_of channel unit last (landed channel batch p) p (landed_keeps channel batch p h d)
+pub receive_keeps : (channel : List ℕ) (unit : Luw) (last : ℕ) (batch : List Message) (p : Plain) → AreNamed p.queues → Sound p → Keeps (receive channel unit last batch p) p
+receive_keeps channel unit last batch p n h = receive_keeps_of channel unit last (landed channel batch p) p (landed_keeps channel batch p h n)

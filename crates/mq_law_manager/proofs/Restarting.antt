@@ -1,115 +1,118 @@
--- A restart of a manager that was stopped, or whose stopped write isn't found, has the facts again.
-use Rattle.std.proofs.Common.{ℕ, ◌≡◌, ◌≢◌, ◌+◌, Bool, true, false, List, [], ◌∷◌, refl, ap, sym, subst, ◌∙◌, arith, map}
-use Rattle.std.specs.Prelude.{Option, Some, None, if◌then◌else◌, not, ◌&&◌, ◌||◌, ◌==◌, nat_lt}
+-- A restart has the facts again, since what lasts of a manager has them, stopped or frozen as it is.
+use Rattle.std.proofs.Common.{ℕ, ◌≡◌, ◌≢◌, ◌≤◌, ◌+◌, true, false, List, [], ◌∷◌, refl, ap, sym, subst, ◌∙◌, arith, inl, inr}
+use Rattle.std.specs.Prelude.{Option, Some, None, if◌then◌else◌, ◌&&◌, ◌||◌, ◌==◌, nat_lt}
 use Rattle.std.specs.Str.{bytes_eq}
 use Rattle.std.proofs.lemmas.Bool.Decides.{nat_tests}
 use Rattle.mq_message.specs.declared.message.Ident.{Ident}
+use Rattle.mq_message.specs.declared.place.Place.{Place}
 use Rattle.mq_message.specs.declared.place.Holder.{Holder}
 use Rattle.mq_message.specs.declared.place.Holder.TheVariants as holders
 use Rattle.mq_queue.specs.declared.row.Row.{Row}
-use Rattle.mq_queue.specs.Rows.{is_free, held_by}
-use Rattle.mq_spec_state.specs.State.{Plain, Batch, Noted}
-use Rattle.mq_spec_state.specs.State.Which.{HeldBy, HeldByUnits, Nonpersistent}
-use Rattle.mq_spec_state.specs.State.Change.{Leave, Release, ForgetAll, Uncount}
-use Rattle.mq_spec_state.specs.Reads.{is_by_unit}
-use Rattle.mq_spec_state.specs.Changes.{apply, apply_all, release_if}
-use Rattle.mq_spec_manager.specs.Stops.{at_rest, release_batch, risen, restarted}
-use Rattle.mq_spec_agents.specs.Agents.{is_unborn}
-use Rattle.mq_law_manager.specs.View.{View, view, at_name}
-use Rattle.mq_law_manager.specs.Facts.{ident_of, IsOf, Sound, Holds, AreStill}
-use Rattle.mq_law_manager.specs.Seen.{goes_if, freed_if}
-use Rattle.mq_law_manager.proofs.Lists.{bool_case, name_yes, mem_keep, mem_retag}
-use Rattle.mq_law_manager.proofs.Apart as apart
-use Rattle.mq_law_manager.proofs.TakenLaws as taken
-use Rattle.mq_law_manager.proofs.OrderLaws as ordered
-use Rattle.mq_law_manager.proofs.SeenLaws.{applied}
-use Rattle.mq_law_manager.proofs.Steps.{frees_mild, frees_places, is_held, unfreed_row, uncounts, gives}
-use Rattle.mq_law_manager.proofs.Units.{behind}
-use Rattle.mq_law_manager.proofs.Batches.{settled_free}
-use Rattle.mq_law_manager.proofs.Stopping.{no_puts, no_batch, resting, cleared, cleared_none}
+use Rattle.mq_queue.specs.Queues.{AllBehind, AreInOrder}
+use Rattle.mq_spec_state.specs.State.{Plain, Batch, Noted, Queue}
+use Rattle.mq_spec_state.specs.Reads.{queue_in, batch_of, is_persistent}
+use Rattle.mq_spec_state.specs.Images.{has_batch, rests_by, lasting_row, lasting_rows, shelves_of, lasting, raised}
+use Rattle.mq_spec_manager.specs.Stops.{restarted, grown}
+use Rattle.mq_law_manager.specs.View.{view}
+use Rattle.mq_law_manager.specs.Facts.{Mem, Differ, ident_of, IsOf, AreLaned, Sound, AreStill}
+use Rattle.mq_law_manager.proofs.Lists.{bool_case}
+use Rattle.mq_law_manager.proofs.Numbered.{ImageRests, rows_on, begins}
 
--- units
-units_still : (p : Plain) → AreStill (view p) → AreStill (resting (view (apply (Release HeldByUnits true) p)) (view p).batch)
-units_still p h =
-    let v : View = view p in
-    let change : List ℕ → Row → Row = freed_if HeldByUnits true in
-    subst (λ (w : View). AreStill (resting w (view p).batch)) (sym (applied (Release HeldByUnits true) p tt)) (record {
-      apart = apart.retags v.rows v.puts v.unborn change (λ d x. (frees_mild HeldByUnits true).ident d x) h.apart;
-      held = λ q x n m e. let k = mem_retag (change q) x (v.rows q) m in absurd (none k.0.by k.0 n refl (sym (ap (λ (r : Row). r.by) k.2) ∙ e));
-      of = λ q x c m e. let k = mem_retag (change q) x (v.rows q) m in
-          subst (λ (i : Ident). IsOf q i (v.batch c) (v.doubt c)) (sym (ap ident_of k.2 ∙ (frees_mild HeldByUnits true).ident q k.0))
-          (h.of q k.0 c k.1 (batch_from (is_by_unit k.0.by && not (is_free k.0)) k.0 c (sym (ap (λ (r : Row). r.by) k.2) ∙ e)));
-      ordered = ordered.retags v.rows v.arrivals change (frees_places HeldByUnits true) h.ordered;
-    })
-  where
-    none : (o : Option Holder) (x : Row) (n : ℕ) → x.by ≡ o → (release_if (is_by_unit x.by && not (is_free x)) true x).by ≢ Some (holders.Unit n)
-    none None x n e w = cc (unfreed_row (is_by_unit x.by && not (is_free x)) true x (ap (λ (b : Option Holder). is_by_unit b && not (is_free x)) e), e, w)
-    none (Some (holders.Batch c)) x n e w = cc (unfreed_row (is_by_unit x.by && not (is_free x)) true x (ap (λ (b : Option Holder). is_by_unit b && not (is_free x)) e), e, w)
-    none (Some (holders.Unit k)) x n e w = cc (ap (λ (t : Bool). (release_if t true x).by) (ap (λ (b : Option Holder). is_by_unit b && not (is_free x)) e ∙ ap not (is_held x (holders.Unit k) e)), w)
+-- What lasts of rows
 
-    batch_from : (t : Bool) (x : Row) (c : List ℕ) → (release_if t true x).by ≡ Some (holders.Batch c) → x.by ≡ Some (holders.Batch c)
-    batch_from true x c e = absurd cc
-    batch_from false x c e = e
+pub record IsLast (bs : List Batch) (h : Row) (rows : List Row) : Type 0 where
+  pub row : Row
+  pub there : Mem row rows
+  pub persistent : is_persistent row.message ≡ true
+  pub is : h ≡ lasting_row bs row
 
--- batches
-batch_still : (c : List ℕ) (p : Plain) (f : List ℕ → Option Batch) → AreStill (resting (view p) f) → AreStill (resting (view (apply (Release (HeldBy (holders.Batch c)) false) p)) (at_name c None f))
-batch_still c p f h =
-    let v : View = view p in
-    let change : List ℕ → Row → Row = freed_if (HeldBy (holders.Batch c)) false in
-    let s = settled_free c v.rows in
-    subst (λ (w : View). AreStill (resting w (at_name c None f))) (sym (applied (Release (HeldBy (holders.Batch c)) false) p tt)) (record {
-      apart = apart.retags v.rows v.puts v.unborn change (λ d x. (frees_mild (HeldBy (holders.Batch c)) false).ident d x) h.apart;
-      held = λ q x n m e. let k = mem_retag (change q) x (v.rows q) m in absurd (h.held q k.0 n k.1 (kept (held_by (holders.Batch c) k.0.by && not (is_free k.0)) k.0 n (sym (ap (λ (r : Row). r.by) k.2) ∙ e)));
-      of = λ q x k m e. bool_case (bytes_eq k c) (λ t. bytes_eq k c ≡ t → IsOf q x.message.ident (if t then None else f k) (v.doubt k))
-          (λ z w. absurd (s.none q x m (e ∙ ap (λ (n : List ℕ). Some (holders.Batch n)) (name_yes k c w))))
-          (λ z w. let r = s.from q x k m e in subst (λ (i : Ident). IsOf q i (f k) (v.doubt k)) r.is (h.of q r.row k r.there r.by)) refl;
-      ordered = ordered.retags v.rows v.arrivals change (frees_places (HeldBy (holders.Batch c)) false) h.ordered;
-    })
-  where
-    kept : (t : Bool) (x : Row) (n : ℕ) → (release_if t false x).by ≡ Some (holders.Unit n) → x.by ≡ Some (holders.Unit n)
-    kept true x n e = absurd cc
-    kept false x n e = e
+later : {bs : List Batch} {h : Row} {rows : List Row} (row : Row) → IsLast bs h rows → IsLast bs h (row ∷ rows)
+later row l = record { row = l.row; there = inr l.there; persistent = l.persistent; is = l.is }
 
-batches_still : (bs : List Batch) (p : Plain) (f : List ℕ → Option Batch) → AreStill (resting (view p) f) → AreStill (resting (view (apply_all (map release_batch bs) p)) (cleared bs f))
-batches_still [] p f h = h
-batches_still (b ∷ bs) p f h = batches_still bs (apply (Release (HeldBy (holders.Batch b.channel)) false) p) (at_name b.channel None f) (batch_still b.channel p f h)
+pub mem_lasting : (bs : List Batch) (rows : List Row) (h : Row) → Mem h (lasting_rows bs rows) → IsLast bs h rows
+mem_lasting bs [] h m = absurd m
+mem_lasting bs (row ∷ rows) h m = bool_case (is_persistent row.message) (λ b. is_persistent row.message ≡ b → Mem h (if b then lasting_row bs row ∷ lasting_rows bs rows else lasting_rows bs rows) → IsLast bs h (row ∷ rows))
+    (λ e z k. elim k [ inl w ↦ record { row = row; there = inl refl; persistent = z; is = w } | inr w ↦ later row (mem_lasting bs rows h w) ])
+    (λ e z k. later row (mem_lasting bs rows h k)) refl m
 
-lost : (p : Plain) → AreStill (resting (view p) no_batch) → AreStill (resting (view (apply (Leave Nonpersistent) p)) no_batch)
-lost p h =
-    let v : View = view p in
-    subst (λ (w : View). AreStill (resting w no_batch)) (sym (applied (Leave Nonpersistent) p tt)) (record {
-      apart = apart.keeps v.rows v.puts v.unborn (goes_if Nonpersistent) h.apart;
-      held = λ q x n m e. h.held q x n (mem_keep (goes_if Nonpersistent q) x (v.rows q) m).0 e;
-      of = λ q x c m e. h.of q x c (mem_keep (goes_if Nonpersistent q) x (v.rows q) m).0 e;
-      ordered = ordered.keeps v.rows v.arrivals (goes_if Nonpersistent) h.ordered;
-    })
+lasting_differ : (bs : List Batch) (rows : List Row) → Differ ident_of rows → Differ ident_of (lasting_rows bs rows)
+lasting_differ bs [] d = tt
+lasting_differ bs (row ∷ rows) d = bool_case (is_persistent row.message) (λ b. Differ ident_of (if b then lasting_row bs row ∷ lasting_rows bs rows else lasting_rows bs rows))
+    (λ e. (λ y m z. let k = mem_lasting bs rows y m in d.0 k.row k.there (z ∙ ap ident_of k.is), lasting_differ bs rows d.1))
+    (λ e. lasting_differ bs rows d.1)
 
-forgets : (p : Plain) → AreStill (resting (view p) no_batch) → Sound (apply ForgetAll p)
-forgets p h = subst Holds (sym (applied ForgetAll p tt)) (record {
-  apart = apart.fewer (view p).rows (view p).puts no_puts (view p).unborn (λ n x m. absurd m) (λ n. tt) h.apart;
-  taken = taken.clears (view p).rows (λ q x n m e. h.held q x n m e);
-  batched = record { of = h.of; full = λ c b i e m. absurd cc; one = λ c b e. absurd cc };
-  ordered = h.ordered;
-})
+lane_below : (l1 l2 a1 a2 : ℕ) → (nat_lt l1 l2 || ((l1 == l2) && nat_lt a1 a2)) ≡ true → l1 ≤ l2
+lane_below l1 l2 a1 a2 e = grind (arith, nat_tests)
 
--- at rest all facts hold again
-pub still_rests : (p : Plain) → AreStill (view p) → Sound (at_rest p)
-still_rests p h =
-    let q : Plain = apply (Release HeldByUnits true) p in
-    let r : Plain = apply_all (map release_batch p.channels.batches) q in
-    let freed : AreStill (resting (view r) (cleared p.channels.batches (view p).batch)) = batches_still p.channels.batches q (view p).batch (units_still p h) in
-    let none : AreStill (resting (view r) no_batch) = subst (λ (f : List ℕ → Option Batch). AreStill (resting (view r) f)) (λ i c. cleared_none p.channels.batches (view p).batch c refl i) freed in
-    subst Sound (sym (behind (map release_batch p.channels.batches) (Leave Nonpersistent ∷ ForgetAll ∷ []) q)) (forgets (apply (Leave Nonpersistent) r) (lost r none))
+pub behind_lane : (place : Place) (rows : List Row) → AllBehind place rows → (y : Row) → Mem y rows → place.lane ≤ y.place.lane
+behind_lane place [] h y m = absurd m
+behind_lane place (x ∷ xs) h y (inl e) = subst (λ (r : Row). place.lane ≤ r.place.lane) (sym e) (lane_below place.lane x.place.lane place.arrival x.place.arrival h.0)
+behind_lane place (x ∷ xs) h y (inr m) = behind_lane place xs h.1 y m
+
+pub in_lanes : (rows : List Row) → AreInOrder rows → AreLaned rows
+in_lanes [] h = tt
+in_lanes (row ∷ rows) h = (behind_lane row.place rows h.0, in_lanes rows h.1)
+
+lasting_laned : (bs : List Batch) (rows : List Row) → AreLaned rows → AreLaned (lasting_rows bs rows)
+lasting_laned bs [] h = tt
+lasting_laned bs (row ∷ rows) h = bool_case (is_persistent row.message) (λ b. AreLaned (if b then lasting_row bs row ∷ lasting_rows bs rows else lasting_rows bs rows))
+    (λ e. (λ y m. let k = mem_lasting bs rows y m in subst (λ (r : Row). row.place.lane ≤ r.place.lane) (sym k.is) (h.0 k.row k.there), lasting_laned bs rows h.1))
+    (λ e. lasting_laned bs rows h.1)
+
+-- who holds a row that lasts
+no_unit : (bs : List Batch) (b : Option Holder) (n : ℕ) → rests_by bs b ≢ Some (holders.Unit n)
+no_unit bs None n e = cc e
+no_unit bs (Some (holders.Unit k)) n e = cc e
+no_unit bs (Some (holders.Batch c)) n e = bool_case (has_batch c bs) (λ t. (if t then None else Some (holders.Batch c)) ≡ Some (holders.Unit n) → ⊥) (λ z w. cc w) (λ z w. cc w) e
+
+abbrev the_batch : List ℕ → Option Holder → List ℕ
+the_batch d None = d
+the_batch d (Some (holders.Unit n)) = d
+the_batch d (Some (holders.Batch c)) = c
+
+in_doubt : (bs : List Batch) (b : Option Holder) (c : List ℕ) → rests_by bs b ≡ Some (holders.Batch c) → (b ≡ Some (holders.Batch c)) × (has_batch c bs ≡ false)
+in_doubt bs None c e = absurd cc
+in_doubt bs (Some (holders.Unit k)) c e = absurd cc
+in_doubt bs (Some (holders.Batch d)) c e = bool_case (has_batch d bs) (λ t. has_batch d bs ≡ t → (if t then None else Some (holders.Batch d)) ≡ Some (holders.Batch c) → (Some (holders.Batch d) ≡ Some (holders.Batch c)) × (has_batch c bs ≡ false))
+    (λ z w f. absurd cc) (λ z w f. (f, ap (λ (x : List ℕ). has_batch x bs) (sym (ap (the_batch d) f)) ∙ w)) refl e
+
+no_batch_of : (c : List ℕ) (bs : List Batch) → has_batch c bs ≡ false → batch_of c bs ≡ None
+no_batch_of c [] e = refl
+no_batch_of c (b ∷ bs) e = bool_case (bytes_eq c b.channel) (λ t. (t || has_batch c bs) ≡ false → (if t then Some b else batch_of c bs) ≡ None) (λ z w. absurd cc) (λ z w. no_batch_of c bs w) e
+
+pub rows_lasting : (name : List ℕ) (bs : List Batch) (qs : List Queue) → rows_on name (shelves_of bs qs) ≡ lasting_rows bs (queue_in name qs).rows
+rows_lasting name bs [] = refl
+rows_lasting name bs (q ∷ qs) = bool_case (bytes_eq name q.name) (λ b. (if b then lasting_rows bs q.rows else rows_on name (shelves_of bs qs)) ≡ lasting_rows bs (if b then q else queue_in name qs).rows) (λ e. refl) (λ e. rows_lasting name bs qs)
 
 -- the next incarnation
 older : (i : Ident) (m n k s : ℕ) → ((i.manager == m) && (nat_lt n i.incarnation || ((i.incarnation == n) && nat_lt k i.number))) ≡ false
     → ((i.manager == m) && (nat_lt (n + s + 1) i.incarnation || ((i.incarnation == n + s + 1) && nat_lt 0 i.number))) ≡ false
 older i m n k s e = grind (arith, nat_tests)
 
-pub rises : (started : ℕ) (p : Plain) → Sound p → Sound (risen started p)
-rises started p h = gives (view p) (λ i. is_unborn i (risen started p)) h (λ i e. older i p.given.number p.numbers.incarnation p.numbers.idents started e)
+-- what lasts has what a manager begins with
+pub lasting_rests : (started : ℕ) (p : Plain) → AreStill (view p) → ImageRests p.given (raised started (lasting p))
+lasting_rests started p h = record {
+  once = λ q. subst (Differ ident_of) (sym (on q)) (lasting_differ bs ((view p).rows q) (h.apart.once q));
+  alone = λ q d x y m n e. let a = old q x m in let b = old d y n in h.apart.alone q d a.row b.row a.there b.there (sym (ap ident_of a.is) ∙ e ∙ ap ident_of b.is);
+  given = λ q x m. let a = old q x m in older x.message.ident p.given.number p.numbers.incarnation p.numbers.idents started
+      (ap (λ (i : Ident). (i.manager == p.given.number) && (nat_lt p.numbers.incarnation i.incarnation || ((i.incarnation == p.numbers.incarnation) && nat_lt p.numbers.idents i.number))) (ap ident_of a.is) ∙ h.apart.given q a.row a.there);
+  laned = λ q. subst AreLaned (sym (on q)) (lasting_laned bs ((view p).rows q) (in_lanes ((view p).rows q) (h.ordered.in_order q)));
+  units = λ q x n m e. let a = old q x m in no_unit bs a.row.by n (sym (ap (λ (r : Row). r.by) a.is) ∙ e);
+  of = λ q x c m e.
+      let a = old q x m in
+      let k = in_doubt bs a.row.by c (sym (ap (λ (r : Row). r.by) a.is) ∙ e) in
+      subst (λ (i : Ident). IsOf q i None ((view p).doubt c)) (sym (ap ident_of a.is))
+      (subst (λ (b : Option Batch). IsOf q a.row.message.ident b ((view p).doubt c)) (no_batch_of c bs k.1) (h.of q a.row c a.there k.0));
+}
+  where
+    bs : List Batch
+    bs = p.channels.batches
+
+    on : (q : List ℕ) → rows_on q (shelves_of p.channels.batches p.queues) ≡ lasting_rows p.channels.batches ((view p).rows q)
+    on q = rows_lasting q p.channels.batches p.queues
+
+    old : (q : List ℕ) (x : Row) → Mem x (rows_on q (shelves_of p.channels.batches p.queues)) → IsLast p.channels.batches x ((view p).rows q)
+    old q x m = mem_lasting p.channels.batches ((view p).rows q) x (subst (λ (rows : List Row). Mem x rows) (on q) m)
 
 pub restart_gives : (started : ℕ) (noted : Option Noted) (p : Plain) → AreStill (view p) → Sound (restarted false started noted p)
-restart_gives started noted p h =
-    let q : Plain = at_rest p in
-    rises started (apply Uncount q) (subst Holds (sym (applied Uncount q tt)) (uncounts (view q) (still_rests p h)))
+restart_gives started noted p h = begins p.given (raised started (lasting p)) (grown started p) p.moment (lasting_rests started p h)

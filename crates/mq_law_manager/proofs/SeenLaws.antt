@@ -8,16 +8,16 @@ use Rattle.mq_queue.specs.Rows.{keep, retag}
 use Rattle.mq_objects.specs.Names.{local_of}
 use Rattle.mq_calls.specs.declared.records.Add.{Add}
 use Rattle.mq_sync.specs.declared.data.SenderData.{SenderData}
-use Rattle.mq_spec_state.specs.State.{Plain, Change, Queue, Connection, Item, Batch, fresh_queue}
+use Rattle.mq_spec_state.specs.State.{Plain, Change, Queue, Connection, Item, fresh_queue}
 use Rattle.mq_calls.specs.declared.state.Item.TheVariants.{Put, Take}
-use Rattle.mq_spec_state.specs.State.Change.{Place as Places, Try, Leave, Hold, Release, Uncount, Connect, Disconnect, OpenHandle, CloseHandle, SetCursor, Pend, EndUnit, MakeStale, CountIdent, ChangeObjects, Renew, DropQueue, SwitchOn, Serve, SetSender, SetReceiver, Seize, Unseize, AddBatch, DropBatch, SetBound, SetMoment, ForgetAll}
-use Rattle.mq_spec_state.specs.Reads.{stored, queue_in, connection_at, batch_of, sender_in, in_doubt_of}
+use Rattle.mq_spec_state.specs.State.Change.{Place as Places, Try, Leave, Hold, Release, Connect, Disconnect, OpenHandle, CloseHandle, SetCursor, Pend, EndUnit, MakeStale, CountIdent, ChangeObjects, Renew, DropQueue, SwitchOn, Serve, SetSender, SetReceiver, Undoubt, Seize, Unseize, AddBatch, DropBatch, SetBound, SetMoment, ForgetAll}
+use Rattle.mq_spec_state.specs.Reads.{stored, queue_in, connection_at, sender_in, in_doubt_of}
 use Rattle.mq_spec_state.specs.Condition.{condition}
-use Rattle.mq_spec_state.specs.Changes.{apply, with_queue, placed_in, lane_of, kept_in, held_in, released_in, uncounted_in, made_due, depth_type, try_if, forgotten, change_connection, with_connection, made_stale}
+use Rattle.mq_spec_state.specs.Changes.{apply, with_queue, placed_in, lane_of, kept_in, held_in, released_in, made_due, depth_type, try_if, forgotten, change_connection, with_connection, made_stale}
 use Rattle.mq_law_manager.specs.View.{View, Taken, view, at_name, at_number, puts_in, takes_in, items_of}
-use Rattle.mq_law_manager.specs.Seen.{AsksNothing, seen, goes_if, held_if, freed_if, uncounted_all}
+use Rattle.mq_law_manager.specs.Seen.{AsksNothing, seen, goes_if, held_if, freed_if}
 use Rattle.mq_law_manager.proofs.Lists.{bool_case, eqb_yes}
-use Rattle.mq_law_manager.proofs.Named.{name_is, queue_set, found_name, queue_dropped, queue_mapped, batch_added, batch_dropped, or_batch, sender_set}
+use Rattle.mq_law_manager.proofs.Named.{name_is, queue_set, found_name, queue_dropped, queue_mapped, batch_set, batch_dropped, sender_set, doubt_less}
 
 -- Rows and arrivals, where a queue is set, or all are mapped
 
@@ -186,22 +186,6 @@ doubt_set : (channel other : List ℕ) (d : SenderData) (p : Plain) → in_doubt
 doubt_set channel other d p = ap in_doubt_of (sender_set channel other d p.channels.senders)
     ∙ bool_case (bytes_eq channel other) (λ b. in_doubt_of (if b then Some d else sender_in channel p.channels.senders) ≡ (if b then d.in_doubt else in_doubt_of (sender_in channel p.channels.senders))) (λ e. refl) (λ e. refl)
 
-pub batch_joins : (b : Batch) (p : Plain) → (view p).batch b.channel ≡ None → view (apply (AddBatch b) p) ≡ seen (AddBatch b) p (view p)
-batch_joins b p none = λ i. record (view p) { batch = λ c. (batch_added c b p.channels.batches ∙ each c) i }
-  where
-    empty : (c : List ℕ) (o : Option Batch) → o ≡ None → or_batch c b o ≡ (if bytes_eq c b.channel then Some b else None)
-    empty c None e = refl
-    empty c (Some x) e = absurd cc
-
-    other : (o : Option Batch) (t : Bool) → t ≡ false → (c : List ℕ) → bytes_eq c b.channel ≡ t → or_batch c b o ≡ o
-    other None t z c e = ap (λ (t : Bool). if t then Some b else None) (e ∙ z)
-    other (Some x) t z c e = refl
-
-    each : (c : List ℕ) → or_batch c b (batch_of c p.channels.batches) ≡ (if bytes_eq c b.channel then Some b else batch_of c p.channels.batches)
-    each c = bool_case (bytes_eq c b.channel) (λ t. bytes_eq c b.channel ≡ t → or_batch c b (batch_of c p.channels.batches) ≡ (if t then Some b else batch_of c p.channels.batches))
-        (λ e z. empty c (batch_of c p.channels.batches) (ap (λ (x : List ℕ). batch_of x p.channels.batches) (name_is c b.channel z) ∙ none) ∙ ap (λ (t : Bool). if t then Some b else None) z)
-        (λ e z. other (batch_of c p.channels.batches) false refl c z) refl
-
 pub applied : (c : Change) (p : Plain) → AsksNothing c → view (apply c p) ≡ seen c p (view p)
 applied (Places name m) p a = set_other name (placed_in (lane_of (local_of name p.definitions) m.md.priority) m (stored name p)) p (found_name name p.queues)
 applied (Try name priority) p a = bool_case (condition (local_of name p.definitions) priority p) (λ b. view (try_if b name p) ≡ view p)
@@ -209,7 +193,6 @@ applied (Try name priority) p a = bool_case (condition (local_of name p.definiti
 applied (Leave which) p a = mapped (kept_in which) (λ name rows. keep (goes_if which name) rows) p (λ q. refl) (λ name. refl) (λ q. refl) (λ q. refl)
 applied (Hold which by) p a = mapped (held_in which by) (λ name rows. retag (held_if which by name) rows) p (λ q. refl) (λ name. refl) (λ q. refl) (λ q. refl)
 applied (Release which counted) p a = mapped (released_in which counted) (λ name rows. retag (freed_if which counted name) rows) p (λ q. refl) (λ name. refl) (λ q. refl) (λ q. refl)
-applied Uncount p a = mapped uncounted_in (λ name rows. retag (uncounted_all name) rows) p (λ q. refl) (λ name. refl) (λ q. refl) (λ q. refl)
 applied (Disconnect number) p a = disconnected number p
 applied (OpenHandle number h) p a = unit_same number (λ c. record c { handles = c.handles ++ h ∷ []; last_handle = c.last_handle + 1 }) p (λ c. refl) (λ c. refl)
 applied (CloseHandle number handle) p a = unit_same number _ p (λ c. refl) (λ c. refl)
@@ -224,7 +207,9 @@ applied (SwitchOn name) p a = set_same name (record (stored name p) { switched_o
 applied (Serve name) p a = set_same name _ p (found_name name p.queues) refl refl
 applied (SetSender channel d) p a = λ i. record (view p) { doubt = λ c. doubt_set c channel d p i }
 applied (SetReceiver channel d) p a = refl
+applied (Undoubt ident) p a = λ i. record (view p) { doubt = λ c. doubt_less c ident p.channels.senders i }
 applied (Seize s) p a = refl
+applied (AddBatch b) p a = λ i. record (view p) { batch = λ c. batch_set c b p.channels.batches i }
 applied (Unseize channel) p a = refl
 applied (DropBatch channel) p a = λ i. record (view p) { batch = λ c. batch_dropped c channel p.channels.batches i }
 applied (SetBound channel true) p a = refl
@@ -233,4 +218,3 @@ applied (SetMoment moment) p a = refl
 applied ForgetAll p a = λ i. record (mapped forgotten (λ name rows. rows) p (λ q. refl) (λ name. refl) (λ q. refl) (λ q. refl) i) { puts = λ n. []; takes = λ n. []; batch = λ c. None }
 applied (Connect c) p a = absurd a
 applied (Pend number item) p a = absurd a
-applied (AddBatch b) p a = absurd a

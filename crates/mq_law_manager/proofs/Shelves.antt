@@ -8,12 +8,12 @@ use Rattle.mq_objects.specs.Names.{local_of}
 use Rattle.mq_calls.specs.declared.records.Add.{Add}
 use Rattle.mq_spec_state.specs.State.{Plain, Change}
 use Rattle.mq_calls.specs.declared.state.Item.TheVariants.{Put, Take}
-use Rattle.mq_spec_state.specs.State.Change.{Place as Places, Try, Leave, Hold, Release, Uncount, Connect, Disconnect, Pend, EndUnit, ChangeObjects, Renew, DropQueue, AddBatch, SetBound, ForgetAll}
+use Rattle.mq_spec_state.specs.State.Change.{Place as Places, Try, Leave, Hold, Release, Connect, Disconnect, Pend, EndUnit, ChangeObjects, Renew, DropQueue, SetBound, ForgetAll}
 use Rattle.mq_spec_state.specs.Condition.{condition}
 use Rattle.mq_spec_state.specs.Changes.{apply, apply_all, try_if}
 use Rattle.mq_law_manager.specs.View.{View, view, at_name, at_number}
 use Rattle.mq_law_manager.specs.Facts.{Mem}
-use Rattle.mq_law_manager.specs.Seen.{seen, goes_if, held_if, freed_if, uncounted_all, row_for}
+use Rattle.mq_law_manager.specs.Seen.{seen, goes_if, held_if, freed_if, row_for}
 use Rattle.mq_law_manager.specs.Kept.{AreDefined, ArePutDefined, Asks, AllAsk}
 use Rattle.mq_law_manager.proofs.Lists.{bool_case, mem_keep, mem_retag, mem_append, mem_inserted_at}
 use Rattle.mq_law_manager.proofs.SeenLaws.{applied, pended, connects}
@@ -33,7 +33,6 @@ rows_seen (Places name m) p v a s q h n = elim (mem_inserted_at name (row_for na
 rows_seen (Leave which) p v a s q h n = s q h (mem_keep (goes_if which q) h (v.rows q) n).0
 rows_seen (Hold which by) p v a s q h n = let k = mem_retag (held_if which by q) h (v.rows q) n in s q k.0 k.1
 rows_seen (Release which counted) p v a s q h n = let k = mem_retag (freed_if which counted q) h (v.rows q) n in s q k.0 k.1
-rows_seen Uncount p v a s q h n = let k = mem_retag (uncounted_all q) h (v.rows q) n in s q k.0 k.1
 rows_seen (Renew name) p v a s q h n = emptied p.definitions v name q h s n
 rows_seen (DropQueue name) p v a s q h n = emptied p.definitions v name q h s n
 rows_seen c p v a s q h n = s q h n
@@ -71,7 +70,6 @@ same_definitions c p a = refl
 view_rows : (c : Change) (p : Plain) → Asks c p → (view (apply c p)).rows ≡ (seen c p (view p)).rows
 view_rows (Connect c) p a = refl
 view_rows (Pend n item) p a = refl
-view_rows (AddBatch b) p a = refl
 view_rows (ChangeObjects change) p a = refl
 view_rows c p a = ap (λ (v : View). v.rows) (applied c p tt)
 
@@ -79,7 +77,6 @@ view_puts : (c : Change) (p : Plain) → Asks c p → (view (apply c p)).puts �
 view_puts (Connect c) p a = ap (λ (v : View). v.puts) (connects c p a)
 view_puts (Pend n (Put queue m)) p a = ap (λ (v : View). v.puts) (pended n (Put queue m) p a.1.0 a.1.1)
 view_puts (Pend n (Take queue i persistent)) p a = ap (λ (v : View). v.puts) (pended n (Take queue i persistent) p a.0 a.1)
-view_puts (AddBatch b) p a = refl
 view_puts (ChangeObjects change) p a = refl
 view_puts c p a = ap (λ (v : View). v.puts) (applied c p tt)
 

@@ -17,7 +17,7 @@ use Rattle.mq_spec_state.specs.Reads.{is_persistent}
 use Rattle.mq_spec_state.specs.Changes.{selects, retag_if, release_if}
 use Rattle.mq_law_manager.specs.View.{View, Taken, at_name, at_number, kept_all, retagged_all}
 use Rattle.mq_law_manager.specs.Facts.{Mem, Differ, put_ident, Holds, AreTaken, AreApart, AreBatched}
-use Rattle.mq_law_manager.specs.Seen.{goes_if, held_if, freed_if, uncounted_all, with_rows, place_in, empty_in, pend_in, with_unit}
+use Rattle.mq_law_manager.specs.Seen.{goes_if, held_if, freed_if, with_rows, place_in, empty_in, pend_in, with_unit}
 use Rattle.mq_law_manager.proofs.Lists.{bool_case, eqb_yes, eqb_self, ident_self, ident_no, name_self, name_yes, one_row}
 use Rattle.mq_law_manager.proofs.Apart as apart
 use Rattle.mq_law_manager.proofs.Apart.{IsNew}
@@ -278,12 +278,3 @@ empties v name h none =
       batched = subst (λ (f : List ℕ → List Row). AreBatched f v.batch v.doubt) (λ i q. sym (same q) i) h.batched;
       ordered = ordered.empties v.rows v.arrivals name h.ordered;
     }
-
--- all counts of backouts are blank
-pub uncounts : (v : View) → Holds v → Holds (with_rows (retagged_all uncounted_all v.rows) v)
-uncounts v h = record {
-  apart = apart.retags v.rows v.puts v.unborn uncounted_all (λ q x. refl) h.apart;
-  taken = taken.retags v.rows v.takes uncounted_all (record { ident = λ q x. refl; lasts = λ q x. refl }) (λ q x n m e. e) (λ q x n m e. e) h.taken;
-  batched = batched.retags v.rows v.batch v.doubt uncounted_all (λ q x. refl) (λ q x c m e. e) (λ q x c m e. e) h.batched;
-  ordered = ordered.retags v.rows v.arrivals uncounted_all (λ q x. (refl, refl)) h.ordered;
-}

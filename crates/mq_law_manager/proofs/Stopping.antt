@@ -18,7 +18,7 @@ use Rattle.mq_spec_state.specs.Reads.{batch_of, free_rows, is_by_unit}
 use Rattle.mq_spec_state.specs.Changes.{apply, apply_all, selects, retag_if, release_if}
 use Rattle.mq_spec_manager.specs.Get.{idents_of}
 use Rattle.mq_spec_manager.specs.Stops.{at_rest, stop, stop_at, release_batch}
-use Rattle.mq_spec_agents.specs.Agents.{hold_batch, queue_of_sender}
+use Rattle.mq_spec_agents.specs.Words.{hold_batch, queue_of_sender, CanHold}
 use Rattle.mq_law_manager.specs.View.{View, Taken, view, at_name, retagged_all}
 use Rattle.mq_law_manager.specs.Facts.{Mem, Sound, Holds}
 use Rattle.mq_law_manager.specs.Seen.{goes_if, held_if, freed_if, add_in}
@@ -28,7 +28,7 @@ use Rattle.mq_law_manager.proofs.Apart as apart
 use Rattle.mq_law_manager.proofs.TakenLaws as taken
 use Rattle.mq_law_manager.proofs.BatchLaws as batched
 use Rattle.mq_law_manager.proofs.OrderLaws as ordered
-use Rattle.mq_law_manager.proofs.SeenLaws.{applied, batch_joins}
+use Rattle.mq_law_manager.proofs.SeenLaws.{applied}
 use Rattle.mq_law_manager.proofs.Steps.{goes, holds_mild, frees_mild, holds_places, frees_places, is_held, free_is, is_free_row, held_row, unheld_row, unfreed_row}
 use Rattle.mq_law_manager.proofs.Units.{behind}
 use Rattle.mq_law_manager.proofs.Removals.{mem_filter, among_rows}
@@ -91,7 +91,7 @@ sound_held c q unit rows p h batch doubt free =
           (ap (λ (t : Bool). (t && list_any (same_ident k.0.message.ident) (idents_of rows)) && is_free k.0) (name_self q) ∙ ap (λ (t : Bool). t && is_free k.0) (any_mem k.0.message.ident (idents_of rows) (mem_idents k.0 rows k.1)) ∙ is_free_row k.0 f.1),
     ) in
     let hold : Change = Hold which (holders.Batch c) in
-    subst Holds (sym (batch_joins b (apply hold p) batch)) (subst (λ (w : View). Holds (add_in b w)) (sym (applied hold p tt)) (record {
+    subst Holds (sym (applied (AddBatch b) (apply hold p) tt)) (subst (λ (w : View). Holds (add_in b w)) (sym (applied hold p tt)) (record {
       apart = apart.retags v.rows v.puts v.unborn change (λ d x. mild.ident d x) h.apart;
       taken = taken.retags v.rows v.takes change mild (λ d x n m e. unit_from (selects which d x && is_free x) x n e)
           (λ d x n m e. unheld_row (selects which d x && is_free x) (Some (holders.Batch c)) x (and_last (selects which d x) (is_free x) (is_held x (holders.Unit n) e)) ∙ e) h.taken;
@@ -107,10 +107,10 @@ sound_held c q unit rows p h batch doubt free =
     and_last true b e = e
     and_last false b e = refl
 
-pub hold_batch_keeps : (c : List ℕ) (unit : Luw) (most : ℕ) (p : Plain) → (view p).batch c ≡ None → (view p).doubt c ≡ None → Sound p → Keeps (hold_batch c unit most p) p
-hold_batch_keeps c unit most p batch doubt h =
+pub hold_batch_keeps : (c : List ℕ) (unit : Luw) (most : ℕ) (p : Plain) → CanHold c p → Sound p → Keeps (hold_batch c unit most p) p
+hold_batch_keeps c unit most p can h =
     let q : List ℕ = queue_of_sender c p in
-    (sound_held c q unit (take most (free_rows q p)) p h batch doubt (λ r m. let k = mem_filter r is_free ((view p).rows q) (take_mem r most (free_rows q p) m) in (k.0, free_is r k.1)), tt)
+    (sound_held c q unit (take most (free_rows q p)) p h can.batch can.doubt (λ r m. let k = mem_filter r is_free ((view p).rows q) (take_mem r most (free_rows q p) m) in (k.0, free_is r k.1)), tt)
 
 -- A stop. First all units are backed out.
 

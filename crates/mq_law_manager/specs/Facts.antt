@@ -1,23 +1,20 @@
 -- What holds of the rows of one manager, always.
-use Rattle.std.specs.Prelude.{ℕ, ◌≡◌, ◌≢◌, ◌≤◌, ◌⊎◌, Bool, false, List, [], ◌∷◌, length, Option, Some, None}
+use Rattle.std.specs.Prelude.{ℕ, ◌≡◌, ◌≢◌, ◌≤◌, Bool, false, List, length, Option, Some, None}
 use Rattle.mq_message.specs.declared.message.Ident.{Ident}
 use Rattle.mq_message.specs.declared.place.Holder.TheVariants as holders
 use Rattle.mq_queue.specs.declared.row.Row.{Row}
 use Rattle.mq_queue.specs.Queues.{AreInOrder, AreCounted}
 use Rattle.mq_sync.specs.declared.data.InDoubt.{InDoubt}
 use Rattle.mq_calls.specs.declared.records.Add.{Add}
-use Rattle.mq_spec_state.specs.State.{Plain, Batch}
+use Rattle.std.specs.Str.{bytes_eq}
+pub use Rattle.mq_base.specs.Members.{Mem, Chain}
+use Rattle.mq_spec_state.specs.State.{Plain, Batch, Queue}
 use Rattle.mq_spec_state.specs.Reads.{is_persistent}
 use Rattle.mq_law_manager.specs.View.{View, Taken, view}
 
-abbrev pub Mem : {A : Type 0} → A → List A → Type 0
-Mem x [] = ⊥
-Mem x (y ∷ ys) = (x ≡ y) ⊎ Mem x ys
-
 -- each key at most once
 abbrev pub Differ : {A : Type 0} → (A → Ident) → List A → Type 0
-Differ key [] = Unit {0}
-Differ key (x ∷ xs) = ((y : _) → Mem y xs → key x ≢ key y) × Differ key xs
+Differ {A} key xs = Chain (λ (x y : A). key x ≢ key y) xs
 
 abbrev pub ident_of : Row → Ident
 ident_of row = row.message.ident
@@ -93,3 +90,11 @@ pub record AreStill (v : View) : Type 0 where
   pub held : (q : List ℕ) (h : Row) (n : ℕ) → Mem h (v.rows q) → h.by ≡ Some (holders.Unit n) → Mem (record { queue = q; ident = h.message.ident; persistent = is_persistent h.message }) (v.takes n)
   pub of : (q : List ℕ) (h : Row) (c : List ℕ) → Mem h (v.rows q) → h.by ≡ Some (holders.Batch c) → IsOf q h.message.ident (v.batch c) (v.doubt c)
   pub ordered : AreOrdered v.rows v.arrivals
+
+-- no name stands twice in the list of queues
+abbrev pub AreNamed : List Queue → Type 0
+AreNamed qs = Chain (λ (q d : Queue). bytes_eq q.name d.name ≡ false) qs
+
+-- rows by lane
+abbrev pub AreLaned : List Row → Type 0
+AreLaned rows = Chain (λ (x y : Row). x.place.lane ≤ y.place.lane) rows

@@ -1,10 +1,7 @@
 -- A call keeps what holds of a manager's rows: behind each of its parts. (So it holds where a later write is stopped, too.)
-use Rattle.std.specs.Prelude.{ℕ, ◌≡◌, true, is_some, List, [], ◌∷◌, None, Some}
+use Rattle.std.specs.Prelude.{ℕ, ◌≡◌, true, is_some, List, [], ◌∷◌, Some}
 use Rattle.mq_objects.specs.Names.{local_of}
-use Rattle.mq_message.specs.declared.message.Ident.{Ident}
 use Rattle.mq_queue.specs.declared.row.Row.{Row}
-use Rattle.mq_calls.specs.declared.agents.Note.{Note}
-use Rattle.mq_calls.specs.declared.agents.Note.TheVariants as notes
 use Rattle.mq_spec_state.specs.State.{Plain, Change, Connection}
 use Rattle.mq_spec_state.specs.State.Change.{Place as Places, Pend, Connect, ChangeObjects}
 use Rattle.mq_spec_state.specs.Reads.{connection_at}
@@ -25,18 +22,6 @@ PartsKeep (part ∷ parts) p = Sound (do_part part p) × PartsKeep parts (do_par
 abbrev pub Keeps : {F T : Type 0} → Step F T → Plain → Type 0
 Keeps (Refuse reason) p = Unit {0}
 Keeps (Do reply parts) p = PartsKeep parts p
-
--- (a unit is settled where no batch is held: so it is asked of a unit in doubt)
-abbrev pub IsSettling : List ℕ → Note → Plain → Type 0
-IsSettling c (notes.Resolved unit commit operator) p = (view p).batch c ≡ None
-IsSettling c (notes.Session partner session) p = Unit {0}
-IsSettling c (notes.Bound partner session last) p = Unit {0}
-IsSettling c (notes.Closed session) p = Unit {0}
-IsSettling c (notes.SeqSet end last) p = Unit {0}
-
--- a row of that ident there, if any, is free
-abbrev pub IsLoose : List ℕ → Ident → Plain → Type 0
-IsLoose queue ident p = (r : Row) → Mem r ((view p).rows queue) → r.message.ident ≡ ident → r.by ≡ None
 
 -- rows stand on local queues that are defined
 abbrev pub AreDefined : Plain → Type 0

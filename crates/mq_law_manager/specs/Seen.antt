@@ -1,15 +1,16 @@
 -- What each change does to the view.
 use Rattle.std.specs.Prelude.{ℕ, ◌+◌, Bool, not, ◌&&◌, List, [], ◌∷◌, ◌++◌, Some, None}
 use Rattle.mq_message.specs.declared.place.Holder.{Holder}
+use Rattle.mq_message.specs.declared.message.Ident.{Ident}
 use Rattle.mq_message.specs.declared.message.Message.{Message}
 use Rattle.mq_queue.specs.declared.row.Row.{Row}
 use Rattle.mq_queue.specs.Rows.{is_free}
 use Rattle.mq_objects.specs.Names.{local_of}
 use Rattle.mq_sync.specs.declared.data.SenderData.{SenderData}
 use Rattle.mq_spec_state.specs.State.{Plain, Change, Which, Batch, Item}
-use Rattle.mq_spec_state.specs.State.Change.{Place as Places, Try, Leave, Hold, Release, Uncount, Connect, Disconnect, OpenHandle, CloseHandle, SetCursor, Pend, EndUnit, MakeStale, CountIdent, ChangeObjects, Renew, DropQueue, SwitchOn, Serve, SetSender, SetReceiver, Seize, Unseize, AddBatch, DropBatch, SetBound, SetMoment, ForgetAll}
-use Rattle.mq_spec_state.specs.Changes.{apply, lane_of, new_row, selects, retag_if, release_if, uncounted}
-use Rattle.mq_spec_agents.specs.Agents.{is_unborn}
+use Rattle.mq_spec_state.specs.State.Change.{Place as Places, Try, Leave, Hold, Release, Connect, Disconnect, OpenHandle, CloseHandle, SetCursor, Pend, EndUnit, MakeStale, CountIdent, ChangeObjects, Renew, DropQueue, SwitchOn, Serve, SetSender, SetReceiver, Undoubt, Seize, Unseize, AddBatch, DropBatch, SetBound, SetMoment, ForgetAll}
+use Rattle.mq_spec_state.specs.Changes.{apply, lane_of, new_row, selects, retag_if, release_if, less_ident}
+use Rattle.mq_spec_agents.specs.Words.{is_unborn}
 use Rattle.mq_calls.specs.declared.records.Add.{Add}
 use Rattle.mq_law_manager.specs.View.{View, Taken, view, at_name, at_number, inserted, kept_all, retagged_all, puts_in, takes_in}
 
@@ -21,9 +22,6 @@ held_if which by name row = retag_if (selects which name row && is_free row) (So
 
 abbrev pub freed_if : Which → Bool → List ℕ → Row → Row
 freed_if which counted name row = release_if (selects which name row && not (is_free row)) counted row
-
-abbrev pub uncounted_all : List ℕ → Row → Row
-uncounted_all name row = uncounted row
 
 abbrev pub with_rows : (List ℕ → List Row) → View → View
 with_rows rows v = record v { rows = rows }
@@ -55,17 +53,19 @@ add_in b v = record v { batch = at_name b.channel (Some b) v.batch }
 abbrev pub doubt_in : List ℕ → SenderData → View → View
 doubt_in channel d v = record v { doubt = at_name channel d.in_doubt v.doubt }
 
+abbrev pub less_in : Ident → View → View
+less_in ident v = record v { doubt = λ c. less_ident ident (v.doubt c) }
+
 abbrev pub forget_in : View → View
 forget_in v = record v { puts = λ n. []; takes = λ n. []; batch = λ c. None }
 
--- (of a connection that begins, an item that pends and a batch that is added the laws ask more: they are new, live, alone)
+-- (of a connection that begins and of an item that pends the laws ask more: they are new, live)
 abbrev pub seen : Change → Plain → View → View
 seen (Places name m) p v = place_in name (row_for name m p) v
 seen (Try name priority) p v = v
 seen (Leave which) p v = with_rows (kept_all (goes_if which) v.rows) v
 seen (Hold which by) p v = with_rows (retagged_all (held_if which by) v.rows) v
 seen (Release which counted) p v = with_rows (retagged_all (freed_if which counted) v.rows) v
-seen Uncount p v = with_rows (retagged_all uncounted_all v.rows) v
 seen (Connect c) p v = v
 seen (Disconnect number) p v = end_in number v
 seen (OpenHandle number h) p v = v
@@ -82,6 +82,7 @@ seen (SwitchOn name) p v = v
 seen (Serve name) p v = v
 seen (SetSender channel d) p v = doubt_in channel d v
 seen (SetReceiver channel d) p v = v
+seen (Undoubt ident) p v = less_in ident v
 seen (Seize s) p v = v
 seen (Unseize channel) p v = v
 seen (AddBatch b) p v = add_in b v
@@ -98,5 +99,4 @@ with_unit n ps ts v = record v { puts = at_number n ps v.puts; takes = at_number
 abbrev pub AsksNothing : Change → Type 0
 AsksNothing (Connect c) = ⊥
 AsksNothing (Pend number item) = ⊥
-AsksNothing (AddBatch b) = ⊥
 AsksNothing _ = Unit {0}

@@ -1,7 +1,7 @@
 //! What stands in a manager's rows, units and batches: one record of facts, `Sound`, that each call keeps.
 #![tactic(auto)]
 
-ghost use Rattle.std.specs.Prelude.{◌≡◌, ℕ, Bool, false, List, None, Option, Some};
+ghost use Rattle.std.specs.Prelude.{◌≡◌, ℕ, Bool, false, List, Option, Some};
 ghost use Rattle.mq_message.specs.declared.message.Dest.{Dest};
 ghost use Rattle.mq_message.specs.declared.message.Ident.{Ident};
 ghost use Rattle.mq_message.specs.declared.message.Md.{Md};
@@ -26,16 +26,17 @@ ghost use Rattle.mq_spec_manager.specs.Handles.{mqclose, mqconn, mqopen};
 ghost use Rattle.mq_spec_manager.specs.Put.{mqput, mqput1, next_ident};
 ghost use Rattle.mq_spec_manager.specs.Get.{mqget};
 ghost use Rattle.mq_spec_manager.specs.Units.{mqback, mqcmit, mqdisc};
-ghost use Rattle.mq_spec_manager.specs.Stops.{Image, begun, restarted, stop};
+ghost use Rattle.mq_spec_state.specs.Images.{Image};
+ghost use Rattle.mq_spec_state.specs.Recovery.{AreKnown, IsImage};
+ghost use Rattle.mq_spec_manager.specs.Stops.{first_start, restarted, stop};
 ghost use Rattle.mq_spec_manager.specs.Commands.{command};
 ghost use Rattle.mq_objects.specs.declared.command.Command.{Command};
-ghost use Rattle.mq_law_manager.specs.Opening.{IsImage};
 ghost use Rattle.mq_spec_manager.specs.Triggers.{trigger_turn};
-ghost use Rattle.mq_spec_agents.specs.Agents.{discard, expire, harden, hold_batch, leave, move_row, prepare, receive, release_batch, seize, set_bound};
+ghost use Rattle.mq_spec_agents.specs.Words.{CanHarden, CanHold, CanMove, HasFreeRow, discard, expire, harden, hold_batch, leave, move_row, prepare, receive, release_batch, seize, set_bound};
 ghost use Rattle.mq_law_manager.specs.View.{Taken, view};
-ghost use Rattle.mq_law_manager.specs.Facts.{AreStill, IsHeld, Mem, Sound};
+ghost use Rattle.mq_law_manager.specs.Facts.{AreNamed, AreStill, IsHeld, Mem, Sound};
 ghost use Rattle.mq_law_manager.specs.Seen.{AsksNothing, seen};
-ghost use Rattle.mq_law_manager.specs.Kept.{AllAsk, AreDefined, ArePutDefined, IsAfter, IsLoose, IsSettling, Keeps};
+ghost use Rattle.mq_law_manager.specs.Kept.{AllAsk, AreDefined, ArePutDefined, IsAfter, Keeps};
 
 /// Each change does to the view of a manager what is said of it.
 pub fn changes_are_seen()
@@ -80,17 +81,18 @@ pub fn agents_keep_the_facts()
     ensures leaves { (channel : List ℕ) (p : Plain) → Sound p → Keeps (leave channel p) p }
     ensures binds { (channel : List ℕ) (bound : Bool) (p : Plain) → Sound p → Keeps (set_bound channel bound p) p }
     ensures expires { (channel : List ℕ) (p : Plain) → Sound p → Keeps (expire channel p) p }
-    ensures holds { (channel : List ℕ) (unit : Luw) (most : ℕ) (p : Plain) → (view p).batch channel ≡ None → (view p).doubt channel ≡ None → Sound p → Keeps (hold_batch channel unit most p) p }
+    ensures holds { (channel : List ℕ) (unit : Luw) (most : ℕ) (p : Plain) → CanHold channel p → Sound p → Keeps (hold_batch channel unit most p) p }
     ensures releases { (channel : List ℕ) (p : Plain) → Sound p → Keeps (release_batch channel p) p }
     ensures prepares { (channel : List ℕ) (last : ℕ) (p : Plain) → Sound p → Keeps (prepare channel last p) p }
-    ensures hardens { (channel : List ℕ) (note : Note) (p : Plain) → IsSettling channel note p → Sound p → Keeps (harden channel note p) p }
-    ensures moves { (from : List ℕ) (ident : Ident) (to : Dest) (bare : Bool) (p : Plain) → Sound p → IsLoose from ident p → Keeps (move_row from ident to bare p) p }
-    ensures discards { (queue : List ℕ) (ident : Ident) (p : Plain) → Sound p → IsLoose queue ident p → Keeps (discard queue ident p) p }
+    ensures hardens { (channel : List ℕ) (note : Note) (p : Plain) → CanHarden channel note p → Sound p → Keeps (harden channel note p) p }
+    ensures moves { (from : List ℕ) (ident : Ident) (to : Dest) (bare : Bool) (p : Plain) → Sound p → CanMove from ident bare p → Keeps (move_row from ident to bare p) p }
+    ensures discards { (queue : List ℕ) (ident : Ident) (p : Plain) → Sound p → HasFreeRow queue ident p → Keeps (discard queue ident p) p }
 {}
 
-/// And what a receiver's end commits, where rows stand on queues that are defined.
+/// And what a receiver's end commits, where no queue's name stands twice, which stays so whatever is done.
 pub fn receivers_keep_the_facts()
-    ensures { (channel : List ℕ) (unit : Luw) (last : ℕ) (batch : List Message) (p : Plain) → AreDefined p → Sound p → Keeps (receive channel unit last batch p) p }
+    ensures receives { (channel : List ℕ) (unit : Luw) (last : ℕ) (batch : List Message) (p : Plain) → AreNamed p.queues → Sound p → Keeps (receive channel unit last batch p) p }
+    ensures named { (cs : List Change) (p : Plain) → AreNamed p.queues → AreNamed (apply_all cs p).queues }
 {}
 
 /// So do commands on objects, there.
@@ -100,7 +102,7 @@ pub fn commands_keep_the_facts()
 
 /// A manager begins with them, where recovery gave an image.
 pub fn a_manager_begins_with_the_facts()
-    ensures { (given : Given) (image : Image) (moment : ℕ) → IsImage given.number image → Sound (begun given image moment) }
+    ensures { (given : Given) (image : Image) (length moment : ℕ) → IsImage image → AreKnown given.number image → Sound (first_start given image length moment) }
 {}
 
 /// And a stop.

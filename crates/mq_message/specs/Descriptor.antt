@@ -8,6 +8,7 @@ use Rattle.mq_message.specs.declared.head.HeadFault.{HeadFault}
 use Rattle.mq_message.specs.declared.head.HeadFault.TheVariants.{Short, BadId, BadVersion}
 use Rattle.mq_message.specs.Layout.{Kind, Long, Unsigned, Characters, Raw, Field, Values, written, values_in, part, long_of}
 
+-- a row of the table
 abbrev pub field : List ℕ → ℕ → ℕ → Kind → Field
 field name offset width kind = record { name = name; offset = offset; width = width; kind = kind }
 
@@ -85,6 +86,7 @@ abbrev pub id_fault : List ℕ → ℕ → List ℕ → Option HeadFault
 id_fault id place bytes =
     if not (bytes_eq (part place 4 bytes) id) then Some BadId else (if int_eq (long_of (part (place + 4) 4 bytes)) (pos 1) then None else Some BadVersion)
 
+-- too few bytes come first
 abbrev pub or_short : Bool → Option HeadFault → Option HeadFault
 or_short true fault = Some Short
 or_short false fault = fault
@@ -112,5 +114,6 @@ made_id_fields =
     field (codes "Number") 16 8 Unsigned ∷
     []
 
+-- its 24 bytes
 unfoldable pub made_id : Ident → List ℕ
 made_id i = written made_id_fields (codes "MQNI", (replicate 3 0, (i.manager, (i.incarnation, (i.number, tt)))))

@@ -14,6 +14,7 @@ pub data Kind : Type 0 where
   -- bytes as they are
   Raw : Kind
 
+-- a row of the table: the manual's name, the first byte, how many, and what they are
 pub record Field : Type 0 where
   pub name : List ℕ
   pub offset : ℕ
@@ -76,6 +77,7 @@ abbrev pub values_in : (fields : List Field) → List ℕ → Values fields
 values_in [] bytes = tt
 values_in (f ∷ fs) bytes = (value_in f.kind f.width (part f.offset f.width bytes), values_in fs bytes)
 
+-- a width that the kind may have
 abbrev pub has_width : Kind → ℕ → Bool
 has_width Long width = width == 4
 has_width Unsigned width = true
@@ -99,6 +101,7 @@ Fits Unsigned width n = n < 256 ^ width
 Fits Characters width text = length text ≡ width
 Fits Raw width bytes = length bytes ≡ width
 
+-- each value fits its field
 abbrev pub AllFit : (fields : List Field) → Values fields → Type 0
 AllFit [] values = Unit {0}
 AllFit (f ∷ fs) values = Fits f.kind f.width values.0 × AllFit fs values.1

@@ -2,6 +2,7 @@
 use Rattle.std.specs.Prelude.{ℕ}
 use Rattle.mq_objects.specs.declared.object.Definitions.{Definitions}
 
+-- the definitions, and the room
 pub record Held : Type 0 where
   pub definitions : Definitions
   pub room : ℕ

@@ -85,9 +85,11 @@ message_of ident rows = option_map (λ (row : Row). row.message) (find (has_iden
 abbrev pub has_other_ident : Ident → Row → Bool
 has_other_ident ident row = not (has_ident ident row)
 
+-- the free row of an ident
 abbrev pub is_free_one : Ident → Row → Bool
 is_free_one ident row = has_ident ident row && is_free row
 
+-- the held row of an ident
 abbrev pub is_held_one : Ident → Row → Bool
 is_held_one ident row = has_ident ident row && not (is_free row)
 

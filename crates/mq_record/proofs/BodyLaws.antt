@@ -13,7 +13,8 @@ use Rattle.mq_record.proofs.KindLaws.{record_got, record_again}
 pub one_record : (w other : WrittenRecord) (rest left : List ℕ) → IsWritten w → IsWritten other → body_bytes w ++ rest ≡ body_bytes other ++ left → (w ≡ other) × (rest ≡ left)
 one_record w other rest left is are e = one_ok (record_at (body_bytes w ++ rest)) w other rest left (record_again w rest is) (ap record_at e ∙ record_again other left are)
 
-body_again : (w : WrittenRecord) (body : List ℕ) → IsBodyOf w body → record_at body ≡ Ok (w, [])
+-- a body that is a record is read as that
+pub body_again : (w : WrittenRecord) (body : List ℕ) → IsBodyOf w body → record_at body ≡ Ok (w, [])
 body_again w body h = ap record_at (h.whole ∙ sym (append-nil (body_bytes w))) ∙ record_again w [] h.is
 
 pub one_body : (body : List ℕ) (w other : WrittenRecord) → IsBodyOf w body → IsBodyOf other body → w ≡ other

@@ -12,3 +12,4 @@ mod plans;
 pub use answers::{Plan, Planned};
 pub use command::{apply, plan};
 pub use in_use::InUse;
+pub use plans::defined_object;

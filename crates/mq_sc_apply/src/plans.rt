@@ -35,7 +35,11 @@ fn give_types(alloc: Global, object: &mut Object, settings: &[Setting]) -> Resul
 }
 
 /// The object that a DEFINE makes: CHLTYPE first, then all that it gives.
-fn defined_object(
+///
+/// # Errors
+///
+/// No memory.
+pub fn defined_object(
     alloc: Global,
     subject: &Subject,
     settings: &[Setting],

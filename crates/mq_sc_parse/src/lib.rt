@@ -9,6 +9,8 @@ mod naming;
 mod parsing;
 mod splitting;
 
+pub use checks::has_word;
 pub use command::{Command, Op};
 pub use fault::ScFault;
 pub use parsing::parse;
+pub use splitting::{Item, items_of};

@@ -149,6 +149,10 @@ fn item_len(token: &Token, rest: &[Token]) -> usize
 }
 
 /// The keywords of some tokens with their values.
+///
+/// # Errors
+///
+/// No memory.
 pub fn items_of(alloc: Global, tokens: &[Token]) -> Result<Items<Item>, AllocError>
     ensures { IfOk result (λ items. items ≡ items_of tokens.now) }
 {

@@ -1,17 +1,11 @@
 //! mq_disk: disks in memory and as files, fuses, cuts and shelves.
 
-use mq_base::NoMemory;
 use mq_disk::{
     Cutter, Disk, Failed, FileShelf, Fuse, Image, MemDisk, MemShelf, Shelf, Side, Stop, TakeFault,
 };
 use mq_name::QName;
 use std::alloc::Global;
 use std::test::*;
-
-/// A disk that holds `abc`, with room for seven bytes.
-fn abc(alloc: Global, image: Image) -> Result<MemDisk, NoMemory> {
-    MemDisk::new(alloc, b"abc", 7, image, Vec::new(alloc))
-}
 
 #[test]
 fn a_restart_leaves_the_image_of_a_write(rt: HostRuntime) -> Result<(), Fail> {
@@ -20,7 +14,7 @@ fn a_restart_leaves_the_image_of_a_write(rt: HostRuntime) -> Result<(), Fail> {
         (Image::Lost, b"abc"),
         (Image::Torn, b"abcde"),
     ] {
-        let mut disk = abc(rt.alloc(), image)?;
+        let mut disk = MemDisk::new(rt.alloc(), b"abc", 7, image, Vec::new(rt.alloc()))?;
         disk.write_at(3, b"defg")?;
         assert_eq!(rt; disk.bytes(), b"abcdefg".as_slice());
         disk.restart()?;
@@ -36,7 +30,7 @@ fn a_restart_leaves_the_image_of_a_cut(rt: HostRuntime) -> Result<(), Fail> {
         (Image::Lost, b"abc"),
         (Image::Torn, b"a"),
     ] {
-        let mut disk = abc(rt.alloc(), image)?;
+        let mut disk = MemDisk::new(rt.alloc(), b"abc", 7, image, Vec::new(rt.alloc()))?;
         disk.cut(1)?;
         disk.restart()?;
         assert_eq!(rt; disk.bytes(), wanted, "{image:?}");
@@ -47,7 +41,7 @@ fn a_restart_leaves_the_image_of_a_cut(rt: HostRuntime) -> Result<(), Fail> {
 #[test]
 fn a_restart_keeps_what_was_synced(rt: HostRuntime) -> Result<(), Fail> {
     for image in [Image::Kept, Image::Lost, Image::Torn] {
-        let mut disk = abc(rt.alloc(), image)?;
+        let mut disk = MemDisk::new(rt.alloc(), b"abc", 7, image, Vec::new(rt.alloc()))?;
         disk.write_at(1, b"xy")?;
         disk.sync()?;
         disk.restart()?;
@@ -170,7 +164,8 @@ fn a_file_that_was_cut_is_taken_again_as_it_is(rt: HostRuntime) -> Result<(), Fa
     let mut shelf = FileShelf::new(&rt);
     let name = QName::of(b"PARIS")?;
     let mut disk = shelf.take(&name, Side::B)?;
-    write_twice(&mut disk)?;
+    disk.cut(0)?;
+    disk.write_at(0, b"abcd")?;
     disk.cut(2)?;
     disk.sync()?;
     assert_eq!(rt; shelf.take(&name, Side::B)?.len(), Ok(2));

@@ -9,4 +9,4 @@ mod quoting;
 pub use lines::{behind, cut, next_line};
 pub use numbers::{NumberFault, number, signed};
 pub use piece::{Piece, PieceFault, PieceKind, pieces};
-pub use quoting::{unquoted, upper};
+pub use quoting::{quoted_len, unquoted, upper};

@@ -1,0 +1,5 @@
+pub mod Commands
+pub mod Bodies
+pub mod Options
+pub mod Verbs
+pub mod Lines
