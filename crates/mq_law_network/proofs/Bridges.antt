@@ -13,14 +13,14 @@ use Rattle.mq_objects.specs.Names.{local_of}
 use Rattle.mq_sync.specs.declared.unit.Unit.{Unit as Luw}
 use Rattle.mq_sync.specs.declared.data.InDoubt.{InDoubt}
 use Rattle.mq_calls.specs.declared.state.Batch.{Batch}
-use Rattle.mq_history.specs.declared.opening.StoredQueue.{StoredQueue}
+use Rattle.mq_calls.specs.declared.image.Shelf.{Shelf}
 use Rattle.mq_history.specs.declared.story.ManagerPlaces.{ManagerPlaces}
 use Rattle.mq_history.specs.declared.scenario.Scenario.{Scenario}
 use Rattle.mq_spec_state.specs.State.{Plain, Queue, Which, fresh_queue}
-use Rattle.mq_spec_state.specs.State.Change.{Leave, Hold, Release, Uncount}
+use Rattle.mq_spec_state.specs.State.Change.{Leave, Hold, Release}
 use Rattle.mq_spec_state.specs.State.Change.{Place as Places}
 use Rattle.mq_spec_state.specs.Reads.{stored, queue_in, is_persistent, sender_data, in_doubt_of, batch_of}
-use Rattle.mq_spec_state.specs.Changes.{lane_of, new_row, set_queue, placed_in, kept_in, held_in, released_in, uncounted, uncounted_in, selects, retag_if, release_if, apply}
+use Rattle.mq_spec_state.specs.Changes.{lane_of, new_row, set_queue, placed_in, kept_in, held_in, released_in, selects, retag_if, release_if, apply}
 use Rattle.mq_spec_network.specs.Ledger as ledgers
 use Rattle.mq_spec_network.specs.Ledger.{Ledger, nobody, places_or, places_at, change_at, put_on, put_in, leave_queues, is_one_of, take_from, take_everywhere, lose, rows_in, ledger_rows}
 use Rattle.mq_spec_network.specs.Standing.{row_told, rows_told, is_doubted, counts_there, is_held_there, standing_in, standing_of, last_unit, cable_from}
@@ -77,30 +77,22 @@ held_rows which by_ d p = mapped (held_in which by_) (λ q. refl) d p.queues ref
 pub released_rows : (which : Which) (back : Bool) (d : List ℕ) (p : Plain) → (stored d (apply (Release which back) p)).rows ≡ retag (λ row. release_if (selects which d row && not (is_free row)) back row) (stored d p).rows
 released_rows which back d p = mapped (released_in which back) (λ q. refl) d p.queues refl ∙ ap (λ z. retag (λ row. release_if (selects which z row && not (is_free row)) back row) (stored d p).rows) (queue_named d p.queues)
 
-pub uncounted_rows : (d : List ℕ) (p : Plain) → (stored d (apply Uncount p)).rows ≡ retag uncounted (stored d p).rows
-uncounted_rows d p = mapped uncounted_in (λ q. refl) d p.queues refl
-
 -- The ledger's lists
 
-pub arrived : List ℕ → List StoredQueue → ℕ
-arrived name [] = 0
-arrived name (q ∷ qs) = if bytes_eq name q.name then q.arrivals else arrived name qs
-
-book_put : (d name : List ℕ) (lane : ℕ) (m : Message) (qs : List StoredQueue) → rows_in d (put_in name lane m qs) ≡ (if bytes_eq d name then insert_row (new_row lane (arrived name qs + 1) m) (rows_in name qs) else rows_in d qs)
-unfolding arrived
+book_put : (d name : List ℕ) (lane : ℕ) (m : Message) (qs : List Shelf) → rows_in d (put_in name lane m qs) ≡ (if bytes_eq d name then insert_row (new_row lane 0 m) (rows_in name qs) else rows_in d qs)
 book_put d name lane m [] = refl
 book_put d name lane m (q ∷ qs) =
     bool_case (bytes_eq name q.name) (λ t. bytes_eq name q.name ≡ t → rows_in d (if t then put_on lane m q ∷ qs else q ∷ put_in name lane m qs)
-    ≡ (if bytes_eq d name then insert_row (new_row lane ((if t then q.arrivals else arrived name qs) + 1) m) (if t then q.rows else rows_in name qs) else (if bytes_eq d q.name then q.rows else rows_in d qs)))
+    ≡ (if bytes_eq d name then insert_row (new_row lane 0 m) (if t then q.rows else rows_in name qs) else (if bytes_eq d q.name then q.rows else rows_in d qs)))
     (λ e f. let n : name ≡ q.name = name_yes name q.name f in
     ap (λ z. if bytes_eq d z then (put_on lane m q).rows else rows_in d qs) (sym n)
-    ∙ bool_case (bytes_eq d name) (λ t. bytes_eq d name ≡ t → (if t then (put_on lane m q).rows else rows_in d qs) ≡ (if t then insert_row (new_row lane (q.arrivals + 1) m) q.rows else (if bytes_eq d q.name then q.rows else rows_in d qs)))
+    ∙ bool_case (bytes_eq d name) (λ t. bytes_eq d name ≡ t → (if t then (put_on lane m q).rows else rows_in d qs) ≡ (if t then insert_row (new_row lane 0 m) q.rows else (if bytes_eq d q.name then q.rows else rows_in d qs)))
     (λ g h. refl) (λ g h. sym (ap (λ t. if t then q.rows else rows_in d qs) (ap (λ z. bytes_eq d z) (sym n) ∙ h))) refl)
-    (λ e f. bool_case (bytes_eq d q.name) (λ t. bytes_eq d q.name ≡ t → (if t then q.rows else rows_in d (put_in name lane m qs)) ≡ (if bytes_eq d name then insert_row (new_row lane (arrived name qs + 1) m) (rows_in name qs) else (if t then q.rows else rows_in d qs)))
-    (λ g h. sym (ap (λ t. if t then insert_row (new_row lane (arrived name qs + 1) m) (rows_in name qs) else q.rows) (is_false (bytes_eq d name) (λ k. true_false (sym (ap (λ z. bytes_eq z q.name) (sym (name_yes d name k)) ∙ h) ∙ f)))))
+    (λ e f. bool_case (bytes_eq d q.name) (λ t. bytes_eq d q.name ≡ t → (if t then q.rows else rows_in d (put_in name lane m qs)) ≡ (if bytes_eq d name then insert_row (new_row lane 0 m) (rows_in name qs) else (if t then q.rows else rows_in d qs)))
+    (λ g h. sym (ap (λ t. if t then insert_row (new_row lane 0 m) (rows_in name qs) else q.rows) (is_false (bytes_eq d name) (λ k. true_false (sym (ap (λ z. bytes_eq z q.name) (sym (name_yes d name k)) ∙ h) ∙ f)))))
     (λ g h. book_put d name lane m qs) refl) refl
 
-book_left : (stays : Row → Bool) (d : List ℕ) (qs : List StoredQueue) → rows_in d (leave_queues stays qs) ≡ keep stays (rows_in d qs)
+book_left : (stays : Row → Bool) (d : List ℕ) (qs : List Shelf) → rows_in d (leave_queues stays qs) ≡ keep stays (rows_in d qs)
 book_left stays d [] = refl
 book_left stays d (q ∷ qs) = bool_case (bytes_eq d q.name) (λ t. (if t then keep stays q.rows else rows_in d (leave_queues stays qs)) ≡ keep stays (if t then q.rows else rows_in d qs)) (λ e. refl) (λ e. book_left stays d qs)
 
@@ -172,7 +164,7 @@ takes_everywhere is a d l = go l.places a
 -- to place, at a manager that the ledger has
 pub places_rows : (m : ℕ) (name : List ℕ) (message : Message) (p : ManagerPlaces) (a : ℕ) (d : List ℕ) (l : Ledger) → slice_get l.places m ≡ Some p
     → ledger_rows a d (ledgers.place m name message l)
-    ≡ put_at (λ a d. ledger_rows a d l) m name (insert_row (new_row (lane_of (local_of name p.definitions) message.md.priority) (arrived name p.queues + 1) message) (ledger_rows m name l)) a d
+    ≡ put_at (λ a d. ledger_rows a d l) m name (insert_row (new_row (lane_of (local_of name p.definitions) message.md.priority) 0 message) (ledger_rows m name l)) a d
 places_rows m name message p a d l is = ap (λ (p : ManagerPlaces). rows_in d p.queues) (at_changed m (ledgers.place_at name message) a l) ∙ go (a == m) refl
   where
     lane : ℕ
@@ -189,23 +181,19 @@ places_rows m name message p a d l is = ap (λ (p : ManagerPlaces). rows_in d p.
     none_if (Some x) = refl
 
     go : (t : Bool) → (a == m) ≡ t → rows_in d (places_or (mapped_if t (ledgers.place_at name message) (slice_get l.places a))).queues
-        ≡ (if t && bytes_eq d name then insert_row (new_row lane (arrived name p.queues + 1) message) (ledger_rows m name l) else ledger_rows a d l)
+        ≡ (if t && bytes_eq d name then insert_row (new_row lane 0 message) (ledger_rows m name l) else ledger_rows a d l)
     go false e = ap (λ o. rows_in d (places_or o).queues) (none_if (slice_get l.places a))
     go true e =
         let am : a ≡ m = eqb_yes a m e in
         ap (λ o. rows_in d (places_or (mapped_if true (ledgers.place_at name message) o)).queues) (ap (slice_get l.places) am ∙ is)
         ∙ book_put d name lane message p.queues
-        ∙ (λ i. if bytes_eq d name then insert_row (new_row lane (arrived name p.queues + 1) message) (here i) else there i)
-        ∙ ap (λ z. if bytes_eq d name then insert_row (new_row lane (arrived name p.queues + 1) message) (ledger_rows m name l) else ledger_rows z d l) (sym am)
+        ∙ (λ i. if bytes_eq d name then insert_row (new_row lane 0 message) (here i) else there i)
+        ∙ ap (λ z. if bytes_eq d name then insert_row (new_row lane 0 message) (ledger_rows m name l) else ledger_rows z d l) (sym am)
 
 -- What stands is what the laws see to stand.
 away_is : (o : Option InDoubt) (b : Option Batch) (u : Luw) → is_doubted o u ≡ (is_some o && is_last (held_unit o b) u)
 away_is None b u = refl
 away_is (Some d) b u = refl
-
-filter_keep : (p : Row → Bool) (xs : List Row) → filter p xs ≡ keep p xs
-filter_keep p [] = refl
-filter_keep p (x ∷ xs) = bool_case (p x) (λ t. (if t then x ∷ filter p xs else filter p xs) ≡ (if t then x ∷ keep p xs else keep p xs)) (λ e. ap (λ (rs : List Row). x ∷ rs) (filter_keep p xs)) (λ e. filter_keep p xs)
 
 held_away : (s : Scenario) (ps : List Plain) (p : Plain) (x : Option Holder) (f : List ℕ → Bool) → ((c : List ℕ) → counts_there s ps p c ≡ f c) → not (is_held_there s ps p x) ≡ stands f x
 held_away s ps p None f same = refl
@@ -220,7 +208,6 @@ standing_is s given ps m q = go (slice_get ps m) refl
   where
     go : (o : Option Plain) → slice_get ps m ≡ o → standing_of s ps q o ≡ keep (row_stands (away (world_of s given ps) m)) (rows_of q o)
     go None e = refl
-    go (Some p) e = filter_keep (λ (row : Row). not (is_held_there s ps p row.by)) (stored q p).rows
-        ∙ keep_same _ _ (stored q p).rows (λ row n. held_away s ps p row.by (away (world_of s given ps) m)
+    go (Some p) e = keep_same _ _ (stored q p).rows (λ row n. held_away s ps p row.by (away (world_of s given ps) m)
         (λ c. away_is (in_doubt_of (sender_data c p)) (batch_of c p.channels.batches) (last_unit ps c (cable_from p.given.number c s.cables))
         ∙ sym (ap (λ o. law_away s ps c o) e)))
