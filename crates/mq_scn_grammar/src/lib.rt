@@ -1,0 +1,14 @@
+//! What the lines of a scenario's scripts are, as relations between a line's text and what it says, and why a text is
+//! none; and that the readers read just these.
+#![tactic(auto)]
+
+mod laws;
+
+pub use laws::{
+    a_quote_is_open_where_there_are_no_words, a_value_stands_in_brackets,
+    an_option_has_the_value_that_its_word_gives, fields_are_read_where_they_stand,
+    labels_are_read_where_they_stand, names_are_read_where_they_stand,
+    names_or_blanks_are_read_where_they_stand, numbers_are_read_where_they_stand,
+    options_are_those_of_the_words, signed_numbers_are_read_where_they_stand,
+    texts_are_read_where_they_stand, words_are_those_of_the_text,
+};
