@@ -14,10 +14,12 @@ use Rattle.mq_sc_apply.specs.Uses.{Uses}
 use Rattle.mq_sc_apply.specs.Planned.{define, alter, alter_manager, delete}
 use Rattle.mq_sc_apply.specs.Displayed.{display}
 
+-- a change is what a command does
 abbrev pub to_change : Result Planned ScRefusal → Result Plan ScRefusal
 to_change (Ok planned) = Ok (plans.Change planned)
 to_change (Err refusal) = Err refusal
 
+-- lines are
 abbrev pub to_show : Result Shown ScRefusal → Result Plan ScRefusal
 to_show (Ok shown) = Ok (plans.Show shown)
 to_show (Err refusal) = Err refusal
@@ -54,6 +56,7 @@ GivesErr refusals.NotEmpty expected = Err refusals.NotEmpty ≡ expected
 GivesErr refusals.Disk expected = Err refusals.Disk ≡ expected
 GivesErr refusals.Cut expected = Err refusals.Cut ≡ expected
 
+-- an answer, or want of memory in its place
 abbrev pub Gives : {T : Type 0} → Result T ScRefusal → Result T ScRefusal → Type 0
 Gives (Ok value) expected = Ok value ≡ expected
 Gives (Err refusal) expected = GivesErr refusal expected

@@ -35,6 +35,7 @@ abbrev pub is_type_setting : Setting → Bool
 is_type_setting (settings.ChannelType t) = true
 is_type_setting _ = false
 
+-- and then with all of them
 abbrev pub defined_object : Subject → List Setting → Object
 defined_object subject given = set_all given (set_all (filter is_type_setting given) (new_object subject))
 
@@ -42,9 +43,11 @@ defined_object subject given = set_all given (set_all (filter is_type_setting gi
 abbrev pub same_usage : Usage → Usage → Bool
 same_usage a b = if is_transmission a then is_transmission b else not (is_transmission b)
 
+-- one MSGDLVSQ
 abbrev pub same_delivery : Delivery → Delivery → Bool
 same_delivery a b = if is_by_priority a then is_by_priority b else not (is_by_priority b)
 
+-- by the kind of both
 abbrev pub leads_elsewhere : Object → Object → Bool
 leads_elsewhere (objects.Local a) (objects.Local b) = not (same_usage a.usage b.usage)
 leads_elsewhere (objects.Alias a) (objects.Alias b) = not (bytes_eq a.target b.target)
@@ -52,6 +55,7 @@ leads_elsewhere (objects.Remote a) (objects.Remote b) =
     not (bytes_eq a.remote_name b.remote_name && bytes_eq a.remote_manager b.remote_manager && bytes_eq a.transmission_queue b.transmission_queue)
 leads_elsewhere _ _ = false
 
+-- USAGE alone
 abbrev pub changes_usage : Object → Object → Bool
 changes_usage (objects.Local a) (objects.Local b) = not (same_usage a.usage b.usage)
 changes_usage _ _ = false
@@ -69,14 +73,17 @@ is_on_path (objects.Remote q) u = u.on_path q.name
 is_on_path (objects.Channel c) u = false
 is_on_path (objects.Process p) u = false
 
+-- a running sender has it open
 abbrev pub is_sent_from : Object → Uses → Bool
 is_sent_from (objects.Local q) u = u.sending q.name
 is_sent_from _ u = false
 
+-- it is a channel that runs or is in doubt
 abbrev pub is_busy : Object → Uses → Bool
 is_busy (objects.Channel c) u = u.channel_busy c.name
 is_busy _ u = false
 
+-- it is a queue with rows or uncommitted puts
 abbrev pub is_filled : Object → Uses → Bool
 is_filled (objects.Local q) u = u.has_rows q.name
 is_filled _ u = false
@@ -86,15 +93,18 @@ abbrev pub is_used : (force : Bool) → Object → Object → Uses → Bool
 is_used force old new u =
     (not force && leads_elsewhere old new && is_on_path old u) || (changes_usage old new && is_sent_from old u) || is_busy old u
 
+-- what refuses the change
 abbrev pub change_rows : (force : Bool) → Object → Object → Uses → List (Row (Result Planned ScRefusal))
 change_rows force old new u =
     row (is_used force old new u) (Err refusals.InUse)
     ∷ row (changes_rows old new && is_filled old u) (Err refusals.NotEmpty)
     ∷ []
 
+-- the change that sets an object
 abbrev pub set_planned : Object → (reroutes switches_on : Bool) → Planned
 set_planned new reroutes on = record { change = changes.Set new; reroutes = reroutes; switches_on = on }
 
+-- the change, or what refuses it
 abbrev pub changed : (force : Bool) → Object → Object → (switches_on : Bool) → Uses → Result Planned ScRefusal
 changed force old new on u = first_row (change_rows force old new u) (Ok (set_planned new (leads_elsewhere old new) on))
 
@@ -105,6 +115,7 @@ define_at d new (Some old) u = first_row (
     row (not d.replace || not (is_kind d.subject old)) (Err refusals.Exists)
     ∷ []) (changed false old new false u)
 
+-- by what the command names
 abbrev pub define : Define → Definitions → Uses → Result Planned ScRefusal
 define d defs u = define_at d (defined_object d.subject d.settings) (named d.subject defs) u
 
@@ -118,14 +129,17 @@ bad_keyword (kinds.Receiver dead) (settings.ShortRetry n) = Some keywords.ShortR
 bad_keyword (kinds.Receiver dead) (settings.TransmissionQueue name) = Some keywords.XmitQ
 bad_keyword _ _ = None
 
+-- the first of two
 abbrev pub or_bad : Option Keyword → Option Keyword → Option Keyword
 or_bad None other = other
 or_bad (Some k) other = Some k
 
+-- among all
 abbrev pub first_bad : ChannelKind → List Setting → Option Keyword
 first_bad kind [] = None
 first_bad kind (s ∷ ss) = or_bad (bad_keyword kind s) (first_bad kind ss)
 
+-- of an object; only channels refuse any
 abbrev pub bad_in : Object → List Setting → Option Keyword
 bad_in (objects.Channel c) given = first_bad c.kind given
 bad_in _ given = None
@@ -135,20 +149,24 @@ abbrev pub is_trigger_setting : Setting → Bool
 is_trigger_setting (settings.Trigger b) = b
 is_trigger_setting _ = false
 
+-- by an ALTER
 abbrev pub switches_on : Object → List Setting → Bool
 switches_on (objects.Local q) given = list_any is_trigger_setting given
 switches_on _ given = false
 
+-- where the keywords are good
 abbrev pub alter_good : Option Keyword → Alter → Object → Uses → Result Planned ScRefusal
 alter_good (Some keyword) a old u = Err (refusals.BadValue keyword)
 alter_good None a old u = changed a.force old (set_all a.settings old) (switches_on old a.settings) u
 
+-- by what stands there
 abbrev pub alter_at : Alter → Option Object → Uses → Result Planned ScRefusal
 alter_at a None u = Err refusals.Missing
 alter_at a (Some old) u = first_row (
     row (not (is_kind a.subject old)) (Err refusals.Missing)
     ∷ []) (alter_good (bad_in old a.settings) a old u)
 
+-- by what the command names
 abbrev pub alter : Alter → Definitions → Uses → Result Planned ScRefusal
 alter a defs u = alter_at a (named a.subject defs) u
 
@@ -156,11 +174,13 @@ alter a defs u = alter_at a (named a.subject defs) u
 abbrev pub default_changes : ManagerAttributes → ManagerAttributes → Bool
 default_changes a b = not (bytes_eq a.default_transmission_queue b.default_transmission_queue)
 
+-- by the attributes that come
 abbrev pub alter_attributes : (force : Bool) → ManagerAttributes → ManagerAttributes → Uses → Result Planned ScRefusal
 alter_attributes force old new u = first_row (
     row (not force && default_changes old new && u.defxmitq_on_path) (Err refusals.InUse)
     ∷ []) (Ok (record { change = changes.SetManager new; reroutes = default_changes old new; switches_on = false }))
 
+-- by the command
 abbrev pub alter_manager : AlterManager → Definitions → Uses → Result Planned ScRefusal
 alter_manager a defs u = alter_attributes a.force defs.manager (set_all_manager a.settings defs.manager) u
 
@@ -173,5 +193,6 @@ delete_at d (Some old) u = first_row (
     ∷ row (is_filled old u) (Err refusals.NotEmpty)
     ∷ []) (Ok (record { change = changes.Delete d.subject; reroutes = false; switches_on = false }))
 
+-- by what the command names
 abbrev pub delete : Delete → Definitions → Uses → Result Planned ScRefusal
 delete d defs u = delete_at d (named d.subject defs) u

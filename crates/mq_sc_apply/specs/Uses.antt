@@ -1,6 +1,7 @@
 -- What the rest of a manager says of the use of its objects.
 use Rattle.std.specs.Prelude.{ℕ, Bool, false, List}
 
+-- by the name of a queue or a channel
 pub record Uses : Type 0 where
   -- a live handle's path has the queue; it has the manager's DEFXMITQ
   pub on_path : List ℕ → Bool

@@ -1,5 +1,4 @@
-use Rattle.std.proofs.Common.{◌≡◌, ℕ, List, Option, Some, None, [], ◌∷◌, ◌++◌, filter, option_to_list, sym, ap, subst, ◌∙◌}
-use Rattle.mq_objects.specs.declared.object.Object.{Object}
+use Rattle.std.proofs.Common.{◌≡◌, ℕ, List, Some, None, [], ◌∷◌, ◌++◌, filter, sym, ap, ◌∙◌}
 use Rattle.mq_objects.specs.Names.{space_in, is_object}
 use Rattle.mq_sc_apply.specs.Displayed.{searched_space, lines_of}
 use Rattle.mq_sc_apply.proofs.LineLemmas.{lines_of-named}
