@@ -19,7 +19,7 @@ record_or r None = r
 record_or r (Some x) = x
 
 -- what is told of a forced record
-told : (f : Option LogRecord) (r : LogRecord) (p : Plain) (new : Image) → f ≡ Some r → Told f p new → new ≡ doing r (lasting p)
+pub told : (f : Option LogRecord) (r : LogRecord) (p : Plain) (new : Image) → f ≡ Some r → Told f p new → new ≡ doing r (lasting p)
 told None r p new e h = absurd cc
 told (Some x) r p new e h = h.1 ∙ ap (λ (y : LogRecord). doing y (lasting p)) (ap (record_or r) e)
 
