@@ -18,3 +18,4 @@ pub mod Agreeing
 pub mod Promising
 pub mod Tying
 pub mod Openings
+pub mod Images
