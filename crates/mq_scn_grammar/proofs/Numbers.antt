@@ -29,7 +29,7 @@ pub negative_unsigned : (text : List ℕ) → is_negative text ≡ true → is_n
 negative_unsigned [] e = absurd cc
 negative_unsigned (b ∷ bs) e = minus_no_digit b bs (eqb b 45) refl e
 
-both_signs : (text : List ℕ) → is_number text ≡ true → is_negative text ≡ true → ⊥
+pub both_signs : (text : List ℕ) → is_number text ≡ true → is_negative text ≡ true → ⊥
 both_signs text e f = absurd (let g : true ≡ false = sym e ∙ negative_unsigned text f in cc)
 
 -- one fault
@@ -54,13 +54,13 @@ one_value Is beyond text x is numeral same = (is, (λ y h. same y h), λ f h. by
     by f (inl h) = h.1 numeral
     by f (inr h) = h.1.1 x is
 
-le_of : (a b : ℕ) → nat_le a b ≡ true → a ≤ b
+pub le_of : (a b : ℕ) → nat_le a b ≡ true → a ≤ b
 le_of a b e = elim (leb_tells a b) [
   | inl t ↦ t.1
   | inr t ↦ absurd (let f : true ≡ false = sym e ∙ t.0 in cc)
 ]
 
-of_le : (a b : ℕ) → a ≤ b → nat_le a b ≡ true
+pub of_le : (a b : ℕ) → a ≤ b → nat_le a b ≡ true
 of_le a b le = elim (leb_tells a b) [
   | inl t ↦ t.0
   | inr t ↦ absurd (let lt = t.1 in omega (arith, lt, le))

@@ -273,3 +273,41 @@ value_by allowed ws option value (Some u) e v h p = ap some_value (one_value all
 
 pub value_read : (allowed : List LineOption) (ws : List (List ℕ)) (option : LineOption) (value : List ℕ) → has_value option ≡ true → AreOptions allowed ws → HasValue option value ws → value_of option ws ≡ some_value value
 value_read allowed ws option value v h p = value_by allowed ws option value (value_of option ws) refl v h p
+
+-- ---- options of one group
+
+said_word : (option : LineOption) → has_value option ≡ false → IsOptionWord option (option_word option)
+said_word option e = by (has_value option) e
+  where
+    by : (t : Bool) → t ≡ false → IsWordOf t option (option_word option)
+    by true f = absurd cc
+    by false f = refl
+
+one_said_in : (allowed os : List LineOption) (ws : List (List ℕ)) (a b : LineOption) → IsOptionWord a (option_word a) → IsOptionWord b (option_word b) → group_of a ≡ group_of b → AreOfOptions allowed os ws → AreDistinct (map group_of os) → Says a ws → Says b ws → a ≡ b
+one_said_in allowed [] [] a b i j g h d p q = absurd p
+one_said_in allowed [] (w ∷ ws) a b i j g h d p q = absurd h
+one_said_in allowed (o ∷ os) [] a b i j g h d p q = absurd h
+one_said_in allowed (o ∷ os) (w ∷ ws) a b i j g h d (inl p) (inl q) = one_option a o w (subst (IsOptionWord a) p i) h.1 ∙ sym (one_option b o w (subst (IsOptionWord b) q j) h.1)
+one_said_in allowed (o ∷ os) (w ∷ ws) a b i j g h d (inl p) (inr q) =
+    let same = one_option a o w (subst (IsOptionWord a) p i) h.1 in
+    let group = sym g ∙ ap group_of same in
+    absurd (d.0 (subst (λ (k : LineOption). Mem k (map group_of os)) group (group_among allowed os ws b (option_word b) h.2 q j)))
+one_said_in allowed (o ∷ os) (w ∷ ws) a b i j g h d (inr p) (inl q) =
+    let same = one_option b o w (subst (IsOptionWord b) q j) h.1 in
+    let group = g ∙ ap group_of same in
+    absurd (d.0 (subst (λ (k : LineOption). Mem k (map group_of os)) group (group_among allowed os ws a (option_word a) h.2 p i)))
+one_said_in allowed (o ∷ os) (w ∷ ws) a b i j g h d (inr p) (inr q) = one_said_in allowed os ws a b i j g h.2 d.1 p q
+
+-- of a group one is said
+pub one_said : (allowed : List LineOption) (ws : List (List ℕ)) (a b : LineOption) → has_value a ≡ false → has_value b ≡ false → group_of a ≡ group_of b → AreOptions allowed ws → Says a ws → Says b ws → a ≡ b
+one_said allowed ws a b e f g h p q = one_said_in allowed h.0 ws a b (said_word a e) (said_word b f) g h.1 h.2 p q
+
+pub not_said : (option : LineOption) (ws : List (List ℕ)) → (Says option ws → ⊥) → says option ws ≡ false
+not_said option ws never = by (says option ws) refl
+  where
+    by : (t : Bool) → says option ws ≡ t → says option ws ≡ false
+    by true e = absurd (never ((says_decides option ws).0 e))
+    by false e = e
+
+pub never_said : (option : LineOption) (ws : List (List ℕ)) → says option ws ≡ false → Says option ws → ⊥
+never_said option ws e m = absurd (let f : false ≡ true = sym e ∙ (says_decides option ws).1 m in cc)

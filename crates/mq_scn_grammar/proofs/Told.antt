@@ -1,6 +1,6 @@
 -- What a reader tells where what holds is known: one value and no fault, or no value and the first of the faults.
 use Rattle.std.proofs.Common.{◌≡◌, ◌⊎◌, ℕ, suc, ◌≤◌, ◌<◌, Bool, true, false, cond, eqb, refl, sym, ap, subst, ◌∙◌, arith, inl, inr}
-use Rattle.std.specs.Prelude.{Result, Ok, Err, nat_le}
+use Rattle.std.specs.Prelude.{Option, Some, None, Result, Ok, Err, nat_le}
 use Rattle.std.specs.Bool.{Decides}
 use Rattle.std.proofs.lemmas.Bool.Decides.{leb_tells}
 use Rattle.mq_scn_lines.specs.declared.fault.Limit.{Limit}
@@ -8,6 +8,7 @@ use Rattle.mq_scn_lines.specs.declared.fault.Limit.TheVariants as limits
 use Rattle.mq_scn_lines.specs.declared.fault.LineFault.{LineFault}
 use Rattle.mq_scn_lines.specs.declared.fault.LineFault.TheVariants as faults
 use Rattle.mq_scn_lines.specs.Faults.{limit_rank, rank, earlier, both}
+use Rattle.mq_scn_script.specs.Options.{and_then}
 use Rattle.mq_scn_grammar.specs.Faults.{IsMissed, IsTold}
 
 -- ---- faults of different ranks
@@ -236,3 +237,111 @@ plain_of faults.Twice lt = refl
 plain_of faults.Number lt = refl
 plain_of faults.Order lt = refl
 plain_of (faults.Mqsc fault) lt = absurd (omega (arith, lt))
+
+-- ---- what stands behind a first part
+
+abbrev some_at : {S : Type 0} → S → Option S
+some_at s = Some s
+
+abbrev none_at : {S : Type 0} → Option S
+none_at = None
+
+module _ {S A : Type 0} (IsS : S → Type 0) (Js : S → A → Type 0) (Gas : S → LineFault → Type 0) where
+  -- a first part, and what is made of it
+  abbrev pub Through : A → Type 0
+  Through x = (s : S) × IsS s × Js s x
+
+  abbrev pub HasThrough : LineFault → Type 0
+  HasThrough f = (s : S) × IsS s × Gas s f
+
+  -- no first part, or a fault of what is made of it
+  abbrev pub NoneOr : LineFault → Type 0
+  NoneOr f = ((f ≡ faults.Form) × ((s : S) → IsS s → ⊥)) ⊎ HasThrough f
+
+  -- no first part and a default, or what is made of it
+  abbrev pub DefaultOr : A → A → Type 0
+  DefaultOr default x = (((s : S) → IsS s → ⊥) × (x ≡ default)) ⊎ Through x
+
+  absent : (s : S) → none_at ≡ some_at s → ⊥
+  absent s e = absurd cc
+
+  the_one : (s t : S) → some_at s ≡ some_at t → s ≡ t
+  the_one s t e = cc
+
+  via_none : ((s : S) → IsS s → ⊥) → Reports Through NoneOr (Err faults.Form)
+  via_none none = ((λ x h. none h.0 h.1), inl (refl, none), refl, λ g h. only g h)
+    where
+      only : (g : LineFault) → NoneOr g → (g ≡ faults.Form) ⊎ (rank faults.Form < rank g)
+      only g (inl h) = inl h.0
+      only g (inr h) = absurd (none h.0 h.1)
+
+  via_some : (s : S) → IsS s → ((t : S) → IsS t → t ≡ s) → (r : Result A LineFault) → Reports (Js s) (Gas s) r → Reports Through NoneOr r
+  via_some s is same (Ok x) t = ((s, is, t.0), (λ y h. t.1 y (subst (λ (q : S). Js q y) (same h.0 h.1) h.2)), λ f h. never f h)
+    where
+      never : (f : LineFault) → NoneOr f → ⊥
+      never f (inl h) = h.1 s is
+      never f (inr h) = t.2 f (subst (λ (q : S). Gas q f) (same h.0 h.1) h.2)
+  via_some s is same (Err f) t = ((λ x h. t.0 x (subst (λ (q : S). Js q x) (same h.0 h.1) h.2)), inr (s, is, t.1), t.2, λ g h. first g h)
+    where
+      first : (g : LineFault) → NoneOr g → (g ≡ f) ⊎ (rank f < rank g)
+      first g (inl h) = absurd (h.1 s is)
+      first g (inr h) = t.3 g (subst (λ (q : S). Gas q g) (same h.0 h.1) h.2)
+
+  pub told_via : (o : Option S) (k : Option S → Result A LineFault) → k None ≡ Err faults.Form → ((s : S) → o ≡ Some s → IsS s) → ((s : S) → IsS s → o ≡ Some s) → ((s : S) → Reports (Js s) (Gas s) (k (Some s))) → Reports Through NoneOr (k o)
+  told_via None k e found read more = subst (Reports Through NoneOr) (sym e) (via_none (λ s h. absent s (read s h)))
+  told_via (Some s) k e found read more = via_some s (found s refl) (λ t h. the_one t s (sym (read t h))) (k (Some s)) (more s)
+
+  or_none : (default : A) → ((s : S) → IsS s → ⊥) → Reports (DefaultOr default) HasThrough (Ok default)
+  or_none default none = (inl (none, refl), (λ y h. same y h), λ f h. none h.0 h.1)
+    where
+      same : (y : A) → DefaultOr default y → y ≡ default
+      same y (inl h) = h.1
+      same y (inr h) = absurd (none h.0 h.1)
+
+  or_some : (default : A) (s : S) → IsS s → ((t : S) → IsS t → t ≡ s) → (r : Result A LineFault) → Reports (Js s) (Gas s) r → Reports (DefaultOr default) HasThrough r
+  or_some default s is same (Ok x) t = (inr (s, is, t.0), (λ y h. one y h), λ f h. t.2 f (subst (λ (q : S). Gas q f) (same h.0 h.1) h.2))
+    where
+      one : (y : A) → DefaultOr default y → y ≡ x
+      one y (inl h) = absurd (h.0 s is)
+      one y (inr h) = t.1 y (subst (λ (q : S). Js q y) (same h.0 h.1) h.2)
+  or_some default s is same (Err f) t = ((λ x h. never x h), (s, is, t.1), t.2, λ g h. t.3 g (subst (λ (q : S). Gas q g) (same h.0 h.1) h.2))
+    where
+      never : (x : A) → DefaultOr default x → ⊥
+      never x (inl h) = h.0 s is
+      never x (inr h) = t.0 x (subst (λ (q : S). Js q x) (same h.0 h.1) h.2)
+
+  pub told_or : (default : A) (o : Option S) (k : Option S → Result A LineFault) → k None ≡ Ok default → ((s : S) → o ≡ Some s → IsS s) → ((s : S) → IsS s → o ≡ Some s) → ((s : S) → Reports (Js s) (Gas s) (k (Some s))) → Reports (DefaultOr default) HasThrough (k o)
+  told_or default None k e found read more = subst (Reports (DefaultOr default) HasThrough) (sym e) (or_none default (λ s h. absent s (read s h)))
+  told_or default (Some s) k e found read more = or_some default s (found s refl) (λ t h. the_one t s (sym (read t h))) (k (Some s)) (more s)
+
+-- ---- one part behind another that has the fault Form alone
+
+module _ {A B : Type 0} (Is : A → Type 0) (Has : LineFault → Type 0) (Js : A → B → Type 0) (Gas : LineFault → Type 0) (only : (f : LineFault) → Has f → f ≡ faults.Form) (later : (f : LineFault) → Gas f → (f ≡ faults.Form) ⊎ (rank faults.Form < rank f)) where
+  abbrev pub AreNext : B → Type 0
+  AreNext y = (x : A) × Is x × Js x y
+
+  abbrev pub HasNext : LineFault → Type 0
+  HasNext f = Has f ⊎ Gas f
+
+  next_some : (x : A) → Is x → ((z : A) → Is z → z ≡ x) → ((f : LineFault) → Has f → ⊥) → (r : Result B LineFault) → Reports (Js x) Gas r → Reports AreNext HasNext r
+  next_some x is same none (Ok y) t = ((x, is, t.0), (λ z h. t.1 z (subst (λ (q : A). Js q z) (same h.0 h.1) h.2)), λ f h. never f h)
+    where
+      never : (f : LineFault) → HasNext f → ⊥
+      never f (inl h) = none f h
+      never f (inr h) = t.2 f h
+  next_some x is same none (Err f) t = ((λ z h. t.0 z (subst (λ (q : A). Js q z) (same h.0 h.1) h.2)), inr t.1, t.2, λ g h. first g h)
+    where
+      first : (g : LineFault) → HasNext g → (g ≡ f) ⊎ (rank f < rank g)
+      first g (inl h) = absurd (none g h)
+      first g (inr h) = t.3 g h
+
+  next_none : (f : LineFault) → Reports Is Has (Err f) → Reports AreNext HasNext (Err f)
+  next_none f t = ((λ z h. t.0 h.0 h.1), inl t.1, t.2, λ g h. first g h)
+    where
+      first : (g : LineFault) → HasNext g → (g ≡ f) ⊎ (rank f < rank g)
+      first g (inl h) = t.3 g h
+      first g (inr h) = subst (λ (x : LineFault). (g ≡ x) ⊎ (rank x < rank g)) (sym (only f t.1)) (later g h)
+
+  pub told_next : (r : Result A LineFault) (next : A → Result B LineFault) → Reports Is Has r → ((x : A) → Reports (Js x) Gas (next x)) → Reports AreNext HasNext (and_then r next)
+  told_next (Ok x) next t more = next_some x t.0 t.1 t.2 (next x) (more x)
+  told_next (Err f) next t more = next_none f t

@@ -1,6 +1,6 @@
-//! The laws of words, operands and options, as functions with empty bodies whose contracts are the theorems.
+//! The laws of words, operands, options and script lines, as functions with empty bodies whose contracts are the theorems.
 
-ghost use Rattle.std.specs.Prelude.{◌≡◌, ◌<◌, ℕ, ℤ, true, false, List, Some, None, Ok, Err};
+ghost use Rattle.std.specs.Prelude.{◌≡◌, ◌⊎◌, ◌<◌, ℕ, ℤ, true, false, List, Some, None, Ok, Err};
 ghost use Rattle.mq_text.specs.Quoting.{quoted};
 ghost use Rattle.mq_scn_lines.specs.declared.fault.LineFault.{LineFault};
 ghost use Rattle.mq_scn_lines.specs.declared.fault.LineFault.TheVariants.{Form, Name, Number};
@@ -12,8 +12,19 @@ ghost use Rattle.mq_scn_lines.specs.Operands.{bracketed, label_in, name_in, name
 ghost use Rattle.mq_scn_lines.specs.Texts.{text_in, field_in};
 ghost use Rattle.mq_scn_lines.specs.Options.{has_value, are_options, says, value_of};
 ghost use Rattle.mq_scn_grammar.specs.Words.{AreWords};
-ghost use Rattle.mq_scn_grammar.specs.Faults.{IsMissed};
+ghost use Rattle.mq_calls.specs.declared.answers.Open.{Open};
+ghost use Rattle.mq_scn_script.specs.Bodies.{body_in};
+ghost use Rattle.mq_scn_script.specs.Options.{open_options, put_options, get_options};
+ghost use Rattle.mq_history.specs.declared.scripts.Body.{Body};
+ghost use Rattle.mq_history.specs.declared.scripts.PutOptions.{PutOptions};
+ghost use Rattle.mq_history.specs.declared.scripts.GetOptions.{GetOptions};
+ghost use Rattle.mq_history.specs.declared.scripts.ScriptLine.{ScriptLine};
+ghost use Rattle.mq_scn_script.specs.Lines.{script_line};
+ghost use Rattle.mq_scn_grammar.specs.Faults.{IsMissed, IsTold};
 ghost use Rattle.mq_scn_grammar.specs.Operands.{IsBracketed, IsLabelWord, IsNameWord, IsNameOrBlank, IsField, IsNumber, IsSigned, HasNumberFault};
+ghost use Rattle.mq_scn_grammar.specs.Bodies.{IsBodyWord, HasBodyFault};
+ghost use Rattle.mq_scn_grammar.specs.ScriptLines.{IsScriptLine, IsScriptFault};
+ghost use Rattle.mq_scn_grammar.specs.LineOptions.{AreOpenOptions, HasOpenFault, ArePutOptions, HasPutFault, AreGetOptions, HasGetFault};
 ghost use Rattle.mq_scn_grammar.specs.Options.{Mem, AreOptions, Says, HasValue};
 
 /// A text whose quotes are closed is the words that its reader answers, and no others.
@@ -106,4 +117,59 @@ pub fn an_option_has_the_value_that_its_word_gives()
     ensures read { (allowed : List LineOption) (words : List (List ℕ)) (option : LineOption) (value : List ℕ) → AreOptions allowed words → has_value option ≡ true → HasValue option value words → value_of option words ≡ Some value }
     ensures none_found { (option : LineOption) (value : List ℕ) (words : List (List ℕ)) → value_of option words ≡ None → HasValue option value words → ⊥ }
     ensures none_read { (option : LineOption) (words : List (List ℕ)) → ((value : List ℕ) → HasValue option value words → ⊥) → value_of option words ≡ None }
+{}
+
+/// The reader of bodies answers a body exactly where the word is one, within what is left of the limit of all bodies, and
+/// the first fault exactly where it is none.
+pub fn bodies_are_read_where_they_stand()
+    ensures found { (left : ℕ) (word : List ℕ) (body : Body) → body_in left word ≡ Ok body → IsBodyWord left body word }
+    ensures read { (left : ℕ) (word : List ℕ) (body : Body) → IsBodyWord left body word → body_in left word ≡ Ok body }
+    ensures refused { (left : ℕ) (word : List ℕ) (fault : LineFault) → body_in left word ≡ Err fault → IsTold (λ f. HasBodyFault left word f) fault }
+    ensures missed { (left : ℕ) (word : List ℕ) (fault : LineFault) → IsTold (λ f. HasBodyFault left word f) fault → body_in left word ≡ Err fault }
+{}
+
+/// The reader of an open's options answers what the words say, and the fault Form exactly where they are no such options.
+pub fn options_of_opens_are_read()
+    ensures found { (words : List (List ℕ)) (options : Open) → open_options words ≡ Ok options → AreOpenOptions words options }
+    ensures read { (words : List (List ℕ)) (options : Open) → AreOpenOptions words options → open_options words ≡ Ok options }
+    ensures refused { (words : List (List ℕ)) (fault : LineFault) → open_options words ≡ Err fault → IsTold (λ f. HasOpenFault words f) fault }
+    ensures missed { (words : List (List ℕ)) (fault : LineFault) → IsTold (λ f. HasOpenFault words f) fault → open_options words ≡ Err fault }
+{}
+
+/// The reader of a put's options answers what the words say, and exactly the first fault that they have.
+pub fn options_of_puts_are_read()
+    ensures found { (words : List (List ℕ)) (options : PutOptions) → put_options words ≡ Ok options → ArePutOptions words options }
+    ensures read { (words : List (List ℕ)) (options : PutOptions) → ArePutOptions words options → put_options words ≡ Ok options }
+    ensures refused { (words : List (List ℕ)) (fault : LineFault) → put_options words ≡ Err fault → IsTold (λ f. HasPutFault words f) fault }
+    ensures missed { (words : List (List ℕ)) (fault : LineFault) → IsTold (λ f. HasPutFault words f) fault → put_options words ≡ Err fault }
+{}
+
+/// The reader of a get's options answers what the words say, and exactly the first fault that they have.
+pub fn options_of_gets_are_read()
+    ensures found { (words : List (List ℕ)) (options : GetOptions) → get_options words ≡ Ok options → AreGetOptions words options }
+    ensures read { (words : List (List ℕ)) (options : GetOptions) → AreGetOptions words options → get_options words ≡ Ok options }
+    ensures refused { (words : List (List ℕ)) (fault : LineFault) → get_options words ≡ Err fault → IsTold (λ f. HasGetFault words f) fault }
+    ensures missed { (words : List (List ℕ)) (fault : LineFault) → IsTold (λ f. HasGetFault words f) fault → get_options words ≡ Err fault }
+{}
+
+/// The reader of script lines answers a line exactly where the text is this line, where so many bytes are left of the limit
+/// of all bodies; a text is one line at most.
+pub fn a_script_line_is_read_where_it_is_written()
+    ensures found { (left : ℕ) (text : List ℕ) (line : ScriptLine) → script_line left text ≡ Ok line → IsScriptLine left line text }
+    ensures read { (left : ℕ) (text : List ℕ) (line : ScriptLine) → IsScriptLine left line text → script_line left text ≡ Ok line }
+    ensures one_line { (left : ℕ) (text : List ℕ) (line other : ScriptLine) → IsScriptLine left line text → IsScriptLine left other text → line ≡ other }
+{}
+
+/// The reader of script lines answers a fault exactly where it is the line's: one that a part of it has, where none that a
+/// part has stands before it.
+pub fn a_script_fault_is_told()
+    ensures found { (left : ℕ) (text : List ℕ) (fault : LineFault) → script_line left text ≡ Err fault → IsScriptFault left text fault }
+    ensures read { (left : ℕ) (text : List ℕ) (fault : LineFault) → IsScriptFault left text fault → script_line left text ≡ Err fault }
+{}
+
+/// Each text is a line or has a fault, never both, and has one fault at most that is told.
+pub fn a_text_is_a_script_line_or_has_a_fault()
+    ensures either { (left : ℕ) (text : List ℕ) → ((line : ScriptLine) × IsScriptLine left line text) ⊎ ((fault : LineFault) × IsScriptFault left text fault) }
+    ensures never_both { (left : ℕ) (text : List ℕ) (line : ScriptLine) (fault : LineFault) → IsScriptLine left line text → IsScriptFault left text fault → ⊥ }
+    ensures one_fault { (left : ℕ) (text : List ℕ) (fault other : LineFault) → IsScriptFault left text fault → IsScriptFault left text other → fault ≡ other }
 {}
