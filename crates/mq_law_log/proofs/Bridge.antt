@@ -82,8 +82,12 @@ distinct_all p h n [] there names = tt
 distinct_all p h n (q ∷ qs) there names = distinct_append q.rows (all_rows qs)
     (subst AreDistinct (rows_of p n q (there q (inl refl))) (distinct_of ((view p).rows q.name) (h.apart.once q.name)))
     (distinct_all p h n qs (λ d m. there d (inr m)) names.1)
-    (λ x m. lacks_all x.message.ident qs (λ d k. lacks_by x.message.ident d.rows (λ y w e. cc (names.0 d k, name_self q.name, ap (bytes_eq q.name) (h.apart.alone q.name d.name x y
-    (subst (λ (rows : List Row). Mem x rows) (sym (rows_of p n q (there q (inl refl)))) m) (subst (λ (rows : List Row). Mem y rows) (sym (rows_of p n d (there d (inr k)))) w) (sym e))))))
+    (λ x m. lacks_all x.message.ident qs (λ d k. lacks_by x.message.ident d.rows (λ y w e. cc (
+      names.0 d k,
+      name_self q.name,
+      ap (bytes_eq q.name) (h.apart.alone q.name d.name x y
+          (subst (λ (rows : List Row). Mem x rows) (sym (rows_of p n q (there q (inl refl)))) m) (subst (λ (rows : List Row). Mem y rows) (sym (rows_of p n d (there d (inr k)))) w) (sym e)),
+    ))))
 
 -- Batches
 

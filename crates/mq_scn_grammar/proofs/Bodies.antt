@@ -120,6 +120,7 @@ module _ (left : ℕ) (count : List ℕ) (byte : ℕ) where
         | inl lt ↦ absurd (let same = h.1.1 in let le = h.2 in omega (arith, lt, same, le))
         | inr lt ↦ absurd (let same = h.1.1 in let le = h.1.3 in omega (arith, lt, same, le))
       ]
+
       first : (g : LineFault) → Has g → (g ≡ limit_all) ⊎ (rank limit_all < rank g)
       first g (inl h) = absurd (h.1 (inl e))
       first g (inr (inl h)) = all_first g (inr h.0)
@@ -342,6 +343,6 @@ pub body_tells : (left : ℕ) (word : List ℕ) → Reports (BodiesOf left word)
 body_tells left word =
     subst (Reports (BodiesOf left word) (HasBodyFault left word)) (sym (body_shaped left (bracketed (codes "TEXT(") word) (bracketed (codes "FILL(") word)))
     (told_via (λ (s : BodyShape). IsShape s word) (IsBodyOf left) (HasShapeFault left) (shape_of word) (shaped left) refl
-        (λ s e. shape_found_at word s (bracketed (codes "TEXT(") word) (bracketed (codes "FILL(") word) refl refl e)
-        (λ s h. shape_read s word h)
-        (λ s. shape_tells left s))
+    (λ s e. shape_found_at word s (bracketed (codes "TEXT(") word) (bracketed (codes "FILL(") word) refl refl e)
+    (λ s h. shape_read s word h)
+    (λ s. shape_tells left s))

@@ -43,12 +43,12 @@ module _ (words : List (List ℕ)) where
   second_tells : AreOptions for_get words → (a : Option (List ℕ)) → Reports (Second a) (Lacks options.Correl) (and_then (field_option 24 options.Correl 0 words) (λ b. Ok (want_with a b)))
   second_tells are a =
       told_map (Field options.Correl) (Lacks options.Correl) (λ (b : Option (List ℕ)). want_with a b) (λ r. and_then r (λ b. Ok (want_with a b))) (Second a) (λ x. refl) (λ f. refl) (λ x h. (x, h, refl)) (λ y h. h)
-          (field_option 24 options.Correl 0 words) (field_option_tells for_get words are 24 options.Correl 0 refl)
+      (field_option 24 options.Correl 0 words) (field_option_tells for_get words are 24 options.Correl 0 refl)
 
   want_tells : AreOptions for_get words → Reports IsWant NoWant (want_of words)
   want_tells are =
       told_next (Field options.MsgId) (Lacks options.MsgId) Second (Lacks options.Correl) (λ f h. h.2.0) (λ f h. inl h.2.0)
-          (field_option 24 options.MsgId 0 words) (λ a. and_then (field_option 24 options.Correl 0 words) (λ b. Ok (want_with a b))) (field_option_tells for_get words are 24 options.MsgId 0 refl) (λ a. second_tells are a)
+      (field_option 24 options.MsgId 0 words) (λ a. and_then (field_option 24 options.Correl 0 words) (λ b. Ok (want_with a b))) (field_option_tells for_get words are 24 options.MsgId 0 refl) (λ a. second_tells are a)
 
   want_form : (f : LineFault) → NoWant f → f ≡ faults.Form
   want_form f (inl h) = h.2.0
@@ -83,7 +83,7 @@ module _ (words : List (List ℕ)) where
   rest_tells : AreOptions for_get words → (want : Want) → Reports (Made want) HasRest (get_from words want (both (room_of words) (wait_of words)))
   rest_tells are want =
       told_map AreRest HasRest (λ (p : ℕ × Option ℕ). get_with want p) (get_from words want) (Made want) (λ x. refl) (λ f. refl) (λ x h. (x, h, refl)) (λ y h. h)
-          (both (room_of words) (wait_of words)) (told_both Room Wait NoRoom NoWait (room_of words) (wait_of words) (room_tells for_get words are) (wait_tells for_get words are))
+      (both (room_of words) (wait_of words)) (told_both Room Wait NoRoom NoWait (room_of words) (wait_of words) (room_tells for_get words are) (wait_tells for_get words are))
 
   room_later : (f : LineFault) (value : List ℕ) → NumberFault faults.Number 0 2147483647 value f → (f ≡ faults.Form) ⊎ (rank faults.Form < rank f)
   room_later f value (inl h) = inl h.0
@@ -156,17 +156,23 @@ module _ (words : List (List ℕ)) where
   get_same o s t u a b c = ap (λ (x : Bool). get_parts o x o.take o.truncate) a ∙ ap (λ (x : Take). get_parts o s x o.truncate) b ∙ ap (λ (x : Bool). get_parts o s t x) c
 
   get_read : (o : GetOptions) → AreGetOptions words o → AreOptions for_get words × AllMade o
-  get_read o h =
-      (h.are,
-      (o.want,
+  get_read o h = (
+    h.are,
+    (
+      o.want,
       (o.want.msg_id, h.msg_id, (o.want.correl_id, h.correl_id, refl)),
-      ((o.room, o.wait), (h.room, h.wait),
-      get_same o (says options.Sync words) (take_of words) (says options.Truncate words) (sym (tells_says o.sync options.Sync words h.sync)) (sym (take_read h.are o.take h.take)) (sym (tells_says o.truncate options.Truncate words h.truncate)))))
+      (
+        (o.room, o.wait),
+        (h.room, h.wait),
+        get_same o (says options.Sync words) (take_of words) (says options.Truncate words) (sym (tells_says o.sync options.Sync words h.sync)) (sym (take_read h.are o.take h.take)) (sym (tells_says o.truncate options.Truncate words h.truncate)),
+      ),
+    ),
+  )
 
   pub get_tells : Reports (AreGetOptions words) (HasGetFault words) (get_options words)
   unfolding get_options
   get_tells =
       told_as (λ (o : GetOptions). AreOptions for_get words × AllMade o) (HasGetFault words) (AreGetOptions words) (HasGetFault words) (get_options words)
-          (λ o h. get_found o h) (λ o h. get_read o h) (λ f h. h) (λ f h. h)
-          (told_where AllMade (λ (f : LineFault). NoWant f ⊎ HasRest f) (AreOptions for_get words) (are_options for_get words)
-              (and_then (want_of words) (λ want. get_from words want (both (room_of words) (wait_of words)))) (are_decides for_get words) (λ are. all_tells are))
+      (λ o h. get_found o h) (λ o h. get_read o h) (λ f h. h) (λ f h. h)
+      (told_where AllMade (λ (f : LineFault). NoWant f ⊎ HasRest f) (AreOptions for_get words) (are_options for_get words)
+      (and_then (want_of words) (λ want. get_from words want (both (room_of words) (wait_of words)))) (are_decides for_get words) (λ are. all_tells are))

@@ -48,7 +48,6 @@ one_never words allowed a b e f g ne are h = not_said a words (λ m. ne (one_sai
 
 -- ---- opens
 
-
 input_found : (words : List (List ℕ)) (a b : Bool) → says options.Shared words ≡ a → says options.Exclusive words ≡ b → IsInput (cond a inputs.Shared (cond b inputs.Exclusive inputs.No)) words
 input_found words true b e f = (says_decides options.Shared words).0 e
 input_found words false true e f = (says_decides options.Exclusive words).0 f
@@ -76,9 +75,11 @@ open_same words how h =
 
 open_by : (words : List (List ℕ)) (t : Bool) → are_options for_open words ≡ t → Reports (AreOpenOptions words) (HasOpenFault words) (cond t (Ok (opened_with words)) (Err faults.Form))
 open_by words true e =
-    let are = (are_decides for_open words).0 e in
-    (record { are = are; input = input_found words (says options.Shared words) (says options.Exclusive words) refl refl; browse = says_tells options.Browse words; output = says_tells options.Output words },
-    (λ how h. open_same words how h), λ f h. h.1 are)
+    let are = (are_decides for_open words).0 e in (
+      record { are = are; input = input_found words (says options.Shared words) (says options.Exclusive words) refl refl; browse = says_tells options.Browse words; output = says_tells options.Output words },
+      (λ how h. open_same words how h),
+      λ f h. h.1 are,
+    )
 open_by words false e =
     let none : AreOptions for_open words → ⊥ = λ h. absurd (let f : false ≡ true = sym e ∙ (are_decides for_open words).1 h in cc) in
     ((λ how h. none h.are), (refl, none), refl, λ g h. inl h.0)
@@ -95,37 +96,39 @@ module _ (allowed : List LineOption) (words : List (List ℕ)) (are : AreOptions
   pub signed_option_tells : (option : LineOption) → has_value option ≡ true → (default : ℤ) → Reports (IsValueOr SignedIn default option words) (HasValueFault SignedFault option words) (number_option option default words)
   signed_option_tells option valued default =
       told_or (Gives option) SignedIn SignedFault default (value_of option words) (number_or default) refl
-          (λ value e. value_found option value words e) (λ value h. value_read allowed words option value valued are h) (λ value. signed_tells value)
+      (λ value e. value_found option value words e) (λ value h. value_read allowed words option value valued are h) (λ value. signed_tells value)
 
   pub name_option_tells : (option : LineOption) → has_value option ≡ true → Reports (IsValueOr NameIn [] option words) (HasValueFault NameFault option words) (name_option option words)
   name_option_tells option valued =
       told_or (Gives option) NameIn NameFault [] (value_of option words) name_or_none refl
-          (λ value e. value_found option value words e) (λ value h. value_read allowed words option value valued are h) (λ value. name_or_blank_tells value)
+      (λ value e. value_found option value words e) (λ value h. value_read allowed words option value valued are h) (λ value. name_or_blank_tells value)
 
   pub field_option_tells : (width : ℕ) (option : LineOption) (pad : ℕ) → has_value option ≡ true → Reports (IsValueOr (SomeOf (FieldIn width pad)) None option words) (HasValueFault (FieldFault width pad) option words) (field_option width option pad words)
   field_option_tells width option pad valued =
       told_or (Gives option) (SomeOf (FieldIn width pad)) (FieldFault width pad) None (value_of option words) (field_or_none width pad) refl
-          (λ value e. value_found option value words e) (λ value h. value_read allowed words option value valued are h) (λ value. some_tells value)
+      (λ value e. value_found option value words e) (λ value h. value_read allowed words option value valued are h) (λ value. some_tells value)
     where
       back : (value : List ℕ) (y : Option (List ℕ)) → SomeOf (FieldIn width pad) value y → (x : List ℕ) × FieldIn width pad value x × (y ≡ Some x)
       back value None h = absurd h
       back value (Some x) h = (x, h, refl)
+
       some_tells : (value : List ℕ) → Reports (SomeOf (FieldIn width pad) value) (FieldFault width pad value) (some_field (field_in width pad value))
       some_tells value = told_map (FieldIn width pad value) (FieldFault width pad value) (λ (x : List ℕ). Some x) some_field (SomeOf (FieldIn width pad) value) (λ x. refl) (λ f. refl) (λ x h. h) (λ y h. back value y h) (field_in width pad value) (field_tells width pad value)
 
   pub room_tells : Reports (IsValueOr (NumberIn 0 2147483647) 4194304 options.Room words) (HasValueFault (NumberFault faults.Number 0 2147483647) options.Room words) (room_of words)
   room_tells =
       told_or (Gives options.Room) (NumberIn 0 2147483647) (NumberFault faults.Number 0 2147483647) 4194304 (value_of options.Room words) room_in refl
-          (λ value e. value_found options.Room value words e) (λ value h. value_read allowed words options.Room value refl are h) (λ value. ranged_tells faults.Number refl 0 2147483647 value)
+      (λ value e. value_found options.Room value words e) (λ value h. value_read allowed words options.Room value refl are h) (λ value. ranged_tells faults.Number refl 0 2147483647 value)
 
   pub wait_tells : Reports (IsValueOr (SomeOf (NumberIn 0 999999999)) None options.Wait words) (HasValueFault (NumberFault (faults.Limit limits.Clock) 0 999999999) options.Wait words) (wait_of words)
   wait_tells =
       told_or (Gives options.Wait) (SomeOf (NumberIn 0 999999999)) (NumberFault (faults.Limit limits.Clock) 0 999999999) None (value_of options.Wait words) wait_in refl
-          (λ value e. value_found options.Wait value words e) (λ value h. value_read allowed words options.Wait value refl are h) (λ value. some_tells value)
+      (λ value e. value_found options.Wait value words e) (λ value h. value_read allowed words options.Wait value refl are h) (λ value. some_tells value)
     where
       back : (value : List ℕ) (y : Option ℕ) → SomeOf (NumberIn 0 999999999) value y → (x : ℕ) × NumberIn 0 999999999 value x × (y ≡ Some x)
       back value None h = absurd h
       back value (Some x) h = (x, h, refl)
+
       some_tells : (value : List ℕ) → Reports (SomeOf (NumberIn 0 999999999) value) (NumberFault (faults.Limit limits.Clock) 0 999999999 value) (wait_in (Some value))
       some_tells value = told_map (NumberIn 0 999999999 value) (NumberFault (faults.Limit limits.Clock) 0 999999999 value) (λ (x : ℕ). Some x) some_number (SomeOf (NumberIn 0 999999999) value) (λ x. refl) (λ f. refl) (λ x h. h) (λ y h. back value y h) (ranged (faults.Limit limits.Clock) 0 999999999 value) (ranged_tells (faults.Limit limits.Clock) refl 0 999999999 value)
 

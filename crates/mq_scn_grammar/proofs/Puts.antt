@@ -45,13 +45,13 @@ module _ (words : List (List ℕ)) where
   fourth_tells : AreOptions for_put words → (a b c : Option (List ℕ)) → Reports (Fourth a b c) (Lacks 32 32 options.IdentityData) (and_then (field_option 32 options.IdentityData 32 words) (λ d. Ok (texts_of a b c d)))
   fourth_tells are a b c =
       told_map (Field 32 32 options.IdentityData) (Lacks 32 32 options.IdentityData) (λ (d : Option (List ℕ)). texts_of a b c d) (λ r. and_then r (λ d. Ok (texts_of a b c d))) (Fourth a b c) (λ x. refl) (λ f. refl) (λ x h. (x, h, refl)) (λ y h. h)
-          (field_option 32 options.IdentityData 32 words) (field_option_tells for_put words are 32 options.IdentityData 32 refl)
+      (field_option 32 options.IdentityData 32 words) (field_option_tells for_put words are 32 options.IdentityData 32 refl)
 
   third_tells : AreOptions for_put words → (a b : Option (List ℕ)) → Reports (Third a b) (λ (f : LineFault). Lacks 8 32 options.Format f ⊎ Lacks 32 32 options.IdentityData f)
       (and_then (field_option 8 options.Format 32 words) (λ c. and_then (field_option 32 options.IdentityData 32 words) (λ d. Ok (texts_of a b c d))))
   third_tells are a b =
       told_next (Field 8 32 options.Format) (Lacks 8 32 options.Format) (λ (c : Option (List ℕ)). Fourth a b c) (Lacks 32 32 options.IdentityData) (λ f h. h.2.0) (λ f h. inl h.2.0)
-          (field_option 8 options.Format 32 words) (λ c. and_then (field_option 32 options.IdentityData 32 words) (λ d. Ok (texts_of a b c d))) (field_option_tells for_put words are 8 options.Format 32 refl) (λ c. fourth_tells are a b c)
+      (field_option 8 options.Format 32 words) (λ c. and_then (field_option 32 options.IdentityData 32 words) (λ d. Ok (texts_of a b c d))) (field_option_tells for_put words are 8 options.Format 32 refl) (λ c. fourth_tells are a b c)
 
   two_form : (f : LineFault) → Lacks 8 32 options.Format f ⊎ Lacks 32 32 options.IdentityData f → f ≡ faults.Form
   two_form f (inl h) = h.2.0
@@ -68,13 +68,13 @@ module _ (words : List (List ℕ)) where
       (and_then (field_option 24 options.Correl 0 words) (λ b. and_then (field_option 8 options.Format 32 words) (λ c. and_then (field_option 32 options.IdentityData 32 words) (λ d. Ok (texts_of a b c d)))))
   second_tells are a =
       told_next (Field 24 0 options.Correl) (Lacks 24 0 options.Correl) (λ (b : Option (List ℕ)). Third a b) (λ (f : LineFault). Lacks 8 32 options.Format f ⊎ Lacks 32 32 options.IdentityData f) (λ f h. h.2.0) (λ f h. inl (two_form f h))
-          (field_option 24 options.Correl 0 words) (λ b. and_then (field_option 8 options.Format 32 words) (λ c. and_then (field_option 32 options.IdentityData 32 words) (λ d. Ok (texts_of a b c d)))) (field_option_tells for_put words are 24 options.Correl 0 refl) (λ b. third_tells are a b)
+      (field_option 24 options.Correl 0 words) (λ b. and_then (field_option 8 options.Format 32 words) (λ c. and_then (field_option 32 options.IdentityData 32 words) (λ d. Ok (texts_of a b c d)))) (field_option_tells for_put words are 24 options.Correl 0 refl) (λ b. third_tells are a b)
 
   texts_tells : AreOptions for_put words → Reports AreTexts (HasPutTextFault words) (put_texts words)
   texts_tells are =
       told_next (Field 24 0 options.MsgId) (Lacks 24 0 options.MsgId) Second Lacks3 (λ f h. h.2.0) (λ f h. inl (three_form f h))
-          (field_option 24 options.MsgId 0 words) (λ a. and_then (field_option 24 options.Correl 0 words) (λ b. and_then (field_option 8 options.Format 32 words) (λ c. and_then (field_option 32 options.IdentityData 32 words) (λ d. Ok (texts_of a b c d)))))
-          (field_option_tells for_put words are 24 options.MsgId 0 refl) (λ a. second_tells are a)
+      (field_option 24 options.MsgId 0 words) (λ a. and_then (field_option 24 options.Correl 0 words) (λ b. and_then (field_option 8 options.Format 32 words) (λ c. and_then (field_option 32 options.IdentityData 32 words) (λ d. Ok (texts_of a b c d)))))
+      (field_option_tells for_put words are 24 options.MsgId 0 refl) (λ a. second_tells are a)
 
   text_form : (f : LineFault) → HasPutTextFault words f → f ≡ faults.Form
   text_form f (inl h) = h.2.0
@@ -97,10 +97,10 @@ module _ (words : List (List ℕ)) where
   names_tells : AreOptions for_put words → Reports AreNames (HasPutNameFault words) (put_names words)
   names_tells are =
       told_map (AreBoth (NameOf options.ReplyQ) (NameOf options.ReplyQMgr) (NoName options.ReplyQ) (NoName options.ReplyQMgr)) (HasEither (NameOf options.ReplyQ) (NameOf options.ReplyQMgr) (NoName options.ReplyQ) (NoName options.ReplyQMgr))
-          names_of with_names AreNames (λ x. refl) (λ f. refl) (λ x h. h) (λ y h. ((y.reply_to_q, y.reply_to_q_mgr), h, refl))
-          (both (name_option options.ReplyQ words) (name_option options.ReplyQMgr words))
-          (told_both (NameOf options.ReplyQ) (NameOf options.ReplyQMgr) (NoName options.ReplyQ) (NoName options.ReplyQMgr) (name_option options.ReplyQ words) (name_option options.ReplyQMgr words)
-              (name_option_tells for_put words are options.ReplyQ refl) (name_option_tells for_put words are options.ReplyQMgr refl))
+      names_of with_names AreNames (λ x. refl) (λ f. refl) (λ x h. h) (λ y h. ((y.reply_to_q, y.reply_to_q_mgr), h, refl))
+      (both (name_option options.ReplyQ words) (name_option options.ReplyQMgr words))
+      (told_both (NameOf options.ReplyQ) (NameOf options.ReplyQMgr) (NoName options.ReplyQ) (NoName options.ReplyQMgr) (name_option options.ReplyQ words) (name_option options.ReplyQMgr words)
+      (name_option_tells for_put words are options.ReplyQ refl) (name_option_tells for_put words are options.ReplyQMgr refl))
 
   -- ---- numbers
 
@@ -128,12 +128,12 @@ module _ (words : List (List ℕ)) where
   first_tells : AreOptions for_put words → Reports AreFirst NoFirst (both (number_option options.Priority (negsuc 0) words) (number_option options.Expiry (negsuc 0) words))
   first_tells are =
       told_both (Number options.Priority (negsuc 0)) (Number options.Expiry (negsuc 0)) (NoNumber options.Priority) (NoNumber options.Expiry) (number_option options.Priority (negsuc 0) words) (number_option options.Expiry (negsuc 0) words)
-          (signed_option_tells for_put words are options.Priority refl (negsuc 0)) (signed_option_tells for_put words are options.Expiry refl (negsuc 0))
+      (signed_option_tells for_put words are options.Priority refl (negsuc 0)) (signed_option_tells for_put words are options.Expiry refl (negsuc 0))
 
   last_tells : AreOptions for_put words → Reports AreSecond NoSecond (both (number_option options.MsgType (pos 8) words) (number_option options.Feedback (pos 0) words))
   last_tells are =
       told_both (Number options.MsgType (pos 8)) (Number options.Feedback (pos 0)) (NoNumber options.MsgType) (NoNumber options.Feedback) (number_option options.MsgType (pos 8) words) (number_option options.Feedback (pos 0) words)
-          (signed_option_tells for_put words are options.MsgType refl (pos 8)) (signed_option_tells for_put words are options.Feedback refl (pos 0))
+      (signed_option_tells for_put words are options.MsgType refl (pos 8)) (signed_option_tells for_put words are options.Feedback refl (pos 0))
 
   abbrev numbers_of : (ℤ × ℤ) × (ℤ × ℤ) → PutNumbers
   numbers_of p = record { priority = p.0.0; expiry = p.0.1; msg_type = p.1.0; feedback = p.1.1 }
@@ -141,10 +141,10 @@ module _ (words : List (List ℕ)) where
   numbers_tells : AreOptions for_put words → Reports AreNumbers (HasPutNumberFault words) (put_numbers words)
   numbers_tells are =
       told_map (AreBoth AreFirst AreSecond NoFirst NoSecond) (HasEither AreFirst AreSecond NoFirst NoSecond)
-          numbers_of with_numbers AreNumbers (λ x. refl) (λ f. refl) (λ x h. h) (λ y h. (((y.priority, y.expiry), (y.msg_type, y.feedback)), h, refl))
-          (both (both (number_option options.Priority (negsuc 0) words) (number_option options.Expiry (negsuc 0) words)) (both (number_option options.MsgType (pos 8) words) (number_option options.Feedback (pos 0) words)))
-          (told_both AreFirst AreSecond NoFirst NoSecond (both (number_option options.Priority (negsuc 0) words) (number_option options.Expiry (negsuc 0) words)) (both (number_option options.MsgType (pos 8) words) (number_option options.Feedback (pos 0) words))
-              (first_tells are) (last_tells are))
+      numbers_of with_numbers AreNumbers (λ x. refl) (λ f. refl) (λ x h. h) (λ y h. (((y.priority, y.expiry), (y.msg_type, y.feedback)), h, refl))
+      (both (both (number_option options.Priority (negsuc 0) words) (number_option options.Expiry (negsuc 0) words)) (both (number_option options.MsgType (pos 8) words) (number_option options.Feedback (pos 0) words)))
+      (told_both AreFirst AreSecond NoFirst NoSecond (both (number_option options.Priority (negsuc 0) words) (number_option options.Expiry (negsuc 0) words)) (both (number_option options.MsgType (pos 8) words) (number_option options.Feedback (pos 0) words))
+      (first_tells are) (last_tells are))
 
   -- ---- all
 
@@ -160,7 +160,7 @@ module _ (words : List (List ℕ)) where
   rest_tells : AreOptions for_put words → (texts : PutTexts) → Reports (Made texts) HasRest (put_from words texts (both (put_names words) (put_numbers words)))
   rest_tells are texts =
       told_map AreRest HasRest (λ (p : PutNames × PutNumbers). put_with words texts p.0 p.1) (put_from words texts) (Made texts) (λ x. refl) (λ f. refl) (λ x h. (x, h, refl)) (λ y h. h)
-          (both (put_names words) (put_numbers words)) (told_both AreNames AreNumbers (HasPutNameFault words) (HasPutNumberFault words) (put_names words) (put_numbers words) (names_tells are) (numbers_tells are))
+      (both (put_names words) (put_numbers words)) (told_both AreNames AreNumbers (HasPutNameFault words) (HasPutNumberFault words) (put_names words) (put_numbers words) (names_tells are) (numbers_tells are))
 
   name_later : (f : LineFault) (option : LineOption) → NoName option f → (f ≡ faults.Form) ⊎ (rank faults.Form < rank f)
   name_later f option h = let r : rank f ≡ 15 = ap rank h.2.0 in inr (omega (arith, r))
@@ -254,18 +254,24 @@ module _ (words : List (List ℕ)) where
       let f = from_default (FieldIn 8 32) (codes "MQSTR   ") options.Format words o.format h.format in
       let i = from_default (FieldIn 32 32) (replicate 32 32) options.IdentityData words o.appl_identity_data h.identity in
       let names : PutNames = record { reply_to_q = o.reply_to_q; reply_to_q_mgr = o.reply_to_q_mgr } in
-      let numbers : PutNumbers = record { priority = o.priority; expiry = o.expiry; msg_type = o.msg_type; feedback = o.feedback } in
-      (h.are,
-      (texts_of m.0 o.correl_id f.0 i.0,
-      (m.0, m.1, (o.correl_id, h.correl_id, (f.0, f.1, (i.0, i.1, refl)))),
-      ((names, numbers), ((h.reply_to_q, h.reply_to_q_mgr), ((h.priority, h.expiry), (h.msg_type, h.feedback))),
-      parts_same o (says options.Sync words) (persistence_of words) (field_or m.0 (replicate 24 0)) (field_or f.0 (codes "MQSTR   ")) (field_or i.0 (replicate 32 32))
-          (sym (tells_says o.sync options.Sync words h.sync)) (sym (persistence_read h.are o.persistence h.persistence)) m.2 f.2 i.2)))
+      let numbers : PutNumbers = record { priority = o.priority; expiry = o.expiry; msg_type = o.msg_type; feedback = o.feedback } in (
+        h.are,
+        (
+          texts_of m.0 o.correl_id f.0 i.0,
+          (m.0, m.1, (o.correl_id, h.correl_id, (f.0, f.1, (i.0, i.1, refl)))),
+          (
+            (names, numbers),
+            ((h.reply_to_q, h.reply_to_q_mgr), ((h.priority, h.expiry), (h.msg_type, h.feedback))),
+            parts_same o (says options.Sync words) (persistence_of words) (field_or m.0 (replicate 24 0)) (field_or f.0 (codes "MQSTR   ")) (field_or i.0 (replicate 32 32))
+                (sym (tells_says o.sync options.Sync words h.sync)) (sym (persistence_read h.are o.persistence h.persistence)) m.2 f.2 i.2,
+          ),
+        ),
+      )
 
   pub put_tells : Reports (ArePutOptions words) (HasPutFault words) (put_options words)
   unfolding put_options
   put_tells =
       told_as (λ (o : PutOptions). AreOptions for_put words × AllMade o) (HasPutFault words) (ArePutOptions words) (HasPutFault words) (put_options words)
-          (λ o h. put_found o h) (λ o h. put_read o h) (λ f h. h) (λ f h. h)
-          (told_where AllMade (λ (f : LineFault). HasPutTextFault words f ⊎ HasRest f) (AreOptions for_put words) (are_options for_put words)
-              (and_then (put_texts words) (λ texts. put_from words texts (both (put_names words) (put_numbers words)))) (are_decides for_put words) (λ are. all_tells are))
+      (λ o h. put_found o h) (λ o h. put_read o h) (λ f h. h) (λ f h. h)
+      (told_where AllMade (λ (f : LineFault). HasPutTextFault words f ⊎ HasRest f) (AreOptions for_put words) (are_options for_put words)
+      (and_then (put_texts words) (λ texts. put_from words texts (both (put_names words) (put_numbers words)))) (are_decides for_put words) (λ are. all_tells are))

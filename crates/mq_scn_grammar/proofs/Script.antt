@@ -284,6 +284,7 @@ module _ (left : ℕ) (text : List ℕ) where
       never : (line : ScriptLine) → ((c : Command) × (rest : List ℕ) × (line ≡ lines.Mqsc c) × IsMqsc rest text × (command_in rest ≡ Ok c)) ⊎ ((words : List (List ℕ)) × AreVerbWords (verb_of_line line) words text × IsRest left line words) → ⊥
       never line (inl k) = no_mqsc k.1 k.3
       never line (inr k) = no_verb (verb_of_line line) k.0 k.1
+
       only : (g : LineFault) → FaultOf g → (g ≡ faults.Form) ⊎ (rank faults.Form < rank g)
       only g (inl h) = inl h.0
       only g (inr (inl h)) = absurd (no_verb h.0 h.1 h.2)
@@ -310,6 +311,7 @@ module _ (left : ℕ) (text : List ℕ) where
           let one = mqsc_rest rest e k.1 k.3 in
           k.2 ∙ ap lines.Mqsc (ok_command k.0 c (sym k.4 ∙ ap command_in one ∙ f))
       same y (inr k) = absurd (mqsc_no_verb rest e (verb_of_line y) k.0 k.1)
+
       never : (g : LineFault) → FaultOf g → ⊥
       never g (inl h) = h.1 rest (first_mqsc rest text e)
       never g (inr (inl h)) = mqsc_no_verb rest e h.0 h.1 h.2
@@ -319,6 +321,7 @@ module _ (left : ℕ) (text : List ℕ) where
       never : (y : ScriptLine) → ((d : Command) × (other : List ℕ) × (y ≡ lines.Mqsc d) × IsMqsc other text × (command_in other ≡ Ok d)) ⊎ ((words : List (List ℕ)) × AreVerbWords (verb_of_line y) words text × IsRest left y words) → ⊥
       never y (inl m) = ok_never m.0 f (sym k ∙ ap command_in (sym (mqsc_rest rest e m.1 m.3)) ∙ m.4)
       never y (inr m) = mqsc_no_verb rest e (verb_of_line y) m.0 m.1
+
       only : (g : LineFault) → FaultOf g → (g ≡ f) ⊎ (rank f < rank g)
       only g (inl h) = absurd (h.1 rest (first_mqsc rest text e))
       only g (inr (inl h)) = absurd (mqsc_no_verb rest e h.0 h.1 h.2)
@@ -340,13 +343,15 @@ module _ (left : ℕ) (text : List ℕ) where
       neither (λ other h. verb_no_mqsc verb rest ne e other h) (λ other words a. absurd (let s = (the_words verb rest e other words a).closed in let f : true ≡ false = sym o ∙ s in cc))
   words_tell verb rest ne e false o =
       answers_as (LinesOf left verb (words_of rest)) (HasFault left verb (words_of rest)) LineOf FaultOf (called left verb (words_of rest))
-          (λ y h. forth y h) (λ y h. back y (line_front left text y h)) (λ f h. inr (inl (verb, words_of rest, at_verb_words verb rest text ne e o, h))) (λ f h. fault_back f h) (called_tells left verb (words_of rest) ne)
+      (λ y h. forth y h) (λ y h. back y (line_front left text y h)) (λ f h. inr (inl (verb, words_of rest, at_verb_words verb rest text ne e o, h))) (λ f h. fault_back f h) (called_tells left verb (words_of rest) ne)
     where
       forth : (y : ScriptLine) → LinesOf left verb (words_of rest) y → IsScriptLine left y text
       forth y h = as_line left text y (words_of rest) (subst (λ (v : ScriptVerb). AreVerbWords v (words_of rest) text) (sym h.0) (at_verb_words verb rest text ne e o)) h.1
+
       back : (y : ScriptLine) → ((d : Command) × (other : List ℕ) × (y ≡ lines.Mqsc d) × IsMqsc other text × (command_in other ≡ Ok d)) ⊎ ((words : List (List ℕ)) × AreVerbWords (verb_of_line y) words text × IsRest left y words) → LinesOf left verb (words_of rest) y
       back y (inl k) = absurd (verb_no_mqsc verb rest ne e k.1 k.3)
       back y (inr k) = let s = the_words verb rest e (verb_of_line y) k.0 k.1 in (s.same_verb, subst (IsRest left y) s.same_words k.2)
+
       fault_back : (f : LineFault) → HasLineFault left text f → HasFault left verb (words_of rest) f
       fault_back f (inl h) = absurd (h.2 verb (words_of rest) (at_verb_words verb rest text ne e o))
       fault_back f (inr (inl h)) =

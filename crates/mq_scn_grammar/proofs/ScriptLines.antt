@@ -45,7 +45,7 @@ QueueIn word name = IsQueueWord name word
 queue_tells : (word : List ℕ) → Reports (QueueIn word) (HasQueueFault word) (queue_in word)
 queue_tells word =
     told_via (λ (value : List ℕ). IsBracketed (codes "QUEUE(") value word) NameIn NameFault (bracketed (codes "QUEUE(") word) needed_name refl
-        (λ value e. bracketed_found (codes "QUEUE(") value word e) (λ value h. bracketed_read (codes "QUEUE(") value word h) (λ value. name_or_blank_tells value)
+    (λ value e. bracketed_found (codes "QUEUE(") value word e) (λ value h. bracketed_read (codes "QUEUE(") value word h) (λ value. name_or_blank_tells value)
 
 abbrev ManagerIn : List (List ℕ) → List ℕ → Type 0
 ManagerIn words name = IsManagerName name words
@@ -54,7 +54,7 @@ manager_tells : (words : List (List ℕ)) → Reports (ManagerIn words) (HasMana
 manager_tells [] = (refl, (λ y h. h), λ f h. h)
 manager_tells (w ∷ ws) =
     told_or (λ (value : List ℕ). IsManagerWord value w) NameIn NameFault [] (bracketed (codes "QMGR(") w) name_if_any refl
-        (λ value e. bracketed_found (codes "QMGR(") value w e) (λ value h. bracketed_read (codes "QMGR(") value w h) (λ value. name_or_blank_tells value)
+    (λ value e. bracketed_found (codes "QMGR(") value w e) (λ value h. bracketed_read (codes "QMGR(") value w h) (λ value. name_or_blank_tells value)
 
 abbrev no_text : Option (List ℕ)
 no_text = None
@@ -90,8 +90,8 @@ SomeBehind Is ws x = (behind : List (List ℕ)) × IsBehind behind ws × Is behi
 told_behind : {A : Type 0} (Is : List (List ℕ) → A → Type 0) (Has : List (List ℕ) → LineFault → Type 0) (ws : List (List ℕ)) (r : Result A LineFault) → Reports (Is (behind_manager ws)) (Has (behind_manager ws)) r → Reports (SomeBehind Is ws) (SomeBehind Has ws) r
 told_behind Is Has ws r t =
     told_as (Is (behind_manager ws)) (Has (behind_manager ws)) (SomeBehind Is ws) (SomeBehind Has ws) r
-        (λ x h. (behind_manager ws, behind_is ws, h)) (λ x h. subst (λ (b : List (List ℕ)). Is b x) (behind_one h.0 ws h.1) h.2)
-        (λ f h. (behind_manager ws, behind_is ws, h)) (λ f h. subst (λ (b : List (List ℕ)). Has b f) (behind_one h.0 ws h.1) h.2) t
+    (λ x h. (behind_manager ws, behind_is ws, h)) (λ x h. subst (λ (b : List (List ℕ)). Is b x) (behind_one h.0 ws h.1) h.2)
+    (λ f h. (behind_manager ws, behind_is ws, h)) (λ f h. subst (λ (b : List (List ℕ)). Has b f) (behind_one h.0 ws h.1) h.2) t
 
 -- ---- lines of one verb
 
@@ -177,14 +177,14 @@ opening_tells : (queue : List ℕ) (words : List (List ℕ)) → Reports (IsOpen
 unfolding opening
 opening_tells queue words =
     told_both (IsTarget queue words) (Behind words) (NoTarget queue words) (NoBehind words) (both (queue_in queue) (manager_in words)) (open_options (behind_manager words)) (target_tells queue words)
-        (told_behind AreOpenOptions HasOpenFault words (open_options (behind_manager words)) (open_tells (behind_manager words)))
+    (told_behind AreOpenOptions HasOpenFault words (open_options (behind_manager words)) (open_tells (behind_manager words)))
 
 open_with_tells : (left : ℕ) (handle queue : List ℕ) (words : List (List ℕ)) → Reports (LinesOf left verbs.Mqopen (handle ∷ queue ∷ words)) (HasOpeningFault (handle ∷ queue ∷ words)) (open_with handle queue words)
 unfolding open_with
 open_with_tells left handle queue words =
     told_map (λ (p : Opened). LabelIn handle p.0 × IsOpened queue words p.1) (HasOpeningFault (handle ∷ queue ∷ words)) made_open opened (LinesOf left verbs.Mqopen (handle ∷ queue ∷ words)) (λ x. refl) (λ f. refl) (λ x h. (refl, h))
-        (λ y h. open_of left (handle ∷ queue ∷ words) y h) (both (label_in handle) (opening queue words))
-        (told_both (LabelIn handle) (IsOpened queue words) (HasLabelFault handle) (NotOpened queue words) (label_in handle) (opening queue words) (label_tells handle) (opening_tells queue words))
+    (λ y h. open_of left (handle ∷ queue ∷ words) y h) (both (label_in handle) (opening queue words))
+    (told_both (LabelIn handle) (IsOpened queue words) (HasLabelFault handle) (NotOpened queue words) (label_in handle) (opening queue words) (label_tells handle) (opening_tells queue words))
 
 open_line_tells : (left : ℕ) (words : List (List ℕ)) → Reports (LinesOf left verbs.Mqopen words) (HasOpeningFault words) (open_line words)
 open_line_tells left [] = form_tells (LinesOf left verbs.Mqopen []) (λ y h. (open_of left [] y h).1)
@@ -229,8 +229,8 @@ put_line_tells left [] = form_tells (LinesOf left verbs.Mqput []) (λ y h. (put_
 put_line_tells left (handle ∷ []) = ((λ y h. (put_of left (handle ∷ []) y h).1.1), inr refl, refl, λ g h. lone_form handle g h)
 put_line_tells left (handle ∷ body ∷ words) =
     told_map (λ (p : List ℕ × (Body × PutOptions)). LabelIn handle p.0 × SentIn left (body ∷ words) p.1) (HasPutLineFault left (handle ∷ body ∷ words)) made_put put (LinesOf left verbs.Mqput (handle ∷ body ∷ words)) (λ x. refl) (λ f. refl) (λ x h. (refl, h))
-        (λ y h. put_of left (handle ∷ body ∷ words) y h) (both (label_in handle) (both (body_in left body) (put_options words)))
-        (told_both (LabelIn handle) (SentIn left (body ∷ words)) (HasLabelFault handle) (HasSentFault left (body ∷ words)) (label_in handle) (both (body_in left body) (put_options words)) (label_tells handle) (sent_tells left body words))
+    (λ y h. put_of left (handle ∷ body ∷ words) y h) (both (label_in handle) (both (body_in left body) (put_options words)))
+    (told_both (LabelIn handle) (SentIn left (body ∷ words)) (HasLabelFault handle) (HasSentFault left (body ∷ words)) (label_in handle) (both (body_in left body) (put_options words)) (label_tells handle) (sent_tells left body words))
 
 -- MQPUT1
 
@@ -263,7 +263,7 @@ reply_tells : (left : ℕ) (word : List ℕ) (words : List (List ℕ)) → word 
 reply_tells left word [] e = form_tells (LinesOf left verbs.Mqput1 (word ∷ [])) (λ y h. (reply_of left word [] e y h).1)
 reply_tells left word (body ∷ words) e =
     told_map (SentIn left (body ∷ words)) (HasSentFault left (body ∷ words)) made_reply replied (LinesOf left verbs.Mqput1 (word ∷ body ∷ words)) (λ x. refl) (λ f. refl) (λ x h. (refl, (e, h))) (λ y h. reply_of left word (body ∷ words) e y h)
-        (both (body_in left body) (put_options words)) (sent_tells left body words)
+    (both (body_in left body) (put_options words)) (sent_tells left body words)
 
 -- what is put, in the words behind the manager
 abbrev OnceIn : ℕ → List ℕ → List (List ℕ) → List (List ℕ) → Targeted → Type 0
@@ -276,8 +276,8 @@ put_to_tells : (left : ℕ) (queue : List ℕ) (words behind : List (List ℕ)) 
 put_to_tells left queue words [] = form_tells (OnceOf left queue words []) (λ y h. h.1.1)
 put_to_tells left queue words (body ∷ options) =
     told_map (OnceIn left queue words (body ∷ options)) (HasTargetFault left queue words (body ∷ options)) made_once put_once (OnceOf left queue words (body ∷ options)) (λ x. refl) (λ f. refl) (λ x h. (x, h, refl)) (λ y h. h)
-        (both (both (queue_in queue) (manager_in words)) (both (body_in left body) (put_options options)))
-        (told_both (IsTarget queue words) (SentIn left (body ∷ options)) (NoTarget queue words) (HasSentFault left (body ∷ options)) (both (queue_in queue) (manager_in words)) (both (body_in left body) (put_options options)) (target_tells queue words) (sent_tells left body options))
+    (both (both (queue_in queue) (manager_in words)) (both (body_in left body) (put_options options)))
+    (told_both (IsTarget queue words) (SentIn left (body ∷ options)) (NoTarget queue words) (HasSentFault left (body ∷ options)) (both (queue_in queue) (manager_in words)) (both (body_in left body) (put_options options)) (target_tells queue words) (sent_tells left body options))
 
 abbrev NoOnce : ℕ → List ℕ → List (List ℕ) → LineFault → Type 0
 NoOnce left queue words f = (behind : List (List ℕ)) × IsBehind behind words × HasTargetFault left queue words behind f
@@ -294,8 +294,8 @@ once_forth left word words y (behind, is, (p, h, e)) = subst (LinesOf left verbs
 target_line_tells : (left : ℕ) (word : List ℕ) (words : List (List ℕ)) → (word ≡ codes "TOREPLY" → ⊥) → Reports (LinesOf left verbs.Mqput1 (word ∷ words)) (NoOnce left word words) (target_line left word words)
 target_line_tells left word words ne =
     told_as (SomeOnce left word words) (NoOnce left word words) (LinesOf left verbs.Mqput1 (word ∷ words)) (NoOnce left word words) (target_line left word words)
-        (λ y h. once_forth left word words y h) (λ y h. once_back left word words ne y h) (λ f h. h) (λ f h. h)
-        (told_behind (OnceOf left word words) (HasTargetFault left word words) words (target_line left word words) (put_to_tells left word words (behind_manager words)))
+    (λ y h. once_forth left word words y h) (λ y h. once_back left word words ne y h) (λ f h. h) (λ f h. h)
+    (told_behind (OnceOf left word words) (HasTargetFault left word words) words (target_line left word words) (put_to_tells left word words (behind_manager words)))
 
 put1_by : (left : ℕ) (word : List ℕ) (words : List (List ℕ)) (t : Bool) → bytes_eq word (codes "TOREPLY") ≡ t → Reports (LinesOf left verbs.Mqput1 (word ∷ words)) (HasPut1Fault left (word ∷ words)) (cond t (reply_line left words) (target_line left word words))
 put1_by left word words true e =
@@ -335,7 +335,7 @@ get_line_tells : (left : ℕ) (words : List (List ℕ)) → Reports (LinesOf lef
 get_line_tells left [] = form_tells (LinesOf left verbs.Mqget []) (λ y h. (get_of left [] y h).1)
 get_line_tells left (handle ∷ words) =
     told_map (λ (p : List ℕ × GetOptions). LabelIn handle p.0 × AreGetOptions words p.1) (HasGetLineFault (handle ∷ words)) made_get got (LinesOf left verbs.Mqget (handle ∷ words)) (λ x. refl) (λ f. refl) (λ x h. (refl, h)) (λ y h. get_of left (handle ∷ words) y h)
-        (both (label_in handle) (get_options words)) (told_both (LabelIn handle) (AreGetOptions words) (HasLabelFault handle) (HasGetFault words) (label_in handle) (get_options words) (label_tells handle) (get_tells words))
+    (both (label_in handle) (get_options words)) (told_both (LabelIn handle) (AreGetOptions words) (HasLabelFault handle) (HasGetFault words) (label_in handle) (get_options words) (label_tells handle) (get_tells words))
 
 -- CUT
 
@@ -347,7 +347,7 @@ cut_tells : (left : ℕ) (words : List (List ℕ)) → Reports (LinesOf left ver
 cut_tells left [] = form_tells (LinesOf left verbs.Cut []) (λ y h. (cut_of left [] y h).1)
 cut_tells left (count ∷ []) =
     told_map (NumberIn 1 1000 count) (NumberFault faults.Number 1 1000 count) (λ (k : ℕ). lines.Cut k) cut_at (LinesOf left verbs.Cut (count ∷ [])) (λ x. refl) (λ f. refl) (λ x h. (refl, h)) (λ y h. cut_of left (count ∷ []) y h)
-        (ranged faults.Number 1 1000 count) (ranged_tells faults.Number refl 1 1000 count)
+    (ranged faults.Number 1 1000 count) (ranged_tells faults.Number refl 1 1000 count)
 cut_tells left (count ∷ other ∷ words) = form_tells (LinesOf left verbs.Cut (count ∷ other ∷ words)) (λ y h. (cut_of left (count ∷ other ∷ words) y h).1)
 
 -- ---- the words behind a verb

@@ -123,6 +123,7 @@ module _ {A : Type 0} (Is : A → Type 0) (Has : LineFault → Type 0) where
       back : P → (f : LineFault) → ((f ≡ faults.Form) × (P → ⊥)) ⊎ (P × Has f) → Has f
       back p f (inl h) = absurd (h.1 p)
       back p f (inr h) = h.1
+
       by : P → (r : Result A LineFault) → Reports Is Has r → Reports (λ (x : A). P × Is x) (λ (f : LineFault). ((f ≡ faults.Form) × (P → ⊥)) ⊎ (P × Has f)) r
       by p (Ok x) u = ((p, u.0), (λ y h. u.1 y h.1), λ f h. u.2 f (back p f h))
       by p (Err f) u = ((λ x h. u.0 x h.1), inr (p, u.1), u.2, λ g h. u.3 g (back p g h))
@@ -132,6 +133,7 @@ module _ {A : Type 0} (Is : A → Type 0) (Has : LineFault → Type 0) where
     where
       false_never : false ≡ true → ⊥
       false_never e = absurd cc
+
       only : (P → ⊥) → (g : LineFault) → ((g ≡ faults.Form) × (P → ⊥)) ⊎ (P × Has g) → (g ≡ faults.Form) ⊎ (rank faults.Form < rank g)
       only none g (inl h) = inl h.0
       only none g (inr h) = absurd (none h.0)
