@@ -1,32 +1,31 @@
 -- A sound manager has what the law of the log needs.
 use Rattle.std.proofs.Common.{ℕ, ◌≡◌, ◌≢◌, Bool, true, false, List, [], ◌∷◌, ◌++◌, refl, ap, sym, subst, ◌∙◌, arith, inl, inr}
-use Rattle.std.specs.Prelude.{Option, Some, None, if◌then◌else◌, ◌==◌, ◌&&◌, ◌||◌, nat_lt, nat_le}
+use Rattle.std.specs.Prelude.{Option, Some, if◌then◌else◌, ◌==◌, ◌&&◌, ◌||◌, nat_lt, nat_le}
 use Rattle.std.specs.Str.{bytes_eq}
 use Rattle.std.specs.List.{AllByRecursion, list_any}
 use Rattle.std.proofs.lemmas.Bool.Decides.{nat_tests}
 use Rattle.mq_message.specs.declared.message.Ident.{Ident}
 use Rattle.mq_message.specs.declared.place.Place.{Place}
-use Rattle.mq_message.specs.declared.place.Holder.{Holder}
 use Rattle.mq_message.specs.declared.place.Holder.TheVariants as holders
 use Rattle.mq_queue.specs.declared.row.Row.{Row}
-use Rattle.mq_queue.specs.Rows.{same_ident, has_ident, held_by}
+use Rattle.mq_queue.specs.Rows.{same_ident, held_by}
 use Rattle.mq_queue.specs.Queues.{Lacks, AreDistinct, AllBehind, AreInOrder}
 use Rattle.mq_calls.specs.declared.records.Add.{Add}
 use Rattle.mq_calls.specs.declared.state.Item.{Item}
 use Rattle.mq_calls.specs.declared.state.Item.TheVariants.{Put, Take}
 use Rattle.mq_spec_state.specs.State.{Plain, Queue, Connection, Batch}
 use Rattle.mq_spec_state.specs.State.Which.{Among}
-use Rattle.mq_spec_state.specs.Reads.{queue_in, connection_at, batch_of, stored, is_by_unit}
+use Rattle.mq_spec_state.specs.Reads.{queue_in, connection_at, batch_of, is_by_unit}
 use Rattle.mq_spec_state.specs.Changes.{selects}
 use Rattle.mq_spec_manager.specs.Put.{next_ident}
-use Rattle.mq_law_manager.specs.View.{View, Taken, view, puts_in, takes_in, items_of}
-use Rattle.mq_law_manager.specs.Facts.{Mem, Chain, Differ, put_ident, taken_ident, IsOf, Sound, AreNamed, IsSound}
-use Rattle.mq_law_manager.proofs.Lists.{bool_case, is_false, ident_no, ident_self, ident_yes, distinct_of, one_row}
+use Rattle.mq_law_manager.specs.View.{Taken, view, puts_in, takes_in, items_of}
+use Rattle.mq_law_manager.specs.Facts.{Mem, Differ, put_ident, taken_ident, IsOf, Sound, AreNamed, IsSound}
+use Rattle.mq_law_manager.proofs.Lists.{bool_case, ident_no, ident_self, ident_yes, distinct_of, one_row}
 use Rattle.mq_law_manager.proofs.Named.{name_is, name_self, name_turned}
 use Rattle.mq_law_manager.proofs.Batches.{by_batch, is_by_batch}
 use Rattle.mq_law_manager.proofs.Needed.{next_lacks, put_lacks}
 use Rattle.mq_law_log.specs.Keeps.{AreLaned, IsNew, HoldsJust}
-use Rattle.mq_law_log.specs.Sound.{all_rows, IsHeld, IsItem, item_ident, AreApart, IsUnit, IsRouted, IsLogSound}
+use Rattle.mq_law_log.specs.Sound.{all_rows, IsItem, item_ident, AreApart, IsUnit, IsRouted, IsLogSound}
 
 all_of : {A : Type 0} (P : A → Type 0) (xs : List A) → ((x : A) → Mem x xs → P x) → AllByRecursion P xs
 all_of P [] h = tt

@@ -10,7 +10,6 @@ use Rattle.mq_spec_state.specs.Changes.{apply, apply_all, try_if}
 use Rattle.mq_spec_state.specs.Images.{Image, lasting, raised}
 use Rattle.mq_spec_state.specs.Steps.{Part, logged, do_part, freeze, note_of}
 use Rattle.mq_spec_manager.specs.Stops.{redone_if, restarted, grown}
-use Rattle.mq_spec_log.specs.Records.{doing}
 use Rattle.mq_law_manager.specs.Facts.{IsSound}
 use Rattle.mq_law_manager.proofs.Numbered.{ImageRests}
 use Rattle.mq_law_manager.proofs.Restarting.{lasting_rests}

@@ -1,5 +1,5 @@
 -- A sound manager: what its calls keep, and what the law of the log needs of it.
-use Rattle.std.specs.Prelude.{◌≡◌, ◌⊎◌, ℕ, Bool, true, false, List, [], ◌∷◌, ◌++◌, Option, Some, is_some}
+use Rattle.std.specs.Prelude.{◌≡◌, ℕ, Bool, true, false, List, [], ◌∷◌, ◌++◌, Some, is_some}
 use Rattle.std.specs.List.{AllByRecursion}
 pub use Rattle.mq_base.specs.Members.{Mem}
 use Rattle.mq_message.specs.declared.message.Ident.{Ident}
