@@ -21,7 +21,7 @@ use Rattle.mq_spec_manager.specs.Put.{queue_at, put_part, put_tests, put_step, n
 use Rattle.mq_spec_log.specs.Applies.{fits}
 use Rattle.mq_spec_manager.specs.Units.{mqcmit, mqdisc, commit_part}
 use Rattle.mq_law_log.specs.Keeps.{StepKeeps, Keeps, IsNew}
-use Rattle.mq_law_log.specs.Sound.{IsSound, IsUnit, LeadsWell}
+use Rattle.mq_law_log.specs.Sound.{IsLogSound, IsUnit, LeadsWell}
 use Rattle.mq_law_log.proofs.Rows.{bool_case}
 use Rattle.mq_law_log.proofs.Harmless.{commit_harmless, put_harmless}
 
@@ -30,27 +30,27 @@ abbrev OfConnection : (Connection → Type 0) → Result Connection Reason → T
 OfConnection P (Err reason) = Unit {0}
 OfConnection P (Ok c) = P c
 
-found_connection : (P : Connection → Type 0) (n : ℕ) (cs : List Connection) → AllByRecursion P cs → OfConnection P (live_or (connection_at n cs))
-found_connection P n [] h = tt
-found_connection P n (c ∷ cs) h = bool_case (c.number == n) (λ b. OfConnection P (live_or (if b then Some c else connection_at n cs))) (λ e. h.0) (λ e. found_connection P n cs h.1)
+found_connection : (P : Connection → Type 0) (o : Option Connection) → ((c : Connection) → o ≡ Some c → P c) → OfConnection P (live_or o)
+found_connection P None h = tt
+found_connection P (Some c) h = h c refl
 
-of_connected : (P : Connection → Type 0) (hc : Hconn) (p : Plain) → AllByRecursion P p.connections → OfConnection P (connected hc p)
+of_connected : (P : Connection → Type 0) (hc : Hconn) (p : Plain) → ((n : ℕ) (c : Connection) → connection_at n p.connections ≡ Some c → P c) → OfConnection P (connected hc p)
 of_connected P hc p h = bool_case (is_other hc p) (λ b. OfConnection P (if b then Err reasons.ConnectionHandleError else (if is_present hc p then live_or (connection_at hc.number p.connections) else Err reasons.ConnectionBroken)))
     (λ e. tt)
-    (λ e. bool_case (is_present hc p) (λ b. OfConnection P (if b then live_or (connection_at hc.number p.connections) else Err reasons.ConnectionBroken)) (λ z. found_connection P hc.number p.connections h) (λ z. tt))
+    (λ e. bool_case (is_present hc p) (λ b. OfConnection P (if b then live_or (connection_at hc.number p.connections) else Err reasons.ConnectionBroken)) (λ z. found_connection P (connection_at hc.number p.connections) (h hc.number)) (λ z. tt))
 
-commit_of : (r : Result Connection Reason) (p : Plain) → IsSound p → OfConnection (λ (c : Connection). IsUnit c.unit p) r → StepKeeps (for_connection r (λ c. Do (answers.Ok (tt {0})) (commit_part [] c ∷ []))) p
+commit_of : (r : Result Connection Reason) (p : Plain) → IsLogSound p → OfConnection (λ (c : Connection). IsUnit c.unit p) r → StepKeeps (for_connection r (λ c. Do (answers.Ok (tt {0})) (commit_part [] c ∷ []))) p
 commit_of (Err reason) p s h = tt
 commit_of (Ok c) p s h = ((commit_harmless [] c p (λ q. refl) s h).keeps, tt)
 
-pub mqcmit_keeps : (hc : Hconn) (p : Plain) → IsSound p → StepKeeps (mqcmit hc p) p
+pub mqcmit_keeps : (hc : Hconn) (p : Plain) → IsLogSound p → StepKeeps (mqcmit hc p) p
 mqcmit_keeps hc p s = commit_of (connected hc p) p s (of_connected (λ (c : Connection). IsUnit c.unit p) hc p s.units)
 
-disconnect_of : (r : Result Connection Reason) (p : Plain) → IsSound p → OfConnection (λ (c : Connection). IsUnit c.unit p) r → StepKeeps (for_connection r (λ c. Do (answers.Ok (tt {0})) (commit_part (Disconnect c.number ∷ []) c ∷ []))) p
+disconnect_of : (r : Result Connection Reason) (p : Plain) → IsLogSound p → OfConnection (λ (c : Connection). IsUnit c.unit p) r → StepKeeps (for_connection r (λ c. Do (answers.Ok (tt {0})) (commit_part (Disconnect c.number ∷ []) c ∷ []))) p
 disconnect_of (Err reason) p s h = tt
 disconnect_of (Ok c) p s h = ((commit_harmless (Disconnect c.number ∷ []) c p (λ q. refl) s h).keeps, tt)
 
-pub mqdisc_keeps : (hc : Hconn) (p : Plain) → IsSound p → StepKeeps (mqdisc hc p) p
+pub mqdisc_keeps : (hc : Hconn) (p : Plain) → IsLogSound p → StepKeeps (mqdisc hc p) p
 mqdisc_keeps hc p s = disconnect_of (connected hc p) p s (of_connected (λ (c : Connection). IsUnit c.unit p) hc p s.units)
 
 abbrev OfHandle : Plain → Option Handle → Type 0
@@ -65,16 +65,16 @@ tested_keeps {F} {T} ts step p h = by_refusal (refusal ts)
     by_refusal None = h
     by_refusal (Some reason) = tt
 
-put_part_keeps : (sync : Bool) (c : Connection) (queue : List ℕ) (m : Message) (p : Plain) → IsSound p → fits queue m p.definitions ≡ true → IsNew m.ident p → Keeps (put_part sync c queue m) p
+put_part_keeps : (sync : Bool) (c : Connection) (queue : List ℕ) (m : Message) (p : Plain) → IsLogSound p → fits queue m p.definitions ≡ true → IsNew m.ident p → Keeps (put_part sync c queue m) p
 put_part_keeps true c queue m p s f n = refl
 put_part_keeps false c queue m p s f n = (put_harmless c queue m p s f n).keeps
 
-pub put_route_keeps : (c : Connection) (route : Route) (md : Md) (body : List ℕ) (sync : Bool) (p : Plain) → IsSound p → fits (queue_at route.end) (new_message c route md body p) p.definitions ≡ true
+pub put_route_keeps : (c : Connection) (route : Route) (md : Md) (body : List ℕ) (sync : Bool) (p : Plain) → IsLogSound p → fits (queue_at route.end) (new_message c route md body p) p.definitions ≡ true
     → StepKeeps (put_route c route md body sync p) p
 put_route_keeps c route md body sync p s f = tested_keeps (put_tests c route md body sync (new_message c route md body p) p) (put_step c route md sync (new_message c route md body p)) p
     (put_part_keeps sync c (queue_at route.end) (new_message c route md body p) p s f s.next, tt)
 
-put_handle_keeps : (md : Md) (body : List ℕ) (sync : Bool) (p : Plain) (c : Connection) (h : Handle) → IsSound p → LeadsWell h p → StepKeeps (put_handle md body sync p c h) p
+put_handle_keeps : (md : Md) (body : List ℕ) (sync : Bool) (p : Plain) (c : Connection) (h : Handle) → IsLogSound p → LeadsWell h p → StepKeeps (put_handle md body sync p c h) p
 put_handle_keeps md body sync p c h s w = bool_case h.stale
     (λ b. h.stale ≡ b → StepKeeps (refused_or (if b then Some reasons.ObjectChanged else refusal (when (not h.how.output) reasons.NotOpenForOutput ∷ [])) (put_route c (handle_route h) md body sync p)) p)
     (λ y e. tt)
@@ -84,7 +84,7 @@ put_handle_keeps md body sync p c h s w = bool_case h.stale
     (λ z o. tt) refl)
     refl
 
-put_of_handle : (o : Option Handle) (md : Md) (body : List ℕ) (sync : Bool) (p : Plain) (c : Connection) → IsSound p → OfHandle p o → StepKeeps (for_handle o (put_handle md body sync p c)) p
+put_of_handle : (o : Option Handle) (md : Md) (body : List ℕ) (sync : Bool) (p : Plain) (c : Connection) → IsLogSound p → OfHandle p o → StepKeeps (for_handle o (put_handle md body sync p c)) p
 put_of_handle None md body sync p c s w = tt
 put_of_handle (Some h) md body sync p c s w = put_handle_keeps md body sync p c h s w
 
@@ -92,10 +92,10 @@ found_handle : (p : Plain) (n : ℕ) (hs : List Handle) → AllByRecursion (λ (
 found_handle p n [] w = tt
 found_handle p n (h ∷ hs) w = bool_case (h.number == n) (λ b. OfHandle p (if b then Some h else handle_at n hs)) (λ e. w.0) (λ e. found_handle p n hs w.1)
 
-put_of : (r : Result Connection Reason) (ho : Hobj) (md : Md) (body : List ℕ) (sync : Bool) (p : Plain) → IsSound p → OfConnection (λ (c : Connection). AllByRecursion (λ (h : Handle). LeadsWell h p) c.handles) r
+put_of : (r : Result Connection Reason) (ho : Hobj) (md : Md) (body : List ℕ) (sync : Bool) (p : Plain) → IsLogSound p → OfConnection (λ (c : Connection). AllByRecursion (λ (h : Handle). LeadsWell h p) c.handles) r
     → StepKeeps (for_connection r (put_up ho md body sync p)) p
 put_of (Err reason) ho md body sync p s w = tt
 put_of (Ok c) ho md body sync p s w = put_of_handle (handle_at ho.number c.handles) md body sync p c s (found_handle p ho.number c.handles w)
 
-pub mqput_keeps : (hc : Hconn) (ho : Hobj) (md : Md) (body : List ℕ) (sync : Bool) (p : Plain) → IsSound p → StepKeeps (mqput hc ho md body sync p) p
+pub mqput_keeps : (hc : Hconn) (ho : Hobj) (md : Md) (body : List ℕ) (sync : Bool) (p : Plain) → IsLogSound p → StepKeeps (mqput hc ho md body sync p) p
 mqput_keeps hc ho md body sync p s = put_of (connected hc p) ho md body sync p s (of_connected (λ (c : Connection). AllByRecursion (λ (h : Handle). LeadsWell h p) c.handles) hc p s.handles)

@@ -26,7 +26,7 @@ use Rattle.mq_sync.specs.Settlement.{sender_or, receiver_or}
 use Rattle.mq_spec_state.specs.Images.{Image, lasting, has_batch}
 use Rattle.mq_spec_log.specs.Applies.{fits, is_unit_in_doubt, can_prepare}
 use Rattle.mq_law_log.specs.Keeps.{Does, HoldsJust, IsNew, AreGone, AreTakeable}
-use Rattle.mq_law_log.specs.Sound.{IsSound, IsUnit, AreFree}
+use Rattle.mq_law_log.specs.Sound.{IsLogSound, IsUnit, AreFree}
 use Rattle.mq_law_log.specs.Restarts.{IsHarmless, prepare_part}
 use Rattle.mq_law_log.proofs.Parts.{put_does, commit_does}
 use Rattle.mq_law_log.proofs.Removals.{removal_does}
@@ -54,7 +54,7 @@ harmless part p h g = record {
 gone_lasts : (running : Running) (log : LogState) (p : Plain) → lasting (gone running log p) ≡ lasting p
 gone_lasts running log p = frozen_lasts None 0 p
 
-pub put_harmless : (c : Connection) (queue : List ℕ) (m : Message) (p : Plain) → IsSound p → fits queue m p.definitions ≡ true → IsNew m.ident p → IsHarmless (put_part false c queue m) p
+pub put_harmless : (c : Connection) (queue : List ℕ) (m : Message) (p : Plain) → IsLogSound p → fits queue m p.definitions ≡ true → IsNew m.ident p → IsHarmless (put_part false c queue m) p
 put_harmless c queue m p s f n =
     let r : IsReady queue m p = sound_ready queue m p s f n in
     harmless (put_part false c queue m) p
@@ -62,13 +62,13 @@ put_harmless c queue m p s f n =
     (λ running log. put_does c queue m (gone running log p) (ready_placeable queue m (gone running log p) (ready_elsewhere queue m running log (volatile_gone p) (ready_left queue m Nonpersistent p r))))
 
 -- a get outside units, expired rows, discarded ones
-pub removal_harmless : (why : Why) (queue : List ℕ) (rows : List Row) (p : Plain) → IsSound p → AreFree queue rows p → IsHarmless (removal_part why queue rows) p
+pub removal_harmless : (why : Why) (queue : List ℕ) (rows : List Row) (p : Plain) → IsLogSound p → AreFree queue rows p → IsHarmless (removal_part why queue rows) p
 removal_harmless why queue rows p s h = harmless (removal_part why queue rows) p
     (λ log. removal_does why queue rows (record p { log = log }) (rows_gone queue rows p s h))
     (λ running log. removal_does why queue rows (gone running log p) (subst (λ (i : Image). AreGone queue rows i) (sym (gone_lasts running log p)) (rows_gone queue rows p s h)))
 
 -- MQCMIT, MQDISC
-pub commit_harmless : (more : List Change) (c : Connection) (p : Plain) → ((q : Plain) → lasting (apply_all more q) ≡ lasting q) → IsSound p → IsUnit c.unit p → IsHarmless (commit_part more c) p
+pub commit_harmless : (more : List Change) (c : Connection) (p : Plain) → ((q : Plain) → lasting (apply_all more q) ≡ lasting q) → IsLogSound p → IsUnit c.unit p → IsHarmless (commit_part more c) p
 commit_harmless more c p aside s u = harmless (commit_part more c) p
     (λ log. commit_does more c (record p { log = log }) aside (unit_takeable c.unit p s.once u)
     (puts_one_by_one c.unit (apply_all (flat_map taken_item c.unit) (record p { log = log })) u.1 (ready_behind c.unit c.unit (record p { log = log }) (all_elsewhere p.running log c.unit p (items_ready c.unit p s u.0)))))

@@ -23,7 +23,7 @@ use Rattle.mq_spec_manager.specs.Put.{placed}
 use Rattle.mq_spec_manager.specs.Units.{taken_item}
 use Rattle.mq_spec_log.specs.Applies.{fits, fits_local}
 use Rattle.mq_law_log.specs.Keeps.{AreLaned, has_queue, IsNew, IsPlaceable, ArePlaceable}
-use Rattle.mq_law_log.specs.Sound.{IsItem, item_ident, AreApart, IsSound}
+use Rattle.mq_law_log.specs.Sound.{IsItem, item_ident, AreApart, IsLogSound}
 use Rattle.mq_law_log.proofs.Rows.{bool_case, name_is}
 use Rattle.mq_law_log.proofs.Ready.{lacks_kept}
 
@@ -174,14 +174,14 @@ has_local : (q : Option LocalQueue) (m : Message) → fits_local q m ≡ true �
 has_local None m e = absurd (cc e)
 has_local (Some q) m e = refl
 
-pub sound_ready : (queue : List ℕ) (m : Message) (p : Plain) → IsSound p → fits queue m p.definitions ≡ true → IsNew m.ident p → IsReady queue m p
+pub sound_ready : (queue : List ℕ) (m : Message) (p : Plain) → IsLogSound p → fits queue m p.definitions ≡ true → IsNew m.ident p → IsReady queue m p
 sound_ready queue m p s f n = record { there = s.stocked queue (has_local (local_of queue p.definitions) m f); laned = s.laned; fit = f; fresh = n }
 
-item_ready : (item : Item) (p : Plain) → IsSound p → IsItem item p → ItemReady p item
+item_ready : (item : Item) (p : Plain) → IsLogSound p → IsItem item p → ItemReady p item
 item_ready (Put queue m) p s h = sound_ready queue m p s h.0 h.1
 item_ready (Take queue ident persistent) p s h = tt
 
-pub items_ready : (items : List Item) (p : Plain) → IsSound p → AllByRecursion (λ (item : Item). IsItem item p) items → AllByRecursion (ItemReady p) items
+pub items_ready : (items : List Item) (p : Plain) → IsLogSound p → AllByRecursion (λ (item : Item). IsItem item p) items → AllByRecursion (ItemReady p) items
 items_ready [] p s h = tt
 items_ready (item ∷ items) p s h = (item_ready item p s h.0, items_ready items p s h.1)
 

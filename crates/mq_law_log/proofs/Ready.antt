@@ -20,7 +20,7 @@ use Rattle.mq_spec_state.specs.Images.{Shelf, Image, lasting, lasting_row, lasti
 use Rattle.mq_spec_log.specs.Shelves.{shelf_in, on_all, less_rows}
 use Rattle.mq_spec_log.specs.Applies.{is_free_at}
 use Rattle.mq_law_log.specs.Keeps.{IsTakeable, AreTakeable, AreGone, less_item}
-use Rattle.mq_law_log.specs.Sound.{all_rows, Mem, IsItem, item_ident, AreApart, IsUnit, IsSound, AreFree}
+use Rattle.mq_law_log.specs.Sound.{all_rows, Mem, IsItem, item_ident, AreApart, IsUnit, IsLogSound, AreFree}
 use Rattle.mq_law_log.proofs.Rows.{bool_case, ident_self, lacks_last}
 use Rattle.mq_law_log.proofs.Shelves.{shelf_found}
 use Rattle.mq_law_log.proofs.Batches.{all_map}
@@ -151,7 +151,7 @@ one_by_one : (queue : List ℕ) (rows : List Row) (i : Image) → AreDistinct ro
 one_by_one queue [] i d a = tt
 one_by_one queue (row ∷ rows) i d a = (a.0, one_by_one queue rows (less_item (is_persistent row.message) queue row.message.ident i) d.1 (all_stay queue row rows i d.0 a.1))
 
-pub rows_gone : (queue : List ℕ) (rows : List Row) (p : Plain) → IsSound p → AreFree queue rows p → AreGone queue rows (lasting p)
+pub rows_gone : (queue : List ℕ) (rows : List Row) (p : Plain) → IsLogSound p → AreFree queue rows p → AreGone queue rows (lasting p)
 rows_gone queue rows p s h = one_by_one queue rows (lasting p) h.1 (all_map (λ (row : Row). Mem row (stored queue p).rows × (is_free row ≡ true)) (λ (row : Row). IsTakeable (is_persistent row.message) queue row.message.ident (lasting p))
     (λ row w. row_takeable queue row p s.once w.0 (free_lasts p.channels.batches row w.1)) rows h.0)
 

@@ -8,7 +8,7 @@ use Rattle.mq_spec_manager.specs.Stops.{redone_if}
 use Rattle.mq_spec_state.specs.Images.{Image, lasting}
 use Rattle.mq_spec_log.specs.Records.{doing}
 use Rattle.mq_spec_log.specs.Applies.{Start, applies}
-use Rattle.mq_recover.specs.Bodies.{record_of, image}
+use Rattle.mq_spec_log.specs.Bodies.{record_of, image}
 use Rattle.mq_spec_log.proofs.BodyLaws.{image_more}
 use Rattle.mq_law_log.specs.Keeps.{Told, Keeps}
 use Rattle.mq_law_log.specs.Restarts.{restarted, next_started}
@@ -19,7 +19,7 @@ record_or r None = r
 record_or r (Some x) = x
 
 -- what is told of a forced record
-told : (f : Option LogRecord) (r : LogRecord) (p : Plain) (new : Image) → f ≡ Some r → Told f p new → new ≡ doing r (lasting p)
+pub told : (f : Option LogRecord) (r : LogRecord) (p : Plain) (new : Image) → f ≡ Some r → Told f p new → new ≡ doing r (lasting p)
 told None r p new e h = absurd cc
 told (Some x) r p new e h = h.1 ∙ ap (λ (y : LogRecord). doing y (lasting p)) (ap (record_or r) e)
 

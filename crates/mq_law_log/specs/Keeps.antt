@@ -27,6 +27,7 @@ use Rattle.mq_spec_manager.specs.Commands.{renewed}
 use Rattle.mq_spec_state.specs.State.Change.{Connect, Disconnect, OpenHandle, CloseHandle, SetCursor, Pend, EndUnit, MakeStale, CountIdent, Seize, Unseize, SetBound, SetMoment}
 use Rattle.mq_spec_agents.specs.Words.{doubts, Landing, Standing, standing_at, is_present, land, land_changes}
 pub use Rattle.mq_spec_agents.specs.Receiving.{received_part}
+pub use Rattle.mq_law_manager.specs.Facts.{has_queue}
 use Rattle.mq_spec_state.specs.Images.{Image, Shelf, lasting}
 use Rattle.mq_spec_log.specs.Applies.{suits, fits, stands_on, can_add, can_remove}
 use Rattle.mq_spec_log.specs.Records.{doing}
@@ -49,14 +50,14 @@ abbrev pub AreLaned : List Row → Type 0
 AreLaned [] = Unit {0}
 AreLaned (row ∷ rows) = AllByRecursion (λ (other : Row). nat_le row.place.lane other.place.lane ≡ true) rows × AreLaned rows
 
--- a queue of that name is there
-abbrev pub has_queue : List ℕ → List Queue → Bool
-has_queue name qs = list_any (λ (q : Queue). bytes_eq name q.name) qs
+-- no unit in doubt lists the ident
+abbrev pub AreUnlisted : Ident → Plain → Type 0
+AreUnlisted ident p = AllByRecursion (λ (s : SenderSide). doubts ident s.hardened.in_doubt ≡ false) p.channels.senders
 
--- no row has the ident, and no unit in doubt lists it
+-- nor has a row it
 pub record IsNew (ident : Ident) (p : Plain) : Type 0 where
   pub rows : AllByRecursion (λ (q : Queue). Lacks ident q.rows) p.queues
-  pub lists : AllByRecursion (λ (s : SenderSide). doubts ident s.hardened.in_doubt ≡ false) p.channels.senders
+  pub lists : AreUnlisted ident p
 
 abbrev pub AllKeep : List Part → Plain → Type 0
 AllKeep [] p = Unit {0}

@@ -1,6 +1,7 @@
 -- A sound manager: what its calls keep, and what the law of the log needs of it.
-use Rattle.std.specs.Prelude.{◌≡◌, ◌⊎◌, ℕ, Bool, true, false, List, [], ◌∷◌, ◌++◌, is_some}
+use Rattle.std.specs.Prelude.{◌≡◌, ◌⊎◌, ℕ, Bool, true, false, List, [], ◌∷◌, ◌++◌, Option, Some, is_some}
 use Rattle.std.specs.List.{AllByRecursion}
+pub use Rattle.mq_base.specs.Members.{Mem}
 use Rattle.mq_message.specs.declared.message.Ident.{Ident}
 use Rattle.mq_message.specs.declared.message.Message.{Message}
 use Rattle.mq_queue.specs.declared.row.Row.{Row}
@@ -9,19 +10,17 @@ use Rattle.mq_queue.specs.Queues.{AreDistinct}
 use Rattle.mq_objects.specs.Names.{local_of}
 use Rattle.mq_calls.specs.declared.state.Item.{Item}
 use Rattle.mq_calls.specs.declared.state.Item.TheVariants.{Put, Take}
+use Rattle.mq_calls.specs.declared.records.Add.{Add}
+use Rattle.mq_law_manager.specs.View.{view}
 use Rattle.mq_spec_state.specs.State.{Plain, Queue, Connection, Handle, Batch}
-use Rattle.mq_spec_state.specs.Reads.{stored, is_persistent, is_by_unit}
+use Rattle.mq_spec_state.specs.Reads.{stored, connection_at, batch_of, is_persistent, is_by_unit}
 use Rattle.mq_spec_manager.specs.Put.{next_ident, dest_at, queue_at}
 use Rattle.mq_spec_log.specs.Applies.{fits}
-use Rattle.mq_law_log.specs.Keeps.{AreLaned, has_queue, IsNew, HoldsJust}
+use Rattle.mq_law_log.specs.Keeps.{AreLaned, has_queue, AreUnlisted, IsNew, HoldsJust}
 
 abbrev pub all_rows : List Queue → List Row
 all_rows [] = []
 all_rows (q ∷ qs) = q.rows ++ all_rows qs
-
-abbrev pub Mem : {A : Type 0} → A → List A → Type 0
-Mem x [] = ⊥
-Mem x (y ∷ ys) = (x ≡ y) ⊎ Mem x ys
 
 -- a row that a unit holds
 pub record IsHeld (queue : List ℕ) (ident : Ident) (persistent : Bool) (p : Plain) : Type 0 where
@@ -51,15 +50,24 @@ IsUnit items p = AllByRecursion (λ (item : Item). IsItem item p) items × AreAp
 abbrev pub LeadsWell : Handle → Plain → Type 0
 LeadsWell h p = h.stale ≡ false → h.how.output ≡ true → (m : Message) → m.route ≡ dest_at h.leads → fits (queue_at h.leads) m p.definitions ≡ true
 
--- rows by lanes, each ident once; each local queue is there; the next ident is new; units and batches hold what they list
-pub record IsSound (p : Plain) : Type 0 where
+-- What the law of the log needs of a sound manager: rows by lanes, each ident once; each local queue is there; the next ident is
+-- new; what handles lead to fits; units and batches hold what they list.
+pub record IsLogSound (p : Plain) : Type 0 where
   pub laned : AllByRecursion (λ (q : Queue). AreLaned q.rows) p.queues
   pub once : AreDistinct (all_rows p.queues)
   pub stocked : (name : List ℕ) → is_some (local_of name p.definitions) ≡ true → has_queue name p.queues ≡ true
   pub next : IsNew (next_ident p) p
-  pub handles : AllByRecursion (λ (c : Connection). AllByRecursion (λ (h : Handle). LeadsWell h p) c.handles) p.connections
-  pub units : AllByRecursion (λ (c : Connection). IsUnit c.unit p) p.connections
-  pub batches : AllByRecursion (λ (b : Batch). AllByRecursion (HoldsJust b) p.queues) p.channels.batches
+  pub handles : (n : ℕ) (c : Connection) → connection_at n p.connections ≡ Some c → AllByRecursion (λ (h : Handle). LeadsWell h p) c.handles
+  pub units : (n : ℕ) (c : Connection) → connection_at n p.connections ≡ Some c → IsUnit c.unit p
+  pub batches : (b : Batch) → batch_of b.channel p.channels.batches ≡ Some b → AllByRecursion (HoldsJust b) p.queues
+
+-- What of it isn't a fact of all sound managers yet: uncommitted puts fit their queues, and what handles lead to does; no unit in
+-- doubt lists the next ident, or that of an uncommitted put.
+pub record IsRouted (p : Plain) : Type 0 where
+  pub handles : (n : ℕ) (c : Connection) → connection_at n p.connections ≡ Some c → AllByRecursion (λ (h : Handle). LeadsWell h p) c.handles
+  pub puts : (n : ℕ) (a : Add) → Mem a ((view p).puts n) → fits a.queue a.message p.definitions ≡ true
+  pub next : AreUnlisted (next_ident p) p
+  pub waiting : (n : ℕ) (a : Add) → Mem a ((view p).puts n) → AreUnlisted a.message.ident p
 
 -- rows of a queue that are free, none twice
 abbrev pub AreFree : List ℕ → List Row → Plain → Type 0

@@ -23,7 +23,7 @@ ghost use Rattle.mq_spec_state.specs.State.Which.{Among, HeldBy};
 ghost use Rattle.mq_spec_state.specs.State.Change.{AddBatch, ChangeObjects, DropBatch, Hold, Leave, Release};
 ghost use Rattle.mq_spec_state.specs.Reads.{in_doubt_of, is_persistent, receiver_data, sender_data};
 ghost use Rattle.mq_spec_state.specs.Changes.{apply, apply_all};
-ghost use Rattle.mq_spec_state.specs.Steps.{Part, do_part};
+ghost use Rattle.mq_spec_state.specs.Steps.{Part, do_part, freeze, note_of};
 ghost use Rattle.mq_spec_manager.specs.Put.{mqput, put_part};
 ghost use Rattle.mq_spec_manager.specs.Get.{removal_part, taking_part};
 ghost use Rattle.mq_spec_manager.specs.Units.{commit_part, mqcmit, mqdisc};
@@ -33,16 +33,17 @@ ghost use Rattle.mq_spec_agents.specs.Words.{Absent, InDoubtAt, Landed, Landing,
 ghost use Rattle.mq_sync.specs.Settlement.{receiver_or, sender_or};
 ghost use Rattle.mq_spec_state.specs.Images.{has_batch, lasting};
 ghost use Rattle.mq_spec_log.specs.Applies.{Start, applies, can_change, can_prepare, can_receive, fits, is_unit_in_doubt};
-ghost use Rattle.mq_recover.specs.Bodies.{empty_image, image, record_of};
+ghost use Rattle.mq_spec_log.specs.Bodies.{empty_image, image, record_of};
 ghost use Rattle.mq_law_log.specs.Keeps.{AllLand, CameBack, Does, HoldsJust, HoldsNone, IsLandable, IsNew, IsPlaceable, IsTakeable, Keeps, LandTold, StepKeeps, SwitchesAt, is_aside, received_part};
-ghost use Rattle.mq_law_log.specs.Sound.{AreFree, IsSound, IsUnit};
+ghost use Rattle.mq_law_log.specs.Sound.{AreFree, IsLogSound, IsRouted, IsUnit};
+ghost use Rattle.mq_law_manager.specs.Facts.{IsSound};
 ghost use Rattle.mq_law_log.specs.Restarts.{IsHarmless, begun, next_started, prepare_part, raised, restarted};
 
 /// A put, a removal of rows and the end of a unit, in a sound manager.
 pub fn forced_writes_make_crashes_harmless()
-    ensures puts { (c : Connection) (queue : List ℕ) (m : Message) (p : Plain) → IsSound p → fits queue m p.definitions ≡ true → IsNew m.ident p → IsHarmless (put_part false c queue m) p }
-    ensures removals { (why : Why) (queue : List ℕ) (rows : List Row) (p : Plain) → IsSound p → AreFree queue rows p → IsHarmless (removal_part why queue rows) p }
-    ensures commits { (more : List Change) (c : Connection) (p : Plain) → ((q : Plain) → lasting (apply_all more q) ≡ lasting q) → IsSound p → IsUnit c.unit p → IsHarmless (commit_part more c) p }
+    ensures puts { (c : Connection) (queue : List ℕ) (m : Message) (p : Plain) → IsLogSound p → fits queue m p.definitions ≡ true → IsNew m.ident p → IsHarmless (put_part false c queue m) p }
+    ensures removals { (why : Why) (queue : List ℕ) (rows : List Row) (p : Plain) → IsLogSound p → AreFree queue rows p → IsHarmless (removal_part why queue rows) p }
+    ensures commits { (more : List Change) (c : Connection) (p : Plain) → ((q : Plain) → lasting (apply_all more q) ≡ lasting q) → IsLogSound p → IsUnit c.unit p → IsHarmless (commit_part more c) p }
 {}
 
 /// What the ends of channels harden.
@@ -73,9 +74,9 @@ pub fn the_log_tells_what_lasts()
 
 /// Each part of MQPUT, MQCMIT and MQDISC keeps the law in a sound manager.
 pub fn puts_and_ends_of_units_keep_the_law()
-    ensures mqput { (hc : Hconn) (ho : Hobj) (md : Md) (body : List ℕ) (sync : Bool) (p : Plain) → IsSound p → StepKeeps (mqput hc ho md body sync p) p }
-    ensures mqcmit { (hc : Hconn) (p : Plain) → IsSound p → StepKeeps (mqcmit hc p) p }
-    ensures mqdisc { (hc : Hconn) (p : Plain) → IsSound p → StepKeeps (mqdisc hc p) p }
+    ensures mqput { (hc : Hconn) (ho : Hobj) (md : Md) (body : List ℕ) (sync : Bool) (p : Plain) → IsLogSound p → StepKeeps (mqput hc ho md body sync p) p }
+    ensures mqcmit { (hc : Hconn) (p : Plain) → IsLogSound p → StepKeeps (mqcmit hc p) p }
+    ensures mqdisc { (hc : Hconn) (p : Plain) → IsLogSound p → StepKeeps (mqdisc hc p) p }
 {}
 
 /// A batch that is prepared; batches that are held or released, rows that units hold, and puts that wait in a unit last nowhere.
@@ -105,5 +106,15 @@ pub fn moves_and_object_commands_do_as_their_records_say()
 
 /// A manager that begins on an empty log is sound.
 pub fn a_manager_begins_soundly()
-    ensures { (g : Given) (log : LogState) (moment : ℕ) → IsSound (begun g empty_image log moment) }
+    ensures { (g : Given) (log : LogState) (moment : ℕ) → IsLogSound (begun g empty_image log moment) }
+{}
+
+/// A sound manager has what the law of the log needs, where what leads to its queues fits them.
+pub fn a_sound_manager_keeps_its_log()
+    ensures { (p : Plain) → IsSound p → IsRouted p → IsLogSound p }
+{}
+
+/// A restart that finds the stopped write has a sound manager, where the part would have come to one.
+pub fn a_found_write_gives_a_sound_manager()
+    ensures { (part : Part) (r : LogRecord) (left started : ℕ) (p : Plain) → part.forced ≡ Some r → IsHarmless part p → IsSound (do_part part p) → IsSound (restarted true started (note_of part part.forced) (freeze (note_of part part.forced) left p)) }
 {}

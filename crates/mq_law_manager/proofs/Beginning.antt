@@ -14,10 +14,9 @@ use Rattle.mq_spec_state.specs.State.{Given}
 use Rattle.mq_spec_state.specs.Reads.{sender_in, in_doubt_of}
 use Rattle.mq_spec_state.specs.Images.{Image, Shelf, raised}
 use Rattle.mq_spec_state.specs.Recovery.{IsImage, IsShelf, IsLasting, IsHeldWell, IsListed, AreApart, AreKnown}
-use Rattle.mq_spec_manager.specs.Stops.{first_start, started_need}
-use Rattle.mq_law_manager.specs.Facts.{Mem, Chain, Differ, ident_of, IsOf, AreLaned, Sound}
+use Rattle.mq_law_manager.specs.Facts.{Mem, Chain, Differ, ident_of, IsOf, AreLaned}
 use Rattle.mq_law_manager.proofs.Lists.{bool_case, ident_yes, ident_self, name_yes}
-use Rattle.mq_law_manager.proofs.Numbered.{ImageRests, rows_on, begins}
+use Rattle.mq_law_manager.proofs.Numbered.{ImageRests, rows_on}
 
 -- All of a list, by what is in it
 
@@ -47,7 +46,7 @@ pairs_chain R (x ∷ xs) h = (
 
 -- Rows of an image
 
-on_shelf : (name : List ℕ) (ss : List Shelf) (h : Row) → Mem h (rows_on name ss) → (s : Shelf) × Mem s ss × (name ≡ s.name) × Mem h s.rows
+pub on_shelf : (name : List ℕ) (ss : List Shelf) (h : Row) → Mem h (rows_on name ss) → (s : Shelf) × Mem s ss × (name ≡ s.name) × Mem h s.rows
 on_shelf name [] h m = absurd m
 on_shelf name (s ∷ ss) h m = bool_case (bytes_eq name s.name) (λ b. bytes_eq name s.name ≡ b → Mem h (if b then s.rows else rows_on name ss) → (t : Shelf) × Mem t (s ∷ ss) × (name ≡ t.name) × Mem h t.rows)
     (λ e z k. (s, inl refl, name_yes name s.name z, k)) (λ e z k. let t = on_shelf name ss h k in (t.0, inr t.1, t.2, t.3)) refl m
@@ -128,6 +127,3 @@ image_rests given image h k = record {
   where
     held : (s : Shelf) → Mem s image.shelves → (x : Row) → Mem x s.rows → IsHeldWell image s.name x.message.ident x.by
     held s m x n = (all_mem (IsLasting image s.name) s.rows x (all_mem (IsShelf image) image.shelves s h.rows m).rows n).held
-
-pub first_start_holds : (given : Given) (image : Image) (size moment : ℕ) → IsImage image → AreKnown given.number image → Sound (first_start given image size moment)
-first_start_holds given image size moment h k = begins given (raised 0 image) (record { length = size + started_need given; armed = 0 }) moment (image_rests given image h k)

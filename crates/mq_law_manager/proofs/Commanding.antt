@@ -37,8 +37,8 @@ use Rattle.mq_spec_state.specs.Changes.{apply, apply_all}
 use Rattle.mq_spec_state.specs.Steps.{when, logged}
 use Rattle.mq_spec_manager.specs.Commands.{command, planned_step, uses_of, follows, renewed, renewed_if, stale_if, switched_if, dropped}
 use Rattle.mq_law_manager.specs.View.{View, view}
-use Rattle.mq_law_manager.specs.Facts.{Mem, Sound, Holds}
-use Rattle.mq_law_manager.specs.Kept.{Keeps, AreDefined}
+use Rattle.mq_law_manager.specs.Facts.{Mem, Sound, Holds, AreDefined}
+use Rattle.mq_law_manager.specs.Kept.{Keeps}
 use Rattle.mq_law_manager.proofs.Lists.{bool_case, name_yes}
 use Rattle.mq_law_manager.proofs.SeenLaws.{applied}
 use Rattle.mq_law_manager.proofs.Steps.{empties}
@@ -48,7 +48,7 @@ no_rows : (rows : List Row) → ((h : Row) → Mem h rows → ⊥) → rows ≡ 
 no_rows [] none = refl
 no_rows (x ∷ xs) none = absurd (none x (inl refl))
 
-no_length : (rows : List Row) (n : ℕ) → nat_lt 0 (length rows + n) ≡ false → rows ≡ []
+pub no_length : (rows : List Row) (n : ℕ) → nat_lt 0 (length rows + n) ≡ false → rows ≡ []
 no_length [] n e = refl
 no_length (x ∷ xs) n e = absurd (cc (some (length xs) n, e))
   where
@@ -88,7 +88,7 @@ alter_planned p a None = tt
 alter_planned p a (Some old) = row_planned p (not (is_kind a.subject old)) refusals.Missing (alter_good (bad_in old a.settings) a old (uses_of p)) (λ e. good_planned p a old (bad_in old a.settings))
 
 -- the object of a name has it
-object_name : (name : List ℕ) (os : List Object) (old : Object) → object_in Queues name os ≡ Some old → name_of old ≡ name
+pub object_name : (name : List ℕ) (os : List Object) (old : Object) → object_in Queues name os ≡ Some old → name_of old ≡ name
 object_name name [] old e = absurd cc
 object_name name (o ∷ os) old e = bool_case (is_object Queues name o) (λ b. is_object Queues name o ≡ b → (if b then Some o else object_in Queues name os) ≡ Some old → name_of old ≡ name)
     (λ z w f. let is : o ≡ old = cc f in ap name_of (sym is) ∙ sym (at o w)) (λ z w f. object_name name os old f) refl e

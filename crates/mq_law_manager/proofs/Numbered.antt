@@ -84,7 +84,7 @@ numbered_length n (row ∷ rows) = ap suc (numbered_length (n + 1) rows)
 
 -- A manager that begins
 
-rows_begun : (name : List ℕ) (ss : List Shelf) → (queue_in name (map queue_on ss)).rows ≡ numbered 0 (rows_on name ss)
+pub rows_begun : (name : List ℕ) (ss : List Shelf) → (queue_in name (map queue_on ss)).rows ≡ numbered 0 (rows_on name ss)
 rows_begun name [] = refl
 rows_begun name (s ∷ ss) = bool_case (bytes_eq name s.name) (λ b. (if b then queue_on s else queue_in name (map queue_on ss)).rows ≡ numbered 0 (if b then s.rows else rows_on name ss)) (λ e. refl) (λ e. rows_begun name ss)
 

@@ -226,11 +226,11 @@ land_sound q m (InDoubtAt from) p h s e = new_lands (is_persistent m) q m (apply
 
 -- Where a message lands, the queue is defined
 
-refusal_behind : (xs ys : List (Test Reason)) → refusal (xs ++ ys) ≡ None → refusal ys ≡ None
+pub refusal_behind : (xs ys : List (Test Reason)) → refusal (xs ++ ys) ≡ None → refusal ys ≡ None
 refusal_behind [] ys e = e
 refusal_behind (x ∷ xs) ys e = bool_case x.applies (λ b. (if b then Some x.reason else refusal (xs ++ ys)) ≡ None → refusal ys ≡ None) (λ z f. absurd cc) (λ z f. refusal_behind xs ys f) e
 
-has_depth : (o : Option LocalQueue) (n : ℕ) → refusal (when (nat_le (max_depth o) n) reasons.QueueFull ∷ []) ≡ None → is_some o ≡ true
+pub has_depth : (o : Option LocalQueue) (n : ℕ) → refusal (when (nat_le (max_depth o) n) reasons.QueueFull ∷ []) ≡ None → is_some o ≡ true
 has_depth (Some l) n e = refl
 has_depth None n e = absurd (cc (ap (λ (b : Bool). if b then Some reasons.QueueFull else None) (zero_le n), e))
   where
@@ -261,7 +261,7 @@ dead_is channel reason m p =
     let takes : Bool = can_take_dead o (length m.body) p in
     bool_case (uses && takes) (λ b. (uses && takes) ≡ b → IsLanding m p (dead_or b channel reason m p)) (λ z w. (refl, dead_defined o (length m.body) p (right_of uses takes w))) (λ z w. tt) refl
 
-land_is : (channel : List ℕ) (m : Message) (p : Plain) → IsLanding m p (land channel m p)
+pub land_is : (channel : List ℕ) (m : Message) (p : Plain) → IsLanding m p (land channel m p)
 land_is channel m p = at (resolve p.definitions p.given.name (names_of m.route).queue (names_of m.route).qmgr)
   where
     tests : (route : Route) (o : Option Reason) → refusal (route_tests route (length m.body) p) ≡ o → IsLanding m p (land_tested o route channel m p)
@@ -303,7 +303,7 @@ landed_keeps channel (m ∷ ms) p h names = unless_keeps (is_present (standing_a
 
 -- What the log has says nothing of rows
 
-abbrev with_log : LogState → Plain → Plain
+abbrev pub with_log : LogState → Plain → Plain
 with_log l p = record p { log = l }
 
 log_tried : (b : Bool) (name : List ℕ) (l : LogState) (p : Plain) → try_if b name (with_log l p) ≡ with_log l (try_if b name p)
@@ -332,7 +332,7 @@ log_apart (SetBound channel true) l p = refl
 log_apart (SetBound channel false) l p = refl
 log_apart c l p = refl
 
-log_aside : (cs : List Change) (l : LogState) (p : Plain) → apply_all cs (with_log l p) ≡ with_log l (apply_all cs p)
+pub log_aside : (cs : List Change) (l : LogState) (p : Plain) → apply_all cs (with_log l p) ≡ with_log l (apply_all cs p)
 log_aside [] l p = refl
 log_aside (c ∷ cs) l p = ap (apply_all cs) (log_apart c l p) ∙ log_aside cs l (apply c p)
 

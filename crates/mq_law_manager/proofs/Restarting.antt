@@ -9,14 +9,13 @@ use Rattle.mq_message.specs.declared.place.Holder.{Holder}
 use Rattle.mq_message.specs.declared.place.Holder.TheVariants as holders
 use Rattle.mq_queue.specs.declared.row.Row.{Row}
 use Rattle.mq_queue.specs.Queues.{AllBehind, AreInOrder}
-use Rattle.mq_spec_state.specs.State.{Plain, Batch, Noted, Queue}
+use Rattle.mq_spec_state.specs.State.{Plain, Batch, Queue}
 use Rattle.mq_spec_state.specs.Reads.{queue_in, batch_of, is_persistent}
 use Rattle.mq_spec_state.specs.Images.{has_batch, rests_by, lasting_row, lasting_rows, shelves_of, lasting, raised}
-use Rattle.mq_spec_manager.specs.Stops.{restarted, grown}
 use Rattle.mq_law_manager.specs.View.{view}
-use Rattle.mq_law_manager.specs.Facts.{Mem, Differ, ident_of, IsOf, AreLaned, Sound, AreStill}
+use Rattle.mq_law_manager.specs.Facts.{Mem, Differ, ident_of, IsOf, AreLaned, AreStill}
 use Rattle.mq_law_manager.proofs.Lists.{bool_case}
-use Rattle.mq_law_manager.proofs.Numbered.{ImageRests, rows_on, begins}
+use Rattle.mq_law_manager.proofs.Numbered.{ImageRests, rows_on}
 
 -- What lasts of rows
 
@@ -113,6 +112,3 @@ lasting_rests started p h = record {
 
     old : (q : List ℕ) (x : Row) → Mem x (rows_on q (shelves_of p.channels.batches p.queues)) → IsLast p.channels.batches x ((view p).rows q)
     old q x m = mem_lasting p.channels.batches ((view p).rows q) x (subst (λ (rows : List Row). Mem x rows) (on q) m)
-
-pub restart_gives : (started : ℕ) (noted : Option Noted) (p : Plain) → AreStill (view p) → Sound (restarted false started noted p)
-restart_gives started noted p h = begins p.given (raised started (lasting p)) (grown started p) p.moment (lasting_rests started p h)

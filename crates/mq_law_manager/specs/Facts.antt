@@ -1,5 +1,5 @@
 -- What holds of the rows of one manager, always.
-use Rattle.std.specs.Prelude.{ℕ, ◌≡◌, ◌≢◌, ◌≤◌, Bool, false, List, length, Option, Some, None}
+use Rattle.std.specs.Prelude.{ℕ, ◌≡◌, ◌≢◌, ◌≤◌, Bool, false, List, length, Option, Some, None, true, is_some}
 use Rattle.mq_message.specs.declared.message.Ident.{Ident}
 use Rattle.mq_message.specs.declared.place.Holder.TheVariants as holders
 use Rattle.mq_queue.specs.declared.row.Row.{Row}
@@ -7,6 +7,10 @@ use Rattle.mq_queue.specs.Queues.{AreInOrder, AreCounted}
 use Rattle.mq_sync.specs.declared.data.InDoubt.{InDoubt}
 use Rattle.mq_calls.specs.declared.records.Add.{Add}
 use Rattle.std.specs.Str.{bytes_eq}
+use Rattle.std.specs.List.{list_any}
+use Rattle.mq_objects.specs.declared.object.Object.{Object}
+use Rattle.mq_objects.specs.declared.object.Object.TheVariants as objects
+use Rattle.mq_objects.specs.Names.{local_of, is_object, space_of, name_of}
 pub use Rattle.mq_base.specs.Members.{Mem, Chain}
 use Rattle.mq_spec_state.specs.State.{Plain, Batch, Queue}
 use Rattle.mq_spec_state.specs.Reads.{is_persistent}
@@ -98,3 +102,43 @@ AreNamed qs = Chain (λ (q d : Queue). bytes_eq q.name d.name ≡ false) qs
 -- rows by lane
 abbrev pub AreLaned : List Row → Type 0
 AreLaned rows = Chain (λ (x y : Row). x.place.lane ≤ y.place.lane) rows
+
+-- ---- what is defined
+
+-- no name of a space stands twice
+abbrev pub AreOnce : List Object → Type 0
+AreOnce os = Chain (λ (a b : Object). is_object (space_of a) (name_of a) b ≡ false) os
+
+abbrev pub is_local : Object → Bool
+is_local (objects.Local q) = true
+is_local _ = false
+
+-- a queue of that name is there
+abbrev pub has_queue : List ℕ → List Queue → Bool
+has_queue name qs = list_any (λ (q : Queue). bytes_eq name q.name) qs
+
+-- rows stand on local queues that are defined, and uncommitted puts are to such
+abbrev pub AreDefined : Plain → Type 0
+AreDefined p = (q : List ℕ) (h : Row) → Mem h ((view p).rows q) → is_some (local_of q p.definitions) ≡ true
+
+abbrev pub ArePutDefined : Plain → Type 0
+ArePutDefined p = (n : ℕ) (a : Add) → Mem a ((view p).puts n) → is_some (local_of a.queue p.definitions) ≡ true
+
+-- and each has its place for rows
+pub record IsStocked (p : Plain) : Type 0 where
+  pub once : AreOnce p.definitions.objects
+  pub placed : (name : List ℕ) → is_some (local_of name p.definitions) ≡ true → has_queue name p.queues ≡ true
+  pub rows : AreDefined p
+  pub puts : ArePutDefined p
+
+-- All that holds of one manager.
+pub record IsSound (p : Plain) : Type 0 where
+  pub facts : Sound p
+  pub named : AreNamed p.queues
+  pub stocked : IsStocked p
+
+-- What is left of it where a stopped write has frozen the manager.
+pub record IsFrozen (p : Plain) : Type 0 where
+  pub still : AreStill (view p)
+  pub named : AreNamed p.queues
+  pub stocked : IsStocked p

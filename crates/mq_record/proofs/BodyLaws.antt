@@ -1,12 +1,12 @@
 -- A body is one record or none.
-use Rattle.std.proofs.Common.{◌≡◌, ℕ, List, [], ◌∷◌, ◌++◌, length, Result, Ok, Err, refl, sym, ap, subst, ◌∙◌, arith}
+use Rattle.std.proofs.Common.{◌≡◌, ℕ, List, [], ◌++◌, Ok, Err, sym, ap, ◌∙◌}
 use Rattle.std.proofs.lemmas.List.{append-nil}
 use Rattle.mq_frame.specs.declared.fault.Miss.{Miss}
 use Rattle.mq_frame.specs.Reading.{IsBytes}
 use Rattle.mq_frame.proofs.Readers.{one_ok, ok_err}
 use Rattle.mq_record.specs.declared.record.WrittenRecord.{WrittenRecord}
 use Rattle.mq_record.specs.Records.{body_bytes, IsWritten, IsBodyOf}
-use Rattle.mq_record.specs.Reading.{Read, record_at}
+use Rattle.mq_record.specs.Reading.{record_at}
 use Rattle.mq_record.proofs.KindLaws.{record_got, record_again}
 
 -- no record's bytes begin another's

@@ -1,5 +1,5 @@
 -- A reader that reads just what has a spelling, and gives back what was spelled.
-use Rattle.std.proofs.Common.{◌≡◌, ℕ, List, [], ◌∷◌, ◌++◌, Result, Ok, Err, refl, sym, ap, subst, ◌∙◌, append_assoc}
+use Rattle.std.proofs.Common.{◌≡◌, ℕ, List, [], ◌++◌, Result, Ok, refl, sym, ap, subst, ◌∙◌, append_assoc}
 use Rattle.mq_frame.specs.declared.fault.Miss.{Miss}
 use Rattle.mq_frame.specs.Reading.{◌>>=◌, IsBytes}
 use Rattle.mq_frame.proofs.Readers.{Reads, IsBytes-rest, bind_ok, one_ok}

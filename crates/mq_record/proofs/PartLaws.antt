@@ -1,12 +1,11 @@
 -- The readers of fields and of messages.
-use Rattle.std.proofs.Common.{◌≡◌, ℕ, zero, suc, pos, ◌+◌, ◌-◌, ◌^◌, ◌<◌, ◌≤◌, Bool, true, false, cond, eqb, leb, ltb, List, [], ◌∷◌, ◌++◌, length, replicate, Option, Some, None, Result, Ok, Err, refl, sym, ap, subst, ◌∙◌, append_assoc, arith, inl, inr, le-leb, lit<}
+use Rattle.std.proofs.Common.{◌≡◌, ℕ, zero, suc, pos, ◌-◌, ◌^◌, ◌<◌, ◌≤◌, Bool, true, false, cond, eqb, leb, ltb, List, [], ◌∷◌, ◌++◌, length, replicate, Option, Some, None, Result, Ok, Err, refl, sym, ap, subst, ◌∙◌, append_assoc, arith, le-leb}
 use Rattle.std.specs.Prelude.{IfSome, position, not}
-use Rattle.std.specs.List.{concat}
 use Rattle.std.specs.Str.{bytes_eq}
 use Rattle.std.specs.Ordering.{int_eq}
 use Rattle.std.specs.Cmp.{signed_Decides}
 use Rattle.std.proofs.lemmas.Slice.Eq.{bytes_eq-Decides}
-use Rattle.std.proofs.lemmas.Bool.{cases_Bool, cond-true, cond-false, ltb-false, le-ltb, leb-true, eq-eqb}
+use Rattle.std.proofs.lemmas.Bool.{cond-true, cond-false, ltb-false, le-ltb, leb-true}
 use Rattle.std.proofs.lemmas.List.{append-nil, length-append, length-replicate}
 use Rattle.byteorder.specs.Endian.{big_bytes}
 use Rattle.mq_name.specs.Name.{is_name_byte, padded, IsName, name_of, name_or_bad}
@@ -20,23 +19,20 @@ use Rattle.mq_message.specs.declared.message.Message.{Message}
 use Rattle.mq_message.specs.Descriptor.{md_bytes}
 use Rattle.mq_frame.specs.declared.fault.Miss.{Miss}
 use Rattle.mq_frame.specs.declared.fault.Miss.TheVariants.{Wrong}
-use Rattle.mq_frame.specs.Frames.{most_body, flag, ident_bytes, deadline_bytes, dest_bytes, route_bytes, message_bytes, IsIdent, IsDest, IsMd, IsMessage}
+use Rattle.mq_frame.specs.Frames.{most_body, flag, ident_bytes, deadline_bytes, dest_bytes, route_bytes, message_bytes, IsIdent, IsDest, IsMd}
 use Rattle.mq_frame.specs.Reading.{◌>>=◌, IsBytes, byte_at, number_at, piece_at, name_at, dest_at, ident_at, deadline_at, md_at}
 use Rattle.mq_frame.proofs.Readers.{bind_ok, one_ok}
 use Rattle.mq_frame.proofs.Pieces.{Reads-byte, Reads-body, Reads-number}
 use Rattle.mq_frame.proofs.Names.{Reads-name, all_no_bad}
 use Rattle.mq_frame.proofs.Parts.{Reads-dest, Reads-ident, Reads-deadline, Reads-md}
-use Rattle.mq_sync.specs.declared.unit.Unit.{Unit as Luw}
 use Rattle.mq_sync.specs.declared.data.End.{End}
 use Rattle.mq_sync.specs.declared.data.End.TheVariants as ends
-use Rattle.mq_calls.specs.declared.records.Add.{Add}
-use Rattle.mq_calls.specs.declared.records.Remove.{Remove}
 use Rattle.mq_record.specs.declared.record.Operation.{Operation}
 use Rattle.mq_record.specs.declared.record.Operation.TheVariants.{Set, Delete}
 use Rattle.mq_record.specs.Records.{operation_number, end_number, add_bytes, remove_bytes, IsChannel, IsUnit, IsKept, IsAdd, IsRemove}
 use Rattle.mq_record.specs.Reading.{both, no_more, word_of, channel_in, channel_at, unit_at, flag_at, operation_at, end_at, text_at, persistent, kept_md_at, routed_if, route_at, body_at, message_at, add_at, remove_at}
 use Rattle.mq_record.proofs.WordLaws.{word_back}
-use Rattle.mq_record.proofs.ExactLaws.{Exact, Makes, exact_of, exact_none, exact_both, exact_made, exact_then}
+use Rattle.mq_record.proofs.ExactLaws.{Exact, exact_of, exact_none, exact_both, exact_made, exact_then}
 
 -- ---- a choice
 

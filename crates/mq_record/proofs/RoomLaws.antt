@@ -1,5 +1,5 @@
 -- Pieces that are put one behind the other.
-use Rattle.std.proofs.Common.{◌≡◌, ℕ, ◌+◌, ◌-◌, List, [], ◌∷◌, ◌++◌, length, sym, ap, ◌∙◌, append_assoc, arith}
+use Rattle.std.proofs.Common.{◌≡◌, ℕ, ◌-◌, List, [], ◌∷◌, ◌++◌, length, sym, ap, ◌∙◌, append_assoc, arith}
 use Rattle.std.specs.List.{concat}
 use Rattle.std.proofs.lemmas.List.{append-nil, length-append}
 use Rattle.mq_record.specs.Room.{Buffered, with_piece}

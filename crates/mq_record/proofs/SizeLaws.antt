@@ -1,5 +1,5 @@
 -- The bytes of a record are as many as its size says.
-use Rattle.std.proofs.Common.{◌≡◌, ℕ, ◌+◌, ◌-◌, ◌≤◌, List, [], ◌∷◌, ◌++◌, length, replicate, Option, Some, None, refl, ap, ◌∙◌, arith}
+use Rattle.std.proofs.Common.{◌≡◌, ℕ, ◌+◌, ◌-◌, List, [], ◌∷◌, ◌++◌, length, replicate, Option, Some, None, refl, ap, ◌∙◌, arith}
 use Rattle.std.specs.Prelude.{◌*◌, sum_by, IfSome}
 use Rattle.std.specs.List.{flat_map, AllByRecursion}
 use Rattle.std.proofs.lemmas.List.{length-append, length-replicate}
@@ -12,13 +12,12 @@ use Rattle.mq_message.specs.declared.message.Message.{Message}
 use Rattle.mq_message.specs.Descriptor.{md_bytes}
 use Rattle.mq_message.proofs.DescriptorLaws.{length-md_bytes}
 use Rattle.mq_frame.specs.Frames.{ident_bytes, deadline_bytes, dest_bytes, route_bytes, message_bytes, flag, IsDest, IsMessage}
-use Rattle.mq_sync.specs.declared.unit.Unit.{Unit as Luw}
 use Rattle.mq_calls.specs.declared.records.Add.{Add}
 use Rattle.mq_calls.specs.declared.records.Remove.{Remove}
 use Rattle.mq_calls.specs.declared.records.LogRecord.{LogRecord}
 use Rattle.mq_calls.specs.declared.records.LogRecord.TheVariants as records
-use Rattle.mq_spec_state.specs.Sizes.{route_size, message_size, add_size, record_size, change_text}
-use Rattle.mq_record.specs.Records.{add_bytes, remove_bytes, end_number, operation_of, operation_number, objects_front, unit_front, prepared_front, received_front, moved_front, record_bytes, IsAdd, IsRemove, IsRecord}
+use Rattle.mq_spec_state.specs.Sizes.{route_size, message_size, add_size, record_size}
+use Rattle.mq_record.specs.Records.{add_bytes, remove_bytes, end_number, prepared_front, received_front, moved_front, record_bytes, IsAdd, IsRemove, IsRecord}
 
 padded_whole : (width : ℕ) (name : List ℕ) → IsName width name → length (padded width name) ≡ width
 padded_whole width name h = omega (arith, h.fits, length-append name (replicate (width - length name) 32), length-replicate {A = ℕ} (width - length name) 32)

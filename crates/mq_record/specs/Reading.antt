@@ -1,5 +1,5 @@
 -- Reading a record from left to right: a value and the bytes behind it, or why there is none.
-use Rattle.std.specs.Prelude.{◌≡◌, ℕ, zero, suc, pos, Bool, List, [], ◌∷◌, Option, Some, None, Result, Ok, Err, length, nat_le, ◌==◌, if◌then◌else◌}
+use Rattle.std.specs.Prelude.{ℕ, zero, suc, pos, Bool, List, [], ◌∷◌, Option, Some, None, Result, Ok, Err, length, nat_le, ◌==◌, if◌then◌else◌}
 use Rattle.std.specs.Ordering.{int_eq}
 use Rattle.std.specs.Str.{bytes_eq}
 use Rattle.mq_name.specs.Name.{padded, name_of}
@@ -9,7 +9,7 @@ use Rattle.mq_message.specs.declared.message.Dest.{Dest}
 use Rattle.mq_message.specs.declared.message.Md.{Md}
 use Rattle.mq_message.specs.declared.message.Message.{Message}
 use Rattle.mq_frame.specs.declared.fault.Miss.{Miss}
-use Rattle.mq_frame.specs.declared.fault.Miss.TheVariants.{Short, Wrong}
+use Rattle.mq_frame.specs.declared.fault.Miss.TheVariants.{Wrong}
 use Rattle.mq_frame.specs.Frames.{most_body}
 use Rattle.mq_frame.specs.Reading.{◌>>=◌, byte_at, number_at, piece_at, name_at, dest_at, ident_at, deadline_at, md_at}
 use Rattle.mq_sync.specs.declared.unit.Unit.{Unit as Luw}

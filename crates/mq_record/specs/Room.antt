@@ -1,6 +1,5 @@
 -- A buffer: what was written, and for how many bytes there is room behind it.
-use Rattle.std.specs.Prelude.{ℕ, ◌+◌, ◌-◌, List, ◌++◌, length}
-use Rattle.mq_spec_state.specs.Sizes.{message_size}
+use Rattle.std.specs.Prelude.{ℕ, ◌-◌, List, ◌++◌, length}
 
 pub record Buffered : Type 0 where
   pub bytes : List ℕ

@@ -7,7 +7,7 @@ use Rattle.mq_record.specs.Records.{IsBodyOf}
 use Rattle.mq_record.specs.Reading.{Read, record_at}
 use Rattle.mq_record.proofs.BodyLaws.{body_again, is_body}
 use Rattle.mq_calls.specs.declared.records.LogRecord.{LogRecord}
-use Rattle.mq_recover.specs.Bodies.{meaning, meaning_of, record_of}
+use Rattle.mq_spec_log.specs.Bodies.{meaning, meaning_of, record_of}
 
 -- a record is read as what it means
 pub body_means : (w : WrittenRecord) (body : List ℕ) → IsBodyOf w body → record_of body ≡ meaning w

@@ -1,7 +1,7 @@
 //! The record that a body is.
 
 ghost use Rattle.std.specs.Prelude.{◌≡◌, IfOk};
-ghost use Rattle.mq_recover.specs.Bodies.{changing, record_of};
+ghost use Rattle.mq_spec_log.specs.Bodies.{changing, record_of};
 
 use crate::texts::change_of;
 use mq_base::NoMemory;

@@ -7,7 +7,7 @@ ghost use Rattle.mq_objects.specs.Settings.{set_all_manager};
 ghost use Rattle.mq_sc_apply.specs.Planned.{defined_object};
 ghost use Rattle.mq_sc_parse.specs.Splitting.{items_of};
 ghost use Rattle.mq_sc_parse.specs.Parsing.{parse_of};
-ghost use Rattle.mq_recover.specs.Texts.{has_effect, is_plain, gives_all, defined_if, altered_if, meant_by, meant_in, meant_of, change_in};
+ghost use Rattle.mq_spec_log.specs.Texts.{has_effect, is_plain, gives_all, defined_if, altered_if, meant_by, meant_in, meant_of, change_in};
 
 use mq_base::NoMemory;
 use mq_objects::{
@@ -136,7 +136,7 @@ fn meant_in(
 /// # Errors
 ///
 /// No memory.
-#[tactic(auto, unfolding(crate::specs::Texts::change_in))]
+#[tactic(auto, unfolding(mq_spec_log::specs::Texts::change_in))]
 pub fn change_of(
     alloc: Global,
     operation: Operation,

@@ -1,2 +1,7 @@
-//! What is meant: what a record of the log does to an image of a manager, and whether it applies.
+//! What is meant: what a log says. What each record does to an image, whether it applies, and the image of
+//! the bodies of a log.
 #![tactic(auto)]
+
+mod laws;
+
+pub use laws::bodies_are_read_one_after_another;

@@ -1,5 +1,5 @@
-use Rattle.mq_law_manager.proofs.Stopping.{stop_keeps}
+use Rattle.mq_law_manager.proofs.Ending.{stop_sound}
 use Rattle.mq_law_manager.proofs.a_stop_keeps_the_facts.Goals as goal
 
 pub returns : goal.returns
-returns c = stop_keeps
+returns c = stop_sound

@@ -1,4 +1,3 @@
-use Rattle.std.proofs.Common.{ap, ◌∙◌}
 use Rattle.mq_record.specs.Reading.{add_at, several_at}
 use Rattle.mq_record.proofs.LoopLaws.{goes_on, ends, is_done}
 use Rattle.mq_record.proofs.lists.several_adds.Goals as goal

@@ -1,4 +1,3 @@
-use Rattle.std.proofs.Common.{ap, ◌∙◌}
 use Rattle.std.proofs.lemmas.Result.{err_from_is_err_and}
 use Rattle.mq_frame.specs.declared.fault.Stop.TheVariants as stops
 use Rattle.mq_frame.specs.Reading.{ident_at}

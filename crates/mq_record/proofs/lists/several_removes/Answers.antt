@@ -1,4 +1,3 @@
-use Rattle.std.proofs.Common.{ap, ◌∙◌}
 use Rattle.mq_frame.specs.declared.fault.Stop.TheVariants as stops
 use Rattle.mq_record.specs.Reading.{remove_at, several_at}
 use Rattle.mq_record.proofs.LoopLaws.{goes_on, ends, is_done}

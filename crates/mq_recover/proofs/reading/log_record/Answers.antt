@@ -1,7 +1,7 @@
 use Rattle.std.proofs.Common.{◌≡◌, sym, ap, subst, ◌∙◌, arith, Err}
 use Rattle.mq_record.specs.Reading.{Tells}
-use Rattle.mq_recover.specs.Texts.{change_in}
-use Rattle.mq_recover.specs.Bodies.{changing, meaning, record_of}
+use Rattle.mq_spec_log.specs.Texts.{change_in}
+use Rattle.mq_spec_log.specs.Bodies.{changing, meaning, record_of}
 use Rattle.mq_recover.proofs.BodyLaws.{body_means, body_is_none}
 use Rattle.mq_recover.proofs.reading.log_record.Goals as goal
 

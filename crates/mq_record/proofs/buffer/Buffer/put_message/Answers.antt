@@ -1,4 +1,4 @@
-use Rattle.std.proofs.Common.{◌≡◌, ℕ, List, [], ◌∷◌, length, ◌+◌, ◌-◌, ap, ◌∙◌, arith, rules}
+use Rattle.std.proofs.Common.{◌≡◌, ℕ, [], ◌∷◌, length, ◌+◌, ap, ◌∙◌, arith, rules}
 use Rattle.byteorder.specs.Endian.{big_bytes}
 use Rattle.mq_message.specs.Descriptor.{md_bytes}
 use Rattle.mq_frame.specs.Frames.{ident_bytes, deadline_bytes, route_bytes, message_bytes}

@@ -1,10 +1,8 @@
-use Rattle.std.proofs.Common.{◌≡◌, ℕ, [], ◌∷◌, sym, ap, ◌∙◌}
+use Rattle.std.proofs.Common.{[], ◌∷◌, sym, ap, ◌∙◌}
 use Rattle.std.specs.Prelude.{Option, Some, None}
 use Rattle.mq_name.specs.Name.{padded}
 use Rattle.mq_message.specs.declared.message.Dest.{Dest}
 use Rattle.mq_frame.specs.Frames.{route_bytes, dest_bytes}
-use Rattle.mq_spec_state.specs.Sizes.{route_size}
-use Rattle.std.proofs.Common.{length, ◌+◌}
 use Rattle.mq_record.specs.Room.{with_piece}
 use Rattle.mq_record.proofs.RoomLaws.{piece_one, piece_more}
 use Rattle.mq_record.proofs.SizeLaws.{route_whole}

@@ -8,7 +8,7 @@ ghost use Rattle.mq_spec_state.specs.State.{Given};
 ghost use Rattle.mq_spec_state.specs.Images.{Image};
 ghost use Rattle.mq_spec_log.specs.Applies.{Start, applies};
 ghost use Rattle.mq_spec_log.specs.Records.{doing};
-ghost use Rattle.mq_recover.specs.Bodies.{image, record_of};
+ghost use Rattle.mq_spec_log.specs.Bodies.{image, record_of};
 
 /// A record that doesn't change objects is read from its own bytes; and where a log has an image, the log with a
 /// record more that applies has the image behind it.

@@ -13,7 +13,7 @@ use Rattle.mq_spec_state.specs.State.{Given}
 use Rattle.mq_spec_state.specs.Images.{Image}
 use Rattle.mq_spec_log.specs.Records.{doing}
 use Rattle.mq_spec_log.specs.Applies.{Start, applies}
-use Rattle.mq_recover.specs.Texts.{change_in}
+use Rattle.mq_spec_log.specs.Texts.{change_in}
 
 -- ---- the record that a body is
 

@@ -13,7 +13,7 @@ use Rattle.mq_spec_state.specs.State.{Given}
 use Rattle.mq_spec_state.specs.Images.{Image}
 use Rattle.mq_spec_log.specs.Applies.{Start, applies}
 use Rattle.mq_spec_log.specs.Records.{doing}
-use Rattle.mq_recover.specs.Bodies.{meaning_of, record_of, behind, or_place, image_from, begins, empty_image, image}
+use Rattle.mq_spec_log.specs.Bodies.{meaning_of, record_of, behind, or_place, image_from, begins, empty_image, image}
 
 pub record_back : (r : LogRecord) → IsOther r → IsRecord r → record_of (record_bytes r) ≡ Some r
 unfolding record_of

@@ -1,0 +1,11 @@
+pub mod Words
+pub mod Told
+pub mod Operands
+pub mod Numbers
+pub mod Options
+pub mod Bodies
+pub mod LineOptions
+pub mod Puts
+pub mod Gets
+pub mod ScriptLines
+pub mod Script
