@@ -1,0 +1,12 @@
+pub mod Lists
+pub mod Owners
+pub mod Placing
+pub mod Receiving
+pub mod Batches
+pub mod Settling
+pub mod Holding
+pub mod Units
+pub mod Closing
+pub mod Opened
+pub mod Ordering
+pub mod Telling

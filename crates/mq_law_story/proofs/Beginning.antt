@@ -1,0 +1,66 @@
+-- With what a network begins, whose histories begin with images of logs.
+use Rattle.std.proofs.Common.{ℕ, zero, suc, ◌≡◌, ◌+◌, ◌<◌, ◌≤◌, ◌⊎◌, Bool, true, false, List, [], ◌∷◌, refl, ap, sym, subst, ◌∙◌, inl, inr, arith, map}
+use Rattle.std.specs.Prelude.{Option, Some, None, if◌then◌else◌, slice_get, length, All, AllPairs}
+use Rattle.std.specs.Str.{bytes_eq}
+use Rattle.std.specs.List.{list_any}
+use Rattle.std.specs.Option.{option_map}
+use Rattle.std.proofs.lemmas.List.Elements.{All-head, All-tail}
+use Rattle.mq_message.specs.declared.message.Ident.{Ident}
+use Rattle.mq_message.specs.declared.message.Message.{Message}
+use Rattle.mq_message.specs.declared.place.Holder.{Holder}
+use Rattle.mq_message.specs.declared.place.Holder.TheVariants as holders
+use Rattle.mq_queue.specs.declared.row.Row.{Row}
+use Rattle.mq_queue.specs.Rows.{same_ident}
+use Rattle.mq_objects.specs.declared.object.LocalQueue.{LocalQueue}
+use Rattle.mq_objects.specs.Names.{locals_of}
+use Rattle.mq_sync.specs.declared.data.InDoubt.{InDoubt}
+use Rattle.mq_history.specs.declared.history.History.{History}
+use Rattle.mq_history.specs.declared.scenario.Scenario.{Scenario}
+use Rattle.mq_spec_state.specs.State.{Plain, Given, Queue, LogState}
+use Rattle.mq_spec_state.specs.Reads.{queue_in, sender_in, in_doubt_of, is_persistent}
+use Rattle.mq_spec_state.specs.Images.{Image, Shelf, numbered, queue_on, begun, raised}
+use Rattle.mq_spec_state.specs.Recovery.{IsListed, IsHeldWell, IsLasting, IsShelf, AreApart, IsImage}
+use Rattle.mq_spec_network.specs.Story.{Mem, Chain}
+use Rattle.mq_spec_network.specs.Promised.{AreDistinct, AreImages}
+use Rattle.mq_spec_manager.specs.Stops.{started_need}
+use Rattle.mq_spec_network.specs.Given.{surroundings}
+use Rattle.mq_spec_network.specs.Apart.{apart_of}
+use Rattle.mq_spec_network.specs.Standing.{node_after, opening_managers, opening_ledger}
+use Rattle.mq_law_rows.specs.World.{ident_of, idents_in, LanesRise, Inv}
+use Rattle.mq_law_seen.specs.Opening.{AreNamed}
+use Rattle.mq_law_seen.specs.Seen.{world_of, book_of}
+use Rattle.mq_law_seen.specs.Opening.{IsOpening}
+use Rattle.mq_law_rows.specs.Beginning.{first_owner}
+use Rattle.mq_law_seen.specs.Given.{AreOpenings, is_given, sent_at, source_at, spots_of}
+use Rattle.mq_law_rows.proofs.Lists.{bool_case, true_false, ident_self, name_yes, mem_map, map_mem}
+use Rattle.mq_law_story.proofs.Weaving.{manager_at}
+use Rattle.mq_law_seen.proofs.Openings.{openings_have_the_facts}
+use Rattle.mq_law_seen.proofs.Images.{image_opens}
+
+-- The first managers of a network, whose histories begin with images of logs.
+pub managers_open : (s : Scenario) (hs : List History) → AreImages hs → AreOpenings (opening_managers s hs)
+managers_open s hs images = record {
+  each = λ m p e. each_by m p (slice_get hs m) refl (sym (manager_at s [] hs m) ∙ e);
+  idle = λ m p e. idle_by m p (slice_get hs m) (sym (manager_at s [] hs m) ∙ e);
+}
+  where
+    some_or : Plain → Option Plain → Plain
+    some_or p None = p
+    some_or p (Some q) = q
+
+    each_by : (m : ℕ) (p : Plain) (o : Option History) → slice_get hs m ≡ o → option_map (λ (h : History). (node_after s m [] h).manager) o ≡ Some p → IsOpening p
+    each_by m p None is e = absurd cc
+    each_by m p (Some h) is e = subst IsOpening (ap (some_or p) e) (image_opens (surroundings s m).given h.opening (record { length = h.length + started_need (surroundings s m).given; armed = 0 }) h.moment (images m h is))
+
+    idle_by : (m : ℕ) (p : Plain) (o : Option History) → option_map (λ (h : History). (node_after s m [] h).manager) o ≡ Some p → p.connections ≡ []
+    idle_by m p None e = absurd cc
+    idle_by m p (Some h) e = ap (λ (x : Plain). x.connections) (sym (ap (some_or p) e))
+
+pub images_have_the_facts : (s : Scenario) (hs : List History) → AreImages hs → apart_of s (opening_managers s hs) ≡ None
+    → Inv (world_of s (is_given (opening_managers s hs)) (opening_managers s hs)) (record {
+      sent = sent_at (opening_managers s hs);
+      source = source_at (opening_managers s hs);
+      operated = λ m c u. false;
+      owner = first_owner (world_of s (is_given (opening_managers s hs)) (opening_managers s hs)) (spots_of 0 (opening_managers s hs));
+    }) (book_of (opening_ledger s hs))
+images_have_the_facts s hs images together = openings_have_the_facts s (opening_managers s hs) (managers_open s hs images) together

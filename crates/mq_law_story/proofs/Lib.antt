@@ -1,0 +1,5 @@
+pub mod Weaving
+pub mod Agreeing
+pub mod Promising
+pub mod Tying
+pub mod Beginning
