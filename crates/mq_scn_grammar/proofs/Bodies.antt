@@ -1,10 +1,10 @@
 -- Bodies of puts, both ways.
-use Rattle.std.proofs.Common.{◌≡◌, ◌⊎◌, ℕ, suc, ◌+◌, ◌≤◌, ◌<◌, Bool, true, false, cond, eqb, List, [], ◌∷◌, ◌++◌, length, refl, sym, ap, subst, ◌∙◌, arith, inl, inr}
+use Rattle.std.proofs.Common.{◌≡◌, ◌⊎◌, ℕ, suc, ◌≤◌, ◌<◌, Bool, true, false, cond, eqb, List, [], ◌∷◌, ◌++◌, length, refl, sym, ap, subst, ◌∙◌, arith, inl, inr}
 use Rattle.std.specs.Prelude.{Option, Some, None, Result, Ok, Err, nat_le, nat_lt, codes, ◌&&◌}
 use Rattle.std.proofs.lemmas.Bool.{and_parts, and_from}
 use Rattle.std.proofs.lemmas.Bool.Decides.{eqb_tells, leb_tells}
 use Rattle.mq_text.specs.declared.numbers.NumberFault.TheVariants.{NoNumber, OutOfRange}
-use Rattle.mq_text.specs.Numbers.{is_number, is_negative, value_of, within, number_in}
+use Rattle.mq_text.specs.Numbers.{is_number, is_negative, value_of, number_in}
 use Rattle.mq_text.specs.Lines.{onto, cut}
 use Rattle.mq_text.specs.Quoting.{quoted}
 use Rattle.mq_history.specs.declared.scripts.Body.{Body}
@@ -15,14 +15,14 @@ use Rattle.mq_scn_lines.specs.declared.fault.LineFault.TheVariants as faults
 use Rattle.mq_scn_lines.specs.Faults.{rank}
 use Rattle.mq_scn_lines.specs.Operands.{bracketed}
 use Rattle.mq_scn_lines.specs.Texts.{text_in}
-use Rattle.mq_scn_script.specs.Bodies.{fits, begins_with_minus, beyond, fill_number, fill_len, one_byte, filled_with, with_text, text_body_of, text_body, with_len, with_byte, fill_of, fill_body, body_of, body_in}
+use Rattle.mq_scn_script.specs.Bodies.{fits, begins_with_minus, fill_number, fill_len, one_byte, filled_with, with_text, text_body_of, with_len, with_byte, fill_of, body_of, body_in}
 use Rattle.mq_scn_grammar.specs.Words.{Mem}
 use Rattle.mq_scn_grammar.specs.Faults.{IsMissed}
-use Rattle.mq_scn_grammar.specs.Operands.{IsBracketed, IsNumeral, IsNumber}
+use Rattle.mq_scn_grammar.specs.Operands.{IsBracketed, IsNumeral}
 use Rattle.mq_scn_grammar.specs.Bodies.{BodyShape, written, repeated, IsShape, IsBodyOf, IsBodyWord, HasLenFault, HasShapeFault, HasBodyFault}
-use Rattle.mq_scn_grammar.proofs.Told.{Reports, IsFirst, told_via, missed_found, value_found}
+use Rattle.mq_scn_grammar.proofs.Told.{Reports, told_via, missed_found, value_found}
 use Rattle.mq_scn_grammar.proofs.Operands.{bracketed_read, bracketed_found, TextsOf, text_tells, text_read}
-use Rattle.mq_scn_grammar.proofs.Numbers.{le_of, of_le, both_signs, negative_unsigned}
+use Rattle.mq_scn_grammar.proofs.Numbers.{le_of, of_le, both_signs}
 
 -- ---- lengths
 

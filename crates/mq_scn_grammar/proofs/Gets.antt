@@ -1,6 +1,6 @@
 -- What the options of gets say, both ways.
-use Rattle.std.proofs.Common.{◌≡◌, ◌⊎◌, ℕ, suc, ◌≤◌, ◌<◌, Bool, true, false, cond, List, [], ◌∷◌, refl, sym, ap, subst, ◌∙◌, arith, inl, inr}
-use Rattle.std.specs.Prelude.{Option, Some, None, Result, Ok, Err}
+use Rattle.std.proofs.Common.{◌≡◌, ◌⊎◌, ℕ, ◌<◌, Bool, true, false, cond, List, refl, sym, ap, subst, ◌∙◌, arith, inl, inr}
+use Rattle.std.specs.Prelude.{Option, None, Ok}
 use Rattle.mq_calls.specs.declared.answers.Take.{Take}
 use Rattle.mq_calls.specs.declared.answers.Take.TheVariants as takes
 use Rattle.mq_message.specs.declared.place.Want.{Want}
@@ -13,7 +13,7 @@ use Rattle.mq_scn_lines.specs.declared.options.LineOption.TheVariants as options
 use Rattle.mq_scn_lines.specs.Faults.{rank, both}
 use Rattle.mq_scn_lines.specs.Options.{are_options, says}
 use Rattle.mq_scn_script.specs.Options.{for_get, field_option, and_then, take_of, room_of, wait_of, want_of, get_from, get_options}
-use Rattle.mq_scn_grammar.specs.Options.{AreOptions, Says}
+use Rattle.mq_scn_grammar.specs.Options.{AreOptions}
 use Rattle.mq_scn_grammar.specs.LineOptions.{IsValueOr, HasValueFault, FieldIn, FieldFault, NumberIn, NumberFault, SomeOf, IsTake, AreGetOptions, HasGetFault}
 use Rattle.mq_scn_grammar.proofs.Told.{Reports, told_both, told_map, told_as, told_next, told_where}
 use Rattle.mq_scn_grammar.proofs.Options.{are_decides, says_decides, not_said, never_said}

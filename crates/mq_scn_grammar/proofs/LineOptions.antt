@@ -1,31 +1,22 @@
 -- What the options of opens, puts and gets say, both ways.
-use Rattle.std.proofs.Common.{◌≡◌, ◌⊎◌, ℕ, suc, ◌+◌, ◌≤◌, ◌<◌, Bool, true, false, cond, List, [], ◌∷◌, ◌++◌, refl, sym, ap, subst, ◌∙◌, arith, inl, inr}
-use Rattle.std.specs.Prelude.{ℤ, pos, negsuc, Option, Some, None, Result, Ok, Err, codes, replicate}
+use Rattle.std.proofs.Common.{◌≡◌, ℕ, Bool, true, false, cond, List, [], refl, sym, ap, ◌∙◌, inl, inr}
+use Rattle.std.specs.Prelude.{ℤ, Option, Some, None, Ok, Err}
 use Rattle.mq_calls.specs.declared.answers.Input.{Input}
 use Rattle.mq_calls.specs.declared.answers.Input.TheVariants as inputs
 use Rattle.mq_calls.specs.declared.answers.Open.{Open}
-use Rattle.mq_calls.specs.declared.answers.Take.{Take}
-use Rattle.mq_calls.specs.declared.answers.Take.TheVariants as takes
-use Rattle.mq_message.specs.declared.place.Want.{Want}
-use Rattle.mq_history.specs.declared.scripts.PutOptions.{PutOptions}
-use Rattle.mq_history.specs.declared.scripts.GetOptions.{GetOptions}
 use Rattle.mq_scn_lines.specs.declared.fault.Limit.TheVariants as limits
 use Rattle.mq_scn_lines.specs.declared.fault.LineFault.{LineFault}
 use Rattle.mq_scn_lines.specs.declared.fault.LineFault.TheVariants as faults
 use Rattle.mq_scn_lines.specs.declared.options.LineOption.{LineOption}
 use Rattle.mq_scn_lines.specs.declared.options.LineOption.TheVariants as options
-use Rattle.mq_scn_lines.specs.Faults.{rank, both}
 use Rattle.mq_scn_lines.specs.Numbers.{ranged}
 use Rattle.mq_scn_lines.specs.Options.{has_value, group_of, are_options, says, value_of}
 use Rattle.mq_scn_lines.specs.Texts.{field_in}
-use Rattle.mq_scn_script.specs.declared.options.PutNames.{PutNames}
-use Rattle.mq_scn_script.specs.declared.options.PutNumbers.{PutNumbers}
-use Rattle.mq_scn_script.specs.declared.options.PutTexts.{PutTexts}
-use Rattle.mq_scn_script.specs.Options.{for_open, for_put, for_get, input_of, open_options, number_or, number_option, name_or_none, name_option, with_names, put_names, with_numbers, put_numbers, some_field, field_or_none, field_option, and_then, put_texts, persistence_of, field_or, put_with, put_from, put_options, take_of, room_in, room_of, some_number, wait_in, wait_of, want_of, get_from, get_options}
+use Rattle.mq_scn_script.specs.Options.{for_open, input_of, open_options, number_or, number_option, name_or_none, name_option, some_field, field_or_none, field_option, field_or, room_in, room_of, some_number, wait_in, wait_of}
 use Rattle.mq_sc_grammar.specs.Commands.{Tells}
 use Rattle.mq_scn_grammar.specs.Options.{AreOptions, Says, HasValue}
-use Rattle.mq_scn_grammar.specs.LineOptions.{IsValueOr, HasValueFault, NameIn, NameFault, SignedIn, SignedFault, FieldIn, FieldFault, NumberIn, NumberFault, SomeOf, IsInput, AreOpenOptions, HasOpenFault, IsPersistence, ArePutOptions, HasPutTextFault, HasPutNameFault, HasPutNumberFault, HasPutFault, IsTake, AreGetOptions, HasGetFault}
-use Rattle.mq_scn_grammar.proofs.Told.{Reports, told_one, told_both, told_map, told_as, told_or, told_next, told_where, AreBoth, HasEither, AreNext, HasNext}
+use Rattle.mq_scn_grammar.specs.LineOptions.{IsValueOr, HasValueFault, NameIn, NameFault, SignedIn, SignedFault, FieldIn, FieldFault, NumberIn, NumberFault, SomeOf, IsInput, AreOpenOptions, HasOpenFault}
+use Rattle.mq_scn_grammar.proofs.Told.{Reports, told_map, told_or}
 use Rattle.mq_scn_grammar.proofs.Operands.{name_or_blank_tells, field_tells}
 use Rattle.mq_scn_grammar.proofs.Numbers.{signed_tells, ranged_tells}
 use Rattle.mq_scn_grammar.proofs.Options.{are_decides, says_decides, not_said, never_said, one_said, value_found, value_read}

@@ -1,15 +1,15 @@
 -- Numbers in words, both ways.
-use Rattle.std.proofs.Common.{◌≡◌, ◌⊎◌, ℕ, suc, ◌+◌, ◌≤◌, ◌<◌, Bool, true, false, cond, eqb, List, [], ◌∷◌, refl, sym, ap, subst, ◌∙◌, arith, inl, inr}
-use Rattle.std.specs.Prelude.{ℤ, pos, Result, Ok, Err, nat_le, nat_lt, ◌^◌, ◌&&◌}
+use Rattle.std.proofs.Common.{◌≡◌, ◌⊎◌, ℕ, suc, ◌≤◌, ◌<◌, Bool, true, false, cond, eqb, List, [], ◌∷◌, refl, sym, ap, subst, ◌∙◌, arith, inl, inr}
+use Rattle.std.specs.Prelude.{ℤ, pos, Ok, Err, nat_le, nat_lt, ◌^◌, ◌&&◌}
 use Rattle.std.proofs.lemmas.Bool.{and_parts, and_from}
 use Rattle.std.proofs.lemmas.Bool.Decides.{eqb_tells, leb_tells}
 use Rattle.mq_text.specs.declared.numbers.NumberFault.TheVariants.{NoNumber, OutOfRange}
-use Rattle.mq_text.specs.Numbers.{is_number, is_negative, value_of, after_sign, negated, within, number_in, small, small_negative, signed_of}
+use Rattle.mq_text.specs.Numbers.{is_number, is_negative, value_of, after_sign, negated, number_in, signed_of}
 use Rattle.mq_scn_lines.specs.declared.fault.LineFault.{LineFault}
 use Rattle.mq_scn_lines.specs.declared.fault.LineFault.TheVariants as faults
 use Rattle.mq_scn_lines.specs.Faults.{rank}
 use Rattle.mq_scn_lines.specs.Numbers.{told, ranged, signed_number}
-use Rattle.mq_scn_grammar.specs.Faults.{IsMissed, IsTold}
+use Rattle.mq_scn_grammar.specs.Faults.{IsTold}
 use Rattle.mq_scn_grammar.specs.Operands.{IsNumeral, IsNumber, IsSigned, HasNumberFault}
 use Rattle.mq_scn_grammar.proofs.Told.{Reports, is_plain}
 

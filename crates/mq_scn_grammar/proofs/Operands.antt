@@ -1,5 +1,5 @@
 -- Words with a value in brackets, labels, names and texts, both ways.
-use Rattle.std.proofs.Common.{◌≡◌, ◌⊎◌, ℕ, suc, ◌+◌, ◌≤◌, ◌<◌, Bool, true, false, cond, eqb, List, [], ◌∷◌, ◌++◌, length, take, refl, sym, ap, subst, ◌∙◌, arith, inl, inr}
+use Rattle.std.proofs.Common.{◌≡◌, ℕ, suc, ◌+◌, ◌≤◌, ◌<◌, Bool, true, false, cond, eqb, List, [], ◌∷◌, ◌++◌, length, refl, sym, ap, subst, ◌∙◌, arith, inl, inr}
 use Rattle.std.specs.Prelude.{Option, Some, None, Result, Ok, Err, not, nat_lt}
 use Rattle.std.specs.List.{list_all, position, position_or_len}
 use Rattle.std.specs.Str.{str_to_ascii_uppercase}
@@ -8,14 +8,14 @@ use Rattle.std.proofs.lemmas.Bool.{and_parts, and_from, cond-true, cond-false}
 use Rattle.std.proofs.lemmas.Bool.Decides.{eqb_tells, leb_tells}
 use Rattle.std.proofs.lemmas.List.{length-append}
 use Rattle.mq_name.specs.declared.fault.NameFault.{NameFault}
-use Rattle.mq_name.specs.declared.fault.NameFault.TheVariants.{Empty, TooLong, BadByte}
+use Rattle.mq_name.specs.declared.fault.NameFault.TheVariants.{TooLong}
 use Rattle.mq_name.specs.Name.{is_name_byte, is_label_byte, IsName, IsLabel, name_or_bad, name_of, label_of}
 use Rattle.mq_text.specs.Lines.{behind}
 use Rattle.mq_text.specs.Quoting.{doubled, quoted, quoted_len, undoubled, unquoted}
 use Rattle.mq_sc_grammar.proofs.Fronts.{quoted_ends, quoted_reads, quoted_front}
 use Rattle.mq_scn_lines.specs.declared.fault.LineFault.{LineFault}
 use Rattle.mq_scn_lines.specs.declared.fault.LineFault.TheVariants as faults
-use Rattle.mq_scn_lines.specs.Operands.{onto_text, before_last, in_quotes, before_bracket, bracketed, labelled, label_in, named, folded_name, written_name, name_in, are_blanks, is_blank, name_or_blank_in}
+use Rattle.mq_scn_lines.specs.Operands.{onto_text, before_last, in_quotes, before_bracket, bracketed, labelled, label_in, named, written_name, name_in, are_blanks, is_blank, name_or_blank_in}
 use Rattle.mq_scn_lines.specs.Texts.{is_len, is_text, text_in, filled, fitted, field_in}
 use Rattle.mq_scn_lines.proofs.OperandLaws.{last_is}
 use Rattle.mq_scn_grammar.specs.Words.{AreBlanks}

@@ -1,16 +1,15 @@
 -- Options of lines, both ways.
-use Rattle.std.proofs.Common.{◌≡◌, ◌⊎◌, ℕ, Bool, true, false, cond, List, [], ◌∷◌, ◌++◌, map, refl, sym, ap, subst, ◌∙◌, inl, inr}
-use Rattle.std.specs.Prelude.{Option, Some, None, find, codes, not, ◌&&◌, ◌||◌}
+use Rattle.std.proofs.Common.{◌≡◌, ℕ, Bool, true, false, cond, List, [], ◌∷◌, ◌++◌, map, refl, sym, ap, subst, ◌∙◌, inl, inr}
+use Rattle.std.specs.Prelude.{Option, Some, None, find, not, ◌&&◌}
 use Rattle.std.specs.Bool.{Decides}
 use Rattle.std.specs.Str.{bytes_eq}
-use Rattle.std.proofs.lemmas.Bool.{and_parts, and_from, cond-true, cond-false}
+use Rattle.std.proofs.lemmas.Bool.{and_parts, and_from}
 use Rattle.std.proofs.lemmas.Bool.Decides.{Decides-or}
 use Rattle.std.proofs.lemmas.Slice.Eq.{bytes_eq-Decides}
 use Rattle.mq_scn_lines.specs.declared.options.LineOption.{LineOption}
 use Rattle.mq_scn_lines.specs.declared.options.LineOption.TheVariants as options
 use Rattle.mq_scn_lines.specs.Operands.{bracketed}
 use Rattle.mq_scn_lines.specs.Options.{option_word, has_value, group_of, same_group, is_there, is_word_of, option_of, of_group, is_group_of, has_group, is_single, are_options, says, or_later, value_of}
-use Rattle.mq_scn_lines.proofs.OperandLaws.{last_is}
 use Rattle.mq_scn_grammar.specs.Operands.{IsBracketed}
 use Rattle.mq_scn_grammar.specs.Options.{Mem, AreDistinct, IsWordOf, IsOptionWord, AreOfOptions, AreOptions, Says, HasValue}
 use Rattle.mq_scn_grammar.proofs.Operands.{bracketed_read, bracketed_found}

@@ -1,6 +1,6 @@
 -- What the options of puts say, both ways.
-use Rattle.std.proofs.Common.{◌≡◌, ◌⊎◌, ℕ, suc, ◌≤◌, ◌<◌, Bool, true, false, cond, List, [], ◌∷◌, refl, sym, ap, subst, ◌∙◌, arith, inl, inr}
-use Rattle.std.specs.Prelude.{ℤ, pos, negsuc, Option, Some, None, Result, Ok, Err, codes, replicate}
+use Rattle.std.proofs.Common.{◌≡◌, ◌⊎◌, ℕ, ◌<◌, Bool, true, false, cond, List, [], refl, sym, ap, subst, ◌∙◌, arith, inl, inr}
+use Rattle.std.specs.Prelude.{ℤ, pos, negsuc, Option, None, Ok, codes, replicate}
 use Rattle.mq_history.specs.declared.scripts.PutOptions.{PutOptions}
 use Rattle.mq_scn_lines.specs.declared.fault.LineFault.{LineFault}
 use Rattle.mq_scn_lines.specs.declared.fault.LineFault.TheVariants as faults
@@ -12,7 +12,7 @@ use Rattle.mq_scn_script.specs.declared.options.PutNames.{PutNames}
 use Rattle.mq_scn_script.specs.declared.options.PutNumbers.{PutNumbers}
 use Rattle.mq_scn_script.specs.declared.options.PutTexts.{PutTexts}
 use Rattle.mq_scn_script.specs.Options.{for_put, number_option, name_option, with_names, put_names, with_numbers, put_numbers, field_option, and_then, put_texts, persistence_of, field_or, put_with, put_from, put_options}
-use Rattle.mq_scn_grammar.specs.Options.{AreOptions, Says}
+use Rattle.mq_scn_grammar.specs.Options.{AreOptions}
 use Rattle.mq_scn_grammar.specs.LineOptions.{IsValueOr, HasValueFault, NameIn, NameFault, SignedIn, SignedFault, FieldIn, FieldFault, SomeOf, IsPersistence, ArePutOptions, HasPutTextFault, HasPutNameFault, HasPutNumberFault, HasPutFault}
 use Rattle.mq_scn_grammar.proofs.Told.{Reports, told_both, told_map, told_as, told_next, told_where, AreBoth, HasEither}
 use Rattle.mq_scn_grammar.proofs.Options.{are_decides, says_decides, not_said, never_said}

@@ -1,6 +1,6 @@
 -- A line of a script, whole, both ways.
-use Rattle.std.proofs.Common.{◌≡◌, ◌⊎◌, ℕ, zero, suc, ◌+◌, ◌≤◌, ◌<◌, Bool, true, false, cond, eqb, List, [], ◌∷◌, ◌++◌, length, take, drop, refl, sym, ap, subst, ◌∙◌, arith, inl, inr}
-use Rattle.std.specs.Prelude.{Option, Some, None, Result, Ok, Err, codes, find, not, ◌&&◌}
+use Rattle.std.proofs.Common.{◌≡◌, ◌⊎◌, ℕ, suc, ◌+◌, ◌≤◌, ◌<◌, Bool, true, false, cond, eqb, List, [], ◌∷◌, ◌++◌, length, take, drop, refl, sym, ap, subst, ◌∙◌, arith, inl, inr}
+use Rattle.std.specs.Prelude.{Option, Some, None, Result, Ok, Err, find, not, ◌&&◌}
 use Rattle.std.specs.List.{list_all}
 use Rattle.std.specs.Str.{bytes_eq}
 use Rattle.std.proofs.Math.Seq.{take-append_seam, drop-append_seam}
@@ -19,8 +19,8 @@ use Rattle.mq_scn_script.specs.declared.verbs.ScriptVerb.{ScriptVerb}
 use Rattle.mq_scn_script.specs.declared.verbs.ScriptVerb.TheVariants as verbs
 use Rattle.mq_scn_script.specs.Verbs.{all_verbs, verb_word, verb_of}
 use Rattle.mq_scn_script.specs.Commands.{command_in}
-use Rattle.mq_scn_script.specs.Lines.{commanded, mqsc_line, called, words_read, verb_read, line_from, script_line}
-use Rattle.mq_scn_grammar.specs.Words.{Mem, AreBlanks, BeginsBlank, IsPlain, IsInQuotes, ArePieces, IsWord, AreWords}
+use Rattle.mq_scn_script.specs.Lines.{commanded, called, verb_read, line_from, script_line}
+use Rattle.mq_scn_grammar.specs.Words.{AreBlanks, BeginsBlank, ArePieces, IsWord}
 use Rattle.mq_scn_grammar.specs.Faults.{IsTold}
 use Rattle.mq_scn_grammar.specs.ScriptLines.{verb_of_line, IsRest, HasFault, IsMqsc, AreVerbWords, IsScriptLine, HasLineFault, IsScriptFault}
 use Rattle.mq_scn_grammar.proofs.Told.{Reports, IsFirst}

@@ -1,6 +1,6 @@
 -- Lines of scripts behind their verb, both ways.
-use Rattle.std.proofs.Common.{◌≡◌, ◌⊎◌, ℕ, suc, ◌≤◌, ◌<◌, Bool, true, false, cond, List, [], ◌∷◌, refl, sym, ap, subst, ◌∙◌, arith, inl, inr}
-use Rattle.std.specs.Prelude.{Option, Some, None, Result, Ok, Err, codes}
+use Rattle.std.proofs.Common.{◌≡◌, ◌⊎◌, ℕ, ◌<◌, Bool, true, false, cond, List, [], ◌∷◌, refl, sym, ap, subst, ◌∙◌, arith, inl, inr}
+use Rattle.std.specs.Prelude.{Option, Some, None, Result, Err, codes}
 use Rattle.std.specs.Str.{bytes_eq}
 use Rattle.std.proofs.lemmas.Slice.Eq.{bytes_eq-Decides}
 use Rattle.mq_calls.specs.declared.answers.Open.{Open}
@@ -20,10 +20,10 @@ use Rattle.mq_scn_script.specs.Bodies.{body_in}
 use Rattle.mq_scn_script.specs.Options.{open_options, put_options, get_options}
 use Rattle.mq_scn_script.specs.Lines.{connected, connect_line, alone, needed_name, queue_in, name_if_any, manager_in, passed_manager, behind_manager, opened, opening, open_with, open_line, closed, close_line, put, put_line, replied, reply_line, put_once, put_to, target_line, put1_line, got, get_line, cut_at, cut_line, called}
 use Rattle.mq_scn_grammar.specs.Operands.{IsBracketed}
-use Rattle.mq_scn_grammar.specs.Bodies.{IsBodyWord, HasBodyFault}
+use Rattle.mq_scn_grammar.specs.Bodies.{HasBodyFault}
 use Rattle.mq_scn_grammar.specs.LineOptions.{NameIn, NameFault, NumberIn, NumberFault, AreOpenOptions, HasOpenFault, ArePutOptions, HasPutFault, AreGetOptions, HasGetFault}
-use Rattle.mq_scn_grammar.specs.ScriptLines.{LabelIn, HasLabelFault, IsQueueWord, HasQueueFault, IsManagerWord, IsManagerName, HasManagerFault, IsBehind, verb_of_line, IsConnect, IsOpening, IsClosing, IsSent, IsPut, IsReply, IsPutOnce, IsGet, IsCut, IsRest, HasWordFault, HasConnectFault, HasOpeningFault, HasCloseFault, HasSentFault, HasPutLineFault, HasTargetFault, HasPut1Fault, HasGetLineFault, HasCutFault, HasFault}
-use Rattle.mq_scn_grammar.proofs.Told.{Reports, told_one, told_both, told_map, told_as, told_via, told_or}
+use Rattle.mq_scn_grammar.specs.ScriptLines.{LabelIn, HasLabelFault, IsQueueWord, HasQueueFault, IsManagerWord, IsManagerName, HasManagerFault, IsBehind, verb_of_line, IsConnect, IsOpening, IsClosing, IsSent, IsPut, IsPutOnce, IsGet, IsCut, IsRest, HasWordFault, HasConnectFault, HasOpeningFault, HasCloseFault, HasSentFault, HasPutLineFault, HasTargetFault, HasPut1Fault, HasGetLineFault, HasCutFault, HasFault}
+use Rattle.mq_scn_grammar.proofs.Told.{Reports, told_both, told_map, told_as, told_via, told_or}
 use Rattle.mq_scn_grammar.proofs.Operands.{bracketed_read, bracketed_found, label_tells, name_or_blank_tells}
 use Rattle.mq_scn_grammar.proofs.Numbers.{ranged_tells}
 use Rattle.mq_scn_grammar.proofs.Bodies.{BodiesOf, body_tells}

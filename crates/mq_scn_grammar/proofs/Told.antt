@@ -1,5 +1,5 @@
 -- What a reader tells where what holds is known: one value and no fault, or no value and the first of the faults.
-use Rattle.std.proofs.Common.{◌≡◌, ◌⊎◌, ℕ, suc, ◌≤◌, ◌<◌, Bool, true, false, cond, eqb, refl, sym, ap, subst, ◌∙◌, arith, inl, inr}
+use Rattle.std.proofs.Common.{◌≡◌, ◌⊎◌, ℕ, ◌≤◌, ◌<◌, Bool, true, false, cond, eqb, refl, sym, ap, subst, ◌∙◌, arith, inl, inr}
 use Rattle.std.specs.Prelude.{Option, Some, None, Result, Ok, Err, nat_le}
 use Rattle.std.specs.Bool.{Decides}
 use Rattle.std.proofs.lemmas.Bool.Decides.{leb_tells}
@@ -7,7 +7,7 @@ use Rattle.mq_scn_lines.specs.declared.fault.Limit.{Limit}
 use Rattle.mq_scn_lines.specs.declared.fault.Limit.TheVariants as limits
 use Rattle.mq_scn_lines.specs.declared.fault.LineFault.{LineFault}
 use Rattle.mq_scn_lines.specs.declared.fault.LineFault.TheVariants as faults
-use Rattle.mq_scn_lines.specs.Faults.{limit_rank, rank, earlier, both}
+use Rattle.mq_scn_lines.specs.Faults.{limit_rank, rank, both}
 use Rattle.mq_scn_script.specs.Options.{and_then}
 use Rattle.mq_scn_grammar.specs.Faults.{IsMissed, IsTold}
 

@@ -1,10 +1,10 @@
 -- The words of a line, both ways.
-use Rattle.std.proofs.Common.{◌≡◌, ◌⊎◌, ℕ, zero, suc, ◌+◌, ◌≤◌, Bool, true, false, cond, eqb, List, [], ◌∷◌, ◌++◌, length, take, drop, refl, sym, ap, subst, ◌∙◌, append_assoc, arith, inl, inr}
+use Rattle.std.proofs.Common.{◌≡◌, ◌⊎◌, ℕ, ◌+◌, ◌≤◌, Bool, true, false, cond, eqb, List, [], ◌∷◌, ◌++◌, length, drop, refl, sym, ap, subst, ◌∙◌, append_assoc, arith, inl, inr}
 use Rattle.std.specs.Prelude.{not, ◌&&◌}
 use Rattle.std.proofs.Math.Seq.{take-append_seam, drop-append_seam}
-use Rattle.std.proofs.lemmas.Bool.Decides.{nat_tests, eqb_tells}
+use Rattle.std.proofs.lemmas.Bool.Decides.{eqb_tells}
 use Rattle.std.proofs.lemmas.List.{length-append, append-nil}
-use Rattle.mq_scn_lines.specs.Words.{word_len, toggled, is_open, words_from, words_of}
+use Rattle.mq_scn_lines.specs.Words.{word_len, is_open, words_from, words_of}
 use Rattle.mq_scn_lines.proofs.WordLaws.{word_passed}
 use Rattle.mq_scn_grammar.specs.Words.{Mem, AreBlanks, BeginsBlank, IsPlain, IsInQuotes, ArePieces, IsWord, AreWords}
 

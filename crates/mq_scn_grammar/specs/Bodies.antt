@@ -15,6 +15,7 @@ pub data BodyShape : Type 0 where
   written : (text : List ℕ) → BodyShape
   repeated : (count : List ℕ) (byte : ℕ) → BodyShape
 
+-- a word of that shape
 abbrev pub IsShape : BodyShape → List ℕ → Type 0
 IsShape (written text) word = IsBracketed (codes "TEXT(") (quoted text) word
 IsShape (repeated count byte) word = IsBracketed (codes "FILL(") (count ++ 44 ∷ quoted (byte ∷ [])) word × (Mem 44 count → ⊥)

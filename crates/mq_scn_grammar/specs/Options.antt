@@ -5,6 +5,7 @@ use Rattle.mq_scn_lines.specs.Options.{option_word, has_value, group_of}
 use Rattle.mq_scn_grammar.specs.Operands.{IsBracketed}
 pub use Rattle.mq_base.specs.Members.{Mem, AreDistinct}
 
+-- a word with a value in brackets, or alone
 abbrev pub IsWordOf : (valued : Bool) → LineOption → List ℕ → Type 0
 IsWordOf true option word = (value : List ℕ) × IsBracketed (option_word option) value word
 IsWordOf false option word = word ≡ option_word option

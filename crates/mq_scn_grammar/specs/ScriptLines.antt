@@ -1,7 +1,6 @@
 -- Lines of scripts: what the words of each line are, and why words are no line.
-use Rattle.std.specs.Prelude.{◌≡◌, ◌⊎◌, ℕ, ◌≤◌, false, List, [], ◌∷◌, ◌++◌, codes, Ok, Err}
+use Rattle.std.specs.Prelude.{◌≡◌, ◌⊎◌, ℕ, List, [], ◌∷◌, ◌++◌, codes, Ok, Err}
 use Rattle.mq_calls.specs.declared.answers.Open.{Open}
-use Rattle.mq_sc_parse.specs.declared.command.Command.{Command}
 use Rattle.mq_history.specs.declared.scripts.Body.{Body}
 use Rattle.mq_history.specs.declared.scripts.PutOptions.{PutOptions}
 use Rattle.mq_history.specs.declared.scripts.GetOptions.{GetOptions}
@@ -15,15 +14,17 @@ use Rattle.mq_scn_script.specs.Verbs.{verb_word}
 use Rattle.mq_scn_script.specs.Commands.{command_in}
 use Rattle.mq_scn_grammar.specs.Words.{AreBlanks, BeginsBlank, AreWords}
 use Rattle.mq_scn_grammar.specs.Faults.{IsMissed, IsTold}
-use Rattle.mq_scn_grammar.specs.Operands.{IsBracketed, IsLabelWord, IsNameOrBlank, IsNumber, HasNumberFault}
+use Rattle.mq_scn_grammar.specs.Operands.{IsBracketed, IsLabelWord, IsNameOrBlank, IsNumber}
 use Rattle.mq_scn_grammar.specs.Bodies.{IsBodyWord, HasBodyFault}
-use Rattle.mq_scn_grammar.specs.LineOptions.{NameIn, NameFault, NumberIn, NumberFault, AreOpenOptions, HasOpenFault, ArePutOptions, HasPutFault, AreGetOptions, HasGetFault}
+use Rattle.mq_scn_grammar.specs.LineOptions.{NameFault, NumberFault, AreOpenOptions, HasOpenFault, ArePutOptions, HasPutFault, AreGetOptions, HasGetFault}
 
 -- ---- parts of lines
 
+-- a label
 abbrev pub LabelIn : List ℕ → List ℕ → Type 0
 LabelIn word label = IsLabelWord label word
 
+-- a word that is no label
 abbrev pub HasLabelFault : List ℕ → LineFault → Type 0
 HasLabelFault word f = IsMissed faults.Name (LabelIn word) f
 
@@ -31,9 +32,11 @@ HasLabelFault word f = IsMissed faults.Name (LabelIn word) f
 abbrev pub IsQueueWord : (name word : List ℕ) → Type 0
 IsQueueWord name word = (value : List ℕ) × IsBracketed (codes "QUEUE(") value word × IsNameOrBlank name value
 
+-- a word that isn't QUEUE with a value, or whose value is no name
 abbrev pub HasQueueFault : List ℕ → LineFault → Type 0
 HasQueueFault word f = ((f ≡ faults.Form) × ((value : List ℕ) → IsBracketed (codes "QUEUE(") value word → ⊥)) ⊎ ((value : List ℕ) × IsBracketed (codes "QUEUE(") value word × NameFault value f)
 
+-- QMGR with a value
 abbrev pub IsManagerWord : (value word : List ℕ) → Type 0
 IsManagerWord value word = IsBracketed (codes "QMGR(") value word
 
@@ -42,6 +45,7 @@ abbrev pub IsManagerName : List ℕ → List (List ℕ) → Type 0
 IsManagerName name [] = name ≡ []
 IsManagerName name (w ∷ ws) = (((value : List ℕ) → IsManagerWord value w → ⊥) × (name ≡ [])) ⊎ ((value : List ℕ) × IsManagerWord value w × IsNameOrBlank name value)
 
+-- QMGR with a value that is no name
 abbrev pub HasManagerFault : List (List ℕ) → LineFault → Type 0
 HasManagerFault [] f = ⊥
 HasManagerFault (w ∷ ws) f = (value : List ℕ) × IsManagerWord value w × NameFault value f
@@ -53,6 +57,7 @@ IsBehind behind (w ∷ ws) = (((value : List ℕ) → IsManagerWord value w → 
 
 -- ---- what the words behind the verb are
 
+-- the verb of a line
 abbrev pub verb_of_line : ScriptLine → ScriptVerb
 verb_of_line (lines.Mqconn name) = verbs.Mqconn
 verb_of_line lines.Mqdisc = verbs.Mqdisc

@@ -25,7 +25,7 @@ ghost use Rattle.mq_scn_grammar.specs.Operands.{IsBracketed, IsLabelWord, IsName
 ghost use Rattle.mq_scn_grammar.specs.Bodies.{IsBodyWord, HasBodyFault};
 ghost use Rattle.mq_scn_grammar.specs.ScriptLines.{IsScriptLine, IsScriptFault};
 ghost use Rattle.mq_scn_grammar.specs.LineOptions.{AreOpenOptions, HasOpenFault, ArePutOptions, HasPutFault, AreGetOptions, HasGetFault};
-ghost use Rattle.mq_scn_grammar.specs.Options.{Mem, AreOptions, Says, HasValue};
+ghost use Rattle.mq_scn_grammar.specs.Options.{AreOptions, Says, HasValue};
 
 /// A text whose quotes are closed is the words that its reader answers, and no others.
 pub fn words_are_those_of_the_text()
