@@ -16,6 +16,7 @@ ghost use Rattle.mq_sc_apply.specs.declared.answers.Planned.{Planned};
 ghost use Rattle.mq_calls.specs.declared.answers.Hconn.{Hconn};
 ghost use Rattle.mq_calls.specs.declared.answers.Hobj.{Hobj};
 ghost use Rattle.mq_calls.specs.declared.agents.Note.TheVariants as notes;
+ghost use Rattle.mq_calls.specs.declared.agents.Note.{Note};
 ghost use Rattle.mq_calls.specs.declared.deltas.Why.{Why};
 ghost use Rattle.mq_calls.specs.declared.records.LogRecord.{LogRecord};
 ghost use Rattle.mq_spec_state.specs.State.{Batch, Change, Connection, Given, LogState, Noted, Plain, Which};
@@ -29,7 +30,7 @@ ghost use Rattle.mq_spec_manager.specs.Get.{removal_part, taking_part};
 ghost use Rattle.mq_spec_manager.specs.Units.{commit_part, mqcmit, mqdisc};
 ghost use Rattle.mq_spec_manager.specs.Commands.{object_part};
 ghost use Rattle.mq_spec_manager.specs.Stops.{at_rest, redone_if};
-ghost use Rattle.mq_spec_agents.specs.Words.{Absent, InDoubtAt, Landed, Landing, harden_part, landed, move_part};
+ghost use Rattle.mq_spec_agents.specs.Words.{CanHarden, Absent, InDoubtAt, Landed, Landing, harden_part, landed, move_part};
 ghost use Rattle.mq_sync.specs.Settlement.{receiver_or, sender_or};
 ghost use Rattle.mq_spec_state.specs.Images.{has_batch, lasting};
 ghost use Rattle.mq_spec_log.specs.Applies.{Start, applies, can_change, can_prepare, can_receive, fits, is_unit_in_doubt};
@@ -46,13 +47,9 @@ pub fn forced_writes_make_crashes_harmless()
     ensures commits { (more : List Change) (c : Connection) (p : Plain) → ((q : Plain) → lasting (apply_all more q) ≡ lasting q) → IsLogSound p → IsUnit c.unit p → IsHarmless (commit_part more c) p }
 {}
 
-/// What the ends of channels harden.
+/// What the ends of channels harden, where the call's condition holds.
 pub fn hardened_writes_make_crashes_harmless()
-    ensures sessions { (channel partner : List ℕ) (session : ℕ) (p : Plain) → nat_lt (sender_or (sender_data channel p)).session session ≡ true → IsHarmless (harden_part channel (notes.Session partner session) p) p }
-    ensures resolved { (channel : List ℕ) (unit : Luw) (commit operator : Bool) (p : Plain) → has_batch channel p.channels.batches ≡ false → is_unit_in_doubt unit (sender_or (sender_data channel p)).in_doubt ≡ true
-        → IsHarmless (harden_part channel (notes.Resolved unit commit operator) p) p }
-    ensures bound { (channel partner : List ℕ) (session last : ℕ) (p : Plain) → nat_lt (receiver_or (receiver_data channel p)).session session ≡ true → IsHarmless (harden_part channel (notes.Bound partner session last) p) p }
-    ensures closed { (channel : List ℕ) (session : ℕ) (p : Plain) → nat_lt 0 session ≡ true → (session == (receiver_or (receiver_data channel p)).session) ≡ true → IsHarmless (harden_part channel (notes.Closed session) p) p }
+    ensures { (channel : List ℕ) (note : Note) (p : Plain) → CanHarden channel note p → IsHarmless (harden_part channel note p) p }
 {}
 
 /// A stop changes nothing that lasts, and a restart has what lasts, of the next incarnation.
