@@ -3,7 +3,7 @@
 //! image before the part or the one behind it, and a restart has just this image.
 #![tactic(auto)]
 
-ghost use Rattle.std.specs.Prelude.{◌≡◌, ℕ, ◌==◌, nat_lt, Bool, true, false, List, [], ◌∷◌, ◌++◌, Option, None, Ok, length};
+ghost use Rattle.std.specs.Prelude.{◌≡◌, ℕ, Bool, true, false, List, [], ◌∷◌, ◌++◌, Option, None, Ok};
 ghost use Rattle.std.specs.List.{AllByRecursion};
 ghost use Rattle.mq_message.specs.declared.message.Dest.{Dest};
 ghost use Rattle.mq_message.specs.declared.message.Md.{Md};
@@ -33,7 +33,7 @@ ghost use Rattle.mq_spec_manager.specs.Stops.{at_rest, redone_if};
 ghost use Rattle.mq_spec_agents.specs.Words.{CanHarden, Absent, InDoubtAt, Landed, Landing, harden_part, landed, move_part};
 ghost use Rattle.mq_sync.specs.Settlement.{receiver_or, sender_or};
 ghost use Rattle.mq_spec_state.specs.Images.{has_batch, lasting};
-ghost use Rattle.mq_spec_log.specs.Applies.{Start, applies, can_change, can_prepare, can_receive, fits, is_unit_in_doubt};
+ghost use Rattle.mq_spec_log.specs.Applies.{Start, applies, can_change, can_prepare, can_receive, fits};
 ghost use Rattle.mq_spec_log.specs.Bodies.{empty_image, image, record_of};
 ghost use Rattle.mq_law_log.specs.Keeps.{AllLand, CameBack, Does, HoldsJust, HoldsNone, IsLandable, IsNew, IsPlaceable, IsTakeable, Keeps, LandTold, StepKeeps, SwitchesAt, is_aside, received_part};
 ghost use Rattle.mq_law_log.specs.Sound.{AreFree, IsLogSound, IsRouted, IsUnit};
