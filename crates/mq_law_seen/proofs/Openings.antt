@@ -262,7 +262,7 @@ openings_open s ps o together =
             here,
             (λ z. some_none f.0.unit (sym (ap (holds_of c) a.1 ∙ ap (λ x. held_unit x (batch_of c a.0.channels.batches)) f.1) ∙ z)),
             (λ u z. mem_map (λ (row : Row). tag_of row.message) h (keep (λ (row : Row). held_by (holders.Batch c) row.by) (w.rows m (source_at ps m c)))
-            (mem_kept (λ (row : Row). held_by (holders.Batch c) row.by) h (w.rows m (source_at ps m c)) (subst (λ z. Mem h (w.rows m z)) here n) (ap (held_by (holders.Batch c)) e ∙ name_self c))),
+                (mem_kept (λ (row : Row). held_by (holders.Batch c) row.by) h (w.rows m (source_at ps m c)) (subst (λ z. Mem h (w.rows m z)) here n) (ap (held_by (holders.Batch c)) e ∙ name_self c))),
           );
       doubted = λ m c u t z n.
           let i = map_mem (λ (row : Row). tag_of row.message) t (keep (λ (row : Row). held_by (holders.Batch c) row.by) (w.rows m (source_at ps m c))) n in
