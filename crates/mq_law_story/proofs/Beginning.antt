@@ -1,38 +1,20 @@
 -- With what a network begins, whose histories begin with images of logs.
-use Rattle.std.proofs.Common.{ℕ, zero, suc, ◌≡◌, ◌+◌, ◌<◌, ◌≤◌, ◌⊎◌, Bool, true, false, List, [], ◌∷◌, refl, ap, sym, subst, ◌∙◌, inl, inr, arith, map}
-use Rattle.std.specs.Prelude.{Option, Some, None, if◌then◌else◌, slice_get, length, All, AllPairs}
-use Rattle.std.specs.Str.{bytes_eq}
-use Rattle.std.specs.List.{list_any}
+use Rattle.std.proofs.Common.{ℕ, ◌≡◌, ◌+◌, false, List, [], refl, ap, sym, subst, ◌∙◌}
+use Rattle.std.specs.Prelude.{Option, Some, None, slice_get}
 use Rattle.std.specs.Option.{option_map}
-use Rattle.std.proofs.lemmas.List.Elements.{All-head, All-tail}
-use Rattle.mq_message.specs.declared.message.Ident.{Ident}
-use Rattle.mq_message.specs.declared.message.Message.{Message}
-use Rattle.mq_message.specs.declared.place.Holder.{Holder}
-use Rattle.mq_message.specs.declared.place.Holder.TheVariants as holders
-use Rattle.mq_queue.specs.declared.row.Row.{Row}
-use Rattle.mq_queue.specs.Rows.{same_ident}
-use Rattle.mq_objects.specs.declared.object.LocalQueue.{LocalQueue}
-use Rattle.mq_objects.specs.Names.{locals_of}
-use Rattle.mq_sync.specs.declared.data.InDoubt.{InDoubt}
 use Rattle.mq_history.specs.declared.history.History.{History}
 use Rattle.mq_history.specs.declared.scenario.Scenario.{Scenario}
-use Rattle.mq_spec_state.specs.State.{Plain, Given, Queue, LogState}
-use Rattle.mq_spec_state.specs.Reads.{queue_in, sender_in, in_doubt_of, is_persistent}
-use Rattle.mq_spec_state.specs.Images.{Image, Shelf, numbered, queue_on, begun, raised}
-use Rattle.mq_spec_state.specs.Recovery.{IsListed, IsHeldWell, IsLasting, IsShelf, AreApart, IsImage}
-use Rattle.mq_spec_network.specs.Story.{Mem, Chain}
-use Rattle.mq_spec_network.specs.Promised.{AreDistinct, AreImages}
+use Rattle.mq_spec_state.specs.State.{Plain}
+use Rattle.mq_spec_network.specs.Promised.{AreImages}
 use Rattle.mq_spec_manager.specs.Stops.{started_need}
 use Rattle.mq_spec_network.specs.Given.{surroundings}
 use Rattle.mq_spec_network.specs.Apart.{apart_of}
 use Rattle.mq_spec_network.specs.Standing.{node_after, opening_managers, opening_ledger}
-use Rattle.mq_law_rows.specs.World.{ident_of, idents_in, LanesRise, Inv}
-use Rattle.mq_law_seen.specs.Opening.{AreNamed}
+use Rattle.mq_law_rows.specs.World.{Inv}
 use Rattle.mq_law_seen.specs.Seen.{world_of, book_of}
 use Rattle.mq_law_seen.specs.Opening.{IsOpening}
 use Rattle.mq_law_rows.specs.Beginning.{first_owner}
 use Rattle.mq_law_seen.specs.Given.{AreOpenings, is_given, sent_at, source_at, spots_of}
-use Rattle.mq_law_rows.proofs.Lists.{bool_case, true_false, ident_self, name_yes, mem_map, map_mem}
 use Rattle.mq_law_story.proofs.Weaving.{manager_at}
 use Rattle.mq_law_seen.proofs.Openings.{openings_have_the_facts}
 use Rattle.mq_law_seen.proofs.Images.{image_opens}

@@ -22,7 +22,7 @@ use Rattle.mq_spec_network.specs.Ledger.{Ledger, ledger, posted}
 use Rattle.mq_spec_network.specs.Standing.{node_after, managers_from, managers_at}
 use Rattle.mq_spec_network.specs.Cables.{Lying, whole, spoiled, offered_if, offered_by, pops_item, Takes, Carries}
 use Rattle.mq_spec_node.specs.Doers.{by}
-use Rattle.mq_law_rows.proofs.Lists.{true_false, bool_case, eqb_yes, eqb_self, mem_append, mem_map, map_mem}
+use Rattle.mq_law_rows.proofs.Lists.{true_false, bool_case, eqb_yes, eqb_self, mem_append, map_mem}
 
 -- One entry more
 

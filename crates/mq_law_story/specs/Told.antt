@@ -1,13 +1,11 @@
 -- What a prefix tells of the settlements of operators.
 use Rattle.std.specs.Prelude.{ℕ, ◌≡◌, true, false, List}
-use Rattle.std.specs.Str.{bytes_eq}
 use Rattle.mq_sync.specs.declared.unit.Unit.{Unit as Luw}
 use Rattle.mq_calls.specs.declared.agents.Note.TheVariants as notes
 use Rattle.mq_calls.specs.declared.deltas.Did.TheVariants as did
 use Rattle.mq_history.specs.declared.history.History.{History}
 use Rattle.mq_history.specs.declared.scenario.Scenario.{Scenario}
-use Rattle.mq_spec_state.specs.State.{Queue}
-use Rattle.mq_spec_network.specs.Story.{Line, Mem, Chain}
+use Rattle.mq_spec_network.specs.Story.{Line, Mem}
 use Rattle.mq_spec_network.specs.Standing.{opening_managers}
 use Rattle.mq_spec_network.specs.Conflict.{deeds, is_committed}
 use Rattle.mq_law_rows.specs.World.{Ghost}
