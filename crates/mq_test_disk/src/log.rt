@@ -3,7 +3,7 @@
 ghost use Rattle.std.specs.Prelude.{◌≡◌, true, IfOk};
 
 use mq_disk::{Cutter, FileShelf, Image, MemDisk, Shelf, Side, Stop};
-use mq_log::{Bodies, Found, Log, LogFull, StartFault, next_body};
+use mq_log::{Bodies, Log, LogFull, StartFault, next_body};
 use mq_name::QName;
 use std::alloc::Global;
 use std::test::*;
@@ -75,11 +75,8 @@ fn a_cut_body_stands_only_where_its_gate_was_opened(rt: HostRuntime) -> Result<(
             let answer = log.append_parts(b"the", b" second", b"");
             assert_eq!(rt; answer, if k < 5 { Err(Stop::Cut) } else { Ok(()) });
             log.arm(0);
-            let found = log.restart(rt.alloc())?;
-            let after = k == 4 && image == Image::Kept;
-            let wanted = if after { Found::After } else { Found::Before };
-            assert_eq!(rt; found, wanted, "{image:?} {k}");
-            let kept = k == 5 || after;
+            log.restart(rt.alloc())?;
+            let kept = k == 5 || k == 4 && image == Image::Kept;
             let wanted: &[&[u8]] = if kept {
                 &[b"first", b"the second"]
             } else {

@@ -2,9 +2,7 @@
 
 use crate::fixture::name_of;
 use mq_base::Items;
-use mq_objects::{
-    Defs, ManagerAttributes, NameSpace, Object, Setting, Subject, define_text, manager_text,
-};
+use mq_objects::{Defs, ManagerAttributes, Object, Setting, Subject, define_text, manager_text};
 use std::alloc::{AllocError, Global};
 use std::test::*;
 
@@ -70,29 +68,5 @@ fn objects_stand_in_order_of_definition(rt: HostRuntime) -> Result<(), Fail> {
     assert_eq!(rt; kinds.as_str(), "QREMOTE QALIAS ");
     assert!(rt; defs.local(&name_of("B")).is_none());
     assert!(rt; defs.queue(&name_of("A")).is_some());
-    Ok(())
-}
-
-#[test]
-fn what_is_left_of_many_objects_is_found_in_its_order(rt: HostRuntime) -> Result<(), Fail> {
-    let mut defs = Defs::new(rt.alloc());
-    add(rt.alloc(), &mut defs, Subject::Local(name_of("A")))?;
-    add(rt.alloc(), &mut defs, Subject::Alias(name_of("B")))?;
-    add(rt.alloc(), &mut defs, Subject::Remote(name_of("C")))?;
-    add(rt.alloc(), &mut defs, Subject::Process(name_of("D")))?;
-    add(rt.alloc(), &mut defs, Subject::Local(name_of("E")))?;
-    add(rt.alloc(), &mut defs, Subject::Alias(name_of("F")))?;
-    defs.delete(&Subject::Local(name_of("A")));
-    defs.delete(&Subject::Alias(name_of("B")));
-    defs.delete(&Subject::Local(name_of("E")));
-    defs.delete(&Subject::Alias(name_of("F")));
-    add(rt.alloc(), &mut defs, Subject::Local(name_of("A")))?;
-    let kinds = kinds(rt.alloc(), &defs)?;
-    assert_eq!(rt; kinds.as_str(), "QREMOTE PROCESS QLOCAL ");
-    assert_eq!(rt; defs.slots().len(), 3);
-    assert!(rt; defs.by_name(NameSpace::Queues, b"C").is_some());
-    assert!(rt; defs.by_name(NameSpace::Queues, b"D").is_none());
-    assert!(rt; defs.by_name(NameSpace::Processes, b"D").is_some());
-    assert!(rt; defs.by_name(NameSpace::Queues, b"B").is_none());
     Ok(())
 }
