@@ -1,0 +1,13 @@
+//! What a manager makes of a put: the descriptor that it fills in, the deadline, the refusals that its definitions give.
+#![tactic(auto)]
+
+mod defaults;
+mod descriptor;
+mod refusals;
+mod replies;
+mod text;
+
+pub use defaults::{default_persistent, default_priority, first_on};
+pub use descriptor::{Draft, deadline_of, make_draft};
+pub use refusals::{is_inhibited, max_depth, max_length};
+pub use replies::{Replies, is_blank, replies_to};
