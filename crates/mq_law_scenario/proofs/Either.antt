@@ -1,5 +1,5 @@
 -- Each text is that of a scenario or has a fault: its lines are followed one by one.
-use Rattle.std.proofs.Common.{◌≡◌, ℕ, suc, ◌+◌, ◌-◌, ◌<◌, ◌≤◌, Bool, true, false, List, [], ◌∷◌, ◌++◌, length, Result, Ok, Err, refl, sym, ap, subst, ◌∙◌, append_assoc, append-nil, arith, inl, inr}
+use Rattle.std.proofs.Common.{◌≡◌, ℕ, ◌+◌, ◌-◌, ◌<◌, ◌≤◌, Bool, true, false, List, [], ◌∷◌, ◌++◌, length, Result, Ok, Err, refl, sym, ap, subst, ◌∙◌, append_assoc, append-nil, arith, inl, inr}
 use Rattle.std.specs.Prelude.{◌⊎◌, codes, Option, Some, None, nat_lt}
 use Rattle.std.proofs.lemmas.List.{length-append}
 use Rattle.std.proofs.lemmas.Bool.Decides.{nat_tests}
@@ -31,8 +31,8 @@ use Rattle.mq_scn_text.specs.Heading.{part_read}
 use Rattle.mq_scn_text.specs.Sections.{text_added, line_in, mqsc_ended, rules_ended}
 use Rattle.mq_scn_text.specs.Scripts.{new_script, put_len, script_read, script_added}
 use Rattle.mq_scn_text.specs.Reading.{is_only, is_skipped, opened, step_read, section_cut, scenario_of}
-use Rattle.mq_law_scenario.specs.Texts.{Said, nothing_said, Begins, Adds, IsPart, NoneIs, text_of, IsOpenSection, IsOpenTable, IsScriptLine, AreSpoken, IsOpenScript, IsStepLine, AreStepped, AreOpenSteps, IsOpen, Ends, IsEnded, SaysNothing, IsBlock, AreBlocks, all_lines, IsText}
-use Rattle.mq_law_scenario.specs.Faults.{Stand, IsNoPart, IsBadPart, IsBadLine, IsCut, HasBadLine, HasManyLines, HasNoEnd, IsTextFault}
+use Rattle.mq_law_scenario.specs.Texts.{Said, nothing_said, Begins, NoneIs, text_of, IsOpenSection, IsOpenTable, IsScriptLine, AreSpoken, IsOpenScript, IsStepLine, AreStepped, AreOpenSteps, IsOpen, IsBlock, AreBlocks, all_lines, IsText}
+use Rattle.mq_law_scenario.specs.Faults.{Stand, IsNoPart, IsBadPart, IsBadLine, IsCut, IsTextFault}
 use Rattle.mq_law_scenario.proofs.ReadBack.{ok_scenario, err_scenario, text_read, fault_read}
 
 -- ---- what one more line makes of what is open
@@ -80,17 +80,29 @@ part_grown n before line stage (parts.Monitor monitor) b =
     let t : Scenario = record before.scenario { monitors = before.scenario.monitors ++ monitor ∷ [] } in
     inr (inl (record { after = record { stage = stage; left = before.left; scenario = t }; block = inr (inl (record { line = line; stage = stage; part = parts.Monitor monitor; scenario = t; whole = refl; begins = b; adds = refl; is = refl })) }))
 part_grown n before line stage (parts.Mqsc label manager) b =
-    inl (record { inside = insides.Mqsc (opened label manager (n + 1)); now = record { stage = stage; left = before.left; scenario = before.scenario };
-      opens = record { head = line; inner = []; stage = stage; label = label; manager = manager; whole = refl; begins = b; within = tt; opens = refl; is = refl } })
+    inl (record {
+      inside = insides.Mqsc (opened label manager (n + 1));
+      now = record { stage = stage; left = before.left; scenario = before.scenario };
+      opens = record { head = line; inner = []; stage = stage; label = label; manager = manager; whole = refl; begins = b; within = tt; opens = refl; is = refl };
+    })
 part_grown n before line stage (parts.Rules label manager) b =
-    inl (record { inside = insides.Rules (opened label manager (n + 1)); now = record { stage = stage; left = before.left; scenario = before.scenario };
-      opens = record { head = line; inner = []; stage = stage; label = label; manager = manager; whole = refl; begins = b; within = tt; opens = refl; is = refl } })
+    inl (record {
+      inside = insides.Rules (opened label manager (n + 1));
+      now = record { stage = stage; left = before.left; scenario = before.scenario };
+      opens = record { head = line; inner = []; stage = stage; label = label; manager = manager; whole = refl; begins = b; within = tt; opens = refl; is = refl };
+    })
 part_grown n before line stage (parts.Script label manager) b =
-    inl (record { inside = insides.Script (new_script label manager); now = record { stage = stage; left = before.left; scenario = before.scenario };
-      opens = record { head = line; inner = []; stage = stage; label = label; manager = manager; left = before.left; whole = refl; begins = b; says = (refl, refl); is = refl } })
+    inl (record {
+      inside = insides.Script (new_script label manager);
+      now = record { stage = stage; left = before.left; scenario = before.scenario };
+      opens = record { head = line; inner = []; stage = stage; label = label; manager = manager; left = before.left; whole = refl; begins = b; says = (refl, refl); is = refl };
+    })
 part_grown n before line stage parts.Steps b =
-    inl (record { inside = insides.Steps; now = record { stage = stage; left = before.left; scenario = before.scenario };
-      opens = record { head = line; inner = []; stage = stage; scenario = before.scenario; whole = refl; begins = b; says = refl; is = refl } })
+    inl (record {
+      inside = insides.Steps;
+      now = record { stage = stage; left = before.left; scenario = before.scenario };
+      opens = record { head = line; inner = []; stage = stage; scenario = before.scenario; whole = refl; begins = b; says = refl; is = refl };
+    })
 
 bad_outside : (n : ℕ) (before : Said) (line : List ℕ) (fault : ScenarioFault) → is_skipped line ≡ false → IsNoPart (n + length no_lines + 1) line fault ⊎ IsBadPart (n + length no_lines + 1) before line fault → Grown n before [] insides.Nothing before line
 bad_outside n before line fault e h = inr (inr (record { fault = fault; bad = (e, h) }))
@@ -164,7 +176,11 @@ section_grown n before now lines o line h false e =
       inside = insides.Mqsc (text_added line o);
       now = now;
       opens = record {
-        head = h.head; inner = h.inner ++ line ∷ []; stage = h.stage; label = h.label; manager = h.manager;
+        head = h.head;
+        inner = h.inner ++ line ∷ [];
+        stage = h.stage;
+        label = h.label;
+        manager = h.manager;
         whole = ap (λ (l : List (List ℕ)). l ++ line ∷ []) h.whole;
         begins = h.begins;
         within = none_more (codes "ENDMQSC") h.inner line h.within e;
@@ -187,7 +203,11 @@ table_grown n before now lines o line h false e =
       inside = insides.Rules (text_added line o);
       now = now;
       opens = record {
-        head = h.head; inner = h.inner ++ line ∷ []; stage = h.stage; label = h.label; manager = h.manager;
+        head = h.head;
+        inner = h.inner ++ line ∷ [];
+        stage = h.stage;
+        label = h.label;
+        manager = h.manager;
         whole = ap (λ (l : List (List ℕ)). l ++ line ∷ []) h.whole;
         begins = h.begins;
         within = none_more (codes "ENDRULES") h.inner line h.within e;
@@ -223,7 +243,12 @@ script_said n before now lines s line h e f (Ok said) g =
       inside = insides.Script (script_added said s);
       now = record { stage = h.stage; left = h.left - put_len said; scenario = before.scenario };
       opens = record {
-        head = h.head; inner = h.inner ++ line ∷ []; stage = h.stage; label = h.label; manager = h.manager; left = h.left - put_len said;
+        head = h.head;
+        inner = h.inner ++ line ∷ [];
+        stage = h.stage;
+        label = h.label;
+        manager = h.manager;
+        left = h.left - put_len said;
         whole = ap (λ (l : List (List ℕ)). l ++ line ∷ []) h.whole;
         begins = h.begins;
         says = spoken_more h.inner before.left (new_script h.label h.manager) h.left s line said h.says line_is;
@@ -244,7 +269,12 @@ script_grown n before now lines s line h true e =
       inside = insides.Script s;
       now = now;
       opens = record {
-        head = h.head; inner = h.inner ++ line ∷ []; stage = h.stage; label = h.label; manager = h.manager; left = h.left;
+        head = h.head;
+        inner = h.inner ++ line ∷ [];
+        stage = h.stage;
+        label = h.label;
+        manager = h.manager;
+        left = h.left;
         whole = ap (λ (l : List (List ℕ)). l ++ line ∷ []) h.whole;
         begins = h.begins;
         says = spoken_skip h.inner before.left (new_script h.label h.manager) h.left s line h.says e;
@@ -275,7 +305,10 @@ step_said n before now lines line h e f (Ok (done, step)) g =
       inside = insides.Steps;
       now = record { stage = h.stage; left = before.left; scenario = t };
       opens = record {
-        head = h.head; inner = h.inner ++ line ∷ []; stage = h.stage; scenario = t;
+        head = h.head;
+        inner = h.inner ++ line ∷ [];
+        stage = h.stage;
+        scenario = t;
         whole = ap (λ (l : List (List ℕ)). l ++ line ∷ []) h.whole;
         begins = h.begins;
         says = stepped_more h.inner before.scenario h.scenario line step h.says line_is;
@@ -294,7 +327,10 @@ steps_grown n before now lines line h true e =
       inside = insides.Steps;
       now = now;
       opens = record {
-        head = h.head; inner = h.inner ++ line ∷ []; stage = h.stage; scenario = h.scenario;
+        head = h.head;
+        inner = h.inner ++ line ∷ [];
+        stage = h.stage;
+        scenario = h.scenario;
         whole = ap (λ (l : List (List ℕ)). l ++ line ∷ []) h.whole;
         begins = h.begins;
         says = stepped_skip h.inner before.scenario h.scenario line h.says e;

@@ -1,9 +1,8 @@
 -- What a scenario that is read keeps to: block by block, names and labels differ and all that is named is there.
-use Rattle.std.proofs.Common.{◌≡◌, ◌≢◌, ℕ, suc, ◌+◌, ◌-◌, ◌<◌, ◌≤◌, Bool, true, false, cond, List, [], ◌∷◌, ◌++◌, length, map, Result, Ok, Err, refl, sym, ap, subst, ◌∙◌, append_assoc, arith, inl, inr}
-use Rattle.std.specs.Prelude.{◌⊎◌, nat_lt, IfSome, Option, Some, None}
+use Rattle.std.proofs.Common.{◌≡◌, ◌≢◌, ℕ, ◌+◌, ◌<◌, ◌≤◌, Bool, true, false, cond, List, [], ◌∷◌, ◌++◌, length, map, refl, sym, ap, subst, ◌∙◌, append_assoc, arith, inl, inr}
+use Rattle.std.specs.Prelude.{nat_lt, IfSome, Some, None}
 use Rattle.std.proofs.lemmas.List.{length-append, map-append}
 use Rattle.std.proofs.lemmas.Bool.Decides.{nat_tests}
-use Rattle.mq_text.specs.Lines.{lines_of}
 use Rattle.mq_history.specs.declared.scenario.Scenario.{Scenario}
 use Rattle.mq_history.specs.declared.scenario.ManagerLine.{ManagerLine}
 use Rattle.mq_history.specs.declared.scenario.CableLine.{CableLine}
@@ -12,13 +11,9 @@ use Rattle.mq_history.specs.declared.scenario.RulesPart.{RulesPart}
 use Rattle.mq_history.specs.declared.scenario.ScriptPart.{ScriptPart}
 use Rattle.mq_history.specs.declared.scenario.MonitorLine.{MonitorLine}
 use Rattle.mq_history.specs.declared.scenario.Step.{Step}
-use Rattle.mq_history.specs.declared.scripts.ScriptLine.{ScriptLine}
-use Rattle.mq_history.specs.Scenarios.{IsManager, IsCable, IsStep, AreFew, IsScenario, labels}
-use Rattle.mq_scn_lines.specs.declared.fault.LineFault.{LineFault}
-use Rattle.mq_scn_lines.specs.declared.fault.LineFault.TheVariants as faults
+use Rattle.mq_history.specs.Scenarios.{IsManager, IsCable, IsStep, IsScenario, labels}
 use Rattle.mq_scn_lines.specs.declared.fault.Limit.{Limit}
 use Rattle.mq_scn_lines.specs.declared.fault.Limit.TheVariants as limits
-use Rattle.mq_scn_text.specs.declared.fault.ScenarioFault.{ScenarioFault}
 use Rattle.mq_scn_text.specs.declared.parts.PartWord.{PartWord}
 use Rattle.mq_scn_text.specs.declared.parts.PartWord.TheVariants as words
 use Rattle.mq_scn_text.specs.declared.parts.Stage.{Stage}
@@ -29,11 +24,11 @@ use Rattle.mq_scn_text.specs.declared.sections.Opened.{Opened}
 use Rattle.mq_scn_text.specs.declared.scripts.Script.{Script}
 use Rattle.mq_scn_text.specs.declared.reading.Inside.{Inside}
 use Rattle.mq_scn_text.specs.declared.reading.Inside.TheVariants as insides
-use Rattle.mq_scn_text.specs.Parts.{stage_rank, from_stage, stage_behind, is_full, room_of}
+use Rattle.mq_scn_text.specs.Parts.{stage_rank, from_stage, room_of}
 use Rattle.mq_scn_text.specs.Scripts.{new_script}
-use Rattle.mq_law_scenario.specs.Texts.{Said, nothing_said, Begins, Adds, IsPart, IsOpenSection, IsOpenTable, IsOpenScript, AreOpenSteps, AreSpoken, IsScriptLine, AreStepped, IsStepLine, IsOpen, Ends, IsEnded, IsBlock, AreBlocks, IsText}
+use Rattle.mq_law_scenario.specs.Texts.{Said, nothing_said, Begins, Adds, IsOpenSection, IsOpenTable, IsOpenScript, AreOpenSteps, AreStepped, IsOpen, Ends, IsBlock, AreBlocks, IsText}
 use Rattle.mq_law_scenario.proofs.Each.{Each, each_more, each_map, each_all, Apart, apart_insert, apart_more, apart_all}
-use Rattle.mq_law_scenario.proofs.Said.{Joins, IsOwned, Good, names, channels, IsAllowed, IsSaid, part_said}
+use Rattle.mq_law_scenario.proofs.Said.{Joins, IsOwned, names, channels, IsAllowed, IsSaid, part_said}
 use Rattle.mq_law_scenario.proofs.StepKept.{StepIn, Named, step_is, IsScriptOf, spoken_kept, section_kept, table_kept, step_kept}
 
 -- what holds at each stage
@@ -62,9 +57,23 @@ start : Keeps stages.Start nothing_said.scenario
 start = record {
   some = λ le. absurd (omega arith);
   stepless = λ le. refl;
-  few_managers = omega arith; few_cables = omega arith; few_sections = omega arith; few_scripts = omega arith; few_monitors = omega arith; few_steps = omega arith;
+  few_managers = omega arith;
+  few_cables = omega arith;
+  few_sections = omega arith;
+  few_scripts = omega arith;
+  few_monitors = omega arith;
+  few_steps = omega arith;
   moment = tt;
-  managers = tt; differ = tt; cables = tt; channelled = tt; labelled = tt; sections = tt; rules = tt; scripts = tt; monitors = tt; steps = tt;
+  managers = tt;
+  differ = tt;
+  cables = tt;
+  channelled = tt;
+  labelled = tt;
+  sections = tt;
+  rules = tt;
+  scripts = tt;
+  monitors = tt;
+  steps = tt;
 }
 
 -- ---- room
@@ -98,9 +107,23 @@ moved : (stage next : Stage) (s : Scenario) → Keeps stage s → s.steps ≡ []
 moved stage next s h e f = record {
   some = f;
   stepless = λ le. e;
-  few_managers = h.few_managers; few_cables = h.few_cables; few_sections = h.few_sections; few_scripts = h.few_scripts; few_monitors = h.few_monitors; few_steps = h.few_steps;
-  moment = h.moment; managers = h.managers; differ = h.differ; cables = h.cables; channelled = h.channelled; labelled = h.labelled;
-  sections = h.sections; rules = h.rules; scripts = h.scripts; monitors = h.monitors; steps = h.steps;
+  few_managers = h.few_managers;
+  few_cables = h.few_cables;
+  few_sections = h.few_sections;
+  few_scripts = h.few_scripts;
+  few_monitors = h.few_monitors;
+  few_steps = h.few_steps;
+  moment = h.moment;
+  managers = h.managers;
+  differ = h.differ;
+  cables = h.cables;
+  channelled = h.channelled;
+  labelled = h.labelled;
+  sections = h.sections;
+  rules = h.rules;
+  scripts = h.scripts;
+  monitors = h.monitors;
+  steps = h.steps;
 }
 
 -- a part that stands behind the managers
@@ -120,9 +143,23 @@ moment_kept s stage next moment h a le =
     record {
       some = λ l. absurd (omega (arith, k, l));
       stepless = λ l. passed words.Moment s stage next h a;
-      few_managers = h.few_managers; few_cables = h.few_cables; few_sections = h.few_sections; few_scripts = h.few_scripts; few_monitors = h.few_monitors; few_steps = h.few_steps;
-      moment = le; managers = h.managers; differ = h.differ; cables = h.cables; channelled = h.channelled; labelled = h.labelled;
-      sections = h.sections; rules = h.rules; scripts = h.scripts; monitors = h.monitors; steps = h.steps;
+      few_managers = h.few_managers;
+      few_cables = h.few_cables;
+      few_sections = h.few_sections;
+      few_scripts = h.few_scripts;
+      few_monitors = h.few_monitors;
+      few_steps = h.few_steps;
+      moment = le;
+      managers = h.managers;
+      differ = h.differ;
+      cables = h.cables;
+      channelled = h.channelled;
+      labelled = h.labelled;
+      sections = h.sections;
+      rules = h.rules;
+      scripts = h.scripts;
+      monitors = h.monitors;
+      steps = h.steps;
     }
 
 wider : (n m : ℕ) (c : CableLine) → n ≤ m → Joins n c → Joins m c
@@ -138,12 +175,17 @@ manager_kept s stage next m h a is new =
       some = λ l. omega (arith, long);
       stepless = λ l. none;
       few_managers = omega (arith, long, room);
-      few_cables = h.few_cables; few_sections = h.few_sections; few_scripts = h.few_scripts; few_monitors = h.few_monitors; few_steps = h.few_steps;
+      few_cables = h.few_cables;
+      few_sections = h.few_sections;
+      few_scripts = h.few_scripts;
+      few_monitors = h.few_monitors;
+      few_steps = h.few_steps;
       moment = h.moment;
       managers = each_more IsManager s.managers m h.managers is;
       differ = subst Apart (sym (map-append (λ (l : ManagerLine). l.name) s.managers (m ∷ []))) (apart_more (names s) m.name h.differ new);
       cables = each_map (Joins (length s.managers)) (Joins (length (s.managers ++ m ∷ []))) s.cables (λ c j. wider (length s.managers) (length (s.managers ++ m ∷ [])) c less j) h.cables;
-      channelled = h.channelled; labelled = h.labelled;
+      channelled = h.channelled;
+      labelled = h.labelled;
       sections = each_map (λ (p : Section). p.manager < length s.managers) (λ (p : Section). p.manager < length (s.managers ++ m ∷ [])) s.sections (λ p l. omega (arith, less, l)) h.sections;
       rules = each_map (λ (p : RulesPart). p.manager < length s.managers) (λ (p : RulesPart). p.manager < length (s.managers ++ m ∷ [])) s.rules (λ p l. omega (arith, less, l)) h.rules;
       scripts = each_map (λ (p : ScriptPart). (p.manager < length s.managers) × (length p.lines ≤ 25000)) (λ (p : ScriptPart). (p.manager < length (s.managers ++ m ∷ [])) × (length p.lines ≤ 25000)) s.scripts (λ p l. (omega (arith, less, l.0), l.1)) h.scripts;
@@ -157,12 +199,25 @@ cable_kept s stage next c h a joins new =
     let long : length (s.cables ++ c ∷ []) ≡ length s.cables + 1 = one_longer s.cables c in
     let room : length s.cables < 32 = has_room (length s.cables) 32 limits.Cables a.room in
     record {
-      some = k.some; stepless = k.stepless;
-      few_managers = h.few_managers; few_cables = omega (arith, long, room); few_sections = h.few_sections; few_scripts = h.few_scripts; few_monitors = h.few_monitors; few_steps = h.few_steps;
-      moment = h.moment; managers = h.managers; differ = h.differ;
+      some = k.some;
+      stepless = k.stepless;
+      few_managers = h.few_managers;
+      few_cables = omega (arith, long, room);
+      few_sections = h.few_sections;
+      few_scripts = h.few_scripts;
+      few_monitors = h.few_monitors;
+      few_steps = h.few_steps;
+      moment = h.moment;
+      managers = h.managers;
+      differ = h.differ;
       cables = each_more (Joins (length s.managers)) s.cables c h.cables joins;
       channelled = subst Apart (sym (map-append (λ (l : CableLine). l.channel) s.cables (c ∷ []))) (apart_more (channels s) c.channel h.channelled new);
-      labelled = h.labelled; sections = h.sections; rules = h.rules; scripts = h.scripts; monitors = h.monitors; steps = h.steps;
+      labelled = h.labelled;
+      sections = h.sections;
+      rules = h.rules;
+      scripts = h.scripts;
+      monitors = h.monitors;
+      steps = h.steps;
     }
 
 -- ---- labels
@@ -237,11 +292,23 @@ monitor_kept s stage next m h a owned =
     let long : length (s.monitors ++ m ∷ []) ≡ length s.monitors + 1 = one_longer s.monitors m in
     let room : length s.monitors < 16 = has_room (length s.monitors) 16 limits.Monitors a.room in
     record {
-      some = k.some; stepless = k.stepless;
-      few_managers = h.few_managers; few_cables = h.few_cables; few_sections = h.few_sections; few_scripts = h.few_scripts; few_monitors = omega (arith, long, room); few_steps = h.few_steps;
-      moment = h.moment; managers = h.managers; differ = h.differ; cables = h.cables; channelled = h.channelled;
+      some = k.some;
+      stepless = k.stepless;
+      few_managers = h.few_managers;
+      few_cables = h.few_cables;
+      few_sections = h.few_sections;
+      few_scripts = h.few_scripts;
+      few_monitors = omega (arith, long, room);
+      few_steps = h.few_steps;
+      moment = h.moment;
+      managers = h.managers;
+      differ = h.differ;
+      cables = h.cables;
+      channelled = h.channelled;
       labelled = monitor_labelled s m h.labelled owned.new;
-      sections = h.sections; rules = h.rules; scripts = h.scripts;
+      sections = h.sections;
+      rules = h.rules;
+      scripts = h.scripts;
       monitors = each_more (λ (p : MonitorLine). p.manager < length s.managers) s.monitors m h.monitors owned.there;
       steps = subst (Each (StepIn (length s.managers) (length s.sections) (length s.rules) (length s.scripts) (length (s.monitors ++ m ∷ [])))) (sym (passed words.Monitor s stage next h a)) tt;
     }
@@ -266,12 +333,24 @@ section_added s stage next p label manager h a e f =
     let long : length (s.sections ++ p ∷ []) ≡ length s.sections + 1 = one_longer s.sections p in
     let room : length s.sections + length s.rules < 64 = has_room (length s.sections + length s.rules) 64 limits.Sections a.order.room in
     record {
-      some = k.some; stepless = k.stepless;
-      few_managers = h.few_managers; few_cables = h.few_cables; few_sections = omega (arith, long, room); few_scripts = h.few_scripts; few_monitors = h.few_monitors; few_steps = h.few_steps;
-      moment = h.moment; managers = h.managers; differ = h.differ; cables = h.cables; channelled = h.channelled;
+      some = k.some;
+      stepless = k.stepless;
+      few_managers = h.few_managers;
+      few_cables = h.few_cables;
+      few_sections = omega (arith, long, room);
+      few_scripts = h.few_scripts;
+      few_monitors = h.few_monitors;
+      few_steps = h.few_steps;
+      moment = h.moment;
+      managers = h.managers;
+      differ = h.differ;
+      cables = h.cables;
+      channelled = h.channelled;
       labelled = section_labelled s p h.labelled (subst (λ (l : List ℕ). Each (λ y. l ≢ y) (labels s)) (sym e) a.good.new);
       sections = each_more (λ (q : Section). q.manager < length s.managers) s.sections p h.sections (subst (λ (n : ℕ). n < length s.managers) (sym f) a.good.there);
-      rules = h.rules; scripts = h.scripts; monitors = h.monitors;
+      rules = h.rules;
+      scripts = h.scripts;
+      monitors = h.monitors;
       steps = subst (Each (StepIn (length s.managers) (length (s.sections ++ p ∷ [])) (length s.rules) (length s.scripts) (length s.monitors))) (sym (passed words.Mqsc s stage next h a.order)) tt;
     }
 
@@ -281,13 +360,24 @@ table_added s stage next p label manager h a e f =
     let long : length (s.rules ++ p ∷ []) ≡ length s.rules + 1 = one_longer s.rules p in
     let room : length s.sections + length s.rules < 64 = has_room (length s.sections + length s.rules) 64 limits.Sections a.order.room in
     record {
-      some = k.some; stepless = k.stepless;
-      few_managers = h.few_managers; few_cables = h.few_cables; few_sections = omega (arith, long, room); few_scripts = h.few_scripts; few_monitors = h.few_monitors; few_steps = h.few_steps;
-      moment = h.moment; managers = h.managers; differ = h.differ; cables = h.cables; channelled = h.channelled;
+      some = k.some;
+      stepless = k.stepless;
+      few_managers = h.few_managers;
+      few_cables = h.few_cables;
+      few_sections = omega (arith, long, room);
+      few_scripts = h.few_scripts;
+      few_monitors = h.few_monitors;
+      few_steps = h.few_steps;
+      moment = h.moment;
+      managers = h.managers;
+      differ = h.differ;
+      cables = h.cables;
+      channelled = h.channelled;
       labelled = rules_labelled s p h.labelled (subst (λ (l : List ℕ). Each (λ y. l ≢ y) (labels s)) (sym e) a.good.new);
       sections = h.sections;
       rules = each_more (λ (q : RulesPart). q.manager < length s.managers) s.rules p h.rules (subst (λ (n : ℕ). n < length s.managers) (sym f) a.good.there);
-      scripts = h.scripts; monitors = h.monitors;
+      scripts = h.scripts;
+      monitors = h.monitors;
       steps = subst (Each (StepIn (length s.managers) (length s.sections) (length (s.rules ++ p ∷ [])) (length s.scripts) (length s.monitors))) (sym (passed words.Rules s stage next h a.order)) tt;
     }
 
@@ -297,11 +387,22 @@ script_added_kept s stage next u label manager h a of =
     let long : length (s.scripts ++ u.part ∷ []) ≡ length s.scripts + 1 = one_longer s.scripts u.part in
     let room : length s.scripts < 64 = has_room (length s.scripts) 64 limits.Scripts a.order.room in
     record {
-      some = k.some; stepless = k.stepless;
-      few_managers = h.few_managers; few_cables = h.few_cables; few_sections = h.few_sections; few_scripts = omega (arith, long, room); few_monitors = h.few_monitors; few_steps = h.few_steps;
-      moment = h.moment; managers = h.managers; differ = h.differ; cables = h.cables; channelled = h.channelled;
+      some = k.some;
+      stepless = k.stepless;
+      few_managers = h.few_managers;
+      few_cables = h.few_cables;
+      few_sections = h.few_sections;
+      few_scripts = omega (arith, long, room);
+      few_monitors = h.few_monitors;
+      few_steps = h.few_steps;
+      moment = h.moment;
+      managers = h.managers;
+      differ = h.differ;
+      cables = h.cables;
+      channelled = h.channelled;
       labelled = script_labelled s u.part h.labelled (subst (λ (l : List ℕ). Each (λ y. l ≢ y) (labels s)) (sym of.labelled) a.good.new);
-      sections = h.sections; rules = h.rules;
+      sections = h.sections;
+      rules = h.rules;
       scripts = each_more (λ (q : ScriptPart). (q.manager < length s.managers) × (length q.lines ≤ 25000)) s.scripts u.part h.scripts (subst (λ (n : ℕ). n < length s.managers) (sym of.managed) a.good.there, of.few);
       monitors = h.monitors;
       steps = subst (Each (StepIn (length s.managers) (length s.sections) (length s.rules) (length (s.scripts ++ u.part ∷ [])) (length s.monitors))) (sym (passed words.Script s stage next h a.order)) tt;
@@ -313,9 +414,22 @@ step_added s step h room named =
     record {
       some = h.some;
       stepless = λ le. absurd (omega (arith, le));
-      few_managers = h.few_managers; few_cables = h.few_cables; few_sections = h.few_sections; few_scripts = h.few_scripts; few_monitors = h.few_monitors; few_steps = omega (arith, long, room);
-      moment = h.moment; managers = h.managers; differ = h.differ; cables = h.cables; channelled = h.channelled; labelled = h.labelled;
-      sections = h.sections; rules = h.rules; scripts = h.scripts; monitors = h.monitors;
+      few_managers = h.few_managers;
+      few_cables = h.few_cables;
+      few_sections = h.few_sections;
+      few_scripts = h.few_scripts;
+      few_monitors = h.few_monitors;
+      few_steps = omega (arith, long, room);
+      moment = h.moment;
+      managers = h.managers;
+      differ = h.differ;
+      cables = h.cables;
+      channelled = h.channelled;
+      labelled = h.labelled;
+      sections = h.sections;
+      rules = h.rules;
+      scripts = h.scripts;
+      monitors = h.monitors;
       steps = each_more (StepIn (length s.managers) (length s.sections) (length s.rules) (length s.scripts) (length s.monitors)) s.steps step h.steps named;
     }
 

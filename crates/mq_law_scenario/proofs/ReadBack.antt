@@ -1,6 +1,6 @@
 -- What is written is read: blocks, the part that is open behind them, whole texts, and their faults.
-use Rattle.std.proofs.Common.{◌≡◌, ℕ, suc, ◌+◌, ◌-◌, ◌<◌, ◌≤◌, Bool, true, false, List, [], ◌∷◌, ◌++◌, length, Result, Ok, Err, refl, sym, ap, subst, ◌∙◌, append_assoc, append-nil, arith, inl, inr}
-use Rattle.std.specs.Prelude.{◌⊎◌, nat_le, ◌&&◌, codes, Option, Some, None}
+use Rattle.std.proofs.Common.{◌≡◌, ℕ, ◌+◌, ◌-◌, ◌<◌, ◌≤◌, true, false, List, [], ◌∷◌, ◌++◌, length, Result, Ok, Err, refl, sym, ap, subst, ◌∙◌, append_assoc, append-nil, arith, inl, inr}
+use Rattle.std.specs.Prelude.{nat_le, ◌&&◌, codes, Option, Some, None}
 use Rattle.std.proofs.lemmas.List.{length-append}
 use Rattle.std.proofs.lemmas.Bool.Decides.{nat_tests}
 use Rattle.mq_text.specs.Lines.{lines_of}
@@ -26,8 +26,8 @@ use Rattle.mq_scn_text.specs.Faults.{and_then}
 use Rattle.mq_scn_text.specs.Parts.{part_word_of}
 use Rattle.mq_scn_text.specs.Sections.{text_added, line_in}
 use Rattle.mq_scn_text.specs.Scripts.{new_script, put_len, script_added}
-use Rattle.mq_scn_text.specs.Reading.{nothing_read, is_only, is_skipped, opened, part_added, part_of_word, part_from, part_line_read, outside_read, mqsc_line_read, rules_line_read, script_line_read, skipped_or_script, step_line_read, skipped_or_step, inside_read, section_cut, else_fault, line_read, lines_read, is_whole, is_outside, are_steps, ended, scenario_of}
-use Rattle.mq_law_scenario.specs.Texts.{Said, nothing_said, Begins, Adds, IsPart, NoneIs, text_of, IsOpenSection, IsOpenTable, IsScriptLine, AreSpoken, IsOpenScript, IsStepLine, AreStepped, AreOpenSteps, IsOpen, Ends, IsEnded, SaysNothing, IsBlock, AreBlocks, all_lines, IsText}
+use Rattle.mq_scn_text.specs.Reading.{nothing_read, is_only, is_skipped, opened, part_added, part_of_word, part_from, part_line_read, outside_read, mqsc_line_read, rules_line_read, script_line_read, skipped_or_script, step_line_read, skipped_or_step, inside_read, section_cut, else_fault, line_read, lines_read, is_outside, are_steps, ended, scenario_of}
+use Rattle.mq_law_scenario.specs.Texts.{Said, nothing_said, Begins, Adds, NoneIs, text_of, IsOpenSection, IsOpenTable, IsScriptLine, AreSpoken, IsOpenScript, IsStepLine, AreStepped, AreOpenSteps, IsOpen, Ends, IsEnded, IsBlock, AreBlocks, all_lines, IsText}
 use Rattle.mq_law_scenario.specs.Faults.{Stand, IsNoPart, IsBadPart, IsBadLine, IsCut, HasBadLine, HasManyLines, HasNoEnd, IsTextFault}
 
 abbrev pub ok_reading : Reading → Result Reading ScenarioFault

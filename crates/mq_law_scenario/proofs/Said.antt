@@ -1,10 +1,10 @@
 -- What a line with which a part begins says of the scenario: its room, its order, and that what it names is there or new.
-use Rattle.std.proofs.Common.{◌≡◌, ◌≢◌, ℕ, suc, ◌+◌, ◌<◌, ◌≤◌, Bool, true, false, cond, List, [], ◌∷◌, ◌++◌, length, map, Result, Ok, Err, refl, sym, ap, subst, ◌∙◌, arith}
-use Rattle.std.specs.Prelude.{◌⊎◌, ◌||◌, ◌&&◌, ◌==◌, nat_le, nat_lt, position, IfSome, codes, Option, Some, None}
+use Rattle.std.proofs.Common.{◌≡◌, ◌≢◌, ℕ, ◌<◌, ◌≤◌, Bool, true, false, cond, List, [], ◌∷◌, ◌++◌, length, map, Result, Ok, Err, refl, sym, ap, subst, ◌∙◌, arith}
+use Rattle.std.specs.Prelude.{◌||◌, ◌&&◌, ◌==◌, nat_le, nat_lt, codes, Option, Some, None}
 use Rattle.std.specs.Str.{bytes_eq, str_to_ascii_uppercase}
 use Rattle.std.proofs.lemmas.Bool.Decides.{nat_tests}
 use Rattle.mq_name.specs.declared.fault.NameFault.{NameFault}
-use Rattle.mq_name.specs.Name.{name_of, name_or_bad, is_name_byte}
+use Rattle.mq_name.specs.Name.{name_of, name_or_bad}
 use Rattle.mq_text.specs.declared.numbers.NumberFault.{NumberFault}
 use Rattle.mq_text.specs.declared.numbers.NumberFault.TheVariants.{NoNumber, OutOfRange}
 use Rattle.mq_text.specs.Numbers.{number_in, is_number, is_negative, value_of, within}
@@ -33,7 +33,7 @@ use Rattle.mq_scn_text.specs.declared.heading.PartLine.TheVariants as parts
 use Rattle.mq_scn_text.specs.Lookup.{known, found, manager_place, manager_at, section_place, rules_place, script_place, monitor_place, is_place, is_declared, unless_declared, new_label}
 use Rattle.mq_scn_text.specs.Parts.{stage_rank, from_stage, up_to_stage, stage_behind, is_full, in_order, unless_full, allowed}
 use Rattle.mq_scn_text.specs.Cables.{cable_faults}
-use Rattle.mq_scn_text.specs.Heading.{alone, at_moment, moment_line, unless_there, new_name, new_manager, log_number, log_max_in, log_max, managed, manager_line, channel_place, new_channel_name, new_channel, apart, ends_of, cabled, connected, cable_line, owned, labelled, mqsc_of, rules_of, script_of, queue_in, monitored, monitor_line, part_line, part_read}
+use Rattle.mq_scn_text.specs.Heading.{alone, at_moment, moment_line, unless_there, new_name, new_manager, log_number, log_max, managed, manager_line, channel_place, new_channel_name, new_channel, apart, ends_of, cabled, connected, cable_line, owned, labelled, mqsc_of, rules_of, script_of, queue_in, monitored, monitor_line, part_line, part_read}
 use Rattle.mq_law_scenario.proofs.Each.{Each, each_join, found_within, absent}
 
 -- ---- what two parts say, and numbers
@@ -225,7 +225,7 @@ differ_of : (c d : ℕ) → (c == d) ≡ false → c ≢ d
 differ_of c d e same = grind (arith, nat_tests)
 
 apart_by : (r : Result (ℕ × ℕ) LineFault) (a b : ℕ) → apart r ≡ fine (a, b) → (r ≡ fine (a, b)) × (a ≢ b)
-apart_by (Ok (c, d)) a b e = 
+apart_by (Ok (c, d)) a b e =
     let u = unless (c == d) faults.Twice (fine (c, d)) (a, b) e in
     let pair : (c, d) ≡ (a, b) = same_ok (c, d) (a, b) u.1 in
     (u.1, λ same. differ_of c d u.0 (ap (λ (p : ℕ × ℕ). p.0) pair ∙ same ∙ sym (ap (λ (p : ℕ × ℕ). p.1) pair)))

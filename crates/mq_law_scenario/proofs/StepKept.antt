@@ -1,7 +1,6 @@
 -- What the lines of scripts and the steps keep to.
-use Rattle.std.proofs.Common.{◌≡◌, ◌≢◌, ℕ, suc, ◌+◌, ◌-◌, ◌<◌, ◌≤◌, Bool, true, false, cond, List, [], ◌∷◌, ◌++◌, length, Result, Ok, Err, refl, sym, ap, subst, ◌∙◌, arith, inl, inr}
-use Rattle.std.specs.Prelude.{◌⊎◌, ◌&&◌, ◌||◌, ◌==◌, not, nat_lt, All, AllPairs, Option, Some, None}
-use Rattle.std.specs.List.{list_any}
+use Rattle.std.proofs.Common.{◌≡◌, ◌≢◌, ℕ, ◌+◌, ◌-◌, ◌<◌, ◌≤◌, Bool, true, false, cond, List, [], ◌∷◌, ◌++◌, length, Result, Ok, Err, refl, sym, ap, subst, arith, inl, inr}
+use Rattle.std.specs.Prelude.{◌&&◌, ◌||◌, ◌==◌, not, nat_lt, Option, Some, None}
 use Rattle.std.specs.Str.{bytes_eq}
 use Rattle.std.proofs.lemmas.List.{length-append}
 use Rattle.std.proofs.lemmas.Bool.Decides.{nat_tests}
@@ -17,14 +16,14 @@ use Rattle.mq_history.specs.declared.scenario.MonitorLine.{MonitorLine}
 use Rattle.mq_history.specs.declared.scenario.Step.{Step}
 use Rattle.mq_history.specs.declared.scenario.Step.TheVariants as steps
 use Rattle.mq_history.specs.declared.scripts.ScriptLine.{ScriptLine}
-use Rattle.mq_history.specs.Scenarios.{ArePhased, IsStep, Within}
+use Rattle.mq_history.specs.Scenarios.{IsStep, Within}
 use Rattle.mq_scn_lines.specs.declared.fault.LineFault.{LineFault}
 use Rattle.mq_scn_lines.specs.declared.fault.LineFault.TheVariants as faults
 use Rattle.mq_scn_lines.specs.declared.fault.Limit.TheVariants as limits
 use Rattle.mq_scn_lines.specs.Faults.{both}
 use Rattle.mq_scn_lines.specs.Words.{is_open, words_of, first_word}
 use Rattle.mq_scn_lines.specs.Numbers.{ranged}
-use Rattle.mq_scn_lines.specs.Operands.{label_in, name_in}
+use Rattle.mq_scn_lines.specs.Operands.{label_in}
 use Rattle.mq_scn_script.specs.Lines.{script_line}
 use Rattle.mq_scn_script.specs.Commands.{command_in}
 use Rattle.mq_scn_text.specs.declared.fault.ScenarioFault.{ScenarioFault}
@@ -35,13 +34,13 @@ use Rattle.mq_scn_text.specs.declared.steps.StepVerb.{StepVerb}
 use Rattle.mq_scn_text.specs.declared.steps.StepVerb.TheVariants as verbs
 use Rattle.mq_scn_text.specs.Faults.{and_then}
 use Rattle.mq_scn_text.specs.Lookup.{section_place, rules_place, script_place, monitor_place, manager_at, section_at, rules_at, script_at, monitor_at}
-use Rattle.mq_scn_text.specs.Phases.{is_good, is_label, are_labels, is_script, are_scripts, with_place, places_from, is_in, are_single, single, phase_of}
+use Rattle.mq_scn_text.specs.Phases.{is_good, are_labels, is_script, are_scripts, with_place, places_from, is_in, are_single, single, phase_of}
 use Rattle.mq_scn_text.specs.Sections.{section_read, section_of, mqsc_ended, rules_or_fault, rules_ended}
-use Rattle.mq_scn_text.specs.Scripts.{put_len, room, in_order, ordered, script_read, script_added}
-use Rattle.mq_scn_text.specs.Steps.{step_verb_of, stepped, obey_line, lines_in, run_line, phase_line, turns_in, pump_line, handle_line, watch_line, serve_line, crash_line, restart_line, cut_count_in, cut_line, clock_line, done_by, do_line, step_of, words_read, verb_read, step_from, step_line}
+use Rattle.mq_scn_text.specs.Scripts.{put_len, room, ordered, script_read, script_added}
+use Rattle.mq_scn_text.specs.Steps.{step_verb_of, stepped, obey_line, lines_in, run_line, phase_line, turns_in, pump_line, handle_line, watch_line, serve_line, crash_line, restart_line, cut_count_in, cut_line, clock_line, done_by, step_of, words_read, verb_read, step_from, step_line}
 use Rattle.mq_scn_text.specs.Reading.{step_room, step_read}
-use Rattle.mq_law_scenario.specs.Texts.{AreSpoken, IsScriptLine}
-use Rattle.mq_law_scenario.proofs.Each.{Each, each_more, each_map, each_all, Apart, apart_insert, apart_all, found_within}
+use Rattle.mq_law_scenario.specs.Texts.{AreSpoken}
+use Rattle.mq_law_scenario.proofs.Each.{Each, each_more, each_all, Apart, apart_all, found_within}
 use Rattle.mq_law_scenario.proofs.Said.{fine, same_ok, both_ok, unless, ranged_within, found_place, manager_within}
 
 -- ---- scripts

@@ -1,6 +1,6 @@
 -- What a text of a scenario is: its lines in blocks, one behind the other. A block is a line that says nothing, a part of
 -- one line, or a section, a rules table, a script or the steps with all their lines.
-use Rattle.std.specs.Prelude.{◌≡◌, ◌⊎◌, ℕ, ◌+◌, ◌-◌, ◌≤◌, true, false, List, [], ◌∷◌, ◌++◌, length, codes, Option, Some, Result, Ok}
+use Rattle.std.specs.Prelude.{◌≡◌, ◌⊎◌, ℕ, ◌+◌, ◌-◌, ◌≤◌, true, false, List, [], ◌∷◌, ◌++◌, length, codes, Some, Ok}
 use Rattle.std.specs.List.{flat_map}
 use Rattle.mq_text.specs.Lines.{lines_of}
 use Rattle.mq_history.specs.declared.scenario.Scenario.{Scenario}
