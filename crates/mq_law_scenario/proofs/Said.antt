@@ -33,7 +33,7 @@ use Rattle.mq_scn_text.specs.declared.heading.PartLine.TheVariants as parts
 use Rattle.mq_scn_text.specs.Lookup.{known, found, manager_place, manager_at, section_place, rules_place, script_place, monitor_place, is_place, is_declared, unless_declared, new_label}
 use Rattle.mq_scn_text.specs.Parts.{stage_rank, from_stage, up_to_stage, stage_behind, is_full, in_order, unless_full, allowed}
 use Rattle.mq_scn_text.specs.Cables.{cable_faults}
-use Rattle.mq_scn_text.specs.Heading.{alone, at_moment, moment_line, unless_there, new_name, new_manager, log_number, log_max, managed, manager_line, channel_place, new_channel_name, new_channel, apart, ends_of, cabled, connected, cable_line, owned, labelled, mqsc_of, rules_of, script_of, queue_in, monitored, monitor_line, part_line, part_read}
+use Rattle.mq_scn_text.specs.Heading.{alone, at_moment, moment_line, unless_there, new_name, new_manager, log_number, log_max, managed, manager_line, channel_place, new_channel_name, new_channel, apart, ends_of, cabled, connected, cable_with, cable_line, owned, labelled, mqsc_of, rules_of, script_of, queue_in, monitored, monitor_with, monitor_line, part_line, part_read}
 use Rattle.mq_law_scenario.proofs.Each.{Each, each_join, found_within, absent}
 
 -- ---- what two parts say, and numbers
@@ -252,6 +252,7 @@ cable_by s part w se re ws (Ok ((channel, (a, b)), (out, back))) f e =
 cable_by s part w se re ws (Err g) f e = absurd cc
 
 cable_says : (s : Scenario) (part : PartLine) (ws : List (List ℕ)) → cable_line s ws ≡ fine part → Says s words.Cable part
+unfolding cable_with
 cable_says s part [] e = absurd cc
 cable_says s part (w ∷ []) e = absurd cc
 cable_says s part (w ∷ se ∷ []) e = absurd cc
@@ -322,6 +323,7 @@ monitor_by s part w v q (Ok ((label, manager), queue)) f e =
 monitor_by s part w v q (Err g) f e = absurd cc
 
 monitor_says : (s : Scenario) (part : PartLine) (ws : List (List ℕ)) → monitor_line s ws ≡ fine part → Says s words.Monitor part
+unfolding monitor_with
 monitor_says s part [] e = absurd cc
 monitor_says s part (w ∷ []) e = absurd cc
 monitor_says s part (w ∷ v ∷ []) e = absurd cc

@@ -99,11 +99,15 @@ cabled (Err fault) = Err fault
 unfoldable pub connected : Scenario → List ℕ → List ℕ → List ℕ → Result (List ℕ × (ℕ × ℕ)) LineFault
 connected s channel sender receiver = both (new_channel s.cables channel) (ends_of s.managers sender receiver)
 
+-- a cable, with the words behind its ends
+unfoldable pub cable_with : Scenario → List ℕ → List ℕ → List ℕ → List (List ℕ) → Result PartLine LineFault
+cable_with s channel sender receiver words = cabled (both (connected s channel sender receiver) (cable_faults words))
+
 abbrev pub cable_line : Scenario → List (List ℕ) → Result PartLine LineFault
 cable_line s [] = Err faults.Form
 cable_line s (channel ∷ []) = Err faults.Form
 cable_line s (channel ∷ sender ∷ []) = Err faults.Form
-cable_line s (channel ∷ sender ∷ receiver ∷ words) = cabled (both (connected s channel sender receiver) (cable_faults words))
+cable_line s (channel ∷ sender ∷ receiver ∷ words) = cable_with s channel sender receiver words
 
 -- ---- MQSC, RULES and SCRIPT, each with a label and a manager
 
@@ -151,11 +155,15 @@ abbrev pub monitored : Result ((List ℕ × ℕ) × List ℕ) LineFault → Resu
 monitored (Ok p) = Ok (lines.Monitor (record { label = p.0.0; manager = p.0.1; queue = p.1 }))
 monitored (Err fault) = Err fault
 
+-- a monitor of a queue
+unfoldable pub monitor_with : Scenario → List ℕ → List ℕ → List ℕ → Result PartLine LineFault
+monitor_with s label manager queue = monitored (both (owned s label manager) (queue_in queue))
+
 abbrev pub monitor_line : Scenario → List (List ℕ) → Result PartLine LineFault
 monitor_line s [] = Err faults.Form
 monitor_line s (label ∷ []) = Err faults.Form
 monitor_line s (label ∷ manager ∷ []) = Err faults.Form
-monitor_line s (label ∷ manager ∷ queue ∷ []) = monitored (both (owned s label manager) (queue_in queue))
+monitor_line s (label ∷ manager ∷ queue ∷ []) = monitor_with s label manager queue
 monitor_line s (label ∷ manager ∷ queue ∷ other ∷ words) = Err faults.Form
 
 -- ---- all of them

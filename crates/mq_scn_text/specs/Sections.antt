@@ -1,6 +1,7 @@
 -- The lines of MQSC and RULES sections.
-use Rattle.std.specs.Prelude.{ℕ, ◌+◌, nat_lt, Bool, List, [], ◌∷◌, ◌++◌, if◌then◌else◌, Result, Ok, Err}
+use Rattle.std.specs.Prelude.{ℕ, ◌+◌, ◌-◌, nat_lt, Bool, List, [], ◌∷◌, ◌++◌, length, slice_get, if◌then◌else◌, Option, Some, None, Result, Ok, Err}
 use Rattle.mq_sc_lex.specs.declared.joining.Mark.{Mark}
+use Rattle.mq_sc_lex.specs.declared.joining.Joined.{Joined}
 use Rattle.mq_sc_lex.specs.declared.token.Span.{Span}
 use Rattle.mq_sc_lex.specs.declared.token.Line.{Line}
 use Rattle.mq_sc_lex.specs.declared.fault.LexFault.{LexFault}
@@ -99,14 +100,6 @@ section_of number o read = if read.unfinished then Err (faults.BadLine number (c
 unfoldable pub mqsc_ended : ℕ → Opened → Result Section ScenarioFault
 mqsc_ended number o = and_then (section_read o.first o.text) (section_of number o)
 
-abbrev pub nothing_read : {A : Type 0} → Result A ScenarioFault → Result (Unit {0}) ScenarioFault
-nothing_read (Ok x) = Ok tt
-nothing_read (Err fault) = Err fault
-
--- the fault of a section that no line ends
-unfoldable pub mqsc_cut : Opened → Result (Unit {0}) ScenarioFault
-mqsc_cut o = nothing_read (section_read o.first o.text)
-
 abbrev pub rules_or_fault : Opened → Result Table RulesFault → Result RulesPart ScenarioFault
 rules_or_fault o (Ok table) = Ok (record { label = o.label; manager = o.manager; table = table })
 rules_or_fault o (Err fault) = Err (rules_fault o.first fault)
@@ -114,10 +107,45 @@ rules_or_fault o (Err fault) = Err (rules_fault o.first fault)
 unfoldable pub rules_ended : List ℕ → Opened → Result RulesPart ScenarioFault
 rules_ended own o = rules_or_fault o (table_of own o.text)
 
-abbrev pub no_table : ℕ → Result Table RulesFault → Result (Unit {0}) ScenarioFault
-no_table first (Ok table) = Ok tt
-no_table first (Err fault) = Err (rules_fault first fault)
+-- ---- sections that no line ends: a last line that goes on is no fault, unless it leaves a quote open
 
--- a last line that goes on is no fault of a section that no line ends
+abbrev pub line_unless_open : ℕ → Result (List Line) LexFault → Option ℕ
+line_unless_open line (Ok lines) = Some line
+line_unless_open line (Err (lexing.OpenQuote quote)) = None
+line_unless_open line (Err lexing.OpenContinuation) = Some line
+line_unless_open line (Err lexing.NoMemory) = Some line
+
+abbrev pub last_in : List Mark → Option ℕ
+last_in [] = None
+last_in (m ∷ ms) = line_unless_open m.line (commands_of_marks (m ∷ ms))
+
+abbrev pub last_of : Option (List Mark) → Option ℕ
+last_of None = None
+last_of (Some marks) = last_in marks
+
+-- the line from which on the last one goes on where the text ends, if it does and no quote is open in it
+abbrev pub goes_on_from : Joined → Option ℕ
+goes_on_from joined = if joined.unfinished then last_of (slice_get joined.lines (length joined.lines - 1)) else None
+
+-- a fault that stands before that line
+abbrev pub before_last : ℕ → Option ℕ → ScenarioFault → Result (Unit {0}) ScenarioFault
+before_last first None fault = Err fault
+before_last first (Some from) (faults.BadLine line cause) = if nat_lt line (line_in first from) then Err (faults.BadLine line cause) else Ok tt
+before_last first (Some from) (faults.Limit line limit) = Err (faults.Limit line limit)
+before_last first (Some from) faults.NoMemory = Err faults.NoMemory
+
+abbrev pub section_cut : ℕ → Option ℕ → Result SectionRead ScenarioFault → Result (Unit {0}) ScenarioFault
+section_cut first last (Ok read) = Ok tt
+section_cut first last (Err fault) = before_last first last fault
+
+-- the fault of an MQSC section that no line ends
+unfoldable pub mqsc_cut : Opened → Result (Unit {0}) ScenarioFault
+mqsc_cut o = section_cut o.first (goes_on_from (joined_of o.text)) (section_read o.first o.text)
+
+abbrev pub table_cut : ℕ → Option ℕ → Result Table RulesFault → Result (Unit {0}) ScenarioFault
+table_cut first last (Ok table) = Ok tt
+table_cut first last (Err fault) = before_last first last (rules_fault first fault)
+
+-- the fault of a rules table that no line ends: an empty line behind it lets its last entry go on no further
 unfoldable pub rules_cut : List ℕ → Opened → Result (Unit {0}) ScenarioFault
-rules_cut own o = no_table o.first (table_of own (o.text ++ 10 ∷ []))
+rules_cut own o = table_cut o.first (goes_on_from (joined_of o.text)) (table_of own (o.text ++ 10 ∷ []))

@@ -4,7 +4,8 @@ ghost use Rattle.std.specs.Prelude.{◌≡◌, ◌≤◌, IfOk, position, bytes_
 ghost use Rattle.mq_scn_lines.specs.Words.{texts_of};
 ghost use Rattle.mq_scn_lines.specs.Faults.{Reads, both};
 ghost use Rattle.mq_scn_text.specs.Cables.{cable_faults};
-ghost use Rattle.mq_scn_text.specs.Heading.{alone, moment_line, new_manager, log_max_in, log_max, manager_line, new_channel, channel_place, ends_of, connected, cabled, cable_line, owned, labelled, mqsc_line, rules_line, script_line, queue_in, monitored, monitor_line, part_line, part_read};
+ghost use Rattle.mq_scn_text.specs.Heading.{alone, moment_line, new_manager, log_max_in, log_max, manager_line, new_channel, channel_place, ends_of, connected, cabled, cable_with, cable_line, owned, labelled, mqsc_line, rules_line, script_line, queue_in, monitored, monitor_with, monitor_line, part_line, part_read};
+ghost use Rattle.mq_scn_text.specs.declared.heading.PartLine.TheVariants.{Network, Steps};
 
 use crate::cables::cable_faults;
 use crate::lookup::{manager_at, manager_place, new_label};
@@ -33,11 +34,22 @@ pub enum PartLine {
     Steps,
 }
 
-fn alone(line: PartLine, words: &[&[u8]]) -> Result<PartLine, LineFault>
-    ensures { result ≡ alone line (texts_of words.now) }
+/// NETWORK.
+fn network_line(words: &[&[u8]]) -> Result<PartLine, LineFault>
+    ensures { result ≡ alone Network (texts_of words.now) }
 {
     match words {
-        [] => Ok(line),
+        [] => Ok(PartLine::Network),
+        _ => Err(LineFault::Form),
+    }
+}
+
+/// STEPS.
+fn steps_line(words: &[&[u8]]) -> Result<PartLine, LineFault>
+    ensures { result ≡ alone Steps (texts_of words.now) }
+{
+    match words {
+        [] => Ok(PartLine::Steps),
         _ => Err(LineFault::Form),
     }
 }
@@ -178,6 +190,21 @@ fn whole_cable(
     }
 }
 
+#[tactic(auto, unfolding(crate::specs::Heading::cable_with))]
+fn cable_with(
+    alloc: Global,
+    scenario: &Scenario,
+    channel: &[u8],
+    sender: &[u8],
+    receiver: &[u8],
+    words: &[&[u8]],
+) -> Result<PartLine, LineFault>
+    ensures { Reads result (cable_with scenario.now channel.now sender.now receiver.now (texts_of words.now)) }
+{
+    let ends = connected(scenario, channel, sender, receiver);
+    whole_cable(alloc, ends, words)
+}
+
 /// CABLE channel sender receiver [OUT faults] [BACK faults].
 fn cable_line(alloc: Global, scenario: &Scenario, words: &[&[u8]]) -> Result<PartLine, LineFault>
     ensures { Reads result (cable_line scenario.now (texts_of words.now)) }
@@ -187,8 +214,7 @@ fn cable_line(alloc: Global, scenario: &Scenario, words: &[&[u8]]) -> Result<Par
         [_] => Err(LineFault::Form),
         [_, _] => Err(LineFault::Form),
         [channel, sender, receiver, rest @ ..] => {
-            let ends = connected(scenario, channel, sender, receiver);
-            whole_cable(alloc, ends, rest)
+            cable_with(alloc, scenario, channel, sender, receiver, rest)
         }
     }
 }
@@ -263,15 +289,28 @@ fn monitored(read: Result<((Label, u16), QName), LineFault>) -> Result<PartLine,
     }
 }
 
+#[tactic(auto, unfolding(crate::specs::Heading::monitor_with))]
+fn monitor_with(
+    scenario: &Scenario,
+    label: &[u8],
+    manager: &[u8],
+    queue: &[u8],
+) -> Result<PartLine, LineFault>
+    ensures { result ≡ monitor_with scenario.now label.now manager.now queue.now }
+{
+    monitored(both(owned(scenario, label, manager), queue_in(queue)))
+}
+
 /// MONITOR label manager QUEUE(name).
 fn monitor_line(scenario: &Scenario, words: &[&[u8]]) -> Result<PartLine, LineFault>
     ensures { result ≡ monitor_line scenario.now (texts_of words.now) }
 {
     match words {
-        [label, manager, queue] => {
-            monitored(both(owned(scenario, label, manager), queue_in(queue)))
-        }
-        _ => Err(LineFault::Form),
+        [] => Err(LineFault::Form),
+        [_] => Err(LineFault::Form),
+        [_, _] => Err(LineFault::Form),
+        [label, manager, queue] => monitor_with(scenario, label, manager, queue),
+        [_, _, _, _, ..] => Err(LineFault::Form),
     }
 }
 
@@ -285,7 +324,7 @@ fn part_line(
     ensures { Reads result (part_line scenario.now word (texts_of words.now)) }
 {
     match word {
-        PartWord::Network => alone(PartLine::Network, words),
+        PartWord::Network => network_line(words),
         PartWord::Moment => moment_line(words),
         PartWord::Manager => manager_line(scenario, words),
         PartWord::Cable => cable_line(alloc, scenario, words),
@@ -293,7 +332,7 @@ fn part_line(
         PartWord::Rules => rules_line(scenario, words),
         PartWord::Script => script_line(scenario, words),
         PartWord::Monitor => monitor_line(scenario, words),
-        PartWord::Steps => alone(PartLine::Steps, words),
+        PartWord::Steps => steps_line(words),
     }
 }
 

@@ -14,4 +14,7 @@ mod sections;
 mod steps;
 
 pub use fault::{Cause, ScenarioFault, mqsc_word, rules_word};
-pub use reading::read_scenario;
+pub use parts::Stage;
+pub use reading::{Inside, Reading, line_read, nothing_read, read_scenario};
+pub use scripts::Script;
+pub use sections::Opened;

@@ -44,7 +44,8 @@ pub struct Reading {
     pub scenario: Scenario,
 }
 
-fn nothing_read(alloc: Global) -> Reading
+/// The reading before the first line.
+pub fn nothing_read(alloc: Global) -> Reading
     ensures { result ≡ nothing_read }
 {
     Reading {
@@ -436,8 +437,12 @@ fn section_cut(alloc: Global, inside: &Inside, scenario: &Scenario) -> Result<()
 }
 
 /// Reads one more line.
+///
+/// # Errors
+///
+/// The fault of the line, as `read_scenario` tells it; `NoMemory`.
 #[tactic(auto, unfolding(crate::specs::Reading::line_read))]
-fn line_read(alloc: Global, reading: Reading, line: &[u8]) -> Result<Reading, ScenarioFault>
+pub fn line_read(alloc: Global, reading: Reading, line: &[u8]) -> Result<Reading, ScenarioFault>
     ensures { Gives result (line_read line.now reading) }
 {
     if reading.lines >= 40_000 {

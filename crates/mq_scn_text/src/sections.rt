@@ -2,14 +2,14 @@
 
 ghost use Rattle.std.specs.Prelude.{◌≡◌, ◌++◌, ◌∷◌, [], IfOk};
 ghost use Rattle.mq_scn_text.specs.Faults.{Gives};
-ghost use Rattle.mq_scn_text.specs.Sections.{line_in, command_fault, text_fault, rules_fault, command_at, commands_from, line_read, joined_from, section_read, mqsc_ended, rules_ended, mqsc_cut, rules_cut, text_added};
+ghost use Rattle.mq_scn_text.specs.Sections.{line_in, command_fault, text_fault, rules_fault, command_at, commands_from, line_read, joined_from, section_read, mqsc_ended, rules_ended, mqsc_cut, rules_cut, text_added, last_in, goes_on_from, before_last};
 
 use crate::fault::{Cause, ScenarioFault};
 use mq_base::Items;
 use mq_history::{RulesPart, Section};
 use mq_name::{Label, QName};
 use mq_rules_text::{RulesFault, table};
-use mq_sc_lex::{LexFault, Line, Mark, join_lines, line_commands};
+use mq_sc_lex::{Joined, LexFault, Line, Mark, join_lines, line_commands};
 use mq_sc_parse::{Command, ScFault, parse};
 use mq_scn_lines::MqscFault;
 use std::alloc::{AllocError, Global};
@@ -190,17 +190,6 @@ pub fn mqsc_ended(alloc: Global, opened: Opened, number: u32) -> Result<Section,
     })
 }
 
-/// The fault of an MQSC section that no line ends, if it has one.
-#[tactic(auto, unfolding(crate::specs::Sections::mqsc_cut))]
-pub fn mqsc_cut(alloc: Global, opened: &Opened) -> Result<(), ScenarioFault>
-    ensures { Gives result (mqsc_cut opened.now) }
-{
-    match section_read(alloc, opened.first, opened.text.as_slice()) {
-        Ok(_) => Ok(()),
-        Err(fault) => Err(fault),
-    }
-}
-
 /// The rules section of a manager of that name.
 #[tactic(auto, unfolding(crate::specs::Sections::rules_ended))]
 pub fn rules_ended(alloc: Global, opened: Opened, own: &QName) -> Result<RulesPart, ScenarioFault>
@@ -213,6 +202,71 @@ pub fn rules_ended(alloc: Global, opened: Opened, own: &QName) -> Result<RulesPa
             table,
         }),
         Err(fault) => Err(rules_fault(opened.first, fault)),
+    }
+}
+
+/// The line from which on the last one goes on where the text ends, if it does and no quote is open in it.
+fn last_in(alloc: Global, marks: &[Mark]) -> Result<Option<usize>, ScenarioFault>
+    ensures { Gives result (Ok (last_in marks.now)) }
+{
+    let [first, ..] = marks else {
+        return Ok(None);
+    };
+    match line_commands(alloc, marks) {
+        Ok(_) => Ok(Some(first.line)),
+        Err(LexFault::NoMemory) => Err(ScenarioFault::NoMemory),
+        Err(LexFault::OpenQuote(_)) => Ok(None),
+        Err(LexFault::OpenContinuation) => Ok(Some(first.line)),
+    }
+}
+
+/// The same of lines that were joined.
+fn goes_on_from(alloc: Global, joined: &Joined) -> Result<Option<usize>, ScenarioFault>
+    ensures { Gives result (Ok (goes_on_from joined.now)) }
+{
+    if !joined.unfinished {
+        return Ok(None);
+    }
+    match joined.lines.as_slice().last() {
+        Some(marks) => last_in(alloc, marks.as_slice()),
+        None => Ok(None),
+    }
+}
+
+/// The fault of a text, unless it is in a line that goes on where the text ends, from this line of the section on.
+fn before_last(
+    first: u32,
+    last: Option<usize>,
+    fault: ScenarioFault,
+) -> Result<(), ScenarioFault>
+    ensures { result ≡ before_last first last fault }
+{
+    match last {
+        None => Err(fault),
+        Some(from) => match fault {
+            ScenarioFault::BadLine(line, cause) => {
+                if line < line_in(first, from) {
+                    Err(ScenarioFault::BadLine(line, cause))
+                } else {
+                    Ok(())
+                }
+            }
+            ScenarioFault::Limit(line, limit) => Err(ScenarioFault::Limit(line, limit)),
+            ScenarioFault::NoMemory => Err(ScenarioFault::NoMemory),
+        },
+    }
+}
+
+/// The fault of an MQSC section that no line ends, if it has one.
+#[tactic(auto, unfolding(crate::specs::Sections::mqsc_cut))]
+pub fn mqsc_cut(alloc: Global, opened: &Opened) -> Result<(), ScenarioFault>
+    ensures { Gives result (mqsc_cut opened.now) }
+{
+    let joined = join_lines(alloc, opened.text.as_slice())?;
+    let last = goes_on_from(alloc, &joined)?;
+    match section_read(alloc, opened.first, opened.text.as_slice()) {
+        Ok(_) => Ok(()),
+        Err(fault) => before_last(opened.first, last, fault),
     }
 }
 
@@ -230,9 +284,11 @@ fn with_empty_line(alloc: Global, text: &[u8]) -> Result<Items<u8>, AllocError>
 pub fn rules_cut(alloc: Global, opened: &Opened, own: &QName) -> Result<(), ScenarioFault>
     ensures { Gives result (rules_cut own.now opened.now) }
 {
+    let joined = join_lines(alloc, opened.text.as_slice())?;
+    let last = goes_on_from(alloc, &joined)?;
     let text = with_empty_line(alloc, opened.text.as_slice())?;
     match table(alloc, text.as_slice(), own) {
         Ok(_) => Ok(()),
-        Err(fault) => Err(rules_fault(opened.first, fault)),
+        Err(fault) => before_last(opened.first, last, rules_fault(opened.first, fault)),
     }
 }
