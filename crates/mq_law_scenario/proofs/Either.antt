@@ -31,8 +31,11 @@ use Rattle.mq_scn_text.specs.Heading.{part_read}
 use Rattle.mq_scn_text.specs.Sections.{text_added, line_in, mqsc_ended, rules_ended}
 use Rattle.mq_scn_text.specs.Scripts.{new_script, put_len, script_read, script_added}
 use Rattle.mq_scn_text.specs.Reading.{is_only, is_skipped, opened, step_read, section_cut, scenario_of}
-use Rattle.mq_law_scenario.specs.Texts.{Said, nothing_said, Begins, NoneIs, text_of, IsOpenSection, IsOpenTable, IsScriptLine, AreSpoken, IsOpenScript, IsStepLine, AreStepped, AreOpenSteps, IsOpen, IsBlock, AreBlocks, all_lines, IsText}
-use Rattle.mq_law_scenario.specs.Faults.{Stand, IsNoPart, IsBadPart, IsBadLine, IsCut, IsTextFault}
+use Rattle.mq_scn_parts.specs.Heading.{IsPartLine, IsPartLineFault}
+use Rattle.mq_scn_parts.proofs.PartLines.{either_part}
+use Rattle.mq_law_scenario.proofs.NextLines.{next_found, line_refused, next_step_found, step_refused}
+use Rattle.mq_law_scenario.specs.Texts.{Said, nothing_said, Begins, NoneIs, text_of, IsOpenSection, IsOpenTable, IsNextLine, AreSpoken, IsOpenScript, IsNextStep, AreStepped, AreOpenSteps, IsOpen, IsBlock, AreBlocks, all_lines, IsText}
+use Rattle.mq_law_scenario.specs.Faults.{Stand, IsBadLine, IsCut, IsTextFault}
 use Rattle.mq_law_scenario.proofs.ReadBack.{ok_scenario, err_scenario, text_read, fault_read}
 
 -- ---- what one more line makes of what is open
@@ -104,44 +107,16 @@ part_grown n before line stage parts.Steps b =
       opens = record { head = line; inner = []; stage = stage; scenario = before.scenario; whole = refl; begins = b; says = refl; is = refl };
     })
 
-bad_outside : (n : ℕ) (before : Said) (line : List ℕ) (fault : ScenarioFault) → is_skipped line ≡ false → IsNoPart (n + length no_lines + 1) line fault ⊎ IsBadPart (n + length no_lines + 1) before line fault → Grown n before [] insides.Nothing before line
-bad_outside n before line fault e h = inr (inr (record { fault = fault; bad = (e, h) }))
+bad_outside : (n : ℕ) (before : Said) (line : List ℕ) (own : LineFault) → is_skipped line ≡ false → IsPartLineFault before.scenario before.stage line own → Grown n before [] insides.Nothing before line
+bad_outside n before line own e h = inr (inr (record { fault = fault_at (n + length no_lines + 1) own; bad = (e, (own, h, refl)) }))
 
-read_grown : (n : ℕ) (before : Said) (line first rest : List ℕ) (word : PartWord) → is_skipped line ≡ false → first_word line ≡ Some (first, rest) → part_word_of first ≡ Some word
-    → (r : Result (Stage × PartLine) LineFault) → part_read before.scenario before.stage word rest ≡ r → Grown n before [] insides.Nothing before line
-read_grown n before line first rest word e f g (Ok (stage, part)) h = part_grown n before line stage part (record { first = first; rest = rest; word = word; unskipped = e; parted = f; begins = g; says = h })
-read_grown n before line first rest word e f g (Err own) h =
-    bad_outside n before line (fault_at (n + length no_lines + 1) own) e (inr (record { first = first; rest = rest; word = word; own = own; parted = f; begins = g; says = h; is = refl }))
-
-abbrev some_words : List ℕ → List ℕ → Option (List ℕ × List ℕ)
-some_words first rest = Some (first, rest)
-
-abbrev first_or_nothing : Option (List ℕ × List ℕ) → List ℕ
-first_or_nothing None = []
-first_or_nothing (Some p) = p.0
-
-same_some : (first other rest more : List ℕ) → some_words first rest ≡ some_words other more → first ≡ other
-same_some first other rest more e = ap first_or_nothing e
-
-word_grown : (n : ℕ) (before : Said) (line first rest : List ℕ) → is_skipped line ≡ false → first_word line ≡ Some (first, rest) → (w : Option PartWord) → part_word_of first ≡ w → Grown n before [] insides.Nothing before line
-word_grown n before line first rest e f (Some word) g = read_grown n before line first rest word e f g (part_read before.scenario before.stage word rest) refl
-word_grown n before line first rest e f None g =
-    bad_outside n before line (faults.BadLine (n + length no_lines + 1) causes.Form) e (inl (record {
-      unknown = λ other more word p q.
-          let same : first ≡ other = same_some first other rest more (sym f ∙ p) in
-          let none : None ≡ Some word = sym g ∙ ap part_word_of same ∙ q in
-          absurd cc;
-      is = refl;
-    }))
-
-first_grown : (n : ℕ) (before : Said) (line : List ℕ) → is_skipped line ≡ false → (w : Option (List ℕ × List ℕ)) → first_word line ≡ w → Grown n before [] insides.Nothing before line
-first_grown n before line e (Some (first, rest)) f = word_grown n before line first rest e f (part_word_of first) refl
-first_grown n before line e None f =
-    bad_outside n before line (faults.BadLine (n + length no_lines + 1) causes.Form) e (inl (record { unknown = λ other more word p q. absurd (let none : None ≡ some_words other more = sym f ∙ p in cc); is = refl }))
+first_grown : (n : ℕ) (before : Said) (line : List ℕ) → is_skipped line ≡ false → ((p : Stage × PartLine) × IsPartLine before.scenario before.stage line p) ⊎ ((f : LineFault) × IsPartLineFault before.scenario before.stage line f) → Grown n before [] insides.Nothing before line
+first_grown n before line e (inl (p, h)) = part_grown n before line p.0 p.1 (record { unskipped = e; says = h })
+first_grown n before line e (inr (own, h)) = bad_outside n before line own e h
 
 outside_grown : (n : ℕ) (before : Said) (line : List ℕ) (b : Bool) → is_skipped line ≡ b → Grown n before [] insides.Nothing before line
 outside_grown n before line true e = inr (inl (record { after = before; block = inl (line, refl, e, refl) }))
-outside_grown n before line false e = first_grown n before line e (first_word line) refl
+outside_grown n before line false e = first_grown n before line e (either_part before.scenario before.stage line)
 
 -- ---- a line in a section or a table
 
@@ -223,10 +198,10 @@ spoken_skip [] left s behind t line h e = inl (e, h)
 spoken_skip (other ∷ lines) left s behind t line (inl (f, h)) e = inl (f, spoken_skip lines left s behind t line h e)
 spoken_skip (other ∷ lines) left s behind t line (inr (said, f, h)) e = inr (said, f, spoken_skip lines (left - put_len said) (script_added said s) behind t line h e)
 
-spoken_more : (lines : List (List ℕ)) (left : ℕ) (s : Script) (behind : ℕ) (t : Script) (line : List ℕ) (said : ScriptLine) → AreSpoken left s lines behind t → IsScriptLine behind t line said
+spoken_more : (lines : List (List ℕ)) (left : ℕ) (s : Script) (behind : ℕ) (t : Script) (line : List ℕ) (said : ScriptLine) → AreSpoken left s lines behind t → IsNextLine behind t line said
     → AreSpoken left s (lines ++ line ∷ []) (behind - put_len said) (script_added said t)
 spoken_more [] left s behind t line said (e, f) h =
-    let here : IsScriptLine left s line said = subst (λ (l : ℕ). IsScriptLine l s line said) e (subst (λ (u : Script). IsScriptLine behind u line said) f h) in
+    let here : IsNextLine left s line said = subst (λ (l : ℕ). IsNextLine l s line said) e (subst (λ (u : Script). IsNextLine behind u line said) f h) in
     inr (said, here, (ap (λ (l : ℕ). l - put_len said) e, ap (script_added said) f))
 spoken_more (other ∷ lines) left s behind t line said (inl (f, hs)) h = inl (f, spoken_more lines left s behind t line said hs h)
 spoken_more (other ∷ lines) left s behind t line said (inr (first, f, hs)) h = inr (first, f, spoken_more lines (left - put_len first) (script_added first s) behind t line said hs h)
@@ -238,7 +213,7 @@ script_said : (n : ℕ) (before now : Said) (lines : List (List ℕ)) (s : Scrip
     → (r : Result ScriptLine LineFault) → script_read now.left line s ≡ r → Grown n before lines (insides.Script s) now line
 script_said n before now lines s line h e f (Ok said) g =
     let same : now.left ≡ h.left = left_now h.stage h.left before.scenario now h.is in
-    let line_is : IsScriptLine h.left s line said = subst (λ (l : ℕ). IsScriptLine l s line said) same (record { unskipped = e; unended = f; says = g }) in
+    let line_is : IsNextLine h.left s line said = subst (λ (l : ℕ). IsNextLine l s line said) same (let k = next_found now.left s line said g in record { unskipped = e; unended = f; room = k.0; says = k.1; order = k.2 }) in
     inl (record {
       inside = insides.Script (script_added said s);
       now = record { stage = h.stage; left = h.left - put_len said; scenario = before.scenario };
@@ -255,7 +230,7 @@ script_said n before now lines s line h e f (Ok said) g =
         is = refl;
       };
     })
-script_said n before now lines s line h e f (Err own) g = inr (inr (record { fault = fault_at (n + length lines + 1) own; bad = (e, f, (own, g, refl)) }))
+script_said n before now lines s line h e f (Err own) g = inr (inr (record { fault = fault_at (n + length lines + 1) own; bad = (e, f, (own, line_refused now.left s line own g, refl)) }))
 
 script_ended : (n : ℕ) (before now : Said) (lines : List (List ℕ)) (s : Script) (line : List ℕ) → IsOpenScript before lines s now → is_skipped line ≡ false → (b : Bool) → is_only (codes "ENDSCRIPT") line ≡ b → Grown n before lines (insides.Script s) now line
 script_ended n before now lines s line h e true f =
@@ -290,8 +265,8 @@ stepped_skip [] s t line h e = inl (e, h)
 stepped_skip (other ∷ lines) s t line (inl (f, h)) e = inl (f, stepped_skip lines s t line h e)
 stepped_skip (other ∷ lines) s t line (inr (step, f, h)) e = inr (step, f, stepped_skip lines (record s { steps = s.steps ++ step ∷ [] }) t line h e)
 
-stepped_more : (lines : List (List ℕ)) (s t : Scenario) (line : List ℕ) (step : Step) → AreStepped s lines t → IsStepLine t line step → AreStepped s (lines ++ line ∷ []) (record t { steps = t.steps ++ step ∷ [] })
-stepped_more [] s t line step e h = inr (step, subst (λ (u : Scenario). IsStepLine u line step) e h, ap (λ (u : Scenario). record u { steps = u.steps ++ step ∷ [] }) e)
+stepped_more : (lines : List (List ℕ)) (s t : Scenario) (line : List ℕ) (step : Step) → AreStepped s lines t → IsNextStep t line step → AreStepped s (lines ++ line ∷ []) (record t { steps = t.steps ++ step ∷ [] })
+stepped_more [] s t line step e h = inr (step, subst (λ (u : Scenario). IsNextStep u line step) e h, ap (λ (u : Scenario). record u { steps = u.steps ++ step ∷ [] }) e)
 stepped_more (other ∷ lines) s t line step (inl (f, hs)) h = inl (f, stepped_more lines s t line step hs h)
 stepped_more (other ∷ lines) s t line step (inr (first, f, hs)) h = inr (first, f, stepped_more lines (record s { steps = s.steps ++ first ∷ [] }) t line step hs h)
 
@@ -299,7 +274,7 @@ step_said : (n : ℕ) (before now : Said) (lines : List (List ℕ)) (line : List
     → (r : Result (Unit {0} × Step) LineFault) → step_read now.scenario line ≡ r → Grown n before lines insides.Steps now line
 step_said n before now lines line h e f (Ok (done, step)) g =
     let same : now.scenario ≡ h.scenario = ap (λ (u : Said). u.scenario) h.is in
-    let line_is : IsStepLine h.scenario line step = subst (λ (s : Scenario). IsStepLine s line step) same (record { unskipped = e; unended = f; says = g }) in
+    let line_is : IsNextStep h.scenario line step = subst (λ (s : Scenario). IsNextStep s line step) same (let k = next_step_found now.scenario line step g in record { unskipped = e; unended = f; room = k.0; says = k.1 }) in
     let t : Scenario = record h.scenario { steps = h.scenario.steps ++ step ∷ [] } in
     inl (record {
       inside = insides.Steps;
@@ -315,7 +290,7 @@ step_said n before now lines line h e f (Ok (done, step)) g =
         is = refl;
       };
     })
-step_said n before now lines line h e f (Err own) g = inr (inr (record { fault = fault_at (n + length lines + 1) own; bad = (e, f, (own, g, refl)) }))
+step_said n before now lines line h e f (Err own) g = inr (inr (record { fault = fault_at (n + length lines + 1) own; bad = (e, f, (own, step_refused now.scenario line own g, refl)) }))
 
 steps_ended : (n : ℕ) (before now : Said) (lines : List (List ℕ)) (line : List ℕ) → AreOpenSteps before lines now → is_skipped line ≡ false → (b : Bool) → is_only (codes "ENDSTEPS") line ≡ b → Grown n before lines insides.Steps now line
 steps_ended n before now lines line h e true f = inr (inl (record { after = now; block = inr (inr (record { front = lines; last = line; inside = insides.Steps; now = now; whole = refl; opens = h; ends = (e, f, refl) })) }))

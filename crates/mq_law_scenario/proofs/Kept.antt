@@ -28,7 +28,7 @@ use Rattle.mq_scn_text.specs.Parts.{stage_rank, from_stage, room_of}
 use Rattle.mq_scn_text.specs.Scripts.{new_script}
 use Rattle.mq_law_scenario.specs.Texts.{Said, nothing_said, Begins, Adds, IsOpenSection, IsOpenTable, IsOpenScript, AreOpenSteps, AreStepped, IsOpen, Ends, IsBlock, AreBlocks, IsText}
 use Rattle.mq_law_scenario.proofs.Each.{Each, each_more, each_map, each_all, Apart, apart_insert, apart_more, apart_all}
-use Rattle.mq_law_scenario.proofs.Said.{Joins, IsOwned, names, channels, IsAllowed, IsSaid, part_said}
+use Rattle.mq_law_scenario.proofs.Said.{Joins, IsOwned, names, channels, IsAllowed, IsSaid, line_said}
 use Rattle.mq_law_scenario.proofs.StepKept.{StepIn, Named, step_is, IsScriptOf, spoken_kept, section_kept, table_kept, step_kept}
 
 -- what holds at each stage
@@ -438,10 +438,11 @@ stepped_kept [] s t e h = subst (Keeps stages.Steps) (sym e) h
 stepped_kept (line ∷ lines) s t (inl (e, hs)) h = stepped_kept lines s t hs h
 stepped_kept (line ∷ lines) s t (inr (step, e, hs)) h =
     let k = step_kept s line step e.says in
-    stepped_kept lines (record s { steps = s.steps ++ step ∷ [] }) t hs (step_added s step h k.0 k.1)
+    let few = e.room in
+    stepped_kept lines (record s { steps = s.steps ++ step ∷ [] }) t hs (step_added s step h few k)
 
 begins_said : (before : Said) (line : List ℕ) (stage : Stage) (part : PartLine) → Begins before line stage part → IsSaid before.scenario before.stage stage part
-begins_said before line stage part b = part_said before.scenario before.stage stage b.word b.rest part b.says
+begins_said before line stage part b = line_said before.scenario before.stage stage line part b.says
 
 -- ---- blocks
 

@@ -1,3 +1,4 @@
+pub mod NextLines
 pub mod ReadBack
 pub mod Either
 pub mod Each

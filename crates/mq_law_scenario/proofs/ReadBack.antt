@@ -27,8 +27,10 @@ use Rattle.mq_scn_text.specs.Parts.{part_word_of}
 use Rattle.mq_scn_text.specs.Sections.{text_added, line_in}
 use Rattle.mq_scn_text.specs.Scripts.{new_script, put_len, script_added}
 use Rattle.mq_scn_text.specs.Reading.{nothing_read, is_only, is_skipped, opened, part_added, part_of_word, part_from, part_line_read, outside_read, mqsc_line_read, rules_line_read, script_line_read, skipped_or_script, step_line_read, skipped_or_step, inside_read, section_cut, else_fault, line_read, lines_read, is_outside, are_steps, ended, scenario_of}
-use Rattle.mq_law_scenario.specs.Texts.{Said, nothing_said, Begins, Adds, NoneIs, text_of, IsOpenSection, IsOpenTable, IsScriptLine, AreSpoken, IsOpenScript, IsStepLine, AreStepped, AreOpenSteps, IsOpen, Ends, IsEnded, IsBlock, AreBlocks, all_lines, IsText}
-use Rattle.mq_law_scenario.specs.Faults.{Stand, IsNoPart, IsBadPart, IsBadLine, IsCut, HasBadLine, HasManyLines, HasNoEnd, IsTextFault}
+use Rattle.mq_scn_parts.proofs.PartLines.{part_is_read, part_is_refused}
+use Rattle.mq_law_scenario.proofs.NextLines.{next_read, line_is_refused, next_step_read, step_is_refused}
+use Rattle.mq_law_scenario.specs.Texts.{Said, nothing_said, Begins, Adds, NoneIs, text_of, IsOpenSection, IsOpenTable, IsNextLine, AreSpoken, IsOpenScript, IsNextStep, AreStepped, AreOpenSteps, IsOpen, Ends, IsEnded, IsBlock, AreBlocks, all_lines, IsText}
+use Rattle.mq_law_scenario.specs.Faults.{Stand, IsBadLine, IsCut, HasBadLine, HasManyLines, HasNoEnd, IsTextFault}
 
 abbrev pub ok_reading : Reading → Result Reading ScenarioFault
 ok_reading r = Ok r
@@ -69,8 +71,8 @@ skip_read k now line e = rw e refl
 
 begins_read : (k : ℕ) (now : Said) (line : List ℕ) (stage : Stage) (part : PartLine) → Begins now line stage part
     → inside_read k line (reading k insides.Nothing now) ≡ ok_reading (part_added k part (reading k insides.Nothing (record now { stage = stage })))
-unfolding outside_read part_line_read
-begins_read k now line stage part b = rw (b.unskipped, b.parted, b.begins, b.says) refl
+unfolding outside_read
+begins_read k now line stage part b = rw b.unskipped (part_is_read k line (reading k insides.Nothing now) (stage, part) b.says)
 
 adds_read : (part : PartLine) (k : ℕ) (now : Said) (t : Scenario) → Adds part now.scenario t → part_added k part (reading k insides.Nothing now) ≡ reading k insides.Nothing (record now { scenario = t })
 adds_read parts.Network k now t e = ap (λ (s : Scenario). reading k insides.Nothing (record now { scenario = s })) (sym e)
@@ -128,10 +130,10 @@ script_skip : (k : ℕ) (s : Script) (now : Said) (line : List ℕ) → is_skipp
 unfolding skipped_or_script
 script_skip k s now line e = rw e refl
 
-script_more : (k : ℕ) (s : Script) (now : Said) (line : List ℕ) (said : ScriptLine) → IsScriptLine now.left s line said
+script_more : (k : ℕ) (s : Script) (now : Said) (line : List ℕ) (said : ScriptLine) → IsNextLine now.left s line said
     → inside_read k line (reading k (insides.Script s) now) ≡ ok_reading (reading k (insides.Script (script_added said s)) (record now { left = now.left - put_len said }))
 unfolding skipped_or_script script_line_read
-script_more k s now line said h = rw (h.unskipped, h.unended, h.says) refl
+script_more k s now line said h = let e = next_read now.left s line said (h.room, h.says, h.order) in rw (h.unskipped, h.unended, e) refl
 
 script_all : (lines : List (List ℕ)) (n : ℕ) (s t : Script) (now : Said) (left : ℕ) (rest : List (List ℕ)) → AreSpoken now.left s lines left t → n + length lines ≤ 40000
     → lines_read (lines ++ rest) (reading n (insides.Script s) now) ≡ lines_read rest (reading (n + length lines) (insides.Script t) (record now { left = left }))
@@ -156,10 +158,10 @@ step_skip : (k : ℕ) (now : Said) (line : List ℕ) → is_skipped line ≡ tru
 unfolding skipped_or_step
 step_skip k now line e = rw e refl
 
-step_more : (k : ℕ) (now : Said) (line : List ℕ) (step : Step) → IsStepLine now.scenario line step
+step_more : (k : ℕ) (now : Said) (line : List ℕ) (step : Step) → IsNextStep now.scenario line step
     → inside_read k line (reading k insides.Steps now) ≡ ok_reading (reading k insides.Steps (record now { scenario = record now.scenario { steps = now.scenario.steps ++ step ∷ [] } }))
 unfolding skipped_or_step step_line_read
-step_more k now line step h = rw (h.unskipped, h.unended, h.says) refl
+step_more k now line step h = let e = next_step_read now.scenario line step h.room h.says in rw (h.unskipped, h.unended, e) refl
 
 steps_all : (lines : List (List ℕ)) (n : ℕ) (now : Said) (t : Scenario) (rest : List (List ℕ)) → AreStepped now.scenario lines t → n + length lines ≤ 40000
     → lines_read (lines ++ rest) (reading n insides.Steps now) ≡ lines_read rest (reading (n + length lines) insides.Steps (record now { scenario = t }))
@@ -348,21 +350,9 @@ text_read text s h =
 
 -- ---- faults
 
-no_part : (k : ℕ) (r : Reading) (line : List ℕ) (fault : ScenarioFault) → IsNoPart k line fault → (first rest : List ℕ) → first_word line ≡ Some (first, rest) → (w : Option PartWord) → part_word_of first ≡ w → part_of_word k r w rest ≡ err_reading fault
-no_part k r line fault h first rest e None f = ap err_reading (sym h.is)
-no_part k r line fault h first rest e (Some word) f = absurd (h.unknown first rest word e f)
-
-no_word_part : (k : ℕ) (r : Reading) (line : List ℕ) (fault : ScenarioFault) → IsNoPart k line fault → (w : Option (List ℕ × List ℕ)) → first_word line ≡ w → part_from k r w ≡ err_reading fault
-no_word_part k r line fault h None e = ap err_reading (sym h.is)
-no_word_part k r line fault h (Some (first, rest)) e = no_part k r line fault h first rest e (part_word_of first) refl
-
-no_part_read : (k : ℕ) (now : Said) (line : List ℕ) (fault : ScenarioFault) → is_skipped line ≡ false → IsNoPart k line fault → inside_read k line (reading k insides.Nothing now) ≡ err_reading fault
-unfolding outside_read part_line_read
-no_part_read k now line fault e h = rw e (no_word_part k (reading k insides.Nothing now) line fault h (first_word line) refl)
-
-bad_part_read : (k : ℕ) (now : Said) (line : List ℕ) (fault : ScenarioFault) → is_skipped line ≡ false → IsBadPart k now line fault → inside_read k line (reading k insides.Nothing now) ≡ err_reading fault
-unfolding outside_read part_line_read
-bad_part_read k now line fault e h = rw (e, h.parted, h.begins, h.says) (ap err_reading (sym h.is))
+bad_part_read : (k : ℕ) (now : Said) (line : List ℕ) (fault : ScenarioFault) → IsBadLine k insides.Nothing now line fault → inside_read k line (reading k insides.Nothing now) ≡ err_reading fault
+unfolding outside_read
+bad_part_read k now line fault (unskipped, (own, h, is)) = rw unskipped (part_is_refused k line (reading k insides.Nothing now) own h ∙ ap err_reading (sym is))
 
 bad_section_read : (k : ℕ) (o : Opened) (now : Said) (line : List ℕ) (fault : ScenarioFault) → IsBadLine k (insides.Mqsc o) now line fault → inside_read k line (reading k (insides.Mqsc o) now) ≡ err_reading fault
 unfolding mqsc_line_read
@@ -374,15 +364,14 @@ bad_table_read k o now line fault h = rw (h.0, h.1) refl
 
 bad_script_read : (k : ℕ) (s : Script) (now : Said) (line : List ℕ) (fault : ScenarioFault) → IsBadLine k (insides.Script s) now line fault → inside_read k line (reading k (insides.Script s) now) ≡ err_reading fault
 unfolding skipped_or_script script_line_read
-bad_script_read k s now line fault (unskipped, unended, (own, e, is)) = rw (unskipped, unended, e) (ap err_reading (sym is))
+bad_script_read k s now line fault (unskipped, unended, (own, h, is)) = let e = line_is_refused now.left s line own h in rw (unskipped, unended, e) (ap err_reading (sym is))
 
 bad_step_read : (k : ℕ) (now : Said) (line : List ℕ) (fault : ScenarioFault) → IsBadLine k insides.Steps now line fault → inside_read k line (reading k insides.Steps now) ≡ err_reading fault
 unfolding skipped_or_step step_line_read
-bad_step_read k now line fault (unskipped, unended, (own, e, is)) = rw (unskipped, unended, e) (ap err_reading (sym is))
+bad_step_read k now line fault (unskipped, unended, (own, h, is)) = let e = step_is_refused now.scenario line own h in rw (unskipped, unended, e) (ap err_reading (sym is))
 
 bad_read : (i : Inside) (k : ℕ) (now : Said) (line : List ℕ) (fault : ScenarioFault) → IsBadLine k i now line fault → inside_read k line (reading k i now) ≡ err_reading fault
-bad_read insides.Nothing k now line fault (e, inl h) = no_part_read k now line fault e h
-bad_read insides.Nothing k now line fault (e, inr h) = bad_part_read k now line fault e h
+bad_read insides.Nothing k now line fault h = bad_part_read k now line fault h
 bad_read (insides.Mqsc o) k now line fault h = bad_section_read k o now line fault h
 bad_read (insides.Rules o) k now line fault h = bad_table_read k o now line fault h
 bad_read (insides.Script s) k now line fault h = bad_script_read k s now line fault h

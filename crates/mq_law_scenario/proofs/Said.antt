@@ -34,6 +34,9 @@ use Rattle.mq_scn_text.specs.Lookup.{known, found, manager_place, manager_at, se
 use Rattle.mq_scn_text.specs.Parts.{stage_rank, from_stage, up_to_stage, stage_behind, is_full, in_order, unless_full, allowed}
 use Rattle.mq_scn_text.specs.Cables.{cable_faults}
 use Rattle.mq_scn_text.specs.Heading.{alone, at_moment, moment_line, unless_there, new_name, new_manager, log_number, log_max, managed, manager_line, channel_place, new_channel_name, new_channel, apart, ends_of, cabled, connected, cable_with, cable_line, owned, labelled, mqsc_of, rules_of, script_of, queue_in, monitored, monitor_with, monitor_line, part_line, part_read}
+use Rattle.mq_scn_grammar.proofs.Told.{value_read}
+use Rattle.mq_scn_parts.specs.Heading.{IsPartOf, HasPartFault, IsAllowed as MayStand, HasOrderFault, IsPartLine}
+use Rattle.mq_scn_parts.proofs.Heading.{part_tells, allowed_tells}
 use Rattle.mq_law_scenario.proofs.Each.{Each, each_join, found_within, absent}
 
 -- ---- what two parts say, and numbers
@@ -365,10 +368,8 @@ pub record IsSaid (s : Scenario) (stage : Stage) (next : Stage) (part : PartLine
   pub good : Good s part
   pub order : IsAllowed s stage (word_of part) next
 
-pub part_said : (s : Scenario) (stage next : Stage) (word : PartWord) (rest : List ℕ) (part : PartLine) → part_read s stage word rest ≡ fine (next, part) → IsSaid s stage next part
-unfolding part_read
-part_said s stage next word rest part e =
-    let u = unless (is_open false rest) faults.Form (both (allowed s stage word) (part_line s word (words_of rest))) (next, part) e in
-    let v = both_ok (allowed s stage word) (part_line s word (words_of rest)) next part u.1 in
-    let h = part_says s word part (words_of rest) v.1 in
-    record { good = h.1; order = subst (λ (w : PartWord). IsAllowed s stage w next) (sym h.0) (allowed_by s stage word next (is_full s word) refl v.0) }
+pub line_said : (s : Scenario) (stage next : Stage) (line : List ℕ) (part : PartLine) → IsPartLine s stage line (next, part) → IsSaid s stage next part
+line_said s stage next line part (p, begins, (may, says)) =
+    let h = part_says s p.0 part p.1 (value_read (IsPartOf s p.0 p.1) (HasPartFault s p.0 p.1) (part_line s p.0 p.1) part (part_tells s p.0 p.1) says) in
+    let a = value_read (MayStand s stage p.0) (HasOrderFault s stage p.0) (allowed s stage p.0) next (allowed_tells s stage p.0) may in
+    record { good = h.1; order = subst (λ (w : PartWord). IsAllowed s stage w next) (sym h.0) (allowed_by s stage p.0 next (is_full s p.0) refl a) }

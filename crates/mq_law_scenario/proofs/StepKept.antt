@@ -41,26 +41,11 @@ use Rattle.mq_scn_text.specs.Steps.{step_verb_of, stepped, obey_line, lines_in, 
 use Rattle.mq_scn_text.specs.Reading.{step_room, step_read}
 use Rattle.mq_law_scenario.specs.Texts.{AreSpoken}
 use Rattle.mq_law_scenario.proofs.Each.{Each, each_more, each_all, Apart, apart_all, found_within}
+use Rattle.mq_scn_parts.specs.Steps.{IsStepLine}
+use Rattle.mq_scn_parts.proofs.StepLines.{step_is_read}
 use Rattle.mq_law_scenario.proofs.Said.{fine, same_ok, both_ok, unless, ranged_within, found_place, manager_within}
 
 -- ---- scripts
-
-pub none_of : Unit {0}
-none_of = tt
-
-below_by : (m n : ℕ) (fault : LineFault) (t : Bool) → nat_lt m n ≡ t → cond t (fine none_of) (Err fault) ≡ fine none_of → m < n
-below_by m n fault true e f = grind (arith, nat_tests)
-below_by m n fault false e f = absurd cc
-
-ordered_by : (connected : Bool) (r : Result (Unit {0} × ScriptLine) LineFault) (said : ScriptLine) → ordered connected r ≡ fine said → (line : ScriptLine) × (r ≡ fine (none_of, line))
-ordered_by connected (Ok (done, line)) said e = (line, refl)
-ordered_by connected (Err f) said e = absurd cc
-
-script_room : (left : ℕ) (s : Script) (line : List ℕ) (said : ScriptLine) → script_read left line s ≡ fine said → length s.part.lines < 25000
-unfolding script_read
-script_room left s line said e =
-    let o = ordered_by s.connected (both (room (length s.part.lines)) (script_line left line)) said e in
-    below_by (length s.part.lines) 25000 (faults.Limit limits.ScriptLines) (nat_lt (length s.part.lines) 25000) refl (both_ok (room (length s.part.lines)) (script_line left line) none_of o.0 o.1).0
 
 -- a script's label and manager stay, and its lines are few
 pub record IsScriptOf (label : List ℕ) (manager : ℕ) (t : Script) : Type 0 where
@@ -73,7 +58,7 @@ spoken_kept [] left s behind t label manager (e, f) h = subst (IsScriptOf label 
 spoken_kept (line ∷ lines) left s behind t label manager (inl (e, hs)) h = spoken_kept lines left s behind t label manager hs h
 spoken_kept (line ∷ lines) left s behind t label manager (inr (said, e, hs)) h =
     let more : length (s.part.lines ++ said ∷ []) ≡ length s.part.lines + 1 = length-append s.part.lines (said ∷ []) in
-    spoken_kept lines (left - put_len said) (script_added said s) behind t label manager hs (record { labelled = h.labelled; managed = h.managed; few = omega (arith, more, script_room left s line said e.says) })
+    spoken_kept lines (left - put_len said) (script_added said s) behind t label manager hs (record { labelled = h.labelled; managed = h.managed; few = (let room = e.room in omega (arith, more, room)) })
 
 -- ---- sections and tables
 
@@ -340,8 +325,5 @@ line_kept : (s : Scenario) (line : List ℕ) (step : Step) → step_line s line 
 unfolding step_line
 line_kept s line step e = from_kept s (first_word line) step e
 
-pub step_kept : (s : Scenario) (line : List ℕ) (step : Step) → step_read s line ≡ fine (none_of, step) → (length s.steps < 3000) × Named s step
-unfolding step_read
-step_kept s line step e =
-    let b = both_ok (step_room (length s.steps)) (step_line s line) none_of step e in
-    (below_by (length s.steps) 3000 (faults.Limit limits.Steps) (nat_lt (length s.steps) 3000) refl b.0, line_kept s line step b.1)
+pub step_kept : (s : Scenario) (line : List ℕ) (step : Step) → IsStepLine s line step → Named s step
+step_kept s line step h = line_kept s line step (step_is_read s line step h)

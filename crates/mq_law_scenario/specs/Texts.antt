@@ -1,6 +1,6 @@
 -- What a text of a scenario is: its lines in blocks, one behind the other. A block is a line that says nothing, a part of
 -- one line, or a section, a rules table, a script or the steps with all their lines.
-use Rattle.std.specs.Prelude.{◌≡◌, ◌⊎◌, ℕ, ◌+◌, ◌-◌, ◌≤◌, true, false, List, [], ◌∷◌, ◌++◌, length, codes, Some, Ok}
+use Rattle.std.specs.Prelude.{◌≡◌, ◌⊎◌, ℕ, ◌+◌, ◌-◌, ◌≤◌, true, false, List, [], ◌∷◌, ◌++◌, length, codes, Some, Ok, ◌<◌, ◌&&◌}
 use Rattle.std.specs.List.{flat_map}
 use Rattle.mq_text.specs.Lines.{lines_of}
 use Rattle.mq_history.specs.declared.scenario.Scenario.{Scenario}
@@ -8,8 +8,6 @@ use Rattle.mq_history.specs.declared.scenario.Section.{Section}
 use Rattle.mq_history.specs.declared.scenario.RulesPart.{RulesPart}
 use Rattle.mq_history.specs.declared.scenario.Step.{Step}
 use Rattle.mq_history.specs.declared.scripts.ScriptLine.{ScriptLine}
-use Rattle.mq_scn_lines.specs.Words.{first_word}
-use Rattle.mq_scn_text.specs.declared.parts.PartWord.{PartWord}
 use Rattle.mq_scn_text.specs.declared.parts.Stage.{Stage}
 use Rattle.mq_scn_text.specs.declared.parts.Stage.TheVariants as stages
 use Rattle.mq_scn_text.specs.declared.heading.PartLine.{PartLine}
@@ -19,11 +17,12 @@ use Rattle.mq_scn_text.specs.declared.scripts.Script.{Script}
 use Rattle.mq_scn_text.specs.declared.reading.Inside.{Inside}
 use Rattle.mq_scn_text.specs.declared.reading.Inside.TheVariants as insides
 use Rattle.mq_scn_text.specs.Lookup.{own_name}
-use Rattle.mq_scn_text.specs.Parts.{part_word_of}
-use Rattle.mq_scn_text.specs.Heading.{part_read}
 use Rattle.mq_scn_text.specs.Sections.{mqsc_ended, rules_ended}
-use Rattle.mq_scn_text.specs.Scripts.{new_script, put_len, script_read, script_added}
-use Rattle.mq_scn_text.specs.Reading.{nothing, is_only, is_skipped, step_read}
+use Rattle.mq_scn_text.specs.Scripts.{new_script, put_len, connects, script_added}
+use Rattle.mq_scn_text.specs.Reading.{nothing, is_only, is_skipped}
+use Rattle.mq_scn_grammar.specs.ScriptLines.{IsScriptLine}
+use Rattle.mq_scn_parts.specs.Heading.{IsPartLine}
+use Rattle.mq_scn_parts.specs.Steps.{IsStepLine}
 
 -- what blocks have said: how far the parts have come, the bytes left of the limit of all bodies, the scenario so far
 pub record Said : Type 0 where
@@ -38,13 +37,8 @@ nothing_said = record { stage = stages.Start; left = 67108864; scenario = nothin
 
 -- a line with which a part begins, what it says, and the stage behind it
 pub record Begins (before : Said) (line : List ℕ) (stage : Stage) (part : PartLine) : Type 0 where
-  pub first : List ℕ
-  pub rest : List ℕ
-  pub word : PartWord
   pub unskipped : is_skipped line ≡ false
-  pub parted : first_word line ≡ Some (first, rest)
-  pub begins : part_word_of first ≡ Some word
-  pub says : part_read before.scenario before.stage word rest ≡ Ok (stage, part)
+  pub says : IsPartLine before.scenario before.stage line (stage, part)
 
 -- what a part of one line adds to the scenario
 abbrev pub Adds : PartLine → (before after : Scenario) → Type 0
@@ -102,18 +96,20 @@ pub record IsOpenTable (n : ℕ) (before : Said) (lines : List (List ℕ)) (o : 
   pub opens : o ≡ record { label = label; manager = manager; first = n + 1; text = text_of inner }
   pub is : now ≡ record { stage = stage; left = before.left; scenario = before.scenario }
 
--- a line of a script that says this
-pub record IsScriptLine (left : ℕ) (s : Script) (line : List ℕ) (said : ScriptLine) : Type 0 where
+-- the next line of a script: there is room for it, and an MQCONN stands only where the one before it has an MQDISC behind it
+pub record IsNextLine (left : ℕ) (s : Script) (line : List ℕ) (said : ScriptLine) : Type 0 where
   pub unskipped : is_skipped line ≡ false
   pub unended : is_only (codes "ENDSCRIPT") line ≡ false
-  pub says : script_read left line s ≡ Ok said
+  pub room : length s.part.lines < 25000
+  pub says : IsScriptLine left said line
+  pub order : (s.connected && connects said) ≡ false
 
 -- the lines of a script, behind others
 abbrev pub AreSpoken : (left : ℕ) → Script → List (List ℕ) → (left_behind : ℕ) → Script → Type 0
 AreSpoken left s [] left_behind t = (left_behind ≡ left) × (t ≡ s)
 AreSpoken left s (line ∷ lines) left_behind t =
     ((is_skipped line ≡ true) × AreSpoken left s lines left_behind t)
-    ⊎ ((said : ScriptLine) × IsScriptLine left s line said × AreSpoken (left - put_len said) (script_added said s) lines left_behind t)
+    ⊎ ((said : ScriptLine) × IsNextLine left s line said × AreSpoken (left - put_len said) (script_added said s) lines left_behind t)
 
 -- a script up to its end
 pub record IsOpenScript (before : Said) (lines : List (List ℕ)) (s : Script) (now : Said) : Type 0 where
@@ -128,18 +124,19 @@ pub record IsOpenScript (before : Said) (lines : List (List ℕ)) (s : Script) (
   pub says : AreSpoken before.left (new_script label manager) inner left s
   pub is : now ≡ record { stage = stage; left = left; scenario = before.scenario }
 
--- a line that is this step
-pub record IsStepLine (s : Scenario) (line : List ℕ) (step : Step) : Type 0 where
+-- the next step, where there is room for it
+pub record IsNextStep (s : Scenario) (line : List ℕ) (step : Step) : Type 0 where
   pub unskipped : is_skipped line ≡ false
   pub unended : is_only (codes "ENDSTEPS") line ≡ false
-  pub says : step_read s line ≡ Ok (tt, step)
+  pub room : length s.steps < 3000
+  pub says : IsStepLine s line step
 
 -- steps behind others
 abbrev pub AreStepped : Scenario → List (List ℕ) → Scenario → Type 0
 AreStepped s [] t = t ≡ s
 AreStepped s (line ∷ lines) t =
     ((is_skipped line ≡ true) × AreStepped s lines t)
-    ⊎ ((step : Step) × IsStepLine s line step × AreStepped (record s { steps = s.steps ++ step ∷ [] }) lines t)
+    ⊎ ((step : Step) × IsNextStep s line step × AreStepped (record s { steps = s.steps ++ step ∷ [] }) lines t)
 
 -- the steps up to their end
 pub record AreOpenSteps (before : Said) (lines : List (List ℕ)) (now : Said) : Type 0 where

@@ -4,6 +4,7 @@ pub mod Cables
 pub mod CableLists
 pub mod Heading
 pub mod PartLines
+pub mod Pairs
 pub mod Phases
 pub mod Steps
 pub mod StepLines

@@ -1,9 +1,8 @@
 -- A step, whole, both ways.
 use Rattle.std.proofs.Common.{◌≡◌, ◌⊎◌, ℕ, ◌≤◌, ◌<◌, Bool, true, false, cond, List, [], ◌∷◌, ◌++◌, Result, Ok, Err, refl, sym, ap, subst, ◌∙◌, arith, inl, inr}
-use Rattle.std.specs.Prelude.{find, nat_le, Option, Some, None}
+use Rattle.std.specs.Prelude.{find, Option, Some, None}
 use Rattle.std.specs.List.{list_all}
 use Rattle.std.specs.Str.{bytes_eq}
-use Rattle.std.proofs.lemmas.Bool.Decides.{leb_tells}
 use Rattle.std.proofs.lemmas.Slice.Eq.{bytes_eq-Decides}
 use Rattle.mq_sc_parse.specs.declared.command.Command.{Command}
 use Rattle.mq_history.specs.declared.scenario.Scenario.{Scenario}
@@ -20,12 +19,13 @@ use Rattle.mq_scn_text.specs.Lookup.{manager_at}
 use Rattle.mq_scn_text.specs.Steps.{step_verbs, step_text, step_verb_of, stepped, done_by, do_line, step_of, words_read, verb_read, step_from, step_line}
 use Rattle.mq_scn_grammar.specs.Words.{AreWords, IsWord}
 use Rattle.mq_scn_grammar.specs.Faults.{IsTold}
-use Rattle.mq_scn_grammar.proofs.Told.{Reports, IsFirst, is_plain, one_of_rank}
+use Rattle.mq_scn_grammar.proofs.Told.{Reports}
 use Rattle.mq_scn_grammar.proofs.Words.{words_read as read_words, words_found}
 use Rattle.mq_scn_grammar.proofs.Script.{Answers, answers_as, answer_found, answer_read, refusal_found, refusal_read, either_answer, some_front, is_letter, first_found, first_read, some_letters, front_same}
 use Rattle.mq_scn_parts.specs.Declared.{manager_names, NamesPlace, HasNameFault}
 use Rattle.mq_scn_parts.specs.Steps.{IsStepOf, HasStepOfFault, IsDo, IsDone, HasDoFault, AreStepWords, IsStepLine, HasStepFault, IsStepFault}
 use Rattle.mq_scn_parts.proofs.Declared.{manager_tells}
+use Rattle.mq_scn_parts.proofs.Pairs.{answers_both}
 use Rattle.mq_scn_parts.proofs.Steps.{words_tell}
 
 abbrev ok_at : {A : Type 0} → A → Result A LineFault
@@ -64,67 +64,18 @@ module _ (s : Scenario) (word text : List ℕ) where
   abbrev Either : LineFault → Type 0
   Either f = NoName f ⊎ (command_in text ≡ err_command f)
 
-  plain_above : (f g : LineFault) → is_plain f ≡ true → is_plain g ≡ true → rank f ≤ rank g → (g ≡ f) ⊎ (rank f < rank g)
-  plain_above f g p q le = elim (leb_tells (rank g) (rank f)) [
-    | inl t ↦ inl (one_of_rank g f q p (let one = t.1 in omega (arith, one, le)))
-    | inr t ↦ inr t.1
-  ]
-
-  -- a fault of a name stands before all faults of a command but those of the same rank, which are it
-  above : (f g : LineFault) → is_plain f ≡ true → rank f < 20 → rank f ≤ rank g → (g ≡ f) ⊎ (rank f < rank g)
-  above f faults.NoMemory p lt le = plain_above f faults.NoMemory p refl le
-  above f faults.Form p lt le = plain_above f faults.Form p refl le
-  above f (faults.Limit l) p lt le = plain_above f (faults.Limit l) p refl le
-  above f faults.Name p lt le = plain_above f faults.Name p refl le
-  above f faults.Unknown p lt le = plain_above f faults.Unknown p refl le
-  above f faults.Twice p lt le = plain_above f faults.Twice p refl le
-  above f faults.Number p lt le = plain_above f faults.Number p refl le
-  above f faults.Order p lt le = plain_above f faults.Order p refl le
-  above f (faults.Mqsc m) p lt le = inr lt
-
   name_below : (f : LineFault) → NoName f → rank f < 20
   name_below f (inl h) = let r : rank f ≡ 15 = ap rank h.0 in omega (arith, r)
   name_below f (inr h) = let r : rank f ≡ 16 = ap rank h.2.0 in omega (arith, r)
 
-  both_by : (a : Result ℕ LineFault) (b : Result Command LineFault) → Reports IsName NoName a → command_in text ≡ b → Answers Both Either (both a b)
-  both_by (Ok k) (Ok c) t e =
-      ((t.0, e), (λ q h. ap (λ (j : ℕ). (j, q.1)) (t.1 q.0 h.0) ∙ ap (λ (d : Command). (k, d)) (command_same q.1 c (sym h.1 ∙ e))), λ f h. never f h)
-    where
-      never : (f : LineFault) → Either f → ⊥
-      never f (inl h) = t.2 f h
-      never f (inr h) = ok_never c f (sym h ∙ e)
-  both_by (Ok k) (Err g) t e = ((λ q h. ok_never q.1 g (sym e ∙ h.1)), inr e, λ f h. first f h)
-    where
-      first : (f : LineFault) → Either f → (f ≡ g) ⊎ (rank g < rank f)
-      first f (inl h) = absurd (t.2 f h)
-      first f (inr h) = inl (err_same f g (sym h ∙ e))
-  both_by (Err f) (Ok c) t e = ((λ q h. t.0 q.0 h.0), inl t.1, λ g h. first g h)
-    where
-      first : (g : LineFault) → Either g → (g ≡ f) ⊎ (rank f < rank g)
-      first g (inl h) = t.3 g h
-      first g (inr h) = absurd (ok_never c g (sym h ∙ e))
-  both_by (Err f) (Err g) t e = by (nat_le (rank f) (rank g)) (leb_tells (rank f) (rank g))
-    where
-      same_rank : (h : LineFault) → (h ≡ f) ⊎ (rank f < rank h) → rank f ≤ rank h
-      same_rank h (inl k) = let r : rank h ≡ rank f = ap rank k in omega (arith, r)
-      same_rank h (inr lt) = omega (arith, lt)
-
-      by : (u : Bool) → ((u ≡ true) × (rank f ≤ rank g)) ⊎ ((u ≡ false) × (rank g < rank f)) → Answers Both Either (Err (cond u f g))
-      by true (inl p) = ((λ q h. t.0 q.0 h.0), inl t.1, λ h k. first h k)
-        where
-          first : (h : LineFault) → Either h → (h ≡ f) ⊎ (rank f < rank h)
-          first h (inl k) = t.3 h k
-          first h (inr k) = subst (λ (x : LineFault). (x ≡ f) ⊎ (rank f < rank x)) (err_same g h (sym e ∙ k)) (above f g t.2 (name_below f t.1) p.1)
-      by true (inr p) = absurd (let c = p.0 in cc)
-      by false (inl p) = absurd (let c = p.0 in cc)
-      by false (inr p) = ((λ q h. t.0 q.0 h.0), inr e, λ h k. first h k)
-        where
-          first : (h : LineFault) → Either h → (h ≡ g) ⊎ (rank g < rank h)
-          first h (inl k) = inr (let le = same_rank h (t.3 h k) in let lt = p.1 in omega (arith, le, lt))
-          first h (inr k) = inl (err_same h g (sym k ∙ e))
+  command_by : (b : Result Command LineFault) → command_in text ≡ b → Answers (λ c. command_in text ≡ ok_command c) (λ f. command_in text ≡ err_command f) b
+  command_by (Ok c) e = (e, (λ d h. command_same d c (sym h ∙ e)), λ f h. ok_never c f (sym h ∙ e))
+  command_by (Err g) e = ((λ d h. ok_never d g (sym e ∙ h)), e, λ f h. inl (err_same f g (sym h ∙ e)))
 
   pub both_tell : Answers Both Either (both (manager_at s.managers word) (command_in text))
-  both_tell = both_by (manager_at s.managers word) (command_in text) (manager_tells s.managers word) refl
+  both_tell =
+      answers_both IsName NoName (λ c. command_in text ≡ ok_command c) (λ f. command_in text ≡ err_command f) name_below (manager_at s.managers word) (command_in text) (manager_tells s.managers word)
+      (command_by (command_in text) refl)
 
 -- ---- DO
 
