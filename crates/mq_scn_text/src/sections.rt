@@ -234,11 +234,7 @@ fn goes_on_from(alloc: Global, joined: &Joined) -> Result<Option<usize>, Scenari
 }
 
 /// The fault of a text, unless it is in a line that goes on where the text ends, from this line of the section on.
-fn before_last(
-    first: u32,
-    last: Option<usize>,
-    fault: ScenarioFault,
-) -> Result<(), ScenarioFault>
+fn before_last(first: u32, last: Option<usize>, fault: ScenarioFault) -> Result<(), ScenarioFault>
     ensures { result ≡ before_last first last fault }
 {
     match last {

@@ -15,9 +15,15 @@ const HEADINGS: [(&str, &str); 14] = [
     ("MOMENT 0\n", "line 4: Order"),
     ("CABLE A.B LONDON LONDON\n", "line 4: Twice"),
     ("CABLE A.B LONDON ROME\n", "line 4: Unknown"),
-    ("CABLE A.B LONDON PARIS\nCABLE A.B PARIS LONDON\n", "line 5: Twice"),
+    (
+        "CABLE A.B LONDON PARIS\nCABLE A.B PARIS LONDON\n",
+        "line 5: Twice",
+    ),
     ("CABLE A.B LONDON PARIS OUT LATE(2,2)\n", "line 4: Number"),
-    ("CABLE A.B LONDON PARIS OUT DROP(2) SPOIL(2)\n", "line 4: Twice"),
+    (
+        "CABLE A.B LONDON PARIS OUT DROP(2) SPOIL(2)\n",
+        "line 4: Twice",
+    ),
     ("CABLE A.B LONDON PARIS BACK\n", "line 4: Form"),
     ("MQSC NINELETTE LONDON\n", "line 4: Name"),
     ("MQSC D1 ROME\n", "line 4: Unknown"),
@@ -27,13 +33,28 @@ const HEADINGS: [(&str, &str); 14] = [
 
 const SECTIONS: [(&str, &str); 13] = [
     ("MQSC D1 LONDON\nENDMQSC\nRULES d1 PARIS\n", "line 6: Twice"),
-    ("MQSC D1 LONDON\n\nDEFINE QLOCL(Q1)\n", "line 6: Mqsc UnknownObject"),
-    ("MQSC D1 LONDON\nDEFINE QLOCAL('Q1\nENDMQSC\n", "line 5: Mqsc OpenQuote"),
-    ("MQSC D1 LONDON\nDEFINE QLOCAL('Q1", "line 5: Mqsc OpenQuote"),
-    ("MQSC D1 LONDON\nDEFINE QLOCAL(Q1) +\nENDMQSC\n", "line 6: Mqsc OpenContinuation"),
+    (
+        "MQSC D1 LONDON\n\nDEFINE QLOCL(Q1)\n",
+        "line 6: Mqsc UnknownObject",
+    ),
+    (
+        "MQSC D1 LONDON\nDEFINE QLOCAL('Q1\nENDMQSC\n",
+        "line 5: Mqsc OpenQuote",
+    ),
+    (
+        "MQSC D1 LONDON\nDEFINE QLOCAL('Q1",
+        "line 5: Mqsc OpenQuote",
+    ),
+    (
+        "MQSC D1 LONDON\nDEFINE QLOCAL(Q1) +\nENDMQSC\n",
+        "line 6: Mqsc OpenContinuation",
+    ),
     ("MQSC D1 LONDON\nDEFINE QLOCAL( +\n", "line 6: Ending"),
     ("MQSC D1 LONDON\n", "line 5: Ending"),
-    ("RULES R1 LONDON\nDESTQ(A)\nENDRULES\n", "line 5: Rules NoAction"),
+    (
+        "RULES R1 LONDON\nDESTQ(A)\nENDRULES\n",
+        "line 5: Rules NoAction",
+    ),
     ("RULES R1 LONDON\nDESTQ(A) +\n", "line 6: Ending"),
     ("SCRIPT A LONDON\nMQCONN\nMQCONN\n", "line 6: Order"),
     ("SCRIPT A LONDON\nMQOPEN H1 QUEUE(a?)\n", "line 5: Name"),
@@ -46,9 +67,15 @@ const STEPS: [(&str, &str); 13] = [
     ("STEPS\nPUMP 0\n", "line 5: Limit Turns"),
     ("STEPS\nPUMP +1\n", "line 5: Form"),
     ("STEPS\nCUT LONDON 1001\n", "line 5: Number"),
-    ("STEPS\nCLOCK 1234567890123456789012345678901234567890\n", "line 5: Limit Clock"),
+    (
+        "STEPS\nCLOCK 1234567890123456789012345678901234567890\n",
+        "line 5: Limit Clock",
+    ),
     ("STEPS\nPHASE A\n", "line 5: Form"),
-    ("STEPS\nDO LONDON DEFINE QLOCL(A)\n", "line 5: Mqsc UnknownObject"),
+    (
+        "STEPS\nDO LONDON DEFINE QLOCL(A)\n",
+        "line 5: Mqsc UnknownObject",
+    ),
     ("STEPS\nDO ROME START CHANNEL(A.B)\n", "line 5: Unknown"),
     ("STEPS\nOBEY \u{c9}\n", "line 5: Name"),
     ("STEPS\nENDSTEPS\r\n", "line 5: Form"),
@@ -110,6 +137,9 @@ fn a_line_behind_forty_thousand_is_too_many(rt: HostRuntime) -> Result<(), Fail>
     for _ in 0..40_001 {
         text.push(b'\n')?;
     }
-    assert_eq!(rt; told(rt.alloc(), text.as_slice())?.as_str(), "line 40001: Limit Lines");
+    assert_eq!(rt;
+        told(rt.alloc(), text.as_slice())?.as_str(),
+        "line 40001: Limit Lines"
+    );
     Ok(())
 }

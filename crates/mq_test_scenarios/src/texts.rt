@@ -76,33 +76,41 @@ fn lines_of_scripts_are_read(rt: HostRuntime) -> Result<(), Fail> {
         return Err(Fail::new("two scripts"));
     };
     assert_eq!(rt; b.lines.len(), 0);
-    assert!(rt; matches!(
-        a.lines.as_slice(),
-        [ScriptLine::Mqconn(_), ScriptLine::Mqput1 { .. }, ScriptLine::Mqdisc]
-    ));
+    assert!(rt;
+        matches!(
+            a.lines.as_slice(),
+            [
+                ScriptLine::Mqconn(_),
+                ScriptLine::Mqput1 { .. },
+                ScriptLine::Mqdisc
+            ]
+        )
+    );
     Ok(())
 }
 
 #[test]
 fn every_step_is_read(rt: HostRuntime) -> Result<(), Fail> {
     let scenario = read_scenario(rt.alloc(), TEXT.as_bytes())?;
-    assert!(rt; matches!(
-        scenario.steps.as_slice(),
-        [
-            Step::Obey(0),
-            Step::Run(0, Some(1)),
-            Step::Run(0, None),
-            Step::Phase(_),
-            Step::Pump(100),
-            Step::Handle(0, 5),
-            Step::Watch(0),
-            Step::Serve(0, 2),
-            Step::Do(0, _),
-            Step::Cut(1, 3),
-            Step::Crash(0),
-            Step::Restart(0),
-            Step::Clock(0)
-        ]
-    ));
+    assert!(rt;
+        matches!(
+            scenario.steps.as_slice(),
+            [
+                Step::Obey(0),
+                Step::Run(0, Some(1)),
+                Step::Run(0, None),
+                Step::Phase(_),
+                Step::Pump(100),
+                Step::Handle(0, 5),
+                Step::Watch(0),
+                Step::Serve(0, 2),
+                Step::Do(0, _),
+                Step::Cut(1, 3),
+                Step::Crash(0),
+                Step::Restart(0),
+                Step::Clock(0)
+            ]
+        )
+    );
     Ok(())
 }
