@@ -7,10 +7,14 @@ use Rattle.mq_message.specs.declared.place.Holder.{Holder}
 use Rattle.mq_message.specs.declared.place.Holder.TheVariants as holders
 use Rattle.mq_queue.specs.declared.row.Row.{Row}
 use Rattle.mq_objects.specs.declared.object.Object.{Object}
+use Rattle.mq_objects.specs.declared.setting.ChannelType.TheVariants as channel_types
+use Rattle.mq_objects.specs.declared.setting.Setting.TheVariants as settings
+use Rattle.mq_objects.specs.declared.command.Subject.TheVariants as subjects
 use Rattle.mq_objects.specs.Names.{is_object, space_of, name_of}
 use Rattle.mq_spec_state.specs.Images.{Image, Shelf}
 use Rattle.mq_spec_state.specs.Recovery.{IsImage, IsShelf, IsLasting, IsOfDoubt, IsSenderSide, IsReceiverSide}
-use Rattle.mq_spec_node.proofs.Pair.{at_paris, image}
+use Rattle.mq_spec_manager.specs.Commands.{defined_object}
+use Rattle.mq_spec_node.proofs.Pair.{channel, at_paris, image}
 use Rattle.mq_spec_node.proofs.RowsBatches.{message}
 
 abbrev row : Option Holder → Row
@@ -36,8 +40,11 @@ free_shelf = record {
 abbrev Other : Object → Object → Type 0
 Other a b = is_object (space_of a) (name_of a) b ≡ false
 
+two_differ : (a b : Object) → Other a b → AllPairs Other (a ∷ b ∷ [])
+two_differ a b e = AllPairs-cons Other a (b ∷ []) (All-cons (Other a) b [] e (All-nil (Other a))) (λ i j d lt le. absurd (omega (arith, lt, le)))
+
 objects_differ : AllPairs Other at_paris
-objects_differ = AllPairs-cons Other _ _ (All-cons (Other _) _ [] refl (All-nil (Other _))) (λ i j d lt le. absurd (omega (arith, lt, le)))
+objects_differ = two_differ (defined_object (subjects.Local (codes "Q1")) []) (defined_object (subjects.Channel channel) (settings.ChannelType channel_types.Receiver ∷ [])) refl
 
 one_is : IsImage (one None)
 one_is = record {
