@@ -14,7 +14,7 @@ use mq_name::{ChName, QName};
 use mq_objects::ObjectChange;
 use mq_sc_apply::{InUse, Plan, plan};
 use mq_sc_parse::Command;
-use mq_sections::Section;
+use mq_forms::Section;
 use std::alloc::Global;
 
 /// A manager whose objects nothing uses: no handle is open, no channel runs, no queue has a row.

@@ -7,7 +7,7 @@ use mq_base::Items;
 use mq_calls::ScRefusal;
 use mq_name::{Label, QName};
 use mq_objects::{Defs, Object};
-use mq_sections::Section;
+use mq_forms::Section;
 use std::alloc::{AllocError, Global};
 
 fn cause_word(cause: ScRefusal) -> &'static str
