@@ -186,5 +186,11 @@ pub fn form_of(alloc: Global, scenario: Scenario) -> Result<Form, Unbuilt>
     } = scenario;
     let manager = only(managers);
     let section = only(sections);
-    made(alloc, manager, section, scripts.as_slice(), steps.as_slice())
+    made(
+        alloc,
+        manager,
+        section,
+        scripts.as_slice(),
+        steps.as_slice(),
+    )
 }

@@ -142,11 +142,7 @@ fn line_in(
 }
 
 #[tactic(auto, unfolding(crate::specs::Scripts::line_at))]
-fn line_at(
-    alloc: Global,
-    place: u64,
-    line: &ScriptLine,
-) -> Result<mq_model::ScriptLine, Unbuilt>
+fn line_at(alloc: Global, place: u64, line: &ScriptLine) -> Result<mq_model::ScriptLine, Unbuilt>
     ensures { Tells result (line_at place line.now) }
 {
     match line_in(alloc, place, line) {
@@ -157,10 +153,7 @@ fn line_at(
 }
 
 /// The lines of a script, or the first that doesn't run yet.
-pub fn lines_of(
-    alloc: Global,
-    lines: &[ScriptLine],
-) -> Result<Items<mq_model::ScriptLine>, Unbuilt>
+pub fn lines_of(alloc: Global, lines: &[ScriptLine]) -> Result<Items<mq_model::ScriptLine>, Unbuilt>
     ensures { Tells result (lines_from [] lines.now) }
 {
     let mut read = Items::new(alloc);

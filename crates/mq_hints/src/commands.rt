@@ -33,7 +33,7 @@ fn command_hint(alloc: Global, text: &[u8], fault: ScFault) -> Result<Hint, Allo
             alloc,
             text,
             span,
-            "a command begins with ALTER, DEFINE, DELETE, DISPLAY, RESET, RESOLVE, START or STOP",
+            "a command begins with ALTER, DEFINE, DELETE, DISPLAY, RESET, RESOLVE, START or STOP; ENDMQSC, alone on its line, ends a section",
         ),
         ScFault::UnknownObject(span) => word_hint(
             alloc,

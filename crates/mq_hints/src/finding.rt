@@ -61,6 +61,7 @@ fn has_form(slot: Slot, word: &[u8]) -> bool {
         | Slot::Channel
         | Slot::Scripts => !has_bracket(word),
         Slot::Queue => bracketed(word, b"QUEUE(").is_some(),
+        Slot::Target => { bracketed(word, b"QUEUE(").is_some() || word == b"TOREPLY".as_slice() }
         Slot::MaybeManager => bracketed(word, b"QMGR(").is_some(),
         Slot::MaybeLogMax => bracketed(word, b"LOGMAX(").is_some(),
         Slot::Body => bracketed(word, b"TEXT(").is_some() || bracketed(word, b"FILL(").is_some(),
@@ -82,15 +83,11 @@ fn is_no_name(word: &[u8], keyword: &[u8]) -> bool {
 
 fn is_bad_name(slot: Slot, word: &[u8]) -> bool {
     match slot {
-        Slot::Label
-        | Slot::Section
-        | Slot::Table
-        | Slot::Script
-        | Slot::Monitor
-        | Slot::Scripts => label_in(word).is_err(),
+        Slot::Label | Slot::Section | Slot::Table | Slot::Script | Slot::Monitor | Slot::Scripts =>
+            label_in(word).is_err(),
         Slot::Manager | Slot::Name | Slot::MaybeName => name_in(word).is_err(),
         Slot::Channel => channel_in(word).is_err(),
-        Slot::Queue => is_no_name(word, b"QUEUE("),
+        Slot::Queue | Slot::Target => is_no_name(word, b"QUEUE("),
         Slot::MaybeManager => is_no_name(word, b"QMGR("),
         Slot::End
         | Slot::MaybeLogMax

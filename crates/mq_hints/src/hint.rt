@@ -10,9 +10,7 @@ pub enum Hint {
     #[error("'{0}' can't stand here: {1}")]
     Word(String, &'static str),
     /// What stands for a name or a label and is none.
-    #[error(
-        "'{0}' is no name: a name has 1 to 48 letters, digits and the signs . / _ % (a channel's at most 20), a label 1 to 8 letters and digits"
-    )]
+    #[error("'{0}' is no name: a name has 1 to 48 letters, digits and the signs . / _ % (a channel's at most 20), a label 1 to 8 letters and digits")]
     Name(String),
     /// A name or a label of a part that doesn't stand above.
     #[error("'{0}' is unknown: {1}")]

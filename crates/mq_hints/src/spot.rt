@@ -33,10 +33,7 @@ pub fn spot_of<'a>(
         rest = behind;
         at = at.saturating_add(1);
     }
-    Ok(Some(Spot {
-        reading,
-        line: b"",
-    }))
+    Ok(Some(Spot { reading, line: b"" }))
 }
 
 /// The text behind so many lines.

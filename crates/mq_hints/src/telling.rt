@@ -63,12 +63,7 @@ fn kind_wanted(slot: Slot) -> &'static str {
     }
 }
 
-fn found_hint(
-    alloc: Global,
-    flaw: Flaw,
-    found: &Found,
-    usage: &Usage,
-) -> Result<Hint, AllocError> {
+fn found_hint(alloc: Global, flaw: Flaw, found: &Found, usage: &Usage) -> Result<Hint, AllocError> {
     let word = shown_word(alloc, found.word)?;
     match flaw {
         Flaw::Form => Ok(Hint::Word(word, usage.text)),
@@ -92,12 +87,7 @@ fn usage_hint(
     }
 }
 
-fn words_hint(
-    alloc: Global,
-    spot: &Spot,
-    flaw: Flaw,
-    words: &[&[u8]],
-) -> Result<Hint, AllocError> {
+fn words_hint(alloc: Global, spot: &Spot, flaw: Flaw, words: &[&[u8]]) -> Result<Hint, AllocError> {
     let [verb, rest @ ..] = words else {
         return Ok(Hint::Line(wanted_at(spot)));
     };
@@ -110,9 +100,7 @@ fn words_hint(
 /// A line of words that has the flaw.
 fn line_hint(alloc: Global, spot: &Spot, flaw: Flaw) -> Result<Hint, AllocError> {
     if is_open(spot.line) {
-        return Ok(Hint::Line(
-            "a quote isn't closed; two quotes within a text stand for one",
-        ));
+        return Ok(Hint::Line("a quote isn't closed; two quotes within a text stand for one"));
     }
     let words = words_of(alloc, spot.line)?;
     words_hint(alloc, spot, flaw, words.as_slice())
@@ -145,9 +133,7 @@ fn part_twice_hint(alloc: Global, line: &[u8]) -> Result<Hint, AllocError> {
 /// A line out of its order.
 fn order_hint(alloc: Global, spot: &Spot) -> Result<Hint, AllocError> {
     if matches!(spot.reading.inside, Inside::Script(_)) {
-        return Ok(Hint::Line(
-            "an MQCONN behind another needs an MQDISC between them",
-        ));
+        return Ok(Hint::Line("an MQCONN behind another needs an MQDISC between them"));
     }
     let word = match first_word(spot.line) {
         Some((word, _)) => shown_word(alloc, word)?,
@@ -207,21 +193,11 @@ fn limit_hint(limit: Limit) -> Hint {
     }
 }
 
-fn mqsc_at(
-    alloc: Global,
-    text: &[u8],
-    spot: &Spot,
-    fault: MqscFault,
-) -> Result<Hint, AllocError> {
+fn mqsc_at(alloc: Global, text: &[u8], spot: &Spot, fault: MqscFault) -> Result<Hint, AllocError> {
     mqsc_hint(alloc, commands_at(text, spot), fault)
 }
 
-fn cause_hint(
-    alloc: Global,
-    text: &[u8],
-    spot: &Spot,
-    cause: Cause,
-) -> Result<Hint, AllocError> {
+fn cause_hint(alloc: Global, text: &[u8], spot: &Spot, cause: Cause) -> Result<Hint, AllocError> {
     match cause {
         Cause::Form => line_hint(alloc, spot, Flaw::Form),
         Cause::Name => line_hint(alloc, spot, Flaw::Name),
@@ -270,11 +246,7 @@ fn number_of(fault: ScenarioFault) -> u32 {
 
 /// What is told of a text that is no scenario: the line's number, the cause, a sentence; and then the line itself, as far
 /// as it can be shown.
-pub fn fault_text(
-    alloc: Global,
-    text: &[u8],
-    fault: ScenarioFault,
-) -> Result<String, AllocError> {
+pub fn fault_text(alloc: Global, text: &[u8], fault: ScenarioFault) -> Result<String, AllocError> {
     let Some(spot) = spot_of(alloc, text, number_of(fault))? else {
         return format!(in alloc; "{fault}\n");
     };

@@ -21,6 +21,8 @@ pub enum Slot {
     Channel,
     /// QUEUE(name).
     Queue,
+    /// QUEUE(name) or TOREPLY.
+    Target,
     /// QMGR(name), or nothing.
     MaybeManager,
     /// LOGMAX(n), or nothing.
@@ -147,7 +149,9 @@ pub fn script_usage(word: &[u8]) -> Option<Usage> {
             Slot::End,
         ));
     }
-    if word == b"MQDISC".as_slice() || word == b"MQCMIT".as_slice() || word == b"MQBACK".as_slice()
+    if word == b"MQDISC".as_slice()
+        || word == b"MQCMIT".as_slice()
+        || word == b"MQBACK".as_slice()
     {
         return Some(alone("nothing stands behind MQDISC, MQCMIT and MQBACK"));
     }
@@ -185,10 +189,10 @@ fn call_usage(word: &[u8]) -> Option<Usage> {
     if word == b"MQPUT1".as_slice() {
         return Some(written(
             "the line is MQPUT1 QUEUE(name), with QMGR(name) or without, or MQPUT1 TOREPLY; then TEXT('text') or FILL(n,'c'), then options as in MQPUT",
-            Slot::Rest,
-            Slot::End,
-            Slot::End,
-            Slot::End,
+            Slot::Target,
+            Slot::MaybeManager,
+            Slot::Body,
+            Slot::PutOptions,
         ));
     }
     if word == b"MQGET".as_slice() {

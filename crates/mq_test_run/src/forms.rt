@@ -55,7 +55,8 @@ const HEAD: &str = "QMGR LONDON\n";
 
 const DEFINES: &str = "define ql(q1)\nDEFINE QLOCAL('q2')\n";
 
-const SCRIPT: &str = "SCRIPT A LONDON\n  MQCONN\n\n* a comment\nMQOPEN h1 QUEUE(q1) OUTPUT SHARED\nMQPUT H1 TEXT('It''s')\nMQGET H1\nENDSCRIPT\n";
+const SCRIPT: &str =
+    "SCRIPT A LONDON\n  MQCONN\n\n* a comment\nMQOPEN h1 QUEUE(q1) OUTPUT SHARED\nMQPUT H1 TEXT('It''s')\nMQGET H1\nENDSCRIPT\n";
 
 /// How many lines of a script and queues a text runs, or how many commands of a section.
 #[derive(Clone, Copy, Debug, PartialEq, Eq)]
@@ -110,19 +111,96 @@ fn both_forms_run(rt: HostRuntime) -> Result<(), Fail> {
 #[test]
 fn what_does_not_run_is_told_with_its_line(rt: HostRuntime) -> Result<(), Fail> {
     let cases = [
-        ("MOMENT 0\nQMGR LONDON\n", DEFINES, SCRIPT, "OBEY D1\nRUN A\n", 2, Lack::Moment),
-        ("QMGR LONDON\nQMGR PARIS\n", DEFINES, SCRIPT, "OBEY D1\nRUN A\n", 3, Lack::Managers),
-        ("QMGR LONDON LOGMAX(4096)\n", "", "", "OBEY D1\n", 2, Lack::LogMax),
-        (HEAD, "", "MONITOR M LONDON QUEUE(I)\n", "OBEY D1\n", 5, Lack::Monitors),
-        (HEAD, "", "RULES R LONDON\nACTION(RETRY)\nENDRULES\n", "OBEY D1\n", 5, Lack::Rules),
-        (HEAD, "", "MQSC D2 LONDON\nENDMQSC\n", "OBEY D1\n", 5, Lack::Sections),
-        (HEAD, "", "SCRIPT A LONDON\nENDSCRIPT\nSCRIPT B LONDON\nENDSCRIPT\n", "OBEY D1\n", 7, Lack::Scripts),
-        (HEAD, "DEFINE QLOCAL(A)\nDEFINE QLOCAL(a)\n", SCRIPT, "OBEY D1\nRUN A\n", 3, Lack::Commands),
-        (HEAD, "", "SCRIPT A LONDON\nMQCONN\nMQDISC\nENDSCRIPT\n", "OBEY D1\nRUN A\n", 7, Lack::Line(1)),
-        (HEAD, "", "SCRIPT A LONDON\nMQCONN\n\nENDSCRIPT\n", "OBEY D1\nRUN A\n", 8, Lack::Line(1)),
+        (
+            "MOMENT 0\nQMGR LONDON\n",
+            DEFINES,
+            SCRIPT,
+            "OBEY D1\nRUN A\n",
+            2,
+            Lack::Moment,
+        ),
+        (
+            "QMGR LONDON\nQMGR PARIS\n",
+            DEFINES,
+            SCRIPT,
+            "OBEY D1\nRUN A\n",
+            3,
+            Lack::Managers,
+        ),
+        (
+            "QMGR LONDON LOGMAX(4096)\n",
+            "",
+            "",
+            "OBEY D1\n",
+            2,
+            Lack::LogMax,
+        ),
+        (
+            HEAD,
+            "",
+            "MONITOR M LONDON QUEUE(I)\n",
+            "OBEY D1\n",
+            5,
+            Lack::Monitors,
+        ),
+        (
+            HEAD,
+            "",
+            "RULES R LONDON\nACTION(RETRY)\nENDRULES\n",
+            "OBEY D1\n",
+            5,
+            Lack::Rules,
+        ),
+        (
+            HEAD,
+            "",
+            "MQSC D2 LONDON\nENDMQSC\n",
+            "OBEY D1\n",
+            5,
+            Lack::Sections,
+        ),
+        (
+            HEAD,
+            "",
+            "SCRIPT A LONDON\nENDSCRIPT\nSCRIPT B LONDON\nENDSCRIPT\n",
+            "OBEY D1\n",
+            7,
+            Lack::Scripts,
+        ),
+        (
+            HEAD,
+            "DEFINE QLOCAL(A)\nDEFINE QLOCAL(a)\n",
+            SCRIPT,
+            "OBEY D1\nRUN A\n",
+            3,
+            Lack::Commands,
+        ),
+        (
+            HEAD,
+            "",
+            "SCRIPT A LONDON\nMQCONN\nMQDISC\nENDSCRIPT\n",
+            "OBEY D1\nRUN A\n",
+            7,
+            Lack::Line(1),
+        ),
+        (
+            HEAD,
+            "",
+            "SCRIPT A LONDON\nMQCONN\n\nENDSCRIPT\n",
+            "OBEY D1\nRUN A\n",
+            8,
+            Lack::Line(1),
+        ),
         (HEAD, "", "", "OBEY D1\nOBEY D1\n", 7, Lack::Step(1)),
         (HEAD, "", "", "", 6, Lack::Step(0)),
-        (HEAD, DEFINES, SCRIPT, "OBEY D1\nRUN A 1\n", 17, Lack::Step(1)),
+        (
+            HEAD,
+            DEFINES,
+            SCRIPT,
+            "OBEY D1\nRUN A 1\n",
+            17,
+            Lack::Step(1),
+        ),
     ];
     for (head, commands, script, steps, line, lack) in cases {
         let text = text_of(rt.alloc(), head, commands, script, steps)?;

@@ -126,7 +126,7 @@ fn run_script<K: Sink>(
         Err(_) => Ended {
             status: Status::NoMemory,
             network: Some(Network::Script(ScriptRun { scenario, node })),
-                told: None,
+            told: None,
         },
         Ok(()) => {
             let status = write_report(alloc, &scenario, &node, sink);
@@ -169,7 +169,7 @@ fn run_section<K: Sink>(alloc: Global, section: Section, start: u64, sink: &mut 
         Err(_) => Ended {
             status: Status::NoMemory,
             network: Some(Network::Section(SectionRun { section, node })),
-                told: None,
+            told: None,
         },
         Ok(()) => {
             let status = write_answers(alloc, &section, &node, sink);
