@@ -1,6 +1,6 @@
 -- From the parts of a call to its end.
 use Rattle.std.proofs.Common.{◌≡◌, ℕ, ◌≤◌, ◌<◌, ◌∙◌, get_or, map, List, [], ◌∷◌, length, refl, sym, inl, inr, ap, arith, subst, length-append}
-use Rattle.std.specs.Prelude.{Option, Some, None, Result, Ok, Err}
+use Rattle.std.specs.Prelude.{◌⊎◌, Option, Some, None, Ok, Err}
 use Rattle.std.specs.Io.KnownBytes.{Keeps}
 use Rattle.mq_base.specs.Outside.{Rose, Told, IsLonger}
 use Rattle.mq_model.specs.declared.calls.Entry.{Entry}
@@ -106,7 +106,7 @@ refused_bytes left b n task (status.NotBuilt line lack) h = absurd h
 
 pub refused_text : (left : Option (List ℕ)) (b n : ℕ) (task : Task) (bytes : List ℕ) (st : Status) → WasRead left bytes → RefusesWork task bytes st → RefusesRead left b n task st
 refused_text left b n task bytes (status.BadScenario line cause) r h = record { bytes = bytes; read = r; fault = h.0; text = h.1; told = h.2 }
-refused_text left b n task bytes (status.NotBuilt line lack) r h = (h.0, record { bytes = bytes; read = r; scenario = h.1; text = h.2.0; form = h.2.1; place = h.2.2 })
+refused_text left b n task bytes (status.NotBuilt line lack) r h = (h.0, record { bytes = bytes; read = r; scenario = h.1; text = h.2; form = h.3; place = h.4 })
 refused_text left b n task bytes status.NoMemory r h = tt
 refused_text left b n task bytes status.ReadFault r h = absurd h
 refused_text left b n task bytes status.TooLong r h = absurd h

@@ -1,4 +1,4 @@
-use Rattle.std.proofs.Common.{arith}
+use Rattle.std.proofs.Common.{◌∙◌, arith}
 use Rattle.std.specs.String.{string_bytes}
 use Rattle.mqnet.proofs.Ending.{one_word}
 use Rattle.mqnet.proofs.top.task_of.Goals as goal
