@@ -254,12 +254,12 @@ shape_text_found value word shape (Ok text) e h is =
     text_value : (value text : List ℕ) → text_in value ≡ Ok text → value ≡ quoted text
     text_value value text e = value_found (TextsOf value) (IsMissed faults.Form (TextsOf value)) (text_in value) text (text_tells value) e
 
-abbrev some_cut : List ℕ × List ℕ → Option (List ℕ × List ℕ)
+abbrev pub some_cut : List ℕ × List ℕ → Option (List ℕ × List ℕ)
 some_cut p = Some p
 
-record CutAt (c : ℕ) (bytes : List ℕ) (p : List ℕ × List ℕ) : Type 0 where
-  whole : bytes ≡ p.0 ++ c ∷ p.1
-  none : Mem c p.0 → ⊥
+pub record CutAt (c : ℕ) (bytes : List ℕ) (p : List ℕ × List ℕ) : Type 0 where
+  pub whole : bytes ≡ p.0 ++ c ∷ p.1
+  pub none : Mem c p.0 → ⊥
 
 cut_onto : (c b : ℕ) (bs : List ℕ) (p : List ℕ × List ℕ) (o : Option (List ℕ × List ℕ)) → (b ≡ c → ⊥) → ((q : List ℕ × List ℕ) → o ≡ some_cut q → CutAt c bs q) → onto b o ≡ some_cut p → CutAt c (b ∷ bs) p
 cut_onto c b bs p None ne more e = absurd cc
@@ -273,7 +273,7 @@ cut_onto c b bs p (Some q) ne more e =
     first (inl h) never = ne (sym h)
     first (inr h) never = never h
 
-cut_found : (c : ℕ) (bytes : List ℕ) (p : List ℕ × List ℕ) → cut c bytes ≡ some_cut p → CutAt c bytes p
+pub cut_found : (c : ℕ) (bytes : List ℕ) (p : List ℕ × List ℕ) → cut c bytes ≡ some_cut p → CutAt c bytes p
 cut_found c [] p e = absurd cc
 cut_found c (b ∷ bs) p e = by (eqb_tells b c) (λ q f. cut_found c bs q f)
   where
@@ -284,7 +284,7 @@ cut_found c (b ∷ bs) p e = by (eqb_tells b c) (λ q f. cut_found c bs q f)
         subst (CutAt c (b ∷ bs)) same (record { whole = ap (λ (x : ℕ). x ∷ bs) t.1; none = λ m. m })
     by (inr t) more = cut_onto c b bs p (cut c bs) t.1 more (sym (ap (λ (u : Bool). cond u (some_cut ([], bs)) (onto b (cut c bs))) t.0) ∙ e)
 
-cut_read : (c : ℕ) (front rest : List ℕ) → (Mem c front → ⊥) → cut c (front ++ c ∷ rest) ≡ some_cut (front, rest)
+pub cut_read : (c : ℕ) (front rest : List ℕ) → (Mem c front → ⊥) → cut c (front ++ c ∷ rest) ≡ some_cut (front, rest)
 cut_read c [] rest never = elim (eqb_tells c c) [
   | inl t ↦ ap (λ (u : Bool). cond u (some_cut ([], rest)) (onto c (cut c rest))) t.0
   | inr t ↦ absurd (t.1 refl)

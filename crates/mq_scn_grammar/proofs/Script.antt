@@ -69,10 +69,10 @@ module _ {A : Type 0} (Is : A → Type 0) (Has : LineFault → Type 0) where
 
 -- ---- answers that differ
 
-abbrev some_front : List ℕ × List ℕ → Option (List ℕ × List ℕ)
+abbrev pub some_front : List ℕ × List ℕ → Option (List ℕ × List ℕ)
 some_front p = Some p
 
-abbrev no_front : Option (List ℕ × List ℕ)
+abbrev pub no_front : Option (List ℕ × List ℕ)
 no_front = None
 
 abbrev none_verb : Option ScriptVerb
@@ -101,7 +101,7 @@ no_front_never p e = absurd cc
 abbrev pair : List ℕ → List ℕ → List ℕ × List ℕ
 pair v r = (v, r)
 
-front_same : (v w r s : List ℕ) → some_front (v, r) ≡ some_front (w, s) → (v ≡ w) × (r ≡ s)
+pub front_same : (v w r s : List ℕ) → some_front (v, r) ≡ some_front (w, s) → (v ≡ w) × (r ≡ s)
 front_same v w r s e = let same : pair v r ≡ pair w s = cc in (ap (λ (p : List ℕ × List ℕ). p.0) same, ap (λ (p : List ℕ × List ℕ). p.1) same)
 
 rest_by : (quoted : Bool) (b : ℕ) (bs : List ℕ) → BeginsBlank (drop (word_len (toggled quoted b) bs) bs) → (t : Bool) → (eqb b 32 && not quoted) ≡ t → BeginsBlank (drop (cond t 0 (1 + word_len (toggled quoted b) bs)) (b ∷ bs))
@@ -117,11 +117,11 @@ rest_begins : (quoted : Bool) (bytes : List ℕ) → BeginsBlank (drop (word_len
 rest_begins quoted [] = tt
 rest_begins quoted (b ∷ bs) = rest_by quoted b bs (rest_begins (toggled quoted b) bs) (eqb b 32 && not quoted) refl
 
-record FrontAt (text w rest : List ℕ) : Type 0 where
-  blanks : List ℕ
-  whole : text ≡ blanks ++ (w ++ rest)
-  are : AreBlanks blanks
-  begins : BeginsBlank rest
+pub record FrontAt (text w rest : List ℕ) : Type 0 where
+  pub blanks : List ℕ
+  pub whole : text ≡ blanks ++ (w ++ rest)
+  pub are : AreBlanks blanks
+  pub begins : BeginsBlank rest
 
 front_by : (b : ℕ) (bs w rest : List ℕ) → ((eqb b 32 ≡ true) × (b ≡ 32)) ⊎ ((eqb b 32 ≡ false) × (b ≡ 32 → ⊥)) → (first_word bs ≡ some_front (w, rest) → FrontAt bs w rest) → first_word (b ∷ bs) ≡ some_front (w, rest) → FrontAt (b ∷ bs) w rest
 front_by b bs w rest (inl p) more e =
@@ -141,7 +141,7 @@ front_by b bs w rest (inr p) more e =
       begins = subst BeginsBlank back (rest_begins false (b ∷ bs));
     }
 
-first_found : (text w rest : List ℕ) → first_word text ≡ some_front (w, rest) → FrontAt text w rest
+pub first_found : (text w rest : List ℕ) → first_word text ≡ some_front (w, rest) → FrontAt text w rest
 first_found [] w rest e = absurd cc
 first_found (b ∷ bs) w rest e = front_by b bs w rest (eqb_tells b 32) (λ f. first_found bs w rest f) e
 
@@ -166,12 +166,12 @@ past_blanks : (blanks text : List ℕ) → AreBlanks blanks → first_word (blan
 past_blanks [] text h = refl
 past_blanks (b ∷ bs) text h = ap (λ (c : ℕ). first_word (c ∷ (bs ++ text))) h.0 ∙ past_blanks bs text h.1
 
-first_read : (text blanks w rest : List ℕ) → text ≡ blanks ++ (w ++ rest) → AreBlanks blanks → IsWord w → BeginsBlank rest → first_word text ≡ some_front (w, rest)
+pub first_read : (text blanks w rest : List ℕ) → text ≡ blanks ++ (w ++ rest) → AreBlanks blanks → IsWord w → BeginsBlank rest → first_word text ≡ some_front (w, rest)
 first_read text blanks w rest e are is begins = ap first_word e ∙ past_blanks blanks (w ++ rest) are ∙ at_word w rest (word_at w rest is begins)
 
 -- ---- verbs
 
-abbrev is_letter : ℕ → Bool
+abbrev pub is_letter : ℕ → Bool
 is_letter b = not (eqb b 32) && not (eqb b 39)
 
 not_eq : (b c : ℕ) → not (eqb b c) ≡ true → b ≡ c → ⊥
@@ -195,7 +195,7 @@ lettered b bs h =
     let more = letters bs p.1 in
     (b ∷ [], more.0, (bs, refl, inl (b, refl, (λ e. not_eq b 32 q.0 e), λ e. not_eq b 39 q.1 e), more.1))
 
-some_letters : (bytes : List ℕ) → list_all is_letter bytes ≡ true → (bytes ≡ [] → ⊥) → IsWord bytes
+pub some_letters : (bytes : List ℕ) → list_all is_letter bytes ≡ true → (bytes ≡ [] → ⊥) → IsWord bytes
 some_letters [] h ne = absurd (ne refl)
 some_letters (b ∷ bs) h ne = lettered b bs h
 

@@ -59,7 +59,7 @@ fault_of_rank faults.Number p = refl
 fault_of_rank faults.Order p = refl
 fault_of_rank (faults.Mqsc fault) p = absurd cc
 
-one_of_rank : (f g : LineFault) → is_plain f ≡ true → is_plain g ≡ true → rank f ≡ rank g → f ≡ g
+pub one_of_rank : (f g : LineFault) → is_plain f ≡ true → is_plain g ≡ true → rank f ≡ rank g → f ≡ g
 one_of_rank f g p q e = sym (fault_of_rank f p) ∙ ap fault_at e ∙ fault_of_rank g q
 
 -- ---- what is told

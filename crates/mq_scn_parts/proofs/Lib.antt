@@ -1,0 +1,10 @@
+pub mod Then
+pub mod Declared
+pub mod Cables
+pub mod CableLists
+pub mod Heading
+pub mod PartLines
+pub mod Pairs
+pub mod Phases
+pub mod Steps
+pub mod StepLines

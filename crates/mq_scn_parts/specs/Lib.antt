@@ -1,0 +1,4 @@
+pub mod Declared
+pub mod Cables
+pub mod Heading
+pub mod Steps

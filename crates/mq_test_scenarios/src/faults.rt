@@ -1,0 +1,145 @@
+//! Lines that can't stand, each told with its number and its cause.
+
+use mq_scn_text::read_scenario;
+use std::alloc::{AllocError, Global};
+use std::test::*;
+
+/// Two managers, on lines 1 to 3.
+const HEAD: &str = "NETWORK\nQMGR LONDON\nQMGR PARIS\n";
+
+/// What stands behind the heading, and what is told of it.
+const HEADINGS: [(&str, &str); 14] = [
+    ("QMGR LONDON\n", "line 4: Twice"),
+    ("QMGR ROME LOGMAX(4095)\n", "line 4: Limit LogMax"),
+    ("QMGR ROME LOGMAX 4096\n", "line 4: Form"),
+    ("MOMENT 0\n", "line 4: Order"),
+    ("CABLE A.B LONDON LONDON\n", "line 4: Twice"),
+    ("CABLE A.B LONDON ROME\n", "line 4: Unknown"),
+    (
+        "CABLE A.B LONDON PARIS\nCABLE A.B PARIS LONDON\n",
+        "line 5: Twice",
+    ),
+    ("CABLE A.B LONDON PARIS OUT LATE(2,2)\n", "line 4: Number"),
+    (
+        "CABLE A.B LONDON PARIS OUT DROP(2) SPOIL(2)\n",
+        "line 4: Twice",
+    ),
+    ("CABLE A.B LONDON PARIS BACK\n", "line 4: Form"),
+    ("MQSC NINELETTE LONDON\n", "line 4: Name"),
+    ("MQSC D1 ROME\n", "line 4: Unknown"),
+    ("MONITOR M1 LONDON QUEUE('')\n", "line 4: Name"),
+    ("RUN A\n", "line 4: Form"),
+];
+
+const SECTIONS: [(&str, &str); 13] = [
+    ("MQSC D1 LONDON\nENDMQSC\nRULES d1 PARIS\n", "line 6: Twice"),
+    (
+        "MQSC D1 LONDON\n\nDEFINE QLOCL(Q1)\n",
+        "line 6: Mqsc UnknownObject",
+    ),
+    (
+        "MQSC D1 LONDON\nDEFINE QLOCAL('Q1\nENDMQSC\n",
+        "line 5: Mqsc OpenQuote",
+    ),
+    (
+        "MQSC D1 LONDON\nDEFINE QLOCAL('Q1",
+        "line 5: Mqsc OpenQuote",
+    ),
+    (
+        "MQSC D1 LONDON\nDEFINE QLOCAL(Q1) +\nENDMQSC\n",
+        "line 6: Mqsc OpenContinuation",
+    ),
+    ("MQSC D1 LONDON\nDEFINE QLOCAL( +\n", "line 6: Ending"),
+    ("MQSC D1 LONDON\n", "line 5: Ending"),
+    (
+        "RULES R1 LONDON\nDESTQ(A)\nENDRULES\n",
+        "line 5: Rules NoAction",
+    ),
+    ("RULES R1 LONDON\nDESTQ(A) +\n", "line 6: Ending"),
+    ("SCRIPT A LONDON\nMQCONN\nMQCONN\n", "line 6: Order"),
+    ("SCRIPT A LONDON\nMQOPEN H1 QUEUE(a?)\n", "line 5: Name"),
+    ("SCRIPT A LONDON\nPUT H1\n", "line 5: Form"),
+    ("SCRIPT A LONDON\nMQPUT H1 TEXT('open\n", "line 5: Form"),
+];
+
+const STEPS: [(&str, &str); 13] = [
+    ("STEPS\nRUN B\n", "line 5: Unknown"),
+    ("STEPS\nPUMP 0\n", "line 5: Limit Turns"),
+    ("STEPS\nPUMP +1\n", "line 5: Form"),
+    ("STEPS\nCUT LONDON 1001\n", "line 5: Number"),
+    (
+        "STEPS\nCLOCK 1234567890123456789012345678901234567890\n",
+        "line 5: Limit Clock",
+    ),
+    ("STEPS\nPHASE A\n", "line 5: Form"),
+    (
+        "STEPS\nDO LONDON DEFINE QLOCL(A)\n",
+        "line 5: Mqsc UnknownObject",
+    ),
+    ("STEPS\nDO ROME START CHANNEL(A.B)\n", "line 5: Unknown"),
+    ("STEPS\nOBEY \u{c9}\n", "line 5: Name"),
+    ("STEPS\nENDSTEPS\r\n", "line 5: Form"),
+    ("STEPS\nENDSTEPS\nNETWORK\n", "line 6: Order"),
+    ("STEPS\nENDSTEPS\nMORE\n", "line 6: Form"),
+    ("STEPS\nENDSTEPS", "read"),
+];
+
+/// What the reader says of a text.
+fn told(alloc: Global, text: &[u8]) -> Result<String, AllocError> {
+    match read_scenario(alloc, text) {
+        Ok(_) => String::from_str(alloc, "read"),
+        Err(fault) => format!(in alloc; "{fault}"),
+    }
+}
+
+/// The first row of which something else is told.
+fn first_wrong<'a>(
+    alloc: Global,
+    rows: &[(&'a str, &'a str)],
+) -> Result<Option<&'a str>, AllocError> {
+    for (inner, want) in rows {
+        let mut text = String::from_str(alloc, HEAD)?;
+        text.push_str(inner)?;
+        if told(alloc, text.as_bytes())?.as_str() != *want {
+            return Ok(Some(inner));
+        }
+    }
+    Ok(None)
+}
+
+#[test]
+fn a_fault_of_the_heading_is_told_with_its_line(rt: HostRuntime) -> Result<(), Fail> {
+    assert_eq!(rt; first_wrong(rt.alloc(), HEADINGS.as_slice())?, None);
+    Ok(())
+}
+
+#[test]
+fn a_fault_within_a_section_has_the_line_of_the_whole_text(rt: HostRuntime) -> Result<(), Fail> {
+    assert_eq!(rt; first_wrong(rt.alloc(), SECTIONS.as_slice())?, None);
+    Ok(())
+}
+
+#[test]
+fn a_fault_of_a_step_is_told_with_its_line(rt: HostRuntime) -> Result<(), Fail> {
+    assert_eq!(rt; first_wrong(rt.alloc(), STEPS.as_slice())?, None);
+    Ok(())
+}
+
+#[test]
+fn a_text_without_lines_ends_too_early(rt: HostRuntime) -> Result<(), Fail> {
+    assert_eq!(rt; told(rt.alloc(), b"")?.as_str(), "line 1: Ending");
+    Ok(())
+}
+
+#[test]
+fn a_line_behind_forty_thousand_is_too_many(rt: HostRuntime) -> Result<(), Fail> {
+    let mut text = Vec::new(rt.alloc());
+    for _ in 0..40_001 {
+        text.push(b'\n')?;
+    }
+    assert_eq!(rt;
+        told(rt.alloc(), text.as_slice())?.as_str(),
+        "line 40001: Limit Lines"
+    );
+    Ok(())
+}
