@@ -10,7 +10,7 @@ use Rattle.mq_sc_parse.specs.declared.command.Command.TheVariants as commands
 use Rattle.mq_sc_apply.specs.Uses.{nothing_used}
 use Rattle.mq_sc_apply.specs.Commands.{plan, reply, after}
 use Rattle.mq_model.specs.Lawful.{mark_at}
-use Rattle.mq_sections.specs.declared.section.Section.{Section}
+use Rattle.mq_forms.specs.declared.form.Section.{Section}
 use Rattle.mq_obey.specs.declared.events.Refusal.{Refusal}
 use Rattle.mq_obey.specs.declared.events.Refusal.TheVariants as refusals
 use Rattle.mq_obey.specs.declared.events.Event.{Event}

@@ -6,7 +6,7 @@ use Rattle.mq_objects.specs.declared.object.Object.TheVariants as objects
 use Rattle.mq_calls.specs.declared.commands.Shown.{Shown}
 use Rattle.mq_calls.specs.declared.commands.ScRefusal.{ScRefusal}
 use Rattle.mq_calls.specs.declared.commands.ScRefusal.TheVariants as causes
-use Rattle.mq_sections.specs.declared.section.Section.{Section}
+use Rattle.mq_forms.specs.declared.form.Section.{Section}
 use Rattle.mq_obey.specs.declared.events.Refusal.{Refusal}
 use Rattle.mq_obey.specs.declared.events.Refusal.TheVariants as refusals
 use Rattle.mq_obey.specs.declared.events.Event.{Event}

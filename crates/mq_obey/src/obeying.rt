@@ -9,12 +9,12 @@ ghost use Rattle.mq_obey.specs.Obeyed.{is_want, status_reply, event_of, after_co
 use crate::events::{CommandNode, Event, Refusal};
 use mq_base::{Items, NoMemory};
 use mq_calls::{ScRefusal, Shown};
+use mq_forms::Section;
 use mq_model::Mark;
 use mq_name::{ChName, QName};
 use mq_objects::ObjectChange;
 use mq_sc_apply::{InUse, Plan, plan};
 use mq_sc_parse::Command;
-use mq_sections::Section;
 use std::alloc::Global;
 
 /// A manager whose objects nothing uses: no handle is open, no channel runs, no queue has a row.

@@ -5,9 +5,9 @@ ghost use Rattle.mq_obey.specs.Report.{cause_word, refusal_word, shown_line, rep
 use crate::events::{CommandNode, Event, Refusal};
 use mq_base::Items;
 use mq_calls::ScRefusal;
+use mq_forms::Section;
 use mq_name::{Label, QName};
 use mq_objects::{Defs, Object};
-use mq_sections::Section;
 use std::alloc::{AllocError, Global};
 
 fn cause_word(cause: ScRefusal) -> &'static str

@@ -1,7 +1,9 @@
-//! Tests of scenarios that obey a section of commands, a file for each crate.
+//! Tests of scenarios on their way to the engines, a file for each crate.
 #![tactic(auto)]
 
 #[cfg(test)]
-mod obey;
+mod forms;
 #[cfg(test)]
-mod sections;
+mod hints;
+#[cfg(test)]
+mod obey;

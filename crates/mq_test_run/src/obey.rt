@@ -1,5 +1,7 @@
 //! mq_obey: a section obeyed, and its report.
 
+use crate::forms::{Read, outcome_of};
+use mq_forms::Form;
 use mq_obey::{CommandNode, obey, report_bytes};
 use std::test::*;
 
@@ -43,7 +45,9 @@ STATUS 0
 
 #[test]
 fn a_section_is_obeyed_and_reported(rt: HostRuntime) -> Result<(), Fail> {
-    let section = mq_sections::read_section(rt.alloc(), SECTION.as_bytes())?;
+    let Read::Form(Form::Section(section)) = outcome_of(rt.alloc(), SECTION) else {
+        panic!(rt; "the text is no section");
+    };
     let mut node = CommandNode::begin(rt.alloc(), 0);
     assert!(rt; obey(rt.alloc(), &section, &mut node).is_ok());
     let report = report_bytes(rt.alloc(), &section, &node)?;

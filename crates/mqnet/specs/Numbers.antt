@@ -11,3 +11,4 @@ status_number status.ReadFault = 3
 status_number (status.WriteFault written) = 4
 status_number status.NoMemory = 6
 status_number status.TooLong = 7
+status_number (status.NotBuilt line lack) = 20

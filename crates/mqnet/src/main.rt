@@ -5,7 +5,6 @@ mod network;
 mod top;
 
 use mq_base::{StdSink, StdSource};
-use network::Status;
 use std::process::ExitCode;
 use std::rt::Clock;
 use std::time::{SystemTime, UNIX_EPOCH};
@@ -34,16 +33,14 @@ fn main(rt: HostRuntime) -> io::Result<ExitCode> {
     let mut source = StdSource::new(rt.reader());
     let mut sink = StdSink::new(io::writer(&rt));
     let start = moment(&rt);
-    let status = mqnet(rt.alloc(), &words, &mut source, &mut sink, start).status;
-    let number = status.number();
+    let ended = mqnet(rt.alloc(), &words, &mut source, &mut sink, start);
+    let number = ended.status.number();
     if number != 0 {
         eprintln!(rt; "mqnet: status {number}")?;
-    }
-    match status {
-        Status::BadWords => eprintln!(rt; "mqnet: the words are not: run")?,
-        Status::BadScenario(0, cause) => eprintln!(rt; "mqnet: {cause}")?,
-        Status::BadScenario(line, cause) => eprintln!(rt; "mqnet: line {line}: {cause}")?,
-        _ => {}
+        match &ended.told {
+            Some(told) => eprint!(rt; "mqnet: {told}")?,
+            None => eprintln!(rt; "mqnet: {}", ended.status)?,
+        }
     }
     Ok(ExitCode::from(number))
 }

@@ -1,3 +1,5 @@
+//! The top call: each status by its cause, and what is told of it.
+
 use crate::top::mqnet;
 use mq_base::{MemSink, MemSource};
 use std::alloc::{AllocError, Global};
@@ -31,6 +33,8 @@ struct Case {
     status: u8,
     /// A piece of the output; none where nothing is written.
     piece: Option<&'static str>,
+    /// With what begins what is told; none where nothing is.
+    told: Option<&'static str>,
 }
 
 fn plain(
@@ -46,12 +50,13 @@ fn plain(
         failing_write: None,
         status,
         piece,
+        told: None,
     }
 }
 
 const PUT_AND_GET: &str = "MQOPEN H1 QUEUE(Q1) SHARED OUTPUT\nMQPUT H1 TEXT('HELLO')\nMQGET H1\n";
 
-fn cases() -> [Case; 9] {
+fn cases() -> [Case; 13] {
     [
         plain(
             "run",
@@ -60,7 +65,7 @@ fn cases() -> [Case; 9] {
             Some("0004 MQGET 0 0 ID 1.1.1 LEN 5 BYTES 'HELLO'\n"),
         ),
         plain("x", PUT_AND_GET, 1, None),
-        plain("run", "", 2, None),
+        plain("check", "", 0, Some("CHECK OK\n")),
         plain(
             "run",
             "MQOPEN H1 QUEUE(Q1) SHARED OUTPUT\nMQGET H1\n",
@@ -80,6 +85,18 @@ fn cases() -> [Case; 9] {
             Some("0002 MQOPEN 2 2085\n0003 MQPUT 2 2019\n"),
         ),
         Case {
+            told: Some("line 8: Form: 'PUT' can't stand here: "),
+            ..plain("run", "PUT H1\n", 2, None)
+        },
+        Case {
+            told: Some("line 8: Name: 'QUEUE(a?)' is no name: "),
+            ..plain("check", "MQOPEN H1 QUEUE(a?)\n", 2, None)
+        },
+        Case {
+            told: Some("line 8: NotBuilt: "),
+            ..plain("run", "MQDISC\n", 20, None)
+        },
+        Case {
             failing_read: Some(0),
             ..plain("run", PUT_AND_GET, 3, None)
         },
@@ -90,6 +107,10 @@ fn cases() -> [Case; 9] {
         Case {
             failing_write: Some(0),
             ..plain("run", PUT_AND_GET, 4, None)
+        },
+        Case {
+            failing_write: Some(0),
+            ..plain("check", PUT_AND_GET, 4, None)
         },
     ]
 }
@@ -124,78 +145,11 @@ fn each_status_comes_by_its_cause(rt: HostRuntime) -> Result<(), Fail> {
             None => assert!(rt; output.is_empty()),
             Some(piece) => assert!(rt; output.contains(piece)),
         }
+        match (case.told, &ended.told) {
+            (None, told) => assert!(rt; told.is_none()),
+            (Some(_), None) => panic!(rt; "nothing is told"),
+            (Some(begin), Some(told)) => assert!(rt; told.starts_with(begin)),
+        }
     }
     Ok(())
-}
-
-const SECTION: &str = "NETWORK
-QMGR LONDON
-MQSC D1 LONDON
-def ql(q1) descr('It''s') maxdepth(10)
-alter qlocal(Q1) +
-  put(disabled)
-dis ql(Q1) put maxdepth
-delete qalias(q1)
-define qlocal(Q1)
-ENDMQSC
-STEPS
-OBEY D1
-ENDSTEPS
-";
-
-const ANSWERS: &str = "MQNET 1
-STEPS
-0001 OBEY D1
-  OK
-  OK
-  OK
-    QLOCAL(Q1) MAXDEPTH(10) PUT(DISABLED)
-  REFUSED MISSING
-  REFUSED EXISTS
-QUEUES
-QMGR LONDON UP
-Q1 DEPTH 0
-CHANNELS
-LEDGER
-STATUS 0
-";
-
-const NO_COMMAND: &str = "NETWORK
-QMGR LONDON
-MQSC D1 LONDON
-define qlocal(Q1)
-defin qlocal(Q2)
-ENDMQSC
-STEPS
-OBEY D1
-ENDSTEPS
-";
-
-/// Runs the text: the status is as wanted, and the output too.
-fn assert_run(
-    rt: &impl Abort,
-    alloc: Global,
-    text: &str,
-    status: u8,
-    output: &str,
-) -> Result<(), Fail> {
-    let mut words = Vec::new(alloc);
-    words.push(String::from_str(alloc, "run")?)?;
-    let text = String::from_str(alloc, text)?;
-    let mut source = MemSource::new(text.into_bytes(), Vec::new(alloc));
-    let mut sink = MemSink::new(alloc, 4096, Vec::new(alloc))?;
-    let ended = mqnet(alloc, &words, &mut source, &mut sink, 0);
-    assert_eq!(rt; ended.status.number(), status);
-    assert_eq!(rt; str::from_utf8(sink.held())?, output);
-    Ok(())
-}
-
-#[test]
-fn a_section_is_obeyed(rt: HostRuntime) -> Result<(), Fail> {
-    assert_run(&rt, rt.alloc(), SECTION, 0, ANSWERS)
-}
-
-#[test]
-fn a_section_with_a_line_that_is_no_command_runs_nothing(rt: HostRuntime) -> Result<(), Fail> {
-    assert_run(&rt, rt.alloc(), NO_COMMAND, 2, "")
 }

@@ -1,8 +1,0 @@
-use Rattle.mq_scenario.proofs.PartLaws.{found_is, refused_is}
-use Rattle.mq_scenario.proofs.reader.read_scenario.Goals as goal
-
-pub returns-clause-found : goal.returns-clause-found
-returns-clause-found c = found_is c.args.text.now c.read_lines.result c.read_lines.ensures.found
-
-pub returns-clause-refused : goal.returns-clause-refused
-returns-clause-refused c = refused_is c.args.text.now c.read_lines.result c.read_lines.ensures.refused

@@ -1,3 +1,0 @@
-pub mod ReadLaws
-pub mod FormLaws
-pub mod ParseLaws

@@ -1,4 +1,0 @@
-pub mod Sections
-pub mod Reading
-pub mod Views
-pub mod Forms
