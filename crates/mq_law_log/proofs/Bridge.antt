@@ -26,7 +26,7 @@ use Rattle.mq_spec_log.specs.Applies.{agrees, fits_local}
 use Rattle.mq_spec_manager.specs.Put.{next_ident, queue_at}
 use Rattle.mq_law_manager.specs.View.{Taken, view, puts_in, takes_in, items_of}
 use Rattle.mq_law_manager.specs.Facts.{Mem, Differ, put_ident, taken_ident, IsOf, Sound, AreNamed, IsFit, IsUnlisted, listed, IsSound}
-use Rattle.mq_law_manager.proofs.Lists.{bool_case, is_false, ident_no, ident_self, ident_yes, distinct_of, one_row}
+use Rattle.mq_law_manager.proofs.Lists.{bool_case, is_false, any_mem, mem_any, ident_no, ident_self, ident_yes, distinct_of, one_row}
 use Rattle.mq_law_manager.proofs.Named.{name_is, name_self, name_turned}
 use Rattle.mq_law_manager.proofs.Batches.{by_batch, is_by_batch}
 use Rattle.mq_law_manager.proofs.Needed.{next_lacks, put_lacks}
@@ -97,19 +97,6 @@ distinct_all p h n (q ∷ qs) there names = distinct_append q.rows (all_rows qs)
     ))))
 
 -- Batches
-
-any_mem : (i : Ident) (is : List Ident) → list_any (same_ident i) is ≡ true → Mem i is
-any_mem i [] e = absurd cc
-any_mem i (x ∷ xs) e = bool_case (same_ident i x) (λ b. same_ident i x ≡ b → (b || list_any (same_ident i) xs) ≡ true → Mem i (x ∷ xs)) (λ z w f. inl (ident_yes i x w)) (λ z w f. inr (any_mem i xs f)) refl e
-
-mem_any : (i : Ident) (is : List Ident) → Mem i is → list_any (same_ident i) is ≡ true
-mem_any i [] m = absurd m
-mem_any i (x ∷ xs) (inl e) = ap (λ (j : Ident). same_ident i j || list_any (same_ident i) xs) (sym e) ∙ ap (λ (b : Bool). b || list_any (same_ident i) xs) (ident_self i)
-mem_any i (x ∷ xs) (inr m) = right (same_ident i x) (list_any (same_ident i) xs) (mem_any i xs m)
-  where
-    right : (a b : Bool) → b ≡ true → (a || b) ≡ true
-    right true b e = refl
-    right false b e = e
 
 both : (a b : Bool) → (a && b) ≡ true → (a ≡ true) × (b ≡ true)
 both true true e = (refl, refl)

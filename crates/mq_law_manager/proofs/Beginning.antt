@@ -15,7 +15,7 @@ use Rattle.mq_spec_state.specs.Reads.{sender_in, in_doubt_of}
 use Rattle.mq_spec_state.specs.Images.{Image, Shelf, raised}
 use Rattle.mq_spec_state.specs.Recovery.{IsImage, IsShelf, IsLasting, IsHeldWell, IsListed, AreApart, IsKnown, AreKnown}
 use Rattle.mq_law_manager.specs.Facts.{Mem, Chain, Differ, ident_of, IsOf, AreLaned}
-use Rattle.mq_law_manager.proofs.Lists.{bool_case, ident_yes, ident_self, name_yes}
+use Rattle.mq_law_manager.proofs.Lists.{bool_case, any_mem, ident_self, name_yes}
 use Rattle.mq_law_manager.proofs.Numbered.{ImageRests, rows_on}
 
 -- All of a list, by what is in it
@@ -83,10 +83,6 @@ no_unit : (image : Image) (q : List ℕ) (i : Ident) (b : Option Holder) (n : �
 no_unit image q i None n h e = cc e
 no_unit image q i (Some (holders.Unit k)) n h e = h
 no_unit image q i (Some (holders.Batch c)) n h e = cc e
-
-any_mem : (i : Ident) (is : List Ident) → list_any (same_ident i) is ≡ true → Mem i is
-any_mem i [] e = absurd cc
-any_mem i (x ∷ xs) e = bool_case (same_ident i x) (λ b. same_ident i x ≡ b → (b || list_any (same_ident i) xs) ≡ true → Mem i (x ∷ xs)) (λ z w f. inl (ident_yes i x w)) (λ z w f. inr (any_mem i xs f)) refl e
 
 listed : (q : List ℕ) (i : Ident) (o : Option InDoubt) → IsListed q i o → IsOf q i None o
 listed q i None h = h

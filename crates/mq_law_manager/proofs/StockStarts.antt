@@ -20,7 +20,7 @@ use Rattle.mq_spec_state.specs.Changes.{comes_before}
 use Rattle.mq_spec_state.specs.Images.{Image, Shelf, has_batch, rests_by, lasting_row, shelf_of, shelves_of, lasting, numbered, queue_on, begun, raised}
 use Rattle.mq_spec_state.specs.Recovery.{IsImage, IsShelf, IsLasting, IsOfDoubt, IsKnown, IsDoubtKnown, AreKnown}
 use Rattle.mq_law_manager.specs.Facts.{Mem, Chain, AreOnce, AreNamed, IsStocked, IsFormed, IsUnlisted, AreSorted, listed, has_queue}
-use Rattle.mq_law_manager.proofs.Lists.{bool_case, is_false, ident_self}
+use Rattle.mq_law_manager.proofs.Lists.{bool_case, is_false, mem_any}
 use Rattle.mq_law_manager.proofs.Routes.{side_found}
 use Rattle.mq_law_manager.proofs.Named.{name_is, name_self}
 use Rattle.mq_law_manager.proofs.Numbered.{was_given, rows_on, rows_begun}
@@ -202,15 +202,6 @@ shelf_listed : (ss : List Shelf) (s : Shelf) → Mem s ss → has_shelf s.name s
 shelf_listed [] s m = absurd m
 shelf_listed (x ∷ xs) s (inl e) = ap (λ (y : Shelf). bytes_eq s.name y.name || has_shelf s.name xs) (sym e) ∙ ap (λ (b : Bool). b || has_shelf s.name xs) (name_self s.name)
 shelf_listed (x ∷ xs) s (inr m) = right (bytes_eq s.name x.name) (has_shelf s.name xs) (shelf_listed xs s m)
-  where
-    right : (a b : Bool) → b ≡ true → (a || b) ≡ true
-    right true b e = refl
-    right false b e = e
-
-mem_any : (i : Ident) (is : List Ident) → Mem i is → list_any (same_ident i) is ≡ true
-mem_any i [] m = absurd m
-mem_any i (x ∷ xs) (inl e) = ap (λ (b : Bool). b || list_any (same_ident i) xs) (ap (same_ident i) (sym e) ∙ ident_self i)
-mem_any i (x ∷ xs) (inr m) = right (same_ident i x) (list_any (same_ident i) xs) (mem_any i xs m)
   where
     right : (a b : Bool) → b ≡ true → (a || b) ≡ true
     right true b e = refl
