@@ -1,0 +1,9 @@
+//! The local queues of a manager, found by name, and the places of messages on them.
+#![tactic(auto)]
+
+mod local;
+mod queues;
+mod slots;
+
+pub use local::LocalRows;
+pub use queues::Queues;
