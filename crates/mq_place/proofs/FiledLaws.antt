@@ -1,10 +1,10 @@
 -- What is found of queues in slots by a map from their names, and that the map stays true.
-use Rattle.std.proofs.Common.{◌≡◌, ℕ, ◌+◌, ◌<◌, cond, List, [], ◌∷◌, ◌++◌, sym, ap, subst, ◌∙◌, Some, None, Option, is_some, if◌then◌else◌, length, slice_set, arith}
+use Rattle.std.proofs.Common.{◌≡◌, ℕ, ◌+◌, ◌<◌, cond, List, [], ◌∷◌, ◌++◌, refl, sym, ap, subst, ◌∙◌, Some, None, Option, is_some, if◌then◌else◌, length, get_or, slice_set, arith}
 use Rattle.std.specs.Prelude.{map}
 use Rattle.std.specs.Str.{bytes_eq}
 use Rattle.mq_place.specs.States.{QueueState, state_in, change_state, without_state}
 use Rattle.mq_place.specs.Slots.{present, IsFiled, slot_at, slot_changed, slots_changed}
-use Rattle.mq_place.proofs.SlotLaws.{At, NotIn, Found, found, at_within, state_at, state_not_in, KeepsName, place-change, distinct-change, count-change, present-change, present-same, place-changes, distinct-changes, count-changes, place-push, distinct-push, count-push, place-clear, present-clear, present-not_in, distinct-clear, count-clear}
+use Rattle.mq_place.proofs.SlotLaws.{At, NotIn, Found, found, at_within, state_at, state_at_or, state_there, state_not_in, KeepsName, place-change, distinct-change, count-change, present-change, present-same, place-changes, distinct-changes, count-changes, place-push, distinct-push, count-push, place-clear, present-clear, present-not_in, distinct-clear, count-clear}
 
 module _ (slots : List (Option QueueState)) (find : List ℕ → Option ℕ) (count : ℕ) (filed : IsFiled slots find count) where
   pub at_found : (name : List ℕ) (i : ℕ) → find name ≡ Some i → At name slots i
@@ -19,8 +19,18 @@ module _ (slots : List (Option QueueState)) (find : List ℕ → Option ℕ) (co
   pub state_found : (name : List ℕ) (i : ℕ) → find name ≡ Some i → state_in name (present slots) ≡ slot_at slots i
   state_found name i e = state_at name slots i (at_found name i e)
 
+  pub state_found_or : (name : List ℕ) (i : ℕ) (d : Option QueueState) → find name ≡ Some i → state_in name (present slots) ≡ get_or slots i d
+  state_found_or name i d e = state_at_or name slots i d (at_found name i e)
+
   pub state_none : (name : List ℕ) → find name ≡ None → state_in name (present slots) ≡ None
   state_none name e = state_not_in name slots (none_found name e)
+
+  pub none_of_state : (name : List ℕ) → state_in name (present slots) ≡ None → find name ≡ None
+  none_of_state name e = by (find name) refl
+    where
+      by : (r : Option ℕ) → find name ≡ r → r ≡ None
+      by None h = refl
+      by (Some i) h = absurd (state_there name slots i (at_found name i h) e)
 
   pub filed_change : (f : QueueState → QueueState) → KeepsName f → (i : ℕ) → IsFiled (slot_changed f slots i) find count
   filed_change f keeps i = record {

@@ -4,3 +4,8 @@ pub mod FiledLaws
 pub mod RowLaws
 pub mod StateLaws
 pub mod LocalLaws
+pub mod EveryLaws
+pub mod AfterLaws
+pub mod CallLaws
+pub mod PlainLaws
+pub mod HomeLaws

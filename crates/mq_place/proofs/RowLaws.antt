@@ -23,7 +23,7 @@ keep_next : (g : Row → Bool) (row : Row) (rows kept : List Row) (a b : Bool) �
 keep_next g row rows kept true b e k = λ i. cond (e i) (row ∷ k i) (k i)
 keep_next g row rows kept false b e k = k
 
-keep_twice : (f g h : Row → Bool) → ((row : Row) → (f row && g row) ≡ h row) → (rows : List Row) → keep g (keep f rows) ≡ keep h rows
+pub keep_twice : (f g h : Row → Bool) → ((row : Row) → (f row && g row) ≡ h row) → (rows : List Row) → keep g (keep f rows) ≡ keep h rows
 keep_twice f g h e [] = refl
 keep_twice f g h e (row ∷ rows) =
     keep_next g row (keep f rows) (keep h rows) (f row) (g row) refl (keep_twice f g h e rows) ∙ (λ i. cond (e row i) (row ∷ keep h rows) (keep h rows))

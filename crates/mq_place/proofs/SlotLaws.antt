@@ -49,14 +49,29 @@ pub not_in_of : (name : List ℕ) (slots : List (Option QueueState)) → place_o
 not_in_of name slots none = subst (Found name slots) none (found name slots)
 
 -- the queue of a name is the one in the slot that is found
-pub state_at : (name : List ℕ) (slots : List (Option QueueState)) (i : ℕ) → At name slots i → state_in name (present slots) ≡ slot_at slots i
-state_at name [] i at = absurd at
-state_at name (None ∷ slots) zero at = absurd (cc at)
-state_at name (Some o ∷ slots) zero at = λ i. cond (at i) (Some o) (state_in name (present slots))
-state_at name (None ∷ slots) (suc n) (ne, at) = state_at name slots n at
-state_at name (Some o ∷ slots) (suc n) (ne, at) =
-    let rest = state_at name slots n at in
+pub state_at_or : (name : List ℕ) (slots : List (Option QueueState)) (i : ℕ) (d : Option QueueState) → At name slots i → state_in name (present slots) ≡ get_or slots i d
+state_at_or name [] i d at = absurd at
+state_at_or name (None ∷ slots) zero d at = absurd (cc at)
+state_at_or name (Some o ∷ slots) zero d at = λ i. cond (at i) (Some o) (state_in name (present slots))
+state_at_or name (None ∷ slots) (suc n) d (ne, at) = state_at_or name slots n d at
+state_at_or name (Some o ∷ slots) (suc n) d (ne, at) =
+    let rest = state_at_or name slots n d at in
     λ i. cond (ne i) (Some o) (rest i)
+
+pub state_at : (name : List ℕ) (slots : List (Option QueueState)) (i : ℕ) → At name slots i → state_in name (present slots) ≡ slot_at slots i
+state_at name slots i at = state_at_or name slots i None at
+
+there : (b : Bool) (s : QueueState) (r : Option QueueState) → b ≡ true → cond b (Some s) r ≡ None → ⊥
+there true s r at e = absurd cc
+there false s r at e = absurd cc
+
+-- where a slot has the name there is a queue
+pub state_there : (name : List ℕ) (slots : List (Option QueueState)) (i : ℕ) → At name slots i → state_in name (present slots) ≡ None → ⊥
+state_there name [] i at e = absurd at
+state_there name (None ∷ slots) zero at e = absurd (cc at)
+state_there name (Some s ∷ slots) zero at e = there (has_name name s) s (state_in name (present slots)) at e
+state_there name (None ∷ slots) (suc n) (ne, at) e = state_there name slots n at e
+state_there name (Some s ∷ slots) (suc n) (ne, at) e = state_there name slots n at (sym (λ i. cond (ne i) (Some s) (state_in name (present slots))) ∙ e)
 
 pub state_not_in : (name : List ℕ) (slots : List (Option QueueState)) → NotIn name slots → state_in name (present slots) ≡ None
 state_not_in name [] ne = refl

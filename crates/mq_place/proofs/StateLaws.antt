@@ -1,28 +1,22 @@
 -- One queue that is changed, as the changes of a manager mean it: all queues are changed, and those of other names stay.
 use Rattle.std.proofs.Common.{◌≡◌, ℕ, ◌+◌, Bool, true, false, cond, List, [], ◌∷◌, refl, sym, ap, subst, ◌∙◌, arith}
-use Rattle.std.specs.Prelude.{Option, Some, None, map, not}
-use Rattle.std.specs.List.{AllByRecursion}
+use Rattle.std.specs.Prelude.{Option, Some, None, map, not, ◌&&◌, ◌||◌}
+use Rattle.std.specs.List.{AllByRecursion, list_any}
 use Rattle.std.specs.Str.{bytes_eq}
 use Rattle.mq_message.specs.declared.message.Ident.{Ident}
-use Rattle.mq_message.specs.declared.message.Message.{Message}
 use Rattle.mq_message.specs.declared.place.Holder.{Holder}
 use Rattle.mq_queue.specs.declared.row.Row.{Row}
-use Rattle.mq_queue.specs.Rows.{keep, retag}
-use Rattle.mq_queue.specs.Queues.{lane_of, is_lasting, unit_freed}
-use Rattle.mq_spec_state.specs.State.{Queue, fresh_queue}
+use Rattle.mq_queue.specs.Rows.{keep, retag, same_ident}
+use Rattle.mq_queue.specs.Queues.{is_lasting, unit_freed}
+use Rattle.mq_spec_state.specs.State.{Queue}
 use Rattle.mq_spec_state.specs.State.Which.{Among, HeldByUnits, Nonpersistent}
 use Rattle.mq_spec_state.specs.Reads.{queue_in}
-use Rattle.mq_spec_state.specs.Changes.{set_queue, placed_in, kept_in, held_in, released_in, forgotten}
-use Rattle.mq_place.specs.States.{QueueState, has_name, state_in, or_fresh, state_or, change_state, on_queue, on_queues, on_rows, queues_of, rows_in, hold_each, release_each, remove_each, arrived, IsUnnamed}
-use Rattle.mq_place.specs.Slots.{present, place_of, holds, AreNamed}
+use Rattle.mq_spec_state.specs.Changes.{selects, kept_in, held_in, released_in}
+use Rattle.mq_place.specs.States.{QueueState, has_name, state_in, or_fresh, state_or, change_state, on_queue, on_queues, on_rows, queues_of, rows_in, hold_each, release_each, remove_each, IsUnnamed, AreApart}
+use Rattle.mq_place.specs.Slots.{present, place_of, holds, AreNamed, rows_of_slot}
 use Rattle.mq_place.proofs.NameLaws.{name_is, name_self, name_swap}
 use Rattle.mq_place.proofs.SlotLaws.{NotIn, not_in_of}
-use Rattle.mq_place.proofs.RowLaws.{held_among, held_other, released_among, released_other, removed_among, kept_other, lasting_kept, units_freed}
-
--- no two queues have one name
-abbrev pub AreApart : List QueueState → Type 0
-AreApart [] = Unit {0}
-AreApart (s ∷ ss) = IsUnnamed s.queue.name ss × AreApart ss
+use Rattle.mq_place.proofs.RowLaws.{held_among, held_other, released_among, released_other, removed_among, kept_other, lasting_kept, units_freed, keep_twice, keep_same_rows}
 
 unnamed : (name : List ℕ) (slots : List (Option QueueState)) → NotIn name slots → IsUnnamed name (present slots)
 unnamed name [] ne = tt
@@ -53,7 +47,7 @@ module _ (name : List ℕ) (f : QueueState → QueueState) (g : Queue → Queue)
   change_all (s ∷ ss) a = change_step s ss a.0 (change_all ss a.1) (has_name name s) refl
 
 -- with the rows of a queue
-rows_to : (rows : List Row) (s : QueueState) → QueueState
+abbrev rows_to : List Row → QueueState → QueueState
 rows_to rows s = record s { queue = record s.queue { rows = rows } }
 
 pub held_one : (name : List ℕ) (idents : List Ident) (by : Holder) (states : List QueueState) → AreApart states
@@ -86,11 +80,14 @@ pub all_units_freed : (states : List QueueState) → map (on_rows (retag unit_fr
 all_units_freed [] = refl
 all_units_freed (s ∷ ss) = let first = units_freed s.queue.name s.queue.rows in let rest = all_units_freed ss in λ i. rows_to (first i) s ∷ rest i
 
--- As the plain manager sees them.
-
-pub queues_on : (g : Queue → Queue) (states : List QueueState) → queues_of (on_queues g states) ≡ map g (queues_of states)
-queues_on g [] = refl
-queues_on g (s ∷ ss) = ap (λ (qs : List Queue). g s.queue ∷ qs) (queues_on g ss)
+-- the rows of a name are those of the queue that is found
+pub rows_found : (name : List ℕ) (states : List QueueState) → rows_in name states ≡ rows_of_slot (state_in name states)
+rows_found name [] = refl
+rows_found name (s ∷ ss) = at (has_name name s) (rows_found name ss)
+  where
+    at : (b : Bool) → rows_in name ss ≡ rows_of_slot (state_in name ss) → (cond b s.queue (queue_in name (queues_of ss))).rows ≡ rows_of_slot (cond b (Some s) (state_in name ss))
+    at true e = refl
+    at false e = e
 
 -- the queue of a name that is there is the one of its state
 pub queue_of_state_in : (name : List ℕ) (states : List QueueState) → queue_in name (queues_of states) ≡ (state_or name states).queue
@@ -101,19 +98,27 @@ queue_of_state_in name (s ∷ ss) = at (has_name name s) (queue_of_state_in name
     at true e = refl
     at false e = e
 
--- a change of one queue, as a queue that takes the place of the one with its name
-module _ (name : List ℕ) (f : QueueState → QueueState) where
-  set_step : (s : QueueState) (ss : List QueueState) (t : QueueState) → (f t).queue.name ≡ name → (b : Bool) → has_name name s ≡ b → cond b (Some s) (state_in name ss) ≡ Some t
-      → (state_in name ss ≡ Some t → queues_of (change_state name f ss) ≡ set_queue (f t).queue (queues_of ss))
-      → queues_of (cond b (f s ∷ ss) (s ∷ change_state name f ss)) ≡ cond (bytes_eq (f t).queue.name s.queue.name) ((f t).queue ∷ queues_of ss) (s.queue ∷ set_queue (f t).queue (queues_of ss))
-  set_step s ss t n true h e rest =
-      let is : s ≡ t = grind (arith, e) in
-      (λ i. (f (is i)).queue ∷ queues_of ss)
-      ∙ sym (λ i. cond ((ap (λ (x : List ℕ). bytes_eq x s.queue.name) n ∙ h) i) ((f t).queue ∷ queues_of ss) (s.queue ∷ set_queue (f t).queue (queues_of ss)))
-  set_step s ss t n false h e rest =
-      ap (λ (qs : List Queue). s.queue ∷ qs) (rest e)
-      ∙ sym (λ i. cond ((ap (λ (x : List ℕ). bytes_eq x s.queue.name) n ∙ h) i) ((f t).queue ∷ queues_of ss) (s.queue ∷ set_queue (f t).queue (queues_of ss)))
+-- rows taken out one after another
+kept_step : (name : List ℕ) (ident : Ident) (idents : List Ident) (q : Queue) → (kept_in (Among name idents) (kept_in (Among name (ident ∷ [])) q)).rows ≡ (kept_in (Among name (ident ∷ idents)) q).rows
+kept_step name ident idents q = keep_twice _ _ _ (λ (row : Row). both (bytes_eq q.name name) (same_ident row.message.ident ident) (list_any (same_ident row.message.ident) idents)) q.rows
+  where
+    both : (a b c : Bool) → (not (a && (b || false)) && not (a && c)) ≡ not (a && (b || c))
+    both true true c = refl
+    both true false c = refl
+    both false b c = refl
 
-  pub set_as : (states : List QueueState) (t : QueueState) → (f t).queue.name ≡ name → state_in name states ≡ Some t → queues_of (change_state name f states) ≡ set_queue (f t).queue (queues_of states)
-  set_as [] t n e = absurd cc
-  set_as (s ∷ ss) t n e = set_step s ss t n (has_name name s) refl e (set_as ss t n)
+pub kept_next : (name : List ℕ) (ident : Ident) (idents : List Ident) (states : List QueueState)
+    → on_queues (kept_in (Among name idents)) (on_queues (kept_in (Among name (ident ∷ []))) states) ≡ on_queues (kept_in (Among name (ident ∷ idents))) states
+kept_next name ident idents [] = refl
+kept_next name ident idents (s ∷ ss) = let first = kept_step name ident idents s.queue in let rest = kept_next name ident idents ss in λ i. rows_to (first i) s ∷ rest i
+
+pub kept_none : (name : List ℕ) (states : List QueueState) → on_queues (kept_in (Among name [])) states ≡ states
+kept_none name [] = refl
+kept_none name (s ∷ ss) =
+    let first = keep_same_rows (λ (row : Row). not (selects (Among name []) s.queue.name row)) (λ (row : Row). none (bytes_eq s.queue.name name)) s.queue.rows in
+    let rest = kept_none name ss in
+    λ i. rows_to (first i) s ∷ rest i
+  where
+    none : (b : Bool) → not (b && false) ≡ true
+    none true = refl
+    none false = refl

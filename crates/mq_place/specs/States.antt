@@ -1,14 +1,15 @@
 -- Local queues as a manager keeps them: what the plain manager sees of each, its lanes, and how many uncommitted puts wait
 -- for it.
-use Rattle.std.specs.Prelude.{◌≡◌, ℕ, ◌+◌, ◌-◌, ◌<◌, ◌≤◌, ◌^◌, Bool, true, false, not, List, [], ◌∷◌, if◌then◌else◌, Option, Some, None, map, filter, length, IfSome, IsSome, nat_lt, find, take}
+use Rattle.std.specs.Prelude.{◌≡◌, ℕ, ◌+◌, ◌-◌, ◌<◌, ◌≤◌, ◌^◌, Bool, true, false, not, ◌&&◌, List, [], ◌∷◌, if◌then◌else◌, Option, Some, None, map, filter, length, IfSome, IsSome, nat_lt, find, take}
 use Rattle.std.specs.Str.{bytes_eq}
 use Rattle.std.specs.List.{AllByRecursion, list_any}
 use Rattle.mq_message.specs.declared.message.Ident.{Ident}
 use Rattle.mq_message.specs.declared.message.Message.{Message}
 use Rattle.mq_queue.specs.declared.row.Row.{Row}
+use Rattle.mq_message.specs.declared.place.Place.{Place}
 use Rattle.mq_message.specs.declared.place.Holder.{Holder}
-use Rattle.mq_queue.specs.Rows.{keep, retag, is_free, has_ident}
-use Rattle.mq_queue.specs.Queues.{Lacks, IsQueue, lane_of, count_waiting, hold_row, release_row, has_other_ident}
+use Rattle.mq_queue.specs.Rows.{keep, retag, is_free, is_after, has_ident}
+use Rattle.mq_queue.specs.Queues.{Lacks, lane_of, count_waiting, hold_row, release_row, has_other_ident}
 use Rattle.mq_spec_state.specs.State.{Queue, fresh_queue}
 use Rattle.mq_spec_state.specs.Reads.{queue_in}
 use Rattle.mq_spec_state.specs.Changes.{placed_in}
@@ -25,6 +26,10 @@ pub record QueueStates : Type 0 where
 
 abbrev pub queue_of_state : QueueState → Queue
 queue_of_state s = s.queue
+
+-- the rows behind a place
+abbrev pub rows_after : Option Place → List Row → List Row
+rows_after after rows = keep (is_after after) rows
 
 -- a queue that was just defined
 abbrev pub fresh_state : List ℕ → Bool → QueueState
@@ -56,6 +61,9 @@ rows_in name states = (queue_in name (queues_of states)).rows
 -- the idents of its first free rows, at most so many
 abbrev pub row_ident : Row → Ident
 row_ident row = row.message.ident
+
+abbrev pub is_free_after : Option Place → Row → Bool
+is_free_after after row = is_free row && is_after after row
 
 abbrev pub free_idents : ℕ → List Row → List Ident
 free_idents most rows = map row_ident (take most (filter is_free rows))
@@ -158,15 +166,11 @@ CanBeDue s = s.queue.due + 1 < 2 ^ 64
 abbrev pub IsCounted : QueueState → Type 0
 IsCounted s = size_of s < 2 ^ 64
 
--- what holds of each local queue, and of any two
-pub record IsSound (s : QueueState) : Type 0 where
-  pub queue : IsQueue s.queue.rows s.queue.arrivals
-  pub counted : IsCounted s
-
 -- no queue has the name
 abbrev pub IsUnnamed : List ℕ → List QueueState → Type 0
 IsUnnamed name states = AllByRecursion (λ (s : QueueState). has_name name s ≡ false) states
 
-abbrev pub AreSound : List QueueState → Type 0
-AreSound [] = Unit {0}
-AreSound (s ∷ ss) = IsSound s × IsUnnamed s.queue.name ss × AreSound ss
+-- no two queues have one name
+abbrev pub AreApart : List QueueState → Type 0
+AreApart [] = Unit {0}
+AreApart (s ∷ ss) = IsUnnamed s.queue.name ss × AreApart ss

@@ -1,7 +1,9 @@
 //! The local queues of a manager, found by name, and the places of messages on them.
 #![tactic(auto)]
 
+mod homes;
 mod local;
+mod named;
 mod queues;
 mod slots;
 

@@ -1,12 +1,12 @@
 //! One local queue: its rows, how many uncommitted puts wait for it, its triggers due.
-ghost use Rattle.std.specs.Prelude.{◌≡◌, ◌+◌, ◌^◌, ◌<◌, [], OnOk, OnErr, length, option_copied, find, Some, nat_lt, not};
+ghost use Rattle.std.specs.Prelude.{◌≡◌, ◌++◌, ◌+◌, ◌^◌, ◌<◌, [], OnOk, OnErr, length, option_copied, find, Some, nat_lt, not};
 ghost use Rattle.std.specs.List.{list_any};
-ghost use Rattle.mq_queue.specs.Rows.{is_after, is_free, keep, retag};
+ghost use Rattle.mq_queue.specs.Rows.{is_after, is_free, has_ident, keep, retag};
 ghost use Rattle.mq_queue.specs.Queues.{IsQueue, count_waiting, message_of, is_takable, is_at, is_free_one, is_held_one, hold_row, release_row, has_other_ident, is_lasting, unit_freed};
 ghost use Rattle.mq_spec_state.specs.Changes.{made_due, forgotten};
-ghost use Rattle.mq_place.specs.States.{on_queue, on_rows, hold_each, release_each, remove_each, served, switched_on, fresh_state, expecting, unpended, arrived, with_lanes, depth_of, size_of, CanPlace, IsCounted};
+ghost use Rattle.mq_place.specs.States.{is_free_after, free_idents, on_queue, on_rows, hold_each, release_each, served, switched_on, fresh_state, expecting, unpended, arrived, with_lanes, depth_of, size_of, CanPlace, IsCounted};
 
-use mq_base::NoMemory;
+use mq_base::{Items, NoMemory};
 use mq_message::{Holder, Ident, Message, Place, Want};
 use mq_name::QName;
 use mq_queue::{Queue, Row};
@@ -46,6 +46,12 @@ impl<Q: Queue + Drop> Model for LocalRows<Q> {
     ghost invariant = { λ l. IsQueue (Q.rows l.queue) (Q.arrivals l.queue) × (l.pending ≤ Q.room l.queue) × (length (Q.rows l.queue) + l.pending < 2 ^ 64) };
 }
 
+fn has_ident(row: &Row, ident: &Ident) -> bool
+    ensures { result ≡ has_ident ident.now row.now }
+{
+    row.message.ident == *ident
+}
+
 impl<Q: Queue + Drop> LocalRows<Q> {
     /// A queue that was just defined.
     pub fn new(alloc: Global, name: QName, prioritized: bool) -> Self
@@ -61,18 +67,18 @@ impl<Q: Queue + Drop> LocalRows<Q> {
         }
     }
 
-    /// Its name. Its rows are in order, and no ident stands twice.
+    /// Its name.
     pub fn name(&self) -> &QName
-        ensures name { result.now ≡ self.now.queue.name }
-        ensures queue { IsQueue self.now.queue.rows self.now.queue.arrivals }
-        ensures counted { IsCounted self.now }
+        ensures { result.now ≡ self.now.queue.name }
     {
         &self.name
     }
 
-    /// How many rows there are, free and held.
+    /// How many rows there are, free and held. They are in order of place, and no ident stands twice.
     pub fn len(&self) -> u64
-        ensures { result ≡ length self.now.queue.rows }
+        ensures len { result ≡ length self.now.queue.rows }
+        ensures queue { IsQueue self.now.queue.rows self.now.queue.arrivals }
+        ensures counted { IsCounted self.now }
     {
         self.queue.len()
     }
@@ -103,6 +109,13 @@ impl<Q: Queue + Drop> LocalRows<Q> {
         ensures { result ≡ list_any (λ row. not (is_free row)) self.now.queue.rows }
     {
         self.queue.free(0) < self.queue.len()
+    }
+
+    /// How many uncommitted puts wait for it.
+    pub fn pending(&self) -> u64
+        ensures { result ≡ self.now.pending }
+    {
+        self.pending
     }
 
     /// How many triggers are due.
@@ -152,6 +165,52 @@ impl<Q: Queue + Drop> LocalRows<Q> {
         ensures { option_copied result ≡ message_of ident.now self.now.queue.rows }
     {
         self.queue.row(ident)
+    }
+
+    /// The row with an ident, free or held. It walks there.
+    pub fn row(&self, ident: &Ident) -> Option<&Row>
+        ensures { option_copied result ≡ find (has_ident ident.now) self.now.queue.rows }
+    {
+        let mut after = None;
+        for seen in 0..self.len() {
+            let Some(row) = self.next_row(after) else {
+                return None;
+            };
+            if has_ident(row, ident) {
+                return Some(row);
+            }
+            after = Some(row.place);
+        }
+        None
+    }
+
+    /// The first free row above `after`.
+    pub fn next_free(&self, after: Option<Place>) -> Option<&Row>
+        ensures { option_copied result ≡ find (is_free_after after) self.now.queue.rows }
+    {
+        let any = Want {
+            msg_id: None,
+            correl_id: None,
+        };
+        self.first_row(&any, after)
+    }
+
+    /// Adds the idents of the first free rows, at most so many. After a refusal some may be there.
+    pub fn free_idents(&self, most: u64, idents: &mut Items<Ident>) -> Result<(), NoMemory>
+        ensures { OnOk result (idents.new ≡ idents.old ++ free_idents most self.now.queue.rows) }
+    {
+        let _len = self.len();
+        let mut after = None;
+        for seen in 0..most {
+            let Some(row) = self.next_free(after) else {
+                return Ok(());
+            };
+            if idents.push(row.message.ident).is_err() {
+                return Err(NoMemory);
+            }
+            after = Some(row.place);
+        }
+        Ok(())
     }
 
     /// Makes room for one more uncommitted put, which waits from now on.
@@ -227,15 +286,6 @@ impl<Q: Queue + Drop> LocalRows<Q> {
     {
         for ident in idents {
             let _released = self.release(ident, backed_out);
-        }
-    }
-
-    /// Takes the rows with these idents out, free or held.
-    pub fn remove_each(&mut self, idents: &[Ident])
-        ensures { self.new ≡ on_rows (remove_each idents.now) self.old }
-    {
-        for ident in idents {
-            let _message = self.remove(ident);
         }
     }
 

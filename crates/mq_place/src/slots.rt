@@ -1,11 +1,11 @@
 //! What is done to a local queue in its slot, and to all of them.
-ghost use Rattle.std.specs.Prelude.{◌≡◌, ◌+◌, ◌-◌, ◌^◌, ◌<◌, ◌≤◌, [], length, IfSome, Some, OnOk, OnErr, vec_len, vec_capacity, is_some, filter};
+ghost use Rattle.std.specs.Prelude.{◌≡◌, ◌+◌, ◌-◌, ◌^◌, ◌<◌, ◌≤◌, [], length, IfSome, Some, OnOk, OnErr, vec_len, vec_capacity, is_some, filter, false};
 ghost use Rattle.indexmap.specs.IndexMap.{get, spare, index_map_len};
 ghost use Rattle.std.specs.Str.{bytes_eq};
 ghost use Rattle.mq_queue.specs.Rows.{keep, retag};
 ghost use Rattle.mq_queue.specs.Queues.{message_of, hold_row, release_row, has_other_ident, is_lasting, unit_freed};
 ghost use Rattle.mq_spec_state.specs.Changes.{made_due, forgotten};
-ghost use Rattle.mq_place.specs.States.{on_queue, on_rows, hold_each, release_each, remove_each, served, switched_on, expecting, unpended, arrived, with_lanes, CanPlace, CanBeDue};
+ghost use Rattle.mq_place.specs.States.{on_queue, on_rows, hold_each, release_each, served, switched_on, expecting, unpended, arrived, with_lanes, CanPlace, CanBeDue};
 ghost use Rattle.mq_place.specs.Slots.{present, AreNamed, IsFiled, slot_at, slot_changed, slots_changed, rows_at};
 
 use crate::local::LocalRows;
@@ -126,18 +126,6 @@ pub fn release_each_at<Q: Queue + Drop>(slots: &mut Vec<Option<LocalRows<Q>>>, a
 {
     if let Some(local) = &mut slots[at] {
         local.release_each(idents, false);
-    }
-}
-
-/// Takes the rows with these idents out.
-pub fn remove_each_at<Q: Queue + Drop>(slots: &mut Vec<Option<LocalRows<Q>>>, at: usize, idents: &[Ident])
-    requires at { at < vec_len slots.old }
-    ensures slots { slots.new.items ≡ slot_changed (on_rows (remove_each idents.now)) slots.old.items at }
-    ensures len { vec_len slots.new ≡ vec_len slots.old }
-    ensures capacity { vec_capacity slots.new ≡ vec_capacity slots.old }
-{
-    if let Some(local) = &mut slots[at] {
-        local.remove_each(idents);
     }
 }
 

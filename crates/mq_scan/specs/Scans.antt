@@ -1,0 +1,18 @@
+-- What a scan of a get finds, from a cursor on.
+use Rattle.std.specs.Prelude.{ℕ, Bool, ◌&&◌, List, [], ◌∷◌, Option, None, map}
+use Rattle.mq_spec_state.specs.Words.{Place, Want, Get, Row, Plain, is_free, is_wanted, is_past, is_persistent}
+use Rattle.mq_spec_manager.specs.Get.{Scan, scan, scan_row, asked, looked_at}
+use Rattle.mq_scan.specs.declared.scan.Met.{Met}
+
+-- the scan of a get over the rows of its queue
+abbrev pub scan_of : Get → Option Place → Plain → List Row → Scan
+scan_of get cursor p rows = scan (asked get) p (looked_at get.take cursor rows)
+
+-- what is kept of an expired row
+abbrev pub met_of : Row → Met
+met_of row = record { ident = row.message.ident; persistent = is_persistent row.message }
+
+-- the scan at a moment, of which alone it depends
+abbrev pub scanned_at : Want → ℕ → List Row → Scan
+scanned_at want moment [] = record { expired = []; found = None }
+scanned_at want moment (row ∷ rows) = scan_row (is_free row && is_wanted want row) (is_past moment row.message.deadline) row (scanned_at want moment rows)
