@@ -1,6 +1,6 @@
 -- Where idents stand stays noted, whatever is done to the queues.
-use Rattle.std.proofs.Common.{◌≡◌, ℕ, zero, suc, ◌+◌, ◌<◌, ◌≤◌, Bool, true, false, eqb, cond, List, [], ◌∷◌, ◌++◌, refl, sym, ap, subst, ◌∙◌, arith}
-use Rattle.std.specs.Prelude.{Option, Some, None, map, find, filter, not, ◌&&◌, ◌||◌, if◌then◌else◌, option_map, is_some, IfSome}
+use Rattle.std.proofs.Common.{◌≡◌, ℕ, zero, suc, ◌+◌, ◌-◌, ◌<◌, ◌≤◌, Bool, true, false, eqb, cond, List, [], ◌∷◌, ◌++◌, refl, sym, ap, subst, ◌∙◌, arith}
+use Rattle.std.specs.Prelude.{Option, Some, None, map, find, filter, not, nat_lt, ◌&&◌, ◌||◌, if◌then◌else◌, option_map, is_some, IfSome}
 use Rattle.std.specs.List.{AllByRecursion, list_any}
 use Rattle.std.specs.Str.{bytes_eq}
 use Rattle.std.proofs.lemmas.Bool.Decides.{nat_tests}
@@ -11,11 +11,10 @@ use Rattle.mq_queue.specs.declared.row.Row.{Row}
 use Rattle.mq_queue.specs.Rows.{same_ident, has_ident, is_free, is_by_unit, keep, retag}
 use Rattle.mq_queue.specs.Queues.{Lacks, lane_of, freed, message_of}
 use Rattle.mq_queue.proofs.QueueLaws.{all_insert, all_keep, all_retag, all_imply}
-use Rattle.mq_spec_state.specs.State.{Queue}
-use Rattle.mq_spec_state.specs.State.Which
+use Rattle.mq_spec_state.specs.State.{Queue, Which}
 use Rattle.mq_spec_state.specs.State.Which.{Among}
 use Rattle.mq_spec_state.specs.Changes.{selects, retag_if, release_if, kept_in, held_in, released_in, new_row}
-use Rattle.mq_place.specs.States.{QueueState, has_name, state_in, change_state, on_queue, on_queues, without_state, expecting, unpended, arrived, fresh_state, or_fresh, IsNowhere, CanPlace, IsUnnamed, AreApart, RowAt, row_found, row_at}
+use Rattle.mq_place.specs.States.{QueueState, has_name, state_in, change_state, on_queue, on_queues, without_state, expecting, unpended, arrived, fresh_state, or_fresh, state_or, IsNowhere, CanPlace, IsUnnamed, AreApart, RowAt, row_found, row_at}
 use Rattle.mq_place.specs.Slots.{rows_of_slot}
 use Rattle.mq_place.specs.Homes.{is_home, IsHome, AreHome, all_pending}
 use Rattle.mq_place.proofs.NameLaws.{name_is, name_self}
@@ -378,3 +377,49 @@ some_message ident rows e = by (find (has_ident ident) rows) e
     by : (o : Option Row) → is_some (option_map (λ (row : Row). row.message) o) ≡ true → is_some o ≡ true
     by None e = e
     by (Some row) e = refl
+
+-- A put that waits is dropped, or placed.
+
+pub enough : (home : Homes) (name : List ℕ) (states : List QueueState) (expected spare : ℕ) → AreNoted home states expected spare → 0 < (state_or name states).pending → 1 ≤ expected
+enough home name states expected spare n w =
+    let at = waiting name (state_in name states) w in
+    let fewer = pending_fewer name unpended (λ u p. omega (arith, p)) states at.0 at.1 at.2 in
+    omega (arith, fewer, n.1)
+
+pub noted_unpended : (home : Homes) (name : List ℕ) (states new : List QueueState) (expected spare : ℕ) → AreNoted home states expected spare → 0 < (state_or name states).pending → new ≡ change_state name unpended states
+    → AreNoted home new (expected - 1) spare
+noted_unpended home name states new expected spare n w is =
+    let at = waiting name (state_in name states) w in
+    let fewer = pending_fewer name unpended (λ u p. omega (arith, p)) states at.0 at.1 at.2 in
+    (subst (AreHome home) (sym is) (same_rows home name unpended (λ s h. h) states n.0), omega (arith, ap all_pending is, fewer, n.1), omega (arith, n.2))
+
+pub noted_placed : (home now : Homes) (name : List ℕ) (message : Message) → ((other : Ident) → now other ≡ cond (same_ident message.ident other) (Some name) (home other)) → (states new : List QueueState) (expected spare left : ℕ)
+    → AreNoted home states expected spare → spare ≤ left + 1 → 0 < (state_or name states).pending → IsNowhere message.ident states → new ≡ change_state name (arrived message) states → AreNoted now new (expected - 1) left
+noted_placed home now name message notes states new expected spare left n room w nowhere is =
+    let at = waiting name (state_in name states) w in
+    let fewer = pending_fewer name (arrived message) (λ u p. omega (arith, p)) states at.0 at.1 at.2 in
+    (subst (AreHome now) (sym is) (placed_home home now name message notes states nowhere n.0), omega (arith, ap all_pending is, fewer, n.1), omega (arith, room, fewer, n.1, n.2))
+
+-- no queue has the name, so nothing is placed
+pub noted_absent : (home : Homes) (name : List ℕ) (message : Message) (states new : List QueueState) (expected spare : ℕ) → AreNoted home states expected spare → (state_or name states).pending ≤ 0 → IfSome (state_in name states) (CanPlace message)
+    → new ≡ change_state name (arrived message) states → AreNoted home new expected spare
+noted_absent home name message states new expected spare n w can is =
+    noted home states states new expected spare n (is ∙ absent_same name (arrived message) states (not_waiting name message (state_in name states) w can)) n.0 (omega arith)
+
+-- one more waits
+pub noted_expecting : (home now : Homes) → ((ident : Ident) → now ident ≡ home ident) → (name : List ℕ) (states new : List QueueState) (expected spare room : ℕ) → AreNoted home states expected spare → expected + 1 ≤ room → new ≡ change_state name expecting states
+    → AreNoted now new (expected + 1) room
+noted_expecting home now same name states new expected spare room n enough is =
+    let most = pending_most name expecting 1 (λ s. omega arith) states in
+    (home_same home now same new (subst (AreHome home) (sym is) (same_rows home name expecting (λ s h. h) states n.0)), omega (arith, ap all_pending is, most, n.1), enough)
+
+-- or only room was made
+pub noted_roomier : (home now : Homes) → ((ident : Ident) → now ident ≡ home ident) → (states new : List QueueState) (expected spare room : ℕ) → AreNoted home states expected spare → spare ≤ room → new ≡ states → AreNoted now new expected room
+noted_roomier home now same states new expected spare room n more is =
+    (home_same home now same new (subst (AreHome home) (sym is) n.0), omega (arith, ap all_pending is, n.1), omega (arith, more, n.2))
+
+pub waits_there : (b : Bool) (n : ℕ) → b ≡ nat_lt 0 n → b ≡ true → 0 < n
+waits_there b n e t = grind (arith, nat_tests)
+
+pub waits_not : (b : Bool) (n : ℕ) → b ≡ nat_lt 0 n → b ≡ false → n ≤ 0
+waits_not b n e t = grind (arith, nat_tests)

@@ -9,3 +9,4 @@ pub mod AfterLaws
 pub mod CallLaws
 pub mod PlainLaws
 pub mod HomeLaws
+pub mod KeyLaws

@@ -1,5 +1,5 @@
 //! On which queue an ident stands: a map from idents to names, which may still know rows that are gone.
-ghost use Rattle.std.specs.Prelude.{◌≡◌, ◌+◌, ◌<◌, ◌≤◌, ◌&&◌, Some, None, if◌then◌else◌, option_copied, OnOk};
+ghost use Rattle.std.specs.Prelude.{◌≡◌, ◌+◌, ◌<◌, ◌≤◌, ◌&&◌, Some, None, if◌then◌else◌, OnOk};
 ghost use Rattle.indexmap.specs.IndexMap.{spare};
 ghost use Rattle.mq_queue.specs.Rows.{same_ident};
 ghost use Rattle.mq_place.specs.Homes.{key_of, home_of, is_home};
@@ -53,12 +53,12 @@ pub fn note_home(homes: &mut IndexMap<IdentKey, QName>, ident: &Ident, name: &QN
     let _before = homes.insert(key_of(ident), *name).unwrap();
 }
 
-fn is_home(name: &QName, home: Option<&QName>) -> bool
-    ensures { result ≡ is_home name.now (option_copied home) }
+fn is_home(name: &QName, home: Option<QName>) -> bool
+    ensures { result ≡ is_home name.now home }
 {
     match home {
         None => false,
-        Some(home) => *name == *home,
+        Some(home) => *name == home,
     }
 }
 
@@ -67,8 +67,7 @@ pub fn drop_home(homes: &mut IndexMap<IdentKey, QName>, ident: &Ident, name: &QN
     ensures home { (other : Ident) → home_of homes.new other ≡ (if same_ident ident.now other && is_home name.now (home_of homes.old ident.now) then None else home_of homes.old other) }
     ensures spare { spare homes.old ≤ spare homes.new }
 {
-    let key = key_of(ident);
-    if is_home(name, homes.get(&key)) {
-        let _name = homes.swap_remove(&key);
+    if is_home(name, home_of(homes, ident)) {
+        let _name = homes.swap_remove(&key_of(ident));
     }
 }

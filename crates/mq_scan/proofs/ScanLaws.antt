@@ -137,3 +137,23 @@ scan_one moment place rows r order e = ap (scanned_at any_id moment) (at_place p
 
 pub scan_no_cursor : (moment : ℕ) (rows : List Row) → scanned_at any_id moment (filter (stands_at None) rows) ≡ nothing
 scan_no_cursor moment rows = ap (scanned_at any_id moment) (none_at rows)
+
+-- The list of the rows met.
+
+joined : (xs ys : List Met) (m : Met) → (xs ++ m ∷ []) ++ ys ≡ xs ++ m ∷ ys
+joined [] ys m = refl
+joined (x ∷ xs) ys m = ap (λ (zs : List Met). x ∷ zs) (joined xs ys m)
+
+pub met_more : (met new : List Met) (m : Met) (row : Row) (s next : Scan) → new ≡ met ++ m ∷ [] → m ≡ met_of row → s ≡ scan_row true true row next → new ++ map met_of next.expired ≡ met ++ map met_of s.expired
+met_more met new m row s next more is then =
+    ap (λ (ms : List Met). ms ++ map met_of next.expired) more ∙ joined met (map met_of next.expired) m
+    ∙ (λ i. met ++ is i ∷ map met_of next.expired)
+    ∙ sym (ap (λ (x : Scan). met ++ map met_of x.expired) then)
+
+all_of : (xs : List Met) → xs ++ [] ≡ xs
+all_of [] = refl
+all_of (x ∷ xs) = ap (λ (zs : List Met). x ∷ zs) (all_of xs)
+
+-- where none is met any more the list is whole
+pub met_all : (met whole : List Met) (s : Scan) → s.expired ≡ [] → met ++ map met_of s.expired ≡ whole → met ≡ whole
+met_all met whole s none is = sym (ap (λ (rs : List Row). met ++ map met_of rs) none ∙ all_of met) ∙ is

@@ -30,7 +30,7 @@ pub loop-place-preserved : goal.loop-place-preserved
 loop-place-preserved g c =
     let slots = c.drop_empty.new.slots.items in
     let i = c.loop-place.place in
-    let s : QueueState = c.in-Some.local.now in
+    let s : QueueState = c.in-Some.local in
     let d = c.index.result.now in
     let inside : i < length slots = omega (arith, c.loop-place-test.true, c.len-place-end.ensures, c.drop_empty.new.slots.ok) in
     let at = sym c.index.ensures ∙ c.in-Some.is in
