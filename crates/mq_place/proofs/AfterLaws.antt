@@ -242,3 +242,7 @@ idents_done xs ys e = ap (λ (zs : List Ident). xs ++ zs) e ∙ nothing_more xs
 
 pub idents_all : (most n : ℕ) (after : Option Place) (rows : List Row) → most ≤ n → idents_left (most - n) after rows ≡ []
 idents_all most n after rows le = let none : most - n ≡ 0 = omega (arith, le) in ap (λ (k : ℕ). idents_left k after rows) none
+
+pub no_idents : (most : ℕ) → free_idents most [] ≡ []
+no_idents zero = refl
+no_idents (suc n) = refl

@@ -1,6 +1,6 @@
 -- Where idents stand stays noted, whatever is done to the queues.
-use Rattle.std.proofs.Common.{◌≡◌, ℕ, zero, suc, ◌+◌, ◌-◌, ◌<◌, ◌≤◌, Bool, true, false, eqb, cond, List, [], ◌∷◌, ◌++◌, refl, sym, ap, subst, ◌∙◌, arith}
-use Rattle.std.specs.Prelude.{Option, Some, None, map, find, filter, not, nat_lt, ◌&&◌, ◌||◌, if◌then◌else◌, option_map, is_some, IfSome}
+use Rattle.std.proofs.Common.{◌≡◌, ℕ, zero, suc, ◌+◌, ◌-◌, ◌<◌, ◌≤◌, Bool, true, false, eqb, cond, List, [], ◌∷◌, ◌++◌, refl, sym, ap, subst, ◌∙◌, arith, Bor}
+use Rattle.std.specs.Prelude.{Option, Some, None, map, find, filter, not, nat_lt, ◌&&◌, ◌||◌, if◌then◌else◌, option_map, option_copied, is_some, IfSome}
 use Rattle.std.specs.List.{AllByRecursion, list_any}
 use Rattle.std.specs.Str.{bytes_eq}
 use Rattle.std.proofs.lemmas.Bool.Decides.{nat_tests}
@@ -273,13 +273,14 @@ abbrev pub row_found_in : Ident → List ℕ → List QueueState → Bool
 row_found_in ident name [] = false
 row_found_in ident name (s ∷ ss) = (has_name name s && is_some (find (has_ident ident) s.queue.rows)) || row_found_in ident name ss
 
+home_step : (home : Homes) (ident : Ident) (name : List ℕ) (x row : Row) (xs : List Row) → home x.message.ident ≡ Some name → (b : Bool) → has_ident ident x ≡ b → cond b (Some x) (find (has_ident ident) xs) ≡ Some row
+    → (find (has_ident ident) xs ≡ Some row → home ident ≡ Some name) → home ident ≡ Some name
+home_step home ident name x row xs own true h e rest = ap home (sym (ident_is x.message.ident ident h)) ∙ own
+home_step home ident name x row xs own false h e rest = rest e
+
 found_home : (home : Homes) (ident : Ident) (name : List ℕ) (rows : List Row) (row : Row) → AllByRecursion (λ (r : Row). home r.message.ident ≡ Some name) rows → find (has_ident ident) rows ≡ Some row → home ident ≡ Some name
 found_home home ident name [] row all e = absurd cc
-found_home home ident name (x ∷ xs) row all e = at (has_ident ident x) refl e
-  where
-    at : (b : Bool) → has_ident ident x ≡ b → cond b (Some x) (find (has_ident ident) xs) ≡ Some row → home ident ≡ Some name
-    at true h e = ap home (sym (ident_is x.message.ident ident h)) ∙ all.0
-    at false h e = found_home home ident name xs row all.1 e
+found_home home ident name (x ∷ xs) row all e = home_step home ident name x row xs all.0 (has_ident ident x) refl e (found_home home ident name xs row all.1)
 
 row_step : (home : Homes) (ident : Ident) (s : QueueState) (rest : Option RowAt) (r : RowAt) → IsHome home s → (o : Option Row) → find (has_ident ident) s.queue.rows ≡ o → row_found o s.queue.name rest ≡ Some r
     → (rest ≡ Some r → home ident ≡ Some r.name) → home ident ≡ Some r.name
@@ -303,45 +304,42 @@ no_home home ident states all e = by (row_at ident states) refl
     by None h = refl
     by (Some r) h = absurd (let t : None ≡ Some r.name = sym e ∙ row_homed home ident states r all h in cc)
 
+some_name : (a b : List ℕ) → Some a ≡ Some b → a ≡ b
+some_name a b e = grind (arith, e)
+
+named_home : (home : Homes) (ident : Ident) (name : List ℕ) (s : QueueState) (row : Row) → home ident ≡ Some name → IsHome home s → find (has_ident ident) s.queue.rows ≡ Some row → has_name name s ≡ true
+named_home home ident name s row e own h =
+    let same = some_name name s.queue.name (sym e ∙ found_home home ident s.queue.name s.queue.rows row own h) in
+    ap (bytes_eq name) (sym same) ∙ name_self name
+
+without_row : (home : Homes) (ident : Ident) (name : List ℕ) (s : QueueState) (ss : List QueueState) → home ident ≡ Some name → IsHome home s → (o : Option Row) → find (has_ident ident) s.queue.rows ≡ o → (b : Bool) → has_name name s ≡ b
+    → ((b && is_some o) || row_found_in ident name ss) ≡ false → (row_found_in ident name ss ≡ false → option_map (λ (r : RowAt). r.name) (row_at ident ss) ≡ None) → option_map (λ (r : RowAt). r.name) (row_found o s.queue.name (row_at ident ss)) ≡ None
+without_row home ident name s ss e own None h true n none rest = rest none
+without_row home ident name s ss e own None h false n none rest = rest none
+without_row home ident name s ss e own (Some row) h true n none rest = absurd cc
+without_row home ident name s ss e own (Some row) h false n none rest = absurd (let t : true ≡ false = sym (named_home home ident name s row e own h) ∙ n in cc)
+
 -- the row is on the noted queue, or nowhere
 pub home_without : (home : Homes) (ident : Ident) (name : List ℕ) (states : List QueueState) → AreHome home states → home ident ≡ Some name → row_found_in ident name states ≡ false → option_map (λ (r : RowAt). r.name) (row_at ident states) ≡ None
-home_without home ident name states all e none = by states all none
-  where
-    other : (s : QueueState) (row : Row) → IsHome home s → find (has_ident ident) s.queue.rows ≡ Some row → has_name name s ≡ true
-    other s row own h =
-        let homed = found_home home ident s.queue.name s.queue.rows row own h in
-        let same : name ≡ s.queue.name = some_is name s.queue.name (sym e ∙ homed) in
-        ap (bytes_eq name) (sym same) ∙ name_self name
-      where
-        some_is : (a b : List ℕ) → Some a ≡ Some b → a ≡ b
-        some_is a b e = grind (arith, e)
+home_without home ident name [] all e none = refl
+home_without home ident name (s ∷ ss) all e none = without_row home ident name s ss e all.0 (find (has_ident ident) s.queue.rows) refl (has_name name s) refl none (home_without home ident name ss all.1 e)
 
-    step : (s : QueueState) (ss : List QueueState) → IsHome home s → (o : Option Row) → find (has_ident ident) s.queue.rows ≡ o → (b : Bool) → has_name name s ≡ b → ((b && is_some o) || row_found_in ident name ss) ≡ false
-        → (row_found_in ident name ss ≡ false → option_map (λ (r : RowAt). r.name) (row_at ident ss) ≡ None) → option_map (λ (r : RowAt). r.name) (row_found o s.queue.name (row_at ident ss)) ≡ None
-    step s ss own None h true n none rest = rest none
-    step s ss own None h false n none rest = rest none
-    step s ss own (Some row) h true n none rest = absurd cc
-    step s ss own (Some row) h false n none rest = absurd (let t : true ≡ false = sym (other s row own h) ∙ n in cc)
+some_step : (ident : Ident) (name : List ℕ) (s : QueueState) (ss : List QueueState) → (o : Option Row) (b : Bool) → ((b && is_some o) || row_found_in ident name ss) ≡ true → row_found o s.queue.name (row_at ident ss) ≡ None
+    → (row_found_in ident name ss ≡ true → row_at ident ss ≡ None → ⊥) → ⊥
+some_step ident name s ss None true there none rest = rest there none
+some_step ident name s ss None false there none rest = rest there none
+some_step ident name s ss (Some row) b there none rest = absurd cc
 
-    by : (states : List QueueState) → AreHome home states → row_found_in ident name states ≡ false → option_map (λ (r : RowAt). r.name) (row_at ident states) ≡ None
-    by [] all none = refl
-    by (s ∷ ss) all none = step s ss all.0 (find (has_ident ident) s.queue.rows) refl (has_name name s) refl none (by ss all.1)
+some_row : (ident : Ident) (name : List ℕ) (states : List QueueState) → row_found_in ident name states ≡ true → row_at ident states ≡ None → ⊥
+some_row ident name [] there none = absurd cc
+some_row ident name (s ∷ ss) there none = some_step ident name s ss (find (has_ident ident) s.queue.rows) (has_name name s) there none (some_row ident name ss)
 
 -- and where it stands there it is found
 pub home_with : (home : Homes) (ident : Ident) (name : List ℕ) (states : List QueueState) → AreHome home states → home ident ≡ Some name → row_found_in ident name states ≡ true → option_map (λ (r : RowAt). r.name) (row_at ident states) ≡ Some name
 home_with home ident name states all e there = by (row_at ident states) refl
   where
-    some_row : (states : List QueueState) → row_found_in ident name states ≡ true → row_at ident states ≡ None → ⊥
-    some_row [] there none = absurd cc
-    some_row (s ∷ ss) there none = step (find (has_ident ident) s.queue.rows) (has_name name s) there none
-      where
-        step : (o : Option Row) (b : Bool) → ((b && is_some o) || row_found_in ident name ss) ≡ true → row_found o s.queue.name (row_at ident ss) ≡ None → ⊥
-        step None true there none = some_row ss there none
-        step None false there none = some_row ss there none
-        step (Some row) b there none = absurd cc
-
     by : (o : Option RowAt) → row_at ident states ≡ o → option_map (λ (r : RowAt). r.name) o ≡ Some name
-    by None h = absurd (some_row states there h)
+    by None h = absurd (some_row ident name states there h)
     by (Some r) h = sym (row_homed home ident states r all h) ∙ e
 
 -- the queue of a name has a row with the ident
@@ -423,3 +421,11 @@ waits_there b n e t = grind (arith, nat_tests)
 
 pub waits_not : (b : Bool) (n : ℕ) → b ≡ nat_lt 0 n → b ≡ false → n ≤ 0
 waits_not b n e t = grind (arith, nat_tests)
+
+pub copied_none : {X : Type 0} (o : Option (Bor X)) → is_some o ≡ false → option_copied o ≡ None
+copied_none None e = refl
+copied_none (Some x) e = absurd cc
+
+pub copied_some : {X : Type 0} (o : Option (Bor X)) → is_some o ≡ true → is_some (option_copied o) ≡ true
+copied_some None e = absurd cc
+copied_some (Some x) e = refl

@@ -1,5 +1,5 @@
 -- Keys of idents.
-use Rattle.std.proofs.Common.{◌≡◌, ℕ, Bool, true, false, eqb, refl, arith}
+use Rattle.std.proofs.Common.{◌≡◌, ℕ, Bool, true, false, eqb, refl, sym, arith}
 use Rattle.std.specs.Prelude.{◌&&◌, Result, Ok, Err, OnOk, is_err}
 use Rattle.mq_message.specs.declared.message.Ident.{Ident}
 use Rattle.mq_queue.specs.Rows.{same_ident}
@@ -15,3 +15,7 @@ key_same a b = by (eqb a.manager b.manager) (eqb a.incarnation b.incarnation) (e
 pub ok_of : {T E A : Type 0} (r : Result T E) → is_err r ≡ false → OnOk r A → A
 ok_of (Ok t) e a = a
 ok_of (Err x) e a = absurd cc
+
+pub and_true : (a b : Bool) → b ≡ true → a ≡ (a && b)
+and_true true b e = sym e
+and_true false b e = refl

@@ -21,6 +21,8 @@ module _ (rows new : List Row) (n m pending room more : ℕ) (local : IsLocal ro
       (rw (are, same) (queue_kept test rows n local.0), omega (arith, local.1, stays), omega (arith, local.2, ap length are, length_kept test rows))
 
   pub local_placed : (by_priority : Bool) (message : Message) → Lacks message.ident rows → 0 < pending → new ≡ insert_row (row_of by_priority message (n + 1)) rows → m ≡ n + 1 → more ≡ room - 1 → IsLocal new m (pending - 1) more
-  local_placed by_priority message lacks waits are same stays =
-      (rw (are, same) (queue_placed by_priority message rows n lacks local.0), omega (arith, local.1, stays, waits),
-       omega (arith, local.2, waits, ap length are, length_placed (row_of by_priority message (n + 1)) rows))
+  local_placed by_priority message lacks waits are same stays = (
+    rw (are, same) (queue_placed by_priority message rows n lacks local.0),
+    omega (arith, local.1, stays, waits),
+    omega (arith, local.2, waits, ap length are, length_placed (row_of by_priority message (n + 1)) rows),
+  )

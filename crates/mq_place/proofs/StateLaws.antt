@@ -12,7 +12,7 @@ use Rattle.mq_spec_state.specs.State.{Queue}
 use Rattle.mq_spec_state.specs.State.Which.{Among, HeldByUnits, Nonpersistent}
 use Rattle.mq_spec_state.specs.Reads.{queue_in}
 use Rattle.mq_spec_state.specs.Changes.{selects, kept_in, held_in, released_in}
-use Rattle.mq_place.specs.States.{QueueState, has_name, state_in, or_fresh, state_or, change_state, on_queue, on_queues, on_rows, queues_of, rows_in, hold_each, release_each, remove_each, IsUnnamed, AreApart}
+use Rattle.mq_place.specs.States.{QueueState, QueueStates, rows_removed, has_name, state_in, or_fresh, state_or, change_state, on_queue, on_queues, on_rows, queues_of, rows_in, hold_each, release_each, remove_each, IsUnnamed, AreApart}
 use Rattle.mq_place.specs.Slots.{present, place_of, holds, AreNamed, rows_of_slot}
 use Rattle.mq_place.proofs.NameLaws.{name_is, name_self, name_swap}
 use Rattle.mq_place.proofs.SlotLaws.{NotIn, not_in_of}
@@ -122,3 +122,9 @@ kept_none name (s ∷ ss) =
     none : (b : Bool) → not (b && false) ≡ true
     none true = refl
     none false = refl
+
+pub removed_all : (name : List ℕ) (idents : List Ident) (v : QueueStates) → rows_removed name idents v ≡ record v { states = on_queues (kept_in (Among name idents)) v.states }
+removed_all name [] v = let none = kept_none name v.states in λ i. record { states = sym none i; room = v.room }
+removed_all name (ident ∷ idents) v =
+    let next = kept_next name ident idents v.states in
+    removed_all name idents (record v { states = on_queues (kept_in (Among name (ident ∷ []))) v.states }) ∙ (λ i. record { states = next i; room = v.room })

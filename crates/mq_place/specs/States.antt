@@ -12,7 +12,8 @@ use Rattle.mq_queue.specs.Rows.{keep, retag, is_free, is_after, has_ident}
 use Rattle.mq_queue.specs.Queues.{Lacks, lane_of, count_waiting, hold_row, release_row, has_other_ident}
 use Rattle.mq_spec_state.specs.State.{Queue, fresh_queue}
 use Rattle.mq_spec_state.specs.Reads.{queue_in}
-use Rattle.mq_spec_state.specs.Changes.{placed_in}
+use Rattle.mq_spec_state.specs.State.Which.{Among}
+use Rattle.mq_spec_state.specs.Changes.{placed_in, kept_in}
 
 pub record QueueState : Type 0 where
   pub queue : Queue
@@ -157,6 +158,11 @@ row_at ident (s ∷ ss) = row_found (find (has_ident ident) s.queue.rows) s.queu
 -- the first queue with a trigger due
 abbrev pub has_due : QueueState → Bool
 has_due s = nat_lt 0 s.queue.due
+
+-- rows of a queue taken out one after another
+abbrev pub rows_removed : List ℕ → List Ident → QueueStates → QueueStates
+rows_removed name [] v = v
+rows_removed name (ident ∷ idents) v = rows_removed name idents (record v { states = on_queues (kept_in (Among name (ident ∷ []))) v.states })
 
 -- one trigger more is counted
 abbrev pub CanBeDue : QueueState → Type 0

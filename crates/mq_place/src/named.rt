@@ -6,7 +6,11 @@ ghost use Rattle.mq_spec_state.specs.State.Which.{Among, HeldByUnits, Nonpersist
 ghost use Rattle.mq_place.specs.States.{state_in, state_or, change_state, on_queue, on_queues, served, switched_on, fresh_state, without_state, expecting, unpended, arrived, with_lanes, rows_in, CanPlace, AreApart};
 
 use crate::local::LocalRows;
-use crate::slots::{close_gaps, drop_volatile, expect_at, forget, free_units, hold_at, hold_each_at, lanes_at, make_due_at, place_at, release_at, release_each_at, remove_at, serve_at, switch_on_at, unpend_at};
+use crate::slots::{
+    close_gaps, drop_volatile, expect_at, forget, free_units, hold_at, hold_each_at, lanes_at,
+    make_due_at, place_at, release_at, release_each_at, remove_at, serve_at, switch_on_at,
+    unpend_at,
+};
 use indexmap::IndexMap;
 use mq_base::NoMemory;
 use mq_message::{Holder, Ident, Message};
@@ -94,7 +98,8 @@ impl<Q: Queue + Drop> Named<Q> {
         ensures room { self.old.room ≤ self.new.room + 1 }
     {
         let _none = self.places.insert(*name, self.slots.len()).unwrap();
-        self.slots.push_reserved(Some(LocalRows::new(self.alloc, *name, prioritized)));
+        self.slots
+            .push_reserved(Some(LocalRows::new(self.alloc, *name, prioritized)));
     }
 
     /// The queue with that name goes, with its rows, and the others keep their order. It takes constant time over many

@@ -6,7 +6,7 @@ ghost use Rattle.mq_queue.specs.Rows.{is_free, has_ident};
 ghost use Rattle.mq_queue.specs.Queues.{message_of, count_waiting};
 ghost use Rattle.mq_spec_state.specs.Changes.{kept_in, held_in, released_in, made_due, forgotten};
 ghost use Rattle.mq_spec_state.specs.State.Which.{Among, HeldByUnits, Nonpersistent};
-ghost use Rattle.mq_place.specs.States.{state_in, state_or, change_state, on_queue, on_queues, served, switched_on, fresh_state, without_state, expecting, unpended, arrived, with_lanes, depth_of, size_of, rows_in, free_idents, is_free_after, row_at, CanPlace, IsNowhere, AreApart};
+ghost use Rattle.mq_place.specs.States.{state_in, state_or, change_state, on_queue, on_queues, served, switched_on, fresh_state, without_state, expecting, unpended, arrived, with_lanes, depth_of, size_of, rows_in, free_idents, is_free_after, row_at, rows_removed, CanPlace, IsNowhere, AreApart};
 
 use crate::homes::{IdentKey, drop_home, home_of, note_home, reserve_homes};
 use crate::local::LocalRows;
@@ -244,9 +244,10 @@ impl<Q: Queue + Drop> Queues<Q> {
         ensures ok { OnOk result (self.new ≡ record self.old { states = change_state name.now expecting self.old.states }) }
         ensures err { OnErr result (self.new ≡ self.old) }
     {
-        let Some(more) = self.expected.checked_add(1) else {
+        if self.expected == u64::MAX {
             return Err(NoMemory);
-        };
+        }
+        let more = self.expected + 1;
         if reserve_homes(&mut self.homes, more).is_err() {
             return Err(NoMemory);
         }
@@ -324,6 +325,13 @@ impl<Q: Queue + Drop> Queues<Q> {
     /// Takes the rows with these idents out of a queue, free or held.
     pub fn remove_each(&mut self, name: &QName, idents: &[Ident])
         ensures { self.new ≡ record self.old { states = on_queues (kept_in (Among name.now idents.now)) self.old.states } }
+    {
+        self.remove_rows(name, idents);
+    }
+
+    // Takes rows out one after another.
+    fn remove_rows(&mut self, name: &QName, idents: &[Ident])
+        ensures { self.new ≡ rows_removed name.now idents.now self.old }
     {
         for ident in idents {
             let _message = self.remove(name, ident);

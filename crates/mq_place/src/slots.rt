@@ -16,7 +16,11 @@ use mq_name::QName;
 use mq_queue::Queue;
 
 /// Changes the lanes of a queue that has no row.
-pub fn lanes_at<Q: Queue + Drop>(slots: &mut Vec<Option<LocalRows<Q>>>, at: usize, prioritized: bool)
+pub fn lanes_at<Q: Queue + Drop>(
+    slots: &mut Vec<Option<LocalRows<Q>>>,
+    at: usize,
+    prioritized: bool,
+)
     requires at { at < vec_len slots.old }
     requires empty { rows_at slots.old.items at ≡ [] }
     ensures slots { slots.new.items ≡ slot_changed (with_lanes prioritized) slots.old.items at }
@@ -29,7 +33,10 @@ pub fn lanes_at<Q: Queue + Drop>(slots: &mut Vec<Option<LocalRows<Q>>>, at: usiz
 }
 
 /// Makes room for one more uncommitted put, which waits from now on.
-pub fn expect_at<Q: Queue + Drop>(slots: &mut Vec<Option<LocalRows<Q>>>, at: usize) -> Result<(), NoMemory>
+pub fn expect_at<Q: Queue + Drop>(
+    slots: &mut Vec<Option<LocalRows<Q>>>,
+    at: usize,
+) -> Result<(), NoMemory>
     requires at { at < vec_len slots.old }
     ensures ok { OnOk result (slots.new.items ≡ slot_changed expecting slots.old.items at) }
     ensures err { OnErr result (slots.new.items ≡ slots.old.items) }
@@ -68,7 +75,12 @@ pub fn place_at<Q: Queue + Drop>(slots: &mut Vec<Option<LocalRows<Q>>>, at: usiz
 }
 
 /// Holds the free row with an ident.
-pub fn hold_at<Q: Queue + Drop>(slots: &mut Vec<Option<LocalRows<Q>>>, at: usize, ident: &Ident, by: &Holder)
+pub fn hold_at<Q: Queue + Drop>(
+    slots: &mut Vec<Option<LocalRows<Q>>>,
+    at: usize,
+    ident: &Ident,
+    by: &Holder,
+)
     requires at { at < vec_len slots.old }
     ensures slots { slots.new.items ≡ slot_changed (on_rows (retag (hold_row ident.now by.now))) slots.old.items at }
     ensures len { vec_len slots.new ≡ vec_len slots.old }
@@ -80,7 +92,12 @@ pub fn hold_at<Q: Queue + Drop>(slots: &mut Vec<Option<LocalRows<Q>>>, at: usize
 }
 
 /// Frees the held row with an ident.
-pub fn release_at<Q: Queue + Drop>(slots: &mut Vec<Option<LocalRows<Q>>>, at: usize, ident: &Ident, backed_out: bool)
+pub fn release_at<Q: Queue + Drop>(
+    slots: &mut Vec<Option<LocalRows<Q>>>,
+    at: usize,
+    ident: &Ident,
+    backed_out: bool,
+)
     requires at { at < vec_len slots.old }
     ensures slots { slots.new.items ≡ slot_changed (on_rows (retag (release_row ident.now backed_out))) slots.old.items at }
     ensures len { vec_len slots.new ≡ vec_len slots.old }
@@ -92,7 +109,11 @@ pub fn release_at<Q: Queue + Drop>(slots: &mut Vec<Option<LocalRows<Q>>>, at: us
 }
 
 /// Takes the row with an ident out.
-pub fn remove_at<Q: Queue + Drop>(slots: &mut Vec<Option<LocalRows<Q>>>, at: usize, ident: &Ident) -> Option<Message>
+pub fn remove_at<Q: Queue + Drop>(
+    slots: &mut Vec<Option<LocalRows<Q>>>,
+    at: usize,
+    ident: &Ident,
+) -> Option<Message>
     requires at { at < vec_len slots.old }
     ensures message { result ≡ message_of ident.now (rows_at slots.old.items at) }
     ensures slots { slots.new.items ≡ slot_changed (on_rows (keep (has_other_ident ident.now))) slots.old.items at }
@@ -106,7 +127,12 @@ pub fn remove_at<Q: Queue + Drop>(slots: &mut Vec<Option<LocalRows<Q>>>, at: usi
 }
 
 /// Holds the free rows with these idents.
-pub fn hold_each_at<Q: Queue + Drop>(slots: &mut Vec<Option<LocalRows<Q>>>, at: usize, idents: &[Ident], by: &Holder)
+pub fn hold_each_at<Q: Queue + Drop>(
+    slots: &mut Vec<Option<LocalRows<Q>>>,
+    at: usize,
+    idents: &[Ident],
+    by: &Holder,
+)
     requires at { at < vec_len slots.old }
     ensures slots { slots.new.items ≡ slot_changed (on_rows (hold_each idents.now by.now)) slots.old.items at }
     ensures len { vec_len slots.new ≡ vec_len slots.old }
@@ -118,7 +144,11 @@ pub fn hold_each_at<Q: Queue + Drop>(slots: &mut Vec<Option<LocalRows<Q>>>, at: 
 }
 
 /// Frees the held rows with these idents, with no backout counted.
-pub fn release_each_at<Q: Queue + Drop>(slots: &mut Vec<Option<LocalRows<Q>>>, at: usize, idents: &[Ident])
+pub fn release_each_at<Q: Queue + Drop>(
+    slots: &mut Vec<Option<LocalRows<Q>>>,
+    at: usize,
+    idents: &[Ident],
+)
     requires at { at < vec_len slots.old }
     ensures slots { slots.new.items ≡ slot_changed (on_rows (release_each idents.now false)) slots.old.items at }
     ensures len { vec_len slots.new ≡ vec_len slots.old }
@@ -130,7 +160,12 @@ pub fn release_each_at<Q: Queue + Drop>(slots: &mut Vec<Option<LocalRows<Q>>>, a
 }
 
 /// A trigger becomes due.
-pub fn make_due_at<Q: Queue + Drop>(slots: &mut Vec<Option<LocalRows<Q>>>, at: usize, depth: bool, moment: u64)
+pub fn make_due_at<Q: Queue + Drop>(
+    slots: &mut Vec<Option<LocalRows<Q>>>,
+    at: usize,
+    depth: bool,
+    moment: u64,
+)
     requires at { at < vec_len slots.old }
     requires count { IfSome (slot_at slots.old.items at) CanBeDue }
     ensures slots { slots.new.items ≡ slot_changed (on_queue (made_due depth moment)) slots.old.items at }

@@ -1,6 +1,6 @@
 -- The scan of a get goes from one free row with the ids asked for to the next, while they are expired.
 use Rattle.std.proofs.Common.{◌≡◌, ℕ, zero, suc, ◌+◌, ◌<◌, ◌≤◌, Bool, true, false, eqb, cond, List, [], ◌∷◌, ◌++◌, length, refl, sym, ap, subst, ◌∙◌, arith}
-use Rattle.std.specs.Prelude.{Option, Some, None, find, filter, map, nat_lt, option_to_list, ◌&&◌, ◌||◌}
+use Rattle.std.specs.Prelude.{Option, Some, None, Result, Ok, Err, IfOk, OnOk, find, filter, map, nat_lt, option_to_list, ◌&&◌, ◌||◌}
 use Rattle.std.specs.List.{AllByRecursion}
 use Rattle.std.proofs.lemmas.Bool.Decides.{nat_tests}
 use Rattle.mq_message.specs.declared.place.Place.{Place}
@@ -10,11 +10,15 @@ use Rattle.mq_queue.specs.Rows.{is_free, is_wanted, is_before, is_after, same_pl
 use Rattle.mq_queue.specs.Queues.{AllBehind, AreInOrder, is_fitting, is_takable, is_at}
 use Rattle.mq_spec_state.specs.State.{Plain}
 use Rattle.mq_spec_state.specs.Reads.{is_past, is_expired}
-use Rattle.mq_spec_manager.specs.Get.{Scan, scan, scan_row, any_id, is_at as stands_at}
+use Rattle.mq_queue.proofs.StopLaws.{keep_filter}
+use Rattle.mq_calls.specs.declared.answers.Get.{Get}
+use Rattle.mq_calls.specs.declared.answers.Take.{Take}
+use Rattle.mq_calls.specs.declared.answers.Take.TheVariants as takes
+use Rattle.mq_spec_manager.specs.Get.{Scan, scan, scan_row, asked, looked_at, is_under, any_id, is_at as stands_at}
 use Rattle.mq_place.specs.States.{rows_after}
-use Rattle.mq_place.proofs.AfterLaws.{behind, find_after, next_after, shorter}
-use Rattle.mq_scan.specs.declared.scan.Met.{Met}
-use Rattle.mq_scan.specs.Scans.{scanned_at, met_of}
+use Rattle.mq_place.proofs.AfterLaws.{behind, find_after, next_after, shorter, rows_from_front}
+use Rattle.mq_scan.specs.declared.scanning.Met.{Met}
+use Rattle.mq_scan.specs.Scans.{scan_of, scanned_at, start_of, met_of}
 
 -- it depends on the moment alone
 pub scan_is : (want : Want) (p : Plain) (rows : List Row) → scan want p rows ≡ scanned_at want p.moment rows
@@ -157,3 +161,37 @@ all_of (x ∷ xs) = ap (λ (zs : List Met). x ∷ zs) (all_of xs)
 -- where none is met any more the list is whole
 pub met_all : (met whole : List Met) (s : Scan) → s.expired ≡ [] → met ++ map met_of s.expired ≡ whole → met ≡ whole
 met_all met whole s none is = sym (ap (λ (rs : List Row). met ++ map met_of rs) none ∙ all_of met) ∙ is
+
+-- The rows at which a get looks.
+
+pub under_looked : (take : Take) (cursor : Option Place) (rows : List Row) → is_under take ≡ true → looked_at take cursor rows ≡ filter (stands_at cursor) rows
+under_looked takes.Next cursor rows e = absurd cc
+under_looked takes.BrowseFirst cursor rows e = absurd cc
+under_looked takes.BrowseNext cursor rows e = absurd cc
+under_looked takes.UnderCursor cursor rows e = refl
+under_looked takes.BrowseUnder cursor rows e = refl
+
+pub start_looked : (take : Take) (cursor : Option Place) (rows : List Row) → is_under take ≡ false → looked_at take cursor rows ≡ rows_after (start_of take cursor) rows
+start_looked takes.Next cursor rows e = sym (rows_from_front rows)
+start_looked takes.BrowseFirst cursor rows e = sym (rows_from_front rows)
+start_looked takes.BrowseNext cursor rows e = keep_filter (is_after cursor) rows
+start_looked takes.UnderCursor cursor rows e = absurd cc
+start_looked takes.BrowseUnder cursor rows e = absurd cc
+
+-- a scan of these rows is that of the get
+pub told : (get : Get) (cursor : Option Place) (moment : ℕ) (want : Want) (rows looked : List Row) → asked get ≡ want → looked_at get.take cursor rows ≡ looked → (p : Plain) → p.moment ≡ moment → scan_of get cursor p rows ≡ scanned_at want moment looked
+told get cursor moment want rows looked asks looks p at = scan_is (asked get) p (looked_at get.take cursor rows) ∙ (λ i. scanned_at (asks i) (at i) (looks i))
+
+pub asked_under : (get : Get) → is_under get.take ≡ true → asked get ≡ any_id
+asked_under get e = ap (λ (b : Bool). cond b any_id get.want) e
+
+pub asked_ids : (get : Get) → is_under get.take ≡ false → asked get ≡ get.want
+asked_ids get e = ap (λ (b : Bool). cond b any_id get.want) e
+
+pub if_ok : {T E : Type 0} (r : Result T E) {P Q : T → Type 0} → ((t : T) → P t → Q t) → IfOk r P → IfOk r Q
+if_ok (Ok t) f p = f t p
+if_ok (Err e) f p = tt
+
+pub on_ok : {T E A B : Type 0} (r : Result T E) → (A → B) → OnOk r A → OnOk r B
+on_ok (Ok t) f a = f a
+on_ok (Err e) f a = tt

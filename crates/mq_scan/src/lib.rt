@@ -1,6 +1,6 @@
 //! The scan of a get: the expired rows that it meets, and the row that it finds.
 #![tactic(auto)]
 
-mod scan;
+mod scanning;
 
-pub use scan::{Met, scan};
+pub use scanning::{Met, scan};

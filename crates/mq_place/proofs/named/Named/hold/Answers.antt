@@ -12,7 +12,7 @@ use Rattle.mq_place.proofs.StateLaws.{apart, rows_found, held_one}
 use Rattle.mq_place.proofs.named.Named.hold.Goals as goal
 
 pub hold_at-requires : goal.hold_at-requires
-hold_at-requires g c = record { at = omega (arith, found_within _ _ _ c.self.invariant c.args.name.now c.in-Some.place.now (sym c.in-Some.ensures.value), c.self.inside.slots.ok); }
+hold_at-requires g c = record { at = omega (arith, found_within _ _ _ c.self.invariant c.args.name.now c.in-Some.place.now (sym c.in-Some.ensures.value), c.self.inside.slots.ok) }
 
 pub invariant_of-self : goal.invariant_of-self
 invariant_of-self g c =

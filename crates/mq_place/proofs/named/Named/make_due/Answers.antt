@@ -12,7 +12,7 @@ use Rattle.mq_place.proofs.StateLaws.{rows_found}
 use Rattle.mq_place.proofs.named.Named.make_due.Goals as goal
 
 pub make_due_at-requires : goal.make_due_at-requires
-make_due_at-requires g c = record { at = omega (arith, found_within _ _ _ c.self.invariant c.args.name.now c.in-Some.place.now (sym c.in-Some.ensures.value), c.self.inside.slots.ok); count = subst (λ (o : Option QueueState). IfSome o CanBeDue) (state_found _ _ _ c.self.invariant c.args.name.now c.in-Some.place.now (sym c.in-Some.ensures.value)) (can_be_due c.args.name.now _ (subst (λ (v : QueueStates). (state_or c.args.name.now v.states).queue.due + 1 < 2 ^ 64) (sym c.self.view_is) c.requires)); }
+make_due_at-requires g c = record { at = omega (arith, found_within _ _ _ c.self.invariant c.args.name.now c.in-Some.place.now (sym c.in-Some.ensures.value), c.self.inside.slots.ok); count = subst (λ (o : Option QueueState). IfSome o CanBeDue) (state_found _ _ _ c.self.invariant c.args.name.now c.in-Some.place.now (sym c.in-Some.ensures.value)) (can_be_due c.args.name.now _ (subst (λ (v : QueueStates). (state_or c.args.name.now v.states).queue.due + 1 < 2 ^ 64) (sym c.self.view_is) c.requires)) }
 
 pub invariant_of-self : goal.invariant_of-self
 invariant_of-self g c =

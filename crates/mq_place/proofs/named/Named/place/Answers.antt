@@ -10,7 +10,7 @@ use Rattle.mq_place.proofs.StateLaws.{rows_found}
 use Rattle.mq_place.proofs.named.Named.place.Goals as goal
 
 pub place_at-requires : goal.place_at-requires
-place_at-requires g c = record { at = omega (arith, found_within _ _ _ c.self.invariant c.args.name.now c.in-Some.place.now (sym c.in-Some.ensures.value), c.self.inside.slots.ok); can = subst (λ (o : Option QueueState). IfSome o (CanPlace c.args.message)) (state_found _ _ _ c.self.invariant c.args.name.now c.in-Some.place.now (sym c.in-Some.ensures.value)) (subst (λ (v : QueueStates). IfSome (state_in c.args.name.now v.states) (CanPlace c.args.message)) (sym c.self.view_is) c.requires); }
+place_at-requires g c = record { at = omega (arith, found_within _ _ _ c.self.invariant c.args.name.now c.in-Some.place.now (sym c.in-Some.ensures.value), c.self.inside.slots.ok); can = subst (λ (o : Option QueueState). IfSome o (CanPlace c.args.message)) (state_found _ _ _ c.self.invariant c.args.name.now c.in-Some.place.now (sym c.in-Some.ensures.value)) (subst (λ (v : QueueStates). IfSome (state_in c.args.name.now v.states) (CanPlace c.args.message)) (sym c.self.view_is) c.requires) }
 
 pub invariant_of-self : goal.invariant_of-self
 invariant_of-self g c =

@@ -12,7 +12,7 @@ use Rattle.mq_place.proofs.StateLaws.{apart, rows_found, released_one}
 use Rattle.mq_place.proofs.named.Named.release.Goals as goal
 
 pub release_at-requires : goal.release_at-requires
-release_at-requires g c = record { at = omega (arith, found_within _ _ _ c.self.invariant c.args.name.now c.in-Some.place.now (sym c.in-Some.ensures.value), c.self.inside.slots.ok); }
+release_at-requires g c = record { at = omega (arith, found_within _ _ _ c.self.invariant c.args.name.now c.in-Some.place.now (sym c.in-Some.ensures.value), c.self.inside.slots.ok) }
 
 pub invariant_of-self : goal.invariant_of-self
 invariant_of-self g c =

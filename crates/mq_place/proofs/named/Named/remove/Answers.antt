@@ -14,7 +14,7 @@ use Rattle.mq_place.proofs.StateLaws.{apart, rows_found, removed_one}
 use Rattle.mq_place.proofs.named.Named.remove.Goals as goal
 
 pub remove_at-requires : goal.remove_at-requires
-remove_at-requires g c = record { at = omega (arith, found_within _ _ _ c.self.invariant c.args.name.now c.in-Some.place.now (sym c.in-Some.ensures.value), c.self.inside.slots.ok); }
+remove_at-requires g c = record { at = omega (arith, found_within _ _ _ c.self.invariant c.args.name.now c.in-Some.place.now (sym c.in-Some.ensures.value), c.self.inside.slots.ok) }
 
 pub invariant_of-self : goal.invariant_of-self
 invariant_of-self g c =

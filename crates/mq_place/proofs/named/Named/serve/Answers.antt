@@ -10,7 +10,7 @@ use Rattle.mq_place.proofs.StateLaws.{rows_found}
 use Rattle.mq_place.proofs.named.Named.serve.Goals as goal
 
 pub serve_at-requires : goal.serve_at-requires
-serve_at-requires g c = record { at = omega (arith, found_within _ _ _ c.self.invariant c.args.name.now c.in-Some.place.now (sym c.in-Some.ensures.value), c.self.inside.slots.ok); }
+serve_at-requires g c = record { at = omega (arith, found_within _ _ _ c.self.invariant c.args.name.now c.in-Some.place.now (sym c.in-Some.ensures.value), c.self.inside.slots.ok) }
 
 pub invariant_of-self : goal.invariant_of-self
 invariant_of-self g c =

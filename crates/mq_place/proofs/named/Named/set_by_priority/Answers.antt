@@ -10,7 +10,7 @@ use Rattle.mq_place.proofs.StateLaws.{rows_found}
 use Rattle.mq_place.proofs.named.Named.set_by_priority.Goals as goal
 
 pub lanes_at-requires : goal.lanes_at-requires
-lanes_at-requires g c = record { at = omega (arith, found_within _ _ _ c.self.invariant c.args.name.now c.in-Some.place.now (sym c.in-Some.ensures.value), c.self.inside.slots.ok); empty = ap rows_of_slot (sym (state_found _ _ _ c.self.invariant c.args.name.now c.in-Some.place.now (sym c.in-Some.ensures.value))) ∙ sym (rows_found c.args.name.now (present c.self.inside.slots.items)) ∙ subst (λ (v : QueueStates). rows_in c.args.name.now v.states ≡ []) (sym c.self.view_is) c.requires; }
+lanes_at-requires g c = record { at = omega (arith, found_within _ _ _ c.self.invariant c.args.name.now c.in-Some.place.now (sym c.in-Some.ensures.value), c.self.inside.slots.ok); empty = ap rows_of_slot (sym (state_found _ _ _ c.self.invariant c.args.name.now c.in-Some.place.now (sym c.in-Some.ensures.value))) ∙ sym (rows_found c.args.name.now (present c.self.inside.slots.items)) ∙ subst (λ (v : QueueStates). rows_in c.args.name.now v.states ≡ []) (sym c.self.view_is) c.requires }
 
 pub invariant_of-self : goal.invariant_of-self
 invariant_of-self g c =

@@ -10,7 +10,7 @@ use Rattle.mq_place.proofs.StateLaws.{rows_found}
 use Rattle.mq_place.proofs.named.Named.unpend.Goals as goal
 
 pub unpend_at-requires : goal.unpend_at-requires
-unpend_at-requires g c = record { at = omega (arith, found_within _ _ _ c.self.invariant c.args.name.now c.in-Some.place.now (sym c.in-Some.ensures.value), c.self.inside.slots.ok); }
+unpend_at-requires g c = record { at = omega (arith, found_within _ _ _ c.self.invariant c.args.name.now c.in-Some.place.now (sym c.in-Some.ensures.value), c.self.inside.slots.ok) }
 
 pub invariant_of-self : goal.invariant_of-self
 invariant_of-self g c =

@@ -3,7 +3,7 @@ use Rattle.std.specs.Prelude.{map}
 use Rattle.mq_place.specs.States.{rows_after}
 use Rattle.mq_scan.specs.Scans.{met_of}
 use Rattle.mq_scan.proofs.ScanLaws.{scan_after}
-use Rattle.mq_scan.proofs.scan.scan_from.Given as goal
+use Rattle.mq_scan.proofs.scanning.scan_from.Given as goal
 
 abbrev pub invariant-loop-seen : goal.invariant-loop-seen
 invariant-loop-seen g l = record {

@@ -1,11 +1,11 @@
 //! The scan of a get over the rows of one queue.
-ghost use Rattle.std.specs.Prelude.{◌≡◌, ◌++◌, map, filter, option_copied, IfOk, OnOk};
-ghost use Rattle.mq_queue.specs.Rows.{is_persistent};
+ghost use Rattle.std.specs.Prelude.{◌≡◌, ◌++◌, ◌∷◌, [], map, filter, option_to_list, option_copied, IfOk, OnOk};
+ghost use Rattle.mq_queue.specs.Rows.{is_free, is_persistent};
 ghost use Rattle.mq_spec_state.specs.State.{Plain};
 ghost use Rattle.mq_spec_state.specs.Reads.{is_past};
-ghost use Rattle.mq_spec_manager.specs.Get.{any_id, is_at};
+ghost use Rattle.mq_spec_manager.specs.Get.{any_id, is_at, is_under};
 ghost use Rattle.mq_place.specs.States.{rows_after};
-ghost use Rattle.mq_scan.specs.Scans.{scan_of, scanned_at, met_of};
+ghost use Rattle.mq_scan.specs.Scans.{scan_of, scanned_at, start_of, met_of};
 
 use mq_base::{Items, NoMemory};
 use mq_calls::{Get, Take};
@@ -37,6 +37,16 @@ fn is_persistent(message: &Message) -> bool
     ensures { result ≡ is_persistent message.now }
 {
     message.md.persistence == 1
+}
+
+/// Whether no unit and no batch holds it.
+fn is_free(row: &Row) -> bool
+    ensures { result ≡ is_free row.now }
+{
+    match row.by {
+        None => true,
+        Some(_) => false,
+    }
 }
 
 /// Whether the deadline is there and has come.
@@ -75,22 +85,26 @@ fn scan_from<'a, Q: Queue + Drop>(
     Ok(None)
 }
 
-fn scan_under<'a, Q: Queue + Drop>(
-    local: &'a LocalRows<Q>,
-    cursor: Option<Place>,
+// The row under a cursor, where one is set.
+fn row_under<'a, Q: Queue + Drop>(local: &'a LocalRows<Q>, cursor: Option<Place>) -> Option<&'a Row>
+    ensures { option_to_list (option_copied result) ≡ filter (is_at cursor) local.now.queue.rows }
+{
+    let _len = local.len();
+    match cursor {
+        None => None,
+        Some(place) => local.at(place),
+    }
+}
+
+fn scan_one<'a>(
+    row: &'a Row,
     moment: u64,
     met: &mut Items<Met>,
 ) -> Result<Option<&'a Row>, NoMemory>
-    ensures found { IfOk result (λ row. option_copied row ≡ (scanned_at any_id moment (filter (is_at cursor) local.now.queue.rows)).found) }
-    ensures met { OnOk result (met.new ≡ met.old ++ map met_of (scanned_at any_id moment (filter (is_at cursor) local.now.queue.rows)).expired) }
+    ensures found { IfOk result (λ found. option_copied found ≡ (scanned_at any_id moment (row.now ∷ [])).found) }
+    ensures met { OnOk result (met.new ≡ met.old ++ map met_of (scanned_at any_id moment (row.now ∷ [])).expired) }
 {
-    let Some(place) = cursor else {
-        return Ok(None);
-    };
-    let Some(row) = local.at(place) else {
-        return Ok(None);
-    };
-    if row.by.is_some() {
+    if !is_free(row) {
         return Ok(None);
     }
     if !is_past(moment, row.message.deadline) {
@@ -100,6 +114,41 @@ fn scan_under<'a, Q: Queue + Drop>(
         return Err(NoMemory);
     }
     Ok(None)
+}
+
+fn scan_under<'a, Q: Queue + Drop>(
+    local: &'a LocalRows<Q>,
+    cursor: Option<Place>,
+    moment: u64,
+    met: &mut Items<Met>,
+) -> Result<Option<&'a Row>, NoMemory>
+    ensures found { IfOk result (λ row. option_copied row ≡ (scanned_at any_id moment (filter (is_at cursor) local.now.queue.rows)).found) }
+    ensures met { OnOk result (met.new ≡ met.old ++ map met_of (scanned_at any_id moment (filter (is_at cursor) local.now.queue.rows)).expired) }
+{
+    match row_under(local, cursor) {
+        None => Ok(None),
+        Some(row) => scan_one(row, moment, met),
+    }
+}
+
+// Whether the row under the cursor is asked for.
+fn is_under(take: &Take) -> bool
+    ensures { result ≡ is_under take.now }
+{
+    match take {
+        Take::Next | Take::BrowseFirst | Take::BrowseNext => false,
+        Take::UnderCursor | Take::BrowseUnder => true,
+    }
+}
+
+// The place behind which a scan begins; none for the front.
+fn start_of(take: &Take, cursor: Option<Place>) -> Option<Place>
+    ensures { result ≡ start_of take.now cursor }
+{
+    match take {
+        Take::Next | Take::BrowseFirst => None,
+        Take::BrowseNext | Take::UnderCursor | Take::BrowseUnder => cursor,
+    }
 }
 
 /// The scan of a get at a moment, in milliseconds, over the rows of its queue: the row that it finds, and, added to the
@@ -115,9 +164,9 @@ pub fn scan<'a, Q: Queue + Drop>(
     ensures found { IfOk result (λ row. (p : Plain) → p.moment ≡ moment → option_copied row ≡ (scan_of get.now cursor p local.now.queue.rows).found) }
     ensures met { OnOk result ((p : Plain) → p.moment ≡ moment → met.new ≡ met.old ++ map met_of (scan_of get.now cursor p local.now.queue.rows).expired) }
 {
-    match get.take {
-        Take::Next | Take::BrowseFirst => scan_from(local, &get.want, None, moment, met),
-        Take::BrowseNext => scan_from(local, &get.want, cursor, moment, met),
-        Take::UnderCursor | Take::BrowseUnder => scan_under(local, cursor, moment, met),
+    if is_under(&get.take) {
+        scan_under(local, cursor, moment, met)
+    } else {
+        scan_from(local, &get.want, start_of(&get.take, cursor), moment, met)
     }
 }
