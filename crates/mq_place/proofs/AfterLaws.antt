@@ -1,14 +1,14 @@
 -- Rows in order of place that are gone through from one to the next that passes a test.
 use Rattle.std.proofs.Common.{◌≡◌, ℕ, zero, suc, ◌+◌, ◌-◌, ◌<◌, ◌≤◌, Bool, true, false, eqb, cond, List, [], ◌∷◌, ◌++◌, length, refl, sym, ap, subst, ◌∙◌, arith}
-use Rattle.std.specs.Prelude.{Option, Some, None, if◌then◌else◌, find, filter, take, map, nat_lt, not, ◌&&◌, ◌||◌}
+use Rattle.std.specs.Prelude.{Option, Some, None, if◌then◌else◌, find, filter, take, map, nat_lt, ◌&&◌, ◌||◌}
 use Rattle.std.specs.List.{AllByRecursion}
 use Rattle.std.proofs.lemmas.Bool.Decides.{nat_tests}
 use Rattle.mq_message.specs.declared.message.Ident.{Ident}
 use Rattle.mq_message.specs.declared.place.Place.{Place}
 use Rattle.mq_queue.specs.declared.row.Row.{Row}
-use Rattle.mq_queue.specs.Rows.{is_free, is_before, is_after, has_ident, keep}
+use Rattle.mq_queue.specs.Rows.{is_free, is_before, is_after, keep}
 use Rattle.mq_queue.specs.Queues.{AllBehind, AreInOrder}
-use Rattle.mq_queue.proofs.QueueLaws.{keep_same, order_keep}
+use Rattle.mq_queue.proofs.QueueLaws.{order_keep}
 use Rattle.mq_place.specs.States.{rows_after, is_free_after, free_idents, row_ident}
 use Rattle.mq_place.proofs.RowLaws.{keep_twice, keep_same_rows}
 

@@ -1,6 +1,5 @@
 -- What is found of queues in slots by a map from their names, and that the map stays true.
 use Rattle.std.proofs.Common.{◌≡◌, ℕ, ◌+◌, ◌<◌, cond, List, [], ◌∷◌, ◌++◌, refl, sym, ap, subst, ◌∙◌, Some, None, Option, is_some, if◌then◌else◌, length, get_or, slice_set, arith}
-use Rattle.std.specs.Prelude.{map}
 use Rattle.std.specs.Str.{bytes_eq}
 use Rattle.mq_place.specs.States.{QueueState, state_in, change_state, without_state}
 use Rattle.mq_place.specs.Slots.{present, IsFiled, slot_at, slot_changed, slots_changed}

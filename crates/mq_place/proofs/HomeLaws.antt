@@ -1,20 +1,20 @@
 -- Where idents stand stays noted, whatever is done to the queues.
-use Rattle.std.proofs.Common.{◌≡◌, ℕ, zero, suc, ◌+◌, ◌-◌, ◌<◌, ◌≤◌, Bool, true, false, eqb, cond, List, [], ◌∷◌, ◌++◌, refl, sym, ap, subst, ◌∙◌, arith, Bor}
-use Rattle.std.specs.Prelude.{Option, Some, None, map, find, filter, not, nat_lt, ◌&&◌, ◌||◌, if◌then◌else◌, option_map, option_copied, is_some, IfSome}
-use Rattle.std.specs.List.{AllByRecursion, list_any}
+use Rattle.std.proofs.Common.{◌≡◌, ℕ, ◌+◌, ◌-◌, ◌<◌, ◌≤◌, Bool, true, false, eqb, cond, List, [], ◌∷◌, ◌++◌, refl, sym, ap, subst, ◌∙◌, arith, Bor}
+use Rattle.std.specs.Prelude.{Option, Some, None, map, find, not, nat_lt, ◌&&◌, ◌||◌, option_map, option_copied, is_some, IfSome}
+use Rattle.std.specs.List.{AllByRecursion}
 use Rattle.std.specs.Str.{bytes_eq}
 use Rattle.std.proofs.lemmas.Bool.Decides.{nat_tests}
 use Rattle.mq_message.specs.declared.message.Ident.{Ident}
 use Rattle.mq_message.specs.declared.message.Message.{Message}
 use Rattle.mq_message.specs.declared.place.Holder.{Holder}
 use Rattle.mq_queue.specs.declared.row.Row.{Row}
-use Rattle.mq_queue.specs.Rows.{same_ident, has_ident, is_free, is_by_unit, keep, retag}
+use Rattle.mq_queue.specs.Rows.{same_ident, has_ident, is_free, keep}
 use Rattle.mq_queue.specs.Queues.{Lacks, lane_of, freed, message_of}
 use Rattle.mq_queue.proofs.QueueLaws.{all_insert, all_keep, all_retag, all_imply}
 use Rattle.mq_spec_state.specs.State.{Queue, Which}
 use Rattle.mq_spec_state.specs.State.Which.{Among}
 use Rattle.mq_spec_state.specs.Changes.{selects, retag_if, release_if, kept_in, held_in, released_in, new_row}
-use Rattle.mq_place.specs.States.{QueueState, has_name, state_in, change_state, on_queue, on_queues, without_state, expecting, unpended, arrived, fresh_state, or_fresh, state_or, IsNowhere, CanPlace, IsUnnamed, AreApart, RowAt, row_found, row_at}
+use Rattle.mq_place.specs.States.{QueueState, has_name, state_in, change_state, on_queue, on_queues, without_state, expecting, unpended, arrived, fresh_state, or_fresh, state_or, IsNowhere, CanPlace, IsUnnamed, AreApart, Located, row_found, row_at}
 use Rattle.mq_place.specs.Slots.{rows_of_slot}
 use Rattle.mq_place.specs.Homes.{is_home, IsHome, AreHome, all_pending}
 use Rattle.mq_place.proofs.NameLaws.{name_is, name_self}
@@ -282,25 +282,25 @@ found_home : (home : Homes) (ident : Ident) (name : List ℕ) (rows : List Row) 
 found_home home ident name [] row all e = absurd cc
 found_home home ident name (x ∷ xs) row all e = home_step home ident name x row xs all.0 (has_ident ident x) refl e (found_home home ident name xs row all.1)
 
-row_step : (home : Homes) (ident : Ident) (s : QueueState) (rest : Option RowAt) (r : RowAt) → IsHome home s → (o : Option Row) → find (has_ident ident) s.queue.rows ≡ o → row_found o s.queue.name rest ≡ Some r
+row_step : (home : Homes) (ident : Ident) (s : QueueState) (rest : Option Located) (r : Located) → IsHome home s → (o : Option Row) → find (has_ident ident) s.queue.rows ≡ o → row_found o s.queue.name rest ≡ Some r
     → (rest ≡ Some r → home ident ≡ Some r.name) → home ident ≡ Some r.name
 row_step home ident s rest r own None h e next = next e
 row_step home ident s rest r own (Some row) h e next =
     let is : record { name = s.queue.name; row = row } ≡ r = some_is _ r e in
-    found_home home ident s.queue.name s.queue.rows row own h ∙ ap (λ (x : RowAt). Some x.name) is
+    found_home home ident s.queue.name s.queue.rows row own h ∙ ap (λ (x : Located). Some x.name) is
   where
-    some_is : (a b : RowAt) → Some a ≡ Some b → a ≡ b
+    some_is : (a b : Located) → Some a ≡ Some b → a ≡ b
     some_is a b e = grind (arith, e)
 
-pub row_homed : (home : Homes) (ident : Ident) (states : List QueueState) (r : RowAt) → AreHome home states → row_at ident states ≡ Some r → home ident ≡ Some r.name
+pub row_homed : (home : Homes) (ident : Ident) (states : List QueueState) (r : Located) → AreHome home states → row_at ident states ≡ Some r → home ident ≡ Some r.name
 row_homed home ident [] r all e = absurd cc
 row_homed home ident (s ∷ ss) r all e = row_step home ident s (row_at ident ss) r all.0 (find (has_ident ident) s.queue.rows) refl e (row_homed home ident ss r all.1)
 
 -- no note, no row
-pub no_home : (home : Homes) (ident : Ident) (states : List QueueState) → AreHome home states → home ident ≡ None → option_map (λ (r : RowAt). r.name) (row_at ident states) ≡ None
+pub no_home : (home : Homes) (ident : Ident) (states : List QueueState) → AreHome home states → home ident ≡ None → option_map (λ (r : Located). r.name) (row_at ident states) ≡ None
 no_home home ident states all e = by (row_at ident states) refl
   where
-    by : (o : Option RowAt) → row_at ident states ≡ o → option_map (λ (r : RowAt). r.name) o ≡ None
+    by : (o : Option Located) → row_at ident states ≡ o → option_map (λ (r : Located). r.name) o ≡ None
     by None h = refl
     by (Some r) h = absurd (let t : None ≡ Some r.name = sym e ∙ row_homed home ident states r all h in cc)
 
@@ -313,14 +313,14 @@ named_home home ident name s row e own h =
     ap (bytes_eq name) (sym same) ∙ name_self name
 
 without_row : (home : Homes) (ident : Ident) (name : List ℕ) (s : QueueState) (ss : List QueueState) → home ident ≡ Some name → IsHome home s → (o : Option Row) → find (has_ident ident) s.queue.rows ≡ o → (b : Bool) → has_name name s ≡ b
-    → ((b && is_some o) || row_found_in ident name ss) ≡ false → (row_found_in ident name ss ≡ false → option_map (λ (r : RowAt). r.name) (row_at ident ss) ≡ None) → option_map (λ (r : RowAt). r.name) (row_found o s.queue.name (row_at ident ss)) ≡ None
+    → ((b && is_some o) || row_found_in ident name ss) ≡ false → (row_found_in ident name ss ≡ false → option_map (λ (r : Located). r.name) (row_at ident ss) ≡ None) → option_map (λ (r : Located). r.name) (row_found o s.queue.name (row_at ident ss)) ≡ None
 without_row home ident name s ss e own None h true n none rest = rest none
 without_row home ident name s ss e own None h false n none rest = rest none
 without_row home ident name s ss e own (Some row) h true n none rest = absurd cc
 without_row home ident name s ss e own (Some row) h false n none rest = absurd (let t : true ≡ false = sym (named_home home ident name s row e own h) ∙ n in cc)
 
 -- the row is on the noted queue, or nowhere
-pub home_without : (home : Homes) (ident : Ident) (name : List ℕ) (states : List QueueState) → AreHome home states → home ident ≡ Some name → row_found_in ident name states ≡ false → option_map (λ (r : RowAt). r.name) (row_at ident states) ≡ None
+pub home_without : (home : Homes) (ident : Ident) (name : List ℕ) (states : List QueueState) → AreHome home states → home ident ≡ Some name → row_found_in ident name states ≡ false → option_map (λ (r : Located). r.name) (row_at ident states) ≡ None
 home_without home ident name [] all e none = refl
 home_without home ident name (s ∷ ss) all e none = without_row home ident name s ss e all.0 (find (has_ident ident) s.queue.rows) refl (has_name name s) refl none (home_without home ident name ss all.1 e)
 
@@ -335,10 +335,10 @@ some_row ident name [] there none = absurd cc
 some_row ident name (s ∷ ss) there none = some_step ident name s ss (find (has_ident ident) s.queue.rows) (has_name name s) there none (some_row ident name ss)
 
 -- and where it stands there it is found
-pub home_with : (home : Homes) (ident : Ident) (name : List ℕ) (states : List QueueState) → AreHome home states → home ident ≡ Some name → row_found_in ident name states ≡ true → option_map (λ (r : RowAt). r.name) (row_at ident states) ≡ Some name
+pub home_with : (home : Homes) (ident : Ident) (name : List ℕ) (states : List QueueState) → AreHome home states → home ident ≡ Some name → row_found_in ident name states ≡ true → option_map (λ (r : Located). r.name) (row_at ident states) ≡ Some name
 home_with home ident name states all e there = by (row_at ident states) refl
   where
-    by : (o : Option RowAt) → row_at ident states ≡ o → option_map (λ (r : RowAt). r.name) o ≡ Some name
+    by : (o : Option Located) → row_at ident states ≡ o → option_map (λ (r : Located). r.name) o ≡ Some name
     by None h = absurd (some_row ident name states there h)
     by (Some r) h = sym (row_homed home ident states r all h) ∙ e
 

@@ -1,5 +1,5 @@
 -- Keys of idents.
-use Rattle.std.proofs.Common.{◌≡◌, ℕ, Bool, true, false, eqb, refl, sym, arith}
+use Rattle.std.proofs.Common.{◌≡◌, Bool, true, false, eqb, refl, sym}
 use Rattle.std.specs.Prelude.{◌&&◌, Result, Ok, Err, OnOk, is_err}
 use Rattle.mq_message.specs.declared.message.Ident.{Ident}
 use Rattle.mq_queue.specs.Rows.{same_ident}

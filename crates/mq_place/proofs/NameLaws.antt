@@ -1,5 +1,5 @@
 -- Names that count as the same are one.
-use Rattle.std.proofs.Common.{◌≡◌, ℕ, Bool, true, false, List, refl, sym, ap, ◌∙◌}
+use Rattle.std.proofs.Common.{◌≡◌, ℕ, Bool, true, false, List, refl, sym, ap}
 use Rattle.std.specs.Str.{bytes_eq}
 use Rattle.std.proofs.lemmas.Slice.Eq.{bytes_eq-Decides}
 
@@ -15,5 +15,5 @@ name_swap a b = by (bytes_eq a b) refl (bytes_eq b a) refl
     by : (s : Bool) → bytes_eq a b ≡ s → (t : Bool) → bytes_eq b a ≡ t → s ≡ t
     by true p true q = refl
     by false p false q = refl
-    by true p false q = let same = name_is a b p in absurd (cc (sym (ap (λ (x : List ℕ). bytes_eq b x) same) ∙ q ∙ refl, name_self b, sym q))
+    by true p false q = let same = name_is a b p in absurd (cc (ap (λ (x : List ℕ). bytes_eq b x) same, q, name_self b))
     by false p true q = let same = name_is b a q in absurd (cc (ap (λ (x : List ℕ). bytes_eq a x) (sym same), p, name_self a))

@@ -7,7 +7,7 @@ use Rattle.mq_message.specs.declared.message.Ident.{Ident}
 use Rattle.mq_message.specs.declared.place.Holder.{Holder}
 use Rattle.mq_message.specs.declared.place.Holder.TheVariants as holders
 use Rattle.mq_queue.specs.declared.row.Row.{Row}
-use Rattle.mq_queue.specs.Rows.{same_ident, has_ident, is_free, is_persistent, is_by_unit, keep, retag}
+use Rattle.mq_queue.specs.Rows.{same_ident, is_free, is_persistent, keep, retag}
 use Rattle.mq_queue.specs.Queues.{hold_row, release_row, freed, has_other_ident, is_lasting, unit_freed}
 use Rattle.mq_queue.proofs.QueueLaws.{keep_same, retag_same}
 use Rattle.mq_spec_state.specs.State.Which.{Among, HeldByUnits, Nonpersistent}

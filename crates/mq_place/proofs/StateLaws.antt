@@ -1,7 +1,7 @@
 -- One queue that is changed, as the changes of a manager mean it: all queues are changed, and those of other names stay.
-use Rattle.std.proofs.Common.{◌≡◌, ℕ, ◌+◌, Bool, true, false, cond, List, [], ◌∷◌, refl, sym, ap, subst, ◌∙◌, arith}
+use Rattle.std.proofs.Common.{◌≡◌, ℕ, Bool, true, false, cond, List, [], ◌∷◌, refl, sym, ap, subst, ◌∙◌}
 use Rattle.std.specs.Prelude.{Option, Some, None, map, not, ◌&&◌, ◌||◌}
-use Rattle.std.specs.List.{AllByRecursion, list_any}
+use Rattle.std.specs.List.{list_any}
 use Rattle.std.specs.Str.{bytes_eq}
 use Rattle.mq_message.specs.declared.message.Ident.{Ident}
 use Rattle.mq_message.specs.declared.place.Holder.{Holder}
@@ -13,8 +13,8 @@ use Rattle.mq_spec_state.specs.State.Which.{Among, HeldByUnits, Nonpersistent}
 use Rattle.mq_spec_state.specs.Reads.{queue_in}
 use Rattle.mq_spec_state.specs.Changes.{selects, kept_in, held_in, released_in}
 use Rattle.mq_place.specs.States.{QueueState, QueueStates, rows_removed, has_name, state_in, or_fresh, state_or, change_state, on_queue, on_queues, on_rows, queues_of, rows_in, hold_each, release_each, remove_each, IsUnnamed, AreApart}
-use Rattle.mq_place.specs.Slots.{present, place_of, holds, AreNamed, rows_of_slot}
-use Rattle.mq_place.proofs.NameLaws.{name_is, name_self, name_swap}
+use Rattle.mq_place.specs.Slots.{present, AreNamed, rows_of_slot}
+use Rattle.mq_place.proofs.NameLaws.{name_is, name_swap}
 use Rattle.mq_place.proofs.SlotLaws.{NotIn, not_in_of}
 use Rattle.mq_place.proofs.RowLaws.{held_among, held_other, released_among, released_other, removed_among, kept_other, lasting_kept, units_freed, keep_twice, keep_same_rows}
 

@@ -1,8 +1,8 @@
 -- Local queues as a manager keeps them: what the plain manager sees of each, its lanes, and how many uncommitted puts wait
 -- for it.
-use Rattle.std.specs.Prelude.{◌≡◌, ℕ, ◌+◌, ◌-◌, ◌<◌, ◌≤◌, ◌^◌, Bool, true, false, not, ◌&&◌, List, [], ◌∷◌, if◌then◌else◌, Option, Some, None, map, filter, length, IfSome, IsSome, nat_lt, find, take}
+use Rattle.std.specs.Prelude.{◌≡◌, ℕ, ◌+◌, ◌-◌, ◌<◌, ◌^◌, Bool, false, not, ◌&&◌, List, [], ◌∷◌, if◌then◌else◌, Option, Some, None, map, filter, length, nat_lt, find, take}
 use Rattle.std.specs.Str.{bytes_eq}
-use Rattle.std.specs.List.{AllByRecursion, list_any}
+use Rattle.std.specs.List.{AllByRecursion}
 use Rattle.mq_message.specs.declared.message.Ident.{Ident}
 use Rattle.mq_message.specs.declared.message.Message.{Message}
 use Rattle.mq_queue.specs.declared.row.Row.{Row}
@@ -142,16 +142,16 @@ pub record CanPlace (message : Message) (s : QueueState) : Type 0 where
   pub count : s.queue.arrivals + 1 < 2 ^ 64
 
 -- a row with the name of its queue
-pub record RowAt : Type 0 where
+pub record Located : Type 0 where
   pub name : List ℕ
   pub row : Row
 
-abbrev pub row_found : Option Row → List ℕ → Option RowAt → Option RowAt
+abbrev pub row_found : Option Row → List ℕ → Option Located → Option Located
 row_found None name rest = rest
 row_found (Some row) name rest = Some (record { name = name; row = row })
 
 -- the first row that has the ident
-abbrev pub row_at : Ident → List QueueState → Option RowAt
+abbrev pub row_at : Ident → List QueueState → Option Located
 row_at ident [] = None
 row_at ident (s ∷ ss) = row_found (find (has_ident ident) s.queue.rows) s.queue.name (row_at ident ss)
 

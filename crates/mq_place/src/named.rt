@@ -24,7 +24,7 @@ use std::marker::Model;
 ///
 /// All calls but `expect` and `reserve_queue` take no memory.
 #[derive(Drop)]
-pub struct Named<Q: Queue + Drop> {
+pub struct NamedQueues<Q: Queue + Drop> {
     alloc: Global,
     // In order of definition. A slot is empty where its queue was deleted, and so are at most half of them.
     slots: Vec<Option<LocalRows<Q>>>,
@@ -32,7 +32,7 @@ pub struct Named<Q: Queue + Drop> {
     places: IndexMap<QName, usize>,
 }
 
-impl<Q: Queue + Drop> Model for Named<Q> {
+impl<Q: Queue + Drop> Model for NamedQueues<Q> {
     ghost use Rattle.std.specs.Prelude.{◌-◌, min, vec_len, vec_capacity};
     ghost use Rattle.std.specs.Str.{bytes_eq};
     ghost use Rattle.indexmap.specs.IndexMap.{get, spare, index_map_len};
@@ -49,12 +49,12 @@ impl<Q: Queue + Drop> Model for Named<Q> {
     ghost invariant = { λ q. IsFiled q.slots.items (get bytes_eq q.places) (index_map_len q.places) };
 }
 
-impl<Q: Queue + Drop> Named<Q> {
+impl<Q: Queue + Drop> NamedQueues<Q> {
     /// No queue.
     pub fn new(alloc: Global) -> Self
         ensures { result.states ≡ [] }
     {
-        Named {
+        NamedQueues {
             alloc,
             slots: Vec::new(alloc),
             places: IndexMap::new(alloc),

@@ -10,7 +10,7 @@ ghost use Rattle.mq_place.specs.States.{state_in, state_or, change_state, on_que
 
 use crate::homes::{IdentKey, drop_home, home_of, note_home, reserve_homes};
 use crate::local::LocalRows;
-use crate::named::Named;
+use crate::named::NamedQueues;
 use indexmap::IndexMap;
 use mq_base::{Items, NoMemory};
 use mq_message::{Holder, Ident, Message, Place};
@@ -25,7 +25,7 @@ use std::marker::Model;
 /// All calls but `expect`, `reserve_queue` and `free_idents` take no memory.
 #[derive(Drop)]
 pub struct Queues<Q: Queue + Drop> {
-    named: Named<Q>,
+    named: NamedQueues<Q>,
     // The queue of each ident that has a row. Some idents may have none any more.
     homes: IndexMap<IdentKey, QName>,
     // At least as many as uncommitted puts wait; there is room for so many idents.
@@ -51,7 +51,7 @@ impl<Q: Queue + Drop> Queues<Q> {
         ensures { result.states ≡ [] }
     {
         Queues {
-            named: Named::new(alloc),
+            named: NamedQueues::new(alloc),
             homes: IndexMap::new(alloc),
             expected: 0,
         }

@@ -1,4 +1,4 @@
-use Rattle.std.proofs.Common.{◌≡◌, Bool, Option, Some, cond, ap, ◌∙◌}
+use Rattle.std.proofs.Common.{Bool, Some, cond, ap, ◌∙◌}
 use Rattle.mq_message.specs.declared.message.Ident.{Ident}
 use Rattle.mq_place.specs.declared.homes.IdentKey.{IdentKey}
 use Rattle.mq_place.specs.Homes.{key_of, same_key, home_of}

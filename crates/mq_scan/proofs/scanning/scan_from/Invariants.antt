@@ -7,7 +7,7 @@ use Rattle.mq_scan.proofs.scanning.scan_from.Given as goal
 
 abbrev pub invariant-loop-seen : goal.invariant-loop-seen
 invariant-loop-seen g l = record {
-  found : (scan_after l.want l.moment l.after l.local.queue.rows).found ≡ (scan_after l.want l.moment l.start l.local.queue.rows).found;
-  met : l.met ++ map met_of (scan_after l.want l.moment l.after l.local.queue.rows).expired ≡ l.fn.met ++ map met_of (scan_after l.want l.moment l.start l.local.queue.rows).expired;
+  found : (scan_after l.want l.moment l.after l.local.queue.rows).found ≡ (scan_after l.want l.moment l.fn.start l.local.queue.rows).found;
+  met : l.met ++ map met_of (scan_after l.want l.moment l.after l.local.queue.rows).expired ≡ l.fn.met ++ map met_of (scan_after l.want l.moment l.fn.start l.local.queue.rows).expired;
   left : length (rows_after l.after l.local.queue.rows) + l.seen ≤ length l.local.queue.rows;
 }

@@ -1,5 +1,5 @@
 use Rattle.std.proofs.Common.{sym, subst}
-use Rattle.mq_place.specs.States.{QueueState, CanPlace}
+use Rattle.mq_place.specs.States.{CanPlace}
 use Rattle.mq_place.proofs.LocalLaws.{local_placed}
 use Rattle.mq_place.proofs.local.LocalRows.place.Goals as goal
 

@@ -1,4 +1,4 @@
-use Rattle.std.proofs.Common.{◌≡◌, sym, ap, length, ◌∙◌, arith}
+use Rattle.std.proofs.Common.{sym, ap, length, ◌∙◌, arith}
 use Rattle.std.specs.Prelude.{find}
 use Rattle.mq_queue.specs.Rows.{has_ident}
 use Rattle.mq_place.proofs.AfterLaws.{rows_from_front, row_here, row_next, row_fewer, row_none}

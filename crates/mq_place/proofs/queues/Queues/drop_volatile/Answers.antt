@@ -1,7 +1,7 @@
-use Rattle.std.proofs.Common.{ℕ, List, [], ◌∷◌, true, false, ap}
+use Rattle.std.proofs.Common.{ap}
 use Rattle.mq_spec_state.specs.State.Which.{Nonpersistent}
 use Rattle.mq_spec_state.specs.Changes.{kept_in}
-use Rattle.mq_place.specs.States.{QueueState, QueueStates, on_queue}
+use Rattle.mq_place.specs.States.{QueueStates}
 use Rattle.mq_place.specs.Homes.{home_of}
 use Rattle.mq_place.proofs.HomeLaws.{noted_all, kept_home}
 use Rattle.mq_place.proofs.queues.Queues.drop_volatile.Goals as goal

@@ -1,4 +1,4 @@
-use Rattle.std.proofs.Common.{◌+◌, sym, ap, ◌∙◌}
+use Rattle.std.proofs.Common.{sym, ap, ◌∙◌}
 use Rattle.mq_place.specs.States.{QueueStates}
 use Rattle.mq_place.specs.Homes.{home_of}
 use Rattle.mq_place.proofs.KeyLaws.{ok_of}

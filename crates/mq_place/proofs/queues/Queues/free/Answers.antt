@@ -1,5 +1,4 @@
 use Rattle.std.proofs.Common.{sym, ap, ◌∙◌}
-use Rattle.std.specs.Prelude.{option_copied}
 use Rattle.mq_queue.specs.Queues.{count_waiting}
 use Rattle.mq_place.specs.Slots.{rows_of_slot}
 use Rattle.mq_place.proofs.StateLaws.{rows_found}

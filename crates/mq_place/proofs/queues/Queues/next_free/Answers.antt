@@ -1,5 +1,4 @@
 use Rattle.std.proofs.Common.{sym, ap, ◌∙◌}
-use Rattle.std.specs.Prelude.{option_copied}
 use Rattle.std.specs.Prelude.{find}
 use Rattle.mq_place.specs.States.{is_free_after}
 use Rattle.mq_place.specs.Slots.{rows_of_slot}

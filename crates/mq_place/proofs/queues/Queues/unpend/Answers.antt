@@ -1,7 +1,7 @@
-use Rattle.std.proofs.Common.{◌<◌, ◌≤◌, sym, ap, subst, arith}
+use Rattle.std.proofs.Common.{◌<◌, sym, ap, subst, arith}
 use Rattle.mq_place.specs.States.{QueueStates, state_or, unpended}
 use Rattle.mq_place.specs.Homes.{home_of}
-use Rattle.mq_place.proofs.HomeLaws.{noted_one, noted_unpended, enough, waits_there, waits_not}
+use Rattle.mq_place.proofs.HomeLaws.{noted_one, noted_unpended, enough, waits_there}
 use Rattle.mq_place.proofs.queues.Queues.unpend.Goals as goal
 
 pub overflow_sub-self : goal.overflow_sub-self
