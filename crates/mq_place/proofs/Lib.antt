@@ -1,0 +1,12 @@
+pub mod NameLaws
+pub mod SlotLaws
+pub mod FiledLaws
+pub mod RowLaws
+pub mod StateLaws
+pub mod LocalLaws
+pub mod EveryLaws
+pub mod AfterLaws
+pub mod CallLaws
+pub mod PlainLaws
+pub mod HomeLaws
+pub mod KeyLaws

@@ -1,0 +1,25 @@
+use Rattle.std.proofs.Common.{◌-◌, List, Option, true, refl, sym, ap, subst, ◌∙◌}
+use Rattle.std.specs.Prelude.{min}
+use Rattle.std.specs.Str.{bytes_eq}
+use Rattle.indexmap.specs.IndexMap.{get, spare, index_map_len}
+use Rattle.mq_queue.specs.Rows.{retag}
+use Rattle.mq_queue.specs.Queues.{unit_freed}
+use Rattle.mq_spec_state.specs.State.Which.{HeldByUnits}
+use Rattle.mq_spec_state.specs.Changes.{released_in}
+use Rattle.mq_place.specs.States.{QueueState, on_rows, on_queues}
+use Rattle.mq_place.proofs.StateLaws.{all_units_freed}
+use Rattle.mq_place.specs.Slots.{present, IsFiled}
+use Rattle.mq_place.proofs.SlotLaws.{present-changes}
+use Rattle.mq_place.proofs.FiledLaws.{filed_changes}
+use Rattle.mq_place.proofs.CallLaws.{call_some}
+use Rattle.mq_place.proofs.named.NamedQueues.free_units.Goals as goal
+
+pub invariant_of-self : goal.invariant_of-self
+invariant_of-self g c =
+    subst (λ (slots : List (Option QueueState)). IsFiled slots (get bytes_eq c.self.inside.places) (index_map_len c.self.inside.places)) (sym c.free_units.ensures.slots)
+    (filed_changes _ _ _ c.self.invariant (on_rows (retag unit_freed)) (λ s. refl))
+
+pub returns : goal.returns
+returns g c =
+    call_some _ _ _ c.self.view_is (on_queues (released_in HeldByUnits true)) (ap present c.free_units.ensures.slots ∙ present-changes (on_rows (retag unit_freed)) (λ s. refl) c.self.inside.slots.items ∙ all_units_freed (present c.self.inside.slots.items))
+    (λ i. min (spare c.self.inside.places) (c.free_units.ensures.capacity i - c.free_units.ensures.len i))

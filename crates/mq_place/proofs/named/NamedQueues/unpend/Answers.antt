@@ -1,0 +1,28 @@
+use Rattle.std.proofs.Common.{◌-◌, List, Option, refl, sym, ap, subst, ◌∙◌, arith}
+use Rattle.std.specs.Prelude.{min}
+use Rattle.std.specs.Str.{bytes_eq}
+use Rattle.indexmap.specs.IndexMap.{get, spare, index_map_len}
+use Rattle.mq_place.specs.States.{QueueState, change_state, unpended}
+use Rattle.mq_place.specs.Slots.{present, IsFiled}
+use Rattle.mq_place.proofs.FiledLaws.{found_within, filed_change, present_change, present_same}
+use Rattle.mq_place.proofs.CallLaws.{call_none, call_some}
+use Rattle.mq_place.proofs.named.NamedQueues.unpend.Goals as goal
+
+pub unpend_at-requires : goal.unpend_at-requires
+unpend_at-requires g c = record { at = omega (arith, found_within _ _ _ c.self.invariant c.args.name.now c.in-Some.place.now (sym c.in-Some.ensures.value), c.self.inside.slots.ok) }
+
+pub invariant_of-self : goal.invariant_of-self
+invariant_of-self g c =
+    subst (λ (slots : List (Option QueueState)). IsFiled slots (get bytes_eq c.self.inside.places) (index_map_len c.self.inside.places)) (sym c.unpend_at.ensures.slots)
+    (filed_change _ _ _ c.self.invariant (unpended) (λ s. refl) c.in-Some.place.now)
+
+pub returns-in-None : goal.returns-in-None
+returns-in-None g c =
+    call_none _ _ c.self.view_is (change_state c.args.name.now unpended)
+    (present_same _ _ _ c.self.invariant (unpended) (λ s. refl) c.args.name.now (sym c.in-None.ensures.value))
+
+pub returns-in-Some : goal.returns-in-Some
+returns-in-Some g c =
+    call_some _ _ _ c.self.view_is (change_state c.args.name.now unpended)
+    (ap present c.unpend_at.ensures.slots ∙ present_change _ _ _ c.self.invariant (unpended) (λ s. refl) c.args.name.now c.in-Some.place.now (sym c.in-Some.ensures.value))
+    (λ i. min (spare c.self.inside.places) (c.unpend_at.ensures.capacity i - c.unpend_at.ensures.len i))

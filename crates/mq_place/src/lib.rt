@@ -1,0 +1,11 @@
+//! The local queues of a manager, found by name, and the places of messages on them.
+#![tactic(auto)]
+
+mod homes;
+mod local;
+mod named;
+mod queues;
+mod slots;
+
+pub use local::LocalRows;
+pub use queues::Queues;
