@@ -20,8 +20,11 @@ abbrev pub closed : ℕ → Connection → Connection
 closed handle c = record c { handles = filter (λ (h : Handle). not (h.number == handle)) c.handles }
 
 -- a handle's cursor stands at a place
+abbrev pub at_place : Place → Handle → Handle
+at_place place h = record h { cursor = Some place }
+
 abbrev pub cursor_set : ℕ → Place → Connection → Connection
-cursor_set handle place c = record c { handles = change_handle handle (λ h. record h { cursor = Some place }) c.handles }
+cursor_set handle place c = record c { handles = change_handle handle (at_place place) c.handles }
 
 -- with an item more in its unit; with none
 abbrev pub pended : Item → Connection → Connection

@@ -2,8 +2,10 @@
 use Rattle.std.specs.Prelude.{◌≡◌, ℕ, ◌+◌, ◌≤◌, ◌&&◌, Bool, List, [], ◌∷◌, Option, Some, None, if◌then◌else◌}
 use Rattle.std.specs.Str.{bytes_eq}
 use Rattle.std.specs.HashMap.{get}
+use Rattle.mq_calls.specs.declared.answers.Input.TheVariants as inputs
 use Rattle.mq_resolve.specs.declared.route.PathStep.TheVariants as steps
-use Rattle.mq_spec_state.specs.Words.{RouteEnd, PathStep, Open, Handle, Connection, is_input, is_exclusive, leads_to, is_step}
+use Rattle.mq_resolve.specs.declared.route.RouteEnd.TheVariants as ends
+use Rattle.mq_spec_state.specs.Words.{RouteEnd, PathStep, Input, Open, Handle, Connection, is_input, is_exclusive, leads_to}
 use Rattle.mq_handles.specs.declared.users.Count.{Count}
 use Rattle.mq_handles.specs.declared.users.Users.{Users}
 
@@ -26,26 +28,46 @@ pub data Key : Type 0 where
   Alone : (name : List ℕ) → Key
   OnPath : (step : PathStep) → Key
 
-abbrev pub flag : Bool → ℕ
-flag b = if b then 1 else 0
+-- Counts of a name: none; those of a handle that has it open for so much input; of a step of a path.
+abbrev pub no_count : Count
+no_count = record { readers = 0; alone = 0; steps = 0 }
 
--- What a handle adds: by what it is open for, and by its path.
-abbrev pub reader_weight : Open → RouteEnd → Key → ℕ
-reader_weight how end (Reader name) = flag (reads name how end)
-reader_weight how end (Alone name) = flag (reads_alone name how end)
-reader_weight how end (OnPath step) = 0
+abbrev pub input_count : Input → Count
+input_count inputs.No = no_count
+input_count inputs.Shared = record { readers = 1; alone = 0; steps = 0 }
+input_count inputs.Exclusive = record { readers = 1; alone = 1; steps = 0 }
+
+abbrev pub one_step : Count
+one_step = record { readers = 0; alone = 0; steps = 1 }
+
+-- what a count of a name adds; what the attribute adds
+abbrev pub name_weight : List ℕ → Count → Key → ℕ
+name_weight name more (Reader other) = if bytes_eq other name then more.readers else 0
+name_weight name more (Alone other) = if bytes_eq other name then more.alone else 0
+name_weight name more (OnPath (steps.Queue other)) = if bytes_eq other name then more.steps else 0
+name_weight name more (OnPath steps.DefXmitq) = 0
+
+abbrev pub attribute_weight : Key → ℕ
+attribute_weight (Reader other) = 0
+attribute_weight (Alone other) = 0
+attribute_weight (OnPath (steps.Queue other)) = 0
+attribute_weight (OnPath steps.DefXmitq) = 1
+
+-- What a handle adds: by its input, where it leads to a local queue, and by each step of its path.
+abbrev pub reader_weight : Input → RouteEnd → Key → ℕ
+reader_weight input (ends.Local queue) key = name_weight queue (input_count input) key
+reader_weight input (ends.Via xq rq rqm) key = 0
 
 abbrev pub key_weight : Key → PathStep → ℕ
-key_weight (Reader name) step = 0
-key_weight (Alone name) step = 0
-key_weight (OnPath other) step = flag (is_step other step)
+key_weight key (steps.Queue name) = name_weight name one_step key
+key_weight key steps.DefXmitq = attribute_weight key
 
 abbrev pub path_weight : List PathStep → Key → ℕ
 path_weight [] key = 0
 path_weight (step ∷ path) key = key_weight key step + path_weight path key
 
 abbrev pub weight_by : Open → RouteEnd → List PathStep → Key → ℕ
-weight_by how end path key = reader_weight how end key + path_weight path key
+weight_by how end path key = reader_weight how.input end key + path_weight path key
 
 abbrev pub handle_weight : Key → Handle → ℕ
 handle_weight key h = weight_by h.how h.leads h.path key
@@ -59,16 +81,6 @@ abbrev pub weight_in : (Handle → ℕ) → List Connection → ℕ
 weight_in f [] = 0
 weight_in f (c ∷ cs) = weight_of f c.handles + weight_in f cs
 
--- Counts of a name.
-abbrev pub no_count : Count
-no_count = record { readers = 0; alone = 0; steps = 0 }
-
-abbrev pub one_reader : Bool → Count
-one_reader alone = record { readers = 1; alone = flag alone; steps = 0 }
-
-abbrev pub one_step : Count
-one_step = record { readers = 0; alone = 0; steps = 1 }
-
 abbrev pub plus : Count → Count → Count
 plus a b = record { readers = a.readers + b.readers; alone = a.alone + b.alone; steps = a.steps + b.steps }
 
@@ -76,13 +88,6 @@ pub record IsLess (a b : Count) : Type 0 where
   pub readers : a.readers ≤ b.readers
   pub alone : a.alone ≤ b.alone
   pub steps : a.steps ≤ b.steps
-
--- what a count of a name adds
-abbrev pub name_weight : List ℕ → Count → Key → ℕ
-name_weight name more (Reader other) = if bytes_eq other name then more.readers else 0
-name_weight name more (Alone other) = if bytes_eq other name then more.alone else 0
-name_weight name more (OnPath (steps.Queue other)) = if bytes_eq other name then more.steps else 0
-name_weight name more (OnPath steps.DefXmitq) = 0
 
 -- what is counted for a name; nothing where nothing is kept
 abbrev pub count_or : Option Count → Count
@@ -105,13 +110,17 @@ IsSame old new = (key : Key) → tally key new ≡ tally key old
 abbrev pub IsMore : (Key → ℕ) → Users → Users → Type 0
 IsMore more old new = (key : Key) → tally key new ≡ tally key old + more key
 
+-- so much is counted
+abbrev pub AreAmong : (Key → ℕ) → Users → Type 0
+AreAmong some u = (key : Key) → some key ≤ tally key u
+
 pub record IsPut (name : List ℕ) (count : Count) (old new : Users) : Type 0 where
-  pub counts : (other : List ℕ) → count_in other new ≡ (if bytes_eq other name then count else count_in other old)
+  pub counts : (other : List ℕ) → count_in other new ≡ (if bytes_eq name other then count else count_in other old)
   pub defxmitq : new.defxmitq ≡ old.defxmitq
 
 -- the handles are among those that are counted
 abbrev pub IsPartOf : List Handle → Users → Type 0
-IsPartOf handles u = (key : Key) → weight_of (handle_weight key) handles ≤ tally key u
+IsPartOf handles u = AreAmong (λ key. weight_of (handle_weight key) handles) u
 
 -- some handles are counted in the place of others
 abbrev pub IsMoved : Users → Users → List Handle → List Handle → Type 0

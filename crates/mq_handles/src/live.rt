@@ -172,9 +172,7 @@ impl Live {
         if !self.has_step(step) {
             return;
         }
-        for at in 0..self.live.len() {
-            self.live.at_mut(at).make_stale(step);
-        }
+        stale_seats(&mut self.live, step);
     }
 
     /// An item more in the unit of a connection, with the room that the unit's end needs for it.
@@ -213,5 +211,13 @@ impl Live {
     {
         self.live.clear();
         self.users = Users::new(alloc);
+    }
+}
+
+fn stale_seats(seats: &mut Items<Seat>, step: &PathStep)
+    ensures { seats.new ≡ mapped (made_stale step.now) seats.old }
+{
+    for at in 0..seats.len() {
+        seats.at_mut(at).make_stale(step);
     }
 }

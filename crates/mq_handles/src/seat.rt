@@ -4,8 +4,8 @@ ghost use Rattle.mq_spec_state.specs.Words.{Handle, handle_at, made_stale, stale
 ghost use Rattle.mq_unit.specs.Forced.{IsEnded};
 ghost use Rattle.mq_spec_manager.specs.Handles.{new_handle};
 ghost use Rattle.mq_handles.specs.Rising.{has_handle_number};
-ghost use Rattle.mq_handles.specs.Seats.{connection_of, opened, closed, cursor_set, pended, emptied};
-ghost use Rattle.mq_handles.specs.Users.{weight_by, IsMore, IsSame, IsPartOf, IsMoved};
+ghost use Rattle.mq_handles.specs.Seats.{connection_of, opened, closed, at_place, cursor_set, pended, emptied};
+ghost use Rattle.mq_handles.specs.Users.{IsPartOf, IsMoved};
 
 use crate::numbers::place_of_handle;
 use crate::users::Users;
@@ -119,9 +119,8 @@ impl Seat {
         requires { self.old.last_handle + 1 < 2 ^ 64 }
         ensures number { IfOk result (λ n. n ≡ self.old.last_handle + 1) }
         ensures ok { OnOk result (self.new ≡ opened (new_handle how.now route self.old) self.old) }
-        ensures more { OnOk result (IsMore (weight_by how.now route.end route.path) users.old users.new) }
         ensures err { OnErr result (self.new ≡ self.old) }
-        ensures same { OnErr result (IsSame users.old users.new) }
+        ensures users { IsMoved users.old users.new self.old.handles self.new.handles }
     {
         if self.handles.reserve(1).is_err() {
             return Err(NoMemory);
@@ -168,7 +167,7 @@ impl Seat {
     {
         match self.place_of(number) {
             None => {}
-            Some(at) => self.handles[at].cursor = Some(place),
+            Some(at) => set_cursor_of(&mut self.handles[at], place),
         }
     }
 
@@ -199,6 +198,12 @@ impl Seat {
     {
         self.unit.end(alloc)
     }
+}
+
+fn set_cursor_of(handle: &mut Handle, place: Place)
+    ensures { handle.new ≡ at_place place handle.old }
+{
+    handle.cursor = Some(place);
 }
 
 fn is_step(step: &PathStep, other: &PathStep) -> bool

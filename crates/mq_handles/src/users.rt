@@ -1,10 +1,10 @@
 //! Who uses a queue, counted for each name: handles that have it open for input, and those over whose path it leads.
 
-ghost use Rattle.std.specs.Prelude.{◌≡◌, ◌+◌, ◌≤◌, true, None, OnOk, OnErr, IfSome, IsSome};
+ghost use Rattle.std.specs.Prelude.{◌≡◌, true, None, OnOk, OnErr, IfSome};
 ghost use Rattle.std.specs.Str.{bytes_eq};
 ghost use Rattle.std.specs.HashMap.{get};
 ghost use Rattle.mq_handles.specs.Users.Key.{Reader, Alone, OnPath};
-ghost use Rattle.mq_handles.specs.Users.{Key, no_count, count_in, one_reader, one_step, plus, name_weight, reader_weight, path_weight, weight_by, handle_weight, weight_of, key_weight, tally, IsMore, IsSame, IsPut, IsLess};
+ghost use Rattle.mq_handles.specs.Users.{Key, no_count, count_in, input_count, one_step, plus, name_weight, reader_weight, path_weight, weight_by, handle_weight, weight_of, key_weight, tally, AreAmong, IsPartOf, IsMore, IsSame, IsPut, IsLess};
 
 use mq_base::NoMemory;
 use mq_calls::{Handle, Input, Open};
@@ -45,14 +45,22 @@ impl Count {
         }
     }
 
-    /// Of a handle that has it open for input.
-    fn reader(alone: bool) -> Count
-        ensures { result ≡ one_reader alone }
+    /// Of a handle that has it open for so much input.
+    fn of_input(input: Input) -> Count
+        ensures { result ≡ input_count input }
     {
-        Count {
-            readers: 1,
-            alone: if alone { 1 } else { 0 },
-            steps: 0,
+        match input {
+            Input::No => Count::none(),
+            Input::Shared => Count {
+                readers: 1,
+                alone: 0,
+                steps: 0,
+            },
+            Input::Exclusive => Count {
+                readers: 1,
+                alone: 1,
+                steps: 0,
+            },
         }
     }
 
@@ -68,7 +76,8 @@ impl Count {
     }
 
     fn is_none(&self) -> bool
-        ensures { result ≡ true → self.now ≡ no_count }
+        ensures none { result ≡ true → self.now ≡ no_count }
+        ensures some { self.now ≡ no_count → result ≡ true }
     {
         self.readers == 0 && self.alone == 0 && self.steps == 0
     }
@@ -152,7 +161,7 @@ impl Users {
     }
 
     fn add_count(&mut self, name: &QName, more: &Count) -> Result<(), NoMemory>
-        ensures ok { OnOk result ((key : Key) → tally key self.new ≡ tally key self.old + name_weight name.now more.now key) }
+        ensures ok { OnOk result (IsMore (name_weight name.now more.now) self.old self.new) }
         ensures err { OnErr result (IsSame self.old self.new) }
     {
         match self.count(name).checked_add(more) {
@@ -161,14 +170,19 @@ impl Users {
         }
     }
 
+    fn drop_count(&mut self, name: &QName)
+        ensures { IsPut name.now no_count self.old self.new }
+    {
+        self.counts.remove(name);
+    }
+
     fn take_count(&mut self, name: &QName, less: &Count)
         requires { IsLess less.now (count_in name.now self.old) }
-        requires some { IsSome (get bytes_eq self.old.counts name.now) }
-        ensures { (key : Key) → tally key self.old ≡ tally key self.new + name_weight name.now less.now key }
+        ensures { IsMore (name_weight name.now less.now) self.new self.old }
     {
         let rest = self.count(name).less(less);
         if rest.is_none() {
-            self.counts.remove(name);
+            self.drop_count(name);
             return;
         }
         match self.put(name, rest) {
@@ -177,36 +191,48 @@ impl Users {
         }
     }
 
-    fn add_reader(&mut self, how: &Open, end: &RouteEnd) -> Result<(), NoMemory>
-        ensures ok { OnOk result ((key : Key) → tally key self.new ≡ tally key self.old + reader_weight how.now end.now key) }
+    fn add_reader(&mut self, input: Input, end: &RouteEnd) -> Result<(), NoMemory>
+        ensures ok { OnOk result (IsMore (reader_weight input end.now) self.old self.new) }
         ensures err { OnErr result (IsSame self.old self.new) }
     {
-        match (end, how.input) {
-            (RouteEnd::Local(queue), Input::Shared) => self.add_count(queue, &Count::reader(false)),
-            (RouteEnd::Local(queue), Input::Exclusive) => {
-                self.add_count(queue, &Count::reader(true))
-            }
-            (RouteEnd::Local(_), Input::No) => Ok(()),
-            (RouteEnd::Via { .. }, _) => Ok(()),
+        match end {
+            RouteEnd::Local(queue) => self.add_input(queue, input),
+            RouteEnd::Via { .. } => Ok(()),
         }
     }
 
-    fn take_reader(&mut self, how: &Open, end: &RouteEnd)
-        requires { (key : Key) → reader_weight how.now end.now key ≤ tally key self.old }
-        ensures { (key : Key) → tally key self.old ≡ tally key self.new + reader_weight how.now end.now key }
+    fn add_input(&mut self, queue: &QName, input: Input) -> Result<(), NoMemory>
+        ensures ok { OnOk result (IsMore (name_weight queue.now (input_count input)) self.old self.new) }
+        ensures err { OnErr result (IsSame self.old self.new) }
     {
-        match (end, how.input) {
-            (RouteEnd::Local(queue), Input::Shared) => self.take_count(queue, &Count::reader(false)),
-            (RouteEnd::Local(queue), Input::Exclusive) => {
-                self.take_count(queue, &Count::reader(true))
-            }
-            (RouteEnd::Local(_), Input::No) => {}
-            (RouteEnd::Via { .. }, _) => {}
+        match input {
+            Input::No => Ok(()),
+            _ => self.add_count(queue, &Count::of_input(input)),
+        }
+    }
+
+    fn take_reader(&mut self, input: Input, end: &RouteEnd)
+        requires { AreAmong (reader_weight input end.now) self.old }
+        ensures { IsMore (reader_weight input end.now) self.new self.old }
+    {
+        match end {
+            RouteEnd::Local(queue) => self.take_input(queue, input),
+            RouteEnd::Via { .. } => {}
+        }
+    }
+
+    fn take_input(&mut self, queue: &QName, input: Input)
+        requires { AreAmong (name_weight queue.now (input_count input)) self.old }
+        ensures { IsMore (name_weight queue.now (input_count input)) self.new self.old }
+    {
+        match input {
+            Input::No => {}
+            _ => self.take_count(queue, &Count::of_input(input)),
         }
     }
 
     fn add_step(&mut self, step: &PathStep) -> Result<(), NoMemory>
-        ensures ok { OnOk result ((key : Key) → tally key self.new ≡ tally key self.old + key_weight key step.now) }
+        ensures ok { OnOk result (IsMore (λ key. key_weight key step.now) self.old self.new) }
         ensures err { OnErr result (IsSame self.old self.new) }
     {
         match step {
@@ -222,8 +248,8 @@ impl Users {
     }
 
     fn take_step(&mut self, step: &PathStep)
-        requires { (key : Key) → key_weight key step.now ≤ tally key self.old }
-        ensures { (key : Key) → tally key self.old ≡ tally key self.new + key_weight key step.now }
+        requires { AreAmong (λ key. key_weight key step.now) self.old }
+        ensures { IsMore (λ key. key_weight key step.now) self.new self.old }
     {
         match step {
             PathStep::Queue(name) => self.take_count(name, &Count::step()),
@@ -232,8 +258,8 @@ impl Users {
     }
 
     fn take_path(&mut self, path: &[PathStep])
-        requires { (key : Key) → path_weight path.now key ≤ tally key self.old }
-        ensures { (key : Key) → tally key self.old ≡ tally key self.new + path_weight path.now key }
+        requires { AreAmong (path_weight path.now) self.old }
+        ensures { IsMore (path_weight path.now) self.new self.old }
     {
         for step in path {
             self.take_step(step);
@@ -241,14 +267,17 @@ impl Users {
     }
 
     fn add_path(&mut self, path: &[PathStep]) -> Result<(), NoMemory>
-        ensures ok { OnOk result ((key : Key) → tally key self.new ≡ tally key self.old + path_weight path.now key) }
+        ensures ok { OnOk result (IsMore (path_weight path.now) self.old self.new) }
         ensures err { OnErr result (IsSame self.old self.new) }
     {
         for at in 0..path.len() {
-            if self.add_step(&path[at]).is_err() {
-                let (done, _) = path.split_at(at);
-                self.take_path(done);
-                return Err(NoMemory);
+            match self.add_step(&path[at]) {
+                Ok(()) => {}
+                Err(_) => {
+                    let (done, _) = path.split_at(at);
+                    self.take_path(done);
+                    return Err(NoMemory);
+                }
             }
         }
         Ok(())
@@ -268,29 +297,45 @@ impl Users {
         ensures ok { OnOk result (IsMore (weight_by how.now end.now path.now) self.old self.new) }
         ensures err { OnErr result (IsSame self.old self.new) }
     {
-        if self.add_reader(how, end).is_err() {
-            return Err(NoMemory);
+        match self.add_reader(how.input, end) {
+            Ok(()) => self.add_path_behind(how.input, end, path),
+            Err(_) => Err(NoMemory),
         }
-        if self.add_path(path).is_err() {
-            self.take_reader(how, end);
-            return Err(NoMemory);
+    }
+
+    /// Counts a path in; where that fails, the reader that was counted in before is counted out.
+    fn add_path_behind(
+        &mut self,
+        input: Input,
+        end: &RouteEnd,
+        path: &[PathStep],
+    ) -> Result<(), NoMemory>
+        requires { AreAmong (reader_weight input end.now) self.old }
+        ensures ok { OnOk result (IsMore (path_weight path.now) self.old self.new) }
+        ensures err { OnErr result (IsMore (reader_weight input end.now) self.new self.old) }
+    {
+        match self.add_path(path) {
+            Ok(()) => Ok(()),
+            Err(_) => {
+                self.take_reader(input, end);
+                Err(NoMemory)
+            }
         }
-        Ok(())
     }
 
     /// Counts a handle out. It takes no memory.
     pub fn take(&mut self, handle: &Handle)
-        requires { (key : Key) → handle_weight key handle.now ≤ tally key self.old }
-        ensures { (key : Key) → tally key self.old ≡ tally key self.new + handle_weight key handle.now }
+        requires { AreAmong (λ key. handle_weight key handle.now) self.old }
+        ensures { IsMore (λ key. handle_weight key handle.now) self.new self.old }
     {
         self.take_path(handle.path.as_slice());
-        self.take_reader(&handle.how, &handle.leads);
+        self.take_reader(handle.how.input, &handle.leads);
     }
 
     /// Counts handles out. It takes no memory.
     pub fn take_all(&mut self, handles: &[Handle])
-        requires { (key : Key) → weight_of (handle_weight key) handles.now ≤ tally key self.old }
-        ensures { (key : Key) → tally key self.old ≡ tally key self.new + weight_of (handle_weight key) handles.now }
+        requires { IsPartOf handles.now self.old }
+        ensures { IsMore (λ key. weight_of (handle_weight key) handles.now) self.new self.old }
     {
         for handle in handles {
             self.take(handle);

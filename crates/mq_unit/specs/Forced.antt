@@ -46,10 +46,11 @@ CanBeForced items = AllByRecursion ItemCanBeForced items
 
 -- the bytes are counted and fit, and there is room for what the unit's end tells
 pub record IsKept (items : List Item) (bytes : ℕ) (effects : Telling) : Type 0 where
-  pub bytes : bytes ≡ items_bytes items
+  pub counted : bytes ≡ items_bytes items
   pub fits : 14 + bytes < 2 ^ 64
   pub untold : effects.dids ≡ []
   pub room : length items ≤ effects.room
+  pub forced : CanBeForced items
 
 -- what a record takes of the log; nothing where there is none
 abbrev pub need_of : Option LogRecord → ℕ
@@ -57,7 +58,7 @@ need_of None = 0
 need_of (Some r) = need r
 
 -- what a unit was, and room for what its end tells
-pub record IsEnded (items : List Item) (ended : Ended) : Type 0 where
-  pub items : ended.items ≡ items
+pub record IsEnded (unit : List Item) (ended : Ended) : Type 0 where
+  pub items : ended.items ≡ unit
   pub untold : ended.effects.dids ≡ []
-  pub room : length items ≤ ended.effects.room
+  pub room : length unit ≤ ended.effects.room

@@ -1,10 +1,12 @@
 //! What a call did, told into room that was taken before.
 
 ghost use Rattle.std.specs.Prelude.{◌≡◌, ◌+◌, ◌-◌, ◌<◌, ◌≤◌, [], ◌∷◌, ◌++◌, length, OnOk, OnErr};
-ghost use Rattle.mq_unit.specs.Told.{told};
+ghost use Rattle.std.specs.List.{flat_map};
+ghost use Rattle.mq_spec_manager.specs.Units.{removed_item, placed_did, released_did};
+ghost use Rattle.mq_unit.specs.Told.{told, told_all};
 
 use mq_base::{Items, NoMemory};
-use mq_calls::{Delta, Did};
+use mq_calls::{Delta, Did, Item, Why};
 use std::alloc::Global;
 use std::marker::Model;
 
@@ -64,9 +66,89 @@ impl Effects {
         requires { 0 < self.old.room }
         ensures { self.new ≡ told did self.old }
     {
-        match self.dids.push(did) {
-            Ok(()) => self.room -= 1,
-            Err(_) => unreachable!(),
+        self.room -= 1;
+        self.dids.extend_from_slice(&[did]).unwrap();
+    }
+
+    /// Tells what the commit of a unit does: its rows go, and then its puts get their places. It takes no memory.
+    pub fn tell_commit(&mut self, unit: &[Item])
+        requires { length unit.now ≤ self.old.room }
+        ensures { self.new ≡ told_all (flat_map removed_item unit.now ++ flat_map placed_did unit.now) self.old }
+    {
+        self.tell_all_removed(unit);
+        self.tell_all_placed(unit);
+    }
+
+    /// Tells what the backout of a unit does: its rows are free again. It takes no memory.
+    pub fn tell_backout(&mut self, unit: &[Item])
+        requires { length unit.now ≤ self.old.room }
+        ensures { self.new ≡ told_all (flat_map released_did unit.now) self.old }
+    {
+        self.tell_all_released(unit);
+    }
+
+    fn tell_all_removed(&mut self, unit: &[Item])
+        requires { length (flat_map removed_item unit.now) ≤ self.old.room }
+        ensures { self.new ≡ told_all (flat_map removed_item unit.now) self.old }
+    {
+        for item in unit {
+            self.tell_removed(item);
+        }
+    }
+
+    fn tell_all_placed(&mut self, unit: &[Item])
+        requires { length (flat_map placed_did unit.now) ≤ self.old.room }
+        ensures { self.new ≡ told_all (flat_map placed_did unit.now) self.old }
+    {
+        for item in unit {
+            self.tell_placed(item);
+        }
+    }
+
+    fn tell_all_released(&mut self, unit: &[Item])
+        requires { length (flat_map released_did unit.now) ≤ self.old.room }
+        ensures { self.new ≡ told_all (flat_map released_did unit.now) self.old }
+    {
+        for item in unit {
+            self.tell_released(item);
+        }
+    }
+
+    fn tell_removed(&mut self, item: &Item)
+        requires { length (removed_item item.now) ≤ self.old.room }
+        ensures { self.new ≡ told_all (removed_item item.now) self.old }
+    {
+        if let Item::Take { queue, ident, .. } = item {
+            self.tell(Did::Removed {
+                queue: *queue,
+                ident: *ident,
+                why: Why::Got,
+            });
+        }
+    }
+
+    fn tell_placed(&mut self, item: &Item)
+        requires { length (placed_did item.now) ≤ self.old.room }
+        ensures { self.new ≡ told_all (placed_did item.now) self.old }
+    {
+        if let Item::Put { queue, message } = item {
+            self.tell(Did::Placed {
+                queue: *queue,
+                ident: message.ident,
+                dead: None,
+            });
+        }
+    }
+
+    fn tell_released(&mut self, item: &Item)
+        requires { length (released_did item.now) ≤ self.old.room }
+        ensures { self.new ≡ told_all (released_did item.now) self.old }
+    {
+        if let Item::Take { queue, ident, .. } = item {
+            self.tell(Did::Released {
+                queue: *queue,
+                ident: *ident,
+            });
         }
     }
 

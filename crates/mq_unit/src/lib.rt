@@ -8,4 +8,5 @@ mod unit;
 
 pub use effects::Effects;
 pub use laws::a_unit_needs_its_record;
+pub use record::can_be_kept;
 pub use unit::{Ended, Unit};

@@ -1,8 +1,9 @@
 //! The record of a unit, item by item.
 
-ghost use Rattle.std.specs.Prelude.{◌≡◌, ◌<◌, ◌≤◌, ◌^◌, ◌*◌, [], ◌∷◌, length};
+ghost use Rattle.std.specs.Prelude.{◌≡◌, ◌-◌, ◌<◌, ◌≤◌, ◌^◌, ◌*◌, true, [], ◌∷◌, length, count_by, IfSome};
 ghost use Rattle.std.specs.List.{AllByRecursion};
 ghost use Rattle.mq_queue.specs.Rows.{is_persistent};
+ghost use Rattle.mq_frame.specs.Frames.{HasWords};
 ghost use Rattle.mq_spec_state.specs.Words.{item_bytes, put_bytes, record_size};
 ghost use Rattle.mq_spec_manager.specs.Units.{adds_of, removes_of};
 ghost use Rattle.mq_record.specs.Records.{record_bytes, IsAdd, IsRemove, IsRecord};
@@ -28,7 +29,7 @@ fn put_bytes(message: &Message) -> u64
         None => 0,
         Some(_) => 96,
     };
-    402 + message.body.len() as u64 + route
+    402 + message.body.as_slice().len() as u64 + route
 }
 
 /// What an item takes in the record; nothing where it is not persistent.
@@ -53,16 +54,43 @@ pub fn item_bytes(item: &Item) -> u64
     }
 }
 
+/// Whether a record can have a persistent message: its body is at most 4,194,304 bytes, and its deadline is not the last
+/// moment that there is.
+pub fn can_be_kept(message: &Message) -> bool
+    ensures { result ≡ true → HasWords message.now }
+{
+    message.body.len() <= 4_194_304 && has_deadline(message.deadline)
+}
+
+fn has_deadline(deadline: Option<u64>) -> bool
+    ensures { result ≡ true → IfSome deadline (λ moment. moment < 2 ^ 64 - 1) }
+{
+    match deadline {
+        None => true,
+        Some(moment) => moment < u64::MAX,
+    }
+}
+
+/// Whether the unit's record can have an item.
+pub fn can_be_forced(item: &Item) -> bool
+    ensures { result ≡ true → ItemCanBeForced item.now }
+{
+    match item {
+        Item::Put { message, .. } => !is_persistent(message) || can_be_kept(message),
+        Item::Take { .. } => true,
+    }
+}
+
 /// The number of adds.
 fn count_adds(items: &[Item]) -> usize
-    ensures { result ≡ length (adds_of items.now) }
+    ensures { result ≡ count_by is_add items.now }
 {
     items.iter().filter(|item| is_add(item)).count()
 }
 
 /// The number of removes.
 fn count_removes(items: &[Item]) -> usize
-    ensures { result ≡ length (removes_of items.now) }
+    ensures { result ≡ count_by is_remove items.now }
 {
     items.iter().filter(|item| is_remove(item)).count()
 }
@@ -89,9 +117,10 @@ fn is_remove(item: &Item) -> bool
 
 /// Puts an item's add, where it has one, behind the bytes.
 fn put_if_add(item: &Item, body: &mut Buffer)
-    requires { adds_size (item.now ∷ []) ≤ body.old.room }
+    requires room { adds_size (item.now ∷ []) ≤ body.old.room }
+    requires can { ItemCanBeForced item.now }
     ensures bytes { body.new ≡ with_piece (adds_bytes (item.now ∷ [])) body.old }
-    ensures add { ItemCanBeForced item.now → AllByRecursion IsAdd (adds_of (item.now ∷ [])) }
+    ensures add { AllByRecursion IsAdd (adds_of (item.now ∷ [])) }
 {
     match item {
         Item::Put { queue, message } => {
@@ -125,9 +154,10 @@ fn put_if_remove(item: &Item, body: &mut Buffer)
 
 /// Puts the adds of a unit behind the bytes.
 fn put_adds(items: &[Item], body: &mut Buffer)
-    requires { adds_size items.now ≤ body.old.room }
+    requires room { adds_size items.now ≤ body.old.room }
+    requires can { CanBeForced items.now }
     ensures bytes { body.new ≡ with_piece (adds_bytes items.now) body.old }
-    ensures adds { CanBeForced items.now → AllByRecursion IsAdd (adds_of items.now) }
+    ensures adds { AllByRecursion IsAdd (adds_of items.now) }
 {
     for item in items {
         put_if_add(item, body);
@@ -146,11 +176,12 @@ fn put_removes(items: &[Item], body: &mut Buffer)
 }
 
 /// Writes the record of a unit behind the bytes.
-pub fn write_record(items: &[Item], body: &mut Buffer)
+pub fn put_unit(items: &[Item], body: &mut Buffer)
     requires room { record_size (unit_record items.now) ≤ body.old.room }
     requires small { record_size (unit_record items.now) < 2 ^ 32 }
+    requires can { CanBeForced items.now }
     ensures bytes { body.new ≡ with_piece (record_bytes (unit_record items.now)) body.old }
-    ensures record { CanBeForced items.now → IsRecord (unit_record items.now) }
+    ensures record { IsRecord (unit_record items.now) }
 {
     let adds = count_adds(items);
     let removes = count_removes(items);

@@ -5,10 +5,10 @@ ghost use Rattle.mq_spec_state.specs.Words.{item_bytes, unit_need, more_need, re
 ghost use Rattle.mq_spec_manager.specs.Units.{adds_of, removes_of, record_of};
 ghost use Rattle.mq_record.specs.Records.{record_bytes, IsRecord};
 ghost use Rattle.mq_record.specs.Room.{with_piece};
-ghost use Rattle.mq_unit.specs.Forced.{unit_record, CanBeForced, IsEnded};
+ghost use Rattle.mq_unit.specs.Forced.{unit_record, IsEnded};
 
 use crate::effects::Effects;
-use crate::record::{item_bytes, write_record};
+use crate::record::{can_be_forced, item_bytes, put_unit};
 use mq_base::{Items, NoMemory};
 use mq_calls::Item;
 use mq_record::Buffer;
@@ -105,12 +105,15 @@ impl Unit {
     ///
     /// # Errors
     ///
-    /// No memory; nothing has changed.
+    /// No memory, or a persistent message that no record can have (`can_be_kept`); nothing has changed.
     pub fn push(&mut self, item: Item) -> Result<(), NoMemory>
         requires { unit_need (self.old ++ item ∷ []) < 2 ^ 64 }
         ensures ok { OnOk result (self.new ≡ self.old ++ item ∷ []) }
         ensures err { OnErr result (self.new ≡ self.old) }
     {
+        if !can_be_forced(&item) {
+            return Err(NoMemory);
+        }
         let bytes = item_bytes(&item);
         let Some(most) = self.items.len().checked_add(1) else {
             return Err(NoMemory);
@@ -139,8 +142,8 @@ impl Unit {
         requires room { record_size (unit_record self.now) ≤ body.old.room }
         requires small { record_size (unit_record self.now) < 2 ^ 32 }
         ensures bytes { body.new ≡ with_piece (record_bytes (unit_record self.now)) body.old }
-        ensures record { CanBeForced self.now → IsRecord (unit_record self.now) }
+        ensures record { IsRecord (unit_record self.now) }
     {
-        write_record(self.items.as_slice(), body);
+        put_unit(self.items.as_slice(), body);
     }
 }
