@@ -1,22 +1,22 @@
 -- Counts by name, and what steps and handles add to them one after the other.
-use Rattle.std.proofs.Common.{◌≡◌, ℕ, zero, suc, ◌+◌, ◌<◌, ◌≤◌, Bool, true, false, cond, List, [], ◌∷◌, ◌++◌, length, get_or, take, drop, refl, ap, arith, sym, subst, ◌∙◌, add-one}
-use Rattle.std.specs.Prelude.{Option, Some, None, map, slice_get, slice_set}
+use Rattle.std.proofs.Common.{◌≡◌, ℕ, zero, suc, ◌+◌, ◌<◌, ◌≤◌, Bool, true, false, cond, List, [], ◌∷◌, ◌++◌, length, get_or, take, drop, refl, ap, arith, sym, ◌∙◌, add-one}
+use Rattle.std.specs.Prelude.{Some, map, slice_get, slice_set}
 use Rattle.std.specs.Str.{bytes_eq}
 use Rattle.std.specs.Cmp.Lexicographic.{nat_list_eq_equiv}
 use Rattle.mq_resolve.specs.declared.route.PathStep.TheVariants as steps
 use Rattle.mq_spec_state.specs.Words.{PathStep, Handle}
 use Rattle.mq_handles.specs.declared.users.Count.{Count}
 use Rattle.mq_handles.specs.declared.users.Users.{Users}
-use Rattle.mq_handles.specs.Users.{Key, name_weight, key_weight, path_weight, handle_weight, weight_of, count_in, tally, IsMore, AreAmong, IsPartOf, IsLess}
+use Rattle.mq_handles.specs.Users.{Key, name_weight, key_weight, path_weight, handle_weight, weight_of, count_in, AreAmong, IsLess}
 use Rattle.mq_handles.specs.Users.Key.{Reader, Alone, OnPath}
 
 -- what a name adds is among what is counted for it
 pub is_less : (name : List ℕ) (less : Count) (u : Users) → AreAmong (name_weight name less) u → IsLess less (count_in name u)
 is_less name less u among = record {
-    readers = by (bytes_eq name name) (nat_list_eq_equiv.refl name) less.readers (count_in name u).readers (among (Reader name));
-    alone = by (bytes_eq name name) (nat_list_eq_equiv.refl name) less.alone (count_in name u).alone (among (Alone name));
-    steps = by (bytes_eq name name) (nat_list_eq_equiv.refl name) less.steps (count_in name u).steps (among (OnPath (steps.Queue name)));
-  }
+  readers = by (bytes_eq name name) (nat_list_eq_equiv.refl name) less.readers (count_in name u).readers (among (Reader name));
+  alone = by (bytes_eq name name) (nat_list_eq_equiv.refl name) less.alone (count_in name u).alone (among (Alone name));
+  steps = by (bytes_eq name name) (nat_list_eq_equiv.refl name) less.steps (count_in name u).steps (among (OnPath (steps.Queue name)));
+}
   where
     by : (b : Bool) → b ≡ true → (m n : ℕ) → cond b m 0 ≤ n → m ≤ n
     by true t m n le = le

@@ -1,16 +1,16 @@
 -- Connections are found and changed at their places, and who uses a queue stays counted.
-use Rattle.std.proofs.Common.{◌≡◌, ℕ, zero, suc, ◌+◌, ◌<◌, ◌≤◌, Bool, true, false, cond, List, [], ◌∷◌, ◌++◌, length, get_or, refl, ap, arith, sym, subst, ◌∙◌}
-use Rattle.std.specs.Prelude.{position, Option, Some, None, ◌==◌, not, ◌||◌, filter, map, slice_get, slice_set}
-use Rattle.std.specs.List.{AllByRecursion, list_any, remove}
+use Rattle.std.proofs.Common.{◌≡◌, ℕ, zero, suc, ◌+◌, ◌<◌, Bool, true, false, cond, List, [], ◌∷◌, ◌++◌, length, get_or, refl, ap, arith, sym, subst, ◌∙◌}
+use Rattle.std.specs.Prelude.{position, Some, None, ◌==◌, not, ◌||◌, map, slice_get, slice_set}
+use Rattle.std.specs.List.{list_any, remove}
 use Rattle.std.proofs.lemmas.Bool.Decides.{nat_tests}
-use Rattle.mq_spec_state.specs.Words.{Appl, Place, Item, PathStep, Connection, Handle, connection_at, change_connection, change_handle, any_handle, has_step, stale_if, made_stale}
+use Rattle.mq_spec_state.specs.Words.{Appl, Place, PathStep, Connection, Handle, connection_at, change_connection, change_handle, any_handle, has_step, stale_if, made_stale}
 use Rattle.mq_handles.specs.declared.users.Users.{Users}
-use Rattle.mq_handles.specs.Rising.{AreRising, AreBelow, has_number, has_handle_number, connection_number}
-use Rattle.mq_handles.specs.Seats.{connection_of, opened, closed, cursor_set, at_place, pended, emptied}
-use Rattle.mq_handles.specs.Users.{Key, tally, weight_by, handle_weight, weight_of, weight_in, IsMore, IsSame, IsMoved, IsPartOf, AreCounted}
+use Rattle.mq_handles.specs.Rising.{AreRising, AreBelow, has_number, connection_number}
+use Rattle.mq_handles.specs.Seats.{connection_of, at_place}
+use Rattle.mq_handles.specs.Users.{Key, tally, weight_by, handle_weight, weight_of, IsMore, IsMoved, IsPartOf}
 use Rattle.mq_handles.specs.Desks.{IsDesk}
 use Rattle.mq_handles.proofs.WeightLaws.{weight_more, weight_set, weight_out, weight_on, weight_map, weight_map_in}
-use Rattle.mq_handles.proofs.SeatLaws.{rising_on, below_on, rising_put, below_put, rising_kept, below_kept, rising_mapped, below_mapped, one_goes, none_goes}
+use Rattle.mq_handles.proofs.SeatLaws.{rising_on, below_on, rising_put, below_put, rising_kept, below_kept, rising_mapped, below_mapped, one_goes}
 
 pub at_none : (n : ℕ) (cs : List Connection) → position (has_number n) cs ≡ None → connection_at n cs ≡ None
 at_none n [] e = refl

@@ -1,6 +1,6 @@
 -- An outcome by cases.
 use Rattle.std.proofs.Common.{◌≡◌, false, sym, subst}
-use Rattle.std.specs.Prelude.{Result, Ok, Err, Option, Some, None, OnOk, OnErr, IfOk, IfSome, is_err}
+use Rattle.std.specs.Prelude.{Result, Ok, Err, Option, Some, OnOk, OnErr, IfOk, IfSome, is_err}
 
 pub on_ok : {T E A B : Type 0} (r : Result T E) → (A → B) → OnOk r A → OnOk r B
 on_ok (Ok t) f a = f a

@@ -1,11 +1,11 @@
 -- Lists whose numbers rise, and the handles of a connection.
-use Rattle.std.proofs.Common.{◌≡◌, ℕ, zero, suc, ◌+◌, ◌<◌, ◌≤◌, Bool, true, false, cond, List, [], ◌∷◌, ◌++◌, length, take, get_or, refl, ap, arith, sym, subst, ◌∙◌}
-use Rattle.std.specs.Prelude.{position, Option, Some, None, ◌==◌, not, filter, map, slice_get, slice_set}
+use Rattle.std.proofs.Common.{◌≡◌, ℕ, zero, suc, ◌+◌, ◌<◌, Bool, true, false, cond, List, [], ◌∷◌, ◌++◌, length, take, get_or, refl, ap, arith, sym, subst, ◌∙◌}
+use Rattle.std.specs.Prelude.{position, Some, None, ◌==◌, not, filter, map, slice_get, slice_set}
 use Rattle.std.specs.List.{AllByRecursion, remove}
 use Rattle.std.proofs.lemmas.Bool.Decides.{nat_tests}
-use Rattle.mq_spec_state.specs.Words.{Place, PathStep, Handle, Connection, handle_at, change_handle, stale_if, has_step}
+use Rattle.mq_spec_state.specs.Words.{PathStep, Handle, handle_at, change_handle, stale_if, has_step}
 use Rattle.mq_handles.specs.Rising.{AreRising, AreBelow, handle_number, has_handle_number}
-use Rattle.mq_handles.specs.Seats.{HasHandles, at_place}
+use Rattle.mq_handles.specs.Seats.{HasHandles}
 
 -- ---- numbers
 

@@ -1,5 +1,5 @@
 -- What is done to one connection: what `apply` of a manager's changes does to it.
-use Rattle.std.specs.Prelude.{◌≡◌, ℕ, ◌+◌, ◌==◌, not, List, [], ◌∷◌, ◌++◌, filter, Some}
+use Rattle.std.specs.Prelude.{ℕ, ◌+◌, ◌==◌, not, List, [], ◌∷◌, ◌++◌, filter, Some}
 use Rattle.mq_spec_state.specs.Words.{Place, Appl, Item, Handle, Connection, change_handle}
 use Rattle.mq_handles.specs.Rising.{AreRising, AreBelow, handle_number}
 

@@ -219,7 +219,11 @@ fn is_step(step: &PathStep, other: &PathStep) -> bool
 fn is_on_path(handle: &Handle, step: &PathStep) -> bool
     ensures { result ≡ has_step step.now handle.now }
 {
-    handle.path.as_slice().iter().any(|other| is_step(step, other))
+    handle
+        .path
+        .as_slice()
+        .iter()
+        .any(|other| is_step(step, other))
 }
 
 fn stale_if_over(handle: &mut Handle, step: &PathStep)

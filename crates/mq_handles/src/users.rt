@@ -288,12 +288,7 @@ impl Users {
     /// # Errors
     ///
     /// No memory, or a count above its type; the same is counted as before.
-    pub fn add(
-        &mut self,
-        how: &Open,
-        end: &RouteEnd,
-        path: &[PathStep],
-    ) -> Result<(), NoMemory>
+    pub fn add(&mut self, how: &Open, end: &RouteEnd, path: &[PathStep]) -> Result<(), NoMemory>
         ensures ok { OnOk result (IsMore (weight_by how.now end.now path.now) self.old self.new) }
         ensures err { OnErr result (IsSame self.old self.new) }
     {

@@ -1,5 +1,5 @@
 -- What the condition of a trigger reads of a manager.
-use Rattle.std.specs.Prelude.{◌≡◌, ℕ, List}
+use Rattle.std.specs.Prelude.{◌≡◌, List}
 use Rattle.mq_spec_state.specs.Words.{Definitions, LocalQueue, Connection, Seizure, Plain, stored, waiting}
 use Rattle.mq_trigger.specs.declared.condition.Tried.{Tried}
 

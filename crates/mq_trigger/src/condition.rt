@@ -2,7 +2,7 @@
 ghost use Rattle.std.specs.Prelude.{◌≡◌, ◌||◌};
 ghost use Rattle.mq_queue.specs.Rows.{has_priority};
 ghost use Rattle.mq_objects.specs.Names.{local_of};
-ghost use Rattle.mq_spec_state.specs.Words.{Plain, is_triggered, by_type, is_served, is_open_for_input, is_long_ago, is_depth, read_by_handle, read_by_sender};
+ghost use Rattle.mq_spec_state.specs.Words.{Plain, is_triggered, by_type, is_served, is_open_for_input, is_long_ago, is_depth, read_by_sender};
 ghost use Rattle.mq_trigger.specs.Seen.{IsSeen};
 
 use mq_calls::Seizure;

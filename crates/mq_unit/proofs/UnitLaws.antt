@@ -1,14 +1,14 @@
 -- Units item by item: what they add and remove, its bytes in a record, and what their ends tell.
-use Rattle.std.proofs.Common.{◌≡◌, ℕ, zero, suc, ◌+◌, ◌-◌, ◌<◌, ◌≤◌, ◌^◌, Bool, true, false, cond, List, [], ◌∷◌, ◌++◌, length, get_or, drop, Option, Some, None, refl, ap, sym, subst, ◌∙◌, append_assoc, add-one, drop-cons, arith}
-use Rattle.std.specs.Prelude.{◌*◌, ◌==◌, nat_eq, not, is_some, sum_by, count_by}
+use Rattle.std.proofs.Common.{◌≡◌, ℕ, suc, ◌+◌, ◌-◌, ◌<◌, ◌≤◌, Bool, true, false, cond, List, [], ◌∷◌, ◌++◌, length, get_or, drop, Option, Some, None, refl, ap, sym, subst, ◌∙◌, append_assoc, add-one, drop-cons, arith}
+use Rattle.std.specs.Prelude.{◌*◌, nat_eq, not, is_some, sum_by, count_by}
 use Rattle.std.specs.List.{flat_map, AllByRecursion}
-use Rattle.std.proofs.lemmas.List.{append-nil, length-append}
+use Rattle.std.proofs.lemmas.List.{length-append}
 use Rattle.std.proofs.lemmas.List.Sums.{sum_by-cons}
 use Rattle.std.proofs.lemmas.List.Recursion.{is_count_by}
 use Rattle.mq_calls.specs.declared.deltas.Did.{Did}
 use Rattle.mq_calls.specs.declared.state.Item.{Item}
 use Rattle.mq_calls.specs.declared.state.Item.TheVariants.{Put, Take}
-use Rattle.mq_spec_state.specs.Words.{Message, Dest, Add, Remove, is_persistent, item_bytes, put_bytes, add_size, route_size, record_size, need, unit_need, with_head}
+use Rattle.mq_spec_state.specs.Words.{Message, Dest, Add, Remove, is_persistent, item_bytes, put_bytes, add_size, route_size, unit_need, with_head}
 use Rattle.mq_spec_manager.specs.Units.{adds_of, removes_of, record_of, removed_item, placed_did, released_did}
 use Rattle.mq_record.specs.Room.{Buffered, with_piece}
 use Rattle.mq_record.specs.Records.{unit_front, record_bytes, add_bytes, remove_bytes, IsAdd, IsRemove}
@@ -249,7 +249,7 @@ pub record_put : (items : List Item) (b c d e : Buffered) (front : List ℕ) (n 
 record_put items b c d e front n m is adds removes first second third =
     let parts : List ℕ = adds_bytes items ++ removes_bytes items in
     let counted : front ≡ unit_front (length (adds_of items)) (length (removes_of items)) =
-        is ∙ ap (λ (k : ℕ). unit_front k m) (adds ∙ sym (count_adds items)) ∙ ap (unit_front (length (adds_of items))) (removes ∙ sym (count_removes items)) in
+    is ∙ ap (λ (k : ℕ). unit_front k m) (adds ∙ sym (count_adds items)) ∙ ap (unit_front (length (adds_of items))) (removes ∙ sym (count_removes items)) in
     third ∙ ap (with_piece (removes_bytes items)) second ∙ with_two (adds_bytes items) (removes_bytes items) c
     ∙ ap (with_piece parts) first ∙ with_two front parts b ∙ ap (λ (f : List ℕ). with_piece (f ++ parts) b) counted
 

@@ -9,5 +9,4 @@ ghost use Rattle.mq_unit.specs.Forced.{need_of};
 /// A unit needs what its record takes of the log; nothing where it has no persistent item, for then it forces no record.
 pub fn a_unit_needs_its_record()
     ensures { (items : List Item) → need_of (record_of (adds_of items) (removes_of items)) ≡ unit_need items }
-{
-}
+{}

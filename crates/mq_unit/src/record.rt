@@ -44,13 +44,7 @@ pub fn item_bytes(item: &Item) -> u64
                 0
             }
         }
-        Item::Take { persistent, .. } => {
-            if *persistent {
-                65
-            } else {
-                0
-            }
-        }
+        Item::Take { persistent, .. } => { if *persistent { 65 } else { 0 } }
     }
 }
 

@@ -1,5 +1,4 @@
 use Rattle.std.proofs.Common.{ltb, rules, arith, sym, ap, ◌∙◌}
-use Rattle.std.specs.List.Sorted.{IsPartitionPoint}
 use Rattle.std.proofs.lemmas.List.Sorted.{IsPartitionPoint-from_clause, IsPartitionedBy-ltb}
 use Rattle.mq_handles.specs.Rising.{connection_number}
 use Rattle.mq_handles.proofs.RisingLaws.{rising, found, missed_end, missed_at}
@@ -24,4 +23,3 @@ returns-else-number c =
     let parted = IsPartitionedBy-ltb connection_number _ c.args.number (rising connection_number c.args.seats.now c.requires) in
     let at = IsPartitionPoint-from_clause (λ x. ltb (connection_number x) c.args.number) _ _ c.partition_point-at.ensures.partitioned parted (λ a r q k. search rules) in
     sym (missed_at connection_number c.args.number c.args.seats.now c.partition_point-at.result c.index-seats-at.result c.requires at (λ e. c.if-number.false (c.number.ensures ∙ ap connection_number c.index-seats-at.is ∙ e)))
-

@@ -1,5 +1,4 @@
-use Rattle.std.proofs.Common.{ltb, rules, arith, sym, ap, ◌∙◌}
-use Rattle.std.specs.List.Sorted.{IsPartitionPoint}
+use Rattle.std.proofs.Common.{ltb, rules, arith, sym}
 use Rattle.std.proofs.lemmas.List.Sorted.{IsPartitionPoint-from_clause, IsPartitionedBy-ltb}
 use Rattle.mq_handles.specs.Rising.{handle_number}
 use Rattle.mq_handles.proofs.RisingLaws.{rising, found, missed_end, missed_at}
@@ -24,4 +23,3 @@ returns-else-handles-at c =
     let parted = IsPartitionedBy-ltb handle_number _ c.args.number (rising handle_number c.args.handles.now c.requires) in
     let at = IsPartitionPoint-from_clause (λ x. ltb (handle_number x) c.args.number) _ _ c.partition_point-at.ensures.partitioned parted (λ a r q k. search rules) in
     sym (missed_at handle_number c.args.number c.args.handles.now c.partition_point-at.result c.index-handles-at.result c.requires at c.if-handles-at.false)
-

@@ -10,8 +10,8 @@ loop-at-preserved c =
     let lt = c.loop-at-test.true in
     let within : c.loop-at.at < length c.loop-at.handles = omega (arith, long, lt) in
     mapped_next (λ (h : Handle). stale_if (has_step c.args.step.now h) h) c.args.handles.now c.loop-at.handles c.loop-at.at c.index-handles-at.result c.stale_if_over.new.handle c.loop-at.invariant lt
-      (got c.loop-at.handles c.loop-at.at c.index-handles-at.result within c.index-handles-at.is)
-      (c.stale_if_over.ensures ∙ ap (λ (h : Handle). stale_if (has_step c.args.step.now h) h) (sym c.index-handles-at.is))
+    (got c.loop-at.handles c.loop-at.at c.index-handles-at.result within c.index-handles-at.is)
+    (c.stale_if_over.ensures ∙ ap (λ (h : Handle). stale_if (has_step c.args.step.now h) h) (sym c.index-handles-at.is))
 
 pub returns : goal.returns
 returns c =

@@ -1,4 +1,4 @@
-use Rattle.std.proofs.Common.{◌≡◌, ℕ, List, length, ap, arith}
+use Rattle.std.proofs.Common.{ℕ, List, length, ap, arith}
 use Rattle.mq_unit.proofs.UnitLaws.{parts_fit, count_adds, count_removes, record_put, removes_fit}
 use Rattle.mq_unit.proofs.record.put_unit.Goals as goal
 

@@ -1,4 +1,4 @@
-use Rattle.std.proofs.Common.{◌≡◌, ◌+◌, ◌∙◌, sym, ap, subst}
+use Rattle.std.proofs.Common.{◌+◌, ◌∙◌, sym, ap, subst}
 use Rattle.std.specs.Prelude.{List, ◌==◌, not, filter, position}
 use Rattle.mq_spec_state.specs.Words.{Connection, Handle}
 use Rattle.mq_handles.specs.Rising.{connection_number, has_number}
@@ -18,7 +18,7 @@ invariant_of-self c =
     let place = ap (position (has_number c.args.number)) live ∙ sym c.place_of.ensures ∙ c.in-Some.is in
     subst (λ (cs : List Connection). IsDesk cs c.self.inside.last c.take_all.new.self) (sym c.remove-seat.ensures.rest)
     (desk_gone c.self.inside.live c.self.inside.last c.args.number c.self.inside.users c.take_all.new.self c.in-Some.at c.remove-seat.result place c.remove-seat.ensures.value
-      (λ key. c.take_all.ensures key ∙ ap (λ (hs : List Handle). tally key c.take_all.new.self + weight_of (handle_weight key) hs) c.handles.ensures) c.self.invariant)
+    (λ key. c.take_all.ensures key ∙ ap (λ (hs : List Handle). tally key c.take_all.new.self + weight_of (handle_weight key) hs) c.handles.ensures) c.self.invariant)
 
 pub returns-in-None-clause-live : goal.returns-in-None-clause-live
 returns-in-None-clause-live c = sym (none_goes connection_number c.args.number c.args.self.now.live (sym c.place_of.ensures ∙ c.in-None.is))

@@ -1,14 +1,14 @@
-use Rattle.std.proofs.Common.{◌≡◌, ◌∙◌, sym, ap, subst, refl}
-use Rattle.std.specs.Prelude.{List, Some, IfSome, IsSome, OnOk, OnErr, position, slice_get, slice_set}
-use Rattle.mq_spec_state.specs.Words.{Connection, connection_at, change_connection}
+use Rattle.std.proofs.Common.{◌∙◌, sym, ap, subst}
+use Rattle.std.specs.Prelude.{IsSome, position, slice_get, slice_set}
+use Rattle.mq_spec_state.specs.Words.{Connection, change_connection}
 use Rattle.mq_handles.specs.Rising.{has_number}
 use Rattle.mq_handles.specs.Seats.{emptied}
 use Rattle.std.specs.Prelude.{◌+◌}
 use Rattle.mq_unit.specs.Forced.{IsEnded}
 use Rattle.mq_handles.specs.Users.{tally, handle_weight, weight_of}
 use Rattle.mq_handles.specs.Desks.{Desk}
-use Rattle.mq_handles.proofs.OutcomeLaws.{on_ok, on_err, if_ok, either_way, some_of}
-use Rattle.mq_handles.proofs.DeskLaws.{at_none, at_get, changed_at, changed_none, set_same, desk_put, part_at, same_moved, cursor_moved}
+use Rattle.mq_handles.proofs.OutcomeLaws.{some_of}
+use Rattle.mq_handles.proofs.DeskLaws.{at_none, at_get, changed_at, desk_put}
 use Rattle.mq_handles.proofs.live.Live.end_unit.Goals as goal
 
 pub unreachable-requires : goal.unreachable-requires

@@ -1,5 +1,4 @@
-use Rattle.std.proofs.Common.{◌≡◌, ◌∙◌, sym, ap, arith}
-use Rattle.mq_handles.specs.Desks.{Desk}
+use Rattle.std.proofs.Common.{◌∙◌, sym, arith}
 use Rattle.mq_handles.proofs.DeskLaws.{at_none, at_some}
 use Rattle.mq_handles.proofs.live.Live.get.Goals as goal
 

@@ -1,13 +1,13 @@
-use Rattle.std.proofs.Common.{◌≡◌, ◌∙◌, sym, ap, subst, refl}
-use Rattle.std.specs.Prelude.{List, Some, IfSome, IsSome, OnOk, OnErr, position, slice_get, slice_set}
-use Rattle.mq_spec_state.specs.Words.{Connection, connection_at, change_connection}
+use Rattle.std.proofs.Common.{◌≡◌, ◌∙◌, sym, ap, subst}
+use Rattle.std.specs.Prelude.{List, IfSome, IsSome, position, slice_get, slice_set}
+use Rattle.mq_spec_state.specs.Words.{Connection, change_connection}
 use Rattle.mq_handles.specs.Rising.{has_number}
 use Rattle.mq_handles.specs.Seats.{opened}
 use Rattle.std.specs.Prelude.{◌+◌, ◌<◌}
 use Rattle.mq_spec_manager.specs.Handles.{new_handle}
 use Rattle.mq_handles.specs.Desks.{Desk}
 use Rattle.mq_handles.proofs.OutcomeLaws.{on_ok, on_err, if_ok, either_way, some_of}
-use Rattle.mq_handles.proofs.DeskLaws.{at_none, at_get, changed_at, changed_none, set_same, desk_put, part_at, same_moved, cursor_moved}
+use Rattle.mq_handles.proofs.DeskLaws.{at_none, at_get, changed_at, set_same, desk_put}
 use Rattle.mq_handles.proofs.live.Live.open.Goals as goal
 
 pub unreachable-requires : goal.unreachable-requires
@@ -36,8 +36,8 @@ returns-clause-live c =
     let old = c.at_mut.result.now in
     let found = at_get c.args.number c.args.self.now.live c.in-Some.at (sym c.place_of.ensures ∙ c.in-Some.is) ∙ ap (λ (d : Desk). slice_get d.live c.in-Some.at) (sym c.self.view_is) ∙ c.at_mut.ensures.value in
     on_ok c.open.result (λ e. some_of (λ (d : Connection). slice_set c.self.inside.live c.in-Some.at c.open.new.self ≡ change_connection c.args.number (opened (new_handle c.args.how.now c.args.route d)) c.args.self.now.live) _ old found
-      (ap (slice_set c.self.inside.live c.in-Some.at) e ∙ changed_at c.args.number (opened (new_handle c.args.how.now c.args.route old)) c.self.inside.live c.in-Some.at old place c.at_mut.ensures.value
-        ∙ ap (change_connection c.args.number (opened (new_handle c.args.how.now c.args.route old))) live)) c.open.ensures.ok
+    (ap (slice_set c.self.inside.live c.in-Some.at) e ∙ changed_at c.args.number (opened (new_handle c.args.how.now c.args.route old)) c.self.inside.live c.in-Some.at old place c.at_mut.ensures.value
+    ∙ ap (change_connection c.args.number (opened (new_handle c.args.how.now c.args.route old))) live)) c.open.ensures.ok
 
 pub returns-clause-err : goal.returns-clause-err
 returns-clause-err c =

@@ -1,14 +1,14 @@
-use Rattle.std.proofs.Common.{◌≡◌, ◌∙◌, sym, ap, subst, refl}
-use Rattle.std.specs.Prelude.{List, Some, IfSome, IsSome, OnOk, OnErr, position, slice_get, slice_set}
-use Rattle.mq_spec_state.specs.Words.{Connection, connection_at, change_connection}
+use Rattle.std.proofs.Common.{◌∙◌, sym, ap, subst}
+use Rattle.std.specs.Prelude.{List, IfSome, position, slice_get, slice_set}
+use Rattle.mq_spec_state.specs.Words.{Connection, change_connection}
 use Rattle.mq_handles.specs.Rising.{has_number}
 use Rattle.mq_handles.specs.Seats.{pended}
 use Rattle.std.specs.Prelude.{◌+◌, ◌<◌, ◌++◌, ◌∷◌, []}
 use Rattle.mq_spec_state.specs.Words.{unit_need}
 use Rattle.mq_handles.specs.Users.{tally, handle_weight, weight_of}
 use Rattle.mq_handles.specs.Desks.{Desk}
-use Rattle.mq_handles.proofs.OutcomeLaws.{on_ok, on_err, if_ok, either_way, some_of}
-use Rattle.mq_handles.proofs.DeskLaws.{at_none, at_get, changed_at, changed_none, set_same, desk_put, part_at, same_moved, cursor_moved}
+use Rattle.mq_handles.proofs.OutcomeLaws.{on_ok, on_err, either_way}
+use Rattle.mq_handles.proofs.DeskLaws.{at_get, changed_at, changed_none, set_same, desk_put}
 use Rattle.mq_handles.proofs.live.Live.pend.Goals as goal
 
 pub pend-requires : goal.pend-requires
@@ -19,11 +19,11 @@ pend-requires c =
 pub invariant_of-self : goal.invariant_of-self
 invariant_of-self c =
     either_way c.pend.result
-      (λ e. desk_put c.self.inside.live c.self.inside.last c.self.inside.users c.self.inside.users c.in-Some.at c.at_mut.result.now c.pend.new.self c.at_mut.ensures.value
-        (ap (λ (d : Connection). d.number) e) (λ key. ap (λ (d : Connection). tally key c.self.inside.users + weight_of (handle_weight key) d.handles) (sym e)) c.self.invariant)
-      (λ e. desk_put c.self.inside.live c.self.inside.last c.self.inside.users c.self.inside.users c.in-Some.at c.at_mut.result.now c.pend.new.self c.at_mut.ensures.value
-        (ap (λ (d : Connection). d.number) e) (λ key. ap (λ (d : Connection). tally key c.self.inside.users + weight_of (handle_weight key) d.handles) (sym e)) c.self.invariant)
-      c.pend.ensures.ok c.pend.ensures.err
+    (λ e. desk_put c.self.inside.live c.self.inside.last c.self.inside.users c.self.inside.users c.in-Some.at c.at_mut.result.now c.pend.new.self c.at_mut.ensures.value
+    (ap (λ (d : Connection). d.number) e) (λ key. ap (λ (d : Connection). tally key c.self.inside.users + weight_of (handle_weight key) d.handles) (sym e)) c.self.invariant)
+    (λ e. desk_put c.self.inside.live c.self.inside.last c.self.inside.users c.self.inside.users c.in-Some.at c.at_mut.result.now c.pend.new.self c.at_mut.ensures.value
+    (ap (λ (d : Connection). d.number) e) (λ key. ap (λ (d : Connection). tally key c.self.inside.users + weight_of (handle_weight key) d.handles) (sym e)) c.self.invariant)
+    c.pend.ensures.ok c.pend.ensures.err
 
 pub returns-in-None-clause-live : goal.returns-in-None-clause-live
 returns-in-None-clause-live c = sym (changed_none c.args.number (pended c.args.item) c.args.self.now.live (sym c.place_of.ensures ∙ c.in-None.is))
@@ -34,7 +34,7 @@ returns-in-Some-clause-live c =
     let place = ap (position (has_number c.args.number)) live ∙ sym c.place_of.ensures ∙ c.in-Some.is in
     let old = c.at_mut.result.now in
     on_ok c.pend.result (λ e. ap (slice_set c.self.inside.live c.in-Some.at) e ∙ changed_at c.args.number (pended c.args.item) c.self.inside.live c.in-Some.at old place c.at_mut.ensures.value
-      ∙ ap (change_connection c.args.number (pended c.args.item)) live) c.pend.ensures.ok
+    ∙ ap (change_connection c.args.number (pended c.args.item)) live) c.pend.ensures.ok
 
 pub returns-in-Some-clause-err : goal.returns-in-Some-clause-err
 returns-in-Some-clause-err c =

@@ -1,12 +1,11 @@
-use Rattle.std.proofs.Common.{◌≡◌, ◌∙◌, sym, ap, subst, refl}
-use Rattle.std.specs.Prelude.{List, Some, IfSome, IsSome, OnOk, OnErr, position, slice_get, slice_set}
-use Rattle.mq_spec_state.specs.Words.{Connection, connection_at, change_connection}
+use Rattle.std.proofs.Common.{◌∙◌, sym, ap, subst}
+use Rattle.std.specs.Prelude.{position, slice_set}
+use Rattle.mq_spec_state.specs.Words.{Connection, change_connection}
 use Rattle.mq_handles.specs.Rising.{has_number}
 use Rattle.mq_handles.specs.Seats.{cursor_set}
 use Rattle.mq_handles.specs.Users.{IsMoved}
 use Rattle.mq_handles.specs.Desks.{Desk}
-use Rattle.mq_handles.proofs.OutcomeLaws.{on_ok, on_err, if_ok, either_way, some_of}
-use Rattle.mq_handles.proofs.DeskLaws.{at_none, at_get, changed_at, changed_none, set_same, desk_put, part_at, same_moved, cursor_moved}
+use Rattle.mq_handles.proofs.DeskLaws.{changed_at, changed_none, desk_put, cursor_moved}
 use Rattle.mq_handles.proofs.live.Live.set_cursor.Goals as goal
 
 pub invariant_of-self : goal.invariant_of-self

@@ -1,4 +1,4 @@
-use Rattle.std.proofs.Common.{◌≡◌, ◌∙◌, sym, ap, subst, arith}
+use Rattle.std.proofs.Common.{◌∙◌, sym, ap, subst, arith}
 use Rattle.std.specs.Prelude.{List, ◌==◌, not, position}
 use Rattle.mq_spec_state.specs.Words.{Connection, Handle}
 use Rattle.mq_handles.specs.Rising.{handle_number, has_handle_number}

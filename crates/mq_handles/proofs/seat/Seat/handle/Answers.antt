@@ -1,4 +1,4 @@
-use Rattle.std.proofs.Common.{◌≡◌, ◌∙◌, sym, ap}
+use Rattle.std.proofs.Common.{◌∙◌, sym, ap}
 use Rattle.std.specs.Prelude.{Some, position}
 use Rattle.mq_spec_state.specs.Words.{Connection, Handle, handle_at}
 use Rattle.mq_handles.specs.Rising.{has_handle_number}

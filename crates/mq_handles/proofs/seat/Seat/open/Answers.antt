@@ -1,4 +1,4 @@
-use Rattle.std.proofs.Common.{◌≡◌, ◌+◌, ◌∙◌, false, sym, ap, subst, refl}
+use Rattle.std.proofs.Common.{◌+◌, ◌∙◌, false, sym, ap, subst, refl}
 use Rattle.std.specs.Prelude.{List, None}
 use Rattle.mq_spec_state.specs.Words.{Connection, Handle}
 use Rattle.mq_handles.specs.Users.{IsMoved}

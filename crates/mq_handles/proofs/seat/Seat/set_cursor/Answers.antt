@@ -1,4 +1,4 @@
-use Rattle.std.proofs.Common.{◌≡◌, ◌∙◌, sym, ap}
+use Rattle.std.proofs.Common.{◌∙◌, sym, ap}
 use Rattle.std.specs.Prelude.{List, position, slice_set}
 use Rattle.mq_spec_state.specs.Words.{Connection, Handle}
 use Rattle.mq_handles.specs.Rising.{has_handle_number}
@@ -24,6 +24,6 @@ returns-in-Some c =
     let place = ap (position (has_handle_number c.args.number)) same ∙ sym c.place_of.ensures ∙ c.in-Some.is in
     let within = handle_within c.args.number c.self.inside.handles.items c.in-Some.at place in
     let set = ap (slice_set c.self.inside.handles.items c.in-Some.at) c.set_cursor_of.ensures ∙ changed_handle c.args.number (at_place c.args.place) c.self.inside.handles.items c.in-Some.at c.index_mut.result.now place
-          (got c.self.inside.handles.items c.in-Some.at c.index_mut.result.now within c.index_mut.ensures.value) in
+    (got c.self.inside.handles.items c.in-Some.at c.index_mut.result.now within c.index_mut.ensures.value) in
     ap (λ (hs : List Handle). let d : Connection = record { number = c.self.inside.number; appl = c.self.inside.appl; handles = hs; last_handle = c.self.inside.last_handle; unit = c.self.inside.unit } in d) set
     ∙ ap (cursor_set c.args.number c.args.place) c.self.view_is
