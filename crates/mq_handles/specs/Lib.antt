@@ -1,0 +1,4 @@
+pub mod Rising
+pub mod Seats
+pub mod Users
+pub mod Desks

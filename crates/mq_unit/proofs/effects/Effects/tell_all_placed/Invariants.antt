@@ -1,0 +1,6 @@
+use Rattle.mq_spec_manager.specs.Units.{placed_did}
+use Rattle.mq_unit.proofs.UnitLaws.{TellsLeft}
+use Rattle.mq_unit.proofs.effects.Effects.tell_all_placed.Given as goal
+
+abbrev pub invariant-loop-item : goal.invariant-loop-item
+invariant-loop-item l = TellsLeft placed_did l.unit l.item-index l.fn.self l.self
