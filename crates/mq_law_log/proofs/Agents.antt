@@ -13,7 +13,6 @@ use Rattle.mq_objects.specs.declared.object.LocalQueue.{LocalQueue}
 use Rattle.mq_objects.specs.declared.object.Process.{Process}
 use Rattle.mq_objects.specs.Names.{local_of, locals_of, channel_of, process_of, is_transmission}
 use Rattle.mq_sync.specs.declared.unit.Unit.{Unit as Luw}
-use Rattle.mq_sync.specs.declared.data.SenderData.{SenderData}
 use Rattle.mq_sync.specs.Settlement.{sender_or}
 use Rattle.mq_calls.specs.declared.agents.Note.{Note}
 use Rattle.mq_calls.specs.declared.agents.PrepareFault.TheVariants as prepare_faults
@@ -22,28 +21,28 @@ use Rattle.mq_calls.specs.declared.deltas.Did.TheVariants as did
 use Rattle.mq_calls.specs.declared.deltas.Why.TheVariants as whys
 use Rattle.mq_spec_state.specs.State.{Plain, Batch, Queue}
 use Rattle.mq_spec_state.specs.State.Change.{Place as Places, Serve, CountIdent, Seize, Unseize, SetBound}
-use Rattle.mq_spec_state.specs.Reads.{stored, queue_in, is_persistent, free_rows, batch_of, in_doubt_of, sender_data, is_up, is_full, is_open_for_input, has_held_by_other, is_expired}
-use Rattle.mq_spec_state.specs.Changes.{apply, apply_all}
+use Rattle.mq_spec_state.specs.Reads.{stored, queue_in, is_persistent, free_rows, batch_of, sender_data, is_up, is_full, is_open_for_input, has_held_by_other, is_expired}
+use Rattle.mq_spec_state.specs.Changes.{apply}
 use Rattle.mq_spec_state.specs.Sizes.{need}
-use Rattle.mq_spec_state.specs.Steps.{Part, Step, when}
+use Rattle.mq_spec_state.specs.Steps.{when}
 use Rattle.mq_spec_state.specs.Images.{Shelf, has_batch, rests_by, lasting, lasting_row, lasting_rows, shelves_of}
 use Rattle.mq_spec_manager.specs.Handles.{is_transmission_queue}
 use Rattle.mq_spec_manager.specs.Put.{next_ident}
 use Rattle.mq_spec_manager.specs.Get.{idents_of}
 use Rattle.mq_spec_manager.specs.Triggers.{trigger_turn, trigger_at, serve, serve_by, serve_into, put_trigger, takes_it, first_due, route_to, trigger_message}
 use Rattle.mq_spec_agents.specs.Words.{CanHarden, CanHold, CanPrepare, IsPreparable, HasFreeRow, NoneInDoubt, is_row_in_doubt, seize, leave, set_bound, channel_queue, expire, expired_rows, queue_of_sender, hold_batch, release_batch, release_of, prepare, prepare_of, prepared_record, prepared_changes, harden, discard}
-use Rattle.mq_spec_log.specs.Applies.{can_prepare, is_unit, are_distinct, is_held_among}
+use Rattle.mq_spec_log.specs.Applies.{can_prepare, are_distinct, is_held_among}
 use Rattle.mq_law_manager.specs.View.{view}
 use Rattle.mq_law_manager.specs.Facts.{Mem, Chain, ident_of, IsSound}
 use Rattle.mq_law_manager.proofs.Lists.{bool_case}
-use Rattle.mq_law_manager.proofs.Named.{name_is, name_self}
+use Rattle.mq_law_manager.proofs.Named.{name_is}
 use Rattle.mq_law_manager.proofs.Beginning.{pairs_chain}
 use Rattle.mq_law_manager.proofs.Removals.{mem_filter, differ_filter}
 use Rattle.mq_law_manager.proofs.Handling.{is_loose}
 use Rattle.mq_law_manager.proofs.Lists.{ident_yes}
 use Rattle.mq_law_manager.proofs.Receiving.{placing_defined}
-use Rattle.mq_law_log.specs.Keeps.{has_queue, HoldsJust}
-use Rattle.mq_law_log.specs.Restarts.{IsHarmless, IsGivenIn, AllHarmless, StepHarmless}
+use Rattle.mq_law_log.specs.Keeps.{has_queue}
+use Rattle.mq_law_log.specs.Restarts.{IsHarmless, IsGivenIn, StepHarmless}
 use Rattle.mq_law_log.proofs.Shelves.{shelves_set, shelf_again}
 use Rattle.mq_law_log.proofs.Changes.{placed_aside, aside_lasts}
 use Rattle.mq_law_log.proofs.Batches.{holding_aside, releasing_aside}

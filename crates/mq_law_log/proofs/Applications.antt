@@ -1,6 +1,6 @@
 -- Each call of an application makes a crash harmless, at each of its writes, in a sound manager.
-use Rattle.std.proofs.Common.{ℕ, ◌≡◌, ◌≢◌, Bool, true, false, List, [], ◌∷◌, ◌++◌, refl, ap, sym, ◌∙◌, subst, length, inl, inr}
-use Rattle.std.specs.Prelude.{Option, Some, None, Result, Ok, Err, is_some, nat_le, cond, if◌then◌else◌, ◌&&◌}
+use Rattle.std.proofs.Common.{ℕ, ◌≡◌, Bool, true, false, List, [], ◌∷◌, ◌++◌, refl, ap, sym, subst, inl, inr}
+use Rattle.std.specs.Prelude.{Option, Some, None, Result, Ok, Err, is_some, if◌then◌else◌, ◌&&◌}
 use Rattle.std.specs.List.{AllByRecursion}
 use Rattle.mq_codes.specs.declared.reason.Reason.{Reason}
 use Rattle.mq_codes.specs.declared.reason.Reason.TheVariants as reasons
@@ -31,11 +31,10 @@ use Rattle.mq_spec_state.specs.Steps.{Step, Part, Test, when, tested, refused_or
 use Rattle.mq_spec_state.specs.Images.{lasting}
 use Rattle.mq_spec_manager.specs.Handles.{new_connection, new_handle, connected, for_connection, for_handle, mqconn, mqopen, mqclose, close_up, close_handle, conn_tests, open_tests, open_step, option_tests, is_unfit}
 use Rattle.mq_spec_manager.specs.Put.{mqput, mqput1, put_up, put_handle, put_route, put_part, put1_resolved, new_message, put_tests, put_step, queue_at, dest_at, next_ident, output_tests, handle_route, output_only}
-use Rattle.mq_spec_manager.specs.Get.{mqget, get_up, get_handle, get_scanned, get_found, get_tests, room_tests, scanned, scan, scan_row, Scan, asked, looked_at, with_row, without_row, is_waiting, is_under, is_left, is_destructive, found_part, taking_part, removal_part, removal_parts, persistent_rows, expired_parts}
-use Rattle.mq_spec_manager.specs.Units.{commit_part, mqcmit, mqback, mqdisc}
+use Rattle.mq_spec_manager.specs.Get.{mqget, get_up, get_handle, get_scanned, get_found, get_tests, room_tests, scanned, scan, scan_row, asked, looked_at, with_row, without_row, is_waiting, is_under, is_left, is_destructive, found_part, taking_part, removal_parts, persistent_rows, expired_parts}
+use Rattle.mq_spec_manager.specs.Units.{mqcmit, mqback, mqdisc}
 use Rattle.mq_law_manager.specs.View.{view}
 use Rattle.mq_law_manager.specs.Facts.{Mem, Differ, ident_of, IsSound}
-use Rattle.mq_law_manager.specs.Kept.{AllKeep}
 use Rattle.mq_law_manager.proofs.Lists.{bool_case, distinct_of}
 use Rattle.mq_law_manager.proofs.Units.{is_live}
 use Rattle.mq_law_manager.proofs.Steps.{free_is}

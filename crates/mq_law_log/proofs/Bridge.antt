@@ -26,7 +26,7 @@ use Rattle.mq_spec_log.specs.Applies.{agrees, fits_local}
 use Rattle.mq_spec_manager.specs.Put.{next_ident, queue_at}
 use Rattle.mq_law_manager.specs.View.{Taken, view, puts_in, takes_in, items_of}
 use Rattle.mq_law_manager.specs.Facts.{Mem, Differ, put_ident, taken_ident, IsOf, Sound, AreNamed, IsFit, IsUnlisted, listed, IsSound}
-use Rattle.mq_law_manager.proofs.Lists.{bool_case, is_false, any_mem, mem_any, ident_no, ident_self, ident_yes, distinct_of, one_row}
+use Rattle.mq_law_manager.proofs.Lists.{is_false, any_mem, mem_any, ident_no, distinct_of, one_row}
 use Rattle.mq_law_manager.proofs.Named.{name_is, name_self, name_turned}
 use Rattle.mq_law_manager.proofs.Batches.{by_batch, is_by_batch}
 use Rattle.mq_law_manager.proofs.Needed.{next_lacks, put_lacks}

@@ -1,6 +1,6 @@
 -- An object command does what its record says, in a sound manager; so its write makes a crash harmless.
-use Rattle.std.proofs.Common.{ℕ, ◌≡◌, ◌+◌, Bool, true, false, List, [], ◌∷◌, ◌++◌, refl, ap, sym, ◌∙◌, length, arith, inl, inr, ◌⊎◌}
-use Rattle.std.specs.Prelude.{Option, Some, None, Result, Ok, Err, is_some, nat_lt, not, ◌&&◌, ◌||◌, filter, if◌then◌else◌}
+use Rattle.std.proofs.Common.{ℕ, ◌≡◌, Bool, true, false, List, [], ◌∷◌, ◌++◌, refl, ap, sym, ◌∙◌, length, arith, inl, inr, ◌⊎◌}
+use Rattle.std.specs.Prelude.{Option, Some, None, Result, Ok, Err, is_some, not, ◌&&◌, ◌||◌, filter, if◌then◌else◌}
 use Rattle.mq_queue.specs.declared.row.Row.{Row}
 use Rattle.mq_objects.specs.declared.object.LocalQueue.{LocalQueue}
 use Rattle.mq_objects.specs.declared.object.Object.{Object}
@@ -30,17 +30,15 @@ use Rattle.mq_sc_apply.specs.declared.answers.Plan.{Plan}
 use Rattle.mq_sc_apply.specs.declared.answers.Plan.TheVariants as plans
 use Rattle.mq_sc_apply.specs.Commands.{plan, to_change, to_show}
 use Rattle.mq_sc_apply.specs.Displayed.{display}
-use Rattle.mq_sc_apply.specs.Planned.{is_type_setting, define, define_at, defined_object, changed, is_used, same_usage, same_delivery, leads_elsewhere, changes_rows, is_filled, set_planned, alter, alter_at, alter_good, bad_in, switches_on, alter_manager, default_changes, delete, delete_at, is_on_path, is_sent_from, is_busy}
-use Rattle.mq_spec_state.specs.State.{Plain, Batch, Queue}
+use Rattle.mq_sc_apply.specs.Planned.{is_type_setting, define, define_at, defined_object, changed, is_used, same_usage, same_delivery, changes_rows, is_filled, alter, alter_at, alter_good, bad_in, switches_on, alter_manager, default_changes, delete, delete_at, is_on_path, is_sent_from, is_busy}
+use Rattle.mq_spec_state.specs.State.{Plain}
 use Rattle.mq_spec_state.specs.State.Change.{ChangeObjects}
 use Rattle.mq_spec_state.specs.Reads.{is_up, stored, has_rows, puts_to}
 use Rattle.mq_spec_state.specs.Changes.{apply, apply_all}
 use Rattle.mq_spec_state.specs.Steps.{when}
-use Rattle.mq_spec_state.specs.Images.{Shelf, lasting, lasting_rows, shelves_of}
+use Rattle.mq_spec_state.specs.Images.{Shelf, lasting, lasting_rows}
 use Rattle.mq_spec_manager.specs.Commands.{command, planned_step, object_part, uses_of, follows, renewed, renewed_if, stale_if, switched_if, dropped}
 use Rattle.mq_spec_log.specs.Applies.{agrees, has_rows_on, same_form, can_replace, can_set, is_empty_local, can_delete, can_change}
-use Rattle.mq_spec_log.specs.Shelves.{shelf_in}
-use Rattle.mq_law_manager.specs.View.{view}
 use Rattle.mq_law_manager.specs.Facts.{IsSound}
 use Rattle.mq_law_manager.proofs.Lists.{bool_case}
 use Rattle.mq_law_manager.proofs.Objects.{object_is, found_object, new_space, new_name, all_alike, defined_alike}

@@ -1,5 +1,5 @@
 -- Each ident in a record that a sound manager writes was given: its manager's own are of incarnations that have begun.
-use Rattle.std.proofs.Common.{ℕ, ◌≡◌, ◌+◌, Bool, true, false, List, [], ◌∷◌, ◌++◌, refl, ap, sym, ◌∙◌, subst, map, arith, inl, inr}
+use Rattle.std.proofs.Common.{ℕ, ◌≡◌, Bool, true, false, List, [], ◌∷◌, refl, ap, sym, ◌∙◌, subst, map, arith, inl, inr}
 use Rattle.std.specs.Prelude.{Option, Some, None, not, ◌==◌, ◌&&◌, ◌||◌, nat_lt, nat_le, if◌then◌else◌}
 use Rattle.std.specs.List.{list_all}
 use Rattle.std.proofs.lemmas.Bool.Decides.{nat_tests}
@@ -20,8 +20,8 @@ use Rattle.mq_spec_manager.specs.Put.{next_ident, unit_record}
 use Rattle.mq_spec_manager.specs.Get.{removal_record}
 use Rattle.mq_spec_manager.specs.Units.{adds_of, removes_of, record_of}
 use Rattle.mq_spec_agents.specs.Words.{is_unborn, harden_part}
-use Rattle.mq_spec_log.specs.Applies.{was_given, idents_in}
-use Rattle.mq_law_manager.specs.View.{view, puts_in, items_of}
+use Rattle.mq_spec_log.specs.Applies.{was_given}
+use Rattle.mq_law_manager.specs.View.{puts_in, items_of}
 use Rattle.mq_law_manager.specs.Facts.{Mem, IsSound}
 use Rattle.mq_law_manager.proofs.Lists.{bool_case}
 use Rattle.mq_law_log.specs.Restarts.{IsGivenIn}

@@ -12,45 +12,43 @@ use Rattle.mq_message.specs.declared.place.Holder.{Holder}
 use Rattle.mq_message.specs.declared.place.Holder.TheVariants as holders
 use Rattle.mq_queue.specs.declared.row.Row.{Row}
 use Rattle.mq_calls.specs.declared.records.Add.{Add}
-use Rattle.mq_queue.specs.Rows.{same_ident, has_ident, is_free}
+use Rattle.mq_queue.specs.Rows.{has_ident, is_free}
 use Rattle.mq_queue.specs.Queues.{Lacks}
 use Rattle.mq_objects.specs.Names.{local_of}
 use Rattle.mq_sync.specs.declared.unit.Unit.{Unit as Luw}
-use Rattle.mq_sync.specs.declared.data.InDoubt.{InDoubt}
 use Rattle.mq_sync.specs.declared.data.ReceiverData.{ReceiverData}
 use Rattle.mq_sync.specs.Units.{Below}
 use Rattle.mq_sync.specs.Settlement.{receiver_or}
 use Rattle.mq_spec_state.specs.State.{Plain, Given, Numbers, Queue, Batch}
 use Rattle.mq_spec_state.specs.State.Which.{Among}
 use Rattle.mq_spec_state.specs.State.Change.{Place as Places, Leave, Undoubt}
-use Rattle.mq_spec_state.specs.Reads.{stored, queue_in, is_persistent, is_full, receiver_data, batch_of}
+use Rattle.mq_spec_state.specs.Reads.{is_persistent, is_full, receiver_data, batch_of}
 use Rattle.mq_spec_state.specs.Condition.{condition}
 use Rattle.mq_spec_state.specs.Changes.{apply, apply_all, selects, try_if}
 use Rattle.mq_spec_state.specs.Sizes.{need}
 use Rattle.mq_spec_state.specs.Steps.{when}
 use Rattle.mq_spec_state.specs.Images.{Shelf, lasting, lasting_row, lasting_rows, shelf_of, shelves_of, rests_by, has_batch}
 use Rattle.mq_spec_manager.specs.Put.{placed}
-use Rattle.mq_spec_agents.specs.Words.{RowAt, row_of, doubts, is_doubted_by, is_pending, is_unborn, same_flag, standing_by, Standing, Absent, InDoubtAt, Present, standing_at, is_present, undoubted, drop_changes, Landing, land, Landed, before, landed_by, landed_unless, landed, land_changes, received_record, receive, receive_landed, CanReceive}
+use Rattle.mq_spec_agents.specs.Words.{RowAt, row_of, doubts, is_doubted_by, is_pending, is_unborn, same_flag, standing_by, Standing, Absent, InDoubtAt, Present, standing_at, is_present, undoubted, Landing, land, Landed, before, landed_by, landed_unless, landed, land_changes, received_record, receive, receive_landed, CanReceive}
 use Rattle.mq_spec_log.specs.Applies.{was_given, can_receive, is_free_at, stands_on}
 use Rattle.mq_law_manager.specs.View.{view}
 use Rattle.mq_law_manager.specs.Facts.{Mem, Sound, IsSound, IsFit}
 use Rattle.mq_law_manager.proofs.Lists.{bool_case, ident_no, ident_yes, one_row}
 use Rattle.mq_law_manager.proofs.Named.{name_self}
-use Rattle.mq_law_manager.proofs.Units.{behind}
 use Rattle.mq_law_manager.proofs.Apart.{IsNew}
 use Rattle.mq_law_manager.proofs.QueueNames.{all_named}
 use Rattle.mq_law_manager.proofs.Shelves.{all_stay, has_mapped}
 use Rattle.mq_law_manager.proofs.Stocks.{land_asks}
 use Rattle.mq_law_manager.proofs.Receiving.{row_there, IsDoubted, IsStanding, standing_is, land_sound, IsLanding, land_is}
-use Rattle.mq_law_log.specs.Keeps.{IsPlaceable, IsLandable, CameBack, LandTold, AllLand, AreLaned, has_queue, received_part}
-use Rattle.mq_law_log.specs.Restarts.{IsHarmless, StepHarmless}
+use Rattle.mq_law_log.specs.Keeps.{IsLandable, CameBack, LandTold, AllLand, AreLaned, has_queue, received_part}
+use Rattle.mq_law_log.specs.Restarts.{StepHarmless}
 use Rattle.mq_law_log.proofs.Rows.{lacks_last}
 use Rattle.mq_law_log.proofs.Changes.{left_lasts, placed_is_there}
-use Rattle.mq_law_log.proofs.Parts.{placing_aside, leaving_told, applied_append}
+use Rattle.mq_law_log.proofs.Parts.{placing_aside, leaving_told}
 use Rattle.mq_law_log.proofs.Placings.{all_found, all_mapped, laned_kept}
 use Rattle.mq_law_log.proofs.Received.{absent_lands, back_lands, received_does}
 use Rattle.mq_law_log.proofs.Bridge.{all_of, rows_of, each_queue, lacks_by, sound_logs, fit_fits}
-use Rattle.mq_law_log.proofs.Steady.{AllLaned, AllSteady, steady_append, steady_harmless}
+use Rattle.mq_law_log.proofs.Steady.{AllSteady, steady_append, steady_harmless}
 use Rattle.mq_law_log.proofs.Givens.{AllBorn, born_given}
 use Rattle.mq_law_log.proofs.Applications.{tested_h}
 

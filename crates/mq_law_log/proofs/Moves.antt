@@ -1,7 +1,6 @@
 -- A handler's move makes a crash harmless, in a sound manager.
-use Rattle.std.proofs.Common.{ℕ, ◌≡◌, Bool, true, false, List, [], ◌∷◌, ◌++◌, refl, ap, sym, ◌∙◌, subst, length}
+use Rattle.std.proofs.Common.{ℕ, ◌≡◌, Bool, true, List, [], ◌∷◌, ◌++◌, refl, ap, sym, ◌∙◌, subst, length}
 use Rattle.std.specs.Prelude.{Option, Some, None, Result, Ok, Err, find, not, ◌&&◌, if◌then◌else◌}
-use Rattle.std.specs.List.{AllByRecursion}
 use Rattle.mq_codes.specs.declared.reason.Reason.{Reason}
 use Rattle.mq_codes.specs.declared.reason.Reason.TheVariants as reasons
 use Rattle.mq_message.specs.declared.message.Dest.{Dest}
@@ -18,10 +17,10 @@ use Rattle.mq_spec_state.specs.State.Which.{Among}
 use Rattle.mq_spec_state.specs.State.Change.{Leave}
 use Rattle.mq_spec_state.specs.Reads.{stored, is_persistent}
 use Rattle.mq_spec_state.specs.Changes.{apply, kept_in, selects}
-use Rattle.mq_spec_state.specs.Steps.{Part, when, refusal}
+use Rattle.mq_spec_state.specs.Steps.{when}
 use Rattle.mq_spec_state.specs.Images.{lasting}
 use Rattle.mq_spec_manager.specs.Handles.{is_unfit}
-use Rattle.mq_spec_manager.specs.Put.{queue_at, output_only, placing_tests}
+use Rattle.mq_spec_manager.specs.Put.{output_only, placing_tests}
 use Rattle.mq_spec_agents.specs.Words.{CanMove, Landing, landing, route_tests, bare_if, move_full, moved_record, moved_forced, is_unborn, move_part, move_resolved, move_found, move_row}
 use Rattle.mq_law_manager.specs.View.{view}
 use Rattle.mq_law_manager.specs.Facts.{Mem, IsSound, IsFit, IsUnlisted}

@@ -1,7 +1,6 @@
 -- Where resolution leads: to a queue on its path that is defined, and that what is put there fits.
 use Rattle.std.proofs.Common.{ℕ, ◌≡◌, Bool, true, false, List, [], ◌∷◌, ◌++◌, refl, ap, sym, ◌∙◌}
 use Rattle.std.specs.Prelude.{Option, Some, None, Result, Ok, Err, IfOk, is_some, ◌&&◌, ◌||◌, not}
-use Rattle.std.specs.Str.{bytes_eq}
 use Rattle.std.specs.List.{list_any}
 use Rattle.mq_codes.specs.declared.reason.Reason.{Reason}
 use Rattle.mq_message.specs.declared.message.Message.{Message}
@@ -25,8 +24,8 @@ use Rattle.mq_spec_state.specs.State.{Plain, Connection}
 use Rattle.mq_spec_state.specs.Reads.{is_step}
 use Rattle.mq_spec_state.specs.Recovery.{routes}
 use Rattle.mq_spec_manager.specs.Handles.{is_unfit, is_transmission_queue as is_transmitting, new_handle}
-use Rattle.mq_spec_manager.specs.Put.{queue_at, dest_at, output_only}
-use Rattle.mq_law_manager.specs.Facts.{IsFit, IsRoutedOn, IsLed}
+use Rattle.mq_spec_manager.specs.Put.{queue_at, dest_at}
+use Rattle.mq_law_manager.specs.Facts.{IsFit, IsLed}
 use Rattle.mq_law_manager.proofs.Lists.{name_self}
 
 -- The last queue is on the path

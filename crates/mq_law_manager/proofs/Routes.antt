@@ -1,6 +1,6 @@
 -- Rows, uncommitted puts and handles stay routed, and lists of units in doubt as they are told: by changes.
 use Rattle.std.proofs.Common.{ℕ, ◌≡◌, ◌≢◌, ◌+◌, ◌⊎◌, Bool, true, false, List, [], ◌∷◌, ◌++◌, refl, ap, sym, subst, ◌∙◌, map, arith, inl, inr}
-use Rattle.std.specs.Prelude.{Option, None, Some, ◌==◌, ◌&&◌, ◌||◌, nat_lt, if◌then◌else◌, filter, not, cond}
+use Rattle.std.specs.Prelude.{Option, None, Some, ◌==◌, ◌&&◌, ◌||◌, nat_lt, if◌then◌else◌, filter, not}
 use Rattle.std.specs.Str.{bytes_eq}
 use Rattle.std.proofs.Common.{Ordering, Less, Equal, Greater}
 use Rattle.std.specs.Ordering.{is_lt, is_eq, nat_cmp, ordering_reverse}
@@ -24,15 +24,15 @@ use Rattle.mq_sync.specs.declared.data.InDoubt.{InDoubt}
 use Rattle.mq_calls.specs.declared.records.Add.{Add}
 use Rattle.mq_calls.specs.declared.state.Item.TheVariants.{Put, Take}
 use Rattle.mq_spec_state.specs.State.{Plain, Change, Connection, Handle, SenderSide}
-use Rattle.mq_spec_state.specs.State.Change.{Place as Places, Try, Leave, Hold, Release, Connect, Disconnect, OpenHandle, CloseHandle, SetCursor, Pend, EndUnit, MakeStale, CountIdent, ChangeObjects, Renew, DropQueue, SetSender, Undoubt, SetBound, ForgetAll}
+use Rattle.mq_spec_state.specs.State.Change.{Place as Places, Try, Leave, Hold, Release, Connect, Disconnect, OpenHandle, CloseHandle, SetCursor, Pend, EndUnit, MakeStale, CountIdent, Renew, DropQueue, SetSender, Undoubt, SetBound, ForgetAll}
 use Rattle.mq_spec_state.specs.Condition.{condition}
 use Rattle.mq_spec_state.specs.Reads.{has_step, is_persistent, sender_in}
-use Rattle.mq_spec_state.specs.Changes.{apply, try_if, lane_of, selects, retag_if, release_if, set_named, set_sender, less_ident, off_list, off_lists, change_connection, change_handle, stale_if, made_stale, comes_before}
+use Rattle.mq_spec_state.specs.Changes.{apply, try_if, selects, retag_if, release_if, set_named, set_sender, less_ident, off_list, off_lists, change_connection, change_handle, stale_if, made_stale, comes_before}
 use Rattle.mq_spec_agents.specs.Words.{is_unborn}
 use Rattle.mq_law_manager.specs.View.{View, view, at_name, at_number}
-use Rattle.mq_law_manager.specs.Facts.{Mem, IsFit, IsRoutedOn, IsFormed, IsLed, listed, IsUnlisted, AreSorted, AreRouted, IsRouted}
+use Rattle.mq_law_manager.specs.Facts.{Mem, IsRoutedOn, IsFormed, IsLed, listed, IsUnlisted, AreSorted, IsRouted}
 use Rattle.mq_law_manager.specs.Seen.{seen, goes_if, held_if, freed_if, row_for}
-use Rattle.mq_law_manager.specs.Kept.{Asks, IsListable}
+use Rattle.mq_law_manager.specs.Kept.{Asks}
 use Rattle.mq_law_manager.proofs.Lists.{bool_case, is_false, mem_keep, mem_retag, mem_append, mem_inserted_at}
 use Rattle.mq_law_manager.proofs.Named.{name_is, name_self, name_yes, name_turned}
 

@@ -1,6 +1,6 @@
 -- Rows and uncommitted puts stay on queues that are defined, and those stay where they are: by changes.
 use Rattle.std.proofs.Common.{ℕ, ◌≡◌, Bool, true, false, List, [], ◌∷◌, ◌++◌, refl, ap, sym, subst, ◌∙◌, map, inl, inr}
-use Rattle.std.specs.Prelude.{Option, None, Some, is_some, ◌==◌, ◌||◌, if◌then◌else◌}
+use Rattle.std.specs.Prelude.{Option, None, Some, is_some, ◌||◌, if◌then◌else◌}
 use Rattle.std.specs.Str.{bytes_eq}
 use Rattle.mq_queue.specs.declared.row.Row.{Row}
 use Rattle.mq_objects.specs.declared.object.Definitions.{Definitions}
@@ -10,15 +10,15 @@ use Rattle.mq_spec_state.specs.State.{Plain, Change, Queue, fresh_queue}
 use Rattle.mq_spec_state.specs.Steps.{Part, do_part, logged}
 use Rattle.mq_calls.specs.declared.records.LogRecord.{LogRecord}
 use Rattle.mq_calls.specs.declared.state.Item.TheVariants.{Put, Take}
-use Rattle.mq_spec_state.specs.State.Change.{Place as Places, Try, Leave, Hold, Release, SwitchOn, Serve, Connect, Disconnect, Pend, EndUnit, ChangeObjects, Renew, DropQueue, SetBound, ForgetAll}
+use Rattle.mq_spec_state.specs.State.Change.{Place as Places, Try, Leave, Hold, Release, SwitchOn, Serve, Connect, Pend, ChangeObjects, Renew, DropQueue, SetBound, ForgetAll}
 use Rattle.mq_spec_state.specs.Condition.{condition}
 use Rattle.mq_spec_state.specs.Reads.{stored}
 use Rattle.mq_spec_state.specs.Changes.{apply, apply_all, try_if, set_queue, placed_in, lane_of, made_due, depth_type, kept_in, held_in, released_in, forgotten}
-use Rattle.mq_law_manager.specs.View.{View, view, at_name, at_number}
+use Rattle.mq_law_manager.specs.View.{View, view, at_name}
 use Rattle.mq_law_manager.specs.Facts.{Mem, AreOnce, IsStocked, has_queue}
 use Rattle.mq_law_manager.specs.Seen.{seen, goes_if, held_if, freed_if, row_for}
 use Rattle.mq_law_manager.specs.Kept.{Asks, AllAsk, PartsAsk, AllKeep}
-use Rattle.mq_law_manager.proofs.Lists.{bool_case, mem_keep, mem_retag, mem_append, mem_inserted_at}
+use Rattle.mq_law_manager.proofs.Lists.{bool_case, mem_keep, mem_retag, mem_inserted_at}
 use Rattle.mq_law_manager.proofs.SeenLaws.{applied, pended, connects}
 use Rattle.mq_law_manager.proofs.Named.{name_is}
 use Rattle.mq_law_manager.proofs.Routes.{NewPut, puts_kept, routed_on}

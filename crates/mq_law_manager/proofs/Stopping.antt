@@ -1,6 +1,6 @@
 -- A batch that is held; and a stop.
 use Rattle.std.proofs.Common.{ℕ, zero, suc, ◌≡◌, ◌≢◌, ◌⊎◌, Bool, true, false, List, [], ◌∷◌, refl, ap, sym, subst, ◌∙◌, take, map, inl, inr}
-use Rattle.std.specs.Prelude.{Option, Some, None, if◌then◌else◌, not, ◌&&◌, ◌||◌}
+use Rattle.std.specs.Prelude.{Option, Some, None, if◌then◌else◌, not, ◌&&◌}
 use Rattle.std.specs.List.{list_any}
 use Rattle.std.specs.Str.{bytes_eq}
 use Rattle.mq_message.specs.declared.message.Ident.{Ident}
@@ -23,7 +23,7 @@ use Rattle.mq_law_manager.specs.View.{View, Taken, view, at_name, retagged_all}
 use Rattle.mq_law_manager.specs.Facts.{Mem, Sound, Holds}
 use Rattle.mq_law_manager.specs.Seen.{goes_if, held_if, freed_if, add_in}
 use Rattle.mq_law_manager.specs.Kept.{Keeps}
-use Rattle.mq_law_manager.proofs.Lists.{mem_any, bool_case, ident_self, name_yes, name_self, mem_retag}
+use Rattle.mq_law_manager.proofs.Lists.{mem_any, bool_case, name_yes, name_self, mem_retag}
 use Rattle.mq_law_manager.proofs.Apart as apart
 use Rattle.mq_law_manager.proofs.TakenLaws as taken
 use Rattle.mq_law_manager.proofs.BatchLaws as batched
