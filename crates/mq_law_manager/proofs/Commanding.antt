@@ -132,7 +132,7 @@ to_shown : (p : Plain) (r : Result Shown ScRefusal) → IsPlan p (to_show r)
 to_shown p (Ok shown) = tt
 to_shown p (Err refusal) = tt
 
-plan_is : (c : Command) (p : Plain) → IsPlan p (plan c p.given.name p.definitions (uses_of p))
+pub plan_is : (c : Command) (p : Plain) → IsPlan p (plan c p.given.name p.definitions (uses_of p))
 plan_is (commands.Define d) p = to_planned p (define d p.definitions (uses_of p)) (define_planned p d (defined_object d.subject d.settings) (named d.subject p.definitions))
 plan_is (commands.Alter a) p = to_planned p (alter a p.definitions (uses_of p)) (alter_planned p a (named a.subject p.definitions))
 plan_is (commands.AlterManager a) p = to_planned p (alter_manager a p.definitions (uses_of p)) (row_planned p (not a.force && default_changes p.definitions.manager (set_all_manager a.settings p.definitions.manager) && (uses_of p).defxmitq_on_path) refusals.InUse _ (λ e. tt))
@@ -150,7 +150,7 @@ sound_switched true name p h = subst Holds (sym (applied (SwitchOn name) p tt)) 
 sound_switched false name p h = h
 
 -- no row stands where no local queue is defined
-undefined_empty : (p : Plain) (name : List ℕ) → AreDefined p → local_of name p.definitions ≡ None → (view p).rows name ≡ []
+pub undefined_empty : (p : Plain) (name : List ℕ) → AreDefined p → local_of name p.definitions ≡ None → (view p).rows name ≡ []
 undefined_empty p name d e = no_rows ((view p).rows name) (λ h m. cc (d name h m, ap (λ (o : Option LocalQueue). is_some o) e))
 
 sound_renewed_if : (o : Option LocalQueue) (name : List ℕ) (p : Plain) → Sound p → (o ≡ None → (view p).rows name ≡ []) → Sound (apply_all (renewed_if o name) p)
