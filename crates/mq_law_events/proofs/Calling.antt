@@ -24,7 +24,11 @@ use Rattle.mq_objects.specs.Names.{local_of, name_of}
 use Rattle.mq_sc_apply.specs.declared.answers.Planned.{Planned}
 use Rattle.mq_sc_apply.specs.declared.answers.Plan.{Plan}
 use Rattle.mq_sc_apply.specs.declared.answers.Plan.TheVariants as plans
-use Rattle.mq_sc_apply.specs.Commands.{plan}
+use Rattle.mq_sc_apply.specs.Commands.{plan, to_change}
+use Rattle.mq_sc_apply.specs.Planned.{define, alter, alter_manager, delete}
+use Rattle.mq_sc_apply.specs.Uses.{Uses}
+use Rattle.mq_calls.specs.declared.commands.Shown.{Shown}
+use Rattle.mq_objects.specs.declared.command.Command.TheVariants as object_commands
 use Rattle.mq_sc_parse.specs.declared.command.Command.TheVariants as lines
 use Rattle.mq_calls.specs.declared.answers.Appl.{Appl}
 use Rattle.mq_calls.specs.declared.answers.Hconn.{Hconn}
@@ -40,7 +44,7 @@ use Rattle.mq_spec_state.specs.Reads.{stored, connection_at, has_step}
 use Rattle.mq_spec_state.specs.Changes.{apply, apply_all, change_connection, change_handle, made_stale, stale_if as stale_handle}
 use Rattle.mq_spec_manager.specs.Handles.{new_connection, new_hconn, new_handle}
 use Rattle.mq_spec_manager.specs.Commands.{follows, renewed, renewed_if, stale_if, switched_if, dropped, uses_of, definitions_after}
-use Rattle.mq_spec_manager.proofs.Accepted.{accepted}
+use Rattle.mq_spec_manager.proofs.Accepted.{accepted, displayed}
 use Rattle.mq_spec_network.specs.Ledger as ledgers
 use Rattle.mq_spec_network.specs.Ledger.{Ledger, Users, places_or, places_at, opened_by, close, unit_of, ledger_rows, rows_in}
 use Rattle.mq_law_rows.specs.World.{items_told}
@@ -318,3 +322,41 @@ objects_follow m given p l c planned f t d is =
   where
     places_same : (d : List ℕ) → ledger_rows m d (ledgers.obey m (lines.Objects c) l) ≡ ledger_rows m d l
     places_same d = ap (λ o. rows_in d (places_or o).queues) (here_changed m (redefined (λ x. definitions_after c x)) l.places t.places t.placed) ∙ ap (λ o. rows_in d (places_or o).queues) (sym t.placed)
+
+-- DISPLAY changes no definitions.
+never_shown : (r : Result Planned ScRefusal) (s : Shown) → to_change r ≡ Ok (plans.Show s) → ⊥
+never_shown (Ok x) s e = cc
+never_shown (Err x) s e = cc
+
+shown_same : (c : Command) (own : List ℕ) (d : Definitions) (u : Uses) (s : Shown) → plan c own d u ≡ Ok (plans.Show s) → definitions_after c d ≡ d
+shown_same (object_commands.Define x) own d u s e = absurd (never_shown (define x d u) s e)
+shown_same (object_commands.Alter x) own d u s e = absurd (never_shown (alter x d u) s e)
+shown_same (object_commands.AlterManager x) own d u s e = absurd (never_shown (alter_manager x d u) s e)
+shown_same (object_commands.Delete x) own d u s e = absurd (never_shown (delete x d u) s e)
+shown_same (object_commands.Display x) own d u s e = displayed x d
+
+pub shown_follow : (m : ℕ) (given : Ident → Bool) (p : Plain) (l : Ledger) (c : Command) (s : Shown) → IsFresh given p → IsTold m p l → plan c p.given.name p.definitions (uses_of p) ≡ Ok (plans.Show s) → Follow m given p l p (ledgers.obey m (lines.Objects c) l)
+shown_follow m given p l c s f t is =
+    let new : Definitions → Definitions = λ x. definitions_after c x in
+    let rows : (d : List ℕ) → ledger_rows m d (ledgers.obey m (lines.Objects c) l) ≡ ledger_rows m d l =
+    λ d. ap (λ o. rows_in d (places_or o).queues) (here_changed m (redefined new) l.places t.places t.placed) ∙ ap (λ o. rows_in d (places_or o).queues) (sym t.placed) in
+    record {
+      now = given;
+      leads = leads_to m (side_of p given) (side_of p given) (side_of p given) (sheet_of m l) (sheet_of m l) (sheet_of m (ledgers.obey m (lines.Objects c) l)) (stays_leads m (side_of p given) (sheet_of m l)) refl
+          (λ i. record { rows = λ d. sym (rows d) i; gone = l.gone; got = l.got });
+      fresh = f;
+      known = λ i z. refl;
+      told = record {
+        places = redefined new t.places;
+        placed = here_changed m (redefined new) l.places t.places t.placed;
+        name = t.name;
+        definitions = ap new t.definitions ∙ shown_same c p.given.name p.definitions (uses_of p) s is;
+        users = t.users;
+        used = t.used;
+        connections = t.connections;
+      };
+      same = record { given = refl; senders = refl; receivers = refl; batches = refl };
+      steady = refl;
+      other = else_places m (redefined new) l;
+      kept = same_users m l (ledgers.obey m (lines.Objects c) l) refl;
+    }

@@ -14,7 +14,11 @@ use Rattle.mq_sc_apply.specs.declared.answers.Plan.TheVariants as plans
 use Rattle.mq_sc_apply.specs.Commands.{plan}
 use Rattle.mq_calls.specs.declared.answers.Appl.{Appl}
 use Rattle.mq_calls.specs.declared.answers.Get.{Get}
+use Rattle.mq_calls.specs.declared.answers.Answer.TheVariants as answers
 use Rattle.mq_calls.specs.declared.answers.GetAnswer.{GetAnswer}
+use Rattle.mq_calls.specs.declared.answers.GetAnswer.TheVariants as get_answers
+use Rattle.mq_codes.specs.declared.reason.Reason.TheVariants as reasons
+use Rattle.mq_calls.specs.declared.commands.ScRefusal.TheVariants as refusals
 use Rattle.mq_calls.specs.declared.answers.Hconn.{Hconn}
 use Rattle.mq_calls.specs.declared.answers.Hobj.{Hobj}
 use Rattle.mq_calls.specs.declared.answers.Open.{Open}
@@ -24,12 +28,12 @@ use Rattle.mq_calls.specs.declared.deltas.Why.TheVariants as whys
 use Rattle.mq_calls.specs.declared.state.Connection.{Connection}
 use Rattle.mq_calls.specs.declared.state.Handle.{Handle}
 use Rattle.mq_spec_state.specs.State.{Plain}
-use Rattle.mq_spec_state.specs.Reads.{handle_at, stored}
-use Rattle.mq_spec_state.specs.Steps.{Step, Part, Test, tested, refusal, refused_or, going_on, do_part, do_all, delta_of, delta_before, stopped_at, IsWrite, note_of}
+use Rattle.mq_spec_state.specs.Reads.{is_up, handle_at, stored}
+use Rattle.mq_spec_state.specs.Steps.{none_of, when, Step, Part, Test, tested, refusal, refused_or, going_on, do_part, do_all, delta_of, delta_before, stopped_at, IsWrite, note_of}
 use Rattle.mq_spec_state.specs.Steps.Step.{Refuse, Do}
-use Rattle.mq_spec_manager.specs.Handles.{connected, for_connection, for_handle, mqconn, mqopen, mqclose, conn_tests, close_up, close_handle}
-use Rattle.mq_spec_manager.specs.Put.{mqput, mqput1, put_up, put_handle, put_route, put_tests, put1_resolved, output_tests, handle_route, new_message, queue_at}
-use Rattle.mq_spec_manager.specs.Get.{mqget, get_up, get_handle, get_tests, room_tests, get_found, scanned, asked, looked_at, expired_parts, removal_part, is_under, is_waiting, is_left, with_row, without_row}
+use Rattle.mq_spec_manager.specs.Handles.{is_unfit, option_tests, open_tests, open_step, connected, for_connection, for_handle, mqconn, mqopen, mqclose, conn_tests, close_up, close_handle}
+use Rattle.mq_spec_manager.specs.Put.{output_only, mqput, mqput1, put_up, put_handle, put_route, put_tests, put1_resolved, output_tests, handle_route, new_message, queue_at}
+use Rattle.mq_spec_manager.specs.Get.{got, got_answer, is_too_long, found_part, mqget, get_up, get_handle, get_tests, room_tests, get_found, scanned, asked, looked_at, expired_parts, removal_part, is_under, is_waiting, is_left, with_row, without_row}
 use Rattle.mq_spec_manager.specs.Units.{mqcmit, mqback, mqdisc}
 use Rattle.mq_spec_manager.specs.Commands.{command, planned_step, uses_of}
 use Rattle.mq_spec_network.specs.Ledger as ledgers
@@ -64,22 +68,22 @@ step_stops m given p l (Refuse reason) f t s = tt
 step_stops {F} m given p l (Do reply parts) f t s = short_stops F m given p l reply parts f t s
 
 -- what holds of refusals and of what goes on behind them
-tested_all : {F T : Type 0} (P : Step F T → Type 0) → ((r : F) → P (Refuse r)) → (ts : List (Test F)) (s : Step F T) → P s → P (tested ts s)
+pub tested_all : {F T : Type 0} (P : Step F T → Type 0) → ((r : F) → P (Refuse r)) → (ts : List (Test F)) (s : Step F T) → P s → P (tested ts s)
 tested_all P no_ ts s k = at (refusal ts)
   where
     at : (o : Option _) → P (refused_or o s)
     at None = k
     at (Some reason) = no_ reason
 
-going_all : {A F T : Type 0} (P : Step F T → Type 0) → ((r : F) → P (Refuse r)) → (r : Result A F) (f : A → Step F T) → ((x : A) → P (f x)) → P (going_on r f)
+pub going_all : {A F T : Type 0} (P : Step F T → Type 0) → ((r : F) → P (Refuse r)) → (r : Result A F) (f : A → Step F T) → ((x : A) → P (f x)) → P (going_on r f)
 going_all P no_ (Ok x) f k = k x
 going_all P no_ (Err e) f k = no_ e
 
-live_all : {T : Type 0} (P : Step Reason T → Type 0) → ((r : Reason) → P (Refuse r)) → (r : Result Connection Reason) (f : Connection → Step Reason T) → ((c : Connection) → P (f c)) → P (for_connection r f)
+pub live_all : {T : Type 0} (P : Step Reason T → Type 0) → ((r : Reason) → P (Refuse r)) → (r : Result Connection Reason) (f : Connection → Step Reason T) → ((c : Connection) → P (f c)) → P (for_connection r f)
 live_all P no_ (Ok c) f k = k c
 live_all P no_ (Err e) f k = no_ e
 
-open_all : {T : Type 0} (P : Step Reason T → Type 0) → ((r : Reason) → P (Refuse r)) → (o : Option Handle) (f : Handle → Step Reason T) → ((h : Handle) → P (f h)) → P (for_handle o f)
+pub open_all : {T : Type 0} (P : Step Reason T → Type 0) → ((r : Reason) → P (Refuse r)) → (o : Option Handle) (f : Handle → Step Reason T) → ((h : Handle) → P (f h)) → P (for_handle o f)
 open_all P no_ (Some h) f k = k h
 open_all P no_ None f k = no_ _
 
@@ -87,7 +91,10 @@ pub conn_short : (qmgr : List ℕ) (appl : Appl) (p : Plain) → StepIsShort (mq
 conn_short qmgr appl p = tested_all StepIsShort (λ r. tt) (conn_tests qmgr p) _ tt
 
 pub open_short : (hc : Hconn) (name qmgr : List ℕ) (how : Open) (p : Plain) → StepIsShort (mqopen hc name qmgr how p)
-open_short hc name qmgr how p = going_all StepIsShort (λ r. tt) (connected hc p) _ (λ c. going_all StepIsShort (λ r. tt) _ _ (λ x. going_all StepIsShort (λ r. tt) (resolve p.definitions p.given.name name qmgr) _ (λ route. going_all StepIsShort (λ r. tt) _ _ (λ y. tt))))
+open_short hc name qmgr how p = going_all StepIsShort (λ r. tt) (connected hc p) (λ c. going_on (none_of (option_tests how)) (λ chosen. going_on (resolve p.definitions p.given.name name qmgr) (λ route. going_on (none_of (open_tests c how route p)) (λ fits. open_step c how route)))) (λ c.
+    going_all StepIsShort (λ r. tt) (none_of (option_tests how)) (λ chosen. going_on (resolve p.definitions p.given.name name qmgr) (λ route. going_on (none_of (open_tests c how route p)) (λ fits. open_step c how route))) (λ x.
+    going_all StepIsShort (λ r. tt) (resolve p.definitions p.given.name name qmgr) (λ route. going_on (none_of (open_tests c how route p)) (λ fits. open_step c how route)) (λ route.
+    going_all StepIsShort (λ r. tt) (none_of (open_tests c how route p)) (λ fits. open_step c how route) (λ y. tt))))
 
 pub close_short : (hc : Hconn) (ho : Hobj) (p : Plain) → StepIsShort (mqclose hc ho p)
 close_short hc ho p = live_all StepIsShort (λ r. tt) (connected hc p) (close_up ho) (λ c. open_all StepIsShort (λ r. tt) (handle_at ho.number c.handles) (close_handle c) (λ h. tt))
@@ -104,7 +111,7 @@ put1_short hc name qmgr md body sync p = live_all StepIsShort (λ r. tt) (connec
   where
     go : (c : Connection) (r : Result Route Reason) → StepIsShort (put1_resolved r md body sync p c)
     go c (Err reason) = tt
-    go c (Ok route) = tested_all StepIsShort (λ r. tt) _ _ (route_short c route md body sync p)
+    go c (Ok route) = tested_all StepIsShort (λ r. tt) (when (is_unfit output_only route.end p) reasons.OptionNotValidForType ∷ []) (put_route c route md body sync p) (route_short c route md body sync p)
 
 pub commit_short : (hc : Hconn) (p : Plain) → StepIsShort (mqcmit hc p)
 commit_short hc p = live_all StepIsShort (λ r. tt) (connected hc p) _ (λ c. tt)
@@ -116,7 +123,7 @@ pub disc_short : (hc : Hconn) (p : Plain) → StepIsShort (mqdisc hc p)
 disc_short hc p = live_all StepIsShort (λ r. tt) (connected hc p) _ (λ c. tt)
 
 pub command_short : (c : Command) (p : Plain) → StepIsShort (command c p)
-command_short c p = tested_all StepIsShort (λ r. tt) _ (planned_step (plan c p.given.name p.definitions (uses_of p)) p.definitions) (go (plan c p.given.name p.definitions (uses_of p)))
+command_short c p = tested_all StepIsShort (λ r. tt) (when (not (is_up p.running)) refusals.Down ∷ []) (planned_step (plan c p.given.name p.definitions (uses_of p)) p.definitions) (go (plan c p.given.name p.definitions (uses_of p)))
   where
     go : (r : Result Plan ScRefusal) → StepIsShort (planned_step r p.definitions)
     go (Ok (plans.Change planned)) = tt
@@ -159,11 +166,11 @@ gets_stop m given p l hc ho get until f t once =
     found c h None = none (is_under get.take) (is_waiting until p)
       where
         none : (under waiting : Bool) → StopFollows m given p l (without_row under waiting (expired_parts (queue_at h.leads) (scanned get h p).expired))
-        none true waiting = no_more h _
-        none false true = short_stops Reason m given p l _ [] f t tt
-        none false false = no_more h _
+        none true waiting = no_more h (get_answers.Done (answers.Failed reasons.NoMessageUnderCursor))
+        none false true = short_stops Reason m given p l get_answers.NotYet [] f t tt
+        none false false = no_more h (get_answers.Done (answers.Failed reasons.NoMessageAvailable))
     found c h (Some row) = one (is_left get row.message)
       where
         one : (left : Bool) → StopFollows m given p l (with_row left get c h (queue_at h.leads) row (expired_parts (queue_at h.leads) (scanned get h p).expired))
-        one true = no_more h _
-        one false = some_more h (_ ∷ []) _ tt
+        one true = no_more h (get_answers.Done (answers.Warning reasons.TruncatedMessageFailed (got get.room row.message)))
+        one false = some_more h (found_part get c h (queue_at h.leads) row ∷ []) (get_answers.Done (got_answer (is_too_long get row.message) (got get.room row.message))) tt

@@ -13,3 +13,4 @@ pub mod Leaving
 pub mod Sounds
 pub mod Serving
 pub mod Halting
+pub mod Moving

@@ -86,9 +86,9 @@ book_next m given q l k t e =
     rows_at d o = rows_in d (places_or o).queues
 
 -- The whole has the facts after it.
-pub follows_on : (s : Scenario) (given : Ident → Bool) (m : ℕ) (p q : Plain) (ps qs : List Plain) (l k : Ledger) (g : Ghost) → IsNext m p q ps qs → IsTold m p l → (f : Follow m given p l q k)
-    → Inv (world_of s given ps) g (book_of l) → Moved g (world_of s f.now qs) (book_of k)
-follows_on s given m p q ps qs l k g n t f h =
+pub moves_on : (s : Scenario) (given now : Ident → Bool) (m : ℕ) (p q : Plain) (ps qs : List Plain) (l k : Ledger) (g : Ghost) → IsNext m p q ps qs → IsTold m p l → Leads m (side_of p given) (sheet_of m l) (side_of q now) (sheet_of m k)
+    → IsSame p q → IsTold m q k → IsElse m l k → Inv (world_of s given ps) g (book_of l) → Moved g (world_of s now qs) (book_of k)
+moves_on s given now m p q ps qs l k g n t leads same told other h =
     let w : World = world_of s given ps in
     let b : Book = book_of l in
     let first : IsNext m p p ps ps = record { at = n.at; to = n.at; others = λ a z. refl } in
@@ -96,9 +96,13 @@ follows_on s given m p q ps qs l k g n t f h =
     let start : Inv (local w m (side_of p given)) g (page b m (side_of p given) (sheet_of m l)) =
     subst (λ (v : World). Inv v g (page b m (side_of p given) (sheet_of m l))) (world_next s given given m p p ps ps first (same_plain p))
     (subst (λ (c : Book). Inv w g c) (book_next m given p l l t none) h) in
-    let r = f.leads w g b start in
+    let r = leads w g b start in
     record {
       owner = r.owner;
-      inv = subst (λ (v : World). Inv v (with_owner g r.owner) (book_of k)) (sym (world_next s given f.now m p q ps qs n f.same))
-          (subst (λ (c : Book). Inv (local w m (side_of q f.now)) (with_owner g r.owner) c) (sym (book_next m f.now q l k f.told f.other)) r.inv);
+      inv = subst (λ (v : World). Inv v (with_owner g r.owner) (book_of k)) (sym (world_next s given now m p q ps qs n same))
+          (subst (λ (c : Book). Inv (local w m (side_of q now)) (with_owner g r.owner) c) (sym (book_next m now q l k told other)) r.inv);
     }
+
+pub follows_on : (s : Scenario) (given : Ident → Bool) (m : ℕ) (p q : Plain) (ps qs : List Plain) (l k : Ledger) (g : Ghost) → IsNext m p q ps qs → IsTold m p l → (f : Follow m given p l q k)
+    → Inv (world_of s given ps) g (book_of l) → Moved g (world_of s f.now qs) (book_of k)
+follows_on s given m p q ps qs l k g n t f h = moves_on s given f.now m p q ps qs l k g n t f.leads f.same f.told f.other h

@@ -25,7 +25,7 @@ ghost use Rattle.mq_sc_apply.specs.declared.answers.Plan.TheVariants as plans;
 ghost use Rattle.mq_sc_apply.specs.Commands.{plan};
 ghost use Rattle.mq_sc_parse.specs.declared.command.Command.TheVariants as lines;
 ghost use Rattle.mq_spec_state.specs.State.{LogState, Noted, Plain, Running};
-ghost use Rattle.mq_spec_state.specs.State.Change.{ChangeObjects};
+ghost use Rattle.mq_spec_state.specs.State.Change.{ChangeObjects, Leave};
 ghost use Rattle.mq_spec_state.specs.Changes.{apply_all};
 ghost use Rattle.mq_spec_state.specs.Images.{begun, lasting, raised};
 ghost use Rattle.mq_spec_state.specs.Steps.{Part, Step, do_part, freeze};
@@ -35,10 +35,15 @@ ghost use Rattle.mq_objects.specs.Names.{local_of, process_of};
 ghost use Rattle.mq_spec_state.specs.Reads.{stored};
 ghost use Rattle.mq_spec_network.specs.Story.{Mem};
 ghost use Rattle.mq_spec_manager.specs.Triggers.{serve_by};
-ghost use Rattle.mq_spec_agents.specs.Moves.{discard};
+ghost use Rattle.mq_message.specs.declared.message.Dest.{Dest};
+ghost use Rattle.mq_resolve.specs.declared.route.Route.{Route};
+ghost use Rattle.mq_resolve.specs.Resolved.{resolve};
+ghost use Rattle.mq_spec_state.specs.State.Which.{Among};
+ghost use Rattle.mq_spec_agents.specs.Landing.{landing};
+ghost use Rattle.mq_spec_agents.specs.Moves.{bare_if, discard};
 ghost use Rattle.mq_spec_manager.specs.Commands.{command, follows, uses_of};
 ghost use Rattle.mq_spec_manager.specs.Handles.{mqclose, mqconn, mqopen};
-ghost use Rattle.mq_spec_manager.specs.Put.{mqput, mqput1};
+ghost use Rattle.mq_spec_manager.specs.Put.{mqput, mqput1, placed, queue_at};
 ghost use Rattle.mq_spec_manager.specs.Get.{mqget};
 ghost use Rattle.mq_spec_manager.specs.Units.{mqback, mqcmit, mqdisc};
 ghost use Rattle.mq_spec_manager.specs.Stops.{at_rest};
@@ -51,7 +56,7 @@ ghost use Rattle.mq_law_manager.specs.Facts.{AreDefined, IsSound};
 ghost use Rattle.mq_law_events.specs.Local.{Moved};
 ghost use Rattle.mq_law_events.specs.Rests.{back_out_all, book_out_all, rested};
 ghost use Rattle.mq_law_events.specs.Tied.{Follow, IsFresh, IsNext, IsTold};
-ghost use Rattle.mq_law_events.specs.Posting.{IsListed, IsTimed, StepFollows, StopFollows, post_get};
+ghost use Rattle.mq_law_events.specs.Posting.{AreShelved, IsListed, IsTimed, StepFollows, StopFollows, post_get};
 
 /// Where all units of a manager are backed out at once, the facts are kept.
 pub fn a_stop_of_units_keeps_the_facts()
@@ -96,7 +101,8 @@ pub fn stopped_calls_follow()
     ensures commands { (m : ℕ) (given : Ident → Bool) (p : Plain) (l : Ledger) (c : Command) → IsFresh given p → IsTold m p l → StopFollows m given p l (command c p) }
 {}
 
-/// So do a trigger turn that serves a queue, and the removal of the rows of an ident, each of them free.
+/// So do a trigger turn that serves a queue, the removal of the rows of an ident, each of them free, and the move of a free row
+/// by a rule, where the ledger has no list twice.
 pub fn turns_follow()
     ensures triggers { (m : ℕ) (given : Ident → Bool) (p : Plain) (l : Ledger) (q : LocalQueue) → IsFresh given p → IsTold m p l → IsTimed m p l
         → Follow m given p l (do_part (serve_by q (process_of q.process p.definitions) (local_of q.initiation_queue p.definitions) p) p)
@@ -104,6 +110,10 @@ pub fn turns_follow()
     ensures discards { (m : ℕ) (given : Ident → Bool) (p : Plain) (l : Ledger) (q : List ℕ) (i : Ident) → IsFresh given p → IsTold m p l → IsSound p
         → ((x : Row) → Mem x (stored q p).rows → x.message.ident ≡ i → x.by ≡ None)
         → StepFollows m given p l (λ reply ds k. k) (discard q i p) }
+    ensures moves { (m : ℕ) (given : Ident → Bool) (p : Plain) (l : Ledger) (from : List ℕ) (x : Row) (to : Dest) (bare : Bool) (route : Route) → IsFresh given p → IsTold m p l → AreShelved (ledgers.places_at m l).queues
+        → Mem x (stored from p).rows → x.by ≡ None → resolve p.definitions p.given.name to.queue to.qmgr ≡ Ok route
+        → Follow m given p l (do_part (record { forced = None; changes = Leave (Among from ((landing route (bare_if bare x.message)).message.ident ∷ [])) ∷ placed (queue_at route.end) (landing route (bare_if bare x.message)).message; delta = [] }) p)
+        (ledgers.move_row m to bare (ledgers.row_in x.message.ident (ledgers.places_at m l).queues) l) }
 {}
 
 /// So do an accepted command on objects, a stop, a write that is stopped, and a restart, where no batch is held.

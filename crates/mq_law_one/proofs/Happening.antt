@@ -41,7 +41,7 @@ use Rattle.mq_calls.specs.declared.records.LogRecord.{LogRecord}
 use Rattle.mq_objects.specs.Names.{local_of}
 use Rattle.mq_spec_state.specs.State.{Plain, Given, Running, Noted, Change, LogState}
 use Rattle.mq_spec_state.specs.State.Running.{Up, Down}
-use Rattle.mq_spec_state.specs.State.Change as change
+use Rattle.mq_spec_state.specs.State.Change.{Place, Try, Leave, Hold, Release, Connect, Disconnect, OpenHandle, CloseHandle, SetCursor, Pend, EndUnit, MakeStale, CountIdent, ChangeObjects, Renew, DropQueue, SwitchOn, Serve, SetSender, SetReceiver, Undoubt, Seize, Unseize, AddBatch, DropBatch, SetBound, SetMoment, ForgetAll}
 use Rattle.mq_spec_state.specs.Reads.{is_up, connection_at}
 use Rattle.mq_spec_state.specs.Changes.{apply, apply_all, try_if}
 use Rattle.mq_spec_state.specs.Condition.{condition}
@@ -116,39 +116,39 @@ mark e u = record u { cut = Some (record { entry = e; moment = u.moment }) }
 -- Running
 
 apply_running : (c : Change) (p : Plain) → (apply c p).running ≡ p.running
-apply_running (change.Place q m) p = refl
-apply_running (change.Try q n) p = go (condition (local_of q p.definitions) n p)
+apply_running (Place q m) p = refl
+apply_running (Try q n) p = go (condition (local_of q p.definitions) n p)
   where
     go : (t : Bool) → (try_if t q p).running ≡ p.running
     go true = refl
     go false = refl
-apply_running (change.Leave w) p = refl
-apply_running (change.Hold w h) p = refl
-apply_running (change.Release w b) p = refl
-apply_running (change.Connect c) p = refl
-apply_running (change.Disconnect n) p = refl
-apply_running (change.OpenHandle n h) p = refl
-apply_running (change.CloseHandle n h) p = refl
-apply_running (change.SetCursor n h x) p = refl
-apply_running (change.Pend n i) p = refl
-apply_running (change.EndUnit n) p = refl
-apply_running (change.MakeStale s) p = refl
-apply_running change.CountIdent p = refl
-apply_running (change.ChangeObjects x) p = refl
-apply_running (change.Renew q) p = refl
-apply_running (change.DropQueue q) p = refl
-apply_running (change.SwitchOn q) p = refl
-apply_running (change.Serve q) p = refl
-apply_running (change.SetSender c d) p = refl
-apply_running (change.SetReceiver c d) p = refl
-apply_running (change.Undoubt i) p = refl
-apply_running (change.Seize s) p = refl
-apply_running (change.Unseize c) p = refl
-apply_running (change.AddBatch b) p = refl
-apply_running (change.DropBatch c) p = refl
-apply_running (change.SetBound c b) p = refl
-apply_running (change.SetMoment t) p = refl
-apply_running change.ForgetAll p = refl
+apply_running (Leave w) p = refl
+apply_running (Hold w h) p = refl
+apply_running (Release w b) p = refl
+apply_running (Connect c) p = refl
+apply_running (Disconnect n) p = refl
+apply_running (OpenHandle n h) p = refl
+apply_running (CloseHandle n h) p = refl
+apply_running (SetCursor n h x) p = refl
+apply_running (Pend n i) p = refl
+apply_running (EndUnit n) p = refl
+apply_running (MakeStale s) p = refl
+apply_running CountIdent p = refl
+apply_running (ChangeObjects x) p = refl
+apply_running (Renew q) p = refl
+apply_running (DropQueue q) p = refl
+apply_running (SwitchOn q) p = refl
+apply_running (Serve q) p = refl
+apply_running (SetSender c d) p = refl
+apply_running (SetReceiver c d) p = refl
+apply_running (Undoubt i) p = refl
+apply_running (Seize s) p = refl
+apply_running (Unseize c) p = refl
+apply_running (AddBatch b) p = refl
+apply_running (DropBatch c) p = refl
+apply_running (SetBound c b) p = refl
+apply_running (SetMoment t) p = refl
+apply_running ForgetAll p = refl
 
 changes_running : (cs : List Change) (p : Plain) → (apply_all cs p).running ≡ p.running
 changes_running [] p = refl
@@ -174,8 +174,8 @@ stopped_running (suc n) (part ∷ parts) left p w = stopped_running n parts left
 pub state_up : (p : Plain) → p.running ≡ Up → IsSound p → IsState p.running p
 state_up p e h = subst (λ r. IsState r p) (sym e) h
 
-pub state_down : (note : Option Noted) (starts : ℕ) (p : Plain) → p.running ≡ Down note starts → IsFrozen p → IsState p.running p
-state_down note starts p e h = subst (λ r. IsState r p) (sym e) h
+pub state_down : (noted : Option Noted) (starts : ℕ) (p : Plain) → p.running ≡ Down noted starts → IsFrozen p → IsState p.running p
+state_down noted starts p e h = subst (λ r. IsState r p) (sym e) h
 
 -- What is a node's own
 
@@ -264,33 +264,36 @@ step_happens F m given n l e actor call (Stopped by_ part left) w f post reply p
 
 -- A call of a connection, at a manager that is down
 
-pub down_refused : {T : Type 0} (hc : Hconn) (p : Plain) (f : Connection → Step Reason T) → is_up p.running ≡ false → (reason : Reason) × (for_connection (connected hc p) f ≡ Refuse reason)
-down_refused hc p f e = go (is_other hc p) (is_present hc p) (ap (λ t. t && (hc.incarnation == p.numbers.incarnation)) e)
+pub connected_down : (hc : Hconn) (p : Plain) → is_up p.running ≡ false → (reason : Reason) × (connected hc p ≡ Err reason)
+connected_down hc p e = go (is_other hc p) (is_present hc p) (ap (λ t. t && (hc.incarnation == p.numbers.incarnation)) e)
   where
-    go : (a b : Bool) → b ≡ false → (reason : Reason) × (for_connection (if a then Err reasons.ConnectionHandleError else (if b then live_or (connection_at hc.number p.connections) else Err reasons.ConnectionBroken)) f ≡ Refuse reason)
+    go : (a b : Bool) → b ≡ false → (reason : Reason) × ((if a then Err reasons.ConnectionHandleError else (if b then live_or (connection_at hc.number p.connections) else Err reasons.ConnectionBroken)) ≡ Err reason)
     go true b z = (reasons.ConnectionHandleError, refl)
     go false true z = absurd cc
     go false false z = (reasons.ConnectionBroken, refl)
 
--- what a step has where it isn't refused
-abbrev pub Fits : {T : Type 0} → ℕ → (Ident → Bool) → Plain → Ledger → (T → List Did → Ledger → Ledger) → Step Reason T → Type 0
-Fits m given p l post (Refuse reason) = Unit {0}
-Fits {T} m given p l post (Do reply parts) = (p.running ≡ Up) × IsSound p × StepFollows {F = Reason} m given p l post (Do reply parts) × StopFollows {F = Reason} {T = T} m given p l (Do reply parts) × AllKeep IsSound parts p
+pub down_refused : {T : Type 0} (hc : Hconn) (p : Plain) (f : Connection → Step Reason T) → is_up p.running ≡ false → (reason : Reason) × (for_connection (connected hc p) f ≡ Refuse reason)
+down_refused hc p f e = let d = connected_down hc p e in (d.0, ap (λ (r : Result Connection Reason). for_connection r f) d.1)
 
-pub fits : {T : Type 0} (m : ℕ) (given : Ident → Bool) (p : Plain) (l : Ledger) (post : T → List Did → Ledger → Ledger) (step : Step Reason T) → p.running ≡ Up → IsSound p → StepFollows m given p l post step → StopFollows m given p l step → StepKeeps IsSound step p → Fits m given p l post step
+-- what a step has where it isn't refused
+abbrev pub Fits : {F T : Type 0} → ℕ → (Ident → Bool) → Plain → Ledger → (T → List Did → Ledger → Ledger) → Step F T → Type 0
+Fits m given p l post (Refuse reason) = Unit {0}
+Fits {F} {T} m given p l post (Do reply parts) = (p.running ≡ Up) × IsSound p × StepFollows {F = F} m given p l post (Do reply parts) × StopFollows {F = F} {T = T} m given p l (Do reply parts) × AllKeep IsSound parts p
+
+pub fits : {F T : Type 0} (m : ℕ) (given : Ident → Bool) (p : Plain) (l : Ledger) (post : T → List Did → Ledger → Ledger) (step : Step F T) → p.running ≡ Up → IsSound p → StepFollows m given p l post step → StopFollows m given p l step → StepKeeps IsSound step p → Fits m given p l post step
 fits m given p l post (Refuse reason) up sound f s k = tt
 fits m given p l post (Do reply parts) up sound f s k = (up, sound, f, s, k)
 
 -- by whether the manager is up
-pub fits_by : {T : Type 0} (m : ℕ) (given : Ident → Bool) (p : Plain) (l : Ledger) (post : T → List Did → Ledger → Ledger) (step : Step Reason T) → IsState p.running p
-    → (IsSound p → StepFollows m given p l post step × StopFollows m given p l step × StepKeeps IsSound step p) → (is_up p.running ≡ false → (reason : Reason) × (step ≡ Refuse reason)) → Fits m given p l post step
-fits_by {T} m given p l post step state up down = at p.running refl
+pub fits_by : {F T : Type 0} (m : ℕ) (given : Ident → Bool) (p : Plain) (l : Ledger) (post : T → List Did → Ledger → Ledger) (step : Step F T) → IsState p.running p
+    → (IsSound p → StepFollows m given p l post step × StopFollows m given p l step × StepKeeps IsSound step p) → (is_up p.running ≡ false → (reason : F) × (step ≡ Refuse reason)) → Fits m given p l post step
+fits_by {F} {T} m given p l post step state up down = at p.running refl
   where
     at : (r : Running) → p.running ≡ r → Fits m given p l post step
     at Up e = let sound : IsSound p = subst (λ r. IsState r p) e state in let k = up sound in fits m given p l post step e sound k.0 k.1 k.2
-    at (Down note starts) e = let d = down (ap is_up e) in subst (Fits m given p l post) (sym d.1) tt
+    at (Down noted starts) e = let d = down (ap is_up e) in subst (λ (z : Step F T). Fits m given p l post z) (sym d.1) tt
 
-abbrev reply_or : Reply → Option Reply → Reply
+abbrev pub reply_or : Reply → Option Reply → Reply
 reply_or r None = r
 reply_or r (Some x) = x
 
