@@ -172,7 +172,7 @@ gets_leave m n given p l items is listed w g b h =
     let gots : got_idents (items_told items) ≡ got_idents (v.units n) = gots_told items ∙ ap got_idents (sym is) in
     let r = gets_go_leads m n v t k.gone (λ j c. subst (λ z. Mem j z ⊎ Mem j l.gone) gots (items_gone m (items_told items) l j c)) w g b h in
     let side : record { rows = unheld n v.rows; units = with_items n (puts_of (v.units n)) v.units; given = given }
-        ≡ record { rows = λ d. (stored d (apply_all (flat_map taken_item items) p)).rows; units = with_items n (puts_of items) v.units; given = given } =
+    ≡ record { rows = λ d. (stored d (apply_all (flat_map taken_item items) p)).rows; units = with_items n (puts_of items) v.units; given = given } =
     (λ i. record {
       rows = λ d. keep_same (λ y. not (held_by (holders.Unit n) y.by)) (λ y. not (any_taken (v.units n) d y)) (v.rows d) (λ y c. ap not (held_is_taken m n v t w g b h listed d y c)) i;
       units = with_items n (puts_of (v.units n)) v.units;
@@ -181,9 +181,12 @@ gets_leave m n given p l items is listed w g b h =
     ∙ (λ i. record { rows = λ d. (ap (λ us. untaken us v.rows d) is ∙ sym (taken_items_rows items p d)) i; units = with_items n (puts_of (is i)) v.units; given = given }) in
     let sheet : record { rows = left_of (got_idents (v.units n)) t.rows; gone = k.gone; got = bury_all (got_idents (v.units n)) t.got } ≡ sheet_of m k =
     λ i. record { rows = λ d. (ap (λ is. left_of is t.rows d) (sym gots) ∙ sym (items_rows m (items_told items) d l)) i; gone = k.gone; got = (ap (λ is. bury_all is l.got) (sym gots) ∙ sym (items_got m (items_told items) l)) i } in
-    record { owner = r.owner; inv = subst (λ z. Inv (local w m z) (with_owner g r.owner) (page b m z (sheet_of m k))) side
-        (subst (λ z. Inv (local w m (record { rows = unheld n v.rows; units = with_items n (puts_of (v.units n)) v.units; given = given })) (with_owner g r.owner)
-        (page b m (record { rows = unheld n v.rows; units = with_items n (puts_of (v.units n)) v.units; given = given }) z)) sheet r.inv) }
+    record {
+      owner = r.owner;
+      inv = subst (λ z. Inv (local w m z) (with_owner g r.owner) (page b m z (sheet_of m k))) side
+          (subst (λ z. Inv (local w m (record { rows = unheld n v.rows; units = with_items n (puts_of (v.units n)) v.units; given = given })) (with_owner g r.owner)
+          (page b m (record { rows = unheld n v.rows; units = with_items n (puts_of (v.units n)) v.units; given = given }) z)) sheet r.inv);
+    }
 
 -- The second half
 
@@ -206,8 +209,8 @@ puts_land m n (Put q message ∷ items) units given p l t =
     let b = placed_beside q message p in
     let v : Side = record { rows = λ d. (stored d p).rows; units = with_items n (Put q message ∷ puts_of items) units; given = given } in
     let first = put_lands_leads m n q message (puts_of items) (row_for q message p) (new_row (lane_of (local_of q t.places.definitions) message.md.priority) 0 message) v (sheet_of m l)
-        (ap (λ z. if z then Put q message ∷ puts_of items else units n) (eqb_self n)) refl refl
-        (ap (λ d. row_told (new_row (lane_of (local_of q d) message.md.priority) 0 message)) t.definitions) in
+    (ap (λ z. if z then Put q message ∷ puts_of items else units n) (eqb_self n)) refl refl
+    (ap (λ d. row_told (new_row (lane_of (local_of q d) message.md.priority) 0 message)) t.definitions) in
     let next : Side = record { rows = λ d. (stored d q1).rows; units = with_items n (puts_of items) units; given = given } in
     behind m v next _ (sheet_of m l) (sheet_of m k) _
     (leads_to m v _ next (sheet_of m l) _ (sheet_of m k) first

@@ -186,7 +186,7 @@ taken_follows : (m : ℕ) (given : Ident → Bool) (p : Plain) (l : Ledger) (hc 
     → Follow m given p l (do_part (taking_part sync c q row) p) (get_row sync m hc row.message.ident l)
 taken_follows m given p l hc c true q row f t found =
     subst (λ n. Follow m given p l (apply (Pend n (Taken q row.message.ident (is_persistent row.message)))
-        (apply (Hold (Among q (row.message.ident ∷ [])) (holders.Unit n)) p)) (ledgers.pend m hc (Taken [] row.message.ident false) l))
+    (apply (Hold (Among q (row.message.ident ∷ [])) (holders.Unit n)) p)) (ledgers.pend m hc (Taken [] row.message.ident false) l))
     (sym (found_number hc.number c p.connections found.live))
     (held_follows m given p l hc c q row (is_persistent row.message) f t found.there found.free found.alone found.live)
 taken_follows m given p l hc c false q row f t found =

@@ -253,7 +253,7 @@ put_lands_leads m k q message items row told v t first is none same w g b h =
     let i : Ident = message.ident in
     let a1 = unpends (local w m v) g (page b m v t) m k q message items items h (at_self_ m (v.units k) (w.units m k) ∙ first) refl in
     let a2 = places_row (with_units (local w m v) m k items) (after g (owned i (InHand m))) (book_units (page b m v t) m k items) m q row told a1
-        (ap (λ j. owned i (InHand m) j (g.owner j)) is ∙ owned_self i (g.owner i) (InHand m)) none same in
+    (ap (λ j. owned i (InHand m) j (g.owner j)) is ∙ owned_self i (g.owner i) (InHand m)) none same in
     record {
       owner = _;
       inv = lands m w _ b _ _ _ _ _ a2

@@ -133,7 +133,7 @@ found_so m q x v l w g b h apart n free = go (row_in x.message.ident (places_at 
         told = elim (ledger_row (local w m v) g (page b m v (sheet_of m l)) h m found.queue row (listed found.queue row found.there)) [
           | inl z ↦ absurd (true_false (sym z ∙ ap is_forced same_owner))
           | inr z ↦ let k = free_is_at m m q found.queue z.0.by (sym same_owner ∙ ap (λ (y : Row). g.owner y.message.ident) z.3 ∙ h.claims m found.queue z.0 z.1 z.2) in
-          z.3 ∙ ap row_told (only_one ((local w m v).rows m q) z.0 x (h.distinct m q) (subst (λ d. Mem z.0 ((local w m v).rows m d)) (sym k.0) z.1) here (ap (λ (y : Row). y.message.ident) (sym z.3) ∙ found.is))
+              z.3 ∙ ap row_told (only_one ((local w m v).rows m q) z.0 x (h.distinct m q) (subst (λ d. Mem z.0 ((local w m v).rows m d)) (sym k.0) z.1) here (ap (λ (y : Row). y.message.ident) (sym z.3) ∙ found.is))
         ]
 
 -- What it places
@@ -201,9 +201,12 @@ moves_lead m given p l from x to bare route t apart n free is w g b h =
     takes_from m its.ident m d l ∙ ap (λ z. keep (λ y. not (z && same_ident y.message.ident its.ident)) (ledger_rows m d l)) (eqb_self m) ∙ ap (λ z. left_by z (λ d. ledger_rows m d l) d) idents in
     let sheet : record { rows = with_row q told (left_by x.message.ident (λ d. ledger_rows m d l)); gone = l.gone; got = l.got } ≡ sheet_of m (move_row m to bare (row_in x.message.ident (places_at m l).queues) l) =
     (λ i. record { rows = λ d. ((λ j. with_row q told (λ e. sym (taken e) j) d) ∙ sym (place_sheet m q d its l1 (f t.places) there)) i; gone = l.gone; got = l.got }) ∙ ap (sheet_of m) (sym whole) in
-    record { owner = r.owner; inv = subst (λ z. Inv (local w m z) (with_owner g r.owner) (page b m z (sheet_of m (move_row m to bare (row_in x.message.ident (places_at m l).queues) l)))) side
-        (subst (λ z. Inv (local w m (record { rows = with_row q (row_for q mine p1) (without from x.message.ident v.rows); units = v.units; given = given })) (with_owner g r.owner)
-        (page b m (record { rows = with_row q (row_for q mine p1) (without from x.message.ident v.rows); units = v.units; given = given }) z)) sheet r.inv) }
+    record {
+      owner = r.owner;
+      inv = subst (λ z. Inv (local w m z) (with_owner g r.owner) (page b m z (sheet_of m (move_row m to bare (row_in x.message.ident (places_at m l).queues) l)))) side
+          (subst (λ z. Inv (local w m (record { rows = with_row q (row_for q mine p1) (without from x.message.ident v.rows); units = v.units; given = given })) (with_owner g r.owner)
+          (page b m (record { rows = with_row q (row_for q mine p1) (without from x.message.ident v.rows); units = v.units; given = given }) z)) sheet r.inv);
+    }
 
 -- told, whatever it finds
 move_told : (m : ℕ) (p r : Plain) (l : Ledger) (to : Dest) (bare : Bool) (o : Option Row) → IsTold m p l → IsBeside p r → IsTold m r (move_row m to bare o l)
@@ -225,9 +228,11 @@ move_else m l to bare (Some row) = go (resolved_at m to.queue to.qmgr l)
     go : (x : Result Route Reason) → IsElse m l (moved_to m (bare_if bare row.message) x l) × ((moved_to m (bare_if bare row.message) x l).users ≡ l.users)
     go (Err reason) = (record { places = λ a e. refl; users = λ a e. refl }, refl)
     go (Ok route) =
-        let i : Ident = (bare_if bare row.message).ident in
-        (else_then m l (take_from m i l) (ledgers.place m (queue_at route.end) (routed route (bare_if bare row.message)) (take_from m i l))
-        (else_places m (λ p. record p { queues = leave_queues (λ (row : Row). not (has_ident i row)) p.queues }) l) (else_places m (place_at (queue_at route.end) (routed route (bare_if bare row.message))) (take_from m i l)), refl)
+        let i : Ident = (bare_if bare row.message).ident in (
+          else_then m l (take_from m i l) (ledgers.place m (queue_at route.end) (routed route (bare_if bare row.message)) (take_from m i l))
+              (else_places m (λ p. record p { queues = leave_queues (λ (row : Row). not (has_ident i row)) p.queues }) l) (else_places m (place_at (queue_at route.end) (routed route (bare_if bare row.message))) (take_from m i l)),
+          refl,
+        )
 
 pub move_follows : (m : ℕ) (given : Ident → Bool) (p : Plain) (l : Ledger) (from : List ℕ) (x : Row) (to : Dest) (bare : Bool) (route : Route) → IsFresh given p → IsTold m p l → AreShelved (places_at m l).queues → Mem x (stored from p).rows → x.by ≡ None
     → resolve p.definitions p.given.name to.queue to.qmgr ≡ Ok route

@@ -65,7 +65,7 @@ trigger_place m given p l q message name f t is =
     let first = calm_follows m given p p1 l f t (serve_calm q.name p) refl in
     let r : Plain = apply_all (CountIdent ∷ Places name message ∷ []) p1 in
     let second = place_follows m first.now p1 r l name message first.fresh first.told is (λ d. rows_after (Places name message) (apply CountIdent p1) d tt)
-        (record { given = refl; definitions = refl; connections = refl; channels = refl; moment = refl; numbers = refl }) in
+    (record { given = refl; definitions = refl; connections = refl; channels = refl; moment = refl; numbers = refl }) in
     follow_then m given p p1 r l l (ledgers.place m name message l) first second
 
 -- what the ledger posts of it, where it finds the queue

@@ -78,8 +78,8 @@ book_next m given q l k t e =
     λ a d. by_manager m a (λ a. ledger_rows a d k) _ _ (λ is. ap (λ z. ledger_rows z d k) is) (λ z. ap (λ o. rows_at d o) (e.places a z)) in
     let units : (a c : ℕ) → unit_of (connection_at c (users_at a k).connections) ≡ (if a == m then items_told (unit_of (connection_at c q.connections)) else unit_of (connection_at c (users_at a l).connections)) =
     λ a c. by_manager m a (λ a. unit_of (connection_at c (users_at a k).connections)) _ _
-        (λ is. ap (λ o. unit_of (connection_at c (users_or o).connections)) (ap (slice_get k.users) is ∙ t.used) ∙ ap (λ cs. unit_of (connection_at c cs)) t.connections ∙ ap unit_of (connection_at_told c q.connections) ∙ unit_told (connection_at c q.connections))
-        (λ z. ap (λ o. unit_of (connection_at c (users_or o).connections)) (e.users a z)) in
+    (λ is. ap (λ o. unit_of (connection_at c (users_or o).connections)) (ap (slice_get k.users) is ∙ t.used) ∙ ap (λ cs. unit_of (connection_at c cs)) t.connections ∙ ap unit_of (connection_at_told c q.connections) ∙ unit_told (connection_at c q.connections))
+    (λ z. ap (λ o. unit_of (connection_at c (users_or o).connections)) (e.users a z)) in
     λ i. record { rows = λ a d. rows a d i; units = λ a c. units a c i; gone = k.gone; got = k.got }
   where
     rows_at : List ℕ → Option ManagerPlaces → List Row

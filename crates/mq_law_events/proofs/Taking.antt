@@ -122,16 +122,20 @@ many_go m q why (x ∷ xs) v l taken each once =
     let v1 : Side = record { rows = without q i v.rows; units = v.units; given = v.given } in
     let at = each x (inl refl) in
     let first : Leads m v (sheet_of m l) v1 (sheet_of m k) = leads_to m v v1 v1 (sheet_of m l) _ (sheet_of m k)
-        (row_goes_leads m q x false v (sheet_of m l) k.gone at.0 at.1 (λ j n. taken_gone (is_placed_at i (places_at m l)) m i j l n)) refl
-        (λ z. record { rows = λ d. sym (taken_rows m i d l) z; gone = k.gone; got = sym (taken_got (is_placed_at i (places_at m l)) m i l) z }) in
+    (row_goes_leads m q x false v (sheet_of m l) k.gone at.0 at.1 (λ j n. taken_gone (is_placed_at i (places_at m l)) m i j l n)) refl
+    (λ z. record { rows = λ d. sym (taken_rows m i d l) z; gone = k.gone; got = sym (taken_got (is_placed_at i (places_at m l)) m i l) z }) in
     let rest = many_go m q why xs v1 k taken
-        (λ y n. let a = each y (inr n) in
-        (mem_kept (λ h. not (bytes_eq q q && same_ident h.message.ident i)) y (v.rows q) a.0 (ap not (is_false (bytes_eq q q && same_ident y.message.ident i) (λ z. once.0 y n (sym (ident_yes y.message.ident i (second (bytes_eq q q) _ z)))))), a.1))
-        once.1 in
+    (λ y n. let a = each y (inr n) in
+    (mem_kept (λ h. not (bytes_eq q q && same_ident h.message.ident i)) y (v.rows q) a.0 (ap not (is_false (bytes_eq q q && same_ident y.message.ident i) (λ z. once.0 y n (sym (ident_yes y.message.ident i (second (bytes_eq q q) _ z)))))), a.1))
+    once.1 in
     let same : ledgers.take_all_gone m (removed_all why q (x ∷ xs)) l ≡ take_all_gone m (removed_all why q xs) k = ap (λ t. take_all_gone m (removed_all why q xs) (ledgers.when t (take m i) l)) taken in
     leads_to m v _ _ (sheet_of m l) _ _ (behind m v v1 _ (sheet_of m l) (sheet_of m k) _ first rest)
-    (λ z. record { rows = λ d. keep_two (λ h. not (bytes_eq d q && same_ident h.message.ident i)) (λ h. not (bytes_eq d q && among (idents_of xs) h.message.ident)) (λ h. not (bytes_eq d q && among (idents_of (x ∷ xs)) h.message.ident)) (v.rows d)
-        (λ h. two_tests (bytes_eq d q) (same_ident h.message.ident i) (among (idents_of xs) h.message.ident)) z; units = v.units; given = v.given })
+    (λ z. record {
+      rows = λ d. keep_two (λ h. not (bytes_eq d q && same_ident h.message.ident i)) (λ h. not (bytes_eq d q && among (idents_of xs) h.message.ident)) (λ h. not (bytes_eq d q && among (idents_of (x ∷ xs)) h.message.ident)) (v.rows d)
+          (λ h. two_tests (bytes_eq d q) (same_ident h.message.ident i) (among (idents_of xs) h.message.ident)) z;
+      units = v.units;
+      given = v.given;
+    })
     (ap (sheet_of m) (sym same))
   where
     second : (a b : Bool) → (a && b) ≡ true → b ≡ true

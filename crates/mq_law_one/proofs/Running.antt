@@ -190,7 +190,7 @@ step s hs p x z t =
     let a = z.at m t.h t.is in
     let k : Ledger = posted m e e.reply l in
     let b : Became m z.given n l next k = subst (λ y. Became m z.given n l next y) (λ i. posted m (entry_of e e.call e.chance (sym t.tells.reply i) (sym t.tells.delta i) (sym t.tells.received i)) (sym t.tells.reply i) l)
-        (happens m z.given n l e e.stamp e.actor e.call e.chance e.effect.popped a t.tells.event t.own t.none) in
+    (happens m z.given n l e e.stamp e.actor e.call e.chance e.effect.popped a t.tells.event t.own t.none) in
     let whole : k ≡ ledger (opening_ledger s hs) (p ++ x ∷ []) = sym (ledger_step (opening_ledger s hs) p x) in
     let at_next : IsNext m n.manager next.manager (managers_at s p hs) (managers_at s (p ++ x ∷ []) hs) = record {
       at = manager_at s p hs m ∙ ap (option_map (λ (h : History). (node_after s m p h).manager)) t.is;
@@ -296,11 +296,10 @@ orders s hs before (x ∷ p) rest fs premises found story z =
     let n : Node = node_after s x.manager before t.h in
     let l : Ledger = ledger (opening_ledger s hs) before in
     let a = z.at x.manager t.h t.is in
-    let quiet : unit_received x.entry.effect.delta ≡ None = ap unit_received t.tells.delta ∙ event_quiet n x.entry.stamp x.entry.actor x.entry.call x.entry.chance x.entry.effect.popped a.ends a.handlers t.tells.event t.own t.none in
-    (
+    let quiet : unit_received x.entry.effect.delta ≡ None = ap unit_received t.tells.delta ∙ event_quiet n x.entry.stamp x.entry.actor x.entry.call x.entry.chance x.entry.effect.popped a.ends a.handlers t.tells.event t.own t.none in (
       subst (λ o. OrderAt o fs x l (posted x.manager x.entry x.entry.reply l)) (sym quiet) tt,
       subst (λ y. AllInOrderFrom (forced_in x.entry fs) y p) (ledger_step (opening_ledger s hs) before x)
-      (orders s hs (before ++ x ∷ []) p rest (forced_in x.entry fs) premises found (subst (IsStory hs) (sym (one_more before x (p ++ rest))) story) (step s hs before x z t)),
+          (orders s hs (before ++ x ∷ []) p rest (forced_in x.entry fs) premises found (subst (IsStory hs) (sym (one_more before x (p ++ rest))) story) (step s hs before x z t)),
     )
 
 named : (r : Running) (p : Plain) → IsState r p → AreNamed p.queues
