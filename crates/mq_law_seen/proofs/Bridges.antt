@@ -33,7 +33,7 @@ use Rattle.mq_law_rows.proofs.Lists.{true_false, bool_case, is_false, eqb_yes, e
 
 -- Lists by name
 
-name_back : (a b : List ℕ) → bytes_eq a b ≡ bytes_eq b a
+pub name_back : (a b : List ℕ) → bytes_eq a b ≡ bytes_eq b a
 name_back a b = bool_case (bytes_eq a b) (λ t. t ≡ bytes_eq b a) (λ e. sym (ap (λ z. bytes_eq b z) (name_yes a b e) ∙ name_self b))
     (λ e. sym (is_false (bytes_eq b a) (λ t. true_false (sym (ap (λ z. bytes_eq a z) (name_yes b a t) ∙ name_self a) ∙ e))))
 

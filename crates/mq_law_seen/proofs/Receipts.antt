@@ -127,7 +127,7 @@ receipt_rows m channel ms ds l places a d is =
     ∙ ap (place_all m (landings m channel ds l (take_everywhere (idents_of ms) l) ms) a d) (takes_everywhere (idents_of ms) a d l)
 
 -- Who is admitted: what the ledger has, and what is not persistent and was never taken.
-rows_placed : (q : List ℕ) (qs : List Shelf) (row : Row) → Mem row (rows_in q qs) → Mem row.message.ident (flat_map (λ (q : Shelf). map (λ (row : Row). row.message.ident) q.rows) qs)
+pub rows_placed : (q : List ℕ) (qs : List Shelf) (row : Row) → Mem row (rows_in q qs) → Mem row.message.ident (flat_map (λ (q : Shelf). map (λ (row : Row). row.message.ident) q.rows) qs)
 rows_placed q [] row n = absurd n
 rows_placed q (x ∷ qs) row n = bool_case (bytes_eq q x.name) (λ t. Mem row (if t then x.rows else rows_in q qs) → Mem row.message.ident (map (λ (row : Row). row.message.ident) x.rows ++ flat_map (λ (q : Shelf). map (λ (row : Row). row.message.ident) q.rows) qs))
     (λ e k. mem_left row.message.ident (map (λ (row : Row). row.message.ident) x.rows) _ (mem_map (λ (row : Row). row.message.ident) row x.rows k)) (λ e k. mem_right row.message.ident (map (λ (row : Row). row.message.ident) x.rows) _ (rows_placed q qs row k)) n

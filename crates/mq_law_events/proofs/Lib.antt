@@ -1,0 +1,16 @@
+pub mod Locals
+pub mod Resting
+pub mod Telling
+pub mod Stepping
+pub mod Putting
+pub mod Taking
+pub mod Committing
+pub mod Stopping
+pub mod Calling
+pub mod Events
+pub mod Getting
+pub mod Leaving
+pub mod Sounds
+pub mod Serving
+pub mod Halting
+pub mod Moving

@@ -1,0 +1,4 @@
+pub mod Local
+pub mod Rests
+pub mod Tied
+pub mod Posting

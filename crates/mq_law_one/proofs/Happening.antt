@@ -1,0 +1,316 @@
+-- Each event of a manager without channels: what it leaves, and what is posted of it.
+use Rattle.std.proofs.Common.{ℕ, zero, suc, ◌≡◌, Bool, true, false, not, List, [], ◌∷◌, ◌++◌, refl, ap, sym, subst, ◌∙◌, inl, inr, map}
+use Rattle.std.specs.Prelude.{Option, Some, None, Result, Ok, Err, ◌==◌, ◌+◌, ◌-◌, min, if◌then◌else◌, ◌&&◌, slice_get, nat_lt, filter}
+use Rattle.mq_message.specs.declared.message.Ident.{Ident}
+use Rattle.mq_message.specs.declared.message.Message.{Message}
+use Rattle.mq_codes.specs.declared.reason.Reason.{Reason}
+use Rattle.mq_codes.specs.declared.reason.Reason.TheVariants as reasons
+use Rattle.mq_frame.specs.declared.frame.Seen.{Seen}
+use Rattle.mq_objects.specs.declared.object.Definitions.{Definitions}
+use Rattle.mq_objects.specs.declared.command.Command.{Command}
+use Rattle.mq_objects.specs.declared.command.Command.TheVariants as object_commands
+use Rattle.mq_sc_apply.specs.declared.answers.Planned.{Planned}
+use Rattle.mq_sc_apply.specs.declared.answers.Plan.{Plan}
+use Rattle.mq_sc_apply.specs.declared.answers.Plan.TheVariants as plans
+use Rattle.mq_sc_apply.specs.Commands.{plan}
+use Rattle.mq_sc_parse.specs.declared.command.Command.TheVariants as lines
+use Rattle.mq_disk.specs.declared.cutter.Stop.{Stop}
+use Rattle.mq_calls.specs.declared.answers.Answer.{Answer}
+use Rattle.mq_calls.specs.declared.answers.Answer.TheVariants as answers
+use Rattle.mq_calls.specs.declared.answers.Get.{Get}
+use Rattle.mq_calls.specs.declared.answers.Got.{Got}
+use Rattle.mq_calls.specs.declared.answers.GetAnswer.{GetAnswer}
+use Rattle.mq_calls.specs.declared.answers.GetAnswer.TheVariants as get_answers
+use Rattle.mq_calls.specs.declared.answers.Hconn.{Hconn}
+use Rattle.mq_calls.specs.declared.choices.Choice.{Choice}
+use Rattle.mq_calls.specs.declared.choices.Choice.TheVariants.{Runs, NoMemory, Stopped}
+use Rattle.mq_calls.specs.declared.commands.Shown.{Shown}
+use Rattle.mq_calls.specs.declared.commands.ScRefusal.{ScRefusal}
+use Rattle.mq_calls.specs.declared.deltas.Did.{Did}
+use Rattle.mq_calls.specs.declared.state.Connection.{Connection}
+use Rattle.mq_history.specs.declared.acts.Acted.TheVariants as acted
+use Rattle.mq_history.specs.declared.calls.Actor.{Actor}
+use Rattle.mq_history.specs.declared.calls.Actor.TheVariants as actors
+use Rattle.mq_history.specs.declared.calls.Call.{Call}
+use Rattle.mq_history.specs.declared.calls.Chance.{Chance}
+use Rattle.mq_history.specs.declared.calls.Chance.TheVariants as chances
+use Rattle.mq_history.specs.declared.calls.Entry.{Entry}
+use Rattle.mq_history.specs.declared.calls.Reply.{Reply}
+use Rattle.mq_history.specs.declared.calls.Reply.TheVariants as replies
+use Rattle.mq_calls.specs.declared.records.LogRecord.{LogRecord}
+use Rattle.mq_objects.specs.Names.{local_of}
+use Rattle.mq_spec_state.specs.State.{Plain, Given, Running, Noted, Change, LogState}
+use Rattle.mq_spec_state.specs.State.Running.{Up, Down}
+use Rattle.mq_spec_state.specs.State.Change.{Place, Try, Leave, Hold, Release, Connect, Disconnect, OpenHandle, CloseHandle, SetCursor, Pend, EndUnit, MakeStale, CountIdent, ChangeObjects, Renew, DropQueue, SwitchOn, Serve, SetSender, SetReceiver, Undoubt, Seize, Unseize, AddBatch, DropBatch, SetBound, SetMoment, ForgetAll}
+use Rattle.mq_spec_state.specs.Reads.{is_up, connection_at}
+use Rattle.mq_spec_state.specs.Changes.{apply, apply_all, try_if}
+use Rattle.mq_spec_state.specs.Condition.{condition}
+use Rattle.mq_spec_state.specs.Steps.{Step, Part, After, logged, do_part, do_all, delta_of, delta_before, stopped_at, note_of, IsWrite}
+use Rattle.mq_spec_state.specs.Steps as steps
+use Rattle.mq_spec_state.specs.Steps.Step.{Refuse, Do}
+use Rattle.mq_spec_manager.specs.Handles.{connected, live_or, for_connection, is_other, is_present}
+use Rattle.mq_spec_node.specs.Node.{Node, Own, Handler, change_monitor}
+use Rattle.mq_spec_node.specs.Deeds.{Deed, Done, still_tried, told, mqi_deed, ended_deed, done, CanCome, forgotten_rows, node_of}
+use Rattle.mq_spec_node.specs.Happens.{remembered, remembering}
+use Rattle.mq_spec_network.specs.Ledger as ledgers
+use Rattle.mq_spec_network.specs.Ledger.{Ledger, Users, posted, cut, take_all_gone}
+use Rattle.mq_law_manager.specs.Kept.{StepKeeps, AllKeep}
+use Rattle.mq_law_manager.specs.Facts.{IsSound, IsFrozen}
+use Rattle.mq_law_manager.proofs.Ending.{ends}
+use Rattle.mq_law_events.specs.Local.{Leads, side_of, sheet_of}
+use Rattle.mq_law_events.specs.Tied.{IsTold, IsFresh, IsSame, IsElse, Follow}
+use Rattle.mq_law_events.specs.Posting.{StepFollows, StopFollows, IsTimed, post_get}
+use Rattle.mq_law_events.proofs.Telling.{here_changed, else_then, else_users}
+use Rattle.mq_law_events.proofs.Calling.{calm_follows, calm_none}
+use Rattle.mq_law_one.specs.Alone.{IsState, IsAt, Became}
+
+-- From a follow to an event
+
+pub became : (m : ℕ) (given : Ident → Bool) (n : Node) (l : Ledger) (next : Node) (k : Ledger) → IsAt m given n l → Follow m given n.manager l next.manager k
+    → next.own.ends ≡ [] → next.own.handlers ≡ [] → IsState next.manager.running next.manager → Became m given n l next k
+became m given n l next k a f e h state = record {
+  now = f.now;
+  leads = f.leads;
+  known = f.known;
+  same = f.same;
+  other = f.other;
+  at = record {
+    told = f.told;
+    fresh = f.fresh;
+    number = ap (λ (g : Given). g.number) f.same.given ∙ a.number;
+    ends = e;
+    handlers = h;
+    batches = f.same.batches ∙ a.batches;
+    timed = record { users = f.told.users; used = f.told.used; moment = (f.kept a.timed.users f.told.users a.timed.used f.told.used).moment ∙ a.timed.moment ∙ sym f.steady };
+    state = state;
+  };
+}
+
+-- and with a mark on the manager's users
+pub became_marked : (m : ℕ) (given : Ident → Bool) (n : Node) (l : Ledger) (next : Node) (k : Ledger) (g : Users → Users) → ((u : Users) → (g u).connections ≡ u.connections) → ((u : Users) → (g u).moment ≡ u.moment)
+    → IsAt m given n l → Follow m given n.manager l next.manager k → next.own.ends ≡ [] → next.own.handlers ≡ [] → IsState next.manager.running next.manager → Became m given n l next (ledgers.with_users m g k)
+became_marked m given n l next k g cs mo a f e h state =
+    let used : slice_get (ledgers.with_users m g k).users m ≡ Some (g f.told.users) = here_changed m g k.users f.told.users f.told.used in
+    record {
+      now = f.now;
+      leads = f.leads;
+      known = f.known;
+      same = f.same;
+      other = else_then m l k (ledgers.with_users m g k) f.other (else_users m g k);
+      at = record {
+        told = record { places = f.told.places; placed = f.told.placed; name = f.told.name; definitions = f.told.definitions; users = g f.told.users; used = used; connections = cs f.told.users ∙ f.told.connections };
+        fresh = f.fresh;
+        number = ap (λ (g : Given). g.number) f.same.given ∙ a.number;
+        ends = e;
+        handlers = h;
+        batches = f.same.batches ∙ a.batches;
+        timed = record { users = g f.told.users; used = used; moment = mo f.told.users ∙ (f.kept a.timed.users f.told.users a.timed.used f.told.used).moment ∙ a.timed.moment ∙ sym f.steady };
+        state = state;
+      };
+    }
+
+-- a call whose write is stopped is marked
+abbrev pub mark : Entry → Users → Users
+mark e u = record u { cut = Some (record { entry = e; moment = u.moment }) }
+
+-- Running
+
+apply_running : (c : Change) (p : Plain) → (apply c p).running ≡ p.running
+apply_running (Place q m) p = refl
+apply_running (Try q n) p = go (condition (local_of q p.definitions) n p)
+  where
+    go : (t : Bool) → (try_if t q p).running ≡ p.running
+    go true = refl
+    go false = refl
+apply_running (Leave w) p = refl
+apply_running (Hold w h) p = refl
+apply_running (Release w b) p = refl
+apply_running (Connect c) p = refl
+apply_running (Disconnect n) p = refl
+apply_running (OpenHandle n h) p = refl
+apply_running (CloseHandle n h) p = refl
+apply_running (SetCursor n h x) p = refl
+apply_running (Pend n i) p = refl
+apply_running (EndUnit n) p = refl
+apply_running (MakeStale s) p = refl
+apply_running CountIdent p = refl
+apply_running (ChangeObjects x) p = refl
+apply_running (Renew q) p = refl
+apply_running (DropQueue q) p = refl
+apply_running (SwitchOn q) p = refl
+apply_running (Serve q) p = refl
+apply_running (SetSender c d) p = refl
+apply_running (SetReceiver c d) p = refl
+apply_running (Undoubt i) p = refl
+apply_running (Seize s) p = refl
+apply_running (Unseize c) p = refl
+apply_running (AddBatch b) p = refl
+apply_running (DropBatch c) p = refl
+apply_running (SetBound c b) p = refl
+apply_running (SetMoment t) p = refl
+apply_running ForgetAll p = refl
+
+changes_running : (cs : List Change) (p : Plain) → (apply_all cs p).running ≡ p.running
+changes_running [] p = refl
+changes_running (c ∷ cs) p = changes_running cs (apply c p) ∙ apply_running c p
+
+part_running : (part : Part) (p : Plain) → (do_part part p).running ≡ p.running
+part_running part p = changes_running part.changes (logged part.forced p) ∙ go part.forced
+  where
+    go : (r : Option LogRecord) → (logged r p).running ≡ p.running
+    go None = refl
+    go (Some r) = refl
+
+pub parts_running : (parts : List Part) (p : Plain) → (do_all parts p).running ≡ p.running
+parts_running [] p = refl
+parts_running (part ∷ parts) p = parts_running parts (do_part part p) ∙ part_running part p
+
+-- a stopped write leaves the manager down
+pub stopped_running : (n : ℕ) (parts : List Part) (left : ℕ) (p : Plain) → IsWrite n parts → (note : Option Noted) × ((stopped_at n parts left p).running ≡ Down note 0)
+stopped_running n [] left p w = absurd w
+stopped_running zero (part ∷ parts) left p w = (note_of part part.forced, refl)
+stopped_running (suc n) (part ∷ parts) left p w = stopped_running n parts left (do_part part p) w
+
+pub state_up : (p : Plain) → p.running ≡ Up → IsSound p → IsState p.running p
+state_up p e h = subst (λ r. IsState r p) (sym e) h
+
+pub state_down : (noted : Option Noted) (starts : ℕ) (p : Plain) → p.running ≡ Down noted starts → IsFrozen p → IsState p.running p
+state_down noted starts p e h = subst (λ r. IsState r p) (sym e) h
+
+-- What is a node's own
+
+pub kept_ends : (actor : Actor) (call : Call) (reply : Reply) (own : Own) → own.ends ≡ [] → (remembered actor call reply own).ends ≡ []
+kept_ends (actors.Script k) call reply own e = e
+kept_ends (actors.Sender k) call reply own e = e
+kept_ends (actors.Receiver k) call reply own e = e
+kept_ends (actors.Handler k) call reply own e = e
+kept_ends (actors.Monitor k) call reply own e = e
+kept_ends actors.Operator call reply own e = e
+kept_ends actors.Clock call reply own e = e
+
+pub kept_handlers : (actor : Actor) (call : Call) (reply : Reply) (own : Own) → own.handlers ≡ [] → (remembered actor call reply own).handlers ≡ []
+kept_handlers (actors.Script k) call reply own e = e
+kept_handlers (actors.Sender k) call reply own e = e
+kept_handlers (actors.Receiver k) call reply own e = e
+kept_handlers (actors.Handler k) call reply own e = e
+kept_handlers (actors.Monitor k) call reply own e = e
+kept_handlers actors.Operator call reply own e = e
+kept_handlers actors.Clock call reply own e = e
+
+pub no_tries : (delta : List Did) (own : Own) → own.handlers ≡ [] → (forgotten_rows delta own).handlers ≡ []
+no_tries delta own e = ap (map (λ (h : Handler). record h { tried = filter (still_tried delta) h.tried })) e
+
+-- An entry as its event tells it
+
+abbrev pub entry_of : Entry → Call → Chance → Reply → List Did → List Message → Entry
+entry_of e call chance reply ds ms = record e { call = call; chance = chance; reply = reply; effect = record e.effect { delta = ds; received = ms } }
+
+-- what a deed comes to, and is posted
+abbrev pub Deeded : ℕ → (Ident → Bool) → Node → Ledger → Entry → Actor → Call → Choice → Deed → Type 0
+Deeded m given n l e actor call choice d =
+    Became m given n l (remembering actor call (done d choice n)).next (posted m (entry_of e call (chances.Call choice) (done d choice n).reply (done d choice n).delta (done d choice n).received) (done d choice n).reply l)
+
+-- nothing happens
+pub nothing : (m : ℕ) (given : Ident → Bool) (n : Node) (l : Ledger) (own : Own) → IsAt m given n l → own.ends ≡ [] → own.handlers ≡ [] → Became m given n l (node_of n.manager own) l
+nothing m given n l own a e h = became m given n l (node_of n.manager own) l a (calm_follows m given n.manager n.manager l a.fresh a.told (calm_none n.manager) refl) e h a.state
+
+-- a step that runs or whose write is stopped, at a manager that is up
+pub parts_happen : (F : Type 0) {T : Type 0} (m : ℕ) (given : Ident → Bool) (n : Node) (l : Ledger) (own : Own) (post : T → List Did → Ledger → Ledger) (reply : T) (parts : List Part) → IsAt m given n l → n.manager.running ≡ Up → IsSound n.manager
+    → StepFollows {F = F} m given n.manager l post (Do reply parts) → AllKeep IsSound parts n.manager → own.ends ≡ [] → own.handlers ≡ []
+    → Became m given n l (node_of (do_all parts n.manager) own) (post reply (delta_of parts) (take_all_gone m (delta_of parts) l))
+parts_happen F {T} m given n l own post reply parts a up sound f k e h =
+    became m given n l (node_of (do_all parts n.manager) own) _ a f e h (state_up (do_all parts n.manager) (parts_running parts n.manager ∙ up) (ends {F = F} (Do reply parts) Runs n.manager sound k))
+
+pub stop_happens : (F : Type 0) {T : Type 0} (m : ℕ) (given : Ident → Bool) (n : Node) (l : Ledger) (own : Own) (e : Entry) (by_ : Stop) (reply : T) (parts : List Part) (part left : ℕ) → IsAt m given n l → IsSound n.manager
+    → StopFollows {F = F} m given n.manager l (Do reply parts) → AllKeep IsSound parts n.manager → IsWrite part parts → own.ends ≡ [] → own.handlers ≡ [] → e.effect.delta ≡ delta_before part parts
+    → Became m given n l (node_of (stopped_at part parts left n.manager) own) (cut m e l)
+stop_happens F m given n l own e by_ reply parts part left a sound f k w z h same =
+    let q : Plain = stopped_at part parts left n.manager in
+    let r = stopped_running part parts left n.manager w in
+    subst (λ ds. Became m given n l (node_of q own) (ledgers.with_users m (mark e) (ledgers.lose m (take_all_gone m ds l)))) (sym same)
+    (became_marked m given n l (node_of q own) (ledgers.lose m (take_all_gone m (delta_before part parts) l)) (mark e) (λ u. refl) (λ u. refl) a (f part left w) z h
+    (state_down r.0 0 q r.1 (ends {F = F} (Do reply parts) (Stopped by_ part left) n.manager sound k)))
+
+-- a deed that is an answer alone
+pub quiet_happens : (m : ℕ) (given : Ident → Bool) (n : Node) (l : Ledger) (e : Entry) (actor : Actor) (call : Call) (choice : Choice) (reply : Reply) → IsAt m given n l
+    → ((c : Choice) → posted m (entry_of e call (chances.Call c) reply [] []) reply l ≡ l) → CanCome (told reply n.own) choice n → Deeded m given n l e actor call choice (told reply n.own)
+quiet_happens m given n l e actor call Runs reply a none can =
+    subst (λ k. Became m given n l (node_of n.manager (remembered actor call reply (forgotten_rows [] n.own))) k) (sym (none Runs))
+    (nothing m given n l (remembered actor call reply (forgotten_rows [] n.own)) a (kept_ends actor call reply (forgotten_rows [] n.own) a.ends) (kept_handlers actor call reply (forgotten_rows [] n.own) (no_tries [] n.own a.handlers)))
+quiet_happens m given n l e actor call NoMemory reply a none can = absurd can
+quiet_happens m given n l e actor call (Stopped by_ part left) reply a none can = absurd can.0
+
+-- a deed of a step that goes on
+abbrev pub deed_of_parts : Option Reply → Reply → List Part → Own → Deed
+deed_of_parts w reply parts own = record { wanting = w; reply = reply; parts = parts; pushed = None; received = []; own = own }
+
+pub step_happens : (F : Type 0) {T : Type 0} (m : ℕ) (given : Ident → Bool) (n : Node) (l : Ledger) (e : Entry) (actor : Actor) (call : Call) (choice : Choice) (w : Option Reply) (f : T → Reply) (post : T → List Did → Ledger → Ledger) (reply : T) (parts : List Part)
+    → IsAt m given n l → n.manager.running ≡ Up → IsSound n.manager → StepFollows {F = F} m given n.manager l post (Do reply parts) → StopFollows {F = F} {T = T} m given n.manager l (Do reply parts) → AllKeep IsSound parts n.manager
+    → ((ds : List Did) → posted m (entry_of e call (chances.Call Runs) (f reply) ds []) (f reply) l ≡ post reply ds (take_all_gone m ds l))
+    → ((r : Reply) → w ≡ Some r → posted m (entry_of e call (chances.Call NoMemory) r [] []) r l ≡ l)
+    → CanCome (deed_of_parts w (f reply) parts n.own) choice n → Deeded m given n l e actor call choice (deed_of_parts w (f reply) parts n.own)
+step_happens F m given n l e actor call Runs w f post reply parts a up sound follows stops keeps posts wants can =
+    let own : Own = remembered actor call (f reply) (forgotten_rows (delta_of parts) n.own) in
+    subst (λ k. Became m given n l (node_of (do_all parts n.manager) own) k) (sym (posts (delta_of parts)))
+    (parts_happen F m given n l own post reply parts a up sound follows keeps (kept_ends actor call (f reply) (forgotten_rows (delta_of parts) n.own) a.ends) (kept_handlers actor call (f reply) (forgotten_rows (delta_of parts) n.own) (no_tries (delta_of parts) n.own a.handlers)))
+step_happens F m given n l e actor call NoMemory None f post reply parts a up sound follows stops keeps posts wants can = absurd can
+step_happens F m given n l e actor call NoMemory (Some r) f post reply parts a up sound follows stops keeps posts wants can =
+    subst (λ k. Became m given n l (node_of n.manager (remembered actor call r n.own)) k) (sym (wants r refl))
+    (nothing m given n l (remembered actor call r n.own) a (kept_ends actor call r n.own a.ends) (kept_handlers actor call r n.own a.handlers))
+step_happens F m given n l e actor call (Stopped by_ part left) w f post reply parts a up sound follows stops keeps posts wants can =
+    let r : Reply = replies.Stopped by_ in
+    stop_happens F m given n l (remembered actor call r n.own) (entry_of e call (chances.Call (Stopped by_ part left)) r (delta_before part parts) []) by_ reply parts part left a sound stops keeps can.0
+    (kept_ends actor call r n.own a.ends) (kept_handlers actor call r n.own a.handlers) refl
+
+-- A call of a connection, at a manager that is down
+
+pub connected_down : (hc : Hconn) (p : Plain) → is_up p.running ≡ false → (reason : Reason) × (connected hc p ≡ Err reason)
+connected_down hc p e = go (is_other hc p) (is_present hc p) (ap (λ t. t && (hc.incarnation == p.numbers.incarnation)) e)
+  where
+    go : (a b : Bool) → b ≡ false → (reason : Reason) × ((if a then Err reasons.ConnectionHandleError else (if b then live_or (connection_at hc.number p.connections) else Err reasons.ConnectionBroken)) ≡ Err reason)
+    go true b z = (reasons.ConnectionHandleError, refl)
+    go false true z = absurd cc
+    go false false z = (reasons.ConnectionBroken, refl)
+
+pub down_refused : {T : Type 0} (hc : Hconn) (p : Plain) (f : Connection → Step Reason T) → is_up p.running ≡ false → (reason : Reason) × (for_connection (connected hc p) f ≡ Refuse reason)
+down_refused hc p f e = let d = connected_down hc p e in (d.0, ap (λ (r : Result Connection Reason). for_connection r f) d.1)
+
+-- what a step has where it isn't refused
+abbrev pub Fits : {F T : Type 0} → ℕ → (Ident → Bool) → Plain → Ledger → (T → List Did → Ledger → Ledger) → Step F T → Type 0
+Fits m given p l post (Refuse reason) = Unit {0}
+Fits {F} {T} m given p l post (Do reply parts) = (p.running ≡ Up) × IsSound p × StepFollows {F = F} m given p l post (Do reply parts) × StopFollows {F = F} {T = T} m given p l (Do reply parts) × AllKeep IsSound parts p
+
+pub fits : {F T : Type 0} (m : ℕ) (given : Ident → Bool) (p : Plain) (l : Ledger) (post : T → List Did → Ledger → Ledger) (step : Step F T) → p.running ≡ Up → IsSound p → StepFollows m given p l post step → StopFollows m given p l step → StepKeeps IsSound step p → Fits m given p l post step
+fits m given p l post (Refuse reason) up sound f s k = tt
+fits m given p l post (Do reply parts) up sound f s k = (up, sound, f, s, k)
+
+-- by whether the manager is up
+pub fits_by : {F T : Type 0} (m : ℕ) (given : Ident → Bool) (p : Plain) (l : Ledger) (post : T → List Did → Ledger → Ledger) (step : Step F T) → IsState p.running p
+    → (IsSound p → StepFollows m given p l post step × StopFollows m given p l step × StepKeeps IsSound step p) → (is_up p.running ≡ false → (reason : F) × (step ≡ Refuse reason)) → Fits m given p l post step
+fits_by {F} {T} m given p l post step state up down = at p.running refl
+  where
+    at : (r : Running) → p.running ≡ r → Fits m given p l post step
+    at Up e = let sound : IsSound p = subst (λ r. IsState r p) e state in let k = up sound in fits m given p l post step e sound k.0 k.1 k.2
+    at (Down noted starts) e = let d = down (ap is_up e) in subst (λ (z : Step F T). Fits m given p l post z) (sym d.1) tt
+
+abbrev pub reply_or : Reply → Option Reply → Reply
+reply_or r None = r
+reply_or r (Some x) = x
+
+-- MQI calls
+pub mqi_happens : {T : Type 0} (m : ℕ) (given : Ident → Bool) (n : Node) (l : Ledger) (e : Entry) (actor : Actor) (call : Call) (choice : Choice) (f : Answer T → Reply) (post : Answer T → List Did → Ledger → Ledger) (step : Step Reason (Answer T)) → IsAt m given n l
+    → Fits m given n.manager l post step
+    → ((answer : Answer T) (c : Choice) (ds : List Did) → posted m (entry_of e call (chances.Call c) (f answer) ds []) (f answer) l ≡ post answer ds (take_all_gone m ds l)) → ((reason : Reason) → post (answers.Failed reason) [] l ≡ l)
+    → CanCome (mqi_deed f n.own step) choice n → Deeded m given n l e actor call choice (mqi_deed f n.own step)
+mqi_happens m given n l e actor call choice f post (Refuse reason) a fit posts none can = quiet_happens m given n l e actor call choice (f (answers.Failed reason)) a (λ c. posts (answers.Failed reason) c [] ∙ none reason) can
+mqi_happens m given n l e actor call choice f post (Do reply parts) a fit posts none can =
+    step_happens Reason m given n l e actor call choice (Some (f (answers.Failed reasons.StorageNotAvailable))) f post reply parts a fit.0 fit.1 fit.2 fit.3 fit.4 (λ ds. posts reply Runs ds)
+    (λ r z. ap (λ (o : Option Reply). posted m (entry_of e call (chances.Call NoMemory) (reply_or r o) [] []) (reply_or r o) l) (sym z) ∙ posts (answers.Failed reasons.StorageNotAvailable) NoMemory [] ∙ none reasons.StorageNotAvailable) can
+
+pub ended_happens : {T : Type 0} (m : ℕ) (given : Ident → Bool) (n : Node) (l : Ledger) (e : Entry) (actor : Actor) (call : Call) (choice : Choice) (f : Answer T → Reply) (post : Answer T → List Did → Ledger → Ledger) (step : Step Reason (Answer T)) → IsAt m given n l
+    → Fits m given n.manager l post step
+    → ((answer : Answer T) (c : Choice) (ds : List Did) → posted m (entry_of e call (chances.Call c) (f answer) ds []) (f answer) l ≡ post answer ds (take_all_gone m ds l)) → ((reason : Reason) → post (answers.Failed reason) [] l ≡ l)
+    → CanCome (ended_deed f n.own step) choice n → Deeded m given n l e actor call choice (ended_deed f n.own step)
+ended_happens m given n l e actor call choice f post (Refuse reason) a fit posts none can = quiet_happens m given n l e actor call choice (f (answers.Failed reason)) a (λ c. posts (answers.Failed reason) c [] ∙ none reason) can
+ended_happens m given n l e actor call choice f post (Do reply parts) a fit posts none can =
+    step_happens Reason m given n l e actor call choice None f post reply parts a fit.0 fit.1 fit.2 fit.3 fit.4 (λ ds. posts reply Runs ds) (λ r z. absurd cc) can

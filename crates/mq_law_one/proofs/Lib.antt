@@ -1,0 +1,5 @@
+pub mod Happening
+pub mod Calls
+pub mod Acting
+pub mod Deltas
+pub mod Running

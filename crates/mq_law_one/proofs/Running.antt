@@ -1,0 +1,324 @@
+-- The induction over the prefixes of a story of managers without channels.
+use Rattle.std.proofs.Common.{ℕ, zero, suc, ◌≡◌, ◌⊎◌, Bool, true, false, not, List, [], ◌∷◌, ◌++◌, refl, ap, sym, subst, ◌∙◌, inl, inr, map, arith}
+use Rattle.std.specs.Prelude.{Option, Some, None, ◌==◌, ◌+◌, if◌then◌else◌, ◌&&◌, ◌||◌, slice_get, nat_lt, nat_le}
+use Rattle.std.specs.Option.{option_map}
+use Rattle.std.proofs.lemmas.Bool.Decides.{nat_tests}
+use Rattle.mq_message.specs.declared.message.Ident.{Ident}
+use Rattle.mq_sync.specs.declared.unit.Unit.{Unit as Luw}
+use Rattle.mq_frame.specs.declared.frame.Seen.{Seen}
+use Rattle.mq_calls.specs.declared.deltas.Did.{Did}
+use Rattle.mq_history.specs.declared.acts.Act.TheVariants as acts
+use Rattle.mq_history.specs.declared.calls.Actor.{Actor}
+use Rattle.mq_history.specs.declared.calls.Actor.TheVariants as actors
+use Rattle.mq_history.specs.declared.calls.Call.{Call}
+use Rattle.mq_history.specs.declared.calls.Call.TheVariants as calls
+use Rattle.mq_history.specs.declared.calls.Chance.{Chance}
+use Rattle.mq_history.specs.declared.calls.Chance.TheVariants as chances
+use Rattle.mq_history.specs.declared.calls.Entry.{Entry}
+use Rattle.mq_history.specs.declared.history.History.{History}
+use Rattle.mq_history.specs.declared.scenario.CableLine.{CableLine}
+use Rattle.mq_history.specs.declared.scenario.RulesPart.{RulesPart}
+use Rattle.mq_history.specs.declared.scenario.Scenario.{Scenario}
+use Rattle.mq_history.specs.declared.story.ManagerPlaces.{ManagerPlaces}
+use Rattle.mq_sc_parse.specs.declared.command.Command.TheVariants as lines
+use Rattle.mq_spec_state.specs.State.{Plain, Given, Running}
+use Rattle.mq_spec_state.specs.State.Running.{Up, Down}
+use Rattle.mq_spec_manager.specs.Get.{mqget}
+use Rattle.mq_spec_agents.specs.Standing.{is_unborn}
+use Rattle.mq_spec_node.specs.Node.{Node, Own, Handler, as_sender, as_receiver, end_in, handler_in}
+use Rattle.mq_spec_node.specs.Deeds.{Deed, end_begun}
+use Rattle.mq_spec_node.specs.Happens.{get_deed, trigger_deed, event, IsEvent, IsDeed, where_up, turn_up, timeout_by, sender_turn, receiver_turn, handler_turn, timeout_of}
+use Rattle.mq_spec_node.specs.Replays.{Tells, Follows, NoneForeign, IsOwn, done_by, opening_node}
+use Rattle.mq_spec_network.specs.Apart.{maker}
+use Rattle.mq_spec_network.specs.Conflict.{NoConflict}
+use Rattle.mq_spec_network.specs.Given.{surroundings, ends_from, handlers_from}
+use Rattle.mq_spec_network.specs.Ledger.{Ledger, Users, ledger, posted}
+use Rattle.mq_spec_network.specs.Order.{AllInOrder, AllInOrderFrom, OrderAt, unit_received, forced_in, Forced}
+use Rattle.mq_spec_network.specs.Promised.{Holds, Premises, Promised, AreImages}
+use Rattle.mq_spec_network.specs.Standing.{node_after, managers_at, opening_managers, opening_ledger, opening_ledger_of, places_of}
+use Rattle.mq_spec_network.specs.Story.{Mem, Line, IsStory, part, entries_or, entries_at}
+use Rattle.mq_law_rows.specs.World.{Ghost, Inv}
+use Rattle.mq_law_rows.proofs.Lists.{bool_case, eqb_self, eqb_yes, true_false}
+use Rattle.mq_law_seen.specs.Seen.{world_of, book_of}
+use Rattle.mq_law_seen.specs.Given.{given_by, is_given}
+use Rattle.mq_law_story.specs.Told.{IsTold as IsOperated}
+use Rattle.mq_law_story.proofs.Beginning.{images_have_the_facts}
+use Rattle.mq_law_story.proofs.Promising.{rows_promised, once_promised}
+use Rattle.mq_law_story.proofs.Weaving.{part_append, node_step, manager_at, other_manager, this_manager, ledger_step, story_tells}
+use Rattle.mq_law_manager.specs.Facts.{AreNamed, IsSound, IsFrozen}
+use Rattle.mq_law_manager.proofs.Ending.{first_sound}
+use Rattle.mq_law_events.specs.Tied.{IsTold, IsFresh, IsElse, IsNext}
+use Rattle.mq_law_events.specs.Posting.{IsTimed}
+use Rattle.mq_law_events.proofs.Stepping.{moves_on}
+use Rattle.mq_law_one.specs.Alone.{IsAlone, FindsNone, AllFindNone, NoneFound, AreKnownOnce, IsState, IsAt, Became}
+use Rattle.mq_law_one.proofs.Happening.{entry_of}
+use Rattle.mq_law_one.proofs.Calls.{Happens, conn_happens, disc_happens, open_happens, close_happens, put_happens, put1_happens, get_happens, commit_happens, back_happens}
+use Rattle.mq_law_one.proofs.Acting.{no_deed, turn_none, timeout_none, command_happens, operate_happens, status_happens, crash_happens, restart_happens, aside_happens, clock_happens, trigger_happens}
+use Rattle.mq_law_one.proofs.Deltas.{event_quiet}
+
+-- Each event
+
+happens : (m : ℕ) (given : Ident → Bool) (n : Node) (l : Ledger) (e : Entry) (stamp : ℕ) (actor : Actor) (call : Call) (chance : Chance) (seen : Seen) → IsAt m given n l → IsEvent stamp actor call chance seen n → IsOwn chance → FindsNone chance
+    → Happens m given n l e stamp actor call chance seen
+happens m given n l e stamp actor (calls.Mqconn qmgr appl) (chances.Call choice) seen a can own none = conn_happens m given n l e actor choice qmgr appl a can
+happens m given n l e stamp actor (calls.Mqconn qmgr appl) (chances.Restart choice) seen a can own none = absurd can
+happens m given n l e stamp actor (calls.Mqconn qmgr appl) (chances.Foreign image length left) seen a can own none = absurd can
+happens m given n l e stamp actor (calls.Mqdisc hc) (chances.Call choice) seen a can own none = disc_happens m given n l e actor choice hc a can
+happens m given n l e stamp actor (calls.Mqdisc hc) (chances.Restart choice) seen a can own none = absurd can
+happens m given n l e stamp actor (calls.Mqdisc hc) (chances.Foreign image length left) seen a can own none = absurd can
+happens m given n l e stamp actor (calls.Mqopen hc name qmgr how) (chances.Call choice) seen a can own none = open_happens m given n l e actor choice hc name qmgr how a can
+happens m given n l e stamp actor (calls.Mqopen hc name qmgr how) (chances.Restart choice) seen a can own none = absurd can
+happens m given n l e stamp actor (calls.Mqopen hc name qmgr how) (chances.Foreign image length left) seen a can own none = absurd can
+happens m given n l e stamp actor (calls.Mqclose hc ho) (chances.Call choice) seen a can own none = close_happens m given n l e actor choice hc ho a can
+happens m given n l e stamp actor (calls.Mqclose hc ho) (chances.Restart choice) seen a can own none = absurd can
+happens m given n l e stamp actor (calls.Mqclose hc ho) (chances.Foreign image length left) seen a can own none = absurd can
+happens m given n l e stamp actor (calls.Mqput hc ho md body sync) (chances.Call choice) seen a can own none = put_happens m given n l e actor choice hc ho md body sync a can
+happens m given n l e stamp actor (calls.Mqput hc ho md body sync) (chances.Restart choice) seen a can own none = absurd can
+happens m given n l e stamp actor (calls.Mqput hc ho md body sync) (chances.Foreign image length left) seen a can own none = absurd can
+happens m given n l e stamp actor (calls.Mqput1 hc name qmgr md body sync) (chances.Call choice) seen a can own none = put1_happens m given n l e actor choice hc name qmgr md body sync a can
+happens m given n l e stamp actor (calls.Mqput1 hc name qmgr md body sync) (chances.Restart choice) seen a can own none = absurd can
+happens m given n l e stamp actor (calls.Mqput1 hc name qmgr md body sync) (chances.Foreign image length left) seen a can own none = absurd can
+happens m given n l e stamp actor (calls.Mqget hc ho get until) (chances.Call choice) seen a can own none = get_happens m given n l e actor choice hc ho get until a can
+happens m given n l e stamp actor (calls.Mqget hc ho get until) (chances.Restart choice) seen a can own none = absurd (no_restart (get_deed n.own (mqget hc ho get until n.manager)) can)
+  where
+    no_restart : (d : Option Deed) → IsDeed d (chances.Restart choice) n → ⊥
+    no_restart None z = z
+    no_restart (Some d) z = z
+happens m given n l e stamp actor (calls.Mqget hc ho get until) (chances.Foreign image length left) seen a can own none = absurd own
+happens m given n l e stamp actor (calls.Mqcmit hc) (chances.Call choice) seen a can own none = commit_happens m given n l e actor choice hc a can
+happens m given n l e stamp actor (calls.Mqcmit hc) (chances.Restart choice) seen a can own none = absurd can
+happens m given n l e stamp actor (calls.Mqcmit hc) (chances.Foreign image length left) seen a can own none = absurd can
+happens m given n l e stamp actor (calls.Mqback hc) (chances.Call choice) seen a can own none = back_happens m given n l e actor choice hc a can
+happens m given n l e stamp actor (calls.Mqback hc) (chances.Restart choice) seen a can own none = absurd can
+happens m given n l e stamp actor (calls.Mqback hc) (chances.Foreign image length left) seen a can own none = absurd can
+happens m given n l e stamp actor (calls.Act (acts.Obey (lines.Objects c))) (chances.Call choice) seen a can own none = command_happens m given n l e actor choice c a can
+happens m given n l e stamp actor (calls.Act (acts.Obey (lines.Operate op))) (chances.Call choice) seen a can own none = operate_happens m given n l e actor choice op a can
+happens m given n l e stamp actor (calls.Act (acts.Obey (lines.ShowStatus name any_end))) (chances.Call choice) seen a can own none = status_happens m given n l e actor choice name any_end a can
+happens m given n l e stamp actor (calls.Act (acts.Obey c)) (chances.Restart choice) seen a can own none = absurd can
+happens m given n l e stamp actor (calls.Act (acts.Obey c)) (chances.Foreign image length left) seen a can own none = absurd can
+happens m given n l e stamp actor (calls.Act acts.Crash) chance seen a can own none = crash_happens m given n l e stamp actor chance seen a can
+happens m given n l e stamp actor (calls.Act acts.Restart) chance seen a can own none = restart_happens m given n l e stamp actor chance seen a can own none
+happens m given n l e stamp actor (calls.Act (acts.Cut k)) (chances.Call choice) seen a can own none = aside_happens m given n l n.own n.manager.running (record n.manager.log { armed = k }) a a.ends a.handlers refl
+happens m given n l e stamp actor (calls.Act (acts.Cut k)) (chances.Restart choice) seen a can own none = absurd can
+happens m given n l e stamp actor (calls.Act (acts.Cut k)) (chances.Foreign image length left) seen a can own none = absurd can
+happens m given n l e stamp actor (calls.Act (acts.Clock by_)) (chances.Call choice) seen a can own none = clock_happens m given n l by_ a
+happens m given n l e stamp actor (calls.Act (acts.Clock by_)) (chances.Restart choice) seen a can own none = absurd can
+happens m given n l e stamp actor (calls.Act (acts.Clock by_)) (chances.Foreign image length left) seen a can own none = absurd can
+happens m given n l e stamp actor calls.Turn chance seen a can own none = absurd (no_deed n.manager.running (turn_up stamp actor seen n) chance n (turn_none stamp actor seen n a.ends a.handlers) can)
+happens m given n l e stamp actor calls.Timeout chance seen a can own none = absurd (no_deed n.manager.running (timeout_by actor n) chance n (timeout_none actor n a.ends) can)
+happens m given n l e stamp actor calls.Trigger (chances.Call choice) seen a can own none = trigger_happens m given n l e stamp actor choice seen a can
+happens m given n l e stamp actor calls.Trigger (chances.Restart choice) seen a can own none = absurd (no_restart (trigger_deed n) can)
+  where
+    no_restart : (d : Option Deed) → IsDeed d (chances.Restart choice) n → ⊥
+    no_restart None z = z
+    no_restart (Some d) z = z
+happens m given n l e stamp actor calls.Trigger (chances.Foreign image length left) seen a can own none = absurd own
+
+-- The other managers stay
+
+other_number : (i : Ident) (a m k : ℕ) (t : Bool) → (a == m) ≡ false → k ≡ m + 1 → ((i.manager == a + 1) && t) ≡ true → (i.manager == k) ≡ false
+other_number i a m k t ne e u = grind (arith, nat_tests)
+
+stays_at : (m a : ℕ) (given now : Ident → Bool) (n c : Node) (l k : Ledger) → (a == m) ≡ false → IsAt a given c l → n.manager.given.number ≡ m + 1 → ((i : Ident) → (i.manager == n.manager.given.number) ≡ false → now i ≡ given i) → IsElse m l k → IsAt a now c k
+stays_at m a given now n c l k ne at number known other = record {
+  told = record { places = at.told.places; placed = other.places a ne ∙ at.told.placed; name = at.told.name; definitions = at.told.definitions; users = at.told.users; used = other.users a ne ∙ at.told.used; connections = at.told.connections };
+  fresh = λ i u. known i (other_number i a m n.manager.given.number _ ne number (ap (λ z. (i.manager == z) && (nat_lt c.manager.numbers.incarnation i.incarnation || ((i.incarnation == c.manager.numbers.incarnation) && nat_lt c.manager.numbers.idents i.number))) (sym at.number) ∙ u)) ∙ at.fresh i u;
+  number = at.number;
+  ends = at.ends;
+  handlers = at.handlers;
+  batches = at.batches;
+  timed = record { users = at.timed.users; used = other.users a ne ∙ at.timed.used; moment = at.timed.moment };
+  state = at.state;
+}
+
+-- A prefix
+
+record Stand (s : Scenario) (hs : List History) (p : List Line) : Type 0 where
+  given : Ident → Bool
+  ghost : Ghost
+  calm : (m : ℕ) (c : List ℕ) (u : Luw) → ghost.operated m c u ≡ false
+  inv : Inv (world_of s given (managers_at s p hs)) ghost (book_of (ledger (opening_ledger s hs) p))
+  at : (m : ℕ) (h : History) → slice_get hs m ≡ Some h → IsAt m given (node_after s m p h) (ledger (opening_ledger s hs) p)
+
+mem_part : (m : ℕ) (x : Line) (p rest : List Line) → m ≡ x.manager → Mem x.entry (part m (p ++ x ∷ rest))
+mem_part m x [] rest e = subst (λ t. Mem x.entry (if t then x.entry ∷ part m rest else part m rest)) (sym (ap (λ z. m == z) (sym e) ∙ eqb_self m)) (inl refl)
+mem_part m x (y ∷ p) rest e = bool_case (m == y.manager) (λ t. Mem x.entry (if t then y.entry ∷ part m (p ++ x ∷ rest) else part m (p ++ x ∷ rest))) (λ z. inr (mem_part m x p rest e)) (λ z. mem_part m x p rest e)
+
+-- the history of an entry
+history_of : (hs : List History) (x : Line) (p rest : List Line) → IsStory hs (p ++ x ∷ rest) → (h : History) × (slice_get hs x.manager ≡ Some h) × Mem x.entry h.entries
+history_of hs x p rest story = go (slice_get hs x.manager) refl
+  where
+    there : Mem x.entry (entries_at hs x.manager)
+    there = subst (Mem x.entry) (story.parts x.manager) (mem_part x.manager x p rest refl)
+
+    go : (o : Option History) → slice_get hs x.manager ≡ o → (h : History) × (slice_get hs x.manager ≡ Some h) × Mem x.entry h.entries
+    go None e = absurd (subst (λ o. Mem x.entry (entries_or o)) e there)
+    go (Some h) e = (h, e, subst (λ o. Mem x.entry (entries_or o)) e there)
+
+own_of : (es : List Entry) (e : Entry) → NoneForeign es → Mem e es → IsOwn e.chance
+own_of [] e none n = absurd n
+own_of (x ∷ es) e none (inl z) = subst (λ (y : Entry). IsOwn y.chance) (sym z) none.0
+own_of (x ∷ es) e none (inr n) = own_of es e none.1 n
+
+found_of : (es : List Entry) (e : Entry) → AllFindNone es → Mem e es → FindsNone e.chance
+found_of [] e none n = absurd n
+found_of (x ∷ es) e none (inl z) = subst (λ (y : Entry). FindsNone y.chance) (sym z) none.0
+found_of (x ∷ es) e none (inr n) = found_of es e none.1 n
+
+-- an entry of the prefix, and its event
+record Told_ (s : Scenario) (hs : List History) (p : List Line) (x : Line) : Type 0 where
+  h : History
+  is : slice_get hs x.manager ≡ Some h
+  stamp : ℕ
+  tells : Tells (node_after s x.manager p h) stamp x.entry
+  own : IsOwn x.entry.chance
+  none : FindsNone x.entry.chance
+
+told_of : (s : Scenario) (hs : List History) (p : List Line) (x : Line) (rest : List Line) → Premises s hs → NoneFound hs → IsStory hs (p ++ x ∷ rest) → Told_ s hs p x
+told_of s hs p x rest premises found story =
+    let k = history_of hs x p rest story in
+    let t = story_tells s hs p x rest k.0 story k.1 (premises.lawful.histories x.manager k.0 k.1).replays.follows in
+    record { h = k.0; is = k.1; stamp = t.0; tells = t.1; own = own_of k.0.entries x.entry (premises.own x.manager k.0 k.1) k.2; none = found_of k.0.entries x.entry (found x.manager k.0 k.1) k.2 }
+
+step : (s : Scenario) (hs : List History) (p : List Line) (x : Line) → Stand s hs p → Told_ s hs p x → Stand s hs (p ++ x ∷ [])
+step s hs p x z t =
+    let m : ℕ = x.manager in
+    let n : Node = node_after s m p t.h in
+    let l : Ledger = ledger (opening_ledger s hs) p in
+    let e : Entry = x.entry in
+    let next : Node = (done_by e n).next in
+    let a = z.at m t.h t.is in
+    let k : Ledger = posted m e e.reply l in
+    let b : Became m z.given n l next k = subst (λ y. Became m z.given n l next y) (λ i. posted m (entry_of e e.call e.chance (sym t.tells.reply i) (sym t.tells.delta i) (sym t.tells.received i)) (sym t.tells.reply i) l)
+    (happens m z.given n l e e.stamp e.actor e.call e.chance e.effect.popped a t.tells.event t.own t.none) in
+    let whole : k ≡ ledger (opening_ledger s hs) (p ++ x ∷ []) = sym (ledger_step (opening_ledger s hs) p x) in
+    let at_next : IsNext m n.manager next.manager (managers_at s p hs) (managers_at s (p ++ x ∷ []) hs) = record {
+      at = manager_at s p hs m ∙ ap (option_map (λ (h : History). (node_after s m p h).manager)) t.is;
+      to = this_manager s p x hs t.h t.is;
+      others = λ c ne. other_manager s p x hs c ne;
+    } in
+    let r = moves_on s z.given b.now m n.manager next.manager (managers_at s p hs) (managers_at s (p ++ x ∷ []) hs) l k z.ghost at_next a.told b.leads b.same b.at.told b.other z.inv in
+    record {
+      given = b.now;
+      ghost = record { sent = z.ghost.sent; source = z.ghost.source; operated = z.ghost.operated; owner = r.owner };
+      calm = z.calm;
+      inv = subst (λ y. Inv (world_of s b.now (managers_at s (p ++ x ∷ []) hs)) (record { sent = z.ghost.sent; source = z.ghost.source; operated = z.ghost.operated; owner = r.owner }) (book_of y)) whole r.inv;
+      at = λ c h is. subst (λ y. IsAt c b.now (node_after s c (p ++ x ∷ []) h) y) whole (go c h is b (c == m) refl);
+    }
+  where
+    go : (c : ℕ) (h : History) → slice_get hs c ≡ Some h → (b : Became x.manager z.given (node_after s x.manager p t.h) (ledger (opening_ledger s hs) p) (done_by x.entry (node_after s x.manager p t.h)).next (posted x.manager x.entry x.entry.reply (ledger (opening_ledger s hs) p)))
+        → (v : Bool) → (c == x.manager) ≡ v → IsAt c b.now (node_after s c (p ++ x ∷ []) h) (posted x.manager x.entry x.entry.reply (ledger (opening_ledger s hs) p))
+    go c h is b true v =
+        let same : c ≡ x.manager = eqb_yes c x.manager v in
+        let here : h ≡ t.h = some_same h t.h (sym is ∙ ap (slice_get hs) same ∙ t.is) in
+        subst (λ (y : Node). IsAt c b.now y (posted x.manager x.entry x.entry.reply (ledger (opening_ledger s hs) p)))
+        (sym (node_step s c p x h ∙ ap (λ w. if w then (done_by x.entry (node_after s c p h)).next else node_after s c p h) v ∙ (λ i. (done_by x.entry (node_after s (same i) p (here i))).next)))
+        (subst (λ w. IsAt w b.now (done_by x.entry (node_after s x.manager p t.h)).next (posted x.manager x.entry x.entry.reply (ledger (opening_ledger s hs) p))) (sym same) b.at)
+      where
+        some_same : (h k : History) → Some h ≡ Some k → h ≡ k
+        some_same h k e = cc
+    go c h is b false v =
+        subst (λ (y : Node). IsAt c b.now y (posted x.manager x.entry x.entry.reply (ledger (opening_ledger s hs) p)))
+        (sym (node_step s c p x h ∙ ap (λ w. if w then (done_by x.entry (node_after s c p h)).next else node_after s c p h) v))
+        (stays_at x.manager c z.given b.now (node_after s x.manager p t.h) (node_after s c p h) (ledger (opening_ledger s hs) p) (posted x.manager x.entry x.entry.reply (ledger (opening_ledger s hs) p)) v (z.at c h is) (z.at x.manager t.h t.is).number b.known b.other)
+
+-- The beginning
+
+mapped_at : {A B : Type 0} (f : A → B) (xs : List A) (m : ℕ) (x : A) → slice_get xs m ≡ Some x → slice_get (map f xs) m ≡ Some (f x)
+mapped_at f [] m x e = absurd cc
+mapped_at f (y ∷ xs) zero x e = let same : y ≡ x = cc in ap (λ z. Some (f z)) same
+mapped_at f (y ∷ xs) (suc m) x e = mapped_at f xs m x e
+
+not_given : (i : Ident) (m n : ℕ) → ((i.manager == m) && (nat_lt n i.incarnation || ((i.incarnation == n) && nat_lt 0 i.number))) ≡ true → (nat_lt i.incarnation n || (i.incarnation == n && nat_le i.number 0)) ≡ false
+not_given i m n e = grind (arith, nat_tests)
+
+is_maker : (i : Ident) (m : ℕ) (t : Bool) → ((i.manager == m + 1) && t) ≡ true → i.manager ≡ suc m
+is_maker i m t e = grind (arith, nat_tests)
+
+begins : (s : Scenario) (hs : List History) → IsAlone s → AreKnownOnce hs → Premises s hs → Stand s hs []
+begins s hs alone known premises =
+    let ps : List Plain = opening_managers s hs in
+    record {
+      given = is_given ps;
+      ghost = _;
+      calm = λ m c u. refl;
+      inv = images_have_the_facts s hs premises.openings premises.joined.together;
+      at = λ m h is.
+          let n : Node = opening_node (surroundings s m) h in
+          let p : Plain = n.manager in
+          let at : slice_get ps m ≡ Some p = manager_at s [] hs m ∙ ap (option_map (λ (h : History). (node_after s m [] h).manager)) is in
+          record {
+            told = record {
+              places = places_of s ps p;
+              placed = mapped_at (places_of s ps) ps m p at;
+              name = refl;
+              definitions = refl;
+              users = record { moment = p.moment; connections = []; cut = None };
+              used = mapped_at (λ (p : Plain). record { moment = p.moment; connections = []; cut = None }) ps m p at;
+              connections = refl;
+            };
+            fresh = λ i u. ap (λ k. given_by (maker ps k) i) (is_maker i m _ u) ∙ ap (λ o. given_by o i) at ∙ not_given i (m + 1) p.numbers.incarnation u;
+            number = refl;
+            ends = ap (λ cs. map (end_begun p) (ends_from s m 0 cs)) alone.cables;
+            handlers = ap (λ rs. map (λ (h : Handler). record h { tried = [] }) (handlers_from m 0 rs)) alone.rules;
+            batches = refl;
+            timed = record { users = record { moment = p.moment; connections = []; cut = None }; used = mapped_at (λ (p : Plain). record { moment = p.moment; connections = []; cut = None }) ps m p at; moment = refl };
+            state = first_sound (surroundings s m).given h.opening h.length h.moment (premises.openings m h is) (known.known m h is) (known.once m h is);
+          };
+    }
+
+-- All prefixes
+
+one_more : {A : Type 0} (xs : List A) (y : A) (ys : List A) → (xs ++ y ∷ []) ++ ys ≡ xs ++ y ∷ ys
+one_more [] y ys = refl
+one_more (x ∷ xs) y ys = ap (λ zs. x ∷ zs) (one_more xs y ys)
+
+appended : {A : Type 0} (xs ys zs : List A) → (xs ++ ys) ++ zs ≡ xs ++ (ys ++ zs)
+appended [] ys zs = refl
+appended (x ∷ xs) ys zs = ap (λ ws. x ∷ ws) (appended xs ys zs)
+
+none_more : {A : Type 0} (xs : List A) → xs ++ [] ≡ xs
+none_more [] = refl
+none_more (x ∷ xs) = ap (λ ys. x ∷ ys) (none_more xs)
+
+stands : (s : Scenario) (hs : List History) (before p rest : List Line) → Premises s hs → NoneFound hs → IsStory hs (before ++ (p ++ rest)) → Stand s hs before → Stand s hs (before ++ p)
+stands s hs before [] rest premises found story z = subst (Stand s hs) (sym (none_more before)) z
+stands s hs before (x ∷ p) rest premises found story z =
+    let t = told_of s hs before x (p ++ rest) premises found story in
+    subst (Stand s hs) (one_more before x p)
+    (stands s hs (before ++ x ∷ []) p rest premises found (subst (IsStory hs) (sym (one_more before x (p ++ rest))) story) (step s hs before x z t))
+
+-- no receiver commits
+orders : (s : Scenario) (hs : List History) (before p rest : List Line) (fs : List Forced) → Premises s hs → NoneFound hs → IsStory hs (before ++ (p ++ rest)) → Stand s hs before → AllInOrderFrom fs (ledger (opening_ledger s hs) before) p
+orders s hs before [] rest fs premises found story z = tt
+orders s hs before (x ∷ p) rest fs premises found story z =
+    let t = told_of s hs before x (p ++ rest) premises found story in
+    let n : Node = node_after s x.manager before t.h in
+    let l : Ledger = ledger (opening_ledger s hs) before in
+    let a = z.at x.manager t.h t.is in
+    let quiet : unit_received x.entry.effect.delta ≡ None = ap unit_received t.tells.delta ∙ event_quiet n x.entry.stamp x.entry.actor x.entry.call x.entry.chance x.entry.effect.popped a.ends a.handlers t.tells.event t.own t.none in (
+      subst (λ o. OrderAt o fs x l (posted x.manager x.entry x.entry.reply l)) (sym quiet) tt,
+      subst (λ y. AllInOrderFrom (forced_in x.entry fs) y p) (ledger_step (opening_ledger s hs) before x)
+          (orders s hs (before ++ x ∷ []) p rest (forced_in x.entry fs) premises found (subst (IsStory hs) (sym (one_more before x (p ++ rest))) story) (step s hs before x z t)),
+    )
+
+named : (r : Running) (p : Plain) → IsState r p → AreNamed p.queues
+named Up p h = h.named
+named (Down noted starts) p h = h.named
+
+pub promised : (s : Scenario) (hs : List History) → IsAlone s → NoneFound hs → AreKnownOnce hs → Promised s hs
+promised s hs alone found known premises story p rest is_story split no_conflict =
+    let whole : IsStory hs (p ++ rest) = subst (IsStory hs) split is_story in
+    let first : Stand s hs [] = begins s hs alone known premises in
+    let z : Stand s hs p = stands s hs [] p rest premises found whole first in
+    let operated : IsOperated s hs p z.ghost = record { resolved = λ m c u e. absurd (true_false (sym e ∙ z.calm m c u)); not_yet = λ m c u e. absurd (true_false (sym e ∙ z.calm m c u)) } in
+    record {
+      rows = rows_promised s hs p z.given z.ghost z.inv no_conflict operated;
+      once = once_promised s z.given (managers_at s p hs) z.ghost (book_of (ledger (opening_ledger s hs) p)) z.inv (λ m q e. at_manager z m q (slice_get hs m) refl (sym (manager_at s p hs m) ∙ e));
+      got_once = z.inv.got_once;
+      order = orders s hs [] p rest [] premises found whole first;
+    }
+  where
+    at_manager : Stand s hs p → (m : ℕ) (q : Plain) (o : Option History) → slice_get hs m ≡ o → option_map (λ (h : History). (node_after s m p h).manager) o ≡ Some q → AreNamed q.queues
+    at_manager z m q None e w = absurd cc
+    at_manager z m q (Some h) e w = let same : (node_after s m p h).manager ≡ q = cc in subst (λ (x : Plain). AreNamed x.queues) same (named (node_after s m p h).manager.running (node_after s m p h).manager (z.at m h e).state)
