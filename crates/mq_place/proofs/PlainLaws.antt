@@ -1,5 +1,5 @@
 -- What the calls do to the local queues as the plain manager sees them.
-use Rattle.std.proofs.Common.{◌≡◌, ℕ, Bool, true, false, cond, List, [], ◌∷◌, ◌++◌, refl, sym, ap, subst, ◌∙◌, arith}
+use Rattle.std.proofs.Common.{◌≡◌, ℕ, Bool, true, false, cond, List, [], ◌∷◌, ◌++◌, refl, sym, ap, ◌∙◌, arith}
 use Rattle.std.specs.Prelude.{Option, Some, None, map, not, filter}
 use Rattle.std.specs.Str.{bytes_eq}
 use Rattle.mq_message.specs.declared.message.Message.{Message}
@@ -7,7 +7,7 @@ use Rattle.mq_queue.specs.Queues.{lane_of}
 use Rattle.mq_spec_state.specs.State.{Queue, fresh_queue}
 use Rattle.mq_spec_state.specs.Reads.{queue_in}
 use Rattle.mq_spec_state.specs.Changes.{set_queue, placed_in}
-use Rattle.mq_place.specs.States.{QueueState, has_name, state_in, or_fresh, state_or, change_state, on_queue, on_queues, queues_of, fresh_state, without_state, expecting, unpended, arrived}
+use Rattle.mq_place.specs.States.{QueueState, has_name, state_in, or_fresh, change_state, on_queue, on_queues, queues_of, fresh_state, without_state, expecting, unpended, arrived}
 use Rattle.mq_place.proofs.NameLaws.{name_is}
 use Rattle.mq_place.proofs.StateLaws.{queue_of_state_in}
 

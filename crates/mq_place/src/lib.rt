@@ -2,10 +2,12 @@
 #![tactic(auto)]
 
 mod homes;
+mod laws;
 mod local;
 mod named;
 mod queues;
 mod slots;
 
+pub use laws::calls_are_changes;
 pub use local::LocalRows;
 pub use queues::Queues;

@@ -1,5 +1,5 @@
-use Rattle.std.proofs.Common.{◌≡◌, sym, ap, ◌∙◌}
-use Rattle.std.specs.Prelude.{Option, Some, None, filter, option_to_list}
+use Rattle.std.proofs.Common.{sym, ap, ◌∙◌}
+use Rattle.std.specs.Prelude.{Option, filter, option_to_list}
 use Rattle.mq_message.specs.declared.place.Place.{Place}
 use Rattle.mq_queue.specs.declared.row.Row.{Row}
 use Rattle.mq_spec_manager.specs.Get.{is_at}

@@ -1,9 +1,8 @@
-use Rattle.std.proofs.Common.{◌≡◌, List, sym, ap, ◌∙◌}
-use Rattle.std.specs.Prelude.{map, ◌++◌, filter}
-use Rattle.mq_queue.specs.declared.row.Row.{Row}
-use Rattle.mq_spec_manager.specs.Get.{Scan, any_id, is_at}
+use Rattle.std.proofs.Common.{sym, ap, ◌∙◌}
+use Rattle.std.specs.Prelude.{map, ◌++◌}
+use Rattle.mq_spec_manager.specs.Get.{Scan, any_id}
 use Rattle.mq_place.specs.States.{rows_after}
-use Rattle.mq_scan.specs.Scans.{met_of, start_of}
+use Rattle.mq_scan.specs.Scans.{met_of}
 use Rattle.mq_scan.proofs.ScanLaws.{told, asked_under, asked_ids, under_looked, start_looked, if_ok, on_ok}
 use Rattle.mq_scan.proofs.scanning.scan.Goals as goal
 

@@ -1,6 +1,5 @@
-use Rattle.std.proofs.Common.{◌≡◌, ◌+◌, ◌<◌, ◌≤◌, List, [], refl, sym, ap, length, ◌∙◌, arith}
-use Rattle.std.specs.Prelude.{Option, Some}
-use Rattle.mq_queue.specs.declared.row.Row.{Row}
+use Rattle.std.proofs.Common.{refl, sym, ap, ◌∙◌, arith}
+use Rattle.std.specs.Prelude.{Some}
 use Rattle.mq_queue.specs.Rows.{is_after}
 use Rattle.mq_queue.proofs.QueueLaws.{length_kept}
 use Rattle.mq_spec_manager.specs.Get.{Scan}

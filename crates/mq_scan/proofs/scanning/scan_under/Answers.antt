@@ -1,9 +1,8 @@
-use Rattle.std.proofs.Common.{◌≡◌, List, sym, ap, subst, ◌∙◌}
+use Rattle.std.proofs.Common.{◌≡◌, List, ap, subst}
 use Rattle.std.specs.Prelude.{IfOk, OnOk, map, option_copied, ◌++◌}
 use Rattle.mq_queue.specs.declared.row.Row.{Row}
 use Rattle.mq_spec_manager.specs.Get.{any_id}
 use Rattle.mq_scan.specs.Scans.{scanned_at, met_of}
-use Rattle.mq_scan.proofs.ScanLaws.{met_all}
 use Rattle.mq_scan.proofs.scanning.scan_under.Goals as goal
 
 pub returns-in-None-clause-found : goal.returns-in-None-clause-found
