@@ -3,7 +3,7 @@ ghost use Rattle.std.specs.Prelude.{◌≡◌, ◌==◌, ◌+◌, ◌^◌, ◌<�
 ghost use Rattle.mq_spec_state.specs.Words.{Connection, connection_at, any_handle, has_step, change_connection, made_stale, unit_need};
 ghost use Rattle.mq_spec_manager.specs.Handles.{new_handle};
 ghost use Rattle.mq_unit.specs.Forced.{IsEnded};
-ghost use Rattle.mq_handles.specs.Rising.{has_number};
+ghost use Rattle.mq_handles.specs.Rising.{AreRising, connection_number, has_number};
 ghost use Rattle.mq_handles.specs.Seats.{connection_of, opened, closed, cursor_set, pended, emptied};
 ghost use Rattle.mq_handles.specs.Users.{reads_from, reads_alone_from};
 
@@ -60,7 +60,8 @@ impl Live {
 
     /// The live connection of a number.
     pub fn get(&self, number: u64) -> Option<&Seat>
-        ensures { option_copied result ≡ connection_at number self.now.live }
+        ensures found { option_copied result ≡ connection_at number self.now.live }
+        ensures rising { AreRising connection_number self.now.live }
     {
         match self.place_of(number) {
             None => None,

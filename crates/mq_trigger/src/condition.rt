@@ -1,9 +1,9 @@
 //! The condition of a trigger, tried once for a message that a commit has placed.
-ghost use Rattle.std.specs.Prelude.{◌≡◌, ◌||◌};
+ghost use Rattle.std.specs.Prelude.{◌≡◌};
 ghost use Rattle.mq_queue.specs.Rows.{has_priority};
 ghost use Rattle.mq_objects.specs.Names.{local_of};
-ghost use Rattle.mq_spec_state.specs.Words.{Plain, is_triggered, by_type, is_served, is_open_for_input, is_long_ago, is_depth, read_by_sender};
-ghost use Rattle.mq_trigger.specs.Seen.{IsSeen};
+ghost use Rattle.mq_spec_state.specs.Words.{Plain, is_triggered, is_long_ago, is_depth};
+ghost use Rattle.mq_trigger.specs.Seen.{IsSeen, is_sent_from, is_open, due_by_type, served_in, is_due};
 
 use mq_calls::Seizure;
 use mq_handles::Live;
@@ -52,31 +52,38 @@ fn is_long_ago(interval: u64, moment: u64, last: Option<u64>) -> bool
 }
 
 fn is_sent_from(seizures: &[Seizure], queue: &QName) -> bool
-    ensures { (p : Plain) → p.channels.seizures ≡ seizures.now → result ≡ read_by_sender queue.now p }
+    ensures { result ≡ is_sent_from queue.now seizures.now }
 {
-    seizures.iter().any(|seizure| queue.text() == seizure.queue.text())
+    seizures
+        .iter()
+        .any(|seizure| queue.text() == seizure.queue.text())
 }
 
 /// A handle or a running sender has the queue open for input.
-fn is_open_for_input(live: &Live, seizures: &[Seizure], queue: &QName) -> bool
-    ensures { (p : Plain) → p.connections ≡ live.now.live → p.channels.seizures ≡ seizures.now → result ≡ is_open_for_input queue.now p }
+fn is_open(live: &Live, seizures: &[Seizure], queue: &QName) -> bool
+    ensures { result ≡ is_open queue.now live.now.live seizures.now }
 {
     live.is_read(queue) || is_sent_from(seizures, queue)
 }
 
-fn is_due_by_type(defs: &Defs, live: &Live, seizures: &[Seizure], local: &LocalQueue, tried: &Tried) -> bool
-    ensures { (p : Plain) → IsSeen defs.now.definitions live.now.live seizures.now local.now tried.now p → result ≡ by_type local.now.trigger_type local.now p }
+fn is_due_by_type(
+    defs: &Defs,
+    live: &Live,
+    seizures: &[Seizure],
+    local: &LocalQueue,
+    tried: &Tried,
+) -> bool
+    ensures { result ≡ due_by_type local.now.trigger_type defs.now.definitions live.now.live seizures.now local.now tried.now }
 {
     match local.trigger_type {
         TriggerType::First => {
             let interval = defs.manager().trigger_interval as u64;
             (tried.waiting == 1 || is_long_ago(interval, tried.moment, tried.last_due))
-                && !is_open_for_input(live, seizures, &local.name)
+                && !is_open(live, seizures, &local.name)
         }
         TriggerType::Every => true,
         TriggerType::Depth => {
-            local.trigger_depth as u64 <= tried.waiting
-                && !is_open_for_input(live, seizures, &local.name)
+            local.trigger_depth as u64 <= tried.waiting && !is_open(live, seizures, &local.name)
         }
         TriggerType::Never => false,
     }
@@ -84,7 +91,7 @@ fn is_due_by_type(defs: &Defs, live: &Live, seizures: &[Seizure], local: &LocalQ
 
 /// INITQ is an ordinary local queue that may be read, and a handle reads it.
 fn is_served(defs: &Defs, live: &Live, name: &QName) -> bool
-    ensures { (p : Plain) → p.connections ≡ live.now.live → result ≡ is_served (local_of name.now defs.now.definitions) p }
+    ensures { result ≡ served_in (local_of name.now defs.now.definitions) live.now.live }
 {
     match defs.local(name) {
         None => false,
@@ -94,10 +101,8 @@ fn is_served(defs: &Defs, live: &Live, name: &QName) -> bool
     }
 }
 
-/// Whether a trigger of a local queue becomes due for a message that was placed on it: it has TRIGGER and does not count
-/// as NOTRIGGER, the message has at least TRIGMPRI, TRIGTYPE says so, INITQ is served, and PROCESS is defined.
-pub fn is_triggered(defs: &Defs, live: &Live, seizures: &[Seizure], local: &LocalQueue, tried: &Tried) -> bool
-    ensures { (p : Plain) → IsSeen defs.now.definitions live.now.live seizures.now local.now tried.now p → result ≡ is_triggered local.now tried.now.priority p }
+fn is_due(defs: &Defs, live: &Live, seizures: &[Seizure], local: &LocalQueue, tried: &Tried) -> bool
+    ensures { result ≡ is_due defs.now.definitions live.now.live seizures.now local.now tried.now }
 {
     local.trigger
         && !tried.switched_off
@@ -105,4 +110,18 @@ pub fn is_triggered(defs: &Defs, live: &Live, seizures: &[Seizure], local: &Loca
         && is_due_by_type(defs, live, seizures, local, tried)
         && is_served(defs, live, &local.initiation_queue)
         && defs.process(&local.process).is_some()
+}
+
+/// Whether a trigger of a local queue becomes due for a message that was placed on it: it has TRIGGER and does not count
+/// as NOTRIGGER, the message has at least TRIGMPRI, TRIGTYPE says so, INITQ is served, and PROCESS is defined.
+pub fn is_triggered(
+    defs: &Defs,
+    live: &Live,
+    seizures: &[Seizure],
+    local: &LocalQueue,
+    tried: &Tried,
+) -> bool
+    ensures { (p : Plain) → IsSeen defs.now.definitions live.now.live seizures.now local.now tried.now p → result ≡ is_triggered local.now tried.now.priority p }
+{
+    is_due(defs, live, seizures, local, tried)
 }

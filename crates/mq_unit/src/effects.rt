@@ -1,6 +1,6 @@
 //! What a call did, told into room that was taken before.
 
-ghost use Rattle.std.specs.Prelude.{◌≡◌, ◌<◌, ◌≤◌, [], ◌++◌, length, OnOk, OnErr};
+ghost use Rattle.std.specs.Prelude.{◌≡◌, ◌+◌, ◌<◌, ◌≤◌, [], ◌++◌, length, OnOk, OnErr};
 ghost use Rattle.std.specs.List.{flat_map};
 ghost use Rattle.mq_spec_manager.specs.Units.{removed_item, placed_did, released_did};
 ghost use Rattle.mq_unit.specs.Told.{told, told_all};
@@ -150,6 +150,14 @@ impl Effects {
                 ident: *ident,
             });
         }
+    }
+
+    /// Nothing is told, and its room is there again. It takes no memory.
+    pub fn clear(&mut self)
+        ensures { self.new ≡ record { dids = []; room = self.old.room + length self.old.dids } }
+    {
+        self.room += self.dids.len();
+        self.dids.clear();
     }
 
     /// What is told, in order.
