@@ -50,7 +50,7 @@ use Rattle.mq_law_manager.proofs.Ending.{first_sound}
 use Rattle.mq_law_events.specs.Tied.{IsTold, IsFresh, IsElse, IsNext}
 use Rattle.mq_law_events.specs.Posting.{IsTimed}
 use Rattle.mq_law_events.proofs.Stepping.{moves_on}
-use Rattle.mq_law_one.specs.Alone.{IsAlone, FindsNone, AllFindNone, NoneFound, AreKnownOnce, IsState, IsAt, Became}
+use Rattle.mq_law_one.specs.Alone.{IsAlone, FindsNone, AllFindNone, NoneFound, AreKnownWell, IsState, IsAt, Became}
 use Rattle.mq_law_one.proofs.Happening.{entry_of}
 use Rattle.mq_law_one.proofs.Calls.{Happens, conn_happens, disc_happens, open_happens, close_happens, put_happens, put1_happens, get_happens, commit_happens, back_happens}
 use Rattle.mq_law_one.proofs.Acting.{no_deed, turn_none, timeout_none, command_happens, operate_happens, status_happens, crash_happens, restart_happens, aside_happens, clock_happens, trigger_happens}
@@ -235,7 +235,7 @@ not_given i m n e = grind (arith, nat_tests)
 is_maker : (i : Ident) (m : ℕ) (t : Bool) → ((i.manager == m + 1) && t) ≡ true → i.manager ≡ suc m
 is_maker i m t e = grind (arith, nat_tests)
 
-begins : (s : Scenario) (hs : List History) → IsAlone s → AreKnownOnce hs → Premises s hs → Stand s hs []
+begins : (s : Scenario) (hs : List History) → IsAlone s → AreKnownWell hs → Premises s hs → Stand s hs []
 begins s hs alone known premises =
     let ps : List Plain = opening_managers s hs in
     record {
@@ -263,7 +263,7 @@ begins s hs alone known premises =
             handlers = ap (λ rs. map (λ (h : Handler). record h { tried = [] }) (handlers_from m 0 rs)) alone.rules;
             batches = refl;
             timed = record { users = record { moment = p.moment; connections = []; cut = None }; used = mapped_at (λ (p : Plain). record { moment = p.moment; connections = []; cut = None }) ps m p at; moment = refl };
-            state = first_sound (surroundings s m).given h.opening h.length h.moment (premises.openings m h is) (known.known m h is) (known.once m h is);
+            state = first_sound (surroundings s m).given h.opening h.length h.moment (premises.openings m h is) (known m h is);
           };
     }
 
@@ -306,7 +306,7 @@ named : (r : Running) (p : Plain) → IsState r p → AreNamed p.queues
 named Up p h = h.named
 named (Down noted starts) p h = h.named
 
-pub promised : (s : Scenario) (hs : List History) → IsAlone s → NoneFound hs → AreKnownOnce hs → Promised s hs
+pub promised : (s : Scenario) (hs : List History) → IsAlone s → NoneFound hs → AreKnownWell hs → Promised s hs
 promised s hs alone found known premises story p rest is_story split no_conflict =
     let whole : IsStory hs (p ++ rest) = subst (IsStory hs) split is_story in
     let first : Stand s hs [] = begins s hs alone known premises in
