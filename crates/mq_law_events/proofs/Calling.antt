@@ -101,7 +101,7 @@ calm_follows m given p q l f t c d = record {
   leads = calm_leads m given p q (sheet_of m l) c;
   fresh = fresh_calm given p q c.given c.incarnation c.idents f;
   known = λ i e. refl;
-  told = record { places = t.places; placed = t.placed; name = t.name ∙ ap (λ (g : Given). g.name) (sym c.given); definitions = t.definitions ∙ sym d; users = t.users; used = t.used; connections = t.connections ∙ sym c.told };
+  told = record { places = t.places; placed = t.placed; shelved = t.shelved; name = t.name ∙ ap (λ (g : Given). g.name) (sym c.given); definitions = t.definitions ∙ sym d; users = t.users; used = t.used; connections = t.connections ∙ sym c.told };
   same = record { given = c.given; senders = ap (λ (x : Channels). x.senders) c.channels; receivers = ap (λ (x : Channels). x.receivers) c.channels; batches = ap (λ (x : Channels). x.batches) c.channels };
   steady = c.moment;
   other = else_none m l;
@@ -125,6 +125,7 @@ connection_follows m given p l hc f g fresh t number unit told =
       told = record {
         places = t.places;
         placed = t.placed;
+        shelved = t.shelved;
         name = t.name;
         definitions = t.definitions;
         users = record t.users { connections = change_connection hc.number g t.users.connections };
@@ -190,6 +191,7 @@ connect_follows m given p l appl f t =
       told = record {
         places = t.places;
         placed = t.placed;
+        shelved = t.shelved;
         name = t.name;
         definitions = t.definitions;
         users = add t.users;
@@ -308,6 +310,7 @@ objects_follow m given p l c planned f t d is =
       told = record {
         places = redefined new t.places;
         placed = here_changed m (redefined new) l.places t.places t.placed;
+        shelved = t.shelved;
         name = t.name ∙ ap (λ (g : Given). g.name) (sym calm.given);
         definitions = ap new t.definitions ∙ accepted c p.given.name p.definitions (uses_of p) planned is ∙ sym e.1;
         users = t.users;
@@ -349,6 +352,7 @@ shown_follow m given p l c s f t is =
       told = record {
         places = redefined new t.places;
         placed = here_changed m (redefined new) l.places t.places t.placed;
+        shelved = t.shelved;
         name = t.name;
         definitions = ap new t.definitions ∙ shown_same c p.given.name p.definitions (uses_of p) s is;
         users = t.users;

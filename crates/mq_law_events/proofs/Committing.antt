@@ -153,7 +153,7 @@ items_told_on m (Take q i lasting ∷ items) p l t =
     let j : Ledger = record l { got = i ∷ l.got } in
     let b : Bool = is_placed_at i (places_at m j) in
     let e = take_else b m i j in
-    let r = items_told_on m items p (take_got m i l) (take_told b m i p j (record { places = t.places; placed = t.placed; name = t.name; definitions = t.definitions; users = t.users; used = t.used; connections = t.connections })) in
+    let r = items_told_on m items p (take_got m i l) (take_told b m i p j (record { places = t.places; placed = t.placed; shelved = t.shelved; name = t.name; definitions = t.definitions; users = t.users; used = t.used; connections = t.connections })) in
     (r.0, else_then m l (take_got m i l) _ (record { places = e.places; users = e.users }) r.1, r.2 ∙ taken_users b m i j)
 
 pub gots_told : (xs : List Item) → got_idents (items_told xs) ≡ got_idents xs
@@ -239,6 +239,7 @@ pub ended_told : (m : ℕ) (p : Plain) (l : Ledger) (hc : Hconn) → IsTold m p 
 ended_told m p l hc t = record {
   places = t.places;
   placed = t.placed;
+  shelved = t.shelved;
   name = t.name;
   definitions = t.definitions;
   users = record t.users { connections = change_connection hc.number unit_ended t.users.connections };

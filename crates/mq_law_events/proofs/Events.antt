@@ -140,7 +140,7 @@ fresh_logged given (Some r) p f = f
 
 pub told_logged : (m : ℕ) (r : Option LogRecord) (p : Plain) (l : Ledger) → IsTold m p l → IsTold m (logged r p) l
 told_logged m None p l t = t
-told_logged m (Some r) p l t = record { places = t.places; placed = t.placed; name = t.name; definitions = t.definitions; users = t.users; used = t.used; connections = t.connections }
+told_logged m (Some r) p l t = record { places = t.places; placed = t.placed; shelved = t.shelved; name = t.name; definitions = t.definitions; users = t.users; used = t.used; connections = t.connections }
 
 pub from_logged : (m : ℕ) (given : Ident → Bool) (r : Option LogRecord) (p q : Plain) (l k : Ledger) → Follow m given (logged r p) l q k → Follow m given p l q k
 from_logged m given None p q l k f = f

@@ -68,6 +68,7 @@ disconnect_follows m given p l hc f t none =
       told = record {
         places = t.places;
         placed = t.placed;
+        shelved = t.shelved;
         name = t.name;
         definitions = t.definitions;
         users = less hc.number t.users;

@@ -35,10 +35,9 @@ use Rattle.mq_law_rows.proofs.Holding.{only_one}
 use Rattle.mq_law_seen.proofs.Bridges.{takes_from}
 use Rattle.mq_law_manager.specs.Seen.{row_for}
 use Rattle.mq_law_events.specs.Local.{Side, Sheet, local, page, with_owner, Moved, Leads, side_of, sheet_of}
-use Rattle.mq_law_events.specs.Tied.{IsTold, IsFresh, IsElse, Follow}
-use Rattle.mq_law_events.specs.Posting.{AreShelved}
+use Rattle.mq_law_events.specs.Tied.{AreShelved, IsTold, IsFresh, IsElse, Follow}
 use Rattle.mq_law_events.proofs.Locals.{with_row, without, left_by, row_moves_leads}
-use Rattle.mq_law_events.proofs.Telling.{here_changed, else_places, else_then}
+use Rattle.mq_law_events.proofs.Telling.{left_shelved, here_changed, else_places, else_then}
 use Rattle.mq_law_events.proofs.Putting.{rows_after, IsBeside, placed_rows, placed_beside, place_sheet, place_told, same_users, unborn_by}
 use Rattle.mq_law_events.proofs.Taking.{told_beside}
 use Rattle.mq_law_events.proofs.Committing.{beside_then}
@@ -145,7 +144,7 @@ bare_told : (bare : Bool) (m : Message) → message_told (bare_if bare m) ≡ ba
 bare_told true m = refl
 bare_told false m = refl
 
-bare_ident : (bare : Bool) (m : Message) → (bare_if bare m).ident ≡ m.ident
+pub bare_ident : (bare : Bool) (m : Message) → (bare_if bare m).ident ≡ m.ident
 bare_ident true m = refl
 bare_ident false m = refl
 
@@ -215,7 +214,7 @@ move_told m p r l to bare (Some row) t b = go (resolved_at m to.queue to.qmgr l)
     go (Ok route) =
         let i : Ident = (bare_if bare row.message).ident in
         let f : ManagerPlaces → ManagerPlaces = λ p. record p { queues = leave_queues (λ (row : Row). not (has_ident i row)) p.queues } in
-        let t1 : IsTold m p (take_from m i l) = record { places = f t.places; placed = here_changed m f l.places t.places t.placed; name = t.name; definitions = t.definitions; users = t.users; used = t.used; connections = t.connections } in
+        let t1 : IsTold m p (take_from m i l) = record { places = f t.places; placed = here_changed m f l.places t.places t.placed; shelved = left_shelved (λ (row : Row). not (has_ident i row)) t.places.queues t.shelved; name = t.name; definitions = t.definitions; users = t.users; used = t.used; connections = t.connections } in
         place_told m p r (take_from m i l) (queue_at route.end) (routed route (bare_if bare row.message)) t1 b.given b.definitions b.connections b.moment
 
 move_else : (m : ℕ) (l : Ledger) (to : Dest) (bare : Bool) (o : Option Row) → IsElse m l (move_row m to bare o l) × ((move_row m to bare o l).users ≡ l.users)

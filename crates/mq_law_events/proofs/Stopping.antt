@@ -34,7 +34,7 @@ use Rattle.mq_law_events.specs.Rests.{back_out_all, book_out_all}
 use Rattle.mq_law_events.specs.Tied.{connections_told, IsTold, IsFresh, IsSame, IsElse, Follow}
 use Rattle.mq_law_events.proofs.Locals.{lands, others_told, retag_both, lasting_of, loses_leads, behind}
 use Rattle.mq_law_events.proofs.Resting.{backs_out_all}
-use Rattle.mq_law_events.proofs.Telling.{here_changed, else_places, else_users, else_then}
+use Rattle.mq_law_events.proofs.Telling.{left_shelved, here_changed, else_places, else_users, else_then}
 use Rattle.mq_law_events.proofs.Putting.{rows_after, leads_to, users_stay, same_users}
 use Rattle.mq_law_events.proofs.Taking.{retag_same}
 
@@ -189,7 +189,7 @@ lost_sheet m d l = loses_rows m m d l ∙ ap (λ t. keep (λ y. not (t && not (i
 pub lost_told : (m : ℕ) (p : Plain) (l : Ledger) → IsTold m p l → IsTold m p (ledgers.lose m l)
 lost_told m p l t =
     let f : ManagerPlaces → ManagerPlaces = λ p. record p { queues = leave_queues (λ (row : Row). is_persistent row.message) p.queues } in
-    record { places = f t.places; placed = here_changed m f l.places t.places t.placed; name = t.name; definitions = t.definitions; users = t.users; used = t.used; connections = t.connections }
+    record { places = f t.places; placed = here_changed m f l.places t.places t.placed; shelved = left_shelved (λ (row : Row). is_persistent row.message) t.places.queues t.shelved; name = t.name; definitions = t.definitions; users = t.users; used = t.used; connections = t.connections }
 
 lost_else : (m : ℕ) (l : Ledger) → IsElse m l (ledgers.lose m l)
 lost_else m l = else_places m (λ p. record p { queues = leave_queues (λ (row : Row). is_persistent row.message) p.queues }) l
@@ -207,7 +207,7 @@ freezes m given p l note left f t =
           (λ i. record { rows = λ d. sym (lost_sheet m d l) i; gone = l.gone; got = l.got });
       fresh = f;
       known = λ i e. refl;
-      told = record { places = t2.places; placed = t2.placed; name = t2.name; definitions = t2.definitions; users = t2.users; used = t2.used; connections = t2.connections };
+      told = record { places = t2.places; placed = t2.placed; shelved = t2.shelved; name = t2.name; definitions = t2.definitions; users = t2.users; used = t2.used; connections = t2.connections };
       same = record { given = refl; senders = refl; receivers = refl; batches = refl };
       steady = refl;
       other = lost_else m l;
@@ -241,6 +241,7 @@ stop_told m p r l t given definitions connections moment =
     record {
       places = f t.places;
       placed = here_changed m f l.places t.places t.placed;
+      shelved = left_shelved (λ (row : Row). is_persistent row.message) t.places.queues t.shelved;
       name = t.name ∙ ap (λ (g : Given). g.name) (sym given);
       definitions = t.definitions ∙ sym definitions;
       users = no_connections t.users;

@@ -17,10 +17,9 @@ use Rattle.mq_law_events.specs.Local.{Leads, side_of, sheet_of}
 use Rattle.mq_law_events.specs.Tied.{IsTold, IsFresh, IsSame, IsElse}
 use Rattle.mq_law_events.specs.Posting.{IsTimed}
 
--- no channel's cable, and no rules table
-pub record IsAlone (s : Scenario) : Type 0 where
-  pub cables : s.cables ≡ []
-  pub rules : s.rules ≡ []
+-- no channel's cable
+abbrev pub IsAlone : Scenario → Type 0
+IsAlone s = s.cables ≡ []
 
 -- no restart finds a stopped write
 abbrev pub FindsNone : Chance → Type 0
@@ -54,7 +53,6 @@ pub record IsAt (m : ℕ) (given : Ident → Bool) (n : Node) (l : Ledger) : Typ
   pub fresh : IsFresh given n.manager
   pub number : n.manager.given.number ≡ m + 1
   pub ends : n.own.ends ≡ []
-  pub handlers : n.own.handlers ≡ []
   pub batches : n.manager.channels.batches ≡ []
   pub timed : IsTimed m n.manager l
   pub state : IsState n.manager.running n.manager
