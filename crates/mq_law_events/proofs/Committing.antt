@@ -1,9 +1,8 @@
 -- The ends of units, committed and backed out: the ledger follows.
-use Rattle.std.proofs.Common.{ℕ, ◌≡◌, ◌⊎◌, Bool, true, false, not, List, [], ◌∷◌, ◌++◌, refl, ap, sym, subst, ◌∙◌, inl, inr, map}
-use Rattle.std.specs.Prelude.{Option, Some, None, ◌==◌, if◌then◌else◌, ◌&&◌, ◌||◌, slice_get, flat_map, filter}
+use Rattle.std.proofs.Common.{ℕ, ◌≡◌, ◌⊎◌, Bool, true, false, not, List, [], ◌∷◌, refl, ap, sym, subst, ◌∙◌, inl, inr}
+use Rattle.std.specs.Prelude.{Option, Some, None, ◌==◌, if◌then◌else◌, ◌&&◌, ◌||◌, slice_get, flat_map}
 use Rattle.std.specs.Str.{bytes_eq}
 use Rattle.mq_message.specs.declared.message.Ident.{Ident}
-use Rattle.mq_message.specs.declared.message.Message.{Message}
 use Rattle.mq_message.specs.declared.place.Holder.{Holder}
 use Rattle.mq_message.specs.declared.place.Holder.TheVariants as holders
 use Rattle.mq_queue.specs.declared.row.Row.{Row}
@@ -13,10 +12,10 @@ use Rattle.mq_calls.specs.declared.state.Connection.{Connection}
 use Rattle.mq_calls.specs.declared.state.Item.{Item}
 use Rattle.mq_calls.specs.declared.state.Item.TheVariants.{Put, Take}
 use Rattle.mq_spec_state.specs.State.{Plain}
-use Rattle.mq_spec_state.specs.State.Change.{Leave, Release, EndUnit, Disconnect}
+use Rattle.mq_spec_state.specs.State.Change.{Leave, Release, EndUnit}
 use Rattle.mq_spec_state.specs.State.Which.{Among}
 use Rattle.mq_spec_state.specs.Reads.{stored, connection_at}
-use Rattle.mq_spec_state.specs.Changes.{apply, apply_all, release_if, selects, change_connection, lane_of, new_row}
+use Rattle.mq_spec_state.specs.Changes.{apply, apply_all, release_if, change_connection, lane_of, new_row}
 use Rattle.mq_spec_manager.specs.Put.{placed}
 use Rattle.mq_spec_manager.specs.Units.{taken_item, placed_item, freed_item}
 use Rattle.mq_spec_network.specs.Ledger as ledgers
@@ -29,11 +28,11 @@ use Rattle.mq_law_rows.specs.Kinds.{among, puts_of, bury_all}
 use Rattle.mq_law_rows.proofs.Lists.{bool_case, is_false, true_false, eqb_self, eqb_yes, ident_yes, keep_same, keep_all}
 use Rattle.mq_law_rows.proofs.Owners.{row_where}
 use Rattle.mq_law_manager.proofs.SeenLaws.{mapped_one}
-use Rattle.mq_law_events.specs.Local.{Side, Sheet, local, page, with_owner, Moved, Leads, side_of, sheet_of}
-use Rattle.mq_law_events.specs.Tied.{connection_told, connections_told, IsTold, IsFresh, IsSame, IsElse, Follow}
-use Rattle.mq_law_events.proofs.Locals.{with_row, with_items, left_of, unheld, unit_freed, gets_go_leads, put_lands_leads, backs_out_leads, behind, stays_leads}
-use Rattle.mq_law_events.proofs.Telling.{changed_told, connection_at_told, unit_told, here_changed, else_none, else_then, else_users, else_places, unit_changes}
-use Rattle.mq_law_events.proofs.Putting.{unborn_by, rows_after, IsBeside, placed_rows, placed_beside, place_sheet, place_told, leads_to, users_stay, same_users}
+use Rattle.mq_law_events.specs.Local.{Side, Sheet, local, page, with_owner, Leads, side_of, sheet_of}
+use Rattle.mq_law_events.specs.Tied.{connection_told, IsTold, IsFresh, IsElse, Follow}
+use Rattle.mq_law_events.proofs.Locals.{with_items, left_of, unheld, unit_freed, gets_go_leads, put_lands_leads, backs_out_leads, behind, stays_leads}
+use Rattle.mq_law_events.proofs.Telling.{changed_told, connection_at_told, here_changed, else_none, else_then, else_users, else_places, unit_changes}
+use Rattle.mq_law_events.proofs.Putting.{unborn_by, rows_after, IsBeside, placed_rows, placed_beside, place_sheet, place_told, leads_to, users_stay}
 use Rattle.mq_law_events.proofs.Taking.{taken_rows, taken_gone, taken_got, taken_users, take_told, take_else, told_beside, keep_two, retag_same}
 use Rattle.mq_law_manager.specs.Seen.{row_for}
 use Rattle.mq_law_events.specs.Posting.{any_taken, IsListed}
@@ -172,7 +171,7 @@ gets_leave m n given p l items is listed w g b h =
     let gots : got_idents (items_told items) ≡ got_idents (v.units n) = gots_told items ∙ ap got_idents (sym is) in
     let r = gets_go_leads m n v t k.gone (λ j c. subst (λ z. Mem j z ⊎ Mem j l.gone) gots (items_gone m (items_told items) l j c)) w g b h in
     let side : record { rows = unheld n v.rows; units = with_items n (puts_of (v.units n)) v.units; given = given }
-        ≡ record { rows = λ d. (stored d (apply_all (flat_map taken_item items) p)).rows; units = with_items n (puts_of items) v.units; given = given } =
+    ≡ record { rows = λ d. (stored d (apply_all (flat_map taken_item items) p)).rows; units = with_items n (puts_of items) v.units; given = given } =
     (λ i. record {
       rows = λ d. keep_same (λ y. not (held_by (holders.Unit n) y.by)) (λ y. not (any_taken (v.units n) d y)) (v.rows d) (λ y c. ap not (held_is_taken m n v t w g b h listed d y c)) i;
       units = with_items n (puts_of (v.units n)) v.units;
@@ -181,9 +180,12 @@ gets_leave m n given p l items is listed w g b h =
     ∙ (λ i. record { rows = λ d. (ap (λ us. untaken us v.rows d) is ∙ sym (taken_items_rows items p d)) i; units = with_items n (puts_of (is i)) v.units; given = given }) in
     let sheet : record { rows = left_of (got_idents (v.units n)) t.rows; gone = k.gone; got = bury_all (got_idents (v.units n)) t.got } ≡ sheet_of m k =
     λ i. record { rows = λ d. (ap (λ is. left_of is t.rows d) (sym gots) ∙ sym (items_rows m (items_told items) d l)) i; gone = k.gone; got = (ap (λ is. bury_all is l.got) (sym gots) ∙ sym (items_got m (items_told items) l)) i } in
-    record { owner = r.owner; inv = subst (λ z. Inv (local w m z) (with_owner g r.owner) (page b m z (sheet_of m k))) side
-        (subst (λ z. Inv (local w m (record { rows = unheld n v.rows; units = with_items n (puts_of (v.units n)) v.units; given = given })) (with_owner g r.owner)
-        (page b m (record { rows = unheld n v.rows; units = with_items n (puts_of (v.units n)) v.units; given = given }) z)) sheet r.inv) }
+    record {
+      owner = r.owner;
+      inv = subst (λ z. Inv (local w m z) (with_owner g r.owner) (page b m z (sheet_of m k))) side
+          (subst (λ z. Inv (local w m (record { rows = unheld n v.rows; units = with_items n (puts_of (v.units n)) v.units; given = given })) (with_owner g r.owner)
+          (page b m (record { rows = unheld n v.rows; units = with_items n (puts_of (v.units n)) v.units; given = given }) z)) sheet r.inv);
+    }
 
 -- The second half
 
@@ -206,8 +208,8 @@ puts_land m n (Put q message ∷ items) units given p l t =
     let b = placed_beside q message p in
     let v : Side = record { rows = λ d. (stored d p).rows; units = with_items n (Put q message ∷ puts_of items) units; given = given } in
     let first = put_lands_leads m n q message (puts_of items) (row_for q message p) (new_row (lane_of (local_of q t.places.definitions) message.md.priority) 0 message) v (sheet_of m l)
-        (ap (λ z. if z then Put q message ∷ puts_of items else units n) (eqb_self n)) refl refl
-        (ap (λ d. row_told (new_row (lane_of (local_of q d) message.md.priority) 0 message)) t.definitions) in
+    (ap (λ z. if z then Put q message ∷ puts_of items else units n) (eqb_self n)) refl refl
+    (ap (λ d. row_told (new_row (lane_of (local_of q d) message.md.priority) 0 message)) t.definitions) in
     let next : Side = record { rows = λ d. (stored d q1).rows; units = with_items n (puts_of items) units; given = given } in
     behind m v next _ (sheet_of m l) (sheet_of m k) _
     (leads_to m v _ next (sheet_of m l) _ (sheet_of m k) first

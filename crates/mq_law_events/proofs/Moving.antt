@@ -1,6 +1,6 @@
 -- The handler's moves: the ledger takes the ident from where it has it, and places its own row. The ledger follows.
-use Rattle.std.proofs.Common.{ℕ, ◌≡◌, ◌⊎◌, Bool, true, false, not, List, [], ◌∷◌, ◌++◌, refl, ap, sym, subst, ◌∙◌, inl, inr, map}
-use Rattle.std.specs.Prelude.{pos, ℤ, Option, Some, None, Result, Ok, Err, ◌==◌, if◌then◌else◌, ◌&&◌, ◌||◌, slice_get, find}
+use Rattle.std.proofs.Common.{ℕ, ◌≡◌, Bool, true, false, not, List, [], ◌∷◌, refl, ap, sym, subst, ◌∙◌, inl, inr}
+use Rattle.std.specs.Prelude.{pos, Option, Some, None, Result, Ok, Err, if◌then◌else◌, ◌&&◌, ◌||◌, slice_get, find}
 use Rattle.std.specs.Str.{bytes_eq}
 use Rattle.mq_message.specs.declared.message.Dest.{Dest}
 use Rattle.mq_message.specs.declared.message.Ident.{Ident}
@@ -17,24 +17,24 @@ use Rattle.mq_resolve.specs.declared.route.Route.{Route}
 use Rattle.mq_resolve.specs.Resolved.{resolve}
 use Rattle.mq_calls.specs.declared.image.Shelf.{Shelf}
 use Rattle.mq_history.specs.declared.story.ManagerPlaces.{ManagerPlaces}
-use Rattle.mq_spec_state.specs.State.{Plain, Given}
+use Rattle.mq_spec_state.specs.State.{Plain}
 use Rattle.mq_spec_state.specs.State.Change.{Leave}
 use Rattle.mq_spec_state.specs.State.Which.{Among}
 use Rattle.mq_spec_state.specs.Reads.{stored, connection_at}
 use Rattle.mq_spec_state.specs.Changes.{apply, apply_all, lane_of, new_row}
 use Rattle.mq_spec_manager.specs.Put.{placed, queue_at, dest_at}
-use Rattle.mq_spec_agents.specs.Moves.{bare_if, bare_message}
+use Rattle.mq_spec_agents.specs.Moves.{bare_if}
 use Rattle.mq_spec_network.specs.Ledger as ledgers
-use Rattle.mq_spec_network.specs.Ledger.{Ledger, Users, places_or, places_at, place_at, row_in, rows_in, take_from, leave_queues, move_row, moved_to, resolved_at, ledger_rows, unit_of}
+use Rattle.mq_spec_network.specs.Ledger.{Ledger, places_or, places_at, place_at, row_in, rows_in, take_from, leave_queues, move_row, moved_to, resolved_at, ledger_rows, unit_of}
 use Rattle.mq_spec_network.specs.Standing.{row_told}
-use Rattle.mq_spec_network.specs.Story.{Mem, Chain}
-use Rattle.mq_law_rows.specs.World.{World, Book, Ghost, Owner, At, Inv, Forced, away, stands, claim, is_forced, standing}
+use Rattle.mq_spec_network.specs.Story.{Mem}
+use Rattle.mq_law_rows.specs.World.{World, Book, Ghost, At, Inv, away, stands, claim, is_forced}
 use Rattle.mq_law_rows.proofs.Lists.{bool_case, is_false, true_false, eqb_self, ident_yes, ident_self, name_yes, name_self, keep_same}
 use Rattle.mq_law_rows.proofs.Owners.{standing_row, ledger_row}
 use Rattle.mq_law_rows.proofs.Holding.{only_one}
 use Rattle.mq_law_seen.proofs.Bridges.{takes_from}
 use Rattle.mq_law_manager.specs.Seen.{row_for}
-use Rattle.mq_law_events.specs.Local.{Side, Sheet, local, page, with_owner, Moved, Leads, side_of, sheet_of}
+use Rattle.mq_law_events.specs.Local.{Side, local, page, with_owner, Leads, side_of, sheet_of}
 use Rattle.mq_law_events.specs.Tied.{AreShelved, IsTold, IsFresh, IsElse, Follow}
 use Rattle.mq_law_events.proofs.Locals.{with_row, without, left_by, row_moves_leads}
 use Rattle.mq_law_events.proofs.Telling.{left_shelved, here_changed, else_places, else_then}
@@ -132,7 +132,7 @@ found_so m q x v l w g b h apart n free = go (row_in x.message.ident (places_at 
         told = elim (ledger_row (local w m v) g (page b m v (sheet_of m l)) h m found.queue row (listed found.queue row found.there)) [
           | inl z ↦ absurd (true_false (sym z ∙ ap is_forced same_owner))
           | inr z ↦ let k = free_is_at m m q found.queue z.0.by (sym same_owner ∙ ap (λ (y : Row). g.owner y.message.ident) z.3 ∙ h.claims m found.queue z.0 z.1 z.2) in
-          z.3 ∙ ap row_told (only_one ((local w m v).rows m q) z.0 x (h.distinct m q) (subst (λ d. Mem z.0 ((local w m v).rows m d)) (sym k.0) z.1) here (ap (λ (y : Row). y.message.ident) (sym z.3) ∙ found.is))
+              z.3 ∙ ap row_told (only_one ((local w m v).rows m q) z.0 x (h.distinct m q) (subst (λ d. Mem z.0 ((local w m v).rows m d)) (sym k.0) z.1) here (ap (λ (y : Row). y.message.ident) (sym z.3) ∙ found.is))
         ]
 
 -- What it places
@@ -200,9 +200,12 @@ moves_lead m given p l from x to bare route t apart n free is w g b h =
     takes_from m its.ident m d l ∙ ap (λ z. keep (λ y. not (z && same_ident y.message.ident its.ident)) (ledger_rows m d l)) (eqb_self m) ∙ ap (λ z. left_by z (λ d. ledger_rows m d l) d) idents in
     let sheet : record { rows = with_row q told (left_by x.message.ident (λ d. ledger_rows m d l)); gone = l.gone; got = l.got } ≡ sheet_of m (move_row m to bare (row_in x.message.ident (places_at m l).queues) l) =
     (λ i. record { rows = λ d. ((λ j. with_row q told (λ e. sym (taken e) j) d) ∙ sym (place_sheet m q d its l1 (f t.places) there)) i; gone = l.gone; got = l.got }) ∙ ap (sheet_of m) (sym whole) in
-    record { owner = r.owner; inv = subst (λ z. Inv (local w m z) (with_owner g r.owner) (page b m z (sheet_of m (move_row m to bare (row_in x.message.ident (places_at m l).queues) l)))) side
-        (subst (λ z. Inv (local w m (record { rows = with_row q (row_for q mine p1) (without from x.message.ident v.rows); units = v.units; given = given })) (with_owner g r.owner)
-        (page b m (record { rows = with_row q (row_for q mine p1) (without from x.message.ident v.rows); units = v.units; given = given }) z)) sheet r.inv) }
+    record {
+      owner = r.owner;
+      inv = subst (λ z. Inv (local w m z) (with_owner g r.owner) (page b m z (sheet_of m (move_row m to bare (row_in x.message.ident (places_at m l).queues) l)))) side
+          (subst (λ z. Inv (local w m (record { rows = with_row q (row_for q mine p1) (without from x.message.ident v.rows); units = v.units; given = given })) (with_owner g r.owner)
+          (page b m (record { rows = with_row q (row_for q mine p1) (without from x.message.ident v.rows); units = v.units; given = given }) z)) sheet r.inv);
+    }
 
 -- told, whatever it finds
 move_told : (m : ℕ) (p r : Plain) (l : Ledger) (to : Dest) (bare : Bool) (o : Option Row) → IsTold m p l → IsBeside p r → IsTold m r (move_row m to bare o l)
@@ -224,9 +227,11 @@ move_else m l to bare (Some row) = go (resolved_at m to.queue to.qmgr l)
     go : (x : Result Route Reason) → IsElse m l (moved_to m (bare_if bare row.message) x l) × ((moved_to m (bare_if bare row.message) x l).users ≡ l.users)
     go (Err reason) = (record { places = λ a e. refl; users = λ a e. refl }, refl)
     go (Ok route) =
-        let i : Ident = (bare_if bare row.message).ident in
-        (else_then m l (take_from m i l) (ledgers.place m (queue_at route.end) (routed route (bare_if bare row.message)) (take_from m i l))
-        (else_places m (λ p. record p { queues = leave_queues (λ (row : Row). not (has_ident i row)) p.queues }) l) (else_places m (place_at (queue_at route.end) (routed route (bare_if bare row.message))) (take_from m i l)), refl)
+        let i : Ident = (bare_if bare row.message).ident in (
+          else_then m l (take_from m i l) (ledgers.place m (queue_at route.end) (routed route (bare_if bare row.message)) (take_from m i l))
+              (else_places m (λ p. record p { queues = leave_queues (λ (row : Row). not (has_ident i row)) p.queues }) l) (else_places m (place_at (queue_at route.end) (routed route (bare_if bare row.message))) (take_from m i l)),
+          refl,
+        )
 
 pub move_follows : (m : ℕ) (given : Ident → Bool) (p : Plain) (l : Ledger) (from : List ℕ) (x : Row) (to : Dest) (bare : Bool) (route : Route) → IsFresh given p → IsTold m p l → AreShelved (places_at m l).queues → Mem x (stored from p).rows → x.by ≡ None
     → resolve p.definitions p.given.name to.queue to.qmgr ≡ Ok route

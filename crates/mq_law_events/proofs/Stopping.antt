@@ -1,12 +1,11 @@
 -- Stops, stopped writes and restarts: rows that are told alike keep the facts, and the ledger follows.
-use Rattle.std.proofs.Common.{ℕ, ◌≡◌, ◌≤◌, Bool, true, false, not, List, [], ◌∷◌, ◌++◌, refl, ap, sym, subst, ◌∙◌, inl, inr, map}
-use Rattle.std.specs.Prelude.{pos, Option, Some, None, ◌==◌, ◌+◌, if◌then◌else◌, ◌&&◌, slice_get}
+use Rattle.std.proofs.Common.{ℕ, ◌≡◌, ◌≤◌, Bool, true, false, not, List, [], ◌∷◌, ◌++◌, refl, ap, sym, subst, ◌∙◌, map}
+use Rattle.std.specs.Prelude.{Option, Some, None, ◌==◌, ◌+◌, if◌then◌else◌, ◌&&◌}
 use Rattle.mq_message.specs.declared.message.Ident.{Ident}
 use Rattle.mq_message.specs.declared.place.Holder.{Holder}
 use Rattle.mq_message.specs.declared.place.Holder.TheVariants as holders
 use Rattle.mq_queue.specs.declared.row.Row.{Row}
 use Rattle.mq_queue.specs.Rows.{keep, retag, is_free, is_by_unit}
-use Rattle.mq_calls.specs.declared.state.Connection.{Connection}
 use Rattle.mq_calls.specs.declared.state.Batch.{Batch}
 use Rattle.mq_spec_state.specs.State.{Plain, Given, LogState, Running, Noted}
 use Rattle.mq_spec_state.specs.State.Change.{Leave, Release, ForgetAll}
@@ -15,23 +14,22 @@ use Rattle.mq_spec_state.specs.Reads.{stored, connection_at, is_persistent}
 use Rattle.mq_spec_state.specs.Changes.{apply, apply_all, release_if}
 use Rattle.mq_spec_state.specs.Images.{begun, raised, rests_by, lasting, lasting_row, lasting_rows, numbered, uncounted_message}
 use Rattle.mq_spec_state.specs.Steps.{freeze}
-use Rattle.mq_spec_manager.specs.Stops.{stop_changes, at_rest, release_batch}
+use Rattle.mq_spec_manager.specs.Stops.{at_rest, release_batch}
 use Rattle.mq_spec_network.specs.Ledger as ledgers
 use Rattle.mq_spec_network.specs.Ledger.{Ledger, Users, ledger_rows, leave_queues, unit_of}
 use Rattle.mq_history.specs.declared.story.ManagerPlaces.{ManagerPlaces}
 use Rattle.mq_spec_network.specs.Story.{Mem}
 use Rattle.mq_spec_network.specs.Promised.{AreDistinct}
-use Rattle.mq_spec_network.specs.Standing.{row_told, rows_told}
+use Rattle.mq_spec_network.specs.Standing.{row_told}
 use Rattle.mq_law_rows.specs.World.{World, Book, Ghost, Tag, tag_of, ident_of, away, stands, row_stands, claim, IsElsewhere, LanesRise, got_idents, Inv}
-use Rattle.mq_law_rows.specs.Kinds.{with_rows, after}
+use Rattle.mq_law_rows.specs.Kinds.{with_rows}
 use Rattle.mq_law_rows.proofs.Lists.{bool_case, eqb_self, mem_retag, mem_retagged, keep_retag}
 use Rattle.mq_law_rows.proofs.Batches.{retag_idents}
 use Rattle.mq_law_seen.proofs.Bridges.{loses_rows}
 use Rattle.mq_law_manager.proofs.Numbered.{rows_begun}
 use Rattle.mq_law_manager.proofs.Restarting.{rows_lasting}
-use Rattle.mq_law_events.specs.Local.{Side, Sheet, local, page, with_owner, Moved, Leads, side_of, sheet_of}
-use Rattle.mq_law_events.specs.Rests.{back_out_all, book_out_all}
-use Rattle.mq_law_events.specs.Tied.{connections_told, IsTold, IsFresh, IsSame, IsElse, Follow}
+use Rattle.mq_law_events.specs.Local.{Side, Sheet, local, page, Leads, side_of, sheet_of}
+use Rattle.mq_law_events.specs.Tied.{connections_told, IsTold, IsFresh, IsElse, Follow}
 use Rattle.mq_law_events.proofs.Locals.{lands, others_told, retag_both, lasting_of, loses_leads, behind}
 use Rattle.mq_law_events.proofs.Resting.{backs_out_all}
 use Rattle.mq_law_events.proofs.Telling.{left_shelved, here_changed, else_places, else_users, else_then}
@@ -134,9 +132,6 @@ untells w g b change alike h =
 -- A row without its count of arrivals and of backouts.
 abbrev pub bare : Row → Row
 bare y = record { place = record { lane = y.place.lane; arrival = 0 }; message = uncounted_message y.message; by = y.by }
-
-bare_alike : IsAlike bare
-bare_alike = record { lane = λ x. refl; by = λ x. refl; tag = λ x. refl; told = λ x. refl }
 
 abbrev bare_if : Bool → Row → Row
 bare_if t y = if t then bare y else y

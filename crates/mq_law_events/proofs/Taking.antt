@@ -1,8 +1,7 @@
 -- Rows that are taken: gets, expiry, discards; and gets in a unit.
-use Rattle.std.proofs.Common.{ℕ, ◌≡◌, ◌≢◌, ◌⊎◌, Bool, true, false, not, List, [], ◌∷◌, ◌++◌, refl, ap, sym, subst, ◌∙◌, inl, inr, map}
-use Rattle.std.specs.Prelude.{Option, Some, None, ◌==◌, if◌then◌else◌, ◌&&◌, ◌||◌, slice_get}
+use Rattle.std.proofs.Common.{ℕ, ◌≡◌, ◌⊎◌, Bool, true, false, not, List, [], ◌∷◌, ◌++◌, refl, ap, sym, subst, ◌∙◌, inl, inr, map}
+use Rattle.std.specs.Prelude.{Some, None, if◌then◌else◌, ◌&&◌, ◌||◌}
 use Rattle.std.specs.Str.{bytes_eq}
-use Rattle.std.specs.List.{list_any}
 use Rattle.mq_message.specs.declared.message.Ident.{Ident}
 use Rattle.mq_message.specs.declared.place.Holder.TheVariants as holders
 use Rattle.mq_queue.specs.declared.row.Row.{Row}
@@ -22,20 +21,19 @@ use Rattle.mq_spec_state.specs.Reads.{stored, connection_at}
 use Rattle.mq_spec_state.specs.Changes.{apply, apply_all, retag_if, selects}
 use Rattle.mq_spec_manager.specs.Get.{idents_of}
 use Rattle.mq_spec_network.specs.Ledger as ledgers
-use Rattle.mq_spec_network.specs.Ledger.{Ledger, Users, places_at, places_or, is_placed_at, take, take_if, take_from, take_got, take_gone, take_all_gone, is_taken, leave_queues, ledger_rows, rows_in, unit_of}
+use Rattle.mq_spec_network.specs.Ledger.{Ledger, places_at, is_placed_at, take, take_if, take_got, take_all_gone, is_taken, leave_queues, ledger_rows, unit_of}
 use Rattle.mq_spec_network.specs.Story.{Mem}
-use Rattle.mq_law_rows.specs.World.{items_told, ident_of}
+use Rattle.mq_law_rows.specs.World.{ident_of}
 use Rattle.mq_law_rows.specs.Kinds.{among}
-use Rattle.mq_law_rows.proofs.Lists.{bool_case, is_false, true_false, eqb_self, ident_yes, ident_self, name_yes, keep_same, keep_all, mem_kept, mem_keep}
+use Rattle.mq_law_rows.proofs.Lists.{bool_case, is_false, true_false, eqb_self, ident_yes, name_yes, keep_same, keep_all, mem_kept}
 use Rattle.mq_law_rows.proofs.Receiving.{mem_any}
 use Rattle.mq_law_seen.proofs.Bridges.{takes_from}
 use Rattle.mq_law_seen.proofs.Receipts.{rows_placed}
 use Rattle.mq_law_manager.specs.Facts.{Differ}
-use Rattle.mq_law_manager.specs.View.{view}
 use Rattle.mq_law_manager.proofs.SeenLaws.{mapped_one}
-use Rattle.mq_law_events.specs.Local.{Side, Sheet, Leads, side_of, sheet_of}
-use Rattle.mq_law_events.specs.Tied.{connections_told, IsTold, IsFresh, IsSame, IsElse, Follow}
-use Rattle.mq_law_events.proofs.Locals.{with_items, without, left_by, got_by, held_row, row_goes_leads, row_held_leads, behind, stays_leads}
+use Rattle.mq_law_events.specs.Local.{Side, Leads, side_of, sheet_of}
+use Rattle.mq_law_events.specs.Tied.{connections_told, IsTold, IsFresh, IsElse, Follow}
+use Rattle.mq_law_events.proofs.Locals.{with_items, without, left_by, row_goes_leads, row_held_leads, behind, stays_leads}
 use Rattle.mq_law_events.proofs.Telling.{left_shelved, here_changed, else_places, else_none, else_then, else_users, unit_changes}
 use Rattle.mq_law_events.proofs.Putting.{rows_after, IsBeside, leads_to, pended, pend_told, users_stay, same_users}
 
@@ -123,16 +121,20 @@ many_go m q why (x ∷ xs) v l taken each once =
     let v1 : Side = record { rows = without q i v.rows; units = v.units; given = v.given } in
     let at = each x (inl refl) in
     let first : Leads m v (sheet_of m l) v1 (sheet_of m k) = leads_to m v v1 v1 (sheet_of m l) _ (sheet_of m k)
-        (row_goes_leads m q x false v (sheet_of m l) k.gone at.0 at.1 (λ j n. taken_gone (is_placed_at i (places_at m l)) m i j l n)) refl
-        (λ z. record { rows = λ d. sym (taken_rows m i d l) z; gone = k.gone; got = sym (taken_got (is_placed_at i (places_at m l)) m i l) z }) in
+    (row_goes_leads m q x false v (sheet_of m l) k.gone at.0 at.1 (λ j n. taken_gone (is_placed_at i (places_at m l)) m i j l n)) refl
+    (λ z. record { rows = λ d. sym (taken_rows m i d l) z; gone = k.gone; got = sym (taken_got (is_placed_at i (places_at m l)) m i l) z }) in
     let rest = many_go m q why xs v1 k taken
-        (λ y n. let a = each y (inr n) in
-        (mem_kept (λ h. not (bytes_eq q q && same_ident h.message.ident i)) y (v.rows q) a.0 (ap not (is_false (bytes_eq q q && same_ident y.message.ident i) (λ z. once.0 y n (sym (ident_yes y.message.ident i (second (bytes_eq q q) _ z)))))), a.1))
-        once.1 in
+    (λ y n. let a = each y (inr n) in
+    (mem_kept (λ h. not (bytes_eq q q && same_ident h.message.ident i)) y (v.rows q) a.0 (ap not (is_false (bytes_eq q q && same_ident y.message.ident i) (λ z. once.0 y n (sym (ident_yes y.message.ident i (second (bytes_eq q q) _ z)))))), a.1))
+    once.1 in
     let same : ledgers.take_all_gone m (removed_all why q (x ∷ xs)) l ≡ take_all_gone m (removed_all why q xs) k = ap (λ t. take_all_gone m (removed_all why q xs) (ledgers.when t (take m i) l)) taken in
     leads_to m v _ _ (sheet_of m l) _ _ (behind m v v1 _ (sheet_of m l) (sheet_of m k) _ first rest)
-    (λ z. record { rows = λ d. keep_two (λ h. not (bytes_eq d q && same_ident h.message.ident i)) (λ h. not (bytes_eq d q && among (idents_of xs) h.message.ident)) (λ h. not (bytes_eq d q && among (idents_of (x ∷ xs)) h.message.ident)) (v.rows d)
-        (λ h. two_tests (bytes_eq d q) (same_ident h.message.ident i) (among (idents_of xs) h.message.ident)) z; units = v.units; given = v.given })
+    (λ z. record {
+      rows = λ d. keep_two (λ h. not (bytes_eq d q && same_ident h.message.ident i)) (λ h. not (bytes_eq d q && among (idents_of xs) h.message.ident)) (λ h. not (bytes_eq d q && among (idents_of (x ∷ xs)) h.message.ident)) (v.rows d)
+          (λ h. two_tests (bytes_eq d q) (same_ident h.message.ident i) (among (idents_of xs) h.message.ident)) z;
+      units = v.units;
+      given = v.given;
+    })
     (ap (sheet_of m) (sym same))
   where
     second : (a b : Bool) → (a && b) ≡ true → b ≡ true

@@ -1,5 +1,5 @@
 -- What the ledger tells of connections, and how its lists change.
-use Rattle.std.proofs.Common.{ℕ, zero, suc, ◌≡◌, ◌⊎◌, inl, inr, Bool, true, false, not, List, [], ◌∷◌, ◌++◌, refl, ap, sym, subst, ◌∙◌, map}
+use Rattle.std.proofs.Common.{ℕ, ◌≡◌, ◌⊎◌, inl, inr, Bool, false, not, List, [], ◌∷◌, ◌++◌, refl, ap, sym, ◌∙◌, map}
 use Rattle.std.specs.Prelude.{Option, Some, None, ◌==◌, if◌then◌else◌, slice_get, filter}
 use Rattle.mq_calls.specs.declared.state.Connection.{Connection}
 use Rattle.mq_calls.specs.declared.state.Handle.{Handle}
@@ -19,7 +19,7 @@ use Rattle.mq_law_rows.specs.World.{items_told}
 use Rattle.mq_law_rows.proofs.Lists.{bool_case, is_false, true_false, eqb_self, eqb_yes, name_yes, name_self, map_mem}
 use Rattle.mq_law_seen.proofs.Bridges.{mapped_if, get_changed}
 use Rattle.mq_law_manager.proofs.SeenLaws.{mapped_one, connection_changed}
-use Rattle.mq_law_events.specs.Tied.{handle_told, connection_told, connections_told, AreShelved, IsTold, IsElse}
+use Rattle.mq_law_events.specs.Tied.{handle_told, connection_told, connections_told, AreShelved, IsElse}
 use Rattle.mq_law_events.proofs.Locals.{with_items}
 
 -- Connections as they are told

@@ -4,7 +4,7 @@ use Rattle.std.specs.Str.{bytes_eq}
 use Rattle.mq_message.specs.declared.message.Ident.{Ident}
 use Rattle.mq_calls.specs.declared.deltas.Did.{Did}
 use Rattle.mq_spec_state.specs.State.{Plain}
-use Rattle.mq_spec_state.specs.Steps.{Step, Part, do_all, delta_of, delta_before, stopped_at, IsWrite}
+use Rattle.mq_spec_state.specs.Steps.{Step, do_all, delta_of, delta_before, stopped_at, IsWrite}
 use Rattle.mq_spec_state.specs.Steps.Step.{Refuse, Do}
 use Rattle.mq_message.specs.declared.place.Holder.TheVariants as holders
 use Rattle.mq_queue.specs.declared.row.Row.{Row}

@@ -1,7 +1,6 @@
 -- Commands, stops, restarts, cuts, clock advances and trigger turns of a manager without channels.
-use Rattle.std.proofs.Common.{ℕ, zero, suc, ◌≡◌, Bool, true, false, not, List, [], ◌∷◌, ◌++◌, refl, ap, sym, subst, ◌∙◌, inl, inr, map}
-use Rattle.std.specs.Prelude.{Option, Some, None, Result, Ok, Err, ◌==◌, ◌+◌, min, if◌then◌else◌, ◌&&◌, slice_get, nat_lt, filter}
-use Rattle.std.specs.Str.{bytes_eq}
+use Rattle.std.proofs.Common.{ℕ, ◌≡◌, Bool, true, false, not, List, [], ◌∷◌, refl, ap, sym, subst, ◌∙◌, inl, inr, map}
+use Rattle.std.specs.Prelude.{Option, Some, None, Result, Ok, Err, ◌+◌, min, if◌then◌else◌, slice_get, nat_lt, filter}
 use Rattle.mq_message.specs.declared.message.Ident.{Ident}
 use Rattle.mq_frame.specs.declared.frame.Seen.{Seen}
 use Rattle.mq_objects.specs.declared.object.Object.{Object}
@@ -9,13 +8,11 @@ use Rattle.mq_objects.specs.declared.object.Object.TheVariants as objects
 use Rattle.mq_objects.specs.declared.object.LocalQueue.{LocalQueue}
 use Rattle.mq_objects.specs.declared.object.Channel.{Channel}
 use Rattle.mq_objects.specs.declared.object.ChannelKind.TheVariants as kinds
-use Rattle.mq_objects.specs.declared.object.Definitions.{Definitions}
 use Rattle.mq_objects.specs.declared.command.Command.{Command}
 use Rattle.mq_objects.specs.declared.object.ChannelKind.{ChannelKind}
 use Rattle.mq_objects.specs.declared.object.Process.{Process}
 use Rattle.mq_codes.specs.declared.reason.Reason.{Reason}
-use Rattle.mq_objects.specs.Names.{Space, Queues, space_of, name_of, is_transmission, is_object, object_in, local_of, locals_of, locals_in, channel_of, as_local, queue_of, process_of}
-use Rattle.mq_sc_apply.specs.declared.answers.Planned.{Planned}
+use Rattle.mq_objects.specs.Names.{Queues, space_of, name_of, is_transmission, is_object, object_in, local_of, locals_of, locals_in, channel_of, as_local, process_of}
 use Rattle.mq_sc_apply.specs.declared.answers.Plan.{Plan}
 use Rattle.mq_sc_apply.specs.declared.answers.Plan.TheVariants as plans
 use Rattle.mq_sc_apply.specs.Commands.{plan}
@@ -23,13 +20,12 @@ use Rattle.mq_sc_parse.specs.declared.command.Command.TheVariants as lines
 use Rattle.mq_sc_parse.specs.declared.command.Op.{Op}
 use Rattle.mq_sc_parse.specs.declared.command.Op.TheVariants as ops
 use Rattle.mq_calls.specs.declared.choices.Choice.{Choice}
-use Rattle.mq_calls.specs.declared.choices.Choice.TheVariants.{Runs, NoMemory}
+use Rattle.mq_calls.specs.declared.choices.Choice.TheVariants.{NoMemory}
 use Rattle.mq_calls.specs.declared.choices.Return.{Return}
 use Rattle.mq_calls.specs.declared.choices.Return.TheVariants.{Comes, Fails}
 use Rattle.mq_calls.specs.declared.commands.Shown.{Shown}
 use Rattle.mq_calls.specs.declared.commands.ScRefusal.{ScRefusal}
 use Rattle.mq_calls.specs.declared.commands.ScRefusal.TheVariants as refusals
-use Rattle.mq_calls.specs.declared.commands.RestartFault.{RestartFault}
 use Rattle.mq_calls.specs.declared.commands.RestartFault.TheVariants as faults
 use Rattle.mq_calls.specs.declared.deltas.Did.{Did}
 use Rattle.mq_calls.specs.declared.records.LogRecord.{LogRecord}
@@ -48,19 +44,16 @@ use Rattle.mq_history.specs.declared.calls.Reply.{Reply}
 use Rattle.mq_history.specs.declared.calls.Reply.TheVariants as replies
 use Rattle.mq_spec_state.specs.State.{Plain, Given, Running, Noted, LogState}
 use Rattle.mq_spec_state.specs.State.Running.{Up, Down}
-use Rattle.mq_spec_state.specs.State.Change.{Release, Leave, ForgetAll}
-use Rattle.mq_spec_state.specs.State.Which.{HeldByUnits, Nonpersistent}
 use Rattle.mq_spec_state.specs.Reads.{is_up, stored}
-use Rattle.mq_spec_state.specs.Changes.{apply_all}
-use Rattle.mq_spec_state.specs.Steps.{delta_of, Step, Part, Test, when, refusal, tested, refused_or, logged, do_part}
+use Rattle.mq_spec_state.specs.Steps.{delta_of, Step, Part, when, refusal, tested, refused_or, logged, do_part}
 use Rattle.mq_spec_state.specs.Steps.Step.{Refuse, Do}
 use Rattle.mq_spec_manager.specs.Commands.{command, planned_step, object_part, uses_of}
-use Rattle.mq_spec_manager.specs.Stops.{at_rest, stop, stop_at, restart_at, restarted, grown, last_moment}
+use Rattle.mq_spec_manager.specs.Stops.{stop, stop_at, restart_at, restarted, grown, last_moment}
 use Rattle.mq_spec_manager.specs.Triggers.{Never, first_due, trigger_turn, trigger_at, serve, serve_by, serve_into, put_trigger, takes_it}
 use Rattle.mq_history.specs.declared.calls.Actor.TheVariants as actors
-use Rattle.mq_spec_node.specs.Node.{Node, Own, ChannelEnd, Handler, sender_named, receiver_named, as_sender, as_receiver, end_in, handler_in}
-use Rattle.mq_spec_node.specs.Deeds.{Deed, told, parts_of, CanCome, end_at_rest, end_begun, untried, begun_anew}
-use Rattle.mq_spec_node.specs.Happens.{turn_up, timeout_by, sender_turn, receiver_turn, handler_turn, timeout_of, event, IsEvent, IsDeed, IsReturn, RunsAlone, crashed, done_or, remembering, command_deed, where_up, trigger_deed, trigger_deed_of}
+use Rattle.mq_spec_node.specs.Node.{Node, Own, Handler, sender_named, as_sender, as_receiver, end_in}
+use Rattle.mq_spec_node.specs.Deeds.{Deed, told, parts_of, CanCome, end_at_rest, end_begun, begun_anew}
+use Rattle.mq_spec_node.specs.Happens.{turn_up, timeout_by, sender_turn, receiver_turn, timeout_of, IsDeed, IsReturn, RunsAlone, crashed, done_or, remembering, command_deed, where_up, trigger_deed, trigger_deed_of}
 use Rattle.mq_spec_node.specs.Happens.{restarted as node_restarted}
 use Rattle.mq_spec_node.specs.Operators as operators
 use Rattle.mq_spec_node.specs.Status.{show_status, shown, status_line, is_asked}
@@ -68,13 +61,13 @@ use Rattle.mq_spec_node.specs.Replays.{IsOwn}
 use Rattle.mq_spec_network.specs.Ledger as ledgers
 use Rattle.mq_spec_network.specs.Ledger.{Ledger, Users, posted, take_all_gone}
 use Rattle.mq_spec_network.specs.Story.{Mem}
-use Rattle.mq_law_rows.proofs.Lists.{bool_case, is_false, true_false, name_self}
-use Rattle.mq_law_manager.specs.Facts.{AreOnce, IsSound, IsFrozen, IsStocked}
+use Rattle.mq_law_rows.proofs.Lists.{bool_case, name_self}
+use Rattle.mq_law_manager.specs.Facts.{AreOnce, IsSound, IsFrozen}
 use Rattle.mq_law_manager.proofs.Commanding.{command_keeps}
 use Rattle.mq_law_manager.proofs.StockCommands.{command_stocked}
 use Rattle.mq_law_manager.proofs.Ending.{joined, sound_still, stop_sound, restart_sound}
 use Rattle.mq_law_events.specs.Tied.{IsTold, IsFresh, Follow}
-use Rattle.mq_law_events.specs.Posting.{StepFollows, StopFollows, IsTimed}
+use Rattle.mq_law_events.specs.Posting.{StepFollows, IsTimed}
 use Rattle.mq_law_events.proofs.Telling.{here_changed, else_users, else_then}
 use Rattle.mq_law_events.proofs.Locals.{stays_leads}
 use Rattle.mq_law_events.specs.Local.{side_of, sheet_of}
@@ -88,9 +81,9 @@ use Rattle.mq_law_manager.proofs.Handling.{trigger_turn_keeps}
 use Rattle.mq_law_manager.proofs.Stocks.{trigger_stocked}
 use Rattle.mq_law_events.proofs.Sounds.{restart_fresh}
 use Rattle.mq_law_events.proofs.Stopping.{stops_so, stop_follows, restart_follows}
-use Rattle.mq_law_events.proofs.Calling.{objects_follow, shown_follow, calm_follows, calm_none}
+use Rattle.mq_law_events.proofs.Calling.{objects_follow, shown_follow}
 use Rattle.mq_law_one.specs.Alone.{IsState, IsAt, Became, FindsNone}
-use Rattle.mq_law_one.proofs.Happening.{Deeded, deed_of_parts, entry_of, became, nothing, quiet_happens, step_happens, Fits, fits_by, state_up, state_down}
+use Rattle.mq_law_one.proofs.Happening.{Deeded, deed_of_parts, entry_of, became, nothing, quiet_happens, step_happens, Fits, fits_by}
 use Rattle.mq_law_one.proofs.Calls.{Happens}
 
 -- Commands on objects

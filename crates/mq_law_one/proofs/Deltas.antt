@@ -1,6 +1,6 @@
 -- No event of a manager without channels commits what a channel received.
-use Rattle.std.proofs.Common.{ℕ, zero, suc, ◌≡◌, Bool, true, false, not, List, [], ◌∷◌, ◌++◌, refl, ap, sym, subst, ◌∙◌, map}
-use Rattle.std.specs.Prelude.{Option, Some, None, Result, Ok, Err, ◌==◌, if◌then◌else◌, flat_map, filter, slice_get, length}
+use Rattle.std.proofs.Common.{ℕ, zero, suc, ◌≡◌, Bool, true, false, not, List, [], ◌∷◌, ◌++◌, refl, sym, subst, map}
+use Rattle.std.specs.Prelude.{Option, Some, None, Result, Ok, Err, if◌then◌else◌, flat_map, filter, slice_get, length}
 use Rattle.mq_message.specs.declared.message.Md.{Md}
 use Rattle.mq_message.specs.declared.message.Message.{Message}
 use Rattle.mq_codes.specs.declared.reason.Reason.{Reason}
@@ -60,10 +60,10 @@ use Rattle.mq_spec_state.specs.Steps.Step.{Refuse, Do}
 use Rattle.mq_spec_manager.specs.Handles.{is_unfit, option_tests, open_tests, open_step, new_hconn, new_connection, connected, mqconn, mqopen, mqclose, conn_tests, close_up, close_handle}
 use Rattle.mq_spec_manager.specs.Put.{output_only, mqput, mqput1, put_up, put_handle, put_route, put_part, put_tests, put1_resolved, output_tests, handle_route, new_message, queue_at}
 use Rattle.mq_spec_manager.specs.Get.{mqget, get_up, get_handle, get_tests, room_tests, get_found, scanned, expired_parts, removal_parts, taking_part, found_part, is_destructive, is_under, is_waiting, is_left, with_row, without_row}
-use Rattle.mq_spec_manager.specs.Units.{mqcmit, mqback, mqdisc, commit_part, commit_delta, backout_part, removed_item, placed_did, released_did}
+use Rattle.mq_spec_manager.specs.Units.{mqcmit, mqback, mqdisc, removed_item, placed_did, released_did}
 use Rattle.mq_spec_manager.specs.Commands.{command, planned_step, uses_of}
 use Rattle.mq_spec_manager.specs.Stops.{stop_at, restart_at}
-use Rattle.mq_spec_manager.specs.Triggers.{Never, first_due, trigger_turn, trigger_at, serve, serve_by, serve_into, put_trigger, takes_it}
+use Rattle.mq_spec_manager.specs.Triggers.{first_due, trigger_turn, trigger_at, serve, serve_by, serve_into, put_trigger, takes_it}
 use Rattle.mq_history.specs.declared.calls.Actor.TheVariants as actors
 use Rattle.mq_message.specs.declared.message.Dest.{Dest}
 use Rattle.mq_message.specs.declared.message.Ident.{Ident}
@@ -77,9 +77,8 @@ use Rattle.mq_spec_agents.specs.Moves.{bare_if, move_full, move_part, move_resol
 use Rattle.mq_spec_node.specs.Handlers as handlers
 use Rattle.mq_spec_node.specs.Node.{Node, Own, Handler, handler_in}
 use Rattle.mq_spec_node.specs.Deeds.{Deed, told, parts_of, done, mqi_deed, ended_deed}
-use Rattle.mq_spec_node.specs.Happens.{handler_turn, crashed, event, IsEvent, IsDeed, IsReturn, done_or, get_deed, command_deed, where_up, trigger_deed, trigger_deed_of, turn_up, timeout_by}
+use Rattle.mq_spec_node.specs.Happens.{handler_turn, crashed, event, IsEvent, IsReturn, done_or, get_deed, command_deed, where_up, trigger_deed_of, turn_up, timeout_by}
 use Rattle.mq_spec_node.specs.Happens.{restarted as node_restarted}
-use Rattle.mq_spec_node.specs.Operators as operators
 use Rattle.mq_spec_node.specs.Status.{show_status, shown, status_line, is_asked}
 use Rattle.mq_spec_node.specs.Replays.{IsOwn}
 use Rattle.mq_spec_network.specs.Order.{unit_received}

@@ -1,6 +1,6 @@
 -- Turns of the dead-letter handler: the ledger follows.
-use Rattle.std.proofs.Common.{ℕ, zero, suc, ◌≡◌, ◌≢◌, ◌⊎◌, Bool, true, false, not, List, [], ◌∷◌, ◌++◌, refl, ap, sym, subst, ◌∙◌, inl, inr, map}
-use Rattle.std.specs.Prelude.{Option, Some, None, Result, Ok, Err, ◌==◌, ◌+◌, if◌then◌else◌, ◌&&◌, slice_get, filter, find, length, nat_le, codes}
+use Rattle.std.proofs.Common.{ℕ, ◌≡◌, ◌⊎◌, Bool, true, false, not, List, [], ◌∷◌, ◌++◌, refl, ap, sym, subst, ◌∙◌, inl, inr}
+use Rattle.std.specs.Prelude.{Option, Some, None, Result, Ok, Err, ◌+◌, if◌then◌else◌, ◌&&◌, slice_get, filter, find, length, codes}
 use Rattle.std.specs.Str.{bytes_eq}
 use Rattle.std.specs.Option.{option_map}
 use Rattle.mq_message.specs.declared.message.Dest.{Dest}
@@ -26,30 +26,27 @@ use Rattle.mq_history.specs.declared.calls.Actor.{Actor}
 use Rattle.mq_history.specs.declared.calls.Call.TheVariants as calls
 use Rattle.mq_history.specs.declared.calls.Chance.TheVariants as chances
 use Rattle.mq_history.specs.declared.calls.Entry.{Entry}
-use Rattle.mq_history.specs.declared.calls.Reply.{Reply}
 use Rattle.mq_history.specs.declared.calls.Reply.TheVariants as replies
 use Rattle.mq_spec_state.specs.State.{Plain, Running}
 use Rattle.mq_spec_state.specs.State.Running.{Up, Down}
 use Rattle.mq_spec_state.specs.Reads.{stored}
-use Rattle.mq_spec_state.specs.Steps.{Step, Part, when, tested, delta_of, do_part, do_all, logged}
+use Rattle.mq_spec_state.specs.Steps.{Step, Part, when, delta_of, do_part, do_all, logged}
 use Rattle.mq_spec_state.specs.Steps.Step.{Refuse, Do}
 use Rattle.mq_spec_manager.specs.Get.{removal_parts}
-use Rattle.mq_spec_manager.specs.Put.{queue_at}
 use Rattle.mq_spec_manager.specs.Triggers.{Never}
-use Rattle.mq_spec_agents.specs.Batches.{row_with}
-use Rattle.mq_spec_agents.specs.Conditions.{is_ordinary, HasFreeRow, CanMove}
+use Rattle.mq_spec_agents.specs.Conditions.{is_ordinary, HasFreeRow}
 use Rattle.mq_spec_agents.specs.Landing.{Landing, landing, route_tests}
-use Rattle.mq_spec_agents.specs.Moves.{bare_if, move_part, move_full, moved_forced, move_landing, move_resolved, move_found, move_row, discard}
+use Rattle.mq_spec_agents.specs.Moves.{bare_if, move_part, move_full, moved_forced, move_resolved, move_found, move_row, discard}
 use Rattle.mq_spec_manager.specs.Heads.{is_dead}
-use Rattle.mq_spec_node.specs.Node.{Node, Own, Handler, handler_in, with_handler}
-use Rattle.mq_spec_node.specs.Deeds.{Deed, told, parts_of, CanCome, done, node_of, forgotten_rows}
+use Rattle.mq_spec_node.specs.Node.{Node, Own, Handler, with_handler}
+use Rattle.mq_spec_node.specs.Deeds.{Deed, told, parts_of, CanCome, forgotten_rows}
 use Rattle.mq_spec_node.specs.Handlers as handlers
 use Rattle.mq_spec_node.specs.Happens.{IsDeed, where_up, handler_turn, done_or, remembered, remembering}
 use Rattle.mq_spec_network.specs.Ledger as ledgers
 use Rattle.mq_spec_network.specs.Ledger.{Ledger, posted, take_all_gone, move_all, received_on, receive_if}
 use Rattle.mq_spec_network.specs.Story.{Mem}
 use Rattle.mq_law_rows.specs.World.{ident_of}
-use Rattle.mq_law_rows.proofs.Lists.{bool_case, true_false, ident_yes, ident_self}
+use Rattle.mq_law_rows.proofs.Lists.{bool_case, ident_yes, ident_self}
 use Rattle.mq_law_manager.specs.Kept.{AllKeep, StepKeeps}
 use Rattle.mq_law_manager.specs.Facts.{IsSound, Differ}
 use Rattle.mq_law_manager.proofs.Ending.{joined}
@@ -58,14 +55,14 @@ use Rattle.mq_law_manager.proofs.Lists.{one_row}
 use Rattle.mq_law_manager.proofs.Steps.{free_is}
 use Rattle.mq_law_manager.proofs.Stocks.{move_stocked, discard_stocked}
 use Rattle.mq_law_events.specs.Tied.{AreShelved, IsTold, IsFresh, Follow}
-use Rattle.mq_law_events.specs.Posting.{StepFollows, StopFollows}
+use Rattle.mq_law_events.specs.Posting.{StopFollows}
 use Rattle.mq_law_events.proofs.Events as events
 use Rattle.mq_law_events.proofs.Halting.{IsShort, short_stops, tested_all}
 use Rattle.mq_law_events.proofs.Moving.{move_follows, moved, bare_ident}
 use Rattle.mq_law_events.proofs.Serving.{discard_follows}
 use Rattle.mq_law_events.proofs.Taking.{removed_all}
 use Rattle.mq_law_one.specs.Alone.{IsState, IsAt, Became}
-use Rattle.mq_law_one.proofs.Happening.{Deeded, deed_of_parts, entry_of, nothing, step_happens, kept_ends}
+use Rattle.mq_law_one.proofs.Happening.{Deeded, entry_of, nothing, step_happens, kept_ends}
 
 -- what a turn posts
 abbrev post_turn : ℕ → List Did → Ledger → Ledger
@@ -179,10 +176,9 @@ move_fits m given p l q x to bare f t h k =
     go (Ok route) e =
         let lnd : Landing = landing route (bare_if bare x.message) in
         let part : Part = move_part q to bare lnd in
-        tested_all (MoveFits m given p l) (λ r. tt) (route_tests route (length lnd.message.body) p ++ when (move_full q lnd p) reasons.ResourceProblem ∷ []) (Do tt (part ∷ []))
-        (
+        tested_all (MoveFits m given p l) (λ r. tt) (route_tests route (length lnd.message.body) p ++ when (move_full q lnd p) reasons.ResourceProblem ∷ []) (Do tt (part ∷ [])) (
           subst (λ i. Follow m given p l (do_part part p) (ledgers.move_row m to bare (ledgers.row_in i (ledgers.places_at m l).queues) l)) (sym (bare_ident bare x.message))
-          (part_follows m given p l q x to bare route (moved_forced q lnd) f t k.there k.free e),
+              (part_follows m given p l q x to bare route (moved_forced q lnd) f t k.there k.free e),
           tt,
         )
 

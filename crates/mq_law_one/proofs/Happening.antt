@@ -1,34 +1,18 @@
 -- Each event of a manager without channels: what it leaves, and what is posted of it.
-use Rattle.std.proofs.Common.{ℕ, zero, suc, ◌≡◌, Bool, true, false, not, List, [], ◌∷◌, ◌++◌, refl, ap, sym, subst, ◌∙◌, inl, inr, map}
-use Rattle.std.specs.Prelude.{Option, Some, None, Result, Ok, Err, ◌==◌, ◌+◌, ◌-◌, min, if◌then◌else◌, ◌&&◌, slice_get, nat_lt, filter}
+use Rattle.std.proofs.Common.{ℕ, zero, suc, ◌≡◌, Bool, true, false, List, [], ◌∷◌, refl, ap, sym, subst, ◌∙◌}
+use Rattle.std.specs.Prelude.{Option, Some, None, Result, Err, ◌==◌, if◌then◌else◌, ◌&&◌, slice_get}
 use Rattle.mq_message.specs.declared.message.Ident.{Ident}
 use Rattle.mq_message.specs.declared.message.Message.{Message}
 use Rattle.mq_codes.specs.declared.reason.Reason.{Reason}
 use Rattle.mq_codes.specs.declared.reason.Reason.TheVariants as reasons
-use Rattle.mq_frame.specs.declared.frame.Seen.{Seen}
-use Rattle.mq_objects.specs.declared.object.Definitions.{Definitions}
-use Rattle.mq_objects.specs.declared.command.Command.{Command}
-use Rattle.mq_objects.specs.declared.command.Command.TheVariants as object_commands
-use Rattle.mq_sc_apply.specs.declared.answers.Planned.{Planned}
-use Rattle.mq_sc_apply.specs.declared.answers.Plan.{Plan}
-use Rattle.mq_sc_apply.specs.declared.answers.Plan.TheVariants as plans
-use Rattle.mq_sc_apply.specs.Commands.{plan}
-use Rattle.mq_sc_parse.specs.declared.command.Command.TheVariants as lines
 use Rattle.mq_disk.specs.declared.cutter.Stop.{Stop}
 use Rattle.mq_calls.specs.declared.answers.Answer.{Answer}
 use Rattle.mq_calls.specs.declared.answers.Answer.TheVariants as answers
-use Rattle.mq_calls.specs.declared.answers.Get.{Get}
-use Rattle.mq_calls.specs.declared.answers.Got.{Got}
-use Rattle.mq_calls.specs.declared.answers.GetAnswer.{GetAnswer}
-use Rattle.mq_calls.specs.declared.answers.GetAnswer.TheVariants as get_answers
 use Rattle.mq_calls.specs.declared.answers.Hconn.{Hconn}
 use Rattle.mq_calls.specs.declared.choices.Choice.{Choice}
 use Rattle.mq_calls.specs.declared.choices.Choice.TheVariants.{Runs, NoMemory, Stopped}
-use Rattle.mq_calls.specs.declared.commands.Shown.{Shown}
-use Rattle.mq_calls.specs.declared.commands.ScRefusal.{ScRefusal}
 use Rattle.mq_calls.specs.declared.deltas.Did.{Did}
 use Rattle.mq_calls.specs.declared.state.Connection.{Connection}
-use Rattle.mq_history.specs.declared.acts.Acted.TheVariants as acted
 use Rattle.mq_history.specs.declared.calls.Actor.{Actor}
 use Rattle.mq_history.specs.declared.calls.Actor.TheVariants as actors
 use Rattle.mq_history.specs.declared.calls.Call.{Call}
@@ -39,27 +23,25 @@ use Rattle.mq_history.specs.declared.calls.Reply.{Reply}
 use Rattle.mq_history.specs.declared.calls.Reply.TheVariants as replies
 use Rattle.mq_calls.specs.declared.records.LogRecord.{LogRecord}
 use Rattle.mq_objects.specs.Names.{local_of}
-use Rattle.mq_spec_state.specs.State.{Plain, Given, Running, Noted, Change, LogState}
+use Rattle.mq_spec_state.specs.State.{Plain, Given, Running, Noted, Change}
 use Rattle.mq_spec_state.specs.State.Running.{Up, Down}
 use Rattle.mq_spec_state.specs.State.Change.{Place, Try, Leave, Hold, Release, Connect, Disconnect, OpenHandle, CloseHandle, SetCursor, Pend, EndUnit, MakeStale, CountIdent, ChangeObjects, Renew, DropQueue, SwitchOn, Serve, SetSender, SetReceiver, Undoubt, Seize, Unseize, AddBatch, DropBatch, SetBound, SetMoment, ForgetAll}
 use Rattle.mq_spec_state.specs.Reads.{is_up, connection_at}
 use Rattle.mq_spec_state.specs.Changes.{apply, apply_all, try_if}
 use Rattle.mq_spec_state.specs.Condition.{condition}
-use Rattle.mq_spec_state.specs.Steps.{Step, Part, After, logged, do_part, do_all, delta_of, delta_before, stopped_at, note_of, IsWrite}
-use Rattle.mq_spec_state.specs.Steps as steps
+use Rattle.mq_spec_state.specs.Steps.{Step, Part, logged, do_part, do_all, delta_of, delta_before, stopped_at, note_of, IsWrite}
 use Rattle.mq_spec_state.specs.Steps.Step.{Refuse, Do}
 use Rattle.mq_spec_manager.specs.Handles.{connected, live_or, for_connection, is_other, is_present}
-use Rattle.mq_spec_node.specs.Node.{Node, Own, Handler, change_monitor}
-use Rattle.mq_spec_node.specs.Deeds.{Deed, Done, still_tried, told, mqi_deed, ended_deed, done, CanCome, forgotten_rows, node_of}
+use Rattle.mq_spec_node.specs.Node.{Node, Own, Handler}
+use Rattle.mq_spec_node.specs.Deeds.{Deed, told, mqi_deed, ended_deed, done, CanCome, forgotten_rows, node_of}
 use Rattle.mq_spec_node.specs.Happens.{remembered, remembering}
 use Rattle.mq_spec_network.specs.Ledger as ledgers
 use Rattle.mq_spec_network.specs.Ledger.{Ledger, Users, posted, cut, take_all_gone}
 use Rattle.mq_law_manager.specs.Kept.{StepKeeps, AllKeep}
 use Rattle.mq_law_manager.specs.Facts.{IsSound, IsFrozen}
 use Rattle.mq_law_manager.proofs.Ending.{ends}
-use Rattle.mq_law_events.specs.Local.{Leads, side_of, sheet_of}
-use Rattle.mq_law_events.specs.Tied.{IsTold, IsFresh, IsSame, IsElse, Follow}
-use Rattle.mq_law_events.specs.Posting.{StepFollows, StopFollows, IsTimed, post_get}
+use Rattle.mq_law_events.specs.Tied.{Follow}
+use Rattle.mq_law_events.specs.Posting.{StepFollows, StopFollows}
 use Rattle.mq_law_events.proofs.Telling.{here_changed, else_then, else_users}
 use Rattle.mq_law_events.proofs.Calling.{calm_follows, calm_none}
 use Rattle.mq_law_one.specs.Alone.{IsState, IsAt, Became}
@@ -101,7 +83,7 @@ became_marked m given n l next k g cs mo a f e state =
         fresh = f.fresh;
         number = ap (λ (g : Given). g.number) f.same.given ∙ a.number;
         ends = e;
-            batches = f.same.batches ∙ a.batches;
+        batches = f.same.batches ∙ a.batches;
         timed = record { users = g f.told.users; used = used; moment = mo f.told.users ∙ (f.kept a.timed.users f.told.users a.timed.used f.told.used).moment ∙ a.timed.moment ∙ sym f.steady };
         state = state;
       };

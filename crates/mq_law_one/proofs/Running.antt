@@ -1,5 +1,5 @@
 -- The induction over the prefixes of a story of managers without channels.
-use Rattle.std.proofs.Common.{ℕ, zero, suc, ◌≡◌, ◌⊎◌, Bool, true, false, not, List, [], ◌∷◌, ◌++◌, refl, ap, sym, subst, ◌∙◌, inl, inr, map, arith}
+use Rattle.std.proofs.Common.{ℕ, zero, suc, ◌≡◌, Bool, true, false, List, [], ◌∷◌, ◌++◌, refl, ap, sym, subst, ◌∙◌, inl, inr, map, arith}
 use Rattle.std.specs.Prelude.{Option, Some, None, ◌==◌, ◌+◌, if◌then◌else◌, ◌&&◌, ◌||◌, slice_get, nat_lt, nat_le}
 use Rattle.std.specs.Option.{option_map}
 use Rattle.std.specs.Str.{bytes_eq}
@@ -9,7 +9,6 @@ use Rattle.mq_message.specs.declared.message.Ident.{Ident}
 use Rattle.mq_sync.specs.declared.unit.Unit.{Unit as Luw}
 use Rattle.mq_frame.specs.declared.frame.Seen.{Seen}
 use Rattle.mq_calls.specs.declared.choices.Return.{Return}
-use Rattle.mq_calls.specs.declared.deltas.Did.{Did}
 use Rattle.mq_history.specs.declared.acts.Act.TheVariants as acts
 use Rattle.mq_history.specs.declared.calls.Actor.{Actor}
 use Rattle.mq_history.specs.declared.calls.Actor.TheVariants as actors
@@ -19,26 +18,21 @@ use Rattle.mq_history.specs.declared.calls.Chance.{Chance}
 use Rattle.mq_history.specs.declared.calls.Chance.TheVariants as chances
 use Rattle.mq_history.specs.declared.calls.Entry.{Entry}
 use Rattle.mq_history.specs.declared.history.History.{History}
-use Rattle.mq_history.specs.declared.scenario.CableLine.{CableLine}
-use Rattle.mq_history.specs.declared.scenario.RulesPart.{RulesPart}
 use Rattle.mq_history.specs.declared.scenario.Scenario.{Scenario}
-use Rattle.mq_history.specs.declared.story.ManagerPlaces.{ManagerPlaces}
 use Rattle.mq_sc_parse.specs.declared.command.Command.TheVariants as lines
-use Rattle.mq_spec_state.specs.State.{Plain, Queue, Given, Running}
+use Rattle.mq_spec_state.specs.State.{Plain, Queue, Running}
 use Rattle.mq_spec_state.specs.State.Running.{Up, Down}
 use Rattle.mq_spec_manager.specs.Get.{mqget}
-use Rattle.mq_spec_agents.specs.Standing.{is_unborn}
-use Rattle.mq_spec_node.specs.Node.{Node, Own, Handler, as_sender, as_receiver, end_in, handler_in}
+use Rattle.mq_spec_node.specs.Node.{Node, Handler, handler_in}
 use Rattle.mq_spec_node.specs.Deeds.{Deed, end_begun}
-use Rattle.mq_spec_node.specs.Happens.{get_deed, trigger_deed, event, IsEvent, IsDeed, where_up, turn_up, timeout_by, sender_turn, receiver_turn, handler_turn, timeout_of}
-use Rattle.mq_spec_node.specs.Replays.{Tells, Follows, NoneForeign, IsOwn, done_by, opening_node}
+use Rattle.mq_spec_node.specs.Happens.{get_deed, trigger_deed, event, IsEvent, IsDeed, where_up, turn_up, timeout_by}
+use Rattle.mq_spec_node.specs.Replays.{Tells, NoneForeign, IsOwn, done_by, opening_node}
 use Rattle.mq_spec_network.specs.Apart.{maker}
-use Rattle.mq_spec_network.specs.Conflict.{NoConflict}
-use Rattle.mq_spec_network.specs.Given.{surroundings, ends_from, handlers_from}
-use Rattle.mq_spec_network.specs.Ledger.{Ledger, Users, ledger, posted}
-use Rattle.mq_spec_network.specs.Order.{AllInOrder, AllInOrderFrom, OrderAt, unit_received, forced_in, Forced}
-use Rattle.mq_spec_network.specs.Promised.{Holds, Premises, Promised, AreImages}
-use Rattle.mq_spec_network.specs.Standing.{node_after, managers_at, opening_managers, opening_ledger, opening_ledger_of, places_of, stored_standing}
+use Rattle.mq_spec_network.specs.Given.{surroundings, ends_from}
+use Rattle.mq_spec_network.specs.Ledger.{Ledger, ledger, posted}
+use Rattle.mq_spec_network.specs.Order.{AllInOrderFrom, OrderAt, unit_received, forced_in, Forced}
+use Rattle.mq_spec_network.specs.Promised.{Premises, Promised}
+use Rattle.mq_spec_network.specs.Standing.{node_after, managers_at, opening_managers, opening_ledger, places_of, stored_standing}
 use Rattle.mq_spec_network.specs.Story.{Mem, Line, IsStory, part, entries_or, entries_at}
 use Rattle.mq_law_rows.specs.World.{Ghost, Inv}
 use Rattle.mq_law_rows.proofs.Lists.{map_mem, bool_case, eqb_self, eqb_yes, true_false}
@@ -47,11 +41,10 @@ use Rattle.mq_law_seen.specs.Given.{given_by, is_given}
 use Rattle.mq_law_story.specs.Told.{IsTold as IsOperated}
 use Rattle.mq_law_story.proofs.Beginning.{images_have_the_facts}
 use Rattle.mq_law_story.proofs.Promising.{rows_promised, once_promised}
-use Rattle.mq_law_story.proofs.Weaving.{part_append, node_step, manager_at, other_manager, this_manager, ledger_step, story_tells}
-use Rattle.mq_law_manager.specs.Facts.{AreNamed, IsSound, IsFrozen}
+use Rattle.mq_law_story.proofs.Weaving.{node_step, manager_at, other_manager, this_manager, ledger_step, story_tells}
+use Rattle.mq_law_manager.specs.Facts.{AreNamed}
 use Rattle.mq_law_manager.proofs.Ending.{first_sound}
-use Rattle.mq_law_events.specs.Tied.{AreShelved, IsTold, IsFresh, IsElse, IsNext}
-use Rattle.mq_law_events.specs.Posting.{IsTimed}
+use Rattle.mq_law_events.specs.Tied.{AreShelved, IsElse, IsNext}
 use Rattle.mq_law_events.proofs.Stepping.{moves_on}
 use Rattle.mq_law_one.specs.Alone.{IsAlone, FindsNone, AllFindNone, NoneFound, AreKnownOnce, IsState, IsAt, Became}
 use Rattle.mq_law_one.proofs.Happening.{entry_of}
@@ -205,7 +198,7 @@ step s hs p x z t =
     let a = z.at m t.h t.is in
     let k : Ledger = posted m e e.reply l in
     let b : Became m z.given n l next k = subst (λ y. Became m z.given n l next y) (λ i. posted m (entry_of e e.call e.chance (sym t.tells.reply i) (sym t.tells.delta i) (sym t.tells.received i)) (sym t.tells.reply i) l)
-        (happens m z.given n l e e.stamp e.actor e.call e.chance e.effect.popped a t.tells.event t.own t.none) in
+    (happens m z.given n l e e.stamp e.actor e.call e.chance e.effect.popped a t.tells.event t.own t.none) in
     let whole : k ≡ ledger (opening_ledger s hs) (p ++ x ∷ []) = sym (ledger_step (opening_ledger s hs) p x) in
     let at_next : IsNext m n.manager next.manager (managers_at s p hs) (managers_at s (p ++ x ∷ []) hs) = record {
       at = manager_at s p hs m ∙ ap (option_map (λ (h : History). (node_after s m p h).manager)) t.is;
@@ -292,10 +285,6 @@ one_more : {A : Type 0} (xs : List A) (y : A) (ys : List A) → (xs ++ y ∷ [])
 one_more [] y ys = refl
 one_more (x ∷ xs) y ys = ap (λ zs. x ∷ zs) (one_more xs y ys)
 
-appended : {A : Type 0} (xs ys zs : List A) → (xs ++ ys) ++ zs ≡ xs ++ (ys ++ zs)
-appended [] ys zs = refl
-appended (x ∷ xs) ys zs = ap (λ ws. x ∷ ws) (appended xs ys zs)
-
 none_more : {A : Type 0} (xs : List A) → xs ++ [] ≡ xs
 none_more [] = refl
 none_more (x ∷ xs) = ap (λ ys. x ∷ ys) (none_more xs)
@@ -315,11 +304,10 @@ orders s hs before (x ∷ p) rest fs premises found story z =
     let n : Node = node_after s x.manager before t.h in
     let l : Ledger = ledger (opening_ledger s hs) before in
     let a = z.at x.manager t.h t.is in
-    let quiet : unit_received x.entry.effect.delta ≡ None = ap unit_received t.tells.delta ∙ event_quiet n x.entry.stamp x.entry.actor x.entry.call x.entry.chance x.entry.effect.popped a.ends t.tells.event t.own t.none in
-    (
+    let quiet : unit_received x.entry.effect.delta ≡ None = ap unit_received t.tells.delta ∙ event_quiet n x.entry.stamp x.entry.actor x.entry.call x.entry.chance x.entry.effect.popped a.ends t.tells.event t.own t.none in (
       subst (λ o. OrderAt o fs x l (posted x.manager x.entry x.entry.reply l)) (sym quiet) tt,
       subst (λ y. AllInOrderFrom (forced_in x.entry fs) y p) (ledger_step (opening_ledger s hs) before x)
-      (orders s hs (before ++ x ∷ []) p rest (forced_in x.entry fs) premises found (subst (IsStory hs) (sym (one_more before x (p ++ rest))) story) (step s hs before x z t)),
+          (orders s hs (before ++ x ∷ []) p rest (forced_in x.entry fs) premises found (subst (IsStory hs) (sym (one_more before x (p ++ rest))) story) (step s hs before x z t)),
     )
 
 named : (r : Running) (p : Plain) → IsState r p → AreNamed p.queues
