@@ -1,3 +1,4 @@
+pub mod Known
 pub mod Happening
 pub mod Calls
 pub mod Acting

@@ -9,7 +9,6 @@ use Rattle.mq_history.specs.declared.history.History.{History}
 use Rattle.mq_history.specs.declared.scenario.Scenario.{Scenario}
 use Rattle.mq_spec_state.specs.State.{Plain, Running}
 use Rattle.mq_spec_state.specs.State.Running.{Up, Down}
-use Rattle.mq_spec_state.specs.Recovery.{AreKnown}
 use Rattle.mq_spec_node.specs.Node.{Node}
 use Rattle.mq_spec_network.specs.Ledger.{Ledger}
 use Rattle.mq_law_manager.specs.Facts.{AreOnce, IsSound, IsFrozen}
@@ -36,11 +35,9 @@ AllFindNone (e ∷ es) = FindsNone e.chance × AllFindNone es
 abbrev pub NoneFound : List History → Type 0
 NoneFound hs = (m : ℕ) (h : History) → slice_get hs m ≡ Some h → AllFindNone h.entries
 
--- what is still asked of the openings beside that they are images: no name of objects stands twice in its space, and each log
--- knew the incarnations of its manager's own idents
-pub record AreKnownOnce (hs : List History) : Type 0 where
-  pub once : (m : ℕ) (h : History) → slice_get hs m ≡ Some h → AreOnce h.opening.definitions.objects
-  pub known : (m : ℕ) (h : History) → slice_get hs m ≡ Some h → AreKnown (m + 1) h.opening
+-- what is still asked of the openings beside that they are images: no name of objects stands twice in its space
+abbrev pub AreNamedOnce : List History → Type 0
+AreNamedOnce hs = (m : ℕ) (h : History) → slice_get hs m ≡ Some h → AreOnce h.opening.definitions.objects
 
 -- a manager that is up has its facts; one that is down what is left of them
 abbrev pub IsState : Running → Plain → Type 0
