@@ -1,6 +1,6 @@
 -- A sound manager has what the law of the log needs.
 use Rattle.std.proofs.Common.{ℕ, ◌≡◌, ◌≢◌, Bool, true, false, List, [], ◌∷◌, ◌++◌, refl, ap, sym, subst, ◌∙◌, arith, inl, inr}
-use Rattle.std.specs.Prelude.{Option, Some, if◌then◌else◌, ◌==◌, ◌&&◌, ◌||◌, nat_lt, nat_le}
+use Rattle.std.specs.Prelude.{Option, None, Some, is_some, if◌then◌else◌, ◌==◌, ◌&&◌, ◌||◌, nat_lt, nat_le}
 use Rattle.std.specs.Str.{bytes_eq}
 use Rattle.std.specs.List.{AllByRecursion, list_any}
 use Rattle.std.proofs.lemmas.Bool.Decides.{nat_tests}
@@ -13,21 +13,29 @@ use Rattle.mq_queue.specs.Queues.{Lacks, AreDistinct, AllBehind, AreInOrder}
 use Rattle.mq_calls.specs.declared.records.Add.{Add}
 use Rattle.mq_calls.specs.declared.state.Item.{Item}
 use Rattle.mq_calls.specs.declared.state.Item.TheVariants.{Put, Take}
-use Rattle.mq_spec_state.specs.State.{Plain, Queue, Connection, Batch}
+use Rattle.mq_spec_state.specs.State.{Plain, Queue, Connection, Handle, SenderSide, Batch}
 use Rattle.mq_spec_state.specs.State.Which.{Among}
 use Rattle.mq_spec_state.specs.Reads.{queue_in, connection_at, batch_of, is_by_unit}
 use Rattle.mq_spec_state.specs.Changes.{selects}
-use Rattle.mq_spec_manager.specs.Put.{next_ident}
+use Rattle.mq_message.specs.declared.message.Message.{Message}
+use Rattle.mq_objects.specs.declared.object.LocalQueue.{LocalQueue}
+use Rattle.mq_objects.specs.Names.{local_of, is_transmission}
+use Rattle.mq_sync.specs.declared.data.InDoubt.{InDoubt}
+use Rattle.mq_spec_agents.specs.Words.{doubts}
+use Rattle.mq_spec_log.specs.Applies.{agrees, fits_local}
+use Rattle.mq_spec_manager.specs.Put.{next_ident, queue_at}
 use Rattle.mq_law_manager.specs.View.{Taken, view, puts_in, takes_in, items_of}
-use Rattle.mq_law_manager.specs.Facts.{Mem, Differ, put_ident, taken_ident, IsOf, Sound, AreNamed, IsSound}
-use Rattle.mq_law_manager.proofs.Lists.{bool_case, ident_no, ident_self, ident_yes, distinct_of, one_row}
+use Rattle.mq_law_manager.specs.Facts.{Mem, Differ, put_ident, taken_ident, IsOf, Sound, AreNamed, IsFit, IsUnlisted, listed, IsSound}
+use Rattle.mq_law_manager.proofs.Lists.{bool_case, is_false, any_mem, mem_any, ident_no, ident_self, ident_yes, distinct_of, one_row}
 use Rattle.mq_law_manager.proofs.Named.{name_is, name_self, name_turned}
 use Rattle.mq_law_manager.proofs.Batches.{by_batch, is_by_batch}
 use Rattle.mq_law_manager.proofs.Needed.{next_lacks, put_lacks}
-use Rattle.mq_law_log.specs.Keeps.{AreLaned, IsNew, HoldsJust}
-use Rattle.mq_law_log.specs.Sound.{all_rows, IsItem, item_ident, AreApart, IsUnit, IsRouted, IsLogSound}
+use Rattle.mq_law_manager.proofs.Puts.{next_unborn}
+use Rattle.mq_law_manager.proofs.Stocks.{connection_mem}
+use Rattle.mq_law_log.specs.Keeps.{AreLaned, AreUnlisted, IsNew, HoldsJust}
+use Rattle.mq_law_log.specs.Sound.{all_rows, IsItem, item_ident, AreApart, IsUnit, LeadsWell, IsLogSound}
 
-all_of : {A : Type 0} (P : A → Type 0) (xs : List A) → ((x : A) → Mem x xs → P x) → AllByRecursion P xs
+pub all_of : {A : Type 0} (P : A → Type 0) (xs : List A) → ((x : A) → Mem x xs → P x) → AllByRecursion P xs
 all_of P [] h = tt
 all_of P (x ∷ xs) h = (h x (inl refl), all_of P xs (λ y m. h y (inr m)))
 
@@ -37,11 +45,11 @@ entry_found [] n q m = absurd m
 entry_found (x ∷ xs) n q (inl e) = ap (λ (y : Queue). if bytes_eq q.name y.name then y else queue_in q.name xs) (sym e) ∙ ap (λ (b : Bool). if b then q else queue_in q.name xs) (name_self q.name)
 entry_found (x ∷ xs) n q (inr m) = ap (λ (b : Bool). if b then x else queue_in q.name xs) (name_turned q.name x.name ∙ n.0 q m) ∙ entry_found xs n.1 q m
 
-rows_of : (p : Plain) → AreNamed p.queues → (q : Queue) → Mem q p.queues → (view p).rows q.name ≡ q.rows
+pub rows_of : (p : Plain) → AreNamed p.queues → (q : Queue) → Mem q p.queues → (view p).rows q.name ≡ q.rows
 rows_of p n q m = ap (λ (x : Queue). x.rows) (entry_found p.queues n q m)
 
 -- what holds of the rows of each name holds of each queue
-each_queue : (P : List Row → Type 0) (p : Plain) → AreNamed p.queues → ((name : List ℕ) → P ((view p).rows name)) → AllByRecursion (λ (q : Queue). P q.rows) p.queues
+pub each_queue : (P : List Row → Type 0) (p : Plain) → AreNamed p.queues → ((name : List ℕ) → P ((view p).rows name)) → AllByRecursion (λ (q : Queue). P q.rows) p.queues
 each_queue P p n h = all_of (λ (q : Queue). P q.rows) p.queues (λ q m. subst P (rows_of p n q m) (h q.name))
 
 -- Lanes
@@ -72,7 +80,7 @@ lacks_all : (i : Ident) (qs : List Queue) → ((q : Queue) → Mem q qs → Lack
 lacks_all i [] h = tt
 lacks_all i (q ∷ qs) h = lacks_append i q.rows (all_rows qs) (h q (inl refl)) (lacks_all i qs (λ d m. h d (inr m)))
 
-lacks_by : (i : Ident) (rows : List Row) → ((y : Row) → Mem y rows → y.message.ident ≢ i) → Lacks i rows
+pub lacks_by : (i : Ident) (rows : List Row) → ((y : Row) → Mem y rows → y.message.ident ≢ i) → Lacks i rows
 lacks_by i [] h = tt
 lacks_by i (y ∷ ys) h = (ident_no y.message.ident i (h y (inl refl)), lacks_by i ys (λ z m. h z (inr m)))
 
@@ -89,19 +97,6 @@ distinct_all p h n (q ∷ qs) there names = distinct_append q.rows (all_rows qs)
     ))))
 
 -- Batches
-
-any_mem : (i : Ident) (is : List Ident) → list_any (same_ident i) is ≡ true → Mem i is
-any_mem i [] e = absurd cc
-any_mem i (x ∷ xs) e = bool_case (same_ident i x) (λ b. same_ident i x ≡ b → (b || list_any (same_ident i) xs) ≡ true → Mem i (x ∷ xs)) (λ z w f. inl (ident_yes i x w)) (λ z w f. inr (any_mem i xs f)) refl e
-
-mem_any : (i : Ident) (is : List Ident) → Mem i is → list_any (same_ident i) is ≡ true
-mem_any i [] m = absurd m
-mem_any i (x ∷ xs) (inl e) = ap (λ (j : Ident). same_ident i j || list_any (same_ident i) xs) (sym e) ∙ ap (λ (b : Bool). b || list_any (same_ident i) xs) (ident_self i)
-mem_any i (x ∷ xs) (inr m) = right (same_ident i x) (list_any (same_ident i) xs) (mem_any i xs m)
-  where
-    right : (a b : Bool) → b ≡ true → (a || b) ≡ true
-    right true b e = refl
-    right false b e = e
 
 both : (a b : Bool) → (a && b) ≡ true → (a ≡ true) × (b ≡ true)
 both true true e = (refl, refl)
@@ -130,17 +125,37 @@ holds_just p h n b is = all_of (HoldsJust b) p.queues (λ q m. all_of _ q.rows (
 
 -- Units
 
-new_put : (p : Plain) → IsSound p → IsRouted p → (n : ℕ) (a : Add) → Mem a ((view p).puts n) → IsNew a.message.ident p
-new_put p h r n a m = record { rows = each_queue (Lacks a.message.ident) p h.named (λ name. put_lacks name n a p h.facts m); lists = r.waiting n a m }
+doubts_mem : (i : Ident) (o : Option InDoubt) → doubts i o ≡ true → Mem i (listed o)
+doubts_mem i None e = absurd cc
+doubts_mem i (Some d) e = any_mem i d.idents e
 
-items_are : (p : Plain) → IsSound p → IsRouted p → (n : ℕ) (items : List Item) → ((a : Add) → Mem a (puts_in items) → Mem a ((view p).puts n)) → ((t : Taken) → Mem t (takes_in items) → Mem t ((view p).takes n)) → AllByRecursion (λ (item : Item). IsItem item p) items
-items_are p h r n [] puts takes = tt
-items_are p h r n (Put q m ∷ items) puts takes =
+pub unlisted : (i : Ident) (p : Plain) → IsUnlisted i p.channels.senders → AreUnlisted i p
+unlisted i p u = all_of (λ (s : SenderSide). doubts i s.hardened.in_doubt ≡ false) p.channels.senders (λ s m. is_false (doubts i s.hardened.in_doubt) (λ e. u s m (doubts_mem i s.hardened.in_doubt e)))
+
+pub new_put : (p : Plain) → IsSound p → (n : ℕ) (a : Add) → Mem a ((view p).puts n) → IsNew a.message.ident p
+new_put p h n a m = record { rows = each_queue (Lacks a.message.ident) p h.named (λ name. put_lacks name n a p h.facts m); lists = unlisted a.message.ident p (h.stocked.routed.waiting n a m) }
+
+agrees_self : (b : Bool) → agrees b b ≡ true
+agrees_self true = refl
+agrees_self false = refl
+
+pub fit_fits : (o : Option LocalQueue) (m : Message) → IsFit o m → fits_local o m ≡ true
+fit_fits None m f = absurd (cc f.0)
+fit_fits (Some q) m f = ap (agrees (is_transmission q.usage)) f.1 ∙ agrees_self (is_transmission q.usage)
+
+handles_lead : (p : Plain) → IsSound p → (n : ℕ) (c : Connection) → connection_at n p.connections ≡ Some c → AllByRecursion (λ (h : Handle). LeadsWell h p) c.handles
+handles_lead p h n c live = all_of (λ (x : Handle). LeadsWell x p) c.handles (λ x m e out message is.
+    let l = h.stocked.routed.led c x (connection_mem n p.connections c live) m e in
+    fit_fits (local_of (queue_at x.leads) p.definitions) message (l.there, ap is_some is ∙ l.routed out))
+
+items_are : (p : Plain) → IsSound p → (n : ℕ) (items : List Item) → ((a : Add) → Mem a (puts_in items) → Mem a ((view p).puts n)) → ((t : Taken) → Mem t (takes_in items) → Mem t ((view p).takes n)) → AllByRecursion (λ (item : Item). IsItem item p) items
+items_are p h n [] puts takes = tt
+items_are p h n (Put q m ∷ items) puts takes =
     let a = puts (record { queue = q; message = m }) (inl refl) in
-    ((r.puts n (record { queue = q; message = m }) a, new_put p h r n (record { queue = q; message = m }) a), items_are p h r n items (λ x k. puts x (inr k)) takes)
-items_are p h r n (Take q i b ∷ items) puts takes =
+    ((fit_fits (local_of q p.definitions) m (h.stocked.puts n (record { queue = q; message = m }) a, h.stocked.routed.puts n (record { queue = q; message = m }) a), new_put p h n (record { queue = q; message = m }) a), items_are p h n items (λ x k. puts x (inr k)) takes)
+items_are p h n (Take q i b ∷ items) puts takes =
     let t = h.facts.taken.there n (record { queue = q; ident = i; persistent = b }) (takes (record { queue = q; ident = i; persistent = b }) (inl refl)) in
-    (record { row = t.row; there = t.there; own = t.is; kind = t.lasts; held = ap is_by_unit t.by }, items_are p h r n items puts (λ x k. takes x (inr k)))
+    (record { row = t.row; there = t.there; own = t.is; kind = t.lasts; held = ap is_by_unit t.by }, items_are p h n items puts (λ x k. takes x (inr k)))
 
 -- idents of a unit differ: of puts, of gets, and of one and the other
 abbrev Cross : List Add → List Taken → Type 0
@@ -158,24 +173,24 @@ items_apart (Put q m ∷ items) puts takes cross =
 items_apart (Take q i b ∷ items) puts takes cross =
     (apart_put i items (λ a k e. cross a (record { queue = q; ident = i; persistent = b }) k (inl refl) (sym e)) takes.0, items_apart items puts takes.1 (λ a t k l. cross a t k (inr l)))
 
-unit_is : (p : Plain) → IsSound p → IsRouted p → (n : ℕ) (c : Connection) → connection_at n p.connections ≡ Some c → IsUnit c.unit p
-unit_is p h r n c live =
+unit_is : (p : Plain) → IsSound p → (n : ℕ) (c : Connection) → connection_at n p.connections ≡ Some c → IsUnit c.unit p
+unit_is p h n c live =
     let puts : (view p).puts n ≡ puts_in c.unit = ap (λ (o : Option Connection). puts_in (items_of o)) live in
     let takes : (view p).takes n ≡ takes_in c.unit = ap (λ (o : Option Connection). takes_in (items_of o)) live in (
-      items_are p h r n c.unit (λ a m. subst (λ (xs : List Add). Mem a xs) (sym puts) m) (λ t m. subst (λ (xs : List Taken). Mem t xs) (sym takes) m),
+      items_are p h n c.unit (λ a m. subst (λ (xs : List Add). Mem a xs) (sym puts) m) (λ t m. subst (λ (xs : List Taken). Mem t xs) (sym takes) m),
       items_apart c.unit (subst (Differ put_ident) puts (h.facts.apart.put_once n)) (subst (Differ taken_ident) takes (h.facts.taken.take_once n))
           (λ a t k l e.
           let held = h.facts.taken.there n t (subst (λ (xs : List Taken). Mem t xs) (sym takes) l) in
           h.facts.apart.waiting n a t.queue held.row (subst (λ (xs : List Add). Mem a xs) (sym puts) k) held.there (e ∙ sym held.is)),
     )
 
-pub sound_logs : (p : Plain) → IsSound p → IsRouted p → IsLogSound p
-sound_logs p h r = record {
+pub sound_logs : (p : Plain) → IsSound p → IsLogSound p
+sound_logs p h = record {
   laned = each_queue AreLaned p h.named (λ name. laned_of ((view p).rows name) (h.facts.ordered.in_order name));
   once = distinct_all p h.facts h.named p.queues (λ q m. m) h.named;
   stocked = h.stocked.placed;
-  next = record { rows = each_queue (Lacks (next_ident p)) p h.named (λ name. next_lacks name p h.facts); lists = r.next };
-  handles = r.handles;
-  units = unit_is p h r;
+  next = record { rows = each_queue (Lacks (next_ident p)) p h.named (λ name. next_lacks name p h.facts); lists = unlisted (next_ident p) p (h.stocked.routed.given (next_ident p) (next_unborn p)) };
+  handles = handles_lead p h;
+  units = unit_is p h;
   batches = holds_just p h.facts h.named;
 }

@@ -49,4 +49,4 @@ found_sound part r left started p forced h s =
     let same : raised started (lasting there) ≡ image = ap (raised started) (told part.forced r p (lasting there) forced h.keeps) ∙ sym (h.found r left started forced).1 ∙ restart_recovers true started noted down in
     let given : there.given ≡ p.given = all_given part.changes (logged part.forced p) ∙ logged_given part.forced p in
     let rests : ImageRests p.given image = subst (λ (g : Given). ImageRests g image) given (subst (ImageRests there.given) same (lasting_rests started there (sound_still there s).still)) in
-    begun_sound p.given image (grown started (redone_if true noted down)) down.moment rests (subst ImageStocked same (lasting_stocked started there s.named s.stocked))
+    begun_sound p.given image (grown started (redone_if true noted down)) down.moment rests (subst (λ (g : Given). ImageStocked g.number image) given (subst (ImageStocked there.given.number) same (lasting_stocked started there s.facts.batched.one s.named s.stocked)))

@@ -26,7 +26,7 @@ less a b lt = grind (arith, nat_tests)
 same : (a b : ℕ) → a ≡ b → (a == b) ≡ true
 same a b e = grind (arith, nat_tests)
 
-none_held : (c : List ℕ) (bs : List Batch) → batch_of c bs ≡ None → has_batch c bs ≡ false
+pub none_held : (c : List ℕ) (bs : List Batch) → batch_of c bs ≡ None → has_batch c bs ≡ false
 none_held c [] e = refl
 none_held c (b ∷ bs) e = bool_case (bytes_eq c b.channel) (λ t. (if t then Some b else batch_of c bs) ≡ None → (t || has_batch c bs) ≡ false) (λ z w. absurd (cc w)) (λ z w. none_held c bs w) e
 
@@ -43,7 +43,7 @@ unit_found unit (Some d) e =
     let is : d.unit ≡ unit = ap (unit_or unit) e in
     both_same d.unit.session d.unit.n unit.session unit.n (ap (λ (u : Luw). u.session) is) (ap (λ (u : Luw). u.n) is)
 
-sender_doubt : (o : Option SenderData) → in_doubt_of o ≡ (sender_or o).in_doubt
+pub sender_doubt : (o : Option SenderData) → in_doubt_of o ≡ (sender_or o).in_doubt
 sender_doubt None = refl
 sender_doubt (Some d) = refl
 

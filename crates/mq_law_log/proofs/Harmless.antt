@@ -37,7 +37,7 @@ use Rattle.mq_law_log.proofs.Batches.{prepared_does}
 use Rattle.mq_law_log.proofs.Stops.{does_keep, redone_is, undone_is, frozen_lasts}
 
 -- what was down a moment ago
-abbrev gone : Running → LogState → Plain → Plain
+abbrev pub gone : Running → LogState → Plain → Plain
 gone running log p = record (volatile_gone p) { running = running; log = log }
 
 anywhere : (f : Option LogRecord) (part : Part) (p : Plain) → ((log : LogState) → Does part (record p { log = log })) → Does part (logged f p)

@@ -35,12 +35,12 @@ stale_queues : (b : Bool) (step : PathStep) (p : Plain) → (apply_all (stale_if
 stale_queues true step p = refl
 stale_queues false step p = refl
 
-switched_aside : (b : Bool) (name : List ℕ) (p : Plain) → (b ≡ true → has_queue name p.queues ≡ true) → lasting (apply_all (switched_if b name) p) ≡ lasting p
+pub switched_aside : (b : Bool) (name : List ℕ) (p : Plain) → (b ≡ true → has_queue name p.queues ≡ true) → lasting (apply_all (switched_if b name) p) ≡ lasting p
 switched_aside true name p h = ap (λ (x : List Shelf). record (lasting p) { shelves = x })
     (shelves_set p.channels.batches (record (stored name p) { switched_off = false }) p.queues ∙ shelf_again p.channels.batches name p.queues (h refl))
 switched_aside false name p h = refl
 
-renewed_by : (q : Option LocalQueue) (name : List ℕ) (p : Plain) → lasting (apply_all (renewed_if q name) p) ≡ record (lasting p) { shelves = shelf_if q name (lasting p).shelves }
+pub renewed_by : (q : Option LocalQueue) (name : List ℕ) (p : Plain) → lasting (apply_all (renewed_if q name) p) ≡ record (lasting p) { shelves = shelf_if q name (lasting p).shelves }
 renewed_by None name p = ap (λ (x : List Shelf). record (lasting p) { shelves = x }) (shelves_set p.channels.batches (fresh_queue name) p.queues)
 renewed_by (Some q) name p = refl
 
@@ -57,7 +57,7 @@ shelves_dropped bs name (q ∷ qs) = bool_case (bytes_eq name q.name)
     (λ b. shelves_of bs (if not b then q ∷ filter (λ (x : Queue). not (bytes_eq name x.name)) qs else filter (λ (x : Queue). not (bytes_eq name x.name)) qs) ≡ (if not b then shelf_of bs q ∷ filter (λ (s : Shelf). not (bytes_eq name s.name)) (shelves_of bs qs) else filter (λ (s : Shelf). not (bytes_eq name s.name)) (shelves_of bs qs)))
     (λ e. shelves_dropped bs name qs) (λ e. ap (λ (x : List Shelf). shelf_of bs q ∷ x) (shelves_dropped bs name qs))
 
-dropped_lasts : (subject : Subject) (d : Definitions) (p : Plain) → lasting (apply_all (dropped subject) p) ≡ record (lasting p) { shelves = shelves_after (changes.Delete subject) d (lasting p).shelves }
+pub dropped_lasts : (subject : Subject) (d : Definitions) (p : Plain) → lasting (apply_all (dropped subject) p) ≡ record (lasting p) { shelves = shelves_after (changes.Delete subject) d (lasting p).shelves }
 dropped_lasts (subjects.Local name) d p = ap (λ (x : List Shelf). record (lasting p) { shelves = x }) (shelves_dropped p.channels.batches name p.queues)
 dropped_lasts (subjects.Alias name) d p = refl
 dropped_lasts (subjects.Remote name) d p = refl

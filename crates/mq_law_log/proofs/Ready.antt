@@ -124,7 +124,7 @@ row_takeable queue x p once m f = bool_case (is_persistent x.message) (λ b. is_
     (λ y e. on_shelves_none p.channels.batches x.message.ident p.queues (only_one p.channels.batches x (all_rows p.queues) once (mem_stored queue x p.queues m) e))
     refl
 
-free_lasts : (bs : List Batch) (x : Row) → is_free x ≡ true → is_free (lasting_row bs x) ≡ true
+pub free_lasts : (bs : List Batch) (x : Row) → is_free x ≡ true → is_free (lasting_row bs x) ≡ true
 free_lasts bs x = by_holder x.by
   where
     by_holder : (by : Option Holder) → is_free (record x { by = by }) ≡ true → is_free (lasting_row bs (record x { by = by })) ≡ true

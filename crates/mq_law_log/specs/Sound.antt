@@ -10,13 +10,11 @@ use Rattle.mq_queue.specs.Queues.{AreDistinct}
 use Rattle.mq_objects.specs.Names.{local_of}
 use Rattle.mq_calls.specs.declared.state.Item.{Item}
 use Rattle.mq_calls.specs.declared.state.Item.TheVariants.{Put, Take}
-use Rattle.mq_calls.specs.declared.records.Add.{Add}
-use Rattle.mq_law_manager.specs.View.{view}
 use Rattle.mq_spec_state.specs.State.{Plain, Queue, Connection, Handle, Batch}
 use Rattle.mq_spec_state.specs.Reads.{stored, connection_at, batch_of, is_persistent, is_by_unit}
 use Rattle.mq_spec_manager.specs.Put.{next_ident, dest_at, queue_at}
 use Rattle.mq_spec_log.specs.Applies.{fits}
-use Rattle.mq_law_log.specs.Keeps.{AreLaned, has_queue, AreUnlisted, IsNew, HoldsJust}
+use Rattle.mq_law_log.specs.Keeps.{AreLaned, has_queue, IsNew, HoldsJust}
 
 abbrev pub all_rows : List Queue → List Row
 all_rows [] = []
@@ -60,14 +58,6 @@ pub record IsLogSound (p : Plain) : Type 0 where
   pub handles : (n : ℕ) (c : Connection) → connection_at n p.connections ≡ Some c → AllByRecursion (λ (h : Handle). LeadsWell h p) c.handles
   pub units : (n : ℕ) (c : Connection) → connection_at n p.connections ≡ Some c → IsUnit c.unit p
   pub batches : (b : Batch) → batch_of b.channel p.channels.batches ≡ Some b → AllByRecursion (HoldsJust b) p.queues
-
--- What of it isn't a fact of all sound managers yet: uncommitted puts fit their queues, and what handles lead to does; no unit in
--- doubt lists the next ident, or that of an uncommitted put.
-pub record IsRouted (p : Plain) : Type 0 where
-  pub handles : (n : ℕ) (c : Connection) → connection_at n p.connections ≡ Some c → AllByRecursion (λ (h : Handle). LeadsWell h p) c.handles
-  pub puts : (n : ℕ) (a : Add) → Mem a ((view p).puts n) → fits a.queue a.message p.definitions ≡ true
-  pub next : AreUnlisted (next_ident p) p
-  pub waiting : (n : ℕ) (a : Add) → Mem a ((view p).puts n) → AreUnlisted a.message.ident p
 
 -- rows of a queue that are free, none twice
 abbrev pub AreFree : List ℕ → List Row → Plain → Type 0

@@ -6,6 +6,7 @@
 ghost use Rattle.std.specs.Prelude.{◌≡◌, ℕ, Bool, true, false, List, [], ◌∷◌, ◌++◌, Option, None, Ok};
 ghost use Rattle.std.specs.List.{AllByRecursion};
 ghost use Rattle.mq_message.specs.declared.message.Dest.{Dest};
+ghost use Rattle.mq_message.specs.declared.message.Ident.{Ident};
 ghost use Rattle.mq_message.specs.declared.message.Md.{Md};
 ghost use Rattle.mq_message.specs.declared.message.Message.{Message};
 ghost use Rattle.mq_message.specs.declared.place.Holder.TheVariants as holders;
@@ -15,6 +16,10 @@ ghost use Rattle.mq_sync.specs.declared.data.End.{End};
 ghost use Rattle.mq_sc_apply.specs.declared.answers.Planned.{Planned};
 ghost use Rattle.mq_calls.specs.declared.answers.Hconn.{Hconn};
 ghost use Rattle.mq_calls.specs.declared.answers.Hobj.{Hobj};
+ghost use Rattle.mq_calls.specs.declared.answers.Appl.{Appl};
+ghost use Rattle.mq_calls.specs.declared.answers.Get.{Get};
+ghost use Rattle.mq_calls.specs.declared.answers.Open.{Open};
+ghost use Rattle.mq_objects.specs.declared.command.Command.{Command};
 ghost use Rattle.mq_calls.specs.declared.agents.Note.TheVariants as notes;
 ghost use Rattle.mq_calls.specs.declared.agents.Note.{Note};
 ghost use Rattle.mq_calls.specs.declared.deltas.Why.{Why};
@@ -24,21 +29,23 @@ ghost use Rattle.mq_spec_state.specs.State.Which.{Among, HeldBy};
 ghost use Rattle.mq_spec_state.specs.State.Change.{AddBatch, ChangeObjects, DropBatch, Hold, Leave, Release};
 ghost use Rattle.mq_spec_state.specs.Reads.{in_doubt_of, is_persistent, receiver_data, sender_data};
 ghost use Rattle.mq_spec_state.specs.Changes.{apply, apply_all};
-ghost use Rattle.mq_spec_state.specs.Steps.{Part, do_part, freeze, note_of};
-ghost use Rattle.mq_spec_manager.specs.Put.{mqput, put_part};
-ghost use Rattle.mq_spec_manager.specs.Get.{removal_part, taking_part};
-ghost use Rattle.mq_spec_manager.specs.Units.{commit_part, mqcmit, mqdisc};
-ghost use Rattle.mq_spec_manager.specs.Commands.{object_part};
+ghost use Rattle.mq_spec_state.specs.Steps.{IsWrite, Part, do_part, freeze, note_of};
+ghost use Rattle.mq_spec_manager.specs.Handles.{mqclose, mqconn, mqopen};
+ghost use Rattle.mq_spec_manager.specs.Put.{mqput, mqput1, put_part};
+ghost use Rattle.mq_spec_manager.specs.Get.{mqget, removal_part, taking_part};
+ghost use Rattle.mq_spec_manager.specs.Units.{commit_part, mqback, mqcmit, mqdisc};
+ghost use Rattle.mq_spec_manager.specs.Triggers.{trigger_turn};
+ghost use Rattle.mq_spec_manager.specs.Commands.{command, object_part};
 ghost use Rattle.mq_spec_manager.specs.Stops.{at_rest, redone_if};
-ghost use Rattle.mq_spec_agents.specs.Words.{CanHarden, Absent, InDoubtAt, Landed, Landing, harden_part, landed, move_part};
+ghost use Rattle.mq_spec_agents.specs.Words.{CanHarden, CanHold, CanMove, CanPrepare, CanReceive, HasFreeRow, Absent, InDoubtAt, Landed, Landing, discard, expire, harden, harden_part, hold_batch, landed, leave, move_part, move_row, prepare, receive, release_batch, seize, set_bound};
 ghost use Rattle.mq_sync.specs.Settlement.{receiver_or, sender_or};
 ghost use Rattle.mq_spec_state.specs.Images.{has_batch, lasting};
-ghost use Rattle.mq_spec_log.specs.Applies.{Start, applies, can_change, can_prepare, can_receive, fits};
+ghost use Rattle.mq_spec_log.specs.Applies.{Start, applies, is_in_bounds, can_change, can_prepare, can_receive, fits};
 ghost use Rattle.mq_spec_log.specs.Bodies.{empty_image, image, record_of};
 ghost use Rattle.mq_law_log.specs.Keeps.{AllLand, CameBack, Does, HoldsJust, HoldsNone, IsLandable, IsNew, IsPlaceable, IsTakeable, Keeps, LandTold, StepKeeps, SwitchesAt, is_aside, received_part};
-ghost use Rattle.mq_law_log.specs.Sound.{AreFree, IsLogSound, IsRouted, IsUnit};
+ghost use Rattle.mq_law_log.specs.Sound.{AreFree, IsLogSound, IsUnit};
 ghost use Rattle.mq_law_manager.specs.Facts.{IsSound};
-ghost use Rattle.mq_law_log.specs.Restarts.{IsHarmless, begun, next_started, prepare_part, raised, restarted};
+ghost use Rattle.mq_law_log.specs.Restarts.{AllHarmless, IsGivenIn, IsHarmless, Recovers, StepHarmless, begun, next_started, prepare_part, raised, restarted};
 
 /// A put, a removal of rows and the end of a unit, in a sound manager.
 pub fn forced_writes_make_crashes_harmless()
@@ -59,7 +66,7 @@ pub fn stops_and_restarts_keep_what_lasts()
 {}
 
 /// Where the image of the log's bodies is what lasts, it is so after each part that keeps the law and whose record is the
-/// next body, and after a restart with its Started record.
+/// next body, and after a restart with its Started record. What a sound manager writes is read, within the bounds of numbers.
 pub fn the_log_tells_what_lasts()
     ensures parts { (start : Start) (first : List ℕ) (bodies : List (List ℕ)) (next : List ℕ) (r : LogRecord) (part : Part) (p : Plain) → image p.given start (first ∷ bodies) ≡ Ok (lasting p) → part.forced ≡ Some r
         → record_of next ≡ Some r → applies p.given start r (lasting p) ≡ true → Keeps part p → image p.given start (first ∷ bodies ++ next ∷ []) ≡ Ok (lasting (do_part part p)) }
@@ -67,6 +74,11 @@ pub fn the_log_tells_what_lasts()
         → image (redone_if kept noted p).given start (first ∷ bodies) ≡ Ok (lasting (redone_if kept noted p)) → record_of next ≡ Some (next_started started (redone_if kept noted p))
         → applies (redone_if kept noted p).given start (next_started started (redone_if kept noted p)) (lasting (redone_if kept noted p)) ≡ true
         → image (redone_if kept noted p).given start (first ∷ bodies ++ next ∷ []) ≡ Ok (lasting (restarted kept started noted p)) }
+    ensures writes { (start : Start) (first : List ℕ) (bodies : List (List ℕ)) (next : List ℕ) (r : LogRecord) (part : Part) (p : Plain) → image p.given start (first ∷ bodies) ≡ Ok (lasting p) → part.forced ≡ Some r
+        → record_of next ≡ Some r → is_in_bounds start r ≡ true → IsHarmless part p → IsGivenIn part.forced p → image p.given start (first ∷ bodies ++ next ∷ []) ≡ Ok (lasting (do_part part p)) }
+    ensures starts { (start : Start) (first : List ℕ) (bodies : List (List ℕ)) (next : List ℕ) (kept : Bool) (started : ℕ) (noted : Option Noted) (p : Plain)
+        → image (redone_if kept noted p).given start (first ∷ bodies) ≡ Ok (lasting (redone_if kept noted p)) → record_of next ≡ Some (next_started started (redone_if kept noted p))
+        → is_in_bounds start (next_started started (redone_if kept noted p)) ≡ true → image (redone_if kept noted p).given start (first ∷ bodies ++ next ∷ []) ≡ Ok (lasting (restarted kept started noted p)) }
 {}
 
 /// Each part of MQPUT, MQCMIT and MQDISC keeps the law in a sound manager.
@@ -106,12 +118,52 @@ pub fn a_manager_begins_soundly()
     ensures { (g : Given) (log : LogState) (moment : ℕ) → IsLogSound (begun g empty_image log moment) }
 {}
 
-/// A sound manager has what the law of the log needs, where what leads to its queues fits them.
+/// A sound manager has what the law of the log needs.
 pub fn a_sound_manager_keeps_its_log()
-    ensures { (p : Plain) → IsSound p → IsRouted p → IsLogSound p }
+    ensures { (p : Plain) → IsSound p → IsLogSound p }
 {}
 
 /// A restart that finds the stopped write has a sound manager, where the part would have come to one.
 pub fn a_found_write_gives_a_sound_manager()
     ensures { (part : Part) (r : LogRecord) (left started : ℕ) (p : Plain) → part.forced ≡ Some r → IsHarmless part p → IsSound (do_part part p) → IsSound (restarted true started (note_of part part.forced) (freeze (note_of part part.forced) left p)) }
+{}
+
+/// Each call of an application makes a crash harmless in a sound manager: each of its parts does to what lasts what its forced
+/// record says, or nothing where it forces nothing; so after a stopped write the image is that before or that after.
+pub fn calls_of_applications_are_harmless()
+    ensures connects { (qmgr : List ℕ) (appl : Appl) (p : Plain) → IsSound p → StepHarmless (mqconn qmgr appl p) p }
+    ensures opens { (hc : Hconn) (name qmgr : List ℕ) (how : Open) (p : Plain) → IsSound p → StepHarmless (mqopen hc name qmgr how p) p }
+    ensures closes { (hc : Hconn) (ho : Hobj) (p : Plain) → IsSound p → StepHarmless (mqclose hc ho p) p }
+    ensures puts { (hc : Hconn) (ho : Hobj) (md : Md) (body : List ℕ) (sync : Bool) (p : Plain) → IsSound p → StepHarmless (mqput hc ho md body sync p) p }
+    ensures puts_once { (hc : Hconn) (name qmgr : List ℕ) (md : Md) (body : List ℕ) (sync : Bool) (p : Plain) → IsSound p → StepHarmless (mqput1 hc name qmgr md body sync p) p }
+    ensures gets { (hc : Hconn) (ho : Hobj) (g : Get) (until : Option ℕ) (p : Plain) → IsSound p → StepHarmless (mqget hc ho g until p) p }
+    ensures commits { (hc : Hconn) (p : Plain) → IsSound p → StepHarmless (mqcmit hc p) p }
+    ensures backs_out { (hc : Hconn) (p : Plain) → IsSound p → StepHarmless (mqback hc p) p }
+    ensures disconnects { (hc : Hconn) (p : Plain) → IsSound p → StepHarmless (mqdisc hc p) p }
+{}
+
+/// So does each of triggers, the handler and the ends of channels, under its call's condition.
+pub fn calls_of_agents_are_harmless()
+    ensures triggers { (p : Plain) → IsSound p → StepHarmless (trigger_turn p) p }
+    ensures seizes { (channel : List ℕ) (p : Plain) → IsSound p → StepHarmless (seize channel p) p }
+    ensures leaves { (channel : List ℕ) (p : Plain) → IsSound p → StepHarmless (leave channel p) p }
+    ensures binds { (channel : List ℕ) (bound : Bool) (p : Plain) → IsSound p → StepHarmless (set_bound channel bound p) p }
+    ensures expires { (channel : List ℕ) (p : Plain) → IsSound p → StepHarmless (expire channel p) p }
+    ensures holds { (channel : List ℕ) (unit : Luw) (most : ℕ) (p : Plain) → CanHold channel p → IsSound p → StepHarmless (hold_batch channel unit most p) p }
+    ensures releases { (channel : List ℕ) (p : Plain) → IsSound p → StepHarmless (release_batch channel p) p }
+    ensures prepares { (channel : List ℕ) (last : ℕ) (p : Plain) → CanPrepare channel p → IsSound p → StepHarmless (prepare channel last p) p }
+    ensures hardens { (channel : List ℕ) (note : Note) (p : Plain) → CanHarden channel note p → IsSound p → StepHarmless (harden channel note p) p }
+    ensures receives { (channel : List ℕ) (unit : Luw) (last : ℕ) (batch : List Message) (p : Plain) → CanReceive channel unit p → IsSound p → StepHarmless (receive channel unit last batch p) p }
+    ensures moves { (from : List ℕ) (ident : Ident) (to : Dest) (bare : Bool) (p : Plain) → CanMove from ident bare p → IsSound p → StepHarmless (move_row from ident to bare p) p }
+    ensures discards { (queue : List ℕ) (ident : Ident) (p : Plain) → HasFreeRow queue ident p → IsSound p → StepHarmless (discard queue ident p) p }
+{}
+
+/// And each command on objects.
+pub fn commands_are_harmless()
+    ensures { (c : Command) (p : Plain) → IsSound p → StepHarmless (command c p) p }
+{}
+
+/// Whichever write of such a call is stopped: a restart has the image before it where it isn't found, and the one behind it where it is.
+pub fn a_stopped_call_leaves_the_image_before_or_behind()
+    ensures { (n : ℕ) (parts : List Part) (left started : ℕ) (p : Plain) → IsWrite n parts → AllHarmless parts p → Recovers n parts left started p }
 {}

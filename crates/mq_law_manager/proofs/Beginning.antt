@@ -13,9 +13,9 @@ use Rattle.mq_sync.specs.declared.data.InDoubt.{InDoubt}
 use Rattle.mq_spec_state.specs.State.{Given}
 use Rattle.mq_spec_state.specs.Reads.{sender_in, in_doubt_of}
 use Rattle.mq_spec_state.specs.Images.{Image, Shelf, raised}
-use Rattle.mq_spec_state.specs.Recovery.{IsImage, IsShelf, IsLasting, IsHeldWell, IsListed, AreApart, AreKnown}
+use Rattle.mq_spec_state.specs.Recovery.{IsImage, IsShelf, IsLasting, IsHeldWell, IsListed, AreApart, IsKnown, AreKnown}
 use Rattle.mq_law_manager.specs.Facts.{Mem, Chain, Differ, ident_of, IsOf, AreLaned}
-use Rattle.mq_law_manager.proofs.Lists.{bool_case, ident_yes, ident_self, name_yes}
+use Rattle.mq_law_manager.proofs.Lists.{bool_case, any_mem, ident_self, name_yes}
 use Rattle.mq_law_manager.proofs.Numbered.{ImageRests, rows_on}
 
 -- All of a list, by what is in it
@@ -84,10 +84,6 @@ no_unit image q i None n h e = cc e
 no_unit image q i (Some (holders.Unit k)) n h e = h
 no_unit image q i (Some (holders.Batch c)) n h e = cc e
 
-any_mem : (i : Ident) (is : List Ident) → list_any (same_ident i) is ≡ true → Mem i is
-any_mem i [] e = absurd cc
-any_mem i (x ∷ xs) e = bool_case (same_ident i x) (λ b. same_ident i x ≡ b → (b || list_any (same_ident i) xs) ≡ true → Mem i (x ∷ xs)) (λ z w f. inl (ident_yes i x w)) (λ z w f. inr (any_mem i xs f)) refl e
-
 listed : (q : List ℕ) (i : Ident) (o : Option InDoubt) → IsListed q i o → IsOf q i None o
 listed q i None h = h
 listed q i (Some d) h = any_mem i d.idents h.1
@@ -103,7 +99,7 @@ of_doubt image q i (Some (holders.Unit n)) c h e = absurd h
 of_doubt image q i (Some (holders.Batch k)) c h e = subst (λ (x : List ℕ). IsOf q i None (in_doubt_of (sender_in x image.senders))) (ap (the_batch k) e) (listed q i (in_doubt_of (sender_in k image.senders)) h)
 
 -- idents of incarnations that the log knows
-known : (m x i k j : ℕ) → (m ≡ x → i ≤ k) → ((m == x) && (nat_lt (k + 0 + 1) i || ((i == k + 0 + 1) && nat_lt 0 j))) ≡ false
+pub known : (m x i k j : ℕ) → (m ≡ x → i ≤ k) → ((m == x) && (nat_lt (k + 0 + 1) i || ((i == k + 0 + 1) && nat_lt 0 j))) ≡ false
 known m x i k j older = bool_case (m == x) (λ t. (m == x) ≡ t → (t && (nat_lt (k + 0 + 1) i || ((i == k + 0 + 1) && nat_lt 0 j))) ≡ false) (λ z e. less i k j (older (is m x e))) (λ z e. refl) refl
   where
     less : (i k j : ℕ) → i ≤ k → (nat_lt (k + 0 + 1) i || ((i == k + 0 + 1) && nat_lt 0 j)) ≡ false
@@ -118,8 +114,8 @@ image_rests given image h k = record {
   alone = λ q d x y m n e. one_queue image.shelves (pairs_chain AreApart image.shelves h.apart) q d x y m n e;
   given = λ q x m.
       let s = on_shelf q image.shelves x m in
-      known x.message.ident.manager given.number x.message.ident.incarnation image.incarnation x.message.ident.number (all_mem (λ (row : Row). row.message.ident.manager ≡ given.number → row.message.ident.incarnation ≤ image.incarnation) s.0.rows x
-      (all_mem (λ (t : Shelf). All (λ (row : Row). row.message.ident.manager ≡ given.number → row.message.ident.incarnation ≤ image.incarnation) t.rows) image.shelves s.0 k s.1) s.3);
+      known x.message.ident.manager given.number x.message.ident.incarnation image.incarnation x.message.ident.number (all_mem (λ (row : Row). IsKnown given.number image.incarnation row.message.ident) s.0.rows x
+      (all_mem (λ (t : Shelf). All (λ (row : Row). IsKnown given.number image.incarnation row.message.ident) t.rows) image.shelves s.0 k.rows s.1) s.3);
   laned = λ q. each AreLaned tt image.shelves (λ s m. pairs_chain (λ (x y : Row). x.place.lane ≤ y.place.lane) s.rows (all_mem (IsShelf image) image.shelves s h.rows m).sorted) q;
   units = λ q x n m. let s = on_shelf q image.shelves x m in no_unit image s.0.name x.message.ident x.by n (held s.0 s.1 x s.3);
   of = λ q x c m e. let s = on_shelf q image.shelves x m in subst (λ (name : List ℕ). IsOf name x.message.ident None (in_doubt_of (sender_in c image.senders))) (sym s.2) (of_doubt image s.0.name x.message.ident x.by c (held s.0 s.1 x s.3) e);

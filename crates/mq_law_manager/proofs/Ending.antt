@@ -16,7 +16,7 @@ use Rattle.mq_spec_state.specs.Steps.{Step, Part, logged, do_part, do_all, freez
 use Rattle.mq_spec_state.specs.Steps.Step.{Refuse, Do}
 use Rattle.mq_spec_manager.specs.Stops.{stop, stop_at, stop_changes, restarted, grown, first_start, started_need}
 use Rattle.mq_law_manager.specs.View.{View, view, kept_all}
-use Rattle.mq_law_manager.specs.Facts.{Holds, AreStill, AreNamed, AreOnce, IsStocked, IsSound, IsFrozen}
+use Rattle.mq_law_manager.specs.Facts.{Holds, AreStill, AreNamed, IsStocked, IsSound, IsFrozen}
 use Rattle.mq_law_manager.specs.Seen.{goes_if, with_rows}
 use Rattle.mq_law_manager.specs.Kept.{PartsKeep, Keeps, AllKeep, StepKeeps, IsAfter}
 use Rattle.mq_law_manager.proofs.Lists.{mem_keep}
@@ -41,7 +41,7 @@ logged_named (Some r) p h = h
 part_named : (part : Part) (p : Plain) → AreNamed p.queues → AreNamed (do_part part p).queues
 part_named part p h = all_named part.changes (logged part.forced p) (logged_named part.forced p h)
 
-parts_joined : (parts : List Part) (p : Plain) → PartsKeep parts p → AllKeep IsStocked parts p → AreNamed p.queues → AllKeep IsSound parts p
+pub parts_joined : (parts : List Part) (p : Plain) → PartsKeep parts p → AllKeep IsStocked parts p → AreNamed p.queues → AllKeep IsSound parts p
 parts_joined [] p k s n = tt
 parts_joined (part ∷ parts) p k s n = (record { facts = k.0; named = part_named part p n; stocked = s.0 }, parts_joined parts (do_part part p) k.1 s.1 (part_named part p n))
 
@@ -52,13 +52,14 @@ joined (Do reply parts) p h k s = parts_joined parts p k s h.named
 -- A stopped write
 
 still : (v : View) → Holds v → AreStill v
-still v h = record { apart = h.apart; held = h.taken.held; of = h.batched.of; ordered = h.ordered }
+still v h = record { apart = h.apart; held = h.taken.held; of = h.batched.of; one = h.batched.one; ordered = h.ordered }
 
 fewer : (v : View) (test : List ℕ → Row → Bool) → Holds v → AreStill (with_rows (kept_all test v.rows) v)
 fewer v test h = record {
   apart = apart.keeps v.rows v.puts v.unborn test h.apart;
   held = λ q x n m e. h.taken.held q x n (mem_keep (test q) x (v.rows q) m).0 e;
   of = λ q x c m e. h.batched.of q x c (mem_keep (test q) x (v.rows q) m).0 e;
+  one = h.batched.one;
   ordered = ordered.keeps v.rows v.arrivals test h.ordered;
 }
 
@@ -71,7 +72,7 @@ frozen noted left p h =
     record {
       still = subst AreStill (sym (applied (Leave Nonpersistent) p tt)) (fewer (view p) (goes_if Nonpersistent) h.facts);
       named = mapped_named (kept_in Nonpersistent) (λ q. same q) p.queues h.named;
-      stocked = record { once = s.once; placed = s.placed; rows = s.rows; puts = s.puts };
+      stocked = record { once = s.once; placed = s.placed; rows = s.rows; puts = s.puts; routed = s.routed };
     }
   where
     same : (q : Queue) → (kept_in Nonpersistent q).name ≡ q.name
@@ -82,7 +83,7 @@ stopped n [] left p h k = sound_still p h
 stopped zero (part ∷ parts) left p h k = frozen (note_of part part.forced) left p h
 stopped (suc n) (part ∷ parts) left p h k = stopped n parts left (do_part part p) k.0 k.1
 
-done : (parts : List Part) (p : Plain) → IsSound p → AllKeep IsSound parts p → IsSound (do_all parts p)
+pub done : (parts : List Part) (p : Plain) → IsSound p → AllKeep IsSound parts p → IsSound (do_all parts p)
 done [] p h k = h
 done (part ∷ parts) p h k = done parts (do_part part p) k.0 k.1
 
@@ -107,13 +108,13 @@ rest_named Up p h = all_named (stop_changes p) p h
 rest_named (Down noted starts) p h = h
 
 pub stop_sound : (p : Plain) → IsSound p → IsSound (stop p).next
-stop_sound p h = record { facts = stop_keeps p h.facts; named = rest_named p.running p h.named; stocked = stop_stocked p h.stocked }
+stop_sound p h = record { facts = stop_keeps p h.facts; named = rest_named p.running p h.named; stocked = stop_stocked p h.facts h.stocked }
 
-pub begun_sound : (given : Given) (image : Image) (log : LogState) (moment : ℕ) → ImageRests given image → ImageStocked image → IsSound (begun given image log moment)
+pub begun_sound : (given : Given) (image : Image) (log : LogState) (moment : ℕ) → ImageRests given image → ImageStocked given.number image → IsSound (begun given image log moment)
 begun_sound given image log moment h s = record { facts = begins given image log moment h; named = begun_names given image log moment s; stocked = begun_stocked given image log moment s }
 
 pub restart_sound : (started : ℕ) (noted : Option Noted) (p : Plain) → IsFrozen p → IsSound (restarted false started noted p)
-restart_sound started noted p h = begun_sound p.given (raised started (lasting p)) (grown started p) p.moment (lasting_rests started p h.still) (lasting_stocked started p h.named h.stocked)
+restart_sound started noted p h = begun_sound p.given (raised started (lasting p)) (grown started p) p.moment (lasting_rests started p h.still) (lasting_stocked started p h.still.one h.named h.stocked)
 
-pub first_sound : (given : Given) (image : Image) (length moment : ℕ) → IsImage image → AreKnown given.number image → AreOnce image.definitions.objects → IsSound (first_start given image length moment)
-first_sound given image length moment h k once = begun_sound given (raised 0 image) (record { length = length + started_need given; armed = 0 }) moment (image_rests given image h k) (image_stocked image h once)
+pub first_sound : (given : Given) (image : Image) (length moment : ℕ) → IsImage image → AreKnown given.number image → IsSound (first_start given image length moment)
+first_sound given image length moment h k = begun_sound given (raised 0 image) (record { length = length + started_need given; armed = 0 }) moment (image_rests given image h k) (image_stocked given.number image h k)

@@ -98,7 +98,7 @@ find_mem ident (x ∷ xs) r = bool_case (has_ident ident x) (λ b. has_ident ide
     (λ z w e. let k = find_mem ident xs r e in (inr k.0, k.1)) refl
 
 -- a row of that ident there is free
-is_loose : (queue : List ℕ) (ident : Ident) (p : Plain) → Sound p → HasFreeRow queue ident p → (r : Row) → Mem r ((view p).rows queue) → r.message.ident ≡ ident → r.by ≡ None
+pub is_loose : (queue : List ℕ) (ident : Ident) (p : Plain) → Sound p → HasFreeRow queue ident p → (r : Row) → Mem r ((view p).rows queue) → r.message.ident ≡ ident → r.by ≡ None
 is_loose queue ident p h f r m e =
     let k = find_mem ident ((view p).rows queue) f.row f.found in
     ap (λ (x : Row). x.by) (one_row ((view p).rows queue) r f.row (h.apart.once queue) m k.0 (e ∙ sym k.1)) ∙ f.free

@@ -1,7 +1,8 @@
 -- Members of lists, and keys that differ.
 use Rattle.std.proofs.Common.{ℕ, ◌≡◌, ◌≢◌, ◌⊎◌, Bool, true, false, List, [], ◌∷◌, ◌++◌, refl, ap, sym, subst, ◌∙◌, arith, inl, inr}
-use Rattle.std.specs.Prelude.{◌==◌, if◌then◌else◌, nat_le}
+use Rattle.std.specs.Prelude.{◌==◌, ◌||◌, if◌then◌else◌, nat_le}
 use Rattle.std.specs.Str.{bytes_eq}
+use Rattle.std.specs.List.{list_any}
 use Rattle.std.proofs.lemmas.Bool.Decides.{nat_tests}
 use Rattle.std.proofs.lemmas.Slice.Eq.{bytes_eq-Decides}
 use Rattle.mq_message.specs.declared.message.Ident.{Ident}
@@ -33,6 +34,20 @@ ident_self a = grind (arith, nat_tests)
 
 pub ident_no : (a b : Ident) → a ≢ b → same_ident a b ≡ false
 ident_no a b ne = is_false (same_ident a b) (λ t. ne (ident_yes a b t))
+
+-- an ident among some, as a test tells
+pub any_mem : (i : Ident) (is : List Ident) → list_any (same_ident i) is ≡ true → Mem i is
+any_mem i [] e = absurd cc
+any_mem i (x ∷ xs) e = bool_case (same_ident i x) (λ b. same_ident i x ≡ b → (b || list_any (same_ident i) xs) ≡ true → Mem i (x ∷ xs)) (λ z w f. inl (ident_yes i x w)) (λ z w f. inr (any_mem i xs f)) refl e
+
+pub mem_any : (i : Ident) (is : List Ident) → Mem i is → list_any (same_ident i) is ≡ true
+mem_any i [] m = absurd m
+mem_any i (x ∷ xs) (inl e) = ap (λ (j : Ident). same_ident i j || list_any (same_ident i) xs) (sym e) ∙ ap (λ (b : Bool). b || list_any (same_ident i) xs) (ident_self i)
+mem_any i (x ∷ xs) (inr m) = or_right (same_ident i x) (list_any (same_ident i) xs) (mem_any i xs m)
+  where
+    or_right : (a b : Bool) → b ≡ true → (a || b) ≡ true
+    or_right true b e = refl
+    or_right false b e = e
 
 pub name_yes : (a b : List ℕ) → bytes_eq a b ≡ true → a ≡ b
 name_yes a b e = grind (arith, bytes_eq-Decides a b)

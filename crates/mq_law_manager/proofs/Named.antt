@@ -5,9 +5,10 @@ use Rattle.std.specs.Str.{bytes_eq}
 use Rattle.std.proofs.lemmas.Slice.Eq.{bytes_eq-Decides}
 use Rattle.mq_message.specs.declared.message.Ident.{Ident}
 use Rattle.mq_sync.specs.declared.data.SenderData.{SenderData}
-use Rattle.mq_spec_state.specs.State.{SenderSide, Queue, Batch, fresh_queue}
-use Rattle.mq_spec_state.specs.Reads.{sender_in, queue_in, batch_of, in_doubt_of}
-use Rattle.mq_spec_state.specs.Changes.{set_sender, set_queue, set_named, comes_before, less_ident, off_list, off_lists}
+use Rattle.mq_sync.specs.declared.data.ReceiverData.{ReceiverData}
+use Rattle.mq_spec_state.specs.State.{SenderSide, ReceiverSide, Queue, Batch, fresh_queue}
+use Rattle.mq_spec_state.specs.Reads.{sender_in, receiver_in, queue_in, batch_of, in_doubt_of}
+use Rattle.mq_spec_state.specs.Changes.{set_sender, set_receiver, set_queue, set_named, comes_before, less_ident, off_list, off_lists}
 use Rattle.mq_law_manager.proofs.Lists.{bool_case}
 
 pub name_is : (a b : List ℕ) → bytes_eq a b ≡ true → a ≡ b
@@ -40,32 +41,53 @@ pub set_here : {A : Type 0} (channel other key : List ℕ) (new here rest : A) �
 set_here {A} channel other key new here rest e = subst (λ (x : List ℕ). (if bytes_eq channel other then new else rest) ≡ (if bytes_eq channel other then new else (if bytes_eq channel x then here else rest))) (name_is other key e)
     (bool_case (bytes_eq channel other) (λ (b : Bool). (if b then new else rest) ≡ (if b then new else (if b then here else rest))) (λ z. refl) (λ z. refl))
 
--- what is kept by channel, in order of the channels' names
+-- What is looked up by name in a list that is sorted by name: the first entry of the name.
+abbrev pub found_named : {A B : Type 0} → (A → List ℕ) → (A → B) → B → List ℕ → List A → B
+found_named name value none channel [] = none
+found_named name value none channel (x ∷ xs) = if bytes_eq channel (name x) then value x else found_named name value none channel xs
+
+pub named_set : {A B : Type 0} (name : A → List ℕ) (value : A → B) (none : B) (channel : List ℕ) (new : A) (xs : List A)
+    → found_named name value none channel (set_named name new xs) ≡ (if bytes_eq channel (name new) then value new else found_named name value none channel xs)
+named_set name value none channel new [] = refl
+named_set {A} {B} name value none channel new (x ∷ xs) = bool_case (bytes_eq (name new) (name x))
+    (λ b. found_named name value none channel (if b then new ∷ xs else (if comes_before (name new) (name x) then new ∷ x ∷ xs else x ∷ set_named name new xs))
+    ≡ (if bytes_eq channel (name new) then value new else (if bytes_eq channel (name x) then value x else found_named name value none channel xs)))
+    (λ e. set_here channel (name new) (name x) (value new) (value x) (found_named name value none channel xs) e)
+    (λ e. bool_case (comes_before (name new) (name x))
+    (λ b. found_named name value none channel (if b then new ∷ x ∷ xs else x ∷ set_named name new xs)
+    ≡ (if bytes_eq channel (name new) then value new else (if bytes_eq channel (name x) then value x else found_named name value none channel xs)))
+    (λ z. refl)
+    (λ z. ap (λ (r : B). if bytes_eq channel (name x) then value x else r) (named_set name value none channel new xs)
+    ∙ set_behind channel (name new) (name x) (value new) (value x) (found_named name value none channel xs) e))
+
+pub sender_found : (channel : List ℕ) (ss : List SenderSide) → sender_in channel ss ≡ found_named (λ (s : SenderSide). s.channel) (λ (s : SenderSide). Some s.hardened) None channel ss
+sender_found channel [] = refl
+sender_found channel (s ∷ ss) = ap (λ (o : Option SenderData). if bytes_eq channel s.channel then Some s.hardened else o) (sender_found channel ss)
+
+pub receiver_found : (channel : List ℕ) (ss : List ReceiverSide) → receiver_in channel ss ≡ found_named (λ (s : ReceiverSide). s.channel) (λ (s : ReceiverSide). Some s.hardened) None channel ss
+receiver_found channel [] = refl
+receiver_found channel (s ∷ ss) = ap (λ (o : Option ReceiverData). if bytes_eq channel s.channel then Some s.hardened else o) (receiver_found channel ss)
+
+pub batch_found : (channel : List ℕ) (bs : List Batch) → batch_of channel bs ≡ found_named (λ (b : Batch). b.channel) (λ (b : Batch). Some b) None channel bs
+batch_found channel [] = refl
+batch_found channel (b ∷ bs) = ap (λ (o : Option Batch). if bytes_eq channel b.channel then Some b else o) (batch_found channel bs)
+
 pub sender_set : (channel other : List ℕ) (d : SenderData) (ss : List SenderSide)
     → sender_in channel (set_sender (record { channel = other; hardened = d }) ss) ≡ (if bytes_eq channel other then Some d else sender_in channel ss)
-sender_set channel other d [] = refl
-sender_set channel other d (s ∷ ss) = bool_case (bytes_eq other s.channel)
-    (λ b. sender_in channel (if b then record { channel = other; hardened = d } ∷ ss else (if comes_before other s.channel then record { channel = other; hardened = d } ∷ s ∷ ss else s ∷ set_sender (record { channel = other; hardened = d }) ss))
-    ≡ (if bytes_eq channel other then Some d else (if bytes_eq channel s.channel then Some s.hardened else sender_in channel ss)))
-    (λ e. set_here channel other s.channel (Some d) (Some s.hardened) (sender_in channel ss) e)
-    (λ e. bool_case (comes_before other s.channel) (λ b. sender_in channel (if b then record { channel = other; hardened = d } ∷ s ∷ ss else s ∷ set_sender (record { channel = other; hardened = d }) ss)
-    ≡ (if bytes_eq channel other then Some d else (if bytes_eq channel s.channel then Some s.hardened else sender_in channel ss)))
-    (λ z. refl)
-    (λ z. ap (λ (x : Option SenderData). if bytes_eq channel s.channel then Some s.hardened else x) (sender_set channel other d ss)
-    ∙ set_behind channel other s.channel (Some d) (Some s.hardened) (sender_in channel ss) e))
+sender_set channel other d ss = sender_found channel (set_sender (record { channel = other; hardened = d }) ss)
+    ∙ named_set (λ (s : SenderSide). s.channel) (λ (s : SenderSide). Some s.hardened) None channel (record { channel = other; hardened = d }) ss
+    ∙ ap (λ (o : Option SenderData). if bytes_eq channel other then Some d else o) (sym (sender_found channel ss))
 
-pub batch_set : (channel : List ℕ) (b : Batch) (bs : List Batch)
-    → batch_of channel (set_named (λ (x : Batch). x.channel) b bs) ≡ (if bytes_eq channel b.channel then Some b else batch_of channel bs)
-batch_set channel b [] = refl
-batch_set channel b (x ∷ xs) = bool_case (bytes_eq b.channel x.channel)
-    (λ t. batch_of channel (if t then b ∷ xs else (if comes_before b.channel x.channel then b ∷ x ∷ xs else x ∷ set_named (λ (y : Batch). y.channel) b xs))
-    ≡ (if bytes_eq channel b.channel then Some b else (if bytes_eq channel x.channel then Some x else batch_of channel xs)))
-    (λ e. set_here channel b.channel x.channel (Some b) (Some x) (batch_of channel xs) e)
-    (λ e. bool_case (comes_before b.channel x.channel) (λ t. batch_of channel (if t then b ∷ x ∷ xs else x ∷ set_named (λ (y : Batch). y.channel) b xs)
-    ≡ (if bytes_eq channel b.channel then Some b else (if bytes_eq channel x.channel then Some x else batch_of channel xs)))
-    (λ z. refl)
-    (λ z. ap (λ (o : Option Batch). if bytes_eq channel x.channel then Some x else o) (batch_set channel b xs)
-    ∙ set_behind channel b.channel x.channel (Some b) (Some x) (batch_of channel xs) e))
+pub receiver_set : (channel other : List ℕ) (d : ReceiverData) (rs : List ReceiverSide)
+    → receiver_in channel (set_receiver (record { channel = other; hardened = d }) rs) ≡ (if bytes_eq channel other then Some d else receiver_in channel rs)
+receiver_set channel other d rs = receiver_found channel (set_receiver (record { channel = other; hardened = d }) rs)
+    ∙ named_set (λ (s : ReceiverSide). s.channel) (λ (s : ReceiverSide). Some s.hardened) None channel (record { channel = other; hardened = d }) rs
+    ∙ ap (λ (o : Option ReceiverData). if bytes_eq channel other then Some d else o) (sym (receiver_found channel rs))
+
+pub batch_set : (channel : List ℕ) (b : Batch) (bs : List Batch) → batch_of channel (set_named (λ (x : Batch). x.channel) b bs) ≡ (if bytes_eq channel b.channel then Some b else batch_of channel bs)
+batch_set channel b bs = batch_found channel (set_named (λ (x : Batch). x.channel) b bs)
+    ∙ named_set (λ (x : Batch). x.channel) (λ (x : Batch). Some x) None channel b bs
+    ∙ ap (λ (o : Option Batch). if bytes_eq channel b.channel then Some b else o) (sym (batch_found channel bs))
 
 -- an ident that no unit in doubt has any more
 pub doubt_less : (channel : List ℕ) (ident : Ident) (ss : List SenderSide) → in_doubt_of (sender_in channel (off_lists ident ss)) ≡ less_ident ident (in_doubt_of (sender_in channel ss))

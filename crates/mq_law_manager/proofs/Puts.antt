@@ -40,15 +40,18 @@ unborn_now i m n k e = grind (arith, nat_tests)
 pub count_more : (p : Plain) (i : Ident) → is_unborn i p ≡ false → is_unborn i (apply CountIdent p) ≡ false
 count_more p i e = unborn_now i p.given.number p.numbers.incarnation p.numbers.idents e
 
-next_unborn : (m n k : ℕ) → ((m == m) && (nat_lt n n || ((n == n) && nat_lt k (k + 1)))) ≡ true
-next_unborn m n k = grind (arith, nat_tests)
+unborn_next : (m n k : ℕ) → ((m == m) && (nat_lt n n || ((n == n) && nat_lt k (k + 1)))) ≡ true
+unborn_next m n k = grind (arith, nat_tests)
+
+pub next_unborn : (p : Plain) → is_unborn (next_ident p) p ≡ true
+next_unborn p = unborn_next p.given.number p.numbers.incarnation p.numbers.idents
 
 next_born : (m n k : ℕ) → ((m == m) && (nat_lt n n || ((n == n) && nat_lt (k + 1) (k + 1)))) ≡ false
 next_born m n k = grind (arith, nat_tests)
 
 pub next_new : (p : Plain) → Sound p → IsNew (next_ident p) (view p).rows (view p).puts (view (apply CountIdent p)).unborn
 next_new p h =
-    let unborn : is_unborn (next_ident p) p ≡ true = next_unborn p.given.number p.numbers.incarnation p.numbers.idents in
+    let unborn : is_unborn (next_ident p) p ≡ true = next_unborn p in
     record {
       given = next_born p.given.number p.numbers.incarnation p.numbers.idents;
       no_row = λ q x m e. cc (unborn, ap (λ (i : Ident). is_unborn i p) e, h.apart.given q x m);

@@ -1,6 +1,6 @@
 -- What a receiver's end commits keeps what holds of a manager's rows.
 use Rattle.std.proofs.Common.{ℕ, ◌≡◌, ◌≢◌, Bool, true, false, List, [], ◌∷◌, ◌++◌, refl, ap, sym, subst, ◌∙◌, length, arith, inl, inr}
-use Rattle.std.specs.Prelude.{Option, Some, None, Result, Ok, Err, is_some, cond, ◌==◌, if◌then◌else◌, not, ◌&&◌, ◌||◌, filter, find, nat_le, ℤ}
+use Rattle.std.specs.Prelude.{Option, Some, None, Result, Ok, Err, is_some, cond, ◌==◌, if◌then◌else◌, not, ◌&&◌, ◌||◌, filter, find, nat_lt, nat_le, ◌+◌, ℤ}
 use Rattle.std.specs.List.{list_any}
 use Rattle.std.specs.Str.{bytes_eq}
 use Rattle.std.proofs.lemmas.Bool.Decides.{nat_tests}
@@ -13,7 +13,8 @@ use Rattle.mq_message.specs.declared.place.Holder.TheVariants as holders
 use Rattle.mq_queue.specs.declared.row.Row.{Row}
 use Rattle.mq_queue.specs.Rows.{same_ident, has_ident}
 use Rattle.mq_objects.specs.declared.object.LocalQueue.{LocalQueue}
-use Rattle.mq_objects.specs.Names.{local_of, channel_of, process_of}
+use Rattle.mq_objects.specs.Names.{local_of, channel_of, process_of, is_transmission}
+use Rattle.mq_spec_state.specs.Recovery.{routes}
 use Rattle.mq_resolve.specs.declared.route.Route.{Route}
 use Rattle.mq_resolve.specs.Resolved.{resolve}
 use Rattle.mq_sync.specs.declared.unit.Unit.{Unit as Luw}
@@ -36,9 +37,9 @@ use Rattle.mq_spec_state.specs.Steps.Step.{Do}
 use Rattle.mq_spec_manager.specs.Put.{placed, queue_at, max_depth, full_tests, placing_tests, inhibited_tests, length_tests, output_only}
 use Rattle.mq_spec_manager.specs.Handles.{is_unfit}
 use Rattle.mq_sync.specs.Settlement.{receiver_or}
-use Rattle.mq_spec_agents.specs.Words.{RowAt, row_found, row_of, doubts, is_doubted_by, Standing, Absent, InDoubtAt, Present, same_flag, standing_by, has_put, is_pending, is_unborn, standing_at, is_present, undoubted, drop_changes, Landing, route_tests, can_take_dead, dead_or, dead_letter, uses_dead, land, land_resolved, land_tested, names_of, Landed, before, landed_by, landed_unless, landed, land_changes, received_record, received_part, receive, receive_landed}
+use Rattle.mq_spec_agents.specs.Words.{RowAt, row_found, row_of, doubts, is_doubted_by, Standing, Absent, InDoubtAt, Present, same_flag, standing_by, has_put, is_pending, is_unborn, standing_at, is_present, undoubted, drop_changes, Landing, route_tests, can_take_dead, dead_or, dead_letter, uses_dead, landing, land, land_resolved, land_tested, names_of, Landed, before, landed_by, landed_unless, landed, land_changes, received_record, received_part, receive, receive_landed}
 use Rattle.mq_law_manager.specs.View.{View, view, puts_in, items_of}
-use Rattle.mq_law_manager.specs.Facts.{Mem, ident_of, IsOf, Sound, Holds, AreNamed}
+use Rattle.mq_law_manager.specs.Facts.{Mem, ident_of, IsOf, Sound, Holds, AreNamed, IsFit}
 use Rattle.mq_law_manager.specs.Seen.{goes_if}
 use Rattle.mq_law_manager.specs.Kept.{Keeps}
 use Rattle.mq_law_manager.proofs.Lists.{bool_case, ident_yes, ident_self, one_row}
@@ -46,6 +47,7 @@ use Rattle.mq_law_manager.proofs.Apart.{IsNew}
 use Rattle.mq_law_manager.proofs.Named as named
 use Rattle.mq_law_manager.proofs.Named.{name_turned}
 use Rattle.mq_law_manager.proofs.QueueNames.{all_named}
+use Rattle.mq_law_manager.proofs.Resolving.{route_fits}
 use Rattle.mq_law_manager.proofs.SeenLaws.{applied}
 use Rattle.mq_law_manager.proofs.Steps.{goes, among_other}
 use Rattle.mq_law_manager.proofs.Units.{sound_placed, behind, tested_keeps}
@@ -84,7 +86,7 @@ row_named i (q ∷ qs) at e = by (λ f. row_named i qs at f) (find (has_ident i)
     by rest (Some r) f = (q, inl refl, ap (λ (o : Option RowAt). (found_at at o).queue) f)
     by rest None f = let k = rest f in (k.0, inr k.1, k.2)
 
-row_there : (i : Ident) (qs : List Queue) (at : RowAt) → AreNamed qs → row_of i qs ≡ Some at → Mem at.row (queue_in at.queue qs).rows × (at.row.message.ident ≡ i)
+pub row_there : (i : Ident) (qs : List Queue) (at : RowAt) → AreNamed qs → row_of i qs ≡ Some at → Mem at.row (queue_in at.queue qs).rows × (at.row.message.ident ≡ i)
 row_there i [] at n e = absurd cc
 row_there i (q ∷ qs) at n e = by (λ f. row_there i qs at n.1 f) (find (has_ident i) q.rows) refl e
   where
@@ -218,7 +220,7 @@ new_lands true q m p h new = sound_placed q m (apply (Undoubt m.ident) p) (sound
 new_lands false q m p h new = sound_placed q m p h new
 
 -- a message lands where it stands nowhere, or after its row was dropped
-land_sound : (q : List ℕ) (m : Message) (s : Standing) (p : Plain) → Sound p → IsStanding s m.ident p → is_present s ≡ false → Sound (apply_all (drop_changes m s ++ placed q m) p)
+pub land_sound : (q : List ℕ) (m : Message) (s : Standing) (p : Plain) → Sound p → IsStanding s m.ident p → is_present s ≡ false → Sound (apply_all (drop_changes m s ++ placed q m) p)
 land_sound q m Absent p h s e = new_lands (is_persistent m) q m p h s
 land_sound q m Present p h s e = absurd cc
 land_sound q m (InDoubtAt from) p h s e = new_lands (is_persistent m) q m (apply (Leave (Among from (m.ident ∷ []))) p) (doubt_left from m.ident p h s)
@@ -229,6 +231,11 @@ land_sound q m (InDoubtAt from) p h s e = new_lands (is_persistent m) q m (apply
 pub refusal_behind : (xs ys : List (Test Reason)) → refusal (xs ++ ys) ≡ None → refusal ys ≡ None
 refusal_behind [] ys e = e
 refusal_behind (x ∷ xs) ys e = bool_case x.applies (λ b. (if b then Some x.reason else refusal (xs ++ ys)) ≡ None → refusal ys ≡ None) (λ z f. absurd cc) (λ z f. refusal_behind xs ys f) e
+
+-- a test that comes first does not apply
+pub first_passes : (b : Bool) (reason : Reason) (ts : List (Test Reason)) → refusal (when b reason ∷ ts) ≡ None → b ≡ false
+first_passes true reason ts e = absurd cc
+first_passes false reason ts e = refl
 
 pub has_depth : (o : Option LocalQueue) (n : ℕ) → refusal (when (nat_le (max_depth o) n) reasons.QueueFull ∷ []) ≡ None → is_some o ≡ true
 has_depth (Some l) n e = refl
@@ -241,14 +248,19 @@ pub placing_defined : (route : Route) (bytes : ℕ) (p : Plain) → refusal (pla
 placing_defined route bytes p e = has_depth (local_of (queue_at route.end) p.definitions) (depth (queue_at route.end) p)
     (refusal_behind (inhibited_tests route.path p ++ length_tests (queue_at route.end) bytes p) (full_tests (queue_at route.end) p) e)
 
--- what a landing is: of that message's ident, on a queue that is defined
+-- what a landing is: of that message's ident and persistence, on a queue that is defined and that it fits
 abbrev pub IsLanding : Message → Plain → Result Landing Reason → Type 0
 IsLanding m p (Err reason) = Unit {0}
-IsLanding m p (Ok l) = (l.message.ident ≡ m.ident) × (is_some (local_of l.queue p.definitions) ≡ true)
+IsLanding m p (Ok l) = (l.message.ident ≡ m.ident) × IsFit (local_of l.queue p.definitions) l.message × (is_persistent l.message ≡ is_persistent m)
 
-dead_defined : (o : Option LocalQueue) (bytes : ℕ) (p : Plain) → can_take_dead o bytes p ≡ true → is_some o ≡ true
+dead_defined : (o : Option LocalQueue) (bytes : ℕ) (p : Plain) → can_take_dead o bytes p ≡ true → (is_some o ≡ true) × (routes o ≡ false)
 dead_defined None bytes p e = absurd cc
-dead_defined (Some l) bytes p e = refl
+dead_defined (Some l) bytes p e = (
+  refl,
+  bool_case (is_transmission l.usage)
+      (λ t. (not t && l.put_enabled && nat_lt (depth l.name p) l.max_depth && nat_le (bytes + 172) l.max_message_length && nat_le (bytes + 172) p.definitions.manager.max_message_length) ≡ true → t ≡ false)
+      (λ z w. absurd cc) (λ z w. refl) e,
+)
 
 right_of : (a b : Bool) → (a && b) ≡ true → b ≡ true
 right_of true b e = e
@@ -259,18 +271,18 @@ dead_is channel reason m p =
     let o : Option LocalQueue = local_of p.definitions.manager.dead_letter_queue p.definitions in
     let uses : Bool = uses_dead (channel_of channel p.definitions) in
     let takes : Bool = can_take_dead o (length m.body) p in
-    bool_case (uses && takes) (λ b. (uses && takes) ≡ b → IsLanding m p (dead_or b channel reason m p)) (λ z w. (refl, dead_defined o (length m.body) p (right_of uses takes w))) (λ z w. tt) refl
+    bool_case (uses && takes) (λ b. (uses && takes) ≡ b → IsLanding m p (dead_or b channel reason m p)) (λ z w. let k = dead_defined o (length m.body) p (right_of uses takes w) in (refl, (k.0, sym k.1), refl)) (λ z w. tt) refl
 
 pub land_is : (channel : List ℕ) (m : Message) (p : Plain) → IsLanding m p (land channel m p)
-land_is channel m p = at (resolve p.definitions p.given.name (names_of m.route).queue (names_of m.route).qmgr)
+land_is channel m p = at (resolve p.definitions p.given.name (names_of m.route).queue (names_of m.route).qmgr) refl
   where
-    tests : (route : Route) (o : Option Reason) → refusal (route_tests route (length m.body) p) ≡ o → IsLanding m p (land_tested o route channel m p)
-    tests route None e = (refl, placing_defined route (length m.body) p (refusal_behind (when (is_unfit output_only route.end p) reasons.OptionNotValidForType ∷ []) (placing_tests route (length m.body) p) e))
-    tests route (Some reason) e = dead_is channel reason m p
+    tests : (route : Route) (o : Option Reason) → resolve p.definitions p.given.name (names_of m.route).queue (names_of m.route).qmgr ≡ Ok route → refusal (route_tests route (length m.body) p) ≡ o → IsLanding m p (land_tested o route channel m p)
+    tests route None is e = (refl, route_fits output_only route p (names_of m.route).queue (names_of m.route).qmgr is (first_passes (is_unfit output_only route.end p) reasons.OptionNotValidForType (placing_tests route (length m.body) p) e) refl (landing route m).message refl, refl)
+    tests route (Some reason) is e = dead_is channel reason m p
 
-    at : (r : Result Route Reason) → IsLanding m p (land_resolved r channel m p)
-    at (Err reason) = dead_is channel reason m p
-    at (Ok route) = tests route (refusal (route_tests route (length m.body) p)) refl
+    at : (r : Result Route Reason) → resolve p.definitions p.given.name (names_of m.route).queue (names_of m.route).qmgr ≡ r → IsLanding m p (land_resolved r channel m p)
+    at (Err reason) is = dead_is channel reason m p
+    at (Ok route) is = tests route (refusal (route_tests route (length m.body) p)) is refl
 
 -- The batch, message by message
 

@@ -128,14 +128,14 @@ scan_apart want p (y ∷ ys) r x d = bool_case (is_free y && is_wanted want y) (
 
 -- MQGET
 
-looked_mem : (take : Take) (cursor : Option Place) (rows : List Row) (r : Row) → Mem r (looked_at take cursor rows) → Mem r rows
+pub looked_mem : (take : Take) (cursor : Option Place) (rows : List Row) (r : Row) → Mem r (looked_at take cursor rows) → Mem r rows
 looked_mem takes.Next cursor rows r m = m
 looked_mem takes.BrowseFirst cursor rows r m = m
 looked_mem takes.BrowseNext cursor rows r m = (mem_filter r (is_after cursor) rows m).0
 looked_mem takes.UnderCursor cursor rows r m = (mem_filter r (is_at cursor) rows m).0
 looked_mem takes.BrowseUnder cursor rows r m = (mem_filter r (is_at cursor) rows m).0
 
-looked_differ : (take : Take) (cursor : Option Place) (rows : List Row) → Differ ident_of rows → Differ ident_of (looked_at take cursor rows)
+pub looked_differ : (take : Take) (cursor : Option Place) (rows : List Row) → Differ ident_of rows → Differ ident_of (looked_at take cursor rows)
 looked_differ takes.Next cursor rows d = d
 looked_differ takes.BrowseFirst cursor rows d = d
 looked_differ takes.BrowseNext cursor rows d = differ_filter ident_of (is_after cursor) rows d
@@ -173,7 +173,7 @@ found_keeps get c x q r p h f = bool_case (is_destructive get.take) (λ b. Sound
     (λ e. taking_keeps get.sync c q r p h f) (λ e. subst Holds (sym (applied (SetCursor c.number x.number r.place) p tt)) h)
 
 -- behind the removal of expired rows the row that was found is there still
-after_removals : (why : Why) (q : List ℕ) (rows : List Row) (p : Plain) (c : Connection) (r : Row) → IsFound p c q r → ((x : Row) → Mem x rows → r.message.ident ≢ x.message.ident) → IsFound (do_all (removal_parts why q rows) p) c q r
+pub after_removals : (why : Why) (q : List ℕ) (rows : List Row) (p : Plain) (c : Connection) (r : Row) → IsFound p c q r → ((x : Row) → Mem x rows → r.message.ident ≢ x.message.ident) → IsFound (do_all (removal_parts why q rows) p) c q r
 after_removals why q [] p c r f ne = f
 after_removals why q (x ∷ rows) p c r f ne =
     let w : Option LogRecord = removal_record q (persistent_rows (x ∷ rows)) in
@@ -195,7 +195,7 @@ without_row_keeps true waiting before p k = k
 without_row_keeps false true before p k = tt
 without_row_keeps false false before p k = k
 
-last_kept : (parts : List Part) (p : Plain) → Sound p → PartsKeep parts p → Sound (do_all parts p)
+pub last_kept : (parts : List Part) (p : Plain) → Sound p → PartsKeep parts p → Sound (do_all parts p)
 last_kept [] p h k = h
 last_kept (x ∷ xs) p h k = last_kept xs (do_part x p) k.0 k.1
 

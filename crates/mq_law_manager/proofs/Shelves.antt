@@ -21,19 +21,17 @@ use Rattle.mq_law_manager.specs.Kept.{Asks, AllAsk, PartsAsk, AllKeep}
 use Rattle.mq_law_manager.proofs.Lists.{bool_case, mem_keep, mem_retag, mem_append, mem_inserted_at}
 use Rattle.mq_law_manager.proofs.SeenLaws.{applied, pended, connects}
 use Rattle.mq_law_manager.proofs.Named.{name_is}
+use Rattle.mq_law_manager.proofs.Routes.{NewPut, puts_kept, routed_on}
 
 -- on a view, of definitions
 abbrev pub RowsIn : Definitions → View → Type 0
 RowsIn d v = (q : List ℕ) (h : Row) → Mem h (v.rows q) → is_some (local_of q d) ≡ true
 
-abbrev pub PutsIn : Definitions → View → Type 0
-PutsIn d v = (n : ℕ) (a : Add) → Mem a (v.puts n) → is_some (local_of a.queue d) ≡ true
-
 pub emptied : (d : Definitions) (v : View) (name q : List ℕ) (h : Row) → RowsIn d v → Mem h (at_name name [] v.rows q) → is_some (local_of q d) ≡ true
 emptied d v name q h s = bool_case (bytes_eq q name) (λ b. Mem h (if b then [] else v.rows q) → is_some (local_of q d) ≡ true) (λ e m. absurd m) (λ e m. s q h m)
 
 rows_seen : (c : Change) (p : Plain) (v : View) → Asks c p → RowsIn p.definitions v → RowsIn p.definitions (seen c p v)
-rows_seen (Places name m) p v a s q h n = elim (mem_inserted_at name (row_for name m p) v.rows q h n) [ inl z ↦ ap (λ (x : List ℕ). is_some (local_of x p.definitions)) z.0 ∙ a | inr z ↦ s q h z ]
+rows_seen (Places name m) p v a s q h n = elim (mem_inserted_at name (row_for name m p) v.rows q h n) [ inl z ↦ ap (λ (x : List ℕ). is_some (local_of x p.definitions)) z.0 ∙ a.0.0 | inr z ↦ s q h z ]
 rows_seen (Leave which) p v a s q h n = s q h (mem_keep (goes_if which q) h (v.rows q) n).0
 rows_seen (Hold which by) p v a s q h n = let k = mem_retag (held_if which by q) h (v.rows q) n in s q k.0 k.1
 rows_seen (Release which counted) p v a s q h n = let k = mem_retag (freed_if which counted q) h (v.rows q) n in s q k.0 k.1
@@ -41,24 +39,10 @@ rows_seen (Renew name) p v a s q h n = emptied p.definitions v name q h s n
 rows_seen (DropQueue name) p v a s q h n = absurd a
 rows_seen c p v a s q h n = s q h n
 
-ended : (d : Definitions) (v : View) (n k : ℕ) (x : Add) → PutsIn d v → Mem x (at_number n [] v.puts k) → is_some (local_of x.queue d) ≡ true
-ended d v n k x s = bool_case (k == n) (λ b. Mem x (if b then [] else v.puts k) → is_some (local_of x.queue d) ≡ true) (λ e m. absurd m) (λ e m. s k x m)
-
-pushed : (d : Definitions) (v : View) (n k : ℕ) (more : List Add) (x : Add) → PutsIn d v → ((y : Add) → Mem y more → is_some (local_of y.queue d) ≡ true) → Mem x (at_number n (v.puts n ++ more) v.puts k) → is_some (local_of x.queue d) ≡ true
-pushed d v n k more x s new = bool_case (k == n) (λ b. Mem x (if b then v.puts n ++ more else v.puts k) → is_some (local_of x.queue d) ≡ true)
-    (λ e m. elim (mem_append x (v.puts n) more m) [ inl z ↦ s n x z | inr z ↦ new x z ]) (λ e m. s k x m)
-
-one_put : (d : Definitions) (a : Add) → is_some (local_of a.queue d) ≡ true → (y : Add) → Mem y (a ∷ []) → is_some (local_of y.queue d) ≡ true
-one_put d a is y (inl e) = ap (λ (z : Add). is_some (local_of z.queue d)) e ∙ is
-one_put d a is y (inr m) = absurd m
-
-puts_seen : (c : Change) (p : Plain) (v : View) → Asks c p → PutsIn p.definitions v → PutsIn p.definitions (seen c p v)
-puts_seen (Disconnect n) p v a s k x m = ended p.definitions v n k x s m
-puts_seen (EndUnit n) p v a s k x m = ended p.definitions v n k x s m
-puts_seen (Pend n (Put queue message)) p v a s k x m = pushed p.definitions v n k (record { queue = queue; message = message } ∷ []) x s (one_put p.definitions (record { queue = queue; message = message }) a.0) m
-puts_seen (Pend n (Take queue i persistent)) p v a s k x m = pushed p.definitions v n k [] x s (λ y m. absurd m) m
-puts_seen ForgetAll p v a s k x m = absurd m
-puts_seen c p v a s k x m = s k x m
+put_defined : (c : Change) (p : Plain) → Asks c p → NewPut (λ (x : Add). is_some (local_of x.queue p.definitions) ≡ true) c
+put_defined (Pend n (Put queue m)) p a = a.0.0
+put_defined (Pend n (Take queue i persistent)) p a = tt
+put_defined c p a = tt
 
 pub tried_definitions : (b : Bool) (name : List ℕ) (p : Plain) → (try_if b name p).definitions ≡ p.definitions
 tried_definitions true name p = refl
@@ -78,7 +62,7 @@ view_rows (ChangeObjects change) p a = refl
 view_rows c p a = ap (λ (v : View). v.rows) (applied c p tt)
 
 view_puts : (c : Change) (p : Plain) → Asks c p → (view (apply c p)).puts ≡ (seen c p (view p)).puts
-view_puts (Connect c) p a = ap (λ (v : View). v.puts) (connects c p a)
+view_puts (Connect c) p a = ap (λ (v : View). v.puts) (connects c p a.0)
 view_puts (Pend n (Put queue m)) p a = ap (λ (v : View). v.puts) (pended n (Put queue m) p a.1.0 a.1.1)
 view_puts (Pend n (Take queue i persistent)) p a = ap (λ (v : View). v.puts) (pended n (Take queue i persistent) p a.0 a.1)
 view_puts (ChangeObjects change) p a = refl
@@ -126,7 +110,8 @@ stays c p a s =
       once = subst (λ (d : Definitions). AreOnce d.objects) (sym same) s.once;
       placed = λ name e. has_kept name c p a (s.placed name (ap (λ (d : Definitions). is_some (local_of name d)) (sym same) ∙ e));
       rows = λ q h n. ap (λ (d : Definitions). is_some (local_of q d)) same ∙ rows_seen c p (view p) a s.rows q h (subst (λ (f : List ℕ → List Row). Mem h (f q)) (view_rows c p a) n);
-      puts = λ k x n. ap (λ (d : Definitions). is_some (local_of x.queue d)) same ∙ puts_seen c p (view p) a s.puts k x (subst (λ (f : ℕ → List Add). Mem x (f k)) (view_puts c p a) n);
+      puts = λ k x n. ap (λ (d : Definitions). is_some (local_of x.queue d)) same ∙ puts_kept (λ (y : Add). is_some (local_of y.queue p.definitions) ≡ true) c p (view p) (put_defined c p a) s.puts k x (subst (λ (f : ℕ → List Add). Mem x (f k)) (view_puts c p a) n);
+      routed = routed_on c p a same (view_rows c p a) (view_puts c p a) s.routed;
     }
 
 pub all_stay : (cs : List Change) (p : Plain) → AllAsk cs p → IsStocked p → IsStocked (apply_all cs p)
@@ -135,7 +120,7 @@ all_stay (c ∷ cs) p a s = all_stay cs (apply c p) a.1 (stays c p a.0 s)
 
 pub logged_stays : (r : Option LogRecord) (p : Plain) → IsStocked p → IsStocked (logged r p)
 logged_stays None p s = s
-logged_stays (Some r) p s = record { once = s.once; placed = s.placed; rows = s.rows; puts = s.puts }
+logged_stays (Some r) p s = record { once = s.once; placed = s.placed; rows = s.rows; puts = s.puts; routed = s.routed }
 
 pub part_stays : (part : Part) (p : Plain) → AllAsk part.changes (logged part.forced p) → IsStocked p → IsStocked (do_part part p)
 part_stays part p a s = all_stay part.changes (logged part.forced p) a (logged_stays part.forced p s)

@@ -1,7 +1,8 @@
 -- Rows and uncommitted puts stay on queues that are defined: by commands on objects.
 use Rattle.std.proofs.Common.{ℕ, ◌≡◌, ◌+◌, Bool, true, false, List, [], ◌∷◌, ◌++◌, refl, ap, sym, subst, ◌∙◌, length, arith, inl, inr}
-use Rattle.std.specs.Prelude.{Option, Some, None, Result, Ok, Err, is_some, if◌then◌else◌, not, ◌&&◌, ◌||◌, nat_lt, ◌==◌, count_by, filter}
+use Rattle.std.specs.Prelude.{Option, Some, None, Result, Ok, Err, is_some, if◌then◌else◌, not, ◌&&◌, ◌||◌, nat_lt, ◌==◌, count_by, filter, map}
 use Rattle.std.specs.Str.{bytes_eq}
+use Rattle.std.specs.List.{list_any}
 use Rattle.std.proofs.lemmas.Bool.Decides.{nat_tests}
 use Rattle.std.proofs.lemmas.List.Sums.{sum_by-cons}
 use Rattle.mq_objects.specs.declared.object.LocalQueue.{LocalQueue}
@@ -18,7 +19,7 @@ use Rattle.mq_objects.specs.declared.command.Alter.{Alter}
 use Rattle.mq_objects.specs.declared.command.Delete.{Delete}
 use Rattle.mq_objects.specs.declared.change.ObjectChange.{ObjectChange}
 use Rattle.mq_objects.specs.declared.change.ObjectChange.TheVariants as changes
-use Rattle.mq_objects.specs.Names.{Space, Queues, same_space, space_of, name_of, as_local, local_of, named, object_in, is_object, is_kind, subject_space, subject_name}
+use Rattle.mq_objects.specs.Names.{Space, Queues, same_space, space_of, name_of, as_local, local_of, named, object_in, is_object, is_kind, subject_space, subject_name, is_transmission, is_by_priority}
 use Rattle.mq_objects.specs.Changed.{set_in}
 use Rattle.mq_objects.specs.Defaults.{new_object}
 use Rattle.mq_objects.specs.Settings.{set_all, set_all_manager}
@@ -36,96 +37,122 @@ use Rattle.mq_sc_apply.specs.declared.answers.Plan.{Plan}
 use Rattle.mq_sc_apply.specs.declared.answers.Plan.TheVariants as plans
 use Rattle.mq_sc_apply.specs.Commands.{plan, to_change, to_show}
 use Rattle.mq_sc_apply.specs.Displayed.{display}
-use Rattle.mq_sc_apply.specs.Planned.{define, define_at, defined_object, changed, is_used, changes_rows, is_filled, alter, alter_at, alter_good, bad_in, switches_on, alter_manager, default_changes, delete, delete_at, is_on_path, is_sent_from, is_busy}
-use Rattle.mq_spec_state.specs.State.{Plain, Connection, Queue, LogState, fresh_queue}
-use Rattle.mq_spec_state.specs.State.Change.{ChangeObjects, Renew, DropQueue}
-use Rattle.mq_spec_state.specs.Reads.{connection_at, is_up, puts_to, is_put_to}
-use Rattle.mq_spec_state.specs.Changes.{apply, apply_all, set_queue}
+use Rattle.mq_sc_apply.specs.Planned.{define, define_at, defined_object, changed, is_used, same_usage, same_delivery, leads_elsewhere, changes_rows, is_filled, alter, alter_at, alter_good, bad_in, switches_on, alter_manager, default_changes, delete, delete_at, is_on_path, is_sent_from, is_busy}
+use Rattle.mq_message.specs.declared.message.Message.{Message}
+use Rattle.mq_message.specs.declared.place.Holder.TheVariants as holders
+use Rattle.mq_queue.specs.declared.row.Row.{Row}
+use Rattle.mq_queue.specs.Lanes.{lane_at}
+use Rattle.mq_objects.specs.declared.object.Usage.{Usage}
+use Rattle.mq_objects.specs.declared.object.Delivery.{Delivery}
+use Rattle.mq_spec_state.specs.State.{Plain, Connection, Handle, Queue, LogState, fresh_queue}
+use Rattle.mq_spec_state.specs.State.Change.{MakeStale, ChangeObjects, Renew, DropQueue}
+use Rattle.mq_spec_state.specs.Reads.{connection_at, is_up, has_rows, puts_to, is_put_to, has_step, any_handle, on_path}
+use Rattle.mq_spec_state.specs.Changes.{apply, apply_all, set_queue, made_stale, stale_if as handle_stale}
+use Rattle.mq_spec_state.specs.Recovery.{routes}
+use Rattle.mq_spec_manager.specs.Put.{queue_at, dest_at}
 use Rattle.mq_spec_state.specs.Steps.{when, written}
 use Rattle.mq_spec_manager.specs.Commands.{command, planned_step, uses_of, follows, renewed, renewed_if, stale_if, switched_if, dropped}
 use Rattle.mq_law_manager.specs.View.{View, view, puts_in, items_of}
-use Rattle.mq_law_manager.specs.Facts.{Mem, IsStocked, AreOnce, is_local, has_queue}
+use Rattle.mq_law_manager.specs.Facts.{Mem, IsStocked, AreOnce, is_local, has_queue, IsRoutedOn, IsFormed, IsLed, IsRouted}
 use Rattle.mq_law_manager.specs.Kept.{AllAsk, StepKeeps}
-use Rattle.mq_law_manager.proofs.Lists.{bool_case}
+use Rattle.mq_law_manager.proofs.Lists.{bool_case, is_false}
 use Rattle.mq_law_manager.proofs.Named.{name_is, name_self, name_turned}
 use Rattle.mq_law_manager.proofs.SeenLaws.{applied}
-use Rattle.mq_law_manager.proofs.Shelves.{all_stay, has_set, emptied}
+use Rattle.mq_law_manager.proofs.Routes.{routed_on, map_mem}
+use Rattle.mq_law_manager.proofs.Shelves.{stays, all_stay, has_set, emptied}
 use Rattle.mq_law_manager.proofs.Units.{behind}
 use Rattle.mq_law_manager.proofs.Stocks.{tested_on}
 use Rattle.mq_law_manager.proofs.Objects.{all_alike, defined_alike, new_space, new_name, kind_local, found_object, object_is, set_found, delete_found, once_set, once_delete}
 use Rattle.mq_law_manager.proofs.Commanding.{object_name}
 
--- What a change of objects keeps to: one that sets an object finds none of its name or one that is a local queue where it is;
--- one that deletes finds one of the kind that it names; a local queue that goes has no rows and no uncommitted puts.
+-- What a change of objects keeps to: one that sets an object finds none of its name or one that is a local queue where it is,
+-- of which it keeps the form where there are rows, and makes handles over it stale where it leads elsewhere; one that deletes
+-- finds one of the kind that it names, on no handle's path; a local queue that goes has no rows and no uncommitted puts.
 
-abbrev pub IsSet : Object → Plain → Type 0
-IsSet new p = (old : Object) → object_in (space_of new) (name_of new) p.definitions.objects ≡ Some old → is_local new ≡ is_local old
+pub record IsOver (old new : Object) (reroutes : Bool) (p : Plain) : Type 0 where
+  pub kind : is_local new ≡ is_local old
+  pub filled : (changes_rows old new && is_filled old (uses_of p)) ≡ false
+  pub leads : leads_elsewhere old new ≡ reroutes
+
+abbrev pub IsSet : Object → Bool → Plain → Type 0
+IsSet new reroutes p = (old : Object) → object_in (space_of new) (name_of new) p.definitions.objects ≡ Some old → IsOver old new reroutes p
 
 pub record IsDeleted (s : Subject) (p : Plain) : Type 0 where
   pub old : Object
   pub found : named s p.definitions ≡ Some old
   pub kind : is_kind s old ≡ true
   pub filled : is_filled old (uses_of p) ≡ false
+  pub path : is_on_path old (uses_of p) ≡ false
 
-abbrev pub Fits : ObjectChange → Plain → Type 0
-Fits (changes.Set new) p = IsSet new p
-Fits (changes.SetManager m) p = Unit {0}
-Fits (changes.Delete s) p = IsDeleted s p
+abbrev pub Fits : ObjectChange → Bool → Plain → Type 0
+Fits (changes.Set new) reroutes p = IsSet new reroutes p
+Fits (changes.SetManager m) reroutes p = Unit {0}
+Fits (changes.Delete s) reroutes p = IsDeleted s p
 
 abbrev pub PlanFits : Plain → Result Planned ScRefusal → Type 0
-PlanFits p (Ok planned) = Fits planned.change p
+PlanFits p (Ok planned) = Fits planned.change planned.reroutes p
 PlanFits p (Err refusal) = Unit {0}
 
 row_fits : (p : Plain) (b : Bool) (e : ScRefusal) (rest : Result Planned ScRefusal) → (b ≡ false → PlanFits p rest) → PlanFits p (if b then Err e else rest)
 row_fits p b e rest k = bool_case b (λ t. b ≡ t → PlanFits p (if t then Err e else rest)) (λ z w. tt) (λ z w. k w) refl
 
-changed_fits : (p : Plain) (force : Bool) (old new : Object) (on : Bool) → IsSet new p → PlanFits p (changed force old new on (uses_of p))
-changed_fits p force old new on h = row_fits p (is_used force old new (uses_of p)) refusals.InUse _ (λ e. row_fits p (changes_rows old new && is_filled old (uses_of p)) refusals.NotEmpty _ (λ w. h))
+abbrev IsSame : Object → Object → Plain → Type 0
+IsSame new old p = (x : Object) → object_in (space_of new) (name_of new) p.definitions.objects ≡ Some x → (is_local new ≡ is_local x) × (old ≡ x)
+
+changed_fits : (p : Plain) (force : Bool) (old new : Object) (on : Bool) → IsSame new old p → PlanFits p (changed force old new on (uses_of p))
+changed_fits p force old new on h = row_fits p (is_used force old new (uses_of p)) refusals.InUse _ (λ e. row_fits p (changes_rows old new && is_filled old (uses_of p)) refusals.NotEmpty _ (λ w x f.
+    let is = h x f in
+    subst (λ (o : Object). IsOver o new (leads_elsewhere old new) p) is.1 (record { kind = is.0 ∙ ap is_local (sym is.1); filled = w; leads = refl })))
 
 abbrev object_or : Object → Option Object → Object
 object_or d None = d
 object_or d (Some x) = x
 
-no_left : (a b : Bool) → (a || b) ≡ false → b ≡ false
+pub no_left : (a b : Bool) → (a || b) ≡ false → b ≡ false
 no_left true b e = absurd cc
 no_left false b e = e
 
-not_false : (b : Bool) → not b ≡ false → b ≡ true
+pub not_false : (b : Bool) → not b ≡ false → b ≡ true
 not_false true e = refl
 not_false false e = absurd cc
 
 -- an object that a command sets, found by the subject that the command names
-set_as : (s : Subject) (new : Object) (o : Option Object) (p : Plain) → space_of new ≡ subject_space s → name_of new ≡ subject_name s → named s p.definitions ≡ o → ((old : Object) → o ≡ Some old → is_local new ≡ is_local old) → IsSet new p
-set_as s new o p space name e h old f = h old (sym e ∙ ap (λ (x : Space). object_in x (subject_name s) p.definitions.objects) (sym space) ∙ ap (λ (n : List ℕ). object_in (space_of new) n p.definitions.objects) (sym name) ∙ f)
+set_as : (s : Subject) (new : Object) (o : Option Object) (p : Plain) (P : Object → Type 0) → space_of new ≡ subject_space s → name_of new ≡ subject_name s → named s p.definitions ≡ o → ((old : Object) → o ≡ Some old → P old)
+    → (old : Object) → object_in (space_of new) (name_of new) p.definitions.objects ≡ Some old → P old
+set_as s new o p P space name e h old f = h old (sym e ∙ ap (λ (x : Space). object_in x (subject_name s) p.definitions.objects) (sym space) ∙ ap (λ (n : List ℕ). object_in (space_of new) n p.definitions.objects) (sym name) ∙ f)
 
 define_fits : (p : Plain) (d : Define) (o : Option Object) → named d.subject p.definitions ≡ o → PlanFits p (define_at d (defined_object d.subject d.settings) o (uses_of p))
 define_fits p d None e =
     let a = defined_alike d.subject d.settings in
-    set_as d.subject (defined_object d.subject d.settings) None p (a.space ∙ new_space d.subject) (a.name ∙ new_name d.subject) e (λ old f. absurd cc)
+    set_as d.subject (defined_object d.subject d.settings) None p (λ x. IsOver x (defined_object d.subject d.settings) false p) (a.space ∙ new_space d.subject) (a.name ∙ new_name d.subject) e (λ old f. absurd cc)
 define_fits p d (Some old) e =
     let a = defined_alike d.subject d.settings in
     row_fits p (not d.replace || not (is_kind d.subject old)) refusals.Exists _ (λ k.
-    changed_fits p false old (defined_object d.subject d.settings) false (set_as d.subject (defined_object d.subject d.settings) (Some old) p (a.space ∙ new_space d.subject) (a.name ∙ new_name d.subject) e
-    (λ x f. a.local ∙ kind_local d.subject old (not_false (is_kind d.subject old) (no_left (not d.replace) (not (is_kind d.subject old)) k)) ∙ ap is_local (ap (object_or old) f))))
+    changed_fits p false old (defined_object d.subject d.settings) false (set_as d.subject (defined_object d.subject d.settings) (Some old) p (λ x. (is_local (defined_object d.subject d.settings) ≡ is_local x) × (old ≡ x)) (a.space ∙ new_space d.subject) (a.name ∙ new_name d.subject) e
+    (λ x f. (a.local ∙ kind_local d.subject old (not_false (is_kind d.subject old) (no_left (not d.replace) (not (is_kind d.subject old)) k)) ∙ ap is_local (ap (object_or old) f), ap (object_or old) f))))
 
 good_fits : (p : Plain) (a : Alter) (old : Object) (o : Option Keyword) → named a.subject p.definitions ≡ Some old → PlanFits p (alter_good o a old (uses_of p))
 good_fits p a old (Some keyword) e = tt
 good_fits p a old None e =
     let k = all_alike a.settings old in
     let is = object_is (subject_space a.subject) (subject_name a.subject) old (found_object (subject_space a.subject) (subject_name a.subject) p.definitions.objects old e) in
-    changed_fits p a.force old (set_all a.settings old) (switches_on old a.settings) (set_as a.subject (set_all a.settings old) (Some old) p (k.space ∙ sym is.0) (k.name ∙ sym is.1) e (λ x f. k.local ∙ ap is_local (ap (object_or old) f)))
+    changed_fits p a.force old (set_all a.settings old) (switches_on old a.settings) (set_as a.subject (set_all a.settings old) (Some old) p (λ x. (is_local (set_all a.settings old) ≡ is_local x) × (old ≡ x)) (k.space ∙ sym is.0) (k.name ∙ sym is.1) e (λ x f. (k.local ∙ ap is_local (ap (object_or old) f), ap (object_or old) f)))
 
 alter_fits : (p : Plain) (a : Alter) (o : Option Object) → named a.subject p.definitions ≡ o → PlanFits p (alter_at a o (uses_of p))
 alter_fits p a None e = tt
 alter_fits p a (Some old) e = row_fits p (not (is_kind a.subject old)) refusals.Missing (alter_good (bad_in old a.settings) a old (uses_of p)) (λ k. good_fits p a old (bad_in old a.settings) e)
 
+no_either : (a b c : Bool) → (a || b || c) ≡ false → a ≡ false
+no_either false b c e = refl
+no_either true b c e = absurd cc
+
 delete_fits : (p : Plain) (d : Delete) (o : Option Object) → named d.subject p.definitions ≡ o → PlanFits p (delete_at d o (uses_of p))
 delete_fits p d None e = tt
 delete_fits p d (Some old) e = row_fits p (not (is_kind d.subject old)) refusals.Missing _ (λ k. row_fits p (is_on_path old (uses_of p) || is_sent_from old (uses_of p) || is_busy old (uses_of p)) refusals.InUse _
-    (λ n. row_fits p (is_filled old (uses_of p)) refusals.NotEmpty _ (λ f. record { old = old; found = e; kind = not_false (is_kind d.subject old) k; filled = f })))
+    (λ n. row_fits p (is_filled old (uses_of p)) refusals.NotEmpty _ (λ f. record { old = old; found = e; kind = not_false (is_kind d.subject old) k; filled = f; path = no_either (is_on_path old (uses_of p)) (is_sent_from old (uses_of p)) (is_busy old (uses_of p)) n })))
 
 abbrev AllFit : Plain → Result Plan ScRefusal → Type 0
-AllFit p (Ok (plans.Change planned)) = Fits planned.change p
+AllFit p (Ok (plans.Change planned)) = Fits planned.change planned.reroutes p
 AllFit p (Ok (plans.Show shown)) = Unit {0}
 AllFit p (Err refusal) = Unit {0}
 
@@ -160,8 +187,28 @@ some_local (objects.Remote q) e = absurd cc
 some_local (objects.Channel q) e = absurd cc
 some_local (objects.Process q) e = absurd cc
 
+-- What of it a change keeps to, of one state: the kind; the form where there are rows or puts; the usage where a handle leads.
+abbrev IsKind : Object → Plain → Type 0
+IsKind new p = (old : Object) → object_in (space_of new) (name_of new) p.definitions.objects ≡ Some old → is_local new ≡ is_local old
+
+abbrev same_form : LocalQueue → LocalQueue → Bool
+same_form a b = same_usage a.usage b.usage && same_delivery a.delivery b.delivery
+
+abbrev same_use : LocalQueue → LocalQueue → Bool
+same_use a b = same_usage a.usage b.usage
+
+-- (of a local queue that is set over one)
+abbrev Over : (LocalQueue → LocalQueue → Bool) → Object → Plain → Type 0
+Over same new p = (a b : LocalQueue) → object_in (space_of new) (name_of new) p.definitions.objects ≡ Some (objects.Local a) → new ≡ objects.Local b → same a b ≡ true
+
+pub record IsChanged (new : Object) (p : Plain) : Type 0 where
+  pub kind : IsKind new p
+  pub rows : (h : Row) → Mem h ((view p).rows (name_of new)) → Over same_form new p
+  pub puts : (n : ℕ) (a : Add) → Mem a ((view p).puts n) → a.queue ≡ name_of new → Over same_form new p
+  pub led : (c : Connection) (h : Handle) → Mem c p.connections → Mem h c.handles → h.stale ≡ false → has_step (steps.Queue (name_of new)) h ≡ true → Over same_use new p
+
 -- a local queue that was there is there still
-set_keeps : (new : Object) (p : Plain) → IsSet new p → (q : List ℕ) → is_some (local_of q p.definitions) ≡ true → is_some (as_local (object_in Queues q (set_in new p.definitions.objects))) ≡ true
+set_keeps : (new : Object) (p : Plain) → IsKind new p → (q : List ℕ) → is_some (local_of q p.definitions) ≡ true → is_some (as_local (object_in Queues q (set_in new p.definitions.objects))) ≡ true
 set_keeps new p h q e = ap (λ (o : Option Object). is_some (as_local o)) (set_found Queues q new p.definitions.objects)
     ∙ bool_case (is_object Queues q new) (λ b. is_object Queues q new ≡ b → is_some (as_local (if b then Some new else object_in Queues q p.definitions.objects)) ≡ true)
     (λ z w. let is = object_is Queues q new w in at is.0 is.1 (object_in Queues q p.definitions.objects) refl e) (λ z w. e) refl
@@ -218,25 +265,88 @@ has_new new (q ∷ qs) = bool_case (bytes_eq new.name q.name) (λ b. has_queue n
 abbrev objects_set : Object → Plain → Plain
 objects_set new p = apply (ChangeObjects (changes.Set new)) p
 
-unrenewed : (new : Object) (p : Plain) → IsStocked p → IsSet new p → (is_local new ≡ true → local_of (name_of new) p.definitions ≡ None → has_queue (name_of new) p.queues ≡ true) → IsStocked (objects_set new p)
+-- what holds of a local queue by its form, where a change keeps that
+set_at : (new : Object) (p : Plain) (P : Option LocalQueue → Type 0) (same : LocalQueue → LocalQueue → Bool) → ((a b : LocalQueue) → same a b ≡ true → P (Some a) → P (Some b)) → IsKind new p
+    → (q : List ℕ) → is_some (local_of q p.definitions) ≡ true → (q ≡ name_of new → Over same new p) → P (local_of q p.definitions) → P (as_local (object_in Queues q (set_in new p.definitions.objects)))
+set_at new p P same alike kind q e over h = subst (λ (o : Option Object). P (as_local o)) (sym (set_found Queues q new p.definitions.objects))
+    (bool_case (is_object Queues q new) (λ b. is_object Queues q new ≡ b → P (as_local (if b then Some new else object_in Queues q p.definitions.objects)))
+    (λ z w. let is = object_is Queues q new w in at is.0 is.1 (object_in Queues q p.definitions.objects) refl e h) (λ z w. h) refl)
+  where
+    as_new : (x : Object) → new ≡ x → (a : LocalQueue) → object_in (space_of new) (name_of new) p.definitions.objects ≡ Some (objects.Local a) → Over same new p → P (Some a) → P (as_local (Some x))
+    as_new (objects.Local b) is a f o k = alike a b (o a b f is) k
+    as_new (objects.Alias b) is a f o k = absurd (cc (kind (objects.Local a) f, ap is_local is))
+    as_new (objects.Remote b) is a f o k = absurd (cc (kind (objects.Local a) f, ap is_local is))
+    as_new (objects.Channel b) is a f o k = absurd (cc (kind (objects.Local a) f, ap is_local is))
+    as_new (objects.Process b) is a f o k = absurd (cc (kind (objects.Local a) f, ap is_local is))
+
+    at : Queues ≡ space_of new → q ≡ name_of new → (o : Option Object) → object_in Queues q p.definitions.objects ≡ o → is_some (as_local o) ≡ true → P (as_local o) → P (as_local (Some new))
+    at space name None f k y = absurd cc
+    at space name (Some (objects.Local a)) f k y = as_new new refl a
+        (ap (λ (x : Space). object_in x (name_of new) p.definitions.objects) (sym space) ∙ ap (λ (n : List ℕ). object_in Queues n p.definitions.objects) (sym name) ∙ f) (over name) y
+    at space name (Some (objects.Alias a)) f k y = absurd cc
+    at space name (Some (objects.Remote a)) f k y = absurd cc
+    at space name (Some (objects.Channel a)) f k y = absurd cc
+    at space name (Some (objects.Process a)) f k y = absurd cc
+
+-- queues of one usage, of one form
+pub used_alike : (a b : Usage) → same_usage a b ≡ true → is_transmission a ≡ is_transmission b
+used_alike a b e = bool_case (is_transmission a) (λ t. (if t then is_transmission b else not (is_transmission b)) ≡ true → t ≡ is_transmission b) (λ z w. sym w) (λ z w. bool_case (is_transmission b) (λ t. not t ≡ true → false ≡ t) (λ y v. absurd cc) (λ y v. refl) w) e
+
+pub given_alike : (a b : Delivery) → same_delivery a b ≡ true → is_by_priority a ≡ is_by_priority b
+given_alike a b e = bool_case (is_by_priority a) (λ t. (if t then is_by_priority b else not (is_by_priority b)) ≡ true → t ≡ is_by_priority b) (λ z w. sym w) (λ z w. bool_case (is_by_priority b) (λ t. not t ≡ true → false ≡ t) (λ y v. absurd cc) (λ y v. refl) w) e
+
+pub both_true : (a b : Bool) → (a && b) ≡ true → (a ≡ true) × (b ≡ true)
+both_true true true e = (refl, refl)
+both_true true false e = absurd cc
+both_true false b e = absurd cc
+
+formed_alike : (h : Row) (a b : LocalQueue) → same_form a b ≡ true → IsFormed (Some a) h → IsFormed (Some b) h
+formed_alike h a b e f =
+    let k = both_true (same_usage a.usage b.usage) (same_delivery a.delivery b.delivery) e in
+    record { routed = f.routed ∙ used_alike a.usage b.usage k.0; lane = f.lane ∙ ap (λ (t : Bool). if t then lane_at h.message.md.priority else 0) (given_alike a.delivery b.delivery k.1) }
+
+routed_alike : (m : Message) (a b : LocalQueue) → same_form a b ≡ true → IsRoutedOn (Some a) m → IsRoutedOn (Some b) m
+routed_alike m a b e f = f ∙ used_alike a.usage b.usage (both_true (same_usage a.usage b.usage) (same_delivery a.delivery b.delivery) e).0
+
+objects_routed : (new : Object) (p : Plain) → IsStocked p → IsChanged new p → IsRouted (objects_set new p)
+objects_routed new p s h = record {
+  rows = λ q x m. set_at new p (λ o. IsFormed o x) same_form (formed_alike x) h.kind q (s.rows q x m) (λ is. h.rows x (subst (λ (n : List ℕ). Mem x ((view p).rows n)) is m)) (s.routed.rows q x m);
+  puts = λ n a m. set_at new p (λ o. IsRoutedOn o a.message) same_form (routed_alike a.message) h.kind a.queue (s.puts n a m) (λ is. h.puts n a m is) (s.routed.puts n a m);
+  led = λ c x m k e.
+      let l = s.routed.led c x m k e in
+      record {
+        there = set_keeps new p h.kind (queue_at x.leads) l.there;
+        on = l.on;
+        routed = λ out. set_at new p (λ o. is_some (dest_at x.leads) ≡ routes o) same_use (λ a b w f. f ∙ used_alike a.usage b.usage w) h.kind (queue_at x.leads) l.there
+            (λ is. h.led c x m k e (subst (λ (n : List ℕ). has_step (steps.Queue n) x ≡ true) is l.on)) (l.routed out);
+      };
+  sorted = s.routed.sorted;
+  doubted = s.routed.doubted;
+  given = s.routed.given;
+  waiting = s.routed.waiting;
+}
+
+unrenewed : (new : Object) (p : Plain) → IsStocked p → IsChanged new p → (is_local new ≡ true → local_of (name_of new) p.definitions ≡ None → has_queue (name_of new) p.queues ≡ true) → IsStocked (objects_set new p)
 unrenewed new p s h there = record {
   once = once_set new p.definitions.objects s.once;
   placed = set_placed new p p.queues s (λ name e. e) there;
-  rows = λ q x m. set_keeps new p h q (s.rows q x m);
-  puts = λ n a m. set_keeps new p h a.queue (s.puts n a m);
+  rows = λ q x m. set_keeps new p h.kind q (s.rows q x m);
+  puts = λ n a m. set_keeps new p h.kind a.queue (s.puts n a m);
+  routed = objects_routed new p s h;
 }
 
-set_renewed : (new : Object) (p : Plain) → IsStocked p → IsSet new p → IsStocked (apply (Renew (name_of new)) (objects_set new p))
+set_renewed : (new : Object) (p : Plain) → IsStocked p → IsChanged new p → IsStocked (apply (Renew (name_of new)) (objects_set new p))
 set_renewed new p s h =
     let q : Plain = objects_set new p in
     record {
       once = once_set new p.definitions.objects s.once;
       placed = set_placed new p (set_queue (fresh_queue (name_of new)) p.queues) s (λ name e. has_set name (fresh_queue (name_of new)) p.queues e) (λ e f. has_new (fresh_queue (name_of new)) p.queues);
-      rows = λ d x m. emptied q.definitions (view p) (name_of new) d x (λ c y n. set_keeps new p h c (s.rows c y n)) (subst (λ (v : View). Mem x (v.rows d)) (applied (Renew (name_of new)) q tt) m);
-      puts = λ n a m. set_keeps new p h a.queue (s.puts n a m);
+      rows = λ d x m. emptied q.definitions (view p) (name_of new) d x (λ c y n. set_keeps new p h.kind c (s.rows c y n)) (subst (λ (v : View). Mem x (v.rows d)) (applied (Renew (name_of new)) q tt) m);
+      puts = λ n a m. set_keeps new p h.kind a.queue (s.puts n a m);
+      routed = routed_on (Renew (name_of new)) q tt refl (ap (λ (v : View). v.rows) (applied (Renew (name_of new)) q tt)) (ap (λ (v : View). v.puts) (applied (Renew (name_of new)) q tt)) (objects_routed new p s h);
     }
 
-set_stocked : (new : Object) (p : Plain) → IsStocked p → IsSet new p → IsStocked (apply_all (renewed new p.definitions) (objects_set new p))
+set_stocked : (new : Object) (p : Plain) → IsStocked p → IsChanged new p → IsStocked (apply_all (renewed new p.definitions) (objects_set new p))
 set_stocked (objects.Local l) p s h = at (local_of l.name p.definitions) refl
   where
     at : (o : Option LocalQueue) → local_of l.name p.definitions ≡ o → IsStocked (apply_all (renewed_if o l.name) (objects_set (objects.Local l) p))
@@ -256,17 +366,35 @@ less_found : (s : Subject) (p : Plain) → AreOnce p.definitions.objects → (q 
     → local_of q (objects_less s p).definitions ≡ as_local (if same_space Queues (subject_space s) && bytes_eq q (subject_name s) then None else object_in Queues q p.definitions.objects)
 less_found s p once q = ap as_local (delete_found Queues (subject_space s) q (subject_name s) p.definitions.objects once)
 
+no_local : (o : Option LocalQueue) → is_some o ≡ false → None ≡ o
+no_local None e = refl
+no_local (Some q) e = absurd cc
+
+-- a handle leads as it did
+led_same : (new old : Definitions) (h : Handle) → local_of (queue_at h.leads) old ≡ local_of (queue_at h.leads) new → IsLed old h → IsLed new h
+led_same new old h is l = record { there = sym (ap is_some is) ∙ l.there; on = l.on; routed = λ out. l.routed out ∙ ap routes is }
+
 -- one that is none of a queue, or of a queue that is not local
 other_stocked : (s : Subject) (p : Plain) → IsStocked p → ((q : List ℕ) → (same_space Queues (subject_space s) && bytes_eq q (subject_name s)) ≡ true → is_some (local_of q p.definitions) ≡ false) → IsStocked (objects_less s p)
 other_stocked s p k none =
-    let same : (q : List ℕ) → is_some (local_of q (objects_less s p).definitions) ≡ is_some (local_of q p.definitions) = λ q. ap is_some (less_found s p k.once q)
-    ∙ bool_case (same_space Queues (subject_space s) && bytes_eq q (subject_name s)) (λ b. (same_space Queues (subject_space s) && bytes_eq q (subject_name s)) ≡ b → is_some (as_local (if b then None else object_in Queues q p.definitions.objects)) ≡ is_some (local_of q p.definitions))
-    (λ z w. sym (none q w)) (λ z w. refl) refl in
+    let whole : (q : List ℕ) → local_of q (objects_less s p).definitions ≡ local_of q p.definitions = λ q. less_found s p k.once q
+    ∙ bool_case (same_space Queues (subject_space s) && bytes_eq q (subject_name s)) (λ b. (same_space Queues (subject_space s) && bytes_eq q (subject_name s)) ≡ b → as_local (if b then None else object_in Queues q p.definitions.objects) ≡ local_of q p.definitions)
+    (λ z w. no_local (local_of q p.definitions) (none q w)) (λ z w. refl) refl in
+    let same : (q : List ℕ) → is_some (local_of q (objects_less s p).definitions) ≡ is_some (local_of q p.definitions) = λ q. ap is_some (whole q) in
     record {
       once = once_delete (subject_space s) (subject_name s) p.definitions.objects k.once;
       placed = λ name e. k.placed name (sym (same name) ∙ e);
       rows = λ q x m. same q ∙ k.rows q x m;
       puts = λ n a m. same a.queue ∙ k.puts n a m;
+      routed = record {
+        rows = λ q x m. subst (λ (o : Option LocalQueue). IsFormed o x) (sym (whole q)) (k.routed.rows q x m);
+        puts = λ n a m. k.routed.puts n a m ∙ sym (ap routes (whole a.queue));
+        led = λ c x m o e. led_same (objects_less s p).definitions p.definitions x (sym (whole (queue_at x.leads))) (k.routed.led c x m o e);
+        sorted = k.routed.sorted;
+        doubted = k.routed.doubted;
+        given = k.routed.given;
+        waiting = k.routed.waiting;
+      };
     }
 
 -- a local queue without rows and uncommitted puts
@@ -316,6 +444,30 @@ puts_gone p name h = at h.old h.found h.kind h.filled
     at (objects.Channel l) e k f = absurd cc
     at (objects.Process l) e k f = absurd cc
 
+-- no handle's path has it
+none_any : {A : Type 0} (f : A → Bool) (xs : List A) → list_any f xs ≡ false → (x : A) → Mem x xs → f x ≡ false
+none_any f [] e x m = absurd m
+none_any f (y ∷ ys) e x (inl is) = ap f is ∙ no_either (f y) (list_any f ys) false (right_unit (f y) (list_any f ys) e)
+  where
+    right_unit : (a b : Bool) → (a || b) ≡ false → (a || b || false) ≡ false
+    right_unit true b e = absurd cc
+    right_unit false false e = refl
+    right_unit false true e = absurd cc
+none_any f (y ∷ ys) e x (inr m) = none_any f ys (no_left (f y) (list_any f ys) e) x m
+
+no_handle : (f : Handle → Bool) (cs : List Connection) → any_handle f cs ≡ false → (c : Connection) (h : Handle) → Mem c cs → Mem h c.handles → f h ≡ true → ⊥
+no_handle f cs e c h m k w = cc (w, none_any f c.handles (none_any (λ (x : Connection). list_any f x.handles) cs e c m) h k)
+
+path_free : (p : Plain) (name : List ℕ) → IsDeleted (subjects.Local name) p → on_path (steps.Queue name) p ≡ false
+path_free p name h = at h.old h.found h.kind h.path
+  where
+    at : (old : Object) → named (subjects.Local name) p.definitions ≡ Some old → is_kind (subjects.Local name) old ≡ true → is_on_path old (uses_of p) ≡ false → on_path (steps.Queue name) p ≡ false
+    at (objects.Local l) e k f = subst (λ (n : List ℕ). on_path (steps.Queue n) p ≡ false) (object_name name p.definitions.objects (objects.Local l) e) f
+    at (objects.Alias l) e k f = absurd cc
+    at (objects.Remote l) e k f = absurd cc
+    at (objects.Channel l) e k f = absurd cc
+    at (objects.Process l) e k f = absurd cc
+
 local_stocked : (name : List ℕ) (p : Plain) → IsStocked p → IsDeleted (subjects.Local name) p → IsStocked (apply (DropQueue name) (objects_less (subjects.Local name) p))
 local_stocked name p k h =
     let less : Plain = objects_less (subjects.Local name) p in
@@ -329,8 +481,25 @@ local_stocked name p k h =
           (λ z w. absurd (cc (here q w, e))) (λ z w. has_filtered q name p.queues w (k.placed q (ap is_some (sym (other q w)) ∙ e))) refl;
       rows = λ q x m. bool_case (bytes_eq q name) (λ b. bytes_eq q name ≡ b → Mem x (if b then [] else (view p).rows q) → is_some (local_of q less.definitions) ≡ true)
           (λ z w n. absurd n) (λ z w n. ap is_some (other q w) ∙ k.rows q x n) refl (subst (λ (v : View). Mem x (v.rows q)) (applied (DropQueue name) less tt) m);
-      puts = λ n a m. ap is_some (other a.queue (name_turned a.queue name ∙ puts_none name p.connections (puts_gone p name h) n a m)) ∙ k.puts n a m;
+      puts = λ n a m. ap is_some (other a.queue (elsewhere n a m)) ∙ k.puts n a m;
+      routed = record {
+        rows = λ q x m. bool_case (bytes_eq q name) (λ b. bytes_eq q name ≡ b → Mem x (if b then [] else (view p).rows q) → IsFormed (local_of q less.definitions) x)
+            (λ z w n. absurd n) (λ z w n. subst (λ (o : Option LocalQueue). IsFormed o x) (sym (other q w)) (k.routed.rows q x n)) refl (subst (λ (v : View). Mem x (v.rows q)) (applied (DropQueue name) less tt) m);
+        puts = λ n a m. k.routed.puts n a m ∙ sym (ap routes (other a.queue (elsewhere n a m)));
+        led = λ c x m o e. let l = k.routed.led c x m o e in led_same less.definitions p.definitions x (sym (other (queue_at x.leads) (unled c x m o l.on))) l;
+        sorted = k.routed.sorted;
+        doubted = λ q x t m e o l. bool_case (bytes_eq q name) (λ b. Mem x (if b then [] else (view p).rows q) → x.by ≡ Some (holders.Batch t.channel)) (λ z n. absurd n) (λ z n. k.routed.doubted q x t n e o l)
+            (subst (λ (v : View). Mem x (v.rows q)) (applied (DropQueue name) less tt) m);
+        given = k.routed.given;
+        waiting = k.routed.waiting;
+      };
     }
+  where
+    elsewhere : (n : ℕ) (a : Add) → Mem a ((view p).puts n) → bytes_eq a.queue name ≡ false
+    elsewhere n a m = name_turned a.queue name ∙ puts_none name p.connections (puts_gone p name h) n a m
+
+    unled : (c : Connection) (x : Handle) → Mem c p.connections → Mem x c.handles → has_step (steps.Queue (queue_at x.leads)) x ≡ true → bytes_eq (queue_at x.leads) name ≡ false
+    unled c x m k on = is_false (bytes_eq (queue_at x.leads) name) (λ e. no_handle (has_step (steps.Queue name)) p.connections (path_free p name h) c x m k (subst (λ (n : List ℕ). has_step (steps.Queue n) x ≡ true) (name_is (queue_at x.leads) name e) on))
 
 -- an object of another kind
 not_local : (s : Subject) (p : Plain) → IsDeleted s p → is_local (new_object s) ≡ false → subject_space s ≡ Queues → (q : List ℕ) → (same_space Queues (subject_space s) && bytes_eq q (subject_name s)) ≡ true → is_some (local_of q p.definitions) ≡ false
@@ -360,25 +529,121 @@ delete_stocked (subjects.Process name) p k h = other_stocked (subjects.Process n
 
 -- What follows
 
-follows_stocked : (change : ObjectChange) (planned : Planned) (p : Plain) → IsStocked p → Fits change p → IsStocked (apply_all (follows change planned p.definitions) (apply (ChangeObjects change) p))
+-- What a change keeps to follows from its tests; handles that it makes stale lead nowhere.
+
+pub has_no_rows : (a b : ℕ) → nat_lt 0 (a + b) ≡ false → a ≡ 0
+has_no_rows a b e = grind (arith, nat_tests)
+
+empty_rows : (rows : List Row) (h : Row) → length rows ≡ 0 → Mem h rows → ⊥
+empty_rows [] h e m = m
+empty_rows (row ∷ rows) h e m = cc e
+
+-- the form of a queue changes where it has neither rows nor puts
+kept_form : (reroutes : Bool) (new : Object) (p : Plain) → IsSet new reroutes p → (has_rows (name_of new) p ≡ false → ⊥) → Over same_form new p
+kept_form reroutes new p h filled a b f is = at (object_name_of a f) (h (objects.Local a) f).filled
+  where
+    object_name_of : (x : LocalQueue) → object_in (space_of new) (name_of new) p.definitions.objects ≡ Some (objects.Local x) → x.name ≡ name_of new
+    object_name_of x e = sym (object_is (space_of new) (name_of new) (objects.Local x) (found_object (space_of new) (name_of new) p.definitions.objects (objects.Local x) e)).1
+
+    at : a.name ≡ name_of new → (changes_rows (objects.Local a) new && is_filled (objects.Local a) (uses_of p)) ≡ false → same_form a b ≡ true
+    at name e = bool_case (same_form a b) (λ t. (not t && has_rows a.name p) ≡ false → t ≡ true) (λ z w. refl) (λ z w. absurd (filled (ap (λ (n : List ℕ). has_rows n p) (sym name) ∙ w)))
+        (ap (λ (x : Object). changes_rows (objects.Local a) x && has_rows a.name p) (sym is) ∙ e)
+
+kept_use : (new : Object) (p : Plain) → IsSet new false p → Over same_use new p
+kept_use new p h a b f is = bool_case (same_use a b) (λ t. not t ≡ false → t ≡ true) (λ z w. refl) (λ z w. absurd cc) (ap (leads_elsewhere (objects.Local a)) (sym is) ∙ (h (objects.Local a) f).leads)
+
+row_fills : (p : Plain) (name : List ℕ) (h : Row) → Mem h ((view p).rows name) → has_rows name p ≡ false → ⊥
+row_fills p name h m e = empty_rows ((view p).rows name) h (has_no_rows (length ((view p).rows name)) (puts_to name p.connections) e) m
+
+put_fills : (p : Plain) (name : List ℕ) (n : ℕ) (a : Add) → Mem a ((view p).puts n) → a.queue ≡ name → has_rows name p ≡ false → ⊥
+put_fills p name n a m is e = cc (puts_none name p.connections (no_more (length ((view p).rows name)) (puts_to name p.connections) e) n a m, ap (bytes_eq name) is, name_self name)
+
+set_changed : (new : Object) (p : Plain) → IsSet new false p → IsChanged new p
+set_changed new p h = record {
+  kind = λ old f. (h old f).kind;
+  rows = λ x m. kept_form false new p h (row_fills p (name_of new) x m);
+  puts = λ n a m is. kept_form false new p h (put_fills p (name_of new) n a m is);
+  led = λ c x m k e on. kept_use new p h;
+}
+
+no_stale : (step : PathStep) (c : Connection) (cs : List Connection) (h : Handle) → Mem c (map (made_stale step) cs) → Mem h c.handles → h.stale ≡ false → has_step step h ≡ true → ⊥
+no_stale step c cs h m k e on =
+    let x = map_mem (made_stale step) c cs m in
+    let y = map_mem (λ (z : Handle). handle_stale (has_step step z) z) h x.0.handles (subst (λ (z : Connection). Mem h z.handles) x.2 k) in
+    at (has_step step y.0) refl y.2
+  where
+    at : (b : Bool) → has_step step (map_mem (λ (z : Handle). handle_stale (has_step step z) z) h (map_mem (made_stale step) c cs m).0.handles (subst (λ (z : Connection). Mem h z.handles) (map_mem (made_stale step) c cs m).2 k)).0 ≡ b → h ≡ handle_stale b (map_mem (λ (z : Handle). handle_stale (has_step step z) z) h (map_mem (made_stale step) c cs m).0.handles (subst (λ (z : Connection). Mem h z.handles) (map_mem (made_stale step) c cs m).2 k)).0 → ⊥
+    at true w is = cc (e, ap (λ (z : Handle). z.stale) is)
+    at false w is = cc (on, is, w)
+
+stale_changed : (new : Object) (p : Plain) → IsSet new true p → IsChanged new (apply (MakeStale (steps.Queue (name_of new))) p)
+stale_changed new p h = record {
+  kind = λ old f. (h old f).kind;
+  rows = λ x m. kept_form true new p h (row_fills p (name_of new) x m);
+  puts = λ n a m is. kept_form true new p h (put_fills p (name_of new) n a (subst (λ (v : View). Mem a (v.puts n)) (applied (MakeStale (steps.Queue (name_of new))) p tt) m) is);
+  led = λ c x m k e on. absurd (no_stale (steps.Queue (name_of new)) c p.connections x m k e on);
+}
+
+-- handles are made stale before or behind
+stale_first : (step : PathStep) (new : Object) (p : Plain) → apply (MakeStale step) (apply_all (renewed new p.definitions) (objects_set new p)) ≡ apply_all (renewed new p.definitions) (objects_set new (apply (MakeStale step) p))
+stale_first step (objects.Local l) p = at (local_of l.name p.definitions)
+  where
+    at : (o : Option LocalQueue) → apply (MakeStale step) (apply_all (renewed_if o l.name) (objects_set (objects.Local l) p)) ≡ apply_all (renewed_if o l.name) (objects_set (objects.Local l) (apply (MakeStale step) p))
+    at None = refl
+    at (Some x) = refl
+stale_first step (objects.Alias l) p = refl
+stale_first step (objects.Remote l) p = refl
+stale_first step (objects.Channel l) p = refl
+stale_first step (objects.Process l) p = refl
+
+set_staled : (reroutes : Bool) (new : Object) (p : Plain) → IsStocked p → IsSet new reroutes p → IsStocked (apply_all (stale_if reroutes (steps.Queue (name_of new))) (apply_all (renewed new p.definitions) (objects_set new p)))
+set_staled false new p s h = set_stocked new p s (set_changed new p h)
+set_staled true new p s h = subst IsStocked (sym (stale_first (steps.Queue (name_of new)) new p))
+    (set_stocked new (apply (MakeStale (steps.Queue (name_of new))) p) (stays (MakeStale (steps.Queue (name_of new))) p tt s) (stale_changed new p h))
+
+follows_stocked : (change : ObjectChange) (planned : Planned) (p : Plain) → IsStocked p → Fits change planned.reroutes p → IsStocked (apply_all (follows change planned p.definitions) (apply (ChangeObjects change) p))
 follows_stocked (changes.Set new) planned p s h =
     let a : Plain = apply_all (renewed new p.definitions) (objects_set new p) in
     let b : Plain = apply_all (stale_if planned.reroutes (steps.Queue (name_of new))) a in
     subst IsStocked (sym (behind (renewed new p.definitions ++ stale_if planned.reroutes (steps.Queue (name_of new))) (switched_if planned.switches_on (name_of new)) (objects_set new p)
     ∙ ap (apply_all (switched_if planned.switches_on (name_of new))) (behind (renewed new p.definitions) (stale_if planned.reroutes (steps.Queue (name_of new))) (objects_set new p))))
-    (all_stay (switched_if planned.switches_on (name_of new)) b (switch_asks planned.switches_on (name_of new) b)
-    (all_stay (stale_if planned.reroutes (steps.Queue (name_of new))) a (stale_asks planned.reroutes (steps.Queue (name_of new)) a) (set_stocked new p s h)))
+    (all_stay (switched_if planned.switches_on (name_of new)) b (switch_asks planned.switches_on (name_of new) b) (set_staled planned.reroutes new p s h))
 follows_stocked (changes.SetManager m) planned p s h =
     let q : Plain = apply (ChangeObjects (changes.SetManager m)) p in
-    all_stay (stale_if planned.reroutes steps.DefXmitq) q (stale_asks planned.reroutes steps.DefXmitq q) (record { once = s.once; placed = s.placed; rows = s.rows; puts = s.puts })
+    all_stay (stale_if planned.reroutes steps.DefXmitq) q (stale_asks planned.reroutes steps.DefXmitq q) (record { once = s.once; placed = s.placed; rows = s.rows; puts = s.puts; routed = same })
+  where
+    same : IsRouted (apply (ChangeObjects (changes.SetManager m)) p)
+    same = record {
+      rows = s.routed.rows;
+      puts = s.routed.puts;
+      led = λ c x n k e. let l = s.routed.led c x n k e in record { there = l.there; on = l.on; routed = l.routed };
+      sorted = s.routed.sorted;
+      doubted = s.routed.doubted;
+      given = s.routed.given;
+      waiting = s.routed.waiting;
+    }
 follows_stocked (changes.Delete subject) planned p s h = delete_stocked subject p s h
 
 -- (what is found does not depend on the log)
-in_log : (change : ObjectChange) (log : LogState) (p : Plain) → Fits change p → Fits change (record p { log = log })
-in_log (changes.Set new) log p h = h
-in_log (changes.SetManager m) log p h = tt
-in_log (changes.Delete s) log p h = record { old = h.old; found = h.found; kind = h.kind; filled = filled h.old h.filled }
+in_log : (change : ObjectChange) (reroutes : Bool) (log : LogState) (p : Plain) → Fits change reroutes p → Fits change reroutes (record p { log = log })
+in_log (changes.Set new) reroutes log p h = λ old f. let k = h old f in record { kind = k.kind; filled = filled_over old k.filled; leads = k.leads }
   where
+    filled_over : (o : Object) → (changes_rows o new && is_filled o (uses_of p)) ≡ false → (changes_rows o new && is_filled o (uses_of (record p { log = log }))) ≡ false
+    filled_over (objects.Local l) e = e
+    filled_over (objects.Alias l) e = e
+    filled_over (objects.Remote l) e = e
+    filled_over (objects.Channel l) e = e
+    filled_over (objects.Process l) e = e
+in_log (changes.SetManager m) reroutes log p h = tt
+in_log (changes.Delete s) reroutes log p h = record { old = h.old; found = h.found; kind = h.kind; filled = filled h.old h.filled; path = path h.old h.path }
+  where
+    path : (o : Object) → is_on_path o (uses_of p) ≡ false → is_on_path o (uses_of (record p { log = log })) ≡ false
+    path (objects.Local l) e = e
+    path (objects.Alias l) e = e
+    path (objects.Remote l) e = e
+    path (objects.Channel l) e = e
+    path (objects.Process l) e = e
+
     filled : (o : Object) → is_filled o (uses_of p) ≡ false → is_filled o (uses_of (record p { log = log })) ≡ false
     filled (objects.Local l) e = e
     filled (objects.Alias l) e = e
@@ -389,7 +654,7 @@ in_log (changes.Delete s) log p h = record { old = h.old; found = h.found; kind 
 planned_stocked : (r : Result Plan ScRefusal) (p : Plain) → AllFit p r → IsStocked p → StepKeeps IsStocked (planned_step r p.definitions) p
 planned_stocked (Ok (plans.Change planned)) p h s =
     let log : LogState = written (records.Objects planned.change) p.log in
-    (follows_stocked planned.change planned (record p { log = log }) (record { once = s.once; placed = s.placed; rows = s.rows; puts = s.puts }) (in_log planned.change log p h), tt)
+    (follows_stocked planned.change planned (record p { log = log }) (record { once = s.once; placed = s.placed; rows = s.rows; puts = s.puts; routed = s.routed }) (in_log planned.change planned.reroutes log p h), tt)
 planned_stocked (Ok (plans.Show shown)) p h s = tt
 planned_stocked (Err refusal) p h s = tt
 

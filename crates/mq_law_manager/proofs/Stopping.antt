@@ -23,7 +23,7 @@ use Rattle.mq_law_manager.specs.View.{View, Taken, view, at_name, retagged_all}
 use Rattle.mq_law_manager.specs.Facts.{Mem, Sound, Holds}
 use Rattle.mq_law_manager.specs.Seen.{goes_if, held_if, freed_if, add_in}
 use Rattle.mq_law_manager.specs.Kept.{Keeps}
-use Rattle.mq_law_manager.proofs.Lists.{bool_case, ident_self, name_yes, name_self, mem_retag}
+use Rattle.mq_law_manager.proofs.Lists.{mem_any, bool_case, ident_self, name_yes, name_self, mem_retag}
 use Rattle.mq_law_manager.proofs.Apart as apart
 use Rattle.mq_law_manager.proofs.TakenLaws as taken
 use Rattle.mq_law_manager.proofs.BatchLaws as batched
@@ -55,15 +55,6 @@ idents_mem i [] m = absurd m
 idents_mem i (x ∷ xs) (inl e) = (x, inl refl, e)
 idents_mem i (x ∷ xs) (inr m) = let k = idents_mem i xs m in (k.0, inr k.1, k.2)
 
-any_mem : (i : Ident) (is : List Ident) → Mem i is → list_any (same_ident i) is ≡ true
-any_mem i [] m = absurd m
-any_mem i (x ∷ xs) (inl e) = ap (λ (j : Ident). same_ident i j || list_any (same_ident i) xs) (sym e) ∙ ap (λ (b : Bool). b || list_any (same_ident i) xs) (ident_self i)
-any_mem i (x ∷ xs) (inr m) = or_right (same_ident i x) (list_any (same_ident i) xs) (any_mem i xs m)
-  where
-    or_right : (a b : Bool) → b ≡ true → (a || b) ≡ true
-    or_right true b e = refl
-    or_right false b e = e
-
 -- A batch is held: free rows of a queue, by a channel that held nothing
 
 pub sound_held : (c q : List ℕ) (unit : Luw) (rows : List Row) (p : Plain) → Sound p → (view p).batch c ≡ None → (view p).doubt c ≡ None → ((r : Row) → Mem r rows → Mem r ((view p).rows q) × (r.by ≡ None))
@@ -88,7 +79,7 @@ sound_held c q unit rows p h batch doubt free =
       f.0,
       sym k.2,
       held_row (selects which q k.0 && is_free k.0) (Some (holders.Batch c)) k.0
-          (ap (λ (t : Bool). (t && list_any (same_ident k.0.message.ident) (idents_of rows)) && is_free k.0) (name_self q) ∙ ap (λ (t : Bool). t && is_free k.0) (any_mem k.0.message.ident (idents_of rows) (mem_idents k.0 rows k.1)) ∙ is_free_row k.0 f.1),
+          (ap (λ (t : Bool). (t && list_any (same_ident k.0.message.ident) (idents_of rows)) && is_free k.0) (name_self q) ∙ ap (λ (t : Bool). t && is_free k.0) (mem_any k.0.message.ident (idents_of rows) (mem_idents k.0 rows k.1)) ∙ is_free_row k.0 f.1),
     ) in
     let hold : Change = Hold which (holders.Batch c) in
     subst Holds (sym (applied (AddBatch b) (apply hold p) tt)) (subst (λ (w : View). Holds (add_in b w)) (sym (applied hold p tt)) (record {

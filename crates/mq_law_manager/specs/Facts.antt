@@ -12,8 +12,15 @@ use Rattle.mq_objects.specs.declared.object.Object.{Object}
 use Rattle.mq_objects.specs.declared.object.Object.TheVariants as objects
 use Rattle.mq_objects.specs.Names.{local_of, is_object, space_of, name_of}
 pub use Rattle.mq_base.specs.Members.{Mem, Chain}
-use Rattle.mq_spec_state.specs.State.{Plain, Batch, Queue}
-use Rattle.mq_spec_state.specs.Reads.{is_persistent}
+use Rattle.mq_message.specs.declared.message.Message.{Message}
+use Rattle.mq_objects.specs.declared.object.LocalQueue.{LocalQueue}
+use Rattle.mq_objects.specs.declared.object.Definitions.{Definitions}
+use Rattle.mq_resolve.specs.declared.route.PathStep.TheVariants as steps
+use Rattle.mq_spec_state.specs.State.{Plain, Batch, Queue, Connection, Handle, SenderSide}
+use Rattle.mq_spec_state.specs.Reads.{is_persistent, has_step}
+use Rattle.mq_spec_state.specs.Changes.{lane_of, comes_before}
+pub use Rattle.mq_spec_state.specs.Recovery.{routes, listed}
+use Rattle.mq_spec_manager.specs.Put.{queue_at, dest_at}
 use Rattle.mq_law_manager.specs.View.{View, Taken, view}
 
 -- each key at most once
@@ -93,6 +100,7 @@ pub record AreStill (v : View) : Type 0 where
   pub apart : AreApart v.rows v.puts v.unborn
   pub held : (q : List ℕ) (h : Row) (n : ℕ) → Mem h (v.rows q) → h.by ≡ Some (holders.Unit n) → Mem (record { queue = q; ident = h.message.ident; persistent = is_persistent h.message }) (v.takes n)
   pub of : (q : List ℕ) (h : Row) (c : List ℕ) → Mem h (v.rows q) → h.by ≡ Some (holders.Batch c) → IsOf q h.message.ident (v.batch c) (v.doubt c)
+  pub one : (c : List ℕ) (b : Batch) → v.batch c ≡ Some b → v.doubt c ≡ None
   pub ordered : AreOrdered v.rows v.arrivals
 
 -- no name stands twice in the list of queues
@@ -124,12 +132,54 @@ AreDefined p = (q : List ℕ) (h : Row) → Mem h ((view p).rows q) → is_some 
 abbrev pub ArePutDefined : Plain → Type 0
 ArePutDefined p = (n : ℕ) (a : Add) → Mem a ((view p).puts n) → is_some (local_of a.queue p.definitions) ≡ true
 
+-- a message has a route just where its queue is a transmission queue
+abbrev pub IsRoutedOn : Option LocalQueue → Message → Type 0
+IsRoutedOn o m = is_some m.route ≡ routes o
+
+-- a message fits a local queue that is defined
+abbrev pub IsFit : Option LocalQueue → Message → Type 0
+IsFit o m = (is_some o ≡ true) × IsRoutedOn o m
+
+-- a row of a queue: routed as the queue is used, in the lane that MSGDLVSQ gives its priority
+pub record IsFormed (o : Option LocalQueue) (row : Row) : Type 0 where
+  pub routed : IsRoutedOn o row.message
+  pub lane : row.place.lane ≡ lane_of o row.message.md.priority
+
+-- A handle that isn't stale leads to a local queue on its path that is defined; one for output to a queue that what is put
+-- through it fits.
+pub record IsLed (d : Definitions) (h : Handle) : Type 0 where
+  pub there : is_some (local_of (queue_at h.leads) d) ≡ true
+  pub on : has_step (steps.Queue (queue_at h.leads)) h ≡ true
+  pub routed : h.how.output ≡ true → is_some (dest_at h.leads) ≡ routes (local_of (queue_at h.leads) d)
+
+abbrev pub IsUnlisted : Ident → List SenderSide → Type 0
+IsUnlisted i sides = (s : SenderSide) → Mem s sides → Mem i (listed s.hardened.in_doubt) → ⊥
+
+-- channel data stands in order of the channels' names
+abbrev pub AreSorted : List SenderSide → Type 0
+AreSorted sides = Chain (λ (s t : SenderSide). comes_before s.channel t.channel ≡ true) sides
+
+-- Rows, uncommitted puts and handles are routed; what units in doubt list was given, and waits in no unit; a persistent row that
+-- one lists is held by it.
+pub record AreRouted (v : View) (d : Definitions) (cs : List Connection) (sides : List SenderSide) : Type 0 where
+  pub rows : (q : List ℕ) (h : Row) → Mem h (v.rows q) → IsFormed (local_of q d) h
+  pub puts : (n : ℕ) (a : Add) → Mem a (v.puts n) → IsRoutedOn (local_of a.queue d) a.message
+  pub led : (c : Connection) (h : Handle) → Mem c cs → Mem h c.handles → h.stale ≡ false → IsLed d h
+  pub given : (i : Ident) → v.unborn i ≡ true → IsUnlisted i sides
+  pub waiting : (n : ℕ) (a : Add) → Mem a (v.puts n) → IsUnlisted a.message.ident sides
+  pub sorted : AreSorted sides
+  pub doubted : (q : List ℕ) (h : Row) (s : SenderSide) → Mem h (v.rows q) → is_persistent h.message ≡ true → Mem s sides → Mem h.message.ident (listed s.hardened.in_doubt) → h.by ≡ Some (holders.Batch s.channel)
+
+abbrev pub IsRouted : Plain → Type 0
+IsRouted p = AreRouted (view p) p.definitions p.connections p.channels.senders
+
 -- and each has its place for rows
 pub record IsStocked (p : Plain) : Type 0 where
   pub once : AreOnce p.definitions.objects
   pub placed : (name : List ℕ) → is_some (local_of name p.definitions) ≡ true → has_queue name p.queues ≡ true
   pub rows : AreDefined p
   pub puts : ArePutDefined p
+  pub routed : IsRouted p
 
 -- All that holds of one manager.
 pub record IsSound (p : Plain) : Type 0 where

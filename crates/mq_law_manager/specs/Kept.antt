@@ -1,14 +1,19 @@
 -- A call keeps what holds of a manager's rows: behind each of its parts. (So it holds where a later write is stopped, too.)
-use Rattle.std.specs.Prelude.{◌≡◌, true, is_some, List, [], ◌∷◌, Some}
+use Rattle.std.specs.Prelude.{ℕ, ◌≡◌, ◌≢◌, true, false, List, [], ◌∷◌, Some}
 use Rattle.mq_objects.specs.Names.{local_of}
-use Rattle.mq_spec_state.specs.State.{Plain, Change, Connection}
-use Rattle.mq_spec_state.specs.State.Change.{Place as Places, Pend, Connect, ChangeObjects, DropQueue}
-use Rattle.mq_spec_state.specs.Reads.{connection_at}
-use Rattle.mq_spec_state.specs.Changes.{apply}
+use Rattle.mq_spec_state.specs.State.{Plain, Change, Connection, Which, SenderSide}
+use Rattle.mq_message.specs.declared.message.Ident.{Ident}
+use Rattle.mq_message.specs.declared.place.Holder.TheVariants as holders
+use Rattle.mq_queue.specs.declared.row.Row.{Row}
+use Rattle.mq_spec_state.specs.State.Change.{Place as Places, Release, Pend, Connect, OpenHandle, ChangeObjects, DropQueue, SetSender}
+use Rattle.mq_spec_state.specs.Reads.{connection_at, is_persistent}
+use Rattle.mq_spec_state.specs.Changes.{apply, selects}
 use Rattle.mq_calls.specs.declared.state.Item.TheVariants.{Put, Take}
 use Rattle.mq_spec_state.specs.Steps.{Step, Part, do_part, logged}
 use Rattle.mq_spec_state.specs.Steps.Step.{Refuse, Do}
-use Rattle.mq_law_manager.specs.Facts.{Sound, IsSound, IsFrozen}
+use Rattle.mq_calls.specs.declared.records.Add.{Add}
+use Rattle.mq_law_manager.specs.View.{view}
+use Rattle.mq_law_manager.specs.Facts.{Mem, Sound, IsSound, IsFrozen, IsFit, IsLed, IsUnlisted, listed}
 use Rattle.mq_calls.specs.declared.choices.Choice.{Choice}
 use Rattle.mq_calls.specs.declared.choices.Choice.TheVariants.{Runs, NoMemory, Stopped}
 
@@ -33,12 +38,27 @@ IsAfter Runs p = IsSound p
 IsAfter NoMemory p = IsSound p
 IsAfter (Stopped by n left) p = IsFrozen p
 
--- What a change asks so that rows and uncommitted puts stay on queues that are defined. (A change of objects is looked at whole.)
+-- an ident that a channel's unit in doubt may list: it was given, and waits in no unit; its row, where that lasts, is held for the
+-- channel
+pub record IsListable (channel : List ℕ) (i : Ident) (p : Plain) : Type 0 where
+  pub given : (view p).unborn i ≡ false
+  pub waits : (n : ℕ) (a : Add) → Mem a ((view p).puts n) → a.message.ident ≢ i
+  pub rows : (q : List ℕ) (h : Row) → Mem h ((view p).rows q) → is_persistent h.message ≡ true → h.message.ident ≡ i → h.by ≡ Some (holders.Batch channel)
+
+-- no unit in doubt has its row released
+abbrev pub Releases : Which → Plain → Type 0
+Releases which p = (q : List ℕ) (h : Row) (s : SenderSide) → Mem h ((view p).rows q) → selects which q h ≡ true → Mem s p.channels.senders → Mem h.message.ident (listed s.hardened.in_doubt) → h.by ≢ Some (holders.Batch s.channel)
+
+-- What a change asks so that rows and uncommitted puts stay on queues that are defined and that they fit, and so on. (A
+-- change of objects is looked at whole.)
 abbrev pub Asks : Change → Plain → Type 0
-Asks (Places name m) p = is_some (local_of name p.definitions) ≡ true
-Asks (Pend n (Put queue m)) p = (is_some (local_of queue p.definitions) ≡ true) × ((c : Connection) × (connection_at n p.connections ≡ Some c))
+Asks (Places name m) p = IsFit (local_of name p.definitions) m × (is_persistent m ≡ true → IsUnlisted m.ident p.channels.senders)
+Asks (Release which counted) p = Releases which p
+Asks (Pend n (Put queue m)) p = IsFit (local_of queue p.definitions) m × ((c : Connection) × (connection_at n p.connections ≡ Some c)) × IsUnlisted m.ident p.channels.senders
 Asks (Pend n (Take queue i persistent)) p = (c : Connection) × (connection_at n p.connections ≡ Some c)
-Asks (Connect c) p = c.unit ≡ []
+Asks (Connect c) p = (c.unit ≡ []) × (c.handles ≡ [])
+Asks (OpenHandle n h) p = h.stale ≡ false → IsLed p.definitions h
+Asks (SetSender channel d) p = (i : Ident) → Mem i (listed d.in_doubt) → IsListable channel i p
 Asks (ChangeObjects change) p = ⊥
 Asks (DropQueue name) p = ⊥
 Asks _ p = Unit {0}

@@ -34,7 +34,7 @@ ghost use Rattle.mq_objects.specs.declared.command.Command.{Command};
 ghost use Rattle.mq_spec_manager.specs.Triggers.{trigger_turn};
 ghost use Rattle.mq_spec_agents.specs.Words.{CanHarden, CanHold, CanMove, HasFreeRow, discard, expire, harden, hold_batch, leave, move_row, prepare, receive, release_batch, seize, set_bound};
 ghost use Rattle.mq_law_manager.specs.View.{Taken, view};
-ghost use Rattle.mq_law_manager.specs.Facts.{AreOnce, IsFrozen, IsHeld, IsSound, Mem};
+ghost use Rattle.mq_law_manager.specs.Facts.{IsFrozen, IsHeld, IsSound, Mem};
 ghost use Rattle.mq_law_manager.specs.Seen.{AsksNothing, seen};
 ghost use Rattle.mq_law_manager.specs.Kept.{IsAfter, StepKeeps};
 
@@ -101,7 +101,7 @@ pub fn commands_keep_the_facts()
 
 /// A manager begins with them, where recovery gave an image.
 pub fn a_manager_begins_with_the_facts()
-    ensures { (given : Given) (image : Image) (length moment : ℕ) → IsImage image → AreKnown given.number image → AreOnce image.definitions.objects → IsSound (first_start given image length moment) }
+    ensures { (given : Given) (image : Image) (length moment : ℕ) → IsImage image → AreKnown given.number image → IsSound (first_start given image length moment) }
 {}
 
 /// And a stop.

@@ -1,13 +1,20 @@
 -- An image of a log with one message, and one that is none: its row is held by a unit that isn't there.
-use Rattle.std.specs.Prelude.{[], ◌∷◌, Option, Some, None, codes, refl}
+use Rattle.std.specs.Prelude.{◌≡◌, false, [], ◌∷◌, Option, Some, None, codes, refl, AllPairs}
 use Rattle.std.proofs.Common.{arith}
 use Rattle.std.proofs.lemmas.List.Elements.{All-cons, All-nil}
+use Rattle.std.proofs.lemmas.List.Kept.{AllPairs-cons}
 use Rattle.mq_message.specs.declared.place.Holder.{Holder}
 use Rattle.mq_message.specs.declared.place.Holder.TheVariants as holders
 use Rattle.mq_queue.specs.declared.row.Row.{Row}
+use Rattle.mq_objects.specs.declared.object.Object.{Object}
+use Rattle.mq_objects.specs.declared.setting.ChannelType.TheVariants as channel_types
+use Rattle.mq_objects.specs.declared.setting.Setting.TheVariants as settings
+use Rattle.mq_objects.specs.declared.command.Subject.TheVariants as subjects
+use Rattle.mq_objects.specs.Names.{is_object, space_of, name_of}
 use Rattle.mq_spec_state.specs.Images.{Image, Shelf}
-use Rattle.mq_spec_state.specs.Recovery.{IsImage, IsShelf, IsLasting, IsSenderSide, IsReceiverSide}
-use Rattle.mq_spec_node.proofs.Pair.{at_paris, image}
+use Rattle.mq_spec_state.specs.Recovery.{IsImage, IsShelf, IsLasting, IsOfDoubt, IsSenderSide, IsReceiverSide}
+use Rattle.mq_spec_manager.specs.Commands.{defined_object}
+use Rattle.mq_spec_node.proofs.Pair.{channel, at_paris, image}
 use Rattle.mq_spec_node.proofs.RowsBatches.{message}
 
 abbrev row : Option Holder → Row
@@ -20,7 +27,7 @@ abbrev one : Option Holder → Image
 one by = record (image at_paris []) { shelves = shelf by ∷ [] }
 
 free_row : IsLasting (one None) (codes "Q1") (row None)
-free_row = record { persistent = refl; lane = refl; uncounted = refl; unbacked = refl; routed = refl; held = tt }
+free_row = record { persistent = refl; lane = refl; uncounted = refl; unbacked = refl; routed = refl; held = tt; doubted = All-nil (IsOfDoubt (row None)) }
 
 free_shelf : IsShelf (one None) (shelf None)
 free_shelf = record {
@@ -29,8 +36,19 @@ free_shelf = record {
   distinct = λ i j d lt le. absurd (omega (arith, lt, le));
 }
 
+-- the manager's queue, and its channel
+abbrev Other : Object → Object → Type 0
+Other a b = is_object (space_of a) (name_of a) b ≡ false
+
+two_differ : (a b : Object) → Other a b → AllPairs Other (a ∷ b ∷ [])
+two_differ a b e = AllPairs-cons Other a (b ∷ []) (All-cons (Other a) b [] e (All-nil (Other a))) (λ i j d lt le. absurd (omega (arith, lt, le)))
+
+objects_differ : AllPairs Other at_paris
+objects_differ = two_differ (defined_object (subjects.Local (codes "Q1")) []) (defined_object (subjects.Channel channel) (settings.ChannelType channel_types.Receiver ∷ [])) refl
+
 one_is : IsImage (one None)
 one_is = record {
+  once = objects_differ;
   shelves = refl;
   named = λ i j d lt le. absurd (omega (arith, lt, le));
   rows = All-cons (IsShelf (one None)) (shelf None) [] free_shelf (All-nil (IsShelf (one None)));

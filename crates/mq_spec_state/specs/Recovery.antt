@@ -1,6 +1,6 @@
 -- What an image of a log keeps to: recovery gives no other. With any other a manager would have rows that no later event
 -- accounts for.
-use Rattle.std.specs.Prelude.{ℕ, pos, ◌≡◌, ◌⊎◌, ◌≤◌, Bool, true, false, List, Option, Some, None, is_some, map, All, AllPairs}
+use Rattle.std.specs.Prelude.{ℕ, pos, ◌≡◌, ◌⊎◌, ◌≤◌, Bool, true, false, List, [], Option, Some, None, is_some, map, All, AllPairs}
 use Rattle.std.specs.List.{list_any}
 use Rattle.std.specs.Str.{bytes_eq}
 use Rattle.mq_message.specs.declared.message.Ident.{Ident}
@@ -9,7 +9,8 @@ use Rattle.mq_message.specs.declared.place.Holder.TheVariants as holders
 use Rattle.mq_queue.specs.declared.row.Row.{Row}
 use Rattle.mq_queue.specs.Rows.{same_ident}
 use Rattle.mq_objects.specs.declared.object.LocalQueue.{LocalQueue}
-use Rattle.mq_objects.specs.Names.{local_of, locals_of, is_transmission}
+use Rattle.mq_objects.specs.declared.object.Object.{Object}
+use Rattle.mq_objects.specs.Names.{local_of, locals_of, is_transmission, is_object, space_of, name_of}
 use Rattle.mq_sync.specs.declared.unit.Unit.{Unit as Luw}
 use Rattle.mq_sync.specs.declared.data.InDoubt.{InDoubt}
 use Rattle.mq_sync.specs.Units.{no_unit}
@@ -33,6 +34,14 @@ IsHeldWell image queue ident None = Unit {0}
 IsHeldWell image queue ident (Some (holders.Unit n)) = ⊥
 IsHeldWell image queue ident (Some (holders.Batch channel)) = IsListed queue ident (in_doubt_of (sender_in channel image.senders))
 
+-- what a unit in doubt lists; a row whose ident it lists is its own
+abbrev pub listed : Option InDoubt → List Ident
+listed None = []
+listed (Some d) = d.idents
+
+abbrev pub IsOfDoubt : Row → SenderSide → Type 0
+IsOfDoubt row s = list_any (same_ident row.message.ident) (listed s.hardened.in_doubt) ≡ true → row.by ≡ Some (holders.Batch s.channel)
+
 -- messages of a transmission queue have a route, and no others
 abbrev pub routes : Option LocalQueue → Bool
 routes None = false
@@ -46,6 +55,7 @@ pub record IsLasting (image : Image) (queue : List ℕ) (row : Row) : Type 0 whe
   pub unbacked : row.message.md.backout_count ≡ pos 0
   pub routed : is_some row.message.route ≡ routes (local_of queue image.definitions)
   pub held : IsHeldWell image queue row.message.ident row.by
+  pub doubted : All (IsOfDoubt row) image.senders
 
 -- a queue: by lane, each ident once
 pub record IsShelf (image : Image) (s : Shelf) : Type 0 where
@@ -72,6 +82,8 @@ IsReceiverSide r = (r.hardened.unit.session ≤ r.hardened.session) × ((r.harde
 
 -- An image of a log.
 pub record IsImage (image : Image) : Type 0 where
+  -- no name of a space of objects stands twice
+  pub once : AllPairs (λ (a b : Object). is_object (space_of a) (name_of a) b ≡ false) image.definitions.objects
   -- one shelf for each local queue, in order of definition; their names differ
   pub shelves : map (λ (s : Shelf). s.name) image.shelves ≡ map (λ (q : LocalQueue). q.name) (locals_of image.definitions)
   pub named : AllPairs (λ (s t : Shelf). bytes_eq s.name t.name ≡ false) image.shelves
@@ -83,6 +95,15 @@ pub record IsImage (image : Image) : Type 0 where
   pub senders_sorted : AllPairs (λ (s t : SenderSide). comes_before s.channel t.channel ≡ true) image.senders
   pub receivers_sorted : AllPairs (λ (r t : ReceiverSide). comes_before r.channel t.channel ≡ true) image.receivers
 
--- The log knew the incarnations of its manager's own idents. The check that logs belong together says so of all managers.
-abbrev pub AreKnown : ℕ → Image → Type 0
-AreKnown number image = All (λ (s : Shelf). All (λ (row : Row). row.message.ident.manager ≡ number → row.message.ident.incarnation ≤ image.incarnation) s.rows) image.shelves
+-- The log knew the incarnations of its manager's own idents: of those of rows, and of those that units in doubt list. The
+-- check that logs belong together says so of the rows of all managers.
+abbrev pub IsKnown : ℕ → ℕ → Ident → Type 0
+IsKnown number incarnation ident = ident.manager ≡ number → ident.incarnation ≤ incarnation
+
+abbrev pub IsDoubtKnown : ℕ → ℕ → Option InDoubt → Type 0
+IsDoubtKnown number incarnation None = Unit {0}
+IsDoubtKnown number incarnation (Some d) = All (IsKnown number incarnation) d.idents
+
+pub record AreKnown (number : ℕ) (image : Image) : Type 0 where
+  pub rows : All (λ (s : Shelf). All (λ (row : Row). IsKnown number image.incarnation row.message.ident) s.rows) image.shelves
+  pub doubts : All (λ (s : SenderSide). IsDoubtKnown number image.incarnation s.hardened.in_doubt) image.senders

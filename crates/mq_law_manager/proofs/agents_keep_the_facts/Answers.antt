@@ -14,10 +14,10 @@ returns c = record {
   leaves = λ channel p h. joined (leave channel p) p h (leave_keeps channel p h.facts) (leave_stocked channel p h.stocked);
   binds = λ channel bound p h. joined (set_bound channel bound p) p h (set_bound_keeps channel bound p h.facts) (bound_stocked channel bound p h.stocked);
   expires = λ channel p h. joined (expire channel p) p h (expire_keeps channel p h.facts) (expire_stocked channel p h.stocked);
-  releases = λ channel p h. joined (release_batch channel p) p h (release_batch_keeps channel p h.facts) (release_stocked channel p h.stocked);
-  prepares = λ channel last p h. joined (prepare channel last p) p h (prepare_keeps channel last p h.facts) (prepare_stocked channel last p h.stocked);
+  releases = λ channel p h. joined (release_batch channel p) p h (release_batch_keeps channel p h.facts) (release_stocked channel p h.facts h.stocked);
+  prepares = λ channel last p h. joined (prepare channel last p) p h (prepare_keeps channel last p h.facts) (prepare_stocked channel last p h.facts h.stocked);
   holds = λ channel unit most p can h. joined (hold_batch channel unit most p) p h (hold_batch_keeps channel unit most p can h.facts) (hold_stocked channel unit most p h.stocked);
   hardens = λ channel note p can h. joined (harden channel note p) p h (harden_keeps channel note p can h.facts) (harden_stocked channel note p h.stocked);
-  moves = λ from ident to bare p can h. joined (move_row from ident to bare p) p h (move_row_keeps from ident to bare p h.facts can) (move_stocked from ident to bare p h.stocked);
+  moves = λ from ident to bare p can h. joined (move_row from ident to bare p) p h (move_row_keeps from ident to bare p h.facts can) (move_stocked from ident to bare p can h.facts h.stocked);
   discards = λ queue ident p can h. joined (discard queue ident p) p h (discard_keeps queue ident p h.facts can) (discard_stocked queue ident p h.stocked);
 }

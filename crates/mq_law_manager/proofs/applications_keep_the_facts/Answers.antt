@@ -15,6 +15,6 @@ returns c = record {
   puts_once = λ hc name qmgr md body sync p h. joined (mqput1 hc name qmgr md body sync p) p h (mqput1_keeps hc name qmgr md body sync p h.facts) (put1_stocked hc name qmgr md body sync p h.stocked);
   gets = λ hc ho g until p h. joined (mqget hc ho g until p) p h (mqget_keeps hc ho g until p h.facts) (get_stocked hc ho g until p h.stocked);
   commits = λ hc p h. joined (mqcmit hc p) p h (mqcmit_keeps hc p h.facts) (cmit_stocked hc p h.stocked);
-  backs_out = λ hc p h. joined (mqback hc p) p h (mqback_keeps hc p h.facts) (back_stocked hc p h.stocked);
+  backs_out = λ hc p h. joined (mqback hc p) p h (mqback_keeps hc p h.facts) (back_stocked hc p h.facts h.stocked);
   disconnects = λ hc p h. joined (mqdisc hc p) p h (mqdisc_keeps hc p h.facts) (disc_stocked hc p h.stocked);
 }
