@@ -12,7 +12,7 @@ use Rattle.mq_history.specs.declared.scenario.Scenario.{Scenario}
 use Rattle.mq_spec_state.specs.State.{Plain}
 use Rattle.mq_spec_state.specs.Reads.{stored, queue_in}
 use Rattle.mq_spec_state.specs.Images.{Shelf, numbered, queue_on}
-use Rattle.mq_spec_state.specs.Recovery.{AreKnown}
+use Rattle.mq_spec_state.specs.Recovery.{IsKnown}
 use Rattle.mq_spec_manager.specs.Stops.{first_start}
 use Rattle.mq_spec_network.specs.Given.{surroundings}
 use Rattle.mq_spec_network.specs.Apart.{apart_of}
@@ -44,10 +44,11 @@ shelf_rows (t ∷ ss) s c (inr n) =
     ap (λ b. (if b then queue_on t else queue_in s.name (map queue_on ss)).rows) (name_back s.name t.name ∙ c.0 (queue_on s) (mem_map queue_on s ss n))
     ∙ shelf_rows ss s c.1 n
 
-abbrev Upto : ℕ → ℕ → Row → Type 0
-Upto m n row = row.message.ident.manager ≡ m + 1 → row.message.ident.incarnation ≤ n
+abbrev pub Upto : ℕ → ℕ → Row → Type 0
+Upto m n row = IsKnown (m + 1) n row.message.ident
 
-pub known_own : (s : Scenario) (hs : List History) (m : ℕ) (h : History) → slice_get hs m ≡ Some h → AreImages hs → apart_of s (opening_managers s hs) ≡ None → AreKnown (m + 1) h.opening
+pub known_own : (s : Scenario) (hs : List History) (m : ℕ) (h : History) → slice_get hs m ≡ Some h → AreImages hs → apart_of s (opening_managers s hs) ≡ None
+    → All (λ (f : Shelf). All (Upto m h.opening.incarnation) f.rows) h.opening.shelves
 known_own s hs m h is images together =
     let p : Plain = first_start (surroundings s m).given h.opening h.length h.moment in
     let at : slice_get (opening_managers s hs) m ≡ Some p = manager_at s [] hs m ∙ ap (option_map (λ (h : History). (node_after s m [] h).manager)) is in

@@ -46,7 +46,7 @@ use Rattle.mq_law_manager.specs.Facts.{AreNamed}
 use Rattle.mq_law_manager.proofs.Ending.{first_sound}
 use Rattle.mq_law_events.specs.Tied.{AreShelved, IsElse, IsNext}
 use Rattle.mq_law_events.proofs.Stepping.{moves_on}
-use Rattle.mq_law_one.specs.Alone.{IsAlone, FindsNone, AllFindNone, NoneFound, AreNamedOnce, IsState, IsAt, Became}
+use Rattle.mq_law_one.specs.Alone.{IsAlone, FindsNone, AllFindNone, NoneFound, AreDoubtsKnown, IsState, IsAt, Became}
 use Rattle.mq_law_one.proofs.Known.{known_own}
 use Rattle.mq_law_one.proofs.Happening.{entry_of}
 use Rattle.mq_law_one.proofs.Calls.{Happens, conn_happens, disc_happens, open_happens, close_happens, put_happens, put1_happens, get_happens, commit_happens, back_happens}
@@ -248,8 +248,8 @@ not_given i m n e = grind (arith, nat_tests)
 is_maker : (i : Ident) (m : ℕ) (t : Bool) → ((i.manager == m + 1) && t) ≡ true → i.manager ≡ suc m
 is_maker i m t e = grind (arith, nat_tests)
 
-begins : (s : Scenario) (hs : List History) → IsAlone s → AreNamedOnce hs → Premises s hs → Stand s hs []
-begins s hs alone once premises =
+begins : (s : Scenario) (hs : List History) → IsAlone s → AreDoubtsKnown hs → Premises s hs → Stand s hs []
+begins s hs alone doubts premises =
     let ps : List Plain = opening_managers s hs in
     record {
       given = is_given ps;
@@ -264,7 +264,7 @@ begins s hs alone once premises =
             told = record {
               places = places_of s ps p;
               placed = mapped_at (places_of s ps) ps m p at;
-              shelved = opening_shelved s ps p p.queues (first_sound (surroundings s m).given h.opening h.length h.moment (premises.openings m h is) (known_own s hs m h is premises.openings premises.joined.together) (once m h is)).named;
+              shelved = opening_shelved s ps p p.queues (first_sound (surroundings s m).given h.opening h.length h.moment (premises.openings m h is) (record { rows = known_own s hs m h is premises.openings premises.joined.together; doubts = doubts m h is })).named;
               name = refl;
               definitions = refl;
               users = record { moment = p.moment; connections = []; cut = None };
@@ -276,7 +276,7 @@ begins s hs alone once premises =
             ends = ap (λ cs. map (end_begun p) (ends_from s m 0 cs)) alone;
             batches = refl;
             timed = record { users = record { moment = p.moment; connections = []; cut = None }; used = mapped_at (λ (p : Plain). record { moment = p.moment; connections = []; cut = None }) ps m p at; moment = refl };
-            state = first_sound (surroundings s m).given h.opening h.length h.moment (premises.openings m h is) (known_own s hs m h is premises.openings premises.joined.together) (once m h is);
+            state = first_sound (surroundings s m).given h.opening h.length h.moment (premises.openings m h is) (record { rows = known_own s hs m h is premises.openings premises.joined.together; doubts = doubts m h is });
           };
     }
 
@@ -315,10 +315,10 @@ named : (r : Running) (p : Plain) → IsState r p → AreNamed p.queues
 named Up p h = h.named
 named (Down noted starts) p h = h.named
 
-pub promised : (s : Scenario) (hs : List History) → IsAlone s → NoneFound hs → AreNamedOnce hs → Promised s hs
-promised s hs alone found once premises story p rest is_story split no_conflict =
+pub promised : (s : Scenario) (hs : List History) → IsAlone s → NoneFound hs → AreDoubtsKnown hs → Promised s hs
+promised s hs alone found doubts premises story p rest is_story split no_conflict =
     let whole : IsStory hs (p ++ rest) = subst (IsStory hs) split is_story in
-    let first : Stand s hs [] = begins s hs alone once premises in
+    let first : Stand s hs [] = begins s hs alone doubts premises in
     let z : Stand s hs p = stands s hs [] p rest premises found whole first in
     let operated : IsOperated s hs p z.ghost = record { resolved = λ m c u e. absurd (true_false (sym e ∙ z.calm m c u)); not_yet = λ m c u e. absurd (true_false (sym e ∙ z.calm m c u)) } in
     record {
