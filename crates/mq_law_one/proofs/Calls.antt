@@ -145,7 +145,7 @@ back_happens m given n l e actor choice hc a can =
     let p : Plain = n.manager in
     ended_happens m given n l e actor (calls.Mqback hc) choice replies.Ended (λ reply ds k. ledgers.when (is_ended (replies.Ended reply)) (ledgers.back_out m hc) k) (mqback hc p) a
     (fits_by m given p l (λ reply ds k. ledgers.when (is_ended (replies.Ended reply)) (ledgers.back_out m hc) k) (mqback hc p) a.state
-    (λ h. (events.backs_out m given p l hc a.fresh a.told (listed hc.number p h), halting.step_stops m given p l (mqback hc p) a.fresh a.told (halting.back_short hc p), joined (mqback hc p) p h (mqback_keeps hc p h.facts) (back_stocked hc p h.stocked)))
+    (λ h. (events.backs_out m given p l hc a.fresh a.told (listed hc.number p h), halting.step_stops m given p l (mqback hc p) a.fresh a.told (halting.back_short hc p), joined (mqback hc p) p h (mqback_keeps hc p h.facts) (back_stocked hc p h.facts h.stocked)))
     (down_refused hc p (λ c. Do (answers.Ok tt) (backout_part c ∷ []))))
     (λ answer c ds. refl) (λ reason. refl) can
 

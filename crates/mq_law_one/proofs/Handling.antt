@@ -107,7 +107,7 @@ letter_of q h p x readable e =
     let first = and_one (is_free x && bytes_eq x.message.md.format (codes "MQDEAD  ")) (is_dead x.message.body) letter in
     record { there = k.0; free = free_is x (and_one (is_free x) (bytes_eq x.message.md.format (codes "MQDEAD  ")) first); ordinary = ordinary_of (local_of q p.definitions) readable; dead = and_two (is_free x && bytes_eq x.message.md.format (codes "MQDEAD  ")) (is_dead x.message.body) letter }
 
-free_row : (q : List ℕ) (p : Plain) (x : Row) → IsSound p → IsLetter q p x → HasFreeRow q x.message.ident p
+abbrev free_row : (q : List ℕ) (p : Plain) (x : Row) → IsSound p → IsLetter q p x → HasFreeRow q x.message.ident p
 free_row q p x h k = record { row = x; ordinary = k.ordinary; found = find_one (stored q p).rows x (h.facts.apart.once q) k.there; free = k.free }
 
 -- What a turn is: an answer alone, or parts that the ledger follows
@@ -192,7 +192,8 @@ moves : (m : ℕ) (given : Ident → Bool) (p : Plain) (l : Ledger) (own : Own) 
     → TurnFits m given p l own (handlers.moved q x.message n rule tries h p own (move_row q x.message.ident to bare p))
 moves m given p l own q x n rule tries h to bare f t sound k =
     combine m given p l own q x.message n rule tries h (move_row q x.message.ident to bare p) f t (move_fits m given p l q x to bare f t sound k)
-    (joined (move_row q x.message.ident to bare p) p sound (move_row_keeps q x.message.ident to bare p sound.facts (record { free = free_row q p x sound k; dead = λ e. k.dead })) (move_stocked q x.message.ident to bare p sound.stocked))
+    (joined (move_row q x.message.ident to bare p) p sound (move_row_keeps q x.message.ident to bare p sound.facts (record { free = free_row q p x sound k; dead = λ e. k.dead }))
+    (move_stocked q x.message.ident to bare p (record { free = free_row q p x sound k; dead = λ e. k.dead }) sound.facts sound.stocked))
 
 -- by the rule in force
 acted_fits : (m : ℕ) (given : Ident → Bool) (p : Plain) (l : Ledger) (own : Own) (q : List ℕ) (x : Row) (n : ℕ) (rule : Rule) (action : Action) (tries : ℕ) (h : Handler) → IsFresh given p → IsTold m p l → IsSound p → IsLetter q p x
@@ -220,11 +221,8 @@ AreTurns m given p l own (Some d) = TurnFits m given p l own d
 
 pub turn_fits : (m : ℕ) (given : Ident → Bool) (n : Node) (l : Ledger) (o : Option Handler) → IsFresh given n.manager → IsTold m n.manager l → IsSound n.manager → AreTurns m given n.manager l n.own (handler_turn o n)
 turn_fits m given n l None f t sound = tt
-turn_fits m given n l (Some h) f t sound = on (handlers.is_readable (local_of q n.manager.definitions)) refl
+turn_fits m given n l (Some h) f t sound = on (handlers.is_readable (local_of (handlers.input_queue h.table n.manager) n.manager.definitions)) refl
   where
-    q : List ℕ
-    q = handlers.input_queue h.table n.manager
-
     row : handlers.is_readable (local_of (handlers.input_queue h.table n.manager) n.manager.definitions) ≡ true → (r : Option Row) → handlers.next_letter (handlers.input_queue h.table n.manager) h n.manager ≡ r
         → AreTurns m given n.manager l n.own (handlers.handler_row (handlers.input_queue h.table n.manager) h r n)
     row readable None e = tt
