@@ -196,21 +196,24 @@ moves m given p l own q x n rule tries h to bare f t sound k =
     (move_stocked q x.message.ident to bare p (record { free = free_row q p x sound k; dead = λ e. k.dead }) sound.facts sound.stocked))
 
 -- by the rule in force
+abbrev own_ignored : List ℕ → Ident → Handler → Own → Own
+own_ignored q i h own = with_handler (handlers.tried_as (record { queue = q; ident = i; ignored = true; from = 0; failed = 0; due = 0 }) h) own
+
 acted_fits : (m : ℕ) (given : Ident → Bool) (p : Plain) (l : Ledger) (own : Own) (q : List ℕ) (x : Row) (n : ℕ) (rule : Rule) (action : Action) (tries : ℕ) (h : Handler) → IsFresh given p → IsTold m p l → IsSound p → IsLetter q p x
     → TurnFits m given p l own (handlers.acted q x.message n rule action tries h p own)
 acted_fits m given p l own q x n rule actions.Discard tries h f t sound k = discards m given p l own q x f t sound k
-acted_fits m given p l own q x n rule actions.Ignore tries h f t sound k = inl (_, refl, refl)
+acted_fits m given p l own q x n rule actions.Ignore tries h f t sound k = inl (own_ignored q x.message.ident h own, refl, refl)
 acted_fits m given p l own q x n rule actions.Retry tries h f t sound k = moves m given p l own q x n rule tries h (handlers.retry_to x.message) true f t sound k
 acted_fits m given p l own q x n rule (actions.Forward y) tries h f t sound k = moves m given p l own q x n rule tries h (handlers.forward_to x.message y) (not y.header) f t sound k
 
 ruled_fits : (m : ℕ) (given : Ident → Bool) (p : Plain) (l : Ledger) (own : Own) (q : List ℕ) (x : Row) (n : ℕ) (o : Option Rule) (tries : ℕ) (h : Handler) → IsFresh given p → IsTold m p l → IsSound p → IsLetter q p x
     → TurnFits m given p l own (handlers.ruled q x.message n o tries h p own)
-ruled_fits m given p l own q x n None tries h f t sound k = inl (_, refl, refl)
+ruled_fits m given p l own q x n None tries h f t sound k = inl (own_ignored q x.message.ident h own, refl, refl)
 ruled_fits m given p l own q x n (Some rule) tries h f t sound k = acted_fits m given p l own q x n rule rule.action tries h f t sound k
 
 letter_fits : (m : ℕ) (given : Ident → Bool) (p : Plain) (l : Ledger) (own : Own) (q : List ℕ) (x : Row) (o : Option ℕ) (tries : ℕ) (h : Handler) → IsFresh given p → IsTold m p l → IsSound p → IsLetter q p x
     → TurnFits m given p l own (handlers.in_force q x.message o tries h p own)
-letter_fits m given p l own q x None tries h f t sound k = inl (_, refl, refl)
+letter_fits m given p l own q x None tries h f t sound k = inl (own_ignored q x.message.ident h own, refl, refl)
 letter_fits m given p l own q x (Some n) tries h f t sound k = ruled_fits m given p l own q x n (slice_get h.table.rules n) tries h f t sound k
 
 -- The turn
