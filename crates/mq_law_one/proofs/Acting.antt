@@ -166,10 +166,10 @@ status_happens m given n l e actor choice name any_end a can =
 -- A manager beside its moment, its log and whether it runs
 
 same_sound : (p : Plain) (r : Running) (t : ℕ) (g : LogState) → IsSound p → IsSound (record p { running = r; moment = t; log = g })
-same_sound p r t g h = record { facts = h.facts; named = h.named; stocked = record { once = h.stocked.once; placed = h.stocked.placed; rows = h.stocked.rows; puts = h.stocked.puts } }
+same_sound p r t g h = record { facts = h.facts; named = h.named; stocked = record { once = h.stocked.once; placed = h.stocked.placed; rows = h.stocked.rows; puts = h.stocked.puts; routed = h.stocked.routed } }
 
 same_frozen : (p : Plain) (r : Running) (t : ℕ) (g : LogState) → IsFrozen p → IsFrozen (record p { running = r; moment = t; log = g })
-same_frozen p r t g h = record { still = h.still; named = h.named; stocked = record { once = h.stocked.once; placed = h.stocked.placed; rows = h.stocked.rows; puts = h.stocked.puts } }
+same_frozen p r t g h = record { still = h.still; named = h.named; stocked = record { once = h.stocked.once; placed = h.stocked.placed; rows = h.stocked.rows; puts = h.stocked.puts; routed = h.stocked.routed } }
 
 same_state : (r s : Running) (p : Plain) (t : ℕ) (g : LogState) → is_up r ≡ is_up s → IsState r p → IsState s (record p { running = s; moment = t; log = g })
 same_state Up Up p t g e h = same_sound p Up t g h

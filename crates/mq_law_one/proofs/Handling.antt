@@ -119,7 +119,7 @@ record IsParts (m : ℕ) (given : Ident → Bool) (p : Plain) (l : Ledger) (own 
   parts : List Part
   is : d ≡ record (told replies.Tried own) { parts = parts }
   follow : Follow m given p l (do_all parts p) (post_turn m (delta_of parts) (take_all_gone m (delta_of parts) l))
-  stop : StopFollows {F = Never} {T = Unit {0}} m given p l (Do tt parts)
+  stop : StopFollows {F = Never} {T = Unit {0}} m given p l (Do (tt {0}) parts)
   keep : AllKeep IsSound parts p
 
 abbrev TurnFits : ℕ → (Ident → Bool) → Plain → Ledger → Own → Deed → Type 0
@@ -147,7 +147,7 @@ discards m given p l own q x f t h k =
       is = refl;
       follow = subst (λ y. Follow m given p l (do_all parts p) y) (sym (parts_post m q xs (take_all_gone m (delta_of parts) l)))
           (discard_follows m given p l q x.message.ident f t (h.facts.apart.once q) (λ y n e. ap (λ (r : Row). r.by) (one_row (stored q p).rows y x (h.facts.apart.once q) n k.there e) ∙ k.free));
-      stop = short_stops Never m given p l tt parts f t (parts_short q xs);
+      stop = short_stops Never m given p l (tt {0}) parts f t (parts_short q xs);
       keep = joined (discard q x.message.ident p) p h (discard_keeps q x.message.ident p h.facts (free_row q p x h k)) (discard_stocked q x.message.ident p h.stocked);
     })
 
@@ -176,7 +176,7 @@ move_fits m given p l q x to bare f t h k =
     go (Ok route) e =
         let lnd : Landing = landing route (bare_if bare x.message) in
         let part : Part = move_part q to bare lnd in
-        tested_all (MoveFits m given p l) (λ r. tt) (route_tests route (length lnd.message.body) p ++ when (move_full q lnd p) reasons.ResourceProblem ∷ []) (Do tt (part ∷ [])) (
+        tested_all (MoveFits m given p l) (λ r. tt) (route_tests route (length lnd.message.body) p ++ when (move_full q lnd p) reasons.ResourceProblem ∷ []) (Do (tt {0}) (part ∷ [])) (
           subst (λ i. Follow m given p l (do_part part p) (ledgers.move_row m to bare (ledgers.row_in i (ledgers.places_at m l).queues) l)) (sym (bare_ident bare x.message))
               (part_follows m given p l q x to bare route (moved_forced q lnd) f t k.there k.free e),
           tt,
@@ -186,7 +186,7 @@ move_fits m given p l q x to bare f t h k =
 combine : (m : ℕ) (given : Ident → Bool) (p : Plain) (l : Ledger) (own : Own) (q : List ℕ) (message : Message) (n : ℕ) (rule : Rule) (tries : ℕ) (h : Handler) (step : Step Reason (Unit {0})) → IsFresh given p → IsTold m p l → MoveFits m given p l step → StepKeeps IsSound step p
     → TurnFits m given p l own (handlers.moved q message n rule tries h p own step)
 combine m given p l own q message n rule tries h (Refuse reason) f t fit keep = inl (with_handler (handlers.tried_as (handlers.try_later q message.ident n (tries + 1) rule h p) h) own, refl, refl)
-combine m given p l own q message n rule tries h (Do reply parts) f t fit keep = inr (record { parts = parts; is = refl; follow = fit.0; stop = short_stops Never m given p l tt parts f t fit.1; keep = keep })
+combine m given p l own q message n rule tries h (Do reply parts) f t fit keep = inr (record { parts = parts; is = refl; follow = fit.0; stop = short_stops Never m given p l (tt {0}) parts f t fit.1; keep = keep })
 
 moves : (m : ℕ) (given : Ident → Bool) (p : Plain) (l : Ledger) (own : Own) (q : List ℕ) (x : Row) (n : ℕ) (rule : Rule) (tries : ℕ) (h : Handler) (to : Dest) (bare : Bool) → IsFresh given p → IsTold m p l → IsSound p → IsLetter q p x
     → TurnFits m given p l own (handlers.moved q x.message n rule tries h p own (move_row q x.message.ident to bare p))
@@ -222,7 +222,7 @@ abbrev AreTurns : ℕ → (Ident → Bool) → Plain → Ledger → Own → Opti
 AreTurns m given p l own None = Unit {0}
 AreTurns m given p l own (Some d) = TurnFits m given p l own d
 
-pub turn_fits : (m : ℕ) (given : Ident → Bool) (n : Node) (l : Ledger) (o : Option Handler) → IsFresh given n.manager → IsTold m n.manager l → IsSound n.manager → AreTurns m given n.manager l n.own (handler_turn o n)
+turn_fits : (m : ℕ) (given : Ident → Bool) (n : Node) (l : Ledger) (o : Option Handler) → IsFresh given n.manager → IsTold m n.manager l → IsSound n.manager → AreTurns m given n.manager l n.own (handler_turn o n)
 turn_fits m given n l None f t sound = tt
 turn_fits m given n l (Some h) f t sound = on (handlers.is_readable (local_of (handlers.input_queue h.table n.manager) n.manager.definitions)) refl
   where
@@ -248,7 +248,7 @@ deed_happens : (m : ℕ) (given : Ident → Bool) (n : Node) (l : Ledger) (e : E
 deed_happens m given n l e actor choice d a up sound (inl fit) can = subst (λ x. Deeded m given n l e actor calls.Turn choice x) (sym fit.1) (answer_happens m given n l e actor choice fit.0 a (fit.2 ∙ a.ends) (subst (λ x. CanCome x choice n) fit.1 can))
 deed_happens m given n l e actor choice d a up sound (inr fit) can =
     subst (λ x. Deeded m given n l e actor calls.Turn choice x) (sym fit.is)
-    (step_happens Never m given n l e actor calls.Turn choice None (λ (u : Unit {0}). replies.Tried) (λ reply ds k. post_turn m ds k) tt fit.parts a up sound fit.follow fit.stop fit.keep (λ ds. refl) (λ r z. absurd cc) (subst (λ x. CanCome x choice n) fit.is can))
+    (step_happens Never m given n l e actor calls.Turn choice None (λ (u : Unit {0}). replies.Tried) (λ reply ds k. post_turn m ds k) (tt {0}) fit.parts a up sound fit.follow fit.stop fit.keep (λ ds. refl) (λ r z. absurd cc) (subst (λ x. CanCome x choice n) fit.is can))
 
 pub turn_happens : (m : ℕ) (given : Ident → Bool) (n : Node) (l : Ledger) (e : Entry) (actor : Actor) (choice : Choice) (r : Running) (o : Option Handler) → IsAt m given n l → n.manager.running ≡ r → IsDeed (where_up r (handler_turn o n)) (chances.Call choice) n
     → Became m given n l (remembering actor calls.Turn (done_or (where_up r (handler_turn o n)) choice n)).next
