@@ -1,12 +1,10 @@
 -- Changes that leave rows and units: connections, handles, cursors, objects. The ledger follows.
-use Rattle.std.proofs.Common.{ℕ, ◌≡◌, ◌+◌, Bool, true, false, not, List, [], ◌∷◌, ◌++◌, refl, ap, sym, subst, ◌∙◌, map}
-use Rattle.std.specs.Prelude.{Option, Some, None, Result, Ok, Err, ◌==◌, if◌then◌else◌, slice_get, filter}
+use Rattle.std.proofs.Common.{ℕ, ◌≡◌, ◌+◌, Bool, true, false, List, [], ◌∷◌, ◌++◌, refl, ap, sym, subst, ◌∙◌, map}
+use Rattle.std.specs.Prelude.{Option, Some, None, Result, Ok, Err, ◌==◌, if◌then◌else◌}
 use Rattle.std.specs.Str.{bytes_eq}
 use Rattle.mq_message.specs.declared.message.Ident.{Ident}
 use Rattle.mq_message.specs.declared.place.Place.{Place}
 use Rattle.mq_calls.specs.declared.commands.ScRefusal.{ScRefusal}
-use Rattle.mq_queue.specs.declared.row.Row.{Row}
-use Rattle.mq_codes.specs.declared.reason.Reason.{Reason}
 use Rattle.mq_resolve.specs.declared.route.Route.{Route}
 use Rattle.mq_resolve.specs.declared.route.PathStep.{PathStep}
 use Rattle.mq_resolve.specs.declared.route.PathStep.TheVariants as steps
@@ -36,25 +34,22 @@ use Rattle.mq_calls.specs.declared.answers.Hobj.{Hobj}
 use Rattle.mq_calls.specs.declared.answers.Open.{Open}
 use Rattle.mq_calls.specs.declared.state.Connection.{Connection}
 use Rattle.mq_calls.specs.declared.state.Handle.{Handle}
-use Rattle.mq_calls.specs.declared.state.Item.{Item}
 use Rattle.mq_history.specs.declared.story.ManagerPlaces.{ManagerPlaces}
 use Rattle.mq_spec_state.specs.State.{Plain, Given, Change, Channels, Numbers}
-use Rattle.mq_spec_state.specs.State.Change.{Connect, Disconnect, OpenHandle, CloseHandle, SetCursor, MakeStale, ChangeObjects, Renew, DropQueue, SwitchOn, Serve}
+use Rattle.mq_spec_state.specs.State.Change.{Connect, OpenHandle, CloseHandle, SetCursor, MakeStale, ChangeObjects, Renew, DropQueue, SwitchOn, Serve}
 use Rattle.mq_spec_state.specs.Reads.{stored, connection_at, has_step}
 use Rattle.mq_spec_state.specs.Changes.{apply, apply_all, change_connection, change_handle, made_stale, stale_if as stale_handle}
 use Rattle.mq_spec_manager.specs.Handles.{new_connection, new_hconn, new_handle}
 use Rattle.mq_spec_manager.specs.Commands.{follows, renewed, renewed_if, stale_if, switched_if, dropped, uses_of, definitions_after}
 use Rattle.mq_spec_manager.proofs.Accepted.{accepted, displayed}
 use Rattle.mq_spec_network.specs.Ledger as ledgers
-use Rattle.mq_spec_network.specs.Ledger.{Ledger, Users, places_or, places_at, opened_by, close, unit_of, ledger_rows, rows_in}
-use Rattle.mq_law_rows.specs.World.{items_told}
+use Rattle.mq_spec_network.specs.Ledger.{Ledger, Users, places_or, opened_by, close, unit_of, ledger_rows, rows_in}
 use Rattle.mq_law_rows.proofs.Lists.{bool_case, name_yes}
-use Rattle.mq_law_manager.specs.View.{View, view}
-use Rattle.mq_law_manager.specs.Facts.{AreDefined, IsSound}
+use Rattle.mq_law_manager.specs.Facts.{AreDefined}
 use Rattle.mq_law_manager.proofs.Commanding.{IsEmptied, IsPlan, plan_is, undefined_empty}
 use Rattle.mq_law_manager.proofs.Units.{behind}
-use Rattle.mq_law_events.specs.Local.{Side, Sheet, Leads, side_of, sheet_of}
-use Rattle.mq_law_events.specs.Tied.{handle_told, connection_told, connections_told, IsTold, IsFresh, IsSame, IsElse, Follow}
+use Rattle.mq_law_events.specs.Local.{Sheet, Leads, side_of, sheet_of}
+use Rattle.mq_law_events.specs.Tied.{handle_told, connection_told, connections_told, IsTold, IsFresh, Follow}
 use Rattle.mq_law_events.proofs.Locals.{stays_leads}
 use Rattle.mq_law_events.proofs.Telling.{changed_told, changed_untold, map_untold, more_told, handles_more, handles_gone, unit_stays, units_map, here_changed, else_none, else_users, else_places}
 use Rattle.mq_law_events.proofs.Putting.{rows_after, leads_to, users_stay, same_users, unborn_by}
@@ -101,7 +96,7 @@ calm_follows m given p q l f t c d = record {
   leads = calm_leads m given p q (sheet_of m l) c;
   fresh = fresh_calm given p q c.given c.incarnation c.idents f;
   known = λ i e. refl;
-  told = record { places = t.places; placed = t.placed; name = t.name ∙ ap (λ (g : Given). g.name) (sym c.given); definitions = t.definitions ∙ sym d; users = t.users; used = t.used; connections = t.connections ∙ sym c.told };
+  told = record { places = t.places; placed = t.placed; shelved = t.shelved; name = t.name ∙ ap (λ (g : Given). g.name) (sym c.given); definitions = t.definitions ∙ sym d; users = t.users; used = t.used; connections = t.connections ∙ sym c.told };
   same = record { given = c.given; senders = ap (λ (x : Channels). x.senders) c.channels; receivers = ap (λ (x : Channels). x.receivers) c.channels; batches = ap (λ (x : Channels). x.batches) c.channels };
   steady = c.moment;
   other = else_none m l;
@@ -125,6 +120,7 @@ connection_follows m given p l hc f g fresh t number unit told =
       told = record {
         places = t.places;
         placed = t.placed;
+        shelved = t.shelved;
         name = t.name;
         definitions = t.definitions;
         users = record t.users { connections = change_connection hc.number g t.users.connections };
@@ -190,6 +186,7 @@ connect_follows m given p l appl f t =
       told = record {
         places = t.places;
         placed = t.placed;
+        shelved = t.shelved;
         name = t.name;
         definitions = t.definitions;
         users = add t.users;
@@ -308,6 +305,7 @@ objects_follow m given p l c planned f t d is =
       told = record {
         places = redefined new t.places;
         placed = here_changed m (redefined new) l.places t.places t.placed;
+        shelved = t.shelved;
         name = t.name ∙ ap (λ (g : Given). g.name) (sym calm.given);
         definitions = ap new t.definitions ∙ accepted c p.given.name p.definitions (uses_of p) planned is ∙ sym e.1;
         users = t.users;
@@ -349,6 +347,7 @@ shown_follow m given p l c s f t is =
       told = record {
         places = redefined new t.places;
         placed = here_changed m (redefined new) l.places t.places t.placed;
+        shelved = t.shelved;
         name = t.name;
         definitions = ap new t.definitions ∙ shown_same c p.given.name p.definitions (uses_of p) s is;
         users = t.users;

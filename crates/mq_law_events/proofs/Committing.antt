@@ -1,9 +1,8 @@
 -- The ends of units, committed and backed out: the ledger follows.
-use Rattle.std.proofs.Common.{ℕ, ◌≡◌, ◌⊎◌, Bool, true, false, not, List, [], ◌∷◌, ◌++◌, refl, ap, sym, subst, ◌∙◌, inl, inr, map}
-use Rattle.std.specs.Prelude.{Option, Some, None, ◌==◌, if◌then◌else◌, ◌&&◌, ◌||◌, slice_get, flat_map, filter}
+use Rattle.std.proofs.Common.{ℕ, ◌≡◌, ◌⊎◌, Bool, true, false, not, List, [], ◌∷◌, refl, ap, sym, subst, ◌∙◌, inl, inr}
+use Rattle.std.specs.Prelude.{Option, Some, None, ◌==◌, if◌then◌else◌, ◌&&◌, ◌||◌, slice_get, flat_map}
 use Rattle.std.specs.Str.{bytes_eq}
 use Rattle.mq_message.specs.declared.message.Ident.{Ident}
-use Rattle.mq_message.specs.declared.message.Message.{Message}
 use Rattle.mq_message.specs.declared.place.Holder.{Holder}
 use Rattle.mq_message.specs.declared.place.Holder.TheVariants as holders
 use Rattle.mq_queue.specs.declared.row.Row.{Row}
@@ -13,10 +12,10 @@ use Rattle.mq_calls.specs.declared.state.Connection.{Connection}
 use Rattle.mq_calls.specs.declared.state.Item.{Item}
 use Rattle.mq_calls.specs.declared.state.Item.TheVariants.{Put, Take}
 use Rattle.mq_spec_state.specs.State.{Plain}
-use Rattle.mq_spec_state.specs.State.Change.{Leave, Release, EndUnit, Disconnect}
+use Rattle.mq_spec_state.specs.State.Change.{Leave, Release, EndUnit}
 use Rattle.mq_spec_state.specs.State.Which.{Among}
 use Rattle.mq_spec_state.specs.Reads.{stored, connection_at}
-use Rattle.mq_spec_state.specs.Changes.{apply, apply_all, release_if, selects, change_connection, lane_of, new_row}
+use Rattle.mq_spec_state.specs.Changes.{apply, apply_all, release_if, change_connection, lane_of, new_row}
 use Rattle.mq_spec_manager.specs.Put.{placed}
 use Rattle.mq_spec_manager.specs.Units.{taken_item, placed_item, freed_item}
 use Rattle.mq_spec_network.specs.Ledger as ledgers
@@ -29,11 +28,11 @@ use Rattle.mq_law_rows.specs.Kinds.{among, puts_of, bury_all}
 use Rattle.mq_law_rows.proofs.Lists.{bool_case, is_false, true_false, eqb_self, eqb_yes, ident_yes, keep_same, keep_all}
 use Rattle.mq_law_rows.proofs.Owners.{row_where}
 use Rattle.mq_law_manager.proofs.SeenLaws.{mapped_one}
-use Rattle.mq_law_events.specs.Local.{Side, Sheet, local, page, with_owner, Moved, Leads, side_of, sheet_of}
-use Rattle.mq_law_events.specs.Tied.{connection_told, connections_told, IsTold, IsFresh, IsSame, IsElse, Follow}
-use Rattle.mq_law_events.proofs.Locals.{with_row, with_items, left_of, unheld, unit_freed, gets_go_leads, put_lands_leads, backs_out_leads, behind, stays_leads}
-use Rattle.mq_law_events.proofs.Telling.{changed_told, connection_at_told, unit_told, here_changed, else_none, else_then, else_users, else_places, unit_changes}
-use Rattle.mq_law_events.proofs.Putting.{unborn_by, rows_after, IsBeside, placed_rows, placed_beside, place_sheet, place_told, leads_to, users_stay, same_users}
+use Rattle.mq_law_events.specs.Local.{Side, Sheet, local, page, with_owner, Leads, side_of, sheet_of}
+use Rattle.mq_law_events.specs.Tied.{connection_told, IsTold, IsFresh, IsElse, Follow}
+use Rattle.mq_law_events.proofs.Locals.{with_items, left_of, unheld, unit_freed, gets_go_leads, put_lands_leads, backs_out_leads, behind, stays_leads}
+use Rattle.mq_law_events.proofs.Telling.{changed_told, connection_at_told, here_changed, else_none, else_then, else_users, else_places, unit_changes}
+use Rattle.mq_law_events.proofs.Putting.{unborn_by, rows_after, IsBeside, placed_rows, placed_beside, place_sheet, place_told, leads_to, users_stay}
 use Rattle.mq_law_events.proofs.Taking.{taken_rows, taken_gone, taken_got, taken_users, take_told, take_else, told_beside, keep_two, retag_same}
 use Rattle.mq_law_manager.specs.Seen.{row_for}
 use Rattle.mq_law_events.specs.Posting.{any_taken, IsListed}
@@ -153,7 +152,7 @@ items_told_on m (Take q i lasting ∷ items) p l t =
     let j : Ledger = record l { got = i ∷ l.got } in
     let b : Bool = is_placed_at i (places_at m j) in
     let e = take_else b m i j in
-    let r = items_told_on m items p (take_got m i l) (take_told b m i p j (record { places = t.places; placed = t.placed; name = t.name; definitions = t.definitions; users = t.users; used = t.used; connections = t.connections })) in
+    let r = items_told_on m items p (take_got m i l) (take_told b m i p j (record { places = t.places; placed = t.placed; shelved = t.shelved; name = t.name; definitions = t.definitions; users = t.users; used = t.used; connections = t.connections })) in
     (r.0, else_then m l (take_got m i l) _ (record { places = e.places; users = e.users }) r.1, r.2 ∙ taken_users b m i j)
 
 pub gots_told : (xs : List Item) → got_idents (items_told xs) ≡ got_idents xs
@@ -242,6 +241,7 @@ pub ended_told : (m : ℕ) (p : Plain) (l : Ledger) (hc : Hconn) → IsTold m p 
 ended_told m p l hc t = record {
   places = t.places;
   placed = t.placed;
+  shelved = t.shelved;
   name = t.name;
   definitions = t.definitions;
   users = record t.users { connections = change_connection hc.number unit_ended t.users.connections };

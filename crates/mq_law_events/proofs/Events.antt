@@ -1,61 +1,48 @@
 -- Each call of an application: the ledger follows.
-use Rattle.std.proofs.Common.{ℕ, zero, suc, ◌≡◌, ◌≢◌, ◌+◌, Bool, true, false, not, List, [], ◌∷◌, ◌++◌, refl, ap, sym, subst, ◌∙◌, inl, inr, map}
-use Rattle.std.specs.Prelude.{Option, Some, None, Result, Ok, Err, ◌==◌, if◌then◌else◌, ◌&&◌, slice_get, flat_map}
+use Rattle.std.proofs.Common.{ℕ, ◌≡◌, ◌+◌, Bool, true, false, List, [], ◌∷◌, ◌++◌, refl, ap, sym, subst, ◌∙◌}
+use Rattle.std.specs.Prelude.{Option, Some, None, Result, Ok, Err, ◌==◌, if◌then◌else◌, flat_map}
 use Rattle.mq_message.specs.declared.message.Ident.{Ident}
 use Rattle.mq_message.specs.declared.message.Md.{Md}
 use Rattle.mq_message.specs.declared.message.Message.{Message}
-use Rattle.mq_message.specs.declared.place.Holder.TheVariants as holders
 use Rattle.mq_codes.specs.declared.reason.Reason.{Reason}
 use Rattle.mq_codes.specs.declared.reason.Reason.TheVariants as reasons
-use Rattle.mq_queue.specs.declared.row.Row.{Row}
-use Rattle.mq_queue.specs.Rows.{is_free}
 use Rattle.mq_resolve.specs.declared.route.Route.{Route}
 use Rattle.mq_resolve.specs.Resolved.{resolve}
 use Rattle.mq_calls.specs.declared.answers.Answer.{Answer}
 use Rattle.mq_calls.specs.declared.answers.Answer.TheVariants as answers
 use Rattle.mq_calls.specs.declared.answers.Appl.{Appl}
-use Rattle.mq_calls.specs.declared.answers.Get.{Get}
-use Rattle.mq_calls.specs.declared.answers.Got.{Got}
-use Rattle.mq_calls.specs.declared.answers.GetAnswer.{GetAnswer}
-use Rattle.mq_calls.specs.declared.answers.GetAnswer.TheVariants.{NotYet, Done}
 use Rattle.mq_calls.specs.declared.answers.Hconn.{Hconn}
 use Rattle.mq_calls.specs.declared.answers.Hobj.{Hobj}
 use Rattle.mq_calls.specs.declared.answers.Open.{Open}
 use Rattle.mq_calls.specs.declared.answers.Sent.{Sent}
 use Rattle.mq_calls.specs.declared.deltas.Did.{Did}
-use Rattle.mq_calls.specs.declared.deltas.Did.TheVariants as did
-use Rattle.mq_calls.specs.declared.deltas.Why.TheVariants as whys
 use Rattle.mq_calls.specs.declared.records.LogRecord.{LogRecord}
 use Rattle.mq_calls.specs.declared.state.Connection.{Connection}
 use Rattle.mq_calls.specs.declared.state.Handle.{Handle}
 use Rattle.mq_calls.specs.declared.state.Item.{Item}
 use Rattle.mq_calls.specs.declared.state.Item.TheVariants.{Put, Take}
-use Rattle.mq_history.specs.declared.calls.Reply.{Reply}
 use Rattle.mq_history.specs.declared.calls.Reply.TheVariants as replies
-use Rattle.mq_history.specs.declared.story.ManagerPlaces.{ManagerPlaces}
 use Rattle.mq_spec_state.specs.State.{Plain, Change}
-use Rattle.mq_spec_state.specs.State.Change.{CountIdent, Connect, Disconnect, OpenHandle, CloseHandle, Pend, EndUnit}
-use Rattle.mq_spec_state.specs.Reads.{connection_at, handle_at, stored}
+use Rattle.mq_spec_state.specs.State.Change.{CountIdent, Connect, OpenHandle, CloseHandle, Pend, EndUnit}
+use Rattle.mq_spec_state.specs.Reads.{connection_at, handle_at}
 use Rattle.mq_spec_state.specs.Changes.{apply, apply_all}
-use Rattle.mq_spec_state.specs.Steps.{none_of, Step, Part, Test, tested, refusal, refused_or, going_on, silent, logged, do_part, do_all, delta_of, stopped_at, delta_before, IsWrite, note_of}
+use Rattle.mq_spec_state.specs.Steps.{none_of, Step, Part, Test, tested, refusal, refused_or, going_on, silent, logged, do_part, delta_of}
 use Rattle.mq_spec_state.specs.Steps.{when as when_test}
-use Rattle.mq_spec_state.specs.Steps.Step.{Refuse, Do}
+use Rattle.mq_spec_state.specs.Steps.Step.{Do}
 use Rattle.mq_spec_manager.specs.Handles.{is_unfit, connected, for_connection, for_handle, live_or, is_other, is_present, mqconn, mqopen, mqclose, open_tests, open_step, option_tests, conn_tests, close_up, close_handle, new_connection, new_hconn, new_handle}
-use Rattle.mq_spec_manager.specs.Put.{output_only, Here, here, unit_record, mqput, mqput1, put_up, put_handle, put_route, put_message, put_step, put_part, put1_resolved, handle_route, output_tests, put_tests, placed, queue_at, message_put, new_message, next_ident, is_high, sent_answer}
-use Rattle.mq_spec_manager.specs.Units.{released_did, commit_changes, commit_delta, mqcmit, mqback, mqdisc, commit_part, backout_part, removed_item, placed_did, taken_item, placed_item, freed_item}
+use Rattle.mq_spec_manager.specs.Put.{output_only, here, unit_record, mqput, mqput1, put_up, put_handle, put_route, put_part, put1_resolved, handle_route, output_tests, put_tests, placed, queue_at, message_put, new_message, next_ident, is_high, sent_answer}
+use Rattle.mq_spec_manager.specs.Units.{released_did, commit_changes, commit_delta, mqcmit, mqback, commit_part, backout_part, removed_item, placed_did, taken_item, placed_item, freed_item}
 use Rattle.mq_spec_network.specs.Ledger as ledgers
-use Rattle.mq_spec_network.specs.Ledger.{Ledger, Users, places_or, users_or, take_all_gone, connect_if, open_if, close_if, when, is_ended, sent_ident, got_ident, get_by, unit_of}
+use Rattle.mq_spec_network.specs.Ledger.{Ledger, places_or, users_or, take_all_gone, connect_if, open_if, close_if, when, is_ended, sent_ident}
 use Rattle.mq_law_rows.proofs.Lists.{bool_case, eqb_yes}
 use Rattle.mq_law_manager.proofs.SeenLaws.{mapped_one}
 use Rattle.mq_law_manager.proofs.Units.{behind, found_number}
-use Rattle.mq_law_events.specs.Tied.{connection_told, connections_told, handle_told, IsTold, IsFresh, IsSame, IsElse, IsKept, Follow}
-use Rattle.mq_law_events.specs.Posting.{IsListed, StepFollows, StopFollows, IsTimed}
-use Rattle.mq_law_events.proofs.Telling.{connection_at_told, handle_at_told, one_handle, gone_told, here_changed, else_then}
-use Rattle.mq_law_events.proofs.Locals.{behind as leads_behind}
+use Rattle.mq_law_events.specs.Tied.{connection_told, IsTold, IsFresh, Follow}
+use Rattle.mq_law_events.specs.Posting.{IsListed, StepFollows, IsTimed}
+use Rattle.mq_law_events.proofs.Telling.{connection_at_told, handle_at_told, one_handle}
 use Rattle.mq_law_events.proofs.Putting.{put_follows, pend_follows}
-use Rattle.mq_law_events.proofs.Committing.{commit_follows, backout_follows, committed, backed}
-use Rattle.mq_law_events.proofs.Stopping.{freezes}
-use Rattle.mq_law_events.proofs.Calling.{connect_follows, open_follows, close_follows, calm_follows, IsCalm}
+use Rattle.mq_law_events.proofs.Committing.{commit_follows, backout_follows, committed}
+use Rattle.mq_law_events.proofs.Calling.{connect_follows, open_follows, close_follows}
 
 -- Steps, and what they rest on
 
@@ -140,7 +127,7 @@ fresh_logged given (Some r) p f = f
 
 pub told_logged : (m : ℕ) (r : Option LogRecord) (p : Plain) (l : Ledger) → IsTold m p l → IsTold m (logged r p) l
 told_logged m None p l t = t
-told_logged m (Some r) p l t = record { places = t.places; placed = t.placed; name = t.name; definitions = t.definitions; users = t.users; used = t.used; connections = t.connections }
+told_logged m (Some r) p l t = record { places = t.places; placed = t.placed; shelved = t.shelved; name = t.name; definitions = t.definitions; users = t.users; used = t.used; connections = t.connections }
 
 pub from_logged : (m : ℕ) (given : Ident → Bool) (r : Option LogRecord) (p q : Plain) (l k : Ledger) → Follow m given (logged r p) l q k → Follow m given p l q k
 from_logged m given None p q l k f = f

@@ -1,26 +1,21 @@
 -- MQGET: the expired rows that it meets go, then it takes its row, holds it, or browses. The ledger follows.
-use Rattle.std.proofs.Common.{ℕ, zero, suc, ◌≡◌, ◌≢◌, Bool, true, false, not, List, [], ◌∷◌, ◌++◌, refl, ap, sym, subst, ◌∙◌, inl, inr, map}
-use Rattle.std.specs.Prelude.{Option, Some, None, Result, Ok, Err, ◌==◌, if◌then◌else◌, ◌&&◌, slice_get, filter}
+use Rattle.std.proofs.Common.{ℕ, ◌≡◌, ◌≢◌, Bool, true, false, not, List, [], ◌∷◌, ◌++◌, refl, ap, sym, subst, ◌∙◌}
+use Rattle.std.specs.Prelude.{Option, Some, None, ◌==◌, if◌then◌else◌, ◌&&◌}
 use Rattle.std.specs.Str.{bytes_eq}
 use Rattle.mq_message.specs.declared.message.Ident.{Ident}
 use Rattle.mq_message.specs.declared.place.Place.{Place}
 use Rattle.mq_message.specs.declared.place.Want.{Want}
 use Rattle.mq_message.specs.declared.place.Holder.TheVariants as holders
-use Rattle.mq_codes.specs.declared.reason.Reason.{Reason}
 use Rattle.mq_queue.specs.declared.row.Row.{Row}
-use Rattle.mq_queue.specs.Rows.{is_free, is_after, is_wanted, keep}
-use Rattle.mq_calls.specs.declared.answers.Answer.{Answer}
-use Rattle.mq_calls.specs.declared.answers.Answer.TheVariants as answers
+use Rattle.mq_queue.specs.Rows.{is_free, is_after, is_wanted}
 use Rattle.mq_calls.specs.declared.answers.Get.{Get}
 use Rattle.mq_calls.specs.declared.answers.Got.{Got}
-use Rattle.mq_calls.specs.declared.answers.GetAnswer.{GetAnswer}
-use Rattle.mq_calls.specs.declared.answers.GetAnswer.TheVariants.{NotYet, Done}
+use Rattle.mq_calls.specs.declared.answers.GetAnswer.TheVariants.{Done}
 use Rattle.mq_calls.specs.declared.answers.Hconn.{Hconn}
 use Rattle.mq_calls.specs.declared.answers.Hobj.{Hobj}
 use Rattle.mq_calls.specs.declared.answers.Take.{Take}
 use Rattle.mq_calls.specs.declared.answers.Take.TheVariants as takes
 use Rattle.mq_calls.specs.declared.deltas.Did.{Did}
-use Rattle.mq_calls.specs.declared.deltas.Did.TheVariants as did
 use Rattle.mq_calls.specs.declared.deltas.Why.TheVariants as whys
 use Rattle.mq_calls.specs.declared.records.LogRecord.{LogRecord}
 use Rattle.mq_calls.specs.declared.state.Connection.{Connection}
@@ -32,23 +27,22 @@ use Rattle.mq_spec_state.specs.State.Change.{Leave, SetCursor, Hold, Pend}
 use Rattle.mq_spec_state.specs.State.Which.{Among}
 use Rattle.mq_spec_state.specs.Reads.{connection_at, handle_at, stored, is_persistent, is_expired}
 use Rattle.mq_spec_state.specs.Changes.{apply}
-use Rattle.mq_spec_state.specs.Steps.{Step, Part, silent, logged, do_part, do_all, delta_of}
-use Rattle.mq_spec_state.specs.Steps.Step.{Refuse, Do}
+use Rattle.mq_spec_state.specs.Steps.{Part, silent, logged, do_part, do_all, delta_of}
 use Rattle.mq_spec_manager.specs.Handles.{connected}
 use Rattle.mq_spec_manager.specs.Put.{queue_at}
-use Rattle.mq_spec_manager.specs.Get.{Scan, scan_row, scan, scanned, asked, is_at, looked_at, is_destructive, is_left, is_too_long, is_under, is_waiting, got, got_answer, removal_record, removal_part, removal_parts, expired_parts, persistent_rows, idents_of, taking_part, found_part, with_row, without_row, get_found, get_scanned, get_handle, get_up, get_tests, room_tests, mqget}
+use Rattle.mq_spec_manager.specs.Get.{scan_row, scan, scanned, asked, is_at, looked_at, is_destructive, is_left, is_too_long, is_under, is_waiting, got, got_answer, removal_record, expired_parts, persistent_rows, idents_of, taking_part, found_part, with_row, without_row, get_found, get_handle, get_up, get_tests, room_tests, mqget}
 use Rattle.mq_spec_network.specs.Ledger as ledgers
-use Rattle.mq_spec_network.specs.Ledger.{Ledger, Users, take_all_gone, take_gone, got_ident, get_by, get_row}
+use Rattle.mq_spec_network.specs.Ledger.{Ledger, take_all_gone, take_gone, got_ident, get_by, get_row}
 use Rattle.mq_spec_network.specs.Story.{Mem}
 use Rattle.mq_law_rows.specs.World.{ident_of}
 use Rattle.mq_law_rows.specs.Kinds.{among}
-use Rattle.mq_law_rows.proofs.Lists.{bool_case, is_false, true_false, name_yes, mem_kept, mem_keep}
+use Rattle.mq_law_rows.proofs.Lists.{bool_case, is_false, mem_kept, mem_keep}
 use Rattle.mq_law_manager.specs.Facts.{Differ}
 use Rattle.mq_law_manager.proofs.Lists.{one_row}
 use Rattle.mq_law_manager.proofs.Steps.{free_is}
 use Rattle.mq_law_manager.proofs.Removals.{mem_filter, differ_filter, among_rows, scan_free, scan_found, scan_apart}
 use Rattle.mq_law_manager.proofs.Units.{found_number}
-use Rattle.mq_law_events.specs.Tied.{IsTold, IsFresh, IsSame, IsElse, IsKept, Follow}
+use Rattle.mq_law_events.specs.Tied.{IsTold, IsFresh, Follow}
 use Rattle.mq_law_events.specs.Posting.{StepFollows, post_get}
 use Rattle.mq_law_events.proofs.Locals.{behind as leads_behind}
 use Rattle.mq_law_events.specs.Local.{side_of, sheet_of}
@@ -56,7 +50,7 @@ use Rattle.mq_law_events.proofs.Telling.{else_then}
 use Rattle.mq_law_events.proofs.Putting.{rows_after}
 use Rattle.mq_law_events.proofs.Taking.{removed_all, many_follow, got_follows, held_follows}
 use Rattle.mq_law_events.proofs.Calling.{calm_follows, calm_none, cursor_calm}
-use Rattle.mq_law_events.proofs.Events.{tested_follows, for_live, for_open, lives, from_logged, fresh_logged, told_logged, live_logged}
+use Rattle.mq_law_events.proofs.Events.{tested_follows, for_live, for_open, lives, from_logged, fresh_logged, told_logged}
 
 -- one behind the other
 pub follow_then : (m : ℕ) (given : Ident → Bool) (p q r : Plain) (l k j : Ledger) → (f : Follow m given p l q k) → Follow m f.now q k r j → Follow m given p l r j

@@ -1,5 +1,5 @@
 -- Calls whose write is stopped: the manager freezes, and the ledger loses what the manager does.
-use Rattle.std.proofs.Common.{ℕ, zero, suc, ◌≡◌, Bool, true, false, not, List, [], ◌∷◌, ◌++◌, refl, ap, sym, subst, ◌∙◌}
+use Rattle.std.proofs.Common.{ℕ, zero, suc, ◌≡◌, Bool, true, false, not, List, [], ◌∷◌, ◌++◌, subst}
 use Rattle.std.specs.Prelude.{Option, Some, None, Result, Ok, Err}
 use Rattle.mq_message.specs.declared.message.Ident.{Ident}
 use Rattle.mq_message.specs.declared.message.Md.{Md}
@@ -7,7 +7,6 @@ use Rattle.mq_codes.specs.declared.reason.Reason.{Reason}
 use Rattle.mq_queue.specs.declared.row.Row.{Row}
 use Rattle.mq_resolve.specs.declared.route.Route.{Route}
 use Rattle.mq_resolve.specs.Resolved.{resolve}
-use Rattle.mq_objects.specs.declared.object.Definitions.{Definitions}
 use Rattle.mq_objects.specs.declared.command.Command.{Command}
 use Rattle.mq_sc_apply.specs.declared.answers.Plan.{Plan}
 use Rattle.mq_sc_apply.specs.declared.answers.Plan.TheVariants as plans
@@ -23,17 +22,16 @@ use Rattle.mq_calls.specs.declared.answers.Hconn.{Hconn}
 use Rattle.mq_calls.specs.declared.answers.Hobj.{Hobj}
 use Rattle.mq_calls.specs.declared.answers.Open.{Open}
 use Rattle.mq_calls.specs.declared.commands.ScRefusal.{ScRefusal}
-use Rattle.mq_calls.specs.declared.deltas.Did.{Did}
 use Rattle.mq_calls.specs.declared.deltas.Why.TheVariants as whys
 use Rattle.mq_calls.specs.declared.state.Connection.{Connection}
 use Rattle.mq_calls.specs.declared.state.Handle.{Handle}
 use Rattle.mq_spec_state.specs.State.{Plain}
 use Rattle.mq_spec_state.specs.Reads.{is_up, handle_at, stored}
-use Rattle.mq_spec_state.specs.Steps.{none_of, when, Step, Part, Test, tested, refusal, refused_or, going_on, do_part, do_all, delta_of, delta_before, stopped_at, IsWrite, note_of}
+use Rattle.mq_spec_state.specs.Steps.{none_of, when, Step, Part, Test, tested, refusal, refused_or, going_on, do_all, delta_of, note_of}
 use Rattle.mq_spec_state.specs.Steps.Step.{Refuse, Do}
 use Rattle.mq_spec_manager.specs.Handles.{is_unfit, option_tests, open_tests, open_step, connected, for_connection, for_handle, mqconn, mqopen, mqclose, conn_tests, close_up, close_handle}
 use Rattle.mq_spec_manager.specs.Put.{output_only, mqput, mqput1, put_up, put_handle, put_route, put_tests, put1_resolved, output_tests, handle_route, new_message, queue_at}
-use Rattle.mq_spec_manager.specs.Get.{got, got_answer, is_too_long, found_part, mqget, get_up, get_handle, get_tests, room_tests, get_found, scanned, asked, looked_at, expired_parts, removal_part, is_under, is_waiting, is_left, with_row, without_row}
+use Rattle.mq_spec_manager.specs.Get.{got, got_answer, is_too_long, found_part, mqget, get_up, get_handle, get_tests, room_tests, get_found, scanned, expired_parts, removal_part, is_under, is_waiting, is_left, with_row, without_row}
 use Rattle.mq_spec_manager.specs.Units.{mqcmit, mqback, mqdisc}
 use Rattle.mq_spec_manager.specs.Commands.{command, planned_step, uses_of}
 use Rattle.mq_spec_network.specs.Ledger as ledgers
@@ -41,7 +39,7 @@ use Rattle.mq_spec_network.specs.Ledger.{Ledger, take_all_gone}
 use Rattle.mq_spec_network.specs.Story.{Mem}
 use Rattle.mq_law_rows.specs.World.{ident_of}
 use Rattle.mq_law_manager.specs.Facts.{Differ}
-use Rattle.mq_law_events.specs.Tied.{IsTold, IsFresh, Follow}
+use Rattle.mq_law_events.specs.Tied.{IsTold, IsFresh}
 use Rattle.mq_law_events.specs.Posting.{StopFollows}
 use Rattle.mq_law_events.proofs.Stopping.{freezes}
 use Rattle.mq_law_events.proofs.Leaving.{one_stops}

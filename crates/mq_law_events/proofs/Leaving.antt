@@ -1,33 +1,31 @@
 -- MQDISC: a commit, and the connection is gone; and calls whose write is stopped.
-use Rattle.std.proofs.Common.{ℕ, zero, suc, ◌≡◌, Bool, true, false, not, List, [], ◌∷◌, ◌++◌, refl, ap, sym, subst, ◌∙◌}
-use Rattle.std.specs.Prelude.{Option, Some, None, ◌==◌, if◌then◌else◌, slice_get, filter, flat_map}
+use Rattle.std.proofs.Common.{ℕ, zero, suc, ◌≡◌, Bool, true, false, not, List, [], ◌∷◌, refl, ap, sym, subst, ◌∙◌}
+use Rattle.std.specs.Prelude.{Option, Some, None, ◌==◌, if◌then◌else◌, filter}
 use Rattle.std.proofs.Common.{arith}
 use Rattle.std.proofs.lemmas.Bool.Decides.{nat_tests}
 use Rattle.mq_message.specs.declared.message.Ident.{Ident}
 use Rattle.mq_calls.specs.declared.answers.Hconn.{Hconn}
-use Rattle.mq_calls.specs.declared.deltas.Did.{Did}
 use Rattle.mq_calls.specs.declared.records.LogRecord.{LogRecord}
 use Rattle.mq_calls.specs.declared.state.Connection.{Connection}
-use Rattle.mq_calls.specs.declared.state.Item.{Item}
 use Rattle.mq_calls.specs.declared.answers.Answer.TheVariants as answers
 use Rattle.mq_history.specs.declared.calls.Reply.TheVariants as replies
 use Rattle.mq_spec_state.specs.State.{Plain, Change}
-use Rattle.mq_spec_state.specs.State.Change.{Disconnect, EndUnit}
+use Rattle.mq_spec_state.specs.State.Change.{Disconnect}
 use Rattle.mq_spec_state.specs.Reads.{connection_at, stored}
-use Rattle.mq_spec_state.specs.Changes.{apply, apply_all, change_connection}
-use Rattle.mq_spec_state.specs.Steps.{Step, Part, logged, do_part, do_all, delta_of, delta_before, stopped_at, IsWrite, note_of}
-use Rattle.mq_spec_state.specs.Steps.Step.{Refuse, Do}
+use Rattle.mq_spec_state.specs.Changes.{apply, change_connection}
+use Rattle.mq_spec_state.specs.Steps.{Part, logged, do_part, note_of}
+use Rattle.mq_spec_state.specs.Steps.Step.{Do}
 use Rattle.mq_spec_manager.specs.Handles.{connected}
-use Rattle.mq_spec_manager.specs.Units.{mqdisc, commit_part, commit_changes}
+use Rattle.mq_spec_manager.specs.Units.{mqdisc, commit_part}
 use Rattle.mq_spec_network.specs.Ledger as ledgers
-use Rattle.mq_spec_network.specs.Ledger.{Ledger, Users, take_all_gone, when, is_ended, unit_of}
-use Rattle.mq_law_rows.proofs.Lists.{bool_case, eqb_self, eqb_yes}
+use Rattle.mq_spec_network.specs.Ledger.{Ledger, Users, when, is_ended, unit_of}
+use Rattle.mq_law_rows.proofs.Lists.{bool_case, eqb_yes}
 use Rattle.mq_law_manager.proofs.Units.{found_number}
 use Rattle.mq_law_events.specs.Local.{side_of, sheet_of}
-use Rattle.mq_law_events.specs.Tied.{connections_told, IsTold, IsFresh, Follow}
+use Rattle.mq_law_events.specs.Tied.{IsTold, IsFresh, Follow}
 use Rattle.mq_law_events.specs.Posting.{IsListed, StepFollows, StopFollows}
-use Rattle.mq_law_events.proofs.Locals.{with_items, stays_leads}
-use Rattle.mq_law_events.proofs.Telling.{gone_told, here_changed, else_users, unit_changes}
+use Rattle.mq_law_events.proofs.Locals.{stays_leads}
+use Rattle.mq_law_events.proofs.Telling.{gone_told, here_changed, else_users}
 use Rattle.mq_law_events.proofs.Putting.{leads_to, users_stay}
 use Rattle.mq_law_events.proofs.Committing.{committed, commit_follows}
 use Rattle.mq_law_events.proofs.Stopping.{freezes}
@@ -68,6 +66,7 @@ disconnect_follows m given p l hc f t none =
       told = record {
         places = t.places;
         placed = t.placed;
+        shelved = t.shelved;
         name = t.name;
         definitions = t.definitions;
         users = less hc.number t.users;

@@ -1,6 +1,6 @@
 -- The kinds of change of rows and units as changes of what one manager has.
-use Rattle.std.proofs.Common.{ℕ, ◌≡◌, ◌⊎◌, Bool, true, false, not, List, [], ◌∷◌, ◌++◌, refl, ap, sym, subst, ◌∙◌, inl, inr}
-use Rattle.std.specs.Prelude.{Option, Some, None, ◌==◌, if◌then◌else◌, ◌&&◌, ◌||◌}
+use Rattle.std.proofs.Common.{ℕ, ◌≡◌, ◌⊎◌, Bool, true, false, not, List, [], ◌∷◌, ◌++◌, refl, ap, sym, subst, ◌∙◌}
+use Rattle.std.specs.Prelude.{Some, None, ◌==◌, if◌then◌else◌, ◌&&◌, ◌||◌}
 use Rattle.std.specs.Str.{bytes_eq}
 use Rattle.mq_message.specs.declared.message.Ident.{Ident}
 use Rattle.mq_message.specs.declared.message.Message.{Message}
@@ -13,15 +13,15 @@ use Rattle.mq_spec_state.specs.Reads.{is_persistent}
 use Rattle.mq_spec_state.specs.Changes.{retag_if, release_if}
 use Rattle.mq_spec_network.specs.Story.{Mem}
 use Rattle.mq_spec_network.specs.Standing.{row_told}
-use Rattle.mq_law_rows.specs.Families.{is_here, put_at, put_by}
-use Rattle.mq_law_rows.specs.World.{World, Book, Ghost, Owner, Unborn, At, InHand, Gone, away, stands, claim, got_idents, item_told, items_told, Inv}
-use Rattle.mq_law_rows.specs.Kinds.{after, owned, give, place_row, book_place, is_row, lift_row, book_lift, book_bury, among, with_units, book_units, hold_row, book_hold, has_unit, puts_of, bury_all, take_gets, book_take_gets, back_out, is_lost, lose, book_lose}
-use Rattle.mq_law_rows.proofs.Lists.{bool_case, true_false, eqb_self, name_self, here_self, ident_self, keep_same, keep_all}
+use Rattle.mq_law_rows.specs.Families.{is_here}
+use Rattle.mq_law_rows.specs.World.{World, Book, Ghost, Unborn, At, InHand, away, stands, claim, got_idents, items_told, Inv}
+use Rattle.mq_law_rows.specs.Kinds.{after, owned, give, is_row, lift_row, book_lift, among, with_units, book_units, puts_of, bury_all}
+use Rattle.mq_law_rows.proofs.Lists.{bool_case, eqb_self, ident_self, keep_all}
 use Rattle.mq_law_rows.proofs.Owners.{owned_self}
 use Rattle.mq_law_rows.proofs.Placing.{gives, places_row, lifts_row, buries}
 use Rattle.mq_law_rows.proofs.Units.{pends, unpends, holds_row, takes_gets, backs_out}
 use Rattle.mq_law_rows.proofs.Settling.{loses}
-use Rattle.mq_law_events.specs.Local.{Side, Sheet, local, page, with_owner, Moved, Leads}
+use Rattle.mq_law_events.specs.Local.{Side, Sheet, local, page, with_owner, Leads}
 
 -- What is told of items that are told is the same.
 pub told_again : (xs : List Item) → items_told (items_told xs) ≡ items_told xs

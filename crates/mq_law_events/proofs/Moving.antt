@@ -1,6 +1,6 @@
 -- The handler's moves: the ledger takes the ident from where it has it, and places its own row. The ledger follows.
-use Rattle.std.proofs.Common.{ℕ, ◌≡◌, ◌⊎◌, Bool, true, false, not, List, [], ◌∷◌, ◌++◌, refl, ap, sym, subst, ◌∙◌, inl, inr, map}
-use Rattle.std.specs.Prelude.{pos, ℤ, Option, Some, None, Result, Ok, Err, ◌==◌, if◌then◌else◌, ◌&&◌, ◌||◌, slice_get, find}
+use Rattle.std.proofs.Common.{ℕ, ◌≡◌, Bool, true, false, not, List, [], ◌∷◌, refl, ap, sym, subst, ◌∙◌, inl, inr}
+use Rattle.std.specs.Prelude.{pos, Option, Some, None, Result, Ok, Err, if◌then◌else◌, ◌&&◌, ◌||◌, slice_get, find}
 use Rattle.std.specs.Str.{bytes_eq}
 use Rattle.mq_message.specs.declared.message.Dest.{Dest}
 use Rattle.mq_message.specs.declared.message.Ident.{Ident}
@@ -17,28 +17,27 @@ use Rattle.mq_resolve.specs.declared.route.Route.{Route}
 use Rattle.mq_resolve.specs.Resolved.{resolve}
 use Rattle.mq_calls.specs.declared.image.Shelf.{Shelf}
 use Rattle.mq_history.specs.declared.story.ManagerPlaces.{ManagerPlaces}
-use Rattle.mq_spec_state.specs.State.{Plain, Given}
+use Rattle.mq_spec_state.specs.State.{Plain}
 use Rattle.mq_spec_state.specs.State.Change.{Leave}
 use Rattle.mq_spec_state.specs.State.Which.{Among}
 use Rattle.mq_spec_state.specs.Reads.{stored, connection_at}
 use Rattle.mq_spec_state.specs.Changes.{apply, apply_all, lane_of, new_row}
 use Rattle.mq_spec_manager.specs.Put.{placed, queue_at, dest_at}
-use Rattle.mq_spec_agents.specs.Moves.{bare_if, bare_message}
+use Rattle.mq_spec_agents.specs.Moves.{bare_if}
 use Rattle.mq_spec_network.specs.Ledger as ledgers
-use Rattle.mq_spec_network.specs.Ledger.{Ledger, Users, places_or, places_at, place_at, row_in, rows_in, take_from, leave_queues, move_row, moved_to, resolved_at, ledger_rows, unit_of}
+use Rattle.mq_spec_network.specs.Ledger.{Ledger, places_or, places_at, place_at, row_in, rows_in, take_from, leave_queues, move_row, moved_to, resolved_at, ledger_rows, unit_of}
 use Rattle.mq_spec_network.specs.Standing.{row_told}
-use Rattle.mq_spec_network.specs.Story.{Mem, Chain}
-use Rattle.mq_law_rows.specs.World.{World, Book, Ghost, Owner, At, Inv, Forced, away, stands, claim, is_forced, standing}
+use Rattle.mq_spec_network.specs.Story.{Mem}
+use Rattle.mq_law_rows.specs.World.{World, Book, Ghost, At, Inv, away, stands, claim, is_forced}
 use Rattle.mq_law_rows.proofs.Lists.{bool_case, is_false, true_false, eqb_self, ident_yes, ident_self, name_yes, name_self, keep_same}
 use Rattle.mq_law_rows.proofs.Owners.{standing_row, ledger_row}
 use Rattle.mq_law_rows.proofs.Holding.{only_one}
 use Rattle.mq_law_seen.proofs.Bridges.{takes_from}
 use Rattle.mq_law_manager.specs.Seen.{row_for}
-use Rattle.mq_law_events.specs.Local.{Side, Sheet, local, page, with_owner, Moved, Leads, side_of, sheet_of}
-use Rattle.mq_law_events.specs.Tied.{IsTold, IsFresh, IsElse, Follow}
-use Rattle.mq_law_events.specs.Posting.{AreShelved}
+use Rattle.mq_law_events.specs.Local.{Side, local, page, with_owner, Leads, side_of, sheet_of}
+use Rattle.mq_law_events.specs.Tied.{AreShelved, IsTold, IsFresh, IsElse, Follow}
 use Rattle.mq_law_events.proofs.Locals.{with_row, without, left_by, row_moves_leads}
-use Rattle.mq_law_events.proofs.Telling.{here_changed, else_places, else_then}
+use Rattle.mq_law_events.proofs.Telling.{left_shelved, here_changed, else_places, else_then}
 use Rattle.mq_law_events.proofs.Putting.{rows_after, IsBeside, placed_rows, placed_beside, place_sheet, place_told, same_users, unborn_by}
 use Rattle.mq_law_events.proofs.Taking.{told_beside}
 use Rattle.mq_law_events.proofs.Committing.{beside_then}
@@ -145,7 +144,7 @@ bare_told : (bare : Bool) (m : Message) → message_told (bare_if bare m) ≡ ba
 bare_told true m = refl
 bare_told false m = refl
 
-bare_ident : (bare : Bool) (m : Message) → (bare_if bare m).ident ≡ m.ident
+pub bare_ident : (bare : Bool) (m : Message) → (bare_if bare m).ident ≡ m.ident
 bare_ident true m = refl
 bare_ident false m = refl
 
@@ -218,7 +217,7 @@ move_told m p r l to bare (Some row) t b = go (resolved_at m to.queue to.qmgr l)
     go (Ok route) =
         let i : Ident = (bare_if bare row.message).ident in
         let f : ManagerPlaces → ManagerPlaces = λ p. record p { queues = leave_queues (λ (row : Row). not (has_ident i row)) p.queues } in
-        let t1 : IsTold m p (take_from m i l) = record { places = f t.places; placed = here_changed m f l.places t.places t.placed; name = t.name; definitions = t.definitions; users = t.users; used = t.used; connections = t.connections } in
+        let t1 : IsTold m p (take_from m i l) = record { places = f t.places; placed = here_changed m f l.places t.places t.placed; shelved = left_shelved (λ (row : Row). not (has_ident i row)) t.places.queues t.shelved; name = t.name; definitions = t.definitions; users = t.users; used = t.used; connections = t.connections } in
         place_told m p r (take_from m i l) (queue_at route.end) (routed route (bare_if bare row.message)) t1 b.given b.definitions b.connections b.moment
 
 move_else : (m : ℕ) (l : Ledger) (to : Dest) (bare : Bool) (o : Option Row) → IsElse m l (move_row m to bare o l) × ((move_row m to bare o l).users ≡ l.users)

@@ -1,5 +1,5 @@
 -- Puts, in a unit and outside one, and trigger messages: the ledger follows.
-use Rattle.std.proofs.Common.{ℕ, ◌≡◌, ◌+◌, Bool, true, false, not, List, [], ◌∷◌, ◌++◌, refl, ap, sym, subst, ◌∙◌, arith}
+use Rattle.std.proofs.Common.{ℕ, ◌≡◌, ◌+◌, Bool, true, false, List, [], ◌∷◌, ◌++◌, refl, ap, sym, subst, ◌∙◌, arith}
 use Rattle.std.specs.Prelude.{Option, Some, None, ◌==◌, if◌then◌else◌, ◌&&◌, ◌||◌, nat_lt, slice_get}
 use Rattle.std.specs.Str.{bytes_eq}
 use Rattle.std.proofs.lemmas.Bool.Decides.{nat_tests}
@@ -33,9 +33,9 @@ use Rattle.mq_law_manager.specs.Seen.{AsksNothing, seen, row_for}
 use Rattle.mq_law_manager.proofs.SeenLaws.{applied, mapped_one}
 use Rattle.mq_law_manager.proofs.Puts.{count_more}
 use Rattle.mq_law_events.specs.Local.{Side, Sheet, Leads, side_of, sheet_of}
-use Rattle.mq_law_events.specs.Tied.{connection_told, connections_told, IsTold, IsFresh, IsSame, IsElse, IsKept, Follow}
+use Rattle.mq_law_events.specs.Tied.{connection_told, connections_told, IsTold, IsFresh, IsSame, IsKept, Follow}
 use Rattle.mq_law_events.proofs.Locals.{with_row, with_items, now_given, new_row_leads, new_put_leads}
-use Rattle.mq_law_events.proofs.Telling.{changed_told, items_more, unit_changes, here_changed, else_places, else_users}
+use Rattle.mq_law_events.proofs.Telling.{put_shelved, changed_told, items_more, unit_changes, here_changed, else_places, else_users}
 
 -- Changes of a manager on its rows
 
@@ -63,9 +63,6 @@ placed_beside q message p =
     let r : Plain = apply (Places q message) p in
     let t = try_beside (condition (local_of q r.definitions) message.md.priority r) q r in
     record { given = t.given; definitions = t.definitions; connections = t.connections; channels = t.channels; moment = t.moment; numbers = t.numbers }
-
-pub beside_same : (p r : Plain) → IsBeside p r → IsSame p r
-beside_same p r b = record { given = b.given; senders = (λ i. (b.channels i).senders); receivers = (λ i. (b.channels i).receivers); batches = (λ i. (b.channels i).batches) }
 
 -- Which idents are new
 
@@ -108,6 +105,7 @@ pub place_told : (m : ℕ) (p r : Plain) (l : Ledger) (q : List ℕ) (message : 
 place_told m p r l q message t given definitions connections moment = record {
   places = place_at q message t.places;
   placed = here_changed m (place_at q message) l.places t.places t.placed;
+  shelved = put_shelved q (lane_of (local_of q t.places.definitions) message.md.priority) message t.places.queues t.shelved;
   name = t.name ∙ ap (λ (g : Given). g.name) (sym given);
   definitions = t.definitions ∙ sym definitions;
   users = t.users;
@@ -161,6 +159,7 @@ pub pend_told : (m : ℕ) (p r : Plain) (l : Ledger) (hc : Hconn) (item told : I
 pend_told m p r l hc item told t is given definitions connections moment = record {
   places = t.places;
   placed = t.placed;
+  shelved = t.shelved;
   name = t.name ∙ ap (λ (g : Given). g.name) (sym given);
   definitions = t.definitions ∙ sym definitions;
   users = record t.users { connections = change_connection hc.number (pended told) t.users.connections };

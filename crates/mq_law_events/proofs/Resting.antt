@@ -1,5 +1,5 @@
 -- A manager's units are backed out, all at once: the facts are kept.
-use Rattle.std.proofs.Common.{ℕ, ◌≡◌, ◌⊎◌, Bool, true, false, not, List, [], ◌∷◌, ◌++◌, refl, ap, sym, subst, ◌∙◌, inl, inr}
+use Rattle.std.proofs.Common.{ℕ, ◌≡◌, Bool, true, false, not, List, [], refl, ap, sym, subst, ◌∙◌}
 use Rattle.std.specs.Prelude.{Option, Some, None, ◌==◌, if◌then◌else◌, ◌&&◌}
 use Rattle.mq_message.specs.declared.message.Ident.{Ident}
 use Rattle.mq_message.specs.declared.place.Holder.{Holder}
@@ -7,14 +7,13 @@ use Rattle.mq_message.specs.declared.place.Holder.TheVariants as holders
 use Rattle.mq_queue.specs.declared.row.Row.{Row}
 use Rattle.mq_queue.specs.Rows.{is_by_unit}
 use Rattle.mq_sync.specs.declared.unit.Unit.{Unit as Luw}
-use Rattle.mq_calls.specs.declared.state.Item.{Item}
 use Rattle.mq_spec_state.specs.Changes.{release_if}
 use Rattle.mq_spec_network.specs.Story.{Mem}
 use Rattle.mq_spec_network.specs.Promised.{AreDistinct}
 use Rattle.mq_spec_network.specs.Standing.{rows_told}
 use Rattle.mq_law_rows.specs.World.{World, Book, Ghost, Tag, Owner, Unborn, At, HeldBy, InBatch, Forced, InUnit, InHand, Gone, tag_of, ident_of, away, stands, row_stands, is_forced, claim, IsHeldBy, IsElsewhere, put_idents, got_idents, items_told, Inv}
 use Rattle.mq_law_rows.specs.Kinds.{after}
-use Rattle.mq_law_rows.proofs.Lists.{true_false, and_false, and_right, and_left, eqb_self, eqb_yes, bool_case, is_false, mem_retag, mem_retagged, sorted_retag, keep_same, keep_retag}
+use Rattle.mq_law_rows.proofs.Lists.{true_false, and_false, and_left, eqb_self, eqb_yes, bool_case, is_false, mem_retag, mem_retagged, sorted_retag, keep_same, keep_retag}
 use Rattle.mq_law_rows.proofs.Batches.{retag_idents, release_place, release_told, release_tag, release_ident, released, unreleased}
 use Rattle.mq_law_events.specs.Rests.{has_units, back_out_all, book_out_all, rested}
 

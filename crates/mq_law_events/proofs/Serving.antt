@@ -1,26 +1,23 @@
 -- Trigger turns and the handler's discards: the ledger follows.
-use Rattle.std.proofs.Common.{ℕ, ◌≡◌, Bool, true, false, not, List, [], ◌∷◌, ◌++◌, refl, ap, sym, subst, ◌∙◌, inl, inr, map}
-use Rattle.std.specs.Prelude.{Option, Some, None, ◌==◌, if◌then◌else◌, ◌&&◌, slice_get, nat_lt, filter, pos}
-use Rattle.std.specs.Str.{bytes_eq}
+use Rattle.std.proofs.Common.{ℕ, ◌≡◌, Bool, true, false, List, [], ◌∷◌, refl, ap, sym, subst, ◌∙◌}
+use Rattle.std.specs.Prelude.{Option, Some, None, filter}
 use Rattle.mq_message.specs.declared.message.Ident.{Ident}
 use Rattle.mq_message.specs.declared.message.Message.{Message}
 use Rattle.mq_codes.specs.declared.reason.Reason.{Reason}
 use Rattle.mq_queue.specs.declared.row.Row.{Row}
-use Rattle.mq_queue.specs.Rows.{has_ident, same_ident}
+use Rattle.mq_queue.specs.Rows.{has_ident}
 use Rattle.mq_objects.specs.declared.object.LocalQueue.{LocalQueue}
 use Rattle.mq_objects.specs.declared.object.Process.{Process}
-use Rattle.mq_objects.specs.declared.object.Definitions.{Definitions}
-use Rattle.mq_objects.specs.Names.{local_of, locals_of, process_of, is_transmission}
+use Rattle.mq_objects.specs.Names.{local_of, process_of, is_transmission}
 use Rattle.mq_calls.specs.declared.deltas.Did.{Did}
 use Rattle.mq_calls.specs.declared.deltas.Why.TheVariants as whys
 use Rattle.mq_calls.specs.declared.records.LogRecord.{LogRecord}
-use Rattle.mq_history.specs.declared.calls.Reply.TheVariants as replies
 use Rattle.mq_spec_state.specs.State.{Plain}
 use Rattle.mq_spec_state.specs.State.Change.{Serve, CountIdent}
 use Rattle.mq_spec_state.specs.State.Change.{Place as Places}
 use Rattle.mq_spec_state.specs.Reads.{stored}
 use Rattle.mq_spec_state.specs.Changes.{apply, apply_all}
-use Rattle.mq_spec_state.specs.Steps.{Part, logged, do_part, do_all, delta_of}
+use Rattle.mq_spec_state.specs.Steps.{logged, do_part, do_all, delta_of}
 use Rattle.mq_spec_manager.specs.Get.{removal_record, removal_parts, persistent_rows}
 use Rattle.mq_spec_manager.specs.Put.{next_ident}
 use Rattle.mq_spec_manager.specs.Triggers.{trigger_message, put_trigger, serve_into, serve_by, takes_it}
@@ -28,12 +25,12 @@ use Rattle.mq_spec_network.specs.Ledger as ledgers
 use Rattle.mq_spec_network.specs.Ledger.{Ledger, places_or, users_or, take_all_gone}
 use Rattle.mq_spec_network.specs.Story.{Mem}
 use Rattle.mq_law_rows.specs.World.{ident_of}
-use Rattle.mq_law_rows.proofs.Lists.{bool_case, ident_yes}
+use Rattle.mq_law_rows.proofs.Lists.{ident_yes}
 use Rattle.mq_law_manager.specs.Facts.{Differ}
 use Rattle.mq_law_manager.proofs.Removals.{mem_filter, differ_filter}
 use Rattle.mq_law_events.specs.Tied.{IsTold, IsFresh, Follow}
 use Rattle.mq_law_events.specs.Posting.{IsTimed}
-use Rattle.mq_law_events.proofs.Putting.{rows_after, IsBeside, place_follows}
+use Rattle.mq_law_events.proofs.Putting.{rows_after, place_follows}
 use Rattle.mq_law_events.proofs.Taking.{removed_all, many_follow}
 use Rattle.mq_law_events.proofs.Calling.{calm_follows, calm_none, serve_calm}
 use Rattle.mq_law_events.proofs.Events.{from_logged, fresh_logged, told_logged}

@@ -1,5 +1,5 @@
 -- What a sound manager gives its events; and that a restart gives no ident anew.
-use Rattle.std.proofs.Common.{ℕ, ◌≡◌, ◌+◌, Bool, true, false, List, [], ◌∷◌, refl, ap, sym, subst, ◌∙◌, inl, inr, arith}
+use Rattle.std.proofs.Common.{ℕ, ◌≡◌, ◌+◌, Bool, true, false, List, [], ◌∷◌, refl, ap, sym, ◌∙◌, inl, inr, arith}
 use Rattle.std.specs.Prelude.{Option, Some, None, ◌==◌, ◌&&◌, ◌||◌, nat_lt}
 use Rattle.std.specs.Str.{bytes_eq}
 use Rattle.std.proofs.lemmas.Bool.Decides.{nat_tests}
@@ -12,7 +12,6 @@ use Rattle.mq_calls.specs.declared.state.Item.TheVariants.{Put, Take}
 use Rattle.mq_spec_state.specs.State.{Plain, LogState}
 use Rattle.mq_spec_state.specs.Reads.{connection_at}
 use Rattle.mq_spec_state.specs.Images.{begun, lasting, raised}
-use Rattle.mq_spec_agents.specs.Standing.{is_unborn}
 use Rattle.mq_spec_network.specs.Ledger.{unit_of}
 use Rattle.mq_spec_network.specs.Story.{Mem}
 use Rattle.mq_law_rows.proofs.Lists.{name_self, ident_self}

@@ -1,12 +1,11 @@
 -- Stops, stopped writes and restarts: rows that are told alike keep the facts, and the ledger follows.
-use Rattle.std.proofs.Common.{ℕ, ◌≡◌, ◌≤◌, Bool, true, false, not, List, [], ◌∷◌, ◌++◌, refl, ap, sym, subst, ◌∙◌, inl, inr, map}
-use Rattle.std.specs.Prelude.{pos, Option, Some, None, ◌==◌, ◌+◌, if◌then◌else◌, ◌&&◌, slice_get}
+use Rattle.std.proofs.Common.{ℕ, ◌≡◌, ◌≤◌, Bool, true, false, not, List, [], ◌∷◌, ◌++◌, refl, ap, sym, subst, ◌∙◌, map}
+use Rattle.std.specs.Prelude.{Option, Some, None, ◌==◌, ◌+◌, if◌then◌else◌, ◌&&◌}
 use Rattle.mq_message.specs.declared.message.Ident.{Ident}
 use Rattle.mq_message.specs.declared.place.Holder.{Holder}
 use Rattle.mq_message.specs.declared.place.Holder.TheVariants as holders
 use Rattle.mq_queue.specs.declared.row.Row.{Row}
 use Rattle.mq_queue.specs.Rows.{keep, retag, is_free, is_by_unit}
-use Rattle.mq_calls.specs.declared.state.Connection.{Connection}
 use Rattle.mq_calls.specs.declared.state.Batch.{Batch}
 use Rattle.mq_spec_state.specs.State.{Plain, Given, LogState, Running, Noted}
 use Rattle.mq_spec_state.specs.State.Change.{Leave, Release, ForgetAll}
@@ -15,26 +14,25 @@ use Rattle.mq_spec_state.specs.Reads.{stored, connection_at, is_persistent}
 use Rattle.mq_spec_state.specs.Changes.{apply, apply_all, release_if}
 use Rattle.mq_spec_state.specs.Images.{begun, raised, rests_by, lasting, lasting_row, lasting_rows, numbered, uncounted_message}
 use Rattle.mq_spec_state.specs.Steps.{freeze}
-use Rattle.mq_spec_manager.specs.Stops.{stop_changes, at_rest, release_batch}
+use Rattle.mq_spec_manager.specs.Stops.{at_rest, release_batch}
 use Rattle.mq_spec_network.specs.Ledger as ledgers
 use Rattle.mq_spec_network.specs.Ledger.{Ledger, Users, ledger_rows, leave_queues, unit_of}
 use Rattle.mq_history.specs.declared.story.ManagerPlaces.{ManagerPlaces}
 use Rattle.mq_spec_network.specs.Story.{Mem}
 use Rattle.mq_spec_network.specs.Promised.{AreDistinct}
-use Rattle.mq_spec_network.specs.Standing.{row_told, rows_told}
+use Rattle.mq_spec_network.specs.Standing.{row_told}
 use Rattle.mq_law_rows.specs.World.{World, Book, Ghost, Tag, tag_of, ident_of, away, stands, row_stands, claim, IsElsewhere, LanesRise, got_idents, Inv}
-use Rattle.mq_law_rows.specs.Kinds.{with_rows, after}
+use Rattle.mq_law_rows.specs.Kinds.{with_rows}
 use Rattle.mq_law_rows.proofs.Lists.{bool_case, eqb_self, mem_retag, mem_retagged, keep_retag}
 use Rattle.mq_law_rows.proofs.Batches.{retag_idents}
 use Rattle.mq_law_seen.proofs.Bridges.{loses_rows}
 use Rattle.mq_law_manager.proofs.Numbered.{rows_begun}
 use Rattle.mq_law_manager.proofs.Restarting.{rows_lasting}
-use Rattle.mq_law_events.specs.Local.{Side, Sheet, local, page, with_owner, Moved, Leads, side_of, sheet_of}
-use Rattle.mq_law_events.specs.Rests.{back_out_all, book_out_all}
-use Rattle.mq_law_events.specs.Tied.{connections_told, IsTold, IsFresh, IsSame, IsElse, Follow}
+use Rattle.mq_law_events.specs.Local.{Side, Sheet, local, page, Leads, side_of, sheet_of}
+use Rattle.mq_law_events.specs.Tied.{connections_told, IsTold, IsFresh, IsElse, Follow}
 use Rattle.mq_law_events.proofs.Locals.{lands, others_told, retag_both, lasting_of, loses_leads, behind}
 use Rattle.mq_law_events.proofs.Resting.{backs_out_all}
-use Rattle.mq_law_events.proofs.Telling.{here_changed, else_places, else_users, else_then}
+use Rattle.mq_law_events.proofs.Telling.{left_shelved, here_changed, else_places, else_users, else_then}
 use Rattle.mq_law_events.proofs.Putting.{rows_after, leads_to, users_stay, same_users}
 use Rattle.mq_law_events.proofs.Taking.{retag_same}
 
@@ -135,9 +133,6 @@ untells w g b change alike h =
 abbrev pub bare : Row → Row
 bare y = record { place = record { lane = y.place.lane; arrival = 0 }; message = uncounted_message y.message; by = y.by }
 
-bare_alike : IsAlike bare
-bare_alike = record { lane = λ x. refl; by = λ x. refl; tag = λ x. refl; told = λ x. refl }
-
 abbrev bare_if : Bool → Row → Row
 bare_if t y = if t then bare y else y
 
@@ -189,7 +184,7 @@ lost_sheet m d l = loses_rows m m d l ∙ ap (λ t. keep (λ y. not (t && not (i
 pub lost_told : (m : ℕ) (p : Plain) (l : Ledger) → IsTold m p l → IsTold m p (ledgers.lose m l)
 lost_told m p l t =
     let f : ManagerPlaces → ManagerPlaces = λ p. record p { queues = leave_queues (λ (row : Row). is_persistent row.message) p.queues } in
-    record { places = f t.places; placed = here_changed m f l.places t.places t.placed; name = t.name; definitions = t.definitions; users = t.users; used = t.used; connections = t.connections }
+    record { places = f t.places; placed = here_changed m f l.places t.places t.placed; shelved = left_shelved (λ (row : Row). is_persistent row.message) t.places.queues t.shelved; name = t.name; definitions = t.definitions; users = t.users; used = t.used; connections = t.connections }
 
 lost_else : (m : ℕ) (l : Ledger) → IsElse m l (ledgers.lose m l)
 lost_else m l = else_places m (λ p. record p { queues = leave_queues (λ (row : Row). is_persistent row.message) p.queues }) l
@@ -207,7 +202,7 @@ freezes m given p l note left f t =
           (λ i. record { rows = λ d. sym (lost_sheet m d l) i; gone = l.gone; got = l.got });
       fresh = f;
       known = λ i e. refl;
-      told = record { places = t2.places; placed = t2.placed; name = t2.name; definitions = t2.definitions; users = t2.users; used = t2.used; connections = t2.connections };
+      told = record { places = t2.places; placed = t2.placed; shelved = t2.shelved; name = t2.name; definitions = t2.definitions; users = t2.users; used = t2.used; connections = t2.connections };
       same = record { given = refl; senders = refl; receivers = refl; batches = refl };
       steady = refl;
       other = lost_else m l;
@@ -241,6 +236,7 @@ stop_told m p r l t given definitions connections moment =
     record {
       places = f t.places;
       placed = here_changed m f l.places t.places t.placed;
+      shelved = left_shelved (λ (row : Row). is_persistent row.message) t.places.queues t.shelved;
       name = t.name ∙ ap (λ (g : Given). g.name) (sym given);
       definitions = t.definitions ∙ sym definitions;
       users = no_connections t.users;

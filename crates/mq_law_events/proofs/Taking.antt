@@ -1,8 +1,7 @@
 -- Rows that are taken: gets, expiry, discards; and gets in a unit.
-use Rattle.std.proofs.Common.{ℕ, ◌≡◌, ◌≢◌, ◌⊎◌, Bool, true, false, not, List, [], ◌∷◌, ◌++◌, refl, ap, sym, subst, ◌∙◌, inl, inr, map}
-use Rattle.std.specs.Prelude.{Option, Some, None, ◌==◌, if◌then◌else◌, ◌&&◌, ◌||◌, slice_get}
+use Rattle.std.proofs.Common.{ℕ, ◌≡◌, ◌⊎◌, Bool, true, false, not, List, [], ◌∷◌, ◌++◌, refl, ap, sym, subst, ◌∙◌, inl, inr, map}
+use Rattle.std.specs.Prelude.{Some, None, if◌then◌else◌, ◌&&◌, ◌||◌}
 use Rattle.std.specs.Str.{bytes_eq}
-use Rattle.std.specs.List.{list_any}
 use Rattle.mq_message.specs.declared.message.Ident.{Ident}
 use Rattle.mq_message.specs.declared.place.Holder.TheVariants as holders
 use Rattle.mq_queue.specs.declared.row.Row.{Row}
@@ -22,21 +21,20 @@ use Rattle.mq_spec_state.specs.Reads.{stored, connection_at}
 use Rattle.mq_spec_state.specs.Changes.{apply, apply_all, retag_if, selects}
 use Rattle.mq_spec_manager.specs.Get.{idents_of}
 use Rattle.mq_spec_network.specs.Ledger as ledgers
-use Rattle.mq_spec_network.specs.Ledger.{Ledger, Users, places_at, places_or, is_placed_at, take, take_if, take_from, take_got, take_gone, take_all_gone, is_taken, leave_queues, ledger_rows, rows_in, unit_of}
+use Rattle.mq_spec_network.specs.Ledger.{Ledger, places_at, is_placed_at, take, take_if, take_got, take_all_gone, is_taken, leave_queues, ledger_rows, unit_of}
 use Rattle.mq_spec_network.specs.Story.{Mem}
-use Rattle.mq_law_rows.specs.World.{items_told, ident_of}
+use Rattle.mq_law_rows.specs.World.{ident_of}
 use Rattle.mq_law_rows.specs.Kinds.{among}
-use Rattle.mq_law_rows.proofs.Lists.{bool_case, is_false, true_false, eqb_self, ident_yes, ident_self, name_yes, keep_same, keep_all, mem_kept, mem_keep}
+use Rattle.mq_law_rows.proofs.Lists.{bool_case, is_false, true_false, eqb_self, ident_yes, name_yes, keep_same, keep_all, mem_kept}
 use Rattle.mq_law_rows.proofs.Receiving.{mem_any}
 use Rattle.mq_law_seen.proofs.Bridges.{takes_from}
 use Rattle.mq_law_seen.proofs.Receipts.{rows_placed}
 use Rattle.mq_law_manager.specs.Facts.{Differ}
-use Rattle.mq_law_manager.specs.View.{view}
 use Rattle.mq_law_manager.proofs.SeenLaws.{mapped_one}
-use Rattle.mq_law_events.specs.Local.{Side, Sheet, Leads, side_of, sheet_of}
-use Rattle.mq_law_events.specs.Tied.{connections_told, IsTold, IsFresh, IsSame, IsElse, Follow}
-use Rattle.mq_law_events.proofs.Locals.{with_items, without, left_by, got_by, held_row, row_goes_leads, row_held_leads, behind, stays_leads}
-use Rattle.mq_law_events.proofs.Telling.{here_changed, else_places, else_none, else_then, else_users, unit_changes}
+use Rattle.mq_law_events.specs.Local.{Side, Leads, side_of, sheet_of}
+use Rattle.mq_law_events.specs.Tied.{connections_told, IsTold, IsFresh, IsElse, Follow}
+use Rattle.mq_law_events.proofs.Locals.{with_items, without, left_by, row_goes_leads, row_held_leads, behind, stays_leads}
+use Rattle.mq_law_events.proofs.Telling.{left_shelved, here_changed, else_places, else_none, else_then, else_users, unit_changes}
 use Rattle.mq_law_events.proofs.Putting.{rows_after, IsBeside, leads_to, pended, pend_told, users_stay, same_users}
 
 -- The ledger's taking
@@ -65,7 +63,7 @@ pub take_told : (t : Bool) (m : ℕ) (i : Ident) (p : Plain) (l : Ledger) → Is
 take_told false m i p l t = t
 take_told true m i p l t =
     let f : ManagerPlaces → ManagerPlaces = λ p. record p { queues = leave_queues (λ (row : Row). not (same_ident row.message.ident i)) p.queues } in
-    record { places = f t.places; placed = here_changed m f l.places t.places t.placed; name = t.name; definitions = t.definitions; users = t.users; used = t.used; connections = t.connections }
+    record { places = f t.places; placed = here_changed m f l.places t.places t.placed; shelved = left_shelved (λ (row : Row). not (same_ident row.message.ident i)) t.places.queues t.shelved; name = t.name; definitions = t.definitions; users = t.users; used = t.used; connections = t.connections }
 
 pub take_else : (t : Bool) (m : ℕ) (i : Ident) (l : Ledger) → IsElse m l (take_if t m i l)
 take_else false m i l = else_none m l
@@ -78,6 +76,7 @@ pub told_beside : (m : ℕ) (p r : Plain) (l : Ledger) → IsBeside p r → IsTo
 told_beside m p r l b t = record {
   places = t.places;
   placed = t.placed;
+  shelved = t.shelved;
   name = t.name ∙ ap (λ (g : Given). g.name) (sym b.given);
   definitions = t.definitions ∙ sym b.definitions;
   users = t.users;
@@ -199,7 +198,7 @@ got_follows m given p l q x f t n free =
           (λ z. record { rows = λ d. sym (taken_rows m i d j) z; gone = k.gone; got = sym (taken_got b m i j) z });
       fresh = f;
       known = λ i e. refl;
-      told = take_told b m i r j (record { places = t.places; placed = t.placed; name = t.name; definitions = t.definitions; users = t.users; used = t.used; connections = t.connections });
+      told = take_told b m i r j (record { places = t.places; placed = t.placed; shelved = t.shelved; name = t.name; definitions = t.definitions; users = t.users; used = t.used; connections = t.connections });
       same = record { given = refl; senders = refl; receivers = refl; batches = refl };
       steady = refl;
       other = (let e = take_else b m i j in record { places = e.places; users = e.users });

@@ -1,19 +1,25 @@
 -- What the ledger tells of connections, and how its lists change.
-use Rattle.std.proofs.Common.{ℕ, zero, suc, ◌≡◌, Bool, true, false, not, List, [], ◌∷◌, ◌++◌, refl, ap, sym, subst, ◌∙◌, map}
+use Rattle.std.proofs.Common.{ℕ, ◌≡◌, ◌⊎◌, inl, inr, Bool, false, not, List, [], ◌∷◌, ◌++◌, refl, ap, sym, ◌∙◌, map}
 use Rattle.std.specs.Prelude.{Option, Some, None, ◌==◌, if◌then◌else◌, slice_get, filter}
 use Rattle.mq_calls.specs.declared.state.Connection.{Connection}
 use Rattle.mq_calls.specs.declared.state.Handle.{Handle}
 use Rattle.mq_calls.specs.declared.state.Item.{Item}
 use Rattle.mq_calls.specs.declared.state.Item.TheVariants.{Put, Take}
 use Rattle.mq_history.specs.declared.story.ManagerPlaces.{ManagerPlaces}
+use Rattle.std.specs.Str.{bytes_eq}
+use Rattle.mq_message.specs.declared.message.Message.{Message}
+use Rattle.mq_queue.specs.declared.row.Row.{Row}
+use Rattle.mq_queue.specs.Rows.{keep}
+use Rattle.mq_calls.specs.declared.image.Shelf.{Shelf}
+use Rattle.mq_spec_network.specs.Story.{Mem}
 use Rattle.mq_spec_state.specs.Reads.{connection_at, handle_at}
 use Rattle.mq_spec_state.specs.Changes.{change_connection}
-use Rattle.mq_spec_network.specs.Ledger.{Ledger, Users, change_at, with_places, with_users, unit_of}
+use Rattle.mq_spec_network.specs.Ledger.{Ledger, Users, change_at, with_places, with_users, unit_of, put_in, put_on, leave_queues}
 use Rattle.mq_law_rows.specs.World.{items_told}
-use Rattle.mq_law_rows.proofs.Lists.{bool_case, eqb_self, eqb_yes}
+use Rattle.mq_law_rows.proofs.Lists.{bool_case, is_false, true_false, eqb_self, eqb_yes, name_yes, name_self, map_mem}
 use Rattle.mq_law_seen.proofs.Bridges.{mapped_if, get_changed}
 use Rattle.mq_law_manager.proofs.SeenLaws.{mapped_one, connection_changed}
-use Rattle.mq_law_events.specs.Tied.{handle_told, connection_told, connections_told, IsTold, IsElse}
+use Rattle.mq_law_events.specs.Tied.{handle_told, connection_told, connections_told, AreShelved, IsElse}
 use Rattle.mq_law_events.proofs.Locals.{with_items}
 
 -- Connections as they are told
@@ -119,3 +125,25 @@ else_none m l = record { places = λ a e. refl; users = λ a e. refl }
 
 pub else_then : (m : ℕ) (l k j : Ledger) → IsElse m l k → IsElse m k j → IsElse m l j
 else_then m l k j x y = record { places = λ a e. y.places a e ∙ x.places a e; users = λ a e. y.users a e ∙ x.users a e }
+
+-- No list stands twice
+
+mem_shelf : (name : List ℕ) (lane : ℕ) (m : Message) (qs : List Shelf) (y : Shelf) → Mem y (put_in name lane m qs) → (y.name ≡ name) ⊎ ((s : Shelf) × Mem s qs × (y.name ≡ s.name))
+mem_shelf name lane m [] y (inl e) = inl (ap (λ (z : Shelf). z.name) e)
+mem_shelf name lane m [] y (inr n) = absurd n
+mem_shelf name lane m (q ∷ qs) y n = bool_case (bytes_eq name q.name) (λ t. Mem y (if t then put_on lane m q ∷ qs else q ∷ put_in name lane m qs) → (y.name ≡ name) ⊎ ((s : Shelf) × Mem s (q ∷ qs) × (y.name ≡ s.name)))
+    (λ z k. elim k [ inl e ↦ inr (q, inl refl, ap (λ (z : Shelf). z.name) e) | inr k ↦ inr (y, inr k, refl) ])
+    (λ z k. elim k [ inl e ↦ inr (q, inl refl, ap (λ (z : Shelf). z.name) e) | inr k ↦ elim (mem_shelf name lane m qs y k) [ inl e ↦ inl e | inr r ↦ inr (r.0, inr r.1, r.2) ] ]) n
+
+names_apart : (a b : List ℕ) → bytes_eq a b ≡ false → bytes_eq b a ≡ false
+names_apart a b e = is_false (bytes_eq b a) (λ t. true_false (sym (ap (λ z. bytes_eq z b) (sym (name_yes b a t)) ∙ name_self b) ∙ e))
+
+pub put_shelved : (name : List ℕ) (lane : ℕ) (m : Message) (qs : List Shelf) → AreShelved qs → AreShelved (put_in name lane m qs)
+put_shelved name lane m [] s = (λ y n. absurd n, tt)
+put_shelved name lane m (q ∷ qs) s = bool_case (bytes_eq name q.name) (λ t. bytes_eq name q.name ≡ t → AreShelved (if t then put_on lane m q ∷ qs else q ∷ put_in name lane m qs))
+    (λ z w. (s.0, s.1))
+    (λ z w. ((λ y n. elim (mem_shelf name lane m qs y n) [ inl e ↦ ap (bytes_eq q.name) e ∙ names_apart name q.name w | inr r ↦ ap (bytes_eq q.name) r.2 ∙ s.0 r.0 r.1 ]), put_shelved name lane m qs s.1)) refl
+
+pub left_shelved : (stays : Row → Bool) (qs : List Shelf) → AreShelved qs → AreShelved (leave_queues stays qs)
+left_shelved stays [] s = tt
+left_shelved stays (q ∷ qs) s = ((λ y n. let r = map_mem (λ (q : Shelf). record q { rows = keep stays q.rows }) y qs n in ap (λ (z : Shelf). bytes_eq q.name z.name) r.2 ∙ s.0 r.0 r.1), left_shelved stays qs s.1)

@@ -4,7 +4,7 @@ use Rattle.std.specs.Str.{bytes_eq}
 use Rattle.mq_message.specs.declared.message.Ident.{Ident}
 use Rattle.mq_calls.specs.declared.deltas.Did.{Did}
 use Rattle.mq_spec_state.specs.State.{Plain}
-use Rattle.mq_spec_state.specs.Steps.{Step, Part, do_all, delta_of, delta_before, stopped_at, IsWrite}
+use Rattle.mq_spec_state.specs.Steps.{Step, do_all, delta_of, delta_before, stopped_at, IsWrite}
 use Rattle.mq_spec_state.specs.Steps.Step.{Refuse, Do}
 use Rattle.mq_message.specs.declared.place.Holder.TheVariants as holders
 use Rattle.mq_queue.specs.declared.row.Row.{Row}
@@ -18,8 +18,7 @@ use Rattle.mq_calls.specs.declared.state.Item.TheVariants.{Put, Take}
 use Rattle.mq_history.specs.declared.calls.Reply.TheVariants as replies
 use Rattle.mq_spec_state.specs.Reads.{stored, connection_at}
 use Rattle.mq_spec_network.specs.Ledger.{Ledger, Users, take_all_gone, lose, got_ident, get_by, unit_of}
-use Rattle.mq_calls.specs.declared.image.Shelf.{Shelf}
-use Rattle.mq_spec_network.specs.Story.{Mem, Chain}
+use Rattle.mq_spec_network.specs.Story.{Mem}
 use Rattle.mq_law_events.specs.Tied.{Follow}
 
 -- The call runs: the manager does its parts, and the ledger posts it by its reply and its delta.
@@ -52,7 +51,3 @@ IsListed n p = (d : List ℕ) (x : Row) → Mem x (stored d p).rows → x.by ≡
 abbrev pub post_get : ℕ → Hconn → Get → GetAnswer → List Did → Ledger → Ledger
 post_get m hc get (Done answer) ds k = get_by get m hc (got_ident (replies.Got answer) ds) k
 post_get m hc get NotYet ds k = k
-
--- no name stands twice among the ledger's lists of a manager
-abbrev pub AreShelved : List Shelf → Type 0
-AreShelved qs = Chain (λ (x y : Shelf). bytes_eq x.name y.name ≡ false) qs

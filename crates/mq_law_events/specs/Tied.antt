@@ -1,6 +1,9 @@
 -- What the ledger tells of a manager beside its rows, and what a change of a manager and what is posted of it leave.
 use Rattle.std.specs.Prelude.{ℕ, ◌≡◌, ◌==◌, Bool, true, false, List, None, Some, map, slice_get}
 use Rattle.mq_message.specs.declared.message.Ident.{Ident}
+use Rattle.std.specs.Str.{bytes_eq}
+use Rattle.mq_base.specs.Members.{Chain}
+use Rattle.mq_calls.specs.declared.image.Shelf.{Shelf}
 use Rattle.mq_calls.specs.declared.state.Connection.{Connection}
 use Rattle.mq_calls.specs.declared.state.Handle.{Handle}
 use Rattle.mq_history.specs.declared.story.ManagerPlaces.{ManagerPlaces}
@@ -20,12 +23,17 @@ connection_told c = record { number = c.number; appl = c.appl; handles = map han
 abbrev pub connections_told : List Connection → List Connection
 connections_told cs = map connection_told cs
 
--- the ledger has the manager's name, definitions and connections
+-- no name stands twice among the ledger's lists of a manager
+abbrev pub AreShelved : List Shelf → Type 0
+AreShelved qs = Chain (λ (x y : Shelf). bytes_eq x.name y.name ≡ false) qs
+
+-- the ledger has the manager's name, definitions and connections, and no list twice
 pub record IsTold (m : ℕ) (p : Plain) (l : Ledger) : Type 0 where
   pub places : ManagerPlaces
   pub placed : slice_get l.places m ≡ Some places
   pub name : places.name ≡ p.given.name
   pub definitions : places.definitions ≡ p.definitions
+  pub shelved : AreShelved places.queues
   pub users : Users
   pub used : slice_get l.users m ≡ Some users
   pub connections : users.connections ≡ connections_told p.connections

@@ -56,7 +56,7 @@ ghost use Rattle.mq_law_manager.specs.Facts.{AreDefined, IsSound};
 ghost use Rattle.mq_law_events.specs.Local.{Moved};
 ghost use Rattle.mq_law_events.specs.Rests.{back_out_all, book_out_all, rested};
 ghost use Rattle.mq_law_events.specs.Tied.{Follow, IsFresh, IsNext, IsTold};
-ghost use Rattle.mq_law_events.specs.Posting.{AreShelved, IsListed, IsTimed, StepFollows, StopFollows, post_get};
+ghost use Rattle.mq_law_events.specs.Posting.{IsListed, IsTimed, StepFollows, StopFollows, post_get};
 
 /// Where all units of a manager are backed out at once, the facts are kept.
 pub fn a_stop_of_units_keeps_the_facts()
@@ -101,8 +101,7 @@ pub fn stopped_calls_follow()
     ensures commands { (m : ℕ) (given : Ident → Bool) (p : Plain) (l : Ledger) (c : Command) → IsFresh given p → IsTold m p l → StopFollows m given p l (command c p) }
 {}
 
-/// So do a trigger turn that serves a queue, the removal of the rows of an ident, each of them free, and the move of a free row
-/// by a rule, where the ledger has no list twice.
+/// So do a trigger turn that serves a queue, the removal of the rows of an ident, each of them free, and the move of a free row by a rule.
 pub fn turns_follow()
     ensures triggers { (m : ℕ) (given : Ident → Bool) (p : Plain) (l : Ledger) (q : LocalQueue) → IsFresh given p → IsTold m p l → IsTimed m p l
         → Follow m given p l (do_part (serve_by q (process_of q.process p.definitions) (local_of q.initiation_queue p.definitions) p) p)
@@ -110,7 +109,7 @@ pub fn turns_follow()
     ensures discards { (m : ℕ) (given : Ident → Bool) (p : Plain) (l : Ledger) (q : List ℕ) (i : Ident) → IsFresh given p → IsTold m p l → IsSound p
         → ((x : Row) → Mem x (stored q p).rows → x.message.ident ≡ i → x.by ≡ None)
         → StepFollows m given p l (λ reply ds k. k) (discard q i p) }
-    ensures moves { (m : ℕ) (given : Ident → Bool) (p : Plain) (l : Ledger) (from : List ℕ) (x : Row) (to : Dest) (bare : Bool) (route : Route) → IsFresh given p → IsTold m p l → AreShelved (ledgers.places_at m l).queues
+    ensures moves { (m : ℕ) (given : Ident → Bool) (p : Plain) (l : Ledger) (from : List ℕ) (x : Row) (to : Dest) (bare : Bool) (route : Route) → IsFresh given p → IsTold m p l
         → Mem x (stored from p).rows → x.by ≡ None → resolve p.definitions p.given.name to.queue to.qmgr ≡ Ok route
         → Follow m given p l (do_part (record { forced = None; changes = Leave (Among from ((landing route (bare_if bare x.message)).message.ident ∷ [])) ∷ placed (queue_at route.end) (landing route (bare_if bare x.message)).message; delta = [] }) p)
         (ledgers.move_row m to bare (ledgers.row_in x.message.ident (ledgers.places_at m l).queues) l) }

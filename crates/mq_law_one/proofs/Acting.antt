@@ -1,7 +1,6 @@
 -- Commands, stops, restarts, cuts, clock advances and trigger turns of a manager without channels.
-use Rattle.std.proofs.Common.{ℕ, zero, suc, ◌≡◌, Bool, true, false, not, List, [], ◌∷◌, ◌++◌, refl, ap, sym, subst, ◌∙◌, inl, inr, map}
-use Rattle.std.specs.Prelude.{Option, Some, None, Result, Ok, Err, ◌==◌, ◌+◌, min, if◌then◌else◌, ◌&&◌, slice_get, nat_lt, filter}
-use Rattle.std.specs.Str.{bytes_eq}
+use Rattle.std.proofs.Common.{ℕ, ◌≡◌, Bool, true, false, not, List, [], ◌∷◌, refl, ap, sym, subst, ◌∙◌, inl, inr, map}
+use Rattle.std.specs.Prelude.{Option, Some, None, Result, Ok, Err, ◌+◌, min, if◌then◌else◌, slice_get, nat_lt, filter}
 use Rattle.mq_message.specs.declared.message.Ident.{Ident}
 use Rattle.mq_frame.specs.declared.frame.Seen.{Seen}
 use Rattle.mq_objects.specs.declared.object.Object.{Object}
@@ -9,13 +8,11 @@ use Rattle.mq_objects.specs.declared.object.Object.TheVariants as objects
 use Rattle.mq_objects.specs.declared.object.LocalQueue.{LocalQueue}
 use Rattle.mq_objects.specs.declared.object.Channel.{Channel}
 use Rattle.mq_objects.specs.declared.object.ChannelKind.TheVariants as kinds
-use Rattle.mq_objects.specs.declared.object.Definitions.{Definitions}
 use Rattle.mq_objects.specs.declared.command.Command.{Command}
 use Rattle.mq_objects.specs.declared.object.ChannelKind.{ChannelKind}
 use Rattle.mq_objects.specs.declared.object.Process.{Process}
 use Rattle.mq_codes.specs.declared.reason.Reason.{Reason}
-use Rattle.mq_objects.specs.Names.{Space, Queues, space_of, name_of, is_transmission, is_object, object_in, local_of, locals_of, locals_in, channel_of, as_local, queue_of, process_of}
-use Rattle.mq_sc_apply.specs.declared.answers.Planned.{Planned}
+use Rattle.mq_objects.specs.Names.{Queues, space_of, name_of, is_transmission, is_object, object_in, local_of, locals_of, locals_in, channel_of, as_local, process_of}
 use Rattle.mq_sc_apply.specs.declared.answers.Plan.{Plan}
 use Rattle.mq_sc_apply.specs.declared.answers.Plan.TheVariants as plans
 use Rattle.mq_sc_apply.specs.Commands.{plan}
@@ -23,13 +20,12 @@ use Rattle.mq_sc_parse.specs.declared.command.Command.TheVariants as lines
 use Rattle.mq_sc_parse.specs.declared.command.Op.{Op}
 use Rattle.mq_sc_parse.specs.declared.command.Op.TheVariants as ops
 use Rattle.mq_calls.specs.declared.choices.Choice.{Choice}
-use Rattle.mq_calls.specs.declared.choices.Choice.TheVariants.{Runs, NoMemory}
+use Rattle.mq_calls.specs.declared.choices.Choice.TheVariants.{NoMemory}
 use Rattle.mq_calls.specs.declared.choices.Return.{Return}
 use Rattle.mq_calls.specs.declared.choices.Return.TheVariants.{Comes, Fails}
 use Rattle.mq_calls.specs.declared.commands.Shown.{Shown}
 use Rattle.mq_calls.specs.declared.commands.ScRefusal.{ScRefusal}
 use Rattle.mq_calls.specs.declared.commands.ScRefusal.TheVariants as refusals
-use Rattle.mq_calls.specs.declared.commands.RestartFault.{RestartFault}
 use Rattle.mq_calls.specs.declared.commands.RestartFault.TheVariants as faults
 use Rattle.mq_calls.specs.declared.deltas.Did.{Did}
 use Rattle.mq_calls.specs.declared.records.LogRecord.{LogRecord}
@@ -48,19 +44,16 @@ use Rattle.mq_history.specs.declared.calls.Reply.{Reply}
 use Rattle.mq_history.specs.declared.calls.Reply.TheVariants as replies
 use Rattle.mq_spec_state.specs.State.{Plain, Given, Running, Noted, LogState}
 use Rattle.mq_spec_state.specs.State.Running.{Up, Down}
-use Rattle.mq_spec_state.specs.State.Change.{Release, Leave, ForgetAll}
-use Rattle.mq_spec_state.specs.State.Which.{HeldByUnits, Nonpersistent}
 use Rattle.mq_spec_state.specs.Reads.{is_up, stored}
-use Rattle.mq_spec_state.specs.Changes.{apply_all}
-use Rattle.mq_spec_state.specs.Steps.{delta_of, Step, Part, Test, when, refusal, tested, refused_or, logged, do_part}
+use Rattle.mq_spec_state.specs.Steps.{delta_of, Step, Part, when, refusal, tested, refused_or, logged, do_part}
 use Rattle.mq_spec_state.specs.Steps.Step.{Refuse, Do}
 use Rattle.mq_spec_manager.specs.Commands.{command, planned_step, object_part, uses_of}
-use Rattle.mq_spec_manager.specs.Stops.{at_rest, stop, stop_at, restart_at, restarted, grown, last_moment}
+use Rattle.mq_spec_manager.specs.Stops.{stop, stop_at, restart_at, restarted, grown, last_moment}
 use Rattle.mq_spec_manager.specs.Triggers.{Never, first_due, trigger_turn, trigger_at, serve, serve_by, serve_into, put_trigger, takes_it}
 use Rattle.mq_history.specs.declared.calls.Actor.TheVariants as actors
-use Rattle.mq_spec_node.specs.Node.{Node, Own, ChannelEnd, Handler, sender_named, receiver_named, as_sender, as_receiver, end_in, handler_in}
-use Rattle.mq_spec_node.specs.Deeds.{Deed, told, parts_of, CanCome, end_at_rest, end_begun, untried, begun_anew}
-use Rattle.mq_spec_node.specs.Happens.{turn_up, timeout_by, sender_turn, receiver_turn, handler_turn, timeout_of, event, IsEvent, IsDeed, IsReturn, RunsAlone, crashed, done_or, remembering, command_deed, where_up, trigger_deed, trigger_deed_of}
+use Rattle.mq_spec_node.specs.Node.{Node, Own, Handler, sender_named, as_sender, as_receiver, end_in}
+use Rattle.mq_spec_node.specs.Deeds.{Deed, told, parts_of, CanCome, end_at_rest, end_begun, begun_anew}
+use Rattle.mq_spec_node.specs.Happens.{turn_up, timeout_by, sender_turn, receiver_turn, timeout_of, IsDeed, IsReturn, RunsAlone, crashed, done_or, remembering, command_deed, where_up, trigger_deed, trigger_deed_of}
 use Rattle.mq_spec_node.specs.Happens.{restarted as node_restarted}
 use Rattle.mq_spec_node.specs.Operators as operators
 use Rattle.mq_spec_node.specs.Status.{show_status, shown, status_line, is_asked}
@@ -68,13 +61,13 @@ use Rattle.mq_spec_node.specs.Replays.{IsOwn}
 use Rattle.mq_spec_network.specs.Ledger as ledgers
 use Rattle.mq_spec_network.specs.Ledger.{Ledger, Users, posted, take_all_gone}
 use Rattle.mq_spec_network.specs.Story.{Mem}
-use Rattle.mq_law_rows.proofs.Lists.{bool_case, is_false, true_false, name_self}
-use Rattle.mq_law_manager.specs.Facts.{AreOnce, IsSound, IsFrozen, IsStocked}
+use Rattle.mq_law_rows.proofs.Lists.{bool_case, name_self}
+use Rattle.mq_law_manager.specs.Facts.{AreOnce, IsSound, IsFrozen}
 use Rattle.mq_law_manager.proofs.Commanding.{command_keeps}
 use Rattle.mq_law_manager.proofs.StockCommands.{command_stocked}
 use Rattle.mq_law_manager.proofs.Ending.{joined, sound_still, stop_sound, restart_sound}
 use Rattle.mq_law_events.specs.Tied.{IsTold, IsFresh, Follow}
-use Rattle.mq_law_events.specs.Posting.{StepFollows, StopFollows, IsTimed}
+use Rattle.mq_law_events.specs.Posting.{StepFollows, IsTimed}
 use Rattle.mq_law_events.proofs.Telling.{here_changed, else_users, else_then}
 use Rattle.mq_law_events.proofs.Locals.{stays_leads}
 use Rattle.mq_law_events.specs.Local.{side_of, sheet_of}
@@ -88,9 +81,9 @@ use Rattle.mq_law_manager.proofs.Handling.{trigger_turn_keeps}
 use Rattle.mq_law_manager.proofs.Stocks.{trigger_stocked}
 use Rattle.mq_law_events.proofs.Sounds.{restart_fresh}
 use Rattle.mq_law_events.proofs.Stopping.{stops_so, stop_follows, restart_follows}
-use Rattle.mq_law_events.proofs.Calling.{objects_follow, shown_follow, calm_follows, calm_none}
+use Rattle.mq_law_events.proofs.Calling.{objects_follow, shown_follow}
 use Rattle.mq_law_one.specs.Alone.{IsState, IsAt, Became, FindsNone}
-use Rattle.mq_law_one.proofs.Happening.{Deeded, deed_of_parts, entry_of, became, nothing, quiet_happens, step_happens, Fits, fits_by, state_up, state_down}
+use Rattle.mq_law_one.proofs.Happening.{Deeded, deed_of_parts, entry_of, became, nothing, quiet_happens, step_happens, Fits, fits_by}
 use Rattle.mq_law_one.proofs.Calls.{Happens}
 
 -- Commands on objects
@@ -173,10 +166,10 @@ status_happens m given n l e actor choice name any_end a can =
 -- A manager beside its moment, its log and whether it runs
 
 same_sound : (p : Plain) (r : Running) (t : ℕ) (g : LogState) → IsSound p → IsSound (record p { running = r; moment = t; log = g })
-same_sound p r t g h = record { facts = h.facts; named = h.named; stocked = record { once = h.stocked.once; placed = h.stocked.placed; rows = h.stocked.rows; puts = h.stocked.puts } }
+same_sound p r t g h = record { facts = h.facts; named = h.named; stocked = record { once = h.stocked.once; placed = h.stocked.placed; rows = h.stocked.rows; puts = h.stocked.puts; routed = h.stocked.routed } }
 
 same_frozen : (p : Plain) (r : Running) (t : ℕ) (g : LogState) → IsFrozen p → IsFrozen (record p { running = r; moment = t; log = g })
-same_frozen p r t g h = record { still = h.still; named = h.named; stocked = record { once = h.stocked.once; placed = h.stocked.placed; rows = h.stocked.rows; puts = h.stocked.puts } }
+same_frozen p r t g h = record { still = h.still; named = h.named; stocked = record { once = h.stocked.once; placed = h.stocked.placed; rows = h.stocked.rows; puts = h.stocked.puts; routed = h.stocked.routed } }
 
 same_state : (r s : Running) (p : Plain) (t : ℕ) (g : LogState) → is_up r ≡ is_up s → IsState r p → IsState s (record p { running = s; moment = t; log = g })
 same_state Up Up p t g e h = same_sound p Up t g h
@@ -185,9 +178,9 @@ same_state Up (Down z w) p t g e h = absurd cc
 same_state (Down x y) Up p t g e h = absurd cc
 
 -- it runs or not, with another log: nothing is posted
-pub aside_happens : (m : ℕ) (given : Ident → Bool) (n : Node) (l : Ledger) (own : Own) (s : Running) (g : LogState) → IsAt m given n l → own.ends ≡ [] → own.handlers ≡ [] → is_up n.manager.running ≡ is_up s
+pub aside_happens : (m : ℕ) (given : Ident → Bool) (n : Node) (l : Ledger) (own : Own) (s : Running) (g : LogState) → IsAt m given n l → own.ends ≡ [] → is_up n.manager.running ≡ is_up s
     → Became m given n l (record { manager = record n.manager { running = s; log = g }; own = own }) l
-aside_happens m given n l own s g a e h up =
+aside_happens m given n l own s g a e up =
     let p : Plain = n.manager in
     record {
       now = given;
@@ -196,11 +189,10 @@ aside_happens m given n l own s g a e h up =
       same = record { given = refl; senders = refl; receivers = refl; batches = refl };
       other = record { places = λ b z. refl; users = λ b z. refl };
       at = record {
-        told = record { places = a.told.places; placed = a.told.placed; name = a.told.name; definitions = a.told.definitions; users = a.told.users; used = a.told.used; connections = a.told.connections };
+        told = record { places = a.told.places; placed = a.told.placed; shelved = a.told.shelved; name = a.told.name; definitions = a.told.definitions; users = a.told.users; used = a.told.used; connections = a.told.connections };
         fresh = a.fresh;
         number = a.number;
         ends = e;
-        handlers = h;
         batches = a.batches;
         timed = record { users = a.timed.users; used = a.timed.used; moment = a.timed.moment };
         state = same_state p.running s p p.moment g up a.state;
@@ -219,11 +211,10 @@ clock_happens m given n l by_ a =
       same = record { given = refl; senders = refl; receivers = refl; batches = refl };
       other = else_users m f l;
       at = record {
-        told = record { places = a.told.places; placed = a.told.placed; name = a.told.name; definitions = a.told.definitions; users = f a.told.users; used = here_changed m f l.users a.told.users a.told.used; connections = a.told.connections };
+        told = record { places = a.told.places; placed = a.told.placed; shelved = a.told.shelved; name = a.told.name; definitions = a.told.definitions; users = f a.told.users; used = here_changed m f l.users a.told.users a.told.used; connections = a.told.connections };
         fresh = a.fresh;
         number = a.number;
         ends = a.ends;
-        handlers = a.handlers;
         batches = a.batches;
         timed = record { users = f a.timed.users; used = here_changed m f l.users a.timed.users a.timed.used; moment = ap (λ t. min (t + by_) last_moment) a.timed.moment };
         state = same_state p.running p.running p (min (p.moment + by_) last_moment) p.log refl a.state;
@@ -238,9 +229,9 @@ crash_as m given n l e choice a Up z =
     let sound : IsSound p = subst (λ r. IsState r p) z a.state in
     became m given n l (crashed (stop_at Up p) n).next (ledgers.stop m l) a
     (subst (λ (q : Plain). Follow m given p l (record q { running = Down None 0 }) (ledgers.stop m l)) (sym (stops_so p a.batches)) (stop_follows m given p l (Down None 0) a.fresh a.told a.batches))
-    (ap (map end_at_rest) a.ends) (ap (map (λ (h : Handler). record h { tried = [] })) a.handlers)
+    (ap (map end_at_rest) a.ends)
     (sound_still _ (subst (λ r. IsSound (stop_at r p).next) z (stop_sound p sound)))
-crash_as m given n l e choice a (Down noted starts) z = nothing m given n l n.own a a.ends a.handlers
+crash_as m given n l e choice a (Down noted starts) z = nothing m given n l n.own a a.ends
 
 pub crash_happens : (m : ℕ) (given : Ident → Bool) (n : Node) (l : Ledger) (e : Entry) (stamp : ℕ) (actor : Actor) (chance : Chance) (seen : Seen) → IsAt m given n l → RunsAlone chance → Happens m given n l e stamp actor (calls.Act acts.Crash) chance seen
 crash_happens m given n l e stamp actor (chances.Restart choice) seen a can = absurd can
@@ -257,7 +248,7 @@ comes_up m given n l noted starts started a z =
     let p : Plain = n.manager in
     let l0 : Ledger = ledgers.with_users m clear l in
     let used : slice_get l0.users m ≡ Some (clear a.told.users) = here_changed m clear l.users a.told.users a.told.used in
-    let t0 : IsTold m p l0 = record { places = a.told.places; placed = a.told.placed; name = a.told.name; definitions = a.told.definitions; users = clear a.told.users; used = used; connections = a.told.connections } in
+    let t0 : IsTold m p l0 = record { places = a.told.places; placed = a.told.placed; shelved = a.told.shelved; name = a.told.name; definitions = a.told.definitions; users = clear a.told.users; used = used; connections = a.told.connections } in
     let f = restart_follows m given p l0 started (grown started p) t0 a.batches (restart_fresh given p started (grown started p) a.fresh) in
     let frozen : IsFrozen p = subst (λ r. IsState r p) z a.state in
     let kept = f.kept (clear a.told.users) f.told.users used f.told.used in
@@ -272,7 +263,6 @@ comes_up m given n l noted starts started a z =
         fresh = f.fresh;
         number = ap (λ (g : Given). g.number) f.same.given ∙ a.number;
         ends = ap (map (end_begun (restarted false started noted p))) a.ends;
-        handlers = ap (map (λ (h : Handler). record h { tried = [] })) a.handlers;
         batches = f.same.batches ∙ a.batches;
         timed = record { users = f.told.users; used = f.told.used; moment = kept.moment ∙ told_moment m p l a.told a.timed ∙ sym f.steady };
         state = restart_sound started noted p frozen;
@@ -284,17 +274,17 @@ comes_up m given n l noted starts started a z =
 
 restart_as : (m : ℕ) (given : Ident → Bool) (n : Node) (l : Ledger) (e : Entry) → IsAt m given n l → (r : Running) → n.manager.running ≡ r → (choice : Return) → IsReturn (chances.Restart choice) r n.manager → FindsNone (chances.Restart choice)
     → Became m given n l (node_restarted (restart_at r choice n.manager) n).next (posted m (entry_of e (calls.Act acts.Restart) (chances.Restart choice) (node_restarted (restart_at r choice n.manager) n).reply (node_restarted (restart_at r choice n.manager) n).delta (node_restarted (restart_at r choice n.manager) n).received) (node_restarted (restart_at r choice n.manager) n).reply l)
-restart_as m given n l e a Up z choice can none = nothing m given n l n.own a a.ends a.handlers
+restart_as m given n l e a Up z choice can none = nothing m given n l n.own a a.ends
 restart_as m given n l e a (Down noted starts) z (Comes true started) can none = absurd none
 restart_as m given n l e a (Down noted starts) z (Comes false started) can none = comes_up m given n l noted starts started a z
 restart_as m given n l e a (Down noted starts) z (Fails faults.Up in_write left) can none = absurd can.0
 restart_as m given n l e a (Down noted starts) z (Fails faults.NoMemory in_write left) can none = absurd can.1
-restart_as m given n l e a (Down noted starts) z (Fails faults.Disk true left) can none = aside_happens m given n l n.own (Down noted (starts + 1)) (record n.manager.log { armed = left }) a a.ends a.handlers (ap is_up z)
-restart_as m given n l e a (Down noted starts) z (Fails faults.Disk false left) can none = aside_happens m given n l n.own n.manager.running (record n.manager.log { armed = left }) a a.ends a.handlers refl
-restart_as m given n l e a (Down noted starts) z (Fails faults.Cut true left) can none = aside_happens m given n l n.own (Down noted (starts + 1)) (record n.manager.log { armed = left }) a a.ends a.handlers (ap is_up z)
-restart_as m given n l e a (Down noted starts) z (Fails faults.Cut false left) can none = aside_happens m given n l n.own n.manager.running (record n.manager.log { armed = left }) a a.ends a.handlers refl
+restart_as m given n l e a (Down noted starts) z (Fails faults.Disk true left) can none = aside_happens m given n l n.own (Down noted (starts + 1)) (record n.manager.log { armed = left }) a a.ends (ap is_up z)
+restart_as m given n l e a (Down noted starts) z (Fails faults.Disk false left) can none = aside_happens m given n l n.own n.manager.running (record n.manager.log { armed = left }) a a.ends refl
+restart_as m given n l e a (Down noted starts) z (Fails faults.Cut true left) can none = aside_happens m given n l n.own (Down noted (starts + 1)) (record n.manager.log { armed = left }) a a.ends (ap is_up z)
+restart_as m given n l e a (Down noted starts) z (Fails faults.Cut false left) can none = aside_happens m given n l n.own n.manager.running (record n.manager.log { armed = left }) a a.ends refl
 restart_as m given n l e a (Down noted starts) z (Fails (faults.BadLog place) true left) can none = absurd can.0
-restart_as m given n l e a (Down noted starts) z (Fails (faults.BadLog place) false left) can none = aside_happens m given n l n.own n.manager.running (record n.manager.log { armed = left }) a a.ends a.handlers refl
+restart_as m given n l e a (Down noted starts) z (Fails (faults.BadLog place) false left) can none = aside_happens m given n l n.own n.manager.running (record n.manager.log { armed = left }) a a.ends refl
 
 pub restart_happens : (m : ℕ) (given : Ident → Bool) (n : Node) (l : Ledger) (e : Entry) (stamp : ℕ) (actor : Actor) (chance : Chance) (seen : Seen) → IsAt m given n l → IsReturn chance n.manager.running n.manager → IsOwn chance → FindsNone chance
     → Happens m given n l e stamp actor (calls.Act acts.Restart) chance seen
@@ -385,10 +375,10 @@ pub no_deed : (r : Running) (d : Option Deed) (chance : Chance) (n : Node) → d
 no_deed Up d chance n e can = subst (λ x. IsDeed x chance n) e can
 no_deed (Down noted starts) d chance n e can = can
 
-pub turn_none : (stamp : ℕ) (actor : Actor) (seen : Seen) (n : Node) → n.own.ends ≡ [] → n.own.handlers ≡ [] → turn_up stamp actor seen n ≡ None
+pub turn_none : (stamp : ℕ) (actor : Actor) (seen : Seen) (n : Node) → n.own.ends ≡ [] → ((number : ℕ) → actor ≡ actors.Handler number → ⊥) → turn_up stamp actor seen n ≡ None
 turn_none stamp (actors.Sender cable) seen n e h = ap (λ es. sender_turn stamp (as_sender (end_in cable es)) seen n) e
 turn_none stamp (actors.Receiver cable) seen n e h = ap (λ es. receiver_turn stamp (as_receiver (end_in cable es)) seen n) e
-turn_none stamp (actors.Handler number) seen n e h = ap (λ hs. handler_turn (handler_in number hs) n) h
+turn_none stamp (actors.Handler number) seen n e h = absurd (h number refl)
 turn_none stamp (actors.Script k) seen n e h = refl
 turn_none stamp (actors.Monitor k) seen n e h = refl
 turn_none stamp actors.Operator seen n e h = refl

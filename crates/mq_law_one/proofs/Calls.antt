@@ -1,27 +1,11 @@
 -- Each call of an application, each command, and each turn of a manager without channels: what it leaves, and what is posted.
-use Rattle.std.proofs.Common.{ℕ, zero, suc, ◌≡◌, Bool, true, false, not, List, [], ◌∷◌, ◌++◌, refl, ap, sym, subst, ◌∙◌, inl, inr, map}
-use Rattle.std.specs.Prelude.{Option, Some, None, Result, Ok, Err, ◌==◌, ◌+◌, min, if◌then◌else◌, ◌&&◌, slice_get, nat_lt, filter}
-use Rattle.std.specs.Str.{bytes_eq}
+use Rattle.std.proofs.Common.{ℕ, ◌≡◌, Bool, true, false, not, List, [], ◌∷◌, refl, ap, sym}
+use Rattle.std.specs.Prelude.{Option, Some, None, Result, Ok}
 use Rattle.mq_message.specs.declared.message.Ident.{Ident}
 use Rattle.mq_message.specs.declared.message.Md.{Md}
-use Rattle.mq_message.specs.declared.message.Message.{Message}
 use Rattle.mq_codes.specs.declared.reason.Reason.{Reason}
 use Rattle.mq_codes.specs.declared.reason.Reason.TheVariants as reasons
 use Rattle.mq_frame.specs.declared.frame.Seen.{Seen}
-use Rattle.mq_objects.specs.declared.object.Definitions.{Definitions}
-use Rattle.mq_objects.specs.declared.object.Channel.{Channel}
-use Rattle.mq_objects.specs.declared.object.ChannelKind.{ChannelKind}
-use Rattle.mq_objects.specs.declared.object.ChannelKind.TheVariants as kinds
-use Rattle.mq_objects.specs.declared.command.Command.{Command}
-use Rattle.mq_objects.specs.declared.command.Command.TheVariants as object_commands
-use Rattle.mq_objects.specs.Names.{channel_of}
-use Rattle.mq_sc_apply.specs.declared.answers.Planned.{Planned}
-use Rattle.mq_sc_apply.specs.declared.answers.Plan.{Plan}
-use Rattle.mq_sc_apply.specs.declared.answers.Plan.TheVariants as plans
-use Rattle.mq_sc_apply.specs.Commands.{plan, to_change}
-use Rattle.mq_sc_apply.specs.Uses.{Uses}
-use Rattle.mq_sc_parse.specs.declared.command.Command.TheVariants as lines
-use Rattle.mq_calls.specs.declared.answers.Answer.{Answer}
 use Rattle.mq_calls.specs.declared.answers.Answer.TheVariants as answers
 use Rattle.mq_calls.specs.declared.answers.Appl.{Appl}
 use Rattle.mq_calls.specs.declared.answers.Get.{Get}
@@ -31,18 +15,9 @@ use Rattle.mq_calls.specs.declared.answers.GetAnswer.TheVariants as get_answers
 use Rattle.mq_calls.specs.declared.answers.Hconn.{Hconn}
 use Rattle.mq_calls.specs.declared.answers.Hobj.{Hobj}
 use Rattle.mq_calls.specs.declared.answers.Open.{Open}
-use Rattle.mq_calls.specs.declared.answers.Sent.{Sent}
 use Rattle.mq_calls.specs.declared.choices.Choice.{Choice}
-use Rattle.mq_calls.specs.declared.choices.Choice.TheVariants.{Runs, NoMemory}
-use Rattle.mq_calls.specs.declared.commands.Shown.{Shown}
-use Rattle.mq_calls.specs.declared.commands.ScRefusal.{ScRefusal}
-use Rattle.mq_calls.specs.declared.commands.ScRefusal.TheVariants as refusals
-use Rattle.mq_calls.specs.declared.deltas.Did.{Did}
-use Rattle.mq_calls.specs.declared.records.LogRecord.{LogRecord}
-use Rattle.mq_calls.specs.declared.records.LogRecord.TheVariants as records
+use Rattle.mq_calls.specs.declared.choices.Choice.TheVariants.{NoMemory}
 use Rattle.mq_calls.specs.declared.state.Connection.{Connection}
-use Rattle.mq_history.specs.declared.acts.Acted.TheVariants as acted
-use Rattle.mq_history.specs.declared.acts.Act.TheVariants as acts
 use Rattle.mq_history.specs.declared.calls.Actor.{Actor}
 use Rattle.mq_history.specs.declared.calls.Call.{Call}
 use Rattle.mq_history.specs.declared.calls.Call.TheVariants as calls
@@ -51,45 +26,33 @@ use Rattle.mq_history.specs.declared.calls.Chance.TheVariants as chances
 use Rattle.mq_history.specs.declared.calls.Entry.{Entry}
 use Rattle.mq_history.specs.declared.calls.Reply.{Reply}
 use Rattle.mq_history.specs.declared.calls.Reply.TheVariants as replies
-use Rattle.mq_history.specs.declared.story.ManagerPlaces.{ManagerPlaces}
-use Rattle.mq_spec_state.specs.State.{Plain, Given, Running}
-use Rattle.mq_spec_state.specs.State.Running.{Up, Down}
+use Rattle.mq_spec_state.specs.State.{Plain}
 use Rattle.mq_spec_state.specs.State.Change.{Connect, Disconnect}
 use Rattle.mq_spec_state.specs.Reads.{is_up}
-use Rattle.mq_spec_state.specs.Steps.{none_of, going_on, silent, Step, Part, Test, when, refusal, tested, refused_or, logged, do_part}
+use Rattle.mq_spec_state.specs.Steps.{none_of, going_on, silent, Step, when, refusal, refused_or}
 use Rattle.mq_spec_state.specs.Steps.Step.{Refuse, Do}
-use Rattle.mq_spec_manager.specs.Handles.{close_up, option_tests, open_tests, open_step, is_other_name, new_connection, new_hconn, conn_tests, mqconn, mqopen, mqclose}
+use Rattle.mq_spec_manager.specs.Handles.{close_up, option_tests, open_tests, open_step, is_other_name, new_connection, new_hconn, mqconn, mqopen, mqclose}
 use Rattle.mq_resolve.specs.Resolved.{resolve}
 use Rattle.mq_spec_manager.specs.Put.{put_up, put1_resolved, mqput, mqput1}
 use Rattle.mq_spec_manager.specs.Get.{get_up, mqget}
 use Rattle.mq_spec_manager.specs.Units.{commit_part, backout_part, mqcmit, mqback, mqdisc}
-use Rattle.mq_spec_manager.specs.Commands.{command, planned_step, object_part, uses_of, definitions_after}
-use Rattle.mq_spec_manager.proofs.Accepted.{displayed}
-use Rattle.mq_spec_node.specs.Node.{Node, Own, ChannelEnd}
-use Rattle.mq_spec_node.specs.Deeds.{Deed, told, CanCome, done, mqi_deed, ended_deed}
-use Rattle.mq_spec_node.specs.Happens.{event, IsEvent, IsDeed, done_or, remembering, get_deed, command_deed}
-use Rattle.mq_spec_node.specs.Operators as operators
-use Rattle.mq_spec_node.specs.Status.{show_status}
+use Rattle.mq_spec_node.specs.Node.{Node}
+use Rattle.mq_spec_node.specs.Deeds.{told, CanCome, mqi_deed, ended_deed}
+use Rattle.mq_spec_node.specs.Happens.{event, IsDeed, done_or, remembering, get_deed}
 use Rattle.mq_spec_network.specs.Ledger as ledgers
-use Rattle.mq_spec_network.specs.Ledger.{Ledger, posted, take_all_gone, connect_if, open_if, close_if, sent_ident, is_ended}
-use Rattle.mq_law_manager.specs.Kept.{StepKeeps}
-use Rattle.mq_law_manager.specs.Facts.{IsSound}
+use Rattle.mq_spec_network.specs.Ledger.{Ledger, posted, connect_if, open_if, close_if, sent_ident, is_ended}
 use Rattle.mq_law_manager.proofs.Puts.{mqconn_keeps, mqopen_keeps, mqclose_keeps, mqput_keeps, mqput1_keeps}
 use Rattle.mq_law_manager.proofs.Removals.{mqget_keeps}
 use Rattle.mq_law_manager.proofs.Units.{mqcmit_keeps, mqback_keeps, mqdisc_keeps}
-use Rattle.mq_law_manager.proofs.Commanding.{command_keeps}
-use Rattle.mq_law_manager.proofs.StockCommands.{command_stocked}
 use Rattle.mq_law_manager.proofs.Stocks.{conn_stocked, open_stocked, close_stocked, put_stocked, put1_stocked, get_stocked, cmit_stocked, back_stocked, disc_stocked}
 use Rattle.mq_law_manager.proofs.Ending.{joined}
-use Rattle.mq_law_events.specs.Tied.{IsTold, IsFresh, Follow}
-use Rattle.mq_law_events.specs.Posting.{StepFollows, StopFollows, IsTimed, post_get}
+use Rattle.mq_law_events.specs.Posting.{post_get}
 use Rattle.mq_law_events.proofs.Events as events
 use Rattle.mq_law_events.proofs.Getting as getting
 use Rattle.mq_law_events.proofs.Leaving as leaving
 use Rattle.mq_law_events.proofs.Halting as halting
 use Rattle.mq_law_events.proofs.Sounds.{listed}
-use Rattle.mq_law_events.proofs.Calling.{objects_follow, shown_follow}
-use Rattle.mq_law_one.specs.Alone.{IsState, IsAt, Became}
+use Rattle.mq_law_one.specs.Alone.{IsAt, Became}
 use Rattle.mq_law_one.proofs.Happening.{Deeded, entry_of, quiet_happens, step_happens, mqi_happens, ended_happens, Fits, fits_by, connected_down, down_refused, reply_or}
 
 -- what an event comes to, and is posted
@@ -182,7 +145,7 @@ back_happens m given n l e actor choice hc a can =
     let p : Plain = n.manager in
     ended_happens m given n l e actor (calls.Mqback hc) choice replies.Ended (λ reply ds k. ledgers.when (is_ended (replies.Ended reply)) (ledgers.back_out m hc) k) (mqback hc p) a
     (fits_by m given p l (λ reply ds k. ledgers.when (is_ended (replies.Ended reply)) (ledgers.back_out m hc) k) (mqback hc p) a.state
-    (λ h. (events.backs_out m given p l hc a.fresh a.told (listed hc.number p h), halting.step_stops m given p l (mqback hc p) a.fresh a.told (halting.back_short hc p), joined (mqback hc p) p h (mqback_keeps hc p h.facts) (back_stocked hc p h.stocked)))
+    (λ h. (events.backs_out m given p l hc a.fresh a.told (listed hc.number p h), halting.step_stops m given p l (mqback hc p) a.fresh a.told (halting.back_short hc p), joined (mqback hc p) p h (mqback_keeps hc p h.facts) (back_stocked hc p h.facts h.stocked)))
     (down_refused hc p (λ c. Do (answers.Ok tt) (backout_part c ∷ []))))
     (λ answer c ds. refl) (λ reason. refl) can
 

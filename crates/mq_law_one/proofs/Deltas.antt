@@ -1,6 +1,6 @@
 -- No event of a manager without channels commits what a channel received.
-use Rattle.std.proofs.Common.{ℕ, zero, suc, ◌≡◌, Bool, true, false, not, List, [], ◌∷◌, ◌++◌, refl, ap, sym, subst, ◌∙◌, map}
-use Rattle.std.specs.Prelude.{Option, Some, None, Result, Ok, Err, ◌==◌, if◌then◌else◌, flat_map, filter}
+use Rattle.std.proofs.Common.{ℕ, zero, suc, ◌≡◌, Bool, true, false, not, List, [], ◌∷◌, ◌++◌, refl, sym, subst, map}
+use Rattle.std.specs.Prelude.{Option, Some, None, Result, Ok, Err, if◌then◌else◌, flat_map, filter, slice_get, length}
 use Rattle.mq_message.specs.declared.message.Md.{Md}
 use Rattle.mq_message.specs.declared.message.Message.{Message}
 use Rattle.mq_codes.specs.declared.reason.Reason.{Reason}
@@ -53,22 +53,32 @@ use Rattle.mq_history.specs.declared.acts.Acted.TheVariants as acted
 use Rattle.mq_calls.specs.declared.commands.ScRefusal.TheVariants as refusals
 use Rattle.mq_spec_state.specs.State.{Plain, Running}
 use Rattle.mq_spec_state.specs.State.Running.{Up, Down}
-use Rattle.mq_spec_state.specs.Reads.{handle_at, is_up}
+use Rattle.mq_spec_state.specs.Reads.{handle_at, is_up, stored}
 use Rattle.mq_spec_state.specs.Steps.{none_of, when, going_on, silent, Step, Part, delta_of, delta_before}
 use Rattle.mq_spec_state.specs.State.Change.{SetCursor, Connect}
 use Rattle.mq_spec_state.specs.Steps.Step.{Refuse, Do}
 use Rattle.mq_spec_manager.specs.Handles.{is_unfit, option_tests, open_tests, open_step, new_hconn, new_connection, connected, mqconn, mqopen, mqclose, conn_tests, close_up, close_handle}
 use Rattle.mq_spec_manager.specs.Put.{output_only, mqput, mqput1, put_up, put_handle, put_route, put_part, put_tests, put1_resolved, output_tests, handle_route, new_message, queue_at}
 use Rattle.mq_spec_manager.specs.Get.{mqget, get_up, get_handle, get_tests, room_tests, get_found, scanned, expired_parts, removal_parts, taking_part, found_part, is_destructive, is_under, is_waiting, is_left, with_row, without_row}
-use Rattle.mq_spec_manager.specs.Units.{mqcmit, mqback, mqdisc, commit_part, commit_delta, backout_part, removed_item, placed_did, released_did}
+use Rattle.mq_spec_manager.specs.Units.{mqcmit, mqback, mqdisc, removed_item, placed_did, released_did}
 use Rattle.mq_spec_manager.specs.Commands.{command, planned_step, uses_of}
 use Rattle.mq_spec_manager.specs.Stops.{stop_at, restart_at}
-use Rattle.mq_spec_manager.specs.Triggers.{Never, first_due, trigger_turn, trigger_at, serve, serve_by, serve_into, put_trigger, takes_it}
-use Rattle.mq_spec_node.specs.Node.{Node, Own}
+use Rattle.mq_spec_manager.specs.Triggers.{first_due, trigger_turn, trigger_at, serve, serve_by, serve_into, put_trigger, takes_it}
+use Rattle.mq_history.specs.declared.calls.Actor.TheVariants as actors
+use Rattle.mq_message.specs.declared.message.Dest.{Dest}
+use Rattle.mq_message.specs.declared.message.Ident.{Ident}
+use Rattle.mq_queue.specs.Rows.{has_ident}
+use Rattle.mq_rules.specs.declared.rule.Rule.{Rule}
+use Rattle.mq_rules.specs.declared.rule.Action.{Action}
+use Rattle.mq_rules.specs.declared.rule.Action.TheVariants as actions
+use Rattle.mq_spec_agents.specs.Batches.{row_with}
+use Rattle.mq_spec_agents.specs.Landing.{landing, route_tests}
+use Rattle.mq_spec_agents.specs.Moves.{bare_if, move_full, move_part, move_resolved, move_found, move_row}
+use Rattle.mq_spec_node.specs.Handlers as handlers
+use Rattle.mq_spec_node.specs.Node.{Node, Own, Handler, handler_in}
 use Rattle.mq_spec_node.specs.Deeds.{Deed, told, parts_of, done, mqi_deed, ended_deed}
-use Rattle.mq_spec_node.specs.Happens.{crashed, event, IsEvent, IsDeed, IsReturn, done_or, get_deed, command_deed, where_up, trigger_deed, trigger_deed_of, turn_up, timeout_by}
+use Rattle.mq_spec_node.specs.Happens.{handler_turn, crashed, event, IsEvent, IsReturn, done_or, get_deed, command_deed, where_up, trigger_deed_of, turn_up, timeout_by}
 use Rattle.mq_spec_node.specs.Happens.{restarted as node_restarted}
-use Rattle.mq_spec_node.specs.Operators as operators
 use Rattle.mq_spec_node.specs.Status.{show_status, shown, status_line, is_asked}
 use Rattle.mq_spec_node.specs.Replays.{IsOwn}
 use Rattle.mq_spec_network.specs.Order.{unit_received}
@@ -182,11 +192,11 @@ disc_quiet hc p = live_all StepQuiet (λ r. tt) (connected hc p) _ (λ c. (remov
 back_quiet : (hc : Hconn) (p : Plain) → StepQuiet (mqback hc p)
 back_quiet hc p = live_all StepQuiet (λ r. tt) (connected hc p) _ (λ c. (released_quiet c.unit, tt))
 
-all_removed : (why : Why) (q : List ℕ) (xs : List Row) → IsQuiet (removed_all why q xs)
+pub all_removed : (why : Why) (q : List ℕ) (xs : List Row) → IsQuiet (removed_all why q xs)
 all_removed why q [] = refl
 all_removed why q (x ∷ xs) = all_removed why q xs
 
-parts_removed : (why : Why) (q : List ℕ) (xs : List Row) → AllQuiet (removal_parts why q xs)
+pub parts_removed : (why : Why) (q : List ℕ) (xs : List Row) → AllQuiet (removal_parts why q xs)
 parts_removed why q [] = tt
 parts_removed why q (x ∷ xs) = (all_removed why q (x ∷ xs), tt)
 
@@ -295,48 +305,112 @@ return_quiet (Down noted starts) (Fails faults.Cut false left) n can none = refl
 return_quiet (Down noted starts) (Fails (faults.BadLog place) true left) n can none = absurd can.0
 return_quiet (Down noted starts) (Fails (faults.BadLog place) false left) n can none = refl
 
+-- Turns of the handler
+
+move_quiet : (from : List ℕ) (ident : Ident) (to : Dest) (bare : Bool) (p : Plain) → StepQuiet (move_row from ident to bare p)
+move_quiet from ident to bare p = go (row_with (Some ident) (stored from p).rows)
+  where
+    on : (m : Message) (r : Result Route Reason) → StepQuiet (move_resolved from to bare r m p)
+    on m (Err reason) = tt
+    on m (Ok route) = tested_all StepQuiet (λ r. tt) (route_tests route (length (landing route m).message.body) p ++ when (move_full from (landing route m) p) reasons.ResourceProblem ∷ []) (Do tt (move_part from to bare (landing route m) ∷ [])) (refl, tt)
+
+    go : (o : Option Message) → StepQuiet (move_found from to bare o p)
+    go None = tt
+    go (Some m) = on (bare_if bare m) (resolve p.definitions p.given.name to.queue to.qmgr)
+
+moved_quiet : (q : List ℕ) (m : Message) (k : ℕ) (rule : Rule) (n : ℕ) (h : Handler) (p : Plain) (own : Own) (step : Step Reason (Unit {0})) → StepQuiet step → AllQuiet (handlers.moved q m k rule n h p own step).parts
+moved_quiet q m k rule n h p own (Refuse reason) a = tt
+moved_quiet q m k rule n h p own (Do reply parts) a = a
+
+acted_quiet : (q : List ℕ) (m : Message) (k : ℕ) (rule : Rule) (action : Action) (n : ℕ) (h : Handler) (p : Plain) (own : Own) → AllQuiet (handlers.acted q m k rule action n h p own).parts
+acted_quiet q m k rule actions.Discard n h p own = parts_removed whys.Discarded q (filter (has_ident m.ident) (stored q p).rows)
+acted_quiet q m k rule actions.Ignore n h p own = tt
+acted_quiet q m k rule actions.Retry n h p own = moved_quiet q m k rule n h p own (move_row q m.ident (handlers.retry_to m) true p) (move_quiet q m.ident (handlers.retry_to m) true p)
+acted_quiet q m k rule (actions.Forward f) n h p own = moved_quiet q m k rule n h p own (move_row q m.ident (handlers.forward_to m f) (not f.header) p) (move_quiet q m.ident (handlers.forward_to m f) (not f.header) p)
+
+ruled_quiet : (q : List ℕ) (m : Message) (k : ℕ) (o : Option Rule) (n : ℕ) (h : Handler) (p : Plain) (own : Own) → AllQuiet (handlers.ruled q m k o n h p own).parts
+ruled_quiet q m k None n h p own = tt
+ruled_quiet q m k (Some rule) n h p own = acted_quiet q m k rule rule.action n h p own
+
+letter_quiet : (q : List ℕ) (m : Message) (o : Option ℕ) (n : ℕ) (h : Handler) (p : Plain) (own : Own) → AllQuiet (handlers.in_force q m o n h p own).parts
+letter_quiet q m None n h p own = tt
+letter_quiet q m (Some k) n h p own = ruled_quiet q m k (slice_get h.table.rules k) n h p own
+
+abbrev AllQuietIn : Option Deed → Type 0
+AllQuietIn None = Unit {0}
+AllQuietIn (Some d) = AllQuiet d.parts
+
+handler_quiet : (o : Option Handler) (n : Node) → AllQuietIn (handler_turn o n)
+handler_quiet None n = tt
+handler_quiet (Some h) n = on (handlers.is_readable (local_of (handlers.input_queue h.table n.manager) n.manager.definitions))
+  where
+    row : (q : List ℕ) (r : Option Row) → AllQuietIn (handlers.handler_row q h r n)
+    row q None = tt
+    row q (Some x) = letter_quiet q x.message (handlers.rule_in_force h.table x.message (handlers.tries_of q x.message.ident h)) (handlers.failed_of (handlers.tries_of q x.message.ident h)) h n.manager n.own
+
+    on : (b : Bool) → AllQuietIn (handlers.handler_on b (handlers.input_queue h.table n.manager) h n)
+    on false = tt
+    on true = row (handlers.input_queue h.table n.manager) (handlers.next_letter (handlers.input_queue h.table n.manager) h n.manager)
+
+turn_deed_quiet : (stamp : ℕ) (actor : Actor) (seen : Seen) (n : Node) → n.own.ends ≡ [] → AllQuietIn (turn_up stamp actor seen n)
+turn_deed_quiet stamp (actors.Handler number) seen n e = handler_quiet (handler_in number n.own.handlers) n
+turn_deed_quiet stamp (actors.Sender k) seen n e = subst AllQuietIn (sym (turn_none stamp (actors.Sender k) seen n e (λ j z. cc))) tt
+turn_deed_quiet stamp (actors.Receiver k) seen n e = subst AllQuietIn (sym (turn_none stamp (actors.Receiver k) seen n e (λ j z. cc))) tt
+turn_deed_quiet stamp (actors.Script k) seen n e = tt
+turn_deed_quiet stamp (actors.Monitor k) seen n e = tt
+turn_deed_quiet stamp actors.Operator seen n e = tt
+turn_deed_quiet stamp actors.Clock seen n e = tt
+
+up_quiet : (r : Running) (d : Option Deed) (choice : Choice) (n : Node) → AllQuietIn d → IsQuiet (done_or (where_up r d) choice n).delta
+up_quiet Up None choice n a = refl
+up_quiet Up (Some d) choice n a = done_quiet d choice n a
+up_quiet (Down noted starts) None choice n a = refl
+up_quiet (Down noted starts) (Some d) choice n a = refl
+
 -- the event of a call that a chance of a call's alone makes
-pub event_quiet : (n : Node) (stamp : ℕ) (actor : Actor) (call : Call) (chance : Chance) (seen : Seen) → n.own.ends ≡ [] → n.own.handlers ≡ [] → IsEvent stamp actor call chance seen n → IsOwn chance → FindsNone chance → IsQuiet (event stamp actor call chance seen n).delta
-event_quiet n stamp actor (calls.Mqconn qmgr appl) (chances.Call choice) seen e h can own none = done_quiet (mqi_deed replies.Connected n.own (mqconn qmgr appl n.manager)) choice n (mqi_quiet replies.Connected n.own (mqconn qmgr appl n.manager) (conn_quiet qmgr appl n.manager))
-event_quiet n stamp actor (calls.Mqdisc hc) (chances.Call choice) seen e h can own none = done_quiet (ended_deed replies.Ended n.own (mqdisc hc n.manager)) choice n (ended_quiet replies.Ended n.own (mqdisc hc n.manager) (disc_quiet hc n.manager))
-event_quiet n stamp actor (calls.Mqopen hc name qmgr how) (chances.Call choice) seen e h can own none = done_quiet (mqi_deed replies.Opened n.own (mqopen hc name qmgr how n.manager)) choice n (mqi_quiet replies.Opened n.own (mqopen hc name qmgr how n.manager) (open_quiet hc name qmgr how n.manager))
-event_quiet n stamp actor (calls.Mqclose hc ho) (chances.Call choice) seen e h can own none = done_quiet (ended_deed replies.Ended n.own (mqclose hc ho n.manager)) choice n (ended_quiet replies.Ended n.own (mqclose hc ho n.manager) (close_quiet hc ho n.manager))
-event_quiet n stamp actor (calls.Mqput hc ho md body sync) (chances.Call choice) seen e h can own none = done_quiet (mqi_deed replies.Put n.own (mqput hc ho md body sync n.manager)) choice n (mqi_quiet replies.Put n.own (mqput hc ho md body sync n.manager) (put_quiet hc ho md body sync n.manager))
-event_quiet n stamp actor (calls.Mqput1 hc name qmgr md body sync) (chances.Call choice) seen e h can own none = done_quiet (mqi_deed replies.Put n.own (mqput1 hc name qmgr md body sync n.manager)) choice n (mqi_quiet replies.Put n.own (mqput1 hc name qmgr md body sync n.manager) (put1_quiet hc name qmgr md body sync n.manager))
-event_quiet n stamp actor (calls.Mqget hc ho get until) (chances.Call choice) seen e h can own none = got_quiet n.own (mqget hc ho get until n.manager) choice n (get_quiet hc ho get until n.manager)
-event_quiet n stamp actor (calls.Mqcmit hc) (chances.Call choice) seen e h can own none = done_quiet (ended_deed replies.Ended n.own (mqcmit hc n.manager)) choice n (ended_quiet replies.Ended n.own (mqcmit hc n.manager) (commit_quiet hc n.manager))
-event_quiet n stamp actor (calls.Mqback hc) (chances.Call choice) seen e h can own none = done_quiet (ended_deed replies.Ended n.own (mqback hc n.manager)) choice n (ended_quiet replies.Ended n.own (mqback hc n.manager) (back_quiet hc n.manager))
-event_quiet n stamp actor (calls.Act (acts.Obey (lines.Objects c))) (chances.Call choice) seen e h can own none = done_quiet (command_deed n.own (command c n.manager)) choice n (obeyed_quiet n.own (command c n.manager) (command_quiet c n.manager))
-event_quiet n stamp actor (calls.Act (acts.Obey (lines.Operate op))) (chances.Call choice) seen e h can own none = let d = operated_is op n e in subst (λ x. IsQuiet (done x choice n).delta) (sym d.1) (done_quiet (told (replies.Acted (acted.Op d.0)) n.own) choice n tt)
-event_quiet n stamp actor (calls.Act (acts.Obey (lines.ShowStatus name any_end))) (chances.Call choice) seen e h can own none = done_quiet (show_status name any_end n) choice n (status_parts name any_end n)
-event_quiet n stamp actor calls.Trigger (chances.Call choice) seen e h can own none = due_quiet n.manager.running (first_due (locals_of n.manager.definitions) n.manager) choice n
-event_quiet n stamp actor (calls.Act acts.Crash) chance seen e h can own none = stop_quiet n.manager.running n
-event_quiet n stamp actor (calls.Act acts.Restart) (chances.Call choice) seen e h can own none = absurd can
-event_quiet n stamp actor (calls.Act acts.Restart) (chances.Restart choice) seen e h can own none = return_quiet n.manager.running choice n can none
-event_quiet n stamp actor (calls.Act acts.Restart) (chances.Foreign image length left) seen e h can own none = absurd own
-event_quiet n stamp actor (calls.Act (acts.Cut k)) chance seen e h can own none = refl
-event_quiet n stamp actor (calls.Act (acts.Clock by_)) chance seen e h can own none = refl
-event_quiet n stamp actor calls.Turn chance seen e h can own none = absurd (no_deed n.manager.running (turn_up stamp actor seen n) chance n (turn_none stamp actor seen n e h) can)
-event_quiet n stamp actor calls.Timeout chance seen e h can own none = absurd (no_deed n.manager.running (timeout_by actor n) chance n (timeout_none actor n e) can)
-event_quiet n stamp actor (calls.Mqconn qmgr appl) (chances.Restart choice) seen e h can own none = refl
-event_quiet n stamp actor (calls.Mqconn qmgr appl) (chances.Foreign image length left) seen e h can own none = refl
-event_quiet n stamp actor (calls.Mqdisc hc) (chances.Restart choice) seen e h can own none = refl
-event_quiet n stamp actor (calls.Mqdisc hc) (chances.Foreign image length left) seen e h can own none = refl
-event_quiet n stamp actor (calls.Mqopen hc name qmgr how) (chances.Restart choice) seen e h can own none = refl
-event_quiet n stamp actor (calls.Mqopen hc name qmgr how) (chances.Foreign image length left) seen e h can own none = refl
-event_quiet n stamp actor (calls.Mqclose hc ho) (chances.Restart choice) seen e h can own none = refl
-event_quiet n stamp actor (calls.Mqclose hc ho) (chances.Foreign image length left) seen e h can own none = refl
-event_quiet n stamp actor (calls.Mqput hc ho md body sync) (chances.Restart choice) seen e h can own none = refl
-event_quiet n stamp actor (calls.Mqput hc ho md body sync) (chances.Foreign image length left) seen e h can own none = refl
-event_quiet n stamp actor (calls.Mqput1 hc name qmgr md body sync) (chances.Restart choice) seen e h can own none = refl
-event_quiet n stamp actor (calls.Mqput1 hc name qmgr md body sync) (chances.Foreign image length left) seen e h can own none = refl
-event_quiet n stamp actor (calls.Mqget hc ho get until) (chances.Restart choice) seen e h can own none = refl
-event_quiet n stamp actor (calls.Mqget hc ho get until) (chances.Foreign image length left) seen e h can own none = refl
-event_quiet n stamp actor (calls.Mqcmit hc) (chances.Restart choice) seen e h can own none = refl
-event_quiet n stamp actor (calls.Mqcmit hc) (chances.Foreign image length left) seen e h can own none = refl
-event_quiet n stamp actor (calls.Mqback hc) (chances.Restart choice) seen e h can own none = refl
-event_quiet n stamp actor (calls.Mqback hc) (chances.Foreign image length left) seen e h can own none = refl
-event_quiet n stamp actor calls.Trigger (chances.Restart choice) seen e h can own none = refl
-event_quiet n stamp actor calls.Trigger (chances.Foreign image length left) seen e h can own none = refl
-event_quiet n stamp actor (calls.Act (acts.Obey c)) (chances.Restart choice) seen e h can own none = refl
-event_quiet n stamp actor (calls.Act (acts.Obey c)) (chances.Foreign image length left) seen e h can own none = refl
+pub event_quiet : (n : Node) (stamp : ℕ) (actor : Actor) (call : Call) (chance : Chance) (seen : Seen) → n.own.ends ≡ [] → IsEvent stamp actor call chance seen n → IsOwn chance → FindsNone chance → IsQuiet (event stamp actor call chance seen n).delta
+event_quiet n stamp actor (calls.Mqconn qmgr appl) (chances.Call choice) seen e can own none = done_quiet (mqi_deed replies.Connected n.own (mqconn qmgr appl n.manager)) choice n (mqi_quiet replies.Connected n.own (mqconn qmgr appl n.manager) (conn_quiet qmgr appl n.manager))
+event_quiet n stamp actor (calls.Mqdisc hc) (chances.Call choice) seen e can own none = done_quiet (ended_deed replies.Ended n.own (mqdisc hc n.manager)) choice n (ended_quiet replies.Ended n.own (mqdisc hc n.manager) (disc_quiet hc n.manager))
+event_quiet n stamp actor (calls.Mqopen hc name qmgr how) (chances.Call choice) seen e can own none = done_quiet (mqi_deed replies.Opened n.own (mqopen hc name qmgr how n.manager)) choice n (mqi_quiet replies.Opened n.own (mqopen hc name qmgr how n.manager) (open_quiet hc name qmgr how n.manager))
+event_quiet n stamp actor (calls.Mqclose hc ho) (chances.Call choice) seen e can own none = done_quiet (ended_deed replies.Ended n.own (mqclose hc ho n.manager)) choice n (ended_quiet replies.Ended n.own (mqclose hc ho n.manager) (close_quiet hc ho n.manager))
+event_quiet n stamp actor (calls.Mqput hc ho md body sync) (chances.Call choice) seen e can own none = done_quiet (mqi_deed replies.Put n.own (mqput hc ho md body sync n.manager)) choice n (mqi_quiet replies.Put n.own (mqput hc ho md body sync n.manager) (put_quiet hc ho md body sync n.manager))
+event_quiet n stamp actor (calls.Mqput1 hc name qmgr md body sync) (chances.Call choice) seen e can own none = done_quiet (mqi_deed replies.Put n.own (mqput1 hc name qmgr md body sync n.manager)) choice n (mqi_quiet replies.Put n.own (mqput1 hc name qmgr md body sync n.manager) (put1_quiet hc name qmgr md body sync n.manager))
+event_quiet n stamp actor (calls.Mqget hc ho get until) (chances.Call choice) seen e can own none = got_quiet n.own (mqget hc ho get until n.manager) choice n (get_quiet hc ho get until n.manager)
+event_quiet n stamp actor (calls.Mqcmit hc) (chances.Call choice) seen e can own none = done_quiet (ended_deed replies.Ended n.own (mqcmit hc n.manager)) choice n (ended_quiet replies.Ended n.own (mqcmit hc n.manager) (commit_quiet hc n.manager))
+event_quiet n stamp actor (calls.Mqback hc) (chances.Call choice) seen e can own none = done_quiet (ended_deed replies.Ended n.own (mqback hc n.manager)) choice n (ended_quiet replies.Ended n.own (mqback hc n.manager) (back_quiet hc n.manager))
+event_quiet n stamp actor (calls.Act (acts.Obey (lines.Objects c))) (chances.Call choice) seen e can own none = done_quiet (command_deed n.own (command c n.manager)) choice n (obeyed_quiet n.own (command c n.manager) (command_quiet c n.manager))
+event_quiet n stamp actor (calls.Act (acts.Obey (lines.Operate op))) (chances.Call choice) seen e can own none = let d = operated_is op n e in subst (λ x. IsQuiet (done x choice n).delta) (sym d.1) (done_quiet (told (replies.Acted (acted.Op d.0)) n.own) choice n tt)
+event_quiet n stamp actor (calls.Act (acts.Obey (lines.ShowStatus name any_end))) (chances.Call choice) seen e can own none = done_quiet (show_status name any_end n) choice n (status_parts name any_end n)
+event_quiet n stamp actor calls.Trigger (chances.Call choice) seen e can own none = due_quiet n.manager.running (first_due (locals_of n.manager.definitions) n.manager) choice n
+event_quiet n stamp actor (calls.Act acts.Crash) chance seen e can own none = stop_quiet n.manager.running n
+event_quiet n stamp actor (calls.Act acts.Restart) (chances.Call choice) seen e can own none = absurd can
+event_quiet n stamp actor (calls.Act acts.Restart) (chances.Restart choice) seen e can own none = return_quiet n.manager.running choice n can none
+event_quiet n stamp actor (calls.Act acts.Restart) (chances.Foreign image length left) seen e can own none = absurd own
+event_quiet n stamp actor (calls.Act (acts.Cut k)) chance seen e can own none = refl
+event_quiet n stamp actor (calls.Act (acts.Clock by_)) chance seen e can own none = refl
+event_quiet n stamp actor calls.Turn (chances.Call choice) seen e can own none = up_quiet n.manager.running (turn_up stamp actor seen n) choice n (turn_deed_quiet stamp actor seen n e)
+event_quiet n stamp actor calls.Turn (chances.Restart choice) seen e can own none = refl
+event_quiet n stamp actor calls.Turn (chances.Foreign image length left) seen e can own none = refl
+event_quiet n stamp actor calls.Timeout chance seen e can own none = absurd (no_deed n.manager.running (timeout_by actor n) chance n (timeout_none actor n e) can)
+event_quiet n stamp actor (calls.Mqconn qmgr appl) (chances.Restart choice) seen e can own none = refl
+event_quiet n stamp actor (calls.Mqconn qmgr appl) (chances.Foreign image length left) seen e can own none = refl
+event_quiet n stamp actor (calls.Mqdisc hc) (chances.Restart choice) seen e can own none = refl
+event_quiet n stamp actor (calls.Mqdisc hc) (chances.Foreign image length left) seen e can own none = refl
+event_quiet n stamp actor (calls.Mqopen hc name qmgr how) (chances.Restart choice) seen e can own none = refl
+event_quiet n stamp actor (calls.Mqopen hc name qmgr how) (chances.Foreign image length left) seen e can own none = refl
+event_quiet n stamp actor (calls.Mqclose hc ho) (chances.Restart choice) seen e can own none = refl
+event_quiet n stamp actor (calls.Mqclose hc ho) (chances.Foreign image length left) seen e can own none = refl
+event_quiet n stamp actor (calls.Mqput hc ho md body sync) (chances.Restart choice) seen e can own none = refl
+event_quiet n stamp actor (calls.Mqput hc ho md body sync) (chances.Foreign image length left) seen e can own none = refl
+event_quiet n stamp actor (calls.Mqput1 hc name qmgr md body sync) (chances.Restart choice) seen e can own none = refl
+event_quiet n stamp actor (calls.Mqput1 hc name qmgr md body sync) (chances.Foreign image length left) seen e can own none = refl
+event_quiet n stamp actor (calls.Mqget hc ho get until) (chances.Restart choice) seen e can own none = refl
+event_quiet n stamp actor (calls.Mqget hc ho get until) (chances.Foreign image length left) seen e can own none = refl
+event_quiet n stamp actor (calls.Mqcmit hc) (chances.Restart choice) seen e can own none = refl
+event_quiet n stamp actor (calls.Mqcmit hc) (chances.Foreign image length left) seen e can own none = refl
+event_quiet n stamp actor (calls.Mqback hc) (chances.Restart choice) seen e can own none = refl
+event_quiet n stamp actor (calls.Mqback hc) (chances.Foreign image length left) seen e can own none = refl
+event_quiet n stamp actor calls.Trigger (chances.Restart choice) seen e can own none = refl
+event_quiet n stamp actor calls.Trigger (chances.Foreign image length left) seen e can own none = refl
+event_quiet n stamp actor (calls.Act (acts.Obey c)) (chances.Restart choice) seen e can own none = refl
+event_quiet n stamp actor (calls.Act (acts.Obey c)) (chances.Foreign image length left) seen e can own none = refl

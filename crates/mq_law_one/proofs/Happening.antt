@@ -1,34 +1,18 @@
 -- Each event of a manager without channels: what it leaves, and what is posted of it.
-use Rattle.std.proofs.Common.{ℕ, zero, suc, ◌≡◌, Bool, true, false, not, List, [], ◌∷◌, ◌++◌, refl, ap, sym, subst, ◌∙◌, inl, inr, map}
-use Rattle.std.specs.Prelude.{Option, Some, None, Result, Ok, Err, ◌==◌, ◌+◌, ◌-◌, min, if◌then◌else◌, ◌&&◌, slice_get, nat_lt, filter}
+use Rattle.std.proofs.Common.{ℕ, zero, suc, ◌≡◌, Bool, true, false, List, [], ◌∷◌, refl, ap, sym, subst, ◌∙◌}
+use Rattle.std.specs.Prelude.{Option, Some, None, Result, Err, ◌==◌, if◌then◌else◌, ◌&&◌, slice_get}
 use Rattle.mq_message.specs.declared.message.Ident.{Ident}
 use Rattle.mq_message.specs.declared.message.Message.{Message}
 use Rattle.mq_codes.specs.declared.reason.Reason.{Reason}
 use Rattle.mq_codes.specs.declared.reason.Reason.TheVariants as reasons
-use Rattle.mq_frame.specs.declared.frame.Seen.{Seen}
-use Rattle.mq_objects.specs.declared.object.Definitions.{Definitions}
-use Rattle.mq_objects.specs.declared.command.Command.{Command}
-use Rattle.mq_objects.specs.declared.command.Command.TheVariants as object_commands
-use Rattle.mq_sc_apply.specs.declared.answers.Planned.{Planned}
-use Rattle.mq_sc_apply.specs.declared.answers.Plan.{Plan}
-use Rattle.mq_sc_apply.specs.declared.answers.Plan.TheVariants as plans
-use Rattle.mq_sc_apply.specs.Commands.{plan}
-use Rattle.mq_sc_parse.specs.declared.command.Command.TheVariants as lines
 use Rattle.mq_disk.specs.declared.cutter.Stop.{Stop}
 use Rattle.mq_calls.specs.declared.answers.Answer.{Answer}
 use Rattle.mq_calls.specs.declared.answers.Answer.TheVariants as answers
-use Rattle.mq_calls.specs.declared.answers.Get.{Get}
-use Rattle.mq_calls.specs.declared.answers.Got.{Got}
-use Rattle.mq_calls.specs.declared.answers.GetAnswer.{GetAnswer}
-use Rattle.mq_calls.specs.declared.answers.GetAnswer.TheVariants as get_answers
 use Rattle.mq_calls.specs.declared.answers.Hconn.{Hconn}
 use Rattle.mq_calls.specs.declared.choices.Choice.{Choice}
 use Rattle.mq_calls.specs.declared.choices.Choice.TheVariants.{Runs, NoMemory, Stopped}
-use Rattle.mq_calls.specs.declared.commands.Shown.{Shown}
-use Rattle.mq_calls.specs.declared.commands.ScRefusal.{ScRefusal}
 use Rattle.mq_calls.specs.declared.deltas.Did.{Did}
 use Rattle.mq_calls.specs.declared.state.Connection.{Connection}
-use Rattle.mq_history.specs.declared.acts.Acted.TheVariants as acted
 use Rattle.mq_history.specs.declared.calls.Actor.{Actor}
 use Rattle.mq_history.specs.declared.calls.Actor.TheVariants as actors
 use Rattle.mq_history.specs.declared.calls.Call.{Call}
@@ -39,27 +23,25 @@ use Rattle.mq_history.specs.declared.calls.Reply.{Reply}
 use Rattle.mq_history.specs.declared.calls.Reply.TheVariants as replies
 use Rattle.mq_calls.specs.declared.records.LogRecord.{LogRecord}
 use Rattle.mq_objects.specs.Names.{local_of}
-use Rattle.mq_spec_state.specs.State.{Plain, Given, Running, Noted, Change, LogState}
+use Rattle.mq_spec_state.specs.State.{Plain, Given, Running, Noted, Change}
 use Rattle.mq_spec_state.specs.State.Running.{Up, Down}
 use Rattle.mq_spec_state.specs.State.Change.{Place, Try, Leave, Hold, Release, Connect, Disconnect, OpenHandle, CloseHandle, SetCursor, Pend, EndUnit, MakeStale, CountIdent, ChangeObjects, Renew, DropQueue, SwitchOn, Serve, SetSender, SetReceiver, Undoubt, Seize, Unseize, AddBatch, DropBatch, SetBound, SetMoment, ForgetAll}
 use Rattle.mq_spec_state.specs.Reads.{is_up, connection_at}
 use Rattle.mq_spec_state.specs.Changes.{apply, apply_all, try_if}
 use Rattle.mq_spec_state.specs.Condition.{condition}
-use Rattle.mq_spec_state.specs.Steps.{Step, Part, After, logged, do_part, do_all, delta_of, delta_before, stopped_at, note_of, IsWrite}
-use Rattle.mq_spec_state.specs.Steps as steps
+use Rattle.mq_spec_state.specs.Steps.{Step, Part, logged, do_part, do_all, delta_of, delta_before, stopped_at, note_of, IsWrite}
 use Rattle.mq_spec_state.specs.Steps.Step.{Refuse, Do}
 use Rattle.mq_spec_manager.specs.Handles.{connected, live_or, for_connection, is_other, is_present}
-use Rattle.mq_spec_node.specs.Node.{Node, Own, Handler, change_monitor}
-use Rattle.mq_spec_node.specs.Deeds.{Deed, Done, still_tried, told, mqi_deed, ended_deed, done, CanCome, forgotten_rows, node_of}
+use Rattle.mq_spec_node.specs.Node.{Node, Own, Handler}
+use Rattle.mq_spec_node.specs.Deeds.{Deed, told, mqi_deed, ended_deed, done, CanCome, forgotten_rows, node_of}
 use Rattle.mq_spec_node.specs.Happens.{remembered, remembering}
 use Rattle.mq_spec_network.specs.Ledger as ledgers
 use Rattle.mq_spec_network.specs.Ledger.{Ledger, Users, posted, cut, take_all_gone}
 use Rattle.mq_law_manager.specs.Kept.{StepKeeps, AllKeep}
 use Rattle.mq_law_manager.specs.Facts.{IsSound, IsFrozen}
 use Rattle.mq_law_manager.proofs.Ending.{ends}
-use Rattle.mq_law_events.specs.Local.{Leads, side_of, sheet_of}
-use Rattle.mq_law_events.specs.Tied.{IsTold, IsFresh, IsSame, IsElse, Follow}
-use Rattle.mq_law_events.specs.Posting.{StepFollows, StopFollows, IsTimed, post_get}
+use Rattle.mq_law_events.specs.Tied.{Follow}
+use Rattle.mq_law_events.specs.Posting.{StepFollows, StopFollows}
 use Rattle.mq_law_events.proofs.Telling.{here_changed, else_then, else_users}
 use Rattle.mq_law_events.proofs.Calling.{calm_follows, calm_none}
 use Rattle.mq_law_one.specs.Alone.{IsState, IsAt, Became}
@@ -67,8 +49,8 @@ use Rattle.mq_law_one.specs.Alone.{IsState, IsAt, Became}
 -- From a follow to an event
 
 pub became : (m : ℕ) (given : Ident → Bool) (n : Node) (l : Ledger) (next : Node) (k : Ledger) → IsAt m given n l → Follow m given n.manager l next.manager k
-    → next.own.ends ≡ [] → next.own.handlers ≡ [] → IsState next.manager.running next.manager → Became m given n l next k
-became m given n l next k a f e h state = record {
+    → next.own.ends ≡ [] → IsState next.manager.running next.manager → Became m given n l next k
+became m given n l next k a f e state = record {
   now = f.now;
   leads = f.leads;
   known = f.known;
@@ -79,7 +61,6 @@ became m given n l next k a f e h state = record {
     fresh = f.fresh;
     number = ap (λ (g : Given). g.number) f.same.given ∙ a.number;
     ends = e;
-    handlers = h;
     batches = f.same.batches ∙ a.batches;
     timed = record { users = f.told.users; used = f.told.used; moment = (f.kept a.timed.users f.told.users a.timed.used f.told.used).moment ∙ a.timed.moment ∙ sym f.steady };
     state = state;
@@ -88,8 +69,8 @@ became m given n l next k a f e h state = record {
 
 -- and with a mark on the manager's users
 pub became_marked : (m : ℕ) (given : Ident → Bool) (n : Node) (l : Ledger) (next : Node) (k : Ledger) (g : Users → Users) → ((u : Users) → (g u).connections ≡ u.connections) → ((u : Users) → (g u).moment ≡ u.moment)
-    → IsAt m given n l → Follow m given n.manager l next.manager k → next.own.ends ≡ [] → next.own.handlers ≡ [] → IsState next.manager.running next.manager → Became m given n l next (ledgers.with_users m g k)
-became_marked m given n l next k g cs mo a f e h state =
+    → IsAt m given n l → Follow m given n.manager l next.manager k → next.own.ends ≡ [] → IsState next.manager.running next.manager → Became m given n l next (ledgers.with_users m g k)
+became_marked m given n l next k g cs mo a f e state =
     let used : slice_get (ledgers.with_users m g k).users m ≡ Some (g f.told.users) = here_changed m g k.users f.told.users f.told.used in
     record {
       now = f.now;
@@ -98,11 +79,10 @@ became_marked m given n l next k g cs mo a f e h state =
       same = f.same;
       other = else_then m l k (ledgers.with_users m g k) f.other (else_users m g k);
       at = record {
-        told = record { places = f.told.places; placed = f.told.placed; name = f.told.name; definitions = f.told.definitions; users = g f.told.users; used = used; connections = cs f.told.users ∙ f.told.connections };
+        told = record { places = f.told.places; placed = f.told.placed; shelved = f.told.shelved; name = f.told.name; definitions = f.told.definitions; users = g f.told.users; used = used; connections = cs f.told.users ∙ f.told.connections };
         fresh = f.fresh;
         number = ap (λ (g : Given). g.number) f.same.given ∙ a.number;
         ends = e;
-        handlers = h;
         batches = f.same.batches ∙ a.batches;
         timed = record { users = g f.told.users; used = used; moment = mo f.told.users ∙ (f.kept a.timed.users f.told.users a.timed.used f.told.used).moment ∙ a.timed.moment ∙ sym f.steady };
         state = state;
@@ -188,18 +168,6 @@ kept_ends (actors.Monitor k) call reply own e = e
 kept_ends actors.Operator call reply own e = e
 kept_ends actors.Clock call reply own e = e
 
-pub kept_handlers : (actor : Actor) (call : Call) (reply : Reply) (own : Own) → own.handlers ≡ [] → (remembered actor call reply own).handlers ≡ []
-kept_handlers (actors.Script k) call reply own e = e
-kept_handlers (actors.Sender k) call reply own e = e
-kept_handlers (actors.Receiver k) call reply own e = e
-kept_handlers (actors.Handler k) call reply own e = e
-kept_handlers (actors.Monitor k) call reply own e = e
-kept_handlers actors.Operator call reply own e = e
-kept_handlers actors.Clock call reply own e = e
-
-pub no_tries : (delta : List Did) (own : Own) → own.handlers ≡ [] → (forgotten_rows delta own).handlers ≡ []
-no_tries delta own e = ap (map (λ (h : Handler). record h { tried = filter (still_tried delta) h.tried })) e
-
 -- An entry as its event tells it
 
 abbrev pub entry_of : Entry → Call → Chance → Reply → List Did → List Message → Entry
@@ -211,24 +179,24 @@ Deeded m given n l e actor call choice d =
     Became m given n l (remembering actor call (done d choice n)).next (posted m (entry_of e call (chances.Call choice) (done d choice n).reply (done d choice n).delta (done d choice n).received) (done d choice n).reply l)
 
 -- nothing happens
-pub nothing : (m : ℕ) (given : Ident → Bool) (n : Node) (l : Ledger) (own : Own) → IsAt m given n l → own.ends ≡ [] → own.handlers ≡ [] → Became m given n l (node_of n.manager own) l
-nothing m given n l own a e h = became m given n l (node_of n.manager own) l a (calm_follows m given n.manager n.manager l a.fresh a.told (calm_none n.manager) refl) e h a.state
+pub nothing : (m : ℕ) (given : Ident → Bool) (n : Node) (l : Ledger) (own : Own) → IsAt m given n l → own.ends ≡ [] → Became m given n l (node_of n.manager own) l
+nothing m given n l own a e = became m given n l (node_of n.manager own) l a (calm_follows m given n.manager n.manager l a.fresh a.told (calm_none n.manager) refl) e a.state
 
 -- a step that runs or whose write is stopped, at a manager that is up
 pub parts_happen : (F : Type 0) {T : Type 0} (m : ℕ) (given : Ident → Bool) (n : Node) (l : Ledger) (own : Own) (post : T → List Did → Ledger → Ledger) (reply : T) (parts : List Part) → IsAt m given n l → n.manager.running ≡ Up → IsSound n.manager
-    → StepFollows {F = F} m given n.manager l post (Do reply parts) → AllKeep IsSound parts n.manager → own.ends ≡ [] → own.handlers ≡ []
+    → StepFollows {F = F} m given n.manager l post (Do reply parts) → AllKeep IsSound parts n.manager → own.ends ≡ []
     → Became m given n l (node_of (do_all parts n.manager) own) (post reply (delta_of parts) (take_all_gone m (delta_of parts) l))
-parts_happen F {T} m given n l own post reply parts a up sound f k e h =
-    became m given n l (node_of (do_all parts n.manager) own) _ a f e h (state_up (do_all parts n.manager) (parts_running parts n.manager ∙ up) (ends {F = F} (Do reply parts) Runs n.manager sound k))
+parts_happen F {T} m given n l own post reply parts a up sound f k e =
+    became m given n l (node_of (do_all parts n.manager) own) _ a f e (state_up (do_all parts n.manager) (parts_running parts n.manager ∙ up) (ends {F = F} (Do reply parts) Runs n.manager sound k))
 
 pub stop_happens : (F : Type 0) {T : Type 0} (m : ℕ) (given : Ident → Bool) (n : Node) (l : Ledger) (own : Own) (e : Entry) (by_ : Stop) (reply : T) (parts : List Part) (part left : ℕ) → IsAt m given n l → IsSound n.manager
-    → StopFollows {F = F} m given n.manager l (Do reply parts) → AllKeep IsSound parts n.manager → IsWrite part parts → own.ends ≡ [] → own.handlers ≡ [] → e.effect.delta ≡ delta_before part parts
+    → StopFollows {F = F} m given n.manager l (Do reply parts) → AllKeep IsSound parts n.manager → IsWrite part parts → own.ends ≡ [] → e.effect.delta ≡ delta_before part parts
     → Became m given n l (node_of (stopped_at part parts left n.manager) own) (cut m e l)
-stop_happens F m given n l own e by_ reply parts part left a sound f k w z h same =
+stop_happens F m given n l own e by_ reply parts part left a sound f k w z same =
     let q : Plain = stopped_at part parts left n.manager in
     let r = stopped_running part parts left n.manager w in
     subst (λ ds. Became m given n l (node_of q own) (ledgers.with_users m (mark e) (ledgers.lose m (take_all_gone m ds l)))) (sym same)
-    (became_marked m given n l (node_of q own) (ledgers.lose m (take_all_gone m (delta_before part parts) l)) (mark e) (λ u. refl) (λ u. refl) a (f part left w) z h
+    (became_marked m given n l (node_of q own) (ledgers.lose m (take_all_gone m (delta_before part parts) l)) (mark e) (λ u. refl) (λ u. refl) a (f part left w) z
     (state_down r.0 0 q r.1 (ends {F = F} (Do reply parts) (Stopped by_ part left) n.manager sound k)))
 
 -- a deed that is an answer alone
@@ -236,7 +204,7 @@ pub quiet_happens : (m : ℕ) (given : Ident → Bool) (n : Node) (l : Ledger) (
     → ((c : Choice) → posted m (entry_of e call (chances.Call c) reply [] []) reply l ≡ l) → CanCome (told reply n.own) choice n → Deeded m given n l e actor call choice (told reply n.own)
 quiet_happens m given n l e actor call Runs reply a none can =
     subst (λ k. Became m given n l (node_of n.manager (remembered actor call reply (forgotten_rows [] n.own))) k) (sym (none Runs))
-    (nothing m given n l (remembered actor call reply (forgotten_rows [] n.own)) a (kept_ends actor call reply (forgotten_rows [] n.own) a.ends) (kept_handlers actor call reply (forgotten_rows [] n.own) (no_tries [] n.own a.handlers)))
+    (nothing m given n l (remembered actor call reply (forgotten_rows [] n.own)) a (kept_ends actor call reply (forgotten_rows [] n.own) a.ends))
 quiet_happens m given n l e actor call NoMemory reply a none can = absurd can
 quiet_happens m given n l e actor call (Stopped by_ part left) reply a none can = absurd can.0
 
@@ -252,15 +220,15 @@ pub step_happens : (F : Type 0) {T : Type 0} (m : ℕ) (given : Ident → Bool) 
 step_happens F m given n l e actor call Runs w f post reply parts a up sound follows stops keeps posts wants can =
     let own : Own = remembered actor call (f reply) (forgotten_rows (delta_of parts) n.own) in
     subst (λ k. Became m given n l (node_of (do_all parts n.manager) own) k) (sym (posts (delta_of parts)))
-    (parts_happen F m given n l own post reply parts a up sound follows keeps (kept_ends actor call (f reply) (forgotten_rows (delta_of parts) n.own) a.ends) (kept_handlers actor call (f reply) (forgotten_rows (delta_of parts) n.own) (no_tries (delta_of parts) n.own a.handlers)))
+    (parts_happen F m given n l own post reply parts a up sound follows keeps (kept_ends actor call (f reply) (forgotten_rows (delta_of parts) n.own) a.ends))
 step_happens F m given n l e actor call NoMemory None f post reply parts a up sound follows stops keeps posts wants can = absurd can
 step_happens F m given n l e actor call NoMemory (Some r) f post reply parts a up sound follows stops keeps posts wants can =
     subst (λ k. Became m given n l (node_of n.manager (remembered actor call r n.own)) k) (sym (wants r refl))
-    (nothing m given n l (remembered actor call r n.own) a (kept_ends actor call r n.own a.ends) (kept_handlers actor call r n.own a.handlers))
+    (nothing m given n l (remembered actor call r n.own) a (kept_ends actor call r n.own a.ends))
 step_happens F m given n l e actor call (Stopped by_ part left) w f post reply parts a up sound follows stops keeps posts wants can =
     let r : Reply = replies.Stopped by_ in
     stop_happens F m given n l (remembered actor call r n.own) (entry_of e call (chances.Call (Stopped by_ part left)) r (delta_before part parts) []) by_ reply parts part left a sound stops keeps can.0
-    (kept_ends actor call r n.own a.ends) (kept_handlers actor call r n.own a.handlers) refl
+    (kept_ends actor call r n.own a.ends) refl
 
 -- A call of a connection, at a manager that is down
 

@@ -1,5 +1,7 @@
+pub mod Known
 pub mod Happening
 pub mod Calls
 pub mod Acting
+pub mod Handling
 pub mod Deltas
 pub mod Running

@@ -1,12 +1,14 @@
 -- The induction over the prefixes of a story of managers without channels.
-use Rattle.std.proofs.Common.{ℕ, zero, suc, ◌≡◌, ◌⊎◌, Bool, true, false, not, List, [], ◌∷◌, ◌++◌, refl, ap, sym, subst, ◌∙◌, inl, inr, map, arith}
+use Rattle.std.proofs.Common.{ℕ, zero, suc, ◌≡◌, Bool, true, false, List, [], ◌∷◌, ◌++◌, refl, ap, sym, subst, ◌∙◌, inl, inr, map, arith}
 use Rattle.std.specs.Prelude.{Option, Some, None, ◌==◌, ◌+◌, if◌then◌else◌, ◌&&◌, ◌||◌, slice_get, nat_lt, nat_le}
 use Rattle.std.specs.Option.{option_map}
+use Rattle.std.specs.Str.{bytes_eq}
+use Rattle.mq_calls.specs.declared.image.Shelf.{Shelf}
 use Rattle.std.proofs.lemmas.Bool.Decides.{nat_tests}
 use Rattle.mq_message.specs.declared.message.Ident.{Ident}
 use Rattle.mq_sync.specs.declared.unit.Unit.{Unit as Luw}
 use Rattle.mq_frame.specs.declared.frame.Seen.{Seen}
-use Rattle.mq_calls.specs.declared.deltas.Did.{Did}
+use Rattle.mq_calls.specs.declared.choices.Return.{Return}
 use Rattle.mq_history.specs.declared.acts.Act.TheVariants as acts
 use Rattle.mq_history.specs.declared.calls.Actor.{Actor}
 use Rattle.mq_history.specs.declared.calls.Actor.TheVariants as actors
@@ -16,47 +18,47 @@ use Rattle.mq_history.specs.declared.calls.Chance.{Chance}
 use Rattle.mq_history.specs.declared.calls.Chance.TheVariants as chances
 use Rattle.mq_history.specs.declared.calls.Entry.{Entry}
 use Rattle.mq_history.specs.declared.history.History.{History}
-use Rattle.mq_history.specs.declared.scenario.CableLine.{CableLine}
-use Rattle.mq_history.specs.declared.scenario.RulesPart.{RulesPart}
 use Rattle.mq_history.specs.declared.scenario.Scenario.{Scenario}
-use Rattle.mq_history.specs.declared.story.ManagerPlaces.{ManagerPlaces}
 use Rattle.mq_sc_parse.specs.declared.command.Command.TheVariants as lines
-use Rattle.mq_spec_state.specs.State.{Plain, Given, Running}
+use Rattle.mq_spec_state.specs.State.{Plain, Queue, Running}
 use Rattle.mq_spec_state.specs.State.Running.{Up, Down}
 use Rattle.mq_spec_manager.specs.Get.{mqget}
-use Rattle.mq_spec_agents.specs.Standing.{is_unborn}
-use Rattle.mq_spec_node.specs.Node.{Node, Own, Handler, as_sender, as_receiver, end_in, handler_in}
+use Rattle.mq_spec_node.specs.Node.{Node, Handler, handler_in}
 use Rattle.mq_spec_node.specs.Deeds.{Deed, end_begun}
-use Rattle.mq_spec_node.specs.Happens.{get_deed, trigger_deed, event, IsEvent, IsDeed, where_up, turn_up, timeout_by, sender_turn, receiver_turn, handler_turn, timeout_of}
-use Rattle.mq_spec_node.specs.Replays.{Tells, Follows, NoneForeign, IsOwn, done_by, opening_node}
+use Rattle.mq_spec_node.specs.Happens.{get_deed, trigger_deed, event, IsEvent, IsDeed, where_up, turn_up, timeout_by}
+use Rattle.mq_spec_node.specs.Replays.{Tells, NoneForeign, IsOwn, done_by, opening_node}
 use Rattle.mq_spec_network.specs.Apart.{maker}
-use Rattle.mq_spec_network.specs.Conflict.{NoConflict}
-use Rattle.mq_spec_network.specs.Given.{surroundings, ends_from, handlers_from}
-use Rattle.mq_spec_network.specs.Ledger.{Ledger, Users, ledger, posted}
-use Rattle.mq_spec_network.specs.Order.{AllInOrder, AllInOrderFrom, OrderAt, unit_received, forced_in, Forced}
-use Rattle.mq_spec_network.specs.Promised.{Holds, Premises, Promised, AreImages}
-use Rattle.mq_spec_network.specs.Standing.{node_after, managers_at, opening_managers, opening_ledger, opening_ledger_of, places_of}
+use Rattle.mq_spec_network.specs.Given.{surroundings, ends_from}
+use Rattle.mq_spec_network.specs.Ledger.{Ledger, ledger, posted}
+use Rattle.mq_spec_network.specs.Order.{AllInOrderFrom, OrderAt, unit_received, forced_in, Forced}
+use Rattle.mq_spec_network.specs.Promised.{Premises, Promised}
+use Rattle.mq_spec_network.specs.Standing.{node_after, managers_at, opening_managers, opening_ledger, places_of, stored_standing}
 use Rattle.mq_spec_network.specs.Story.{Mem, Line, IsStory, part, entries_or, entries_at}
 use Rattle.mq_law_rows.specs.World.{Ghost, Inv}
-use Rattle.mq_law_rows.proofs.Lists.{bool_case, eqb_self, eqb_yes, true_false}
+use Rattle.mq_law_rows.proofs.Lists.{map_mem, bool_case, eqb_self, eqb_yes, true_false}
 use Rattle.mq_law_seen.specs.Seen.{world_of, book_of}
 use Rattle.mq_law_seen.specs.Given.{given_by, is_given}
 use Rattle.mq_law_story.specs.Told.{IsTold as IsOperated}
 use Rattle.mq_law_story.proofs.Beginning.{images_have_the_facts}
 use Rattle.mq_law_story.proofs.Promising.{rows_promised, once_promised}
-use Rattle.mq_law_story.proofs.Weaving.{part_append, node_step, manager_at, other_manager, this_manager, ledger_step, story_tells}
-use Rattle.mq_law_manager.specs.Facts.{AreNamed, IsSound, IsFrozen}
+use Rattle.mq_law_story.proofs.Weaving.{node_step, manager_at, other_manager, this_manager, ledger_step, story_tells}
+use Rattle.mq_law_manager.specs.Facts.{AreNamed}
 use Rattle.mq_law_manager.proofs.Ending.{first_sound}
-use Rattle.mq_law_events.specs.Tied.{IsTold, IsFresh, IsElse, IsNext}
-use Rattle.mq_law_events.specs.Posting.{IsTimed}
+use Rattle.mq_law_events.specs.Tied.{AreShelved, IsElse, IsNext}
 use Rattle.mq_law_events.proofs.Stepping.{moves_on}
-use Rattle.mq_law_one.specs.Alone.{IsAlone, FindsNone, AllFindNone, NoneFound, AreKnownOnce, IsState, IsAt, Became}
+use Rattle.mq_law_one.specs.Alone.{IsAlone, FindsNone, AllFindNone, NoneFound, AreDoubtsKnown, IsState, IsAt, Became}
+use Rattle.mq_law_one.proofs.Known.{known_own}
 use Rattle.mq_law_one.proofs.Happening.{entry_of}
 use Rattle.mq_law_one.proofs.Calls.{Happens, conn_happens, disc_happens, open_happens, close_happens, put_happens, put1_happens, get_happens, commit_happens, back_happens}
 use Rattle.mq_law_one.proofs.Acting.{no_deed, turn_none, timeout_none, command_happens, operate_happens, status_happens, crash_happens, restart_happens, aside_happens, clock_happens, trigger_happens}
+use Rattle.mq_law_one.proofs.Handling.{turn_happens}
 use Rattle.mq_law_one.proofs.Deltas.{event_quiet}
 
 -- Each event
+
+never_restart : (d : Option Deed) (choice : Return) (n : Node) → IsDeed d (chances.Restart choice) n → ⊥
+never_restart None choice n z = z
+never_restart (Some d) choice n z = z
 
 happens : (m : ℕ) (given : Ident → Bool) (n : Node) (l : Ledger) (e : Entry) (stamp : ℕ) (actor : Actor) (call : Call) (chance : Chance) (seen : Seen) → IsAt m given n l → IsEvent stamp actor call chance seen n → IsOwn chance → FindsNone chance
     → Happens m given n l e stamp actor call chance seen
@@ -98,13 +100,21 @@ happens m given n l e stamp actor (calls.Act (acts.Obey c)) (chances.Restart cho
 happens m given n l e stamp actor (calls.Act (acts.Obey c)) (chances.Foreign image length left) seen a can own none = absurd can
 happens m given n l e stamp actor (calls.Act acts.Crash) chance seen a can own none = crash_happens m given n l e stamp actor chance seen a can
 happens m given n l e stamp actor (calls.Act acts.Restart) chance seen a can own none = restart_happens m given n l e stamp actor chance seen a can own none
-happens m given n l e stamp actor (calls.Act (acts.Cut k)) (chances.Call choice) seen a can own none = aside_happens m given n l n.own n.manager.running (record n.manager.log { armed = k }) a a.ends a.handlers refl
+happens m given n l e stamp actor (calls.Act (acts.Cut k)) (chances.Call choice) seen a can own none = aside_happens m given n l n.own n.manager.running (record n.manager.log { armed = k }) a a.ends refl
 happens m given n l e stamp actor (calls.Act (acts.Cut k)) (chances.Restart choice) seen a can own none = absurd can
 happens m given n l e stamp actor (calls.Act (acts.Cut k)) (chances.Foreign image length left) seen a can own none = absurd can
 happens m given n l e stamp actor (calls.Act (acts.Clock by_)) (chances.Call choice) seen a can own none = clock_happens m given n l by_ a
 happens m given n l e stamp actor (calls.Act (acts.Clock by_)) (chances.Restart choice) seen a can own none = absurd can
 happens m given n l e stamp actor (calls.Act (acts.Clock by_)) (chances.Foreign image length left) seen a can own none = absurd can
-happens m given n l e stamp actor calls.Turn chance seen a can own none = absurd (no_deed n.manager.running (turn_up stamp actor seen n) chance n (turn_none stamp actor seen n a.ends a.handlers) can)
+happens m given n l e stamp (actors.Handler number) calls.Turn (chances.Call choice) seen a can own none = turn_happens m given n l e (actors.Handler number) choice n.manager.running (handler_in number n.own.handlers) a refl can
+happens m given n l e stamp (actors.Sender k) calls.Turn (chances.Call choice) seen a can own none = absurd (no_deed n.manager.running (turn_up stamp (actors.Sender k) seen n) (chances.Call choice) n (turn_none stamp (actors.Sender k) seen n a.ends (λ j e. cc)) can)
+happens m given n l e stamp (actors.Receiver k) calls.Turn (chances.Call choice) seen a can own none = absurd (no_deed n.manager.running (turn_up stamp (actors.Receiver k) seen n) (chances.Call choice) n (turn_none stamp (actors.Receiver k) seen n a.ends (λ j e. cc)) can)
+happens m given n l e stamp (actors.Script k) calls.Turn (chances.Call choice) seen a can own none = absurd (no_deed n.manager.running None (chances.Call choice) n refl can)
+happens m given n l e stamp (actors.Monitor k) calls.Turn (chances.Call choice) seen a can own none = absurd (no_deed n.manager.running None (chances.Call choice) n refl can)
+happens m given n l e stamp actors.Operator calls.Turn (chances.Call choice) seen a can own none = absurd (no_deed n.manager.running None (chances.Call choice) n refl can)
+happens m given n l e stamp actors.Clock calls.Turn (chances.Call choice) seen a can own none = absurd (no_deed n.manager.running None (chances.Call choice) n refl can)
+happens m given n l e stamp actor calls.Turn (chances.Restart choice) seen a can own none = absurd (never_restart (where_up n.manager.running (turn_up stamp actor seen n)) choice n can)
+happens m given n l e stamp actor calls.Turn (chances.Foreign image length left) seen a can own none = absurd own
 happens m given n l e stamp actor calls.Timeout chance seen a can own none = absurd (no_deed n.manager.running (timeout_by actor n) chance n (timeout_none actor n a.ends) can)
 happens m given n l e stamp actor calls.Trigger (chances.Call choice) seen a can own none = trigger_happens m given n l e stamp actor choice seen a can
 happens m given n l e stamp actor calls.Trigger (chances.Restart choice) seen a can own none = absurd (no_restart (trigger_deed n) can)
@@ -121,11 +131,10 @@ other_number i a m k t ne e u = grind (arith, nat_tests)
 
 stays_at : (m a : ℕ) (given now : Ident → Bool) (n c : Node) (l k : Ledger) → (a == m) ≡ false → IsAt a given c l → n.manager.given.number ≡ m + 1 → ((i : Ident) → (i.manager == n.manager.given.number) ≡ false → now i ≡ given i) → IsElse m l k → IsAt a now c k
 stays_at m a given now n c l k ne at number known other = record {
-  told = record { places = at.told.places; placed = other.places a ne ∙ at.told.placed; name = at.told.name; definitions = at.told.definitions; users = at.told.users; used = other.users a ne ∙ at.told.used; connections = at.told.connections };
+  told = record { places = at.told.places; placed = other.places a ne ∙ at.told.placed; shelved = at.told.shelved; name = at.told.name; definitions = at.told.definitions; users = at.told.users; used = other.users a ne ∙ at.told.used; connections = at.told.connections };
   fresh = λ i u. known i (other_number i a m n.manager.given.number _ ne number (ap (λ z. (i.manager == z) && (nat_lt c.manager.numbers.incarnation i.incarnation || ((i.incarnation == c.manager.numbers.incarnation) && nat_lt c.manager.numbers.idents i.number))) (sym at.number) ∙ u)) ∙ at.fresh i u;
   number = at.number;
   ends = at.ends;
-  handlers = at.handlers;
   batches = at.batches;
   timed = record { users = at.timed.users; used = other.users a ne ∙ at.timed.used; moment = at.timed.moment };
   state = at.state;
@@ -229,14 +238,18 @@ mapped_at f [] m x e = absurd cc
 mapped_at f (y ∷ xs) zero x e = let same : y ≡ x = cc in ap (λ z. Some (f z)) same
 mapped_at f (y ∷ xs) (suc m) x e = mapped_at f xs m x e
 
+opening_shelved : (s : Scenario) (ps : List Plain) (p : Plain) (qs : List Queue) → AreNamed qs → AreShelved (map (stored_standing s ps p) qs)
+opening_shelved s ps p [] n = tt
+opening_shelved s ps p (q ∷ qs) n = ((λ y k. let r = map_mem (stored_standing s ps p) y qs k in ap (λ (z : Shelf). bytes_eq q.name z.name) r.2 ∙ n.0 r.0 r.1), opening_shelved s ps p qs n.1)
+
 not_given : (i : Ident) (m n : ℕ) → ((i.manager == m) && (nat_lt n i.incarnation || ((i.incarnation == n) && nat_lt 0 i.number))) ≡ true → (nat_lt i.incarnation n || (i.incarnation == n && nat_le i.number 0)) ≡ false
 not_given i m n e = grind (arith, nat_tests)
 
 is_maker : (i : Ident) (m : ℕ) (t : Bool) → ((i.manager == m + 1) && t) ≡ true → i.manager ≡ suc m
 is_maker i m t e = grind (arith, nat_tests)
 
-begins : (s : Scenario) (hs : List History) → IsAlone s → AreKnownOnce hs → Premises s hs → Stand s hs []
-begins s hs alone known premises =
+begins : (s : Scenario) (hs : List History) → IsAlone s → AreDoubtsKnown hs → Premises s hs → Stand s hs []
+begins s hs alone doubts premises =
     let ps : List Plain = opening_managers s hs in
     record {
       given = is_given ps;
@@ -251,6 +264,7 @@ begins s hs alone known premises =
             told = record {
               places = places_of s ps p;
               placed = mapped_at (places_of s ps) ps m p at;
+              shelved = opening_shelved s ps p p.queues (first_sound (surroundings s m).given h.opening h.length h.moment (premises.openings m h is) (record { rows = known_own s hs m h is premises.openings premises.joined.together; doubts = doubts m h is })).named;
               name = refl;
               definitions = refl;
               users = record { moment = p.moment; connections = []; cut = None };
@@ -259,11 +273,10 @@ begins s hs alone known premises =
             };
             fresh = λ i u. ap (λ k. given_by (maker ps k) i) (is_maker i m _ u) ∙ ap (λ o. given_by o i) at ∙ not_given i (m + 1) p.numbers.incarnation u;
             number = refl;
-            ends = ap (λ cs. map (end_begun p) (ends_from s m 0 cs)) alone.cables;
-            handlers = ap (λ rs. map (λ (h : Handler). record h { tried = [] }) (handlers_from m 0 rs)) alone.rules;
+            ends = ap (λ cs. map (end_begun p) (ends_from s m 0 cs)) alone;
             batches = refl;
             timed = record { users = record { moment = p.moment; connections = []; cut = None }; used = mapped_at (λ (p : Plain). record { moment = p.moment; connections = []; cut = None }) ps m p at; moment = refl };
-            state = first_sound (surroundings s m).given h.opening h.length h.moment (premises.openings m h is) (known.known m h is) (known.once m h is);
+            state = first_sound (surroundings s m).given h.opening h.length h.moment (premises.openings m h is) (record { rows = known_own s hs m h is premises.openings premises.joined.together; doubts = doubts m h is });
           };
     }
 
@@ -272,10 +285,6 @@ begins s hs alone known premises =
 one_more : {A : Type 0} (xs : List A) (y : A) (ys : List A) → (xs ++ y ∷ []) ++ ys ≡ xs ++ y ∷ ys
 one_more [] y ys = refl
 one_more (x ∷ xs) y ys = ap (λ zs. x ∷ zs) (one_more xs y ys)
-
-appended : {A : Type 0} (xs ys zs : List A) → (xs ++ ys) ++ zs ≡ xs ++ (ys ++ zs)
-appended [] ys zs = refl
-appended (x ∷ xs) ys zs = ap (λ ws. x ∷ ws) (appended xs ys zs)
 
 none_more : {A : Type 0} (xs : List A) → xs ++ [] ≡ xs
 none_more [] = refl
@@ -296,7 +305,7 @@ orders s hs before (x ∷ p) rest fs premises found story z =
     let n : Node = node_after s x.manager before t.h in
     let l : Ledger = ledger (opening_ledger s hs) before in
     let a = z.at x.manager t.h t.is in
-    let quiet : unit_received x.entry.effect.delta ≡ None = ap unit_received t.tells.delta ∙ event_quiet n x.entry.stamp x.entry.actor x.entry.call x.entry.chance x.entry.effect.popped a.ends a.handlers t.tells.event t.own t.none in (
+    let quiet : unit_received x.entry.effect.delta ≡ None = ap unit_received t.tells.delta ∙ event_quiet n x.entry.stamp x.entry.actor x.entry.call x.entry.chance x.entry.effect.popped a.ends t.tells.event t.own t.none in (
       subst (λ o. OrderAt o fs x l (posted x.manager x.entry x.entry.reply l)) (sym quiet) tt,
       subst (λ y. AllInOrderFrom (forced_in x.entry fs) y p) (ledger_step (opening_ledger s hs) before x)
           (orders s hs (before ++ x ∷ []) p rest (forced_in x.entry fs) premises found (subst (IsStory hs) (sym (one_more before x (p ++ rest))) story) (step s hs before x z t)),
@@ -306,10 +315,10 @@ named : (r : Running) (p : Plain) → IsState r p → AreNamed p.queues
 named Up p h = h.named
 named (Down noted starts) p h = h.named
 
-pub promised : (s : Scenario) (hs : List History) → IsAlone s → NoneFound hs → AreKnownOnce hs → Promised s hs
-promised s hs alone found known premises story p rest is_story split no_conflict =
+pub promised : (s : Scenario) (hs : List History) → IsAlone s → NoneFound hs → AreDoubtsKnown hs → Promised s hs
+promised s hs alone found doubts premises story p rest is_story split no_conflict =
     let whole : IsStory hs (p ++ rest) = subst (IsStory hs) split is_story in
-    let first : Stand s hs [] = begins s hs alone known premises in
+    let first : Stand s hs [] = begins s hs alone doubts premises in
     let z : Stand s hs p = stands s hs [] p rest premises found whole first in
     let operated : IsOperated s hs p z.ghost = record { resolved = λ m c u e. absurd (true_false (sym e ∙ z.calm m c u)); not_yet = λ m c u e. absurd (true_false (sym e ∙ z.calm m c u)) } in
     record {

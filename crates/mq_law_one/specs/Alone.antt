@@ -1,5 +1,5 @@
 -- A scenario in which managers stand alone, and what an event of one is.
-use Rattle.std.specs.Prelude.{ℕ, ◌≡◌, ◌==◌, ◌+◌, Bool, true, false, List, [], ◌∷◌, Some, slice_get}
+use Rattle.std.specs.Prelude.{ℕ, ◌≡◌, ◌==◌, ◌+◌, Bool, true, false, List, [], ◌∷◌, Some, slice_get, All}
 use Rattle.mq_message.specs.declared.message.Ident.{Ident}
 use Rattle.mq_calls.specs.declared.choices.Return.TheVariants.{Comes, Fails}
 use Rattle.mq_history.specs.declared.calls.Chance.{Chance}
@@ -7,20 +7,19 @@ use Rattle.mq_history.specs.declared.calls.Chance.TheVariants as chances
 use Rattle.mq_history.specs.declared.calls.Entry.{Entry}
 use Rattle.mq_history.specs.declared.history.History.{History}
 use Rattle.mq_history.specs.declared.scenario.Scenario.{Scenario}
-use Rattle.mq_spec_state.specs.State.{Plain, Running}
+use Rattle.mq_spec_state.specs.State.{Plain, Running, SenderSide}
 use Rattle.mq_spec_state.specs.State.Running.{Up, Down}
-use Rattle.mq_spec_state.specs.Recovery.{AreKnown}
+use Rattle.mq_spec_state.specs.Recovery.{IsDoubtKnown}
 use Rattle.mq_spec_node.specs.Node.{Node}
 use Rattle.mq_spec_network.specs.Ledger.{Ledger}
-use Rattle.mq_law_manager.specs.Facts.{AreOnce, IsSound, IsFrozen}
+use Rattle.mq_law_manager.specs.Facts.{IsSound, IsFrozen}
 use Rattle.mq_law_events.specs.Local.{Leads, side_of, sheet_of}
 use Rattle.mq_law_events.specs.Tied.{IsTold, IsFresh, IsSame, IsElse}
 use Rattle.mq_law_events.specs.Posting.{IsTimed}
 
--- no channel's cable, and no rules table
-pub record IsAlone (s : Scenario) : Type 0 where
-  pub cables : s.cables ≡ []
-  pub rules : s.rules ≡ []
+-- no channel's cable
+abbrev pub IsAlone : Scenario → Type 0
+IsAlone s = s.cables ≡ []
 
 -- no restart finds a stopped write
 abbrev pub FindsNone : Chance → Type 0
@@ -37,11 +36,10 @@ AllFindNone (e ∷ es) = FindsNone e.chance × AllFindNone es
 abbrev pub NoneFound : List History → Type 0
 NoneFound hs = (m : ℕ) (h : History) → slice_get hs m ≡ Some h → AllFindNone h.entries
 
--- what is still asked of the openings beside that they are images: no name of objects stands twice in its space, and each log
--- knew the incarnations of its manager's own idents
-pub record AreKnownOnce (hs : List History) : Type 0 where
-  pub once : (m : ℕ) (h : History) → slice_get hs m ≡ Some h → AreOnce h.opening.definitions.objects
-  pub known : (m : ℕ) (h : History) → slice_get hs m ≡ Some h → AreKnown (m + 1) h.opening
+-- what is still asked of the openings beside that they are images: each log knew the incarnations of its manager's own idents
+-- that its units in doubt list (of those of rows the check that logs belong together says so)
+abbrev pub AreDoubtsKnown : List History → Type 0
+AreDoubtsKnown hs = (m : ℕ) (h : History) → slice_get hs m ≡ Some h → All (λ (s : SenderSide). IsDoubtKnown (m + 1) h.opening.incarnation s.hardened.in_doubt) h.opening.senders
 
 -- a manager that is up has its facts; one that is down what is left of them
 abbrev pub IsState : Running → Plain → Type 0
@@ -54,7 +52,6 @@ pub record IsAt (m : ℕ) (given : Ident → Bool) (n : Node) (l : Ledger) : Typ
   pub fresh : IsFresh given n.manager
   pub number : n.manager.given.number ≡ m + 1
   pub ends : n.own.ends ≡ []
-  pub handlers : n.own.handlers ≡ []
   pub batches : n.manager.channels.batches ≡ []
   pub timed : IsTimed m n.manager l
   pub state : IsState n.manager.running n.manager

@@ -300,3 +300,16 @@ pub openings_have_the_facts : (s : Scenario) (ps : List Plain) → AreOpenings p
 openings_have_the_facts s ps o together =
     opens (world_of s (is_given ps) ps) (book_of (opening_ledger_of s ps)) (spots_of 0 ps) (sent_at ps) (source_at ps)
     (openings_open s ps o (none_else (cables_apart s ps 0 s.cables) (idents_apart ps (standing_idents s ps) (row_idents ps)) together).1)
+
+-- where the logs belong together, that of a row's maker knew the incarnation of its ident
+pub openings_known : (s : Scenario) (ps : List Plain) → AreOpenings ps → apart_of s ps ≡ None → (m k : ℕ) (p r : Plain) (q : List ℕ) (h : Row) → slice_get ps m ≡ Some p → slice_get ps k ≡ Some r
+    → Mem h (stored q p).rows → h.message.ident.manager ≡ suc k → nat_lt (r.numbers.incarnation - 1) h.message.ident.incarnation ≡ false
+openings_known s ps o together m k p r q h is made n own =
+    let i : Ident = h.message.ident in
+    let l = map_mem (λ (l : LocalQueue). l.name) q (locals_of p.definitions) ((o.each m p is).defined q h n) in
+    let tried : Mem i (row_idents ps) = mem_flat (idents_in (λ rows. rows)) p i ps (at_mem ps m p is)
+    (mem_flat (λ (l : LocalQueue). map (λ (row : Row). row.message.ident) (stored l.name p).rows) l.0 i (locals_of p.definitions) l.1
+    (mem_map (λ (row : Row). row.message.ident) h (stored l.0.name p).rows (subst (λ z. Mem h (stored z p).rows) l.2 n))) in
+    let apart_none = (none_else (cables_apart s ps 0 s.cables) (idents_apart ps (standing_idents s ps) (row_idents ps)) together).1 in
+    let newer = (once_known ps (standing_idents s ps) i (each_ident ps (standing_idents s ps) (row_idents ps) i apart_none tried)).1 in
+    no_case (nat_lt (r.numbers.incarnation - 1) i.incarnation) _ (subst (λ z. newer_case i (known z) ≡ None) (ap (maker ps) own ∙ made) newer)
