@@ -1,5 +1,5 @@
 -- The condition reads of a manager what is seen of it.
-use Rattle.std.proofs.Common.{◌≡◌, Bool, List, refl, sym, ◌∙◌}
+use Rattle.std.proofs.Common.{◌≡◌, List, refl, sym, ◌∙◌}
 use Rattle.std.specs.Prelude.{Option, Some, None, not, ◌&&◌, is_some}
 use Rattle.mq_objects.specs.declared.object.TriggerType.TheVariants as triggers
 use Rattle.mq_spec_state.specs.Words.{Definitions, LocalQueue, TriggerType, Connection, Seizure, Plain, stored, waiting, has_priority, by_type, is_served, is_triggered, local_of, process_of}
