@@ -1,6 +1,6 @@
 -- Each text is that of a scenario or has a fault: its lines are followed one by one.
 use Rattle.std.proofs.Common.{◌≡◌, ℕ, ◌+◌, ◌-◌, ◌<◌, ◌≤◌, Bool, true, false, List, [], ◌∷◌, ◌++◌, length, Result, Ok, Err, refl, sym, ap, subst, ◌∙◌, append_assoc, append-nil, arith, inl, inr}
-use Rattle.std.specs.Prelude.{◌⊎◌, codes, Option, Some, None, nat_lt}
+use Rattle.std.specs.Prelude.{◌⊎◌, codes, Some, nat_lt}
 use Rattle.std.proofs.lemmas.List.{length-append}
 use Rattle.std.proofs.lemmas.Bool.Decides.{nat_tests}
 use Rattle.mq_text.specs.Lines.{lines_of}
@@ -11,11 +11,9 @@ use Rattle.mq_history.specs.declared.scenario.Step.{Step}
 use Rattle.mq_history.specs.declared.scripts.ScriptLine.{ScriptLine}
 use Rattle.mq_scn_lines.specs.declared.fault.Limit.TheVariants as limits
 use Rattle.mq_scn_lines.specs.declared.fault.LineFault.{LineFault}
-use Rattle.mq_scn_lines.specs.Words.{first_word}
 use Rattle.mq_scn_text.specs.declared.fault.Cause.TheVariants as causes
 use Rattle.mq_scn_text.specs.declared.fault.ScenarioFault.{ScenarioFault}
 use Rattle.mq_scn_text.specs.declared.fault.ScenarioFault.TheVariants as faults
-use Rattle.mq_scn_text.specs.declared.parts.PartWord.{PartWord}
 use Rattle.mq_scn_text.specs.declared.parts.Stage.{Stage}
 use Rattle.mq_scn_text.specs.declared.parts.Stage.TheVariants as stages
 use Rattle.mq_scn_text.specs.declared.heading.PartLine.{PartLine}
@@ -26,8 +24,6 @@ use Rattle.mq_scn_text.specs.declared.reading.Inside.{Inside}
 use Rattle.mq_scn_text.specs.declared.reading.Inside.TheVariants as insides
 use Rattle.mq_scn_text.specs.Faults.{fault_at}
 use Rattle.mq_scn_text.specs.Lookup.{own_name}
-use Rattle.mq_scn_text.specs.Parts.{part_word_of}
-use Rattle.mq_scn_text.specs.Heading.{part_read}
 use Rattle.mq_scn_text.specs.Sections.{text_added, line_in, mqsc_ended, rules_ended}
 use Rattle.mq_scn_text.specs.Scripts.{new_script, put_len, script_read, script_added}
 use Rattle.mq_scn_text.specs.Reading.{is_only, is_skipped, opened, step_read, section_cut, scenario_of}

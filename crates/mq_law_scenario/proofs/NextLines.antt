@@ -1,5 +1,5 @@
 -- The next line of a script and the next step, both ways.
-use Rattle.std.proofs.Common.{◌≡◌, ◌⊎◌, ℕ, suc, ◌≤◌, ◌<◌, Bool, true, false, cond, List, length, Result, Ok, Err, refl, sym, ap, subst, ◌∙◌, arith, inl, inr}
+use Rattle.std.proofs.Common.{◌≡◌, ◌⊎◌, ℕ, suc, ◌≤◌, ◌<◌, Bool, true, false, cond, List, length, Result, Ok, Err, refl, sym, ap, ◌∙◌, arith, inl, inr}
 use Rattle.std.specs.Prelude.{◌&&◌, nat_lt}
 use Rattle.std.proofs.lemmas.Bool.Decides.{leb_tells}
 use Rattle.mq_history.specs.declared.scenario.Scenario.{Scenario}
@@ -16,10 +16,10 @@ use Rattle.mq_scn_text.specs.Scripts.{connects, room, ordered, script_read}
 use Rattle.mq_scn_text.specs.Steps.{step_line}
 use Rattle.mq_scn_text.specs.Reading.{step_room, step_read}
 use Rattle.mq_scn_grammar.specs.ScriptLines.{IsScriptLine, HasLineFault}
-use Rattle.mq_scn_grammar.proofs.Told.{Reports, IsFirst}
+use Rattle.mq_scn_grammar.proofs.Told.{Reports}
 use Rattle.mq_scn_grammar.proofs.Numbers.{le_of}
 use Rattle.mq_scn_grammar.proofs.Script.{Answers, answer_found, answer_read, refusal_found, refusal_read, LineOf, FaultOf as LineFaultOf, line_tells}
-use Rattle.mq_scn_parts.specs.Steps.{IsStepLine, HasStepFault}
+use Rattle.mq_scn_parts.specs.Steps.{IsStepLine}
 use Rattle.mq_scn_parts.proofs.Pairs.{answers_both}
 use Rattle.mq_scn_parts.proofs.StepLines.{StepOf, FaultOf, step_tells}
 use Rattle.mq_law_scenario.specs.Faults.{HasNextFault, IsNextFault, HasNextStepFault, IsNextStepFault}

@@ -1,6 +1,6 @@
 -- What is written is read: blocks, the part that is open behind them, whole texts, and their faults.
 use Rattle.std.proofs.Common.{◌≡◌, ℕ, ◌+◌, ◌-◌, ◌<◌, ◌≤◌, true, false, List, [], ◌∷◌, ◌++◌, length, Result, Ok, Err, refl, sym, ap, subst, ◌∙◌, append_assoc, append-nil, arith, inl, inr}
-use Rattle.std.specs.Prelude.{nat_le, ◌&&◌, codes, Option, Some, None}
+use Rattle.std.specs.Prelude.{nat_le, ◌&&◌, codes}
 use Rattle.std.proofs.lemmas.List.{length-append}
 use Rattle.std.proofs.lemmas.Bool.Decides.{nat_tests}
 use Rattle.mq_text.specs.Lines.{lines_of}
@@ -8,11 +8,9 @@ use Rattle.mq_history.specs.declared.scenario.Scenario.{Scenario}
 use Rattle.mq_history.specs.declared.scenario.Step.{Step}
 use Rattle.mq_history.specs.declared.scripts.ScriptLine.{ScriptLine}
 use Rattle.mq_scn_lines.specs.declared.fault.Limit.TheVariants as limits
-use Rattle.mq_scn_lines.specs.Words.{first_word}
 use Rattle.mq_scn_text.specs.declared.fault.Cause.TheVariants as causes
 use Rattle.mq_scn_text.specs.declared.fault.ScenarioFault.{ScenarioFault}
 use Rattle.mq_scn_text.specs.declared.fault.ScenarioFault.TheVariants as faults
-use Rattle.mq_scn_text.specs.declared.parts.PartWord.{PartWord}
 use Rattle.mq_scn_text.specs.declared.parts.Stage.{Stage}
 use Rattle.mq_scn_text.specs.declared.parts.Stage.TheVariants as stages
 use Rattle.mq_scn_text.specs.declared.heading.PartLine.{PartLine}
@@ -23,10 +21,9 @@ use Rattle.mq_scn_text.specs.declared.reading.Inside.{Inside}
 use Rattle.mq_scn_text.specs.declared.reading.Inside.TheVariants as insides
 use Rattle.mq_scn_text.specs.declared.reading.Reading.{Reading}
 use Rattle.mq_scn_text.specs.Faults.{and_then}
-use Rattle.mq_scn_text.specs.Parts.{part_word_of}
 use Rattle.mq_scn_text.specs.Sections.{text_added, line_in}
 use Rattle.mq_scn_text.specs.Scripts.{new_script, put_len, script_added}
-use Rattle.mq_scn_text.specs.Reading.{nothing_read, is_only, is_skipped, opened, part_added, part_of_word, part_from, part_line_read, outside_read, mqsc_line_read, rules_line_read, script_line_read, skipped_or_script, step_line_read, skipped_or_step, inside_read, section_cut, else_fault, line_read, lines_read, is_outside, are_steps, ended, scenario_of}
+use Rattle.mq_scn_text.specs.Reading.{nothing_read, is_only, is_skipped, opened, part_added, outside_read, mqsc_line_read, rules_line_read, script_line_read, skipped_or_script, step_line_read, skipped_or_step, inside_read, section_cut, else_fault, line_read, lines_read, is_outside, are_steps, ended, scenario_of}
 use Rattle.mq_scn_parts.proofs.PartLines.{part_is_read, part_is_refused}
 use Rattle.mq_law_scenario.proofs.NextLines.{next_read, line_is_refused, next_step_read, step_is_refused}
 use Rattle.mq_law_scenario.specs.Texts.{Said, nothing_said, Begins, Adds, NoneIs, text_of, IsOpenSection, IsOpenTable, IsNextLine, AreSpoken, IsOpenScript, IsNextStep, AreStepped, AreOpenSteps, IsOpen, Ends, IsEnded, IsBlock, AreBlocks, all_lines, IsText}

@@ -1,9 +1,10 @@
 -- Why a text is that of no scenario: the first line that can't stand in one, and its fault.
-use Rattle.std.specs.Prelude.{◌≡◌, ◌⊎◌, ℕ, ◌+◌, ◌<◌, ◌≤◌, true, false, List, ◌∷◌, ◌++◌, length, codes, Some, Ok, Err, ◌&&◌}
+use Rattle.std.specs.Prelude.{◌≡◌, ◌⊎◌, ℕ, ◌+◌, ◌<◌, ◌≤◌, true, false, List, ◌∷◌, ◌++◌, length, codes, Ok, Err, ◌&&◌}
 use Rattle.mq_text.specs.Lines.{lines_of}
 use Rattle.mq_scn_lines.specs.declared.fault.Limit.TheVariants as limits
 use Rattle.mq_scn_lines.specs.declared.fault.LineFault.{LineFault}
 use Rattle.mq_scn_lines.specs.declared.fault.LineFault.TheVariants as line_faults
+use Rattle.mq_history.specs.declared.scenario.Scenario.{Scenario}
 use Rattle.mq_history.specs.declared.scripts.ScriptLine.{ScriptLine}
 use Rattle.mq_scn_text.specs.declared.fault.Cause.TheVariants as causes
 use Rattle.mq_scn_text.specs.declared.fault.ScenarioFault.{ScenarioFault}

@@ -1,9 +1,8 @@
 -- The faults of a direction, and of a cable in both, both ways.
-use Rattle.std.proofs.Common.{◌≡◌, ◌⊎◌, ℕ, suc, ◌+◌, ◌≤◌, ◌<◌, Bool, true, false, cond, eqb, List, [], ◌∷◌, ◌++◌, append_assoc, append-nil, take, drop, Result, Ok, Err, refl, sym, ap, subst, ◌∙◌, arith, inl, inr}
+use Rattle.std.proofs.Common.{◌≡◌, ◌⊎◌, ℕ, suc, ◌+◌, ◌<◌, Bool, true, false, cond, eqb, List, [], ◌∷◌, ◌++◌, append_assoc, append-nil, take, drop, Result, Ok, Err, refl, sym, ap, subst, ◌∙◌, arith, inl, inr}
 use Rattle.std.specs.Prelude.{◌==◌, ◌&&◌, ◌||◌, not, codes, Option, Some, None}
-use Rattle.std.specs.List.{list_any}
 use Rattle.std.specs.Str.{bytes_eq}
-use Rattle.std.proofs.lemmas.Bool.{and_parts, and_from}
+use Rattle.std.proofs.lemmas.Bool.{and_parts}
 use Rattle.std.proofs.lemmas.Bool.Decides.{eqb_tells}
 use Rattle.std.proofs.lemmas.Slice.Eq.{bytes_eq-Decides}
 use Rattle.mq_text.specs.Lines.{cut}
@@ -16,11 +15,11 @@ use Rattle.mq_scn_text.specs.Distinct.{is_among, are_distinct}
 use Rattle.mq_scn_text.specs.Cables.{frame_in, fault_in, value_from, value_in, before_comma, first_number, frame_or_none, first_of, first_in, with_first, firsts_from, is_form, have_form, then_faults, faults_from, faults_of, behind_keyword, direction, back_place, cable_faults}
 use Rattle.mq_scn_grammar.specs.Words.{Mem}
 use Rattle.mq_scn_grammar.specs.Operands.{IsBracketed}
-use Rattle.mq_scn_grammar.proofs.Told.{Reports, IsFirst, is_plain, told_both, told_as, value_found, value_read}
+use Rattle.mq_scn_grammar.proofs.Told.{Reports, is_plain, told_both, told_as, value_found, value_read}
 use Rattle.mq_scn_grammar.proofs.Operands.{bracketed_read, bracketed_found}
-use Rattle.mq_scn_grammar.proofs.Bodies.{CutAt, cut_found, cut_read}
-use Rattle.mq_scn_parts.specs.Cables.{IsFrame, HasFrameFault, FaultShape, drops, spoils, holds, copies, IsFaultShape, IsFaultOf, HasShapeFault, IsFaultWord, HasWordFault, IsFaultValue, IsHead, IsOnFrame, HaveSameFrame, AreFaultWords, AreFaults, HasFaultsFault, IsDirection, HasDirectionFault, IsSplit, AreCableFaults, HasCableFault}
-use Rattle.mq_scn_parts.proofs.Then.{IsForm, form_tells}
+use Rattle.mq_scn_grammar.proofs.Bodies.{cut_found, cut_read}
+use Rattle.mq_scn_parts.specs.Cables.{IsFrame, HasFrameFault, FaultShape, drops, spoils, holds, copies, HasShapeFault, IsFaultWord, HasWordFault, IsFaultValue, IsHead, IsOnFrame, HaveSameFrame, AreFaultWords, AreFaults, HasFaultsFault, IsDirection, HasDirectionFault, IsSplit, AreCableFaults, HasCableFault}
+use Rattle.mq_scn_parts.proofs.Then.{form_tells}
 use Rattle.mq_scn_parts.proofs.Cables.{frame_tells, fault_tells}
 
 abbrev ok_at : {A : Type 0} → A → Result A LineFault
@@ -470,4 +469,4 @@ cable_tells ws =
     (λ x h. (halves ws, split_is ws, h)) (λ x h. subst (λ (p : Halves). AreHalves p x) (one_split ws h.0 (halves ws) h.1 (split_is ws)) h.2)
     (λ f h. (halves ws, split_is ws, h)) (λ f h. subst (λ (p : Halves). NoHalves p f) (one_split ws h.0 (halves ws) h.1 (split_is ws)) h.2)
     (told_both (IsDirection (codes "OUT") (take (back_place ws) ws)) (IsDirection (codes "BACK") (drop (back_place ws) ws)) (HasDirectionFault (codes "OUT") (take (back_place ws) ws)) (HasDirectionFault (codes "BACK") (drop (back_place ws) ws))
-     (direction (codes "OUT") (take (back_place ws) ws)) (direction (codes "BACK") (drop (back_place ws) ws)) (direction_tells (codes "OUT") (take (back_place ws) ws)) (direction_tells (codes "BACK") (drop (back_place ws) ws)))
+    (direction (codes "OUT") (take (back_place ws) ws)) (direction (codes "BACK") (drop (back_place ws) ws)) (direction_tells (codes "OUT") (take (back_place ws) ws)) (direction_tells (codes "BACK") (drop (back_place ws) ws)))

@@ -1,26 +1,20 @@
 -- The faults of a cable, both ways.
-use Rattle.std.proofs.Common.{◌≡◌, ◌⊎◌, ℕ, suc, ◌+◌, ◌≤◌, ◌<◌, Bool, true, false, cond, eqb, List, [], ◌∷◌, ◌++◌, append_assoc, append-nil, take, drop, Result, Ok, Err, refl, sym, ap, subst, ◌∙◌, arith, inl, inr}
-use Rattle.std.specs.Prelude.{◌==◌, ◌&&◌, not, nat_le, nat_lt, codes, Option, Some, None}
-use Rattle.std.specs.List.{list_any}
-use Rattle.std.specs.Str.{bytes_eq}
+use Rattle.std.proofs.Common.{◌≡◌, ◌⊎◌, ℕ, suc, ◌≤◌, ◌<◌, Bool, true, false, cond, List, ◌∷◌, ◌++◌, Result, Ok, Err, refl, sym, ap, subst, ◌∙◌, inl}
+use Rattle.std.specs.Prelude.{◌&&◌, nat_le, nat_lt, codes, Option, Some, None}
 use Rattle.std.proofs.lemmas.Bool.{and_parts, and_from}
-use Rattle.std.proofs.lemmas.Bool.Decides.{eqb_tells, leb_tells, nat_tests}
-use Rattle.std.proofs.lemmas.Slice.Eq.{bytes_eq-Decides}
 use Rattle.mq_text.specs.Lines.{cut}
 use Rattle.mq_cable.specs.declared.fault.Fault.{Fault}
 use Rattle.mq_cable.specs.declared.fault.Fault.TheVariants as cables
 use Rattle.mq_scn_lines.specs.declared.fault.LineFault.{LineFault}
 use Rattle.mq_scn_lines.specs.declared.fault.LineFault.TheVariants as faults
-use Rattle.mq_scn_lines.specs.Faults.{rank, both}
-use Rattle.mq_scn_lines.specs.Numbers.{ranged}
+use Rattle.mq_scn_lines.specs.Faults.{both}
 use Rattle.mq_scn_lines.specs.Operands.{bracketed}
 use Rattle.mq_scn_text.specs.Cables.{frame_in, dropping, dropped, spoiling, spoiled, holding, late, copying, copied, late_of, copy_of, fault_from, fault_in}
-use Rattle.mq_scn_grammar.specs.Words.{Mem}
 use Rattle.mq_scn_grammar.specs.Operands.{IsBracketed}
-use Rattle.mq_scn_grammar.proofs.Told.{Reports, IsFirst, told_both, told_map, told_via}
+use Rattle.mq_scn_grammar.proofs.Told.{Reports, told_both, told_map, told_via}
 use Rattle.mq_scn_grammar.proofs.Operands.{bracketed_read, bracketed_found}
 use Rattle.mq_scn_grammar.proofs.Numbers.{le_of, of_le, ranged_tells}
-use Rattle.mq_scn_grammar.proofs.Bodies.{CutAt, some_cut, cut_found, cut_read}
+use Rattle.mq_scn_grammar.proofs.Bodies.{cut_found, cut_read}
 use Rattle.mq_scn_parts.specs.Cables.{IsFrame, HasFrameFault, FaultShape, drops, spoils, holds, copies, IsFaultShape, IsFaultOf, HasShapeFault, IsFaultWord, HasWordFault}
 use Rattle.mq_scn_parts.proofs.Then.{told_then}
 
@@ -59,16 +53,16 @@ late_tells first second =
     told_then (AreFrames first second) (HasFramesFault first second) (λ p. Where (p.0 < p.1) (cables.Late p.0 p.1)) (λ p. NotWhere (p.0 < p.1)) holding (λ f. refl)
     (both (frame_in first) (frame_in second)) (frames_tell first second)
     (λ p is. where_by (p.0 < p.1) (cables.Late p.0 p.1) (nat_lt p.0 p.1 && nat_le p.1 4294967295)
-     (λ e. le_of (suc p.0) p.1 (and_parts (nat_lt p.0 p.1) (nat_le p.1 4294967295) e).0)
-     (λ lt. and_from (nat_lt p.0 p.1) (nat_le p.1 4294967295) (of_le (suc p.0) p.1 lt) (of_le p.1 4294967295 is.1.3)))
+    (λ e. le_of (suc p.0) p.1 (and_parts (nat_lt p.0 p.1) (nat_le p.1 4294967295) e).0)
+    (λ lt. and_from (nat_lt p.0 p.1) (nat_le p.1 4294967295) (of_le (suc p.0) p.1 lt) (of_le p.1 4294967295 is.1.3)))
 
 copy_tells : (first second : List ℕ) → Reports (IsFaultOf (copies first second)) (HasShapeFault (copies first second)) (copied first second)
 copy_tells first second =
     told_then (AreFrames first second) (HasFramesFault first second) (λ p. Where (p.0 ≤ p.1) (cables.Copy p.0 p.1)) (λ p. NotWhere (p.0 ≤ p.1)) copying (λ f. refl)
     (both (frame_in first) (frame_in second)) (frames_tell first second)
     (λ p is. where_by (p.0 ≤ p.1) (cables.Copy p.0 p.1) (nat_le p.0 p.1 && nat_le p.1 4294967295)
-     (λ e. le_of p.0 p.1 (and_parts (nat_le p.0 p.1) (nat_le p.1 4294967295) e).0)
-     (λ le. and_from (nat_le p.0 p.1) (nat_le p.1 4294967295) (of_le p.0 p.1 le) (of_le p.1 4294967295 is.1.3)))
+    (λ e. le_of p.0 p.1 (and_parts (nat_le p.0 p.1) (nat_le p.1 4294967295) e).0)
+    (λ le. and_from (nat_le p.0 p.1) (nat_le p.1 4294967295) (of_le p.0 p.1 le) (of_le p.1 4294967295 is.1.3)))
 
 abbrev shaped : Option FaultShape → Result Fault LineFault
 shaped None = Err faults.Form
@@ -177,5 +171,5 @@ pub fault_tells : (word : List ℕ) → Reports (IsFaultWord word) (HasWordFault
 fault_tells word =
     subst (Reports (IsFaultWord word) (HasWordFault word)) (sym (fault_shaped (bracketed (codes "DROP(") word) (bracketed (codes "SPOIL(") word) (bracketed (codes "LATE(") word) (bracketed (codes "COPY(") word)))
     (told_via (λ (s : FaultShape). IsFaultShape s word) IsFaultOf HasShapeFault (shape_of word) shaped refl
-     (λ s e. shape_found word s (bracketed (codes "DROP(") word) (bracketed (codes "SPOIL(") word) (bracketed (codes "LATE(") word) (bracketed (codes "COPY(") word) refl refl refl refl e)
-     (λ s h. shape_read s word h) (λ s. shape_tells s))
+    (λ s e. shape_found word s (bracketed (codes "DROP(") word) (bracketed (codes "SPOIL(") word) (bracketed (codes "LATE(") word) (bracketed (codes "COPY(") word) refl refl refl refl e)
+    (λ s h. shape_read s word h) (λ s. shape_tells s))

@@ -14,14 +14,13 @@ use Rattle.mq_history.specs.declared.scenario.ScriptPart.{ScriptPart}
 use Rattle.mq_history.specs.declared.scenario.MonitorLine.{MonitorLine}
 use Rattle.mq_scn_lines.specs.declared.fault.LineFault.{LineFault}
 use Rattle.mq_scn_lines.specs.declared.fault.LineFault.TheVariants as faults
-use Rattle.mq_scn_lines.specs.Faults.{rank}
 use Rattle.mq_scn_lines.specs.Operands.{label_in, name_in}
 use Rattle.mq_scn_text.specs.Lookup.{known, found, manager_place, manager_at, section_place, section_at, rules_place, rules_at, script_place, script_at, monitor_place, monitor_at, is_place, is_declared, unless_declared, new_label}
 use Rattle.mq_scn_text.specs.Heading.{unless_there, new_name, new_manager, channel_place, new_channel_name, new_channel}
 use Rattle.mq_scn_grammar.specs.Words.{Mem}
 use Rattle.mq_scn_grammar.specs.Faults.{IsMissed}
-use Rattle.mq_scn_grammar.specs.Operands.{IsLabelWord, IsNameWord}
-use Rattle.mq_scn_grammar.proofs.Told.{IsFirst, Reports, told_one, told_as}
+use Rattle.mq_scn_grammar.specs.Operands.{IsNameWord}
+use Rattle.mq_scn_grammar.proofs.Told.{Reports, told_one, told_as}
 use Rattle.mq_scn_grammar.proofs.Operands.{LabelsOf, label_tells, name_tells}
 use Rattle.mq_scn_parts.specs.Declared.{manager_names, channel_names, section_labels, rules_labels, script_labels, monitor_labels, HasLabel, IsFirstPlace, IsPlace, NamesPlace, HasNameFault, LabelsPlace, HasLabelFault, IsNewName, HasNewNameFault, IsNewLabel, HasNewLabelFault}
 use Rattle.mq_scn_parts.proofs.Then.{Then, HasThen, told_then}
@@ -189,15 +188,15 @@ pub new_manager_tells : (managers : List ManagerLine) (word : List ℕ) → Repo
 new_manager_tells managers word =
     new_tells (NamesOf 48 word) (IsMissed faults.Name (NamesOf 48 word)) (λ name. Mem name (manager_names managers)) (new_manager managers word)
     (told_then (NamesOf 48 word) (IsMissed faults.Name (NamesOf 48 word)) (λ name. Fresh (Mem name (manager_names managers)) name) (λ name. Stands (Mem name (manager_names managers)))
-     (new_name managers) (λ f. refl) (name_in 48 word) (name_tells 48 word)
-     (λ name is. there_tells (manager_names managers) name (manager_place name managers) (place_found (λ (m : ManagerLine). m.name) name managers)))
+    (new_name managers) (λ f. refl) (name_in 48 word) (name_tells 48 word)
+    (λ name is. there_tells (manager_names managers) name (manager_place name managers) (place_found (λ (m : ManagerLine). m.name) name managers)))
 
 pub new_channel_tells : (cables : List CableLine) (word : List ℕ) → Reports (IsNewName 20 (channel_names cables) word) (HasNewNameFault 20 (channel_names cables) word) (new_channel cables word)
 new_channel_tells cables word =
     new_tells (NamesOf 20 word) (IsMissed faults.Name (NamesOf 20 word)) (λ name. Mem name (channel_names cables)) (new_channel cables word)
     (told_then (NamesOf 20 word) (IsMissed faults.Name (NamesOf 20 word)) (λ name. Fresh (Mem name (channel_names cables)) name) (λ name. Stands (Mem name (channel_names cables)))
-     (new_channel_name cables) (λ f. refl) (name_in 20 word) (name_tells 20 word)
-     (λ name is. there_tells (channel_names cables) name (channel_place name cables) (place_found (λ (c : CableLine). c.channel) name cables)))
+    (new_channel_name cables) (λ f. refl) (name_in 20 word) (name_tells 20 word)
+    (λ name is. there_tells (channel_names cables) name (channel_place name cables) (place_found (λ (c : CableLine). c.channel) name cables)))
 
 -- whether a label stands for a part
 abbrev Tells : Bool → Type 0 → Type 0
@@ -258,4 +257,4 @@ pub new_label_tells : (s : Scenario) (word : List ℕ) → Reports (IsNewLabel s
 new_label_tells s word =
     new_tells (LabelsOf word) (IsMissed faults.Name (LabelsOf word)) (HasLabel s) (new_label s word)
     (told_then (LabelsOf word) (IsMissed faults.Name (LabelsOf word)) (λ label. Fresh (HasLabel s label) label) (λ label. Stands (HasLabel s label))
-     (unless_declared s) (λ f. refl) (label_in word) (label_tells word) (λ label is. declared_by s label (is_declared label s) (declared_tells s label)))
+    (unless_declared s) (λ f. refl) (label_in word) (label_tells word) (λ label is. declared_by s label (is_declared label s) (declared_tells s label)))

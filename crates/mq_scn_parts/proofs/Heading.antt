@@ -1,39 +1,33 @@
 -- Lines with which parts begin, both ways.
-use Rattle.std.proofs.Common.{◌≡◌, ◌≢◌, ◌⊎◌, ℕ, suc, ◌+◌, ◌≤◌, ◌<◌, Bool, true, false, cond, List, [], ◌∷◌, ◌++◌, Result, Ok, Err, refl, sym, ap, subst, ◌∙◌, arith, inl, inr}
-use Rattle.std.specs.Prelude.{◌==◌, ◌||◌, nat_le, nat_lt, codes, find, Option, Some, None}
-use Rattle.std.specs.List.{list_all}
-use Rattle.std.specs.Str.{bytes_eq}
+use Rattle.std.proofs.Common.{◌≡◌, ◌⊎◌, ℕ, suc, ◌≤◌, ◌<◌, Bool, true, false, cond, List, [], ◌∷◌, Result, Ok, Err, refl, sym, ap, subst, ◌∙◌, arith, inl, inr}
+use Rattle.std.specs.Prelude.{◌==◌, ◌||◌, nat_lt, codes, Option, Some, None}
 use Rattle.std.proofs.lemmas.Bool.Decides.{eqb_tells, leb_tells}
-use Rattle.std.proofs.lemmas.Slice.Eq.{bytes_eq-Decides}
-use Rattle.mq_cable.specs.declared.fault.Fault.{Fault}
 use Rattle.mq_history.specs.declared.scenario.Scenario.{Scenario}
 use Rattle.mq_scn_lines.specs.declared.fault.Limit.{Limit}
 use Rattle.mq_scn_lines.specs.declared.fault.Limit.TheVariants as limits
 use Rattle.mq_scn_lines.specs.declared.fault.LineFault.{LineFault}
 use Rattle.mq_scn_lines.specs.declared.fault.LineFault.TheVariants as faults
 use Rattle.mq_scn_lines.specs.Faults.{rank, limit_rank, both}
-use Rattle.mq_scn_lines.specs.Words.{first_word, is_open, words_of}
 use Rattle.mq_scn_lines.specs.Numbers.{ranged}
-use Rattle.mq_scn_lines.specs.Operands.{bracketed, name_in}
+use Rattle.mq_scn_lines.specs.Operands.{bracketed}
 use Rattle.mq_scn_text.specs.declared.parts.PartWord.{PartWord}
 use Rattle.mq_scn_text.specs.declared.parts.PartWord.TheVariants as words
 use Rattle.mq_scn_text.specs.declared.parts.Stage.{Stage}
 use Rattle.mq_scn_text.specs.declared.heading.PartLine.{PartLine}
 use Rattle.mq_scn_text.specs.declared.heading.PartLine.TheVariants as parts
 use Rattle.mq_scn_text.specs.Lookup.{manager_at, new_label}
-use Rattle.mq_scn_text.specs.Parts.{part_words, part_text, part_word_of, stage_rank, from_stage, up_to_stage, stage_behind, is_full, in_order, unless_full, allowed}
+use Rattle.mq_scn_text.specs.Parts.{stage_rank, from_stage, up_to_stage, stage_behind, is_full, in_order, unless_full, allowed}
 use Rattle.mq_scn_text.specs.Cables.{cable_faults}
-use Rattle.mq_scn_text.specs.Heading.{alone, at_moment, moment_line, new_manager, log_number, log_max_in, log_max, managed, manager_line, new_channel, apart, ends_of, cabled, connected, cable_with, cable_line, owned, labelled, mqsc_of, mqsc_line, rules_of, rules_line, script_of, script_line, needed_queue, queue_in, monitored, monitor_with, monitor_line, part_line}
-use Rattle.mq_scn_grammar.specs.Words.{AreWords}
-use Rattle.mq_scn_grammar.specs.Operands.{IsBracketed, IsNameWord}
+use Rattle.mq_scn_text.specs.Heading.{alone, at_moment, moment_line, new_manager, log_number, log_max_in, log_max, managed, manager_line, new_channel, apart, ends_of, cabled, connected, cable_with, cable_line, owned, labelled, mqsc_of, rules_of, script_of, needed_queue, queue_in, monitored, monitor_with, monitor_line, part_line}
+use Rattle.mq_scn_grammar.specs.Operands.{IsBracketed}
 use Rattle.mq_scn_grammar.specs.LineOptions.{NumberIn, NumberFault}
 use Rattle.mq_scn_grammar.specs.Faults.{IsMissed}
-use Rattle.mq_scn_grammar.proofs.Told.{Reports, IsFirst, told_both, told_map, told_as, told_via}
+use Rattle.mq_scn_grammar.proofs.Told.{Reports, told_both, told_map, told_as, told_via}
 use Rattle.mq_scn_grammar.proofs.Operands.{bracketed_read, bracketed_found, name_tells}
-use Rattle.mq_scn_grammar.proofs.Numbers.{le_of, of_le, ranged_tells}
+use Rattle.mq_scn_grammar.proofs.Numbers.{le_of, ranged_tells}
 use Rattle.mq_scn_parts.specs.Declared.{manager_names, channel_names, NamesPlace, HasNameFault, IsNewName, HasNewNameFault, IsNewLabel, HasNewLabelFault}
 use Rattle.mq_scn_parts.specs.Cables.{AreCableFaults, HasCableFault}
-use Rattle.mq_scn_parts.specs.Heading.{IsLogMaxWord, HasLogMaxFault, IsLogMax, HasLogFault, IsQueue, HasQueueFault, AreEnds, HasEndsFault, IsOwned, HasOwnedFault, HasWordFault, IsMoment, HasMomentFault, IsManager, HasManagerFault, Cabled, IsCable, HasCableLineFault, IsLabelled, HasLabelledFault, IsMonitor, HasMonitorFault, IsPartOf, HasPartFault, IsAllowed, HasOrderFault}
+use Rattle.mq_scn_parts.specs.Heading.{IsLogMaxWord, HasLogMaxFault, IsLogMax, HasLogFault, IsQueue, HasQueueFault, AreEnds, HasEndsFault, IsOwned, HasOwnedFault, HasWordFault, HasMomentFault, IsManager, HasManagerFault, Cabled, IsCable, HasCableLineFault, IsLabelled, HasLabelledFault, IsMonitor, HasMonitorFault, IsPartOf, HasPartFault, IsAllowed, HasOrderFault}
 use Rattle.mq_scn_parts.proofs.Then.{told_then, form_tells}
 use Rattle.mq_scn_parts.proofs.Declared.{NamesOf, manager_tells, new_manager_tells, new_channel_tells, new_label_tells}
 use Rattle.mq_scn_parts.proofs.CableLists.{cable_tells}
@@ -89,9 +83,9 @@ module _ (s : Scenario) (sender receiver : List ℕ) where
       told_as _ _ (AreEnds s sender receiver) (HasEndsFault s sender receiver) (apart (both (manager_at s.managers sender) (manager_at s.managers receiver)))
       (λ x h. subst (AreEnds s sender receiver) (sym h.2.0) (h.1, h.2.1)) (λ x h. (x, h.0, (refl, h.1))) (λ f h. h) (λ f h. h)
       (told_then AreNamed NotNamed Differing Alike apart (λ f. refl) (both (manager_at s.managers sender) (manager_at s.managers receiver))
-       (told_both (NamesPlace (manager_names s.managers) sender) (NamesPlace (manager_names s.managers) receiver) (HasNameFault (manager_names s.managers) sender) (HasNameFault (manager_names s.managers) receiver)
-        (manager_at s.managers sender) (manager_at s.managers receiver) (manager_tells s.managers sender) (manager_tells s.managers receiver))
-       (λ p is. apart_by p.0 p.1 (p.0 == p.1) (eqb_tells p.0 p.1)))
+      (told_both (NamesPlace (manager_names s.managers) sender) (NamesPlace (manager_names s.managers) receiver) (HasNameFault (manager_names s.managers) sender) (HasNameFault (manager_names s.managers) receiver)
+      (manager_at s.managers sender) (manager_at s.managers receiver) (manager_tells s.managers sender) (manager_tells s.managers receiver))
+      (λ p is. apart_by p.0 p.1 (p.0 == p.1) (eqb_tells p.0 p.1)))
 
   abbrev AreConnected : List ℕ → List ℕ × (ℕ × ℕ) → Type 0
   AreConnected channel p = IsNewName 20 (channel_names s.cables) channel p.0 × AreEnds s sender receiver p.1
@@ -134,7 +128,7 @@ manager_line_tells s [] = form_tells (IsPartOf s words.Manager []) (λ y h. h.1)
 manager_line_tells s (word ∷ ws) =
     made_tells (IsManager s (word ∷ ws)) (HasManagerFault s (word ∷ ws)) made_manager managed (λ x. refl) (λ f. refl) (both (new_manager s.managers word) (log_max ws))
     (told_both (IsNewName 48 (manager_names s.managers) word) (IsLogMax ws) (HasNewNameFault 48 (manager_names s.managers) word) (HasLogFault ws)
-     (new_manager s.managers word) (log_max ws) (new_manager_tells s.managers word) (log_tells ws))
+    (new_manager s.managers word) (log_max ws) (new_manager_tells s.managers word) (log_tells ws))
 
 abbrev made_cable : Cabled → PartLine
 made_cable p = parts.Cable (record { channel = p.0.0; sender = p.0.1.0; receiver = p.0.1.1; out = p.1.0; back = p.1.1 })
@@ -147,7 +141,7 @@ cable_line_tells s (channel ∷ sender ∷ []) = form_tells (IsPartOf s words.Ca
 cable_line_tells s (channel ∷ sender ∷ receiver ∷ ws) =
     made_tells (IsCable s (channel ∷ sender ∷ receiver ∷ ws)) (HasCableLineFault s (channel ∷ sender ∷ receiver ∷ ws)) made_cable cabled (λ x. refl) (λ f. refl) (both (connected s channel sender receiver) (cable_faults ws))
     (told_both (AreConnected s sender receiver channel) (AreCableFaults ws) (NotConnected s sender receiver channel) (HasCableFault ws)
-     (connected s channel sender receiver) (cable_faults ws) (connected_tells s sender receiver channel) (cable_tells ws))
+    (connected s channel sender receiver) (cable_faults ws) (connected_tells s sender receiver channel) (cable_tells ws))
 
 labelled_tells : (s : Scenario) (ws : List (List ℕ)) → Reports (IsLabelled s ws) (HasLabelledFault s ws) (labelled s ws)
 labelled_tells s [] = form_tells (IsLabelled s []) (λ y h. h)

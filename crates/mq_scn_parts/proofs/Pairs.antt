@@ -1,11 +1,11 @@
 -- What a reader tells of two parts, of which the second may have faults of a command.
-use Rattle.std.proofs.Common.{◌≡◌, ◌⊎◌, ℕ, ◌≤◌, ◌<◌, Bool, true, false, cond, Result, Ok, Err, refl, sym, ap, subst, ◌∙◌, arith, inl, inr}
+use Rattle.std.proofs.Common.{◌≡◌, ◌⊎◌, ◌≤◌, ◌<◌, Bool, true, false, cond, Result, Ok, Err, refl, sym, ap, subst, ◌∙◌, arith, inl, inr}
 use Rattle.std.specs.Prelude.{nat_le}
 use Rattle.std.proofs.lemmas.Bool.Decides.{leb_tells}
 use Rattle.mq_scn_lines.specs.declared.fault.LineFault.{LineFault}
 use Rattle.mq_scn_lines.specs.declared.fault.LineFault.TheVariants as faults
 use Rattle.mq_scn_lines.specs.Faults.{rank, both}
-use Rattle.mq_scn_grammar.proofs.Told.{Reports, IsFirst, is_plain, one_of_rank}
+use Rattle.mq_scn_grammar.proofs.Told.{Reports, is_plain, one_of_rank}
 use Rattle.mq_scn_grammar.proofs.Script.{Answers}
 
 plain_above : (f g : LineFault) → is_plain f ≡ true → is_plain g ≡ true → rank f ≤ rank g → (g ≡ f) ⊎ (rank f < rank g)

@@ -1,5 +1,5 @@
 -- A line with which a part begins, whole, both ways.
-use Rattle.std.proofs.Common.{◌≡◌, ◌⊎◌, ℕ, Bool, true, false, cond, List, [], ◌∷◌, ◌++◌, Result, Ok, Err, refl, sym, ap, subst, ◌∙◌, inl, inr}
+use Rattle.std.proofs.Common.{◌≡◌, ◌⊎◌, ℕ, Bool, true, false, cond, List, [], ◌∷◌, Result, Ok, Err, refl, sym, ap, subst, ◌∙◌}
 use Rattle.std.specs.Prelude.{find, Option, Some, None}
 use Rattle.std.specs.List.{list_all}
 use Rattle.std.specs.Str.{bytes_eq}
@@ -13,19 +13,16 @@ use Rattle.mq_scn_text.specs.declared.parts.PartWord.{PartWord}
 use Rattle.mq_scn_text.specs.declared.parts.PartWord.TheVariants as words
 use Rattle.mq_scn_text.specs.declared.parts.Stage.{Stage}
 use Rattle.mq_scn_text.specs.declared.heading.PartLine.{PartLine}
-use Rattle.mq_scn_text.specs.declared.fault.Cause.TheVariants as causes
 use Rattle.mq_scn_text.specs.declared.fault.ScenarioFault.{ScenarioFault}
-use Rattle.mq_scn_text.specs.declared.fault.ScenarioFault.TheVariants as scenario_faults
 use Rattle.mq_scn_text.specs.declared.reading.Reading.{Reading}
 use Rattle.mq_scn_text.specs.Faults.{fault_at}
 use Rattle.mq_scn_text.specs.Parts.{part_words, part_text, part_word_of, allowed}
 use Rattle.mq_scn_text.specs.Heading.{part_line, part_read}
 use Rattle.mq_scn_text.specs.Reading.{part_added, part_begun, part_of_word, part_from, part_line_read}
-use Rattle.mq_scn_grammar.specs.Words.{AreWords, IsWord}
-use Rattle.mq_scn_grammar.specs.Faults.{IsTold}
-use Rattle.mq_scn_grammar.proofs.Told.{Reports, told_both, told_via, value_found, value_read, fault_found, fault_read, either_way}
+use Rattle.mq_scn_grammar.specs.Words.{IsWord}
+use Rattle.mq_scn_grammar.proofs.Told.{Reports, told_both, told_via, value_read, fault_found, fault_read, either_way}
 use Rattle.mq_scn_grammar.proofs.Words.{words_read as read_words, words_found}
-use Rattle.mq_scn_grammar.proofs.Script.{some_front, is_letter, first_found, first_read, some_letters, front_same}
+use Rattle.mq_scn_grammar.proofs.Script.{some_front, is_letter, first_found, first_read, some_letters}
 use Rattle.mq_scn_parts.specs.Heading.{IsPartOf, HasPartFault, IsAllowed, HasOrderFault, BeginsPart, IsPartLine, HasPartLineFault, IsPartLineFault}
 use Rattle.mq_scn_parts.proofs.Heading.{part_tells, allowed_tells}
 

@@ -1,7 +1,6 @@
 -- The scripts of a PHASE, both ways.
-use Rattle.std.proofs.Common.{◌≡◌, ◌⊎◌, ℕ, suc, ◌+◌, ◌≤◌, ◌<◌, Bool, true, false, cond, eqb, List, [], ◌∷◌, ◌++◌, append_assoc, append-nil, length, Result, Ok, Err, refl, sym, ap, subst, ◌∙◌, arith, inl, inr}
+use Rattle.std.proofs.Common.{◌≡◌, ◌⊎◌, ℕ, suc, ◌≤◌, ◌<◌, Bool, true, false, cond, List, [], ◌∷◌, ◌++◌, append_assoc, append-nil, length, Result, Ok, Err, refl, sym, ap, subst, ◌∙◌, arith, inl, inr}
 use Rattle.std.specs.Prelude.{◌==◌, ◌&&◌, ◌||◌, not, nat_lt}
-use Rattle.std.specs.List.{list_any}
 use Rattle.std.proofs.lemmas.Bool.{and_parts}
 use Rattle.std.proofs.lemmas.Bool.Decides.{eqb_tells, leb_tells}
 use Rattle.mq_base.specs.Members.{AreDistinct}
@@ -14,8 +13,7 @@ use Rattle.mq_scn_text.specs.Lookup.{script_at}
 use Rattle.mq_scn_text.specs.Phases.{is_good, is_label, are_labels, is_script, are_scripts, with_place, places_from, is_in, are_single, single, phase_of}
 use Rattle.mq_scn_grammar.specs.Words.{Mem}
 use Rattle.mq_scn_grammar.specs.Faults.{IsMissed}
-use Rattle.mq_scn_grammar.specs.Operands.{IsLabelWord}
-use Rattle.mq_scn_grammar.proofs.Told.{Reports, IsFirst, value_found, value_read}
+use Rattle.mq_scn_grammar.proofs.Told.{Reports, value_read}
 use Rattle.mq_scn_grammar.proofs.Operands.{LabelsOf, label_tells}
 use Rattle.mq_scn_grammar.proofs.Numbers.{le_of}
 use Rattle.mq_scn_parts.specs.Declared.{script_labels, LabelsPlace, HasLabelFault}

@@ -1,5 +1,5 @@
 -- A step, whole, both ways.
-use Rattle.std.proofs.Common.{◌≡◌, ◌⊎◌, ℕ, ◌≤◌, ◌<◌, Bool, true, false, cond, List, [], ◌∷◌, ◌++◌, Result, Ok, Err, refl, sym, ap, subst, ◌∙◌, arith, inl, inr}
+use Rattle.std.proofs.Common.{◌≡◌, ◌⊎◌, ℕ, ◌<◌, Bool, true, false, cond, List, [], ◌∷◌, Result, Ok, Err, refl, sym, ap, subst, ◌∙◌, arith, inl, inr}
 use Rattle.std.specs.Prelude.{find, Option, Some, None}
 use Rattle.std.specs.List.{list_all}
 use Rattle.std.specs.Str.{bytes_eq}
@@ -16,10 +16,8 @@ use Rattle.mq_scn_script.specs.Commands.{command_in}
 use Rattle.mq_scn_text.specs.declared.steps.StepVerb.{StepVerb}
 use Rattle.mq_scn_text.specs.declared.steps.StepVerb.TheVariants as verbs
 use Rattle.mq_scn_text.specs.Lookup.{manager_at}
-use Rattle.mq_scn_text.specs.Steps.{step_verbs, step_text, step_verb_of, stepped, done_by, do_line, step_of, words_read, verb_read, step_from, step_line}
-use Rattle.mq_scn_grammar.specs.Words.{AreWords, IsWord}
-use Rattle.mq_scn_grammar.specs.Faults.{IsTold}
-use Rattle.mq_scn_grammar.proofs.Told.{Reports}
+use Rattle.mq_scn_text.specs.Steps.{step_verbs, step_text, step_verb_of, stepped, done_by, do_line, step_of, verb_read, step_from, step_line}
+use Rattle.mq_scn_grammar.specs.Words.{IsWord}
 use Rattle.mq_scn_grammar.proofs.Words.{words_read as read_words, words_found}
 use Rattle.mq_scn_grammar.proofs.Script.{Answers, answers_as, answer_found, answer_read, refusal_found, refusal_read, either_answer, some_front, is_letter, first_found, first_read, some_letters, front_same}
 use Rattle.mq_scn_parts.specs.Declared.{manager_names, NamesPlace, HasNameFault}
@@ -227,7 +225,7 @@ module _ (s : Scenario) (text : List ℕ) where
   do_rest rest e other h = (front_same (step_text verbs.Do) (step_text verbs.Do) other rest (sym (do_first other text h) ∙ e)).1
 
   do_as : (rest : List ℕ) → first_word text ≡ some_front (step_text verbs.Do, rest) → (r : Result Step LineFault) → Answers (DoOf s rest) (HasDoFault s rest) r → Answers StepOf FaultOf r
-  do_as rest e (Ok x) t = (inl (t.0.0, t.0.1.0, first_do rest text e, t.0.1.1, t.0.2), (λ y h. one y h), λ g h. never g h)
+  do_as rest e (Ok x) t = (inl (rest, t.0.0, first_do rest text e, t.0.1, t.0.2), (λ y h. one y h), λ g h. never g h)
     where
       one : (y : Step) → StepOf y → y ≡ x
       one y (inl h) = t.1 y (h.1, subst (λ (l : List ℕ). IsDone s l h.1) (do_rest rest e h.0 h.2) h.3, h.4)

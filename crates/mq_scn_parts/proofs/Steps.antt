@@ -1,6 +1,6 @@
 -- Steps by their words, both ways.
-use Rattle.std.proofs.Common.{◌≡◌, ◌⊎◌, ℕ, List, [], ◌∷◌, Result, Ok, Err, refl, inl, inr}
-use Rattle.std.specs.Prelude.{Option, Some, None}
+use Rattle.std.proofs.Common.{◌≡◌, ℕ, List, [], ◌∷◌, Result, refl}
+use Rattle.std.specs.Prelude.{Option, Some}
 use Rattle.mq_history.specs.declared.scenario.Scenario.{Scenario}
 use Rattle.mq_history.specs.declared.scenario.Step.{Step}
 use Rattle.mq_history.specs.declared.scenario.Step.TheVariants as steps
@@ -18,7 +18,7 @@ use Rattle.mq_scn_grammar.specs.LineOptions.{NumberIn, NumberFault}
 use Rattle.mq_scn_grammar.proofs.Told.{Reports, told_both, told_map}
 use Rattle.mq_scn_grammar.proofs.Numbers.{ranged_tells}
 use Rattle.mq_scn_parts.specs.Declared.{manager_names, section_labels, rules_labels, script_labels, monitor_labels, NamesPlace, HasNameFault, LabelsPlace, HasLabelFault}
-use Rattle.mq_scn_parts.specs.Steps.{IsOneLabel, HasOneLabelFault, IsOneName, HasOneNameFault, IsCount, HasCountFault, IsRun, HasRunFault, IsPhase, HasPhaseFault, IsTurns, HasTurnsFault, IsPump, HasPumpFault, IsTurned, HasTurnedFault, IsCut, HasCutFault, IsClock, HasClockFault, IsStepOf, HasStepOfFault}
+use Rattle.mq_scn_parts.specs.Steps.{HasOneLabelFault, HasOneNameFault, IsCount, HasCountFault, IsRun, HasRunFault, IsPhase, HasPhaseFault, IsTurns, HasTurnsFault, HasPumpFault, IsTurned, HasTurnedFault, IsCut, HasCutFault, HasClockFault, IsStepOf, HasStepOfFault}
 use Rattle.mq_scn_parts.proofs.Then.{form_tells}
 use Rattle.mq_scn_parts.proofs.Declared.{manager_tells, section_tells, rules_tells, script_tells, monitor_tells}
 use Rattle.mq_scn_parts.proofs.Phases.{phase_tells}

@@ -1,10 +1,10 @@
 -- What a reader tells of one part and of another that stands on its value.
-use Rattle.std.proofs.Common.{◌≡◌, ◌⊎◌, ℕ, ◌<◌, refl, sym, subst, inl, inr}
+use Rattle.std.proofs.Common.{◌≡◌, ◌⊎◌, ◌<◌, refl, sym, subst, inl, inr}
 use Rattle.std.specs.Prelude.{Result, Ok, Err}
 use Rattle.mq_scn_lines.specs.declared.fault.LineFault.{LineFault}
 use Rattle.mq_scn_lines.specs.declared.fault.LineFault.TheVariants as faults
 use Rattle.mq_scn_lines.specs.Faults.{rank}
-use Rattle.mq_scn_grammar.proofs.Told.{is_plain, IsFirst, Reports}
+use Rattle.mq_scn_grammar.proofs.Told.{Reports}
 
 module _ {A B : Type 0} (Is : A → Type 0) (Has : LineFault → Type 0) (Js : A → B → Type 0) (Gas : A → LineFault → Type 0) where
   abbrev pub Then : B → Type 0

@@ -2,7 +2,6 @@
 use Rattle.std.specs.Prelude.{ℕ, ◌+◌, ◌-◌, nat_lt, Bool, List, [], ◌∷◌, ◌++◌, length, slice_get, if◌then◌else◌, Option, Some, None, Result, Ok, Err}
 use Rattle.mq_sc_lex.specs.declared.joining.Mark.{Mark}
 use Rattle.mq_sc_lex.specs.declared.joining.Joined.{Joined}
-use Rattle.mq_sc_lex.specs.declared.token.Span.{Span}
 use Rattle.mq_sc_lex.specs.declared.token.Line.{Line}
 use Rattle.mq_sc_lex.specs.declared.fault.LexFault.{LexFault}
 use Rattle.mq_sc_lex.specs.declared.fault.LexFault.TheVariants as lexing
