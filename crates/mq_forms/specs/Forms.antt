@@ -1,5 +1,5 @@
 -- Which scenarios run today, and in which form; of any other the first part that doesn't run yet.
-use Rattle.std.specs.Prelude.{◌≡◌, ◌<◌, ◌^◌, ◌||◌, ◌==◌, nat_lt, not, Bool, true, false, List, [], ◌∷◌, if◌then◌else◌, length, Option, Some, None, Result, Ok, Err}
+use Rattle.std.specs.Prelude.{◌≡◌, ℕ, ◌<◌, ◌^◌, ◌||◌, ◌==◌, nat_lt, not, Bool, true, false, List, [], ◌∷◌, if◌then◌else◌, length, Option, Some, None, Result, Ok, Err, IfOk}
 use Rattle.mq_history.specs.declared.scenario.ManagerLine.{ManagerLine}
 use Rattle.mq_history.specs.declared.scenario.Section as parts
 use Rattle.mq_history.specs.declared.scenario.ScriptPart.{ScriptPart}

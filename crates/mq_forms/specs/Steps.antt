@@ -1,5 +1,5 @@
 -- Steps that run today.
-use Rattle.std.specs.Prelude.{◌==◌, not, Bool, true, false, List, [], ◌∷◌, if◌then◌else◌, length, Option, Some, None}
+use Rattle.std.specs.Prelude.{ℕ, ◌==◌, not, Bool, true, false, List, [], ◌∷◌, if◌then◌else◌, length, Option, Some, None}
 use Rattle.mq_history.specs.declared.scenario.Step.{Step}
 use Rattle.mq_history.specs.declared.scenario.Step.TheVariants as steps
 use Rattle.mq_forms.specs.declared.lack.Lack.{Lack}

@@ -2,18 +2,20 @@
 use Rattle.std.proofs.Common.{◌≡◌, ℕ, ◌≤◌, ◌<◌, ◌∙◌, get_or, map, List, [], ◌∷◌, length, refl, sym, inl, inr, ap, arith, subst, length-append}
 use Rattle.std.specs.Prelude.{◌⊎◌, Option, Some, None, Ok, Err}
 use Rattle.std.specs.Io.KnownBytes.{Keeps}
-use Rattle.mq_base.specs.Outside.{Rose, IsLonger}
+use Rattle.mq_base.specs.Outside.{Rose, Told, IsLonger}
 use Rattle.mq_model.specs.declared.calls.Entry.{Entry}
 use Rattle.mq_model.specs.declared.scenario.Scenario as model
 use Rattle.mq_model.specs.Replay.{History, IsHistory}
 use Rattle.mq_model.specs.Lawful.{Obeys, IsRunTo, WholeRun, PartRun}
 use Rattle.mq_ledger.proofs.ToldLaws.{headline}
 use Rattle.mq_history.specs.declared.scenario.Scenario.{Scenario}
+use Rattle.mq_scn_text.specs.declared.fault.ScenarioFault.{ScenarioFault}
 use Rattle.mq_scn_text.specs.Reading.{scenario_of}
 use Rattle.mq_forms.specs.declared.form.Section.{Section}
 use Rattle.mq_forms.specs.declared.form.Form.{Form}
 use Rattle.mq_forms.specs.declared.form.Form.TheVariants as forms
 use Rattle.mq_forms.specs.declared.lack.Lack.{Lack}
+use Rattle.mq_forms.specs.Forms.{form_of}
 use Rattle.mq_hints.specs.Places.{lack_line}
 use Rattle.mq_obey.specs.declared.events.CommandNode.{CommandNode}
 use Rattle.mq_obey.specs.Obeyed.{IsObeyed, IsObeyedInPart}
@@ -26,9 +28,9 @@ use Rattle.mqnet.specs.declared.network.Network.{Network}
 use Rattle.mqnet.specs.declared.network.Network.TheVariants as networks
 use Rattle.mqnet.specs.declared.top.Work.{Work}
 use Rattle.mqnet.specs.declared.top.Work.TheVariants as works
-use Rattle.mqnet.specs.Wanted.{word_task, task_of, form_status, text_status, wanted}
+use Rattle.mqnet.specs.Wanted.{word_task, task_of, fault_status, form_status, text_status, wanted}
 use Rattle.mqnet.specs.Headline.{WasRead, IsFormRead, IsScenarioRead, ReadNoScenario, ReadUnbuilt, Completes, Ends, Reports, Writes, RanWhole, RanSome, ObeyedWhole, first_moment, form_run, DidWhole, DidSome, report_of, RefusesBytes}
-use Rattle.mqnet.specs.Work.{IsWorkRead, RefusesWork, RefusesRead, WorkEnds}
+use Rattle.mqnet.specs.Work.{IsWork, IsWorkRead, RefusesWork, RefusesRead, WorkEnds}
 
 -- a list of one word
 pub one_word : {A : Type 0} (f : A → List ℕ) (ws : List A) (w : A) → 1 ≤ length ws → length ws < 2 → w ≡ get_or ws 0 w → word_task (f w) ≡ task_of (map f ws)

@@ -26,7 +26,7 @@ use Rattle.mqnet.specs.declared.network.Task.{Task}
 use Rattle.mqnet.specs.declared.network.Task.TheVariants as tasks
 use Rattle.mqnet.specs.declared.network.Network.{Network}
 use Rattle.mqnet.specs.declared.network.Network.TheVariants as networks
-use Rattle.mqnet.specs.Wanted.{fault_status, wanted}
+use Rattle.mqnet.specs.Wanted.{task_of, fault_status, wanted}
 
 -- the moment of a run's beginning: that of the caller, but no later than this
 abbrev pub first_moment : ℕ → ℕ

@@ -9,6 +9,7 @@ use Rattle.mq_forms.specs.declared.form.Form.{Form}
 use Rattle.mq_forms.specs.declared.lack.Lack.{Lack}
 use Rattle.mq_forms.specs.Forms.{form_of}
 use Rattle.mq_hints.specs.Places.{lack_line}
+use Rattle.mqnet.specs.declared.network.BadCause.{BadCause}
 use Rattle.mqnet.specs.declared.network.BadCause.TheVariants as causes
 use Rattle.mqnet.specs.declared.network.Status.{Status}
 use Rattle.mqnet.specs.declared.network.Status.TheVariants as status

@@ -14,7 +14,7 @@ use Rattle.mqnet.specs.declared.network.Network.{Network}
 use Rattle.mqnet.specs.declared.top.Work.{Work}
 use Rattle.mqnet.specs.declared.top.Work.TheVariants as works
 use Rattle.mqnet.specs.Wanted.{fault_status}
-use Rattle.mqnet.specs.Headline.{ReadNoScenario, ReadUnbuilt, Writes, Reports, check_text, WasRead}
+use Rattle.mqnet.specs.Headline.{IsScenarioRead, IsFormRead, ReadNoScenario, ReadUnbuilt, Writes, Reports, check_text, WasRead}
 
 -- what these bytes leave to do: to run their scenario's form, or no more than to tell that they have one
 abbrev pub IsWork : Task → List ℕ → Work → Type 0
