@@ -16,6 +16,7 @@ pub enum Read {
     NoMemory,
 }
 
+/// What comes of a text, from its bytes to its form.
 pub fn outcome_of(alloc: Global, text: &str) -> Read {
     let scenario = match read_scenario(alloc, text.as_bytes()) {
         Ok(scenario) => scenario,
@@ -108,106 +109,108 @@ fn both_forms_run(rt: HostRuntime) -> Result<(), Fail> {
     Ok(())
 }
 
+/// The heading, the commands, the script and the steps of a scenario that doesn't run; the line that is told, and why.
+const LACKS: [(&str, &str, &str, &str, u32, Lack); 13] = [
+    (
+        "MOMENT 0\nQMGR LONDON\n",
+        DEFINES,
+        SCRIPT,
+        "OBEY D1\nRUN A\n",
+        2,
+        Lack::Moment,
+    ),
+    (
+        "QMGR LONDON\nQMGR PARIS\n",
+        DEFINES,
+        SCRIPT,
+        "OBEY D1\nRUN A\n",
+        3,
+        Lack::Managers,
+    ),
+    (
+        "QMGR LONDON LOGMAX(4096)\n",
+        "",
+        "",
+        "OBEY D1\n",
+        2,
+        Lack::LogMax,
+    ),
+    (
+        HEAD,
+        "",
+        "MONITOR M LONDON QUEUE(I)\n",
+        "OBEY D1\n",
+        5,
+        Lack::Monitors,
+    ),
+    (
+        HEAD,
+        "",
+        "RULES R LONDON\nACTION(RETRY)\nENDRULES\n",
+        "OBEY D1\n",
+        5,
+        Lack::Rules,
+    ),
+    (
+        HEAD,
+        "",
+        "MQSC D2 LONDON\nENDMQSC\n",
+        "OBEY D1\n",
+        5,
+        Lack::Sections,
+    ),
+    (
+        HEAD,
+        "",
+        "SCRIPT A LONDON\nENDSCRIPT\nSCRIPT B LONDON\nENDSCRIPT\n",
+        "OBEY D1\n",
+        7,
+        Lack::Scripts,
+    ),
+    (
+        HEAD,
+        "DEFINE QLOCAL(A)\nDEFINE QLOCAL(a)\n",
+        SCRIPT,
+        "OBEY D1\nRUN A\n",
+        3,
+        Lack::Commands,
+    ),
+    (
+        HEAD,
+        "",
+        "SCRIPT A LONDON\nMQCONN\nMQDISC\nENDSCRIPT\n",
+        "OBEY D1\nRUN A\n",
+        7,
+        Lack::Line(1),
+    ),
+    (
+        HEAD,
+        "",
+        "SCRIPT A LONDON\nMQCONN\n\nENDSCRIPT\n",
+        "OBEY D1\nRUN A\n",
+        8,
+        Lack::Line(1),
+    ),
+    (HEAD, "", "", "OBEY D1\nOBEY D1\n", 7, Lack::Step(1)),
+    (HEAD, "", "", "", 6, Lack::Step(0)),
+    (
+        HEAD,
+        DEFINES,
+        SCRIPT,
+        "OBEY D1\nRUN A 1\n",
+        17,
+        Lack::Step(1),
+    ),
+];
+
 #[test]
 fn what_does_not_run_is_told_with_its_line(rt: HostRuntime) -> Result<(), Fail> {
-    let cases = [
-        (
-            "MOMENT 0\nQMGR LONDON\n",
-            DEFINES,
-            SCRIPT,
-            "OBEY D1\nRUN A\n",
-            2,
-            Lack::Moment,
-        ),
-        (
-            "QMGR LONDON\nQMGR PARIS\n",
-            DEFINES,
-            SCRIPT,
-            "OBEY D1\nRUN A\n",
-            3,
-            Lack::Managers,
-        ),
-        (
-            "QMGR LONDON LOGMAX(4096)\n",
-            "",
-            "",
-            "OBEY D1\n",
-            2,
-            Lack::LogMax,
-        ),
-        (
-            HEAD,
-            "",
-            "MONITOR M LONDON QUEUE(I)\n",
-            "OBEY D1\n",
-            5,
-            Lack::Monitors,
-        ),
-        (
-            HEAD,
-            "",
-            "RULES R LONDON\nACTION(RETRY)\nENDRULES\n",
-            "OBEY D1\n",
-            5,
-            Lack::Rules,
-        ),
-        (
-            HEAD,
-            "",
-            "MQSC D2 LONDON\nENDMQSC\n",
-            "OBEY D1\n",
-            5,
-            Lack::Sections,
-        ),
-        (
-            HEAD,
-            "",
-            "SCRIPT A LONDON\nENDSCRIPT\nSCRIPT B LONDON\nENDSCRIPT\n",
-            "OBEY D1\n",
-            7,
-            Lack::Scripts,
-        ),
-        (
-            HEAD,
-            "DEFINE QLOCAL(A)\nDEFINE QLOCAL(a)\n",
-            SCRIPT,
-            "OBEY D1\nRUN A\n",
-            3,
-            Lack::Commands,
-        ),
-        (
-            HEAD,
-            "",
-            "SCRIPT A LONDON\nMQCONN\nMQDISC\nENDSCRIPT\n",
-            "OBEY D1\nRUN A\n",
-            7,
-            Lack::Line(1),
-        ),
-        (
-            HEAD,
-            "",
-            "SCRIPT A LONDON\nMQCONN\n\nENDSCRIPT\n",
-            "OBEY D1\nRUN A\n",
-            8,
-            Lack::Line(1),
-        ),
-        (HEAD, "", "", "OBEY D1\nOBEY D1\n", 7, Lack::Step(1)),
-        (HEAD, "", "", "", 6, Lack::Step(0)),
-        (
-            HEAD,
-            DEFINES,
-            SCRIPT,
-            "OBEY D1\nRUN A 1\n",
-            17,
-            Lack::Step(1),
-        ),
-    ];
-    for (head, commands, script, steps, line, lack) in cases {
+    for (head, commands, script, steps, line, lack) in &LACKS {
         let text = text_of(rt.alloc(), head, commands, script, steps)?;
         match outcome_of(rt.alloc(), text.as_str()) {
             Read::Lack(at, what) => {
-                assert_eq!(rt; what, lack);
-                assert_eq!(rt; at, line);
+                assert_eq!(rt; what, *lack);
+                assert_eq!(rt; at, *line);
             }
             _ => panic!(rt; "no lack of {lack:?}"),
         }

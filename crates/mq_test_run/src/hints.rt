@@ -36,7 +36,11 @@ ENDSTEPS
 fn with_line(alloc: Global, old: &str, new: &str) -> Result<String, AllocError> {
     let mut text = String::new(alloc);
     for line in TEXT.lines() {
-        text.push_str(if line == old { new } else { line })?;
+        if line.as_bytes() == old.as_bytes() {
+            text.push_str(new)?;
+        } else {
+            text.push_str(line)?;
+        }
         text.push_str("\n")?;
     }
     Ok(text)
