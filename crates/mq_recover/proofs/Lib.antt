@@ -1,1 +1,5 @@
 pub mod BodyLaws
+pub mod Edits
+pub mod ShelfLaws
+pub mod SideLaws
+pub mod WalkLaws

@@ -2,9 +2,11 @@
 use Rattle.std.specs.Prelude.{◌≡◌, ℕ, ◌==◌, nat_le, Bool, true, false, not, ◌||◌, ◌&&◌, List}
 use Rattle.mq_message.specs.declared.message.Ident.{Ident}
 use Rattle.mq_recover.specs.declared.recovering.Recovering.{Recovering}
+use Rattle.std.specs.Str.{bytes_eq}
 use Rattle.mq_queue.specs.Rows.{same_ident}
 use Rattle.mq_calls.specs.declared.records.Add.{Add}
 use Rattle.mq_spec_state.specs.Images.{Image}
+use Rattle.mq_spec_state.specs.Changes.{comes_before}
 use Rattle.mq_spec_log.specs.Shelves.{removed}
 use Rattle.mq_spec_log.specs.Applies.{can_add, can_remove}
 
@@ -26,3 +28,7 @@ abbrev pub can_move : List ℕ → Ident → Add → Image → Bool
 can_move from ident a i =
     same_ident ident a.message.ident && can_remove (record { queue = from; ident = ident }) i
     && can_add a (removed (record { queue = from; ident = ident }) i)
+
+-- the first name that this is, or comes before
+abbrev pub is_spot : List ℕ → List ℕ → Bool
+is_spot name there = bytes_eq name there || comes_before name there

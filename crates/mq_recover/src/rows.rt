@@ -80,15 +80,22 @@ pub fn clear(alloc: Global, shelf: &mut Shelf, ident: &Ident)
     shelf.rows = Items::from_vec(rows);
 }
 
+fn drop_named(rows: &mut Vec<Row>, named: bool, ident: &Ident)
+    ensures { rows.new.items ≡ keep (λ (row : Row). not (named && list_any (same_ident row.message.ident) (ident.now ∷ []))) rows.old.items }
+{
+    if named {
+        drop_ident(rows, ident);
+    }
+}
+
 /// The row of an ident goes from the queue of that name.
 pub fn take(alloc: Global, shelf: &mut Shelf, queue: &QName, ident: &Ident)
     ensures { shelf.new ≡ less_rows (Among queue.now (ident.now ∷ [])) shelf.old }
 {
-    if shelf.name == *queue {
-        let mut rows = mem::replace(&mut shelf.rows, Items::new(alloc)).into_vec();
-        drop_ident(&mut rows, ident);
-        shelf.rows = Items::from_vec(rows);
-    }
+    let named = shelf.name == *queue;
+    let mut rows = mem::replace(&mut shelf.rows, Items::new(alloc)).into_vec();
+    drop_named(&mut rows, named, ident);
+    shelf.rows = Items::from_vec(rows);
 }
 
 /// The rows that the batch of a channel holds go.

@@ -55,7 +55,7 @@ pub fn has_rows_on(shelves: &[Shelf], name: &QName) -> bool
 {
     match place_of(shelves, name) {
         None => false,
-        Some(at) => !shelves[at].rows.is_empty(),
+        Some(at) => shelves[at].rows.len() > 0,
     }
 }
 
@@ -119,10 +119,15 @@ pub fn set_empty(alloc: Global, shelves: &mut Vec<Shelf>, name: &QName) -> Resul
         rows: Items::new(alloc),
     };
     match place_of(shelves, name) {
-        None => shelves.push(shelf)?,
-        Some(at) => shelves[at] = shelf,
+        None => {
+            shelves.push(shelf)?;
+            Ok(())
+        }
+        Some(at) => {
+            shelves[at] = shelf;
+            Ok(())
+        }
     }
-    Ok(())
 }
 
 fn put_first(
