@@ -3,3 +3,4 @@ pub mod Edits
 pub mod ShelfLaws
 pub mod SideLaws
 pub mod WalkLaws
+pub mod StepLaws

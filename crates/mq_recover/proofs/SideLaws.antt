@@ -10,6 +10,8 @@ use Rattle.std.proofs.lemmas.Cmp.{same_from_slice_cmp_tested}
 use Rattle.std.proofs.lemmas.Bool.Decides.{nat_tests}
 use Rattle.std.proofs.lemmas.List.{get_or_default}
 use Rattle.std.proofs.lemmas.List.Sums.{prefix_len-le-length}
+use Rattle.mq_sync.specs.declared.unit.Unit.{Unit as Luw}
+use Rattle.mq_sync.specs.Units.{unit_named, no_unit}
 use Rattle.mq_sync.specs.declared.data.SenderData.{SenderData}
 use Rattle.mq_sync.specs.declared.data.ReceiverData.{ReceiverData}
 use Rattle.mq_calls.specs.declared.state.SenderSide.{SenderSide}
@@ -120,3 +122,11 @@ lt_more x y xs ys Greater h = ap (λ (q : Ordering). is_lt (ordering_then q (sli
 
 pub lt_is : (xs ys : List ℕ) (r : Bool) → r ≡ is_some_and is_lt (slice_partial_cmp (λ x y. Some (nat_cmp x y)) xs ys) → r ≡ comes_before xs ys
 lt_is = same_from_slice_cmp_tested nat_cmp is_lt comes_before refl (λ _ _. refl) (λ _ _. refl) lt_more
+
+-- the same of a receiver
+abbrev pub blank_of : List ℕ → Luw → ReceiverData
+blank_of partner unit = record { partner = partner; session = 0; closed = false; unit = unit; last = 0 }
+
+pub blank_receiver_is : (partner : List ℕ) (unit : Luw) → partner ≡ [] → unit.session ≡ 0 → unit.n ≡ 0 → blank_of partner unit ≡ blank_of [] no_unit
+blank_receiver_is partner unit p s n =
+    ap (λ (x : List ℕ). blank_of x unit) p ∙ ap (λ (x : ℕ). blank_of [] (unit_named x unit.n)) s ∙ ap (λ (x : ℕ). blank_of [] (unit_named 0 x)) n

@@ -77,18 +77,18 @@ fn can_number(end: End, data: &SenderData) -> bool
 }
 
 /// The data with a unit in doubt settled: a commit takes its last number over.
-fn settle(data: SenderData, commit: bool) -> SenderData
-    ensures { result ≡ data_settled (Some (settle_by commit)) data }
+fn settle(hardened: SenderData, commit: bool) -> SenderData
+    ensures { result ≡ data_settled (Some (settle_by commit)) hardened }
 {
-    let last = match &data.in_doubt {
-        None => data.last,
+    let last = match &hardened.in_doubt {
+        None => hardened.last,
         Some(doubt) => doubt.last,
     };
     SenderData {
-        partner: data.partner,
-        session: data.session,
-        last: if commit { last } else { data.last },
-        force: data.force,
+        partner: hardened.partner,
+        session: hardened.session,
+        last: if commit { last } else { hardened.last },
+        force: hardened.force,
         in_doubt: None,
     }
 }
@@ -332,11 +332,11 @@ impl Recovering {
         alloc: Global,
         manager: u8,
         name: &QName,
-        record: LogRecord,
+        logged: LogRecord,
     ) -> Result<bool, NoMemory>
-        ensures { IfOk result (λ done. Does (suits (given_as manager name.now) record (seen self.old)) (doing record (seen self.old)) done (seen self.new)) }
+        ensures { IfOk result (λ done. Does (suits (given_as manager name.now) logged (seen self.old)) (doing logged (seen self.old)) done (seen self.new)) }
     {
-        match record {
+        match logged {
             LogRecord::Started {
                 manager: of,
                 name: called,
@@ -406,16 +406,16 @@ impl Recovering {
         manager: u8,
         name: &QName,
         start: Start,
-        record: LogRecord,
+        logged: LogRecord,
     ) -> Result<bool, NoMemory>
-        ensures { IfOk result (λ done. Does (applies (given_as manager name.now) (start_in start) record (seen self.old)) (doing record (seen self.old)) done (seen self.new)) }
+        ensures { IfOk result (λ done. Does (applies (given_as manager name.now) (start_in start) logged (seen self.old)) (doing logged (seen self.old)) done (seen self.new)) }
     {
-        if !is_in_bounds(start, &record) {
+        if !is_in_bounds(start, &logged) {
             return Ok(false);
         }
-        if !were_given(manager, self.incarnation, &record) {
+        if !were_given(manager, self.incarnation, &logged) {
             return Ok(false);
         }
-        self.enact(alloc, manager, name, record)
+        self.enact(alloc, manager, name, logged)
     }
 }

@@ -4,8 +4,8 @@ use crate::samples::each_kind;
 use mq_message::Ident;
 use mq_name::{ChName, QName};
 use mq_record::{
-    Operation, bound_bytes, closed_bytes, moved_front, objects_front, prepared_front,
-    received_front, resolved_bytes, seq_set_bytes, session_bytes, started_bytes,
+    Buffer, Operation, bound_bytes, closed_bytes, moved_front, objects_front, prepared_front,
+    received_front, resolved_bytes, seq_set_bytes, session_bytes, started_bytes, unit_front,
 };
 use mq_sync::{End, Unit};
 use std::alloc::Global;
@@ -52,5 +52,38 @@ fn fronts_stand_at_the_beginning_of_their_records(rt: HostRuntime) -> Result<(),
     assert!(rt; sample(rt.alloc(), 5)?.starts_with(&prepared_front(&channel, UNIT, 7, &m2, 2)));
     assert!(rt; sample(rt.alloc(), 9)?.starts_with(&received_front(&channel, UNIT, 7, 1)));
     assert!(rt; sample(rt.alloc(), 11)?.starts_with(&moved_front(&dlq, &IDENT, &q1)));
+    Ok(())
+}
+
+fn put(buffer: &mut Buffer, piece: &[u8]) -> Result<(), Fail> {
+    if buffer.reserve(piece.len()).is_err() {
+        return Err("no memory")?;
+    }
+    buffer.put(piece);
+    Ok(())
+}
+
+fn put_remove(buffer: &mut Buffer, queue: &QName) -> Result<(), Fail> {
+    if buffer.reserve(65).is_err() {
+        return Err("no memory")?;
+    }
+    buffer.put_remove(queue, &IDENT);
+    Ok(())
+}
+
+#[test]
+fn a_unit_grows_in_room_that_was_taken_before(rt: HostRuntime) -> Result<(), Fail> {
+    let q1 = QName::of(b"Q1")?;
+    let mut grown = Buffer::new(rt.alloc());
+    put(&mut grown, &unit_front(0, 2))?;
+    put_remove(&mut grown, &q1)?;
+    put_remove(&mut grown, &q1)?;
+    let mut wanted = vec![in rt.alloc(); 3, 0, 0, 0, 0, 0, 0, 0, 2]?;
+    for _ in 0..2 {
+        wanted.extend_from_slice(b"Q1")?;
+        wanted.extend_from_slice(&[b' '; 46])?;
+        wanted.extend_from_slice(&[1, 0, 0, 0, 0, 0, 0, 0, 2, 0, 0, 0, 0, 0, 0, 0, 3])?;
+    }
+    assert!(rt; grown.as_slice() == wanted.as_slice());
     Ok(())
 }

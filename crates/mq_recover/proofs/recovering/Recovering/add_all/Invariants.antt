@@ -5,11 +5,11 @@ use Rattle.mq_spec_log.specs.Shelves.{added_all}
 use Rattle.mq_recover.specs.Recovering.{seen}
 use Rattle.mq_recover.proofs.recovering.Recovering.add_all.Given as goal
 
-abbrev pub invariant-loop-left : goal.invariant-loop-left
-invariant-loop-left l = record {
+abbrev pub invariant-loop-add : goal.invariant-loop-add
+invariant-loop-add l = record {
   may : can_add_all l.fn.adds (seen l.fn.self) ≡ can_add_all (reverse l.left.items) (seen l.self);
   made : added_all l.fn.adds (seen l.fn.self) ≡ added_all (reverse l.left.items) (seen l.self);
 }
 
-abbrev pub decreases-loop-left : goal.decreases-loop-left
-decreases-loop-left l = length l.left.items
+abbrev pub decreases-loop-add : goal.decreases-loop-add
+decreases-loop-add l = length l.left.items
