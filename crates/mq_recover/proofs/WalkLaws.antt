@@ -13,7 +13,12 @@ use Rattle.mq_spec_state.specs.State.{Given}
 use Rattle.mq_spec_state.specs.Images.{Image}
 use Rattle.mq_spec_log.specs.Applies.{Start, suits, applies, was_given, idents_in, is_in_bounds}
 use Rattle.mq_spec_log.specs.Records.{doing}
-use Rattle.mq_spec_log.specs.Bodies.{record_of, behind, or_place, image_from, empty_image}
+use Rattle.mq_spec_log.specs.Bodies.{record_of, behind, or_place, image_from, empty_image, begins, image}
+use Rattle.mq_recover.specs.declared.recovering.Recovering.{Recovering}
+use Rattle.mq_recover.specs.declared.recovery.RecoverFault.{RecoverFault}
+use Rattle.mq_recover.specs.declared.recovery.RecoverFault.TheVariants.{BadRecord, NoMemory}
+use Rattle.mq_recover.specs.Recovering.{seen, Does}
+use Rattle.mq_recover.specs.Found.{given_as, Recovers, Told}
 
 -- so much of all bodies was read, with this image
 pub record Went (g : Given) (start : Start) (all : List (List ℕ)) (place : ℕ) (framed : List ℕ) (i : Image) : Type 0 where
@@ -71,10 +76,10 @@ pub behind_none : (g : Given) (start : Start) (i : Image) (o : Option LogRecord)
 behind_none g start i o e = ap (behind g start i) e
 
 pub behind_off : (g : Given) (start : Start) (i : Image) (o : Option LogRecord) (r : LogRecord) → o ≡ Some r → applies g start r i ≡ false → behind g start i o ≡ None
-behind_off g start i o r e no = ap (behind g start i) e ∙ ap (λ (b : Bool). if b then Some (doing r i) else None) no
+behind_off g start i o r e off = ap (behind g start i) e ∙ ap (λ (b : Bool). if b then Some (doing r i) else None) off
 
 pub behind_on : (g : Given) (start : Start) (i j : Image) (o : Option LogRecord) (r : LogRecord) → o ≡ Some r → applies g start r i ≡ true → j ≡ doing r i → behind g start i o ≡ Some j
-behind_on g start i j o r e yes is = ap (behind g start i) e ∙ ap (λ (b : Bool). if b then Some (doing r i) else None) yes ∙ ap (λ (x : Image). Some x) (sym is)
+behind_on g start i j o r e applied is = ap (behind g start i) e ∙ ap (λ (b : Bool). if b then Some (doing r i) else None) applied ∙ ap (λ (x : Image). Some x) (sym is)
 
 -- Of what the scenario gives a manager, its records tell the number and the name alone.
 module _ (g h : Given) (number : g.number ≡ h.number) (name : g.name ≡ h.name) where
@@ -110,3 +115,36 @@ module _ (g h : Given) (number : g.number ≡ h.number) (name : g.name ≡ h.nam
   image_same start place (body ∷ bodies) i =
       ap (or_place place (image_from g start (place + length (frame body)) bodies)) (behind_same start i (record_of body))
       ∙ next_same start place (place + length (frame body)) bodies (λ (j : Image). image_same start (place + length (frame body)) bodies j) (behind h start i (record_of body))
+
+-- the image of a log that begins with a start, and of one that doesn't
+pub image_begun : (g : Given) (start : Start) (number : ℕ) (name : List ℕ) (all : List (List ℕ)) → g.number ≡ number → g.name ≡ name → begins all ≡ true
+    → image_from (given_as number name) start 0 all empty_image ≡ image g start all
+image_begun g start number name all n m e =
+    sym (ap (λ (b : Bool). if b then image_from g start 0 all empty_image else Err 0) e ∙ image_same g (given_as number name) n m start 0 all empty_image)
+
+pub image_unbegun : (g : Given) (start : Start) (all : List (List ℕ)) → begins all ≡ false → image g start all ≡ Err 0
+image_unbegun g start all e = ap (λ (b : Bool). if b then image_from g start 0 all empty_image else Err 0) e
+
+-- What is answered, of each thing that is meant.
+pub recovers_none : (r : Result Image ℕ) → Recovers r (Err NoMemory)
+recovers_none (Ok i) = tt
+recovers_none (Err place) = tt
+
+pub told_none : (r : Result Image ℕ) → Told r (Err NoMemory)
+told_none (Ok i) = tt
+told_none (Err place) = tt
+
+pub fault_given : (r : Result Image ℕ) (fault : RecoverFault) → Told r (Err fault) → Recovers r (Err fault)
+fault_given (Ok i) (BadRecord place) h = h
+fault_given (Ok i) NoMemory h = tt
+fault_given (Err at) (BadRecord place) h = h
+fault_given (Err at) NoMemory h = tt
+
+pub image_given : (r : Result Image ℕ) (told : Recovering) (image : Image) → Told r (Ok told) → image ≡ seen told → Recovers r (Ok image)
+image_given (Ok i) told image h is = is ∙ h
+image_given (Err place) told image h is = h
+
+-- what was done could be done
+pub did : (may : Bool) (made now : Image) (done : Bool) → done ≡ true → Does may made done now → (may ≡ true) × (now ≡ made)
+did may made now true e h = h
+did may made now false e h = absurd (cc e)

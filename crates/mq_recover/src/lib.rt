@@ -13,7 +13,7 @@ mod start;
 mod steps;
 mod texts;
 
-pub use recovery::{RecoverFault, image};
 pub use reading::log_record;
+pub use recovery::{RecoverFault, image};
 pub use start::Start;
 pub use texts::change_of;

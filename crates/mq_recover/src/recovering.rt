@@ -91,7 +91,8 @@ impl Recovering {
         ensures { IfOk result (λ done. Does (can_add add (seen self.old)) (added add (seen self.old)) done (seen self.new)) }
     {
         let Add { queue, message } = add;
-        if !fits(&self.defs, &queue, &message) || stands_on(self.shelves.as_slice(), &message.ident)
+        if !fits(&self.defs, &queue, &message)
+            || stands_on(self.shelves.as_slice(), &message.ident)
         {
             return Ok(false);
         }

@@ -110,6 +110,9 @@ pub fn image(
     if !begins(alloc, bodies)? {
         return Err(RecoverFault::BadRecord(0));
     }
-    let told = walk(alloc, manager, name, start, bodies)?;
+    let told = match walk(alloc, manager, name, start, bodies) {
+        Ok(told) => told,
+        Err(fault) => return Err(fault),
+    };
     Ok(told.into_image(alloc)?)
 }

@@ -55,8 +55,7 @@ pub fn has_free(rows: &[Row], ident: &Ident) -> bool
 pub fn has_held(rows: &[Row], idents: &[Ident]) -> bool
     ensures { result ≡ list_any (is_held_among idents.now) rows.now }
 {
-    rows.iter()
-        .any(|row| !is_free(row) && is_among(idents, &row.message.ident))
+    rows.iter().any(|row| !is_free(row) && is_among(idents, &row.message.ident))
 }
 
 fn drop_ident(rows: &mut Vec<Row>, ident: &Ident)

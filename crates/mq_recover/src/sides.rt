@@ -6,7 +6,6 @@ ghost use Rattle.mq_queue.specs.Rows.{same_ident};
 ghost use Rattle.mq_spec_state.specs.Reads.{sender_in, receiver_in};
 ghost use Rattle.mq_spec_state.specs.Changes.{comes_before, set_sender, set_receiver, less_ident, off_list, off_lists};
 ghost use Rattle.mq_sync.specs.Settlement.{sender_or, receiver_or};
-
 ghost use Rattle.mq_calls.specs.declared.state.SenderSide.{SenderSide};
 ghost use Rattle.mq_calls.specs.declared.state.ReceiverSide.{ReceiverSide};
 ghost use Rattle.mq_recover.specs.Recovering.{is_spot};
@@ -137,11 +136,7 @@ fn receiver_spot(sides: &[ReceiverSide], name: &ChName) -> Option<usize>
     sides.iter().position(|side| is_spot(name, &side.channel))
 }
 
-fn set_sender_at(
-    sides: &mut Items<SenderSide>,
-    at: usize,
-    side: SenderSide,
-) -> Result<(), NoMemory>
+fn set_sender_at(sides: &mut Items<SenderSide>, at: usize, side: SenderSide) -> Result<(), NoMemory>
     requires place { position (λ (s : SenderSide). is_spot side.channel s.channel) sides.old ≡ Some at }
     requires within { at < length sides.old }
     ensures { OnOk result (sides.new ≡ set_sender side sides.old) }

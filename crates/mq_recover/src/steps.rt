@@ -1,11 +1,11 @@
 //! What each kind of record does, where it may.
-ghost use Rattle.std.specs.Prelude.{◌≡◌, ◌&&◌, max, nat_lt, Bool, IfOk, Some};
+ghost use Rattle.std.specs.Prelude.{◌≡◌, ◌&&◌, max, nat_lt, IfOk, Some};
 ghost use Rattle.mq_calls.specs.declared.records.LogRecord.TheVariants as records;
 ghost use Rattle.mq_sync.specs.declared.data.End.TheVariants as ends;
 ghost use Rattle.mq_sync.specs.Settlement.{data_settled, settle_by};
 ghost use Rattle.mq_spec_log.specs.Applies.{suits, applies, are_distinct, can_change, can_prepare, can_receive, can_number, can_add_all, can_remove_all, is_unit, is_above, is_unit_in_doubt};
 ghost use Rattle.mq_spec_log.specs.Records.{doing, settled_rows, set_number};
-ghost use Rattle.mq_spec_log.specs.Shelves.{sender_at, receiver_at, added, removed, added_all, removed_all};
+ghost use Rattle.mq_spec_log.specs.Shelves.{sender_at, receiver_at, with_sender, added, removed, added_all, removed_all};
 ghost use Rattle.mq_recover.specs.Recovering.{seen, Does, can_move};
 ghost use Rattle.mq_recover.specs.Found.{start_in, given_as};
 
@@ -176,7 +176,7 @@ impl Recovering {
         unit: Unit,
         commit: bool,
     ) -> Result<bool, NoMemory>
-        ensures { (operator : Bool) → IfOk result (λ done. Does (is_unit_in_doubt unit (sender_at channel (seen self.old)).in_doubt) (doing (records.Resolved channel unit commit operator) (seen self.old)) done (seen self.new)) }
+        ensures { IfOk result (λ done. Does (is_unit_in_doubt unit (sender_at channel (seen self.old)).in_doubt) (with_sender channel (data_settled (Some (settle_by commit)) (sender_at channel (seen self.old))) (settled_rows commit channel (seen self.old))) done (seen self.new)) }
     {
         let data = self.sender_at(alloc, &channel)?;
         if !is_unit_in_doubt(unit, &data.in_doubt) {
@@ -247,12 +247,7 @@ impl Recovering {
         Ok(true)
     }
 
-    fn number_sender(
-        &mut self,
-        alloc: Global,
-        channel: ChName,
-        last: u32,
-    ) -> Result<bool, NoMemory>
+    fn number_sender(&mut self, alloc: Global, channel: ChName, last: u32) -> Result<bool, NoMemory>
         ensures { IfOk result (λ done. Does (can_number ends.Sender (sender_at channel (seen self.old))) (set_number ends.Sender last channel (seen self.old)) done (seen self.new)) }
     {
         let mut data = self.sender_at(alloc, &channel)?;

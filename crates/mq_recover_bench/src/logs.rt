@@ -4,7 +4,8 @@ use mq_base::NoMemory;
 use std::alloc::Global;
 
 /// The text that defines the queue.
-const DEFINE: &[u8] = b"DEFINE QLOCAL('Q1') DEFPRTY(0) DEFPSIST(NO) GET(ENABLED) INITQ('') MAXDEPTH(5000) MAXMSGL(4194304) MSGDLVSQ(PRIORITY) PROCESS('') PUT(ENABLED) TRIGDATA('') TRIGDPTH(1) NOTRIGGER TRIGMPRI(0) TRIGTYPE(FIRST) USAGE(NORMAL)";
+const DEFINE: &[u8] =
+    b"DEFINE QLOCAL('Q1') DEFPRTY(0) DEFPSIST(NO) GET(ENABLED) INITQ('') MAXDEPTH(5000) MAXMSGL(4194304) MSGDLVSQ(PRIORITY) PROCESS('') PUT(ENABLED) TRIGDATA('') TRIGDPTH(1) NOTRIGGER TRIGMPRI(0) TRIGTYPE(FIRST) USAGE(NORMAL)";
 
 fn put_name(log: &mut Vec<u8>, text: &[u8], width: usize) -> Result<(), NoMemory> {
     log.extend_from_slice(text)?;

@@ -62,7 +62,10 @@ fn has_fields(record: &WrittenRecord) -> bool {
             } => partner.text() == b"M1" && *session == 5 && *last == 7,
             LogRecord::Closed { session, .. } => *session == 5,
             LogRecord::Received {
-                unit, last, adds, ..
+                unit,
+                last,
+                adds,
+                ..
             } => unit.session == 5 && unit.n == 6 && *last == 7 && adds.len() == 1,
             LogRecord::SeqSet { end, last, .. } => *end == End::Receiver && *last == 7,
             LogRecord::Moved {

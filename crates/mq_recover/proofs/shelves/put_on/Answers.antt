@@ -13,7 +13,7 @@ returns-in-None c =
     let none = ap (position (λ (s : Shelf). bytes_eq c.args.queue.now s.name)) (sym c.deref.ensures.value) ∙ sym c.in-None.ensures in
     on_ok c.put_first.result
     (λ is. is ∙ sym (set_last (shelved_in c.args.lane c.args.message (empty_shelf c.args.queue.now)) shelves none)
-        ∙ ap (λ (s : Shelf). set_shelf (shelved_in c.args.lane c.args.message s) shelves) (sym (shelf_none c.args.queue.now shelves none)))
+    ∙ ap (λ (s : Shelf). set_shelf (shelved_in c.args.lane c.args.message s) shelves) (sym (shelf_none c.args.queue.now shelves none)))
     c.put_first.ensures
 
 pub returns-in-Some : goal.returns-in-Some
@@ -23,6 +23,6 @@ returns-in-Some c =
     let found = shelf_at c.args.queue.now shelves c.in-Some.at c.index_mut.result.now there c.index_mut.ensures.value in
     on_ok c.put.result
     (λ is. ap (slice_set shelves c.in-Some.at) is
-        ∙ set_found c.args.queue.now shelves c.in-Some.at c.index_mut.result.now (shelved_in c.args.lane c.args.message c.index_mut.result.now) there c.index_mut.ensures.value refl
-        ∙ ap (λ (s : Shelf). set_shelf (shelved_in c.args.lane c.args.message s) shelves) (sym found))
+    ∙ set_found c.args.queue.now shelves c.in-Some.at c.index_mut.result.now (shelved_in c.args.lane c.args.message c.index_mut.result.now) there c.index_mut.ensures.value refl
+    ∙ ap (λ (s : Shelf). set_shelf (shelved_in c.args.lane c.args.message s) shelves) (sym found))
     c.put.ensures
