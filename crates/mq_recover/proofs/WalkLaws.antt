@@ -32,23 +32,6 @@ abbrev pub Goes : List ℕ → Option Split → Type 0
 Goes framed found = (all : List (List ℕ)) → AllFit all → framed ≡ frames all → Walks all found
 
 module _ (g : Given) (start : Start) (all : List (List ℕ)) (place : ℕ) (framed : List ℕ) (i : Image) where
-  none_left : (rest : List (List ℕ)) → Walks rest None → image_from g start place rest i ≡ Ok i
-  none_left [] h = refl
-  none_left (body ∷ rest) h = absurd h
-
-  pub went_end : Went g start all place framed i → Goes framed None → image_from g start 0 all empty_image ≡ Ok i
-  went_end w goes = w.same ∙ none_left w.rest (goes w.rest w.fits w.framed_is)
-
-  stops : (split : Split) (rest : List (List ℕ)) → Walks rest (Some split) → behind g start i (record_of split.body.now) ≡ None → image_from g start place rest i ≡ Err place
-  stops split [] h e = absurd (cc h)
-  stops split (body ∷ rest) h e =
-      ap (λ (b : List ℕ). or_place place (image_from g start (place + length (frame body)) rest) (behind g start i (record_of b))) (sym h.0)
-      ∙ ap (or_place place (image_from g start (place + length (frame body)) rest)) e
-
-  -- the first body is none that may stand there
-  pub went_wrong : (split : Split) → Went g start all place framed i → Goes framed (Some split) → behind g start i (record_of split.body.now) ≡ None → image_from g start 0 all empty_image ≡ Err place
-  went_wrong split w goes e = w.same ∙ stops split w.rest (goes w.rest w.fits w.framed_is) e
-
   goes_on : (split : Split) (rest : List (List ℕ)) → AllFit rest → framed ≡ frames rest → Walks rest (Some split)
       → image_from g start 0 all empty_image ≡ image_from g start place rest i
       → (j : Image) → behind g start i (record_of split.body.now) ≡ Some j → (further : ℕ) → further ≡ place + (length framed - length split.rest.framed.now) → Went g start all further split.rest.framed.now j
@@ -71,13 +54,7 @@ module _ (g : Given) (start : Start) (all : List (List ℕ)) (place : ℕ) (fram
       → (j : Image) → behind g start i (record_of split.body.now) ≡ Some j → (further : ℕ) → further ≡ place + (length framed - length split.rest.framed.now) → Went g start all further split.rest.framed.now j
   went_on split w goes j e further far = goes_on split w.rest w.fits w.framed_is (goes w.rest w.fits w.framed_is) w.same j e further far
 
--- what stands behind a record, by whether it applies
-pub behind_none : (g : Given) (start : Start) (i : Image) (o : Option LogRecord) → o ≡ None → behind g start i o ≡ None
-behind_none g start i o e = ap (behind g start i) e
-
-pub behind_off : (g : Given) (start : Start) (i : Image) (o : Option LogRecord) (r : LogRecord) → o ≡ Some r → applies g start r i ≡ false → behind g start i o ≡ None
-behind_off g start i o r e off = ap (behind g start i) e ∙ ap (λ (b : Bool). if b then Some (doing r i) else None) off
-
+-- what stands behind a record that applies
 pub behind_on : (g : Given) (start : Start) (i j : Image) (o : Option LogRecord) (r : LogRecord) → o ≡ Some r → applies g start r i ≡ true → j ≡ doing r i → behind g start i o ≡ Some j
 behind_on g start i j o r e applied is = ap (behind g start i) e ∙ ap (λ (b : Bool). if b then Some (doing r i) else None) applied ∙ ap (λ (x : Image). Some x) (sym is)
 
@@ -116,24 +93,13 @@ module _ (g h : Given) (number : g.number ≡ h.number) (name : g.name ≡ h.nam
       ap (or_place place (image_from g start (place + length (frame body)) bodies)) (behind_same start i (record_of body))
       ∙ next_same start place (place + length (frame body)) bodies (λ (j : Image). image_same start (place + length (frame body)) bodies j) (behind h start i (record_of body))
 
--- the image of a log that begins with a start, and of one that doesn't
+-- the image of a log that begins with a start
 pub image_begun : (g : Given) (start : Start) (number : ℕ) (name : List ℕ) (all : List (List ℕ)) → g.number ≡ number → g.name ≡ name → begins all ≡ true
     → image_from (given_as number name) start 0 all empty_image ≡ image g start all
 image_begun g start number name all n m e =
     sym (ap (λ (b : Bool). if b then image_from g start 0 all empty_image else Err 0) e ∙ image_same g (given_as number name) n m start 0 all empty_image)
 
-pub image_unbegun : (g : Given) (start : Start) (all : List (List ℕ)) → begins all ≡ false → image g start all ≡ Err 0
-image_unbegun g start all e = ap (λ (b : Bool). if b then image_from g start 0 all empty_image else Err 0) e
-
 -- What is answered, of each thing that is meant.
-pub recovers_none : (r : Result Image ℕ) → Recovers r (Err NoMemory)
-recovers_none (Ok i) = tt
-recovers_none (Err place) = tt
-
-pub told_none : (r : Result Image ℕ) → Told r (Err NoMemory)
-told_none (Ok i) = tt
-told_none (Err place) = tt
-
 pub fault_given : (r : Result Image ℕ) (fault : RecoverFault) → Told r (Err fault) → Recovers r (Err fault)
 fault_given (Ok i) (BadRecord place) h = h
 fault_given (Ok i) NoMemory h = tt
