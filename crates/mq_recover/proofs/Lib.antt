@@ -1,1 +1,6 @@
 pub mod BodyLaws
+pub mod Edits
+pub mod ShelfLaws
+pub mod SideLaws
+pub mod WalkLaws
+pub mod StepLaws

@@ -1,0 +1,13 @@
+use Rattle.std.proofs.Common.{rules, ◌∙◌}
+use Rattle.std.specs.Prelude.{not}
+use Rattle.std.proofs.lemmas.Fn.{filter_same}
+use Rattle.mq_message.specs.declared.place.Holder.TheVariants as holders
+use Rattle.mq_queue.specs.declared.row.Row.{Row}
+use Rattle.mq_queue.specs.Rows.{held_by}
+use Rattle.mq_queue.proofs.StopLaws.{keep_filter}
+use Rattle.mq_recover.proofs.rows.drop_held.Goals as goal
+
+pub returns : goal.returns
+returns c =
+    filter_same _ (λ (row : Row). not (held_by (holders.Batch c.args.channel.now) row.by)) _ (λ x b f h. search rules) _ _ c.retain.ensures.filtered
+    ∙ keep_filter (λ (row : Row). not (held_by (holders.Batch c.args.channel.now) row.by)) c.args.rows.now.items

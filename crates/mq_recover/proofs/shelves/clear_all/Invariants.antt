@@ -1,0 +1,11 @@
+use Rattle.std.proofs.Common.{◌≡◌, [], ◌∷◌}
+use Rattle.std.specs.Prelude.{vec_len}
+use Rattle.mq_spec_log.specs.Shelves.{without_ident}
+use Rattle.mq_recover.proofs.Edits.{changed_first}
+use Rattle.mq_recover.proofs.shelves.clear_all.Given as goal
+
+abbrev pub invariant-loop-at : goal.invariant-loop-at
+invariant-loop-at l = record {
+  so_far : l.shelves.items ≡ changed_first (without_ident l.ident) l.at l.fn.shelves.items;
+  len : vec_len l.shelves ≡ vec_len l.fn.shelves;
+}
