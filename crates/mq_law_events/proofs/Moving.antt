@@ -254,3 +254,10 @@ move_follows m given p l from x to bare route f t apart n free is =
       other = e.0;
       kept = same_users m l k e.1;
     }
+
+-- where the ledger tells the manager, and so has no list twice
+pub move_once_told : (m : ℕ) (given : Ident → Bool) (p : Plain) (l : Ledger) (from : List ℕ) (x : Row) (to : Dest) (bare : Bool) (route : Route) → IsFresh given p → IsTold m p l → Mem x (stored from p).rows → x.by ≡ None
+    → resolve p.definitions p.given.name to.queue to.qmgr ≡ Ok route
+    → Follow m given p l (moved from bare route x p) (move_row m to bare (row_in x.message.ident (places_at m l).queues) l)
+move_once_told m given p l from x to bare route f t n free is =
+    move_follows m given p l from x to bare route f t (subst (λ o. AreShelved (places_or o).queues) (sym t.placed) t.shelved) n free is

@@ -6,5 +6,5 @@ pub returns : goal.returns
 returns c = record {
   triggers = serving.serves;
   discards = λ m given p l q i f t h free. serving.discard_follows m given p l q i f t (h.facts.apart.once q) free;
-  moves = moving.move_follows;
+  moves = moving.move_once_told;
 }
