@@ -3,4 +3,3 @@ pub mod Edits
 pub mod ShelfLaws
 pub mod SideLaws
 pub mod WalkLaws
-pub mod StepLaws
