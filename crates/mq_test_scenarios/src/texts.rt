@@ -90,8 +90,9 @@ fn lines_of_scripts_are_read(rt: HostRuntime) -> Result<(), Fail> {
 }
 
 #[test]
-fn every_step_is_read(rt: HostRuntime) -> Result<(), Fail> {
+fn steps_that_obey_and_run_are_read(rt: HostRuntime) -> Result<(), Fail> {
     let scenario = read_scenario(rt.alloc(), TEXT.as_bytes())?;
+    assert_eq!(rt; scenario.steps.len(), 13);
     assert!(rt;
         matches!(
             scenario.steps.as_slice(),
@@ -100,10 +101,43 @@ fn every_step_is_read(rt: HostRuntime) -> Result<(), Fail> {
                 Step::Run(0, Some(1)),
                 Step::Run(0, None),
                 Step::Phase(_),
+                ..
+            ]
+        )
+    );
+    Ok(())
+}
+
+#[test]
+fn steps_that_take_turns_are_read(rt: HostRuntime) -> Result<(), Fail> {
+    let scenario = read_scenario(rt.alloc(), TEXT.as_bytes())?;
+    assert!(rt;
+        matches!(
+            scenario.steps.as_slice(),
+            [
+                _,
+                _,
+                _,
+                _,
                 Step::Pump(100),
                 Step::Handle(0, 5),
                 Step::Watch(0),
                 Step::Serve(0, 2),
+                ..
+            ]
+        )
+    );
+    Ok(())
+}
+
+#[test]
+fn steps_that_an_operator_takes_are_read(rt: HostRuntime) -> Result<(), Fail> {
+    let scenario = read_scenario(rt.alloc(), TEXT.as_bytes())?;
+    assert!(rt;
+        matches!(
+            scenario.steps.as_slice(),
+            [
+                ..,
                 Step::Do(0, _),
                 Step::Cut(1, 3),
                 Step::Crash(0),
