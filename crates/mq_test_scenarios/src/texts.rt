@@ -90,25 +90,6 @@ fn lines_of_scripts_are_read(rt: HostRuntime) -> Result<(), Fail> {
 }
 
 #[test]
-fn steps_that_obey_and_run_are_read(rt: HostRuntime) -> Result<(), Fail> {
-    let scenario = read_scenario(rt.alloc(), TEXT.as_bytes())?;
-    assert_eq!(rt; scenario.steps.len(), 13);
-    assert!(rt;
-        matches!(
-            scenario.steps.as_slice(),
-            [
-                Step::Obey(0),
-                Step::Run(0, Some(1)),
-                Step::Run(0, None),
-                Step::Phase(_),
-                ..
-            ]
-        )
-    );
-    Ok(())
-}
-
-#[test]
 fn steps_that_take_turns_are_read(rt: HostRuntime) -> Result<(), Fail> {
     let scenario = read_scenario(rt.alloc(), TEXT.as_bytes())?;
     assert!(rt;
