@@ -1,15 +1,13 @@
 -- Members of shelves and of data kept by name, and lists told by their members.
-use Rattle.std.proofs.Common.{ℕ, suc, ◌≡◌, ◌⊎◌, ◌≤◌, ◌<◌, Bool, true, false, List, [], ◌∷◌, length, refl, ap, sym, subst, ◌∙◌, arith, map, inl, inr}
-use Rattle.std.specs.Prelude.{Option, Some, None, if◌then◌else◌, ◌||◌, ◌&&◌, All, AllPairs, nat_le}
+use Rattle.std.proofs.Common.{ℕ, ◌≡◌, ◌⊎◌, ◌≤◌, Bool, true, false, List, [], ◌∷◌, refl, ap, sym, subst, ◌∙◌, arith, map, inl, inr}
+use Rattle.std.specs.Prelude.{Some, None, if◌then◌else◌, ◌||◌, ◌&&◌, All, AllPairs, nat_le}
 use Rattle.std.specs.Str.{bytes_eq}
-use Rattle.std.specs.List.{AllByRecursion, list_any, list_all}
-use Rattle.std.proofs.lemmas.List.Elements.{All-from_recursion, All-cons, All-nil}
+use Rattle.std.specs.List.{list_any, list_all}
+use Rattle.std.proofs.lemmas.List.Elements.{All-cons, All-nil}
 use Rattle.std.proofs.lemmas.List.Kept.{AllPairs-cons}
 use Rattle.std.proofs.lemmas.Bool.Decides.{nat_tests}
 use Rattle.mq_queue.specs.declared.row.Row.{Row}
 use Rattle.mq_queue.specs.Rows.{insert_row, keep, retag}
-use Rattle.mq_sync.specs.declared.data.SenderData.{SenderData}
-use Rattle.mq_sync.specs.declared.data.ReceiverData.{ReceiverData}
 use Rattle.mq_sync.specs.Settlement.{sender_or, receiver_or}
 use Rattle.mq_spec_state.specs.State.{SenderSide, ReceiverSide}
 use Rattle.mq_spec_state.specs.Reads.{sender_in, receiver_in}
@@ -18,8 +16,7 @@ use Rattle.mq_spec_state.specs.Images.{Shelf}
 use Rattle.mq_spec_log.specs.Shelves.{shelf_in, set_shelf, on_all}
 use Rattle.mq_law_manager.specs.Facts.{Mem, Chain, AreLaned}
 use Rattle.mq_law_manager.proofs.Lists.{bool_case, mem_insert, mem_keep, mem_retag}
-use Rattle.mq_law_manager.proofs.Named.{name_is, name_self, name_turned}
-use Rattle.mq_law_manager.proofs.Routes.{before_trans}
+use Rattle.mq_law_manager.proofs.Named.{name_is}
 
 -- Lists by members
 

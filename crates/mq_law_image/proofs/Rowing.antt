@@ -1,11 +1,10 @@
 -- What a record does to rows: they are kept, retagged or placed, and seen against other data.
-use Rattle.std.proofs.Common.{ℕ, pos, ◌≡◌, ◌≢◌, ◌⊎◌, Bool, true, false, List, [], ◌∷◌, refl, ap, sym, subst, ◌∙◌, inl, inr}
-use Rattle.std.specs.Prelude.{Option, Some, None, if◌then◌else◌, is_some, not, filter}
+use Rattle.std.proofs.Common.{ℕ, ◌≡◌, ◌≢◌, ◌⊎◌, Bool, true, false, List, refl, ap, sym, subst, ◌∙◌, inl, inr}
+use Rattle.std.specs.Prelude.{Option, Some, None, is_some}
 use Rattle.std.specs.List.{list_any}
-use Rattle.mq_message.specs.declared.message.Ident.{Ident}
 use Rattle.mq_message.specs.declared.message.Message.{Message}
 use Rattle.mq_queue.specs.declared.row.Row.{Row}
-use Rattle.mq_queue.specs.Rows.{same_ident, insert_row, keep, retag}
+use Rattle.mq_queue.specs.Rows.{same_ident, keep, retag}
 use Rattle.mq_objects.specs.declared.object.LocalQueue.{LocalQueue}
 use Rattle.mq_objects.specs.declared.object.Definitions.{Definitions}
 use Rattle.mq_objects.specs.Names.{local_of, is_transmission}
@@ -122,13 +121,13 @@ placed_shelved v queue m ss there lasts fit known new off a = record {
   ];
   alone = λ s t h k x y n l e. elim (from s h x n) [
     | inl z ↦ elim (from t k y l) [
-        | inl w ↦ z.1 ∙ sym w.1
-        | inr w ↦ absurd (new w.0 k w.1 w.3 (sym e ∙ ap ident_of z.0))
-      ]
+      | inl w ↦ z.1 ∙ sym w.1
+      | inr w ↦ absurd (new w.0 k w.1 w.3 (sym e ∙ ap ident_of z.0))
+    ]
     | inr z ↦ elim (from t k y l) [
-        | inl w ↦ absurd (new z.0 h z.1 z.3 (e ∙ ap ident_of w.0))
-        | inr w ↦ sym z.2 ∙ a.alone z.0 w.0 h k z.1 w.1 z.3 w.3 e ∙ w.2
-      ]
+      | inl w ↦ absurd (new z.0 h z.1 z.3 (e ∙ ap ident_of w.0))
+      | inr w ↦ sym z.2 ∙ a.alone z.0 w.0 h k z.1 w.1 z.3 w.3 e ∙ w.2
+    ]
   ];
   laned = λ t x. elim (set_shelf_mem on t ss x) [ inl z ↦ subst (λ (s : Shelf). AreLaned s.rows) (sym z) (laned_insert row base.rows (a.laned base there.0)) | inr z ↦ a.laned t z ];
   once = λ t x. elim (set_shelf_mem on t ss x) [
@@ -149,8 +148,8 @@ placed_shelved v queue m ss there lasts fit known new off a = record {
     from : (t : Shelf) (h : Row) → Mem t (set_shelf on ss) → Mem h t.rows → ((h ≡ row) × (t.name ≡ queue)) ⊎ ((s : Shelf) × Mem s ss × (s.name ≡ t.name) × Mem h s.rows)
     from t h x y = elim (set_shelf_mem on t ss x) [
       | inl z ↦ elim (mem_insert h row base.rows (subst (λ (s : Shelf). Mem h s.rows) z y)) [
-          | inl w ↦ inl (w, ap (λ (s : Shelf). s.name) z ∙ there.1)
-          | inr w ↦ inr (base, there.0, sym (ap (λ (s : Shelf). s.name) z), w)
-        ]
+        | inl w ↦ inl (w, ap (λ (s : Shelf). s.name) z ∙ there.1)
+        | inr w ↦ inr (base, there.0, sym (ap (λ (s : Shelf). s.name) z), w)
+      ]
       | inr z ↦ inr (t, z, refl, y)
     ]

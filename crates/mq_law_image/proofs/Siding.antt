@@ -1,6 +1,6 @@
 -- What a record does to the hardened data of channels, and rows seen against units in doubt that change.
-use Rattle.std.proofs.Common.{Ordering, Less, Equal, Greater, ℕ, ◌≡◌, ◌≢◌, ◌⊎◌, ◌≤◌, Bool, true, false, List, [], ◌∷◌, refl, ap, sym, subst, ◌∙◌, arith, map, inl, inr}
-use Rattle.std.specs.Prelude.{Option, Some, None, if◌then◌else◌, ◌||◌, ◌&&◌, not, filter, All, AllPairs, ◌==◌, nat_lt, nat_le}
+use Rattle.std.proofs.Common.{Ordering, Less, Equal, Greater, ℕ, ◌≡◌, ◌≢◌, ◌≤◌, Bool, true, false, List, [], ◌∷◌, refl, ap, sym, subst, ◌∙◌, arith, inl, inr}
+use Rattle.std.specs.Prelude.{Option, Some, None, if◌then◌else◌, ◌||◌, not, filter, AllPairs, nat_lt}
 use Rattle.std.specs.Str.{bytes_eq}
 use Rattle.std.specs.List.{list_any}
 use Rattle.std.specs.Ordering.{is_lt, is_eq, nat_cmp, ordering_reverse}
@@ -20,7 +20,7 @@ use Rattle.mq_sync.specs.declared.unit.Unit.{Unit as Luw}
 use Rattle.mq_sync.specs.declared.data.InDoubt.{InDoubt}
 use Rattle.mq_sync.specs.declared.data.SenderData.{SenderData}
 use Rattle.mq_sync.specs.declared.data.ReceiverData.{ReceiverData}
-use Rattle.mq_sync.specs.Settlement.{sender_or, receiver_or}
+use Rattle.mq_sync.specs.Settlement.{sender_or}
 use Rattle.mq_spec_state.specs.State.{SenderSide, ReceiverSide}
 use Rattle.mq_spec_state.specs.Reads.{sender_in, in_doubt_of}
 use Rattle.mq_spec_state.specs.Changes.{comes_before, set_named, set_sender, set_receiver, less_ident, off_list, off_lists}
@@ -28,7 +28,7 @@ use Rattle.mq_spec_state.specs.Recovery.{IsListed, listed, IsNumbered, IsDoubtOf
 use Rattle.mq_spec_log.specs.Applies.{are_distinct, is_unit}
 use Rattle.mq_law_manager.specs.Facts.{Mem, Chain, AreSorted}
 use Rattle.mq_law_manager.proofs.Lists.{bool_case, any_mem, mem_any, ident_no}
-use Rattle.mq_law_manager.proofs.Named.{name_is, name_turned, sender_set}
+use Rattle.mq_law_manager.proofs.Named.{name_is, sender_set}
 use Rattle.mq_law_manager.proofs.Routes.{before_trans, filter_mem, map_mem}
 use Rattle.mq_law_image.specs.SoFar.{Sight, IsHeldIn, IsRowOf, IsSideOf}
 use Rattle.mq_law_image.proofs.Members.{set_mem, both, all_pairs}

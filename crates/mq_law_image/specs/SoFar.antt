@@ -1,5 +1,5 @@
 -- What holds of an image behind each record of its log, by look-up: `IsImage` and `AreKnown` follow.
-use Rattle.std.specs.Prelude.{◌≡◌, ℕ, pos, not, ◌&&◌, Bool, true, false, List, [], ◌∷◌, Option, Some, None, is_some, map}
+use Rattle.std.specs.Prelude.{◌≡◌, ℕ, pos, not, ◌&&◌, Bool, true, List, [], ◌∷◌, Option, Some, None, is_some, map}
 use Rattle.std.specs.List.{list_any}
 use Rattle.std.specs.Str.{bytes_eq}
 use Rattle.mq_message.specs.declared.message.Ident.{Ident}
