@@ -1,0 +1,10 @@
+pub mod Members
+pub mod Rowing
+pub mod Siding
+pub mod Doubting
+pub mod Naming
+pub mod Placing
+pub mod Defining
+pub mod Records
+pub mod Recovered
+pub mod Telling

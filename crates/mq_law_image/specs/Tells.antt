@@ -1,0 +1,19 @@
+-- What the bodies of a log tell of their manager.
+use Rattle.std.specs.Prelude.{◌≡◌, ℕ, ◌+◌, Bool, List, Option, Ok}
+use Rattle.mq_spec_state.specs.State.{Plain, Noted}
+use Rattle.mq_spec_state.specs.Images.{Image, lasting}
+use Rattle.mq_spec_log.specs.Applies.{Start}
+use Rattle.mq_spec_log.specs.Bodies.{image}
+use Rattle.mq_spec_manager.specs.Stops.{redone_if}
+
+-- what lasts of it, while it is up
+abbrev pub Tells : Start → List (List ℕ) → Plain → Type 0
+Tells start bodies p = image p.given start bodies ≡ Ok (lasting p)
+
+-- behind the Started records of so many restarts that were stopped
+abbrev pub later_by : ℕ → Image → Image
+later_by started i = record i { incarnation = i.incarnation + started }
+
+-- While it is down: what lasts, with what the stopped write did where its record is kept, behind so many such records.
+abbrev pub TellsDown : Start → Bool → ℕ → Option Noted → List (List ℕ) → Plain → Type 0
+TellsDown start kept started noted bodies p = image p.given start bodies ≡ Ok (later_by started (lasting (redone_if kept noted p)))
