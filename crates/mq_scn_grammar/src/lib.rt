@@ -5,6 +5,7 @@
 mod laws;
 
 pub use laws::{
+    a_first_word_is_read_where_it_stands, one_command_is_read_where_it_stands,
     a_quote_is_open_where_there_are_no_words, a_script_fault_is_told,
     a_script_line_is_read_where_it_is_written, a_text_is_a_script_line_or_has_a_fault,
     a_value_stands_in_brackets, an_option_has_the_value_that_its_word_gives,
