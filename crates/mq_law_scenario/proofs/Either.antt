@@ -28,9 +28,12 @@ use Rattle.mq_scn_text.specs.Sections.{text_added, line_in, mqsc_ended, rules_en
 use Rattle.mq_scn_text.specs.Scripts.{new_script, put_len, script_read, script_added}
 use Rattle.mq_scn_text.specs.Reading.{is_only, is_skipped, opened, step_read, section_cut, scenario_of}
 use Rattle.mq_scn_parts.specs.Heading.{IsPartLine, IsPartLineFault}
+use Rattle.mq_scn_grammar.specs.Words.{IsOnly}
 use Rattle.mq_scn_parts.proofs.PartLines.{either_part}
+use Rattle.mq_law_scenario.proofs.SectionReads.{ok_cut, err_cut, section_found, section_refused}
+use Rattle.mq_law_scenario.proofs.Leaves.{skipped_found, unskipped_found, end_found, no_end_found, mqsc_word, rules_word, script_word, steps_word, own_cut_is, own_cut_found}
 use Rattle.mq_law_scenario.proofs.NextLines.{next_found, line_refused, next_step_found, step_refused}
-use Rattle.mq_law_scenario.specs.Texts.{Said, nothing_said, Begins, NoneIs, text_of, IsOpenSection, IsOpenTable, IsNextLine, AreSpoken, IsOpenScript, IsNextStep, AreStepped, AreOpenSteps, IsOpen, IsBlock, AreBlocks, all_lines, IsText}
+use Rattle.mq_law_scenario.specs.Texts.{Said, nothing_said, IsSkipped, Begins, NoneIs, text_of, IsOpenSection, IsOpenTable, IsNextLine, AreSpoken, IsOpenScript, IsNextStep, AreStepped, AreOpenSteps, IsOpen, IsBlock, AreBlocks, all_lines, IsText}
 use Rattle.mq_law_scenario.specs.Faults.{Stand, IsBadLine, IsCut, IsTextFault}
 use Rattle.mq_law_scenario.proofs.ReadBack.{ok_scenario, err_scenario, text_read, fault_read}
 
@@ -104,19 +107,19 @@ part_grown n before line stage parts.Steps b =
     })
 
 bad_outside : (n : ℕ) (before : Said) (line : List ℕ) (own : LineFault) → is_skipped line ≡ false → IsPartLineFault before.scenario before.stage line own → Grown n before [] insides.Nothing before line
-bad_outside n before line own e h = inr (inr (record { fault = fault_at (n + length no_lines + 1) own; bad = (e, (own, h, refl)) }))
+bad_outside n before line own e h = inr (inr (record { fault = fault_at (n + length no_lines + 1) own; bad = (unskipped_found line e, (own, h, refl)) }))
 
 first_grown : (n : ℕ) (before : Said) (line : List ℕ) → is_skipped line ≡ false → ((p : Stage × PartLine) × IsPartLine before.scenario before.stage line p) ⊎ ((f : LineFault) × IsPartLineFault before.scenario before.stage line f) → Grown n before [] insides.Nothing before line
-first_grown n before line e (inl (p, h)) = part_grown n before line p.0 p.1 (record { unskipped = e; says = h })
+first_grown n before line e (inl (p, h)) = part_grown n before line p.0 p.1 (record { unskipped = unskipped_found line e; says = h })
 first_grown n before line e (inr (own, h)) = bad_outside n before line own e h
 
 outside_grown : (n : ℕ) (before : Said) (line : List ℕ) (b : Bool) → is_skipped line ≡ b → Grown n before [] insides.Nothing before line
-outside_grown n before line true e = inr (inl (record { after = before; block = inl (line, refl, e, refl) }))
+outside_grown n before line true e = inr (inl (record { after = before; block = inl (line, refl, skipped_found line e, refl) }))
 outside_grown n before line false e = first_grown n before line e (either_part before.scenario before.stage line)
 
 -- ---- a line in a section or a table
 
-none_more : (word : List ℕ) (lines : List (List ℕ)) (line : List ℕ) → NoneIs word lines → is_only word line ≡ false → NoneIs word (lines ++ line ∷ [])
+none_more : (word : List ℕ) (lines : List (List ℕ)) (line : List ℕ) → NoneIs word lines → (IsOnly word line → ⊥) → NoneIs word (lines ++ line ∷ [])
 none_more word [] line h e = (e, tt)
 none_more word (other ∷ lines) line h e = (h.0, none_more word lines line h.1 e)
 
@@ -137,8 +140,8 @@ section_ended : (n : ℕ) (before now : Said) (lines : List (List ℕ)) (o : Ope
     → (r : Result Section ScenarioFault) → mqsc_ended (n + length lines + 1) o ≡ r → Grown n before lines (insides.Mqsc o) now line
 section_ended n before now lines o line h e (Ok section) f =
     let after : Said = record now { scenario = record now.scenario { sections = now.scenario.sections ++ section ∷ [] } } in
-    inr (inl (record { after = after; block = inr (inr (record { front = lines; last = line; inside = insides.Mqsc o; now = now; whole = refl; opens = h; ends = (section, e, f, refl) })) }))
-section_ended n before now lines o line h e (Err fault) f = inr (inr (record { fault = fault; bad = (e, f) }))
+    inr (inl (record { after = after; block = inr (inr (record { front = lines; last = line; inside = insides.Mqsc o; now = now; whole = refl; opens = h; ends = (section, end_found (codes "ENDMQSC") line e, section_found (n + length lines + 1) o section f, refl) })) }))
+section_ended n before now lines o line h e (Err fault) f = inr (inr (record { fault = fault; bad = (end_found (codes "ENDMQSC") line e, section_refused (n + length lines + 1) o fault f) }))
 
 section_grown : (n : ℕ) (before now : Said) (lines : List (List ℕ)) (o : Opened) (line : List ℕ) → IsOpenSection n before lines o now → (b : Bool) → is_only (codes "ENDMQSC") line ≡ b → Grown n before lines (insides.Mqsc o) now line
 section_grown n before now lines o line h true e = section_ended n before now lines o line h e (mqsc_ended (n + length lines + 1) o) refl
@@ -154,7 +157,7 @@ section_grown n before now lines o line h false e =
         manager = h.manager;
         whole = ap (λ (l : List (List ℕ)). l ++ line ∷ []) h.whole;
         begins = h.begins;
-        within = none_more (codes "ENDMQSC") h.inner line h.within e;
+        within = none_more (codes "ENDMQSC") h.inner line h.within (no_end_found (codes "ENDMQSC") line mqsc_word e);
         opens = opened_more h.label h.manager (n + 1) o h.inner line h.opens;
         is = h.is;
       };
@@ -164,8 +167,8 @@ table_ended : (n : ℕ) (before now : Said) (lines : List (List ℕ)) (o : Opene
     → (r : Result RulesPart ScenarioFault) → rules_ended (own_name now.scenario.managers o.manager) o ≡ r → Grown n before lines (insides.Rules o) now line
 table_ended n before now lines o line h e (Ok part) f =
     let after : Said = record now { scenario = record now.scenario { rules = now.scenario.rules ++ part ∷ [] } } in
-    inr (inl (record { after = after; block = inr (inr (record { front = lines; last = line; inside = insides.Rules o; now = now; whole = refl; opens = h; ends = (part, e, f, refl) })) }))
-table_ended n before now lines o line h e (Err fault) f = inr (inr (record { fault = fault; bad = (e, f) }))
+    inr (inl (record { after = after; block = inr (inr (record { front = lines; last = line; inside = insides.Rules o; now = now; whole = refl; opens = h; ends = (part, end_found (codes "ENDRULES") line e, f, refl) })) }))
+table_ended n before now lines o line h e (Err fault) f = inr (inr (record { fault = fault; bad = (end_found (codes "ENDRULES") line e, f) }))
 
 table_grown : (n : ℕ) (before now : Said) (lines : List (List ℕ)) (o : Opened) (line : List ℕ) → IsOpenTable n before lines o now → (b : Bool) → is_only (codes "ENDRULES") line ≡ b → Grown n before lines (insides.Rules o) now line
 table_grown n before now lines o line h true e = table_ended n before now lines o line h e (rules_ended (own_name now.scenario.managers o.manager) o) refl
@@ -181,7 +184,7 @@ table_grown n before now lines o line h false e =
         manager = h.manager;
         whole = ap (λ (l : List (List ℕ)). l ++ line ∷ []) h.whole;
         begins = h.begins;
-        within = none_more (codes "ENDRULES") h.inner line h.within e;
+        within = none_more (codes "ENDRULES") h.inner line h.within (no_end_found (codes "ENDRULES") line rules_word e);
         opens = opened_more h.label h.manager (n + 1) o h.inner line h.opens;
         is = h.is;
       };
@@ -189,7 +192,7 @@ table_grown n before now lines o line h false e =
 
 -- ---- a line in a script
 
-spoken_skip : (lines : List (List ℕ)) (left : ℕ) (s : Script) (behind : ℕ) (t : Script) (line : List ℕ) → AreSpoken left s lines behind t → is_skipped line ≡ true → AreSpoken left s (lines ++ line ∷ []) behind t
+spoken_skip : (lines : List (List ℕ)) (left : ℕ) (s : Script) (behind : ℕ) (t : Script) (line : List ℕ) → AreSpoken left s lines behind t → IsSkipped line → AreSpoken left s (lines ++ line ∷ []) behind t
 spoken_skip [] left s behind t line h e = inl (e, h)
 spoken_skip (other ∷ lines) left s behind t line (inl (f, h)) e = inl (f, spoken_skip lines left s behind t line h e)
 spoken_skip (other ∷ lines) left s behind t line (inr (said, f, h)) e = inr (said, f, spoken_skip lines (left - put_len said) (script_added said s) behind t line h e)
@@ -209,7 +212,7 @@ script_said : (n : ℕ) (before now : Said) (lines : List (List ℕ)) (s : Scrip
     → (r : Result ScriptLine LineFault) → script_read now.left line s ≡ r → Grown n before lines (insides.Script s) now line
 script_said n before now lines s line h e f (Ok said) g =
     let same : now.left ≡ h.left = left_now h.stage h.left before.scenario now h.is in
-    let line_is : IsNextLine h.left s line said = subst (λ (l : ℕ). IsNextLine l s line said) same (let k = next_found now.left s line said g in record { unskipped = e; unended = f; room = k.0; says = k.1; order = k.2 }) in
+    let line_is : IsNextLine h.left s line said = subst (λ (l : ℕ). IsNextLine l s line said) same (let k = next_found now.left s line said g in record { unskipped = unskipped_found line e; unended = no_end_found (codes "ENDSCRIPT") line script_word f; room = k.0; says = k.1; order = k.2 }) in
     inl (record {
       inside = insides.Script (script_added said s);
       now = record { stage = h.stage; left = h.left - put_len said; scenario = before.scenario };
@@ -226,12 +229,12 @@ script_said n before now lines s line h e f (Ok said) g =
         is = refl;
       };
     })
-script_said n before now lines s line h e f (Err own) g = inr (inr (record { fault = fault_at (n + length lines + 1) own; bad = (e, f, (own, line_refused now.left s line own g, refl)) }))
+script_said n before now lines s line h e f (Err own) g = inr (inr (record { fault = fault_at (n + length lines + 1) own; bad = (unskipped_found line e, no_end_found (codes "ENDSCRIPT") line script_word f, (own, line_refused now.left s line own g, refl)) }))
 
 script_ended : (n : ℕ) (before now : Said) (lines : List (List ℕ)) (s : Script) (line : List ℕ) → IsOpenScript before lines s now → is_skipped line ≡ false → (b : Bool) → is_only (codes "ENDSCRIPT") line ≡ b → Grown n before lines (insides.Script s) now line
 script_ended n before now lines s line h e true f =
     let after : Said = record now { scenario = record now.scenario { scripts = now.scenario.scripts ++ s.part ∷ [] } } in
-    inr (inl (record { after = after; block = inr (inr (record { front = lines; last = line; inside = insides.Script s; now = now; whole = refl; opens = h; ends = (e, f, refl) })) }))
+    inr (inl (record { after = after; block = inr (inr (record { front = lines; last = line; inside = insides.Script s; now = now; whole = refl; opens = h; ends = (unskipped_found line e, end_found (codes "ENDSCRIPT") line f, refl) })) }))
 script_ended n before now lines s line h e false f = script_said n before now lines s line h e f (script_read now.left line s) refl
 
 script_grown : (n : ℕ) (before now : Said) (lines : List (List ℕ)) (s : Script) (line : List ℕ) → IsOpenScript before lines s now → (b : Bool) → is_skipped line ≡ b → Grown n before lines (insides.Script s) now line
@@ -248,7 +251,7 @@ script_grown n before now lines s line h true e =
         left = h.left;
         whole = ap (λ (l : List (List ℕ)). l ++ line ∷ []) h.whole;
         begins = h.begins;
-        says = spoken_skip h.inner before.left (new_script h.label h.manager) h.left s line h.says e;
+        says = spoken_skip h.inner before.left (new_script h.label h.manager) h.left s line h.says (skipped_found line e);
         is = h.is;
       };
     })
@@ -256,7 +259,7 @@ script_grown n before now lines s line h false e = script_ended n before now lin
 
 -- ---- a line in the steps
 
-stepped_skip : (lines : List (List ℕ)) (s t : Scenario) (line : List ℕ) → AreStepped s lines t → is_skipped line ≡ true → AreStepped s (lines ++ line ∷ []) t
+stepped_skip : (lines : List (List ℕ)) (s t : Scenario) (line : List ℕ) → AreStepped s lines t → IsSkipped line → AreStepped s (lines ++ line ∷ []) t
 stepped_skip [] s t line h e = inl (e, h)
 stepped_skip (other ∷ lines) s t line (inl (f, h)) e = inl (f, stepped_skip lines s t line h e)
 stepped_skip (other ∷ lines) s t line (inr (step, f, h)) e = inr (step, f, stepped_skip lines (record s { steps = s.steps ++ step ∷ [] }) t line h e)
@@ -270,7 +273,7 @@ step_said : (n : ℕ) (before now : Said) (lines : List (List ℕ)) (line : List
     → (r : Result (Unit {0} × Step) LineFault) → step_read now.scenario line ≡ r → Grown n before lines insides.Steps now line
 step_said n before now lines line h e f (Ok (done, step)) g =
     let same : now.scenario ≡ h.scenario = ap (λ (u : Said). u.scenario) h.is in
-    let line_is : IsNextStep h.scenario line step = subst (λ (s : Scenario). IsNextStep s line step) same (let k = next_step_found now.scenario line step g in record { unskipped = e; unended = f; room = k.0; says = k.1 }) in
+    let line_is : IsNextStep h.scenario line step = subst (λ (s : Scenario). IsNextStep s line step) same (let k = next_step_found now.scenario line step g in record { unskipped = unskipped_found line e; unended = no_end_found (codes "ENDSTEPS") line steps_word f; room = k.0; says = k.1 }) in
     let t : Scenario = record h.scenario { steps = h.scenario.steps ++ step ∷ [] } in
     inl (record {
       inside = insides.Steps;
@@ -286,10 +289,10 @@ step_said n before now lines line h e f (Ok (done, step)) g =
         is = refl;
       };
     })
-step_said n before now lines line h e f (Err own) g = inr (inr (record { fault = fault_at (n + length lines + 1) own; bad = (e, f, (own, step_refused now.scenario line own g, refl)) }))
+step_said n before now lines line h e f (Err own) g = inr (inr (record { fault = fault_at (n + length lines + 1) own; bad = (unskipped_found line e, no_end_found (codes "ENDSTEPS") line steps_word f, (own, step_refused now.scenario line own g, refl)) }))
 
 steps_ended : (n : ℕ) (before now : Said) (lines : List (List ℕ)) (line : List ℕ) → AreOpenSteps before lines now → is_skipped line ≡ false → (b : Bool) → is_only (codes "ENDSTEPS") line ≡ b → Grown n before lines insides.Steps now line
-steps_ended n before now lines line h e true f = inr (inl (record { after = now; block = inr (inr (record { front = lines; last = line; inside = insides.Steps; now = now; whole = refl; opens = h; ends = (e, f, refl) })) }))
+steps_ended n before now lines line h e true f = inr (inl (record { after = now; block = inr (inr (record { front = lines; last = line; inside = insides.Steps; now = now; whole = refl; opens = h; ends = (unskipped_found line e, end_found (codes "ENDSTEPS") line f, refl) })) }))
 steps_ended n before now lines line h e false f = step_said n before now lines line h e f (step_read now.scenario line) refl
 
 steps_grown : (n : ℕ) (before now : Said) (lines : List (List ℕ)) (line : List ℕ) → AreOpenSteps before lines now → (b : Bool) → is_skipped line ≡ b → Grown n before lines insides.Steps now line
@@ -304,7 +307,7 @@ steps_grown n before now lines line h true e =
         scenario = h.scenario;
         whole = ap (λ (l : List (List ℕ)). l ++ line ∷ []) h.whole;
         begins = h.begins;
-        says = stepped_skip h.inner before.scenario h.scenario line h.says e;
+        says = stepped_skip h.inner before.scenario h.scenario line h.says (skipped_found line e);
         is = h.is;
       };
     })
@@ -367,8 +370,8 @@ record Told (i : Inside) (now : Said) (other : ScenarioFault) : Type 0 where
   pub cut_off : IsCut i now other fault
 
 cut_by : (i : Inside) (now : Said) (other : ScenarioFault) (r : Result (Unit {0}) ScenarioFault) → section_cut i now.scenario ≡ r → Told i now other
-cut_by i now other (Ok done) e = record { fault = other; cut_off = inr (e, refl) }
-cut_by i now other (Err fault) e = record { fault = fault; cut_off = inl e }
+cut_by i now other (Ok done) e = record { fault = other; cut_off = inr ((λ own h. absurd (let f : ok_cut ≡ err_cut own = sym e ∙ own_cut_is i now.scenario own h in cc)), refl) }
+cut_by i now other (Err fault) e = record { fault = fault; cut_off = inl (own_cut_found i now.scenario fault e) }
 
 told : (i : Inside) (now : Said) (other : ScenarioFault) → Told i now other
 told i now other = cut_by i now other (section_cut i now.scenario) refl

@@ -26,6 +26,7 @@ use Rattle.mq_scn_text.specs.declared.reading.Inside.{Inside}
 use Rattle.mq_scn_text.specs.declared.reading.Inside.TheVariants as insides
 use Rattle.mq_scn_text.specs.Parts.{stage_rank, from_stage, room_of}
 use Rattle.mq_scn_text.specs.Scripts.{new_script}
+use Rattle.mq_law_scenario.proofs.SectionReads.{section_is}
 use Rattle.mq_law_scenario.specs.Texts.{Said, nothing_said, Begins, Adds, IsOpenSection, IsOpenTable, IsOpenScript, AreOpenSteps, AreStepped, IsOpen, Ends, IsBlock, AreBlocks, IsText}
 use Rattle.mq_law_scenario.proofs.Each.{Each, each_more, each_map, each_all, Apart, apart_insert, apart_more, apart_all}
 use Rattle.mq_law_scenario.proofs.Said.{Joins, IsOwned, names, channels, IsAllowed, IsSaid, line_said}
@@ -451,7 +452,7 @@ Kept b = Keeps b.stage b.scenario
 
 mqsc_end_kept : (n k : ℕ) (before now after : Said) (lines : List (List ℕ)) (o : Opened) (line : List ℕ) → Kept before → IsOpenSection n before lines o now → Ends k (insides.Mqsc o) now line after → Kept after
 mqsc_end_kept n k before now after lines o line h b (section, only, e, is) =
-    let same = section_kept k o section e in
+    let same = section_kept k o section (section_is k o section e) in
     let label : section.label ≡ b.label = same.0 ∙ ap (λ (u : Opened). u.label) b.opens in
     let manager : section.manager ≡ b.manager = same.1 ∙ ap (λ (u : Opened). u.manager) b.opens in
     let whole : Said = record { stage = b.stage; left = before.left; scenario = record before.scenario { sections = before.scenario.sections ++ section ∷ [] } } in

@@ -1,3 +1,6 @@
+pub mod MarkLines
+pub mod SectionReads
+pub mod Leaves
 pub mod NextLines
 pub mod ReadBack
 pub mod Either

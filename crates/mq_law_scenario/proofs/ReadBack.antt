@@ -23,10 +23,13 @@ use Rattle.mq_scn_text.specs.declared.reading.Reading.{Reading}
 use Rattle.mq_scn_text.specs.Faults.{and_then}
 use Rattle.mq_scn_text.specs.Sections.{text_added, line_in}
 use Rattle.mq_scn_text.specs.Scripts.{new_script, put_len, script_added}
-use Rattle.mq_scn_text.specs.Reading.{nothing_read, is_only, is_skipped, opened, part_added, outside_read, mqsc_line_read, rules_line_read, script_line_read, skipped_or_script, step_line_read, skipped_or_step, inside_read, section_cut, else_fault, line_read, lines_read, is_outside, are_steps, ended, scenario_of}
+use Rattle.mq_scn_text.specs.Reading.{nothing_read, opened, part_added, outside_read, mqsc_line_read, rules_line_read, script_line_read, skipped_or_script, step_line_read, skipped_or_step, inside_read, section_cut, else_fault, line_read, lines_read, is_outside, are_steps, ended, scenario_of}
+use Rattle.mq_scn_grammar.specs.Words.{IsOnly}
 use Rattle.mq_scn_parts.proofs.PartLines.{part_is_read, part_is_refused}
+use Rattle.mq_law_scenario.proofs.SectionReads.{ok_cut, section_is, section_fault_is}
+use Rattle.mq_law_scenario.proofs.Leaves.{skipped_is, unskipped_is, end_is, no_end_is, mqsc_word, rules_word, script_word, steps_word, own_cut_is, own_cut_found}
 use Rattle.mq_law_scenario.proofs.NextLines.{next_read, line_is_refused, next_step_read, step_is_refused}
-use Rattle.mq_law_scenario.specs.Texts.{Said, nothing_said, Begins, Adds, NoneIs, text_of, IsOpenSection, IsOpenTable, IsNextLine, AreSpoken, IsOpenScript, IsNextStep, AreStepped, AreOpenSteps, IsOpen, Ends, IsEnded, IsBlock, AreBlocks, all_lines, IsText}
+use Rattle.mq_law_scenario.specs.Texts.{Said, nothing_said, IsSkipped, Begins, Adds, NoneIs, text_of, IsOpenSection, IsOpenTable, IsNextLine, AreSpoken, IsOpenScript, IsNextStep, AreStepped, AreOpenSteps, IsOpen, Ends, IsEnded, IsBlock, AreBlocks, all_lines, IsText}
 use Rattle.mq_law_scenario.specs.Faults.{Stand, IsBadLine, IsCut, HasBadLine, HasManyLines, HasNoEnd, IsTextFault}
 
 abbrev pub ok_reading : Reading → Result Reading ScenarioFault
@@ -62,14 +65,14 @@ one_more : (n : ℕ) (i j : Inside) (now next : Said) (line : List ℕ) (rest : 
     → lines_read (line ∷ rest) (reading n i now) ≡ lines_read rest (reading (n + 1) j next)
 one_more n i j now next line rest lt e = ap (λ (r : Result Reading ScenarioFault). and_then r (lines_read rest)) (line_within n i now line lt ∙ e)
 
-skip_read : (k : ℕ) (now : Said) (line : List ℕ) → is_skipped line ≡ true → inside_read k line (reading k insides.Nothing now) ≡ ok_reading (reading k insides.Nothing now)
+skip_read : (k : ℕ) (now : Said) (line : List ℕ) → IsSkipped line → inside_read k line (reading k insides.Nothing now) ≡ ok_reading (reading k insides.Nothing now)
 unfolding outside_read
-skip_read k now line e = rw e refl
+skip_read k now line e = rw (skipped_is line e) refl
 
 begins_read : (k : ℕ) (now : Said) (line : List ℕ) (stage : Stage) (part : PartLine) → Begins now line stage part
     → inside_read k line (reading k insides.Nothing now) ≡ ok_reading (part_added k part (reading k insides.Nothing (record now { stage = stage })))
 unfolding outside_read
-begins_read k now line stage part b = rw b.unskipped (part_is_read k line (reading k insides.Nothing now) (stage, part) b.says)
+begins_read k now line stage part b = rw (unskipped_is line b.unskipped) (part_is_read k line (reading k insides.Nothing now) (stage, part) b.says)
 
 adds_read : (part : PartLine) (k : ℕ) (now : Said) (t : Scenario) → Adds part now.scenario t → part_added k part (reading k insides.Nothing now) ≡ reading k insides.Nothing (record now { scenario = t })
 adds_read parts.Network k now t e = ap (λ (s : Scenario). reading k insides.Nothing (record now { scenario = s })) (sym e)
@@ -84,13 +87,13 @@ adds_read parts.Steps k now t e = absurd e
 
 -- ---- the lines of sections and tables
 
-mqsc_more : (k : ℕ) (o : Opened) (now : Said) (line : List ℕ) → is_only (codes "ENDMQSC") line ≡ false → inside_read k line (reading k (insides.Mqsc o) now) ≡ ok_reading (reading k (insides.Mqsc (text_added line o)) now)
+mqsc_more : (k : ℕ) (o : Opened) (now : Said) (line : List ℕ) → (IsOnly (codes "ENDMQSC") line → ⊥) → inside_read k line (reading k (insides.Mqsc o) now) ≡ ok_reading (reading k (insides.Mqsc (text_added line o)) now)
 unfolding mqsc_line_read
-mqsc_more k o now line e = rw e refl
+mqsc_more k o now line e = rw (no_end_is (codes "ENDMQSC") line e) refl
 
-rules_more : (k : ℕ) (o : Opened) (now : Said) (line : List ℕ) → is_only (codes "ENDRULES") line ≡ false → inside_read k line (reading k (insides.Rules o) now) ≡ ok_reading (reading k (insides.Rules (text_added line o)) now)
+rules_more : (k : ℕ) (o : Opened) (now : Said) (line : List ℕ) → (IsOnly (codes "ENDRULES") line → ⊥) → inside_read k line (reading k (insides.Rules o) now) ≡ ok_reading (reading k (insides.Rules (text_added line o)) now)
 unfolding rules_line_read
-rules_more k o now line e = rw e refl
+rules_more k o now line e = rw (no_end_is (codes "ENDRULES") line e) refl
 
 abbrev with_lines : List (List ℕ) → Opened → Opened
 with_lines [] o = o
@@ -123,14 +126,14 @@ rules_all (line ∷ lines) n o now rest h le =
 
 -- ---- the lines of scripts and steps
 
-script_skip : (k : ℕ) (s : Script) (now : Said) (line : List ℕ) → is_skipped line ≡ true → inside_read k line (reading k (insides.Script s) now) ≡ ok_reading (reading k (insides.Script s) now)
+script_skip : (k : ℕ) (s : Script) (now : Said) (line : List ℕ) → IsSkipped line → inside_read k line (reading k (insides.Script s) now) ≡ ok_reading (reading k (insides.Script s) now)
 unfolding skipped_or_script
-script_skip k s now line e = rw e refl
+script_skip k s now line e = rw (skipped_is line e) refl
 
 script_more : (k : ℕ) (s : Script) (now : Said) (line : List ℕ) (said : ScriptLine) → IsNextLine now.left s line said
     → inside_read k line (reading k (insides.Script s) now) ≡ ok_reading (reading k (insides.Script (script_added said s)) (record now { left = now.left - put_len said }))
 unfolding skipped_or_script script_line_read
-script_more k s now line said h = let e = next_read now.left s line said (h.room, h.says, h.order) in rw (h.unskipped, h.unended, e) refl
+script_more k s now line said h = let e = next_read now.left s line said (h.room, h.says, h.order) in rw (unskipped_is line h.unskipped, no_end_is (codes "ENDSCRIPT") line h.unended, e) refl
 
 script_all : (lines : List (List ℕ)) (n : ℕ) (s t : Script) (now : Said) (left : ℕ) (rest : List (List ℕ)) → AreSpoken now.left s lines left t → n + length lines ≤ 40000
     → lines_read (lines ++ rest) (reading n (insides.Script s) now) ≡ lines_read rest (reading (n + length lines) (insides.Script t) (record now { left = left }))
@@ -151,14 +154,14 @@ script_all (line ∷ lines) n s t now left rest (inr (said, e, h)) le =
     ∙ script_all lines (n + 1) (script_added said s) t next left rest h (omega arith)
     ∙ ap (λ (m : ℕ). lines_read rest (reading m (insides.Script t) (record now { left = left }))) k
 
-step_skip : (k : ℕ) (now : Said) (line : List ℕ) → is_skipped line ≡ true → inside_read k line (reading k insides.Steps now) ≡ ok_reading (reading k insides.Steps now)
+step_skip : (k : ℕ) (now : Said) (line : List ℕ) → IsSkipped line → inside_read k line (reading k insides.Steps now) ≡ ok_reading (reading k insides.Steps now)
 unfolding skipped_or_step
-step_skip k now line e = rw e refl
+step_skip k now line e = rw (skipped_is line e) refl
 
 step_more : (k : ℕ) (now : Said) (line : List ℕ) (step : Step) → IsNextStep now.scenario line step
     → inside_read k line (reading k insides.Steps now) ≡ ok_reading (reading k insides.Steps (record now { scenario = record now.scenario { steps = now.scenario.steps ++ step ∷ [] } }))
 unfolding skipped_or_step step_line_read
-step_more k now line step h = let e = next_step_read now.scenario line step h.room h.says in rw (h.unskipped, h.unended, e) refl
+step_more k now line step h = let e = next_step_read now.scenario line step h.room h.says in rw (unskipped_is line h.unskipped, no_end_is (codes "ENDSTEPS") line h.unended, e) refl
 
 steps_all : (lines : List (List ℕ)) (n : ℕ) (now : Said) (t : Scenario) (rest : List (List ℕ)) → AreStepped now.scenario lines t → n + length lines ≤ 40000
     → lines_read (lines ++ rest) (reading n insides.Steps now) ≡ lines_read rest (reading (n + length lines) insides.Steps (record now { scenario = t }))
@@ -250,19 +253,19 @@ open_read_on insides.Steps n before now lines rest h le = steps_read_on n before
 
 mqsc_end : (k : ℕ) (o : Opened) (now after : Said) (line : List ℕ) → Ends k (insides.Mqsc o) now line after → inside_read k line (reading k (insides.Mqsc o) now) ≡ ok_reading (reading k insides.Nothing after)
 unfolding mqsc_line_read
-mqsc_end k o now after line (section, only, e, is) = rw (only, e) (ap (λ (u : Said). ok_reading (reading k insides.Nothing u)) (sym is))
+mqsc_end k o now after line (section, only, e, is) = rw (end_is (codes "ENDMQSC") line mqsc_word only, section_is k o section e) (ap (λ (u : Said). ok_reading (reading k insides.Nothing u)) (sym is))
 
 rules_end : (k : ℕ) (o : Opened) (now after : Said) (line : List ℕ) → Ends k (insides.Rules o) now line after → inside_read k line (reading k (insides.Rules o) now) ≡ ok_reading (reading k insides.Nothing after)
 unfolding rules_line_read
-rules_end k o now after line (part, only, e, is) = rw (only, e) (ap (λ (u : Said). ok_reading (reading k insides.Nothing u)) (sym is))
+rules_end k o now after line (part, only, e, is) = rw (end_is (codes "ENDRULES") line rules_word only, e) (ap (λ (u : Said). ok_reading (reading k insides.Nothing u)) (sym is))
 
 script_end : (k : ℕ) (s : Script) (now after : Said) (line : List ℕ) → Ends k (insides.Script s) now line after → inside_read k line (reading k (insides.Script s) now) ≡ ok_reading (reading k insides.Nothing after)
 unfolding skipped_or_script script_line_read
-script_end k s now after line (unskipped, only, is) = rw (unskipped, only) (ap (λ (u : Said). ok_reading (reading k insides.Nothing u)) (sym is))
+script_end k s now after line (unskipped, only, is) = rw (unskipped_is line unskipped, end_is (codes "ENDSCRIPT") line script_word only) (ap (λ (u : Said). ok_reading (reading k insides.Nothing u)) (sym is))
 
 steps_end : (k : ℕ) (now after : Said) (line : List ℕ) → Ends k insides.Steps now line after → inside_read k line (reading k insides.Steps now) ≡ ok_reading (reading k insides.Nothing after)
 unfolding skipped_or_step step_line_read
-steps_end k now after line (unskipped, only, is) = rw (unskipped, only) (ap (λ (u : Said). ok_reading (reading k insides.Nothing u)) (sym is))
+steps_end k now after line (unskipped, only, is) = rw (unskipped_is line unskipped, end_is (codes "ENDSTEPS") line steps_word only) (ap (λ (u : Said). ok_reading (reading k insides.Nothing u)) (sym is))
 
 end_read : (i : Inside) (k : ℕ) (now after : Said) (line : List ℕ) → Ends k i now line after → inside_read k line (reading k i now) ≡ ok_reading (reading k insides.Nothing after)
 end_read insides.Nothing k now after line h = absurd h
@@ -349,23 +352,23 @@ text_read text s h =
 
 bad_part_read : (k : ℕ) (now : Said) (line : List ℕ) (fault : ScenarioFault) → IsBadLine k insides.Nothing now line fault → inside_read k line (reading k insides.Nothing now) ≡ err_reading fault
 unfolding outside_read
-bad_part_read k now line fault (unskipped, (own, h, is)) = rw unskipped (part_is_refused k line (reading k insides.Nothing now) own h ∙ ap err_reading (sym is))
+bad_part_read k now line fault (unskipped, (own, h, is)) = rw (unskipped_is line unskipped) (part_is_refused k line (reading k insides.Nothing now) own h ∙ ap err_reading (sym is))
 
 bad_section_read : (k : ℕ) (o : Opened) (now : Said) (line : List ℕ) (fault : ScenarioFault) → IsBadLine k (insides.Mqsc o) now line fault → inside_read k line (reading k (insides.Mqsc o) now) ≡ err_reading fault
 unfolding mqsc_line_read
-bad_section_read k o now line fault h = rw (h.0, h.1) refl
+bad_section_read k o now line fault h = rw (end_is (codes "ENDMQSC") line mqsc_word h.0, section_fault_is k o fault h.1) refl
 
 bad_table_read : (k : ℕ) (o : Opened) (now : Said) (line : List ℕ) (fault : ScenarioFault) → IsBadLine k (insides.Rules o) now line fault → inside_read k line (reading k (insides.Rules o) now) ≡ err_reading fault
 unfolding rules_line_read
-bad_table_read k o now line fault h = rw (h.0, h.1) refl
+bad_table_read k o now line fault h = rw (end_is (codes "ENDRULES") line rules_word h.0, h.1) refl
 
 bad_script_read : (k : ℕ) (s : Script) (now : Said) (line : List ℕ) (fault : ScenarioFault) → IsBadLine k (insides.Script s) now line fault → inside_read k line (reading k (insides.Script s) now) ≡ err_reading fault
 unfolding skipped_or_script script_line_read
-bad_script_read k s now line fault (unskipped, unended, (own, h, is)) = let e = line_is_refused now.left s line own h in rw (unskipped, unended, e) (ap err_reading (sym is))
+bad_script_read k s now line fault (unskipped, unended, (own, h, is)) = let e = line_is_refused now.left s line own h in rw (unskipped_is line unskipped, no_end_is (codes "ENDSCRIPT") line unended, e) (ap err_reading (sym is))
 
 bad_step_read : (k : ℕ) (now : Said) (line : List ℕ) (fault : ScenarioFault) → IsBadLine k insides.Steps now line fault → inside_read k line (reading k insides.Steps now) ≡ err_reading fault
 unfolding skipped_or_step step_line_read
-bad_step_read k now line fault (unskipped, unended, (own, h, is)) = let e = step_is_refused now.scenario line own h in rw (unskipped, unended, e) (ap err_reading (sym is))
+bad_step_read k now line fault (unskipped, unended, (own, h, is)) = let e = step_is_refused now.scenario line own h in rw (unskipped_is line unskipped, no_end_is (codes "ENDSTEPS") line unended, e) (ap err_reading (sym is))
 
 bad_read : (i : Inside) (k : ℕ) (now : Said) (line : List ℕ) (fault : ScenarioFault) → IsBadLine k i now line fault → inside_read k line (reading k i now) ≡ err_reading fault
 bad_read insides.Nothing k now line fault h = bad_part_read k now line fault h
@@ -381,8 +384,12 @@ abbrev err_of : (A : Type 0) → ScenarioFault → Result A ScenarioFault
 err_of A fault = Err fault
 
 cut_told : (A : Type 0) (i : Inside) (now : Said) (other fault : ScenarioFault) → IsCut i now other fault → cut_or A i now other ≡ err_of A fault
-cut_told A i now other fault (inl e) = rw e refl
-cut_told A i now other fault (inr (e, f)) = rw (e, f) refl
+cut_told A i now other fault (inl h) = rw (own_cut_is i now.scenario fault h) refl
+cut_told A i now other fault (inr (never, f)) = ap (λ (r : Result (Unit {0}) ScenarioFault). else_fault r other) (no_own_cut (section_cut i now.scenario) refl) ∙ ap (err_of A) (sym f)
+  where
+    no_own_cut : (r : Result (Unit {0}) ScenarioFault) → section_cut i now.scenario ≡ r → section_cut i now.scenario ≡ ok_cut
+    no_own_cut (Ok done) e = e
+    no_own_cut (Err own) e = absurd (never own (own_cut_found i now.scenario own e))
 
 many_within : (n : ℕ) (i : Inside) (now : Said) (line : List ℕ) → n ≡ 40000 → line_read line (reading n i now) ≡ cut_or Reading i now (faults.Limit 40001 limits.Lines)
 unfolding line_read

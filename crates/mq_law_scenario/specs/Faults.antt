@@ -1,5 +1,5 @@
 -- Why a text is that of no scenario: the first line that can't stand in one, and its fault.
-use Rattle.std.specs.Prelude.{◌≡◌, ◌⊎◌, ℕ, ◌+◌, ◌<◌, ◌≤◌, true, false, List, ◌∷◌, ◌++◌, length, codes, Ok, Err, ◌&&◌}
+use Rattle.std.specs.Prelude.{◌≡◌, ◌⊎◌, ℕ, ◌+◌, ◌<◌, ◌≤◌, true, false, List, ◌∷◌, ◌++◌, length, codes, Err, ◌&&◌}
 use Rattle.mq_text.specs.Lines.{lines_of}
 use Rattle.mq_scn_lines.specs.declared.fault.Limit.TheVariants as limits
 use Rattle.mq_scn_lines.specs.declared.fault.LineFault.{LineFault}
@@ -14,15 +14,16 @@ use Rattle.mq_scn_text.specs.declared.reading.Inside.{Inside}
 use Rattle.mq_scn_text.specs.declared.reading.Inside.TheVariants as insides
 use Rattle.mq_scn_text.specs.Faults.{fault_at}
 use Rattle.mq_scn_text.specs.Lookup.{own_name}
-use Rattle.mq_scn_text.specs.Sections.{line_in, mqsc_ended, rules_ended}
+use Rattle.mq_scn_text.specs.Sections.{line_in, rules_ended, rules_cut}
 use Rattle.mq_scn_text.specs.declared.scripts.Script.{Script}
 use Rattle.mq_scn_text.specs.Scripts.{connects}
-use Rattle.mq_scn_text.specs.Reading.{is_only, is_skipped, section_cut}
+use Rattle.mq_scn_grammar.specs.Words.{IsOnly}
 use Rattle.mq_scn_grammar.specs.Faults.{IsTold}
 use Rattle.mq_scn_grammar.specs.ScriptLines.{IsScriptLine, HasLineFault}
 use Rattle.mq_scn_parts.specs.Heading.{IsPartLineFault}
 use Rattle.mq_scn_parts.specs.Steps.{HasStepFault}
-use Rattle.mq_law_scenario.specs.Texts.{Said, nothing_said, IsOpen, AreBlocks, all_lines}
+use Rattle.mq_law_scenario.specs.Sections.{HasSectionFault, HasCutFault}
+use Rattle.mq_law_scenario.specs.Texts.{Said, nothing_said, IsSkipped, IsOpen, AreBlocks, all_lines}
 
 -- lines with which a text of a scenario may begin: blocks, and a part of several lines up to its end
 pub record Stand (lines : List (List ℕ)) (inside : Inside) (now : Said) : Type 0 where
@@ -51,17 +52,23 @@ IsNextStepFault s line f = IsTold (λ g. HasNextStepFault s line g) f
 
 -- a line at fault, of this number, where it stands
 abbrev pub IsBadLine : (number : ℕ) → Inside → Said → (line : List ℕ) → ScenarioFault → Type 0
-IsBadLine number insides.Nothing now line fault = (is_skipped line ≡ false) × ((own : LineFault) × IsPartLineFault now.scenario now.stage line own × (fault ≡ fault_at number own))
-IsBadLine number (insides.Mqsc o) now line fault = (is_only (codes "ENDMQSC") line ≡ true) × (mqsc_ended number o ≡ Err fault)
-IsBadLine number (insides.Rules o) now line fault = (is_only (codes "ENDRULES") line ≡ true) × (rules_ended (own_name now.scenario.managers o.manager) o ≡ Err fault)
+IsBadLine number insides.Nothing now line fault = (IsSkipped line → ⊥) × ((own : LineFault) × IsPartLineFault now.scenario now.stage line own × (fault ≡ fault_at number own))
+IsBadLine number (insides.Mqsc o) now line fault = IsOnly (codes "ENDMQSC") line × HasSectionFault number o fault
+IsBadLine number (insides.Rules o) now line fault = IsOnly (codes "ENDRULES") line × (rules_ended (own_name now.scenario.managers o.manager) o ≡ Err fault)
 IsBadLine number (insides.Script s) now line fault =
-    (is_skipped line ≡ false) × (is_only (codes "ENDSCRIPT") line ≡ false) × ((own : LineFault) × IsNextFault now.left s line own × (fault ≡ fault_at number own))
+    (IsSkipped line → ⊥) × (IsOnly (codes "ENDSCRIPT") line → ⊥) × ((own : LineFault) × IsNextFault now.left s line own × (fault ≡ fault_at number own))
 IsBadLine number insides.Steps now line fault =
-    (is_skipped line ≡ false) × (is_only (codes "ENDSTEPS") line ≡ false) × ((own : LineFault) × IsNextStepFault now.scenario line own × (fault ≡ fault_at number own))
+    (IsSkipped line → ⊥) × (IsOnly (codes "ENDSTEPS") line → ⊥) × ((own : LineFault) × IsNextStepFault now.scenario line own × (fault ≡ fault_at number own))
 
--- a section that is cut off has a fault of its own, else this one is told
+-- a section or a table that is cut off has this fault of its own
+abbrev pub HasOwnCut : Inside → Scenario → ScenarioFault → Type 0
+HasOwnCut (insides.Mqsc o) s fault = HasCutFault o fault
+HasOwnCut (insides.Rules o) s fault = rules_cut (own_name s.managers o.manager) o ≡ Err fault
+HasOwnCut _ s fault = ⊥
+
+-- where it has none, another one is told
 abbrev pub IsCut : Inside → Said → (other fault : ScenarioFault) → Type 0
-IsCut inside now other fault = (section_cut inside now.scenario ≡ Err fault) ⊎ ((section_cut inside now.scenario ≡ Ok tt) × (fault ≡ other))
+IsCut inside now other fault = HasOwnCut inside now.scenario fault ⊎ (((own : ScenarioFault) → HasOwnCut inside now.scenario own → ⊥) × (fault ≡ other))
 
 -- the lines before it stand, and this one can't
 pub record HasBadLine (text : List ℕ) (fault : ScenarioFault) : Type 0 where

@@ -17,12 +17,15 @@ use Rattle.mq_scn_text.specs.declared.scripts.Script.{Script}
 use Rattle.mq_scn_text.specs.declared.reading.Inside.{Inside}
 use Rattle.mq_scn_text.specs.declared.reading.Inside.TheVariants as insides
 use Rattle.mq_scn_text.specs.Lookup.{own_name}
-use Rattle.mq_scn_text.specs.Sections.{mqsc_ended, rules_ended}
+use Rattle.mq_scn_text.specs.Sections.{rules_ended}
 use Rattle.mq_scn_text.specs.Scripts.{new_script, put_len, connects, script_added}
-use Rattle.mq_scn_text.specs.Reading.{nothing, is_only, is_skipped}
+use Rattle.mq_scn_text.specs.Reading.{nothing}
+use Rattle.mq_sc_grammar.specs.Texts.{IsComment}
+use Rattle.mq_scn_grammar.specs.Words.{AreBlanks, IsOnly}
 use Rattle.mq_scn_grammar.specs.ScriptLines.{IsScriptLine}
 use Rattle.mq_scn_parts.specs.Heading.{IsPartLine}
 use Rattle.mq_scn_parts.specs.Steps.{IsStepLine}
+use Rattle.mq_law_scenario.specs.Sections.{IsSection}
 
 -- what blocks have said: how far the parts have come, the bytes left of the limit of all bodies, the scenario so far
 pub record Said : Type 0 where
@@ -33,11 +36,17 @@ pub record Said : Type 0 where
 abbrev pub nothing_said : Said
 nothing_said = record { stage = stages.Start; left = 67108864; scenario = nothing }
 
+-- ---- lines that say nothing
+
+-- a line that begins with a star, or is blanks
+abbrev pub IsSkipped : List ℕ → Type 0
+IsSkipped line = IsComment line ⊎ AreBlanks line
+
 -- ---- parts of one line
 
 -- a line with which a part begins, what it says, and the stage behind it
 pub record Begins (before : Said) (line : List ℕ) (stage : Stage) (part : PartLine) : Type 0 where
-  pub unskipped : is_skipped line ≡ false
+  pub unskipped : IsSkipped line → ⊥
   pub says : IsPartLine before.scenario before.stage line (stage, part)
 
 -- what a part of one line adds to the scenario
@@ -64,7 +73,7 @@ pub record IsPart (before : Said) (lines : List (List ℕ)) (after : Said) : Typ
 -- none of the lines has this one word
 abbrev pub NoneIs : List ℕ → List (List ℕ) → Type 0
 NoneIs word [] = Unit {0}
-NoneIs word (line ∷ lines) = (is_only word line ≡ false) × NoneIs word lines
+NoneIs word (line ∷ lines) = (IsOnly word line → ⊥) × NoneIs word lines
 
 -- the text of lines, each with its line feed
 abbrev pub text_of : List (List ℕ) → List ℕ
@@ -98,8 +107,8 @@ pub record IsOpenTable (n : ℕ) (before : Said) (lines : List (List ℕ)) (o : 
 
 -- the next line of a script: there is room for it, and an MQCONN stands only where the one before it has an MQDISC behind it
 pub record IsNextLine (left : ℕ) (s : Script) (line : List ℕ) (said : ScriptLine) : Type 0 where
-  pub unskipped : is_skipped line ≡ false
-  pub unended : is_only (codes "ENDSCRIPT") line ≡ false
+  pub unskipped : IsSkipped line → ⊥
+  pub unended : IsOnly (codes "ENDSCRIPT") line → ⊥
   pub room : length s.part.lines < 25000
   pub says : IsScriptLine left said line
   pub order : (s.connected && connects said) ≡ false
@@ -108,7 +117,7 @@ pub record IsNextLine (left : ℕ) (s : Script) (line : List ℕ) (said : Script
 abbrev pub AreSpoken : (left : ℕ) → Script → List (List ℕ) → (left_behind : ℕ) → Script → Type 0
 AreSpoken left s [] left_behind t = (left_behind ≡ left) × (t ≡ s)
 AreSpoken left s (line ∷ lines) left_behind t =
-    ((is_skipped line ≡ true) × AreSpoken left s lines left_behind t)
+    (IsSkipped line × AreSpoken left s lines left_behind t)
     ⊎ ((said : ScriptLine) × IsNextLine left s line said × AreSpoken (left - put_len said) (script_added said s) lines left_behind t)
 
 -- a script up to its end
@@ -126,8 +135,8 @@ pub record IsOpenScript (before : Said) (lines : List (List ℕ)) (s : Script) (
 
 -- the next step, where there is room for it
 pub record IsNextStep (s : Scenario) (line : List ℕ) (step : Step) : Type 0 where
-  pub unskipped : is_skipped line ≡ false
-  pub unended : is_only (codes "ENDSTEPS") line ≡ false
+  pub unskipped : IsSkipped line → ⊥
+  pub unended : IsOnly (codes "ENDSTEPS") line → ⊥
   pub room : length s.steps < 3000
   pub says : IsStepLine s line step
 
@@ -135,7 +144,7 @@ pub record IsNextStep (s : Scenario) (line : List ℕ) (step : Step) : Type 0 wh
 abbrev pub AreStepped : Scenario → List (List ℕ) → Scenario → Type 0
 AreStepped s [] t = t ≡ s
 AreStepped s (line ∷ lines) t =
-    ((is_skipped line ≡ true) × AreStepped s lines t)
+    (IsSkipped line × AreStepped s lines t)
     ⊎ ((step : Step) × IsNextStep s line step × AreStepped (record s { steps = s.steps ++ step ∷ [] }) lines t)
 
 -- the steps up to their end
@@ -163,14 +172,14 @@ IsOpen n before lines insides.Steps now = AreOpenSteps before lines now
 abbrev pub Ends : (number : ℕ) → Inside → Said → (line : List ℕ) → Said → Type 0
 Ends number insides.Nothing now line after = ⊥
 Ends number (insides.Mqsc o) now line after =
-    (section : Section) × (is_only (codes "ENDMQSC") line ≡ true) × (mqsc_ended number o ≡ Ok section)
+    (section : Section) × IsOnly (codes "ENDMQSC") line × IsSection o section
     × (after ≡ record now { scenario = record now.scenario { sections = now.scenario.sections ++ section ∷ [] } })
 Ends number (insides.Rules o) now line after =
-    (part : RulesPart) × (is_only (codes "ENDRULES") line ≡ true) × (rules_ended (own_name now.scenario.managers o.manager) o ≡ Ok part)
+    (part : RulesPart) × IsOnly (codes "ENDRULES") line × (rules_ended (own_name now.scenario.managers o.manager) o ≡ Ok part)
     × (after ≡ record now { scenario = record now.scenario { rules = now.scenario.rules ++ part ∷ [] } })
 Ends number (insides.Script s) now line after =
-    (is_skipped line ≡ false) × (is_only (codes "ENDSCRIPT") line ≡ true) × (after ≡ record now { scenario = record now.scenario { scripts = now.scenario.scripts ++ s.part ∷ [] } })
-Ends number insides.Steps now line after = (is_skipped line ≡ false) × (is_only (codes "ENDSTEPS") line ≡ true) × (after ≡ now)
+    (IsSkipped line → ⊥) × IsOnly (codes "ENDSCRIPT") line × (after ≡ record now { scenario = record now.scenario { scripts = now.scenario.scripts ++ s.part ∷ [] } })
+Ends number insides.Steps now line after = (IsSkipped line → ⊥) × IsOnly (codes "ENDSTEPS") line × (after ≡ now)
 
 -- a part of several lines, with its end
 pub record IsEnded (n : ℕ) (before : Said) (lines : List (List ℕ)) (after : Said) : Type 0 where
@@ -184,7 +193,7 @@ pub record IsEnded (n : ℕ) (before : Said) (lines : List (List ℕ)) (after : 
 
 -- a line that says nothing
 abbrev pub SaysNothing : Said → List (List ℕ) → Said → Type 0
-SaysNothing before lines after = (line : List ℕ) × (lines ≡ line ∷ []) × (is_skipped line ≡ true) × (after ≡ before)
+SaysNothing before lines after = (line : List ℕ) × (lines ≡ line ∷ []) × IsSkipped line × (after ≡ before)
 
 -- a block behind so many lines
 abbrev pub IsBlock : ℕ → Said → List (List ℕ) → Said → Type 0

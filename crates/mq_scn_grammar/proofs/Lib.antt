@@ -8,4 +8,6 @@ pub mod LineOptions
 pub mod Puts
 pub mod Gets
 pub mod ScriptLines
+pub mod OneCommand
 pub mod Script
+pub mod Firsts

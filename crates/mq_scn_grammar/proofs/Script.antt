@@ -25,6 +25,7 @@ use Rattle.mq_scn_grammar.specs.Faults.{IsTold}
 use Rattle.mq_scn_grammar.specs.ScriptLines.{verb_of_line, IsRest, HasFault, IsMqsc, AreVerbWords, IsScriptLine, HasLineFault, IsScriptFault}
 use Rattle.mq_scn_grammar.proofs.Told.{Reports, IsFirst}
 use Rattle.mq_scn_grammar.proofs.Words.{WordAt, word_at, words_read as read_words, words_found}
+use Rattle.mq_scn_grammar.proofs.OneCommand.{command_is, command_found, refusal_is, refusal_found as one_refusal_found}
 use Rattle.mq_scn_grammar.proofs.ScriptLines.{LinesOf, called_tells}
 
 -- ---- what is answered, of whatever fault
@@ -93,7 +94,7 @@ err_command f g e = cc
 some_verb_never : (verb : ScriptVerb) → none_verb ≡ Some verb → ⊥
 some_verb_never verb e = absurd cc
 
-no_front_never : (p : List ℕ × List ℕ) → no_front ≡ some_front p → ⊥
+pub no_front_never : (p : List ℕ × List ℕ) → no_front ≡ some_front p → ⊥
 no_front_never p e = absurd cc
 
 -- ---- the first word
@@ -145,7 +146,7 @@ pub first_found : (text w rest : List ℕ) → first_word text ≡ some_front (w
 first_found [] w rest e = absurd cc
 first_found (b ∷ bs) w rest e = front_by b bs w rest (eqb_tells b 32) (λ f. first_found bs w rest f) e
 
-word_first : (c : ℕ) (cs rest : List ℕ) → (c ≡ 32 → ⊥) → word_len false ((c ∷ cs) ++ rest) ≡ length (c ∷ cs) → first_word ((c ∷ cs) ++ rest) ≡ some_front (c ∷ cs, rest)
+pub word_first : (c : ℕ) (cs rest : List ℕ) → (c ≡ 32 → ⊥) → word_len false ((c ∷ cs) ++ rest) ≡ length (c ∷ cs) → first_word ((c ∷ cs) ++ rest) ≡ some_front (c ∷ cs, rest)
 word_first c cs rest ne long = elim (eqb_tells c 32) [
   | inl p ↦ absurd (ne p.1)
   | inr p ↦
@@ -162,7 +163,7 @@ at_word w rest a =
     subst (λ (l : List ℕ). first_word (l ++ rest) ≡ some_front (l, rest)) (sym a.is)
     (word_first a.first a.others rest a.no_blank (subst (λ (l : List ℕ). word_len false (l ++ rest) ≡ length l) a.is a.long))
 
-past_blanks : (blanks text : List ℕ) → AreBlanks blanks → first_word (blanks ++ text) ≡ first_word text
+pub past_blanks : (blanks text : List ℕ) → AreBlanks blanks → first_word (blanks ++ text) ≡ first_word text
 past_blanks [] text h = refl
 past_blanks (b ∷ bs) text h = ap (λ (c : ℕ). first_word (c ∷ (bs ++ text))) h.0 ∙ past_blanks bs text h.1
 
@@ -263,7 +264,7 @@ as_line left text _ words a r = (words, a, r)
 -- a line's text begins with MQSC, or is words that begin with another verb
 line_front : (left : ℕ) (text : List ℕ) (line : ScriptLine) → IsScriptLine left line text
     → ((c : Command) × (rest : List ℕ) × (line ≡ lines.Mqsc c) × IsMqsc rest text × (command_in rest ≡ Ok c)) ⊎ ((words : List (List ℕ)) × AreVerbWords (verb_of_line line) words text × IsRest left line words)
-line_front left text (lines.Mqsc c) h = inl (c, h.0, refl, h.1, h.2)
+line_front left text (lines.Mqsc c) h = inl (c, h.0, refl, h.1, command_is h.0 c h.2)
 line_front left text _ h = inr h
 
 record Same (verb : ScriptVerb) (rest : List ℕ) (other : ScriptVerb) (words : List (List ℕ)) : Type 0 where
@@ -304,7 +305,7 @@ module _ (left : ℕ) (text : List ℕ) where
   ok_command c d e = cc
 
   command_tells : (rest : List ℕ) → first_word text ≡ some_front (verb_word verbs.Mqsc, rest) → (r : Result Command LineFault) → command_in rest ≡ r → Answers LineOf FaultOf (commanded r)
-  command_tells rest e (Ok c) f = ((rest, first_mqsc rest text e, f), (λ y h. same y (line_front left text y h)), λ g h. never g h)
+  command_tells rest e (Ok c) f = ((rest, first_mqsc rest text e, command_found rest c f), (λ y h. same y (line_front left text y h)), λ g h. never g h)
     where
       same : (y : ScriptLine) → ((d : Command) × (other : List ℕ) × (y ≡ lines.Mqsc d) × IsMqsc other text × (command_in other ≡ Ok d)) ⊎ ((words : List (List ℕ)) × AreVerbWords (verb_of_line y) words text × IsRest left y words) → y ≡ lines.Mqsc c
       same y (inl k) =
@@ -315,8 +316,8 @@ module _ (left : ℕ) (text : List ℕ) where
       never : (g : LineFault) → FaultOf g → ⊥
       never g (inl h) = h.1 rest (first_mqsc rest text e)
       never g (inr (inl h)) = mqsc_no_verb rest e h.0 h.1 h.2
-      never g (inr (inr h)) = ok_never c g (sym h.2 ∙ ap command_in (mqsc_rest rest e h.0 h.1) ∙ f)
-  command_tells rest e (Err f) k = ((λ y h. never y (line_front left text y h)), inr (inr (rest, first_mqsc rest text e, k)), λ g h. only g h)
+      never g (inr (inr h)) = ok_never c g (sym (refusal_is h.0 g h.2) ∙ ap command_in (mqsc_rest rest e h.0 h.1) ∙ f)
+  command_tells rest e (Err f) k = ((λ y h. never y (line_front left text y h)), inr (inr (rest, first_mqsc rest text e, one_refusal_found rest f k)), λ g h. only g h)
     where
       never : (y : ScriptLine) → ((d : Command) × (other : List ℕ) × (y ≡ lines.Mqsc d) × IsMqsc other text × (command_in other ≡ Ok d)) ⊎ ((words : List (List ℕ)) × AreVerbWords (verb_of_line y) words text × IsRest left y words) → ⊥
       never y (inl m) = ok_never m.0 f (sym k ∙ ap command_in (sym (mqsc_rest rest e m.1 m.3)) ∙ m.4)
@@ -325,7 +326,7 @@ module _ (left : ℕ) (text : List ℕ) where
       only : (g : LineFault) → FaultOf g → (g ≡ f) ⊎ (rank f < rank g)
       only g (inl h) = absurd (h.1 rest (first_mqsc rest text e))
       only g (inr (inl h)) = absurd (mqsc_no_verb rest e h.0 h.1 h.2)
-      only g (inr (inr h)) = inl (err_command g f (sym h.2 ∙ ap command_in (mqsc_rest rest e h.0 h.1) ∙ k))
+      only g (inr (inr h)) = inl (err_command g f (sym (refusal_is h.0 g h.2) ∙ ap command_in (mqsc_rest rest e h.0 h.1) ∙ k))
 
   -- behind another verb
 

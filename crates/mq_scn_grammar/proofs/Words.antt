@@ -19,7 +19,7 @@ is_not b c ne = elim (eqb_tells b c) [
 open_step : (quoted : Bool) (b : ℕ) (bs : List ℕ) (t : Bool) → eqb b 39 ≡ t → is_open quoted (b ∷ bs) ≡ is_open (cond t (not quoted) quoted) bs
 open_step quoted b bs t e = ap (λ (u : Bool). is_open (cond u (not quoted) quoted) bs) e
 
-len_step : (quoted : Bool) (b : ℕ) (bs : List ℕ) (s t : Bool) → (eqb b 32 && not quoted) ≡ s → eqb b 39 ≡ t → word_len quoted (b ∷ bs) ≡ cond s 0 (1 + word_len (cond t (not quoted) quoted) bs)
+pub len_step : (quoted : Bool) (b : ℕ) (bs : List ℕ) (s t : Bool) → (eqb b 32 && not quoted) ≡ s → eqb b 39 ≡ t → word_len quoted (b ∷ bs) ≡ cond s 0 (1 + word_len (cond t (not quoted) quoted) bs)
 len_step quoted b bs s t e f =
     ap (λ (u : Bool). cond u 0 (1 + word_len (cond (eqb b 39) (not quoted) quoted) bs)) e
     ∙ ap (λ (u : Bool). cond s 0 (1 + word_len (cond u (not quoted) quoted) bs)) f
@@ -41,7 +41,7 @@ plain_passed b rest ne nq =
     let one : word_len false (b ∷ rest) ≡ 1 + word_len false rest = len_step false b rest false false (ap (λ (u : Bool). u && true) e) q in
     (omega (arith, one), open_step false b rest false q)
 
-quoted_step : (b : ℕ) (bs : List ℕ) → (b ≡ 39 → ⊥) → (word_len true (b ∷ bs) ≡ 1 + word_len true bs) × (is_open true (b ∷ bs) ≡ is_open true bs)
+pub quoted_step : (b : ℕ) (bs : List ℕ) → (b ≡ 39 → ⊥) → (word_len true (b ∷ bs) ≡ 1 + word_len true bs) × (is_open true (b ∷ bs) ≡ is_open true bs)
 quoted_step b bs nq =
     let q = is_not b 39 nq in
     (len_step true b bs false false (no_blank_quoted (eqb b 32)) q, open_step true b bs false q)
@@ -77,12 +77,12 @@ two_passed p later rest h k =
 nothing_passed : (rest : List ℕ) → IsPassed [] rest
 nothing_passed rest = (omega arith, refl)
 
-pieces_passed : (ps : List (List ℕ)) (bytes rest : List ℕ) → ArePieces ps bytes → IsPassed bytes rest
+pub pieces_passed : (ps : List (List ℕ)) (bytes rest : List ℕ) → ArePieces ps bytes → IsPassed bytes rest
 pieces_passed [] bytes rest e = subst (λ (l : List ℕ). IsPassed l rest) (sym e) (nothing_passed rest)
 pieces_passed (p ∷ ps) bytes rest (later, e, is, more) =
     subst (λ (l : List ℕ). IsPassed l rest) (sym e) (two_passed p later rest (piece_passed p (later ++ rest) is) (pieces_passed ps later rest more))
 
-blank_ends : (rest : List ℕ) → BeginsBlank rest → word_len false rest ≡ 0
+pub blank_ends : (rest : List ℕ) → BeginsBlank rest → word_len false rest ≡ 0
 blank_ends [] h = refl
 blank_ends (b ∷ bs) h = ap (λ (c : ℕ). word_len false (c ∷ bs)) h
 
@@ -95,16 +95,16 @@ pub record WordAt (w rest : List ℕ) : Type 0 where
   pub long : word_len false (w ++ rest) ≡ length w
   pub open_later : is_open false (w ++ rest) ≡ is_open false rest
 
-record Begun (p rest : List ℕ) : Type 0 where
-  first : ℕ
-  others : List ℕ
-  is : p ++ rest ≡ first ∷ others
-  no_blank : first ≡ 32 → ⊥
+pub record Begun (p rest : List ℕ) : Type 0 where
+  pub first : ℕ
+  pub others : List ℕ
+  pub is : p ++ rest ≡ first ∷ others
+  pub no_blank : first ≡ 32 → ⊥
 
-quote_no_blank : (b : ℕ) → b ≡ 39 → b ≡ 32 → ⊥
+pub quote_no_blank : (b : ℕ) → b ≡ 39 → b ≡ 32 → ⊥
 quote_no_blank b e f = omega (arith, e, f)
 
-piece_begun : (p rest : List ℕ) → IsPlain p ⊎ IsInQuotes p → Begun p rest
+pub piece_begun : (p rest : List ℕ) → IsPlain p ⊎ IsInQuotes p → Begun p rest
 piece_begun p rest (inl (b, e, ne, nq)) = record { first = b; others = rest; is = ap (λ (l : List ℕ). l ++ rest) e; no_blank = ne }
 piece_begun p rest (inr (inner, e, never)) = record { first = 39; others = (inner ++ 39 ∷ []) ++ rest; is = ap (λ (l : List ℕ). l ++ rest) e; no_blank = quote_no_blank 39 refl }
 
@@ -186,7 +186,7 @@ tail_words text word rest (p ∷ ps) words e h begins are = (word ∷ words, ([]
 words_at : (text : List ℕ) → Tail false text → (ws : List (List ℕ)) × AreWords ws text
 words_at text t = tail_words text t.word t.rest t.is.0 t.words t.whole t.is.1 t.begins t.are
 
-no_quote_first : (b : ℕ) (inner : List ℕ) → (b ≡ 39 → ⊥) → (Mem 39 inner → ⊥) → Mem 39 (b ∷ inner) → ⊥
+pub no_quote_first : (b : ℕ) (inner : List ℕ) → (b ≡ 39 → ⊥) → (Mem 39 inner → ⊥) → Mem 39 (b ∷ inner) → ⊥
 no_quote_first b inner nq never (inl e) = nq (sym e)
 no_quote_first b inner nq never (inr m) = never m
 

@@ -4,4 +4,5 @@ pub mod Operands
 pub mod Options
 pub mod Bodies
 pub mod LineOptions
+pub mod Commands
 pub mod ScriptLines

@@ -1,5 +1,5 @@
 -- Lines of scripts: what the words of each line are, and why words are no line.
-use Rattle.std.specs.Prelude.{◌≡◌, ◌⊎◌, ℕ, List, [], ◌∷◌, ◌++◌, codes, Ok, Err}
+use Rattle.std.specs.Prelude.{◌≡◌, ◌⊎◌, ℕ, List, [], ◌∷◌, ◌++◌, codes}
 use Rattle.mq_calls.specs.declared.answers.Open.{Open}
 use Rattle.mq_history.specs.declared.scripts.Body.{Body}
 use Rattle.mq_history.specs.declared.scripts.PutOptions.{PutOptions}
@@ -11,10 +11,10 @@ use Rattle.mq_scn_lines.specs.declared.fault.LineFault.TheVariants as faults
 use Rattle.mq_scn_script.specs.declared.verbs.ScriptVerb.{ScriptVerb}
 use Rattle.mq_scn_script.specs.declared.verbs.ScriptVerb.TheVariants as verbs
 use Rattle.mq_scn_script.specs.Verbs.{verb_word}
-use Rattle.mq_scn_script.specs.Commands.{command_in}
 use Rattle.mq_scn_grammar.specs.Words.{AreBlanks, BeginsBlank, AreWords}
 use Rattle.mq_scn_grammar.specs.Faults.{IsMissed, IsTold}
 use Rattle.mq_scn_grammar.specs.Operands.{IsBracketed, IsLabelWord, IsNameOrBlank, IsNumber}
+use Rattle.mq_scn_grammar.specs.Commands.{IsOneCommand, HasCommandFault}
 use Rattle.mq_scn_grammar.specs.Bodies.{IsBodyWord, HasBodyFault}
 use Rattle.mq_scn_grammar.specs.LineOptions.{NameFault, NumberFault, AreOpenOptions, HasOpenFault, ArePutOptions, HasPutFault, AreGetOptions, HasGetFault}
 
@@ -228,7 +228,7 @@ AreVerbWords verb words text = (verb ≡ verbs.Mqsc → ⊥) × AreWords (verb_w
 
 -- Behind MQSC stands one command, whose quotes and blanks are its own; any other line is its words.
 abbrev pub IsScriptLine : ℕ → ScriptLine → (text : List ℕ) → Type 0
-IsScriptLine left (lines.Mqsc command) text = (rest : List ℕ) × IsMqsc rest text × (command_in rest ≡ Ok command)
+IsScriptLine left (lines.Mqsc command) text = (rest : List ℕ) × IsMqsc rest text × IsOneCommand rest command
 IsScriptLine left line text = (words : List (List ℕ)) × AreVerbWords (verb_of_line line) words text × IsRest left line words
 
 -- The faults of a line: it is neither MQSC nor words that begin with a verb; or its words have a fault; or the command.
@@ -236,7 +236,7 @@ abbrev pub HasLineFault : ℕ → (text : List ℕ) → LineFault → Type 0
 HasLineFault left text f =
     ((f ≡ faults.Form) × ((rest : List ℕ) → IsMqsc rest text → ⊥) × ((verb : ScriptVerb) (words : List (List ℕ)) → AreVerbWords verb words text → ⊥))
     ⊎ (((verb : ScriptVerb) × (words : List (List ℕ)) × AreVerbWords verb words text × HasFault left verb words f)
-    ⊎ ((rest : List ℕ) × IsMqsc rest text × (command_in rest ≡ Err f)))
+    ⊎ ((rest : List ℕ) × IsMqsc rest text × HasCommandFault rest f))
 
 -- the fault that is told of a line
 abbrev pub IsScriptFault : ℕ → (text : List ℕ) → LineFault → Type 0

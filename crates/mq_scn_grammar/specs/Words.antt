@@ -33,3 +33,15 @@ IsWord bytes = (piece : List ℕ) × (pieces : List (List ℕ)) × ArePieces (pi
 abbrev pub AreWords : List (List ℕ) → List ℕ → Type 0
 AreWords [] text = AreBlanks text
 AreWords (w ∷ ws) text = (blanks : List ℕ) × (rest : List ℕ) × (text ≡ blanks ++ (w ++ rest)) × AreBlanks blanks × IsWord w × BeginsBlank rest × AreWords ws rest
+
+-- a word whose last quote nothing closes, so that it goes on to the end
+abbrev pub IsOpenWord : List ℕ → Type 0
+IsOpenWord bytes = (front : List ℕ) × (pieces : List (List ℕ)) × (inner : List ℕ) × (bytes ≡ front ++ 39 ∷ inner) × ArePieces pieces front × (Mem 39 inner → ⊥)
+
+-- the first word of a text, and what stands behind it
+abbrev pub IsFirstWord : (word rest text : List ℕ) → Type 0
+IsFirstWord word rest text = (blanks : List ℕ) × (text ≡ blanks ++ (word ++ rest)) × AreBlanks blanks × ((IsWord word × BeginsBlank rest) ⊎ (IsOpenWord word × (rest ≡ [])))
+
+-- a text that is this one word
+abbrev pub IsOnly : (word text : List ℕ) → Type 0
+IsOnly word text = (front : List ℕ) × (back : List ℕ) × (text ≡ front ++ (word ++ back)) × AreBlanks front × AreBlanks back

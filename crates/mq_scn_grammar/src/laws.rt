@@ -6,12 +6,15 @@ ghost use Rattle.mq_scn_lines.specs.declared.fault.LineFault.{LineFault};
 ghost use Rattle.mq_scn_lines.specs.declared.fault.LineFault.TheVariants.{Form, Name, Number};
 ghost use Rattle.mq_scn_lines.specs.declared.options.LineOption.{LineOption};
 ghost use Rattle.mq_scn_lines.specs.Faults.{rank};
-ghost use Rattle.mq_scn_lines.specs.Words.{is_open, words_of};
+ghost use Rattle.mq_scn_lines.specs.Words.{is_open, words_of, first_word};
 ghost use Rattle.mq_scn_lines.specs.Numbers.{ranged, signed_number};
 ghost use Rattle.mq_scn_lines.specs.Operands.{bracketed, label_in, name_in, name_or_blank_in};
 ghost use Rattle.mq_scn_lines.specs.Texts.{text_in, field_in};
 ghost use Rattle.mq_scn_lines.specs.Options.{has_value, are_options, says, value_of};
-ghost use Rattle.mq_scn_grammar.specs.Words.{AreWords};
+ghost use Rattle.mq_scn_grammar.specs.Words.{AreBlanks, AreWords, IsFirstWord};
+ghost use Rattle.mq_sc_parse.specs.declared.command.Command.{Command};
+ghost use Rattle.mq_scn_script.specs.Commands.{command_in};
+ghost use Rattle.mq_scn_grammar.specs.Commands.{IsOneCommand, HasCommandFault};
 ghost use Rattle.mq_calls.specs.declared.answers.Open.{Open};
 ghost use Rattle.mq_scn_script.specs.Bodies.{body_in};
 ghost use Rattle.mq_scn_script.specs.Options.{open_options, put_options, get_options};
@@ -32,6 +35,23 @@ pub fn words_are_those_of_the_text()
     ensures found { (text : List ℕ) (words : List (List ℕ)) → is_open false text ≡ false → words_of text ≡ words → AreWords words text }
     ensures read { (text : List ℕ) (words : List (List ℕ)) → AreWords words text → (is_open false text ≡ false) × (words_of text ≡ words) }
     ensures one_list { (text : List ℕ) (words others : List (List ℕ)) → AreWords words text → AreWords others text → words ≡ others }
+{}
+
+/// The reader answers a first word, and what stands behind it, exactly where they stand so; and none exactly where a text is
+/// blanks.
+pub fn a_first_word_is_read_where_it_stands()
+    ensures found { (text word rest : List ℕ) → first_word text ≡ Some (word, rest) → IsFirstWord word rest text }
+    ensures read { (text word rest : List ℕ) → IsFirstWord word rest text → first_word text ≡ Some (word, rest) }
+    ensures none_found { (text : List ℕ) → first_word text ≡ None → AreBlanks text }
+    ensures none_read { (text : List ℕ) → AreBlanks text → first_word text ≡ None }
+{}
+
+/// The reader answers a command exactly where a text is this one, and a fault exactly where the text has it.
+pub fn one_command_is_read_where_it_stands()
+    ensures found { (text : List ℕ) (command : Command) → command_in text ≡ Ok command → IsOneCommand text command }
+    ensures read { (text : List ℕ) (command : Command) → IsOneCommand text command → command_in text ≡ Ok command }
+    ensures refused { (text : List ℕ) (fault : LineFault) → command_in text ≡ Err fault → HasCommandFault text fault }
+    ensures missed { (text : List ℕ) (fault : LineFault) → HasCommandFault text fault → command_in text ≡ Err fault }
 {}
 
 /// The reader finds a quote that nothing closes exactly where a text is no words.

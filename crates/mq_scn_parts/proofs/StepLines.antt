@@ -18,8 +18,11 @@ use Rattle.mq_scn_text.specs.declared.steps.StepVerb.TheVariants as verbs
 use Rattle.mq_scn_text.specs.Lookup.{manager_at}
 use Rattle.mq_scn_text.specs.Steps.{step_verbs, step_text, step_verb_of, stepped, done_by, do_line, step_of, verb_read, step_from, step_line}
 use Rattle.mq_scn_grammar.specs.Words.{IsWord}
+use Rattle.mq_scn_grammar.specs.Commands.{IsOneCommand, HasCommandFault}
 use Rattle.mq_scn_grammar.proofs.Words.{words_read as read_words, words_found}
 use Rattle.mq_scn_grammar.proofs.Script.{Answers, answers_as, answer_found, answer_read, refusal_found, refusal_read, either_answer, some_front, is_letter, first_found, first_read, some_letters, front_same}
+use Rattle.mq_scn_grammar.proofs.OneCommand.{command_is, command_found, refusal_is, refusal_found as command_refused}
+use Rattle.mq_scn_grammar.proofs.Firsts.{first_word_found, first_word_read, no_word_found, no_word_read}
 use Rattle.mq_scn_parts.specs.Declared.{manager_names, NamesPlace, HasNameFault}
 use Rattle.mq_scn_parts.specs.Steps.{IsStepOf, HasStepOfFault, IsDo, IsDone, HasDoFault, AreStepWords, IsStepLine, HasStepFault, IsStepFault}
 use Rattle.mq_scn_parts.proofs.Declared.{manager_tells}
@@ -57,22 +60,22 @@ module _ (s : Scenario) (word text : List ℕ) where
   NoName f = HasNameFault (manager_names s.managers) word f
 
   abbrev Both : ℕ × Command → Type 0
-  Both q = IsName q.0 × (command_in text ≡ ok_command q.1)
+  Both q = IsName q.0 × IsOneCommand text q.1
 
   abbrev Either : LineFault → Type 0
-  Either f = NoName f ⊎ (command_in text ≡ err_command f)
+  Either f = NoName f ⊎ HasCommandFault text f
 
   name_below : (f : LineFault) → NoName f → rank f < 20
   name_below f (inl h) = let r : rank f ≡ 15 = ap rank h.0 in omega (arith, r)
   name_below f (inr h) = let r : rank f ≡ 16 = ap rank h.2.0 in omega (arith, r)
 
-  command_by : (b : Result Command LineFault) → command_in text ≡ b → Answers (λ c. command_in text ≡ ok_command c) (λ f. command_in text ≡ err_command f) b
-  command_by (Ok c) e = (e, (λ d h. command_same d c (sym h ∙ e)), λ f h. ok_never c f (sym h ∙ e))
-  command_by (Err g) e = ((λ d h. ok_never d g (sym e ∙ h)), e, λ f h. inl (err_same f g (sym h ∙ e)))
+  command_by : (b : Result Command LineFault) → command_in text ≡ b → Answers (IsOneCommand text) (HasCommandFault text) b
+  command_by (Ok c) e = (command_found text c e, (λ d h. command_same d c (sym (command_is text d h) ∙ e)), λ f h. ok_never c f (sym (refusal_is text f h) ∙ e))
+  command_by (Err g) e = ((λ d h. ok_never d g (sym e ∙ command_is text d h)), command_refused text g e, λ f h. inl (err_same f g (sym (refusal_is text f h) ∙ e)))
 
   pub both_tell : Answers Both Either (both (manager_at s.managers word) (command_in text))
   both_tell =
-      answers_both IsName NoName (λ c. command_in text ≡ ok_command c) (λ f. command_in text ≡ err_command f) name_below (manager_at s.managers word) (command_in text) (manager_tells s.managers word)
+      answers_both IsName NoName (IsOneCommand text) (HasCommandFault text) name_below (manager_at s.managers word) (command_in text) (manager_tells s.managers word)
       (command_by (command_in text) refl)
 
 -- ---- DO
@@ -101,26 +104,26 @@ module _ (s : Scenario) (rest : List ℕ) where
   DoOf step = (q : ℕ × Command) × IsDone s rest q × (step ≡ made_do q)
 
   do_by : (o : Option (List ℕ × List ℕ)) → first_word rest ≡ o → Answers DoOf (HasDoFault s rest) (done_by s o)
-  do_by None e = ((λ y h. pair_never h.1.0 (sym e ∙ h.1.1)), inl (refl, λ p h. pair_never p (sym e ∙ h)), λ g h. first g h)
+  do_by None e = ((λ y h. pair_never h.1.0 (sym e ∙ first_word_read rest h.1.0.0 h.1.0.1 h.1.1)), inl (refl, no_word_found rest e), λ g h. first g h)
     where
       first : (g : LineFault) → HasDoFault s rest g → (g ≡ faults.Form) ⊎ (rank faults.Form < rank g)
       first g (inl h) = inl h.0
-      first g (inr h) = absurd (pair_never h.0 (sym e ∙ h.1))
+      first g (inr h) = absurd (pair_never h.0 (sym e ∙ first_word_read rest h.0.0 h.0.1 h.1))
   do_by (Some p) e = as_done (stepped made_do (both (manager_at s.managers p.0) (command_in p.1))) (answers_step (Both s p.0 p.1) (Either s p.0 p.1) made_do (both (manager_at s.managers p.0) (command_in p.1)) (both_tell s p.0 p.1))
     where
       forth : (y : Step) → ((q : ℕ × Command) × Both s p.0 p.1 q × (y ≡ made_do q)) → DoOf y
-      forth y h = (h.0, (p, e, h.1), h.2)
+      forth y h = (h.0, (p, first_word_found rest p.0 p.1 e, h.1), h.2)
 
       back : (y : Step) → DoOf y → (q : ℕ × Command) × Both s p.0 p.1 q × (y ≡ made_do q)
-      back y h = (h.0, subst (λ (x : List ℕ × List ℕ). Both s x.0 x.1 h.0) (pair_same h.1.0 p (sym h.1.1 ∙ e)) h.1.2, h.2)
+      back y h = (h.0, subst (λ (x : List ℕ × List ℕ). Both s x.0 x.1 h.0) (pair_same h.1.0 p (sym (first_word_read rest h.1.0.0 h.1.0.1 h.1.1) ∙ e)) h.1.2, h.2)
 
       fault_back : (g : LineFault) → HasDoFault s rest g → Either s p.0 p.1 g
-      fault_back g (inl h) = absurd (h.1 p e)
-      fault_back g (inr h) = subst (λ (x : List ℕ × List ℕ). Either s x.0 x.1 g) (pair_same h.0 p (sym h.1 ∙ e)) h.2
+      fault_back g (inl h) = absurd (pair_never p (sym (no_word_read rest h.1) ∙ e))
+      fault_back g (inr h) = subst (λ (x : List ℕ × List ℕ). Either s x.0 x.1 g) (pair_same h.0 p (sym (first_word_read rest h.0.0 h.0.1 h.1) ∙ e)) h.2
 
       as_done : (r : Result Step LineFault) → Answers (λ y. (q : ℕ × Command) × Both s p.0 p.1 q × (y ≡ made_do q)) (Either s p.0 p.1) r → Answers DoOf (HasDoFault s rest) r
       as_done (Ok x) t = (forth x t.0, (λ y h. t.1 y (back y h)), λ g h. t.2 g (fault_back g h))
-      as_done (Err f) t = ((λ y h. t.0 y (back y h)), inr (p, e, t.1), λ g h. t.2 g (fault_back g h))
+      as_done (Err f) t = ((λ y h. t.0 y (back y h)), inr (p, first_word_found rest p.0 p.1 e, t.1), λ g h. t.2 g (fault_back g h))
 
   pub do_tells : Answers DoOf (HasDoFault s rest) (do_line s rest)
   do_tells = do_by (first_word rest) refl

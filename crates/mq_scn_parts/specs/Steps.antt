@@ -1,5 +1,5 @@
 -- Steps: what the words of each are, and why a text is none.
-use Rattle.std.specs.Prelude.{◌≡◌, ◌⊎◌, ℕ, ◌≤◌, ◌<◌, List, [], ◌∷◌, ◌++◌, length, codes, Option, None, Some, Ok, Err}
+use Rattle.std.specs.Prelude.{◌≡◌, ◌⊎◌, ℕ, ◌≤◌, ◌<◌, List, [], ◌∷◌, ◌++◌, length, codes, Option, None, Some}
 use Rattle.mq_base.specs.Members.{AreDistinct}
 use Rattle.mq_sc_parse.specs.declared.command.Command.{Command}
 use Rattle.mq_history.specs.declared.scenario.Scenario.{Scenario}
@@ -8,12 +8,11 @@ use Rattle.mq_history.specs.declared.scenario.Step.TheVariants as steps
 use Rattle.mq_scn_lines.specs.declared.fault.Limit.TheVariants as limits
 use Rattle.mq_scn_lines.specs.declared.fault.LineFault.{LineFault}
 use Rattle.mq_scn_lines.specs.declared.fault.LineFault.TheVariants as faults
-use Rattle.mq_scn_lines.specs.Words.{first_word}
-use Rattle.mq_scn_script.specs.Commands.{command_in}
 use Rattle.mq_scn_text.specs.declared.steps.StepVerb.{StepVerb}
 use Rattle.mq_scn_text.specs.declared.steps.StepVerb.TheVariants as verbs
 use Rattle.mq_scn_text.specs.Steps.{step_text}
-use Rattle.mq_scn_grammar.specs.Words.{Mem, AreBlanks, BeginsBlank, AreWords}
+use Rattle.mq_scn_grammar.specs.Words.{Mem, AreBlanks, BeginsBlank, AreWords, IsFirstWord}
+use Rattle.mq_scn_grammar.specs.Commands.{IsOneCommand, HasCommandFault}
 use Rattle.mq_scn_grammar.specs.Faults.{IsTold}
 use Rattle.mq_scn_grammar.specs.LineOptions.{NumberIn, NumberFault}
 use Rattle.mq_scn_parts.specs.Declared.{manager_names, section_labels, rules_labels, script_labels, monitor_labels, NamesPlace, HasNameFault, LabelsPlace, HasLabelFault}
@@ -175,12 +174,11 @@ IsDo rest text = (blanks : List ℕ) × (text ≡ blanks ++ (codes "DO" ++ rest)
 
 -- manager command: the command's quotes and blanks are its own
 abbrev pub IsDone : Scenario → (rest : List ℕ) → ℕ × Command → Type 0
-IsDone s rest q = (p : List ℕ × List ℕ) × (first_word rest ≡ Some p) × (NamesPlace (manager_names s.managers) p.0 q.0 × (command_in p.1 ≡ Ok q.1))
+IsDone s rest q = (p : List ℕ × List ℕ) × IsFirstWord p.0 p.1 rest × (NamesPlace (manager_names s.managers) p.0 q.0 × IsOneCommand p.1 q.1)
 
 abbrev pub HasDoFault : Scenario → (rest : List ℕ) → LineFault → Type 0
 HasDoFault s rest f =
-    ((f ≡ faults.Form) × ((p : List ℕ × List ℕ) → first_word rest ≡ Some p → ⊥))
-    ⊎ ((p : List ℕ × List ℕ) × (first_word rest ≡ Some p) × (HasNameFault (manager_names s.managers) p.0 f ⊎ (command_in p.1 ≡ Err f)))
+    ((f ≡ faults.Form) × AreBlanks rest) ⊎ ((p : List ℕ × List ℕ) × IsFirstWord p.0 p.1 rest × (HasNameFault (manager_names s.managers) p.0 f ⊎ HasCommandFault p.1 f))
 
 -- another verb and the words behind it
 abbrev pub AreStepWords : StepVerb × List (List ℕ) → (text : List ℕ) → Type 0
