@@ -1,0 +1,6 @@
+pub mod Writes
+pub mod Views
+pub mod Ties
+pub mod Calls
+pub mod Placing
+pub mod Forced

@@ -1,0 +1,32 @@
+-- The parts of calls that are written to the log.
+use Rattle.std.specs.Prelude.{ℕ, Bool, true, false, List, [], ◌∷◌, map, Option, Some, None}
+use Rattle.mq_spec_state.specs.Words.{Ident, Message, Connection, Part, Change, LogRecord, Did, Remove, Among}
+use Rattle.mq_calls.specs.declared.deltas.Did.TheVariants as did
+use Rattle.mq_calls.specs.declared.records.LogRecord.TheVariants as records
+use Rattle.mq_calls.specs.declared.deltas.Why.{Why}
+use Rattle.mq_spec_state.specs.State.Change.{Disconnect, CountIdent, Leave}
+use Rattle.mq_spec_manager.specs.Words.{placed, unit_record, commit_part}
+
+-- the record that adds one message
+abbrev pub added : List ℕ → Message → LogRecord
+added queue m = records.Unit (record { queue = queue; message = m } ∷ []) []
+
+-- a put outside units, as mq_spec_manager's `put_part false` of any connection
+abbrev pub now_part : List ℕ → Message → Part
+now_part queue m = record { forced = unit_record queue m; changes = CountIdent ∷ placed queue m; delta = did.Placed queue m.ident None ∷ [] }
+
+-- the end of a unit, by which the connection ends too or not
+abbrev pub end_changes : Bool → ℕ → List Change
+end_changes true number = Disconnect number ∷ []
+end_changes false number = []
+
+abbrev pub ended_part : Bool → Connection → Part
+ended_part ends c = commit_part (end_changes ends c.number) c
+
+-- rows that go, not for a unit, of which these last
+abbrev pub gone_part : List ℕ → List Remove → List Ident → Why → Part
+gone_part queue removes idents why = record {
+  forced = Some (records.Unit [] removes);
+  changes = Leave (Among queue idents) ∷ [];
+  delta = map (λ (i : Ident). did.Removed queue i why) idents;
+}

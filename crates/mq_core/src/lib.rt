@@ -1,0 +1,16 @@
+//! What every call of one queue manager stands on: its parts, what ties them, what is read of them,
+//! placing, forced writes, and the plain manager that they stand for.
+#![tactic(auto)]
+
+mod checks;
+mod forcing;
+mod manager;
+mod opening;
+mod parts;
+mod pending;
+mod placing;
+
+pub use checks::is_input;
+pub use forcing::put_bytes;
+pub use manager::Core;
+pub use parts::{ChannelEnds, Mode, Parts, StoppedWrite};

@@ -1,0 +1,122 @@
+//! The parts of a queue manager, as its code keeps them.
+use mq_base::Items;
+use mq_calls::{Batch, ReceiverSide, Remove, Seizure, SenderSide, Why};
+use mq_disk::Disk;
+use mq_handles::Live;
+use mq_log::Log;
+use mq_message::{Ident, Message};
+use mq_name::{ChName, QName};
+use mq_objects::Defs;
+use mq_place::Queues;
+use mq_queue::PlainQueue;
+use mq_record::Buffer;
+use mq_sc_apply::Planned;
+use std::alloc::Global;
+use std::marker::Model;
+
+/// A forced write that was stopped: what a restart does where it finds it.
+#[derive(Drop)]
+pub enum StoppedWrite {
+    /// A message that was put outside units.
+    Put {
+        queue: QName,
+        message: Message,
+    },
+    /// The unit of a connection, which ends with it or not.
+    Commit {
+        number: u64,
+        ends: bool,
+    },
+    /// Rows of a queue that go, not for a unit, of which some last.
+    Removal {
+        queue: QName,
+        /// Those that last, as the record names them.
+        removes: Items<Remove>,
+        /// All of them, in order of place.
+        idents: Items<Ident>,
+        why: Why,
+    },
+    /// A change of objects by a command.
+    Objects {
+        planned: Planned,
+    },
+}
+
+/// Up, or down, with the write that was stopped and how many Started writes were stopped since.
+#[derive(Drop)]
+pub enum Mode {
+    Up,
+    Down {
+        write: Option<StoppedWrite>,
+        starts: u64,
+    },
+}
+
+/// What the ends of channels have hardened, and what the running ones have here; each list in the
+/// order of the channels' names, one entry a channel.
+#[derive(Drop)]
+pub struct ChannelEnds {
+    /// What each sender channel has hardened.
+    pub senders: Items<SenderSide>,
+    /// What each receiver channel has hardened.
+    pub receivers: Items<ReceiverSide>,
+    /// The sender channels that run, and the queue that each reads.
+    pub seizures: Items<Seizure>,
+    /// The rows that a sender channel holds for a batch that is not prepared.
+    pub batches: Items<Batch>,
+    /// The receiver channels that run.
+    pub bound: Items<ChName>,
+}
+
+/// The parts of a manager. Contracts see each of them, with the room that was taken for rows, for
+/// the log and for the bytes of a record.
+#[derive(Drop)]
+pub struct Parts<D: Disk> {
+    /// Where memory comes from.
+    pub alloc: Global,
+    /// The manager's number in its network, 1 to 8.
+    pub number: u8,
+    /// The manager's name.
+    pub name: QName,
+    /// Up, or down.
+    pub mode: Mode,
+    /// Its objects.
+    pub defs: Defs,
+    /// Its local queues by name, with the puts that wait for them.
+    pub queues: Queues<PlainQueue>,
+    /// Its live connections by number, and who uses a queue.
+    pub live: Live,
+    /// What channel ends have here.
+    pub ends: ChannelEnds,
+    /// Milliseconds since 1970, at most 253,402,300,799,999.
+    pub moment: u64,
+    /// The number of its last start, from 1.
+    pub incarnation: u64,
+    /// The last number given to an ident in this incarnation.
+    pub idents: u64,
+    /// The forced log, with what units reserve of it.
+    pub log: Log<D>,
+    /// Room for the body of a record.
+    pub body: Buffer,
+}
+
+impl<D: Disk> Model for Parts<D> {
+    ghost use Rattle.mq_core.specs.Views.{PartsValue};
+
+    ghost Value = { PartsValue };
+
+    ghost view = { λ m. record {
+      number = m.number;
+      name = m.name;
+      mode = m.mode;
+      defs = m.defs;
+      queues = m.queues;
+      desk = m.live;
+      ends = m.ends;
+      moment = m.moment;
+      incarnation = m.incarnation;
+      idents = m.idents;
+      log = m.log;
+      body = m.body;
+    } };
+}

@@ -1,0 +1,97 @@
+//! MQCONN, MQOPEN, MQCLOSE.
+ghost use Rattle.std.specs.Prelude.{◌≡◌, ◌+◌, ◌^◌, ◌<◌, IsSome, IfSome, true};
+ghost use Rattle.mq_spec_state.specs.Words.{Meets, MeetsInRoom, is_up, connection_at, handle_at};
+ghost use Rattle.mq_spec_manager.specs.Words.{mqconn, mqopen, mqclose};
+ghost use Rattle.mq_core.specs.Calls.{open_at, close_at, HasHandle};
+
+use mq_calls::{Answer, Appl, Halt, Hconn, Hobj, Open};
+use mq_codes::Reason;
+use mq_core::Core;
+use mq_disk::Disk;
+use mq_name::QName;
+use mq_resolve::Route;
+
+/// MQCONN.
+pub fn mqconn<D: Disk>(
+    core: &mut Core<D>,
+    qmgr: &QName,
+    appl: &Appl,
+) -> Result<Answer<Hconn>, Halt<Reason>>
+    requires count { core.old.plain.numbers.connections + 1 < 2 ^ 64 }
+    ensures { Meets core.old (mqconn qmgr.now appl.now core.old.plain) result core.new }
+{
+    core.begin_call();
+    if core.parts.is_other_name(qmgr) {
+        return Err(Halt::Refused(Reason::QueueManagerNameError));
+    }
+    if !core.parts.is_up() {
+        return Err(Halt::Refused(Reason::QueueManagerNotAvailable));
+    }
+    match core.parts.connect(appl) {
+        Ok(hconn) => Ok(Answer::Ok(hconn)),
+        Err(_) => Err(Halt::NoMemory),
+    }
+}
+
+fn open<D: Disk>(
+    core: &mut Core<D>,
+    number: u64,
+    how: &Open,
+    route: Route,
+) -> Result<Answer<Hobj>, Halt<Reason>>
+    requires up { is_up core.old.plain.running ≡ true }
+    requires live { IsSome (connection_at number core.old.plain.connections) }
+    requires count { IfSome (connection_at number core.old.plain.connections) (λ c. c.last_handle + 1 < 2 ^ 64) }
+    ensures { Meets core.old (open_at number how.now route core.old.plain) result core.new }
+{
+    core.begin_call();
+    let ho = match core.parts.open(number, how, route) {
+        Ok(ho) => ho,
+        Err(_) => return Err(Halt::NoMemory),
+    };
+    Ok(Answer::Ok(ho))
+}
+
+/// MQOPEN.
+pub fn mqopen<D: Disk>(
+    core: &mut Core<D>,
+    hc: Hconn,
+    name: &QName,
+    qmgr: &QName,
+    how: &Open,
+) -> Result<Answer<Hobj>, Halt<Reason>>
+    requires count { IfSome (connection_at hc.number core.old.plain.connections) (λ c. c.last_handle + 1 < 2 ^ 64) }
+    ensures { Meets core.old (mqopen hc name.now qmgr.now how.now core.old.plain) result core.new }
+{
+    match core.parts.can_open(&hc, name, qmgr, how) {
+        Ok(route) => open(core, hc.number, how, route),
+        Err(reason) => {
+            core.begin_call();
+            Err(Halt::Refused(reason))
+        }
+    }
+}
+
+fn close<D: Disk>(core: &mut Core<D>, number: u64, ho: &Hobj) -> Result<Answer<()>, Halt<Reason>>
+    requires up { is_up core.old.plain.running ≡ true }
+    requires live { IfSome (connection_at number core.old.plain.connections) (HasHandle ho.now) }
+    requires there { IsSome (connection_at number core.old.plain.connections) }
+    ensures { MeetsInRoom core.old (close_at number ho.now core.old.plain) result core.new }
+{
+    core.begin_call();
+    core.parts.close(number, ho);
+    Ok(Answer::Ok(()))
+}
+
+/// MQCLOSE. It takes no memory.
+pub fn mqclose<D: Disk>(core: &mut Core<D>, hc: Hconn, ho: Hobj) -> Result<Answer<()>, Halt<Reason>>
+    ensures { MeetsInRoom core.old (mqclose hc ho core.old.plain) result core.new }
+{
+    match core.parts.can_close(&hc, &ho) {
+        Ok(()) => close(core, hc.number, &ho),
+        Err(reason) => {
+            core.begin_call();
+            Err(Halt::Refused(reason))
+        }
+    }
+}
