@@ -26,22 +26,27 @@ calls_both [] qs = omega arith
 calls_both (a ∷ ps) qs = omega (arith, calls_both ps qs)
 
 write_behind : (ps qs : List Part) (k : ℕ) → IsWrite k qs → IsWrite (behind ps k) (ps ++ qs)
+unfolding behind
 write_behind [] qs k w = w
 write_behind (a ∷ ps) qs k w = write_behind ps qs k w
 
 at_behind : (ps qs : List Part) (k : ℕ) → calls_at (behind ps k) (ps ++ qs) ≡ calls_at k qs
+unfolding behind
 at_behind [] qs k = refl
 at_behind (a ∷ ps) qs k = at_behind ps qs k
 
 before_behind : (ps qs : List Part) (k : ℕ) → calls_before (behind ps k) (ps ++ qs) ≡ write_calls ps + calls_before k qs
+unfolding behind
 before_behind [] qs k = omega arith
 before_behind (a ∷ ps) qs k = omega (arith, before_behind ps qs k)
 
 stopped_behind : (ps qs : List Part) (k left : ℕ) (p : Plain) → stopped_at (behind ps k) (ps ++ qs) left p ≡ stopped_at k qs left (do_all ps p)
+unfolding behind
 stopped_behind [] qs k left p = refl
 stopped_behind (a ∷ ps) qs k left p = stopped_behind ps qs k left (do_part a p)
 
 delta_behind : (ps qs : List Part) (k : ℕ) → delta_before (behind ps k) (ps ++ qs) ≡ delta_of ps ++ delta_before k qs
+unfolding behind
 delta_behind [] qs k = refl
 delta_behind (a ∷ ps) qs k = ap (λ (d : List Did). a.delta ++ d) (delta_behind ps qs k) ∙ sym (append_assoc a.delta (delta_of ps) (delta_before k qs))
 

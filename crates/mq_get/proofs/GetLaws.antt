@@ -124,7 +124,7 @@ unfolding at_by
 gets hc ho get until p c h (Ok aim) reached found l = record {
   step = get_is hc ho get until p c (Some h) reached.connected found ∙ l.step ∙ sym (ap (at_by get until aim p) reached.live);
   up = reached.up;
-  live = subst (λ (o : Option Connection). IsSome o) (sym reached.live) tt;
+  live = subst (λ (o : Option Connection). IsSome o) (sym reached.live) refl;
   short = l.short;
 }
 gets hc ho get until p c h (Err reason) reached found l = get_is hc ho get until p c (Some h) reached.connected found ∙ l

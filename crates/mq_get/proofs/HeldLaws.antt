@@ -2,7 +2,7 @@
 use Rattle.std.proofs.Common.{◌≡◌, ℕ, zero, suc, ◌+◌, ◌-◌, ◌<◌, ◌≤◌, Bool, true, false, cond, List, [], ◌∷◌, ◌++◌, length, refl, ap, arith, sym, subst, ◌∙◌}
 use Rattle.std.specs.Prelude.{Option, Some, None, Result, Ok, Err, map, ◌==◌}
 use Rattle.mq_disk.specs.declared.cutter.Stop.{Stop}
-use Rattle.mq_spec_state.specs.Words.{Ident, Remove, Did, Part, Plain, Item, Among, Connection, ManagerValue, LogRecord, held_in, kept_in, connection_at, change_connection, unit_need, do_part, logged, forced_calls, write_calls}
+use Rattle.mq_spec_state.specs.Words.{Ident, Remove, Did, Part, Plain, Item, Among, Connection, ManagerValue, LogRecord, held_in, kept_in, connection_at, change_connection, unit_need, do_part, logged, forced_calls, delta_of}
 use Rattle.mq_calls.specs.declared.state.Item.TheVariants.{Take}
 use Rattle.mq_calls.specs.declared.records.LogRecord.TheVariants as records
 use Rattle.mq_calls.specs.declared.deltas.Did.TheVariants as did
@@ -118,7 +118,7 @@ held_run number queue mets met need n x r w y t u l is untold up roomy more h =
     let is_armed = part_armed o p in
     let first : HasRun (leaving_part queue l whys.Expired ∷ []) (seen x [] None) m = record {
       plain = refl;
-      told = runs.told ∙ ap (λ (ds : List Did). ds ++ (leaving_part queue l whys.Expired).delta ++ []) untold;
+      told = runs.told ∙ ap (λ (ds : List Did). ds ++ delta_of (leaving_part queue l whys.Expired ∷ [])) untold;
       later = omega (arith, faults, runs.later);
       ran = λ some. let a = runs.ran (omega (arith, armed, some)) in omega (arith, armed, a);
       armed = is_armed;

@@ -4,7 +4,7 @@ use Rattle.std.proofs.lemmas.List.{append-nil}
 use Rattle.std.proofs.lemmas.List.Sums.{sum_by_push}
 use Rattle.std.proofs.lemmas.List.Recursion.{is_count_by}
 use Rattle.std.proofs.lemmas.Bool.Decides.{nat_tests}
-use Rattle.std.specs.Prelude.{Option, Some, None, Result, Ok, Err, IsSome, IfSome, map, count_by, ◌==◌}
+use Rattle.std.specs.Prelude.{Option, Some, None, Result, Ok, Err, IsSome, IfSome, map, sum_by, count_by, ◌==◌, ◌&&◌}
 use Rattle.mq_disk.specs.declared.cutter.Stop.{Stop}
 use Rattle.mq_spec_state.specs.State.{Queue as StateQueue}
 use Rattle.mq_spec_state.specs.Words.{Ident, Did, Part, Plain, Row, Item, Among, Connection, ManagerValue, LogRecord, retag, held_in, retag_if, selects, is_free, has_ident, unit_need, more_need, item_bytes, with_head, connection_at, change_connection, do_part, do_all, logged, forced_calls, puts_to, same_ident, Running}

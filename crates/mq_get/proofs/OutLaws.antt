@@ -50,7 +50,7 @@ pub record Wrote (removes : List Remove) (x z : PartsValue) : Type 0 where
 
 pub wrote : (removes : List Remove) (x z : PartsValue) → Writes removes x (Ok tt) z → Wrote removes x z
 wrote [] x z e = record {
-  same = e ∙ (λ i. record x { log = (e (~ i)).log; body = (e (~ i)).body });
+  same = let back : x ≡ z = sym e in e ∙ (λ i. record x { log = (back i).log; body = (back i).body });
   live = ap (λ (y : PartsValue). y.log.live) e;
   settled = ap (λ (y : PartsValue). y.log.pending) e;
   reserved = ap (λ (y : PartsValue). y.log.reserved) e;
@@ -132,7 +132,8 @@ stopped_breaks queue l why stop x z y told f gone = by l.removes refl f
     by [] is f = absurd f
     by (r ∷ rs) is f =
         let lv : Leaving = record { removes = r ∷ rs; idents = l.idents } in
-        let same : lv ≡ l = (λ i. record { removes = is (~ i); idents = l.idents }) in
+        let back : (r ∷ rs) ≡ l.removes = sym is in
+        let same : lv ≡ l = (λ i. record { removes = back i; idents = l.idents }) in
         subst (λ (k : Leaving). (y ≡ downed_out queue k why z) → HasBroken stop (leaving_part queue k why ∷ []) (seen x told None) (seen y told (Some stop))) same
         (λ gone.
             let down = ap (λ (w : PartsValue). w.log.armed) gone in
@@ -169,6 +170,7 @@ none_out queue [] = refl
 none_out queue (q ∷ qs) = (λ i. record q { rows = keep_all queue q.name q.rows i } ∷ none_out queue qs i)
 
 pub gone_runs : (why : Why) (queue : List ℕ) (mets : List Met) (v w : ManagerValue) → HasRun (gone_part why queue mets ∷ []) v w → HasRun (gone_parts why queue mets) v w
+unfolding with_queues
 gone_runs why queue [] v w h = record {
   plain = h.plain ∙ ap (with_queues v.plain) (none_out queue v.plain.queues);
   told = h.told;

@@ -22,7 +22,7 @@ count_cons row rows = by (is_persistent row.message)
   where
     by : (b : Bool) → length (cond b (row ∷ persistent_rows rows) (persistent_rows rows)) ≡ length (cond b (row ∷ []) []) + length (persistent_rows rows)
     by true = omega arith
-    by false = refl
+    by false = omega arith
 
 pub count_one : (row : Row) → length (persistent_rows (row ∷ [])) ≤ 1
 count_one row = by (is_persistent row.message)

@@ -75,7 +75,8 @@ step_by get until p aim n mets hit = plan_step get until p n aim mets hit
 pub planned_at : (number : ℕ) (get : Get) (until : Option ℕ) (aim : Aim) (p : Plain) (c : Connection) (plan : Planned) → connection_at number p.connections ≡ Some c → IsPlan get aim p plan → plan_step get until p number aim plan.mets plan.hit ≡ get_at number get until aim p
 unfolding at_by step_by
 planned_at number get until aim p c plan found is =
-    (λ i. step_by get until p aim (number_is number p.connections c found (~ i)) (is.mets i) (is.hit i))
+    let n : number ≡ c.number = sym (number_is number p.connections c found) in
+    (λ i. step_by get until p aim (n i) (is.mets i) (is.hit i))
     ∙ sym (ap (at_by get until aim p) found)
 
 pub short_plan : (get : Get) (aim : Aim) (p : Plain) (plan : Planned) → IsPlan get aim p plan → expired_need (persistent_rows (look get aim p).expired) < 4294967296 → leaving_need (removes_met aim.queue plan.mets) < 4294967296

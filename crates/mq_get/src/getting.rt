@@ -232,6 +232,13 @@ fn get_hit<D: Disk>(
     get_taken(parts, effects, &aim.queue, mets, met, answer)
 }
 
+/// The row is too long, and not to be cut.
+fn is_left(hit: &Hit, get: &Get) -> bool
+    ensures { result ≡ (hit.now.long && not get.now.truncate) }
+{
+    hit.long && !get.truncate
+}
+
 /// A row that is found, or one that doesn't fit.
 fn get_found<D: Disk>(
     parts: &mut Parts<D>,
@@ -250,7 +257,7 @@ fn get_found<D: Disk>(
     ensures tied { Tied parts.new }
     ensures meets { Meets (seen parts.old [] None) (hit_step (hit.long && not get.now.truncate) get.now number aim.now hit (gone_parts whys.Expired aim.now.queue mets.now)) result (seen parts.new effects.new.dids (stop_of result)) }
 {
-    if hit.long && !get.truncate {
+    if is_left(&hit, get) {
         let answer = Answer::Warning(Reason::TruncatedMessageFailed, hit.got);
         return answer_behind(parts, effects, &aim.queue, mets, GetAnswer::Done(answer));
     }

@@ -10,8 +10,8 @@ use Rattle.mq_get.proofs.getting.drop_expired.Goals as goal
 pub returns-in-Err : goal.returns-in-Err
 returns-in-Err g c = record { room = more_same c.args.parts.now; untold = c.requires.told }
 
-pub leaving_need-requires : goal.leaving_need-requires
-leaving_need-requires g c = let short = leaving_short c.args.queue.now c.args.mets.now c.in-Ok.leaving c.in-Ok.ensures c.requires.short in omega (arith, short)
+pub leaving_need-need-requires : goal.leaving_need-need-requires
+leaving_need-need-requires g c = let short = leaving_short c.args.queue.now c.args.mets.now c.in-Ok.leaving c.in-Ok.ensures c.requires.short in omega (arith, short)
 
 pub returns-in-Err-make_room : goal.returns-in-Err-make_room
 returns-in-Err-make_room g c = record { room = c.in-Err-make_room.ensures.err; untold = c.make_room.ensures.dids ∙ c.requires.told }
@@ -29,7 +29,7 @@ pub drop_rows-requires-clause-small : goal.drop_rows-requires-clause-small
 drop_rows-requires-clause-small g c = leaving_short c.args.queue.now c.args.mets.now c.in-Ok.leaving c.in-Ok.ensures c.requires.short
 
 pub drop_rows-requires-clause-told : goal.drop_rows-requires-clause-told
-drop_rows-requires-clause-told g c = let long = leaving_long c.args.queue.now c.args.mets.now c.in-Ok.leaving c.in-Ok.ensures in omega (arith, long, c.in-Ok-make_room.ensures.room, c.len.ensures)
+drop_rows-requires-clause-told g c = let long = leaving_long c.args.queue.now c.args.mets.now c.in-Ok.leaving c.in-Ok.ensures in omega (arith, long, c.in-Ok-make_room.ensures.room)
 
 pub give_back-requires : goal.give_back-requires
 give_back-requires g c =

@@ -16,7 +16,7 @@ use Rattle.mq_get.proofs.LoopLaws.{record_pieces, record_are, removes_record}
 use Rattle.mq_get.proofs.leaving.force_removes.Goals as goal
 
 pub overflow_cast-removes : goal.overflow_cast-removes
-overflow_cast-removes g c = omega (arith, c.requires.small, c.len.ensures)
+overflow_cast-removes g c = omega (arith, c.requires.small)
 
 pub put_removes-requires : goal.put_removes-requires
 put_removes-requires g c =
@@ -30,7 +30,7 @@ pub append_forced-requires-clause-small : goal.append_forced-requires-clause-sma
 append_forced-requires-clause-small g c =
     let rs = c.args.removes.now in
     let few : length rs < 4294967296 = omega (arith, c.requires.small) in
-    let front : c.unit_front.result ≡ unit_front 0 (length rs) = c.unit_front.ensures ∙ ap (unit_front 0) c.len.ensures in
+    let front : c.unit_front.result ≡ unit_front 0 (length rs) = c.unit_front.ensures in
     let bytes = c.as_slice.ensures ∙ record_are rs c.unit_front.result c.clear.new.self c.put.new.self c.put_removes.new.body (ap (λ (b : Buffered). b.bytes) c.clear.ensures) front c.put.ensures c.put_removes.ensures.bytes in
     let size = ap length bytes ∙ record_whole (records.Unit [] rs) (removes_record rs few c.put_removes.ensures.removes) in
     omega (arith, size, c.requires.small)
@@ -39,7 +39,7 @@ pub append_forced-requires-clause-room : goal.append_forced-requires-clause-room
 append_forced-requires-clause-room g c =
     let rs = c.args.removes.now in
     let few : length rs < 4294967296 = omega (arith, c.requires.small) in
-    let front : c.unit_front.result ≡ unit_front 0 (length rs) = c.unit_front.ensures ∙ ap (unit_front 0) c.len.ensures in
+    let front : c.unit_front.result ≡ unit_front 0 (length rs) = c.unit_front.ensures in
     let bytes = c.as_slice.ensures ∙ record_are rs c.unit_front.result c.clear.new.self c.put.new.self c.put_removes.new.body (ap (λ (b : Buffered). b.bytes) c.clear.ensures) front c.put.ensures c.put_removes.ensures.bytes in
     let size = ap length bytes ∙ record_whole (records.Unit [] rs) (removes_record rs few c.put_removes.ensures.removes) in
     let room = ap (λ (x : PartsValue). x.log.room) c.parts.view_is in
@@ -50,7 +50,7 @@ unfolding with_parts
 returns g c =
     let rs = c.args.removes.now in
     let few : length rs < 4294967296 = omega (arith, c.requires.small) in
-    let front : c.unit_front.result ≡ unit_front 0 (length rs) = c.unit_front.ensures ∙ ap (unit_front 0) c.len.ensures in
+    let front : c.unit_front.result ≡ unit_front 0 (length rs) = c.unit_front.ensures in
     let old : PartsValue = c.args.parts.now in
     let r : LogRecord = records.Unit [] rs in
     let none = ap (λ (b : Buffered). b.bytes) c.clear.ensures in
