@@ -1,26 +1,22 @@
 -- What a forced write leaves: the view after it, and what ties the parts.
-use Rattle.std.proofs.Common.{◌≡◌, ℕ, ◌+◌, ◌-◌, ◌<◌, ◌≤◌, Bool, true, false, cond, List, [], ◌∷◌, ◌++◌, length, refl, ap, arith, sym, subst, ◌∙◌}
-use Rattle.std.specs.Prelude.{Option, Some, None, Result, Ok, Err, map, not, IsErrOf, OnOk, IsSome, is_some}
+use Rattle.std.proofs.Common.{◌≡◌, ℕ, ◌+◌, ◌≤◌, Bool, true, false, cond, List, [], ◌∷◌, length, refl, ap, arith, sym, subst, ◌∙◌}
+use Rattle.std.specs.Prelude.{Option, Some, Result, Ok, Err, map, not, IsErrOf, OnOk}
 use Rattle.std.specs.Str.{bytes_eq}
 use Rattle.mq_base.specs.Outside.{Rose}
 use Rattle.mq_disk.specs.declared.cutter.Stop.{Stop}
 use Rattle.mq_disk.specs.declared.cutter.Stop.TheVariants as stops
 use Rattle.mq_spec_state.specs.State.{Queue as StateQueue, LogState as PlainLog}
-use Rattle.mq_spec_state.specs.Words.{Ident, Message, Row, Item, LogRecord, Plain, Part, Noted, Change, Did, Reason, ManagerValue, Nonpersistent, Wants, MeetsAs, MeetsDone, StoppedIn, Ran, Do, keep, kept_in, need, record_size, freeze, logged, written, note_of, StopsAt, has_ident, selects}
-use Rattle.mq_calls.specs.declared.state.Item.TheVariants.{Put, Take}
-use Rattle.mq_calls.specs.declared.commands.Halt.TheVariants as halts
+use Rattle.mq_spec_state.specs.Words.{Ident, Row, Item, LogRecord, Plain, Nonpersistent, keep, kept_in, need, record_size, freeze, logged, StopsAt, has_ident, selects}
 use Rattle.mq_log.specs.State.{LogState, log_length, Appended}
 use Rattle.mq_log.specs.Force.{Stops}
 use Rattle.mq_log.proofs.Logs.{log_length-push}
 use Rattle.mq_record.specs.Records.{record_bytes}
 use Rattle.mq_record.specs.Room.{Buffered}
-use Rattle.mq_place.specs.States.{QueueState, queues_of, state_in, change_state, on_queue, on_queues, expecting, unpended}
+use Rattle.mq_place.specs.States.{QueueState, queues_of, state_in, on_queue, on_queues}
 use Rattle.mq_core.specs.declared.parts.StoppedWrite.{StoppedWrite}
-use Rattle.mq_core.specs.declared.parts.StoppedWrite.TheVariants as writes
 use Rattle.mq_core.specs.Views.{PartsValue, plain_of, frozen_of, noted}
-use Rattle.mq_core.specs.Ties.{TiedBut, TiedUp, Tied, state_lanes, pending_at, times_in_rows, times_in_queues, one_if, mode_is_up}
-use Rattle.mq_core.specs.Placing.{with_states}
-use Rattle.mq_core.specs.Forced.{IsForced, HasMoreRoom, IsExpected, downed, downed_put, counted_put}
+use Rattle.mq_core.specs.Ties.{TiedBut, state_lanes, pending_at, times_in_rows, times_in_queues, one_if}
+use Rattle.mq_core.specs.Forced.{IsForced, downed}
 
 true_false : true ≡ false → ⊥
 true_false e = absurd cc

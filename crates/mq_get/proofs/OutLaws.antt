@@ -136,18 +136,18 @@ stopped_breaks queue l why stop x z y told f gone = by l.removes refl f
         let same : lv ≡ l = (λ i. record { removes = back i; idents = l.idents }) in
         subst (λ (k : Leaving). (y ≡ downed_out queue k why z) → HasBroken stop (leaving_part queue k why ∷ []) (seen x told None) (seen y told (Some stop))) same
         (λ gone.
-            let down = ap (λ (w : PartsValue). w.log.armed) gone in
-            let failed = ap (λ (w : PartsValue). w.log.faults) gone in
-            record {
-              part = 0;
-              write = refl;
-              stop = subst (λ (n : ℕ). StopsAt stop 4 x.log.armed 0 n) (sym down) (stops_at stop x.log.armed z.log.armed f.ends);
-              plain = ap plain_of gone ∙ frozen_view (writes.Removal queue lv.removes lv.idents why) (records.Unit [] (r ∷ rs)) x z stop f
-                  ∙ ap (λ (n : ℕ). freeze (note_of (leaving_part queue lv why) (Some (records.Unit [] (r ∷ rs)))) n (plain_of x)) (sym down);
-              told = sym (append-nil told);
-              later = omega (arith, failed, f.later);
-              rose = λ e. subst (λ (n : ℕ). Rose x.log.faults n) (sym failed) (f.disk (ap (λ (s : Stop). Err s) e));
-            }) gone
+        let down = ap (λ (w : PartsValue). w.log.armed) gone in
+        let failed = ap (λ (w : PartsValue). w.log.faults) gone in
+        record {
+          part = 0;
+          write = refl;
+          stop = subst (λ (n : ℕ). StopsAt stop 4 x.log.armed 0 n) (sym down) (stops_at stop x.log.armed z.log.armed f.ends);
+          plain = ap plain_of gone ∙ frozen_view (writes.Removal queue lv.removes lv.idents why) (records.Unit [] (r ∷ rs)) x z stop f
+              ∙ ap (λ (n : ℕ). freeze (note_of (leaving_part queue lv why) (Some (records.Unit [] (r ∷ rs)))) n (plain_of x)) (sym down);
+          told = sym (append-nil told);
+          later = omega (arith, failed, f.later);
+          rose = λ e. subst (λ (n : ℕ). Rose x.log.faults n) (sym failed) (f.disk (ap (λ (s : Stop). Err s) e));
+        }) gone
 
 pub stopped_tied : (queue : List ℕ) (l : Leaving) (why : Why) (stop : Stop) (x z y : PartsValue) → Writes l.removes x (Err stop) z → y ≡ downed_out queue l why z → Tied x → Tied y
 stopped_tied queue l why stop x z y f gone t = subst Tied (sym gone) (by l.removes f)

@@ -13,7 +13,8 @@ ghost use Rattle.mq_get.specs.Leaving.{gone_parts, held_part, leaving_need, remo
 ghost use Rattle.mq_get.specs.Rooms.{IsItemMore, Holds, holding, unheld};
 
 use crate::leaving::{
-    Leaving, force_leaving, give_back, go_down_leaving, leaving_need, leaving_of, make_room, take_out,
+    Leaving, force_leaving, give_back, go_down_leaving, leaving_need, leaving_of, make_room,
+    take_out,
 };
 use mq_base::NoMemory;
 use mq_calls::{Did, GetAnswer, Halt, Item, Why};

@@ -47,11 +47,7 @@ fn idents_of(alloc: Global, mets: &[Met]) -> Result<Items<Ident>, NoMemory>
 }
 
 /// A row more where it lasts.
-fn push_if_lasting(
-    removes: &mut Items<Remove>,
-    queue: &QName,
-    met: &Met,
-) -> Result<(), NoMemory>
+fn push_if_lasting(removes: &mut Items<Remove>, queue: &QName, met: &Met) -> Result<(), NoMemory>
     ensures { OnOk result (removes.new ≡ removes.old ++ removes_met queue.now (met.now ∷ [])) }
 {
     if !met.persistent {
@@ -81,11 +77,7 @@ fn removes_of(alloc: Global, queue: &QName, mets: &[Met]) -> Result<Items<Remove
 }
 
 /// The rows that a scan met, as they leave.
-pub(crate) fn leaving_of(
-    alloc: Global,
-    queue: &QName,
-    mets: &[Met],
-) -> Result<Leaving, NoMemory>
+pub(crate) fn leaving_of(alloc: Global, queue: &QName, mets: &[Met]) -> Result<Leaving, NoMemory>
     ensures { IfOk result (λ l. l ≡ leaving_met queue.now mets.now) }
 {
     let removes = match removes_of(alloc, queue, mets) {
@@ -104,11 +96,7 @@ pub(crate) fn leaving_need(leaving: &Leaving) -> u64
     ensures { result ≡ leaving_need leaving.now.removes }
 {
     let lasting = leaving.removes.len() as u64;
-    if lasting == 0 {
-        0
-    } else {
-        14 + 65 * lasting
-    }
+    if lasting == 0 { 0 } else { 14 + 65 * lasting }
 }
 
 /// Takes memory for records of so many bytes.
@@ -180,10 +168,7 @@ fn force_removes<D: Disk>(parts: &mut Parts<D>, removes: &[Remove]) -> Result<()
 }
 
 /// Forces the record of rows that leave, where one of them lasts. It takes no memory.
-pub(crate) fn force_leaving<D: Disk>(
-    parts: &mut Parts<D>,
-    leaving: &Leaving,
-) -> Result<(), Stop>
+pub(crate) fn force_leaving<D: Disk>(parts: &mut Parts<D>, leaving: &Leaving) -> Result<(), Stop>
     requires live { parts.old.log.live ≡ true }
     requires room { leaving_need leaving.now.removes ≤ parts.old.log.room }
     requires body { leaving_need leaving.now.removes ≤ parts.old.body.room + length parts.old.body.bytes }

@@ -89,12 +89,7 @@ fn first_bytes(bytes: &[u8], most: u64) -> &[u8]
 }
 
 /// The first bytes of a message behind its header.
-fn read_behind(
-    alloc: Global,
-    dest: &Dest,
-    message: &Message,
-    room: u64,
-) -> Result<Bytes, NoMemory>
+fn read_behind(alloc: Global, dest: &Dest, message: &Message, room: u64) -> Result<Bytes, NoMemory>
     ensures { IfOk result (λ b. b ≡ take room (xqh_bytes (xqh_of dest.now message.now.md) ++ message.now.body)) }
 {
     let header = xqh_to_bytes(&header_of(dest, &message.md));

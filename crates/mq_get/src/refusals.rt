@@ -101,11 +101,7 @@ fn expired_need(lasting: u64) -> u64
     ensures value { (rows : List Row) → length rows ≡ lasting → result ≡ expired_need rows }
     ensures small { result < 2 ^ 33 }
 {
-    if lasting == 0 {
-        0
-    } else {
-        14 + 65 * lasting
-    }
+    if lasting == 0 { 0 } else { 14 + 65 * lasting }
 }
 
 /// What a row that is taken needs of the log.

@@ -139,6 +139,12 @@ pub(crate) fn survey<'a, Q: Queue + Drop>(
     if is_under(&get.take) {
         survey_under(local, cursor, moment, lasting)
     } else {
-        survey_from(local, &get.want, start_of(&get.take, cursor), moment, lasting)
+        survey_from(
+            local,
+            &get.want,
+            start_of(&get.take, cursor),
+            moment,
+            lasting,
+        )
     }
 }

@@ -1,4 +1,4 @@
-use Rattle.std.proofs.Common.{◌≡◌, ℕ, ◌+◌, ◌≤◌, ◌∙◌, sym, ap, subst, refl, arith}
+use Rattle.std.proofs.Common.{◌≡◌, ℕ, ◌+◌, ◌≤◌, subst}
 use Rattle.std.specs.Prelude.{List, length, OnOk}
 use Rattle.mq_spec_state.specs.Words.{LogRecord, record_size}
 use Rattle.mq_log.specs.State.{LogState, Appended}
