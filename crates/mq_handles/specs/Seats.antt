@@ -1,5 +1,5 @@
 -- What is done to one connection: what `apply` of a manager's changes does to it.
-use Rattle.std.specs.Prelude.{ℕ, ◌+◌, ◌==◌, not, List, [], ◌∷◌, ◌++◌, filter, Some}
+use Rattle.std.specs.Prelude.{ℕ, ◌+◌, ◌-◌, ◌==◌, not, List, [], ◌∷◌, ◌++◌, length, take, filter, Some}
 use Rattle.mq_spec_state.specs.Words.{Place, Appl, Item, Handle, Connection, change_handle}
 use Rattle.mq_handles.specs.Rising.{AreRising, AreBelow, handle_number}
 
@@ -29,6 +29,10 @@ cursor_set handle place c = record c { handles = change_handle handle (at_place 
 -- with an item more in its unit; with none
 abbrev pub pended : Item → Connection → Connection
 pended item c = record c { unit = c.unit ++ item ∷ [] }
+
+-- without the last one
+abbrev pub given_up : Connection → Connection
+given_up c = record c { unit = take (length c.unit - 1) c.unit }
 
 abbrev pub emptied : Connection → Connection
 emptied c = record c { unit = [] }

@@ -4,7 +4,7 @@ ghost use Rattle.mq_spec_state.specs.Words.{Connection, connection_at, any_handl
 ghost use Rattle.mq_spec_manager.specs.Handles.{new_handle};
 ghost use Rattle.mq_unit.specs.Forced.{IsEnded};
 ghost use Rattle.mq_handles.specs.Rising.{AreRising, connection_number, has_number};
-ghost use Rattle.mq_handles.specs.Seats.{connection_of, opened, closed, cursor_set, pended, emptied};
+ghost use Rattle.mq_handles.specs.Seats.{connection_of, opened, closed, cursor_set, pended, given_up, emptied};
 ghost use Rattle.mq_handles.specs.Users.{reads_from, reads_alone_from};
 
 use crate::numbers::place_of_connection;
@@ -190,6 +190,17 @@ impl Live {
         match self.place_of(number) {
             None => Ok(()),
             Some(at) => self.live.at_mut(at).pend(item),
+        }
+    }
+
+    /// The last item in the unit of a connection is given up. It takes no memory.
+    pub fn give_up(&mut self, number: u64)
+        ensures live { self.new.live ≡ change_connection number given_up self.old.live }
+        ensures last { self.new.last ≡ self.old.last }
+    {
+        match self.place_of(number) {
+            None => {}
+            Some(at) => self.live.at_mut(at).give_up(),
         }
     }
 

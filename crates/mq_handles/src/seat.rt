@@ -4,7 +4,7 @@ ghost use Rattle.mq_spec_state.specs.Words.{Handle, handle_at, made_stale, stale
 ghost use Rattle.mq_unit.specs.Forced.{IsEnded};
 ghost use Rattle.mq_spec_manager.specs.Handles.{new_handle};
 ghost use Rattle.mq_handles.specs.Rising.{has_handle_number};
-ghost use Rattle.mq_handles.specs.Seats.{connection_of, opened, closed, at_place, cursor_set, pended, emptied};
+ghost use Rattle.mq_handles.specs.Seats.{connection_of, opened, closed, at_place, cursor_set, pended, given_up, emptied};
 ghost use Rattle.mq_handles.specs.Users.{IsPartOf, IsMoved};
 
 use crate::numbers::place_of_handle;
@@ -189,6 +189,13 @@ impl Seat {
         ensures err { OnErr result (self.new ≡ self.old) }
     {
         self.unit.push(item)
+    }
+
+    /// The last item of its unit is given up. It takes no memory.
+    pub fn give_up(&mut self)
+        ensures { self.new ≡ given_up self.old }
+    {
+        self.unit.give_up();
     }
 
     /// The unit ends. It takes no memory.

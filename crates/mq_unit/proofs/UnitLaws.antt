@@ -1,9 +1,10 @@
 -- Units item by item: what they add and remove, its bytes in a record, and what their ends tell.
-use Rattle.std.proofs.Common.{◌≡◌, ℕ, suc, ◌+◌, ◌-◌, ◌<◌, ◌≤◌, Bool, true, false, cond, List, [], ◌∷◌, ◌++◌, length, get_or, drop, Option, Some, None, refl, ap, sym, subst, ◌∙◌, append_assoc, add-one, drop-cons, arith}
+use Rattle.std.proofs.Common.{◌≡◌, ℕ, suc, ◌+◌, ◌-◌, ◌<◌, ◌≤◌, Bool, true, false, cond, List, [], ◌∷◌, ◌++◌, length, get_or, take, drop, Option, Some, None, refl, ap, sym, subst, ◌∙◌, append_assoc, add-one, drop-cons, arith}
 use Rattle.std.specs.Prelude.{◌*◌, nat_eq, not, is_some, sum_by, count_by}
 use Rattle.std.specs.List.{flat_map, AllByRecursion}
 use Rattle.std.proofs.lemmas.List.{length-append}
-use Rattle.std.proofs.lemmas.List.Sums.{sum_by-cons}
+use Rattle.std.proofs.Math.Seq.{take-append_seam}
+use Rattle.std.proofs.lemmas.List.Sums.{sum_by-cons, sum_by_push}
 use Rattle.std.proofs.lemmas.List.Recursion.{is_count_by}
 use Rattle.mq_calls.specs.declared.deltas.Did.{Did}
 use Rattle.mq_calls.specs.declared.state.Item.{Item}
@@ -14,7 +15,7 @@ use Rattle.mq_record.specs.Room.{Buffered, with_piece}
 use Rattle.mq_record.specs.Records.{unit_front, record_bytes, add_bytes, remove_bytes, IsAdd, IsRemove}
 use Rattle.mq_record.proofs.SizeLaws.{add_whole, remove_whole}
 use Rattle.mq_unit.specs.Told.{Telling, told_all}
-use Rattle.mq_unit.specs.Forced.{items_bytes, unit_record, is_add, is_remove, adds_size, adds_bytes, removes_bytes, need_of, ItemCanBeForced, CanBeForced}
+use Rattle.mq_unit.specs.Forced.{items_bytes, unit_record, is_add, is_remove, adds_size, adds_bytes, removes_bytes, need_of, ItemCanBeForced, CanBeForced, IsKept}
 
 -- ---- sizes
 
@@ -259,3 +260,20 @@ removes_fit items b c d front nine all room first second =
     let less = ap (λ (z : Buffered). z.room) first in
     let more = ap (λ (z : Buffered). z.room) second in
     omega (arith, nine, room, less, more, adds_whole (adds_of items) all)
+
+-- the last item is given up
+all_front : {X : Type 0} (P : X → Type 0) (xs : List X) (x : X) → AllByRecursion P (xs ++ x ∷ []) → AllByRecursion P xs
+all_front P [] x h = tt
+all_front P (y ∷ ys) x h = (h.0, all_front P ys x h.1)
+
+pub kept_front : (items : List Item) (item : Item) (bytes : ℕ) (effects : Telling) → IsKept (items ++ item ∷ []) bytes effects → IsKept items (bytes - item_bytes item) effects
+kept_front items item bytes effects k = record {
+  counted = omega (arith, k.counted, sum_by_push item_bytes items item);
+  fits = omega (arith, k.fits);
+  untold = k.untold;
+  room = omega (arith, k.room, length-append items (item ∷ []));
+  forced = all_front ItemCanBeForced items item k.forced;
+}
+
+pub take_front : (items : List Item) (item : Item) → items ≡ take (length (items ++ item ∷ []) - 1) (items ++ item ∷ [])
+take_front items item = sym (ap (λ (n : ℕ). take n (items ++ item ∷ [])) (let n : length (items ++ item ∷ []) - 1 ≡ length items = omega (arith, length-append items (item ∷ [])) in n) ∙ take-append_seam items (item ∷ []))

@@ -1,6 +1,6 @@
 //! The items of a unit of work.
 
-ghost use Rattle.std.specs.Prelude.{◌≡◌, ◌+◌, ◌<◌, ◌≤◌, ◌^◌, ◌↔◌, IsTrue, [], ◌∷◌, ◌++◌, length, is_some, OnOk, OnErr};
+ghost use Rattle.std.specs.Prelude.{◌≡◌, ◌+◌, ◌-◌, ◌<◌, ◌≤◌, ◌^◌, ◌↔◌, IsTrue, [], ◌∷◌, ◌++◌, length, take, is_some, OnOk, OnErr};
 ghost use Rattle.mq_spec_state.specs.Words.{unit_need, more_need, record_size};
 ghost use Rattle.mq_spec_manager.specs.Units.{adds_of, removes_of, record_of};
 ghost use Rattle.mq_record.specs.Records.{record_bytes, IsRecord};
@@ -126,6 +126,16 @@ impl Unit {
         }
         self.bytes += bytes;
         Ok(())
+    }
+
+    /// Takes the last item out, where there is one: it is given up. It takes no memory.
+    pub fn give_up(&mut self)
+        ensures { self.new ≡ take (length self.old - 1) self.old }
+    {
+        match self.items.pop() {
+            None => {}
+            Some(item) => self.bytes -= item_bytes(&item),
+        }
     }
 
     /// Takes all items out. It takes no memory.

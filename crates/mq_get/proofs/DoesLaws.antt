@@ -1,0 +1,144 @@
+-- Parts of a call, one behind the other: what was done, and how the call ends.
+use Rattle.std.proofs.Common.{◌≡◌, ℕ, zero, suc, ◌+◌, ◌-◌, ◌<◌, ◌≤◌, true, List, [], ◌∷◌, ◌++◌, append_assoc, refl, ap, arith, sym, subst, ◌∙◌}
+use Rattle.std.specs.Prelude.{Option, Some, None, Result, Ok, Err}
+use Rattle.mq_base.specs.Outside.{Rose}
+use Rattle.mq_disk.specs.declared.cutter.Stop.{Stop}
+use Rattle.mq_disk.specs.declared.cutter.Stop.TheVariants as stops
+use Rattle.mq_calls.specs.declared.commands.Halt.TheVariants as halts
+use Rattle.mq_spec_state.specs.Words.{Reason, Did, Part, Plain, Step, Do, Refuse, ManagerValue, Meets, MeetsDone, untouched, IsWrite, StopsAt, do_all, do_part, delta_of, delta_before, stopped_at, write_calls, calls_of, calls_at, calls_before}
+use Rattle.mq_get.specs.Does.{HasRun, HasBroken}
+
+-- the number of a part behind others
+behind : List Part → ℕ → ℕ
+behind [] k = k
+behind (p ∷ ps) k = suc (behind ps k)
+
+do_both : (ps qs : List Part) (p : Plain) → do_all (ps ++ qs) p ≡ do_all qs (do_all ps p)
+do_both [] qs p = refl
+do_both (a ∷ ps) qs p = do_both ps qs (do_part a p)
+
+delta_both : (ps qs : List Part) → delta_of (ps ++ qs) ≡ delta_of ps ++ delta_of qs
+delta_both [] qs = refl
+delta_both (a ∷ ps) qs = ap (λ (d : List Did). a.delta ++ d) (delta_both ps qs) ∙ sym (append_assoc a.delta (delta_of ps) (delta_of qs))
+
+calls_both : (ps qs : List Part) → write_calls (ps ++ qs) ≡ write_calls ps + write_calls qs
+calls_both [] qs = omega arith
+calls_both (a ∷ ps) qs = omega (arith, calls_both ps qs)
+
+write_behind : (ps qs : List Part) (k : ℕ) → IsWrite k qs → IsWrite (behind ps k) (ps ++ qs)
+unfolding behind
+write_behind [] qs k w = w
+write_behind (a ∷ ps) qs k w = write_behind ps qs k w
+
+at_behind : (ps qs : List Part) (k : ℕ) → calls_at (behind ps k) (ps ++ qs) ≡ calls_at k qs
+unfolding behind
+at_behind [] qs k = refl
+at_behind (a ∷ ps) qs k = at_behind ps qs k
+
+before_behind : (ps qs : List Part) (k : ℕ) → calls_before (behind ps k) (ps ++ qs) ≡ write_calls ps + calls_before k qs
+unfolding behind
+before_behind [] qs k = omega arith
+before_behind (a ∷ ps) qs k = omega (arith, before_behind ps qs k)
+
+stopped_behind : (ps qs : List Part) (k left : ℕ) (p : Plain) → stopped_at (behind ps k) (ps ++ qs) left p ≡ stopped_at k qs left (do_all ps p)
+unfolding behind
+stopped_behind [] qs k left p = refl
+stopped_behind (a ∷ ps) qs k left p = stopped_behind ps qs k left (do_part a p)
+
+delta_behind : (ps qs : List Part) (k : ℕ) → delta_before (behind ps k) (ps ++ qs) ≡ delta_of ps ++ delta_before k qs
+unfolding behind
+delta_behind [] qs k = refl
+delta_behind (a ∷ ps) qs k = ap (λ (d : List Did). a.delta ++ d) (delta_behind ps qs k) ∙ sym (append_assoc a.delta (delta_of ps) (delta_before k qs))
+
+-- a part in front of others
+write_front : (k : ℕ) (ps qs : List Part) → IsWrite k ps → IsWrite k (ps ++ qs)
+write_front k [] qs w = absurd w
+write_front zero (a ∷ ps) qs w = w
+write_front (suc k) (a ∷ ps) qs w = write_front k ps qs w
+
+at_front : (k : ℕ) (ps qs : List Part) → IsWrite k ps → calls_at k (ps ++ qs) ≡ calls_at k ps
+at_front k [] qs w = absurd w
+at_front zero (a ∷ ps) qs w = refl
+at_front (suc k) (a ∷ ps) qs w = at_front k ps qs w
+
+before_front : (k : ℕ) (ps qs : List Part) → IsWrite k ps → calls_before k (ps ++ qs) ≡ calls_before k ps
+before_front k [] qs w = absurd w
+before_front zero (a ∷ ps) qs w = refl
+before_front (suc k) (a ∷ ps) qs w = omega (arith, before_front k ps qs w)
+
+stopped_front : (k : ℕ) (ps qs : List Part) (left : ℕ) (p : Plain) → IsWrite k ps → stopped_at k (ps ++ qs) left p ≡ stopped_at k ps left p
+stopped_front k [] qs left p w = absurd w
+stopped_front zero (a ∷ ps) qs left p w = refl
+stopped_front (suc k) (a ∷ ps) qs left p w = stopped_front k ps qs left (do_part a p) w
+
+delta_front : (k : ℕ) (ps qs : List Part) → IsWrite k ps → delta_before k (ps ++ qs) ≡ delta_before k ps
+delta_front k [] qs w = absurd w
+delta_front zero (a ∷ ps) qs w = refl
+delta_front (suc k) (a ∷ ps) qs w = ap (λ (d : List Did). a.delta ++ d) (delta_front k ps qs w)
+
+rose_later : (v m w : ℕ) → v ≤ m → Rose m w → Rose v w
+rose_later v m w le rose = omega (arith, le, rose)
+
+-- both were done
+pub run_both : (ps qs : List Part) (v m w : ManagerValue) → HasRun ps v m → HasRun qs m w → HasRun (ps ++ qs) v w
+run_both ps qs v m w a b = record {
+  plain = b.plain ∙ ap (do_all qs) a.plain ∙ sym (do_both ps qs v.plain);
+  told = b.told ∙ ap (λ (d : List Did). d ++ delta_of qs) a.told ∙ append_assoc v.delta (delta_of ps) (delta_of qs) ∙ ap (λ (d : List Did). v.delta ++ d) (sym (delta_both ps qs));
+  later = omega (arith, a.later, b.later);
+  ran = λ some. let one = a.ran some in let two = b.ran (omega (arith, one, a.armed)) in omega (arith, one, two, a.armed, calls_both ps qs);
+  armed = omega (arith, a.armed, b.armed, calls_both ps qs);
+}
+
+-- the first were done, then a write was stopped
+stops_behind : (by : Stop) (calls armed more before left : ℕ) → (0 < armed → more < armed) → StopsAt by calls (armed - more) before left → StopsAt by calls armed (more + before) left
+stops_behind stops.Cut calls armed more before left ran s = (omega (arith, s.0), omega (arith, s.1), s.2)
+stops_behind stops.Disk calls armed more before left ran s =
+    ((λ some. let one = ran some in let two = s.0 (omega (arith, one)) in (omega (arith, two.0), two.1, omega (arith, two.2))), omega (arith, s.1), (λ none. s.2 (omega (arith, none))))
+
+pub broken_behind : (by : Stop) (ps qs : List Part) (v m w : ManagerValue) → HasRun ps v m → HasBroken by qs m w → HasBroken by (ps ++ qs) v w
+broken_behind by ps qs v m w a b = record {
+  part = behind ps b.part;
+  write = write_behind ps qs b.part b.write;
+  stop =
+      subst (λ (n : ℕ). StopsAt by n v.plain.log.armed (calls_before (behind ps b.part) (ps ++ qs)) w.plain.log.armed) (sym (at_behind ps qs b.part))
+      (subst (λ (n : ℕ). StopsAt by (calls_at b.part qs) v.plain.log.armed n w.plain.log.armed) (sym (before_behind ps qs b.part))
+      (stops_behind by (calls_at b.part qs) v.plain.log.armed (write_calls ps) (calls_before b.part qs) w.plain.log.armed a.ran
+      (subst (λ (n : ℕ). StopsAt by (calls_at b.part qs) n (calls_before b.part qs) w.plain.log.armed) a.armed b.stop)));
+  plain = b.plain ∙ ap (stopped_at b.part qs w.plain.log.armed) a.plain ∙ sym (stopped_behind ps qs b.part w.plain.log.armed v.plain);
+  told = b.told ∙ ap (λ (d : List Did). d ++ delta_before b.part qs) a.told ∙ append_assoc v.delta (delta_of ps) (delta_before b.part qs) ∙ ap (λ (d : List Did). v.delta ++ d) (sym (delta_behind ps qs b.part));
+  later = omega (arith, a.later, b.later);
+  rose = λ e. rose_later v.faults m.faults w.faults a.later (b.rose e);
+}
+
+-- a write was stopped, and nothing behind it was done
+pub broken_front : (by : Stop) (ps qs : List Part) (v w : ManagerValue) → HasBroken by ps v w → HasBroken by (ps ++ qs) v w
+broken_front by ps qs v w b = record {
+  part = b.part;
+  write = write_front b.part ps qs b.write;
+  stop =
+      subst (λ (n : ℕ). StopsAt by n v.plain.log.armed (calls_before b.part (ps ++ qs)) w.plain.log.armed) (sym (at_front b.part ps qs b.write))
+      (subst (λ (n : ℕ). StopsAt by (calls_at b.part ps) v.plain.log.armed n w.plain.log.armed) (sym (before_front b.part ps qs b.write)) b.stop);
+  plain = b.plain ∙ sym (stopped_front b.part ps qs w.plain.log.armed v.plain b.write);
+  told = b.told ∙ ap (λ (d : List Did). v.delta ++ d) (sym (delta_front b.part ps qs b.write));
+  later = b.later;
+  rose = b.rose;
+}
+
+-- how the call then ends
+pub run_meets : {T : Type 0} (ps : List Part) (reply : T) (v w : ManagerValue) → v.delta ≡ [] → w.stopped ≡ None → HasRun ps v w → Meets {F = Reason} v (Do reply ps) (Ok reply) w
+run_meets ps reply v w none stopped h =
+    (refl, h.ran, h.later, (λ i. record { plain = h.plain i; delta = (h.told ∙ ap (λ (d : List Did). d ++ delta_of ps) none) i; stopped = stopped i; faults = w.faults }))
+
+pub broken_meets : {T : Type 0} (by : Stop) (ps : List Part) (reply : T) (v w : ManagerValue) → v.delta ≡ [] → w.stopped ≡ Some by → HasBroken by ps v w → Meets {F = Reason} v (Do reply ps) (Err (halts.Stopped by)) w
+broken_meets by ps reply v w none stopped h = record {
+  part = h.part;
+  write = h.write;
+  stop = h.stop;
+  next = λ i. record { plain = h.plain i; delta = (h.told ∙ ap (λ (d : List Did). d ++ delta_before h.part ps) none) i; stopped = stopped i; faults = w.faults };
+  later = h.later;
+  rose = h.rose;
+}
+
+-- nothing is done
+pub say_meets : {T : Type 0} (reply : T) (v w : ManagerValue) → v.delta ≡ [] → w.delta ≡ [] → w.plain ≡ v.plain → w.faults ≡ v.faults → w.stopped ≡ None → Meets {F = Reason} v (Do reply []) (Ok reply) w
+say_meets reply v w none told plain faults stopped = (refl, (λ some. some), omega (arith, faults), (λ i. record { plain = plain i; delta = told i; stopped = stopped i; faults = w.faults }))

@@ -1,0 +1,9 @@
+pub mod SurveyLaws
+pub mod LoopLaws
+pub mod DoesLaws
+pub mod OutLaws
+pub mod HoldLaws
+pub mod PathLaws
+pub mod HeldLaws
+pub mod WayLaws
+pub mod GetLaws

@@ -1,0 +1,4 @@
+pub mod Leaving
+pub mod Gets
+pub mod Rooms
+pub mod Does

@@ -1,0 +1,16 @@
+//! MQGET of one queue manager.
+#![tactic(auto)]
+
+mod finding;
+mod getting;
+mod holding;
+mod leaving;
+mod reading;
+mod refusals;
+mod survey;
+mod takes;
+
+pub use finding::{Hit, Plan};
+pub use getting::mqget;
+pub use leaving::Leaving;
+pub use refusals::Aim;
