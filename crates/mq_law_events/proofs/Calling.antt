@@ -288,12 +288,13 @@ obeyed planned p = apply_all (ChangeObjects planned.change ∷ follows planned.c
 planned_empty : (p : Plain) (r : Result Plan ScRefusal) (planned : Planned) → r ≡ Ok (plans.Change planned) → IsPlan p r → IsEmptied planned.change p
 planned_empty p r planned e h = subst (IsPlan p) e h
 
-pub objects_follow : (m : ℕ) (given : Ident → Bool) (p : Plain) (l : Ledger) (c : Command) (planned : Planned) → IsFresh given p → IsTold m p l → AreDefined p
-    → plan c p.given.name p.definitions (uses_of p) ≡ Ok (plans.Change planned) → Follow m given p l (obeyed planned p) (ledgers.obey m (lines.Objects c) l)
-objects_follow m given p l c planned f t d is =
+-- (whatever was in use where it was accepted)
+pub objects_follow_by : (m : ℕ) (given : Ident → Bool) (p : Plain) (l : Ledger) (c : Command) (planned : Planned) (u : Uses) → IsFresh given p → IsTold m p l → AreDefined p → IsEmptied planned.change p
+    → plan c p.given.name p.definitions u ≡ Ok (plans.Change planned) → Follow m given p l (obeyed planned p) (ledgers.obey m (lines.Objects c) l)
+objects_follow_by m given p l c planned u f t d empty is =
     let q : Plain = apply (ChangeObjects planned.change) p in
     let r : Plain = obeyed planned p in
-    let e = follows_calm planned.change planned p q d (planned_empty p _ planned is (plan_is c p)) (λ d. refl) in
+    let e = follows_calm planned.change planned p q d empty (λ d. refl) in
     let calm : IsCalm p r = record { rows = e.0.rows; units = e.0.units; told = e.0.told; given = e.0.given; channels = e.0.channels; moment = e.0.moment; incarnation = e.0.incarnation; idents = e.0.idents } in
     let new : Definitions → Definitions = λ x. definitions_after c x in
     record {
@@ -307,7 +308,7 @@ objects_follow m given p l c planned f t d is =
         placed = here_changed m (redefined new) l.places t.places t.placed;
         shelved = t.shelved;
         name = t.name ∙ ap (λ (g : Given). g.name) (sym calm.given);
-        definitions = ap new t.definitions ∙ accepted c p.given.name p.definitions (uses_of p) planned is ∙ sym e.1;
+        definitions = ap new t.definitions ∙ accepted c p.given.name p.definitions u planned is ∙ sym e.1;
         users = t.users;
         used = t.used;
         connections = t.connections ∙ sym calm.told;
@@ -320,6 +321,13 @@ objects_follow m given p l c planned f t d is =
   where
     places_same : (d : List ℕ) → ledger_rows m d (ledgers.obey m (lines.Objects c) l) ≡ ledger_rows m d l
     places_same d = ap (λ o. rows_in d (places_or o).queues) (here_changed m (redefined (λ x. definitions_after c x)) l.places t.places t.placed) ∙ ap (λ o. rows_in d (places_or o).queues) (sym t.placed)
+
+pub planned_empties : (p : Plain) (c : Command) (planned : Planned) → plan c p.given.name p.definitions (uses_of p) ≡ Ok (plans.Change planned) → IsEmptied planned.change p
+planned_empties p c planned is = planned_empty p (plan c p.given.name p.definitions (uses_of p)) planned is (plan_is c p)
+
+pub objects_follow : (m : ℕ) (given : Ident → Bool) (p : Plain) (l : Ledger) (c : Command) (planned : Planned) → IsFresh given p → IsTold m p l → AreDefined p
+    → plan c p.given.name p.definitions (uses_of p) ≡ Ok (plans.Change planned) → Follow m given p l (obeyed planned p) (ledgers.obey m (lines.Objects c) l)
+objects_follow m given p l c planned f t d is = objects_follow_by m given p l c planned (uses_of p) f t d (planned_empties p c planned is) is
 
 -- DISPLAY changes no definitions.
 never_shown : (r : Result Planned ScRefusal) (s : Shown) → to_change r ≡ Ok (plans.Show s) → ⊥

@@ -153,7 +153,7 @@ live_logged n c (Some r) p e = e
 
 -- MQPUT, MQPUT1
 
-some_connection : (m : ℕ) (p : Plain) (l : Ledger) (hc : Hconn) (c : Connection) → IsTold m p l → connection_at hc.number p.connections ≡ Some c → ledgers.connection_of m hc l ≡ Some (connection_told c)
+pub some_connection : (m : ℕ) (p : Plain) (l : Ledger) (hc : Hconn) (c : Connection) → IsTold m p l → connection_at hc.number p.connections ≡ Some c → ledgers.connection_of m hc l ≡ Some (connection_told c)
 some_connection m p l hc c t live =
     ap (λ o. connection_at hc.number (users_or o).connections) t.used
     ∙ ap (λ cs. connection_at hc.number cs) t.connections
@@ -167,7 +167,7 @@ here_is m p l t w = λ i. record {
 }
 
 -- the ledger's row is the manager's
-put_by_is : (m : ℕ) (p : Plain) (l : Ledger) (sync : Bool) (hc : Hconn) (c : Connection) (route : Route) (md : Md) (body : List ℕ) → IsTold m p l → IsTimed m p l
+pub put_by_is : (m : ℕ) (p : Plain) (l : Ledger) (sync : Bool) (hc : Hconn) (c : Connection) (route : Route) (md : Md) (body : List ℕ) → IsTold m p l → IsTimed m p l
     → ledgers.put_by sync m hc (connection_told c) route (next_ident p) md body l ≡ ledgers.put_row sync m hc (queue_at route.end) (new_message c route md body p) l
 put_by_is m p l sync hc c route md body t w = ap (λ h. ledgers.put_row sync m hc (queue_at route.end) (message_put (next_ident p) c.appl route md body h) l) (here_is m p l t w)
 

@@ -79,7 +79,7 @@ disconnect_follows m given p l hc f t none =
       kept = users_stay m (less hc.number) l (λ u. record { cut = refl; moment = refl });
     }
 
-ended_none : (n : ℕ) (cs : List Connection) → unit_of (connection_at n (change_connection n (λ c. record c { unit = [] }) cs)) ≡ []
+pub ended_none : (n : ℕ) (cs : List Connection) → unit_of (connection_at n (change_connection n (λ c. record c { unit = [] }) cs)) ≡ []
 ended_none n [] = refl
 ended_none n (c ∷ cs) = bool_case (c.number == n) (λ t. (c.number == n) ≡ t → unit_of (connection_at n (if t then record c { unit = [] } ∷ cs else c ∷ change_connection n (λ c. record c { unit = [] }) cs)) ≡ [])
     (λ e z. ap (λ t. unit_of (if t then Some (record c { unit = [] }) else connection_at n cs)) z)

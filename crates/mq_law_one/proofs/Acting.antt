@@ -1,6 +1,6 @@
 -- Commands, stops, restarts, cuts, clock advances and trigger turns of a manager without channels.
 use Rattle.std.proofs.Common.{ℕ, ◌≡◌, Bool, true, false, not, List, [], ◌∷◌, refl, ap, sym, subst, ◌∙◌, inl, inr, map}
-use Rattle.std.specs.Prelude.{Option, Some, None, Result, Ok, Err, ◌+◌, min, if◌then◌else◌, slice_get, nat_lt, filter}
+use Rattle.std.specs.Prelude.{Option, Some, None, Result, Ok, Err, ◌==◌, ◌+◌, min, if◌then◌else◌, slice_get, nat_lt, filter}
 use Rattle.mq_message.specs.declared.message.Ident.{Ident}
 use Rattle.mq_frame.specs.declared.frame.Seen.{Seen}
 use Rattle.mq_objects.specs.declared.object.Object.{Object}
@@ -28,6 +28,7 @@ use Rattle.mq_calls.specs.declared.commands.ScRefusal.{ScRefusal}
 use Rattle.mq_calls.specs.declared.commands.ScRefusal.TheVariants as refusals
 use Rattle.mq_calls.specs.declared.commands.RestartFault.TheVariants as faults
 use Rattle.mq_calls.specs.declared.deltas.Did.{Did}
+use Rattle.mq_calls.specs.declared.deltas.Did.TheVariants as did
 use Rattle.mq_calls.specs.declared.records.LogRecord.{LogRecord}
 use Rattle.mq_calls.specs.declared.records.LogRecord.TheVariants as records
 use Rattle.mq_history.specs.declared.acts.Acted.TheVariants as acted
@@ -45,10 +46,11 @@ use Rattle.mq_history.specs.declared.calls.Reply.TheVariants as replies
 use Rattle.mq_spec_state.specs.State.{Plain, Given, Running, Noted, LogState}
 use Rattle.mq_spec_state.specs.State.Running.{Up, Down}
 use Rattle.mq_spec_state.specs.Reads.{is_up, stored}
+use Rattle.mq_spec_state.specs.Images.{begun, lasting, raised}
 use Rattle.mq_spec_state.specs.Steps.{delta_of, Step, Part, when, refusal, tested, refused_or, logged, do_part}
 use Rattle.mq_spec_state.specs.Steps.Step.{Refuse, Do}
 use Rattle.mq_spec_manager.specs.Commands.{command, planned_step, object_part, uses_of}
-use Rattle.mq_spec_manager.specs.Stops.{stop, stop_at, restart_at, restarted, grown, last_moment}
+use Rattle.mq_spec_manager.specs.Stops.{stop, stop_at, restart_at, restarted, redone, redone_delta, grown, last_moment}
 use Rattle.mq_spec_manager.specs.Triggers.{Never, first_due, trigger_turn, trigger_at, serve, serve_by, serve_into, put_trigger, takes_it}
 use Rattle.mq_history.specs.declared.calls.Actor.TheVariants as actors
 use Rattle.mq_spec_node.specs.Node.{Node, Own, Handler, sender_named, as_sender, as_receiver, end_in}
@@ -59,7 +61,7 @@ use Rattle.mq_spec_node.specs.Operators as operators
 use Rattle.mq_spec_node.specs.Status.{show_status, shown, status_line, is_asked}
 use Rattle.mq_spec_node.specs.Replays.{IsOwn}
 use Rattle.mq_spec_network.specs.Ledger as ledgers
-use Rattle.mq_spec_network.specs.Ledger.{Ledger, Users, posted, take_all_gone}
+use Rattle.mq_spec_network.specs.Ledger.{Ledger, Users, posted, take_all_gone, users_at}
 use Rattle.mq_spec_network.specs.Story.{Mem}
 use Rattle.mq_law_rows.proofs.Lists.{bool_case, name_self}
 use Rattle.mq_law_manager.specs.Facts.{AreOnce, IsSound, IsFrozen}
@@ -70,6 +72,8 @@ use Rattle.mq_law_events.specs.Tied.{IsTold, IsFresh, Follow}
 use Rattle.mq_law_events.specs.Posting.{StepFollows, IsTimed}
 use Rattle.mq_law_events.proofs.Telling.{here_changed, else_users, else_then}
 use Rattle.mq_law_events.proofs.Locals.{stays_leads}
+use Rattle.mq_law_events.proofs.Locals.{behind as leads_behind}
+use Rattle.mq_law_events.proofs.Taking.{taken_users}
 use Rattle.mq_law_events.specs.Local.{side_of, sheet_of}
 use Rattle.mq_law_events.proofs.Events as events
 use Rattle.mq_law_events.proofs.Halting as halting
@@ -82,7 +86,9 @@ use Rattle.mq_law_manager.proofs.Stocks.{trigger_stocked}
 use Rattle.mq_law_events.proofs.Sounds.{restart_fresh}
 use Rattle.mq_law_events.proofs.Stopping.{stops_so, stop_follows, restart_follows}
 use Rattle.mq_law_events.proofs.Calling.{objects_follow, shown_follow}
-use Rattle.mq_law_one.specs.Alone.{IsState, IsAt, Became, FindsNone}
+use Rattle.mq_law_found.proofs.Obeying.{commands_noted}
+use Rattle.mq_law_one.specs.Alone.{IsState, IsNotedAt, IsAt, Became}
+use Rattle.mq_law_one.proofs.Noting.{serve_noted}
 use Rattle.mq_law_one.proofs.Happening.{Deeded, deed_of_parts, entry_of, became, nothing, quiet_happens, step_happens, Fits, fits_by}
 use Rattle.mq_law_one.proofs.Calls.{Happens}
 
@@ -103,19 +109,20 @@ command_follows m given p l c f t h = events.tested_follows m given p l (λ repl
 command_down : (c : Command) (p : Plain) → is_up p.running ≡ false → (reason : ScRefusal) × (command c p ≡ Refuse reason)
 command_down c p e = (refusals.Down, ap (λ t. refused_or (refusal (when (not t) refusals.Down ∷ [])) (planned_step (plan c p.given.name p.definitions (uses_of p)) p.definitions)) e)
 
-command_step : (m : ℕ) (given : Ident → Bool) (n : Node) (l : Ledger) (e : Entry) (actor : Actor) (choice : Choice) (c : Command) (step : Step ScRefusal Shown) → IsAt m given n l → Fits m given n.manager l (λ reply ds k. ledgers.obey m (lines.Objects c) k) step → CanCome (command_deed n.own step) choice n
+command_step : (m : ℕ) (given : Ident → Bool) (n : Node) (l : Ledger) (e : Entry) (actor : Actor) (choice : Choice) (c : Command) (step : Step ScRefusal Shown) → IsAt m given n l → Fits m given n.manager l (λ reply ds k. ledgers.obey m (lines.Objects c) k) (calls.Act (acts.Obey (lines.Objects c))) step → CanCome (command_deed n.own step) choice n
     → Deeded m given n l e actor (calls.Act (acts.Obey (lines.Objects c))) choice (command_deed n.own step)
 command_step m given n l e actor choice c (Refuse reason) a fit can = quiet_happens m given n l e actor (calls.Act (acts.Obey (lines.Objects c))) choice (replies.Acted (acted.Sc reason)) a (λ x. refl) can
 command_step m given n l e actor choice c (Do shown parts) a fit can =
-    step_happens ScRefusal m given n l e actor (calls.Act (acts.Obey (lines.Objects c))) choice None (λ (s : Shown). replies.Acted (acted.Shown s)) (λ reply ds k. ledgers.obey m (lines.Objects c) k) shown parts a fit.0 fit.1 fit.2 fit.3 fit.4 (λ ds. refl) (λ r z. absurd cc) can
+    step_happens ScRefusal m given n l e actor (calls.Act (acts.Obey (lines.Objects c))) choice None (λ (s : Shown). replies.Acted (acted.Shown s)) (λ reply ds k. ledgers.obey m (lines.Objects c) k) shown parts a fit.0 fit.1 fit.2 fit.3 fit.4 fit.5 (λ ds. refl) (λ r z. absurd cc) can
 
 pub command_happens : (m : ℕ) (given : Ident → Bool) (n : Node) (l : Ledger) (e : Entry) (actor : Actor) (choice : Choice) (c : Command) → IsAt m given n l → CanCome (command_deed n.own (command c n.manager)) choice n
     → Deeded m given n l e actor (calls.Act (acts.Obey (lines.Objects c))) choice (command_deed n.own (command c n.manager))
 command_happens m given n l e actor choice c a can =
     let p : Plain = n.manager in
     command_step m given n l e actor choice c (command c p) a
-    (fits_by m given p l (λ reply ds k. ledgers.obey m (lines.Objects c) k) (command c p) a.state
+    (fits_by m given p l (λ reply ds k. ledgers.obey m (lines.Objects c) k) (calls.Act (acts.Obey (lines.Objects c))) (command c p) a.state
     (λ h. (command_follows m given p l c a.fresh a.told h, halting.step_stops m given p l (command c p) a.fresh a.told (halting.command_short c p), joined (command c p) p h (command_keeps c p h.stocked.rows h.facts) (command_stocked c p h.stocked)))
+    (λ h k. commands_noted m p c h)
     (command_down c p)) can
 
 -- Commands on ends of channels, of which there are none
@@ -177,10 +184,20 @@ same_state (Down x y) (Down z w) p t g e h = same_frozen p (Down z w) t g h
 same_state Up (Down z w) p t g e h = absurd cc
 same_state (Down x y) Up p t g e h = absurd cc
 
+-- a note stays with the call that the ledger has as stopped
+still_noted : (m : ℕ) (r : Running) (p : Plain) (l k : Ledger) (s : Running) (moment : ℕ) (g : LogState) → (users_at m k).cut ≡ (users_at m l).cut → IsNotedAt m r p l → IsNotedAt m r (record p { running = s; moment = moment; log = g }) k
+still_noted m Up p l k s moment g e h = tt
+still_noted m (Down None starts) p l k s moment g e h = tt
+still_noted m (Down (Some n) starts) p l k s moment g e h = (h.0, e ∙ h.1, record { followed = h.2.followed; sound = h.2.sound; quiet = h.2.quiet })
+
+more_noted : (m : ℕ) (noted : Option Noted) (starts more : ℕ) (p : Plain) (l : Ledger) → IsNotedAt m (Down noted starts) p l → IsNotedAt m (Down noted more) p l
+more_noted m None starts more p l h = tt
+more_noted m (Some n) starts more p l h = h
+
 -- it runs or not, with another log: nothing is posted
-pub aside_happens : (m : ℕ) (given : Ident → Bool) (n : Node) (l : Ledger) (own : Own) (s : Running) (g : LogState) → IsAt m given n l → own.ends ≡ [] → is_up n.manager.running ≡ is_up s
+pub aside_happens : (m : ℕ) (given : Ident → Bool) (n : Node) (l : Ledger) (own : Own) (s : Running) (g : LogState) → IsAt m given n l → own.ends ≡ [] → is_up n.manager.running ≡ is_up s → IsNotedAt m s n.manager l
     → Became m given n l (record { manager = record n.manager { running = s; log = g }; own = own }) l
-aside_happens m given n l own s g a e up =
+aside_happens m given n l own s g a e up noted =
     let p : Plain = n.manager in
     record {
       now = given;
@@ -196,6 +213,7 @@ aside_happens m given n l own s g a e up =
         batches = a.batches;
         timed = record { users = a.timed.users; used = a.timed.used; moment = a.timed.moment };
         state = same_state p.running s p p.moment g up a.state;
+        noted = still_noted m s p l l s p.moment g refl noted;
       };
     }
 
@@ -218,6 +236,8 @@ clock_happens m given n l by_ a =
         batches = a.batches;
         timed = record { users = f a.timed.users; used = here_changed m f l.users a.timed.users a.timed.used; moment = ap (λ t. min (t + by_) last_moment) a.timed.moment };
         state = same_state p.running p.running p (min (p.moment + by_) last_moment) p.log refl a.state;
+        noted = still_noted m p.running p l (ledgers.with_users m f l) p.running (min (p.moment + by_) last_moment) p.log
+            (ap (λ o. (ledgers.users_or o).cut) (here_changed m f l.users a.timed.users a.timed.used) ∙ sym (ap (λ o. (ledgers.users_or o).cut) a.timed.used)) a.noted;
       };
     }
 
@@ -230,7 +250,7 @@ crash_as m given n l e choice a Up z =
     became m given n l (crashed (stop_at Up p) n).next (ledgers.stop m l) a
     (subst (λ (q : Plain). Follow m given p l (record q { running = Down None 0 }) (ledgers.stop m l)) (sym (stops_so p a.batches)) (stop_follows m given p l (Down None 0) a.fresh a.told a.batches))
     (ap (map end_at_rest) a.ends)
-    (sound_still _ (subst (λ r. IsSound (stop_at r p).next) z (stop_sound p sound)))
+    (sound_still _ (subst (λ r. IsSound (stop_at r p).next) z (stop_sound p sound))) tt
 crash_as m given n l e choice a (Down noted starts) z = nothing m given n l n.own a a.ends
 
 pub crash_happens : (m : ℕ) (given : Ident → Bool) (n : Node) (l : Ledger) (e : Entry) (stamp : ℕ) (actor : Actor) (chance : Chance) (seen : Seen) → IsAt m given n l → RunsAlone chance → Happens m given n l e stamp actor (calls.Act acts.Crash) chance seen
@@ -266,31 +286,104 @@ comes_up m given n l noted starts started a z =
         batches = f.same.batches ∙ a.batches;
         timed = record { users = f.told.users; used = f.told.used; moment = kept.moment ∙ told_moment m p l a.told a.timed ∙ sym f.steady };
         state = restart_sound started noted p frozen;
+        noted = tt;
       };
     }
   where
     told_moment : (m : ℕ) (p : Plain) (l : Ledger) (t : IsTold m p l) → IsTimed m p l → t.users.moment ≡ p.moment
     told_moment m p l t w = ap (λ o. (ledgers.users_or o).moment) (sym t.used ∙ w.used) ∙ w.moment
 
-restart_as : (m : ℕ) (given : Ident → Bool) (n : Node) (l : Ledger) (e : Entry) → IsAt m given n l → (r : Running) → n.manager.running ≡ r → (choice : Return) → IsReturn (chances.Restart choice) r n.manager → FindsNone (chances.Restart choice)
-    → Became m given n l (node_restarted (restart_at r choice n.manager) n).next (posted m (entry_of e (calls.Act acts.Restart) (chances.Restart choice) (node_restarted (restart_at r choice n.manager) n).reply (node_restarted (restart_at r choice n.manager) n).delta (node_restarted (restart_at r choice n.manager) n).received) (node_restarted (restart_at r choice n.manager) n).reply l)
-restart_as m given n l e a Up z choice can none = nothing m given n l n.own a a.ends
-restart_as m given n l e a (Down noted starts) z (Comes true started) can none = absurd none
-restart_as m given n l e a (Down noted starts) z (Comes false started) can none = comes_up m given n l noted starts started a z
-restart_as m given n l e a (Down noted starts) z (Fails faults.Up in_write left) can none = absurd can.0
-restart_as m given n l e a (Down noted starts) z (Fails faults.NoMemory in_write left) can none = absurd can.1
-restart_as m given n l e a (Down noted starts) z (Fails faults.Disk true left) can none = aside_happens m given n l n.own (Down noted (starts + 1)) (record n.manager.log { armed = left }) a a.ends (ap is_up z)
-restart_as m given n l e a (Down noted starts) z (Fails faults.Disk false left) can none = aside_happens m given n l n.own n.manager.running (record n.manager.log { armed = left }) a a.ends refl
-restart_as m given n l e a (Down noted starts) z (Fails faults.Cut true left) can none = aside_happens m given n l n.own (Down noted (starts + 1)) (record n.manager.log { armed = left }) a a.ends (ap is_up z)
-restart_as m given n l e a (Down noted starts) z (Fails faults.Cut false left) can none = aside_happens m given n l n.own n.manager.running (record n.manager.log { armed = left }) a a.ends refl
-restart_as m given n l e a (Down noted starts) z (Fails (faults.BadLog place) true left) can none = absurd can.0
-restart_as m given n l e a (Down noted starts) z (Fails (faults.BadLog place) false left) can none = aside_happens m given n l n.own n.manager.running (record n.manager.log { armed = left }) a a.ends refl
+-- one that is stopped in its own write
+fails_in : (m : ℕ) (given : Ident → Bool) (n : Node) (l : Ledger) (noted : Option Noted) (starts left : ℕ) → IsAt m given n l → n.manager.running ≡ Down noted starts
+    → Became m given n l (record n { manager = record n.manager { running = Down noted (starts + 1); log = record n.manager.log { armed = left } } }) l
+fails_in m given n l noted starts left a z = aside_happens m given n l n.own (Down noted (starts + 1)) (record n.manager.log { armed = left }) a a.ends (ap is_up z)
+    (more_noted m noted starts (starts + 1) n.manager l (subst (λ r. IsNotedAt m r n.manager l) z a.noted))
 
-pub restart_happens : (m : ℕ) (given : Ident → Bool) (n : Node) (l : Ledger) (e : Entry) (stamp : ℕ) (actor : Actor) (chance : Chance) (seen : Seen) → IsAt m given n l → IsReturn chance n.manager.running n.manager → IsOwn chance → FindsNone chance
+-- what a restart posts of its own touches no connection
+gone_users : (m : ℕ) (ds : List Did) (l : Ledger) → (take_all_gone m ds l).users ≡ l.users
+gone_users m [] l = refl
+gone_users m (d ∷ ds) l = gone_users m ds (ledgers.take_gone m d l) ∙ one d
+  where
+    taken : (t : Bool) (i : Ident) → (ledgers.when t (ledgers.take m i) l).users ≡ l.users
+    taken true i = taken_users (ledgers.is_placed_at i (ledgers.places_at m l)) m i l
+    taken false i = refl
+
+    one : (d : Did) → (ledgers.take_gone m d l).users ≡ l.users
+    one (did.Removed q i why) = taken (ledgers.is_taken why) i
+    one (did.Placed q i dead) = refl
+    one (did.Moved q i to target bare) = refl
+    one (did.Held q i by_) = refl
+    one (did.Released q i) = refl
+    one (did.Hardened c note) = refl
+    one (did.Prepared c u) = refl
+    one (did.Received c u) = refl
+
+-- One that finds the stopped write: it does what the note says, and then comes up.
+comes_back : (m : ℕ) (given : Ident → Bool) (n : Node) (l : Ledger) (noted : Noted) (starts started : ℕ) → IsAt m given n l → n.manager.running ≡ Down (Some noted) starts
+    → Became m given n l (begun_anew (restarted true started (Some noted) n.manager) n.own)
+    (ledgers.come_up m (chances.Restart (Comes true started)) (redone_delta true (Some noted) n.manager) (take_all_gone m (redone_delta true (Some noted) n.manager) l))
+comes_back m given n l noted starts started a z =
+    let p : Plain = n.manager in
+    let ds : List Did = redone_delta true (Some noted) p in
+    let x : IsNotedAt m (Down (Some noted) starts) p l = subst (λ r. IsNotedAt m r p l) z a.noted in
+    let r : Plain = redone noted p in
+    let k1 : Ledger = ledgers.found m (Some x.0) ds (take_all_gone m ds l) in
+    let l0 : Ledger = ledgers.with_users m clear k1 in
+    let end : Ledger = ledgers.stop m l0 in
+    let f1 : Follow m given p l r k1 = x.2.followed given p.running p.moment p.log l a.fresh a.told in
+    let used : slice_get l0.users m ≡ Some (clear f1.told.users) = here_changed m clear k1.users f1.told.users f1.told.used in
+    let t0 : IsTold m r l0 = record { places = f1.told.places; placed = f1.told.placed; shelved = f1.told.shelved; name = f1.told.name; definitions = f1.told.definitions; users = clear f1.told.users; used = used; connections = f1.told.connections } in
+    let next : Plain = restarted true started (Some noted) p in
+    let same : begun r.given (raised started (lasting r)) (grown started r) r.moment ≡ next = λ i. begun (f1.same.given i) (raised started (lasting r)) (grown started r) (f1.steady i) in
+    let f2 : Follow m f1.now r l0 next end = subst (λ (q : Plain). Follow m f1.now r l0 q end) same (restart_follows m f1.now r l0 started (grown started r) t0 (f1.same.batches ∙ a.batches) (restart_fresh f1.now r started (grown started r) f1.fresh)) in
+    let kept1 = f1.kept a.timed.users f1.told.users a.timed.used f1.told.used in
+    let kept2 = f2.kept (clear f1.told.users) f2.told.users used f2.told.used in
+    let cut_ : (ledgers.users_at m (take_all_gone m ds l)).cut ≡ Some x.0 = ap (λ us. (ledgers.users_or (slice_get us m)).cut) (gone_users m ds l) ∙ x.1 in
+    let whole : ledgers.up_again m k1 ≡ ledgers.up_again m (ledgers.found m (ledgers.users_at m (take_all_gone m ds l)).cut ds (take_all_gone m ds l)) =
+    ap (λ o. ledgers.up_again m (ledgers.found m o ds (take_all_gone m ds l))) (sym cut_) in
+    subst (λ k. Became m given n l (begun_anew next n.own) k) whole (record {
+      now = f2.now;
+      leads = leads_behind m (side_of p given) (side_of r f1.now) (side_of next f2.now) (sheet_of m l) (sheet_of m k1) (sheet_of m end) f1.leads f2.leads;
+      known = λ i e. f2.known i (ap (λ (g : Given). i.manager == g.number) f1.same.given ∙ e) ∙ f1.known i e;
+      same = record {
+        given = f2.same.given ∙ f1.same.given;
+        senders = f2.same.senders ∙ f1.same.senders;
+        receivers = f2.same.receivers ∙ f1.same.receivers;
+        batches = f2.same.batches ∙ f1.same.batches;
+      };
+      other = else_then m l k1 end f1.other (else_then m k1 l0 end (else_users m clear k1) f2.other);
+      at = record {
+        told = f2.told;
+        fresh = f2.fresh;
+        number = ap (λ (g : Given). g.number) (f2.same.given ∙ f1.same.given) ∙ a.number;
+        ends = ap (map (end_begun next)) a.ends;
+        batches = f2.same.batches ∙ f1.same.batches ∙ a.batches;
+        timed = record { users = f2.told.users; used = f2.told.used; moment = kept2.moment ∙ kept1.moment ∙ a.timed.moment ∙ sym f1.steady ∙ sym f2.steady };
+        state = x.2.sound started p.running p.moment p.log;
+        noted = tt;
+      };
+    })
+
+restart_as : (m : ℕ) (given : Ident → Bool) (n : Node) (l : Ledger) (e : Entry) → IsAt m given n l → (r : Running) → n.manager.running ≡ r → (choice : Return) → IsReturn (chances.Restart choice) r n.manager
+    → Became m given n l (node_restarted (restart_at r choice n.manager) n).next (posted m (entry_of e (calls.Act acts.Restart) (chances.Restart choice) (node_restarted (restart_at r choice n.manager) n).reply (node_restarted (restart_at r choice n.manager) n).delta (node_restarted (restart_at r choice n.manager) n).received) (node_restarted (restart_at r choice n.manager) n).reply l)
+restart_as m given n l e a Up z choice can = nothing m given n l n.own a a.ends
+restart_as m given n l e a (Down None starts) z (Comes true started) can = absurd can.0.0
+restart_as m given n l e a (Down (Some noted) starts) z (Comes true started) can = comes_back m given n l noted starts started a z
+restart_as m given n l e a (Down noted starts) z (Comes false started) can = comes_up m given n l noted starts started a z
+restart_as m given n l e a (Down noted starts) z (Fails faults.Up in_write left) can = absurd can.0
+restart_as m given n l e a (Down noted starts) z (Fails faults.NoMemory in_write left) can = absurd can.1
+restart_as m given n l e a (Down noted starts) z (Fails faults.Disk true left) can = fails_in m given n l noted starts left a z
+restart_as m given n l e a (Down noted starts) z (Fails faults.Disk false left) can = aside_happens m given n l n.own n.manager.running (record n.manager.log { armed = left }) a a.ends refl a.noted
+restart_as m given n l e a (Down noted starts) z (Fails faults.Cut true left) can = fails_in m given n l noted starts left a z
+restart_as m given n l e a (Down noted starts) z (Fails faults.Cut false left) can = aside_happens m given n l n.own n.manager.running (record n.manager.log { armed = left }) a a.ends refl a.noted
+restart_as m given n l e a (Down noted starts) z (Fails (faults.BadLog place) true left) can = absurd can.0
+restart_as m given n l e a (Down noted starts) z (Fails (faults.BadLog place) false left) can = aside_happens m given n l n.own n.manager.running (record n.manager.log { armed = left }) a a.ends refl a.noted
+
+pub restart_happens : (m : ℕ) (given : Ident → Bool) (n : Node) (l : Ledger) (e : Entry) (stamp : ℕ) (actor : Actor) (chance : Chance) (seen : Seen) → IsAt m given n l → IsReturn chance n.manager.running n.manager → IsOwn chance
     → Happens m given n l e stamp actor (calls.Act acts.Restart) chance seen
-restart_happens m given n l e stamp actor (chances.Call choice) seen a can own none = absurd can
-restart_happens m given n l e stamp actor (chances.Foreign image length left) seen a can own none = absurd own
-restart_happens m given n l e stamp actor (chances.Restart choice) seen a can own none = restart_as m given n l e a n.manager.running refl choice can none
+restart_happens m given n l e stamp actor (chances.Call choice) seen a can own = absurd can
+restart_happens m given n l e stamp actor (chances.Foreign image length left) seen a can own = absurd own
+restart_happens m given n l e stamp actor (chances.Restart choice) seen a can own = restart_as m given n l e a n.manager.running refl choice can
 
 -- A trigger turn
 
@@ -363,7 +456,8 @@ trigger_as m given n l e actor choice a Up z (Some q) d can =
     let deed : Deed = deed_of_parts None (replies.Triggered q.name) (part ∷ []) n.own in
     let same : record (told (replies.Triggered q.name) n.own) { parts = parts_of (trigger_turn p) } ≡ deed = ap (λ (s : Step Never Bool). deed_of_parts None (replies.Triggered q.name) (parts_of s) n.own) turn in
     subst (λ x. Deeded m given n l e actor calls.Trigger choice x) (sym same)
-    (step_happens Never m given n l e actor calls.Trigger choice None (λ (b : Bool). replies.Triggered q.name) post true (part ∷ []) a z sound follows (halting.short_stops Never m given p l true (part ∷ []) a.fresh a.told tt) keeps (λ ds. refl) (λ r w. absurd cc)
+    (step_happens Never m given n l e actor calls.Trigger choice None (λ (b : Bool). replies.Triggered q.name) post true (part ∷ []) a z sound follows (halting.short_stops Never m given p l true (part ∷ []) a.fresh a.told tt) keeps
+    (serve_noted m q (process_of q.process p.definitions) (local_of q.initiation_queue p.definitions) p) (λ ds. refl) (λ r w. absurd cc)
     (subst (λ x. CanCome x choice n) same can))
 
 pub trigger_happens : (m : ℕ) (given : Ident → Bool) (n : Node) (l : Ledger) (e : Entry) (stamp : ℕ) (actor : Actor) (choice : Choice) (seen : Seen) → IsAt m given n l → IsDeed (trigger_deed n) (chances.Call choice) n → Happens m given n l e stamp actor calls.Trigger (chances.Call choice) seen

@@ -52,7 +52,11 @@ use Rattle.mq_law_events.proofs.Getting as getting
 use Rattle.mq_law_events.proofs.Leaving as leaving
 use Rattle.mq_law_events.proofs.Halting as halting
 use Rattle.mq_law_events.proofs.Sounds.{listed}
+use Rattle.mq_law_found.proofs.Putting.{puts_noted, puts_once_noted}
+use Rattle.mq_law_found.proofs.Getting.{gets_noted}
+use Rattle.mq_law_found.proofs.Ending.{commits_noted, disconnects_noted}
 use Rattle.mq_law_one.specs.Alone.{IsAt, Became}
+use Rattle.mq_law_one.proofs.Noting.{conn_noted, open_noted, close_noted, back_noted}
 use Rattle.mq_law_one.proofs.Happening.{Deeded, entry_of, quiet_happens, step_happens, mqi_happens, ended_happens, Fits, fits_by, connected_down, down_refused, reply_or}
 
 -- what an event comes to, and is posted
@@ -76,8 +80,9 @@ pub conn_happens : (m : ℕ) (given : Ident → Bool) (n : Node) (l : Ledger) (e
 conn_happens m given n l e actor choice qmgr appl a can =
     let p : Plain = n.manager in
     mqi_happens m given n l e actor (calls.Mqconn qmgr appl) choice replies.Connected (λ reply ds k. connect_if m appl (replies.Connected reply) k) (mqconn qmgr appl p) a
-    (fits_by m given p l (λ reply ds k. connect_if m appl (replies.Connected reply) k) (mqconn qmgr appl p) a.state
+    (fits_by m given p l (λ reply ds k. connect_if m appl (replies.Connected reply) k) (calls.Mqconn qmgr appl) (mqconn qmgr appl p) a.state
     (λ h. (events.connects m given p l qmgr appl a.fresh a.told, halting.step_stops m given p l (mqconn qmgr appl p) a.fresh a.told (halting.conn_short qmgr appl p), joined (mqconn qmgr appl p) p h (mqconn_keeps qmgr appl p h.facts) (conn_stocked qmgr appl p h.stocked)))
+    (λ h k. conn_noted m qmgr appl p)
     (conn_down qmgr appl p))
     (λ answer c ds. refl) (λ reason. refl) can
 
@@ -86,8 +91,9 @@ pub open_happens : (m : ℕ) (given : Ident → Bool) (n : Node) (l : Ledger) (e
 open_happens m given n l e actor choice hc name qmgr how a can =
     let p : Plain = n.manager in
     mqi_happens m given n l e actor (calls.Mqopen hc name qmgr how) choice replies.Opened (λ reply ds k. open_if m hc name qmgr how (replies.Opened reply) k) (mqopen hc name qmgr how p) a
-    (fits_by m given p l (λ reply ds k. open_if m hc name qmgr how (replies.Opened reply) k) (mqopen hc name qmgr how p) a.state
+    (fits_by m given p l (λ reply ds k. open_if m hc name qmgr how (replies.Opened reply) k) (calls.Mqopen hc name qmgr how) (mqopen hc name qmgr how p) a.state
     (λ h. (events.opens m given p l hc name qmgr how a.fresh a.told, halting.step_stops m given p l (mqopen hc name qmgr how p) a.fresh a.told (halting.open_short hc name qmgr how p), joined (mqopen hc name qmgr how p) p h (mqopen_keeps hc name qmgr how p h.facts) (open_stocked hc name qmgr how p h.stocked)))
+    (λ h k. open_noted m hc name qmgr how p)
     (λ z. let d = connected_down hc p z in (d.0, ap (λ (r : Result Connection Reason). going_on r (λ c. going_on (none_of (option_tests how)) (λ chosen. going_on (resolve p.definitions p.given.name name qmgr) (λ route. going_on (none_of (open_tests c how route p)) (λ fits. open_step c how route))))) d.1)))
     (λ answer c ds. refl) (λ reason. refl) can
 
@@ -96,8 +102,9 @@ pub close_happens : (m : ℕ) (given : Ident → Bool) (n : Node) (l : Ledger) (
 close_happens m given n l e actor choice hc ho a can =
     let p : Plain = n.manager in
     ended_happens m given n l e actor (calls.Mqclose hc ho) choice replies.Ended (λ reply ds k. close_if m hc ho (replies.Ended reply) k) (mqclose hc ho p) a
-    (fits_by m given p l (λ reply ds k. close_if m hc ho (replies.Ended reply) k) (mqclose hc ho p) a.state
+    (fits_by m given p l (λ reply ds k. close_if m hc ho (replies.Ended reply) k) (calls.Mqclose hc ho) (mqclose hc ho p) a.state
     (λ h. (events.closes m given p l hc ho a.fresh a.told, halting.step_stops m given p l (mqclose hc ho p) a.fresh a.told (halting.close_short hc ho p), joined (mqclose hc ho p) p h (mqclose_keeps hc ho p h.facts) (close_stocked hc ho p h.stocked)))
+    (λ h k. close_noted m hc ho p)
     (down_refused hc p (close_up ho)))
     (λ answer c ds. refl) (λ reason. refl) can
 
@@ -114,8 +121,9 @@ pub put_happens : (m : ℕ) (given : Ident → Bool) (n : Node) (l : Ledger) (e 
 put_happens m given n l e actor choice hc ho md body sync a can =
     let p : Plain = n.manager in
     mqi_happens m given n l e actor (calls.Mqput hc ho md body sync) choice replies.Put (λ reply ds k. ledgers.put sync m hc ho (ledgers.connection_of m hc k) (sent_ident (replies.Put reply) ds) md body k) (mqput hc ho md body sync p) a
-    (fits_by m given p l (λ reply ds k. ledgers.put sync m hc ho (ledgers.connection_of m hc k) (sent_ident (replies.Put reply) ds) md body k) (mqput hc ho md body sync p) a.state
+    (fits_by m given p l (λ reply ds k. ledgers.put sync m hc ho (ledgers.connection_of m hc k) (sent_ident (replies.Put reply) ds) md body k) (calls.Mqput hc ho md body sync) (mqput hc ho md body sync p) a.state
     (λ h. (events.puts m given p l hc ho md body sync a.fresh a.told a.timed, halting.step_stops m given p l (mqput hc ho md body sync p) a.fresh a.told (halting.put_short hc ho md body sync p), joined (mqput hc ho md body sync p) p h (mqput_keeps hc ho md body sync p h.facts) (put_stocked hc ho md body sync p h.stocked)))
+    (λ h k. puts_noted m p hc ho md body sync h k)
     (down_refused hc p (put_up ho md body sync p)))
     (λ answer c ds. refl) (λ reason. put_none sync m hc ho (ledgers.connection_of m hc l) md body l) can
 
@@ -124,8 +132,9 @@ pub put1_happens : (m : ℕ) (given : Ident → Bool) (n : Node) (l : Ledger) (e
 put1_happens m given n l e actor choice hc name qmgr md body sync a can =
     let p : Plain = n.manager in
     mqi_happens m given n l e actor (calls.Mqput1 hc name qmgr md body sync) choice replies.Put (λ reply ds k. ledgers.put1 sync m hc name qmgr (ledgers.connection_of m hc k) (sent_ident (replies.Put reply) ds) md body k) (mqput1 hc name qmgr md body sync p) a
-    (fits_by m given p l (λ reply ds k. ledgers.put1 sync m hc name qmgr (ledgers.connection_of m hc k) (sent_ident (replies.Put reply) ds) md body k) (mqput1 hc name qmgr md body sync p) a.state
+    (fits_by m given p l (λ reply ds k. ledgers.put1 sync m hc name qmgr (ledgers.connection_of m hc k) (sent_ident (replies.Put reply) ds) md body k) (calls.Mqput1 hc name qmgr md body sync) (mqput1 hc name qmgr md body sync p) a.state
     (λ h. (events.puts_once m given p l hc name qmgr md body sync a.fresh a.told a.timed, halting.step_stops m given p l (mqput1 hc name qmgr md body sync p) a.fresh a.told (halting.put1_short hc name qmgr md body sync p), joined (mqput1 hc name qmgr md body sync p) p h (mqput1_keeps hc name qmgr md body sync p h.facts) (put1_stocked hc name qmgr md body sync p h.stocked)))
+    (λ h k. puts_once_noted m p hc name qmgr md body sync h k)
     (down_refused hc p (put1_resolved (resolve p.definitions p.given.name name qmgr) md body sync p)))
     (λ answer c ds. refl) (λ reason. put1_none sync m hc name qmgr (ledgers.connection_of m hc l) md body l) can
 
@@ -134,8 +143,9 @@ pub commit_happens : (m : ℕ) (given : Ident → Bool) (n : Node) (l : Ledger) 
 commit_happens m given n l e actor choice hc a can =
     let p : Plain = n.manager in
     ended_happens m given n l e actor (calls.Mqcmit hc) choice replies.Ended (λ reply ds k. ledgers.when (is_ended (replies.Ended reply)) (ledgers.commit m hc) k) (mqcmit hc p) a
-    (fits_by m given p l (λ reply ds k. ledgers.when (is_ended (replies.Ended reply)) (ledgers.commit m hc) k) (mqcmit hc p) a.state
+    (fits_by m given p l (λ reply ds k. ledgers.when (is_ended (replies.Ended reply)) (ledgers.commit m hc) k) (calls.Mqcmit hc) (mqcmit hc p) a.state
     (λ h. (events.commits m given p l hc a.fresh a.told (listed hc.number p h), halting.step_stops m given p l (mqcmit hc p) a.fresh a.told (halting.commit_short hc p), joined (mqcmit hc p) p h (mqcmit_keeps hc p h.facts) (cmit_stocked hc p h.stocked)))
+    (λ h k. commits_noted m p hc h k)
     (down_refused hc p (λ c. Do (answers.Ok tt) (commit_part [] c ∷ []))))
     (λ answer c ds. refl) (λ reason. refl) can
 
@@ -144,8 +154,9 @@ pub back_happens : (m : ℕ) (given : Ident → Bool) (n : Node) (l : Ledger) (e
 back_happens m given n l e actor choice hc a can =
     let p : Plain = n.manager in
     ended_happens m given n l e actor (calls.Mqback hc) choice replies.Ended (λ reply ds k. ledgers.when (is_ended (replies.Ended reply)) (ledgers.back_out m hc) k) (mqback hc p) a
-    (fits_by m given p l (λ reply ds k. ledgers.when (is_ended (replies.Ended reply)) (ledgers.back_out m hc) k) (mqback hc p) a.state
+    (fits_by m given p l (λ reply ds k. ledgers.when (is_ended (replies.Ended reply)) (ledgers.back_out m hc) k) (calls.Mqback hc) (mqback hc p) a.state
     (λ h. (events.backs_out m given p l hc a.fresh a.told (listed hc.number p h), halting.step_stops m given p l (mqback hc p) a.fresh a.told (halting.back_short hc p), joined (mqback hc p) p h (mqback_keeps hc p h.facts) (back_stocked hc p h.facts h.stocked)))
+    (λ h k. back_noted m hc p)
     (down_refused hc p (λ c. Do (answers.Ok tt) (backout_part c ∷ []))))
     (λ answer c ds. refl) (λ reason. refl) can
 
@@ -154,19 +165,20 @@ pub disc_happens : (m : ℕ) (given : Ident → Bool) (n : Node) (l : Ledger) (e
 disc_happens m given n l e actor choice hc a can =
     let p : Plain = n.manager in
     ended_happens m given n l e actor (calls.Mqdisc hc) choice replies.Ended (λ reply ds k. ledgers.when (is_ended (replies.Ended reply)) (λ x. ledgers.disconnect m hc (ledgers.commit m hc x)) k) (mqdisc hc p) a
-    (fits_by m given p l (λ reply ds k. ledgers.when (is_ended (replies.Ended reply)) (λ x. ledgers.disconnect m hc (ledgers.commit m hc x)) k) (mqdisc hc p) a.state
+    (fits_by m given p l (λ reply ds k. ledgers.when (is_ended (replies.Ended reply)) (λ x. ledgers.disconnect m hc (ledgers.commit m hc x)) k) (calls.Mqdisc hc) (mqdisc hc p) a.state
     (λ h. (leaving.disconnects m given p l hc a.fresh a.told (listed hc.number p h), halting.step_stops m given p l (mqdisc hc p) a.fresh a.told (halting.disc_short hc p), joined (mqdisc hc p) p h (mqdisc_keeps hc p h.facts) (disc_stocked hc p h.stocked)))
+    (λ h k. disconnects_noted m p hc h k)
     (down_refused hc p (λ c. Do (answers.Ok tt) (commit_part (Disconnect c.number ∷ []) c ∷ []))))
     (λ answer c ds. refl) (λ reason. refl) can
 
 -- MQGET: one that may wait is no event
-get_step : (m : ℕ) (given : Ident → Bool) (n : Node) (l : Ledger) (e : Entry) (actor : Actor) (choice : Choice) (hc : Hconn) (ho : Hobj) (get : Get) (until : Option ℕ) (step : Step Reason GetAnswer) → IsAt m given n l → Fits m given n.manager l (post_get m hc get) step → IsDeed (get_deed n.own step) (chances.Call choice) n
+get_step : (m : ℕ) (given : Ident → Bool) (n : Node) (l : Ledger) (e : Entry) (actor : Actor) (choice : Choice) (hc : Hconn) (ho : Hobj) (get : Get) (until : Option ℕ) (step : Step Reason GetAnswer) → IsAt m given n l → Fits m given n.manager l (post_get m hc get) (calls.Mqget hc ho get until) step → IsDeed (get_deed n.own step) (chances.Call choice) n
     → Became m given n l (remembering actor (calls.Mqget hc ho get until) (done_or (get_deed n.own step) choice n)).next
     (posted m (entry_of e (calls.Mqget hc ho get until) (chances.Call choice) (done_or (get_deed n.own step) choice n).reply (done_or (get_deed n.own step) choice n).delta (done_or (get_deed n.own step) choice n).received) (done_or (get_deed n.own step) choice n).reply l)
 get_step m given n l e actor choice hc ho get until (Refuse reason) a fit can = quiet_happens m given n l e actor (calls.Mqget hc ho get until) choice (replies.Got (answers.Failed reason)) a (λ c. refl) can
 get_step m given n l e actor choice hc ho get until (Do get_answers.NotYet parts) a fit can = absurd can
 get_step m given n l e actor choice hc ho get until (Do (get_answers.Done answer) parts) a fit can =
-    step_happens Reason m given n l e actor (calls.Mqget hc ho get until) choice (Some (replies.Got (answers.Failed reasons.StorageNotAvailable))) replies.Got (λ reply ds k. post_get m hc get (get_answers.Done reply) ds k) answer parts a fit.0 fit.1 fit.2 fit.3 fit.4 (λ ds. refl)
+    step_happens Reason m given n l e actor (calls.Mqget hc ho get until) choice (Some (replies.Got (answers.Failed reasons.StorageNotAvailable))) replies.Got (λ reply ds k. post_get m hc get (get_answers.Done reply) ds k) answer parts a fit.0 fit.1 fit.2 fit.3 fit.4 fit.5 (λ ds. refl)
     (λ r z. ap (λ (o : Option Reply). posted m (entry_of e (calls.Mqget hc ho get until) (chances.Call NoMemory) (reply_or r o) [] []) (reply_or r o) l) (sym z)) can
 
 pub get_happens : (m : ℕ) (given : Ident → Bool) (n : Node) (l : Ledger) (e : Entry) (actor : Actor) (choice : Choice) (hc : Hconn) (ho : Hobj) (get : Get) (until : Option ℕ) → IsAt m given n l → IsDeed (get_deed n.own (mqget hc ho get until n.manager)) (chances.Call choice) n
@@ -176,6 +188,7 @@ pub get_happens : (m : ℕ) (given : Ident → Bool) (n : Node) (l : Ledger) (e 
 get_happens m given n l e actor choice hc ho get until a can =
     let p : Plain = n.manager in
     get_step m given n l e actor choice hc ho get until (mqget hc ho get until p) a
-    (fits_by m given p l (post_get m hc get) (mqget hc ho get until p) a.state
+    (fits_by m given p l (post_get m hc get) (calls.Mqget hc ho get until) (mqget hc ho get until p) a.state
     (λ h. (getting.gets m given p l hc ho get until a.fresh a.told (λ d. h.facts.apart.once d), halting.gets_stop m given p l hc ho get until a.fresh a.told (λ d. h.facts.apart.once d), joined (mqget hc ho get until p) p h (mqget_keeps hc ho get until p h.facts) (get_stocked hc ho get until p h.stocked)))
+    (λ h k. gets_noted m p hc ho get until h k)
     (down_refused hc p (get_up ho get until p))) can

@@ -62,7 +62,7 @@ use Rattle.mq_spec_manager.specs.Put.{output_only, mqput, mqput1, put_up, put_ha
 use Rattle.mq_spec_manager.specs.Get.{mqget, get_up, get_handle, get_tests, room_tests, get_found, scanned, expired_parts, removal_parts, taking_part, found_part, is_destructive, is_under, is_waiting, is_left, with_row, without_row}
 use Rattle.mq_spec_manager.specs.Units.{mqcmit, mqback, mqdisc, removed_item, placed_did, released_did}
 use Rattle.mq_spec_manager.specs.Commands.{command, planned_step, uses_of}
-use Rattle.mq_spec_manager.specs.Stops.{stop_at, restart_at}
+use Rattle.mq_spec_manager.specs.Stops.{stop_at, restart_at, lasts}
 use Rattle.mq_spec_manager.specs.Triggers.{first_due, trigger_turn, trigger_at, serve, serve_by, serve_into, put_trigger, takes_it}
 use Rattle.mq_history.specs.declared.calls.Actor.TheVariants as actors
 use Rattle.mq_message.specs.declared.message.Dest.{Dest}
@@ -82,9 +82,9 @@ use Rattle.mq_spec_node.specs.Happens.{restarted as node_restarted}
 use Rattle.mq_spec_node.specs.Status.{show_status, shown, status_line, is_asked}
 use Rattle.mq_spec_node.specs.Replays.{IsOwn}
 use Rattle.mq_spec_network.specs.Order.{unit_received}
+use Rattle.mq_law_rows.proofs.Lists.{bool_case}
 use Rattle.mq_law_events.proofs.Taking.{removed_all}
 use Rattle.mq_law_events.proofs.Halting.{tested_all, going_all, live_all, open_all}
-use Rattle.mq_law_one.specs.Alone.{FindsNone}
 use Rattle.mq_law_one.proofs.Acting.{operated_is, no_deed, turn_none, timeout_none}
 
 -- what is told has no such commit
@@ -292,9 +292,28 @@ stop_quiet : (r : Running) (n : Node) → IsQuiet (crashed (stop_at r n.manager)
 stop_quiet Up n = refl
 stop_quiet (Down noted starts) n = refl
 
-return_quiet : (r : Running) (choice : Return) (n : Node) → IsReturn (chances.Restart choice) r n.manager → FindsNone (chances.Restart choice) → IsQuiet (node_restarted (restart_at r choice n.manager) n).delta
+-- part of what is quiet is so
+filter_quiet : (f : Did → Bool) (ds : List Did) → IsQuiet ds → IsQuiet (filter f ds)
+filter_quiet f [] a = refl
+filter_quiet f (did.Received c u ∷ ds) a = absurd cc
+filter_quiet f (did.Placed q i dead ∷ ds) a = bool_case (f (did.Placed q i dead)) (λ t. IsQuiet (if t then did.Placed q i dead ∷ filter f ds else filter f ds)) (λ e. filter_quiet f ds a) (λ e. filter_quiet f ds a)
+filter_quiet f (did.Removed q i why ∷ ds) a = bool_case (f (did.Removed q i why)) (λ t. IsQuiet (if t then did.Removed q i why ∷ filter f ds else filter f ds)) (λ e. filter_quiet f ds a) (λ e. filter_quiet f ds a)
+filter_quiet f (did.Moved q i to target bare ∷ ds) a = bool_case (f (did.Moved q i to target bare)) (λ t. IsQuiet (if t then did.Moved q i to target bare ∷ filter f ds else filter f ds)) (λ e. filter_quiet f ds a) (λ e. filter_quiet f ds a)
+filter_quiet f (did.Held q i by_ ∷ ds) a = bool_case (f (did.Held q i by_)) (λ t. IsQuiet (if t then did.Held q i by_ ∷ filter f ds else filter f ds)) (λ e. filter_quiet f ds a) (λ e. filter_quiet f ds a)
+filter_quiet f (did.Released q i ∷ ds) a = bool_case (f (did.Released q i)) (λ t. IsQuiet (if t then did.Released q i ∷ filter f ds else filter f ds)) (λ e. filter_quiet f ds a) (λ e. filter_quiet f ds a)
+filter_quiet f (did.Hardened c note ∷ ds) a = bool_case (f (did.Hardened c note)) (λ t. IsQuiet (if t then did.Hardened c note ∷ filter f ds else filter f ds)) (λ e. filter_quiet f ds a) (λ e. filter_quiet f ds a)
+filter_quiet f (did.Prepared c u ∷ ds) a = bool_case (f (did.Prepared c u)) (λ t. IsQuiet (if t then did.Prepared c u ∷ filter f ds else filter f ds)) (λ e. filter_quiet f ds a) (λ e. filter_quiet f ds a)
+
+-- a note that tells no such commit
+abbrev pub IsNoteQuiet : Running → Type 0
+IsNoteQuiet Up = Unit {0}
+IsNoteQuiet (Down None starts) = Unit {0}
+IsNoteQuiet (Down (Some noted) starts) = IsQuiet noted.delta
+
+return_quiet : (r : Running) (choice : Return) (n : Node) → IsReturn (chances.Restart choice) r n.manager → IsNoteQuiet r → IsQuiet (node_restarted (restart_at r choice n.manager) n).delta
 return_quiet Up choice n can none = refl
-return_quiet (Down noted starts) (Comes true started) n can none = absurd none
+return_quiet (Down None starts) (Comes true started) n can none = absurd can.0.0
+return_quiet (Down (Some noted) starts) (Comes true started) n can none = filter_quiet (lasts noted.written n.manager) noted.delta none
 return_quiet (Down noted starts) (Comes false started) n can none = refl
 return_quiet (Down noted starts) (Fails faults.Up in_write left) n can none = absurd can.0
 return_quiet (Down noted starts) (Fails faults.NoMemory in_write left) n can none = absurd can.1
@@ -368,7 +387,7 @@ up_quiet (Down noted starts) None choice n a = refl
 up_quiet (Down noted starts) (Some d) choice n a = refl
 
 -- the event of a call that a chance of a call's alone makes
-pub event_quiet : (n : Node) (stamp : ℕ) (actor : Actor) (call : Call) (chance : Chance) (seen : Seen) → n.own.ends ≡ [] → IsEvent stamp actor call chance seen n → IsOwn chance → FindsNone chance → IsQuiet (event stamp actor call chance seen n).delta
+pub event_quiet : (n : Node) (stamp : ℕ) (actor : Actor) (call : Call) (chance : Chance) (seen : Seen) → n.own.ends ≡ [] → IsEvent stamp actor call chance seen n → IsOwn chance → IsNoteQuiet n.manager.running → IsQuiet (event stamp actor call chance seen n).delta
 event_quiet n stamp actor (calls.Mqconn qmgr appl) (chances.Call choice) seen e can own none = done_quiet (mqi_deed replies.Connected n.own (mqconn qmgr appl n.manager)) choice n (mqi_quiet replies.Connected n.own (mqconn qmgr appl n.manager) (conn_quiet qmgr appl n.manager))
 event_quiet n stamp actor (calls.Mqdisc hc) (chances.Call choice) seen e can own none = done_quiet (ended_deed replies.Ended n.own (mqdisc hc n.manager)) choice n (ended_quiet replies.Ended n.own (mqdisc hc n.manager) (disc_quiet hc n.manager))
 event_quiet n stamp actor (calls.Mqopen hc name qmgr how) (chances.Call choice) seen e can own none = done_quiet (mqi_deed replies.Opened n.own (mqopen hc name qmgr how n.manager)) choice n (mqi_quiet replies.Opened n.own (mqopen hc name qmgr how n.manager) (open_quiet hc name qmgr how n.manager))

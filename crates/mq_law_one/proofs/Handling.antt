@@ -61,6 +61,11 @@ use Rattle.mq_law_events.proofs.Halting.{IsShort, short_stops, tested_all}
 use Rattle.mq_law_events.proofs.Moving.{move_follows, moved, bare_ident}
 use Rattle.mq_law_events.proofs.Serving.{discard_follows}
 use Rattle.mq_law_events.proofs.Taking.{removed_all}
+use Rattle.mq_law_manager.proofs.Removals.{mem_filter, differ_filter}
+use Rattle.mq_law_found.specs.Finds.{StepNotes}
+use Rattle.mq_law_found.proofs.Finding.{one_noted}
+use Rattle.mq_law_found.proofs.Getting.{removals_noted, discard_posts}
+use Rattle.mq_law_found.proofs.Shifting.{move_noted}
 use Rattle.mq_law_one.specs.Alone.{IsState, IsAt, Became}
 use Rattle.mq_law_one.proofs.Happening.{Deeded, entry_of, nothing, step_happens, kept_ends}
 
@@ -121,6 +126,7 @@ record IsParts (m : ℕ) (given : Ident → Bool) (p : Plain) (l : Ledger) (own 
   follow : Follow m given p l (do_all parts p) (post_turn m (delta_of parts) (take_all_gone m (delta_of parts) l))
   stop : StopFollows {F = Never} {T = Unit {0}} m given p l (Do (tt {0}) parts)
   keep : AllKeep IsSound parts p
+  notes : StepNotes {F = Never} {T = Unit {0}} m calls.Turn p (Do (tt {0}) parts)
 
 abbrev TurnFits : ℕ → (Ident → Bool) → Plain → Ledger → Own → Deed → Type 0
 TurnFits m given p l own d = IsAnswer own d ⊎ IsParts m given p l own d
@@ -142,19 +148,26 @@ discards : (m : ℕ) (given : Ident → Bool) (p : Plain) (l : Ledger) (own : Ow
 discards m given p l own q x f t h k =
     let xs : List Row = filter (has_ident x.message.ident) (stored q p).rows in
     let parts : List Part = removal_parts whys.Discarded q xs in
+    let kept : AllKeep IsSound parts p = joined (discard q x.message.ident p) p h (discard_keeps q x.message.ident p h.facts (free_row q p x h k)) (discard_stocked q x.message.ident p h.stocked) in
     inr (record {
       parts = parts;
       is = refl;
       follow = subst (λ y. Follow m given p l (do_all parts p) y) (sym (parts_post m q xs (take_all_gone m (delta_of parts) l)))
           (discard_follows m given p l q x.message.ident f t (h.facts.apart.once q) (λ y n e. ap (λ (r : Row). r.by) (one_row (stored q p).rows y x (h.facts.apart.once q) n k.there e) ∙ k.free));
       stop = short_stops Never m given p l (tt {0}) parts f t (parts_short q xs);
-      keep = joined (discard q x.message.ident p) p h (discard_keeps q x.message.ident p h.facts (free_row q p x h k)) (discard_stocked q x.message.ident p h.stocked);
+      keep = kept;
+      notes = removals_noted Never m calls.Turn p whys.Discarded q xs (tt {0}) h
+          (record {
+            each = λ y n. let f = mem_filter y (has_ident x.message.ident) (stored q p).rows n in (f.0, ap (λ (r : Row). r.by) (one_row (stored q p).rows y x (h.facts.apart.once q) f.0 k.there (ident_yes y.message.ident x.message.ident f.1)) ∙ k.free);
+            once = differ_filter ident_of (has_ident x.message.ident) (stored q p).rows (h.facts.apart.once q);
+          })
+          refl (discard_posts m q) kept;
     })
 
 -- a move
 abbrev MoveFits : ℕ → (Ident → Bool) → Plain → Ledger → Step Reason (Unit {0}) → Type 0
 MoveFits m given p l (Refuse reason) = Unit {0}
-MoveFits m given p l (Do reply parts) = Follow m given p l (do_all parts p) (post_turn m (delta_of parts) (take_all_gone m (delta_of parts) l)) × IsShort parts
+MoveFits m given p l (Do reply parts) = Follow m given p l (do_all parts p) (post_turn m (delta_of parts) (take_all_gone m (delta_of parts) l)) × IsShort parts × (AllKeep IsSound parts p → StepNotes {F = Never} {T = Unit {0}} m calls.Turn p (Do (tt {0}) parts))
 
 shelves_of : (m : ℕ) (p : Plain) (l : Ledger) (t : IsTold m p l) → AreShelved (ledgers.places_at m l).queues
 shelves_of m p l t = subst (λ o. AreShelved (ledgers.places_or o).queues) (sym t.placed) t.shelved
@@ -180,13 +193,14 @@ move_fits m given p l q x to bare f t h k =
           subst (λ i. Follow m given p l (do_part part p) (ledgers.move_row m to bare (ledgers.row_in i (ledgers.places_at m l).queues) l)) (sym (bare_ident bare x.message))
               (part_follows m given p l q x to bare route (moved_forced q lnd) f t k.there k.free e),
           tt,
+          λ kept. one_noted Never m calls.Turn p (tt {0}) part (move_noted m p.moment p q x to bare route h k.there k.free e kept.0),
         )
 
 -- a move that is refused is a failed try
 combine : (m : ℕ) (given : Ident → Bool) (p : Plain) (l : Ledger) (own : Own) (q : List ℕ) (message : Message) (n : ℕ) (rule : Rule) (tries : ℕ) (h : Handler) (step : Step Reason (Unit {0})) → IsFresh given p → IsTold m p l → MoveFits m given p l step → StepKeeps IsSound step p
     → TurnFits m given p l own (handlers.moved q message n rule tries h p own step)
 combine m given p l own q message n rule tries h (Refuse reason) f t fit keep = inl (with_handler (handlers.tried_as (handlers.try_later q message.ident n (tries + 1) rule h p) h) own, refl, refl)
-combine m given p l own q message n rule tries h (Do reply parts) f t fit keep = inr (record { parts = parts; is = refl; follow = fit.0; stop = short_stops Never m given p l (tt {0}) parts f t fit.1; keep = keep })
+combine m given p l own q message n rule tries h (Do reply parts) f t fit keep = inr (record { parts = parts; is = refl; follow = fit.0; stop = short_stops Never m given p l (tt {0}) parts f t fit.1; keep = keep; notes = fit.2 keep })
 
 moves : (m : ℕ) (given : Ident → Bool) (p : Plain) (l : Ledger) (own : Own) (q : List ℕ) (x : Row) (n : ℕ) (rule : Rule) (tries : ℕ) (h : Handler) (to : Dest) (bare : Bool) → IsFresh given p → IsTold m p l → IsSound p → IsLetter q p x
     → TurnFits m given p l own (handlers.moved q x.message n rule tries h p own (move_row q x.message.ident to bare p))
@@ -248,7 +262,7 @@ deed_happens : (m : ℕ) (given : Ident → Bool) (n : Node) (l : Ledger) (e : E
 deed_happens m given n l e actor choice d a up sound (inl fit) can = subst (λ x. Deeded m given n l e actor calls.Turn choice x) (sym fit.1) (answer_happens m given n l e actor choice fit.0 a (fit.2 ∙ a.ends) (subst (λ x. CanCome x choice n) fit.1 can))
 deed_happens m given n l e actor choice d a up sound (inr fit) can =
     subst (λ x. Deeded m given n l e actor calls.Turn choice x) (sym fit.is)
-    (step_happens Never m given n l e actor calls.Turn choice None (λ (u : Unit {0}). replies.Tried) (λ reply ds k. post_turn m ds k) (tt {0}) fit.parts a up sound fit.follow fit.stop fit.keep (λ ds. refl) (λ r z. absurd cc) (subst (λ x. CanCome x choice n) fit.is can))
+    (step_happens Never m given n l e actor calls.Turn choice None (λ (u : Unit {0}). replies.Tried) (λ reply ds k. post_turn m ds k) (tt {0}) fit.parts a up sound fit.follow fit.stop fit.keep fit.notes (λ ds. refl) (λ r z. absurd cc) (subst (λ x. CanCome x choice n) fit.is can))
 
 pub turn_happens : (m : ℕ) (given : Ident → Bool) (n : Node) (l : Ledger) (e : Entry) (actor : Actor) (choice : Choice) (r : Running) (o : Option Handler) → IsAt m given n l → n.manager.running ≡ r → IsDeed (where_up r (handler_turn o n)) (chances.Call choice) n
     → Became m given n l (remembering actor calls.Turn (done_or (where_up r (handler_turn o n)) choice n)).next

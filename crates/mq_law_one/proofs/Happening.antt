@@ -29,14 +29,14 @@ use Rattle.mq_spec_state.specs.State.Change.{Place, Try, Leave, Hold, Release, C
 use Rattle.mq_spec_state.specs.Reads.{is_up, connection_at}
 use Rattle.mq_spec_state.specs.Changes.{apply, apply_all, try_if}
 use Rattle.mq_spec_state.specs.Condition.{condition}
-use Rattle.mq_spec_state.specs.Steps.{Step, Part, logged, do_part, do_all, delta_of, delta_before, stopped_at, note_of, IsWrite}
+use Rattle.mq_spec_state.specs.Steps.{Step, Part, logged, do_part, do_all, delta_of, delta_before, stopped_at, IsWrite}
 use Rattle.mq_spec_state.specs.Steps.Step.{Refuse, Do}
 use Rattle.mq_spec_manager.specs.Handles.{connected, live_or, for_connection, is_other, is_present}
 use Rattle.mq_spec_node.specs.Node.{Node, Own, Handler}
 use Rattle.mq_spec_node.specs.Deeds.{Deed, told, mqi_deed, ended_deed, done, CanCome, forgotten_rows, node_of}
 use Rattle.mq_spec_node.specs.Happens.{remembered, remembering}
 use Rattle.mq_spec_network.specs.Ledger as ledgers
-use Rattle.mq_spec_network.specs.Ledger.{Ledger, Users, posted, cut, take_all_gone}
+use Rattle.mq_spec_network.specs.Ledger.{Ledger, Users, posted, cut, take_all_gone, users_at}
 use Rattle.mq_law_manager.specs.Kept.{StepKeeps, AllKeep}
 use Rattle.mq_law_manager.specs.Facts.{IsSound, IsFrozen}
 use Rattle.mq_law_manager.proofs.Ending.{ends}
@@ -44,13 +44,15 @@ use Rattle.mq_law_events.specs.Tied.{Follow}
 use Rattle.mq_law_events.specs.Posting.{StepFollows, StopFollows}
 use Rattle.mq_law_events.proofs.Telling.{here_changed, else_then, else_users}
 use Rattle.mq_law_events.proofs.Calling.{calm_follows, calm_none}
-use Rattle.mq_law_one.specs.Alone.{IsState, IsAt, Became}
+use Rattle.mq_law_log.specs.Restarts.{note_at}
+use Rattle.mq_law_found.specs.Finds.{StepNotes}
+use Rattle.mq_law_one.specs.Alone.{IsState, IsNotedAt, IsAt, Became}
 
 -- From a follow to an event
 
 pub became : (m : ℕ) (given : Ident → Bool) (n : Node) (l : Ledger) (next : Node) (k : Ledger) → IsAt m given n l → Follow m given n.manager l next.manager k
-    → next.own.ends ≡ [] → IsState next.manager.running next.manager → Became m given n l next k
-became m given n l next k a f e state = record {
+    → next.own.ends ≡ [] → IsState next.manager.running next.manager → IsNotedAt m next.manager.running next.manager k → Became m given n l next k
+became m given n l next k a f e state noted = record {
   now = f.now;
   leads = f.leads;
   known = f.known;
@@ -64,13 +66,14 @@ became m given n l next k a f e state = record {
     batches = f.same.batches ∙ a.batches;
     timed = record { users = f.told.users; used = f.told.used; moment = (f.kept a.timed.users f.told.users a.timed.used f.told.used).moment ∙ a.timed.moment ∙ sym f.steady };
     state = state;
+    noted = noted;
   };
 }
 
 -- and with a mark on the manager's users
 pub became_marked : (m : ℕ) (given : Ident → Bool) (n : Node) (l : Ledger) (next : Node) (k : Ledger) (g : Users → Users) → ((u : Users) → (g u).connections ≡ u.connections) → ((u : Users) → (g u).moment ≡ u.moment)
-    → IsAt m given n l → Follow m given n.manager l next.manager k → next.own.ends ≡ [] → IsState next.manager.running next.manager → Became m given n l next (ledgers.with_users m g k)
-became_marked m given n l next k g cs mo a f e state =
+    → IsAt m given n l → Follow m given n.manager l next.manager k → next.own.ends ≡ [] → IsState next.manager.running next.manager → IsNotedAt m next.manager.running next.manager (ledgers.with_users m g k) → Became m given n l next (ledgers.with_users m g k)
+became_marked m given n l next k g cs mo a f e state noted =
     let used : slice_get (ledgers.with_users m g k).users m ≡ Some (g f.told.users) = here_changed m g k.users f.told.users f.told.used in
     record {
       now = f.now;
@@ -86,6 +89,7 @@ became_marked m given n l next k g cs mo a f e state =
         batches = f.same.batches ∙ a.batches;
         timed = record { users = g f.told.users; used = used; moment = mo f.told.users ∙ (f.kept a.timed.users f.told.users a.timed.used f.told.used).moment ∙ a.timed.moment ∙ sym f.steady };
         state = state;
+        noted = noted;
       };
     }
 
@@ -145,11 +149,14 @@ pub parts_running : (parts : List Part) (p : Plain) → (do_all parts p).running
 parts_running [] p = refl
 parts_running (part ∷ parts) p = parts_running parts (do_part part p) ∙ part_running part p
 
--- a stopped write leaves the manager down
-pub stopped_running : (n : ℕ) (parts : List Part) (left : ℕ) (p : Plain) → IsWrite n parts → (note : Option Noted) × ((stopped_at n parts left p).running ≡ Down note 0)
+-- a stopped write leaves the manager down, with its note
+pub stopped_running : (n : ℕ) (parts : List Part) (left : ℕ) (p : Plain) → IsWrite n parts → (stopped_at n parts left p).running ≡ Down (note_at n parts) 0
 stopped_running n [] left p w = absurd w
-stopped_running zero (part ∷ parts) left p w = (note_of part part.forced, refl)
+stopped_running zero (part ∷ parts) left p w = refl
 stopped_running (suc n) (part ∷ parts) left p w = stopped_running n parts left (do_part part p) w
+
+pub noted_up : (m : ℕ) (p : Plain) (l : Ledger) → p.running ≡ Up → IsNotedAt m p.running p l
+noted_up m p l e = subst (λ r. IsNotedAt m r p l) (sym e) tt
 
 pub state_up : (p : Plain) → p.running ≡ Up → IsSound p → IsState p.running p
 state_up p e h = subst (λ r. IsState r p) (sym e) h
@@ -180,7 +187,7 @@ Deeded m given n l e actor call choice d =
 
 -- nothing happens
 pub nothing : (m : ℕ) (given : Ident → Bool) (n : Node) (l : Ledger) (own : Own) → IsAt m given n l → own.ends ≡ [] → Became m given n l (node_of n.manager own) l
-nothing m given n l own a e = became m given n l (node_of n.manager own) l a (calm_follows m given n.manager n.manager l a.fresh a.told (calm_none n.manager) refl) e a.state
+nothing m given n l own a e = became m given n l (node_of n.manager own) l a (calm_follows m given n.manager n.manager l a.fresh a.told (calm_none n.manager) refl) e a.state a.noted
 
 -- a step that runs or whose write is stopped, at a manager that is up
 pub parts_happen : (F : Type 0) {T : Type 0} (m : ℕ) (given : Ident → Bool) (n : Node) (l : Ledger) (own : Own) (post : T → List Did → Ledger → Ledger) (reply : T) (parts : List Part) → IsAt m given n l → n.manager.running ≡ Up → IsSound n.manager
@@ -188,16 +195,31 @@ pub parts_happen : (F : Type 0) {T : Type 0} (m : ℕ) (given : Ident → Bool) 
     → Became m given n l (node_of (do_all parts n.manager) own) (post reply (delta_of parts) (take_all_gone m (delta_of parts) l))
 parts_happen F {T} m given n l own post reply parts a up sound f k e =
     became m given n l (node_of (do_all parts n.manager) own) _ a f e (state_up (do_all parts n.manager) (parts_running parts n.manager ∙ up) (ends {F = F} (Do reply parts) Runs n.manager sound k))
+    (noted_up m (do_all parts n.manager) _ (parts_running parts n.manager ∙ up))
 
-pub stop_happens : (F : Type 0) {T : Type 0} (m : ℕ) (given : Ident → Bool) (n : Node) (l : Ledger) (own : Own) (e : Entry) (by_ : Stop) (reply : T) (parts : List Part) (part left : ℕ) → IsAt m given n l → IsSound n.manager
-    → StopFollows {F = F} m given n.manager l (Do reply parts) → AllKeep IsSound parts n.manager → IsWrite part parts → own.ends ≡ [] → e.effect.delta ≡ delta_before part parts
-    → Became m given n l (node_of (stopped_at part parts left n.manager) own) (cut m e l)
-stop_happens F m given n l own e by_ reply parts part left a sound f k w z same =
+pub stop_happens : (F : Type 0) {T : Type 0} (m : ℕ) (given : Ident → Bool) (n : Node) (l : Ledger) (own : Own) (e : Entry) (call : Call) (by_ : Stop) (reply : T) (parts : List Part) (part left : ℕ) → IsAt m given n l → IsSound n.manager
+    → StopFollows {F = F} m given n.manager l (Do reply parts) → AllKeep IsSound parts n.manager → StepNotes {F = F} {T = T} m call n.manager (Do reply parts) → IsWrite part parts → own.ends ≡ []
+    → Became m given n l (node_of (stopped_at part parts left n.manager) own) (cut m (entry_of e call (chances.Call (Stopped by_ part left)) (replies.Stopped by_) (delta_before part parts) []) l)
+stop_happens F m given n l own e call by_ reply parts part left a sound f k notes w z =
     let q : Plain = stopped_at part parts left n.manager in
-    let r = stopped_running part parts left n.manager w in
-    subst (λ ds. Became m given n l (node_of q own) (ledgers.with_users m (mark e) (ledgers.lose m (take_all_gone m ds l)))) (sym same)
-    (became_marked m given n l (node_of q own) (ledgers.lose m (take_all_gone m (delta_before part parts) l)) (mark e) (λ u. refl) (λ u. refl) a (f part left w) z
-    (state_down r.0 0 q r.1 (ends {F = F} (Do reply parts) (Stopped by_ part left) n.manager sound k)))
+    let down : q.running ≡ Down (note_at part parts) 0 = stopped_running part parts left n.manager w in
+    let entry : Entry = entry_of e call (chances.Call (Stopped by_ part left)) (replies.Stopped by_) (delta_before part parts) [] in
+    let lost : Ledger = ledgers.lose m (take_all_gone m (delta_before part parts) l) in
+    let follow : Follow m given n.manager l q lost = f part left w in
+    let moment : follow.told.users.moment ≡ n.manager.moment = (follow.kept a.timed.users follow.told.users a.timed.used follow.told.used).moment ∙ a.timed.moment in
+    let cut_ : (users_at m (ledgers.with_users m (mark entry) lost)).cut ≡ Some (record { entry = entry; moment = n.manager.moment }) =
+    ap (λ o. (ledgers.users_or o).cut) (here_changed m (mark entry) lost.users follow.told.users follow.told.used) ∙ ap (λ (t : ℕ). Some (record { entry = entry; moment = t })) moment in
+    became_marked m given n l (node_of q own) lost (mark entry) (λ u. refl) (λ u. refl) a follow z
+    (state_down (note_at part parts) 0 q down (ends {F = F} (Do reply parts) (Stopped by_ part left) n.manager sound k))
+    (subst (λ r. IsNotedAt m r q (ledgers.with_users m (mark entry) lost)) (sym down) (go (note_at part parts) refl cut_))
+  where
+    go : (o : Option Noted) → note_at part parts ≡ o
+        → (users_at m (ledgers.with_users m (mark (entry_of e call (chances.Call (Stopped by_ part left)) (replies.Stopped by_) (delta_before part parts) [])) (ledgers.lose m (take_all_gone m (delta_before part parts) l)))).cut
+        ≡ Some (record { entry = entry_of e call (chances.Call (Stopped by_ part left)) (replies.Stopped by_) (delta_before part parts) []; moment = n.manager.moment })
+        → IsNotedAt m (Down o 0) (stopped_at part parts left n.manager)
+        (ledgers.with_users m (mark (entry_of e call (chances.Call (Stopped by_ part left)) (replies.Stopped by_) (delta_before part parts) [])) (ledgers.lose m (take_all_gone m (delta_before part parts) l)))
+    go None is c = tt
+    go (Some noted) is c = (record { entry = entry_of e call (chances.Call (Stopped by_ part left)) (replies.Stopped by_) (delta_before part parts) []; moment = n.manager.moment }, c, notes part left e (chances.Call (Stopped by_ part left)) by_ (delta_before part parts) noted w is)
 
 -- a deed that is an answer alone
 pub quiet_happens : (m : ℕ) (given : Ident → Bool) (n : Node) (l : Ledger) (e : Entry) (actor : Actor) (call : Call) (choice : Choice) (reply : Reply) → IsAt m given n l
@@ -213,22 +235,21 @@ abbrev pub deed_of_parts : Option Reply → Reply → List Part → Own → Deed
 deed_of_parts w reply parts own = record { wanting = w; reply = reply; parts = parts; pushed = None; received = []; own = own }
 
 pub step_happens : (F : Type 0) {T : Type 0} (m : ℕ) (given : Ident → Bool) (n : Node) (l : Ledger) (e : Entry) (actor : Actor) (call : Call) (choice : Choice) (w : Option Reply) (f : T → Reply) (post : T → List Did → Ledger → Ledger) (reply : T) (parts : List Part)
-    → IsAt m given n l → n.manager.running ≡ Up → IsSound n.manager → StepFollows {F = F} m given n.manager l post (Do reply parts) → StopFollows {F = F} {T = T} m given n.manager l (Do reply parts) → AllKeep IsSound parts n.manager
+    → IsAt m given n l → n.manager.running ≡ Up → IsSound n.manager → StepFollows {F = F} m given n.manager l post (Do reply parts) → StopFollows {F = F} {T = T} m given n.manager l (Do reply parts) → AllKeep IsSound parts n.manager → StepNotes {F = F} {T = T} m call n.manager (Do reply parts)
     → ((ds : List Did) → posted m (entry_of e call (chances.Call Runs) (f reply) ds []) (f reply) l ≡ post reply ds (take_all_gone m ds l))
     → ((r : Reply) → w ≡ Some r → posted m (entry_of e call (chances.Call NoMemory) r [] []) r l ≡ l)
     → CanCome (deed_of_parts w (f reply) parts n.own) choice n → Deeded m given n l e actor call choice (deed_of_parts w (f reply) parts n.own)
-step_happens F m given n l e actor call Runs w f post reply parts a up sound follows stops keeps posts wants can =
+step_happens F m given n l e actor call Runs w f post reply parts a up sound follows stops keeps notes posts wants can =
     let own : Own = remembered actor call (f reply) (forgotten_rows (delta_of parts) n.own) in
     subst (λ k. Became m given n l (node_of (do_all parts n.manager) own) k) (sym (posts (delta_of parts)))
     (parts_happen F m given n l own post reply parts a up sound follows keeps (kept_ends actor call (f reply) (forgotten_rows (delta_of parts) n.own) a.ends))
-step_happens F m given n l e actor call NoMemory None f post reply parts a up sound follows stops keeps posts wants can = absurd can
-step_happens F m given n l e actor call NoMemory (Some r) f post reply parts a up sound follows stops keeps posts wants can =
+step_happens F m given n l e actor call NoMemory None f post reply parts a up sound follows stops keeps notes posts wants can = absurd can
+step_happens F m given n l e actor call NoMemory (Some r) f post reply parts a up sound follows stops keeps notes posts wants can =
     subst (λ k. Became m given n l (node_of n.manager (remembered actor call r n.own)) k) (sym (wants r refl))
     (nothing m given n l (remembered actor call r n.own) a (kept_ends actor call r n.own a.ends))
-step_happens F m given n l e actor call (Stopped by_ part left) w f post reply parts a up sound follows stops keeps posts wants can =
+step_happens F m given n l e actor call (Stopped by_ part left) w f post reply parts a up sound follows stops keeps notes posts wants can =
     let r : Reply = replies.Stopped by_ in
-    stop_happens F m given n l (remembered actor call r n.own) (entry_of e call (chances.Call (Stopped by_ part left)) r (delta_before part parts) []) by_ reply parts part left a sound stops keeps can.0
-    (kept_ends actor call r n.own a.ends) refl
+    stop_happens F m given n l (remembered actor call r n.own) e call by_ reply parts part left a sound stops keeps notes can.0 (kept_ends actor call r n.own a.ends)
 
 -- A call of a connection, at a manager that is down
 
@@ -244,22 +265,24 @@ pub down_refused : {T : Type 0} (hc : Hconn) (p : Plain) (f : Connection → Ste
 down_refused hc p f e = let d = connected_down hc p e in (d.0, ap (λ (r : Result Connection Reason). for_connection r f) d.1)
 
 -- what a step has where it isn't refused
-abbrev pub Fits : {F T : Type 0} → ℕ → (Ident → Bool) → Plain → Ledger → (T → List Did → Ledger → Ledger) → Step F T → Type 0
-Fits m given p l post (Refuse reason) = Unit {0}
-Fits {F} {T} m given p l post (Do reply parts) = (p.running ≡ Up) × IsSound p × StepFollows {F = F} m given p l post (Do reply parts) × StopFollows {F = F} {T = T} m given p l (Do reply parts) × AllKeep IsSound parts p
+abbrev pub Fits : {F T : Type 0} → ℕ → (Ident → Bool) → Plain → Ledger → (T → List Did → Ledger → Ledger) → Call → Step F T → Type 0
+Fits m given p l post call (Refuse reason) = Unit {0}
+Fits {F} {T} m given p l post call (Do reply parts) = (p.running ≡ Up) × IsSound p × StepFollows {F = F} m given p l post (Do reply parts) × StopFollows {F = F} {T = T} m given p l (Do reply parts) × AllKeep IsSound parts p × StepNotes {F = F} {T = T} m call p (Do reply parts)
 
-pub fits : {F T : Type 0} (m : ℕ) (given : Ident → Bool) (p : Plain) (l : Ledger) (post : T → List Did → Ledger → Ledger) (step : Step F T) → p.running ≡ Up → IsSound p → StepFollows m given p l post step → StopFollows m given p l step → StepKeeps IsSound step p → Fits m given p l post step
-fits m given p l post (Refuse reason) up sound f s k = tt
-fits m given p l post (Do reply parts) up sound f s k = (up, sound, f, s, k)
+pub fits : {F T : Type 0} (m : ℕ) (given : Ident → Bool) (p : Plain) (l : Ledger) (post : T → List Did → Ledger → Ledger) (call : Call) (step : Step F T) → p.running ≡ Up → IsSound p → StepFollows m given p l post step → StopFollows m given p l step → StepKeeps IsSound step p
+    → StepNotes m call p step → Fits m given p l post call step
+fits m given p l post call (Refuse reason) up sound f s k notes = tt
+fits m given p l post call (Do reply parts) up sound f s k notes = (up, sound, f, s, k, notes)
 
 -- by whether the manager is up
-pub fits_by : {F T : Type 0} (m : ℕ) (given : Ident → Bool) (p : Plain) (l : Ledger) (post : T → List Did → Ledger → Ledger) (step : Step F T) → IsState p.running p
-    → (IsSound p → StepFollows m given p l post step × StopFollows m given p l step × StepKeeps IsSound step p) → (is_up p.running ≡ false → (reason : F) × (step ≡ Refuse reason)) → Fits m given p l post step
-fits_by {F} {T} m given p l post step state up down = at p.running refl
+pub fits_by : {F T : Type 0} (m : ℕ) (given : Ident → Bool) (p : Plain) (l : Ledger) (post : T → List Did → Ledger → Ledger) (call : Call) (step : Step F T) → IsState p.running p
+    → (IsSound p → StepFollows m given p l post step × StopFollows m given p l step × StepKeeps IsSound step p) → (IsSound p → StepKeeps IsSound step p → StepNotes m call p step)
+    → (is_up p.running ≡ false → (reason : F) × (step ≡ Refuse reason)) → Fits m given p l post call step
+fits_by {F} {T} m given p l post call step state up notes down = at p.running refl
   where
-    at : (r : Running) → p.running ≡ r → Fits m given p l post step
-    at Up e = let sound : IsSound p = subst (λ r. IsState r p) e state in let k = up sound in fits m given p l post step e sound k.0 k.1 k.2
-    at (Down noted starts) e = let d = down (ap is_up e) in subst (λ (z : Step F T). Fits m given p l post z) (sym d.1) tt
+    at : (r : Running) → p.running ≡ r → Fits m given p l post call step
+    at Up e = let sound : IsSound p = subst (λ r. IsState r p) e state in let k = up sound in fits m given p l post call step e sound k.0 k.1 k.2 (notes sound k.2)
+    at (Down noted starts) e = let d = down (ap is_up e) in subst (λ (z : Step F T). Fits m given p l post call z) (sym d.1) tt
 
 abbrev pub reply_or : Reply → Option Reply → Reply
 reply_or r None = r
@@ -267,18 +290,18 @@ reply_or r (Some x) = x
 
 -- MQI calls
 pub mqi_happens : {T : Type 0} (m : ℕ) (given : Ident → Bool) (n : Node) (l : Ledger) (e : Entry) (actor : Actor) (call : Call) (choice : Choice) (f : Answer T → Reply) (post : Answer T → List Did → Ledger → Ledger) (step : Step Reason (Answer T)) → IsAt m given n l
-    → Fits m given n.manager l post step
+    → Fits m given n.manager l post call step
     → ((answer : Answer T) (c : Choice) (ds : List Did) → posted m (entry_of e call (chances.Call c) (f answer) ds []) (f answer) l ≡ post answer ds (take_all_gone m ds l)) → ((reason : Reason) → post (answers.Failed reason) [] l ≡ l)
     → CanCome (mqi_deed f n.own step) choice n → Deeded m given n l e actor call choice (mqi_deed f n.own step)
 mqi_happens m given n l e actor call choice f post (Refuse reason) a fit posts none can = quiet_happens m given n l e actor call choice (f (answers.Failed reason)) a (λ c. posts (answers.Failed reason) c [] ∙ none reason) can
 mqi_happens m given n l e actor call choice f post (Do reply parts) a fit posts none can =
-    step_happens Reason m given n l e actor call choice (Some (f (answers.Failed reasons.StorageNotAvailable))) f post reply parts a fit.0 fit.1 fit.2 fit.3 fit.4 (λ ds. posts reply Runs ds)
+    step_happens Reason m given n l e actor call choice (Some (f (answers.Failed reasons.StorageNotAvailable))) f post reply parts a fit.0 fit.1 fit.2 fit.3 fit.4 fit.5 (λ ds. posts reply Runs ds)
     (λ r z. ap (λ (o : Option Reply). posted m (entry_of e call (chances.Call NoMemory) (reply_or r o) [] []) (reply_or r o) l) (sym z) ∙ posts (answers.Failed reasons.StorageNotAvailable) NoMemory [] ∙ none reasons.StorageNotAvailable) can
 
 pub ended_happens : {T : Type 0} (m : ℕ) (given : Ident → Bool) (n : Node) (l : Ledger) (e : Entry) (actor : Actor) (call : Call) (choice : Choice) (f : Answer T → Reply) (post : Answer T → List Did → Ledger → Ledger) (step : Step Reason (Answer T)) → IsAt m given n l
-    → Fits m given n.manager l post step
+    → Fits m given n.manager l post call step
     → ((answer : Answer T) (c : Choice) (ds : List Did) → posted m (entry_of e call (chances.Call c) (f answer) ds []) (f answer) l ≡ post answer ds (take_all_gone m ds l)) → ((reason : Reason) → post (answers.Failed reason) [] l ≡ l)
     → CanCome (ended_deed f n.own step) choice n → Deeded m given n l e actor call choice (ended_deed f n.own step)
 ended_happens m given n l e actor call choice f post (Refuse reason) a fit posts none can = quiet_happens m given n l e actor call choice (f (answers.Failed reason)) a (λ c. posts (answers.Failed reason) c [] ∙ none reason) can
 ended_happens m given n l e actor call choice f post (Do reply parts) a fit posts none can =
-    step_happens Reason m given n l e actor call choice None f post reply parts a fit.0 fit.1 fit.2 fit.3 fit.4 (λ ds. posts reply Runs ds) (λ r z. absurd cc) can
+    step_happens Reason m given n l e actor call choice None f post reply parts a fit.0 fit.1 fit.2 fit.3 fit.4 fit.5 (λ ds. posts reply Runs ds) (λ r z. absurd cc) can

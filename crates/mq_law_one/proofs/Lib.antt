@@ -1,5 +1,6 @@
 pub mod Known
 pub mod Happening
+pub mod Noting
 pub mod Calls
 pub mod Acting
 pub mod Handling

@@ -29,7 +29,7 @@ use Rattle.mq_spec_node.specs.Happens.{get_deed, trigger_deed, event, IsEvent, I
 use Rattle.mq_spec_node.specs.Replays.{Tells, NoneForeign, IsOwn, done_by, opening_node}
 use Rattle.mq_spec_network.specs.Apart.{maker}
 use Rattle.mq_spec_network.specs.Given.{surroundings, ends_from}
-use Rattle.mq_spec_network.specs.Ledger.{Ledger, ledger, posted}
+use Rattle.mq_spec_network.specs.Ledger.{Ledger, ledger, posted, users_at, users_or}
 use Rattle.mq_spec_network.specs.Order.{AllInOrderFrom, OrderAt, unit_received, forced_in, Forced}
 use Rattle.mq_spec_network.specs.Promised.{Premises, Promised}
 use Rattle.mq_spec_network.specs.Standing.{node_after, managers_at, opening_managers, opening_ledger, places_of, stored_standing}
@@ -46,13 +46,13 @@ use Rattle.mq_law_manager.specs.Facts.{AreNamed}
 use Rattle.mq_law_manager.proofs.Ending.{first_sound}
 use Rattle.mq_law_events.specs.Tied.{AreShelved, IsElse, IsNext}
 use Rattle.mq_law_events.proofs.Stepping.{moves_on}
-use Rattle.mq_law_one.specs.Alone.{IsAlone, FindsNone, AllFindNone, NoneFound, AreDoubtsKnown, IsState, IsAt, Became}
+use Rattle.mq_law_one.specs.Alone.{IsAlone, IsState, IsNotedAt, IsAt, Became}
 use Rattle.mq_law_one.proofs.Known.{known_own}
 use Rattle.mq_law_one.proofs.Happening.{entry_of}
 use Rattle.mq_law_one.proofs.Calls.{Happens, conn_happens, disc_happens, open_happens, close_happens, put_happens, put1_happens, get_happens, commit_happens, back_happens}
 use Rattle.mq_law_one.proofs.Acting.{no_deed, turn_none, timeout_none, command_happens, operate_happens, status_happens, crash_happens, restart_happens, aside_happens, clock_happens, trigger_happens}
 use Rattle.mq_law_one.proofs.Handling.{turn_happens}
-use Rattle.mq_law_one.proofs.Deltas.{event_quiet}
+use Rattle.mq_law_one.proofs.Deltas.{IsNoteQuiet, event_quiet}
 
 -- Each event
 
@@ -60,74 +60,79 @@ never_restart : (d : Option Deed) (choice : Return) (n : Node) → IsDeed d (cha
 never_restart None choice n z = z
 never_restart (Some d) choice n z = z
 
-happens : (m : ℕ) (given : Ident → Bool) (n : Node) (l : Ledger) (e : Entry) (stamp : ℕ) (actor : Actor) (call : Call) (chance : Chance) (seen : Seen) → IsAt m given n l → IsEvent stamp actor call chance seen n → IsOwn chance → FindsNone chance
+happens : (m : ℕ) (given : Ident → Bool) (n : Node) (l : Ledger) (e : Entry) (stamp : ℕ) (actor : Actor) (call : Call) (chance : Chance) (seen : Seen) → IsAt m given n l → IsEvent stamp actor call chance seen n → IsOwn chance
     → Happens m given n l e stamp actor call chance seen
-happens m given n l e stamp actor (calls.Mqconn qmgr appl) (chances.Call choice) seen a can own none = conn_happens m given n l e actor choice qmgr appl a can
-happens m given n l e stamp actor (calls.Mqconn qmgr appl) (chances.Restart choice) seen a can own none = absurd can
-happens m given n l e stamp actor (calls.Mqconn qmgr appl) (chances.Foreign image length left) seen a can own none = absurd can
-happens m given n l e stamp actor (calls.Mqdisc hc) (chances.Call choice) seen a can own none = disc_happens m given n l e actor choice hc a can
-happens m given n l e stamp actor (calls.Mqdisc hc) (chances.Restart choice) seen a can own none = absurd can
-happens m given n l e stamp actor (calls.Mqdisc hc) (chances.Foreign image length left) seen a can own none = absurd can
-happens m given n l e stamp actor (calls.Mqopen hc name qmgr how) (chances.Call choice) seen a can own none = open_happens m given n l e actor choice hc name qmgr how a can
-happens m given n l e stamp actor (calls.Mqopen hc name qmgr how) (chances.Restart choice) seen a can own none = absurd can
-happens m given n l e stamp actor (calls.Mqopen hc name qmgr how) (chances.Foreign image length left) seen a can own none = absurd can
-happens m given n l e stamp actor (calls.Mqclose hc ho) (chances.Call choice) seen a can own none = close_happens m given n l e actor choice hc ho a can
-happens m given n l e stamp actor (calls.Mqclose hc ho) (chances.Restart choice) seen a can own none = absurd can
-happens m given n l e stamp actor (calls.Mqclose hc ho) (chances.Foreign image length left) seen a can own none = absurd can
-happens m given n l e stamp actor (calls.Mqput hc ho md body sync) (chances.Call choice) seen a can own none = put_happens m given n l e actor choice hc ho md body sync a can
-happens m given n l e stamp actor (calls.Mqput hc ho md body sync) (chances.Restart choice) seen a can own none = absurd can
-happens m given n l e stamp actor (calls.Mqput hc ho md body sync) (chances.Foreign image length left) seen a can own none = absurd can
-happens m given n l e stamp actor (calls.Mqput1 hc name qmgr md body sync) (chances.Call choice) seen a can own none = put1_happens m given n l e actor choice hc name qmgr md body sync a can
-happens m given n l e stamp actor (calls.Mqput1 hc name qmgr md body sync) (chances.Restart choice) seen a can own none = absurd can
-happens m given n l e stamp actor (calls.Mqput1 hc name qmgr md body sync) (chances.Foreign image length left) seen a can own none = absurd can
-happens m given n l e stamp actor (calls.Mqget hc ho get until) (chances.Call choice) seen a can own none = get_happens m given n l e actor choice hc ho get until a can
-happens m given n l e stamp actor (calls.Mqget hc ho get until) (chances.Restart choice) seen a can own none = absurd (no_restart (get_deed n.own (mqget hc ho get until n.manager)) can)
+happens m given n l e stamp actor (calls.Mqconn qmgr appl) (chances.Call choice) seen a can own = conn_happens m given n l e actor choice qmgr appl a can
+happens m given n l e stamp actor (calls.Mqconn qmgr appl) (chances.Restart choice) seen a can own = absurd can
+happens m given n l e stamp actor (calls.Mqconn qmgr appl) (chances.Foreign image length left) seen a can own = absurd can
+happens m given n l e stamp actor (calls.Mqdisc hc) (chances.Call choice) seen a can own = disc_happens m given n l e actor choice hc a can
+happens m given n l e stamp actor (calls.Mqdisc hc) (chances.Restart choice) seen a can own = absurd can
+happens m given n l e stamp actor (calls.Mqdisc hc) (chances.Foreign image length left) seen a can own = absurd can
+happens m given n l e stamp actor (calls.Mqopen hc name qmgr how) (chances.Call choice) seen a can own = open_happens m given n l e actor choice hc name qmgr how a can
+happens m given n l e stamp actor (calls.Mqopen hc name qmgr how) (chances.Restart choice) seen a can own = absurd can
+happens m given n l e stamp actor (calls.Mqopen hc name qmgr how) (chances.Foreign image length left) seen a can own = absurd can
+happens m given n l e stamp actor (calls.Mqclose hc ho) (chances.Call choice) seen a can own = close_happens m given n l e actor choice hc ho a can
+happens m given n l e stamp actor (calls.Mqclose hc ho) (chances.Restart choice) seen a can own = absurd can
+happens m given n l e stamp actor (calls.Mqclose hc ho) (chances.Foreign image length left) seen a can own = absurd can
+happens m given n l e stamp actor (calls.Mqput hc ho md body sync) (chances.Call choice) seen a can own = put_happens m given n l e actor choice hc ho md body sync a can
+happens m given n l e stamp actor (calls.Mqput hc ho md body sync) (chances.Restart choice) seen a can own = absurd can
+happens m given n l e stamp actor (calls.Mqput hc ho md body sync) (chances.Foreign image length left) seen a can own = absurd can
+happens m given n l e stamp actor (calls.Mqput1 hc name qmgr md body sync) (chances.Call choice) seen a can own = put1_happens m given n l e actor choice hc name qmgr md body sync a can
+happens m given n l e stamp actor (calls.Mqput1 hc name qmgr md body sync) (chances.Restart choice) seen a can own = absurd can
+happens m given n l e stamp actor (calls.Mqput1 hc name qmgr md body sync) (chances.Foreign image length left) seen a can own = absurd can
+happens m given n l e stamp actor (calls.Mqget hc ho get until) (chances.Call choice) seen a can own = get_happens m given n l e actor choice hc ho get until a can
+happens m given n l e stamp actor (calls.Mqget hc ho get until) (chances.Restart choice) seen a can own = absurd (no_restart (get_deed n.own (mqget hc ho get until n.manager)) can)
   where
     no_restart : (d : Option Deed) → IsDeed d (chances.Restart choice) n → ⊥
     no_restart None z = z
     no_restart (Some d) z = z
-happens m given n l e stamp actor (calls.Mqget hc ho get until) (chances.Foreign image length left) seen a can own none = absurd own
-happens m given n l e stamp actor (calls.Mqcmit hc) (chances.Call choice) seen a can own none = commit_happens m given n l e actor choice hc a can
-happens m given n l e stamp actor (calls.Mqcmit hc) (chances.Restart choice) seen a can own none = absurd can
-happens m given n l e stamp actor (calls.Mqcmit hc) (chances.Foreign image length left) seen a can own none = absurd can
-happens m given n l e stamp actor (calls.Mqback hc) (chances.Call choice) seen a can own none = back_happens m given n l e actor choice hc a can
-happens m given n l e stamp actor (calls.Mqback hc) (chances.Restart choice) seen a can own none = absurd can
-happens m given n l e stamp actor (calls.Mqback hc) (chances.Foreign image length left) seen a can own none = absurd can
-happens m given n l e stamp actor (calls.Act (acts.Obey (lines.Objects c))) (chances.Call choice) seen a can own none = command_happens m given n l e actor choice c a can
-happens m given n l e stamp actor (calls.Act (acts.Obey (lines.Operate op))) (chances.Call choice) seen a can own none = operate_happens m given n l e actor choice op a can
-happens m given n l e stamp actor (calls.Act (acts.Obey (lines.ShowStatus name any_end))) (chances.Call choice) seen a can own none = status_happens m given n l e actor choice name any_end a can
-happens m given n l e stamp actor (calls.Act (acts.Obey c)) (chances.Restart choice) seen a can own none = absurd can
-happens m given n l e stamp actor (calls.Act (acts.Obey c)) (chances.Foreign image length left) seen a can own none = absurd can
-happens m given n l e stamp actor (calls.Act acts.Crash) chance seen a can own none = crash_happens m given n l e stamp actor chance seen a can
-happens m given n l e stamp actor (calls.Act acts.Restart) chance seen a can own none = restart_happens m given n l e stamp actor chance seen a can own none
-happens m given n l e stamp actor (calls.Act (acts.Cut k)) (chances.Call choice) seen a can own none = aside_happens m given n l n.own n.manager.running (record n.manager.log { armed = k }) a a.ends refl
-happens m given n l e stamp actor (calls.Act (acts.Cut k)) (chances.Restart choice) seen a can own none = absurd can
-happens m given n l e stamp actor (calls.Act (acts.Cut k)) (chances.Foreign image length left) seen a can own none = absurd can
-happens m given n l e stamp actor (calls.Act (acts.Clock by_)) (chances.Call choice) seen a can own none = clock_happens m given n l by_ a
-happens m given n l e stamp actor (calls.Act (acts.Clock by_)) (chances.Restart choice) seen a can own none = absurd can
-happens m given n l e stamp actor (calls.Act (acts.Clock by_)) (chances.Foreign image length left) seen a can own none = absurd can
-happens m given n l e stamp (actors.Handler number) calls.Turn (chances.Call choice) seen a can own none = turn_happens m given n l e (actors.Handler number) choice n.manager.running (handler_in number n.own.handlers) a refl can
-happens m given n l e stamp (actors.Sender k) calls.Turn (chances.Call choice) seen a can own none = absurd (no_deed n.manager.running (turn_up stamp (actors.Sender k) seen n) (chances.Call choice) n (turn_none stamp (actors.Sender k) seen n a.ends (λ j e. cc)) can)
-happens m given n l e stamp (actors.Receiver k) calls.Turn (chances.Call choice) seen a can own none = absurd (no_deed n.manager.running (turn_up stamp (actors.Receiver k) seen n) (chances.Call choice) n (turn_none stamp (actors.Receiver k) seen n a.ends (λ j e. cc)) can)
-happens m given n l e stamp (actors.Script k) calls.Turn (chances.Call choice) seen a can own none = absurd (no_deed n.manager.running None (chances.Call choice) n refl can)
-happens m given n l e stamp (actors.Monitor k) calls.Turn (chances.Call choice) seen a can own none = absurd (no_deed n.manager.running None (chances.Call choice) n refl can)
-happens m given n l e stamp actors.Operator calls.Turn (chances.Call choice) seen a can own none = absurd (no_deed n.manager.running None (chances.Call choice) n refl can)
-happens m given n l e stamp actors.Clock calls.Turn (chances.Call choice) seen a can own none = absurd (no_deed n.manager.running None (chances.Call choice) n refl can)
-happens m given n l e stamp actor calls.Turn (chances.Restart choice) seen a can own none = absurd (never_restart (where_up n.manager.running (turn_up stamp actor seen n)) choice n can)
-happens m given n l e stamp actor calls.Turn (chances.Foreign image length left) seen a can own none = absurd own
-happens m given n l e stamp actor calls.Timeout chance seen a can own none = absurd (no_deed n.manager.running (timeout_by actor n) chance n (timeout_none actor n a.ends) can)
-happens m given n l e stamp actor calls.Trigger (chances.Call choice) seen a can own none = trigger_happens m given n l e stamp actor choice seen a can
-happens m given n l e stamp actor calls.Trigger (chances.Restart choice) seen a can own none = absurd (no_restart (trigger_deed n) can)
+happens m given n l e stamp actor (calls.Mqget hc ho get until) (chances.Foreign image length left) seen a can own = absurd own
+happens m given n l e stamp actor (calls.Mqcmit hc) (chances.Call choice) seen a can own = commit_happens m given n l e actor choice hc a can
+happens m given n l e stamp actor (calls.Mqcmit hc) (chances.Restart choice) seen a can own = absurd can
+happens m given n l e stamp actor (calls.Mqcmit hc) (chances.Foreign image length left) seen a can own = absurd can
+happens m given n l e stamp actor (calls.Mqback hc) (chances.Call choice) seen a can own = back_happens m given n l e actor choice hc a can
+happens m given n l e stamp actor (calls.Mqback hc) (chances.Restart choice) seen a can own = absurd can
+happens m given n l e stamp actor (calls.Mqback hc) (chances.Foreign image length left) seen a can own = absurd can
+happens m given n l e stamp actor (calls.Act (acts.Obey (lines.Objects c))) (chances.Call choice) seen a can own = command_happens m given n l e actor choice c a can
+happens m given n l e stamp actor (calls.Act (acts.Obey (lines.Operate op))) (chances.Call choice) seen a can own = operate_happens m given n l e actor choice op a can
+happens m given n l e stamp actor (calls.Act (acts.Obey (lines.ShowStatus name any_end))) (chances.Call choice) seen a can own = status_happens m given n l e actor choice name any_end a can
+happens m given n l e stamp actor (calls.Act (acts.Obey c)) (chances.Restart choice) seen a can own = absurd can
+happens m given n l e stamp actor (calls.Act (acts.Obey c)) (chances.Foreign image length left) seen a can own = absurd can
+happens m given n l e stamp actor (calls.Act acts.Crash) chance seen a can own = crash_happens m given n l e stamp actor chance seen a can
+happens m given n l e stamp actor (calls.Act acts.Restart) chance seen a can own = restart_happens m given n l e stamp actor chance seen a can own
+happens m given n l e stamp actor (calls.Act (acts.Cut k)) (chances.Call choice) seen a can own = aside_happens m given n l n.own n.manager.running (record n.manager.log { armed = k }) a a.ends refl a.noted
+happens m given n l e stamp actor (calls.Act (acts.Cut k)) (chances.Restart choice) seen a can own = absurd can
+happens m given n l e stamp actor (calls.Act (acts.Cut k)) (chances.Foreign image length left) seen a can own = absurd can
+happens m given n l e stamp actor (calls.Act (acts.Clock by_)) (chances.Call choice) seen a can own = clock_happens m given n l by_ a
+happens m given n l e stamp actor (calls.Act (acts.Clock by_)) (chances.Restart choice) seen a can own = absurd can
+happens m given n l e stamp actor (calls.Act (acts.Clock by_)) (chances.Foreign image length left) seen a can own = absurd can
+happens m given n l e stamp (actors.Handler number) calls.Turn (chances.Call choice) seen a can own = turn_happens m given n l e (actors.Handler number) choice n.manager.running (handler_in number n.own.handlers) a refl can
+happens m given n l e stamp (actors.Sender k) calls.Turn (chances.Call choice) seen a can own = absurd (no_deed n.manager.running (turn_up stamp (actors.Sender k) seen n) (chances.Call choice) n (turn_none stamp (actors.Sender k) seen n a.ends (λ j e. cc)) can)
+happens m given n l e stamp (actors.Receiver k) calls.Turn (chances.Call choice) seen a can own = absurd (no_deed n.manager.running (turn_up stamp (actors.Receiver k) seen n) (chances.Call choice) n (turn_none stamp (actors.Receiver k) seen n a.ends (λ j e. cc)) can)
+happens m given n l e stamp (actors.Script k) calls.Turn (chances.Call choice) seen a can own = absurd (no_deed n.manager.running None (chances.Call choice) n refl can)
+happens m given n l e stamp (actors.Monitor k) calls.Turn (chances.Call choice) seen a can own = absurd (no_deed n.manager.running None (chances.Call choice) n refl can)
+happens m given n l e stamp actors.Operator calls.Turn (chances.Call choice) seen a can own = absurd (no_deed n.manager.running None (chances.Call choice) n refl can)
+happens m given n l e stamp actors.Clock calls.Turn (chances.Call choice) seen a can own = absurd (no_deed n.manager.running None (chances.Call choice) n refl can)
+happens m given n l e stamp actor calls.Turn (chances.Restart choice) seen a can own = absurd (never_restart (where_up n.manager.running (turn_up stamp actor seen n)) choice n can)
+happens m given n l e stamp actor calls.Turn (chances.Foreign image length left) seen a can own = absurd own
+happens m given n l e stamp actor calls.Timeout chance seen a can own = absurd (no_deed n.manager.running (timeout_by actor n) chance n (timeout_none actor n a.ends) can)
+happens m given n l e stamp actor calls.Trigger (chances.Call choice) seen a can own = trigger_happens m given n l e stamp actor choice seen a can
+happens m given n l e stamp actor calls.Trigger (chances.Restart choice) seen a can own = absurd (no_restart (trigger_deed n) can)
   where
     no_restart : (d : Option Deed) → IsDeed d (chances.Restart choice) n → ⊥
     no_restart None z = z
     no_restart (Some d) z = z
-happens m given n l e stamp actor calls.Trigger (chances.Foreign image length left) seen a can own none = absurd own
+happens m given n l e stamp actor calls.Trigger (chances.Foreign image length left) seen a can own = absurd own
 
 -- The other managers stay
 
 other_number : (i : Ident) (a m k : ℕ) (t : Bool) → (a == m) ≡ false → k ≡ m + 1 → ((i.manager == a + 1) && t) ≡ true → (i.manager == k) ≡ false
 other_number i a m k t ne e u = grind (arith, nat_tests)
+
+elsewhere_noted : (a : ℕ) (r : Running) (p : Plain) (l k : Ledger) → (users_at a k).cut ≡ (users_at a l).cut → IsNotedAt a r p l → IsNotedAt a r p k
+elsewhere_noted a Up p l k e h = tt
+elsewhere_noted a (Down None starts) p l k e h = tt
+elsewhere_noted a (Down (Some n) starts) p l k e h = (h.0, e ∙ h.1, h.2)
 
 stays_at : (m a : ℕ) (given now : Ident → Bool) (n c : Node) (l k : Ledger) → (a == m) ≡ false → IsAt a given c l → n.manager.given.number ≡ m + 1 → ((i : Ident) → (i.manager == n.manager.given.number) ≡ false → now i ≡ given i) → IsElse m l k → IsAt a now c k
 stays_at m a given now n c l k ne at number known other = record {
@@ -138,6 +143,7 @@ stays_at m a given now n c l k ne at number known other = record {
   batches = at.batches;
   timed = record { users = at.timed.users; used = other.users a ne ∙ at.timed.used; moment = at.timed.moment };
   state = at.state;
+  noted = elsewhere_noted a c.manager.running c.manager l k (ap (λ o. (users_or o).cut) (other.users a ne)) at.noted;
 }
 
 -- A prefix
@@ -169,11 +175,6 @@ own_of [] e none n = absurd n
 own_of (x ∷ es) e none (inl z) = subst (λ (y : Entry). IsOwn y.chance) (sym z) none.0
 own_of (x ∷ es) e none (inr n) = own_of es e none.1 n
 
-found_of : (es : List Entry) (e : Entry) → AllFindNone es → Mem e es → FindsNone e.chance
-found_of [] e none n = absurd n
-found_of (x ∷ es) e none (inl z) = subst (λ (y : Entry). FindsNone y.chance) (sym z) none.0
-found_of (x ∷ es) e none (inr n) = found_of es e none.1 n
-
 -- an entry of the prefix, and its event
 record Told_ (s : Scenario) (hs : List History) (p : List Line) (x : Line) : Type 0 where
   h : History
@@ -181,13 +182,12 @@ record Told_ (s : Scenario) (hs : List History) (p : List Line) (x : Line) : Typ
   stamp : ℕ
   tells : Tells (node_after s x.manager p h) stamp x.entry
   own : IsOwn x.entry.chance
-  none : FindsNone x.entry.chance
 
-told_of : (s : Scenario) (hs : List History) (p : List Line) (x : Line) (rest : List Line) → Premises s hs → NoneFound hs → IsStory hs (p ++ x ∷ rest) → Told_ s hs p x
-told_of s hs p x rest premises found story =
+told_of : (s : Scenario) (hs : List History) (p : List Line) (x : Line) (rest : List Line) → Premises s hs → IsStory hs (p ++ x ∷ rest) → Told_ s hs p x
+told_of s hs p x rest premises story =
     let k = history_of hs x p rest story in
     let t = story_tells s hs p x rest k.0 story k.1 (premises.lawful.histories x.manager k.0 k.1).replays.follows in
-    record { h = k.0; is = k.1; stamp = t.0; tells = t.1; own = own_of k.0.entries x.entry (premises.own x.manager k.0 k.1) k.2; none = found_of k.0.entries x.entry (found x.manager k.0 k.1) k.2 }
+    record { h = k.0; is = k.1; stamp = t.0; tells = t.1; own = own_of k.0.entries x.entry (premises.own x.manager k.0 k.1) k.2 }
 
 step : (s : Scenario) (hs : List History) (p : List Line) (x : Line) → Stand s hs p → Told_ s hs p x → Stand s hs (p ++ x ∷ [])
 step s hs p x z t =
@@ -199,7 +199,7 @@ step s hs p x z t =
     let a = z.at m t.h t.is in
     let k : Ledger = posted m e e.reply l in
     let b : Became m z.given n l next k = subst (λ y. Became m z.given n l next y) (λ i. posted m (entry_of e e.call e.chance (sym t.tells.reply i) (sym t.tells.delta i) (sym t.tells.received i)) (sym t.tells.reply i) l)
-    (happens m z.given n l e e.stamp e.actor e.call e.chance e.effect.popped a t.tells.event t.own t.none) in
+    (happens m z.given n l e e.stamp e.actor e.call e.chance e.effect.popped a t.tells.event t.own) in
     let whole : k ≡ ledger (opening_ledger s hs) (p ++ x ∷ []) = sym (ledger_step (opening_ledger s hs) p x) in
     let at_next : IsNext m n.manager next.manager (managers_at s p hs) (managers_at s (p ++ x ∷ []) hs) = record {
       at = manager_at s p hs m ∙ ap (option_map (λ (h : History). (node_after s m p h).manager)) t.is;
@@ -248,8 +248,8 @@ not_given i m n e = grind (arith, nat_tests)
 is_maker : (i : Ident) (m : ℕ) (t : Bool) → ((i.manager == m + 1) && t) ≡ true → i.manager ≡ suc m
 is_maker i m t e = grind (arith, nat_tests)
 
-begins : (s : Scenario) (hs : List History) → IsAlone s → AreDoubtsKnown hs → Premises s hs → Stand s hs []
-begins s hs alone doubts premises =
+begins : (s : Scenario) (hs : List History) → IsAlone s → Premises s hs → Stand s hs []
+begins s hs alone premises =
     let ps : List Plain = opening_managers s hs in
     record {
       given = is_given ps;
@@ -264,7 +264,7 @@ begins s hs alone doubts premises =
             told = record {
               places = places_of s ps p;
               placed = mapped_at (places_of s ps) ps m p at;
-              shelved = opening_shelved s ps p p.queues (first_sound (surroundings s m).given h.opening h.length h.moment (premises.openings m h is) (record { rows = known_own s hs m h is premises.openings premises.joined.together; doubts = doubts m h is })).named;
+              shelved = opening_shelved s ps p p.queues (first_sound (surroundings s m).given h.opening h.length h.moment (premises.openings m h is) (record { rows = known_own s hs m h is premises.openings premises.joined.together; doubts = premises.known m h is })).named;
               name = refl;
               definitions = refl;
               users = record { moment = p.moment; connections = []; cut = None };
@@ -276,7 +276,8 @@ begins s hs alone doubts premises =
             ends = ap (λ cs. map (end_begun p) (ends_from s m 0 cs)) alone;
             batches = refl;
             timed = record { users = record { moment = p.moment; connections = []; cut = None }; used = mapped_at (λ (p : Plain). record { moment = p.moment; connections = []; cut = None }) ps m p at; moment = refl };
-            state = first_sound (surroundings s m).given h.opening h.length h.moment (premises.openings m h is) (record { rows = known_own s hs m h is premises.openings premises.joined.together; doubts = doubts m h is });
+            state = first_sound (surroundings s m).given h.opening h.length h.moment (premises.openings m h is) (record { rows = known_own s hs m h is premises.openings premises.joined.together; doubts = premises.known m h is });
+            noted = tt;
           };
     }
 
@@ -290,42 +291,47 @@ none_more : {A : Type 0} (xs : List A) → xs ++ [] ≡ xs
 none_more [] = refl
 none_more (x ∷ xs) = ap (λ ys. x ∷ ys) (none_more xs)
 
-stands : (s : Scenario) (hs : List History) (before p rest : List Line) → Premises s hs → NoneFound hs → IsStory hs (before ++ (p ++ rest)) → Stand s hs before → Stand s hs (before ++ p)
-stands s hs before [] rest premises found story z = subst (Stand s hs) (sym (none_more before)) z
-stands s hs before (x ∷ p) rest premises found story z =
-    let t = told_of s hs before x (p ++ rest) premises found story in
+stands : (s : Scenario) (hs : List History) (before p rest : List Line) → Premises s hs → IsStory hs (before ++ (p ++ rest)) → Stand s hs before → Stand s hs (before ++ p)
+stands s hs before [] rest premises story z = subst (Stand s hs) (sym (none_more before)) z
+stands s hs before (x ∷ p) rest premises story z =
+    let t = told_of s hs before x (p ++ rest) premises story in
     subst (Stand s hs) (one_more before x p)
-    (stands s hs (before ++ x ∷ []) p rest premises found (subst (IsStory hs) (sym (one_more before x (p ++ rest))) story) (step s hs before x z t))
+    (stands s hs (before ++ x ∷ []) p rest premises (subst (IsStory hs) (sym (one_more before x (p ++ rest))) story) (step s hs before x z t))
+
+quiet_note : (m : ℕ) (r : Running) (p : Plain) (l : Ledger) → IsNotedAt m r p l → IsNoteQuiet r
+quiet_note m Up p l h = tt
+quiet_note m (Down None starts) p l h = tt
+quiet_note m (Down (Some n) starts) p l h = h.2.quiet
 
 -- no receiver commits
-orders : (s : Scenario) (hs : List History) (before p rest : List Line) (fs : List Forced) → Premises s hs → NoneFound hs → IsStory hs (before ++ (p ++ rest)) → Stand s hs before → AllInOrderFrom fs (ledger (opening_ledger s hs) before) p
-orders s hs before [] rest fs premises found story z = tt
-orders s hs before (x ∷ p) rest fs premises found story z =
-    let t = told_of s hs before x (p ++ rest) premises found story in
+orders : (s : Scenario) (hs : List History) (before p rest : List Line) (fs : List Forced) → Premises s hs → IsStory hs (before ++ (p ++ rest)) → Stand s hs before → AllInOrderFrom fs (ledger (opening_ledger s hs) before) p
+orders s hs before [] rest fs premises story z = tt
+orders s hs before (x ∷ p) rest fs premises story z =
+    let t = told_of s hs before x (p ++ rest) premises story in
     let n : Node = node_after s x.manager before t.h in
     let l : Ledger = ledger (opening_ledger s hs) before in
     let a = z.at x.manager t.h t.is in
-    let quiet : unit_received x.entry.effect.delta ≡ None = ap unit_received t.tells.delta ∙ event_quiet n x.entry.stamp x.entry.actor x.entry.call x.entry.chance x.entry.effect.popped a.ends t.tells.event t.own t.none in (
+    let quiet : unit_received x.entry.effect.delta ≡ None = ap unit_received t.tells.delta ∙ event_quiet n x.entry.stamp x.entry.actor x.entry.call x.entry.chance x.entry.effect.popped a.ends t.tells.event t.own (quiet_note x.manager n.manager.running n.manager l a.noted) in (
       subst (λ o. OrderAt o fs x l (posted x.manager x.entry x.entry.reply l)) (sym quiet) tt,
       subst (λ y. AllInOrderFrom (forced_in x.entry fs) y p) (ledger_step (opening_ledger s hs) before x)
-          (orders s hs (before ++ x ∷ []) p rest (forced_in x.entry fs) premises found (subst (IsStory hs) (sym (one_more before x (p ++ rest))) story) (step s hs before x z t)),
+          (orders s hs (before ++ x ∷ []) p rest (forced_in x.entry fs) premises (subst (IsStory hs) (sym (one_more before x (p ++ rest))) story) (step s hs before x z t)),
     )
 
 named : (r : Running) (p : Plain) → IsState r p → AreNamed p.queues
 named Up p h = h.named
 named (Down noted starts) p h = h.named
 
-pub promised : (s : Scenario) (hs : List History) → IsAlone s → NoneFound hs → AreDoubtsKnown hs → Promised s hs
-promised s hs alone found doubts premises story p rest is_story split no_conflict =
+pub promised : (s : Scenario) (hs : List History) → IsAlone s → Promised s hs
+promised s hs alone premises story p rest is_story split no_conflict =
     let whole : IsStory hs (p ++ rest) = subst (IsStory hs) split is_story in
-    let first : Stand s hs [] = begins s hs alone doubts premises in
-    let z : Stand s hs p = stands s hs [] p rest premises found whole first in
+    let first : Stand s hs [] = begins s hs alone premises in
+    let z : Stand s hs p = stands s hs [] p rest premises whole first in
     let operated : IsOperated s hs p z.ghost = record { resolved = λ m c u e. absurd (true_false (sym e ∙ z.calm m c u)); not_yet = λ m c u e. absurd (true_false (sym e ∙ z.calm m c u)) } in
     record {
       rows = rows_promised s hs p z.given z.ghost z.inv no_conflict operated;
       once = once_promised s z.given (managers_at s p hs) z.ghost (book_of (ledger (opening_ledger s hs) p)) z.inv (λ m q e. at_manager z m q (slice_get hs m) refl (sym (manager_at s p hs m) ∙ e));
       got_once = z.inv.got_once;
-      order = orders s hs [] p rest [] premises found whole first;
+      order = orders s hs [] p rest [] premises whole first;
     }
   where
     at_manager : Stand s hs p → (m : ℕ) (q : Plain) (o : Option History) → slice_get hs m ≡ o → option_map (λ (h : History). (node_after s m p h).manager) o ≡ Some q → AreNamed q.queues

@@ -5,10 +5,10 @@ ghost use Rattle.mq_history.specs.declared.history.History.{History};
 ghost use Rattle.mq_history.specs.declared.scenario.Scenario.{Scenario};
 ghost use Rattle.std.specs.Prelude.{List};
 ghost use Rattle.mq_spec_network.specs.Promised.{Promised};
-ghost use Rattle.mq_law_one.specs.Alone.{AreDoubtsKnown, IsAlone, NoneFound};
+ghost use Rattle.mq_law_one.specs.Alone.{IsAlone};
 
-/// Where the scenario has no channel, and no restart finds a stopped write: after each prefix the standing
-/// rows of each queue are the ledger's, list for list; each ident stands once, and is in at most one committed get.
+/// Where the scenario has no channel: after each prefix the standing rows of each queue are the ledger's, list for list; each
+/// ident stands once, and is in at most one committed get.
 pub fn managers_alone_are_as_promised()
-    ensures { (s : Scenario) (hs : List History) → IsAlone s → NoneFound hs → AreDoubtsKnown hs → Promised s hs }
+    ensures { (s : Scenario) (hs : List History) → IsAlone s → Promised s hs }
 {}

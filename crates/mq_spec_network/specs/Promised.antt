@@ -1,6 +1,8 @@
 -- What is promised of a lawful story of a joined network.
-use Rattle.std.specs.Prelude.{◌≡◌, ℕ, false, List, ◌++◌, Some, slice_get, flat_map, map}
+use Rattle.std.specs.Prelude.{◌≡◌, ◌+◌, All, ℕ, false, List, ◌++◌, Some, slice_get, flat_map, map}
 use Rattle.mq_spec_network.specs.Terms.{Ident, Row, same_ident, History, Scenario, IsScenario, Plain, Queue, IsImage}
+use Rattle.mq_spec_state.specs.State.{SenderSide}
+use Rattle.mq_spec_state.specs.Recovery.{IsDoubtKnown}
 use Rattle.mq_spec_network.specs.Story.{Line, Chain, IsStory}
 use Rattle.mq_spec_network.specs.Ledger.{ledger, ledger_rows}
 use Rattle.mq_spec_network.specs.Standing.{standing, standing_in, managers_at, opening_ledger, rows_told}
@@ -32,11 +34,17 @@ pub record Holds (s : Scenario) (hs : List History) (p : List Line) : Type 0 whe
 abbrev pub AreImages : List History → Type 0
 AreImages hs = (m : ℕ) (h : History) → slice_get hs m ≡ Some h → IsImage h.opening
 
+-- Each log knew the incarnations of its manager's own idents that its units in doubt list. (Of those of rows the check that logs
+-- belong together says so.)
+abbrev pub AreDoubtsKnown : List History → Type 0
+AreDoubtsKnown hs = (m : ℕ) (h : History) → slice_get hs m ≡ Some h → All (λ (s : SenderSide). IsDoubtKnown (m + 1) h.opening.incarnation s.hardened.in_doubt) h.opening.senders
+
 -- What it is promised of: a lawful story of a scenario, begun with images of logs that belong together, over disks that tell
 -- their bytes.
 pub record Premises (s : Scenario) (hs : List History) : Type 0 where
   pub scenario : IsScenario s
   pub openings : AreImages hs
+  pub known : AreDoubtsKnown hs
   pub joined : IsJoined s hs
   pub lawful : IsLawful s hs
   pub own : AreOwn hs

@@ -12,4 +12,4 @@ pub use Rattle.mq_spec_network.specs.ScriptLines.{lines_left, call_next, at_most
 pub use Rattle.mq_spec_network.specs.Tasks.{Slot, Trying, Task, obey_all, clocks_from, clocks, moment_of, obey_section, run_script, handle_with, watch_by, serve_by, try_one, try_all, finish, tasks_of, restarts_from, tasks_next}
 pub use Rattle.mq_spec_network.specs.Steps.{Is, IsNext, Waits, PhaseLine, InPhase, AllInPhase, Turn, turn_in, pushed_of, popped_by, TakesTurn, PumpTakes, pump_on, next_round, PumpSkips, handler_idle, serves_nothing, MonitorGets, scripts_at, begun, is_watching, opens, gives_up, is_cut, once_more, Moves, left_by, Passes, none_due, Served, Goes, AreTriggers}
 pub use Rattle.mq_spec_network.specs.Lawful.{IsHistory, IsCarried, ScriptIs, marks_or, marks_at, node_begun, network_begun, handles_idle, ends_idle, mark_of, Went, Stands, IsFar, AreSteps, IsLawful, AreOwn, IsDone}
-pub use Rattle.mq_spec_network.specs.Promised.{AreDistinct, standing_on, all_standing, Holds, AreImages, Premises, Promised}
+pub use Rattle.mq_spec_network.specs.Promised.{AreDistinct, standing_on, all_standing, Holds, AreImages, AreDoubtsKnown, Premises, Promised}
