@@ -1,11 +1,11 @@
 -- Parts of a call, one behind the other: what was done, and how the call ends.
-use Rattle.std.proofs.Common.{◌≡◌, ℕ, zero, suc, ◌+◌, ◌-◌, ◌<◌, ◌≤◌, true, List, [], ◌∷◌, ◌++◌, append_assoc, refl, ap, arith, sym, subst, ◌∙◌}
-use Rattle.std.specs.Prelude.{Option, Some, None, Result, Ok, Err}
+use Rattle.std.proofs.Common.{◌≡◌, ℕ, zero, suc, ◌+◌, ◌-◌, ◌<◌, ◌≤◌, List, [], ◌∷◌, ◌++◌, append_assoc, refl, ap, arith, sym, subst, ◌∙◌}
+use Rattle.std.specs.Prelude.{Some, None, Ok, Err}
 use Rattle.mq_base.specs.Outside.{Rose}
 use Rattle.mq_disk.specs.declared.cutter.Stop.{Stop}
 use Rattle.mq_disk.specs.declared.cutter.Stop.TheVariants as stops
 use Rattle.mq_calls.specs.declared.commands.Halt.TheVariants as halts
-use Rattle.mq_spec_state.specs.Words.{Reason, Did, Part, Plain, Step, Do, Refuse, ManagerValue, Meets, MeetsDone, untouched, IsWrite, StopsAt, do_all, do_part, delta_of, delta_before, stopped_at, write_calls, calls_of, calls_at, calls_before}
+use Rattle.mq_spec_state.specs.Words.{Reason, Did, Part, Plain, Do, ManagerValue, Meets, IsWrite, StopsAt, do_all, do_part, delta_of, delta_before, stopped_at, write_calls, calls_at, calls_before}
 use Rattle.mq_get.specs.Does.{HasRun, HasBroken}
 
 -- the number of a part behind others

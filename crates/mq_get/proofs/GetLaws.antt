@@ -1,6 +1,6 @@
 -- What a get comes to, told by what is kept of the rows that it meets and finds.
-use Rattle.std.proofs.Common.{◌≡◌, ℕ, ◌+◌, ◌<◌, ◌≤◌, ◌^◌, Bool, true, false, cond, List, [], ◌∷◌, ◌++◌, length, refl, ap, arith, sym, subst, ◌∙◌}
-use Rattle.std.specs.Prelude.{Option, Some, None, Result, Ok, Err, IsSome, map, not, ◌&&◌}
+use Rattle.std.proofs.Common.{◌≡◌, ℕ, ◌<◌, ◌^◌, Bool, true, false, cond, List, [], ◌∷◌, ◌++◌, refl, ap, arith, sym, subst, ◌∙◌}
+use Rattle.std.specs.Prelude.{Option, Some, None, Result, Ok, Err, IsSome, map}
 use Rattle.std.specs.Option.{option_map}
 use Rattle.std.proofs.lemmas.Bool.Decides.{nat_tests}
 use Rattle.std.proofs.lemmas.List.{length-map}
@@ -11,17 +11,14 @@ use Rattle.mq_calls.specs.declared.deltas.Why.{Why}
 use Rattle.mq_calls.specs.declared.deltas.Why.TheVariants as whys
 use Rattle.mq_calls.specs.declared.deltas.Did.TheVariants as did
 use Rattle.mq_spec_state.specs.State.Change.{Leave, SetCursor}
-use Rattle.mq_spec_state.specs.Words.{Reason, Ident, Did, Get, GetAnswer, Handle, Hconn, Hobj, Row, Remove, Connection, Plain, Step, Part, Among, Refuse, Do, refusal, refused_or, is_persistent, is_full, is_up, silent, connection_at, handle_at}
+use Rattle.mq_spec_state.specs.Words.{Reason, Ident, Did, Get, GetAnswer, Handle, Hconn, Hobj, Row, Remove, Connection, Plain, Step, Part, Among, Refuse, Do, refusal, refused_or, is_persistent, is_full, silent, handle_at}
 use Rattle.mq_spec_manager.specs.Get.{removes_of, idents_of}
-use Rattle.mq_spec_manager.specs.Words.{Scan, connected, for_connection, for_handle, live_or, queue_at, is_destructive, is_under, is_left, is_too_long, got, got_answer, is_waiting, without_row, with_row, found_part, taking_part, persistent_rows, expired_need, scan_need, scanned, get_tests, get_found, get_scanned, get_handle, get_up, mqget, removal_record, removal_part, removal_parts, expired_parts}
-use Rattle.mq_scan.specs.declared.scanning.Met.{Met}
+use Rattle.mq_spec_manager.specs.Words.{Scan, connected, for_connection, for_handle, live_or, queue_at, is_destructive, is_under, is_left, is_too_long, got, got_answer, is_waiting, without_row, with_row, found_part, taking_part, persistent_rows, expired_need, scan_need, get_tests, get_found, get_scanned, get_handle, get_up, mqget, removal_record, removal_part, removal_parts, expired_parts}
 use Rattle.mq_scan.specs.Scans.{met_of}
-use Rattle.mq_core.specs.Views.{PartsValue, plain_of}
-use Rattle.mq_core.specs.Calls.{IsReached, at_number}
+use Rattle.mq_core.specs.Calls.{IsReached}
 use Rattle.mq_get.specs.declared.refusals.Aim.{Aim}
-use Rattle.mq_get.specs.declared.finding.Hit.{Hit}
 use Rattle.mq_get.specs.Leaving.{leaving_record, leaving_need, met_ident, removes_met, gone_part, gone_parts}
-use Rattle.mq_get.specs.Gets.{aim_of, look, hit_of, hit_part, hit_step, taken_part, plan_step, aimed, get_at, Looks, CanLook, Gets, CanGet}
+use Rattle.mq_get.specs.Gets.{aim_of, look, hit_of, hit_part, hit_step, taken_part, plan_step, aimed, Looks, Gets}
 
 deltas_met : (why : Why) (queue : List ℕ) (rows : List Row) → map (λ (row : Row). did.Removed queue row.message.ident why) rows ≡ map (λ (i : Ident). did.Removed queue i why) (map met_ident (map met_of rows))
 deltas_met why queue [] = refl

@@ -1,11 +1,9 @@
 -- A get that holds a row for a unit: from the item that waits to the row that is held, or to the item that is given up.
-use Rattle.std.proofs.Common.{◌≡◌, ℕ, zero, suc, ◌+◌, ◌-◌, ◌<◌, ◌≤◌, Bool, true, false, cond, List, [], ◌∷◌, ◌++◌, length, refl, ap, arith, sym, subst, ◌∙◌}
-use Rattle.std.specs.Prelude.{Option, Some, None, Result, Ok, Err, map, ◌==◌}
+use Rattle.std.proofs.Common.{◌≡◌, ℕ, ◌+◌, ◌-◌, ◌≤◌, Bool, true, false, cond, List, [], ◌∷◌, ◌++◌, length, refl, ap, arith, sym, subst, ◌∙◌}
+use Rattle.std.specs.Prelude.{Option, Some, None, Err, map, ◌==◌}
 use Rattle.mq_disk.specs.declared.cutter.Stop.{Stop}
-use Rattle.mq_spec_state.specs.Words.{Ident, Remove, Did, Part, Plain, Item, Among, Connection, ManagerValue, LogRecord, held_in, kept_in, connection_at, change_connection, unit_need, do_part, logged, forced_calls, delta_of}
+use Rattle.mq_spec_state.specs.Words.{Ident, Remove, Did, Plain, Item, Among, Connection, ManagerValue, LogRecord, held_in, kept_in, connection_at, change_connection, unit_need, logged, forced_calls, delta_of}
 use Rattle.mq_calls.specs.declared.state.Item.TheVariants.{Take}
-use Rattle.mq_calls.specs.declared.records.LogRecord.TheVariants as records
-use Rattle.mq_calls.specs.declared.deltas.Did.TheVariants as did
 use Rattle.mq_calls.specs.declared.deltas.Why.TheVariants as whys
 use Rattle.mq_message.specs.declared.place.Holder.TheVariants as holders
 use Rattle.mq_log.specs.State.{LogState}
@@ -20,12 +18,12 @@ use Rattle.mq_core.specs.Forced.{HasMoreRoom}
 use Rattle.mq_core.proofs.PutLaws.{tied_roomier, roomier_view}
 use Rattle.mq_get.specs.declared.leaving.Leaving.{Leaving}
 use Rattle.mq_get.specs.Leaving.{leaving_record, leaving_need, leaving_part, leaving_met, gone_part, gone_parts, held_part}
-use Rattle.mq_get.specs.Rooms.{IsRoomy, IsItemMore, IsHeld, IsUnheld, Writes, holding, unheld, gave_back}
+use Rattle.mq_get.specs.Rooms.{IsRoomy, IsItemMore, IsHeld, IsUnheld, Writes, unheld, gave_back}
 use Rattle.mq_get.specs.Does.{seen, HasRun, HasBroken, IsCutOff}
 use Rattle.mq_get.proofs.DoesLaws.{run_both, broken_front}
 use Rattle.mq_get.proofs.OutLaws.{dropped_runs, stopped_breaks, stopped_tied, gone_runs, gone_breaks, tied_back}
 use Rattle.mq_get.proofs.HoldLaws.{tied_roomy, roomy_view, tied_item, tied_held, held_view, item_view}
-use Rattle.mq_get.proofs.PathLaws.{After, dropped_after, drop_body, roomy_reserved, roomy_up}
+use Rattle.mq_get.proofs.PathLaws.{dropped_after, drop_body, roomy_reserved, roomy_up}
 
 -- an item that waited and is given up
 gave_up : (number : ℕ) (item : Item) (cs : List Connection) → change_connection number given_up (change_connection number (pended item) cs) ≡ cs

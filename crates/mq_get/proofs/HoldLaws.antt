@@ -1,40 +1,24 @@
 -- A row that is held for a unit: from the item that waits to the row that is held.
-use Rattle.std.proofs.Common.{◌≡◌, ℕ, zero, suc, ◌+◌, ◌-◌, ◌<◌, ◌≤◌, ◌^◌, Bool, true, false, cond, List, [], ◌∷◌, ◌++◌, length, refl, ap, arith, sym, subst, ◌∙◌}
-use Rattle.std.proofs.lemmas.List.{append-nil}
+use Rattle.std.proofs.Common.{◌≡◌, ℕ, zero, suc, ◌+◌, ◌<◌, ◌≤◌, ◌^◌, Bool, true, false, cond, List, [], ◌∷◌, ◌++◌, refl, ap, arith, sym, subst, ◌∙◌}
 use Rattle.std.proofs.lemmas.List.Sums.{sum_by_push}
 use Rattle.std.proofs.lemmas.List.Recursion.{is_count_by}
 use Rattle.std.proofs.lemmas.Bool.Decides.{nat_tests}
-use Rattle.std.specs.Prelude.{Option, Some, None, Result, Ok, Err, IsSome, IfSome, map, sum_by, count_by, ◌==◌, ◌&&◌}
-use Rattle.mq_disk.specs.declared.cutter.Stop.{Stop}
+use Rattle.std.specs.Prelude.{Some, map, sum_by, count_by, ◌==◌, ◌&&◌}
 use Rattle.mq_spec_state.specs.State.{Queue as StateQueue}
-use Rattle.mq_spec_state.specs.Words.{Ident, Did, Part, Plain, Row, Item, Among, Connection, ManagerValue, LogRecord, retag, held_in, retag_if, selects, is_free, has_ident, unit_need, more_need, item_bytes, with_head, connection_at, change_connection, do_part, do_all, logged, forced_calls, puts_to, same_ident, Running}
+use Rattle.mq_spec_state.specs.Words.{Ident, Plain, Row, Item, Among, Connection, retag, held_in, retag_if, selects, is_free, has_ident, unit_need, more_need, item_bytes, with_head, connection_at, change_connection, same_ident, Running}
 use Rattle.mq_spec_state.specs.Reads.{is_put_to}
 use Rattle.mq_calls.specs.declared.state.Item.TheVariants.{Put, Take}
-use Rattle.mq_calls.specs.declared.deltas.Did.TheVariants as did
-use Rattle.mq_calls.specs.declared.deltas.Why.TheVariants as whys
 use Rattle.mq_message.specs.declared.place.Holder.{Holder}
 use Rattle.mq_message.specs.declared.place.Holder.TheVariants as holders
-use Rattle.mq_log.specs.State.{LogState}
-use Rattle.mq_record.specs.Room.{Buffered}
 use Rattle.mq_unit.specs.Forced.{CanBeForced}
-use Rattle.mq_handles.specs.Desks.{Desk}
-use Rattle.mq_handles.specs.Seats.{pended, given_up}
-use Rattle.mq_place.specs.States.{QueueState, queues_of, on_queue, on_queues}
-use Rattle.mq_scan.specs.declared.scanning.Met.{Met}
+use Rattle.mq_handles.specs.Seats.{pended}
+use Rattle.mq_place.specs.States.{queues_of, on_queues}
 use Rattle.mq_core.specs.Views.{PartsValue, plain_of, frozen_of}
-use Rattle.mq_core.specs.Ties.{Tied, TiedBut, needs, waits, one_if, state_lanes, pending_at, times_in_rows, times_in_queues, times_in_unit, times_in_units, mode_is_up, AreForced}
-use Rattle.mq_core.specs.Placing.{with_states}
-use Rattle.mq_core.specs.Forced.{IsForced, HasMoreRoom, returned}
+use Rattle.mq_core.specs.Ties.{Tied, one_if, state_lanes, pending_at, times_in_rows, times_in_queues, times_in_unit, mode_is_up}
 use Rattle.mq_core.proofs.ForceLaws.{queues_on, seen_on, times_on}
-use Rattle.mq_core.proofs.MeetLaws.{changed_view, running_up}
+use Rattle.mq_core.proofs.MeetLaws.{running_up}
 use Rattle.mq_core.proofs.PendLaws.{sum_changed, times_units_changed, forced_changed, unit_le}
-use Rattle.mq_core.proofs.SeatLaws.{number_is}
-use Rattle.mq_get.specs.declared.leaving.Leaving.{Leaving}
-use Rattle.mq_get.specs.Leaving.{leaving_record, leaving_need, leaving_part, leaving_met, gone_part, gone_parts, held_part}
-use Rattle.mq_get.specs.Rooms.{IsRoomy, IsItemMore, IsDropped, IsHeld, IsUnheld, Writes, holding, unheld, gave_back, out_of, downed_out}
-use Rattle.mq_get.specs.Does.{seen, HasRun, HasBroken}
-use Rattle.mq_get.proofs.OutLaws.{Wrote, wrote, out_view, tied_out, dropped_runs, stopped_breaks, stopped_tied, gone_runs, gone_breaks, tied_back}
-use Rattle.mq_get.proofs.DoesLaws.{run_both, broken_front}
+use Rattle.mq_get.specs.Rooms.{IsRoomy, IsItemMore, holding}
 
 -- what a held row needs
 head_more : (s b : ℕ) → 0 < b → with_head (s + b) ≡ with_head s + cond (s == 0) (14 + b) b

@@ -1,29 +1,26 @@
 -- Rows that leave a queue: what is written, what is seen, what ties the parts.
 use Rattle.std.proofs.Common.{◌≡◌, ℕ, zero, suc, ◌+◌, ◌-◌, ◌<◌, ◌≤◌, Bool, true, false, cond, List, [], ◌∷◌, ◌++◌, length, refl, ap, arith, sym, subst, ◌∙◌}
 use Rattle.std.proofs.lemmas.List.{append-nil}
-use Rattle.std.specs.Prelude.{Option, Some, None, Result, Ok, Err, map, not, ◌&&◌}
+use Rattle.std.specs.Prelude.{Some, None, Ok, Err, map, not, ◌&&◌}
 use Rattle.std.specs.Str.{bytes_eq}
 use Rattle.mq_base.specs.Outside.{Rose}
 use Rattle.mq_disk.specs.declared.cutter.Stop.{Stop}
-use Rattle.mq_disk.specs.declared.cutter.Stop.TheVariants as stops
 use Rattle.mq_spec_state.specs.State.{Queue as StateQueue}
-use Rattle.mq_spec_state.specs.Words.{Ident, Remove, Row, Did, Part, Plain, ManagerValue, Among, keep, kept_in, selects, need, logged, apply_all, do_part, do_all, forced_calls, note_of, freeze, LogRecord, StopsAt, IsWrite}
+use Rattle.mq_spec_state.specs.Words.{Ident, Remove, Row, Did, Plain, ManagerValue, Among, keep, kept_in, selects, logged, forced_calls, note_of, freeze, StopsAt, IsWrite}
 use Rattle.mq_calls.specs.declared.deltas.Why.{Why}
 use Rattle.mq_calls.specs.declared.deltas.Did.TheVariants as did
 use Rattle.mq_calls.specs.declared.records.LogRecord.TheVariants as records
 use Rattle.mq_log.specs.State.{LogState}
-use Rattle.mq_place.specs.States.{QueueState, queues_of, on_queue, on_queues}
+use Rattle.mq_place.specs.States.{queues_of, on_queues}
 use Rattle.mq_scan.specs.declared.scanning.Met.{Met}
 use Rattle.mq_unit.specs.Told.{Telling}
 use Rattle.mq_core.specs.declared.parts.StoppedWrite.TheVariants as writes
 use Rattle.mq_core.specs.Views.{PartsValue, plain_of}
-use Rattle.mq_core.specs.Ties.{Tied, TiedBut, state_lanes, pending_at, times_in_queues, mode_is_up}
-use Rattle.mq_core.specs.Placing.{with_states}
-use Rattle.mq_core.specs.Forced.{IsForced}
+use Rattle.mq_core.specs.Ties.{Tied, state_lanes, pending_at, times_in_queues, mode_is_up}
 use Rattle.mq_core.proofs.ForceLaws.{queues_on, seen_on, times_on, times_keep, forced_view, frozen_view, tied_downed, stops_at}
 use Rattle.mq_get.specs.declared.leaving.Leaving.{Leaving}
-use Rattle.mq_get.specs.Leaving.{leaving_record, leaving_need, leaving_part, leaving_met, gone_part, gone_parts}
-use Rattle.mq_get.specs.Rooms.{Writes, out_of, downed_out, IsDropped, IsStopped, gave_back}
+use Rattle.mq_get.specs.Leaving.{leaving_record, leaving_need, leaving_part, gone_part, gone_parts}
+use Rattle.mq_get.specs.Rooms.{Writes, out_of, downed_out, IsDropped, gave_back}
 use Rattle.mq_get.specs.Does.{seen, HasRun, HasBroken}
 
 with_queues : Plain → List StateQueue → Plain

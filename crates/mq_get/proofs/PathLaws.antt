@@ -1,17 +1,15 @@
 -- The ways of a get, from the room that it takes to its answer.
-use Rattle.std.proofs.Common.{◌≡◌, ℕ, zero, suc, ◌+◌, ◌-◌, ◌<◌, ◌≤◌, ◌^◌, Bool, true, false, cond, List, [], ◌∷◌, ◌++◌, length, refl, ap, arith, sym, subst, ◌∙◌}
+use Rattle.std.proofs.Common.{◌≡◌, ℕ, ◌+◌, ◌<◌, ◌≤◌, Bool, true, false, cond, List, [], ◌∷◌, ◌++◌, length, refl, ap, arith, sym, subst, ◌∙◌}
 use Rattle.std.proofs.lemmas.List.{append-nil, length-map}
-use Rattle.std.specs.Prelude.{Option, Some, None, Result, Ok, Err, map}
+use Rattle.std.specs.Prelude.{Some, None, Result, Ok, Err}
 use Rattle.mq_disk.specs.declared.cutter.Stop.{Stop}
 use Rattle.mq_calls.specs.declared.commands.Halt.{Halt}
 use Rattle.mq_calls.specs.declared.commands.Halt.TheVariants as halts
-use Rattle.mq_calls.specs.declared.deltas.Did.TheVariants as did
 use Rattle.mq_calls.specs.declared.deltas.Why.{Why}
 use Rattle.mq_calls.specs.declared.deltas.Why.TheVariants as whys
 use Rattle.mq_message.specs.declared.place.Place.{Place}
 use Rattle.mq_spec_state.specs.State.Change.{SetCursor}
-use Rattle.mq_spec_state.specs.Words.{Reason, Ident, Remove, Did, Part, Plain, Step, Do, Refuse, Connection, ManagerValue, Meets, Wants, MeetsAs, untouched, silent, connection_at, change_connection, with_connection, apply_all}
-use Rattle.mq_spec_state.specs.Meeting.Wants.{Behind}
+use Rattle.mq_spec_state.specs.Words.{Reason, Remove, Did, Part, Do, Connection, ManagerValue, Meets, silent, connection_at, change_connection, with_connection}
 use Rattle.mq_scan.specs.declared.scanning.Met.{Met}
 use Rattle.mq_record.specs.Room.{Buffered}
 use Rattle.mq_unit.specs.Told.{Telling}
@@ -25,11 +23,11 @@ use Rattle.mq_core.proofs.MeetLaws.{changed_view}
 use Rattle.mq_core.proofs.SeatLaws.{tied_seated, unit_kept, number_is}
 use Rattle.mq_get.specs.declared.leaving.Leaving.{Leaving}
 use Rattle.mq_get.specs.Leaving.{leaving_need, leaving_part, leaving_met, met_ident, removes_met, gone_part, gone_parts}
-use Rattle.mq_get.specs.Rooms.{IsRoomy, IsDropped, IsStopped, Drops, Writes, gave_back, out_of}
-use Rattle.mq_get.specs.Does.{seen, stop_of, HasRun, HasBroken, IsCleared, IsWanting, IsCutOff, Halts, Clears, AreDropped, AreStopped, DropsBoth}
+use Rattle.mq_get.specs.Rooms.{IsRoomy, IsDropped, IsStopped, Drops, gave_back}
+use Rattle.mq_get.specs.Does.{seen, stop_of, HasRun, HasBroken, IsCleared, IsWanting, IsCutOff, Halts, AreDropped, AreStopped, DropsBoth}
 use Rattle.mq_get.specs.Does.AreStopped.{First, Then}
-use Rattle.mq_get.proofs.DoesLaws.{run_both, broken_behind, broken_front, run_meets, broken_meets}
-use Rattle.mq_get.proofs.OutLaws.{Wrote, wrote, tied_out, dropped_runs, stopped_breaks, stopped_tied, gone_runs, gone_breaks, tied_back}
+use Rattle.mq_get.proofs.DoesLaws.{run_both, broken_behind, broken_front, broken_meets}
+use Rattle.mq_get.proofs.OutLaws.{wrote, tied_out, dropped_runs, stopped_breaks, stopped_tied, gone_runs, gone_breaks, tied_back}
 use Rattle.mq_get.proofs.HoldLaws.{tied_roomy, roomy_view}
 
 -- rows have left, and what was beside them

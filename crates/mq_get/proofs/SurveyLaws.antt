@@ -1,14 +1,14 @@
 -- What a survey counts: the expired rows that last.
-use Rattle.std.proofs.Common.{◌≡◌, ℕ, ◌+◌, ◌*◌, ◌<◌, ◌≤◌, Bool, true, false, cond, List, [], ◌∷◌, length, refl, ap, arith, sym, subst, ◌∙◌}
-use Rattle.std.specs.Prelude.{Option, Some, None, filter}
+use Rattle.std.proofs.Common.{◌≡◌, ℕ, ◌+◌, ◌*◌, ◌<◌, ◌≤◌, Bool, true, false, cond, List, [], ◌∷◌, length, refl, ap, arith, sym, ◌∙◌}
+use Rattle.std.specs.Prelude.{Option, Some, None}
 use Rattle.std.proofs.lemmas.Bool.Decides.{nat_tests}
 use Rattle.mq_message.specs.declared.place.Place.{Place}
 use Rattle.mq_calls.specs.declared.answers.Take.{Take}
 use Rattle.mq_calls.specs.declared.answers.Take.TheVariants as takes
 use Rattle.mq_spec_state.specs.State.{Queue as StateQueue}
-use Rattle.mq_spec_state.specs.Words.{Row, Get, Plain, Connection, is_persistent, is_full, stored}
+use Rattle.mq_spec_state.specs.Words.{Row, Get, Plain, Connection, is_persistent, is_full}
 use Rattle.mq_spec_manager.specs.Words.{Scan, looked_at, asked, scan, persistent_rows, expired_need, found_need, scan_need}
-use Rattle.mq_place.specs.States.{QueueState, queues_of, state_in}
+use Rattle.mq_place.specs.States.{QueueState, state_in}
 use Rattle.mq_scan.specs.Scans.{scan_of}
 use Rattle.mq_core.specs.Views.{PartsValue, plain_of}
 use Rattle.mq_core.proofs.PlaceLaws.{queue_in_state}

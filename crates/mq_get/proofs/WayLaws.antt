@@ -1,6 +1,6 @@
 -- Which way a get goes.
-use Rattle.std.proofs.Common.{◌≡◌, ℕ, ◌<◌, Bool, true, false, cond, List, [], ◌∷◌, ◌++◌, refl, ap, arith, sym, subst, ◌∙◌}
-use Rattle.std.specs.Prelude.{Option, Some, None, Result, Ok, Err, IsSome, map, not, ◌&&◌}
+use Rattle.std.proofs.Common.{◌≡◌, ℕ, ◌<◌, Bool, true, false, cond, List, [], ◌∷◌, ◌++◌, refl, ap, sym, subst, ◌∙◌}
+use Rattle.std.specs.Prelude.{Option, Some, None, Result, Ok, Err, map, not, ◌&&◌}
 use Rattle.std.specs.Option.{option_map}
 use Rattle.mq_calls.specs.declared.answers.Got.{Got}
 use Rattle.mq_calls.specs.declared.answers.GetAnswer.TheVariants.{NotYet, Done}
@@ -10,8 +10,8 @@ use Rattle.mq_calls.specs.declared.deltas.Why.TheVariants as whys
 use Rattle.mq_codes.specs.declared.reason.Reason.TheVariants as reasons
 use Rattle.mq_calls.specs.declared.answers.Answer.TheVariants as answers
 use Rattle.mq_spec_state.specs.State.Change.{SetCursor}
-use Rattle.mq_spec_state.specs.Words.{Reason, Answer, Get, GetAnswer, Connection, Plain, Step, Part, Do, Refuse, ManagerValue, Meets, MeetsAs, untouched, silent, connection_at}
-use Rattle.mq_spec_manager.specs.Words.{Scan, got_answer, is_destructive, is_under, is_waiting, without_row, live_or, for_connection, persistent_rows, expired_need}
+use Rattle.mq_spec_state.specs.Words.{Reason, Answer, Get, GetAnswer, Connection, Plain, Step, Part, Do, Refuse, ManagerValue, Meets, untouched, silent, connection_at}
+use Rattle.mq_spec_manager.specs.Words.{got_answer, is_destructive, is_under, is_waiting, without_row, live_or, for_connection, persistent_rows, expired_need}
 use Rattle.mq_scan.specs.declared.scanning.Met.{Met}
 use Rattle.mq_scan.specs.Scans.{met_of}
 use Rattle.mq_core.proofs.SeatLaws.{number_is}

@@ -1,7 +1,5 @@
-use Rattle.std.proofs.Common.{◌≡◌, refl}
-use Rattle.std.specs.Prelude.{None}
+use Rattle.std.proofs.Common.{refl}
 use Rattle.mq_calls.specs.declared.deltas.Why.TheVariants as whys
-use Rattle.mq_get.specs.Does.{seen}
 use Rattle.mq_get.specs.Leaving.{gone_parts}
 use Rattle.mq_get.proofs.DoesLaws.{run_meets}
 use Rattle.mq_get.proofs.PathLaws.{halt_meets, halt_tied}

@@ -1,6 +1,3 @@
-use Rattle.std.specs.Prelude.{Ok, Err}
-use Rattle.mq_disk.specs.declared.cutter.Stop.{Stop}
-use Rattle.mq_get.specs.Does.{DropsBoth}
 use Rattle.mq_get.proofs.PathLaws.{both_dropped}
 use Rattle.mq_get.proofs.getting.drop_both.Goals as goal
 

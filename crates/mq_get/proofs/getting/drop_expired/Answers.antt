@@ -1,9 +1,4 @@
-use Rattle.std.proofs.Common.{◌≡◌, ℕ, ◌+◌, ◌<◌, ◌≤◌, List, length, sym, ap, subst, ◌∙◌, arith}
-use Rattle.mq_spec_state.specs.Words.{Ident}
-use Rattle.mq_scan.specs.declared.scanning.Met.{Met}
-use Rattle.mq_core.specs.Views.{PartsValue}
-use Rattle.mq_get.specs.declared.leaving.Leaving.{Leaving}
-use Rattle.mq_get.specs.Leaving.{leaving_need}
+use Rattle.std.proofs.Common.{◌∙◌, arith}
 use Rattle.mq_get.proofs.PathLaws.{more_same, cleared, cut_off, roomy_live, leaving_short, leaving_long, drop_body}
 use Rattle.mq_get.proofs.getting.drop_expired.Goals as goal
 

@@ -1,4 +1,4 @@
-use Rattle.std.proofs.Common.{◌≡◌, refl, sym, ap, ◌∙◌}
+use Rattle.std.proofs.Common.{sym, ◌∙◌}
 use Rattle.mq_get.proofs.WayLaws.{hit_left, hit_fits}
 use Rattle.mq_get.proofs.getting.get_found.Goals as goal
 

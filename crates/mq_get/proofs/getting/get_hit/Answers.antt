@@ -1,4 +1,4 @@
-use Rattle.std.proofs.Common.{◌≡◌, ℕ, Bool, List, [], ◌∷◌, ◌++◌, refl, sym, ap, subst, ◌∙◌}
+use Rattle.std.proofs.Common.{sym, ◌∙◌}
 use Rattle.mq_get.proofs.WayLaws.{hit_browsed, hit_held, hit_taken}
 use Rattle.mq_get.proofs.getting.get_hit.Goals as goal
 

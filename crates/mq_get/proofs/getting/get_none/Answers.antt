@@ -1,4 +1,4 @@
-use Rattle.std.proofs.Common.{◌≡◌, refl, sym, ap, ◌∙◌}
+use Rattle.std.proofs.Common.{refl, sym, ap, ◌∙◌}
 use Rattle.std.specs.Prelude.{[], None}
 use Rattle.mq_calls.specs.declared.answers.GetAnswer.TheVariants.{NotYet}
 use Rattle.mq_core.specs.Views.{PartsValue}

@@ -1,13 +1,13 @@
-use Rattle.std.proofs.Common.{◌≡◌, ℕ, ◌<◌, List, [], refl, sym, ap, subst, ◌∙◌}
-use Rattle.std.specs.Prelude.{Option, Some, None, IsSome}
+use Rattle.std.proofs.Common.{◌≡◌, ◌<◌, [], sym, ap, subst, ◌∙◌}
+use Rattle.std.specs.Prelude.{Option, None, IsSome}
 use Rattle.mq_disk.specs.declared.cutter.Stop.{Stop}
-use Rattle.mq_spec_state.specs.Words.{Reason, GetAnswer, Did, Plain, Step, ManagerValue, Meets, untouched, connection_at, is_up}
+use Rattle.mq_spec_state.specs.Words.{Reason, GetAnswer, Plain, Step, ManagerValue, Meets, untouched, connection_at, is_up}
 use Rattle.mq_spec_manager.specs.Words.{persistent_rows, expired_need}
 use Rattle.mq_core.specs.Views.{PartsValue, plain_of, frozen_of}
 use Rattle.mq_core.proofs.MeetLaws.{some_is, mode_up}
 use Rattle.mq_get.specs.Does.{seen, stop_of}
-use Rattle.mq_get.specs.Gets.{look, get_at, plan_step}
-use Rattle.mq_get.proofs.WayLaws.{meets_begun, planned_at, short_plan, want_begun}
+use Rattle.mq_get.specs.Gets.{look, get_at}
+use Rattle.mq_get.proofs.WayLaws.{meets_begun, planned_at, short_plan}
 use Rattle.mq_get.proofs.getting.get_now.Goals as goal
 
 plain_is : {v w : ManagerValue} → v ≡ w → v.plain ≡ w.plain

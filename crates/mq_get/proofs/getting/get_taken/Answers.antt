@@ -1,7 +1,6 @@
-use Rattle.std.proofs.Common.{◌≡◌, ℕ, ◌+◌, ◌<◌, ◌≤◌, List, [], ◌∷◌, ◌++◌, length, refl, sym, ap, subst, ◌∙◌, arith}
+use Rattle.std.proofs.Common.{◌+◌, ◌≤◌, [], ◌∷◌, ◌++◌, length, refl, ◌∙◌, arith}
 use Rattle.std.specs.Prelude.{None, Some}
 use Rattle.mq_calls.specs.declared.deltas.Why.TheVariants as whys
-use Rattle.mq_core.specs.Views.{PartsValue}
 use Rattle.mq_core.proofs.PutLaws.{tied_roomier}
 use Rattle.mq_get.specs.Does.{seen}
 use Rattle.mq_get.specs.Leaving.{gone_part, gone_parts}

@@ -1,8 +1,8 @@
-use Rattle.std.proofs.Common.{◌≡◌, ℕ, ◌<◌, refl, sym, ap, subst, ◌∙◌}
+use Rattle.std.proofs.Common.{sym, ap, subst}
 use Rattle.std.specs.Prelude.{Err}
 use Rattle.mq_spec_state.specs.Words.{Reason, GetAnswer, Plain, Step, ManagerValue, Meets}
 use Rattle.mq_spec_manager.specs.Words.{mqget}
-use Rattle.mq_get.specs.Gets.{CanGet, Gets, get_at}
+use Rattle.mq_get.specs.Gets.{CanGet, Gets}
 use Rattle.mq_get.proofs.WayLaws.{refused_meets}
 use Rattle.mq_get.proofs.getting.mqget.Goals as goal
 

@@ -1,6 +1,5 @@
-use Rattle.std.proofs.Common.{◌≡◌, ℕ, sym, ap, ◌∙◌}
-use Rattle.std.specs.Prelude.{None, Err}
-use Rattle.mq_spec_state.specs.Words.{handle_at}
+use Rattle.std.proofs.Common.{sym}
+use Rattle.std.specs.Prelude.{None}
 use Rattle.mq_core.specs.Views.{plain_of}
 use Rattle.mq_get.proofs.GetLaws.{gets, get_is, get_refused}
 use Rattle.mq_get.proofs.refusals.can_get.Goals as goal

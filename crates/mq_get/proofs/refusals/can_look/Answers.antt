@@ -1,10 +1,10 @@
-use Rattle.std.proofs.Common.{◌≡◌, ℕ, Bool, sym, ap, subst, ◌∙◌}
+use Rattle.std.proofs.Common.{sym, ap, subst, ◌∙◌}
 use Rattle.std.specs.Prelude.{Ok}
 use Rattle.mq_spec_state.specs.Words.{is_full}
 use Rattle.mq_spec_manager.specs.Words.{scan_need}
 use Rattle.mq_core.specs.Views.{plain_of}
 use Rattle.mq_get.specs.declared.refusals.Aim.{Aim}
-use Rattle.mq_get.specs.Gets.{look, aim_of, Looks}
+use Rattle.mq_get.specs.Gets.{look, Looks}
 use Rattle.mq_get.proofs.GetLaws.{looks, refused_handle, refused_room, short_scan}
 use Rattle.mq_get.proofs.refusals.can_look.Goals as goal
 

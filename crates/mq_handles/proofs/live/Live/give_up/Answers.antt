@@ -1,4 +1,4 @@
-use Rattle.std.proofs.Common.{◌∙◌, sym, ap, subst}
+use Rattle.std.proofs.Common.{◌∙◌, sym, ap}
 use Rattle.std.specs.Prelude.{◌+◌, position, slice_set}
 use Rattle.mq_spec_state.specs.Words.{Connection, change_connection}
 use Rattle.mq_handles.specs.Rising.{has_number}
