@@ -8,3 +8,6 @@ pub mod Defining
 pub mod Records
 pub mod Recovered
 pub mod Telling
+pub mod Starting
+pub mod Growing
+pub mod Counting

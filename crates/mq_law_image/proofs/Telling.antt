@@ -113,7 +113,7 @@ stop_told start bodies p up is = subst (λ (r : Running). TellsDown start false 
 same_number : (m : ℕ) → (m == m) ≡ true
 same_number m = grind (arith, nat_tests)
 
-started_applies : (g h : Given) (start : Start) (incarnation : ℕ) (i : Image) → h ≡ g → is_in_bounds start (started_record h incarnation) ≡ true → applies g start (started_record h incarnation) i ≡ true
+pub started_applies : (g h : Given) (start : Start) (incarnation : ℕ) (i : Image) → h ≡ g → is_in_bounds start (started_record h incarnation) ≡ true → applies g start (started_record h incarnation) i ≡ true
 started_applies g h start incarnation i e bounds =
     ap (λ (x : Given). applies g start (started_record x incarnation) i) e
     ∙ ap (λ (b : Bool). (b && bytes_eq g.name g.name) && true && is_in_bounds start (started_record g incarnation)) (same_number g.number)

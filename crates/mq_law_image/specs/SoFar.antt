@@ -23,15 +23,17 @@ use Rattle.mq_law_manager.specs.Facts.{Mem, Chain, Differ, ident_of, AreOnce, Ar
 use Rattle.mq_spec_log.specs.Records.{doing}
 use Rattle.mq_spec_log.specs.Bodies.{record_of}
 
--- what rows are seen against: the manager's number, the incarnations that have begun, the definitions, units in doubt
+-- What rows are seen against: the manager's number, the incarnations that have begun, the definitions, units in doubt; and
+-- whether each batch was prepared on its own queue.
 pub record Sight : Type 0 where
+  pub strict : Bool
   pub number : ℕ
   pub incarnation : ℕ
   pub definitions : Definitions
   pub doubt : List ℕ → Option InDoubt
 
-abbrev pub sight : ℕ → Image → Sight
-sight number i = record { number = number; incarnation = i.incarnation; definitions = i.definitions; doubt = λ channel. in_doubt_of (sender_in channel i.senders) }
+abbrev pub sight : Bool → ℕ → Image → Sight
+sight strict number i = record { strict = strict; number = number; incarnation = i.incarnation; definitions = i.definitions; doubt = λ channel. in_doubt_of (sender_in channel i.senders) }
 
 -- a row is free, or of a unit in doubt that was taken from its queue and lists it
 abbrev pub IsHeldIn : (List ℕ → Option InDoubt) → List ℕ → Ident → Option Holder → Type 0
@@ -46,7 +48,7 @@ pub record IsRowOf (v : Sight) (queue : List ℕ) (row : Row) : Type 0 where
   pub unbacked : row.message.md.backout_count ≡ pos 0
   pub routed : is_some row.message.route ≡ routes (local_of queue v.definitions)
   pub held : IsHeldIn v.doubt queue row.message.ident row.by
-  pub doubted : (channel : List ℕ) → list_any (same_ident row.message.ident) (listed (v.doubt channel)) ≡ true → row.by ≡ Some (holders.Batch channel)
+  pub doubted : v.strict ≡ true → (channel : List ℕ) → list_any (same_ident row.message.ident) (listed (v.doubt channel)) ≡ true → row.by ≡ Some (holders.Batch channel)
   pub known : IsKnown v.number v.incarnation row.message.ident
 
 -- the rows of all shelves
@@ -64,10 +66,10 @@ pub record IsSideOf (number incarnation : ℕ) (s : SenderSide) : Type 0 where
 abbrev pub AreReceiversSorted : List ReceiverSide → Type 0
 AreReceiversSorted sides = Chain (λ (r t : ReceiverSide). comes_before r.channel t.channel ≡ true) sides
 
-pub record IsSoFar (number : ℕ) (i : Image) : Type 0 where
+pub record IsSoFar (strict : Bool) (number : ℕ) (i : Image) : Type 0 where
   pub once : AreOnce i.definitions.objects
   pub shelves : map (λ (s : Shelf). s.name) i.shelves ≡ map (λ (q : LocalQueue). q.name) (locals_of i.definitions)
-  pub rows : AreShelved (sight number i) i.shelves
+  pub rows : AreShelved (sight strict number i) i.shelves
   pub senders : (s : SenderSide) → Mem s i.senders → IsSideOf number i.incarnation s
   pub receivers : (r : ReceiverSide) → Mem r i.receivers → IsReceiverSide r
   pub senders_sorted : AreSorted i.senders

@@ -1,29 +1,42 @@
 //! What recovery gives of a log is a well-formed image.
 #![tactic(auto)]
 
-ghost use Rattle.std.specs.Prelude.{◌≡◌, ℕ, ◌+◌, ◌^◌, ◌<◌, Bool, false, true, List, [], ◌∷◌, ◌++◌, Option, None, Some, Ok};
+ghost use Rattle.std.specs.Prelude.{◌≡◌, ℕ, ◌+◌, ◌^◌, ◌<◌, ◌≤◌, Bool, false, true, List, [], ◌∷◌, ◌++◌, length, Option, None, Some, Ok};
 ghost use Rattle.std.specs.List.{AllByRecursion};
 ghost use Rattle.mq_frame.specs.Reading.{IsBytes};
 ghost use Rattle.mq_name.specs.Name.{IsName};
 ghost use Rattle.mq_calls.specs.declared.records.LogRecord.{LogRecord};
 ghost use Rattle.mq_record.specs.Records.{record_bytes};
-ghost use Rattle.mq_spec_state.specs.State.{Given, Noted, Plain};
-ghost use Rattle.mq_spec_state.specs.State.Running.{Up};
-ghost use Rattle.mq_spec_state.specs.Images.{Image, begun, raised};
-ghost use Rattle.mq_spec_state.specs.Steps.{Part, freeze, note_of};
-ghost use Rattle.mq_spec_manager.specs.Stops.{grown, next_started, redone_if, restarted, started_record, stop};
+ghost use Rattle.mq_calls.specs.declared.choices.Choice.{Choice};
+ghost use Rattle.mq_calls.specs.declared.commands.RestartFault.{RestartFault};
+ghost use Rattle.mq_spec_state.specs.State.{Change, Given, Noted, Plain};
+ghost use Rattle.mq_spec_state.specs.State.Running.{Down, Up};
+ghost use Rattle.mq_spec_state.specs.Changes.{apply};
+ghost use Rattle.mq_spec_state.specs.Counts.{AreAtMost};
+ghost use Rattle.mq_spec_state.specs.Images.{Image, Shelf, begun, raised};
+ghost use Rattle.mq_spec_state.specs.Steps.{Part, Step, after, do_part, freeze, note_of};
+ghost use Rattle.mq_spec_manager.specs.Stops.{failed, first_start, grown, next_started, redone_if, restarted, started_need, started_record, stop};
 ghost use Rattle.mq_spec_state.specs.Recovery.{AreKnown, IsImage};
 ghost use Rattle.mq_spec_log.specs.Applies.{Start, is_in_bounds};
 ghost use Rattle.mq_spec_log.specs.Applies.Start.{First, Later};
 ghost use Rattle.mq_spec_log.specs.Bodies.{empty_image, image, record_of};
 ghost use Rattle.mq_law_log.specs.Restarts.{IsGivenIn, IsHarmless};
-ghost use Rattle.mq_law_image.specs.SoFar.{AreOwn};
+ghost use Rattle.mq_law_manager.specs.Facts.{AreNamed, IsSound, Mem};
+ghost use Rattle.mq_law_image.specs.Bounds.{HaveArrived, IsBounded, noted_growth, part_growth, restart_growth, step_growth};
+ghost use Rattle.mq_law_image.specs.SoFar.{AreOwn, IsSoFar};
 ghost use Rattle.mq_law_image.specs.Tells.{Tells, TellsDown};
 
-/// What recovery gives of a log is an image, and the log knew the idents of its own manager in it. (Where each batch was
-/// prepared on its own queue, as every manager does.)
+/// What recovery gives of a log is an image, and the log knew the idents of its own manager in it, where each batch was prepared
+/// on its own queue, as every manager does; and without that all of it holds but that a row which a unit in doubt lists is its own.
 pub fn recovery_gives_an_image()
-    ensures { (g : Given) (start : Start) (bodies : List (List ℕ)) (i : Image) → image g start bodies ≡ Ok i → AllByRecursion IsBytes bodies → AreOwn bodies empty_image → IsImage i × AreKnown g.number i }
+    ensures image { (g : Given) (start : Start) (bodies : List (List ℕ)) (i : Image) → image g start bodies ≡ Ok i → AllByRecursion IsBytes bodies → AreOwn bodies empty_image → IsImage i × AreKnown g.number i }
+    ensures so_far { (g : Given) (start : Start) (bodies : List (List ℕ)) (i : Image) → image g start bodies ≡ Ok i → AllByRecursion IsBytes bodies → IsSoFar false g.number i }
+{}
+
+/// A first start has what its log tells, with its own Started record.
+pub fn a_first_start_has_what_its_log_tells()
+    ensures { (g : Given) (start : Start) (bodies : List (List ℕ)) (next : List ℕ) (i : Image) (long moment : ℕ) → image g start bodies ≡ Ok i → AllByRecursion IsBytes bodies
+        → record_of next ≡ Some (started_record g (i.incarnation + 1)) → is_in_bounds start (started_record g (i.incarnation + 1)) ≡ true → Tells start (bodies ++ next ∷ []) (first_start g i long moment) }
 {}
 
 /// What a log tells of its manager: behind a stopped write, kept or not, a stop, and the Started records of restarts that were
@@ -41,4 +54,23 @@ pub fn a_restart_has_what_its_log_tells()
         → (begun p.given (raised 0 i) (grown started (redone_if kept noted p)) p.moment ≡ restarted kept started noted p) × (started_record p.given (i.incarnation + 1) ≡ next_started started (redone_if kept noted p)) }
     ensures is_read { (g : Given) (incarnation : ℕ) → g.number < 256 → IsName 48 g.name → incarnation < 2 ^ 64 → record_of (record_bytes (started_record g incarnation)) ≡ Some (started_record g incarnation) }
     ensures later { (g : Given) (bodies : List (List ℕ)) (i : Image) → image g First bodies ≡ Ok i → image g Later bodies ≡ Ok i }
+{}
+
+/// Each counter of a manager rises by no more than what is done to it: so where a run is short enough, none comes near the end
+/// of its 64 bits (`AreLow` of mq_spec_state), and the Started record of each restart is within the bounds that a reader asks.
+pub fn counters_rise_by_what_is_done()
+    ensures begins { (most : ℕ) (given : Given) (image : Image) (long moment : ℕ) → image.incarnation + 1 ≤ most → long + started_need given ≤ most → ((s : Shelf) → Mem s image.shelves → length s.rows ≤ most) → IsBounded most (first_start given image long moment) }
+    ensures parts { (most : ℕ) (part : Part) (p : Plain) → IsBounded most p → IsBounded (most + part_growth part) (do_part part p) }
+    ensures stops { (most : ℕ) (p : Plain) → IsBounded most p → IsBounded most (stop p).next }
+    ensures restarts { (most : ℕ) (kept : Bool) (started starts : ℕ) (noted : Option Noted) (p : Plain) → p.running ≡ Down noted starts → started ≤ starts → HaveArrived p → IsBounded most p → IsBounded (most + restart_growth kept started noted p) (restarted kept started noted p) }
+    ensures fails { (most : ℕ) (fault : RestartFault) (in_write : Bool) (left : ℕ) (noted : Option Noted) (starts : ℕ) (p : Plain) → p.running ≡ Down noted starts → IsBounded most p → IsBounded (most + 1) (failed fault in_write left noted starts p).next }
+    ensures within { (most : ℕ) (kept : Bool) (started starts : ℕ) (noted : Option Noted) (p : Plain) → p.running ≡ Down noted starts → started ≤ starts → IsBounded most p → most + noted_growth kept noted + 1 < 2 ^ 61 → is_in_bounds Later (next_started started (redone_if kept noted p)) ≡ true }
+    ensures at_most { (most : ℕ) (p : Plain) → AreNamed p.queues → IsBounded most p → AreAtMost most p }
+    ensures arrived { (p : Plain) → IsSound p → HaveArrived p }
+    ensures arrives { (c : Change) (p : Plain) → HaveArrived p → HaveArrived (apply c p) }
+{}
+
+/// And so with each call, however it ends.
+pub fn calls_raise_counters_by_what_they_do<F, T>()
+    ensures { (most : ℕ) (s : Step F T) (choice : Choice) (p : Plain) → IsBounded most p → IsBounded (most + step_growth s) (after s choice p).next }
 {}

@@ -1,0 +1,5 @@
+use Rattle.mq_law_image.proofs.Counting.{first_bounded, part_bounded, stop_bounded, restart_bounded, failed_bounded, started_within, at_most, arrived_sound, arrived_kept}
+use Rattle.mq_law_image.proofs.counters_rise_by_what_is_done.Goals as goal
+
+pub returns : goal.returns
+returns c = record { begins = first_bounded; parts = part_bounded; stops = stop_bounded; restarts = restart_bounded; fails = failed_bounded; within = started_within; at_most = at_most; arrived = arrived_sound; arrives = arrived_kept }

@@ -1,0 +1,65 @@
+-- Counters of a manager, and how far each change, part, call and restart can raise them.
+use Rattle.std.specs.Prelude.{ℕ, ◌+◌, ◌*◌, ◌≤◌, Bool, true, false, List, [], ◌∷◌, length, Option, Some, None}
+use Rattle.std.specs.List.{AllByRecursion}
+use Rattle.mq_calls.specs.declared.records.LogRecord.{LogRecord}
+use Rattle.mq_spec_state.specs.State.{Plain, Connection, Change, Noted}
+use Rattle.mq_spec_state.specs.State.Change.{Place as Places, Try, Connect, OpenHandle, Pend, CountIdent}
+use Rattle.mq_spec_state.specs.Reads.{stored, puts_to, reserved, unit_need, item_bytes}
+use Rattle.mq_spec_state.specs.Counts.{starts_of}
+use Rattle.mq_spec_state.specs.Sizes.{need}
+use Rattle.mq_spec_state.specs.Steps.{Part, Step}
+use Rattle.mq_spec_state.specs.Steps.Step.{Refuse, Do}
+use Rattle.mq_spec_manager.specs.Stops.{started_need}
+
+-- Each counter is at most so high, those of a queue by its name: an uncommitted put of it may arrive, and bring a trigger.
+pub record IsBounded (most : ℕ) (p : Plain) : Type 0 where
+  pub incarnation : p.numbers.incarnation + starts_of p.running ≤ most
+  pub idents : p.numbers.idents ≤ most
+  pub connections : p.numbers.connections ≤ most
+  pub handles : AllByRecursion (λ (c : Connection). c.last_handle ≤ most) p.connections
+  pub arrivals : (name : List ℕ) → (stored name p).arrivals + puts_to name p.connections ≤ most
+  pub due : (name : List ℕ) → (stored name p).due + puts_to name p.connections ≤ most
+  pub log : p.log.length + reserved p ≤ most
+
+-- by how much a change can raise a counter, at most
+abbrev pub growth : Change → ℕ
+growth (Places name m) = 1
+growth (Try name priority) = 1
+growth (Connect c) = 1 + c.last_handle + length c.unit + unit_need c.unit
+growth (OpenHandle number h) = 1
+growth (Pend number item) = 15 + item_bytes item
+growth CountIdent = 1
+growth _ = 0
+
+abbrev pub all_growth : List Change → ℕ
+all_growth [] = 0
+all_growth (c ∷ cs) = growth c + all_growth cs
+
+-- what a record takes of the log
+abbrev pub need_of : Option LogRecord → ℕ
+need_of None = 0
+need_of (Some r) = need r
+
+abbrev pub part_growth : Part → ℕ
+part_growth part = need_of part.forced + all_growth part.changes
+
+abbrev pub parts_growth : List Part → ℕ
+parts_growth [] = 0
+parts_growth (part ∷ parts) = part_growth part + parts_growth parts
+
+abbrev pub step_growth : {F T : Type 0} → Step F T → ℕ
+step_growth (Refuse reason) = 0
+step_growth (Do reply parts) = parts_growth parts
+
+-- a restart: the stopped write, where it is kept, and as many Started records as were stopped, and its own
+abbrev pub noted_growth : Bool → Option Noted → ℕ
+noted_growth true (Some n) = need n.written + all_growth n.changes
+noted_growth true None = 0
+noted_growth false noted = 0
+
+abbrev pub restart_growth : Bool → ℕ → Option Noted → Plain → ℕ
+restart_growth kept started noted p = noted_growth kept noted + (started + 1) * started_need p.given + 1
+
+-- no queue has more rows than have arrived
+abbrev pub HaveArrived : Plain → Type 0
+HaveArrived p = (name : List ℕ) → length (stored name p).rows ≤ (stored name p).arrivals
