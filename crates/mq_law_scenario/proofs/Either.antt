@@ -14,16 +14,16 @@ use Rattle.mq_scn_lines.specs.declared.fault.LineFault.{LineFault}
 use Rattle.mq_scn_text.specs.declared.fault.Cause.TheVariants as causes
 use Rattle.mq_scn_text.specs.declared.fault.ScenarioFault.{ScenarioFault}
 use Rattle.mq_scn_text.specs.declared.fault.ScenarioFault.TheVariants as faults
-use Rattle.mq_scn_text.specs.declared.parts.Stage.{Stage}
-use Rattle.mq_scn_text.specs.declared.parts.Stage.TheVariants as stages
-use Rattle.mq_scn_text.specs.declared.heading.PartLine.{PartLine}
-use Rattle.mq_scn_text.specs.declared.heading.PartLine.TheVariants as parts
+use Rattle.mq_scn_heading.specs.declared.parts.Stage.{Stage}
+use Rattle.mq_scn_heading.specs.declared.parts.Stage.TheVariants as stages
+use Rattle.mq_scn_heading.specs.declared.heading.PartLine.{PartLine}
+use Rattle.mq_scn_heading.specs.declared.heading.PartLine.TheVariants as parts
 use Rattle.mq_scn_text.specs.declared.sections.Opened.{Opened}
 use Rattle.mq_scn_text.specs.declared.scripts.Script.{Script}
 use Rattle.mq_scn_text.specs.declared.reading.Inside.{Inside}
 use Rattle.mq_scn_text.specs.declared.reading.Inside.TheVariants as insides
 use Rattle.mq_scn_text.specs.Faults.{fault_at}
-use Rattle.mq_scn_text.specs.Lookup.{own_name}
+use Rattle.mq_scn_heading.specs.Lookup.{own_name}
 use Rattle.mq_scn_text.specs.Sections.{text_added, line_in, mqsc_ended, rules_ended}
 use Rattle.mq_scn_text.specs.Scripts.{new_script, put_len, script_read, script_added}
 use Rattle.mq_scn_text.specs.Reading.{is_only, is_skipped, opened, step_read, section_cut, scenario_of}
@@ -31,6 +31,7 @@ use Rattle.mq_scn_parts.specs.Heading.{IsPartLine, IsPartLineFault}
 use Rattle.mq_scn_grammar.specs.Words.{IsOnly}
 use Rattle.mq_scn_parts.proofs.PartLines.{either_part}
 use Rattle.mq_law_scenario.proofs.SectionReads.{ok_cut, err_cut, section_found, section_refused}
+use Rattle.mq_law_scenario.proofs.TableReads.{part_found, part_refused}
 use Rattle.mq_law_scenario.proofs.Leaves.{skipped_found, unskipped_found, end_found, no_end_found, mqsc_word, rules_word, script_word, steps_word, own_cut_is, own_cut_found}
 use Rattle.mq_law_scenario.proofs.NextLines.{next_found, line_refused, next_step_found, step_refused}
 use Rattle.mq_law_scenario.specs.Texts.{Said, nothing_said, IsSkipped, Begins, NoneIs, text_of, IsOpenSection, IsOpenTable, IsNextLine, AreSpoken, IsOpenScript, IsNextStep, AreStepped, AreOpenSteps, IsOpen, IsBlock, AreBlocks, all_lines, IsText}
@@ -167,8 +168,8 @@ table_ended : (n : ℕ) (before now : Said) (lines : List (List ℕ)) (o : Opene
     → (r : Result RulesPart ScenarioFault) → rules_ended (own_name now.scenario.managers o.manager) o ≡ r → Grown n before lines (insides.Rules o) now line
 table_ended n before now lines o line h e (Ok part) f =
     let after : Said = record now { scenario = record now.scenario { rules = now.scenario.rules ++ part ∷ [] } } in
-    inr (inl (record { after = after; block = inr (inr (record { front = lines; last = line; inside = insides.Rules o; now = now; whole = refl; opens = h; ends = (part, end_found (codes "ENDRULES") line e, f, refl) })) }))
-table_ended n before now lines o line h e (Err fault) f = inr (inr (record { fault = fault; bad = (end_found (codes "ENDRULES") line e, f) }))
+    inr (inl (record { after = after; block = inr (inr (record { front = lines; last = line; inside = insides.Rules o; now = now; whole = refl; opens = h; ends = (part, end_found (codes "ENDRULES") line e, part_found (own_name now.scenario.managers o.manager) o part f, refl) })) }))
+table_ended n before now lines o line h e (Err fault) f = inr (inr (record { fault = fault; bad = (end_found (codes "ENDRULES") line e, part_refused (own_name now.scenario.managers o.manager) o fault f) }))
 
 table_grown : (n : ℕ) (before now : Said) (lines : List (List ℕ)) (o : Opened) (line : List ℕ) → IsOpenTable n before lines o now → (b : Bool) → is_only (codes "ENDRULES") line ≡ b → Grown n before lines (insides.Rules o) now line
 table_grown n before now lines o line h true e = table_ended n before now lines o line h e (rules_ended (own_name now.scenario.managers o.manager) o) refl

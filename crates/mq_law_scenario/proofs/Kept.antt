@@ -14,19 +14,20 @@ use Rattle.mq_history.specs.declared.scenario.Step.{Step}
 use Rattle.mq_history.specs.Scenarios.{IsManager, IsCable, IsStep, IsScenario, labels}
 use Rattle.mq_scn_lines.specs.declared.fault.Limit.{Limit}
 use Rattle.mq_scn_lines.specs.declared.fault.Limit.TheVariants as limits
-use Rattle.mq_scn_text.specs.declared.parts.PartWord.{PartWord}
-use Rattle.mq_scn_text.specs.declared.parts.PartWord.TheVariants as words
-use Rattle.mq_scn_text.specs.declared.parts.Stage.{Stage}
-use Rattle.mq_scn_text.specs.declared.parts.Stage.TheVariants as stages
-use Rattle.mq_scn_text.specs.declared.heading.PartLine.{PartLine}
-use Rattle.mq_scn_text.specs.declared.heading.PartLine.TheVariants as parts
+use Rattle.mq_scn_heading.specs.declared.parts.PartWord.{PartWord}
+use Rattle.mq_scn_heading.specs.declared.parts.PartWord.TheVariants as words
+use Rattle.mq_scn_heading.specs.declared.parts.Stage.{Stage}
+use Rattle.mq_scn_heading.specs.declared.parts.Stage.TheVariants as stages
+use Rattle.mq_scn_heading.specs.declared.heading.PartLine.{PartLine}
+use Rattle.mq_scn_heading.specs.declared.heading.PartLine.TheVariants as parts
 use Rattle.mq_scn_text.specs.declared.sections.Opened.{Opened}
 use Rattle.mq_scn_text.specs.declared.scripts.Script.{Script}
 use Rattle.mq_scn_text.specs.declared.reading.Inside.{Inside}
 use Rattle.mq_scn_text.specs.declared.reading.Inside.TheVariants as insides
-use Rattle.mq_scn_text.specs.Parts.{stage_rank, from_stage, room_of}
+use Rattle.mq_scn_heading.specs.Parts.{stage_rank, from_stage, room_of}
 use Rattle.mq_scn_text.specs.Scripts.{new_script}
 use Rattle.mq_law_scenario.proofs.SectionReads.{section_is}
+use Rattle.mq_law_scenario.proofs.TableReads.{part_is}
 use Rattle.mq_law_scenario.specs.Texts.{Said, nothing_said, Begins, Adds, IsOpenSection, IsOpenTable, IsOpenScript, AreOpenSteps, AreStepped, IsOpen, Ends, IsBlock, AreBlocks, IsText}
 use Rattle.mq_law_scenario.proofs.Each.{Each, each_more, each_map, each_all, Apart, apart_insert, apart_more, apart_all}
 use Rattle.mq_law_scenario.proofs.Said.{Joins, IsOwned, names, channels, IsAllowed, IsSaid, line_said}
@@ -461,7 +462,7 @@ mqsc_end_kept n k before now after lines o line h b (section, only, e, is) =
 
 rules_end_kept : (n k : ℕ) (before now after : Said) (lines : List (List ℕ)) (o : Opened) (line : List ℕ) → Kept before → IsOpenTable n before lines o now → Ends k (insides.Rules o) now line after → Kept after
 rules_end_kept n k before now after lines o line h b (part, only, e, is) =
-    let same = table_kept _ o part e in
+    let same = table_kept _ o part (part_is _ o part e) in
     let label : part.label ≡ b.label = same.0 ∙ ap (λ (u : Opened). u.label) b.opens in
     let manager : part.manager ≡ b.manager = same.1 ∙ ap (λ (u : Opened). u.manager) b.opens in
     let whole : Said = record { stage = b.stage; left = before.left; scenario = record before.scenario { rules = before.scenario.rules ++ part ∷ [] } } in

@@ -1,5 +1,5 @@
 -- Which lines say nothing, which end a part, what a section says and what a cut one tells, both ways.
-use Rattle.std.proofs.Common.{◌≡◌, ◌⊎◌, ℕ, Bool, true, false, cond, List, [], ◌∷◌, Result, Ok, Err, refl, sym, ap, subst, ◌∙◌, eqb, inl, inr}
+use Rattle.std.proofs.Common.{◌≡◌, ℕ, Bool, true, false, List, [], ◌∷◌, refl, sym, ap, subst, ◌∙◌, eqb, inl, inr}
 use Rattle.std.specs.Prelude.{codes, Option, Some, None, ◌||◌, ◌&&◌}
 use Rattle.std.specs.Str.{bytes_eq}
 use Rattle.std.proofs.lemmas.Bool.{and_parts}
@@ -11,14 +11,15 @@ use Rattle.mq_scn_lines.specs.Words.{first_word}
 use Rattle.mq_scn_text.specs.declared.fault.ScenarioFault.{ScenarioFault}
 use Rattle.mq_scn_text.specs.declared.reading.Inside.{Inside}
 use Rattle.mq_scn_text.specs.declared.reading.Inside.TheVariants as insides
-use Rattle.mq_scn_text.specs.Lookup.{own_name}
+use Rattle.mq_scn_heading.specs.Lookup.{own_name}
 use Rattle.mq_scn_text.specs.Reading.{no_word, only_word, is_only, is_comment, is_skipped, section_cut}
-use Rattle.mq_scn_grammar.specs.Words.{AreBlanks, IsWord, IsOnly}
-use Rattle.mq_scn_grammar.proofs.Script.{some_front, no_front, some_letters}
+use Rattle.mq_scn_grammar.specs.Words.{IsWord, IsOnly}
+use Rattle.mq_scn_grammar.proofs.Script.{no_front, some_letters}
 use Rattle.mq_scn_grammar.proofs.Firsts.{no_word_found, no_word_read, only_read, only_found}
 use Rattle.mq_law_scenario.specs.Texts.{IsSkipped}
 use Rattle.mq_law_scenario.specs.Faults.{HasOwnCut}
 use Rattle.mq_law_scenario.proofs.SectionReads.{err_cut, cut_is, cut_found}
+use Rattle.mq_law_scenario.proofs.TableReads.{cut_is as table_cut_is, cut_found as table_cut_found}
 
 not_both : (b : Bool) → b ≡ true → b ≡ false → ⊥
 not_both b e f = absurd (let g : true ≡ false = sym e ∙ f in cc)
@@ -107,7 +108,7 @@ pub own_cut_is : (i : Inside) (s : Scenario) (fault : ScenarioFault) → HasOwnC
 unfolding section_cut
 own_cut_is insides.Nothing s fault h = absurd h
 own_cut_is (insides.Mqsc o) s fault h = cut_is o fault h
-own_cut_is (insides.Rules o) s fault h = h
+own_cut_is (insides.Rules o) s fault h = table_cut_is (own_name s.managers o.manager) o fault h
 own_cut_is (insides.Script script) s fault h = absurd h
 own_cut_is insides.Steps s fault h = absurd h
 
@@ -115,6 +116,6 @@ pub own_cut_found : (i : Inside) (s : Scenario) (fault : ScenarioFault) → sect
 unfolding section_cut
 own_cut_found insides.Nothing s fault e = absurd cc
 own_cut_found (insides.Mqsc o) s fault e = cut_found o fault e
-own_cut_found (insides.Rules o) s fault e = e
+own_cut_found (insides.Rules o) s fault e = table_cut_found (own_name s.managers o.manager) o fault e
 own_cut_found (insides.Script script) s fault e = absurd cc
 own_cut_found insides.Steps s fault e = absurd cc

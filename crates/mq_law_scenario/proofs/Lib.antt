@@ -1,5 +1,5 @@
-pub mod MarkLines
 pub mod SectionReads
+pub mod TableReads
 pub mod Leaves
 pub mod NextLines
 pub mod ReadBack

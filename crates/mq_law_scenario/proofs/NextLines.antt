@@ -13,7 +13,7 @@ use Rattle.mq_scn_lines.specs.Faults.{rank, both}
 use Rattle.mq_scn_script.specs.Lines.{script_line}
 use Rattle.mq_scn_text.specs.declared.scripts.Script.{Script}
 use Rattle.mq_scn_text.specs.Scripts.{connects, room, ordered, script_read}
-use Rattle.mq_scn_text.specs.Steps.{step_line}
+use Rattle.mq_scn_heading.specs.Steps.{step_line}
 use Rattle.mq_scn_text.specs.Reading.{step_room, step_read}
 use Rattle.mq_scn_grammar.specs.ScriptLines.{IsScriptLine, HasLineFault}
 use Rattle.mq_scn_grammar.proofs.Told.{Reports}

@@ -11,10 +11,10 @@ use Rattle.mq_scn_lines.specs.declared.fault.Limit.TheVariants as limits
 use Rattle.mq_scn_text.specs.declared.fault.Cause.TheVariants as causes
 use Rattle.mq_scn_text.specs.declared.fault.ScenarioFault.{ScenarioFault}
 use Rattle.mq_scn_text.specs.declared.fault.ScenarioFault.TheVariants as faults
-use Rattle.mq_scn_text.specs.declared.parts.Stage.{Stage}
-use Rattle.mq_scn_text.specs.declared.parts.Stage.TheVariants as stages
-use Rattle.mq_scn_text.specs.declared.heading.PartLine.{PartLine}
-use Rattle.mq_scn_text.specs.declared.heading.PartLine.TheVariants as parts
+use Rattle.mq_scn_heading.specs.declared.parts.Stage.{Stage}
+use Rattle.mq_scn_heading.specs.declared.parts.Stage.TheVariants as stages
+use Rattle.mq_scn_heading.specs.declared.heading.PartLine.{PartLine}
+use Rattle.mq_scn_heading.specs.declared.heading.PartLine.TheVariants as parts
 use Rattle.mq_scn_text.specs.declared.sections.Opened.{Opened}
 use Rattle.mq_scn_text.specs.declared.scripts.Script.{Script}
 use Rattle.mq_scn_text.specs.declared.reading.Inside.{Inside}
@@ -26,7 +26,9 @@ use Rattle.mq_scn_text.specs.Scripts.{new_script, put_len, script_added}
 use Rattle.mq_scn_text.specs.Reading.{nothing_read, opened, part_added, outside_read, mqsc_line_read, rules_line_read, script_line_read, skipped_or_script, step_line_read, skipped_or_step, inside_read, section_cut, else_fault, line_read, lines_read, is_outside, are_steps, ended, scenario_of}
 use Rattle.mq_scn_grammar.specs.Words.{IsOnly}
 use Rattle.mq_scn_parts.proofs.PartLines.{part_is_read, part_is_refused}
+use Rattle.mq_scn_heading.specs.Lookup.{own_name}
 use Rattle.mq_law_scenario.proofs.SectionReads.{ok_cut, section_is, section_fault_is}
+use Rattle.mq_law_scenario.proofs.TableReads.{part_is, part_fault_is}
 use Rattle.mq_law_scenario.proofs.Leaves.{skipped_is, unskipped_is, end_is, no_end_is, mqsc_word, rules_word, script_word, steps_word, own_cut_is, own_cut_found}
 use Rattle.mq_law_scenario.proofs.NextLines.{next_read, line_is_refused, next_step_read, step_is_refused}
 use Rattle.mq_law_scenario.specs.Texts.{Said, nothing_said, IsSkipped, Begins, Adds, NoneIs, text_of, IsOpenSection, IsOpenTable, IsNextLine, AreSpoken, IsOpenScript, IsNextStep, AreStepped, AreOpenSteps, IsOpen, Ends, IsEnded, IsBlock, AreBlocks, all_lines, IsText}
@@ -257,7 +259,7 @@ mqsc_end k o now after line (section, only, e, is) = rw (end_is (codes "ENDMQSC"
 
 rules_end : (k : ℕ) (o : Opened) (now after : Said) (line : List ℕ) → Ends k (insides.Rules o) now line after → inside_read k line (reading k (insides.Rules o) now) ≡ ok_reading (reading k insides.Nothing after)
 unfolding rules_line_read
-rules_end k o now after line (part, only, e, is) = rw (end_is (codes "ENDRULES") line rules_word only, e) (ap (λ (u : Said). ok_reading (reading k insides.Nothing u)) (sym is))
+rules_end k o now after line (part, only, e, is) = rw (end_is (codes "ENDRULES") line rules_word only, part_is (own_name now.scenario.managers o.manager) o part e) (ap (λ (u : Said). ok_reading (reading k insides.Nothing u)) (sym is))
 
 script_end : (k : ℕ) (s : Script) (now after : Said) (line : List ℕ) → Ends k (insides.Script s) now line after → inside_read k line (reading k (insides.Script s) now) ≡ ok_reading (reading k insides.Nothing after)
 unfolding skipped_or_script script_line_read
@@ -360,7 +362,7 @@ bad_section_read k o now line fault h = rw (end_is (codes "ENDMQSC") line mqsc_w
 
 bad_table_read : (k : ℕ) (o : Opened) (now : Said) (line : List ℕ) (fault : ScenarioFault) → IsBadLine k (insides.Rules o) now line fault → inside_read k line (reading k (insides.Rules o) now) ≡ err_reading fault
 unfolding rules_line_read
-bad_table_read k o now line fault h = rw (end_is (codes "ENDRULES") line rules_word h.0, h.1) refl
+bad_table_read k o now line fault h = rw (end_is (codes "ENDRULES") line rules_word h.0, part_fault_is (own_name now.scenario.managers o.manager) o fault h.1) refl
 
 bad_script_read : (k : ℕ) (s : Script) (now : Said) (line : List ℕ) (fault : ScenarioFault) → IsBadLine k (insides.Script s) now line fault → inside_read k line (reading k (insides.Script s) now) ≡ err_reading fault
 unfolding skipped_or_script script_line_read

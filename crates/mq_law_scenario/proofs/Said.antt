@@ -24,15 +24,15 @@ use Rattle.mq_scn_lines.specs.declared.fault.Limit.TheVariants as limits
 use Rattle.mq_scn_lines.specs.Faults.{both}
 use Rattle.mq_scn_lines.specs.Numbers.{told, ranged}
 use Rattle.mq_scn_lines.specs.Operands.{bracketed, in_quotes, label_in, named, written_name, name_in}
-use Rattle.mq_scn_text.specs.declared.parts.PartWord.{PartWord}
-use Rattle.mq_scn_text.specs.declared.parts.PartWord.TheVariants as words
-use Rattle.mq_scn_text.specs.declared.parts.Stage.{Stage}
-use Rattle.mq_scn_text.specs.declared.heading.PartLine.{PartLine}
-use Rattle.mq_scn_text.specs.declared.heading.PartLine.TheVariants as parts
-use Rattle.mq_scn_text.specs.Lookup.{known, found, manager_place, manager_at, section_place, rules_place, script_place, monitor_place, is_place, is_declared, unless_declared, new_label}
-use Rattle.mq_scn_text.specs.Parts.{stage_rank, from_stage, up_to_stage, stage_behind, is_full, in_order, unless_full, allowed}
-use Rattle.mq_scn_text.specs.Cables.{cable_faults}
-use Rattle.mq_scn_text.specs.Heading.{alone, at_moment, moment_line, unless_there, new_name, new_manager, log_number, log_max, managed, manager_line, channel_place, new_channel_name, new_channel, apart, ends_of, cabled, connected, cable_with, cable_line, owned, labelled, mqsc_of, rules_of, script_of, queue_in, monitored, monitor_with, monitor_line, part_line}
+use Rattle.mq_scn_heading.specs.declared.parts.PartWord.{PartWord}
+use Rattle.mq_scn_heading.specs.declared.parts.PartWord.TheVariants as words
+use Rattle.mq_scn_heading.specs.declared.parts.Stage.{Stage}
+use Rattle.mq_scn_heading.specs.declared.heading.PartLine.{PartLine}
+use Rattle.mq_scn_heading.specs.declared.heading.PartLine.TheVariants as parts
+use Rattle.mq_scn_heading.specs.Lookup.{known, found, manager_place, manager_at, section_place, rules_place, script_place, monitor_place, is_place, is_declared, unless_declared, new_label}
+use Rattle.mq_scn_heading.specs.Parts.{stage_rank, from_stage, up_to_stage, stage_behind, is_full, in_order, unless_full, allowed}
+use Rattle.mq_scn_heading.specs.Cables.{cable_faults}
+use Rattle.mq_scn_heading.specs.Heading.{alone, at_moment, moment_line, unless_there, new_name, new_manager, log_number, log_max, managed, manager_line, channel_place, new_channel_name, new_channel, apart, ends_of, cabled, connected, cable_with, cable_line, owned, labelled, mqsc_of, rules_of, script_of, queue_in, monitored, monitor_with, monitor_line, part_line}
 use Rattle.mq_scn_grammar.proofs.Told.{value_read}
 use Rattle.mq_scn_parts.specs.Heading.{IsPartOf, HasPartFault, IsAllowed as MayStand, HasOrderFault, IsPartLine}
 use Rattle.mq_scn_parts.proofs.Heading.{part_tells, allowed_tells}

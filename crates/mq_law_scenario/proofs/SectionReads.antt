@@ -1,5 +1,5 @@
 -- What an MQSC section says, and its faults, both ways.
-use Rattle.std.proofs.Common.{◌≡◌, ◌⊎◌, ℕ, ◌+◌, ◌-◌, ◌<◌, Bool, true, false, cond, List, [], ◌∷◌, ◌++◌, length, slice_get, Result, Ok, Err, refl, sym, ap, subst, ◌∙◌, append_assoc, append-nil, arith, inl, inr}
+use Rattle.std.proofs.Common.{◌≡◌, ◌⊎◌, ℕ, ◌-◌, ◌<◌, Bool, true, false, cond, List, [], ◌∷◌, ◌++◌, length, slice_get, Result, Ok, Err, refl, sym, ap, subst, ◌∙◌, append_assoc, append-nil, arith, inl, inr}
 use Rattle.std.specs.Prelude.{Option, Some, None, nat_lt}
 use Rattle.std.proofs.lemmas.Bool.Decides.{nat_tests}
 use Rattle.std.proofs.lemmas.List.{length-append}
@@ -8,13 +8,10 @@ use Rattle.mq_sc_lex.specs.declared.joining.Joined.{Joined}
 use Rattle.mq_sc_lex.specs.declared.joining.Ending.{Ending}
 use Rattle.mq_sc_lex.specs.declared.joining.Ending.TheVariants.{Whole, Plus, Minus}
 use Rattle.mq_sc_lex.specs.declared.token.Line.{Line}
-use Rattle.mq_sc_lex.specs.declared.fault.LexFault.{LexFault}
-use Rattle.mq_sc_lex.specs.declared.fault.LexFault.TheVariants.{OpenQuote}
 use Rattle.mq_sc_lex.specs.Joining.{is_open, joined_of}
 use Rattle.mq_sc_lex.specs.Tokens.{commands_of_marks}
 use Rattle.mq_sc_parse.specs.declared.command.Command.{Command}
 use Rattle.mq_sc_parse.specs.declared.fault.ScFault.{ScFault}
-use Rattle.mq_sc_parse.specs.Parsing.{parse_of}
 use Rattle.mq_sc_grammar.specs.Spelling.{kinds_of}
 use Rattle.mq_sc_grammar.specs.Written.{AreOfLine, AreOfLines}
 use Rattle.mq_sc_grammar.specs.Texts.{AreLinesOf}
@@ -22,7 +19,6 @@ use Rattle.mq_sc_grammar.specs.TextFaults.{LeavesOpen}
 use Rattle.mq_sc_grammar.specs.Commands.{IsCommand}
 use Rattle.mq_sc_grammar.specs.Faults.{IsFault}
 use Rattle.mq_sc_grammar.proofs.Joins.{done}
-use Rattle.mq_sc_grammar.proofs.LineReads.{ok_lines, err_lines}
 use Rattle.mq_sc_grammar.proofs.Readings.{command_read}
 use Rattle.mq_sc_grammar.proofs.Faulted.{fault_read, either_line}
 use Rattle.mq_history.specs.declared.scenario.Section.{Section}
@@ -33,9 +29,9 @@ use Rattle.mq_scn_text.specs.declared.fault.ScenarioFault.TheVariants as faults
 use Rattle.mq_scn_text.specs.declared.sections.Opened.{Opened}
 use Rattle.mq_scn_text.specs.declared.sections.SectionRead.{SectionRead}
 use Rattle.mq_scn_text.specs.Faults.{and_then}
-use Rattle.mq_scn_text.specs.Sections.{line_in, command_fault, command_or_fault, command_at, commands_from, commands_in, line_read, joined_from, with_end, section_read, section_of, mqsc_ended, line_unless_open, last_in, last_of, goes_on_from, before_last, section_cut, mqsc_cut}
-use Rattle.mq_law_scenario.specs.Sections.{AreCommands, IsSection, AreGood, HasOwnFault, HasBadCommand, IsUnfinished, HasSectionFault, GoesOnFrom, StandsBefore, HasCutFault}
-use Rattle.mq_law_scenario.proofs.MarkLines.{mark_read, open_read, mark_either, lines_joined, some_joined, goes_on}
+use Rattle.mq_scn_text.specs.Sections.{line_in, command_fault, command_or_fault, commands_from, commands_in, line_read, joined_from, with_end, section_read, section_of, mqsc_ended, line_unless_open, last_in, last_of, goes_on_from, before_last, section_cut, mqsc_cut}
+use Rattle.mq_law_scenario.specs.Sections.{AreCommands, IsSection, AreGood, HasOwnFault, HasBadCommand, HasSectionFault, GoesOnFrom, StandsBefore, HasCutFault}
+use Rattle.mq_rules_grammar.proofs.MarkLines.{mark_read, open_read, mark_either, lines_joined, some_joined, goes_on}
 
 abbrev ok_commands : List Command → Result (List Command) ScenarioFault
 ok_commands commands = Ok commands

@@ -28,14 +28,14 @@ use Rattle.mq_scn_text.specs.declared.fault.ScenarioFault.{ScenarioFault}
 use Rattle.mq_scn_text.specs.declared.sections.Opened.{Opened}
 use Rattle.mq_scn_text.specs.declared.sections.SectionRead.{SectionRead}
 use Rattle.mq_scn_text.specs.declared.scripts.Script.{Script}
-use Rattle.mq_scn_text.specs.declared.steps.StepVerb.{StepVerb}
-use Rattle.mq_scn_text.specs.declared.steps.StepVerb.TheVariants as verbs
+use Rattle.mq_scn_heading.specs.declared.steps.StepVerb.{StepVerb}
+use Rattle.mq_scn_heading.specs.declared.steps.StepVerb.TheVariants as verbs
 use Rattle.mq_scn_text.specs.Faults.{and_then}
-use Rattle.mq_scn_text.specs.Lookup.{section_place, rules_place, script_place, monitor_place, manager_at, section_at, rules_at, script_at, monitor_at}
-use Rattle.mq_scn_text.specs.Phases.{is_good, are_labels, is_script, are_scripts, with_place, places_from, is_in, are_single, single, phase_of}
+use Rattle.mq_scn_heading.specs.Lookup.{section_place, rules_place, script_place, monitor_place, manager_at, section_at, rules_at, script_at, monitor_at}
+use Rattle.mq_scn_heading.specs.Phases.{is_good, are_labels, is_script, are_scripts, with_place, places_from, is_in, are_single, single, phase_of}
 use Rattle.mq_scn_text.specs.Sections.{section_read, section_of, mqsc_ended, rules_or_fault, rules_ended}
 use Rattle.mq_scn_text.specs.Scripts.{put_len, script_added}
-use Rattle.mq_scn_text.specs.Steps.{step_verb_of, stepped, obey_line, lines_in, run_line, phase_line, turns_in, pump_line, handle_line, watch_line, serve_line, crash_line, restart_line, cut_count_in, cut_line, clock_line, done_by, step_of, words_read, verb_read, step_from, step_line}
+use Rattle.mq_scn_heading.specs.Steps.{step_verb_of, stepped, obey_line, lines_in, run_line, phase_line, turns_in, pump_line, handle_line, watch_line, serve_line, crash_line, restart_line, cut_count_in, cut_line, clock_line, done_by, step_of, words_read, verb_read, step_from, step_line}
 use Rattle.mq_law_scenario.specs.Texts.{AreSpoken}
 use Rattle.mq_law_scenario.proofs.Each.{Each, each_more, each_all, Apart, apart_all, found_within}
 use Rattle.mq_scn_parts.specs.Steps.{IsStepLine}

@@ -1,5 +1,5 @@
 -- Why a text is that of no scenario: the first line that can't stand in one, and its fault.
-use Rattle.std.specs.Prelude.{◌≡◌, ◌⊎◌, ℕ, ◌+◌, ◌<◌, ◌≤◌, true, false, List, ◌∷◌, ◌++◌, length, codes, Err, ◌&&◌}
+use Rattle.std.specs.Prelude.{◌≡◌, ◌⊎◌, ℕ, ◌+◌, ◌<◌, ◌≤◌, true, List, ◌∷◌, ◌++◌, length, codes, ◌&&◌}
 use Rattle.mq_text.specs.Lines.{lines_of}
 use Rattle.mq_scn_lines.specs.declared.fault.Limit.TheVariants as limits
 use Rattle.mq_scn_lines.specs.declared.fault.LineFault.{LineFault}
@@ -9,12 +9,12 @@ use Rattle.mq_history.specs.declared.scripts.ScriptLine.{ScriptLine}
 use Rattle.mq_scn_text.specs.declared.fault.Cause.TheVariants as causes
 use Rattle.mq_scn_text.specs.declared.fault.ScenarioFault.{ScenarioFault}
 use Rattle.mq_scn_text.specs.declared.fault.ScenarioFault.TheVariants as faults
-use Rattle.mq_scn_text.specs.declared.parts.Stage.TheVariants as stages
+use Rattle.mq_scn_heading.specs.declared.parts.Stage.TheVariants as stages
 use Rattle.mq_scn_text.specs.declared.reading.Inside.{Inside}
 use Rattle.mq_scn_text.specs.declared.reading.Inside.TheVariants as insides
 use Rattle.mq_scn_text.specs.Faults.{fault_at}
-use Rattle.mq_scn_text.specs.Lookup.{own_name}
-use Rattle.mq_scn_text.specs.Sections.{line_in, rules_ended, rules_cut}
+use Rattle.mq_scn_heading.specs.Lookup.{own_name}
+use Rattle.mq_scn_text.specs.Sections.{line_in}
 use Rattle.mq_scn_text.specs.declared.scripts.Script.{Script}
 use Rattle.mq_scn_text.specs.Scripts.{connects}
 use Rattle.mq_scn_grammar.specs.Words.{IsOnly}
@@ -23,6 +23,7 @@ use Rattle.mq_scn_grammar.specs.ScriptLines.{IsScriptLine, HasLineFault}
 use Rattle.mq_scn_parts.specs.Heading.{IsPartLineFault}
 use Rattle.mq_scn_parts.specs.Steps.{HasStepFault}
 use Rattle.mq_law_scenario.specs.Sections.{HasSectionFault, HasCutFault}
+use Rattle.mq_law_scenario.specs.RulesTables.{HasTableFault, HasTableCut}
 use Rattle.mq_law_scenario.specs.Texts.{Said, nothing_said, IsSkipped, IsOpen, AreBlocks, all_lines}
 
 -- lines with which a text of a scenario may begin: blocks, and a part of several lines up to its end
@@ -54,7 +55,7 @@ IsNextStepFault s line f = IsTold (λ g. HasNextStepFault s line g) f
 abbrev pub IsBadLine : (number : ℕ) → Inside → Said → (line : List ℕ) → ScenarioFault → Type 0
 IsBadLine number insides.Nothing now line fault = (IsSkipped line → ⊥) × ((own : LineFault) × IsPartLineFault now.scenario now.stage line own × (fault ≡ fault_at number own))
 IsBadLine number (insides.Mqsc o) now line fault = IsOnly (codes "ENDMQSC") line × HasSectionFault number o fault
-IsBadLine number (insides.Rules o) now line fault = IsOnly (codes "ENDRULES") line × (rules_ended (own_name now.scenario.managers o.manager) o ≡ Err fault)
+IsBadLine number (insides.Rules o) now line fault = IsOnly (codes "ENDRULES") line × HasTableFault (own_name now.scenario.managers o.manager) o fault
 IsBadLine number (insides.Script s) now line fault =
     (IsSkipped line → ⊥) × (IsOnly (codes "ENDSCRIPT") line → ⊥) × ((own : LineFault) × IsNextFault now.left s line own × (fault ≡ fault_at number own))
 IsBadLine number insides.Steps now line fault =
@@ -63,7 +64,7 @@ IsBadLine number insides.Steps now line fault =
 -- a section or a table that is cut off has this fault of its own
 abbrev pub HasOwnCut : Inside → Scenario → ScenarioFault → Type 0
 HasOwnCut (insides.Mqsc o) s fault = HasCutFault o fault
-HasOwnCut (insides.Rules o) s fault = rules_cut (own_name s.managers o.manager) o ≡ Err fault
+HasOwnCut (insides.Rules o) s fault = HasTableCut (own_name s.managers o.manager) o fault
 HasOwnCut _ s fault = ⊥
 
 -- where it has none, another one is told

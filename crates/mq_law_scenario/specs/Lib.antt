@@ -1,3 +1,4 @@
 pub mod Sections
+pub mod RulesTables
 pub mod Texts
 pub mod Faults

@@ -1,6 +1,6 @@
 -- What a text of a scenario is: its lines in blocks, one behind the other. A block is a line that says nothing, a part of
 -- one line, or a section, a rules table, a script or the steps with all their lines.
-use Rattle.std.specs.Prelude.{◌≡◌, ◌⊎◌, ℕ, ◌+◌, ◌-◌, ◌≤◌, true, false, List, [], ◌∷◌, ◌++◌, length, codes, Some, Ok, ◌<◌, ◌&&◌}
+use Rattle.std.specs.Prelude.{◌≡◌, ◌⊎◌, ℕ, ◌+◌, ◌-◌, ◌≤◌, false, List, [], ◌∷◌, ◌++◌, length, codes, Some, ◌<◌, ◌&&◌}
 use Rattle.std.specs.List.{flat_map}
 use Rattle.mq_text.specs.Lines.{lines_of}
 use Rattle.mq_history.specs.declared.scenario.Scenario.{Scenario}
@@ -8,16 +8,15 @@ use Rattle.mq_history.specs.declared.scenario.Section.{Section}
 use Rattle.mq_history.specs.declared.scenario.RulesPart.{RulesPart}
 use Rattle.mq_history.specs.declared.scenario.Step.{Step}
 use Rattle.mq_history.specs.declared.scripts.ScriptLine.{ScriptLine}
-use Rattle.mq_scn_text.specs.declared.parts.Stage.{Stage}
-use Rattle.mq_scn_text.specs.declared.parts.Stage.TheVariants as stages
-use Rattle.mq_scn_text.specs.declared.heading.PartLine.{PartLine}
-use Rattle.mq_scn_text.specs.declared.heading.PartLine.TheVariants as parts
+use Rattle.mq_scn_heading.specs.declared.parts.Stage.{Stage}
+use Rattle.mq_scn_heading.specs.declared.parts.Stage.TheVariants as stages
+use Rattle.mq_scn_heading.specs.declared.heading.PartLine.{PartLine}
+use Rattle.mq_scn_heading.specs.declared.heading.PartLine.TheVariants as parts
 use Rattle.mq_scn_text.specs.declared.sections.Opened.{Opened}
 use Rattle.mq_scn_text.specs.declared.scripts.Script.{Script}
 use Rattle.mq_scn_text.specs.declared.reading.Inside.{Inside}
 use Rattle.mq_scn_text.specs.declared.reading.Inside.TheVariants as insides
-use Rattle.mq_scn_text.specs.Lookup.{own_name}
-use Rattle.mq_scn_text.specs.Sections.{rules_ended}
+use Rattle.mq_scn_heading.specs.Lookup.{own_name}
 use Rattle.mq_scn_text.specs.Scripts.{new_script, put_len, connects, script_added}
 use Rattle.mq_scn_text.specs.Reading.{nothing}
 use Rattle.mq_sc_grammar.specs.Texts.{IsComment}
@@ -26,6 +25,7 @@ use Rattle.mq_scn_grammar.specs.ScriptLines.{IsScriptLine}
 use Rattle.mq_scn_parts.specs.Heading.{IsPartLine}
 use Rattle.mq_scn_parts.specs.Steps.{IsStepLine}
 use Rattle.mq_law_scenario.specs.Sections.{IsSection}
+use Rattle.mq_law_scenario.specs.RulesTables.{IsRulesPart}
 
 -- what blocks have said: how far the parts have come, the bytes left of the limit of all bodies, the scenario so far
 pub record Said : Type 0 where
@@ -175,7 +175,7 @@ Ends number (insides.Mqsc o) now line after =
     (section : Section) × IsOnly (codes "ENDMQSC") line × IsSection o section
     × (after ≡ record now { scenario = record now.scenario { sections = now.scenario.sections ++ section ∷ [] } })
 Ends number (insides.Rules o) now line after =
-    (part : RulesPart) × IsOnly (codes "ENDRULES") line × (rules_ended (own_name now.scenario.managers o.manager) o ≡ Ok part)
+    (part : RulesPart) × IsOnly (codes "ENDRULES") line × IsRulesPart (own_name now.scenario.managers o.manager) o part
     × (after ≡ record now { scenario = record now.scenario { rules = now.scenario.rules ++ part ∷ [] } })
 Ends number (insides.Script s) now line after =
     (IsSkipped line → ⊥) × IsOnly (codes "ENDSCRIPT") line × (after ≡ record now { scenario = record now.scenario { scripts = now.scenario.scripts ++ s.part ∷ [] } })

@@ -1,12 +1,12 @@
 -- The first word of a text, a text of one word and a text of blanks, both ways.
 use Rattle.std.proofs.Common.{◌≡◌, ◌⊎◌, ℕ, suc, ◌+◌, Bool, true, false, cond, eqb, List, [], ◌∷◌, ◌++◌, length, take, drop, refl, sym, ap, subst, ◌∙◌, append_assoc, append-nil, arith, inl, inr}
-use Rattle.std.specs.Prelude.{Option, Some, None, not, ◌&&◌}
+use Rattle.std.specs.Prelude.{not, ◌&&◌}
 use Rattle.std.proofs.lemmas.Bool.Decides.{eqb_tells}
 use Rattle.std.proofs.lemmas.List.{take-append-drop, length-append}
-use Rattle.mq_scn_lines.specs.Words.{word_len, toggled, first_word}
+use Rattle.mq_scn_lines.specs.Words.{word_len, first_word}
 use Rattle.mq_scn_grammar.specs.Words.{Mem, AreBlanks, BeginsBlank, ArePieces, IsWord, IsOpenWord, IsFirstWord, IsOnly}
-use Rattle.mq_scn_grammar.proofs.Words.{len_step, quoted_step, pieces_passed, blank_ends, Begun, piece_begun, no_quote_first, quote_no_blank}
-use Rattle.mq_scn_grammar.proofs.Script.{some_front, no_front, no_front_never, front_same, FrontAt, first_found, first_read, past_blanks, word_first}
+use Rattle.mq_scn_grammar.proofs.Words.{len_step, quoted_step, pieces_passed, piece_begun, no_quote_first, quote_no_blank}
+use Rattle.mq_scn_grammar.proofs.Script.{some_front, no_front, no_front_never, front_same, first_found, first_read, past_blanks, word_first}
 
 -- ---- no word
 

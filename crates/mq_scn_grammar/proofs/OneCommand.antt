@@ -1,5 +1,5 @@
 -- One command alone, both ways.
-use Rattle.std.proofs.Common.{◌≡◌, ◌⊎◌, ℕ, List, [], ◌∷◌, Result, Ok, Err, refl, sym, ap, ◌∙◌, inl, inr}
+use Rattle.std.proofs.Common.{◌≡◌, ℕ, List, [], ◌∷◌, Result, Ok, Err, refl, sym, ap, ◌∙◌, inl, inr}
 use Rattle.mq_sc_lex.specs.declared.token.Line.{Line}
 use Rattle.mq_sc_lex.specs.declared.fault.LexFault.{LexFault}
 use Rattle.mq_sc_lex.specs.Commands.{commands_of}

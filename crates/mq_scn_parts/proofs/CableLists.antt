@@ -11,8 +11,8 @@ use Rattle.mq_scn_lines.specs.declared.fault.LineFault.{LineFault}
 use Rattle.mq_scn_lines.specs.declared.fault.LineFault.TheVariants as faults
 use Rattle.mq_scn_lines.specs.Faults.{rank, both}
 use Rattle.mq_scn_lines.specs.Operands.{bracketed}
-use Rattle.mq_scn_text.specs.Distinct.{is_among, are_distinct}
-use Rattle.mq_scn_text.specs.Cables.{frame_in, fault_in, value_from, value_in, before_comma, first_number, frame_or_none, first_of, first_in, with_first, firsts_from, is_form, have_form, then_faults, faults_from, faults_of, behind_keyword, direction, back_place, cable_faults}
+use Rattle.mq_scn_heading.specs.Distinct.{is_among, are_distinct}
+use Rattle.mq_scn_heading.specs.Cables.{frame_in, fault_in, value_from, value_in, before_comma, first_number, frame_or_none, first_of, first_in, with_first, firsts_from, is_form, have_form, then_faults, faults_from, faults_of, behind_keyword, direction, back_place, cable_faults}
 use Rattle.mq_scn_grammar.specs.Words.{Mem}
 use Rattle.mq_scn_grammar.specs.Operands.{IsBracketed}
 use Rattle.mq_scn_grammar.proofs.Told.{Reports, is_plain, told_both, told_as, value_found, value_read}

@@ -9,7 +9,7 @@ use Rattle.mq_scn_lines.specs.declared.fault.LineFault.{LineFault}
 use Rattle.mq_scn_lines.specs.declared.fault.LineFault.TheVariants as faults
 use Rattle.mq_scn_lines.specs.Faults.{both}
 use Rattle.mq_scn_lines.specs.Operands.{bracketed}
-use Rattle.mq_scn_text.specs.Cables.{frame_in, dropping, dropped, spoiling, spoiled, holding, late, copying, copied, late_of, copy_of, fault_from, fault_in}
+use Rattle.mq_scn_heading.specs.Cables.{frame_in, dropping, dropped, spoiling, spoiled, holding, late, copying, copied, late_of, copy_of, fault_from, fault_in}
 use Rattle.mq_scn_grammar.specs.Operands.{IsBracketed}
 use Rattle.mq_scn_grammar.proofs.Told.{Reports, told_both, told_map, told_via}
 use Rattle.mq_scn_grammar.proofs.Operands.{bracketed_read, bracketed_found}

@@ -15,8 +15,8 @@ use Rattle.mq_history.specs.declared.scenario.MonitorLine.{MonitorLine}
 use Rattle.mq_scn_lines.specs.declared.fault.LineFault.{LineFault}
 use Rattle.mq_scn_lines.specs.declared.fault.LineFault.TheVariants as faults
 use Rattle.mq_scn_lines.specs.Operands.{label_in, name_in}
-use Rattle.mq_scn_text.specs.Lookup.{known, found, manager_place, manager_at, section_place, section_at, rules_place, rules_at, script_place, script_at, monitor_place, monitor_at, is_place, is_declared, unless_declared, new_label}
-use Rattle.mq_scn_text.specs.Heading.{unless_there, new_name, new_manager, channel_place, new_channel_name, new_channel}
+use Rattle.mq_scn_heading.specs.Lookup.{known, found, manager_place, manager_at, section_place, section_at, rules_place, rules_at, script_place, script_at, monitor_place, monitor_at, is_place, is_declared, unless_declared, new_label}
+use Rattle.mq_scn_heading.specs.Heading.{unless_there, new_name, new_manager, channel_place, new_channel_name, new_channel}
 use Rattle.mq_scn_grammar.specs.Words.{Mem}
 use Rattle.mq_scn_grammar.specs.Faults.{IsMissed}
 use Rattle.mq_scn_grammar.specs.Operands.{IsNameWord}

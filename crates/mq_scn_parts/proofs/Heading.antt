@@ -10,15 +10,15 @@ use Rattle.mq_scn_lines.specs.declared.fault.LineFault.TheVariants as faults
 use Rattle.mq_scn_lines.specs.Faults.{rank, limit_rank, both}
 use Rattle.mq_scn_lines.specs.Numbers.{ranged}
 use Rattle.mq_scn_lines.specs.Operands.{bracketed}
-use Rattle.mq_scn_text.specs.declared.parts.PartWord.{PartWord}
-use Rattle.mq_scn_text.specs.declared.parts.PartWord.TheVariants as words
-use Rattle.mq_scn_text.specs.declared.parts.Stage.{Stage}
-use Rattle.mq_scn_text.specs.declared.heading.PartLine.{PartLine}
-use Rattle.mq_scn_text.specs.declared.heading.PartLine.TheVariants as parts
-use Rattle.mq_scn_text.specs.Lookup.{manager_at, new_label}
-use Rattle.mq_scn_text.specs.Parts.{stage_rank, from_stage, up_to_stage, stage_behind, is_full, in_order, unless_full, allowed}
-use Rattle.mq_scn_text.specs.Cables.{cable_faults}
-use Rattle.mq_scn_text.specs.Heading.{alone, at_moment, moment_line, new_manager, log_number, log_max_in, log_max, managed, manager_line, new_channel, apart, ends_of, cabled, connected, cable_with, cable_line, owned, labelled, mqsc_of, rules_of, script_of, needed_queue, queue_in, monitored, monitor_with, monitor_line, part_line}
+use Rattle.mq_scn_heading.specs.declared.parts.PartWord.{PartWord}
+use Rattle.mq_scn_heading.specs.declared.parts.PartWord.TheVariants as words
+use Rattle.mq_scn_heading.specs.declared.parts.Stage.{Stage}
+use Rattle.mq_scn_heading.specs.declared.heading.PartLine.{PartLine}
+use Rattle.mq_scn_heading.specs.declared.heading.PartLine.TheVariants as parts
+use Rattle.mq_scn_heading.specs.Lookup.{manager_at, new_label}
+use Rattle.mq_scn_heading.specs.Parts.{stage_rank, from_stage, up_to_stage, stage_behind, is_full, in_order, unless_full, allowed}
+use Rattle.mq_scn_heading.specs.Cables.{cable_faults}
+use Rattle.mq_scn_heading.specs.Heading.{alone, at_moment, moment_line, new_manager, log_number, log_max_in, log_max, managed, manager_line, new_channel, apart, ends_of, cabled, connected, cable_with, cable_line, owned, labelled, mqsc_of, rules_of, script_of, needed_queue, queue_in, monitored, monitor_with, monitor_line, part_line}
 use Rattle.mq_scn_grammar.specs.Operands.{IsBracketed}
 use Rattle.mq_scn_grammar.specs.LineOptions.{NumberIn, NumberFault}
 use Rattle.mq_scn_grammar.specs.Faults.{IsMissed}

@@ -9,15 +9,15 @@ use Rattle.mq_scn_lines.specs.declared.fault.LineFault.{LineFault}
 use Rattle.mq_scn_lines.specs.declared.fault.LineFault.TheVariants as faults
 use Rattle.mq_scn_lines.specs.Faults.{both}
 use Rattle.mq_scn_lines.specs.Words.{first_word, is_open, words_of}
-use Rattle.mq_scn_text.specs.declared.parts.PartWord.{PartWord}
-use Rattle.mq_scn_text.specs.declared.parts.PartWord.TheVariants as words
-use Rattle.mq_scn_text.specs.declared.parts.Stage.{Stage}
-use Rattle.mq_scn_text.specs.declared.heading.PartLine.{PartLine}
+use Rattle.mq_scn_heading.specs.declared.parts.PartWord.{PartWord}
+use Rattle.mq_scn_heading.specs.declared.parts.PartWord.TheVariants as words
+use Rattle.mq_scn_heading.specs.declared.parts.Stage.{Stage}
+use Rattle.mq_scn_heading.specs.declared.heading.PartLine.{PartLine}
 use Rattle.mq_scn_text.specs.declared.fault.ScenarioFault.{ScenarioFault}
 use Rattle.mq_scn_text.specs.declared.reading.Reading.{Reading}
 use Rattle.mq_scn_text.specs.Faults.{fault_at}
-use Rattle.mq_scn_text.specs.Parts.{part_words, part_text, part_word_of, allowed}
-use Rattle.mq_scn_text.specs.Heading.{part_line, part_read}
+use Rattle.mq_scn_heading.specs.Parts.{part_words, part_text, part_word_of, allowed}
+use Rattle.mq_scn_heading.specs.Heading.{part_line, part_read}
 use Rattle.mq_scn_text.specs.Reading.{part_added, part_begun, part_of_word, part_from, part_line_read}
 use Rattle.mq_scn_grammar.specs.Words.{IsWord}
 use Rattle.mq_scn_grammar.proofs.Told.{Reports, told_both, told_via, value_read, fault_found, fault_read, either_way}

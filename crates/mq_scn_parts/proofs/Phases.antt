@@ -9,8 +9,8 @@ use Rattle.mq_scn_lines.specs.declared.fault.LineFault.{LineFault}
 use Rattle.mq_scn_lines.specs.declared.fault.LineFault.TheVariants as faults
 use Rattle.mq_scn_lines.specs.Faults.{rank}
 use Rattle.mq_scn_lines.specs.Operands.{label_in}
-use Rattle.mq_scn_text.specs.Lookup.{script_at}
-use Rattle.mq_scn_text.specs.Phases.{is_good, is_label, are_labels, is_script, are_scripts, with_place, places_from, is_in, are_single, single, phase_of}
+use Rattle.mq_scn_heading.specs.Lookup.{script_at}
+use Rattle.mq_scn_heading.specs.Phases.{is_good, is_label, are_labels, is_script, are_scripts, with_place, places_from, is_in, are_single, single, phase_of}
 use Rattle.mq_scn_grammar.specs.Words.{Mem}
 use Rattle.mq_scn_grammar.specs.Faults.{IsMissed}
 use Rattle.mq_scn_grammar.proofs.Told.{Reports, value_read}

@@ -13,10 +13,10 @@ use Rattle.mq_scn_lines.specs.declared.fault.LineFault.TheVariants as faults
 use Rattle.mq_scn_lines.specs.Faults.{rank, both}
 use Rattle.mq_scn_lines.specs.Words.{first_word, is_open, words_of}
 use Rattle.mq_scn_script.specs.Commands.{command_in}
-use Rattle.mq_scn_text.specs.declared.steps.StepVerb.{StepVerb}
-use Rattle.mq_scn_text.specs.declared.steps.StepVerb.TheVariants as verbs
-use Rattle.mq_scn_text.specs.Lookup.{manager_at}
-use Rattle.mq_scn_text.specs.Steps.{step_verbs, step_text, step_verb_of, stepped, done_by, do_line, step_of, verb_read, step_from, step_line}
+use Rattle.mq_scn_heading.specs.declared.steps.StepVerb.{StepVerb}
+use Rattle.mq_scn_heading.specs.declared.steps.StepVerb.TheVariants as verbs
+use Rattle.mq_scn_heading.specs.Lookup.{manager_at}
+use Rattle.mq_scn_heading.specs.Steps.{step_verbs, step_text, step_verb_of, stepped, done_by, do_line, step_of, verb_read, step_from, step_line}
 use Rattle.mq_scn_grammar.specs.Words.{IsWord}
 use Rattle.mq_scn_grammar.specs.Commands.{IsOneCommand, HasCommandFault}
 use Rattle.mq_scn_grammar.proofs.Words.{words_read as read_words, words_found}

@@ -9,11 +9,11 @@ use Rattle.mq_scn_lines.specs.declared.fault.LineFault.{LineFault}
 use Rattle.mq_scn_lines.specs.declared.fault.LineFault.TheVariants as faults
 use Rattle.mq_scn_lines.specs.Faults.{both}
 use Rattle.mq_scn_lines.specs.Numbers.{ranged}
-use Rattle.mq_scn_text.specs.declared.steps.StepVerb.{StepVerb}
-use Rattle.mq_scn_text.specs.declared.steps.StepVerb.TheVariants as verbs
-use Rattle.mq_scn_text.specs.Lookup.{manager_at, section_at, rules_at, script_at, monitor_at}
-use Rattle.mq_scn_text.specs.Phases.{phase_of}
-use Rattle.mq_scn_text.specs.Steps.{stepped, obey_line, some_lines, lines_in, run_line, phase_line, turns_in, pump_line, handle_line, watch_line, serve_line, crash_line, restart_line, cut_count_in, cut_line, clock_line, step_of}
+use Rattle.mq_scn_heading.specs.declared.steps.StepVerb.{StepVerb}
+use Rattle.mq_scn_heading.specs.declared.steps.StepVerb.TheVariants as verbs
+use Rattle.mq_scn_heading.specs.Lookup.{manager_at, section_at, rules_at, script_at, monitor_at}
+use Rattle.mq_scn_heading.specs.Phases.{phase_of}
+use Rattle.mq_scn_heading.specs.Steps.{stepped, obey_line, some_lines, lines_in, run_line, phase_line, turns_in, pump_line, handle_line, watch_line, serve_line, crash_line, restart_line, cut_count_in, cut_line, clock_line, step_of}
 use Rattle.mq_scn_grammar.specs.LineOptions.{NumberIn, NumberFault}
 use Rattle.mq_scn_grammar.proofs.Told.{Reports, told_both, told_map}
 use Rattle.mq_scn_grammar.proofs.Numbers.{ranged_tells}

@@ -6,12 +6,12 @@ use Rattle.mq_scn_lines.specs.declared.fault.Limit.{Limit}
 use Rattle.mq_scn_lines.specs.declared.fault.Limit.TheVariants as limits
 use Rattle.mq_scn_lines.specs.declared.fault.LineFault.{LineFault}
 use Rattle.mq_scn_lines.specs.declared.fault.LineFault.TheVariants as faults
-use Rattle.mq_scn_text.specs.declared.parts.PartWord.{PartWord}
-use Rattle.mq_scn_text.specs.declared.parts.PartWord.TheVariants as words
-use Rattle.mq_scn_text.specs.declared.parts.Stage.{Stage}
-use Rattle.mq_scn_text.specs.declared.heading.PartLine.{PartLine}
-use Rattle.mq_scn_text.specs.declared.heading.PartLine.TheVariants as parts
-use Rattle.mq_scn_text.specs.Parts.{part_text, stage_rank, from_stage, up_to_stage, stage_behind, is_full}
+use Rattle.mq_scn_heading.specs.declared.parts.PartWord.{PartWord}
+use Rattle.mq_scn_heading.specs.declared.parts.PartWord.TheVariants as words
+use Rattle.mq_scn_heading.specs.declared.parts.Stage.{Stage}
+use Rattle.mq_scn_heading.specs.declared.heading.PartLine.{PartLine}
+use Rattle.mq_scn_heading.specs.declared.heading.PartLine.TheVariants as parts
+use Rattle.mq_scn_heading.specs.Parts.{part_text, stage_rank, from_stage, up_to_stage, stage_behind, is_full}
 use Rattle.mq_scn_grammar.specs.Words.{AreWords}
 use Rattle.mq_scn_grammar.specs.Faults.{IsMissed, IsTold}
 use Rattle.mq_scn_grammar.specs.Operands.{IsBracketed, IsNameWord}

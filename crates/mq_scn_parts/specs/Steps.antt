@@ -8,9 +8,9 @@ use Rattle.mq_history.specs.declared.scenario.Step.TheVariants as steps
 use Rattle.mq_scn_lines.specs.declared.fault.Limit.TheVariants as limits
 use Rattle.mq_scn_lines.specs.declared.fault.LineFault.{LineFault}
 use Rattle.mq_scn_lines.specs.declared.fault.LineFault.TheVariants as faults
-use Rattle.mq_scn_text.specs.declared.steps.StepVerb.{StepVerb}
-use Rattle.mq_scn_text.specs.declared.steps.StepVerb.TheVariants as verbs
-use Rattle.mq_scn_text.specs.Steps.{step_text}
+use Rattle.mq_scn_heading.specs.declared.steps.StepVerb.{StepVerb}
+use Rattle.mq_scn_heading.specs.declared.steps.StepVerb.TheVariants as verbs
+use Rattle.mq_scn_heading.specs.Steps.{step_text}
 use Rattle.mq_scn_grammar.specs.Words.{Mem, AreBlanks, BeginsBlank, AreWords, IsFirstWord}
 use Rattle.mq_scn_grammar.specs.Commands.{IsOneCommand, HasCommandFault}
 use Rattle.mq_scn_grammar.specs.Faults.{IsTold}

@@ -5,12 +5,12 @@ ghost use Rattle.mq_history.specs.declared.scenario.Scenario.{Scenario};
 ghost use Rattle.mq_history.specs.declared.scenario.Step.{Step};
 ghost use Rattle.mq_scn_lines.specs.declared.fault.LineFault.{LineFault};
 ghost use Rattle.mq_scn_text.specs.declared.fault.ScenarioFault.{ScenarioFault};
-ghost use Rattle.mq_scn_text.specs.declared.heading.PartLine.{PartLine};
-ghost use Rattle.mq_scn_text.specs.declared.parts.Stage.{Stage};
+ghost use Rattle.mq_scn_heading.specs.declared.heading.PartLine.{PartLine};
+ghost use Rattle.mq_scn_heading.specs.declared.parts.Stage.{Stage};
 ghost use Rattle.mq_scn_text.specs.declared.reading.Reading.{Reading};
 ghost use Rattle.mq_scn_text.specs.Faults.{fault_at};
 ghost use Rattle.mq_scn_text.specs.Reading.{part_added, part_line_read};
-ghost use Rattle.mq_scn_text.specs.Steps.{step_line};
+ghost use Rattle.mq_scn_heading.specs.Steps.{step_line};
 ghost use Rattle.mq_scn_parts.specs.Heading.{IsPartLine, IsPartLineFault};
 ghost use Rattle.mq_scn_parts.specs.Steps.{IsStepLine, IsStepFault};
 

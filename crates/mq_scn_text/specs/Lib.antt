@@ -1,12 +1,5 @@
 pub mod Faults
 pub mod FaultWords
-pub mod Lookup
-pub mod Distinct
-pub mod Cables
-pub mod Phases
-pub mod Parts
-pub mod Heading
-pub mod Steps
 pub mod Sections
 pub mod Scripts
 pub mod Reading

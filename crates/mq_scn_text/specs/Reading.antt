@@ -18,23 +18,23 @@ use Rattle.mq_scn_lines.specs.Words.{first_word}
 use Rattle.mq_scn_text.specs.declared.fault.Cause.TheVariants as causes
 use Rattle.mq_scn_text.specs.declared.fault.ScenarioFault.{ScenarioFault}
 use Rattle.mq_scn_text.specs.declared.fault.ScenarioFault.TheVariants as faults
-use Rattle.mq_scn_text.specs.declared.parts.PartWord.{PartWord}
-use Rattle.mq_scn_text.specs.declared.parts.Stage.{Stage}
-use Rattle.mq_scn_text.specs.declared.parts.Stage.TheVariants as stages
-use Rattle.mq_scn_text.specs.declared.heading.PartLine.{PartLine}
-use Rattle.mq_scn_text.specs.declared.heading.PartLine.TheVariants as parts
+use Rattle.mq_scn_heading.specs.declared.parts.PartWord.{PartWord}
+use Rattle.mq_scn_heading.specs.declared.parts.Stage.{Stage}
+use Rattle.mq_scn_heading.specs.declared.parts.Stage.TheVariants as stages
+use Rattle.mq_scn_heading.specs.declared.heading.PartLine.{PartLine}
+use Rattle.mq_scn_heading.specs.declared.heading.PartLine.TheVariants as parts
 use Rattle.mq_scn_text.specs.declared.sections.Opened.{Opened}
 use Rattle.mq_scn_text.specs.declared.scripts.Script.{Script}
 use Rattle.mq_scn_text.specs.declared.reading.Inside.{Inside}
 use Rattle.mq_scn_text.specs.declared.reading.Inside.TheVariants as insides
 use Rattle.mq_scn_text.specs.declared.reading.Reading.{Reading}
 use Rattle.mq_scn_text.specs.Faults.{fault_at, and_then}
-use Rattle.mq_scn_text.specs.Lookup.{own_name}
-use Rattle.mq_scn_text.specs.Parts.{part_word_of}
-use Rattle.mq_scn_text.specs.Heading.{part_read}
+use Rattle.mq_scn_heading.specs.Lookup.{own_name}
+use Rattle.mq_scn_heading.specs.Parts.{part_word_of}
+use Rattle.mq_scn_heading.specs.Heading.{part_read}
 use Rattle.mq_scn_text.specs.Sections.{line_in, text_added, mqsc_ended, mqsc_cut, rules_ended, rules_cut}
 use Rattle.mq_scn_text.specs.Scripts.{new_script, put_len, script_read, script_added}
-use Rattle.mq_scn_text.specs.Steps.{step_line}
+use Rattle.mq_scn_heading.specs.Steps.{step_line}
 
 abbrev pub nothing : Scenario
 nothing = record { moment = None; managers = []; cables = []; sections = []; rules = []; scripts = []; monitors = []; steps = [] }

@@ -7,17 +7,14 @@ ghost use Rattle.mq_scn_text.specs.Faults.{Gives};
 ghost use Rattle.mq_scn_text.specs.Reading.{nothing_read, is_only, is_comment, is_skipped, opened, with_moment, with_manager, with_cable, with_monitor, gone_inside, with_section, with_rules, script_closed, line_said, step_done, part_added, part_line_read, outside_read, mqsc_line_read, rules_line_read, script_line_read, skipped_or_script, step_room, step_read, step_line_read, skipped_or_step, inside_read, section_cut, line_read, lines_read, is_whole, ended, scenario_of};
 
 use crate::fault::{Cause, ScenarioFault, fault_at};
-use crate::heading::{PartLine, part_read};
-use crate::lookup::own_name;
-use crate::parts::{Stage, part_word_of};
 use crate::scripts::{Script, new_script, put_len, script_added, script_read};
 use crate::sections::{Opened, line_in, mqsc_cut, mqsc_ended, rules_cut, rules_ended, text_added};
-use crate::steps::step_line;
 use mq_base::Items;
 use mq_history::{
     CableLine, ManagerLine, MonitorLine, RulesPart, Scenario, ScriptLine, Section, Step,
 };
 use mq_name::Label;
+use mq_scn_heading::{PartLine, Stage, own_name, part_read, part_word_of, step_line};
 use mq_scn_lines::{Limit, LineFault, both, first_word};
 use mq_text::next_line;
 use std::alloc::Global;

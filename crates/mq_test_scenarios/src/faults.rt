@@ -84,6 +84,106 @@ const STEPS: [(&str, &str); 13] = [
     ("STEPS\nENDSTEPS", "read"),
 ];
 
+/// A part as often as it may stand, and once more.
+struct Counted {
+    /// What stands before the parts.
+    front: &'static str,
+    /// A part before its number and behind it.
+    before: &'static str,
+    behind: &'static str,
+    most: u32,
+    /// What ends a whole text behind them.
+    back: &'static str,
+    /// What is told of one part more.
+    want: &'static str,
+}
+
+const COUNTED: [Counted; 8] = [
+    Counted {
+        front: "",
+        before: "QMGR M",
+        behind: "\n",
+        most: 6,
+        back: "STEPS\nENDSTEPS\n",
+        want: "line 10: Limit Managers",
+    },
+    Counted {
+        front: "",
+        before: "CABLE C",
+        behind: " LONDON PARIS\n",
+        most: 32,
+        back: "STEPS\nENDSTEPS\n",
+        want: "line 36: Limit Cables",
+    },
+    Counted {
+        front: "",
+        before: "SCRIPT S",
+        behind: " LONDON\nENDSCRIPT\n",
+        most: 64,
+        back: "STEPS\nENDSTEPS\n",
+        want: "line 132: Limit Scripts",
+    },
+    Counted {
+        front: "",
+        before: "MQSC D",
+        behind: " LONDON\nENDMQSC\n",
+        most: 64,
+        back: "STEPS\nENDSTEPS\n",
+        want: "line 132: Limit Sections",
+    },
+    Counted {
+        front: "RULES R1 LONDON\nENDRULES\n",
+        before: "MQSC D",
+        behind: " LONDON\nENDMQSC\n",
+        most: 63,
+        back: "STEPS\nENDSTEPS\n",
+        want: "line 132: Limit Sections",
+    },
+    Counted {
+        front: "",
+        before: "MONITOR M",
+        behind: " LONDON QUEUE(Q)\n",
+        most: 16,
+        back: "STEPS\nENDSTEPS\n",
+        want: "line 20: Limit Monitors",
+    },
+    Counted {
+        front: "STEPS\n",
+        before: "CLOCK ",
+        behind: "\n",
+        most: 3_000,
+        back: "ENDSTEPS\n",
+        want: "line 3005: Limit Steps",
+    },
+    Counted {
+        front: "SCRIPT A LONDON\n",
+        before: "MQCLOSE H",
+        behind: "\n",
+        most: 25_000,
+        back: "ENDSCRIPT\nSTEPS\nENDSTEPS\n",
+        want: "line 25005: Limit ScriptLines",
+    },
+];
+
+const BODIES: [(&str, &str); 4] = [
+    (
+        "SCRIPT A LONDON\nMQPUT H FILL(4194304,'A')\nENDSCRIPT\nSTEPS\nENDSTEPS\n",
+        "read",
+    ),
+    (
+        "SCRIPT A LONDON\nMQPUT H FILL(4194305,'A')\n",
+        "line 5: Limit Body",
+    ),
+    (
+        "SCRIPT A LONDON\nMQGET H WAIT(1000000000)\n",
+        "line 5: Limit Clock",
+    ),
+    (
+        "RULES R1 LONDON\nENDRULES\nSTEPS\nHANDLE R1 100001\n",
+        "line 7: Limit Turns",
+    ),
+];
+
 /// What the reader says of a text.
 fn told(alloc: Global, text: &[u8]) -> Result<String, AllocError> {
     match read_scenario(alloc, text) {
@@ -140,6 +240,66 @@ fn a_line_behind_forty_thousand_is_too_many(rt: HostRuntime) -> Result<(), Fail>
     assert_eq!(rt;
         told(rt.alloc(), text.as_slice())?.as_str(),
         "line 40001: Limit Lines"
+    );
+    Ok(())
+}
+
+/// A text with so many of the parts.
+fn with_parts(alloc: Global, row: &Counted, count: u32) -> Result<String, AllocError> {
+    let mut text = String::from_str(alloc, HEAD)?;
+    text.push_str(row.front)?;
+    for n in 0..count {
+        let number = format!(in alloc; "{n}")?;
+        text.push_str(row.before)?;
+        text.push_str(number.as_str())?;
+        text.push_str(row.behind)?;
+    }
+    text.push_str(row.back)?;
+    Ok(text)
+}
+
+/// What the reader says of a text with so many of the parts.
+fn told_of(alloc: Global, row: &Counted, count: u32) -> Result<String, AllocError> {
+    let text = with_parts(alloc, row, count)?;
+    told(alloc, text.as_bytes())
+}
+
+#[test]
+fn each_part_stands_as_often_as_it_may(rt: HostRuntime) -> Result<(), Fail> {
+    for row in &COUNTED {
+        assert_eq!(rt; told_of(rt.alloc(), row, row.most)?.as_str(), "read");
+    }
+    Ok(())
+}
+
+#[test]
+fn one_part_more_is_too_many(rt: HostRuntime) -> Result<(), Fail> {
+    for row in &COUNTED {
+        assert_eq!(rt;
+            told_of(rt.alloc(), row, row.most.saturating_add(1))?.as_str(),
+            row.want
+        );
+    }
+    Ok(())
+}
+
+#[test]
+fn a_number_of_a_line_has_its_limit(rt: HostRuntime) -> Result<(), Fail> {
+    assert_eq!(rt; first_wrong(rt.alloc(), BODIES.as_slice())?, None);
+    Ok(())
+}
+
+#[test]
+fn all_bodies_together_have_a_limit(rt: HostRuntime) -> Result<(), Fail> {
+    let mut text = String::from_str(rt.alloc(), HEAD)?;
+    text.push_str("SCRIPT A LONDON\n")?;
+    for _ in 0..16 {
+        text.push_str("MQPUT H FILL(4194304,'A')\n")?;
+    }
+    text.push_str("MQPUT H TEXT('')\nMQPUT H FILL(1,'A')\n")?;
+    assert_eq!(rt;
+        told(rt.alloc(), text.as_bytes())?.as_str(),
+        "line 22: Limit Bodies"
     );
     Ok(())
 }

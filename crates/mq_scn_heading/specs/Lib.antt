@@ -1,0 +1,7 @@
+pub mod Lookup
+pub mod Distinct
+pub mod Cables
+pub mod Phases
+pub mod Parts
+pub mod Heading
+pub mod Steps
