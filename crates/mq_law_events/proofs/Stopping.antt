@@ -245,7 +245,7 @@ stop_told m p r l t given definitions connections moment =
     }
 
 -- to a manager without connections, with these rows
-rests_to : (m : ℕ) (given : Ident → Bool) (p r : Plain) (l : Ledger) → IsTold m p l → IsFresh given r → r.given ≡ p.given → r.definitions ≡ p.definitions → r.connections ≡ [] → r.moment ≡ p.moment
+pub rests_to : (m : ℕ) (given : Ident → Bool) (p r : Plain) (l : Ledger) → IsTold m p l → IsFresh given r → r.given ≡ p.given → r.definitions ≡ p.definitions → r.connections ≡ [] → r.moment ≡ p.moment
     → r.channels.senders ≡ p.channels.senders → r.channels.receivers ≡ p.channels.receivers → r.channels.batches ≡ p.channels.batches
     → ((d : List ℕ) → retag bare (rested_rows (λ d. (stored d p).rows) d) ≡ retag bare (stored d r).rows) → Follow m given p l r (ledgers.stop m l)
 rests_to m given p r l t fresh g d c mo s re ba rows =
@@ -275,7 +275,7 @@ stop_follows m given p l running f t none =
 
 -- A restart: what lasts, numbered anew.
 
-numbered_bare : (n : ℕ) (xs : List Row) → retag bare (numbered n xs) ≡ retag bare xs
+pub numbered_bare : (n : ℕ) (xs : List Row) → retag bare (numbered n xs) ≡ retag bare xs
 numbered_bare n [] = refl
 numbered_bare n (x ∷ xs) = ap (λ (ys : List Row). bare x ∷ ys) (numbered_bare (n + 1) xs)
 
@@ -291,7 +291,7 @@ lasting_bare x (Some (holders.Unit k)) e = (λ i. bare (release_if (is_by_unit (
 lasting_bare x (Some (holders.Batch c)) e = (λ i. bare (release_if (is_by_unit (e i)) true x)) ∙ (λ i. record { place = record { lane = x.place.lane; arrival = 0 }; message = uncounted_message x.message; by = e i })
     ∙ (λ i. record { place = record { lane = x.place.lane; arrival = 0 }; message = uncounted_message x.message; by = rests_by [] (sym e i) })
 
-lasting_alike : (xs : List Row) → retag bare (keep (λ y. not (not (is_persistent y.message))) (retag (λ y. release_if (is_by_unit y.by) true y) xs)) ≡ retag bare (lasting_rows [] xs)
+pub lasting_alike : (xs : List Row) → retag bare (keep (λ y. not (not (is_persistent y.message))) (retag (λ y. release_if (is_by_unit y.by) true y) xs)) ≡ retag bare (lasting_rows [] xs)
 lasting_alike [] = refl
 lasting_alike (x ∷ xs) =
     let ys : List Row = retag (λ y. release_if (is_by_unit y.by) true y) xs in

@@ -20,7 +20,6 @@ use Rattle.mq_sc_parse.specs.declared.command.Command.TheVariants as lines
 use Rattle.mq_sc_parse.specs.declared.command.Op.{Op}
 use Rattle.mq_sc_parse.specs.declared.command.Op.TheVariants as ops
 use Rattle.mq_calls.specs.declared.choices.Choice.{Choice}
-use Rattle.mq_calls.specs.declared.choices.Choice.TheVariants.{NoMemory}
 use Rattle.mq_calls.specs.declared.choices.Return.{Return}
 use Rattle.mq_calls.specs.declared.choices.Return.TheVariants.{Comes, Fails}
 use Rattle.mq_calls.specs.declared.commands.Shown.{Shown}
@@ -36,7 +35,6 @@ use Rattle.mq_history.specs.declared.acts.Act.TheVariants as acts
 use Rattle.mq_history.specs.declared.acts.OpRefusal.{OpRefusal}
 use Rattle.mq_history.specs.declared.acts.OpRefusal.TheVariants as op_refusals
 use Rattle.mq_history.specs.declared.calls.Actor.{Actor}
-use Rattle.mq_history.specs.declared.calls.Call.{Call}
 use Rattle.mq_history.specs.declared.calls.Call.TheVariants as calls
 use Rattle.mq_history.specs.declared.calls.Chance.{Chance}
 use Rattle.mq_history.specs.declared.calls.Chance.TheVariants as chances
@@ -47,13 +45,13 @@ use Rattle.mq_spec_state.specs.State.{Plain, Given, Running, Noted, LogState}
 use Rattle.mq_spec_state.specs.State.Running.{Up, Down}
 use Rattle.mq_spec_state.specs.Reads.{is_up, stored}
 use Rattle.mq_spec_state.specs.Images.{begun, lasting, raised}
-use Rattle.mq_spec_state.specs.Steps.{delta_of, Step, Part, when, refusal, tested, refused_or, logged, do_part}
+use Rattle.mq_spec_state.specs.Steps.{delta_of, Step, Part, when, refusal, refused_or, logged, do_part}
 use Rattle.mq_spec_state.specs.Steps.Step.{Refuse, Do}
 use Rattle.mq_spec_manager.specs.Commands.{command, planned_step, object_part, uses_of}
-use Rattle.mq_spec_manager.specs.Stops.{stop, stop_at, restart_at, restarted, redone, redone_delta, grown, last_moment}
+use Rattle.mq_spec_manager.specs.Stops.{stop_at, restart_at, restarted, redone, redone_delta, grown, last_moment}
 use Rattle.mq_spec_manager.specs.Triggers.{Never, first_due, trigger_turn, trigger_at, serve, serve_by, serve_into, put_trigger, takes_it}
 use Rattle.mq_history.specs.declared.calls.Actor.TheVariants as actors
-use Rattle.mq_spec_node.specs.Node.{Node, Own, Handler, sender_named, as_sender, as_receiver, end_in}
+use Rattle.mq_spec_node.specs.Node.{Node, Own, sender_named, as_sender, as_receiver, end_in}
 use Rattle.mq_spec_node.specs.Deeds.{Deed, told, parts_of, CanCome, end_at_rest, end_begun, begun_anew}
 use Rattle.mq_spec_node.specs.Happens.{turn_up, timeout_by, sender_turn, receiver_turn, timeout_of, IsDeed, IsReturn, RunsAlone, crashed, done_or, remembering, command_deed, where_up, trigger_deed, trigger_deed_of}
 use Rattle.mq_spec_node.specs.Happens.{restarted as node_restarted}

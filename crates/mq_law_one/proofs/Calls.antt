@@ -1,6 +1,6 @@
 -- Each call of an application, each command, and each turn of a manager without channels: what it leaves, and what is posted.
 use Rattle.std.proofs.Common.{ℕ, ◌≡◌, Bool, true, false, not, List, [], ◌∷◌, refl, ap, sym}
-use Rattle.std.specs.Prelude.{Option, Some, None, Result, Ok}
+use Rattle.std.specs.Prelude.{Option, Some, None, Result}
 use Rattle.mq_message.specs.declared.message.Ident.{Ident}
 use Rattle.mq_message.specs.declared.message.Md.{Md}
 use Rattle.mq_codes.specs.declared.reason.Reason.{Reason}
@@ -9,7 +9,6 @@ use Rattle.mq_frame.specs.declared.frame.Seen.{Seen}
 use Rattle.mq_calls.specs.declared.answers.Answer.TheVariants as answers
 use Rattle.mq_calls.specs.declared.answers.Appl.{Appl}
 use Rattle.mq_calls.specs.declared.answers.Get.{Get}
-use Rattle.mq_calls.specs.declared.answers.Got.{Got}
 use Rattle.mq_calls.specs.declared.answers.GetAnswer.{GetAnswer}
 use Rattle.mq_calls.specs.declared.answers.GetAnswer.TheVariants as get_answers
 use Rattle.mq_calls.specs.declared.answers.Hconn.{Hconn}
@@ -37,7 +36,7 @@ use Rattle.mq_spec_manager.specs.Put.{put_up, put1_resolved, mqput, mqput1}
 use Rattle.mq_spec_manager.specs.Get.{get_up, mqget}
 use Rattle.mq_spec_manager.specs.Units.{commit_part, backout_part, mqcmit, mqback, mqdisc}
 use Rattle.mq_spec_node.specs.Node.{Node}
-use Rattle.mq_spec_node.specs.Deeds.{told, CanCome, mqi_deed, ended_deed}
+use Rattle.mq_spec_node.specs.Deeds.{CanCome, mqi_deed, ended_deed}
 use Rattle.mq_spec_node.specs.Happens.{event, IsDeed, done_or, remembering, get_deed}
 use Rattle.mq_spec_network.specs.Ledger as ledgers
 use Rattle.mq_spec_network.specs.Ledger.{Ledger, posted, connect_if, open_if, close_if, sent_ident, is_ended}

@@ -32,7 +32,7 @@ use Rattle.mq_spec_state.specs.Condition.{condition}
 use Rattle.mq_spec_state.specs.Steps.{Step, Part, logged, do_part, do_all, delta_of, delta_before, stopped_at, IsWrite}
 use Rattle.mq_spec_state.specs.Steps.Step.{Refuse, Do}
 use Rattle.mq_spec_manager.specs.Handles.{connected, live_or, for_connection, is_other, is_present}
-use Rattle.mq_spec_node.specs.Node.{Node, Own, Handler}
+use Rattle.mq_spec_node.specs.Node.{Node, Own}
 use Rattle.mq_spec_node.specs.Deeds.{Deed, told, mqi_deed, ended_deed, done, CanCome, forgotten_rows, node_of}
 use Rattle.mq_spec_node.specs.Happens.{remembered, remembering}
 use Rattle.mq_spec_network.specs.Ledger as ledgers

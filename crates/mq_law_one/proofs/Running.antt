@@ -23,9 +23,9 @@ use Rattle.mq_sc_parse.specs.declared.command.Command.TheVariants as lines
 use Rattle.mq_spec_state.specs.State.{Plain, Queue, Running}
 use Rattle.mq_spec_state.specs.State.Running.{Up, Down}
 use Rattle.mq_spec_manager.specs.Get.{mqget}
-use Rattle.mq_spec_node.specs.Node.{Node, Handler, handler_in}
+use Rattle.mq_spec_node.specs.Node.{Node, handler_in}
 use Rattle.mq_spec_node.specs.Deeds.{Deed, end_begun}
-use Rattle.mq_spec_node.specs.Happens.{get_deed, trigger_deed, event, IsEvent, IsDeed, where_up, turn_up, timeout_by}
+use Rattle.mq_spec_node.specs.Happens.{get_deed, trigger_deed, IsEvent, IsDeed, where_up, turn_up, timeout_by}
 use Rattle.mq_spec_node.specs.Replays.{Tells, NoneForeign, IsOwn, done_by, opening_node}
 use Rattle.mq_spec_network.specs.Apart.{maker}
 use Rattle.mq_spec_network.specs.Given.{surroundings, ends_from}

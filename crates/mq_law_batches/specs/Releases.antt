@@ -1,0 +1,44 @@
+-- Batches that are not prepared are released: one, and all of a manager as a stop does.
+use Rattle.std.specs.Prelude.{ℕ, Bool, ◌≡◌, ◌≢◌, ◌==◌, false, List, [], ◌∷◌, None, Some}
+use Rattle.mq_message.specs.declared.message.Ident.{Ident}
+use Rattle.mq_message.specs.declared.place.Holder.TheVariants as holders
+use Rattle.mq_history.specs.declared.scenario.Scenario.{Scenario}
+use Rattle.mq_spec_state.specs.State.{Batch, Change, Plain}
+use Rattle.mq_spec_state.specs.State.Which.{HeldBy}
+use Rattle.mq_spec_state.specs.State.Change.{DropBatch, Release}
+use Rattle.mq_spec_state.specs.Reads.{batch_of, in_doubt_of, sender_data}
+use Rattle.mq_spec_state.specs.Changes.{apply_all}
+use Rattle.mq_spec_network.specs.Story.{Mem}
+use Rattle.mq_law_rows.specs.World.{Book, Ghost, Inv}
+use Rattle.mq_spec_network.specs.Ledger.{Ledger, stop}
+use Rattle.mq_law_seen.specs.Seen.{book_of, last_of, world_of}
+use Rattle.mq_law_events.specs.Tied.{IsFresh, IsTold}
+
+-- the channel's batch is released, as its end asks of the manager
+abbrev pub release_changes : List ℕ → List Change
+release_changes channel = Release (HeldBy (holders.Batch channel)) false ∷ DropBatch channel ∷ []
+
+abbrev pub let_go : List Batch → Plain → Plain
+let_go [] p = p
+let_go (b ∷ bs) p = let_go bs (apply_all (release_changes b.channel) p)
+
+-- No channel has both a batch and a unit in doubt, and no batch is its receiver's last unit: none was prepared.
+pub record AreUnprepared (s : Scenario) (ps : List Plain) (p : Plain) : Type 0 where
+  pub alone : (b : Batch) → Mem b p.channels.batches → in_doubt_of (sender_data b.channel p) ≡ None
+  pub apart : (c : List ℕ) (b : Batch) → batch_of c p.channels.batches ≡ Some b → last_of s ps c (Some p) ≢ b.unit
+
+-- the network has the facts, wherever idents belong by now
+pub record Stands (s : Scenario) (given : Ident → Bool) (ps : List Plain) (g : Ghost) (b : Book) : Type 0 where
+  pub ghost : Ghost
+  pub sent : ghost.sent ≡ g.sent
+  pub source : ghost.source ≡ g.source
+  pub operated : ghost.operated ≡ g.operated
+  pub inv : Inv (world_of s given ps) ghost b
+
+-- After a stop or a restart of manager m the network stands, and the ledger tells the manager again.
+pub record Rested (s : Scenario) (given : Ident → Bool) (m : ℕ) (p q : Plain) (qs : List Plain) (g : Ghost) (l : Ledger) : Type 0 where
+  pub now : Ident → Bool
+  pub known : (i : Ident) → (i.manager == p.given.number) ≡ false → now i ≡ given i
+  pub fresh : IsFresh now q
+  pub told : IsTold m q (stop m l)
+  pub stands : Stands s now qs g (book_of (stop m l))
