@@ -23,7 +23,7 @@ use Rattle.mq_core.proofs.MeetLaws.{changed_view}
 use Rattle.mq_core.proofs.SeatLaws.{tied_seated, unit_kept, number_is}
 use Rattle.mq_get.specs.declared.leaving.Leaving.{Leaving}
 use Rattle.mq_get.specs.Leaving.{leaving_need, leaving_part, leaving_met, met_ident, removes_met, gone_part, gone_parts}
-use Rattle.mq_get.specs.Rooms.{IsRoomy, IsDropped, IsStopped, Drops, gave_back}
+use Rattle.mq_get.specs.Rooms.{IsRoomy, IsGivenBack, IsDropped, IsStopped, Drops, gave_back}
 use Rattle.mq_get.specs.Does.{seen, stop_of, HasRun, HasBroken, IsCleared, IsWanting, IsCutOff, Halts, AreDropped, AreStopped, DropsBoth}
 use Rattle.mq_get.specs.Does.AreStopped.{First, Then}
 use Rattle.mq_get.proofs.DoesLaws.{run_both, broken_behind, broken_front, broken_meets}
@@ -213,13 +213,14 @@ drop_body queue l x t y u d = let w = wrote l.removes x d.written d.writes in le
 pub back_run : (n : ℕ) (v : ManagerValue) (parts : List Part) (y z : PartsValue) (told : List Did) → z ≡ gave_back n y → HasRun parts v (seen y told None) → HasRun parts v (seen z told None)
 back_run n v parts y z told e h = subst (λ (w : PartsValue). HasRun parts v (seen w told None)) (sym e) h
 
--- room upon room
-pub roomy_more : (n : ℕ) (x r : PartsValue) → IsRoomy n x r → HasMoreRoom x r
-roomy_more n x r h = record { same = h.same; log = h.more; body = omega (arith, h.body) }
-
+-- room that is given back where memory is wanting
 with_room : ℕ → Buffered → PartsValue → PartsValue
 with_room room body x = record x { log = record x.log { room = room }; body = body }
 
-pub more_both : (x y z : PartsValue) → HasMoreRoom x y → HasMoreRoom y z → HasMoreRoom x z
+pub gave_more : (n : ℕ) (x y z : PartsValue) → HasMoreRoom x y → z ≡ gave_back n y → IsGivenBack n x z
 unfolding with_room
-more_both x y z a b = record { same = b.same ∙ ap (with_room z.log.room z.body) a.same; log = omega (arith, a.log, b.log); body = omega (arith, a.body, b.body) }
+gave_more n x y z h e = subst (IsGivenBack n x) (sym e) (record { same = ap (with_room y.log.room (gave_back n y).body) h.same; log = h.log; body = omega (arith, h.body) })
+
+pub back_more : (n : ℕ) (x y z : PartsValue) → IsRoomy n x y → IsGivenBack n y z → HasMoreRoom x z
+unfolding with_room
+back_more n x y z a b = record { same = b.same ∙ ap (with_room z.log.room z.body) a.same; log = omega (arith, a.more, b.log); body = omega (arith, a.body, b.body) }

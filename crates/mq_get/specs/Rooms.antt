@@ -28,6 +28,12 @@ pub record IsRoomy (need : ℕ) (x y : PartsValue) : Type 0 where
 abbrev pub gave_back : ℕ → PartsValue → PartsValue
 gave_back need x = record x { body = record { bytes = []; room = x.body.room + length x.body.bytes - need } }
 
+-- memory was taken for some, and so much room was given back
+pub record IsGivenBack (n : ℕ) (x y : PartsValue) : Type 0 where
+  pub same : y ≡ record x { log = record x.log { room = y.log.room }; body = y.body }
+  pub log : x.log.room ≤ y.log.room
+  pub body : x.body.room + length x.body.bytes ≤ y.body.room + length y.body.bytes + n
+
 -- the record of rows that leave was forced, where there is one, or its write was stopped
 abbrev pub Writes : List Remove → PartsValue → Result (Unit {0}) Stop → PartsValue → Type 0
 Writes [] x (Ok _) y = y ≡ x

@@ -10,7 +10,7 @@ ghost use Rattle.mq_core.specs.Forced.{HasMoreRoom};
 ghost use Rattle.mq_core.specs.Ties.{Tied, mode_is_up};
 ghost use Rattle.mq_get.specs.Does.{seen, stop_of};
 ghost use Rattle.mq_get.specs.Leaving.{gone_parts, held_part, leaving_need, removes_met};
-ghost use Rattle.mq_get.specs.Rooms.{IsItemMore, Holds, holding, unheld};
+ghost use Rattle.mq_get.specs.Rooms.{IsGivenBack, IsItemMore, Holds, holding, unheld};
 
 use crate::leaving::{
     Leaving, force_leaving, give_back, go_down_leaving, leaving_need, leaving_of, make_room,
@@ -68,6 +68,30 @@ fn pend_take<D: Disk>(
         Ok(()) => Ok(()),
         Err(NoMemory) => {
             parts.return_record(need);
+            Err(NoMemory)
+        }
+    }
+}
+
+/// A row waits in the unit of a connection; where there is no memory for it, room for records is given back.
+fn pend_in_room<D: Disk>(
+    parts: &mut Parts<D>,
+    number: u64,
+    queue: &QName,
+    met: Met,
+    need: u64,
+    room: u64,
+) -> Result<(), NoMemory>
+    requires live { parts.old.log.live ≡ true }
+    requires need { IfSome (connection_at number parts.old.desk.live) (λ c. unit_need (c.unit ++ Take queue.now met.ident met.persistent ∷ []) < 2 ^ 64) }
+    requires room { room ≤ parts.old.body.room + length parts.old.body.bytes }
+    ensures ok { OnOk result (IsItemMore number (Take queue.now met.ident met.persistent) need parts.old parts.new) }
+    ensures err { OnErr result (IsGivenBack room parts.old parts.new) }
+{
+    match pend_take(parts, number, queue, met, need) {
+        Ok(()) => Ok(()),
+        Err(NoMemory) => {
+            give_back(parts, room);
             Err(NoMemory)
         }
     }
@@ -167,7 +191,7 @@ pub(crate) fn get_held<D: Disk>(
         Ok(()) => {}
         Err(NoMemory) => return Err(Halt::NoMemory),
     }
-    match pend_take(parts, number, queue, met, need) {
+    match pend_in_room(parts, number, queue, met, need, room) {
         Ok(()) => {}
         Err(NoMemory) => return Err(Halt::NoMemory),
     }

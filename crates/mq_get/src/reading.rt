@@ -14,12 +14,14 @@ use std::alloc::Global;
 /// Format of a message behind the header of a transmission queue.
 const TRANSMITTED: [u8; 8] = *b"MQXMIT  ";
 
+/// Whether its message outlives a stop.
 pub(crate) fn is_persistent(message: &Message) -> bool
     ensures { result ≡ is_persistent message.now }
 {
     message.md.persistence == 1
 }
 
+/// Whether it is longer than the caller's room.
 pub(crate) fn is_too_long(get: &Get, message: &Message) -> bool
     ensures { result ≡ is_too_long get.now message.now }
 {

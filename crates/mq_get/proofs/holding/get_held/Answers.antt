@@ -10,7 +10,7 @@ use Rattle.mq_get.specs.Does.{seen}
 use Rattle.mq_get.specs.Leaving.{gone_parts, held_part, leaving_need}
 use Rattle.mq_get.proofs.DoesLaws.{run_meets, broken_meets}
 use Rattle.mq_get.proofs.HoldLaws.{tied_roomy, need_take, take_small}
-use Rattle.mq_get.proofs.PathLaws.{more_same, wanting_meets, roomy_live, roomy_more, more_both, leaving_short, leaving_long, back_run}
+use Rattle.mq_get.proofs.PathLaws.{more_same, wanting_meets, roomy_live, back_more, leaving_short, leaving_long, back_run}
 use Rattle.mq_get.proofs.HeldLaws.{held_run, held_after, held_room, unheld_cut, item_live, held_body}
 use Rattle.mq_get.proofs.holding.get_held.Goals as goal
 
@@ -29,11 +29,14 @@ returns-in-Err-make_room-clause-tied g c = tied_roomier c.args.parts.now c.make_
 pub returns-in-Err-make_room-clause-meets : goal.returns-in-Err-make_room-clause-meets
 returns-in-Err-make_room-clause-meets g c = wanting_meets c.args.parts.now c.make_room.new.parts c.make_room.new.effects (gone_parts whys.Expired c.args.queue.now c.args.mets.now ++ held_part c.args.number c.args.queue.now c.args.met ∷ []) c.args.answer (record { room = c.in-Err-make_room.ensures.err; untold = c.make_room.ensures.dids ∙ c.requires.told })
 
-pub pend_take-requires-clause-live : goal.pend_take-requires-clause-live
-pend_take-requires-clause-live g c = roomy_live _ c.args.parts.now c.make_room.new.parts c.in-Ok-make_room.ensures.ok c.requires.up c.requires.tied
+pub pend_in_room-requires-clause-live : goal.pend_in_room-requires-clause-live
+pend_in_room-requires-clause-live g c = roomy_live _ c.args.parts.now c.make_room.new.parts c.in-Ok-make_room.ensures.ok c.requires.up c.requires.tied
 
-pub pend_take-requires-clause-need : goal.pend_take-requires-clause-need
-pend_take-requires-clause-need g c =
+pub pend_in_room-requires-clause-room : goal.pend_in_room-requires-clause-room
+pend_in_room-requires-clause-room g c = omega (arith, c.in-Ok-make_room.ensures.ok.body)
+
+pub pend_in_room-requires-clause-need : goal.pend_in_room-requires-clause-need
+pend_in_room-requires-clause-need g c =
     let live = some_is _ c.requires.live in
     let r : PartsValue = c.make_room.new.parts in
     let roomy = c.in-Ok-make_room.ensures.ok in
@@ -43,59 +46,59 @@ pend_take-requires-clause-need g c =
     some_of (λ (d : Connection). unit_need (d.unit ++ Take c.args.queue.now c.args.met.ident c.args.met.persistent ∷ []) < 18446744073709551616) _ live.0 found
     (take_small c.args.number c.args.queue.now c.args.met.ident c.args.met.persistent c.hold_need-need.result live.0 r found more c.hold_need-need.ensures.small (tied_roomy _ c.args.parts.now r roomy c.requires.tied))
 
-pub returns-in-Err-pend_take-clause-tied : goal.returns-in-Err-pend_take-clause-tied
-returns-in-Err-pend_take-clause-tied g c = tied_roomier c.args.parts.now c.pend_take.new.parts (more_both c.args.parts.now c.make_room.new.parts c.pend_take.new.parts (roomy_more _ c.args.parts.now c.make_room.new.parts c.in-Ok-make_room.ensures.ok) c.in-Err-pend_take.ensures.err) c.requires.tied
+pub returns-in-Err-pend_in_room-clause-tied : goal.returns-in-Err-pend_in_room-clause-tied
+returns-in-Err-pend_in_room-clause-tied g c = tied_roomier c.args.parts.now c.pend_in_room.new.parts (back_more (c.leaving_need.result + c.hold_need-need.result) c.args.parts.now c.make_room.new.parts c.pend_in_room.new.parts c.in-Ok-make_room.ensures.ok c.in-Err-pend_in_room.ensures.err) c.requires.tied
 
-pub returns-in-Err-pend_take-clause-meets : goal.returns-in-Err-pend_take-clause-meets
-returns-in-Err-pend_take-clause-meets g c = wanting_meets c.args.parts.now c.pend_take.new.parts c.make_room.new.effects (gone_parts whys.Expired c.args.queue.now c.args.mets.now ++ held_part c.args.number c.args.queue.now c.args.met ∷ []) c.args.answer
-    (record { room = more_both c.args.parts.now c.make_room.new.parts c.pend_take.new.parts (roomy_more _ c.args.parts.now c.make_room.new.parts c.in-Ok-make_room.ensures.ok) c.in-Err-pend_take.ensures.err; untold = c.make_room.ensures.dids ∙ c.requires.told })
+pub returns-in-Err-pend_in_room-clause-meets : goal.returns-in-Err-pend_in_room-clause-meets
+returns-in-Err-pend_in_room-clause-meets g c = wanting_meets c.args.parts.now c.pend_in_room.new.parts c.make_room.new.effects (gone_parts whys.Expired c.args.queue.now c.args.mets.now ++ held_part c.args.number c.args.queue.now c.args.met ∷ []) c.args.answer
+    (record { room = back_more (c.leaving_need.result + c.hold_need-need.result) c.args.parts.now c.make_room.new.parts c.pend_in_room.new.parts c.in-Ok-make_room.ensures.ok c.in-Err-pend_in_room.ensures.err; untold = c.make_room.ensures.dids ∙ c.requires.told })
 
 pub hold_behind-requires-clause-live : goal.hold_behind-requires-clause-live
-hold_behind-requires-clause-live g c = item_live c.args.number (Take c.args.queue.now c.args.met.ident c.args.met.persistent) c.hold_need-need.result c.make_room.new.parts c.pend_take.new.parts c.in-Ok-pend_take.ensures.ok (roomy_live _ c.args.parts.now c.make_room.new.parts c.in-Ok-make_room.ensures.ok c.requires.up c.requires.tied)
+hold_behind-requires-clause-live g c = item_live c.args.number (Take c.args.queue.now c.args.met.ident c.args.met.persistent) c.hold_need-need.result c.make_room.new.parts c.pend_in_room.new.parts c.in-Ok-pend_in_room.ensures.ok (roomy_live _ c.args.parts.now c.make_room.new.parts c.in-Ok-make_room.ensures.ok c.requires.up c.requires.tied)
 
 pub hold_behind-requires-clause-room : goal.hold_behind-requires-clause-room
-hold_behind-requires-clause-room g c = (held_room c.args.number (Take c.args.queue.now c.args.met.ident c.args.met.persistent) (leaving_need c.in-Ok.leaving.removes) c.hold_need-need.result (c.leaving_need.result + c.hold_need-need.result) c.args.parts.now c.make_room.new.parts c.pend_take.new.parts (omega (arith, c.leaving_need.ensures)) c.in-Ok-make_room.ensures.ok c.in-Ok-pend_take.ensures.ok).0
+hold_behind-requires-clause-room g c = (held_room c.args.number (Take c.args.queue.now c.args.met.ident c.args.met.persistent) (leaving_need c.in-Ok.leaving.removes) c.hold_need-need.result (c.leaving_need.result + c.hold_need-need.result) c.args.parts.now c.make_room.new.parts c.pend_in_room.new.parts (omega (arith, c.leaving_need.ensures)) c.in-Ok-make_room.ensures.ok c.in-Ok-pend_in_room.ensures.ok).0
 
 pub hold_behind-requires-clause-body : goal.hold_behind-requires-clause-body
-hold_behind-requires-clause-body g c = (held_room c.args.number (Take c.args.queue.now c.args.met.ident c.args.met.persistent) (leaving_need c.in-Ok.leaving.removes) c.hold_need-need.result (c.leaving_need.result + c.hold_need-need.result) c.args.parts.now c.make_room.new.parts c.pend_take.new.parts (omega (arith, c.leaving_need.ensures)) c.in-Ok-make_room.ensures.ok c.in-Ok-pend_take.ensures.ok).1
+hold_behind-requires-clause-body g c = (held_room c.args.number (Take c.args.queue.now c.args.met.ident c.args.met.persistent) (leaving_need c.in-Ok.leaving.removes) c.hold_need-need.result (c.leaving_need.result + c.hold_need-need.result) c.args.parts.now c.make_room.new.parts c.pend_in_room.new.parts (omega (arith, c.leaving_need.ensures)) c.in-Ok-make_room.ensures.ok c.in-Ok-pend_in_room.ensures.ok).1
 
 pub hold_behind-requires-clause-small : goal.hold_behind-requires-clause-small
 hold_behind-requires-clause-small g c = leaving_short c.args.queue.now c.args.mets.now c.in-Ok.leaving c.in-Ok.ensures c.requires.short
 
 pub hold_behind-requires-clause-reserved : goal.hold_behind-requires-clause-reserved
-hold_behind-requires-clause-reserved g c = (held_room c.args.number (Take c.args.queue.now c.args.met.ident c.args.met.persistent) (leaving_need c.in-Ok.leaving.removes) c.hold_need-need.result (c.leaving_need.result + c.hold_need-need.result) c.args.parts.now c.make_room.new.parts c.pend_take.new.parts (omega (arith, c.leaving_need.ensures)) c.in-Ok-make_room.ensures.ok c.in-Ok-pend_take.ensures.ok).2
+hold_behind-requires-clause-reserved g c = (held_room c.args.number (Take c.args.queue.now c.args.met.ident c.args.met.persistent) (leaving_need c.in-Ok.leaving.removes) c.hold_need-need.result (c.leaving_need.result + c.hold_need-need.result) c.args.parts.now c.make_room.new.parts c.pend_in_room.new.parts (omega (arith, c.leaving_need.ensures)) c.in-Ok-make_room.ensures.ok c.in-Ok-pend_in_room.ensures.ok).2
 
 pub hold_behind-requires-clause-told : goal.hold_behind-requires-clause-told
 hold_behind-requires-clause-told g c = let long = leaving_long c.args.queue.now c.args.mets.now c.in-Ok.leaving c.in-Ok.ensures in omega (arith, long, c.in-Ok-make_room.ensures.room)
 
 pub give_back-requires : goal.give_back-requires
 give_back-requires g c =
-    let body = held_body c.args.number c.args.queue.now c.in-Ok.leaving c.args.met c.pend_take.new.parts c.make_room.new.effects c.hold_behind.new.parts c.hold_behind.new.effects c.in-Ok-hold_behind.ensures in
-    omega (arith, body, c.in-Ok-make_room.ensures.ok.body, c.in-Ok-pend_take.ensures.ok.body)
+    let body = held_body c.args.number c.args.queue.now c.in-Ok.leaving c.args.met c.pend_in_room.new.parts c.make_room.new.effects c.hold_behind.new.parts c.hold_behind.new.effects c.in-Ok-hold_behind.ensures in
+    omega (arith, body, c.in-Ok-make_room.ensures.ok.body, c.in-Ok-pend_in_room.ensures.ok.body)
 
 pub returns-in-Ok-hold_behind-clause-tied : goal.returns-in-Ok-hold_behind-clause-tied
 returns-in-Ok-hold_behind-clause-tied g c =
     let live = some_is _ c.requires.live in
     let some = λ (e : c.args.met.persistent ≡ true). if_some (λ (d : Connection). c.hold_need-need.result ≡ more_need d.unit 65) _ live.0 live.1 (c.hold_need-need.ensures.some e) in
     let more = need_take live.0.unit c.args.queue.now c.args.met.ident c.args.met.persistent c.hold_need-need.result some c.hold_need-need.ensures.none in
-    held_after c.args.number c.args.queue.now c.args.met c.hold_need-need.result (c.leaving_need.result + c.hold_need-need.result) live.0 c.args.parts.now c.make_room.new.parts c.pend_take.new.parts c.hold_behind.new.parts c.give_back.new.parts c.make_room.new.effects c.hold_behind.new.effects c.in-Ok.leaving
-    live.1 more (omega (arith, c.leaving_need.ensures)) c.requires.up c.requires.tied c.in-Ok-make_room.ensures.ok c.in-Ok-pend_take.ensures.ok c.in-Ok-hold_behind.ensures c.give_back.ensures
+    held_after c.args.number c.args.queue.now c.args.met c.hold_need-need.result (c.leaving_need.result + c.hold_need-need.result) live.0 c.args.parts.now c.make_room.new.parts c.pend_in_room.new.parts c.hold_behind.new.parts c.give_back.new.parts c.make_room.new.effects c.hold_behind.new.effects c.in-Ok.leaving
+    live.1 more (omega (arith, c.leaving_need.ensures)) c.requires.up c.requires.tied c.in-Ok-make_room.ensures.ok c.in-Ok-pend_in_room.ensures.ok c.in-Ok-hold_behind.ensures c.give_back.ensures
 
 pub returns-in-Ok-hold_behind-clause-meets : goal.returns-in-Ok-hold_behind-clause-meets
 returns-in-Ok-hold_behind-clause-meets g c =
-    let run = held_run c.args.number c.args.queue.now c.args.mets.now c.args.met c.hold_need-need.result (c.leaving_need.result + c.hold_need-need.result) c.args.parts.now c.make_room.new.parts c.pend_take.new.parts c.hold_behind.new.parts c.make_room.new.effects c.hold_behind.new.effects c.in-Ok.leaving
-    c.in-Ok.ensures (c.make_room.ensures.dids ∙ c.requires.told) c.requires.up c.in-Ok-make_room.ensures.ok c.in-Ok-pend_take.ensures.ok c.in-Ok-hold_behind.ensures in
+    let run = held_run c.args.number c.args.queue.now c.args.mets.now c.args.met c.hold_need-need.result (c.leaving_need.result + c.hold_need-need.result) c.args.parts.now c.make_room.new.parts c.pend_in_room.new.parts c.hold_behind.new.parts c.make_room.new.effects c.hold_behind.new.effects c.in-Ok.leaving
+    c.in-Ok.ensures (c.make_room.ensures.dids ∙ c.requires.told) c.requires.up c.in-Ok-make_room.ensures.ok c.in-Ok-pend_in_room.ensures.ok c.in-Ok-hold_behind.ensures in
     run_meets (gone_parts whys.Expired c.args.queue.now c.args.mets.now ++ held_part c.args.number c.args.queue.now c.args.met ∷ []) c.args.answer (seen c.args.parts.now [] None) (seen c.give_back.new.parts c.hold_behind.new.effects.dids None) refl refl
     (back_run _ (seen c.args.parts.now [] None) _ c.hold_behind.new.parts c.give_back.new.parts c.hold_behind.new.effects.dids c.give_back.ensures run)
 
 pub returns-in-Err-hold_behind-clause-tied : goal.returns-in-Err-hold_behind-clause-tied
 returns-in-Err-hold_behind-clause-tied g c =
-    let cut = unheld_cut c.args.number c.args.queue.now c.args.mets.now c.args.met c.hold_need-need.result (c.leaving_need.result + c.hold_need-need.result) c.in-Err-hold_behind.stop c.args.parts.now c.make_room.new.parts c.pend_take.new.parts c.hold_behind.new.parts c.make_room.new.effects c.hold_behind.new.effects c.in-Ok.leaving
-    c.in-Ok.ensures (c.make_room.ensures.dids ∙ c.requires.told) c.requires.tied c.in-Ok-make_room.ensures.ok c.in-Ok-pend_take.ensures.ok c.in-Err-hold_behind.ensures in
+    let cut = unheld_cut c.args.number c.args.queue.now c.args.mets.now c.args.met c.hold_need-need.result (c.leaving_need.result + c.hold_need-need.result) c.in-Err-hold_behind.stop c.args.parts.now c.make_room.new.parts c.pend_in_room.new.parts c.hold_behind.new.parts c.make_room.new.effects c.hold_behind.new.effects c.in-Ok.leaving
+    c.in-Ok.ensures (c.make_room.ensures.dids ∙ c.requires.told) c.requires.tied c.in-Ok-make_room.ensures.ok c.in-Ok-pend_in_room.ensures.ok c.in-Err-hold_behind.ensures in
     cut.tied
 
 pub returns-in-Err-hold_behind-clause-meets : goal.returns-in-Err-hold_behind-clause-meets
 returns-in-Err-hold_behind-clause-meets g c =
-    let cut = unheld_cut c.args.number c.args.queue.now c.args.mets.now c.args.met c.hold_need-need.result (c.leaving_need.result + c.hold_need-need.result) c.in-Err-hold_behind.stop c.args.parts.now c.make_room.new.parts c.pend_take.new.parts c.hold_behind.new.parts c.make_room.new.effects c.hold_behind.new.effects c.in-Ok.leaving
-    c.in-Ok.ensures (c.make_room.ensures.dids ∙ c.requires.told) c.requires.tied c.in-Ok-make_room.ensures.ok c.in-Ok-pend_take.ensures.ok c.in-Err-hold_behind.ensures in
+    let cut = unheld_cut c.args.number c.args.queue.now c.args.mets.now c.args.met c.hold_need-need.result (c.leaving_need.result + c.hold_need-need.result) c.in-Err-hold_behind.stop c.args.parts.now c.make_room.new.parts c.pend_in_room.new.parts c.hold_behind.new.parts c.make_room.new.effects c.hold_behind.new.effects c.in-Ok.leaving
+    c.in-Ok.ensures (c.make_room.ensures.dids ∙ c.requires.told) c.requires.tied c.in-Ok-make_room.ensures.ok c.in-Ok-pend_in_room.ensures.ok c.in-Err-hold_behind.ensures in
     broken_meets c.in-Err-hold_behind.stop (gone_parts whys.Expired c.args.queue.now c.args.mets.now ++ held_part c.args.number c.args.queue.now c.args.met ∷ []) c.args.answer (seen c.args.parts.now [] None) (seen c.hold_behind.new.parts c.hold_behind.new.effects.dids (Some c.in-Err-hold_behind.stop)) refl refl cut.broken
