@@ -8,3 +8,4 @@ pub mod EachLaws
 pub mod NotedLaws
 pub mod FoundLaws
 pub mod PutLaws
+pub mod TellLaws

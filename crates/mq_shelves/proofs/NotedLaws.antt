@@ -1,6 +1,6 @@
 -- Rows that batches hold are noted, whatever is done to them.
 use Rattle.std.proofs.Common.{◌≡◌, ℕ, Bool, true, false, cond, List, [], ◌∷◌, ◌++◌, Option, Some, None, refl, sym, ap, subst, ◌∙◌}
-use Rattle.std.specs.Prelude.{not, ◌||◌, ◌&&◌, if◌then◌else◌, filter}
+use Rattle.std.specs.Prelude.{not, ◌||◌, ◌&&◌, if◌then◌else◌, filter, Result, Ok, Err, OnOk, OnErr}
 use Rattle.std.specs.List.{AllByRecursion, list_any}
 use Rattle.std.specs.Str.{bytes_eq}
 use Rattle.mq_message.specs.declared.message.Ident.{Ident}
@@ -56,6 +56,11 @@ all_filtered P test (s ∷ ss) all = by (all_filtered P test ss all.1) (test s)
     by rest true = (all.0, rest)
     by rest false = rest
 
+-- what holds of what a call came to, where it succeeded and where it failed
+pub by_result : {T E V : Type 0} (P : V → Type 0) (r : Result T E) (now a b : V) → OnOk r (now ≡ a) → OnErr r (now ≡ b) → P a → P b → P now
+by_result P (Ok t) now a b ok err p q = subst P (sym ok) p
+by_result P (Err e) now a b ok err p q = subst P (sym err) q
+
 module _ (noted : List ℕ → List Ident) (ss : List Shelf) (were : AreNoted noted ss) where
   pub noted_kept : (test : List ℕ → Row → Bool) → AreNoted noted (on_all (λ (s : Shelf). record s { rows = keep (test s.name) s.rows }) ss)
   noted_kept test = all_on (IsNoted noted) (IsNoted noted) (λ n rows. keep (test n) rows) (λ n rows all. all_keep (IsNoted noted) (test n) rows all) ss were
@@ -91,6 +96,43 @@ module _ (noted now : List ℕ → List Ident) (channel : List ℕ) (idents : Li
       all_on (IsNoted noted) (IsNoted now) (λ n rows. retag (λ (row : Row). retag_if ((bytes_eq n queue && list_any (same_ident row.message.ident) idents) && is_free row) (Some (holders.Batch channel)) row) rows)
       (λ n rows all. all_retag (IsNoted noted) (IsNoted now) (λ (row : Row). retag_if ((bytes_eq n queue && list_any (same_ident row.message.ident) idents) && is_free row) (Some (holders.Batch channel)) row)
       (λ row was. hold_noted row (bytes_eq n queue) was) rows all) ss were
+
+any_left : (f : Ident → Bool) (xs ys : List Ident) → list_any f xs ≡ true → list_any f (xs ++ ys) ≡ true
+any_left f [] ys e = absurd (cc e)
+any_left f (x ∷ xs) ys e = by (any_left f xs ys) (f x) e
+  where
+    by : (list_any f xs ≡ true → list_any f (xs ++ ys) ≡ true) → (b : Bool) → (b || list_any f xs) ≡ true → (b || list_any f (xs ++ ys)) ≡ true
+    by rest true h = refl
+    by rest false h = rest h
+
+any_right : (f : Ident → Bool) (xs ys : List Ident) → list_any f ys ≡ true → list_any f (xs ++ ys) ≡ true
+any_right f [] ys e = e
+any_right f (x ∷ xs) ys e = by (f x) (any_right f xs ys e)
+  where
+    by : (b : Bool) → list_any f (xs ++ ys) ≡ true → (b || list_any f (xs ++ ys)) ≡ true
+    by true h = refl
+    by false h = h
+
+pub or_put : (b : Bool) (new : List Ident) (o : Option (List Ident)) → or_no_idents (cond b (Some new) o) ≡ (if b then new else or_no_idents o)
+or_put true new o = refl
+or_put false new o = refl
+
+-- more idents are noted for a batch, and it holds the rows that have them
+module _ (noted now : List ℕ → List Ident) (channel : List ℕ) (new idents : List Ident) (put : (c : List ℕ) → now c ≡ (if bytes_eq channel c then new else noted c)) (joined : new ≡ noted channel ++ idents) where
+  its_more : (c : List ℕ) (f : Ident → Bool) → list_any f (noted c) ≡ true → list_any f (now c) ≡ true
+  its_more c f e = by (bytes_eq channel c) refl
+    where
+      by : (b : Bool) → bytes_eq channel c ≡ b → list_any f (now c) ≡ true
+      by true h =
+          ap (list_any f) (put c ∙ ap (λ (b : Bool). if b then new else noted c) h ∙ joined)
+          ∙ any_left f (noted channel) idents (subst (λ (x : List ℕ). list_any f (noted x) ≡ true) (sym (name_is channel c h)) e)
+      by false h = ap (list_any f) (put c ∙ ap (λ (b : Bool). if b then new else noted c) h) ∙ e
+
+  its_idents : (f : Ident → Bool) → list_any f idents ≡ true → list_any f (now channel) ≡ true
+  its_idents f e = ap (list_any f) (put channel ∙ ap (λ (b : Bool). if b then new else noted channel) (name_same channel) ∙ joined) ∙ any_right f (noted channel) idents e
+
+  pub noted_more : (queue : List ℕ) (ss : List Shelf) → AreNoted noted ss → AreNoted now (on_all (held_rows (Among queue idents) (holders.Batch channel)) ss)
+  noted_more queue ss were = noted_held noted now channel idents its_more its_idents queue ss were
 
 -- ---- a batch is settled
 

@@ -147,12 +147,10 @@ impl Rows {
         let Some(next) = self.next.checked_add(1) else {
             return Err(NoMemory);
         };
+        let arrival = self.next;
         let spot = Spot {
             queue: *queue,
-            stand: Stand {
-                lane,
-                arrival: self.next,
-            },
+            stand: Stand { lane, arrival },
         };
         note_spot(&mut self.spots, &message.ident, spot)?;
         self.next = next;
@@ -237,6 +235,7 @@ impl Rows {
     pub fn take(&mut self, queue: &QName, ident: &Ident) -> bool
         ensures stood { result ≡ list_any (is_free_at ident.now) (shelf_in queue.now self.old).rows }
         ensures taken { result ≡ true → self.new ≡ on_all (less_rows (Among queue.now (ident.now ∷ []))) self.old }
+        ensures kept { result ≡ false → self.new ≡ self.old }
     {
         if !self.stands_at(queue, ident) {
             return false;

@@ -57,7 +57,7 @@ fn joined(
     noted: Option<&Items<Ident>>,
     more: &[Ident],
 ) -> Result<Items<Ident>, NoMemory>
-    ensures { IfOk result (λ idents. idents ≡ or_no_idents (option_copied noted) ++ more.now) }
+    ensures { IfOk result (λ idents. idents ≡ or_no_idents (option_copied noted.entry) ++ more.now) }
 {
     match noted {
         None => Ok(Items::from_slice(alloc, more)?),

@@ -26,5 +26,5 @@ returns-in-Some c =
 
 pub returns-in_default : goal.returns-in_default
 returns-in_default c =
-    nothing_gone (spot_of c.self.inside.spots) c.self.inside.next c.args.ident.now c.self.inside.racks.entries c.self.invariant (sym c.in_default.ensures)
+    sym c.self.view_is ∙ nothing_gone (spot_of c.self.inside.spots) c.self.inside.next c.args.ident.now c.self.inside.racks.entries c.self.invariant (sym c.in_default.ensures)
     ∙ ap (on_all (without_ident c.args.ident.now)) c.self.view_is

@@ -26,5 +26,5 @@ returns-in-Some c =
 
 pub returns-in_default : goal.returns-in_default
 returns-in_default c =
-    nothing_tagged (spot_of c.self.inside.spots) c.self.inside.next c.args.ident.now c.self.inside.racks.entries c.self.invariant c.args.by (sym c.in_default.ensures)
+    sym c.self.view_is ∙ nothing_tagged (spot_of c.self.inside.spots) c.self.inside.next c.args.ident.now c.self.inside.racks.entries c.self.invariant c.args.by (sym c.in_default.ensures)
     ∙ ap (on_all (tagged c.args.ident.now c.args.by)) c.self.view_is
