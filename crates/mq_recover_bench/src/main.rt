@@ -17,7 +17,7 @@ use std::time::{SystemTime, UNIX_EPOCH};
 const PAIRS: u64 = 50_000;
 
 /// How many adds the second log has, whose rows all stand in the end.
-const STANDING: u64 = 1_000;
+const STANDING: u64 = 100_000;
 
 /// What a recovery came to.
 #[derive(Clone, Copy)]

@@ -1,6 +1,5 @@
 use Rattle.std.proofs.Common.{◌≡◌, ℕ, List, ◌++◌, Bool, Some, cond, sym, ap, subst, ◌∙◌}
 use Rattle.std.specs.Prelude.{Option}
-use Rattle.std.specs.Map.{lookup}
 use Rattle.std.specs.Str.{bytes_eq}
 use Rattle.indexmap.specs.IndexMap.{get}
 use Rattle.mq_message.specs.declared.message.Ident.{Ident}
@@ -12,9 +11,6 @@ use Rattle.mq_shelves.specs.Holds.{or_no_idents, noted_for, AreNoted}
 use Rattle.mq_shelves.proofs.EachLaws.{held_all}
 use Rattle.mq_shelves.proofs.NotedLaws.{noted_more, or_put}
 use Rattle.mq_shelves.proofs.shelves.Shelves.hold.Goals as goal
-
-pub invariant_of-self-in_err-insert : goal.invariant_of-self-in_err-insert
-invariant_of-self-in_err-insert c = subst (λ (es : List (List ℕ × List Ident)). AreNoted (λ channel. or_no_idents (lookup (bytes_eq channel) es)) c.self.inside.rows) (sym c.in_err-insert.ensures.err) c.self.invariant
 
 pub invariant_of-self-2 : goal.invariant_of-self-2
 invariant_of-self-2 c =
