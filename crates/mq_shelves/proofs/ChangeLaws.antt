@@ -84,6 +84,7 @@ module _ (spot : Ident → Option Spot) (next : ℕ) (ident : Ident) where
         where
           first : Bool → Row → List Row
           first b row = if not b then row ∷ keep (λ (row : Row). not (has_ident ident row)) (rows_of es) else keep (λ (row : Row). not (has_ident ident row)) (rows_of es)
+
           by : (lookup (is_at (stand_cmp sp.stand)) es ≡ Some r → keep (λ (row : Row). not (has_ident ident row)) (rows_of es) ≡ rows_of (remove_entry (is_at (stand_cmp sp.stand)) es)) → (b : Bool) → is_at (stand_cmp sp.stand) e.0 ≡ b → keep (λ (row : Row). not (has_ident ident row)) (rows_of (e ∷ es)) ≡ rows_of (remove_entry (is_at (stand_cmp sp.stand)) (e ∷ es))
           by rest true f =
               let here : e.1 ≡ r = ap (row_or r) ((λ j. cond (sym f j) (Some e.1) (lookup (is_at (stand_cmp sp.stand)) es)) ∙ found) in
@@ -103,6 +104,7 @@ module _ (spot : Ident → Option Spot) (next : ℕ) (ident : Ident) where
         where
           others : List Row
           others = retag (λ (row : Row). if has_ident ident row then record row { by = h } else row) (rows_of es)
+
           by : (lookup (is_at (stand_cmp sp.stand)) es ≡ Some r → retag (λ (row : Row). if has_ident ident row then record row { by = h } else row) (rows_of es) ≡ rows_of (set_value (is_at (stand_cmp sp.stand)) es (record r { by = h }))) → (b : Bool) → is_at (stand_cmp sp.stand) e.0 ≡ b → retag (λ (row : Row). if has_ident ident row then record row { by = h } else row) (rows_of (e ∷ es)) ≡ rows_of (set_value (is_at (stand_cmp sp.stand)) (e ∷ es) (record r { by = h }))
           by rest true f =
               let here : e.1 ≡ r = ap (row_or r) ((λ j. cond (sym f j) (Some e.1) (lookup (is_at (stand_cmp sp.stand)) es)) ∙ found) in
@@ -123,10 +125,13 @@ row_come spot next lane name row is (e ∷ es) all = by (row_come spot next lane
   where
     here : Ordering → List (Stand × Row)
     here o = match_ordering o ((record { lane = lane; arrival = next }, row) ∷ e ∷ es) ((e.0, row) ∷ es) (e ∷ insert_entry stand_cmp es (record { lane = lane; arrival = next }) row)
+
     seen : nat_le e.1.place.lane row.place.lane ≡ nat_le e.0.lane lane
     seen = ap (λ (n : ℕ). nat_le n row.place.lane) (sym all.0.lane) ∙ ap (nat_le e.0.lane) is
+
     front : Bool → List Row
     front b = if b then e.1 ∷ insert_row row (rows_of es) else row ∷ e.1 ∷ rows_of es
+
     by : insert_row row (rows_of es) ≡ rows_of (insert_entry stand_cmp es (record { lane = lane; arrival = next }) row) → (b : Bool) → nat_le e.0.lane lane ≡ b → insert_row row (rows_of (e ∷ es)) ≡ rows_of (insert_entry stand_cmp (e ∷ es) (record { lane = lane; arrival = next }) row)
     by rest true f =
         ap front (seen ∙ f) ∙ ap (λ (rs : List Row). e.1 ∷ rs) rest

@@ -85,6 +85,7 @@ module _ (noted now : List ℕ → List Ident) (channel : List ℕ) (idents : Li
     where
       stays : IsNoted now row
       stays c h = more c (same_ident row.message.ident) (was c h)
+
       by : (on among free : Bool) → list_any (same_ident row.message.ident) idents ≡ among → IsNoted now (retag_if ((on && among) && free) (Some (holders.Batch channel)) row)
       by true true true e = λ c h. subst (λ (x : List ℕ). list_any (same_ident row.message.ident) (now x) ≡ true) (sym (name_is c channel h)) (own (same_ident row.message.ident) e)
       by true true false e = stays

@@ -103,6 +103,7 @@ module _ (spot : Ident → Option Spot) (next : ℕ) (ident : Ident) where
       queue_or : Option Spot → List ℕ
       queue_or None = sp.queue
       queue_or (Some x) = x.queue
+
       stand_or : Option Spot → Stand
       stand_or None = sp.stand
       stand_or (Some x) = x.stand

@@ -82,7 +82,7 @@ impl Model for Shelves {
     ghost use Rattle.std.specs.Prelude.{List};
     ghost use Rattle.mq_calls.specs.declared.image.Shelf.{Shelf};
     ghost use Rattle.mq_shelves.specs.Racks.{any_row};
-ghost use Rattle.mq_shelves.specs.Holds.{noted_for, AreNoted};
+    ghost use Rattle.mq_shelves.specs.Holds.{noted_for, AreNoted};
 
     ghost Value = { List Shelf };
 

@@ -34,7 +34,9 @@ fn has_fields(record: &WrittenRecord) -> bool {
                 channel,
                 partner,
                 session,
-            } => channel.text() == b"M1.M2".as_slice() && partner.text() == b"M2".as_slice() && *session == 5,
+            } => channel.text() == b"M1.M2".as_slice()
+                && partner.text() == b"M2".as_slice()
+                && *session == 5,
             LogRecord::Prepared {
                 unit,
                 last,
