@@ -1,8 +1,8 @@
 -- What becomes of all rows where one goes, is held or comes.
-use Rattle.std.proofs.Common.{◌≡◌, ℕ, ◌+◌, ◌<◌, Bool, true, false, cond, List, [], ◌∷◌, Option, Some, None, refl, sym, ap, subst, ◌∙◌, arith}
-use Rattle.std.proofs.Common.{Ordering, Less, Equal, Greater}
+use Rattle.std.proofs.Common.{◌≡◌, ℕ, Bool, true, false, cond, List, [], ◌∷◌, Option, Some, None, refl, sym, ap, subst, ◌∙◌}
+use Rattle.std.proofs.Common.{Ordering}
 use Rattle.std.specs.Prelude.{not, nat_le, if◌then◌else◌}
-use Rattle.std.specs.Ordering.{nat_cmp, ordering_then, match_ordering, eq_by_cmp}
+use Rattle.std.specs.Ordering.{match_ordering, eq_by_cmp}
 use Rattle.std.specs.List.{AllByRecursion, IsDistinct}
 use Rattle.std.specs.Map.{keys_of, lookup, remove_entry, set_value}
 use Rattle.std.specs.BTreeMap.{is_at, insert_entry}

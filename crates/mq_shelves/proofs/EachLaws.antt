@@ -1,6 +1,6 @@
 -- What comes of rows ident after ident, and all at once.
 use Rattle.std.proofs.Common.{◌≡◌, ℕ, Bool, true, false, List, [], ◌∷◌, refl, sym, ap, ◌∙◌}
-use Rattle.std.specs.Prelude.{not, ◌||◌, ◌&&◌, if◌then◌else◌, Option, Some, None}
+use Rattle.std.specs.Prelude.{not, ◌||◌, ◌&&◌, if◌then◌else◌, Some, None}
 use Rattle.std.specs.List.{list_any}
 use Rattle.std.specs.Str.{bytes_eq}
 use Rattle.mq_message.specs.declared.message.Ident.{Ident}
@@ -15,7 +15,7 @@ use Rattle.mq_spec_log.specs.Applies.{is_held_among}
 use Rattle.mq_spec_log.specs.Shelves.{on_all, held_rows}
 use Rattle.mq_shelves.specs.Racks.{any_row, less_held, freed_held}
 use Rattle.mq_shelves.specs.Holds.{held_each, removed_each, freed_each}
-use Rattle.mq_shelves.proofs.StandLaws.{or_none, and_none}
+use Rattle.mq_shelves.proofs.StandLaws.{and_none}
 
 abbrev rows_shelf : List ℕ → List Row → Shelf
 rows_shelf name rows = record { name = name; rows = rows }

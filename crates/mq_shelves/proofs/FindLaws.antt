@@ -10,12 +10,11 @@ use Rattle.std.proofs.lemmas.Map.Keys.{IsDistinct-head, IsDistinct-tail}
 use Rattle.mq_message.specs.declared.message.Ident.{Ident}
 use Rattle.mq_queue.specs.declared.row.Row.{Row}
 use Rattle.mq_queue.specs.Rows.{has_ident}
-use Rattle.mq_calls.specs.declared.image.Shelf.{Shelf}
 use Rattle.mq_spec_log.specs.Shelves.{shelf_in}
 use Rattle.mq_shelves.specs.declared.rack.Stand.{Stand}
 use Rattle.mq_shelves.specs.declared.spots.Spot.{Spot}
-use Rattle.mq_shelves.specs.Racks.{stand_cmp, rows_of, shelf_of, shelves_of, row_in, row_at, any_row, Stands, IsRack, AreRacks}
-use Rattle.mq_shelves.proofs.StandLaws.{or_none, and_none, name_is, name_same, place_is, place_same, none_there, noted_there, not_there}
+use Rattle.mq_shelves.specs.Racks.{stand_cmp, rows_of, shelf_of, shelves_of, row_in, row_at, any_row, Stands, IsRack}
+use Rattle.mq_shelves.proofs.StandLaws.{or_none, and_none, name_is, name_same, place_is, place_same, none_there, noted_there}
 
 -- a row with the ident that passes, on the queue of that name
 abbrev pub passes_at : (List ℕ → Row → Bool) → Ident → List ℕ → Option Row → Bool

@@ -1,7 +1,6 @@
 -- What a search by an ident answers.
-use Rattle.std.proofs.Common.{◌≡◌, ℕ, Bool, true, false, List, [], ◌∷◌, Option, Some, None, refl, sym, ap, subst, ◌∙◌}
-use Rattle.std.specs.Prelude.{not, ◌&&◌, is_some}
-use Rattle.std.specs.List.{list_any}
+use Rattle.std.proofs.Common.{◌≡◌, ℕ, Bool, true, false, List, [], ◌∷◌, Option, Some, None, refl, sym, ap, ◌∙◌}
+use Rattle.std.specs.Prelude.{not, ◌&&◌}
 use Rattle.std.specs.Str.{bytes_eq}
 use Rattle.std.specs.Map.{lookup}
 use Rattle.mq_message.specs.declared.message.Ident.{Ident}
@@ -10,16 +9,16 @@ use Rattle.mq_queue.specs.declared.row.Row.{Row}
 use Rattle.mq_queue.specs.Rows.{has_ident}
 use Rattle.mq_calls.specs.declared.image.Shelf.{Shelf}
 use Rattle.mq_spec_log.specs.Applies.{has_rows_on}
-use Rattle.mq_spec_log.specs.Shelves.{on_all, without_ident, shelf_in}
+use Rattle.mq_spec_log.specs.Shelves.{on_all, without_ident}
 use Rattle.mq_shelves.specs.declared.rack.Stand.{Stand}
 use Rattle.mq_shelves.specs.declared.spots.Spot.{Spot}
 use Rattle.mq_shelves.specs.declared.rows.Found.{Found}
-use Rattle.mq_shelves.specs.Racks.{shelves_of, row_at, standing, any_row, tagged, rows_of, has_none, shelf_of, or_nothing, AreRacks}
+use Rattle.mq_shelves.specs.Racks.{shelves_of, row_at, standing, any_row, tagged, rows_of, has_none, or_nothing, AreRacks}
 use Rattle.mq_shelves.specs.Found.{passes, IsFound}
 use Rattle.mq_shelves.proofs.StandLaws.{and_none}
 use Rattle.mq_shelves.proofs.FindLaws.{passes_at, passes_in, found_all, found_on}
 use Rattle.mq_shelves.proofs.ChangeLaws.{shelf_there}
-use Rattle.mq_shelves.proofs.RackLaws.{not_stood, stood}
+use Rattle.mq_shelves.proofs.RackLaws.{not_stood}
 use Rattle.mq_shelves.proofs.ViewLaws.{none_gone, none_tagged}
 
 and_all : (b : Bool) → (b && true) ≡ b

@@ -1,5 +1,5 @@
 -- Keys of idents.
-use Rattle.std.proofs.Common.{◌≡◌, Bool, true, false, eqb, refl, sym}
+use Rattle.std.proofs.Common.{◌≡◌, Bool, true, false, eqb, refl}
 use Rattle.std.specs.Prelude.{◌&&◌}
 use Rattle.mq_message.specs.declared.message.Ident.{Ident}
 use Rattle.mq_queue.specs.Rows.{same_ident}

@@ -5,19 +5,18 @@ use Rattle.std.specs.List.{AllByRecursion, list_any}
 use Rattle.std.specs.Str.{bytes_eq}
 use Rattle.mq_message.specs.declared.message.Ident.{Ident}
 use Rattle.mq_message.specs.declared.message.Message.{Message}
-use Rattle.mq_message.specs.declared.place.Holder.{Holder}
 use Rattle.mq_message.specs.declared.place.Holder.TheVariants as holders
 use Rattle.mq_queue.specs.declared.row.Row.{Row}
-use Rattle.mq_queue.specs.Rows.{same_ident, has_ident, is_free, held_by, keep, retag}
+use Rattle.mq_queue.specs.Rows.{same_ident, is_free, held_by, keep, retag}
 use Rattle.mq_queue.proofs.QueueLaws.{all_insert, all_keep, all_retag}
 use Rattle.mq_calls.specs.declared.image.Shelf.{Shelf}
 use Rattle.mq_spec_state.specs.State.Which.{Among, HeldBy}
 use Rattle.mq_spec_state.specs.Changes.{retag_if, new_row}
 use Rattle.mq_spec_state.specs.Images.{uncounted_message}
-use Rattle.mq_spec_log.specs.Shelves.{shelf_in, set_shelf, on_all, shelved_in, less_rows, freed_row, freed_rows, held_rows, without_ident}
-use Rattle.mq_shelves.specs.Holds.{held_each, removed_each, freed_each, or_no_idents, IsNoted, AreNoted}
-use Rattle.mq_shelves.proofs.StandLaws.{name_is, name_same, all_each}
-use Rattle.mq_shelves.proofs.EachLaws.{held_all, removed_all, freed_all, each_row}
+use Rattle.mq_spec_log.specs.Shelves.{shelf_in, set_shelf, on_all, shelved_in, less_rows, freed_row, freed_rows, held_rows}
+use Rattle.mq_shelves.specs.Holds.{removed_each, freed_each, or_no_idents, IsNoted, AreNoted}
+use Rattle.mq_shelves.proofs.StandLaws.{name_is, name_same}
+use Rattle.mq_shelves.proofs.EachLaws.{removed_all, freed_all}
 
 abbrev rows_shelf : List ℕ → List Row → Shelf
 rows_shelf name rows = record { name = name; rows = rows }

@@ -1,5 +1,5 @@
 -- Where idents were noted to stand.
-use Rattle.std.specs.Prelude.{ℕ, ◌==◌, ◌&&◌, Bool, List, Option}
+use Rattle.std.specs.Prelude.{◌==◌, ◌&&◌, Bool, Option}
 use Rattle.indexmap.specs.IndexMap.{IndexMap, get}
 use Rattle.mq_message.specs.declared.message.Ident.{Ident}
 use Rattle.mq_shelves.specs.declared.spots.IdentKey.{IdentKey}

@@ -1,13 +1,4 @@
-use Rattle.std.proofs.Common.{◌≡◌, List, ◌∙◌, sym, ap}
-use Rattle.std.specs.Prelude.{Option, Some, Result, Ok, Err, OnOk, OnErr}
-use Rattle.std.specs.Map.{lookup, set_value}
-use Rattle.std.specs.BTreeMap.{insert_entry}
-use Rattle.std.specs.Str.{bytes_eq}
-use Rattle.std.proofs.lemmas.Map.Steps.{set_value_same}
-use Rattle.mq_queue.specs.declared.row.Row.{Row}
-use Rattle.mq_shelves.specs.declared.rack.Stand.{Stand}
-use Rattle.mq_shelves.specs.Racks.{stand_cmp, or_nothing}
-use Rattle.mq_shelves.proofs.ChangeLaws.{named_set}
+use Rattle.std.proofs.Common.{sym}
 use Rattle.mq_shelves.proofs.PutLaws.{put_ok, put_err}
 use Rattle.mq_shelves.proofs.racks.put_at.Goals as goal
 

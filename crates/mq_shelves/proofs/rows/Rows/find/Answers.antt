@@ -1,4 +1,4 @@
-use Rattle.std.proofs.Common.{◌≡◌, List, None, Some, refl, sym, subst, ◌∙◌}
+use Rattle.std.proofs.Common.{List, None, Some, refl, sym, subst, ◌∙◌}
 use Rattle.mq_calls.specs.declared.image.Shelf.{Shelf}
 use Rattle.mq_shelves.specs.Spots.{spot_of}
 use Rattle.mq_shelves.specs.Found.{IsFound}

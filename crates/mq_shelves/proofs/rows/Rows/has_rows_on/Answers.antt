@@ -1,6 +1,5 @@
-use Rattle.std.proofs.Common.{List, ap, Some, None, ◌∙◌}
+use Rattle.std.proofs.Common.{ap, Some, None, ◌∙◌}
 use Rattle.std.specs.Prelude.{not}
-use Rattle.mq_calls.specs.declared.image.Shelf.{Shelf}
 use Rattle.mq_spec_log.specs.Applies.{has_rows_on}
 use Rattle.mq_shelves.proofs.FoundLaws.{rows_on}
 use Rattle.mq_shelves.proofs.rows.Rows.has_rows_on.Goals as goal

@@ -1,13 +1,11 @@
-use Rattle.std.proofs.Common.{◌≡◌, List, Bool, true, false, Some, ◌<◌, ◌≤◌, refl, sym, ap, subst, ◌∙◌, arith}
-use Rattle.std.specs.Prelude.{if◌then◌else◌}
-use Rattle.mq_queue.specs.declared.row.Row.{Row}
+use Rattle.std.proofs.Common.{◌≡◌, List, true, false, ◌<◌, sym, ap, subst, ◌∙◌, arith}
 use Rattle.mq_calls.specs.declared.image.Shelf.{Shelf}
 use Rattle.mq_spec_state.specs.Changes.{new_row}
 use Rattle.mq_spec_state.specs.Images.{uncounted_message}
 use Rattle.mq_spec_log.specs.Shelves.{shelf_in, set_shelf, shelved_in}
 use Rattle.mq_shelves.specs.declared.rack.Stand.{Stand}
 use Rattle.mq_shelves.specs.Spots.{spot_of}
-use Rattle.mq_shelves.specs.Racks.{shelves_of, any_row, Stands, AreRacks}
+use Rattle.mq_shelves.specs.Racks.{shelves_of, any_row, AreRacks}
 use Rattle.mq_shelves.proofs.RackLaws.{racks_noted, racks_more, racks_as, message_put, new_stands}
 use Rattle.mq_shelves.proofs.rows.Rows.put.Goals as goal
 

@@ -1,6 +1,5 @@
-use Rattle.std.proofs.Common.{List, sym, ap, ◌∙◌}
+use Rattle.std.proofs.Common.{sym, ap, ◌∙◌}
 use Rattle.std.specs.BTreeMap.{is_at}
-use Rattle.mq_calls.specs.declared.image.Shelf.{Shelf}
 use Rattle.mq_spec_log.specs.Shelves.{on_all}
 use Rattle.mq_shelves.specs.Spots.{spot_of}
 use Rattle.mq_shelves.specs.Racks.{stand_cmp, shelves_of, tagged}

@@ -4,9 +4,7 @@ use Rattle.std.specs.Str.{bytes_eq}
 use Rattle.indexmap.specs.IndexMap.{get}
 use Rattle.mq_message.specs.declared.message.Ident.{Ident}
 use Rattle.mq_message.specs.declared.place.Holder.TheVariants as holders
-use Rattle.mq_calls.specs.declared.image.Shelf.{Shelf}
-use Rattle.mq_spec_state.specs.State.Which.{HeldBy}
-use Rattle.mq_spec_log.specs.Shelves.{on_all, less_rows, freed_rows}
+use Rattle.mq_spec_log.specs.Shelves.{on_all, freed_rows}
 use Rattle.mq_shelves.specs.Holds.{freed_each, or_no_idents, noted_for, AreNoted}
 use Rattle.mq_shelves.proofs.NotedLaws.{batch_freed, noted_freed}
 use Rattle.mq_shelves.proofs.shelves.Shelves.back_out.Goals as goal
