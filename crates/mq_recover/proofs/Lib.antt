@@ -1,5 +1,3 @@
-pub mod BodyLaws
 pub mod Edits
-pub mod ShelfLaws
 pub mod SideLaws
 pub mod WalkLaws

@@ -12,7 +12,7 @@ use Rattle.mq_spec_log.specs.Applies.{can_add, can_remove}
 
 -- the image so far
 abbrev pub seen : Recovering → Image
-seen r = record { definitions = r.defs.definitions; shelves = r.shelves.items; senders = r.senders; receivers = r.receivers; incarnation = r.incarnation }
+seen r = record { definitions = r.defs.definitions; shelves = r.shelves; senders = r.senders; receivers = r.receivers; incarnation = r.incarnation }
 
 -- What may be done is done, and the answer says whether it may.
 abbrev pub Does : {A : Type 0} → Bool → A → Bool → A → Type 0

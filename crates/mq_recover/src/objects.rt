@@ -6,15 +6,14 @@ ghost use Rattle.mq_spec_state.specs.Changes.{lane_of};
 ghost use Rattle.mq_spec_log.specs.Applies.{agrees, fits, same_form, can_replace, can_set, is_empty_local, can_delete, can_change};
 ghost use Rattle.mq_spec_log.specs.Records.{shelf_if, shelves_after};
 
-use crate::shelves::{drop_shelf, has_rows_on, set_empty};
 use mq_base::{Items, NoMemory};
-use mq_calls::Shelf;
 use mq_message::Message;
 use mq_name::QName;
 use mq_objects::{
     Definitions, Defs, Delivery, LocalQueue, NameSpace, Object, ObjectChange, Subject, Usage,
 };
 use mq_queue::lane_at;
+use mq_shelves::Shelves;
 use std::alloc::Global;
 
 fn is_transmission(usage: Usage) -> bool
@@ -75,12 +74,12 @@ fn same_form(a: &LocalQueue, b: &LocalQueue) -> bool
 }
 
 /// Whether an object may take the place of another.
-fn can_replace(new: &Object, old: &Object, shelves: &[Shelf]) -> bool
+fn can_replace(new: &Object, old: &Object, shelves: &Shelves) -> bool
     ensures { result ≡ can_replace new.now old.now shelves.now }
 {
     match (new, old) {
         (Object::Local(new), Object::Local(old)) => {
-            same_form(new, old) || !has_rows_on(shelves, &new.name)
+            same_form(new, old) || !shelves.has_rows_on(&new.name)
         }
         (Object::Alias(_), Object::Alias(_)) => true,
         (Object::Remote(_), Object::Remote(_)) => true,
@@ -114,7 +113,7 @@ fn name_of(object: &Object) -> &[u8]
     }
 }
 
-fn can_set(defs: &Defs, new: &Object, shelves: &[Shelf]) -> bool
+fn can_set(defs: &Defs, new: &Object, shelves: &Shelves) -> bool
     ensures { result ≡ can_set new.now (object_in (space_of new.now) (name_of new.now) defs.now.definitions.objects) shelves.now }
 {
     match defs.by_name(space_of(new), name_of(new)) {
@@ -136,16 +135,16 @@ fn is_kind(subject: &Subject, object: &Object) -> bool
     }
 }
 
-fn is_empty_local(subject: &Subject, shelves: &[Shelf]) -> bool
+fn is_empty_local(subject: &Subject, shelves: &Shelves) -> bool
     ensures { result ≡ is_empty_local subject.now shelves.now }
 {
     match subject {
-        Subject::Local(name) => !has_rows_on(shelves, name),
+        Subject::Local(name) => !shelves.has_rows_on(name),
         Subject::Alias(_) | Subject::Remote(_) | Subject::Channel(_) | Subject::Process(_) => true,
     }
 }
 
-fn can_delete(defs: &Defs, subject: &Subject, shelves: &[Shelf]) -> bool
+fn can_delete(defs: &Defs, subject: &Subject, shelves: &Shelves) -> bool
     ensures { result ≡ can_delete subject.now (named subject.now defs.now.definitions) shelves.now }
 {
     match defs.named(subject) {
@@ -156,7 +155,7 @@ fn can_delete(defs: &Defs, subject: &Subject, shelves: &[Shelf]) -> bool
 
 /// Whether a log may tell a change: a set finds no object of another kind, nor changes USAGE or MSGDLVSQ of a queue
 /// with rows; a delete finds its object, without rows.
-pub fn can_change(defs: &Defs, change: &ObjectChange, shelves: &[Shelf]) -> bool
+pub fn can_change(defs: &Defs, change: &ObjectChange, shelves: &Shelves) -> bool
     ensures { result ≡ can_change change.now defs.now.definitions shelves.now }
 {
     match change {
@@ -169,13 +168,13 @@ pub fn can_change(defs: &Defs, change: &ObjectChange, shelves: &[Shelf]) -> bool
 fn add_shelf(
     alloc: Global,
     defs: &Defs,
-    shelves: &mut Vec<Shelf>,
+    shelves: &mut Shelves,
     name: &QName,
 ) -> Result<(), NoMemory>
-    ensures { OnOk result (shelves.new.items ≡ shelf_if (local_of name.now defs.now.definitions) name.now shelves.old.items) }
+    ensures { OnOk result (shelves.new ≡ shelf_if (local_of name.now defs.now.definitions) name.now shelves.old) }
 {
     match defs.local(name) {
-        None => set_empty(alloc, shelves, name),
+        None => shelves.set_empty(alloc, name),
         Some(_) => Ok(()),
     }
 }
@@ -184,15 +183,15 @@ fn add_shelf(
 pub fn change_shelves(
     alloc: Global,
     defs: &Defs,
-    shelves: &mut Vec<Shelf>,
+    shelves: &mut Shelves,
     change: &ObjectChange,
 ) -> Result<(), NoMemory>
-    ensures { OnOk result (shelves.new.items ≡ shelves_after change.now defs.now.definitions shelves.old.items) }
+    ensures { OnOk result (shelves.new ≡ shelves_after change.now defs.now.definitions shelves.old) }
 {
     match change {
         ObjectChange::Set(Object::Local(queue)) => add_shelf(alloc, defs, shelves, &queue.name),
         ObjectChange::Delete(Subject::Local(name)) => {
-            drop_shelf(shelves, name);
+            shelves.drop_queue(name);
             Ok(())
         }
         _ => Ok(()),

@@ -6,12 +6,12 @@ ghost use Rattle.mq_spec_log.specs.Shelves.{added, removed, added_all, removed_a
 ghost use Rattle.mq_recover.specs.Recovering.{seen, Does};
 
 use crate::objects::{copy_definitions, fits, lane_on};
-use crate::shelves::{clear_all, put_on, stands_at, stands_on, take_from};
 use crate::sides;
 use mq_base::{Items, NoMemory};
-use mq_calls::{Add, Image, ReceiverSide, Remove, SenderSide, Shelf};
+use mq_calls::{Add, Image, ReceiverSide, Remove, SenderSide};
 use mq_name::ChName;
 use mq_objects::Defs;
+use mq_shelves::Shelves;
 use mq_sync::{ReceiverData, SenderData};
 use std::alloc::Global;
 
@@ -21,7 +21,7 @@ pub struct Recovering {
     /// The objects.
     pub defs: Defs,
     /// The local queues with their rows.
-    pub shelves: Vec<Shelf>,
+    pub shelves: Shelves,
     /// What senders have hardened, in order of the channels' names.
     pub senders: Items<SenderSide>,
     /// What receivers have hardened, in order of the channels' names.
@@ -37,7 +37,7 @@ impl Recovering {
     {
         Recovering {
             defs: Defs::new(alloc),
-            shelves: Vec::new(alloc),
+            shelves: Shelves::new(alloc),
             senders: Items::new(alloc),
             receivers: Items::new(alloc),
             incarnation: 0,
@@ -49,9 +49,10 @@ impl Recovering {
         ensures { IfOk result (λ image. image ≡ seen self) }
     {
         let definitions = copy_definitions(alloc, &self.defs)?;
+        let shelves = self.shelves.into_shelves(alloc)?;
         Ok(Image {
             definitions,
-            shelves: Items::from_vec(self.shelves),
+            shelves,
             senders: self.senders,
             receivers: self.receivers,
             incarnation: self.incarnation,
@@ -91,26 +92,22 @@ impl Recovering {
         ensures { IfOk result (λ done. Does (can_add add (seen self.old)) (added add (seen self.old)) done (seen self.new)) }
     {
         let Add { queue, message } = add;
-        if !fits(&self.defs, &queue, &message)
-            || stands_on(self.shelves.as_slice(), &message.ident)
-        {
+        if !fits(&self.defs, &queue, &message) || self.shelves.stands_on(&message.ident) {
             return Ok(false);
         }
-        clear_all(alloc, &mut self.shelves, &message.ident);
         sides::strike_all(&mut self.senders, &message.ident);
         let lane = lane_on(&self.defs, &queue, &message);
-        put_on(alloc, &mut self.shelves, &queue, lane, message)?;
+        self.shelves.replace(alloc, &queue, lane, message)?;
         Ok(true)
     }
 
     /// A free row goes, where it stands on the queue.
-    pub fn remove(&mut self, alloc: Global, remove: &Remove) -> bool
+    pub fn remove(&mut self, remove: &Remove) -> bool
         ensures { Does (can_remove remove.now (seen self.old)) (removed remove.now (seen self.old)) result (seen self.new) }
     {
-        if !stands_at(self.shelves.as_slice(), &remove.queue, &remove.ident) {
+        if !self.shelves.take(&remove.queue, &remove.ident) {
             return false;
         }
-        take_from(alloc, &mut self.shelves, &remove.queue, &remove.ident);
         true
     }
 
@@ -129,11 +126,11 @@ impl Recovering {
     }
 
     /// Rows go in order, where each may.
-    pub fn remove_all(&mut self, alloc: Global, removes: &[Remove]) -> bool
+    pub fn remove_all(&mut self, removes: &[Remove]) -> bool
         ensures { Does (can_remove_all removes.now (seen self.old)) (removed_all removes.now (seen self.old)) result (seen self.new) }
     {
         for remove in removes {
-            if !self.remove(alloc, remove) {
+            if !self.remove(remove) {
                 return false;
             }
         }

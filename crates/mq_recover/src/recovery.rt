@@ -7,13 +7,13 @@ ghost use Rattle.mq_spec_log.specs.Bodies.{begins, image, image_from, empty_imag
 ghost use Rattle.mq_recover.specs.declared.recovery.RecoverFault.TheVariants as faults;
 ghost use Rattle.mq_recover.specs.Found.{start_in, given_as, Recovers, Told};
 
-use crate::reading::log_record;
 use crate::recovering::Recovering;
 use crate::start::Start;
 use mq_base::NoMemory;
 use mq_calls::{Image, LogRecord};
 use mq_log::{Bodies, Split, next_body};
 use mq_name::QName;
+use mq_recover_read::log_record;
 use std::alloc::Global;
 
 /// Why a log tells no image.

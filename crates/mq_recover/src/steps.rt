@@ -1,5 +1,7 @@
 //! What each kind of record does, where it may.
 ghost use Rattle.std.specs.Prelude.{◌≡◌, ◌&&◌, max, nat_lt, IfOk, Some};
+ghost use Rattle.std.specs.List.{list_any};
+ghost use Rattle.mq_queue.specs.Rows.{same_ident};
 ghost use Rattle.mq_calls.specs.declared.records.LogRecord.TheVariants as records;
 ghost use Rattle.mq_sync.specs.declared.data.End.TheVariants as ends;
 ghost use Rattle.mq_sync.specs.Settlement.{data_settled, settle_by};
@@ -12,8 +14,6 @@ ghost use Rattle.mq_recover.specs.Found.{start_in, given_as};
 use crate::bounds::{is_in_bounds, were_given};
 use crate::objects::{can_change, change_shelves};
 use crate::recovering::Recovering;
-use crate::rows::is_among;
-use crate::shelves::{back_out_all, commit_all, hold_on, holds_any};
 use crate::start::Start;
 use mq_base::{Items, NoMemory};
 use mq_calls::{Add, LogRecord, Remove};
@@ -33,6 +33,12 @@ fn is_above(a: Unit, b: Unit) -> bool
     ensures { result ≡ is_above a b }
 {
     b.session < a.session || (a.session == b.session && b.n < a.n)
+}
+
+fn is_among(idents: &[Ident], ident: &Ident) -> bool
+    ensures { result ≡ list_any (same_ident ident.now) idents.now }
+{
+    idents.iter().any(|other| *ident == *other)
 }
 
 fn are_distinct(idents: &[Ident]) -> bool
@@ -101,9 +107,9 @@ impl Recovering {
     }
 
     fn change(&mut self, alloc: Global, change: ObjectChange) -> Result<bool, NoMemory>
-        ensures { IfOk result (λ done. Does (can_change change self.old.defs.definitions self.old.shelves.items) (doing (records.Objects change) (seen self.old)) done (seen self.new)) }
+        ensures { IfOk result (λ done. Does (can_change change self.old.defs.definitions self.old.shelves) (doing (records.Objects change) (seen self.old)) done (seen self.new)) }
     {
-        if !can_change(&self.defs, &change, self.shelves.as_slice()) {
+        if !can_change(&self.defs, &change, &self.shelves) {
             return Ok(false);
         }
         change_shelves(alloc, &self.defs, &mut self.shelves, &change)?;
@@ -135,37 +141,37 @@ impl Recovering {
     }
 
     fn can_prepare(&self, unit: Unit, idents: &[Ident], data: &SenderData) -> bool
-        ensures { result ≡ can_prepare unit idents.now data.now self.now.shelves.items }
+        ensures { result ≡ can_prepare unit idents.now data.now self.now.shelves }
     {
         is_unit(unit)
             && !data.in_doubt.is_some()
             && unit.session <= data.session
             && are_distinct(idents)
-            && !holds_any(self.shelves.as_slice(), idents)
+            && !self.shelves.holds_any(idents)
     }
 
     fn prepare(&mut self, alloc: Global, channel: ChName, doubt: InDoubt) -> Result<bool, NoMemory>
-        ensures { IfOk result (λ done. Does (can_prepare doubt.unit doubt.idents (sender_at channel (seen self.old)) self.old.shelves.items) (doing (records.Prepared channel doubt.unit doubt.last doubt.queue doubt.idents) (seen self.old)) done (seen self.new)) }
+        ensures { IfOk result (λ done. Does (can_prepare doubt.unit doubt.idents (sender_at channel (seen self.old)) self.old.shelves) (doing (records.Prepared channel doubt.unit doubt.last doubt.queue doubt.idents) (seen self.old)) done (seen self.new)) }
     {
         let mut data = self.sender_at(alloc, &channel)?;
         if !self.can_prepare(doubt.unit, doubt.idents.as_slice(), &data) {
             return Ok(false);
         }
         let idents = doubt.idents.as_slice();
-        hold_on(alloc, &mut self.shelves, &doubt.queue, idents, &channel);
+        self.shelves.hold(alloc, &doubt.queue, idents, &channel)?;
         data.force = false;
         data.in_doubt = Some(doubt);
         self.set_sender(channel, data)?;
         Ok(true)
     }
 
-    fn settle_rows(&mut self, alloc: Global, channel: &ChName, commit: bool)
+    fn settle_rows(&mut self, channel: &ChName, commit: bool)
         ensures { seen self.new ≡ settled_rows commit channel.now (seen self.old) }
     {
         if commit {
-            commit_all(alloc, &mut self.shelves, channel);
+            self.shelves.commit(channel);
         } else {
-            back_out_all(alloc, &mut self.shelves, channel);
+            self.shelves.back_out(channel);
         }
     }
 
@@ -182,7 +188,7 @@ impl Recovering {
         if !is_unit_in_doubt(unit, &data.in_doubt) {
             return Ok(false);
         }
-        self.settle_rows(alloc, &channel, commit);
+        self.settle_rows(&channel, commit);
         self.set_sender(channel, settle(data, commit))?;
         Ok(true)
     }
@@ -295,7 +301,7 @@ impl Recovering {
     ) -> Result<bool, NoMemory>
         ensures { IfOk result (λ done. Does (can_remove_all removes.now (seen self.old) && can_add_all adds (removed_all removes.now (seen self.old))) (added_all adds (removed_all removes.now (seen self.old))) done (seen self.new)) }
     {
-        if !self.remove_all(alloc, removes) {
+        if !self.remove_all(removes) {
             return Ok(false);
         }
         self.add_all(alloc, adds)
@@ -313,7 +319,7 @@ impl Recovering {
         if !(ident == add.message.ident) {
             return Ok(false);
         }
-        if !self.remove(alloc, &Remove { queue: from, ident }) {
+        if !self.remove(&Remove { queue: from, ident }) {
             return Ok(false);
         }
         self.add(alloc, add)

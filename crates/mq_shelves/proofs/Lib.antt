@@ -1,0 +1,11 @@
+pub mod KeyLaws
+pub mod StandLaws
+pub mod FindLaws
+pub mod ChangeLaws
+pub mod ViewLaws
+pub mod RackLaws
+pub mod EachLaws
+pub mod NotedLaws
+pub mod FoundLaws
+pub mod PutLaws
+pub mod TellLaws

@@ -1,0 +1,7 @@
+use Rattle.std.proofs.Common.{◌≡◌, drop}
+use Rattle.mq_message.specs.declared.place.Holder.TheVariants as holders
+use Rattle.mq_shelves.specs.Holds.{freed_each}
+use Rattle.mq_shelves.proofs.shelves.free_each.Given as goal
+
+abbrev pub invariant-loop-ident : goal.invariant-loop-ident
+invariant-loop-ident l = freed_each (holders.Batch l.channel) (drop l.ident-index l.idents) l.rows ≡ freed_each (holders.Batch l.channel) l.idents l.fn.rows

@@ -1,0 +1,4 @@
+pub mod Racks
+pub mod Spots
+pub mod Found
+pub mod Holds
