@@ -1,0 +1,14 @@
+use Rattle.std.proofs.Common.{◌≡◌, ap, sym, subst, ◌∙◌, length, arith}
+use Rattle.std.specs.Prelude.{List, Some, None, ◌≤◌}
+use Rattle.mq_sides.specs.Places.{CanUndo}
+use Rattle.mq_sides.proofs.PlaceLaws.{undo_set, undo_new}
+use Rattle.mq_sides.proofs.sides.swap_side.Goals as goal
+
+pub returns-then-is_standing-clause-undo : goal.returns-then-is_standing-clause-undo
+returns-then-is_standing-clause-undo g c =
+    undo_set c.args.items.now c.side_place-place.result c.replace-before.result c.replace-before.new.dest (c.at_mut.ensures.value ∙ ap (λ x. Some x) (sym c.replace-before.ensures.value))
+
+pub returns-clause-undo : goal.returns-clause-undo
+returns-clause-undo g c =
+    let within : c.side_place-place.result ≤ length c.args.items.now = omega (arith, c.side_place-place.ensures.within, ap length c.as_slice.ensures) in
+    subst (λ xs. CanUndo c.side_place-place.result None c.args.items.now xs) (sym c.in-Ok.ensures.ok) (undo_new c.args.items.now c.side_place-place.result c.args.new within)

@@ -1,0 +1,29 @@
+-- Places in a list that is in order of names.
+use Rattle.std.specs.Prelude.{◌≡◌, ℕ, ◌<◌, suc, length, slice_set, Bool, false, ◌||◌, Option, Some, None, List, [], ◌∷◌, if◌then◌else◌}
+use Rattle.std.specs.List.{remove}
+use Rattle.std.specs.Str.{bytes_eq}
+use Rattle.mq_spec_state.specs.Words.{comes_before}
+
+-- it has the name, or stands behind it
+abbrev pub is_there : {A : Type 0} → (A → List ℕ) → List ℕ → A → Bool
+is_there name channel x = bytes_eq channel (name x) || comes_before channel (name x)
+
+-- the first such place; else behind the last
+abbrev pub place_in : {A : Type 0} → (A → List ℕ) → List ℕ → List A → ℕ
+place_in name channel [] = 0
+place_in name channel (x ∷ xs) = if is_there name channel x then 0 else suc (place_in name channel xs)
+
+-- it is there, and has the name
+abbrev pub is_of : {A : Type 0} → (A → List ℕ) → List ℕ → Option A → Bool
+is_of name channel None = false
+is_of name channel (Some x) = bytes_eq channel (name x)
+
+-- a value that was set is gone again
+abbrev pub undone : {A : Type 0} → ℕ → Option A → List A → List A
+undone place None xs = remove xs place
+undone place (Some x) xs = slice_set xs place x
+
+-- and so the list is as it was
+pub record CanUndo {A : Type 0} (place : ℕ) (before : Option A) (old new : List A) : Type 0 where
+  pub within : place < length new
+  pub same : undone place before new ≡ old
