@@ -34,6 +34,9 @@ use Rattle.mq_steer.proofs.RestLaws.{seen_changed}
 use Rattle.mq_steer.proofs.TurnLaws.{local_name}
 use Rattle.mq_steer.proofs.AlterLaws.{undefined_none, defined_some}
 
+true_false : true ≡ false → ⊥
+true_false e = absurd cc
+
 -- ---- units are as they were
 
 module _ (step : PathStep) where
@@ -100,9 +103,6 @@ in_without name gone (s ∷ ss) = by (bytes_eq gone s.queue.name) refl (bytes_eq
     kept : (t : Bool) → bytes_eq name s.queue.name ≡ t → (c : Bool) → (c ≡ true → t ≡ false) → state_in name (without_state gone ss) ≡ cond c None (state_in name ss)
         → cond t (Some s) (state_in name (without_state gone ss)) ≡ cond c None (cond t (Some s) (state_in name ss))
     kept true e true other rest = absurd (true_false (other refl))
-      where
-        true_false : true ≡ false → ⊥
-        true_false e = absurd cc
     kept true e false other rest = refl
     kept false e true other rest = rest
     kept false e false other rest = rest
@@ -205,10 +205,7 @@ times_after i (changes.Delete (subjects.Process name)) on d ss = omega arith
 -- where an object that is no local queue stands, no local queue is
 not_local : (o : Option Object) → ((old : Object) → o ≡ Some old → is_local old ≡ false) → as_local o ≡ None
 not_local None h = refl
-not_local (Some (objects.Local q)) h = absurd (false_true (h (objects.Local q) refl))
-  where
-    false_true : true ≡ false → ⊥
-    false_true e = absurd cc
+not_local (Some (objects.Local q)) h = absurd (true_false (h (objects.Local q) refl))
 not_local (Some (objects.Alias q)) h = refl
 not_local (Some (objects.Remote q)) h = refl
 not_local (Some (objects.Channel q)) h = refl

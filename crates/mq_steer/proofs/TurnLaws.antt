@@ -2,6 +2,7 @@
 use Rattle.std.proofs.Common.{◌≡◌, ℕ, ◌+◌, ◌-◌, ◌<◌, ◌≤◌, ◌^◌, Bool, true, false, cond, List, [], ◌∷◌, refl, ap, arith, sym, subst, ◌∙◌}
 use Rattle.std.specs.Prelude.{Option, Some, None, Result, Ok, Err, IsSome, nat_lt, ◌&&◌}
 use Rattle.std.specs.Str.{bytes_eq}
+use Rattle.mq_base.specs.declared.want.NoMemory.{NoMemory}
 use Rattle.mq_objects.specs.declared.object.Object.{Object}
 use Rattle.mq_objects.specs.declared.object.Object.TheVariants as objects
 use Rattle.mq_objects.specs.Names.{object_in, as_local, is_object}
@@ -18,13 +19,13 @@ use Rattle.mq_core.specs.Views.{PartsValue, plain_of}
 use Rattle.mq_core.specs.Ties.{TiedBut, Tied, IsReady, HasCounts, AreCounted, state_lanes, pending_at, times_in_rows, times_in_queues}
 use Rattle.mq_core.specs.Placing.{arrived_at}
 use Rattle.mq_core.specs.Forced.{IsExpected}
-use Rattle.mq_core.proofs.PlaceLaws.{name_is, state_named, queue_in_state, set_changed, counted_changed, ready, arrived_view, tied_arrived}
+use Rattle.mq_core.proofs.PlaceLaws.{name_is, some_same, state_named, queue_in_state, set_changed, counted_changed, ready, arrived_view, tied_arrived}
 use Rattle.mq_core.proofs.ReadLaws.{queue_none}
 use Rattle.mq_core.proofs.PutLaws.{OnWay, tied_on_way, way_counts, expected_view}
 use Rattle.mq_spec_manager.specs.Triggers.{trigger_turn, trigger_at, serve, serve_by, first_due}
 use Rattle.mq_steer.specs.declared.triggers.Sending.{Sending}
 use Rattle.mq_steer.specs.declared.triggers.Serving.{Serving}
-use Rattle.mq_steer.specs.Turns.{sent_part, IsDue, CanSend, Serves, ServesBy, IsServed, IsServedBy, served_at, numbered}
+use Rattle.mq_steer.specs.Turns.{sent_part, IsDue, CanSend, Serves, ServesBy, IsServed, IsServedBy, IsServedOr, served_at, numbered}
 use Rattle.mq_steer.proofs.RestLaws.{seen_changed}
 
 true_false : true ≡ false → ⊥
@@ -83,9 +84,12 @@ counts_served most from x due h =
     let c = h from found.0 found.1 in
     counted_changed from (on_queue served) (λ s. refl) most x.queues.states found.0 found.1 (record { arrivals = c.arrivals; due = omega (arith, c.due) }) h
 
+abbrev numbered_with : PartsValue → PartsValue → PartsValue
+numbered_with y z = record z { idents = z.idents + 1; log = y.log; body = y.body }
+
 pub on_way : (to : List ℕ) (m : Message) (x y : PartsValue) → CanSend to m (plain_of x) → IsExpected to 0 x y → Tied x → OnWay to m x (numbered y)
 on_way to m x y can e t = record {
-  same = ap numbered e.same;
+  same = ap (numbered_with y) e.same;
   live = ap (λ (z : PartsValue). z.log.live) e.same;
   settled = ap (λ (z : PartsValue). z.log.pending) e.same;
   reserved = ap (λ (z : PartsValue). z.log.reserved) e.same;
@@ -119,10 +123,17 @@ turn_view from to m x y low due can e t =
     ∙ ap (place to m) (served_view from (numbered y) (due_on_way from to x y e due))
     ∙ ap (place_served from to m) (expected_view to 0 x y e)
 
--- want of memory, of a call without refusals
-pub turn_wants : (v new : ManagerValue) (s : Step Never Bool) → new ≡ untouched v → Meets v s (Err halts.NoMemory) new
-turn_wants v new (Refuse reason) e = elim reason as (λ r. Meets {T = Bool} v (Refuse r) (Err halts.NoMemory) new) [ ]
-turn_wants v new (Do reply parts) e = e
+-- want of memory
+pub turn_wants : (v new : ManagerValue) → new ≡ untouched v → Meets v (trigger_turn v.plain) (Err halts.NoMemory) new
+turn_wants v new e = by_up (is_up v.plain.running)
+  where
+    by_due : (o : Option LocalQueue) → Meets v (serve o v.plain) (Err halts.NoMemory) new
+    by_due None = e
+    by_due (Some q) = e
+
+    by_up : (b : Bool) → Meets v (trigger_at b v.plain) (Err halts.NoMemory) new
+    by_up false = e
+    by_up true = by_due (first_due (locals_of v.plain.definitions) v.plain)
 
 -- the queue that is found has the name
 pub local_name : (name : List ℕ) (os : List Object) (q : LocalQueue) → as_local (object_in Queues name os) ≡ Some q → bytes_eq name q.name ≡ true
@@ -130,7 +141,7 @@ local_name name [] q e = absurd cc
 local_name name (o ∷ os) q e = by (is_object Queues name o) refl e (local_name name os q)
   where
     here : (o : Object) → is_object Queues name o ≡ true → as_local (Some o) ≡ Some q → bytes_eq name q.name ≡ true
-    here (objects.Local p) n e = ap (λ (l : LocalQueue). bytes_eq name l.name) (sym (grind (arith, e))) ∙ n
+    here (objects.Local p) n e = ap (λ (l : LocalQueue). bytes_eq name l.name) (sym (some_same p q e)) ∙ n
     here (objects.Alias p) n e = absurd cc
     here (objects.Remote p) n e = absurd cc
     here (objects.Channel p) n e = absurd cc
@@ -141,7 +152,7 @@ local_name name (o ∷ os) q e = by (is_object Queues name o) refl e (local_name
     by false n e rest = rest e
 
 pub local_there : (name : List ℕ) (d : Definitions) (q : LocalQueue) → local_of name d ≡ Some q → IsSome (local_of q.name d)
-local_there name d q e = subst (λ (n : List ℕ). IsSome (local_of n d)) (name_is name q.name (local_name name d.objects q e)) (subst IsSome (sym e) tt)
+local_there name d q e = subst (λ (n : List ℕ). IsSome (local_of n d)) (name_is name q.name (local_name name d.objects q e)) (subst IsSome (sym e) refl)
 
 -- the first queue with a trigger due has one due
 first_is_due : (p : Plain) (qs : List LocalQueue) (q : LocalQueue) → first_due qs p ≡ Some q → IsDue q.name p
@@ -149,7 +160,7 @@ first_is_due p [] q e = absurd cc
 first_is_due p (x ∷ qs) q e = by (nat_lt 0 (stored x.name p).due) refl e (first_is_due p qs q)
   where
     by : (b : Bool) → nat_lt 0 (stored x.name p).due ≡ b → cond b (Some x) (first_due qs p) ≡ Some q → (first_due qs p ≡ Some q → IsDue q.name p) → IsDue q.name p
-    by true d e rest = let is : x ≡ q = grind (arith, e) in subst (λ (l : LocalQueue). IsDue l.name p) is d
+    by true d e rest = let is = some_same x q e in subst (λ (l : LocalQueue). IsDue l.name p) is d
     by false d e rest = rest e
 
 pub turn_is : (p : Plain) (q : LocalQueue) (serving : Serving) → is_up p.running ≡ true → first_due (locals_of p.definitions) p ≡ Some q
@@ -163,6 +174,11 @@ turn_is p q serving up first h =
         → trigger_turn p ≡ Do true (serve_by q (process_of q.process p.definitions) (local_of q.initiation_queue p.definitions) p ∷ []) → IsServedBy p q.name o
     by None h t = t ∙ ap (λ (part : Part). Do true (part ∷ [])) h
     by (Some sending) h t = (t ∙ ap (λ (part : Part). Do true (part ∷ [])) h.0, h.1)
+
+pub turn_by : (p : Plain) (q : LocalQueue) (r : Result Serving NoMemory) → is_up p.running ≡ true → first_due (locals_of p.definitions) p ≡ Some q
+    → Serves q.name (serve_by q (process_of q.process p.definitions) (local_of q.initiation_queue p.definitions) p) p r → IsServedOr p r
+turn_by p q (Ok serving) up first h = turn_is p q serving up first h
+turn_by p q (Err e) up first h = tt
 
 pub turn_down : (p : Plain) → is_up p.running ≡ false → trigger_turn p ≡ say false
 turn_down p down = λ i. trigger_at (down i) p

@@ -43,6 +43,10 @@ IsServedBy p from (Some sending) = (trigger_turn p ≡ Do true (sent_part from s
 abbrev pub IsServed : Plain → Serving → Type 0
 IsServed p serving = IsDue serving.from p × IsServedBy p serving.from serving.sending
 
+abbrev pub IsServedOr : Plain → Result Serving NoMemory → Type 0
+IsServedOr p (Ok serving) = IsServed p serving
+IsServedOr p (Err _) = Unit {0}
+
 abbrev pub IsTurn : Plain → Result (Option Serving) NoMemory → Type 0
 IsTurn p (Ok None) = trigger_turn p ≡ say false
 IsTurn p (Ok (Some serving)) = IsServed p serving

@@ -1,6 +1,7 @@
 //! Commands on objects.
 ghost use Rattle.std.specs.Prelude.{◌≡◌, ◌+◌, ◌<◌, ◌≤◌, ◌^◌, [], ◌∷◌, length, true, Ok, OnOk, OnErr, IfOk};
 ghost use Rattle.mq_objects.specs.Names.{is_by_priority, local_of, name_of};
+ghost use Rattle.mq_objects.specs.declared.object.Object.TheVariants as objects;
 ghost use Rattle.mq_objects.specs.declared.change.ObjectChange.TheVariants as changes;
 ghost use Rattle.mq_resolve.specs.declared.route.PathStep.TheVariants as steps;
 ghost use Rattle.mq_calls.specs.declared.records.LogRecord.TheVariants as records;
@@ -164,8 +165,21 @@ fn switch_on<D: Disk>(parts: &mut Parts<D>, on: bool, queue: &QName)
     }
 }
 
-/// The queues and handles behind an object that is set.
+/// The queue and the handles behind a local queue that is set.
 #[tactic(auto, using(crate::proofs::AlterLaws::may_lane))]
+fn follow_local<D: Disk>(parts: &mut Parts<D>, queue: &LocalQueue, reroutes: bool, on: bool)
+    requires tied { Tied parts.old }
+    requires room { 0 < parts.old.queues.room }
+    requires can { CanSet (objects.Local queue.now) reroutes on (plain_of parts.old) }
+    ensures same { parts.new ≡ record parts.old { queues = parts.new.queues; desk = stale_desk reroutes (steps.Queue queue.now.name) parts.old.desk } }
+    ensures states { parts.new.queues.states ≡ switched_states on queue.now.name (renewed_states (local_of queue.now.name parts.old.defs.definitions) queue.now parts.old.queues.states) }
+{
+    renew(parts, queue);
+    make_stale(parts, reroutes, &PathStep::Queue(queue.name));
+    switch_on(parts, on, &queue.name);
+}
+
+/// The queues and handles behind an object that is set.
 fn follow_set<D: Disk>(parts: &mut Parts<D>, new: &Object, reroutes: bool, on: bool)
     requires tied { Tied parts.old }
     requires room { 0 < parts.old.queues.room }
@@ -174,11 +188,7 @@ fn follow_set<D: Disk>(parts: &mut Parts<D>, new: &Object, reroutes: bool, on: b
     ensures states { parts.new.queues.states ≡ states_after (changes.Set new.now) on parts.old.defs.definitions parts.old.queues.states }
 {
     match new {
-        Object::Local(queue) => {
-            renew(parts, queue);
-            make_stale(parts, reroutes, &PathStep::Queue(queue.name));
-            switch_on(parts, on, &queue.name);
-        }
+        Object::Local(queue) => follow_local(parts, queue, reroutes, on),
         Object::Alias(queue) => make_stale(parts, reroutes, &PathStep::Queue(queue.name)),
         Object::Remote(queue) => make_stale(parts, reroutes, &PathStep::Queue(queue.name)),
         Object::Channel(_) => {}
@@ -224,23 +234,24 @@ fn alter<D: Disk>(parts: &mut Parts<D>, planned: Planned)
     parts.defs.change(change);
 }
 
-/// A change that a command makes.
-fn change<D: Disk>(core: &mut Core<D>, planned: Planned) -> Result<Shown, Halt<ScRefusal>>
+/// A change whose record has this text.
+fn write_change<D: Disk>(
+    core: &mut Core<D>,
+    planned: Planned,
+    text: &[u8],
+) -> Result<Shown, Halt<ScRefusal>>
     requires up { is_up core.old.plain.running ≡ true }
     requires once { AreOnce core.old.plain.definitions.objects }
     requires can { CanChange planned.change planned.reroutes planned.switches_on core.old.plain }
+    requires text { text.now ≡ change_text planned.change }
     ensures { MeetsOrWants core.old (change_step planned core.old.plain.definitions) result core.new }
 {
     core.begin_call();
-    let text = match change_text(core.parts.alloc, &planned.change) {
-        Ok(text) => text,
-        Err(NoMemory) => return Err(Halt::NoMemory),
-    };
-    match make_room(&mut core.parts, text.as_slice()) {
+    match make_room(&mut core.parts, text) {
         Ok(()) => {}
         Err(NoMemory) => return Err(Halt::NoMemory),
     }
-    match force_change(&mut core.parts, &planned.change, text.as_slice()) {
+    match force_change(&mut core.parts, &planned.change, text) {
         Ok(()) => {}
         Err(stop) => {
             go_down(&mut core.parts, planned);
@@ -252,6 +263,22 @@ fn change<D: Disk>(core: &mut Core<D>, planned: Planned) -> Result<Shown, Halt<S
     Ok(Shown {
         lines: Items::new(core.parts.alloc),
     })
+}
+
+/// A change that a command makes.
+fn change<D: Disk>(core: &mut Core<D>, planned: Planned) -> Result<Shown, Halt<ScRefusal>>
+    requires up { is_up core.old.plain.running ≡ true }
+    requires once { AreOnce core.old.plain.definitions.objects }
+    requires can { CanChange planned.change planned.reroutes planned.switches_on core.old.plain }
+    ensures { MeetsOrWants core.old (change_step planned core.old.plain.definitions) result core.new }
+{
+    match change_text(core.parts.alloc, &planned.change) {
+        Ok(text) => write_change(core, planned, text.as_slice()),
+        Err(NoMemory) => {
+            core.begin_call();
+            Err(Halt::NoMemory)
+        }
+    }
 }
 
 /// Want of memory is no refusal.

@@ -7,7 +7,7 @@ ghost use Rattle.mq_core.specs.Views.{plain_of};
 ghost use Rattle.mq_core.specs.Ties.{Tied, IsReady};
 ghost use Rattle.mq_core.specs.Forced.{IsExpected, HasMoreRoom};
 ghost use Rattle.mq_core.specs.Placing.{arrived_at};
-ghost use Rattle.mq_steer.specs.Turns.{Serves, IsTurn, IsServed, IsDue, CanSend, sent_part, served_at, numbered, halted};
+ghost use Rattle.mq_steer.specs.Turns.{Serves, IsTurn, IsServed, IsServedOr, IsDue, CanSend, sent_part, served_at, numbered, halted};
 
 use mq_base::NoMemory;
 use mq_calls::Did;
@@ -25,6 +25,7 @@ use mq_unit::Effects;
 const TM_LENGTH: u32 = 684;
 
 /// A trigger message, and the queue on which it is put.
+#[derive(Drop)]
 pub struct Sending {
     /// The initiation queue.
     pub to: QName,
@@ -33,6 +34,7 @@ pub struct Sending {
 }
 
 /// What is done with the trigger of a queue: its message is put, or it is dropped.
+#[derive(Drop)]
 pub struct Serving {
     /// The queue whose trigger it is.
     pub from: QName,
@@ -137,8 +139,20 @@ fn serve_by<D: Disk>(parts: &Parts<D>, queue: &LocalQueue) -> Result<Serving, No
     serve_into(parts, queue, process, initiation)
 }
 
+/// What is done with the first trigger that is due.
+#[tactic(auto, using(crate::proofs::TurnLaws::turn_by))]
+fn turn_of<D: Disk>(parts: &Parts<D>, queue: &LocalQueue) -> Result<Serving, NoMemory>
+    requires tied { Tied parts.now }
+    requires idents { parts.now.idents + 1 < 2 ^ 64 }
+    requires up { is_up (plain_of parts.now).running ≡ true }
+    requires first { first_due (locals_of parts.now.defs.definitions) (plain_of parts.now) ≡ Some queue.now }
+    ensures { IsServedOr (plain_of parts.now) result }
+{
+    serve_by(parts, queue)
+}
+
 /// What the turn does, with the memory of its message taken; nothing where no trigger is due.
-#[tactic(auto, using(crate::proofs::TurnLaws::turn_is, crate::proofs::TurnLaws::turn_down, crate::proofs::TurnLaws::turn_none))]
+#[tactic(auto, using(crate::proofs::TurnLaws::turn_down, crate::proofs::TurnLaws::turn_none))]
 fn next_turn<D: Disk>(parts: &Parts<D>) -> Result<Option<Serving>, NoMemory>
     requires tied { Tied parts.now }
     requires idents { parts.now.idents + 1 < 2 ^ 64 }
@@ -150,7 +164,7 @@ fn next_turn<D: Disk>(parts: &Parts<D>) -> Result<Option<Serving>, NoMemory>
     let Some(queue) = first_due(parts) else {
         return Ok(None);
     };
-    match serve_by(parts, queue) {
+    match turn_of(parts, queue) {
         Ok(serving) => Ok(Some(serving)),
         Err(NoMemory) => Err(NoMemory),
     }

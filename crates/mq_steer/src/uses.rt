@@ -62,6 +62,7 @@ fn is_switched_off<D: Disk>(parts: &Parts<D>, queue: &QName) -> bool
 }
 
 /// What a manager says of the use of its objects.
+#[derive(Drop)]
 pub struct ObjectUse<'a, D: Disk> {
     /// The manager.
     pub core: &'a Core<D>,
@@ -71,32 +72,39 @@ impl<'a, D: Disk> InUse for ObjectUse<'a, D> {
     ghost facts = { λ u. uses_of u.core.now.plain };
 
     fn on_path(&self, name: &QName) -> bool {
-        self.core.parts.live.has_step(&PathStep::Queue(*name))
+        let core = self.core;
+        core.parts.live.has_step(&PathStep::Queue(*name))
     }
 
     fn defxmitq_on_path(&self) -> bool {
-        self.core.parts.live.has_step(&PathStep::DefXmitq)
+        let core = self.core;
+        core.parts.live.has_step(&PathStep::DefXmitq)
     }
 
     fn sending(&self, name: &QName) -> bool {
-        self.core.parts.is_read_by_sender(name)
+        let core = self.core;
+        core.parts.is_read_by_sender(name)
     }
 
     fn channel_busy(&self, name: &ChName) -> bool {
-        is_seized(self.core.parts.ends.seizures.as_slice(), name)
-            || is_bound(self.core.parts.ends.bound.as_slice(), name)
-            || is_in_doubt(self.core.parts.ends.senders.as_slice(), name)
+        let core = self.core;
+        is_seized(core.parts.ends.seizures.as_slice(), name)
+            || is_bound(core.parts.ends.bound.as_slice(), name)
+            || is_in_doubt(core.parts.ends.senders.as_slice(), name)
     }
 
     fn has_rows(&self, name: &QName) -> bool {
-        has_rows(&self.core.parts, name)
+        let core = self.core;
+        has_rows(&core.parts, name)
     }
 
     fn depth(&self, name: &QName) -> u64 {
-        self.core.parts.depth(name)
+        let core = self.core;
+        core.parts.depth(name)
     }
 
     fn trigger_off(&self, name: &QName) -> bool {
-        is_switched_off(&self.core.parts, name)
+        let core = self.core;
+        is_switched_off(&core.parts, name)
     }
 }
