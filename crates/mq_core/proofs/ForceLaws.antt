@@ -1,26 +1,22 @@
 -- What a forced write leaves: the view after it, and what ties the parts.
-use Rattle.std.proofs.Common.{◌≡◌, ℕ, ◌+◌, ◌-◌, ◌<◌, ◌≤◌, Bool, true, false, cond, List, [], ◌∷◌, ◌++◌, length, refl, ap, arith, sym, subst, ◌∙◌}
-use Rattle.std.specs.Prelude.{Option, Some, None, Result, Ok, Err, map, not, IsErrOf, OnOk, IsSome, is_some}
+use Rattle.std.proofs.Common.{◌≡◌, ℕ, ◌+◌, ◌≤◌, Bool, true, false, cond, List, [], ◌∷◌, length, refl, ap, arith, sym, subst, ◌∙◌}
+use Rattle.std.specs.Prelude.{Option, Some, Result, Ok, Err, map, not, IsErrOf, OnOk}
 use Rattle.std.specs.Str.{bytes_eq}
 use Rattle.mq_base.specs.Outside.{Rose}
 use Rattle.mq_disk.specs.declared.cutter.Stop.{Stop}
 use Rattle.mq_disk.specs.declared.cutter.Stop.TheVariants as stops
 use Rattle.mq_spec_state.specs.State.{Queue as StateQueue, LogState as PlainLog}
-use Rattle.mq_spec_state.specs.Words.{Ident, Message, Row, Item, LogRecord, Plain, Part, Noted, Change, Did, Reason, ManagerValue, Nonpersistent, Wants, MeetsAs, MeetsDone, StoppedIn, Ran, Do, keep, kept_in, need, record_size, freeze, logged, written, note_of, StopsAt, has_ident, selects}
-use Rattle.mq_calls.specs.declared.state.Item.TheVariants.{Put, Take}
-use Rattle.mq_calls.specs.declared.commands.Halt.TheVariants as halts
+use Rattle.mq_spec_state.specs.Words.{Ident, Row, Item, LogRecord, Plain, Nonpersistent, keep, kept_in, need, record_size, freeze, logged, StopsAt, has_ident, selects}
 use Rattle.mq_log.specs.State.{LogState, log_length, Appended}
 use Rattle.mq_log.specs.Force.{Stops}
 use Rattle.mq_log.proofs.Logs.{log_length-push}
 use Rattle.mq_record.specs.Records.{record_bytes}
 use Rattle.mq_record.specs.Room.{Buffered}
-use Rattle.mq_place.specs.States.{QueueState, queues_of, state_in, change_state, on_queue, on_queues, expecting, unpended}
+use Rattle.mq_place.specs.States.{QueueState, queues_of, state_in, on_queue, on_queues}
 use Rattle.mq_core.specs.declared.parts.StoppedWrite.{StoppedWrite}
-use Rattle.mq_core.specs.declared.parts.StoppedWrite.TheVariants as writes
 use Rattle.mq_core.specs.Views.{PartsValue, plain_of, frozen_of, noted}
-use Rattle.mq_core.specs.Ties.{TiedBut, TiedUp, Tied, state_lanes, pending_at, times_in_rows, times_in_queues, one_if, mode_is_up}
-use Rattle.mq_core.specs.Placing.{with_states}
-use Rattle.mq_core.specs.Forced.{IsForced, HasMoreRoom, IsExpected, downed, downed_put, counted_put}
+use Rattle.mq_core.specs.Ties.{TiedBut, state_lanes, pending_at, times_in_rows, times_in_queues, one_if}
+use Rattle.mq_core.specs.Forced.{IsForced, downed}
 
 true_false : true ≡ false → ⊥
 true_false e = absurd cc
@@ -115,3 +111,35 @@ forced_view r x y f =
 pub stops_at : (stop : Stop) (armed left : ℕ) → Stops armed (Err stop) left → StopsAt stop 4 armed 0 left
 stops_at stops.Cut armed left h = (h.0, omega (arith, h.1), h.2)
 stops_at stops.Disk armed left h = ((λ some. (some, h.1 some, omega (arith, h.0, some))), omega (arith, h.2), (λ none. omega (arith, h.0, none)))
+
+-- The bytes of a record were forced; the parts stood so before its bytes were written.
+pub forced_body : (r : LogRecord) (x : PartsValue) (log : LogState) (result : Result (Unit {0}) Stop) → x.body.bytes ≡ record_bytes r → length (record_bytes r) ≡ record_size r → Appended x.log x.body.bytes result log
+    → Stops x.log.armed result log.armed → OnOk result (x.log.room ≤ log.room + (5 + length x.body.bytes)) → x.log.faults ≤ log.faults → (IsErrOf result stops.Disk → Rose x.log.faults log.faults) → IsForced r x result (record x { log = log })
+forced_body r x log result is size appended ends room later disk = record {
+  same = refl;
+  log = subst (λ (b : List ℕ). Appended x.log b result log) is appended;
+  size = size;
+  ends = ends;
+  room = let needs : 5 + length x.body.bytes ≡ need r = ap (λ (b : List ℕ). 5 + length b) is ∙ ap (λ (n : ℕ). 5 + n) size in subst (λ (n : ℕ). OnOk result (x.log.room ≤ log.room + n)) needs room;
+  body = omega arith;
+  later = later;
+  disk = disk;
+}
+
+with_log_body : PartsValue → LogState → Buffered → PartsValue
+with_log_body x log body = record x { log = log; body = body }
+
+pub forced_from : (r : LogRecord) (x z y : PartsValue) (result : Result (Unit {0}) Stop) → z ≡ record x { body = z.body } → x.body.room + length x.body.bytes ≤ z.body.room + length z.body.bytes → IsForced r z result y → IsForced r x result y
+unfolding with_log_body
+forced_from r x z y result e body f =
+    let log : z.log ≡ x.log = ap (λ (w : PartsValue). w.log) e in
+    record {
+      same = f.same ∙ ap (λ (w : PartsValue). with_log_body w y.log y.body) e;
+      log = subst (λ (l : LogState). Appended l (record_bytes r) result y.log) log f.log;
+      size = f.size;
+      ends = subst (λ (l : LogState). Stops l.armed result y.log.armed) log f.ends;
+      room = subst (λ (l : LogState). OnOk result (l.room ≤ y.log.room + need r)) log f.room;
+      body = omega (arith, body, f.body);
+      later = subst (λ (l : LogState). l.faults ≤ y.log.faults) log f.later;
+      disk = λ d. subst (λ (l : LogState). Rose l.faults y.log.faults) log (f.disk d);
+    }

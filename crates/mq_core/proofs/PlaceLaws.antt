@@ -1,20 +1,19 @@
 -- Queues found and changed by name: what stays, and what is counted.
 use Rattle.std.proofs.Common.{◌≡◌, ℕ, ◌+◌, ◌-◌, ◌<◌, ◌≤◌, ◌^◌, Bool, true, false, cond, List, [], ◌∷◌, refl, ap, arith, sym, subst, ◌∙◌}
-use Rattle.std.specs.Prelude.{ℤ, Option, Some, None, IsSome, map, nat_le, not}
-use Rattle.std.specs.Option.{option_map}
+use Rattle.std.specs.Prelude.{ℤ, Option, Some, None, IsSome, nat_le}
 use Rattle.std.specs.List.{AllByRecursion}
 use Rattle.std.specs.Str.{bytes_eq}
 use Rattle.std.specs.Cmp.Lexicographic.{bytes_decides}
 use Rattle.std.proofs.lemmas.Bool.Decides.{nat_tests}
 use Rattle.mq_queue.specs.Queues.{Lacks}
 use Rattle.mq_queue.specs.Lanes.{lane_at}
-use Rattle.mq_spec_state.specs.Words.{Ident, Message, Row, Queue, LocalQueue, Item, Plain, has_ident, same_ident, is_by_priority, local_of, insert_row, set_queue, placed_in, place, lane_of, queue_in, try_if, try_trigger, made_due, depth_type, condition, keep, puts_to}
+use Rattle.mq_spec_state.specs.Words.{Ident, Message, Row, LocalQueue, Item, Plain, has_ident, same_ident, is_by_priority, local_of, insert_row, set_queue, placed_in, place, lane_of, queue_in, try_if, try_trigger, made_due, depth_type, condition, puts_to}
 use Rattle.mq_calls.specs.declared.state.Item.TheVariants.{Put, Take}
 use Rattle.mq_spec_state.specs.State.{Queue as StateQueue}
-use Rattle.mq_place.specs.States.{QueueState, QueueStates, queues_of, has_name, state_in, change_state, on_queue, on_queues, state_or, or_fresh, arrived, CanPlace, IsNowhere}
+use Rattle.mq_place.specs.States.{QueueState, queues_of, state_in, change_state, on_queue, state_or, or_fresh, arrived, IsNowhere}
 use Rattle.mq_core.specs.Views.{PartsValue, plain_of}
-use Rattle.mq_core.specs.Ties.{TiedBut, TiedUp, TiedQueues, TiedIdents, IsReady, HasCounts, AreCounted, state_lanes, local_lanes, pending_at, times_in_rows, times_in_queues, times_in_unit, waits, one_if}
-use Rattle.mq_core.specs.Placing.{with_states, arrived_at, due_if, tried_at, put_in_place}
+use Rattle.mq_core.specs.Ties.{TiedBut, IsReady, HasCounts, AreCounted, state_lanes, local_lanes, pending_at, times_in_rows, times_in_queues, waits, one_if}
+use Rattle.mq_core.specs.Placing.{arrived_at, due_if, put_in_place}
 
 pub name_is : (name other : List ℕ) → bytes_eq name other ≡ true → name ≡ other
 name_is name other e = (bytes_decides name other).0 e

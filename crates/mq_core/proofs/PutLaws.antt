@@ -1,5 +1,5 @@
 -- A put outside units: from the room that it takes to the row that stands.
-use Rattle.std.proofs.Common.{◌≡◌, ℕ, ◌+◌, ◌-◌, ◌<◌, ◌≤◌, ◌^◌, Bool, true, false, cond, List, [], ◌∷◌, ◌++◌, length, refl, ap, arith, sym, subst, ◌∙◌}
+use Rattle.std.proofs.Common.{◌≡◌, ℕ, ◌+◌, ◌-◌, ◌<◌, ◌≤◌, ◌^◌, Bool, true, false, cond, List, [], ◌∷◌, length, refl, ap, arith, sym, subst, ◌∙◌}
 use Rattle.mq_base.specs.Outside.{Rose}
 use Rattle.mq_disk.specs.declared.cutter.Stop.{Stop}
 use Rattle.mq_disk.specs.declared.cutter.Stop.TheVariants as stops
@@ -8,26 +8,26 @@ use Rattle.mq_record.specs.Room.{Buffered}
 use Rattle.mq_record.specs.Records.{CanBeKept}
 use Rattle.mq_core.specs.declared.parts.StoppedWrite.{StoppedWrite}
 use Rattle.mq_core.specs.declared.parts.StoppedWrite.TheVariants as writes
-use Rattle.std.specs.Prelude.{if◌then◌else◌, is_some, Option, Some, None, Result, Ok, Err, IsSome}
+use Rattle.std.specs.Prelude.{if◌then◌else◌, is_some, Option, Some, None, Ok, Err, IsSome}
 use Rattle.std.specs.List.{AllByRecursion}
 use Rattle.std.specs.Str.{bytes_eq}
 use Rattle.std.proofs.lemmas.Bool.Decides.{nat_tests}
-use Rattle.mq_spec_state.specs.State.{Queue as StateQueue, LogState as PlainLog}
-use Rattle.mq_spec_state.specs.Words.{Ident, Dest, Message, Reason, LocalQueue, Plain, Part, ManagerValue, Meets, AreLow, AreAtMost, IsCounted, Sent, Answer, Did, need, is_persistent, local_of, logged, apply, apply_all, LogRecord, Noted, Step, freeze, note_of, is_int, same_ident, puts_to, place, try_trigger, condition, put_bytes, route_size, Do}
+use Rattle.mq_spec_state.specs.State.{Queue as StateQueue}
+use Rattle.mq_spec_state.specs.Words.{Ident, Dest, Message, Reason, LocalQueue, Plain, Part, ManagerValue, Meets, AreLow, IsCounted, Sent, Answer, need, is_persistent, local_of, logged, apply, apply_all, LogRecord, Noted, Step, freeze, note_of, is_int, same_ident, puts_to, place, try_trigger, condition, put_bytes, route_size, Do}
 use Rattle.mq_spec_state.specs.State.Change.{CountIdent}
-use Rattle.mq_calls.specs.declared.state.Item.TheVariants.{Put, Take}
+use Rattle.mq_calls.specs.declared.state.Item.TheVariants.{Put}
 use Rattle.mq_calls.specs.declared.deltas.Did.TheVariants as did
 use Rattle.mq_calls.specs.declared.commands.Halt.TheVariants as halts
 use Rattle.mq_spec_manager.specs.Words.{next_ident, placed, sent_answer}
-use Rattle.mq_log.specs.State.{LogState, log_length}
-use Rattle.mq_place.specs.States.{QueueState, QueueStates, queues_of, state_in, change_state, expecting, unpended}
+use Rattle.mq_log.specs.State.{LogState}
+use Rattle.mq_place.specs.States.{QueueState, queues_of, state_in, change_state, expecting, unpended}
 use Rattle.mq_core.specs.Views.{PartsValue, plain_of, frozen_of, noted}
 use Rattle.mq_core.specs.Writes.{added, now_part}
 use Rattle.mq_core.specs.Calls.{now_step}
-use Rattle.mq_core.specs.Ties.{TiedBut, TiedUp, Tied, IsReady, HasCounts, AreCounted, state_lanes, local_lanes, pending_at, times_in_queues, times_in_units, times_in_unit, one_if, waits, mode_is_up}
+use Rattle.mq_core.specs.Ties.{TiedBut, Tied, IsReady, HasCounts, AreCounted, state_lanes, local_lanes, pending_at, times_in_queues, times_in_units, one_if, mode_is_up}
 use Rattle.mq_core.specs.Placing.{with_states, arrived_at, due_if, put_in_place}
 use Rattle.mq_core.specs.Forced.{IsForced, IsExpected, HasMoreRoom, counted_put, downed_put}
-use Rattle.mq_core.proofs.PlaceLaws.{name_is, some_same, state_named, state_changed, state_other, seen_kept, pending_changed, times_changed, ready, placed_view, tied_placed}
+use Rattle.mq_core.proofs.PlaceLaws.{name_is, some_same, state_named, state_changed, state_other, seen_kept, pending_changed, ready, placed_view, tied_placed}
 use Rattle.mq_core.proofs.ForceLaws.{forced_view, frozen_view, tied_downed, stops_at}
 
 -- the queues as the plain manager sees them stay where a put more waits

@@ -1,11 +1,11 @@
 -- What is read of the queues is what the plain manager has.
-use Rattle.std.proofs.Common.{◌≡◌, ℕ, ◌+◌, Bool, true, false, cond, List, [], ◌∷◌, refl, ap, arith, sym, subst, ◌∙◌}
+use Rattle.std.proofs.Common.{◌≡◌, ℕ, Bool, true, false, cond, List, [], ◌∷◌, refl, ap, arith, ◌∙◌}
 use Rattle.std.specs.Prelude.{ℤ, pos, negsuc, Option, Some, None, count_by, ◌&&◌}
 use Rattle.std.specs.Str.{bytes_eq}
 use Rattle.std.proofs.lemmas.Bool.Decides.{nat_tests}
 use Rattle.mq_spec_state.specs.State.{fresh_queue}
-use Rattle.mq_spec_state.specs.Words.{Row, Queue, is_free, has_priority, depth, queue_in, puts_to}
-use Rattle.mq_queue.specs.Queues.{count_waiting, is_waiting}
+use Rattle.mq_spec_state.specs.Words.{Row, Queue, is_free, has_priority, depth, queue_in}
+use Rattle.mq_queue.specs.Queues.{count_waiting}
 use Rattle.mq_place.specs.States.{QueueState, queues_of, state_in, state_or, or_fresh, depth_of}
 use Rattle.mq_core.specs.Views.{PartsValue, plain_of}
 use Rattle.mq_core.specs.Ties.{Tied, pending_at}

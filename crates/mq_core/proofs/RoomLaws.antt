@@ -1,6 +1,6 @@
 -- Parts of which the queues, the log and the record's bytes have changed.
 use Rattle.std.proofs.Common.{◌≡◌, ℕ, ◌+◌, ◌-◌, ◌∙◌, sym, ap, arith}
-use Rattle.std.specs.Prelude.{List, [], ◌∷◌, ◌++◌, length}
+use Rattle.std.specs.Prelude.{List, [], ◌++◌, length}
 use Rattle.std.proofs.lemmas.List.{append-nil}
 use Rattle.mq_message.specs.declared.message.Message.{Message}
 use Rattle.mq_log.specs.State.{LogState}

@@ -1,7 +1,6 @@
 -- What changes connections and handles, and leaves the units, leaves the parts tied.
-use Rattle.std.proofs.Common.{◌≡◌, ℕ, ◌+◌, ◌<◌, ◌≤◌, Bool, true, false, cond, List, [], ◌∷◌, ◌++◌, refl, ap, arith, sym, subst, ◌∙◌}
-use Rattle.std.specs.Prelude.{Option, Some, None, sum_by, count_by, ◌==◌, filter, not}
-use Rattle.std.specs.List.{AllByRecursion}
+use Rattle.std.proofs.Common.{◌≡◌, ℕ, ◌+◌, Bool, true, false, cond, List, [], ◌∷◌, ◌++◌, refl, ap, arith, sym, subst, ◌∙◌}
+use Rattle.std.specs.Prelude.{Some, sum_by, count_by, ◌==◌}
 use Rattle.std.proofs.lemmas.List.Sums.{sum_by_push, sum_by-cons}
 use Rattle.std.proofs.lemmas.Bool.Decides.{nat_tests}
 use Rattle.mq_spec_state.specs.Words.{Ident, Connection, Item, puts_to, unit_need, connection_at, change_connection}
@@ -9,7 +8,7 @@ use Rattle.mq_spec_state.specs.Reads.{is_put_to}
 use Rattle.mq_unit.specs.Forced.{CanBeForced}
 use Rattle.mq_handles.specs.Desks.{Desk}
 use Rattle.mq_core.specs.Views.{PartsValue}
-use Rattle.mq_core.specs.Ties.{SameUnits, Tied, TiedUp, TiedQueues, TiedIdents, needs, times_in_units, times_in_unit, AreForced}
+use Rattle.mq_core.specs.Ties.{SameUnits, Tied, needs, times_in_units, times_in_unit, AreForced}
 
 unfoldable pub with_desk : Desk → PartsValue → PartsValue
 with_desk d x = record x { desk = d }

@@ -1,6 +1,6 @@
 -- The plain manager that a manager's parts stand for.
-use Rattle.std.specs.Prelude.{ℕ, Bool, true, false, List, [], ◌∷◌, Option, Some, None}
-use Rattle.mq_spec_state.specs.Words.{Connection, Plain, Channels, Numbers, Part, Noted, Running, Up, Down, connection_at, note_of}
+use Rattle.std.specs.Prelude.{ℕ, Bool, List, [], Option, Some, None}
+use Rattle.mq_spec_state.specs.Words.{Connection, Plain, Channels, Part, Noted, Running, Up, Down, connection_at, note_of}
 use Rattle.mq_spec_manager.specs.Words.{object_part}
 use Rattle.mq_objects.specs.Held.{Held}
 use Rattle.mq_log.specs.State.{LogState, log_length}

@@ -1,6 +1,6 @@
 -- The parts of calls that are written to the log.
-use Rattle.std.specs.Prelude.{ℕ, Bool, true, false, List, [], ◌∷◌, map, Option, Some, None}
-use Rattle.mq_spec_state.specs.Words.{Ident, Message, Connection, Part, Change, LogRecord, Did, Remove, Among}
+use Rattle.std.specs.Prelude.{ℕ, Bool, true, false, List, [], ◌∷◌, map, Some, None}
+use Rattle.mq_spec_state.specs.Words.{Ident, Message, Connection, Part, Change, LogRecord, Remove, Among}
 use Rattle.mq_calls.specs.declared.deltas.Did.TheVariants as did
 use Rattle.mq_calls.specs.declared.records.LogRecord.TheVariants as records
 use Rattle.mq_calls.specs.declared.deltas.Why.{Why}

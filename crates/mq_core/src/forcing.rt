@@ -1,7 +1,7 @@
 //! What is forced into the log, and what stands when a write was stopped.
 ghost use Rattle.std.specs.Prelude.{◌≡◌, ◌+◌, ◌-◌, ◌<◌, ◌≤◌, ◌^◌, true, length, OnOk, OnErr, IfSome, IsSome};
-ghost use Rattle.mq_spec_state.specs.Words.{need, put_bytes, record_size};
-ghost use Rattle.mq_record.specs.Records.{CanBeKept};
+ghost use Rattle.mq_spec_state.specs.Words.{LogRecord, need, put_bytes, record_size};
+ghost use Rattle.mq_record.specs.Records.{CanBeKept, record_bytes};
 ghost use Rattle.mq_core.specs.Writes.{added};
 ghost use Rattle.mq_core.specs.Ties.{IsReady};
 ghost use Rattle.mq_core.specs.Placing.{put_in_place};
@@ -49,6 +49,16 @@ impl<D: Disk> Parts<D> {
             }
         }
         Ok(())
+    }
+
+    /// Forces the record whose bytes stand in the body. It takes no memory.
+    pub fn force_body(&mut self) -> Result<(), Stop>
+        requires live { self.old.log.live ≡ true }
+        requires small { length self.old.body.bytes < 2 ^ 32 }
+        requires room { 5 + length self.old.body.bytes ≤ self.old.log.room }
+        ensures { (r : LogRecord) → self.old.body.bytes ≡ record_bytes r → length (record_bytes r) ≡ record_size r → IsForced r self.old result self.new }
+    {
+        self.log.append_forced(self.body.as_slice())
     }
 
     /// Forces the record that adds one message. It takes no memory.

@@ -14,7 +14,11 @@ use mq_name::QName;
 
 impl<D: Disk> Parts<D> {
     /// Reserves bytes of the log, and takes their memory.
-    fn reserve_record(&mut self, need: u64) -> Result<(), NoMemory>
+    ///
+    /// # Errors
+    ///
+    /// No memory; nothing is reserved.
+    pub fn reserve_record(&mut self, need: u64) -> Result<(), NoMemory>
         requires live { self.old.log.live ≡ true }
         ensures ok { OnOk result (IsReserved need self.old self.new) }
         ensures err { OnErr result (HasMoreRoom self.old self.new) }
@@ -33,8 +37,8 @@ impl<D: Disk> Parts<D> {
         Ok(())
     }
 
-    /// What was reserved is given back.
-    fn return_record(&mut self, need: u64)
+    /// What was reserved is given back. It takes no memory.
+    pub fn return_record(&mut self, need: u64)
         requires log { need ≤ self.old.log.reserved }
         requires body { need ≤ self.old.body.room + length self.old.body.bytes }
         ensures { self.new ≡ returned need self.old }

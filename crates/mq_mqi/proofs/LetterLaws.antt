@@ -1,6 +1,6 @@
 -- A letter that can be posted: its step by its message, and that its record can be kept.
-use Rattle.std.proofs.Common.{◌≡◌, ℕ, ◌+◌, ◌-◌, ◌<◌, ◌≤◌, ◌^◌, Bool, true, false, List, [], ◌∷◌, length, refl, ap, arith, sym, subst, ◌∙◌}
-use Rattle.std.specs.Prelude.{ℤ, pos, negsuc, Option, Some, None, IfSome}
+use Rattle.std.proofs.Common.{◌≡◌, ℕ, ◌-◌, ◌<◌, ◌≤◌, ◌^◌, Bool, true, false, List, length, ap, arith, sym, subst, ◌∙◌}
+use Rattle.std.specs.Prelude.{ℤ, pos, negsuc, Some, IfSome}
 use Rattle.std.proofs.lemmas.Bool.Decides.{nat_tests}
 use Rattle.mq_spec_state.specs.Words.{Message, Connection, Plain, connection_at, is_int, is_persistent}
 use Rattle.mq_spec_manager.specs.Words.{for_connection, live_or}

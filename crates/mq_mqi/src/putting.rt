@@ -4,7 +4,8 @@ ghost use Rattle.mq_spec_state.specs.Words.{Meets, AreLow, connection_at, is_up,
 ghost use Rattle.mq_spec_manager.specs.Words.{next_ident, sent_answer, is_high, mqput, mqput1};
 ghost use Rattle.mq_record.specs.Records.{CanBeKept};
 ghost use Rattle.mq_core.specs.Forced.{IsExpected, HasMoreRoom};
-ghost use Rattle.mq_mqi.specs.Puts.{now_step, unit_step, letter_at, letter_message, CanPost};
+ghost use Rattle.mq_core.specs.Calls.{now_step, unit_step};
+ghost use Rattle.mq_mqi.specs.Puts.{letter_at, letter_message, CanPost};
 
 use crate::drafts::{Letter, can_put, can_put1};
 use mq_base::{Items, NoMemory};

@@ -1,6 +1,6 @@
-use Rattle.std.proofs.Common.{◌≡◌, sym, ap, subst, refl, ◌∙◌}
-use Rattle.std.specs.Prelude.{List, [], ◌∷◌}
-use Rattle.mq_spec_state.specs.Words.{ManagerValue, Plain, Connection, is_up, connection_at}
+use Rattle.std.proofs.Common.{ap, ◌∙◌}
+use Rattle.std.specs.Prelude.{[], ◌∷◌}
+use Rattle.mq_spec_state.specs.Words.{ManagerValue, Plain, is_up, connection_at}
 use Rattle.mq_spec_state.specs.Meeting.Wants.{Nowhere}
 use Rattle.mq_spec_state.specs.State.Change.{CloseHandle}
 use Rattle.mq_spec_manager.specs.Words.{close_up}

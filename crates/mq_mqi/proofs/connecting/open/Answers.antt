@@ -1,14 +1,10 @@
-use Rattle.std.proofs.Common.{◌≡◌, ◌+◌, sym, ap, subst, refl, ◌∙◌}
-use Rattle.std.specs.Prelude.{List, [], ◌∷◌, Option}
-use Rattle.mq_spec_state.specs.Words.{ManagerValue, Plain, Running, Reason, Answer, Hobj, Connection, is_up, connection_at, change_connection, silent}
-use Rattle.mq_spec_state.specs.Meeting.Wants.{Behind}
-use Rattle.mq_spec_state.specs.State.Change.{OpenHandle}
-use Rattle.mq_spec_manager.specs.Words.{new_handle, open_step}
-use Rattle.mq_calls.specs.declared.answers.Answer.TheVariants as answers
+use Rattle.std.proofs.Common.{◌≡◌, ◌+◌, ap, ◌∙◌}
+use Rattle.mq_spec_state.specs.Words.{ManagerValue, Plain, Connection, is_up, connection_at, change_connection}
+use Rattle.mq_spec_manager.specs.Words.{new_handle}
 use Rattle.mq_handles.specs.Seats.{opened}
 use Rattle.mq_core.specs.Views.{PartsValue, plain_of, frozen_of}
 use Rattle.mq_core.proofs.SeatLaws.{tied_seated}
-use Rattle.mq_core.proofs.MeetLaws.{some_is, if_some, done_at, quiet_done, mode_up, changed_view, opened_as}
+use Rattle.mq_core.proofs.MeetLaws.{some_is, if_some, mode_up, changed_view, opened_as}
 use Rattle.mq_mqi.proofs.connecting.open.Goals as goal
 
 pub returns : goal.returns

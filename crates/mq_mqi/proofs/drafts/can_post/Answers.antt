@@ -1,11 +1,9 @@
-use Rattle.std.proofs.Common.{◌≡◌, ◌+◌, ◌<◌, ◌^◌, sym, ap, subst, refl, ◌∙◌}
-use Rattle.std.specs.Prelude.{List, [], ℕ, Bool, true, false, Some, None, length, IsSome}
-use Rattle.mq_spec_state.specs.Words.{Message, Reason, Answer, Sent, Step, Do, refusal, local_of}
-use Rattle.mq_spec_state.specs.Steps.{refused_or}
-use Rattle.mq_spec_manager.specs.Words.{queue_at, log_full, new_message, put_step, put_part, sent_answer, is_high}
-use Rattle.mq_fill.specs.Drafts.{message_of}
+use Rattle.std.proofs.Common.{sym, ap, refl, ◌∙◌}
+use Rattle.std.specs.Prelude.{List, ℕ, true, length}
+use Rattle.mq_spec_state.specs.Words.{Message, refusal}
+use Rattle.mq_spec_manager.specs.Words.{log_full}
 use Rattle.mq_mqi.specs.Puts.{definitions_tests, counts_tests}
-use Rattle.mq_core.specs.Views.{PartsValue, plain_of}
+use Rattle.mq_core.specs.Views.{plain_of}
 use Rattle.mq_mqi.proofs.PostLaws.{refused_1, refused_2, refused_3, at_last, posted_as, defined, short_enough}
 use Rattle.mq_mqi.proofs.drafts.can_post.Goals as goal
 

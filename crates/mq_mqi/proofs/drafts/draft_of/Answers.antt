@@ -1,6 +1,5 @@
-use Rattle.std.proofs.Common.{◌≡◌, sym, ap, subst, refl, ◌∙◌}
-use Rattle.std.specs.Prelude.{List, ℕ}
-use Rattle.mq_spec_manager.specs.Words.{message_put, Here}
+use Rattle.std.proofs.Common.{◌∙◌}
+use Rattle.mq_spec_manager.specs.Words.{message_put}
 use Rattle.mq_mqi.proofs.drafts.draft_of.Goals as goal
 
 pub returns-clause-message : goal.returns-clause-message

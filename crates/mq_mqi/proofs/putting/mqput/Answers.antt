@@ -1,4 +1,4 @@
-use Rattle.std.proofs.Common.{◌≡◌, sym, ap, subst, refl, ◌∙◌}
+use Rattle.std.proofs.Common.{sym, ap, subst}
 use Rattle.std.specs.Prelude.{Bool}
 use Rattle.mq_spec_state.specs.Words.{ManagerValue, Plain, Reason, Answer, Sent, Step, Meets}
 use Rattle.mq_spec_manager.specs.Words.{mqput, is_high}

@@ -1,9 +1,7 @@
-use Rattle.std.proofs.Common.{◌≡◌, ◌+◌, ◌-◌, ◌<◌, ◌≤◌, ◌∙◌, sym, ap, subst, refl, arith}
-use Rattle.std.specs.Prelude.{ℕ, List, Some, IsSome, IfSome, true, false}
-use Rattle.mq_spec_state.specs.Words.{ManagerValue, Plain, Reason, Message, Answer, Sent, Step, Connection, Meets, connection_at, is_persistent}
-use Rattle.mq_mqi.specs.Puts.{CanPost, letter_at, letter_step, letter_message}
-use Rattle.mq_core.proofs.MeetLaws.{some_is, if_some, wanting_at}
-use Rattle.mq_mqi.proofs.LetterLaws.{letter_now, letter_unit, kept_letter}
+use Rattle.std.proofs.Common.{sym, subst}
+use Rattle.mq_spec_state.specs.Words.{Reason, Answer, Sent, Step, Meets}
+use Rattle.mq_core.proofs.MeetLaws.{some_is}
+use Rattle.mq_mqi.proofs.LetterLaws.{letter_now, letter_unit}
 use Rattle.mq_mqi.proofs.putting.put.Goals as goal
 
 pub returns-then-sync : goal.returns-then-sync

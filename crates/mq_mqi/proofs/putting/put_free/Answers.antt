@@ -1,21 +1,15 @@
-use Rattle.std.proofs.Common.{◌≡◌, ◌+◌, ◌-◌, ◌<◌, ◌≤◌, ◌∙◌, sym, ap, subst, refl, arith}
-use Rattle.std.specs.Prelude.{ℕ, List, [], ◌∷◌, ◌++◌, Ok, Err, Some, None, IsSome, true}
-use Rattle.mq_base.specs.Outside.{Rose}
-use Rattle.mq_disk.specs.declared.cutter.Stop.{Stop}
-use Rattle.mq_log.specs.Force.{Stops}
-use Rattle.mq_spec_state.specs.Words.{ManagerValue, Plain, Reason, Did, Answer, Sent, Meets, AreLow, local_of, is_up, freeze, apply_all, logged, note_of}
+use Rattle.std.proofs.Common.{◌≡◌, ◌∙◌, sym, ap, subst, arith}
+use Rattle.std.specs.Prelude.{List, [], ◌∷◌, ◌++◌, Ok, None, IsSome}
+use Rattle.mq_spec_state.specs.Words.{ManagerValue, Plain, Did, Answer, Sent, Meets, AreLow, local_of, apply_all}
 use Rattle.mq_spec_state.specs.State.Change.{CountIdent}
-use Rattle.mq_spec_manager.specs.Words.{next_ident, placed, sent_answer}
+use Rattle.mq_spec_manager.specs.Words.{next_ident, placed}
 use Rattle.mq_calls.specs.declared.deltas.Did.TheVariants as did
 use Rattle.mq_unit.specs.Told.{Telling}
-use Rattle.mq_core.specs.Views.{PartsValue, plain_of, frozen_of}
-use Rattle.mq_core.specs.Writes.{added, now_part}
+use Rattle.mq_core.specs.Views.{PartsValue, plain_of}
 use Rattle.mq_core.specs.Calls.{now_step}
 use Rattle.mq_core.specs.Ties.{Tied}
-use Rattle.mq_core.specs.Placing.{put_in_place}
-use Rattle.mq_core.specs.Forced.{counted_put, downed_put}
-use Rattle.mq_core.proofs.MeetLaws.{mode_up}
-use Rattle.mq_core.proofs.PutLaws.{tied_roomier, roomier_view, expected_view, way_free, way_forced, way_ready, way_tied, free_done, forced_done, free_meets, forced_meets, stopped_meets, put_stopped_view, put_stopped_tied, need_added, short_record, placed_faults}
+use Rattle.mq_core.specs.Forced.{counted_put}
+use Rattle.mq_core.proofs.PutLaws.{tied_roomier, roomier_view, way_free, way_ready, way_tied, free_done, free_meets, placed_faults}
 use Rattle.mq_mqi.proofs.putting.put_free.Goals as goal
 
 plain_is : {v w : ManagerValue} → v ≡ w → v.plain ≡ w.plain

@@ -1,6 +1,6 @@
-use Rattle.std.proofs.Common.{◌≡◌, ℕ, ◌+◌, sym, ap, subst, refl, ◌∙◌, arith}
+use Rattle.std.proofs.Common.{ap, ◌∙◌}
 use Rattle.mq_place.specs.States.{depth_of, state_or}
-use Rattle.mq_core.specs.Views.{PartsValue, plain_of}
+use Rattle.mq_core.specs.Views.{PartsValue}
 use Rattle.mq_core.proofs.ReadLaws.{depth_is}
 use Rattle.mq_core.proofs.parts.Parts.depth.Goals as goal
 

@@ -1,8 +1,7 @@
-use Rattle.std.proofs.Common.{◌≡◌, ℕ, ◌+◌, ◌-◌, ◌≤◌, ◌∙◌, sym, ap, subst, refl, arith}
-use Rattle.std.specs.Prelude.{List, length}
+use Rattle.std.proofs.Common.{ℕ, ◌+◌, ◌∙◌, ap, arith}
+use Rattle.std.specs.Prelude.{length}
 use Rattle.mq_log.specs.State.{LogState}
 use Rattle.mq_record.specs.Room.{Buffered}
-use Rattle.mq_place.specs.States.{QueueStates, change_state, expecting, unpended}
 use Rattle.mq_core.specs.Views.{PartsValue}
 use Rattle.mq_core.proofs.RoomLaws.{with_parts, given_up_queues}
 use Rattle.mq_core.proofs.parts.Parts.expect_put.Goals as goal

@@ -1,11 +1,11 @@
-use Rattle.std.proofs.Common.{◌≡◌, ℕ, ◌+◌, ◌-◌, ◌<◌, ◌≤◌, ◌^◌, ◌∙◌, sym, ap, subst, refl, arith}
-use Rattle.std.specs.Prelude.{List, [], ◌∷◌, ◌++◌, length, OnOk, Err}
-use Rattle.std.proofs.lemmas.List.{length-append, append-nil}
+use Rattle.std.proofs.Common.{◌≡◌, ℕ, ◌+◌, ◌≤◌, ◌∙◌, ap, subst, arith}
+use Rattle.std.specs.Prelude.{List, length, OnOk}
+use Rattle.std.proofs.lemmas.List.{length-append}
 use Rattle.mq_base.specs.Outside.{Rose}
-use Rattle.mq_spec_state.specs.Words.{LogRecord, need, record_size}
+use Rattle.mq_spec_state.specs.Words.{need}
 use Rattle.mq_log.specs.State.{LogState, Appended}
 use Rattle.mq_log.specs.Force.{Stops}
-use Rattle.mq_record.specs.Records.{record_bytes, IsRecord, unit_front, add_bytes}
+use Rattle.mq_record.specs.Records.{record_bytes, add_bytes}
 use Rattle.mq_record.specs.Room.{Buffered}
 use Rattle.mq_record.proofs.SizeLaws.{record_whole}
 use Rattle.mq_core.specs.Views.{PartsValue}

@@ -1,5 +1,4 @@
-use Rattle.std.proofs.Common.{◌≡◌, ℕ, ◌+◌, ◌-◌, ◌≤◌, ◌∙◌, sym, ap, subst, refl, arith}
-use Rattle.std.specs.Prelude.{List}
+use Rattle.std.proofs.Common.{◌∙◌, sym, ap, subst}
 use Rattle.mq_handles.specs.Desks.{Desk}
 use Rattle.mq_place.specs.States.{QueueStates}
 use Rattle.mq_core.specs.Views.{PartsValue}

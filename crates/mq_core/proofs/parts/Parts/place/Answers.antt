@@ -1,4 +1,4 @@
-use Rattle.std.proofs.Common.{◌≡◌, ◌+◌, ◌<◌, ◌^◌, sym, ap, subst, ◌∙◌}
+use Rattle.std.proofs.Common.{◌+◌, ◌<◌, sym, ap, subst, ◌∙◌}
 use Rattle.std.specs.Prelude.{List}
 use Rattle.mq_place.specs.States.{QueueState, QueueStates, change_state, state_or, arrived}
 use Rattle.mq_core.specs.Views.{PartsValue}

@@ -1,0 +1,4 @@
+pub mod EndLaws
+pub mod LateLaws
+pub mod CommitLaws
+pub mod LoopLaws
