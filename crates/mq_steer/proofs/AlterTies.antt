@@ -123,17 +123,17 @@ abbrev lanes_behind : Bool → LocalQueue → Option Bool → Option Bool
 lanes_behind true q l = Some (is_by_priority q.delivery)
 lanes_behind false q l = l
 
+or_none : (o : Option QueueState) → state_lanes (or_state o None) ≡ state_lanes o
+or_none None = refl
+or_none (Some s) = refl
+
 renewed_lanes : (q : LocalQueue) (x : PartsValue) (o : Option LocalQueue) → Tied x → local_of q.name x.defs.definitions ≡ o → (name : List ℕ)
     → state_lanes (state_in name (renewed_states o q x.queues.states)) ≡ lanes_behind (bytes_eq name q.name) q (state_lanes (state_in name x.queues.states))
 renewed_lanes q x None t e name = ap state_lanes (in_pushed name x.queues.states (fresh_state q.name (is_by_priority q.delivery))) ∙ by (bytes_eq name q.name) refl
   where
     by : (b : Bool) → bytes_eq name q.name ≡ b → state_lanes (or_state (state_in name x.queues.states) (cond b (Some (fresh_state q.name (is_by_priority q.delivery))) None)) ≡ lanes_behind b q (state_lanes (state_in name x.queues.states))
     by true n = ap (λ (o : Option QueueState). state_lanes (or_state o (Some (fresh_state q.name (is_by_priority q.delivery))))) (ap (λ (k : List ℕ). state_in k x.queues.states) (name_is name q.name n) ∙ undefined_none q.name x t e)
-    by false n = left (state_in name x.queues.states)
-      where
-        left : (o : Option QueueState) → state_lanes (or_state o None) ≡ state_lanes o
-        left None = refl
-        left (Some s) = refl
+    by false n = or_none (state_in name x.queues.states)
 renewed_lanes q x (Some old) t e name = by (bytes_eq name q.name) refl
   where
     by : (b : Bool) → bytes_eq name q.name ≡ b → state_lanes (state_in name (change_state q.name (with_lanes (is_by_priority q.delivery)) x.queues.states)) ≡ lanes_behind b q (state_lanes (state_in name x.queues.states))

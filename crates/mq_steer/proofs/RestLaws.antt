@@ -267,9 +267,9 @@ rested_queues bs ss h =
     queues_on forgotten (on_queues (kept_in Nonpersistent) (batches_released bs (on_queues (released_in HeldByUnits true) ss)))
     ∙ ap (map forgotten) (queues_on (kept_in Nonpersistent) (batches_released bs (on_queues (released_in HeldByUnits true) ss)))
     ∙ ap (λ (qs : List StateQueue). map forgotten (map (kept_in Nonpersistent) qs)) (
-      batches_queues bs (on_queues (released_in HeldByUnits true) ss)
-      ∙ ap (each_released bs) (queues_on (released_in HeldByUnits true) ss)
-      ∙ all_alike bs (map (released_in HeldByUnits true) (queues_of ss)) (held_by_units bs (queues_of ss) h))
+    batches_queues bs (on_queues (released_in HeldByUnits true) ss)
+    ∙ ap (each_released bs) (queues_on (released_in HeldByUnits true) ss)
+    ∙ all_alike bs (map (released_in HeldByUnits true) (queues_of ss)) (held_by_units bs (queues_of ss) h))
 
 abbrev plain_freed : List Batch → Plain → Plain
 plain_freed bs p = record p { queues = each_freed bs p.queues }

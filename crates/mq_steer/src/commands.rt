@@ -138,13 +138,17 @@ fn renew<D: Disk>(parts: &mut Parts<D>, queue: &LocalQueue)
 {
     match parts.defs.local(&queue.name) {
         None => {
-            parts.queues.define(&queue.name, is_by_priority(queue.delivery));
+            parts
+                .queues
+                .define(&queue.name, is_by_priority(queue.delivery));
         }
         Some(old) => {
             if same_delivery(old.delivery, queue.delivery) {
                 return;
             }
-            parts.queues.set_by_priority(&queue.name, is_by_priority(queue.delivery));
+            parts
+                .queues
+                .set_by_priority(&queue.name, is_by_priority(queue.delivery));
         }
     }
 }
@@ -324,10 +328,7 @@ fn plan_of<D: Disk>(core: &Core<D>, asked: &Command) -> Result<Plan, Halt<ScRefu
 /// The first that applies of `Down`, `Exists`, `Missing`, `BadValue` with the first such keyword, `InUse`, `NotEmpty`
 /// (IBM MQ: MQSC reference); no memory; a forced write that was stopped, which takes the manager down.
 #[tactic(auto, using(crate::proofs::PlanLaws::meets_halt, crate::proofs::PlanLaws::meets_show, crate::proofs::PlanLaws::meets_down))]
-pub fn command<D: Disk>(
-    core: &mut Core<D>,
-    asked: &Command,
-) -> Result<Shown, Halt<ScRefusal>>
+pub fn command<D: Disk>(core: &mut Core<D>, asked: &Command) -> Result<Shown, Halt<ScRefusal>>
     requires once { AreOnce core.old.plain.definitions.objects }
     ensures { MeetsOrWants core.old (command asked.now core.old.plain) result core.new }
 {

@@ -112,7 +112,14 @@ fn serve_into<D: Disk>(
         return Ok(dropped(queue));
     }
     let ident = parts.next_ident();
-    match trigger_message(parts.alloc, &ident, queue, process, initiation, parts.moment) {
+    match trigger_message(
+        parts.alloc,
+        &ident,
+        queue,
+        process,
+        initiation,
+        parts.moment,
+    ) {
         Ok(message) => Ok(Serving {
             from: queue.name,
             sending: Some(Sending {
