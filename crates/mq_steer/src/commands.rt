@@ -170,7 +170,6 @@ fn switch_on<D: Disk>(parts: &mut Parts<D>, on: bool, queue: &QName)
 }
 
 /// The queue and the handles behind a local queue that is set.
-#[tactic(auto, using(crate::proofs::AlterLaws::may_lane))]
 fn follow_local<D: Disk>(parts: &mut Parts<D>, queue: &LocalQueue, reroutes: bool, on: bool)
     requires tied { Tied parts.old }
     requires room { 0 < parts.old.queues.room }

@@ -147,7 +147,6 @@ fn serve_by<D: Disk>(parts: &Parts<D>, queue: &LocalQueue) -> Result<Serving, No
 }
 
 /// What is done with the first trigger that is due.
-#[tactic(auto, using(crate::proofs::TurnLaws::turn_by))]
 fn turn_of<D: Disk>(parts: &Parts<D>, queue: &LocalQueue) -> Result<Serving, NoMemory>
     requires tied { Tied parts.now }
     requires idents { parts.now.idents + 1 < 2 ^ 64 }
