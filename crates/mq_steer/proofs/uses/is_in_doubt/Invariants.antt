@@ -1,0 +1,7 @@
+use Rattle.std.proofs.Common.{◌≡◌, drop}
+use Rattle.std.specs.Prelude.{is_some}
+use Rattle.mq_spec_state.specs.Words.{in_doubt_of, sender_in}
+use Rattle.mq_steer.proofs.uses.is_in_doubt.Given as goal
+
+abbrev pub invariant-loop-side : goal.invariant-loop-side
+invariant-loop-side l = is_some (in_doubt_of (sender_in l.channel (drop l.side-index l.senders))) ≡ is_some (in_doubt_of (sender_in l.channel l.senders))

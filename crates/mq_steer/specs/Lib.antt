@@ -1,0 +1,4 @@
+pub mod Quiet
+pub mod Rests
+pub mod Turns
+pub mod Altered
