@@ -11,7 +11,11 @@ use mq_disk::Disk;
 use mq_name::QName;
 use mq_resolve::Route;
 
-/// MQCONN.
+/// MQCONN: a new connection, without handles (MQI reference, MQCONN).
+///
+/// # Errors
+///
+/// Refused: 2058, 2059. No memory; nothing has changed.
 pub fn mqconn<D: Disk>(
     core: &mut Core<D>,
     qmgr: &QName,
@@ -52,7 +56,11 @@ fn open<D: Disk>(
     Ok(Answer::Ok(ho))
 }
 
-/// MQOPEN.
+/// MQOPEN: a name is resolved once, and a handle leads where it leads (MQI reference, MQOPEN).
+///
+/// # Errors
+///
+/// Refused: 2018, 2009, 2046, those of name resolution, 2045, 2042, 2017. No memory; nothing has changed.
 pub fn mqopen<D: Disk>(
     core: &mut Core<D>,
     hc: Hconn,
@@ -83,7 +91,11 @@ fn close<D: Disk>(core: &mut Core<D>, number: u64, ho: &Hobj) -> Result<Answer<(
     Ok(Answer::Ok(()))
 }
 
-/// MQCLOSE. It takes no memory.
+/// MQCLOSE: a handle goes, stale or not (MQI reference, MQCLOSE). It takes no memory.
+///
+/// # Errors
+///
+/// Refused: 2018, 2009, 2019.
 pub fn mqclose<D: Disk>(core: &mut Core<D>, hc: Hconn, ho: Hobj) -> Result<Answer<()>, Halt<Reason>>
     ensures { MeetsInRoom core.old (mqclose hc ho core.old.plain) result core.new }
 {

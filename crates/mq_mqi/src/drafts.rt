@@ -20,7 +20,9 @@ use mq_resolve::{PathStep, RouteEnd, resolve};
 /// A message on its way to a queue, all but its body.
 #[derive(Clone, Copy)]
 pub struct Letter {
+    /// The local queue on which its row stands.
     pub queue: QName,
+    /// All but its body.
     pub draft: Draft,
 }
 
@@ -93,6 +95,7 @@ fn put_need<D: Disk>(parts: &Parts<D>, sync: bool, seat: &Seat, bytes: u64) -> u
     }
 }
 
+/// The log lacks room for a persistent message with a body so long.
 fn is_log_full<D: Disk>(
     parts: &Parts<D>,
     sync: bool,

@@ -198,7 +198,13 @@ fn put<D: Disk>(
     put_free(core, &letter.queue, message, high)
 }
 
-/// MQPUT.
+/// MQPUT: a message through a handle, at once or in the connection's unit (MQI reference, MQPUT). Outside units a
+/// persistent one is placed behind one forced write.
+///
+/// # Errors
+///
+/// Refused: 2018, 2009, 2019, 2041, 2039, 2013, 2027, 2051, 2030, 2031, 2024, 2053, 2102. No memory; nothing has changed.
+/// Stopped: its write was stopped, by the armed cut or by the disk.
 pub fn mqput<D: Disk>(
     core: &mut Core<D>,
     hc: Hconn,
@@ -220,7 +226,11 @@ pub fn mqput<D: Disk>(
     }
 }
 
-/// MQPUT1.
+/// MQPUT1: a message to a name, without a handle (MQI reference, MQPUT1).
+///
+/// # Errors
+///
+/// Those of MQPUT but for the handle's, and those of name resolution, and 2045.
 pub fn mqput1<D: Disk>(
     core: &mut Core<D>,
     hc: Hconn,

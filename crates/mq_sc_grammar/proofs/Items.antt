@@ -1,6 +1,6 @@
 -- The keywords of any tokens, and what a reader splits them into, both ways.
 use Rattle.std.proofs.Common.{◌≡◌, ℕ, zero, suc, ◌+◌, ◌≤◌, Bool, true, false, cond, List, [], ◌∷◌, ◌++◌, length, take, drop, refl, sym, ap, subst, ◌∙◌, arith}
-use Rattle.std.specs.Prelude.{not}
+use Rattle.std.specs.Prelude.{◌||◌, not}
 use Rattle.std.specs.List.{position_or_len}
 use Rattle.std.proofs.lemmas.Bool.{cond-true, cond-false}
 use Rattle.std.proofs.lemmas.List.{take-append-drop, length-append}
@@ -11,21 +11,16 @@ use Rattle.mq_sc_lex.specs.declared.token.TokenKind.TheVariants as tokens
 use Rattle.mq_sc_keys.specs.declared.value.Value.{Value}
 use Rattle.mq_sc_keys.specs.declared.value.Value.TheVariants as values
 use Rattle.mq_sc_parse.specs.declared.splitting.Item.{Item}
-use Rattle.mq_sc_parse.specs.Splitting.{is_open_kind, is_close_kind, is_word_kind, is_open, is_close, word_of_kind, text_value, bracketed, value_at, value_len, item_at, item_len, items_from}
+use Rattle.mq_sc_parse.specs.Splitting.{is_open_kind, is_close_kind, is_word_kind, is_open, is_close, is_bracket, closing_len, inner_len, word_of_kind, text_value, bracketed, value_at, value_len, item_at, item_len, items_from}
 use Rattle.mq_sc_grammar.specs.Spelling.{kinds_of, IsValue, IsBracketed}
-use Rattle.mq_sc_grammar.specs.Faults.{NoneCloses, BeginsUnopened, IsClosing, IsBracket, IsValueBehind, IsItem, AreItems}
-use Rattle.mq_sc_grammar.proofs.Splits.{open_kind, close_kind, value_read, value_found, absent_found, bracketed_never, three_passed}
+use Rattle.mq_sc_grammar.specs.Faults.{NoBrackets, BeginsUnopened, IsClosing, IsBracket, IsValueBehind, IsItem, AreItems}
+use Rattle.mq_sc_grammar.proofs.Splits.{open_kind, value_read, value_found, absent_found, bracketed_never, three_passed}
 
 -- ---- tokens that are passed
 
 pub front_passed : (front rest : List Token) → items_from (front ++ rest) (length front) ≡ items_from rest 0
 front_passed [] rest = refl
 front_passed (t ∷ ts) rest = front_passed ts rest
-
-pub all_passed : (ts : List Token) (n : ℕ) → length ts ≤ n → items_from ts n ≡ []
-all_passed [] n le = refl
-all_passed (t ∷ ts) zero le = absurd (omega arith)
-all_passed (t ∷ ts) (suc n) le = all_passed ts n (omega arith)
 
 -- ---- what is in a bracket
 
@@ -41,26 +36,41 @@ not_close (tokens.Quoted w) never = refl
 not_close tokens.Open never = refl
 not_close tokens.Close never = absurd (never refl)
 
--- the first that closes stands behind those that don't
-close_at : (inside closing rest : List Token) → NoneCloses inside → IsClosing closing rest → position_or_len is_close ((inside ++ closing) ++ rest) ≡ length inside
-close_at [] [] rest within closes = ap (position_or_len is_close) closes
-close_at [] (c ∷ cs) rest within closes =
-    let is : is_close c ≡ true = ap is_close_kind closes.0 in
-    cond-false (not (is_close c)) (1 + position_or_len is_close (cs ++ rest)) 0 (ap not is)
-close_at (t ∷ ts) closing rest within closes =
-    let isnt : is_close t ≡ false = not_close t.kind within.0 in
-    let more = close_at ts closing rest within.1 closes in
-    cond-true (not (is_close t)) (1 + position_or_len is_close ((ts ++ closing) ++ rest)) 0 (ap not isnt) ∙ omega (arith, more)
+no_bracket : (k : TokenKind) → (k ≡ tokens.Open → ⊥) → (k ≡ tokens.Close → ⊥) → is_open_kind k || is_close_kind k ≡ false
+no_bracket (tokens.Word w) p q = refl
+no_bracket (tokens.Quoted w) p q = refl
+no_bracket tokens.Open p q = absurd (p refl)
+no_bracket tokens.Close p q = absurd (q refl)
 
-bracket_passed : (opening : Token) (inside closing rest : List Token) → IsClosing closing rest → items_from ((opening ∷ (inside ++ closing)) ++ rest) (2 + length inside) ≡ items_from rest 0
-bracket_passed opening inside [] rest closes =
-    let whole : (opening ∷ (inside ++ [])) ++ rest ≡ (opening ∷ (inside ++ [])) ++ [] = ap (λ (l : List Token). (opening ∷ (inside ++ [])) ++ l) closes in
-    let long : length ((opening ∷ (inside ++ [])) ++ []) ≤ 2 + length inside = simp length-append (omega arith) in
-    ap (λ (l : List Token). items_from l (2 + length inside)) whole ∙ all_passed ((opening ∷ (inside ++ [])) ++ []) (2 + length inside) long ∙ ap (λ (l : List Token). items_from l 0) (sym closes)
-bracket_passed opening inside (c ∷ cs) rest closes =
-    let one : length (c ∷ cs) ≡ 1 = ap (λ (l : List Token). length (c ∷ l)) closes.1 in
-    let long : 2 + length inside ≡ length (opening ∷ (inside ++ c ∷ cs)) = omega (arith, length-append inside (c ∷ cs), one) in
-    ap (items_from ((opening ∷ (inside ++ c ∷ cs)) ++ rest)) long ∙ front_passed (opening ∷ (inside ++ c ∷ cs)) rest
+first_bracket : (t : Token) (ts : List Token) → is_bracket t ≡ true → position_or_len is_bracket (t ∷ ts) ≡ 0
+first_bracket t ts is = cond-false (not (is_bracket t)) (1 + position_or_len is_bracket ts) 0 (ap not is)
+
+-- the first bracket stands behind those that are none
+bracket_at : (inside closing rest : List Token) → NoBrackets inside → IsClosing closing rest → position_or_len is_bracket ((inside ++ closing) ++ rest) ≡ length inside
+bracket_at [] [] [] within closes = refl
+bracket_at [] [] (t ∷ ts) within closes = first_bracket t ts (ap (λ (k : TokenKind). is_open_kind k || is_close_kind k) closes)
+bracket_at [] (c ∷ cs) rest within closes = first_bracket c (cs ++ rest) (ap (λ (k : TokenKind). is_open_kind k || is_close_kind k) closes.0)
+bracket_at (t ∷ ts) closing rest within closes =
+    let isnt : is_bracket t ≡ false = no_bracket t.kind within.0 within.1 in
+    let more = bracket_at ts closing rest within.2 closes in
+    cond-true (not (is_bracket t)) (1 + position_or_len is_bracket ((ts ++ closing) ++ rest)) 0 (ap not isnt) ∙ omega (arith, more)
+
+behind_inside : (inside closing rest : List Token) → drop (length inside) ((inside ++ closing) ++ rest) ≡ closing ++ rest
+behind_inside [] closing rest = refl
+behind_inside (t ∷ ts) closing rest = behind_inside ts closing rest
+
+closing_taken : (closing rest : List Token) → IsClosing closing rest → closing_len (closing ++ rest) ≡ length closing
+closing_taken [] [] closes = refl
+closing_taken [] (t ∷ ts) closes = cond-false (is_close t) 1 0 (ap is_close_kind closes)
+closing_taken (c ∷ cs) rest closes = cond-true (is_close c) 1 0 (ap is_close_kind closes.0) ∙ sym (ap (λ (l : List Token). length (c ∷ l)) closes.1)
+
+-- what a bracket takes: what stands in it, and the one that closes
+inner_taken : (inside closing rest : List Token) → NoBrackets inside → IsClosing closing rest → inner_len ((inside ++ closing) ++ rest) ≡ length (inside ++ closing)
+inner_taken inside closing rest within closes =
+    let ts : List Token = (inside ++ closing) ++ rest in
+    ap (λ (n : ℕ). n + closing_len (drop n ts)) (bracket_at inside closing rest within closes)
+    ∙ ap (λ (l : List Token). length inside + closing_len l) (behind_inside inside closing rest)
+    ∙ ap (λ (n : ℕ). length inside + n) (closing_taken closing rest closes) ∙ sym (length-append inside closing)
 
 no_text : (o k c : Token) → o.kind ≡ tokens.Open → c.kind ≡ tokens.Close → ((text : List ℕ) → IsBracketed text (kinds_of (o ∷ k ∷ c ∷ [])) → ⊥) → text_value k.kind ≡ values.Malformed
 no_text o k c opening closing never = by k.kind (λ text is. never text (k.kind, is, ap (λ (x : TokenKind). x ∷ k.kind ∷ c.kind ∷ []) opening ∙ ap (λ (x : TokenKind). tokens.Open ∷ k.kind ∷ x ∷ []) closing))
@@ -72,9 +82,15 @@ no_text o k c opening closing never = by k.kind (λ text is. never text (k.kind,
     by tokens.Close nothing = refl
 
 -- what is in a bracket that is no value
-malformed_in : (opening : Token) (inside closing rest : List Token) → opening.kind ≡ tokens.Open → NoneCloses inside → IsClosing closing rest → ((text : List ℕ) → IsBracketed text (kinds_of (opening ∷ (inside ++ closing))) → ⊥)
+malformed_in : (opening : Token) (inside closing rest : List Token) → opening.kind ≡ tokens.Open → NoBrackets inside → IsClosing closing rest → ((text : List ℕ) → IsBracketed text (kinds_of (opening ∷ (inside ++ closing))) → ⊥)
     → bracketed ((inside ++ closing) ++ rest) ≡ values.Malformed
-malformed_in o [] [] rest opens within closes never = ap bracketed closes
+malformed_in o [] [] [] opens within closes never = refl
+malformed_in o [] [] (r ∷ []) opens within closes never = refl
+malformed_in o [] [] (r ∷ s ∷ rs) opens within closes never = by (is_close s)
+  where
+    by : (b : Bool) → cond b (text_value r.kind) values.Malformed ≡ values.Malformed
+    by true = ap text_value closes
+    by false = refl
 malformed_in o [] (c ∷ cs) [] opens within closes never = ap (λ (l : List Token). bracketed (c ∷ (l ++ []))) closes.1
 malformed_in o [] (c ∷ cs) (r ∷ rs) opens within closes never =
     ap (λ (l : List Token). bracketed (c ∷ (l ++ r ∷ rs))) closes.1 ∙ by (is_close r)
@@ -82,12 +98,13 @@ malformed_in o [] (c ∷ cs) (r ∷ rs) opens within closes never =
     by : (b : Bool) → cond b (text_value c.kind) values.Malformed ≡ values.Malformed
     by true = ap text_value closes.0
     by false = refl
-malformed_in o (k ∷ []) [] rest opens within closes never = ap (λ (l : List Token). bracketed (k ∷ l)) closes
+malformed_in o (k ∷ []) [] [] opens within closes never = refl
+malformed_in o (k ∷ []) [] (r ∷ rs) opens within closes never = cond-false (is_close r) (text_value k.kind) values.Malformed (ap is_close_kind closes)
 malformed_in o (k ∷ []) (c ∷ cs) rest opens within closes never =
     let is : is_close c ≡ true = ap is_close_kind closes.0 in
     let lone : (text : List ℕ) → IsBracketed text (kinds_of (o ∷ k ∷ c ∷ [])) → ⊥ = λ text h. never text (subst (λ (l : List Token). IsBracketed text (kinds_of (o ∷ k ∷ c ∷ l))) (sym closes.1) h) in
     cond-true (is_close c) (text_value k.kind) values.Malformed is ∙ no_text o k c opens closes.0 lone
-malformed_in o (k ∷ m ∷ ins) closing rest opens within closes never = cond-false (is_close m) (text_value k.kind) values.Malformed (not_close m.kind within.1.0)
+malformed_in o (k ∷ m ∷ ins) closing rest opens within closes never = cond-false (is_close m) (text_value k.kind) values.Malformed (not_close m.kind within.2.1)
 
 -- ---- what is said is split
 
@@ -123,9 +140,10 @@ behind_read values.Malformed behind rest (b, never) =
     let is : is_open b.opening ≡ true = ap is_open_kind b.opens in
     let ts : List Token = (b.inside ++ b.closing) ++ rest in
     let at : value_at (b.opening ∷ ts) ≡ values.Malformed = cond-true (is_open b.opening) (bracketed ts) values.Absent is ∙ malformed_in b.opening b.inside b.closing rest b.opens b.within b.closes lone in
-    let long : value_len (b.opening ∷ ts) ≡ 2 + length b.inside = cond-true (is_open b.opening) (2 + position_or_len is_close ts) 0 is ∙ ap (λ (n : ℕ). 2 + n) (close_at b.inside b.closing rest b.within b.closes) in
+    let long : value_len (b.opening ∷ ts) ≡ 1 + length (b.inside ++ b.closing) = cond-true (is_open b.opening) (1 + inner_len ts) 0 is ∙ ap (λ (n : ℕ). 1 + n) (inner_taken b.inside b.closing rest b.within b.closes) in
+    let all : 1 + length (b.inside ++ b.closing) ≡ length (b.opening ∷ (b.inside ++ b.closing)) = omega arith in
     subst (λ (l : List Token). Read values.Malformed (l ++ rest) rest) (sym b.is)
-    (record { at = at; passes = ap (items_from (b.opening ∷ ts)) long ∙ bracket_passed b.opening b.inside b.closing rest b.closes })
+    (record { at = at; passes = ap (items_from (b.opening ∷ ts)) (long ∙ all) ∙ front_passed (b.opening ∷ (b.inside ++ b.closing)) rest })
 
 same_item : (a b : Item) → a.word ≡ b.word → a.span ≡ b.span → a.value ≡ b.value → a ≡ b
 same_item a b p q r =
@@ -180,30 +198,35 @@ text_split text ts e =
     let whole : kinds_of ts ≡ tokens.Open ∷ b.is.0 ∷ tokens.Close ∷ kinds_of (drop 3 ts) = b.kinds ∙ ap (λ (l : List TokenKind). l ++ kinds_of (drop 3 ts)) b.is.2 in
     (b.is.0, b.is.1, take_three ts b.is.0 whole)
 
--- up to the first that closes
+-- up to the first bracket of either kind
 record UpTo (ts : List Token) : Type 0 where
   pub inside : List Token
   pub closing : List Token
   pub rest : List Token
   pub whole : ts ≡ (inside ++ closing) ++ rest
-  pub within : NoneCloses inside
+  pub within : NoBrackets inside
   pub closes : IsClosing closing rest
 
-up_step : (t : Token) (ts : List Token) → UpTo ts → (b : Bool) → is_close t ≡ b → UpTo (t ∷ ts)
-up_step t ts u true e = record { inside = []; closing = t ∷ []; rest = ts; whole = refl; within = tt; closes = (close_kind t.kind e, refl) }
-up_step t ts u false e =
+up_past : (t : Token) (ts : List Token) → UpTo ts → (t.kind ≡ tokens.Open → ⊥) → (t.kind ≡ tokens.Close → ⊥) → UpTo (t ∷ ts)
+up_past t ts u p q =
     record {
       inside = t ∷ u.inside;
       closing = u.closing;
       rest = u.rest;
       whole = ap (λ (l : List Token). t ∷ l) u.whole;
-      within = (λ k. absurd (let f : true ≡ false = sym (ap is_close_kind k) ∙ e in cc), u.within);
+      within = (p, q, u.within);
       closes = u.closes;
     }
 
+up_step : (t : Token) (ts : List Token) → UpTo ts → (k : TokenKind) → t.kind ≡ k → UpTo (t ∷ ts)
+up_step t ts u (tokens.Word w) e = up_past t ts u (λ k. absurd (let f : tokens.Word w ≡ tokens.Open = sym e ∙ k in cc)) (λ k. absurd (let f : tokens.Word w ≡ tokens.Close = sym e ∙ k in cc))
+up_step t ts u (tokens.Quoted w) e = up_past t ts u (λ k. absurd (let f : tokens.Quoted w ≡ tokens.Open = sym e ∙ k in cc)) (λ k. absurd (let f : tokens.Quoted w ≡ tokens.Close = sym e ∙ k in cc))
+up_step t ts u tokens.Open e = record { inside = []; closing = []; rest = t ∷ ts; whole = refl; within = tt; closes = e }
+up_step t ts u tokens.Close e = record { inside = []; closing = t ∷ []; rest = ts; whole = refl; within = tt; closes = (e, refl) }
+
 up_to : (ts : List Token) → UpTo ts
-up_to [] = record { inside = []; closing = []; rest = []; whole = refl; within = tt; closes = refl }
-up_to (t ∷ ts) = up_step t ts (up_to ts) (is_close t) refl
+up_to [] = record { inside = []; closing = []; rest = []; whole = refl; within = tt; closes = tt }
+up_to (t ∷ ts) = up_step t ts (up_to ts) t.kind refl
 
 closed_split : (o : Token) (ts : List Token) (v : Value) → is_open o ≡ true → value_at (o ∷ ts) ≡ v → Split (o ∷ ts)
 closed_split o ts values.Absent is e = absurd (bracketed_never ts (sym (cond-true (is_open o) (bracketed ts) values.Absent is) ∙ e))

@@ -1,6 +1,6 @@
 -- Tokens that spell clauses, and the keywords that a reader splits them into, both ways.
 use Rattle.std.proofs.Common.{◌≡◌, ℕ, zero, suc, ◌+◌, ◌≤◌, Bool, true, false, cond, List, [], ◌∷◌, ◌++◌, length, drop, refl, sym, ap, subst, ◌∙◌, arith}
-use Rattle.std.specs.Prelude.{Option, Some, None}
+use Rattle.std.specs.Prelude.{Option, Some, None, ◌||◌, not}
 use Rattle.std.specs.List.{position_or_len}
 use Rattle.std.proofs.lemmas.Bool.{cond-true, cond-false}
 use Rattle.std.proofs.lemmas.List.{length-drop}
@@ -15,7 +15,7 @@ use Rattle.mq_sc_keys.specs.declared.value.Value.TheVariants as values
 use Rattle.mq_sc_keys.specs.Keys.{key_text}
 use Rattle.mq_sc_keys.specs.Attributes.{key_of}
 use Rattle.mq_sc_parse.specs.declared.splitting.Item.{Item}
-use Rattle.mq_sc_parse.specs.Splitting.{is_open_kind, is_close_kind, is_word_kind, is_open, is_close, word_of_kind, text_value, bracketed, value_at, value_len, item_len, items_from}
+use Rattle.mq_sc_parse.specs.Splitting.{is_open_kind, is_close_kind, is_word_kind, is_open, is_close, is_bracket, closing_len, inner_len, word_of_kind, text_value, bracketed, value_at, value_len, item_len, items_from}
 use Rattle.mq_sc_grammar.specs.Spelling.{kinds_of, IsValue, IsBracketed, Clause, IsValuePart, AreClauses}
 use Rattle.mq_sc_grammar.specs.Commands.{value_of, AreKnown}
 use Rattle.mq_sc_grammar.proofs.Words.{key_found, no_word}
@@ -29,7 +29,7 @@ Spell (c ∷ cs) (i ∷ is) = (i.word ≡ key_text c.key) × (i.value ≡ value_
 
 -- ---- a value in brackets
 
-value_kind : (text : List ℕ) (kind : TokenKind) → IsValue text kind → (text_value kind ≡ values.Text text) × (is_close_kind kind ≡ false)
+value_kind : (text : List ℕ) (kind : TokenKind) → IsValue text kind → (text_value kind ≡ values.Text text) × (is_open_kind kind || is_close_kind kind ≡ false)
 value_kind text (tokens.Word w) e = (ap values.Text (sym e), refl)
 value_kind text (tokens.Quoted w) e = (ap values.Text (sym e), refl)
 value_kind text tokens.Open e = absurd e
@@ -46,10 +46,12 @@ three_valued text o k c ts opening closing is =
     let v = value_kind text k.kind is in
     let opens : is_open o ≡ true = ap is_open_kind opening in
     let closes : is_close c ≡ true = ap is_close_kind closing in
-    let later : position_or_len is_close (k ∷ c ∷ ts) ≡ 1 = rw (v.1, closes) refl in
+    let ends : is_bracket c ≡ true = ap (λ (x : TokenKind). is_open_kind x || is_close_kind x) closing in
+    let later : position_or_len is_bracket (k ∷ c ∷ ts) ≡ 1 = cond-true (not (is_bracket k)) (1 + position_or_len is_bracket (c ∷ ts)) 0 (ap not v.1) ∙ ap (λ (n : ℕ). 1 + n) (cond-false (not (is_bracket c)) (1 + position_or_len is_bracket ts) 0 (ap not ends)) in
+    let inner : inner_len (k ∷ c ∷ ts) ≡ 2 = ap (λ (n : ℕ). n + closing_len (drop n (k ∷ c ∷ ts))) later ∙ ap (λ (n : ℕ). 1 + n) (cond-true (is_close c) 1 0 closes) in
     record {
       at = cond-true (is_open o) (bracketed (k ∷ c ∷ ts)) values.Absent opens ∙ cond-true (is_close c) (text_value k.kind) values.Malformed closes ∙ v.0;
-      long = cond-true (is_open o) (2 + position_or_len is_close (k ∷ c ∷ ts)) 0 opens ∙ ap (λ (n : ℕ). 2 + n) later;
+      long = cond-true (is_open o) (1 + inner_len (k ∷ c ∷ ts)) 0 opens ∙ ap (λ (n : ℕ). 1 + n) inner;
       rest = refl;
     }
 
@@ -145,7 +147,7 @@ bracketed_never (k ∷ c ∷ ts) e = closed_never k.kind (is_close c) e
 
 absent_at : (o : Token) (ts : List Token) (t : Bool) → is_open o ≡ t → cond t (bracketed ts) values.Absent ≡ values.Absent → value_len (o ∷ ts) ≡ 0
 absent_at o ts true e h = absurd (bracketed_never ts h)
-absent_at o ts false e h = cond-false (is_open o) (2 + position_or_len is_close ts) 0 e
+absent_at o ts false e h = cond-false (is_open o) (1 + inner_len ts) 0 e
 
 pub absent_found : (ts : List Token) → value_at ts ≡ values.Absent → value_len ts ≡ 0
 absent_found [] h = refl

@@ -43,26 +43,30 @@ SomeIs P (i ∷ is) = P i ⊎ SomeIs P is
 
 -- ---- the keywords of any tokens, well spelled or not
 
-abbrev pub NoneCloses : List Token → Type 0
-NoneCloses [] = Unit {0}
-NoneCloses (t ∷ ts) = (t.kind ≡ tokens.Close → ⊥) × NoneCloses ts
+abbrev pub NoBrackets : List Token → Type 0
+NoBrackets [] = Unit {0}
+NoBrackets (t ∷ ts) = (t.kind ≡ tokens.Open → ⊥) × (t.kind ≡ tokens.Close → ⊥) × NoBrackets ts
 
 abbrev pub BeginsUnopened : List Token → Type 0
 BeginsUnopened [] = Unit {0}
 BeginsUnopened (t ∷ ts) = t.kind ≡ tokens.Open → ⊥
 
--- one bracket that closes, or nothing at the end of the line
+abbrev pub EndsOrOpens : List Token → Type 0
+EndsOrOpens [] = Unit {0}
+EndsOrOpens (t ∷ ts) = t.kind ≡ tokens.Open
+
+-- one bracket that closes, or nothing where the line ends or a second bracket opens
 abbrev pub IsClosing : (closing rest : List Token) → Type 0
-IsClosing [] rest = rest ≡ []
+IsClosing [] rest = EndsOrOpens rest
 IsClosing (t ∷ ts) rest = (t.kind ≡ tokens.Close) × (ts ≡ [])
 
--- a bracket with all that stands in it, up to the first that closes
+-- a bracket with all that stands in it, up to the first of either kind: brackets don't nest
 pub record IsBracket (behind rest : List Token) : Type 0 where
   pub opening : Token
   pub inside : List Token
   pub closing : List Token
   pub opens : opening.kind ≡ tokens.Open
-  pub within : NoneCloses inside
+  pub within : NoBrackets inside
   pub closes : IsClosing closing rest
   pub is : behind ≡ opening ∷ (inside ++ closing)
 

@@ -9,7 +9,7 @@ use Rattle.std.proofs.lemmas.Bool.Decides.{nat_tests}
 use Rattle.std.proofs.lemmas.List.Sums.{prefix_len-le-length}
 use Rattle.mq_sc_lex.specs.declared.token.Token.{Token}
 use Rattle.mq_sc_parse.specs.declared.splitting.Item.{Item}
-use Rattle.mq_sc_parse.specs.Splitting.{is_close, item_at, item_len, items_from}
+use Rattle.mq_sc_parse.specs.Splitting.{is_bracket, item_at, item_len, items_from}
 
 -- tokens that belong to a value are passed
 pub passed : (ts : List Token) (n : ℕ) → items_from ts n ≡ items_from (drop (min n (length ts)) ts) 0
@@ -22,11 +22,11 @@ pub item_more : (items : List Item) (t : Token) (after : List Token) (total : Li
     → (items ++ item_at t after ∷ []) ++ items_from (drop (min (item_len t after) (length after)) after) 0 ≡ total
 item_more items t after total h = append_assoc items (item_at t after ∷ []) (items_from (drop (min (item_len t after) (length after)) after) 0) ∙ ap (λ (l : List Item). items ++ item_at t after ∷ l) (sym (passed after (item_len t after))) ∙ h
 
--- where nothing closes, all is before the first that does
-pub no_close : (ts : List Token) → position is_close ts ≡ None → length ts ≡ position_or_len is_close ts
-no_close ts e =
-    let past : length ts ≤ position_or_len is_close ts = grind (arith, nat_tests) in
-    let within : position_or_len is_close ts ≤ length ts = prefix_len-le-length (λ t. not (is_close t)) ts in
+-- where no bracket is, all is before the first
+pub no_bracket : (ts : List Token) → position is_bracket ts ≡ None → length ts ≡ position_or_len is_bracket ts
+no_bracket ts e =
+    let past : length ts ≤ position_or_len is_bracket ts = grind (arith, nat_tests) in
+    let within : position_or_len is_bracket ts ≤ length ts = prefix_len-le-length (λ t. not (is_bracket t)) ts in
     omega arith
 
 at_place : (ts : List Token) (at : ℕ) (t : Token) → at < length ts → t ≡ get_or ts at t → drop at ts ≡ t ∷ drop (at + 1) ts

@@ -1,5 +1,5 @@
 -- The keywords of a command with their values.
-use Rattle.std.specs.Prelude.{ℕ, zero, suc, ◌+◌, Bool, true, false, List, [], ◌∷◌, if◌then◌else◌}
+use Rattle.std.specs.Prelude.{ℕ, zero, suc, ◌+◌, ◌||◌, Bool, true, false, List, [], ◌∷◌, drop, if◌then◌else◌}
 use Rattle.std.specs.List.{position_or_len}
 use Rattle.mq_sc_lex.specs.declared.token.Token.{Token}
 use Rattle.mq_sc_lex.specs.declared.token.TokenKind.{TokenKind}
@@ -57,10 +57,22 @@ abbrev pub value_at : List Token → Value
 value_at [] = values.Absent
 value_at (t ∷ ts) = if is_open t then bracketed ts else values.Absent
 
--- how many tokens it takes, up to the first closing bracket
+abbrev pub is_bracket : Token → Bool
+is_bracket t = is_open t || is_close t
+
+-- a bracket that closes belongs to the value in front of it, and one that opens doesn't
+abbrev pub closing_len : List Token → ℕ
+closing_len [] = 0
+closing_len (t ∷ ts) = if is_close t then 1 else 0
+
+-- how many tokens stand in a bracket: those up to the first bracket of either kind
+abbrev pub inner_len : List Token → ℕ
+inner_len ts = position_or_len is_bracket ts + closing_len (drop (position_or_len is_bracket ts) ts)
+
+-- how many tokens the value behind a keyword takes
 abbrev pub value_len : List Token → ℕ
 value_len [] = 0
-value_len (t ∷ ts) = if is_open t then 2 + position_or_len is_close ts else 0
+value_len (t ∷ ts) = if is_open t then 1 + inner_len ts else 0
 
 -- a keyword with what stands behind it; a token that is no word has no value
 abbrev pub item_at : Token → List Token → Item

@@ -3,7 +3,7 @@
 ghost use Rattle.std.specs.Prelude.{◌≡◌, ◌+◌, ◌≤◌, position, length, IfOk, if◌then◌else◌};
 ghost use Rattle.std.specs.List.{position_or_len};
 ghost use Rattle.mq_sc_keys.specs.declared.value.Value.TheVariants.{Text, Absent};
-ghost use Rattle.mq_sc_parse.specs.Splitting.{is_open_kind, is_close_kind, is_word_kind, is_open, is_close, word_of_kind, text_value, bracketed, value_at, value_len, item_at, item_len, items_of};
+ghost use Rattle.mq_sc_parse.specs.Splitting.{is_open_kind, is_close_kind, is_word_kind, is_open, is_close, is_bracket, closing_len, inner_len, word_of_kind, text_value, bracketed, value_at, value_len, item_at, item_len, items_of};
 
 use mq_base::Items;
 use mq_sc_keys::Value;
@@ -92,29 +92,54 @@ pub fn value_at(alloc: Global, tokens: &[Token]) -> Result<Value, AllocError>
     }
 }
 
-fn first_close(tokens: &[Token]) -> Option<usize>
-    ensures { result ≡ position is_close tokens.now }
+fn is_bracket(token: &Token) -> bool
+    ensures { result ≡ is_bracket token.now }
 {
-    tokens.iter().position(|token| is_close(token))
+    is_open(token) || is_close(token)
 }
 
-fn close_or_len(tokens: &[Token]) -> usize
-    ensures place { result ≡ position_or_len is_close tokens.now }
+fn first_bracket(tokens: &[Token]) -> Option<usize>
+    ensures { result ≡ position is_bracket tokens.now }
+{
+    tokens.iter().position(|token| is_bracket(token))
+}
+
+fn bracket_or_len(tokens: &[Token]) -> usize
+    ensures place { result ≡ position_or_len is_bracket tokens.now }
     ensures within { result ≤ length tokens.now }
 {
-    match first_close(tokens) {
+    match first_bracket(tokens) {
         Some(at) => at,
         None => tokens.len(),
     }
 }
 
-/// How many tokens a value takes, up to the first closing bracket; one more where there is none.
-pub fn value_len(tokens: &[Token]) -> usize
-    ensures len { result ≡ value_len tokens.now }
-    ensures within { result ≤ length tokens.now + 1 }
+fn closing_len(tokens: &[Token]) -> usize
+    ensures len { result ≡ closing_len tokens.now }
+    ensures within { result ≤ length tokens.now }
 {
     match tokens {
-        [open, rest @ ..] if is_open(open) => 2 + close_or_len(rest),
+        [close, ..] if is_close(close) => 1,
+        _ => 0,
+    }
+}
+
+fn inner_len(tokens: &[Token]) -> usize
+    ensures len { result ≡ inner_len tokens.now }
+    ensures within { result ≤ length tokens.now }
+{
+    let at = bracket_or_len(tokens);
+    let (_, rest) = tokens.split_at(at);
+    at + closing_len(rest)
+}
+
+/// How many tokens a value takes: its bracket, and those up to the first bracket of either kind, which belongs to it if it closes.
+pub fn value_len(tokens: &[Token]) -> usize
+    ensures len { result ≡ value_len tokens.now }
+    ensures within { result ≤ length tokens.now }
+{
+    match tokens {
+        [open, rest @ ..] if is_open(open) => 1 + inner_len(rest),
         _ => 0,
     }
 }
@@ -143,7 +168,7 @@ fn item_value(alloc: Global, token: &Token, rest: &[Token]) -> Result<Value, All
 
 fn item_len(token: &Token, rest: &[Token]) -> usize
     ensures len { result ≡ item_len token.now rest.now }
-    ensures within { result ≤ length rest.now + 1 }
+    ensures within { result ≤ length rest.now }
 {
     if is_word(token) { value_len(rest) } else { 0 }
 }

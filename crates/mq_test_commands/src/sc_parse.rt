@@ -60,6 +60,13 @@ fn the_refusals_come_in_order(rt: HostRuntime) {
             2,
         ),
         ("DEFINE QLOCAL(A) 'PUT'(ENABLED)", "UnknownKeyword", 1),
+        ("ALTER QMGR DEADQ((DLQ)", "UnknownKeyword", 1),
+        ("ALTER QMGR DEADQ(A(B))", "UnknownKeyword", 1),
+        ("ALTER QMGR DEADQ(A)) MAXHANDS(1)", "UnknownKeyword", 1),
+        ("ALTER QMGR DEADQ(A", "BadValue", 1),
+        ("ALTER QMGR DEADQ(A B)", "BadValue", 1),
+        ("ALTER QMGR DEADQ()", "BadValue", 1),
+        ("DEFINE QLOCAL((A)", "MissingName", 1),
         ("RESOLVE CHANNEL(C)", "BadValue", 1),
     ];
     for (text, word, line) in cases {
