@@ -1,44 +1,32 @@
 -- A change of objects: the parts change as the plain manager does, and stay tied.
-use Rattle.std.proofs.Common.{◌≡◌, ℕ, ◌+◌, ◌-◌, ◌<◌, ◌≤◌, Bool, true, false, cond, List, [], ◌∷◌, ◌++◌, length, refl, ap, arith, sym, subst, ◌∙◌}
-use Rattle.std.specs.Prelude.{Option, Some, None, map, filter, not, is_some, nat_lt, sum_by, count_by, ◌&&◌}
+use Rattle.std.proofs.Common.{◌≡◌, ℕ, ◌+◌, Bool, true, false, cond, List, [], ◌∷◌, ◌++◌, length, refl, ap, sym, subst, ◌∙◌}
+use Rattle.std.specs.Prelude.{Option, Some, None, not, is_some, nat_lt, ◌&&◌}
 use Rattle.std.specs.Str.{bytes_eq}
-use Rattle.std.proofs.lemmas.Bool.Decides.{nat_tests}
-use Rattle.std.proofs.lemmas.List.Sums.{sum_by-cons}
 use Rattle.mq_objects.specs.declared.object.LocalQueue.{LocalQueue}
 use Rattle.mq_objects.specs.declared.object.Object.{Object}
 use Rattle.mq_objects.specs.declared.object.Object.TheVariants as objects
-use Rattle.mq_objects.specs.declared.object.Delivery.{Delivery}
-use Rattle.mq_objects.specs.declared.object.Definitions.{Definitions}
-use Rattle.mq_objects.specs.declared.command.Subject.{Subject}
 use Rattle.mq_objects.specs.declared.command.Subject.TheVariants as subjects
 use Rattle.mq_objects.specs.declared.change.ObjectChange.{ObjectChange}
 use Rattle.mq_objects.specs.declared.change.ObjectChange.TheVariants as changes
-use Rattle.mq_objects.specs.Names.{Space, Queues, object_in, as_local, is_object, is_kind, named, local_of, is_by_priority, subject_space, subject_name, name_of, space_of}
-use Rattle.mq_objects.specs.Changed.{changed, set_in, delete_in}
-use Rattle.mq_resolve.specs.declared.route.PathStep.{PathStep}
+use Rattle.mq_objects.specs.Names.{Queues, object_in, as_local, local_of, is_by_priority}
+use Rattle.mq_objects.specs.Changed.{changed}
 use Rattle.mq_resolve.specs.declared.route.PathStep.TheVariants as steps
 use Rattle.mq_sc_apply.specs.declared.answers.Planned.{Planned}
-use Rattle.mq_sc_apply.specs.Planned.{same_delivery, same_usage, is_filled}
+use Rattle.mq_sc_apply.specs.Planned.{same_delivery, same_usage}
 use Rattle.mq_spec_state.specs.State.{Queue as StateQueue, fresh_queue}
 use Rattle.mq_spec_state.specs.State.Change.{ChangeObjects}
-use Rattle.mq_spec_state.specs.Words.{Ident, Row, Item, Connection, Plain, Running, apply, apply_all, set_queue, queue_in, made_stale, puts_to, unit_need}
-use Rattle.mq_spec_state.specs.Reads.{is_put_to}
-use Rattle.mq_unit.specs.Forced.{CanBeForced}
-use Rattle.mq_spec_manager.specs.Commands.{uses_of, object_part, follows, renewed_if, stale_if, switched_if}
-use Rattle.mq_law_manager.specs.Facts.{AreOnce, is_local}
+use Rattle.mq_spec_state.specs.Words.{Plain, Running, apply, apply_all, set_queue, queue_in, puts_to}
+use Rattle.mq_spec_manager.specs.Commands.{object_part, follows, renewed_if, stale_if, switched_if}
 use Rattle.mq_law_manager.proofs.Commanding.{no_length}
-use Rattle.mq_law_manager.proofs.Objects.{set_found, delete_found}
 use Rattle.mq_handles.specs.Desks.{Desk}
-use Rattle.mq_place.specs.States.{QueueState, queues_of, state_in, change_state, on_queue, switched_on, with_lanes, fresh_state, without_state, has_name, rows_in}
+use Rattle.mq_place.specs.States.{QueueState, queues_of, state_in, change_state, switched_on, with_lanes, rows_in}
 use Rattle.mq_place.proofs.PlainLaws.{defined_as, deleted_as, changed_as}
 use Rattle.mq_core.specs.Views.{PartsValue, plain_of, frozen_of, running_of}
-use Rattle.mq_core.specs.Ties.{Tied, SameUnits, state_lanes, local_lanes, pending_at, times_in_rows, times_in_queues, times_in_units, times_in_unit, needs, AreForced, mode_is_up}
-use Rattle.mq_core.proofs.PlaceLaws.{name_is, same_name, some_same, state_changed, state_other}
+use Rattle.mq_core.specs.Ties.{Tied, state_lanes, local_lanes, mode_is_up}
+use Rattle.mq_core.proofs.PlaceLaws.{name_is, some_same, state_changed}
 use Rattle.mq_core.proofs.PutLaws.{queues_same}
 use Rattle.mq_core.proofs.MeetLaws.{running_up}
-use Rattle.mq_core.proofs.SeatLaws.{same_units}
-use Rattle.mq_steer.specs.Altered.{CanSet, CanDelete, CanChange, IsOver, MayLane, renewed_states, switched_states, stale_desk, states_after, desk_after, altered}
-use Rattle.mq_steer.proofs.RestLaws.{seen_changed}
+use Rattle.mq_steer.specs.Altered.{CanSet, CanChange, MayLane, renewed_states, switched_states, stale_desk, states_after, desk_after, altered}
 use Rattle.mq_steer.proofs.TurnLaws.{local_name}
 
 true_false : true ≡ false → ⊥

@@ -1,6 +1,6 @@
 -- Behind a change of objects the parts are tied.
-use Rattle.std.proofs.Common.{◌≡◌, ℕ, ◌+◌, ◌-◌, ◌<◌, ◌≤◌, Bool, true, false, cond, List, [], ◌∷◌, ◌++◌, length, refl, ap, arith, sym, subst, ◌∙◌}
-use Rattle.std.specs.Prelude.{Option, Some, None, map, filter, not, is_some, nat_lt, sum_by, count_by, ◌&&◌}
+use Rattle.std.proofs.Common.{◌≡◌, ℕ, ◌+◌, ◌≤◌, Bool, true, false, cond, List, [], ◌∷◌, ◌++◌, length, refl, ap, arith, sym, subst, ◌∙◌}
+use Rattle.std.specs.Prelude.{Option, Some, None, map, not, nat_lt, sum_by, count_by}
 use Rattle.std.specs.Str.{bytes_eq}
 use Rattle.std.proofs.lemmas.Bool.Decides.{nat_tests}
 use Rattle.std.proofs.lemmas.List.Sums.{sum_by-cons}
@@ -11,25 +11,24 @@ use Rattle.mq_objects.specs.declared.object.Definitions.{Definitions}
 use Rattle.mq_objects.specs.declared.command.Subject.TheVariants as subjects
 use Rattle.mq_objects.specs.declared.change.ObjectChange.{ObjectChange}
 use Rattle.mq_objects.specs.declared.change.ObjectChange.TheVariants as changes
-use Rattle.mq_objects.specs.Names.{Space, Queues, Channels, Processes, object_in, as_local, is_object, is_kind, local_of, is_by_priority}
-use Rattle.mq_objects.specs.Changed.{changed, set_in, delete_in}
+use Rattle.mq_objects.specs.Names.{Queues, Channels, Processes, object_in, as_local, is_kind, local_of, is_by_priority}
+use Rattle.mq_objects.specs.Changed.{changed}
 use Rattle.mq_resolve.specs.declared.route.PathStep.{PathStep}
 use Rattle.mq_resolve.specs.declared.route.PathStep.TheVariants as steps
 use Rattle.mq_sc_apply.specs.declared.answers.Planned.{Planned}
 use Rattle.mq_sc_apply.specs.Planned.{is_filled}
 use Rattle.mq_spec_manager.specs.Commands.{uses_of}
-use Rattle.mq_spec_state.specs.Words.{Ident, Row, Item, Connection, Plain, queue_in, made_stale, puts_to, unit_need}
+use Rattle.mq_spec_state.specs.Words.{Ident, Row, Item, Connection, queue_in, made_stale, puts_to, unit_need}
 use Rattle.mq_spec_state.specs.Reads.{is_put_to}
-use Rattle.mq_unit.specs.Forced.{CanBeForced}
 use Rattle.mq_law_manager.specs.Facts.{AreOnce, is_local}
 use Rattle.mq_law_manager.proofs.Objects.{set_found, delete_found}
 use Rattle.mq_handles.specs.Desks.{Desk}
-use Rattle.mq_place.specs.States.{QueueState, queues_of, state_in, change_state, on_queue, switched_on, with_lanes, fresh_state, without_state, has_name}
+use Rattle.mq_place.specs.States.{QueueState, queues_of, state_in, change_state, on_queue, switched_on, with_lanes, fresh_state, without_state}
 use Rattle.mq_core.specs.Views.{PartsValue, plain_of}
-use Rattle.mq_core.specs.Ties.{Tied, SameUnits, state_lanes, local_lanes, pending_at, times_in_rows, times_in_queues, times_in_units, times_in_unit, needs, AreForced}
-use Rattle.mq_core.proofs.PlaceLaws.{name_is, same_name, some_same, state_changed, state_other}
+use Rattle.mq_core.specs.Ties.{Tied, SameUnits, state_lanes, local_lanes, pending_at, times_in_rows, times_in_queues, times_in_units, times_in_unit, AreForced}
+use Rattle.mq_core.proofs.PlaceLaws.{name_is, some_same, state_changed, state_other}
 use Rattle.mq_core.proofs.SeatLaws.{same_units}
-use Rattle.mq_steer.specs.Altered.{CanSet, CanDelete, CanChange, IsOver, renewed_states, switched_states, stale_desk, states_after, desk_after, altered}
+use Rattle.mq_steer.specs.Altered.{CanDelete, CanChange, renewed_states, switched_states, stale_desk, states_after, desk_after, altered}
 use Rattle.mq_steer.proofs.RestLaws.{seen_changed}
 use Rattle.mq_steer.proofs.TurnLaws.{local_name}
 use Rattle.mq_steer.proofs.AlterLaws.{undefined_none, defined_some}

@@ -1,7 +1,6 @@
 -- A change that a command makes: from the room that it takes to the parts behind it.
-use Rattle.std.proofs.Common.{◌≡◌, ℕ, ◌+◌, ◌-◌, ◌<◌, ◌≤◌, Bool, true, false, List, [], ◌∷◌, ◌++◌, length, refl, ap, arith, sym, subst, ◌∙◌}
-use Rattle.std.specs.Prelude.{Option, Some, None, Result, Ok, Err}
-use Rattle.std.proofs.lemmas.List.{length-append, append-nil}
+use Rattle.std.proofs.Common.{◌≡◌, ℕ, ◌+◌, ◌<◌, ◌≤◌, Bool, true, [], refl, ap, arith, sym, subst, ◌∙◌}
+use Rattle.std.specs.Prelude.{Some, None, Ok, Err}
 use Rattle.mq_base.specs.Outside.{Rose}
 use Rattle.mq_disk.specs.declared.cutter.Stop.{Stop}
 use Rattle.mq_disk.specs.declared.cutter.Stop.TheVariants as stops
@@ -10,14 +9,12 @@ use Rattle.mq_objects.specs.declared.object.Object.TheVariants as objects
 use Rattle.mq_objects.specs.declared.object.Definitions.{Definitions}
 use Rattle.mq_objects.specs.declared.change.ObjectChange.{ObjectChange}
 use Rattle.mq_objects.specs.declared.change.ObjectChange.TheVariants as changes
-use Rattle.mq_calls.specs.declared.commands.ScRefusal.{ScRefusal}
-use Rattle.mq_calls.specs.declared.commands.Shown.{Shown}
 use Rattle.mq_calls.specs.declared.commands.Halt.TheVariants as halts
 use Rattle.mq_calls.specs.declared.records.LogRecord.{LogRecord}
 use Rattle.mq_calls.specs.declared.records.LogRecord.TheVariants as records
 use Rattle.mq_sc_apply.specs.declared.answers.Planned.{Planned}
 use Rattle.mq_spec_state.specs.State.{LogState as PlainLog}
-use Rattle.mq_spec_state.specs.Words.{Plain, ManagerValue, MeetsOrWants, Do, need, freeze, note_of, logged, apply_all}
+use Rattle.mq_spec_state.specs.Words.{Plain, ManagerValue, MeetsOrWants, need, freeze, note_of, logged, apply_all}
 use Rattle.mq_spec_manager.specs.Commands.{object_part}
 use Rattle.mq_law_manager.specs.Facts.{AreOnce}
 use Rattle.mq_log.specs.Force.{Stops}
@@ -27,7 +24,7 @@ use Rattle.mq_core.specs.Views.{PartsValue, plain_of}
 use Rattle.mq_core.specs.Ties.{Tied, mode_is_up}
 use Rattle.mq_core.specs.Forced.{IsForced, downed}
 use Rattle.mq_core.proofs.ForceLaws.{forced_view, frozen_view, tied_downed, stops_at}
-use Rattle.mq_steer.specs.Altered.{IsMarked, IsOver, CanSet, CanDelete, CanChange, HasRooms, IsRoomy, with_rooms, altered, change_step}
+use Rattle.mq_steer.specs.Altered.{IsMarked, CanChange, HasRooms, IsRoomy, altered, change_step}
 use Rattle.mq_steer.proofs.AlterLaws.{altered_view}
 use Rattle.mq_steer.proofs.AlterTies.{altered_tied}
 

@@ -1,7 +1,6 @@
 -- What a plan of a command keeps to, and how a command meets it.
-use Rattle.std.proofs.Common.{ℕ, ◌≡◌, ◌+◌, ◌≤◌, Bool, true, false, List, [], ◌∷◌, refl, ap, sym, subst, ◌∙◌, arith}
-use Rattle.std.specs.Prelude.{Option, Some, None, Result, Ok, Err, is_some, if◌then◌else◌, not, ◌&&◌, ◌||◌, filter}
-use Rattle.mq_objects.specs.declared.object.LocalQueue.{LocalQueue}
+use Rattle.std.proofs.Common.{ℕ, ◌≡◌, Bool, true, false, List, [], ◌∷◌, refl, ap, sym, subst, ◌∙◌, arith}
+use Rattle.std.specs.Prelude.{Option, Some, None, Result, Ok, Err, is_some, if◌then◌else◌, not, ◌&&◌, ◌||◌}
 use Rattle.mq_objects.specs.declared.object.Channel.{Channel}
 use Rattle.mq_objects.specs.declared.object.Process.{Process}
 use Rattle.mq_objects.specs.declared.object.Object.{Object}
@@ -27,11 +26,11 @@ use Rattle.mq_sc_apply.specs.Commands.{plan, to_change, to_show, Gives}
 use Rattle.mq_sc_apply.specs.Displayed.{display}
 use Rattle.mq_sc_apply.specs.Planned.{define, define_at, defined_object, changed, is_used, leads_elsewhere, changes_rows, is_filled, alter, alter_at, alter_good, bad_in, switches_on, alter_manager, default_changes, delete, delete_at, is_on_path, is_sent_from, is_busy}
 use Rattle.mq_spec_state.specs.Words.{Halt, Plain, ManagerValue, Step, Refuse, Do, say, MeetsOrWants, untouched, is_up, when, tested}
-use Rattle.mq_spec_manager.specs.Commands.{command, planned_step, uses_of, object_part}
+use Rattle.mq_spec_manager.specs.Commands.{command, planned_step, uses_of}
 use Rattle.mq_law_manager.specs.Facts.{is_local}
 use Rattle.mq_law_manager.proofs.Lists.{bool_case}
 use Rattle.mq_law_manager.proofs.Objects.{all_alike, defined_alike, new_space, new_name, kind_local, found_object, object_is}
-use Rattle.mq_steer.specs.Altered.{IsOver, IsMarked, CanSet, CanDelete, CanChange, PlansErr, Plans, halt_of}
+use Rattle.mq_steer.specs.Altered.{IsOver, IsMarked, CanChange, PlansErr, Plans, halt_of}
 
 true_false : true ≡ false → ⊥
 true_false e = absurd cc

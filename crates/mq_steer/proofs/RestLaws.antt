@@ -1,9 +1,8 @@
 -- A stop: what it does to the queues is what the plain manager's changes do, and the parts are tied at rest.
-use Rattle.std.proofs.Common.{◌≡◌, ℕ, ◌+◌, ◌-◌, ◌<◌, ◌≤◌, Bool, true, false, cond, List, [], ◌∷◌, ◌++◌, refl, ap, arith, sym, subst, ◌∙◌}
+use Rattle.std.proofs.Common.{◌≡◌, ℕ, ◌+◌, ◌-◌, ◌≤◌, Bool, true, false, cond, List, [], ◌∷◌, ◌++◌, refl, ap, arith, sym, subst, ◌∙◌}
 use Rattle.std.specs.Prelude.{Option, Some, None, map, not, ◌&&◌}
 use Rattle.std.specs.List.{AllByRecursion, list_any}
 use Rattle.std.specs.Str.{bytes_eq}
-use Rattle.std.specs.Cmp.Lexicographic.{bytes_decides}
 use Rattle.mq_message.specs.declared.place.Holder.{Holder}
 use Rattle.mq_message.specs.declared.place.Holder.TheVariants as holders
 use Rattle.mq_objects.specs.declared.object.Object.{Object}
@@ -11,10 +10,10 @@ use Rattle.mq_objects.specs.declared.object.Object.TheVariants as objects
 use Rattle.mq_objects.specs.Names.{object_in, as_local, is_object}
 use Rattle.mq_objects.specs.Names.Space.{Queues}
 use Rattle.mq_spec_state.specs.State.{Queue as StateQueue}
-use Rattle.mq_spec_state.specs.Words.{ManagerValue, Running, Up, untouched, is_up, Ident, Row, Batch, Plain, Change, Which, LocalQueue, Among, HeldBy, HeldByUnits, Nonpersistent, Down, same_ident, is_free, is_by_unit, held_by, selects, keep, retag, kept_in, released_in, release_if, forgotten, apply_all, has_ident, local_of, puts_to}
+use Rattle.mq_spec_state.specs.Words.{ManagerValue, Running, Up, untouched, is_up, Ident, Row, Batch, Plain, Change, Which, LocalQueue, Among, HeldBy, HeldByUnits, Nonpersistent, Down, same_ident, is_free, is_by_unit, held_by, selects, retag, kept_in, released_in, release_if, forgotten, apply_all, has_ident, local_of}
 use Rattle.mq_queue.specs.Queues.{freed}
-use Rattle.mq_spec_state.specs.State.Change.{Release, Leave, ForgetAll}
-use Rattle.mq_spec_manager.specs.Stops.{at_rest, stop, stop_at, stop_changes, release_batch}
+use Rattle.mq_spec_state.specs.State.Change.{Leave, ForgetAll}
+use Rattle.mq_spec_manager.specs.Stops.{at_rest, stop, stop_at, release_batch}
 use Rattle.mq_steer.specs.Quiet.{Comes}
 use Rattle.mq_place.specs.States.{QueueState, queues_of, state_in, change_state, on_queue, on_queues, unpended}
 use Rattle.mq_core.specs.Views.{PartsValue, plain_of}

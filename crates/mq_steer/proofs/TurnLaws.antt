@@ -1,6 +1,6 @@
 -- A trigger turn: a trigger is served, and its message takes its place.
-use Rattle.std.proofs.Common.{◌≡◌, ℕ, ◌+◌, ◌-◌, ◌<◌, ◌≤◌, ◌^◌, Bool, true, false, cond, List, [], ◌∷◌, refl, ap, arith, sym, subst, ◌∙◌}
-use Rattle.std.specs.Prelude.{Option, Some, None, Result, Ok, Err, IsSome, nat_lt, nat_le, ◌&&◌}
+use Rattle.std.proofs.Common.{◌≡◌, ℕ, ◌+◌, ◌-◌, ◌^◌, Bool, true, false, cond, List, [], ◌∷◌, refl, ap, arith, sym, subst, ◌∙◌}
+use Rattle.std.specs.Prelude.{Option, Some, None, Result, Ok, Err, IsSome, nat_lt, nat_le}
 use Rattle.std.specs.Str.{bytes_eq}
 use Rattle.mq_base.specs.declared.want.NoMemory.{NoMemory}
 use Rattle.mq_objects.specs.declared.object.Object.{Object}
@@ -8,15 +8,13 @@ use Rattle.mq_objects.specs.declared.object.Object.TheVariants as objects
 use Rattle.mq_objects.specs.Names.{object_in, as_local, is_object}
 use Rattle.mq_objects.specs.Names.Space.{Queues}
 use Rattle.mq_spec_state.specs.State.{Queue as StateQueue}
-use Rattle.mq_spec_state.specs.Words.{Row, has_ident, same_ident, insert_row, Part, say, stored, is_up, locals_of, process_of, Ident, Message, Item, LocalQueue, Plain, ManagerValue, Step, Do, Refuse, Meets, untouched, AreLow, local_of, place, apply, apply_all, set_queue, Definitions}
+use Rattle.mq_spec_state.specs.Words.{Row, has_ident, same_ident, insert_row, Part, say, stored, is_up, locals_of, process_of, Ident, Message, Item, LocalQueue, Plain, ManagerValue, Do, Meets, untouched, AreLow, local_of, place, apply, apply_all, set_queue, Definitions}
 use Rattle.mq_calls.specs.declared.state.Item.TheVariants.{Put}
-use Rattle.mq_calls.specs.declared.deltas.Did.TheVariants as did
 use Rattle.mq_calls.specs.declared.commands.Halt.TheVariants as halts
-use Rattle.mq_spec_state.specs.State.Change.{Place, CountIdent, Serve}
-use Rattle.mq_spec_manager.specs.Triggers.{Never}
+use Rattle.mq_spec_state.specs.State.Change.{CountIdent, Serve}
 use Rattle.mq_place.specs.States.{QueueState, queues_of, state_in, change_state, on_queue, served, arrived}
 use Rattle.mq_core.specs.Views.{PartsValue, plain_of}
-use Rattle.mq_core.specs.Ties.{TiedBut, Tied, IsReady, HasCounts, AreCounted, state_lanes, pending_at, times_in_rows, times_in_queues, one_if, waits}
+use Rattle.mq_core.specs.Ties.{TiedBut, Tied, IsReady, AreCounted, state_lanes, pending_at, times_in_rows, times_in_queues, one_if, waits}
 use Rattle.mq_core.specs.Placing.{arrived_at}
 use Rattle.mq_core.specs.Forced.{IsExpected}
 use Rattle.mq_core.proofs.PlaceLaws.{name_is, some_same, state_named, queue_in_state, set_changed, counted_changed, ready, arrived_view, seen_kept, pending_changed, times_changed}

@@ -1,5 +1,5 @@
 -- What is read of the queues, as the plain manager has it.
-use Rattle.std.proofs.Common.{◌≡◌, ℕ, ◌+◌, Bool, true, false, cond, List, [], ◌∷◌, length, refl, ap, arith, sym, ◌∙◌}
+use Rattle.std.proofs.Common.{◌≡◌, ℕ, ◌+◌, Bool, true, false, cond, List, [], ◌∷◌, length, refl, ap, arith}
 use Rattle.std.specs.Prelude.{Option, Some, None, nat_lt}
 use Rattle.std.specs.Str.{bytes_eq}
 use Rattle.mq_spec_state.specs.Words.{Queue, has_rows, queue_in, puts_to}

@@ -1,9 +1,9 @@
 -- A trigger turn: what its parts read of it, and how its answer meets the plain manager's step.
-use Rattle.std.specs.Prelude.{◌≡◌, ℕ, ◌+◌, true, false, List, [], ◌∷◌, nat_lt, Bool, Option, Some, None, Result, Ok, Err, IsSome}
+use Rattle.std.specs.Prelude.{◌≡◌, ℕ, ◌+◌, true, false, List, [], ◌∷◌, nat_lt, Option, Some, None, Result, Ok, Err, IsSome}
 use Rattle.mq_base.specs.declared.want.NoMemory.{NoMemory}
 use Rattle.mq_calls.specs.declared.deltas.Did.TheVariants as did
 use Rattle.mq_calls.specs.declared.commands.Halt.TheVariants as halts
-use Rattle.mq_spec_state.specs.Words.{Message, Halt, LocalQueue, Plain, Part, Step, Do, say, silent, stored, local_of}
+use Rattle.mq_spec_state.specs.Words.{Message, Halt, Plain, Part, Do, say, silent, stored, local_of}
 use Rattle.mq_spec_state.specs.State.Change.{Place, CountIdent, Serve}
 use Rattle.mq_spec_manager.specs.Triggers.{Never, trigger_turn}
 use Rattle.mq_spec_manager.specs.Words.{next_ident}

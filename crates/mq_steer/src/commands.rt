@@ -1,5 +1,5 @@
 //! Commands on objects.
-ghost use Rattle.std.specs.Prelude.{◌≡◌, ◌+◌, ◌<◌, ◌≤◌, ◌^◌, [], ◌∷◌, length, true, Ok, OnOk, OnErr, IfOk};
+ghost use Rattle.std.specs.Prelude.{◌≡◌, ◌+◌, ◌<◌, ◌≤◌, ◌^◌, [], length, true, Ok, OnOk, OnErr, IfOk};
 ghost use Rattle.mq_objects.specs.Names.{is_by_priority, local_of, name_of};
 ghost use Rattle.mq_objects.specs.declared.object.Object.TheVariants as objects;
 ghost use Rattle.mq_objects.specs.declared.change.ObjectChange.TheVariants as changes;
@@ -15,7 +15,6 @@ ghost use Rattle.mq_core.specs.Ties.{Tied};
 ghost use Rattle.mq_core.specs.Views.{plain_of};
 ghost use Rattle.mq_core.specs.Forced.{IsForced, downed};
 ghost use Rattle.mq_core.specs.Placing.{with_states};
-ghost use Rattle.mq_place.specs.States.{fresh_state};
 ghost use Rattle.mq_steer.specs.Altered.{CanChange, CanSet, Plans, change_step, halt_of, IsRoomy, HasRooms, MayLane, renewed_states, switched_states, stale_desk, states_after, desk_after, altered};
 
 use crate::uses::ObjectUse;

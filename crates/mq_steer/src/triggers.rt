@@ -1,5 +1,5 @@
 //! Trigger turns.
-ghost use Rattle.std.specs.Prelude.{◌≡◌, [], ◌∷◌, None, ◌+◌, ◌<◌, ◌^◌, ◌≤◌, is_some, nat_lt, option_copied, true, Some, OnOk, OnErr, IsSome};
+ghost use Rattle.std.specs.Prelude.{◌≡◌, [], ◌∷◌, None, ◌+◌, ◌<◌, ◌^◌, ◌≤◌, is_some, nat_lt, option_copied, true, Some, OnOk, OnErr};
 ghost use Rattle.mq_spec_state.specs.Words.{Meets, AreLow, Do, apply, stored, local_of, locals_of, process_of, is_transmission, is_up};
 ghost use Rattle.mq_spec_state.specs.State.Change.{Serve};
 ghost use Rattle.mq_spec_manager.specs.Triggers.{first_due, takes_it, serve_into, serve_by, trigger_turn};

@@ -1,9 +1,8 @@
-use Rattle.std.proofs.Common.{◌≡◌, ℕ, ◌+◌, ◌<◌, ◌≤◌, ◌∙◌, sym, ap, subst, refl, arith}
-use Rattle.std.specs.Prelude.{List, [], length, Ok, Err, Some, None, true}
+use Rattle.std.proofs.Common.{◌≡◌, ℕ, ◌+◌, ◌<◌, ◌∙◌, sym, ap, subst, refl, arith}
+use Rattle.std.specs.Prelude.{List, length, Ok, Err, Some}
 use Rattle.mq_base.specs.Outside.{Rose}
 use Rattle.mq_disk.specs.declared.cutter.Stop.{Stop}
 use Rattle.mq_log.specs.Force.{Stops}
-use Rattle.mq_calls.specs.declared.commands.Shown.{Shown}
 use Rattle.mq_calls.specs.declared.records.LogRecord.TheVariants as records
 use Rattle.mq_spec_state.specs.Words.{ManagerValue, Plain, MeetsOrWants, is_up, need, freeze, logged, note_of, apply_all}
 use Rattle.mq_spec_manager.specs.Commands.{object_part}
@@ -12,7 +11,7 @@ use Rattle.mq_core.specs.Views.{PartsValue, plain_of, frozen_of}
 use Rattle.mq_core.specs.Ties.{Tied}
 use Rattle.mq_core.proofs.MeetLaws.{mode_up}
 use Rattle.mq_steer.specs.Altered.{CanChange, change_step}
-use Rattle.mq_steer.proofs.ChangeLaws.{tied_rooms, tied_forced, can_alter, change_tied, change_view, change_frozen, change_down, change_done, change_stopped}
+use Rattle.mq_steer.proofs.ChangeLaws.{tied_forced, can_alter, change_tied, change_view, change_frozen, change_down, change_done, change_stopped}
 use Rattle.mq_steer.proofs.commands.write_change.Goals as goal
 
 plain_is : {v w : ManagerValue} → v ≡ w → v.plain ≡ w.plain

@@ -1,4 +1,4 @@
-use Rattle.std.proofs.Common.{◌≡◌, sym, ap, subst, ◌∙◌}
+use Rattle.std.proofs.Common.{sym, ap, subst, ◌∙◌}
 use Rattle.std.specs.Prelude.{None}
 use Rattle.mq_spec_state.specs.Words.{ManagerValue, Plain, Down}
 use Rattle.mq_spec_manager.specs.Stops.{at_rest}

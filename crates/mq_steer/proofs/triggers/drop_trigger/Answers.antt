@@ -1,4 +1,4 @@
-use Rattle.std.proofs.Common.{◌≡◌, sym, ap, subst, ◌∙◌}
+use Rattle.std.proofs.Common.{sym, ap, subst, ◌∙◌}
 use Rattle.std.specs.Prelude.{[]}
 use Rattle.mq_spec_state.specs.Words.{ManagerValue, Plain, apply}
 use Rattle.mq_spec_state.specs.State.Change.{Serve}
