@@ -1,35 +1,31 @@
 -- How a commit and a backout meet their steps.
-use Rattle.std.proofs.Common.{◌≡◌, ℕ, ◌+◌, ◌-◌, ◌<◌, ◌≤◌, ◌^◌, Bool, true, false, List, [], ◌∷◌, ◌++◌, length, refl, ap, arith, sym, subst, ◌∙◌}
-use Rattle.std.specs.Prelude.{Option, Some, None, Result, Ok, Err, IsSome, is_some}
+use Rattle.std.proofs.Common.{◌≡◌, ℕ, ◌+◌, ◌<◌, ◌≤◌, ◌^◌, Bool, true, false, List, [], ◌∷◌, ◌++◌, refl, ap, arith, sym, subst, ◌∙◌}
+use Rattle.std.specs.Prelude.{Option, Some, None, Result, Ok, Err, is_some}
 use Rattle.std.proofs.lemmas.List.{append-nil}
 use Rattle.mq_base.specs.Outside.{Rose}
 use Rattle.mq_disk.specs.declared.cutter.Stop.{Stop}
 use Rattle.mq_disk.specs.declared.cutter.Stop.TheVariants as stops
-use Rattle.mq_spec_state.specs.Words.{Reason, Answer, Hconn, Connection, LogRecord, Plain, Part, Change, Did, Noted, Step, Do, ManagerValue, MeetsAs, MeetsDone, MeetsInRoom, Ran, StoppedIn, StopsAt, connection_at, unit_need, need, record_size, apply_all, logged, freeze, note_of, forced_calls}
-use Rattle.mq_spec_state.specs.Meeting.Wants.{Nowhere}
+use Rattle.mq_spec_state.specs.Words.{Reason, Hconn, Connection, LogRecord, Plain, Noted, Do, ManagerValue, MeetsInRoom, StopsAt, connection_at, unit_need, record_size, apply_all, logged, freeze, note_of, forced_calls}
 use Rattle.mq_calls.specs.declared.answers.Answer.TheVariants as answers
 use Rattle.mq_calls.specs.declared.commands.Halt.TheVariants as halts
 use Rattle.mq_calls.specs.declared.records.LogRecord.TheVariants as records
 use Rattle.mq_spec_manager.specs.Words.{for_connection, live_or, mqcmit, mqback, mqdisc}
 use Rattle.mq_spec_manager.specs.Units.{adds_of, removes_of, record_of, commit_delta, backout_part}
 use Rattle.mq_spec_state.specs.Words.{Add, Remove}
-use Rattle.mq_log.specs.State.{LogState}
 use Rattle.mq_log.specs.Force.{Stops}
 use Rattle.mq_record.specs.Room.{Buffered, with_piece}
 use Rattle.mq_record.specs.Records.{record_bytes}
 use Rattle.mq_unit.specs.Forced.{need_of, unit_record}
 use Rattle.mq_unit.proofs.UnitLaws.{unit_needs}
-use Rattle.mq_core.specs.declared.parts.StoppedWrite.{StoppedWrite}
 use Rattle.mq_core.specs.declared.parts.StoppedWrite.TheVariants as writes
 use Rattle.mq_core.specs.Views.{PartsValue, plain_of, frozen_of, noted, noted_commit}
-use Rattle.mq_core.specs.Writes.{ended_part, end_changes}
-use Rattle.mq_core.specs.Ties.{Tied, needs}
-use Rattle.mq_core.specs.Forced.{IsForced, downed}
-use Rattle.mq_core.specs.Calls.{at_number, CanGo}
+use Rattle.mq_core.specs.Writes.{ended_part}
+use Rattle.mq_core.specs.Ties.{Tied}
+use Rattle.mq_core.specs.Forced.{downed}
+use Rattle.mq_core.specs.Calls.{CanGo}
 use Rattle.mq_core.proofs.ForceLaws.{frozen_view, tied_downed, stops_at}
 use Rattle.mq_core.proofs.PendLaws.{unit_le}
-use Rattle.mq_ends.specs.Ends.{IfForced, HasRoom, commit_at, back_at}
-use Rattle.mq_ends.proofs.EndLaws.{Wrote}
+use Rattle.mq_ends.specs.Ends.{IfForced, commit_at, back_at}
 
 -- what a unit needs is reserved, and small
 pub unit_low : (number : ℕ) (c : Connection) (x : PartsValue) → connection_at number x.desk.live ≡ Some c → Tied x → (unit_need c.unit ≤ x.log.reserved) × (unit_need c.unit < 2 ^ 32)

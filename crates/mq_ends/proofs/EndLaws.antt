@@ -1,24 +1,23 @@
 -- The end of a unit: what ties the parts on the way.
 use Rattle.std.proofs.Common.{◌≡◌, ℕ, ◌+◌, ◌-◌, ◌<◌, ◌≤◌, ◌^◌, Bool, true, false, cond, List, [], ◌∷◌, length, refl, ap, arith, sym, subst, ◌∙◌}
-use Rattle.std.specs.Prelude.{Option, Some, None, Ok, IsSome, sum_by, count_by, filter, not, ◌==◌}
+use Rattle.std.specs.Prelude.{Option, Some, None, Ok, IsSome, count_by, filter, not, ◌==◌}
 use Rattle.std.specs.List.{AllByRecursion}
 use Rattle.std.specs.Str.{bytes_eq}
 use Rattle.std.proofs.lemmas.List.Sums.{sum_by-cons}
 use Rattle.std.proofs.lemmas.List.Recursion.{is_count_by}
 use Rattle.std.proofs.lemmas.Bool.Decides.{nat_tests}
-use Rattle.mq_spec_state.specs.Words.{AreLow, Ident, Message, Row, Connection, Item, Plain, LogRecord, Among, keep, retag, kept_in, released_in, release_if, selects, need, puts_to, unit_need, connection_at, change_connection, logged, has_ident, is_free}
+use Rattle.mq_spec_state.specs.Words.{AreLow, Ident, Message, Row, Connection, Item, LogRecord, Among, retag, kept_in, released_in, release_if, selects, need, puts_to, unit_need, connection_at, change_connection, logged, has_ident}
 use Rattle.mq_spec_state.specs.Reads.{is_put_to}
-use Rattle.mq_queue.specs.Queues.{freed}
 use Rattle.mq_calls.specs.declared.state.Item.TheVariants.{Put, Take}
 use Rattle.mq_log.specs.State.{LogState}
 use Rattle.mq_spec_manager.specs.Units.{adds_of, removes_of, record_of}
-use Rattle.mq_unit.specs.Forced.{CanBeForced, need_of}
+use Rattle.mq_unit.specs.Forced.{need_of}
 use Rattle.mq_unit.proofs.UnitLaws.{unit_needs}
 use Rattle.mq_handles.specs.Rising.{AreRising, connection_number}
 use Rattle.mq_handles.specs.Seats.{emptied}
-use Rattle.mq_place.specs.States.{QueueState, queues_of, state_in, unpended}
+use Rattle.mq_place.specs.States.{QueueState, state_in, unpended}
 use Rattle.mq_core.specs.Views.{PartsValue, plain_of}
-use Rattle.mq_core.specs.Ties.{TiedBut, TiedUp, Tied, mode_is_up, SameUnits, AreCounted, HasCounts, AreForced, needs, waits, one_if, pending_at, state_lanes, times_in_rows, times_in_queues, times_in_unit, times_in_units}
+use Rattle.mq_core.specs.Ties.{TiedBut, Tied, mode_is_up, SameUnits, AreCounted, waits, one_if, pending_at, state_lanes, times_in_rows, times_in_queues}
 use Rattle.mq_core.specs.Placing.{put_in_place, put_each, take_each, removed_from, arrived_at, due_if}
 use Rattle.mq_core.specs.Forced.{IsForced}
 use Rattle.mq_core.proofs.PlaceLaws.{same_name, ready, tied_placed, tied_take, counts_placed, seen_kept, pending_changed}

@@ -4,13 +4,13 @@ use Rattle.std.specs.Prelude.{ℤ, Option, Some, None, nat_le, not, ◌||◌, �
 use Rattle.std.specs.List.{flat_map, list_any}
 use Rattle.mq_objects.specs.declared.object.TriggerType.TheVariants as triggers
 use Rattle.mq_spec_state.specs.Condition.{by_type, is_served, waiting, is_long_ago}
-use Rattle.mq_spec_state.specs.Words.{Message, Connection, Handle, Item, Plain, Change, Among, LocalQueue, kept_in, released_in, connection_at, change_connection, apply, apply_all, condition, try_if, try_trigger, place, any_handle, local_of, stored, has_priority, is_input, leads_to, read_by_sender, process_of, is_transmission, TriggerType}
+use Rattle.mq_spec_state.specs.Words.{Connection, Handle, Item, Plain, Change, Among, LocalQueue, kept_in, released_in, change_connection, apply, apply_all, condition, try_if, try_trigger, place, any_handle, local_of, stored, has_priority, is_input, leads_to, read_by_sender, process_of, is_transmission, TriggerType}
 use Rattle.mq_spec_state.specs.State.{Queue as StateQueue}
-use Rattle.mq_spec_state.specs.State.Change.{EndUnit, Disconnect}
+use Rattle.mq_spec_state.specs.State.Change.{EndUnit}
 use Rattle.mq_calls.specs.declared.state.Item.TheVariants.{Put, Take}
-use Rattle.mq_spec_manager.specs.Words.{taken_item, placed_item, freed_item, placed, commit_changes}
+use Rattle.mq_spec_manager.specs.Words.{taken_item, placed_item, freed_item, commit_changes}
 use Rattle.mq_handles.specs.Seats.{emptied}
-use Rattle.mq_place.specs.States.{queues_of, unpended}
+use Rattle.mq_place.specs.States.{unpended}
 use Rattle.mq_core.specs.Views.{PartsValue, plain_of, frozen_of}
 use Rattle.mq_core.specs.Ties.{mode_is_up}
 use Rattle.mq_core.specs.Writes.{end_changes}
@@ -19,7 +19,6 @@ use Rattle.mq_core.proofs.PlaceLaws.{placed_view}
 use Rattle.mq_core.proofs.ForceLaws.{queues_on}
 use Rattle.mq_core.proofs.PutLaws.{queues_same}
 use Rattle.mq_core.proofs.MeetLaws.{running_up}
-use Rattle.mq_core.proofs.SeatLaws.{number_is}
 use Rattle.mq_ends.specs.Ends.{ended_unit, AreReady, left_if, settled, unpended_at, freed_at, backed_each, backed}
 use Rattle.mq_ends.proofs.EndLaws.{put_rest, take_rest}
 

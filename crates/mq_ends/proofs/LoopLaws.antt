@@ -3,7 +3,7 @@ use Rattle.std.proofs.Common.{◌≡◌, ℕ, suc, ◌+◌, ◌<◌, List, [], �
 use Rattle.mq_spec_state.specs.Words.{Item}
 use Rattle.mq_calls.specs.declared.state.Item.TheVariants.{Put, Take}
 use Rattle.mq_core.specs.Views.{PartsValue}
-use Rattle.mq_core.specs.Placing.{put_in_place, put_each, take_each}
+use Rattle.mq_core.specs.Placing.{put_each, take_each}
 use Rattle.mq_ends.specs.Ends.{AreReady, backed_each}
 
 left_at : (items : List Item) (i : ℕ) (item : Item) → i < length items → item ≡ get_or items i item → drop i items ≡ item ∷ drop (i + 1) items

@@ -1,13 +1,13 @@
 -- Calls of the MQI leave the definitions as they are.
-use Rattle.std.proofs.Common.{◌≡◌, ◌≤◌, ℕ, Bool, true, false, List, [], ◌∷◌, ◌++◌, refl, ap, sym, subst, ◌∙◌}
-use Rattle.std.specs.Prelude.{Option, Some, None, Result, Ok, Err}
+use Rattle.std.proofs.Common.{◌≡◌, ◌≤◌, ℕ, Bool, true, false, List, [], ◌∷◌, ◌++◌, refl, sym, subst, ◌∙◌}
+use Rattle.std.specs.Prelude.{Result, Ok, Err}
 use Rattle.std.specs.List.{flat_map}
-use Rattle.mq_spec_state.specs.Words.{Reason, Md, Message, Hconn, Hobj, Appl, Open, Route, Connection, Item, Plain, Part, Change, Definitions, LogRecord, apply, apply_all, logged, do_part, condition, local_of, when, handle_at}
-use Rattle.mq_spec_state.specs.State.Change.{Try, ChangeObjects, SetBound, CountIdent, Pend, EndUnit, Disconnect}
+use Rattle.mq_spec_state.specs.Words.{Reason, Md, Message, Hconn, Hobj, Appl, Open, Route, Connection, Item, Plain, Part, Change, Definitions, apply, apply_all, logged, do_part, condition, local_of, when, handle_at}
+use Rattle.mq_spec_state.specs.State.Change.{Try, ChangeObjects, SetBound, EndUnit, Disconnect}
 use Rattle.mq_calls.specs.declared.state.Item.TheVariants.{Put, Take}
 use Rattle.mq_codes.specs.declared.reason.Reason.TheVariants as reasons
 use Rattle.mq_resolve.specs.Resolved.{resolve}
-use Rattle.mq_spec_manager.specs.Handles.{connected, new_connection, new_handle, conn_tests, option_tests, open_tests, open_step, close_up, close_handle, is_unfit, mqconn, mqopen, mqclose}
+use Rattle.mq_spec_manager.specs.Handles.{connected, conn_tests, option_tests, open_tests, open_step, close_up, close_handle, is_unfit, mqconn, mqopen, mqclose}
 use Rattle.mq_spec_manager.specs.Put.{output_only, queue_at, put_part, put_step, put_route, put_tests, put_up, put_handle, put1_resolved, handle_route, output_tests, new_message, mqput, mqput1}
 use Rattle.mq_spec_manager.specs.Units.{taken_item, placed_item, freed_item, commit_changes, commit_part, backout_part, mqcmit, mqback, mqdisc}
 use Rattle.mq_spec_state.specs.Steps.{none_of}

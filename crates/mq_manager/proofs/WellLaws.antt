@@ -1,9 +1,8 @@
 -- What holds of a manager between its calls is kept by each of them.
-use Rattle.std.proofs.Common.{◌≡◌, ◌≤◌, ◌+◌, ◌<◌, ◌^◌, ℕ, zero, suc, Bool, true, false, cond, List, [], ◌∷◌, refl, ap, sym, subst, ◌∙◌, arith}
-use Rattle.std.specs.Prelude.{Option, Some, None, Result, Ok, Err, not, ◌&&◌, ◌==◌, if◌then◌else◌, IfSome}
+use Rattle.std.proofs.Common.{◌≡◌, ◌≤◌, ◌+◌, ◌<◌, ◌^◌, ℕ, zero, suc, Bool, true, false, cond, List, [], ◌∷◌, refl, ap, sym, subst, arith}
+use Rattle.std.specs.Prelude.{Some, None, Result, Ok, Err, not, ◌&&◌, ◌==◌, if◌then◌else◌, IfSome}
 use Rattle.std.specs.List.{AllByRecursion}
-use Rattle.mq_disk.specs.declared.cutter.Stop.{Stop}
-use Rattle.mq_spec_state.specs.Words.{Reason, Answer, Sent, Md, Hconn, Hobj, Appl, Open, Connection, Plain, Part, Noted, Step, Refuse, Do, ManagerValue, Wants, MeetsAs, MeetsDone, Meets, MeetsInRoom, StoppedIn, Halt, AreLow, is_up, connection_at, do_part, do_all, stopped_at, IsWrite, note_of, silent}
+use Rattle.mq_spec_state.specs.Words.{Reason, Answer, Sent, Md, Hconn, Hobj, Appl, Open, Connection, Plain, Part, Step, Refuse, Do, ManagerValue, Wants, MeetsAs, MeetsDone, Meets, MeetsInRoom, Halt, is_up, connection_at, do_part, do_all, stopped_at, IsWrite, note_of, silent}
 use Rattle.mq_spec_state.specs.Steps.{refused_or, going_on}
 use Rattle.mq_spec_state.specs.Meeting.Wants.{Nowhere, Behind, Anywhere}
 use Rattle.mq_codes.specs.declared.reason.Reason.TheVariants as reasons

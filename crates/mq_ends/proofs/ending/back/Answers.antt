@@ -1,8 +1,6 @@
-use Rattle.std.proofs.Common.{◌≡◌, sym, ap, subst, refl, ◌∙◌}
-use Rattle.std.specs.Prelude.{List, Some, IfSome}
-use Rattle.mq_spec_state.specs.Words.{ManagerValue, Plain, Connection, Did, connection_at, is_up, apply_all}
+use Rattle.std.proofs.Common.{◌≡◌, sym, ap, subst, ◌∙◌}
+use Rattle.mq_spec_state.specs.Words.{ManagerValue, Plain, Connection, connection_at, is_up, apply_all}
 use Rattle.mq_spec_manager.specs.Units.{backout_part}
-use Rattle.mq_unit.specs.Told.{Telling}
 use Rattle.mq_log.specs.State.{LogState}
 use Rattle.mq_core.specs.Views.{PartsValue, plain_of, frozen_of}
 use Rattle.mq_core.specs.Ties.{Tied}

@@ -1,4 +1,4 @@
-use Rattle.std.proofs.Common.{◌≡◌, ap, subst}
+use Rattle.std.proofs.Common.{ap, subst}
 use Rattle.mq_spec_state.specs.Words.{ManagerValue, Plain, Reason, Answer, Step, MeetsInRoom}
 use Rattle.mq_core.specs.Calls.{CanGo}
 use Rattle.mq_ends.proofs.CommitLaws.{commit_is}

@@ -1,4 +1,4 @@
-use Rattle.std.proofs.Common.{◌+◌, ◌<◌, ◌^◌, sym, subst, arith}
+use Rattle.std.proofs.Common.{◌^◌, sym, subst, arith}
 use Rattle.mq_spec_state.specs.Words.{ManagerValue, AreLow}
 use Rattle.mq_manager.proofs.WellLaws.{well_open, handle_low}
 use Rattle.mq_manager.proofs.manager.Manager.mqopen.Goals as goal
