@@ -1,0 +1,7 @@
+pub mod WalkLaws
+pub mod EndLaws
+pub mod WriteLaws
+pub mod TellLaws
+pub mod RemoveLaws
+pub mod FillLaws
+pub mod DoubtLaws

@@ -1,0 +1,19 @@
+//! What channel ends and the dead-letter handler ask of a manager.
+#![tactic(auto)]
+
+mod batches;
+mod discarding;
+mod hardening;
+mod preparing;
+mod reading;
+mod seizing;
+mod walking;
+
+pub use batches::hold_batch;
+pub use discarding::discard;
+pub use hardening::{
+    Unwritten, harden_bound, harden_closed, harden_last_received, harden_last_sent, harden_session,
+};
+pub use preparing::prepare;
+pub use reading::{Hardened, batch_row, defs, is_up, kept, moment, next_row, stock};
+pub use seizing::{leave, seize, set_bound};
