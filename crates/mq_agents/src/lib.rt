@@ -1,9 +1,13 @@
 //! What channel ends and the dead-letter handler ask of a manager.
 #![tactic(auto)]
 
+mod hardening;
 mod reading;
 mod seizing;
 mod walking;
 
+pub use hardening::{
+    Unwritten, harden_bound, harden_closed, harden_last_received, harden_last_sent, harden_session,
+};
 pub use reading::{Hardened, batch_row, defs, is_up, kept, moment, next_row, stock};
 pub use seizing::{leave, seize, set_bound};

@@ -100,7 +100,7 @@ pub fn batch_row<'a, D: Disk>(
 }
 
 /// The queue that a sender has open.
-pub fn queue_of_sender<D: Disk>(parts: &Parts<D>, channel: &ChName) -> QName
+pub(crate) fn queue_of_sender<D: Disk>(parts: &Parts<D>, channel: &ChName) -> QName
     ensures { result ≡ queue_of_sender channel.now (plain_of parts.now) }
 {
     match seizure_of(&parts.ends.seizures, channel) {

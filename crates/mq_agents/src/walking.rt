@@ -60,7 +60,7 @@ fn row_by_other<'a, Q: Queue + Drop>(local: &'a LocalRows<Q>, channel: &ChName) 
 }
 
 /// Whether a unit, or the batch of another channel, holds a row. It walks over the rows where one is held.
-pub fn has_held_by_other<Q: Queue + Drop>(local: &LocalRows<Q>, channel: &ChName) -> bool
+pub(crate) fn has_held_by_other<Q: Queue + Drop>(local: &LocalRows<Q>, channel: &ChName) -> bool
     ensures { result ≡ list_any (λ (row : Row). is_by_other channel.now row.by) local.now.queue.rows }
 {
     let Some(_row) = row_by_other(local, channel) else {
@@ -87,7 +87,7 @@ fn row_past<'a, Q: Queue + Drop>(local: &'a LocalRows<Q>, moment: u64) -> Option
 }
 
 /// Whether a free row has expired. It walks to the first.
-pub fn has_past<Q: Queue + Drop>(local: &LocalRows<Q>, moment: u64) -> bool
+pub(crate) fn has_past<Q: Queue + Drop>(local: &LocalRows<Q>, moment: u64) -> bool
     ensures { result ≡ nat_lt 0 (length (filter (λ (row : Row). is_past moment row.message.deadline) (filter is_free local.now.queue.rows))) }
 {
     let Some(_row) = row_past(local, moment) else {

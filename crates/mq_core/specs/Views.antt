@@ -1,6 +1,6 @@
 -- The plain manager that a manager's parts stand for.
 use Rattle.std.specs.Prelude.{ℕ, Bool, List, [], Option, Some, None}
-use Rattle.mq_spec_state.specs.Words.{Connection, Plain, Channels, Part, Noted, Running, Up, Down, connection_at, note_of}
+use Rattle.mq_spec_state.specs.Words.{Batch, Connection, Plain, Channels, Part, Noted, Running, Up, Down, connection_at, batch_of, note_of}
 use Rattle.mq_spec_manager.specs.Words.{object_part}
 use Rattle.mq_objects.specs.Held.{Held}
 use Rattle.mq_log.specs.State.{LogState, log_length}
@@ -12,7 +12,8 @@ use Rattle.mq_core.specs.declared.parts.StoppedWrite.TheVariants as writes
 use Rattle.mq_core.specs.declared.parts.Mode.{Mode}
 use Rattle.mq_core.specs.declared.parts.Mode.TheVariants as modes
 use Rattle.mq_core.specs.declared.parts.ChannelEnds.{ChannelEnds}
-use Rattle.mq_core.specs.Writes.{now_part, ended_part, gone_part}
+use Rattle.mq_spec_agents.specs.Words.{harden_part, move_part}
+use Rattle.mq_core.specs.Writes.{now_part, ended_part, gone_part, batch_part}
 
 -- the parts, with the room that was taken
 pub record PartsValue : Type 0 where
@@ -54,12 +55,19 @@ abbrev pub noted_commit : Bool → Option Connection → Option Noted
 noted_commit ends None = None
 noted_commit ends (Some c) = noted_part (ended_part ends c)
 
+abbrev pub noted_batch : List ℕ → ℕ → Option Batch → Plain → Option Noted
+noted_batch channel last None frozen = None
+noted_batch channel last (Some b) frozen = noted_part (batch_part channel last b frozen)
+
 abbrev pub noted : Plain → Option StoppedWrite → Option Noted
 noted frozen None = None
 noted frozen (Some (writes.Put queue message)) = noted_part (now_part queue message)
 noted frozen (Some (writes.Commit number ends)) = noted_commit ends (connection_at number frozen.connections)
 noted frozen (Some (writes.Removal queue removes idents why)) = noted_part (gone_part queue removes idents why)
 noted frozen (Some (writes.Objects planned)) = noted_part (object_part planned frozen.definitions)
+noted frozen (Some (writes.Hardened channel note)) = noted_part (harden_part channel note frozen)
+noted frozen (Some (writes.Prepared channel last)) = noted_batch channel last (batch_of channel frozen.channels.batches) frozen
+noted frozen (Some (writes.Moved from target bare to message)) = noted_part (move_part from target bare (record { queue = to; message = message; dead = None }))
 
 abbrev pub running_of : Plain → Mode → Running
 running_of frozen modes.Up = Up

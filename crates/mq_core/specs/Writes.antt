@@ -1,11 +1,12 @@
 -- The parts of calls that are written to the log.
 use Rattle.std.specs.Prelude.{ℕ, Bool, true, false, List, [], ◌∷◌, map, Some, None}
-use Rattle.mq_spec_state.specs.Words.{Ident, Message, Connection, Part, Change, LogRecord, Remove, Among}
+use Rattle.mq_spec_state.specs.Words.{Ident, Message, Connection, Part, Change, LogRecord, Remove, Among, Batch, Plain, sender_or, sender_data}
 use Rattle.mq_calls.specs.declared.deltas.Did.TheVariants as did
 use Rattle.mq_calls.specs.declared.records.LogRecord.TheVariants as records
 use Rattle.mq_calls.specs.declared.deltas.Why.{Why}
 use Rattle.mq_spec_state.specs.State.Change.{Disconnect, CountIdent, Leave}
 use Rattle.mq_spec_manager.specs.Words.{placed, unit_record, commit_part}
+use Rattle.mq_spec_agents.specs.Words.{prepared_record, prepared_changes}
 
 -- the record that adds one message
 abbrev pub added : List ℕ → Message → LogRecord
@@ -29,4 +30,12 @@ gone_part queue removes idents why = record {
   forced = Some (records.Unit [] removes);
   changes = Leave (Among queue idents) ∷ [];
   delta = map (λ (i : Ident). did.Removed queue i why) idents;
+}
+
+-- a batch becomes the unit in doubt of its channel, as mq_spec_agents' `prepare`
+abbrev pub batch_part : List ℕ → ℕ → Batch → Plain → Part
+batch_part channel last b p = record {
+  forced = Some (prepared_record channel last b);
+  changes = prepared_changes channel last b (sender_or (sender_data channel p));
+  delta = did.Prepared channel b.unit ∷ [];
 }

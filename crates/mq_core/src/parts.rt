@@ -1,10 +1,10 @@
 //! The parts of a queue manager, as its code keeps them.
 use mq_base::Items;
-use mq_calls::{Batch, ReceiverSide, Remove, Seizure, SenderSide, Why};
+use mq_calls::{Batch, Note, ReceiverSide, Remove, Seizure, SenderSide, Why};
 use mq_disk::Disk;
 use mq_handles::Live;
 use mq_log::Log;
-use mq_message::{Ident, Message};
+use mq_message::{Dest, Ident, Message};
 use mq_name::{ChName, QName};
 use mq_objects::Defs;
 use mq_place::Queues;
@@ -39,6 +39,25 @@ pub enum StoppedWrite {
     /// A change of objects by a command.
     Objects {
         planned: Planned,
+    },
+    /// What a channel's end hardened beside its messages; not that a unit was settled.
+    Hardened {
+        channel: ChName,
+        note: Note,
+    },
+    /// A batch that becomes the unit in doubt, with its last sequence number.
+    Prepared {
+        channel: ChName,
+        last: u32,
+    },
+    /// A row that goes from one queue to another by a rule that has this target, without its header where `bare`.
+    Moved {
+        from: QName,
+        target: Dest,
+        bare: bool,
+        /// The queue that it goes to, and the message as it stands there.
+        to: QName,
+        message: Message,
     },
 }
 

@@ -1,0 +1,303 @@
+-- Records that channel ends force: what stands behind them, and what a stopped one leaves.
+use Rattle.std.proofs.Common.{◌≡◌, ℕ, ◌+◌, ◌-◌, ◌<◌, ◌≤◌, Bool, true, false, List, [], ◌∷◌, ◌++◌, length, refl, ap, arith, sym, subst, ◌∙◌}
+use Rattle.std.specs.Prelude.{Option, Some, None, Result, Ok, Err, OnOk}
+use Rattle.std.proofs.lemmas.List.{append-nil}
+use Rattle.mq_base.specs.Outside.{Rose}
+use Rattle.mq_disk.specs.declared.cutter.Stop.{Stop}
+use Rattle.mq_disk.specs.declared.cutter.Stop.TheVariants as stops
+use Rattle.mq_sync.specs.declared.data.End.TheVariants as sync_ends
+use Rattle.mq_log.specs.State.{LogState, Appended}
+use Rattle.mq_log.specs.Force.{Stops}
+use Rattle.mq_record.specs.Records.{record_bytes}
+use Rattle.mq_spec_state.specs.Words.{Plain, Part, Change, Did, Note, LogRecord, ManagerValue, Wants, MeetsDone, MeetsOrWants, Do, Halt, AgentStop, Noted, record_size, need, logged, apply, apply_all, freeze, note_of}
+use Rattle.mq_calls.specs.declared.agents.Note.TheVariants as notes
+use Rattle.mq_calls.specs.declared.agents.AgentStop.TheVariants as agent_stops
+use Rattle.mq_calls.specs.declared.commands.Halt.TheVariants as halts
+use Rattle.mq_calls.specs.declared.deltas.Did.TheVariants as did
+use Rattle.mq_spec_state.specs.Meeting.Wants.{Anywhere}
+use Rattle.mq_spec_manager.specs.Words.{Never}
+use Rattle.mq_spec_agents.specs.Words.{harden, harden_part}
+use Rattle.mq_core.specs.declared.parts.ChannelEnds.{ChannelEnds}
+use Rattle.mq_core.specs.declared.parts.StoppedWrite.{StoppedWrite}
+use Rattle.mq_core.specs.declared.parts.StoppedWrite.TheVariants as writes
+use Rattle.mq_core.specs.Views.{PartsValue, plain_of, frozen_of, channels_of, noted}
+use Rattle.mq_core.specs.Ties.{Tied, mode_is_up}
+use Rattle.mq_core.specs.Forced.{IsForced, HasMoreRoom, downed}
+use Rattle.mq_core.proofs.PutLaws.{tied_roomier, roomier_view}
+use Rattle.mq_agents.specs.Removing.{IsRoomy}
+use Rattle.mq_core.proofs.ForceLaws.{forced_view, frozen_view, tied_downed, stops_at}
+use Rattle.mq_agents.specs.Ends.{halt_of, stopped_agent}
+use Rattle.mq_agents.specs.Written.{IsWritten, IsDowned, Writes, agent_of, stop_of, with_senders, with_receivers, note_record, noted_change}
+use Rattle.mq_agents.specs.declared.hardening.Unwritten.{Unwritten}
+use Rattle.mq_agents.specs.declared.hardening.Unwritten.TheVariants as unwritten
+use Rattle.mq_agents.specs.Ends.{by_agent}
+use Rattle.mq_spec_state.specs.Words.{SenderSide, ReceiverSide, set_sender, set_receiver}
+use Rattle.mq_spec_state.specs.State.Change.{SetSender, SetReceiver}
+use Rattle.mq_agents.proofs.EndLaws.{with_ends, ends_view}
+
+with_log : LogState → PartsValue → PartsValue
+with_log log x = record x { log = log }
+
+-- without what it says of an end
+forced_as : (r : LogRecord) (bytes : List ℕ) (e : ChannelEnds) (x y : PartsValue) (result : Result (Unit {0}) Stop) → bytes ≡ record_bytes r → length bytes ≡ record_size r → IsWritten bytes e x result y → IsForced r x result (with_log y.log x)
+unfolding with_log
+forced_as r bytes e x y result is size w =
+    let whole : 5 + length bytes ≡ need r = ap (λ (n : ℕ). 5 + n) size in
+    record {
+      same = refl;
+      log = subst (λ (b : List ℕ). Appended x.log b result y.log) is w.log;
+      size = ap length (sym is) ∙ size;
+      ends = w.calls;
+      room = subst (λ (n : ℕ). OnOk result (x.log.room ≤ y.log.room + n)) whole w.room;
+      body = omega arith;
+      later = w.later;
+      disk = w.disk;
+    }
+
+with_channels : ChannelEnds → Plain → Plain
+with_channels e p = record p { channels = channels_of e }
+
+pub hardened_view : (r : LogRecord) (bytes : List ℕ) (e : ChannelEnds) (x y : PartsValue) → mode_is_up x.mode ≡ true → bytes ≡ record_bytes r → length bytes ≡ record_size r → IsWritten bytes e x (Ok tt) y
+    → plain_of y ≡ record (logged (Some r) (plain_of x)) { channels = channels_of e }
+unfolding with_log with_ends with_channels
+hardened_view r bytes e x y up is size w =
+    ap plain_of w.same ∙ ends_view e (with_log y.log x) up ∙ ap (with_channels e) (forced_view r x (with_log y.log x) (forced_as r bytes e x y (Ok tt) is size w))
+
+pub hardened_tied : (bytes : List ℕ) (e : ChannelEnds) (x y : PartsValue) → IsWritten bytes e x (Ok tt) y → Tied x → Tied y
+hardened_tied bytes e x y w t =
+    let live = ap (λ (l : LogState). l.live) w.log in
+    let settled = ap (λ (l : LogState). l.pending) w.log in
+    let reserved = ap (λ (l : LogState). l.reserved) w.log in
+    let most = ap (λ (l : LogState). l.max) w.log in
+    subst Tied (sym w.same) (record {
+      up = λ u. let old = t.up u in record { live = live ∙ old.live; settled = settled ∙ old.settled; room = omega (arith, reserved, w.enough); body = omega (arith, reserved, old.body) };
+      reserved = reserved ∙ t.reserved;
+      within = omega (arith, reserved, most, t.within);
+      queues = record { lanes = t.queues.lanes; pending = t.queues.pending };
+      idents = record { once = t.idents.once; given = t.idents.given };
+      forced = t.forced;
+      max = omega (arith, most, t.max);
+      moment = t.moment;
+    })
+
+-- the write was stopped
+downed_by : StoppedWrite → PartsValue → PartsValue
+downed_by write y = downed write y
+
+pub down_view : (write : StoppedWrite) (r : LogRecord) (bytes : List ℕ) (stop : Stop) (x y : PartsValue) → bytes ≡ record_bytes r → length bytes ≡ record_size r → IsWritten bytes x.ends x (Err stop) y
+    → plain_of (downed write y) ≡ freeze (noted (frozen_of x) (Some write)) y.log.armed (plain_of x)
+unfolding with_log downed_by
+down_view write r bytes stop x y is size w =
+    ap (λ (z : PartsValue). plain_of (downed_by write z)) w.same ∙ frozen_view write r x (with_log y.log x) stop (forced_as r bytes x.ends x y (Err stop) is size w)
+
+pub down_tied : (write : StoppedWrite) (r : LogRecord) (bytes : List ℕ) (stop : Stop) (x y : PartsValue) → bytes ≡ record_bytes r → length bytes ≡ record_size r → IsWritten bytes x.ends x (Err stop) y → Tied x → Tied (downed write y)
+unfolding with_log downed_by
+down_tied write r bytes stop x y is size w t =
+    subst (λ (z : PartsValue). Tied (downed_by write z)) (sym w.same) (tied_downed write r [] x (with_log y.log x) stop (forced_as r bytes x.ends x y (Err stop) is size w) t)
+
+-- What is noted is read of the ends of channels alone.
+two_one : {A : Type 0} (a b c : A) → a ∷ b ∷ [] ≡ c ∷ [] → ⊥
+two_one a b c e = let n = ap length e in absurd (omega (arith, n))
+
+frozen_part : (channel : List ℕ) (note : Note) (change : Change) (x : PartsValue) → harden_part channel note (plain_of x) ≡ noted_change channel note change → harden_part channel note (frozen_of x) ≡ harden_part channel note (plain_of x)
+frozen_part channel (notes.Session partner session) change x e = refl
+frozen_part channel (notes.Resolved unit commit operator) change x e = absurd (two_one _ _ _ (ap (λ (part : Part). part.changes) e))
+frozen_part channel (notes.Bound partner session last) change x e = refl
+frozen_part channel (notes.Closed session) change x e = refl
+frozen_part channel (notes.SeqSet sync_ends.Sender last) change x e = refl
+frozen_part channel (notes.SeqSet sync_ends.Receiver last) change x e = refl
+
+note_of_part : Part → Option Noted
+note_of_part part = note_of part part.forced
+
+pub noted_as : (channel : List ℕ) (note : Note) (change : Change) (x : PartsValue) → harden_part channel note (plain_of x) ≡ noted_change channel note change
+    → noted (frozen_of x) (Some (writes.Hardened channel note)) ≡ note_of (noted_change channel note change) (Some (note_record channel note))
+unfolding note_of_part
+noted_as channel note change x e = ap note_of_part (frozen_part channel note change x e ∙ e)
+
+pub halt_stopped : {F : Type 0} (stop : Stop) → halt_of {F = F} (stopped_agent stop) ≡ halts.Stopped stop
+halt_stopped stops.Cut = refl
+halt_stopped stops.Disk = refl
+
+-- how the step ends
+pub hardened_meets : (v new : ManagerValue) (channel : List ℕ) (note : Note) (change : Change) → harden_part channel note v.plain ≡ noted_change channel note change
+    → new.plain ≡ apply change (logged (Some (note_record channel note)) v.plain) → new.delta ≡ did.Hardened channel note ∷ [] → new.stopped ≡ None → v.faults ≤ new.faults → (0 < v.plain.log.armed → 4 < v.plain.log.armed)
+    → MeetsOrWants v (harden channel note v.plain) (Ok tt) new
+hardened_meets v new channel note change e plain told stopped faults ran =
+    subst (λ (part : Part). MeetsOrWants {F = Never} {T = Unit {0}} v (Do tt (part ∷ [])) (Ok tt) new) (sym e)
+    (refl, ran, faults, (λ i. record { plain = plain i; delta = told i; stopped = stopped i; faults = new.faults }))
+
+pub hardening_stops : (v new : ManagerValue) (channel : List ℕ) (note : Note) (change : Change) (stop : Stop) (halt : Halt Never) → halt ≡ halts.Stopped stop → harden_part channel note v.plain ≡ noted_change channel note change
+    → new.plain ≡ freeze (note_of (noted_change channel note change) (Some (note_record channel note))) new.plain.log.armed v.plain → new.delta ≡ [] → new.stopped ≡ Some stop
+    → Stops v.plain.log.armed (Err stop) new.plain.log.armed → v.faults ≤ new.faults → (stop ≡ stops.Disk → Rose v.faults new.faults)
+    → MeetsOrWants v (harden channel note v.plain) (Err halt) new
+hardening_stops v new channel note change stop halt is e plain told stopped ends later rose =
+    subst (λ (h : Halt Never). MeetsOrWants v (harden channel note v.plain) (Err h) new) (sym is)
+    (subst (λ (part : Part). MeetsOrWants {F = Never} {T = Unit {0}} v (Do tt (part ∷ [])) (Err (halts.Stopped stop)) new) (sym e)
+    (record { part = 0; write = refl; stop = stops_at stop v.plain.log.armed new.plain.log.armed ends; next = (λ i. record { plain = plain i; delta = told i; stopped = stopped i; faults = new.faults }); later = later; rose = rose }))
+
+-- Any write of a call of one part.
+pub wrote_as : (F : Type 0) {T : Type 0} (wants : Wants) (v new : ManagerValue) (reply : T) (value : T) (r : LogRecord) (changes : List Change) (delta : List Did)
+    → value ≡ reply → new.plain ≡ apply_all changes (logged (Some r) v.plain) → new.delta ≡ delta → new.stopped ≡ None → v.faults ≤ new.faults → (0 < v.plain.log.armed → 4 < v.plain.log.armed)
+    → MeetsDone {F = F} wants v reply (record { forced = Some r; changes = changes; delta = delta } ∷ []) (Ok value) new
+wrote_as F wants v new reply value r changes delta is plain told stopped faults ran =
+    let all = told ∙ sym (append-nil delta) in
+    (is, ran, faults, (λ i. record { plain = plain i; delta = all i; stopped = stopped i; faults = new.faults }))
+
+pub broke_as : {F T : Type 0} (wants : Wants) (v new : ManagerValue) (reply : T) (r : LogRecord) (changes : List Change) (delta : List Did) (stop : Stop) (halt : Halt F) → halt ≡ halts.Stopped stop
+    → new.plain ≡ freeze (Some (record { written = r; changes = changes; delta = delta })) new.plain.log.armed v.plain → new.delta ≡ [] → new.stopped ≡ Some stop
+    → Stops v.plain.log.armed (Err stop) new.plain.log.armed → v.faults ≤ new.faults → (stop ≡ stops.Disk → Rose v.faults new.faults)
+    → MeetsDone wants v reply (record { forced = Some r; changes = changes; delta = delta } ∷ []) (Err halt) new
+broke_as {F} wants v new reply r changes delta stop halt is plain told stopped ends later rose =
+    subst (λ (h : Halt F). MeetsDone wants v reply (record { forced = Some r; changes = changes; delta = delta } ∷ []) (Err h) new) (sym is)
+    (record { part = 0; write = refl; stop = stops_at stop v.plain.log.armed new.plain.log.armed ends; next = (λ i. record { plain = plain i; delta = told i; stopped = stopped i; faults = new.faults }); later = later; rose = rose })
+
+-- Room was taken, and then a record was forced.
+pub roomy_more : (n : ℕ) (x y : PartsValue) → IsRoomy n x y → HasMoreRoom x y
+roomy_more n x y h = record { same = h.same; log = h.more; body = omega (arith, h.body) }
+
+pub forced_tied : (r : LogRecord) (x y z : PartsValue) → IsRoomy (need r) x y → IsForced r y (Ok tt) z → Tied x → Tied z
+forced_tied r x y z h f t =
+    let s = tied_roomier x y (roomy_more (need r) x y h) t in
+    let live = ap (λ (l : LogState). l.live) f.log in
+    let settled = ap (λ (l : LogState). l.pending) f.log in
+    let reserved = ap (λ (l : LogState). l.reserved) f.log in
+    let before = ap (λ (p : PartsValue). p.log.reserved) h.same in
+    let most = ap (λ (l : LogState). l.max) f.log in
+    subst Tied (sym f.same) (record {
+      up = λ u. let old = s.up u in record { live = live ∙ old.live; settled = settled ∙ old.settled; room = omega (arith, reserved, before, h.log, f.room); body = omega (arith, reserved, old.body, f.body) };
+      reserved = reserved ∙ s.reserved;
+      within = omega (arith, reserved, most, s.within);
+      queues = record { lanes = s.queues.lanes; pending = s.queues.pending };
+      idents = record { once = s.idents.once; given = s.idents.given };
+      forced = s.forced;
+      max = omega (arith, most, s.max);
+      moment = s.moment;
+    })
+
+with_record : LogRecord → Plain → Plain
+with_record r p = logged (Some r) p
+
+pub forced_seen : (r : LogRecord) (n : ℕ) (x y z : PartsValue) → IsRoomy n x y → IsForced r y (Ok tt) z → plain_of z ≡ logged (Some r) (plain_of x)
+unfolding with_record
+forced_seen r n x y z h f = forced_view r y z f ∙ ap (with_record r) (roomier_view x y (roomy_more n x y h))
+
+pub forced_mode : (r : LogRecord) (n : ℕ) (x y z : PartsValue) (result : Result (Unit {0}) Stop) → IsRoomy n x y → IsForced r y result z → z.mode ≡ x.mode
+forced_mode r n x y z result h f = ap (λ (p : PartsValue). p.mode) f.same ∙ ap (λ (p : PartsValue). p.mode) h.same
+
+freeze_at : StoppedWrite → ℕ → PartsValue → Plain
+freeze_at write armed x = freeze (noted (frozen_of x) (Some write)) armed (plain_of x)
+
+pub stopped_seen : (write : StoppedWrite) (r : LogRecord) (n : ℕ) (stop : Stop) (x y z : PartsValue) → IsRoomy n x y → IsForced r y (Err stop) z → plain_of (downed write z) ≡ freeze (noted (frozen_of x) (Some write)) z.log.armed (plain_of x)
+unfolding freeze_at
+stopped_seen write r n stop x y z h f = frozen_view write r y z stop f ∙ ap (freeze_at write z.log.armed) h.same
+
+pub stopped_tied : (write : StoppedWrite) (r : LogRecord) (n : ℕ) (stop : Stop) (x y z : PartsValue) → IsRoomy n x y → IsForced r y (Err stop) z → Tied x → Tied (downed write z)
+stopped_tied write r n stop x y z h f t = tied_downed write r [] y z stop f (tied_roomier x y (roomy_more n x y h) t)
+
+-- A note that was not hardened: there was no memory, or its write was stopped.
+pub unwritten_tied : (u : Unwritten) (channel : List ℕ) (note : Note) (bytes : List ℕ) (e : ChannelEnds) (x z : PartsValue) → bytes ≡ record_bytes (note_record channel note) → length bytes ≡ record_size (note_record channel note)
+    → Writes bytes e (writes.Hardened channel note) x (Err u) z → Tied x → Tied z
+unwritten_tied unwritten.NoMemory channel note bytes e x z is size w t = tied_roomier x z w t
+unwritten_tied (unwritten.Stopped stop) channel note bytes e x z is size w t =
+    subst Tied (sym w.down) (down_tied (writes.Hardened channel note) (note_record channel note) bytes stop x w.at is size w.is t)
+
+note_frozen : List ℕ → Note → Change → ℕ → Plain → Plain
+note_frozen channel note change armed p = freeze (note_of (noted_change channel note change) (Some (note_record channel note))) armed p
+
+ends_by : (u : Unwritten) (v : ManagerValue) (x z : PartsValue) (told : List Did) (channel : List ℕ) (note : Note) (change : Change) (bytes : List ℕ) (e : ChannelEnds)
+    → bytes ≡ record_bytes (note_record channel note) → length bytes ≡ record_size (note_record channel note) → Writes bytes e (writes.Hardened channel note) x (Err u) z
+    → plain_of x ≡ v.plain → harden_part channel note v.plain ≡ noted_change channel note change → x.log.faults ≡ v.faults → told ≡ []
+    → MeetsOrWants v (harden channel note v.plain) (by_agent (Err (agent_of u))) (record { plain = plain_of z; delta = told; stopped = stop_of u; faults = z.log.faults })
+unfolding note_frozen
+ends_by unwritten.NoMemory v x z told channel note change bytes e is size w plain part faults none =
+    let seen = roomier_view x z w ∙ plain in
+    let failed = ap (λ (p : PartsValue). p.log.faults) w.same ∙ faults in
+    λ i. record { plain = seen i; delta = none i; stopped = None; faults = failed i }
+ends_by (unwritten.Stopped stop) v x z told channel note change bytes e is size w plain part faults none =
+    let y = w.at in
+    let armed : z.log.armed ≡ y.log.armed = ap (λ (p : PartsValue). p.log.armed) w.down in
+    let failed : z.log.faults ≡ y.log.faults = ap (λ (p : PartsValue). p.log.faults) w.down in
+    let before : x.log.armed ≡ v.plain.log.armed = ap (λ (p : Plain). p.log.armed) plain in
+    let here : harden_part channel note (plain_of x) ≡ noted_change channel note change = ap (harden_part channel note) plain ∙ part in
+    let frozen = ap plain_of w.down ∙ down_view (writes.Hardened channel note) (note_record channel note) bytes stop x y is size w.is
+    ∙ ap (λ (n : Option Noted). freeze n y.log.armed (plain_of x)) (noted_as channel note change x here) ∙ ap (note_frozen channel note change y.log.armed) plain ∙ ap (λ (n : ℕ). note_frozen channel note change n v.plain) (sym armed) in
+    hardening_stops v (record { plain = plain_of z; delta = told; stopped = Some stop; faults = z.log.faults }) channel note change stop (halt_of (stopped_agent stop)) (halt_stopped stop) part frozen none refl
+    (subst (λ (n : ℕ). Stops n (Err stop) z.log.armed) before (subst (λ (n : ℕ). Stops x.log.armed (Err stop) n) (sym armed) w.is.calls))
+    (omega (arith, faults, failed, w.is.later))
+    (λ d. subst (λ (n : ℕ). Rose n z.log.faults) faults (subst (λ (n : ℕ). Rose x.log.faults n) (sym failed) (w.is.disk (ap (λ (s : Stop). Err s) d))))
+
+pub hardening_ends : (u : Unwritten) (v : ManagerValue) (x z : PartsValue) (told : List Did) (channel : List ℕ) (note : Note) (change : Change) (bytes : List ℕ) (e : ChannelEnds) (agent : AgentStop) (stopped : Option Stop)
+    → agent ≡ agent_of u → stopped ≡ stop_of u
+    → bytes ≡ record_bytes (note_record channel note) → length bytes ≡ record_size (note_record channel note) → Writes bytes e (writes.Hardened channel note) x (Err u) z
+    → plain_of x ≡ v.plain → harden_part channel note v.plain ≡ noted_change channel note change → x.log.faults ≡ v.faults → told ≡ []
+    → MeetsOrWants v (harden channel note v.plain) (by_agent (Err agent)) (record { plain = plain_of z; delta = told; stopped = stopped; faults = z.log.faults })
+hardening_ends u v x z told channel note change bytes e agent stopped a s is size w plain part faults none =
+    subst (λ (a : AgentStop). MeetsOrWants v (harden channel note v.plain) (by_agent (Err a)) (record { plain = plain_of z; delta = told; stopped = stopped; faults = z.log.faults })) (sym a)
+    (subst (λ (o : Option Stop). MeetsOrWants v (harden channel note v.plain) (by_agent (Err (agent_of u))) (record { plain = plain_of z; delta = told; stopped = o; faults = z.log.faults })) (sym s)
+    (ends_by u v x z told channel note change bytes e is size w plain part faults none))
+
+-- A note that was hardened, of a sender, of a receiver.
+with_sender_data : LogRecord → SenderSide → Plain → Plain
+with_sender_data r side p = record (logged (Some r) p) { channels = record p.channels { senders = set_sender side p.channels.senders } }
+
+with_receiver_data : LogRecord → ReceiverSide → Plain → Plain
+with_receiver_data r side p = record (logged (Some r) p) { channels = record p.channels { receivers = set_receiver side p.channels.receivers } }
+
+pub sender_hardened : (r : LogRecord) (bytes : List ℕ) (side : SenderSide) (channel : List ℕ) (x y : PartsValue) (p : Plain) → mode_is_up x.mode ≡ true → bytes ≡ record_bytes r → length bytes ≡ record_size r
+    → IsWritten bytes (with_senders (set_sender side x.ends.senders) x.ends) x (Ok tt) y → side.channel ≡ channel → plain_of x ≡ p → plain_of y ≡ apply (SetSender channel side.hardened) (logged (Some r) p)
+unfolding with_sender_data
+sender_hardened r bytes side channel x y p up is size w named plain =
+    hardened_view r bytes (with_senders (set_sender side x.ends.senders) x.ends) x y up is size w
+    ∙ ap (with_sender_data r side) plain
+    ∙ ap (λ (c : List ℕ). with_sender_data r (record side { channel = c }) p) named
+
+pub receiver_hardened : (r : LogRecord) (bytes : List ℕ) (side : ReceiverSide) (channel : List ℕ) (x y : PartsValue) (p : Plain) → mode_is_up x.mode ≡ true → bytes ≡ record_bytes r → length bytes ≡ record_size r
+    → IsWritten bytes (with_receivers (set_receiver side x.ends.receivers) x.ends) x (Ok tt) y → side.channel ≡ channel → plain_of x ≡ p → plain_of y ≡ apply (SetReceiver channel side.hardened) (logged (Some r) p)
+unfolding with_receiver_data
+receiver_hardened r bytes side channel x y p up is size w named plain =
+    hardened_view r bytes (with_receivers (set_receiver side x.ends.receivers) x.ends) x y up is size w
+    ∙ ap (with_receiver_data r side) plain
+    ∙ ap (λ (c : List ℕ). with_receiver_data r (record side { channel = c }) p) named
+
+-- A record that was not written, of any call of one part: there was no memory, or its write was stopped.
+freeze_noted : Noted → ℕ → Plain → Plain
+freeze_noted n armed p = freeze (Some n) armed p
+
+part_ends : (F : Type 0) {T : Type 0} (u : Unwritten) (v : ManagerValue) (x y z : PartsValue) (told : List Did) (write : StoppedWrite) (r : LogRecord) (changes : List Change) (delta : List Did) (reply : T) (bytes : List ℕ) (e : ChannelEnds)
+    → HasMoreRoom x y → bytes ≡ record_bytes r → length bytes ≡ record_size r → Writes bytes e write y (Err u) z → noted (frozen_of x) (Some write) ≡ Some (record { written = r; changes = changes; delta = delta })
+    → plain_of x ≡ v.plain → x.log.faults ≡ v.faults → told ≡ []
+    → MeetsDone {F = F} Anywhere v reply (record { forced = Some r; changes = changes; delta = delta } ∷ []) (Err (halt_of {F = F} (agent_of u))) (record { plain = plain_of z; delta = told; stopped = stop_of u; faults = z.log.faults })
+unfolding freeze_noted
+part_ends F unwritten.NoMemory v x y z told write r changes delta reply bytes e m is size w note plain faults none =
+    let seen = roomier_view y z w ∙ roomier_view x y m ∙ plain in
+    let failed = ap (λ (p : PartsValue). p.log.faults) w.same ∙ ap (λ (p : PartsValue). p.log.faults) m.same ∙ faults in
+    λ i. record { plain = seen i; delta = none i; stopped = None; faults = failed i }
+part_ends F (unwritten.Stopped stop) v x y z told write r changes delta reply bytes e m is size w note plain faults none =
+    let k = w.at in
+    let n : Noted = record { written = r; changes = changes; delta = delta } in
+    let armed : z.log.armed ≡ k.log.armed = ap (λ (p : PartsValue). p.log.armed) w.down in
+    let failed : z.log.faults ≡ k.log.faults = ap (λ (p : PartsValue). p.log.faults) w.down in
+    let before : y.log.armed ≡ v.plain.log.armed = ap (λ (p : PartsValue). p.log.armed) m.same ∙ ap (λ (p : Plain). p.log.armed) plain in
+    let had : y.log.faults ≡ v.faults = ap (λ (p : PartsValue). p.log.faults) m.same ∙ faults in
+    let frozen = ap plain_of w.down ∙ down_view write r bytes stop y k is size w.is
+    ∙ ap (λ (p : PartsValue). freeze (noted (frozen_of p) (Some write)) k.log.armed (plain_of p)) m.same
+    ∙ ap (λ (o : Option Noted). freeze o k.log.armed (plain_of x)) note ∙ ap (freeze_noted n k.log.armed) plain ∙ ap (λ (a : ℕ). freeze_noted n a v.plain) (sym armed) in
+    broke_as Anywhere v (record { plain = plain_of z; delta = told; stopped = Some stop; faults = z.log.faults }) reply r changes delta stop (halt_of {F = F} (stopped_agent stop)) (halt_stopped {F = F} stop) frozen none refl
+    (subst (λ (a : ℕ). Stops a (Err stop) z.log.armed) before (subst (λ (a : ℕ). Stops y.log.armed (Err stop) a) (sym armed) w.is.calls))
+    (omega (arith, had, failed, w.is.later))
+    (λ d. subst (λ (a : ℕ). Rose a z.log.faults) had (subst (λ (a : ℕ). Rose y.log.faults a) (sym failed) (w.is.disk (ap (λ (s : Stop). Err s) d))))
+
+pub unwritten_ends : (F : Type 0) {T : Type 0} (u : Unwritten) (v : ManagerValue) (x y z : PartsValue) (told : List Did) (write : StoppedWrite) (r : LogRecord) (changes : List Change) (delta : List Did) (reply : T) (bytes : List ℕ) (e : ChannelEnds)
+    → (agent : AgentStop) (stopped : Option Stop) → agent ≡ agent_of u → stopped ≡ stop_of u
+    → HasMoreRoom x y → bytes ≡ record_bytes r → length bytes ≡ record_size r → Writes bytes e write y (Err u) z → noted (frozen_of x) (Some write) ≡ Some (record { written = r; changes = changes; delta = delta })
+    → plain_of x ≡ v.plain → x.log.faults ≡ v.faults → told ≡ []
+    → MeetsDone {F = F} Anywhere v reply (record { forced = Some r; changes = changes; delta = delta } ∷ []) (Err (halt_of {F = F} agent)) (record { plain = plain_of z; delta = told; stopped = stopped; faults = z.log.faults })
+unwritten_ends F u v x y z told write r changes delta reply bytes e agent stopped a s m is size w note plain faults none =
+    subst (λ (k : AgentStop). MeetsDone {F = F} Anywhere v reply (record { forced = Some r; changes = changes; delta = delta } ∷ []) (Err (halt_of {F = F} k)) (record { plain = plain_of z; delta = told; stopped = stopped; faults = z.log.faults })) (sym a)
+    (subst (λ (o : Option Stop). MeetsDone {F = F} Anywhere v reply (record { forced = Some r; changes = changes; delta = delta } ∷ []) (Err (halt_of {F = F} (agent_of u))) (record { plain = plain_of z; delta = told; stopped = o; faults = z.log.faults })) (sym s)
+    (part_ends F u v x y z told write r changes delta reply bytes e m is size w note plain faults none))
+
+pub tied_after : (u : Unwritten) (x y z : PartsValue) (write : StoppedWrite) (r : LogRecord) (bytes : List ℕ) (e : ChannelEnds) → HasMoreRoom x y → bytes ≡ record_bytes r → length bytes ≡ record_size r → Writes bytes e write y (Err u) z → Tied x → Tied z
+tied_after unwritten.NoMemory x y z write r bytes e m is size w t = tied_roomier y z w (tied_roomier x y m t)
+tied_after (unwritten.Stopped stop) x y z write r bytes e m is size w t = subst Tied (sym w.down) (down_tied write r bytes stop y w.at is size w.is (tied_roomier x y m t))
