@@ -1,2 +1,5 @@
+pub mod Holding
 pub mod Releasing
+pub mod Settling
 pub mod Stopping
+pub mod Wording

@@ -31,10 +31,10 @@ use Rattle.mq_law_batches.specs.Releases.{release_changes}
 
 pub record IsNear (p q : Plain) : Type 0 where
   pub given : q.given ≡ p.given
-  pub receivers : q.channels.receivers ≡ p.channels.receivers
+  pub receivers : (c : List ℕ) → last_unit_of (receiver_in c q.channels.receivers) ≡ last_unit_of (receiver_in c p.channels.receivers)
 
 last_at : (c : List ℕ) (p q : Plain) (o r : Option Plain) → IsNear p q → o ≡ Some p → r ≡ Some q → last_unit_at c r ≡ last_unit_at c o
-last_at c p q o r e x y = ap (last_unit_at c) y ∙ (λ i. last_unit_of (receiver_in c (e.receivers i))) ∙ ap (last_unit_at c) (sym x)
+last_at c p q o r e x y = ap (last_unit_at c) y ∙ e.receivers c ∙ ap (last_unit_at c) (sym x)
 
 last_same : (m : ℕ) (p q : Plain) (ps qs : List Plain) (c : List ℕ) (x : Option CableLine) → IsNext m p q ps qs → IsNear p q → last_unit qs c x ≡ last_unit ps c x
 last_same m p q ps qs c None n e = refl
@@ -90,7 +90,7 @@ released_world s given m p ps qs c n none = λ i. record {
   given = given;
   holds = λ a d. holds a d i;
   doubt = λ a d. doubt a d i;
-  last = λ a d. lasts s m p (apply_all (release_changes c) p) ps qs d a n (record { given = refl; receivers = refl }) i;
+  last = λ a d. lasts s m p (apply_all (release_changes c) p) ps qs d a n (record { given = refl; receivers = λ c. refl }) i;
 }
   where
     q : Plain

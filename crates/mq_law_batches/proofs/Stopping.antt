@@ -46,7 +46,7 @@ same_world s given m p ps qs n = λ i. record {
   given = given;
   holds = λ a c. holds_of c (at a i);
   doubt = λ a c. doubt_of c (at a i);
-  last = λ a c. sym (lasts s m p p ps qs c a n (record { given = refl; receivers = refl })) i;
+  last = λ a c. sym (lasts s m p p ps qs c a n (record { given = refl; receivers = λ c. refl })) i;
 }
   where
     at : (a : ℕ) → slice_get ps a ≡ slice_get qs a
@@ -65,7 +65,7 @@ all_release (b ∷ bs) s given m p ps qs g k n alone apart h =
     let n1 : IsNext m p one ps mid = record { at = n.at; to = here_changed m (λ x. one) ps p n.at; others = λ a e. else_changed m a (λ x. one) ps e } in
     let n2 : IsNext m one (let_go bs one) mid qs = record { at = n1.to; to = n.to; others = λ a e. n.others a e ∙ sym (n1.others a e) } in
     let rest = all_release bs s given m one mid qs (after g (freed g m b.channel)) k n2 (λ x i. alone x (inr i))
-    (λ c x e f. apart c x (kept_batch (bytes_eq c b.channel) (batch_of c p.channels.batches) x (sym (batch_dropped c b.channel p.channels.batches) ∙ e)) (sym (last_here s m p one ps mid c n1 (record { given = refl; receivers = refl })) ∙ f))
+    (λ c x e f. apart c x (kept_batch (bytes_eq c b.channel) (batch_of c p.channels.batches) x (sym (batch_dropped c b.channel p.channels.batches) ∙ e)) (sym (last_here s m p one ps mid c n1 (record { given = refl; receivers = λ c. refl })) ∙ f))
     (releases s given m p ps mid b.channel g k n1 (alone b (inl refl)) (λ x e. apart b.channel x e) h) in
     record { ghost = rest.ghost; sent = rest.sent; source = rest.source; operated = rest.operated; inv = rest.inv }
 

@@ -1,13 +1,19 @@
--- Batches that are not prepared are released: one, and all of a manager as a stop does.
+-- What ends ask of a manager on their batches: rows are held, released, and settled; and a stop releases all that are not prepared.
 use Rattle.std.specs.Prelude.{ℕ, Bool, ◌≡◌, ◌≢◌, ◌==◌, false, List, [], ◌∷◌, None, Some}
 use Rattle.mq_message.specs.declared.message.Ident.{Ident}
 use Rattle.mq_message.specs.declared.place.Holder.TheVariants as holders
+use Rattle.mq_sync.specs.declared.unit.Unit.{Unit as Luw}
+use Rattle.mq_sync.specs.declared.data.SenderData.{SenderData}
+use Rattle.mq_sync.specs.Settlement.{data_settled, settle_by}
+use Rattle.mq_calls.specs.declared.agents.Note.{Note}
+use Rattle.mq_calls.specs.declared.agents.Note.TheVariants as notes
 use Rattle.mq_history.specs.declared.scenario.Scenario.{Scenario}
 use Rattle.mq_spec_state.specs.State.{Batch, Change, Plain}
-use Rattle.mq_spec_state.specs.State.Which.{HeldBy}
-use Rattle.mq_spec_state.specs.State.Change.{DropBatch, Release}
+use Rattle.mq_spec_state.specs.State.Which.{Among, HeldBy}
+use Rattle.mq_spec_state.specs.State.Change.{AddBatch, DropBatch, Hold, Release, SetSender}
 use Rattle.mq_spec_state.specs.Reads.{batch_of, in_doubt_of, sender_data}
 use Rattle.mq_spec_state.specs.Changes.{apply_all}
+use Rattle.mq_spec_agents.specs.Hardening.{settle_change}
 use Rattle.mq_spec_network.specs.Story.{Mem}
 use Rattle.mq_law_rows.specs.World.{Book, Ghost, Inv}
 use Rattle.mq_spec_network.specs.Ledger.{Ledger, stop}
@@ -18,6 +24,23 @@ use Rattle.mq_law_events.specs.Tied.{IsFresh, IsTold}
 abbrev pub release_changes : List ℕ → List Change
 release_changes channel = Release (HeldBy (holders.Batch channel)) false ∷ DropBatch channel ∷ []
 
+-- free rows are held as the channel's batch
+abbrev pub held_changes : List ℕ → Luw → List ℕ → List Ident → List Change
+held_changes channel unit queue idents = Hold (Among queue idents) (holders.Batch channel) ∷ AddBatch (record { channel = channel; unit = unit; queue = queue; idents = idents }) ∷ []
+
+-- a unit in doubt is settled, as its end asks of the manager
+abbrev pub settled_changes : (commit : Bool) → List ℕ → SenderData → List Change
+settled_changes commit channel d = settle_change commit channel ∷ SetSender channel (data_settled (Some (settle_by commit)) d) ∷ []
+
+-- what ends harden beside settlements
+abbrev pub IsWord : Note → Type 0
+IsWord (notes.Session partner session) = Unit {0}
+IsWord (notes.Resolved unit commit operator) = ⊥
+IsWord (notes.Bound partner session last) = Unit {0}
+IsWord (notes.Closed session) = Unit {0}
+IsWord (notes.SeqSet end last) = Unit {0}
+
+-- batches are released, one after another
 abbrev pub let_go : List Batch → Plain → Plain
 let_go [] p = p
 let_go (b ∷ bs) p = let_go bs (apply_all (release_changes b.channel) p)

@@ -1,0 +1,5 @@
+use Rattle.mq_law_batches.proofs.Holding.{holds}
+use Rattle.mq_law_batches.proofs.a_held_batch_keeps_the_facts.Goals as goal
+
+pub returns : goal.returns
+returns c = holds
