@@ -1,5 +1,5 @@
 -- All deeds of a receiver's manager that are no turn of this end: an operator's command on it, or one that leaves it alone.
-use Rattle.std.proofs.Common.{ℕ, ◌≡◌, ◌-◌, Bool, true, false, [], List, ◌∷◌, ◌++◌, refl, ap, sym, subst, ◌∙◌}
+use Rattle.std.proofs.Common.{ℕ, ◌≡◌, ◌-◌, Bool, true, false, [], List, ◌++◌, refl, ap, sym, subst, ◌∙◌}
 use Rattle.std.specs.Prelude.{Option, Some, None, if◌then◌else◌, not, ◌&&◌, ◌==◌}
 use Rattle.std.specs.Str.{bytes_eq}
 use Rattle.mq_frame.specs.declared.frame.Seen.{Seen}
@@ -30,7 +30,7 @@ use Rattle.mq_spec_state.specs.Reads.{batch_of, in_doubt_of, is_up, receiver_dat
 use Rattle.mq_spec_state.specs.Steps.{Step}
 use Rattle.mq_spec_state.specs.Steps.Step.{Refuse, Do}
 use Rattle.mq_spec_agents.specs.Words.{harden, seize, set_bound}
-use Rattle.mq_spec_node.specs.Node.{Node, ReceiverEnd, SenderEnd, end_in, receiver_end, receiver_named, sender_end, sender_named, with_end}
+use Rattle.mq_spec_node.specs.Node.{Node, ReceiverEnd, SenderEnd, receiver_end, receiver_named, sender_end, sender_named, with_end}
 use Rattle.mq_spec_node.specs.Node.ChannelEnd.{Receives, Sends}
 use Rattle.mq_spec_node.specs.Deeds.{Deed, parts_of}
 use Rattle.mq_spec_node.specs.Operators.{close_open, end_here, is_bad_number, is_in_doubt, is_open, limits_here, operate, operate_up, operated, refused, refused_or, reset_end, resolve_doubt, resolve_end, start_end, start_seized, stop_end}
