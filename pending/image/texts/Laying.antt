@@ -112,7 +112,7 @@ tokens_in line at (Close ∷ bs) =
 tokens_in line at (Gap ∷ bs) = let rest = tokens_in line (at + 1) bs in record { ts = rest.ts; one = rest.one; kinds = rest.kinds }
 
 -- (41 closes, and isn't a quote)
-pub unquoted : 41 ≡ 39 → ⊥
+pub unquoted : ◌≡◌ {A = ℕ} 41 39 → ⊥
 unquoted e = omega (arith, e)
 
 -- ---- the physical line

@@ -132,10 +132,6 @@ same_texts [] (w ∷ ws) h = absurd h
 same_texts (a ∷ as_) [] h = absurd h
 same_texts (a ∷ as_) (w ∷ ws) h = ap (λ (t : List ℕ). t ++ flat_map attribute_text as_) h.0 ∙ ap (λ (t : List ℕ). text_of (clause_bits w) ++ t) (same_texts as_ ws h.1) ∙ sym (text_append (clause_bits w) (all_bits ws))
 
--- a text in quotes as the clause has it
-in_quotes : (word text : List ℕ) → codes " " ++ texts.in_brackets word (texts.quoted text) ≡ 32 ∷ (word ++ (40 ∷ (quoting.quoted text ++ (41 ∷ []))))
-in_quotes word text = ap (λ (d : List ℕ). codes " " ++ texts.in_brackets word (codes "'" ++ d ++ codes "'")) (doubled_same text)
-
 none_kept : (kept : List KeptAttribute) → kept ≡ [] → flat_map texts.kept_attribute kept ≡ []
 none_kept kept e = ap (flat_map texts.kept_attribute) e
 
@@ -151,7 +147,7 @@ manager_written : (m : ManagerAttributes) → IsManagerText m → AreWritten ver
 manager_written m h = (name_written verbs.Alter kinds.Manager keys.DeadQ m.dead_letter_queue settings.DeadLetterQueue (record { known = refl; word = (refl, refl); whole = refl }) refl h.dead_letter_queue, (name_written verbs.Alter kinds.Manager keys.DefXmitQ m.default_transmission_queue settings.DefaultTransmissionQueue (record { known = refl; word = (refl, refl); whole = refl }) refl h.default_transmission_queue, (number_written verbs.Alter kinds.Manager keys.MaxHands 0 999999999 m.max_handles settings.MaxHandles (record { known = refl; word = (refl, refl); whole = refl }) refl (omega arith) h.max_handles (below m.max_handles 999999999 h.max_handles (omega arith)), (number_written verbs.Alter kinds.Manager keys.MaxMsgL 32768 4194304 m.max_message_length settings.MaxMessageLength (record { known = refl; word = (refl, refl); whole = refl }) refl h.max_message_length.0 h.max_message_length.1 (below m.max_message_length 4194304 h.max_message_length.1 (omega arith)), (number_written verbs.Alter kinds.Manager keys.MaxUMsgs 1 999999999 m.max_uncommitted settings.MaxUncommitted (record { known = refl; word = (refl, refl); whole = refl }) refl h.max_uncommitted.0 h.max_uncommitted.1 (below m.max_uncommitted 999999999 h.max_uncommitted.1 (omega arith)), (number_written verbs.Alter kinds.Manager keys.TrigInt 0 999999999 m.trigger_interval settings.TriggerInterval (record { known = refl; word = (refl, refl); whole = refl }) refl (omega arith) h.trigger_interval (below m.trigger_interval 999999999 h.trigger_interval (omega arith)), tt))))))
 
 manager_same : (m : ManagerAttributes) → AreSame (texts.manager_attributes m) (manager_clauses m)
-manager_same m = (in_quotes (codes "DEADQ") m.dead_letter_queue, (in_quotes (codes "DEFXMITQ") m.default_transmission_queue, (refl, (refl, (refl, (refl, tt))))))
+manager_same m = (ap (λ (d : List ℕ). codes " " ++ texts.in_brackets (codes "DEADQ") (codes "'" ++ d ++ codes "'")) (doubled_same m.dead_letter_queue), (ap (λ (d : List ℕ). codes " " ++ texts.in_brackets (codes "DEFXMITQ") (codes "'" ++ d ++ codes "'")) (doubled_same m.default_transmission_queue), (refl, (refl, (refl, (refl, tt))))))
 
 pub manager_read : (m : ManagerAttributes) → IsManagerText m → change_in Sets (change_text (changes.SetManager m)) ≡ Some (changes.SetManager m)
 manager_read m h =
@@ -194,7 +190,7 @@ alias_can b bs q h = record {
 
 alias_by : (b : ℕ) (bs : List ℕ) (q : AliasQueue) → IsName 48 (b ∷ bs) → IsAliasText q → change_in Sets (change_text (changes.Set (objects.Alias (record q { name = b ∷ bs; kept = [] })))) ≡ Some (changes.Set (objects.Alias (record q { name = b ∷ bs; kept = [] })))
 alias_by b bs q name h =
-    ap (change_in Sets) (ap (λ (t : List ℕ). codes "DEFINE QALIAS(" ++ t) (define_same (codes "QALIAS") (b ∷ bs) (texts.alias_attributes (record q { name = b ∷ bs; kept = [] })) [] (alias_clauses q) refl (refl, (refl, (refl, (refl, (in_quotes (codes "TARGET") q.target, tt)))))))
+    ap (change_in Sets) (ap (λ (t : List ℕ). codes "DEFINE QALIAS(" ++ t) (define_same (codes "QALIAS") (b ∷ bs) (texts.alias_attributes (record q { name = b ∷ bs; kept = [] })) [] (alias_clauses q) refl (refl, (refl, (refl, (refl, (ap (λ (d : List ℕ). codes " " ++ texts.in_brackets (codes "TARGET") (codes "'" ++ d ++ codes "'")) (doubled_same q.target), tt)))))))
     ∙ define_read (subjects.Alias (b ∷ bs)) nouns.Alias kinds.Alias 48 b bs (alias_clauses q) name (ap (λ r. option_map subjects.Alias (reads.name_or_none r)) (name_read 48 b bs name)) ((tokens.Quoted (b ∷ bs), refl, refl), name_unblank 48 b bs name) (alias_can b bs q h)
 
 abbrev remote_clauses : RemoteQueue → List Written
@@ -218,7 +214,7 @@ remote_can b bs q h = record {
 
 remote_by : (b : ℕ) (bs : List ℕ) (q : RemoteQueue) → IsName 48 (b ∷ bs) → IsRemoteText q → change_in Sets (change_text (changes.Set (objects.Remote (record q { name = b ∷ bs; kept = [] })))) ≡ Some (changes.Set (objects.Remote (record q { name = b ∷ bs; kept = [] })))
 remote_by b bs q name h =
-    ap (change_in Sets) (ap (λ (t : List ℕ). codes "DEFINE QREMOTE(" ++ t) (define_same (codes "QREMOTE") (b ∷ bs) (texts.remote_attributes (record q { name = b ∷ bs; kept = [] })) [] (remote_clauses q) refl (refl, (refl, (refl, (in_quotes (codes "RNAME") q.remote_name, (in_quotes (codes "RQMNAME") q.remote_manager, (in_quotes (codes "XMITQ") q.transmission_queue, tt))))))))
+    ap (change_in Sets) (ap (λ (t : List ℕ). codes "DEFINE QREMOTE(" ++ t) (define_same (codes "QREMOTE") (b ∷ bs) (texts.remote_attributes (record q { name = b ∷ bs; kept = [] })) [] (remote_clauses q) refl (refl, (refl, (refl, (ap (λ (d : List ℕ). codes " " ++ texts.in_brackets (codes "RNAME") (codes "'" ++ d ++ codes "'")) (doubled_same q.remote_name), (ap (λ (d : List ℕ). codes " " ++ texts.in_brackets (codes "RQMNAME") (codes "'" ++ d ++ codes "'")) (doubled_same q.remote_manager), (ap (λ (d : List ℕ). codes " " ++ texts.in_brackets (codes "XMITQ") (codes "'" ++ d ++ codes "'")) (doubled_same q.transmission_queue), tt))))))))
     ∙ define_read (subjects.Remote (b ∷ bs)) nouns.Remote kinds.Remote 48 b bs (remote_clauses q) name (ap (λ r. option_map subjects.Remote (reads.name_or_none r)) (name_read 48 b bs name)) ((tokens.Quoted (b ∷ bs), refl, refl), name_unblank 48 b bs name) (remote_can b bs q h)
 
 abbrev local_clauses_on : LocalQueue → List Written
@@ -242,7 +238,7 @@ local_can_on b bs q h = record {
 
 local_by_on : (b : ℕ) (bs : List ℕ) (q : LocalQueue) → IsName 48 (b ∷ bs) → IsLocalText q → change_in Sets (change_text (changes.Set (objects.Local (record q { name = b ∷ bs; kept = []; trigger = true })))) ≡ Some (changes.Set (objects.Local (record q { name = b ∷ bs; kept = []; trigger = true })))
 local_by_on b bs q name h =
-    ap (change_in Sets) (ap (λ (t : List ℕ). codes "DEFINE QLOCAL(" ++ t) (define_same (codes "QLOCAL") (b ∷ bs) (texts.local_attributes (record q { name = b ∷ bs; kept = []; trigger = true })) [] (local_clauses_on q) refl (refl, (refl, (refl, (in_quotes (codes "INITQ") q.initiation_queue, (refl, (refl, (refl, (in_quotes (codes "PROCESS") q.process, (refl, (in_quotes (codes "TRIGDATA") q.trigger_data, (refl, (refl, (refl, (refl, (refl, tt)))))))))))))))))
+    ap (change_in Sets) (ap (λ (t : List ℕ). codes "DEFINE QLOCAL(" ++ t) (define_same (codes "QLOCAL") (b ∷ bs) (texts.local_attributes (record q { name = b ∷ bs; kept = []; trigger = true })) [] (local_clauses_on q) refl (refl, (refl, (refl, (ap (λ (d : List ℕ). codes " " ++ texts.in_brackets (codes "INITQ") (codes "'" ++ d ++ codes "'")) (doubled_same q.initiation_queue), (refl, (refl, (refl, (ap (λ (d : List ℕ). codes " " ++ texts.in_brackets (codes "PROCESS") (codes "'" ++ d ++ codes "'")) (doubled_same q.process), (refl, (ap (λ (d : List ℕ). codes " " ++ texts.in_brackets (codes "TRIGDATA") (codes "'" ++ d ++ codes "'")) (doubled_same q.trigger_data), (refl, (refl, (refl, (refl, (refl, tt)))))))))))))))))
     ∙ define_read (subjects.Local (b ∷ bs)) nouns.Local kinds.Local 48 b bs (local_clauses_on q) name (ap (λ r. option_map subjects.Local (reads.name_or_none r)) (name_read 48 b bs name)) ((tokens.Quoted (b ∷ bs), refl, refl), name_unblank 48 b bs name) (local_can_on b bs q h)
 
 abbrev local_clauses_off : LocalQueue → List Written
@@ -266,7 +262,7 @@ local_can_off b bs q h = record {
 
 local_by_off : (b : ℕ) (bs : List ℕ) (q : LocalQueue) → IsName 48 (b ∷ bs) → IsLocalText q → change_in Sets (change_text (changes.Set (objects.Local (record q { name = b ∷ bs; kept = []; trigger = false })))) ≡ Some (changes.Set (objects.Local (record q { name = b ∷ bs; kept = []; trigger = false })))
 local_by_off b bs q name h =
-    ap (change_in Sets) (ap (λ (t : List ℕ). codes "DEFINE QLOCAL(" ++ t) (define_same (codes "QLOCAL") (b ∷ bs) (texts.local_attributes (record q { name = b ∷ bs; kept = []; trigger = false })) [] (local_clauses_off q) refl (refl, (refl, (refl, (in_quotes (codes "INITQ") q.initiation_queue, (refl, (refl, (refl, (in_quotes (codes "PROCESS") q.process, (refl, (in_quotes (codes "TRIGDATA") q.trigger_data, (refl, (refl, (refl, (refl, (refl, tt)))))))))))))))))
+    ap (change_in Sets) (ap (λ (t : List ℕ). codes "DEFINE QLOCAL(" ++ t) (define_same (codes "QLOCAL") (b ∷ bs) (texts.local_attributes (record q { name = b ∷ bs; kept = []; trigger = false })) [] (local_clauses_off q) refl (refl, (refl, (refl, (ap (λ (d : List ℕ). codes " " ++ texts.in_brackets (codes "INITQ") (codes "'" ++ d ++ codes "'")) (doubled_same q.initiation_queue), (refl, (refl, (refl, (ap (λ (d : List ℕ). codes " " ++ texts.in_brackets (codes "PROCESS") (codes "'" ++ d ++ codes "'")) (doubled_same q.process), (refl, (ap (λ (d : List ℕ). codes " " ++ texts.in_brackets (codes "TRIGDATA") (codes "'" ++ d ++ codes "'")) (doubled_same q.trigger_data), (refl, (refl, (refl, (refl, (refl, tt)))))))))))))))))
     ∙ define_read (subjects.Local (b ∷ bs)) nouns.Local kinds.Local 48 b bs (local_clauses_off q) name (ap (λ r. option_map subjects.Local (reads.name_or_none r)) (name_read 48 b bs name)) ((tokens.Quoted (b ∷ bs), refl, refl), name_unblank 48 b bs name) (local_can_off b bs q h)
 
 alias_named : (n : List ℕ) (k : List KeptAttribute) (q : AliasQueue) → q.name ≡ n → q.kept ≡ k → IsName 48 n → 0 < length n → k ≡ [] → IsAliasText q → change_in Sets (change_text (changes.Set (objects.Alias (record q { name = n; kept = k })))) ≡ Some (changes.Set (objects.Alias (record q { name = n; kept = k })))
@@ -314,7 +310,7 @@ process_can b bs q h = record {
 
 process_by : (b : ℕ) (bs : List ℕ) (q : Process) → IsName 48 (b ∷ bs) → IsProcessText q → change_in Sets (change_text (changes.Set (objects.Process (record q { name = b ∷ bs; kept = [] })))) ≡ Some (changes.Set (objects.Process (record q { name = b ∷ bs; kept = [] })))
 process_by b bs q name h =
-    ap (change_in Sets) (ap (λ (t : List ℕ). codes "DEFINE PROCESS(" ++ t) (define_same (codes "PROCESS") (b ∷ bs) (texts.process_attributes (record q { name = b ∷ bs; kept = [] })) [] (process_clauses q) refl (in_quotes (codes "APPLICID") q.appl_id, (refl, (in_quotes (codes "ENVRDATA") q.environment_data, (in_quotes (codes "USERDATA") q.user_data, tt))))))
+    ap (change_in Sets) (ap (λ (t : List ℕ). codes "DEFINE PROCESS(" ++ t) (define_same (codes "PROCESS") (b ∷ bs) (texts.process_attributes (record q { name = b ∷ bs; kept = [] })) [] (process_clauses q) refl (ap (λ (d : List ℕ). codes " " ++ texts.in_brackets (codes "APPLICID") (codes "'" ++ d ++ codes "'")) (doubled_same q.appl_id), (refl, (ap (λ (d : List ℕ). codes " " ++ texts.in_brackets (codes "ENVRDATA") (codes "'" ++ d ++ codes "'")) (doubled_same q.environment_data), (ap (λ (d : List ℕ). codes " " ++ texts.in_brackets (codes "USERDATA") (codes "'" ++ d ++ codes "'")) (doubled_same q.user_data), tt))))))
     ∙ define_read (subjects.Process (b ∷ bs)) nouns.Process kinds.Process 48 b bs (process_clauses q) name (ap (λ r. option_map subjects.Process (reads.name_or_none r)) (name_read 48 b bs name)) ((tokens.Quoted (b ∷ bs), refl, refl), name_unblank 48 b bs name) (process_can b bs q h)
 
 process_named : (n : List ℕ) (k : List KeptAttribute) (q : Process) → IsName 48 n → 0 < length n → k ≡ [] → IsProcessText q → change_in Sets (change_text (changes.Set (objects.Process (record q { name = n; kept = k })))) ≡ Some (changes.Set (objects.Process (record q { name = n; kept = k })))
@@ -348,7 +344,7 @@ sender_can b bs batch retry wrap xmitq fast h = record {
 
 sender_by : (b : ℕ) (bs : List ℕ) (batch retry wrap : ℕ) (xmitq : List ℕ) (fast : Bool) → IsName 20 (b ∷ bs) → IsSenderText batch retry wrap xmitq → change_in Sets (change_text (changes.Set (objects.Channel (record { name = b ∷ bs; kind = channels.Sender batch retry xmitq; sequence_wrap = wrap; fast = fast; kept = [] })))) ≡ Some (changes.Set (objects.Channel (record { name = b ∷ bs; kind = channels.Sender batch retry xmitq; sequence_wrap = wrap; fast = fast; kept = [] })))
 sender_by b bs batch retry wrap xmitq fast name h =
-    ap (change_in Sets) (ap (λ (t : List ℕ). codes "DEFINE CHANNEL(" ++ t) (define_same (codes "CHANNEL") (b ∷ bs) (texts.channel_attributes (channels.Sender batch retry xmitq) wrap fast) [] (sender_clauses batch retry wrap xmitq fast) refl (refl, (refl, (refl, (refl, (in_quotes (codes "XMITQ") xmitq, (refl, tt))))))))
+    ap (change_in Sets) (ap (λ (t : List ℕ). codes "DEFINE CHANNEL(" ++ t) (define_same (codes "CHANNEL") (b ∷ bs) (texts.channel_attributes (channels.Sender batch retry xmitq) wrap fast) [] (sender_clauses batch retry wrap xmitq fast) refl (refl, (refl, (refl, (refl, (ap (λ (d : List ℕ). codes " " ++ texts.in_brackets (codes "XMITQ") (codes "'" ++ d ++ codes "'")) (doubled_same xmitq), (refl, tt))))))))
     ∙ define_read (subjects.Channel (b ∷ bs)) nouns.Channel kinds.Sender 20 b bs (sender_clauses batch retry wrap xmitq fast) name (ap (λ r. option_map subjects.Channel (reads.name_or_none r)) (name_read 20 b bs name)) ((tokens.Quoted (b ∷ bs), refl, refl), name_unblank 20 b bs name) (sender_can b bs batch retry wrap xmitq fast h)
 
 abbrev receiver_clauses : ℕ → Bool → Bool → List Written
