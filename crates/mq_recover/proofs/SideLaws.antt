@@ -1,6 +1,6 @@
 -- What is kept by channel, at its place in order of names.
-use Rattle.std.proofs.Common.{◌≡◌, ℕ, zero, suc, ◌+◌, ◌<◌, ◌≤◌, Bool, true, false, cond, List, [], ◌∷◌, ◌++◌, refl, sym, ap, ◌∙◌, Some, None, length, get_or, slice_set, arith}
-use Rattle.std.specs.Prelude.{Option, find, position, not, ◌||◌, option_map}
+use Rattle.std.proofs.Common.{◌≡◌, ℕ, suc, ◌+◌, ◌<◌, ◌≤◌, Bool, true, false, List, [], ◌∷◌, ◌++◌, refl, sym, ap, ◌∙◌, Some, None, length, get_or, slice_set, arith}
+use Rattle.std.specs.Prelude.{find, position, not, option_map}
 use Rattle.std.specs.List.{position_or_len, insert}
 use Rattle.std.specs.Str.{bytes_eq}
 use Rattle.std.proofs.Common.{Ordering, Less, Equal, Greater}

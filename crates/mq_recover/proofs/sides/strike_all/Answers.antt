@@ -1,4 +1,4 @@
-use Rattle.std.proofs.Common.{◌<◌, sym, ap, arith, length, ◌∙◌}
+use Rattle.std.proofs.Common.{◌<◌, sym, ap, arith, length}
 use Rattle.std.proofs.lemmas.Option.{get_or_from_slice_get}
 use Rattle.mq_spec_state.specs.Changes.{off_list}
 use Rattle.mq_recover.proofs.Edits.{changed_none, changed_next, changed_end, length_first}
