@@ -52,3 +52,6 @@ idents_length (id ∷ ids) = let here = ident_whole id in let rest = idents_leng
 -- what is longer than any log has no room in it
 pub full_long : (x : PartsValue) (n : ℕ) → Tied x → 2 ^ 32 ≤ n → is_full n (plain_of x) ≡ true
 full_long x n t le = let most = t.max in grind (arith, nat_tests, most, le)
+
+pub put_step : (ids : List Ident) (i : ℕ) (start b c : Buffered) (id : Ident) → c ≡ ident_put id b → PutsLeft ids i start b → i < length ids → id ≡ get_or ids i id → PutsLeft ids (i + 1) start c
+put_step ids i start b c id put s lt is = put_next ids i start b c id lt is put s

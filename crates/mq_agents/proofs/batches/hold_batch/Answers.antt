@@ -32,7 +32,7 @@ invariant_of-core-2 g c =
     let listed = c.in-Ok-copy_idents.ensures ∙ c.as_slice.ensures in
     let e : ChannelEnds = record x.ends { batches = set_named (λ (k : Batch). k.channel) batch x.ends.batches } in
     let same = c.in-Ok-put_batch.ensures.ok ∙ ap (λ (is : List Ident). batch_held (record { channel = channel; unit = c.args.unit.now; queue = queue; idents = is }) c.as_slice-2.result.now x) listed
-        ∙ ap (λ (is : List Ident). batch_held batch is x) c.as_slice-2.ensures in
+    ∙ ap (λ (is : List Ident). batch_held batch is x) c.as_slice-2.ensures in
     subst Tied (sym same) (tied_rows f (λ q. refl) (λ i q. omega (arith, times_held i (Among queue ids) by q)) e x c.core.invariant)
 
 pub returns : goal.returns
@@ -51,7 +51,7 @@ returns g c =
     let listed = c.in-Ok-copy_idents.ensures ∙ c.as_slice.ensures in
     let e : ChannelEnds = record x.ends { batches = set_named (λ (k : Batch). k.channel) batch x.ends.batches } in
     let same = c.in-Ok-put_batch.ensures.ok ∙ ap (λ (is : List Ident). batch_held (record { channel = channel; unit = c.args.unit.now; queue = queue; idents = is }) c.as_slice-2.result.now x) listed
-        ∙ ap (λ (is : List Ident). batch_held batch is x) c.as_slice-2.ensures in
+    ∙ ap (λ (is : List Ident). batch_held batch is x) c.as_slice-2.ensures in
     let named : queue ≡ queue_of_sender channel c.args.core.now.plain = c.queue_of_sender-queue.ensures ∙ ap (queue_of_sender channel) plain in
     let chosen : ids ≡ idents_of (take c.args.most (free_rows (queue_of_sender channel c.args.core.now.plain) c.args.core.now.plain)) = c.in-Ok.ensures ∙ (λ i. idents_of (take c.args.most (free_rows (named i) (plain i)))) in
     let step : hold_rows channel c.args.unit.now queue ids ≡ hold_batch channel c.args.unit.now c.args.most c.args.core.now.plain = λ i. hold_rows channel c.args.unit.now (named i) (chosen i) in

@@ -52,8 +52,8 @@ returns-in-Err-force_remove g c =
     let h = c.in-Ok-make_record_room.ensures.ok in
     let there = subst (HasFreeRow queue ident) (sym plain) c.requires.there in
     let step : discard queue ident p ≡ Do tt (one_part queue ident true ∷ []) =
-        ap (discard queue ident) (sym plain) ∙ discards_as queue ident x c.core.invariant there
-        ∙ ap (λ (b : Bool). one_step queue ident b) (ap (λ (q : Plain). lasts (row_with (Some ident) (stored queue q).rows)) plain ∙ c.requires.kept) in
+    ap (discard queue ident) (sym plain) ∙ discards_as queue ident x c.core.invariant there
+    ∙ ap (λ (b : Bool). one_step queue ident b) (ap (λ (q : Plain). lasts (row_with (Some ident) (stored queue q).rows)) plain ∙ c.requires.kept) in
     let stop = c.in-Err-force_remove.stop in
     let f = c.in-Err-force_remove.ensures in
     let w = c.go_down.new.parts in
@@ -63,9 +63,9 @@ returns-in-Err-force_remove g c =
     let before : y.log.armed ≡ p.log.armed = ap (λ (q : PartsValue). q.log.armed) h.same ∙ ap (λ (q : Plain). q.log.armed) plain in
     let had : y.log.faults ≡ c.args.core.now.faults = ap (λ (q : PartsValue). q.log.faults) h.same ∙ ap (λ (k : ManagerValue). k.faults) v in
     let frozen = ap plain_of c.go_down.ensures ∙ stopped_seen c.in-Ok-removal.write r 79 stop x y z h f
-        ∙ ap (λ (k : StoppedWrite). freeze (noted (frozen_of x) (Some k)) z.log.armed (plain_of x)) c.in-Ok-removal.ensures
-        ∙ ap (λ (q : Plain). freeze (Some n) z.log.armed q) plain
-        ∙ ap (λ (a : ℕ). freeze (Some n) a p) (sym armed) in
+    ∙ ap (λ (k : StoppedWrite). freeze (noted (frozen_of x) (Some k)) z.log.armed (plain_of x)) c.in-Ok-removal.ensures
+    ∙ ap (λ (q : Plain). freeze (Some n) z.log.armed q) plain
+    ∙ ap (λ (a : ℕ). freeze (Some n) a p) (sym armed) in
     let new : ManagerValue = record { plain = plain_of w; delta = c.reserve.new.self.dids; stopped = Some stop; faults = w.log.faults } in
     let halt : Halt Never = halt_of {F = Never} c.agent_stop.result in
     let nothing : Unit {0} = tt in
@@ -106,8 +106,8 @@ returns g c =
     let h = c.in-Ok-make_record_room.ensures.ok in
     let there = subst (HasFreeRow queue ident) (sym plain) c.requires.there in
     let step : discard queue ident p ≡ Do tt (one_part queue ident true ∷ []) =
-        ap (discard queue ident) (sym plain) ∙ discards_as queue ident x c.core.invariant there
-        ∙ ap (λ (b : Bool). one_step queue ident b) (ap (λ (q : Plain). lasts (row_with (Some ident) (stored queue q).rows)) plain ∙ c.requires.kept) in
+    ap (discard queue ident) (sym plain) ∙ discards_as queue ident x c.core.invariant there
+    ∙ ap (λ (b : Bool). one_step queue ident b) (ap (λ (q : Plain). lasts (row_with (Some ident) (stored queue q).rows)) plain ∙ c.requires.kept) in
     let f = c.in-Ok-force_remove.ensures in
     let w = c.remove_row.new.parts in
     let up = mode_up (frozen_of x) x.mode (ap (λ (q : Plain). is_up q.running) plain ∙ c.requires.up) in
@@ -116,7 +116,7 @@ returns g c =
     let before : y.log.armed ≡ p.log.armed = ap (λ (q : PartsValue). q.log.armed) h.same ∙ ap (λ (q : Plain). q.log.armed) plain in
     let had : y.log.faults ≡ c.args.core.now.faults = ap (λ (q : PartsValue). q.log.faults) h.same ∙ ap (λ (k : ManagerValue). k.faults) v in
     let done = ap plain_of c.remove_row.ensures.parts ∙ removed_view queue ident z still
-        ∙ ap (λ (q : Plain). apply (Leave (Among queue (ident ∷ []))) q) (forced_seen r 79 x y z h f ∙ ap (λ (q : Plain). logged (Some r) q) plain) in
+    ∙ ap (λ (q : Plain). apply (Leave (Among queue (ident ∷ []))) q) (forced_seen r 79 x y z h f ∙ ap (λ (q : Plain). logged (Some r) q) plain) in
     let told = ap (λ (t : Telling). t.dids) c.remove_row.ensures.told ∙ ap (λ (ds : List Did). ds ++ did.Removed queue ident whys.Discarded ∷ []) (c.reserve.ensures.dids ∙ ap (λ (k : ManagerValue). k.delta) v) in
     let new : ManagerValue = record { plain = plain_of w; delta = c.remove_row.new.effects.dids; stopped = c.core.inside.stopped; faults = w.log.faults } in
     let nothing : Unit {0} = tt in

@@ -44,8 +44,8 @@ returns g c =
     let ident = c.args.ident.now in
     let there = subst (HasFreeRow queue ident) (sym plain) c.requires.there in
     let step : discard queue ident p ≡ Do tt (one_part queue ident false ∷ []) =
-        ap (discard queue ident) (sym plain) ∙ discards_as queue ident x c.core.invariant there
-        ∙ ap (λ (b : Bool). one_step queue ident b) (ap (λ (q : Plain). lasts (row_with (Some ident) (stored queue q).rows)) plain ∙ c.requires.free) in
+    ap (discard queue ident) (sym plain) ∙ discards_as queue ident x c.core.invariant there
+    ∙ ap (λ (b : Bool). one_step queue ident b) (ap (λ (q : Plain). lasts (row_with (Some ident) (stored queue q).rows)) plain ∙ c.requires.free) in
     let up = mode_up (frozen_of x) x.mode (ap (λ (q : Plain). is_up q.running) plain ∙ c.requires.up) in
     let done = ap plain_of c.remove_row.ensures.parts ∙ removed_view queue ident x up ∙ ap (λ (q : Plain). apply (Leave (Among queue (ident ∷ []))) q) plain in
     let told = ap (λ (t : Telling). t.dids) c.remove_row.ensures.told ∙ ap (λ (ds : List Did). ds ++ did.Removed queue ident whys.Discarded ∷ []) (c.reserve.ensures.dids ∙ ap (λ (k : ManagerValue). k.delta) v) in

@@ -50,7 +50,10 @@ fn first_idents<D: Disk>(
     ensures { IfOk result (λ v. v ≡ idents_of (take most (free_rows queue.now (plain_of parts.now)))) }
 {
     let mut idents = Items::new(parts.alloc);
-    match parts.queues.free_idents(queue, u64::from(most), &mut idents) {
+    match parts
+        .queues
+        .free_idents(queue, u64::from(most), &mut idents)
+    {
         Ok(()) => Ok(idents),
         Err(NoMemory) => Err(NoMemory),
     }
@@ -66,11 +69,7 @@ fn copy_idents<D: Disk>(parts: &Parts<D>, idents: &[Ident]) -> Result<Items<Iden
 }
 
 /// A batch holds these rows.
-fn put_batch<D: Disk>(
-    parts: &mut Parts<D>,
-    batch: Batch,
-    idents: &[Ident],
-) -> Result<(), NoMemory>
+fn put_batch<D: Disk>(parts: &mut Parts<D>, batch: Batch, idents: &[Ident]) -> Result<(), NoMemory>
     ensures ok { OnOk result (parts.new ≡ batch_held batch idents.now parts.old) }
     ensures err { OnErr result (parts.new ≡ parts.old) }
 {

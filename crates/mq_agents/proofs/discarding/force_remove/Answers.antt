@@ -62,7 +62,7 @@ returns g c =
     let nine : length c.unit_front.result ≡ 9 = ap (λ (f : List ℕ). length f) c.unit_front.ensures in
     let size = ap length bytes ∙ whole in
     let room : x.body.room + length x.body.bytes ≤ c.put_remove.new.self.room + length c.put_remove.new.self.bytes =
-        let piece = remove_length r c.put_remove.ensures.remove in
-        omega (arith, taken, cleared, first, second, nine, size, piece) in
+    let piece = remove_length r c.put_remove.ensures.remove in
+    omega (arith, taken, cleared, first, second, nine, size, piece) in
     forced_from (records.Unit [] (r ∷ [])) x z c.force_body.new.self c.force_body.result (λ i. record (c.parts.view_is i) { body = c.put_remove.new.self }) room
     (c.force_body.ensures (records.Unit [] (r ∷ [])) bytes whole)

@@ -49,11 +49,7 @@ fn lasts<D: Disk>(parts: &Parts<D>, queue: &QName, ident: &Ident) -> bool
 }
 
 /// Forces the record of one row that goes. It takes no memory.
-fn force_remove<D: Disk>(
-    parts: &mut Parts<D>,
-    queue: &QName,
-    ident: &Ident,
-) -> Result<(), Stop>
+fn force_remove<D: Disk>(parts: &mut Parts<D>, queue: &QName, ident: &Ident) -> Result<(), Stop>
     requires live { parts.old.log.live ≡ true }
     requires room { 79 ≤ parts.old.log.room }
     requires body { 79 ≤ parts.old.body.room + length parts.old.body.bytes }
@@ -66,12 +62,7 @@ fn force_remove<D: Disk>(
 }
 
 /// The row of an ident goes, and that is told. It takes no memory.
-fn remove_row<D: Disk>(
-    parts: &mut Parts<D>,
-    effects: &mut Effects,
-    queue: &QName,
-    ident: &Ident,
-)
+fn remove_row<D: Disk>(parts: &mut Parts<D>, effects: &mut Effects, queue: &QName, ident: &Ident)
     requires { 1 ≤ effects.old.room }
     ensures parts { parts.new ≡ removed_one queue.now ident.now parts.old }
     ensures told { effects.new ≡ told (did.Removed queue.now ident.now whys.Discarded) effects.old }
@@ -113,11 +104,7 @@ fn removal<D: Disk>(
     }
 }
 
-fn discard_free<D: Disk>(
-    core: &mut Core<D>,
-    queue: &QName,
-    ident: &Ident,
-) -> Result<(), AgentStop>
+fn discard_free<D: Disk>(core: &mut Core<D>, queue: &QName, ident: &Ident) -> Result<(), AgentStop>
     requires up { IsUp core.old.plain }
     requires there { HasFreeRow queue.now ident.now core.old.plain }
     requires free { lasts (row_with (Some ident.now) (stored queue.now core.old.plain).rows) ≡ false }
@@ -172,11 +159,7 @@ fn discard_forced<D: Disk>(
 /// # Errors
 ///
 /// The disk or the cut stopped the write, and the manager is down; no memory, and nothing has changed.
-pub fn discard<D: Disk>(
-    core: &mut Core<D>,
-    from: &QName,
-    ident: &Ident,
-) -> Result<(), AgentStop>
+pub fn discard<D: Disk>(core: &mut Core<D>, from: &QName, ident: &Ident) -> Result<(), AgentStop>
     requires up { IsUp core.old.plain }
     requires there { HasFreeRow from.now ident.now core.old.plain }
     ensures { MeetsOrWants core.old (discard from.now ident.now core.old.plain) (by_agent result) core.new }

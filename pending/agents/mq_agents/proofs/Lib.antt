@@ -1,7 +1,0 @@
-pub mod WalkLaws
-pub mod EndLaws
-pub mod WriteLaws
-pub mod TellLaws
-pub mod RemoveLaws
-pub mod FillLaws
-pub mod DoubtLaws
