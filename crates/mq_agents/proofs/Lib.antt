@@ -1,3 +1,5 @@
 pub mod WalkLaws
 pub mod EndLaws
 pub mod WriteLaws
+pub mod TellLaws
+pub mod RemoveLaws

@@ -1,11 +1,15 @@
 //! What channel ends and the dead-letter handler ask of a manager.
 #![tactic(auto)]
 
+mod batches;
+mod discarding;
 mod hardening;
 mod reading;
 mod seizing;
 mod walking;
 
+pub use batches::hold_batch;
+pub use discarding::discard;
 pub use hardening::{
     Unwritten, harden_bound, harden_closed, harden_last_received, harden_last_sent, harden_session,
 };

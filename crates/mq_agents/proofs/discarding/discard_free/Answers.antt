@@ -1,0 +1,56 @@
+use Rattle.std.proofs.Common.{◌≡◌, ℕ, ◌+◌, ◌≤◌, ◌<◌, ◌∙◌, Bool, true, false, sym, ap, subst, refl, arith}
+use Rattle.std.specs.Prelude.{List, [], ◌∷◌, ◌++◌, Some, None, Ok, Err}
+use Rattle.mq_base.specs.Outside.{Rose}
+use Rattle.mq_disk.specs.declared.cutter.Stop.{Stop}
+use Rattle.mq_log.specs.Force.{Stops}
+use Rattle.mq_calls.specs.declared.deltas.Did.TheVariants as did
+use Rattle.mq_calls.specs.declared.deltas.Why.TheVariants as whys
+use Rattle.mq_calls.specs.declared.records.LogRecord.TheVariants as records
+use Rattle.mq_spec_state.specs.Words.{ManagerValue, Plain, Did, LogRecord, Noted, Step, Halt, MeetsOrWants, Do, Among, is_up, stored, freeze, logged, apply, apply_all}
+use Rattle.mq_spec_state.specs.State.Change.{Leave}
+use Rattle.mq_spec_state.specs.Meeting.Wants.{Anywhere}
+use Rattle.mq_spec_manager.specs.Words.{Never}
+use Rattle.mq_spec_agents.specs.Words.{HasFreeRow, row_with, discard}
+use Rattle.mq_unit.specs.Told.{Telling}
+use Rattle.mq_core.specs.declared.parts.StoppedWrite.{StoppedWrite}
+use Rattle.mq_core.specs.Views.{PartsValue, plain_of, frozen_of, noted}
+use Rattle.mq_core.specs.Ties.{Tied, mode_is_up}
+use Rattle.mq_core.proofs.MeetLaws.{mode_up}
+use Rattle.mq_agents.specs.Ends.{by_agent, halt_of}
+use Rattle.mq_agents.specs.Removing.{lasts}
+use Rattle.mq_agents.proofs.EndLaws.{free_as}
+use Rattle.mq_agents.proofs.WriteLaws.{wrote_as, broke_as, halt_stopped, forced_tied, forced_seen, forced_mode, stopped_seen, stopped_tied}
+use Rattle.mq_agents.proofs.RemoveLaws.{one_part, one_step, discards_as, tied_removed, removed_view}
+use Rattle.mq_agents.proofs.discarding.discard_free.Goals as goal
+
+pub invariant_of-core-2 : goal.invariant_of-core-2
+invariant_of-core-2 g c =
+    let v = c.core.view_is ∙ c.begin_call.ensures in
+    let plain = ap (λ (w : ManagerValue). w.plain) v in
+    let p : Plain = c.args.core.now.plain in
+    let x : PartsValue = c.core.inside.parts in
+    let queue = c.args.queue.now in
+    let ident = c.args.ident.now in
+    subst Tied (sym c.remove_row.ensures.parts) (tied_removed queue ident x c.core.invariant)
+
+pub returns : goal.returns
+unfolding one_step
+returns g c =
+    let v = c.core.view_is ∙ c.begin_call.ensures in
+    let plain = ap (λ (w : ManagerValue). w.plain) v in
+    let p : Plain = c.args.core.now.plain in
+    let x : PartsValue = c.core.inside.parts in
+    let queue = c.args.queue.now in
+    let ident = c.args.ident.now in
+    let there = subst (HasFreeRow queue ident) (sym plain) c.requires.there in
+    let step : discard queue ident p ≡ Do tt (one_part queue ident false ∷ []) =
+    ap (discard queue ident) (sym plain) ∙ discards_as queue ident x c.core.invariant there
+    ∙ ap (λ (b : Bool). one_step queue ident b) (ap (λ (q : Plain). lasts (row_with (Some ident) (stored queue q).rows)) plain ∙ c.requires.free) in
+    let up = mode_up (frozen_of x) x.mode (ap (λ (q : Plain). is_up q.running) plain ∙ c.requires.up) in
+    let done = ap plain_of c.remove_row.ensures.parts ∙ removed_view queue ident x up ∙ ap (λ (q : Plain). apply (Leave (Among queue (ident ∷ []))) q) plain in
+    let told = ap (λ (t : Telling). t.dids) c.remove_row.ensures.told ∙ ap (λ (ds : List Did). ds ++ did.Removed queue ident whys.Discarded ∷ []) (c.reserve.ensures.dids ∙ ap (λ (k : ManagerValue). k.delta) v) in
+    let faults = ap (λ (q : PartsValue). q.log.faults) c.remove_row.ensures.parts ∙ ap (λ (k : ManagerValue). k.faults) v in
+    let new : ManagerValue = record { plain = plain_of c.remove_row.new.parts; delta = c.remove_row.new.effects.dids; stopped = c.core.inside.stopped; faults = c.remove_row.new.parts.log.faults } in
+    let nothing : Unit {0} = tt in
+    subst (λ (s : Step Never (Unit {0})). MeetsOrWants c.args.core.now s (Ok nothing) new) (sym step)
+    (free_as Never Anywhere c.args.core.now new nothing nothing (Leave (Among queue (ident ∷ [])) ∷ []) (did.Removed queue ident whys.Discarded ∷ []) refl done told (ap (λ (k : ManagerValue). k.stopped) v) faults)
