@@ -3,10 +3,13 @@
 use crate::usage::{Slot, Usage};
 use mq_history::Scenario;
 use mq_name::QName;
+use mq_scn_heading::cable_faults;
 use mq_scn_lines::{
-    GET_OPTIONS, OPEN_OPTIONS, PUT_OPTIONS, are_options, bracketed, channel_in, label_in, name_in,
+    LineFault, OPEN_OPTIONS, are_options, bracketed, channel_in, label_in, name_in,
     name_or_blank_in,
 };
+use mq_scn_script::{get_options, put_options};
+use std::alloc::Global;
 
 /// What is looked for.
 #[derive(Clone, Copy, Debug, PartialEq, Eq)]
@@ -66,10 +69,8 @@ fn has_form(slot: Slot, word: &[u8]) -> bool {
         Slot::MaybeLogMax => bracketed(word, b"LOGMAX(").is_some(),
         Slot::Body => bracketed(word, b"TEXT(").is_some() || bracketed(word, b"FILL(").is_some(),
         Slot::Number | Slot::MaybeNumber => is_number(word),
-        Slot::OpenOptions => are_options(&OPEN_OPTIONS, &[word]),
-        Slot::PutOptions => are_options(&PUT_OPTIONS, &[word]),
-        Slot::GetOptions => are_options(&GET_OPTIONS, &[word]),
-        Slot::Rest => true,
+        Slot::OpenOptions | Slot::PutOptions | Slot::GetOptions | Slot::CableFaults | Slot::Rest =>
+            true,
     }
 }
 
@@ -97,6 +98,7 @@ fn is_bad_name(slot: Slot, word: &[u8]) -> bool {
         | Slot::OpenOptions
         | Slot::PutOptions
         | Slot::GetOptions
+        | Slot::CableFaults
         | Slot::Rest => false,
     }
 }
@@ -190,16 +192,90 @@ fn is_optional(slot: Slot) -> bool {
 fn is_many(slot: Slot) -> bool {
     matches!(
         slot,
-        Slot::OpenOptions | Slot::PutOptions | Slot::GetOptions | Slot::Scripts
+        Slot::OpenOptions | Slot::PutOptions | Slot::GetOptions | Slot::CableFaults | Slot::Scripts
     )
 }
 
+/// Whether options are written as they may stand together.
+fn are_written(alloc: Global, slot: Slot, words: &[&[u8]]) -> bool {
+    match slot {
+        Slot::OpenOptions => are_options(&OPEN_OPTIONS, words),
+        Slot::PutOptions => is_no_form(put_options(alloc, words).err()),
+        _ => is_no_form(get_options(alloc, words).err()),
+    }
+}
+
+fn is_no_form(fault: Option<LineFault>) -> bool {
+    !matches!(fault, Some(LineFault::Form))
+}
+
+/// How many of the first options may stand together.
+fn written_front(alloc: Global, slot: Slot, words: &[&[u8]]) -> usize {
+    let mut count = words.len();
+    'looking: while count > 0 {
+        let (front, _) = words.split_at(count);
+        if are_written(alloc, slot, front) {
+            return count;
+        }
+        count -= 1;
+    }
+    0
+}
+
+/// The first option with which those up to it are none: it isn't written as one, or another of its group stands before it.
+fn first_option<'a>(alloc: Global, slot: Slot, words: &[&'a [u8]]) -> Option<Found<'a>> {
+    match words.get(written_front(alloc, slot, words)) {
+        Some(word) => Some(Found { slot, word }),
+        None => None,
+    }
+}
+
+fn fault_of(alloc: Global, word: &[u8]) -> Option<LineFault> {
+    cable_faults(alloc, &[b"OUT".as_slice(), word]).err()
+}
+
+/// Whether a word is no fault of a cable and no word of a direction, or a fault with a number out of range.
+fn is_bad_fault(alloc: Global, flaw: Flaw, word: &[u8]) -> bool {
+    match flaw {
+        Flaw::Form => {
+            word != b"OUT".as_slice()
+                && word != b"BACK".as_slice()
+                && matches!(fault_of(alloc, word), Some(LineFault::Form))
+        }
+        Flaw::Number => matches!(fault_of(alloc, word), Some(LineFault::Number)),
+        Flaw::Name | Flaw::Unknown => false,
+    }
+}
+
+fn first_fault<'a>(alloc: Global, flaw: Flaw, words: &[&'a [u8]]) -> Option<Found<'a>> {
+    for word in words {
+        if is_bad_fault(alloc, flaw, word) {
+            return Some(Found {
+                slot: Slot::CableFaults,
+                word,
+            });
+        }
+    }
+    None
+}
+
 fn first_of<'a>(
+    alloc: Global,
     scenario: &Scenario,
     flaw: Flaw,
     slot: Slot,
     words: &[&'a [u8]],
 ) -> Option<Found<'a>> {
+    if slot == Slot::CableFaults {
+        return first_fault(alloc, flaw, words);
+    }
+    if slot != Slot::Scripts {
+        return if flaw == Flaw::Form {
+            first_option(alloc, slot, words)
+        } else {
+            None
+        };
+    }
     for word in words {
         if has_flaw(scenario, flaw, slot, word) {
             return Some(Found { slot, word });
@@ -210,6 +286,7 @@ fn first_of<'a>(
 
 /// The first of the words behind a line's verb that has the flaw; none where it isn't found so.
 pub fn first_flaw<'a>(
+    alloc: Global,
     scenario: &Scenario,
     flaw: Flaw,
     usage: &Usage,
@@ -222,7 +299,7 @@ pub fn first_flaw<'a>(
             return None;
         }
         if is_many(slot) {
-            return first_of(scenario, flaw, slot, rest);
+            return first_of(alloc, scenario, flaw, slot, rest);
         }
         let [word, behind @ ..] = rest else {
             return None;

@@ -81,7 +81,7 @@ fn usage_hint(
     usage: &Usage,
     words: &[&[u8]],
 ) -> Result<Hint, AllocError> {
-    match first_flaw(&spot.reading.scenario, flaw, usage, words) {
+    match first_flaw(alloc, &spot.reading.scenario, flaw, usage, words) {
         Some(found) => found_hint(alloc, flaw, &found, usage),
         None => Ok(Hint::Line(usage.text)),
     }

@@ -38,6 +38,8 @@ pub enum Slot {
     GetOptions,
     /// Labels of scripts to the end of the line.
     Scripts,
+    /// OUT, BACK and faults of a cable, to the end of the line.
+    CableFaults,
     /// Whatever stands there.
     Rest,
 }
@@ -89,7 +91,7 @@ pub fn part_usage(word: &[u8]) -> Option<Usage> {
             Slot::Channel,
             Slot::Manager,
             Slot::Manager,
-            Slot::Rest,
+            Slot::CableFaults,
         ));
     }
     section_usage(word)

@@ -55,7 +55,37 @@ fn told(alloc: Global, text: &str) -> Result<String, AllocError> {
 }
 
 /// A line, what stands in its place, and what is told of that.
-const TYPOS: [(&str, &str, &str); 31] = [
+const TYPOS: [(&str, &str, &str); 37] = [
+    (
+        "CABLE LON.PAR LONDON PARIS OUT DROP(2)",
+        "CABLE LON.PAR LONDON PARIS OUT DROP(2) BACK DORP(1)",
+        "line 4: Form: 'DORP(1)' can't stand here: the line is CABLE ",
+    ),
+    (
+        "CABLE LON.PAR LONDON PARIS OUT DROP(2)",
+        "CABLE LON.PAR LONDON PARIS OUT DROP(2) BACK LATE(3,3)",
+        "line 4: Number: 'LATE(3,3)' is out of range: the line is CABLE ",
+    ),
+    (
+        "MQOPEN H1 QUEUE(Q1) SHARED OUTPUT",
+        "MQOPEN H1 QUEUE(Q1) SHARED OUTPUT EXCLUSIVE",
+        "line 13: Form: 'EXCLUSIVE' can't stand here: the line is MQOPEN ",
+    ),
+    (
+        "MQPUT H1 TEXT('HELLO') PERSIST",
+        "MQPUT H1 TEXT('HELLO') FORMAT('LONGERTHAN8') PERSIST",
+        "line 14: Form: 'FORMAT('LONGERTHAN8')' can't stand here: the ",
+    ),
+    (
+        "MQGET H1 WAIT(100)",
+        "MQGET H1 WAIT(100) ROOM(x)",
+        "line 15: Form: 'ROOM(x)' can't stand here: the line is MQGET ",
+    ),
+    (
+        "MQSC DISPLAY QLOCAL(Q1)",
+        "MQSC ALTER QMGR DEADQ((DLQ)",
+        "line 16: Mqsc UnknownKeyword: '(' can't stand here: ",
+    ),
     (
         "NETWORK",
         "NETWORK 1",
