@@ -49,11 +49,7 @@ fn is_batch_full<D: Disk>(parts: &Parts<D>, batch: &Batch) -> bool
     is_full(parts, 98 + 17 * batch.idents.len() as u64)
 }
 
-fn copy_batch<D: Disk>(
-    parts: &Parts<D>,
-    batch: &Batch,
-    last: u32,
-) -> Result<InDoubt, NoMemory>
+fn copy_batch<D: Disk>(parts: &Parts<D>, batch: &Batch, last: u32) -> Result<InDoubt, NoMemory>
     ensures { IfOk result (λ d. d ≡ prepared_doubt last batch.now) }
 {
     match Items::from_slice(parts.alloc, batch.idents.as_slice()) {
@@ -107,13 +103,7 @@ fn fill_prepared<D: Disk>(
         Err(NoMemory) => return Err(NoMemory),
     }
     parts.body.clear();
-    parts.body.put(&prepared_front(
-        channel,
-        doubt.unit,
-        doubt.last,
-        &doubt.queue,
-        count as u32,
-    ));
+    parts.body.put(&prepared_front(channel, doubt.unit, doubt.last, &doubt.queue, count as u32));
     put_idents(&mut parts.body, doubt.idents.as_slice());
     Ok(())
 }
@@ -238,11 +228,7 @@ fn doubt_of<D: Disk>(
 /// # Errors
 ///
 /// As said; the disk or the cut stopped the write, and the manager is down; no memory, and nothing has changed.
-pub fn prepare<D: Disk>(
-    core: &mut Core<D>,
-    channel: &ChName,
-    last: u32,
-) -> Result<(), PrepareFault>
+pub fn prepare<D: Disk>(core: &mut Core<D>, channel: &ChName, last: u32) -> Result<(), PrepareFault>
     requires up { IsUp core.old.plain }
     requires can { CanPrepare channel.now core.old.plain }
     ensures { MeetsOrWants core.old (prepare channel.now last core.old.plain) (by_prepare result) core.new }

@@ -32,10 +32,10 @@ returns-clause-ok g c =
     let b : Buffered = c.put_idents.new.body in
     let none = ap (λ (b : Buffered). b.bytes) c.clear.ensures in
     let front : c.prepared_front.result ≡ prepared_front c.args.channel.now d.unit d.last d.queue (length d.idents) =
-        c.prepared_front.ensures.bytes ∙ ap (λ (n : ℕ). prepared_front c.args.channel.now d.unit d.last d.queue n) c.len-count.ensures in
+    c.prepared_front.ensures.bytes ∙ ap (λ (n : ℕ). prepared_front c.args.channel.now d.unit d.last d.queue n) c.len-count.ensures in
     let bytes =
-        ap (λ (b : Buffered). b.bytes) c.put_idents.ensures ∙ ap (λ (is : List Ident). c.put.new.self.bytes ++ flat_map ident_bytes is) ids
-        ∙ ap (λ (b : Buffered). b.bytes ++ pieces) c.put.ensures ∙ ap (λ (bs : List ℕ). (bs ++ c.prepared_front.result) ++ pieces) none ∙ ap (λ (f : List ℕ). f ++ pieces) front in
+    ap (λ (b : Buffered). b.bytes) c.put_idents.ensures ∙ ap (λ (is : List Ident). c.put.new.self.bytes ++ flat_map ident_bytes is) ids
+    ∙ ap (λ (b : Buffered). b.bytes ++ pieces) c.put.ensures ∙ ap (λ (bs : List ℕ). (bs ++ c.prepared_front.result) ++ pieces) none ∙ ap (λ (f : List ℕ). f ++ pieces) front in
     let whole : length c.prepared_front.result ≡ 93 = omega (arith, c.prepared_front.type_inv) in
     let long : length pieces ≡ 17 * length d.idents = idents_length d.idents in
     let fronts = ap length front in

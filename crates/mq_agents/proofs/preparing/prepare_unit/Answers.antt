@@ -116,7 +116,7 @@ returns g c =
     let still : mode_is_up y.mode ≡ true = ap (λ (q : PartsValue). mode_is_up q.mode) more.same ∙ up in
     let live : mode_is_up z.mode ≡ true = ap (λ (q : PartsValue). mode_is_up q.mode) w.same ∙ still in
     let done = ap plain_of c.drop_batch.ensures ∙ dropped_view channel z live
-        ∙ ap (λ (q : Plain). apply (DropBatch channel) q) (sender_hardened r y.body.bytes side channel y z p still fl.bytes size w refl (roomier_view x y more ∙ plain)) in
+    ∙ ap (λ (q : Plain). apply (DropBatch channel) q) (sender_hardened r y.body.bytes side channel y z p still fl.bytes size w refl (roomier_view x y more ∙ plain)) in
     let before : y.log.armed ≡ p.log.armed = ap (λ (q : PartsValue). q.log.armed) more.same ∙ ap (λ (q : Plain). q.log.armed) plain in
     let had : y.log.faults ≡ c.args.core.now.faults = ap (λ (q : PartsValue). q.log.faults) more.same ∙ ap (λ (k : ManagerValue). k.faults) v in
     let failed = ap (λ (q : PartsValue). q.log.faults) c.drop_batch.ensures in
