@@ -3,3 +3,5 @@ pub mod EndLaws
 pub mod WriteLaws
 pub mod TellLaws
 pub mod RemoveLaws
+pub mod FillLaws
+pub mod DoubtLaws

@@ -4,6 +4,7 @@
 mod batches;
 mod discarding;
 mod hardening;
+mod preparing;
 mod reading;
 mod seizing;
 mod walking;
@@ -13,5 +14,6 @@ pub use discarding::discard;
 pub use hardening::{
     Unwritten, harden_bound, harden_closed, harden_last_received, harden_last_sent, harden_session,
 };
+pub use preparing::prepare;
 pub use reading::{Hardened, batch_row, defs, is_up, kept, moment, next_row, stock};
 pub use seizing::{leave, seize, set_bound};
