@@ -153,31 +153,31 @@ lined_of word word_front b bs is ends whole name laid =
 pub delete_read : (s : Subject) → IsSubject s → change_in Deletes (attributes.delete_text s (subject_name s)) ≡ Some (changes.Delete s)
 delete_read (subjects.Local []) h = absurd (omega (arith, h.1))
 delete_read (subjects.Local (b ∷ bs)) h = deleted (subjects.Local (b ∷ bs)) nouns.Local kinds.Local (codes "QLOCAL") (record {
-      text = ap (λ (d : List ℕ). codes "DELETE QLOCAL('" ++ name_tail d) (doubled_same (b ∷ bs));
-      lined = lined_of (codes "QLOCAL") (codes "ELETE QLOCAL('") b bs refl refl refl h.0.bytes ((refl, refl), refl, (tt, tt, ((refl, refl), refl, (tt, tt, (tt, unquoted, (tt, tt, tt))))));
-      means = means_of (subjects.Local (b ∷ bs)) nouns.Local kinds.Local (b ∷ bs) refl refl (name_unblank 48 b bs h.0) (ap (λ r. option_map subjects.Local (name_or_none r)) (name_read 48 b bs h.0)) ((tokens.Quoted (b ∷ bs), refl, refl), name_unblank 48 b bs h.0);
-    })
+  text = ap (λ (d : List ℕ). codes "DELETE QLOCAL('" ++ name_tail d) (doubled_same (b ∷ bs));
+  lined = lined_of (codes "QLOCAL") (codes "ELETE QLOCAL('") b bs refl refl refl h.0.bytes ((refl, refl), refl, (tt, tt, ((refl, refl), refl, (tt, tt, (tt, unquoted, (tt, tt, tt))))));
+  means = means_of (subjects.Local (b ∷ bs)) nouns.Local kinds.Local (b ∷ bs) refl refl (name_unblank 48 b bs h.0) (ap (λ r. option_map subjects.Local (name_or_none r)) (name_read 48 b bs h.0)) ((tokens.Quoted (b ∷ bs), refl, refl), name_unblank 48 b bs h.0);
+})
 delete_read (subjects.Alias []) h = absurd (omega (arith, h.1))
 delete_read (subjects.Alias (b ∷ bs)) h = deleted (subjects.Alias (b ∷ bs)) nouns.Alias kinds.Alias (codes "QALIAS") (record {
-      text = ap (λ (d : List ℕ). codes "DELETE QALIAS('" ++ name_tail d) (doubled_same (b ∷ bs));
-      lined = lined_of (codes "QALIAS") (codes "ELETE QALIAS('") b bs refl refl refl h.0.bytes ((refl, refl), refl, (tt, tt, ((refl, refl), refl, (tt, tt, (tt, unquoted, (tt, tt, tt))))));
-      means = means_of (subjects.Alias (b ∷ bs)) nouns.Alias kinds.Alias (b ∷ bs) refl refl (name_unblank 48 b bs h.0) (ap (λ r. option_map subjects.Alias (name_or_none r)) (name_read 48 b bs h.0)) ((tokens.Quoted (b ∷ bs), refl, refl), name_unblank 48 b bs h.0);
-    })
+  text = ap (λ (d : List ℕ). codes "DELETE QALIAS('" ++ name_tail d) (doubled_same (b ∷ bs));
+  lined = lined_of (codes "QALIAS") (codes "ELETE QALIAS('") b bs refl refl refl h.0.bytes ((refl, refl), refl, (tt, tt, ((refl, refl), refl, (tt, tt, (tt, unquoted, (tt, tt, tt))))));
+  means = means_of (subjects.Alias (b ∷ bs)) nouns.Alias kinds.Alias (b ∷ bs) refl refl (name_unblank 48 b bs h.0) (ap (λ r. option_map subjects.Alias (name_or_none r)) (name_read 48 b bs h.0)) ((tokens.Quoted (b ∷ bs), refl, refl), name_unblank 48 b bs h.0);
+})
 delete_read (subjects.Remote []) h = absurd (omega (arith, h.1))
 delete_read (subjects.Remote (b ∷ bs)) h = deleted (subjects.Remote (b ∷ bs)) nouns.Remote kinds.Remote (codes "QREMOTE") (record {
-      text = ap (λ (d : List ℕ). codes "DELETE QREMOTE('" ++ name_tail d) (doubled_same (b ∷ bs));
-      lined = lined_of (codes "QREMOTE") (codes "ELETE QREMOTE('") b bs refl refl refl h.0.bytes ((refl, refl), refl, (tt, tt, ((refl, refl), refl, (tt, tt, (tt, unquoted, (tt, tt, tt))))));
-      means = means_of (subjects.Remote (b ∷ bs)) nouns.Remote kinds.Remote (b ∷ bs) refl refl (name_unblank 48 b bs h.0) (ap (λ r. option_map subjects.Remote (name_or_none r)) (name_read 48 b bs h.0)) ((tokens.Quoted (b ∷ bs), refl, refl), name_unblank 48 b bs h.0);
-    })
+  text = ap (λ (d : List ℕ). codes "DELETE QREMOTE('" ++ name_tail d) (doubled_same (b ∷ bs));
+  lined = lined_of (codes "QREMOTE") (codes "ELETE QREMOTE('") b bs refl refl refl h.0.bytes ((refl, refl), refl, (tt, tt, ((refl, refl), refl, (tt, tt, (tt, unquoted, (tt, tt, tt))))));
+  means = means_of (subjects.Remote (b ∷ bs)) nouns.Remote kinds.Remote (b ∷ bs) refl refl (name_unblank 48 b bs h.0) (ap (λ r. option_map subjects.Remote (name_or_none r)) (name_read 48 b bs h.0)) ((tokens.Quoted (b ∷ bs), refl, refl), name_unblank 48 b bs h.0);
+})
 delete_read (subjects.Channel []) h = absurd (omega (arith, h.1))
 delete_read (subjects.Channel (b ∷ bs)) h = deleted (subjects.Channel (b ∷ bs)) nouns.Channel kinds.Channel (codes "CHANNEL") (record {
-      text = ap (λ (d : List ℕ). codes "DELETE CHANNEL('" ++ name_tail d) (doubled_same (b ∷ bs));
-      lined = lined_of (codes "CHANNEL") (codes "ELETE CHANNEL('") b bs refl refl refl h.0.bytes ((refl, refl), refl, (tt, tt, ((refl, refl), refl, (tt, tt, (tt, unquoted, (tt, tt, tt))))));
-      means = means_of (subjects.Channel (b ∷ bs)) nouns.Channel kinds.Channel (b ∷ bs) refl ((λ m. m), (λ m. m)) (name_unblank 20 b bs h.0) (ap (λ r. option_map subjects.Channel (name_or_none r)) (name_read 20 b bs h.0)) ((tokens.Quoted (b ∷ bs), refl, refl), name_unblank 20 b bs h.0);
-    })
+  text = ap (λ (d : List ℕ). codes "DELETE CHANNEL('" ++ name_tail d) (doubled_same (b ∷ bs));
+  lined = lined_of (codes "CHANNEL") (codes "ELETE CHANNEL('") b bs refl refl refl h.0.bytes ((refl, refl), refl, (tt, tt, ((refl, refl), refl, (tt, tt, (tt, unquoted, (tt, tt, tt))))));
+  means = means_of (subjects.Channel (b ∷ bs)) nouns.Channel kinds.Channel (b ∷ bs) refl ((λ m. m), (λ m. m)) (name_unblank 20 b bs h.0) (ap (λ r. option_map subjects.Channel (name_or_none r)) (name_read 20 b bs h.0)) ((tokens.Quoted (b ∷ bs), refl, refl), name_unblank 20 b bs h.0);
+})
 delete_read (subjects.Process []) h = absurd (omega (arith, h.1))
 delete_read (subjects.Process (b ∷ bs)) h = deleted (subjects.Process (b ∷ bs)) nouns.Process kinds.Process (codes "PROCESS") (record {
-      text = ap (λ (d : List ℕ). codes "DELETE PROCESS('" ++ name_tail d) (doubled_same (b ∷ bs));
-      lined = lined_of (codes "PROCESS") (codes "ELETE PROCESS('") b bs refl refl refl h.0.bytes ((refl, refl), refl, (tt, tt, ((refl, refl), refl, (tt, tt, (tt, unquoted, (tt, tt, tt))))));
-      means = means_of (subjects.Process (b ∷ bs)) nouns.Process kinds.Process (b ∷ bs) refl refl (name_unblank 48 b bs h.0) (ap (λ r. option_map subjects.Process (name_or_none r)) (name_read 48 b bs h.0)) ((tokens.Quoted (b ∷ bs), refl, refl), name_unblank 48 b bs h.0);
-    })
+  text = ap (λ (d : List ℕ). codes "DELETE PROCESS('" ++ name_tail d) (doubled_same (b ∷ bs));
+  lined = lined_of (codes "PROCESS") (codes "ELETE PROCESS('") b bs refl refl refl h.0.bytes ((refl, refl), refl, (tt, tt, ((refl, refl), refl, (tt, tt, (tt, unquoted, (tt, tt, tt))))));
+  means = means_of (subjects.Process (b ∷ bs)) nouns.Process kinds.Process (b ∷ bs) refl refl (name_unblank 48 b bs h.0) (ap (λ r. option_map subjects.Process (name_or_none r)) (name_read 48 b bs h.0)) ((tokens.Quoted (b ∷ bs), refl, refl), name_unblank 48 b bs h.0);
+})
