@@ -11,3 +11,7 @@ pub mod Telling
 pub mod Starting
 pub mod Growing
 pub mod Counting
+pub mod Laying
+pub mod Deleting
+pub mod Giving
+pub mod Recording

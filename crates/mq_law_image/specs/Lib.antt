@@ -1,3 +1,4 @@
 pub mod SoFar
 pub mod Tells
 pub mod Bounds
+pub mod Laid

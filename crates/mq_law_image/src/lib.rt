@@ -5,14 +5,34 @@ ghost use Rattle.std.specs.Prelude.{◌≡◌, ℕ, ◌+◌, ◌^◌, ◌<◌, �
 ghost use Rattle.std.specs.List.{AllByRecursion};
 ghost use Rattle.mq_frame.specs.Reading.{IsBytes};
 ghost use Rattle.mq_name.specs.Name.{IsName};
+ghost use Rattle.mq_objects.specs.declared.change.ObjectChange.{ObjectChange};
+ghost use Rattle.mq_objects.specs.declared.change.ObjectChange.TheVariants as changes;
+ghost use Rattle.mq_objects.specs.declared.command.Subject.{Subject};
 ghost use Rattle.mq_calls.specs.declared.records.LogRecord.{LogRecord};
-ghost use Rattle.mq_record.specs.Records.{record_bytes};
+ghost use Rattle.mq_calls.specs.declared.records.LogRecord.TheVariants as records;
+ghost use Rattle.mq_objects.specs.Attributes.{manager_attributes};
+ghost use Rattle.mq_objects.specs.Defaults.{new_manager};
+ghost use Rattle.mq_objects.specs.Settings.{set_all_manager};
+ghost use Rattle.mq_sc_apply.specs.Planned.{defined_object};
+ghost use Rattle.mq_sc_lex.specs.declared.token.TokenKind.TheVariants as tokens;
+ghost use Rattle.mq_sc_keys.specs.declared.keys.Key.TheVariants as words;
+ghost use Rattle.mq_sc_keys.specs.declared.verbs.Verb.TheVariants as verbs;
+ghost use Rattle.mq_sc_keys.specs.declared.verbs.Noun.{Noun};
+ghost use Rattle.mq_sc_keys.specs.declared.attributes.Kind.{Kind};
+ghost use Rattle.mq_sc_keys.specs.declared.attributes.Kind.TheVariants as kinds;
+ghost use Rattle.mq_sc_keys.specs.Verbs.{object_text};
+ghost use Rattle.mq_sc_parse.specs.Parsing.{subject_of};
+ghost use Rattle.mq_sc_grammar.specs.Spelling.{IsNamed};
+ghost use Rattle.mq_sc_grammar.specs.Commands.{AreSingle, Says};
+ghost use Rattle.mq_record.specs.declared.record.Operation.TheVariants.{Delete, Set};
+ghost use Rattle.mq_record.specs.Records.{operation_of, record_bytes};
 ghost use Rattle.mq_calls.specs.declared.choices.Choice.{Choice};
 ghost use Rattle.mq_calls.specs.declared.commands.RestartFault.{RestartFault};
 ghost use Rattle.mq_spec_state.specs.State.{Change, Given, Noted, Plain};
 ghost use Rattle.mq_spec_state.specs.State.Running.{Down, Up};
 ghost use Rattle.mq_spec_state.specs.Changes.{apply};
 ghost use Rattle.mq_spec_state.specs.Counts.{AreAtMost};
+ghost use Rattle.mq_spec_state.specs.Sizes.{change_text};
 ghost use Rattle.mq_spec_state.specs.Images.{Image, Shelf, begun, raised};
 ghost use Rattle.mq_spec_state.specs.Steps.{Part, Step, after, do_part, freeze, note_of};
 ghost use Rattle.mq_spec_manager.specs.Stops.{failed, first_start, grown, next_started, redone_if, restarted, started_need, started_record, stop};
@@ -20,9 +40,11 @@ ghost use Rattle.mq_spec_state.specs.Recovery.{AreKnown, IsImage};
 ghost use Rattle.mq_spec_log.specs.Applies.{Start, is_in_bounds};
 ghost use Rattle.mq_spec_log.specs.Applies.Start.{First, Later};
 ghost use Rattle.mq_spec_log.specs.Bodies.{empty_image, image, record_of};
+ghost use Rattle.mq_spec_log.specs.Texts.{change_in, gives_all};
 ghost use Rattle.mq_law_log.specs.Restarts.{IsGivenIn, IsHarmless};
 ghost use Rattle.mq_law_manager.specs.Facts.{AreNamed, IsSound, Mem};
 ghost use Rattle.mq_law_image.specs.Bounds.{HaveArrived, IsBounded, noted_growth, part_growth, restart_growth, step_growth};
+ghost use Rattle.mq_law_image.specs.Laid.{AreWritten, CanDefine, IsSubject, Written, alter_bits, clauses_of, define_bits, settings_of, text_of};
 ghost use Rattle.mq_law_image.specs.SoFar.{AreOwn, IsSoFar};
 ghost use Rattle.mq_law_image.specs.Tells.{Tells, TellsDown};
 
@@ -73,4 +95,18 @@ pub fn counters_rise_by_what_is_done()
 /// And so with each call, however it ends.
 pub fn calls_raise_counters_by_what_they_do<F, T>()
     ensures { (most : ℕ) (s : Step F T) (choice : Choice) (p : Plain) → IsBounded most p → IsBounded (most + step_growth s) (after s choice p).next }
+{}
+
+/// The text that is written for a DELETE is read as that change; and a record of a change whose text is read is read from its bytes.
+pub fn texts_of_changes_are_read()
+    ensures deletes { (s : Subject) → IsSubject s → change_in Delete (change_text (changes.Delete s)) ≡ Some (changes.Delete s) }
+    ensures records { (change : ObjectChange) → length (change_text change) < 2 ^ 32 → change_in (operation_of change) (change_text change) ≡ Some change → record_of (record_bytes (records.Objects change)) ≡ Some (records.Objects change) }
+{}
+
+/// An ALTER QMGR, or a DEFINE, that is laid out of clauses which give settings is read as the change that these make.
+pub fn texts_that_give_attributes_are_read()
+    ensures alters { (w : Written) (ws : List Written) → AreWritten verbs.Alter kinds.Manager (w ∷ ws) → AreSingle (clauses_of (w ∷ ws)) → (Says words.Force (clauses_of (w ∷ ws)) → ⊥)
+        → gives_all (settings_of (w ∷ ws)) (manager_attributes new_manager) ≡ true → change_in Set (text_of (alter_bits (w ∷ ws))) ≡ Some (changes.SetManager (set_all_manager (settings_of (w ∷ ws)) new_manager)) }
+    ensures defines { (s : Subject) (noun : Noun) (kind : Kind) (width b : ℕ) (bs : List ℕ) (ws : List Written) → IsName width (b ∷ bs) → subject_of noun (b ∷ bs) ≡ Some s → IsNamed noun (b ∷ bs) (tokens.Open ∷ tokens.Quoted (b ∷ bs) ∷ tokens.Close ∷ []) → CanDefine s noun kind ws
+        → change_in Set (text_of (define_bits (object_text noun) (b ∷ bs) ws)) ≡ Some (changes.Set (defined_object s (settings_of ws))) }
 {}
