@@ -1,2 +1,3 @@
 pub mod LimitLaws
+pub mod GetLimit
 pub mod WellLaws

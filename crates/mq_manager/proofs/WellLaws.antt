@@ -1,8 +1,8 @@
 -- What holds of a manager between its calls is kept by each of them.
 use Rattle.std.proofs.Common.{◌≡◌, ◌≤◌, ◌+◌, ◌<◌, ◌^◌, ℕ, zero, suc, Bool, true, false, cond, List, [], ◌∷◌, refl, ap, sym, subst, arith}
-use Rattle.std.specs.Prelude.{Some, None, Result, Ok, Err, not, ◌&&◌, ◌==◌, if◌then◌else◌, IfSome}
+use Rattle.std.specs.Prelude.{Option, Some, None, Result, Ok, Err, not, ◌&&◌, ◌==◌, if◌then◌else◌, IfSome}
 use Rattle.std.specs.List.{AllByRecursion}
-use Rattle.mq_spec_state.specs.Words.{Reason, Answer, Sent, Md, Hconn, Hobj, Appl, Open, Connection, Plain, Part, Step, Refuse, Do, ManagerValue, Wants, MeetsAs, MeetsDone, Meets, MeetsInRoom, Halt, is_up, connection_at, do_part, do_all, stopped_at, IsWrite, note_of, silent}
+use Rattle.mq_spec_state.specs.Words.{Reason, Answer, Get, GetAnswer, Sent, Md, Hconn, Hobj, Appl, Open, Connection, Plain, Part, Step, Refuse, Do, ManagerValue, Wants, MeetsAs, MeetsDone, Meets, MeetsInRoom, Halt, is_up, connection_at, do_part, do_all, stopped_at, IsWrite, note_of, silent}
 use Rattle.mq_spec_state.specs.Steps.{refused_or, going_on}
 use Rattle.mq_spec_state.specs.Meeting.Wants.{Nowhere, Behind, Anywhere}
 use Rattle.mq_codes.specs.declared.reason.Reason.TheVariants as reasons
@@ -11,14 +11,17 @@ use Rattle.mq_calls.specs.declared.answers.Answer.TheVariants as answers
 use Rattle.mq_spec_state.specs.State.Change.{Connect}
 use Rattle.mq_spec_manager.specs.Handles.{is_other, is_present, live_or, connected, for_connection, is_other_name, new_connection, new_hconn, mqconn, mqopen, mqclose}
 use Rattle.mq_spec_manager.specs.Put.{mqput, mqput1}
+use Rattle.mq_spec_manager.specs.Get.{mqget}
 use Rattle.mq_spec_manager.specs.Units.{mqcmit, mqback, mqdisc}
 use Rattle.mq_law_manager.specs.Facts.{IsSound, IsFrozen}
 use Rattle.mq_law_manager.specs.Kept.{AllKeep, StepKeeps}
 use Rattle.mq_law_manager.proofs.Ending.{sound_still, frozen, joined}
 use Rattle.mq_law_manager.proofs.Puts.{mqconn_keeps, mqopen_keeps, mqclose_keeps, mqput_keeps, mqput1_keeps}
+use Rattle.mq_law_manager.proofs.Removals.{mqget_keeps}
 use Rattle.mq_law_manager.proofs.Units.{mqcmit_keeps, mqback_keeps, mqdisc_keeps}
-use Rattle.mq_law_manager.proofs.Stocks.{conn_stocked, open_stocked, close_stocked, put_stocked, put1_stocked, cmit_stocked, back_stocked, disc_stocked}
+use Rattle.mq_law_manager.proofs.Stocks.{conn_stocked, open_stocked, close_stocked, put_stocked, put1_stocked, get_stocked, cmit_stocked, back_stocked, disc_stocked}
 use Rattle.mq_manager.specs.Facts.{HasLimit, IsWell}
+use Rattle.mq_manager.proofs.GetLimit.{get_limit}
 use Rattle.mq_manager.proofs.LimitLaws.{conn_limit, open_limit, close_limit, put_limit, put1_limit, cmit_limit, back_limit, disc_limit}
 
 -- all parts are done, or one is stopped
@@ -143,6 +146,11 @@ module _ (v new : ManagerValue) (w : IsWell v.plain) where
   well_put1 hc name qmgr md body sync result m = let p : Plain = v.plain in
       well_after Behind v new (mqput1 hc name qmgr md body sync p) result m w (for_down hc p _)
       (λ h. joined (mqput1 hc name qmgr md body sync p) p h (mqput1_keeps hc name qmgr md body sync p h.facts) (put1_stocked hc name qmgr md body sync p h.stocked)) (put1_limit hc name qmgr md body sync p w.limit)
+
+  pub well_get : (hc : Hconn) (ho : Hobj) (get : Get) (until : Option ℕ) (result : Result GetAnswer (Halt Reason)) → Meets v (mqget hc ho get until v.plain) result new → IsWell new.plain
+  well_get hc ho get until result m = let p : Plain = v.plain in
+      well_after Behind v new (mqget hc ho get until p) result m w (for_down hc p _)
+      (λ h. joined (mqget hc ho get until p) p h (mqget_keeps hc ho get until p h.facts) (get_stocked hc ho get until p h.stocked)) (get_limit hc ho get until p w.limit)
 
   pub well_cmit : (hc : Hconn) (result : Result (Answer (Unit {0})) (Halt Reason)) → MeetsInRoom v (mqcmit hc v.plain) result new → IsWell new.plain
   well_cmit hc result m = let p : Plain = v.plain in

@@ -1,9 +1,9 @@
 //! The queue manager and its calls.
 ghost use Rattle.std.specs.Prelude.{◌≡◌};
 ghost use Rattle.mq_spec_state.specs.Words.{Meets, MeetsInRoom, AreLow, is_up};
-ghost use Rattle.mq_spec_manager.specs.Words.{mqconn, mqopen, mqclose, mqput, mqput1, mqcmit, mqback, mqdisc};
+ghost use Rattle.mq_spec_manager.specs.Words.{mqconn, mqopen, mqclose, mqput, mqput1, mqget, mqcmit, mqback, mqdisc};
 
-use mq_calls::{Answer, Appl, Halt, Hconn, Hobj, Open, Sent};
+use mq_calls::{Answer, Appl, Get, GetAnswer, Halt, Hconn, Hobj, Open, Sent};
 use mq_codes::Reason;
 use mq_core::Core;
 use mq_disk::Disk;
@@ -95,6 +95,19 @@ impl<D: Disk> Manager<D> {
         ensures { Meets self.old (mqput1 hc name.now qmgr.now md.now body.now sync self.old.plain) result self.new }
     {
         mq_mqi::mqput1(&mut self.core, hc, name, qmgr, md, body, sync)
+    }
+
+    /// MQGET (MQI reference). An answer NotYet has changed nothing.
+    pub fn mqget(
+        &mut self,
+        hc: Hconn,
+        ho: Hobj,
+        get: &Get,
+        until: Option<u64>,
+    ) -> Result<GetAnswer, Halt<Reason>>
+        ensures { Meets self.old (mqget hc ho get.now until self.old.plain) result self.new }
+    {
+        mq_get::mqget(&mut self.core, hc, ho, get, until)
     }
 
     /// MQCMIT (MQI reference). It takes no memory.
