@@ -1,7 +1,7 @@
 -- The text of a command that gives attributes is read as what it gives.
 use Rattle.std.proofs.Common.{ℕ, ◌≡◌, ◌⊎◌, ◌+◌, Bool, true, false, List, [], ◌∷◌, ◌++◌, append_assoc, append-nil, length, refl, ap, sym, subst, ◌∙◌, arith, map, inl, inr}
 use Rattle.std.specs.Prelude.{Option, Some, None, Result, Ok, Err, if◌then◌else◌, ◌==◌, ◌&&◌, ◌||◌, not, codes, drop}
-use Rattle.std.specs.List.{list_all, list_any, position_or_len}
+use Rattle.std.specs.List.{list_all, list_any}
 use Rattle.std.specs.Str.{bytes_eq}
 use Rattle.mq_name.specs.Name.{IsName, is_name_byte}
 use Rattle.mq_text.specs.Pieces.{is_break}
@@ -39,7 +39,7 @@ use Rattle.mq_sc_parse.specs.declared.splitting.Item.{Item}
 use Rattle.mq_sc_parse.specs.declared.command.Command.{Command}
 use Rattle.mq_sc_parse.specs.declared.command.Command.TheVariants as commands
 use Rattle.mq_sc_parse.specs.Checks.{has_word}
-use Rattle.mq_sc_parse.specs.Splitting.{items_of, items_from, item_at, item_len, value_len, is_close, is_word_kind, is_open_kind, word_of_kind}
+use Rattle.mq_sc_parse.specs.Splitting.{items_of, items_from, item_at, item_len, value_len, inner_len, is_word_kind, is_open_kind, word_of_kind}
 use Rattle.mq_sc_parse.specs.Parsing.{subject_of, parse_of}
 use Rattle.mq_sc_grammar.specs.Written.{BeginsApart}
 use Rattle.mq_sc_grammar.specs.Spelling.{Clause, IsClause, AreClauses, kinds_of, IsNamed}
@@ -201,7 +201,7 @@ item_of_two word first second name cs t u us ks is_first is_second is_rest are n
     v = value_read name us (tokens.Open ∷ tokens.Quoted name ∷ tokens.Close ∷ []) ks (tokens.Quoted name, refl, refl) is_rest
 
     short : item_len t (u ∷ us) ≡ 0
-    short = ap (λ (k : TokenKind). if is_word_kind k then value_len (u ∷ us) else 0) is_first ∙ ap (λ (k : TokenKind). if is_open_kind k then 2 + position_or_len is_close us else 0) is_second
+    short = ap (λ (k : TokenKind). if is_word_kind k then value_len (u ∷ us) else 0) is_first ∙ ap (λ (k : TokenKind). if is_open_kind k then 1 + inner_len us else 0) is_second
 
 no_word : (word first second name : List ℕ) (cs : List Clause) (ts : List Token) (ks : List TokenKind) → kinds_of ts ≡ tokens.Word first ∷ tokens.Word second ∷ tokens.Open ∷ tokens.Quoted name ∷ tokens.Close ∷ ks → AreClauses cs ks
     → bytes_eq first word ≡ false → bytes_eq second word ≡ false → ((c : Clause) → Mem c cs → bytes_eq (key_text c.key) word ≡ false) → has_word word (items_of ts) ≡ false
