@@ -151,9 +151,9 @@ local_after : (q : LocalQueue) (name : List ℕ) (d : Definitions) → local_of 
 local_after q name d = ap as_local (set_found Queues name (objects.Local q) d.objects)
     ∙ bool_case (bytes_eq name q.name) (λ b. as_local (if b then Some (objects.Local q) else object_in Queues name d.objects) ≡ (if b then Some q else as_local (object_in Queues name d.objects))) (λ e. refl) (λ e. refl)
 
-set_local_form : (strict : Bool) (number : ℕ) (q : LocalQueue) (i : Image) → can_set (objects.Local q) (object_in Queues q.name i.definitions.objects) i.shelves ≡ true → IsSoFar strict number i
+set_local_form : (number : ℕ) (q : LocalQueue) (i : Image) → can_set (objects.Local q) (object_in Queues q.name i.definitions.objects) i.shelves ≡ true → IsSoFar number i
     → (s : Shelf) (h : Row) → Mem s i.shelves → Mem h s.rows → IsForm (local_of s.name i.definitions) (local_of s.name (set (objects.Local q) i.definitions))
-set_local_form strict number q i can k s h m n = subst (IsForm (local_of s.name i.definitions)) (sym (local_after q s.name i.definitions))
+set_local_form number q i can k s h m n = subst (IsForm (local_of s.name i.definitions)) (sym (local_after q s.name i.definitions))
     (bool_case (bytes_eq s.name q.name) (λ b. bytes_eq s.name q.name ≡ b → IsForm (local_of s.name i.definitions) (if b then Some q else local_of s.name i.definitions))
     (λ z w. let same = name_is s.name q.name w in
     subst (λ (x : List ℕ). IsForm (local_of x i.definitions) (Some q)) (sym same)
@@ -180,23 +180,23 @@ other_after new name d ss l can = ap as_local (set_found Queues name new d.objec
     was (objects.Channel q) l w can = absurd cc
     was (objects.Process q) l w can = absurd cc
 
-set_other_so_far : (strict : Bool) (number : ℕ) (new : Object) (i : Image) → is_local new ≡ false → can_set new (object_in (space_of new) (name_of new) i.definitions.objects) i.shelves ≡ true → IsSoFar strict number i → IsSoFar strict number (record i { definitions = set new i.definitions })
-set_other_so_far strict number new i l can h = record {
+set_other_so_far : (number : ℕ) (new : Object) (i : Image) → is_local new ≡ false → can_set new (object_in (space_of new) (name_of new) i.definitions.objects) i.shelves ≡ true → IsSoFar number i → IsSoFar number (record i { definitions = set new i.definitions })
+set_other_so_far number new i l can h = record {
   once = once_set new i.definitions.objects h.once;
   shelves = h.shelves ∙ sym (set_other_names new i.definitions.objects l (other_kind new (object_in (space_of new) (name_of new) i.definitions.objects) i.shelves l can));
-  rows = formed_shelved (sight strict number i) (set new i.definitions) i.shelves (λ s x m n. same_locals (local_of s.name i.definitions) (local_of s.name (set new i.definitions)) (other_after new s.name i.definitions i.shelves l can)) h.rows;
+  rows = formed_shelved (sight number i) (set new i.definitions) i.shelves (λ s x m n. same_locals (local_of s.name i.definitions) (local_of s.name (set new i.definitions)) (other_after new s.name i.definitions i.shelves l can)) h.rows;
   senders = h.senders;
   receivers = h.receivers;
   senders_sorted = h.senders_sorted;
   receivers_sorted = h.receivers_sorted;
 }
 
-set_local_so_far : (strict : Bool) (number : ℕ) (q : LocalQueue) (i : Image) → can_set (objects.Local q) (object_in Queues q.name i.definitions.objects) i.shelves ≡ true → IsSoFar strict number i
-    → IsSoFar strict number (record i { definitions = set (objects.Local q) i.definitions; shelves = shelf_if (local_of q.name i.definitions) q.name i.shelves })
-set_local_so_far strict number q i can h = record {
+set_local_so_far : (number : ℕ) (q : LocalQueue) (i : Image) → can_set (objects.Local q) (object_in Queues q.name i.definitions.objects) i.shelves ≡ true → IsSoFar number i
+    → IsSoFar number (record i { definitions = set (objects.Local q) i.definitions; shelves = shelf_if (local_of q.name i.definitions) q.name i.shelves })
+set_local_so_far number q i can h = record {
   once = once_set (objects.Local q) i.definitions.objects h.once;
   shelves = names (local_of q.name i.definitions) refl ∙ sym (set_local_names q i.definitions.objects (there_kind q (object_in Queues q.name i.definitions.objects) i.shelves can));
-  rows = shelved (local_of q.name i.definitions) (formed_shelved (sight strict number i) (set (objects.Local q) i.definitions) i.shelves (set_local_form strict number q i can h) h.rows);
+  rows = shelved (local_of q.name i.definitions) (formed_shelved (sight number i) (set (objects.Local q) i.definitions) i.shelves (set_local_form number q i can h) h.rows);
   senders = h.senders;
   receivers = h.receivers;
   senders_sorted = h.senders_sorted;
@@ -207,8 +207,8 @@ set_local_so_far strict number q i can h = record {
     names None e = set_shelf_names (record { name = q.name; rows = [] }) i.shelves ∙ ap (add_name q.name) h.shelves
     names (Some x) e = h.shelves ∙ sym (add_there q.name (local_names i.definitions.objects) (name_listed q.name i.definitions.objects (ap is_some e)))
 
-    shelved : (o : Option LocalQueue) → AreShelved (defining (sight strict number i) (set (objects.Local q) i.definitions)) i.shelves → AreShelved (defining (sight strict number i) (set (objects.Local q) i.definitions)) (shelf_if o q.name i.shelves)
-    shelved None a = empty_shelved (defining (sight strict number i) (set (objects.Local q) i.definitions)) q.name i.shelves a
+    shelved : (o : Option LocalQueue) → AreShelved (defining (sight number i) (set (objects.Local q) i.definitions)) i.shelves → AreShelved (defining (sight number i) (set (objects.Local q) i.definitions)) (shelf_if o q.name i.shelves)
+    shelved None a = empty_shelved (defining (sight number i) (set (objects.Local q) i.definitions)) q.name i.shelves a
     shelved (Some x) a = a
 
 -- One is deleted
@@ -255,50 +255,50 @@ deleted_other space name n d once l is = ap as_local (delete_found Queues space 
     sym (no_local (object_in Queues name d.objects) (subst (λ (x : List ℕ). is_local_at (object_in Queues x d.objects) ≡ false) (sym (name_is name n b.1)) (subst (λ (x : Space). is_local_at (object_in x n d.objects) ≡ false) (is b.0) l))))
     (λ z w. refl) refl
 
-delete_local_so_far : (strict : Bool) (number : ℕ) (name : List ℕ) (i : Image) → can_delete (subjects.Local name) (object_in Queues name i.definitions.objects) i.shelves ≡ true → IsSoFar strict number i
-    → IsSoFar strict number (record i { definitions = delete Queues name i.definitions; shelves = filter (λ (s : Shelf). not (bytes_eq name s.name)) i.shelves })
-delete_local_so_far strict number name i can h = record {
+delete_local_so_far : (number : ℕ) (name : List ℕ) (i : Image) → can_delete (subjects.Local name) (object_in Queues name i.definitions.objects) i.shelves ≡ true → IsSoFar number i
+    → IsSoFar number (record i { definitions = delete Queues name i.definitions; shelves = filter (λ (s : Shelf). not (bytes_eq name s.name)) i.shelves })
+delete_local_so_far number name i can h = record {
   once = once_delete Queues name i.definitions.objects h.once;
   shelves = dropped_names name i.shelves ∙ ap (filter (λ x. not (bytes_eq name x))) h.shelves
       ∙ sym (delete_local_names name i.definitions.objects h.once (none_or (object_in Queues name i.definitions.objects) (deleted_kind (subjects.Local name) (object_in Queues name i.definitions.objects) i.shelves can)));
-  rows = formed_shelved (sight strict number i) (delete Queues name i.definitions) (filter (λ (s : Shelf). not (bytes_eq name s.name)) i.shelves)
+  rows = formed_shelved (sight number i) (delete Queues name i.definitions) (filter (λ (s : Shelf). not (bytes_eq name s.name)) i.shelves)
       (λ s x m n. same_locals (local_of s.name i.definitions) (local_of s.name (delete Queues name i.definitions)) (deleted_local s.name name i.definitions h.once (passed name s i.shelves m)))
-      (fewer_shelved (sight strict number i) (λ (s : Shelf). not (bytes_eq name s.name)) i.shelves h.rows);
+      (fewer_shelved (sight number i) (λ (s : Shelf). not (bytes_eq name s.name)) i.shelves h.rows);
   senders = h.senders;
   receivers = h.receivers;
   senders_sorted = h.senders_sorted;
   receivers_sorted = h.receivers_sorted;
 }
 
-delete_other_so_far : (strict : Bool) (number : ℕ) (space : Space) (name : List ℕ) (i : Image) → is_local_at (object_in space name i.definitions.objects) ≡ false → (same_space Queues space ≡ true → space ≡ Queues) → IsSoFar strict number i
-    → IsSoFar strict number (record i { definitions = delete space name i.definitions })
-delete_other_so_far strict number space name i l is h = record {
+delete_other_so_far : (number : ℕ) (space : Space) (name : List ℕ) (i : Image) → is_local_at (object_in space name i.definitions.objects) ≡ false → (same_space Queues space ≡ true → space ≡ Queues) → IsSoFar number i
+    → IsSoFar number (record i { definitions = delete space name i.definitions })
+delete_other_so_far number space name i l is h = record {
   once = once_delete space name i.definitions.objects h.once;
   shelves = h.shelves ∙ sym (delete_other_names space name i.definitions.objects l);
-  rows = formed_shelved (sight strict number i) (delete space name i.definitions) i.shelves (λ s x m n. same_locals (local_of s.name i.definitions) (local_of s.name (delete space name i.definitions)) (deleted_other space s.name name i.definitions h.once l is)) h.rows;
+  rows = formed_shelved (sight number i) (delete space name i.definitions) i.shelves (λ s x m n. same_locals (local_of s.name i.definitions) (local_of s.name (delete space name i.definitions)) (deleted_other space s.name name i.definitions h.once l is)) h.rows;
   senders = h.senders;
   receivers = h.receivers;
   senders_sorted = h.senders_sorted;
   receivers_sorted = h.receivers_sorted;
 }
 
-pub changed_so_far : (strict : Bool) (number : ℕ) (change : ObjectChange) (i : Image) → can_change change i.definitions i.shelves ≡ true → IsSoFar strict number i → IsSoFar strict number (doing (records.Objects change) i)
-changed_so_far strict number (changes.Set (objects.Local q)) i can h = set_local_so_far strict number q i can h
-changed_so_far strict number (changes.Set (objects.Alias q)) i can h = set_other_so_far strict number (objects.Alias q) i refl can h
-changed_so_far strict number (changes.Set (objects.Remote q)) i can h = set_other_so_far strict number (objects.Remote q) i refl can h
-changed_so_far strict number (changes.Set (objects.Channel q)) i can h = set_other_so_far strict number (objects.Channel q) i refl can h
-changed_so_far strict number (changes.Set (objects.Process q)) i can h = set_other_so_far strict number (objects.Process q) i refl can h
-changed_so_far strict number (changes.SetManager m) i can h = record {
+pub changed_so_far : (number : ℕ) (change : ObjectChange) (i : Image) → can_change change i.definitions i.shelves ≡ true → IsSoFar number i → IsSoFar number (doing (records.Objects change) i)
+changed_so_far number (changes.Set (objects.Local q)) i can h = set_local_so_far number q i can h
+changed_so_far number (changes.Set (objects.Alias q)) i can h = set_other_so_far number (objects.Alias q) i refl can h
+changed_so_far number (changes.Set (objects.Remote q)) i can h = set_other_so_far number (objects.Remote q) i refl can h
+changed_so_far number (changes.Set (objects.Channel q)) i can h = set_other_so_far number (objects.Channel q) i refl can h
+changed_so_far number (changes.Set (objects.Process q)) i can h = set_other_so_far number (objects.Process q) i refl can h
+changed_so_far number (changes.SetManager m) i can h = record {
   once = h.once;
   shelves = h.shelves;
-  rows = formed_shelved (sight strict number i) (changed (changes.SetManager m) i.definitions) i.shelves (λ s x k n. same_locals (local_of s.name i.definitions) (local_of s.name i.definitions) refl) h.rows;
+  rows = formed_shelved (sight number i) (changed (changes.SetManager m) i.definitions) i.shelves (λ s x k n. same_locals (local_of s.name i.definitions) (local_of s.name i.definitions) refl) h.rows;
   senders = h.senders;
   receivers = h.receivers;
   senders_sorted = h.senders_sorted;
   receivers_sorted = h.receivers_sorted;
 }
-changed_so_far strict number (changes.Delete (subjects.Local n)) i can h = delete_local_so_far strict number n i can h
-changed_so_far strict number (changes.Delete (subjects.Alias n)) i can h = delete_other_so_far strict number Queues n i (deleted_kind (subjects.Alias n) (object_in Queues n i.definitions.objects) i.shelves can) (λ e. refl) h
-changed_so_far strict number (changes.Delete (subjects.Remote n)) i can h = delete_other_so_far strict number Queues n i (deleted_kind (subjects.Remote n) (object_in Queues n i.definitions.objects) i.shelves can) (λ e. refl) h
-changed_so_far strict number (changes.Delete (subjects.Channel n)) i can h = delete_other_so_far strict number Channels n i (deleted_kind (subjects.Channel n) (object_in Channels n i.definitions.objects) i.shelves can) (λ e. absurd cc) h
-changed_so_far strict number (changes.Delete (subjects.Process n)) i can h = delete_other_so_far strict number Processes n i (deleted_kind (subjects.Process n) (object_in Processes n i.definitions.objects) i.shelves can) (λ e. absurd cc) h
+changed_so_far number (changes.Delete (subjects.Local n)) i can h = delete_local_so_far number n i can h
+changed_so_far number (changes.Delete (subjects.Alias n)) i can h = delete_other_so_far number Queues n i (deleted_kind (subjects.Alias n) (object_in Queues n i.definitions.objects) i.shelves can) (λ e. refl) h
+changed_so_far number (changes.Delete (subjects.Remote n)) i can h = delete_other_so_far number Queues n i (deleted_kind (subjects.Remote n) (object_in Queues n i.definitions.objects) i.shelves can) (λ e. refl) h
+changed_so_far number (changes.Delete (subjects.Channel n)) i can h = delete_other_so_far number Channels n i (deleted_kind (subjects.Channel n) (object_in Channels n i.definitions.objects) i.shelves can) (λ e. absurd cc) h
+changed_so_far number (changes.Delete (subjects.Process n)) i can h = delete_other_so_far number Processes n i (deleted_kind (subjects.Process n) (object_in Processes n i.definitions.objects) i.shelves can) (λ e. absurd cc) h

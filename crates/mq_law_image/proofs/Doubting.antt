@@ -51,7 +51,7 @@ tag_same queue idents channel name row = at (selects (Among queue idents) name r
     at false = (refl, refl)
 
 pub row_held : (v : Sight) (channel : List ℕ) (unit : Luw) (last : ℕ) (queue : List ℕ) (idents : List Ident) (name : List ℕ) (h : Row) → v.doubt channel ≡ None → is_held_among idents h ≡ false
-    → (v.strict ≡ true → list_any (same_ident h.message.ident) idents ≡ true → bytes_eq queue name ≡ true) → IsRowOf v name h
+    → (list_any (same_ident h.message.ident) idents ≡ true → bytes_eq queue name ≡ true) → IsRowOf v name h
     → IsRowOf (settling v channel (Some (record { unit = unit; queue = queue; idents = idents; last = last }))) name (held_tag queue idents channel name h)
 row_held v channel unit last queue idents name h none loose own r =
     bool_case (selects (Among queue idents) name h && is_free h) (λ b. (selects (Among queue idents) name h && is_free h) ≡ b → IsRowOf w name (retag_if b (Some (holders.Batch channel)) h)) (λ z e. taken e) (λ z e. left e) refl
@@ -73,10 +73,10 @@ row_held v channel unit last queue idents name h none loose own r =
           unbacked = r.unbacked;
           routed = r.routed;
           held = subst (λ (t : Bool). IsListed name h.message.ident (if t then Some doubt else v.doubt channel)) (sym (name_self channel)) (sym (name_is name queue s.0), s.1);
-          doubted = λ o c f.
+          doubted = λ c f.
               bool_case (bytes_eq c channel) (λ t. bytes_eq c channel ≡ t → list_any (same_ident h.message.ident) (listed (if t then Some doubt else v.doubt c)) ≡ true → Some (holders.Batch channel) ≡ Some (holders.Batch c))
               (λ z x g. ap (λ (n : List ℕ). Some (holders.Batch n)) (sym (name_is c channel x)))
-              (λ z x g. absurd (cc (free_none h.by b.1, r.doubted o c g))) refl f;
+              (λ z x g. absurd (cc (free_none h.by b.1, r.doubted c g))) refl f;
           known = r.known;
         }
 
@@ -92,13 +92,13 @@ row_held v channel unit last queue idents name h none loose own r =
       unbacked = r.unbacked;
       routed = r.routed;
       held = held h.by r.held;
-      doubted = λ o c f.
+      doubted = λ c f.
           bool_case (bytes_eq c channel) (λ t. bytes_eq c channel ≡ t → list_any (same_ident h.message.ident) (listed (if t then Some doubt else v.doubt c)) ≡ true → h.by ≡ Some (holders.Batch c))
           (λ z x g. absurd (cc (
             e,
-            ap (λ (b : Bool). (b && list_any (same_ident h.message.ident) idents) && is_free h) (name_turned name queue ∙ own o g) ∙ ap (λ (b : Bool). (true && b) && is_free h) g ∙ ap (λ (b : Bool). (true && true) && b) (free (is_free h) g loose),
+            ap (λ (b : Bool). (b && list_any (same_ident h.message.ident) idents) && is_free h) (name_turned name queue ∙ own g) ∙ ap (λ (b : Bool). (true && b) && is_free h) g ∙ ap (λ (b : Bool). (true && true) && b) (free (is_free h) g loose),
           )))
-          (λ z x g. r.doubted o c g) refl f;
+          (λ z x g. r.doubted c g) refl f;
       known = r.known;
     }
       where
@@ -118,8 +118,8 @@ row_left v channel name h e r = record {
   unbacked = r.unbacked;
   routed = r.routed;
   held = held h.by e r.held;
-  doubted = λ o c f.
-      bool_case (bytes_eq c channel) (λ t. list_any (same_ident h.message.ident) (listed (if t then None else v.doubt c)) ≡ true → h.by ≡ Some (holders.Batch c)) (λ z g. absurd cc) (λ z g. r.doubted o c g) f;
+  doubted = λ c f.
+      bool_case (bytes_eq c channel) (λ t. list_any (same_ident h.message.ident) (listed (if t then None else v.doubt c)) ≡ true → h.by ≡ Some (holders.Batch c)) (λ z g. absurd cc) (λ z g. r.doubted c g) f;
   known = r.known;
 }
   where
@@ -144,10 +144,10 @@ row_freed v channel name h r = bool_case (held_by (holders.Batch channel) h.by) 
       unbacked = r.unbacked;
       routed = r.routed;
       held = tt;
-      doubted = λ o c f.
+      doubted = λ c f.
           bool_case (bytes_eq c channel) (λ t. bytes_eq c channel ≡ t → list_any (same_ident h.message.ident) (listed (if t then None else v.doubt c)) ≡ true → None ≡ Some (holders.Batch c))
           (λ z x g. absurd cc)
-          (λ z x g. absurd (cc (x, name_yes c channel (sym (batch_is channel c h.by (by_batch channel h.by e) (r.doubted o c g))))))
+          (λ z x g. absurd (cc (x, name_yes c channel (sym (batch_is channel c h.by (by_batch channel h.by e) (r.doubted c g))))))
           refl f;
       known = r.known;
     }
@@ -162,7 +162,7 @@ row_less v ident name h ne r = record {
   unbacked = r.unbacked;
   routed = r.routed;
   held = held h.by r.held;
-  doubted = λ o c e. r.doubted o c (less_listed ident h.message.ident (v.doubt c) e);
+  doubted = λ c e. r.doubted c (less_listed ident h.message.ident (v.doubt c) e);
   known = r.known;
 }
   where

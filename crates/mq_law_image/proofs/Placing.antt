@@ -36,14 +36,14 @@ use Rattle.mq_law_image.proofs.Naming.{shelf_names, set_shelf_names, add_there, 
 not_has : (ident : Ident) (row : Row) → not (has_ident ident row) ≡ true → ident ≢ row.message.ident
 not_has ident row e w = cc (e, ap (λ (i : Ident). not (same_ident row.message.ident i)) w ∙ ap not (ident_self row.message.ident))
 
-pub cleared_so_far : (strict : Bool) (number : ℕ) (ident : Ident) (i : Image) → IsSoFar strict number i → IsSoFar strict number (cleared ident i)
-cleared_so_far strict number ident i h = record {
+pub cleared_so_far : (number : ℕ) (ident : Ident) (i : Image) → IsSoFar number i → IsSoFar number (cleared ident i)
+cleared_so_far number ident i h = record {
   once = h.once;
   shelves = on_all_names (without_ident ident) (λ s. refl) i.shelves ∙ h.shelves;
-  rows = kept_shelved (sight strict number i) (sight strict number (cleared ident i)) (λ name row. not (has_ident ident row)) i.shelves
+  rows = kept_shelved (sight number i) (sight number (cleared ident i)) (λ name row. not (has_ident ident row)) i.shelves
       (λ s row m n keep r.
-      row_doubts (doubting (sight strict number i) (λ c. less_ident ident (in_doubt_of (sender_in c i.senders)))) (λ c. in_doubt_of (sender_in c (off_lists ident i.senders))) s.name row (λ c. doubt_less c ident i.senders)
-      (row_less (sight strict number i) ident s.name row (not_has ident row keep) r)) h.rows;
+      row_doubts (doubting (sight number i) (λ c. less_ident ident (in_doubt_of (sender_in c i.senders)))) (λ c. in_doubt_of (sender_in c (off_lists ident i.senders))) s.name row (λ c. doubt_less c ident i.senders)
+      (row_less (sight number i) ident s.name row (not_has ident row keep) r)) h.rows;
   senders = off_sides number i.incarnation ident i.senders h.senders;
   receivers = h.receivers;
   senders_sorted = off_sorted ident i.senders h.senders_sorted;
@@ -56,12 +56,12 @@ is_there : (o : Option LocalQueue) (m : Message) → fits_local o m ≡ true →
 is_there None m e = absurd cc
 is_there (Some q) m e = refl
 
-pub added_so_far : (strict : Bool) (number : ℕ) (a : Add) (i : Image) → fits a.queue a.message i.definitions ≡ true → is_persistent a.message ≡ true → IsKnown number i.incarnation a.message.ident → IsSoFar strict number i → IsSoFar strict number (added a i)
-added_so_far strict number a i fit lasts known h = record {
+pub added_so_far : (number : ℕ) (a : Add) (i : Image) → fits a.queue a.message i.definitions ≡ true → is_persistent a.message ≡ true → IsKnown number i.incarnation a.message.ident → IsSoFar number i → IsSoFar number (added a i)
+added_so_far number a i fit lasts known h = record {
   once = k.once;
   shelves = set_shelf_names (placed_on a.queue a.message i.definitions j.shelves) j.shelves
       ∙ add_there (shelf_in a.queue j.shelves).name (shelf_names j.shelves) (ap (λ (n : List ℕ). list_any (bytes_eq n) (shelf_names j.shelves)) there.1 ∙ listed_there) ∙ k.shelves;
-  rows = placed_shelved (sight strict number j) a.queue a.message j.shelves there lasts fit known new off k.rows;
+  rows = placed_shelved (sight number j) a.queue a.message j.shelves there lasts fit known new off k.rows;
   senders = k.senders;
   receivers = k.receivers;
   senders_sorted = k.senders_sorted;
@@ -71,8 +71,8 @@ added_so_far strict number a i fit lasts known h = record {
     j : Image
     j = cleared a.message.ident i
 
-    k : IsSoFar strict number j
-    k = cleared_so_far strict number a.message.ident i h
+    k : IsSoFar number j
+    k = cleared_so_far number a.message.ident i h
 
     listed_there : list_any (bytes_eq a.queue) (shelf_names j.shelves) ≡ true
     listed_there = ap (list_any (bytes_eq a.queue)) k.shelves ∙ name_listed a.queue i.definitions.objects (is_there (local_of a.queue i.definitions) a.message fit)
@@ -93,12 +93,12 @@ added_so_far strict number a i fit lasts known h = record {
 abbrev pub AreGiven : ℕ → ℕ → List Add → Type 0
 AreGiven number incarnation adds = (a : Add) → Mem a adds → IsKnown number incarnation a.message.ident
 
-pub added_all_so_far : (strict : Bool) (number : ℕ) (adds : List Add) (i : Image) → can_add_all adds i ≡ true → ArePersistent adds → AreGiven number i.incarnation adds → IsSoFar strict number i → IsSoFar strict number (added_all adds i)
-added_all_so_far strict number [] i can lasts known h = h
-added_all_so_far strict number (a ∷ as_) i can lasts known h =
+pub added_all_so_far : (number : ℕ) (adds : List Add) (i : Image) → can_add_all adds i ≡ true → ArePersistent adds → AreGiven number i.incarnation adds → IsSoFar number i → IsSoFar number (added_all adds i)
+added_all_so_far number [] i can lasts known h = h
+added_all_so_far number (a ∷ as_) i can lasts known h =
     let b = both (can_add a i) (can_add_all as_ (added a i)) can in
-    added_all_so_far strict number as_ (added a i) b.1 (λ x m. lasts x (inr m)) (λ x m. known x (inr m))
-    (added_so_far strict number a i ((both (fits a.queue a.message i.definitions) (not (stands_on a.message.ident i.shelves)) b.0).0) (lasts a (inl refl)) (known a (inl refl)) h)
+    added_all_so_far number as_ (added a i) b.1 (λ x m. lasts x (inr m)) (λ x m. known x (inr m))
+    (added_so_far number a i ((both (fits a.queue a.message i.definitions) (not (stands_on a.message.ident i.shelves)) b.0).0) (lasts a (inl refl)) (known a (inl refl)) h)
 
 -- (they change neither definitions nor incarnations)
 pub added_all_same : (adds : List Add) (i : Image) → (added_all adds i).incarnation ≡ i.incarnation
@@ -107,20 +107,20 @@ added_all_same (a ∷ as_) i = added_all_same as_ (added a i)
 
 -- A row is removed
 
-pub removed_so_far : (strict : Bool) (number : ℕ) (r : Remove) (i : Image) → IsSoFar strict number i → IsSoFar strict number (removed r i)
-removed_so_far strict number r i h = record {
+pub removed_so_far : (number : ℕ) (r : Remove) (i : Image) → IsSoFar number i → IsSoFar number (removed r i)
+removed_so_far number r i h = record {
   once = h.once;
   shelves = on_all_names (kept_on (λ name row. not (selects (Among r.queue (r.ident ∷ [])) name row))) (λ s. refl) i.shelves ∙ h.shelves;
-  rows = kept_shelved (sight strict number i) (sight strict number i) (λ name row. not (selects (Among r.queue (r.ident ∷ [])) name row)) i.shelves (λ s row m n keep k. k) h.rows;
+  rows = kept_shelved (sight number i) (sight number i) (λ name row. not (selects (Among r.queue (r.ident ∷ [])) name row)) i.shelves (λ s row m n keep k. k) h.rows;
   senders = h.senders;
   receivers = h.receivers;
   senders_sorted = h.senders_sorted;
   receivers_sorted = h.receivers_sorted;
 }
 
-pub removed_all_so_far : (strict : Bool) (number : ℕ) (rs : List Remove) (i : Image) → IsSoFar strict number i → IsSoFar strict number (removed_all rs i)
-removed_all_so_far strict number [] i h = h
-removed_all_so_far strict number (r ∷ rs) i h = removed_all_so_far strict number rs (removed r i) (removed_so_far strict number r i h)
+pub removed_all_so_far : (number : ℕ) (rs : List Remove) (i : Image) → IsSoFar number i → IsSoFar number (removed_all rs i)
+removed_all_so_far number [] i h = h
+removed_all_so_far number (r ∷ rs) i h = removed_all_so_far number rs (removed r i) (removed_so_far number r i h)
 
 pub removed_all_same : (rs : List Remove) (i : Image) → (removed_all rs i).incarnation ≡ i.incarnation
 removed_all_same [] i = refl

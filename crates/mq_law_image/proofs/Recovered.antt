@@ -1,5 +1,5 @@
 -- The image of a log's bodies is one.
-use Rattle.std.proofs.Common.{Bool, ℕ, ◌≡◌, ◌≢◌, ◌+◌, ◌≤◌, true, false, List, [], ◌∷◌, length, refl, ap, sym, subst, ◌∙◌, inl, inr}
+use Rattle.std.proofs.Common.{ℕ, ◌≡◌, ◌≢◌, ◌+◌, ◌≤◌, true, false, List, [], ◌∷◌, length, refl, ap, sym, subst, ◌∙◌, inl, inr}
 use Rattle.std.specs.Prelude.{Option, Some, None, if◌then◌else◌, Result, Ok, Err, All}
 use Rattle.std.specs.List.{list_any, AllByRecursion}
 use Rattle.std.specs.Str.{bytes_eq}
@@ -35,7 +35,7 @@ use Rattle.mq_law_manager.specs.Facts.{Mem, Chain, ident_of}
 use Rattle.mq_law_manager.proofs.Lists.{bool_case, ident_no}
 use Rattle.mq_law_manager.proofs.Named.{name_self}
 use Rattle.mq_law_manager.proofs.Routes.{side_found}
-use Rattle.mq_law_image.specs.SoFar.{sight, IsHeldIn, IsRowOf, IsSoFar, ArePersistent, IsKept, IsOwnThen, AreOwn}
+use Rattle.mq_law_image.specs.SoFar.{sight, IsHeldIn, IsRowOf, IsSoFar, ArePersistent, IsKept}
 use Rattle.mq_law_image.proofs.Members.{every, all_pairs, chain_implied}
 use Rattle.mq_law_image.proofs.Naming.{shelves_named}
 use Rattle.mq_law_image.proofs.Records.{record_so_far}
@@ -87,23 +87,23 @@ abbrev or_image : Image → Result Image ℕ → Image
 or_image d (Ok i) = i
 or_image d (Err place) = d
 
-one_so_far : (strict : Bool) (g : Given) (start : Start) (place : ℕ) (body : List ℕ) (bodies : List (List ℕ)) (go : Image → Result Image ℕ) (o : Option LogRecord) (i j : Image)
-    → ((k : Image) → go k ≡ Ok j → (strict ≡ true → AreOwn bodies k) → IsSoFar strict g.number k → IsSoFar strict g.number j)
-    → IsBytes body → record_of body ≡ o → or_place place go (behind g start i o) ≡ Ok j → (strict ≡ true → IsOwnThen o (AreOwn bodies) i) → IsSoFar strict g.number i → IsSoFar strict g.number j
-one_so_far strict g start place body bodies go None i j rest fits is e own h = absurd cc
-one_so_far strict g start place body bodies go (Some r) i j rest fits is e own h =
-    bool_case (applies g start r i) (λ b. applies g start r i ≡ b → or_place place go (if b then Some (doing r i) else None) ≡ Ok j → IsSoFar strict g.number j)
-    (λ z w f. rest (doing r i) f (λ o. (own o).1) (record_so_far strict g start r i w (body_kept body r fits is) (λ o. (own o).0) h))
+one_so_far : (g : Given) (start : Start) (place : ℕ) (body : List ℕ) (bodies : List (List ℕ)) (go : Image → Result Image ℕ) (o : Option LogRecord) (i j : Image)
+    → ((k : Image) → go k ≡ Ok j → IsSoFar g.number k → IsSoFar g.number j)
+    → IsBytes body → record_of body ≡ o → or_place place go (behind g start i o) ≡ Ok j → IsSoFar g.number i → IsSoFar g.number j
+one_so_far g start place body bodies go None i j rest fits is e h = absurd cc
+one_so_far g start place body bodies go (Some r) i j rest fits is e h =
+    bool_case (applies g start r i) (λ b. applies g start r i ≡ b → or_place place go (if b then Some (doing r i) else None) ≡ Ok j → IsSoFar g.number j)
+    (λ z w f. rest (doing r i) f (record_so_far g start r i w (body_kept body r fits is) h))
     (λ z w f. absurd cc) refl e
 
-from_so_far : (strict : Bool) (g : Given) (start : Start) (place : ℕ) (bodies : List (List ℕ)) (i j : Image) → image_from g start place bodies i ≡ Ok j → AllByRecursion IsBytes bodies → (strict ≡ true → AreOwn bodies i) → IsSoFar strict g.number i → IsSoFar strict g.number j
-from_so_far strict g start place [] i j e fits own h = subst (IsSoFar strict g.number) (ap (or_image i) e) h
-from_so_far strict g start place (body ∷ bodies) i j e fits own h =
-    one_so_far strict g start place body bodies (image_from g start (place + length (frame body)) bodies) (record_of body) i j
-    (λ k f own_k so_far. from_so_far strict g start (place + length (frame body)) bodies k j f fits.1 own_k so_far) fits.0 refl e own h
+from_so_far : (g : Given) (start : Start) (place : ℕ) (bodies : List (List ℕ)) (i j : Image) → image_from g start place bodies i ≡ Ok j → AllByRecursion IsBytes bodies → IsSoFar g.number i → IsSoFar g.number j
+from_so_far g start place [] i j e fits h = subst (IsSoFar g.number) (ap (or_image i) e) h
+from_so_far g start place (body ∷ bodies) i j e fits h =
+    one_so_far g start place body bodies (image_from g start (place + length (frame body)) bodies) (record_of body) i j
+    (λ k f so_far. from_so_far g start (place + length (frame body)) bodies k j f fits.1 so_far) fits.0 refl e h
 
-empty_so_far : (strict : Bool) (number : ℕ) → IsSoFar strict number empty_image
-empty_so_far strict number = record {
+empty_so_far : (number : ℕ) → IsSoFar number empty_image
+empty_so_far number = record {
   once = tt;
   shelves = refl;
   rows = record { row = λ s h m n. absurd m; alone = λ s t h k m n x y e. absurd m; laned = λ s m. absurd m; once = λ s m. absurd m };
@@ -113,9 +113,9 @@ empty_so_far strict number = record {
   receivers_sorted = tt;
 }
 
-pub image_so_far : (strict : Bool) (g : Given) (start : Start) (bodies : List (List ℕ)) (i : Image) → image g start bodies ≡ Ok i → AllByRecursion IsBytes bodies → (strict ≡ true → AreOwn bodies empty_image) → IsSoFar strict g.number i
-image_so_far strict g start bodies i e fits own = bool_case (begins bodies) (λ b. (if b then image_from g start 0 bodies empty_image else Err 0) ≡ Ok i → IsSoFar strict g.number i)
-    (λ z f. from_so_far strict g start 0 bodies empty_image i f fits own (empty_so_far strict g.number)) (λ z f. absurd cc) e
+pub image_so_far : (g : Given) (start : Start) (bodies : List (List ℕ)) (i : Image) → image g start bodies ≡ Ok i → AllByRecursion IsBytes bodies → IsSoFar g.number i
+image_so_far g start bodies i e fits = bool_case (begins bodies) (λ b. (if b then image_from g start 0 bodies empty_image else Err 0) ≡ Ok i → IsSoFar g.number i)
+    (λ z f. from_so_far g start 0 bodies empty_image i f fits (empty_so_far g.number)) (λ z f. absurd cc) e
 
 -- What holds so far is an image
 
@@ -124,7 +124,7 @@ held_well i queue ident None h = tt
 held_well i queue ident (Some (holders.Unit n)) h = h
 held_well i queue ident (Some (holders.Batch c)) h = h
 
-pub is_image : (number : ℕ) (i : Image) → IsSoFar true number i → IsImage i
+pub is_image : (number : ℕ) (i : Image) → IsSoFar number i → IsImage i
 is_image number i h = record {
   once = all_pairs (λ (a b : Object). is_object (space_of a) (name_of a) b ≡ false) i.definitions.objects h.once;
   shelves = h.shelves;
@@ -145,7 +145,7 @@ is_image number i h = record {
     named : Chain (λ (s t : Shelf). bytes_eq s.name t.name ≡ false) i.shelves
     named = shelves_named i.definitions.objects i.shelves h.once h.shelves
 
-    lasting : (s : Shelf) (x : Row) → IsRowOf (sight true number i) s.name x → IsLasting i s.name x
+    lasting : (s : Shelf) (x : Row) → IsRowOf (sight number i) s.name x → IsLasting i s.name x
     lasting s x r = record {
       persistent = r.persistent;
       lane = r.lane;
@@ -153,7 +153,7 @@ is_image number i h = record {
       unbacked = r.unbacked;
       routed = r.routed;
       held = held_well i s.name x.message.ident x.by r.held;
-      doubted = every (IsOfDoubt x) i.senders (λ t k e. r.doubted refl t.channel (ap (λ o. list_any (same_ident x.message.ident) (listed (in_doubt_of o))) (side_found i.senders t h.senders_sorted k) ∙ e));
+      doubted = every (IsOfDoubt x) i.senders (λ t k e. r.doubted t.channel (ap (λ o. list_any (same_ident x.message.ident) (listed (in_doubt_of o))) (side_found i.senders t h.senders_sorted k) ∙ e));
     }
 
     apart : (s t : Shelf) → Mem s i.shelves → Mem t i.shelves → bytes_eq s.name t.name ≡ false → AreApart s t
@@ -161,14 +161,11 @@ is_image number i h = record {
         (λ x k. every (λ (y : Row). same_ident x.message.ident y.message.ident ≡ false) t.rows
         (λ y l. ident_no x.message.ident y.message.ident (λ w. cc (e, ap (bytes_eq s.name) (sym (h.rows.alone s t x y m n k l w)) ∙ name_self s.name))))
 
-pub are_known : (number : ℕ) (i : Image) → IsSoFar true number i → AreKnown number i
+pub are_known : (number : ℕ) (i : Image) → IsSoFar number i → AreKnown number i
 are_known number i h = record {
   rows = every (λ (s : Shelf). All (λ (row : Row). IsKnown number i.incarnation row.message.ident) s.rows) i.shelves (λ s m. every (λ (row : Row). IsKnown number i.incarnation row.message.ident) s.rows (λ x n. (h.rows.row s x m n).known));
   doubts = every (λ (s : SenderSide). IsDoubtKnown number i.incarnation s.hardened.in_doubt) i.senders (λ s m. (h.senders s m).known);
 }
 
-pub recovered : (g : Given) (start : Start) (bodies : List (List ℕ)) (i : Image) → image g start bodies ≡ Ok i → AllByRecursion IsBytes bodies → AreOwn bodies empty_image → IsImage i × AreKnown g.number i
-recovered g start bodies i e fits own = let h = image_so_far true g start bodies i e fits (λ o. own) in (is_image g.number i h, are_known g.number i h)
-
-pub recovered_but : (g : Given) (start : Start) (bodies : List (List ℕ)) (i : Image) → image g start bodies ≡ Ok i → AllByRecursion IsBytes bodies → IsSoFar false g.number i
-recovered_but g start bodies i e fits = image_so_far false g start bodies i e fits (λ o. absurd (cc o))
+pub recovered : (g : Given) (start : Start) (bodies : List (List ℕ)) (i : Image) → image g start bodies ≡ Ok i → AllByRecursion IsBytes bodies → IsImage i × AreKnown g.number i
+recovered g start bodies i e fits = let h = image_so_far g start bodies i e fits in (is_image g.number i h, are_known g.number i h)

@@ -107,7 +107,7 @@ placed_is v queue m lasts fit known off = record {
   unbacked = refl;
   routed = fits_routes (local_of queue v.definitions) m fit;
   held = tt;
-  doubted = λ o channel e. absurd (cc (e, off channel));
+  doubted = λ channel e. absurd (cc (e, off channel));
   known = known;
 }
 

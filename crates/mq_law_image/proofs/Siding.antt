@@ -170,7 +170,7 @@ row_doubts v d queue h same r = record {
   unbacked = r.unbacked;
   routed = r.routed;
   held = held h.by r.held;
-  doubted = λ o c e. r.doubted o c (ap (λ (o : Option InDoubt). list_any (same_ident h.message.ident) (listed o)) (sym (same c)) ∙ e);
+  doubted = λ c e. r.doubted c (ap (λ (o : Option InDoubt). list_any (same_ident h.message.ident) (listed o)) (sym (same c)) ∙ e);
   known = r.known;
 }
   where

@@ -54,7 +54,7 @@ rests doubt queue ident None h = refl
 rests doubt queue ident (Some (holders.Unit n)) h = absurd h
 rests doubt queue ident (Some (holders.Batch c)) h = refl
 
-begun_lasts : (g : Given) (i : Image) (log : LogState) (moment : ℕ) → IsSoFar false g.number i → lasting (begun g (raised 0 i) log moment) ≡ raised 0 i
+begun_lasts : (g : Given) (i : Image) (log : LogState) (moment : ℕ) → IsSoFar g.number i → lasting (begun g (raised 0 i) log moment) ≡ raised 0 i
 begun_lasts g i log moment h = ap (λ (ss : List Shelf). record (raised 0 i) { shelves = ss }) (shelves_back i.shelves (λ s row m n. let r = h.rows.row s row m n in record {
   persistent = r.persistent;
   uncounted = r.uncounted;
@@ -80,4 +80,4 @@ pub first_told : (g : Given) (start : Start) (bodies : List (List ℕ)) (next : 
 first_told g start bodies next i long moment e fits read bounds =
     first_more g start bodies next (started_record g (i.incarnation + 1)) i e read refl (started_applies g g start (i.incarnation + 1) i refl bounds)
     ∙ ap (λ (n : ℕ). Ok (record i { incarnation = n })) (higher i.incarnation)
-    ∙ ap (λ (k : Image). Ok k) (sym (begun_lasts g i (record { length = long + started_need g; armed = 0 }) moment (image_so_far false g start bodies i e fits (λ o. absurd (cc o)))))
+    ∙ ap (λ (k : Image). Ok k) (sym (begun_lasts g i (record { length = long + started_need g; armed = 0 }) moment (image_so_far g start bodies i e fits)))

@@ -1,7 +1,6 @@
 -- What holds of an image behind each record of its log, by look-up: `IsImage` and `AreKnown` follow.
-use Rattle.std.specs.Prelude.{◌≡◌, ℕ, pos, not, ◌&&◌, Bool, true, List, [], ◌∷◌, Option, Some, None, is_some, map}
+use Rattle.std.specs.Prelude.{◌≡◌, ℕ, pos, true, List, Option, Some, None, is_some, map}
 use Rattle.std.specs.List.{list_any}
-use Rattle.std.specs.Str.{bytes_eq}
 use Rattle.mq_message.specs.declared.message.Ident.{Ident}
 use Rattle.mq_message.specs.declared.place.Holder.{Holder}
 use Rattle.mq_message.specs.declared.place.Holder.TheVariants as holders
@@ -20,20 +19,16 @@ use Rattle.mq_spec_state.specs.Changes.{lane_of, comes_before}
 use Rattle.mq_spec_state.specs.Images.{Image, Shelf}
 use Rattle.mq_spec_state.specs.Recovery.{IsListed, listed, routes, IsKnown, IsDoubtKnown, IsSenderSide, IsReceiverSide}
 use Rattle.mq_law_manager.specs.Facts.{Mem, Chain, Differ, ident_of, AreOnce, AreLaned, AreSorted}
-use Rattle.mq_spec_log.specs.Records.{doing}
-use Rattle.mq_spec_log.specs.Bodies.{record_of}
 
--- What rows are seen against: the manager's number, the incarnations that have begun, the definitions, units in doubt; and
--- whether each batch was prepared on its own queue.
+-- What rows are seen against: the manager's number, the incarnations that have begun, the definitions, units in doubt.
 pub record Sight : Type 0 where
-  pub strict : Bool
   pub number : ℕ
   pub incarnation : ℕ
   pub definitions : Definitions
   pub doubt : List ℕ → Option InDoubt
 
-abbrev pub sight : Bool → ℕ → Image → Sight
-sight strict number i = record { strict = strict; number = number; incarnation = i.incarnation; definitions = i.definitions; doubt = λ channel. in_doubt_of (sender_in channel i.senders) }
+abbrev pub sight : ℕ → Image → Sight
+sight number i = record { number = number; incarnation = i.incarnation; definitions = i.definitions; doubt = λ channel. in_doubt_of (sender_in channel i.senders) }
 
 -- a row is free, or of a unit in doubt that was taken from its queue and lists it
 abbrev pub IsHeldIn : (List ℕ → Option InDoubt) → List ℕ → Ident → Option Holder → Type 0
@@ -48,7 +43,7 @@ pub record IsRowOf (v : Sight) (queue : List ℕ) (row : Row) : Type 0 where
   pub unbacked : row.message.md.backout_count ≡ pos 0
   pub routed : is_some row.message.route ≡ routes (local_of queue v.definitions)
   pub held : IsHeldIn v.doubt queue row.message.ident row.by
-  pub doubted : v.strict ≡ true → (channel : List ℕ) → list_any (same_ident row.message.ident) (listed (v.doubt channel)) ≡ true → row.by ≡ Some (holders.Batch channel)
+  pub doubted : (channel : List ℕ) → list_any (same_ident row.message.ident) (listed (v.doubt channel)) ≡ true → row.by ≡ Some (holders.Batch channel)
   pub known : IsKnown v.number v.incarnation row.message.ident
 
 -- the rows of all shelves
@@ -66,10 +61,10 @@ pub record IsSideOf (number incarnation : ℕ) (s : SenderSide) : Type 0 where
 abbrev pub AreReceiversSorted : List ReceiverSide → Type 0
 AreReceiversSorted sides = Chain (λ (r t : ReceiverSide). comes_before r.channel t.channel ≡ true) sides
 
-pub record IsSoFar (strict : Bool) (number : ℕ) (i : Image) : Type 0 where
+pub record IsSoFar (number : ℕ) (i : Image) : Type 0 where
   pub once : AreOnce i.definitions.objects
   pub shelves : map (λ (s : Shelf). s.name) i.shelves ≡ map (λ (q : LocalQueue). q.name) (locals_of i.definitions)
-  pub rows : AreShelved (sight strict number i) i.shelves
+  pub rows : AreShelved (sight number i) i.shelves
   pub senders : (s : SenderSide) → Mem s i.senders → IsSideOf number i.incarnation s
   pub receivers : (r : ReceiverSide) → Mem r i.receivers → IsReceiverSide r
   pub senders_sorted : AreSorted i.senders
@@ -84,21 +79,3 @@ IsKept (records.Unit adds removes) = ArePersistent adds
 IsKept (records.Received channel unit last adds) = ArePersistent adds
 IsKept (records.Moved from ident to message) = is_persistent message ≡ true
 IsKept _ = Unit {0}
-
--- A batch is prepared on its own queue: no row of another queue has one of its idents. A manager writes no other, since an
--- ident is at most once.
-abbrev pub is_elsewhere : List ℕ → List Ident → Shelf → Bool
-is_elsewhere queue idents s = not (bytes_eq queue s.name) && list_any (λ (row : Row). list_any (same_ident row.message.ident) idents) s.rows
-
-abbrev pub is_own : LogRecord → Image → Bool
-is_own (records.Prepared channel unit last queue idents) i = not (list_any (is_elsewhere queue idents) i.shelves)
-is_own _ i = true
-
--- so it is at each record of a log
-abbrev pub IsOwnThen : Option LogRecord → (Image → Type 0) → Image → Type 0
-IsOwnThen None rest i = Unit {0}
-IsOwnThen (Some r) rest i = (is_own r i ≡ true) × rest (doing r i)
-
-abbrev pub AreOwn : List (List ℕ) → Image → Type 0
-AreOwn [] i = Unit {0}
-AreOwn (body ∷ bodies) i = IsOwnThen (record_of body) (AreOwn bodies) i

@@ -39,20 +39,17 @@ ghost use Rattle.mq_spec_manager.specs.Stops.{failed, first_start, grown, next_s
 ghost use Rattle.mq_spec_state.specs.Recovery.{AreKnown, IsImage};
 ghost use Rattle.mq_spec_log.specs.Applies.{Start, is_in_bounds};
 ghost use Rattle.mq_spec_log.specs.Applies.Start.{First, Later};
-ghost use Rattle.mq_spec_log.specs.Bodies.{empty_image, image, record_of};
+ghost use Rattle.mq_spec_log.specs.Bodies.{image, record_of};
 ghost use Rattle.mq_spec_log.specs.Texts.{change_in, gives_all};
 ghost use Rattle.mq_law_log.specs.Restarts.{IsGivenIn, IsHarmless};
 ghost use Rattle.mq_law_manager.specs.Facts.{AreNamed, IsSound, Mem};
 ghost use Rattle.mq_law_image.specs.Bounds.{HaveArrived, IsBounded, noted_growth, part_growth, restart_growth, step_growth};
 ghost use Rattle.mq_law_image.specs.Laid.{AreWritten, CanDefine, IsSubject, Written, alter_bits, clauses_of, define_bits, settings_of, text_of};
-ghost use Rattle.mq_law_image.specs.SoFar.{AreOwn, IsSoFar};
 ghost use Rattle.mq_law_image.specs.Tells.{Tells, TellsDown};
 
-/// What recovery gives of a log is an image, and the log knew the idents of its own manager in it, where each batch was prepared
-/// on its own queue, as every manager does; and without that all of it holds but that a row which a unit in doubt lists is its own.
+/// What recovery gives of a log is an image, and the log knew the idents of its own manager in it.
 pub fn recovery_gives_an_image()
-    ensures image { (g : Given) (start : Start) (bodies : List (List ℕ)) (i : Image) → image g start bodies ≡ Ok i → AllByRecursion IsBytes bodies → AreOwn bodies empty_image → IsImage i × AreKnown g.number i }
-    ensures so_far { (g : Given) (start : Start) (bodies : List (List ℕ)) (i : Image) → image g start bodies ≡ Ok i → AllByRecursion IsBytes bodies → IsSoFar false g.number i }
+    ensures { (g : Given) (start : Start) (bodies : List (List ℕ)) (i : Image) → image g start bodies ≡ Ok i → AllByRecursion IsBytes bodies → IsImage i × AreKnown g.number i }
 {}
 
 /// A first start has what its log tells, with its own Started record.

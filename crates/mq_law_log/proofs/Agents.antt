@@ -31,11 +31,11 @@ use Rattle.mq_spec_manager.specs.Put.{next_ident}
 use Rattle.mq_spec_manager.specs.Get.{idents_of}
 use Rattle.mq_spec_manager.specs.Triggers.{trigger_turn, trigger_at, serve, serve_by, serve_into, put_trigger, takes_it, first_due, route_to, trigger_message}
 use Rattle.mq_spec_agents.specs.Words.{CanHarden, CanHold, CanPrepare, IsPreparable, HasFreeRow, NoneInDoubt, is_row_in_doubt, seize, leave, set_bound, channel_queue, expire, expired_rows, queue_of_sender, hold_batch, release_batch, release_of, prepare, prepare_of, prepared_record, prepared_changes, harden, discard}
-use Rattle.mq_spec_log.specs.Applies.{can_prepare, are_distinct, is_held_among}
+use Rattle.mq_spec_log.specs.Applies.{can_prepare, are_distinct, is_held_among, is_elsewhere}
 use Rattle.mq_law_manager.specs.View.{view}
 use Rattle.mq_law_manager.specs.Facts.{Mem, Chain, ident_of, IsSound}
-use Rattle.mq_law_manager.proofs.Lists.{bool_case}
-use Rattle.mq_law_manager.proofs.Named.{name_is}
+use Rattle.mq_law_manager.proofs.Lists.{bool_case, is_false, any_mem}
+use Rattle.mq_law_manager.proofs.Named.{name_is, name_self}
 use Rattle.mq_law_manager.proofs.Beginning.{pairs_chain}
 use Rattle.mq_law_manager.proofs.Removals.{mem_filter, differ_filter}
 use Rattle.mq_law_manager.proofs.Handling.{is_loose}
@@ -49,7 +49,7 @@ use Rattle.mq_law_log.proofs.Batches.{holding_aside, releasing_aside}
 use Rattle.mq_law_log.proofs.Placings.{has_set}
 use Rattle.mq_law_log.proofs.Harmless.{prepare_harmless}
 use Rattle.mq_law_log.proofs.Hardenings.{harden_harmless, sender_doubt}
-use Rattle.mq_law_log.proofs.Bridge.{sound_logs}
+use Rattle.mq_law_log.proofs.Bridge.{sound_logs, rows_of}
 use Rattle.mq_law_log.proofs.Givens.{batch_given, note_given}
 use Rattle.mq_law_log.proofs.Applications.{unforced, tested_h, are_free, is_free_of, removals_harmless}
 
@@ -172,15 +172,40 @@ held_shelves : (bs : List Batch) (idents : List Ident) (qs : List Queue) → All
 held_shelves bs idents [] h = refl
 held_shelves bs idents (q ∷ qs) h = ap (λ (b : Bool). b || list_any (λ (s : Shelf). list_any (is_held_among idents) s.rows) (shelves_of bs qs)) (held_rows bs idents q.rows h.0) ∙ held_shelves bs idents qs h.1
 
-preparable : (b : Batch) (channel : List ℕ) (p : Plain) → IsPreparable b channel p → can_prepare b.unit b.idents (sender_or (sender_data channel p)) (lasting p).shelves ≡ true
-preparable b channel p h =
+-- no row of another queue has an ident of a batch: the row that it holds stands on its queue, and an ident is on one queue
+
+none_there : (idents : List Ident) (bs : List Batch) (rows : List Row) → ((x : Row) → Mem x rows → list_any (same_ident x.message.ident) idents ≡ false)
+    → list_any (λ (row : Row). list_any (same_ident row.message.ident) idents) (lasting_rows bs rows) ≡ false
+none_there idents bs [] f = refl
+none_there idents bs (row ∷ rows) f = bool_case (is_persistent row.message) (λ t. list_any (λ (x : Row). list_any (same_ident x.message.ident) idents) (if t then lasting_row bs row ∷ lasting_rows bs rows else lasting_rows bs rows) ≡ false)
+    (λ e. ap (λ (t : Bool). t || list_any (λ (x : Row). list_any (same_ident x.message.ident) idents) (lasting_rows bs rows)) (f row (inl refl)) ∙ none_there idents bs rows (λ x m. f x (inr m)))
+    (λ e. none_there idents bs rows (λ x m. f x (inr m)))
+
+no_shelf : (queue : List ℕ) (idents : List Ident) (bs : List Batch) (qs : List Queue)
+    → ((q : Queue) (x : Row) → Mem q qs → Mem x q.rows → bytes_eq queue q.name ≡ false → list_any (same_ident x.message.ident) idents ≡ false) → list_any (is_elsewhere queue idents) (shelves_of bs qs) ≡ false
+no_shelf queue idents bs [] f = refl
+no_shelf queue idents bs (q ∷ qs) f =
+    ap (λ (t : Bool). t || list_any (is_elsewhere queue idents) (shelves_of bs qs))
+    (bool_case (bytes_eq queue q.name) (λ t. bytes_eq queue q.name ≡ t → (not t && list_any (λ (x : Row). list_any (same_ident x.message.ident) idents) (lasting_rows bs q.rows)) ≡ false)
+    (λ z e. refl) (λ z e. none_there idents bs q.rows (λ x m. f q x (inl refl) m e)) refl)
+    ∙ no_shelf queue idents bs qs (λ d x m. f d x (inr m))
+
+alone : (b : Batch) (p : Plain) → batch_of b.channel p.channels.batches ≡ Some b → IsSound p → list_any (is_elsewhere b.queue b.idents) (lasting p).shelves ≡ false
+alone b p e h = no_shelf b.queue b.idents p.channels.batches p.queues (λ q x m n apart. is_false (list_any (same_ident x.message.ident) b.idents) (λ t.
+    let full = h.facts.batched.full b.channel b x.message.ident e (any_mem x.message.ident b.idents t) in
+    let one : b.queue ≡ q.name = h.facts.apart.alone b.queue q.name full.row x full.there (subst (λ (rows : List Row). Mem x rows) (sym (rows_of p h.named q m)) n) full.is in
+    cc (sym apart ∙ ap (bytes_eq b.queue) (sym one) ∙ name_self b.queue)))
+
+preparable : (b : Batch) (channel : List ℕ) (p : Plain) → IsPreparable b channel p → list_any (is_elsewhere b.queue b.idents) (lasting p).shelves ≡ false
+    → can_prepare b.unit b.queue b.idents (sender_or (sender_data channel p)) (lasting p).shelves ≡ true
+preparable b channel p h elsewhere =
     let session = above_zero b.unit.session h.unit.session in
     let number = above_zero b.unit.n h.unit.number in
     let none : is_some (sender_or (sender_data channel p)).in_doubt ≡ false = ap is_some (sym (sender_doubt (sender_data channel p)) ∙ h.doubt) in
     let le = upto b.unit.session (sender_or (sender_data channel p)).session h.session in
     let apart = distinct b.idents (pairs_chain (λ (x y : Ident). same_ident x y ≡ false) b.idents h.apart) in
     let held = held_shelves p.channels.batches b.idents p.queues h.rows in
-    λ i. (session i && number i) && not (none i) && le i && apart i && not (held i)
+    λ i. (session i && number i) && not (none i) && le i && apart i && not (held i) && not (elsewhere i)
 
 abbrev batch_or : Batch → Option Batch → Batch
 batch_or b None = b
@@ -201,7 +226,7 @@ prepare_h channel last (Some b) p e can h = tested_h (when (is_full (need (prepa
 
     part : IsHarmless (record { forced = Some (prepared_record channel last b); changes = prepared_changes channel last b (sender_or (sender_data channel p)); delta = did.Prepared channel b.unit ∷ [] }) p
     part = subst (λ (c : List ℕ). IsHarmless (record { forced = Some (prepared_record c last b); changes = prepared_changes c last b (sender_or (sender_data c p)); delta = did.Prepared c b.unit ∷ [] }) p) own
-        (prepare_harmless b last p (found_batch b.channel p.channels.batches b found).0 ((sound_logs p h).batches b found) (preparable b b.channel p fits))
+        (prepare_harmless b last p (found_batch b.channel p.channels.batches b found).0 ((sound_logs p h).batches b found) (preparable b b.channel p fits (alone b p found h)))
 
 pub prepare_harmless_whole : (channel : List ℕ) (last : ℕ) (p : Plain) → CanPrepare channel p → IsSound p → StepHarmless (prepare channel last p) p
 prepare_harmless_whole channel last p can h = prepare_h channel last (batch_of channel p.channels.batches) p refl can h

@@ -179,7 +179,7 @@ prepared_shelves b bs h (q ∷ qs) e = ap (λ (x : List Row). record (shelf_of b
     ∙ ap (λ (x : List Shelf). held_rows (Among b.queue b.idents) (holders.Batch b.channel) (shelf_of bs q) ∷ x) (prepared_shelves b bs h qs e.1)
 
 pub prepared_does : (b : Batch) (last : ℕ) (p : Plain) → has_batch b.channel p.channels.batches ≡ true → AllByRecursion (HoldsJust b) p.queues
-    → can_prepare b.unit b.idents (sender_or (sender_data b.channel p)) (lasting p).shelves ≡ true
+    → can_prepare b.unit b.queue b.idents (sender_or (sender_data b.channel p)) (lasting p).shelves ≡ true
     → Told (Some (prepared_record b.channel last b)) p (lasting (apply_all (prepared_changes b.channel last b (sender_or (sender_data b.channel p))) p))
 prepared_does b last p h e can = (
   can,

@@ -101,9 +101,9 @@ number_harmless channel ends.Receiver last p h = harmless (harden_part channel (
 
 -- a batch is prepared
 pub prepare_harmless : (b : Batch) (last : ℕ) (p : Plain) → has_batch b.channel p.channels.batches ≡ true → AllByRecursion (HoldsJust b) p.queues
-    → can_prepare b.unit b.idents (sender_or (sender_data b.channel p)) (lasting p).shelves ≡ true → IsHarmless (prepare_part b last p) p
+    → can_prepare b.unit b.queue b.idents (sender_or (sender_data b.channel p)) (lasting p).shelves ≡ true → IsHarmless (prepare_part b last p) p
 prepare_harmless b last p h e can = harmless (prepare_part b last p) p
     (λ log. prepared_does b last (record p { log = log }) h e can)
     (λ running log. prepared_does b last (gone running log p) h
     (all_mapped (HoldsJust b) (kept_in Nonpersistent) (λ q w. all_kept (λ (row : Row). held_by (holders.Batch b.channel) row.by ≡ selects (Among b.queue b.idents) q.name row) (λ (row : Row). not (not (is_persistent row.message))) q.rows w) p.queues e)
-    (subst (λ (i : Image). can_prepare b.unit b.idents (sender_or (sender_data b.channel p)) i.shelves ≡ true) (sym (gone_lasts running log p)) can))
+    (subst (λ (i : Image). can_prepare b.unit b.queue b.idents (sender_or (sender_data b.channel p)) i.shelves ≡ true) (sym (gone_lasts running log p)) can))

@@ -91,7 +91,7 @@ pub fn puts_and_ends_of_units_keep_the_law()
 /// A batch that is prepared; batches that are held or released, rows that units hold, and puts that wait in a unit last nowhere.
 pub fn batches_and_units_last_as_their_records_say()
     ensures prepared { (b : Batch) (last : ℕ) (p : Plain) → has_batch b.channel p.channels.batches ≡ true → AllByRecursion (HoldsJust b) p.queues
-        → can_prepare b.unit b.idents (sender_or (sender_data b.channel p)) (lasting p).shelves ≡ true → IsHarmless (prepare_part b last p) p }
+        → can_prepare b.unit b.queue b.idents (sender_or (sender_data b.channel p)) (lasting p).shelves ≡ true → IsHarmless (prepare_part b last p) p }
     ensures numbers { (channel : List ℕ) (end : End) (last : ℕ) (p : Plain) → in_doubt_of (sender_data channel p) ≡ None → IsHarmless (harden_part channel (notes.SeqSet end last) p) p }
     ensures batches { (b : Batch) (p : Plain) → AllByRecursion (HoldsNone b.channel) p.queues → lasting (apply_all (Hold (Among b.queue b.idents) (holders.Batch b.channel) ∷ AddBatch b ∷ []) p) ≡ lasting p }
     ensures releases { (channel : List ℕ) (p : Plain) → has_batch channel p.channels.batches ≡ true → lasting (apply_all (Release (HeldBy (holders.Batch channel)) false ∷ DropBatch channel ∷ []) p) ≡ lasting p }

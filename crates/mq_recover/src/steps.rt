@@ -140,21 +140,22 @@ impl Recovering {
         Ok(true)
     }
 
-    fn can_prepare(&self, unit: Unit, idents: &[Ident], data: &SenderData) -> bool
-        ensures { result ≡ can_prepare unit idents.now data.now self.now.shelves }
+    fn can_prepare(&self, unit: Unit, queue: &QName, idents: &[Ident], data: &SenderData) -> bool
+        ensures { result ≡ can_prepare unit queue.now idents.now data.now self.now.shelves }
     {
         is_unit(unit)
             && !data.in_doubt.is_some()
             && unit.session <= data.session
             && are_distinct(idents)
             && !self.shelves.holds_any(idents)
+            && !self.shelves.stand_elsewhere(queue, idents)
     }
 
     fn prepare(&mut self, alloc: Global, channel: ChName, doubt: InDoubt) -> Result<bool, NoMemory>
-        ensures { IfOk result (λ done. Does (can_prepare doubt.unit doubt.idents (sender_at channel (seen self.old)) self.old.shelves) (doing (records.Prepared channel doubt.unit doubt.last doubt.queue doubt.idents) (seen self.old)) done (seen self.new)) }
+        ensures { IfOk result (λ done. Does (can_prepare doubt.unit doubt.queue doubt.idents (sender_at channel (seen self.old)) self.old.shelves) (doing (records.Prepared channel doubt.unit doubt.last doubt.queue doubt.idents) (seen self.old)) done (seen self.new)) }
     {
         let mut data = self.sender_at(alloc, &channel)?;
-        if !self.can_prepare(doubt.unit, doubt.idents.as_slice(), &data) {
+        if !self.can_prepare(doubt.unit, &doubt.queue, doubt.idents.as_slice(), &data) {
             return Ok(false);
         }
         let idents = doubt.idents.as_slice();

@@ -11,7 +11,7 @@ use Rattle.mq_queue.proofs.QueueLaws.{keep_same, retag_same}
 use Rattle.mq_calls.specs.declared.image.Shelf.{Shelf}
 use Rattle.mq_spec_state.specs.State.Which.{Among}
 use Rattle.mq_spec_state.specs.Changes.{retag_if}
-use Rattle.mq_spec_log.specs.Applies.{is_held_among}
+use Rattle.mq_spec_log.specs.Applies.{is_held_among, is_elsewhere}
 use Rattle.mq_spec_log.specs.Shelves.{on_all, held_rows}
 use Rattle.mq_shelves.specs.Racks.{any_row, less_held, freed_held}
 use Rattle.mq_shelves.specs.Holds.{held_each, removed_each, freed_each}
@@ -195,3 +195,23 @@ held_among (x ∷ xs) ss =
     ∙ any_same (λ (s : Shelf). list_any (λ (row : Row). not (is_free row) && has_ident x row) s.rows || list_any (is_held_among xs) s.rows) (λ (s : Shelf). list_any (is_held_among (x ∷ xs)) s.rows)
     (λ s. any_or (λ (row : Row). not (is_free row) && has_ident x row) (is_held_among xs) s.rows
     ∙ any_same (λ (row : Row). (not (is_free row) && has_ident x row) || is_held_among xs row) (is_held_among (x ∷ xs)) (λ row. both_or (not (is_free row)) (same_ident row.message.ident x) (list_any (same_ident row.message.ident) xs)) s.rows) ss
+
+-- ---- rows of other queues, of all idents and of each
+
+on_queue : (b : Bool) (x : Ident) (xs : List Ident) (rows : List Row)
+    → (list_any (λ (row : Row). b && has_ident x row) rows || (b && list_any (λ (row : Row). list_any (same_ident row.message.ident) xs) rows))
+    ≡ (b && list_any (λ (row : Row). list_any (same_ident row.message.ident) (x ∷ xs)) rows)
+on_queue true x xs rows = any_or (has_ident x) (λ (row : Row). list_any (same_ident row.message.ident) xs) rows
+on_queue false x xs rows = ap (λ (b : Bool). b || false) (any_none (λ (row : Row). false) (λ row. refl) rows)
+
+no_ident : (b : Bool) (rows : List Row) → (b && list_any (λ (row : Row). list_any (same_ident row.message.ident) []) rows) ≡ false
+no_ident true rows = any_none (λ (row : Row). false) (λ row. refl) rows
+no_ident false rows = refl
+
+pub elsewhere_among : (queue : List ℕ) (xs : List Ident) (ss : List Shelf) → list_any (λ (x : Ident). any_row (λ n row. not (bytes_eq queue n)) x ss) xs ≡ list_any (is_elsewhere queue xs) ss
+elsewhere_among queue [] ss = sym (any_none (is_elsewhere queue []) (λ s. no_ident (not (bytes_eq queue s.name)) s.rows) ss)
+elsewhere_among queue (x ∷ xs) ss =
+    ap (λ (b : Bool). any_row (λ n row. not (bytes_eq queue n)) x ss || b) (elsewhere_among queue xs ss)
+    ∙ any_or (λ (s : Shelf). list_any (λ (row : Row). not (bytes_eq queue s.name) && has_ident x row) s.rows) (is_elsewhere queue xs) ss
+    ∙ any_same (λ (s : Shelf). list_any (λ (row : Row). not (bytes_eq queue s.name) && has_ident x row) s.rows || is_elsewhere queue xs s) (is_elsewhere queue (x ∷ xs))
+    (λ s. on_queue (not (bytes_eq queue s.name)) x xs s.rows) ss

@@ -202,6 +202,16 @@ impl Rows {
         }
     }
 
+    /// Whether a row of an ident stands on a queue of another name.
+    pub fn stands_elsewhere(&self, queue: &QName, ident: &Ident) -> bool
+        ensures { result ≡ any_row (λ n row. not (bytes_eq queue.now n)) ident.now self.now }
+    {
+        match self.find(ident) {
+            None => false,
+            Some(found) => !is_name(queue, &found.queue),
+        }
+    }
+
     /// Whether a free row of an ident stands on the queue of that name.
     fn stands_at(&self, queue: &QName, ident: &Ident) -> bool
         ensures at { result ≡ list_any (is_free_at ident.now) (shelf_in queue.now self.now).rows }

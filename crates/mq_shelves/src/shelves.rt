@@ -7,7 +7,7 @@ ghost use Rattle.mq_message.specs.declared.message.Ident.{Ident};
 ghost use Rattle.mq_queue.specs.Rows.{is_free};
 ghost use Rattle.mq_calls.specs.declared.image.Shelf.{Shelf};
 ghost use Rattle.mq_spec_state.specs.State.Which.{Among, HeldBy};
-ghost use Rattle.mq_spec_log.specs.Applies.{is_free_at, is_held_among, stands_on, has_rows_on};
+ghost use Rattle.mq_spec_log.specs.Applies.{is_free_at, is_held_among, is_elsewhere, stands_on, has_rows_on};
 ghost use Rattle.mq_spec_log.specs.Shelves.{shelf_in, set_shelf, on_all, shelved_in, less_rows, freed_rows, held_rows, without_ident};
 ghost use Rattle.mq_shelves.specs.Racks.{any_row};
 ghost use Rattle.mq_shelves.specs.Holds.{held_each, removed_each, freed_each, or_no_idents};
@@ -49,6 +49,14 @@ fn any_held(rows: &Rows, idents: &[Ident]) -> bool
     ensures { result ≡ list_any (λ (ident : Ident). any_row (λ n row. not (is_free row)) ident rows.now) idents.now }
 {
     idents.iter().any(|ident| rows.is_held(ident))
+}
+
+fn any_elsewhere(rows: &Rows, queue: &QName, idents: &[Ident]) -> bool
+    ensures { result ≡ list_any (λ (ident : Ident). any_row (λ n row. not (bytes_eq queue.now n)) ident rows.now) idents.now }
+{
+    idents
+        .iter()
+        .any(|ident| rows.stands_elsewhere(queue, ident))
 }
 
 // Idents that were noted, and more.
@@ -114,6 +122,13 @@ impl Shelves {
         ensures { result ≡ list_any (λ (s : Shelf). list_any (is_held_among idents.now) s.rows) self.now }
     {
         any_held(&self.rows, idents)
+    }
+
+    /// Whether a row of one of some idents stands on a queue of another name.
+    pub fn stand_elsewhere(&self, queue: &QName, idents: &[Ident]) -> bool
+        ensures { result ≡ list_any (is_elsewhere queue.now idents.now) self.now }
+    {
+        any_elsewhere(&self.rows, queue, idents)
     }
 
     /// Whether the queue of that name has a row.

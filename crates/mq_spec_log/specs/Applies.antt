@@ -80,10 +80,16 @@ abbrev pub are_distinct : List Ident → Bool
 are_distinct [] = true
 are_distinct (ident ∷ idents) = not (list_any (same_ident ident) idents) && are_distinct idents
 
-abbrev pub can_prepare : Luw → List Ident → SenderData → List Shelf → Bool
-can_prepare unit idents d ss =
+-- a row of another queue has one of the idents
+abbrev pub is_elsewhere : List ℕ → List Ident → Shelf → Bool
+is_elsewhere queue idents s = not (bytes_eq queue s.name) && list_any (λ (row : Row). list_any (same_ident row.message.ident) idents) s.rows
+
+-- a batch is taken from one queue: of no ident the row is held, or stands elsewhere
+abbrev pub can_prepare : Luw → List ℕ → List Ident → SenderData → List Shelf → Bool
+can_prepare unit queue idents d ss =
     is_unit unit && not (is_some d.in_doubt) && nat_le unit.session d.session && are_distinct idents
     && not (list_any (λ (s : Shelf). list_any (is_held_among idents) s.rows) ss)
+    && not (list_any (is_elsewhere queue idents) ss)
 
 abbrev pub is_above : Luw → Luw → Bool
 is_above a b = nat_lt b.session a.session || (a.session == b.session && nat_lt b.n a.n)
@@ -136,7 +142,7 @@ suits g (records.Started manager name incarnation) i = manager == g.number && by
 suits g (records.Objects change) i = can_change change i.definitions i.shelves
 suits g (records.Unit adds removes) i = can_remove_all removes i && can_add_all adds (removed_all removes i)
 suits g (records.Session channel partner session) i = nat_lt (sender_at channel i).session session
-suits g (records.Prepared channel unit last queue idents) i = can_prepare unit idents (sender_at channel i) i.shelves
+suits g (records.Prepared channel unit last queue idents) i = can_prepare unit queue idents (sender_at channel i) i.shelves
 suits g (records.Resolved channel unit commit operator) i = is_unit_in_doubt unit (sender_at channel i).in_doubt
 suits g (records.Bound channel partner session last) i = nat_lt (receiver_at channel i).session session
 suits g (records.Closed channel session) i = nat_lt 0 session
