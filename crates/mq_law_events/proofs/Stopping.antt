@@ -1,5 +1,5 @@
 -- Stops, stopped writes and restarts: rows that are told alike keep the facts, and the ledger follows.
-use Rattle.std.proofs.Common.{ℕ, ◌≡◌, ◌≤◌, Bool, true, false, not, List, [], ◌∷◌, ◌++◌, refl, ap, sym, subst, ◌∙◌, map}
+use Rattle.std.proofs.Common.{ℕ, ◌≡◌, Bool, true, false, not, List, [], ◌∷◌, ◌++◌, refl, ap, sym, subst, ◌∙◌, map}
 use Rattle.std.specs.Prelude.{Option, Some, None, ◌==◌, ◌+◌, if◌then◌else◌, ◌&&◌}
 use Rattle.mq_message.specs.declared.message.Ident.{Ident}
 use Rattle.mq_message.specs.declared.place.Holder.{Holder}
@@ -18,13 +18,9 @@ use Rattle.mq_spec_manager.specs.Stops.{at_rest, release_batch}
 use Rattle.mq_spec_network.specs.Ledger as ledgers
 use Rattle.mq_spec_network.specs.Ledger.{Ledger, Users, ledger_rows, leave_queues, unit_of}
 use Rattle.mq_history.specs.declared.story.ManagerPlaces.{ManagerPlaces}
-use Rattle.mq_spec_network.specs.Story.{Mem}
-use Rattle.mq_spec_network.specs.Promised.{AreDistinct}
-use Rattle.mq_spec_network.specs.Standing.{row_told}
-use Rattle.mq_law_rows.specs.World.{World, Book, Ghost, Tag, tag_of, ident_of, away, stands, row_stands, claim, IsElsewhere, LanesRise, got_idents, Inv}
+use Rattle.mq_law_rows.specs.World.{Inv}
 use Rattle.mq_law_rows.specs.Kinds.{with_rows}
-use Rattle.mq_law_rows.proofs.Lists.{bool_case, eqb_self, mem_retag, mem_retagged, keep_retag}
-use Rattle.mq_law_rows.proofs.Batches.{retag_idents}
+use Rattle.mq_law_rows.proofs.Lists.{bool_case, eqb_self}
 use Rattle.mq_law_seen.proofs.Bridges.{loses_rows}
 use Rattle.mq_law_manager.proofs.Numbered.{rows_begun}
 use Rattle.mq_law_manager.proofs.Restarting.{rows_lasting}
