@@ -1,5 +1,5 @@
 -- Stops, stopped writes and restarts: rows that are told alike keep the facts, and the ledger follows.
-use Rattle.std.proofs.Common.{ℕ, ◌≡◌, ◌≤◌, Bool, true, false, not, List, [], ◌∷◌, ◌++◌, refl, ap, sym, subst, ◌∙◌, map}
+use Rattle.std.proofs.Common.{ℕ, ◌≡◌, Bool, true, false, not, List, [], ◌∷◌, ◌++◌, refl, ap, sym, subst, ◌∙◌, map}
 use Rattle.std.specs.Prelude.{Option, Some, None, ◌==◌, ◌+◌, if◌then◌else◌, ◌&&◌}
 use Rattle.mq_message.specs.declared.message.Ident.{Ident}
 use Rattle.mq_message.specs.declared.place.Holder.{Holder}
@@ -18,16 +18,13 @@ use Rattle.mq_spec_manager.specs.Stops.{at_rest, release_batch}
 use Rattle.mq_spec_network.specs.Ledger as ledgers
 use Rattle.mq_spec_network.specs.Ledger.{Ledger, Users, ledger_rows, leave_queues, unit_of}
 use Rattle.mq_history.specs.declared.story.ManagerPlaces.{ManagerPlaces}
-use Rattle.mq_spec_network.specs.Story.{Mem}
-use Rattle.mq_spec_network.specs.Promised.{AreDistinct}
-use Rattle.mq_spec_network.specs.Standing.{row_told}
-use Rattle.mq_law_rows.specs.World.{World, Book, Ghost, Tag, tag_of, ident_of, away, stands, row_stands, claim, IsElsewhere, LanesRise, got_idents, Inv}
+use Rattle.mq_law_rows.specs.World.{Inv}
 use Rattle.mq_law_rows.specs.Kinds.{with_rows}
-use Rattle.mq_law_rows.proofs.Lists.{bool_case, eqb_self, mem_retag, mem_retagged, keep_retag}
-use Rattle.mq_law_rows.proofs.Batches.{retag_idents}
+use Rattle.mq_law_rows.proofs.Lists.{bool_case, eqb_self}
 use Rattle.mq_law_seen.proofs.Bridges.{loses_rows}
 use Rattle.mq_law_manager.proofs.Numbered.{rows_begun}
 use Rattle.mq_law_manager.proofs.Restarting.{rows_lasting}
+use Rattle.mq_law_rows.proofs.Telling.{IsAlike, retells, untells}
 use Rattle.mq_law_events.specs.Local.{Side, Sheet, local, page, Leads, side_of, sheet_of}
 use Rattle.mq_law_events.specs.Tied.{connections_told, IsTold, IsFresh, IsElse, Follow}
 use Rattle.mq_law_events.proofs.Locals.{lands, others_told, retag_both, lasting_of, loses_leads, behind}
@@ -35,99 +32,6 @@ use Rattle.mq_law_events.proofs.Resting.{backs_out_all}
 use Rattle.mq_law_events.proofs.Telling.{left_shelved, here_changed, else_places, else_users, else_then}
 use Rattle.mq_law_events.proofs.Putting.{rows_after, leads_to, users_stay, same_users}
 use Rattle.mq_law_events.proofs.Taking.{retag_same}
-
--- Rows of the same lane, holder and telling
-
-pub record IsAlike (change : Row → Row) : Type 0 where
-  pub lane : (x : Row) → (change x).place.lane ≡ x.place.lane
-  pub by : (x : Row) → (change x).by ≡ x.by
-  pub tag : (x : Row) → tag_of (change x).message ≡ tag_of x.message
-  pub told : (x : Row) → row_told (change x) ≡ row_told x
-
-sorted_alike : (f : Row → Row) → ((x : Row) → (f x).place.lane ≡ x.place.lane) → (xs : List Row) → LanesRise xs → LanesRise (retag f xs)
-sorted_alike f same [] s = tt
-sorted_alike f same (x ∷ xs) s =
-    (λ y n. let w = mem_retag f y xs n in subst (λ z. z ≤ y.place.lane) (sym (same x)) (subst (λ z. x.place.lane ≤ z) (sym (ap (λ (r : Row). r.place.lane) w.2 ∙ same w.0)) (s.0 w.0 w.1)), sorted_alike f same xs s.1)
-
-sorted_back : (f : Row → Row) → ((x : Row) → (f x).place.lane ≡ x.place.lane) → (xs : List Row) → LanesRise (retag f xs) → LanesRise xs
-sorted_back f same [] s = tt
-sorted_back f same (x ∷ xs) s =
-    (λ y n. subst (λ z. z ≤ y.place.lane) (same x) (subst (λ z. (f x).place.lane ≤ z) (same y) (s.0 (f y) (mem_retagged f y xs n))), sorted_back f same xs s.1)
-
--- the facts are kept where rows are changed so, and where they were
-pub retells : (w : World) (g : Ghost) (b : Book) (change : ℕ → Row → Row) → Inv w g b → ((m : ℕ) → IsAlike (change m)) → Inv (with_rows w (λ m q. retag (change m) (w.rows m q))) g b
-retells w g b change h alike =
-    let same_ident_ : (m : ℕ) (x : Row) → (change m x).message.ident ≡ x.message.ident = λ m x. ap (λ (t : Tag). t.ident) ((alike m).tag x) in
-    record {
-      sorted = λ m q. sorted_alike (change m) (λ x. (alike m).lane x) (w.rows m q) (h.sorted m q);
-      shelved = h.shelved;
-      claims = λ m q y n s. let r = mem_retag (change m) y (w.rows m q) n in
-          let by_ : y.by ≡ r.0.by = ap (λ (x : Row). x.by) r.2 ∙ (alike m).by r.0 in
-          ap g.owner (ap ident_of r.2 ∙ same_ident_ m r.0) ∙ h.claims m q r.0 r.1 (ap (stands (away w m)) (sym by_) ∙ s) ∙ ap (claim m q) (sym by_);
-      taken = λ m q y k n e. let r = mem_retag (change m) y (w.rows m q) n in
-          subst (λ j. Mem j (got_idents (w.units m k))) (sym (ap ident_of r.2 ∙ same_ident_ m r.0)) (h.taken m q r.0 k r.1 (sym ((alike m).by r.0) ∙ ap (λ (x : Row). x.by) (sym r.2) ∙ e));
-      batch = λ m q y c n e. let r = mem_retag (change m) y (w.rows m q) n in
-          let f = h.batch m q r.0 c r.1 (sym ((alike m).by r.0) ∙ ap (λ (x : Row). x.by) (sym r.2) ∙ e) in
-          let tag : tag_of r.0.message ≡ tag_of y.message = sym (ap (λ (x : Row). tag_of x.message) r.2 ∙ (alike m).tag r.0) in
-          (f.0, f.1, (λ u z. subst (λ (t : Tag). Mem t (g.sent m c u)) tag (f.2 u z)));
-      live = h.live;
-      present = λ m c u t z no_ n l. let s = h.present m c u t z no_ n l in
-          record { row = change m s.row; there = mem_retagged (change m) s.row (w.rows m (g.source m c)) s.there; by = (alike m).by s.row ∙ s.by; tag = (alike m).tag s.row ∙ s.tag };
-      sent_once = h.sent_once;
-      operated = h.operated;
-      operated_there = h.operated_there;
-      operated_once = h.operated_once;
-      forced = h.forced;
-      pending = h.pending;
-      pending_once = h.pending_once;
-      gets = h.gets;
-      gets_once = h.gets_once;
-      units = h.units;
-      unborn = h.unborn;
-      gone = h.gone;
-      got = h.got;
-      got_once = h.got_once;
-      distinct = λ m q. subst AreDistinct (sym (retag_idents (change m) (same_ident_ m) (w.rows m q))) (h.distinct m q);
-      back = λ m q y n s. let r = mem_retag (change m) y (w.rows m q) n in
-          let by_ : r.0.by ≡ y.by = sym (ap (λ (x : Row). x.by) r.2 ∙ (alike m).by r.0) in
-          subst (λ j. IsElsewhere m (g.owner j)) (sym (ap ident_of r.2 ∙ same_ident_ m r.0)) (h.back m q r.0 r.1 (ap (stands (away w m)) by_ ∙ s));
-      same = λ m q. h.same m q ∙ sym (keep_retag (row_stands (away w m)) (row_stands (away w m)) (change m) (w.rows m q) (λ x n. ap (stands (away w m)) ((alike m).by x)) (λ x. (alike m).told x));
-    }
-
-pub untells : (w : World) (g : Ghost) (b : Book) (change : ℕ → Row → Row) → ((m : ℕ) → IsAlike (change m)) → Inv (with_rows w (λ m q. retag (change m) (w.rows m q))) g b → Inv w g b
-untells w g b change alike h =
-    let same_ident_ : (m : ℕ) (x : Row) → (change m x).message.ident ≡ x.message.ident = λ m x. ap (λ (t : Tag). t.ident) ((alike m).tag x) in
-    record {
-      sorted = λ m q. sorted_back (change m) (λ x. (alike m).lane x) (w.rows m q) (h.sorted m q);
-      shelved = h.shelved;
-      claims = λ m q y n s.
-          ap g.owner (sym (same_ident_ m y)) ∙ h.claims m q (change m y) (mem_retagged (change m) y (w.rows m q) n) (ap (stands (away w m)) ((alike m).by y) ∙ s) ∙ ap (claim m q) ((alike m).by y);
-      taken = λ m q y k n e. subst (λ j. Mem j (got_idents (w.units m k))) (same_ident_ m y) (h.taken m q (change m y) k (mem_retagged (change m) y (w.rows m q) n) ((alike m).by y ∙ e));
-      batch = λ m q y c n e.
-          let f = h.batch m q (change m y) c (mem_retagged (change m) y (w.rows m q) n) ((alike m).by y ∙ e) in
-          (f.0, f.1, (λ u z. subst (λ (t : Tag). Mem t (g.sent m c u)) ((alike m).tag y) (f.2 u z)));
-      live = h.live;
-      present = λ m c u t z no_ n l. let s = h.present m c u t z no_ n l in
-          let r = mem_retag (change m) s.row (w.rows m (g.source m c)) s.there in
-          record { row = r.0; there = r.1; by = sym ((alike m).by r.0) ∙ ap (λ (x : Row). x.by) (sym r.2) ∙ s.by; tag = sym ((alike m).tag r.0) ∙ ap (λ (x : Row). tag_of x.message) (sym r.2) ∙ s.tag };
-      sent_once = h.sent_once;
-      operated = h.operated;
-      operated_there = h.operated_there;
-      operated_once = h.operated_once;
-      forced = h.forced;
-      pending = h.pending;
-      pending_once = h.pending_once;
-      gets = h.gets;
-      gets_once = h.gets_once;
-      units = h.units;
-      unborn = h.unborn;
-      gone = h.gone;
-      got = h.got;
-      got_once = h.got_once;
-      distinct = λ m q. subst AreDistinct (retag_idents (change m) (same_ident_ m) (w.rows m q)) (h.distinct m q);
-      back = λ m q y n s. subst (λ j. IsElsewhere m (g.owner j)) (same_ident_ m y) (h.back m q (change m y) (mem_retagged (change m) y (w.rows m q) n) (ap (stands (away w m)) ((alike m).by y) ∙ s));
-      same = λ m q. h.same m q ∙ keep_retag (row_stands (away w m)) (row_stands (away w m)) (change m) (w.rows m q) (λ x n. ap (stands (away w m)) ((alike m).by x)) (λ x. (alike m).told x);
-    }
 
 -- A row without its count of arrivals and of backouts.
 abbrev pub bare : Row → Row

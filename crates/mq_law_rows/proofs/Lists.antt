@@ -3,23 +3,15 @@ use Rattle.std.proofs.Common.{ℕ, ◌≡◌, ◌<◌, ◌≤◌, ◌⊎◌, Boo
 use Rattle.std.specs.Prelude.{◌==◌, if◌then◌else◌, ◌&&◌, nat_le, map}
 use Rattle.std.specs.Str.{bytes_eq}
 use Rattle.std.proofs.lemmas.Bool.Decides.{nat_tests}
-use Rattle.std.proofs.lemmas.Slice.Eq.{bytes_eq-Decides}
 use Rattle.mq_message.specs.declared.message.Ident.{Ident}
 use Rattle.mq_queue.specs.declared.row.Row.{Row}
 use Rattle.mq_queue.specs.Rows.{same_ident, insert_row, keep, retag}
 use Rattle.mq_spec_network.specs.Story.{Mem}
 use Rattle.mq_spec_network.specs.Promised.{AreDistinct}
 use Rattle.mq_spec_network.specs.Standing.{row_told, rows_told}
+pub use Rattle.mq_law_manager.proofs.Lists.{bool_case, is_false, eqb_yes, eqb_self, ident_yes, ident_self, name_yes, name_self, mem_insert, mem_inserted, mem_insert_old, mem_keep, mem_kept, mem_retag, mem_retagged, mem_append}
 use Rattle.mq_law_rows.specs.Families.{is_here, is_at}
 use Rattle.mq_law_rows.specs.World.{ident_of, idents_in, LanesRise}
-
-pub bool_case : (t : Bool) (P : Bool → Type 0) → (t ≡ true → P true) → (t ≡ false → P false) → P t
-bool_case true P a b = a refl
-bool_case false P a b = b refl
-
-pub is_false : (t : Bool) → (t ≡ true → ⊥) → t ≡ false
-is_false true no_ = absurd (no_ refl)
-is_false false no_ = refl
 
 pub true_false : true ≡ false → ⊥
 true_false e = cc
@@ -50,26 +42,8 @@ and_none false false = refl
 
 -- Tests
 
-pub eqb_yes : (a b : ℕ) → (a == b) ≡ true → a ≡ b
-eqb_yes a b e = grind (arith, nat_tests)
-
-pub eqb_self : (a : ℕ) → (a == a) ≡ true
-eqb_self a = grind (arith, nat_tests)
-
-pub ident_yes : (a b : Ident) → same_ident a b ≡ true → a ≡ b
-ident_yes a b e = grind (arith, nat_tests)
-
-pub ident_self : (a : Ident) → same_ident a a ≡ true
-ident_self a = grind (arith, nat_tests)
-
 pub ident_back : (a b : Ident) → same_ident a b ≡ false → same_ident b a ≡ false
 ident_back a b e = is_false (same_ident b a) (λ t. cc (e, ap (λ x. same_ident x b) (sym (ident_yes b a t)), ident_self b))
-
-pub name_yes : (a b : List ℕ) → bytes_eq a b ≡ true → a ≡ b
-name_yes a b e = grind (arith, bytes_eq-Decides a b)
-
-pub name_self : (a : List ℕ) → bytes_eq a a ≡ true
-name_self a = grind (arith, bytes_eq-Decides a a)
 
 pub here_yes : (m : ℕ) (q : List ℕ) (a : ℕ) (b : List ℕ) → is_here m q a b ≡ true → (a ≡ m) × (b ≡ q)
 here_yes m q a b e = bool_case (a == m) (λ t. (t && bytes_eq b q) ≡ true → (a ≡ m) × (b ≡ q)) (λ x y. (eqb_yes a m x, name_yes b q y)) (λ x y. absurd cc) e
@@ -84,41 +58,6 @@ pub at_self : (m k : ℕ) → is_at m k m k ≡ true
 at_self m k = grind (arith, nat_tests)
 
 -- Members
-
-pub mem_insert : (h x : Row) (xs : List Row) → Mem h (insert_row x xs) → (h ≡ x) ⊎ Mem h xs
-mem_insert h x [] m = grind arith
-mem_insert h x (y ∷ ys) m = grind (arith, nat_tests, mem_insert h x ys)
-
-pub mem_inserted : (x : Row) (xs : List Row) → Mem x (insert_row x xs)
-mem_inserted x [] = inl refl
-mem_inserted x (y ∷ ys) = grind (arith, nat_tests, mem_inserted x ys)
-
-pub mem_insert_old : (h x : Row) (xs : List Row) → Mem h xs → Mem h (insert_row x xs)
-mem_insert_old h x [] m = absurd m
-mem_insert_old h x (y ∷ ys) m = grind (arith, nat_tests, mem_insert_old h x ys)
-
-pub mem_keep : (p : Row → Bool) (x : Row) (xs : List Row) → Mem x (keep p xs) → Mem x xs × (p x ≡ true)
-mem_keep p x [] m = absurd m
-mem_keep p x (y ∷ ys) m = grind (arith, mem_keep p x ys)
-
-pub mem_kept : (p : Row → Bool) (x : Row) (xs : List Row) → Mem x xs → p x ≡ true → Mem x (keep p xs)
-mem_kept p x [] m e = absurd m
-mem_kept p x (y ∷ ys) m e = grind (arith, mem_kept p x ys)
-
-pub mem_retag : (g : Row → Row) (h : Row) (xs : List Row) → Mem h (retag g xs) → (old : Row) × Mem old xs × (h ≡ g old)
-mem_retag g h [] m = absurd m
-mem_retag g h (x ∷ xs) (inl e) = (x, inl refl, e)
-mem_retag g h (x ∷ xs) (inr m) = let r = mem_retag g h xs m in (r.0, inr r.1, r.2)
-
-pub mem_retagged : (g : Row → Row) (h : Row) (xs : List Row) → Mem h xs → Mem (g h) (retag g xs)
-mem_retagged g h [] m = absurd m
-mem_retagged g h (x ∷ xs) (inl e) = inl (ap g e)
-mem_retagged g h (x ∷ xs) (inr m) = inr (mem_retagged g h xs m)
-
-pub mem_append : {A : Type 0} (x : A) (xs ys : List A) → Mem x (xs ++ ys) → Mem x xs ⊎ Mem x ys
-mem_append x [] ys n = inr n
-mem_append x (y ∷ xs) ys (inl e) = inl (inl e)
-mem_append x (y ∷ xs) ys (inr n) = elim (mem_append x xs ys n) [ inl z ↦ inl (inr z) | inr z ↦ inr z ]
 
 pub mem_map : {A B : Type 0} (f : A → B) (x : A) (xs : List A) → Mem x xs → Mem (f x) (map f xs)
 mem_map f x [] n = absurd n
