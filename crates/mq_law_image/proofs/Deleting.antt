@@ -1,16 +1,13 @@
 -- The text of a DELETE is read as that change.
-use Rattle.std.proofs.Common.{ℕ, ◌≡◌, ◌≤◌, ◌<◌, ◌^◌, Bool, true, false, List, [], ◌∷◌, ◌++◌, length, refl, ap, sym, subst, ◌∙◌, arith, inl}
-use Rattle.std.specs.Prelude.{Option, Some, None, Result, Ok, Err, if◌then◌else◌, ◌==◌, ◌&&◌, not, nat_lt, nat_le, codes, position}
+use Rattle.std.proofs.Common.{ℕ, ◌≡◌, ◌≤◌, Bool, true, false, List, [], ◌∷◌, ◌++◌, length, refl, ap, sym, subst, ◌∙◌, arith, inl}
+use Rattle.std.specs.Prelude.{Some, None, Ok, Err, if◌then◌else◌, ◌==◌, ◌&&◌, not, nat_lt, codes, position}
 use Rattle.std.specs.List.{list_all, position_or_len}
 use Rattle.std.specs.Option.{option_map}
-use Rattle.std.proofs.lemmas.List.{append-nil}
 use Rattle.std.proofs.lemmas.Bool.Decides.{nat_tests}
-use Rattle.mq_name.specs.declared.fault.NameFault.{NameFault}
 use Rattle.mq_name.specs.declared.fault.NameFault.TheVariants.{TooLong}
 use Rattle.mq_name.specs.Name.{IsName, is_name_byte, name_of, name_or_bad}
 use Rattle.mq_text.specs.Quoting as quoting
 use Rattle.mq_objects.specs.Attributes as attributes
-use Rattle.mq_objects.specs.declared.change.ObjectChange.{ObjectChange}
 use Rattle.mq_objects.specs.declared.change.ObjectChange.TheVariants as changes
 use Rattle.mq_objects.specs.declared.command.Subject.{Subject}
 use Rattle.mq_objects.specs.declared.command.Subject.TheVariants as subjects
@@ -27,11 +24,10 @@ use Rattle.mq_sc_keys.specs.declared.attributes.Kind.{Kind}
 use Rattle.mq_sc_keys.specs.declared.attributes.Kind.TheVariants as kinds
 use Rattle.mq_sc_keys.specs.Verbs.{object_text, takes}
 use Rattle.mq_sc_keys.specs.Values.{are_blanks, name_or_none}
-use Rattle.mq_sc_parse.specs.declared.command.Command.{Command}
 use Rattle.mq_sc_parse.specs.declared.command.Command.TheVariants as commands
 use Rattle.mq_sc_parse.specs.Parsing.{subject_of, parse_of}
 use Rattle.mq_sc_parse.specs.Splitting.{items_of}
-use Rattle.mq_sc_grammar.specs.Spelling.{kinds_of, IsNamed}
+use Rattle.mq_sc_grammar.specs.Spelling.{IsNamed}
 use Rattle.mq_sc_grammar.specs.Commands.{IsKind, IsCommand}
 use Rattle.mq_sc_grammar.proofs.Readings.{command_read}
 use Rattle.mq_spec_log.specs.Texts.{meant_in, meant_of, change_in}

@@ -1,13 +1,10 @@
 -- The text of a command that gives attributes is read as what it gives.
-use Rattle.std.proofs.Common.{ℕ, ◌≡◌, ◌⊎◌, ◌+◌, Bool, true, false, List, [], ◌∷◌, ◌++◌, append_assoc, append-nil, length, refl, ap, sym, subst, ◌∙◌, arith, map, inl, inr}
-use Rattle.std.specs.Prelude.{Option, Some, None, Result, Ok, Err, if◌then◌else◌, ◌==◌, ◌&&◌, ◌||◌, not, codes, drop}
-use Rattle.std.specs.List.{list_all, list_any}
+use Rattle.std.proofs.Common.{ℕ, ◌≡◌, ◌+◌, Bool, true, false, List, [], ◌∷◌, ◌++◌, append_assoc, append-nil, refl, ap, sym, subst, ◌∙◌, arith, inl, inr}
+use Rattle.std.specs.Prelude.{Option, Some, None, Ok, if◌then◌else◌, ◌&&◌, ◌||◌, not, codes, drop}
+use Rattle.std.specs.List.{list_all}
 use Rattle.std.specs.Str.{bytes_eq}
-use Rattle.mq_name.specs.Name.{IsName, is_name_byte}
-use Rattle.mq_text.specs.Pieces.{is_break}
+use Rattle.mq_name.specs.Name.{IsName}
 use Rattle.mq_text.specs.Quoting.{quoted, doubled}
-use Rattle.mq_objects.specs.declared.object.Object.{Object}
-use Rattle.mq_objects.specs.declared.object.ManagerAttributes.{ManagerAttributes}
 use Rattle.mq_objects.specs.declared.setting.Setting.{Setting}
 use Rattle.mq_objects.specs.declared.command.Subject.{Subject}
 use Rattle.mq_objects.specs.declared.command.Command.TheVariants as objects
@@ -21,7 +18,6 @@ use Rattle.mq_sc_lex.specs.declared.token.Token.{Token}
 use Rattle.mq_sc_lex.specs.declared.token.TokenKind.{TokenKind}
 use Rattle.mq_sc_lex.specs.declared.token.TokenKind.TheVariants as tokens
 use Rattle.mq_sc_lex.specs.Commands.{commands_of}
-use Rattle.mq_sc_lex.specs.Joining.{is_sign}
 use Rattle.mq_sc_keys.specs.declared.keys.Key.{Key}
 use Rattle.mq_sc_keys.specs.declared.keys.Key.TheVariants as words
 use Rattle.mq_sc_keys.specs.declared.verbs.Verb.{Verb}
@@ -30,29 +26,25 @@ use Rattle.mq_sc_keys.specs.declared.verbs.Noun.{Noun}
 use Rattle.mq_sc_keys.specs.declared.verbs.Noun.TheVariants as nouns
 use Rattle.mq_sc_keys.specs.declared.attributes.Kind.{Kind}
 use Rattle.mq_sc_keys.specs.declared.attributes.Kind.TheVariants as kinds
-use Rattle.mq_sc_keys.specs.declared.giving.Given.TheVariants as given
-use Rattle.mq_sc_keys.specs.Keys.{key_text, group_of}
+use Rattle.mq_sc_keys.specs.Keys.{key_text}
 use Rattle.mq_sc_keys.specs.Verbs.{object_text, takes}
-use Rattle.mq_sc_keys.specs.Attributes.{named_by, options_of}
-use Rattle.mq_sc_keys.specs.Values.{given_of, are_blanks}
 use Rattle.mq_sc_parse.specs.declared.splitting.Item.{Item}
-use Rattle.mq_sc_parse.specs.declared.command.Command.{Command}
 use Rattle.mq_sc_parse.specs.declared.command.Command.TheVariants as commands
 use Rattle.mq_sc_parse.specs.Checks.{has_word}
 use Rattle.mq_sc_parse.specs.Splitting.{items_of, items_from, item_at, item_len, value_len, inner_len, is_word_kind, is_open_kind, word_of_kind}
 use Rattle.mq_sc_parse.specs.Parsing.{subject_of, parse_of}
 use Rattle.mq_sc_grammar.specs.Written.{BeginsApart}
-use Rattle.mq_sc_grammar.specs.Spelling.{Clause, IsClause, AreClauses, kinds_of, IsNamed}
-use Rattle.mq_sc_grammar.specs.Commands.{Says, IsKind, AreKnown, AreSingle, AreGiven, IsOnto, HasNeeded, IsCommand, keys_of, value_of}
+use Rattle.mq_sc_grammar.specs.Spelling.{Clause, AreClauses, kinds_of, IsNamed}
+use Rattle.mq_sc_grammar.specs.Commands.{Says, IsKind, AreKnown, AreSingle, AreGiven, IsOnto, HasNeeded, IsCommand, keys_of}
 use Rattle.mq_sc_grammar.proofs.Readings.{command_read}
 use Rattle.mq_sc_grammar.proofs.Splits.{Spell, Valued, items_read, value_read, three_passed}
 use Rattle.mq_spec_log.specs.Texts.{is_plain, gives_all, defined_if, altered_if, meant_in, meant_of, change_in}
 use Rattle.mq_record.specs.declared.record.Operation.TheVariants.{Set as Sets}
 use Rattle.mq_law_manager.specs.Facts.{Mem}
 use Rattle.mq_law_image.specs.Laid.Bit.{Word, Quote, Open, Close, Gap}
-use Rattle.mq_law_image.specs.Laid.{Bit, bit_text, IsValueWell, text_of, kinds_in, AreLaid, IsWell, is_no_end, Written, value_bits, clause_bits, all_bits, clauses_of, settings_of, Ends, IsWritten, AreWritten, CanDefine, alter_bits, define_bits}
+use Rattle.mq_law_image.specs.Laid.{Bit, bit_text, IsValueWell, text_of, kinds_in, AreLaid, IsWell, is_no_end, Written, value_bits, clause_bits, all_bits, clauses_of, settings_of, Ends, AreWritten, CanDefine, alter_bits, define_bits}
 use Rattle.mq_law_image.proofs.Laying.{Lined, laid_read, unquoted}
-use Rattle.mq_law_image.proofs.Deleting.{whole_append, name_unblank, name_whole, doubled_whole}
+use Rattle.mq_law_image.proofs.Deleting.{whole_append, name_whole, doubled_whole}
 
 -- ---- as it is laid out
 

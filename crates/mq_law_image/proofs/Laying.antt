@@ -1,14 +1,10 @@
 -- A text that is laid out of words, brackets, texts in quotes and blanks is one line of commands, of just these tokens.
-use Rattle.std.proofs.Common.{ℕ, suc, ◌≡◌, ◌⊎◌, ◌+◌, Bool, true, false, List, [], ◌∷◌, ◌++◌, length, refl, ap, sym, subst, ◌∙◌, arith, map, inl, inr}
-use Rattle.std.specs.Prelude.{Option, Some, None, Result, Ok, if◌then◌else◌, ◌==◌, ◌&&◌, ◌||◌, not, slice_get}
-use Rattle.std.specs.List.{list_all, list_any, onto_first}
-use Rattle.std.specs.Str.{str_to_ascii_uppercase}
-use Rattle.std.proofs.lemmas.Bool.Decides.{nat_tests}
+use Rattle.std.proofs.Common.{ℕ, suc, ◌≡◌, ◌+◌, Bool, true, false, List, [], ◌∷◌, ◌++◌, length, refl, ap, sym, subst, ◌∙◌, arith, inl, inr}
+use Rattle.std.specs.Prelude.{Ok, if◌then◌else◌, ◌==◌, ◌&&◌, not}
+use Rattle.std.specs.List.{list_all, onto_first}
 use Rattle.mq_text.specs.Lines.{lines_of}
 use Rattle.mq_text.specs.Quoting.{quoted}
-use Rattle.mq_text.specs.Pieces.{is_break}
 use Rattle.mq_sc_lex.specs.declared.joining.Mark.{Mark}
-use Rattle.mq_sc_lex.specs.declared.joining.Ending.{Ending}
 use Rattle.mq_sc_lex.specs.declared.joining.Ending.TheVariants.{Whole}
 use Rattle.mq_sc_lex.specs.declared.token.Token.{Token}
 use Rattle.mq_sc_lex.specs.declared.token.TokenKind.{TokenKind}
@@ -16,14 +12,13 @@ use Rattle.mq_sc_lex.specs.declared.token.TokenKind.TheVariants as tokens
 use Rattle.mq_sc_lex.specs.declared.token.Line.{Line}
 use Rattle.mq_sc_lex.specs.declared.tokens.Meaning.{Meaning}
 use Rattle.mq_sc_lex.specs.declared.tokens.Meaning.TheVariants as meanings
-use Rattle.mq_sc_lex.specs.Joining.{are_blank, is_blank, is_sign, marks_from}
-use Rattle.mq_sc_lex.specs.Tokens.{bytes_of, numbered, put_meaning}
+use Rattle.mq_sc_lex.specs.Joining.{are_blank, is_sign, marks_from}
+use Rattle.mq_sc_lex.specs.Tokens.{bytes_of, numbered}
 use Rattle.mq_sc_lex.specs.Commands.{commands_of}
 use Rattle.mq_sc_grammar.specs.Spelling.{kinds_of}
 use Rattle.mq_sc_grammar.specs.Texts.{IsComment, EndsSo, IsPart, AreJoined, IsCommands}
-use Rattle.mq_sc_grammar.specs.Written.{IsWordText, IsTokenText, IsText, BeginsApart, EndsAt, Part, BeginsWith, span_of_marks, commands_of_parts, AreOfLine}
+use Rattle.mq_sc_grammar.specs.Written.{IsText, EndsAt, Part, BeginsWith, span_of_marks, commands_of_parts, AreOfLine}
 use Rattle.mq_sc_grammar.proofs.Whole.{text_read}
-use Rattle.mq_law_manager.proofs.Lists.{bool_case}
 use Rattle.mq_law_image.specs.Laid.Bit.{Word, Quote, Open, Close, Gap}
 use Rattle.mq_law_image.specs.Laid.{Bit, bit_text, text_of, IsWell, EndsBit, AreLaid, kinds_in}
 

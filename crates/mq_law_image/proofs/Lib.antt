@@ -15,3 +15,5 @@ pub mod Laying
 pub mod Deleting
 pub mod Giving
 pub mod Recording
+pub mod Writing
+pub mod Objecting

@@ -1,5 +1,5 @@
 -- A first start has what its log tells.
-use Rattle.std.proofs.Common.{ℕ, ℤ, pos, ◌≡◌, ◌+◌, Bool, true, false, List, [], ◌∷◌, ◌++◌, refl, ap, sym, ◌∙◌, arith, map, inl, inr}
+use Rattle.std.proofs.Common.{ℕ, ℤ, pos, ◌≡◌, ◌+◌, Bool, true, List, [], ◌∷◌, ◌++◌, refl, ap, sym, ◌∙◌, arith, map, inl, inr}
 use Rattle.std.specs.Prelude.{Option, Some, None, Ok, Err, if◌then◌else◌, max}
 use Rattle.std.specs.List.{AllByRecursion}
 use Rattle.mq_message.specs.declared.message.Ident.{Ident}

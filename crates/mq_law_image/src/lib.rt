@@ -8,6 +8,13 @@ ghost use Rattle.mq_name.specs.Name.{IsName};
 ghost use Rattle.mq_objects.specs.declared.change.ObjectChange.{ObjectChange};
 ghost use Rattle.mq_objects.specs.declared.change.ObjectChange.TheVariants as changes;
 ghost use Rattle.mq_objects.specs.declared.command.Subject.{Subject};
+ghost use Rattle.mq_objects.specs.declared.object.AliasQueue.{AliasQueue};
+ghost use Rattle.mq_objects.specs.declared.object.Channel.{Channel};
+ghost use Rattle.mq_objects.specs.declared.object.LocalQueue.{LocalQueue};
+ghost use Rattle.mq_objects.specs.declared.object.ManagerAttributes.{ManagerAttributes};
+ghost use Rattle.mq_objects.specs.declared.object.Object.TheVariants as objects;
+ghost use Rattle.mq_objects.specs.declared.object.Process.{Process};
+ghost use Rattle.mq_objects.specs.declared.object.RemoteQueue.{RemoteQueue};
 ghost use Rattle.mq_calls.specs.declared.records.LogRecord.{LogRecord};
 ghost use Rattle.mq_calls.specs.declared.records.LogRecord.TheVariants as records;
 ghost use Rattle.mq_objects.specs.Attributes.{manager_attributes};
@@ -44,7 +51,7 @@ ghost use Rattle.mq_spec_log.specs.Texts.{change_in, gives_all};
 ghost use Rattle.mq_law_log.specs.Restarts.{IsGivenIn, IsHarmless};
 ghost use Rattle.mq_law_manager.specs.Facts.{AreNamed, IsSound, Mem};
 ghost use Rattle.mq_law_image.specs.Bounds.{HaveArrived, IsBounded, noted_growth, part_growth, restart_growth, step_growth};
-ghost use Rattle.mq_law_image.specs.Laid.{AreWritten, CanDefine, IsSubject, Written, alter_bits, clauses_of, define_bits, settings_of, text_of};
+ghost use Rattle.mq_law_image.specs.Laid.{AreWritten, CanDefine, IsAliasText, IsChannelText, IsLocalText, IsManagerText, IsProcessText, IsRemoteText, IsSubject, Written, alter_bits, clauses_of, define_bits, settings_of, text_of};
 ghost use Rattle.mq_law_image.specs.Tells.{Tells, TellsDown};
 
 /// What recovery gives of a log is an image, and the log knew the idents of its own manager in it.
@@ -106,4 +113,15 @@ pub fn texts_that_give_attributes_are_read()
         → gives_all (settings_of (w ∷ ws)) (manager_attributes new_manager) ≡ true → change_in Set (text_of (alter_bits (w ∷ ws))) ≡ Some (changes.SetManager (set_all_manager (settings_of (w ∷ ws)) new_manager)) }
     ensures defines { (s : Subject) (noun : Noun) (kind : Kind) (width b : ℕ) (bs : List ℕ) (ws : List Written) → IsName width (b ∷ bs) → subject_of noun (b ∷ bs) ≡ Some s → IsNamed noun (b ∷ bs) (tokens.Open ∷ tokens.Quoted (b ∷ bs) ∷ tokens.Close ∷ []) → CanDefine s noun kind ws
         → change_in Set (text_of (define_bits (object_text noun) (b ∷ bs) ws)) ≡ Some (changes.Set (defined_object s (settings_of ws))) }
+{}
+
+/// The text that is written for a manager's attributes, or for an object, where its values are such as a command gives and none is
+/// kept without effect, is read as that change.
+pub fn texts_of_objects_are_read()
+    ensures managers { (m : ManagerAttributes) → IsManagerText m → change_in Set (change_text (changes.SetManager m)) ≡ Some (changes.SetManager m) }
+    ensures aliases { (q : AliasQueue) → IsAliasText q → change_in Set (change_text (changes.Set (objects.Alias q))) ≡ Some (changes.Set (objects.Alias q)) }
+    ensures remotes { (q : RemoteQueue) → IsRemoteText q → change_in Set (change_text (changes.Set (objects.Remote q))) ≡ Some (changes.Set (objects.Remote q)) }
+    ensures processes { (q : Process) → IsProcessText q → change_in Set (change_text (changes.Set (objects.Process q))) ≡ Some (changes.Set (objects.Process q)) }
+    ensures channels { (c : Channel) → IsChannelText c → change_in Set (change_text (changes.Set (objects.Channel c))) ≡ Some (changes.Set (objects.Channel c)) }
+    ensures locals { (q : LocalQueue) → IsLocalText q → change_in Set (change_text (changes.Set (objects.Local q))) ≡ Some (changes.Set (objects.Local q)) }
 {}
