@@ -48,7 +48,7 @@ routed_is : (m : ℕ) (message : Message) (r : Result Route Reason) (l : Ledger)
 routed_is m message (Err reason) l = refl
 routed_is m message (Ok route) l = refl
 
-received_is : (m : ℕ) (channel : List ℕ) (message : Message) (dead : Option Reason) (l : Ledger) → place_received m channel message dead l ≡ place_maybe m (placing m channel l message dead) l
+pub received_is : (m : ℕ) (channel : List ℕ) (message : Message) (dead : Option Reason) (l : Ledger) → place_received m channel message dead l ≡ place_maybe m (placing m channel l message dead) l
 received_is m channel message None l = routed_is m message (resolved_at m (names_of message.route).queue (names_of message.route).qmgr l) l
 received_is m channel message (Some reason) l = refl
 
