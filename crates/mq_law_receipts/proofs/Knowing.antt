@@ -98,7 +98,7 @@ comes_in s given ps p l g m t c u ms at r h x n =
 
 -- What the ledger has of it
 
-some_or : Row → Option Row → Row
+abbrev some_or : Row → Option Row → Row
 some_or r None = r
 some_or r (Some x) = x
 
