@@ -360,3 +360,20 @@ receives s given ps qs p l g m t c u last ms x reply e n r h = (ap taken_of e �
           used = z.used;
           connections = z.connections ∙ ap connections_told (sym y.aside.connections);
         }
+
+-- What a network shows of batches and units behind it
+pub record SeenAfter (w v : World) (m : ℕ) (c : List ℕ) (u : Luw) : Type 0 where
+  pub holds : (a : ℕ) (d : List ℕ) → v.holds a d ≡ w.holds a d
+  pub doubt : (a : ℕ) (d : List ℕ) → v.doubt a d ≡ w.doubt a d
+  pub last : (a : ℕ) (d : List ℕ) → v.last a d ≡ put_at w.last m c u a d
+
+pub seen_after : (s : Scenario) (given : Ident → Bool) (ps qs : List Plain) (p : Plain) (l : Ledger) (g : Ghost) (m t : ℕ) (c : List ℕ) (u : Luw) (last : ℕ) (ms : List Message) (x : Landed) → landed c ms p ≡ Ok x
+    → IsNext t p (do_part (received_part c u last x p) p) ps qs → IsReceipt s given ps p l g m t c u ms → Inv (world_of s given ps) g (book_of l)
+    → SeenAfter (world_of s given ps) (world_of s given qs) m c u
+seen_after s given ps qs p l g m t c u last ms x e n r h =
+    let next : IsNext t p (behind_it c u last x p) ps qs = record { at = n.at; to = n.to ∙ ap (λ (z : Plain). Some z) (done_is c u last x p); others = n.others } in
+    let ids : tag_idents (g.sent m c u) ≡ idents_of ms = sym (ap tag_idents r.sent) ∙ idents_tagged ms in
+    let y : Lands t c p ms x = batch_lands t c ms p x e r.sound.facts r.sound.named (λ d. subst (λ (o : Option Plain). LanesRise (rows_of d o)) n.at (h.sorted t d)) (subst AreDistinct ids r.commits.once)
+    (comes_in s given ps p l g m t c u ms n.at r h) in
+    let world = received_world s given ps qs p m t c u last ms x y next r.commits.apart r.cabled in
+    record { holds = λ a d. ap (λ (v : World). v.holds a d) world; doubt = λ a d. ap (λ (v : World). v.doubt a d) world; last = λ a d. ap (λ (v : World). v.last a d) world }

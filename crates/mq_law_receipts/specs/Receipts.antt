@@ -1,5 +1,5 @@
 -- A receiver's commit as a change of the network: what it rests on, and what stands behind it.
-use Rattle.std.specs.Prelude.{ℕ, pos, Bool, false, ◌≡◌, ◌==◌, List, map, None, Some, slice_get}
+use Rattle.std.specs.Prelude.{ℕ, pos, Bool, false, ◌≡◌, ◌≤◌, ◌+◌, ◌==◌, List, [], ◌∷◌, map, None, Some, slice_get}
 use Rattle.mq_message.specs.declared.message.Ident.{Ident}
 use Rattle.mq_message.specs.declared.message.Message.{Message}
 use Rattle.mq_queue.specs.declared.row.Row.{Row}
@@ -8,7 +8,9 @@ use Rattle.mq_calls.specs.declared.state.Connection.{Connection}
 use Rattle.mq_history.specs.declared.scenario.CableLine.{CableLine}
 use Rattle.mq_history.specs.declared.scenario.Scenario.{Scenario}
 use Rattle.mq_history.specs.declared.story.ManagerPlaces.{ManagerPlaces}
-use Rattle.mq_spec_state.specs.State.{Plain}
+use Rattle.mq_spec_state.specs.State.{Change, Plain}
+use Rattle.mq_spec_state.specs.State.Change.{Connect}
+use Rattle.mq_spec_state.specs.Changes.{apply}
 use Rattle.mq_spec_state.specs.Reads.{is_persistent, stored}
 use Rattle.mq_spec_network.specs.Ledger.{Ledger, ledger_rows}
 use Rattle.mq_spec_network.specs.Standing.{cable_from}
@@ -61,3 +63,17 @@ pub record Receipt (s : Scenario) (given : Ident → Bool) (qs : List Plain) (q 
   pub timed : IsTimed t q k
   pub others : (a : ℕ) (r : Plain) → (a == t) ≡ false → IsTold a r l → IsTold a r k
   pub users : k.users ≡ l.users
+
+-- and none above the last that was given
+pub record AreNumberedUpto (p : Plain) : Type 0 where
+  pub apart : AreNumbered p.connections
+  pub upto : (c : Connection) → Mem c p.connections → c.number ≤ p.numbers.connections
+
+-- a connection that begins has the next number
+abbrev pub IsNextNumber : Change → Plain → Type 0
+IsNextNumber (Connect c) p = c.number ≡ p.numbers.connections + 1
+IsNextNumber _ p = Unit {0}
+
+abbrev pub AreNextNumbers : List Change → Plain → Type 0
+AreNextNumbers [] p = Unit {0}
+AreNextNumbers (c ∷ cs) p = IsNextNumber c p × AreNextNumbers cs (apply c p)
