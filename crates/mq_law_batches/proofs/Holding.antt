@@ -48,14 +48,14 @@ chosen_free s given m p ps q ts g k at chosen h d y n e =
 abbrev batch_held : List ℕ → Luw → List ℕ → List Ident → Batch
 batch_held c u q ids = record { channel = c; unit = u; queue = q; idents = ids }
 
-held_holds : (c d : List ℕ) (u : Luw) (q : List ℕ) (ids : List Ident) (p : Plain) → in_doubt_of (sender_data c p) ≡ None → holds_of d (Some (apply_all (held_changes c u q ids) p)) ≡ (if bytes_eq d c then Some u else holds_of d (Some p))
+pub held_holds : (c d : List ℕ) (u : Luw) (q : List ℕ) (ids : List Ident) (p : Plain) → in_doubt_of (sender_data c p) ≡ None → holds_of d (Some (apply_all (held_changes c u q ids) p)) ≡ (if bytes_eq d c then Some u else holds_of d (Some p))
 held_holds c d u q ids p none = ap (held_unit (in_doubt_of (sender_data d p))) (batch_set d (batch_held c u q ids) p.channels.batches) ∙ by (bytes_eq d c) refl
   where
     by : (t : Bool) → bytes_eq d c ≡ t → held_unit (in_doubt_of (sender_data d p)) (if t then Some (batch_held c u q ids) else batch_of d p.channels.batches) ≡ (if t then Some u else held_unit (in_doubt_of (sender_data d p)) (batch_of d p.channels.batches))
     by true e = ap (λ x. held_unit (in_doubt_of (sender_data x p)) (Some (batch_held c u q ids))) (name_yes d c e) ∙ ap (λ o. held_unit o (Some (batch_held c u q ids))) none
     by false e = refl
 
-held_doubts : (c d : List ℕ) (p : Plain) → in_doubt_of (sender_data c p) ≡ None → (t : Bool) → bytes_eq d c ≡ t → (if t then false else is_some (in_doubt_of (sender_data d p))) ≡ is_some (in_doubt_of (sender_data d p))
+pub held_doubts : (c d : List ℕ) (p : Plain) → in_doubt_of (sender_data c p) ≡ None → (t : Bool) → bytes_eq d c ≡ t → (if t then false else is_some (in_doubt_of (sender_data d p))) ≡ is_some (in_doubt_of (sender_data d p))
 held_doubts c d p none true e = sym (ap (λ x. is_some (in_doubt_of (sender_data x p))) (name_yes d c e) ∙ ap is_some none)
 held_doubts c d p none false e = refl
 

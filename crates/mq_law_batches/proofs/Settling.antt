@@ -88,7 +88,7 @@ put_else f m c x a d e = ap (λ t. if t && bytes_eq d c then x else f a d) e
 abbrev prepared_data : ℕ → Batch → SenderData → SenderData
 prepared_data last b x = data_prepared (prepared_doubt last b) x
 
-prepared_holds : (c d : List ℕ) (last : ℕ) (b : Batch) (x : SenderData) (p : Plain) → batch_of c p.channels.batches ≡ Some b → in_doubt_of (sender_data c p) ≡ None → holds_of d (Some (apply_all (prepared_changes c last b x) p)) ≡ holds_of d (Some p)
+pub prepared_holds : (c d : List ℕ) (last : ℕ) (b : Batch) (x : SenderData) (p : Plain) → batch_of c p.channels.batches ≡ Some b → in_doubt_of (sender_data c p) ≡ None → holds_of d (Some (apply_all (prepared_changes c last b x) p)) ≡ holds_of d (Some p)
 prepared_holds c d last b x p there none =
     (λ i. held_unit (in_doubt_of (sender_set d c (prepared_data last b x) p.channels.senders i)) (batch_dropped d c p.channels.batches i)) ∙ by (bytes_eq d c) refl
   where
@@ -96,7 +96,7 @@ prepared_holds c d last b x p there none =
     by true e = sym ((λ i. held_unit (in_doubt_of (sender_in (name_yes d c e i) p.channels.senders)) (batch_of (name_yes d c e i) p.channels.batches)) ∙ (λ i. held_unit (none i) (there i)))
     by false e = refl
 
-prepared_doubts : (c d : List ℕ) (last : ℕ) (b : Batch) (x : SenderData) (p : Plain) → doubt_of d (Some (apply_all (prepared_changes c last b x) p)) ≡ (if bytes_eq d c then true else doubt_of d (Some p))
+pub prepared_doubts : (c d : List ℕ) (last : ℕ) (b : Batch) (x : SenderData) (p : Plain) → doubt_of d (Some (apply_all (prepared_changes c last b x) p)) ≡ (if bytes_eq d c then true else doubt_of d (Some p))
 prepared_doubts c d last b x p = ap (λ o. is_some (in_doubt_of o)) (sender_set d c (prepared_data last b x) p.channels.senders) ∙ by (bytes_eq d c)
   where
     by : (t : Bool) → is_some (in_doubt_of (if t then Some (prepared_data last b x) else sender_in d p.channels.senders)) ≡ (if t then true else is_some (in_doubt_of (sender_in d p.channels.senders)))
@@ -133,11 +133,11 @@ sure : (commit : Bool) (d : List ℕ) (x : SenderData) (p : Plain) (t : Bool)
 sure commit d x p true = ap is_some (settled_none commit x)
 sure commit d x p false = refl
 
-settled_holds : (commit : Bool) (c d : List ℕ) (x : SenderData) (p : Plain) → batch_of c p.channels.batches ≡ None → holds_of d (Some (apply_all (settled_changes commit c x) p)) ≡ (if bytes_eq d c then None else holds_of d (Some p))
+pub settled_holds : (commit : Bool) (c d : List ℕ) (x : SenderData) (p : Plain) → batch_of c p.channels.batches ≡ None → holds_of d (Some (apply_all (settled_changes commit c x) p)) ≡ (if bytes_eq d c then None else holds_of d (Some p))
 settled_holds true c d x p none = ap (λ o. held_unit (in_doubt_of o) (batch_of d p.channels.batches)) (sender_set d c (data_settled (Some (settle_by true)) x) p.channels.senders) ∙ gone true c d x p none (bytes_eq d c) refl
 settled_holds false c d x p none = ap (λ o. held_unit (in_doubt_of o) (batch_of d p.channels.batches)) (sender_set d c (data_settled (Some (settle_by false)) x) p.channels.senders) ∙ gone false c d x p none (bytes_eq d c) refl
 
-settled_doubts : (commit : Bool) (c d : List ℕ) (x : SenderData) (p : Plain) → doubt_of d (Some (apply_all (settled_changes commit c x) p)) ≡ (if bytes_eq d c then false else doubt_of d (Some p))
+pub settled_doubts : (commit : Bool) (c d : List ℕ) (x : SenderData) (p : Plain) → doubt_of d (Some (apply_all (settled_changes commit c x) p)) ≡ (if bytes_eq d c then false else doubt_of d (Some p))
 settled_doubts true c d x p = ap (λ o. is_some (in_doubt_of o)) (sender_set d c (data_settled (Some (settle_by true)) x) p.channels.senders) ∙ sure true d x p (bytes_eq d c)
 settled_doubts false c d x p = ap (λ o. is_some (in_doubt_of o)) (sender_set d c (data_settled (Some (settle_by false)) x) p.channels.senders) ∙ sure false d x p (bytes_eq d c)
 

@@ -26,14 +26,14 @@ use Rattle.mq_law_batches.proofs.Releasing.{IsNear}
 use Rattle.mq_law_batches.proofs.Settling.{looks}
 
 -- rows, units and batches stay, and so do units in doubt and last units
-record Stays (p q : Plain) : Type 0 where
-  queues : q.queues ≡ p.queues
-  connections : q.connections ≡ p.connections
-  batches : q.channels.batches ≡ p.channels.batches
-  doubts : (d : List ℕ) → in_doubt_of (sender_data d q) ≡ in_doubt_of (sender_data d p)
-  near : IsNear p q
+pub record Stays (p q : Plain) : Type 0 where
+  pub queues : q.queues ≡ p.queues
+  pub connections : q.connections ≡ p.connections
+  pub batches : q.channels.batches ≡ p.channels.batches
+  pub doubts : (d : List ℕ) → in_doubt_of (sender_data d q) ≡ in_doubt_of (sender_data d p)
+  pub near : IsNear p q
 
-stays : (s : Scenario) (given : Ident → Bool) (m : ℕ) (p q : Plain) (ps qs : List Plain) → IsNext m p q ps qs → Stays p q → world_of s given qs ≡ world_of s given ps
+pub stays : (s : Scenario) (given : Ident → Bool) (m : ℕ) (p q : Plain) (ps qs : List Plain) → IsNext m p q ps qs → Stays p q → world_of s given qs ≡ world_of s given ps
 stays s given m p q ps qs n k =
     let w : World = world_of s given ps in
     looks s given m p q ps qs w.rows w.holds w.doubt n k.near k.connections (record {

@@ -64,7 +64,7 @@ pub record IsIn (i : Ident) (qs : List Shelf) (row : Row) : Type 0 where
   pub there : Mem row (rows_in queue qs)
   pub is : row.message.ident ≡ i
 
-abbrev InShelves : Ident → List Shelf → Option Row → Type 0
+abbrev pub InShelves : Ident → List Shelf → Option Row → Type 0
 InShelves i qs None = (name : List ℕ) (r : Row) → Mem r (rows_in name qs) → r.message.ident ≡ i → ⊥
 InShelves i qs (Some row) = IsIn i qs row
 
@@ -91,7 +91,7 @@ first_shelf : (i : Ident) (q : Shelf) (qs : List Shelf) (o : Option Row) → Fou
 first_shelf i q qs None none apart f = behind_shelf i q qs (row_in i qs) none apart f
 first_shelf i q qs (Some row) found apart f = record { queue = q.name; there = subst (λ t. Mem row (if t then q.rows else rows_in q.name qs)) (sym (name_self q.name)) found.0; is = found.1 }
 
-row_in_is : (i : Ident) (qs : List Shelf) → AreShelved qs → InShelves i qs (row_in i qs)
+pub row_in_is : (i : Ident) (qs : List Shelf) → AreShelved qs → InShelves i qs (row_in i qs)
 row_in_is i [] apart = λ name r n e. n
 row_in_is i (q ∷ qs) apart = first_shelf i q qs (find (has_ident i) q.rows) (find_in i q.rows) apart.0 (row_in_is i qs apart.1)
 

@@ -122,7 +122,7 @@ received_stands A B F z v (Some (holders.Batch e)) same new mine own =
 luw_yes : (u v : Luw) → same_unit u v ≡ true → u ≡ v
 luw_yes u v e = grind (arith, nat_tests)
 
-luw_self : (u : Luw) → same_unit u u ≡ true
+pub luw_self : (u : Luw) → same_unit u u ≡ true
 luw_self u = grind (arith, nat_tests)
 
 pub received_other : (t : ℕ) (is : List Ident) (ls : List Landing) (j : Ident) (o p : Owner) → o ≡ p → (among is j ≡ true → o ≡ p → ⊥) → received t is ls j o ≡ p
@@ -131,7 +131,7 @@ received_other t is ls j o p e no_ = bool_case (among is j) (λ z. (if z then At
 pub received_mine : (t : ℕ) (is : List Ident) (ls : List Landing) (j : Ident) (o : Owner) → among is j ≡ true → received t is ls j o ≡ At t (lands_on ls j)
 received_mine t is ls j o e = rw e refl
 
-in_batch_or_forced : (f : Bool) (m : ℕ) (c : List ℕ) (u : Luw) (p : Owner) → (InBatch m c ≡ p → ⊥) → (Forced m c u ≡ p → ⊥) → (if f then InBatch m c else Forced m c u) ≡ p → ⊥
+pub in_batch_or_forced : (f : Bool) (m : ℕ) (c : List ℕ) (u : Luw) (p : Owner) → (InBatch m c ≡ p → ⊥) → (Forced m c u ≡ p → ⊥) → (if f then InBatch m c else Forced m c u) ≡ p → ⊥
 in_batch_or_forced true m c u p a b e = a e
 in_batch_or_forced false m c u p a b e = b e
 
@@ -154,11 +154,11 @@ claim_forced m a d q u (Some (holders.Unit k)) e = cc
 claim_forced m a d q u (Some (holders.Batch c)) e = cc
 
 -- what was its own batch
-mine_claim : (f : Bool) (m a : ℕ) (c q : List ℕ) (u : Luw) (x : Option Holder) → (if f then InBatch m c else Forced m c u) ≡ claim a q x → (f ≡ true) × (a ≡ m) × (x ≡ Some (holders.Batch c))
+pub mine_claim : (f : Bool) (m a : ℕ) (c q : List ℕ) (u : Luw) (x : Option Holder) → (if f then InBatch m c else Forced m c u) ≡ claim a q x → (f ≡ true) × (a ≡ m) × (x ≡ Some (holders.Batch c))
 mine_claim true m a c q u x e = let z = claim_batch m a c q x e in (refl, z.0, z.1)
 mine_claim false m a c q u x e = absurd (claim_forced m a c q u x e)
 
-holds_means : (d : Bool) (o : Option Luw) (u : Luw) → (d && is_last o u) ≡ true → o ≡ Some u
+pub holds_means : (d : Bool) (o : Option Luw) (u : Luw) → (d && is_last o u) ≡ true → o ≡ Some u
 holds_means true (Some v) u e = ap (λ (z : Luw). Some z) (luw_yes v u e)
 holds_means true None u e = absurd cc
 holds_means false o u e = absurd cc

@@ -48,7 +48,7 @@ routed_is : (m : ℕ) (message : Message) (r : Result Route Reason) (l : Ledger)
 routed_is m message (Err reason) l = refl
 routed_is m message (Ok route) l = refl
 
-received_is : (m : ℕ) (channel : List ℕ) (message : Message) (dead : Option Reason) (l : Ledger) → place_received m channel message dead l ≡ place_maybe m (placing m channel l message dead) l
+pub received_is : (m : ℕ) (channel : List ℕ) (message : Message) (dead : Option Reason) (l : Ledger) → place_received m channel message dead l ≡ place_maybe m (placing m channel l message dead) l
 received_is m channel message None l = routed_is m message (resolved_at m (names_of message.route).queue (names_of message.route).qmgr l) l
 received_is m channel message (Some reason) l = refl
 
@@ -113,7 +113,7 @@ list_lands m channel ds before l (message ∷ ms) places a d is =
         ∙ ap (λ (x : Ledger). place_all m (landings m channel ds before (place_received m channel own dead l) ms) a d (ledger_rows a d x)) step
         ∙ one_lands m (placing m channel l own dead) l places a d (landings m channel ds before (place_received m channel own dead l) ms) is
 
-mapped_get : {A : Type 0} (f : A → A) (xs : List A) (m : ℕ) (x : A) → slice_get xs m ≡ Some x → slice_get (map f xs) m ≡ Some (f x)
+pub mapped_get : {A : Type 0} (f : A → A) (xs : List A) (m : ℕ) (x : A) → slice_get xs m ≡ Some x → slice_get (map f xs) m ≡ Some (f x)
 mapped_get f [] m x e = absurd cc
 mapped_get f (y ∷ xs) zero x e = let same : y ≡ x = cc in ap (λ z. Some (f z)) same
 mapped_get f (y ∷ xs) (suc m) x e = mapped_get f xs m x e

@@ -1,0 +1,4 @@
+pub mod Coming
+pub mod Knowing
+pub mod Landing
+pub mod Receiving

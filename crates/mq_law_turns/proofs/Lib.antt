@@ -1,0 +1,10 @@
+pub mod Parts
+pub mod Sending
+pub mod Taking
+pub mod Keeping
+pub mod Posting
+pub mod Operating
+pub mod Resting
+pub mod FarOperating
+pub mod Sounds
+pub mod Reading
