@@ -337,7 +337,7 @@ altered_tied planned r s x t once can =
     let same = desk_units planned.change planned.reroutes x.desk in
     record {
       up = λ u. let w = t.up u in record { live = w.live; settled = w.settled; room = w.room; body = w.body };
-      reserved = t.reserved ∙ sym same.need;
+      reserved = λ u. t.reserved u ∙ sym same.need;
       within = t.within;
       queues = record {
         lanes = lanes_after planned.change planned.reroutes planned.switches_on x t once can;

@@ -21,6 +21,7 @@ use Rattle.mq_log.specs.Force.{Stops}
 use Rattle.mq_log.specs.State.{LogState}
 use Rattle.mq_core.specs.declared.parts.StoppedWrite.TheVariants as writes
 use Rattle.mq_core.specs.Views.{PartsValue, plain_of}
+use Rattle.mq_core.specs.Values.{bodies_in}
 use Rattle.mq_core.specs.Ties.{Tied, mode_is_up}
 use Rattle.mq_core.specs.Forced.{IsForced, downed}
 use Rattle.mq_core.proofs.ForceLaws.{forced_view, frozen_view, tied_downed, stops_at}
@@ -58,8 +59,8 @@ tied_forced r long x y z e h f t =
         room = omega (arith, held, kept, f.room, h.log, e);
         body = omega (arith, kept, w.body, f.body);
       };
-      reserved = kept ∙ ty.reserved;
-      within = let w = ty.within in omega (arith, kept, most, w);
+      reserved = λ u. kept ∙ ty.reserved u;
+      within = λ u. let w = ty.within u in omega (arith, kept, most, w);
       queues = record { lanes = ty.queues.lanes; pending = ty.queues.pending };
       idents = record { once = ty.idents.once; given = ty.idents.given };
       forced = ty.forced;
@@ -124,6 +125,10 @@ change_frozen planned stop x y z h f = frozen_view (writes.Objects planned) (rec
 
 pub change_down : (planned : Planned) (stop : Stop) (x y z : PartsValue) → HasRooms x y → IsForced (record_of planned) y (Err stop) z → Tied x → Tied (downed (writes.Objects planned) z)
 change_down planned stop x y z h f t = tied_downed (writes.Objects planned) (record_of planned) [] y z stop f (tied_rooms x y h t)
+
+-- room that was taken is not told
+pub rooms_bodies : (x y : PartsValue) → HasRooms x y → bodies_in y.log ≡ bodies_in x.log
+rooms_bodies x y h = ap (λ (w : PartsValue). bodies_in w.log) h.same
 
 -- how the command then ends
 pub change_done : (planned : Planned) (v new : ManagerValue) → new.plain ≡ apply_all (object_part planned v.plain.definitions).changes (logged (Some (record_of planned)) v.plain) → new.delta ≡ [] → new.stopped ≡ None

@@ -25,11 +25,12 @@ use Rattle.mq_sc_apply.specs.declared.answers.Plan.TheVariants as plans
 use Rattle.mq_sc_apply.specs.Commands.{plan, to_change, to_show, Gives}
 use Rattle.mq_sc_apply.specs.Displayed.{display}
 use Rattle.mq_sc_apply.specs.Planned.{define, define_at, defined_object, changed, is_used, leads_elsewhere, changes_rows, is_filled, alter, alter_at, alter_good, bad_in, switches_on, alter_manager, default_changes, delete, delete_at, is_on_path, is_sent_from, is_busy}
-use Rattle.mq_spec_state.specs.Words.{Halt, Plain, ManagerValue, Step, Refuse, Do, say, MeetsOrWants, untouched, is_up, when, tested}
+use Rattle.mq_spec_state.specs.Words.{Halt, Plain, Step, Refuse, Do, say, MeetsOrWants, is_up, when, tested}
 use Rattle.mq_spec_manager.specs.Commands.{command, planned_step, uses_of}
 use Rattle.mq_law_manager.specs.Facts.{is_local}
 use Rattle.mq_law_manager.proofs.Lists.{bool_case}
 use Rattle.mq_law_manager.proofs.Objects.{all_alike, defined_alike, new_space, new_name, kind_local, found_object, object_is}
+use Rattle.mq_core.specs.Values.{CoreValue, WritesLog, begun_call, manager_of}
 use Rattle.mq_steer.specs.Altered.{IsOver, IsMarked, CanChange, PlansErr, Plans, halt_of}
 
 true_false : true ≡ false → ⊥
@@ -197,18 +198,37 @@ plans_err c p refusals.Cut up e = plans_refuse c p refusals.Cut up e
 
 -- ---- how a command that changes nothing ends
 
-pub wants_any : (v new : ManagerValue) (s : Step ScRefusal Shown) → new ≡ untouched v → MeetsOrWants v s (Err halts.NoMemory) new
-wants_any v new (Refuse reason) e = e
-wants_any v new (Do reply parts) e = e
+wants_any : (v new : CoreValue) (s : Step ScRefusal Shown) → new ≡ begun_call v → MeetsOrWants (manager_of v) s (Err halts.NoMemory) (manager_of new)
+wants_any v new (Refuse reason) e = ap manager_of e
+wants_any v new (Do reply parts) e = ap manager_of e
 
-pub meets_halt : (c : Command) (v new : ManagerValue) (h : Halt ScRefusal) → PlansErr c v.plain h → new ≡ untouched v → MeetsOrWants v (command c v.plain) (Err h) new
-meets_halt c v new (halts.Refused reason) e n = subst (λ (s : Step ScRefusal Shown). MeetsOrWants v s (Err (halts.Refused reason)) new) (sym e) (refl, n)
+pub meets_halt : (c : Command) (v new : CoreValue) (h : Halt ScRefusal) → PlansErr c v.plain h → new ≡ begun_call v → MeetsOrWants (manager_of v) (command c v.plain) (Err h) (manager_of new)
+meets_halt c v new (halts.Refused reason) e n = subst (λ (s : Step ScRefusal Shown). MeetsOrWants (manager_of v) s (Err (halts.Refused reason)) (manager_of new)) (sym e) (refl, ap manager_of n)
 meets_halt c v new halts.NoMemory e n = wants_any v new (command c v.plain) n
 meets_halt c v new (halts.Stopped by) e n = absurd e
 
-pub meets_show : (c : Command) (v new : ManagerValue) (shown : Shown) → command c v.plain ≡ say shown → new ≡ untouched v → MeetsOrWants v (command c v.plain) (Ok shown) new
-meets_show c v new shown e n = subst (λ (s : Step ScRefusal Shown). MeetsOrWants v s (Ok shown) new) (sym e)
-    (refl, (λ some. some), (let faults = ap (λ (w : ManagerValue). w.faults) n in omega (arith, faults)), n ∙ (λ i. record v { delta = []; stopped = None; faults = (sym (ap (λ (w : ManagerValue). w.faults) n)) i }))
+pub meets_show : (c : Command) (v new : CoreValue) (shown : Shown) → command c v.plain ≡ say shown → new ≡ begun_call v → MeetsOrWants (manager_of v) (command c v.plain) (Ok shown) (manager_of new)
+meets_show c v new shown e n = subst (λ (s : Step ScRefusal Shown). MeetsOrWants (manager_of v) s (Ok shown) (manager_of new)) (sym e)
+    (refl, (λ some. some), (let faults = ap (λ (w : CoreValue). w.faults) n in omega (arith, faults)), ap manager_of n ∙ (λ i. record (manager_of v) { delta = []; stopped = None; faults = (sym (ap (λ (w : CoreValue). w.faults) n)) i }))
 
-pub meets_down : (c : Command) (v new : ManagerValue) → is_up v.plain.running ≡ false → new ≡ untouched v → MeetsOrWants v (command c v.plain) (Err (halts.Refused refusals.Down)) new
-meets_down c v new down n = meets_halt c v new (halts.Refused refusals.Down) (λ i. tested (when (not (down i)) refusals.Down ∷ []) (planned_step (plan_at c v.plain) v.plain.definitions)) n
+down_is : (c : Command) (p : Plain) → is_up p.running ≡ false → command c p ≡ Refuse refusals.Down
+down_is c p down = λ i. tested (when (not (down i)) refusals.Down ∷ []) (planned_step (plan_at c p) p.definitions)
+
+pub meets_down : (c : Command) (v new : CoreValue) → is_up v.plain.running ≡ false → new ≡ begun_call v → MeetsOrWants (manager_of v) (command c v.plain) (Err (halts.Refused refusals.Down)) (manager_of new)
+meets_down c v new down n = meets_halt c v new (halts.Refused refusals.Down) (down_is c v.plain down) n
+
+-- and nothing is written
+told_any : (v new : CoreValue) (s : Step ScRefusal Shown) → new ≡ begun_call v → WritesLog v s (Err halts.NoMemory) new
+told_any v new (Refuse reason) e = ap (λ (w : CoreValue). w.log) e
+told_any v new (Do reply parts) e = ap (λ (w : CoreValue). w.log) e
+
+pub told_halt : (c : Command) (v new : CoreValue) (h : Halt ScRefusal) → PlansErr c v.plain h → new ≡ begun_call v → WritesLog v (command c v.plain) (Err h) new
+told_halt c v new (halts.Refused reason) e n = subst (λ (s : Step ScRefusal Shown). WritesLog v s (Err (halts.Refused reason)) new) (sym e) (ap (λ (w : CoreValue). w.log) n)
+told_halt c v new halts.NoMemory e n = told_any v new (command c v.plain) n
+told_halt c v new (halts.Stopped by) e n = absurd e
+
+pub told_show : (c : Command) (v new : CoreValue) (shown : Shown) → command c v.plain ≡ say shown → new ≡ begun_call v → WritesLog v (command c v.plain) (Ok shown) new
+told_show c v new shown e n = subst (λ (s : Step ScRefusal Shown). WritesLog v s (Ok shown) new) (sym e) (ap (λ (w : CoreValue). w.log) n)
+
+pub told_down : (c : Command) (v new : CoreValue) → is_up v.plain.running ≡ false → new ≡ begun_call v → WritesLog v (command c v.plain) (Err (halts.Refused refusals.Down)) new
+told_down c v new down n = told_halt c v new (halts.Refused refusals.Down) (down_is c v.plain down) n

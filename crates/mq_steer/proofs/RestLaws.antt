@@ -10,13 +10,14 @@ use Rattle.mq_objects.specs.declared.object.Object.TheVariants as objects
 use Rattle.mq_objects.specs.Names.{object_in, as_local, is_object}
 use Rattle.mq_objects.specs.Names.Space.{Queues}
 use Rattle.mq_spec_state.specs.State.{Queue as StateQueue}
-use Rattle.mq_spec_state.specs.Words.{ManagerValue, Running, Up, untouched, is_up, Ident, Row, Batch, Plain, Change, Which, LocalQueue, Among, HeldBy, HeldByUnits, Nonpersistent, Down, same_ident, is_free, is_by_unit, held_by, selects, retag, kept_in, released_in, release_if, forgotten, apply_all, has_ident, local_of}
+use Rattle.mq_spec_state.specs.Words.{Running, Up, is_up, Ident, Row, Batch, Plain, Change, Which, LocalQueue, Among, HeldBy, HeldByUnits, Nonpersistent, Down, same_ident, is_free, is_by_unit, held_by, selects, retag, kept_in, released_in, release_if, forgotten, apply_all, has_ident, local_of}
 use Rattle.mq_queue.specs.Queues.{freed}
 use Rattle.mq_spec_state.specs.State.Change.{Leave, ForgetAll}
 use Rattle.mq_spec_manager.specs.Stops.{at_rest, stop, stop_at, release_batch}
 use Rattle.mq_steer.specs.Quiet.{Comes}
 use Rattle.mq_place.specs.States.{QueueState, queues_of, state_in, change_state, on_queue, on_queues, unpended}
 use Rattle.mq_core.specs.Views.{PartsValue, plain_of}
+use Rattle.mq_core.specs.Values.{CoreValue, begun_call}
 use Rattle.mq_core.specs.Ties.{Tied, state_lanes, local_lanes, pending_at, times_in_rows, times_in_queues, one_if}
 use Rattle.mq_core.proofs.ForceLaws.{queues_on, seen_on, times_on, times_keep}
 use Rattle.mq_core.proofs.PlaceLaws.{name_is, same_name}
@@ -337,8 +338,8 @@ module _ {A : Type 0} (g : Option QueueState → A) (same : (f : StateQueue → 
 pub tied_rested : (x : PartsValue) → Tied x → Tied (parts_rested x)
 tied_rested x t = record {
   up = λ u. absurd (true_false (sym u));
-  reserved = refl;
-  within = omega arith;
+  reserved = λ u. absurd (true_false (sym u));
+  within = λ u. absurd (true_false (sym u));
   queues = record {
     lanes = λ name. seen_rested state_lanes (λ f s. refl) name x.ends.batches (objects_unawaited x.defs.definitions.objects x.queues.states) ∙ unawaited_lanes name x.defs.definitions.objects x.queues.states ∙ t.queues.lanes name;
     pending = λ name.
@@ -357,16 +358,16 @@ tied_rested x t = record {
 
 -- ---- what a stop answers
 
-pub stop_is_down : (v new : ManagerValue) → is_up v.plain.running ≡ false → new ≡ untouched v → Comes (stop v.plain) false v new
+pub stop_is_down : (v new : CoreValue) → is_up v.plain.running ≡ false → new ≡ begun_call v → Comes (stop v.plain) false v new
 stop_is_down v new e n = by v.plain.running e
   where
     by : (r : Running) → is_up r ≡ false → Comes (stop_at r v.plain) false v new
     by Up e = absurd cc
     by (Down noted starts) e = record { answered = refl; becomes = n }
 
-pub stop_is_up : (v new : ManagerValue) → is_up v.plain.running ≡ true → new.plain ≡ record (at_rest v.plain) { running = Down None 0 } → new.delta ≡ [] → new.stopped ≡ None → new.faults ≡ v.faults → Comes (stop v.plain) true v new
-stop_is_up v new e plain told stopped faults = by v.plain.running e
+pub stop_is_up : (v new : CoreValue) → is_up v.plain.running ≡ true → new.plain ≡ record (at_rest v.plain) { running = Down None 0 } → new.delta ≡ [] → new.stopped ≡ None → new.faults ≡ v.faults → new.log ≡ v.log → Comes (stop v.plain) true v new
+stop_is_up v new e plain told stopped faults log = by v.plain.running e
   where
     by : (r : Running) → is_up r ≡ true → Comes (stop_at r v.plain) true v new
-    by Up e = record { answered = refl; becomes = λ i. record { plain = plain i; delta = told i; stopped = stopped i; faults = faults i } }
+    by Up e = record { answered = refl; becomes = λ i. record { plain = plain i; delta = told i; stopped = stopped i; faults = faults i; log = log i } }
     by (Down noted starts) e = absurd cc

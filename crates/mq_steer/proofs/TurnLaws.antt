@@ -1,6 +1,6 @@
 -- A trigger turn: a trigger is served, and its message takes its place.
-use Rattle.std.proofs.Common.{◌≡◌, ℕ, ◌+◌, ◌-◌, ◌^◌, Bool, true, false, cond, List, [], ◌∷◌, refl, ap, arith, sym, subst, ◌∙◌}
-use Rattle.std.specs.Prelude.{Option, Some, None, Result, Ok, Err, IsSome, nat_lt, nat_le}
+use Rattle.std.proofs.Common.{◌≡◌, ℕ, ◌+◌, ◌^◌, Bool, true, false, cond, List, [], ◌∷◌, refl, ap, arith, sym, subst, ◌∙◌}
+use Rattle.std.specs.Prelude.{Option, Some, None, Result, Ok, Err, IsSome, nat_lt}
 use Rattle.std.specs.Str.{bytes_eq}
 use Rattle.mq_base.specs.declared.want.NoMemory.{NoMemory}
 use Rattle.mq_objects.specs.declared.object.Object.{Object}
@@ -8,16 +8,17 @@ use Rattle.mq_objects.specs.declared.object.Object.TheVariants as objects
 use Rattle.mq_objects.specs.Names.{object_in, as_local, is_object}
 use Rattle.mq_objects.specs.Names.Space.{Queues}
 use Rattle.mq_spec_state.specs.State.{Queue as StateQueue}
-use Rattle.mq_spec_state.specs.Words.{Row, has_ident, same_ident, insert_row, Part, say, stored, is_up, locals_of, process_of, Ident, Message, Item, LocalQueue, Plain, ManagerValue, Do, Meets, untouched, AreLow, local_of, place, apply, apply_all, set_queue, Definitions}
+use Rattle.mq_spec_state.specs.Words.{Part, say, stored, is_up, locals_of, process_of, Ident, Message, Item, LocalQueue, Plain, Do, Meets, AreLow, local_of, place, apply, apply_all, set_queue, Definitions}
 use Rattle.mq_calls.specs.declared.state.Item.TheVariants.{Put}
 use Rattle.mq_calls.specs.declared.commands.Halt.TheVariants as halts
 use Rattle.mq_spec_state.specs.State.Change.{CountIdent, Serve}
-use Rattle.mq_place.specs.States.{QueueState, queues_of, state_in, change_state, on_queue, served, arrived}
+use Rattle.mq_place.specs.States.{QueueState, queues_of, state_in, change_state, on_queue, served}
 use Rattle.mq_core.specs.Views.{PartsValue, plain_of}
-use Rattle.mq_core.specs.Ties.{TiedBut, Tied, IsReady, AreCounted, state_lanes, pending_at, times_in_rows, times_in_queues, one_if, waits}
+use Rattle.mq_core.specs.Values.{CoreValue, WritesLog, begun_call, manager_of}
+use Rattle.mq_core.specs.Ties.{TiedBut, Tied, IsReady, AreCounted, state_lanes, pending_at, times_in_rows, times_in_queues}
 use Rattle.mq_core.specs.Placing.{arrived_at}
 use Rattle.mq_core.specs.Forced.{IsExpected}
-use Rattle.mq_core.proofs.PlaceLaws.{name_is, some_same, state_named, queue_in_state, set_changed, counted_changed, ready, arrived_view, seen_kept, pending_changed, times_changed}
+use Rattle.mq_core.proofs.PlaceLaws.{name_is, some_same, state_named, queue_in_state, set_changed, counted_changed, ready, arrived_view, tied_arrived}
 use Rattle.mq_core.proofs.ReadLaws.{queue_none}
 use Rattle.mq_core.proofs.PutLaws.{OnWay, tied_on_way, way_counts, expected_view}
 use Rattle.mq_spec_manager.specs.Triggers.{trigger_turn, trigger_at, serve, serve_by, first_due}
@@ -28,40 +29,6 @@ use Rattle.mq_steer.proofs.RestLaws.{seen_changed}
 
 true_false : true ≡ false → ⊥
 true_false e = absurd cc
-
--- a row more, and the parts behind a put that is placed and tries no trigger
-times_insert : (i : Ident) (new : Row) (rows : List Row) → times_in_rows i (insert_row new rows) ≡ one_if (has_ident i new) + times_in_rows i rows
-times_insert i new [] = refl
-times_insert i new (row ∷ rows) = by (nat_le row.place.lane new.place.lane) (times_insert i new rows)
-  where
-    by : (b : Bool) → times_in_rows i (insert_row new rows) ≡ one_if (has_ident i new) + times_in_rows i rows
-        → times_in_rows i (cond b (row ∷ insert_row new rows) (new ∷ row ∷ rows)) ≡ one_if (has_ident i new) + (one_if (has_ident i row) + times_in_rows i rows)
-    by true rest = omega (arith, rest)
-    by false rest = refl
-
-waits_less : (b : Bool) (a w n : ℕ) → n ≡ a + (one_if b + w) → cond b (n - 1) n ≡ a + w
-waits_less true a w n e = omega (arith, e)
-waits_less false a w n e = omega (arith, e)
-
-tied_arrived : (queue : List ℕ) (m : Message) (items : List Item) (x : PartsValue) → IsReady queue m x → TiedBut (Put queue m ∷ items) x → TiedBut items (arrived_at queue m x)
-tied_arrived queue m items x r t =
-    let times = λ (i : Ident). times_changed queue (arrived m) (λ s. refl) i (one_if (same_ident m.ident i)) (λ s. times_insert i _ s.queue.rows) x.queues.states r.state r.is in
-    record {
-      up = λ u. let w = t.up u in record { live = w.live; settled = w.settled; room = w.room; body = w.body };
-      reserved = t.reserved;
-      within = t.within;
-      queues = record {
-        lanes = λ name. seen_kept queue (arrived m) (λ s. refl) state_lanes (λ s. refl) name x.queues.states r.state r.is ∙ t.queues.lanes name;
-        pending = λ name. pending_changed queue (arrived m) (λ s. refl) (λ n. n - 1) (λ s. refl) name x.queues.states r.state r.is ∙ waits_less (bytes_eq name queue) _ (waits name items) _ (t.queues.pending name);
-      };
-      idents = record {
-        once = λ i. let more = times i in let old = t.idents.once i in omega (arith, more, old);
-        given = λ i a b c. let more = times i in let old = t.idents.given i a b c in omega (arith, more, old);
-      };
-      forced = t.forced;
-      max = t.max;
-      moment = t.moment;
-    }
 
 -- a queue with a trigger due is there
 pub due_there : (from : List ℕ) (x : PartsValue) → IsDue from (plain_of x) → (s : QueueState) × (state_in from x.queues.states ≡ Some s)
@@ -156,15 +123,26 @@ turn_view from to m x y low due can e t =
     ∙ ap (place_served from to m) (expected_view to 0 x y e)
 
 -- want of memory
-pub turn_wants : (v new : ManagerValue) → new ≡ untouched v → Meets v (trigger_turn v.plain) (Err halts.NoMemory) new
+pub turn_wants : (v new : CoreValue) → new ≡ begun_call v → Meets (manager_of v) (trigger_turn v.plain) (Err halts.NoMemory) (manager_of new)
 turn_wants v new e = by_up (is_up v.plain.running)
   where
-    by_due : (o : Option LocalQueue) → Meets v (serve o v.plain) (Err halts.NoMemory) new
-    by_due None = e
-    by_due (Some q) = e
+    by_due : (o : Option LocalQueue) → Meets (manager_of v) (serve o v.plain) (Err halts.NoMemory) (manager_of new)
+    by_due None = ap manager_of e
+    by_due (Some q) = ap manager_of e
 
-    by_up : (b : Bool) → Meets v (trigger_at b v.plain) (Err halts.NoMemory) new
-    by_up false = e
+    by_up : (b : Bool) → Meets (manager_of v) (trigger_at b v.plain) (Err halts.NoMemory) (manager_of new)
+    by_up false = ap manager_of e
+    by_up true = by_due (first_due (locals_of v.plain.definitions) v.plain)
+
+pub turn_writes : (v new : CoreValue) → new ≡ begun_call v → WritesLog v (trigger_turn v.plain) (Err halts.NoMemory) new
+turn_writes v new e = by_up (is_up v.plain.running)
+  where
+    by_due : (o : Option LocalQueue) → WritesLog v (serve o v.plain) (Err halts.NoMemory) new
+    by_due None = ap (λ (w : CoreValue). w.log) e
+    by_due (Some q) = ap (λ (w : CoreValue). w.log) e
+
+    by_up : (b : Bool) → WritesLog v (trigger_at b v.plain) (Err halts.NoMemory) new
+    by_up false = ap (λ (w : CoreValue). w.log) e
     by_up true = by_due (first_due (locals_of v.plain.definitions) v.plain)
 
 -- the queue that is found has the name

@@ -53,7 +53,7 @@ states_rested x = rested x.ends.batches (objects_unawaited x.defs.definitions.ob
 
 abbrev pub parts_rested : PartsValue → PartsValue
 parts_rested x = record x {
-  mode = modes.Down None 0;
+  mode = modes.Down None 0 None;
   queues = record x.queues { states = states_rested x };
   desk = record { live = []; last = x.desk.last };
   ends = record x.ends { seizures = []; batches = []; bound = [] };

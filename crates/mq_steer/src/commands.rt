@@ -16,6 +16,7 @@ ghost use Rattle.mq_core.specs.Views.{plain_of};
 ghost use Rattle.mq_core.specs.Forced.{IsForced, downed};
 ghost use Rattle.mq_core.specs.Placing.{with_states};
 ghost use Rattle.mq_steer.specs.Altered.{CanChange, CanSet, Plans, change_step, halt_of, IsRoomy, HasRooms, MayLane, renewed_states, switched_states, stale_desk, states_after, desk_after, altered};
+ghost use Rattle.mq_core.specs.Values.{manager_of, WritesLog};
 
 use crate::uses::ObjectUse;
 use mq_base::{Items, NoMemory};
@@ -123,6 +124,7 @@ fn go_down<D: Disk>(parts: &mut Parts<D>, planned: Planned)
     parts.mode = Mode::Down {
         write: Some(StoppedWrite::Objects { planned }),
         starts: 0,
+        kept: None,
     };
 }
 
@@ -246,7 +248,8 @@ fn write_change<D: Disk>(
     requires once { AreOnce core.old.plain.definitions.objects }
     requires can { CanChange planned.change planned.reroutes planned.switches_on core.old.plain }
     requires text { text.now ≡ change_text planned.change }
-    ensures { MeetsOrWants core.old (change_step planned core.old.plain.definitions) result core.new }
+    ensures meets { MeetsOrWants (manager_of core.old) (change_step planned core.old.plain.definitions) result (manager_of core.new) }
+    ensures told { WritesLog core.old (change_step planned core.old.plain.definitions) result core.new }
 {
     core.begin_call();
     match make_room(&mut core.parts, text) {
@@ -272,7 +275,8 @@ fn change<D: Disk>(core: &mut Core<D>, planned: Planned) -> Result<Shown, Halt<S
     requires up { is_up core.old.plain.running ≡ true }
     requires once { AreOnce core.old.plain.definitions.objects }
     requires can { CanChange planned.change planned.reroutes planned.switches_on core.old.plain }
-    ensures { MeetsOrWants core.old (change_step planned core.old.plain.definitions) result core.new }
+    ensures meets { MeetsOrWants (manager_of core.old) (change_step planned core.old.plain.definitions) result (manager_of core.new) }
+    ensures told { WritesLog core.old (change_step planned core.old.plain.definitions) result core.new }
 {
     match change_text(core.parts.alloc, &planned.change) {
         Ok(text) => write_change(core, planned, text.as_slice()),
@@ -325,10 +329,11 @@ fn plan_of<D: Disk>(core: &Core<D>, asked: &Command) -> Result<Plan, Halt<ScRefu
 ///
 /// The first that applies of `Down`, `Exists`, `Missing`, `BadValue` with the first such keyword, `InUse`, `NotEmpty`
 /// (IBM MQ: MQSC reference); no memory; a forced write that was stopped, which takes the manager down.
-#[tactic(auto, using(crate::proofs::PlanLaws::meets_halt, crate::proofs::PlanLaws::meets_show, crate::proofs::PlanLaws::meets_down))]
+#[tactic(auto, using(crate::proofs::PlanLaws::meets_halt, crate::proofs::PlanLaws::meets_show, crate::proofs::PlanLaws::meets_down, crate::proofs::PlanLaws::told_halt, crate::proofs::PlanLaws::told_show, crate::proofs::PlanLaws::told_down))]
 pub fn command<D: Disk>(core: &mut Core<D>, asked: &Command) -> Result<Shown, Halt<ScRefusal>>
     requires once { AreOnce core.old.plain.definitions.objects }
-    ensures { MeetsOrWants core.old (command asked.now core.old.plain) result core.new }
+    ensures meets { MeetsOrWants (manager_of core.old) (command asked.now core.old.plain) result (manager_of core.new) }
+    ensures told { WritesLog core.old (command asked.now core.old.plain) result core.new }
 {
     if !core.is_up() {
         core.begin_call();

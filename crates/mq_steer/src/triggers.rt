@@ -8,6 +8,7 @@ ghost use Rattle.mq_core.specs.Ties.{Tied, IsReady};
 ghost use Rattle.mq_core.specs.Forced.{IsExpected, HasMoreRoom};
 ghost use Rattle.mq_core.specs.Placing.{arrived_at};
 ghost use Rattle.mq_steer.specs.Turns.{Serves, IsTurn, IsServed, IsServedOr, IsDue, CanSend, sent_part, served_at, numbered, halted};
+ghost use Rattle.mq_core.specs.Values.{manager_of, WritesLog};
 
 use mq_base::NoMemory;
 use mq_calls::Did;
@@ -227,7 +228,8 @@ fn send<D: Disk>(
     requires low { AreLow core.old.plain }
     requires due { IsDue from.now core.old.plain }
     requires can { CanSend to.now message core.old.plain }
-    ensures { Meets core.old (Do true (sent_part from.now to.now message ∷ [])) (halted result) core.new }
+    ensures meets { Meets (manager_of core.old) (Do true (sent_part from.now to.now message ∷ [])) (halted result) (manager_of core.new) }
+    ensures told { WritesLog core.old (Do true (sent_part from.now to.now message ∷ [])) (halted result) core.new }
 {
     core.begin_call();
     let ident = message.ident;
@@ -248,7 +250,8 @@ fn send<D: Disk>(
 fn serve_turn<D: Disk>(core: &mut Core<D>, serving: Serving) -> Result<bool, NoMemory>
     requires low { AreLow core.old.plain }
     requires turn { IsServed core.old.plain serving }
-    ensures { Meets core.old (trigger_turn core.old.plain) (halted result) core.new }
+    ensures meets { Meets (manager_of core.old) (trigger_turn core.old.plain) (halted result) (manager_of core.new) }
+    ensures told { WritesLog core.old (trigger_turn core.old.plain) (halted result) core.new }
 {
     let Serving { from, sending } = serving;
     match sending {
@@ -269,10 +272,11 @@ fn serve_turn<D: Disk>(core: &mut Core<D>, serving: Serving) -> Result<bool, NoM
 /// # Errors
 ///
 /// No memory; the trigger stays due.
-#[tactic(auto, using(crate::proofs::TurnLaws::turn_wants))]
+#[tactic(auto, using(crate::proofs::TurnLaws::turn_wants, crate::proofs::TurnLaws::turn_writes))]
 pub fn trigger_turn<D: Disk>(core: &mut Core<D>) -> Result<bool, NoMemory>
     requires low { AreLow core.old.plain }
-    ensures { Meets core.old (trigger_turn core.old.plain) (halted result) core.new }
+    ensures meets { Meets (manager_of core.old) (trigger_turn core.old.plain) (halted result) (manager_of core.new) }
+    ensures told { WritesLog core.old (trigger_turn core.old.plain) (halted result) core.new }
 {
     match next_turn(&core.parts) {
         Err(NoMemory) => {
