@@ -17,3 +17,4 @@ pub mod Giving
 pub mod Recording
 pub mod Writing
 pub mod Objecting
+pub mod Readable

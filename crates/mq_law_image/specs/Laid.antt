@@ -1,10 +1,17 @@
 -- The text of a command as it is laid out: words in upper case, brackets, texts in quotes, and blanks.
-use Rattle.std.specs.Prelude.{◌≡◌, ℕ, ◌<◌, ◌≤◌, ◌==◌, not, Bool, true, false, List, [], ◌∷◌, ◌++◌, length, Option, Some, None, codes}
+use Rattle.std.specs.Prelude.{◌≡◌, ℕ, ◌<◌, ◌≤◌, ◌^◌, ◌==◌, not, Bool, true, false, List, [], ◌∷◌, ◌++◌, length, Option, Some, None, codes}
 use Rattle.std.specs.Str.{bytes_eq}
 use Rattle.std.specs.List.{list_all}
 use Rattle.std.specs.Str.{str_to_ascii_uppercase}
 use Rattle.mq_name.specs.Name.{IsName}
 use Rattle.mq_text.specs.Quoting.{quoted}
+use Rattle.mq_objects.specs.declared.object.Object.TheVariants as objects
+use Rattle.mq_objects.specs.declared.change.ObjectChange.{ObjectChange}
+use Rattle.mq_objects.specs.declared.change.ObjectChange.TheVariants as changes
+use Rattle.mq_calls.specs.declared.records.LogRecord.{LogRecord}
+use Rattle.mq_calls.specs.declared.records.LogRecord.TheVariants as records
+use Rattle.mq_record.specs.Records.{IsRecord}
+use Rattle.mq_spec_state.specs.Sizes.{change_text}
 use Rattle.mq_objects.specs.declared.command.Subject.{Subject}
 use Rattle.mq_objects.specs.declared.command.Subject.TheVariants as subjects
 use Rattle.mq_sc_lex.specs.declared.token.TokenKind.{TokenKind}
@@ -245,3 +252,18 @@ pub record IsLocalText (q : LocalQueue) : Type 0 where
   pub trigger_depth : (1 ≤ q.trigger_depth) × (q.trigger_depth ≤ 999999999)
   pub trigger_priority : q.trigger_priority ≤ 9
   pub kept : q.kept ≡ []
+
+-- a change of objects whose text is read
+abbrev pub IsChangeText : ObjectChange → Type 0
+IsChangeText (changes.Set (objects.Local q)) = IsLocalText q
+IsChangeText (changes.Set (objects.Alias q)) = IsAliasText q
+IsChangeText (changes.Set (objects.Remote q)) = IsRemoteText q
+IsChangeText (changes.Set (objects.Channel c)) = IsChannelText c
+IsChangeText (changes.Set (objects.Process q)) = IsProcessText q
+IsChangeText (changes.SetManager m) = IsManagerText m
+IsChangeText (changes.Delete s) = IsSubject s
+
+-- a record that is read from its bytes: its fields fit, and the text of what it changes of objects is read
+abbrev pub IsReadable : LogRecord → Type 0
+IsReadable (records.Objects change) = (length (change_text change) < 2 ^ 32) × IsChangeText change
+IsReadable r = IsRecord r

@@ -51,7 +51,7 @@ ghost use Rattle.mq_spec_log.specs.Texts.{change_in, gives_all};
 ghost use Rattle.mq_law_log.specs.Restarts.{IsGivenIn, IsHarmless};
 ghost use Rattle.mq_law_manager.specs.Facts.{AreNamed, IsSound, Mem};
 ghost use Rattle.mq_law_image.specs.Bounds.{HaveArrived, IsBounded, noted_growth, part_growth, restart_growth, step_growth};
-ghost use Rattle.mq_law_image.specs.Laid.{AreWritten, CanDefine, IsAliasText, IsChannelText, IsLocalText, IsManagerText, IsProcessText, IsRemoteText, IsSubject, Written, alter_bits, clauses_of, define_bits, settings_of, text_of};
+ghost use Rattle.mq_law_image.specs.Laid.{AreWritten, CanDefine, IsAliasText, IsChannelText, IsLocalText, IsManagerText, IsProcessText, IsReadable, IsRemoteText, IsSubject, Written, alter_bits, clauses_of, define_bits, settings_of, text_of};
 ghost use Rattle.mq_law_image.specs.Tells.{Tells, TellsDown};
 
 /// What recovery gives of a log is an image, and the log knew the idents of its own manager in it.
@@ -124,4 +124,9 @@ pub fn texts_of_objects_are_read()
     ensures processes { (q : Process) → IsProcessText q → change_in Set (change_text (changes.Set (objects.Process q))) ≡ Some (changes.Set (objects.Process q)) }
     ensures channels { (c : Channel) → IsChannelText c → change_in Set (change_text (changes.Set (objects.Channel c))) ≡ Some (changes.Set (objects.Channel c)) }
     ensures locals { (q : LocalQueue) → IsLocalText q → change_in Set (change_text (changes.Set (objects.Local q))) ≡ Some (changes.Set (objects.Local q)) }
+{}
+
+/// So each record whose fields fit is read from its bytes.
+pub fn records_are_read_from_their_bytes()
+    ensures { (r : LogRecord) → IsReadable r → record_of (record_bytes r) ≡ Some r }
 {}

@@ -67,7 +67,7 @@ started_tied start first bodies next kept started noted p is read bounds =
 
 -- A call that is stopped in one of its writes
 
-some_of : (f : Option LogRecord) → is_some f ≡ true → (r : LogRecord) × (f ≡ Some r)
+pub some_of : (f : Option LogRecord) → is_some f ≡ true → (r : LogRecord) × (f ≡ Some r)
 some_of None e = absurd cc
 some_of (Some r) e = (r, refl)
 

@@ -20,6 +20,7 @@ ghost use Rattle.mq_calls.specs.declared.answers.Appl.{Appl};
 ghost use Rattle.mq_calls.specs.declared.answers.Get.{Get};
 ghost use Rattle.mq_calls.specs.declared.answers.Open.{Open};
 ghost use Rattle.mq_objects.specs.declared.command.Command.{Command};
+ghost use Rattle.mq_calls.specs.declared.commands.RestartFault.{RestartFault};
 ghost use Rattle.mq_calls.specs.declared.agents.Note.TheVariants as notes;
 ghost use Rattle.mq_calls.specs.declared.agents.Note.{Note};
 ghost use Rattle.mq_calls.specs.declared.deltas.Why.{Why};
@@ -29,14 +30,14 @@ ghost use Rattle.mq_spec_state.specs.State.Which.{Among, HeldBy};
 ghost use Rattle.mq_spec_state.specs.State.Change.{AddBatch, ChangeObjects, DropBatch, Hold, Leave, Release};
 ghost use Rattle.mq_spec_state.specs.Reads.{in_doubt_of, is_persistent, receiver_data, sender_data};
 ghost use Rattle.mq_spec_state.specs.Changes.{apply, apply_all};
-ghost use Rattle.mq_spec_state.specs.Steps.{IsWrite, Part, do_part, freeze, note_of};
+ghost use Rattle.mq_spec_state.specs.Steps.{IsWrite, Part, do_part, freeze, note_of, stopped_at};
 ghost use Rattle.mq_spec_manager.specs.Handles.{mqclose, mqconn, mqopen};
 ghost use Rattle.mq_spec_manager.specs.Put.{mqput, mqput1, put_part};
 ghost use Rattle.mq_spec_manager.specs.Get.{mqget, removal_part, taking_part};
 ghost use Rattle.mq_spec_manager.specs.Units.{commit_part, mqback, mqcmit, mqdisc};
 ghost use Rattle.mq_spec_manager.specs.Triggers.{trigger_turn};
 ghost use Rattle.mq_spec_manager.specs.Commands.{command, object_part};
-ghost use Rattle.mq_spec_manager.specs.Stops.{at_rest, redone_if};
+ghost use Rattle.mq_spec_manager.specs.Stops.{advance_clock, at_rest, cut, failed, redone_if};
 ghost use Rattle.mq_spec_agents.specs.Words.{CanHarden, CanHold, CanMove, CanPrepare, CanReceive, HasFreeRow, Absent, InDoubtAt, Landed, Landing, discard, expire, harden, harden_part, hold_batch, landed, leave, move_part, move_row, prepare, receive, release_batch, seize, set_bound};
 ghost use Rattle.mq_sync.specs.Settlement.{receiver_or, sender_or};
 ghost use Rattle.mq_spec_state.specs.Images.{has_batch, lasting};
@@ -44,8 +45,9 @@ ghost use Rattle.mq_spec_log.specs.Applies.{Start, applies, is_in_bounds, can_ch
 ghost use Rattle.mq_spec_log.specs.Bodies.{empty_image, image, record_of};
 ghost use Rattle.mq_law_log.specs.Keeps.{AllLand, CameBack, Does, HoldsJust, HoldsNone, IsLandable, IsNew, IsPlaceable, IsTakeable, Keeps, LandTold, StepKeeps, SwitchesAt, is_aside, received_part};
 ghost use Rattle.mq_law_log.specs.Sound.{AreFree, IsLogSound, IsUnit};
-ghost use Rattle.mq_law_manager.specs.Facts.{IsSound};
-ghost use Rattle.mq_law_log.specs.Restarts.{AllHarmless, IsGivenIn, IsHarmless, Recovers, StepHarmless, begun, next_started, prepare_part, raised, restarted};
+ghost use Rattle.mq_law_manager.specs.Facts.{IsFrozen, IsSound};
+ghost use Rattle.mq_law_manager.specs.Kept.{AllKeep};
+ghost use Rattle.mq_law_log.specs.Restarts.{AllHarmless, IsGivenIn, IsHarmless, Recovers, StepHarmless, begun, next_started, note_at, prepare_part, raised, restarted};
 
 /// A put, a removal of rows and the end of a unit, in a sound manager.
 pub fn forced_writes_make_crashes_harmless()
@@ -166,4 +168,21 @@ pub fn commands_are_harmless()
 /// Whichever write of such a call is stopped: a restart has the image before it where it isn't found, and the one behind it where it is.
 pub fn a_stopped_call_leaves_the_image_before_or_behind()
     ensures { (n : ℕ) (parts : List Part) (left started : ℕ) (p : Plain) → IsWrite n parts → AllHarmless parts p → Recovers n parts left started p }
+{}
+
+/// The clock, a cut that is armed and a restart that fails keep what holds of a manager, up or down; what is sound is a manager
+/// that can be restarted; and the clock and a cut change nothing that lasts.
+pub fn what_is_no_call_keeps_the_facts()
+    ensures clock { (by : ℕ) (p : Plain) → IsSound p → IsSound (advance_clock by p) }
+    ensures cuts { (k : ℕ) (p : Plain) → IsSound p → IsSound (cut k p) }
+    ensures clock_down { (by : ℕ) (p : Plain) → IsFrozen p → IsFrozen (advance_clock by p) }
+    ensures cuts_down { (k : ℕ) (p : Plain) → IsFrozen p → IsFrozen (cut k p) }
+    ensures fails { (fault : RestartFault) (in_write : Bool) (left : ℕ) (noted : Option Noted) (starts : ℕ) (p : Plain) → IsFrozen p → IsFrozen (failed fault in_write left noted starts p).next }
+    ensures rests { (p : Plain) → IsSound p → IsFrozen p }
+    ensures lasts { (by k : ℕ) (p : Plain) → (lasting (advance_clock by p) ≡ lasting p) × (lasting (cut k p) ≡ lasting p) }
+{}
+
+/// Behind a call of which a write was stopped a restart gives a sound manager, whether it finds the write or not.
+pub fn a_restart_behind_a_stopped_call_gives_a_sound_manager()
+    ensures { (kept : Bool) (n : ℕ) (parts : List Part) (left started : ℕ) (p : Plain) → IsWrite n parts → AllHarmless parts p → AllKeep IsSound parts p → IsSound p → IsSound (restarted kept started (note_at n parts) (stopped_at n parts left p)) }
 {}

@@ -1,5 +1,6 @@
 pub mod KeyLaws
 pub mod StandLaws
+pub mod DistinctLaws
 pub mod FindLaws
 pub mod ChangeLaws
 pub mod ViewLaws

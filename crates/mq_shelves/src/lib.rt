@@ -1,10 +1,13 @@
 //! The rows of all queues as a log tells them, found by their idents.
 #![tactic(auto)]
 
+mod distinct;
 mod rack;
 mod racks;
 mod rows;
 mod shelves;
 mod spots;
 
+pub use distinct::{are_distinct, is_met, meet};
 pub use shelves::Shelves;
+pub use spots::IdentKey;

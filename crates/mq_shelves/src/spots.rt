@@ -27,7 +27,8 @@ pub struct Spot {
     pub stand: Stand,
 }
 
-fn key_of(ident: &Ident) -> IdentKey
+/// The key of an ident.
+pub fn key_of(ident: &Ident) -> IdentKey
     ensures { result ≡ key_of ident.now }
 {
     IdentKey {
