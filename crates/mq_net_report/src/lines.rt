@@ -102,6 +102,7 @@ fn put_labels(out: &mut Text, scenario: &Scenario, scripts: &[u16]) -> Result<()
 }
 
 /// Turns of channel ends and timeouts in a step, at all managers.
+#[tactic(auto, using(crate::proofs::StepLaws::turns_step))]
 fn turns_in(step: usize, histories: &[History]) -> Result<u64, NoMemory>
     ensures { IfOk result (λ n. n ≡ turns_in step histories.now) }
 {

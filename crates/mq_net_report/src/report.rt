@@ -26,6 +26,7 @@ fn put_done(
     put_steps(alloc, out, scenario, histories, scenario.steps.as_slice())
 }
 
+#[tactic(auto, using(crate::proofs::RowsReport::whole))]
 fn put_status(alloc: Global, out: &mut Text, status: u8) -> Result<(), NoMemory>
     ensures { OnOk result (out.new ≡ out.old ++ (codes "STATUS " ++ decimal status ++ codes "\n")) }
 {

@@ -108,6 +108,7 @@ fn count_if(test: bool, n: u64) -> Option<u64>
 }
 
 /// How many scripts a monitor began in these entries of its manager, after those before.
+#[tactic(auto, using(crate::proofs::StepLaws::starts_step))]
 pub fn starts_in(
     scenario: &Scenario,
     monitor: u64,
