@@ -1,0 +1,4 @@
+pub mod PartLaws
+pub mod TrimLemmas
+pub mod StepLaws
+pub mod RowsReport
