@@ -1,0 +1,12 @@
+//! Events of a node: a call of its manager, and the entry that tells it in the node's history.
+#![tactic(auto)]
+
+mod acting;
+mod calling;
+mod commanding;
+mod events;
+mod outcome;
+mod state;
+
+pub use outcome::{Obeyed, Outcome, Told};
+pub use state::{NodeParts, Opening};
