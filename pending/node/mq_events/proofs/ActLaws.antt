@@ -85,10 +85,15 @@ pub stop_kept : (up : Bool) (s : NodeState) (room : ℕ) (m : CoreValue) (actor 
     → IsKept (told actor (calls.Act acts.Crash) (quietly (acted_by up)) (record s { manager = m; own = own_by up s.own; room = room }))
 stop_kept up s room m actor kept served o e = act_kept s room m (own_by up s.own) actor acts.Crash (acted_by up) kept served
     (record {
-      stamp = refl; event = refl;
+      stamp = refl;
+      event = refl;
       reply = crash_reply_is up (node_in s) s.manager.plain s.manager.plain.running o;
       delta = crash_delta_is (node_in s) s.manager.plain s.manager.plain.running;
-      pushed = refl; received = refl; popped = tt; extras = refl })
+      pushed = refl;
+      received = refl;
+      popped = tt;
+      extras = refl;
+    })
     (ap (λ (p : Plain). node_of p (own_crashed (stop s.manager.plain).outcome s.own)) (sym e) ∙ ap (node_of m.plain) (crash_own_is up (node_in s) s.manager.plain s.manager.plain.running o))
 
 pub stop_adds : (up : Bool) (s : NodeState) (room : ℕ) (m : CoreValue) (actor : Actor) → m.faults ≡ s.manager.faults

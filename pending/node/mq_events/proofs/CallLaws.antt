@@ -62,30 +62,60 @@ module _ {T : Type 0} (f : Answer T → Reply) (own : Own) (old new : ManagerVal
       → Came (mqi_deed f own step) (node_of old.plain own) (outcome_by (choice_by ended new.delta new.plain.log.armed) (reply_by f ended) new.delta) new.plain
   behind (Refuse reason) (Ok value) n m = absurd m
   behind (Refuse reason) (Err (halts.Refused other)) n m = record {
-    can = nothing_possible old.plain.log.armed; reply = ap (λ r. reply_by f (Err (halts.Refused r))) m.0;
-    delta = ap (λ (v : ManagerValue). v.delta) m.1; manager = ap (λ (v : ManagerValue). v.plain) m.1; own = refl; pushed = refl; received = refl }
+    can = nothing_possible old.plain.log.armed;
+    reply = ap (λ r. reply_by f (Err (halts.Refused r))) m.0;
+    delta = ap (λ (v : ManagerValue). v.delta) m.1;
+    manager = ap (λ (v : ManagerValue). v.plain) m.1;
+    own = refl;
+    pushed = refl;
+    received = refl;
+  }
   behind (Refuse reason) (Err halts.NoMemory) n m = absurd m
   behind (Refuse reason) (Err (halts.Stopped by)) n m = absurd m
   behind (Do reply parts) (Ok value) n m = record {
-    can = m.1; reply = ap f m.0;
-    delta = ap (λ (v : ManagerValue). v.delta) m.3; manager = ap (λ (v : ManagerValue). v.plain) m.3; own = refl; pushed = refl; received = refl }
+    can = m.1;
+    reply = ap f m.0;
+    delta = ap (λ (v : ManagerValue). v.delta) m.3;
+    manager = ap (λ (v : ManagerValue). v.plain) m.3;
+    own = refl;
+    pushed = refl;
+    received = refl;
+  }
   behind (Do reply parts) (Err (halts.Refused other)) n m = absurd m
   behind (Do reply parts) (Err halts.NoMemory) n m = record {
-    can = tt; reply = refl;
-    delta = ap (λ (v : ManagerValue). v.delta) m; manager = ap (λ (v : ManagerValue). v.plain) m; own = refl; pushed = refl; received = refl }
+    can = tt;
+    reply = refl;
+    delta = ap (λ (v : ManagerValue). v.delta) m;
+    manager = ap (λ (v : ManagerValue). v.plain) m;
+    own = refl;
+    pushed = refl;
+    received = refl;
+  }
   behind (Do reply parts) (Err (halts.Stopped by)) n m = stopped (mqi_deed f own (Do reply parts)) by refl refl refl n m
 
   pub nowhere : (step : Step Reason (Answer T)) (ended : Result (Answer T) (Halt Reason)) → StepIsNumbered step → MeetsAs Nowhere old step ended new
       → Came (ended_deed f own step) (node_of old.plain own) (outcome_by (choice_by ended new.delta new.plain.log.armed) (reply_by f ended) new.delta) new.plain
   nowhere (Refuse reason) (Ok value) n m = absurd m
   nowhere (Refuse reason) (Err (halts.Refused other)) n m = record {
-    can = nothing_possible old.plain.log.armed; reply = ap (λ r. reply_by f (Err (halts.Refused r))) m.0;
-    delta = ap (λ (v : ManagerValue). v.delta) m.1; manager = ap (λ (v : ManagerValue). v.plain) m.1; own = refl; pushed = refl; received = refl }
+    can = nothing_possible old.plain.log.armed;
+    reply = ap (λ r. reply_by f (Err (halts.Refused r))) m.0;
+    delta = ap (λ (v : ManagerValue). v.delta) m.1;
+    manager = ap (λ (v : ManagerValue). v.plain) m.1;
+    own = refl;
+    pushed = refl;
+    received = refl;
+  }
   nowhere (Refuse reason) (Err halts.NoMemory) n m = absurd m
   nowhere (Refuse reason) (Err (halts.Stopped by)) n m = absurd m
   nowhere (Do reply parts) (Ok value) n m = record {
-    can = m.1; reply = ap f m.0;
-    delta = ap (λ (v : ManagerValue). v.delta) m.3; manager = ap (λ (v : ManagerValue). v.plain) m.3; own = refl; pushed = refl; received = refl }
+    can = m.1;
+    reply = ap f m.0;
+    delta = ap (λ (v : ManagerValue). v.delta) m.3;
+    manager = ap (λ (v : ManagerValue). v.plain) m.3;
+    own = refl;
+    pushed = refl;
+    received = refl;
+  }
   nowhere (Do reply parts) (Err (halts.Refused other)) n m = absurd m
   nowhere (Do reply parts) (Err halts.NoMemory) n m = absurd m
   nowhere (Do reply parts) (Err (halts.Stopped by)) n m = stopped (ended_deed f own (Do reply parts)) by refl refl refl n m

@@ -1,5 +1,5 @@
 -- Commands on objects as events.
-use Rattle.std.proofs.Common.{◌≡◌, ℕ, ◌+◌, refl, sym, ap, subst, ◌∙◌, ◌≤◌, List, [], ◌∷◌, Bool, true, false, not, arith}
+use Rattle.std.proofs.Common.{◌≡◌, ℕ, ◌+◌, refl, sym, ap, subst, ◌∙◌, ◌≤◌, List, [], ◌∷◌, Bool, true, false, not, inl, inr, arith}
 use Rattle.std.specs.Prelude.{Option, Some, None, Result, Ok, Err, ◌⊎◌}
 use Rattle.mq_base.specs.declared.want.NoMemory.{NoMemory as Want}
 use Rattle.mq_calls.specs.declared.commands.Halt.{Halt}
@@ -41,13 +41,25 @@ module _ (own : Own) (old new : ManagerValue) where
       → Came (command_deed own step) (node_of old.plain own) (outcome_by (choice_by ended new.delta new.plain.log.armed) (reply_of ended) new.delta) new.plain
   came (Refuse reason) (Ok value) n w m = absurd m
   came (Refuse reason) (Err (halts.Refused other)) n w m = record {
-    can = nothing_possible old.plain.log.armed; reply = ap (λ (r : ScRefusal). replies.Acted (acted.Sc r)) m.0;
-    delta = ap (λ (v : ManagerValue). v.delta) m.1; manager = ap (λ (v : ManagerValue). v.plain) m.1; own = refl; pushed = refl; received = refl }
+    can = nothing_possible old.plain.log.armed;
+    reply = ap (λ (r : ScRefusal). replies.Acted (acted.Sc r)) m.0;
+    delta = ap (λ (v : ManagerValue). v.delta) m.1;
+    manager = ap (λ (v : ManagerValue). v.plain) m.1;
+    own = refl;
+    pushed = refl;
+    received = refl;
+  }
   came (Refuse reason) (Err halts.NoMemory) n w m = absurd cc
   came (Refuse reason) (Err (halts.Stopped by)) n w m = absurd m
   came (Do reply parts) (Ok value) n w m = record {
-    can = m.1; reply = ap (λ (s : Shown). replies.Acted (acted.Shown s)) m.0;
-    delta = ap (λ (v : ManagerValue). v.delta) m.3; manager = ap (λ (v : ManagerValue). v.plain) m.3; own = refl; pushed = refl; received = refl }
+    can = m.1;
+    reply = ap (λ (s : Shown). replies.Acted (acted.Shown s)) m.0;
+    delta = ap (λ (v : ManagerValue). v.delta) m.3;
+    manager = ap (λ (v : ManagerValue). v.plain) m.3;
+    own = refl;
+    pushed = refl;
+    received = refl;
+  }
   came (Do reply parts) (Err (halts.Refused other)) n w m = absurd m
   came (Do reply parts) (Err halts.NoMemory) n w m = absurd cc
   came (Do reply parts) (Err (halts.Stopped by)) n w m = stopped replies.Ended own old new (command_deed own (Do reply parts)) by refl refl refl n m
@@ -103,7 +115,8 @@ command_ends c old mid new ended choice reply delta a m is w ch re de e = (
         (came own (manager_of old) (manager_of mid) (command c old.plain) ended (numbered (command c old.plain) (command_short c old.plain)) w m);
     later = faults_so Anywhere old mid new (command c old.plain) ended e m;
   },
-  ap (λ (x : Reply). answer_of (calls.Act (acts.Obey (commands.Objects c))) x) re ∙ answers c ended w ∙ ap (λ (x : Acted). replies.Acted x) (sym is))
+  ap (λ (x : Reply). answer_of (calls.Act (acts.Obey (commands.Objects c))) x) re ∙ answers c ended w ∙ ap (λ (x : Acted). replies.Acted x) (sym is),
+)
 
 -- As events of a node.
 abbrev call_of : Objects → Call

@@ -10,23 +10,23 @@ use Rattle.mq_spec_node.specs.Words.{Grows, NodeValue, more_entries}
 use Rattle.mq_events.specs.States.{NodeState, value_of, last_actor}
 use Rattle.mq_events.specs.Events.{Adds, Stays, AreTurns, Serves, ServesOne}
 
+one_less : (x y : Entry) (es : List Entry) → slice_get (y ∷ es) (length (y ∷ es) - 1) ≡ slice_get (x ∷ y ∷ es) (length (x ∷ y ∷ es) - 1)
+one_less x y es =
+    let long : length (x ∷ y ∷ es) - 1 ≡ suc (length (y ∷ es) - 1) = omega arith in
+    sym (ap (slice_get (x ∷ y ∷ es)) long)
+
 some_actor : (last : Option Actor) (es : List Entry) (e : Entry) → slice_get es (length es - 1) ≡ Some e → last_actor last es ≡ Some e.actor
 some_actor last [] e h = absurd cc
-some_actor last (x ∷ []) e h = ap (λ (o : Option Entry). actor_or o) h
-  where
-    actor_or : Option Entry → Option Actor
-    actor_or None = None
-    actor_or (Some y) = Some y.actor
-some_actor last (x ∷ y ∷ es) e h = some_actor (Some x.actor) (y ∷ es) e h
+some_actor last (x ∷ []) e h = let f : x ≡ e = cc in ap (λ (y : Entry). Some y.actor) f
+some_actor last (x ∷ y ∷ es) e h = some_actor (Some x.actor) (y ∷ es) e (one_less x y es ∙ h)
+
+never : (x : Entry) (es : List Entry) → slice_get (x ∷ es) (length (x ∷ es) - 1) ≡ None → ⊥
+never x [] h = absurd cc
+never x (y ∷ es) h = never y es (one_less x y es ∙ h)
 
 no_last : (last : Option Actor) (es : List Entry) → slice_get es (length es - 1) ≡ None → last_actor last es ≡ last
 no_last last [] h = refl
-no_last last (x ∷ []) h = absurd cc
-no_last last (x ∷ y ∷ es) h = absurd (never x y es h)
-  where
-    never : (x y : Entry) (es : List Entry) → slice_get (x ∷ y ∷ es) (length (x ∷ y ∷ es) - 1) ≡ None → ⊥
-    never x y [] h = absurd cc
-    never x y (z ∷ es) h = never y z es h
+no_last last (x ∷ es) h = absurd (never x es h)
 
 pub last_some : (es : List Entry) (e : Entry) → slice_get es (length es - 1) ≡ Some e → last_actor None es ≡ Some e.actor
 last_some es e h = some_actor None es e h
@@ -38,7 +38,7 @@ turns_more : (xs ys : List Entry) → AreTurns xs → AreTurns ys → AreTurns (
 turns_more [] ys a b = b
 turns_more (x ∷ xs) ys a b = (a.0, turns_more xs ys a.1 b)
 
-grows_more : (a b c : NodeValue) (xs ys : List Entry) → Grows a xs b → Grows b ys c → Grows a (xs ++ ys) c
+pub grows_more : (a b c : NodeValue) (xs ys : List Entry) → Grows a xs b → Grows b ys c → Grows a (xs ++ ys) c
 grows_more a b c xs ys g h = record {
   given = h.given ∙ g.given;
   history = h.history ∙ ap (more_entries ys) g.history ∙ ap (λ (es : List Entry). record a.history { entries = es }) (append_assoc a.history.entries xs ys);

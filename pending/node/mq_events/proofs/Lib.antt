@@ -7,3 +7,5 @@ pub mod LastLaws
 pub mod ActLaws
 pub mod StepLaws
 pub mod CommandLaws
+pub mod AroundLaws
+pub mod MarkLaws

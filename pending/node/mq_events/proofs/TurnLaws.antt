@@ -5,6 +5,7 @@ use Rattle.std.specs.Option.{option_map}
 use Rattle.mq_base.specs.declared.want.NoMemory.{NoMemory as Want}
 use Rattle.mq_calls.specs.declared.commands.Halt.{Halt}
 use Rattle.mq_calls.specs.declared.commands.Halt.TheVariants as halts
+use Rattle.mq_calls.specs.declared.choices.Choice.{Choice}
 use Rattle.mq_calls.specs.declared.choices.Choice.TheVariants.{Runs}
 use Rattle.mq_objects.specs.declared.object.LocalQueue.{LocalQueue}
 use Rattle.mq_objects.specs.Names.{locals_of}
@@ -20,7 +21,7 @@ use Rattle.mq_core.specs.Values.{CoreValue, manager_of}
 use Rattle.mq_events.specs.declared.outcome.Outcome.{Outcome}
 use Rattle.mq_events.specs.Outcomes.{Came, EndsAs, Ends, EndsSo, TurnEnds, due_in, next_due, is_wanting}
 use Rattle.mq_events.specs.States.{last_actor}
-use Rattle.mq_events.proofs.CallLaws.{later, wants_nothing, wanted_is}
+use Rattle.mq_events.proofs.CallLaws.{later, wants_nothing, wanted_is, outcome_by}
 
 -- a call that ran
 pub record Ran {F T : Type 0} (step : Step F T) (old new : ManagerValue) : Type 0 where
@@ -66,7 +67,8 @@ turn_ends old mid new value queue o due m c r d e =
         } in
         let O : Outcome → Type 0 = λ x. Came deed (node_of old.plain own) x new.plain in
         let P : Plain → Type 0 = λ x. Came deed (node_of old.plain own) (record { choice = Runs; reply = replies.Triggered queue; delta = mid.delta }) x in
-        let is : o ≡ record { choice = Runs; reply = replies.Triggered queue; delta = mid.delta } = cc in
+        let is : o ≡ record { choice = Runs; reply = replies.Triggered queue; delta = mid.delta } =
+        ap (λ (x : Choice). outcome_by x o.reply o.delta) c ∙ ap (λ (x : Reply). outcome_by Runs x o.delta) r ∙ ap (λ (x : List Did). outcome_by Runs (replies.Triggered queue) x) d in
         subst O (sym is) (subst P (sym (ap (λ (v : CoreValue). v.plain) e)) as_run)
 
 -- want of memory

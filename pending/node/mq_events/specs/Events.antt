@@ -88,3 +88,22 @@ acted_by false = acted.Down
 abbrev pub own_by : Bool → Own → Own
 own_by true own = own_at_rest own
 own_by false own = own
+
+-- An act with its trigger turns: it was made and answered so, and what is due behind it was served; or somewhere there was no
+-- memory, and the act was made or not.
+abbrev pub IsOnly : Actor → Call → List Entry → Type 0
+IsOnly who what [] = Unit {0}
+IsOnly who what (e ∷ []) = (e.actor ≡ who) × (e.call ≡ what)
+IsOnly who what (e ∷ f ∷ es) = ⊥
+
+pub record MakesOne (who : Actor) (what : Call) (answer : Acted) (old new : NodeState) : Type 0 where
+  pub it : Entry
+  pub makes : Makes (it ∷ []) old new
+  pub actor : it.actor ≡ who
+  pub call : it.call ≡ what
+  pub answers : answer_of what it.reply ≡ replies.Acted answer
+  pub done : IsDone new
+
+abbrev pub Acts : Actor → Call → NodeState → Result Acted Want → NodeState → Type 0
+Acts who what old (Ok a) new = MakesOne who what a old new
+Acts who what old (Err e) new = (it : List Entry) × IsOnly who what it × Makes it old new

@@ -1,5 +1,5 @@
 -- What is seen of the parts of a node, and the entry that an event adds.
-use Rattle.std.specs.Prelude.{◌≡◌, ℕ, ◌+◌, ◌-◌, false, List, [], ◌∷◌, ◌++◌, Option, Some, None}
+use Rattle.std.specs.Prelude.{◌≡◌, ℕ, ◌+◌, ◌-◌, Bool, false, length, List, [], ◌∷◌, ◌++◌, Option, Some, None}
 use Rattle.mq_history.specs.declared.calls.Chance.TheVariants as chances
 use Rattle.mq_history.specs.declared.calls.Reply.TheVariants as replies
 use Rattle.mq_frame.specs.declared.frame.Seen.TheVariants as items
@@ -78,3 +78,7 @@ quietly acted = record { choice = Runs; reply = replies.Acted acted; delta = [] 
 -- no trigger is due
 abbrev pub IsServed : NodeState → Type 0
 IsServed s = trigger_deed (node_in s) ≡ None
+
+-- a step ends here
+abbrev pub marked : Bool → NodeState → NodeState
+marked idle s = record s { history = record s.history { marks = s.history.marks ++ record { entries = length s.history.entries; idle = idle } ∷ [] }; marks = s.marks - 1 }

@@ -319,7 +319,11 @@ pub fn mqget<D: Disk>(
 pub fn next_due<D: Disk>(manager: &Manager<D>) -> Option<QName>
     ensures { result ≡ next_due manager.now.plain }
 {
-    if manager.is_up() { manager.next_due() } else { None }
+    if manager.is_up() {
+        manager.next_due()
+    } else {
+        None
+    }
 }
 
 /// A trigger turn, which is due for this queue.

@@ -22,7 +22,7 @@ use std::alloc::Global;
 
 /// A copy of the lines that are shown; it takes no memory where there are none.
 fn copy_lines(alloc: Global, lines: &Items<Items<u8>>) -> Result<Items<Items<u8>>, NoMemory>
-    ensures { IfOk result (λ copies. copies ≡ lines.now) }
+    ensures copy { IfOk result (λ copies. copies ≡ lines.now) }
     ensures none { lines.now ≡ [] → IsOk result }
 {
     let mut copies = Items::new(alloc);
@@ -51,10 +51,7 @@ fn sc_stopped(by: Stop) -> ScRefusal
 }
 
 /// What is answered for a command that ended so.
-fn acted_of(
-    alloc: Global,
-    ended: &Result<Shown, Halt<ScRefusal>>,
-) -> Result<Acted, NoMemory>
+fn acted_of(alloc: Global, ended: &Result<Shown, Halt<ScRefusal>>) -> Result<Acted, NoMemory>
     ensures { AnswersAs ended.now result }
 {
     match ended {
@@ -130,7 +127,11 @@ impl<D: Disk> NodeParts<D> {
             Err(NoMemory) => Err(NoMemory),
             Ok(obeyed) => {
                 let Obeyed { outcome, acted } = obeyed;
-                self.finish(actor, Call::Act(Act::Obey(Command::Objects(asked))), outcome);
+                self.finish(
+                    actor,
+                    Call::Act(Act::Obey(Command::Objects(asked))),
+                    outcome,
+                );
                 Ok(acted)
             }
         }

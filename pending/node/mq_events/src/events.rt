@@ -7,7 +7,9 @@ ghost use Rattle.mq_events.specs.States.{IsKept, IsServed, node_in, last_actor};
 ghost use Rattle.mq_events.specs.Outcomes.{Ends, TurnEnds, next_due};
 ghost use Rattle.mq_events.specs.Events.{MayAct, IsMqi, EventIs, ServesOne, Serves, IsDone};
 
-use crate::calling::{mqback, mqclose, mqcmit, mqconn, mqdisc, mqget, mqopen, mqput, mqput1, next_due, trigger};
+use crate::calling::{
+    mqback, mqclose, mqcmit, mqconn, mqdisc, mqget, mqopen, mqput, mqput1, next_due, trigger,
+};
 use crate::outcome::Outcome;
 use crate::state::NodeParts;
 use mq_base::NoMemory;

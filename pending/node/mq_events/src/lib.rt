@@ -5,8 +5,10 @@ mod acting;
 mod calling;
 mod commanding;
 mod events;
+mod node;
 mod outcome;
 mod state;
 
+pub use node::Node;
 pub use outcome::{Obeyed, Outcome, Told};
 pub use state::{NodeParts, Opening};

@@ -2,7 +2,7 @@
 ghost use Rattle.std.specs.Prelude.{◌≡◌, ◌<◌, ◌≤◌, ◌+◌, ◌^◌, OnOk, OnErr, length};
 ghost use Rattle.mq_spec_node.specs.Happens.{remembered};
 ghost use Rattle.mq_spec_node.specs.Values.{is_spent};
-ghost use Rattle.mq_events.specs.States.{node_in, value_of, last_actor, forgotten_if, own_after, told, finished, quietly};
+ghost use Rattle.mq_events.specs.States.{node_in, value_of, last_actor, forgotten_if, own_after, told, finished, quietly, marked};
 ghost use Rattle.mq_history.specs.declared.calls.Call.TheVariants as calls;
 
 use crate::outcome::Outcome;
@@ -101,6 +101,18 @@ impl<D: Disk> NodeParts<D> {
         ensures { result ≡ is_spent (value_of self.now) }
     {
         self.entries.len() as u64 >= 1 << 48 || self.stamp >= 1 << 60
+    }
+
+    /// Marks the end of a step, in room that is there. It takes no memory.
+    pub fn mark(&mut self, idle: bool)
+        requires room { 0 < self.old.marks }
+        ensures { self.new ≡ marked idle self.old }
+    {
+        let mark = Mark {
+            entries: self.entries.len() as u64,
+            idle,
+        };
+        self.marks.push_reserved(mark);
     }
 
     /// One entry more, which offers nothing and takes nothing, in room that is there.

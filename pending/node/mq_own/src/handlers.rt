@@ -62,7 +62,9 @@ fn went(queue: &QName, ident: &Ident, did: &Did) -> bool
             ..
         } => *queue == *from && *ident == *other,
         Did::Moved {
-            from, ident: other, ..
+            from,
+            ident: other,
+            ..
         } => *queue == *from && *ident == *other,
         _ => false,
     }

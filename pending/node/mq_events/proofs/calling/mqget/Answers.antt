@@ -15,10 +15,10 @@ returns-then-is_wanting g c =
 pub returns : goal.returns
 returns g c =
     let waits : is_wanting c.mqget-ended.result ≡ true → is_waiting c.args.until c.args.manager.now.plain ≡ false = λ h.
-        elim c.else-waits.branch as (λ x. is_waiting c.args.until c.args.manager.now.plain ≡ false) [
-        | else-waits-via-then-waits+else-is_wanting w ↦ absurd (true_false (sym h ∙ sym w.is_wanting.ensures ∙ w.if-is_wanting.false))
-        | else-waits-via-else-waits w ↦ sym c.is_waiting-waits.ensures ∙ w.if-waits.false
-        ] in
+    elim c.else-waits.branch as (λ x. is_waiting c.args.until c.args.manager.now.plain ≡ false) [
+      | else-waits-via-then-waits+else-is_wanting w ↦ absurd (true_false (sym h ∙ sym w.is_wanting.ensures ∙ w.if-is_wanting.false))
+      | else-waits-via-else-waits w ↦ sym c.is_waiting-waits.ensures ∙ w.if-waits.false
+    ] in
     let E : Option Outcome → Type 0 = λ o. Ends (calls.Mqget c.args.hc c.args.ho c.args.get.now c.args.until) c.args.manager.now (Ok o) c.told-choice.new.manager in
     subst E (sym c.outcome_of.ensures)
     (get_ends c.args.hc c.args.ho c.args.get.now c.args.until c.args.manager.now c.mqget-ended.new.self c.told-choice.new.manager c.mqget-ended.result c.told-choice.result.choice c.told-choice.result.delta
