@@ -2,6 +2,7 @@
 #![tactic(auto)]
 
 mod acting;
+mod bogus;
 mod calling;
 mod commanding;
 mod events;
@@ -9,6 +10,7 @@ mod node;
 mod outcome;
 mod state;
 
+pub use bogus::{bogus_turn, bogus_up};
 pub use node::Node;
 pub use outcome::{Obeyed, Outcome, Told};
 pub use state::{NodeParts, Opening};

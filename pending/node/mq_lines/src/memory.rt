@@ -1,5 +1,5 @@
 //! What a script remembers: its connection, its handles, and the descriptor of the message that it got last.
-ghost use Rattle.std.specs.Prelude.{◌≡◌, ◌≤◌, ◌<◌, ◌∷◌, [], None, not, filter, OnOk};
+ghost use Rattle.std.specs.Prelude.{◌≡◌, ◌≤◌, ◌<◌, [], None, not, OnOk};
 ghost use Rattle.std.specs.Vec.{vec_len, vec_capacity};
 ghost use Rattle.std.specs.Str.{bytes_eq};
 ghost use Rattle.mq_spec_node.specs.Scripts.{hobj_in, hobj, hconn_or, unbound, bound, closed, got, connected, remembers};

@@ -1,7 +1,7 @@
 //! Where a reply goes.
-ghost use Rattle.std.specs.Prelude.{◌≡◌, []};
+ghost use Rattle.std.specs.Prelude.{◌≡◌};
 ghost use Rattle.mq_spec_manager.specs.Heads.{trimmed};
-ghost use Rattle.mq_spec_node.specs.Scripts.{manager_target, queue_target, reply_target, last_id, reply_correl, nowhere};
+ghost use Rattle.mq_spec_node.specs.Scripts.{manager_target, queue_target, reply_target, reply_correl, nowhere};
 
 use mq_fill::trimmed;
 use mq_message::Md;

@@ -10,7 +10,7 @@ use Rattle.mq_events.proofs.calling.mqget.Goals.{else-waits-via-then-waits+else-
 
 pub returns-then-is_wanting : goal.returns-then-is_wanting
 returns-then-is_wanting g c =
-    get_wants c.args.hc c.args.ho c.args.get.now c.args.until c.args.manager.now c.mqget-ended.new.self _ c.mqget-ended.result c.mqget-ended.ensures (sym c.is_wanting.ensures ∙ c.if-is_wanting.true)
+    get_wants c.args.hc c.args.ho c.args.get.now c.args.until c.args.manager.now c.mqget-ended.new.self _ c.mqget-ended.result c.mqget-ended.ensures.meets (sym c.is_wanting.ensures ∙ c.if-is_wanting.true)
 
 pub returns : goal.returns
 returns g c =
@@ -22,4 +22,4 @@ returns g c =
     let E : Option Outcome → Type 0 = λ o. Ends (calls.Mqget c.args.hc c.args.ho c.args.get.now c.args.until) c.args.manager.now (Ok o) c.told-choice.new.manager in
     subst E (sym c.outcome_of.ensures)
     (get_ends c.args.hc c.args.ho c.args.get.now c.args.until c.args.manager.now c.mqget-ended.new.self c.told-choice.new.manager c.mqget-ended.result c.told-choice.result.choice c.told-choice.result.delta
-    c.mqget-ended.ensures waits c.told-choice.ensures.choice c.told-choice.ensures.delta c.told-choice.ensures.after)
+    c.mqget-ended.ensures.meets waits c.told-choice.ensures.choice c.told-choice.ensures.delta c.told-choice.ensures.after)

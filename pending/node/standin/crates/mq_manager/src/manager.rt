@@ -1,5 +1,5 @@
 //! Stand-in for the manager: its calls with their clauses.
-ghost use Rattle.std.specs.Prelude.{◌≡◌, [], None, true, min, ◌+◌};
+ghost use Rattle.std.specs.Prelude.{◌≡◌, [], None, true, min, ◌+◌, ◌≤◌};
 ghost use Rattle.mq_spec_state.specs.Words.{Meets, MeetsInRoom, MeetsOrWants, AreLow, is_up};
 ghost use Rattle.mq_spec_manager.specs.Words.{mqconn, mqopen, mqclose, mqput, mqput1, mqget, mqcmit, mqback, mqdisc};
 ghost use Rattle.mq_spec_manager.specs.Commands.{command};
@@ -43,7 +43,8 @@ impl<D: Disk> Manager<D> {
     /// MQCONN (MQI reference).
     pub fn mqconn(&mut self, qmgr: &QName, appl: &Appl) -> Result<Answer<Hconn>, Halt<Reason>>
         requires low { AreLow self.old.plain }
-        ensures { Meets (manager_of self.old) (mqconn qmgr.now appl.now self.old.plain) result (manager_of self.new) }
+        ensures meets { Meets (manager_of self.old) (mqconn qmgr.now appl.now self.old.plain) result (manager_of self.new) }
+        ensures told { self.old.faults ≤ self.new.faults }
     {
         match self.core.never {}
     }
@@ -57,14 +58,16 @@ impl<D: Disk> Manager<D> {
         how: &Open,
     ) -> Result<Answer<Hobj>, Halt<Reason>>
         requires low { AreLow self.old.plain }
-        ensures { Meets (manager_of self.old) (mqopen hc name.now qmgr.now how.now self.old.plain) result (manager_of self.new) }
+        ensures meets { Meets (manager_of self.old) (mqopen hc name.now qmgr.now how.now self.old.plain) result (manager_of self.new) }
+        ensures told { self.old.faults ≤ self.new.faults }
     {
         match self.core.never {}
     }
 
     /// MQCLOSE (MQI reference). It takes no memory.
     pub fn mqclose(&mut self, hc: Hconn, ho: Hobj) -> Result<Answer<()>, Halt<Reason>>
-        ensures { MeetsInRoom (manager_of self.old) (mqclose hc ho self.old.plain) result (manager_of self.new) }
+        ensures meets { MeetsInRoom (manager_of self.old) (mqclose hc ho self.old.plain) result (manager_of self.new) }
+        ensures told { self.old.faults ≤ self.new.faults }
     {
         match self.core.never {}
     }
@@ -79,7 +82,8 @@ impl<D: Disk> Manager<D> {
         sync: bool,
     ) -> Result<Answer<Sent>, Halt<Reason>>
         requires low { AreLow self.old.plain }
-        ensures { Meets (manager_of self.old) (mqput hc ho md.now body.now sync self.old.plain) result (manager_of self.new) }
+        ensures meets { Meets (manager_of self.old) (mqput hc ho md.now body.now sync self.old.plain) result (manager_of self.new) }
+        ensures told { self.old.faults ≤ self.new.faults }
     {
         match self.core.never {}
     }
@@ -95,7 +99,8 @@ impl<D: Disk> Manager<D> {
         sync: bool,
     ) -> Result<Answer<Sent>, Halt<Reason>>
         requires low { AreLow self.old.plain }
-        ensures { Meets (manager_of self.old) (mqput1 hc name.now qmgr.now md.now body.now sync self.old.plain) result (manager_of self.new) }
+        ensures meets { Meets (manager_of self.old) (mqput1 hc name.now qmgr.now md.now body.now sync self.old.plain) result (manager_of self.new) }
+        ensures told { self.old.faults ≤ self.new.faults }
     {
         match self.core.never {}
     }
@@ -108,7 +113,8 @@ impl<D: Disk> Manager<D> {
         get: &Get,
         until: Option<u64>,
     ) -> Result<GetAnswer, Halt<Reason>>
-        ensures { Meets (manager_of self.old) (mqget hc ho get.now until self.old.plain) result (manager_of self.new) }
+        ensures meets { Meets (manager_of self.old) (mqget hc ho get.now until self.old.plain) result (manager_of self.new) }
+        ensures told { self.old.faults ≤ self.new.faults }
     {
         match self.core.never {}
     }
@@ -116,14 +122,16 @@ impl<D: Disk> Manager<D> {
     /// MQCMIT (MQI reference). It takes no memory.
     pub fn mqcmit(&mut self, hc: Hconn) -> Result<Answer<()>, Halt<Reason>>
         requires low { AreLow self.old.plain }
-        ensures { MeetsInRoom (manager_of self.old) (mqcmit hc self.old.plain) result (manager_of self.new) }
+        ensures meets { MeetsInRoom (manager_of self.old) (mqcmit hc self.old.plain) result (manager_of self.new) }
+        ensures told { self.old.faults ≤ self.new.faults }
     {
         match self.core.never {}
     }
 
     /// MQBACK (MQI reference). It takes no memory.
     pub fn mqback(&mut self, hc: Hconn) -> Result<Answer<()>, Halt<Reason>>
-        ensures { MeetsInRoom (manager_of self.old) (mqback hc self.old.plain) result (manager_of self.new) }
+        ensures meets { MeetsInRoom (manager_of self.old) (mqback hc self.old.plain) result (manager_of self.new) }
+        ensures told { self.old.faults ≤ self.new.faults }
     {
         match self.core.never {}
     }
@@ -131,14 +139,16 @@ impl<D: Disk> Manager<D> {
     /// MQDISC (MQI reference). It takes no memory.
     pub fn mqdisc(&mut self, hc: Hconn) -> Result<Answer<()>, Halt<Reason>>
         requires low { AreLow self.old.plain }
-        ensures { MeetsInRoom (manager_of self.old) (mqdisc hc self.old.plain) result (manager_of self.new) }
+        ensures meets { MeetsInRoom (manager_of self.old) (mqdisc hc self.old.plain) result (manager_of self.new) }
+        ensures told { self.old.faults ≤ self.new.faults }
     {
         match self.core.never {}
     }
 
     /// One MQSC command on objects.
     pub fn command(&mut self, asked: &mq_objects::Command) -> Result<Shown, Halt<ScRefusal>>
-        ensures { MeetsOrWants (manager_of self.old) (command asked.now self.old.plain) result (manager_of self.new) }
+        ensures meets { MeetsOrWants (manager_of self.old) (command asked.now self.old.plain) result (manager_of self.new) }
+        ensures told { self.old.faults ≤ self.new.faults }
     {
         match self.core.never {}
     }
@@ -163,7 +173,8 @@ impl<D: Disk> Manager<D> {
     /// Serves the first queue with a trigger due.
     pub fn trigger_turn(&mut self) -> Result<bool, NoMemory>
         requires low { AreLow self.old.plain }
-        ensures { Meets (manager_of self.old) (trigger_turn self.old.plain) (halted result) (manager_of self.new) }
+        ensures meets { Meets (manager_of self.old) (trigger_turn self.old.plain) (halted result) (manager_of self.new) }
+        ensures told { self.old.faults ≤ self.new.faults }
     {
         match self.core.never {}
     }

@@ -1,9 +1,8 @@
 //! All that is a node's own beside its manager.
-ghost use Rattle.std.specs.Prelude.{◌≡◌, ◌==◌, map, if◌then◌else◌};
-ghost use Rattle.std.specs.Option.{option_copied};
+ghost use Rattle.std.specs.Prelude.{◌≡◌, map};
 ghost use Rattle.mq_spec_node.specs.Node as nodes;
 ghost use Rattle.mq_spec_node.specs.Deeds.{forgotten_rows, end_at_rest, own_at_rest};
-ghost use Rattle.mq_spec_node.specs.Happens.{connected_by, disconnected_by, remembered};
+ghost use Rattle.mq_spec_node.specs.Happens.{remembered};
 ghost use Rattle.mq_own.specs.Views.{forgetting, forgetting_all, remembering};
 
 use crate::ends::ChannelEnd;
@@ -11,7 +10,7 @@ use crate::handlers::Handler;
 use crate::parts::{Monitor, Script};
 use mq_base::Items;
 use mq_calls::Did;
-use mq_history::{Actor, Call, Reply, ScriptPart};
+use mq_history::{Actor, Call, Reply};
 use std::marker::Model;
 
 /// All that is a node's own beside its manager, each list in the order of the numbers in it.
