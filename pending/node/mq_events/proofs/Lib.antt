@@ -1,0 +1,11 @@
+pub mod NumberLaws
+pub mod CallLaws
+pub mod TurnLaws
+pub mod ReplayLaws
+pub mod EventLaws
+pub mod LastLaws
+pub mod ActLaws
+pub mod StepLaws
+pub mod CommandLaws
+pub mod AroundLaws
+pub mod MarkLaws

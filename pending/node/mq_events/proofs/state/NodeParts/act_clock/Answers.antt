@@ -1,0 +1,16 @@
+use Rattle.mq_sc_parse.specs.declared.command.Command.TheVariants as commands
+use Rattle.mq_history.specs.declared.acts.Act.TheVariants as acts
+use Rattle.mq_history.specs.declared.calls.Call.TheVariants as calls
+use Rattle.mq_events.proofs.AroundLaws.{acts_none, acts_stays, acts_closed}
+use Rattle.mq_events.proofs.state.NodeParts.act_clock.Goals as goal
+
+pub returns-in-Err-clause-did : goal.returns-in-Err-clause-did
+returns-in-Err-clause-did g c = acts_none c.args.actor (calls.Act (acts.Clock c.args.by)) c.args.self.now c.ready.new.self _ c.ready.ensures.turns
+
+pub returns-in-Err-advance_clock-clause-did : goal.returns-in-Err-advance_clock-clause-did
+returns-in-Err-advance_clock-clause-did g c = acts_stays c.args.actor (calls.Act (acts.Clock c.args.by)) c.args.self.now c.ready.new.self c.advance_clock.new.self _ c.ready.ensures.turns c.in-Err-advance_clock.ensures.did
+
+pub returns-in-Ok-advance_clock-clause-did : goal.returns-in-Ok-advance_clock-clause-did
+returns-in-Ok-advance_clock-clause-did g c =
+    acts_closed c.args.actor (calls.Act (acts.Clock c.args.by)) c.args.self.now c.ready.new.self c.advance_clock.new.self c.close.new.self c.in-Ok-advance_clock.acted c.close.result
+    c.ready.ensures.turns c.in-Ok-advance_clock.ensures.did c.close.ensures.turns c.close.ensures.same c.close.ensures.done

@@ -1,0 +1,6 @@
+//! Stand-in.
+#![tactic(auto)]
+
+mod manager;
+
+pub use manager::Manager;
