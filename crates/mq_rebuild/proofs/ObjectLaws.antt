@@ -46,7 +46,7 @@ other_way a b e = by (is_object (space_of b) (name_of b) a) refl
         let h = both (same_space (space_of b) (space_of a)) (bytes_eq (name_of b) (name_of a)) t in
         let n : name_of a ≡ name_of b = sym ((bytes_decides (name_of b) (name_of a)).0 h.1) in
         let back : is_object (space_of a) (name_of a) b ≡ true =
-            rw (same_way (space_of b) (space_of a) h.0) ((bytes_decides (name_of a) (name_of b)).1 n) in
+        rw (same_way (space_of b) (space_of a) h.0) ((bytes_decides (name_of a) (name_of b)).1 n) in
         sym back ∙ e
     by false t = refl
 

@@ -161,7 +161,7 @@ module _ (name : List ℕ) (b : Bool) (front : List QueueState) (others : AreOth
       ap (change_state name (arrived row.message)) (last_changed name (with_rows name b done) (same_name name) expecting front others)
       ∙ last_changed name (expecting (with_rows name b done)) (same_name name) (arrived row.message) front others
       ∙ ap (λ (rs : List Row). front ++ laid name b (length done + 1) rs ∷ [])
-          (put_last (made_row b (length done + 1) row.message None) 0 done (subst (λ (l : ℕ). AllByRecursion (λ (x : Row). x.place.lane ≤ l) done) lane low))
+      (put_last (made_row b (length done + 1) row.message None) 0 done (subst (λ (l : ℕ). AllByRecursion (λ (x : Row). x.place.lane ≤ l) done) lane low))
 
   stands_there : (done : List Row) (row : Row) → IsLaned b row
       → front ++ laid name b (length done + 1) (numbered 0 done ++ made_row b (length done + 1) row.message row.by ∷ []) ∷ [] ≡ front ++ with_rows name b (done ++ row ∷ []) ∷ []
@@ -209,5 +209,5 @@ module _ (name : List ℕ) (b : Bool) (front : List QueueState) (others : AreOth
   rows_can done (row ∷ rows) lanes behind away few = (
     row_can done row away.0 (behind_lacks row done behind.0) (omega (arith, few)),
     subst (CanAddAll name rows) (sym (row_laid done row lanes.0 behind.0))
-      (rows_can (done ++ row ∷ []) rows lanes.1 behind.1 away.1 (let e = length-append done (row ∷ []) in omega (arith, few, e))),
+        (rows_can (done ++ row ∷ []) rows lanes.1 behind.1 away.1 (let e = length-append done (row ∷ []) in omega (arith, few, e))),
   )

@@ -48,7 +48,7 @@ nowhere : (d : Definitions) (s : Shelf) (done : List Shelf) → AllByRecursion (
 nowhere d s [] h = every (λ (y : Row). IsNowhere y.message.ident []) (λ y. tt) s.rows
 nowhere d s (t ∷ ts) h =
     both (λ (y : Row). Lacks y.message.ident t.rows) (λ (y : Row). IsNowhere y.message.ident (map (state_on d) ts)) (λ (y : Row). IsNowhere y.message.ident (map (state_on d) (t ∷ ts)))
-      (λ y lacks away. (lacks_numbered y 0 t.rows lacks, away)) s.rows (apart_rows t s h.0.1) (nowhere d s ts h.1)
+    (λ y lacks away. (lacks_numbered y 0 t.rows lacks, away)) s.rows (apart_rows t s h.0.1) (nowhere d s ts h.1)
 
 -- ---- a shelf, with rows in their lanes, one behind the other
 

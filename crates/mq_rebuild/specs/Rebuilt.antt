@@ -14,7 +14,7 @@ use Rattle.mq_spec_state.specs.State.Which.{Among}
 use Rattle.mq_spec_state.specs.Changes.{held_in, lane_of}
 use Rattle.mq_spec_state.specs.Images.{Image, Shelf, queue_on}
 use Rattle.mq_spec_state.specs.Recovery.{AreApart}
-use Rattle.mq_rebuild.specs.declared.build.Built.{Built}
+use Rattle.mq_rebuild.specs.declared.building.Built.{Built}
 use Rattle.mq_place.specs.States.{QueueState, state_in, change_state, on_queues, fresh_state, expecting, arrived, CanPlace, IsNowhere}
 
 -- rows of a queue have lanes by their priorities, or all one lane

@@ -33,11 +33,7 @@ fn is_laned(defs: &Defs, name: &QName) -> bool
 }
 
 /// A queue with the rows of a shelf stands last.
-fn add_shelf(
-    queues: &mut Queues<PlainQueue>,
-    defs: &Defs,
-    shelf: Shelf,
-) -> Result<(), NoMemory>
+fn add_shelf(queues: &mut Queues<PlainQueue>, defs: &Defs, shelf: Shelf) -> Result<(), NoMemory>
     requires absent { state_in shelf.name queues.old.states ≡ None }
     requires can { CanAddShelf defs.now.definitions shelf queues.old.states }
     ensures { OnOk result (queues.new.states ≡ shelf_added defs.now.definitions shelf queues.old.states) }
