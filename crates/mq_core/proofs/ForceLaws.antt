@@ -74,8 +74,8 @@ pub tied_downed : (write : StoppedWrite) (r : LogRecord) (items : List Item) (x 
 unfolding downed_by
 tied_downed write r items x y stop f t = subst (λ (z : PartsValue). TiedBut items (downed write z)) (sym f.same) (record {
   up = λ u. absurd (true_false (sym u));
-  reserved = ap (λ (l : LogState). l.reserved) f.log ∙ t.reserved;
-  within = let a = ap (λ (l : LogState). l.reserved) f.log in let b = ap (λ (l : LogState). l.max) f.log in omega (arith, a, b, t.within);
+  reserved = λ u. absurd (true_false (sym u));
+  within = λ u. absurd (true_false (sym u));
   queues = record {
     lanes = λ name. seen_on (kept_in Nonpersistent) (λ q. refl) state_lanes (λ s. refl) name x.queues.states ∙ t.queues.lanes name;
     pending = λ name. seen_on (kept_in Nonpersistent) (λ q. refl) pending_at (λ s. refl) name x.queues.states ∙ t.queues.pending name;

@@ -6,3 +6,4 @@ pub mod PutLaws
 pub mod RoomLaws
 pub mod ReadLaws
 pub mod PendLaws
+pub mod WriteLaws

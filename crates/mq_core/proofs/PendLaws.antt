@@ -92,11 +92,11 @@ need_push items queue m n some none = ap with_head (sum_by_push item_bytes items
     by false some none = let zero = none refl in let e : sum_by item_bytes items + 0 ≡ sum_by item_bytes items = omega arith in ap with_head e ∙ omega (arith, zero)
 
 -- puts to a queue, counted one by one
-puts_in : List ℕ → List Item → ℕ
+unfoldable pub puts_in : List ℕ → List Item → ℕ
 puts_in name [] = 0
 puts_in name (item ∷ items) = cond (is_put_to name item) (1 + puts_in name items) (puts_in name items)
 
-puts_in_count : (name : List ℕ) (items : List Item) → puts_in name items ≡ count_by (is_put_to name) items
+pub puts_in_count : (name : List ℕ) (items : List Item) → puts_in name items ≡ count_by (is_put_to name) items
 unfolding puts_in
 puts_in_count name items = is_count_by (puts_in name) (is_put_to name) refl (λ x xs. refl) items
 
@@ -122,11 +122,11 @@ count_push name items queue m =
     omega (arith, one, more, push)
 
 -- where nothing is needed more
-room_or : (n res room more : ℕ) → res ≤ room → room ≤ more → (0 < n → res + n ≤ more) → res + n ≤ more
+pub room_or : (n res room more : ℕ) → res ≤ room → room ≤ more → (0 < n → res + n ≤ more) → res + n ≤ more
 room_or zero res room more le grows need = omega (arith, le, grows)
 room_or (suc n) res room more le grows need = need (omega arith)
 
-within_or : (n res most : ℕ) → res ≤ most → (0 < n → res + n ≤ most) → res + n ≤ most
+pub within_or : (n res most : ℕ) → res ≤ most → (0 < n → res + n ≤ most) → res + n ≤ most
 within_or zero res most le need = omega (arith, le)
 within_or (suc n) res most le need = need (omega arith)
 
@@ -139,8 +139,8 @@ tied_pended number queue m need c x y there found ident more forced p t =
     let sums = sum_changed unit_need number f x.desk.live c found in
     subst Tied (sym p.same) (record {
       up = λ u. let w = t.up u in record { live = w.live; settled = w.settled; room = room_or need _ _ _ w.room p.more p.room; body = let b = w.body in omega (arith, b, p.body) };
-      reserved = omega (arith, t.reserved, sums, more);
-      within = within_or need _ _ t.within p.within;
+      reserved = λ u. let r = t.reserved u in omega (arith, r, sums, more);
+      within = λ u. within_or need _ _ (t.within u) p.within;
       queues = record {
         lanes = λ name. seen_kept queue expecting (λ s. refl) state_lanes (λ s. refl) name x.queues.states kept.0 kept.1 ∙ t.queues.lanes name;
         pending = λ name.
@@ -188,8 +188,8 @@ pub unit_le : (number : ℕ) (cs : List Connection) (c : Connection) → connect
 unit_le number cs c found = let less = sum_changed unit_need number emptied cs c found in omega (arith, less)
 
 -- a put in a unit is small
-pub unit_small : (number : ℕ) (m : Message) (need : ℕ) (queue : List ℕ) (c : Connection) (x : PartsValue) → connection_at number x.desk.live ≡ Some c → unit_need (c.unit ++ Put queue m ∷ []) ≡ unit_need c.unit + need → need < 2 ^ 32 → Tied x → unit_need (c.unit ++ Put queue m ∷ []) < 2 ^ 64
-unit_small number m need queue c x found more small t = let le = unit_le number x.desk.live c found in omega (arith, more, le, small, t.reserved, t.within, t.max)
+pub unit_small : (number : ℕ) (m : Message) (need : ℕ) (queue : List ℕ) (c : Connection) (x : PartsValue) → connection_at number x.desk.live ≡ Some c → unit_need (c.unit ++ Put queue m ∷ []) ≡ unit_need c.unit + need → need < 2 ^ 32 → mode_is_up x.mode ≡ true → Tied x → unit_need (c.unit ++ Put queue m ∷ []) < 2 ^ 64
+unit_small number m need queue c x found more small up t = let le = unit_le number x.desk.live c found in let r = t.reserved up in let w = t.within up in omega (arith, more, le, small, r, w, t.max)
 
 -- a put in a unit that is done
 pub pended_meets : (v new : ManagerValue) (number : ℕ) (high : Bool) (queue : List ℕ) (m : Message) (c : Connection) → connection_at number v.plain.connections ≡ Some c

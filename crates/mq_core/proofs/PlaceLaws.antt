@@ -121,7 +121,7 @@ module _ (at : List ℕ) (f : QueueState → QueueState) (named : (s : QueueStat
       by false n = h name t (sym (state_other name n qs) ∙ is)
 
 -- a row more
-times_insert : (i : Ident) (new : Row) (rows : List Row) → times_in_rows i (insert_row new rows) ≡ one_if (has_ident i new) + times_in_rows i rows
+pub times_insert : (i : Ident) (new : Row) (rows : List Row) → times_in_rows i (insert_row new rows) ≡ one_if (has_ident i new) + times_in_rows i rows
 times_insert i new [] = refl
 times_insert i new (row ∷ rows) = by (nat_le row.place.lane new.place.lane) (times_insert i new rows)
   where
@@ -227,11 +227,11 @@ placed_view queue m x r =
     ∙ ap (try_of queue m.md.priority) (arrived_view queue m x r)
 
 -- what ties the parts after it
-waits_less : (b : Bool) (a w n : ℕ) → n ≡ a + (one_if b + w) → cond b (n - 1) n ≡ a + w
+pub waits_less : (b : Bool) (a w n : ℕ) → n ≡ a + (one_if b + w) → cond b (n - 1) n ≡ a + w
 waits_less true a w n e = omega (arith, e)
 waits_less false a w n e = omega (arith, e)
 
-tied_arrived : (queue : List ℕ) (m : Message) (items : List Item) (x : PartsValue) → IsReady queue m x → TiedBut (Put queue m ∷ items) x → TiedBut items (arrived_at queue m x)
+pub tied_arrived : (queue : List ℕ) (m : Message) (items : List Item) (x : PartsValue) → IsReady queue m x → TiedBut (Put queue m ∷ items) x → TiedBut items (arrived_at queue m x)
 tied_arrived queue m items x r t =
     let times = λ (i : Ident). times_changed queue (arrived m) (λ s. refl) i (one_if (same_ident m.ident i)) (λ s. times_insert i _ s.queue.rows) x.queues.states r.state r.is in
     record {

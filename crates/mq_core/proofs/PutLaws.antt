@@ -83,8 +83,8 @@ tied_on_way queue m x w there o t =
     let same = queues_same queue expecting (λ s. refl) x.queues.states in
     subst (TiedBut (Put queue m ∷ [])) (sym o.same) (record {
       up = λ u. let old = t.up u in record { live = o.live ∙ old.live; settled = o.settled ∙ old.settled; room = let a = o.room u in omega (arith, a, o.reserved); body = let a = o.body u in omega (arith, a, o.reserved) };
-      reserved = o.reserved ∙ t.reserved;
-      within = omega (arith, o.reserved, o.max, t.within);
+      reserved = λ u. o.reserved ∙ t.reserved u;
+      within = λ u. let w = t.within u in omega (arith, o.reserved, o.max, w);
       queues = record {
         lanes = λ name. seen_kept queue expecting (λ s. refl) state_lanes (λ s. refl) name x.queues.states found.0 found.1 ∙ t.queues.lanes name;
         pending = λ name. pending_changed queue expecting (λ s. refl) (λ n. n + 1) (λ s. refl) name x.queues.states found.0 found.1 ∙ waits_more (bytes_eq name queue) _ _ (let p = t.queues.pending name in omega (arith, p));
@@ -283,7 +283,7 @@ free_meets v new high queue m free plain told stopped faults =
     (refl, (λ some. some), omega (arith, faults), (λ i. record { plain = plain i; delta = told i; stopped = stopped i; faults = new.faults }))
 
 -- behind a write, or stopped in it
-kept_persistent : (m : Message) → CanBeKept m → is_persistent m ≡ true
+pub kept_persistent : (m : Message) → CanBeKept m → is_persistent m ≡ true
 kept_persistent m k = ap (is_int 1) k.persistent
 
 pub forced_meets : (v new : ManagerValue) (high : Bool) (queue : List ℕ) (m : Message) → CanBeKept m → new.plain ≡ apply_all (CountIdent ∷ placed queue m) (logged (Some (added queue m)) v.plain) → new.delta ≡ did.Placed queue m.ident None ∷ [] → new.stopped ≡ None
@@ -319,7 +319,7 @@ pub short_record : (queue : List ℕ) (m : Message) → CanBeKept m → need (ad
 short_record queue m k = let e = need_added queue m in let short = k.words.body in let route = route_small m.route in omega (arith, e, short, route)
 
 -- placing leaves the log
-due_log : (b : Bool) (queue : List ℕ) (x : PartsValue) → (due_if b queue x).log ≡ x.log
+pub due_log : (b : Bool) (queue : List ℕ) (x : PartsValue) → (due_if b queue x).log ≡ x.log
 due_log true queue x = refl
 due_log false queue x = refl
 

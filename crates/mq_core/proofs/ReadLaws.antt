@@ -1,6 +1,6 @@
 -- What is read of the queues is what the plain manager has.
-use Rattle.std.proofs.Common.{◌≡◌, ℕ, Bool, true, false, cond, List, [], ◌∷◌, refl, ap, arith, ◌∙◌}
-use Rattle.std.specs.Prelude.{ℤ, pos, negsuc, Option, Some, None, count_by, ◌&&◌}
+use Rattle.std.proofs.Common.{◌≡◌, ℕ, ◌+◌, ◌<◌, ◌≤◌, Bool, true, false, cond, List, [], ◌∷◌, refl, ap, arith, ◌∙◌}
+use Rattle.std.specs.Prelude.{ℤ, pos, negsuc, Option, Some, None, count_by, not, nat_lt, IsTrue, ◌↔◌, ◌&&◌}
 use Rattle.std.specs.Str.{bytes_eq}
 use Rattle.std.proofs.lemmas.Bool.Decides.{nat_tests}
 use Rattle.mq_spec_state.specs.State.{fresh_queue}
@@ -49,3 +49,15 @@ queue_none name (q ∷ qs) e = by (bytes_eq name q.queue.name) e (queue_none nam
     by : (b : Bool) → cond b (Some q) (state_in name qs) ≡ None → (state_in name qs ≡ None → queue_in name (queues_of qs) ≡ fresh_queue name) → cond b q.queue (queue_in name (queues_of qs)) ≡ fresh_queue name
     by true e rest = absurd cc
     by false e rest = rest e
+
+-- so many bytes more fit into the log, or not
+false_true : false ≡ true → ⊥
+false_true e = absurd cc
+
+pub full_so : (bytes len units max : ℕ) (fits : Bool) → 0 < bytes → (IsTrue fits ↔ (len + units + bytes ≤ max)) → not fits ≡ (nat_lt 0 bytes && nat_lt max (len + units + bytes))
+full_so bytes len units max true some h = let le = h.0 refl in grind (arith, nat_tests, some, le)
+full_so bytes len units max false some h = by (nat_lt max (len + units + bytes)) refl
+  where
+    by : (b : Bool) → nat_lt max (len + units + bytes) ≡ b → true ≡ (nat_lt 0 bytes && b)
+    by true e = grind (arith, nat_tests, some)
+    by false e = absurd (false_true (h.1 (grind (arith, nat_tests, e))))

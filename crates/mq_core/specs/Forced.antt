@@ -1,5 +1,5 @@
 -- What a forced write leaves of a manager's parts.
-use Rattle.std.specs.Prelude.{◌≡◌, ℕ, ◌+◌, ◌-◌, ◌<◌, ◌≤◌, [], List, length, Result, Some, OnOk, IsErrOf}
+use Rattle.std.specs.Prelude.{◌≡◌, ℕ, ◌+◌, ◌-◌, ◌<◌, ◌≤◌, [], List, length, Result, Some, None, OnOk, IsErrOf}
 use Rattle.mq_base.specs.Outside.{Rose}
 use Rattle.mq_disk.specs.declared.cutter.Stop.{Stop}
 use Rattle.mq_disk.specs.declared.cutter.Stop.TheVariants as stops
@@ -29,7 +29,7 @@ pub record IsForced (r : LogRecord) (x : PartsValue) (result : Result (Unit {0})
 
 -- a stopped write takes the manager down
 abbrev pub downed : StoppedWrite → PartsValue → PartsValue
-downed write x = record (with_states (on_queues (kept_in Nonpersistent) x.queues.states) x) { mode = modes.Down (Some write) 0 }
+downed write x = record (with_states (on_queues (kept_in Nonpersistent) x.queues.states) x) { mode = modes.Down (Some write) 0 None }
 
 -- more room was taken, and nothing else has changed
 pub record HasMoreRoom (x y : PartsValue) : Type 0 where

@@ -1,4 +1,5 @@
 pub mod Writes
+pub mod Values
 pub mod Views
 pub mod Ties
 pub mod Calls

@@ -13,7 +13,7 @@ use Rattle.mq_core.specs.Views.{PartsValue}
 
 abbrev pub mode_is_up : Mode → Bool
 mode_is_up modes.Up = true
-mode_is_up (modes.Down write starts) = false
+mode_is_up (modes.Down write starts kept) = false
 
 -- How often an ident stands: in rows, and in uncommitted puts.
 abbrev pub one_if : Bool → ℕ
@@ -97,8 +97,8 @@ pub record TiedIdents (items : List Item) (x : PartsValue) : Type 0 where
 
 pub record TiedBut (items : List Item) (x : PartsValue) : Type 0 where
   pub up : mode_is_up x.mode ≡ true → TiedUp x
-  pub reserved : x.log.reserved ≡ needs x.desk.live
-  pub within : x.log.reserved ≤ x.log.max
+  pub reserved : mode_is_up x.mode ≡ true → x.log.reserved ≡ needs x.desk.live
+  pub within : mode_is_up x.mode ≡ true → x.log.reserved ≤ x.log.max
   pub queues : TiedQueues items x
   pub idents : TiedIdents items x
   pub forced : AreForced x.desk.live

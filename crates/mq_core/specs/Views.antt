@@ -71,7 +71,7 @@ noted frozen (Some (writes.Moved from target bare to message)) = noted_part (mov
 
 abbrev pub running_of : Plain → Mode → Running
 running_of frozen modes.Up = Up
-running_of frozen (modes.Down write starts) = Down (noted frozen write) starts
+running_of frozen (modes.Down write starts kept) = Down (noted frozen write) starts
 
 -- the plain manager
 abbrev pub plain_of : PartsValue → Plain

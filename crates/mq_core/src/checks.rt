@@ -1,5 +1,5 @@
 //! What calls read of a manager's parts: the connection check, and who uses a queue.
-ghost use Rattle.std.specs.Prelude.{◌≡◌, ◌+◌, ◌^◌, ◌<◌, Ok, Err, not, MatchResult, ◌||◌, ◌&&◌, nat_le, length};
+ghost use Rattle.std.specs.Prelude.{◌≡◌, ◌+◌, ◌^◌, ◌<◌, Ok, Err, not, MatchResult, ◌||◌, ◌&&◌, nat_le, length, true};
 ghost use Rattle.mq_spec_state.specs.Words.{is_input, is_up, read_by_sender, has_held, local_of, depth, is_full};
 ghost use Rattle.mq_spec_manager.specs.Words.{is_other, is_present, is_other_name, is_shut, is_sending, is_transmission_queue, next_ident};
 ghost use Rattle.mq_core.specs.Views.{plain_of};
@@ -144,6 +144,7 @@ impl<D: Disk> Parts<D> {
     /// The log lacks room for so many bytes more; no bytes always fit.
     pub fn is_full(&self, bytes: u64) -> bool
         requires tied { Tied self.now }
+        requires up { is_up (plain_of self.now).running ≡ true }
         ensures { result ≡ is_full bytes (plain_of self.now) }
     {
         bytes > 0 && !self.log.fits(bytes)

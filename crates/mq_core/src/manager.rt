@@ -1,7 +1,7 @@
 //! One queue manager as its calls work on it.
 ghost use Rattle.std.specs.Prelude.{◌≡◌};
-ghost use Rattle.mq_spec_state.specs.Meeting.{untouched};
 ghost use Rattle.mq_spec_state.specs.Reads.{is_up};
+ghost use Rattle.mq_core.specs.Values.{begun_call};
 
 use crate::parts::Parts;
 use mq_disk::{Disk, Stop};
@@ -9,8 +9,8 @@ use mq_unit::Effects;
 use std::marker::Model;
 
 /// One queue manager as its calls work on it. Contracts see it as the plain manager, what its last
-/// call did, and what stopped that call's write. Its fields are for the crates of the calls: each of
-/// their functions leaves the parts tied to one another.
+/// call did, what stopped that call's write, and the bodies of its log. Its fields are for the crates
+/// of the calls: each of their functions leaves the parts tied to one another.
 #[derive(Drop)]
 pub struct Core<D: Disk> {
     /// Its parts, tied to one another between calls.
@@ -22,13 +22,13 @@ pub struct Core<D: Disk> {
 }
 
 impl<D: Disk> Model for Core<D> {
-    ghost use Rattle.mq_spec_state.specs.Meeting.{ManagerValue};
+    ghost use Rattle.mq_core.specs.Values.{CoreValue, bodies_in};
     ghost use Rattle.mq_core.specs.Views.{plain_of};
     ghost use Rattle.mq_core.specs.Ties.{Tied};
 
-    ghost Value = { ManagerValue };
+    ghost Value = { CoreValue };
 
-    ghost view = { λ m. record { plain = plain_of m.parts; delta = m.effects.dids; stopped = m.stopped; faults = m.parts.log.faults } };
+    ghost view = { λ m. record { plain = plain_of m.parts; delta = m.effects.dids; stopped = m.stopped; faults = m.parts.log.faults; log = bodies_in m.parts.log } };
 
     ghost invariant = { λ m. Tied m.parts };
 }
@@ -43,7 +43,7 @@ impl<D: Disk> Core<D> {
 
     /// A call begins: it has changed nothing yet. It takes no memory.
     pub fn begin_call(&mut self)
-        ensures { self.new ≡ untouched self.old }
+        ensures { self.new ≡ begun_call self.old }
     {
         self.effects.clear();
         self.stopped = None;

@@ -61,13 +61,15 @@ pub enum StoppedWrite {
     },
 }
 
-/// Up, or down, with the write that was stopped and how many Started writes were stopped since.
+/// Up, or down, with the write that was stopped, how many Started writes were stopped since, and
+/// whether the log holds the stopped write, from the first restart on that has read it.
 #[derive(Drop)]
 pub enum Mode {
     Up,
     Down {
         write: Option<StoppedWrite>,
         starts: u64,
+        kept: Option<bool>,
     },
 }
 

@@ -20,16 +20,18 @@ use Rattle.mq_unit.proofs.UnitLaws.{unit_needs}
 use Rattle.mq_core.specs.declared.parts.StoppedWrite.TheVariants as writes
 use Rattle.mq_core.specs.Views.{PartsValue, plain_of, frozen_of, noted, noted_commit}
 use Rattle.mq_core.specs.Writes.{ended_part}
-use Rattle.mq_core.specs.Ties.{Tied}
-use Rattle.mq_core.specs.Forced.{downed}
+use Rattle.mq_core.specs.Ties.{Tied, mode_is_up}
+use Rattle.mq_core.specs.Forced.{IsForced, downed}
+use Rattle.mq_core.specs.Values.{CoreValue, WritesLog, bodies_in, behind_record, pending_record}
 use Rattle.mq_core.specs.Calls.{CanGo}
 use Rattle.mq_core.proofs.ForceLaws.{frozen_view, tied_downed, stops_at}
 use Rattle.mq_core.proofs.PendLaws.{unit_le}
+use Rattle.mq_core.proofs.WriteLaws.{writes_at, forced_bodies, stopped_bodies}
 use Rattle.mq_ends.specs.Ends.{IfForced, commit_at, back_at}
 
 -- what a unit needs is reserved, and small
-pub unit_low : (number : ℕ) (c : Connection) (x : PartsValue) → connection_at number x.desk.live ≡ Some c → Tied x → (unit_need c.unit ≤ x.log.reserved) × (unit_need c.unit < 2 ^ 32)
-unit_low number c x found t = let le = unit_le number x.desk.live c found in (omega (arith, le, t.reserved), omega (arith, le, t.reserved, t.within, t.max))
+pub unit_low : (number : ℕ) (c : Connection) (x : PartsValue) → connection_at number x.desk.live ≡ Some c → mode_is_up x.mode ≡ true → Tied x → (unit_need c.unit ≤ x.log.reserved) × (unit_need c.unit < 2 ^ 32)
+unit_low number c x found up t = let le = unit_le number x.desk.live c found in let r = t.reserved up in let w = t.within up in (omega (arith, le, r), omega (arith, le, r, w, t.max))
 
 -- a record that is there is the unit's
 record_there : (as_ : List Add) (rs : List Remove) → is_some (record_of as_ rs) ≡ true → record_of as_ rs ≡ Some (records.Unit as_ rs)
@@ -91,10 +93,18 @@ noted_so number ends c x found = ap (noted_commit ends) found
 freeze_with : Plain → ℕ → Option Noted → Plain
 freeze_with p left note = freeze note left p
 
+frozen_commit : (p q : Plain) (number : ℕ) (ends : Bool) (c : Connection) (r : LogRecord) (stop : Stop) (x y : PartsValue) → connection_at number x.desk.live ≡ Some c → plain_of x ≡ p → IsForced r x (Err stop) y
+    → q ≡ plain_of (downed (writes.Commit number ends) y) → q ≡ freeze (note_of (ended_part ends c) (ended_part ends c).forced) q.log.armed p
+unfolding freeze_with
+frozen_commit p q number ends c r stop x y live plain f is =
+    let left : y.log.armed ≡ q.log.armed = ap (λ (p : Plain). p.log.armed) (sym is) in
+    is ∙ frozen_view (writes.Commit number ends) r x y stop f ∙ ap (freeze_with (plain_of x) y.log.armed) (noted_so number ends c x live)
+    ∙ ap (freeze (note_of (ended_part ends c) (ended_part ends c).forced) y.log.armed) plain
+    ∙ ap (λ (n : ℕ). freeze (note_of (ended_part ends c) (ended_part ends c).forced) n p) left
+
 pub commit_stopped : (v new : ManagerValue) (number : ℕ) (ends : Bool) (c : Connection) (stop : Stop) (x y : PartsValue) → connection_at number v.plain.connections ≡ Some c → connection_at number x.desk.live ≡ Some c → plain_of x ≡ v.plain → x.log.faults ≡ v.faults
     → IfForced (record_of (adds_of c.unit) (removes_of c.unit)) x (Err stop) y → new.plain ≡ plain_of (downed (writes.Commit number ends) y) → new.delta ≡ [] → new.stopped ≡ Some stop → new.faults ≡ y.log.faults
     → MeetsInRoom v (commit_at number ends v.plain) (Err (halts.Stopped stop)) new
-unfolding freeze_with
 commit_stopped v new number ends c stop x y found live plain faults f is told stopped failed = by (record_of (adds_of c.unit) (removes_of c.unit)) refl f
   where
     by : (o : Option LogRecord) → (ended_part ends c).forced ≡ o → IfForced o x (Err stop) y → MeetsInRoom v (commit_at number ends v.plain) (Err (halts.Stopped stop)) new
@@ -102,10 +112,7 @@ commit_stopped v new number ends c stop x y found live plain faults f is told st
     by (Some r) e f =
         let armed : x.log.armed ≡ v.plain.log.armed = ap (λ (p : Plain). p.log.armed) plain in
         let left : y.log.armed ≡ new.plain.log.armed = ap (λ (p : Plain). p.log.armed) (sym is) in
-        stopped_of v new number ends c stop found (ap is_some e)
-        (is ∙ frozen_view (writes.Commit number ends) r x y stop f ∙ ap (freeze_with (plain_of x) y.log.armed) (noted_so number ends c x live)
-        ∙ ap (freeze (note_of (ended_part ends c) (ended_part ends c).forced) y.log.armed) plain
-        ∙ ap (λ (n : ℕ). freeze (note_of (ended_part ends c) (ended_part ends c).forced) n v.plain) left)
+        stopped_of v new number ends c stop found (ap is_some e) (frozen_commit v.plain new.plain number ends c r stop x y live plain f is)
         told stopped
         (subst (λ (n : ℕ). Stops n (Err stop) new.plain.log.armed) armed (subst (λ (n : ℕ). Stops x.log.armed (Err stop) n) left f.ends))
         (omega (arith, faults, failed, f.later))
@@ -114,6 +121,27 @@ commit_stopped v new number ends c stop x y found live plain faults f is told st
 pub tied_stopped : (number : ℕ) (ends : Bool) (o : Option LogRecord) (stop : Stop) (x y : PartsValue) → IfForced o x (Err stop) y → Tied x → Tied (downed (writes.Commit number ends) y)
 tied_stopped number ends None stop x y h t = absurd (stopped_not stop (Err stop) refl h.0)
 tied_stopped number ends (Some r) stop x y f t = tied_downed (writes.Commit number ends) r [] x y stop f t
+
+-- what the log tells of a commit: its record, which was forced or is pending
+pub wrote_bodies : (o : Option LogRecord) (x y : PartsValue) → IfForced o x (Ok tt) y → bodies_in y.log ≡ behind_record o (bodies_in x.log)
+wrote_bodies None x y h = ap (λ (z : PartsValue). bodies_in z.log) h.1
+wrote_bodies (Some r) x y f = forced_bodies r x y f
+
+pub commit_writes : (v new : CoreValue) (number : ℕ) (ends : Bool) (c : Connection) → connection_at number v.plain.connections ≡ Some c → new.log ≡ behind_record (ended_part ends c).forced v.log → WritesLog v (commit_at number ends v.plain) (Ok (answers.Ok tt)) new
+commit_writes v new number ends c found log = writes_at v new number c (λ d. Do (answers.Ok tt) (ended_part ends d ∷ [])) (Ok (answers.Ok tt)) found log
+
+pub commit_breaks : (v new : CoreValue) (number : ℕ) (ends : Bool) (c : Connection) (stop : Stop) (x y : PartsValue) → connection_at number v.plain.connections ≡ Some c → connection_at number x.desk.live ≡ Some c → plain_of x ≡ v.plain → bodies_in x.log ≡ v.log
+    → IfForced (record_of (adds_of c.unit) (removes_of c.unit)) x (Err stop) y → new.plain ≡ plain_of (downed (writes.Commit number ends) y) → new.log ≡ bodies_in y.log → WritesLog v (commit_at number ends v.plain) (Err (halts.Stopped stop)) new
+commit_breaks v new number ends c stop x y found live plain bodies f is log = by (record_of (adds_of c.unit) (removes_of c.unit)) refl f
+  where
+    by : (o : Option LogRecord) → (ended_part ends c).forced ≡ o → IfForced o x (Err stop) y → WritesLog v (commit_at number ends v.plain) (Err (halts.Stopped stop)) new
+    by None e h = absurd (stopped_not stop (Err stop) refl h.0)
+    by (Some r) e f = writes_at v new number c (λ d. Do (answers.Ok tt) (ended_part ends d ∷ [])) (Err (halts.Stopped stop)) found (record {
+      part = 0;
+      write = ap is_some e;
+      plain = frozen_commit v.plain new.plain number ends c r stop x y live plain f is;
+      log = log ∙ stopped_bodies r x y stop f ∙ ap (pending_record (Some r)) bodies ∙ sym (ap (λ (o : Option LogRecord). pending_record o v.log) e);
+    })
 
 -- a backout
 pub back_done : (v new : ManagerValue) (number : ℕ) (c : Connection) → connection_at number v.plain.connections ≡ Some c → new.plain ≡ apply_all (backout_part c).changes v.plain → new.delta ≡ (backout_part c).delta → new.stopped ≡ None → new.faults ≡ v.faults

@@ -20,7 +20,8 @@ use Rattle.mq_core.specs.Views.{PartsValue, plain_of}
 use Rattle.mq_core.specs.Ties.{TiedBut, Tied, mode_is_up, SameUnits, AreCounted, waits, one_if, pending_at, state_lanes, times_in_rows, times_in_queues}
 use Rattle.mq_core.specs.Placing.{put_in_place, put_each, take_each, removed_from, arrived_at, due_if}
 use Rattle.mq_core.specs.Forced.{IsForced}
-use Rattle.mq_core.proofs.PlaceLaws.{same_name, ready, tied_placed, tied_take, counts_placed, seen_kept, pending_changed}
+use Rattle.mq_core.specs.Values.{bodies_in}
+use Rattle.mq_core.proofs.PlaceLaws.{waits_less, same_name, ready, tied_placed, tied_take, counts_placed, seen_kept, pending_changed}
 use Rattle.mq_core.proofs.ForceLaws.{seen_on, times_on, times_keep, forced_view}
 use Rattle.mq_core.proofs.PutLaws.{queues_same, counts_low}
 use Rattle.mq_core.proofs.PendLaws.{unit_le, sum_changed, times_units_changed, forced_changed}
@@ -79,8 +80,8 @@ tied_ended number n c x y most found w t =
     let sums = sum_changed unit_need number emptied x.desk.live c found in
     subst (λ (z : PartsValue). TiedBut c.unit (ended_unit number c z)) (sym w.same) (record {
       up = λ u. let old = t.up u in record { live = w.live ∙ old.live; settled = w.settled ∙ old.settled; room = let a = old.room in omega (arith, a, w.reserved, w.room, most); body = let a = old.body in omega (arith, a, w.reserved, w.body) };
-      reserved = omega (arith, t.reserved, sums, w.reserved);
-      within = omega (arith, t.within, w.reserved, w.max);
+      reserved = λ u. let r = t.reserved u in omega (arith, r, sums, w.reserved);
+      within = λ u. let most = t.within u in omega (arith, most, w.reserved, w.max);
       queues = record {
         lanes = t.queues.lanes;
         pending = λ name.
@@ -244,10 +245,6 @@ waiting_there : (n : ℕ) (o : Option QueueState) → pending_at o ≡ n + 1 →
 waiting_there n None e = absurd (omega (arith, e))
 waiting_there n (Some s) e = (s, refl)
 
-less_waits : (b : Bool) (p n w : ℕ) → p ≡ n + (one_if b + w) → cond b (p - 1) p ≡ n + w
-less_waits true p n w e = omega (arith, e)
-less_waits false p n w e = omega (arith, e)
-
 tied_unpended : (queue : List ℕ) (m : Message) (items : List Item) (x : PartsValue) → TiedBut (Put queue m ∷ items) x → TiedBut items (unpended_at queue x)
 tied_unpended queue m items x t =
     let here : one_if (bytes_eq queue queue) ≡ 1 = ap one_if (same_name queue) in
@@ -260,7 +257,7 @@ tied_unpended queue m items x t =
       within = t.within;
       queues = record {
         lanes = λ name. seen_kept queue unpended (λ s. refl) state_lanes (λ s. refl) name x.queues.states s.0 s.1 ∙ t.queues.lanes name;
-        pending = λ name. pending_changed queue unpended (λ s. refl) (λ n. n - 1) (λ s. refl) name x.queues.states s.0 s.1 ∙ less_waits (bytes_eq name queue) _ (puts_to name x.desk.live) (waits name items) (t.queues.pending name);
+        pending = λ name. pending_changed queue unpended (λ s. refl) (λ n. n - 1) (λ s. refl) name x.queues.states s.0 s.1 ∙ waits_less (bytes_eq name queue) (puts_to name x.desk.live) (waits name items) _ (t.queues.pending name);
       };
       idents = record {
         once = λ i. let times = ap (times_in_queues i) same in let old = t.idents.once i in omega (arith, times, old);
@@ -322,6 +319,12 @@ settled_faults number ends c x =
     ap (λ (l : LogState). l.faults) (left_log ends number (put_each c.unit (take_each c.unit e)))
     ∙ ap (λ (z : PartsValue). z.log.faults) (put_rest c.unit (take_each c.unit e)) ∙ ap (λ (z : PartsValue). z.log.faults) (take_rest c.unit e)
 
+pub settled_bodies : (number : ℕ) (ends : Bool) (c : Connection) (x : PartsValue) → bodies_in (settled number ends c x).log ≡ bodies_in x.log
+settled_bodies number ends c x =
+    let e = ended_unit number c x in
+    ap bodies_in (left_log ends number (put_each c.unit (take_each c.unit e)))
+    ∙ ap (λ (z : PartsValue). bodies_in z.log) (put_rest c.unit (take_each c.unit e)) ∙ ap (λ (z : PartsValue). bodies_in z.log) (take_rest c.unit e)
+
 -- the connection ends too
 pub left_true : (ends : Bool) (number : ℕ) (x : PartsValue) → ends ≡ true → record x { desk = record { live = filter (λ (c : Connection). not (c.number == number)) x.desk.live; last = x.desk.last } } ≡ left_if ends number x
 left_true true number x e = refl
@@ -353,14 +356,15 @@ module _ (number : ℕ) (c : Connection) (x y : PartsValue) (found : connection_
       let w = wrote_if (record_of (adds_of c.unit) (removes_of c.unit)) x y f in
       let le = unit_le number x.desk.live c found in
       let taken = (t.up up).body in
-      record { log = omega (arith, le, t.reserved, w.reserved); body = omega (arith, le, t.reserved, taken, w.body) }
+      let r = t.reserved up in
+      record { log = omega (arith, le, r, w.reserved); body = omega (arith, le, r, taken, w.body) }
 
   pub commit_mode : y.mode ≡ x.mode
   commit_mode = ap (λ (z : PartsValue). z.mode) (wrote_if (record_of (adds_of c.unit) (removes_of c.unit)) x y f).same
 
 -- a backout
 pub back_room : (number : ℕ) (c : Connection) (x : PartsValue) → connection_at number x.desk.live ≡ Some c → Tied x → mode_is_up x.mode ≡ true → HasRoom c x
-back_room number c x found t up = let le = unit_le number x.desk.live c found in let taken = (t.up up).body in record { log = omega (arith, le, t.reserved); body = omega (arith, le, t.reserved, taken) }
+back_room number c x found t up = let le = unit_le number x.desk.live c found in let taken = (t.up up).body in let r = t.reserved up in record { log = omega (arith, le, r); body = omega (arith, le, r, taken) }
 
 pub back_tied : (number : ℕ) (c : Connection) (x : PartsValue) → connection_at number x.desk.live ≡ Some c → Tied x → Tied (backed number c x)
 back_tied number c x found t = tied_backed c.unit (ended_unit number c x) (tied_ended number 0 c x x (omega arith) found (wrote_none x x refl) t)

@@ -3,6 +3,7 @@ ghost use Rattle.std.specs.Prelude.{◌≡◌, true, IsSome};
 ghost use Rattle.mq_spec_state.specs.Words.{MeetsInRoom, AreLow, is_up, connection_at};
 ghost use Rattle.mq_spec_manager.specs.Words.{mqcmit, mqback, mqdisc};
 ghost use Rattle.mq_ends.specs.Ends.{commit_at, back_at};
+ghost use Rattle.mq_core.specs.Values.{manager_of, WritesLog};
 
 use crate::units::{back_out_unit, force_unit, go_down_commit, settle_unit};
 use mq_calls::{Answer, Halt, Hconn};
@@ -15,7 +16,8 @@ fn commit<D: Disk>(core: &mut Core<D>, number: u64, ends: bool) -> Result<Answer
     requires up { is_up core.old.plain.running ≡ true }
     requires live { IsSome (connection_at number core.old.plain.connections) }
     requires low { AreLow core.old.plain }
-    ensures { MeetsInRoom core.old (commit_at number ends core.old.plain) result core.new }
+    ensures meets { MeetsInRoom (manager_of core.old) (commit_at number ends core.old.plain) result (manager_of core.new) }
+    ensures told { WritesLog core.old (commit_at number ends core.old.plain) result core.new }
 {
     core.begin_call();
     match force_unit(&mut core.parts, number) {
@@ -38,7 +40,8 @@ fn commit<D: Disk>(core: &mut Core<D>, number: u64, ends: bool) -> Result<Answer
 /// Refused: 2018, 2009. Stopped: its write was stopped, by the armed cut or by the disk.
 pub fn mqcmit<D: Disk>(core: &mut Core<D>, hc: Hconn) -> Result<Answer<()>, Halt<Reason>>
     requires low { AreLow core.old.plain }
-    ensures { MeetsInRoom core.old (mqcmit hc core.old.plain) result core.new }
+    ensures meets { MeetsInRoom (manager_of core.old) (mqcmit hc core.old.plain) result (manager_of core.new) }
+    ensures told { WritesLog core.old (mqcmit hc core.old.plain) result core.new }
 {
     match core.parts.reached(&hc) {
         Ok(()) => commit(core, hc.number, false),
@@ -56,7 +59,8 @@ pub fn mqcmit<D: Disk>(core: &mut Core<D>, hc: Hconn) -> Result<Answer<()>, Halt
 /// Refused: 2018, 2009. Stopped: the unit's write was stopped, by the armed cut or by the disk.
 pub fn mqdisc<D: Disk>(core: &mut Core<D>, hc: Hconn) -> Result<Answer<()>, Halt<Reason>>
     requires low { AreLow core.old.plain }
-    ensures { MeetsInRoom core.old (mqdisc hc core.old.plain) result core.new }
+    ensures meets { MeetsInRoom (manager_of core.old) (mqdisc hc core.old.plain) result (manager_of core.new) }
+    ensures told { WritesLog core.old (mqdisc hc core.old.plain) result core.new }
 {
     match core.parts.reached(&hc) {
         Ok(()) => commit(core, hc.number, true),
@@ -71,7 +75,8 @@ pub fn mqdisc<D: Disk>(core: &mut Core<D>, hc: Hconn) -> Result<Answer<()>, Halt
 fn back<D: Disk>(core: &mut Core<D>, number: u64) -> Result<Answer<()>, Halt<Reason>>
     requires up { is_up core.old.plain.running ≡ true }
     requires live { IsSome (connection_at number core.old.plain.connections) }
-    ensures { MeetsInRoom core.old (back_at number core.old.plain) result core.new }
+    ensures meets { MeetsInRoom (manager_of core.old) (back_at number core.old.plain) result (manager_of core.new) }
+    ensures told { WritesLog core.old (back_at number core.old.plain) result core.new }
 {
     core.begin_call();
     core.effects = back_out_unit(&mut core.parts, number);
@@ -85,7 +90,8 @@ fn back<D: Disk>(core: &mut Core<D>, number: u64) -> Result<Answer<()>, Halt<Rea
 ///
 /// Refused: 2018, 2009.
 pub fn mqback<D: Disk>(core: &mut Core<D>, hc: Hconn) -> Result<Answer<()>, Halt<Reason>>
-    ensures { MeetsInRoom core.old (mqback hc core.old.plain) result core.new }
+    ensures meets { MeetsInRoom (manager_of core.old) (mqback hc core.old.plain) result (manager_of core.new) }
+    ensures told { WritesLog core.old (mqback hc core.old.plain) result core.new }
 {
     match core.parts.reached(&hc) {
         Ok(()) => back(core, hc.number),

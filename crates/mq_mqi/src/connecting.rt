@@ -3,6 +3,7 @@ ghost use Rattle.std.specs.Prelude.{◌≡◌, ◌+◌, ◌^◌, ◌<◌, IsSome
 ghost use Rattle.mq_spec_state.specs.Words.{Meets, MeetsInRoom, is_up, connection_at, handle_at};
 ghost use Rattle.mq_spec_manager.specs.Words.{mqconn, mqopen, mqclose};
 ghost use Rattle.mq_core.specs.Calls.{open_at, close_at, HasHandle};
+ghost use Rattle.mq_core.specs.Values.{manager_of, WritesLog};
 
 use mq_calls::{Answer, Appl, Halt, Hconn, Hobj, Open};
 use mq_codes::Reason;
@@ -22,7 +23,8 @@ pub fn mqconn<D: Disk>(
     appl: &Appl,
 ) -> Result<Answer<Hconn>, Halt<Reason>>
     requires count { core.old.plain.numbers.connections + 1 < 2 ^ 64 }
-    ensures { Meets core.old (mqconn qmgr.now appl.now core.old.plain) result core.new }
+    ensures meets { Meets (manager_of core.old) (mqconn qmgr.now appl.now core.old.plain) result (manager_of core.new) }
+    ensures told { WritesLog core.old (mqconn qmgr.now appl.now core.old.plain) result core.new }
 {
     core.begin_call();
     if core.parts.is_other_name(qmgr) {
@@ -46,7 +48,8 @@ fn open<D: Disk>(
     requires up { is_up core.old.plain.running ≡ true }
     requires live { IsSome (connection_at number core.old.plain.connections) }
     requires count { IfSome (connection_at number core.old.plain.connections) (λ c. c.last_handle + 1 < 2 ^ 64) }
-    ensures { Meets core.old (open_at number how.now route core.old.plain) result core.new }
+    ensures meets { Meets (manager_of core.old) (open_at number how.now route core.old.plain) result (manager_of core.new) }
+    ensures told { WritesLog core.old (open_at number how.now route core.old.plain) result core.new }
 {
     core.begin_call();
     let ho = match core.parts.open(number, how, route) {
@@ -69,7 +72,8 @@ pub fn mqopen<D: Disk>(
     how: &Open,
 ) -> Result<Answer<Hobj>, Halt<Reason>>
     requires count { IfSome (connection_at hc.number core.old.plain.connections) (λ c. c.last_handle + 1 < 2 ^ 64) }
-    ensures { Meets core.old (mqopen hc name.now qmgr.now how.now core.old.plain) result core.new }
+    ensures meets { Meets (manager_of core.old) (mqopen hc name.now qmgr.now how.now core.old.plain) result (manager_of core.new) }
+    ensures told { WritesLog core.old (mqopen hc name.now qmgr.now how.now core.old.plain) result core.new }
 {
     match core.parts.can_open(&hc, name, qmgr, how) {
         Ok(route) => open(core, hc.number, how, route),
@@ -84,7 +88,8 @@ fn close<D: Disk>(core: &mut Core<D>, number: u64, ho: &Hobj) -> Result<Answer<(
     requires up { is_up core.old.plain.running ≡ true }
     requires live { IfSome (connection_at number core.old.plain.connections) (HasHandle ho.now) }
     requires there { IsSome (connection_at number core.old.plain.connections) }
-    ensures { MeetsInRoom core.old (close_at number ho.now core.old.plain) result core.new }
+    ensures meets { MeetsInRoom (manager_of core.old) (close_at number ho.now core.old.plain) result (manager_of core.new) }
+    ensures told { WritesLog core.old (close_at number ho.now core.old.plain) result core.new }
 {
     core.begin_call();
     core.parts.close(number, ho);
@@ -97,7 +102,8 @@ fn close<D: Disk>(core: &mut Core<D>, number: u64, ho: &Hobj) -> Result<Answer<(
 ///
 /// Refused: 2018, 2009, 2019.
 pub fn mqclose<D: Disk>(core: &mut Core<D>, hc: Hconn, ho: Hobj) -> Result<Answer<()>, Halt<Reason>>
-    ensures { MeetsInRoom core.old (mqclose hc ho core.old.plain) result core.new }
+    ensures meets { MeetsInRoom (manager_of core.old) (mqclose hc ho core.old.plain) result (manager_of core.new) }
+    ensures told { WritesLog core.old (mqclose hc ho core.old.plain) result core.new }
 {
     match core.parts.can_close(&hc, &ho) {
         Ok(()) => close(core, hc.number, &ho),

@@ -1,6 +1,6 @@
 //! The refusals of MQPUT and MQPUT1 in their order.
-ghost use Rattle.std.specs.Prelude.{◌≡◌, ◌+◌, ◌<◌, ◌≤◌, ◌^◌, ℕ, List, None, length, IfSome, ◌-◌};
-ghost use Rattle.mq_spec_state.specs.Words.{Message, depth, is_full, put_bytes, refusal, route_size};
+ghost use Rattle.std.specs.Prelude.{◌≡◌, ◌+◌, ◌<◌, ◌≤◌, ◌^◌, ℕ, List, None, length, IfSome, ◌-◌, true};
+ghost use Rattle.mq_spec_state.specs.Words.{Message, depth, is_full, is_up, put_bytes, refusal, route_size};
 ghost use Rattle.mq_spec_manager.specs.Words.{is_bad_expiry, sync_full, put_need, log_full, next_ident, new_message, output_only, is_unfit, mqput, mqput1, is_high, queue_at};
 ghost use Rattle.mq_fill.specs.Drafts.{message_of};
 ghost use Rattle.mq_core.specs.Views.{plain_of};
@@ -104,6 +104,7 @@ fn is_log_full<D: Disk>(
     size: usize,
 ) -> bool
     requires tied { Tied parts.now }
+    requires up { is_up (plain_of parts.now).running ≡ true }
     requires small { size < 2 ^ 32 }
     ensures { (body : List ℕ) → length body ≡ size → result ≡ log_full sync seat.now (message_of draft.now body) (plain_of parts.now) }
 {
@@ -190,6 +191,7 @@ fn can_post<D: Disk>(
     sync: bool,
 ) -> Result<Letter, Reason>
     requires tied { Tied parts.now }
+    requires up { is_up (plain_of parts.now).running ≡ true }
     requires idents { parts.now.idents + 1 < 2 ^ 64 }
     ensures { Posts seat.now (record { end = end.now; path = path.now }) md.now body.now sync (plain_of parts.now) result }
 {

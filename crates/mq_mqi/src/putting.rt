@@ -6,6 +6,7 @@ ghost use Rattle.mq_record.specs.Records.{CanBeKept};
 ghost use Rattle.mq_core.specs.Forced.{IsExpected, HasMoreRoom};
 ghost use Rattle.mq_core.specs.Calls.{now_step, unit_step};
 ghost use Rattle.mq_mqi.specs.Puts.{letter_at, letter_message, CanPost};
+ghost use Rattle.mq_core.specs.Values.{manager_of, WritesLog};
 
 use crate::drafts::{Letter, can_put, can_put1};
 use mq_base::{Items, NoMemory};
@@ -85,7 +86,8 @@ fn put_free<D: Disk>(
     requires there { IsSome (local_of queue.now core.old.plain.definitions) }
     requires ident { message.ident ≡ next_ident core.old.plain }
     requires free { is_persistent message ≡ false }
-    ensures { Meets core.old (now_step high queue.now message) result core.new }
+    ensures meets { Meets (manager_of core.old) (now_step high queue.now message) result (manager_of core.new) }
+    ensures told { WritesLog core.old (now_step high queue.now message) result core.new }
 {
     core.begin_call();
     let sent = sent_answer(high, &message);
@@ -114,7 +116,8 @@ fn put_forced<D: Disk>(
     requires there { IsSome (local_of queue.now core.old.plain.definitions) }
     requires ident { message.ident ≡ next_ident core.old.plain }
     requires kept { CanBeKept message }
-    ensures { Meets core.old (now_step high queue.now message) result core.new }
+    ensures meets { Meets (manager_of core.old) (now_step high queue.now message) result (manager_of core.new) }
+    ensures told { WritesLog core.old (now_step high queue.now message) result core.new }
 {
     core.begin_call();
     let sent = sent_answer(high, &message);
@@ -154,7 +157,8 @@ fn put_in_unit<D: Disk>(
     requires there { IsSome (local_of queue.now core.old.plain.definitions) }
     requires ident { message.ident ≡ next_ident core.old.plain }
     requires kept { is_persistent message ≡ true → CanBeKept message }
-    ensures { Meets core.old (unit_step number high queue.now message core.old.plain) result core.new }
+    ensures meets { Meets (manager_of core.old) (unit_step number high queue.now message core.old.plain) result (manager_of core.new) }
+    ensures told { WritesLog core.old (unit_step number high queue.now message core.old.plain) result core.new }
 {
     core.begin_call();
     let sent = sent_answer(high, &message);
@@ -180,7 +184,8 @@ fn put<D: Disk>(
     requires can { IfSome (connection_at number core.old.plain.connections) (λ c. CanPost letter.now sync body.now c core.old.plain) }
     requires low { AreLow core.old.plain }
     requires limit { core.old.plain.definitions.manager.max_message_length ≤ 4194304 }
-    ensures { Meets core.old (letter_at number letter.now high sync body.now core.old.plain) result core.new }
+    ensures meets { Meets (manager_of core.old) (letter_at number letter.now high sync body.now core.old.plain) result (manager_of core.new) }
+    ensures told { WritesLog core.old (letter_at number letter.now high sync body.now core.old.plain) result core.new }
 {
     let message = match message_of(core.parts.alloc, letter, body) {
         Ok(message) => message,
@@ -215,7 +220,8 @@ pub fn mqput<D: Disk>(
 ) -> Result<Answer<Sent>, Halt<Reason>>
     requires low { AreLow core.old.plain }
     requires limit { core.old.plain.definitions.manager.max_message_length ≤ 4194304 }
-    ensures { Meets core.old (mqput hc ho md.now body.now sync core.old.plain) result core.new }
+    ensures meets { Meets (manager_of core.old) (mqput hc ho md.now body.now sync core.old.plain) result (manager_of core.new) }
+    ensures told { WritesLog core.old (mqput hc ho md.now body.now sync core.old.plain) result core.new }
 {
     match can_put(&core.parts, &hc, &ho, md, body, sync) {
         Ok(letter) => put(core, hc.number, &letter, body, sync, is_high(md)),
@@ -242,7 +248,8 @@ pub fn mqput1<D: Disk>(
 ) -> Result<Answer<Sent>, Halt<Reason>>
     requires low { AreLow core.old.plain }
     requires limit { core.old.plain.definitions.manager.max_message_length ≤ 4194304 }
-    ensures { Meets core.old (mqput1 hc name.now qmgr.now md.now body.now sync core.old.plain) result core.new }
+    ensures meets { Meets (manager_of core.old) (mqput1 hc name.now qmgr.now md.now body.now sync core.old.plain) result (manager_of core.new) }
+    ensures told { WritesLog core.old (mqput1 hc name.now qmgr.now md.now body.now sync core.old.plain) result core.new }
 {
     match can_put1(&core.parts, &hc, name, qmgr, md, body, sync) {
         Ok(letter) => put(core, hc.number, &letter, body, sync, is_high(md)),
