@@ -1,0 +1,5 @@
+pub mod FrontLaws
+pub mod RowLaws
+pub mod ShelfLaws
+pub mod ObjectLaws
+pub mod BuildLaws

@@ -1,0 +1,63 @@
+//! What a manager is built of from an image.
+ghost use Rattle.std.specs.Prelude.{IfOk};
+ghost use Rattle.mq_spec_state.specs.Recovery.{IsImage};
+ghost use Rattle.mq_rebuild.specs.Rebuilt.{IsBuilt};
+
+use crate::objects::defs_of;
+use crate::shelves::queues_of;
+use mq_base::{Items, NoMemory};
+use mq_calls::{Image, ReceiverSide, SenderSide};
+use mq_objects::Defs;
+use mq_place::Queues;
+use mq_queue::PlainQueue;
+use std::alloc::Global;
+
+/// What a manager is built of from an image.
+#[derive(Drop)]
+pub struct Built {
+    /// Its objects, found by name.
+    pub defs: Defs,
+    /// Its local queues with their rows.
+    pub queues: Queues<PlainQueue>,
+    /// What each sender channel has hardened, in order of the channels' names.
+    pub senders: Items<SenderSide>,
+    /// What each receiver channel has hardened, in order of the channels' names.
+    pub receivers: Items<ReceiverSide>,
+    /// The greatest incarnation that was started, 0 for none.
+    pub incarnation: u64,
+}
+
+/// Builds what a manager needs from an image. Each row and each object is moved once, and found by a map; a row of a unit
+/// in doubt is looked for once more.
+///
+/// # Errors
+///
+/// No memory.
+#[tactic(auto, using(crate::proofs::BuildLaws::shelves_are, crate::proofs::BuildLaws::objects_are))]
+pub fn build(alloc: Global, image: Image) -> Result<Built, NoMemory>
+    requires image { IsImage image }
+    ensures { IfOk result (λ built. IsBuilt image built) }
+{
+    let Image {
+        definitions,
+        shelves,
+        senders,
+        receivers,
+        incarnation,
+    } = image;
+    let defs = match defs_of(alloc, definitions) {
+        Ok(defs) => defs,
+        Err(_) => return Err(NoMemory),
+    };
+    let queues = match queues_of(alloc, &defs, shelves) {
+        Ok(queues) => queues,
+        Err(_) => return Err(NoMemory),
+    };
+    Ok(Built {
+        defs,
+        queues,
+        senders,
+        receivers,
+        incarnation,
+    })
+}

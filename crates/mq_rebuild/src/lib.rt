@@ -1,0 +1,9 @@
+//! The objects and the local queues of a manager that comes up from an image.
+#![tactic(auto)]
+
+mod building;
+mod objects;
+mod rows;
+mod shelves;
+
+pub use building::{Built, build};
