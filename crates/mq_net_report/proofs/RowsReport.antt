@@ -95,6 +95,6 @@ down = refl
 -- a scenario of one manager and one step, whole
 pub whole : (h : History) →
     report (record { moment = None; managers = record { name = codes "QM1"; log_max = 4096 } ∷ []; cables = []; sections = []; rules = []; scripts = []; monitors = []; steps = steps.Clock 5 ∷ [] }) (h ∷ [])
-        (record { managers = record { name = codes "QM1"; is_up = true; queues = [] } ∷ []; cables = [] }) [] 0
+    (record { managers = record { name = codes "QM1"; is_up = true; queues = [] } ∷ []; cables = [] }) [] 0
     ≡ codes "MQNET 1\nSTEPS\n0001 CLOCK 5\nQUEUES\nQMGR QM1 UP\nCHANNELS\nLEDGER\nSTATUS 0\n"
 whole h = refl

@@ -75,7 +75,10 @@ pub fn in_step<'a>(history: Option<&'a History>, step: usize) -> &'a [Entry]
 {
     let begin = begin_at(history, step);
     let end = end_at(history, step);
-    first(behind(entries_of(history), begin), end.saturating_sub(begin))
+    first(
+        behind(entries_of(history), begin),
+        end.saturating_sub(begin),
+    )
 }
 
 /// Whether a step ended idle.

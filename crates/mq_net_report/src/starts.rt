@@ -56,13 +56,7 @@ fn is_fresh(script: Option<usize>, before: &[Entry], since: &[Entry]) -> bool
 }
 
 /// Whether a message is a trigger message that names a script of a manager that has done no line yet.
-fn begins(
-    scenario: &Scenario,
-    manager: u64,
-    before: &[Entry],
-    since: &[Entry],
-    body: &[u8],
-) -> bool
+fn begins(scenario: &Scenario, manager: u64, before: &[Entry], since: &[Entry], body: &[u8]) -> bool
     ensures { result ≡ begins scenario.now manager (before.now ++ since.now) (tm_read body.now) }
 {
     match tm_of(body) {

@@ -103,7 +103,10 @@ fn is_answer(entry: &Entry) -> bool
 pub fn count_lines(script: u64, entries: &[Entry]) -> usize
     ensures { result ≡ count_done (is_script script) entries.now }
 {
-    entries.iter().filter(|entry| is_line(script, entry)).count()
+    entries
+        .iter()
+        .filter(|entry| is_line(script, entry))
+        .count()
 }
 
 pub fn count_actions(handler: u64, entries: &[Entry]) -> usize

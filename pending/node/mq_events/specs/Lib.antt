@@ -1,3 +1,0 @@
-pub mod Outcomes
-pub mod States
-pub mod Events

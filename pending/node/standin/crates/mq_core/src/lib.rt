@@ -1,6 +1,0 @@
-//! Stand-in.
-#![tactic(auto)]
-
-mod manager;
-
-pub use manager::{Core, Never};
