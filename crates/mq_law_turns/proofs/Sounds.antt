@@ -88,8 +88,11 @@ hardens_sound c note p h k = joined (harden c note p) p h k (harden_stocked c no
 holds_sound : (c : List ℕ) (unit : Luw) (most : ℕ) (p : Plain) → IsSound p → batch_of c p.channels.batches ≡ None → in_doubt_of (sender_data c p) ≡ None → StepKeeps IsSound (hold_batch c unit most p) p
 holds_sound c unit most p h batch doubt =
     let q : List ℕ = queue_of_sender c p in
-    joined (hold_batch c unit most p) p h (sound_held c q unit (take most (free_rows q p)) p h.facts batch doubt
-    (λ r m. let k = mem_filter r is_free (stored q p).rows (take_mem r most (free_rows q p) m) in (k.0, free_is r k.1)), tt) (hold_stocked c unit most p h.stocked)
+    joined (hold_batch c unit most p) p h (
+      sound_held c q unit (take most (free_rows q p)) p h.facts batch doubt
+          (λ r m. let k = mem_filter r is_free (stored q p).rows (take_mem r most (free_rows q p) m) in (k.0, free_is r k.1)),
+      tt,
+    ) (hold_stocked c unit most p h.stocked)
 
 releases_sound : (c : List ℕ) (p : Plain) → IsSound p → StepKeeps IsSound (release_batch c p) p
 releases_sound c p h = joined (release_batch c p) p h (release_batch_keeps c p h.facts) (release_stocked c p h.facts h.stocked)

@@ -39,9 +39,9 @@ returns g c =
     let same = c.free_batch.ensures in
     let done = ap plain_of same ∙ rows_view f (without_one channel x.ends) x up ∙ ap (λ (p : Plain). apply_all changes p) plain in
     let told =
-        ap (λ (t : Telling). t.dids) c.tell_released.ensures
-        ∙ ap (λ (ds : List Did). ds ++ map (released_did b.queue) c.as_slice.result.now) (c.reserve.ensures.dids ∙ ap (λ (w : ManagerValue). w.delta) v)
-        ∙ ap (λ (is : List Ident). map (released_did b.queue) is) c.as_slice.ensures
+    ap (λ (t : Telling). t.dids) c.tell_released.ensures
+    ∙ ap (λ (ds : List Did). ds ++ map (released_did b.queue) c.as_slice.result.now) (c.reserve.ensures.dids ∙ ap (λ (w : ManagerValue). w.delta) v)
+    ∙ ap (λ (is : List Ident). map (released_did b.queue) is) c.as_slice.ensures
     in
     let faults = ap (λ (p : PartsValue). p.log.faults) same ∙ ap (λ (w : ManagerValue). w.faults) v in
     let new : ManagerValue = record { plain = plain_of c.free_batch.new.parts; delta = c.tell_released.new.effects.dids; stopped = c.core.inside.stopped; faults = c.free_batch.new.parts.log.faults } in
