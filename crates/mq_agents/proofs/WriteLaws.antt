@@ -1,6 +1,6 @@
 -- Records that channel ends force: what stands behind them, and what a stopped one leaves.
 use Rattle.std.proofs.Common.{◌≡◌, ℕ, ◌+◌, ◌-◌, ◌<◌, ◌≤◌, Bool, true, false, List, [], ◌∷◌, ◌++◌, length, refl, ap, arith, sym, subst, ◌∙◌}
-use Rattle.std.specs.Prelude.{Option, Some, None, Result, Ok, Err, OnOk}
+use Rattle.std.specs.Prelude.{Option, Some, None, Result, Ok, Err, OnOk, is_some}
 use Rattle.std.proofs.lemmas.List.{append-nil}
 use Rattle.mq_base.specs.Outside.{Rose}
 use Rattle.mq_disk.specs.declared.cutter.Stop.{Stop}
@@ -23,6 +23,8 @@ use Rattle.mq_core.specs.declared.parts.StoppedWrite.TheVariants as writes
 use Rattle.mq_core.specs.Views.{PartsValue, plain_of, frozen_of, channels_of, noted}
 use Rattle.mq_core.specs.Ties.{Tied, mode_is_up}
 use Rattle.mq_core.specs.Forced.{IsForced, HasMoreRoom, downed}
+use Rattle.mq_core.specs.Values.{CoreValue, LogBodies, WritesLog, bodies_in, behind_record, pending_record, wrote_all}
+use Rattle.mq_core.proofs.WriteLaws.{roomier_bodies}
 use Rattle.mq_core.proofs.PutLaws.{tied_roomier, roomier_view}
 use Rattle.mq_agents.specs.Removing.{IsRoomy}
 use Rattle.mq_core.proofs.ForceLaws.{forced_view, frozen_view, tied_downed, stops_at}
@@ -71,8 +73,8 @@ hardened_tied bytes e x y w t =
     let most = ap (λ (l : LogState). l.max) w.log in
     subst Tied (sym w.same) (record {
       up = λ u. let old = t.up u in record { live = live ∙ old.live; settled = settled ∙ old.settled; room = omega (arith, reserved, w.enough); body = omega (arith, reserved, old.body) };
-      reserved = reserved ∙ t.reserved;
-      within = omega (arith, reserved, most, t.within);
+      reserved = λ u. reserved ∙ t.reserved u;
+      within = λ u. let w = t.within u in omega (arith, reserved, most, w);
       queues = record { lanes = t.queues.lanes; pending = t.queues.pending };
       idents = record { once = t.idents.once; given = t.idents.given };
       forced = t.forced;
@@ -166,8 +168,8 @@ forced_tied r x y z h f t =
     let most = ap (λ (l : LogState). l.max) f.log in
     subst Tied (sym f.same) (record {
       up = λ u. let old = s.up u in record { live = live ∙ old.live; settled = settled ∙ old.settled; room = omega (arith, reserved, before, h.log, f.room); body = omega (arith, reserved, old.body, f.body) };
-      reserved = reserved ∙ s.reserved;
-      within = omega (arith, reserved, most, s.within);
+      reserved = λ u. reserved ∙ s.reserved u;
+      within = λ u. let w = s.within u in omega (arith, reserved, most, w);
       queues = record { lanes = s.queues.lanes; pending = s.queues.pending };
       idents = record { once = s.idents.once; given = s.idents.given };
       forced = s.forced;
@@ -301,3 +303,55 @@ unwritten_ends F u v x y z told write r changes delta reply bytes e agent stoppe
 pub tied_after : (u : Unwritten) (x y z : PartsValue) (write : StoppedWrite) (r : LogRecord) (bytes : List ℕ) (e : ChannelEnds) → HasMoreRoom x y → bytes ≡ record_bytes r → length bytes ≡ record_size r → Writes bytes e write y (Err u) z → Tied x → Tied z
 tied_after unwritten.NoMemory x y z write r bytes e m is size w t = tied_roomier y z w (tied_roomier x y m t)
 tied_after (unwritten.Stopped stop) x y z write r bytes e m is size w t = subst Tied (sym w.down) (down_tied write r bytes stop y w.at is size w.is (tied_roomier x y m t))
+
+-- What the log tells then: the record, which was forced or is pending.
+pub hardened_bodies : (r : LogRecord) (bytes : List ℕ) (e : ChannelEnds) (x y : PartsValue) → bytes ≡ record_bytes r → IsWritten bytes e x (Ok tt) y → bodies_in y.log ≡ behind_record (Some r) (bodies_in x.log)
+hardened_bodies r bytes e x y is w = ap bodies_in (subst (λ (b : List ℕ). Appended x.log b (Ok tt) y.log) is w.log)
+
+down_bodies : (r : LogRecord) (bytes : List ℕ) (stop : Stop) (x y : PartsValue) → bytes ≡ record_bytes r → IsWritten bytes x.ends x (Err stop) y → bodies_in y.log ≡ pending_record (Some r) (bodies_in x.log)
+down_bodies r bytes stop x y is w = ap bodies_in (subst (λ (b : List ℕ). Appended x.log b (Err stop) y.log) is w.log)
+
+pub broke_told : {F T : Type 0} (v new : CoreValue) (halt : Halt F) (stop : Stop) (reply : T) (part : Part) → halt ≡ halts.Stopped stop → is_some part.forced ≡ true → new.plain ≡ freeze (note_of part part.forced) new.plain.log.armed v.plain
+    → new.log ≡ pending_record part.forced v.log → WritesLog v (Do reply (part ∷ [])) (Err halt) new
+broke_told {F} v new halt stop reply part is write plain log = subst (λ (h : Halt F). WritesLog v (Do reply (part ∷ [])) (Err h) new) (sym is) (record { part = 0; write = write; plain = plain; log = log })
+
+part_told : (F : Type 0) {T : Type 0} (u : Unwritten) (v new : CoreValue) (x y z : PartsValue) (write : StoppedWrite) (r : LogRecord) (changes : List Change) (delta : List Did) (reply : T) (bytes : List ℕ) (e : ChannelEnds)
+    → HasMoreRoom x y → bytes ≡ record_bytes r → length bytes ≡ record_size r → Writes bytes e write y (Err u) z → noted (frozen_of x) (Some write) ≡ Some (record { written = r; changes = changes; delta = delta })
+    → plain_of x ≡ v.plain → bodies_in x.log ≡ v.log → new.plain ≡ plain_of z → new.log ≡ bodies_in z.log
+    → WritesLog {F = F} v (Do reply (record { forced = Some r; changes = changes; delta = delta } ∷ [])) (Err (halt_of {F = F} (agent_of u))) new
+unfolding freeze_noted
+part_told F unwritten.NoMemory v new x y z write r changes delta reply bytes e m is size w note plain bodies seen log = log ∙ roomier_bodies y z w ∙ roomier_bodies x y m ∙ bodies
+part_told F (unwritten.Stopped stop) v new x y z write r changes delta reply bytes e m is size w note plain bodies seen log =
+    let k = w.at in
+    let n : Noted = record { written = r; changes = changes; delta = delta } in
+    let armed : new.plain.log.armed ≡ k.log.armed = ap (λ (p : Plain). p.log.armed) seen ∙ ap (λ (p : PartsValue). p.log.armed) w.down in
+    let frozen = seen ∙ ap plain_of w.down ∙ down_view write r bytes stop y k is size w.is
+    ∙ ap (λ (p : PartsValue). freeze (noted (frozen_of p) (Some write)) k.log.armed (plain_of p)) m.same
+    ∙ ap (λ (o : Option Noted). freeze o k.log.armed (plain_of x)) note ∙ ap (freeze_noted n k.log.armed) plain ∙ ap (λ (a : ℕ). freeze_noted n a v.plain) (sym armed) in
+    broke_told {F = F} v new (halt_of {F = F} (stopped_agent stop)) stop reply (record { forced = Some r; changes = changes; delta = delta }) (halt_stopped {F = F} stop) refl frozen
+    (log ∙ ap (λ (p : PartsValue). bodies_in p.log) w.down ∙ down_bodies r bytes stop y k is w.is ∙ ap (pending_record (Some r)) (roomier_bodies x y m ∙ bodies))
+
+pub unwritten_told : (F : Type 0) {T : Type 0} (u : Unwritten) (v new : CoreValue) (x y z : PartsValue) (write : StoppedWrite) (r : LogRecord) (changes : List Change) (delta : List Did) (reply : T) (bytes : List ℕ) (e : ChannelEnds) (agent : AgentStop)
+    → agent ≡ agent_of u → HasMoreRoom x y → bytes ≡ record_bytes r → length bytes ≡ record_size r → Writes bytes e write y (Err u) z → noted (frozen_of x) (Some write) ≡ Some (record { written = r; changes = changes; delta = delta })
+    → plain_of x ≡ v.plain → bodies_in x.log ≡ v.log → new.plain ≡ plain_of z → new.log ≡ bodies_in z.log
+    → WritesLog {F = F} v (Do reply (record { forced = Some r; changes = changes; delta = delta } ∷ [])) (Err (halt_of {F = F} agent)) new
+unwritten_told F u v new x y z write r changes delta reply bytes e agent a m is size w note plain bodies seen log =
+    subst (λ (k : AgentStop). WritesLog {F = F} v (Do reply (record { forced = Some r; changes = changes; delta = delta } ∷ [])) (Err (halt_of {F = F} k)) new) (sym a)
+    (part_told F u v new x y z write r changes delta reply bytes e m is size w note plain bodies seen log)
+
+pub hardened_wrote : (channel : List ℕ) (note : Note) (change : Change) (p : Plain) (old new : LogBodies) → harden_part channel note p ≡ noted_change channel note change → new ≡ behind_record (Some (note_record channel note)) old
+    → new ≡ wrote_all (harden_part channel note p ∷ []) old
+hardened_wrote channel note change p old new e log = subst (λ (part : Part). new ≡ wrote_all (part ∷ []) old) (sym e) log
+
+same_room : (x : PartsValue) → HasMoreRoom x x
+same_room x = record { same = refl; log = omega arith; body = omega arith }
+
+pub hardening_told : (u : Unwritten) (v new : CoreValue) (x z : PartsValue) (channel : List ℕ) (note : Note) (change : Change) (bytes : List ℕ) (e : ChannelEnds) (agent : AgentStop)
+    → agent ≡ agent_of u → bytes ≡ record_bytes (note_record channel note) → length bytes ≡ record_size (note_record channel note) → Writes bytes e (writes.Hardened channel note) x (Err u) z
+    → harden_part channel note v.plain ≡ noted_change channel note change → plain_of x ≡ v.plain → bodies_in x.log ≡ v.log → new.plain ≡ plain_of z → new.log ≡ bodies_in z.log
+    → WritesLog v (harden channel note v.plain) (by_agent (Err agent)) new
+hardening_told u v new x z channel note change bytes e agent a is size w part plain bodies seen log =
+    let here : harden_part channel note (plain_of x) ≡ noted_change channel note change = ap (harden_part channel note) plain ∙ part in
+    let nothing : Unit {0} = tt in
+    subst (λ (part : Part). WritesLog {F = Never} {T = Unit {0}} v (Do tt (part ∷ [])) (by_agent (Err agent)) new) (sym part)
+    (unwritten_told Never u v new x x z (writes.Hardened channel note) (note_record channel note) (change ∷ []) (did.Hardened channel note ∷ []) nothing bytes e agent a (same_room x) is size w (noted_as channel note change x here) plain bodies seen log)

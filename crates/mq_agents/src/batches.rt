@@ -7,6 +7,7 @@ ghost use Rattle.mq_unit.specs.Told.{told, told_all};
 ghost use Rattle.mq_core.specs.Views.{plain_of};
 ghost use Rattle.mq_agents.specs.Ends.{by_memory, held_did};
 ghost use Rattle.mq_agents.specs.Removing.{batch_held};
+ghost use Rattle.mq_core.specs.Values.{manager_of, WritesLog};
 
 use crate::reading::queue_of_sender;
 use mq_base::{Items, NoMemory};
@@ -96,7 +97,8 @@ pub fn hold_batch<D: Disk>(
 ) -> Result<u32, NoMemory>
     requires up { IsUp core.old.plain }
     requires can { CanHold channel.now core.old.plain }
-    ensures { MeetsOrWants core.old (hold_batch channel.now unit.now most core.old.plain) (by_memory result) core.new }
+    ensures meets { MeetsOrWants (manager_of core.old) (hold_batch channel.now unit.now most core.old.plain) (by_memory result) (manager_of core.new) }
+    ensures told { WritesLog core.old (hold_batch channel.now unit.now most core.old.plain) (by_memory result) core.new }
 {
     core.begin_call();
     let queue = queue_of_sender(&core.parts, channel);

@@ -11,6 +11,7 @@ ghost use Rattle.mq_core.specs.Views.{plain_of};
 ghost use Rattle.mq_core.specs.Forced.{IsForced, HasMoreRoom};
 ghost use Rattle.mq_agents.specs.Ends.{by_agent};
 ghost use Rattle.mq_agents.specs.Removing.{IsRoomy, lasts, removed_one};
+ghost use Rattle.mq_core.specs.Values.{manager_of, WritesLog};
 
 use crate::hardening::{agent_stop, go_down};
 use mq_base::{Items, NoMemory};
@@ -108,7 +109,8 @@ fn discard_free<D: Disk>(core: &mut Core<D>, queue: &QName, ident: &Ident) -> Re
     requires up { IsUp core.old.plain }
     requires there { HasFreeRow queue.now ident.now core.old.plain }
     requires free { lasts (row_with (Some ident.now) (stored queue.now core.old.plain).rows) ≡ false }
-    ensures { MeetsOrWants core.old (discard queue.now ident.now core.old.plain) (by_agent result) core.new }
+    ensures meets { MeetsOrWants (manager_of core.old) (discard queue.now ident.now core.old.plain) (by_agent result) (manager_of core.new) }
+    ensures told { WritesLog core.old (discard queue.now ident.now core.old.plain) (by_agent result) core.new }
 {
     core.begin_call();
     match core.effects.reserve(1) {
@@ -127,7 +129,8 @@ fn discard_forced<D: Disk>(
     requires up { IsUp core.old.plain }
     requires there { HasFreeRow queue.now ident.now core.old.plain }
     requires kept { lasts (row_with (Some ident.now) (stored queue.now core.old.plain).rows) ≡ true }
-    ensures { MeetsOrWants core.old (discard queue.now ident.now core.old.plain) (by_agent result) core.new }
+    ensures meets { MeetsOrWants (manager_of core.old) (discard queue.now ident.now core.old.plain) (by_agent result) (manager_of core.new) }
+    ensures told { WritesLog core.old (discard queue.now ident.now core.old.plain) (by_agent result) core.new }
 {
     core.begin_call();
     match core.effects.reserve(1) {
@@ -162,7 +165,8 @@ fn discard_forced<D: Disk>(
 pub fn discard<D: Disk>(core: &mut Core<D>, from: &QName, ident: &Ident) -> Result<(), AgentStop>
     requires up { IsUp core.old.plain }
     requires there { HasFreeRow from.now ident.now core.old.plain }
-    ensures { MeetsOrWants core.old (discard from.now ident.now core.old.plain) (by_agent result) core.new }
+    ensures meets { MeetsOrWants (manager_of core.old) (discard from.now ident.now core.old.plain) (by_agent result) (manager_of core.new) }
+    ensures told { WritesLog core.old (discard from.now ident.now core.old.plain) (by_agent result) core.new }
 {
     if lasts(&core.parts, from, ident) {
         discard_forced(core, from, ident)

@@ -10,6 +10,7 @@ ghost use Rattle.mq_core.specs.Forced.{downed};
 ghost use Rattle.mq_core.specs.Views.{plain_of};
 ghost use Rattle.mq_agents.specs.Ends.{by_agent, stopped_agent};
 ghost use Rattle.mq_agents.specs.Written.{Writes, agent_of, stop_of, with_senders, with_receivers, note_record, IsSenderNote, IsReceiverNote};
+ghost use Rattle.mq_core.specs.Values.{manager_of, WritesLog};
 
 use mq_base::NoMemory;
 use mq_calls::{AgentStop, Did, Note, ReceiverSide, SenderSide};
@@ -45,6 +46,7 @@ pub(crate) fn go_down<D: Disk>(parts: &mut Parts<D>, write: StoppedWrite)
     parts.mode = Mode::Down {
         write: Some(write),
         starts: 0,
+        kept: None,
     };
 }
 
@@ -155,7 +157,8 @@ fn harden_sender<D: Disk>(
     requires size { length bytes.now ≡ record_size (note_record channel.now note.now) }
     requires small { length bytes.now < 2 ^ 32 }
     requires side { IsSenderNote channel.now note.now side core.old.plain }
-    ensures { MeetsOrWants core.old (harden channel.now note.now core.old.plain) (by_agent result) core.new }
+    ensures meets { MeetsOrWants (manager_of core.old) (harden channel.now note.now core.old.plain) (by_agent result) (manager_of core.new) }
+    ensures told { WritesLog core.old (harden channel.now note.now core.old.plain) (by_agent result) core.new }
 {
     core.begin_call();
     match core.effects.reserve(1) {
@@ -191,7 +194,8 @@ fn harden_receiver<D: Disk>(
     requires size { length bytes.now ≡ record_size (note_record channel.now note.now) }
     requires small { length bytes.now < 2 ^ 32 }
     requires side { IsReceiverNote channel.now note.now side core.old.plain }
-    ensures { MeetsOrWants core.old (harden channel.now note.now core.old.plain) (by_agent result) core.new }
+    ensures meets { MeetsOrWants (manager_of core.old) (harden channel.now note.now core.old.plain) (by_agent result) (manager_of core.new) }
+    ensures told { WritesLog core.old (harden channel.now note.now core.old.plain) (by_agent result) core.new }
 {
     core.begin_call();
     match core.effects.reserve(1) {
@@ -243,7 +247,8 @@ pub fn harden_session<D: Disk>(
     session: u64,
 ) -> Result<(), AgentStop>
     requires up { IsUp core.old.plain }
-    ensures { MeetsOrWants core.old (harden channel.now (notes.Session partner.now session) core.old.plain) (by_agent result) core.new }
+    ensures meets { MeetsOrWants (manager_of core.old) (harden channel.now (notes.Session partner.now session) core.old.plain) (by_agent result) (manager_of core.new) }
+    ensures told { WritesLog core.old (harden channel.now (notes.Session partner.now session) core.old.plain) (by_agent result) core.new }
 {
     let old = match sender_now(&core.parts, channel) {
         Ok(old) => old,
@@ -286,7 +291,8 @@ pub fn harden_last_sent<D: Disk>(
     last: u32,
 ) -> Result<(), AgentStop>
     requires up { IsUp core.old.plain }
-    ensures { MeetsOrWants core.old (harden channel.now (notes.SeqSet sync_ends.Sender last) core.old.plain) (by_agent result) core.new }
+    ensures meets { MeetsOrWants (manager_of core.old) (harden channel.now (notes.SeqSet sync_ends.Sender last) core.old.plain) (by_agent result) (manager_of core.new) }
+    ensures told { WritesLog core.old (harden channel.now (notes.SeqSet sync_ends.Sender last) core.old.plain) (by_agent result) core.new }
 {
     let old = match sender_now(&core.parts, channel) {
         Ok(old) => old,
@@ -331,7 +337,8 @@ pub fn harden_bound<D: Disk>(
     last: u32,
 ) -> Result<(), AgentStop>
     requires up { IsUp core.old.plain }
-    ensures { MeetsOrWants core.old (harden channel.now (notes.Bound partner.now session last) core.old.plain) (by_agent result) core.new }
+    ensures meets { MeetsOrWants (manager_of core.old) (harden channel.now (notes.Bound partner.now session last) core.old.plain) (by_agent result) (manager_of core.new) }
+    ensures told { WritesLog core.old (harden channel.now (notes.Bound partner.now session last) core.old.plain) (by_agent result) core.new }
 {
     let old = receiver_now(&core.parts, channel);
     let note = Note::Bound {
@@ -369,7 +376,8 @@ pub fn harden_closed<D: Disk>(
     session: u64,
 ) -> Result<(), AgentStop>
     requires up { IsUp core.old.plain }
-    ensures { MeetsOrWants core.old (harden channel.now (notes.Closed session) core.old.plain) (by_agent result) core.new }
+    ensures meets { MeetsOrWants (manager_of core.old) (harden channel.now (notes.Closed session) core.old.plain) (by_agent result) (manager_of core.new) }
+    ensures told { WritesLog core.old (harden channel.now (notes.Closed session) core.old.plain) (by_agent result) core.new }
 {
     let old = receiver_now(&core.parts, channel);
     let note = Note::Closed { session };
@@ -397,7 +405,8 @@ pub fn harden_last_received<D: Disk>(
     last: u32,
 ) -> Result<(), AgentStop>
     requires up { IsUp core.old.plain }
-    ensures { MeetsOrWants core.old (harden channel.now (notes.SeqSet sync_ends.Receiver last) core.old.plain) (by_agent result) core.new }
+    ensures meets { MeetsOrWants (manager_of core.old) (harden channel.now (notes.SeqSet sync_ends.Receiver last) core.old.plain) (by_agent result) (manager_of core.new) }
+    ensures told { WritesLog core.old (harden channel.now (notes.SeqSet sync_ends.Receiver last) core.old.plain) (by_agent result) core.new }
 {
     let old = receiver_now(&core.parts, channel);
     let note = Note::SeqSet {

@@ -12,6 +12,7 @@ ghost use Rattle.mq_core.specs.Forced.{HasMoreRoom};
 ghost use Rattle.mq_agents.specs.Ends.{by_prepare};
 ghost use Rattle.mq_agents.specs.Written.{Writes, with_senders};
 ghost use Rattle.mq_agents.specs.Removing.{Doubts, ident_put, IsDoubtOf, IsFilled, doubt_record, without_one};
+ghost use Rattle.mq_core.specs.Values.{manager_of, WritesLog};
 
 use crate::discarding::make_record_room;
 use crate::hardening::{Unwritten, agent_of, go_down, sender_now, stop_of};
@@ -28,25 +29,18 @@ use mq_sync::{InDoubt, SenderData};
 /// The most idents whose record is shorter than 2^32 bytes.
 const MOST_IDENTS: usize = 252_645_129;
 
-/// Whether the log lacks the room for so many bytes more; no bytes always fit.
-fn is_full<D: Disk>(parts: &Parts<D>, bytes: u64) -> bool
-    requires tied { Tied parts.now }
-    ensures { result ≡ is_full bytes (plain_of parts.now) }
-{
-    bytes > 0 && !parts.log.fits(bytes)
-}
-
 /// Whether the log lacks the room for a batch to be prepared.
 #[tactic(auto, using(crate::proofs::FillLaws::full_long))]
 fn is_batch_full<D: Disk>(parts: &Parts<D>, batch: &Batch) -> bool
     requires tied { Tied parts.now }
+    requires up { IsUp (plain_of parts.now) }
     ensures full { (channel : List ℕ) (last : ℕ) → result ≡ is_full (need (prepared_record channel last batch.now)) (plain_of parts.now) }
     ensures few { result ≡ false → length batch.now.idents ≤ 252645129 }
 {
     if batch.idents.len() > MOST_IDENTS {
         return true;
     }
-    is_full(parts, 98 + 17 * batch.idents.len() as u64)
+    parts.is_full(98 + 17 * batch.idents.len() as u64)
 }
 
 fn copy_batch<D: Disk>(parts: &Parts<D>, batch: &Batch, last: u32) -> Result<InDoubt, NoMemory>
@@ -159,7 +153,8 @@ fn prepare_unit<D: Disk>(
     requires batch { IsDoubtOf doubt last (batch_of channel.now core.old.plain.channels.batches) }
     requires few { length doubt.idents ≤ 252645129 }
     requires fits { is_full (need (doubt_record channel.now doubt)) core.old.plain ≡ false }
-    ensures { MeetsOrWants core.old (prepare channel.now last core.old.plain) (by_prepare result) core.new }
+    ensures meets { MeetsOrWants (manager_of core.old) (prepare channel.now last core.old.plain) (by_prepare result) (manager_of core.new) }
+    ensures told { WritesLog core.old (prepare channel.now last core.old.plain) (by_prepare result) core.new }
 {
     core.begin_call();
     match core.effects.reserve(1) {
@@ -209,6 +204,7 @@ fn doubt_of<D: Disk>(
     last: u32,
 ) -> Result<Option<InDoubt>, PrepareFault>
     requires tied { Tied parts.now }
+    requires up { IsUp (plain_of parts.now) }
     ensures { Doubts channel.now last (plain_of parts.now) result }
 {
     let Some(batch) = batch_now(parts, channel) else {
@@ -231,7 +227,8 @@ fn doubt_of<D: Disk>(
 pub fn prepare<D: Disk>(core: &mut Core<D>, channel: &ChName, last: u32) -> Result<(), PrepareFault>
     requires up { IsUp core.old.plain }
     requires can { CanPrepare channel.now core.old.plain }
-    ensures { MeetsOrWants core.old (prepare channel.now last core.old.plain) (by_prepare result) core.new }
+    ensures meets { MeetsOrWants (manager_of core.old) (prepare channel.now last core.old.plain) (by_prepare result) (manager_of core.new) }
+    ensures told { WritesLog core.old (prepare channel.now last core.old.plain) (by_prepare result) core.new }
 {
     match doubt_of(&core.parts, channel, last) {
         Ok(None) => {

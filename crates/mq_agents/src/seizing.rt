@@ -4,6 +4,7 @@ ghost use Rattle.mq_spec_state.specs.Words.{MeetsInRoom, MeetsOrWants, channel_o
 ghost use Rattle.mq_spec_agents.specs.Words.{IsUp, IsSenderHere, channel_queue, leave, seize, set_bound};
 ghost use Rattle.mq_core.specs.Views.{plain_of};
 ghost use Rattle.mq_agents.specs.Ends.{Seizes, by_memory, by_seize};
+ghost use Rattle.mq_core.specs.Values.{manager_of, WritesLog};
 
 use crate::walking::has_held_by_other;
 use mq_base::NoMemory;
@@ -66,7 +67,8 @@ fn can_seize<D: Disk>(parts: &Parts<D>, channel: &ChName) -> Result<QName, Seize
 pub fn seize<D: Disk>(core: &mut Core<D>, channel: &ChName) -> Result<(), SeizeFault>
     requires up { IsUp core.old.plain }
     requires here { IsSenderHere channel.now core.old.plain }
-    ensures { MeetsOrWants core.old (seize channel.now core.old.plain) (by_seize result) core.new }
+    ensures meets { MeetsOrWants (manager_of core.old) (seize channel.now core.old.plain) (by_seize result) (manager_of core.new) }
+    ensures told { WritesLog core.old (seize channel.now core.old.plain) (by_seize result) core.new }
 {
     let queue = match can_seize(&core.parts, channel) {
         Ok(queue) => queue,
@@ -89,7 +91,8 @@ pub fn seize<D: Disk>(core: &mut Core<D>, channel: &ChName) -> Result<(), SeizeF
 /// A sender leaves its transmission queue. It takes no memory.
 pub fn leave<D: Disk>(core: &mut Core<D>, channel: &ChName)
     requires up { IsUp core.old.plain }
-    ensures { MeetsInRoom core.old (leave channel.now core.old.plain) (Ok tt) core.new }
+    ensures meets { MeetsInRoom (manager_of core.old) (leave channel.now core.old.plain) (Ok tt) (manager_of core.new) }
+    ensures told { WritesLog core.old (leave channel.now core.old.plain) (Ok tt) core.new }
 {
     core.begin_call();
     drop_side(core.parts.alloc, &mut core.parts.ends.seizures, channel);
@@ -102,7 +105,8 @@ pub fn leave<D: Disk>(core: &mut Core<D>, channel: &ChName)
 /// No memory; nothing has changed.
 pub fn set_bound<D: Disk>(core: &mut Core<D>, channel: &ChName, bound: bool) -> Result<(), NoMemory>
     requires up { IsUp core.old.plain }
-    ensures { MeetsOrWants core.old (set_bound channel.now bound core.old.plain) (by_memory result) core.new }
+    ensures meets { MeetsOrWants (manager_of core.old) (set_bound channel.now bound core.old.plain) (by_memory result) (manager_of core.new) }
+    ensures told { WritesLog core.old (set_bound channel.now bound core.old.plain) (by_memory result) core.new }
 {
     core.begin_call();
     if bound {

@@ -1,13 +1,14 @@
 use Rattle.std.proofs.Common.{◌≡◌, ◌∙◌, true, false, sym, ap, refl}
 use Rattle.mq_sync.specs.declared.data.End.TheVariants as sync_ends
-use Rattle.mq_spec_state.specs.Words.{ManagerValue, ReceiverData, receiver_or, receiver_data}
+use Rattle.mq_spec_state.specs.Words.{ReceiverData, receiver_or, receiver_data}
 use Rattle.mq_spec_state.specs.State.Change.{SetReceiver}
 use Rattle.mq_calls.specs.declared.agents.Note.TheVariants as notes
 use Rattle.mq_agents.specs.Written.{noted_change}
+use Rattle.mq_core.specs.Values.{CoreValue}
 use Rattle.mq_agents.proofs.hardening.harden_last_received.Goals as goal
 
 pub harden_receiver-requires-clause-side : goal.harden_receiver-requires-clause-side
 harden_receiver-requires-clause-side g c =
     let channel = c.args.channel.now in
-    let is : c.receiver_now-old.result ≡ receiver_or (receiver_data channel c.args.core.now.plain) = c.receiver_now-old.ensures ∙ ap (λ (w : ManagerValue). receiver_or (receiver_data channel w.plain)) c.core.view_is in
+    let is : c.receiver_now-old.result ≡ receiver_or (receiver_data channel c.args.core.now.plain) = c.receiver_now-old.ensures ∙ ap (λ (w : CoreValue). receiver_or (receiver_data channel w.plain)) c.core.view_is in
     record { named = refl; part = ap (λ (d : ReceiverData). noted_change channel (notes.SeqSet sync_ends.Receiver c.args.last) (SetReceiver channel (record d { last = c.args.last }))) (sym is) }

@@ -15,14 +15,16 @@ use Rattle.mq_core.proofs.PutLaws.{tied_roomier, roomier_view}
 use Rattle.mq_agents.specs.Written.{with_senders}
 use Rattle.mq_agents.specs.Removing.{IsDoubtOf, doubt_record}
 use Rattle.mq_agents.specs.Ends.{by_prepare, halt_of}
-use Rattle.mq_agents.proofs.WriteLaws.{roomy_more, hardened_tied, sender_hardened, unwritten_ends, tied_after, wrote_as}
+use Rattle.mq_agents.proofs.WriteLaws.{roomy_more, hardened_tied, sender_hardened, unwritten_ends, unwritten_told, hardened_bodies, tied_after, wrote_as}
 use Rattle.mq_agents.proofs.DoubtLaws.{doubt_changes, doubt_part, prepares_as, doubt_noted, dropped_view, dropped_tied}
+use Rattle.mq_core.specs.Values.{CoreValue, manager_of, bodies_in, behind_record}
+use Rattle.mq_core.proofs.WriteLaws.{roomier_bodies, writes_as}
 use Rattle.mq_agents.proofs.preparing.prepare_unit.Goals as goal
 
 pub invariant_of-core-in-Err-write_doubt : goal.invariant_of-core-in-Err-write_doubt
 invariant_of-core-in-Err-write_doubt g c =
     let v = c.core.view_is ∙ c.begin_call.ensures in
-    let plain = ap (λ (w : ManagerValue). w.plain) v in
+    let plain = ap (λ (w : CoreValue). w.plain) v in
     let p : Plain = c.args.core.now.plain in
     let x : PartsValue = c.core.inside.parts in
     let channel = c.args.channel.now in
@@ -39,10 +41,10 @@ invariant_of-core-in-Err-write_doubt g c =
     let e : ChannelEnds = with_senders (set_sender side y.ends.senders) y.ends in
     tied_after c.in-Err-write_doubt.unwritten x y z (writes.Prepared channel last) r y.body.bytes e more fl.bytes size c.in-Err-write_doubt.ensures c.core.invariant
 
-pub returns-in-Err-write_doubt : goal.returns-in-Err-write_doubt
-returns-in-Err-write_doubt g c =
+pub returns-in-Err-write_doubt-clause-meets : goal.returns-in-Err-write_doubt-clause-meets
+returns-in-Err-write_doubt-clause-meets g c =
     let v = c.core.view_is ∙ c.begin_call.ensures in
-    let plain = ap (λ (w : ManagerValue). w.plain) v in
+    let plain = ap (λ (w : CoreValue). w.plain) v in
     let p : Plain = c.args.core.now.plain in
     let x : PartsValue = c.core.inside.parts in
     let channel = c.args.channel.now in
@@ -64,15 +66,15 @@ returns-in-Err-write_doubt g c =
     let note = doubt_noted d channel last x here ∙ ap (λ (s : SenderData). Some (let n : Noted = record { written = r; changes = doubt_changes channel d s; delta = did.Prepared channel d.unit ∷ [] } in n)) was in
     let new : ManagerValue = record { plain = plain_of z; delta = c.reserve.new.self.dids; stopped = c.stop_of-stopped.result; faults = z.log.faults } in
     let nothing : Unit {0} = tt in
-    subst (λ (s : Step PrepareFault (Unit {0})). MeetsOrWants c.args.core.now s (Err (halt_of {F = PrepareFault} c.agent_of-agent.result)) new) (sym step)
-    (unwritten_ends PrepareFault c.in-Err-write_doubt.unwritten c.args.core.now x y z c.reserve.new.self.dids (writes.Prepared channel last) r (doubt_changes channel d old) (did.Prepared channel d.unit ∷ []) nothing y.body.bytes e
+    subst (λ (s : Step PrepareFault (Unit {0})). MeetsOrWants (manager_of c.args.core.now) s (Err (halt_of {F = PrepareFault} c.agent_of-agent.result)) new) (sym step)
+    (unwritten_ends PrepareFault c.in-Err-write_doubt.unwritten (manager_of c.args.core.now) x y z c.reserve.new.self.dids (writes.Prepared channel last) r (doubt_changes channel d old) (did.Prepared channel d.unit ∷ []) nothing y.body.bytes e
     c.agent_of-agent.result c.stop_of-stopped.result c.agent_of-agent.ensures c.stop_of-stopped.ensures more fl.bytes size c.in-Err-write_doubt.ensures note plain
-    (ap (λ (w : ManagerValue). w.faults) v) (c.reserve.ensures.dids ∙ ap (λ (w : ManagerValue). w.delta) v))
+    (ap (λ (w : CoreValue). w.faults) v) (c.reserve.ensures.dids ∙ ap (λ (w : CoreValue). w.delta) v))
 
 pub invariant_of-core-2 : goal.invariant_of-core-2
 invariant_of-core-2 g c =
     let v = c.core.view_is ∙ c.begin_call.ensures in
-    let plain = ap (λ (w : ManagerValue). w.plain) v in
+    let plain = ap (λ (w : CoreValue). w.plain) v in
     let p : Plain = c.args.core.now.plain in
     let x : PartsValue = c.core.inside.parts in
     let channel = c.args.channel.now in
@@ -89,10 +91,10 @@ invariant_of-core-2 g c =
     let e : ChannelEnds = with_senders (set_sender side y.ends.senders) y.ends in
     subst Tied (sym c.drop_batch.ensures) (dropped_tied channel z (hardened_tied y.body.bytes e y z c.in-Ok-write_doubt.ensures (tied_roomier x y more c.core.invariant)))
 
-pub returns : goal.returns
-returns g c =
+pub returns-clause-meets : goal.returns-clause-meets
+returns-clause-meets g c =
     let v = c.core.view_is ∙ c.begin_call.ensures in
-    let plain = ap (λ (w : ManagerValue). w.plain) v in
+    let plain = ap (λ (w : CoreValue). w.plain) v in
     let p : Plain = c.args.core.now.plain in
     let x : PartsValue = c.core.inside.parts in
     let channel = c.args.channel.now in
@@ -118,12 +120,65 @@ returns g c =
     let done = ap plain_of c.drop_batch.ensures ∙ dropped_view channel z live
     ∙ ap (λ (q : Plain). apply (DropBatch channel) q) (sender_hardened r y.body.bytes side channel y z p still fl.bytes size w refl (roomier_view x y more ∙ plain)) in
     let before : y.log.armed ≡ p.log.armed = ap (λ (q : PartsValue). q.log.armed) more.same ∙ ap (λ (q : Plain). q.log.armed) plain in
-    let had : y.log.faults ≡ c.args.core.now.faults = ap (λ (q : PartsValue). q.log.faults) more.same ∙ ap (λ (k : ManagerValue). k.faults) v in
+    let had : y.log.faults ≡ c.args.core.now.faults = ap (λ (q : PartsValue). q.log.faults) more.same ∙ ap (λ (k : CoreValue). k.faults) v in
     let failed = ap (λ (q : PartsValue). q.log.faults) c.drop_batch.ensures in
-    let told = ap (λ (t : Telling). t.dids) c.tell.ensures ∙ ap (λ (ds : List Did). ds ++ did.Prepared channel d.unit ∷ []) (c.reserve.ensures.dids ∙ ap (λ (k : ManagerValue). k.delta) v) in
+    let told = ap (λ (t : Telling). t.dids) c.tell.ensures ∙ ap (λ (ds : List Did). ds ++ did.Prepared channel d.unit ∷ []) (c.reserve.ensures.dids ∙ ap (λ (k : CoreValue). k.delta) v) in
     let new : ManagerValue = record { plain = plain_of c.drop_batch.new.parts; delta = c.tell.new.self.dids; stopped = c.core.inside.stopped; faults = c.drop_batch.new.parts.log.faults } in
     let nothing : Unit {0} = tt in
-    subst (λ (s : Step PrepareFault (Unit {0})). MeetsOrWants c.args.core.now s (Ok nothing) new) (sym step)
-    (wrote_as PrepareFault Anywhere c.args.core.now new nothing nothing r (doubt_changes channel d old) (did.Prepared channel d.unit ∷ []) refl done told (ap (λ (k : ManagerValue). k.stopped) v)
+    subst (λ (s : Step PrepareFault (Unit {0})). MeetsOrWants (manager_of c.args.core.now) s (Ok nothing) new) (sym step)
+    (wrote_as PrepareFault Anywhere (manager_of c.args.core.now) new nothing nothing r (doubt_changes channel d old) (did.Prepared channel d.unit ∷ []) refl done told (ap (λ (k : CoreValue). k.stopped) v)
     (omega (arith, had, failed, w.later))
     (λ some. let here : 0 < y.log.armed = omega (arith, before, some) in let more = w.calls.1 here in omega (arith, before, more)))
+
+pub returns-in-Err-write_doubt-clause-told : goal.returns-in-Err-write_doubt-clause-told
+returns-in-Err-write_doubt-clause-told g c =
+    let v = c.core.view_is ∙ c.begin_call.ensures in
+    let plain = ap (λ (w : CoreValue). w.plain) v in
+    let p : Plain = c.args.core.now.plain in
+    let x : PartsValue = c.core.inside.parts in
+    let channel = c.args.channel.now in
+    let last = c.args.last in
+    let d : InDoubt = c.args.doubt in
+    let r : LogRecord = doubt_record channel d in
+    let y : PartsValue = c.fill_prepared.new.parts in
+    let z : PartsValue = c.write_doubt.new.parts in
+    let fl = c.in-Ok-fill_prepared.ensures.ok in
+    let more = roomy_more (need r) x y fl.roomy in
+    let size = ap length fl.bytes ∙ fl.size in
+    let old = c.in-Ok-sender_now.old in
+    let side : SenderSide = record { channel = channel; hardened = data_prepared d old } in
+    let e : ChannelEnds = with_senders (set_sender side y.ends.senders) y.ends in
+    let here : IsDoubtOf d last (batch_of channel (plain_of x).channels.batches) = subst (λ (q : Plain). IsDoubtOf d last (batch_of channel q.channels.batches)) (sym plain) c.requires.batch in
+    let fits : is_full (need r) (plain_of x) ≡ false = ap (is_full (need r)) plain ∙ c.requires.fits in
+    let was : sender_or (sender_data channel (plain_of x)) ≡ old = sym c.in-Ok-sender_now.ensures in
+    let step : prepare channel last p ≡ Do tt (doubt_part channel d old ∷ []) = ap (prepare channel last) (sym plain) ∙ prepares_as d channel last (plain_of x) here fits ∙ ap (λ (s : SenderData). Do tt (doubt_part channel d s ∷ [])) was in
+    let note = doubt_noted d channel last x here ∙ ap (λ (s : SenderData). Some (let n : Noted = record { written = r; changes = doubt_changes channel d s; delta = did.Prepared channel d.unit ∷ [] } in n)) was in
+    let nothing : Unit {0} = tt in
+    writes_as c.args.core.now _ (prepare channel last p) (Do tt (doubt_part channel d old ∷ [])) (Err (halt_of {F = PrepareFault} c.agent_of-agent.result)) step
+    (unwritten_told PrepareFault c.in-Err-write_doubt.unwritten c.args.core.now _ x y z (writes.Prepared channel last) r (doubt_changes channel d old) (did.Prepared channel d.unit ∷ []) nothing y.body.bytes e
+    c.agent_of-agent.result c.agent_of-agent.ensures more fl.bytes size c.in-Err-write_doubt.ensures note plain (ap (λ (w : CoreValue). w.log) v) refl refl)
+
+pub returns-clause-told : goal.returns-clause-told
+returns-clause-told g c =
+    let v = c.core.view_is ∙ c.begin_call.ensures in
+    let plain = ap (λ (w : CoreValue). w.plain) v in
+    let p : Plain = c.args.core.now.plain in
+    let x : PartsValue = c.core.inside.parts in
+    let channel = c.args.channel.now in
+    let last = c.args.last in
+    let d : InDoubt = c.args.doubt in
+    let r : LogRecord = doubt_record channel d in
+    let y : PartsValue = c.fill_prepared.new.parts in
+    let z : PartsValue = c.write_doubt.new.parts in
+    let fl = c.in-Ok-fill_prepared.ensures.ok in
+    let more = roomy_more (need r) x y fl.roomy in
+    let size = ap length fl.bytes ∙ fl.size in
+    let old = c.in-Ok-sender_now.old in
+    let side : SenderSide = record { channel = channel; hardened = data_prepared d old } in
+    let e : ChannelEnds = with_senders (set_sender side y.ends.senders) y.ends in
+    let here : IsDoubtOf d last (batch_of channel (plain_of x).channels.batches) = subst (λ (q : Plain). IsDoubtOf d last (batch_of channel q.channels.batches)) (sym plain) c.requires.batch in
+    let fits : is_full (need r) (plain_of x) ≡ false = ap (is_full (need r)) plain ∙ c.requires.fits in
+    let was : sender_or (sender_data channel (plain_of x)) ≡ old = sym c.in-Ok-sender_now.ensures in
+    let step : prepare channel last p ≡ Do tt (doubt_part channel d old ∷ []) = ap (prepare channel last) (sym plain) ∙ prepares_as d channel last (plain_of x) here fits ∙ ap (λ (s : SenderData). Do tt (doubt_part channel d s ∷ [])) was in
+    writes_as c.args.core.now _ (prepare channel last p) (Do tt (doubt_part channel d old ∷ [])) (Ok tt) step
+    (ap (λ (q : PartsValue). bodies_in q.log) c.drop_batch.ensures ∙ hardened_bodies r y.body.bytes e y z fl.bytes c.in-Ok-write_doubt.ensures ∙ ap (behind_record (Some r)) (roomier_bodies x y more ∙ ap (λ (w : CoreValue). w.log) v))
