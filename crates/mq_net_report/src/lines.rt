@@ -13,9 +13,7 @@ use crate::steps::{
 };
 use crate::writing::{Text, put, put_number, put_number4, put_word};
 use mq_base::NoMemory;
-use mq_history::{
-    History, MonitorLine, RulesPart, Scenario, ScriptPart, Section, Step,
-};
+use mq_history::{History, MonitorLine, RulesPart, Scenario, ScriptPart, Section, Step};
 use std::alloc::Global;
 
 /// The name of a manager by its place.
@@ -52,7 +50,7 @@ fn put_obey(
     histories: &[History],
     section: Option<&Section>,
 ) -> Result<(), NoMemory>
-    ensures { OnOk result (out.new ≡ out.old ++ obey_text step histories.now (option_copied section)) }
+    ensures { OnOk result (out.new ≡ out.old ++ obey_text step histories.now (option_copied section.entry)) }
 {
     let Some(section) = section else {
         return put_word(out, "\n");
@@ -70,7 +68,7 @@ fn put_run(
     histories: &[History],
     part: Option<&ScriptPart>,
 ) -> Result<(), NoMemory>
-    ensures { OnOk result (out.new ≡ out.old ++ run_text step script histories.now (option_copied part)) }
+    ensures { OnOk result (out.new ≡ out.old ++ run_text step script histories.now (option_copied part.entry)) }
 {
     let Some(part) = part else {
         return put_word(out, "\n");
@@ -148,12 +146,15 @@ fn put_handle(
     histories: &[History],
     rules: Option<&RulesPart>,
 ) -> Result<(), NoMemory>
-    ensures { OnOk result (out.new ≡ out.old ++ handle_text step handler n histories.now (option_copied rules)) }
+    ensures { OnOk result (out.new ≡ out.old ++ handle_text step handler n histories.now (option_copied rules.entry)) }
 {
     let Some(rules) = rules else {
         return put_word(out, "\n");
     };
-    let actions = count_actions(handler, in_step(histories.get(rules.manager as usize), step));
+    let actions = count_actions(
+        handler,
+        in_step(histories.get(rules.manager as usize), step),
+    );
     put(out, rules.label.text())?;
     put_word(out, " ")?;
     put_number(alloc, out, n)?;
@@ -170,7 +171,7 @@ fn put_watch(
     histories: &[History],
     line: Option<&MonitorLine>,
 ) -> Result<(), NoMemory>
-    ensures { OnOk result (out.new ≡ out.old ++ watch_text step monitor histories.now (option_copied line)) }
+    ensures { OnOk result (out.new ≡ out.old ++ watch_text step monitor histories.now (option_copied line.entry)) }
 {
     let Some(line) = line else {
         return put_word(out, "\n");
@@ -190,7 +191,7 @@ fn put_serve(
     histories: &[History],
     line: Option<&MonitorLine>,
 ) -> Result<(), NoMemory>
-    ensures { OnOk result (out.new ≡ out.old ++ serve_text step scenario.now monitor n histories.now (option_copied line)) }
+    ensures { OnOk result (out.new ≡ out.old ++ serve_text step scenario.now monitor n histories.now (option_copied line.entry)) }
 {
     let Some(line) = line else {
         return put_word(out, "\n");
@@ -230,7 +231,14 @@ fn put_step(
         Step::Do(m, _) => put_asked(out, "DO ", at, *m as u64, scenario, histories),
         Step::Run(k, _) => {
             put_word(out, "RUN ")?;
-            put_run(alloc, out, at, *k as u64, histories, scenario.scripts.get(*k as usize))
+            put_run(
+                alloc,
+                out,
+                at,
+                *k as u64,
+                histories,
+                scenario.scripts.get(*k as usize),
+            )
         }
         Step::Phase(scripts) => {
             put_word(out, "PHASE")?;
@@ -248,12 +256,21 @@ fn put_step(
         }
         Step::Watch(k) => {
             put_word(out, "WATCH ")?;
-            put_watch(alloc, out, at, *k as u64, histories, scenario.monitors.get(*k as usize))
+            put_watch(
+                alloc,
+                out,
+                at,
+                *k as u64,
+                histories,
+                scenario.monitors.get(*k as usize),
+            )
         }
         Step::Serve(k, n) => {
             put_word(out, "SERVE ")?;
             let line = scenario.monitors.get(*k as usize);
-            put_serve(alloc, out, at, scenario, *k as u64, *n as u64, histories, line)
+            put_serve(
+                alloc, out, at, scenario, *k as u64, *n as u64, histories, line,
+            )
         }
         Step::Crash(m) => put_asked(out, "CRASH ", at, *m as u64, scenario, histories),
         Step::Restart(m) => put_asked(out, "RESTART ", at, *m as u64, scenario, histories),
@@ -315,7 +332,12 @@ fn put_script(
     put_word(out, " ")?;
     put_name(out, scenario, part.manager as u64)?;
     put_word(out, "\n")?;
-    put_lines(alloc, out, script as u64, entries_of(histories.get(part.manager as usize)))
+    put_lines(
+        alloc,
+        out,
+        script as u64,
+        entries_of(histories.get(part.manager as usize)),
+    )
 }
 
 /// All scripts.
