@@ -1,4 +1,1 @@
-pub mod PartLaws
-pub mod TrimLemmas
-pub mod StepLaws
 pub mod RowsReport

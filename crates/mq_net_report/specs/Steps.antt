@@ -60,6 +60,10 @@ is_operator _ = false
 abbrev pub is_by : (Actor → Bool) → Entry → Bool
 is_by test e = test e.actor && not (is_trigger e.call)
 
+-- a turn of a channel's end, or a timeout
+unfoldable pub is_turn : Entry → Bool
+is_turn e = is_by is_end e
+
 abbrev pub count_done : (Actor → Bool) → List Entry → ℕ
 count_done test es = count_by (is_by test) es
 
@@ -141,7 +145,7 @@ label_text s k = codes " " ++ script_label (slice_get s.scripts k)
 -- turns of channel ends, and timeouts
 abbrev pub turns_in : ℕ → List History → ℕ
 turns_in step [] = 0
-turns_in step (h ∷ hs) = count_done is_end (in_step step (Some h)) + turns_in step hs
+turns_in step (h ∷ hs) = count_by is_turn (in_step step (Some h)) + turns_in step hs
 
 abbrev pub pump_text : ℕ → ℕ → List History → List ℕ
 pump_text step n hs = decimal n ++ codes " TURNS " ++ decimal (turns_in step hs) ++ idle_text (is_idle step hs)

@@ -1,7 +1,7 @@
 //! Scripts line by line, and steps with what they did.
-ghost use Rattle.std.specs.Prelude.{◌≡◌, ◌++◌, ◌+◌, OnOk, codes, count_by};
+ghost use Rattle.std.specs.Prelude.{◌≡◌, ◌++◌, OnOk};
 ghost use Rattle.std.specs.List.{flat_map};
-ghost use Rattle.mq_net_report.specs.Steps.{is_trigger, is_script, is_handler, is_monitor, is_end, is_operator, is_by, count_done, idle_text, command_text, command_if, answer_line, answer_if, watch_refusal, refusal_if, first_refusal, watched_text, lines_text};
+ghost use Rattle.mq_net_report.specs.Steps.{is_trigger, is_script, is_handler, is_monitor, is_operator, is_by, count_done, idle_text, command_text, command_if, answer_line, answer_if, watch_refusal, refusal_if, first_refusal, watched_text, lines_text};
 
 use crate::replies::{put_act, put_displayed, put_line};
 use crate::writing::{Text, put_number, put_word};
@@ -46,16 +46,6 @@ fn is_monitor(monitor: u64, actor: &Actor) -> bool
     }
 }
 
-fn is_end(actor: &Actor) -> bool
-    ensures { result ≡ is_end actor.now }
-{
-    match actor {
-        Actor::Sender(_) => true,
-        Actor::Receiver(_) => true,
-        _ => false,
-    }
-}
-
 fn is_operator(actor: &Actor) -> bool
     ensures { result ≡ is_operator actor.now }
 {
@@ -86,13 +76,6 @@ pub fn is_watch(monitor: u64, entry: &Entry) -> bool
     is_monitor(monitor, &entry.actor) && !is_trigger(&entry.call)
 }
 
-/// Whether an entry is a turn of a channel's end, or a timeout.
-fn is_turn(entry: &Entry) -> bool
-    ensures { result ≡ is_by is_end entry.now }
-{
-    is_end(&entry.actor) && !is_trigger(&entry.call)
-}
-
 /// Whether an entry answers the operator.
 fn is_answer(entry: &Entry) -> bool
     ensures { result ≡ is_by is_operator entry.now }
@@ -116,12 +99,6 @@ pub fn count_actions(handler: u64, entries: &[Entry]) -> usize
         .iter()
         .filter(|entry| is_action(handler, entry))
         .count()
-}
-
-pub fn count_turns(entries: &[Entry]) -> usize
-    ensures { result ≡ count_done is_end entries.now }
-{
-    entries.iter().filter(|entry| is_turn(entry)).count()
 }
 
 /// A script's lines, numbered from 1.

@@ -1,11 +1,11 @@
 -- Loops over entries and histories, one step on.
 use Rattle.std.proofs.Common.{ℕ, ◌≡◌, ◌+◌, ◌<◌, Bool, true, false, List, [], ◌∷◌, ◌++◌, refl, ap, sym, ◌∙◌, arith, length, take, drop, get_or, append_assoc}
-use Rattle.std.specs.Prelude.{if◌then◌else◌, Some}
+use Rattle.std.specs.Prelude.{if◌then◌else◌, Some, count_by}
 use Rattle.std.proofs.lemmas.List.{drop_more, take_more}
 use Rattle.mq_history.specs.declared.calls.Entry.{Entry}
 use Rattle.mq_history.specs.declared.history.History.{History}
 use Rattle.mq_history.specs.declared.scenario.Scenario.{Scenario}
-use Rattle.mq_net_report.specs.Steps.{is_start, starts_in, turns_in, count_done, is_end, in_step}
+use Rattle.mq_net_report.specs.Steps.{is_start, starts_in, turns_in, is_turn, in_step}
 
 sum_assoc : (a b c : ℕ) → a + b + c ≡ a + (b + c)
 sum_assoc a b c = omega arith
@@ -28,9 +28,9 @@ starts_step s k m before es since at e flag n sum total lt is front test more so
 
 -- one history more
 abbrev turns_one : ℕ → History → ℕ
-turns_one step h = count_done is_end (in_step step (Some h))
+turns_one step h = count_by is_turn (in_step step (Some h))
 
-pub turns_step : (step : ℕ) (hs : List History) (at : ℕ) (h : History) (n more sum total : ℕ) → at < length hs → h ≡ get_or hs at h → more ≡ count_done is_end (in_step step (Some h)) → sum ≡ n + more
+pub turns_step : (step : ℕ) (hs : List History) (at : ℕ) (h : History) (n more sum total : ℕ) → at < length hs → h ≡ get_or hs at h → more ≡ count_by is_turn (in_step step (Some h)) → sum ≡ n + more
     → n + turns_in step (drop at hs) ≡ total → sum + turns_in step (drop (at + 1) hs) ≡ total
 turns_step step hs at h n more sum total lt is one two so_far =
     ap (λ (x : ℕ). x + turns_in step (drop (at + 1) hs)) (two ∙ ap (λ (x : ℕ). n + x) one)

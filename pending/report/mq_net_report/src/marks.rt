@@ -6,7 +6,7 @@ use mq_history::{Entry, History};
 
 /// What a manager did.
 pub fn entries_of<'a>(history: Option<&'a History>) -> &'a [Entry]
-    ensures { result.now ≡ entries_of (option_copied history) }
+    ensures { result.now ≡ entries_of (option_copied history.entry) }
 {
     match history {
         None => &[],
@@ -17,7 +17,7 @@ pub fn entries_of<'a>(history: Option<&'a History>) -> &'a [Entry]
 /// The number of entries at a step's end.
 #[tactic(auto, using(crate::proofs::PartLaws::get_nil))]
 fn end_at(history: Option<&History>, step: usize) -> u64
-    ensures { result ≡ end_of (slice_get (marks_of (option_copied history)) step) }
+    ensures { result ≡ end_of (slice_get (marks_of (option_copied history.entry)) step) }
 {
     match history {
         None => 0,
@@ -29,7 +29,7 @@ fn end_at(history: Option<&History>, step: usize) -> u64
 }
 
 fn begin_at(history: Option<&History>, step: usize) -> u64
-    ensures { result ≡ begin_of step (option_copied history) }
+    ensures { result ≡ begin_of step (option_copied history.entry) }
 {
     if step == 0 {
         0
@@ -64,14 +64,14 @@ fn behind(entries: &[Entry], n: u64) -> &[Entry]
 
 /// What a manager did before a step.
 pub fn before_step<'a>(history: Option<&'a History>, step: usize) -> &'a [Entry]
-    ensures { result.now ≡ before_step step (option_copied history) }
+    ensures { result.now ≡ before_step step (option_copied history.entry) }
 {
     first(entries_of(history), begin_at(history, step))
 }
 
 /// What a manager did in a step.
 pub fn in_step<'a>(history: Option<&'a History>, step: usize) -> &'a [Entry]
-    ensures { result.now ≡ in_step step (option_copied history) }
+    ensures { result.now ≡ in_step step (option_copied history.entry) }
 {
     let begin = begin_at(history, step);
     let end = end_at(history, step);

@@ -50,7 +50,7 @@ fn put_obey(
     histories: &[History],
     section: Option<&Section>,
 ) -> Result<(), NoMemory>
-    ensures { OnOk result (out.new ≡ out.old ++ obey_text step histories.now (option_copied section)) }
+    ensures { OnOk result (out.new ≡ out.old ++ obey_text step histories.now (option_copied section.entry)) }
 {
     let Some(section) = section else {
         return put_word(out, "\n");
@@ -68,7 +68,7 @@ fn put_run(
     histories: &[History],
     part: Option<&ScriptPart>,
 ) -> Result<(), NoMemory>
-    ensures { OnOk result (out.new ≡ out.old ++ run_text step script histories.now (option_copied part)) }
+    ensures { OnOk result (out.new ≡ out.old ++ run_text step script histories.now (option_copied part.entry)) }
 {
     let Some(part) = part else {
         return put_word(out, "\n");
@@ -146,7 +146,7 @@ fn put_handle(
     histories: &[History],
     rules: Option<&RulesPart>,
 ) -> Result<(), NoMemory>
-    ensures { OnOk result (out.new ≡ out.old ++ handle_text step handler n histories.now (option_copied rules)) }
+    ensures { OnOk result (out.new ≡ out.old ++ handle_text step handler n histories.now (option_copied rules.entry)) }
 {
     let Some(rules) = rules else {
         return put_word(out, "\n");
@@ -171,7 +171,7 @@ fn put_watch(
     histories: &[History],
     line: Option<&MonitorLine>,
 ) -> Result<(), NoMemory>
-    ensures { OnOk result (out.new ≡ out.old ++ watch_text step monitor histories.now (option_copied line)) }
+    ensures { OnOk result (out.new ≡ out.old ++ watch_text step monitor histories.now (option_copied line.entry)) }
 {
     let Some(line) = line else {
         return put_word(out, "\n");
@@ -191,7 +191,7 @@ fn put_serve(
     histories: &[History],
     line: Option<&MonitorLine>,
 ) -> Result<(), NoMemory>
-    ensures { OnOk result (out.new ≡ out.old ++ serve_text step scenario.now monitor n histories.now (option_copied line)) }
+    ensures { OnOk result (out.new ≡ out.old ++ serve_text step scenario.now monitor n histories.now (option_copied line.entry)) }
 {
     let Some(line) = line else {
         return put_word(out, "\n");

@@ -1,7 +1,7 @@
 -- Parts of lists that end where the list does.
-use Rattle.std.proofs.Common.{ℕ, zero, suc, ◌≡◌, ◌+◌, ◌<◌, ◌≤◌, ◌⊎◌, inl, inr, List, [], ◌∷◌, ◌++◌, Option, Some, None, refl, ap, sym, ◌∙◌, arith, length, take, drop}
-use Rattle.std.specs.Prelude.{slice_get, min, count_by, Bool, true, false, cond}
-use Rattle.std.proofs.lemmas.Bool.Decides.{nat_tests}
+use Rattle.std.proofs.Common.{ℕ, zero, suc, Bool, true, false, cond, length-append, ◌≡◌, ◌+◌, ◌<◌, ◌≤◌, ◌⊎◌, inl, inr, List, [], ◌∷◌, ◌++◌, Option, Some, None, refl, ap, sym, ◌∙◌, arith, length, take, drop}
+use Rattle.std.specs.Prelude.{slice_get, min, count_by, filter}
+use Rattle.std.proofs.lemmas.List.Sums.{length-filter}
 use Rattle.std.proofs.lemmas.Bool.{cases_lt}
 
 pub get_nil : {X : Type 0} (n : ℕ) → slice_get {X = X} [] n ≡ None
@@ -37,9 +37,15 @@ append_nil [] = refl
 append_nil {X} (x ∷ xs) = ap (λ (l : List X). x ∷ l) (append_nil xs)
 
 -- How many pass, of two lists.
-plus_assoc : (a b c : ℕ) → a + (b + c) ≡ a + b + c
-plus_assoc a b c = omega arith
+filter_step : {X : Type 0} (x : X) (a b : List X) (t : Bool) → cond t (x ∷ (a ++ b)) (a ++ b) ≡ cond t (x ∷ a) a ++ b
+filter_step x a b true = refl
+filter_step x a b false = refl
+
+filter_append : {X : Type 0} (test : X → Bool) (xs ys : List X) → filter test (xs ++ ys) ≡ filter test xs ++ filter test ys
+filter_append test [] ys = refl
+filter_append {X} test (x ∷ xs) ys = ap (λ (l : List X). cond (test x) (x ∷ l) l) (filter_append test xs ys) ∙ filter_step x (filter test xs) (filter test ys) (test x)
 
 pub count_append : {X : Type 0} (test : X → Bool) (xs ys : List X) → count_by test (xs ++ ys) ≡ count_by test xs + count_by test ys
-count_append test [] ys = refl
-count_append {X} test (x ∷ xs) ys = grind (arith, count_append test xs ys)
+count_append {X} test xs ys =
+    sym (length-filter test (xs ++ ys)) ∙ ap (λ (l : List X). length l) (filter_append test xs ys) ∙ length-append (filter test xs) (filter test ys)
+    ∙ ap (λ (n : ℕ). n + length (filter test ys)) (length-filter test xs) ∙ ap (λ (n : ℕ). count_by test xs + n) (length-filter test ys)

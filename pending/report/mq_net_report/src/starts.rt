@@ -1,5 +1,5 @@
 //! The scripts that a monitor began.
-ghost use Rattle.std.specs.Prelude.{◌≡◌, ◌==◌, ◌&&◌, ◌++◌, ◌+◌, if◌then◌else◌, IfOk, IfSome};
+ghost use Rattle.std.specs.Prelude.{◌≡◌, ◌==◌, ◌&&◌, ◌++◌, ◌+◌, if◌then◌else◌, IfOk, IfSome, ◌≤◌, length};
 ghost use Rattle.std.specs.Str.{bytes_eq};
 ghost use Rattle.mq_name.specs.Name.{trimmed};
 ghost use Rattle.mq_heads.specs.Headers.{tm_read};
@@ -13,7 +13,8 @@ use mq_history::{Entry, Reply, Scenario, ScriptPart};
 
 /// A field's text without the blanks at its end.
 fn trimmed(field: &[u8]) -> &[u8]
-    ensures { result.now ≡ trimmed field.now }
+    ensures text { result.now ≡ trimmed field.now }
+    ensures within { length result.now ≤ length field.now }
 {
     let mut len = field.len();
     'trimming: while len > 0 && field[len - 1] == b' ' {
@@ -42,6 +43,13 @@ fn script_at(scripts: &[ScriptPart], manager: u64, label: &[u8]) -> Option<usize
     None
 }
 
+/// Whether two numbers are both 0.
+fn are_none(a: usize, b: usize) -> bool
+    ensures { result ≡ (a + b == 0) }
+{
+    a == 0 && b == 0
+}
+
 /// Whether a script has done no line, in these entries and those since.
 #[tactic(auto, using(crate::proofs::PartLaws::count_append))]
 fn is_fresh(script: Option<usize>, before: &[Entry], since: &[Entry]) -> bool
@@ -49,9 +57,10 @@ fn is_fresh(script: Option<usize>, before: &[Entry], since: &[Entry]) -> bool
 {
     match script {
         None => false,
-        Some(script) => {
-            count_lines(script as u64, before) == 0 && count_lines(script as u64, since) == 0
-        }
+        Some(script) => are_none(
+            count_lines(script as u64, before),
+            count_lines(script as u64, since),
+        ),
     }
 }
 
@@ -115,8 +124,8 @@ pub fn starts_in(
     let mut starts = 0;
     'starting: for (at, entry) in entries.iter().enumerate() {
         let (since, _) = entries.split_at(at);
-        let is_start = is_start(scenario, monitor, manager, before, since, entry);
-        let Some(sum) = count_if(is_start, starts) else {
+        let begun = is_start(scenario, monitor, manager, before, since, entry);
+        let Some(sum) = count_if(begun, starts) else {
             return Err(NoMemory);
         };
         starts = sum;
