@@ -1,12 +1,13 @@
 -- The last entry, and trigger turns one after the other.
-use Rattle.std.proofs.Common.{◌≡◌, ℕ, zero, suc, ◌+◌, ◌-◌, ◌<◌, ◌≤◌, refl, sym, ap, subst, ◌∙◌, List, [], ◌∷◌, ◌++◌, length, Bool, true, false, arith}
+use Rattle.std.proofs.Common.{◌≡◌, ℕ, zero, suc, ◌+◌, ◌-◌, ◌<◌, ◌≤◌, refl, sym, ap, subst, ◌∙◌, List, [], ◌∷◌, ◌++◌, length, ◌^◌, Bool, true, false, ◌||◌, nat_le, arith}
+use Rattle.std.proofs.lemmas.Bool.Decides.{nat_tests}
 use Rattle.std.specs.Prelude.{Option, Some, None, slice_get, Result, Ok, Err}
 use Rattle.std.specs.List.{AllByRecursion}
 use Rattle.std.proofs.lemmas.List.{append_assoc}
 use Rattle.mq_base.specs.declared.want.NoMemory.{NoMemory as Want}
 use Rattle.mq_history.specs.declared.calls.Call.TheVariants as calls
 use Rattle.mq_spec_node.specs.Terms.{Actor, Entry, History}
-use Rattle.mq_spec_node.specs.Words.{Grows, NodeValue, more_entries}
+use Rattle.mq_spec_node.specs.Words.{Grows, NodeValue, more_entries, is_spent}
 use Rattle.mq_events.specs.States.{NodeState, value_of, last_actor}
 use Rattle.mq_events.specs.Events.{Adds, Stays, AreTurns, Serves, ServesOne}
 
@@ -73,3 +74,21 @@ pub serves_wanted : (a b c : NodeState) (r : Result Bool Want) → Serves a b �
 serves_wanted a b c (Ok true) s o = serves_more a b c s o
 serves_wanted a b c (Ok false) s o = serves_still a b c s o.0
 serves_wanted a b c (Err e) s o = serves_still a b c s o
+
+-- Each turn counts for the end of the loop.
+long_more : (xs : List Entry) (e : Entry) → length (xs ++ e ∷ []) ≡ length xs + 1
+long_more [] e = refl
+long_more (x ∷ xs) e = let h = long_more xs e in omega (arith, h)
+
+no_first : (a b : Bool) → (a || b) ≡ false → a ≡ false
+no_first true b h = h
+no_first false b h = refl
+
+few : (n m : ℕ) → nat_le n m ≡ false → m < n
+few n m h = grind (arith, nat_tests)
+
+pub turn_counts : (a b : NodeState) → is_spent (value_of a) ≡ false → ServesOne a (Ok true) b → (2 ^ 48 - length b.history.entries) < (2 ^ 48 - length a.history.entries)
+turn_counts a b may o =
+    let more : length b.history.entries ≡ length a.history.entries + 1 = ap (λ (h : History). length h.entries) o.2.grows.history ∙ long_more a.history.entries o.1 in
+    let room : length a.history.entries < 2 ^ 48 = few (2 ^ 48) (length a.history.entries) (no_first (nat_le (2 ^ 48) (length a.history.entries)) (nat_le (2 ^ 60) a.stamp) may) in
+    omega (arith, more, room)

@@ -110,6 +110,7 @@ impl<D: Disk> NodeParts<D> {
     /// # Errors
     ///
     /// No memory, or the last of all its events was one of them; the turns stand.
+    #[tactic(auto, using(crate::proofs::AroundLaws::done_served))]
     fn ready(&mut self) -> Result<(), NoMemory>
         requires kept { IsKept self.old }
         ensures kept { IsKept self.new }

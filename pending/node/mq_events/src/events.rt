@@ -198,7 +198,7 @@ impl<D: Disk> NodeParts<D> {
     /// # Errors
     ///
     /// No memory; the turns before stand.
-    #[tactic(auto, using(crate::proofs::LastLaws::serves_none, crate::proofs::LastLaws::serves_more, crate::proofs::LastLaws::serves_still))]
+    #[tactic(auto, using(crate::proofs::LastLaws::serves_none, crate::proofs::LastLaws::serves_more, crate::proofs::LastLaws::serves_still, crate::proofs::LastLaws::turn_counts))]
     pub fn serve(&mut self) -> Result<(), NoMemory>
         requires kept { IsKept self.old }
         ensures kept { IsKept self.new }
