@@ -284,15 +284,18 @@ pub receives : (s : Scenario) (given : Ident → Bool) (ps qs : List Plain) (p :
     → IsNext t p (do_part (received_part c u last x p) p) ps qs → IsReceipt s given ps p l g m t c u ms → Inv (world_of s given ps) g (book_of l)
     → (taken_of (landed c ms p) ≡ ms)
     × Receipt s given qs (do_part (received_part c u last x p) p) l (post_call t calls.Turn reply ms (received_part c u last x p).delta (take_all_gone t (received_part c u last x p).delta l)) g m t c u
-receives s given ps qs p l g m t c u last ms x reply e n r h = (ap taken_of e ∙ y.taken, record {
-  lands = y.lands;
-  inv = subst (λ (k : Ledger). Inv (world_of s given qs) (ghost_receive g m c u t (tag_idents (g.sent m c u)) y.lands) (book_of k)) (sym posted) inv;
-  fresh = λ i f. r.fresh i (sym (ap (unborn_at i) (done_is c u last x p) ∙ (λ j. unborn_by (y.aside.given j) (y.aside.numbers j) i)) ∙ f);
-  told = subst (λ (k : Ledger). IsTold t done k) (sym posted) (subst (λ (z : Plain). IsTold t z k) (sym (done_is c u last x p)) told_q);
-  timed = record { users = r.timed.users; used = ap (λ us. slice_get us t) users ∙ r.timed.used; moment = r.timed.moment ∙ sym (ap (λ (z : Plain). z.moment) (done_is c u last x p) ∙ y.aside.moment) };
-  others = λ a z f told. subst (λ (k : Ledger). IsTold a z k) (sym posted) (receipt_told t a z c ms ds l told);
-  users = users;
-})
+receives s given ps qs p l g m t c u last ms x reply e n r h = (
+  ap taken_of e ∙ y.taken,
+  record {
+    lands = y.lands;
+    inv = subst (λ (k : Ledger). Inv (world_of s given qs) (ghost_receive g m c u t (tag_idents (g.sent m c u)) y.lands) (book_of k)) (sym posted) inv;
+    fresh = λ i f. r.fresh i (sym (ap (unborn_at i) (done_is c u last x p) ∙ (λ j. unborn_by (y.aside.given j) (y.aside.numbers j) i)) ∙ f);
+    told = subst (λ (k : Ledger). IsTold t done k) (sym posted) (subst (λ (z : Plain). IsTold t z k) (sym (done_is c u last x p)) told_q);
+    timed = record { users = r.timed.users; used = ap (λ us. slice_get us t) users ∙ r.timed.used; moment = r.timed.moment ∙ sym (ap (λ (z : Plain). z.moment) (done_is c u last x p) ∙ y.aside.moment) };
+    others = λ a z f told. subst (λ (k : Ledger). IsTold a z k) (sym posted) (receipt_told t a z c ms ds l told);
+    users = users;
+  },
+)
   where
     done : Plain
     done = do_part (received_part c u last x p) p

@@ -52,12 +52,14 @@ pub follows : (s : Scenario) (given : Ident → Bool) (a : ℕ) (p q : Plain) (p
     → (o : Moved g (world_of s f.now qs) (book_of k)) × IsJoint (world_of s f.now qs) (with_owner g o.owner) (book_of k) m t c x y
 follows s given a p q ps qs l k g n told f m t c x y j =
     let o = follows_on s given a p q ps qs l k g n told f j.inv in
-    let near : IsNear p q = record { given = f.same.given; receivers = λ d. ap (λ rs. last_unit_of (receiver_in d rs)) f.same.receivers } in
-    (o, record {
-      inv = o.inv;
-      tied = tied_on (world_of s given ps) (world_of s f.now qs) g (with_owner g o.owner) m t c x y (holds_same a m p q ps qs c n f.same) (doubt_same a m p q ps qs c n f.same) (lasts s a p q ps qs c m n near) (λ u. refl) (λ u. refl) j.tied;
-      begun = j.begun;
-    })
+    let near : IsNear p q = record { given = f.same.given; receivers = λ d. ap (λ rs. last_unit_of (receiver_in d rs)) f.same.receivers } in (
+      o,
+      record {
+        inv = o.inv;
+        tied = tied_on (world_of s given ps) (world_of s f.now qs) g (with_owner g o.owner) m t c x y (holds_same a m p q ps qs c n f.same) (doubt_same a m p q ps qs c n f.same) (lasts s a p q ps qs c m n near) (λ u. refl) (λ u. refl) j.tied;
+        begun = j.begun;
+      },
+    )
 
 -- TURNS OF OTHER ENDS
 pub senders_others : (z : Scene) (v : World) (x : Channel) (y : Past) → (r : Turned z v x y) → (m t : ℕ) (c : List ℕ) (k : Channel) (l : Past) → is_here z.sender z.place.channel m c ≡ false → IsJoint (world_in z) z.ghost z.book m t c k l → IsJoint v r.ghost z.book m t c k l
