@@ -65,11 +65,11 @@ use Rattle.mq_queue.specs.Rows.{is_free}
 
 -- Parts behind parts
 
-all_then : (xs ys : List Part) (p : Plain) → AllKeep IsSound xs p → AllKeep IsSound ys (do_all xs p) → AllKeep IsSound (xs ++ ys) p
+pub all_then : (xs ys : List Part) (p : Plain) → AllKeep IsSound xs p → AllKeep IsSound ys (do_all xs p) → AllKeep IsSound (xs ++ ys) p
 all_then [] ys p k l = l
 all_then (x ∷ xs) ys p k l = (k.0, all_then xs ys (do_part x p) k.1 l)
 
-leave_sound : (c : List ℕ) (p : Plain) → IsSound p → StepKeeps IsSound (leave c p) p
+pub leave_sound : (c : List ℕ) (p : Plain) → IsSound p → StepKeeps IsSound (leave c p) p
 leave_sound c p h = joined (leave c p) p h (leave_keeps c p h.facts) (leave_stocked c p h.stocked)
 
 leaving_sound : (c : List ℕ) (st : SenderState) (p q : Plain) → IsSound q → AllKeep IsSound (leave_if_stopped c st p) q
@@ -82,7 +82,7 @@ step_then (Do reply parts) c st p h k = all_then parts (leave_if_stopped c st p)
 
 -- What a sender's end asks
 
-hardens_sound : (c : List ℕ) (note : Note) (p : Plain) → IsSound p → Keeps (harden c note p) p → StepKeeps IsSound (harden c note p) p
+pub hardens_sound : (c : List ℕ) (note : Note) (p : Plain) → IsSound p → Keeps (harden c note p) p → StepKeeps IsSound (harden c note p) p
 hardens_sound c note p h k = joined (harden c note p) p h k (harden_stocked c note p h.stocked)
 
 holds_sound : (c : List ℕ) (unit : Luw) (most : ℕ) (p : Plain) → IsSound p → batch_of c p.channels.batches ≡ None → in_doubt_of (sender_data c p) ≡ None → StepKeeps IsSound (hold_batch c unit most p) p
@@ -94,7 +94,7 @@ holds_sound c unit most p h batch doubt =
       tt,
     ) (hold_stocked c unit most p h.stocked)
 
-releases_sound : (c : List ℕ) (p : Plain) → IsSound p → StepKeeps IsSound (release_batch c p) p
+pub releases_sound : (c : List ℕ) (p : Plain) → IsSound p → StepKeeps IsSound (release_batch c p) p
 releases_sound c p h = joined (release_batch c p) p h (release_batch_keeps c p h.facts) (release_stocked c p h.facts h.stocked)
 
 -- the unit that the machine knows to be in doubt
@@ -185,7 +185,7 @@ senders_sound w n x y stamp seen s f h o = sender_by w n x y stamp seen (sender_
 
 -- What a receiver's end asks
 
-words_sound : (c : List ℕ) (note : Note) (is : Bool) (p : Plain) → IsSound p → StepKeeps IsSound (harden c note p) p → AllKeep IsSound (parts_of (harden c note p) ++ parts_of (set_bound c is p)) p
+pub words_sound : (c : List ℕ) (note : Note) (is : Bool) (p : Plain) → IsSound p → StepKeeps IsSound (harden c note p) p → AllKeep IsSound (parts_of (harden c note p) ++ parts_of (set_bound c is p)) p
 words_sound c note is p h k = all_then (parts_of (harden c note p)) (parts_of (set_bound c is p)) p k
     (let q : Plain = do_all (parts_of (harden c note p)) p in let s : IsSound q = done (parts_of (harden c note p)) p h k in joined (set_bound c is q) q s (set_bound_keeps c is q s.facts) (bound_stocked c is q s.stocked))
 
