@@ -1,6 +1,4 @@
 -- What an image is, as those ask it who build from it.
-use Rattle.std.proofs.Common.{◌≡◌}
-use Rattle.mq_objects.specs.declared.object.Definitions.{Definitions}
 use Rattle.mq_spec_state.specs.Images.{Image}
 use Rattle.mq_spec_state.specs.Recovery.{IsImage}
 use Rattle.mq_rebuild.specs.Rebuilt.{AreOnce, IsRead}

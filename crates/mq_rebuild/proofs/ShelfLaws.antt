@@ -1,6 +1,6 @@
 -- Queues that are built shelf by shelf are those that the image tells.
-use Rattle.std.proofs.Common.{◌≡◌, ℕ, ◌+◌, ◌<◌, ◌≤◌, ◌^◌, Bool, true, false, cond, List, [], ◌∷◌, ◌++◌, length, refl, ap, arith, sym, subst, ◌∙◌, append_assoc, append-nil}
-use Rattle.std.specs.Prelude.{ℤ, Option, Some, None, map, All, AllPairs, slice_index_or}
+use Rattle.std.proofs.Common.{◌≡◌, ℕ, ◌+◌, ◌≤◌, false, List, [], ◌∷◌, ◌++◌, refl, ap, arith, sym, subst, ◌∙◌, append_assoc, append-nil}
+use Rattle.std.specs.Prelude.{Option, Some, None, map, All, AllPairs, slice_index_or}
 use Rattle.std.specs.List.{AllByRecursion}
 use Rattle.std.specs.Str.{bytes_eq}
 use Rattle.std.proofs.lemmas.List.Elements.{recursion_from_All}
@@ -14,10 +14,10 @@ use Rattle.mq_objects.specs.Names.{local_of}
 use Rattle.mq_spec_state.specs.Changes.{lane_of}
 use Rattle.mq_spec_state.specs.Images.{Shelf, numbered}
 use Rattle.mq_spec_state.specs.Recovery.{AreApart}
-use Rattle.mq_place.specs.States.{QueueState, state_in, IsNowhere}
-use Rattle.mq_rebuild.specs.Rebuilt.{is_laned, state_on, shelf_defined, shelf_added, shelves_added, CanAddShelf, CanAddShelves, IsRead}
+use Rattle.mq_place.specs.States.{QueueState, IsNowhere}
+use Rattle.mq_rebuild.specs.Rebuilt.{is_laned, state_on, shelf_added, shelves_added, CanAddShelves, IsRead}
 use Rattle.mq_rebuild.proofs.FrontLaws.{Fronts, fronts}
-use Rattle.mq_rebuild.proofs.RowLaws.{other_way, AreOther, none_in, with_rows, IsLaned, IsBehind, rows_laid, rows_can}
+use Rattle.mq_rebuild.proofs.RowLaws.{other_way, AreOther, none_in, IsLaned, IsBehind, rows_laid, rows_can}
 
 -- ---- shelves beside those in front of them
 
