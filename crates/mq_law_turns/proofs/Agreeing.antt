@@ -1,8 +1,7 @@
 -- Operators and receivers agree where there is no conflict: no unit is committed that an operator has backed out, nor the other way.
-use Rattle.std.proofs.Common.{ℕ, ◌≡◌, ◌≢◌, ◌⊎◌, Bool, true, false, not, List, [], ◌∷◌, ◌++◌, refl, ap, sym, subst, ◌∙◌, inl, inr}
-use Rattle.std.specs.Prelude.{Option, Some, None, ◌&&◌, ◌||◌, if◌then◌else◌}
+use Rattle.std.proofs.Common.{ℕ, ◌≡◌, ◌≢◌, Bool, true, false, List, [], ◌∷◌, ◌++◌, refl, ap, sym, subst, ◌∙◌, inl, inr}
+use Rattle.std.specs.Prelude.{◌&&◌, ◌||◌, if◌then◌else◌}
 use Rattle.std.specs.List.{list_any}
-use Rattle.std.specs.Str.{bytes_eq}
 use Rattle.mq_sync.specs.declared.unit.Unit.{Unit as Luw}
 use Rattle.mq_sync.specs.declared.unit.Settle.TheVariants as settles
 use Rattle.mq_sync.specs.declared.data.InDoubt.{InDoubt}
@@ -24,7 +23,6 @@ use Rattle.mq_spec_network.specs.Conflict.{Deed, NoConflict, commits, committed_
 use Rattle.mq_spec_network.specs.Standing.{opening_managers}
 use Rattle.mq_spec_network.specs.Story.{Line, Mem}
 use Rattle.mq_law_channel.specs.Channel.{Channel, Past}
-use Rattle.mq_law_channel.specs.Facts.{marked}
 use Rattle.mq_law_channel.specs.Turns.{ReceiverTurn, SenderTurn, emptied, past_resolved, past_turned, receiver_does, receiver_turn, receiver_turned, released, resolved, sender_does, sender_past, sender_turn, sender_turned}
 use Rattle.mq_law_channel.proofs.Told.{unit_self, unit_yes}
 use Rattle.mq_law_rows.proofs.Lists.{bool_case, is_false, name_self, true_false}

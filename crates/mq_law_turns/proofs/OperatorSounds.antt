@@ -1,6 +1,6 @@
 -- What holds of a manager holds behind each command of an operator on an end of its.
-use Rattle.std.proofs.Common.{ℕ, ◌≡◌, ◌≢◌, ◌-◌, Bool, true, false, not, List, [], ◌∷◌, ◌++◌, refl, ap, sym, subst, ◌∙◌}
-use Rattle.std.specs.Prelude.{Option, Some, None, ◌&&◌, if◌then◌else◌, is_some}
+use Rattle.std.proofs.Common.{ℕ, ◌≡◌, ◌-◌, true, false, not, List, [], ◌∷◌, ◌++◌, refl, ap}
+use Rattle.std.specs.Prelude.{Option, Some, None, if◌then◌else◌}
 use Rattle.std.specs.Option.{option_map}
 use Rattle.mq_sync.specs.declared.unit.Settle.{Settle}
 use Rattle.mq_sync.specs.declared.data.End.TheVariants as end_kinds
@@ -17,7 +17,7 @@ use Rattle.mq_calls.specs.declared.agents.SeizeFault.{SeizeFault}
 use Rattle.mq_calls.specs.declared.state.Batch.{Batch}
 use Rattle.mq_spec_state.specs.State.{Plain}
 use Rattle.mq_spec_state.specs.Reads.{batch_of, in_doubt_of, is_up, receiver_data, sender_data}
-use Rattle.mq_spec_state.specs.Steps.{Part, Step, do_all, refusal, when}
+use Rattle.mq_spec_state.specs.Steps.{Step, do_all, refusal, when}
 use Rattle.mq_spec_state.specs.Steps.Step.{Refuse, Do}
 use Rattle.mq_spec_agents.specs.Conditions.{unit_of}
 use Rattle.mq_spec_agents.specs.Words.{harden, leave, release_batch, seize, set_bound}
