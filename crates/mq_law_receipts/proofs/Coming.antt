@@ -1,5 +1,5 @@
 -- A message that a channel brings: it stands nowhere at the manager, or in a row of a unit in doubt, which goes.
-use Rattle.std.proofs.Common.{ℕ, ◌≡◌, ◌≢◌, Bool, true, false, not, List, [], ◌∷◌, ◌++◌, refl, ap, sym, subst, ◌∙◌, inl, inr}
+use Rattle.std.proofs.Common.{ℕ, ◌≡◌, Bool, true, false, not, List, [], ◌∷◌, refl, ap, sym, ◌∙◌, inl, inr}
 use Rattle.std.specs.Prelude.{Option, Some, None, if◌then◌else◌, ◌&&◌, ◌||◌}
 use Rattle.std.specs.List.{list_any}
 use Rattle.std.specs.Str.{bytes_eq}
@@ -7,20 +7,19 @@ use Rattle.mq_message.specs.declared.message.Ident.{Ident}
 use Rattle.mq_message.specs.declared.message.Message.{Message}
 use Rattle.mq_message.specs.declared.place.Holder.TheVariants as holders
 use Rattle.mq_queue.specs.declared.row.Row.{Row}
-use Rattle.mq_queue.specs.Rows.{same_ident, insert_row, keep}
+use Rattle.mq_queue.specs.Rows.{same_ident, keep}
 use Rattle.mq_sync.specs.declared.data.InDoubt.{InDoubt}
 use Rattle.mq_sync.specs.declared.unit.Unit.{Unit as Luw}
-use Rattle.mq_objects.specs.declared.object.Definitions.{Definitions}
 use Rattle.mq_calls.specs.declared.state.Connection.{Connection}
-use Rattle.mq_spec_state.specs.State.{Batch, Given, Numbers, Plain, ReceiverSide}
+use Rattle.mq_spec_state.specs.State.{Batch, Plain}
 use Rattle.mq_spec_state.specs.State.Which.{Among}
 use Rattle.mq_spec_state.specs.State.Change.{Leave, Undoubt}
 use Rattle.mq_spec_state.specs.Reads.{batch_of, in_doubt_of, is_persistent, sender_data, sender_in, stored}
 use Rattle.mq_spec_state.specs.Changes.{apply, apply_all, less_ident}
-use Rattle.mq_spec_agents.specs.Words.{RowAt, row_of, doubts, is_doubted_by, Standing, Absent, InDoubtAt, Present, same_flag, standing_by, has_put, is_pending, is_unborn, standing_at, is_present, drop_row, undoubted, drop_changes}
+use Rattle.mq_spec_agents.specs.Words.{RowAt, row_of, doubts, is_doubted_by, Standing, Absent, InDoubtAt, Present, same_flag, standing_by, has_put, is_pending, is_unborn, standing_at, is_present, undoubted, drop_changes}
 use Rattle.mq_spec_network.specs.Story.{Mem}
 use Rattle.mq_law_rows.specs.Kinds.{among}
-use Rattle.mq_law_rows.proofs.Lists.{bool_case, is_false, true_false, ident_yes, ident_self, name_self, and_false, keep_same, keep_all}
+use Rattle.mq_law_rows.proofs.Lists.{bool_case, is_false, ident_yes, name_self, and_false, keep_same, keep_all}
 use Rattle.mq_law_rows.proofs.Receiving.{any_mem, mem_any}
 use Rattle.mq_law_manager.specs.Facts.{AreNamed, IsOf, Sound}
 use Rattle.mq_law_manager.proofs.Named.{doubt_less}

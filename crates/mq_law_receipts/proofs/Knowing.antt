@@ -1,8 +1,7 @@
 -- What the facts of a network say of a batch that comes: where its idents are, and what the ledger has of it.
-use Rattle.std.proofs.Common.{ℕ, ◌≡◌, ◌≢◌, ◌+◌, Bool, true, false, not, List, [], ◌∷◌, refl, ap, sym, subst, ◌∙◌, zero, suc, inl, inr, map}
-use Rattle.std.specs.Prelude.{Option, Some, None, ◌==◌, if◌then◌else◌, ◌&&◌, ◌||◌, slice_get, is_some, find}
+use Rattle.std.proofs.Common.{ℕ, ◌≡◌, ◌≢◌, Bool, true, false, not, List, [], ◌∷◌, refl, ap, sym, subst, ◌∙◌, suc, inl, inr, map}
+use Rattle.std.specs.Prelude.{Option, Some, None, if◌then◌else◌, ◌&&◌, ◌||◌, slice_get, is_some}
 use Rattle.std.specs.List.{list_any}
-use Rattle.std.specs.Str.{bytes_eq}
 use Rattle.mq_message.specs.declared.message.Ident.{Ident}
 use Rattle.mq_message.specs.declared.message.Message.{Message}
 use Rattle.mq_message.specs.declared.place.Holder.{Holder}
@@ -11,28 +10,26 @@ use Rattle.mq_queue.specs.declared.row.Row.{Row}
 use Rattle.mq_queue.specs.Rows.{same_ident}
 use Rattle.mq_sync.specs.declared.unit.Unit.{Unit as Luw}
 use Rattle.mq_sync.specs.declared.data.InDoubt.{InDoubt}
-use Rattle.mq_sync.specs.Units.{same_unit}
 use Rattle.mq_calls.specs.declared.state.Connection.{Connection}
 use Rattle.mq_calls.specs.declared.state.Item.{Item}
 use Rattle.mq_calls.specs.declared.state.Item.TheVariants.{Put, Take}
 use Rattle.mq_history.specs.declared.scenario.Scenario.{Scenario}
 use Rattle.mq_history.specs.declared.story.ManagerPlaces.{ManagerPlaces}
 use Rattle.mq_spec_state.specs.State.{Batch, Plain}
-use Rattle.mq_spec_state.specs.Reads.{batch_of, connection_at, in_doubt_of, is_persistent, sender_data, stored}
+use Rattle.mq_spec_state.specs.Reads.{batch_of, connection_at, in_doubt_of, is_persistent, sender_data}
 use Rattle.mq_spec_agents.specs.Words.{has_put, is_pending, is_unborn}
-use Rattle.mq_spec_network.specs.Ledger.{Ledger, idents_of, is_admitted, ledger_rows, own_or, own_row, places_or, row_at, row_in, rows_in, unit_of}
+use Rattle.mq_spec_network.specs.Ledger.{Ledger, idents_of, ledger_rows, own_or, places_or, row_at, row_in, rows_in, unit_of}
 use Rattle.mq_spec_network.specs.Story.{Mem}
-use Rattle.mq_law_rows.specs.World.{Gone, Ghost, Book, InBatch, InUnit, Inv, IsPlaced, Forced, Tag, Unborn, World, away, got_idents, is_last, put_idents, stands, tag_idents, tag_of}
-use Rattle.mq_law_rows.specs.Kinds.{Commits, awaits}
-use Rattle.mq_law_rows.proofs.Lists.{and_left, and_right, bool_case, eqb_self, is_false, true_false, ident_yes, mem_map}
+use Rattle.mq_law_rows.specs.World.{Gone, Ghost, InBatch, InUnit, Inv, IsPlaced, Forced, Tag, Unborn, World, away, is_last, put_idents, stands, tag_idents, tag_of}
+use Rattle.mq_law_rows.specs.Kinds.{awaits}
+use Rattle.mq_law_rows.proofs.Lists.{and_left, bool_case, eqb_self, is_false, true_false, ident_yes, mem_map}
 use Rattle.mq_law_rows.proofs.Owners.{standing_row}
 use Rattle.mq_law_rows.proofs.Receiving.{any_mem, holds_means, in_batch_or_forced, luw_self, mine_claim}
 use Rattle.mq_law_seen.specs.Seen.{book_of, doubt_of, rows_of, units_of, world_of}
 use Rattle.mq_law_seen.proofs.Receipts.{admitted}
-use Rattle.mq_law_manager.specs.Facts.{Sound}
-use Rattle.mq_law_events.specs.Tied.{AreShelved, IsFresh}
+use Rattle.mq_law_events.specs.Tied.{AreShelved}
 use Rattle.mq_law_events.proofs.Moving.{InShelves, row_in_is}
-use Rattle.mq_law_receipts.specs.Receipts.{AreNumbered, IsReceipt, worded}
+use Rattle.mq_law_receipts.specs.Receipts.{AreNumbered, IsReceipt}
 use Rattle.mq_law_receipts.proofs.Coming.{Comes}
 use Rattle.mq_law_receipts.proofs.Landing.{IsOwn, uncounted}
 

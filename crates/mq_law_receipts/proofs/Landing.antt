@@ -1,6 +1,6 @@
 -- A batch that lands, message by message: its rows go from where they wait, then each stands where the ledger places it.
 use Rattle.std.proofs.Common.{ℕ, ◌≡◌, ◌+◌, Bool, true, false, not, List, [], ◌∷◌, ◌++◌, refl, ap, sym, subst, ◌∙◌, length, inl, inr, map}
-use Rattle.std.specs.Prelude.{Option, Some, None, Result, Ok, Err, ◌==◌, if◌then◌else◌, ◌&&◌, ◌||◌, pos, ℤ}
+use Rattle.std.specs.Prelude.{Option, Some, None, Result, Ok, Err, if◌then◌else◌, ◌&&◌, ◌||◌, pos, ℤ}
 use Rattle.std.specs.Str.{bytes_eq}
 use Rattle.mq_codes.specs.declared.reason.Reason.{Reason}
 use Rattle.mq_message.specs.declared.message.Ident.{Ident}
@@ -13,10 +13,9 @@ use Rattle.mq_resolve.specs.declared.route.Route.{Route}
 use Rattle.mq_resolve.specs.Resolved.{resolve}
 use Rattle.mq_calls.specs.declared.deltas.Did.{Did}
 use Rattle.mq_calls.specs.declared.deltas.Did.TheVariants as did
-use Rattle.mq_history.specs.declared.story.ManagerPlaces.{ManagerPlaces}
 use Rattle.mq_sync.specs.declared.unit.Unit.{Unit as Luw}
 use Rattle.mq_spec_state.specs.State.{Plain}
-use Rattle.mq_spec_state.specs.Reads.{is_persistent, stored}
+use Rattle.mq_spec_state.specs.Reads.{stored}
 use Rattle.mq_spec_state.specs.Changes.{apply_all, lane_of, new_row}
 use Rattle.mq_spec_state.specs.Steps.{refusal}
 use Rattle.mq_spec_manager.specs.Put.{placed}
@@ -29,9 +28,9 @@ use Rattle.mq_spec_network.specs.Story.{Mem}
 use Rattle.mq_law_rows.specs.Families.{is_here}
 use Rattle.mq_law_rows.specs.World.{LanesRise, tag_of}
 use Rattle.mq_law_rows.specs.Kinds.{Landing, among, landing_tag, landing_told, place_all}
-use Rattle.mq_law_rows.proofs.Lists.{bool_case, is_false, true_false, ident_yes, ident_self, ident_back, eqb_self, name_yes, keep_all, keep_insert, keep_swap, mem_insert, mem_keep, mem_map, sorted_insert, sorted_keep}
+use Rattle.mq_law_rows.proofs.Lists.{bool_case, is_false, true_false, ident_self, ident_back, eqb_self, name_yes, keep_all, keep_insert, keep_swap, mem_insert, mem_keep, mem_map, sorted_insert, sorted_keep}
 use Rattle.mq_law_rows.proofs.Receiving.{any_mem, mem_any}
-use Rattle.mq_law_seen.proofs.Receipts.{Placing, landing_at, landing_if, landing_maybe, landings, place_maybe, placing, received_is, routed}
+use Rattle.mq_law_seen.proofs.Receipts.{landing_at, landing_if, landing_maybe, landings, place_maybe, placing, received_is, routed}
 use Rattle.mq_law_manager.specs.Facts.{AreNamed, Sound}
 use Rattle.mq_law_manager.specs.Seen.{row_for}
 use Rattle.mq_law_manager.proofs.QueueNames.{all_named}
@@ -40,7 +39,6 @@ use Rattle.mq_law_manager.proofs.Units.{behind}
 use Rattle.mq_law_events.specs.Posting.{IsTimed}
 use Rattle.mq_law_events.specs.Tied.{IsTold}
 use Rattle.mq_law_events.proofs.Putting.{place_told, placed_beside, placed_rows}
-use Rattle.mq_law_receipts.specs.Receipts.{worded}
 use Rattle.mq_law_receipts.proofs.Coming.{Comes, IsAside, aside_none, aside_then, beside_aside, comes_on, drop_aside, drop_rows, not_present}
 
 -- A message but for its count of backouts

@@ -1,6 +1,6 @@
 -- A receiver's commit as the kind that it is: the network and its ledger have the facts behind it.
-use Rattle.std.proofs.Common.{ℕ, ◌≡◌, ◌≢◌, ◌+◌, Bool, true, false, not, List, [], ◌∷◌, ◌++◌, refl, ap, sym, subst, ◌∙◌, zero, suc, inl, inr, map}
-use Rattle.std.specs.Prelude.{Option, Some, None, Result, Ok, Err, ◌==◌, if◌then◌else◌, ◌&&◌, slice_get, is_some}
+use Rattle.std.proofs.Common.{ℕ, ◌≡◌, ◌≢◌, ◌+◌, Bool, true, false, not, List, [], ◌∷◌, ◌++◌, refl, ap, sym, subst, ◌∙◌, map}
+use Rattle.std.specs.Prelude.{Option, Some, None, Ok, ◌==◌, if◌then◌else◌, ◌&&◌, slice_get, is_some}
 use Rattle.std.specs.Str.{bytes_eq}
 use Rattle.mq_codes.specs.declared.reason.Reason.{Reason}
 use Rattle.mq_message.specs.declared.message.Ident.{Ident}
@@ -11,32 +11,29 @@ use Rattle.mq_sync.specs.declared.unit.Unit.{Unit as Luw}
 use Rattle.mq_sync.specs.declared.data.InDoubt.{InDoubt}
 use Rattle.mq_sync.specs.declared.data.ReceiverData.{ReceiverData}
 use Rattle.mq_sync.specs.Settlement.{receiver_or}
-use Rattle.mq_sync.specs.Units.{no_unit}
 use Rattle.mq_calls.specs.declared.deltas.Did.{Did}
 use Rattle.mq_calls.specs.declared.deltas.Did.TheVariants as did
-use Rattle.mq_calls.specs.declared.image.Shelf.{Shelf}
 use Rattle.mq_calls.specs.declared.state.Batch.{Batch}
 use Rattle.mq_history.specs.declared.calls.Call.TheVariants as calls
 use Rattle.mq_history.specs.declared.calls.Reply.{Reply}
 use Rattle.mq_history.specs.declared.scenario.CableLine.{CableLine}
 use Rattle.mq_history.specs.declared.scenario.Scenario.{Scenario}
 use Rattle.mq_history.specs.declared.story.ManagerPlaces.{ManagerPlaces}
-use Rattle.mq_spec_state.specs.State.{Given, LogState, Numbers, Plain}
+use Rattle.mq_spec_state.specs.State.{Given, LogState, Plain}
 use Rattle.mq_spec_state.specs.State.Change.{SetReceiver}
-use Rattle.mq_spec_state.specs.Reads.{batch_of, connection_at, in_doubt_of, receiver_data, receiver_in, sender_data, stored}
+use Rattle.mq_spec_state.specs.Reads.{batch_of, connection_at, in_doubt_of, receiver_data, receiver_in, sender_data}
 use Rattle.mq_spec_state.specs.Changes.{apply, apply_all}
-use Rattle.mq_spec_state.specs.Steps.{do_part, logged, written}
+use Rattle.mq_spec_state.specs.Steps.{do_part, written}
 use Rattle.mq_spec_agents.specs.Words.{Landed, landed, received_part, received_record, taken_of}
 use Rattle.mq_spec_network.specs.Ledger as ledgers
-use Rattle.mq_spec_network.specs.Ledger.{Ledger, Users, dead_reason, idents_of, is_admitted, is_one_of, leave_queues, ledger_rows, move_all, own_row, place_list, place_received, places_at, post_call, receive_if, received_on, take_all_gone, take_everywhere, unit_of, when}
+use Rattle.mq_spec_network.specs.Ledger.{Ledger, dead_reason, idents_of, is_admitted, is_one_of, leave_queues, move_all, own_row, place_list, place_received, post_call, receive_if, take_all_gone, take_everywhere, unit_of, when}
 use Rattle.mq_spec_network.specs.Promised.{AreDistinct}
 use Rattle.mq_spec_network.specs.Standing.{cable_from, last_unit, last_unit_at, last_unit_of}
-use Rattle.mq_spec_network.specs.Story.{Mem}
 use Rattle.mq_law_rows.specs.Families.{is_here, put_at}
-use Rattle.mq_law_rows.specs.World.{Book, Ghost, Inv, LanesRise, Tag, World, tag_idents, tag_of}
-use Rattle.mq_law_rows.specs.Kinds.{Landing, among, book_receive, ghost_receive, landing_tag, landing_told, place_all}
+use Rattle.mq_law_rows.specs.World.{Book, Ghost, Inv, LanesRise, World, tag_idents}
+use Rattle.mq_law_rows.specs.Kinds.{Landing, among, book_receive, ghost_receive, landing_told, place_all}
 use Rattle.mq_law_rows.specs.Kinds as kinds
-use Rattle.mq_law_rows.proofs.Lists.{and_left, and_right, bool_case, eqb_self, eqb_yes, here_yes, is_false, keep_all, name_self, name_yes, true_false}
+use Rattle.mq_law_rows.proofs.Lists.{bool_case, eqb_self, eqb_yes, here_yes, is_false, keep_all, name_self, name_yes, true_false}
 use Rattle.mq_law_rows.proofs.Receiving as receiving
 use Rattle.mq_law_seen.specs.Seen.{book_of, doubt_of, held_unit, holds_of, last_of, rows_of, units_of, world_of}
 use Rattle.mq_law_seen.proofs.Receipts.{Placing, landings, mapped_get, place_maybe, placing, receipt_rows, received_is}
@@ -44,11 +41,11 @@ use Rattle.mq_law_manager.proofs.Named.{receiver_set}
 use Rattle.mq_law_manager.proofs.Receiving.{log_aside, with_log}
 use Rattle.mq_law_manager.proofs.Units.{behind}
 use Rattle.mq_law_events.specs.Posting.{IsTimed}
-use Rattle.mq_law_events.specs.Tied.{AreShelved, IsFresh, IsNext, IsTold, connections_told}
+use Rattle.mq_law_events.specs.Tied.{IsNext, IsTold, connections_told}
 use Rattle.mq_law_events.proofs.Putting.{place_told, unborn_by}
 use Rattle.mq_law_events.proofs.Telling.{else_changed, left_shelved}
 use Rattle.mq_law_receipts.specs.Receipts.{IsCabled, IsReceipt, Receipt}
-use Rattle.mq_law_receipts.proofs.Coming.{IsAside, doubt_unit}
+use Rattle.mq_law_receipts.proofs.Coming.{doubt_unit}
 use Rattle.mq_law_receipts.proofs.Knowing.{comes_in, idents_tagged, own_in}
 use Rattle.mq_law_receipts.proofs.Landing.{IsStill, Lands, batch_lands, dead_behind}
 

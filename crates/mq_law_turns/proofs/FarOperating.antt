@@ -1,9 +1,8 @@
 -- An operator's START, STOP and RESET at a receiver's end, as what they are of the network.
-use Rattle.std.proofs.Common.{ℕ, ◌≡◌, Bool, true, false, List, [], ◌∷◌, ◌++◌, refl, ap, sym, subst, ◌∙◌}
-use Rattle.std.specs.Prelude.{Option, Some, None, if◌then◌else◌, slice_get}
+use Rattle.std.proofs.Common.{ℕ, ◌≡◌, Bool, true, false, List, ◌++◌, refl, ◌∙◌}
+use Rattle.std.specs.Prelude.{if◌then◌else◌}
 use Rattle.mq_sync.specs.declared.data.End.TheVariants as ends
 use Rattle.mq_sync.specs.declared.data.ReceiverData.{ReceiverData}
-use Rattle.mq_sync.specs.declared.unit.Unit.{Unit as Luw}
 use Rattle.mq_calls.specs.declared.agents.Note.TheVariants as notes
 use Rattle.mq_spec_state.specs.State.{Plain}
 use Rattle.mq_spec_state.specs.Reads.{receiver_data}
@@ -11,7 +10,7 @@ use Rattle.mq_spec_state.specs.Changes.{apply_all}
 use Rattle.mq_spec_state.specs.Steps.{do_all, do_part}
 use Rattle.mq_spec_agents.specs.Words.{harden, harden_part, set_bound}
 use Rattle.mq_spec_network.specs.Ledger.{Ledger, change_at}
-use Rattle.mq_spec_node.specs.Node.{Node, ReceiverEnd}
+use Rattle.mq_spec_node.specs.Node.{Node}
 use Rattle.mq_spec_node.specs.Deeds.{parts_of}
 use Rattle.mq_spec_node.specs.Operators.{close_open, is_open}
 use Rattle.mq_sync.specs.Settlement.{receiver_or}
@@ -23,7 +22,7 @@ use Rattle.mq_law_seen.specs.Seen.{book_of, world_of}
 use Rattle.mq_law_events.specs.Tied.{IsNext}
 use Rattle.mq_law_batches.proofs.Wording.{stays, words}
 use Rattle.mq_law_node.specs.Ends.{receiver_of}
-use Rattle.mq_law_turns.specs.Turns.{IsAtFar, Scene, Taken, world_in}
+use Rattle.mq_law_turns.specs.Turns.{IsAtFar, Scene, Taken}
 use Rattle.mq_law_turns.proofs.Parts.{next_mid, part_stays, world_behind}
 use Rattle.mq_law_turns.proofs.Taking.{bound_stays, quiet, same_taken, says, taken_on}
 

@@ -1,6 +1,6 @@
 -- Channels of which an event isn't: what ties them to the network stays.
-use Rattle.std.proofs.Common.{ℕ, ◌≡◌, ◌≢◌, Bool, true, false, List, refl, ap, sym, subst, ◌∙◌, map}
-use Rattle.std.specs.Prelude.{Option, Some, None, ◌==◌, is_some, slice_get}
+use Rattle.std.proofs.Common.{ℕ, ◌≡◌, Bool, false, List, refl, ap, sym, ◌∙◌}
+use Rattle.std.specs.Prelude.{◌==◌, is_some, slice_get}
 use Rattle.mq_message.specs.declared.message.Ident.{Ident}
 use Rattle.mq_sync.specs.declared.unit.Unit.{Unit as Luw}
 use Rattle.mq_history.specs.declared.scenario.Scenario.{Scenario}

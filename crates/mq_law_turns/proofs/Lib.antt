@@ -8,3 +8,6 @@ pub mod Resting
 pub mod FarOperating
 pub mod Sounds
 pub mod Reading
+pub mod Agreeing
+pub mod OperatorSounds
+pub mod Beginning

@@ -1,52 +1,45 @@
 -- An operator's START, STOP, RESET and RESOLVE at a sender's end, and its timeouts, as what they are of the network.
-use Rattle.std.proofs.Common.{ℕ, ◌≡◌, ◌≢◌, ◌-◌, Bool, true, false, not, List, [], ◌∷◌, ◌++◌, refl, ap, sym, subst, ◌∙◌, inl, inr, map}
-use Rattle.std.specs.Prelude.{Option, Some, None, ◌&&◌, ◌||◌, if◌then◌else◌, slice_get, is_some}
-use Rattle.std.specs.Str.{bytes_eq}
+use Rattle.std.proofs.Common.{ℕ, ◌≡◌, ◌≢◌, true, false, List, ◌++◌, refl, ap, sym, subst, ◌∙◌}
+use Rattle.std.specs.Prelude.{Option, Some, None, ◌&&◌, if◌then◌else◌}
 use Rattle.mq_sync.specs.declared.unit.Unit.{Unit as Luw}
-use Rattle.mq_sync.specs.declared.unit.Settle.{Settle}
 use Rattle.mq_sync.specs.declared.unit.Settle.TheVariants as settles
 use Rattle.mq_sync.specs.declared.data.End.TheVariants as ends
 use Rattle.mq_sync.specs.declared.data.InDoubt.{InDoubt}
-use Rattle.mq_sync.specs.Settlement.{is_commit, sender_or}
+use Rattle.mq_sync.specs.Settlement.{sender_or}
 use Rattle.mq_sync.specs.Units.{Upto, same_unit}
 use Rattle.mq_sender.specs.declared.state.SenderState.{SenderState}
 use Rattle.mq_sender.specs.declared.state.SenderState.TheVariants.{Inactive, Stopped, Starting, Hailing, Binding, Running, Sending, Ready, Waiting}
 use Rattle.mq_sender.specs.declared.state.Sender.{Sender}
-use Rattle.mq_sender.specs.States as senders
 use Rattle.mq_sender.specs.Table.{is_sending}
 use Rattle.mq_calls.specs.declared.agents.Note.TheVariants as notes
-use Rattle.mq_calls.specs.declared.agents.SeizeFault.{SeizeFault}
-use Rattle.mq_calls.specs.declared.state.Batch.{Batch}
 use Rattle.mq_sender.specs.declared.state.Limits.{Limits}
 use Rattle.mq_spec_state.specs.State.{Plain, Seizure}
 use Rattle.mq_spec_state.specs.State.Change.{Seize}
 use Rattle.mq_spec_state.specs.Reads.{batch_of, in_doubt_of, sender_data}
 use Rattle.mq_spec_state.specs.Changes.{apply, apply_all}
-use Rattle.mq_spec_state.specs.Steps.{Step, do_all, do_part}
-use Rattle.mq_spec_state.specs.Steps.Step.{Refuse, Do}
-use Rattle.mq_spec_agents.specs.Words.{harden, harden_part, leave, release_batch, release_of}
+use Rattle.mq_spec_state.specs.Steps.{do_all, do_part}
+use Rattle.mq_spec_agents.specs.Words.{harden_part, leave, release_batch, release_of}
 use Rattle.mq_spec_network.specs.Ledger.{change_at}
 use Rattle.mq_spec_node.specs.Node.{Node}
-use Rattle.mq_spec_node.specs.Deeds.{Deed, parts_of}
+use Rattle.mq_spec_node.specs.Deeds.{parts_of}
 use Rattle.mq_spec_node.specs.Senders.{leave_if_stopped}
-use Rattle.mq_law_channel.specs.Facts.{Letter, Near, marked, now}
-use Rattle.mq_law_channel.specs.Channel.{Channel, Facts, Fits, Past}
+use Rattle.mq_law_channel.specs.Facts.{Letter, Near, now}
+use Rattle.mq_law_channel.specs.Channel.{Channel, Fits, Past}
 use Rattle.mq_law_channel.specs.Turns.{emptied, past_resolved, released, resolved, sender_numbered, sender_started, sender_stopped, sender_timed_out, undone}
 use Rattle.mq_law_channel.proofs.Sending.{not_forced}
 use Rattle.mq_law_rows.specs.Families.{is_here}
-use Rattle.mq_law_rows.specs.World.{Book, Ghost, Inv, World}
-use Rattle.mq_law_rows.specs.Kinds.{after, freed, ghost_force, unit_at}
+use Rattle.mq_law_rows.specs.World.{Ghost}
+use Rattle.mq_law_rows.specs.Kinds.{after, freed, ghost_force}
 use Rattle.mq_law_rows.proofs.Lists.{bool_case, here_self, name_self, true_false}
 use Rattle.mq_law_channel.proofs.Told.{unit_no, unit_self, unit_yes}
 use Rattle.mq_law_seen.specs.Seen.{doubt_of, holds_of, last_of, world_of}
 use Rattle.mq_law_events.specs.Tied.{IsNext}
 use Rattle.mq_law_batches.specs.Releases.{release_changes, settled_changes}
 use Rattle.mq_law_batches.proofs.Settling.{backs_out, drops, forces, settled_doubts, settled_holds}
-use Rattle.mq_law_batches.proofs.Wording.{Stays, seized, stays, words}
-use Rattle.mq_law_node.specs.Ends.{SendsAs}
-use Rattle.mq_law_turns.specs.Turns.{IsAt, IsJoint, Scene, Turned, world_in}
-use Rattle.mq_law_turns.proofs.Parts.{IsLeft, IsOnly, changed, doubt_held, here_holds, leaving_stays, next_mid, next_to, part_stays, same_turned, stays_none, stays_then, turned_on, world_behind}
-use Rattle.mq_law_turns.proofs.Sending.{IsSending, is_in_sending, released_turned, settled_left, settled_only}
+use Rattle.mq_law_batches.proofs.Wording.{Stays, stays, words}
+use Rattle.mq_law_turns.specs.Turns.{IsAt, Scene, Turned, world_in}
+use Rattle.mq_law_turns.proofs.Parts.{changed, doubt_held, leaving_stays, next_mid, next_to, part_stays, same_turned, turned_on, world_behind}
+use Rattle.mq_law_turns.proofs.Sending.{IsSending, is_in_sending, released_turned, settled_only}
 
 -- NOTHING OF ROWS
 -- a deed that leaves rows, batches and units: the channel's machine alone changes

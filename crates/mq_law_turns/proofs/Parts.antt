@@ -1,5 +1,5 @@
 -- The parts of a turn: what stands behind them beside what they change of rows, batches and units.
-use Rattle.std.proofs.Common.{ℕ, ◌≡◌, ◌≢◌, Bool, true, false, not, List, [], ◌∷◌, ◌++◌, refl, ap, sym, subst, ◌∙◌, inl, inr, map, arith}
+use Rattle.std.proofs.Common.{ℕ, ◌≡◌, ◌≢◌, Bool, true, false, List, [], refl, ap, sym, subst, ◌∙◌, map}
 use Rattle.std.specs.Prelude.{Option, Some, None, ◌==◌, if◌then◌else◌, ◌&&◌, slice_get, is_some}
 use Rattle.std.specs.Str.{bytes_eq}
 use Rattle.mq_message.specs.declared.message.Ident.{Ident}
@@ -12,7 +12,6 @@ use Rattle.mq_calls.specs.declared.records.LogRecord.{LogRecord}
 use Rattle.mq_calls.specs.declared.state.Batch.{Batch}
 use Rattle.mq_history.specs.declared.scenario.Scenario.{Scenario}
 use Rattle.mq_spec_state.specs.State.{Plain}
-use Rattle.mq_spec_state.specs.Reads.{batch_of, in_doubt_of, sender_data}
 use Rattle.mq_spec_state.specs.Changes.{apply_all}
 use Rattle.mq_spec_state.specs.Steps.{Part, do_all, do_part, logged, written}
 use Rattle.mq_spec_agents.specs.Words.{leave}
@@ -22,7 +21,7 @@ use Rattle.mq_spec_node.specs.Senders.{leave_if_stopped}
 use Rattle.mq_law_channel.specs.Channel.{Channel, Past}
 use Rattle.mq_law_channel.specs.Facts.{now}
 use Rattle.mq_law_rows.specs.Families.{is_here}
-use Rattle.mq_law_rows.specs.World.{Book, Ghost, Inv, World}
+use Rattle.mq_law_rows.specs.World.{Ghost, Inv, World}
 use Rattle.mq_law_rows.proofs.Lists.{bool_case, eqb_yes}
 use Rattle.mq_law_seen.specs.Seen.{doubt_of, held_unit, holds_of, last_of, world_of}
 use Rattle.mq_law_manager.proofs.Receiving.{log_aside}
@@ -30,7 +29,7 @@ use Rattle.mq_law_events.specs.Tied.{IsNext}
 use Rattle.mq_law_events.proofs.Telling.{else_changed, here_changed}
 use Rattle.mq_law_batches.proofs.Releasing.{IsNear, lasts}
 use Rattle.mq_law_batches.proofs.Wording.{Stays, stays}
-use Rattle.mq_law_story.specs.Needs.{IsTied, letter_tag}
+use Rattle.mq_law_story.specs.Needs.{letter_tag}
 use Rattle.mq_law_turns.specs.Turns.{AreBegun, IsJoint, Scene, Turned, world_in}
 
 -- What is left as it was

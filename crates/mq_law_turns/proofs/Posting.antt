@@ -1,6 +1,6 @@
 -- What a turn of a sender's end posts: nothing, but for expired rows, which the ledger removes too.
-use Rattle.std.proofs.Common.{ℕ, ◌≡◌, ◌≢◌, Bool, true, false, not, List, [], ◌∷◌, ◌++◌, refl, ap, sym, subst, ◌∙◌, map, take}
-use Rattle.std.specs.Prelude.{Option, Some, None, ◌&&◌, if◌then◌else◌, filter}
+use Rattle.std.proofs.Common.{ℕ, ◌≡◌, Bool, true, false, not, List, [], ◌∷◌, ◌++◌, refl, ap, sym, subst, ◌∙◌, map, take}
+use Rattle.std.specs.Prelude.{Option, Some, None, ◌&&◌, if◌then◌else◌}
 use Rattle.mq_message.specs.declared.message.Ident.{Ident}
 use Rattle.mq_message.specs.declared.message.Message.{Message}
 use Rattle.mq_queue.specs.declared.row.Row.{Row}
@@ -17,7 +17,6 @@ use Rattle.mq_sync.specs.Units.{unit_named}
 use Rattle.mq_message.specs.declared.place.Holder.TheVariants as holders
 use Rattle.mq_sender.specs.States.{is_running}
 use Rattle.mq_calls.specs.declared.agents.Note.TheVariants as notes
-use Rattle.mq_calls.specs.declared.agents.PrepareFault.{PrepareFault}
 use Rattle.mq_calls.specs.declared.agents.PrepareFault.TheVariants as faults
 use Rattle.mq_calls.specs.declared.deltas.Did.{Did}
 use Rattle.mq_calls.specs.declared.deltas.Did.TheVariants as did
@@ -29,8 +28,8 @@ use Rattle.mq_spec_state.specs.State.{Plain}
 use Rattle.mq_spec_state.specs.Reads.{batch_of, free_rows, is_expired, is_full, sender_data, stored}
 use Rattle.mq_sync.specs.Settlement.{sender_or}
 use Rattle.mq_spec_state.specs.Sizes.{need}
-use Rattle.mq_spec_state.specs.Steps.{Part, Step, delta_of, do_all, refused_or}
-use Rattle.mq_spec_state.specs.Steps.Step.{Refuse, Do}
+use Rattle.mq_spec_state.specs.Steps.{Part, delta_of, do_all, refused_or}
+use Rattle.mq_spec_state.specs.Steps.Step.{Do}
 use Rattle.mq_spec_agents.specs.Hardening.{settle_did}
 use Rattle.mq_spec_agents.specs.Words.{expired_rows, harden, harden_part, held_rows, hold_batch, leave, prepare_of, prepared_changes, prepared_record, queue_of_sender, release_batch, release_of, stock}
 use Rattle.mq_spec_network.specs.Ledger.{Ledger, is_taken, move_all, post_call, receive_if, received_on, take_all_gone, when}

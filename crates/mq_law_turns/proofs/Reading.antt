@@ -1,5 +1,5 @@
 -- The rows of a batch that is being sent stay as they are over all that holds no row for its channel.
-use Rattle.std.proofs.Common.{ℕ, suc, ◌≡◌, ◌≢◌, ◌+◌, Bool, true, false, not, List, [], ◌∷◌, ◌++◌, refl, ap, sym, subst, ◌∙◌, inl, inr}
+use Rattle.std.proofs.Common.{ℕ, ◌≡◌, ◌+◌, Bool, true, false, not, List, [], ◌∷◌, ◌++◌, refl, ap, sym, subst, ◌∙◌, inl, inr}
 use Rattle.std.specs.Prelude.{Option, Some, None, Result, Ok, Err, ◌&&◌, if◌then◌else◌, find, slice_get}
 use Rattle.std.specs.Option.{option_map}
 use Rattle.std.specs.Str.{bytes_eq}
@@ -36,14 +36,14 @@ use Rattle.mq_spec_state.specs.Reads.{batch_of, is_full, is_persistent, receiver
 use Rattle.mq_sync.specs.Settlement.{receiver_or, sender_or}
 use Rattle.mq_spec_state.specs.Sizes.{need}
 use Rattle.mq_spec_state.specs.Changes.{apply, apply_all, lane_of, new_row, release_if, retag_if, selects}
-use Rattle.mq_spec_state.specs.Steps.{Part, Step, do_all, do_part, logged, refused_or}
-use Rattle.mq_spec_state.specs.Steps.Step.{Refuse, Do}
+use Rattle.mq_spec_state.specs.Steps.{Part, do_all, do_part, logged, refused_or}
+use Rattle.mq_spec_state.specs.Steps.Step.{Do}
 use Rattle.mq_spec_manager.specs.Get.{expired_parts}
 use Rattle.mq_spec_manager.specs.Put.{placed}
-use Rattle.mq_spec_agents.specs.Words.{Standing, Absent, InDoubtAt, Present, harden, hold_batch, batch_idents, batch_queue, batch_row, before, drop_changes, expired_rows, is_present, land, land_changes, Landed, landed, landed_by, landed_unless, leave, prepare_of, prepared_changes, prepared_record, queue_of_sender, receive_landed, received_record, release_of, row_with, standing_at, undoubted}
+use Rattle.mq_spec_agents.specs.Words.{Standing, Absent, InDoubtAt, Present, harden, hold_batch, batch_idents, batch_queue, before, drop_changes, expired_rows, is_present, land, land_changes, Landed, landed, landed_by, landed_unless, leave, prepare_of, prepared_changes, prepared_record, queue_of_sender, receive_landed, received_record, release_of, row_with, standing_at, undoubted}
 use Rattle.mq_spec_agents.specs.Landing.{Landing}
 use Rattle.mq_spec_node.specs.Node.{Node, ReceiverEnd, SenderEnd}
-use Rattle.mq_spec_node.specs.Deeds.{Deed, parts_of}
+use Rattle.mq_spec_node.specs.Deeds.{parts_of}
 use Rattle.mq_spec_node.specs.Receivers.{place_deed, receiver_deed_by}
 use Rattle.mq_spec_node.specs.Senders.{leave_if_stopped, prepare_deed, sender_deed_by, settle_parts, settle_parts_if}
 use Rattle.mq_law_channel.specs.Facts.{Letter, Mem}

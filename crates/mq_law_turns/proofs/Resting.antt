@@ -1,8 +1,7 @@
 -- A manager that stops or starts again, and the channels of the network: a batch that was not prepared is no longer held, a unit in doubt is.
-use Rattle.std.proofs.Common.{ℕ, ◌≡◌, ◌≢◌, Bool, true, false, List, [], refl, ap, sym, subst, ◌∙◌, map}
+use Rattle.std.proofs.Common.{ℕ, ◌≡◌, Bool, true, List, refl, ap, sym, ◌∙◌}
 use Rattle.std.specs.Prelude.{Option, Some, None, ◌==◌, if◌then◌else◌, is_some, slice_get}
 use Rattle.mq_message.specs.declared.message.Ident.{Ident}
-use Rattle.mq_sync.specs.declared.unit.Unit.{Unit as Luw}
 use Rattle.mq_sync.specs.declared.data.InDoubt.{InDoubt}
 use Rattle.mq_calls.specs.declared.state.Batch.{Batch}
 use Rattle.mq_history.specs.declared.scenario.Scenario.{Scenario}
@@ -17,7 +16,7 @@ use Rattle.mq_law_rows.proofs.Lists.{bool_case, eqb_yes, true_false}
 use Rattle.mq_law_seen.specs.Seen.{doubt_of, held_unit, holds_of, world_of}
 use Rattle.mq_law_events.specs.Tied.{IsNext}
 use Rattle.mq_law_batches.proofs.Releasing.{IsNear, lasts}
-use Rattle.mq_law_story.specs.Needs.{IsTied, letter_tag}
+use Rattle.mq_law_story.specs.Needs.{IsTied}
 use Rattle.mq_law_turns.specs.Turns.{IsAtRest}
 use Rattle.mq_law_turns.proofs.Parts.{no_doubt_held, not_doubted}
 

@@ -1,8 +1,7 @@
 -- Each turn of a sender's end, as what it is of the network: rows are held, prepared, released or settled, or nothing of them.
-use Rattle.std.proofs.Common.{ℕ, ◌≡◌, ◌≢◌, ◌+◌, zero, suc, Bool, true, false, not, List, [], ◌∷◌, ◌++◌, refl, ap, sym, subst, ◌∙◌, inl, inr, map, take, arith}
-use Rattle.std.specs.Prelude.{Option, Some, None, ◌==◌, if◌then◌else◌, ◌&&◌, slice_get, is_some, min, filter}
+use Rattle.std.proofs.Common.{ℕ, ◌≡◌, ◌≢◌, ◌+◌, zero, suc, Bool, true, false, List, [], ◌∷◌, ◌++◌, refl, ap, sym, subst, ◌∙◌, inl, inr, map, take, arith}
+use Rattle.std.specs.Prelude.{Option, Some, None, if◌then◌else◌, ◌&&◌, slice_get, is_some, filter}
 use Rattle.std.specs.Str.{bytes_eq}
-use Rattle.std.proofs.lemmas.Bool.Decides.{nat_tests}
 use Rattle.mq_message.specs.declared.message.Ident.{Ident}
 use Rattle.mq_message.specs.declared.place.Holder.{Holder}
 use Rattle.mq_queue.specs.declared.row.Row.{Row}
@@ -22,8 +21,7 @@ use Rattle.mq_sender.specs.declared.state.SenderState.{SenderState}
 use Rattle.mq_sender.specs.declared.turns.SenderDoes.{SenderDoes}
 use Rattle.mq_sender.specs.declared.turns.SenderDoes.TheVariants as does
 use Rattle.mq_sender.specs.declared.turns.SenderOut.TheVariants as outs
-use Rattle.mq_sender.specs.States.{is_running, kept_of}
-use Rattle.mq_sender.specs.States as states
+use Rattle.mq_sender.specs.States.{is_running}
 use Rattle.mq_sender.specs.After.{number_sent, sender_after}
 use Rattle.mq_sender.specs.Table.{is_ack, is_binding, is_err, is_idle, is_sending, is_status, is_waiting, sender_lines, sender_next, settled_by, status_unit}
 use Rattle.mq_calls.specs.declared.agents.Note.TheVariants as notes
@@ -34,42 +32,42 @@ use Rattle.mq_spec_state.specs.Sizes.{need}
 use Rattle.mq_spec_state.specs.Changes.{apply_all}
 use Rattle.mq_spec_state.specs.Steps.{do_all, do_part}
 use Rattle.mq_spec_manager.specs.Get.{idents_of}
-use Rattle.mq_spec_agents.specs.Words.{harden_part, leave, prepare_of, prepared_changes, prepared_record, queue_of_sender, release_batch, release_of, stock}
+use Rattle.mq_spec_agents.specs.Words.{harden_part, leave, prepare_of, prepared_changes, prepared_record, queue_of_sender, release_of, stock}
 use Rattle.mq_spec_network.specs.Ledger.{change_at}
 use Rattle.mq_spec_network.specs.Promised.{AreDistinct}
 use Rattle.mq_spec_network.specs.Story.{Mem}
 use Rattle.mq_spec_node.specs.Node.{Node}
-use Rattle.mq_spec_node.specs.Deeds.{Deed, parts_of}
-use Rattle.mq_spec_node.specs.Senders.{doubted, leave_if_stopped, prepare_deed, sender_deed, sender_deed_by, settle_parts_if}
-use Rattle.mq_law_channel.specs.Facts.{Letter, given, now}
+use Rattle.mq_spec_node.specs.Deeds.{parts_of}
+use Rattle.mq_spec_node.specs.Senders.{doubted, leave_if_stopped, prepare_deed, sender_deed, sender_deed_by}
+use Rattle.mq_law_channel.specs.Facts.{given, now}
 use Rattle.mq_law_channel.specs.Channel.{Channel, Facts, Past}
 use Rattle.mq_law_channel.specs.Following.{Said, WasCommitted, WasNot}
-use Rattle.mq_law_channel.specs.Turns.{SenderMay, SenderTurn, SeenIn, begun_unit, emptied, past_turned, sender_done, sender_past, sender_turn, sender_turned}
+use Rattle.mq_law_channel.specs.Turns.{SenderTurn, SeenIn, begun_unit, emptied, past_turned, sender_done, sender_past, sender_turn, sender_turned}
 use Rattle.mq_law_channel.proofs.Following.{said}
-use Rattle.mq_law_channel.proofs.Sending.{binding_is, fits_at, fits_sending, idle_is, kept_session, not_forced, sending_runs, waiting_is}
+use Rattle.mq_law_channel.proofs.Sending.{binding_is, fits_at, fits_sending, idle_is, kept_session, not_forced, waiting_is}
 use Rattle.mq_law_channel.proofs.Told.{ack_told, and_both, by_lines, doubt_is, err_told, given_self, no_doubt, unit_self}
 use Rattle.mq_law_rows.specs.Families.{is_here}
-use Rattle.mq_law_rows.specs.World.{Book, Ghost, Inv, Tag, World, idents_in, tag_idents, tag_of}
-use Rattle.mq_law_rows.specs.Kinds.{Chosen, after, freed, ghost_hold, unit_at}
+use Rattle.mq_law_rows.specs.World.{Ghost, Inv, Tag, World, idents_in, tag_idents, tag_of}
+use Rattle.mq_law_rows.specs.Kinds.{Chosen, after, freed, ghost_hold}
 use Rattle.mq_law_rows.proofs.Lists.{bool_case, here_self, map_mem, mem_map, name_self, true_false}
 use Rattle.mq_law_seen.specs.Seen.{doubt_of, held_unit, holds_of, last_of, rows_of, world_of}
 use Rattle.mq_law_manager.proofs.Removals.{mem_filter}
-use Rattle.mq_law_manager.proofs.Named.{batch_dropped, batch_set, sender_set}
+use Rattle.mq_law_manager.proofs.Named.{batch_dropped}
 use Rattle.mq_law_events.specs.Tied.{IsNext}
 use Rattle.mq_law_batches.specs.Releases.{held_changes, release_changes, settled_changes}
 use Rattle.mq_law_batches.proofs.Holding as holding
-use Rattle.mq_law_batches.proofs.Holding.{held_doubts, held_holds}
+use Rattle.mq_law_batches.proofs.Holding.{held_holds}
 use Rattle.mq_law_batches.proofs.Releasing.{IsNear, releases}
 use Rattle.mq_law_batches.proofs.Settling as settling
 use Rattle.mq_law_batches.proofs.Settling.{backs_out, drops, prepared_doubts, prepared_holds, settled_doubts, settled_holds}
-use Rattle.mq_law_batches.proofs.Wording.{Stays, stays, words}
-use Rattle.mq_law_node.specs.Ends.{Batched, Guard, SendsAs, Where, batch_letters, letter_of, letters_of, out_of, prepare_out, sender_of, turn_of}
+use Rattle.mq_law_batches.proofs.Wording.{stays, words}
+use Rattle.mq_law_node.specs.Ends.{Guard, SendsAs, batch_letters, letters_of, out_of, prepare_out, sender_of, turn_of}
 use Rattle.mq_law_node.proofs.Batches.{take_mem}
 use Rattle.mq_law_node.proofs.SenderTable.{may_turn, prepared_by}
 use Rattle.mq_law_node.proofs.SenderTurns.{binding_apart, guarded, idle_apart, waiting_apart}
-use Rattle.mq_law_story.specs.Needs.{IsTied, letter_tag}
-use Rattle.mq_law_story.proofs.Tying.{committed_tied, next_tied, unprepared_tied}
-use Rattle.mq_law_turns.specs.Turns.{AreBegun, EachTurned, IsAt, IsJoint, Scene, Turned, is_expiry, world_in}
+use Rattle.mq_law_story.specs.Needs.{letter_tag}
+use Rattle.mq_law_story.proofs.Tying.{next_tied, unprepared_tied}
+use Rattle.mq_law_turns.specs.Turns.{EachTurned, IsAt, IsJoint, Scene, Turned, is_expiry, world_in}
 use Rattle.mq_law_turns.proofs.Parts.{IsLeft, IsOnly, changed, doubt_held, here_holds, leaving_stays, next_mid, next_to, no_doubt_held, not_doubted, part_stays, same_turned, stays_none, stays_then, turned_on, world_behind}
 
 -- no part at all

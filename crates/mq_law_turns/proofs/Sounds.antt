@@ -1,16 +1,14 @@
 -- What holds of a manager, holds behind each turn of its ends: the conditions of what they ask are met, as the machines' states say.
-use Rattle.std.proofs.Common.{ℕ, ◌≡◌, ◌≢◌, ◌+◌, ◌<◌, Bool, true, false, List, [], ◌∷◌, ◌++◌, refl, ap, sym, subst, ◌∙◌, map, take, arith}
+use Rattle.std.proofs.Common.{ℕ, ◌≡◌, ◌+◌, ◌<◌, Bool, true, false, List, [], ◌∷◌, ◌++◌, refl, ap, sym, ◌∙◌, take, arith}
 use Rattle.std.specs.Prelude.{Option, Some, None, if◌then◌else◌}
 use Rattle.std.specs.Option.{option_map}
 use Rattle.mq_frame.specs.declared.frame.Seen.{Seen}
-use Rattle.mq_message.specs.declared.message.Message.{Message}
 use Rattle.mq_codes.specs.declared.reason.Reason.{Reason}
 use Rattle.mq_sync.specs.declared.unit.Unit.{Unit as Luw}
-use Rattle.mq_sync.specs.declared.unit.Settle.{Settle}
 use Rattle.mq_sync.specs.declared.unit.Settle.TheVariants as settles
 use Rattle.mq_sync.specs.declared.data.Doubt.{Doubt}
 use Rattle.mq_sync.specs.declared.data.InDoubt.{InDoubt}
-use Rattle.mq_sync.specs.Settlement.{is_commit, sender_or}
+use Rattle.mq_sync.specs.Settlement.{sender_or}
 use Rattle.mq_sync.specs.Units.{unit_named}
 use Rattle.mq_sender.specs.declared.state.Kept.{Kept}
 use Rattle.mq_sender.specs.declared.state.SenderState.{SenderState}
@@ -35,15 +33,15 @@ use Rattle.mq_spec_state.specs.Steps.Step.{Refuse, Do}
 use Rattle.mq_spec_agents.specs.Words.{harden, hold_batch, leave, prepare, queue_of_sender, receive, release_batch, set_bound, stock}
 use Rattle.mq_spec_agents.specs.Conditions.{unit_of}
 use Rattle.mq_spec_node.specs.Node.{Node, ReceiverEnd, SenderEnd}
-use Rattle.mq_spec_node.specs.Deeds.{Deed, parts_of}
+use Rattle.mq_spec_node.specs.Deeds.{parts_of}
 use Rattle.mq_spec_node.specs.Receivers.{close_parts, is_receiver_defined, place_deed, receiver_deed, receiver_deed_by}
-use Rattle.mq_spec_node.specs.Senders.{doubted, leave_if_stopped, prepare_deed, sender_deed, sender_deed_by, settle_parts, settle_parts_if}
+use Rattle.mq_spec_node.specs.Senders.{doubted, leave_if_stopped, prepare_deed, sender_deed, sender_deed_by}
 use Rattle.mq_law_channel.specs.Channel.{Channel, Facts, Past}
 use Rattle.mq_law_channel.specs.Turns.{SeenIn}
 use Rattle.mq_law_channel.proofs.Sending.{binding_is, fits_at, idle_is, starting_is, waiting_is}
 use Rattle.mq_law_channel.proofs.Told.{ack_told, doubt_is, err_told, no_doubt}
 use Rattle.mq_law_rows.proofs.Lists.{bool_case}
-use Rattle.mq_law_manager.specs.Facts.{IsSound, Sound}
+use Rattle.mq_law_manager.specs.Facts.{IsSound}
 use Rattle.mq_law_manager.specs.Kept.{AllKeep, Keeps, StepKeeps}
 use Rattle.mq_law_manager.proofs.Batches.{harden_keeps, prepare_keeps, release_batch_keeps}
 use Rattle.mq_law_manager.proofs.Ending.{done, joined}
@@ -59,7 +57,7 @@ use Rattle.mq_law_node.proofs.Operators.{doubt_there}
 use Rattle.mq_law_node.proofs.SenderTurns.{binding_apart, guarded, idle_apart, waiting_apart}
 use Rattle.mq_law_node.specs.Ends.{Where}
 use Rattle.mq_law_turns.specs.Turns.{EachSound}
-use Rattle.mq_law_turns.proofs.Sending.{Settling, free_by, settled_some, settles_so}
+use Rattle.mq_law_turns.proofs.Sending.{Settling, settled_some, settles_so}
 use Rattle.mq_spec_agents.specs.Words.{expire}
 use Rattle.mq_queue.specs.Rows.{is_free}
 

@@ -1,9 +1,8 @@
 -- Each turn of a receiver's end, as what it is of the network: a unit's commit, or nothing of rows.
-use Rattle.std.proofs.Common.{ℕ, ◌≡◌, ◌≢◌, Bool, true, false, List, [], ◌∷◌, ◌++◌, refl, ap, sym, subst, ◌∙◌, inl, inr, map}
+use Rattle.std.proofs.Common.{ℕ, ◌≡◌, Bool, true, false, List, [], ◌∷◌, ◌++◌, refl, ap, sym, subst, ◌∙◌, map}
 use Rattle.std.specs.Prelude.{Option, Some, None, Result, Ok, Err, ◌&&◌, if◌then◌else◌, slice_get}
 use Rattle.std.proofs.lemmas.List.{append-nil}
 use Rattle.mq_codes.specs.declared.reason.Reason.{Reason}
-use Rattle.mq_codes.specs.declared.reason.Reason.TheVariants as reasons
 use Rattle.mq_message.specs.declared.message.Message.{Message}
 use Rattle.mq_frame.specs.declared.frame.Seen.{Seen}
 use Rattle.mq_sync.specs.declared.unit.Unit.{Unit as Luw}
@@ -15,7 +14,6 @@ use Rattle.mq_receiver.specs.After.{bound_by, last_by}
 use Rattle.mq_calls.specs.declared.agents.Note.{Note}
 use Rattle.mq_calls.specs.declared.agents.Note.TheVariants as notes
 use Rattle.mq_calls.specs.declared.deltas.Did.{Did}
-use Rattle.mq_calls.specs.declared.deltas.Did.TheVariants as did
 use Rattle.mq_history.specs.declared.calls.Call.TheVariants as calls
 use Rattle.mq_history.specs.declared.calls.Reply.TheVariants as replies
 use Rattle.mq_spec_state.specs.State.{Plain}
@@ -23,22 +21,21 @@ use Rattle.mq_spec_state.specs.Reads.{is_full}
 use Rattle.mq_spec_state.specs.Sizes.{need}
 use Rattle.mq_spec_state.specs.Changes.{apply_all}
 use Rattle.mq_spec_state.specs.Steps.{do_all, do_part}
-use Rattle.mq_spec_state.specs.Steps.Step.{Refuse, Do}
 use Rattle.mq_spec_agents.specs.Words.{Landed, harden, harden_part, landed, receive_landed, received_part, received_record, set_bound, taken_of}
 use Rattle.mq_spec_network.specs.Ledger.{Ledger, change_at, post_call, take_all_gone}
 use Rattle.mq_spec_node.specs.Node.{Node}
 use Rattle.mq_spec_node.specs.Deeds.{parts_of}
 use Rattle.mq_spec_node.specs.Receivers.{is_receiver_defined, place_deed, receiver_deed, receiver_deed_by}
-use Rattle.mq_law_channel.specs.Facts.{Letter, now}
+use Rattle.mq_law_channel.specs.Facts.{Letter}
 use Rattle.mq_law_channel.specs.Channel.{Channel, Facts, Past}
 use Rattle.mq_law_channel.specs.Following.{Awaited, Placed}
-use Rattle.mq_law_channel.specs.Turns.{ReceiverTurn, SeenIn, receiver_does, receiver_done, receiver_turn, receiver_turned}
+use Rattle.mq_law_channel.specs.Turns.{SeenIn, receiver_does, receiver_turn, receiver_turned}
 use Rattle.mq_law_channel.proofs.Following as following
-use Rattle.mq_law_rows.specs.Families.{is_here, put_at}
+use Rattle.mq_law_rows.specs.Families.{put_at}
 use Rattle.mq_law_rows.specs.World.{Book, Ghost, Inv, World, tag_idents, tag_of}
 use Rattle.mq_law_rows.specs.Kinds.{ghost_receive, unit_at}
 use Rattle.mq_law_rows.proofs.Lists.{bool_case, here_self, true_false}
-use Rattle.mq_law_seen.specs.Seen.{book_of, doubt_of, holds_of, last_of, world_of}
+use Rattle.mq_law_seen.specs.Seen.{book_of, world_of}
 use Rattle.mq_law_events.specs.Tied.{IsNext}
 use Rattle.mq_law_batches.specs.Releases.{IsWord}
 use Rattle.mq_law_batches.proofs.Wording.{Stays, stays, words}
@@ -46,9 +43,9 @@ use Rattle.mq_law_node.specs.Ends.{TakesAs, place_out, receiver_of, receiver_out
 use Rattle.mq_law_node.proofs.ReceiverTurns.{may_take, placed_by}
 use Rattle.mq_law_receipts.specs.Receipts.{IsReceipt, Receipt}
 use Rattle.mq_law_receipts.proofs.Receiving as receiving
-use Rattle.mq_law_story.specs.Needs.{IsTied, letter_tag}
+use Rattle.mq_law_story.specs.Needs.{letter_tag}
 use Rattle.mq_law_story.proofs.Tying.{commit_tied}
-use Rattle.mq_law_turns.specs.Turns.{AreBegun, EachTaken, IsAtFar, IsJoint, IsReady, Scene, Taken, world_in}
+use Rattle.mq_law_turns.specs.Turns.{EachTaken, IsAtFar, IsJoint, IsReady, Scene, Taken, world_in}
 use Rattle.mq_law_turns.proofs.Parts.{next_mid, part_stays, stays_none, stays_then, world_behind}
 
 -- NOTHING OF ROWS

@@ -2,7 +2,7 @@
 //! ledger's are kept, and the channel is of one mind with the network again.
 #![tactic(auto)]
 
-ghost use Rattle.std.specs.Prelude.{◌≡◌, ◌≢◌, ◌++◌, ◌==◌, ℕ, Bool, true, false, List, Some, if◌then◌else◌, map, slice_get};
+ghost use Rattle.std.specs.Prelude.{◌≡◌, ◌≢◌, ◌++◌, ◌==◌, ℕ, Bool, true, false, List, [], Some, if◌then◌else◌, map, slice_get};
 ghost use Rattle.mq_message.specs.declared.message.Ident.{Ident};
 ghost use Rattle.mq_frame.specs.declared.frame.Seen.{Seen};
 ghost use Rattle.mq_sync.specs.declared.unit.Unit.{Unit as Luw};
@@ -17,19 +17,22 @@ ghost use Rattle.mq_receiver.specs.declared.turns.ReceiverDoes.{ReceiverDoes};
 ghost use Rattle.mq_sender.specs.Table.{is_idle, is_sending, sender_next};
 ghost use Rattle.mq_receiver.specs.declared.turns.ReceiverDoes.TheVariants.{Place};
 ghost use Rattle.mq_calls.specs.declared.agents.Note.TheVariants as notes;
+ghost use Rattle.mq_history.specs.declared.scenario.CableLine.{CableLine};
 ghost use Rattle.mq_history.specs.declared.scenario.Scenario.{Scenario};
+ghost use Rattle.mq_history.specs.Scenarios.{IsScenario};
 ghost use Rattle.mq_spec_state.specs.State.{Plain, Seizure};
 ghost use Rattle.mq_spec_state.specs.State.Change.{Seize};
 ghost use Rattle.mq_spec_state.specs.Changes.{apply};
 ghost use Rattle.mq_spec_state.specs.Steps.{Part, do_all, do_part};
-ghost use Rattle.mq_spec_state.specs.Reads.{batch_of};
+ghost use Rattle.mq_spec_state.specs.Reads.{batch_of, receiver_data};
 ghost use Rattle.std.specs.Str.{bytes_eq};
 ghost use Rattle.mq_spec_agents.specs.Batches.{release_batch};
 ghost use Rattle.mq_spec_agents.specs.Hardening.{harden_part};
 ghost use Rattle.mq_spec_agents.specs.Seizing.{leave, stock};
 ghost use Rattle.mq_spec_node.specs.Deeds.{parts_of};
 ghost use Rattle.mq_spec_node.specs.Node.{Node, ReceiverEnd, SenderEnd};
-ghost use Rattle.mq_spec_node.specs.Operators.{close_open};
+ghost use Rattle.mq_spec_node.specs.Operators.{close_open, operate};
+ghost use Rattle.mq_sc_parse.specs.declared.command.Op.{Op};
 ghost use Rattle.mq_law_story.specs.Needs.{IsTied};
 ghost use Rattle.mq_spec_node.specs.Receivers.{receiver_deed, receiver_deed_by};
 ghost use Rattle.mq_spec_node.specs.Senders.{leave_if_stopped, sender_deed, sender_deed_by};
@@ -44,6 +47,14 @@ ghost use Rattle.mq_law_events.specs.Local.{Moved, with_owner};
 ghost use Rattle.mq_law_events.specs.Tied.{Follow, IsFresh, IsNext, IsTold};
 ghost use Rattle.mq_law_channel.specs.Facts.{Letter};
 ghost use Rattle.mq_law_node.specs.Ends.{Reads, SendsAs, TakesAs, Where, receiver_of, sender_of, stamped, taking_turn, turn_of};
+ghost use Rattle.mq_sync.specs.Units.{no_unit, same_unit};
+ghost use Rattle.mq_calls.specs.declared.deltas.Did.TheVariants as did;
+ghost use Rattle.mq_history.specs.declared.history.History.{History};
+ghost use Rattle.mq_spec_network.specs.Conflict.{Deed, NoConflict, deeds};
+ghost use Rattle.mq_spec_network.specs.Standing.{last_unit_of, opening_managers};
+ghost use Rattle.mq_spec_network.specs.Story.{Line, Mem};
+ghost use Rattle.mq_law_channel.specs.Turns.{ReceiverTurn, SenderTurn};
+ghost use Rattle.mq_law_turns.specs.Agreed.{IsToldOf, TellsCommit};
 ghost use Rattle.mq_law_turns.specs.Turns.{EachFollowed, EachForOthers, EachPosted, EachSound, EachTaken, EachTurned, IsAt, IsAtFar, IsAtRest, IsJoint, IsReady, Scene, Taken, Turned, is_expiry, parts_for_others, world_in};
 
 /// Each turn of a sender's end, but for one that removes expired rows, asks its manager for such changes as keep the facts of the whole
@@ -131,4 +142,31 @@ pub fn a_batchs_rows_stay()
 pub fn turns_leave_other_batches()
     ensures senders { (c : List ℕ) (stamp : ℕ) (e : SenderEnd) (d : SenderDoes) (n : Node) → bytes_eq c e.channel ≡ false → EachForOthers c (sender_deed_by stamp e d n) }
     ensures receivers { (c : List ℕ) (stamp : ℕ) (e : ReceiverEnd) (seen : Seen) (d : ReceiverDoes) (n : Node) → EachForOthers c (receiver_deed_by stamp e seen d n) }
+{}
+
+/// And behind each command of an operator on an end.
+pub fn operators_keep_what_holds_of_a_manager()
+    ensures { (op : Op) (n : Node) → IsSound n.manager → EachSound n.manager (Some (operate op n)) }
+{}
+
+/// Where a prefix has no conflict, no unit is committed that an operator has backed out, and none is backed out that was committed. What
+/// this rests on, `IsToldOf`, is kept by all that a channel's ends do.
+pub fn operators_agree_with_receivers()
+    ensures agreed { (s : Scenario) (hs : List History) (p : List Line) (ds es : List Deed) (m t : ℕ) (c : List ℕ) (x : Channel) (y : Past) (u : Luw) → NoConflict s hs p → deeds p ≡ ds ++ es → IsToldOf s (opening_managers s hs) ds m c x y
+        → Mem (record { manager = t; did = did.Received c u }) (deeds p) → y.near.undone u ≡ false }
+    ensures backed_out { (s : Scenario) (hs : List History) (p : List Line) (ds es : List Deed) (m : ℕ) (c : List ℕ) (x : Channel) (y : Past) (u : Luw) → NoConflict s hs p → deeds p ≡ ds ++ es → IsToldOf s (opening_managers s hs) ds m c x y
+        → Mem (record { manager = m; did = did.Hardened c (notes.Resolved u false true) }) (deeds p) → same_unit u no_unit ≡ false → x.receives.unit ≢ u }
+    ensures grows { (s : Scenario) (ps : List Plain) (ds es : List Deed) (m : ℕ) (c : List ℕ) (x : Channel) (y : Past) → IsToldOf s ps ds m c x y → IsToldOf s ps (ds ++ es) m c x y }
+    ensures sender { (s : Scenario) (ps : List Plain) (ds : List Deed) (m : ℕ) (c : List ℕ) (x : Channel) (y : Past) (t : SenderTurn) → IsToldOf s ps ds m c x y → IsToldOf s ps ds m c (sender_turn t x) (sender_past t x y) }
+    ensures stops { (s : Scenario) (ps : List Plain) (ds : List Deed) (m : ℕ) (c : List ℕ) (x k : Channel) (y : Past) → k.receives ≡ x.receives → IsToldOf s ps ds m c x y → IsToldOf s ps ds m c k (released y) }
+    ensures commits { (s : Scenario) (ps : List Plain) (ds : List Deed) (m : ℕ) (c : List ℕ) (x : Channel) (y : Past) (d : InDoubt) → IsToldOf s ps ds m c x y → IsToldOf s ps ds m c (resolved settles.Commit x) (past_resolved settles.Commit d y) }
+    ensures backs_out { (s : Scenario) (ps : List Plain) (ds : List Deed) (m : ℕ) (c : List ℕ) (x : Channel) (y : Past) (d : InDoubt) → Mem (record { manager = m; did = did.Hardened c (notes.Resolved d.unit false true) }) ds
+        → IsToldOf s ps ds m c x y → IsToldOf s ps ds m c (resolved settles.Backout x) (past_resolved settles.Backout d y) }
+    ensures receiver { (s : Scenario) (ps : List Plain) (ds : List Deed) (m : ℕ) (c : List ℕ) (x : Channel) (y : Past) (t : ReceiverTurn) → TellsCommit t.outcome (receiver_does t x) c ds → IsToldOf s ps ds m c x y → IsToldOf s ps ds m c (receiver_turn t x) y }
+{}
+
+/// And so a channel begins.
+pub fn channels_begin_as_told()
+    ensures { (s : Scenario) (ps : List Plain) (k : CableLine) (receiver : Plain) (m : ℕ) (x : Channel) (y : Past) → IsScenario s → Mem k s.cables → slice_get ps k.receiver ≡ Some receiver → x.receives.unit ≡ last_unit_of (receiver_data k.channel receiver)
+        → ((u : Luw) → y.near.undone u ≡ false) → IsToldOf s ps [] m k.channel x y }
 {}
