@@ -98,12 +98,13 @@ impl Log {
 
     /// Objects: the queue with that digit in its name is set.
     pub fn defined_as(&mut self, alloc: Global, digit: u8) -> Result<(), Fail> {
+        let mut text = Vec::new(alloc);
+        text.extend_from_slice(DEFINE)?;
+        text.push(digit)?;
+        text.extend_from_slice(ATTRIBUTES)?;
         let mut body = vec![in alloc; 2, 1]?;
-        let length = 1 + DEFINE.len() as u32 + ATTRIBUTES.len() as u32;
-        body.extend_from_slice(&length.to_be_bytes())?;
-        body.extend_from_slice(DEFINE)?;
-        body.push(digit)?;
-        body.extend_from_slice(ATTRIBUTES)?;
+        body.extend_from_slice(&(text.len() as u32).to_be_bytes())?;
+        body.extend_from_slice(text.as_slice())?;
         self.body(body.as_slice())?;
         Ok(())
     }
