@@ -1,4 +1,0 @@
-pub mod Edits
-pub mod SideLaws
-pub mod WalkLaws
-pub mod ListedLaws

@@ -1,3 +1,0 @@
-pub mod Recovering
-pub mod Found
-pub mod Listed
