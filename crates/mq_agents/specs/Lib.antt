@@ -1,3 +1,4 @@
 pub mod Ends
 pub mod Written
 pub mod Removing
+pub mod Releasing

@@ -6,6 +6,7 @@ mod discarding;
 mod hardening;
 mod preparing;
 mod reading;
+mod releasing;
 mod seizing;
 mod walking;
 
@@ -16,4 +17,5 @@ pub use hardening::{
 };
 pub use preparing::prepare;
 pub use reading::{Hardened, batch_row, defs, is_up, kept, moment, next_row, stock};
+pub use releasing::release_batch;
 pub use seizing::{leave, seize, set_bound};

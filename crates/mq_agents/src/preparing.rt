@@ -63,7 +63,7 @@ fn copy_batch<D: Disk>(parts: &Parts<D>, batch: &Batch, last: u32) -> Result<InD
     }
 }
 
-fn batch_now<'a, D: Disk>(parts: &'a Parts<D>, channel: &ChName) -> Option<&'a Batch>
+pub(crate) fn batch_now<'a, D: Disk>(parts: &'a Parts<D>, channel: &ChName) -> Option<&'a Batch>
     ensures { option_copied result ≡ batch_of channel.now (plain_of parts.now).channels.batches }
 {
     batch_of(&parts.ends.batches, channel)

@@ -21,7 +21,7 @@ use Rattle.mq_place.proofs.NameLaws.{name_is, name_self}
 
 -- Idents.
 
-ident_is : (a b : Ident) → same_ident a b ≡ true → a ≡ b
+pub ident_is : (a b : Ident) → same_ident a b ≡ true → a ≡ b
 ident_is a b e =
     let manager : a.manager ≡ b.manager = by0 a.manager b.manager a.incarnation b.incarnation a.number b.number e in
     let incarnation : a.incarnation ≡ b.incarnation = by1 a.manager b.manager a.incarnation b.incarnation a.number b.number e in
@@ -37,7 +37,7 @@ ident_is a b e =
     by2 : (m1 m2 i1 i2 n1 n2 : ℕ) → ((eqb m1 m2 && eqb i1 i2) && eqb n1 n2) ≡ true → n1 ≡ n2
     by2 m1 m2 i1 i2 n1 n2 e = grind (arith, nat_tests)
 
-ident_self : (a : Ident) → same_ident a a ≡ true
+pub ident_self : (a : Ident) → same_ident a a ≡ true
 ident_self a = by a.manager a.incarnation a.number
   where
     by : (m i n : ℕ) → ((eqb m m && eqb i i) && eqb n n) ≡ true

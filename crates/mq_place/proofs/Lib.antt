@@ -10,3 +10,4 @@ pub mod CallLaws
 pub mod PlainLaws
 pub mod HomeLaws
 pub mod KeyLaws
+pub mod HeldLaws

@@ -1,3 +1,4 @@
 pub mod States
 pub mod Slots
 pub mod Homes
+pub mod Held

@@ -1,6 +1,6 @@
 -- Local queues as a manager keeps them: what the plain manager sees of each, its lanes, and how many uncommitted puts wait
 -- for it.
-use Rattle.std.specs.Prelude.{◌≡◌, ℕ, ◌+◌, ◌-◌, ◌<◌, ◌^◌, Bool, false, not, ◌&&◌, List, [], ◌∷◌, if◌then◌else◌, Option, Some, None, map, filter, length, nat_lt, find, take}
+use Rattle.std.specs.Prelude.{◌≡◌, ℕ, ◌+◌, ◌-◌, ◌<◌, ◌^◌, Bool, true, false, not, ◌&&◌, List, [], ◌∷◌, if◌then◌else◌, Option, Some, None, map, filter, flat_map, length, nat_lt, find, take}
 use Rattle.std.specs.Str.{bytes_eq}
 use Rattle.std.specs.List.{AllByRecursion}
 use Rattle.mq_message.specs.declared.message.Ident.{Ident}
@@ -8,12 +8,13 @@ use Rattle.mq_message.specs.declared.message.Message.{Message}
 use Rattle.mq_queue.specs.declared.row.Row.{Row}
 use Rattle.mq_message.specs.declared.place.Place.{Place}
 use Rattle.mq_message.specs.declared.place.Holder.{Holder}
-use Rattle.mq_queue.specs.Rows.{keep, retag, is_free, is_after, has_ident}
+use Rattle.mq_queue.specs.Rows.{keep, retag, held_by, is_free, is_after, has_ident}
 use Rattle.mq_queue.specs.Queues.{Lacks, lane_of, count_waiting, hold_row, release_row, has_other_ident}
 use Rattle.mq_spec_state.specs.State.{Queue, fresh_queue}
 use Rattle.mq_spec_state.specs.Reads.{queue_in}
 use Rattle.mq_spec_state.specs.State.Which.{Among}
-use Rattle.mq_spec_state.specs.Changes.{placed_in, kept_in}
+use Rattle.mq_spec_state.specs.Changes.{placed_in, kept_in, release_if}
+use Rattle.mq_calls.specs.declared.records.Remove.{Remove}
 
 pub record QueueState : Type 0 where
   pub queue : Queue
@@ -97,6 +98,30 @@ release_each (ident ∷ idents) backed_out rows = release_each idents backed_out
 abbrev pub remove_each : List Ident → List Row → List Row
 remove_each [] rows = rows
 remove_each (ident ∷ idents) rows = remove_each idents (keep (has_other_ident ident) rows)
+
+-- a row that a holder has; it is free again, with no backout counted; the others
+abbrev pub holds : Holder → Row → Bool
+holds by row = held_by by row.by
+
+abbrev pub let_go : Holder → Row → Row
+let_go by row = release_if (holds by row && not (is_free row)) false row
+
+abbrev pub is_other_row : Holder → Row → Bool
+is_other_row by row = not (holds by row)
+
+-- the rows that a holder has on a queue, on all queues, named by the queue and the ident
+abbrev pub named_row : List ℕ → Row → Remove
+named_row name row = record { queue = name; ident = row.message.ident }
+
+abbrev pub held_on : Holder → Queue → List Remove
+held_on by q = map (λ (row : Row). record { queue = q.name; ident = row.message.ident }) (filter (λ (row : Row). held_by by row.by) q.rows)
+
+abbrev pub held_rows : Holder → List QueueState → List Remove
+held_rows by states = flat_map (held_on by) (queues_of states)
+
+-- a row of an ident that a holder has
+abbrev pub has_held_ident : Holder → Ident → Row → Bool
+has_held_ident by ident row = has_ident ident row && holds by row
 
 -- a trigger due is served; the queue counts as TRIGGER again
 abbrev pub served : Queue → Queue

@@ -1,6 +1,7 @@
 //! The local queues of a manager, found by name, and the places of messages on them.
 #![tactic(auto)]
 
+mod held;
 mod homes;
 mod laws;
 mod local;

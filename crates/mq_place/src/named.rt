@@ -2,9 +2,10 @@
 ghost use Rattle.std.specs.Prelude.{◌≡◌, ◌+◌, ◌++◌, ◌∷◌, [], ◌^◌, ◌<◌, ◌≤◌, OnOk, OnErr, IfSome, None, Some, false, true, length, option_copied};
 ghost use Rattle.mq_queue.specs.Queues.{message_of};
 ghost use Rattle.mq_spec_state.specs.Changes.{kept_in, held_in, released_in, made_due, forgotten};
-ghost use Rattle.mq_spec_state.specs.State.Which.{Among, HeldByUnits, Nonpersistent};
-ghost use Rattle.mq_place.specs.States.{state_in, state_or, change_state, on_queue, on_queues, served, switched_on, fresh_state, without_state, expecting, unpended, arrived, with_lanes, rows_in, CanPlace, AreApart};
+ghost use Rattle.mq_spec_state.specs.State.Which.{Among, HeldBy, HeldByUnits, Nonpersistent};
+ghost use Rattle.mq_place.specs.States.{held_rows, state_in, state_or, change_state, on_queue, on_queues, served, switched_on, fresh_state, without_state, expecting, unpended, arrived, with_lanes, rows_in, CanPlace, AreApart};
 
+use crate::held::{free_held, held_rows, remove_held};
 use crate::local::LocalRows;
 use crate::slots::{
     close_gaps, drop_volatile, expect_at, forget, free_units, hold_at, hold_each_at, lanes_at,
@@ -12,7 +13,8 @@ use crate::slots::{
     unpend_at,
 };
 use indexmap::IndexMap;
-use mq_base::NoMemory;
+use mq_base::{Items, NoMemory};
+use mq_calls::Remove;
 use mq_message::{Holder, Ident, Message};
 use mq_name::QName;
 use mq_queue::Queue;
@@ -22,7 +24,7 @@ use std::marker::Model;
 /// Local queues in order of definition, found by name. Contracts see what each has, and for how many more queues there is
 /// memory.
 ///
-/// All calls but `expect` and `reserve_queue` take no memory.
+/// All calls but `expect`, `reserve_queue` and `held_rows` take no memory.
 #[derive(Drop)]
 pub struct NamedQueues<Q: Queue + Drop> {
     alloc: Global,
@@ -223,6 +225,27 @@ impl<Q: Queue + Drop> NamedQueues<Q> {
         ensures { self.new ≡ record self.old { states = on_queues (released_in HeldByUnits true) self.old.states } }
     {
         free_units(&mut self.slots);
+    }
+
+    /// Frees all rows that a holder has, with no backout counted.
+    pub fn free_held(&mut self, by: &Holder)
+        ensures { self.new ≡ record self.old { states = on_queues (released_in (HeldBy by.now) false) self.old.states } }
+    {
+        free_held(&mut self.slots, by);
+    }
+
+    /// Takes all rows out that a holder has.
+    pub fn remove_held(&mut self, by: &Holder)
+        ensures { self.new ≡ record self.old { states = on_queues (kept_in (HeldBy by.now)) self.old.states } }
+    {
+        remove_held(&mut self.slots, by);
+    }
+
+    /// Adds the rows that a holder has, in order of definition, and of place on each queue. After a refusal some may be there.
+    pub fn held_rows(&self, by: &Holder, rows: &mut Items<Remove>) -> Result<(), NoMemory>
+        ensures { OnOk result (rows.new ≡ rows.old ++ held_rows by.now self.now.states) }
+    {
+        held_rows(&self.slots, by, rows)
     }
 
     /// No trigger is due any more, none was, and no queue counts as NOTRIGGER, as after a stop.

@@ -5,14 +5,15 @@ ghost use Rattle.std.specs.Option.{option_map};
 ghost use Rattle.mq_queue.specs.Rows.{is_free, has_ident};
 ghost use Rattle.mq_queue.specs.Queues.{message_of, count_waiting};
 ghost use Rattle.mq_spec_state.specs.Changes.{kept_in, held_in, released_in, made_due, forgotten};
-ghost use Rattle.mq_spec_state.specs.State.Which.{Among, HeldByUnits, Nonpersistent};
-ghost use Rattle.mq_place.specs.States.{state_in, state_or, change_state, on_queue, on_queues, served, switched_on, fresh_state, without_state, expecting, unpended, arrived, with_lanes, depth_of, size_of, rows_in, free_idents, is_free_after, row_at, rows_removed, CanPlace, IsNowhere, AreApart};
+ghost use Rattle.mq_spec_state.specs.State.Which.{Among, HeldBy, HeldByUnits, Nonpersistent};
+ghost use Rattle.mq_place.specs.States.{held_rows, state_in, state_or, change_state, on_queue, on_queues, served, switched_on, fresh_state, without_state, expecting, unpended, arrived, with_lanes, depth_of, size_of, rows_in, free_idents, is_free_after, row_at, rows_removed, CanPlace, IsNowhere, AreApart};
 
 use crate::homes::{IdentKey, drop_home, home_of, note_home, reserve_homes};
 use crate::local::LocalRows;
 use crate::named::NamedQueues;
 use indexmap::IndexMap;
 use mq_base::{Items, NoMemory};
+use mq_calls::Remove;
 use mq_message::{Holder, Ident, Message, Place};
 use mq_name::QName;
 use mq_queue::{Queue, Row};
@@ -22,7 +23,7 @@ use std::marker::Model;
 /// The local queues of a manager in order of definition, found by name, and by the ident of a row. Contracts see what each
 /// has, and for how many more queues there is memory.
 ///
-/// All calls but `expect`, `reserve_queue` and `free_idents` take no memory.
+/// All calls but `expect`, `reserve_queue`, `free_idents` and `held_rows` take no memory.
 #[derive(Drop)]
 pub struct Queues<Q: Queue + Drop> {
     named: NamedQueues<Q>,
@@ -350,6 +351,27 @@ impl<Q: Queue + Drop> Queues<Q> {
         ensures { self.new ≡ record self.old { states = on_queues (released_in HeldByUnits true) self.old.states } }
     {
         self.named.free_units();
+    }
+
+    /// Frees all rows that a holder has, on all queues, with no backout counted.
+    pub fn free_held(&mut self, by: &Holder)
+        ensures { self.new ≡ record self.old { states = on_queues (released_in (HeldBy by.now) false) self.old.states } }
+    {
+        self.named.free_held(by);
+    }
+
+    /// Takes all rows out that a holder has, on all queues.
+    pub fn remove_held(&mut self, by: &Holder)
+        ensures { self.new ≡ record self.old { states = on_queues (kept_in (HeldBy by.now)) self.old.states } }
+    {
+        self.named.remove_held(by);
+    }
+
+    /// Adds the rows that a holder has, in order of definition, and of place on each queue. After a refusal some may be there.
+    pub fn held_rows(&self, by: &Holder, rows: &mut Items<Remove>) -> Result<(), NoMemory>
+        ensures { OnOk result (rows.new ≡ rows.old ++ held_rows by.now self.now.states) }
+    {
+        self.named.held_rows(by, rows)
     }
 
     /// No trigger is due any more, none was, and no queue counts as NOTRIGGER, as after a stop.
