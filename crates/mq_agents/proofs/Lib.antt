@@ -1,4 +1,5 @@
 pub mod WalkLaws
+pub mod ExpireLaws
 pub mod EndLaws
 pub mod WriteLaws
 pub mod TellLaws

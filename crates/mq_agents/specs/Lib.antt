@@ -2,3 +2,4 @@ pub mod Ends
 pub mod Written
 pub mod Removing
 pub mod Releasing
+pub mod Expiring

@@ -3,6 +3,7 @@
 
 mod batches;
 mod discarding;
+mod expiring;
 mod hardening;
 mod preparing;
 mod reading;
@@ -12,6 +13,7 @@ mod walking;
 
 pub use batches::hold_batch;
 pub use discarding::discard;
+pub use expiring::expire;
 pub use hardening::{
     Unwritten, harden_bound, harden_closed, harden_last_received, harden_last_sent, harden_session,
 };
