@@ -5,7 +5,8 @@ use Rattle.mq_base.specs.Outside.{Rose}
 use Rattle.mq_disk.specs.declared.cutter.Stop.{Stop}
 use Rattle.mq_disk.specs.declared.cutter.Stop.TheVariants as stops
 use Rattle.mq_calls.specs.declared.commands.Halt.TheVariants as halts
-use Rattle.mq_spec_state.specs.Words.{Reason, Did, Part, Plain, Do, ManagerValue, Meets, IsWrite, StopsAt, do_all, do_part, delta_of, delta_before, stopped_at, write_calls, calls_at, calls_before}
+use Rattle.mq_spec_state.specs.Words.{Reason, Did, Part, Plain, Do, IsWrite, StopsAt, do_all, do_part, delta_of, delta_before, stopped_at, write_calls, calls_at, calls_before}
+use Rattle.mq_core.specs.Values.{CoreValue, LogBodies, MeetsTold, behind_record, wrote_all, broke_at}
 use Rattle.mq_get.specs.Does.{HasRun, HasBroken}
 
 -- the number of a part behind others
@@ -50,6 +51,15 @@ unfolding behind
 delta_behind [] qs k = refl
 delta_behind (a ∷ ps) qs k = ap (λ (d : List Did). a.delta ++ d) (delta_behind ps qs k) ∙ sym (append_assoc a.delta (delta_of ps) (delta_before k qs))
 
+wrote_both : (ps qs : List Part) (l : LogBodies) → wrote_all (ps ++ qs) l ≡ wrote_all qs (wrote_all ps l)
+wrote_both [] qs l = refl
+wrote_both (a ∷ ps) qs l = wrote_both ps qs (behind_record a.forced l)
+
+broke_behind : (ps qs : List Part) (k : ℕ) (l : LogBodies) → broke_at (behind ps k) (ps ++ qs) l ≡ broke_at k qs (wrote_all ps l)
+unfolding behind
+broke_behind [] qs k l = refl
+broke_behind (a ∷ ps) qs k l = broke_behind ps qs k (behind_record a.forced l)
+
 -- a part in front of others
 write_front : (k : ℕ) (ps qs : List Part) → IsWrite k ps → IsWrite k (ps ++ qs)
 write_front k [] qs w = absurd w
@@ -76,17 +86,23 @@ delta_front k [] qs w = absurd w
 delta_front zero (a ∷ ps) qs w = refl
 delta_front (suc k) (a ∷ ps) qs w = ap (λ (d : List Did). a.delta ++ d) (delta_front k ps qs w)
 
+broke_front : (k : ℕ) (ps qs : List Part) (l : LogBodies) → IsWrite k ps → broke_at k (ps ++ qs) l ≡ broke_at k ps l
+broke_front k [] qs l w = absurd w
+broke_front zero (a ∷ ps) qs l w = refl
+broke_front (suc k) (a ∷ ps) qs l w = broke_front k ps qs (behind_record a.forced l) w
+
 rose_later : (v m w : ℕ) → v ≤ m → Rose m w → Rose v w
 rose_later v m w le rose = omega (arith, le, rose)
 
 -- both were done
-pub run_both : (ps qs : List Part) (v m w : ManagerValue) → HasRun ps v m → HasRun qs m w → HasRun (ps ++ qs) v w
+pub run_both : (ps qs : List Part) (v m w : CoreValue) → HasRun ps v m → HasRun qs m w → HasRun (ps ++ qs) v w
 run_both ps qs v m w a b = record {
   plain = b.plain ∙ ap (do_all qs) a.plain ∙ sym (do_both ps qs v.plain);
   told = b.told ∙ ap (λ (d : List Did). d ++ delta_of qs) a.told ∙ append_assoc v.delta (delta_of ps) (delta_of qs) ∙ ap (λ (d : List Did). v.delta ++ d) (sym (delta_both ps qs));
   later = omega (arith, a.later, b.later);
   ran = λ some. let one = a.ran some in let two = b.ran (omega (arith, one, a.armed)) in omega (arith, one, two, a.armed, calls_both ps qs);
   armed = omega (arith, a.armed, b.armed, calls_both ps qs);
+  log = b.log ∙ ap (wrote_all qs) a.log ∙ sym (wrote_both ps qs v.log);
 }
 
 -- the first were done, then a write was stopped
@@ -95,7 +111,7 @@ stops_behind stops.Cut calls armed more before left ran s = (omega (arith, s.0),
 stops_behind stops.Disk calls armed more before left ran s =
     ((λ some. let one = ran some in let two = s.0 (omega (arith, one)) in (omega (arith, two.0), two.1, omega (arith, two.2))), omega (arith, s.1), (λ none. s.2 (omega (arith, none))))
 
-pub broken_behind : (by : Stop) (ps qs : List Part) (v m w : ManagerValue) → HasRun ps v m → HasBroken by qs m w → HasBroken by (ps ++ qs) v w
+pub broken_behind : (by : Stop) (ps qs : List Part) (v m w : CoreValue) → HasRun ps v m → HasBroken by qs m w → HasBroken by (ps ++ qs) v w
 broken_behind by ps qs v m w a b = record {
   part = behind ps b.part;
   write = write_behind ps qs b.part b.write;
@@ -108,10 +124,11 @@ broken_behind by ps qs v m w a b = record {
   told = b.told ∙ ap (λ (d : List Did). d ++ delta_before b.part qs) a.told ∙ append_assoc v.delta (delta_of ps) (delta_before b.part qs) ∙ ap (λ (d : List Did). v.delta ++ d) (sym (delta_behind ps qs b.part));
   later = omega (arith, a.later, b.later);
   rose = λ e. rose_later v.faults m.faults w.faults a.later (b.rose e);
+  log = b.log ∙ ap (broke_at b.part qs) a.log ∙ sym (broke_behind ps qs b.part v.log);
 }
 
 -- a write was stopped, and nothing behind it was done
-pub broken_front : (by : Stop) (ps qs : List Part) (v w : ManagerValue) → HasBroken by ps v w → HasBroken by (ps ++ qs) v w
+pub broken_front : (by : Stop) (ps qs : List Part) (v w : CoreValue) → HasBroken by ps v w → HasBroken by (ps ++ qs) v w
 broken_front by ps qs v w b = record {
   part = b.part;
   write = write_front b.part ps qs b.write;
@@ -122,23 +139,27 @@ broken_front by ps qs v w b = record {
   told = b.told ∙ ap (λ (d : List Did). v.delta ++ d) (sym (delta_front b.part ps qs b.write));
   later = b.later;
   rose = b.rose;
+  log = b.log ∙ sym (broke_front b.part ps qs v.log b.write);
 }
 
 -- how the call then ends
-pub run_meets : {T : Type 0} (ps : List Part) (reply : T) (v w : ManagerValue) → v.delta ≡ [] → w.stopped ≡ None → HasRun ps v w → Meets {F = Reason} v (Do reply ps) (Ok reply) w
+pub run_meets : {T : Type 0} (ps : List Part) (reply : T) (v w : CoreValue) → v.delta ≡ [] → w.stopped ≡ None → HasRun ps v w → MeetsTold {F = Reason} v (Do reply ps) (Ok reply) w
 run_meets ps reply v w none stopped h =
-    (refl, h.ran, h.later, (λ i. record { plain = h.plain i; delta = (h.told ∙ ap (λ (d : List Did). d ++ delta_of ps) none) i; stopped = stopped i; faults = w.faults }))
+    record { meets = (refl, h.ran, h.later, (λ i. record { plain = h.plain i; delta = (h.told ∙ ap (λ (d : List Did). d ++ delta_of ps) none) i; stopped = stopped i; faults = w.faults })); told = h.log }
 
-pub broken_meets : {T : Type 0} (by : Stop) (ps : List Part) (reply : T) (v w : ManagerValue) → v.delta ≡ [] → w.stopped ≡ Some by → HasBroken by ps v w → Meets {F = Reason} v (Do reply ps) (Err (halts.Stopped by)) w
+pub broken_meets : {T : Type 0} (by : Stop) (ps : List Part) (reply : T) (v w : CoreValue) → v.delta ≡ [] → w.stopped ≡ Some by → HasBroken by ps v w → MeetsTold {F = Reason} v (Do reply ps) (Err (halts.Stopped by)) w
 broken_meets by ps reply v w none stopped h = record {
-  part = h.part;
-  write = h.write;
-  stop = h.stop;
-  next = λ i. record { plain = h.plain i; delta = (h.told ∙ ap (λ (d : List Did). d ++ delta_before h.part ps) none) i; stopped = stopped i; faults = w.faults };
-  later = h.later;
-  rose = h.rose;
+  meets = record {
+    part = h.part;
+    write = h.write;
+    stop = h.stop;
+    next = λ i. record { plain = h.plain i; delta = (h.told ∙ ap (λ (d : List Did). d ++ delta_before h.part ps) none) i; stopped = stopped i; faults = w.faults };
+    later = h.later;
+    rose = h.rose;
+  };
+  told = record { part = h.part; write = h.write; plain = h.plain; log = h.log };
 }
 
 -- nothing is done
-pub say_meets : {T : Type 0} (reply : T) (v w : ManagerValue) → v.delta ≡ [] → w.delta ≡ [] → w.plain ≡ v.plain → w.faults ≡ v.faults → w.stopped ≡ None → Meets {F = Reason} v (Do reply []) (Ok reply) w
-say_meets reply v w none told plain faults stopped = (refl, (λ some. some), omega (arith, faults), (λ i. record { plain = plain i; delta = told i; stopped = stopped i; faults = w.faults }))
+pub say_meets : {T : Type 0} (reply : T) (v w : CoreValue) → v.delta ≡ [] → w.delta ≡ [] → w.plain ≡ v.plain → w.faults ≡ v.faults → w.stopped ≡ None → w.log ≡ v.log → MeetsTold {F = Reason} v (Do reply []) (Ok reply) w
+say_meets reply v w none told plain faults stopped log = record { meets = (refl, (λ some. some), omega (arith, faults), (λ i. record { plain = plain i; delta = told i; stopped = stopped i; faults = w.faults })); told = log }

@@ -2,7 +2,7 @@
 use Rattle.std.proofs.Common.{◌≡◌, ℕ, ◌+◌, ◌-◌, ◌≤◌, Bool, true, false, cond, List, [], ◌∷◌, ◌++◌, length, refl, ap, arith, sym, subst, ◌∙◌}
 use Rattle.std.specs.Prelude.{Option, Some, None, Err, map, ◌==◌}
 use Rattle.mq_disk.specs.declared.cutter.Stop.{Stop}
-use Rattle.mq_spec_state.specs.Words.{Ident, Remove, Did, Plain, Item, Among, Connection, ManagerValue, LogRecord, held_in, kept_in, connection_at, change_connection, unit_need, logged, forced_calls, delta_of}
+use Rattle.mq_spec_state.specs.Words.{Ident, Remove, Did, Plain, Item, Among, Connection, LogRecord, held_in, kept_in, connection_at, change_connection, unit_need, logged, forced_calls, delta_of}
 use Rattle.mq_calls.specs.declared.state.Item.TheVariants.{Take}
 use Rattle.mq_calls.specs.declared.deltas.Why.TheVariants as whys
 use Rattle.mq_message.specs.declared.place.Holder.TheVariants as holders
@@ -15,6 +15,7 @@ use Rattle.mq_scan.specs.declared.scanning.Met.{Met}
 use Rattle.mq_core.specs.Views.{PartsValue, plain_of}
 use Rattle.mq_core.specs.Ties.{Tied, mode_is_up}
 use Rattle.mq_core.specs.Forced.{HasMoreRoom}
+use Rattle.mq_core.specs.Values.{CoreValue, bodies_in, behind_record}
 use Rattle.mq_core.proofs.PutLaws.{tied_roomier, roomier_view}
 use Rattle.mq_get.specs.declared.leaving.Leaving.{Leaving}
 use Rattle.mq_get.specs.Leaving.{leaving_record, leaving_need, leaving_part, leaving_met, gone_part, gone_parts, held_part}
@@ -110,7 +111,7 @@ held_run number queue mets met need n x r w y t u l is untold up roomy more h =
     let o : Option LogRecord = leaving_record l.removes in
     let p : Plain = plain_of x in
     let runs : HasRun (leaving_part queue l whys.Expired ∷ []) (seen w t.dids None) (seen h.mid h.left.dids None) = dropped_runs queue l whys.Expired w t h.mid h.left h.dropped in
-    let m : ManagerValue = record { plain = leave_by queue l.idents (logged o p); delta = h.left.dids; stopped = None; faults = h.mid.log.faults } in
+    let m : CoreValue = record { plain = leave_by queue l.idents (logged o p); delta = h.left.dids; stopped = None; faults = h.mid.log.faults; log = behind_record o (bodies_in x.log) } in
     let armed : w.log.armed ≡ x.log.armed = ap (λ (z : PartsValue). z.log.armed) more.same ∙ ap (λ (z : PartsValue). z.log.armed) roomy.same in
     let faults : w.log.faults ≡ x.log.faults = ap (λ (z : PartsValue). z.log.faults) more.same ∙ ap (λ (z : PartsValue). z.log.faults) roomy.same in
     let is_armed = part_armed o p in
@@ -120,6 +121,7 @@ held_run number queue mets met need n x r w y t u l is untold up roomy more h =
       later = omega (arith, faults, runs.later);
       ran = λ some. let a = runs.ran (omega (arith, armed, some)) in omega (arith, armed, a);
       armed = is_armed;
+      log = refl;
     } in
     let gone : HasRun (gone_part whys.Expired queue mets ∷ []) (seen x [] None) m = subst (λ (k : Leaving). HasRun (leaving_part queue k whys.Expired ∷ []) (seen x [] None) m) is first in
     let view : plain_of w ≡ pend_by number item p = item_view number item need r w (roomy_up n x r roomy up) more ∙ ap (pend_by number item) (roomy_view n x r roomy) in
@@ -129,6 +131,7 @@ held_run number queue mets met need n x r w y t u l is untold up roomy more h =
       later = let a = ap (λ (z : PartsValue). z.log.faults) h.held in omega (arith, a);
       ran = λ some. some;
       armed = let a = ap (λ (z : PartsValue). z.log.armed) h.held in omega (arith, a, runs.armed, armed, is_armed);
+      log = ap (λ (z : PartsValue). bodies_in z.log) h.held ∙ runs.log ∙ ap (behind_record o) (ap (λ (z : PartsValue). bodies_in z.log) more.same ∙ ap (λ (z : PartsValue). bodies_in z.log) roomy.same);
     } in
     run_both (gone_parts whys.Expired queue mets) (held_part number queue met ∷ []) (seen x [] None) m (seen y u.dids None) (gone_runs whys.Expired queue mets (seen x [] None) m gone) then
 
@@ -166,12 +169,13 @@ unheld_cut number queue mets met need n stop x r w y t u l is untold tied roomy 
     let breaks : HasBroken stop (leaving_part queue l whys.Expired ∷ []) (seen v t.dids None) (seen y t.dids (Some stop)) = stopped_breaks queue l whys.Expired stop v (unheld number need d.written) y t.dids writes d.gone in
     let plain : plain_of v ≡ plain_of x = roomier_view r v room ∙ roomy_view n x r roomy in
     let faults : v.log.faults ≡ x.log.faults = ap (λ (z : PartsValue). z.log.faults) room.same ∙ ap (λ (z : PartsValue). z.log.faults) roomy.same in
-    let same : seen v t.dids None ≡ seen x [] None = (λ i. record { plain = plain i; delta = untold i; stopped = None; faults = faults i }) in
+    let log : bodies_in v.log ≡ bodies_in x.log = ap (λ (z : PartsValue). bodies_in z.log) room.same ∙ ap (λ (z : PartsValue). bodies_in z.log) roomy.same in
+    let same : seen v t.dids None ≡ seen x [] None = (λ i. record { plain = plain i; delta = untold i; stopped = None; faults = faults i; log = log i }) in
     let told = ap (λ (s : Telling). s.dids) d.told in
     let gone : HasBroken stop (gone_part whys.Expired queue mets ∷ []) (seen x [] None) (seen y u.dids (Some stop)) =
     subst (λ (ds : List Did). HasBroken stop (gone_part whys.Expired queue mets ∷ []) (seen x [] None) (seen y ds (Some stop))) (sym told)
     (subst (λ (k : Leaving). HasBroken stop (leaving_part queue k whys.Expired ∷ []) (seen x [] None) (seen y t.dids (Some stop))) is
-    (subst (λ (m : ManagerValue). HasBroken stop (leaving_part queue l whys.Expired ∷ []) m (seen y t.dids (Some stop))) same breaks)) in
+    (subst (λ (m : CoreValue). HasBroken stop (leaving_part queue l whys.Expired ∷ []) m (seen y t.dids (Some stop))) same breaks)) in
     record {
       broken = broken_front stop (gone_parts whys.Expired queue mets) (held_part number queue met ∷ []) (seen x [] None) (seen y u.dids (Some stop)) (gone_breaks whys.Expired queue mets stop (seen x [] None) (seen y u.dids (Some stop)) gone);
       tied = stopped_tied queue l whys.Expired stop v (unheld number need d.written) y writes d.gone (tied_roomier r v room (tied_roomy n x r roomy tied));

@@ -1,7 +1,6 @@
 -- A row that is held for a unit: from the item that waits to the row that is held.
 use Rattle.std.proofs.Common.{◌≡◌, ℕ, zero, suc, ◌+◌, ◌<◌, ◌≤◌, ◌^◌, Bool, true, false, cond, List, [], ◌∷◌, ◌++◌, refl, ap, arith, sym, subst, ◌∙◌}
 use Rattle.std.proofs.lemmas.List.Sums.{sum_by_push}
-use Rattle.std.proofs.lemmas.List.Recursion.{is_count_by}
 use Rattle.std.proofs.lemmas.Bool.Decides.{nat_tests}
 use Rattle.std.specs.Prelude.{Some, map, sum_by, count_by, ◌==◌, ◌&&◌}
 use Rattle.mq_spec_state.specs.State.{Queue as StateQueue}
@@ -17,7 +16,7 @@ use Rattle.mq_core.specs.Views.{PartsValue, plain_of, frozen_of}
 use Rattle.mq_core.specs.Ties.{Tied, one_if, state_lanes, pending_at, times_in_rows, times_in_queues, times_in_unit, mode_is_up}
 use Rattle.mq_core.proofs.ForceLaws.{queues_on, seen_on, times_on}
 use Rattle.mq_core.proofs.MeetLaws.{running_up}
-use Rattle.mq_core.proofs.PendLaws.{sum_changed, times_units_changed, forced_changed, unit_le}
+use Rattle.mq_core.proofs.PendLaws.{sum_changed, times_units_changed, forced_changed, unit_le, puts_in, puts_in_count, room_or, within_or}
 use Rattle.mq_get.specs.Rooms.{IsRoomy, IsItemMore, holding}
 
 -- what a held row needs
@@ -31,9 +30,9 @@ need_take items queue ident persistent n some none = ap with_head (sum_by_push i
     by true some none = head_more (sum_by item_bytes items) 65 (omega arith) ∙ ap (λ (k : ℕ). with_head (sum_by item_bytes items) + k) (sym (some refl))
     by false some none = let zero = none refl in let e : sum_by item_bytes items + 0 ≡ sum_by item_bytes items = omega arith in ap with_head e ∙ omega (arith, zero)
 
-pub take_small : (number : ℕ) (queue : List ℕ) (ident : Ident) (persistent : Bool) (n : ℕ) (c : Connection) (x : PartsValue) → connection_at number x.desk.live ≡ Some c → unit_need (c.unit ++ Take queue ident persistent ∷ []) ≡ unit_need c.unit + n → n ≤ 79 → Tied x
+pub take_small : (number : ℕ) (queue : List ℕ) (ident : Ident) (persistent : Bool) (n : ℕ) (c : Connection) (x : PartsValue) → connection_at number x.desk.live ≡ Some c → unit_need (c.unit ++ Take queue ident persistent ∷ []) ≡ unit_need c.unit + n → n ≤ 79 → mode_is_up x.mode ≡ true → Tied x
     → unit_need (c.unit ++ Take queue ident persistent ∷ []) < 2 ^ 64
-take_small number queue ident persistent n c x found more small t = let le = unit_le number x.desk.live c found in omega (arith, more, le, small, t.reserved, t.within, t.max)
+take_small number queue ident persistent n c x found more small up t = let le = unit_le number x.desk.live c found in let r = t.reserved up in let w = t.within up in omega (arith, more, le, small, r, w, t.max)
 
 -- a row that is held is no put
 times_take : (i : Ident) (items : List Item) (queue : List ℕ) (ident : Ident) (persistent : Bool) → times_in_unit i (items ++ Take queue ident persistent ∷ []) ≡ times_in_unit i items
@@ -45,15 +44,7 @@ forced_take : (items : List Item) (queue : List ℕ) (ident : Ident) (persistent
 forced_take [] queue ident persistent h = (tt, tt)
 forced_take (k ∷ items) queue ident persistent h = (h.0, forced_take items queue ident persistent h.1)
 
--- puts to a queue, counted one by one
-puts_in : List ℕ → List Item → ℕ
-puts_in name [] = 0
-puts_in name (item ∷ items) = cond (is_put_to name item) (1 + puts_in name items) (puts_in name items)
-
-puts_in_count : (name : List ℕ) (items : List Item) → puts_in name items ≡ count_by (is_put_to name) items
-unfolding puts_in
-puts_in_count name items = is_count_by (puts_in name) (is_put_to name) refl (λ x xs. refl) items
-
+-- nor does one more wait
 puts_in_take : (name : List ℕ) (items : List Item) (queue : List ℕ) (ident : Ident) (persistent : Bool) → puts_in name (items ++ Take queue ident persistent ∷ []) ≡ puts_in name items
 unfolding puts_in
 puts_in_take name [] queue ident persistent = refl
@@ -61,15 +52,6 @@ puts_in_take name (item ∷ items) queue ident persistent = ap (λ (n : ℕ). co
 
 count_take : (name : List ℕ) (items : List Item) (queue : List ℕ) (ident : Ident) (persistent : Bool) → count_by (is_put_to name) (items ++ Take queue ident persistent ∷ []) ≡ count_by (is_put_to name) items
 count_take name items queue ident persistent = sym (puts_in_count name (items ++ Take queue ident persistent ∷ [])) ∙ puts_in_take name items queue ident persistent ∙ puts_in_count name items
-
--- where nothing is needed more
-room_or : (n res room more : ℕ) → res ≤ room → room ≤ more → (0 < n → res + n ≤ more) → res + n ≤ more
-room_or zero res room more le grows need = omega (arith, le, grows)
-room_or (suc n) res room more le grows need = need (omega arith)
-
-within_or : (n res most : ℕ) → res ≤ most → (0 < n → res + n ≤ most) → res + n ≤ most
-within_or zero res most le need = omega (arith, le)
-within_or (suc n) res most le need = need (omega arith)
 
 -- more room leaves all tied
 pub tied_roomy : (n : ℕ) (x y : PartsValue) → IsRoomy n x y → Tied x → Tied y
@@ -96,8 +78,8 @@ tied_item number queue ident persistent n c x y found more p t =
     let sums = sum_changed unit_need number f x.desk.live c found in
     subst Tied (sym p.same) (record {
       up = λ u. let w = t.up u in record { live = w.live; settled = w.settled; room = room_or n _ _ _ w.room p.more p.room; body = let b = w.body in omega (arith, b, p.body) };
-      reserved = omega (arith, t.reserved, sums, more);
-      within = within_or n _ _ t.within p.within;
+      reserved = λ u. let r = t.reserved u in omega (arith, r, sums, more);
+      within = λ u. within_or n _ _ (t.within u) p.within;
       queues = record {
         lanes = t.queues.lanes;
         pending = λ name.

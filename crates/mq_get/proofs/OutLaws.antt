@@ -6,7 +6,7 @@ use Rattle.std.specs.Str.{bytes_eq}
 use Rattle.mq_base.specs.Outside.{Rose}
 use Rattle.mq_disk.specs.declared.cutter.Stop.{Stop}
 use Rattle.mq_spec_state.specs.State.{Queue as StateQueue}
-use Rattle.mq_spec_state.specs.Words.{Ident, Remove, Row, Did, Plain, ManagerValue, Among, keep, kept_in, selects, logged, forced_calls, note_of, freeze, StopsAt, IsWrite}
+use Rattle.mq_spec_state.specs.Words.{Ident, Remove, Row, Did, Plain, Among, keep, kept_in, selects, logged, forced_calls, note_of, freeze, StopsAt, IsWrite}
 use Rattle.mq_calls.specs.declared.deltas.Why.{Why}
 use Rattle.mq_calls.specs.declared.deltas.Did.TheVariants as did
 use Rattle.mq_calls.specs.declared.records.LogRecord.TheVariants as records
@@ -17,6 +17,7 @@ use Rattle.mq_unit.specs.Told.{Telling}
 use Rattle.mq_core.specs.declared.parts.StoppedWrite.TheVariants as writes
 use Rattle.mq_core.specs.Views.{PartsValue, plain_of}
 use Rattle.mq_core.specs.Ties.{Tied, state_lanes, pending_at, times_in_queues, mode_is_up}
+use Rattle.mq_core.specs.Values.{CoreValue, bodies_in, behind_record}
 use Rattle.mq_core.proofs.ForceLaws.{queues_on, seen_on, times_on, times_keep, forced_view, frozen_view, tied_downed, stops_at}
 use Rattle.mq_get.specs.declared.leaving.Leaving.{Leaving}
 use Rattle.mq_get.specs.Leaving.{leaving_record, leaving_need, leaving_part, gone_part, gone_parts}
@@ -44,6 +45,7 @@ pub record Wrote (removes : List Remove) (x z : PartsValue) : Type 0 where
   pub room : x.log.room ≤ z.log.room + leaving_need removes
   pub body : x.body.room + length x.body.bytes ≤ z.body.room + length z.body.bytes
   pub view : plain_of z ≡ logged (leaving_record removes) (plain_of x)
+  pub bodies : bodies_in z.log ≡ behind_record (leaving_record removes) (bodies_in x.log)
 
 pub wrote : (removes : List Remove) (x z : PartsValue) → Writes removes x (Ok tt) z → Wrote removes x z
 wrote [] x z e = record {
@@ -58,6 +60,7 @@ wrote [] x z e = record {
   room = let a = ap (λ (y : PartsValue). y.log.room) e in omega (arith, a);
   body = let a = ap (λ (y : PartsValue). y.body.room + length y.body.bytes) e in omega (arith, a);
   view = ap plain_of e;
+  bodies = ap (λ (y : PartsValue). bodies_in y.log) e;
 }
 wrote (r ∷ rs) x z f = record {
   same = f.same;
@@ -71,6 +74,7 @@ wrote (r ∷ rs) x z f = record {
   room = f.room;
   body = f.body;
   view = forced_view (records.Unit [] (r ∷ rs)) x z f;
+  bodies = ap bodies_in f.log;
 }
 
 -- rows that leave leave all tied
@@ -83,8 +87,8 @@ tied_out removes queue idents x z w room t =
     let f = kept_in (Among queue idents) in
     subst (λ (y : PartsValue). Tied (out_by queue idents y)) (sym w.same) (record {
       up = λ u. let o = t.up u in let r = room u in record { live = w.live ∙ o.live; settled = w.settled ∙ o.settled; room = omega (arith, r, w.room, w.reserved); body = let b = o.body in omega (arith, b, w.body, w.reserved) };
-      reserved = w.reserved ∙ t.reserved;
-      within = omega (arith, w.reserved, w.max, t.within);
+      reserved = λ u. w.reserved ∙ t.reserved u;
+      within = λ u. let most = t.within u in omega (arith, w.reserved, w.max, most);
       queues = record {
         lanes = λ name. seen_on f (λ q. refl) state_lanes (λ s. refl) name x.queues.states ∙ t.queues.lanes name;
         pending = λ name. seen_on f (λ q. refl) pending_at (λ s. refl) name x.queues.states ∙ t.queues.pending name;
@@ -119,6 +123,7 @@ dropped_runs queue l why x t y u d =
       later = let a = ap (λ (z : PartsValue). z.log.faults) d.gone in omega (arith, a, w.later);
       ran = λ some. let a = w.ran some in omega (arith, a);
       armed = let a = ap (λ (z : PartsValue). z.log.armed) d.gone in omega (arith, a, w.armed);
+      log = ap (λ (z : PartsValue). bodies_in z.log) d.gone ∙ w.bodies;
     }
 
 -- their write was stopped
@@ -144,6 +149,7 @@ stopped_breaks queue l why stop x z y told f gone = by l.removes refl f
           told = sym (append-nil told);
           later = omega (arith, failed, f.later);
           rose = λ e. subst (λ (n : ℕ). Rose x.log.faults n) (sym failed) (f.disk (ap (λ (s : Stop). Err s) e));
+          log = ap (λ (w : PartsValue). bodies_in w.log) gone ∙ ap bodies_in f.log;
         }) gone
 
 pub stopped_tied : (queue : List ℕ) (l : Leaving) (why : Why) (stop : Stop) (x z y : PartsValue) → Writes l.removes x (Err stop) z → y ≡ downed_out queue l why z → Tied x → Tied y
@@ -166,7 +172,7 @@ none_out : (queue : List ℕ) (qs : List StateQueue) → map (kept_in (Among que
 none_out queue [] = refl
 none_out queue (q ∷ qs) = (λ i. record q { rows = keep_all queue q.name q.rows i } ∷ none_out queue qs i)
 
-pub gone_runs : (why : Why) (queue : List ℕ) (mets : List Met) (v w : ManagerValue) → HasRun (gone_part why queue mets ∷ []) v w → HasRun (gone_parts why queue mets) v w
+pub gone_runs : (why : Why) (queue : List ℕ) (mets : List Met) (v w : CoreValue) → HasRun (gone_part why queue mets ∷ []) v w → HasRun (gone_parts why queue mets) v w
 unfolding with_queues
 gone_runs why queue [] v w h = record {
   plain = h.plain ∙ ap (with_queues v.plain) (none_out queue v.plain.queues);
@@ -174,10 +180,11 @@ gone_runs why queue [] v w h = record {
   later = h.later;
   ran = h.ran;
   armed = h.armed;
+  log = h.log;
 }
 gone_runs why queue (m ∷ ms) v w h = h
 
-pub gone_breaks : (why : Why) (queue : List ℕ) (mets : List Met) (by : Stop) (v w : ManagerValue) → HasBroken by (gone_part why queue mets ∷ []) v w → HasBroken by (gone_parts why queue mets) v w
+pub gone_breaks : (why : Why) (queue : List ℕ) (mets : List Met) (by : Stop) (v w : CoreValue) → HasBroken by (gone_part why queue mets ∷ []) v w → HasBroken by (gone_parts why queue mets) v w
 gone_breaks why queue [] by v w h = absurd (none h.part h.write)
   where
     none : (k : ℕ) → IsWrite k (gone_part why queue [] ∷ []) → ⊥

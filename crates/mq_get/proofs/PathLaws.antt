@@ -9,7 +9,7 @@ use Rattle.mq_calls.specs.declared.deltas.Why.{Why}
 use Rattle.mq_calls.specs.declared.deltas.Why.TheVariants as whys
 use Rattle.mq_message.specs.declared.place.Place.{Place}
 use Rattle.mq_spec_state.specs.State.Change.{SetCursor}
-use Rattle.mq_spec_state.specs.Words.{Reason, Remove, Did, Part, Do, Connection, ManagerValue, Meets, silent, connection_at, change_connection, with_connection}
+use Rattle.mq_spec_state.specs.Words.{Reason, Remove, Did, Part, Do, Connection, silent, connection_at, change_connection, with_connection}
 use Rattle.mq_scan.specs.declared.scanning.Met.{Met}
 use Rattle.mq_record.specs.Room.{Buffered}
 use Rattle.mq_unit.specs.Told.{Telling}
@@ -18,6 +18,8 @@ use Rattle.mq_handles.specs.Seats.{cursor_set}
 use Rattle.mq_core.specs.Views.{PartsValue, plain_of}
 use Rattle.mq_core.specs.Ties.{Tied, mode_is_up}
 use Rattle.mq_core.specs.Forced.{HasMoreRoom}
+use Rattle.mq_core.specs.Values.{CoreValue, MeetsTold, bodies_in}
+use Rattle.mq_core.proofs.WriteLaws.{roomier_bodies}
 use Rattle.mq_core.proofs.PutLaws.{tied_roomier, roomier_view}
 use Rattle.mq_core.proofs.MeetLaws.{changed_view}
 use Rattle.mq_core.proofs.SeatLaws.{tied_seated, unit_kept, number_is}
@@ -53,7 +55,7 @@ dropped_after queue l why x t y u d room tied =
 
 -- room was taken: nothing of it is seen
 pub seen_roomy : (n : ℕ) (x r : PartsValue) (told : List Did) → IsRoomy n x r → told ≡ [] → seen r told None ≡ seen x [] None
-seen_roomy n x r told h none = let plain = roomy_view n x r h in let faults = ap (λ (z : PartsValue). z.log.faults) h.same in λ i. record { plain = plain i; delta = none i; stopped = None; faults = faults i }
+seen_roomy n x r told h none = let plain = roomy_view n x r h in let faults = ap (λ (z : PartsValue). z.log.faults) h.same in let log = ap (λ (z : PartsValue). bodies_in z.log) h.same in λ i. record { plain = plain i; delta = none i; stopped = None; faults = faults i; log = log i }
 
 pub roomy_reserved : (n : ℕ) (x r : PartsValue) → IsRoomy n x r → r.log.reserved ≡ x.log.reserved
 roomy_reserved n x r h = ap (λ (z : PartsValue). z.log.reserved) h.same
@@ -82,7 +84,7 @@ cleared queue mets n x r mid y t u l is need untold up tied roomy d back =
     let after = dropped_after queue l whys.Expired r t mid u d (roomy_log n (leaving_need l.removes) x r roomy (omega (arith, need))) (tied_roomy n x r roomy tied) in
     let runs : HasRun (leaving_part queue l whys.Expired ∷ []) (seen r t.dids None) (seen mid u.dids None) = dropped_runs queue l whys.Expired r t mid u d in
     let gone : HasRun (gone_part whys.Expired queue mets ∷ []) (seen x [] None) (seen mid u.dids None) =
-    subst (λ (k : Leaving). HasRun (leaving_part queue k whys.Expired ∷ []) (seen x [] None) (seen mid u.dids None)) is (subst (λ (v : ManagerValue). HasRun (leaving_part queue l whys.Expired ∷ []) v (seen mid u.dids None)) same runs) in
+    subst (λ (k : Leaving). HasRun (leaving_part queue k whys.Expired ∷ []) (seen x [] None) (seen mid u.dids None)) is (subst (λ (v : CoreValue). HasRun (leaving_part queue l whys.Expired ∷ []) v (seen mid u.dids None)) same runs) in
     record {
       run = subst (λ (z : PartsValue). HasRun (gone_parts whys.Expired queue mets) (seen x [] None) (seen z u.dids None)) (sym back) (gone_runs whys.Expired queue mets (seen x [] None) (seen mid u.dids None) gone);
       tied = back_tied n x r mid y roomy up tied after.tied after.reserved after.body back;
@@ -97,17 +99,17 @@ cut_off queue mets n stop x r y t u l is untold tied roomy d =
     let told = ap (λ (s : Telling). s.dids) d.told in
     let breaks : HasBroken stop (leaving_part queue l whys.Expired ∷ []) (seen r t.dids None) (seen y t.dids (Some stop)) = stopped_breaks queue l whys.Expired stop r d.written y t.dids d.writes d.gone in
     let gone : HasBroken stop (gone_part whys.Expired queue mets ∷ []) (seen x [] None) (seen y t.dids (Some stop)) =
-    subst (λ (k : Leaving). HasBroken stop (leaving_part queue k whys.Expired ∷ []) (seen x [] None) (seen y t.dids (Some stop))) is (subst (λ (v : ManagerValue). HasBroken stop (leaving_part queue l whys.Expired ∷ []) v (seen y t.dids (Some stop))) same breaks) in
+    subst (λ (k : Leaving). HasBroken stop (leaving_part queue k whys.Expired ∷ []) (seen x [] None) (seen y t.dids (Some stop))) is (subst (λ (v : CoreValue). HasBroken stop (leaving_part queue l whys.Expired ∷ []) v (seen y t.dids (Some stop))) same breaks) in
     record {
       broken = subst (λ (ds : List Did). HasBroken stop (gone_parts whys.Expired queue mets) (seen x [] None) (seen y ds (Some stop))) (sym told) (gone_breaks whys.Expired queue mets stop (seen x [] None) (seen y t.dids (Some stop)) gone);
       tied = stopped_tied queue l whys.Expired stop r d.written y d.writes d.gone (tied_roomy n x r roomy tied);
     }
 
 -- a call that halts
-pub wanting_meets : {T : Type 0} (x y : PartsValue) (u : Telling) (parts : List Part) (reply : T) → IsWanting x y u → Meets {F = Reason} (seen x [] None) (Do reply parts) (Err halts.NoMemory) (seen y u.dids None)
-wanting_meets x y u parts reply w = let plain = roomier_view x y w.room in let faults = ap (λ (z : PartsValue). z.log.faults) w.room.same in λ i. record { plain = plain i; delta = w.untold i; stopped = None; faults = faults i }
+pub wanting_meets : {T : Type 0} (x y : PartsValue) (u : Telling) (parts : List Part) (reply : T) → IsWanting x y u → MeetsTold {F = Reason} (seen x [] None) (Do reply parts) (Err halts.NoMemory) (seen y u.dids None)
+wanting_meets x y u parts reply w = let plain = roomier_view x y w.room in let faults = ap (λ (z : PartsValue). z.log.faults) w.room.same in record { meets = λ i. record { plain = plain i; delta = w.untold i; stopped = None; faults = faults i }; told = roomier_bodies x y w.room }
 
-pub halt_meets : {T : Type 0} (parts : List Part) (x y : PartsValue) (u : Telling) (reply : T) (halt : Halt Reason) → Halts parts x halt y u → Meets {F = Reason} (seen x [] None) (Do reply parts) (Err halt) (seen y u.dids (stop_of {F = Reason} {T = T} (Err halt)))
+pub halt_meets : {T : Type 0} (parts : List Part) (x y : PartsValue) (u : Telling) (reply : T) (halt : Halt Reason) → Halts parts x halt y u → MeetsTold {F = Reason} (seen x [] None) (Do reply parts) (Err halt) (seen y u.dids (stop_of {F = Reason} {T = T} (Err halt)))
 halt_meets parts x y u reply (halts.Refused reason) h = absurd h
 halt_meets parts x y u reply halts.NoMemory h = wanting_meets x y u parts reply h
 halt_meets parts x y u reply (halts.Stopped by) h = broken_meets by parts reply (seen x [] None) (seen y u.dids (Some by)) refl refl h.broken
@@ -138,6 +140,7 @@ browsed_run number handle place c x y told up found e = record {
   later = let f = ap (λ (z : PartsValue). z.log.faults) e in omega (arith, f);
   ran = λ some. some;
   armed = let a = ap (λ (z : PartsValue). z.log.armed) e in omega (arith, a);
+  log = ap (λ (z : PartsValue). bodies_in z.log) e;
 }
 
 pub browsed_tied : (number handle : ℕ) (place : Place) (x y : PartsValue) → y ≡ record x { desk = record { live = change_connection number (cursor_set handle place) x.desk.live; last = x.desk.last } } → Tied x → Tied y
@@ -152,7 +155,7 @@ both_run queue mets met n x r mid t u gone taken g k untold roomy d =
     let same = seen_roomy n x r t.dids roomy untold in
     let one : HasRun (leaving_part queue gone whys.Expired ∷ []) (seen r t.dids None) (seen d.mid d.told.dids None) = dropped_runs queue gone whys.Expired r t d.mid d.told d.first in
     let first : HasRun (gone_part whys.Expired queue mets ∷ []) (seen x [] None) (seen d.mid d.told.dids None) =
-    subst (λ (k : Leaving). HasRun (leaving_part queue k whys.Expired ∷ []) (seen x [] None) (seen d.mid d.told.dids None)) g (subst (λ (v : ManagerValue). HasRun (leaving_part queue gone whys.Expired ∷ []) v (seen d.mid d.told.dids None)) same one) in
+    subst (λ (k : Leaving). HasRun (leaving_part queue k whys.Expired ∷ []) (seen x [] None) (seen d.mid d.told.dids None)) g (subst (λ (v : CoreValue). HasRun (leaving_part queue gone whys.Expired ∷ []) v (seen d.mid d.told.dids None)) same one) in
     let two : HasRun (leaving_part queue taken whys.Got ∷ []) (seen d.mid d.told.dids None) (seen mid u.dids None) = dropped_runs queue taken whys.Got d.mid d.told mid u d.then in
     let then : HasRun (gone_part whys.Got queue (met ∷ []) ∷ []) (seen d.mid d.told.dids None) (seen mid u.dids None) = subst (λ (k : Leaving). HasRun (leaving_part queue k whys.Got ∷ []) (seen d.mid d.told.dids None) (seen mid u.dids None)) k two in
     run_both (gone_parts whys.Expired queue mets) (gone_part whys.Got queue (met ∷ []) ∷ []) (seen x [] None) (seen d.mid d.told.dids None) (seen mid u.dids None)
@@ -175,7 +178,7 @@ both_stopped queue mets met n stop x r y t u gone taken g k need untold tied roo
     let same = seen_roomy n x r t.dids roomy untold in
     let one : HasRun (leaving_part queue gone whys.Expired ∷ []) (seen r t.dids None) (seen mid told.dids None) = dropped_runs queue gone whys.Expired r t mid told first in
     let ran : HasRun (gone_part whys.Expired queue mets ∷ []) (seen x [] None) (seen mid told.dids None) =
-    subst (λ (k : Leaving). HasRun (leaving_part queue k whys.Expired ∷ []) (seen x [] None) (seen mid told.dids None)) g (subst (λ (v : ManagerValue). HasRun (leaving_part queue gone whys.Expired ∷ []) v (seen mid told.dids None)) same one) in
+    subst (λ (k : Leaving). HasRun (leaving_part queue k whys.Expired ∷ []) (seen x [] None) (seen mid told.dids None)) g (subst (λ (v : CoreValue). HasRun (leaving_part queue gone whys.Expired ∷ []) v (seen mid told.dids None)) same one) in
     let two : HasBroken stop (leaving_part queue taken whys.Got ∷ []) (seen mid told.dids None) (seen y told.dids (Some stop)) = stopped_breaks queue taken whys.Got stop mid d.written y told.dids d.writes d.gone in
     let cut : HasBroken stop (gone_part whys.Got queue (met ∷ []) ∷ []) (seen mid told.dids None) (seen y u.dids (Some stop)) =
     subst (λ (ds : List Did). HasBroken stop (gone_part whys.Got queue (met ∷ []) ∷ []) (seen mid told.dids None) (seen y ds (Some stop))) (sym (ap (λ (s : Telling). s.dids) d.told))
@@ -210,7 +213,7 @@ pub drop_body : (queue : List ℕ) (l : Leaving) (x : PartsValue) (t : Telling) 
 drop_body queue l x t y u d = let w = wrote l.removes x d.written d.writes in let a = ap (λ (z : PartsValue). z.body.room + length z.body.bytes) d.gone in omega (arith, a, w.body)
 
 -- room that is given back is not seen
-pub back_run : (n : ℕ) (v : ManagerValue) (parts : List Part) (y z : PartsValue) (told : List Did) → z ≡ gave_back n y → HasRun parts v (seen y told None) → HasRun parts v (seen z told None)
+pub back_run : (n : ℕ) (v : CoreValue) (parts : List Part) (y z : PartsValue) (told : List Did) → z ≡ gave_back n y → HasRun parts v (seen y told None) → HasRun parts v (seen z told None)
 back_run n v parts y z told e h = subst (λ (w : PartsValue). HasRun parts v (seen w told None)) (sym e) h
 
 -- room that is given back where memory is wanting

@@ -14,6 +14,7 @@ use Rattle.mq_spec_state.specs.Words.{Reason, Answer, Get, GetAnswer, Connection
 use Rattle.mq_spec_manager.specs.Words.{got_answer, is_destructive, is_under, is_waiting, without_row, live_or, for_connection, persistent_rows, expired_need}
 use Rattle.mq_scan.specs.declared.scanning.Met.{Met}
 use Rattle.mq_scan.specs.Scans.{met_of}
+use Rattle.mq_core.specs.Values.{CoreValue, MeetsTold, WritesLog, begun_call, manager_of}
 use Rattle.mq_core.proofs.SeatLaws.{number_is}
 use Rattle.mq_get.specs.declared.refusals.Aim.{Aim}
 use Rattle.mq_get.specs.declared.finding.Hit.{Hit}
@@ -22,48 +23,58 @@ use Rattle.mq_get.specs.Leaving.{gone_part, gone_parts, held_part, leaving_need,
 use Rattle.mq_get.specs.Gets.{IsPlan, look, hit_of, hit_step, hit_part, taken_part, plan_step, aimed, get_at}
 use Rattle.mq_get.proofs.GetLaws.{short_mets}
 
-module _ (get : Get) (number : ℕ) (aim : Aim) (hit : Hit) (before : List Part) (v w : ManagerValue) (r : Result GetAnswer (Halt Reason)) (answer : Answer Got) (is : answer ≡ got_answer hit.long hit.got) where
-  told : (p : Part) → hit_part get number aim hit ≡ p → Meets v (Do (Done answer) (before ++ p ∷ [])) r w → Meets v (hit_step false get number aim hit before) r w
-  told p e m = subst (λ (q : Part). Meets v (Do (Done (got_answer hit.long hit.got)) (before ++ q ∷ [])) r w) (sym e) (subst (λ (a : Answer Got). Meets v (Do (Done a) (before ++ p ∷ [])) r w) is m)
+module _ (get : Get) (number : ℕ) (aim : Aim) (hit : Hit) (before : List Part) (v w : CoreValue) (r : Result GetAnswer (Halt Reason)) (answer : Answer Got) (is : answer ≡ got_answer hit.long hit.got) where
+  told : (p : Part) → hit_part get number aim hit ≡ p → MeetsTold v (Do (Done answer) (before ++ p ∷ [])) r w → MeetsTold v (hit_step false get number aim hit before) r w
+  told p e m = subst (λ (q : Part). MeetsTold v (Do (Done (got_answer hit.long hit.got)) (before ++ q ∷ [])) r w) (sym e) (subst (λ (a : Answer Got). MeetsTold v (Do (Done a) (before ++ p ∷ [])) r w) is m)
 
-  pub hit_browsed : is_destructive get.take ≡ false → Meets v (Do (Done answer) (before ++ silent (SetCursor number aim.handle hit.place ∷ []) ∷ [])) r w → Meets v (hit_step false get number aim hit before) r w
+  pub hit_browsed : is_destructive get.take ≡ false → MeetsTold v (Do (Done answer) (before ++ silent (SetCursor number aim.handle hit.place ∷ []) ∷ [])) r w → MeetsTold v (hit_step false get number aim hit before) r w
   hit_browsed free = told (silent (SetCursor number aim.handle hit.place ∷ [])) (ap (λ (b : Bool). cond b (taken_part get.sync number aim.queue hit.met) (silent (SetCursor number aim.handle hit.place ∷ []))) free)
 
-  pub hit_held : is_destructive get.take ≡ true → get.sync ≡ true → Meets v (Do (Done answer) (before ++ held_part number aim.queue hit.met ∷ [])) r w → Meets v (hit_step false get number aim hit before) r w
+  pub hit_held : is_destructive get.take ≡ true → get.sync ≡ true → MeetsTold v (Do (Done answer) (before ++ held_part number aim.queue hit.met ∷ [])) r w → MeetsTold v (hit_step false get number aim hit before) r w
   hit_held takes sync = told (held_part number aim.queue hit.met)
       (ap (λ (b : Bool). cond b (taken_part get.sync number aim.queue hit.met) (silent (SetCursor number aim.handle hit.place ∷ []))) takes ∙ ap (λ (b : Bool). taken_part b number aim.queue hit.met) sync)
 
-  pub hit_taken : is_destructive get.take ≡ true → get.sync ≡ false → Meets v (Do (Done answer) (before ++ gone_part whys.Got aim.queue (hit.met ∷ []) ∷ [])) r w → Meets v (hit_step false get number aim hit before) r w
+  pub hit_taken : is_destructive get.take ≡ true → get.sync ≡ false → MeetsTold v (Do (Done answer) (before ++ gone_part whys.Got aim.queue (hit.met ∷ []) ∷ [])) r w → MeetsTold v (hit_step false get number aim hit before) r w
   hit_taken takes sync = told (gone_part whys.Got aim.queue (hit.met ∷ []))
       (ap (λ (b : Bool). cond b (taken_part get.sync number aim.queue hit.met) (silent (SetCursor number aim.handle hit.place ∷ []))) takes ∙ ap (λ (b : Bool). taken_part b number aim.queue hit.met) sync)
 
 -- a row that doesn't fit
-pub hit_left : (b : Bool) (get : Get) (number : ℕ) (aim : Aim) (hit : Hit) (before : List Part) (v w : ManagerValue) (r : Result GetAnswer (Halt Reason)) → b ≡ true → Meets v (Do (Done (answers.Warning reasons.TruncatedMessageFailed hit.got)) before) r w → Meets v (hit_step b get number aim hit before) r w
-hit_left b get number aim hit before v w r e m = subst (λ (b : Bool). Meets v (hit_step b get number aim hit before) r w) (sym e) m
+pub hit_left : (b : Bool) (get : Get) (number : ℕ) (aim : Aim) (hit : Hit) (before : List Part) (v w : CoreValue) (r : Result GetAnswer (Halt Reason)) → b ≡ true → MeetsTold v (Do (Done (answers.Warning reasons.TruncatedMessageFailed hit.got)) before) r w → MeetsTold v (hit_step b get number aim hit before) r w
+hit_left b get number aim hit before v w r e m = subst (λ (b : Bool). MeetsTold v (hit_step b get number aim hit before) r w) (sym e) m
 
-pub hit_fits : (b : Bool) (get : Get) (number : ℕ) (aim : Aim) (hit : Hit) (before : List Part) (v w : ManagerValue) (r : Result GetAnswer (Halt Reason)) → b ≡ false → Meets v (hit_step false get number aim hit before) r w → Meets v (hit_step b get number aim hit before) r w
-hit_fits b get number aim hit before v w r e m = subst (λ (b : Bool). Meets v (hit_step b get number aim hit before) r w) (sym e) m
+pub hit_fits : (b : Bool) (get : Get) (number : ℕ) (aim : Aim) (hit : Hit) (before : List Part) (v w : CoreValue) (r : Result GetAnswer (Halt Reason)) → b ≡ false → MeetsTold v (hit_step false get number aim hit before) r w → MeetsTold v (hit_step b get number aim hit before) r w
+hit_fits b get number aim hit before v w r e m = subst (λ (b : Bool). MeetsTold v (hit_step b get number aim hit before) r w) (sym e) m
 
 -- no row
-pub none_under : (under waiting : Bool) (before : List Part) (v w : ManagerValue) (r : Result GetAnswer (Halt Reason)) → under ≡ true → Meets v (Do (Done (answers.Failed reasons.NoMessageUnderCursor)) before) r w → Meets v (without_row under waiting before) r w
-none_under under waiting before v w r e m = subst (λ (b : Bool). Meets v (without_row b waiting before) r w) (sym e) m
+pub none_under : (under waiting : Bool) (before : List Part) (v w : CoreValue) (r : Result GetAnswer (Halt Reason)) → under ≡ true → MeetsTold v (Do (Done (answers.Failed reasons.NoMessageUnderCursor)) before) r w → MeetsTold v (without_row under waiting before) r w
+none_under under waiting before v w r e m = subst (λ (b : Bool). MeetsTold v (without_row b waiting before) r w) (sym e) m
 
-pub none_waits : (under waiting : Bool) (before : List Part) (v w : ManagerValue) (r : Result GetAnswer (Halt Reason)) → under ≡ false → waiting ≡ true → Meets v (Do NotYet []) r w → Meets v (without_row under waiting before) r w
-none_waits under waiting before v w r e f m = subst (λ (b : Bool). Meets v (without_row b waiting before) r w) (sym e) (subst (λ (b : Bool). Meets v (without_row false b before) r w) (sym f) m)
+pub none_waits : (under waiting : Bool) (before : List Part) (v w : CoreValue) (r : Result GetAnswer (Halt Reason)) → under ≡ false → waiting ≡ true → MeetsTold v (Do NotYet []) r w → MeetsTold v (without_row under waiting before) r w
+none_waits under waiting before v w r e f m = subst (λ (b : Bool). MeetsTold v (without_row b waiting before) r w) (sym e) (subst (λ (b : Bool). MeetsTold v (without_row false b before) r w) (sym f) m)
 
-pub none_there : (under waiting : Bool) (before : List Part) (v w : ManagerValue) (r : Result GetAnswer (Halt Reason)) → under ≡ false → waiting ≡ false → Meets v (Do (Done (answers.Failed reasons.NoMessageAvailable)) before) r w → Meets v (without_row under waiting before) r w
-none_there under waiting before v w r e f m = subst (λ (b : Bool). Meets v (without_row b waiting before) r w) (sym e) (subst (λ (b : Bool). Meets v (without_row false b before) r w) (sym f) m)
+pub none_there : (under waiting : Bool) (before : List Part) (v w : CoreValue) (r : Result GetAnswer (Halt Reason)) → under ≡ false → waiting ≡ false → MeetsTold v (Do (Done (answers.Failed reasons.NoMessageAvailable)) before) r w → MeetsTold v (without_row under waiting before) r w
+none_there under waiting before v w r e f m = subst (λ (b : Bool). MeetsTold v (without_row b waiting before) r w) (sym e) (subst (λ (b : Bool). MeetsTold v (without_row false b before) r w) (sym f) m)
 
 -- a call that begins has changed nothing
-pub meets_begun : {T : Type 0} (step : Step Reason T) (v w : ManagerValue) (r : Result T (Halt Reason)) → Meets (untouched v) step r w → Meets v step r w
-meets_begun (Refuse reason) v w (Ok value) m = m
-meets_begun (Refuse reason) v w (Err (halts.Refused other)) m = m
-meets_begun (Refuse reason) v w (Err halts.NoMemory) m = m
-meets_begun (Refuse reason) v w (Err (halts.Stopped by)) m = m
-meets_begun (Do reply parts) v w (Ok value) m = m
-meets_begun (Do reply parts) v w (Err (halts.Refused other)) m = m
-meets_begun (Do reply parts) v w (Err halts.NoMemory) m = m
-meets_begun (Do reply parts) v w (Err (halts.Stopped by)) m = record { part = m.part; write = m.write; stop = m.stop; next = m.next; later = m.later; rose = m.rose }
+begun_meets : {T : Type 0} (step : Step Reason T) (v w : ManagerValue) (r : Result T (Halt Reason)) → Meets (untouched v) step r w → Meets v step r w
+begun_meets (Refuse reason) v w (Ok value) m = m
+begun_meets (Refuse reason) v w (Err (halts.Refused other)) m = m
+begun_meets (Refuse reason) v w (Err halts.NoMemory) m = m
+begun_meets (Refuse reason) v w (Err (halts.Stopped by)) m = m
+begun_meets (Do reply parts) v w (Ok value) m = m
+begun_meets (Do reply parts) v w (Err (halts.Refused other)) m = m
+begun_meets (Do reply parts) v w (Err halts.NoMemory) m = m
+begun_meets (Do reply parts) v w (Err (halts.Stopped by)) m = record { part = m.part; write = m.write; stop = m.stop; next = m.next; later = m.later; rose = m.rose }
+
+begun_told : {T : Type 0} (step : Step Reason T) (v w : CoreValue) (r : Result T (Halt Reason)) → WritesLog (begun_call v) step r w → WritesLog v step r w
+begun_told (Refuse reason) v w r m = m
+begun_told (Do reply parts) v w (Ok value) m = m
+begun_told (Do reply parts) v w (Err (halts.Refused other)) m = m
+begun_told (Do reply parts) v w (Err halts.NoMemory) m = m
+begun_told (Do reply parts) v w (Err (halts.Stopped by)) m = record { part = m.part; write = m.write; plain = m.plain; log = m.log }
+
+pub meets_begun : {T : Type 0} (step : Step Reason T) (v w : CoreValue) (r : Result T (Halt Reason)) → MeetsTold (begun_call v) step r w → MeetsTold v step r w
+meets_begun step v w r m = record { meets = begun_meets step (manager_of v) (manager_of w) r m.meets; told = begun_told step v w r m.told }
 
 -- by the number of a connection
 at_by : Get → Option ℕ → Aim → Plain → Option Connection → Step Reason GetAnswer
@@ -83,24 +94,24 @@ pub short_plan : (get : Get) (aim : Aim) (p : Plain) (plan : Planned) → IsPlan
 short_plan get aim p plan is short = subst (λ (mets : List Met). leaving_need (removes_met aim.queue mets) < 4294967296) (sym is.mets) (short_mets aim.queue (look get aim p).expired short)
 
 -- each get for which no refusal applies is an answer
-some_done : (get : Get) (until : Option ℕ) (p : Plain) (n : ℕ) (aim : Aim) (mets : List Met) (hit : Option Hit) (v w : ManagerValue) → w ≡ untouched v → Meets v (plan_step get until p n aim mets hit) (Err halts.NoMemory) w
+some_done : (get : Get) (until : Option ℕ) (p : Plain) (n : ℕ) (aim : Aim) (mets : List Met) (hit : Option Hit) (v w : CoreValue) → w ≡ begun_call v → MeetsTold v (plan_step get until p n aim mets hit) (Err halts.NoMemory) w
 some_done get until p n aim mets None v w e = by (is_under get.take) (is_waiting until p)
   where
-    by : (a b : Bool) → Meets v (without_row a b (gone_parts whys.Expired aim.queue mets)) (Err halts.NoMemory) w
-    by true b = e
-    by false true = e
-    by false false = e
+    by : (a b : Bool) → MeetsTold v (without_row a b (gone_parts whys.Expired aim.queue mets)) (Err halts.NoMemory) w
+    by true b = record { meets = ap manager_of e; told = ap (λ (x : CoreValue). x.log) e }
+    by false true = record { meets = ap manager_of e; told = ap (λ (x : CoreValue). x.log) e }
+    by false false = record { meets = ap manager_of e; told = ap (λ (x : CoreValue). x.log) e }
 some_done get until p n aim mets (Some hit) v w e = by (hit.long && not get.truncate)
   where
-    by : (b : Bool) → Meets v (hit_step b get n aim hit (gone_parts whys.Expired aim.queue mets)) (Err halts.NoMemory) w
-    by true = e
-    by false = e
+    by : (b : Bool) → MeetsTold v (hit_step b get n aim hit (gone_parts whys.Expired aim.queue mets)) (Err halts.NoMemory) w
+    by true = record { meets = ap manager_of e; told = ap (λ (x : CoreValue). x.log) e }
+    by false = record { meets = ap manager_of e; told = ap (λ (x : CoreValue). x.log) e }
 
-pub want_begun : (number : ℕ) (get : Get) (until : Option ℕ) (aim : Aim) (v w : ManagerValue) (c : Connection) → connection_at number v.plain.connections ≡ Some c → w ≡ untouched v → Meets v (get_at number get until aim v.plain) (Err halts.NoMemory) w
+pub want_begun : (number : ℕ) (get : Get) (until : Option ℕ) (aim : Aim) (v w : CoreValue) (c : Connection) → connection_at number v.plain.connections ≡ Some c → w ≡ begun_call v → MeetsTold v (get_at number get until aim v.plain) (Err halts.NoMemory) w
 unfolding at_by
 want_begun number get until aim v w c found e =
-    subst (λ (o : Option Connection). Meets v (at_by get until aim v.plain o) (Err halts.NoMemory) w) (sym found)
+    subst (λ (o : Option Connection). MeetsTold v (at_by get until aim v.plain o) (Err halts.NoMemory) w) (sym found)
     (some_done get until v.plain c.number aim (map met_of (look get aim v.plain).expired) (option_map (hit_of get) (look get aim v.plain).found) v w e)
 
-pub refused_meets : (step : Step Reason GetAnswer) (reason : Reason) (v w : ManagerValue) → step ≡ Refuse reason → w ≡ untouched v → Meets v step (Err (halts.Refused reason)) w
-refused_meets step reason v w e same = subst (λ (s : Step Reason GetAnswer). Meets v s (Err (halts.Refused reason)) w) (sym e) (refl, same)
+pub refused_meets : (step : Step Reason GetAnswer) (reason : Reason) (v w : CoreValue) → step ≡ Refuse reason → w ≡ begun_call v → MeetsTold v step (Err (halts.Refused reason)) w
+refused_meets step reason v w e same = subst (λ (s : Step Reason GetAnswer). MeetsTold v s (Err (halts.Refused reason)) w) (sym e) (record { meets = (refl, ap manager_of same); told = ap (λ (x : CoreValue). x.log) same })

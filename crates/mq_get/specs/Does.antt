@@ -5,29 +5,31 @@ use Rattle.mq_disk.specs.declared.cutter.Stop.{Stop}
 use Rattle.mq_disk.specs.declared.cutter.Stop.TheVariants as stops
 use Rattle.mq_calls.specs.declared.commands.Halt.{Halt}
 use Rattle.mq_calls.specs.declared.commands.Halt.TheVariants as halts
-use Rattle.mq_spec_state.specs.Words.{Reason, Did, Part, ManagerValue, Ran, IsWrite, StopsAt, do_all, delta_of, delta_before, stopped_at, write_calls, calls_at, calls_before}
+use Rattle.mq_spec_state.specs.Words.{Reason, Did, Part, Ran, IsWrite, StopsAt, do_all, delta_of, delta_before, stopped_at, write_calls, calls_at, calls_before}
 use Rattle.mq_calls.specs.declared.deltas.Why.TheVariants as whys
 use Rattle.mq_scan.specs.declared.scanning.Met.{Met}
 use Rattle.mq_unit.specs.Told.{Telling}
 use Rattle.mq_core.specs.Views.{PartsValue, plain_of}
 use Rattle.mq_core.specs.Ties.{Tied}
+use Rattle.mq_core.specs.Values.{CoreValue, bodies_in, wrote_all, broke_at}
 use Rattle.mq_core.specs.Forced.{HasMoreRoom}
 use Rattle.mq_get.specs.declared.leaving.Leaving.{Leaving}
 use Rattle.mq_get.specs.Leaving.{gone_parts}
 use Rattle.mq_get.specs.Rooms.{IsDropped, IsStopped}
 
 -- what is seen of a manager's parts in a call
-abbrev pub seen : PartsValue → List Did → Option Stop → ManagerValue
-seen x told stopped = record { plain = plain_of x; delta = told; stopped = stopped; faults = x.log.faults }
+abbrev pub seen : PartsValue → List Did → Option Stop → CoreValue
+seen x told stopped = record { plain = plain_of x; delta = told; stopped = stopped; faults = x.log.faults; log = bodies_in x.log }
 
-pub record HasRun (parts : List Part) (v w : ManagerValue) : Type 0 where
+pub record HasRun (parts : List Part) (v w : CoreValue) : Type 0 where
   pub plain : w.plain ≡ do_all parts v.plain
   pub told : w.delta ≡ v.delta ++ delta_of parts
   pub later : v.faults ≤ w.faults
   pub ran : Ran parts v.plain.log.armed
   pub armed : w.plain.log.armed ≡ v.plain.log.armed - write_calls parts
+  pub log : w.log ≡ wrote_all parts v.log
 
-pub record HasBroken (by : Stop) (parts : List Part) (v w : ManagerValue) : Type 0 where
+pub record HasBroken (by : Stop) (parts : List Part) (v w : CoreValue) : Type 0 where
   pub part : ℕ
   pub write : IsWrite part parts
   pub stop : StopsAt by (calls_at part parts) v.plain.log.armed (calls_before part parts) w.plain.log.armed
@@ -35,8 +37,9 @@ pub record HasBroken (by : Stop) (parts : List Part) (v w : ManagerValue) : Type
   pub told : w.delta ≡ v.delta ++ delta_before part parts
   pub later : v.faults ≤ w.faults
   pub rose : by ≡ stops.Disk → Rose v.faults w.faults
+  pub log : w.log ≡ broke_at part parts v.log
 
-abbrev pub Does : List Part → ManagerValue → Result (Unit {0}) Stop → ManagerValue → Type 0
+abbrev pub Does : List Part → CoreValue → Result (Unit {0}) Stop → CoreValue → Type 0
 Does parts v (Ok _) w = HasRun parts v w
 Does parts v (Err stop) w = HasBroken stop parts v w
 

@@ -8,6 +8,7 @@ ghost use Rattle.mq_handles.specs.Seats.{cursor_set};
 ghost use Rattle.mq_spec_manager.specs.Words.{mqget, got_answer, is_under, is_waiting, without_row, persistent_rows, expired_need};
 ghost use Rattle.mq_core.specs.Views.{plain_of};
 ghost use Rattle.mq_core.specs.Ties.{Tied, mode_is_up};
+ghost use Rattle.mq_core.specs.Values.{MeetsTold, WritesLog, manager_of};
 ghost use Rattle.mq_get.specs.Does.{seen, stop_of, Clears, DropsBoth};
 ghost use Rattle.mq_get.specs.Gets.{get_at, look, plan_step, hit_step};
 ghost use Rattle.mq_get.specs.Leaving.{gone_part, gone_parts, leaving_need, removes_met};
@@ -92,7 +93,7 @@ fn answer_behind<D: Disk>(
     requires told { effects.old.dids ≡ [] }
     requires short { leaving_need (removes_met queue.now mets.now) < 2 ^ 32 }
     ensures tied { Tied parts.new }
-    ensures meets { Meets (seen parts.old [] None) (Do answer (gone_parts whys.Expired queue.now mets.now)) result (seen parts.new effects.new.dids (stop_of result)) }
+    ensures meets { MeetsTold (seen parts.old [] None) (Do answer (gone_parts whys.Expired queue.now mets.now)) result (seen parts.new effects.new.dids (stop_of result)) }
 {
     match drop_expired(parts, effects, queue, mets) {
         Ok(()) => Ok(answer),
@@ -123,7 +124,7 @@ fn get_browsed<D: Disk>(
     requires told { effects.old.dids ≡ [] }
     requires short { leaving_need (removes_met aim.now.queue mets.now) < 2 ^ 32 }
     ensures tied { Tied parts.new }
-    ensures meets { Meets (seen parts.old [] None) (Do answer (gone_parts whys.Expired aim.now.queue mets.now ++ silent (SetCursor number aim.now.handle place ∷ []) ∷ [])) result (seen parts.new effects.new.dids (stop_of result)) }
+    ensures meets { MeetsTold (seen parts.old [] None) (Do answer (gone_parts whys.Expired aim.now.queue mets.now ++ silent (SetCursor number aim.now.handle place ∷ []) ∷ [])) result (seen parts.new effects.new.dids (stop_of result)) }
 {
     match drop_expired(parts, effects, &aim.queue, mets) {
         Ok(()) => {
@@ -171,7 +172,7 @@ fn get_taken<D: Disk>(
     requires told { effects.old.dids ≡ [] }
     requires short { leaving_need (removes_met queue.now mets.now) < 2 ^ 32 }
     ensures tied { Tied parts.new }
-    ensures meets { Meets (seen parts.old [] None) (Do answer (gone_parts whys.Expired queue.now mets.now ++ gone_part whys.Got queue.now (met ∷ []) ∷ [])) result (seen parts.new effects.new.dids (stop_of result)) }
+    ensures meets { MeetsTold (seen parts.old [] None) (Do answer (gone_parts whys.Expired queue.now mets.now ++ gone_part whys.Got queue.now (met ∷ []) ∷ [])) result (seen parts.new effects.new.dids (stop_of result)) }
 {
     let gone = match leaving_of(parts.alloc, queue, mets) {
         Ok(leaving) => leaving,
@@ -214,7 +215,7 @@ fn get_hit<D: Disk>(
     requires told { effects.old.dids ≡ [] }
     requires short { leaving_need (removes_met aim.now.queue mets.now) < 2 ^ 32 }
     ensures tied { Tied parts.new }
-    ensures meets { Meets (seen parts.old [] None) (hit_step false get.now number aim.now hit (gone_parts whys.Expired aim.now.queue mets.now)) result (seen parts.new effects.new.dids (stop_of result)) }
+    ensures meets { MeetsTold (seen parts.old [] None) (hit_step false get.now number aim.now hit (gone_parts whys.Expired aim.now.queue mets.now)) result (seen parts.new effects.new.dids (stop_of result)) }
 {
     let Hit {
         met,
@@ -255,7 +256,7 @@ fn get_found<D: Disk>(
     requires told { effects.old.dids ≡ [] }
     requires short { leaving_need (removes_met aim.now.queue mets.now) < 2 ^ 32 }
     ensures tied { Tied parts.new }
-    ensures meets { Meets (seen parts.old [] None) (hit_step (hit.long && not get.now.truncate) get.now number aim.now hit (gone_parts whys.Expired aim.now.queue mets.now)) result (seen parts.new effects.new.dids (stop_of result)) }
+    ensures meets { MeetsTold (seen parts.old [] None) (hit_step (hit.long && not get.now.truncate) get.now number aim.now hit (gone_parts whys.Expired aim.now.queue mets.now)) result (seen parts.new effects.new.dids (stop_of result)) }
 {
     if is_left(&hit, get) {
         let answer = Answer::Warning(Reason::TruncatedMessageFailed, hit.got);
@@ -278,7 +279,7 @@ fn get_none<D: Disk>(
     requires told { effects.old.dids ≡ [] }
     requires short { leaving_need (removes_met queue.now mets.now) < 2 ^ 32 }
     ensures tied { Tied parts.new }
-    ensures meets { Meets (seen parts.old [] None) (without_row (is_under get.now.take) (is_waiting until (plain_of parts.old)) (gone_parts whys.Expired queue.now mets.now)) result (seen parts.new effects.new.dids (stop_of result)) }
+    ensures meets { MeetsTold (seen parts.old [] None) (without_row (is_under get.now.take) (is_waiting until (plain_of parts.old)) (gone_parts whys.Expired queue.now mets.now)) result (seen parts.new effects.new.dids (stop_of result)) }
 {
     if is_under(&get.take) {
         let answer = GetAnswer::Done(Answer::Failed(Reason::NoMessageUnderCursor));
@@ -307,7 +308,7 @@ fn do_get<D: Disk>(
     requires told { effects.old.dids ≡ [] }
     requires short { leaving_need (removes_met aim.now.queue plan.mets) < 2 ^ 32 }
     ensures tied { Tied parts.new }
-    ensures meets { Meets (seen parts.old [] None) (plan_step get.now until (plain_of parts.old) number aim.now plan.mets plan.hit) result (seen parts.new effects.new.dids (stop_of result)) }
+    ensures meets { MeetsTold (seen parts.old [] None) (plan_step get.now until (plain_of parts.old) number aim.now plan.mets plan.hit) result (seen parts.new effects.new.dids (stop_of result)) }
 {
     let Plan { mets, hit } = plan;
     match hit {
@@ -339,7 +340,7 @@ fn get_now<D: Disk>(
     requires up { is_up core.old.plain.running ≡ true }
     requires live { IsSome (connection_at number core.old.plain.connections) }
     requires short { expired_need (persistent_rows (look get.now aim.now core.old.plain).expired) < 2 ^ 32 }
-    ensures { Meets core.old (get_at number get.now until aim.now core.old.plain) result core.new }
+    ensures { MeetsTold core.old (get_at number get.now until aim.now core.old.plain) result core.new }
 {
     core.begin_call();
     let plan = match look(&core.parts, aim, get) {
@@ -367,7 +368,8 @@ pub fn mqget<D: Disk>(
     get: &Get,
     until: Option<u64>,
 ) -> Result<GetAnswer, Halt<Reason>>
-    ensures { Meets core.old (mqget hc ho get.now until core.old.plain) result core.new }
+    ensures meets { Meets (manager_of core.old) (mqget hc ho get.now until core.old.plain) result (manager_of core.new) }
+    ensures told { WritesLog core.old (mqget hc ho get.now until core.old.plain) result core.new }
 {
     match can_get(&core.parts, &hc, &ho, get) {
         Ok(aim) => get_now(core, hc.number, &aim, get, until),

@@ -2,12 +2,13 @@
 ghost use Rattle.std.specs.Prelude.{◌≡◌, ◌+◌, ◌∷◌, ◌++◌, [], ◌<◌, ◌≤◌, ◌^◌, true, false, None, IsSome, IfSome, OnOk, OnErr, length};
 ghost use Rattle.mq_calls.specs.declared.deltas.Why.TheVariants as whys;
 ghost use Rattle.mq_calls.specs.declared.state.Item.TheVariants.{Take};
-ghost use Rattle.mq_spec_state.specs.Words.{Meets, Do, connection_at, more_need, unit_need};
+ghost use Rattle.mq_spec_state.specs.Words.{Do, connection_at, more_need, unit_need};
 ghost use Rattle.mq_message.specs.declared.place.Holder.TheVariants as holders;
 ghost use Rattle.mq_calls.specs.declared.deltas.Did.TheVariants as did;
 ghost use Rattle.mq_unit.specs.Told.{told};
 ghost use Rattle.mq_core.specs.Forced.{HasMoreRoom};
 ghost use Rattle.mq_core.specs.Ties.{Tied, mode_is_up};
+ghost use Rattle.mq_core.specs.Values.{MeetsTold};
 ghost use Rattle.mq_get.specs.Does.{seen, stop_of};
 ghost use Rattle.mq_get.specs.Leaving.{gone_parts, held_part, leaving_need, removes_met};
 ghost use Rattle.mq_get.specs.Rooms.{IsGivenBack, IsItemMore, Holds, holding, unheld};
@@ -176,7 +177,7 @@ pub(crate) fn get_held<D: Disk>(
     requires told { effects.old.dids ≡ [] }
     requires short { leaving_need (removes_met queue.now mets.now) < 2 ^ 32 }
     ensures tied { Tied parts.new }
-    ensures meets { Meets (seen parts.old [] None) (Do answer (gone_parts whys.Expired queue.now mets.now ++ held_part number queue.now met ∷ [])) result (seen parts.new effects.new.dids (stop_of result)) }
+    ensures meets { MeetsTold (seen parts.old [] None) (Do answer (gone_parts whys.Expired queue.now mets.now ++ held_part number queue.now met ∷ [])) result (seen parts.new effects.new.dids (stop_of result)) }
 {
     let leaving = match leaving_of(parts.alloc, queue, mets) {
         Ok(leaving) => leaving,

@@ -1,8 +1,8 @@
 //! The refusals of MQGET in their order.
-ghost use Rattle.std.specs.Prelude.{◌≡◌, ℕ, ◌+◌, ◌<◌, ◌≤◌, ◌^◌, List, Option, length, option_copied};
+ghost use Rattle.std.specs.Prelude.{◌≡◌, ℕ, ◌+◌, ◌<◌, ◌≤◌, ◌^◌, List, Option, length, option_copied, true};
 ghost use Rattle.std.specs.List.{list_any};
 ghost use Rattle.mq_queue.specs.declared.row.Row.{Row};
-ghost use Rattle.mq_spec_state.specs.Words.{is_full, refusal};
+ghost use Rattle.mq_spec_state.specs.Words.{is_full, is_up, refusal};
 ghost use Rattle.mq_spec_manager.specs.Words.{sync_full, is_get_disabled, queue_at, mqget, expired_need, taking_need, found_need, scan_need, get_tests};
 ghost use Rattle.mq_spec_manager.specs.Get.{is_disabled_at};
 ghost use Rattle.mq_core.specs.Views.{plain_of};
@@ -87,14 +87,6 @@ fn is_sync_full<D: Disk>(parts: &Parts<D>, sync: bool, seat: &Seat) -> bool
     sync && parts.defs.manager().max_uncommitted as usize <= seat.unit().len()
 }
 
-/// The log lacks room for so many bytes more; no bytes always fit.
-fn is_full<D: Disk>(parts: &Parts<D>, bytes: u64) -> bool
-    requires tied { Tied parts.now }
-    ensures { result ≡ is_full bytes (plain_of parts.now) }
-{
-    bytes > 0 && !parts.log.fits(bytes)
-}
-
 /// What so many expired rows that last need of the log.
 fn expired_need(lasting: u64) -> u64
     requires { lasting < 100000000 }
@@ -135,6 +127,7 @@ fn found_need(get: &Get, seat: &Seat, row: Option<&Row>) -> u64
 /// The log lacks room for what the scan of a get finds.
 fn is_log_full<D: Disk>(parts: &Parts<D>, seat: &Seat, aim: &Aim, get: &Get) -> bool
     requires tied { Tied parts.now }
+    requires up { is_up (plain_of parts.now).running ≡ true }
     ensures { result ≡ is_full (scan_need get.now seat.now (look get.now aim.now (plain_of parts.now))) (plain_of parts.now) }
 {
     let Some(local) = parts.queues.local(&aim.queue) else {
@@ -145,7 +138,7 @@ fn is_log_full<D: Disk>(parts: &Parts<D>, seat: &Seat, aim: &Aim, get: &Get) -> 
     if lasting >= 100_000_000 {
         return true;
     }
-    is_full(parts, expired_need(lasting) + found_need(get, seat, row))
+    parts.is_full(expired_need(lasting) + found_need(get, seat, row))
 }
 
 /// The refusals of a handle.
@@ -183,6 +176,7 @@ fn can_look<D: Disk>(
     get: &Get,
 ) -> Result<Aim, Reason>
     requires tied { Tied parts.now }
+    requires up { is_up (plain_of parts.now).running ≡ true }
     ensures { (until : Option ℕ) → Looks get.now until (plain_of parts.now) seat.now handle.now result }
 {
     match refused_by_handle(parts, seat, handle, get) {

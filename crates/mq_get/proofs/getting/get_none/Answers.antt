@@ -12,7 +12,7 @@ pub returns-then-is_under-clause-meets : goal.returns-then-is_under-clause-meets
 returns-then-is_under-clause-meets g c = none_under _ _ _ _ _ _ (sym c.is_under.ensures ∙ c.if-is_under.true) c.answer_behind.ensures.meets
 
 pub returns-then-is_waiting-clause-meets : goal.returns-then-is_waiting-clause-meets
-returns-then-is_waiting-clause-meets g c = none_waits _ _ _ _ _ _ (sym c.is_under.ensures ∙ c.if-is_under.false) (sym (c.is_waiting.ensures (plain_of c.args.parts.now) (sym (ap (λ (x : PartsValue). x.moment) c.parts.view_is))) ∙ c.if-is_waiting.true) (say_meets NotYet (seen c.args.parts.now [] None) (seen c.args.parts.now c.args.effects.now.dids None) refl c.requires.told refl refl refl)
+returns-then-is_waiting-clause-meets g c = none_waits _ _ _ _ _ _ (sym c.is_under.ensures ∙ c.if-is_under.false) (sym (c.is_waiting.ensures (plain_of c.args.parts.now) (sym (ap (λ (x : PartsValue). x.moment) c.parts.view_is))) ∙ c.if-is_waiting.true) (say_meets NotYet (seen c.args.parts.now [] None) (seen c.args.parts.now c.args.effects.now.dids None) refl c.requires.told refl refl refl refl)
 
 pub returns-clause-meets : goal.returns-clause-meets
 returns-clause-meets g c = none_there _ _ _ _ _ _ (sym c.is_under.ensures ∙ c.if-is_under.false) (sym (c.is_waiting.ensures (plain_of c.args.parts.now) (sym (ap (λ (x : PartsValue). x.moment) c.parts.view_is))) ∙ c.if-is_waiting.false) c.answer_behind-2.ensures.meets

@@ -1,17 +1,18 @@
 use Rattle.std.proofs.Common.{◌≡◌, ◌<◌, [], sym, ap, subst, ◌∙◌}
 use Rattle.std.specs.Prelude.{Option, None, IsSome}
 use Rattle.mq_disk.specs.declared.cutter.Stop.{Stop}
-use Rattle.mq_spec_state.specs.Words.{Reason, GetAnswer, Plain, Step, ManagerValue, Meets, untouched, connection_at, is_up}
+use Rattle.mq_spec_state.specs.Words.{Reason, GetAnswer, Plain, Step, connection_at, is_up}
 use Rattle.mq_spec_manager.specs.Words.{persistent_rows, expired_need}
 use Rattle.mq_core.specs.Views.{PartsValue, plain_of, frozen_of}
+use Rattle.mq_core.specs.Values.{CoreValue, MeetsTold, begun_call}
 use Rattle.mq_core.proofs.MeetLaws.{some_is, mode_up}
 use Rattle.mq_get.specs.Does.{seen, stop_of}
 use Rattle.mq_get.specs.Gets.{look, get_at}
 use Rattle.mq_get.proofs.WayLaws.{meets_begun, planned_at, short_plan}
 use Rattle.mq_get.proofs.getting.get_now.Goals as goal
 
-plain_is : {v w : ManagerValue} → v ≡ w → v.plain ≡ w.plain
-plain_is e = ap (λ (x : ManagerValue). x.plain) e
+plain_is : {v w : CoreValue} → v ≡ w → v.plain ≡ w.plain
+plain_is e = ap (λ (x : CoreValue). x.plain) e
 
 pub do_get-result-requires-clause-up : goal.do_get-result-requires-clause-up
 do_get-result-requires-clause-up g c =
@@ -25,7 +26,7 @@ do_get-result-requires-clause-live g c =
     subst (λ (p : Plain). IsSome (connection_at c.args.number p.connections)) (sym plain) c.requires.live
 
 pub do_get-result-requires-clause-told : goal.do_get-result-requires-clause-told
-do_get-result-requires-clause-told g c = ap (λ (w : ManagerValue). w.delta) (c.core.view_is ∙ c.begin_call.ensures)
+do_get-result-requires-clause-told g c = ap (λ (w : CoreValue). w.delta) (c.core.view_is ∙ c.begin_call.ensures)
 
 pub do_get-result-requires-clause-short : goal.do_get-result-requires-clause-short
 do_get-result-requires-clause-short g c =
@@ -42,8 +43,8 @@ returns g c =
     let found = ap (λ (p : Plain). connection_at c.args.number p.connections) plain ∙ live.1 in
     let new = λ (s : Option Stop). seen c.do_get-result.new.parts c.do_get-result.new.effects.dids s in
     let step = planned_at c.args.number c.args.get.now c.args.until c.args.aim.now (plain_of x) live.0 c.in-Ok.plan found c.in-Ok.ensures ∙ ap (get_at c.args.number c.args.get.now c.args.until c.args.aim.now) plain in
-    let begun : seen x [] None ≡ untouched c.args.core.now = (λ i. record { plain = plain i; delta = []; stopped = None; faults = (v i).faults }) in
+    let begun : seen x [] None ≡ begun_call c.args.core.now = (λ i. record { plain = plain i; delta = []; stopped = None; faults = (v i).faults; log = (v i).log }) in
     meets_begun (get_at c.args.number c.args.get.now c.args.until c.args.aim.now c.args.core.now.plain) c.args.core.now _ c.do_get-result.result
-    (subst (λ (s : Option Stop). Meets (untouched c.args.core.now) (get_at c.args.number c.args.get.now c.args.until c.args.aim.now c.args.core.now.plain) c.do_get-result.result (new s)) (sym c.stop_of-core-inside.ensures)
-    (subst (λ (w : ManagerValue). Meets w (get_at c.args.number c.args.get.now c.args.until c.args.aim.now c.args.core.now.plain) c.do_get-result.result (new (stop_of c.do_get-result.result))) begun
-    (subst (λ (s : Step Reason GetAnswer). Meets (seen x [] None) s c.do_get-result.result (new (stop_of c.do_get-result.result))) step c.do_get-result.ensures.meets)))
+    (subst (λ (s : Option Stop). MeetsTold (begun_call c.args.core.now) (get_at c.args.number c.args.get.now c.args.until c.args.aim.now c.args.core.now.plain) c.do_get-result.result (new s)) (sym c.stop_of-core-inside.ensures)
+    (subst (λ (w : CoreValue). MeetsTold w (get_at c.args.number c.args.get.now c.args.until c.args.aim.now c.args.core.now.plain) c.do_get-result.result (new (stop_of c.do_get-result.result))) begun
+    (subst (λ (s : Step Reason GetAnswer). MeetsTold (seen x [] None) s c.do_get-result.result (new (stop_of c.do_get-result.result))) step c.do_get-result.ensures.meets)))

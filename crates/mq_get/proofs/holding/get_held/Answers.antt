@@ -10,7 +10,7 @@ use Rattle.mq_get.specs.Does.{seen}
 use Rattle.mq_get.specs.Leaving.{gone_parts, held_part, leaving_need}
 use Rattle.mq_get.proofs.DoesLaws.{run_meets, broken_meets}
 use Rattle.mq_get.proofs.HoldLaws.{tied_roomy, need_take, take_small}
-use Rattle.mq_get.proofs.PathLaws.{more_same, wanting_meets, roomy_live, back_more, leaving_short, leaving_long, back_run}
+use Rattle.mq_get.proofs.PathLaws.{more_same, wanting_meets, roomy_live, roomy_up, back_more, leaving_short, leaving_long, back_run}
 use Rattle.mq_get.proofs.HeldLaws.{held_run, held_after, held_room, unheld_cut, item_live, held_body}
 use Rattle.mq_get.proofs.holding.get_held.Goals as goal
 
@@ -44,7 +44,7 @@ pend_in_room-requires-clause-need g c =
     let some = λ (e : c.args.met.persistent ≡ true). if_some (λ (d : Connection). c.hold_need-need.result ≡ more_need d.unit 65) _ live.0 live.1 (c.hold_need-need.ensures.some e) in
     let more = need_take live.0.unit c.args.queue.now c.args.met.ident c.args.met.persistent c.hold_need-need.result some c.hold_need-need.ensures.none in
     some_of (λ (d : Connection). unit_need (d.unit ++ Take c.args.queue.now c.args.met.ident c.args.met.persistent ∷ []) < 18446744073709551616) _ live.0 found
-    (take_small c.args.number c.args.queue.now c.args.met.ident c.args.met.persistent c.hold_need-need.result live.0 r found more c.hold_need-need.ensures.small (tied_roomy _ c.args.parts.now r roomy c.requires.tied))
+    (take_small c.args.number c.args.queue.now c.args.met.ident c.args.met.persistent c.hold_need-need.result live.0 r found more c.hold_need-need.ensures.small (roomy_up _ c.args.parts.now r roomy c.requires.up) (tied_roomy _ c.args.parts.now r roomy c.requires.tied))
 
 pub returns-in-Err-pend_in_room-clause-tied : goal.returns-in-Err-pend_in_room-clause-tied
 returns-in-Err-pend_in_room-clause-tied g c = tied_roomier c.args.parts.now c.pend_in_room.new.parts (back_more (c.leaving_need.result + c.hold_need-need.result) c.args.parts.now c.make_room.new.parts c.pend_in_room.new.parts c.in-Ok-make_room.ensures.ok c.in-Err-pend_in_room.ensures.err) c.requires.tied
