@@ -6,3 +6,5 @@ pub mod TellLaws
 pub mod RemoveLaws
 pub mod FillLaws
 pub mod DoubtLaws
+pub mod SettleLaws
+pub mod MoveLaws

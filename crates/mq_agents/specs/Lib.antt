@@ -3,3 +3,5 @@ pub mod Written
 pub mod Removing
 pub mod Releasing
 pub mod Expiring
+pub mod Settling
+pub mod Moving

@@ -5,10 +5,12 @@ mod batches;
 mod discarding;
 mod expiring;
 mod hardening;
+mod moving;
 mod preparing;
 mod reading;
 mod releasing;
 mod seizing;
+mod settling;
 mod walking;
 
 pub use batches::hold_batch;
@@ -21,3 +23,4 @@ pub use preparing::prepare;
 pub use reading::{Hardened, batch_row, defs, is_up, kept, moment, next_row, stock};
 pub use releasing::release_batch;
 pub use seizing::{leave, seize, set_bound};
+pub use settling::harden_resolved;
