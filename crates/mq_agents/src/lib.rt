@@ -3,15 +3,19 @@
 
 mod batches;
 mod discarding;
+mod expiring;
 mod hardening;
+mod moving;
 mod preparing;
 mod reading;
 mod releasing;
 mod seizing;
+mod settling;
 mod walking;
 
 pub use batches::hold_batch;
 pub use discarding::discard;
+pub use expiring::expire;
 pub use hardening::{
     Unwritten, harden_bound, harden_closed, harden_last_received, harden_last_sent, harden_session,
 };
@@ -19,3 +23,4 @@ pub use preparing::prepare;
 pub use reading::{Hardened, batch_row, defs, is_up, kept, moment, next_row, stock};
 pub use releasing::release_batch;
 pub use seizing::{leave, seize, set_bound};
+pub use settling::harden_resolved;

@@ -5,6 +5,7 @@ ghost use Rattle.mq_spec_agents.specs.Words.{IsUp, HasBatch, release_batch};
 ghost use Rattle.mq_unit.specs.Told.{told, told_all};
 ghost use Rattle.mq_agents.specs.Ends.{by_memory};
 ghost use Rattle.mq_agents.specs.Releasing.{batch_freed, released_did};
+ghost use Rattle.mq_core.specs.Values.{manager_of, WritesLog};
 
 use crate::preparing::batch_now;
 use mq_base::NoMemory;
@@ -53,7 +54,8 @@ fn free_batch<D: Disk>(parts: &mut Parts<D>, channel: &ChName)
 pub fn release_batch<D: Disk>(core: &mut Core<D>, channel: &ChName) -> Result<(), NoMemory>
     requires up { IsUp core.old.plain }
     requires batch { HasBatch channel.now core.old.plain }
-    ensures { MeetsOrWants core.old (release_batch channel.now core.old.plain) (by_memory result) core.new }
+    ensures meets { MeetsOrWants (manager_of core.old) (release_batch channel.now core.old.plain) (by_memory result) (manager_of core.new) }
+    ensures told { WritesLog core.old (release_batch channel.now core.old.plain) (by_memory result) core.new }
 {
     core.begin_call();
     let Some(batch) = batch_now(&core.parts, channel) else {

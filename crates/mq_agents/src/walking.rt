@@ -23,7 +23,7 @@ fn is_by_other(channel: &ChName, by: &Option<Holder>) -> bool
 }
 
 /// Whether the deadline is there and has come.
-fn is_past(moment: u64, deadline: Option<u64>) -> bool
+pub(crate) fn is_past(moment: u64, deadline: Option<u64>) -> bool
     ensures { result ≡ is_past moment deadline }
 {
     match deadline {

@@ -13,7 +13,7 @@ use Rattle.mq_core.specs.declared.parts.Mode.{Mode}
 use Rattle.mq_core.specs.declared.parts.Mode.TheVariants as modes
 use Rattle.mq_core.specs.declared.parts.ChannelEnds.{ChannelEnds}
 use Rattle.mq_spec_agents.specs.Words.{harden_part, move_part}
-use Rattle.mq_core.specs.Writes.{now_part, ended_part, gone_part, batch_part}
+use Rattle.mq_core.specs.Writes.{now_part, ended_part, gone_part, settled_part, batch_part}
 
 -- the parts, with the room that was taken
 pub record PartsValue : Type 0 where
@@ -66,6 +66,7 @@ noted frozen (Some (writes.Commit number ends)) = noted_commit ends (connection_
 noted frozen (Some (writes.Removal queue removes idents why)) = noted_part (gone_part queue removes idents why)
 noted frozen (Some (writes.Objects planned)) = noted_part (object_part planned frozen.definitions)
 noted frozen (Some (writes.Hardened channel note)) = noted_part (harden_part channel note frozen)
+noted frozen (Some (writes.Settled channel unit commit operator rows)) = noted_part (settled_part channel unit commit operator rows frozen)
 noted frozen (Some (writes.Prepared channel last)) = noted_batch channel last (batch_of channel frozen.channels.batches) frozen
 noted frozen (Some (writes.Moved from target bare to message)) = noted_part (move_part from target bare (record { queue = to; message = message; dead = None }))
 

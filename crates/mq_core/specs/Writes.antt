@@ -1,12 +1,13 @@
 -- The parts of calls that are written to the log.
-use Rattle.std.specs.Prelude.{ℕ, Bool, true, false, List, [], ◌∷◌, map, Some, None}
-use Rattle.mq_spec_state.specs.Words.{Ident, Message, Connection, Part, Change, LogRecord, Remove, Among, Batch, Plain, sender_or, sender_data}
+use Rattle.std.specs.Prelude.{ℕ, Bool, true, false, List, [], ◌∷◌, ◌++◌, map, Some, None}
+use Rattle.mq_spec_state.specs.Words.{Ident, Message, Connection, Part, Change, LogRecord, Remove, Luw, Among, Batch, Plain, sender_or, sender_data, data_settled, settle_by}
 use Rattle.mq_calls.specs.declared.deltas.Did.TheVariants as did
 use Rattle.mq_calls.specs.declared.records.LogRecord.TheVariants as records
 use Rattle.mq_calls.specs.declared.deltas.Why.{Why}
-use Rattle.mq_spec_state.specs.State.Change.{Disconnect, CountIdent, Leave}
+use Rattle.mq_spec_state.specs.State.Change.{Disconnect, CountIdent, Leave, SetSender}
 use Rattle.mq_spec_manager.specs.Words.{placed, unit_record, commit_part}
-use Rattle.mq_spec_agents.specs.Words.{prepared_record, prepared_changes}
+use Rattle.mq_calls.specs.declared.agents.Note.TheVariants as notes
+use Rattle.mq_spec_agents.specs.Words.{prepared_record, prepared_changes, settle_change, settle_did}
 
 -- the record that adds one message
 abbrev pub added : List ℕ → Message → LogRecord
@@ -30,6 +31,14 @@ gone_part queue removes idents why = record {
   forced = Some (records.Unit [] removes);
   changes = Leave (Among queue idents) ∷ [];
   delta = map (λ (i : Ident). did.Removed queue i why) idents;
+}
+
+-- a unit in doubt is settled, of whose batch these rows were held, as mq_spec_agents' `harden` with Resolved
+abbrev pub settled_part : List ℕ → Luw → Bool → Bool → List Remove → Plain → Part
+settled_part channel unit commit operator rows p = record {
+  forced = Some (records.Resolved channel unit commit operator);
+  changes = settle_change commit channel ∷ SetSender channel (data_settled (Some (settle_by commit)) (sender_or (sender_data channel p))) ∷ [];
+  delta = map (settle_did commit) rows ++ did.Hardened channel (notes.Resolved unit commit operator) ∷ [];
 }
 
 -- a batch becomes the unit in doubt of its channel, as mq_spec_agents' `prepare`

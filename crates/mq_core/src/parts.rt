@@ -11,6 +11,7 @@ use mq_place::Queues;
 use mq_queue::PlainQueue;
 use mq_record::Buffer;
 use mq_sc_apply::Planned;
+use mq_sync::Unit;
 use std::alloc::Global;
 use std::marker::Model;
 
@@ -44,6 +45,14 @@ pub enum StoppedWrite {
     Hardened {
         channel: ChName,
         note: Note,
+    },
+    /// A unit in doubt that is settled, with the rows that its channel's batch held, in order.
+    Settled {
+        channel: ChName,
+        unit: Unit,
+        commit: bool,
+        operator: bool,
+        rows: Items<Remove>,
     },
     /// A batch that becomes the unit in doubt, with its last sequence number.
     Prepared {

@@ -48,7 +48,7 @@ removal_is why queue rows = λ i. record {
   delta = deltas_met why queue rows i;
 }
 
-parts_are : (why : Why) (queue : List ℕ) (rows : List Row) → removal_parts why queue rows ≡ gone_parts why queue (map met_of rows)
+pub parts_are : (why : Why) (queue : List ℕ) (rows : List Row) → removal_parts why queue rows ≡ gone_parts why queue (map met_of rows)
 parts_are why queue [] = refl
 parts_are why queue (row ∷ rows) = ap (λ (p : Part). p ∷ []) (removal_is why queue (row ∷ rows))
 

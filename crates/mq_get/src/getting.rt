@@ -50,7 +50,7 @@ fn is_waiting(until: Option<u64>, moment: u64) -> bool
 }
 
 /// The expired rows that a scan met leave, behind a write of their own where one of them lasts.
-fn drop_expired<D: Disk>(
+pub fn drop_expired<D: Disk>(
     parts: &mut Parts<D>,
     effects: &mut Effects,
     queue: &QName,

@@ -11,6 +11,6 @@ mod survey;
 mod takes;
 
 pub use finding::{Hit, Plan};
-pub use getting::mqget;
+pub use getting::{drop_expired, mqget};
 pub use leaving::Leaving;
 pub use refusals::Aim;

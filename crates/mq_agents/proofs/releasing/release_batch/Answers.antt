@@ -10,7 +10,9 @@ use Rattle.mq_unit.specs.Told.{Telling}
 use Rattle.mq_core.specs.declared.parts.ChannelEnds.{ChannelEnds}
 use Rattle.mq_core.specs.Views.{PartsValue, plain_of, frozen_of}
 use Rattle.mq_core.specs.Ties.{Tied}
+use Rattle.mq_core.specs.Values.{CoreValue, manager_of, bodies_in}
 use Rattle.mq_core.proofs.MeetLaws.{mode_up}
+use Rattle.mq_core.proofs.WriteLaws.{writes_as}
 use Rattle.mq_agents.specs.Removing.{without_one}
 use Rattle.mq_agents.specs.Releasing.{released_did}
 use Rattle.mq_agents.proofs.EndLaws.{with_rows, tied_rows, rows_view, times_freed, free_as}
@@ -24,11 +26,11 @@ invariant_of-core-2 g c =
     let f = released_in (HeldBy (holders.Batch channel)) false in
     subst Tied (sym c.free_batch.ensures) (tied_rows f (λ q. refl) (λ i q. omega (arith, times_freed i (HeldBy (holders.Batch channel)) q)) (without_one channel x.ends) x c.core.invariant)
 
-pub returns : goal.returns
+pub returns-clause-meets : goal.returns-clause-meets
 unfolding with_rows
-returns g c =
+returns-clause-meets g c =
     let v = c.core.view_is ∙ c.begin_call.ensures in
-    let plain = ap (λ (w : ManagerValue). w.plain) v in
+    let plain = ap (λ (w : CoreValue). w.plain) v in
     let x : PartsValue = c.core.inside.parts in
     let up = mode_up (frozen_of x) x.mode (ap (λ (p : Plain). is_up p.running) plain ∙ c.requires.up) in
     let channel = c.args.channel.now in
@@ -40,11 +42,22 @@ returns g c =
     let done = ap plain_of same ∙ rows_view f (without_one channel x.ends) x up ∙ ap (λ (p : Plain). apply_all changes p) plain in
     let told =
     ap (λ (t : Telling). t.dids) c.tell_released.ensures
-    ∙ ap (λ (ds : List Did). ds ++ map (released_did b.queue) c.as_slice.result.now) (c.reserve.ensures.dids ∙ ap (λ (w : ManagerValue). w.delta) v)
+    ∙ ap (λ (ds : List Did). ds ++ map (released_did b.queue) c.as_slice.result.now) (c.reserve.ensures.dids ∙ ap (λ (w : CoreValue). w.delta) v)
     ∙ ap (λ (is : List Ident). map (released_did b.queue) is) c.as_slice.ensures
     in
-    let faults = ap (λ (p : PartsValue). p.log.faults) same ∙ ap (λ (w : ManagerValue). w.faults) v in
+    let faults = ap (λ (p : PartsValue). p.log.faults) same ∙ ap (λ (w : CoreValue). w.faults) v in
     let new : ManagerValue = record { plain = plain_of c.free_batch.new.parts; delta = c.tell_released.new.effects.dids; stopped = c.core.inside.stopped; faults = c.free_batch.new.parts.log.faults } in
     let nothing : Unit {0} = tt in
-    subst (λ (s : Step Never (Unit {0})). MeetsOrWants c.args.core.now s (Ok nothing) new) step
-    (free_as Never Anywhere c.args.core.now new nothing nothing changes (map (released_did b.queue) b.idents) refl done told (ap (λ (w : ManagerValue). w.stopped) v) faults)
+    subst (λ (s : Step Never (Unit {0})). MeetsOrWants (manager_of c.args.core.now) s (Ok nothing) new) step
+    (free_as Never Anywhere (manager_of c.args.core.now) new nothing nothing changes (map (released_did b.queue) b.idents) refl done told (ap (λ (w : CoreValue). w.stopped) v) faults)
+
+pub returns-clause-told : goal.returns-clause-told
+returns-clause-told g c =
+    let v = c.core.view_is ∙ c.begin_call.ensures in
+    let plain = ap (λ (w : CoreValue). w.plain) v in
+    let channel = c.args.channel.now in
+    let b : Batch = c.in-Some.batch.now in
+    let step : release_of channel (Some b) ≡ release_batch channel c.args.core.now.plain = ap (release_of channel) (c.in-Some.ensures ∙ ap (λ (p : Plain). batch_of channel p.channels.batches) plain) in
+    let nothing : Unit {0} = tt in
+    writes_as c.args.core.now _ (release_batch channel c.args.core.now.plain) (release_of channel (Some b)) (Ok nothing) (sym step)
+    (ap (λ (p : PartsValue). bodies_in p.log) c.free_batch.ensures ∙ ap (λ (w : CoreValue). w.log) v)

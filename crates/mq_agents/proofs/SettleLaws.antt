@@ -1,0 +1,70 @@
+-- A unit in doubt that is settled: its rows go, or are free again.
+use Rattle.std.proofs.Common.{◌≡◌, ℕ, ◌+◌, ◌≤◌, Bool, true, false, List, [], ◌∷◌, ◌++◌, map, refl, ap, arith, sym, subst, ◌∙◌}
+use Rattle.std.specs.Prelude.{Option, Some, None, not}
+use Rattle.mq_message.specs.declared.place.Holder.{Holder}
+use Rattle.mq_message.specs.declared.place.Holder.TheVariants as holders
+use Rattle.mq_calls.specs.declared.agents.Note.TheVariants as notes
+use Rattle.mq_calls.specs.declared.records.LogRecord.TheVariants as records
+use Rattle.mq_spec_state.specs.State.{Queue as StateQueue}
+use Rattle.mq_spec_state.specs.Words.{Ident, Row, Remove, Luw, Plain, Part, Step, Do, SenderData, HeldBy, kept_in, selects, sender_or, sender_data, apply, apply_all}
+use Rattle.mq_spec_state.specs.State.Change.{SetSender}
+use Rattle.mq_spec_manager.specs.Words.{Never}
+use Rattle.mq_spec_agents.specs.Words.{harden, held_rows, settle_change}
+use Rattle.mq_core.specs.declared.parts.StoppedWrite.TheVariants as writes
+use Rattle.mq_core.specs.Views.{PartsValue, plain_of, frozen_of, noted}
+use Rattle.mq_core.specs.Ties.{Tied, mode_is_up, times_in_rows}
+use Rattle.mq_core.proofs.ForceLaws.{times_keep}
+use Rattle.mq_agents.specs.Settling.{settled_in, rows_settled, settled_changes, settled_told}
+use Rattle.mq_agents.proofs.EndLaws.{with_rows, tied_rows, rows_view, times_freed}
+
+settled_named : (commit : Bool) (by : Holder) (q : StateQueue) → (settled_in commit by q).name ≡ q.name
+settled_named true by q = refl
+settled_named false by q = refl
+
+settled_times : (commit : Bool) (by : Holder) (i : Ident) (q : StateQueue) → times_in_rows i (settled_in commit by q).rows ≤ times_in_rows i q.rows
+settled_times true by i q = times_keep i (λ (row : Row). not (selects (HeldBy by) q.name row)) q.rows
+settled_times false by i q = omega (arith, times_freed i (HeldBy by) q)
+
+pub settled_tied : (commit : Bool) (by : Holder) (x : PartsValue) → Tied x → Tied (rows_settled commit by x)
+unfolding with_rows
+settled_tied commit by x t = tied_rows (settled_in commit by) (settled_named commit by) (settled_times commit by) x.ends x t
+
+with_queues : Plain → List StateQueue → Plain
+with_queues p qs = record p { queues = qs }
+
+pub settled_view : (commit : Bool) (by : Holder) (x : PartsValue) → mode_is_up x.mode ≡ true → plain_of (rows_settled commit by x) ≡ record (plain_of x) { queues = map (settled_in commit by) (plain_of x).queues }
+unfolding with_rows
+settled_view commit by x up = rows_view (settled_in commit by) x.ends x up
+
+settle_by_rows : Bool → Holder → Plain → Plain
+settle_by_rows commit by p = record p { queues = map (settled_in commit by) p.queues }
+
+rows_first : (commit : Bool) (channel : List ℕ) (d : SenderData) (p : Plain) → settle_by_rows commit (holders.Batch channel) (apply (SetSender channel d) p) ≡ apply_all (settle_change commit channel ∷ SetSender channel d ∷ []) p
+unfolding settle_by_rows
+rows_first true channel d p = refl
+rows_first false channel d p = refl
+
+-- what the plain manager then is
+pub settled_done : (commit : Bool) (channel : List ℕ) (d : SenderData) (z : PartsValue) (p : Plain) → mode_is_up z.mode ≡ true → plain_of z ≡ apply (SetSender channel d) p
+    → plain_of (rows_settled commit (holders.Batch channel) z) ≡ apply_all (settle_change commit channel ∷ SetSender channel d ∷ []) p
+unfolding settle_by_rows
+settled_done commit channel d z p up e = settled_view commit (holders.Batch channel) z up ∙ ap (settle_by_rows commit (holders.Batch channel)) e ∙ rows_first commit channel d p
+
+abbrev pub settled_part : Bool → Bool → List ℕ → Luw → List Remove → SenderData → Part
+settled_part commit operator channel unit rows d = record {
+  forced = Some (records.Resolved channel unit commit operator);
+  changes = settled_changes commit channel d;
+  delta = settled_told commit operator channel unit rows;
+}
+
+-- the step
+pub settles_as : (commit operator : Bool) (channel : List ℕ) (unit : Luw) (rows : List Remove) (old : SenderData) (p : Plain) → rows ≡ held_rows (holders.Batch channel) p → old ≡ sender_or (sender_data channel p)
+    → harden channel (notes.Resolved unit commit operator) p ≡ Do tt (settled_part commit operator channel unit rows old ∷ [])
+settles_as commit operator channel unit rows old p listed was = λ i. Do tt (settled_part commit operator channel unit (sym listed i) (sym was i) ∷ [])
+
+-- what is noted where its write is stopped
+pub settled_noted : (commit operator : Bool) (channel : List ℕ) (unit : Luw) (rows : List Remove) (old : SenderData) (x : PartsValue) → old ≡ sender_or (sender_data channel (plain_of x))
+    → noted (frozen_of x) (Some (writes.Settled channel unit commit operator rows))
+    ≡ Some (record { written = records.Resolved channel unit commit operator; changes = settled_changes commit channel old; delta = settled_told commit operator channel unit rows })
+settled_noted commit operator channel unit rows old x was =
+    λ i. Some (record { written = records.Resolved channel unit commit operator; changes = settled_changes commit channel (sym was i); delta = settled_told commit operator channel unit rows })

@@ -1,0 +1,36 @@
+-- A unit in doubt that is settled.
+use Rattle.std.specs.Prelude.{◌≡◌, ℕ, Bool, true, false, List, [], ◌∷◌, ◌++◌, map, Some, Result, Ok, Err}
+use Rattle.mq_message.specs.declared.place.Holder.{Holder}
+use Rattle.mq_calls.specs.declared.agents.Note.TheVariants as notes
+use Rattle.mq_calls.specs.declared.deltas.Did.TheVariants as did
+use Rattle.mq_spec_state.specs.Words.{Remove, Luw, Did, Change, SenderData, HeldBy, kept_in, released_in, data_settled, settle_by}
+use Rattle.mq_spec_state.specs.State.{Queue}
+use Rattle.mq_spec_state.specs.State.Change.{SetSender}
+use Rattle.mq_spec_agents.specs.Words.{settle_change, settle_did}
+use Rattle.mq_place.specs.States.{on_queues}
+use Rattle.mq_core.specs.declared.parts.ChannelEnds.{ChannelEnds}
+use Rattle.mq_core.specs.declared.parts.StoppedWrite.{StoppedWrite}
+use Rattle.mq_core.specs.Views.{PartsValue}
+use Rattle.mq_core.specs.Placing.{with_states}
+use Rattle.mq_agents.specs.declared.hardening.Unwritten.{Unwritten}
+use Rattle.mq_agents.specs.Written.{IsWritten, Writes}
+
+-- the rows of a holder go, or are free again
+abbrev pub settled_in : (commit : Bool) → Holder → Queue → Queue
+settled_in true by = kept_in (HeldBy by)
+settled_in false by = released_in (HeldBy by) false
+
+abbrev pub rows_settled : (commit : Bool) → Holder → PartsValue → PartsValue
+rows_settled commit by x = with_states (on_queues (settled_in commit by) x.queues.states) x
+
+-- the record was forced, and the rows are handed back; or there was no memory, or its write was stopped
+abbrev pub WritesRows : List Remove → List ℕ → ChannelEnds → StoppedWrite → PartsValue → Result (List Remove) Unwritten → PartsValue → Type 0
+WritesRows rows bytes e write x (Ok back) z = (back ≡ rows) × IsWritten bytes e x (Ok tt) z
+WritesRows rows bytes e write x (Err unwritten) z = Writes bytes e write x (Err unwritten) z
+
+-- what the step does and tells
+abbrev pub settled_changes : Bool → List ℕ → SenderData → List Change
+settled_changes commit channel d = settle_change commit channel ∷ SetSender channel (data_settled (Some (settle_by commit)) d) ∷ []
+
+abbrev pub settled_told : Bool → Bool → List ℕ → Luw → List Remove → List Did
+settled_told commit operator channel unit rows = map (settle_did commit) rows ++ did.Hardened channel (notes.Resolved unit commit operator) ∷ []
