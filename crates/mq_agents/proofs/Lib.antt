@@ -7,4 +7,3 @@ pub mod RemoveLaws
 pub mod FillLaws
 pub mod DoubtLaws
 pub mod SettleLaws
-pub mod MoveLaws

@@ -4,4 +4,3 @@ pub mod Removing
 pub mod Releasing
 pub mod Expiring
 pub mod Settling
-pub mod Moving

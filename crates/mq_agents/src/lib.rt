@@ -5,7 +5,6 @@ mod batches;
 mod discarding;
 mod expiring;
 mod hardening;
-mod moving;
 mod preparing;
 mod reading;
 mod releasing;
