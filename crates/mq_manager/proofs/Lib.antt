@@ -1,3 +1,5 @@
 pub mod LimitLaws
 pub mod GetLimit
+pub mod BatchLaws
 pub mod WellLaws
+pub mod TellLaws

@@ -1,15 +1,17 @@
 -- Calls of the MQI leave the definitions as they are.
 use Rattle.std.proofs.Common.{◌≡◌, ◌≤◌, ℕ, Bool, true, false, List, [], ◌∷◌, ◌++◌, refl, sym, subst, ◌∙◌}
-use Rattle.std.specs.Prelude.{Result, Ok, Err}
+use Rattle.std.specs.Prelude.{Option, Some, None, Result, Ok, Err, map}
 use Rattle.std.specs.List.{flat_map}
-use Rattle.mq_spec_state.specs.Words.{Reason, Md, Message, Hconn, Hobj, Appl, Open, Route, Connection, Item, Plain, Part, Change, Definitions, apply, apply_all, logged, do_part, condition, local_of, when, handle_at}
-use Rattle.mq_spec_state.specs.State.Change.{Try, ChangeObjects, SetBound, EndUnit, Disconnect}
+use Rattle.mq_spec_state.specs.Words.{Batch, LocalQueue, Process, Nonpersistent, is_up, is_transmission, locals_of, process_of, Reason, Md, Message, Hconn, Hobj, Appl, Open, Route, Connection, Item, Plain, Part, Change, Definitions, apply, apply_all, logged, do_part, condition, local_of, when, handle_at}
+use Rattle.mq_spec_state.specs.State.Change.{Try, ChangeObjects, SetBound, EndUnit, Disconnect, Leave, ForgetAll}
 use Rattle.mq_calls.specs.declared.state.Item.TheVariants.{Put, Take}
 use Rattle.mq_codes.specs.declared.reason.Reason.TheVariants as reasons
 use Rattle.mq_resolve.specs.Resolved.{resolve}
 use Rattle.mq_spec_manager.specs.Handles.{connected, conn_tests, option_tests, open_tests, open_step, close_up, close_handle, is_unfit, mqconn, mqopen, mqclose}
 use Rattle.mq_spec_manager.specs.Put.{output_only, queue_at, put_part, put_step, put_route, put_tests, put_up, put_handle, put1_resolved, handle_route, output_tests, new_message, mqput, mqput1}
 use Rattle.mq_spec_manager.specs.Units.{taken_item, placed_item, freed_item, commit_changes, commit_part, backout_part, mqcmit, mqback, mqdisc}
+use Rattle.mq_spec_manager.specs.Triggers.{put_trigger, takes_it, serve_into, serve_by, serve, first_due, trigger_at, trigger_turn}
+use Rattle.mq_spec_manager.specs.Stops.{release_batch, stop_changes, at_rest}
 use Rattle.mq_spec_state.specs.Steps.{none_of}
 use Rattle.mq_law_manager.specs.Kept.{StepKeeps}
 use Rattle.mq_law_manager.proofs.Shelves.{tried_definitions, logged_definitions}
@@ -124,3 +126,44 @@ back_limit hc p h = live_on HasLimit (connected hc p) _ p (λ c e. (part_limit (
 
 pub disc_limit : (hc : Hconn) (p : Plain) → HasLimit p → StepKeeps HasLimit (mqdisc hc p) p
 disc_limit hc p h = live_on HasLimit (connected hc p) _ p (λ c e. (part_limit (commit_part (Disconnect c.number ∷ []) c) p (commit_steady c (Disconnect c.number ∷ []) (leave_steady c.number)) h, tt))
+
+-- a trigger's turn
+turn_steady : (o : Option Reason) (q : LocalQueue) (process : Process) (i : LocalQueue) (p : Plain) → AllSteady (put_trigger o q process i p).changes
+unfolding AllSteady IsSteady
+turn_steady (Some reason) q process i p = (tt, tt)
+turn_steady None q process i p = (tt, (tt, (tt, tt)))
+
+into_steady : (b : Bool) (q : LocalQueue) (process : Process) (i : LocalQueue) (p : Plain) → AllSteady (serve_into b q process i p).changes
+unfolding AllSteady IsSteady
+into_steady true q process i p = (tt, tt)
+into_steady false q process i p = turn_steady (takes_it i p) q process i p
+
+served_steady : (q : LocalQueue) (process : Option Process) (i : Option LocalQueue) (p : Plain) → AllSteady (serve_by q process i p).changes
+unfolding AllSteady IsSteady
+served_steady q None i p = (tt, tt)
+served_steady q (Some process) None p = (tt, tt)
+served_steady q (Some process) (Some i) p = into_steady (is_transmission i.usage) q process i p
+
+serve_limit : (o : Option LocalQueue) (p : Plain) → HasLimit p → StepKeeps HasLimit (serve o p) p
+serve_limit None p h = tt
+serve_limit (Some q) p h = let part : Part = serve_by q (process_of q.process p.definitions) (local_of q.initiation_queue p.definitions) p in (part_limit part p (served_steady q (process_of q.process p.definitions) (local_of q.initiation_queue p.definitions) p) h, tt)
+
+pub turn_limit : (p : Plain) → HasLimit p → StepKeeps HasLimit (trigger_turn p) p
+turn_limit p h = by (is_up p.running)
+  where
+    by : (b : Bool) → StepKeeps HasLimit (trigger_at b p) p
+    by true = serve_limit (first_due (locals_of p.definitions) p) p h
+    by false = tt
+
+-- a stop
+batches_steady : (bs : List Batch) (more : List Change) → AllSteady more → AllSteady (map release_batch bs ++ more)
+unfolding AllSteady IsSteady
+batches_steady [] more s = s
+batches_steady (b ∷ bs) more s = (tt, batches_steady bs more s)
+
+rest_steady : (p : Plain) → AllSteady (stop_changes p)
+unfolding AllSteady IsSteady
+rest_steady p = (tt, batches_steady p.channels.batches (Leave Nonpersistent ∷ ForgetAll ∷ []) (tt, (tt, tt)))
+
+pub stop_limit : (p : Plain) → HasLimit p → HasLimit (at_rest p)
+stop_limit p h = subst (λ (d : Definitions). d.manager.max_message_length ≤ 4194304) (sym (steady_all (stop_changes p) p (rest_steady p))) h

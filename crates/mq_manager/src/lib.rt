@@ -1,6 +1,8 @@
 //! One queue manager over its forced log, whose facts hold between its calls.
 #![tactic(auto)]
 
+mod laws;
 mod manager;
 
+pub use laws::a_call_keeps_what_the_log_tells;
 pub use manager::Manager;

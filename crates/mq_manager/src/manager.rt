@@ -1,9 +1,15 @@
 //! The queue manager and its calls.
-ghost use Rattle.std.specs.Prelude.{◌≡◌};
+ghost use Rattle.std.specs.Prelude.{◌≡◌, []};
 ghost use Rattle.mq_spec_state.specs.Words.{Meets, MeetsInRoom, AreLow, is_up};
+ghost use Rattle.mq_core.specs.Values.{WritesLog, manager_of};
+ghost use Rattle.mq_spec_manager.specs.Stops.{advance_clock, cut, stop};
+ghost use Rattle.mq_spec_manager.specs.Triggers.{trigger_turn};
+ghost use Rattle.mq_steer.specs.Quiet.{quietly, Comes};
+ghost use Rattle.mq_steer.specs.Turns.{halted};
 ghost use Rattle.mq_spec_manager.specs.Words.{mqconn, mqopen, mqclose, mqput, mqput1, mqget, mqcmit, mqback, mqdisc};
 
-use mq_calls::{Answer, Appl, Get, GetAnswer, Halt, Hconn, Hobj, Open, Sent};
+use mq_base::NoMemory;
+use mq_calls::{Answer, Appl, Delta, Get, GetAnswer, Halt, Hconn, Hobj, Open, Sent};
 use mq_codes::Reason;
 use mq_core::Core;
 use mq_disk::Disk;
@@ -11,18 +17,18 @@ use mq_message::Md;
 use mq_name::QName;
 use std::marker::Model;
 
-/// One queue manager. Contracts see it as the plain manager, what its last call did, and what
-/// stopped that call's write. Between calls its facts hold (`IsWell`).
+/// One queue manager. Contracts see it as the plain manager, what its last call did, what stopped
+/// that call's write, and the bodies of its log. Between calls its facts hold (`IsWell`).
 #[derive(Drop)]
 pub struct Manager<D: Disk> {
     core: Core<D>,
 }
 
 impl<D: Disk> Model for Manager<D> {
-    ghost use Rattle.mq_spec_state.specs.Meeting.{ManagerValue};
+    ghost use Rattle.mq_core.specs.Values.{CoreValue};
     ghost use Rattle.mq_manager.specs.Facts.{IsWell};
 
-    ghost Value = { ManagerValue };
+    ghost Value = { CoreValue };
 
     ghost view = { λ m. m.core };
 
@@ -40,7 +46,8 @@ impl<D: Disk> Manager<D> {
     /// MQCONN (MQI reference).
     pub fn mqconn(&mut self, qmgr: &QName, appl: &Appl) -> Result<Answer<Hconn>, Halt<Reason>>
         requires low { AreLow self.old.plain }
-        ensures { Meets self.old (mqconn qmgr.now appl.now self.old.plain) result self.new }
+        ensures meets { Meets (manager_of self.old) (mqconn qmgr.now appl.now self.old.plain) result (manager_of self.new) }
+        ensures told { WritesLog self.old (mqconn qmgr.now appl.now self.old.plain) result self.new }
     {
         mq_mqi::mqconn(&mut self.core, qmgr, appl)
     }
@@ -54,14 +61,16 @@ impl<D: Disk> Manager<D> {
         how: &Open,
     ) -> Result<Answer<Hobj>, Halt<Reason>>
         requires low { AreLow self.old.plain }
-        ensures { Meets self.old (mqopen hc name.now qmgr.now how.now self.old.plain) result self.new }
+        ensures meets { Meets (manager_of self.old) (mqopen hc name.now qmgr.now how.now self.old.plain) result (manager_of self.new) }
+        ensures told { WritesLog self.old (mqopen hc name.now qmgr.now how.now self.old.plain) result self.new }
     {
         mq_mqi::mqopen(&mut self.core, hc, name, qmgr, how)
     }
 
     /// MQCLOSE (MQI reference). It takes no memory.
     pub fn mqclose(&mut self, hc: Hconn, ho: Hobj) -> Result<Answer<()>, Halt<Reason>>
-        ensures { MeetsInRoom self.old (mqclose hc ho self.old.plain) result self.new }
+        ensures meets { MeetsInRoom (manager_of self.old) (mqclose hc ho self.old.plain) result (manager_of self.new) }
+        ensures told { WritesLog self.old (mqclose hc ho self.old.plain) result self.new }
     {
         mq_mqi::mqclose(&mut self.core, hc, ho)
     }
@@ -76,7 +85,8 @@ impl<D: Disk> Manager<D> {
         sync: bool,
     ) -> Result<Answer<Sent>, Halt<Reason>>
         requires low { AreLow self.old.plain }
-        ensures { Meets self.old (mqput hc ho md.now body.now sync self.old.plain) result self.new }
+        ensures meets { Meets (manager_of self.old) (mqput hc ho md.now body.now sync self.old.plain) result (manager_of self.new) }
+        ensures told { WritesLog self.old (mqput hc ho md.now body.now sync self.old.plain) result self.new }
     {
         mq_mqi::mqput(&mut self.core, hc, ho, md, body, sync)
     }
@@ -92,7 +102,8 @@ impl<D: Disk> Manager<D> {
         sync: bool,
     ) -> Result<Answer<Sent>, Halt<Reason>>
         requires low { AreLow self.old.plain }
-        ensures { Meets self.old (mqput1 hc name.now qmgr.now md.now body.now sync self.old.plain) result self.new }
+        ensures meets { Meets (manager_of self.old) (mqput1 hc name.now qmgr.now md.now body.now sync self.old.plain) result (manager_of self.new) }
+        ensures told { WritesLog self.old (mqput1 hc name.now qmgr.now md.now body.now sync self.old.plain) result self.new }
     {
         mq_mqi::mqput1(&mut self.core, hc, name, qmgr, md, body, sync)
     }
@@ -105,7 +116,8 @@ impl<D: Disk> Manager<D> {
         get: &Get,
         until: Option<u64>,
     ) -> Result<GetAnswer, Halt<Reason>>
-        ensures { Meets self.old (mqget hc ho get.now until self.old.plain) result self.new }
+        ensures meets { Meets (manager_of self.old) (mqget hc ho get.now until self.old.plain) result (manager_of self.new) }
+        ensures told { WritesLog self.old (mqget hc ho get.now until self.old.plain) result self.new }
     {
         mq_get::mqget(&mut self.core, hc, ho, get, until)
     }
@@ -113,14 +125,16 @@ impl<D: Disk> Manager<D> {
     /// MQCMIT (MQI reference). It takes no memory.
     pub fn mqcmit(&mut self, hc: Hconn) -> Result<Answer<()>, Halt<Reason>>
         requires low { AreLow self.old.plain }
-        ensures { MeetsInRoom self.old (mqcmit hc self.old.plain) result self.new }
+        ensures meets { MeetsInRoom (manager_of self.old) (mqcmit hc self.old.plain) result (manager_of self.new) }
+        ensures told { WritesLog self.old (mqcmit hc self.old.plain) result self.new }
     {
         mq_ends::mqcmit(&mut self.core, hc)
     }
 
     /// MQBACK (MQI reference). It takes no memory.
     pub fn mqback(&mut self, hc: Hconn) -> Result<Answer<()>, Halt<Reason>>
-        ensures { MeetsInRoom self.old (mqback hc self.old.plain) result self.new }
+        ensures meets { MeetsInRoom (manager_of self.old) (mqback hc self.old.plain) result (manager_of self.new) }
+        ensures told { WritesLog self.old (mqback hc self.old.plain) result self.new }
     {
         mq_ends::mqback(&mut self.core, hc)
     }
@@ -128,8 +142,51 @@ impl<D: Disk> Manager<D> {
     /// MQDISC (MQI reference). It takes no memory.
     pub fn mqdisc(&mut self, hc: Hconn) -> Result<Answer<()>, Halt<Reason>>
         requires low { AreLow self.old.plain }
-        ensures { MeetsInRoom self.old (mqdisc hc self.old.plain) result self.new }
+        ensures meets { MeetsInRoom (manager_of self.old) (mqdisc hc self.old.plain) result (manager_of self.new) }
+        ensures told { WritesLog self.old (mqdisc hc self.old.plain) result self.new }
     {
         mq_ends::mqdisc(&mut self.core, hc)
+    }
+
+    /// The trigger of the first queue, in order of definition, that has one due is served: false exactly where none is.
+    ///
+    /// # Errors
+    ///
+    /// No memory; the trigger stays due.
+    pub fn trigger_turn(&mut self) -> Result<bool, NoMemory>
+        requires low { AreLow self.old.plain }
+        ensures meets { Meets (manager_of self.old) (trigger_turn self.old.plain) (halted result) (manager_of self.new) }
+        ensures told { WritesLog self.old (trigger_turn self.old.plain) (halted result) self.new }
+    {
+        mq_steer::trigger_turn(&mut self.core)
+    }
+
+    /// The moment is later by so many milliseconds, but never past the last one that there is. It takes no memory.
+    pub fn advance_clock(&mut self, by: u64)
+        ensures { self.new ≡ quietly (advance_clock by) self.old }
+    {
+        mq_steer::advance_clock(&mut self.core, by);
+    }
+
+    /// The k-th device call from now on is to be stopped; with 0 none is. It takes no memory.
+    pub fn cut(&mut self, k: u32)
+        ensures { self.new ≡ quietly (cut k) self.old }
+    {
+        mq_steer::cut(&mut self.core, k);
+    }
+
+    /// What the last call changed, and none is left. It takes no memory.
+    pub fn take_delta(&mut self) -> Delta
+        ensures delta { result ≡ self.old.delta }
+        ensures left { self.new ≡ record self.old { delta = [] } }
+    {
+        mq_steer::take_delta(&mut self.core)
+    }
+
+    /// Every connection is broken, and the manager comes to rest. False exactly where it is down already. It takes no memory.
+    pub fn stop(&mut self) -> bool
+        ensures { Comes (stop self.old.plain) result self.old self.new }
+    {
+        mq_steer::stop(&mut self.core)
     }
 }
