@@ -2,21 +2,25 @@
 //! each manager again.
 #![tactic(auto)]
 
-ghost use Rattle.std.specs.Prelude.{◌≡◌, ℕ, Bool, List, Ok};
+ghost use Rattle.std.specs.Prelude.{◌≡◌, ◌+◌, ℕ, Bool, List, Ok, Some, slice_get};
 ghost use Rattle.mq_message.specs.declared.message.Ident.{Ident};
 ghost use Rattle.mq_message.specs.declared.message.Message.{Message};
 ghost use Rattle.mq_sync.specs.declared.unit.Unit.{Unit as Luw};
 ghost use Rattle.mq_history.specs.declared.calls.Call.TheVariants as calls;
 ghost use Rattle.mq_history.specs.declared.calls.Reply.{Reply};
+ghost use Rattle.mq_history.specs.declared.scenario.CableLine.{CableLine};
 ghost use Rattle.mq_history.specs.declared.scenario.Scenario.{Scenario};
-ghost use Rattle.mq_spec_state.specs.State.{Plain};
+ghost use Rattle.mq_history.specs.Scenarios.{IsScenario};
+ghost use Rattle.mq_spec_network.specs.Story.{Mem};
+ghost use Rattle.mq_spec_state.specs.State.{Change, Plain};
+ghost use Rattle.mq_spec_state.specs.Changes.{apply_all};
 ghost use Rattle.mq_spec_state.specs.Steps.{do_part};
 ghost use Rattle.mq_spec_agents.specs.Receiving.{Landed, landed, received_part, taken_of};
 ghost use Rattle.mq_spec_network.specs.Ledger.{Ledger, post_call, take_all_gone};
 ghost use Rattle.mq_law_rows.specs.World.{Ghost, Inv};
 ghost use Rattle.mq_law_seen.specs.Seen.{book_of, world_of};
 ghost use Rattle.mq_law_events.specs.Tied.{IsNext};
-ghost use Rattle.mq_law_receipts.specs.Receipts.{IsReceipt, Receipt};
+ghost use Rattle.mq_law_receipts.specs.Receipts.{AreNumberedUpto, AreNextNumbers, IsCabled, IsReceipt, Receipt};
 
 /// A unit's messages land at its receiver, all of them, and the ledger's entry of that turn is posted.
 pub fn a_receivers_commit_keeps_the_facts()
@@ -24,4 +28,16 @@ pub fn a_receivers_commit_keeps_the_facts()
         → IsNext t p (do_part (received_part c u last x p) p) ps qs → IsReceipt s given ps p l g m t c u ms → Inv (world_of s given ps) g (book_of l)
         → (taken_of (landed c ms p) ≡ ms)
         × Receipt s given qs (do_part (received_part c u last x p) p) l (post_call t calls.Turn reply ms (received_part c u last x p).delta (take_all_gone t (received_part c u last x p).delta l)) g m t c u }
+{}
+
+/// Connections have numbers of their own, up to the last that was given, under all changes of which one that begins has the next number.
+pub fn connections_keep_their_numbers()
+    ensures { (cs : List Change) (p : Plain) → AreNextNumbers cs p → AreNumberedUpto p → AreNumberedUpto (apply_all cs p) }
+{}
+
+/// Each cable of a scenario leads from its sender to its receiver, and no other of its channel's name does, where a manager's number is
+/// its place and one.
+pub fn cables_lead_where_they_say()
+    ensures { (s : Scenario) (ps : List Plain) (k : CableLine) (sender : Plain) → IsScenario s → Mem k s.cables → ((a : ℕ) (x : Plain) → slice_get ps a ≡ Some x → x.given.number ≡ a + 1) → slice_get ps k.sender ≡ Some sender
+        → IsCabled s ps k.sender k.receiver k.channel }
 {}
