@@ -2,7 +2,6 @@
 #![tactic(auto)]
 
 mod acting;
-mod bogus;
 mod calling;
 mod commanding;
 mod events;
@@ -10,7 +9,6 @@ mod node;
 mod outcome;
 mod state;
 
-pub use bogus::{bogus_turn, bogus_up};
 pub use node::Node;
 pub use outcome::{Obeyed, Outcome, Told};
 pub use state::{NodeParts, Opening};
