@@ -1,5 +1,6 @@
 //! What is read from a body, and which bodies are none.
 
+use crate::recovery::fault_behind_start;
 use crate::samples::each_kind;
 use mq_calls::LogRecord;
 use mq_record::{BodyFault, WrittenRecord, read_record};
@@ -98,7 +99,7 @@ fn with_bytes(alloc: Global, kind: usize, place: usize, bytes: &[u8]) -> Result<
 }
 
 #[test]
-fn values_that_no_field_may_have_are_refused(rt: HostRuntime) -> Result<(), Fail> {
+fn values_that_no_field_may_have_are_refused_at_their_gate(rt: HostRuntime) -> Result<(), Fail> {
     for (kind, place, bytes, what) in [
         (1, 0, b"\0".as_slice(), "a kind of 0"),
         (1, 0, b"\x0c", "a kind of 12"),
@@ -149,6 +150,8 @@ fn values_that_no_field_may_have_are_refused(rt: HostRuntime) -> Result<(), Fail
     ] {
         let body = with_bytes(rt.alloc(), kind, place, bytes)?;
         assert!(rt; is_none(rt.alloc(), body.as_slice()), "{what}");
+        let (fault, gate) = fault_behind_start(rt.alloc(), body.as_slice())?;
+        assert_eq!(rt; fault, Some(gate), "{what}");
     }
     Ok(())
 }

@@ -66,7 +66,7 @@ fn a_body_that_is_none_is_told_by_its_gate(rt: HostRuntime) -> Result<(), Fail> 
 }
 
 /// The place of the first body at fault in a log with this body behind its start.
-fn fault_behind_start(alloc: Global, body: &[u8]) -> Result<(Option<u64>, u64), Fail> {
+pub fn fault_behind_start(alloc: Global, body: &[u8]) -> Result<(Option<u64>, u64), Fail> {
     let mut log = Log::new(alloc);
     log.started(alloc, 1, 1)?;
     let place = log.end();
@@ -149,6 +149,101 @@ fn an_ident_of_an_incarnation_that_did_not_begin_is_refused(rt: HostRuntime) -> 
         log.session(alloc, 1)?;
         let place = log.end();
         log.prepared(alloc, incarnation, 1)?;
+        let wanted = if good { None } else { Some(place) };
+        assert_eq!(rt; fault_in(alloc, &log, Start::First)?, wanted);
+    }
+    Ok(())
+}
+
+#[test]
+fn no_message_with_an_ident_that_was_not_given_is_placed(rt: HostRuntime) -> Result<(), Fail> {
+    let alloc = rt.alloc();
+    for (incarnation, good) in [(4, true), (5, false)] {
+        for kind in 0..3 {
+            let mut log = Log::new(alloc);
+            log.started(alloc, 1, 4)?;
+            log.defined(alloc)?;
+            log.defined_as(alloc, b'2')?;
+            log.bound(alloc, 1)?;
+            if kind == 2 && good {
+                log.added_to(alloc, b"Q1", incarnation, 9, 0)?;
+            }
+            let place = log.end();
+            match kind {
+                0 => log.added_to(alloc, b"Q1", incarnation, 9, 0)?,
+                1 => log.received(alloc, 1, incarnation, 9)?,
+                _ => log.moved(alloc, incarnation, 9)?,
+            }
+            let wanted = if good { None } else { Some(place) };
+            assert_eq!(rt; fault_in(alloc, &log, Start::First)?, wanted, "kind {kind}");
+        }
+    }
+    Ok(())
+}
+
+#[test]
+fn a_start_with_another_name_is_refused(rt: HostRuntime) -> Result<(), Fail> {
+    let alloc = rt.alloc();
+    for called in [b"M2".as_slice(), b"M", b"M1.", b"m1", b""] {
+        let mut log = Log::new(alloc);
+        log.started_as(alloc, 1, called, 1)?;
+        assert_eq!(rt; fault_in(alloc, &log, Start::First)?, Some(0));
+        let mut log = Log::new(alloc);
+        log.started(alloc, 1, 1)?;
+        let place = log.end();
+        log.started_as(alloc, 1, called, 2)?;
+        assert_eq!(rt; fault_in(alloc, &log, Start::First)?, Some(place));
+    }
+    Ok(())
+}
+
+/// A record of that kind with this number in a log, and its place.
+fn with_number(alloc: Global, kind: usize, number: u64) -> Result<(Log, u64), Fail> {
+    let mut log = Log::new(alloc);
+    log.started(alloc, 1, 1)?;
+    log.defined(alloc)?;
+    log.session(alloc, 1)?;
+    if kind > 1 {
+        log.bound(alloc, 1)?;
+    }
+    let place = log.end();
+    match kind {
+        0 => log.prepared(alloc, 1, number)?,
+        1 => log.bound(alloc, number)?,
+        2 => log.closed(alloc, number)?,
+        3 => log.received(alloc, number, 1, 9)?,
+        4 => log.received(alloc, 1, 1, number)?,
+        _ => log.added(alloc, number, 0)?,
+    }
+    Ok((log, place))
+}
+
+#[test]
+fn numbers_of_units_and_idents_are_bounded_at_a_first_start(rt: HostRuntime) -> Result<(), Fail> {
+    let alloc = rt.alloc();
+    for kind in 0..6 {
+        for (number, good) in [((1 << 60) - 1, true), (1 << 60, false), (u64::MAX, false)] {
+            let (log, place) = with_number(alloc, kind, number)?;
+            let wanted = if good { None } else { Some(place) };
+            assert_eq!(rt; fault_in(alloc, &log, Start::First)?, wanted, "kind {kind}");
+            assert_eq!(rt; fault_in(alloc, &log, Start::Later)?, None, "kind {kind}");
+        }
+    }
+    Ok(())
+}
+
+#[test]
+fn a_unit_is_prepared_of_rows_of_its_own_queue(rt: HostRuntime) -> Result<(), Fail> {
+    let alloc = rt.alloc();
+    for (queue, good) in [(b"Q1".as_slice(), true), (b"Q2", false)] {
+        let mut log = Log::new(alloc);
+        log.started(alloc, 1, 1)?;
+        log.defined(alloc)?;
+        log.defined_as(alloc, b'2')?;
+        log.added_to(alloc, queue, 1, 9, 0)?;
+        log.session(alloc, 1)?;
+        let place = log.end();
+        log.prepared(alloc, 1, 9)?;
         let wanted = if good { None } else { Some(place) };
         assert_eq!(rt; fault_in(alloc, &log, Start::First)?, wanted);
     }
