@@ -1,3 +1,4 @@
 pub mod Edits
 pub mod SideLaws
 pub mod WalkLaws
+pub mod ListedLaws

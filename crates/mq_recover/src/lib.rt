@@ -5,6 +5,7 @@ mod bounds;
 mod objects;
 mod recovering;
 mod recovery;
+mod senders;
 mod sides;
 mod start;
 mod steps;

@@ -6,9 +6,10 @@ ghost use Rattle.mq_spec_log.specs.Shelves.{added, removed, added_all, removed_a
 ghost use Rattle.mq_recover.specs.Recovering.{seen, Does};
 
 use crate::objects::{copy_definitions, fits, lane_on};
+use crate::senders::Senders;
 use crate::sides;
 use mq_base::{Items, NoMemory};
-use mq_calls::{Add, Image, ReceiverSide, Remove, SenderSide};
+use mq_calls::{Add, Image, ReceiverSide, Remove};
 use mq_name::ChName;
 use mq_objects::Defs;
 use mq_shelves::Shelves;
@@ -23,7 +24,7 @@ pub struct Recovering {
     /// The local queues with their rows.
     pub shelves: Shelves,
     /// What senders have hardened, in order of the channels' names.
-    pub senders: Items<SenderSide>,
+    pub senders: Senders,
     /// What receivers have hardened, in order of the channels' names.
     pub receivers: Items<ReceiverSide>,
     /// The greatest incarnation that was started, 0 for none.
@@ -38,7 +39,7 @@ impl Recovering {
         Recovering {
             defs: Defs::new(alloc),
             shelves: Shelves::new(alloc),
-            senders: Items::new(alloc),
+            senders: Senders::new(alloc),
             receivers: Items::new(alloc),
             incarnation: 0,
         }
@@ -53,7 +54,7 @@ impl Recovering {
         Ok(Image {
             definitions,
             shelves,
-            senders: self.senders,
+            senders: self.senders.into_sides(),
             receivers: self.receivers,
             incarnation: self.incarnation,
         })
@@ -63,7 +64,7 @@ impl Recovering {
     pub fn sender_at(&self, alloc: Global, channel: &ChName) -> Result<SenderData, NoMemory>
         ensures { IfOk result (λ d. d ≡ sender_at channel.now (seen self.now)) }
     {
-        sides::sender_at(alloc, &self.senders, channel)
+        self.senders.at(alloc, channel)
     }
 
     /// What the receiver of a channel has hardened.
@@ -77,7 +78,7 @@ impl Recovering {
     pub fn set_sender(&mut self, channel: ChName, hardened: SenderData) -> Result<(), NoMemory>
         ensures { OnOk result (seen self.new ≡ with_sender channel hardened (seen self.old)) }
     {
-        sides::set_sender(&mut self.senders, SenderSide { channel, hardened })
+        self.senders.set(channel, hardened)
     }
 
     /// The receiver of a channel has hardened this.
@@ -95,7 +96,7 @@ impl Recovering {
         if !fits(&self.defs, &queue, &message) || self.shelves.stands_on(&message.ident) {
             return Ok(false);
         }
-        sides::strike_all(&mut self.senders, &message.ident);
+        self.senders.strike(&message.ident);
         let lane = lane_on(&self.defs, &queue, &message);
         self.shelves.replace(alloc, &queue, lane, message)?;
         Ok(true)

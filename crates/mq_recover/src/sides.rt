@@ -1,5 +1,5 @@
 //! What the ends of channels have hardened, in order of the channels' names.
-ghost use Rattle.std.specs.Prelude.{◌≡◌, ◌<◌, Some, not, OnOk, IfOk, IfSome, filter, find, length, position, option_copied};
+ghost use Rattle.std.specs.Prelude.{◌≡◌, ◌<◌, Some, not, OnOk, OnErr, IfOk, IfSome, filter, find, length, position, option_copied};
 ghost use Rattle.std.specs.Str.{bytes_eq};
 ghost use Rattle.mq_message.specs.declared.message.Ident.{Ident};
 ghost use Rattle.mq_queue.specs.Rows.{same_ident};
@@ -139,7 +139,8 @@ fn receiver_spot(sides: &[ReceiverSide], name: &ChName) -> Option<usize>
 fn set_sender_at(sides: &mut Items<SenderSide>, at: usize, side: SenderSide) -> Result<(), NoMemory>
     requires place { position (λ (s : SenderSide). is_spot side.channel s.channel) sides.old ≡ Some at }
     requires within { at < length sides.old }
-    ensures { OnOk result (sides.new ≡ set_sender side sides.old) }
+    ensures ok { OnOk result (sides.new ≡ set_sender side sides.old) }
+    ensures err { OnErr result (sides.new ≡ sides.old) }
 {
     if side.channel == sides.as_slice()[at].channel {
         *sides.at_mut(at) = side;
@@ -151,7 +152,8 @@ fn set_sender_at(sides: &mut Items<SenderSide>, at: usize, side: SenderSide) -> 
 
 /// The data of a sender take the place of those of its channel, or theirs in order of names.
 pub fn set_sender(sides: &mut Items<SenderSide>, side: SenderSide) -> Result<(), NoMemory>
-    ensures { OnOk result (sides.new ≡ set_sender side sides.old) }
+    ensures ok { OnOk result (sides.new ≡ set_sender side sides.old) }
+    ensures err { OnErr result (sides.new ≡ sides.old) }
 {
     match sender_spot(sides.as_slice(), &side.channel) {
         None => {

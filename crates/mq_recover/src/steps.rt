@@ -1,11 +1,9 @@
 //! What each kind of record does, where it may.
 ghost use Rattle.std.specs.Prelude.{◌≡◌, ◌&&◌, max, nat_lt, IfOk, Some};
-ghost use Rattle.std.specs.List.{list_any};
-ghost use Rattle.mq_queue.specs.Rows.{same_ident};
 ghost use Rattle.mq_calls.specs.declared.records.LogRecord.TheVariants as records;
 ghost use Rattle.mq_sync.specs.declared.data.End.TheVariants as ends;
 ghost use Rattle.mq_sync.specs.Settlement.{data_settled, settle_by};
-ghost use Rattle.mq_spec_log.specs.Applies.{suits, applies, are_distinct, can_change, can_prepare, can_receive, can_number, can_add_all, can_remove_all, is_unit, is_above, is_unit_in_doubt};
+ghost use Rattle.mq_spec_log.specs.Applies.{suits, applies, can_change, can_prepare, can_receive, can_number, can_add_all, can_remove_all, is_unit, is_above, is_unit_in_doubt};
 ghost use Rattle.mq_spec_log.specs.Records.{doing, settled_rows, set_number};
 ghost use Rattle.mq_spec_log.specs.Shelves.{sender_at, receiver_at, with_sender, added, removed, added_all, removed_all};
 ghost use Rattle.mq_recover.specs.Recovering.{seen, Does, can_move};
@@ -20,6 +18,7 @@ use mq_calls::{Add, LogRecord, Remove};
 use mq_message::Ident;
 use mq_name::{ChName, QName};
 use mq_objects::ObjectChange;
+use mq_shelves::are_distinct;
 use mq_sync::{End, InDoubt, ReceiverData, SenderData, Unit};
 use std::alloc::Global;
 
@@ -33,25 +32,6 @@ fn is_above(a: Unit, b: Unit) -> bool
     ensures { result ≡ is_above a b }
 {
     b.session < a.session || (a.session == b.session && b.n < a.n)
-}
-
-fn is_among(idents: &[Ident], ident: &Ident) -> bool
-    ensures { result ≡ list_any (same_ident ident.now) idents.now }
-{
-    idents.iter().any(|other| *ident == *other)
-}
-
-fn are_distinct(idents: &[Ident]) -> bool
-    ensures { result ≡ are_distinct idents.now }
-{
-    let mut left = idents;
-    while let [first, rest @ ..] = left {
-        if is_among(rest, first) {
-            return false;
-        }
-        left = rest;
-    }
-    true
 }
 
 fn can_receive(unit: Unit, data: &ReceiverData) -> bool
@@ -140,22 +120,36 @@ impl Recovering {
         Ok(true)
     }
 
-    fn can_prepare(&self, unit: Unit, queue: &QName, idents: &[Ident], data: &SenderData) -> bool
-        ensures { result ≡ can_prepare unit queue.now idents.now data.now self.now.shelves }
+    fn can_prepare(
+        &self,
+        alloc: Global,
+        unit: Unit,
+        queue: &QName,
+        idents: &[Ident],
+        data: &SenderData,
+    ) -> Result<bool, NoMemory>
+        ensures { IfOk result (λ can. can ≡ can_prepare unit queue.now idents.now data.now self.now.shelves) }
     {
-        is_unit(unit)
-            && !data.in_doubt.is_some()
-            && unit.session <= data.session
-            && are_distinct(idents)
-            && !self.shelves.holds_any(idents)
-            && !self.shelves.stand_elsewhere(queue, idents)
+        if !is_unit(unit) || data.in_doubt.is_some() || unit.session > data.session {
+            return Ok(false);
+        }
+        if !are_distinct(alloc, idents)? {
+            return Ok(false);
+        }
+        Ok(!self.shelves.holds_any(idents) && !self.shelves.stand_elsewhere(queue, idents))
     }
 
     fn prepare(&mut self, alloc: Global, channel: ChName, doubt: InDoubt) -> Result<bool, NoMemory>
         ensures { IfOk result (λ done. Does (can_prepare doubt.unit doubt.queue doubt.idents (sender_at channel (seen self.old)) self.old.shelves) (doing (records.Prepared channel doubt.unit doubt.last doubt.queue doubt.idents) (seen self.old)) done (seen self.new)) }
     {
         let mut data = self.sender_at(alloc, &channel)?;
-        if !self.can_prepare(doubt.unit, &doubt.queue, doubt.idents.as_slice(), &data) {
+        if !self.can_prepare(
+            alloc,
+            doubt.unit,
+            &doubt.queue,
+            doubt.idents.as_slice(),
+            &data,
+        )? {
             return Ok(false);
         }
         let idents = doubt.idents.as_slice();
