@@ -53,7 +53,6 @@ harmless part p h g = record {
   lost = λ left started. undone_is (note_of part part.forced) left started p;
 }
 
-
 pub put_harmless : (c : Connection) (queue : List ℕ) (m : Message) (p : Plain) → IsLogSound p → fits queue m p.definitions ≡ true → IsNew m.ident p → IsHarmless (put_part false c queue m) p
 put_harmless c queue m p s f n =
     let r : IsReady queue m p = sound_ready queue m p s f n in
