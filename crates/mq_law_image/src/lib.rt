@@ -51,8 +51,9 @@ ghost use Rattle.mq_spec_log.specs.Texts.{change_in, gives_all};
 ghost use Rattle.mq_law_log.specs.Restarts.{IsGivenIn, IsHarmless};
 ghost use Rattle.mq_law_manager.specs.Facts.{AreNamed, IsSound, Mem};
 ghost use Rattle.mq_law_image.specs.Bounds.{HaveArrived, IsBounded, noted_growth, part_growth, restart_growth, step_growth};
-ghost use Rattle.mq_law_image.specs.Laid.{AreWritten, CanDefine, IsAliasText, IsChannelText, IsLocalText, IsManagerText, IsProcessText, IsReadable, IsRemoteText, IsSubject, Written, alter_bits, clauses_of, define_bits, settings_of, text_of};
+ghost use Rattle.mq_law_image.specs.Laid.{AreWritten, CanDefine, IsSubject, Written, alter_bits, clauses_of, define_bits, settings_of, text_of};
 ghost use Rattle.mq_law_image.specs.Tells.{Tells, TellsDown};
+ghost use Rattle.mq_law_image.specs.Values.{IsAliasText, IsChannelText, IsLocalText, IsManagerText, IsProcessText, IsReadable, IsRemoteText};
 
 /// What recovery gives of a log is an image, and the log knew the idents of its own manager in it.
 pub fn recovery_gives_an_image()
@@ -120,8 +121,8 @@ pub fn texts_that_give_attributes_are_read()
         → change_in Set (text_of (define_bits (object_text noun) (b ∷ bs) ws)) ≡ Some (changes.Set (defined_object s (settings_of ws))) }
 {}
 
-/// The text that is written for a manager's attributes, or for an object, where its values are such as a command gives and none is
-/// kept without effect, is read as that change.
+/// The text that is written for a manager's attributes, or for an object, where its values are such as a command gives, is read as
+/// that change: with what is kept without effect.
 pub fn texts_of_objects_are_read()
     ensures managers { (m : ManagerAttributes) → IsManagerText m → change_in Set (change_text (changes.SetManager m)) ≡ Some (changes.SetManager m) }
     ensures aliases { (q : AliasQueue) → IsAliasText q → change_in Set (change_text (changes.Set (objects.Alias q))) ≡ Some (changes.Set (objects.Alias q)) }
