@@ -154,13 +154,13 @@ manager_by : (m : ManagerAttributes) (ks : List KeptAttribute) (k : AreKeptTexts
 manager_by m ks k h =
     ap (change_in Sets) text
     ∙ alter_read (record { clause = record { key = keys.DeadQ; value = Some m.dead_letter_queue }; in_quotes = true; setting = settings.DeadLetterQueue m.dead_letter_queue }) (manager_tail m ++ kept_clauses (kept_keys kinds.Manager) ks k)
-        (written_append verbs.Alter kinds.Manager (manager_clauses m) (kept_clauses (kept_keys kinds.Manager) ks k) (manager_written m h) (kept_written verbs.Alter kinds.Manager (kept_keys kinds.Manager) ks k manager_kept))
-        (kept_single (kept_keys kinds.Manager) (manager_clauses m) ks k (keys_apart (map group_of (keys_of (clauses_of (manager_clauses m)))) refl) refl)
-        (λ n. never_said keys.Force (kept_keys kinds.Manager) (manager_clauses m) ks k (not_there keys.Force (keys_of (clauses_of (manager_clauses m))) refl) (not_there keys.Force (kept_keys kinds.Manager) refl) n)
-        (ap (λ (ss : List Setting). gives_all ss (texts.manager_attributes new_manager)) (all_settings (kept_keys kinds.Manager) (manager_clauses m) ks k) ∙ ap (λ (n : ℕ). n == 6) (counts_same (settings_of (manager_clauses m)) ks))
+    (written_append verbs.Alter kinds.Manager (manager_clauses m) (kept_clauses (kept_keys kinds.Manager) ks k) (manager_written m h) (kept_written verbs.Alter kinds.Manager (kept_keys kinds.Manager) ks k manager_kept))
+    (kept_single (kept_keys kinds.Manager) (manager_clauses m) ks k (keys_apart (map group_of (keys_of (clauses_of (manager_clauses m)))) refl) refl)
+    (λ n. never_said keys.Force (kept_keys kinds.Manager) (manager_clauses m) ks k (not_there keys.Force (keys_of (clauses_of (manager_clauses m))) refl) (not_there keys.Force (kept_keys kinds.Manager) refl) n)
+    (ap (λ (ss : List Setting). gives_all ss (texts.manager_attributes new_manager)) (all_settings (kept_keys kinds.Manager) (manager_clauses m) ks k) ∙ ap (λ (n : ℕ). n == 6) (counts_same (settings_of (manager_clauses m)) ks))
     ∙ ap (λ (x : ManagerAttributes). Some (changes.SetManager x))
-        (ap (λ (ss : List Setting). set_all_manager ss new_manager) (all_settings (kept_keys kinds.Manager) (manager_clauses m) ks k) ∙ set_manager_append (settings_of (manager_clauses m)) (kept_settings ks) new_manager
-        ∙ manager_keeps (kept_keys kinds.Manager) ks (record m { kept = [] }) k refl)
+    (ap (λ (ss : List Setting). set_all_manager ss new_manager) (all_settings (kept_keys kinds.Manager) (manager_clauses m) ks k) ∙ set_manager_append (settings_of (manager_clauses m)) (kept_settings ks) new_manager
+    ∙ manager_keeps (kept_keys kinds.Manager) ks (record m { kept = [] }) k refl)
   where
     text : change_text (changes.SetManager (record m { kept = ks })) ≡ text_of (alter_bits (manager_clauses m ++ kept_clauses (kept_keys kinds.Manager) ks k))
     text = append_assoc (codes "ALTER QMGR") (flat_map attribute_text (texts.manager_attributes m)) (flat_map texts.kept_attribute ks)
@@ -201,7 +201,7 @@ alias_can b bs q h = record {
 
 alias_by : (b : ℕ) (bs : List ℕ) (q : AliasQueue) (ks : List KeptAttribute) (k : AreKeptTexts (kept_keys kinds.Alias) ks) → IsName 48 (b ∷ bs) → IsAliasText q → change_in Sets (change_text (changes.Set (objects.Alias (record q { name = b ∷ bs; kept = ks })))) ≡ Some (changes.Set (objects.Alias (record q { name = b ∷ bs; kept = ks })))
 alias_by b bs q ks k name h =
-    ap (change_in Sets) (ap (λ (t : List ℕ). codes "DEFINE QALIAS(" ++ t) (define_same (b ∷ bs) (texts.alias_attributes (record q { name = b ∷ bs; kept = ks })) ks (alias_clauses q) (kept_clauses (kept_keys kinds.Alias) ks k) (refl, (refl, (refl, (refl, (ap (λ (d : List ℕ). codes " " ++ texts.in_brackets (codes "TARGET") (codes "'" ++ d ++ codes "'")) (doubled_same q.target), tt))))) (kept_text verbs.Define kinds.Alias (kept_keys kinds.Alias) ks k alias_kept))
+    ap (change_in Sets) (ap (λ (t : List ℕ). codes "DEFINE QALIAS(" ++ t) (define_same (b ∷ bs) (texts.alias_attributes (record q { name = b ∷ bs; kept = ks })) ks (alias_clauses q) (kept_clauses (kept_keys kinds.Alias) ks k) (refl, (refl, (refl, (refl, (ap (λ (d : List ℕ). codes " " ++ texts.in_brackets (codes "TARGET") (codes "'" ++ d ++ codes "'")) (doubled_same q.target), tt))))) (kept_text verbs.Define kinds.Alias (kept_keys kinds.Alias) ks k alias_kept)))
     ∙ define_keeps (subjects.Alias (b ∷ bs)) nouns.Alias kinds.Alias 48 b bs (alias_clauses q) (kept_keys kinds.Alias) ks k name (ap (λ r. option_map subjects.Alias (reads.name_or_none r)) (name_read 48 b bs name)) ((tokens.Quoted (b ∷ bs), refl, refl), name_unblank 48 b bs name) (alias_can b bs q h) (record { table = alias_kept; is_kind = refl; needed = tt; clear = refl; replace = refl; noreplace = refl })
     ∙ ap (λ (o : Object). Some (changes.Set o)) (alias_keeps (kept_keys kinds.Alias) ks (record q { name = b ∷ bs; kept = [] }) k refl)
 
@@ -226,7 +226,7 @@ remote_can b bs q h = record {
 
 remote_by : (b : ℕ) (bs : List ℕ) (q : RemoteQueue) (ks : List KeptAttribute) (k : AreKeptTexts (kept_keys kinds.Remote) ks) → IsName 48 (b ∷ bs) → IsRemoteText q → change_in Sets (change_text (changes.Set (objects.Remote (record q { name = b ∷ bs; kept = ks })))) ≡ Some (changes.Set (objects.Remote (record q { name = b ∷ bs; kept = ks })))
 remote_by b bs q ks k name h =
-    ap (change_in Sets) (ap (λ (t : List ℕ). codes "DEFINE QREMOTE(" ++ t) (define_same (b ∷ bs) (texts.remote_attributes (record q { name = b ∷ bs; kept = ks })) ks (remote_clauses q) (kept_clauses (kept_keys kinds.Remote) ks k) (refl, (refl, (refl, (ap (λ (d : List ℕ). codes " " ++ texts.in_brackets (codes "RNAME") (codes "'" ++ d ++ codes "'")) (doubled_same q.remote_name), (ap (λ (d : List ℕ). codes " " ++ texts.in_brackets (codes "RQMNAME") (codes "'" ++ d ++ codes "'")) (doubled_same q.remote_manager), (ap (λ (d : List ℕ). codes " " ++ texts.in_brackets (codes "XMITQ") (codes "'" ++ d ++ codes "'")) (doubled_same q.transmission_queue), tt)))))) (kept_text verbs.Define kinds.Remote (kept_keys kinds.Remote) ks k remote_kept))
+    ap (change_in Sets) (ap (λ (t : List ℕ). codes "DEFINE QREMOTE(" ++ t) (define_same (b ∷ bs) (texts.remote_attributes (record q { name = b ∷ bs; kept = ks })) ks (remote_clauses q) (kept_clauses (kept_keys kinds.Remote) ks k) (refl, (refl, (refl, (ap (λ (d : List ℕ). codes " " ++ texts.in_brackets (codes "RNAME") (codes "'" ++ d ++ codes "'")) (doubled_same q.remote_name), (ap (λ (d : List ℕ). codes " " ++ texts.in_brackets (codes "RQMNAME") (codes "'" ++ d ++ codes "'")) (doubled_same q.remote_manager), (ap (λ (d : List ℕ). codes " " ++ texts.in_brackets (codes "XMITQ") (codes "'" ++ d ++ codes "'")) (doubled_same q.transmission_queue), tt)))))) (kept_text verbs.Define kinds.Remote (kept_keys kinds.Remote) ks k remote_kept)))
     ∙ define_keeps (subjects.Remote (b ∷ bs)) nouns.Remote kinds.Remote 48 b bs (remote_clauses q) (kept_keys kinds.Remote) ks k name (ap (λ r. option_map subjects.Remote (reads.name_or_none r)) (name_read 48 b bs name)) ((tokens.Quoted (b ∷ bs), refl, refl), name_unblank 48 b bs name) (remote_can b bs q h) (record { table = remote_kept; is_kind = refl; needed = tt; clear = refl; replace = refl; noreplace = refl })
     ∙ ap (λ (o : Object). Some (changes.Set o)) (remote_keeps (kept_keys kinds.Remote) ks (record q { name = b ∷ bs; kept = [] }) k refl)
 
@@ -251,7 +251,7 @@ local_can_on b bs q h = record {
 
 local_by_on : (b : ℕ) (bs : List ℕ) (q : LocalQueue) (ks : List KeptAttribute) (k : AreKeptTexts (kept_keys kinds.Local) ks) → IsName 48 (b ∷ bs) → IsLocalText q → change_in Sets (change_text (changes.Set (objects.Local (record q { name = b ∷ bs; kept = ks; trigger = true })))) ≡ Some (changes.Set (objects.Local (record q { name = b ∷ bs; kept = ks; trigger = true })))
 local_by_on b bs q ks k name h =
-    ap (change_in Sets) (ap (λ (t : List ℕ). codes "DEFINE QLOCAL(" ++ t) (define_same (b ∷ bs) (texts.local_attributes (record q { name = b ∷ bs; kept = ks; trigger = true })) ks (local_clauses_on q) (kept_clauses (kept_keys kinds.Local) ks k) (refl, (refl, (refl, (ap (λ (d : List ℕ). codes " " ++ texts.in_brackets (codes "INITQ") (codes "'" ++ d ++ codes "'")) (doubled_same q.initiation_queue), (refl, (refl, (refl, (ap (λ (d : List ℕ). codes " " ++ texts.in_brackets (codes "PROCESS") (codes "'" ++ d ++ codes "'")) (doubled_same q.process), (refl, (ap (λ (d : List ℕ). codes " " ++ texts.in_brackets (codes "TRIGDATA") (codes "'" ++ d ++ codes "'")) (doubled_same q.trigger_data), (refl, (refl, (refl, (refl, (refl, tt))))))))))))))) (kept_text verbs.Define kinds.Local (kept_keys kinds.Local) ks k local_kept))
+    ap (change_in Sets) (ap (λ (t : List ℕ). codes "DEFINE QLOCAL(" ++ t) (define_same (b ∷ bs) (texts.local_attributes (record q { name = b ∷ bs; kept = ks; trigger = true })) ks (local_clauses_on q) (kept_clauses (kept_keys kinds.Local) ks k) (refl, (refl, (refl, (ap (λ (d : List ℕ). codes " " ++ texts.in_brackets (codes "INITQ") (codes "'" ++ d ++ codes "'")) (doubled_same q.initiation_queue), (refl, (refl, (refl, (ap (λ (d : List ℕ). codes " " ++ texts.in_brackets (codes "PROCESS") (codes "'" ++ d ++ codes "'")) (doubled_same q.process), (refl, (ap (λ (d : List ℕ). codes " " ++ texts.in_brackets (codes "TRIGDATA") (codes "'" ++ d ++ codes "'")) (doubled_same q.trigger_data), (refl, (refl, (refl, (refl, (refl, tt))))))))))))))) (kept_text verbs.Define kinds.Local (kept_keys kinds.Local) ks k local_kept)))
     ∙ define_keeps (subjects.Local (b ∷ bs)) nouns.Local kinds.Local 48 b bs (local_clauses_on q) (kept_keys kinds.Local) ks k name (ap (λ r. option_map subjects.Local (reads.name_or_none r)) (name_read 48 b bs name)) ((tokens.Quoted (b ∷ bs), refl, refl), name_unblank 48 b bs name) (local_can_on b bs q h) (record { table = local_kept; is_kind = refl; needed = tt; clear = refl; replace = refl; noreplace = refl })
     ∙ ap (λ (o : Object). Some (changes.Set o)) (local_keeps (kept_keys kinds.Local) ks (record q { name = b ∷ bs; kept = []; trigger = true }) k refl)
 
@@ -276,7 +276,7 @@ local_can_off b bs q h = record {
 
 local_by_off : (b : ℕ) (bs : List ℕ) (q : LocalQueue) (ks : List KeptAttribute) (k : AreKeptTexts (kept_keys kinds.Local) ks) → IsName 48 (b ∷ bs) → IsLocalText q → change_in Sets (change_text (changes.Set (objects.Local (record q { name = b ∷ bs; kept = ks; trigger = false })))) ≡ Some (changes.Set (objects.Local (record q { name = b ∷ bs; kept = ks; trigger = false })))
 local_by_off b bs q ks k name h =
-    ap (change_in Sets) (ap (λ (t : List ℕ). codes "DEFINE QLOCAL(" ++ t) (define_same (b ∷ bs) (texts.local_attributes (record q { name = b ∷ bs; kept = ks; trigger = false })) ks (local_clauses_off q) (kept_clauses (kept_keys kinds.Local) ks k) (refl, (refl, (refl, (ap (λ (d : List ℕ). codes " " ++ texts.in_brackets (codes "INITQ") (codes "'" ++ d ++ codes "'")) (doubled_same q.initiation_queue), (refl, (refl, (refl, (ap (λ (d : List ℕ). codes " " ++ texts.in_brackets (codes "PROCESS") (codes "'" ++ d ++ codes "'")) (doubled_same q.process), (refl, (ap (λ (d : List ℕ). codes " " ++ texts.in_brackets (codes "TRIGDATA") (codes "'" ++ d ++ codes "'")) (doubled_same q.trigger_data), (refl, (refl, (refl, (refl, (refl, tt))))))))))))))) (kept_text verbs.Define kinds.Local (kept_keys kinds.Local) ks k local_kept))
+    ap (change_in Sets) (ap (λ (t : List ℕ). codes "DEFINE QLOCAL(" ++ t) (define_same (b ∷ bs) (texts.local_attributes (record q { name = b ∷ bs; kept = ks; trigger = false })) ks (local_clauses_off q) (kept_clauses (kept_keys kinds.Local) ks k) (refl, (refl, (refl, (ap (λ (d : List ℕ). codes " " ++ texts.in_brackets (codes "INITQ") (codes "'" ++ d ++ codes "'")) (doubled_same q.initiation_queue), (refl, (refl, (refl, (ap (λ (d : List ℕ). codes " " ++ texts.in_brackets (codes "PROCESS") (codes "'" ++ d ++ codes "'")) (doubled_same q.process), (refl, (ap (λ (d : List ℕ). codes " " ++ texts.in_brackets (codes "TRIGDATA") (codes "'" ++ d ++ codes "'")) (doubled_same q.trigger_data), (refl, (refl, (refl, (refl, (refl, tt))))))))))))))) (kept_text verbs.Define kinds.Local (kept_keys kinds.Local) ks k local_kept)))
     ∙ define_keeps (subjects.Local (b ∷ bs)) nouns.Local kinds.Local 48 b bs (local_clauses_off q) (kept_keys kinds.Local) ks k name (ap (λ r. option_map subjects.Local (reads.name_or_none r)) (name_read 48 b bs name)) ((tokens.Quoted (b ∷ bs), refl, refl), name_unblank 48 b bs name) (local_can_off b bs q h) (record { table = local_kept; is_kind = refl; needed = tt; clear = refl; replace = refl; noreplace = refl })
     ∙ ap (λ (o : Object). Some (changes.Set o)) (local_keeps (kept_keys kinds.Local) ks (record q { name = b ∷ bs; kept = []; trigger = false }) k refl)
 
@@ -323,7 +323,7 @@ process_can b bs q h = record {
 
 process_by : (b : ℕ) (bs : List ℕ) (q : Process) (ks : List KeptAttribute) (k : AreKeptTexts (kept_keys kinds.Process) ks) → IsName 48 (b ∷ bs) → IsProcessText q → change_in Sets (change_text (changes.Set (objects.Process (record q { name = b ∷ bs; kept = ks })))) ≡ Some (changes.Set (objects.Process (record q { name = b ∷ bs; kept = ks })))
 process_by b bs q ks k name h =
-    ap (change_in Sets) (ap (λ (t : List ℕ). codes "DEFINE PROCESS(" ++ t) (define_same (b ∷ bs) (texts.process_attributes (record q { name = b ∷ bs; kept = ks })) ks (process_clauses q) (kept_clauses (kept_keys kinds.Process) ks k) (ap (λ (d : List ℕ). codes " " ++ texts.in_brackets (codes "APPLICID") (codes "'" ++ d ++ codes "'")) (doubled_same q.appl_id), (refl, (ap (λ (d : List ℕ). codes " " ++ texts.in_brackets (codes "ENVRDATA") (codes "'" ++ d ++ codes "'")) (doubled_same q.environment_data), (ap (λ (d : List ℕ). codes " " ++ texts.in_brackets (codes "USERDATA") (codes "'" ++ d ++ codes "'")) (doubled_same q.user_data), tt)))) (kept_text verbs.Define kinds.Process (kept_keys kinds.Process) ks k process_kept))
+    ap (change_in Sets) (ap (λ (t : List ℕ). codes "DEFINE PROCESS(" ++ t) (define_same (b ∷ bs) (texts.process_attributes (record q { name = b ∷ bs; kept = ks })) ks (process_clauses q) (kept_clauses (kept_keys kinds.Process) ks k) (ap (λ (d : List ℕ). codes " " ++ texts.in_brackets (codes "APPLICID") (codes "'" ++ d ++ codes "'")) (doubled_same q.appl_id), (refl, (ap (λ (d : List ℕ). codes " " ++ texts.in_brackets (codes "ENVRDATA") (codes "'" ++ d ++ codes "'")) (doubled_same q.environment_data), (ap (λ (d : List ℕ). codes " " ++ texts.in_brackets (codes "USERDATA") (codes "'" ++ d ++ codes "'")) (doubled_same q.user_data), tt)))) (kept_text verbs.Define kinds.Process (kept_keys kinds.Process) ks k process_kept)))
     ∙ define_keeps (subjects.Process (b ∷ bs)) nouns.Process kinds.Process 48 b bs (process_clauses q) (kept_keys kinds.Process) ks k name (ap (λ r. option_map subjects.Process (reads.name_or_none r)) (name_read 48 b bs name)) ((tokens.Quoted (b ∷ bs), refl, refl), name_unblank 48 b bs name) (process_can b bs q h) (record { table = process_kept; is_kind = refl; needed = tt; clear = refl; replace = refl; noreplace = refl })
     ∙ ap (λ (o : Object). Some (changes.Set o)) (process_keeps (kept_keys kinds.Process) ks (record q { name = b ∷ bs; kept = [] }) k refl)
 
@@ -357,7 +357,7 @@ sender_can b bs batch retry wrap xmitq fast h = record {
 
 sender_by : (b : ℕ) (bs : List ℕ) (batch retry wrap : ℕ) (xmitq : List ℕ) (fast : Bool) (ks : List KeptAttribute) (k : AreKeptTexts (kept_keys kinds.Channel) ks) → IsName 20 (b ∷ bs) → IsSenderText batch retry wrap xmitq → change_in Sets (change_text (changes.Set (objects.Channel (record { name = b ∷ bs; kind = channels.Sender batch retry xmitq; sequence_wrap = wrap; fast = fast; kept = ks })))) ≡ Some (changes.Set (objects.Channel (record { name = b ∷ bs; kind = channels.Sender batch retry xmitq; sequence_wrap = wrap; fast = fast; kept = ks })))
 sender_by b bs batch retry wrap xmitq fast ks k name h =
-    ap (change_in Sets) (ap (λ (t : List ℕ). codes "DEFINE CHANNEL(" ++ t) (define_same (b ∷ bs) (texts.channel_attributes (channels.Sender batch retry xmitq) wrap fast) ks (sender_clauses batch retry wrap xmitq fast) (kept_clauses (kept_keys kinds.Channel) ks k) (refl, (refl, (refl, (refl, (ap (λ (d : List ℕ). codes " " ++ texts.in_brackets (codes "XMITQ") (codes "'" ++ d ++ codes "'")) (doubled_same xmitq), (refl, tt)))))) (kept_text verbs.Define kinds.Sender (kept_keys kinds.Channel) ks k sender_kept))
+    ap (change_in Sets) (ap (λ (t : List ℕ). codes "DEFINE CHANNEL(" ++ t) (define_same (b ∷ bs) (texts.channel_attributes (channels.Sender batch retry xmitq) wrap fast) ks (sender_clauses batch retry wrap xmitq fast) (kept_clauses (kept_keys kinds.Channel) ks k) (refl, (refl, (refl, (refl, (ap (λ (d : List ℕ). codes " " ++ texts.in_brackets (codes "XMITQ") (codes "'" ++ d ++ codes "'")) (doubled_same xmitq), (refl, tt)))))) (kept_text verbs.Define kinds.Sender (kept_keys kinds.Channel) ks k sender_kept)))
     ∙ define_keeps (subjects.Channel (b ∷ bs)) nouns.Channel kinds.Sender 20 b bs (sender_clauses batch retry wrap xmitq fast) (kept_keys kinds.Channel) ks k name (ap (λ r. option_map subjects.Channel (reads.name_or_none r)) (name_read 20 b bs name)) ((tokens.Quoted (b ∷ bs), refl, refl), name_unblank 20 b bs name) (sender_can b bs batch retry wrap xmitq fast h) (record { table = sender_kept; is_kind = inl refl; needed = key_there keys.XmitQ (keys_of (clauses_of ((sender_clauses batch retry wrap xmitq fast) ++ kept_clauses (kept_keys kinds.Channel) ks k))) refl; clear = refl; replace = refl; noreplace = refl })
     ∙ ap (λ (o : Object). Some (changes.Set o)) (channel_keeps (kept_keys kinds.Channel) ks (record { name = b ∷ bs; kind = channels.Sender batch retry xmitq; sequence_wrap = wrap; fast = fast; kept = [] }) k refl)
 
@@ -382,7 +382,7 @@ receiver_can b bs wrap dead fast h = record {
 
 receiver_by : (b : ℕ) (bs : List ℕ) (wrap : ℕ) (dead fast : Bool) (ks : List KeptAttribute) (k : AreKeptTexts (kept_keys kinds.Channel) ks) → IsName 20 (b ∷ bs) → IsReceiverText wrap → change_in Sets (change_text (changes.Set (objects.Channel (record { name = b ∷ bs; kind = channels.Receiver dead; sequence_wrap = wrap; fast = fast; kept = ks })))) ≡ Some (changes.Set (objects.Channel (record { name = b ∷ bs; kind = channels.Receiver dead; sequence_wrap = wrap; fast = fast; kept = ks })))
 receiver_by b bs wrap dead fast ks k name h =
-    ap (change_in Sets) (ap (λ (t : List ℕ). codes "DEFINE CHANNEL(" ++ t) (define_same (b ∷ bs) (texts.channel_attributes (channels.Receiver dead) wrap fast) ks (receiver_clauses wrap dead fast) (kept_clauses (kept_keys kinds.Channel) ks k) (refl, (refl, (refl, (refl, tt)))) (kept_text verbs.Define kinds.Receiver (kept_keys kinds.Channel) ks k receiver_kept))
+    ap (change_in Sets) (ap (λ (t : List ℕ). codes "DEFINE CHANNEL(" ++ t) (define_same (b ∷ bs) (texts.channel_attributes (channels.Receiver dead) wrap fast) ks (receiver_clauses wrap dead fast) (kept_clauses (kept_keys kinds.Channel) ks k) (refl, (refl, (refl, (refl, tt)))) (kept_text verbs.Define kinds.Receiver (kept_keys kinds.Channel) ks k receiver_kept)))
     ∙ define_keeps (subjects.Channel (b ∷ bs)) nouns.Channel kinds.Receiver 20 b bs (receiver_clauses wrap dead fast) (kept_keys kinds.Channel) ks k name (ap (λ r. option_map subjects.Channel (reads.name_or_none r)) (name_read 20 b bs name)) ((tokens.Quoted (b ∷ bs), refl, refl), name_unblank 20 b bs name) (receiver_can b bs wrap dead fast h) (record { table = receiver_kept; is_kind = inl refl; needed = tt; clear = refl; replace = refl; noreplace = refl })
     ∙ ap (λ (o : Object). Some (changes.Set o)) (channel_keeps (kept_keys kinds.Channel) ks (record { name = b ∷ bs; kind = channels.Receiver dead; sequence_wrap = wrap; fast = fast; kept = [] }) k refl)
 
