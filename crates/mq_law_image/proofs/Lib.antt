@@ -14,6 +14,7 @@ pub mod Counting
 pub mod Laying
 pub mod Deleting
 pub mod Giving
+mod Keeping
 pub mod Recording
 pub mod Writing
 pub mod Objecting
