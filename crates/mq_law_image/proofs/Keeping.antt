@@ -179,10 +179,10 @@ receiver_kept = (
   ),
 )
 
-kept_key : {P : Key → Type 0} (key : Key) (most : List Key) → AllByRecursion P most → Mem key most → P key
-kept_key key [] h m = absurd m
-kept_key {P} key (x ∷ xs) h (inl e) = subst P (sym e) h.0
-kept_key key (x ∷ xs) h (inr m) = kept_key key xs h.1 m
+kept_key : (verb : Verb) (kind : Kind) (key : Key) (most : List Key) → AllByRecursion (IsKeptKey verb kind) most → Mem key most → IsKeptKey verb kind key
+kept_key verb kind key [] h m = absurd m
+kept_key verb kind key (x ∷ xs) h (inl e) = subst (IsKeptKey verb kind) (sym e) h.0
+kept_key verb kind key (x ∷ xs) h (inr m) = kept_key verb kind key xs h.1 m
 
 -- ---- clauses that give them
 
@@ -207,7 +207,7 @@ kept_gives verb kind key k false alone is word value = quote_written verb kind k
 
 pub kept_written : (verb : Verb) (kind : Kind) (most : List Key) (ks : List KeptAttribute) (h : AreKeptTexts most ks) → AllByRecursion (IsKeptKey verb kind) most → AreWritten verb kind (kept_clauses most ks h)
 kept_written verb kind most [] h table = tt
-kept_written verb kind most (k ∷ ks) h table = (kept_gives verb kind h.0.key k (stands_alone h.0.key) refl (kept_key h.0.key most table h.0.known) h.0.keyword_is h.0.value_is, kept_written verb kind most ks h.2 table)
+kept_written verb kind most (k ∷ ks) h table = (kept_gives verb kind h.0.key k (stands_alone h.0.key) refl (kept_key verb kind h.0.key most table h.0.known) h.0.keyword_is h.0.value_is, kept_written verb kind most ks h.2 table)
 
 -- as a text
 one_text : (key : Key) (k : KeptAttribute) (b : Bool) → stands_alone key ≡ b → (stands_alone key ≡ false → group_of key ≡ key) → k.keyword ≡ key_text (group_of key) → IsKeptValue b key k.value
@@ -226,7 +226,7 @@ attribute_text verb kind k key is word value = ap (λ (w : List ℕ). codes " " 
 pub kept_text : (verb : Verb) (kind : Kind) (most : List Key) (ks : List KeptAttribute) (h : AreKeptTexts most ks) → AllByRecursion (IsKeptKey verb kind) most → flat_map texts.kept_attribute ks ≡ text_of (all_bits (kept_clauses most ks h))
 kept_text verb kind most [] h table = refl
 kept_text verb kind most (k ∷ ks) h table =
-    ap (λ (t : List ℕ). t ++ flat_map texts.kept_attribute ks) (attribute_text verb kind k h.0.key (kept_key h.0.key most table h.0.known) h.0.keyword_is h.0.value_is)
+    ap (λ (t : List ℕ). t ++ flat_map texts.kept_attribute ks) (attribute_text verb kind k h.0.key (kept_key verb kind h.0.key most table h.0.known) h.0.keyword_is h.0.value_is)
     ∙ ap (λ (t : List ℕ). text_of (clause_bits (clause_by (stands_alone h.0.key) h.0.key k)) ++ t) (kept_text verb kind most ks h.2 table)
     ∙ sym (text_append (clause_bits (clause_by (stands_alone h.0.key) h.0.key k)) (all_bits (kept_clauses most ks h.2)))
 

@@ -14,7 +14,8 @@ pub mod Counting
 pub mod Laying
 pub mod Deleting
 pub mod Giving
-mod Keeping
+pub mod Keeping
+pub mod Settings
 pub mod Recording
 pub mod Writing
 pub mod Objecting

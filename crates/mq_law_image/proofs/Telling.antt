@@ -159,17 +159,17 @@ begun_restarted start bodies kept started noted p i is read = (
 
 -- ---- a restart that fails, a cut that is armed, a clock that moves
 
-pub failed_told : (start : Start) (bodies : List (List ℕ)) (kept : Bool) (started : ℕ) (noted : Option Noted) (fault : RestartFault) (in_write : Bool) (left : ℕ) (note : Option Noted) (starts : ℕ) (p : Plain)
-    → TellsDown start kept started noted bodies p → TellsDown start kept started noted bodies (failed fault in_write left note starts p).next
-failed_told start bodies kept started noted faults.NoMemory in_write left note starts p is = is
-failed_told start bodies kept started noted faults.Up true left note starts p is = is
-failed_told start bodies kept started noted faults.Up false left note starts p is = is
-failed_told start bodies kept started noted faults.Disk true left note starts p is = is
-failed_told start bodies kept started noted faults.Disk false left note starts p is = is
-failed_told start bodies kept started noted faults.Cut true left note starts p is = is
-failed_told start bodies kept started noted faults.Cut false left note starts p is = is
-failed_told start bodies kept started noted (faults.BadLog place) true left note starts p is = is
-failed_told start bodies kept started noted (faults.BadLog place) false left note starts p is = is
+pub failed_told : (start : Start) (bodies : List (List ℕ)) (kept : Bool) (started : ℕ) (noted : Option Noted) (fault : RestartFault) (in_write : Bool) (left : ℕ) (before : Option Noted) (starts : ℕ) (p : Plain)
+    → TellsDown start kept started noted bodies p → TellsDown start kept started noted bodies (failed fault in_write left before starts p).next
+failed_told start bodies kept started noted faults.NoMemory in_write left before starts p is = is
+failed_told start bodies kept started noted faults.Up true left before starts p is = is
+failed_told start bodies kept started noted faults.Up false left before starts p is = is
+failed_told start bodies kept started noted faults.Disk true left before starts p is = is
+failed_told start bodies kept started noted faults.Disk false left before starts p is = is
+failed_told start bodies kept started noted faults.Cut true left before starts p is = is
+failed_told start bodies kept started noted faults.Cut false left before starts p is = is
+failed_told start bodies kept started noted (faults.BadLog place) true left before starts p is = is
+failed_told start bodies kept started noted (faults.BadLog place) false left before starts p is = is
 
 -- what a start writes is read
 pub started_read : (g : Given) (incarnation : ℕ) → g.number < 256 → IsName 48 g.name → incarnation < 2 ^ 64 → record_of (record_bytes (started_record g incarnation)) ≡ Some (started_record g incarnation)

@@ -1,8 +1,16 @@
 -- Values that commands give: of settings, of objects, of what is kept without effect. The text of what has such values is read.
 use Rattle.std.specs.Prelude.{◌≡◌, ℕ, ◌<◌, ◌≤◌, ◌^◌, Bool, true, false, List, [], ◌∷◌, length, map}
-use Rattle.std.specs.List.{list_all}
+use Rattle.std.specs.List.{list_all, AllByRecursion}
 use Rattle.mq_name.specs.Name.{IsName}
+use Rattle.mq_objects.specs.declared.object.Object.{Object}
 use Rattle.mq_objects.specs.declared.object.Object.TheVariants as objects
+use Rattle.mq_objects.specs.declared.object.Definitions.{Definitions}
+use Rattle.mq_objects.specs.declared.setting.Setting.{Setting}
+use Rattle.mq_objects.specs.declared.setting.Setting.TheVariants as settings
+use Rattle.mq_objects.specs.declared.command.Subject.{Subject}
+use Rattle.mq_objects.specs.declared.command.Subject.TheVariants as subjects
+use Rattle.mq_objects.specs.declared.command.Command.{Command}
+use Rattle.mq_objects.specs.declared.command.Command.TheVariants as commands
 use Rattle.mq_objects.specs.declared.object.KeptAttribute.{KeptAttribute}
 use Rattle.mq_objects.specs.declared.object.LocalQueue.{LocalQueue}
 use Rattle.mq_objects.specs.declared.object.AliasQueue.{AliasQueue}
@@ -29,12 +37,16 @@ use Rattle.mq_law_image.specs.Laid.{IsSubject, is_no_end}
 
 -- ---- what is kept without effect
 
--- the keywords that an object of a kind keeps so
+-- the keywords that a channel keeps so
+abbrev pub channel_keys : List Key
+channel_keys = keys.Descr ∷ keys.ConName ∷ keys.TrpType ∷ keys.DiscInt ∷ keys.HbInt ∷ keys.BatchInt ∷ keys.LongRty ∷ keys.LongTmr ∷ keys.ShortTmr ∷ keys.MaxMsgL ∷ []
+
+-- those of an object of each kind
 abbrev pub kept_keys : Kind → List Key
 kept_keys kinds.Local = keys.Descr ∷ keys.Share ∷ keys.NoShare ∷ keys.DefSOpt ∷ keys.BoThresh ∷ keys.BoQName ∷ keys.HardenBo ∷ keys.NoHardenBo ∷ keys.QDepthHi ∷ keys.QDepthLo ∷ []
-kept_keys kinds.Channel = keys.Descr ∷ keys.ConName ∷ keys.TrpType ∷ keys.DiscInt ∷ keys.HbInt ∷ keys.BatchInt ∷ keys.LongRty ∷ keys.LongTmr ∷ keys.ShortTmr ∷ keys.MaxMsgL ∷ []
-kept_keys kinds.Sender = kept_keys kinds.Channel
-kept_keys kinds.Receiver = kept_keys kinds.Channel
+kept_keys kinds.Channel = channel_keys
+kept_keys kinds.Sender = channel_keys
+kept_keys kinds.Receiver = channel_keys
 kept_keys _ = keys.Descr ∷ []
 
 -- one that stands alone is its own value; any other has a text on one line
@@ -127,13 +139,22 @@ pub record IsLocalText (q : LocalQueue) : Type 0 where
   pub trigger_priority : q.trigger_priority ≤ 9
   pub kept_are : AreKeptTexts (kept_keys kinds.Local) q.kept
 
+-- an object of any kind
+abbrev pub IsObjectText : Object → Type 0
+IsObjectText (objects.Local q) = IsLocalText q
+IsObjectText (objects.Alias q) = IsAliasText q
+IsObjectText (objects.Remote q) = IsRemoteText q
+IsObjectText (objects.Channel c) = IsChannelText c
+IsObjectText (objects.Process q) = IsProcessText q
+
+-- all definitions of a manager
+pub record AreObjectTexts (d : Definitions) : Type 0 where
+  pub own : IsManagerText d.manager
+  pub each : AllByRecursion IsObjectText d.objects
+
 -- a change of objects whose text is read
 abbrev pub IsChangeText : ObjectChange → Type 0
-IsChangeText (changes.Set (objects.Local q)) = IsLocalText q
-IsChangeText (changes.Set (objects.Alias q)) = IsAliasText q
-IsChangeText (changes.Set (objects.Remote q)) = IsRemoteText q
-IsChangeText (changes.Set (objects.Channel c)) = IsChannelText c
-IsChangeText (changes.Set (objects.Process q)) = IsProcessText q
+IsChangeText (changes.Set o) = IsObjectText o
 IsChangeText (changes.SetManager m) = IsManagerText m
 IsChangeText (changes.Delete s) = IsSubject s
 
@@ -141,3 +162,62 @@ IsChangeText (changes.Delete s) = IsSubject s
 abbrev pub IsReadable : LogRecord → Type 0
 IsReadable (records.Objects change) = (length (change_text change) < 2 ^ 32) × IsChangeText change
 IsReadable r = IsRecord r
+
+-- a change of objects that a record makes is such a one
+abbrev pub MakesText : LogRecord → Type 0
+MakesText (records.Objects change) = IsChangeText change
+MakesText r = Unit {0}
+
+-- ---- settings, and commands that give them
+
+abbrev pub IsOneLine : ℕ → List ℕ → Type 0
+IsOneLine most text = (length text ≤ most) × (list_all is_no_end text ≡ true)
+
+abbrev pub IsLengthText : Kind → ℕ → Type 0
+IsLengthText kinds.Manager n = (32768 ≤ n) × (n ≤ 4194304)
+IsLengthText _ n = n ≤ 4194304
+
+-- what an object of a kind may be given
+abbrev pub IsSettingText : Kind → Setting → Type 0
+IsSettingText kind (settings.DefaultPriority n) = n ≤ 9
+IsSettingText kind (settings.InitiationQueue name) = IsName 48 name
+IsSettingText kind (settings.MaxDepth n) = n ≤ 999999999
+IsSettingText kind (settings.MaxMessageLength n) = IsLengthText kind n
+IsSettingText kind (settings.Process name) = IsName 48 name
+IsSettingText kind (settings.TriggerData text) = IsOneLine 64 text
+IsSettingText kind (settings.TriggerDepth n) = (1 ≤ n) × (n ≤ 999999999)
+IsSettingText kind (settings.TriggerPriority n) = n ≤ 9
+IsSettingText kind (settings.Target name) = IsName 48 name
+IsSettingText kind (settings.RemoteName name) = IsName 48 name
+IsSettingText kind (settings.RemoteManager name) = IsName 48 name
+IsSettingText kind (settings.TransmissionQueue name) = IsName 48 name
+IsSettingText kind (settings.BatchSize n) = (1 ≤ n) × (n ≤ 9999)
+IsSettingText kind (settings.SequenceWrap n) = (100 ≤ n) × (n ≤ 999999999)
+IsSettingText kind (settings.ShortRetry n) = n ≤ 999999999
+IsSettingText kind (settings.ApplId text) = IsOneLine 256 text
+IsSettingText kind (settings.ApplType n) = n ≤ 999999999
+IsSettingText kind (settings.EnvironmentData text) = IsOneLine 128 text
+IsSettingText kind (settings.UserData text) = IsOneLine 128 text
+IsSettingText kind (settings.DeadLetterQueue name) = IsName 48 name
+IsSettingText kind (settings.DefaultTransmissionQueue name) = IsName 48 name
+IsSettingText kind (settings.MaxHandles n) = n ≤ 999999999
+IsSettingText kind (settings.MaxUncommitted n) = (1 ≤ n) × (n ≤ 999999999)
+IsSettingText kind (settings.TriggerInterval n) = n ≤ 999999999
+IsSettingText kind (settings.Kept keyword value) = IsKeptText (kept_keys kind) (record { keyword = keyword; value = value })
+IsSettingText kind _ = Unit {0}
+
+-- the kind of what a command names
+abbrev pub kind_of : Subject → Kind
+kind_of (subjects.Local n) = kinds.Local
+kind_of (subjects.Alias n) = kinds.Alias
+kind_of (subjects.Remote n) = kinds.Remote
+kind_of (subjects.Channel n) = kinds.Channel
+kind_of (subjects.Process n) = kinds.Process
+
+-- a command whose name and settings are such as a text gives
+abbrev pub IsCommandText : Command → Type 0
+IsCommandText (commands.Define d) = IsSubject d.subject × AllByRecursion (IsSettingText (kind_of d.subject)) d.settings
+IsCommandText (commands.Alter a) = IsSubject a.subject × AllByRecursion (IsSettingText (kind_of a.subject)) a.settings
+IsCommandText (commands.AlterManager a) = AllByRecursion (IsSettingText kinds.Manager) a.settings
+IsCommandText (commands.Delete d) = IsSubject d.subject
+IsCommandText (commands.Display d) = Unit {0}
