@@ -16,6 +16,7 @@ pub mod Deleting
 pub mod Giving
 pub mod Keeping
 pub mod Settings
+pub mod Valued
 pub mod Recording
 pub mod Writing
 pub mod Objecting

@@ -1,12 +1,13 @@
 -- What the clauses of a DEFINE or an ALTER give has values such as a command gives.
-use Rattle.std.proofs.Common.{ℕ, ◌≡◌, suc, ◌+◌, ◌<◌, ◌≤◌, Bool, true, false, List, [], ◌∷◌, ◌++◌, length, refl, ap, sym, subst, ◌∙◌, arith, inl, inr}
+use Rattle.std.proofs.Common.{ℕ, ◌≡◌, ◌<◌, ◌≤◌, Bool, true, false, List, [], ◌∷◌, ◌++◌, length, refl, ap, sym, subst, ◌∙◌, arith, inl, inr}
 use Rattle.std.specs.Prelude.{Option, Some, None, Result, Ok, Err, if◌then◌else◌, ◌&&◌, ◌||◌, not, nat_le, nat_lt, position, codes}
-use Rattle.std.specs.List.{list_all, list_any, position_or_len, AllByRecursion}
+use Rattle.std.specs.List.{list_all, list_any, AllByRecursion}
 use Rattle.std.specs.Str.{bytes_eq}
 use Rattle.std.proofs.lemmas.Bool.Decides.{nat_tests}
 use Rattle.mq_name.specs.declared.fault.NameFault.{NameFault}
 use Rattle.mq_name.specs.declared.fault.NameFault.TheVariants.{TooLong}
 use Rattle.mq_name.specs.Name.{IsName, is_name_byte, name_of, name_or_bad}
+use Rattle.mq_name.proofs.Fields.{no_bad}
 use Rattle.mq_text.specs.declared.numbers.NumberFault.{NumberFault}
 use Rattle.mq_text.specs.declared.numbers.NumberFault.TheVariants.{NoNumber, OutOfRange}
 use Rattle.mq_text.specs.Numbers.{is_number, is_negative, value_of as number_of_text, within, number_in}
@@ -93,20 +94,6 @@ appl_text kind (values.Text text) s e = set_text kind settings.ApplType (reads.a
 appl_text kind values.Malformed s e = absurd cc
 
 -- names
-all_passed : (text : List ℕ) → position_or_len (λ b. not (is_name_byte b)) text ≡ length text → list_all is_name_byte text ≡ true
-all_passed [] e = refl
-all_passed (b ∷ bs) e = bool_case (is_name_byte b) (λ t. is_name_byte b ≡ t → (t && list_all is_name_byte bs) ≡ true)
-    (λ z w. all_passed bs (behind b bs w e)) (λ z w. absurd (first b bs w e)) refl
-  where
-    behind : (b : ℕ) (bs : List ℕ) → is_name_byte b ≡ true → position_or_len (λ c. not (is_name_byte c)) (b ∷ bs) ≡ length (b ∷ bs) → position_or_len (λ c. not (is_name_byte c)) bs ≡ length bs
-    behind b bs w e = let f : suc (position_or_len (λ c. not (is_name_byte c)) bs) ≡ suc (length bs) = rw w at e in omega (arith, f)
-
-    first : (b : ℕ) (bs : List ℕ) → is_name_byte b ≡ false → position_or_len (λ c. not (is_name_byte c)) (b ∷ bs) ≡ length (b ∷ bs) → ⊥
-    first b bs w e = let f : 0 ≡ suc (length bs) = rw w at e in omega (arith, f)
-
-none_position : (text : List ℕ) → position (λ b. not (is_name_byte b)) text ≡ None → list_all is_name_byte text ≡ true
-none_position text e = all_passed text (let most = position_or_len-le (λ b. not (is_name_byte b)) text in grind (arith, nat_tests))
-
 name_found : (width : ℕ) (text n : List ℕ) → name_of width text ≡ Ok n → IsName width n × (0 < length n)
 name_found width [] n e = absurd cc
 name_found width (b ∷ bs) n e = bool_case (nat_lt width (length (b ∷ bs)))
@@ -117,7 +104,7 @@ name_found width (b ∷ bs) n e = bool_case (nat_lt width (length (b ∷ bs)))
     short w k e = grind (arith, nat_tests)
 
     by : (o : Option ℕ) → position (λ c. not (is_name_byte c)) (b ∷ bs) ≡ o → nat_lt width (length (b ∷ bs)) ≡ false → name_or_bad (b ∷ bs) o ≡ Ok n → IsName width n × (0 < length n)
-    by None p w f = let same : b ∷ bs ≡ n = cc in subst (λ (x : List ℕ). IsName width x × (0 < length x)) same (record { fits = short width (length (b ∷ bs)) w; bytes = none_position (b ∷ bs) p }, omega arith)
+    by None p w f = let same : b ∷ bs ≡ n = cc in subst (λ (x : List ℕ). IsName width x × (0 < length x)) same (record { fits = short width (length (b ∷ bs)) w; bytes = no_bad (b ∷ bs) p }, omega arith)
     by (Some place) p w f = absurd cc
 
 pub name_there : (width : ℕ) (text n : List ℕ) → name_or_none (name_of width text) ≡ Some n → IsName width n × (0 < length n)
@@ -286,13 +273,10 @@ AreWhole clauses = AllByRecursion (λ (c : Clause). IsWhole (value_of c.value)) 
 
 pub settings_text : (verb : Verb) (kind : Kind) (clauses : List Clause) (ss : List Setting) → knows_kept (kept_keys kind) (named_by verb kind ++ options_of verb kind) ≡ true → AreKnown verb kind clauses → AreWhole clauses → AreGiven kind clauses ss → AllByRecursion (IsSettingText kind) ss
 settings_text verb kind [] ss k known whole gives = subst (λ (xs : List Setting). AllByRecursion (IsSettingText kind) xs) (sym gives) tt
-settings_text verb kind (c ∷ cs) ss k known whole gives = by (given_of kind c.key (value_of c.value)) refl gives.1
+settings_text verb kind (c ∷ cs) ss k known whole gives = by (given_of kind c.key (value_of c.value)) refl gives.1 (settings_text verb kind cs gives.0 k known.1 whole.1 gives.2)
   where
-    rest : AllByRecursion (IsSettingText kind) gives.0
-    rest = settings_text verb kind cs gives.0 k known.1 whole.1 gives.2
-
-    by : (g : Given) → given_of kind c.key (value_of c.value) ≡ g → IsOnto g gives.0 ss → AllByRecursion (IsSettingText kind) ss
-    by given.Bad e o = absurd o
-    by given.Nothing e o = subst (λ (xs : List Setting). AllByRecursion (IsSettingText kind) xs) (sym o) rest
-    by (given.Setting s) e o = subst (λ (xs : List Setting). AllByRecursion (IsSettingText kind) xs) (sym o)
+    by : (g : Given) → given_of kind c.key (value_of c.value) ≡ g → IsOnto g gives.0 ss → AllByRecursion (IsSettingText kind) gives.0 → AllByRecursion (IsSettingText kind) ss
+    by given.Bad e o rest = absurd o
+    by given.Nothing e o rest = subst (λ (xs : List Setting). AllByRecursion (IsSettingText kind) xs) (sym o) rest
+    by (given.Setting s) e o rest = subst (λ (xs : List Setting). AllByRecursion (IsSettingText kind) xs) (sym o)
         (given_text kind c.key (value_of c.value) s whole.0 (known_kept c.key (kept_keys kind) (named_by verb kind ++ options_of verb kind) k known.0) e, rest)
