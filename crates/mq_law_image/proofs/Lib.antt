@@ -17,6 +17,8 @@ pub mod Giving
 pub mod Keeping
 pub mod Settings
 pub mod Valued
+pub mod Lexed
+pub mod Logged
 pub mod Recording
 pub mod Writing
 pub mod Objecting

@@ -196,7 +196,7 @@ all_kind : (ss : List Setting) (o : Object) → kind_at (set_all ss o) ≡ kind_
 all_kind [] o = refl
 all_kind (s ∷ ss) o = all_kind ss (set_object s o) ∙ same_kind s o
 
-all_manager_text : (ss : List Setting) (m : ManagerAttributes) → AreSettingTexts kinds.Manager ss → IsManagerText m → IsManagerText (set_all_manager ss m)
+pub all_manager_text : (ss : List Setting) (m : ManagerAttributes) → AreSettingTexts kinds.Manager ss → IsManagerText m → IsManagerText (set_all_manager ss m)
 all_manager_text [] m k h = h
 all_manager_text (s ∷ ss) m k h = all_manager_text ss (set_manager s m) k.1 (manager_text s m k.0 h)
 
