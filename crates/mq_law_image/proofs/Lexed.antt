@@ -143,7 +143,7 @@ IsWholeToken (tokens.Quoted text) = IsWholeText text
 IsWholeToken tokens.Open = Unit {0}
 IsWholeToken tokens.Close = Unit {0}
 
-abbrev AreWholeTokens : List Token → Type 0
+abbrev pub AreWholeTokens : List Token → Type 0
 AreWholeTokens ts = AllByRecursion (λ (t : Token). IsWholeToken t.kind) ts
 
 token_whole : (kind : TokenKind) (bytes : List ℕ) → IsTokenText kind bytes → IsWholeText bytes → IsWholeToken kind
@@ -167,7 +167,7 @@ parts_whole (p ∷ ps) rest marks b h =
     let all : IsWholeText (bytes_of p.marks ++ bytes_of b.0) = ap (list_all is_no_end) (sym (bytes_append p.marks b.0)) ∙ subst IsWholeLine b.1 h in
     meaning_whole p.meaning (bytes_of p.marks) (span_of_marks p.marks) (commands_of_parts ps) b.2 (whole_left (bytes_of p.marks) (bytes_of b.0) all) (parts_whole ps rest b.0 b.4 (whole_right (bytes_of p.marks) (bytes_of b.0) all))
 
-abbrev IsWholeCommand : Line → Type 0
+abbrev pub IsWholeCommand : Line → Type 0
 IsWholeCommand line = AreWholeTokens line.tokens
 
 numbered_whole : (cs : List (List Token)) → AllByRecursion AreWholeTokens cs → AllByRecursion IsWholeCommand (numbered cs)

@@ -19,6 +19,8 @@ pub mod Settings
 pub mod Valued
 pub mod Lexed
 pub mod Logged
+pub mod Made
+pub mod Sessions
 pub mod Recording
 pub mod Writing
 pub mod Objecting

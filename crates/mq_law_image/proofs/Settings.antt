@@ -268,7 +268,7 @@ given_text kind key v s w k e = absurd cc
 
 -- ---- all clauses of a command
 
-pub AreWhole : List Clause → Type 0
+abbrev pub AreWhole : List Clause → Type 0
 AreWhole clauses = AllByRecursion (λ (c : Clause). IsWhole (value_of c.value)) clauses
 
 pub settings_text : (verb : Verb) (kind : Kind) (clauses : List Clause) (ss : List Setting) → knows_kept (kept_keys kind) (named_by verb kind ++ options_of verb kind) ≡ true → AreKnown verb kind clauses → AreWhole clauses → AreGiven kind clauses ss → AllByRecursion (IsSettingText kind) ss

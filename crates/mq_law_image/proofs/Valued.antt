@@ -255,7 +255,10 @@ abbrev or_planned : Planned → Result Planned ScRefusal → Planned
 or_planned d (Ok planned) = planned
 or_planned d (Err refusal) = d
 
-planned_set : (new : Object) (a b : Bool) (planned : Planned) → Ok (planning.set_planned new a b) ≡ Ok planned → IsObjectText new → IsChangeText planned.change
+abbrev ok : Planned → Result Planned ScRefusal
+ok planned = Ok planned
+
+planned_set : (new : Object) (a b : Bool) (planned : Planned) → ok (planning.set_planned new a b) ≡ ok planned → IsObjectText new → IsChangeText planned.change
 planned_set new a b planned e h = subst (λ (x : Planned). IsChangeText x.change) (ap (or_planned planned) e) h
 
 either_planned : (b : Bool) (refusal : ScRefusal) (r : Result Planned ScRefusal) (planned : Planned) → (if b then Err refusal else r) ≡ Ok planned → r ≡ Ok planned

@@ -1,5 +1,5 @@
 -- Values that commands give: of settings, of objects, of what is kept without effect. The text of what has such values is read.
-use Rattle.std.specs.Prelude.{◌≡◌, ℕ, ◌<◌, ◌≤◌, ◌^◌, Bool, true, false, List, [], ◌∷◌, length, map}
+use Rattle.std.specs.Prelude.{◌≡◌, ℕ, ◌<◌, ◌≤◌, ◌^◌, Bool, true, false, List, [], ◌∷◌, length, map, Option, Some, None}
 use Rattle.std.specs.List.{list_all, AllByRecursion}
 use Rattle.mq_name.specs.Name.{IsName}
 use Rattle.mq_objects.specs.declared.object.Object.{Object}
@@ -32,6 +32,8 @@ use Rattle.mq_calls.specs.declared.records.LogRecord.{LogRecord}
 use Rattle.mq_calls.specs.declared.records.LogRecord.TheVariants as records
 use Rattle.mq_record.specs.Records.{IsRecord}
 use Rattle.mq_spec_state.specs.Sizes.{change_text}
+use Rattle.mq_spec_state.specs.Steps.{Part, Step}
+use Rattle.mq_spec_state.specs.Steps.Step.{Refuse, Do}
 use Rattle.mq_law_manager.specs.Facts.{Mem}
 use Rattle.mq_law_image.specs.Laid.{IsSubject, is_no_end}
 
@@ -221,3 +223,12 @@ IsCommandText (commands.Alter a) = IsSubject a.subject × AllByRecursion (IsSett
 IsCommandText (commands.AlterManager a) = AllByRecursion (IsSettingText kinds.Manager) a.settings
 IsCommandText (commands.Delete d) = IsSubject d.subject
 IsCommandText (commands.Display d) = Unit {0}
+
+-- each change of objects that a call writes is one
+abbrev pub IsMade : Option LogRecord → Type 0
+IsMade None = Unit {0}
+IsMade (Some r) = MakesText r
+
+abbrev pub StepMakes : {F T : Type 0} → Step F T → Type 0
+StepMakes (Refuse reason) = Unit {0}
+StepMakes (Do reply parts) = AllByRecursion (λ (part : Part). IsMade part.forced) parts

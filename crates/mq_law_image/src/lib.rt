@@ -7,6 +7,7 @@ ghost use Rattle.mq_frame.specs.Reading.{IsBytes};
 ghost use Rattle.mq_name.specs.Name.{IsName};
 ghost use Rattle.mq_objects.specs.declared.change.ObjectChange.{ObjectChange};
 ghost use Rattle.mq_objects.specs.declared.change.ObjectChange.TheVariants as changes;
+ghost use Rattle.mq_objects.specs.declared.command.Command.{Command};
 ghost use Rattle.mq_objects.specs.declared.command.Subject.{Subject};
 ghost use Rattle.mq_objects.specs.declared.object.AliasQueue.{AliasQueue};
 ghost use Rattle.mq_objects.specs.declared.object.Channel.{Channel};
@@ -21,21 +22,25 @@ ghost use Rattle.mq_objects.specs.Attributes.{manager_attributes};
 ghost use Rattle.mq_objects.specs.Defaults.{new_manager};
 ghost use Rattle.mq_objects.specs.Settings.{set_all_manager};
 ghost use Rattle.mq_sc_apply.specs.Planned.{defined_object};
+ghost use Rattle.mq_sc_lex.specs.declared.token.Line.{Line};
 ghost use Rattle.mq_sc_lex.specs.declared.token.TokenKind.TheVariants as tokens;
+ghost use Rattle.mq_sc_lex.specs.Commands.{commands_of};
 ghost use Rattle.mq_sc_keys.specs.declared.keys.Key.TheVariants as words;
 ghost use Rattle.mq_sc_keys.specs.declared.verbs.Verb.TheVariants as verbs;
 ghost use Rattle.mq_sc_keys.specs.declared.verbs.Noun.{Noun};
 ghost use Rattle.mq_sc_keys.specs.declared.attributes.Kind.{Kind};
 ghost use Rattle.mq_sc_keys.specs.declared.attributes.Kind.TheVariants as kinds;
 ghost use Rattle.mq_sc_keys.specs.Verbs.{object_text};
-ghost use Rattle.mq_sc_parse.specs.Parsing.{subject_of};
+ghost use Rattle.mq_sc_parse.specs.declared.command.Command.TheVariants as parsed;
+ghost use Rattle.mq_sc_parse.specs.Parsing.{parse_of, subject_of};
 ghost use Rattle.mq_sc_grammar.specs.Spelling.{IsNamed};
 ghost use Rattle.mq_sc_grammar.specs.Commands.{AreSingle, Says};
+ghost use Rattle.mq_record.specs.declared.record.Operation.{Operation};
 ghost use Rattle.mq_record.specs.declared.record.Operation.TheVariants.{Delete, Set};
-ghost use Rattle.mq_record.specs.Records.{operation_of, record_bytes};
+ghost use Rattle.mq_record.specs.Records.{IsRecord, operation_of, record_bytes};
 ghost use Rattle.mq_calls.specs.declared.choices.Choice.{Choice};
 ghost use Rattle.mq_calls.specs.declared.commands.RestartFault.{RestartFault};
-ghost use Rattle.mq_spec_state.specs.State.{Change, Given, Noted, Plain};
+ghost use Rattle.mq_spec_state.specs.State.{Change, Given, Noted, Plain, SenderSide};
 ghost use Rattle.mq_spec_state.specs.State.Running.{Down, Up};
 ghost use Rattle.mq_spec_state.specs.Changes.{apply};
 ghost use Rattle.mq_spec_state.specs.Counts.{AreAtMost};
@@ -43,17 +48,20 @@ ghost use Rattle.mq_spec_state.specs.Sizes.{change_text};
 ghost use Rattle.mq_spec_state.specs.Images.{Image, Shelf, begun, raised};
 ghost use Rattle.mq_spec_state.specs.Steps.{Part, Step, after, do_part, freeze, note_of};
 ghost use Rattle.mq_spec_manager.specs.Stops.{advance_clock, cut, failed, first_start, grown, next_started, redone_if, restarted, started_need, started_record, stop};
+ghost use Rattle.mq_spec_manager.specs.Commands.{command};
 ghost use Rattle.mq_spec_state.specs.Recovery.{AreKnown, IsImage};
 ghost use Rattle.mq_spec_log.specs.Applies.{Start, is_in_bounds};
 ghost use Rattle.mq_spec_log.specs.Applies.Start.{First, Later};
 ghost use Rattle.mq_spec_log.specs.Bodies.{image, record_of};
+ghost use Rattle.mq_spec_log.specs.Records.{doing};
 ghost use Rattle.mq_spec_log.specs.Texts.{change_in, gives_all};
+ghost use Rattle.mq_law_log.specs.Keeps.{Keeps};
 ghost use Rattle.mq_law_log.specs.Restarts.{IsGivenIn, IsHarmless};
 ghost use Rattle.mq_law_manager.specs.Facts.{AreNamed, IsSound, Mem};
-ghost use Rattle.mq_law_image.specs.Bounds.{HaveArrived, IsBounded, noted_growth, part_growth, restart_growth, step_growth};
+ghost use Rattle.mq_law_image.specs.Bounds.{AreSessionsAtMost, HaveArrived, IsBounded, new_session, noted_growth, part_growth, restart_growth, session_of, step_growth};
 ghost use Rattle.mq_law_image.specs.Laid.{AreWritten, CanDefine, IsSubject, Written, alter_bits, clauses_of, define_bits, settings_of, text_of};
 ghost use Rattle.mq_law_image.specs.Tells.{Tells, TellsDown};
-ghost use Rattle.mq_law_image.specs.Values.{IsAliasText, IsChannelText, IsLocalText, IsManagerText, IsProcessText, IsReadable, IsRemoteText};
+ghost use Rattle.mq_law_image.specs.Values.{AreObjectTexts, IsAliasText, IsChangeText, IsCommandText, IsChannelText, IsLocalText, IsMade, IsManagerText, IsProcessText, IsReadable, IsRemoteText, MakesText, StepMakes};
 
 /// What recovery gives of a log is an image, and the log knew the idents of its own manager in it.
 pub fn recovery_gives_an_image()
@@ -135,4 +143,29 @@ pub fn texts_of_objects_are_read()
 /// So each record whose fields fit is read from its bytes.
 pub fn records_are_read_from_their_bytes()
     ensures { (r : LogRecord) → IsReadable r → record_of (record_bytes r) ≡ Some r }
+{}
+
+/// What a log says of objects has values such as a command gives, and so have the definitions of its image: these hold of each
+/// manager of which a log tells.
+pub fn a_log_has_values_that_commands_give()
+    ensures texts { (operation : Operation) (text : List ℕ) (change : ObjectChange) → change_in operation text ≡ Some change → IsChangeText change }
+    ensures images { (g : Given) (start : Start) (bodies : List (List ℕ)) (i : Image) → image g start bodies ≡ Ok i → AllByRecursion IsBytes bodies → AreObjectTexts i.definitions }
+    ensures parts { (part : Part) (p : Plain) → Keeps part p → IsMade part.forced → AreObjectTexts p.definitions → AreObjectTexts (do_part part p).definitions }
+{}
+
+/// A command that a line of a text is gives such values, and a manager whose objects have them writes such a change for it. So each
+/// record whose fields fit is read from its bytes.
+pub fn what_commands_write_is_read()
+    ensures lines { (text : List ℕ) (lines : List Line) (line : Line) (c : Command) → commands_of text ≡ Ok lines → Mem line lines → parse_of line ≡ Ok (parsed.Objects c) → IsCommandText c }
+    ensures writes { (c : Command) (p : Plain) → IsCommandText c → AreObjectTexts p.definitions → StepMakes (command c p) }
+    ensures reads { (r : LogRecord) → IsRecord r → MakesText r → record_of (record_bytes r) ≡ Some r }
+{}
+
+/// A sender's session rises no further than the Session records of its manager say, so where these count one by one no record of
+/// theirs comes to the bound that a reader asks.
+pub fn sessions_rise_by_their_records()
+    ensures records { (most : ℕ) (r : LogRecord) (i : Image) → new_session r ≤ most → AreSessionsAtMost most i.senders → AreSessionsAtMost most (doing r i).senders }
+    ensures parts { (most : ℕ) (part : Part) (p : Plain) → Keeps part p → session_of part.forced ≤ most → AreSessionsAtMost most p.channels.senders → AreSessionsAtMost most (do_part part p).channels.senders }
+    ensures more { (most higher : ℕ) (sides : List SenderSide) → most ≤ higher → AreSessionsAtMost most sides → AreSessionsAtMost higher sides }
+    ensures within { (most session : ℕ) (channel partner : List ℕ) → session ≤ most → most < 2 ^ 61 → is_in_bounds Later (records.Session channel partner session) ≡ true }
 {}

@@ -1,0 +1,93 @@
+-- How far the sessions of senders rise: no further than the Session records of the log say.
+use Rattle.std.proofs.Common.{ℕ, ◌≡◌, ◌≤◌, ◌<◌, ◌^◌, Bool, true, false, List, [], ◌∷◌, map, refl, ap, sym, subst, ◌∙◌, arith, inl, inr}
+use Rattle.std.specs.Prelude.{Option, Some, None, nat_lt}
+use Rattle.std.proofs.lemmas.Bool.Decides.{nat_tests}
+use Rattle.mq_sync.specs.declared.unit.Settle.{Settle}
+use Rattle.mq_sync.specs.declared.unit.Settle.TheVariants.{Commit, Backout}
+use Rattle.mq_sync.specs.declared.data.SenderData.{SenderData}
+use Rattle.mq_sync.specs.declared.data.End.{End}
+use Rattle.mq_sync.specs.declared.data.End.TheVariants as ends
+use Rattle.mq_sync.specs.Settlement.{data_prepared, data_settled}
+use Rattle.mq_message.specs.declared.message.Ident.{Ident}
+use Rattle.mq_calls.specs.declared.records.Add.{Add}
+use Rattle.mq_calls.specs.declared.records.Remove.{Remove}
+use Rattle.mq_calls.specs.declared.records.LogRecord.{LogRecord}
+use Rattle.mq_calls.specs.declared.records.LogRecord.TheVariants as records
+use Rattle.mq_spec_state.specs.State.{Plain, SenderSide}
+use Rattle.mq_spec_state.specs.Changes.{off_list, off_lists, set_sender}
+use Rattle.mq_spec_state.specs.Images.{Image, lasting}
+use Rattle.mq_spec_state.specs.Steps.{Part, do_part}
+use Rattle.mq_spec_log.specs.Applies.{is_in_bounds}
+use Rattle.mq_spec_log.specs.Applies.Start.{Later}
+use Rattle.mq_spec_log.specs.Shelves.{sender_at, with_sender, added, added_all, removed, removed_all}
+use Rattle.mq_spec_log.specs.Records.{settle_by, doing}
+use Rattle.mq_law_manager.specs.Facts.{Mem}
+use Rattle.mq_law_log.specs.Keeps.{Told, Keeps}
+use Rattle.mq_law_image.specs.Bounds.{AreSessionsAtMost, new_session, session_of}
+use Rattle.mq_law_image.proofs.Members.{set_mem, sender_side}
+
+mapped : (f : SenderSide → SenderSide) (s : SenderSide) (sides : List SenderSide) → Mem s (map f sides) → (t : SenderSide) × Mem t sides × (s ≡ f t)
+mapped f s [] m = absurd m
+mapped f s (t ∷ ts) (inl e) = (t, inl refl, e)
+mapped f s (t ∷ ts) (inr m) = let k = mapped f s ts m in (k.0, inr k.1, k.2)
+
+off_sessions : (most : ℕ) (ident : Ident) (sides : List SenderSide) → AreSessionsAtMost most sides → AreSessionsAtMost most (off_lists ident sides)
+off_sessions most ident sides h s m = let k = mapped (off_list ident) s sides m in subst (λ (x : SenderSide). x.hardened.session ≤ most) (sym k.2) (h k.0 k.1)
+
+at_most : (most : ℕ) (channel : List ℕ) (i : Image) → AreSessionsAtMost most i.senders → (sender_at channel i).session ≤ most
+at_most most channel i h = sender_side (λ (s : SenderSide). s.hardened.session ≤ most) channel i.senders (omega arith) h
+
+set_sessions : (most : ℕ) (channel : List ℕ) (d : SenderData) (i : Image) → d.session ≤ most → AreSessionsAtMost most i.senders → AreSessionsAtMost most (with_sender channel d i).senders
+set_sessions most channel d i le h s m =
+    elim (set_mem (λ (x : SenderSide). x.channel) (record { channel = channel; hardened = d }) s i.senders m) [ inl e ↦ subst (λ (x : SenderSide). x.hardened.session ≤ most) (sym e) le | inr n ↦ h s n ]
+
+add_sessions : (most : ℕ) (adds : List Add) (i : Image) → AreSessionsAtMost most i.senders → AreSessionsAtMost most (added_all adds i).senders
+add_sessions most [] i h = h
+add_sessions most (a ∷ as_) i h = add_sessions most as_ (added a i) (off_sessions most a.message.ident i.senders h)
+
+removed_senders : (removes : List Remove) (i : Image) → (removed_all removes i).senders ≡ i.senders
+removed_senders [] i = refl
+removed_senders (r ∷ rs) i = removed_senders rs (removed r i)
+
+settled_session : (o : Option Settle) (d : SenderData) → (data_settled o d).session ≡ d.session
+settled_session None d = refl
+settled_session (Some Commit) d = refl
+settled_session (Some Backout) d = refl
+
+pub done_sessions : (most : ℕ) (r : LogRecord) (i : Image) → new_session r ≤ most → AreSessionsAtMost most i.senders → AreSessionsAtMost most (doing r i).senders
+done_sessions most (records.Started manager name incarnation) i k h = h
+done_sessions most (records.Objects change) i k h = h
+done_sessions most (records.Unit adds removes) i k h = add_sessions most adds (removed_all removes i) (subst (AreSessionsAtMost most) (sym (removed_senders removes i)) h)
+done_sessions most (records.Session channel partner session) i k h = set_sessions most channel (record (sender_at channel i) { partner = partner; session = session }) i k h
+done_sessions most (records.Prepared channel unit last queue idents) i k h =
+    set_sessions most channel (data_prepared (record { unit = unit; queue = queue; idents = idents; last = last }) (sender_at channel i)) i (at_most most channel i h) h
+done_sessions most (records.Resolved channel unit true operator) i k h =
+    set_sessions most channel (data_settled (Some Commit) (sender_at channel i)) i (subst (λ (n : ℕ). n ≤ most) (sym (settled_session (Some Commit) (sender_at channel i))) (at_most most channel i h)) h
+done_sessions most (records.Resolved channel unit false operator) i k h =
+    set_sessions most channel (data_settled (Some Backout) (sender_at channel i)) i (subst (λ (n : ℕ). n ≤ most) (sym (settled_session (Some Backout) (sender_at channel i))) (at_most most channel i h)) h
+done_sessions most (records.Bound channel partner session last) i k h = h
+done_sessions most (records.Closed channel session) i k h = h
+done_sessions most (records.Received channel unit last adds) i k h = add_sessions most adds i h
+done_sessions most (records.SeqSet channel ends.Sender last) i k h = set_sessions most channel (record (sender_at channel i) { last = last; force = true }) i (at_most most channel i h) h
+done_sessions most (records.SeqSet channel ends.Receiver last) i k h = h
+done_sessions most (records.Moved from ident to message) i k h = off_sessions most message.ident i.senders h
+
+-- a part that does what its record says
+told_sessions : (most : ℕ) (f : Option LogRecord) (p : Plain) (new : Image) → Told f p new → session_of f ≤ most → AreSessionsAtMost most p.channels.senders → AreSessionsAtMost most new.senders
+told_sessions most None p new t k h = subst (λ (i : Image). AreSessionsAtMost most i.senders) (sym t) h
+told_sessions most (Some r) p new t k h = subst (λ (i : Image). AreSessionsAtMost most i.senders) (sym t.1) (done_sessions most r (lasting p) k h)
+
+pub part_sessions : (most : ℕ) (part : Part) (p : Plain) → Keeps part p → session_of part.forced ≤ most → AreSessionsAtMost most p.channels.senders → AreSessionsAtMost most (do_part part p).channels.senders
+part_sessions most part p t k h = told_sessions most part.forced p (lasting (do_part part p)) t k h
+
+more : (n m k : ℕ) → n ≤ m → m ≤ k → n ≤ k
+more n m k a b = omega (arith, a, b)
+
+pub more_sessions : (most more_ : ℕ) (sides : List SenderSide) → most ≤ more_ → AreSessionsAtMost most sides → AreSessionsAtMost more_ sides
+more_sessions most more_ sides le h s m = more s.hardened.session most more_ (h s m) le
+
+pub session_bounded : (most session : ℕ) (channel partner : List ℕ) → session ≤ most → most < 2 ^ 61 → is_in_bounds Later (records.Session channel partner session) ≡ true
+session_bounded most session channel partner le lt = below session most le lt
+  where
+    below : (a b : ℕ) → a ≤ b → b < 2 ^ 61 → nat_lt a (2 ^ 61) ≡ true
+    below a b x y = grind (arith, nat_tests)
