@@ -347,17 +347,17 @@ means_text verbs.Alter nouns.Queue kind name cs c m is known whole = alter_text 
 means_text verbs.Alter nouns.Status kind name cs c m is known whole = alter_text nouns.Status kind name cs c m is known whole
 means_text verbs.Delete noun kind name cs c m is known whole = same_command c (objects.Delete (record { subject = m.subject })) m.is (subject_text noun name m.subject m.named)
 means_text verbs.Display nouns.Manager kind name cs c m is known whole = subst IsCommandText (sym (ap (or_command c) m.is)) tt
-means_text verbs.Display nouns.Status kind name cs c m is known whole = absurd (let f = ap is_on_objects m.is in cc f)
+means_text verbs.Display nouns.Status kind name cs c m is known whole = absurd (cc (ap is_on_objects m.is))
 means_text verbs.Display nouns.Local kind name cs c m is known whole = subst IsCommandText (sym (ap (or_command c) m.is)) tt
 means_text verbs.Display nouns.Alias kind name cs c m is known whole = subst IsCommandText (sym (ap (or_command c) m.is)) tt
 means_text verbs.Display nouns.Remote kind name cs c m is known whole = subst IsCommandText (sym (ap (or_command c) m.is)) tt
 means_text verbs.Display nouns.Channel kind name cs c m is known whole = subst IsCommandText (sym (ap (or_command c) m.is)) tt
 means_text verbs.Display nouns.Process kind name cs c m is known whole = subst IsCommandText (sym (ap (or_command c) m.is)) tt
 means_text verbs.Display nouns.Queue kind name cs c m is known whole = subst IsCommandText (sym (ap (or_command c) m.is)) tt
-means_text verbs.Start noun kind name cs c m is known whole = absurd (let f = ap is_on_objects m.2 in cc f)
-means_text verbs.Stop noun kind name cs c m is known whole = absurd (let f = ap is_on_objects m.2 in cc f)
-means_text verbs.Reset noun kind name cs c m is known whole = absurd (let f = ap is_on_objects m.4 in cc f)
-means_text verbs.Resolve noun kind name cs c m is known whole = absurd (let f = ap is_on_objects m.4 in cc f)
+means_text verbs.Start noun kind name cs c m is known whole = absurd (cc (ap is_on_objects m.2))
+means_text verbs.Stop noun kind name cs c m is known whole = absurd (cc (ap is_on_objects m.2))
+means_text verbs.Reset noun kind name cs c m is known whole = absurd (cc (ap is_on_objects m.4))
+means_text verbs.Resolve noun kind name cs c m is known whole = absurd (cc (ap is_on_objects m.4))
 
 -- a command that a line of a text is
 pub read_text : (line : Line) (c : ObjectCommand) → AreWholeTokens line.tokens → parse_of line ≡ Ok (commands.Objects c) → IsCommandText c

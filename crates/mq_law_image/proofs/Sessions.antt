@@ -20,7 +20,7 @@ use Rattle.mq_spec_state.specs.Steps.{Part, do_part}
 use Rattle.mq_spec_log.specs.Applies.{is_in_bounds}
 use Rattle.mq_spec_log.specs.Applies.Start.{Later}
 use Rattle.mq_spec_log.specs.Shelves.{sender_at, with_sender, added, added_all, removed, removed_all}
-use Rattle.mq_spec_log.specs.Records.{settle_by, doing}
+use Rattle.mq_spec_log.specs.Records.{doing}
 use Rattle.mq_law_manager.specs.Facts.{Mem}
 use Rattle.mq_law_log.specs.Keeps.{Told, Keeps}
 use Rattle.mq_law_image.specs.Bounds.{AreSessionsAtMost, new_session, session_of}
