@@ -1,7 +1,7 @@
 -- Attributes kept without effect: each is laid out as a clause that gives it, behind the clauses of its object.
-use Rattle.std.proofs.Common.{ℕ, ◌≡◌, ◌⊎◌, ◌+◌, ◌≤◌, Bool, true, false, List, [], ◌∷◌, ◌++◌, append_assoc, append-nil, length, refl, ap, sym, subst, ◌∙◌, arith, map, inl, inr}
+use Rattle.std.proofs.Common.{ℕ, ◌≡◌, ◌⊎◌, ◌+◌, Bool, true, false, List, [], ◌∷◌, ◌++◌, append_assoc, append-nil, length, refl, ap, sym, subst, ◌∙◌, map, inl, inr}
 use Rattle.std.specs.Prelude.{Option, Some, None, not, ◌&&◌, ◌==◌, if◌then◌else◌, cond, filter, count_by, flat_map, codes}
-use Rattle.std.specs.List.{list_all, list_any, AllByRecursion}
+use Rattle.std.specs.List.{list_any, AllByRecursion}
 use Rattle.std.specs.Str.{bytes_eq}
 use Rattle.std.proofs.lemmas.List.Elements.{filter-append}
 use Rattle.std.proofs.lemmas.List.Recursion.{is_count_by}
@@ -41,15 +41,15 @@ use Rattle.mq_sc_keys.specs.Verbs.{object_text}
 use Rattle.mq_sc_lex.specs.declared.token.TokenKind.TheVariants as tokens
 use Rattle.mq_sc_grammar.specs.Spelling.{Clause, IsNamed}
 use Rattle.mq_sc_grammar.specs.Commands.{keys_of, IsKind, AreSingle, HasNeeded}
-use Rattle.mq_sc_grammar.proofs.Words.{bytes_same, same_bytes}
+use Rattle.mq_sc_grammar.proofs.Words.{bytes_same}
 use Rattle.mq_sc_parse.specs.Parsing.{subject_of}
 use Rattle.mq_base.specs.Members.{AreDistinct}
 use Rattle.mq_record.specs.declared.record.Operation.TheVariants.{Set as Sets}
 use Rattle.mq_spec_log.specs.Texts.{has_effect, gives_all, change_in}
 use Rattle.mq_law_manager.specs.Facts.{Mem}
-use Rattle.mq_law_manager.proofs.Lists.{bool_case, is_false, mem_append}
-use Rattle.mq_law_image.specs.Laid.{text_of, is_no_end, Ends, Written, clause_bits, all_bits, clauses_of, settings_of, IsWritten, AreWritten, CanDefine, define_bits}
-use Rattle.mq_law_image.specs.Values.{kept_keys, IsKeptValue, IsKeptText, AreKeptTexts}
+use Rattle.mq_law_manager.proofs.Lists.{is_false, mem_append}
+use Rattle.mq_law_image.specs.Laid.{text_of, Ends, Written, clause_bits, all_bits, clauses_of, settings_of, IsWritten, AreWritten, CanDefine, define_bits}
+use Rattle.mq_law_image.specs.Values.{kept_keys, IsKeptValue, AreKeptTexts}
 use Rattle.mq_law_image.proofs.Members.{both, none_any}
 use Rattle.mq_law_image.proofs.Deleting.{doubled_same}
 use Rattle.mq_law_image.proofs.Giving.{text_append, define_read}

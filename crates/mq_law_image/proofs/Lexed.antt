@@ -1,14 +1,14 @@
 -- No token of a text of commands has the end of a line in it; so a command that is read has a name and settings such as a text gives.
-use Rattle.std.proofs.Common.{ℕ, ◌≡◌, ◌⊎◌, ◌+◌, Bool, true, false, List, [], ◌∷◌, ◌++◌, length, map, refl, ap, sym, subst, ◌∙◌, arith, inl, inr}
-use Rattle.std.specs.Prelude.{Option, Some, None, Result, Ok, Err, if◌then◌else◌, ◌&&◌, ◌||◌, not, ◌==◌}
+use Rattle.std.proofs.Common.{ℕ, ◌≡◌, ◌+◌, Bool, true, false, List, [], ◌∷◌, ◌++◌, length, refl, ap, sym, subst, ◌∙◌, arith, inl, inr}
+use Rattle.std.specs.Prelude.{Option, Some, None, Ok, if◌then◌else◌, ◌&&◌, not, ◌==◌}
 use Rattle.std.specs.List.{list_all, onto_first, AllByRecursion}
 use Rattle.std.specs.Option.{option_map}
 use Rattle.std.specs.Str.{str_to_ascii_uppercase}
 use Rattle.std.specs.Char.{to_ascii_uppercase}
 use Rattle.std.proofs.lemmas.Bool.Decides.{nat_tests}
-use Rattle.mq_name.specs.Name.{IsName, name_of}
+use Rattle.mq_name.specs.Name.{name_of}
 use Rattle.mq_text.specs.Lines.{lines_of}
-use Rattle.mq_text.specs.Quoting.{quoted, doubled}
+use Rattle.mq_text.specs.Quoting.{doubled}
 use Rattle.mq_objects.specs.declared.setting.Setting.{Setting}
 use Rattle.mq_objects.specs.declared.command.Subject.{Subject}
 use Rattle.mq_objects.specs.declared.command.Subject.TheVariants as subjects
@@ -27,7 +27,6 @@ use Rattle.mq_sc_lex.specs.declared.tokens.Meaning.TheVariants as meanings
 use Rattle.mq_sc_lex.specs.Joining.{marks_from}
 use Rattle.mq_sc_lex.specs.Tokens.{bytes_of, put_meaning, numbered}
 use Rattle.mq_sc_lex.specs.Commands.{commands_of}
-use Rattle.mq_sc_keys.specs.declared.keys.Key.{Key}
 use Rattle.mq_sc_keys.specs.declared.verbs.Verb.{Verb}
 use Rattle.mq_sc_keys.specs.declared.verbs.Verb.TheVariants as verbs
 use Rattle.mq_sc_keys.specs.declared.verbs.Noun.{Noun}
@@ -42,7 +41,7 @@ use Rattle.mq_sc_parse.specs.Parsing.{subject_of, parse_of}
 use Rattle.mq_sc_grammar.specs.Written.{IsText, IsTokenText, Part, BeginsWith, commands_of_parts, span_of_marks, AreOfLines}
 use Rattle.mq_sc_grammar.specs.Texts.{EndsSo, BeginsSo, IsPart, IsBefore, IsOnto, AreJoined}
 use Rattle.mq_sc_grammar.specs.Spelling.{Clause, IsValue, IsValuePart, IsClause, AreClauses, kinds_of}
-use Rattle.mq_sc_grammar.specs.Commands.{value_of, IsKind, AreKnown, AreGiven, IsDefine, IsAlter, IsAlterManager, IsDelete, IsCommand, Means}
+use Rattle.mq_sc_grammar.specs.Commands.{value_of, IsKind, AreKnown, AreGiven, IsDefine, IsAlter, IsAlterManager, IsCommand, Means}
 use Rattle.mq_sc_grammar.proofs.Whole.{text_found}
 use Rattle.mq_sc_grammar.proofs.Readings.{command_found}
 use Rattle.mq_law_manager.proofs.Lists.{bool_case}

@@ -23,7 +23,6 @@ use Rattle.mq_sc_parse.specs.Splitting.{items_of}
 use Rattle.mq_sc_parse.specs.Parsing.{parse_of}
 use Rattle.mq_frame.specs.declared.fault.Miss.{Miss}
 use Rattle.mq_frame.specs.Reading.{IsBytes}
-use Rattle.mq_sync.specs.declared.data.End.{End}
 use Rattle.mq_sync.specs.declared.data.End.TheVariants as ends
 use Rattle.mq_record.specs.declared.record.Operation.{Operation}
 use Rattle.mq_record.specs.declared.record.Operation.TheVariants.{Set, Delete}

@@ -1,8 +1,7 @@
 -- What a manager writes of objects is read from its bytes.
-use Rattle.std.proofs.Common.{ℕ, ◌≡◌, Bool, true, false, List, [], ◌∷◌, refl, ap, sym, subst, ◌∙◌, inl, inr}
+use Rattle.std.proofs.Common.{ℕ, ◌≡◌, List, [], ◌∷◌, refl, sym, subst, inl, inr}
 use Rattle.std.specs.Prelude.{Option, Some, None, Result, Ok, Err, not}
 use Rattle.std.specs.List.{AllByRecursion}
-use Rattle.mq_objects.specs.declared.object.Definitions.{Definitions}
 use Rattle.mq_objects.specs.declared.command.Command.{Command}
 use Rattle.mq_calls.specs.declared.commands.ScRefusal.{ScRefusal}
 use Rattle.mq_calls.specs.declared.commands.ScRefusal.TheVariants as refusals
@@ -19,7 +18,7 @@ use Rattle.mq_record.specs.Records.{IsRecord, record_bytes}
 use Rattle.mq_spec_state.specs.State.{Plain}
 use Rattle.mq_spec_state.specs.Reads.{is_up}
 use Rattle.mq_spec_state.specs.Images.{Image, lasting}
-use Rattle.mq_spec_state.specs.Steps.{Part, Step, when, tested, refused_or, refusal, do_part}
+use Rattle.mq_spec_state.specs.Steps.{Part, Step, when, refused_or, refusal, do_part}
 use Rattle.mq_spec_manager.specs.Commands.{uses_of, planned_step, command}
 use Rattle.mq_spec_log.specs.Bodies.{record_of}
 use Rattle.mq_law_manager.specs.Facts.{Mem}

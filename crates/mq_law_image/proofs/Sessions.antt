@@ -1,11 +1,10 @@
 -- How far the sessions of senders rise: no further than the Session records of the log say.
-use Rattle.std.proofs.Common.{ℕ, ◌≡◌, ◌≤◌, ◌<◌, ◌^◌, Bool, true, false, List, [], ◌∷◌, map, refl, ap, sym, subst, ◌∙◌, arith, inl, inr}
+use Rattle.std.proofs.Common.{ℕ, ◌≡◌, ◌≤◌, ◌<◌, ◌^◌, true, false, List, [], ◌∷◌, map, refl, sym, subst, arith, inl, inr}
 use Rattle.std.specs.Prelude.{Option, Some, None, nat_lt}
 use Rattle.std.proofs.lemmas.Bool.Decides.{nat_tests}
 use Rattle.mq_sync.specs.declared.unit.Settle.{Settle}
 use Rattle.mq_sync.specs.declared.unit.Settle.TheVariants.{Commit, Backout}
 use Rattle.mq_sync.specs.declared.data.SenderData.{SenderData}
-use Rattle.mq_sync.specs.declared.data.End.{End}
 use Rattle.mq_sync.specs.declared.data.End.TheVariants as ends
 use Rattle.mq_sync.specs.Settlement.{data_prepared, data_settled}
 use Rattle.mq_message.specs.declared.message.Ident.{Ident}
@@ -14,7 +13,7 @@ use Rattle.mq_calls.specs.declared.records.Remove.{Remove}
 use Rattle.mq_calls.specs.declared.records.LogRecord.{LogRecord}
 use Rattle.mq_calls.specs.declared.records.LogRecord.TheVariants as records
 use Rattle.mq_spec_state.specs.State.{Plain, SenderSide}
-use Rattle.mq_spec_state.specs.Changes.{off_list, off_lists, set_sender}
+use Rattle.mq_spec_state.specs.Changes.{off_list, off_lists}
 use Rattle.mq_spec_state.specs.Images.{Image, lasting}
 use Rattle.mq_spec_state.specs.Steps.{Part, do_part}
 use Rattle.mq_spec_log.specs.Applies.{is_in_bounds}

@@ -1,5 +1,5 @@
 -- What the clauses of a DEFINE or an ALTER give has values such as a command gives.
-use Rattle.std.proofs.Common.{ℕ, ◌≡◌, ◌<◌, ◌≤◌, Bool, true, false, List, [], ◌∷◌, ◌++◌, length, refl, ap, sym, subst, ◌∙◌, arith, inl, inr}
+use Rattle.std.proofs.Common.{ℕ, ◌≡◌, ◌<◌, ◌≤◌, Bool, true, false, List, [], ◌∷◌, ◌++◌, length, refl, ap, sym, subst, arith}
 use Rattle.std.specs.Prelude.{Option, Some, None, Result, Ok, Err, if◌then◌else◌, ◌&&◌, ◌||◌, not, nat_le, nat_lt, position, codes}
 use Rattle.std.specs.List.{list_all, list_any, AllByRecursion}
 use Rattle.std.specs.Str.{bytes_eq}
@@ -17,7 +17,6 @@ use Rattle.mq_objects.specs.declared.setting.Setting.TheVariants as settings
 use Rattle.mq_sc_keys.specs.declared.keys.Key.{Key}
 use Rattle.mq_sc_keys.specs.declared.keys.Key.TheVariants as keys
 use Rattle.mq_sc_keys.specs.declared.verbs.Verb.{Verb}
-use Rattle.mq_sc_keys.specs.declared.verbs.Verb.TheVariants as verbs
 use Rattle.mq_sc_keys.specs.declared.attributes.Kind.{Kind}
 use Rattle.mq_sc_keys.specs.declared.attributes.Kind.TheVariants as kinds
 use Rattle.mq_sc_keys.specs.declared.value.Value.{Value}
@@ -33,7 +32,7 @@ use Rattle.mq_sc_grammar.specs.Commands.{value_of, AreKnown, AreGiven, IsOnto}
 use Rattle.mq_law_manager.specs.Facts.{Mem}
 use Rattle.mq_law_manager.proofs.Lists.{bool_case}
 use Rattle.mq_law_image.specs.Laid.{is_no_end}
-use Rattle.mq_law_image.specs.Values.{kept_keys, IsKeptValue, IsKeptText, IsOneLine, IsLengthText, IsSettingText}
+use Rattle.mq_law_image.specs.Values.{kept_keys, IsKeptValue, IsOneLine, IsSettingText}
 use Rattle.mq_law_image.proofs.Members.{both, all_all}
 use Rattle.mq_law_image.proofs.Writing.{key_there}
 

@@ -1,7 +1,7 @@
 -- A change of objects that a command makes has values such as a command gives; and so has each object of a log's image.
-use Rattle.std.proofs.Common.{ℕ, ◌≡◌, ◌⊎◌, ◌<◌, ◌≤◌, Bool, true, false, List, [], ◌∷◌, length, map, refl, ap, sym, subst, ◌∙◌, arith, inl, inr}
+use Rattle.std.proofs.Common.{ℕ, ◌≡◌, ◌⊎◌, ◌≤◌, Bool, true, false, List, [], ◌∷◌, map, refl, ap, sym, subst, ◌∙◌, arith, inl, inr}
 use Rattle.std.specs.Prelude.{Option, Some, None, Result, Ok, Err, if◌then◌else◌, ◌&&◌, ◌||◌, not, filter}
-use Rattle.std.specs.List.{list_all, AllByRecursion}
+use Rattle.std.specs.List.{AllByRecursion}
 use Rattle.std.specs.Str.{bytes_eq}
 use Rattle.mq_objects.specs.declared.object.KeptAttribute.{KeptAttribute}
 use Rattle.mq_objects.specs.declared.object.LocalQueue.{LocalQueue}
@@ -30,14 +30,13 @@ use Rattle.mq_objects.specs.declared.command.Delete.{Delete}
 use Rattle.mq_objects.specs.declared.change.ObjectChange.{ObjectChange}
 use Rattle.mq_objects.specs.declared.change.ObjectChange.TheVariants as changes
 use Rattle.mq_objects.specs.Names.{Space, named, is_kind, object_in, is_object, space_of, name_of, subject_space, subject_name}
-use Rattle.mq_objects.specs.Defaults.{new_object, new_manager, nothing_defined}
+use Rattle.mq_objects.specs.Defaults.{new_object, new_manager}
 use Rattle.mq_objects.specs.Settings.{keep_attribute, set_local, set_alias, set_remote, typed, set_kind, set_channel, set_process, set_manager, set_object, set_all, set_all_manager}
 use Rattle.mq_objects.specs.Changed.{set_in, delete_in, changed}
 use Rattle.mq_calls.specs.declared.commands.ScRefusal.{ScRefusal}
 use Rattle.mq_calls.specs.declared.commands.ScRefusal.TheVariants as refusals
 use Rattle.mq_calls.specs.declared.commands.Shown.{Shown}
 use Rattle.mq_sc_apply.specs.declared.answers.Planned.{Planned}
-use Rattle.mq_sc_apply.specs.declared.answers.Plan.{Plan}
 use Rattle.mq_sc_apply.specs.declared.answers.Plan.TheVariants as plans
 use Rattle.mq_sc_apply.specs.Uses.{Uses}
 use Rattle.mq_sc_apply.specs.Planned as planning
@@ -52,7 +51,7 @@ use Rattle.mq_law_manager.specs.Facts.{Mem}
 use Rattle.mq_law_manager.proofs.Lists.{bool_case}
 use Rattle.mq_law_manager.proofs.Named.{name_self}
 use Rattle.mq_law_image.specs.Laid.{IsSubject}
-use Rattle.mq_law_image.specs.Values.{kept_keys, IsKeptText, AreKeptTexts, IsManagerText, IsAliasText, IsRemoteText, IsProcessText, IsSenderText, IsReceiverText, IsKindText, IsChannelText, IsLocalText, IsObjectText, AreObjectTexts, IsChangeText, IsSettingText, kind_of, IsCommandText}
+use Rattle.mq_law_image.specs.Values.{kept_keys, IsKeptText, AreKeptTexts, IsManagerText, IsAliasText, IsRemoteText, IsProcessText, IsKindText, IsChannelText, IsLocalText, IsObjectText, AreObjectTexts, IsChangeText, IsSettingText, kind_of, IsCommandText}
 use Rattle.mq_law_image.proofs.Settings.{blank_name}
 
 -- ---- what is kept without effect
