@@ -20,6 +20,7 @@ pub mod Valued
 pub mod Lexed
 pub mod Logged
 pub mod Made
+pub mod Silent
 pub mod Sessions
 pub mod Recording
 pub mod Writing

@@ -81,7 +81,7 @@ pub lost_told : (start : Start) (bodies : List (List ℕ)) (noted : Option Noted
 lost_told start bodies noted left p is running log moment = is ∙ ap (λ (i : Image). Ok i) (ap (with_incarnation (lasting p)) (none_later p.numbers.incarnation) ∙ ap (later_by 0) (sym (frozen_lasts noted left p)))
 
 -- what is done at a restart that finds the write, whenever it comes
-redone_at : (part : Part) (r : LogRecord) (f : Option LogRecord) (running : Running) (log : LogState) (moment left : ℕ) (p : Plain) → f ≡ Some r
+pub redone_at : (part : Part) (r : LogRecord) (f : Option LogRecord) (running : Running) (log : LogState) (moment left : ℕ) (p : Plain) → f ≡ Some r
     → redone_if true (note_of part f) (over running log moment (freeze (note_of part f) left p)) ≡ apply_all part.changes (gone running (stands_in r log) moment p)
 redone_at part r None running log moment left p e = absurd cc
 redone_at part r (Some x) running log moment left p e = let same : r ≡ x = cc in ap (λ (y : LogRecord). apply_all part.changes (gone running (stands_in y log) moment p)) (sym same)

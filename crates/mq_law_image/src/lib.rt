@@ -4,6 +4,10 @@
 ghost use Rattle.std.specs.Prelude.{◌≡◌, ℕ, ◌+◌, ◌^◌, ◌<◌, ◌≤◌, Bool, false, true, List, [], ◌∷◌, ◌++◌, length, Option, None, Some, Ok};
 ghost use Rattle.std.specs.List.{AllByRecursion};
 ghost use Rattle.mq_frame.specs.Reading.{IsBytes};
+ghost use Rattle.mq_message.specs.declared.message.Dest.{Dest};
+ghost use Rattle.mq_message.specs.declared.message.Ident.{Ident};
+ghost use Rattle.mq_message.specs.declared.message.Md.{Md};
+ghost use Rattle.mq_message.specs.declared.message.Message.{Message};
 ghost use Rattle.mq_name.specs.Name.{IsName};
 ghost use Rattle.mq_objects.specs.declared.change.ObjectChange.{ObjectChange};
 ghost use Rattle.mq_objects.specs.declared.change.ObjectChange.TheVariants as changes;
@@ -38,6 +42,13 @@ ghost use Rattle.mq_sc_grammar.specs.Commands.{AreSingle, Says};
 ghost use Rattle.mq_record.specs.declared.record.Operation.{Operation};
 ghost use Rattle.mq_record.specs.declared.record.Operation.TheVariants.{Delete, Set};
 ghost use Rattle.mq_record.specs.Records.{IsRecord, operation_of, record_bytes};
+ghost use Rattle.mq_sync.specs.declared.unit.Unit.{Unit as Luw};
+ghost use Rattle.mq_calls.specs.declared.answers.Hconn.{Hconn};
+ghost use Rattle.mq_calls.specs.declared.answers.Hobj.{Hobj};
+ghost use Rattle.mq_calls.specs.declared.answers.Open.{Open};
+ghost use Rattle.mq_calls.specs.declared.answers.Appl.{Appl};
+ghost use Rattle.mq_calls.specs.declared.answers.Get.{Get};
+ghost use Rattle.mq_calls.specs.declared.agents.Note.{Note};
 ghost use Rattle.mq_calls.specs.declared.choices.Choice.{Choice};
 ghost use Rattle.mq_calls.specs.declared.commands.RestartFault.{RestartFault};
 ghost use Rattle.mq_spec_state.specs.State.{Change, Given, Noted, Plain, SenderSide};
@@ -49,6 +60,12 @@ ghost use Rattle.mq_spec_state.specs.Images.{Image, Shelf, begun, raised};
 ghost use Rattle.mq_spec_state.specs.Steps.{Part, Step, after, do_part, freeze, note_of};
 ghost use Rattle.mq_spec_manager.specs.Stops.{advance_clock, cut, failed, first_start, grown, next_started, redone_if, restarted, started_need, started_record, stop};
 ghost use Rattle.mq_spec_manager.specs.Commands.{command};
+ghost use Rattle.mq_spec_manager.specs.Handles.{mqclose, mqconn, mqopen};
+ghost use Rattle.mq_spec_manager.specs.Put.{mqput, mqput1};
+ghost use Rattle.mq_spec_manager.specs.Get.{mqget};
+ghost use Rattle.mq_spec_manager.specs.Units.{mqback, mqcmit, mqdisc};
+ghost use Rattle.mq_spec_manager.specs.Triggers.{trigger_turn};
+ghost use Rattle.mq_spec_agents.specs.Words.{discard, expire, harden, hold_batch, leave, move_row, prepare, receive, release_batch, seize, set_bound};
 ghost use Rattle.mq_spec_state.specs.Recovery.{AreKnown, IsImage};
 ghost use Rattle.mq_spec_log.specs.Applies.{Start, is_in_bounds};
 ghost use Rattle.mq_spec_log.specs.Applies.Start.{First, Later};
@@ -164,8 +181,35 @@ pub fn what_commands_write_is_read()
 /// A sender's session rises no further than the Session records of its manager say, so where these count one by one no record of
 /// theirs comes to the bound that a reader asks.
 pub fn sessions_rise_by_their_records()
+    ensures begins { (g : Given) (bodies : List (List ℕ)) (i : Image) → image g First bodies ≡ Ok i → AreSessionsAtMost (2 ^ 60) i.senders }
     ensures records { (most : ℕ) (r : LogRecord) (i : Image) → new_session r ≤ most → AreSessionsAtMost most i.senders → AreSessionsAtMost most (doing r i).senders }
     ensures parts { (most : ℕ) (part : Part) (p : Plain) → Keeps part p → session_of part.forced ≤ most → AreSessionsAtMost most p.channels.senders → AreSessionsAtMost most (do_part part p).channels.senders }
+    ensures found { (most : ℕ) (part : Part) (r : LogRecord) (left : ℕ) (p : Plain) → part.forced ≡ Some r → IsHarmless part p → new_session r ≤ most → AreSessionsAtMost most p.channels.senders → AreSessionsAtMost most (redone_if true (note_of part part.forced) (freeze (note_of part part.forced) left p)).channels.senders }
     ensures more { (most higher : ℕ) (sides : List SenderSide) → most ≤ higher → AreSessionsAtMost most sides → AreSessionsAtMost higher sides }
     ensures within { (most session : ℕ) (channel partner : List ℕ) → session ≤ most → most < 2 ^ 61 → is_in_bounds Later (records.Session channel partner session) ≡ true }
+{}
+
+/// No call but a command on objects writes a change of objects: of what the others write only the fields have to fit to be read.
+pub fn no_other_call_writes_a_change_of_objects()
+    ensures connects { (qmgr : List ℕ) (appl : Appl) (p : Plain) → StepMakes (mqconn qmgr appl p) }
+    ensures opens { (hc : Hconn) (name qmgr : List ℕ) (how : Open) (p : Plain) → StepMakes (mqopen hc name qmgr how p) }
+    ensures closes { (hc : Hconn) (ho : Hobj) (p : Plain) → StepMakes (mqclose hc ho p) }
+    ensures puts { (hc : Hconn) (ho : Hobj) (md : Md) (body : List ℕ) (sync : Bool) (p : Plain) → StepMakes (mqput hc ho md body sync p) }
+    ensures puts_once { (hc : Hconn) (name qmgr : List ℕ) (md : Md) (body : List ℕ) (sync : Bool) (p : Plain) → StepMakes (mqput1 hc name qmgr md body sync p) }
+    ensures gets { (hc : Hconn) (ho : Hobj) (get : Get) (until : Option ℕ) (p : Plain) → StepMakes (mqget hc ho get until p) }
+    ensures commits { (hc : Hconn) (p : Plain) → StepMakes (mqcmit hc p) }
+    ensures backs_out { (hc : Hconn) (p : Plain) → StepMakes (mqback hc p) }
+    ensures disconnects { (hc : Hconn) (p : Plain) → StepMakes (mqdisc hc p) }
+    ensures triggers { (p : Plain) → StepMakes (trigger_turn p) }
+    ensures seizes { (channel : List ℕ) (p : Plain) → StepMakes (seize channel p) }
+    ensures leaves { (channel : List ℕ) (p : Plain) → StepMakes (leave channel p) }
+    ensures binds { (channel : List ℕ) (bound : Bool) (p : Plain) → StepMakes (set_bound channel bound p) }
+    ensures expires { (channel : List ℕ) (p : Plain) → StepMakes (expire channel p) }
+    ensures holds { (channel : List ℕ) (unit : Luw) (most : ℕ) (p : Plain) → StepMakes (hold_batch channel unit most p) }
+    ensures releases { (channel : List ℕ) (p : Plain) → StepMakes (release_batch channel p) }
+    ensures prepares { (channel : List ℕ) (last : ℕ) (p : Plain) → StepMakes (prepare channel last p) }
+    ensures hardens { (channel : List ℕ) (note : Note) (p : Plain) → StepMakes (harden channel note p) }
+    ensures receives { (channel : List ℕ) (unit : Luw) (last : ℕ) (batch : List Message) (p : Plain) → StepMakes (receive channel unit last batch p) }
+    ensures moves { (from : List ℕ) (ident : Ident) (to : Dest) (bare : Bool) (p : Plain) → StepMakes (move_row from ident to bare p) }
+    ensures discards { (queue : List ℕ) (ident : Ident) (p : Plain) → StepMakes (discard queue ident p) }
 {}
