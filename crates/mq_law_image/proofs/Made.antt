@@ -34,7 +34,7 @@ planned_makes c p (Ok (plans.Change planned)) e k h = (command_text c p.given.na
 planned_makes c p (Ok (plans.Show shown)) e k h = tt
 planned_makes c p (Err refused) e k h = tt
 
-tested_makes : {F T : Type 0} (o : Option F) (s : Step F T) → StepMakes s → StepMakes (refused_or o s)
+pub tested_makes : {F T : Type 0} (o : Option F) (s : Step F T) → StepMakes s → StepMakes (refused_or o s)
 tested_makes None s h = h
 tested_makes (Some reason) s h = tt
 
