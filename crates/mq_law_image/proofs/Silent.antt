@@ -1,5 +1,5 @@
 -- No call but a command on objects writes a change of objects.
-use Rattle.std.proofs.Common.{ℕ, ◌≡◌, Bool, true, false, List, [], ◌∷◌, ◌++◌, length}
+use Rattle.std.proofs.Common.{ℕ, Bool, true, false, List, [], ◌∷◌, ◌++◌, length}
 use Rattle.std.specs.Prelude.{Option, Some, None, Result, Ok, Err, not, ◌||◌, if◌then◌else◌, filter}
 use Rattle.std.specs.List.{AllByRecursion}
 use Rattle.mq_codes.specs.declared.reason.Reason.{Reason}
@@ -40,7 +40,7 @@ use Rattle.mq_spec_manager.specs.Put.{mqput, mqput1, put_up, put_handle, put_rou
 use Rattle.mq_spec_manager.specs.Get.{mqget, get_up, get_handle, get_scanned, get_found, get_tests, room_tests, scanned, with_row, without_row, is_waiting, is_under, is_left, is_destructive, found_part, taking_part, removal_record, removal_parts, persistent_rows, expired_parts}
 use Rattle.mq_spec_manager.specs.Units.{mqcmit, mqback, mqdisc, adds_of, removes_of, record_of}
 use Rattle.mq_spec_manager.specs.Triggers.{trigger_turn, trigger_at, serve, serve_by, serve_into, put_trigger, takes_it, first_due}
-use Rattle.mq_spec_agents.specs.Words.{seize, leave, set_bound, channel_queue, expire, expired_rows, queue_of_sender, hold_batch, release_batch, release_of, prepare, prepare_of, prepared_record, harden_part, harden, discard, Landing, landing, route_tests, move_full, moved_record, moved_forced, move_part, bare_if, move_resolved, move_found, move_row, row_with, Landed, landed, received_record, receive_landed, receive}
+use Rattle.mq_spec_agents.specs.Words.{seize, leave, set_bound, channel_queue, expire, expired_rows, queue_of_sender, hold_batch, release_batch, release_of, prepare, prepare_of, prepared_record, harden_part, harden, discard, Landing, landing, route_tests, move_full, moved_record, moved_forced, bare_if, move_resolved, move_found, move_row, row_with, Landed, landed, received_record, receive_landed, receive}
 use Rattle.mq_law_manager.proofs.Lists.{bool_case}
 use Rattle.mq_law_image.specs.Values.{IsMade, StepMakes}
 use Rattle.mq_law_image.proofs.Made.{tested_makes}
