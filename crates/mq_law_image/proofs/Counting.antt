@@ -24,10 +24,10 @@ use Rattle.mq_spec_state.specs.Sizes.{need}
 use Rattle.mq_spec_state.specs.Images.{Image, Shelf, lasting_rows, lasting_row, shelves_of, queue_on}
 use Rattle.mq_spec_state.specs.Steps.{Part, Step, after, do_part, do_all, logged, stands_in, freeze, stopped_at, note_of, volatile_gone}
 use Rattle.mq_spec_state.specs.Steps.Step.{Refuse, Do}
-use Rattle.mq_spec_manager.specs.Stops.{first_start, stop, stop_at, stop_changes, at_rest, release_batch, redone, redone_if, restarted, next_started, started_need, failed}
+use Rattle.mq_spec_manager.specs.Stops.{advance_clock, cut, first_start, stop, stop_at, stop_changes, at_rest, release_batch, redone, redone_if, restarted, next_started, started_need, failed}
 use Rattle.mq_spec_log.specs.Applies.{is_in_bounds}
 use Rattle.mq_spec_log.specs.Applies.Start.{Later}
-use Rattle.mq_law_manager.specs.Facts.{Mem, AreNamed, IsSound}
+use Rattle.mq_law_manager.specs.Facts.{Mem, AreNamed, IsFrozen, IsSound}
 use Rattle.mq_law_manager.proofs.Lists.{bool_case}
 use Rattle.mq_law_manager.proofs.Named.{name_self, name_turned, queue_set, queue_mapped, queue_dropped}
 use Rattle.mq_law_log.proofs.Bridge.{all_of}
@@ -360,6 +360,17 @@ started_within most kept started starts noted p down le b room = within q.number
 
 pub arrived_sound : (p : Plain) → IsSound p → HaveArrived p
 arrived_sound p s = s.facts.ordered.fits
+
+pub arrived_frozen : (p : Plain) → IsFrozen p → HaveArrived p
+arrived_frozen p s = s.still.ordered.fits
+
+-- ---- a cut that is armed, a clock that moves
+
+pub cut_bounded : (most k : ℕ) (p : Plain) → IsBounded most p → IsBounded most (cut k p)
+cut_bounded most k p h = record { incarnation = h.incarnation; idents = h.idents; connections = h.connections; handles = h.handles; arrivals = h.arrivals; due = h.due; log = h.log }
+
+pub clock_bounded : (most by : ℕ) (p : Plain) → IsBounded most p → IsBounded most (advance_clock by p)
+clock_bounded most by p h = record { incarnation = h.incarnation; idents = h.idents; connections = h.connections; handles = h.handles; arrivals = h.arrivals; due = h.due; log = h.log }
 
 -- a queue of the list is the one of its name
 entry_found : (qs : List Queue) → AreNamed qs → (q : Queue) → Mem q qs → queue_in q.name qs ≡ q

@@ -56,6 +56,7 @@ abbrev pub IsKeptValue : Bool → Key → List ℕ → Type 0
 IsKeptValue true key value = value ≡ key_text key
 IsKeptValue false key value = (length value ≤ 264) × (list_all is_no_end value ≡ true)
 
+-- one of an object that may keep these keywords
 pub record IsKeptText (most : List Key) (k : KeptAttribute) : Type 0 where
   pub key : Key
   pub known : Mem key most
@@ -107,20 +108,23 @@ pub record IsProcessText (q : Process) : Type 0 where
   pub user_data : (length q.user_data ≤ 128) × (list_all is_no_end q.user_data ≡ true)
   pub kept_are : AreKeptTexts (kept_keys kinds.Process) q.kept
 
--- CHANNEL
+-- CHANNEL of a sender
 pub record IsSenderText (b r w : ℕ) (x : List ℕ) : Type 0 where
   pub batch : (1 ≤ b) × (b ≤ 9999)
   pub wrap : (100 ≤ w) × (w ≤ 999999999)
   pub retry : r ≤ 999999999
   pub xmitq : IsName 48 x
 
+-- of a receiver
 pub record IsReceiverText (w : ℕ) : Type 0 where
   pub wrap : (100 ≤ w) × (w ≤ 999999999)
 
+-- of either kind
 abbrev pub IsKindText : ChannelKind → ℕ → Type 0
 IsKindText (channels.Sender batch retry xmitq) wrap = IsSenderText batch retry wrap xmitq
 IsKindText (channels.Receiver dead) wrap = IsReceiverText wrap
 
+-- with what both have
 pub record IsChannelText (c : Channel) : Type 0 where
   pub name : IsName 20 c.name
   pub some : 0 < length c.name
@@ -172,9 +176,11 @@ MakesText r = Unit {0}
 
 -- ---- settings, and commands that give them
 
+-- a text on one line, no longer than most
 abbrev pub IsOneLine : ℕ → List ℕ → Type 0
 IsOneLine most text = (length text ≤ most) × (list_all is_no_end text ≡ true)
 
+-- MAXMSGL
 abbrev pub IsLengthText : Kind → ℕ → Type 0
 IsLengthText kinds.Manager n = (32768 ≤ n) × (n ≤ 4194304)
 IsLengthText _ n = n ≤ 4194304
@@ -224,11 +230,12 @@ IsCommandText (commands.AlterManager a) = AllByRecursion (IsSettingText kinds.Ma
 IsCommandText (commands.Delete d) = IsSubject d.subject
 IsCommandText (commands.Display d) = Unit {0}
 
--- each change of objects that a call writes is one
+-- what is forced, if anything, is such a one
 abbrev pub IsMade : Option LogRecord → Type 0
 IsMade None = Unit {0}
 IsMade (Some r) = MakesText r
 
+-- of all parts of a call
 abbrev pub StepMakes : {F T : Type 0} → Step F T → Type 0
 StepMakes (Refuse reason) = Unit {0}
 StepMakes (Do reply parts) = AllByRecursion (λ (part : Part). IsMade part.forced) parts

@@ -74,7 +74,7 @@ ghost use Rattle.mq_spec_log.specs.Records.{doing};
 ghost use Rattle.mq_spec_log.specs.Texts.{change_in, gives_all};
 ghost use Rattle.mq_law_log.specs.Keeps.{Keeps};
 ghost use Rattle.mq_law_log.specs.Restarts.{IsGivenIn, IsHarmless};
-ghost use Rattle.mq_law_manager.specs.Facts.{AreNamed, IsSound, Mem};
+ghost use Rattle.mq_law_manager.specs.Facts.{AreNamed, IsFrozen, IsSound, Mem};
 ghost use Rattle.mq_law_image.specs.Bounds.{AreSessionsAtMost, HaveArrived, IsBounded, new_session, noted_growth, part_growth, restart_growth, session_of, step_growth};
 ghost use Rattle.mq_law_image.specs.Laid.{AreWritten, CanDefine, IsSubject, Written, alter_bits, clauses_of, define_bits, settings_of, text_of};
 ghost use Rattle.mq_law_image.specs.Tells.{Tells, TellsDown};
@@ -121,9 +121,12 @@ pub fn counters_rise_by_what_is_done()
     ensures stops { (most : ℕ) (p : Plain) → IsBounded most p → IsBounded most (stop p).next }
     ensures restarts { (most : ℕ) (kept : Bool) (started starts : ℕ) (noted : Option Noted) (p : Plain) → p.running ≡ Down noted starts → started ≤ starts → HaveArrived p → IsBounded most p → IsBounded (most + restart_growth kept started noted p) (restarted kept started noted p) }
     ensures fails { (most : ℕ) (fault : RestartFault) (in_write : Bool) (left : ℕ) (noted : Option Noted) (starts : ℕ) (p : Plain) → p.running ≡ Down noted starts → IsBounded most p → IsBounded (most + 1) (failed fault in_write left noted starts p).next }
+    ensures cuts { (most k : ℕ) (p : Plain) → IsBounded most p → IsBounded most (cut k p) }
+    ensures clock { (most by : ℕ) (p : Plain) → IsBounded most p → IsBounded most (advance_clock by p) }
     ensures within { (most : ℕ) (kept : Bool) (started starts : ℕ) (noted : Option Noted) (p : Plain) → p.running ≡ Down noted starts → started ≤ starts → IsBounded most p → most + noted_growth kept noted + 1 < 2 ^ 61 → is_in_bounds Later (next_started started (redone_if kept noted p)) ≡ true }
     ensures at_most { (most : ℕ) (p : Plain) → AreNamed p.queues → IsBounded most p → AreAtMost most p }
     ensures arrived { (p : Plain) → IsSound p → HaveArrived p }
+    ensures rests { (p : Plain) → IsFrozen p → HaveArrived p }
     ensures arrives { (c : Change) (p : Plain) → HaveArrived p → HaveArrived (apply c p) }
 {}
 
