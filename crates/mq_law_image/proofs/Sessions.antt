@@ -7,7 +7,8 @@ use Rattle.mq_sync.specs.declared.unit.Settle.{Settle}
 use Rattle.mq_sync.specs.declared.unit.Settle.TheVariants.{Commit, Backout}
 use Rattle.mq_sync.specs.declared.data.SenderData.{SenderData}
 use Rattle.mq_sync.specs.declared.data.End.TheVariants as ends
-use Rattle.mq_sync.specs.Settlement.{data_prepared, data_settled}
+use Rattle.mq_sync.specs.Settlement.{sender_or, data_prepared, data_settled}
+use Rattle.mq_spec_state.specs.Reads.{sender_data}
 use Rattle.mq_message.specs.declared.message.Ident.{Ident}
 use Rattle.mq_calls.specs.declared.records.Add.{Add}
 use Rattle.mq_calls.specs.declared.records.Remove.{Remove}
@@ -133,3 +134,10 @@ from_sessions g place (body ∷ bodies) i j e h =
 pub first_sessions : (g : Given) (bodies : List (List ℕ)) (i : Image) → image g First bodies ≡ Ok i → AreSessionsAtMost (2 ^ 60) i.senders
 first_sessions g bodies i e = bool_case (begins bodies) (λ b. (if b then image_from g First 0 bodies empty_image else Err 0) ≡ Ok i → AreSessionsAtMost (2 ^ 60) i.senders)
     (λ z f. from_sessions g 0 bodies empty_image i f (λ s m. absurd m)) (λ z f. absurd cc) e
+
+-- the session behind the one that a sender has
+pub next_session : (most : ℕ) (channel : List ℕ) (p : Plain) → AreSessionsAtMost most p.channels.senders → (sender_or (sender_data channel p)).session + 1 ≤ most + 1
+next_session most channel p h = one_more (sender_or (sender_data channel p)).session most (at_most most channel (lasting p) h)
+  where
+    one_more : (a b : ℕ) → a ≤ b → a + 1 ≤ b + 1
+    one_more a b le = omega (arith, le)

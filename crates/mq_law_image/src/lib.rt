@@ -42,7 +42,9 @@ ghost use Rattle.mq_sc_grammar.specs.Commands.{AreSingle, Says};
 ghost use Rattle.mq_record.specs.declared.record.Operation.{Operation};
 ghost use Rattle.mq_record.specs.declared.record.Operation.TheVariants.{Delete, Set};
 ghost use Rattle.mq_record.specs.Records.{IsRecord, operation_of, record_bytes};
+ghost use Rattle.mq_sync.specs.Settlement.{sender_or};
 ghost use Rattle.mq_sync.specs.declared.unit.Unit.{Unit as Luw};
+ghost use Rattle.mq_spec_state.specs.Reads.{sender_data};
 ghost use Rattle.mq_calls.specs.declared.answers.Hconn.{Hconn};
 ghost use Rattle.mq_calls.specs.declared.answers.Hobj.{Hobj};
 ghost use Rattle.mq_calls.specs.declared.answers.Open.{Open};
@@ -189,6 +191,7 @@ pub fn sessions_rise_by_their_records()
     ensures parts { (most : ℕ) (part : Part) (p : Plain) → Keeps part p → session_of part.forced ≤ most → AreSessionsAtMost most p.channels.senders → AreSessionsAtMost most (do_part part p).channels.senders }
     ensures found { (most : ℕ) (part : Part) (r : LogRecord) (left : ℕ) (p : Plain) → part.forced ≡ Some r → IsHarmless part p → new_session r ≤ most → AreSessionsAtMost most p.channels.senders → AreSessionsAtMost most (redone_if true (note_of part part.forced) (freeze (note_of part part.forced) left p)).channels.senders }
     ensures more { (most higher : ℕ) (sides : List SenderSide) → most ≤ higher → AreSessionsAtMost most sides → AreSessionsAtMost higher sides }
+    ensures next { (most : ℕ) (channel : List ℕ) (p : Plain) → AreSessionsAtMost most p.channels.senders → (sender_or (sender_data channel p)).session + 1 ≤ most + 1 }
     ensures within { (most session : ℕ) (channel partner : List ℕ) → session ≤ most → most < 2 ^ 61 → is_in_bounds Later (records.Session channel partner session) ≡ true }
 {}
 
