@@ -2,4 +2,5 @@ pub mod LimitLaws
 pub mod GetLimit
 pub mod BatchLaws
 pub mod WellLaws
+pub mod CommandLaws
 pub mod TellLaws

@@ -2,6 +2,7 @@
 #![tactic(auto)]
 
 mod laws;
+mod limit;
 mod manager;
 
 pub use laws::a_call_keeps_what_the_log_tells;

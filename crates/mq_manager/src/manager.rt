@@ -2,19 +2,25 @@
 ghost use Rattle.std.specs.Prelude.{◌≡◌, []};
 ghost use Rattle.mq_spec_state.specs.Words.{Meets, MeetsInRoom, AreLow, is_up};
 ghost use Rattle.mq_core.specs.Values.{WritesLog, manager_of};
+ghost use Rattle.mq_spec_state.specs.Words.{MeetsOrWants};
+ghost use Rattle.mq_spec_manager.specs.Commands.{command};
 ghost use Rattle.mq_spec_manager.specs.Stops.{advance_clock, cut, stop};
 ghost use Rattle.mq_spec_manager.specs.Triggers.{trigger_turn};
 ghost use Rattle.mq_steer.specs.Quiet.{quietly, Comes};
 ghost use Rattle.mq_steer.specs.Turns.{halted};
 ghost use Rattle.mq_spec_manager.specs.Words.{mqconn, mqopen, mqclose, mqput, mqput1, mqget, mqcmit, mqback, mqdisc};
 
+use crate::limit::command_that_fits;
 use mq_base::NoMemory;
-use mq_calls::{Answer, Appl, Delta, Get, GetAnswer, Halt, Hconn, Hobj, Open, Sent};
+use mq_calls::{
+    Answer, Appl, Delta, Get, GetAnswer, Halt, Hconn, Hobj, Open, ScRefusal, Sent, Shown,
+};
 use mq_codes::Reason;
 use mq_core::Core;
 use mq_disk::Disk;
 use mq_message::Md;
 use mq_name::QName;
+use mq_objects::{Command, Defs};
 use std::marker::Model;
 
 /// One queue manager. Contracts see it as the plain manager, what its last call did, what stopped
@@ -41,6 +47,27 @@ impl<D: Disk> Manager<D> {
         ensures { result ≡ is_up self.now.plain.running }
     {
         self.core.is_up()
+    }
+
+    /// The moment, in milliseconds since 1970. It takes no memory.
+    pub fn moment(&self) -> u64
+        ensures { result ≡ self.now.plain.moment }
+    {
+        self.core.parts.moment
+    }
+
+    /// The definitions. It takes no memory.
+    pub fn defs(&self) -> &Defs
+        ensures { result.now.definitions ≡ self.now.plain.definitions }
+    {
+        &self.core.parts.defs
+    }
+
+    /// The k of the cut that is armed: the k-th device call from now on is to be stopped; with 0 none is. It takes no memory.
+    pub fn armed(&self) -> u32
+        ensures { result ≡ self.now.plain.log.armed }
+    {
+        self.core.parts.log.armed()
     }
 
     /// MQCONN (MQI reference).
@@ -159,6 +186,20 @@ impl<D: Disk> Manager<D> {
         ensures told { WritesLog self.old (trigger_turn self.old.plain) (halted result) self.new }
     {
         mq_steer::trigger_turn(&mut self.core)
+    }
+
+    /// Does one MQSC command on objects. The lines are none but for DISPLAY.
+    ///
+    /// # Errors
+    ///
+    /// The first that applies of `Down`, `Exists`, `Missing`, `BadValue` with the first such keyword, `InUse`, `NotEmpty`
+    /// (IBM MQ: MQSC reference); no memory, and nothing has changed: also where ALTER QMGR gives a MAXMSGL above 4,194,304,
+    /// which no record keeps and no reader of commands gives; a forced write that was stopped, which takes the manager down.
+    pub fn command(&mut self, asked: &Command) -> Result<Shown, Halt<ScRefusal>>
+        ensures meets { MeetsOrWants (manager_of self.old) (command asked.now self.old.plain) result (manager_of self.new) }
+        ensures told { WritesLog self.old (command asked.now self.old.plain) result self.new }
+    {
+        command_that_fits(&mut self.core, asked)
     }
 
     /// The moment is later by so many milliseconds, but never past the last one that there is. It takes no memory.
