@@ -1,5 +1,5 @@
 -- A command that fits leaves MAXMSGL of the manager within what a record keeps.
-use Rattle.std.proofs.Common.{◌≡◌, ◌≤◌, ℕ, Bool, true, false, List, [], ◌∷◌, refl, ap, sym, subst, absurd}
+use Rattle.std.proofs.Common.{◌≡◌, ◌≤◌, ℕ, Bool, true, false, List, [], ◌∷◌, refl, ap, sym, subst}
 use Rattle.std.specs.Prelude.{Option, Some, None, Result, Ok, Err, not, ◌&&◌, ◌||◌, ◌++◌, nat_le, if◌then◌else◌}
 use Rattle.std.specs.List.{list_all}
 use Rattle.std.proofs.lemmas.Bool.{leb-true}
@@ -61,11 +61,8 @@ fits_one _ m f h = h
 
 fits_all : (ss : List Setting) (m : ManagerAttributes) → list_all setting_fits ss ≡ true → m.max_message_length ≤ 4194304 → (set_all_manager ss m).max_message_length ≤ 4194304
 fits_all [] m f h = h
-fits_all (s ∷ ss) m f h = by (setting_fits s) refl f
-  where
-    by : (b : Bool) → setting_fits s ≡ b → (b && list_all setting_fits ss) ≡ true → (set_all_manager ss (set_manager s m)).max_message_length ≤ 4194304
-    by true e g = fits_all ss (set_manager s m) g (fits_one s m e h)
-    by false e g = absurd cc
+fits_all (s ∷ ss) m f h = bool_case (setting_fits s) (λ b. setting_fits s ≡ b → (b && list_all setting_fits ss) ≡ true → (set_all_manager ss (set_manager s m)).max_message_length ≤ 4194304)
+    (λ z e g. fits_all ss (set_manager s m) g (fits_one s m e h)) (λ z e g. absurd cc) refl f
 
 -- what is planned
 ChangeFits : ObjectChange → Type 0

@@ -19,11 +19,11 @@ use Rattle.mq_law_manager.proofs.Stocks.{live_on, open_on, tested_on, going}
 use Rattle.mq_manager.specs.Facts.{HasLimit}
 
 -- a change that is none of objects
-pub IsSteady : Change → Type 0
+unfoldable pub IsSteady : Change → Type 0
 IsSteady (ChangeObjects change) = ⊥
 IsSteady _ = Unit {0}
 
-pub AllSteady : List Change → Type 0
+unfoldable pub AllSteady : List Change → Type 0
 AllSteady [] = Unit {0}
 AllSteady (c ∷ cs) = IsSteady c × AllSteady cs
 
