@@ -4,3 +4,4 @@ pub mod BatchLaws
 pub mod WellLaws
 pub mod CommandLaws
 pub mod TellLaws
+pub mod AgentLaws
