@@ -9,6 +9,7 @@ ghost use Rattle.mq_spec_manager.specs.Triggers.{trigger_turn};
 ghost use Rattle.mq_spec_agents.specs.Words.{IsUp, IsSenderHere, HasSeized, HasBatch, CanHold, CanPrepare, CanHarden, HasFreeRow, kept, stock, batch_row, next_row, seize, leave, set_bound, expire, hold_batch, release_batch, prepare, harden, discard};
 ghost use Rattle.mq_agents.specs.Ends.{by_agent, by_memory, by_seize, by_prepare, kept_of, place_and_message};
 ghost use Rattle.mq_steer.specs.Quiet.{quietly, Comes};
+ghost use Rattle.mq_manager.specs.Due.{next_due};
 ghost use Rattle.mq_steer.specs.Turns.{halted};
 ghost use Rattle.mq_spec_manager.specs.Words.{mqconn, mqopen, mqclose, mqput, mqput1, mqget, mqcmit, mqback, mqdisc};
 
@@ -179,6 +180,14 @@ impl<D: Disk> Manager<D> {
         ensures told { WritesLog self.old (mqdisc hc self.old.plain) result self.new }
     {
         mq_ends::mqdisc(&mut self.core, hc)
+    }
+
+    /// The queue whose trigger is served next: the first, in order of definition, with one due; none at a manager that is down.
+    /// It takes no memory.
+    pub fn next_due(&self) -> Option<QName>
+        ensures { result ≡ next_due self.now.plain }
+    {
+        mq_steer::next_due(&self.core)
     }
 
     /// The trigger of the first queue, in order of definition, that has one due is served: false exactly where none is.
