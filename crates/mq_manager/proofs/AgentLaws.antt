@@ -1,16 +1,19 @@
 -- What holds of a manager between its calls is kept by the calls of channel ends and of the handler.
 use Rattle.std.proofs.Common.{ℕ, Bool, true, false, List, [], ◌∷◌}
-use Rattle.std.specs.Prelude.{Option, Some, None, Result, filter}
+use Rattle.std.specs.Prelude.{Option, Some, None, Result, filter, not, ◌||◌}
 use Rattle.mq_calls.specs.declared.agents.Note.{Note}
 use Rattle.mq_calls.specs.declared.agents.Note.TheVariants as notes
+use Rattle.mq_calls.specs.declared.agents.SeizeFault.TheVariants as seize_faults
+use Rattle.mq_calls.specs.declared.agents.PrepareFault.TheVariants as prepare_faults
+use Rattle.mq_calls.specs.declared.deltas.Did.TheVariants as did
 use Rattle.mq_calls.specs.declared.deltas.Why.TheVariants as whys
 use Rattle.mq_message.specs.declared.message.Ident.{Ident}
 use Rattle.mq_sync.specs.declared.data.End.TheVariants as ends
-use Rattle.mq_spec_state.specs.Words.{Batch, Luw, Halt, Plain, Step, ManagerValue, Wants, MeetsAs, MeetsOrWants, MeetsInRoom, SeizeFault, PrepareFault, silent, batch_of, has_ident, stored}
+use Rattle.mq_spec_state.specs.Words.{Batch, Luw, Halt, Plain, Step, ManagerValue, Wants, MeetsAs, MeetsOrWants, MeetsInRoom, SeizeFault, PrepareFault, Do, silent, when, local_of, channel_of, batch_of, sender_data, sender_or, is_full, need, is_open_for_input, has_held_by_other, has_ident, stored}
 use Rattle.mq_spec_state.specs.Meeting.Wants.{Nowhere, Anywhere}
-use Rattle.mq_spec_state.specs.State.Change.{SetBound}
-use Rattle.mq_spec_manager.specs.Words.{Never}
-use Rattle.mq_spec_agents.specs.Words.{IsUp, CanHold, CanHarden, HasFreeRow, seize, leave, set_bound, expire, queue_of_sender, expired_rows, hold_batch, release_of, release_batch, prepare_of, prepare, harden, discard}
+use Rattle.mq_spec_state.specs.State.Change.{Seize, SetBound}
+use Rattle.mq_spec_manager.specs.Words.{Never, is_transmission_queue}
+use Rattle.mq_spec_agents.specs.Words.{IsUp, CanHold, CanHarden, HasFreeRow, seize, leave, set_bound, expire, queue_of_sender, expired_rows, channel_queue, hold_batch, release_of, release_batch, prepared_record, prepared_changes, prepare_of, prepare, harden, discard}
 use Rattle.mq_law_manager.specs.Facts.{IsSound}
 use Rattle.mq_law_manager.specs.Kept.{StepKeeps}
 use Rattle.mq_law_manager.proofs.Ending.{joined}
@@ -30,7 +33,10 @@ well_at wants v new step result m w up keeps limit = well_after wants v new step
 
 -- MAXMSGL stays
 seize_limit : (channel : List ℕ) (p : Plain) → HasLimit p → StepKeeps HasLimit (seize channel p) p
-seize_limit channel p h = tested_on HasLimit _ _ p (λ e. (h, tt))
+seize_limit channel p h =
+    let queue = channel_queue (channel_of channel p.definitions) in
+    tested_on HasLimit (when (not (is_transmission_queue (local_of queue p.definitions))) seize_faults.BadQueue ∷ when (is_open_for_input queue p || has_held_by_other channel queue p) seize_faults.QueueInUse ∷ [])
+    (Do tt (silent (Seize (record { channel = channel; queue = queue }) ∷ []) ∷ [])) p (λ e. (h, tt))
 
 bound_limit : (channel : List ℕ) (b : Bool) (p : Plain) → HasLimit p → StepKeeps HasLimit (set_bound channel b p) p
 unfolding AllSteady IsSteady
@@ -42,7 +48,8 @@ release_limit channel (Some b) p h = (h, tt)
 
 prepare_limit : (channel : List ℕ) (last : ℕ) (o : Option Batch) (p : Plain) → HasLimit p → StepKeeps HasLimit (prepare_of channel last o p) p
 prepare_limit channel last None p h = tt
-prepare_limit channel last (Some b) p h = tested_on HasLimit _ _ p (λ e. (h, tt))
+prepare_limit channel last (Some b) p h = tested_on HasLimit (when (is_full (need (prepared_record channel last b)) p) prepare_faults.NoRoom ∷ [])
+    (Do tt (record { forced = Some (prepared_record channel last b); changes = prepared_changes channel last b (sender_or (sender_data channel p)); delta = did.Prepared channel b.unit ∷ [] } ∷ [])) p (λ e. (h, tt))
 
 harden_limit : (channel : List ℕ) (note : Note) (p : Plain) → HasLimit p → StepKeeps HasLimit (harden channel note p) p
 harden_limit channel (notes.Session partner session) p h = (h, tt)
