@@ -1,6 +1,8 @@
 -- How the ledger of a story begins.
-use Rattle.std.specs.Prelude.{ℕ, ◌≡◌, false, List, [], ◌∷◌, ◌++◌, None, map}
+use Rattle.std.specs.Prelude.{ℕ, ◌≡◌, Bool, true, false, List, [], ◌∷◌, ◌++◌, None, map}
 use Rattle.std.specs.List.{list_any}
+use Rattle.mq_calls.specs.declared.commands.ScRefusal.{ScRefusal}
+use Rattle.mq_calls.specs.declared.commands.ScRefusal.TheVariants as refusals
 use Rattle.mq_objects.specs.declared.object.Object.{Object}
 use Rattle.mq_objects.specs.Names.{is_object, space_of, name_of}
 use Rattle.mq_history.specs.declared.history.History.{History}
@@ -20,3 +22,15 @@ opened places hs = record {
   gone = [];
   got = [];
 }
+
+-- a command was refused for want of memory
+abbrev pub is_memory : ScRefusal → Bool
+is_memory refusals.NoMemory = true
+is_memory refusals.Down = false
+is_memory refusals.Exists = false
+is_memory refusals.Missing = false
+is_memory (refusals.BadValue keyword) = false
+is_memory refusals.InUse = false
+is_memory refusals.NotEmpty = false
+is_memory refusals.Disk = false
+is_memory refusals.Cut = false

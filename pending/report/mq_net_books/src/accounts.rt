@@ -1,5 +1,5 @@
 //! What stands at one manager.
-ghost use Rattle.std.specs.Prelude.{◌≡◌, [], ◌≤◌, ◌<◌, ◌++◌, drop, length, IfOk, OnOk, OnErr, option_copied, not, false};
+ghost use Rattle.std.specs.Prelude.{◌≡◌, [], ◌∷◌, ◌≤◌, ◌++◌, IfOk, OnOk, option_copied, not, false};
 ghost use Rattle.std.specs.List.{list_any};
 ghost use Rattle.mq_calls.specs.declared.image.Shelf.{Shelf};
 ghost use Rattle.mq_queue.specs.declared.row.Row.{Row};
@@ -11,9 +11,9 @@ ghost use Rattle.mq_spec_manager.specs.Stops.{last_moment};
 ghost use Rattle.mq_spec_manager.specs.Put.{message_put};
 ghost use Rattle.mq_fill.specs.Drafts.{message_of};
 ghost use Rattle.mq_spec_state.specs.Changes.{lane_of};
-ghost use Rattle.mq_objects.specs.Names.{local_of, process_of};
+ghost use Rattle.mq_objects.specs.Names.{local_of, process_of, is_object, space_of, name_of};
 ghost use Rattle.mq_spec_network.specs.Ledger.{place_at, leave_queues, is_one_of, is_placed_at, row_in, nobody};
-ghost use Rattle.mq_net_books.specs.Openings.{AreNewFrom};
+ghost use Rattle.mq_net_books.specs.Openings.{AreNewFrom, is_memory};
 
 use crate::no_use::NoUse;
 use crate::rows::{leave_ident, leave_idents, leave_lasting, put_in, row_in};
@@ -47,6 +47,21 @@ impl Model for Account {
     ghost view = { λ a. record { name = a.name; definitions = a.defs.definitions; queues = a.queues } };
 }
 
+/// An object stands last, where none has its name.
+#[tactic(auto, using(crate::proofs::ObjectLaws::set_new))]
+fn add_object(alloc: Global, defs: &mut Defs, object: &Object) -> Result<(), NoMemory>
+    requires { list_any (is_object (space_of object.now) (name_of object.now)) defs.old.definitions.objects ≡ false }
+    ensures { OnOk result (defs.new.definitions ≡ record { objects = defs.old.definitions.objects ++ object.now ∷ []; manager = defs.old.definitions.manager }) }
+{
+    let object = object.try_clone(alloc)?;
+    match defs.reserve() {
+        Ok(()) => {}
+        Err(_) => return Err(NoMemory),
+    }
+    defs.set(object);
+    Ok(())
+}
+
 /// The definitions, found by name.
 fn defs_of(alloc: Global, definitions: &Definitions) -> Result<Defs, NoMemory>
     requires { AreNewFrom [] definitions.now.objects }
@@ -54,12 +69,8 @@ fn defs_of(alloc: Global, definitions: &Definitions) -> Result<Defs, NoMemory>
 {
     let mut defs = Defs::new(alloc);
     defs.set_manager(definitions.manager.try_clone(alloc)?);
-    for object in definitions.objects.as_slice() {
-        let object = object.try_clone(alloc)?;
-        if defs.reserve().is_err() {
-            return Err(NoMemory);
-        }
-        defs.set(object);
+    'filling: for object in definitions.objects.as_slice() {
+        add_object(alloc, &mut defs, object)?;
     }
     Ok(defs)
 }
@@ -85,6 +96,16 @@ fn copy_definitions(alloc: Global, defs: &Defs) -> Result<Definitions, NoMemory>
         objects: copy_objects(alloc, defs.slots())?,
         manager: defs.manager().try_clone(alloc)?,
     })
+}
+
+/// Whether a command was refused for want of memory.
+fn is_memory(refusal: &ScRefusal) -> bool
+    ensures { result ≡ is_memory refusal.now }
+{
+    match refusal {
+        ScRefusal::NoMemory => true,
+        _ => false,
+    }
 }
 
 /// The lane of a message on a queue, there or not.
@@ -241,12 +262,19 @@ impl Account {
     }
 
     /// A command on objects changes the definitions.
+    #[tactic(auto, using(crate::proofs::ObjectLaws::refused_stays))]
     pub fn obey(&mut self, alloc: Global, command: &Command) -> Result<(), NoMemory>
         ensures { OnOk result (self.new ≡ record self.old { definitions = definitions_after command.now self.old.definitions }) }
     {
         match apply(alloc, &mut self.defs, &QName::blank(), command, &NoUse) {
-            Err(ScRefusal::NoMemory) => Err(NoMemory),
-            _ => Ok(()),
+            Ok(_) => Ok(()),
+            Err(refusal) => {
+                if is_memory(&refusal) {
+                    Err(NoMemory)
+                } else {
+                    Ok(())
+                }
+            }
         }
     }
 }

@@ -257,7 +257,7 @@ impl<'a> Books<'a> {
     }
 
     /// A message is placed on a queue of a manager.
-    #[tactic(auto, using(crate::proofs::BookLaws::changed_at, crate::proofs::BookLaws::changed_far))]
+    #[tactic(auto, using(crate::proofs::BookLaws::changed, crate::proofs::BookLaws::get_far))]
     pub fn place(
         &mut self,
         alloc: Global,
@@ -275,7 +275,7 @@ impl<'a> Books<'a> {
     }
 
     /// No row of an ident stays at a manager.
-    #[tactic(auto, using(crate::proofs::BookLaws::changed_at, crate::proofs::BookLaws::changed_far))]
+    #[tactic(auto, using(crate::proofs::BookLaws::changed, crate::proofs::BookLaws::get_far))]
     pub fn take_from(&mut self, alloc: Global, m: usize, ident: &Ident)
         ensures { self.new ≡ take_from m ident.now self.old }
     {
@@ -323,7 +323,7 @@ impl<'a> Books<'a> {
     }
 
     /// Nonpersistent rows of a manager go.
-    #[tactic(auto, using(crate::proofs::BookLaws::changed_at, crate::proofs::BookLaws::changed_far))]
+    #[tactic(auto, using(crate::proofs::BookLaws::changed, crate::proofs::BookLaws::get_far))]
     pub fn lose(&mut self, alloc: Global, m: usize)
         ensures { self.new ≡ lose m self.old }
     {
@@ -333,7 +333,7 @@ impl<'a> Books<'a> {
     }
 
     /// A command on objects changes the definitions of a manager.
-    #[tactic(auto, using(crate::proofs::BookLaws::changed_at, crate::proofs::BookLaws::changed_far))]
+    #[tactic(auto, using(crate::proofs::BookLaws::changed, crate::proofs::BookLaws::get_far))]
     pub fn obey_objects(
         &mut self,
         alloc: Global,
@@ -381,7 +381,7 @@ impl<'a> Books<'a> {
     }
 
     /// Connections of a manager.
-    #[tactic(auto, using(crate::proofs::BookLaws::changed_at, crate::proofs::BookLaws::changed_far))]
+    #[tactic(auto, using(crate::proofs::BookLaws::changed, crate::proofs::BookLaws::get_far))]
     pub fn connect(
         &mut self,
         alloc: Global,
@@ -399,7 +399,7 @@ impl<'a> Books<'a> {
     }
 
     /// A connection goes.
-    #[tactic(auto, using(crate::proofs::BookLaws::changed_at, crate::proofs::BookLaws::changed_far))]
+    #[tactic(auto, using(crate::proofs::BookLaws::changed, crate::proofs::BookLaws::get_far))]
     pub fn disconnect(&mut self, alloc: Global, m: usize, hc: &Hconn)
         ensures { self.new ≡ disconnect m hc.now self.old }
     {
@@ -409,7 +409,7 @@ impl<'a> Books<'a> {
     }
 
     /// A handle more of a connection, which leads by a route.
-    #[tactic(auto, using(crate::proofs::BookLaws::changed_at, crate::proofs::BookLaws::changed_far))]
+    #[tactic(auto, using(crate::proofs::BookLaws::changed, crate::proofs::BookLaws::get_far))]
     pub fn open(
         &mut self,
         m: usize,
@@ -428,7 +428,7 @@ impl<'a> Books<'a> {
     }
 
     /// A handle of a connection goes.
-    #[tactic(auto, using(crate::proofs::BookLaws::changed_at, crate::proofs::BookLaws::changed_far))]
+    #[tactic(auto, using(crate::proofs::BookLaws::changed, crate::proofs::BookLaws::get_far))]
     pub fn close(&mut self, alloc: Global, m: usize, hc: &Hconn, ho: &Hobj)
         ensures { self.new ≡ on_connection m hc.now (close ho.now) self.old }
     {
@@ -438,7 +438,7 @@ impl<'a> Books<'a> {
     }
 
     /// An item joins the unit of a connection.
-    #[tactic(auto, using(crate::proofs::BookLaws::changed_at, crate::proofs::BookLaws::changed_far))]
+    #[tactic(auto, using(crate::proofs::BookLaws::changed, crate::proofs::BookLaws::get_far))]
     pub fn pend(&mut self, m: usize, hc: &Hconn, item: Item) -> Result<(), NoMemory>
         ensures { OnOk result (self.new ≡ pend m hc.now item self.old) }
     {
@@ -450,7 +450,7 @@ impl<'a> Books<'a> {
     }
 
     /// The unit of a connection ends: what was in it.
-    #[tactic(auto, using(crate::proofs::BookLaws::changed_at, crate::proofs::BookLaws::changed_far, crate::proofs::BookLaws::unit_there, crate::proofs::BookLaws::unit_far))]
+    #[tactic(auto, using(crate::proofs::BookLaws::changed, crate::proofs::BookLaws::get_far, crate::proofs::BookLaws::unit_there, crate::proofs::BookLaws::unit_far))]
     pub fn end_unit(&mut self, alloc: Global, m: usize, hc: &Hconn) -> Items<Item>
         ensures unit { result ≡ unit_of (connection_of m hc.now self.old) }
         ensures left { self.new ≡ back_out m hc.now self.old }
@@ -463,7 +463,7 @@ impl<'a> Books<'a> {
     }
 
     /// No connection stays.
-    #[tactic(auto, using(crate::proofs::BookLaws::changed_at, crate::proofs::BookLaws::changed_far))]
+    #[tactic(auto, using(crate::proofs::BookLaws::changed, crate::proofs::BookLaws::get_far))]
     pub fn leave_connections(&mut self, m: usize)
         ensures { self.new ≡ with_users m (λ u. record u { connections = [] }) self.old }
     {
@@ -473,7 +473,7 @@ impl<'a> Books<'a> {
     }
 
     /// The moment of a manager is set.
-    #[tactic(auto, using(crate::proofs::BookLaws::changed_at, crate::proofs::BookLaws::changed_far))]
+    #[tactic(auto, using(crate::proofs::BookLaws::changed, crate::proofs::BookLaws::get_far))]
     pub fn set_moment(&mut self, m: usize, moment: u64)
         requires { moment ≤ last_moment }
         ensures { self.new ≡ at_moment m moment self.old }
@@ -484,7 +484,7 @@ impl<'a> Books<'a> {
     }
 
     /// The moment of a manager advances, up to the last that a clock shows.
-    #[tactic(auto, using(crate::proofs::BookLaws::changed_at, crate::proofs::BookLaws::changed_far))]
+    #[tactic(auto, using(crate::proofs::BookLaws::changed, crate::proofs::BookLaws::get_far))]
     pub fn advance(&mut self, m: usize, by: u64)
         ensures { self.new ≡ with_users m (λ u. record u { moment = min (u.moment + by) last_moment }) self.old }
     {
@@ -494,7 +494,7 @@ impl<'a> Books<'a> {
     }
 
     /// The write of an entry's call was stopped.
-    #[tactic(auto, using(crate::proofs::BookLaws::changed_at, crate::proofs::BookLaws::changed_far))]
+    #[tactic(auto, using(crate::proofs::BookLaws::changed, crate::proofs::BookLaws::get_far))]
     pub fn halt(&mut self, m: usize, entry: &'a Entry)
         ensures { self.new ≡ with_users m (λ u. record u { cut = Some (record { entry = entry.now; moment = u.moment }) }) self.old }
     {
@@ -515,7 +515,7 @@ impl<'a> Books<'a> {
     }
 
     /// No write is stopped any more.
-    #[tactic(auto, using(crate::proofs::BookLaws::changed_at, crate::proofs::BookLaws::changed_far))]
+    #[tactic(auto, using(crate::proofs::BookLaws::changed, crate::proofs::BookLaws::get_far))]
     pub fn forget_halted(&mut self, m: usize)
         ensures { self.new ≡ with_users m (λ u. record u { cut = None }) self.old }
     {

@@ -90,7 +90,7 @@ fn opened(connection: &mut Connection, how: &Open, ho: &Hobj, route: Route) -> R
 }
 
 /// A connection has a handle more, which leads by a route.
-#[tactic(auto, using(crate::proofs::CallerLaws::changed_none, crate::proofs::CallerLaws::changed_at, crate::proofs::CallerLaws::within))]
+#[tactic(auto, using(crate::proofs::CallerLaws::changed_found, crate::proofs::CallerLaws::within))]
 pub fn open(
     connections: &mut Items<Connection>,
     hc: &Hconn,
@@ -121,7 +121,7 @@ fn closed(alloc: Global, connection: &mut Connection, ho: &Hobj)
 }
 
 /// A handle of a connection goes.
-#[tactic(auto, using(crate::proofs::CallerLaws::changed_none, crate::proofs::CallerLaws::changed_at, crate::proofs::CallerLaws::within))]
+#[tactic(auto, using(crate::proofs::CallerLaws::changed_found, crate::proofs::CallerLaws::within))]
 pub fn close(alloc: Global, connections: &mut Items<Connection>, hc: &Hconn, ho: &Hobj)
     ensures { connections.new ≡ change_connection hc.now.number (close ho.now) connections.old }
 {
@@ -139,7 +139,7 @@ fn pended(connection: &mut Connection, item: Item) -> Result<(), NoMemory>
 }
 
 /// An item joins the unit of a connection.
-#[tactic(auto, using(crate::proofs::CallerLaws::changed_none, crate::proofs::CallerLaws::changed_at, crate::proofs::CallerLaws::within))]
+#[tactic(auto, using(crate::proofs::CallerLaws::changed_found, crate::proofs::CallerLaws::within))]
 pub fn pend(connections: &mut Items<Connection>, hc: &Hconn, item: Item) -> Result<(), NoMemory>
     ensures { OnOk result (connections.new ≡ change_connection hc.now.number (λ (c : Connection). record c { unit = c.unit ++ item ∷ [] }) connections.old) }
 {
@@ -157,7 +157,7 @@ fn ended(alloc: Global, connection: &mut Connection) -> Items<Item>
 }
 
 /// The unit of a connection ends: what was in it.
-#[tactic(auto, using(crate::proofs::CallerLaws::changed_none, crate::proofs::CallerLaws::changed_at, crate::proofs::CallerLaws::within, crate::proofs::CallerLaws::at_none, crate::proofs::CallerLaws::at_get))]
+#[tactic(auto, using(crate::proofs::CallerLaws::changed_found, crate::proofs::CallerLaws::within, crate::proofs::CallerLaws::at_none, crate::proofs::CallerLaws::at_get))]
 pub fn end_unit(alloc: Global, connections: &mut Items<Connection>, hc: &Hconn) -> Items<Item>
     ensures unit { result ≡ unit_of (connection_at hc.now.number connections.old) }
     ensures left { connections.new ≡ change_connection hc.now.number (λ (c : Connection). record c { unit = [] }) connections.old }

@@ -4,10 +4,9 @@ ghost use Rattle.mq_calls.specs.declared.deltas.Did.{Did};
 ghost use Rattle.mq_message.specs.declared.message.Message.{Message};
 ghost use Rattle.mq_spec_manager.specs.Get.{is_destructive};
 ghost use Rattle.mq_spec_network.specs.Ledger.{put_row, put_by, put, put1, get_row, get_by, take_items, place_items, back_out, commit, first_placed, first_got, sent_ident, got_unless_left, got_ident, is_ended, is_obeyed, is_taken, take_gone, take_all_gone, moved_to, move_row, move, move_all, dead_reason, own_or, own_row, place_routed, place_received, place_list, receive, received_on, receive_if, trigger_by, trigger_for, trigger, obey, stop, stop_if, connect_if, open_if, close_if, post_call, post, cut, found, up_again, come_up, returned, posted, open_to, resolved_at, connection_of, places_at};
-ghost use Rattle.mq_net_books.specs.Openings.{Arrival, arrivals, place_arrivals};
+ghost use Rattle.mq_net_ledger.specs.Arrivals.{arrivals, place_arrivals};
 
-use crate::books::Books;
-use crate::callers;
+use crate::arrivals::Arrival;
 use crate::messages::{bare_if, copy_message, dead_message, names_of};
 use mq_base::{Items, NoMemory};
 use mq_calls::{Answer, Did, Get, Got, Hconn, Hobj, Item, Messages, Open, Return, Take, Why};
@@ -15,6 +14,7 @@ use mq_codes::Reason;
 use mq_history::{Act, Acted, Call, Chance, Entry, Reply};
 use mq_message::{Bytes, Dest, Ident, Md, Message};
 use mq_name::{ChName, QName};
+use mq_net_books::{Books, handle_at};
 use mq_resolve::{Route, RouteEnd};
 use mq_sc_parse::Command;
 use mq_trigger::trigger_message;
@@ -163,12 +163,6 @@ fn is_taken(why: Why) -> bool
     }
 }
 
-/// A message that a receiver's commit places, and the reason where it is a dead letter.
-pub struct Arrival {
-    pub message: Message,
-    pub dead: Option<Reason>,
-}
-
 /// A row is put: inside a unit it is pending, else it is placed.
 fn put_row<'a>(books: &mut Books<'a>, alloc: Global,
     sync: bool,
@@ -208,7 +202,7 @@ fn put<'a>(books: &mut Books<'a>, alloc: Global,
     let Some(ident) = ident else {
         return Ok(());
     };
-    let Some(handle) = callers::handle_at(connection.handles.as_slice(), ho.number) else {
+    let Some(handle) = handle_at(connection.handles.as_slice(), ho.number) else {
         return Ok(());
     };
     let queue = queue_at(&handle.leads);
@@ -399,8 +393,9 @@ fn arrivals<'a>(books: &Books<'a>, alloc: Global,
     let mut arrivals = Items::new(alloc);
     for message in messages {
         if books.is_admitted(message) {
-            let message = own_row(books, alloc, message)?;
+            // The reason is told by the ident that came.
             let dead = dead_reason(&message.ident, delta);
+            let message = own_row(books, alloc, message)?;
             arrivals.push(Arrival { message, dead })?;
         }
     }
