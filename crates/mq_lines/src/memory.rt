@@ -1,5 +1,5 @@
 //! What a script remembers of what it was answered: its connection, its handles, the message that it got last.
-ghost use Rattle.std.specs.Prelude.{◌≡◌, ◌<◌, ◌≤◌, [], ◌∷◌, OnOk, OnErr, filter, not};
+ghost use Rattle.std.specs.Prelude.{◌≡◌, ◌<◌, ◌≤◌, [], ◌∷◌, OnOk, OnErr, not, vec_len, vec_capacity};
 ghost use Rattle.std.specs.Str.{bytes_eq};
 ghost use Rattle.mq_spec_node.specs.Scripts.{fresh, hconn_or, hobj, hobj_in, connected, unbound, bound, closed, got, remembers};
 
@@ -63,6 +63,15 @@ fn is_other(label: &Label, bound: &Bound) -> bool
     ensures { result ≡ not (bytes_eq label.now bound.now.label) }
 {
     !(*label == bound.label)
+}
+
+/// The label is bound no more.
+fn drop_label(handles: &mut Vec<Bound>, label: &Label)
+    ensures handles { handles.new.items ≡ unbound label.now handles.old.items }
+    ensures shorter { vec_len handles.new ≤ vec_len handles.old }
+    ensures capacity { vec_capacity handles.new ≡ vec_capacity handles.old }
+{
+    handles.retain(|bound| is_other(label, bound));
 }
 
 /// The connection that was answered.
@@ -148,7 +157,7 @@ impl Memory {
         ensures memory { self.new.memory ≡ record self.old.memory { handles = unbound label.now self.old.memory.handles } }
         ensures room { self.new.room ≡ self.old.room }
     {
-        self.handles.retain(|bound| is_other(label, bound));
+        drop_label(&mut self.handles, label);
     }
 
     fn bind(&mut self, label: &Label, handle: Hobj)

@@ -1,0 +1,60 @@
+//! A stop, a cut and a clock advance, as events.
+ghost use Rattle.std.specs.Prelude.{◌≡◌, ◌<◌, ◌^◌};
+ghost use Rattle.mq_history.specs.declared.acts.Act.TheVariants as acts;
+ghost use Rattle.mq_history.specs.declared.calls.Call.TheVariants as calls;
+ghost use Rattle.mq_events.specs.Calling.{Applies};
+
+use crate::endings::Outcome;
+use crate::parts::NodeParts;
+use mq_disk::Disk;
+use mq_history::{Act, Acted, Actor, Call, Reply};
+
+impl<D: Disk> NodeParts<D> {
+    /// The manager stops, and its ends come to rest. `Waits` never comes.
+    pub fn crash(&mut self, actor: Actor) -> Outcome
+        requires stamp { self.old.stamp < 2 ^ 63 }
+        ensures { Applies actor (calls.Act acts.Crash) self.old result self.new }
+    {
+        if self.make_room().is_err() {
+            return Outcome::NoMemory;
+        }
+        let acted = if self.manager.stop() {
+            self.own.rest();
+            Acted::Done
+        } else {
+            Acted::Down
+        };
+        self.tell_act(actor, Call::Act(Act::Crash), Reply::Acted(acted));
+        Outcome::Happened
+    }
+
+    /// The k-th device call from now on is to be stopped; with 0 none is.
+    pub fn cut(&mut self, actor: Actor, k: u32) -> Outcome
+        requires stamp { self.old.stamp < 2 ^ 63 }
+        ensures { Applies actor (calls.Act (acts.Cut k)) self.old result self.new }
+    {
+        if self.make_room().is_err() {
+            return Outcome::NoMemory;
+        }
+        self.manager.cut(k);
+        self.tell_act(actor, Call::Act(Act::Cut(k)), Reply::Acted(Acted::Done));
+        Outcome::Happened
+    }
+
+    /// The moment is later by so many milliseconds, but never past the last one that there is.
+    pub fn advance_clock(&mut self, actor: Actor, by: u64) -> Outcome
+        requires stamp { self.old.stamp < 2 ^ 63 }
+        ensures { Applies actor (calls.Act (acts.Clock by)) self.old result self.new }
+    {
+        if self.make_room().is_err() {
+            return Outcome::NoMemory;
+        }
+        self.manager.advance_clock(by);
+        self.tell_act(
+            actor,
+            Call::Act(Act::Clock(by)),
+            Reply::Acted(Acted::Done),
+        );
+        Outcome::Happened
+    }
+}

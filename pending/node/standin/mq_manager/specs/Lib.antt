@@ -1,0 +1,5 @@
+pub mod Facts
+pub mod Limits
+pub mod Due
+pub mod Quiet
+pub mod Turns
