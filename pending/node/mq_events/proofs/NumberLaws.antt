@@ -1,6 +1,6 @@
 -- Of each call the part that is written is known from what was done before it; and a get that may not wait ends.
 use Rattle.std.proofs.Common.{◌≡◌, ℕ, zero, suc, Bool, true, false, List, [], ◌∷◌, ◌++◌, refl, sym, subst}
-use Rattle.std.specs.Prelude.{Option, Some, None, Result, Ok, Err, if◌then◌else◌}
+use Rattle.std.specs.Prelude.{not, Option, Some, None, Result, Ok, Err, if◌then◌else◌}
 use Rattle.mq_codes.specs.declared.reason.Reason.{Reason}
 use Rattle.mq_calls.specs.declared.answers.Answer.{Answer}
 use Rattle.mq_calls.specs.declared.answers.Answer.TheVariants as answers
@@ -27,14 +27,16 @@ use Rattle.mq_sc_apply.specs.declared.answers.Plan.{Plan}
 use Rattle.mq_sc_apply.specs.declared.answers.Plan.TheVariants as plans
 use Rattle.mq_spec_state.specs.State.{Plain}
 use Rattle.mq_spec_state.specs.State.Change.{Connect, Disconnect}
-use Rattle.mq_spec_state.specs.Reads.{handle_at}
+use Rattle.mq_spec_state.specs.Reads.{handle_at, is_up}
 use Rattle.mq_spec_state.specs.Steps.{◌>>=◌, going_on, none_of, IsWrite, Step, Part, Test, refused_or, refusal, tested, silent, when, delta_before}
 use Rattle.mq_spec_state.specs.Steps.Step.{Do, Refuse}
 use Rattle.mq_spec_manager.specs.Handles.{connected, for_connection, for_handle, mqconn, mqopen, mqclose, close_up, close_handle, new_connection, new_hconn, conn_tests, open_tests, open_step, option_tests, is_unfit}
 use Rattle.mq_spec_manager.specs.Put.{mqput, mqput1, put_up, put_handle, put_route, put1_resolved, new_message, put_tests, put_step, put_part, queue_at, output_tests, handle_route, output_only}
 use Rattle.mq_spec_manager.specs.Get.{mqget, get_up, get_handle, get_scanned, get_found, with_row, without_row, found_part, expired_parts, removal_parts, scanned, is_left, is_waiting, is_under, room_tests, get_tests}
 use Rattle.mq_spec_manager.specs.Units.{mqcmit, mqback, mqdisc, commit_part, backout_part}
-use Rattle.mq_spec_manager.specs.Commands.{command, planned_step, object_part}
+use Rattle.mq_calls.specs.declared.commands.ScRefusal.TheVariants as refusals
+use Rattle.mq_sc_apply.specs.Commands.{plan}
+use Rattle.mq_spec_manager.specs.Commands.{command, planned_step, object_part, uses_of}
 use Rattle.mq_events.specs.Endings.{part_of}
 use Rattle.mq_events.specs.Numbered.{AreNumbered, IsNumbered}
 
@@ -126,6 +128,10 @@ planned_numbered : (r : Result Plan ScRefusal) (d : Definitions) → IsNumbered 
 planned_numbered (Err refusal) d = tt
 planned_numbered (Ok (plans.Show shown)) d = no_parts
 planned_numbered (Ok (plans.Change planned)) d = one_numbered (object_part planned d)
+
+pub command_numbered : (c : Command) (p : Plain) → IsNumbered (command c p)
+command_numbered c p = tested_keeps IsNumbered (λ r. tt) (when (not (is_up p.running)) refusals.Down ∷ []) (planned_step (plan c p.given.name p.definitions (uses_of p)) p.definitions)
+    (planned_numbered (plan c p.given.name p.definitions (uses_of p)) p.definitions)
 
 -- MQGET: one that may wait has no part, and comes only where it may wait
 abbrev pub IsGet : Bool → Step Reason GetAnswer → Type 0

@@ -13,7 +13,6 @@ use Rattle.mq_spec_state.specs.Words.{Halt}
 use Rattle.mq_events.specs.declared.endings.Ended.TheVariants as endings
 use Rattle.mq_sc_parse.specs.declared.command.Command.TheVariants as commands
 use Rattle.mq_core.specs.Values.{CoreValue}
-use Rattle.mq_manager.specs.Limits.{fits}
 use Rattle.mq_spec_node.specs.Terms.{Actor, Call, Entry, GetAnswer, Reason, ScRefusal, Shown}
 use Rattle.mq_spec_node.specs.Words.{Own, Node, Deed, deed_of, node_of}
 use Rattle.mq_events.specs.declared.endings.Called.{Called}
@@ -22,7 +21,8 @@ use Rattle.mq_events.specs.declared.endings.Calling.TheVariants as callings
 use Rattle.mq_events.specs.declared.endings.Outcome.{Outcome}
 use Rattle.mq_events.specs.declared.endings.Outcome.TheVariants as outcomes
 use Rattle.mq_events.specs.Endings.{choice_of}
-use Rattle.mq_events.specs.Values.{CameOut, PartsValue, Adds, Stays, node_in}
+use Rattle.mq_events.specs.Adding.{Adds, Stays}
+use Rattle.mq_events.specs.Values.{CameOut, PartsValue, node_in}
 
 -- so the deed came out
 abbrev pub DoesAs : Called → Deed → Node → CoreValue → Type 0
@@ -56,7 +56,7 @@ command_ended (Err (halts.Stopped by)) = callings.Ended (record { ended = ending
 
 -- the calls that are the manager's alone
 abbrev pub is_managers : Call → Bool
-is_managers (calls.Act (acts.Obey (commands.Objects c))) = fits c
+is_managers (calls.Act (acts.Obey (commands.Objects c))) = true
 is_managers (calls.Act act) = false
 is_managers calls.Turn = false
 is_managers calls.Timeout = false

@@ -5,7 +5,8 @@ use Rattle.mq_history.specs.declared.calls.Call.TheVariants as calls
 use Rattle.mq_spec_node.specs.Terms.{Actor}
 use Rattle.mq_spec_node.specs.Words.{trigger_deed}
 use Rattle.mq_events.specs.Calling.{Happens}
-use Rattle.mq_events.specs.Values.{PartsValue, Stays, node_in}
+use Rattle.mq_events.specs.Adding.{Stays}
+use Rattle.mq_events.specs.Values.{PartsValue, node_in}
 
 -- one is served; none is due; or there was no memory
 abbrev pub Turns : Actor → PartsValue → Result Bool NoMemory → PartsValue → Type 0

@@ -5,7 +5,7 @@ use Rattle.mq_frame.specs.declared.frame.Seen.TheVariants as items
 use Rattle.mq_history.specs.declared.calls.Chance.TheVariants as chances
 use Rattle.mq_core.specs.Values.{CoreValue}
 use Rattle.mq_spec_node.specs.Terms.{Actor, Call, Chance, Choice, Did, Entry, History, Reply}
-use Rattle.mq_spec_node.specs.Words.{Node, Own, Deed, CanCome, Tells, done, done_by, forgotten_rows, more_entries, node_of, remembered}
+use Rattle.mq_spec_node.specs.Words.{Node, Own, Deed, CanCome, done, forgotten_rows, more_entries, node_of, remembered}
 
 -- the manager, what is beside it, its history, LOGMAX, its last stamp, and for how many entries and marks more there is room
 pub record PartsValue : Type 0 where
@@ -72,16 +72,3 @@ pub record CameOut (d : Deed) (n : Node) (choice : Choice) (reply : Reply) (new 
   pub own : (done d choice n).next.own ≡ own_after choice new.delta n.own
   pub pushed : (done d choice n).pushed ≡ None
   pub received : (done d choice n).received ≡ []
-
--- An event: its entry tells what the plain node does, and stands behind the others.
-pub record Adds (e : Entry) (old new : PartsValue) : Type 0 where
-  pub tells : Tells (node_in old) old.stamp e
-  pub node : node_in new ≡ (done_by e (node_in old)).next
-  pub stamp : new.stamp ≡ e.stamp
-  pub history : new.history ≡ more_entries (e ∷ []) old.history
-
--- nothing is seen to have changed
-pub record Stays (old new : PartsValue) : Type 0 where
-  pub node : node_in new ≡ node_in old
-  pub stamp : new.stamp ≡ old.stamp
-  pub history : new.history ≡ old.history

@@ -5,13 +5,12 @@ ghost use Rattle.mq_history.specs.declared.calls.Reply.TheVariants as replies;
 ghost use Rattle.mq_spec_state.specs.Words.{AreLow};
 ghost use Rattle.mq_spec_manager.specs.Words.{mqconn, mqopen, mqclose, mqput, mqput1, mqget, mqcmit, mqback, mqdisc, is_waiting};
 ghost use Rattle.mq_spec_manager.specs.Commands.{command};
-ghost use Rattle.mq_manager.specs.Limits.{fits};
 ghost use Rattle.mq_spec_node.specs.Node.{Own};
 ghost use Rattle.mq_spec_node.specs.Terms.{Actor};
 ghost use Rattle.mq_spec_node.specs.Words.{mqi_deed, ended_deed, get_deed, command_deed, deed_of, node_of};
 ghost use Rattle.mq_events.specs.Calling.{DoesAs, DoesIf, command_ended, get_ended, get_wanting, is_managers};
 
-use crate::endings::{Called, Calling, Ended, connected, ended, finished, opened, sent};
+use crate::endings::{Called, Calling, Ended, connected, finished, how_ended, opened, sent};
 use mq_calls::{Answer, Appl, Get, GetAnswer, Halt, Hconn, Hobj, Open, ScRefusal, Shown};
 use mq_codes::Reason;
 use mq_disk::Disk;
@@ -21,30 +20,33 @@ use mq_message::Md;
 use mq_name::QName;
 use mq_sc_parse::Command;
 
+#[tactic(auto, using(crate::proofs::CallLaws::call_out, crate::proofs::NumberLaws::conn_numbered))]
 fn connect<D: Disk>(manager: &mut Manager<D>, qmgr: &QName, appl: &Appl) -> Called
     requires low { AreLow manager.old.plain }
     ensures { (own : Own) → DoesAs result (mqi_deed replies.Connected own (mqconn qmgr.now appl.now manager.old.plain)) (node_of manager.old.plain own) manager.new }
 {
     let answer = manager.mqconn(qmgr, appl);
-    let ended = ended(&answer);
+    let ended = how_ended(&answer);
     Called {
         ended,
         reply: connected(answer),
     }
 }
 
+#[tactic(auto, using(crate::proofs::CallLaws::room_out, crate::proofs::NumberLaws::disc_numbered))]
 fn disconnect<D: Disk>(manager: &mut Manager<D>, hc: Hconn) -> Called
     requires low { AreLow manager.old.plain }
     ensures { (own : Own) → DoesAs result (ended_deed replies.Ended own (mqdisc hc manager.old.plain)) (node_of manager.old.plain own) manager.new }
 {
     let answer = manager.mqdisc(hc);
-    let ended = ended(&answer);
+    let ended = how_ended(&answer);
     Called {
         ended,
         reply: finished(answer),
     }
 }
 
+#[tactic(auto, using(crate::proofs::CallLaws::call_out, crate::proofs::NumberLaws::open_numbered))]
 fn open_queue<D: Disk>(
     manager: &mut Manager<D>,
     hc: Hconn,
@@ -56,24 +58,26 @@ fn open_queue<D: Disk>(
     ensures { (own : Own) → DoesAs result (mqi_deed replies.Opened own (mqopen hc name.now qmgr.now how.now manager.old.plain)) (node_of manager.old.plain own) manager.new }
 {
     let answer = manager.mqopen(hc, name, qmgr, how);
-    let ended = ended(&answer);
+    let ended = how_ended(&answer);
     Called {
         ended,
         reply: opened(answer),
     }
 }
 
+#[tactic(auto, using(crate::proofs::CallLaws::room_out, crate::proofs::NumberLaws::close_numbered))]
 fn close<D: Disk>(manager: &mut Manager<D>, hc: Hconn, ho: Hobj) -> Called
     ensures { (own : Own) → DoesAs result (ended_deed replies.Ended own (mqclose hc ho manager.old.plain)) (node_of manager.old.plain own) manager.new }
 {
     let answer = manager.mqclose(hc, ho);
-    let ended = ended(&answer);
+    let ended = how_ended(&answer);
     Called {
         ended,
         reply: finished(answer),
     }
 }
 
+#[tactic(auto, using(crate::proofs::CallLaws::call_out, crate::proofs::NumberLaws::put_numbered))]
 fn put<D: Disk>(
     manager: &mut Manager<D>,
     hc: Hconn,
@@ -86,13 +90,14 @@ fn put<D: Disk>(
     ensures { (own : Own) → DoesAs result (mqi_deed replies.Put own (mqput hc ho md.now body.now sync manager.old.plain)) (node_of manager.old.plain own) manager.new }
 {
     let answer = manager.mqput(hc, ho, md, body, sync);
-    let ended = ended(&answer);
+    let ended = how_ended(&answer);
     Called {
         ended,
         reply: sent(answer),
     }
 }
 
+#[tactic(auto, using(crate::proofs::CallLaws::call_out, crate::proofs::NumberLaws::put1_numbered))]
 fn put1<D: Disk>(
     manager: &mut Manager<D>,
     hc: Hconn,
@@ -106,31 +111,33 @@ fn put1<D: Disk>(
     ensures { (own : Own) → DoesAs result (mqi_deed replies.Put own (mqput1 hc name.now qmgr.now md.now body.now sync manager.old.plain)) (node_of manager.old.plain own) manager.new }
 {
     let answer = manager.mqput1(hc, name, qmgr, md, body, sync);
-    let ended = ended(&answer);
+    let ended = how_ended(&answer);
     Called {
         ended,
         reply: sent(answer),
     }
 }
 
+#[tactic(auto, using(crate::proofs::CallLaws::room_out, crate::proofs::NumberLaws::cmit_numbered))]
 fn commit<D: Disk>(manager: &mut Manager<D>, hc: Hconn) -> Called
     requires low { AreLow manager.old.plain }
     ensures { (own : Own) → DoesAs result (ended_deed replies.Ended own (mqcmit hc manager.old.plain)) (node_of manager.old.plain own) manager.new }
 {
     let answer = manager.mqcmit(hc);
-    let ended = ended(&answer);
+    let ended = how_ended(&answer);
     Called {
         ended,
         reply: finished(answer),
     }
 }
 
+#[tactic(auto, using(crate::proofs::CallLaws::room_out, crate::proofs::NumberLaws::back_numbered))]
 fn back_out<D: Disk>(manager: &mut Manager<D>, hc: Hconn) -> Called
     requires low { AreLow manager.old.plain }
     ensures { (own : Own) → DoesAs result (ended_deed replies.Ended own (mqback hc manager.old.plain)) (node_of manager.old.plain own) manager.new }
 {
     let answer = manager.mqback(hc);
-    let ended = ended(&answer);
+    let ended = how_ended(&answer);
     Called {
         ended,
         reply: finished(answer),
@@ -182,6 +189,7 @@ fn get_ended(answer: Result<GetAnswer, Halt<Reason>>, may_wait: bool) -> Calling
     }
 }
 
+#[tactic(auto, using(crate::proofs::CallLaws::get_out, crate::proofs::NumberLaws::get_is))]
 fn get_message<D: Disk>(
     manager: &mut Manager<D>,
     hc: Hconn,
@@ -217,8 +225,8 @@ fn command_ended(answer: Result<Shown, Halt<ScRefusal>>) -> Calling
     }
 }
 
+#[tactic(auto, using(crate::proofs::CallLaws::command_out, crate::proofs::NumberLaws::command_numbered))]
 fn obey<D: Disk>(manager: &mut Manager<D>, asked: &mq_objects::Command) -> Calling
-    requires fits { fits asked.now ≡ true }
     ensures { (own : Own) → DoesIf result (Some (command_deed own (command asked.now manager.old.plain))) (node_of manager.old.plain own) manager.new }
 {
     let answer = manager.command(asked);

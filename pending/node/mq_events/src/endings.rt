@@ -46,7 +46,7 @@ pub enum Outcome {
 }
 
 /// How a call ended.
-pub(crate) fn ended<T, F>(answer: &Result<T, Halt<F>>) -> Ended
+pub(crate) fn how_ended<T, F>(answer: &Result<T, Halt<F>>) -> Ended
     ensures { result ≡ ended_of answer.now }
 {
     match answer {

@@ -1,5 +1,6 @@
 //! Trigger turns, as events.
-ghost use Rattle.std.specs.Prelude.{◌≡◌, ◌<◌, ◌^◌};
+ghost use Rattle.std.specs.Prelude.{◌≡◌, ◌<◌, ◌^◌, Some};
+ghost use Rattle.mq_manager.specs.Due.{next_due};
 ghost use Rattle.mq_spec_state.specs.Words.{AreLow};
 ghost use Rattle.mq_events.specs.Turning.{Turns};
 

@@ -1,5 +1,4 @@
 pub mod Facts
-pub mod Limits
 pub mod Due
 pub mod Quiet
 pub mod Turns

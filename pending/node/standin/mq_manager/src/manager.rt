@@ -2,7 +2,6 @@
 ghost use Rattle.std.specs.Prelude.{◌≡◌, [], true};
 ghost use Rattle.mq_spec_state.specs.Words.{Meets, MeetsInRoom, MeetsOrWants, AreLow, is_up};
 ghost use Rattle.mq_spec_manager.specs.Commands.{command};
-ghost use Rattle.mq_manager.specs.Limits.{fits};
 ghost use Rattle.mq_manager.specs.Due.{next_due};
 ghost use Rattle.mq_core.specs.Values.{WritesLog, manager_of};
 ghost use Rattle.mq_spec_manager.specs.Stops.{advance_clock, cut, stop};
@@ -208,7 +207,6 @@ impl<D: Disk> Manager<D> {
 
     /// A command on objects.
     pub fn command(&mut self, asked: &Command) -> Result<Shown, Halt<ScRefusal>>
-        requires fits { fits asked.now ≡ true }
         ensures meets { MeetsOrWants (manager_of self.old) (command asked.now self.old.plain) result (manager_of self.new) }
         ensures told { WritesLog self.old (command asked.now self.old.plain) result self.new }
     {
