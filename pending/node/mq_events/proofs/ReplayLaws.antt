@@ -1,13 +1,13 @@
 -- A history that replays goes on replaying with one entry more that tells what the plain node does.
 use Rattle.std.proofs.Common.{◌≡◌, ℕ, List, [], ◌∷◌, ◌++◌, refl, sym, ap, subst, ◌∙◌}
-use Rattle.std.specs.Prelude.{Option, Some, None, ◌×◌}
+use Rattle.std.specs.Prelude.{Option, Some, None}
 use Rattle.mq_history.specs.declared.calls.Actor.{Actor}
 use Rattle.mq_history.specs.declared.calls.Entry.{Entry}
 use Rattle.mq_spec_node.specs.Node.{Node}
 use Rattle.mq_spec_node.specs.Calls.{trigger_deed}
 use Rattle.mq_spec_node.specs.Replays.{Follows, Replays, Surroundings, Tells, TriggerIs, TriggersStand, after, done_by, opening_node, state_of}
-use Rattle.mq_spec_node.specs.Values.{NodeValue, IsReplayed, Grows, more_entries, stamp_after}
-use Rattle.mq_events.specs.Nodes.{actor_after, Occurs}
+use Rattle.mq_spec_node.specs.Values.{NodeValue, IsReplayed, more_entries, stamp_after}
+use Rattle.mq_events.specs.Givens.{actor_after}
 
 follows_more : (n : Node) (last : ℕ) (es : List Entry) (e : Entry) → Follows n last es → Tells (after n es) (stamp_after last es) e → Follows n last (es ++ e ∷ [])
 follows_more n last [] e f t = (t, tt)

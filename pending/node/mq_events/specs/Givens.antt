@@ -1,5 +1,6 @@
 -- What a scenario gave a node: it is known from what is never changed of the node's own.
-use Rattle.std.specs.Prelude.{[], map, None}
+use Rattle.std.specs.Prelude.{List, [], ◌∷◌, map, Option, Some, None}
+use Rattle.mq_spec_node.specs.Terms.{Actor, Entry}
 use Rattle.mq_receiver.specs.States as receivers
 use Rattle.mq_sender.specs.States as senders
 use Rattle.mq_spec_node.specs.Node.ChannelEnd.{Sends, Receives}
@@ -26,3 +27,8 @@ surroundings_in v = record {
   given = record { number = v.history.number; name = v.history.name; log_max = v.log_max };
   own = own_given v.own;
 }
+
+-- who acted last
+abbrev pub actor_after : Option Actor → List Entry → Option Actor
+actor_after last [] = last
+actor_after last (e ∷ es) = actor_after (Some e.actor) es

@@ -4,5 +4,6 @@ pub mod Endings
 pub mod Givens
 pub mod Nodes
 pub mod Numbered
+pub mod Stopping
 pub mod Turning
 pub mod Values

@@ -1,5 +1,5 @@
 -- A node as its callers see it, and what its calls come to.
-use Rattle.std.specs.Prelude.{◌≡◌, List, [], ◌∷◌, Option, Some, None, Bool, true, false, Result, Ok, Err}
+use Rattle.std.specs.Prelude.{◌≡◌, [], ◌∷◌, ◌++◌, length, Some, None, Bool, true, false, Result, Ok, Err}
 use Rattle.mq_base.specs.declared.want.NoMemory.{NoMemory}
 use Rattle.mq_frame.specs.declared.frame.Seen.TheVariants as items
 use Rattle.mq_history.specs.declared.calls.Call.TheVariants as calls
@@ -7,7 +7,7 @@ use Rattle.mq_spec_node.specs.Terms.{Actor, Call, Entry}
 use Rattle.mq_spec_node.specs.Words.{NodeValue, Grows, Tells, deed_of, done_by, trigger_deed}
 use Rattle.mq_events.specs.declared.endings.Outcome.{Outcome}
 use Rattle.mq_events.specs.declared.endings.Outcome.TheVariants as outcomes
-use Rattle.mq_events.specs.Givens.{surroundings_in}
+use Rattle.mq_events.specs.Givens.{actor_after, surroundings_in}
 use Rattle.mq_events.specs.Values.{PartsValue, node_in}
 
 -- what is seen of a node
@@ -30,13 +30,14 @@ Comes actor call old outcomes.Happened new = Occurs actor call old new
 Comes actor call old outcomes.Waits new = (deed_of 0 actor call items.Nothing old.node ≡ None) × (new ≡ old)
 Comes actor call old outcomes.NoMemory new = new ≡ old
 
--- who acted last
-abbrev pub actor_after : Option Actor → List Entry → Option Actor
-actor_after last [] = last
-actor_after last (e ∷ es) = actor_after (Some e.actor) es
-
 -- a trigger turn: one is served, by who acted last; none is due; or there was no memory
 abbrev pub Serves : NodeValue → Result Bool NoMemory → NodeValue → Type 0
 Serves old (Ok true) new = (actor : Actor) × (actor_after None old.history.entries ≡ Some actor) × Occurs actor calls.Trigger old new
 Serves old (Ok false) new = (trigger_deed old.node ≡ None) × (new ≡ old)
 Serves old (Err fault) new = new ≡ old
+
+-- a step ends
+abbrev pub with_mark : Bool → NodeValue → NodeValue
+with_mark idle v = record v {
+  history = record v.history { marks = v.history.marks ++ record { entries = length v.history.entries; idle = idle } ∷ [] };
+}

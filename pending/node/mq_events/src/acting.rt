@@ -3,11 +3,25 @@ ghost use Rattle.std.specs.Prelude.{◌≡◌, ◌<◌, ◌^◌};
 ghost use Rattle.mq_history.specs.declared.acts.Act.TheVariants as acts;
 ghost use Rattle.mq_history.specs.declared.calls.Call.TheVariants as calls;
 ghost use Rattle.mq_events.specs.Calling.{Applies};
+ghost use Rattle.mq_events.specs.Stopping.{stop_own, stop_reply};
 
 use crate::endings::Outcome;
 use crate::parts::NodeParts;
 use mq_disk::Disk;
 use mq_history::{Act, Acted, Actor, Call, Reply};
+use mq_own::Own;
+
+/// What is beside a manager that was stopped comes to rest; and the reply.
+fn rest_if(own: &mut Own, stopped: bool) -> Reply
+    ensures reply { result ≡ stop_reply stopped }
+    ensures own { own.new ≡ stop_own stopped own.old }
+{
+    if stopped {
+        own.rest();
+        return Reply::Acted(Acted::Done);
+    }
+    Reply::Acted(Acted::Down)
+}
 
 impl<D: Disk> NodeParts<D> {
     /// The manager stops, and its ends come to rest. `Waits` never comes.
@@ -18,13 +32,9 @@ impl<D: Disk> NodeParts<D> {
         if self.make_room().is_err() {
             return Outcome::NoMemory;
         }
-        let acted = if self.manager.stop() {
-            self.own.rest();
-            Acted::Done
-        } else {
-            Acted::Down
-        };
-        self.tell_act(actor, Call::Act(Act::Crash), Reply::Acted(acted));
+        let stopped = self.manager.stop();
+        let reply = rest_if(&mut self.own, stopped);
+        self.tell_act(actor, Call::Act(Act::Crash), reply);
         Outcome::Happened
     }
 

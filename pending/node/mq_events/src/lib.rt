@@ -5,8 +5,10 @@ mod acting;
 mod applying;
 mod calling;
 mod endings;
+mod node;
 mod parts;
 mod turning;
 
 pub use endings::Outcome;
+pub use node::Node;
 pub use parts::{NodeParts, Opening};

@@ -1,5 +1,6 @@
 //! A node as its events see it: its manager, what is beside it, and its history.
-ghost use Rattle.std.specs.Prelude.{◌≡◌, ◌+◌, ◌<◌, ◌≤◌, ◌^◌, OnOk, OnErr};
+ghost use Rattle.std.specs.Prelude.{◌≡◌, ◌+◌, ◌<◌, ◌≤◌, ◌^◌, None, OnOk};
+ghost use Rattle.mq_events.specs.Givens.{actor_after};
 ghost use Rattle.mq_events.specs.Values.{entry_of, marked, noted, own_after};
 
 use mq_base::{Items, NoMemory};
@@ -48,8 +49,9 @@ pub struct NodeParts<D: Disk> {
 }
 
 impl<D: Disk> Model for NodeParts<D> {
-    ghost use Rattle.std.specs.Prelude.{◌+◌, ◌≤◌, ◌×◌, vec_len, vec_capacity};
-    ghost use Rattle.mq_events.specs.Values.{PartsValue};
+    ghost use Rattle.std.specs.Prelude.{◌+◌, ◌≤◌, vec_len, vec_capacity};
+    ghost use Rattle.mq_events.specs.Givens.{actor_after};
+ghost use Rattle.mq_events.specs.Values.{PartsValue};
 
     ghost Value = { PartsValue };
 
@@ -145,24 +147,37 @@ impl<D: Disk> NodeParts<D> {
         }
     }
 
-    /// Takes memory for so many marks more.
+    /// Who acted last.
+    pub(crate) fn last_actor(&self) -> Option<Actor>
+        ensures { result ≡ actor_after None self.now.history.entries }
+    {
+        match self.events.last() {
+            None => None,
+            Some(entry) => Some(entry.actor),
+        }
+    }
+
+    /// Takes memory for one mark more.
     ///
     /// # Errors
     ///
     /// No memory; nothing has changed.
-    pub fn make_places(&mut self, more: usize) -> Result<(), NoMemory>
+    pub(crate) fn make_place(&mut self) -> Result<(), NoMemory>
         ensures same { self.new ≡ record self.old { places = self.new.places } }
-        ensures ok { OnOk result (more ≤ self.new.places) }
+        ensures ok { OnOk result (0 < self.new.places) }
     {
-        if self.marks.reserve(more).is_err() {
+        if self.places > 0 {
+            return Ok(());
+        }
+        if self.marks.reserve(1).is_err() {
             return Err(NoMemory);
         }
-        self.places = more;
+        self.places = 1;
         Ok(())
     }
 
     /// A step ends, as a PUMP or a HANDLE that ended idle or not. It takes no memory.
-    pub fn mark(&mut self, idle: bool)
+    pub(crate) fn mark(&mut self, idle: bool)
         requires { 0 < self.old.places }
         ensures { self.new ≡ marked idle self.old }
     {
