@@ -59,8 +59,8 @@ abbrev told_entry : Actor → Call → Choice → Reply → List Did → PartsVa
 told_entry actor call choice reply delta v = entry_of (v.stamp + 1) actor call choice reply delta
 
 -- what the scenario gave, where it is the same of the node's own
-given_with : {own : Own} (v : PartsValue) → own_given own ≡ own_given v.own → surroundings_in (record v { own = own }) ≡ surroundings_in v
-given_with v e = ap (λ (o : Own). record { given = record { number = v.history.number; name = v.history.name; log_max = v.log_max }; own = o }) e
+given_with : (own : Own) (v : PartsValue) → own_given own ≡ own_given v.own → surroundings_in (record v { own = own }) ≡ surroundings_in v
+given_with own v e = ap (λ (o : Own). record { given = record { number = v.history.number; name = v.history.name; log_max = v.log_max }; own = o }) e
 
 pub adds_deed : (actor : Actor) (call : Call) (d : Deed) (choice : Choice) (reply : Reply) (v : PartsValue) (core : CoreValue)
     → IsEvent (v.stamp + 1) actor call (chances.Call choice) items.Nothing (node_in v)
@@ -88,7 +88,7 @@ adds_deed actor call d choice reply v core can is out =
         ∙ ap (λ (x : Done). x.next) (sym is);
       stamp = refl;
       history = refl;
-      given = given_with v (remembered_given actor call reply (own_after choice core.delta v.own) ∙ after_given choice core.delta v.own);
+      given = given_with (remembered actor call reply (own_after choice core.delta v.own)) v (remembered_given actor call reply (own_after choice core.delta v.own) ∙ after_given choice core.delta v.own);
     }
 
 -- a call that is the manager's alone
@@ -169,7 +169,7 @@ stop_happens actor v core true came = record {
       ∙ ap (λ (o : Outcome RestartFault Bool). node_of (stop v.core.plain).next (own_crashed o v.own)) (sym came.answered);
     stamp = refl;
     history = refl;
-    given = given_with v (rest_given v.own);
+    given = given_with (own_at_rest v.own) v (rest_given v.own);
   };
 }
 stop_happens actor v core false came = record {

@@ -21,7 +21,7 @@ use Rattle.mq_events.specs.Values.{own_after}
 
 map_given : {X : Type 0} (g f : X → X) → ((x : X) → g (f x) ≡ g x) → (xs : List X) → map g (map f xs) ≡ map g xs
 map_given g f h [] = refl
-map_given g f h (x ∷ xs) = ap₂ (λ (y : _) (ys : List _). y ∷ ys) (h x) (map_given g f h xs)
+map_given g f h (x ∷ xs) = rw (h x, map_given g f h xs) refl
 
 end_rests : (e : ChannelEnd) → end_given (end_at_rest e) ≡ end_given e
 end_rests (Sends e) = refl

@@ -16,7 +16,8 @@ use Rattle.mq_spec_state.specs.State.{Plain, Queue}
 use Rattle.mq_spec_state.specs.Reads.{queue_in, stored}
 use Rattle.mq_spec_state.specs.Images.{queue_on}
 use Rattle.mq_spec_manager.specs.Triggers.{first_due}
-use Rattle.mq_spec_node.specs.Node.{Node}
+use Rattle.mq_core.specs.Values.{CoreValue}
+use Rattle.mq_spec_node.specs.Node.{Node, Own}
 use Rattle.mq_spec_node.specs.Deeds.{Deed}
 use Rattle.mq_spec_node.specs.Calls.{trigger_deed, trigger_deed_of}
 use Rattle.mq_spec_node.specs.Replays.{Surroundings, TriggerIs, after, opening_node}
@@ -24,6 +25,8 @@ use Rattle.mq_spec_node.specs.Values.{NodeValue, IsReplayed, is_spent}
 use Rattle.mq_events.specs.declared.endings.Outcome.{Outcome}
 use Rattle.mq_events.specs.declared.endings.Outcome.TheVariants as outcomes
 use Rattle.mq_events.specs.Adding.{Adds, Stays}
+use Rattle.mq_events.specs.declared.parts.Opening.{Opening}
+use Rattle.mq_events.specs.Beginning.{IsBegun, parts_from}
 use Rattle.mq_events.specs.Calling.{Applies, Happens}
 use Rattle.mq_events.specs.Givens.{actor_after}
 use Rattle.mq_events.specs.Nodes.{Comes, Occurs, Serves, value_of}
@@ -121,3 +124,12 @@ none_at_first v is none =
     ap trigger_deed is.node
     ∙ ap (λ (es : List Entry). trigger_deed (after (opening_node v.given v.history) es)) (no_entries v.history.entries none)
     ∙ opening_none v.given v.history
+
+-- a node that begins replays
+pub begun_replays : (core : CoreValue) (own : Own) (o : Opening) → IsBegun core own o → IsReplayed (value_of (parts_from core own o))
+begun_replays core own o is = record {
+  replays = record { number = refl; name = refl; follows = tt };
+  triggers = tt;
+  node = is;
+  stamp = refl;
+}

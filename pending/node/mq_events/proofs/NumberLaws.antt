@@ -61,11 +61,11 @@ going_keeps P no (Ok a) f h = h a
 going_keeps P no (Err reason) f h = no reason
 
 -- one part
-pub one_numbered : (part : Part) → AreNumbered (part ∷ [])
+pub one_numbered : (part : Part) (n : ℕ) → IsWrite n (part ∷ []) → n ≡ part_of (delta_before n (part ∷ []))
 one_numbered part zero w = refl
 one_numbered part (suc n) w = absurd w
 
-no_parts : AreNumbered []
+no_parts : (n : ℕ) → IsWrite n [] → n ≡ part_of (delta_before n [])
 no_parts n w = absurd w
 
 -- MQI calls but MQGET
@@ -80,8 +80,7 @@ abbrev asked : List ℕ → List ℕ → Open → Plain → Connection → Step 
 asked name qmgr how p c = none_of (option_tests how) >>= (λ chosen. resolve p.definitions p.given.name name qmgr >>= routed c how p)
 
 open_numbered_step : (c : Connection) (how : Open) (route : Route) → IsNumbered (open_step c how route)
-open_numbered_step c how route zero w = refl
-open_numbered_step c how route (suc n) w = absurd w
+open_numbered_step c how route = one_numbered _
 
 pub open_numbered : (hc : Hconn) (name qmgr : List ℕ) (how : Open) (p : Plain) → IsNumbered (mqopen hc name qmgr how p)
 open_numbered hc name qmgr how p = going_keeps IsNumbered (λ r. tt) (connected hc p) (asked name qmgr how p)
@@ -90,8 +89,7 @@ open_numbered hc name qmgr how p = going_keeps IsNumbered (λ r. tt) (connected 
     (λ route. going_keeps IsNumbered (λ r. tt) (none_of (open_tests c how route p)) (λ fits. open_step c how route) (λ fits. open_numbered_step c how route))))
 
 close_numbered_step : (c : Connection) (h : Handle) → IsNumbered (close_handle c h)
-close_numbered_step c h zero w = refl
-close_numbered_step c h (suc n) w = absurd w
+close_numbered_step c h = one_numbered _
 
 pub close_numbered : (hc : Hconn) (ho : Hobj) (p : Plain) → IsNumbered (mqclose hc ho p)
 close_numbered hc ho p = connection_keeps IsNumbered (λ r. tt) (connected hc p) (close_up ho)
@@ -139,12 +137,12 @@ IsGet may_wait (Refuse reason) = Unit {0}
 IsGet may_wait (Do get_answers.NotYet parts) = (parts ≡ []) × (may_wait ≡ true)
 IsGet may_wait (Do (get_answers.Done answer) parts) = AreNumbered parts
 
-before_numbered : (why : Why) (queue : List ℕ) (rows : List Row) → AreNumbered (removal_parts why queue rows)
+before_numbered : (why : Why) (queue : List ℕ) (rows : List Row) (n : ℕ) → IsWrite n (removal_parts why queue rows) → n ≡ part_of (delta_before n (removal_parts why queue rows))
 before_numbered why queue [] n w = absurd w
 before_numbered why queue (row ∷ rows) zero w = refl
 before_numbered why queue (row ∷ rows) (suc n) w = absurd w
 
-behind_numbered : (why : Why) (queue : List ℕ) (rows : List Row) (part : Part) → AreNumbered (removal_parts why queue rows ++ part ∷ [])
+behind_numbered : (why : Why) (queue : List ℕ) (rows : List Row) (part : Part) (n : ℕ) → IsWrite n (removal_parts why queue rows ++ part ∷ []) → n ≡ part_of (delta_before n (removal_parts why queue rows ++ part ∷ []))
 behind_numbered why queue [] part zero w = refl
 behind_numbered why queue [] part (suc n) w = absurd w
 behind_numbered why queue (row ∷ rows) part zero w = refl

@@ -3,6 +3,7 @@ use Rattle.std.proofs.Common.{◌≡◌, ℕ, List, [], ◌∷◌, ◌++◌, ref
 use Rattle.std.specs.Prelude.{Option, Some, None}
 use Rattle.mq_history.specs.declared.calls.Actor.{Actor}
 use Rattle.mq_history.specs.declared.calls.Entry.{Entry}
+use Rattle.mq_history.specs.declared.history.History.{History}
 use Rattle.mq_spec_node.specs.Node.{Node}
 use Rattle.mq_spec_node.specs.Calls.{trigger_deed}
 use Rattle.mq_spec_node.specs.Replays.{Follows, Replays, Surroundings, Tells, TriggerIs, TriggersStand, after, done_by, opening_node, state_of}
@@ -44,4 +45,4 @@ replays_more old new e is given history tells trigger node stamp =
       stamp = stamp ∙ sym (stamp_more 0 es e);
     } in
     subst (λ (g : Surroundings). IsReplayed (record { given = g; history = new.history; node = new.node; stamp = new.stamp })) (sym given)
-    (subst (λ (h : _). IsReplayed (record { given = s; history = h; node = new.node; stamp = new.stamp })) (sym history) whole)
+    (subst (λ (h : History). IsReplayed (record { given = s; history = h; node = new.node; stamp = new.stamp })) (sym history) whole)

@@ -1,4 +1,5 @@
 pub mod Adding
+pub mod Beginning
 pub mod Calling
 pub mod Endings
 pub mod Givens

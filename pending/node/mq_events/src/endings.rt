@@ -58,7 +58,7 @@ pub(crate) fn how_ended<T, F>(answer: &Result<T, Halt<F>>) -> Ended
 }
 
 /// The free choice that an entry tells, from what was done and the device calls that are left before an armed cut.
-#[tactic(auto, using(crate::proofs::CallLaws::call_out, crate::proofs::EventLaws::adds_deed, crate::proofs::GivenLaws::rest_given, crate::proofs::NumberLaws::get_is, crate::proofs::ReplayLaws::replays_more))]
+#[tactic(auto, using(crate::proofs::CallLaws::call_out, crate::proofs::EventLaws::adds_deed, crate::proofs::GivenLaws::rest_given, crate::proofs::NumberLaws::get_is, crate::proofs::NodeLaws::none_at_first, crate::proofs::ReplayLaws::replays_more))]
 pub(crate) fn choice_of(ended: Ended, delta: &[Did], left: u32) -> Choice
     ensures { result ≡ choice_of ended delta.now left }
 {

@@ -4,14 +4,18 @@ ghost use Rattle.mq_history.specs.declared.acts.Act.TheVariants as acts;
 ghost use Rattle.mq_history.specs.declared.calls.Call.TheVariants as calls;
 ghost use Rattle.mq_spec_state.specs.Words.{AreLow, is_up};
 ghost use Rattle.mq_spec_node.specs.Words.{IsReplayed, is_spent, trigger_deed};
+ghost use Rattle.mq_events.specs.Beginning.{IsBegun, parts_from};
 ghost use Rattle.mq_events.specs.Calling.{is_managers};
 ghost use Rattle.mq_events.specs.Nodes.{Comes, Serves, value_of, with_mark};
 
 use crate::endings::Outcome;
-use crate::parts::NodeParts;
+use crate::parts::{NodeParts, Opening};
 use mq_base::NoMemory;
 use mq_disk::Disk;
 use mq_history::{Actor, Call, Entry};
+use mq_manager::Manager;
+use mq_own::Own;
+use std::alloc::Global;
 use std::marker::Model;
 
 /// A node. Contracts see it as what the scenario gave it, its history, the plain node to which this replays, and its last stamp.
@@ -33,12 +37,14 @@ impl<D: Disk> Model for Node<D> {
 }
 
 impl<D: Disk> Node<D> {
-    /// A node whose history replays. It takes no memory.
-    pub fn of(parts: NodeParts<D>) -> Node<D>
-        requires { IsReplayed (value_of parts) }
-        ensures { result ≡ value_of parts }
+    /// A node of which nothing has happened. It takes no memory.
+    pub fn new(alloc: Global, manager: Manager<D>, own: Own, opening: Opening) -> Node<D>
+        requires { IsBegun manager own opening }
+        ensures { result ≡ value_of (parts_from manager own opening) }
     {
-        Node { parts }
+        Node {
+            parts: NodeParts::new(alloc, manager, own, opening),
+        }
     }
 
     /// Whether the manager is up.

@@ -1,5 +1,6 @@
 //! A node as its events see it: its manager, what is beside it, and its history.
 ghost use Rattle.std.specs.Prelude.{◌≡◌, ◌+◌, ◌<◌, ◌≤◌, ◌^◌, None, OnOk};
+ghost use Rattle.mq_events.specs.Beginning.{parts_from};
 ghost use Rattle.mq_events.specs.Givens.{actor_after};
 ghost use Rattle.mq_events.specs.Values.{entry_of, marked, noted, own_after};
 
@@ -50,7 +51,8 @@ pub struct NodeParts<D: Disk> {
 
 impl<D: Disk> Model for NodeParts<D> {
     ghost use Rattle.std.specs.Prelude.{◌+◌, ◌≤◌, vec_len, vec_capacity};
-    ghost use Rattle.mq_events.specs.Givens.{actor_after};
+    ghost use Rattle.mq_events.specs.Beginning.{parts_from};
+ghost use Rattle.mq_events.specs.Givens.{actor_after};
 ghost use Rattle.mq_events.specs.Values.{PartsValue};
 
     ghost Value = { PartsValue };
@@ -105,6 +107,23 @@ fn entry_of(
 }
 
 impl<D: Disk> NodeParts<D> {
+    /// A node of which nothing has happened. It takes no memory.
+    pub fn new(alloc: Global, manager: Manager<D>, own: Own, opening: Opening) -> NodeParts<D>
+        ensures { result ≡ parts_from manager own opening }
+    {
+        NodeParts {
+            alloc,
+            manager,
+            own,
+            opening,
+            events: Vec::new(alloc),
+            marks: Vec::new(alloc),
+            stamp: 0,
+            room: 0,
+            places: 0,
+        }
+    }
+
     /// Takes memory for one entry more.
     ///
     /// # Errors
