@@ -1,0 +1,10 @@
+pub mod Adding
+pub mod Beginning
+pub mod Calling
+pub mod Endings
+pub mod Givens
+pub mod Nodes
+pub mod Numbered
+pub mod Stopping
+pub mod Turning
+pub mod Values

@@ -1,0 +1,4 @@
+pub mod Facts
+pub mod Due
+pub mod Quiet
+pub mod Turns
