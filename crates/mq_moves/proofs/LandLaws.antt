@@ -1,11 +1,11 @@
 -- What a route's tests come to, and the step of a move by them.
-use Rattle.std.proofs.Common.{◌≡◌, ℕ, ◌≤◌, Bool, true, false, cond, List, [], ◌∷◌, ◌++◌, length, refl, ap, arith, sym, subst, ◌∙◌}
+use Rattle.std.proofs.Common.{◌≡◌, ℕ, ◌+◌, ◌≤◌, Bool, true, false, cond, List, [], ◌∷◌, ◌++◌, length, refl, ap, arith, sym, ◌∙◌}
 use Rattle.std.specs.Prelude.{Option, Some, None, Result, Ok, Err, IsSome, nat_le, nat_lt, is_ok, codes, find}
 use Rattle.std.proofs.lemmas.Bool.Decides.{nat_tests}
 use Rattle.mq_codes.specs.declared.reason.Reason.TheVariants as reasons
 use Rattle.mq_resolve.specs.Resolved.{resolve}
 use Rattle.mq_resolve.specs.declared.route.RouteEnd.{RouteEnd}
-use Rattle.mq_spec_state.specs.Words.{Reason, Message, Dest, Ident, Route, LocalQueue, Plain, Test, Step, Refuse, Do, refusal, when, local_of, depth, stored, Row, has_ident, is_full, need, put_bytes}
+use Rattle.mq_spec_state.specs.Words.{Reason, Message, Dest, Ident, Route, LocalQueue, Plain, Test, Step, Refuse, refusal, when, local_of, depth, stored, Row, has_ident, is_full, need, put_bytes}
 use Rattle.mq_spec_state.specs.Steps.{refused_or}
 use Rattle.mq_spec_manager.specs.Words.{queue_at, max_depth, is_dead}
 use Rattle.mq_message.specs.declared.head.HeadFault.{HeadFault}
@@ -16,9 +16,9 @@ use Rattle.std.specs.Option.{option_map}
 use Rattle.mq_calls.specs.declared.records.LogRecord.TheVariants as records
 use Rattle.mq_agents.proofs.RemoveLaws.{ident_of_row}
 use Rattle.mq_moves.proofs.MoveLaws.{need_moved}
-use Rattle.mq_spec_agents.specs.Words.{CanMove, bare_if, row_with, route_tests, landing, move_full, move_found, move_resolved, move_landing, move_part, move_row}
+use Rattle.mq_spec_agents.specs.Words.{CanMove, bare_if, row_with, route_tests, landing, move_full, move_found, move_resolved, move_landing, move_row}
 use Rattle.mq_moves.specs.Moving.{moved_step}
-use Rattle.mq_moves.specs.Landed.{at_end, message_moved, route_by}
+use Rattle.mq_moves.specs.Landed.{at_end, message_moved}
 
 -- where none applies, the queue is defined
 pub defined_at : (route : Route) (bytes : ℕ) (p : Plain) → refusal (route_tests route bytes p) ≡ None → IsSome (local_of (queue_at route.end) p.definitions)
@@ -69,8 +69,8 @@ resolved_by from to bare r m p = move_resolved from to bare r m p
 
 -- a route that is not found
 by_row : (from : List ℕ) (to : Dest) (bare : Bool) (o : Option Message) (p : Plain) (reason : Reason) → IsSome o → resolve p.definitions p.given.name to.queue to.qmgr ≡ Err reason → move_found from to bare o p ≡ Refuse reason
-by_row from to bare None p reason some e = absurd cc
 unfolding resolved_by
+by_row from to bare None p reason some e = absurd cc
 by_row from to bare (Some m) p reason some e = ap (λ (r : Result Route Reason). resolved_by from to bare r (bare_if bare m) p) e
 
 pub unresolved : (from : List ℕ) (ident : Ident) (to : Dest) (bare : Bool) (p : Plain) (reason : Reason) → IsSome (row_with (Some ident) (stored from p).rows) → resolve p.definitions p.given.name to.queue to.qmgr ≡ Err reason
@@ -83,8 +83,8 @@ step_at from to bare route m p = move_landing from to bare route (record { queue
 
 landed_row : (from : List ℕ) (to : Dest) (bare : Bool) (o : Option Message) (route : Route) (m : Message) (p : Plain) → message_moved bare route.end o ≡ Some m → resolve p.definitions p.given.name to.queue to.qmgr ≡ Ok route
     → move_found from to bare o p ≡ move_landing from to bare route (record { queue = queue_at route.end; message = m; dead = None }) p
-landed_row from to bare None route m p e r = absurd cc
 unfolding resolved_by step_at
+landed_row from to bare None route m p e r = absurd cc
 landed_row from to bare (Some k) route m p e r =
     ap (λ (r : Result Route Reason). resolved_by from to bare r (bare_if bare k) p) r ∙ ap (λ (m : Message). step_at from to bare route m p) (some_is (at_end route.end (bare_if bare k)) m e)
 
@@ -111,7 +111,7 @@ move_at_last from ident to bare route m p b found r e full =
     landed_row from to bare (row_with (Some ident) (stored from p).rows) route m p found r
     ∙ ap (λ (o : Option Reason). step_by o from to bare (queue_at route.end) m)
     (passed_first (route_tests route (length m.body) p) (last_test (move_full from (record { queue = queue_at route.end; message = m; dead = None }) p)) e
-     ∙ ap (λ (b : Bool). cond b (Some reasons.ResourceProblem) None) full)
+    ∙ ap (λ (b : Bool). cond b (Some reasons.ResourceProblem) None) full)
 
 -- a body that begins with the header of a dead letter has its 172 bytes
 pub dead_long : (body : List ℕ) → is_dead body ≡ true → 172 ≤ length body

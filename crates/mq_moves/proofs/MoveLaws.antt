@@ -1,11 +1,11 @@
 -- A row that moves: it goes from one queue, and waits for its place on another.
 use Rattle.std.proofs.Common.{◌≡◌, ℕ, ◌+◌, ◌-◌, ◌<◌, ◌≤◌, ◌^◌, Bool, true, false, cond, List, [], ◌∷◌, ◌++◌, length, refl, ap, arith, sym, subst, ◌∙◌}
-use Rattle.std.specs.Prelude.{Option, Some, None, Ok, Err, Result, IsSome, is_some, find, not, map, ◌&&◌, ◌||◌}
+use Rattle.std.specs.Prelude.{Option, Some, None, Ok, Err, IsSome, is_some, find, not, ◌&&◌, ◌||◌}
 use Rattle.std.specs.List.{list_any}
 use Rattle.std.specs.Str.{bytes_eq}
 use Rattle.mq_queue.proofs.Edits.{same_is}
 use Rattle.mq_spec_state.specs.State.{Queue as StateQueue}
-use Rattle.mq_spec_state.specs.Words.{Ident, Message, Row, LocalQueue, Among, AreLow, Plain, has_ident, same_ident, keep, kept_in, selects, queue_in, local_of, puts_to, apply, place, try_trigger}
+use Rattle.mq_spec_state.specs.Words.{Ident, Message, Row, Among, AreLow, Plain, has_ident, same_ident, keep, kept_in, selects, queue_in, local_of, apply, place, try_trigger}
 use Rattle.mq_spec_state.specs.State.Change.{Leave}
 use Rattle.mq_calls.specs.declared.state.Item.TheVariants.{Put}
 use Rattle.mq_log.specs.State.{LogState}
@@ -14,10 +14,10 @@ use Rattle.mq_core.specs.Views.{PartsValue, plain_of}
 use Rattle.mq_core.specs.Ties.{TiedBut, Tied, IsReady, HasCounts, AreCounted, mode_is_up, state_lanes, pending_at, one_if, times_in_rows, times_in_queues, times_in_units}
 use Rattle.mq_core.specs.Placing.{with_states, put_in_place}
 use Rattle.mq_core.proofs.PlaceLaws.{name_is, same_name, ready, tied_placed, placed_view, seen_kept, pending_changed}
-use Rattle.mq_core.proofs.ForceLaws.{queues_on, seen_on, times_on, times_keep}
+use Rattle.mq_core.proofs.ForceLaws.{seen_on, times_on, times_keep}
 use Rattle.mq_core.proofs.PutLaws.{queues_same, kept_queue, waits_more, counts_low}
 use Rattle.mq_record.specs.Room.{Buffered}
-use Rattle.mq_spec_state.specs.Words.{LogRecord, Did, Noted, Part, note_of, Step, Do, Reason, Dest, ManagerValue, MeetsOrWants, apply_all, is_persistent, need}
+use Rattle.mq_spec_state.specs.Words.{LogRecord, Noted, Part, note_of, Step, Do, Reason, Dest, ManagerValue, MeetsOrWants, apply_all, is_persistent, need}
 use Rattle.mq_spec_state.specs.Meeting.Wants.{Anywhere}
 use Rattle.mq_spec_manager.specs.Words.{placed}
 use Rattle.mq_calls.specs.declared.records.LogRecord.TheVariants as records
@@ -25,7 +25,6 @@ use Rattle.mq_calls.specs.declared.deltas.Did.TheVariants as did
 use Rattle.mq_core.specs.Forced.{IsForced, IsExpected}
 use Rattle.mq_agents.specs.Removing.{removed_one}
 use Rattle.mq_moves.specs.Moving.{moved_step, given_back, downed_move}
-use Rattle.std.proofs.lemmas.List.{append-nil}
 use Rattle.mq_base.specs.Outside.{Rose}
 use Rattle.mq_disk.specs.declared.cutter.Stop.{Stop}
 use Rattle.mq_disk.specs.declared.cutter.Stop.TheVariants as stops
@@ -35,10 +34,8 @@ use Rattle.mq_record.specs.Room.{with_piece}
 use Rattle.mq_record.specs.Records.{CanBeKept, record_bytes, moved_front}
 use Rattle.mq_frame.specs.Frames.{message_bytes}
 use Rattle.mq_spec_state.specs.Words.{Halt, freeze, logged, put_bytes, is_int, route_size}
-use Rattle.mq_core.specs.declared.parts.StoppedWrite.{StoppedWrite}
 use Rattle.mq_core.specs.declared.parts.StoppedWrite.TheVariants as writes
 use Rattle.mq_core.specs.Views.{frozen_of, noted}
-use Rattle.mq_core.specs.Forced.{downed}
 use Rattle.mq_core.proofs.ForceLaws.{forced_view, frozen_view, tied_downed}
 use Rattle.mq_core.proofs.PutLaws.{expected_view, given_up, tied_roomier, roomier_view}
 use Rattle.mq_core.specs.Values.{CoreValue, WritesLog, behind_record, pending_record, wrote_all}

@@ -1,5 +1,5 @@
-use Rattle.std.proofs.Common.{◌≡◌, ℕ, ◌+◌, ◌≤◌, ◌∙◌, sym, ap, refl, arith}
-use Rattle.std.specs.Prelude.{List, ◌++◌, length}
+use Rattle.std.proofs.Common.{◌+◌, ◌≤◌, ◌∙◌, ap, arith}
+use Rattle.std.specs.Prelude.{length}
 use Rattle.std.proofs.lemmas.List.{length-append}
 use Rattle.mq_spec_state.specs.Words.{LogRecord}
 use Rattle.mq_calls.specs.declared.records.LogRecord.TheVariants as records

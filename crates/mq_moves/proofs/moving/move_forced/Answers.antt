@@ -1,11 +1,11 @@
-use Rattle.std.proofs.Common.{◌≡◌, ℕ, ◌+◌, ◌≤◌, ◌<◌, ◌∙◌, sym, ap, subst, refl, arith, true}
-use Rattle.std.specs.Prelude.{List, [], ◌∷◌, ◌++◌, length, IsSome, Some, Ok, Err}
+use Rattle.std.proofs.Common.{◌≡◌, ℕ, ◌+◌, ◌<◌, ◌∙◌, sym, ap, subst, refl, arith, true}
+use Rattle.std.specs.Prelude.{List, [], ◌∷◌, ◌++◌, IsSome, Some, Err}
 use Rattle.mq_base.specs.Outside.{Rose}
 use Rattle.mq_disk.specs.declared.cutter.Stop.{Stop}
 use Rattle.mq_log.specs.Force.{Stops}
 use Rattle.mq_calls.specs.declared.deltas.Did.TheVariants as did
 use Rattle.mq_calls.specs.declared.records.LogRecord.TheVariants as records
-use Rattle.mq_spec_state.specs.Words.{ManagerValue, Plain, Did, Ident, Reason, Halt, AgentStop, LogRecord, AreLow, Among, local_of, is_up, need, freeze, logged}
+use Rattle.mq_spec_state.specs.Words.{ManagerValue, Plain, Did, Ident, Reason, AgentStop, LogRecord, AreLow, local_of, is_up, need, freeze, logged}
 use Rattle.mq_spec_agents.specs.Words.{HasFreeRow}
 use Rattle.mq_unit.specs.Told.{Telling}
 use Rattle.mq_core.specs.Views.{PartsValue, plain_of, frozen_of}

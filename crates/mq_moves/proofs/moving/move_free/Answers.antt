@@ -1,16 +1,14 @@
-use Rattle.std.proofs.Common.{◌≡◌, ◌∙◌, sym, ap, subst, refl, arith, true}
+use Rattle.std.proofs.Common.{◌≡◌, ◌∙◌, sym, ap, subst, refl, true}
 use Rattle.std.specs.Prelude.{List, [], ◌∷◌, ◌++◌, IsSome}
 use Rattle.mq_calls.specs.declared.deltas.Did.TheVariants as did
-use Rattle.mq_spec_state.specs.Words.{ManagerValue, Plain, Did, Ident, AreLow, Among, local_of, is_up, apply_all}
-use Rattle.mq_spec_state.specs.State.Change.{Leave}
-use Rattle.mq_spec_manager.specs.Words.{placed}
+use Rattle.mq_spec_state.specs.Words.{ManagerValue, Plain, Did, Ident, AreLow, local_of, is_up}
 use Rattle.mq_spec_agents.specs.Words.{HasFreeRow}
 use Rattle.mq_unit.specs.Told.{Telling}
 use Rattle.mq_core.specs.Views.{PartsValue, plain_of, frozen_of}
 use Rattle.mq_core.specs.Ties.{Tied, mode_is_up}
-use Rattle.mq_core.specs.Values.{CoreValue, manager_of, bodies_in, behind_record, pending_record}
+use Rattle.mq_core.specs.Values.{CoreValue, manager_of, bodies_in}
 use Rattle.mq_core.proofs.MeetLaws.{mode_up}
-use Rattle.mq_core.proofs.WriteLaws.{roomier_bodies, expected_bodies, forced_bodies, stopped_bodies, placed_log}
+use Rattle.mq_core.proofs.WriteLaws.{roomier_bodies, expected_bodies, placed_log}
 use Rattle.mq_core.proofs.PutLaws.{tied_roomier, roomier_view, expected_view, placed_faults}
 use Rattle.mq_agents.specs.Removing.{removed_one}
 use Rattle.mq_moves.proofs.MoveLaws.{move_free, move_ready, move_tied, moved_seen, free_moves, free_told}
