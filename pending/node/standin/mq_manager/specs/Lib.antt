@@ -1,4 +1,0 @@
-pub mod Facts
-pub mod Due
-pub mod Quiet
-pub mod Turns

@@ -1,4 +1,0 @@
-pub mod CableLaws
-pub mod RowLaws
-pub mod IdentLaws
-pub mod TwiceLaws
