@@ -51,7 +51,7 @@ kept_numbered : (test : Option Holder → Bool) (n : ℕ) (rows : List Row) → 
 kept_numbered test n [] = refl
 kept_numbered test n (row ∷ rows) =
     kept_if test (test row.by) row (record row { place = record row.place { arrival = n + 1 } }) (keep (λ (r : Row). not (test r.by)) (numbered (n + 1) rows))
-      (flat_map (λ (r : Row). if test r.by then [] else ident_of r ∷ []) rows) refl (kept_numbered test (n + 1) rows)
+    (flat_map (λ (r : Row). if test r.by then [] else ident_of r ∷ []) rows) refl (kept_numbered test (n + 1) rows)
 
 -- Local queues of objects.
 locals_all : (h : History) (f : LocalQueue → List Ident) → ((q : LocalQueue) → f q ≡ map ident_of (rows_in q.name h.opening.shelves)) → (os : List Object) → flat_map f (locals_in os) ≡ flat_map (all_object h) os
@@ -79,8 +79,8 @@ plain_at s m h = (node_after s m [] h).manager
 all_one : (s : Scenario) (m : ℕ) (h : History) → idents_in (λ (rows : List Row). rows) (plain_at s m h) ≡ all_of h
 all_one s m h =
     locals_all h (λ (q : LocalQueue). map ident_of (stored q.name (plain_at s m h)).rows)
-      (λ q. ap (λ (rows : List Row). map ident_of rows) (rows_numbered q.name h.opening.shelves) ∙ all_numbered 0 (rows_in q.name h.opening.shelves))
-      h.opening.definitions.objects
+    (λ q. ap (λ (rows : List Row). map ident_of rows) (rows_numbered q.name h.opening.shelves) ∙ all_numbered 0 (rows_in q.name h.opening.shelves))
+    h.opening.definitions.objects
 
 all_rows : (s : Scenario) (m : ℕ) (hs : List History) → row_idents (managers_from s m [] hs) ≡ flat_map all_of hs
 all_rows s m [] = refl
@@ -109,7 +109,7 @@ standing_queue s ps m h q =
     ap (λ (rows : List Row). map ident_of (standing_in s ps (plain_at s m h) rows)) (rows_numbered q.name h.opening.shelves)
     ∙ kept_numbered (is_held_there s ps (plain_at s m h)) 0 (rows_in q.name h.opening.shelves)
     ∙ flat_same (λ (row : Row). if is_held_there s ps (plain_at s m h) row.by then [] else ident_of row ∷ []) (standing_if s ps (m + 1) h)
-        (λ row. ap (if_held row.by row) (held_is s ps m h row.by)) (rows_in q.name h.opening.shelves)
+    (λ row. ap (if_held row.by row) (held_is s ps m h row.by)) (rows_in q.name h.opening.shelves)
 
 standing_one : (s : Scenario) (ps : List Plain) (m : ℕ) (h : History) → idents_in (standing_in s ps (plain_at s m h)) (plain_at s m h) ≡ standing_of s ps m h
 standing_one s ps m h =

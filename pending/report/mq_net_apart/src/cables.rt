@@ -1,5 +1,5 @@
 //! Cables whose ends don't belong together.
-ghost use Rattle.std.specs.Prelude.{◌≡◌, ◌≤◌, option_copied, length};
+ghost use Rattle.std.specs.Prelude.{◌≡◌, ◌≤◌, ◌||◌, option_copied, length};
 ghost use Rattle.mq_spec_network.specs.Given.{name_at};
 ghost use Rattle.mq_spec_network.specs.Standing.{opening_managers};
 ghost use Rattle.mq_spec_network.specs.Apart.{is_other, is_above, doubt_case, cable_cases, cable_apart, cables_apart};
@@ -25,10 +25,22 @@ fn name_at(scenario: &Scenario, place: u16) -> QName
 }
 
 /// Whether a partner that is kept is not the other end.
+#[tactic(auto, using(crate::proofs::CableLaws::other_none, crate::proofs::CableLaws::other_some))]
 fn is_other(partner: &QName, name: &QName) -> bool
     ensures { result ≡ is_other partner.now name.now }
 {
-    !partner.is_blank() && *partner != *name
+    if partner.text().len() == 0 {
+        false
+    } else {
+        *partner != *name
+    }
+}
+
+/// Whether one of two partners that are kept is not the other end.
+fn differ(own: &QName, receiver: &QName, theirs: &QName, sender: &QName) -> bool
+    ensures { result ≡ (is_other own.now receiver.now || is_other theirs.now sender.now) }
+{
+    is_other(own, receiver) || is_other(theirs, sender)
 }
 
 fn is_above(a: Unit, b: Unit) -> bool
@@ -64,9 +76,9 @@ fn cable_cases(
 ) -> Option<Apart>
     ensures { result ≡ cable_cases cable sender_name.now receiver_name.now (sender_or (option_copied sender.entry)) (receiver_or (option_copied receiver.entry)) }
 {
-    if is_other(&sender_partner(sender), receiver_name)
-        || is_other(&receiver_partner(receiver), sender_name)
-    {
+    let own_partner = sender_partner(sender);
+    let their_partner = receiver_partner(receiver);
+    if differ(&own_partner, receiver_name, &their_partner, sender_name) {
         return Some(Apart::Partner(cable));
     }
     let own = sender_session(sender);
@@ -98,7 +110,11 @@ fn cable_apart(
 }
 
 /// The first cable whose ends don't belong together.
-pub fn cables_apart(scenario: &Scenario, histories: &[History], cables: &[CableLine]) -> Option<Apart>
+pub fn cables_apart(
+    scenario: &Scenario,
+    histories: &[History],
+    cables: &[CableLine],
+) -> Option<Apart>
     requires { length cables.now ≤ 65536 }
     ensures { result ≡ cables_apart scenario.now (opening_managers scenario.now histories.now) 0 cables.now }
 {

@@ -1,7 +1,6 @@
 //! The idents of the rows that logs had at the first starts: of all, and of those that count where they stand.
 ghost use Rattle.std.specs.Prelude.{◌≡◌, ◌+◌, ◌++◌, ◌∷◌, [], OnOk, map, option_copied};
 ghost use Rattle.std.specs.List.{flat_map};
-ghost use Rattle.mq_spec_state.specs.Reads.{sender_in, in_doubt_of};
 ghost use Rattle.mq_spec_network.specs.Ledger.{rows_in};
 ghost use Rattle.mq_spec_network.specs.Standing.{cable_from, last_unit, opening_managers, is_doubted};
 ghost use Rattle.mq_net_apart.specs.Opened.{opened_counts, opened_held, opened_standing, ident_of, all_object, standing_object, all_of, standing_of, standing_if, is_cable};
@@ -34,7 +33,7 @@ fn rows_in<'a>(shelves: &'a [Shelf], name: &QName) -> &'a [Row]
 fn is_cable(cable: &CableLine, at: usize, channel: &ChName) -> bool
     ensures { result ≡ is_cable cable.now (at + 1) channel.now }
 {
-    *channel == cable.channel && cable.sender as u64 + 1 == number
+    *channel == cable.channel && cable.sender as usize == at
 }
 
 /// The cable of a channel on which the manager at a place sends.
@@ -103,10 +102,9 @@ fn is_held_there(
     ensures { result ≡ opened_held scenario.now (opening_managers scenario.now histories.now) (at + 1) history.now by.now }
 {
     match by {
-        Some(Holder::Batch(channel)) => {
-            counts_there(scenario, histories, at, history, channel)
-        }
-        _ => false,
+        None => false,
+        Some(Holder::Unit(_)) => false,
+        Some(Holder::Batch(channel)) => counts_there(scenario, histories, at, history, channel),
     }
 }
 
@@ -170,7 +168,10 @@ fn put_all_object(
 {
     match object {
         Object::Local(queue) => {
-            put_all(out, rows_in(history.opening.shelves.as_slice(), &queue.name))
+            put_all(
+                out,
+                rows_in(history.opening.shelves.as_slice(), &queue.name),
+            )
         }
         _ => Ok(()),
     }

@@ -1,8 +1,9 @@
 //! Idents that stand twice, by a search by hash for each.
-ghost use Rattle.std.specs.Prelude.{◌≡◌, ◌||◌, ◌&&◌, not, OnOk, IfOk, count_by, nat_lt};
+ghost use Rattle.std.specs.Prelude.{◌≡◌, ◌||◌, not, OnOk, IfOk, count_by, nat_lt};
 ghost use Rattle.mq_message.specs.declared.message.Ident.{Ident};
 ghost use Rattle.mq_queue.specs.Rows.{same_ident};
 ghost use Rattle.mq_shelves.specs.Spots.{is_met};
+ghost use Rattle.mq_net_apart.specs.Twice.{again_in};
 
 use indexmap::IndexMap;
 use mq_base::NoMemory;
@@ -18,12 +19,8 @@ fn put(twice: &mut IndexMap<IdentKey, bool>, ident: &Ident) -> Result<(), NoMemo
 }
 
 /// An ident joins those that stand twice, if it came again.
-fn put_if(
-    twice: &mut IndexMap<IdentKey, bool>,
-    again: bool,
-    ident: &Ident,
-) -> Result<(), NoMemory>
-    ensures { OnOk result ((k : Ident) → is_met twice.new k ≡ ((again && same_ident ident.now k) || is_met twice.old k)) }
+fn put_if(twice: &mut IndexMap<IdentKey, bool>, again: bool, ident: &Ident) -> Result<(), NoMemory>
+    ensures { OnOk result ((k : Ident) → is_met twice.new k ≡ again_in again ident.now k (is_met twice.old k)) }
 {
     if again { put(twice, ident) } else { Ok(()) }
 }
@@ -35,10 +32,11 @@ fn note(
     ident: &Ident,
 ) -> Result<(), NoMemory>
     ensures met { OnOk result ((k : Ident) → is_met met.new k ≡ (same_ident ident.now k || is_met met.old k)) }
-    ensures twice { OnOk result ((k : Ident) → is_met twice.new k ≡ ((not (not (is_met met.old ident.now)) && same_ident ident.now k) || is_met twice.old k)) }
+    ensures twice { OnOk result ((k : Ident) → is_met twice.new k ≡ again_in (not (not (is_met met.old ident.now))) ident.now k (is_met twice.old k)) }
 {
     let first = meet(met, ident)?;
-    put_if(twice, !first, ident)
+    put_if(twice, !first, ident)?;
+    Ok(())
 }
 
 /// The idents that stand twice.

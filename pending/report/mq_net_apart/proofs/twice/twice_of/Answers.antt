@@ -16,7 +16,7 @@ pub loop-ident-preserved : goal.loop-ident-preserved
 loop-ident-preserved c = record {
   met = λ (k : Ident). met_step c.args.idents.now c.loop-ident.ident-index _ k (is_met c.loop-ident.met) (is_met c.note.new.met) c.in_ok-note.ensures.met c.loop-ident.invariant.met c.loop-ident-test.true (search rules);
   twice = λ (k : Ident). twice_step c.args.idents.now c.loop-ident.ident-index _ k (is_met c.loop-ident.met) (is_met c.loop-ident.twice) (is_met c.note.new.twice) c.in_ok-note.ensures.twice c.loop-ident.invariant.met c.loop-ident.invariant.twice
-    c.loop-ident-test.true (search rules);
+      c.loop-ident-test.true (search rules);
 }
 
 pub returns : goal.returns
