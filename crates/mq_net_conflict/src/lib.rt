@@ -5,4 +5,5 @@ mod openings;
 mod settlements;
 mod told;
 
+pub use openings::opened_receiver;
 pub use settlements::conflict;

@@ -37,7 +37,7 @@ fn receiver_in<'a>(sides: &'a [ReceiverSide], channel: &ChName) -> Option<&'a Re
 }
 
 /// What a receiver at a manager had hardened.
-fn opened_receiver<'a>(
+pub fn opened_receiver<'a>(
     histories: &'a [History],
     manager: u16,
     channel: &ChName,

@@ -1,0 +1,4 @@
+pub mod CableLaws
+pub mod RowLaws
+pub mod IdentLaws
+pub mod TwiceLaws

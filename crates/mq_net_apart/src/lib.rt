@@ -1,0 +1,10 @@
+//! Whether the logs of a scenario's managers belong together.
+#![tactic(auto)]
+
+mod cables;
+mod hardened;
+mod idents;
+mod rows;
+mod twice;
+
+pub use idents::apart;
