@@ -1,6 +1,6 @@
 -- Each deed that is no turn or timeout of a sender's end is an operator's command on it, or leaves it alone.
-use Rattle.std.proofs.Common.{ℕ, ◌≡◌, ◌⊎◌, ◌-◌, Bool, true, false, List, [], ◌∷◌, ◌++◌, refl, ap, sym, subst, inl, inr}
-use Rattle.std.specs.Prelude.{Option, Some, None, if◌then◌else◌, not, ◌&&◌, ◌==◌, ◌||◌}
+use Rattle.std.proofs.Common.{ℕ, ◌≡◌, ◌⊎◌, ◌-◌, Bool, true, false, List, [], ◌∷◌, ◌++◌, refl, sym, subst, inl, inr}
+use Rattle.std.specs.Prelude.{Option, Some, None, if◌then◌else◌, not, ◌==◌, ◌||◌}
 use Rattle.std.specs.Str.{bytes_eq}
 use Rattle.mq_frame.specs.declared.frame.Seen.{Seen}
 use Rattle.mq_objects.specs.Names.{channel_of, local_of}
@@ -29,11 +29,11 @@ use Rattle.mq_spec_state.specs.State.{Plain, Running}
 use Rattle.mq_spec_state.specs.State.Running.{Up, Down}
 use Rattle.mq_spec_state.specs.State.Change.{Seize}
 use Rattle.mq_spec_state.specs.Reads.{batch_of, has_held_by_other, in_doubt_of, is_open_for_input, is_up, receiver_data, sender_data}
-use Rattle.mq_spec_state.specs.Steps.{Step, Test, do_all, refusal, silent, when, refused_or as steps_refused_or}
+use Rattle.mq_spec_state.specs.Steps.{Step, Test, refusal, silent, when, refused_or as steps_refused_or}
 use Rattle.mq_spec_state.specs.Steps.Step.{Refuse, Do}
 use Rattle.mq_spec_manager.specs.Handles.{is_transmission_queue}
 use Rattle.mq_spec_agents.specs.Words.{channel_queue, harden, leave, release_of, seize, set_bound, stock}
-use Rattle.mq_spec_node.specs.Node.{Node, Own, ReceiverEnd, SenderEnd, receiver_end, receiver_named, sender_end, sender_named}
+use Rattle.mq_spec_node.specs.Node.{Node, ReceiverEnd, SenderEnd, receiver_end, sender_end, sender_named}
 use Rattle.mq_spec_node.specs.Node.ChannelEnd.{Sends, Receives}
 use Rattle.mq_spec_node.specs.Deeds.{Deed, parts_of}
 use Rattle.mq_spec_node.specs.Senders.{after_timeout, sender_deed, timeout_deed}
@@ -43,13 +43,11 @@ use Rattle.mq_spec_node.specs.Happens.{deed_of, receiver_turn, sender_turn, time
 use Rattle.mq_sender.specs.Table.{awaits}
 use Rattle.mq_sender.specs.After.{timed_out}
 use Rattle.mq_law_channel.specs.Channel.{Channel}
-use Rattle.mq_law_channel.specs.Facts.{Letter}
-use Rattle.mq_law_manager.specs.Facts.{IsSound}
 use Rattle.mq_law_node.specs.Beside.{DoesNear, EachDoes, KeyedNear, is_ours}
-use Rattle.mq_law_node.specs.Ends.{SendsAs, Where, sender_of}
+use Rattle.mq_law_node.specs.Ends.{SendsAs, Where}
 use Rattle.mq_law_node.specs.Quiet.{IsOrdinary}
 use Rattle.mq_law_node.proofs.Named.{bool_case}
-use Rattle.mq_law_node.proofs.NearDoes.{close_apart, here_case, named_case, near_does_all, option_case, reset_apart, reset_moves, reset_taking, resolve_apart, resolve_moves, start_apart, start_moves, start_taking, stop_apart, stop_moves, stop_taking}
+use Rattle.mq_law_node.proofs.NearDoes.{here_case, named_case, near_does_all, option_case, reset_apart, reset_moves, reset_taking, resolve_apart, resolve_moves, start_apart, start_moves, start_taking, stop_apart, stop_moves, stop_taking}
 use Rattle.mq_law_node.proofs.Aside.{EachApart, timeouts_apart, turns_apart}
 use Rattle.mq_law_node.proofs.Ordinary.{ordinary_is_quiet}
 use Rattle.mq_law_turns.specs.Turns.{EachForOthers, parts_for_others}
