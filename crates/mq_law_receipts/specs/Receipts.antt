@@ -1,8 +1,7 @@
 -- A receiver's commit as a change of the network: what it rests on, and what stands behind it.
-use Rattle.std.specs.Prelude.{ℕ, pos, Bool, false, ◌≡◌, ◌≤◌, ◌+◌, ◌==◌, List, [], ◌∷◌, map, None, Some, slice_get}
+use Rattle.std.specs.Prelude.{ℕ, Bool, false, ◌≡◌, ◌≤◌, ◌+◌, ◌==◌, List, [], ◌∷◌, map, Some, slice_get}
 use Rattle.mq_message.specs.declared.message.Ident.{Ident}
 use Rattle.mq_message.specs.declared.message.Message.{Message}
-use Rattle.mq_queue.specs.declared.row.Row.{Row}
 use Rattle.mq_sync.specs.declared.unit.Unit.{Unit as Luw}
 use Rattle.mq_calls.specs.declared.state.Connection.{Connection}
 use Rattle.mq_history.specs.declared.scenario.CableLine.{CableLine}
@@ -11,8 +10,7 @@ use Rattle.mq_history.specs.declared.story.ManagerPlaces.{ManagerPlaces}
 use Rattle.mq_spec_state.specs.State.{Change, Plain}
 use Rattle.mq_spec_state.specs.State.Change.{Connect}
 use Rattle.mq_spec_state.specs.Changes.{apply}
-use Rattle.mq_spec_state.specs.Reads.{is_persistent, stored}
-use Rattle.mq_spec_network.specs.Ledger.{Ledger, ledger_rows}
+use Rattle.mq_spec_network.specs.Ledger.{Ledger}
 use Rattle.mq_spec_network.specs.Standing.{cable_from}
 use Rattle.mq_spec_network.specs.Story.{Chain, Mem}
 use Rattle.mq_law_rows.specs.World.{Ghost, Inv, tag_idents, tag_of}

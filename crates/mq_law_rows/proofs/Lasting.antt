@@ -1,5 +1,5 @@
 -- Persistence goes by ident: what changes of rows and units leave of it, and what a new message adds.
-use Rattle.std.proofs.Common.{ℕ, ◌≡◌, ◌≢◌, Bool, true, false, List, [], ◌∷◌, ◌++◌, ◌⊎◌, refl, ap, sym, subst, ◌∙◌, inl, inr}
+use Rattle.std.proofs.Common.{ℕ, ◌≡◌, Bool, false, List, [], ◌∷◌, ◌++◌, ◌⊎◌, ap, sym, subst, ◌∙◌, inl, inr}
 use Rattle.std.specs.Prelude.{Option, Some, None, if◌then◌else◌}
 use Rattle.mq_message.specs.declared.message.Ident.{Ident}
 use Rattle.mq_message.specs.declared.message.Message.{Message}
@@ -12,7 +12,7 @@ use Rattle.mq_calls.specs.declared.state.Item.{Item}
 use Rattle.mq_calls.specs.declared.state.Item.TheVariants.{Put, Take}
 use Rattle.mq_spec_state.specs.Reads.{is_persistent}
 use Rattle.mq_spec_network.specs.Story.{Mem}
-use Rattle.mq_law_rows.specs.World.{World, Book, Ghost, Tag, Owner, Unborn, tag_of, claim, put_idents, IsElsewhere, Lasting, Inv}
+use Rattle.mq_law_rows.specs.World.{World, Book, Ghost, Tag, Unborn, tag_of, claim, put_idents, IsElsewhere, Lasting, Inv}
 use Rattle.mq_law_rows.specs.Kinds.{puts_of}
 use Rattle.mq_law_rows.proofs.Lists.{bool_case, ident_yes, ident_self, mem_append}
 use Rattle.mq_law_rows.proofs.Owners.{row_where}

@@ -151,11 +151,11 @@ others_behind : (c : List ℕ) (xs ys : List Change) → all_for_others c xs ≡
 others_behind c [] ys e f = f
 others_behind c (x ∷ xs) ys e f = (λ i. and_left (is_for_others c x) (all_for_others c xs) e i && others_behind c xs ys (and_right (is_for_others c x) (all_for_others c xs) e) f i)
 
-parts_behind : (c : List ℕ) (xs ys : List Part) → parts_for_others c xs ≡ true → parts_for_others c ys ≡ true → parts_for_others c (xs ++ ys) ≡ true
+pub parts_behind : (c : List ℕ) (xs ys : List Part) → parts_for_others c xs ≡ true → parts_for_others c ys ≡ true → parts_for_others c (xs ++ ys) ≡ true
 parts_behind c [] ys e f = f
 parts_behind c (x ∷ xs) ys e f = (λ i. and_left (all_for_others c x.changes) (parts_for_others c xs) e i && parts_behind c xs ys (and_right (all_for_others c x.changes) (parts_for_others c xs) e) f i)
 
-leaving_others : (c d : List ℕ) (st : SenderState) (p : Plain) → parts_for_others c (leave_if_stopped d st p) ≡ true
+pub leaving_others : (c d : List ℕ) (st : SenderState) (p : Plain) → parts_for_others c (leave_if_stopped d st p) ≡ true
 leaving_others c d st p = bool_case (is_running st) (λ t. parts_for_others c (if t then [] else parts_of (leave d p)) ≡ true) (λ e. refl) (λ e. refl)
 
 expired_others : (c q : List ℕ) (rows : List Row) → parts_for_others c (expired_parts q rows) ≡ true
@@ -167,7 +167,7 @@ settled_others c e None p = refl
 settled_others c e (Some settles.Commit) p = refl
 settled_others c e (Some settles.Backout) p = refl
 
-released_others : (c d : List ℕ) (o : Option Batch) → parts_for_others c (parts_of (release_of d o)) ≡ true
+pub released_others : (c d : List ℕ) (o : Option Batch) → parts_for_others c (parts_of (release_of d o)) ≡ true
 released_others c d None = refl
 released_others c d (Some b) = refl
 

@@ -26,11 +26,8 @@ use Rattle.std.specs.Prelude.{slice_get}
 use Rattle.mq_history.specs.declared.calls.Call.TheVariants as calls
 use Rattle.mq_history.specs.declared.story.ManagerPlaces.{ManagerPlaces}
 use Rattle.mq_message.specs.declared.message.Message.{Message}
-use Rattle.mq_queue.specs.declared.row.Row.{Row}
-use Rattle.mq_spec_state.specs.Reads.{is_persistent, stored}
 use Rattle.mq_spec_state.specs.Steps.{delta_of}
-use Rattle.mq_spec_network.specs.Ledger.{Ledger, ledger_rows, post_call, take_all_gone}
-use Rattle.mq_spec_network.specs.Story.{Mem}
+use Rattle.mq_spec_network.specs.Ledger.{Ledger, post_call, take_all_gone}
 use Rattle.mq_law_manager.specs.Facts.{IsSound}
 use Rattle.mq_law_manager.specs.Kept.{AllKeep}
 use Rattle.mq_law_events.specs.Posting.{IsTimed}

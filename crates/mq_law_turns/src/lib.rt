@@ -2,7 +2,7 @@
 //! ledger's are kept, and the channel is of one mind with the network again.
 #![tactic(auto)]
 
-ghost use Rattle.std.specs.Prelude.{◌≡◌, ◌≢◌, ◌++◌, ◌==◌, ℕ, Bool, true, false, List, [], Some, if◌then◌else◌, map, slice_get};
+ghost use Rattle.std.specs.Prelude.{◌≡◌, ◌≢◌, ◌++◌, ◌==◌, ℕ, Bool, true, false, List, [], Some, if◌then◌else◌, slice_get};
 ghost use Rattle.mq_message.specs.declared.message.Ident.{Ident};
 ghost use Rattle.mq_frame.specs.declared.frame.Seen.{Seen};
 ghost use Rattle.mq_sync.specs.declared.unit.Unit.{Unit as Luw};
@@ -46,7 +46,7 @@ ghost use Rattle.mq_law_manager.specs.Facts.{IsSound};
 ghost use Rattle.mq_law_events.specs.Local.{Moved, with_owner};
 ghost use Rattle.mq_law_events.specs.Tied.{Follow, IsFresh, IsNext, IsTold};
 ghost use Rattle.mq_law_channel.specs.Facts.{Letter};
-ghost use Rattle.mq_law_node.specs.Ends.{Reads, SendsAs, TakesAs, Where, receiver_of, sender_of, stamped, taking_turn, turn_of};
+ghost use Rattle.mq_law_node.specs.Ends.{Reads, SendsAs, TakesAs, Where, receiver_of, sender_of, taking_turn, turn_of};
 ghost use Rattle.mq_sync.specs.Units.{no_unit, same_unit};
 ghost use Rattle.mq_calls.specs.declared.deltas.Did.TheVariants as did;
 ghost use Rattle.mq_history.specs.declared.history.History.{History};
