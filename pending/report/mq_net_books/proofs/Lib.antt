@@ -1,4 +1,0 @@
-pub mod RowLaws
-pub mod CallerLaws
-pub mod BookLaws
-pub mod ObjectLaws
