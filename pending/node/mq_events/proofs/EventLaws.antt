@@ -44,7 +44,7 @@ use Rattle.mq_spec_node.specs.Replays.{done_by}
 use Rattle.mq_events.specs.declared.endings.Called.{Called}
 use Rattle.mq_events.specs.declared.endings.Calling.TheVariants as callings
 use Rattle.mq_events.specs.Endings.{choice_of}
-use Rattle.mq_events.specs.Adding.{Adds}
+use Rattle.mq_events.specs.Adding.{Adds, Stays}
 use Rattle.mq_events.specs.Givens.{own_given, surroundings_in}
 use Rattle.mq_events.proofs.GivenLaws.{after_given, remembered_given, rest_given}
 use Rattle.mq_events.specs.Values.{CameOut, PartsValue, entry_of, node_in, own_after, untold, with_act, with_call}
@@ -273,3 +273,12 @@ turn_happens actor name b v core due m =
 pub turn_wants : (step : Step Never Bool) (old new : CoreValue) → Meets (manager_of old) step (Err halts.NoMemory) (manager_of new) → new.plain ≡ old.plain
 turn_wants (Refuse reason) old new m = absurd m
 turn_wants (Do value parts) old new m = ap (λ (x : ManagerValue). x.plain) m
+
+-- where the manager is as it was, nothing is seen to have changed
+pub stays_with : (core : CoreValue) (room : ℕ) (v : PartsValue) → core.plain ≡ v.core.plain → Stays v (record v { core = core; room = room })
+stays_with core room v e = record {
+  node = ap (λ (p : Plain). node_of p v.own) e;
+  stamp = refl;
+  history = refl;
+  given = refl;
+}

@@ -29,7 +29,7 @@ use Rattle.mq_events.specs.declared.parts.Opening.{Opening}
 use Rattle.mq_events.specs.Beginning.{IsBegun, parts_from}
 use Rattle.mq_events.specs.Calling.{Applies, Happens}
 use Rattle.mq_events.specs.Givens.{actor_after}
-use Rattle.mq_events.specs.Nodes.{Comes, Occurs, Serves, value_of}
+use Rattle.mq_events.specs.Nodes.{Comes, Occurs, Serves, value_of, with_mark}
 use Rattle.mq_events.specs.Turning.{Turns}
 use Rattle.mq_events.specs.Values.{PartsValue}
 use Rattle.mq_events.proofs.ReplayLaws.{replays_more}
@@ -132,4 +132,13 @@ begun_replays core own o is = record {
   triggers = tt;
   node = is;
   stamp = refl;
+}
+
+-- a mark changes nothing of what replays
+pub mark_kept : (idle : Bool) (v : NodeValue) → IsReplayed v → IsReplayed (with_mark idle v)
+mark_kept idle v is = record {
+  replays = record { number = is.replays.number; name = is.replays.name; follows = is.replays.follows };
+  triggers = is.triggers;
+  node = is.node;
+  stamp = is.stamp;
 }

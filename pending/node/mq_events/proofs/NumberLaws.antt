@@ -26,11 +26,11 @@ use Rattle.mq_resolve.specs.Resolved.{resolve}
 use Rattle.mq_sc_apply.specs.declared.answers.Plan.{Plan}
 use Rattle.mq_sc_apply.specs.declared.answers.Plan.TheVariants as plans
 use Rattle.mq_spec_state.specs.State.{Plain}
-use Rattle.mq_spec_state.specs.State.Change.{Connect, Disconnect}
+use Rattle.mq_spec_state.specs.State.Change.{CloseHandle, Connect, Disconnect, OpenHandle}
 use Rattle.mq_spec_state.specs.Reads.{handle_at, is_up}
 use Rattle.mq_spec_state.specs.Steps.{◌>>=◌, going_on, none_of, IsWrite, Step, Part, Test, refused_or, refusal, tested, silent, when, delta_before}
 use Rattle.mq_spec_state.specs.Steps.Step.{Do, Refuse}
-use Rattle.mq_spec_manager.specs.Handles.{connected, for_connection, for_handle, mqconn, mqopen, mqclose, close_up, close_handle, new_connection, new_hconn, conn_tests, open_tests, open_step, option_tests, is_unfit}
+use Rattle.mq_spec_manager.specs.Handles.{connected, for_connection, for_handle, mqconn, mqopen, mqclose, close_up, close_handle, new_connection, new_handle, new_hconn, conn_tests, open_tests, open_step, option_tests, is_unfit}
 use Rattle.mq_spec_manager.specs.Put.{mqput, mqput1, put_up, put_handle, put_route, put1_resolved, new_message, put_tests, put_step, put_part, queue_at, output_tests, handle_route, output_only}
 use Rattle.mq_spec_manager.specs.Get.{mqget, get_up, get_handle, get_scanned, get_found, with_row, without_row, found_part, expired_parts, removal_parts, scanned, is_left, is_waiting, is_under, room_tests, get_tests}
 use Rattle.mq_spec_manager.specs.Units.{mqcmit, mqback, mqdisc, commit_part, backout_part}
@@ -42,23 +42,23 @@ use Rattle.mq_events.specs.Numbered.{AreNumbered, IsNumbered}
 
 -- Steps that are read from the top: what holds of refusals and of what is at the end holds of the whole.
 refused_keeps : {F T : Type 0} (P : Step F T → Type 0) → ((r : F) → P (Refuse r)) → (o : Option F) (s : Step F T) → P s → P (refused_or o s)
-refused_keeps P no None s h = h
-refused_keeps P no (Some reason) s h = no reason
+refused_keeps P refuses None s h = h
+refused_keeps P refuses (Some reason) s h = refuses reason
 
 tested_keeps : {F T : Type 0} (P : Step F T → Type 0) → ((r : F) → P (Refuse r)) → (ts : List (Test F)) (s : Step F T) → P s → P (tested ts s)
-tested_keeps P no ts s h = refused_keeps P no (refusal ts) s h
+tested_keeps P refuses ts s h = refused_keeps P refuses (refusal ts) s h
 
 connection_keeps : {T : Type 0} (P : Step Reason T → Type 0) → ((r : Reason) → P (Refuse r)) → (r : Result Connection Reason) (f : Connection → Step Reason T) → ((c : Connection) → P (f c)) → P (for_connection r f)
-connection_keeps P no (Ok c) f h = h c
-connection_keeps P no (Err reason) f h = no reason
+connection_keeps P refuses (Ok c) f h = h c
+connection_keeps P refuses (Err reason) f h = refuses reason
 
 handle_keeps : {T : Type 0} (P : Step Reason T → Type 0) → ((r : Reason) → P (Refuse r)) → (o : Option Handle) (f : Handle → Step Reason T) → ((h : Handle) → P (f h)) → P (for_handle o f)
-handle_keeps P no None f k = no reasons.ObjectHandleError
-handle_keeps P no (Some h) f k = k h
+handle_keeps P refuses None f k = refuses reasons.ObjectHandleError
+handle_keeps P refuses (Some h) f k = k h
 
 going_keeps : {A F T : Type 0} (P : Step F T → Type 0) → ((r : F) → P (Refuse r)) → (r : Result A F) (f : A → Step F T) → ((a : A) → P (f a)) → P (going_on r f)
-going_keeps P no (Ok a) f h = h a
-going_keeps P no (Err reason) f h = no reason
+going_keeps P refuses (Ok a) f h = h a
+going_keeps P refuses (Err reason) f h = refuses reason
 
 -- one part
 pub one_numbered : (part : Part) (n : ℕ) → IsWrite n (part ∷ []) → n ≡ part_of (delta_before n (part ∷ []))
@@ -80,7 +80,7 @@ abbrev asked : List ℕ → List ℕ → Open → Plain → Connection → Step 
 asked name qmgr how p c = none_of (option_tests how) >>= (λ chosen. resolve p.definitions p.given.name name qmgr >>= routed c how p)
 
 open_numbered_step : (c : Connection) (how : Open) (route : Route) → IsNumbered (open_step c how route)
-open_numbered_step c how route = one_numbered _
+open_numbered_step c how route = one_numbered (silent (OpenHandle c.number (new_handle how route c) ∷ []))
 
 pub open_numbered : (hc : Hconn) (name qmgr : List ℕ) (how : Open) (p : Plain) → IsNumbered (mqopen hc name qmgr how p)
 open_numbered hc name qmgr how p = going_keeps IsNumbered (λ r. tt) (connected hc p) (asked name qmgr how p)
@@ -89,7 +89,7 @@ open_numbered hc name qmgr how p = going_keeps IsNumbered (λ r. tt) (connected 
     (λ route. going_keeps IsNumbered (λ r. tt) (none_of (open_tests c how route p)) (λ fits. open_step c how route) (λ fits. open_numbered_step c how route))))
 
 close_numbered_step : (c : Connection) (h : Handle) → IsNumbered (close_handle c h)
-close_numbered_step c h = one_numbered _
+close_numbered_step c h = one_numbered (silent (CloseHandle c.number h.number ∷ []))
 
 pub close_numbered : (hc : Hconn) (ho : Hobj) (p : Plain) → IsNumbered (mqclose hc ho p)
 close_numbered hc ho p = connection_keeps IsNumbered (λ r. tt) (connected hc p) (close_up ho)

@@ -64,9 +64,9 @@ abbrev pub with_act : Actor → Call → Reply → PartsValue → PartsValue
 with_act actor call reply v = noted actor call choices.Runs reply v.core.delta (untold v)
 
 -- how the manager did a deed
-pub record CameOut (d : Deed) (n : Node) (choice : Choice) (reply : Reply) (new : CoreValue) : Type 0 where
+pub record CameOut (d : Deed) (n : Node) (choice : Choice) (answer : Reply) (new : CoreValue) : Type 0 where
   pub can : CanCome d choice n
-  pub reply : reply ≡ (done d choice n).reply
+  pub reply : answer ≡ (done d choice n).reply
   pub delta : new.delta ≡ (done d choice n).delta
   pub plain : new.plain ≡ (done d choice n).next.manager
   pub own : (done d choice n).next.own ≡ own_after choice new.delta n.own

@@ -38,6 +38,7 @@ impl<D: Disk> Model for Node<D> {
 
 impl<D: Disk> Node<D> {
     /// A node of which nothing has happened. It takes no memory.
+    #[tactic(auto, using(crate::proofs::NodeLaws::begun_replays))]
     pub fn new(alloc: Global, manager: Manager<D>, own: Own, opening: Opening) -> Node<D>
         requires { IsBegun manager own opening }
         ensures { result ≡ value_of (parts_from manager own opening) }
@@ -77,6 +78,7 @@ impl<D: Disk> Node<D> {
 
     /// The manager does a call, and its entry stands behind the others. `Waits` exactly where a get may still wait; `NoMemory` has
     /// changed nothing.
+    #[tactic(auto, using(crate::proofs::NodeLaws::comes_of, crate::proofs::NodeLaws::comes_kept, crate::proofs::NodeLaws::unspent_low))]
     pub fn apply(&mut self, actor: Actor, call: Call) -> Outcome
         requires low { AreLow self.old.node.manager }
         requires managers { is_managers call ≡ true }
@@ -88,6 +90,7 @@ impl<D: Disk> Node<D> {
     }
 
     /// The manager stops. `Waits` never comes.
+    #[tactic(auto, using(crate::proofs::NodeLaws::comes_of, crate::proofs::NodeLaws::comes_kept, crate::proofs::NodeLaws::unspent_low))]
     pub fn crash(&mut self, actor: Actor) -> Outcome
         requires served { trigger_deed self.old.node ≡ None }
         requires unspent { is_spent self.old ≡ false }
@@ -97,6 +100,7 @@ impl<D: Disk> Node<D> {
     }
 
     /// The k-th device call from now on is to be stopped; with 0 none is. `Waits` never comes.
+    #[tactic(auto, using(crate::proofs::NodeLaws::comes_of, crate::proofs::NodeLaws::comes_kept, crate::proofs::NodeLaws::unspent_low))]
     pub fn cut(&mut self, actor: Actor, k: u32) -> Outcome
         requires served { trigger_deed self.old.node ≡ None }
         requires unspent { is_spent self.old ≡ false }
@@ -106,6 +110,7 @@ impl<D: Disk> Node<D> {
     }
 
     /// The moment is later by so many milliseconds, but never past the last one that there is. `Waits` never comes.
+    #[tactic(auto, using(crate::proofs::NodeLaws::comes_of, crate::proofs::NodeLaws::comes_kept, crate::proofs::NodeLaws::unspent_low))]
     pub fn advance_clock(&mut self, actor: Actor, by: u64) -> Outcome
         requires served { trigger_deed self.old.node ≡ None }
         requires unspent { is_spent self.old ≡ false }
@@ -119,6 +124,7 @@ impl<D: Disk> Node<D> {
     /// # Errors
     ///
     /// No memory; nothing has changed, and the trigger stays due.
+    #[tactic(auto, using(crate::proofs::NodeLaws::serves_of, crate::proofs::NodeLaws::serves_kept, crate::proofs::NodeLaws::unspent_low, crate::proofs::NodeLaws::none_at_first))]
     pub fn take_turn(&mut self) -> Result<bool, NoMemory>
         requires low { AreLow self.old.node.manager }
         requires unspent { is_spent self.old ≡ false }
@@ -135,6 +141,7 @@ impl<D: Disk> Node<D> {
     /// # Errors
     ///
     /// No memory; nothing has changed.
+    #[tactic(auto, using(crate::proofs::NodeLaws::mark_kept))]
     pub fn mark(&mut self, idle: bool) -> Result<(), NoMemory>
         ensures ok { OnOk result (self.new ≡ with_mark idle self.old) }
         ensures err { OnErr result (self.new ≡ self.old) }

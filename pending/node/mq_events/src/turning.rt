@@ -13,6 +13,7 @@ use mq_name::QName;
 
 impl<D: Disk> NodeParts<D> {
     /// The trigger of this queue, which is the next, is served.
+    #[tactic(auto, using(crate::proofs::EventLaws::turn_happens, crate::proofs::EventLaws::turn_wants, crate::proofs::EventLaws::stays_with))]
     fn serve(&mut self, actor: Actor, queue: QName) -> Result<bool, NoMemory>
         requires low { AreLow self.old.core.plain }
         requires due { next_due self.old.core.plain ≡ Some queue }
@@ -35,6 +36,7 @@ impl<D: Disk> NodeParts<D> {
     /// # Errors
     ///
     /// No memory; nothing has changed, and the trigger stays due.
+    #[tactic(auto, using(crate::proofs::EventLaws::none_due, crate::proofs::EventLaws::stays_with))]
     pub fn take_turn(&mut self, actor: Actor) -> Result<bool, NoMemory>
         requires low { AreLow self.old.core.plain }
         requires stamp { self.old.stamp < 2 ^ 63 }

@@ -2,7 +2,7 @@
 use Rattle.std.specs.Prelude.{◌≡◌, [], None}
 use Rattle.mq_spec_state.specs.Words.{Plain, After}
 use Rattle.mq_spec_state.specs.Steps.Outcome.{Answered}
-use Rattle.mq_core.specs.Values.{CoreValue}
+use Rattle.mq_manager.specs.Values.{CoreValue}
 
 -- a call that changes the plain manager so, and of which nothing is told
 abbrev pub quietly : (Plain → Plain) → CoreValue → CoreValue

