@@ -48,7 +48,9 @@ use Rattle.mq_events.specs.Adding.{Adds, Stays}
 use Rattle.mq_events.specs.Givens.{own_given, surroundings_in}
 use Rattle.mq_events.proofs.GivenLaws.{after_given, remembered_given, rest_given}
 use Rattle.mq_events.specs.Values.{CameOut, PartsValue, entry_of, node_in, own_after, untold, with_act, with_call}
-use Rattle.mq_events.specs.Calling.{DoesAs, DoesIf, Happens, is_managers}
+use Rattle.mq_events.specs.declared.endings.Outcome.TheVariants as outcomes
+use Rattle.mq_events.specs.Turning.{Turns}
+use Rattle.mq_events.specs.Calling.{Applies, DoesAs, DoesIf, Happens, is_managers}
 
 -- the manager has done something since
 abbrev pub with_core : CoreValue → PartsValue → PartsValue
@@ -282,3 +284,42 @@ stays_with core room v e = record {
   history = refl;
   given = refl;
 }
+
+-- The room of the entry was taken before.
+happens_from : (actor : Actor) (call : Call) (v : PartsValue) (room : ℕ) (new : PartsValue) → Happens actor call (record v { room = room }) new → Happens actor call v new
+happens_from actor call v room new h = record {
+  entry = h.entry;
+  actor_is = h.actor_is;
+  call_is = h.call_is;
+  adds = record { tells = h.adds.tells; node = h.adds.node; stamp = h.adds.stamp; history = h.adds.history; given = h.adds.given };
+}
+
+pub applied : (actor : Actor) (call : Call) (called : Called) (v : PartsValue) (room : ℕ) (core : CoreValue) (new : PartsValue) → is_managers call ≡ true
+    → DoesIf (callings.Ended called) (deed_of (v.stamp + 1) actor call items.Nothing (node_in v)) (node_in v) core
+    → new ≡ with_call actor call (choice_of called.ended core.delta core.plain.log.armed) called.reply (record v { core = core; room = room }) → Applies actor call v outcomes.Happened new
+applied actor call called v room core new is out e =
+    subst (λ (x : PartsValue). Happens actor call v x) (sym e) (happens_from actor call v room _ (happens_managers actor call called (record v { room = room }) core is out))
+
+pub stopped : (actor : Actor) (b : Bool) (v : PartsValue) (room : ℕ) (core : CoreValue) (new : PartsValue) → Comes (stop v.core.plain) b v.core core
+    → new ≡ with_act actor (calls.Act acts.Crash) (stop_reply b) (record v { core = core; own = stop_own b v.own; room = room }) → Applies actor (calls.Act acts.Crash) v outcomes.Happened new
+stopped actor b v room core new came e =
+    subst (λ (x : PartsValue). Happens actor (calls.Act acts.Crash) v x) (sym e) (happens_from actor (calls.Act acts.Crash) v room _ (stop_happens actor (record v { room = room }) core b came))
+
+pub cut_off : (actor : Actor) (k : ℕ) (v : PartsValue) (room : ℕ) (core : CoreValue) (new : PartsValue) → core ≡ quietly (cut k) v.core
+    → new ≡ with_act actor (calls.Act (acts.Cut k)) (replies.Acted acted.Done) (record v { core = core; room = room }) → Applies actor (calls.Act (acts.Cut k)) v outcomes.Happened new
+cut_off actor k v room core new is e =
+    subst (λ (x : PartsValue). Happens actor (calls.Act (acts.Cut k)) v x)
+    (ap (λ (y : CoreValue). with_act actor (calls.Act (acts.Cut k)) (replies.Acted acted.Done) (record v { core = y; room = room })) (sym is) ∙ sym e)
+    (happens_from actor (calls.Act (acts.Cut k)) v room _ (cut_happens actor k (record v { room = room })))
+
+pub clocked : (actor : Actor) (by : ℕ) (v : PartsValue) (room : ℕ) (core : CoreValue) (new : PartsValue) → core ≡ quietly (advance_clock by) v.core
+    → new ≡ with_act actor (calls.Act (acts.Clock by)) (replies.Acted acted.Done) (record v { core = core; room = room }) → Applies actor (calls.Act (acts.Clock by)) v outcomes.Happened new
+clocked actor by v room core new is e =
+    subst (λ (x : PartsValue). Happens actor (calls.Act (acts.Clock by)) v x)
+    (ap (λ (y : CoreValue). with_act actor (calls.Act (acts.Clock by)) (replies.Acted acted.Done) (record v { core = y; room = room })) (sym is) ∙ sym e)
+    (happens_from actor (calls.Act (acts.Clock by)) v room _ (clock_happens actor by (record v { room = room })))
+
+pub turned : (actor : Actor) (name : List ℕ) (b : Bool) (v : PartsValue) (room : ℕ) (core : CoreValue) (new : PartsValue) → next_due v.core.plain ≡ Some name → Meets (manager_of v.core) (trigger_turn v.core.plain) (Ok b) (manager_of core)
+    → new ≡ with_call actor calls.Trigger choices.Runs (replies.Triggered name) (record v { core = core; room = room }) → Turns actor v (Ok true) new
+turned actor name b v room core new due m e =
+    subst (λ (x : PartsValue). Happens actor calls.Trigger v x) (sym e) (happens_from actor calls.Trigger v room _ (turn_happens actor name b (record v { room = room }) core due m))

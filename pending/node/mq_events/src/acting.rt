@@ -25,7 +25,7 @@ fn rest_if(own: &mut Own, stopped: bool) -> Reply
 
 impl<D: Disk> NodeParts<D> {
     /// The manager stops, and its ends come to rest. `Waits` never comes.
-    #[tactic(auto, using(crate::proofs::EventLaws::stop_happens, crate::proofs::EventLaws::stays_with))]
+    #[tactic(auto, using(crate::proofs::EventLaws::stopped, crate::proofs::EventLaws::stays_with))]
     pub fn crash(&mut self, actor: Actor) -> Outcome
         requires stamp { self.old.stamp < 2 ^ 63 }
         ensures { Applies actor (calls.Act acts.Crash) self.old result self.new }
@@ -40,7 +40,7 @@ impl<D: Disk> NodeParts<D> {
     }
 
     /// The k-th device call from now on is to be stopped; with 0 none is.
-    #[tactic(auto, using(crate::proofs::EventLaws::cut_happens, crate::proofs::EventLaws::stays_with))]
+    #[tactic(auto, using(crate::proofs::EventLaws::cut_off, crate::proofs::EventLaws::stays_with))]
     pub fn cut(&mut self, actor: Actor, k: u32) -> Outcome
         requires stamp { self.old.stamp < 2 ^ 63 }
         ensures { Applies actor (calls.Act (acts.Cut k)) self.old result self.new }
@@ -54,7 +54,7 @@ impl<D: Disk> NodeParts<D> {
     }
 
     /// The moment is later by so many milliseconds, but never past the last one that there is.
-    #[tactic(auto, using(crate::proofs::EventLaws::clock_happens, crate::proofs::EventLaws::stays_with))]
+    #[tactic(auto, using(crate::proofs::EventLaws::clocked, crate::proofs::EventLaws::stays_with))]
     pub fn advance_clock(&mut self, actor: Actor, by: u64) -> Outcome
         requires stamp { self.old.stamp < 2 ^ 63 }
         ensures { Applies actor (calls.Act (acts.Clock by)) self.old result self.new }

@@ -38,7 +38,7 @@ impl<D: Disk> NodeParts<D> {
 
     /// The manager does a call, and its entry stands behind the others: nothing else is added. `Waits` exactly where a get may
     /// still wait; `NoMemory` has changed nothing.
-    #[tactic(auto, using(crate::proofs::EventLaws::happens_managers, crate::proofs::EventLaws::stays_with))]
+    #[tactic(auto, using(crate::proofs::EventLaws::applied, crate::proofs::EventLaws::stays_with))]
     pub fn apply(&mut self, actor: Actor, call: Call) -> Outcome
         requires low { AreLow self.old.core.plain }
         requires managers { is_managers call ≡ true }

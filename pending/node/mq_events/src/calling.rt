@@ -1,5 +1,5 @@
 //! Calls of the manager, and how each ends.
-ghost use Rattle.std.specs.Prelude.{◌≡◌, ℕ, true, Some};
+ghost use Rattle.std.specs.Prelude.{◌≡◌, ℕ, Some};
 ghost use Rattle.mq_frame.specs.declared.frame.Seen.TheVariants as items;
 ghost use Rattle.mq_history.specs.declared.calls.Reply.TheVariants as replies;
 ghost use Rattle.mq_spec_state.specs.Words.{AreLow};
@@ -8,7 +8,7 @@ ghost use Rattle.mq_spec_manager.specs.Commands.{command};
 ghost use Rattle.mq_spec_node.specs.Node.{Own};
 ghost use Rattle.mq_spec_node.specs.Terms.{Actor};
 ghost use Rattle.mq_spec_node.specs.Words.{mqi_deed, ended_deed, get_deed, command_deed, deed_of, node_of};
-ghost use Rattle.mq_events.specs.Calling.{DoesAs, DoesIf, command_ended, get_ended, get_wanting, is_managers};
+ghost use Rattle.mq_events.specs.Calling.{DoesAs, DoesIf, command_ended, get_ended, get_wanting};
 
 use crate::endings::{Called, Calling, Ended, connected, finished, how_ended, opened, sent};
 use mq_calls::{Answer, Appl, Get, GetAnswer, Halt, Hconn, Hobj, Open, ScRefusal, Shown};
@@ -233,10 +233,9 @@ fn obey<D: Disk>(manager: &mut Manager<D>, asked: &mq_objects::Command) -> Calli
     command_ended(answer)
 }
 
-/// A call that is the manager's alone, and how it ends.
+/// A call that is the manager's alone, and how it ends; another is not made.
 pub(crate) fn call_manager<D: Disk>(manager: &mut Manager<D>, call: &Call) -> Calling
     requires low { AreLow manager.old.plain }
-    requires managers { is_managers call.now ≡ true }
     ensures { (stamp : ℕ) (actor : Actor) (own : Own) → DoesIf result (deed_of stamp actor call.now items.Nothing (node_of manager.old.plain own)) (node_of manager.old.plain own) manager.new }
 {
     match call {
@@ -256,9 +255,10 @@ pub(crate) fn call_manager<D: Disk>(manager: &mut Manager<D>, call: &Call) -> Ca
         Call::Mqcmit { hc } => Calling::Ended(commit(manager, *hc)),
         Call::Mqback { hc } => Calling::Ended(back_out(manager, *hc)),
         Call::Act(Act::Obey(Command::Objects(asked))) => obey(manager, asked),
-        Call::Act(_) => unreachable!(),
-        Call::Turn => unreachable!(),
-        Call::Timeout => unreachable!(),
-        Call::Trigger => unreachable!(),
+        // none of these is the manager's alone
+        Call::Act(_) => Calling::NoMemory,
+        Call::Turn => Calling::NoMemory,
+        Call::Timeout => Calling::NoMemory,
+        Call::Trigger => Calling::NoMemory,
     }
 }

@@ -13,7 +13,7 @@ use mq_name::QName;
 
 impl<D: Disk> NodeParts<D> {
     /// The trigger of this queue, which is the next, is served.
-    #[tactic(auto, using(crate::proofs::EventLaws::turn_happens, crate::proofs::EventLaws::turn_wants, crate::proofs::EventLaws::stays_with))]
+    #[tactic(auto, using(crate::proofs::EventLaws::turned, crate::proofs::EventLaws::turn_wants, crate::proofs::EventLaws::stays_with))]
     fn serve(&mut self, actor: Actor, queue: QName) -> Result<bool, NoMemory>
         requires low { AreLow self.old.core.plain }
         requires due { next_due self.old.core.plain ≡ Some queue }
