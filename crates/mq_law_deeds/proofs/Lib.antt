@@ -1,2 +1,4 @@
 pub mod Resting
 pub mod Knowing
+pub mod Counting
+pub mod Rising
