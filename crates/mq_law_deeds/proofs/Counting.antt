@@ -38,6 +38,7 @@ use Rattle.mq_history.specs.declared.calls.Reply.TheVariants as replies
 use Rattle.mq_spec_agents.specs.Moves.{bare_if}
 use Rattle.mq_spec_state.specs.State.{Plain}
 use Rattle.mq_spec_state.specs.Changes.{change_connection}
+use Rattle.mq_spec_network.specs.Terms.{names_of, handle_at, handle_route, is_destructive}
 use Rattle.mq_spec_network.specs.Ledger as ledgers
 use Rattle.mq_spec_network.specs.Ledger.{Ledger, Users}
 use Rattle.mq_law_manager.proofs.Lists.{bool_case, mem_append}
@@ -168,10 +169,10 @@ routed_users m x (Err reason) l = refl
 routed_users m x (Ok route) l = refl
 
 received_users : (m : ℕ) (channel : List ℕ) (x : Message) (o : Option Reason) (l : Ledger) → (ledgers.place_received m channel x o l).users ≡ l.users
-received_users m channel x None l = routed_users m x (ledgers.resolved_at m (ledgers.names_of x.route).queue (ledgers.names_of x.route).qmgr l) l
+received_users m channel x None l = routed_users m x (ledgers.resolved_at m (names_of x.route).queue (names_of x.route).qmgr l) l
 received_users m channel x (Some reason) l = refl
 
-list_users : (m : ℕ) (channel : List ℕ) (ds : List Did) (first : Ledger) (ms : List Message) (l : Ledger) → (ledgers.place_list m channel ds first l ms).users ≡ l.users
+list_users : (m : ℕ) (channel : List ℕ) (ds : List Did) (first : Ledger) (ms : List Message) (l : Ledger) → (ledgers.place_list m channel ds first ms l).users ≡ l.users
 list_users m channel ds first [] l = refl
 list_users m channel ds first (x ∷ ms) l =
     let own = ledgers.own_row first x in let dead = ledgers.dead_reason x.ident ds in
@@ -202,7 +203,6 @@ obey_users m (commands.Operate op) l = refl
 obey_users m (commands.ShowStatus name any_end) l = refl
 
 -- Posts on connections
-
 
 when_kept : (n m : ℕ) (t : Bool) (f : Ledger → Ledger) (l : Ledger) → AreCountedAt n m l → AreCountedAt n m (f l) → AreCountedAt n m (ledgers.when t f l)
 when_kept n m true f l h k = k
@@ -258,11 +258,11 @@ put_by_kept n m sync hc c route i md body l h = put_row_kept n m sync hc _ _ l h
 put_kept : (n m : ℕ) (sync : Bool) (hc : Hconn) (ho : Hobj) (c : Option Connection) (i : Option Ident) (md : Md) (body : List ℕ) (l : Ledger) → AreCountedAt n m l → AreCountedAt n m (ledgers.put sync m hc ho c i md body l)
 put_kept n m sync hc ho None i md body l h = h
 put_kept n m sync hc ho (Some c) None md body l h = h
-put_kept n m sync hc ho (Some c) (Some i) md body l h = through (ledgers.handle_at ho.number c.handles)
+put_kept n m sync hc ho (Some c) (Some i) md body l h = through (handle_at ho.number c.handles)
   where
     through : (o : Option Handle) → AreCountedAt n m (ledgers.put_through sync m hc c o i md body l)
     through None = h
-    through (Some x) = put_by_kept n m sync hc c (ledgers.handle_route x) i md body l h
+    through (Some x) = put_by_kept n m sync hc c (handle_route x) i md body l h
 
 put1_kept : (n m : ℕ) (sync : Bool) (hc : Hconn) (name qmgr : List ℕ) (c : Option Connection) (i : Option Ident) (md : Md) (body : List ℕ) (l : Ledger) → AreCountedAt n m l → AreCountedAt n m (ledgers.put1 sync m hc name qmgr c i md body l)
 put1_kept n m sync hc name qmgr None i md body l h = h
@@ -279,7 +279,7 @@ get_row_kept n m false hc i l h = same_users n m l (ledgers.take_got m i l) (got
 
 get_kept : (n m : ℕ) (get : Get) (hc : Hconn) (i : Option Ident) (l : Ledger) → AreCountedAt n m l → AreCountedAt n m (ledgers.get_by get m hc i l)
 get_kept n m get hc None l h = h
-get_kept n m get hc (Some i) l h = bool_case (ledgers.is_destructive get.take) (λ t. AreCountedAt n m (if t then ledgers.get_row get.sync m hc i l else l)) (λ e. get_row_kept n m get.sync hc i l h) (λ e. h)
+get_kept n m get hc (Some i) l h = bool_case (is_destructive get.take) (λ t. AreCountedAt n m (if t then ledgers.get_row get.sync m hc i l else l)) (λ e. get_row_kept n m get.sync hc i l h) (λ e. h)
 
 pub stopped : (n k m : ℕ) (l : Ledger) → AreCountedAt n m l → AreCountedAt k m (ledgers.stop m l)
 stopped n k m l h =

@@ -40,8 +40,7 @@ use Rattle.mq_spec_node.specs.Senders.{after_timeout, sender_deed, timeout_deed}
 use Rattle.mq_spec_node.specs.Receivers.{is_receiver_defined, receiver_deed}
 use Rattle.mq_spec_node.specs.Operators.{close_open, end_here, is_bad_number, is_in_doubt, is_open, limits_here, operate, operate_up, refused_or, reset_end, resolve_doubt, resolve_end, start_end, start_seized, stop_end}
 use Rattle.mq_spec_node.specs.Happens.{deed_of, receiver_turn, sender_turn, timeout_of, where_up}
-use Rattle.mq_sender.specs.Table.{awaits}
-use Rattle.mq_sender.specs.After.{timed_out}
+use Rattle.mq_sender.specs.States.{awaits, timed_out}
 use Rattle.mq_law_channel.specs.Channel.{Channel}
 use Rattle.mq_law_node.specs.Beside.{DoesNear, EachDoes, KeyedNear, is_ours}
 use Rattle.mq_law_node.specs.Ends.{SendsAs, Where}

@@ -1,5 +1,5 @@
 -- Deeds that aren't this end's own hold no row for its channel, and leave its batch.
-use Rattle.std.proofs.Common.{ℕ, ◌≡◌, Bool, true, List, [], ◌∷◌, refl, ap, ◌∙◌}
+use Rattle.std.proofs.Common.{ℕ, ◌≡◌, Bool, true, List, [], ◌∷◌, ◌++◌, refl, ap, ◌∙◌}
 use Rattle.std.specs.Prelude.{Option, Some, None, Result, Ok, Err, ◌&&◌}
 use Rattle.mq_codes.specs.declared.reason.Reason.{Reason}
 use Rattle.mq_message.specs.declared.place.Holder.TheVariants as holders
@@ -8,12 +8,14 @@ use Rattle.mq_sync.specs.declared.unit.Unit.{Unit as Luw}
 use Rattle.mq_receiver.specs.declared.turns.ReceiverDoes.{ReceiverDoes}
 use Rattle.mq_receiver.specs.declared.turns.ReceiverDoes.TheVariants as takes
 use Rattle.mq_receiver.specs.After.{last_by}
-use Rattle.mq_spec_state.specs.State.{Change}
-use Rattle.mq_spec_state.specs.State.Change.{Hold}
-use Rattle.mq_spec_state.specs.Reads.{batch_of, is_full}
+use Rattle.mq_sync.specs.Settlement.{receiver_or}
+use Rattle.mq_calls.specs.declared.deltas.Did.TheVariants as did
+use Rattle.mq_spec_state.specs.State.{Change, Plain}
+use Rattle.mq_spec_state.specs.State.Change.{Hold, SetReceiver}
+use Rattle.mq_spec_state.specs.Reads.{batch_of, is_full, receiver_data}
 use Rattle.mq_spec_state.specs.Sizes.{need}
 use Rattle.mq_spec_state.specs.Steps.{Part, do_all}
-use Rattle.mq_spec_agents.specs.Words.{Landed, landed, placed_by, receive_landed, received_record}
+use Rattle.mq_spec_agents.specs.Words.{Landed, landed, receive_landed, received_record}
 use Rattle.mq_spec_node.specs.Node.{Node, ReceiverEnd}
 use Rattle.mq_spec_node.specs.Deeds.{Deed}
 use Rattle.mq_spec_node.specs.Receivers.{place_deed, receiver_deed_by}
@@ -24,7 +26,9 @@ use Rattle.mq_law_node.proofs.Named.{bool_case}
 use Rattle.mq_law_node.proofs.DataLaws.{batch_done_all}
 use Rattle.mq_law_node.proofs.Aside.{EachApart, batch_parts_apart}
 use Rattle.mq_law_node.proofs.Quiet.{batch_parts_quiet}
-use Rattle.mq_law_node.proofs.AsideTakings.{QuietBatch, batch_changes, landed_batch}
+use Rattle.mq_law_node.proofs.AsideTakings.{QuietBatch, landed_batch}
+use Rattle.mq_law_node.proofs.Landings.{batch_changes}
+use Rattle.mq_law_node.proofs.ReceiverTurns.{placed_by}
 use Rattle.mq_law_turns.specs.Turns.{EachForOthers, all_for_others, is_for_others, parts_for_others}
 
 -- it holds no row for the channel, and leaves its batch
@@ -67,12 +71,20 @@ abbrev EachSame : Where → Node → Option Deed → Type 0
 EachSame w n None = Unit {0}
 EachSame w n (Some d) = batch_of w.channel (do_all d.parts n.manager).channels.batches ≡ batch_of w.channel n.manager.channels.batches
 
+abbrev commit_part : ReceiverEnd → Luw → ℕ → Landed → Plain → Part
+commit_part e unit last l p = record {
+  forced = Some (received_record e.channel unit last l);
+  changes = l.changes ++ SetReceiver e.channel (record (receiver_or (receiver_data e.channel p)) { unit = unit; last = last }) ∷ [];
+  delta = l.delta ++ did.Received e.channel unit ∷ [];
+}
+
 places_same : (w : Where) (e : ReceiverEnd) (unit : Luw) (seen : Seen) (last : ℕ) (res : Result Landed Reason) (n : Node) → QuietBatch w.channel res → EachSame w n (Some (place_deed e unit seen (receive_landed e.channel unit last res n.manager) n))
 places_same w e unit seen last (Err reason) n quiet = refl
 places_same w e unit seen last (Ok l) n quiet = bool_case (is_full (need (received_record e.channel unit last l)) n.manager)
     (λ b. EachSame w n (Some (place_deed e unit seen (placed_by (record { cable = e.cable; channel = e.channel; partner = e.partner }) unit last l n.manager b) n)))
     (λ z. refl)
-    (λ z. batch_done_all w.channel _ n.manager ∙ batch_changes w.channel l.changes _ _ ∙ quiet _)
+    (λ z. let old = batch_of w.channel n.manager.channels.batches in
+    batch_done_all w.channel (commit_part e unit last l n.manager ∷ []) n.manager ∙ batch_changes w.channel l.changes (SetReceiver e.channel (record (receiver_or (receiver_data e.channel n.manager)) { unit = unit; last = last }) ∷ []) old ∙ quiet old)
 
 takes_same : (w : Where) (stamp : ℕ) (e : ReceiverEnd) (seen : Seen) (d : ReceiverDoes) (n : Node) → EachSame w n (receiver_deed_by stamp e seen d n)
 takes_same w stamp e seen takes.Still n = tt
