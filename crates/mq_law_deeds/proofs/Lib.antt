@@ -4,3 +4,4 @@ pub mod Counting
 pub mod Rising
 pub mod Sounding
 pub mod Telling
+pub mod Agreeing

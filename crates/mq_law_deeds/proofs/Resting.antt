@@ -86,15 +86,23 @@ places_same w e unit seen last (Ok l) n quiet = bool_case (is_full (need (receiv
     (λ z. let old = batch_of w.channel n.manager.channels.batches in
     batch_done_all w.channel (commit_part e unit last l n.manager ∷ []) n.manager ∙ batch_changes w.channel l.changes (SetReceiver e.channel (record (receiver_or (receiver_data e.channel n.manager)) { unit = unit; last = last }) ∷ []) old ∙ quiet old)
 
+abbrev EachPartsApart : Where → Option Deed → Type 0
+EachPartsApart w None = Unit {0}
+EachPartsApart w (Some d) = parts_apart w.channel d.parts ≡ true
+
+apart_same : (w : Where) (n : Node) (o : Option Deed) → EachPartsApart w o → EachSame w n o
+apart_same w n None e = tt
+apart_same w n (Some d) e = apart_batch w n d e
+
 takes_same : (w : Where) (stamp : ℕ) (e : ReceiverEnd) (seen : Seen) (d : ReceiverDoes) (n : Node) → EachSame w n (receiver_deed_by stamp e seen d n)
 takes_same w stamp e seen takes.Still n = tt
 takes_same w stamp e seen takes.Ignore n = refl
 takes_same w stamp e seen takes.PushOwed n = refl
-takes_same w stamp e seen takes.Bind n = apart_batch w n _ refl
+takes_same w stamp e seen takes.Bind n = apart_same w n (receiver_deed_by stamp e seen takes.Bind n) refl
 takes_same w stamp e seen takes.Keep n = refl
 takes_same w stamp e seen (takes.Place unit) n = places_same w e unit seen (last_by seen e.machine.last) (landed e.channel e.kept n.manager) n (landed_batch w.channel e.channel e.kept n.manager)
 takes_same w stamp e seen takes.Again n = refl
-takes_same w stamp e seen takes.Close n = apart_batch w n _ refl
+takes_same w stamp e seen takes.Close n = apart_same w n (receiver_deed_by stamp e seen takes.Close n) refl
 
 both : (w : Where) (n : Node) (o : Option Deed) → EachForOthers w.channel o → EachSame w n o → EachRests w n o
 both w n None f s = tt

@@ -2,7 +2,7 @@
 //! and that the connections that the ledger tells of have numbers of their own.
 #![tactic(auto)]
 
-ghost use Rattle.std.specs.Prelude.{◌≡◌, ◌≤◌, ℕ, true, false, List, Some};
+ghost use Rattle.std.specs.Prelude.{◌≡◌, ◌≤◌, ◌++◌, ℕ, true, false, List, Some};
 ghost use Rattle.mq_frame.specs.declared.frame.Seen.{Seen};
 ghost use Rattle.mq_history.specs.declared.calls.Actor.{Actor};
 ghost use Rattle.mq_history.specs.declared.calls.Call.{Call};
@@ -17,7 +17,7 @@ ghost use Rattle.mq_spec_node.specs.Senders.{timeout_deed};
 ghost use Rattle.mq_spec_node.specs.Happens.{deed_of};
 ghost use Rattle.mq_spec_node.specs.Replays.{after, opening_node};
 ghost use Rattle.mq_spec_network.specs.Given.{surroundings};
-ghost use Rattle.mq_law_channel.specs.Channel.{Channel};
+ghost use Rattle.mq_law_channel.specs.Channel.{Channel, Past};
 ghost use Rattle.mq_law_node.specs.Beside.{KeyedNear, is_ours};
 ghost use Rattle.mq_law_node.specs.Ends.{SendsAs, Where, receiver_of, receiver_out};
 ghost use Rattle.mq_law_node.specs.Quiet.{IsOrdinary};
@@ -36,10 +36,12 @@ ghost use Rattle.mq_receiver.specs.declared.turns.ReceiverDoes.{ReceiverDoes};
 ghost use Rattle.mq_sender.specs.States.{is_running};
 ghost use Rattle.mq_spec_node.specs.Operators.{resolve_doubt};
 ghost use Rattle.mq_spec_node.specs.Receivers.{receiver_deed_by};
-ghost use Rattle.mq_spec_network.specs.Conflict.{deeds, deeds_in};
+ghost use Rattle.mq_spec_network.specs.Conflict.{Deed, NoConflict, deeds, deeds_in};
+ghost use Rattle.mq_spec_network.specs.Standing.{opening_managers};
 ghost use Rattle.mq_spec_network.specs.Story.{Line, Mem};
 ghost use Rattle.mq_law_channel.specs.Facts.{Letter};
-ghost use Rattle.mq_law_turns.specs.Agreed.{TellsCommit};
+ghost use Rattle.mq_law_turns.specs.Agreed.{IsToldOf, TellsCommit};
+ghost use Rattle.mq_law_node.specs.Nodes.{FarAgreed};
 ghost use Rattle.mq_history.specs.declared.calls.Reply.{Reply};
 ghost use Rattle.mq_spec_state.specs.State.{Plain};
 ghost use Rattle.mq_spec_network.specs.Ledger as ledgers;
@@ -86,4 +88,11 @@ pub fn deltas_tell_commits_and_settlements()
     ensures settlements { (e : SenderEnd) (settle : Settle) (d : InDoubt) (n : Node) → is_running e.machine.state ≡ false
         → Mem (did.Hardened e.channel (notes.Resolved d.unit (is_commit settle) true)) (delta_of (resolve_doubt e settle (Some d) n).parts) }
     ensures prefixes { (p : List Line) (x : Line) (d : Did) → Mem x p → Mem d x.entry.effect.delta → Mem (record { manager = x.manager; did = d }) (deeds p) }
+{}
+
+/// So where a prefix has no conflict, each of its entries is such as a receiver's manager asks (`FarAgreed`): no unit that its delta tells as
+/// committed was backed out by an operator.
+pub fn entries_without_conflict_agree()
+    ensures { (s : Scenario) (hs : List History) (p : List Line) (ds es : List Deed) (m : ℕ) (c : List ℕ) (x : Channel) (y : Past) (l : Line) → NoConflict s hs p → deeds p ≡ ds ++ es → IsToldOf s (opening_managers s hs) ds m c x y → Mem l p
+        → FarAgreed c l.entry.effect.delta y }
 {}
