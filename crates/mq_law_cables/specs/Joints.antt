@@ -2,9 +2,10 @@
 use Rattle.std.specs.Prelude.{ℕ, ◌≡◌, ◌==◌, true, false, List, [], Some, if◌then◌else◌, is_some, map, slice_get}
 use Rattle.std.specs.Option.{option_map}
 use Rattle.mq_sync.specs.declared.unit.Unit.{Unit as Luw}
+use Rattle.mq_calls.specs.declared.state.Batch.{Batch}
 use Rattle.mq_history.specs.declared.scenario.CableLine.{CableLine}
 use Rattle.mq_spec_state.specs.State.{Plain}
-use Rattle.mq_spec_state.specs.Reads.{in_doubt_of, receiver_data, sender_data}
+use Rattle.mq_spec_state.specs.Reads.{batch_of, in_doubt_of, receiver_data, sender_data}
 use Rattle.mq_spec_network.specs.Standing.{last_unit_of}
 use Rattle.mq_law_channel.specs.Channel.{Channel, Past}
 use Rattle.mq_law_channel.specs.Opening.{doubt_unit}
@@ -46,3 +47,8 @@ pub record Begins (ps : List Plain) (sent : Luw → List Tag) (k : CableLine) (x
   pub doubt : y.near.doubt ≡ is_some (in_doubt_of (sender_data k.channel sender))
   pub forced : y.forced ≡ false
   pub content : (u : Luw) → map letter_tag (y.content u) ≡ sent u
+
+-- each batch of a manager is found by its channel, and is of a cable that it sends
+pub record AreCabled (ks : List CableLine) (m : ℕ) (p : Plain) : Type 0 where
+  pub once : (b : Batch) → Mem b p.channels.batches → batch_of b.channel p.channels.batches ≡ Some b
+  pub line : (b : Batch) → Mem b p.channels.batches → (k : CableLine) × Mem k ks × (k.sender ≡ m) × (k.channel ≡ b.channel)
