@@ -1,4 +1,2 @@
 pub mod Keeping
 pub mod Differing
-pub mod Beginning
-pub mod Unprepared

@@ -1,8 +1,7 @@
 //! A network and all its channels at once: whatever happens at one manager, all channels are of one mind with the network behind it.
 #![tactic(auto)]
 
-ghost use Rattle.std.specs.Prelude.{◌≡◌, ◌+◌, ℕ, Bool, false, List, Some, slice_get};
-ghost use Rattle.mq_sync.specs.declared.unit.Unit.{Unit as Luw};
+ghost use Rattle.std.specs.Prelude.{◌≡◌, ℕ, Bool, List};
 ghost use Rattle.mq_message.specs.declared.message.Ident.{Ident};
 ghost use Rattle.mq_history.specs.declared.scenario.CableLine.{CableLine};
 ghost use Rattle.mq_history.specs.declared.scenario.Scenario.{Scenario};
@@ -15,10 +14,8 @@ ghost use Rattle.mq_law_rows.specs.Families.{put_at};
 ghost use Rattle.mq_law_rows.specs.World.{Book, Ghost, Inv, World};
 ghost use Rattle.mq_law_seen.specs.Seen.{book_of, world_of};
 ghost use Rattle.mq_law_events.specs.Tied.{Follow, IsNext, IsTold};
-ghost use Rattle.mq_law_manager.specs.Facts.{IsSound};
-ghost use Rattle.mq_law_batches.specs.Releases.{AreUnprepared};
 ghost use Rattle.mq_law_turns.specs.Turns.{IsAtRest, IsJoint, Scene, Taken, Turned, world_in};
-ghost use Rattle.mq_law_cables.specs.Joints.{AreCabled, AreJoint, Begins, Joined, LeadTo, rested};
+ghost use Rattle.mq_law_cables.specs.Joints.{AreJoint, Joined, LeadTo, rested};
 
 /// Where the ledger follows a manager, all channels stay tied to the network.
 pub fn all_channels_stay_tied()
@@ -45,17 +42,4 @@ pub fn stops_and_restarts_leave_all_channels_tied()
 /// In a scenario a sender and a channel's name have one receiver.
 pub fn channels_of_a_scenario_differ()
     ensures { (s : Scenario) (k : CableLine) → IsScenario s → Mem k s.cables → LeadTo s.cables k.sender k.channel k.receiver }
-{}
-
-/// A network begins so, where each channel begins with what its managers' logs have hardened.
-pub fn networks_begin_with_all_channels_tied()
-    ensures { (s : Scenario) (given : Ident → Bool) (ps : List Plain) (g : Ghost) (b : Book) (xs : ℕ → List ℕ → Channel) (ys : ℕ → List ℕ → Past) → IsScenario s → ((a : ℕ) (p : Plain) → slice_get ps a ≡ Some p → p.given.number ≡ a + 1) → Inv (world_of s given ps) g b
-        → ((m : ℕ) (c : List ℕ) (u : Luw) → g.operated m c u ≡ false) → ((k : CableLine) → Mem k s.cables → Begins ps (g.sent k.sender k.channel) k (xs k.sender k.channel) (ys k.sender k.channel)) → AreJoint (world_of s given ps) g b s.cables xs ys }
-{}
-
-/// No batch of a manager was prepared, nor is it its receiver's last unit, where each is of a cable that it sends: so a stop and a restart may
-/// release them (`stops_and_restarts_release_batches` of mq_law_batches).
-pub fn batches_of_cables_are_unprepared()
-    ensures { (s : Scenario) (given : Ident → Bool) (ps : List Plain) (g : Ghost) (b : Book) (ks : List CableLine) (xs : ℕ → List ℕ → Channel) (ys : ℕ → List ℕ → Past) (m : ℕ) (p : Plain) → slice_get ps m ≡ Some p → IsSound p → AreCabled ks m p
-        → ((k : CableLine) → Mem k ks → Facts (xs k.sender k.channel) (ys k.sender k.channel)) → AreJoint (world_of s given ps) g b ks xs ys → AreUnprepared s ps p }
 {}
