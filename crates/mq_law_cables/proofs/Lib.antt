@@ -1,0 +1,4 @@
+pub mod Keeping
+pub mod Differing
+pub mod Beginning
+pub mod Unprepared
