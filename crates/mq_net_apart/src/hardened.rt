@@ -45,6 +45,7 @@ pub fn sender_partner(sender: Option<&SenderData>) -> QName
     }
 }
 
+/// The session of a sender, 0 for none.
 pub fn sender_session(sender: Option<&SenderData>) -> u64
     ensures { result ≡ (sender_or (option_copied sender.entry)).session }
 {
@@ -54,6 +55,7 @@ pub fn sender_session(sender: Option<&SenderData>) -> u64
     }
 }
 
+/// The unit in doubt of a sender, if any.
 pub fn doubt_of<'a>(sender: Option<&'a SenderData>) -> Option<&'a InDoubt>
     ensures { option_copied result ≡ (sender_or (option_copied sender.entry)).in_doubt }
 {
@@ -73,6 +75,7 @@ pub fn receiver_partner(receiver: Option<&ReceiverData>) -> QName
     }
 }
 
+/// The session of a receiver, 0 for none.
 pub fn receiver_session(receiver: Option<&ReceiverData>) -> u64
     ensures { result ≡ (receiver_or (option_copied receiver.entry)).session }
 {
@@ -82,6 +85,7 @@ pub fn receiver_session(receiver: Option<&ReceiverData>) -> u64
     }
 }
 
+/// The last unit that a receiver committed, (0, 0) for none.
 pub fn receiver_unit(receiver: Option<&ReceiverData>) -> Unit
     ensures { result ≡ (receiver_or (option_copied receiver.entry)).unit }
 {
