@@ -1,12 +1,12 @@
 //! Commands of a section, and the clocks of all managers: one event each.
-ghost use Rattle.std.specs.Prelude.{◌≡◌, ◌<◌, length, All, slice_get};
+ghost use Rattle.std.specs.Prelude.{◌≡◌, ◌<◌, OnOk, length, All, slice_get};
 ghost use Rattle.mq_history.specs.declared.scenario.Section.{Section};
 ghost use Rattle.mq_spec_network.specs.Tasks as tasks;
-ghost use Rattle.mq_steps.specs.Course.{Ready};
-ghost use Rattle.mq_steps.specs.Told.{Part};
+ghost use Rattle.mq_nodes.specs.Course.{Ready};
+ghost use Rattle.mq_nodes.specs.Told.{Part, Clocked};
 
-use crate::nodes::{Nodes, Stop};
 use mq_history::Scenario;
+use mq_nodes::{Nodes, Stop};
 use mq_sc_parse::Command;
 
 /// The operator gives a manager these commands, one after the other.
@@ -35,16 +35,13 @@ pub fn obey<N: Nodes>(nodes: &mut N, scenario: &Scenario, section: u16) -> Resul
 }
 
 /// The moments of all managers advance by so many milliseconds, manager by manager.
-pub fn clocks<N: Nodes>(nodes: &mut N, scenario: &Scenario, ms: u64) -> Result<(), Stop>
+pub fn clocks<N: Nodes>(nodes: &mut N, ms: u64) -> Result<(), Stop>
     requires ready { Ready (N.course nodes.old).net }
-    requires same { (N.course nodes.old).net.scenario ≡ scenario.now }
-    requires few { length scenario.now.managers < 100 }
-    ensures { Part (tasks.clocks scenario.now ms) result (N.course nodes.old) (N.course nodes.new) }
+    ensures told { Part (tasks.clocks (N.course nodes.old).net.scenario ms) result (N.course nodes.old) (N.course nodes.new) }
+    ensures clocked { OnOk result (Clocked (length (N.course nodes.old).net.scenario.managers) ms (N.course nodes.old) (N.course nodes.new)) }
 {
-    let mut manager = 0;
-    for _ in scenario.managers.as_slice() {
+    for manager in 0..nodes.managers() {
         nodes.advance_clock(manager, ms)?;
-        manager += 1;
     }
     Ok(())
 }

@@ -2,7 +2,13 @@
 #![tactic(auto)]
 
 mod asks;
-mod nodes;
+mod lines;
+mod pump;
+mod steps;
+mod turns;
 
 pub use asks::{clocks, obey, obey_all};
-pub use nodes::{Advanced, Monitored, Nodes, Stop};
+pub use lines::run;
+pub use pump::{Pumped, pump};
+pub use steps::run_steps;
+pub use turns::{handle, serve};

@@ -9,10 +9,10 @@ use Rattle.mq_spec_network.specs.Tasks.{Task}
 use Rattle.mq_spec_network.specs.Steps.{Goes, Moves, Passes, left_by}
 use Rattle.mq_spec_network.specs.Steps.Goes.{stays, moves, serves, passes}
 use Rattle.mq_spec_network.proofs.Going.{on, one_more, before_others}
-use Rattle.mq_steps.specs.declared.nodes.Stop.{Stop}
-use Rattle.mq_steps.specs.declared.nodes.Stop.TheVariants as stops
-use Rattle.mq_steps.specs.Course.{Course, Did, Ready, Rests, IsSpent}
-use Rattle.mq_steps.specs.Told.{Broke, Does, Part, Ended}
+use Rattle.mq_nodes.specs.declared.nodes.Stop.{Stop}
+use Rattle.mq_nodes.specs.declared.nodes.Stop.TheVariants as stops
+use Rattle.mq_nodes.specs.Course.{Course, Did, Ready, Rests, IsSpent}
+use Rattle.mq_nodes.specs.Told.{Broke, Part, Ended, Onward}
 
 -- The network's scenario stays.
 pub same_scenario : {w0 : Network} {all : List Task} {w : Network} {ts : List Task} → Goes w0 all w ts → w.scenario ≡ w0.scenario
@@ -20,13 +20,6 @@ same_scenario stays = refl
 same_scenario (moves w t ts m e g mv) = same_scenario g
 same_scenario (serves w ts m e g due) = same_scenario g
 same_scenario (passes w t next ts g s p) = same_scenario g
-
--- a part is done, and another event may come
-pub record Onward (all left : List Task) (c d : Course) : Type 0 where
-  pub goes : Goes c.net all d.net left
-  pub ready : Ready d.net
-  pub marks : d.marks ≡ c.marks
-  pub rests : Rests c → Rests d
 
 pub begin : (all : List Task) (c : Course) → Ready c.net → Onward all all c c
 begin all c r = record { goes = stays; ready = r; marks = refl; rests = λ h. h }

@@ -1,33 +1,33 @@
 -- What calls on nodes tell: one event more, or none; and what a part of a step tells of a call that does it.
-use Rattle.std.specs.Prelude.{◌≡◌, ◌<◌, ◌⊎◌, ℕ, Bool, true, false, List, [], ◌∷◌, ◌++◌, Option, Some, None, Result, Ok, Err, OnOk, IfOk, slice_get, length}
-use Rattle.mq_history.specs.declared.acts.Act.{Act}
-use Rattle.mq_history.specs.declared.calls.Actor.{Actor}
+use Rattle.std.specs.Prelude.{◌≡◌, ◌<◌, ◌≤◌, ◌+◌, ◌⊎◌, ℕ, suc, min, Bool, true, false, List, [], ◌∷◌, Option, Some, None, Result, Ok, Err, take, slice_get, length}
 use Rattle.mq_history.specs.declared.calls.Actor.TheVariants as actors
-use Rattle.mq_history.specs.declared.calls.Call.{Call}
-use Rattle.mq_history.specs.declared.calls.Call.TheVariants as calls
 use Rattle.mq_history.specs.declared.calls.Entry.{Entry}
 use Rattle.mq_history.specs.declared.history.History.{History}
-use Rattle.mq_history.specs.declared.history.Mark.{Mark}
+use Rattle.mq_history.specs.declared.calls.Call.TheVariants as calls
 use Rattle.mq_history.specs.declared.scenario.MonitorLine.{MonitorLine}
+use Rattle.mq_history.specs.declared.scenario.RulesPart.{RulesPart}
 use Rattle.mq_history.specs.declared.scenario.Scenario.{Scenario}
 use Rattle.mq_history.specs.declared.scenario.ScriptPart.{ScriptPart}
 use Rattle.mq_history.specs.declared.scenario.Step.{Step}
 use Rattle.mq_spec_node.specs.Node.{Node}
 use Rattle.mq_spec_node.specs.Monitors.{begins}
-use Rattle.mq_spec_node.specs.Lines.{Next, next_by}
+use Rattle.mq_spec_manager.specs.Stops.{last_moment}
+use Rattle.mq_spec_node.specs.Lines.{Next, next_by, lines_by}
 use Rattle.mq_spec_node.specs.Lines.Next.{Ends, Waits, Makes}
 use Rattle.mq_spec_network.specs.Story.{entries_at}
 use Rattle.mq_spec_network.specs.Turns.{Network, node_at}
-use Rattle.mq_spec_network.specs.Tasks.{Task}
-use Rattle.mq_spec_network.specs.Steps.{Goes, Moves, Is, MonitorGets, scripts_at, is_cut, serves_nothing}
+use Rattle.mq_spec_network.specs.ScriptLines.{lines_left}
+use Rattle.mq_spec_network.specs.Tasks.{Task, moment_of}
+use Rattle.mq_spec_network.specs.Tasks.Task.{Lines}
+use Rattle.mq_spec_network.specs.Steps.{Goes, Is, MonitorGets, handler_idle, scripts_at, serves_nothing}
 use Rattle.mq_spec_network.specs.Lawful.{Stands, marks_at, network_begun}
-use Rattle.mq_steps.specs.declared.nodes.Stop.{Stop}
-use Rattle.mq_steps.specs.declared.nodes.Stop.TheVariants as stops
-use Rattle.mq_steps.specs.declared.nodes.Advanced.{Advanced}
-use Rattle.mq_steps.specs.declared.nodes.Advanced.TheVariants as advances
-use Rattle.mq_steps.specs.declared.nodes.Monitored.{Monitored}
-use Rattle.mq_steps.specs.declared.nodes.Monitored.TheVariants as monitors
-use Rattle.mq_steps.specs.Course.{Course, Did, Ready, Rests, IsSpent, waiting}
+use Rattle.mq_nodes.specs.declared.nodes.Stop.{Stop}
+use Rattle.mq_nodes.specs.declared.nodes.Stop.TheVariants as stops
+use Rattle.mq_nodes.specs.declared.nodes.Advanced.{Advanced}
+use Rattle.mq_nodes.specs.declared.nodes.Advanced.TheVariants as advances
+use Rattle.mq_nodes.specs.declared.nodes.Monitored.{Monitored}
+use Rattle.mq_nodes.specs.declared.nodes.Monitored.TheVariants as monitors
+use Rattle.mq_nodes.specs.Course.{Course, Did, Ready, Rests, IsSpent, waiting}
 
 -- A call that does an event of which P holds. Where memory is wanting it did it or not; where it was the last that its node
 -- makes, it did it.
@@ -46,16 +46,11 @@ Says P Q (Err stop) c d = Broke P stop c d
 
 -- One that does it, or nothing where there is none to do.
 abbrev pub DoesOrNot : (ℕ → Entry → Type 0) → Type 0 → Result Bool Stop → Course → Course → Type 0
-DoesOrNot P None (Ok true) c d = Did P c d × Ready d.net
-DoesOrNot P None (Ok false) c d = (d ≡ c) × None
-DoesOrNot P None (Err stop) c d = Broke P stop c d
+DoesOrNot P nothing (Ok true) c d = Did P c d × Ready d.net
+DoesOrNot P nothing (Ok false) c d = (d ≡ c) × nothing
+DoesOrNot P nothing (Err stop) c d = Broke P stop c d
 
--- What comes next of a script, whose get may wait already.
-abbrev pub next_at : Course → ℕ → ScriptPart → Option Node → Next
-next_at c k p None = Ends
-next_at c k p (Some n) = next_by k p (c.net.done p.manager) (c.waits k) n
-
--- this line of it: no get of the script waits then
+-- What comes next of a script: this line of it, after which no get of the script waits.
 abbrev pub IsLine : ℕ → ScriptPart → Next → ℕ → Entry → Type 0
 IsLine k p Ends m e = ⊥
 IsLine k p (Waits until) m e = ⊥
@@ -68,8 +63,30 @@ LineOf k p next (Ok advances.Ended) c d = (next ≡ Ends) × (d ≡ c)
 LineOf k p next (Err stops.NoMemory) c d = (d ≡ c) ⊎ Did (IsLine k p next) (waiting k None c) d
 LineOf k p next (Err (stops.Spent m)) c d = Did (IsLine k p next) (waiting k None c) d × IsSpent m d.net
 
-abbrev pub LineTold : ℕ → Result Advanced Stop → Course → Course → Type 0
-LineTold k r c d = (p : ScriptPart) → slice_get c.net.scenario.scripts k ≡ Some p → LineOf k p (next_at c k p (node_at c.net p.manager)) r c d
+-- its node is there
+abbrev pub LineAt : ℕ → ScriptPart → Option Node → Result Advanced Stop → Course → Course → Type 0
+LineAt k p None r c d = ⊥
+LineAt k p (Some n) r c d = LineOf k p (next_by k p (c.net.done p.manager) (c.waits k) n) r c d
+
+abbrev pub LineTold : ℕ → ScriptPart → Result Advanced Stop → Course → Course → Type 0
+LineTold k p r c d = LineAt k p (node_at c.net p.manager) r c d
+
+-- The clocks of the first managers advance: moments rise, and nothing of a script changes.
+abbrev pub later : ℕ → ℕ → ℕ
+later moment ms = min (moment + ms) last_moment
+
+pub record Clocked (upto ms : ℕ) (c d : Course) : Type 0 where
+  pub moments : (m : ℕ) → m < upto → moment_of (node_at d.net m) ≡ later (moment_of (node_at c.net m)) ms
+  pub others : (m : ℕ) → upto ≤ m → node_at d.net m ≡ node_at c.net m
+  pub lines : (k m : ℕ) → lines_by k (d.net.done m) ≡ lines_by k (c.net.done m)
+  pub waits : d.waits ≡ c.waits
+
+-- A handler's turn.
+abbrev pub HandlerOf : ℕ → RulesPart → Result Bool Stop → Course → Course → Type 0
+HandlerOf k p r c d = DoesOrNot (Is p.manager (actors.Handler k) calls.Turn) (handler_idle k (node_at c.net p.manager) ≡ true) r c d
+
+abbrev pub HandlerTold : ℕ → Result Bool Stop → Course → Course → Type 0
+HandlerTold k r c d = (p : RulesPart) → slice_get c.net.scenario.rules k ≡ Some p → HandlerOf k p r c d
 
 -- A monitor's turn: the script that it begins.
 abbrev pub begun_by : Network → MonitorLine → Entry → Option ℕ
@@ -95,6 +112,22 @@ pub record Part {T : Type 0} (all : List Task) (r : Result T Stop) (c d : Course
   pub goes : Goes c.net all d.net left
   pub marks : d.marks ≡ c.marks
   pub ends : Ended r left c d
+
+-- A part is done, and another event may come.
+pub record Onward (all left : List Task) (c d : Course) : Type 0 where
+  pub goes : Goes c.net all d.net left
+  pub ready : Ready d.net
+  pub marks : d.marks ≡ c.marks
+  pub rests : Rests c → Rests d
+
+-- A script's next lines, at most so many; and one of them.
+abbrev pub upto : ℕ → ScriptPart → ℕ → Course → List Task
+upto k p n c = Lines k p None (take n (lines_left c.net k p)) ∷ []
+
+abbrev pub OneLine : ℕ → ScriptPart → Result Bool Stop → Course → Course → Type 0
+OneLine k p (Ok true) c d = (n : ℕ) → Onward (upto k p (suc n) c) (upto k p n d) c d
+OneLine k p (Ok false) c d = (d ≡ c) × (lines_left c.net k p ≡ [])
+OneLine k p (Err stop) c d = (n : ℕ) → Part {T = Bool} (upto k p (suc n) c) (Err stop) c d
 
 -- A run of steps: some are whole and noted; where it answers OK, all are, and the last restarts too.
 abbrev pub AllDone : {T : Type 0} → Result T Stop → List Step → List Task → Course → Type 0
