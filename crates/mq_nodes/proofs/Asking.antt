@@ -29,6 +29,22 @@ none_left [] (suc i) le = refl
 none_left (x ∷ xs) zero le = absurd (nothing (length xs) (omega arith))
 none_left (x ∷ xs) (suc i) le = none_left xs i (omega arith)
 
+pub less_or_not : (a b : ℕ) → (a < b) ⊎ (b ≤ a)
+less_or_not a zero = inr (omega arith)
+less_or_not zero (suc b) = inl (omega arith)
+less_or_not (suc a) (suc b) = one_up (less_or_not a b)
+  where
+    one_up : (a < b) ⊎ (b ≤ a) → (suc a < suc b) ⊎ (suc b ≤ suc a)
+    one_up (inl lt) = inl (omega arith)
+    one_up (inr le) = inr (omega arith)
+
+pub same_or_less : (a b : ℕ) → a ≤ b → (a ≡ b) ⊎ (a < b)
+same_or_less a b le = at_it (less_or_not a b)
+  where
+    at_it : (a < b) ⊎ (b ≤ a) → (a ≡ b) ⊎ (a < b)
+    at_it (inl lt) = inr lt
+    at_it (inr ge) = inl (omega arith)
+
 pub same_value : {A : Type 0} (x y : A) → Some x ≡ Some y → x ≡ y
 same_value x y e = cc
 

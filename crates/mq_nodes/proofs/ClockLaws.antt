@@ -23,7 +23,7 @@ use Rattle.mq_nodes.specs.declared.nodes.Stop.{Stop}
 use Rattle.mq_nodes.specs.Course.{Course, Did, Ready}
 use Rattle.mq_nodes.specs.Told.{Does, Part, Onward, Clocked, later}
 use Rattle.mq_nodes.proofs.Onward.{begin, moved, broke, whole}
-use Rattle.mq_nodes.proofs.Asking.{at_place, none_left}
+use Rattle.mq_nodes.proofs.Asking.{at_place, none_left, same_or_less}
 
 -- so many clocks are advanced
 pub record Clocking (ms i end : ℕ) (c d : Course) : Type 0 where
@@ -80,7 +80,7 @@ another m n (inl lt) = grind (arith, nat_tests)
 another m n (inr lt) = grind (arith, nat_tests)
 
 below : (m i : ℕ) → m < i + 1 → (m ≡ i) ⊎ (m < i)
-below m i lt = omega arith
+below m i lt = same_or_less m i (omega arith)
 
 net_of : (d e : Course) (at : ℕ) (es : List Entry) → e ≡ record d { net = does at es d.net } → e.net ≡ does at es d.net
 net_of d e at es h = ap (λ (y : Course). y.net) h
@@ -91,14 +91,14 @@ node_stays ms i m d e x apart =
     ∙ other_node x.at m (x.entry ∷ x.behind) d.net (subst (λ (y : ℕ). (m == y) ≡ false) (sym x.fits.0) (another m i apart))
 
 clocked_on : (ms i : ℕ) (c d e : Course) → Clocked i ms c d → Did (IsClock i ms) d e → moment_of (node_at e.net i) ≡ later (moment_of (node_at d.net i)) ms → Clocked (i + 1) ms c e
-clocked_on ms i c d e h x then = record {
+clocked_on ms i c d e h x later_is = record {
   moments = λ m lt. at_one m (below m i lt);
   others = λ m le. node_stays ms i m d e x (inr (omega arith)) ∙ h.others m (omega arith);
   lines = λ k m. ap (λ (w : Network). lines_by k (w.done m)) (net_of d e x.at (x.entry ∷ x.behind) x.is) ∙ same_lines k m x.at (x.entry ∷ x.behind) d.net (by_clock k i ms x.at x.entry x.behind x.fits x.triggers) ∙ h.lines k m;
   waits = ap (λ (y : Course). y.waits) x.is ∙ h.waits;
 } where
   here_it_is : moment_of (node_at e.net i) ≡ later (moment_of (node_at c.net i)) ms
-  here_it_is = then ∙ ap (λ (n : Option Node). later (moment_of n) ms) (h.others i (omega arith))
+  here_it_is = later_is ∙ ap (λ (n : Option Node). later (moment_of n) ms) (h.others i (omega arith))
 
   at_one : (m : ℕ) → (m ≡ i) ⊎ (m < i) → moment_of (node_at e.net m) ≡ later (moment_of (node_at c.net m)) ms
   at_one m (inl same) = subst (λ (y : ℕ). moment_of (node_at e.net y) ≡ later (moment_of (node_at c.net y)) ms) (sym same) here_it_is
@@ -106,11 +106,11 @@ clocked_on ms i c d e h x then = record {
 
 -- As the loop's goals have them.
 pub keeps : (ms i end : ℕ) (c d e : Course) (done : Unit {0}) → i < end → Clocking ms i end c d → Does (IsClock i ms) (Ok done) d e → moment_of (node_at e.net i) ≡ later (moment_of (node_at d.net i)) ms → Clocking ms (i + 1) end c e
-keeps ms i end c d e done lt h told then = record {
+keeps ms i end c d e done lt h told later_is = record {
   on = subst (λ (y : ℕ). Onward (clocks c.net.scenario ms) (clocks_from y (drop y c.net.scenario.managers) ms) c e) (up i)
       (clock_on ms i c.net.scenario.managers (clocks c.net.scenario ms) c d e (subst (λ (y : ℕ). i < y) h.upto lt) h.on told.0 told.1);
   upto = h.upto;
-  clocked = clocked_on ms i c d e h.clocked told.0 then;
+  clocked = clocked_on ms i c d e h.clocked told.0 later_is;
 } where
   up : (i : ℕ) → suc i ≡ i + 1
   up i = omega arith

@@ -32,25 +32,25 @@ use Rattle.mq_nodes.specs.Told.{Part, Onward, OneLine, LineTold, LineAt, LineOf,
 use Rattle.mq_nodes.proofs.Onward.{begin, moved, broke, passed, stopped, of_part, behind, unframed}
 
 -- The call of a line tells its deadline, if it is a get.
-pub record Told (moment : ℕ) (label : List ℕ) (m : Memory) (until : Option ℕ) (l : ScriptLine) : Type 0 where
+pub record SaysUntil (moment : ℕ) (label : List ℕ) (m : Memory) (until : Option ℕ) (l : ScriptLine) : Type 0 where
   pub until_is : IsUntil None moment (wait_of l) (until_of (line_call label m until l))
   pub call_is : line_call label m until l ≡ line_call label m (until_of (line_call label m until l)) l
 
-pub told : (moment : ℕ) (label : List ℕ) (m : Memory) (until : Option ℕ) (l : ScriptLine) → until ≡ deadline moment (wait_of l) → Told moment label m until l
-told moment label m until (lines.Mqconn name) h = record { until_is = inl refl; call_is = refl }
-told moment label m until lines.Mqdisc h = record { until_is = inl refl; call_is = refl }
-told moment label m until lines.Mqcmit h = record { until_is = inl refl; call_is = refl }
-told moment label m until lines.Mqback h = record { until_is = inl refl; call_is = refl }
-told moment label m until (lines.Mqopen handle name qmgr how) h = record { until_is = inl refl; call_is = refl }
-told moment label m until (lines.Mqclose handle) h = record { until_is = inl refl; call_is = refl }
-told moment label m until (lines.Mqput handle body o) h = record { until_is = inl refl; call_is = refl }
-told moment label m until (lines.Mqput1 name qmgr body o) h = record { until_is = inl refl; call_is = refl }
-told moment label m until (lines.Reply body o) h = record { until_is = inl refl; call_is = refl }
-told moment label m until (lines.Mqget handle o) h = record { until_is = inl h; call_is = refl }
-told moment label m until (lines.Mqsc command) h = record { until_is = inl refl; call_is = refl }
-told moment label m until lines.Crash h = record { until_is = inl refl; call_is = refl }
-told moment label m until lines.Restart h = record { until_is = inl refl; call_is = refl }
-told moment label m until (lines.Cut k) h = record { until_is = inl refl; call_is = refl }
+pub says_until : (moment : ℕ) (label : List ℕ) (m : Memory) (until : Option ℕ) (l : ScriptLine) → until ≡ deadline moment (wait_of l) → SaysUntil moment label m until l
+says_until moment label m until (lines.Mqconn name) h = record { until_is = inl refl; call_is = refl }
+says_until moment label m until lines.Mqdisc h = record { until_is = inl refl; call_is = refl }
+says_until moment label m until lines.Mqcmit h = record { until_is = inl refl; call_is = refl }
+says_until moment label m until lines.Mqback h = record { until_is = inl refl; call_is = refl }
+says_until moment label m until (lines.Mqopen handle name qmgr how) h = record { until_is = inl refl; call_is = refl }
+says_until moment label m until (lines.Mqclose handle) h = record { until_is = inl refl; call_is = refl }
+says_until moment label m until (lines.Mqput handle body o) h = record { until_is = inl refl; call_is = refl }
+says_until moment label m until (lines.Mqput1 name qmgr body o) h = record { until_is = inl refl; call_is = refl }
+says_until moment label m until (lines.Reply body o) h = record { until_is = inl refl; call_is = refl }
+says_until moment label m until (lines.Mqget handle o) h = record { until_is = inl h; call_is = refl }
+says_until moment label m until (lines.Mqsc command) h = record { until_is = inl refl; call_is = refl }
+says_until moment label m until lines.Crash h = record { until_is = inl refl; call_is = refl }
+says_until moment label m until lines.Restart h = record { until_is = inl refl; call_is = refl }
+says_until moment label m until (lines.Cut k) h = record { until_is = inl refl; call_is = refl }
 
 -- What comes next is this line's call, or it waits.
 made : (k : ℕ) (p : ScriptPart) (b : Bool) (until : Option ℕ) (call : Call) (m : ℕ) (e : Entry) → IsLine k p (next_if b until call) m e → Is p.manager (actors.Script k) call m e
@@ -73,7 +73,7 @@ next_line : (k : ℕ) (p : ScriptPart) (w : Network) (n : Node) (l : ScriptLine)
     → IsLine k p (next_until k p (w.done p.manager) (deadline n.manager.moment (wait_of l)) l n) m e → IsNext w k p None l m e
 next_line k p w n l m e there h =
     let is = made k p (waits_at k (call_after k p (w.done p.manager) until l) n) until (call_after k p (w.done p.manager) until l) m e h in
-    let t = told n.manager.moment p.label _ until l refl in
+    let t = says_until n.manager.moment p.label _ until l refl in
     record {
       until = subst (λ (x : Option Node). IsUntil None (moment_of x) (wait_of l) (until_of e.call)) (sym there) (subst (λ (x : Call). IsUntil None n.manager.moment (wait_of l) (until_of x)) (sym is.2) t.until_is);
       is = (is.0, is.1, is.2 ∙ t.call_is ∙ ap (λ (x : Call). call_next w k p (until_of x) l) (sym is.2));

@@ -19,7 +19,7 @@ use Rattle.mq_nodes.specs.Course.{Course, Did, Ready}
 use Rattle.mq_nodes.specs.Told.{Broke, Part, Onward}
 use Rattle.mq_nodes.specs.Pumps.{IsStill, StillAt, AllStill, TurnsOf, TurnsIn, pumping, round_then, RoundOf, RoundTold, TurnsStill, TimeoutsStill, from_start}
 use Rattle.mq_nodes.proofs.Onward.{begin, moved, broke, passed, unframed, after, whole, same_scenario}
-use Rattle.mq_nodes.proofs.Asking.{at_place, same_value}
+use Rattle.mq_nodes.proofs.Asking.{at_place, same_value, same_or_less}
 use Rattle.mq_nodes.proofs.LineLaws.{fits_too}
 
 -- where it stands behind a turn
@@ -104,7 +104,7 @@ one_more_still : (w : Network) (slot : Slot) (n : ℕ) (l : CableLine) → slice
 one_more_still w slot n l known h one m k lt is = at_it (below m n lt)
   where
     below : (m n : ℕ) → m < suc n → (m ≡ n) ⊎ (m < n)
-    below m n lt = omega arith
+    below m n lt = same_or_less m n (omega arith)
 
     at_it : (m ≡ n) ⊎ (m < n) → IsStill w slot m k
     at_it (inl same) =
@@ -297,22 +297,19 @@ at_timeouts most rest c d same h =
     so (suc n) x = x
 
 all_same : (most rest : ℕ) → rest ≤ most → (rest < most → ⊥) → rest ≡ most
-all_same most rest le no = at_it (below rest most le)
+all_same most rest le not_less_so = at_it (same_or_less rest most le)
   where
-    below : (a b : ℕ) → a ≤ b → (a < b) ⊎ (a ≡ b)
-    below a b le = omega arith
+    at_it : (rest ≡ most) ⊎ (rest < most) → rest ≡ most
+    at_it (inl e) = e
+    at_it (inr lt) = absurd (not_less_so lt)
 
-    at_it : (rest < most) ⊎ (rest ≡ most) → rest ≡ most
-    at_it (inl lt) = absurd (no lt)
-    at_it (inr e) = e
-
-pub none_taken : (most rest then : ℕ) (c d e : Course) → (rest < most → ⊥) → RoundOf (pumping most Sends 0 false) round_then TurnsStill most rest c d → RoundOf (pumping rest TimesOut 0 false) from_start TimeoutsStill rest then d e
-    → RoundOf (pumping most Sends 0 false) from_start AllStill most then c e
-none_taken most rest then c d e no h x =
-    let same = all_same most rest h.few no in
+pub none_taken : (most rest last : ℕ) (c d e : Course) → (rest < most → ⊥) → RoundOf (pumping most Sends 0 false) round_then TurnsStill most rest c d → RoundOf (pumping rest TimesOut 0 false) from_start TimeoutsStill rest last d e
+    → RoundOf (pumping most Sends 0 false) from_start AllStill most last c e
+none_taken most rest last c d e not_so h x =
+    let same = all_same most rest h.few not_so in
     record {
-      few = subst (λ (n : ℕ). then ≤ n) same x.few;
-      on = after (pumping most Sends 0 false) (pumping rest TimesOut 0 false) (pumping then Sends 0 false) c d e (at_timeouts most rest c d same h) x.on;
+      few = subst (λ (n : ℕ). last ≤ n) same x.few;
+      on = after (pumping most Sends 0 false) (pumping rest TimesOut 0 false) (pumping last Sends 0 false) c d e (at_timeouts most rest c d same h) x.on;
       still = λ all some.
           let (is, s, r) = h.still same some in
           let (is_too, t) = x.still (all ∙ sym same) (subst (λ (n : ℕ). 0 < n) (sym same) some) in
@@ -326,8 +323,8 @@ none_taken most rest then c d e no h x =
 
 pub timeouts_break : (most rest : ℕ) (c d e : Course) (stop : Stop) → (rest < most → ⊥) → RoundOf (pumping most Sends 0 false) round_then TurnsStill most rest c d → Part {T = ℕ} (pumping rest TimesOut 0 false) (Err stop) d e
     → Part {T = ℕ} (pumping most Sends 0 false) (Err stop) c e
-timeouts_break most rest c d e stop no h part =
-    ended_part stop (at_timeouts most rest c d (all_same most rest h.few no) h) part
+timeouts_break most rest c d e stop not_so h part =
+    ended_part stop (at_timeouts most rest c d (all_same most rest h.few not_so) h) part
   where
     ended_part : (s : Stop) → Onward (pumping most Sends 0 false) (pumping rest TimesOut 0 false) c d → Part {T = ℕ} (pumping rest TimesOut 0 false) (Err s) d e → Part {T = ℕ} (pumping most Sends 0 false) (Err s) c e
     ended_part stops.NoMemory o p = record { left = p.left; goes = on o.goes p.goes; marks = p.marks ∙ o.marks; ends = tt }
@@ -343,17 +340,14 @@ pub pump_begins : (turns : ℕ) (c : Course) → Ready c.net → Pumping turns 0
 pump_begins turns c ready = record { on = begin (pumping turns Sends 0 false) c ready; few = omega arith; least = omega arith }
 
 pub pump_goes_on : (turns rounds left rest : ℕ) (c d e : Course) → Pumping turns rounds left c d → RoundOf (pumping left Sends 0 false) from_start AllStill left rest d e → (rest ≡ left → ⊥) → Pumping turns (rounds + 1) rest c e
-pump_goes_on turns rounds left rest c d e h x no = record {
+pump_goes_on turns rounds left rest c d e h x not_so = record {
   on = after (pumping turns Sends 0 false) (pumping left Sends 0 false) (pumping rest Sends 0 false) c d e h.on x.on;
-  few = fewer (less rest left x.few) h.few;
+  few = fewer (same_or_less rest left x.few) h.few;
   least = omega (arith, x.few, h.least);
 } where
-  less : (a b : ℕ) → a ≤ b → (a < b) ⊎ (a ≡ b)
-  less a b le = omega arith
-
-  fewer : (rest < left) ⊎ (rest ≡ left) → left + rounds ≤ turns → rest + (rounds + 1) ≤ turns
-  fewer (inl lt) le = omega arith
-  fewer (inr same) le = absurd (no same)
+  fewer : (rest ≡ left) ⊎ (rest < left) → left + rounds ≤ turns → rest + (rounds + 1) ≤ turns
+  fewer (inl same) le = absurd (not_so same)
+  fewer (inr lt) le = omega arith
 
 from_task : (turns : ℕ) (ts : List Task) (c d : Course) → Ready c.net → Onward (pumping turns Sends 0 false) ts c d → Onward (Pump turns Sends 0 false ∷ []) ts c d
 from_task zero ts c d ready h = record { goes = on (passes c.net (Pump 0 Sends 0 false) [] [] stays_there ready.served refl) h.goes; ready = h.ready; marks = h.marks; rests = h.rests }
@@ -371,7 +365,7 @@ pump_breaks turns rounds left c d e stop ready h part =
     ended_part stops.NoMemory o p = record { left = p.left; goes = on o.goes p.goes; marks = p.marks ∙ o.marks; ends = tt }
     ended_part (stops.Spent m) o p = record { left = p.left; goes = on o.goes p.goes; marks = p.marks ∙ o.marks; ends = p.ends }
 
--- In the last round none was taken: no turn is left, or nothing can change.
+-- In the last round none was taken: not_so turn is left, or nothing can change.
 pub record PumpEnds (turns left : ℕ) (c e : Course) : Type 0 where
   pub on : Onward (Pump turns Sends 0 false ∷ []) [] c e
   pub all : is_idle e.net ≡ false → left ≡ 0
@@ -390,19 +384,19 @@ pump_rests turns rounds left rest c d e ready h x same law = at_left left refl
         clash p q = cc
 
     at_left : (n : ℕ) → left ≡ n → PumpEnds turns left c e
-    at_left zero is = record { on = subst (λ (m : ℕ). Onward (Pump turns Sends 0 false ∷ []) (pumping m Sends 0 false) c e) (same ∙ is) on_e; all = λ no. is }
+    at_left zero is = record { on = subst (λ (m : ℕ). Onward (Pump turns Sends 0 false ∷ []) (pumping m Sends 0 false) c e) (same ∙ is) on_e; all = λ not_so. is }
     at_left (suc n) is =
         let (still_is, still) = x.still same (subst (λ (m : ℕ). 0 < m) (sym is) (omega arith)) in
         let idle = law (subst (λ (y : Course). AllStill y.net) (sym still_is) still) in
         record {
           on = passed (Pump turns Sends 0 false ∷ []) (Pump (suc n) Sends 0 false) [] [] c e (subst (λ (m : ℕ). Onward (Pump turns Sends 0 false ∷ []) (pumping m Sends 0 false) c e) (same ∙ is) on_e) (inl (idle, refl));
-          all = λ no. not_idle idle no;
+          all = λ not_so. not_idle idle not_so;
         }
 
 pub pump_ends : (turns rounds left : ℕ) (c d : Course) → Ready c.net → Pumping turns rounds left c d → turns ≤ rounds → PumpEnds turns left c d
 pump_ends turns rounds left c d ready h le = record {
   on = subst (λ (m : ℕ). Onward (Pump turns Sends 0 false ∷ []) (pumping m Sends 0 false) c d) (none h.few le) (from_task turns (pumping left Sends 0 false) c d ready h.on);
-  all = λ no. none h.few le;
+  all = λ not_so. none h.few le;
 } where
   none : left + rounds ≤ turns → turns ≤ rounds → left ≡ 0
   none a b = omega arith

@@ -17,7 +17,7 @@ use Rattle.mq_spec_network.specs.Tasks.{Task, tasks_of, tasks_next, restarts_fro
 use Rattle.mq_spec_network.specs.Tasks.Task.{Ask, Restart}
 use Rattle.mq_spec_network.specs.Steps.{Goes, Is, is_cut, once_more}
 use Rattle.mq_spec_network.specs.Lawful.{Went, Stands, IsFar, AreSteps, IsDone, ends_idle, mark_of, network_begun}
-use Rattle.mq_spec_network.specs.Lawful.Went as went
+use Rattle.mq_spec_network.specs.Lawful.Went.{begins as went_begins, ends as went_ends}
 use Rattle.mq_spec_network.proofs.Going.{on}
 use Rattle.mq_spec_network.proofs.Standing.{starts, goes_on, marked}
 use Rattle.mq_nodes.specs.declared.nodes.Stop.{Stop}
@@ -31,7 +31,7 @@ use Rattle.mq_nodes.proofs.LineLaws.{fits_too}
 
 -- One event that is asked for.
 pub asked : {T : Type 0} (m : ℕ) (actor : Actor) (call : Call) (r : Result T Stop) (c d : Course) → Ready c.net → Does (Is m actor call) r c d → Part (Ask m actor call ∷ []) r c d
-asked m actor call (Ok x) c d ready (did, then) = whole (Ask m actor call ∷ []) c d x (moved (Ask m actor call ∷ []) (Ask m actor call) [] c c d (begin (Ask m actor call ∷ []) c ready) did then)
+asked m actor call (Ok x) c d ready (did, ready_then) = whole (Ask m actor call ∷ []) c d x (moved (Ask m actor call ∷ []) (Ask m actor call) [] c c d (begin (Ask m actor call ∷ []) c ready) did ready_then)
 asked m actor call (Err stop) c d ready b = broke (Ask m actor call ∷ []) (Ask m actor call) [] c c d stop (begin (Ask m actor call ∷ []) c ready) b
 
 -- The answer of a step that is never idle.
@@ -43,10 +43,10 @@ never ts (Err (stops.Spent m)) c d p = record { left = p.left; goes = p.goes; ma
 -- A restart, once more where a cut stopped it.
 restarting : (m : ℕ) (cut : Bool) (c d : Course) → Ready c.net → is_up_at (node_at c.net m) ≡ false → Says (Is m actors.Operator (calls.Act acts.Restart)) (λ (x : Bool) (e : Entry). is_cut e.reply ≡ x) (Ok cut) c d
     → Onward (Restart m ∷ []) (once_more m cut) c d
-restarting m cut c d ready down (x, then) =
+restarting m cut c d ready down (x, ready_then) =
     subst (λ (b : Bool). Onward (Restart m ∷ []) (once_more m b) c d) x.fits.1
     (unframed (Restart m ∷ []) (once_more m (is_cut x.entry.reply)) c d
-    (moved (Restart m ∷ []) (Restart m) [] c c d (begin (Restart m ∷ []) c ready) (fits_too c d (λ n e h. (down, h.0)) x) then))
+    (moved (Restart m ∷ []) (Restart m) [] c c d (begin (Restart m ∷ []) c ready) (fits_too c d (λ n e h. (down, h.0)) x) ready_then))
 
 pub restarted : (m : ℕ) (cut : Bool) (c d : Course) → Ready c.net → is_up_at (node_at c.net m) ≡ false → cut ≡ false → Says (Is m actors.Operator (calls.Act acts.Restart)) (λ (x : Bool) (e : Entry). is_cut e.reply ≡ x) (Ok cut) c d
     → Part {T = Unit {0}} (Restart m ∷ []) (Ok tt) c d
@@ -54,9 +54,9 @@ restarted m cut c d ready down not_cut told = whole (Restart m ∷ []) c d tt (s
 
 pub restarted_twice : (m : ℕ) (cut again : Bool) (c d e : Course) → Ready c.net → is_up_at (node_at c.net m) ≡ false → cut ≡ true → Says (Is m actors.Operator (calls.Act acts.Restart)) (λ (x : Bool) (e : Entry). is_cut e.reply ≡ x) (Ok cut) c d
     → Says (Is m actors.Operator (calls.Act acts.Restart)) (λ (x : Bool) (f : Entry). is_cut f.reply ≡ x) (Ok again) d e → Part {T = Unit {0}} (Restart m ∷ []) (Ok tt) c e
-restarted_twice m cut again c d e ready down is told (x, then) =
+restarted_twice m cut again c d e ready down is told (x, ready_then) =
     whole (Restart m ∷ []) c e tt
-    (moved (Restart m ∷ []) (Ask m actors.Operator (calls.Act acts.Restart)) [] c d e (subst (λ (b : Bool). Onward (Restart m ∷ []) (once_more m b) c d) is (restarting m cut c d ready down told)) (fits_too d e (λ n f h. h.0) x) then)
+    (moved (Restart m ∷ []) (Ask m actors.Operator (calls.Act acts.Restart)) [] c d e (subst (λ (b : Bool). Onward (Restart m ∷ []) (once_more m b) c d) is (restarting m cut c d ready down told)) (fits_too d e (λ n f h. h.0) x) ready_then)
 
 pub restart_breaks : (m : ℕ) (c d : Course) (stop : Stop) → Ready c.net → is_up_at (node_at c.net m) ≡ false → Broke (Is m actors.Operator (calls.Act acts.Restart)) stop c d → Part {T = Unit {0}} (Restart m ∷ []) (Err stop) c d
 restart_breaks m c d stop ready down b = broke (Restart m ∷ []) (Restart m) [] c c d stop (begin (Restart m ∷ []) c ready) (too stop b)
@@ -75,7 +75,7 @@ pub stays_up : (m : ℕ) (c : Course) → Ready c.net → is_up_at (node_at c.ne
 stays_up m c ready up = whole (Restart m ∷ []) c c tt (passed (Restart m ∷ []) (Restart m) [] [] c c (begin (Restart m ∷ []) c ready) (up, refl))
 
 pub asked_once : (m : ℕ) (r : Result Bool Stop) (c d : Course) → Ready c.net → Says (Is m actors.Operator (calls.Act acts.Restart)) (λ (x : Bool) (f : Entry). is_cut f.reply ≡ x) r c d → Part {T = Bool} (Ask m actors.Operator (calls.Act acts.Restart) ∷ []) r c d
-asked_once m (Ok cut) c d ready (x, then) = asked m actors.Operator (calls.Act acts.Restart) (Ok cut) c d ready (fits_too c d (λ n f h. h.0) x, then)
+asked_once m (Ok cut) c d ready (x, ready_then) = asked m actors.Operator (calls.Act acts.Restart) (Ok cut) c d ready (fits_too c d (λ n f h. h.0) x, ready_then)
 asked_once m (Err stop) c d ready b = asked m actors.Operator (calls.Act acts.Restart) (Err stop) c d ready b
 
 -- The last restarts in a loop.
@@ -140,9 +140,9 @@ stands_at i c d step known h =
     subst (λ (rest : List Step). Stands c.net (take i c.net.scenario.steps) rest d.marks d.net (tasks_next d.net rest)) (drop_at c.net.scenario.steps i step known) h.stands
 
 -- so much is noted
-as_many : (w0 : Network) (whole : List Step) (marks : ℕ → List Mark) (w : Network) → Went w0 whole marks w → (m : ℕ) → length (marks m) ≡ length whole
-as_many w0 _ _ _ went.begins m = refl
-as_many w0 _ _ _ (went.ends whole marks before w step h g s) m = one_longer (marks m) (mark_of w step m) ∙ ap suc (as_many w0 whole marks before h m) ∙ sym (one_longer whole step)
+as_many : {w0 : Network} {whole : List Step} {marks : ℕ → List Mark} {w : Network} → Went w0 whole marks w → (m : ℕ) → length (marks m) ≡ length whole
+as_many went_begins m = refl
+as_many (went_ends whole marks before w step h g s) m = one_longer (marks m) (mark_of w step m) ∙ ap suc (as_many h m) ∙ sym (one_longer whole step)
   where
     one_longer : {A : Type 0} (xs : List A) (x : A) → length (xs ++ x ∷ []) ≡ suc (length xs)
     one_longer [] x = refl
@@ -158,7 +158,7 @@ length_take (x ∷ xs) (suc i) lt = ap suc (length_take xs i (omega arith))
 
 pub room : (i : ℕ) (c d e : Course) (step : Step) (ts : List Task) (idle : Bool) → i < length c.net.scenario.steps → Stepping i c d → Part ts (Ok idle) d e → e.net.scenario ≡ d.net.scenario → (m : ℕ) → length (e.marks m) < length e.net.scenario.steps
 room i c d e step ts idle lt h part same m =
-    subst (λ (n : ℕ). n < length e.net.scenario.steps) (sym (ap (λ (f : ℕ → List Mark). length (f m)) part.marks ∙ as_many c.net (take i c.net.scenario.steps) d.marks h.stands.before h.stands.went m ∙ length_take c.net.scenario.steps i lt))
+    subst (λ (n : ℕ). n < length e.net.scenario.steps) (sym (ap (λ (f : ℕ → List Mark). length (f m)) part.marks ∙ as_many h.stands.went m ∙ length_take c.net.scenario.steps i lt))
     (subst (λ (s : Scenario). i < length s.steps) (sym (same ∙ h.same)) lt)
 
 -- a step is whole, and noted

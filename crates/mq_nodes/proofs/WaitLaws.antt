@@ -30,7 +30,7 @@ use Rattle.mq_nodes.specs.declared.nodes.Advanced.TheVariants as advances
 use Rattle.mq_nodes.specs.Course.{Course, Did, Ready, Rests, IsSpent, waiting, waits_then}
 use Rattle.mq_nodes.specs.Told.{Part, Ended, Onward, OneLine, LineTold, LineAt, LineOf, IsLine, Clocked, later, upto}
 use Rattle.mq_nodes.proofs.GetLaws.{get_comes}
-use Rattle.mq_nodes.proofs.LineLaws.{Told, told, waits_so, by_node, fits_too, itself, bool_case, lines_of}
+use Rattle.mq_nodes.proofs.LineLaws.{SaysUntil, says_until, waits_so, by_node, fits_too, itself, bool_case, lines_of}
 
 -- The get of a script that waits until a moment, at its node.
 pub record IsWaiting (k : ℕ) (p : ScriptPart) (u : ℕ) (w : Network) (n : Node) (l : ScriptLine) (ls : List ScriptLine) : Type 0 where
@@ -224,7 +224,7 @@ now_made k p u ms c d e n w there by known clocked =
 is_next : (k : ℕ) (p : ScriptPart) (u : ℕ) (c d e : Course) (w : Waited k p u c d) → lines_by k (e.net.done p.manager) ≡ lines_by k (c.net.done p.manager) → (m : ℕ) (f : Entry)
     → Is p.manager (actors.Script k) (call_next c.net k p (Some u) w.line) m f → IsNext e.net k p (Some w.node.manager.moment) w.line m f
 is_next k p u c d e w by_lines m f h =
-    let t = told w.node.manager.moment p.label (memory_by k p (c.net.done p.manager)) (Some u) w.line (sym w.is.until) in
+    let t = says_until w.node.manager.moment p.label (memory_by k p (c.net.done p.manager)) (Some u) w.line (sym w.is.until) in
     record {
       until = inr (subst (λ (x : Call). until_of x ≡ deadline w.node.manager.moment (wait_of w.line)) (sym h.2) (only t.until_is));
       is = (h.0, h.1, h.2 ∙ t.call_is ∙ ap (λ (x : Call). call_next c.net k p (until_of x) w.line) (sym h.2) ∙ sym (same_call k p c.net e.net (until_of f.call) w.line by_lines));
