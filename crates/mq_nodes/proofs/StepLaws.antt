@@ -40,13 +40,22 @@ never ts (Ok x) c d p = record { left = p.left; goes = p.goes; marks = p.marks; 
 never ts (Err stops.NoMemory) c d p = record { left = p.left; goes = p.goes; marks = p.marks; ends = p.ends }
 never ts (Err (stops.Spent m)) c d p = record { left = p.left; goes = p.goes; marks = p.marks; ends = p.ends }
 
+abbrev AnswersCut : ℕ → Bool → ℕ → Entry → Type 0
+AnswersCut m cut n e = Is m actors.Operator (calls.Act acts.Restart) n e × (is_cut e.reply ≡ cut)
+
+is_restart : (m : ℕ) (cut : Bool) (n : ℕ) (e : Entry) → AnswersCut m cut n e → Is m actors.Operator (calls.Act acts.Restart) n e
+is_restart m cut n e h = h.0
+
+is_last_restart : (m : ℕ) (cut : Bool) (w : Network) → is_up_at (node_at w m) ≡ false → (n : ℕ) (e : Entry) → AnswersCut m cut n e → (is_up_at (node_at w m) ≡ false) × Is m actors.Operator (calls.Act acts.Restart) n e
+is_last_restart m cut w down n e h = (down, h.0)
+
 -- A restart, once more where a cut stopped it.
 restarting : (m : ℕ) (cut : Bool) (c d : Course) → Ready c.net → is_up_at (node_at c.net m) ≡ false → Says (Is m actors.Operator (calls.Act acts.Restart)) (λ (x : Bool) (e : Entry). is_cut e.reply ≡ x) (Ok cut) c d
     → Onward (Restart m ∷ []) (once_more m cut) c d
 restarting m cut c d ready down (x, ready_then) =
     subst (λ (b : Bool). Onward (Restart m ∷ []) (once_more m b) c d) x.fits.1
     (unframed (Restart m ∷ []) (once_more m (is_cut x.entry.reply)) c d
-    (moved (Restart m ∷ []) (Restart m) [] c c d (begin (Restart m ∷ []) c ready) (fits_too c d (λ n e h. (down, h.0)) x) ready_then))
+    (moved (Restart m ∷ []) (Restart m) [] c c d (begin (Restart m ∷ []) c ready) (fits_too c d (is_last_restart m cut c.net down) x) ready_then))
 
 pub restarted : (m : ℕ) (cut : Bool) (c d : Course) → Ready c.net → is_up_at (node_at c.net m) ≡ false → cut ≡ false → Says (Is m actors.Operator (calls.Act acts.Restart)) (λ (x : Bool) (e : Entry). is_cut e.reply ≡ x) (Ok cut) c d
     → Part {T = Unit {0}} (Restart m ∷ []) (Ok tt) c d
@@ -56,7 +65,7 @@ pub restarted_twice : (m : ℕ) (cut again : Bool) (c d e : Course) → Ready c.
     → Says (Is m actors.Operator (calls.Act acts.Restart)) (λ (x : Bool) (f : Entry). is_cut f.reply ≡ x) (Ok again) d e → Part {T = Unit {0}} (Restart m ∷ []) (Ok tt) c e
 restarted_twice m cut again c d e ready down is told (x, ready_then) =
     whole (Restart m ∷ []) c e tt
-    (moved (Restart m ∷ []) (Ask m actors.Operator (calls.Act acts.Restart)) [] c d e (subst (λ (b : Bool). Onward (Restart m ∷ []) (once_more m b) c d) is (restarting m cut c d ready down told)) (fits_too d e (λ n f h. h.0) x) ready_then)
+    (moved (Restart m ∷ []) (Ask m actors.Operator (calls.Act acts.Restart)) [] c d e (subst (λ (b : Bool). Onward (Restart m ∷ []) (once_more m b) c d) is (restarting m cut c d ready down told)) (fits_too d e (is_restart m again) x) ready_then)
 
 pub restart_breaks : (m : ℕ) (c d : Course) (stop : Stop) → Ready c.net → is_up_at (node_at c.net m) ≡ false → Broke (Is m actors.Operator (calls.Act acts.Restart)) stop c d → Part {T = Unit {0}} (Restart m ∷ []) (Err stop) c d
 restart_breaks m c d stop ready down b = broke (Restart m ∷ []) (Restart m) [] c c d stop (begin (Restart m ∷ []) c ready) (too stop b)
@@ -75,7 +84,7 @@ pub stays_up : (m : ℕ) (c : Course) → Ready c.net → is_up_at (node_at c.ne
 stays_up m c ready up = whole (Restart m ∷ []) c c tt (passed (Restart m ∷ []) (Restart m) [] [] c c (begin (Restart m ∷ []) c ready) (up, refl))
 
 pub asked_once : (m : ℕ) (r : Result Bool Stop) (c d : Course) → Ready c.net → Says (Is m actors.Operator (calls.Act acts.Restart)) (λ (x : Bool) (f : Entry). is_cut f.reply ≡ x) r c d → Part {T = Bool} (Ask m actors.Operator (calls.Act acts.Restart) ∷ []) r c d
-asked_once m (Ok cut) c d ready (x, ready_then) = asked m actors.Operator (calls.Act acts.Restart) (Ok cut) c d ready (fits_too c d (λ n f h. h.0) x, ready_then)
+asked_once m (Ok cut) c d ready (x, ready_then) = asked m actors.Operator (calls.Act acts.Restart) (Ok cut) c d ready (fits_too c d (is_restart m cut) x, ready_then)
 asked_once m (Err stop) c d ready b = asked m actors.Operator (calls.Act acts.Restart) (Err stop) c d ready b
 
 -- The last restarts in a loop.

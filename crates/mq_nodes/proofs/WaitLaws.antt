@@ -1,6 +1,7 @@
 -- A get that waits: the clocks of all managers advance to its deadline, and then it comes.
 use Rattle.std.specs.Prelude.{if◌then◌else◌, ◌≡◌, ◌<◌, ◌≤◌, ◌+◌, ◌-◌, ◌⊎◌, ◌==◌, ℕ, zero, suc, min, nat_lt, Bool, true, false, List, [], ◌∷◌, ◌++◌, Option, Some, None, Result, Ok, Err, length, take, drop, refl}
 use Rattle.std.proofs.Common.{ap, subst, sym, arith, append-nil, inl, inr, ◌∙◌}
+use Rattle.std.proofs.Math.Nat.{min-eq_left, min-le_right}
 use Rattle.std.proofs.lemmas.Bool.Decides.{nat_tests}
 use Rattle.mq_history.specs.declared.calls.Actor.TheVariants as actors
 use Rattle.mq_history.specs.declared.calls.Call.{Call}
@@ -81,16 +82,16 @@ later_than k label m u n l h waits = below (nat_lt n.manager.moment u) refl
 
 deadline_low : (moment : ℕ) (wait : Option ℕ) (u : ℕ) → deadline moment wait ≡ Some u → u ≤ last_moment
 deadline_low moment None u h = absurd cc
-deadline_low moment (Some wait) u h = subst (λ (x : ℕ). x ≤ last_moment) (inside h) (least (moment + wait) last_moment)
+deadline_low moment (Some wait) u h = subst (λ (x : ℕ). x ≤ last_moment) (inside h) (min-le_right (moment + wait) last_moment)
   where
     inside : Some (min (moment + wait) last_moment) ≡ Some u → min (moment + wait) last_moment ≡ u
     inside e = cc
 
-    least : (a b : ℕ) → min a b ≤ b
-    least a b = grind (arith, nat_tests)
-
 reached : (moment u last : ℕ) → moment < u → u ≤ last → min (moment + (u - moment)) last ≡ u
-reached moment u last a b = grind (arith, nat_tests)
+reached moment u last a b = ap (λ (x : ℕ). min x last) (whole moment u a) ∙ min-eq_left b
+  where
+    whole : (m n : ℕ) → m < n → m + (n - m) ≡ n
+    whole m n lt = omega arith
 
 -- what the clocks leave as it was
 same_left : (k : ℕ) (p : ScriptPart) (w v : Network) → lines_by k (v.done p.manager) ≡ lines_by k (w.done p.manager) → lines_left v k p ≡ lines_left w k p
