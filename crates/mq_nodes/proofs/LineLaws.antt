@@ -13,7 +13,7 @@ use Rattle.mq_history.specs.declared.scripts.ScriptLine.TheVariants as lines
 use Rattle.mq_spec_manager.specs.Stops.{last_moment}
 use Rattle.mq_spec_node.specs.Node.{Node}
 use Rattle.mq_spec_node.specs.Scripts.{Memory, deadline, line_call, until_of, wait_of}
-use Rattle.mq_spec_node.specs.Lines.{Next, next_by, next_if, next_of, next_until, deadline_kept, waits_at, call_after, left_after, lines_by, is_none}
+use Rattle.mq_spec_node.specs.Lines.{Next, next_by, next_if, next_of, next_until, deadline_kept, waits_at, call_after, left_after, lines_by, is_none, memory_by}
 use Rattle.mq_spec_node.specs.Lines.Next.{Ends, Waits, Makes}
 use Rattle.mq_spec_network.specs.Turns.{Network, node_at, does}
 use Rattle.mq_spec_network.specs.ScriptLines.{IsUntil, call_next, lines_left, still_waits}
@@ -73,7 +73,7 @@ next_line : (k : ℕ) (p : ScriptPart) (w : Network) (n : Node) (l : ScriptLine)
     → IsLine k p (next_until k p (w.done p.manager) (deadline n.manager.moment (wait_of l)) l n) m e → IsNext w k p None l m e
 next_line k p w n l m e there h =
     let is = made k p (waits_at k (call_after k p (w.done p.manager) until l) n) until (call_after k p (w.done p.manager) until l) m e h in
-    let t = says_until n.manager.moment p.label _ until l refl in
+    let t = says_until n.manager.moment p.label (memory_by k p (w.done p.manager)) until l refl in
     record {
       until = subst (λ (x : Option Node). IsUntil None (moment_of x) (wait_of l) (until_of e.call)) (sym there) (subst (λ (x : Call). IsUntil None n.manager.moment (wait_of l) (until_of x)) (sym is.2) t.until_is);
       is = (is.0, is.1, is.2 ∙ t.call_is ∙ ap (λ (x : Call). call_next w k p (until_of x) l) (sym is.2));
@@ -82,7 +82,7 @@ next_line k p w n l m e there h =
     until : Option ℕ
     until = deadline n.manager.moment (wait_of l)
 
-pub fits_too : {P Q : ℕ → Entry → Type 0} (c d : Course) → ((m : ℕ) (e : Entry) → P m e → Q m e) → Did P c d → Did Q c d
+abbrev pub fits_too : {P Q : ℕ → Entry → Type 0} (c d : Course) → ((m : ℕ) (e : Entry) → P m e → Q m e) → Did P c d → Did Q c d
 fits_too c d f x = record { at = x.at; entry = x.entry; behind = x.behind; fits = f x.at x.entry x.fits; triggers = x.triggers; is = x.is }
 
 pub itself : (k : ℕ) → (k == k) ≡ true
@@ -98,7 +98,7 @@ rests_now k c h j = bool_case (λ (b : Bool). (if b then None else c.waits j) �
 let_go : (k : ℕ) (all ts : List Task) (c : Course) → Onward all ts c c → Onward all ts c (waiting k None c)
 let_go k all ts c h = record { goes = h.goes; ready = h.ready; marks = h.marks; rests = λ q. rests_now k c q }
 
-pub lines_of : ℕ → ScriptPart → ℕ → List ScriptLine → List Task
+abbrev pub lines_of : ℕ → ScriptPart → ℕ → List ScriptLine → List Task
 lines_of k p n ls = Lines k p None (take n ls) ∷ []
 
 -- the lines that are left after one

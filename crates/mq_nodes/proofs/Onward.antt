@@ -59,14 +59,6 @@ pub answered : {T U : Type 0} (all : List Task) (c d : Course) (value : T) (othe
 answered all c d value other p = record { left = p.left; goes = p.goes; marks = p.marks; ends = p.ends }
 
 -- A call that ends the run.
-ended_so : {T U : Type 0} (stop : Stop) (left : List Task) (c d : Course) → Ended {T = T} (Err stop) left c d → Ended {T = U} (Err stop) left c d
-ended_so stops.NoMemory left c d e = tt
-ended_so (stops.Spent m) left c d e = e
-
-ended_later : {T : Type 0} (stop : Stop) (left : List Task) (b c d : Course) → Ended {T = T} (Err stop) left c d → Ended {T = T} (Err stop) left b d
-ended_later stops.NoMemory left b c d e = tt
-ended_later (stops.Spent m) left b c d e = e
-
 pub stopped : {T U : Type 0} (all ts more : List Task) (c d e : Course) (stop : Stop) → Onward all (ts ++ more) c d → Part {T = T} ts (Err stop) d e → Part {T = U} all (Err stop) c e
 stopped {T} {U} all ts more c d e stop h p = record {
   left = p.left ++ more;

@@ -152,7 +152,7 @@ begins most end c ready upto = record {
   round = record {
     few = omega arith;
     on = subst (λ (b : Bool). Onward (pumping most Sends 0 false) (pumping most Sends 0 b) c c) (sym (not_less most)) (begin (pumping most Sends 0 false) c ready);
-    still = λ same some. (refl, none_still c.net Sends, none_still c.net Receives);
+    still = λ same some. (refl, (none_still c.net Sends, none_still c.net Receives));
   };
   upto = upto;
 }
@@ -167,7 +167,7 @@ sent cable most left rest end c d e lt h told =
         on = on;
         still = λ same some.
             let (is, (s, r), one) = still same some in
-            (is, one_more_still c.net Sends cable l first s one, r);
+            (is, (one_more_still c.net Sends cable l first s one, r));
       };
       upto = h.upto;
     }
@@ -182,7 +182,7 @@ received cable most left rest end c d e lt h told =
         on = on;
         still = λ same some.
             let (is, (s, r), one) = still same some in
-            (is, s, one_more_still c.net Receives cable l first r one);
+            (is, (s, one_more_still c.net Receives cable l first r one));
       };
       upto = h.upto;
     })
@@ -215,8 +215,8 @@ round_over cable most left end c d le ge h = record {
   few = h.round.few;
   on = sends_over (pumping most Sends 0 false) cable left (nat_lt left most) c d (no_cable cable end _ _ c d le h.upto h.round.on) h.round.on;
   still = λ same some.
-      let (is, s, r) = h.round.still same some in
-      (is, subst (λ (n : ℕ). StillAt c.net Sends n) (at_end cable end le ge ∙ h.upto) s, subst (λ (n : ℕ). StillAt c.net Receives n) (at_end cable end le ge ∙ h.upto) r);
+      let (is, (s, r)) = h.round.still same some in
+      (is, (subst (λ (n : ℕ). StillAt c.net Sends n) (at_end cable end le ge ∙ h.upto) s, subst (λ (n : ℕ). StillAt c.net Receives n) (at_end cable end le ge ∙ h.upto) r));
 } where
   at_end : (a b : ℕ) → b ≤ a → a ≤ b → a ≡ b
   at_end a b x y = omega arith
@@ -311,7 +311,7 @@ none_taken most rest last c d e not_so h x =
       few = subst (λ (n : ℕ). last ≤ n) same x.few;
       on = after (pumping most Sends 0 false) (pumping rest TimesOut 0 false) (pumping last Sends 0 false) c d e (at_timeouts most rest c d same h) x.on;
       still = λ all some.
-          let (is, s, r) = h.still same some in
+          let (is, (s, r)) = h.still same some in
           let (is_too, t) = x.still (all ∙ sym same) (subst (λ (n : ℕ). 0 < n) (sym same) some) in
           (is_too ∙ is, by_slot s r (subst (λ (y : Course). TimeoutsStill y.net) is t));
     }

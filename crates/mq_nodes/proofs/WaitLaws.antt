@@ -138,7 +138,7 @@ not_late k p u moment c d q t e =
     weaker a b lt = omega arith
 
 -- the tasks that stand in the get's place, behind the clocks
-get_then : (k : ℕ) (p : ScriptPart) (u : ℕ) (w : Network) (l : ScriptLine) (ls : List ScriptLine) (most : ℕ) → List Task
+abbrev get_then : (k : ℕ) (p : ScriptPart) (u : ℕ) (w : Network) (l : ScriptLine) (ls : List ScriptLine) (most : ℕ) → List Task
 get_then k p u w l ls most = Ask p.manager (actors.Script k) (call_next w k p (Some u) l) ∷ Lines k p None (take most ls) ∷ []
 
 gives_way : (k : ℕ) (p : ScriptPart) (u ms : ℕ) (c d : Course) (w : Waited k p u c d) → Ready c.net → ms ≡ u - moment_of (node_at d.net p.manager) → (most : ℕ)
