@@ -10,6 +10,7 @@ use mq_nodes::{Nodes, Stop};
 use mq_sc_parse::Command;
 
 /// The operator gives a manager these commands, one after the other.
+#[tactic(auto, using(mq_nodes::proofs::Onward::begin, mq_nodes::proofs::Asking::obeys, mq_nodes::proofs::Asking::obey_fails, mq_nodes::proofs::Asking::obeyed))]
 pub fn obey_all<N: Nodes>(nodes: &mut N, manager: u16, commands: &[Command]) -> Result<(), Stop>
     requires ready { Ready (N.course nodes.old).net }
     requires there { manager < length (N.course nodes.old).net.scenario.managers }
@@ -35,6 +36,7 @@ pub fn obey<N: Nodes>(nodes: &mut N, scenario: &Scenario, section: u16) -> Resul
 }
 
 /// The moments of all managers advance by so many milliseconds, manager by manager.
+#[tactic(auto, using(mq_nodes::proofs::ClockLaws::begins, mq_nodes::proofs::ClockLaws::keeps, mq_nodes::proofs::ClockLaws::fails, mq_nodes::proofs::ClockLaws::over, mq_nodes::proofs::ClockLaws::all_clocked))]
 pub fn clocks<N: Nodes>(nodes: &mut N, ms: u64) -> Result<(), Stop>
     requires ready { Ready (N.course nodes.old).net }
     ensures told { Part (tasks.clocks (N.course nodes.old).net.scenario ms) result (N.course nodes.old) (N.course nodes.new) }

@@ -11,6 +11,7 @@ use mq_nodes::{Advanced, Nodes, Stop};
 
 /// Does a script's next line, if one is left: whether one was. A get that is to wait waits: the moments of all managers
 /// advance to its deadline first.
+#[tactic(auto, using(mq_nodes::proofs::LineLaws::line_done, mq_nodes::proofs::LineLaws::line_ends, mq_nodes::proofs::LineLaws::line_breaks, mq_nodes::proofs::WaitLaws::not_late))]
 fn line<N: Nodes>(nodes: &mut N, script: u16, part: &ScriptPart) -> Result<bool, Stop>
     requires ready { Ready (N.course nodes.old).net }
     requires rests { Rests (N.course nodes.old) }

@@ -68,6 +68,7 @@ fn times_out<N: Nodes>(nodes: &mut N, cable: u16, left: u32) -> Result<u32, Stop
 }
 
 /// A round: each cable gets a sender's turn and a receiver's, as long as any turn is left. So many are left then.
+#[tactic(auto, using(mq_nodes::proofs::PumpLaws::begins, mq_nodes::proofs::PumpLaws::sent, mq_nodes::proofs::PumpLaws::received, mq_nodes::proofs::PumpLaws::round_breaks, mq_nodes::proofs::PumpLaws::round_over))]
 fn round<N: Nodes>(nodes: &mut N, most: u32) -> Result<u32, Stop>
     requires ready { Ready (N.course nodes.old).net }
     ensures { RoundTold (pumping most Sends 0 false) round_then TurnsStill most result (N.course nodes.old) (N.course nodes.new) }
@@ -81,6 +82,7 @@ fn round<N: Nodes>(nodes: &mut N, most: u32) -> Result<u32, Stop>
 }
 
 /// Each sender that waits for an answer gets a timeout, as long as any turn is left. So many are left then.
+#[tactic(auto, using(mq_nodes::proofs::PumpLaws::timeouts_begin, mq_nodes::proofs::PumpLaws::timed_out, mq_nodes::proofs::PumpLaws::timeout_breaks, mq_nodes::proofs::PumpLaws::timeouts_over))]
 fn timeouts<N: Nodes>(nodes: &mut N, most: u32) -> Result<u32, Stop>
     requires ready { Ready (N.course nodes.old).net }
     ensures { RoundTold (pumping most TimesOut 0 false) from_start TimeoutsStill most result (N.course nodes.old) (N.course nodes.new) }
@@ -93,6 +95,7 @@ fn timeouts<N: Nodes>(nodes: &mut N, most: u32) -> Result<u32, Stop>
 }
 
 /// A round, and where no turn was taken in it, timeouts. So many turns are left then.
+#[tactic(auto, using(mq_nodes::proofs::PumpLaws::some_taken, mq_nodes::proofs::PumpLaws::none_taken, mq_nodes::proofs::PumpLaws::timeouts_break))]
 fn turns_of_round<N: Nodes>(nodes: &mut N, most: u32) -> Result<u32, Stop>
     requires ready { Ready (N.course nodes.old).net }
     ensures { RoundTold (pumping most Sends 0 false) from_start AllStill most result (N.course nodes.old) (N.course nodes.new) }
@@ -105,6 +108,7 @@ fn turns_of_round<N: Nodes>(nodes: &mut N, most: u32) -> Result<u32, Stop>
 }
 
 /// Takes so many turns, or as many as there are until nothing can change.
+#[tactic(auto, using(mq_nodes::proofs::PumpLaws::pump_begins, mq_nodes::proofs::PumpLaws::pump_goes_on, mq_nodes::proofs::PumpLaws::pump_breaks))]
 pub fn pump<N: Nodes>(nodes: &mut N, turns: u32) -> Result<Pumped, Stop>
     requires ready { Ready (N.course nodes.old).net }
     ensures told { Part (tasks.Pump turns Sends 0 false ∷ []) result (N.course nodes.old) (N.course nodes.new) }

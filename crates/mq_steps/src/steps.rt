@@ -28,6 +28,7 @@ fn not_idle(done: Result<(), Stop>) -> Result<bool, Stop>
 }
 
 /// Restarts a manager, whatever comes of it.
+#[tactic(auto, using(mq_nodes::proofs::StepLaws::asked_once, mq_nodes::proofs::StepLaws::asked))]
 fn restart_once<N: Nodes>(nodes: &mut N, manager: u16) -> Result<(), Stop>
     requires ready { Ready (N.course nodes.old).net }
     requires there { manager < length (N.course nodes.old).net.scenario.managers }
@@ -38,6 +39,7 @@ fn restart_once<N: Nodes>(nodes: &mut N, manager: u16) -> Result<(), Stop>
 }
 
 /// Does a step: whether it was a PUMP or a HANDLE that ended idle.
+#[tactic(auto, using(mq_nodes::proofs::StepLaws::asked, mq_nodes::proofs::StepLaws::never, mq_nodes::proofs::StepLaws::asked_once))]
 fn do_step<N: Nodes>(nodes: &mut N, scenario: &Scenario, step: &Step) -> Result<bool, Stop>
     requires ready { Ready (N.course nodes.old).net }
     requires rests { Rests (N.course nodes.old) }
@@ -64,6 +66,7 @@ fn do_step<N: Nodes>(nodes: &mut N, scenario: &Scenario, step: &Step) -> Result<
 }
 
 /// Does all steps, one after the other, each with its mark.
+#[tactic(auto, using(mq_nodes::proofs::StepLaws::steps_begin, mq_nodes::proofs::StepLaws::room, mq_nodes::proofs::StepLaws::steps_go_on, mq_nodes::proofs::StepLaws::step_breaks, mq_nodes::proofs::StepLaws::steps_end))]
 fn do_steps<N: Nodes>(nodes: &mut N, scenario: &Scenario) -> Result<(), Stop>
     requires ready { Ready (N.course nodes.old).net }
     requires rests { Rests (N.course nodes.old) }
@@ -80,6 +83,7 @@ fn do_steps<N: Nodes>(nodes: &mut N, scenario: &Scenario) -> Result<(), Stop>
 }
 
 /// Restarts a manager, if it is down; once more, where an armed cut stops that.
+#[tactic(auto, using(mq_nodes::proofs::StepLaws::stays_up, mq_nodes::proofs::StepLaws::restarted, mq_nodes::proofs::StepLaws::restarted_twice, mq_nodes::proofs::StepLaws::restart_breaks, mq_nodes::proofs::StepLaws::second_breaks))]
 fn restart_if_down<N: Nodes>(nodes: &mut N, manager: u16) -> Result<(), Stop>
     requires ready { Ready (N.course nodes.old).net }
     requires there { manager < length (N.course nodes.old).net.scenario.managers }
@@ -96,6 +100,7 @@ fn restart_if_down<N: Nodes>(nodes: &mut N, manager: u16) -> Result<(), Stop>
 }
 
 /// Restarts each manager that is down, in order.
+#[tactic(auto, using(mq_nodes::proofs::StepLaws::restarts_begin, mq_nodes::proofs::StepLaws::restarts_go_on, mq_nodes::proofs::StepLaws::restarts_break, mq_nodes::proofs::StepLaws::restarts_end))]
 fn last_restarts<N: Nodes>(nodes: &mut N) -> Result<(), Stop>
     requires ready { Ready (N.course nodes.old).net }
     ensures { Part (restarts_from 0 (N.course nodes.old).net.scenario.managers) result (N.course nodes.old) (N.course nodes.new) }
@@ -108,6 +113,7 @@ fn last_restarts<N: Nodes>(nodes: &mut N) -> Result<(), Stop>
 
 /// Does the steps of a scenario over nodes that have done nothing yet, and restarts last the managers that are down. Where it
 /// ends early, what was done is a part of that.
+#[tactic(auto, using(mq_nodes::proofs::StepLaws::ran_all, mq_nodes::proofs::StepLaws::are_steps, mq_nodes::proofs::StepLaws::are_done))]
 pub fn run_steps<N: Nodes>(nodes: &mut N, scenario: &Scenario) -> Result<(), Stop>
     requires ready { Ready (N.course nodes.old).net }
     requires rests { Rests (N.course nodes.old) }

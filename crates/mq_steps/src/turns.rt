@@ -12,6 +12,7 @@ use mq_history::Scenario;
 use mq_nodes::{Monitored, Nodes, Stop};
 
 /// Takes so many turns of a handler, or as many as there are until the next would be idle: whether it would be.
+#[tactic(auto, using(mq_nodes::proofs::TurnLaws::handling_begins, mq_nodes::proofs::TurnLaws::handled, mq_nodes::proofs::TurnLaws::handler_breaks))]
 pub fn handle<N: Nodes>(
     nodes: &mut N,
     scenario: &Scenario,
@@ -36,6 +37,7 @@ pub fn handle<N: Nodes>(
 
 /// Takes so many turns of a monitor, or as many as there are until it finds no message. A script that it begins runs to its
 /// end.
+#[tactic(auto, using(mq_nodes::proofs::TurnLaws::serving_begins, mq_nodes::proofs::TurnLaws::got, mq_nodes::proofs::TurnLaws::began, mq_nodes::proofs::TurnLaws::ran, mq_nodes::proofs::TurnLaws::monitor_breaks, mq_nodes::proofs::TurnLaws::monitor_rests, mq_nodes::proofs::TurnLaws::served_all))]
 pub fn serve<N: Nodes>(
     nodes: &mut N,
     scenario: &Scenario,
