@@ -3,12 +3,12 @@
 
 mod asks;
 mod lines;
-mod pump;
+mod pumping;
 mod steps;
 mod turns;
 
 pub use asks::{clocks, obey, obey_all};
 pub use lines::run;
-pub use pump::{Pumped, pump};
+pub use pumping::{Pumped, pump};
 pub use steps::run_steps;
 pub use turns::{handle, serve};

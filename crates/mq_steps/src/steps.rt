@@ -12,7 +12,7 @@ ghost use Rattle.mq_nodes.specs.Runs.{StepsTold, Unmarked, never_idle};
 
 use crate::asks::{clocks, obey};
 use crate::lines::run;
-use crate::pump::pump;
+use crate::pumping::pump;
 use crate::turns::{handle, serve};
 use mq_history::{Scenario, Step};
 use mq_nodes::{Nodes, Stop};

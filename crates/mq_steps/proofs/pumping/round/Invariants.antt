@@ -1,6 +1,6 @@
 use Rattle.mq_nodes.proofs.PumpLaws.{InRound}
 use Rattle.mq_spec_network.specs.Tasks.Slot.{Sends}
-use Rattle.mq_steps.proofs.pump.round.Given as goal
+use Rattle.mq_steps.proofs.pumping.round.Given as goal
 
 abbrev pub invariant-loop-cable : goal.invariant-loop-cable
 invariant-loop-cable g l = InRound Sends l.cable l.cable l.cable l.most l.left l.cable-end (g.N.Nodes.course l.initial.nodes) (g.N.Nodes.course l.nodes)

@@ -1,5 +1,5 @@
 use Rattle.mq_nodes.proofs.PumpLaws.{InTimeouts}
-use Rattle.mq_steps.proofs.pump.timeouts.Given as goal
+use Rattle.mq_steps.proofs.pumping.timeouts.Given as goal
 
 abbrev pub invariant-loop-cable : goal.invariant-loop-cable
 invariant-loop-cable g l = InTimeouts l.cable l.most l.left l.cable-end (g.N.Nodes.course l.initial.nodes) (g.N.Nodes.course l.nodes)
