@@ -1,0 +1,9 @@
+pub mod Onward
+pub mod Asking
+pub mod ClockLaws
+pub mod GetLaws
+pub mod LineLaws
+pub mod WaitLaws
+pub mod PumpLaws
+pub mod TurnLaws
+pub mod StepLaws

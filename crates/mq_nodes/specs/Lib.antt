@@ -1,0 +1,4 @@
+pub mod Course
+pub mod Told
+pub mod Pumps
+pub mod Runs
