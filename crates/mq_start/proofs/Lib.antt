@@ -6,3 +6,4 @@ pub mod OpenLaws
 pub mod BeginLaws
 pub mod RestartLaws
 pub mod RaiseLaws
+pub mod FallLaws

@@ -78,7 +78,7 @@ comes_up tells read noted starts x y found r known tied stood =
       plain = ap plain_of r.raised.becomes ∙ restarted_seen (kept_of read found) s.started noted starts r.log.bodies (plain_of x) r.built y.log s.stood r.told h;
       tied = subst Tied (sym r.raised.becomes) (tied_body (begun_parts x.number x.name x.moment r.built y.log) x.body h.fresh.free (restarted_tied r.log.bodies (plain_of x) r.built y.log r.told h tied.max tied.moment));
       calls = λ some. let a = one.1 some in let b = one.0 in let more : 0 < r.log.armed = omega (arith, a, b) in let c = four.1 more in omega (arith, b, c);
-      number = ap (λ (z : PartsValue). z.incarnation) r.raised.becomes ∙ next r.told.told s.started (kept_of read found) r.told.built.incarnation (image_is (image (given_of x) Later r.log.bodies) (later_by s.started (lasting (redone_if (kept_of read found) noted (plain_of x)))) r.told.told s.stood.tells r.told.read);
+      number = ap (λ (z : PartsValue). z.incarnation) r.raised.becomes ∙ next r.told.told s.started (kept_of read found) r.told.built.incarnation (image_is (image (given_of x) Later r.log.bodies) (later_by s.started (lasting (redone_if (kept_of read found) noted (plain_of x)))) r.told.told (s.stood.tells (plain_of x).running (plain_of x).log (plain_of x).moment) r.told.read);
     }
   where
     or_image : Image → Result Image ℕ → Image

@@ -13,13 +13,17 @@ use Rattle.mq_log.specs.State.{LogState}
 use Rattle.mq_log.specs.Images.{IsFound}
 use Rattle.mq_log.specs.Open.{EndsByOneOrThree, RestartEnds, IsNotBad}
 use Rattle.mq_log.specs.Force.{Stops}
-use Rattle.mq_record.specs.Records.{record_bytes}
+use Rattle.mq_record.specs.Records.{record_bytes, IsRecord}
 use Rattle.mq_spec_state.specs.State.{Given, Noted}
 use Rattle.mq_spec_manager.specs.Stops.{started_record, CanBeKept, restarted, calls_of_restart}
 use Rattle.mq_spec_log.specs.Applies.Start.{Later}
 use Rattle.mq_recover.specs.declared.recovery.RecoverFault.{RecoverFault}
 use Rattle.mq_recover.specs.declared.recovery.RecoverFault.TheVariants.{BadRecord, NoMemory}
 use Rattle.mq_rebuild.specs.declared.building.Built.{Built}
+use Rattle.mq_calls.specs.declared.choices.Return.{Return}
+use Rattle.mq_calls.specs.declared.choices.Return.TheVariants.{Fails}
+use Rattle.mq_core.specs.declared.parts.ReadLog.{ReadLog}
+use Rattle.mq_start.specs.Tells.{kept_of}
 use Rattle.mq_core.specs.Views.{PartsValue, plain_of}
 use Rattle.mq_core.specs.Ties.{Tied}
 use Rattle.mq_start.specs.declared.raising.Unraised.{Unraised}
@@ -65,6 +69,8 @@ pub record HasNotRead (tells : Type 0) (old : LogState) (fault : StartFault) (ne
 
 -- the write of the Started record of what was built was stopped
 pub record IsHalted (g : Given) (b : Built) (by : Stop) (old new : LogState) : Type 0 where
+  pub is : IsRecord (started_record g (b.incarnation + 1))
+  pub long : length (record_bytes (started_record g (b.incarnation + 1))) ≡ 58
   pub log : new ≡ record old { live = false; pending = Some (record_bytes (started_record g (b.incarnation + 1))); room = new.room; armed = new.armed; faults = new.faults }
   pub ends : Stops old.armed (Err by) new.armed
   pub later : old.faults ≤ new.faults
@@ -111,3 +117,21 @@ pub record ComesUp (kept : Bool) (noted : Option Noted) (starts : ℕ) (x y : Pa
   pub tied : Tied y
   pub calls : 0 < x.log.armed → calls_of_restart < x.log.armed
   pub number : y.incarnation ≡ x.incarnation + started + 1
+
+-- what is known of the log behind a restart that was refused: where it read the log, what it found, and how long the log was at the stop
+abbrev pub read_by : Option ReadLog → Found → ℕ → ReadLog
+read_by None found long = record { kept = kept_of None found; length = long }
+read_by (Some read) found long = read
+
+abbrev pub read_after : Option ReadLog → Option Found → ℕ → Option ReadLog
+read_after read None long = read
+read_after read (Some found) long = Some (read_by read found long)
+
+-- one Started record more was stopped, or none
+abbrev pub starts_after : Bool → ℕ → ℕ
+starts_after true starts = starts + 1
+starts_after false starts = starts
+
+-- a restart that is refused, as the manager's history says it
+abbrev pub fails_as : Unraised → ℕ → Return
+fails_as e left = Fails e.fault e.in_write left
