@@ -14,10 +14,11 @@ use Rattle.mq_spec_log.specs.Bodies.{image}
 use Rattle.mq_spec_manager.specs.Stops.{started_need, started_record, redone_if}
 use Rattle.mq_spec_manager.specs.Words.{last_moment}
 use Rattle.mq_law_image.specs.Tells.{later_by}
+use Rattle.mq_rebuild.specs.declared.building.Built.{Built}
 use Rattle.mq_core.specs.declared.parts.ReadLog.{ReadLog}
 use Rattle.mq_core.specs.Views.{PartsValue, plain_of}
 use Rattle.mq_core.specs.Ties.{Tied}
-use Rattle.mq_start.specs.Begun.{given_by, begun_parts, IsFresh}
+use Rattle.mq_start.specs.Begun.{given_by, begun_parts, IsFresh, IsReadFrom}
 use Rattle.mq_start.specs.Tells.{Stood, LogStood, StoodBy, HasRestarted, kept_of}
 use Rattle.mq_start.specs.Raised.{given_of, with_log, Raises, ComesUp}
 use Rattle.mq_start.proofs.RestartLaws.{restarted_seen, restarted_tied, redone_incarnation}
@@ -64,6 +65,22 @@ tied_body x b none t = record {
   moment = t.moment;
 }
 
+-- the incarnation that was read
+or_image : Image → Result Image ℕ → Image
+or_image d (Ok i) = i
+or_image d (Err place) = d
+
+image_is : (e : Result Image ℕ) (i j : Image) → e ≡ Ok i → e ≡ Ok j → j ≡ i
+image_is e i j a b = ap (or_image i) (sym b ∙ a)
+
+pub read_number : (kept : Bool) (started : ℕ) (noted : Option Noted) (starts : ℕ) (bodies : List (List ℕ)) (x : PartsValue) (b : Built) → Stood kept started noted starts bodies (plain_of x) → IsReadFrom (given_of x) Later bodies b → b.incarnation ≡ x.incarnation + started
+read_number kept started noted starts bodies x b s r =
+    let is = image_is (image (given_of x) Later bodies) (later_by started (lasting (redone_if kept noted (plain_of x)))) r.told (s.tells (plain_of x).running (plain_of x).log (plain_of x).moment) r.read in
+    let k = ap (λ (j : Image). j.incarnation) is in
+    let n = redone_incarnation kept noted (plain_of x) in
+    let e = r.built.incarnation in
+    omega (arith, e, k, n)
+
 pub comes_up : (tells : Type 0) (read : Option ReadLog) (noted : Option Noted) (starts : ℕ) (x y : PartsValue) (found : Found) → Raises tells x found y → found ≢ Other → Tied x
     → LogStood read noted starts x.log.bodies x.log.pending (plain_of x) → ComesUp (kept_of read found) noted starts x y
 comes_up tells read noted starts x y found r known tied stood =
@@ -78,15 +95,5 @@ comes_up tells read noted starts x y found r known tied stood =
       plain = ap plain_of r.raised.becomes ∙ restarted_seen (kept_of read found) s.started noted starts r.log.bodies (plain_of x) r.built y.log s.stood r.told h;
       tied = subst Tied (sym r.raised.becomes) (tied_body (begun_parts x.number x.name x.moment r.built y.log) x.body h.fresh.free (restarted_tied r.log.bodies (plain_of x) r.built y.log r.told h tied.max tied.moment));
       calls = λ some. let a = one.1 some in let b = one.0 in let more : 0 < r.log.armed = omega (arith, a, b) in let c = four.1 more in omega (arith, b, c);
-      number = ap (λ (z : PartsValue). z.incarnation) r.raised.becomes ∙ next r.told.told s.started (kept_of read found) r.told.built.incarnation (image_is (image (given_of x) Later r.log.bodies) (later_by s.started (lasting (redone_if (kept_of read found) noted (plain_of x)))) r.told.told (s.stood.tells (plain_of x).running (plain_of x).log (plain_of x).moment) r.told.read);
+      number = ap (λ (z : PartsValue). z.incarnation) r.raised.becomes ∙ ap (λ (n : ℕ). n + 1) (read_number (kept_of read found) s.started noted starts r.log.bodies x r.built s.stood r.told);
     }
-  where
-    or_image : Image → Result Image ℕ → Image
-    or_image d (Ok i) = i
-    or_image d (Err place) = d
-
-    image_is : (e : Result Image ℕ) (i j : Image) → e ≡ Ok i → e ≡ Ok j → j ≡ i
-    image_is e i j a b = ap (or_image i) (sym b ∙ a)
-
-    next : (i : Image) (started : ℕ) (kept : Bool) → r.built.incarnation ≡ i.incarnation → i ≡ later_by started (lasting (redone_if kept noted (plain_of x))) → r.built.incarnation + 1 ≡ x.incarnation + started + 1
-    next i started kept e is = let k = ap (λ (j : Image). j.incarnation) is in let n = redone_incarnation kept noted (plain_of x) in omega (arith, e, k, n)

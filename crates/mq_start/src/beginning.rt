@@ -1,6 +1,7 @@
 //! A manager's first start.
 ghost use Rattle.std.specs.Prelude.{◌≡◌, ◌+◌, ◌^◌, ◌<◌, ◌≤◌, ℕ, List, false, MatchResult};
 ghost use Rattle.mq_spec_manager.specs.Words.{last_moment};
+ghost use Rattle.mq_calls.specs.declared.commands.BeginFault.TheVariants as faults;
 ghost use Rattle.mq_spec_state.specs.State.{Given};
 ghost use Rattle.mq_spec_log.specs.Applies.Start.{First};
 ghost use Rattle.mq_start.specs.Begun.{given_by, begin_fault, recovered_fault, IsOpened, HasOpened, BeginsFrom, IsReadFrom, HasBegun, HasNotBegun};
@@ -9,7 +10,7 @@ use crate::images::built_of;
 use crate::parts::core_of;
 use mq_calls::BeginFault;
 use mq_core::Core;
-use mq_disk::{Cutter, Disk};
+use mq_disk::{Cutter, Disk, Stop};
 use mq_log::{Log, StartFault};
 use mq_name::QName;
 use mq_rebuild::Built;
@@ -35,6 +36,16 @@ fn begin_fault(fault: StartFault) -> BeginFault
         StartFault::Cut => BeginFault::Disk,
         StartFault::BadLog(place) => BeginFault::BadLog(place),
         StartFault::NoMemory => BeginFault::NoMemory,
+    }
+}
+
+// (so of its write)
+fn stop_fault(stop: Stop) -> BeginFault
+    ensures { result ≡ faults.Disk }
+{
+    match stop {
+        Stop::Cut => BeginFault::Disk,
+        Stop::Disk => BeginFault::Disk,
     }
 }
 
@@ -65,10 +76,13 @@ fn opened<D: Disk>(alloc: Global, disk: Cutter<D>, max: u64) -> Result<Log<D>, U
 {
     match Log::start(alloc, disk, max) {
         Ok(log) => Ok(log),
-        Err(unstarted) => Err(Unbegun {
-            fault: begin_fault(unstarted.fault),
-            disk: unstarted.disk,
-        }),
+        Err(unstarted) => {
+            let fault = begin_fault(unstarted.fault);
+            Err(Unbegun {
+                fault,
+                disk: unstarted.disk,
+            })
+        }
     }
 }
 
@@ -87,13 +101,17 @@ fn begin_built<D: Disk>(
     requires read { IsReadFrom (given_by number name.now log.max) First log.bodies built }
     ensures { MatchResult result (λ core. BeginsFrom D.tells log (given_by number name.now log.max) moment core) (λ e. (seen : List ℕ) → HasNotBegun D.tells seen (given_by number name.now log.max) log.faults e.fault (D.faults e.disk.inner)) }
 {
-    if log.room(63).is_err() {
-        return Err(handed_back(BeginFault::NoMemory, log));
+    match log.room(63) {
+        Ok(()) => {}
+        Err(_) => return Err(handed_back(BeginFault::NoMemory, log)),
     }
     let record = started_bytes(number, name, built.incarnation + 1);
     match log.append_forced(&record) {
         Ok(()) => Ok(core_of(alloc, number, name, moment, built, log)),
-        Err(_) => Err(handed_back(BeginFault::Disk, log)),
+        Err(stop) => {
+            let fault = stop_fault(stop);
+            Err(handed_back(fault, log))
+        }
     }
 }
 
@@ -126,6 +144,9 @@ pub fn begin<D: Disk>(
     };
     match built_of(alloc, number, name, Start::First, &log) {
         Ok(built) => begin_built(alloc, number, name, moment, built, log),
-        Err(fault) => Err(handed_back(recover_fault(fault), log)),
+        Err(fault) => {
+            let fault = recover_fault(fault);
+            Err(handed_back(fault, log))
+        }
     }
 }

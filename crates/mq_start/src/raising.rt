@@ -93,12 +93,15 @@ fn raise_built<D: Disk>(
     ensures found { MatchResult result (λ f. f ≡ found) (λ e. e.found ≡ Some found) }
     ensures raised { MatchResult result (λ f. IsRaised built parts.old parts.new) (λ e. IsUnraised built parts.old e parts.new) }
 {
-    if parts.log.room(63).is_err() {
-        return Err(Unraised {
-            fault: RestartFault::NoMemory,
-            found: Some(found),
-            in_write: false,
-        });
+    match parts.log.room(63) {
+        Ok(()) => {}
+        Err(_) => {
+            return Err(Unraised {
+                fault: RestartFault::NoMemory,
+                found: Some(found),
+                in_write: false,
+            });
+        }
     }
     let record = started_bytes(parts.number, &parts.name, built.incarnation + 1);
     match parts.log.append_forced(&record) {
@@ -106,11 +109,14 @@ fn raise_built<D: Disk>(
             come_up(parts, built);
             Ok(found)
         }
-        Err(stop) => Err(Unraised {
-            fault: stop_fault(stop),
-            found: Some(found),
-            in_write: true,
-        }),
+        Err(stop) => {
+            let fault = stop_fault(stop);
+            Err(Unraised {
+                fault,
+                found: Some(found),
+                in_write: true,
+            })
+        }
     }
 }
 
@@ -127,8 +133,9 @@ pub fn raise<D: Disk>(parts: &mut Parts<D>) -> Result<Found, Unraised>
     let found = match parts.log.restart(parts.alloc) {
         Ok(found) => found,
         Err(fault) => {
+            let fault = start_fault(fault);
             return Err(Unraised {
-                fault: start_fault(fault),
+                fault,
                 found: None,
                 in_write: false,
             });
@@ -136,10 +143,13 @@ pub fn raise<D: Disk>(parts: &mut Parts<D>) -> Result<Found, Unraised>
     };
     match built_of(parts.alloc, parts.number, &parts.name, Start::Later, &parts.log) {
         Ok(built) => raise_built(parts, built, found),
-        Err(fault) => Err(Unraised {
-            fault: read_fault(fault),
-            found: Some(found),
-            in_write: false,
-        }),
+        Err(fault) => {
+            let fault = read_fault(fault);
+            Err(Unraised {
+                fault,
+                found: Some(found),
+                in_write: false,
+            })
+        }
     }
 }
