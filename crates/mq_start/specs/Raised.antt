@@ -1,12 +1,12 @@
 -- A manager that is down reads its log again, and comes up from it or not.
-use Rattle.std.specs.Prelude.{◌≡◌, ◌≢◌, ℕ, ◌+◌, ◌-◌, ◌<◌, ◌≤◌, Bool, true, false, List, length, Option, Some, None, Result, Ok, Err}
+use Rattle.std.specs.Prelude.{◌≡◌, ◌≢◌, ℕ, ◌+◌, ◌-◌, ◌<◌, ◌≤◌, Bool, true, false, length, Option, Some, None, Result, Ok, Err}
 use Rattle.mq_base.specs.Outside.{Rose}
 use Rattle.mq_disk.specs.declared.cutter.Stop.{Stop}
 use Rattle.mq_disk.specs.declared.cutter.Stop.TheVariants as stops
 use Rattle.mq_calls.specs.declared.commands.RestartFault.{RestartFault}
 use Rattle.mq_calls.specs.declared.commands.RestartFault.TheVariants as faults
 use Rattle.mq_log.specs.declared.open.StartFault.{StartFault}
-use Rattle.mq_log.specs.declared.open.StartFault.TheVariants as starts
+use Rattle.mq_log.specs.declared.open.StartFault.TheVariants as opens
 use Rattle.mq_log.specs.declared.images.Found.{Found}
 use Rattle.mq_log.specs.declared.images.Found.TheVariants.{Other}
 use Rattle.mq_log.specs.State.{LogState}
@@ -37,10 +37,10 @@ abbrev pub raised_parts : Built → PartsValue → PartsValue
 raised_parts b x = record (begun_parts x.number x.name x.moment b x.log) { body = x.body }
 
 abbrev pub start_fault : StartFault → RestartFault
-start_fault starts.Disk = faults.Disk
-start_fault starts.Cut = faults.Cut
-start_fault (starts.BadLog place) = faults.BadLog place
-start_fault starts.NoMemory = faults.NoMemory
+start_fault opens.Disk = faults.Disk
+start_fault opens.Cut = faults.Cut
+start_fault (opens.BadLog place) = faults.BadLog place
+start_fault opens.NoMemory = faults.NoMemory
 
 abbrev pub read_fault : RecoverFault → RestartFault
 read_fault (BadRecord place) = faults.BadLog place
@@ -65,7 +65,7 @@ pub record HasNotRead (tells : Type 0) (old : LogState) (fault : StartFault) (ne
   pub ends : EndsByOneOrThree {T = Found} old.armed (Err fault) new.armed
   pub told : tells → 0 < length old.bodies → RestartEnds {T = Found} 1 old.armed (Err fault) new.armed
   pub later : old.faults ≤ new.faults
-  pub disk : fault ≡ starts.Disk → Rose old.faults new.faults
+  pub disk : fault ≡ opens.Disk → Rose old.faults new.faults
 
 -- the write of the Started record of what was built was stopped
 pub record IsHalted (g : Given) (b : Built) (by : Stop) (old new : LogState) : Type 0 where
