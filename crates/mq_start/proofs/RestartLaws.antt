@@ -93,8 +93,11 @@ redone_incarnation false noted p = refl
 given_same : (g : Given) (max : ℕ) → max ≡ g.log_max → given_by g.number g.name max ≡ g
 given_same g max e = ap (given_by g.number g.name) e
 
-log_is : (long armed l a : ℕ) → long ≡ l → armed ≡ a → (record { length = long; armed = armed } : PlainLog) ≡ record { length = l; armed = a }
-log_is long armed l a e f = ap (λ (n : ℕ). let x : PlainLog = record { length = n; armed = armed } in x) e ∙ ap (λ (n : ℕ). let x : PlainLog = record { length = l; armed = n } in x) f
+abbrev plain_log : ℕ → ℕ → PlainLog
+plain_log long armed = record { length = long; armed = armed }
+
+log_is : (long armed l a : ℕ) → long ≡ l → armed ≡ a → plain_log long armed ≡ plain_log l a
+log_is long armed l a e f = ap (λ (n : ℕ). plain_log n armed) e ∙ ap (plain_log l) f
 
 pub restarted_seen : (kept : Bool) (started : ℕ) (noted : Option Noted) (starts : ℕ) (found : List (List ℕ)) (p : Plain) (b : Built) (log : LogState) → Stood kept started noted starts found p → IsReadFrom p.given Later found b → HasRestarted p found b log
     → plain_of (begun_parts p.given.number p.given.name p.moment b log) ≡ restarted kept started noted p
@@ -111,7 +114,7 @@ restarted_seen kept started noted starts found p b log stood r s =
         let one : log_length log.bodies ≡ (redone_if kept noted p).log.length + (started + 1) * started_need p.given = omega (arith, a, b, more) in
         one ∙ ap (λ (g : Given). (redone_if kept noted p).log.length + (started + 1) * started_need g) (sym (redone_given kept noted p))
 
-    grew : (record { length = log_length log.bodies; armed = log.armed } : PlainLog) ≡ grown started (redone_if kept noted p)
+    grew : plain_log (log_length log.bodies) log.armed ≡ grown started (redone_if kept noted p)
     grew = log_is (log_length log.bodies) log.armed (grown started (redone_if kept noted p)).length (grown started (redone_if kept noted p)).armed long (s.armed ∙ ap (λ (n : ℕ). n - 5) (sym (redone_armed kept noted p)))
 
 pub restarted_tied : (found : List (List ℕ)) (p : Plain) (b : Built) (log : LogState) → IsReadFrom p.given Later found b → HasRestarted p found b log → p.given.log_max < 2 ^ 32 → p.moment ≤ last_moment

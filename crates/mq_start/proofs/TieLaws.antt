@@ -218,8 +218,8 @@ lanes_built i h name =
     lanes_listed name i.definitions i.shelves
     ∙ ap (λ (ns : List (List ℕ)). lanes_if (list_any (bytes_eq name) ns) name i.definitions) h.shelves
     ∙ lanes_of (object_in Queues name i.definitions.objects) name i.definitions (list_any (bytes_eq name) (local_names i.definitions.objects)) refl
-        (λ e. local_found name i.definitions.objects (chained i.definitions.objects h.once) (any_name name (local_names i.definitions.objects) e))
-        (name_listed name i.definitions.objects)
+    (λ e. local_found name i.definitions.objects (chained i.definitions.objects h.once) (any_name name (local_names i.definitions.objects) e))
+    (name_listed name i.definitions.objects)
 
 none_pending : (name : List ℕ) (d : Definitions) (ss : List Shelf) → pending_at (state_in name (map (state_on d) ss)) ≡ 0
 none_pending name d [] = refl

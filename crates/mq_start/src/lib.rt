@@ -7,6 +7,6 @@ mod laws;
 mod parts;
 mod raising;
 
-pub use laws::{a_restart_comes_up_as_its_history_says, a_restart_keeps_to_its_history};
 pub use beginning::{Unbegun, begin};
+pub use laws::{a_restart_comes_up_as_its_history_says, a_restart_keeps_to_its_history};
 pub use raising::{Unraised, raise};

@@ -83,11 +83,7 @@ fn come_up<D: Disk>(parts: &mut Parts<D>, built: Built)
 }
 
 /// The Started record of a manager that was built is forced, and it comes up.
-fn raise_built<D: Disk>(
-    parts: &mut Parts<D>,
-    built: Built,
-    found: Found,
-) -> Result<Found, Unraised>
+fn raise_built<D: Disk>(parts: &mut Parts<D>, built: Built, found: Found) -> Result<Found, Unraised>
     requires read { IsReadFrom (given_of parts.old) Later parts.old.log.bodies built }
     requires fresh { IsFresh parts.old.log.max parts.old.log }
     ensures found { MatchResult result (λ f. f ≡ found) (λ e. e.found ≡ Some found) }
@@ -141,7 +137,13 @@ pub fn raise<D: Disk>(parts: &mut Parts<D>) -> Result<Found, Unraised>
             });
         }
     };
-    match built_of(parts.alloc, parts.number, &parts.name, Start::Later, &parts.log) {
+    match built_of(
+        parts.alloc,
+        parts.number,
+        &parts.name,
+        Start::Later,
+        &parts.log,
+    ) {
         Ok(built) => raise_built(parts, built, found),
         Err(fault) => {
             let fault = read_fault(fault);

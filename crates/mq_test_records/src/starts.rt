@@ -43,7 +43,11 @@ fn rows(alloc: Global, core: &Core<MemDisk>) -> Result<Vec<(u64, u64, bool)>, Fa
     if let Some(local) = core.parts.queues.local(&QName::of(b"Q1")?) {
         for _ in 0..local.len() {
             if let Some(row) = local.next_row(after) {
-                rows.push((row.place.arrival, row.message.ident.number, row.by.is_some()))?;
+                rows.push((
+                    row.place.arrival,
+                    row.message.ident.number,
+                    row.by.is_some(),
+                ))?;
                 after = Some(row.place);
             }
         }
