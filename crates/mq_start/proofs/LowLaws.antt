@@ -77,11 +77,11 @@ from_low g start place [] i j e low = subst IsLow (ok_is i j e) low
   where
     ok_is : (x y : Image) → Ok x ≡ Ok y → x ≡ y
     ok_is x y f = grind (arith, f)
-from_low g start place (body ∷ bodies) i j e low = by (behind g start i (record_of body)) refl e
+from_low g start place (body ∷ bodies) i j e low = by (behind g start i (record_of body)) refl e (λ k f w. from_low g start (place + length (frame body)) bodies k j f w)
   where
-    by : (o : Option Image) → behind g start i (record_of body) ≡ o → or_place place (image_from g start (place + length (frame body)) bodies) o ≡ Ok j → IsLow j
-    by None b f = absurd cc
-    by (Some k) b f = from_low g start (place + length (frame body)) bodies k j f (behind_low g start (record_of body) i k b low)
+    by : (o : Option Image) → behind g start i (record_of body) ≡ o → or_place place (image_from g start (place + length (frame body)) bodies) o ≡ Ok j → ((k : Image) → image_from g start (place + length (frame body)) bodies k ≡ Ok j → IsLow k → IsLow j) → IsLow j
+    by None b f rest = absurd cc
+    by (Some k) b f rest = rest k f (behind_low g start (record_of body) i k b low)
 
 pub image_low : (g : Given) (start : Start) (bodies : List (List ℕ)) (i : Image) → image g start bodies ≡ Ok i → i.incarnation < 2 ^ 61
 image_low g start bodies i e = by (begins bodies) e

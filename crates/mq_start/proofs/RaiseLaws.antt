@@ -66,7 +66,7 @@ tied_body x b none t = record {
 }
 
 -- the incarnation that was read
-or_image : Image → Result Image ℕ → Image
+abbrev or_image : Image → Result Image ℕ → Image
 or_image d (Ok i) = i
 or_image d (Err place) = d
 

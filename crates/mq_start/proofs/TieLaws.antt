@@ -40,7 +40,7 @@ times_numbered i k (row ∷ rows) = ap (λ (n : ℕ). one_if (has_ident i row) +
 
 times_none : (i : Ident) (rows : List Row) → Lacks i rows → times_in_rows i rows ≡ 0
 times_none i [] h = refl
-times_none i (row ∷ rows) h = ap (λ (b : Bool). one_if b + times_in_rows i rows) h.0 ∙ times_none i rows h.1
+times_none i (row ∷ rows) h = let e = ap one_if h.0 in let n = times_none i rows h.1 in omega (arith, e, n)
 
 -- no row behind has the ident of this one
 abbrev IsOther : Row → Row → Type 0
@@ -134,7 +134,7 @@ not_any i (row ∷ rows) e = by (has_ident i row) refl e (not_any i rows)
   where
     by : (b : Bool) → has_ident i row ≡ b → (b || list_any (has_ident i) rows) ≡ false → (list_any (has_ident i) rows ≡ false → times_in_rows i rows ≡ 0) → one_if b + times_in_rows i rows ≡ 0
     by true w f rest = absurd cc
-    by false w f rest = rest f
+    by false w f rest = let n = rest f in omega (arith, n)
 
 shelves_once : (i : Ident) (ss : List Shelf) → Shelves ss → times_on i ss ≤ 1
 shelves_once i [] h = omega arith
@@ -155,7 +155,7 @@ rows_known number incarnation i own new (row ∷ rows) h = by (has_ident i row) 
         let low = h.0 (ap (λ (x : Ident). x.manager) same ∙ own) in
         let here = ap (λ (x : Ident). x.incarnation) same in
         absurd (omega (arith, low, here, new))
-    by false e rest = rest
+    by false e rest = omega (arith, rest)
 
 shelves_known : (number incarnation : ℕ) (i : Ident) → i.manager ≡ number → i.incarnation ≡ incarnation + 1 → (ss : List Shelf)
     → AllByRecursion (λ (s : Shelf). All (λ (row : Row). IsKnown number incarnation row.message.ident) s.rows) ss → times_on i ss ≡ 0
