@@ -29,7 +29,7 @@ pub enum Unwritten {
 }
 
 /// A stopped write, as channel ends are told.
-pub(crate) fn agent_stop(stop: Stop) -> AgentStop
+pub fn agent_stop(stop: Stop) -> AgentStop
     ensures { result ≡ stopped_agent stop }
 {
     match stop {
@@ -39,7 +39,7 @@ pub(crate) fn agent_stop(stop: Stop) -> AgentStop
 }
 
 /// A stopped write takes the manager down. It takes no memory.
-pub(crate) fn go_down<D: Disk>(parts: &mut Parts<D>, write: StoppedWrite)
+pub fn go_down<D: Disk>(parts: &mut Parts<D>, write: StoppedWrite)
     ensures { parts.new ≡ downed write parts.old }
 {
     parts.queues.drop_volatile();

@@ -209,7 +209,7 @@ puts_land m n (Put q message ∷ items) units given p l t =
     let v : Side = record { rows = λ d. (stored d p).rows; units = with_items n (Put q message ∷ puts_of items) units; given = given } in
     let first = put_lands_leads m n q message (puts_of items) (row_for q message p) (new_row (lane_of (local_of q t.places.definitions) message.md.priority) 0 message) v (sheet_of m l)
     (ap (λ z. if z then Put q message ∷ puts_of items else units n) (eqb_self n)) refl refl
-    (ap (λ d. row_told (new_row (lane_of (local_of q d) message.md.priority) 0 message)) t.definitions) in
+    (ap (λ d. row_told (new_row (lane_of (local_of q d) message.md.priority) 0 message)) t.definitions) refl in
     let next : Side = record { rows = λ d. (stored d q1).rows; units = with_items n (puts_of items) units; given = given } in
     behind m v next _ (sheet_of m l) (sheet_of m k) _
     (leads_to m v _ next (sheet_of m l) _ (sheet_of m k) first

@@ -1,5 +1,5 @@
 -- The kinds of change of rows and units as changes of what one manager has.
-use Rattle.std.proofs.Common.{ℕ, ◌≡◌, ◌⊎◌, Bool, true, false, not, List, [], ◌∷◌, ◌++◌, refl, ap, sym, subst, ◌∙◌}
+use Rattle.std.proofs.Common.{ℕ, ◌≡◌, ◌⊎◌, Bool, true, false, not, List, [], ◌∷◌, ◌++◌, refl, ap, sym, subst, ◌∙◌, inl}
 use Rattle.std.specs.Prelude.{Some, None, ◌==◌, if◌then◌else◌, ◌&&◌, ◌||◌}
 use Rattle.std.specs.Str.{bytes_eq}
 use Rattle.mq_message.specs.declared.message.Ident.{Ident}
@@ -16,7 +16,8 @@ use Rattle.mq_spec_network.specs.Standing.{row_told}
 use Rattle.mq_law_rows.specs.Families.{is_here}
 use Rattle.mq_law_rows.specs.World.{World, Book, Ghost, Unborn, At, InHand, away, stands, claim, got_idents, items_told, Inv}
 use Rattle.mq_law_rows.specs.Kinds.{after, owned, give, is_row, lift_row, book_lift, among, with_units, book_units, puts_of, bury_all}
-use Rattle.mq_law_rows.proofs.Lists.{bool_case, eqb_self, ident_self, keep_all}
+use Rattle.mq_law_rows.proofs.Lists.{bool_case, eqb_self, ident_self, keep_all, mem_keep}
+use Rattle.mq_law_rows.proofs.Lasting.{alike, none_unborn}
 use Rattle.mq_law_rows.proofs.Owners.{owned_self}
 use Rattle.mq_law_rows.proofs.Placing.{gives, places_row, lifts_row, buries}
 use Rattle.mq_law_rows.proofs.Units.{pends, unpends, holds_row, takes_gets, backs_out}
@@ -66,6 +67,8 @@ lands m w g b x y R U B h rows units brows gone got old =
       gone = λ j n. k.gone j (gone j n);
       got = k.got;
       got_once = k.got_once;
+      operated_words = k.operated_words;
+      persistence = k.persistence;
       distinct = k.distinct;
       back = k.back;
       same = k.same;
@@ -110,7 +113,8 @@ pub new_row_leads : (m : ℕ) (q : List ℕ) (row told : Row) (v : Side) (t : Sh
 new_row_leads m q row told v t new free same w g b h =
     let i : Ident = row.message.ident in
     let a1 = gives (local w m v) g (page b m v t) m i h new in
-    let a2 = places_row (give (local w m v) i) (after g (owned i (InHand m))) (page b m v t) m q row told a1 (owned_self i (g.owner i) (InHand m)) free same in
+    let a2 = places_row (give (local w m v) i) (after g (owned i (InHand m))) (page b m v t) m q row told a1 (owned_self i (g.owner i) (InHand m)) free same
+    (λ a d x n e. absurd (none_unborn (local w m v) g (page b m v t) i h new a d x n e)) in
     record {
       owner = (after (after g (owned i (InHand m))) (owned i (At m q))).owner;
       inv = lands m w (after (after g (owned i (InHand m))) (owned i (At m q))) b _ _ _ _ _ a2
@@ -129,7 +133,8 @@ pub new_put_leads : (m k : ℕ) (q : List ℕ) (message : Message) (v : Side) (t
 new_put_leads m k q message v t new w g b h =
     let i : Ident = message.ident in
     let a1 = gives (local w m v) g (page b m v t) m i h new in
-    let a2 = pends (give (local w m v) i) (after g (owned i (InHand m))) (page b m v t) m k q message a1 (owned_self i (g.owner i) (InHand m)) (ap (λ z. z || v.given i) (ident_self i)) in
+    let a2 = pends (give (local w m v) i) (after g (owned i (InHand m))) (page b m v t) m k q message a1 (owned_self i (g.owner i) (InHand m)) (ap (λ z. z || v.given i) (ident_self i))
+    (λ a d x n e. absurd (none_unborn (local w m v) g (page b m v t) i h new a d x n e)) in
     record {
       owner = _;
       inv = lands m w _ b _ _ _ _ _ a2 (λ a d. refl)
@@ -186,12 +191,13 @@ row_goes_leads m q x false v t gone n free from w g b h =
     record { owner = _; inv = lands m w _ b _ _ _ _ _ a2 (λ a d. kept_at m a q d i (v.rows d) (w.rows a d)) (λ a k. refl) (λ a d. told_at m a i (t.rows d) (b.rows a d)) from refl (others_told m v t w g b h) }
 
 -- A free row moves, with its ident, to the end of a lane.
-pub row_moves_leads : (m : ℕ) (q to : List ℕ) (x row told : Row) (v : Side) (t : Sheet) → Mem x (v.rows q) → x.by ≡ None → row.message.ident ≡ x.message.ident → row.by ≡ None → row_told told ≡ row_told row
+pub row_moves_leads : (m : ℕ) (q to : List ℕ) (x row told : Row) (v : Side) (t : Sheet) → Mem x (v.rows q) → x.by ≡ None → row.message.ident ≡ x.message.ident → row.by ≡ None → row_told told ≡ row_told row → is_persistent x.message ≡ is_persistent row.message
     → Leads m v t (record { rows = with_row to row (without q x.message.ident v.rows); units = v.units; given = v.given }) (record { rows = with_row to told (left_by x.message.ident t.rows); gone = t.gone; got = t.got })
-row_moves_leads m q to x row told v t n free is none same w g b h =
+row_moves_leads m q to x row told v t n free is none same lasting w g b h =
     let i : Ident = x.message.ident in
     let a1 = lifts_row (local w m v) g (page b m v t) m q x h (here_row m q x v w n) free in
-    let a2 = places_row (lift_row (local w m v) m q i) (after g (owned i (InHand m))) (book_lift (page b m v t) m i) m to row told a1 (ap (λ j. owned i (InHand m) j (g.owner j)) is ∙ owned_self i (g.owner i) (InHand m)) none same in
+    let a2 = places_row (lift_row (local w m v) m q i) (after g (owned i (InHand m))) (book_lift (page b m v t) m i) m to row told a1 (ap (λ j. owned i (InHand m) j (g.owner j)) is ∙ owned_self i (g.owner i) (InHand m)) none same
+    (λ a d y k e. alike (local w m v) g (page b m v t) h a m d q y x (mem_keep _ y ((local w m v).rows a d) k).0 (here_row m q x v w n) (e ∙ is) ∙ lasting) in
     record {
       owner = _;
       inv = lands m w _ b _ _ _ _ _ a2
@@ -247,13 +253,14 @@ gets_go_leads m k v t gone from w g b h =
     }
 
 -- The second: a put that waited is placed.
-pub put_lands_leads : (m k : ℕ) (q : List ℕ) (message : Message) (items : List Item) (row told : Row) (v : Side) (t : Sheet) → v.units k ≡ Put q message ∷ items → row.message.ident ≡ message.ident → row.by ≡ None → row_told told ≡ row_told row
+pub put_lands_leads : (m k : ℕ) (q : List ℕ) (message : Message) (items : List Item) (row told : Row) (v : Side) (t : Sheet) → v.units k ≡ Put q message ∷ items → row.message.ident ≡ message.ident → row.by ≡ None → row_told told ≡ row_told row → is_persistent message ≡ is_persistent row.message
     → Leads m v t (record { rows = with_row q row v.rows; units = with_items k items v.units; given = v.given }) (record { rows = with_row q told t.rows; gone = t.gone; got = t.got })
-put_lands_leads m k q message items row told v t first is none same w g b h =
+put_lands_leads m k q message items row told v t first is none same lasting w g b h =
     let i : Ident = message.ident in
     let a1 = unpends (local w m v) g (page b m v t) m k q message items items h (at_self_ m (v.units k) (w.units m k) ∙ first) refl in
     let a2 = places_row (with_units (local w m v) m k items) (after g (owned i (InHand m))) (book_units (page b m v t) m k items) m q row told a1
-    (ap (λ j. owned i (InHand m) j (g.owner j)) is ∙ owned_self i (g.owner i) (InHand m)) none same in
+    (ap (λ j. owned i (InHand m) j (g.owner j)) is ∙ owned_self i (g.owner i) (InHand m)) none same
+    (λ a d y n e. h.persistence.of_row a d y n ∙ ap h.persistence.flag (e ∙ is) ∙ sym (h.persistence.of_put m k q message (subst (λ (l : List Item). Mem (Put q message) l) (sym (at_self_ m (v.units k) (w.units m k) ∙ first)) (inl refl))) ∙ lasting) in
     record {
       owner = _;
       inv = lands m w _ b _ _ _ _ _ a2

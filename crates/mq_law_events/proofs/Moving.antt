@@ -20,7 +20,7 @@ use Rattle.mq_history.specs.declared.story.ManagerPlaces.{ManagerPlaces}
 use Rattle.mq_spec_state.specs.State.{Plain}
 use Rattle.mq_spec_state.specs.State.Change.{Leave}
 use Rattle.mq_spec_state.specs.State.Which.{Among}
-use Rattle.mq_spec_state.specs.Reads.{stored, connection_at}
+use Rattle.mq_spec_state.specs.Reads.{stored, connection_at, is_persistent}
 use Rattle.mq_spec_state.specs.Changes.{apply, apply_all, lane_of, new_row}
 use Rattle.mq_spec_manager.specs.Put.{placed, queue_at, dest_at}
 use Rattle.mq_spec_agents.specs.Moves.{bare_if}
@@ -148,6 +148,10 @@ pub bare_ident : (bare : Bool) (m : Message) → (bare_if bare m).ident ≡ m.id
 bare_ident true m = refl
 bare_ident false m = refl
 
+bare_lasting : (bare : Bool) (m : Message) → is_persistent (bare_if bare m) ≡ is_persistent m
+bare_lasting true m = refl
+bare_lasting false m = refl
+
 -- the row as it is told, from its message as it is told
 abbrev placed_told : Option LocalQueue → Message → Row
 placed_told o m = record { place = record { lane = lane_of o m.md.priority; arrival = 0 }; message = m; by = None }
@@ -187,7 +191,7 @@ moves_lead m given p l from x to bare route t apart n free is w g b h =
     let told : Row = new_row (lane_of (local_of q t.places.definitions) its.md.priority) 0 its in
     let same : row_told told ≡ row_told (row_for q mine p1) =
     ap (placed_told (local_of q t.places.definitions)) (moved_told bare route found.0.message x.message (ap (λ (y : Row). y.message) found.2)) ∙ ap (λ (d : Definitions). placed_told (local_of q d) (message_told mine)) t.definitions in
-    let r = row_moves_leads m from q x (row_for q mine p1) told v (sheet_of m l) n free ident refl same w g b h in
+    let r = row_moves_leads m from q x (row_for q mine p1) told v (sheet_of m l) n free ident refl same (sym (bare_lasting bare x.message)) w g b h in
     let left : (d : List ℕ) → (stored d p1).rows ≡ without from x.message.ident v.rows d = λ d.
     rows_after (Leave (Among from (mine.ident ∷ []))) p d tt ∙ keep_same _ _ (stored d p).rows (λ y k. ap (λ z. not (bytes_eq d from && z)) (or_none (same_ident y.message.ident mine.ident) ∙ ap (same_ident y.message.ident) ident)) in
     let side : record { rows = with_row q (row_for q mine p1) (without from x.message.ident v.rows); units = v.units; given = given } ≡ side_of (moved from bare route x p) given =

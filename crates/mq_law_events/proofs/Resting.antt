@@ -12,7 +12,9 @@ use Rattle.mq_spec_network.specs.Story.{Mem}
 use Rattle.mq_spec_network.specs.Promised.{AreDistinct}
 use Rattle.mq_spec_network.specs.Standing.{rows_told}
 use Rattle.mq_law_rows.specs.World.{World, Book, Ghost, Tag, Owner, Unborn, At, HeldBy, InBatch, Forced, InUnit, InHand, Gone, tag_of, ident_of, away, stands, row_stands, is_forced, claim, IsHeldBy, IsElsewhere, put_idents, got_idents, items_told, Inv}
+use Rattle.mq_calls.specs.declared.state.Item.TheVariants.{Put}
 use Rattle.mq_law_rows.specs.Kinds.{after}
+use Rattle.mq_law_rows.proofs.Lasting.{lasts}
 use Rattle.mq_law_rows.proofs.Lists.{true_false, and_false, and_left, eqb_self, eqb_yes, bool_case, is_false, mem_retag, mem_retagged, sorted_retag, keep_same, keep_retag}
 use Rattle.mq_law_rows.proofs.Batches.{retag_idents, release_place, release_told, release_tag, release_ident, released, unreleased}
 use Rattle.mq_law_events.specs.Rests.{has_units, back_out_all, book_out_all, rested}
@@ -126,6 +128,10 @@ backs_out_all w g b m back h =
       gone = λ j n. ap (rested m j) (h.gone j n);
       got = λ j n. ap (rested m j) (h.got j n);
       got_once = h.got_once;
+      operated_words = λ a d u e q r n z. h.operated_words a d u e q r n (rested_forced m r.message.ident (g.owner r.message.ident) a d u z);
+      persistence = lasts w.rows (back_out_all w m back).rows w.units (back_out_all w m back).units w.holds w.last g.sent g.operated h.persistence
+          (λ a d y n. let r = mem_retag (G a) y (w.rows a d) n in (r.0, r.1, ap (λ (z : Row). tag_of z.message) r.2 ∙ release_tag (T a r.0) back r.0))
+          (λ a e q y. bool_case (a == m) (λ t. Mem (Put q y) (if t then [] else w.units a e) → Mem (Put q y) (w.units a e)) (λ z n. absurd n) (λ z n. n));
       distinct = λ a d. subst AreDistinct (sym (retag_idents (G a) (same_ident_ a) (w.rows a d))) (h.distinct a d);
       back = λ a d y n s. let r = mem_retag (G a) y (w.rows a d) n in
           let st : stands (away w a) r.0.by ≡ false = sym (stood a r.0) ∙ ap (λ (z : Row). stands (away w a) z.by) (sym r.2) ∙ s in

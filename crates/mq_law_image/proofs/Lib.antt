@@ -14,6 +14,14 @@ pub mod Counting
 pub mod Laying
 pub mod Deleting
 pub mod Giving
+pub mod Keeping
+pub mod Settings
+pub mod Valued
+pub mod Lexed
+pub mod Logged
+pub mod Made
+pub mod Silent
+pub mod Sessions
 pub mod Recording
 pub mod Writing
 pub mod Objecting

@@ -1,6 +1,6 @@
--- The text of each kind of object, without attributes kept without effect, is read as that object; so is a manager's.
-use Rattle.std.proofs.Common.{ℕ, ◌≡◌, ◌≤◌, ◌<◌, ◌^◌, Bool, true, false, List, [], ◌∷◌, ◌++◌, append_assoc, append-nil, length, refl, ap, sym, ◌∙◌, arith, map, inl}
-use Rattle.std.specs.Prelude.{Some, None, flat_map, codes}
+-- The text of each kind of object is read as that object; so is a manager's.
+use Rattle.std.proofs.Common.{ℕ, ◌≡◌, ◌≤◌, ◌<◌, ◌^◌, Bool, true, false, List, [], ◌∷◌, ◌++◌, append_assoc, length, refl, ap, sym, ◌∙◌, arith, map, inl}
+use Rattle.std.specs.Prelude.{Some, None, ◌==◌, flat_map, codes}
 use Rattle.std.specs.List.{list_all}
 use Rattle.std.specs.Option.{option_map}
 use Rattle.std.specs.Str.{bytes_eq}
@@ -24,7 +24,11 @@ use Rattle.mq_objects.specs.declared.object.Channel.{Channel}
 use Rattle.mq_objects.specs.declared.object.ChannelKind.{ChannelKind}
 use Rattle.mq_objects.specs.declared.object.ChannelKind.TheVariants as channels
 use Rattle.mq_objects.specs.declared.setting.ChannelType.TheVariants as types
+use Rattle.mq_objects.specs.declared.object.Object.{Object}
 use Rattle.mq_objects.specs.declared.object.Object.TheVariants as objects
+use Rattle.mq_objects.specs.declared.setting.Setting.{Setting}
+use Rattle.mq_objects.specs.Defaults.{new_manager}
+use Rattle.mq_objects.specs.Settings.{set_all_manager}
 use Rattle.mq_objects.specs.declared.setting.Setting.TheVariants as settings
 use Rattle.mq_objects.specs.declared.command.Subject.TheVariants as subjects
 use Rattle.mq_objects.specs.declared.change.ObjectChange.TheVariants as changes
@@ -40,12 +44,14 @@ use Rattle.mq_sc_lex.specs.declared.token.TokenKind.TheVariants as tokens
 use Rattle.mq_sc_grammar.specs.Spelling.{Clause}
 use Rattle.mq_sc_grammar.specs.Commands.{keys_of}
 use Rattle.mq_record.specs.declared.record.Operation.TheVariants.{Set as Sets}
-use Rattle.mq_spec_log.specs.Texts.{change_in}
+use Rattle.mq_spec_log.specs.Texts.{gives_all, change_in}
 use Rattle.mq_law_image.specs.Laid.Bit.{Word}
-use Rattle.mq_law_image.specs.Laid.{text_of, IsWell, is_no_end, Written, clause_bits, all_bits, clauses_of, AreWritten, CanDefine, alter_bits, IsManagerText, IsLocalText, IsAliasText, IsRemoteText, IsProcessText, IsSenderText, IsReceiverText, IsKindText, IsChannelText}
+use Rattle.mq_law_image.specs.Laid.{text_of, IsWell, is_no_end, Written, clause_bits, all_bits, clauses_of, settings_of, AreWritten, CanDefine, alter_bits}
+use Rattle.mq_law_image.specs.Values.{kept_keys, AreKeptTexts, IsManagerText, IsLocalText, IsAliasText, IsRemoteText, IsProcessText, IsSenderText, IsReceiverText, IsKindText, IsChannelText}
 use Rattle.mq_law_image.proofs.Members.{none_any}
 use Rattle.mq_law_image.proofs.Deleting.{doubled_same, name_read, name_unblank}
-use Rattle.mq_law_image.proofs.Giving.{text_append, alter_read, define_read}
+use Rattle.mq_law_image.proofs.Giving.{text_append, alter_read}
+use Rattle.mq_law_image.proofs.Keeping.{kept_clauses, kept_settings, kept_written, kept_text, kept_single, bits_append, written_append, all_settings, counts_same, set_manager_append, never_said, local_kept, alias_kept, remote_kept, process_kept, manager_kept, sender_kept, receiver_kept, local_keeps, alias_keeps, remote_keeps, process_keeps, channel_keeps, manager_keeps, define_keeps}
 use Rattle.mq_law_image.proofs.Writing.{keys_apart, key_there, not_there, word_written, number_written, name_written, text_written, flag_written, appl_written}
 
 -- ---- words of values
@@ -123,16 +129,20 @@ same_texts [] (w ∷ ws) h = absurd h
 same_texts (a ∷ as_) [] h = absurd h
 same_texts (a ∷ as_) (w ∷ ws) h = ap (λ (t : List ℕ). t ++ flat_map attribute_text as_) h.0 ∙ ap (λ (t : List ℕ). text_of (clause_bits w) ++ t) (same_texts as_ ws h.1) ∙ sym (text_append (clause_bits w) (all_bits ws))
 
-none_kept : (kept : List KeptAttribute) → kept ≡ [] → flat_map texts.kept_attribute kept ≡ []
-none_kept kept e = ap (flat_map texts.kept_attribute) e
+all_same : (as_ : List texts.Attribute) (kept : List KeptAttribute) (ws vs : List Written) → AreSame as_ ws → flat_map texts.kept_attribute kept ≡ text_of (all_bits vs) → flat_map attribute_text as_ ++ flat_map texts.kept_attribute kept ≡ text_of (all_bits (ws ++ vs))
+all_same as_ kept ws vs same behind =
+    ap (λ (t : List ℕ). t ++ flat_map texts.kept_attribute kept) (same_texts as_ ws same) ∙ ap (λ (t : List ℕ). text_of (all_bits ws) ++ t) behind ∙ sym (bits_append ws vs)
 
 below : (n m : ℕ) → n ≤ m → m < 2 ^ 64 → n < 2 ^ 64
 below n m x y = omega (arith, x, y)
 
 -- ---- a manager
 
+abbrev manager_tail : ManagerAttributes → List Written
+manager_tail m = record { clause = record { key = keys.DefXmitQ; value = Some m.default_transmission_queue }; in_quotes = true; setting = settings.DefaultTransmissionQueue m.default_transmission_queue } ∷ record { clause = record { key = keys.MaxHands; value = Some (decimal m.max_handles) }; in_quotes = false; setting = settings.MaxHandles m.max_handles } ∷ record { clause = record { key = keys.MaxMsgL; value = Some (decimal m.max_message_length) }; in_quotes = false; setting = settings.MaxMessageLength m.max_message_length } ∷ record { clause = record { key = keys.MaxUMsgs; value = Some (decimal m.max_uncommitted) }; in_quotes = false; setting = settings.MaxUncommitted m.max_uncommitted } ∷ record { clause = record { key = keys.TrigInt; value = Some (decimal m.trigger_interval) }; in_quotes = false; setting = settings.TriggerInterval m.trigger_interval } ∷ []
+
 abbrev manager_clauses : ManagerAttributes → List Written
-manager_clauses m = record { clause = record { key = keys.DeadQ; value = Some m.dead_letter_queue }; in_quotes = true; setting = settings.DeadLetterQueue m.dead_letter_queue } ∷ record { clause = record { key = keys.DefXmitQ; value = Some m.default_transmission_queue }; in_quotes = true; setting = settings.DefaultTransmissionQueue m.default_transmission_queue } ∷ record { clause = record { key = keys.MaxHands; value = Some (decimal m.max_handles) }; in_quotes = false; setting = settings.MaxHandles m.max_handles } ∷ record { clause = record { key = keys.MaxMsgL; value = Some (decimal m.max_message_length) }; in_quotes = false; setting = settings.MaxMessageLength m.max_message_length } ∷ record { clause = record { key = keys.MaxUMsgs; value = Some (decimal m.max_uncommitted) }; in_quotes = false; setting = settings.MaxUncommitted m.max_uncommitted } ∷ record { clause = record { key = keys.TrigInt; value = Some (decimal m.trigger_interval) }; in_quotes = false; setting = settings.TriggerInterval m.trigger_interval } ∷ []
+manager_clauses m = record { clause = record { key = keys.DeadQ; value = Some m.dead_letter_queue }; in_quotes = true; setting = settings.DeadLetterQueue m.dead_letter_queue } ∷ manager_tail m
 
 manager_written : (m : ManagerAttributes) → IsManagerText m → AreWritten verbs.Alter kinds.Manager (manager_clauses m)
 manager_written m h = (name_written verbs.Alter kinds.Manager keys.DeadQ m.dead_letter_queue settings.DeadLetterQueue (record { known = refl; word = (refl, refl); whole = refl }) refl h.dead_letter_queue, (name_written verbs.Alter kinds.Manager keys.DefXmitQ m.default_transmission_queue settings.DefaultTransmissionQueue (record { known = refl; word = (refl, refl); whole = refl }) refl h.default_transmission_queue, (number_written verbs.Alter kinds.Manager keys.MaxHands 0 999999999 m.max_handles settings.MaxHandles (record { known = refl; word = (refl, refl); whole = refl }) refl (omega arith) h.max_handles (below m.max_handles 999999999 h.max_handles (omega arith)), (number_written verbs.Alter kinds.Manager keys.MaxMsgL 32768 4194304 m.max_message_length settings.MaxMessageLength (record { known = refl; word = (refl, refl); whole = refl }) refl h.max_message_length.0 h.max_message_length.1 (below m.max_message_length 4194304 h.max_message_length.1 (omega arith)), (number_written verbs.Alter kinds.Manager keys.MaxUMsgs 1 999999999 m.max_uncommitted settings.MaxUncommitted (record { known = refl; word = (refl, refl); whole = refl }) refl h.max_uncommitted.0 h.max_uncommitted.1 (below m.max_uncommitted 999999999 h.max_uncommitted.1 (omega arith)), (number_written verbs.Alter kinds.Manager keys.TrigInt 0 999999999 m.trigger_interval settings.TriggerInterval (record { known = refl; word = (refl, refl); whole = refl }) refl (omega arith) h.trigger_interval (below m.trigger_interval 999999999 h.trigger_interval (omega arith)), tt))))))
@@ -140,26 +150,35 @@ manager_written m h = (name_written verbs.Alter kinds.Manager keys.DeadQ m.dead_
 manager_same : (m : ManagerAttributes) → AreSame (texts.manager_attributes m) (manager_clauses m)
 manager_same m = (ap (λ (d : List ℕ). codes " " ++ texts.in_brackets (codes "DEADQ") (codes "'" ++ d ++ codes "'")) (doubled_same m.dead_letter_queue), (ap (λ (d : List ℕ). codes " " ++ texts.in_brackets (codes "DEFXMITQ") (codes "'" ++ d ++ codes "'")) (doubled_same m.default_transmission_queue), (refl, (refl, (refl, (refl, tt))))))
 
-pub manager_read : (m : ManagerAttributes) → IsManagerText m → change_in Sets (change_text (changes.SetManager m)) ≡ Some (changes.SetManager m)
-manager_read m h =
+manager_by : (m : ManagerAttributes) (ks : List KeptAttribute) (k : AreKeptTexts (kept_keys kinds.Manager) ks) → IsManagerText m → change_in Sets (change_text (changes.SetManager (record m { kept = ks }))) ≡ Some (changes.SetManager (record m { kept = ks }))
+manager_by m ks k h =
     ap (change_in Sets) text
-    ∙ alter_read (record { clause = record { key = keys.DeadQ; value = Some m.dead_letter_queue }; in_quotes = true; setting = settings.DeadLetterQueue m.dead_letter_queue }) (record { clause = record { key = keys.DefXmitQ; value = Some m.default_transmission_queue }; in_quotes = true; setting = settings.DefaultTransmissionQueue m.default_transmission_queue } ∷ record { clause = record { key = keys.MaxHands; value = Some (decimal m.max_handles) }; in_quotes = false; setting = settings.MaxHandles m.max_handles } ∷ record { clause = record { key = keys.MaxMsgL; value = Some (decimal m.max_message_length) }; in_quotes = false; setting = settings.MaxMessageLength m.max_message_length } ∷ record { clause = record { key = keys.MaxUMsgs; value = Some (decimal m.max_uncommitted) }; in_quotes = false; setting = settings.MaxUncommitted m.max_uncommitted } ∷ record { clause = record { key = keys.TrigInt; value = Some (decimal m.trigger_interval) }; in_quotes = false; setting = settings.TriggerInterval m.trigger_interval } ∷ []) (manager_written m h) (keys_apart (map group_of (keys_of (clauses_of (manager_clauses m)))) refl) (not_there keys.Force (keys_of (clauses_of (manager_clauses m))) refl) refl
-    ∙ ap (λ (k : List KeptAttribute). Some (changes.SetManager (record m { kept = k }))) (sym h.kept)
+    ∙ alter_read (record { clause = record { key = keys.DeadQ; value = Some m.dead_letter_queue }; in_quotes = true; setting = settings.DeadLetterQueue m.dead_letter_queue }) (manager_tail m ++ kept_clauses (kept_keys kinds.Manager) ks k)
+    (written_append verbs.Alter kinds.Manager (manager_clauses m) (kept_clauses (kept_keys kinds.Manager) ks k) (manager_written m h) (kept_written verbs.Alter kinds.Manager (kept_keys kinds.Manager) ks k manager_kept))
+    (kept_single (kept_keys kinds.Manager) (manager_clauses m) ks k (keys_apart (map group_of (keys_of (clauses_of (manager_clauses m)))) refl) refl)
+    (λ n. never_said keys.Force (kept_keys kinds.Manager) (manager_clauses m) ks k (not_there keys.Force (keys_of (clauses_of (manager_clauses m))) refl) (not_there keys.Force (kept_keys kinds.Manager) refl) n)
+    (ap (λ (ss : List Setting). gives_all ss (texts.manager_attributes new_manager)) (all_settings (kept_keys kinds.Manager) (manager_clauses m) ks k) ∙ ap (λ (n : ℕ). n == 6) (counts_same (settings_of (manager_clauses m)) ks))
+    ∙ ap (λ (x : ManagerAttributes). Some (changes.SetManager x))
+    (ap (λ (ss : List Setting). set_all_manager ss new_manager) (all_settings (kept_keys kinds.Manager) (manager_clauses m) ks k) ∙ set_manager_append (settings_of (manager_clauses m)) (kept_settings ks) new_manager
+    ∙ manager_keeps (kept_keys kinds.Manager) ks (record m { kept = [] }) k refl)
   where
-    text : change_text (changes.SetManager m) ≡ text_of (alter_bits (manager_clauses m))
-    text = ap (λ (t : List ℕ). codes "ALTER QMGR" ++ t) (ap (λ (t : List ℕ). flat_map attribute_text (texts.manager_attributes m) ++ t) (none_kept m.kept h.kept) ∙ append-nil (flat_map attribute_text (texts.manager_attributes m)) ∙ same_texts (texts.manager_attributes m) (manager_clauses m) (manager_same m))
+    text : change_text (changes.SetManager (record m { kept = ks })) ≡ text_of (alter_bits (manager_clauses m ++ kept_clauses (kept_keys kinds.Manager) ks k))
+    text = append_assoc (codes "ALTER QMGR") (flat_map attribute_text (texts.manager_attributes m)) (flat_map texts.kept_attribute ks)
+        ∙ ap (λ (t : List ℕ). codes "ALTER QMGR" ++ t) (all_same (texts.manager_attributes m) ks (manager_clauses m) (kept_clauses (kept_keys kinds.Manager) ks k) (manager_same m) (kept_text verbs.Alter kinds.Manager (kept_keys kinds.Manager) ks k manager_kept))
+
+pub manager_read : (m : ManagerAttributes) → IsManagerText m → change_in Sets (change_text (changes.SetManager m)) ≡ Some (changes.SetManager m)
+manager_read m h = manager_by m m.kept h.kept_are h
 
 -- ---- objects
 
 -- the text of a DEFINE behind its head
-define_same : (kind_word : List ℕ) (name : List ℕ) (as_ : List texts.Attribute) (kept : List KeptAttribute) (ws : List Written) → kept ≡ [] → AreSame as_ ws
-    → ((texts.quoted name ++ codes ")") ++ flat_map attribute_text as_) ++ flat_map texts.kept_attribute kept ≡ quoting.quoted name ++ (41 ∷ text_of (all_bits ws))
-define_same kind_word name as_ kept ws none same =
+define_same : (name : List ℕ) (as_ : List texts.Attribute) (kept : List KeptAttribute) (ws vs : List Written) → AreSame as_ ws → flat_map texts.kept_attribute kept ≡ text_of (all_bits vs)
+    → ((texts.quoted name ++ codes ")") ++ flat_map attribute_text as_) ++ flat_map texts.kept_attribute kept ≡ quoting.quoted name ++ (41 ∷ text_of (all_bits (ws ++ vs)))
+define_same name as_ kept ws vs same behind =
     append_assoc (texts.quoted name ++ codes ")") (flat_map attribute_text as_) (flat_map texts.kept_attribute kept)
-    ∙ ap (λ (t : List ℕ). (texts.quoted name ++ codes ")") ++ (flat_map attribute_text as_ ++ t)) (none_kept kept none)
-    ∙ ap (λ (t : List ℕ). (texts.quoted name ++ codes ")") ++ t) (append-nil (flat_map attribute_text as_) ∙ same_texts as_ ws same)
-    ∙ ap (λ (d : List ℕ). ((codes "'" ++ d ++ codes "'") ++ codes ")") ++ text_of (all_bits ws)) (doubled_same name)
-    ∙ append_assoc (quoting.quoted name) (41 ∷ []) (text_of (all_bits ws))
+    ∙ ap (λ (t : List ℕ). (texts.quoted name ++ codes ")") ++ t) (all_same as_ kept ws vs same behind)
+    ∙ ap (λ (d : List ℕ). ((codes "'" ++ d ++ codes "'") ++ codes ")") ++ text_of (all_bits (ws ++ vs))) (doubled_same name)
+    ∙ append_assoc (quoting.quoted name) (41 ∷ []) (text_of (all_bits (ws ++ vs)))
 
 abbrev alias_clauses : AliasQueue → List Written
 alias_clauses q = record { clause = record { key = keys.DefPrty; value = Some (decimal q.default_priority) }; in_quotes = false; setting = settings.DefaultPriority q.default_priority } ∷ record { clause = record { key = keys.DefPsist; value = Some (texts.yes_or_no q.default_persistent) }; in_quotes = false; setting = settings.DefaultPersistent q.default_persistent } ∷ record { clause = record { key = keys.Get; value = Some (texts.enabled_or_not q.get_enabled) }; in_quotes = false; setting = settings.GetEnabled q.get_enabled } ∷ record { clause = record { key = keys.Put; value = Some (texts.enabled_or_not q.put_enabled) }; in_quotes = false; setting = settings.PutEnabled q.put_enabled } ∷ record { clause = record { key = keys.Target; value = Some q.target }; in_quotes = true; setting = settings.Target q.target } ∷ []
@@ -180,10 +199,11 @@ alias_can b bs q h = record {
   all = refl;
 }
 
-alias_by : (b : ℕ) (bs : List ℕ) (q : AliasQueue) → IsName 48 (b ∷ bs) → IsAliasText q → change_in Sets (change_text (changes.Set (objects.Alias (record q { name = b ∷ bs; kept = [] })))) ≡ Some (changes.Set (objects.Alias (record q { name = b ∷ bs; kept = [] })))
-alias_by b bs q name h =
-    ap (change_in Sets) (ap (λ (t : List ℕ). codes "DEFINE QALIAS(" ++ t) (define_same (codes "QALIAS") (b ∷ bs) (texts.alias_attributes (record q { name = b ∷ bs; kept = [] })) [] (alias_clauses q) refl (refl, (refl, (refl, (refl, (ap (λ (d : List ℕ). codes " " ++ texts.in_brackets (codes "TARGET") (codes "'" ++ d ++ codes "'")) (doubled_same q.target), tt)))))))
-    ∙ define_read (subjects.Alias (b ∷ bs)) nouns.Alias kinds.Alias 48 b bs (alias_clauses q) name (ap (λ r. option_map subjects.Alias (reads.name_or_none r)) (name_read 48 b bs name)) ((tokens.Quoted (b ∷ bs), refl, refl), name_unblank 48 b bs name) (alias_can b bs q h)
+alias_by : (b : ℕ) (bs : List ℕ) (q : AliasQueue) (ks : List KeptAttribute) (k : AreKeptTexts (kept_keys kinds.Alias) ks) → IsName 48 (b ∷ bs) → IsAliasText q → change_in Sets (change_text (changes.Set (objects.Alias (record q { name = b ∷ bs; kept = ks })))) ≡ Some (changes.Set (objects.Alias (record q { name = b ∷ bs; kept = ks })))
+alias_by b bs q ks k name h =
+    ap (change_in Sets) (ap (λ (t : List ℕ). codes "DEFINE QALIAS(" ++ t) (define_same (b ∷ bs) (texts.alias_attributes (record q { name = b ∷ bs; kept = ks })) ks (alias_clauses q) (kept_clauses (kept_keys kinds.Alias) ks k) (refl, (refl, (refl, (refl, (ap (λ (d : List ℕ). codes " " ++ texts.in_brackets (codes "TARGET") (codes "'" ++ d ++ codes "'")) (doubled_same q.target), tt))))) (kept_text verbs.Define kinds.Alias (kept_keys kinds.Alias) ks k alias_kept)))
+    ∙ define_keeps (subjects.Alias (b ∷ bs)) nouns.Alias kinds.Alias 48 b bs (alias_clauses q) (kept_keys kinds.Alias) ks k name (ap (λ r. option_map subjects.Alias (reads.name_or_none r)) (name_read 48 b bs name)) ((tokens.Quoted (b ∷ bs), refl, refl), name_unblank 48 b bs name) (alias_can b bs q h) (record { table = alias_kept; is_kind = refl; needed = tt; clear = refl; replace = refl; noreplace = refl })
+    ∙ ap (λ (o : Object). Some (changes.Set o)) (alias_keeps (kept_keys kinds.Alias) ks (record q { name = b ∷ bs; kept = [] }) k refl)
 
 abbrev remote_clauses : RemoteQueue → List Written
 remote_clauses q = record { clause = record { key = keys.DefPrty; value = Some (decimal q.default_priority) }; in_quotes = false; setting = settings.DefaultPriority q.default_priority } ∷ record { clause = record { key = keys.DefPsist; value = Some (texts.yes_or_no q.default_persistent) }; in_quotes = false; setting = settings.DefaultPersistent q.default_persistent } ∷ record { clause = record { key = keys.Put; value = Some (texts.enabled_or_not q.put_enabled) }; in_quotes = false; setting = settings.PutEnabled q.put_enabled } ∷ record { clause = record { key = keys.RName; value = Some q.remote_name }; in_quotes = true; setting = settings.RemoteName q.remote_name } ∷ record { clause = record { key = keys.RQMName; value = Some q.remote_manager }; in_quotes = true; setting = settings.RemoteManager q.remote_manager } ∷ record { clause = record { key = keys.XmitQ; value = Some q.transmission_queue }; in_quotes = true; setting = settings.TransmissionQueue q.transmission_queue } ∷ []
@@ -204,10 +224,11 @@ remote_can b bs q h = record {
   all = refl;
 }
 
-remote_by : (b : ℕ) (bs : List ℕ) (q : RemoteQueue) → IsName 48 (b ∷ bs) → IsRemoteText q → change_in Sets (change_text (changes.Set (objects.Remote (record q { name = b ∷ bs; kept = [] })))) ≡ Some (changes.Set (objects.Remote (record q { name = b ∷ bs; kept = [] })))
-remote_by b bs q name h =
-    ap (change_in Sets) (ap (λ (t : List ℕ). codes "DEFINE QREMOTE(" ++ t) (define_same (codes "QREMOTE") (b ∷ bs) (texts.remote_attributes (record q { name = b ∷ bs; kept = [] })) [] (remote_clauses q) refl (refl, (refl, (refl, (ap (λ (d : List ℕ). codes " " ++ texts.in_brackets (codes "RNAME") (codes "'" ++ d ++ codes "'")) (doubled_same q.remote_name), (ap (λ (d : List ℕ). codes " " ++ texts.in_brackets (codes "RQMNAME") (codes "'" ++ d ++ codes "'")) (doubled_same q.remote_manager), (ap (λ (d : List ℕ). codes " " ++ texts.in_brackets (codes "XMITQ") (codes "'" ++ d ++ codes "'")) (doubled_same q.transmission_queue), tt))))))))
-    ∙ define_read (subjects.Remote (b ∷ bs)) nouns.Remote kinds.Remote 48 b bs (remote_clauses q) name (ap (λ r. option_map subjects.Remote (reads.name_or_none r)) (name_read 48 b bs name)) ((tokens.Quoted (b ∷ bs), refl, refl), name_unblank 48 b bs name) (remote_can b bs q h)
+remote_by : (b : ℕ) (bs : List ℕ) (q : RemoteQueue) (ks : List KeptAttribute) (k : AreKeptTexts (kept_keys kinds.Remote) ks) → IsName 48 (b ∷ bs) → IsRemoteText q → change_in Sets (change_text (changes.Set (objects.Remote (record q { name = b ∷ bs; kept = ks })))) ≡ Some (changes.Set (objects.Remote (record q { name = b ∷ bs; kept = ks })))
+remote_by b bs q ks k name h =
+    ap (change_in Sets) (ap (λ (t : List ℕ). codes "DEFINE QREMOTE(" ++ t) (define_same (b ∷ bs) (texts.remote_attributes (record q { name = b ∷ bs; kept = ks })) ks (remote_clauses q) (kept_clauses (kept_keys kinds.Remote) ks k) (refl, (refl, (refl, (ap (λ (d : List ℕ). codes " " ++ texts.in_brackets (codes "RNAME") (codes "'" ++ d ++ codes "'")) (doubled_same q.remote_name), (ap (λ (d : List ℕ). codes " " ++ texts.in_brackets (codes "RQMNAME") (codes "'" ++ d ++ codes "'")) (doubled_same q.remote_manager), (ap (λ (d : List ℕ). codes " " ++ texts.in_brackets (codes "XMITQ") (codes "'" ++ d ++ codes "'")) (doubled_same q.transmission_queue), tt)))))) (kept_text verbs.Define kinds.Remote (kept_keys kinds.Remote) ks k remote_kept)))
+    ∙ define_keeps (subjects.Remote (b ∷ bs)) nouns.Remote kinds.Remote 48 b bs (remote_clauses q) (kept_keys kinds.Remote) ks k name (ap (λ r. option_map subjects.Remote (reads.name_or_none r)) (name_read 48 b bs name)) ((tokens.Quoted (b ∷ bs), refl, refl), name_unblank 48 b bs name) (remote_can b bs q h) (record { table = remote_kept; is_kind = refl; needed = tt; clear = refl; replace = refl; noreplace = refl })
+    ∙ ap (λ (o : Object). Some (changes.Set o)) (remote_keeps (kept_keys kinds.Remote) ks (record q { name = b ∷ bs; kept = [] }) k refl)
 
 abbrev local_clauses_on : LocalQueue → List Written
 local_clauses_on q = record { clause = record { key = keys.DefPrty; value = Some (decimal q.default_priority) }; in_quotes = false; setting = settings.DefaultPriority q.default_priority } ∷ record { clause = record { key = keys.DefPsist; value = Some (texts.yes_or_no q.default_persistent) }; in_quotes = false; setting = settings.DefaultPersistent q.default_persistent } ∷ record { clause = record { key = keys.Get; value = Some (texts.enabled_or_not q.get_enabled) }; in_quotes = false; setting = settings.GetEnabled q.get_enabled } ∷ record { clause = record { key = keys.InitQ; value = Some q.initiation_queue }; in_quotes = true; setting = settings.InitiationQueue q.initiation_queue } ∷ record { clause = record { key = keys.MaxDepth; value = Some (decimal q.max_depth) }; in_quotes = false; setting = settings.MaxDepth q.max_depth } ∷ record { clause = record { key = keys.MaxMsgL; value = Some (decimal q.max_message_length) }; in_quotes = false; setting = settings.MaxMessageLength q.max_message_length } ∷ record { clause = record { key = keys.MsgDlvSq; value = Some (texts.delivery_word q.delivery) }; in_quotes = false; setting = settings.Delivery q.delivery } ∷ record { clause = record { key = keys.Process; value = Some q.process }; in_quotes = true; setting = settings.Process q.process } ∷ record { clause = record { key = keys.Put; value = Some (texts.enabled_or_not q.put_enabled) }; in_quotes = false; setting = settings.PutEnabled q.put_enabled } ∷ record { clause = record { key = keys.TrigData; value = Some q.trigger_data }; in_quotes = true; setting = settings.TriggerData q.trigger_data } ∷ record { clause = record { key = keys.TrigDpth; value = Some (decimal q.trigger_depth) }; in_quotes = false; setting = settings.TriggerDepth q.trigger_depth } ∷ record { clause = record { key = keys.Trigger; value = None }; in_quotes = false; setting = settings.Trigger true } ∷ record { clause = record { key = keys.TrigMPri; value = Some (decimal q.trigger_priority) }; in_quotes = false; setting = settings.TriggerPriority q.trigger_priority } ∷ record { clause = record { key = keys.TrigType; value = Some (texts.trigger_word q.trigger_type) }; in_quotes = false; setting = settings.TriggerType q.trigger_type } ∷ record { clause = record { key = keys.Usage; value = Some (texts.usage_word q.usage) }; in_quotes = false; setting = settings.Usage q.usage } ∷ []
@@ -228,10 +249,11 @@ local_can_on b bs q h = record {
   all = refl;
 }
 
-local_by_on : (b : ℕ) (bs : List ℕ) (q : LocalQueue) → IsName 48 (b ∷ bs) → IsLocalText q → change_in Sets (change_text (changes.Set (objects.Local (record q { name = b ∷ bs; kept = []; trigger = true })))) ≡ Some (changes.Set (objects.Local (record q { name = b ∷ bs; kept = []; trigger = true })))
-local_by_on b bs q name h =
-    ap (change_in Sets) (ap (λ (t : List ℕ). codes "DEFINE QLOCAL(" ++ t) (define_same (codes "QLOCAL") (b ∷ bs) (texts.local_attributes (record q { name = b ∷ bs; kept = []; trigger = true })) [] (local_clauses_on q) refl (refl, (refl, (refl, (ap (λ (d : List ℕ). codes " " ++ texts.in_brackets (codes "INITQ") (codes "'" ++ d ++ codes "'")) (doubled_same q.initiation_queue), (refl, (refl, (refl, (ap (λ (d : List ℕ). codes " " ++ texts.in_brackets (codes "PROCESS") (codes "'" ++ d ++ codes "'")) (doubled_same q.process), (refl, (ap (λ (d : List ℕ). codes " " ++ texts.in_brackets (codes "TRIGDATA") (codes "'" ++ d ++ codes "'")) (doubled_same q.trigger_data), (refl, (refl, (refl, (refl, (refl, tt)))))))))))))))))
-    ∙ define_read (subjects.Local (b ∷ bs)) nouns.Local kinds.Local 48 b bs (local_clauses_on q) name (ap (λ r. option_map subjects.Local (reads.name_or_none r)) (name_read 48 b bs name)) ((tokens.Quoted (b ∷ bs), refl, refl), name_unblank 48 b bs name) (local_can_on b bs q h)
+local_by_on : (b : ℕ) (bs : List ℕ) (q : LocalQueue) (ks : List KeptAttribute) (k : AreKeptTexts (kept_keys kinds.Local) ks) → IsName 48 (b ∷ bs) → IsLocalText q → change_in Sets (change_text (changes.Set (objects.Local (record q { name = b ∷ bs; kept = ks; trigger = true })))) ≡ Some (changes.Set (objects.Local (record q { name = b ∷ bs; kept = ks; trigger = true })))
+local_by_on b bs q ks k name h =
+    ap (change_in Sets) (ap (λ (t : List ℕ). codes "DEFINE QLOCAL(" ++ t) (define_same (b ∷ bs) (texts.local_attributes (record q { name = b ∷ bs; kept = ks; trigger = true })) ks (local_clauses_on q) (kept_clauses (kept_keys kinds.Local) ks k) (refl, (refl, (refl, (ap (λ (d : List ℕ). codes " " ++ texts.in_brackets (codes "INITQ") (codes "'" ++ d ++ codes "'")) (doubled_same q.initiation_queue), (refl, (refl, (refl, (ap (λ (d : List ℕ). codes " " ++ texts.in_brackets (codes "PROCESS") (codes "'" ++ d ++ codes "'")) (doubled_same q.process), (refl, (ap (λ (d : List ℕ). codes " " ++ texts.in_brackets (codes "TRIGDATA") (codes "'" ++ d ++ codes "'")) (doubled_same q.trigger_data), (refl, (refl, (refl, (refl, (refl, tt))))))))))))))) (kept_text verbs.Define kinds.Local (kept_keys kinds.Local) ks k local_kept)))
+    ∙ define_keeps (subjects.Local (b ∷ bs)) nouns.Local kinds.Local 48 b bs (local_clauses_on q) (kept_keys kinds.Local) ks k name (ap (λ r. option_map subjects.Local (reads.name_or_none r)) (name_read 48 b bs name)) ((tokens.Quoted (b ∷ bs), refl, refl), name_unblank 48 b bs name) (local_can_on b bs q h) (record { table = local_kept; is_kind = refl; needed = tt; clear = refl; replace = refl; noreplace = refl })
+    ∙ ap (λ (o : Object). Some (changes.Set o)) (local_keeps (kept_keys kinds.Local) ks (record q { name = b ∷ bs; kept = []; trigger = true }) k refl)
 
 abbrev local_clauses_off : LocalQueue → List Written
 local_clauses_off q = record { clause = record { key = keys.DefPrty; value = Some (decimal q.default_priority) }; in_quotes = false; setting = settings.DefaultPriority q.default_priority } ∷ record { clause = record { key = keys.DefPsist; value = Some (texts.yes_or_no q.default_persistent) }; in_quotes = false; setting = settings.DefaultPersistent q.default_persistent } ∷ record { clause = record { key = keys.Get; value = Some (texts.enabled_or_not q.get_enabled) }; in_quotes = false; setting = settings.GetEnabled q.get_enabled } ∷ record { clause = record { key = keys.InitQ; value = Some q.initiation_queue }; in_quotes = true; setting = settings.InitiationQueue q.initiation_queue } ∷ record { clause = record { key = keys.MaxDepth; value = Some (decimal q.max_depth) }; in_quotes = false; setting = settings.MaxDepth q.max_depth } ∷ record { clause = record { key = keys.MaxMsgL; value = Some (decimal q.max_message_length) }; in_quotes = false; setting = settings.MaxMessageLength q.max_message_length } ∷ record { clause = record { key = keys.MsgDlvSq; value = Some (texts.delivery_word q.delivery) }; in_quotes = false; setting = settings.Delivery q.delivery } ∷ record { clause = record { key = keys.Process; value = Some q.process }; in_quotes = true; setting = settings.Process q.process } ∷ record { clause = record { key = keys.Put; value = Some (texts.enabled_or_not q.put_enabled) }; in_quotes = false; setting = settings.PutEnabled q.put_enabled } ∷ record { clause = record { key = keys.TrigData; value = Some q.trigger_data }; in_quotes = true; setting = settings.TriggerData q.trigger_data } ∷ record { clause = record { key = keys.TrigDpth; value = Some (decimal q.trigger_depth) }; in_quotes = false; setting = settings.TriggerDepth q.trigger_depth } ∷ record { clause = record { key = keys.NoTrigger; value = None }; in_quotes = false; setting = settings.Trigger false } ∷ record { clause = record { key = keys.TrigMPri; value = Some (decimal q.trigger_priority) }; in_quotes = false; setting = settings.TriggerPriority q.trigger_priority } ∷ record { clause = record { key = keys.TrigType; value = Some (texts.trigger_word q.trigger_type) }; in_quotes = false; setting = settings.TriggerType q.trigger_type } ∷ record { clause = record { key = keys.Usage; value = Some (texts.usage_word q.usage) }; in_quotes = false; setting = settings.Usage q.usage } ∷ []
@@ -252,35 +274,33 @@ local_can_off b bs q h = record {
   all = refl;
 }
 
-local_by_off : (b : ℕ) (bs : List ℕ) (q : LocalQueue) → IsName 48 (b ∷ bs) → IsLocalText q → change_in Sets (change_text (changes.Set (objects.Local (record q { name = b ∷ bs; kept = []; trigger = false })))) ≡ Some (changes.Set (objects.Local (record q { name = b ∷ bs; kept = []; trigger = false })))
-local_by_off b bs q name h =
-    ap (change_in Sets) (ap (λ (t : List ℕ). codes "DEFINE QLOCAL(" ++ t) (define_same (codes "QLOCAL") (b ∷ bs) (texts.local_attributes (record q { name = b ∷ bs; kept = []; trigger = false })) [] (local_clauses_off q) refl (refl, (refl, (refl, (ap (λ (d : List ℕ). codes " " ++ texts.in_brackets (codes "INITQ") (codes "'" ++ d ++ codes "'")) (doubled_same q.initiation_queue), (refl, (refl, (refl, (ap (λ (d : List ℕ). codes " " ++ texts.in_brackets (codes "PROCESS") (codes "'" ++ d ++ codes "'")) (doubled_same q.process), (refl, (ap (λ (d : List ℕ). codes " " ++ texts.in_brackets (codes "TRIGDATA") (codes "'" ++ d ++ codes "'")) (doubled_same q.trigger_data), (refl, (refl, (refl, (refl, (refl, tt)))))))))))))))))
-    ∙ define_read (subjects.Local (b ∷ bs)) nouns.Local kinds.Local 48 b bs (local_clauses_off q) name (ap (λ r. option_map subjects.Local (reads.name_or_none r)) (name_read 48 b bs name)) ((tokens.Quoted (b ∷ bs), refl, refl), name_unblank 48 b bs name) (local_can_off b bs q h)
+local_by_off : (b : ℕ) (bs : List ℕ) (q : LocalQueue) (ks : List KeptAttribute) (k : AreKeptTexts (kept_keys kinds.Local) ks) → IsName 48 (b ∷ bs) → IsLocalText q → change_in Sets (change_text (changes.Set (objects.Local (record q { name = b ∷ bs; kept = ks; trigger = false })))) ≡ Some (changes.Set (objects.Local (record q { name = b ∷ bs; kept = ks; trigger = false })))
+local_by_off b bs q ks k name h =
+    ap (change_in Sets) (ap (λ (t : List ℕ). codes "DEFINE QLOCAL(" ++ t) (define_same (b ∷ bs) (texts.local_attributes (record q { name = b ∷ bs; kept = ks; trigger = false })) ks (local_clauses_off q) (kept_clauses (kept_keys kinds.Local) ks k) (refl, (refl, (refl, (ap (λ (d : List ℕ). codes " " ++ texts.in_brackets (codes "INITQ") (codes "'" ++ d ++ codes "'")) (doubled_same q.initiation_queue), (refl, (refl, (refl, (ap (λ (d : List ℕ). codes " " ++ texts.in_brackets (codes "PROCESS") (codes "'" ++ d ++ codes "'")) (doubled_same q.process), (refl, (ap (λ (d : List ℕ). codes " " ++ texts.in_brackets (codes "TRIGDATA") (codes "'" ++ d ++ codes "'")) (doubled_same q.trigger_data), (refl, (refl, (refl, (refl, (refl, tt))))))))))))))) (kept_text verbs.Define kinds.Local (kept_keys kinds.Local) ks k local_kept)))
+    ∙ define_keeps (subjects.Local (b ∷ bs)) nouns.Local kinds.Local 48 b bs (local_clauses_off q) (kept_keys kinds.Local) ks k name (ap (λ r. option_map subjects.Local (reads.name_or_none r)) (name_read 48 b bs name)) ((tokens.Quoted (b ∷ bs), refl, refl), name_unblank 48 b bs name) (local_can_off b bs q h) (record { table = local_kept; is_kind = refl; needed = tt; clear = refl; replace = refl; noreplace = refl })
+    ∙ ap (λ (o : Object). Some (changes.Set o)) (local_keeps (kept_keys kinds.Local) ks (record q { name = b ∷ bs; kept = []; trigger = false }) k refl)
 
-alias_named : (n : List ℕ) (k : List KeptAttribute) (q : AliasQueue) → q.name ≡ n → q.kept ≡ k → IsName 48 n → 0 < length n → k ≡ [] → IsAliasText q → change_in Sets (change_text (changes.Set (objects.Alias (record q { name = n; kept = k })))) ≡ Some (changes.Set (objects.Alias (record q { name = n; kept = k })))
-alias_named [] k q en ek name some none h = absurd (omega (arith, some))
-alias_named (b ∷ bs) [] q en ek name some none h = alias_by b bs q name h
-alias_named (b ∷ bs) (x ∷ xs) q en ek name some none h = absurd (cc none)
+alias_named : (n : List ℕ) (q : AliasQueue) → IsName 48 n → 0 < length n → IsAliasText q → change_in Sets (change_text (changes.Set (objects.Alias (record q { name = n })))) ≡ Some (changes.Set (objects.Alias (record q { name = n })))
+alias_named [] q name some h = absurd (omega (arith, some))
+alias_named (b ∷ bs) q name some h = alias_by b bs q q.kept h.kept_are name h
 
 pub alias_read : (q : AliasQueue) → IsAliasText q → change_in Sets (change_text (changes.Set (objects.Alias q))) ≡ Some (changes.Set (objects.Alias q))
-alias_read q h = alias_named q.name q.kept q refl refl h.name h.some h.kept h
+alias_read q h = alias_named q.name q h.name h.some h
 
-remote_named : (n : List ℕ) (k : List KeptAttribute) (q : RemoteQueue) → q.name ≡ n → q.kept ≡ k → IsName 48 n → 0 < length n → k ≡ [] → IsRemoteText q → change_in Sets (change_text (changes.Set (objects.Remote (record q { name = n; kept = k })))) ≡ Some (changes.Set (objects.Remote (record q { name = n; kept = k })))
-remote_named [] k q en ek name some none h = absurd (omega (arith, some))
-remote_named (b ∷ bs) [] q en ek name some none h = remote_by b bs q name h
-remote_named (b ∷ bs) (x ∷ xs) q en ek name some none h = absurd (cc none)
+remote_named : (n : List ℕ) (q : RemoteQueue) → IsName 48 n → 0 < length n → IsRemoteText q → change_in Sets (change_text (changes.Set (objects.Remote (record q { name = n })))) ≡ Some (changes.Set (objects.Remote (record q { name = n })))
+remote_named [] q name some h = absurd (omega (arith, some))
+remote_named (b ∷ bs) q name some h = remote_by b bs q q.kept h.kept_are name h
 
 pub remote_read : (q : RemoteQueue) → IsRemoteText q → change_in Sets (change_text (changes.Set (objects.Remote q))) ≡ Some (changes.Set (objects.Remote q))
-remote_read q h = remote_named q.name q.kept q refl refl h.name h.some h.kept h
+remote_read q h = remote_named q.name q h.name h.some h
 
-local_named : (n : List ℕ) (k : List KeptAttribute) (t : Bool) (q : LocalQueue) → IsName 48 n → 0 < length n → k ≡ [] → IsLocalText q → change_in Sets (change_text (changes.Set (objects.Local (record q { name = n; kept = k; trigger = t })))) ≡ Some (changes.Set (objects.Local (record q { name = n; kept = k; trigger = t })))
-local_named [] k t q name some none h = absurd (omega (arith, some))
-local_named (b ∷ bs) [] true q name some none h = local_by_on b bs q name h
-local_named (b ∷ bs) [] false q name some none h = local_by_off b bs q name h
-local_named (b ∷ bs) (x ∷ xs) t q name some none h = absurd (cc none)
+local_named : (n : List ℕ) (t : Bool) (q : LocalQueue) → IsName 48 n → 0 < length n → IsLocalText q → change_in Sets (change_text (changes.Set (objects.Local (record q { name = n; trigger = t })))) ≡ Some (changes.Set (objects.Local (record q { name = n; trigger = t })))
+local_named [] t q name some h = absurd (omega (arith, some))
+local_named (b ∷ bs) true q name some h = local_by_on b bs q q.kept h.kept_are name h
+local_named (b ∷ bs) false q name some h = local_by_off b bs q q.kept h.kept_are name h
 
 pub local_read : (q : LocalQueue) → IsLocalText q → change_in Sets (change_text (changes.Set (objects.Local q))) ≡ Some (changes.Set (objects.Local q))
-local_read q h = local_named q.name q.kept q.trigger q h.name h.some h.kept h
+local_read q h = local_named q.name q.trigger q h.name h.some h
 
 abbrev process_clauses : Process → List Written
 process_clauses q = record { clause = record { key = keys.ApplicId; value = Some q.appl_id }; in_quotes = true; setting = settings.ApplId q.appl_id } ∷ record { clause = record { key = keys.ApplType; value = Some (decimal q.appl_type) }; in_quotes = false; setting = settings.ApplType q.appl_type } ∷ record { clause = record { key = keys.EnvrData; value = Some q.environment_data }; in_quotes = true; setting = settings.EnvironmentData q.environment_data } ∷ record { clause = record { key = keys.UserData; value = Some q.user_data }; in_quotes = true; setting = settings.UserData q.user_data } ∷ []
@@ -301,18 +321,18 @@ process_can b bs q h = record {
   all = refl;
 }
 
-process_by : (b : ℕ) (bs : List ℕ) (q : Process) → IsName 48 (b ∷ bs) → IsProcessText q → change_in Sets (change_text (changes.Set (objects.Process (record q { name = b ∷ bs; kept = [] })))) ≡ Some (changes.Set (objects.Process (record q { name = b ∷ bs; kept = [] })))
-process_by b bs q name h =
-    ap (change_in Sets) (ap (λ (t : List ℕ). codes "DEFINE PROCESS(" ++ t) (define_same (codes "PROCESS") (b ∷ bs) (texts.process_attributes (record q { name = b ∷ bs; kept = [] })) [] (process_clauses q) refl (ap (λ (d : List ℕ). codes " " ++ texts.in_brackets (codes "APPLICID") (codes "'" ++ d ++ codes "'")) (doubled_same q.appl_id), (refl, (ap (λ (d : List ℕ). codes " " ++ texts.in_brackets (codes "ENVRDATA") (codes "'" ++ d ++ codes "'")) (doubled_same q.environment_data), (ap (λ (d : List ℕ). codes " " ++ texts.in_brackets (codes "USERDATA") (codes "'" ++ d ++ codes "'")) (doubled_same q.user_data), tt))))))
-    ∙ define_read (subjects.Process (b ∷ bs)) nouns.Process kinds.Process 48 b bs (process_clauses q) name (ap (λ r. option_map subjects.Process (reads.name_or_none r)) (name_read 48 b bs name)) ((tokens.Quoted (b ∷ bs), refl, refl), name_unblank 48 b bs name) (process_can b bs q h)
+process_by : (b : ℕ) (bs : List ℕ) (q : Process) (ks : List KeptAttribute) (k : AreKeptTexts (kept_keys kinds.Process) ks) → IsName 48 (b ∷ bs) → IsProcessText q → change_in Sets (change_text (changes.Set (objects.Process (record q { name = b ∷ bs; kept = ks })))) ≡ Some (changes.Set (objects.Process (record q { name = b ∷ bs; kept = ks })))
+process_by b bs q ks k name h =
+    ap (change_in Sets) (ap (λ (t : List ℕ). codes "DEFINE PROCESS(" ++ t) (define_same (b ∷ bs) (texts.process_attributes (record q { name = b ∷ bs; kept = ks })) ks (process_clauses q) (kept_clauses (kept_keys kinds.Process) ks k) (ap (λ (d : List ℕ). codes " " ++ texts.in_brackets (codes "APPLICID") (codes "'" ++ d ++ codes "'")) (doubled_same q.appl_id), (refl, (ap (λ (d : List ℕ). codes " " ++ texts.in_brackets (codes "ENVRDATA") (codes "'" ++ d ++ codes "'")) (doubled_same q.environment_data), (ap (λ (d : List ℕ). codes " " ++ texts.in_brackets (codes "USERDATA") (codes "'" ++ d ++ codes "'")) (doubled_same q.user_data), tt)))) (kept_text verbs.Define kinds.Process (kept_keys kinds.Process) ks k process_kept)))
+    ∙ define_keeps (subjects.Process (b ∷ bs)) nouns.Process kinds.Process 48 b bs (process_clauses q) (kept_keys kinds.Process) ks k name (ap (λ r. option_map subjects.Process (reads.name_or_none r)) (name_read 48 b bs name)) ((tokens.Quoted (b ∷ bs), refl, refl), name_unblank 48 b bs name) (process_can b bs q h) (record { table = process_kept; is_kind = refl; needed = tt; clear = refl; replace = refl; noreplace = refl })
+    ∙ ap (λ (o : Object). Some (changes.Set o)) (process_keeps (kept_keys kinds.Process) ks (record q { name = b ∷ bs; kept = [] }) k refl)
 
-process_named : (n : List ℕ) (k : List KeptAttribute) (q : Process) → IsName 48 n → 0 < length n → k ≡ [] → IsProcessText q → change_in Sets (change_text (changes.Set (objects.Process (record q { name = n; kept = k })))) ≡ Some (changes.Set (objects.Process (record q { name = n; kept = k })))
-process_named [] k q name some none h = absurd (omega (arith, some))
-process_named (b ∷ bs) [] q name some none h = process_by b bs q name h
-process_named (b ∷ bs) (x ∷ xs) q name some none h = absurd (cc none)
+process_named : (n : List ℕ) (q : Process) → IsName 48 n → 0 < length n → IsProcessText q → change_in Sets (change_text (changes.Set (objects.Process (record q { name = n })))) ≡ Some (changes.Set (objects.Process (record q { name = n })))
+process_named [] q name some h = absurd (omega (arith, some))
+process_named (b ∷ bs) q name some h = process_by b bs q q.kept h.kept_are name h
 
 pub process_read : (q : Process) → IsProcessText q → change_in Sets (change_text (changes.Set (objects.Process q))) ≡ Some (changes.Set (objects.Process q))
-process_read q h = process_named q.name q.kept q h.name h.some h.kept h
+process_read q h = process_named q.name q h.name h.some h
 
 -- ---- channels
 
@@ -335,10 +355,11 @@ sender_can b bs batch retry wrap xmitq fast h = record {
   all = refl;
 }
 
-sender_by : (b : ℕ) (bs : List ℕ) (batch retry wrap : ℕ) (xmitq : List ℕ) (fast : Bool) → IsName 20 (b ∷ bs) → IsSenderText batch retry wrap xmitq → change_in Sets (change_text (changes.Set (objects.Channel (record { name = b ∷ bs; kind = channels.Sender batch retry xmitq; sequence_wrap = wrap; fast = fast; kept = [] })))) ≡ Some (changes.Set (objects.Channel (record { name = b ∷ bs; kind = channels.Sender batch retry xmitq; sequence_wrap = wrap; fast = fast; kept = [] })))
-sender_by b bs batch retry wrap xmitq fast name h =
-    ap (change_in Sets) (ap (λ (t : List ℕ). codes "DEFINE CHANNEL(" ++ t) (define_same (codes "CHANNEL") (b ∷ bs) (texts.channel_attributes (channels.Sender batch retry xmitq) wrap fast) [] (sender_clauses batch retry wrap xmitq fast) refl (refl, (refl, (refl, (refl, (ap (λ (d : List ℕ). codes " " ++ texts.in_brackets (codes "XMITQ") (codes "'" ++ d ++ codes "'")) (doubled_same xmitq), (refl, tt))))))))
-    ∙ define_read (subjects.Channel (b ∷ bs)) nouns.Channel kinds.Sender 20 b bs (sender_clauses batch retry wrap xmitq fast) name (ap (λ r. option_map subjects.Channel (reads.name_or_none r)) (name_read 20 b bs name)) ((tokens.Quoted (b ∷ bs), refl, refl), name_unblank 20 b bs name) (sender_can b bs batch retry wrap xmitq fast h)
+sender_by : (b : ℕ) (bs : List ℕ) (batch retry wrap : ℕ) (xmitq : List ℕ) (fast : Bool) (ks : List KeptAttribute) (k : AreKeptTexts (kept_keys kinds.Channel) ks) → IsName 20 (b ∷ bs) → IsSenderText batch retry wrap xmitq → change_in Sets (change_text (changes.Set (objects.Channel (record { name = b ∷ bs; kind = channels.Sender batch retry xmitq; sequence_wrap = wrap; fast = fast; kept = ks })))) ≡ Some (changes.Set (objects.Channel (record { name = b ∷ bs; kind = channels.Sender batch retry xmitq; sequence_wrap = wrap; fast = fast; kept = ks })))
+sender_by b bs batch retry wrap xmitq fast ks k name h =
+    ap (change_in Sets) (ap (λ (t : List ℕ). codes "DEFINE CHANNEL(" ++ t) (define_same (b ∷ bs) (texts.channel_attributes (channels.Sender batch retry xmitq) wrap fast) ks (sender_clauses batch retry wrap xmitq fast) (kept_clauses (kept_keys kinds.Channel) ks k) (refl, (refl, (refl, (refl, (ap (λ (d : List ℕ). codes " " ++ texts.in_brackets (codes "XMITQ") (codes "'" ++ d ++ codes "'")) (doubled_same xmitq), (refl, tt)))))) (kept_text verbs.Define kinds.Sender (kept_keys kinds.Channel) ks k sender_kept)))
+    ∙ define_keeps (subjects.Channel (b ∷ bs)) nouns.Channel kinds.Sender 20 b bs (sender_clauses batch retry wrap xmitq fast) (kept_keys kinds.Channel) ks k name (ap (λ r. option_map subjects.Channel (reads.name_or_none r)) (name_read 20 b bs name)) ((tokens.Quoted (b ∷ bs), refl, refl), name_unblank 20 b bs name) (sender_can b bs batch retry wrap xmitq fast h) (record { table = sender_kept; is_kind = inl refl; needed = key_there keys.XmitQ (keys_of (clauses_of ((sender_clauses batch retry wrap xmitq fast) ++ kept_clauses (kept_keys kinds.Channel) ks k))) refl; clear = refl; replace = refl; noreplace = refl })
+    ∙ ap (λ (o : Object). Some (changes.Set o)) (channel_keeps (kept_keys kinds.Channel) ks (record { name = b ∷ bs; kind = channels.Sender batch retry xmitq; sequence_wrap = wrap; fast = fast; kept = [] }) k refl)
 
 abbrev receiver_clauses : ℕ → Bool → Bool → List Written
 receiver_clauses wrap dead fast = record { clause = record { key = keys.ChlType; value = Some (codes "RCVR") }; in_quotes = false; setting = settings.ChannelType types.Receiver } ∷ record { clause = record { key = keys.UseDlq; value = Some (texts.yes_or_no dead) }; in_quotes = false; setting = settings.UseDeadLetterQueue dead } ∷ record { clause = record { key = keys.SeqWrap; value = Some (decimal wrap) }; in_quotes = false; setting = settings.SequenceWrap wrap } ∷ record { clause = record { key = keys.NpmSpeed; value = Some (texts.speed_word fast) }; in_quotes = false; setting = settings.Fast fast } ∷ []
@@ -359,17 +380,17 @@ receiver_can b bs wrap dead fast h = record {
   all = refl;
 }
 
-receiver_by : (b : ℕ) (bs : List ℕ) (wrap : ℕ) (dead fast : Bool) → IsName 20 (b ∷ bs) → IsReceiverText wrap → change_in Sets (change_text (changes.Set (objects.Channel (record { name = b ∷ bs; kind = channels.Receiver dead; sequence_wrap = wrap; fast = fast; kept = [] })))) ≡ Some (changes.Set (objects.Channel (record { name = b ∷ bs; kind = channels.Receiver dead; sequence_wrap = wrap; fast = fast; kept = [] })))
-receiver_by b bs wrap dead fast name h =
-    ap (change_in Sets) (ap (λ (t : List ℕ). codes "DEFINE CHANNEL(" ++ t) (define_same (codes "CHANNEL") (b ∷ bs) (texts.channel_attributes (channels.Receiver dead) wrap fast) [] (receiver_clauses wrap dead fast) refl (refl, (refl, (refl, (refl, tt))))))
-    ∙ define_read (subjects.Channel (b ∷ bs)) nouns.Channel kinds.Receiver 20 b bs (receiver_clauses wrap dead fast) name (ap (λ r. option_map subjects.Channel (reads.name_or_none r)) (name_read 20 b bs name)) ((tokens.Quoted (b ∷ bs), refl, refl), name_unblank 20 b bs name) (receiver_can b bs wrap dead fast h)
+receiver_by : (b : ℕ) (bs : List ℕ) (wrap : ℕ) (dead fast : Bool) (ks : List KeptAttribute) (k : AreKeptTexts (kept_keys kinds.Channel) ks) → IsName 20 (b ∷ bs) → IsReceiverText wrap → change_in Sets (change_text (changes.Set (objects.Channel (record { name = b ∷ bs; kind = channels.Receiver dead; sequence_wrap = wrap; fast = fast; kept = ks })))) ≡ Some (changes.Set (objects.Channel (record { name = b ∷ bs; kind = channels.Receiver dead; sequence_wrap = wrap; fast = fast; kept = ks })))
+receiver_by b bs wrap dead fast ks k name h =
+    ap (change_in Sets) (ap (λ (t : List ℕ). codes "DEFINE CHANNEL(" ++ t) (define_same (b ∷ bs) (texts.channel_attributes (channels.Receiver dead) wrap fast) ks (receiver_clauses wrap dead fast) (kept_clauses (kept_keys kinds.Channel) ks k) (refl, (refl, (refl, (refl, tt)))) (kept_text verbs.Define kinds.Receiver (kept_keys kinds.Channel) ks k receiver_kept)))
+    ∙ define_keeps (subjects.Channel (b ∷ bs)) nouns.Channel kinds.Receiver 20 b bs (receiver_clauses wrap dead fast) (kept_keys kinds.Channel) ks k name (ap (λ r. option_map subjects.Channel (reads.name_or_none r)) (name_read 20 b bs name)) ((tokens.Quoted (b ∷ bs), refl, refl), name_unblank 20 b bs name) (receiver_can b bs wrap dead fast h) (record { table = receiver_kept; is_kind = inl refl; needed = tt; clear = refl; replace = refl; noreplace = refl })
+    ∙ ap (λ (o : Object). Some (changes.Set o)) (channel_keeps (kept_keys kinds.Channel) ks (record { name = b ∷ bs; kind = channels.Receiver dead; sequence_wrap = wrap; fast = fast; kept = [] }) k refl)
 
-channel_named : (n : List ℕ) (kind : ChannelKind) (k : List KeptAttribute) (wrap : ℕ) (fast : Bool) → IsName 20 n → 0 < length n → k ≡ [] → IsKindText kind wrap
-    → change_in Sets (change_text (changes.Set (objects.Channel (record { name = n; kind = kind; sequence_wrap = wrap; fast = fast; kept = k })))) ≡ Some (changes.Set (objects.Channel (record { name = n; kind = kind; sequence_wrap = wrap; fast = fast; kept = k })))
-channel_named [] kind k wrap fast name some none h = absurd (omega (arith, some))
-channel_named (b ∷ bs) (channels.Sender batch retry xmitq) [] wrap fast name some none h = sender_by b bs batch retry wrap xmitq fast name h
-channel_named (b ∷ bs) (channels.Receiver dead) [] wrap fast name some none h = receiver_by b bs wrap dead fast name h
-channel_named (b ∷ bs) kind (x ∷ xs) wrap fast name some none h = absurd (cc none)
+channel_named : (n : List ℕ) (kind : ChannelKind) (ks : List KeptAttribute) (k : AreKeptTexts (kept_keys kinds.Channel) ks) (wrap : ℕ) (fast : Bool) → IsName 20 n → 0 < length n → IsKindText kind wrap
+    → change_in Sets (change_text (changes.Set (objects.Channel (record { name = n; kind = kind; sequence_wrap = wrap; fast = fast; kept = ks })))) ≡ Some (changes.Set (objects.Channel (record { name = n; kind = kind; sequence_wrap = wrap; fast = fast; kept = ks })))
+channel_named [] kind ks k wrap fast name some h = absurd (omega (arith, some))
+channel_named (b ∷ bs) (channels.Sender batch retry xmitq) ks k wrap fast name some h = sender_by b bs batch retry wrap xmitq fast ks k name h
+channel_named (b ∷ bs) (channels.Receiver dead) ks k wrap fast name some h = receiver_by b bs wrap dead fast ks k name h
 
 pub channel_read : (c : Channel) → IsChannelText c → change_in Sets (change_text (changes.Set (objects.Channel c))) ≡ Some (changes.Set (objects.Channel c))
-channel_read c h = channel_named c.name c.kind c.kept c.sequence_wrap c.fast h.name h.some h.kept h.kind
+channel_read c h = channel_named c.name c.kind c.kept h.kept_are c.sequence_wrap c.fast h.name h.some h.kind

@@ -11,7 +11,7 @@ use Rattle.mq_spec_state.specs.Sizes.{change_text}
 use Rattle.mq_spec_log.specs.Texts.{change_in}
 use Rattle.mq_spec_log.specs.Bodies.{record_of}
 use Rattle.mq_spec_log.proofs.BodyLaws.{record_back}
-use Rattle.mq_law_image.specs.Laid.{IsChangeText, IsReadable}
+use Rattle.mq_law_image.specs.Values.{IsChangeText, IsReadable}
 use Rattle.mq_law_image.proofs.Deleting.{delete_read}
 use Rattle.mq_law_image.proofs.Recording.{objects_back}
 use Rattle.mq_law_image.proofs.Objecting.{manager_read, alias_read, remote_read, process_read, channel_read, local_read}

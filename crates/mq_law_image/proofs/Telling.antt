@@ -81,7 +81,7 @@ pub lost_told : (start : Start) (bodies : List (List ℕ)) (noted : Option Noted
 lost_told start bodies noted left p is running log moment = is ∙ ap (λ (i : Image). Ok i) (ap (with_incarnation (lasting p)) (none_later p.numbers.incarnation) ∙ ap (later_by 0) (sym (frozen_lasts noted left p)))
 
 -- what is done at a restart that finds the write, whenever it comes
-redone_at : (part : Part) (r : LogRecord) (f : Option LogRecord) (running : Running) (log : LogState) (moment left : ℕ) (p : Plain) → f ≡ Some r
+pub redone_at : (part : Part) (r : LogRecord) (f : Option LogRecord) (running : Running) (log : LogState) (moment left : ℕ) (p : Plain) → f ≡ Some r
     → redone_if true (note_of part f) (over running log moment (freeze (note_of part f) left p)) ≡ apply_all part.changes (gone running (stands_in r log) moment p)
 redone_at part r None running log moment left p e = absurd cc
 redone_at part r (Some x) running log moment left p e = let same : r ≡ x = cc in ap (λ (y : LogRecord). apply_all part.changes (gone running (stands_in y log) moment p)) (sym same)
@@ -159,17 +159,17 @@ begun_restarted start bodies kept started noted p i is read = (
 
 -- ---- a restart that fails, a cut that is armed, a clock that moves
 
-pub failed_told : (start : Start) (bodies : List (List ℕ)) (kept : Bool) (started : ℕ) (noted : Option Noted) (fault : RestartFault) (in_write : Bool) (left : ℕ) (note : Option Noted) (starts : ℕ) (p : Plain)
-    → TellsDown start kept started noted bodies p → TellsDown start kept started noted bodies (failed fault in_write left note starts p).next
-failed_told start bodies kept started noted faults.NoMemory in_write left note starts p is = is
-failed_told start bodies kept started noted faults.Up true left note starts p is = is
-failed_told start bodies kept started noted faults.Up false left note starts p is = is
-failed_told start bodies kept started noted faults.Disk true left note starts p is = is
-failed_told start bodies kept started noted faults.Disk false left note starts p is = is
-failed_told start bodies kept started noted faults.Cut true left note starts p is = is
-failed_told start bodies kept started noted faults.Cut false left note starts p is = is
-failed_told start bodies kept started noted (faults.BadLog place) true left note starts p is = is
-failed_told start bodies kept started noted (faults.BadLog place) false left note starts p is = is
+pub failed_told : (start : Start) (bodies : List (List ℕ)) (kept : Bool) (started : ℕ) (noted : Option Noted) (fault : RestartFault) (in_write : Bool) (left : ℕ) (before : Option Noted) (starts : ℕ) (p : Plain)
+    → TellsDown start kept started noted bodies p → TellsDown start kept started noted bodies (failed fault in_write left before starts p).next
+failed_told start bodies kept started noted faults.NoMemory in_write left before starts p is = is
+failed_told start bodies kept started noted faults.Up true left before starts p is = is
+failed_told start bodies kept started noted faults.Up false left before starts p is = is
+failed_told start bodies kept started noted faults.Disk true left before starts p is = is
+failed_told start bodies kept started noted faults.Disk false left before starts p is = is
+failed_told start bodies kept started noted faults.Cut true left before starts p is = is
+failed_told start bodies kept started noted faults.Cut false left before starts p is = is
+failed_told start bodies kept started noted (faults.BadLog place) true left before starts p is = is
+failed_told start bodies kept started noted (faults.BadLog place) false left before starts p is = is
 
 -- what a start writes is read
 pub started_read : (g : Given) (incarnation : ℕ) → g.number < 256 → IsName 48 g.name → incarnation < 2 ^ 64 → record_of (record_bytes (started_record g incarnation)) ≡ Some (started_record g incarnation)

@@ -113,7 +113,7 @@ abbrev pub are_apart : List Key → Bool
 are_apart [] = true
 are_apart (k ∷ ks) = not (list_any (λ (x : Key). bytes_eq (key_text k) (key_text x)) ks) && are_apart ks
 
-there : (key : Key) (xs : List Key) → Mem key xs → list_any (λ (x : Key). bytes_eq (key_text key) (key_text x)) xs ≡ true
+pub there : (key : Key) (xs : List Key) → Mem key xs → list_any (λ (x : Key). bytes_eq (key_text key) (key_text x)) xs ≡ true
 there key [] m = absurd m
 there key (x ∷ xs) (inl e) = ap (λ (b : Bool). b || list_any (λ (y : Key). bytes_eq (key_text key) (key_text y)) xs) (same_bytes (key_text key) (key_text x) (ap key_text e))
 there key (x ∷ xs) (inr m) = right (bytes_eq (key_text key) (key_text x)) (list_any (λ (y : Key). bytes_eq (key_text key) (key_text y)) xs) (there key xs m)
@@ -181,7 +181,7 @@ pub name_written : (verb : Verb) (kind : Kind) (key : Key) (name : List ℕ) (se
 name_written verb kind key name setting k gives h = quote_written verb kind key name (setting name) k (name_whole name h.bytes) (gives ∙ ap (set_to setting) (name_given name h))
 
 -- the same of a text no longer than most
-short_text : (most : ℕ) (text : List ℕ) → length text ≤ most → text_value most (values.Text text) ≡ Some text
+pub short_text : (most : ℕ) (text : List ℕ) → length text ≤ most → text_value most (values.Text text) ≡ Some text
 short_text most text le = ap (λ (b : Bool). if b then Some text else None) (fits (length text) most le)
   where
     fits : (n m : ℕ) → n ≤ m → nat_le n m ≡ true

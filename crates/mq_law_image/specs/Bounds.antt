@@ -2,7 +2,8 @@
 use Rattle.std.specs.Prelude.{ℕ, ◌+◌, ◌*◌, ◌≤◌, Bool, true, false, List, [], ◌∷◌, length, Option, Some, None}
 use Rattle.std.specs.List.{AllByRecursion}
 use Rattle.mq_calls.specs.declared.records.LogRecord.{LogRecord}
-use Rattle.mq_spec_state.specs.State.{Plain, Connection, Change, Noted}
+use Rattle.mq_calls.specs.declared.records.LogRecord.TheVariants as records
+use Rattle.mq_spec_state.specs.State.{Plain, Connection, Change, Noted, SenderSide}
 use Rattle.mq_spec_state.specs.State.Change.{Place as Places, Try, Connect, OpenHandle, Pend, CountIdent}
 use Rattle.mq_spec_state.specs.Reads.{stored, puts_to, reserved, unit_need, item_bytes}
 use Rattle.mq_spec_state.specs.Counts.{starts_of}
@@ -10,6 +11,7 @@ use Rattle.mq_spec_state.specs.Sizes.{need}
 use Rattle.mq_spec_state.specs.Steps.{Part, Step}
 use Rattle.mq_spec_state.specs.Steps.Step.{Refuse, Do}
 use Rattle.mq_spec_manager.specs.Stops.{started_need}
+use Rattle.mq_law_manager.specs.Facts.{Mem}
 
 -- Each counter is at most so high, those of a queue by its name: an uncommitted put of it may arrive, and bring a trigger.
 pub record IsBounded (most : ℕ) (p : Plain) : Type 0 where
@@ -63,3 +65,17 @@ restart_growth kept started noted p = noted_growth kept noted + (started + 1) * 
 -- no queue has more rows than have arrived
 abbrev pub HaveArrived : Plain → Type 0
 HaveArrived p = (name : List ℕ) → length (stored name p).rows ≤ (stored name p).arrivals
+
+-- ---- sessions of senders
+
+abbrev pub AreSessionsAtMost : ℕ → List SenderSide → Type 0
+AreSessionsAtMost most sides = (s : SenderSide) → Mem s sides → s.hardened.session ≤ most
+
+-- the session that a forced record begins, or none
+abbrev pub new_session : LogRecord → ℕ
+new_session (records.Session channel partner session) = session
+new_session _ = 0
+
+abbrev pub session_of : Option LogRecord → ℕ
+session_of None = 0
+session_of (Some r) = new_session r

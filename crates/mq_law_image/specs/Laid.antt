@@ -1,31 +1,16 @@
 -- The text of a command as it is laid out: words in upper case, brackets, texts in quotes, and blanks.
-use Rattle.std.specs.Prelude.{◌≡◌, ℕ, ◌<◌, ◌≤◌, ◌^◌, ◌==◌, not, Bool, true, false, List, [], ◌∷◌, ◌++◌, length, Option, Some, None, codes}
+use Rattle.std.specs.Prelude.{◌≡◌, ℕ, ◌<◌, ◌==◌, not, Bool, true, false, List, [], ◌∷◌, ◌++◌, length, Option, Some, None, codes}
 use Rattle.std.specs.Str.{bytes_eq}
 use Rattle.std.specs.List.{list_all}
 use Rattle.std.specs.Str.{str_to_ascii_uppercase}
 use Rattle.mq_name.specs.Name.{IsName}
 use Rattle.mq_text.specs.Quoting.{quoted}
-use Rattle.mq_objects.specs.declared.object.Object.TheVariants as objects
-use Rattle.mq_objects.specs.declared.change.ObjectChange.{ObjectChange}
-use Rattle.mq_objects.specs.declared.change.ObjectChange.TheVariants as changes
-use Rattle.mq_calls.specs.declared.records.LogRecord.{LogRecord}
-use Rattle.mq_calls.specs.declared.records.LogRecord.TheVariants as records
-use Rattle.mq_record.specs.Records.{IsRecord}
-use Rattle.mq_spec_state.specs.Sizes.{change_text}
 use Rattle.mq_objects.specs.declared.command.Subject.{Subject}
 use Rattle.mq_objects.specs.declared.command.Subject.TheVariants as subjects
 use Rattle.mq_sc_lex.specs.declared.token.TokenKind.{TokenKind}
 use Rattle.mq_sc_lex.specs.declared.token.TokenKind.TheVariants as tokens
 use Rattle.mq_sc_lex.specs.Joining.{is_sign}
 use Rattle.mq_objects.specs.declared.setting.Setting.{Setting}
-use Rattle.mq_objects.specs.declared.object.LocalQueue.{LocalQueue}
-use Rattle.mq_objects.specs.declared.object.AliasQueue.{AliasQueue}
-use Rattle.mq_objects.specs.declared.object.RemoteQueue.{RemoteQueue}
-use Rattle.mq_objects.specs.declared.object.ManagerAttributes.{ManagerAttributes}
-use Rattle.mq_objects.specs.declared.object.Process.{Process}
-use Rattle.mq_objects.specs.declared.object.Channel.{Channel}
-use Rattle.mq_objects.specs.declared.object.ChannelKind.{ChannelKind}
-use Rattle.mq_objects.specs.declared.object.ChannelKind.TheVariants as channels
 use Rattle.mq_sc_keys.specs.declared.verbs.Verb.{Verb}
 use Rattle.mq_sc_keys.specs.declared.verbs.Verb.TheVariants as verbs
 use Rattle.mq_sc_keys.specs.declared.verbs.Noun.{Noun}
@@ -178,92 +163,3 @@ pub record CanDefine (s : Subject) (noun : Noun) (kind : Kind) (ws : List Writte
   pub apart : bytes_eq (object_text noun) (codes "REPLACE") ≡ false
   pub noapart : bytes_eq (object_text noun) (codes "NOREPLACE") ≡ false
   pub all : gives_all (settings_of ws) (attributes (defined_object s (settings_of ws))) ≡ true
-
--- ---- objects whose texts are read: values that their attributes may have, and none that is kept without effect
-
--- ALTER QMGR
-pub record IsManagerText (m : ManagerAttributes) : Type 0 where
-  pub dead_letter_queue : IsName 48 m.dead_letter_queue
-  pub default_transmission_queue : IsName 48 m.default_transmission_queue
-  pub max_handles : m.max_handles ≤ 999999999
-  pub max_message_length : (32768 ≤ m.max_message_length) × (m.max_message_length ≤ 4194304)
-  pub max_uncommitted : (1 ≤ m.max_uncommitted) × (m.max_uncommitted ≤ 999999999)
-  pub trigger_interval : m.trigger_interval ≤ 999999999
-  pub kept : m.kept ≡ []
-
--- QALIAS
-pub record IsAliasText (q : AliasQueue) : Type 0 where
-  pub name : IsName 48 q.name
-  pub some : 0 < length q.name
-  pub default_priority : q.default_priority ≤ 9
-  pub target : IsName 48 q.target
-  pub kept : q.kept ≡ []
-
--- QREMOTE
-pub record IsRemoteText (q : RemoteQueue) : Type 0 where
-  pub name : IsName 48 q.name
-  pub some : 0 < length q.name
-  pub default_priority : q.default_priority ≤ 9
-  pub remote_name : IsName 48 q.remote_name
-  pub remote_manager : IsName 48 q.remote_manager
-  pub transmission_queue : IsName 48 q.transmission_queue
-  pub kept : q.kept ≡ []
-
--- PROCESS
-pub record IsProcessText (q : Process) : Type 0 where
-  pub name : IsName 48 q.name
-  pub some : 0 < length q.name
-  pub appl_id : (length q.appl_id ≤ 256) × (list_all is_no_end q.appl_id ≡ true)
-  pub appl_type : q.appl_type ≤ 999999999
-  pub environment_data : (length q.environment_data ≤ 128) × (list_all is_no_end q.environment_data ≡ true)
-  pub user_data : (length q.user_data ≤ 128) × (list_all is_no_end q.user_data ≡ true)
-  pub kept : q.kept ≡ []
-
--- CHANNEL
-pub record IsSenderText (b r w : ℕ) (x : List ℕ) : Type 0 where
-  pub batch : (1 ≤ b) × (b ≤ 9999)
-  pub wrap : (100 ≤ w) × (w ≤ 999999999)
-  pub retry : r ≤ 999999999
-  pub xmitq : IsName 48 x
-
-pub record IsReceiverText (w : ℕ) : Type 0 where
-  pub wrap : (100 ≤ w) × (w ≤ 999999999)
-
-abbrev pub IsKindText : ChannelKind → ℕ → Type 0
-IsKindText (channels.Sender batch retry xmitq) wrap = IsSenderText batch retry wrap xmitq
-IsKindText (channels.Receiver dead) wrap = IsReceiverText wrap
-
-pub record IsChannelText (c : Channel) : Type 0 where
-  pub name : IsName 20 c.name
-  pub some : 0 < length c.name
-  pub kind : IsKindText c.kind c.sequence_wrap
-  pub kept : c.kept ≡ []
-
--- QLOCAL
-pub record IsLocalText (q : LocalQueue) : Type 0 where
-  pub name : IsName 48 q.name
-  pub some : 0 < length q.name
-  pub default_priority : q.default_priority ≤ 9
-  pub initiation_queue : IsName 48 q.initiation_queue
-  pub max_depth : q.max_depth ≤ 999999999
-  pub max_message_length : q.max_message_length ≤ 4194304
-  pub process : IsName 48 q.process
-  pub trigger_data : (length q.trigger_data ≤ 64) × (list_all is_no_end q.trigger_data ≡ true)
-  pub trigger_depth : (1 ≤ q.trigger_depth) × (q.trigger_depth ≤ 999999999)
-  pub trigger_priority : q.trigger_priority ≤ 9
-  pub kept : q.kept ≡ []
-
--- a change of objects whose text is read
-abbrev pub IsChangeText : ObjectChange → Type 0
-IsChangeText (changes.Set (objects.Local q)) = IsLocalText q
-IsChangeText (changes.Set (objects.Alias q)) = IsAliasText q
-IsChangeText (changes.Set (objects.Remote q)) = IsRemoteText q
-IsChangeText (changes.Set (objects.Channel c)) = IsChannelText c
-IsChangeText (changes.Set (objects.Process q)) = IsProcessText q
-IsChangeText (changes.SetManager m) = IsManagerText m
-IsChangeText (changes.Delete s) = IsSubject s
-
--- a record that is read from its bytes: its fields fit, and the text of what it changes of objects is read
-abbrev pub IsReadable : LogRecord → Type 0
-IsReadable (records.Objects change) = (length (change_text change) < 2 ^ 32) × IsChangeText change
-IsReadable r = IsRecord r

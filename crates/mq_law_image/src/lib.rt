@@ -4,9 +4,14 @@
 ghost use Rattle.std.specs.Prelude.{◌≡◌, ℕ, ◌+◌, ◌^◌, ◌<◌, ◌≤◌, Bool, false, true, List, [], ◌∷◌, ◌++◌, length, Option, None, Some, Ok};
 ghost use Rattle.std.specs.List.{AllByRecursion};
 ghost use Rattle.mq_frame.specs.Reading.{IsBytes};
+ghost use Rattle.mq_message.specs.declared.message.Dest.{Dest};
+ghost use Rattle.mq_message.specs.declared.message.Ident.{Ident};
+ghost use Rattle.mq_message.specs.declared.message.Md.{Md};
+ghost use Rattle.mq_message.specs.declared.message.Message.{Message};
 ghost use Rattle.mq_name.specs.Name.{IsName};
 ghost use Rattle.mq_objects.specs.declared.change.ObjectChange.{ObjectChange};
 ghost use Rattle.mq_objects.specs.declared.change.ObjectChange.TheVariants as changes;
+ghost use Rattle.mq_objects.specs.declared.command.Command.{Command};
 ghost use Rattle.mq_objects.specs.declared.command.Subject.{Subject};
 ghost use Rattle.mq_objects.specs.declared.object.AliasQueue.{AliasQueue};
 ghost use Rattle.mq_objects.specs.declared.object.Channel.{Channel};
@@ -21,21 +26,32 @@ ghost use Rattle.mq_objects.specs.Attributes.{manager_attributes};
 ghost use Rattle.mq_objects.specs.Defaults.{new_manager};
 ghost use Rattle.mq_objects.specs.Settings.{set_all_manager};
 ghost use Rattle.mq_sc_apply.specs.Planned.{defined_object};
+ghost use Rattle.mq_sc_lex.specs.declared.token.Line.{Line};
 ghost use Rattle.mq_sc_lex.specs.declared.token.TokenKind.TheVariants as tokens;
+ghost use Rattle.mq_sc_lex.specs.Commands.{commands_of};
 ghost use Rattle.mq_sc_keys.specs.declared.keys.Key.TheVariants as words;
 ghost use Rattle.mq_sc_keys.specs.declared.verbs.Verb.TheVariants as verbs;
 ghost use Rattle.mq_sc_keys.specs.declared.verbs.Noun.{Noun};
 ghost use Rattle.mq_sc_keys.specs.declared.attributes.Kind.{Kind};
 ghost use Rattle.mq_sc_keys.specs.declared.attributes.Kind.TheVariants as kinds;
 ghost use Rattle.mq_sc_keys.specs.Verbs.{object_text};
-ghost use Rattle.mq_sc_parse.specs.Parsing.{subject_of};
+ghost use Rattle.mq_sc_parse.specs.declared.command.Command.TheVariants as parsed;
+ghost use Rattle.mq_sc_parse.specs.Parsing.{parse_of, subject_of};
 ghost use Rattle.mq_sc_grammar.specs.Spelling.{IsNamed};
 ghost use Rattle.mq_sc_grammar.specs.Commands.{AreSingle, Says};
+ghost use Rattle.mq_record.specs.declared.record.Operation.{Operation};
 ghost use Rattle.mq_record.specs.declared.record.Operation.TheVariants.{Delete, Set};
-ghost use Rattle.mq_record.specs.Records.{operation_of, record_bytes};
+ghost use Rattle.mq_record.specs.Records.{IsRecord, operation_of, record_bytes};
+ghost use Rattle.mq_sync.specs.declared.unit.Unit.{Unit as Luw};
+ghost use Rattle.mq_calls.specs.declared.answers.Hconn.{Hconn};
+ghost use Rattle.mq_calls.specs.declared.answers.Hobj.{Hobj};
+ghost use Rattle.mq_calls.specs.declared.answers.Open.{Open};
+ghost use Rattle.mq_calls.specs.declared.answers.Appl.{Appl};
+ghost use Rattle.mq_calls.specs.declared.answers.Get.{Get};
+ghost use Rattle.mq_calls.specs.declared.agents.Note.{Note};
 ghost use Rattle.mq_calls.specs.declared.choices.Choice.{Choice};
 ghost use Rattle.mq_calls.specs.declared.commands.RestartFault.{RestartFault};
-ghost use Rattle.mq_spec_state.specs.State.{Change, Given, Noted, Plain};
+ghost use Rattle.mq_spec_state.specs.State.{Change, Given, Noted, Plain, SenderSide};
 ghost use Rattle.mq_spec_state.specs.State.Running.{Down, Up};
 ghost use Rattle.mq_spec_state.specs.Changes.{apply};
 ghost use Rattle.mq_spec_state.specs.Counts.{AreAtMost};
@@ -43,16 +59,26 @@ ghost use Rattle.mq_spec_state.specs.Sizes.{change_text};
 ghost use Rattle.mq_spec_state.specs.Images.{Image, Shelf, begun, raised};
 ghost use Rattle.mq_spec_state.specs.Steps.{Part, Step, after, do_part, freeze, note_of};
 ghost use Rattle.mq_spec_manager.specs.Stops.{advance_clock, cut, failed, first_start, grown, next_started, redone_if, restarted, started_need, started_record, stop};
+ghost use Rattle.mq_spec_manager.specs.Commands.{command};
+ghost use Rattle.mq_spec_manager.specs.Handles.{mqclose, mqconn, mqopen};
+ghost use Rattle.mq_spec_manager.specs.Put.{mqput, mqput1};
+ghost use Rattle.mq_spec_manager.specs.Get.{mqget};
+ghost use Rattle.mq_spec_manager.specs.Units.{mqback, mqcmit, mqdisc};
+ghost use Rattle.mq_spec_manager.specs.Triggers.{trigger_turn};
+ghost use Rattle.mq_spec_agents.specs.Words.{discard, expire, harden, hold_batch, leave, move_row, prepare, receive, release_batch, seize, set_bound};
 ghost use Rattle.mq_spec_state.specs.Recovery.{AreKnown, IsImage};
 ghost use Rattle.mq_spec_log.specs.Applies.{Start, is_in_bounds};
 ghost use Rattle.mq_spec_log.specs.Applies.Start.{First, Later};
 ghost use Rattle.mq_spec_log.specs.Bodies.{image, record_of};
+ghost use Rattle.mq_spec_log.specs.Records.{doing};
 ghost use Rattle.mq_spec_log.specs.Texts.{change_in, gives_all};
+ghost use Rattle.mq_law_log.specs.Keeps.{Keeps};
 ghost use Rattle.mq_law_log.specs.Restarts.{IsGivenIn, IsHarmless};
 ghost use Rattle.mq_law_manager.specs.Facts.{AreNamed, IsSound, Mem};
-ghost use Rattle.mq_law_image.specs.Bounds.{HaveArrived, IsBounded, noted_growth, part_growth, restart_growth, step_growth};
-ghost use Rattle.mq_law_image.specs.Laid.{AreWritten, CanDefine, IsAliasText, IsChannelText, IsLocalText, IsManagerText, IsProcessText, IsReadable, IsRemoteText, IsSubject, Written, alter_bits, clauses_of, define_bits, settings_of, text_of};
+ghost use Rattle.mq_law_image.specs.Bounds.{AreSessionsAtMost, HaveArrived, IsBounded, new_session, noted_growth, part_growth, restart_growth, session_of, step_growth};
+ghost use Rattle.mq_law_image.specs.Laid.{AreWritten, CanDefine, IsSubject, Written, alter_bits, clauses_of, define_bits, settings_of, text_of};
 ghost use Rattle.mq_law_image.specs.Tells.{Tells, TellsDown};
+ghost use Rattle.mq_law_image.specs.Values.{AreObjectTexts, IsAliasText, IsChangeText, IsCommandText, IsChannelText, IsLocalText, IsMade, IsManagerText, IsProcessText, IsReadable, IsRemoteText, MakesText, StepMakes};
 
 /// What recovery gives of a log is an image, and the log knew the idents of its own manager in it.
 pub fn recovery_gives_an_image()
@@ -120,8 +146,8 @@ pub fn texts_that_give_attributes_are_read()
         → change_in Set (text_of (define_bits (object_text noun) (b ∷ bs) ws)) ≡ Some (changes.Set (defined_object s (settings_of ws))) }
 {}
 
-/// The text that is written for a manager's attributes, or for an object, where its values are such as a command gives and none is
-/// kept without effect, is read as that change.
+/// The text that is written for a manager's attributes, or for an object, where its values are such as a command gives, is read as
+/// that change: with what is kept without effect.
 pub fn texts_of_objects_are_read()
     ensures managers { (m : ManagerAttributes) → IsManagerText m → change_in Set (change_text (changes.SetManager m)) ≡ Some (changes.SetManager m) }
     ensures aliases { (q : AliasQueue) → IsAliasText q → change_in Set (change_text (changes.Set (objects.Alias q))) ≡ Some (changes.Set (objects.Alias q)) }
@@ -134,4 +160,56 @@ pub fn texts_of_objects_are_read()
 /// So each record whose fields fit is read from its bytes.
 pub fn records_are_read_from_their_bytes()
     ensures { (r : LogRecord) → IsReadable r → record_of (record_bytes r) ≡ Some r }
+{}
+
+/// What a log says of objects has values such as a command gives, and so have the definitions of its image: these hold of each
+/// manager of which a log tells.
+pub fn a_log_has_values_that_commands_give()
+    ensures texts { (operation : Operation) (text : List ℕ) (change : ObjectChange) → change_in operation text ≡ Some change → IsChangeText change }
+    ensures images { (g : Given) (start : Start) (bodies : List (List ℕ)) (i : Image) → image g start bodies ≡ Ok i → AllByRecursion IsBytes bodies → AreObjectTexts i.definitions }
+    ensures parts { (part : Part) (p : Plain) → Keeps part p → IsMade part.forced → AreObjectTexts p.definitions → AreObjectTexts (do_part part p).definitions }
+{}
+
+/// A command that a line of a text is gives such values, and a manager whose objects have them writes such a change for it. So each
+/// record whose fields fit is read from its bytes.
+pub fn what_commands_write_is_read()
+    ensures lines { (text : List ℕ) (lines : List Line) (line : Line) (c : Command) → commands_of text ≡ Ok lines → Mem line lines → parse_of line ≡ Ok (parsed.Objects c) → IsCommandText c }
+    ensures writes { (c : Command) (p : Plain) → IsCommandText c → AreObjectTexts p.definitions → StepMakes (command c p) }
+    ensures reads { (r : LogRecord) → IsRecord r → MakesText r → record_of (record_bytes r) ≡ Some r }
+{}
+
+/// A sender's session rises no further than the Session records of its manager say, so where these count one by one no record of
+/// theirs comes to the bound that a reader asks.
+pub fn sessions_rise_by_their_records()
+    ensures begins { (g : Given) (bodies : List (List ℕ)) (i : Image) → image g First bodies ≡ Ok i → AreSessionsAtMost (2 ^ 60) i.senders }
+    ensures records { (most : ℕ) (r : LogRecord) (i : Image) → new_session r ≤ most → AreSessionsAtMost most i.senders → AreSessionsAtMost most (doing r i).senders }
+    ensures parts { (most : ℕ) (part : Part) (p : Plain) → Keeps part p → session_of part.forced ≤ most → AreSessionsAtMost most p.channels.senders → AreSessionsAtMost most (do_part part p).channels.senders }
+    ensures found { (most : ℕ) (part : Part) (r : LogRecord) (left : ℕ) (p : Plain) → part.forced ≡ Some r → IsHarmless part p → new_session r ≤ most → AreSessionsAtMost most p.channels.senders → AreSessionsAtMost most (redone_if true (note_of part part.forced) (freeze (note_of part part.forced) left p)).channels.senders }
+    ensures more { (most higher : ℕ) (sides : List SenderSide) → most ≤ higher → AreSessionsAtMost most sides → AreSessionsAtMost higher sides }
+    ensures within { (most session : ℕ) (channel partner : List ℕ) → session ≤ most → most < 2 ^ 61 → is_in_bounds Later (records.Session channel partner session) ≡ true }
+{}
+
+/// No call but a command on objects writes a change of objects: of what the others write only the fields have to fit to be read.
+pub fn no_other_call_writes_a_change_of_objects()
+    ensures connects { (qmgr : List ℕ) (appl : Appl) (p : Plain) → StepMakes (mqconn qmgr appl p) }
+    ensures opens { (hc : Hconn) (name qmgr : List ℕ) (how : Open) (p : Plain) → StepMakes (mqopen hc name qmgr how p) }
+    ensures closes { (hc : Hconn) (ho : Hobj) (p : Plain) → StepMakes (mqclose hc ho p) }
+    ensures puts { (hc : Hconn) (ho : Hobj) (md : Md) (body : List ℕ) (sync : Bool) (p : Plain) → StepMakes (mqput hc ho md body sync p) }
+    ensures puts_once { (hc : Hconn) (name qmgr : List ℕ) (md : Md) (body : List ℕ) (sync : Bool) (p : Plain) → StepMakes (mqput1 hc name qmgr md body sync p) }
+    ensures gets { (hc : Hconn) (ho : Hobj) (get : Get) (until : Option ℕ) (p : Plain) → StepMakes (mqget hc ho get until p) }
+    ensures commits { (hc : Hconn) (p : Plain) → StepMakes (mqcmit hc p) }
+    ensures backs_out { (hc : Hconn) (p : Plain) → StepMakes (mqback hc p) }
+    ensures disconnects { (hc : Hconn) (p : Plain) → StepMakes (mqdisc hc p) }
+    ensures triggers { (p : Plain) → StepMakes (trigger_turn p) }
+    ensures seizes { (channel : List ℕ) (p : Plain) → StepMakes (seize channel p) }
+    ensures leaves { (channel : List ℕ) (p : Plain) → StepMakes (leave channel p) }
+    ensures binds { (channel : List ℕ) (bound : Bool) (p : Plain) → StepMakes (set_bound channel bound p) }
+    ensures expires { (channel : List ℕ) (p : Plain) → StepMakes (expire channel p) }
+    ensures holds { (channel : List ℕ) (unit : Luw) (most : ℕ) (p : Plain) → StepMakes (hold_batch channel unit most p) }
+    ensures releases { (channel : List ℕ) (p : Plain) → StepMakes (release_batch channel p) }
+    ensures prepares { (channel : List ℕ) (last : ℕ) (p : Plain) → StepMakes (prepare channel last p) }
+    ensures hardens { (channel : List ℕ) (note : Note) (p : Plain) → StepMakes (harden channel note p) }
+    ensures receives { (channel : List ℕ) (unit : Luw) (last : ℕ) (batch : List Message) (p : Plain) → StepMakes (receive channel unit last batch p) }
+    ensures moves { (from : List ℕ) (ident : Ident) (to : Dest) (bare : Bool) (p : Plain) → StepMakes (move_row from ident to bare p) }
+    ensures discards { (queue : List ℕ) (ident : Ident) (p : Plain) → StepMakes (discard queue ident p) }
 {}

@@ -20,10 +20,11 @@ use Rattle.mq_spec_state.specs.Reads.{batch_of, connection_at, in_doubt_of, is_p
 use Rattle.mq_spec_agents.specs.Words.{has_put, is_pending, is_unborn}
 use Rattle.mq_spec_network.specs.Ledger.{Ledger, idents_of, ledger_rows, own_or, places_or, row_at, row_in, rows_in, unit_of}
 use Rattle.mq_spec_network.specs.Story.{Mem}
-use Rattle.mq_law_rows.specs.World.{Gone, Ghost, InBatch, InUnit, Inv, IsPlaced, Forced, Tag, Unborn, World, away, is_last, put_idents, stands, tag_idents, tag_of}
+use Rattle.mq_law_rows.specs.World.{Gone, Ghost, InBatch, InUnit, Inv, IsPlaced, Forced, Tag, Unborn, World, away, is_last, mark_of, put_idents, stands, tag_idents, tag_mark, tag_of}
 use Rattle.mq_law_rows.specs.Kinds.{awaits}
 use Rattle.mq_law_rows.proofs.Lists.{and_left, bool_case, eqb_self, is_false, true_false, ident_yes, mem_map}
 use Rattle.mq_law_rows.proofs.Owners.{standing_row}
+use Rattle.mq_law_rows.proofs.Settling.{sent_lasting, sent_words}
 use Rattle.mq_law_rows.proofs.Receiving.{any_mem, holds_means, in_batch_or_forced, luw_self, mine_claim}
 use Rattle.mq_law_seen.specs.Seen.{book_of, doubt_of, rows_of, units_of, world_of}
 use Rattle.mq_law_seen.proofs.Receipts.{admitted}
@@ -38,6 +39,10 @@ use Rattle.mq_law_receipts.proofs.Landing.{IsOwn, uncounted}
 pub idents_tagged : (ms : List Message) → tag_idents (map tag_of ms) ≡ idents_of ms
 idents_tagged [] = refl
 idents_tagged (m ∷ ms) = ap (λ is. m.ident ∷ is) (idents_tagged ms)
+
+pub marks_tagged : (ms : List Message) → map mark_of ms ≡ map tag_mark (map tag_of ms)
+marks_tagged [] = refl
+marks_tagged (m ∷ ms) = ap (λ ts. mark_of m ∷ ts) (marks_tagged ms)
 
 -- An uncommitted put of an ident is of a connection's unit
 
@@ -78,14 +83,15 @@ pub comes_in : (s : Scenario) (given : Ident → Bool) (ps : List Plain) (p : Pl
 comes_in s given ps p l g m t c u ms at r h x n =
     let w : World = world_of s given ps in
     let i : Ident = x.ident in
-    let own = r.commits.mine i (subst (λ (ts : List Tag). Mem i (tag_idents ts)) r.sent (mem_map (λ (y : Tag). y.ident) (tag_of x) (map tag_of ms) (mem_map tag_of x ms n))) in
+    let tag : Mem (tag_of x) (g.sent m c u) = subst (λ (ts : List Tag). Mem (tag_of x) ts) r.sent (mem_map tag_of x ms n) in
+    let own = r.commits.mine i (mem_map (λ (y : Tag). y.ident) (tag_of x) (g.sent m c u) tag) in
     record {
       rows = λ q y k e.
           let here : Mem y (w.rows t q) = subst (λ (o : Option Plain). Mem y (rows_of q o)) (sym at) k in
           let owner = ap g.owner e ∙ own in
           let z = not_standing (away w t) y.by (is_false (stands (away w t) y.by) (λ f. r.commits.apart (mine_claim (awaits w m c u) m t c q u y.by (sym owner ∙ h.claims t q y here f)).1)) in
           let doubted : is_some (in_doubt_of (sender_data z.0 p)) ≡ true = sym (ap (doubt_of z.0) at) ∙ and_left (w.doubt t z.0) (is_last (w.holds t z.0) (w.last t z.0)) z.2 in
-          (z.0, z.1, no_batch (batch_of z.0 p.channels.batches) (λ b f. none_where (in_doubt_of (sender_data z.0 p)) doubted (r.sound.facts.batched.one z.0 b f)), r.lasting x q y n k e);
+          (z.0, z.1, no_batch (batch_of z.0 p.channels.batches) (λ b f. none_where (in_doubt_of (sender_data z.0 p)) doubted (r.sound.facts.batched.one z.0 b f)), sent_lasting w g (book_of l) m c u t h r.commits (tag_of x) t q y tag here e);
       pending = is_false (is_pending i p) (λ f.
           let k = unit_there i p.connections r.numbered f in
           let there : Mem i (put_idents (w.units t k.0.number)) = subst (λ (o : Option Plain). Mem i (put_idents (units_of k.0.number o))) (sym at) (subst (λ (o : Option Connection). Mem i (put_idents (unit_of o))) (sym k.2) k.3) in
@@ -125,7 +131,7 @@ own_in s given ps p l g m t c u ms r h y n =
 
     text : (o : Option Row) → row_at y.ident l.places ≡ o → uncounted (own_or y o) ≡ uncounted y
     text None e = refl
-    text (Some row) e = let k = row_at_is y.ident l.places r.shelved row e in ap (λ (x : Message). record x { route = y.route }) (r.words y k.0 k.1.0 row n k.1.1 k.1.2)
+    text (Some row) e = let k = row_at_is y.ident l.places r.shelved row e in ap (λ (x : Message). record x { route = y.route }) (ap (λ (s : Tag). s.word) (sent_words w g (book_of l) m c u t h r.commits (tag_of y) k.0 k.1.0 row tag k.1.1 k.1.2))
 
     fleeting : is_persistent y ≡ false → list_any (same_ident y.ident) l.gone ≡ false
     fleeting e = is_false (list_any (same_ident y.ident) l.gone) (λ f. in_batch_or_forced (awaits w m c u) m c u Gone (λ e. cc) (λ e. cc) (sym mine ∙ h.gone y.ident (any_mem y.ident l.gone f)))

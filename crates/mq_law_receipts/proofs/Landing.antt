@@ -26,8 +26,8 @@ use Rattle.mq_spec_network.specs.Ledger.{Ledger, dead_reason, idents_of, is_admi
 use Rattle.mq_spec_network.specs.Promised.{AreDistinct}
 use Rattle.mq_spec_network.specs.Story.{Mem}
 use Rattle.mq_law_rows.specs.Families.{is_here}
-use Rattle.mq_law_rows.specs.World.{LanesRise, tag_of}
-use Rattle.mq_law_rows.specs.Kinds.{Landing, among, landing_tag, landing_told, place_all}
+use Rattle.mq_law_rows.specs.World.{LanesRise, mark_of}
+use Rattle.mq_law_rows.specs.Kinds.{Landing, among, landing_mark, landing_told, place_all}
 use Rattle.mq_law_rows.proofs.Lists.{bool_case, is_false, true_false, ident_self, ident_back, eqb_self, name_yes, keep_all, keep_insert, keep_swap, mem_insert, mem_keep, mem_map, sorted_insert, sorted_keep}
 use Rattle.mq_law_rows.proofs.Receiving.{any_mem, mem_any}
 use Rattle.mq_law_seen.proofs.Receipts.{landing_at, landing_if, landing_maybe, landings, place_maybe, placing, received_is, routed}
@@ -141,7 +141,7 @@ pub record IsOwn (first : Ledger) (y : Message) : Type 0 where
 pub record Lands (t : ℕ) (channel : List ℕ) (p : Plain) (ms : List Message) (x : Landed) : Type 0 where
   pub lands : List Landing
   pub rows : (d : List ℕ) → (stored d (apply_all x.changes p)).rows ≡ place_all t lands t d (keep (λ h. not (among (idents_of ms) h.message.ident)) (stored d p).rows)
-  pub tags : map landing_tag lands ≡ map tag_of ms
+  pub marks : map landing_mark lands ≡ map mark_of ms
   pub free : (k : Landing) → Mem k lands → k.row.by ≡ None
   pub taken : x.taken ≡ ms
   pub aside : IsAside p (apply_all x.changes p)
@@ -153,7 +153,7 @@ none_lands : (t : ℕ) (channel : List ℕ) (p : Plain) → Lands t channel p []
 none_lands t channel p = record {
   lands = [];
   rows = λ d. sym (keep_all (λ h. true) (stored d p).rows (λ x n. refl));
-  tags = refl;
+  marks = refl;
   free = λ k n. absurd n;
   taken = refl;
   aside = aside_none p;
@@ -247,7 +247,7 @@ one_lands t channel m ms p l s r lands is st free sound names rise once comes al
           ∙ ap (place_all t rest.lands t d) (
           push_keep T (is_here t l.queue t d) row (keep S (stored d p).rows) (sorted_keep S (stored d p).rows (rise d)) T_row
           ∙ ap (λ xs. if is_here t l.queue t d then insert_row row xs else xs) (keep_both l.message.ident ids (stored d p).rows ∙ ap (λ i. keep (λ h. not (among (i ∷ ids) h.message.ident)) (stored d p).rows) is.0));
-      tags = λ i. record { ident = is.0 i; lasting = is.2 i } ∷ rest.tags i;
+      marks = λ i. record { ident = is.0 i; lasting = is.2 i } ∷ rest.marks i;
       free = λ k n. elim n [ inl z ↦ ap (λ (x : Landing). x.row.by) z | inr z ↦ rest.free k z ];
       taken = ap (λ xs. m ∷ xs) rest.taken;
       aside = subst (λ (z : Plain). IsAside p z) (sym (behind (land_changes l s) r.changes p)) (aside_then p q _ aside_q rest.aside);

@@ -30,7 +30,7 @@ use Rattle.mq_spec_network.specs.Ledger.{Ledger, dead_reason, idents_of, is_admi
 use Rattle.mq_spec_network.specs.Promised.{AreDistinct}
 use Rattle.mq_spec_network.specs.Standing.{cable_from, last_unit, last_unit_at, last_unit_of}
 use Rattle.mq_law_rows.specs.Families.{is_here, put_at}
-use Rattle.mq_law_rows.specs.World.{Book, Ghost, Inv, LanesRise, World, tag_idents}
+use Rattle.mq_law_rows.specs.World.{Book, Ghost, Inv, LanesRise, World, tag_idents, tag_mark}
 use Rattle.mq_law_rows.specs.Kinds.{Landing, among, book_receive, ghost_receive, landing_told, place_all}
 use Rattle.mq_law_rows.specs.Kinds as kinds
 use Rattle.mq_law_rows.proofs.Lists.{bool_case, eqb_self, eqb_yes, here_yes, is_false, keep_all, name_self, name_yes, true_false}
@@ -46,7 +46,7 @@ use Rattle.mq_law_events.proofs.Putting.{place_told, unborn_by}
 use Rattle.mq_law_events.proofs.Telling.{else_changed, left_shelved}
 use Rattle.mq_law_receipts.specs.Receipts.{IsCabled, IsReceipt, Receipt}
 use Rattle.mq_law_receipts.proofs.Coming.{doubt_unit}
-use Rattle.mq_law_receipts.proofs.Knowing.{comes_in, idents_tagged, own_in}
+use Rattle.mq_law_receipts.proofs.Knowing.{marks_tagged, comes_in, idents_tagged, own_in}
 use Rattle.mq_law_receipts.proofs.Landing.{IsStill, Lands, batch_lands, dead_behind}
 
 -- The ledger's step
@@ -335,7 +335,7 @@ receives s given ps qs p l g m t c u last ms x reply e n r h = (
     ks_told = y.told ds l first (λ z f. dead_behind c u z.ident x.delta) (taken_told (idents_of ms) t p l r.told) timed_first (own_in s given ps p l g m t c u ms r h)
 
     kind : Inv (kinds.receive w m c u t (tag_idents (g.sent m c u)) y.lands) (ghost_receive g m c u t (tag_idents (g.sent m c u)) y.lands) (book_receive (book_of l) t (tag_idents (g.sent m c u)) (landings t c ds l first ms))
-    kind = receiving.receives w g (book_of l) m c u t y.lands (landings t c ds l first ms) h r.commits (y.tags ∙ r.sent) ks_told y.free
+    kind = receiving.receives w g (book_of l) m c u t y.lands (landings t c ds l first ms) h r.commits (y.marks ∙ marks_tagged ms ∙ ap (map tag_mark) r.sent) ks_told y.free
 
     world : kinds.receive w m c u t (tag_idents (g.sent m c u)) y.lands ≡ world_of s given qs
     world = ap (λ is. kinds.receive w m c u t is y.lands) ids ∙ sym (received_world s given ps qs p m t c u last ms x y next r.commits.apart r.cabled)

@@ -22,10 +22,6 @@ use Rattle.mq_law_manager.specs.Facts.{IsSound}
 use Rattle.mq_law_events.specs.Posting.{IsTimed}
 use Rattle.mq_law_events.specs.Tied.{AreShelved, IsFresh, IsTold}
 
--- a message without what its way changes: the names that it goes by, and the count of its backouts
-abbrev pub worded : Message → Message
-worded m = record m { route = None; md = record m.md { backout_count = pos 0 } }
-
 -- connections have numbers of their own
 abbrev pub AreNumbered : List Connection → Type 0
 AreNumbered cs = Chain (λ (a b : Connection). (a.number == b.number) ≡ false) cs
@@ -39,8 +35,7 @@ pub record IsCabled (s : Scenario) (ps : List Plain) (m t : ℕ) (c : List ℕ) 
   pub to : cable.receiver ≡ t
   pub alone : (a : ℕ) (x : Plain) (y : CableLine) → slice_get ps a ≡ Some x → cable_from x.given.number c s.cables ≡ Some y → y.receiver ≡ t → a ≡ m
 
--- What the commit of unit u, which has these messages, rests on at its receiver p. (`words` and `lasting`: a message that came is
--- the one that the ledger has of its ident, and a row that waits here for the fate of an older unit is as persistent as it is.)
+-- What the commit of unit u, which has these messages, rests on at its receiver p.
 pub record IsReceipt (s : Scenario) (given : Ident → Bool) (ps : List Plain) (p : Plain) (l : Ledger) (g : Ghost) (m t : ℕ) (c : List ℕ) (u : Luw) (ms : List Message) : Type 0 where
   pub commits : Commits (world_of s given ps) g m c u t
   pub sent : map tag_of ms ≡ g.sent m c u
@@ -51,8 +46,6 @@ pub record IsReceipt (s : Scenario) (given : Ident → Bool) (ps : List Plain) (
   pub told : IsTold t p l
   pub timed : IsTimed t p l
   pub shelved : (a : ℕ) (x : ManagerPlaces) → slice_get l.places a ≡ Some x → AreShelved x.queues
-  pub words : (y : Message) (a : ℕ) (q : List ℕ) (r : Row) → Mem y ms → Mem r (ledger_rows a q l) → r.message.ident ≡ y.ident → worded r.message ≡ worded y
-  pub lasting : (y : Message) (q : List ℕ) (h : Row) → Mem y ms → Mem h (stored q p).rows → h.message.ident ≡ y.ident → is_persistent h.message ≡ is_persistent y
 
 -- Behind it the network has the facts, the unit's messages belong where they landed, and the ledger tells each manager again.
 pub record Receipt (s : Scenario) (given : Ident → Bool) (qs : List Plain) (q : Plain) (l k : Ledger) (g : Ghost) (m t : ℕ) (c : List ℕ) (u : Luw) : Type 0 where

@@ -16,6 +16,7 @@ use Rattle.mq_spec_network.specs.Standing.{row_told, rows_told}
 use Rattle.mq_law_rows.specs.Families.{is_here, put_at}
 use Rattle.mq_law_rows.specs.World.{World, Book, Ghost, Tag, Owner, Unborn, At, HeldBy, InBatch, Forced, InUnit, InHand, Gone, tag_of, ident_of, idents_in, is_last, away, stands, row_stands, is_forced, claim, IsHeldBy, IsElsewhere, got_idents, Inv}
 use Rattle.mq_law_rows.specs.Kinds.{after, has_batch, release_batch, freed}
+use Rattle.mq_law_rows.proofs.Lasting.{row_flag}
 use Rattle.mq_law_rows.proofs.Lists.{true_false, and_false, and_right, and_left, eqb_self, eqb_yes, name_yes, name_self, bool_case, is_false, here_yes, here_self, mem_retag, mem_retagged, sorted_retag, keep_same, keep_retag}
 
 -- Rows with another holder
@@ -198,6 +199,16 @@ releases_batch w g b m c back h no_ =
       gone = λ j n. ap (freed g m c j) (h.gone j n);
       got = λ j n. ap (freed g m c j) (h.got j n);
       got_once = h.got_once;
+      operated_words = λ a d u e q r n z. h.operated_words a d u e q r n (freed_forced g m c r.message.ident (g.owner r.message.ident) a d u z);
+      persistence =
+          let p = h.persistence in
+          record {
+            flag = p.flag;
+            of_row = λ a d y n. let r = mem_retag (G a) y (w.rows a d) n in row_flag p.flag r.0 y (ap (λ (z : Row). tag_of z.message) r.2 ∙ release_tag (T a r.0) back r.0) (p.of_row a d r.0 r.1);
+            of_put = p.of_put;
+            of_unit = λ a e u t z no2 n. p.of_unit a e u t (held_none w m c a e z).1 no2 n;
+            of_operated = p.of_operated;
+          };
       distinct = λ a d. subst AreDistinct (sym (retag_idents (G a) (same_ident_ a) (w.rows a d))) (h.distinct a d);
       back = λ a d y n s. let r = mem_retag (G a) y (w.rows a d) n in
           let st : stands (away w a) r.0.by ≡ false = sym (stood a r.0) ∙ ap (λ (z : Row). stands (away v a) z.by) (sym r.2) ∙ s in

@@ -18,6 +18,7 @@ use Rattle.mq_law_rows.specs.Kinds.{among, unit_at, hold_batch, ghost_hold, prep
 use Rattle.mq_law_rows.proofs.Lists.{once_not, true_false, and_right, and_left, bool_case, is_false, here_yes, here_self, mem_retag, mem_retagged, map_mem, mem_map, sorted_retag, keep_same, keep_retag}
 use Rattle.mq_law_rows.proofs.Receiving.{any_mem, mem_any}
 use Rattle.mq_law_rows.proofs.Batches.{retag_idents, not_last}
+use Rattle.mq_law_rows.proofs.Lasting.{row_flag}
 
 pub retag_place : (t : Bool) (o : Option Holder) (x : Row) → (retag_if t o x).place ≡ x.place
 retag_place true o x = refl
@@ -200,6 +201,21 @@ holds_batch w g b m q c u ts h free_ new done k =
       gone = λ j n. other j Gone (h.gone j n) (λ e. cc);
       got = λ j n. other j Gone (h.got j n) (λ e. cc);
       got_once = h.got_once;
+      operated_words = λ a d x e p r n. bool_case (among ids r.message.ident) (λ z. (if z then InBatch m c else g.owner r.message.ident) ≡ Forced a d x → Mem (tag_of r.message) ((ghost_hold g m q c u ts).sent a d x))
+          (λ y z. absurd cc) (λ y z. subst (λ (l : List Tag). Mem (tag_of r.message) l) (sym (still a d x (h.forced a d x r.message.ident z).0)) (h.operated_words a d x e p r n z));
+      persistence =
+          let p = h.persistence in
+          record {
+            flag = p.flag;
+            of_row = λ a d y n. let r = mem_retag (G a d) y (w.rows a d) n in row_flag p.flag r.0 y (ap (λ (z : Row). tag_of z.message) r.2 ∙ retag_tag (T a d r.0) o r.0) (p.of_row a d r.0 r.1);
+            of_put = p.of_put;
+            of_unit = λ a d x t z no_ n. elim (which a d x z) [
+              | inl s ↦ let y = k.rows t (subst (λ (l : List Tag). Mem t l) ((λ i. (ghost_hold g m q c u ts).sent (s.0 i) (s.1 i) (s.2 i)) ∙ new_sent) n) in
+                  ap (λ (t : Tag). t.lasting) (sym y.3) ∙ p.of_row m q y.0 y.1 ∙ ap (λ (t : Tag). p.flag t.ident) y.3
+              | inr s ↦ p.of_unit a d x t s.1 no_ (subst (λ (l : List Tag). Mem t l) (same_sent a d x s.0) n)
+            ];
+            of_operated = λ a d x t z n. p.of_operated a d x t z (subst (λ (l : List Tag). Mem t l) (still a d x z) n);
+          };
       distinct = λ a d. subst AreDistinct (sym (retag_idents (G a d) (same_ident_ a d) (w.rows a d))) (h.distinct a d);
       back = λ a d y n s. let r = mem_retag (G a d) y (w.rows a d) n in
           let x : Row = r.0 in
@@ -245,6 +261,8 @@ prepares w g b m c u h holds new =
       gone = h.gone;
       got = h.got;
       got_once = h.got_once;
+      operated_words = h.operated_words;
+      persistence = h.persistence;
       distinct = h.distinct;
       back = λ a d y n s. h.back a d y n (sym (stands_same a y.by) ∙ s);
       same = λ a d. h.same a d ∙ sym (ap rows_told (keep_same (row_stands (away v a)) (row_stands (away w a)) (w.rows a d) (λ y n. stands_same a y.by)));

@@ -1,5 +1,6 @@
 pub mod Lists
 pub mod Owners
+pub mod Lasting
 pub mod Placing
 pub mod Receiving
 pub mod Batches

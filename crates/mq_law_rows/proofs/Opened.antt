@@ -8,6 +8,7 @@ use Rattle.mq_queue.specs.declared.row.Row.{Row}
 use Rattle.mq_queue.specs.Rows.{same_ident, has_ident}
 use Rattle.mq_sync.specs.declared.unit.Unit.{Unit as Luw}
 use Rattle.mq_calls.specs.declared.state.Item.{Item}
+use Rattle.mq_calls.specs.declared.state.Item.TheVariants.{Put}
 use Rattle.mq_spec_network.specs.Story.{Mem}
 use Rattle.mq_spec_network.specs.Promised.{AreDistinct}
 use Rattle.mq_spec_network.specs.Standing.{rows_told}
@@ -86,6 +87,14 @@ opens w b spots sent source o =
       gone = λ i n. absurd (subst (λ (l : List Ident). Mem i l) o.gone n);
       got = λ i n. absurd (subst (λ (l : List Ident). Mem i l) o.got n);
       got_once = subst AreDistinct (sym o.got) tt;
+      operated_words = λ m c u a q r n e. absurd (true_false (sym (ap is_forced e) ∙ free_owner r.message.ident));
+      persistence = record {
+        flag = λ j. true;
+        of_row = o.lasting;
+        of_put = λ m k q message n. absurd (subst (λ (l : List Item). Mem (Put q message) l) (o.idle m k) n);
+        of_unit = λ m c u t z no_ n. let s = o.doubted m c u t z n in ap (λ (t : Tag). t.lasting) (sym s.tag) ∙ o.lasting m (source m c) s.row s.there;
+        of_operated = λ m c u t z n. absurd cc;
+      };
       distinct = o.distinct;
       back = λ m q h n s. elim (owner_case w spots h.message.ident (if w.given h.message.ident then Gone else Unborn)) [
         | inl f ↦ subst (IsElsewhere m) (sym f.4) (claim_far f.0.manager m f.0.queue f.1.by (λ e.

@@ -11,9 +11,11 @@ use Rattle.mq_spec_network.specs.Story.{Mem}
 use Rattle.mq_spec_network.specs.Promised.{AreDistinct}
 use Rattle.mq_spec_network.specs.Standing.{row_told, rows_told}
 use Rattle.mq_law_rows.specs.Families.{is_here}
-use Rattle.mq_law_rows.specs.World.{World, Book, Ghost, Tag, Owner, Unborn, At, HeldBy, InBatch, Forced, InUnit, InHand, Gone, ident_of, idents_in, away, stands, row_stands, standing, is_forced, is_counted, counted, claim, IsHeldBy, IsElsewhere, LanesRise, items_told, put_idents, got_idents, Inv}
+use Rattle.mq_law_rows.specs.World.{World, Book, Ghost, Tag, Owner, Unborn, At, HeldBy, InBatch, Forced, InUnit, InHand, Gone, ident_of, idents_in, away, stands, row_stands, standing, is_forced, is_counted, counted, claim, IsHeldBy, IsElsewhere, LanesRise, items_told, put_idents, got_idents, Lasting, Inv}
 use Rattle.mq_law_rows.specs.Kinds.{after, owned, give, place_row, book_place, lift_row, book_lift, book_bury, is_row, is_told_row}
 use Rattle.mq_law_rows.proofs.Lists.{true_false, and_none, and_false, and_right, and_swap, eqb_self, bool_case, is_false, ident_yes, here_yes, here_self, mem_keep, mem_kept, sorted_insert, sorted_keep, distinct_insert, distinct_keep, keep_insert, keep_same, keep_swap, told_insert, told_keep}
+use Rattle.mq_spec_state.specs.Reads.{is_persistent}
+use Rattle.mq_law_rows.proofs.Lasting.{flagged, flag_is, flag_new, lasts, put_in}
 use Rattle.mq_law_rows.proofs.Owners.{mem_put, mem_put_old, hand_no_claim, absent, told_ident, owned_other, owned_self, held_owned, away_owned, forced_owned, owned_forced}
 
 placed_claim : (a m : ℕ) (c q : List ℕ) (x row : Row) (o : Owner) → a ≡ m → c ≡ q → x ≡ row → row.by ≡ None → owned row.message.ident (At m q) x.message.ident o ≡ claim a c x.by
@@ -24,8 +26,9 @@ placed_claim a m c q x row o ea ec ex none =
 
 pub places_row : (w : World) (g : Ghost) (b : Book) (m : ℕ) (q : List ℕ) (row told : Row) → Inv w g b
     → g.owner row.message.ident ≡ InHand m → row.by ≡ None → row_told told ≡ row_told row
+    → ((a : ℕ) (d : List ℕ) (x : Row) → Mem x (w.rows a d) → x.message.ident ≡ row.message.ident → is_persistent x.message ≡ is_persistent row.message)
     → Inv (place_row w m q row) (after g (owned row.message.ident (At m q))) (book_place b m q told)
-places_row w g b m q row told h hand none same =
+places_row w g b m q row told h hand none same agrees =
     let i : Ident = row.message.ident in
     let other = owned_other g.owner i in
     record {
@@ -59,6 +62,24 @@ places_row w g b m q row told h hand none same =
       gone = λ j n. other j (At m q) (InHand m) Gone hand (h.gone j n) (λ e. cc);
       got = λ j n. other j (At m q) (InHand m) Gone hand (h.got j n) (λ e. cc);
       got_once = h.got_once;
+      operated_words = λ a c u d p r n e.
+          let f = owned_forced i r.message.ident (At m q) (g.owner r.message.ident) a c u (λ z. cc) e in
+          elim (mem_put b.rows m q told d p r n) [
+            | inl z ↦ h.operated_words a c u d p r z f
+            | inr z ↦ absurd (cc (f, ap (λ (y : Row). g.owner y.message.ident) z.2, ap g.owner (told_ident told row same), hand))
+          ];
+      persistence =
+          let p = h.persistence in
+          record {
+            flag = flagged i (is_persistent row.message) p.flag;
+            of_row = λ a c x n. elim (mem_put w.rows m q row a c x n) [
+              | inl z ↦ flag_is i x.message.ident (is_persistent row.message) (is_persistent x.message) p.flag (agrees a c x z) (p.of_row a c x z)
+              | inr z ↦ flag_new i x.message.ident (is_persistent row.message) (is_persistent x.message) p.flag (ap ident_of z.2) (ap (λ (y : Row). is_persistent y.message) z.2)
+            ];
+            of_put = λ a k d y n. flag_is i y.ident (is_persistent row.message) (is_persistent y) p.flag (λ e. absurd (cc (h.pending a k y.ident (put_in d y (w.units a k) n), ap g.owner e, hand))) (p.of_put a k d y n);
+            of_unit = λ a c u t z no_ n. flag_is i t.ident (is_persistent row.message) t.lasting p.flag (λ e. absurd (cc (h.live a c u t z no_ n, ap g.owner e, hand))) (p.of_unit a c u t z no_ n);
+            of_operated = λ a c u t z n. flag_is i t.ident (is_persistent row.message) t.lasting p.flag (λ e. absurd (cc (h.operated a c u t z n, ap g.owner e, hand))) (p.of_operated a c u t z n);
+          };
       distinct = λ a c. bool_case (is_here m q a c) (λ t. AreDistinct (idents_in (if t then insert_row row (w.rows m q) else w.rows a c)))
           (λ e. distinct_insert row (w.rows m q) (absent w g b h m q i hand) (h.distinct m q)) (λ e. h.distinct a c);
       back = λ a c x n s. elim (mem_put w.rows m q row a c x n) [
@@ -132,9 +153,9 @@ pub record Fits (w : World) (own : Ident → Owner) (us bus : ℕ → ℕ → Li
 
 pub reowns : (w : World) (g : Ghost) (b : Book) (i : Ident) (old new : Owner) (units bunits : ℕ → ℕ → List Item) (given : Ident → Bool) (gone got : List Ident) → Inv w g b
     → g.owner i ≡ old → IsAside old → is_forced new ≡ false → ((a : ℕ) → IsElsewhere a old → IsElsewhere a new)
-    → Fits w (λ j. owned i new j (g.owner j)) units bunits given gone got
+    → Fits w (λ j. owned i new j (g.owner j)) units bunits given gone got → Lasting w.rows units w.holds w.last g.sent g.operated
     → Inv (record { rows = w.rows; units = units; given = given; holds = w.holds; doubt = w.doubt; last = w.last }) (after g (owned i new)) (record { rows = b.rows; units = bunits; gone = gone; got = got })
-reowns w g b i old new units bunits given gone got h own aside free far fits =
+reowns w g b i old new units bunits given gone got h own aside free far fits lasting =
     let other = owned_other g.owner i in
     record {
       sorted = h.sorted;
@@ -158,6 +179,8 @@ reowns w g b i old new units bunits given gone got h own aside free far fits =
       gone = fits.gone;
       got = fits.got;
       got_once = fits.got_once;
+      operated_words = λ a c u d p r n e. h.operated_words a c u d p r n (owned_forced i r.message.ident new (g.owner r.message.ident) a c u (λ z. true_false (sym (ap is_forced z) ∙ free)) e);
+      persistence = lasting;
       distinct = h.distinct;
       back = λ m q x n s. away_owned m i x.message.ident new old g.owner own (far m) (h.back m q x n s);
       same = λ m q.
@@ -186,7 +209,7 @@ gives w g b m i h new =
       gone = λ j n. other j (InHand m) Unborn Gone own (h.gone j n) (λ e. cc);
       got = λ j n. other j (InHand m) Unborn Gone own (h.got j n) (λ e. cc);
       got_once = h.got_once;
-    })
+    }) h.persistence
 
 -- what is in hand goes for good
 pub buries : (w : World) (g : Ghost) (b : Book) (m : ℕ) (by_get : Bool) (i : Ident) → Inv w g b → g.owner i ≡ InHand m → w.given i ≡ true
@@ -204,7 +227,7 @@ buries w g b m true i h own known =
       gone = λ j. elim [ inl z ↦ rw z (owned_self i (g.owner i) Gone) | inr n ↦ other j Gone (InHand m) Gone own (h.gone j n) (λ e. cc) ];
       got = λ j. elim [ inl z ↦ rw z (owned_self i (g.owner i) Gone) | inr n ↦ other j Gone (InHand m) Gone own (h.got j n) (λ e. cc) ];
       got_once = ((λ y n. is_false (same_ident i y) (λ s. cc (h.got y n, ap g.owner (ident_yes i y s), own))), h.got_once);
-    })
+    }) h.persistence
 buries w g b m false i h own known =
     let other = owned_other g.owner i in
     reowns w g b i (InHand m) Gone w.units b.units w.given (i ∷ b.gone) b.got h own tt refl (λ a z. tt) (record {
@@ -218,7 +241,7 @@ buries w g b m false i h own known =
       gone = λ j. elim [ inl z ↦ rw z (owned_self i (g.owner i) Gone) | inr n ↦ other j Gone (InHand m) Gone own (h.gone j n) (λ e. cc) ];
       got = λ j n. other j Gone (InHand m) Gone own (h.got j n) (λ e. cc);
       got_once = h.got_once;
-    })
+    }) h.persistence
 
 -- A free row is taken off its queue.
 claim_free : (m a : ℕ) (q c : List ℕ) (x : Option Holder) → At m q ≡ claim a c x → (a ≡ m) × (c ≡ q)
@@ -288,6 +311,8 @@ lifts_row w g b m q x h here none =
       gone = λ j n. other j (InHand m) (At m q) Gone own (h.gone j n) (λ e. cc);
       got = λ j n. other j (InHand m) (At m q) Gone own (h.got j n) (λ e. cc);
       got_once = h.got_once;
+      operated_words = λ a c u d p r n e. h.operated_words a c u d p r (mem_keep _ r (b.rows d p) n).0 (owned_forced i r.message.ident (InHand m) (g.owner r.message.ident) a c u (λ z. cc) e);
+      persistence = lasts w.rows (lift_row w m q i).rows w.units w.units w.holds w.last g.sent g.operated h.persistence (λ a c y n. (y, (old a c y n).0, refl)) (λ a k p message n. n);
       distinct = λ a c. distinct_keep _ _ (h.distinct a c);
       back = λ a c y n s. away_owned a i y.message.ident (InHand m) (At m q) g.owner own (λ ne. ne) (h.back a c y (old a c y n).0 s);
       same = λ a c.

@@ -13,9 +13,10 @@ use Rattle.mq_sync.specs.Units.{same_unit}
 use Rattle.mq_spec_network.specs.Story.{Mem}
 use Rattle.mq_spec_network.specs.Promised.{AreDistinct}
 use Rattle.mq_spec_network.specs.Standing.{row_told, rows_told}
+use Rattle.mq_spec_state.specs.Reads.{is_persistent}
 use Rattle.mq_law_rows.specs.Families.{is_here, put_at}
-use Rattle.mq_law_rows.specs.World.{World, Book, Ghost, Tag, Owner, Unborn, At, InBatch, Forced, InUnit, Gone, tag_of, tag_idents, ident_of, idents_in, is_last, away, stands, row_stands, standing, is_forced, is_counted, counted, claim, IsHeldBy, IsElsewhere, LanesRise, Inv}
-use Rattle.mq_law_rows.specs.Kinds.{among, Landing, landing_told, landing_tag, place_all, lands_on, unit_at, receive, book_receive, received, ghost_receive, awaits, Commits}
+use Rattle.mq_law_rows.specs.World.{World, Book, Ghost, Mark, Tag, Owner, Unborn, At, InBatch, Forced, InUnit, Gone, tag_of, tag_mark, tag_idents, ident_of, idents_in, is_last, away, stands, row_stands, standing, is_forced, is_counted, counted, claim, IsHeldBy, IsElsewhere, LanesRise, Inv}
+use Rattle.mq_law_rows.specs.Kinds.{among, Landing, landing_told, landing_mark, place_all, lands_on, unit_at, receive, book_receive, received, ghost_receive, awaits, Commits}
 use Rattle.mq_law_rows.proofs.Lists.{true_false, and_false, and_right, and_left, and_swap, eqb_self, bool_case, is_false, ident_yes, ident_self, here_yes, here_self, mem_insert, mem_insert_old, mem_keep, mem_kept, map_mem, mem_map, sorted_insert, sorted_keep, distinct_insert, distinct_keep, keep_insert, keep_swap, told_insert, told_keep}
 
 -- Idents of a list
@@ -87,7 +88,14 @@ lands_there (x ∷ ls) l o (inr n) =
     absurd (cc (o.0 l.row.message.ident (mem_map (λ (l : Landing). l.row.message.ident) l ls n), ident_self x.row.message.ident, ap (λ y. same_ident x.row.message.ident y) same)))
     (λ e. lands_there ls l o.1 n)
 
-pub tags_idents : (ls : List Landing) → tag_idents (map landing_tag ls) ≡ landing_idents ls
+abbrev mark_idents : List Mark → List Ident
+mark_idents ts = map (λ (t : Mark). t.ident) ts
+
+marks_idents : (ts : List Tag) → mark_idents (map tag_mark ts) ≡ tag_idents ts
+marks_idents [] = refl
+marks_idents (t ∷ ts) = ap (λ (is : List Ident). t.ident ∷ is) (marks_idents ts)
+
+pub tags_idents : (ls : List Landing) → mark_idents (map landing_mark ls) ≡ landing_idents ls
 tags_idents [] = refl
 tags_idents (l ∷ ls) = ap (λ (is : List Ident). l.row.message.ident ∷ is) (tags_idents ls)
 
@@ -192,8 +200,15 @@ landed t a d x l is ls o at ex ed am on none =
     let y : x.by ≡ None = ap (λ (r : Row). r.by) ex ∙ none in
     rw (i, y, at, ed, am) (ap (At t) on)
 
+-- what is sent is as persistent as its ident is
+pub sent_flag : (w : World) (g : Ghost) (b : Book) (m : ℕ) (c : List ℕ) (u : Luw) (t : ℕ) → (h : Inv w g b) → Commits w g m c u t → (s : Tag) → Mem s (g.sent m c u) → s.lasting ≡ h.persistence.flag s.ident
+sent_flag w g b m c u t h k s n =
+    bool_case (awaits w m c u) (λ z. awaits w m c u ≡ z → s.lasting ≡ h.persistence.flag s.ident)
+    (λ z e. let holds = holds_means (w.doubt m c) (w.holds m c) u e in h.persistence.of_unit m c u s holds (k.others u holds) n)
+    (λ z e. h.persistence.of_operated m c u s (h.forced m c u s.ident (k.mine s.ident (mem_map (λ (t : Tag). t.ident) s (g.sent m c u) n) ∙ ap (λ y. if y then InBatch m c else Forced m c u) e)).0 n) refl
+
 pub receives : (w : World) (g : Ghost) (b : Book) (m : ℕ) (c : List ℕ) (u : Luw) (t : ℕ) (ls ks : List Landing) → Inv w g b → Commits w g m c u t
-    → map landing_tag ls ≡ g.sent m c u → map landing_told ks ≡ map landing_told ls → ((l : Landing) → Mem l ls → l.row.by ≡ None)
+    → map landing_mark ls ≡ map tag_mark (g.sent m c u) → map landing_told ks ≡ map landing_told ls → ((l : Landing) → Mem l ls → l.row.by ≡ None)
     → Inv (receive w m c u t (tag_idents (g.sent m c u)) ls) (ghost_receive g m c u t (tag_idents (g.sent m c u)) ls) (book_receive b t (tag_idents (g.sent m c u)) ks)
 receives w g b m c u t ls ks h k tags told free_ =
     let ids : List Ident = tag_idents (g.sent m c u) in
@@ -203,7 +218,7 @@ receives w g b m c u t ls ks h k tags told free_ =
     let f : Ident → Owner → Owner = received t ids ls in
     let test : ℕ → Row → Bool = λ a y. not ((a == t) && among ids y.message.ident) in
     let own : (i : Ident) → among ids i ≡ true → g.owner i ≡ (if flag then InBatch m c else Forced m c u) = λ i n. k.mine i (any_mem i ids n) in
-    let land_ids : landing_idents ls ≡ ids = sym (tags_idents ls) ∙ ap tag_idents tags in
+    let land_ids : landing_idents ls ≡ ids = sym (tags_idents ls) ∙ ap mark_idents tags ∙ marks_idents (g.sent m c u) in
     let land_once : AreDistinct (landing_idents ls) = subst AreDistinct (sym land_ids) k.once in
     let land_among : (l : Landing) → Mem l ls → among ids l.row.message.ident ≡ true = λ l n. mem_any _ ids (subst (λ (is : List Ident). Mem l.row.message.ident is) land_ids (mem_map (λ (l : Landing). l.row.message.ident) l ls n)) in
     let holds : flag ≡ true → w.holds m c ≡ Some u = λ e. holds_means (w.doubt m c) (w.holds m c) u e in
@@ -252,10 +267,11 @@ receives w g b m c u t ls ks h k tags told free_ =
     (λ z f at. true_false (sym e ∙ rw (← at, eqb_self t, z) refl))
     (λ z f. h.back a d x n (let q : (test a x && false) ≡ (stands (away w a) x.by && true) = ap (λ y. test a x && y) (sym s) ∙ agrees a d x n ∙ ap (λ y. stands (away w a) x.by && not y) z in
     and_true_false _ true (sym q ∙ and_false (test a x)))) refl in
-    let ks_counted : (l : Landing) → Mem l ks → is_counted (λ j. f j (g.owner j)) l.row ≡ true = λ l n.
+    let ks_among : (l : Landing) → Mem l ks → among ids l.row.message.ident ≡ true = λ l n.
     let same : landing_idents ks ≡ ids = sym (told_landings ks) ∙ ap landing_idents told ∙ told_landings ls ∙ land_ids in
-    let there : among ids l.row.message.ident ≡ true = mem_any _ ids (subst (λ (is : List Ident). Mem l.row.message.ident is) same (mem_map (λ (l : Landing). l.row.message.ident) l ks n)) in
-    ap (λ o. not (is_forced o)) (received_mine t ids ls l.row.message.ident (g.owner l.row.message.ident) there) in
+    mem_any _ ids (subst (λ (is : List Ident). Mem l.row.message.ident is) same (mem_map (λ (l : Landing). l.row.message.ident) l ks n)) in
+    let ks_counted : (l : Landing) → Mem l ks → is_counted (λ j. f j (g.owner j)) l.row ≡ true = λ l n.
+    ap (λ o. not (is_forced o)) (received_mine t ids ls l.row.message.ident (g.owner l.row.message.ident) (ks_among l n)) in
     record {
       sorted = λ a d. sorted_all t ls a d _ (sorted_keep (test a) _ (h.sorted a d));
       shelved = λ a d. sorted_all t ks a d _ (sorted_keep _ _ (h.shelved a d));
@@ -302,6 +318,25 @@ receives w g b m c u t ls ks h k tags told free_ =
       gone = λ j n. other j Gone (h.gone j n) (λ e. cc) (λ e. cc);
       got = λ j n. other j Gone (h.got j n) (λ e. cc) (λ e. cc);
       got_once = h.got_once;
+      operated_words = λ a d x e q r n z.
+          let out : among ids r.message.ident ≡ false = is_false _ (λ y. at_forced t (lands_on ls r.message.ident) a d x (sym (received_mine t ids ls r.message.ident (g.owner r.message.ident) y) ∙ z)) in
+          elim (mem_all t ks e q _ r n) [
+            | inl y ↦ h.operated_words a d x e q r (mem_keep _ r (b.rows e q) y).0 (sym (ap (λ z. if z then At t (lands_on ls r.message.ident) else g.owner r.message.ident) out) ∙ z)
+            | inr y ↦ absurd (true_false (sym (ap (λ (x : Row). among ids x.message.ident) y.1.2 ∙ ks_among y.1.0 y.1.1) ∙ out))
+          ];
+      persistence =
+          let p = h.persistence in
+          record {
+            flag = p.flag;
+            of_row = λ a d x n. elim (mem_all t ls a d _ x n) [
+              | inl z ↦ p.of_row a d x (old a d x z).0
+              | inr z ↦ let s = map_mem tag_mark (landing_mark z.1.0) (g.sent m c u) (subst (λ (l : List Mark). Mem (landing_mark z.1.0) l) tags (mem_map landing_mark z.1.0 ls z.1.1)) in
+                  ap (λ (y : Row). is_persistent y.message) z.1.2 ∙ ap (λ (y : Mark). y.lasting) s.2 ∙ sent_flag w g b m c u t h k s.0 s.1 ∙ ap (λ (y : Mark). p.flag y.ident) (sym s.2) ∙ ap (λ (y : Row). p.flag y.message.ident) (sym z.1.2)
+            ];
+            of_put = p.of_put;
+            of_unit = λ a d x s z no_ n. p.of_unit a d x s z (not_last a d x z no_) n;
+            of_operated = λ a d x s z n. p.of_operated a d x s (still a d x z).0 n;
+          };
       distinct = λ a d. distinct_all t ls a d _ land_once (distinct_keep (test a) _ (h.distinct a d))
           (λ i at n y. let r = map_mem ident_of i (keep (test a) (w.rows a d)) y in
           let q = mem_keep (test a) r.0 (w.rows a d) r.1 in

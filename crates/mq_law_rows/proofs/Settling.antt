@@ -1,5 +1,5 @@
 -- Batches that are dropped, forced by an operator, held and prepared, and rows that a stop loses, keep the facts.
-use Rattle.std.proofs.Common.{ℕ, ◌≡◌, ◌≢◌, Bool, true, false, not, List, refl, ap, sym, subst, ◌∙◌, arith}
+use Rattle.std.proofs.Common.{ℕ, ◌≡◌, ◌≢◌, Bool, true, false, not, List, [], ◌∷◌, refl, ap, sym, subst, ◌∙◌, arith, inl, inr}
 use Rattle.std.specs.Prelude.{Option, Some, None, ◌==◌, if◌then◌else◌, ◌&&◌}
 use Rattle.std.proofs.lemmas.Bool.Decides.{nat_tests}
 use Rattle.mq_message.specs.declared.message.Ident.{Ident}
@@ -16,12 +16,13 @@ use Rattle.mq_spec_network.specs.Standing.{row_told, rows_told}
 use Rattle.mq_law_rows.specs.Families.{is_here}
 use Rattle.mq_law_rows.specs.World.{World, Book, Ghost, Tag, Owner, Unborn, InBatch, Forced, InUnit, Gone, tag_of, tag_idents, away, stands, row_stands, standing, is_forced, is_counted, counted, claim, IsHeldBy, IsElsewhere, IsPlaced, Inv}
 use Rattle.mq_law_rows.specs.Kinds.{among, unit_at, has_batch, drop_batch, ghost_force, is_lost, lose, book_lose, awaits, Commits}
-use Rattle.mq_law_rows.proofs.Lists.{true_false, and_false, and_right, and_left, and_swap, eqb_self, name_self, bool_case, here_yes, here_self, mem_keep, mem_kept, map_mem, mem_map, sorted_keep, distinct_keep, keep_swap, keep_all, told_keep}
-use Rattle.mq_law_rows.proofs.Owners.{standing_row}
-use Rattle.mq_law_rows.proofs.Receiving.{any_mem, mem_any}
+use Rattle.mq_law_rows.proofs.Lists.{true_false, and_false, and_right, and_left, and_swap, eqb_self, name_self, bool_case, once_not, here_yes, here_self, mem_keep, mem_kept, map_mem, mem_map, sorted_keep, distinct_keep, keep_swap, keep_all, told_keep}
+use Rattle.mq_law_rows.proofs.Owners.{standing_row, ledger_row, told_ident}
+use Rattle.mq_law_rows.proofs.Lasting.{lasts as persists}
+use Rattle.mq_law_rows.proofs.Receiving.{any_mem, mem_any, holds_means, sent_flag}
 use Rattle.mq_law_rows.proofs.Batches.{batch_yes, batch_no, batch_other, not_last, held_none, stands_put_down}
 
-told_tag : (x y : Row) → row_told x ≡ row_told y → tag_of x.message ≡ tag_of y.message
+pub told_tag : (x y : Row) → row_told x ≡ row_told y → tag_of x.message ≡ tag_of y.message
 told_tag x y e = ap (λ (r : Row). tag_of r.message) e
 
 -- what of a queue stays where the batch goes
@@ -66,6 +67,16 @@ drops_batch w g b m c h gone_ =
       gone = h.gone;
       got = h.got;
       got_once = h.got_once;
+      operated_words = h.operated_words;
+      persistence =
+          let p = h.persistence in
+          record {
+            flag = p.flag;
+            of_row = λ a d y n. p.of_row a d y (old a d y n).0;
+            of_put = p.of_put;
+            of_unit = λ a e u t z no_ n. p.of_unit a e u t (held_none w m c a e z).1 no_ n;
+            of_operated = p.of_operated;
+          };
       distinct = λ a d. distinct_keep _ _ (h.distinct a d);
       back = λ a d y n s. let k = old a d y n in h.back a d y k.0 (sym (stands_put_down w m c a y.by k.1) ∙ s);
       same = λ a d. h.same a d ∙ sym (ap rows_told (
@@ -106,6 +117,42 @@ or_self false = refl
 
 unheld_batch : (a k m : ℕ) (c : List ℕ) (o : Owner) → o ≡ InBatch m c → IsHeldBy a k o → ⊥
 unheld_batch a k m c o e n = subst (IsHeldBy a k) e n
+
+-- what the ledger has of a message of a unit that its receiver has not committed is the message that was sent
+claims_batch : (m a : ℕ) (c d : List ℕ) (x : Option Holder) → InBatch m c ≡ claim a d x → (a ≡ m) × (x ≡ Some (holders.Batch c))
+claims_batch m a c d None e = absurd cc
+claims_batch m a c d (Some (holders.Unit k)) e = absurd cc
+claims_batch m a c d (Some (holders.Batch f)) e = let p : m ≡ a = cc in let q : c ≡ f = cc in (sym p, ap (λ z. Some (holders.Batch z)) (sym q))
+
+pub batch_words : (w : World) (g : Ghost) (b : Book) → Inv w g b → (m : ℕ) (c : List ℕ) (u : Luw) → w.holds m c ≡ Some u → (a : ℕ) (q : List ℕ) (r : Row) → Mem r (b.rows a q) → g.owner r.message.ident ≡ InBatch m c → Mem (tag_of r.message) (g.sent m c u)
+batch_words w g b h m c u holds a q r n own =
+    elim (ledger_row w g b h a q r n) [
+      | inl z ↦ absurd (true_false (sym z ∙ ap is_forced own))
+      | inr z ↦ let x : Row = z.0 in
+          let p = claims_batch m a c q x.by (sym own ∙ ap g.owner (told_ident r x z.3) ∙ h.claims a q x z.1 z.2) in
+          subst (λ (l : List Tag). Mem (tag_of r.message) l) (ap (λ k. g.sent k c u) p.0) (subst (λ (s : Tag). Mem s (g.sent a c u)) (sym (told_tag r x z.3)) ((h.batch a q x c z.1 p.1).2 u (rw (p.0) holds)))
+    ]
+
+one_tag : (ts : List Tag) → AreDistinct (tag_idents ts) → (s t : Tag) → Mem s ts → Mem t ts → s.ident ≡ t.ident → s ≡ t
+one_tag [] o s t n k e = absurd n
+one_tag (x ∷ xs) o s t (inl a) (inl b) e = a ∙ sym b
+one_tag (x ∷ xs) o s t (inl a) (inr b) e = absurd (once_not x.ident (tag_idents xs) o.0 (subst (λ (i : Ident). Mem i (tag_idents xs)) (sym e ∙ ap (λ (z : Tag). z.ident) a) (mem_map (λ (z : Tag). z.ident) t xs b)))
+one_tag (x ∷ xs) o s t (inr a) (inl b) e = absurd (once_not x.ident (tag_idents xs) o.0 (subst (λ (i : Ident). Mem i (tag_idents xs)) (e ∙ ap (λ (z : Tag). z.ident) b) (mem_map (λ (z : Tag). z.ident) s xs a)))
+one_tag (x ∷ xs) o s t (inr a) (inr b) e = one_tag xs o.1 s t a b e
+
+-- What its receiver may commit is what the ledger has of these idents,
+pub sent_words : (w : World) (g : Ghost) (b : Book) (m : ℕ) (c : List ℕ) (u : Luw) (t : ℕ) → Inv w g b → Commits w g m c u t → (s : Tag) (a : ℕ) (q : List ℕ) (r : Row) → Mem s (g.sent m c u) → Mem r (b.rows a q) → r.message.ident ≡ s.ident → tag_of r.message ≡ s
+sent_words w g b m c u t h k s a q r n there e =
+    let own = ap g.owner e ∙ k.mine s.ident (mem_map (λ (z : Tag). z.ident) s (g.sent m c u) n) in
+    let tag : Mem (tag_of r.message) (g.sent m c u) =
+    bool_case (awaits w m c u) (λ z. awaits w m c u ≡ z → Mem (tag_of r.message) (g.sent m c u))
+    (λ z f. batch_words w g b h m c u (holds_means (w.doubt m c) (w.holds m c) u f) a q r there (own ∙ ap (λ y. if y then InBatch m c else Forced m c u) f))
+    (λ z f. h.operated_words m c u a q r there (own ∙ ap (λ y. if y then InBatch m c else Forced m c u) f)) refl in
+    one_tag (g.sent m c u) k.once (tag_of r.message) s tag n e
+
+-- and a row of such an ident is as persistent, wherever it is
+pub sent_lasting : (w : World) (g : Ghost) (b : Book) (m : ℕ) (c : List ℕ) (u : Luw) (t : ℕ) → Inv w g b → Commits w g m c u t → (s : Tag) (a : ℕ) (q : List ℕ) (x : Row) → Mem s (g.sent m c u) → Mem x (w.rows a q) → x.message.ident ≡ s.ident → is_persistent x.message ≡ s.lasting
+sent_lasting w g b m c u t h k s a q x n there e = h.persistence.of_row a q x there ∙ ap h.persistence.flag e ∙ sym (sent_flag w g b m c u t h k s n)
 
 pub forces_unit : (w : World) (g : Ghost) (b : Book) (m : ℕ) (c : List ℕ) (u : Luw) → Inv w g b → w.holds m c ≡ Some u → w.last m c ≢ u
     → Inv (drop_batch w m c) (ghost_force g m c u) b
@@ -165,6 +212,20 @@ forces_unit w g b m c u h holds new =
       gone = λ j n. other j Gone (h.gone j n) (λ e. cc);
       got = λ j n. other j Gone (h.got j n) (λ e. cc);
       got_once = h.got_once;
+      operated_words = λ a d x e q r n. bool_case (among ids r.message.ident) (λ z. among ids r.message.ident ≡ z → (if z then Forced m c u else g.owner r.message.ident) ≡ Forced a d x → Mem (tag_of r.message) (g.sent a d x))
+          (λ y z f. let p = forced_same m a c d u x f in subst (λ (l : List Tag). Mem (tag_of r.message) l) (λ i. g.sent (p.0 i) (p.1 i) (p.2 i)) (batch_words w g b h m c u holds e q r n (mine r.message.ident z)))
+          (λ y z f. h.operated_words a d x e q r n f) refl;
+      persistence =
+          let p = h.persistence in
+          record {
+            flag = p.flag;
+            of_row = λ a d y n. p.of_row a d y (old a d y n).0;
+            of_put = p.of_put;
+            of_unit = λ a e x t z no_ n. p.of_unit a e x t (held_none w m c a e z).1 no_ n;
+            of_operated = λ a d x t. bool_case (unit_at m c u a d x) (λ z. (if z then true else g.operated a d x) ≡ true → Mem t (g.sent a d x) → t.lasting ≡ p.flag t.ident)
+                (λ e z n. let s = unit_at_yes m c u a d x e in p.of_unit m c u t holds new (subst (λ (l : List Tag). Mem t l) (λ i. g.sent (s.0 i) (s.1 i) (s.2 i)) n))
+                (λ e z n. p.of_operated a d x t z n);
+          };
       distinct = λ a d. distinct_keep _ _ (h.distinct a d);
       back = λ a d y n s. let k = old a d y n in
           let far = h.back a d y k.0 (sym (stands_put_down w m c a y.by k.1) ∙ s) in
@@ -220,6 +281,8 @@ loses w g b m h =
       gone = h.gone;
       got = h.got;
       got_once = h.got_once;
+      operated_words = λ a d u e q r n z. h.operated_words a d u e q r (mem_keep _ r (b.rows e q) n).0 z;
+      persistence = persists w.rows (lose w m).rows w.units w.units w.holds w.last g.sent g.operated h.persistence (λ a d y n. (y, old a d y n, refl)) (λ a k q message n. n);
       distinct = λ a d. distinct_keep _ _ (h.distinct a d);
       back = λ a d y n s. h.back a d y (old a d y n) s;
       same = λ a d.

@@ -9,6 +9,7 @@ use Rattle.mq_law_rows.specs.World.{World, Book, Ghost, Tag, tag_of, ident_of, a
 use Rattle.mq_law_rows.proofs.Lists.{mem_retag, mem_retagged, keep_retag}
 use Rattle.mq_law_rows.specs.Kinds.{with_rows}
 use Rattle.mq_law_rows.proofs.Batches.{retag_idents}
+use Rattle.mq_law_rows.proofs.Lasting.{row_flag}
 
 -- a change of each row that leaves its lane, its holder, and what is told of it
 pub record IsAlike (change : Row → Row) : Type 0 where
@@ -60,6 +61,14 @@ retells w g b change h alike =
       gone = h.gone;
       got = h.got;
       got_once = h.got_once;
+      operated_words = h.operated_words;
+      persistence = record {
+        flag = h.persistence.flag;
+        of_row = λ m q y n. let r = mem_retag (change m) y (w.rows m q) n in row_flag h.persistence.flag r.0 y (ap (λ (z : Row). tag_of z.message) r.2 ∙ (alike m).tag r.0) (h.persistence.of_row m q r.0 r.1);
+        of_put = h.persistence.of_put;
+        of_unit = h.persistence.of_unit;
+        of_operated = h.persistence.of_operated;
+      };
       distinct = λ m q. subst AreDistinct (sym (retag_idents (change m) (same_ident_ m) (w.rows m q))) (h.distinct m q);
       back = λ m q y n s. let r = mem_retag (change m) y (w.rows m q) n in
           let by_ : r.0.by ≡ y.by = sym (ap (λ (x : Row). x.by) r.2 ∙ (alike m).by r.0) in
@@ -97,6 +106,14 @@ untells w g b change alike h =
       gone = h.gone;
       got = h.got;
       got_once = h.got_once;
+      operated_words = h.operated_words;
+      persistence = record {
+        flag = h.persistence.flag;
+        of_row = λ m q y n. row_flag h.persistence.flag (change m y) y (sym ((alike m).tag y)) (h.persistence.of_row m q (change m y) (mem_retagged (change m) y (w.rows m q) n));
+        of_put = h.persistence.of_put;
+        of_unit = h.persistence.of_unit;
+        of_operated = h.persistence.of_operated;
+      };
       distinct = λ m q. subst AreDistinct (retag_idents (change m) (same_ident_ m) (w.rows m q)) (h.distinct m q);
       back = λ m q y n s. subst (λ j. IsElsewhere m (g.owner j)) (same_ident_ m y) (h.back m q (change m y) (mem_retagged (change m) y (w.rows m q) n) (ap (stands (away w m)) ((alike m).by y) ∙ s));
       same = λ m q. h.same m q ∙ keep_retag (row_stands (away w m)) (row_stands (away w m)) (change m) (w.rows m q) (λ x n. ap (stands (away w m)) ((alike m).by x)) (λ x. (alike m).told x);

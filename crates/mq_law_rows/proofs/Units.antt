@@ -8,6 +8,7 @@ use Rattle.mq_queue.specs.declared.row.Row.{Row}
 use Rattle.mq_queue.specs.Rows.{same_ident, keep, held_by}
 use Rattle.mq_sync.specs.declared.unit.Unit.{Unit as Luw}
 use Rattle.mq_spec_state.specs.Changes.{retag_if, release_if}
+use Rattle.mq_spec_state.specs.Reads.{is_persistent}
 use Rattle.mq_spec_network.specs.Story.{Mem}
 use Rattle.mq_spec_network.specs.Promised.{AreDistinct}
 use Rattle.mq_spec_network.specs.Standing.{rows_told}
@@ -21,6 +22,7 @@ use Rattle.mq_law_rows.specs.World.{item_told, items_told}
 use Rattle.mq_law_rows.specs.Kinds.{after, owned, among, is_row, with_units, book_units, hold_row, book_hold, has_unit, puts_of, bury_all, take_gets, book_take_gets, spent, back_out, backed_out}
 use Rattle.mq_law_rows.proofs.Lists.{once_not, mem_append, distinct_append, at_yes, at_self}
 use Rattle.mq_law_rows.proofs.Owners.{owned_other, owned_self, held_owned, away_owned, forced_owned, owned_forced}
+use Rattle.mq_law_rows.proofs.Lasting.{flagged, flag_is, flag_new, lasts, put_in, puts_left, not_taken, put_joined}
 use Rattle.mq_law_rows.proofs.Placing.{reowns}
 use Rattle.mq_law_rows.proofs.Receiving.{any_mem, mem_any}
 use Rattle.mq_law_rows.proofs.Batches.{retag_idents, release_place, release_told, release_tag, release_ident, released, unreleased}
@@ -76,8 +78,9 @@ unit_case f m k xs P here other a e =
     bool_case (is_at m k a e) (λ t. P a e (if t then xs else f a e)) (λ z. let p = at_yes m k a e z in rw (p.0, p.1) here) (λ z. other a e z)
 
 pub pends : (w : World) (g : Ghost) (b : Book) (m k : ℕ) (q : List ℕ) (message : Message) → Inv w g b → g.owner message.ident ≡ InHand m → w.given message.ident ≡ true
+    → ((a : ℕ) (d : List ℕ) (x : Row) → Mem x (w.rows a d) → x.message.ident ≡ message.ident → is_persistent x.message ≡ is_persistent message)
     → Inv (with_units w m k (w.units m k ++ Put q message ∷ [])) (after g (owned message.ident (InUnit m k))) (book_units b m k (b.units m k ++ Put q message ∷ []))
-pends w g b m k q message h own known =
+pends w g b m k q message h own known agrees =
     let i : Ident = message.ident in
     let new : Owner = InUnit m k in
     let other = owned_other g.owner i in
@@ -105,6 +108,19 @@ pends w g b m k q message h own known =
       gone = λ j n. other j new (InHand m) Gone own (h.gone j n) (λ e. cc);
       got = λ j n. other j new (InHand m) Gone own (h.got j n) (λ e. cc);
       got_once = h.got_once;
+    }) (let p = h.persistence in record {
+      flag = flagged i (is_persistent message) p.flag;
+      of_row = λ a d x n. flag_is i x.message.ident (is_persistent message) (is_persistent x.message) p.flag (agrees a d x n) (p.of_row a d x n);
+      of_put = λ a e d y n.
+          let old : (a e : ℕ) → Mem (Put d y) (w.units a e) → is_persistent y ≡ flagged i (is_persistent message) p.flag y.ident = λ a e n.
+          flag_is i y.ident (is_persistent message) (is_persistent y) p.flag (λ z. absurd (cc (h.pending a e y.ident (put_in d y (w.units a e) n), ap g.owner z, own))) (p.of_put a e d y n) in
+          unit_case w.units m k (xs ++ Put q message ∷ []) (λ a e l. Mem (Put d y) l → is_persistent y ≡ flagged i (is_persistent message) p.flag y.ident)
+          (λ n. elim (put_joined d y xs q message n) [
+            | inl z ↦ old m k z
+            | inr z ↦ flag_new i y.ident (is_persistent message) (is_persistent y) p.flag (ap (λ (x : Message). x.ident) z) (ap is_persistent z)
+          ]) (λ a e z n. old a e n) a e n;
+      of_unit = λ a c u t z no_ n. flag_is i t.ident (is_persistent message) t.lasting p.flag (λ e. absurd (cc (h.live a c u t z no_ n, ap g.owner e, own))) (p.of_unit a c u t z no_ n);
+      of_operated = λ a c u t z n. flag_is i t.ident (is_persistent message) t.lasting p.flag (λ e. absurd (cc (h.operated a c u t z n, ap g.owner e, own))) (p.of_operated a c u t z n);
     })
 
 -- the next put of a unit that is committed is in hand
@@ -130,7 +146,8 @@ unpends w g b m k q message items told h is same =
       gone = λ j n. other j (InHand m) (InUnit m k) Gone own (h.gone j n) (λ e. cc);
       got = λ j n. other j (InHand m) (InUnit m k) Gone own (h.got j n) (λ e. cc);
       got_once = h.got_once;
-    })
+    }) (lasts w.rows w.rows w.units (put_by w.units m k items) w.holds w.last g.sent g.operated h.persistence (λ a d y n. (y, n, refl))
+    (λ a e d y. unit_case w.units m k items (λ a e l. Mem (Put d y) l → Mem (Put d y) (w.units a e)) (λ n. subst (λ l. Mem (Put d y) l) (sym is) (inr n)) (λ a e z n. n) a e))
   where
     unit_here : (m k a e : ℕ) → InUnit m k ≡ InUnit a e → is_at m k a e ≡ true
     unit_here m k a e y = let p : m ≡ a = cc in let r : k ≡ e = cc in rw (← p, ← r) (at_self m k)
@@ -237,6 +254,10 @@ holds_row w g b m q k x lasting h here free_ =
       gone = λ j n. other j new (At m q) Gone own (h.gone j n) (λ e. cc);
       got = λ j n. other j new (At m q) Gone own (h.got j n) (λ e. cc);
       got_once = h.got_once;
+      operated_words = λ a d u e p r n z. h.operated_words a d u e p r n (owned_forced i r.message.ident new (g.owner r.message.ident) a d u (λ z. cc) z);
+      persistence = lasts w.rows v.rows w.units v.units w.holds w.last g.sent g.operated h.persistence
+          (λ a d y n. let r = mem_retag (G a d) y (w.rows a d) n in (r.0, r.1, ap (λ (z : Row). tag_of z.message) r.2 ∙ retag_tag (T a d r.0) (Some o) r.0))
+          (λ a e p y. unit_case w.units m k (xs ++ more) (λ a e l. Mem (Put p y) l → Mem (Put p y) (w.units a e)) (not_taken p y xs q i lasting) (λ a e z n. n) a e);
       distinct = λ a d. subst AreDistinct (sym (retag_idents (G a d) (same_ident_ a d) (w.rows a d))) (h.distinct a d);
       back = λ a d y n s. let r = mem_retag (G a d) y (w.rows a d) n in
           let st : stands (away w a) r.0.by ≡ false = sym (stood a d r.0 r.1) ∙ ap (λ (z : Row). stands (away w a) z.by) (sym r.2) ∙ s in
@@ -347,6 +368,10 @@ takes_gets w g b m k went h from =
       gone = λ j n. elim (from j n) [ inl z ↦ rw (mem_any j ids z) refl | inr z ↦ other j Gone (h.gone j z) (λ q e. cc) ];
       got = λ j n. elim (bury_mem ids b.got j n) [ inl z ↦ rw (mem_any j ids z) refl | inr z ↦ other j Gone (h.got j z) (λ q e. cc) ];
       got_once = bury_once ids b.got (h.gets_once m k) h.got_once (λ j n z. let o = held_is m k (g.owner j) (h.gets m k j n) in cc (o.1, h.got j z));
+      operated_words = λ a d u e q r n. bool_case (among ids r.message.ident) (λ z. (if z then Gone else g.owner r.message.ident) ≡ Forced a d u → Mem (tag_of r.message) (g.sent a d u))
+          (λ y z. absurd cc) (λ y z. h.operated_words a d u e q r (mem_keep _ r (b.rows e q) n).0 z);
+      persistence = lasts w.rows v.rows w.units v.units w.holds w.last g.sent g.operated h.persistence (λ a d y n. (y, (old a d y n).0, refl))
+          (λ a e q y. unit_case w.units m k (puts_of (w.units m k)) (λ a e l. Mem (Put q y) l → Mem (Put q y) (w.units a e)) (puts_left q y (w.units m k)) (λ a e z n. n) a e);
       distinct = λ a d. distinct_keep _ _ (h.distinct a d);
       back = λ a d y n s. let far = h.back a d y (old a d y n).0 s in bool_case (among ids y.message.ident) (λ z. IsElsewhere a (if z then Gone else g.owner y.message.ident)) (λ z. tt) (λ z. far);
       same = λ a d.
@@ -476,6 +501,10 @@ backs_out w g b m k back h =
       gone = λ j n. ap (backed_out m k j) (h.gone j n);
       got = λ j n. ap (backed_out m k j) (h.got j n);
       got_once = h.got_once;
+      operated_words = λ a d u e q r n z. h.operated_words a d u e q r n (backed_forced m k r.message.ident (g.owner r.message.ident) a d u z);
+      persistence = lasts w.rows v.rows w.units v.units w.holds w.last g.sent g.operated h.persistence
+          (λ a d y n. let r = mem_retag (G a) y (w.rows a d) n in (r.0, r.1, ap (λ (z : Row). tag_of z.message) r.2 ∙ release_tag (T a r.0) back r.0))
+          (λ a e q y. unit_case w.units m k [] (λ a e l. Mem (Put q y) l → Mem (Put q y) (w.units a e)) (λ n. absurd n) (λ a e z n. n) a e);
       distinct = λ a d. subst AreDistinct (sym (retag_idents (G a) (same_ident_ a) (w.rows a d))) (h.distinct a d);
       back = λ a d y n s. let r = mem_retag (G a) y (w.rows a d) n in
           let st : stands (away w a) r.0.by ≡ false = sym (stood a r.0) ∙ ap (λ (z : Row). stands (away w a) z.by) (sym r.2) ∙ s in

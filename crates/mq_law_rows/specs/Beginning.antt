@@ -41,6 +41,7 @@ pub record Opens (w : World) (b : Book) (spots : List Spot) (sent : ℕ → List
   pub alone : (m : ℕ) (q d : List ℕ) (h k : Row) → Mem h (w.rows m q) → Mem k (w.rows m d) → h.message.ident ≡ k.message.ident → h ≡ k
   pub single : (m a : ℕ) (q d : List ℕ) (h k : Row) → Mem h (standing w m q) → Mem k (standing w a d) → h.message.ident ≡ k.message.ident → (m ≡ a) × (q ≡ d) × (h ≡ k)
   pub known : (m : ℕ) (q : List ℕ) (h : Row) → Mem h (w.rows m q) → w.given h.message.ident ≡ true
+  pub lasting : (m : ℕ) (q : List ℕ) (h : Row) → Mem h (w.rows m q) → is_persistent h.message ≡ true
   -- a row is free, or of a unit in doubt, which has just its rows
   pub held : (m : ℕ) (q : List ℕ) (h : Row) (k : ℕ) → Mem h (w.rows m q) → h.by ≢ Some (holders.Unit k)
   pub batch : (m : ℕ) (q : List ℕ) (h : Row) (c : List ℕ) → Mem h (w.rows m q) → h.by ≡ Some (holders.Batch c)

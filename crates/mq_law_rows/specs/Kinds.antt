@@ -12,7 +12,7 @@ use Rattle.mq_calls.specs.declared.state.Item.{Item}
 use Rattle.mq_calls.specs.declared.state.Item.TheVariants.{Put, Take}
 use Rattle.mq_spec_state.specs.Reads.{is_persistent}
 use Rattle.mq_law_rows.specs.Families.{is_here, put_at, is_at, put_by}
-use Rattle.mq_law_rows.specs.World.{World, Book, Ghost, Tag, Owner, Unborn, At, HeldBy, InBatch, Forced, InUnit, InHand, Gone, tag_of, tag_idents, is_last, away}
+use Rattle.mq_law_rows.specs.World.{World, Book, Ghost, Mark, Tag, Owner, Unborn, At, HeldBy, InBatch, Forced, InUnit, InHand, Gone, mark_of, tag_of, tag_idents, is_last, away}
 use Rattle.mq_spec_network.specs.Story.{Mem}
 use Rattle.mq_spec_network.specs.Promised.{AreDistinct}
 use Rattle.mq_spec_network.specs.Standing.{row_told}
@@ -70,8 +70,8 @@ pub record Landing : Type 0 where
 abbrev pub landing_told : Landing → Landing
 landing_told l = record { queue = l.queue; row = row_told l.row }
 
-abbrev pub landing_tag : Landing → Tag
-landing_tag l = tag_of l.row.message
+abbrev pub landing_mark : Landing → Mark
+landing_mark l = mark_of l.row.message
 
 abbrev pub place_all : ℕ → List Landing → ℕ → List ℕ → List Row → List Row
 place_all t [] a d xs = xs

@@ -16,12 +16,13 @@ ghost use Rattle.mq_calls.specs.declared.state.Item.TheVariants.{Put};
 ghost use Rattle.mq_spec_network.specs.Promised.{AreDistinct};
 ghost use Rattle.mq_spec_network.specs.Story.{Mem};
 ghost use Rattle.mq_spec_network.specs.Standing.{row_told, rows_told};
-ghost use Rattle.mq_law_rows.specs.World.{Book, Ghost, InHand, At, Gone, InUnit, HeldBy, Inv, Tag, World, away, got_idents, LanesRise, idents_in, is_forced, items_told, standing, tag_idents};
-ghost use Rattle.mq_law_rows.specs.Kinds.{AllBorne, Chosen, Commits, Landing, after, back_out, backed_out, book_bury, book_hold, book_lift, book_lose, book_place, book_receive, book_take_gets, book_units, drop_batch, freed, ghost_force, ghost_hold, ghost_receive, give, hold_batch, hold_row, landing_tag, landing_told, place_all, lift_row, lose, owned, place_row, prepare, receive, release_batch, spent, take_gets, with_units};
+ghost use Rattle.mq_law_rows.specs.World.{Book, Ghost, InHand, At, Gone, InUnit, HeldBy, Inv, Tag, World, away, got_idents, LanesRise, idents_in, is_forced, items_told, standing, tag_idents, tag_mark, tag_of};
+ghost use Rattle.mq_law_rows.specs.Kinds.{AllBorne, Chosen, Commits, Landing, after, back_out, backed_out, book_bury, book_hold, book_lift, book_lose, book_place, book_receive, book_take_gets, book_units, drop_batch, freed, ghost_force, ghost_hold, ghost_receive, give, hold_batch, hold_row, landing_mark, landing_told, place_all, lift_row, lose, owned, place_row, prepare, receive, release_batch, spent, take_gets, with_units};
 ghost use Rattle.mq_law_rows.specs.Beginning.{Opens, Spot, first_owner};
 ghost use Rattle.mq_law_rows.specs.Ordered.{InOrder, IsFront, IsOthers, with_young};
 ghost use Rattle.mq_law_rows.specs.Families.{put_at};
 ghost use Rattle.mq_spec_network.specs.Order.{Before, KeepsQueue};
+ghost use Rattle.mq_spec_state.specs.Reads.{is_persistent};
 ghost use Rattle.mq_spec_node.specs.Doers.{by};
 ghost use Rattle.mq_spec_network.specs.Ledger.{ledger};
 
@@ -30,6 +31,7 @@ ghost use Rattle.mq_spec_network.specs.Ledger.{ledger};
 pub fn rows_that_come_and_go_keep_the_facts()
     ensures given { (w : World) (g : Ghost) (b : Book) (m : ℕ) (i : Ident) → Inv w g b → w.given i ≡ false → Inv (give w i) (after g (owned i (InHand m))) b }
     ensures placed { (w : World) (g : Ghost) (b : Book) (m : ℕ) (q : List ℕ) (row told : Row) → Inv w g b → g.owner row.message.ident ≡ InHand m → row.by ≡ None → row_told told ≡ row_told row
+        → ((a : ℕ) (d : List ℕ) (x : Row) → Mem x (w.rows a d) → x.message.ident ≡ row.message.ident → is_persistent x.message ≡ is_persistent row.message)
         → Inv (place_row w m q row) (after g (owned row.message.ident (At m q))) (book_place b m q told) }
     ensures lifted { (w : World) (g : Ghost) (b : Book) (m : ℕ) (q : List ℕ) (x : Row) → Inv w g b → Mem x (w.rows m q) → x.by ≡ None
         → Inv (lift_row w m q x.message.ident) (after g (owned x.message.ident (InHand m))) (book_lift b m x.message.ident) }
@@ -40,6 +42,7 @@ pub fn rows_that_come_and_go_keep_the_facts()
 /// Units of connections: a put and a get in one, its commit, its backout.
 pub fn units_keep_the_facts()
     ensures pended { (w : World) (g : Ghost) (b : Book) (m k : ℕ) (q : List ℕ) (message : Message) → Inv w g b → g.owner message.ident ≡ InHand m → w.given message.ident ≡ true
+        → ((a : ℕ) (d : List ℕ) (x : Row) → Mem x (w.rows a d) → x.message.ident ≡ message.ident → is_persistent x.message ≡ is_persistent message)
         → Inv (with_units w m k (w.units m k ++ Put q message ∷ [])) (after g (owned message.ident (InUnit m k))) (book_units b m k (b.units m k ++ Put q message ∷ [])) }
     ensures held { (w : World) (g : Ghost) (b : Book) (m : ℕ) (q : List ℕ) (k : ℕ) (x : Row) (lasting : Bool) → Inv w g b → Mem x (w.rows m q) → x.by ≡ None
         → Inv (hold_row w m q k x.message.ident lasting) (after g (owned x.message.ident (HeldBy m q k))) (book_hold b m k x.message.ident) }
@@ -60,10 +63,18 @@ pub fn batches_keep_the_facts()
     ensures dropped { (w : World) (g : Ghost) (b : Book) (m : ℕ) (c : List ℕ) → Inv w g b → away w m c ≡ true → Inv (drop_batch w m c) g b }
     ensures forced { (w : World) (g : Ghost) (b : Book) (m : ℕ) (c : List ℕ) (u : Luw) → Inv w g b → w.holds m c ≡ Some u → w.last m c ≢ u → Inv (drop_batch w m c) (ghost_force g m c u) b }
     ensures received { (w : World) (g : Ghost) (b : Book) (m : ℕ) (c : List ℕ) (u : Luw) (t : ℕ) (ls ks : List Landing) → Inv w g b → Commits w g m c u t
-        → map landing_tag ls ≡ g.sent m c u → map landing_told ks ≡ map landing_told ls → ((l : Landing) → Mem l ls → l.row.by ≡ None)
+        → map landing_mark ls ≡ map tag_mark (g.sent m c u) → map landing_told ks ≡ map landing_told ls → ((l : Landing) → Mem l ls → l.row.by ≡ None)
         → Inv (receive w m c u t (tag_idents (g.sent m c u)) ls) (ghost_receive g m c u t (tag_idents (g.sent m c u)) ls) (book_receive b t (tag_idents (g.sent m c u)) ks) }
     ensures awaited { (w : World) (g : Ghost) (b : Book) (m : ℕ) (c : List ℕ) (u : Luw) (t : ℕ) → Inv w g b → t ≢ m → w.holds m c ≡ Some u → w.doubt m c ≡ true → w.last m c ≢ u → Commits w g m c u t }
     ensures operated { (w : World) (g : Ghost) (b : Book) (m : ℕ) (c : List ℕ) (u : Luw) (t : ℕ) → Inv w g b → t ≢ m → g.operated m c u ≡ true → ((x : Luw) → w.holds m c ≡ Some x → (w.last m c ≢ x) × (x ≢ u)) → Commits w g m c u t }
+{}
+
+/// Of a unit that its receiver may commit, the ledger's rows are the messages that were sent, but for the names that they go by and the
+/// count of their backouts, and each row of such an ident, of whatever manager, is as persistent as the message is.
+pub fn the_facts_know_what_is_sent()
+    ensures words { (w : World) (g : Ghost) (b : Book) (m : ℕ) (c : List ℕ) (u : Luw) (t : ℕ) → Inv w g b → Commits w g m c u t → (s : Tag) (a : ℕ) (q : List ℕ) (r : Row) → Mem s (g.sent m c u) → Mem r (b.rows a q) → r.message.ident ≡ s.ident → tag_of r.message ≡ s }
+    ensures lasting { (w : World) (g : Ghost) (b : Book) (m : ℕ) (c : List ℕ) (u : Luw) (t : ℕ) → Inv w g b → Commits w g m c u t → (s : Tag) (a : ℕ) (q : List ℕ) (x : Row) → Mem s (g.sent m c u) → Mem x (w.rows a q) → x.message.ident ≡ s.ident
+        → is_persistent x.message ≡ s.lasting }
 {}
 
 /// Order: rows are kept, placed last in their lanes, and land; a batch is taken from the front of its queue. So at each

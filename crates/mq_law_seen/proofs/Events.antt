@@ -31,6 +31,7 @@ use Rattle.mq_history.specs.declared.scenario.CableLine.{CableLine}
 use Rattle.mq_law_rows.specs.World.{Ghost, InHand, At, Inv}
 use Rattle.mq_law_rows.specs.Kinds.{after, owned, give, place_row, book_place, with_rows}
 use Rattle.mq_law_seen.specs.Seen.{units_of}
+use Rattle.mq_law_rows.proofs.Lasting.{none_unborn}
 use Rattle.mq_law_rows.proofs.Owners.{owned_self}
 use Rattle.mq_law_rows.proofs.Placing.{gives, places_row}
 use Rattle.mq_law_seen.proofs.Bridges.{queue_set, queue_named, placed_rows, mapped_if, get_changed, places_rows}
@@ -132,7 +133,7 @@ put_keeps s known ps l g m q message p places h is there same new =
     let given_one : Inv (give w i) (after g (owned i (InHand m))) (book_of l) = gives w g (book_of l) m i h new in
     let lane : row_told told ≡ row_told row = ap (λ (d : Definitions). row_told (new_row (lane_of (local_of q d) message.md.priority) 0 message)) same in
     let done : Inv (place_row (give w i) m q row) (after (after g (owned i (InHand m))) (owned i (At m q))) (book_place (book_of l) m q told) =
-    places_row (give w i) (after g (owned i (InHand m))) (book_of l) m q row told given_one (owned_self i (g.owner i) (InHand m)) refl lane in
+    places_row (give w i) (after g (owned i (InHand m))) (book_of l) m q row told given_one (owned_self i (g.owner i) (InHand m)) refl lane (λ a d x n e. absurd (none_unborn w g (book_of l) i h new a d x n e)) in
     subst (λ (v : World). Inv v (after (after g (owned i (InHand m))) (owned i (At m q))) (book_of (ledgers.place m q message l))) (sym world)
     (subst (λ (b : Book). Inv (place_row (give w i) m q row) (after (after g (owned i (InHand m))) (owned i (At m q))) b) (sym book) done)
   where

@@ -254,6 +254,7 @@ openings_open s ps o together =
           let rest = alone_ m q d h k (in_rows m q h n) (subst (λ z. Mem k (w.rows z d)) (sym managers) (in_rows a d k e)) same in
           (managers, rest.0, rest.1);
       known = λ m q h n. let a = row_at ps m q h n in given_of (maker ps h.message.ident.manager) h.message.ident (λ p e. first_of_maker h.message.ident.manager p e) (case_of m q h a.0 a.1 a.2).1;
+      lasting = λ m q h n. let a = row_at ps m q h n in (o.each m a.0 a.1).lasting q h a.2;
       held = λ m q h k n e. let a = row_at ps m q h n in (o.each m a.0 a.1).held q h k a.2 e;
       batch = λ m q h c n e.
           let a = row_at ps m q h n in

@@ -141,7 +141,7 @@ receipt_taken z n x k y l j u qs q a waits far h holds doubt last r =
       last = λ o d e. last o d ∙ ap (λ t. if t then u else (world_in z).last o d) e;
     }
 
-commits : (z : Scene) (n : Node) (x k : Channel) (y : Past) (l : Ledger) (u : Luw) (last : ℕ) (ld : Landed) (rs : List Plain) → IsAtFar z n x y l → Placed x y u → Awaited x y u → IsReady z n.manager l (map stamped x.kept) → landed z.place.channel (map stamped x.kept) n.manager ≡ Ok ld
+commits : (z : Scene) (n : Node) (x k : Channel) (y : Past) (l : Ledger) (u : Luw) (last : ℕ) (ld : Landed) (rs : List Plain) → IsAtFar z n x y l → Placed x y u → Awaited x y u → IsReady z n.manager l → landed z.place.channel (map stamped x.kept) n.manager ≡ Ok ld
     → k.receives.unit ≡ u → IsNext z.receiver n.manager (do_part (received_part z.place.channel u last ld n.manager) n.manager) z.managers rs
     → Taken z (world_of z.scenario z.given rs) (book_of (post_call z.receiver calls.Turn replies.Changed (taken_of (landed z.place.channel (map stamped x.kept) n.manager)) ((received_part z.place.channel u last ld n.manager).delta ++ [])
     (take_all_gone z.receiver ((received_part z.place.channel u last ld n.manager).delta ++ []) l))) k y
@@ -163,8 +163,6 @@ commits z n x k y l u last ld rs a placed waits ready lands far h =
       told = ready.told;
       timed = ready.timed;
       shelved = ready.shelved;
-      words = ready.words;
-      lasting = ready.lasting;
     } in
     let o = receiving.receives z.scenario z.given z.managers rs p l z.ghost z.sender z.receiver c u last ms ld replies.Changed lands h receipt inv in
     let seen = receiving.seen_after z.scenario z.given z.managers rs p l z.ghost z.sender z.receiver c u last ms ld lands h receipt inv in
@@ -174,7 +172,7 @@ commits z n x k y l u last ld rs a placed waits ready lands far h =
     (subst (λ (v : List Did). Taken z (world_of z.scenario z.given rs) (book_of (post_call z.receiver calls.Turn replies.Changed ms v (take_all_gone z.receiver v l))) k y) (sym (append-nil ds)) b)) t
 
 -- a unit that is placed, or refused
-places : (z : Scene) (n : Node) (x : Channel) (y : Past) (l : Ledger) (stamp : ℕ) (seen : Seen) (u : Luw) (o : Result Landed Reason) → IsAtFar z n x y l → Placed x y u → Awaited x y u → IsReady z n.manager l (map stamped x.kept) → landed z.place.channel (map stamped x.kept) n.manager ≡ o
+places : (z : Scene) (n : Node) (x : Channel) (y : Past) (l : Ledger) (stamp : ℕ) (seen : Seen) (u : Luw) (o : Result Landed Reason) → IsAtFar z n x y l → Placed x y u → Awaited x y u → IsReady z n.manager l → landed z.place.channel (map stamped x.kept) n.manager ≡ o
     → EachTaken z n.manager l (Some (place_deed (receiver_of z.place x.receiver x.kept) u seen (receive_landed z.place.channel u (last_by seen x.receiver.last) o n.manager) n))
     (receiver_turned (place_out (receive_landed z.place.channel u (last_by seen x.receiver.last) o n.manager)) (takes.Place u) (taking_turn z.place stamp seen x.receiver x.kept n.manager) x) y
 places z n x y l stamp seen u (Err reason) a placed waits ready lands = λ rs h. says z n x _ y l (notes.Closed x.receiver.session) false rs a tt refl h
@@ -190,7 +188,7 @@ places z n x y l stamp seen u (Ok ld) a placed waits ready lands =
 -- THE TABLE
 -- what a commit rests on, where the table says that one comes
 abbrev pub Committing : Scene → Node → Channel → Past → Ledger → ReceiverDoes → Type 0
-Committing z n x y l (takes.Place u) = Placed x y u × Awaited x y u × IsReady z n.manager l (map stamped x.kept)
+Committing z n x y l (takes.Place u) = Placed x y u × Awaited x y u × IsReady z n.manager l
 Committing z n x y l _ = Unit {0}
 
 taken_by : (z : Scene) (n : Node) (x : Channel) (y : Past) (l : Ledger) (stamp : ℕ) (seen : Seen) (d : ReceiverDoes) → IsAtFar z n x y l → Committing z n x y l d
@@ -206,7 +204,7 @@ taken_by z n x y l stamp seen takes.Close a k = λ rs h. says z n x _ y l (notes
 
 -- the channel's facts give it
 committing : (z : Scene) (n : Node) (x : Channel) (y : Past) (l : Ledger) (stamp : ℕ) (seen : Seen) (d : ReceiverDoes) → receiver_does (taking_turn z.place stamp seen x.receiver x.kept n.manager) x ≡ d → Facts x y → SeenIn seen x.out
-    → ((u : Luw) → receiver_does (taking_turn z.place stamp seen x.receiver x.kept n.manager) x ≡ takes.Place u → (y.near.undone u ≡ false) × IsReady z n.manager l (map stamped x.kept)) → Committing z n x y l d
+    → ((u : Luw) → receiver_does (taking_turn z.place stamp seen x.receiver x.kept n.manager) x ≡ takes.Place u → (y.near.undone u ≡ false) × IsReady z n.manager l) → Committing z n x y l d
 committing z n x y l stamp seen (takes.Place u) e facts offered given =
     let may = may_take z.place stamp seen n x y offered (λ v f. (given v f).0) in
     (following.placed (taking_turn z.place stamp seen x.receiver x.kept n.manager) x y u facts may e, following.awaited (taking_turn z.place stamp seen x.receiver x.kept n.manager) x y u facts may e (given u e).0, (given u e).1)
@@ -220,7 +218,7 @@ committing z n x y l stamp seen takes.Close e facts offered given = tt
 
 pub turns : (z : Scene) (n : Node) (x : Channel) (y : Past) (l : Ledger) (stamp : ℕ) (seen : Seen) → slice_get z.managers z.receiver ≡ Some n.manager → TakesAs z.place n x → Facts x y → IsJoint (world_in z) z.ghost z.book z.sender z.receiver z.place.channel x y
     → z.book ≡ book_of l → SeenIn seen x.out
-    → ((u : Luw) → receiver_does (taking_turn z.place stamp seen x.receiver x.kept n.manager) x ≡ takes.Place u → (y.near.undone u ≡ false) × IsReady z n.manager l (map stamped x.kept))
+    → ((u : Luw) → receiver_does (taking_turn z.place stamp seen x.receiver x.kept n.manager) x ≡ takes.Place u → (y.near.undone u ≡ false) × IsReady z n.manager l)
     → EachTaken z n.manager l (receiver_deed stamp (receiver_of z.place x.receiver x.kept) seen n) (receiver_turn (taking_turn z.place stamp seen x.receiver x.kept n.manager) x) y
 turns z n x y l stamp seen at takes_ facts joint book offered given =
     taken_by z n x y l stamp seen (receiver_next x.receiver seen (is_receiver_defined z.place.channel n.manager.definitions)) (record { at = at; takes_ = takes_; facts = facts; joint = joint; book = book })

@@ -36,7 +36,7 @@ use Rattle.mq_law_manager.specs.Kept.{AllKeep}
 use Rattle.mq_law_events.specs.Posting.{IsTimed}
 use Rattle.mq_law_events.specs.Tied.{AreShelved, Follow, IsFresh, IsTold}
 use Rattle.mq_law_seen.specs.Seen.{book_of}
-use Rattle.mq_law_receipts.specs.Receipts.{AreNumbered, IsCabled, worded}
+use Rattle.mq_law_receipts.specs.Receipts.{AreNumbered, IsCabled}
 
 -- a network and its ledger, with what the proof follows beside them, and one channel: its sender's and its receiver's manager, and
 -- where its end stands
@@ -98,8 +98,8 @@ abbrev pub is_expiry : SenderDoes → Bool
 is_expiry does.Expire = true
 is_expiry _ = false
 
--- Where the receiver may commit these messages: what one manager, the ledger and the story give, beside one channel's facts.
-pub record IsReady (z : Scene) (p : Plain) (l : Ledger) (ms : List Message) : Type 0 where
+-- Where the receiver may commit: what one manager, the ledger and the story give, beside one channel's facts.
+pub record IsReady (z : Scene) (p : Plain) (l : Ledger) : Type 0 where
   pub cabled : IsCabled z.scenario z.managers z.sender z.receiver z.place.channel
   pub sound : IsSound p
   pub numbered : AreNumbered p.connections
@@ -107,8 +107,6 @@ pub record IsReady (z : Scene) (p : Plain) (l : Ledger) (ms : List Message) : Ty
   pub told : IsTold z.receiver p l
   pub timed : IsTimed z.receiver p l
   pub shelved : (a : ℕ) (x : ManagerPlaces) → slice_get l.places a ≡ Some x → AreShelved x.queues
-  pub words : (y : Message) (a : ℕ) (q : List ℕ) (r : Row) → Mem y ms → Mem r (ledger_rows a q l) → r.message.ident ≡ y.ident → worded r.message ≡ worded y
-  pub lasting : (y : Message) (q : List ℕ) (h : Row) → Mem y ms → Mem h (stored q p).rows → h.message.ident ≡ y.ident → is_persistent h.message ≡ is_persistent y
 
 -- After a turn of the receiver's end, with this book.
 pub record Taken (z : Scene) (v : World) (b : Book) (x : Channel) (y : Past) : Type 0 where

@@ -19,7 +19,7 @@ limit_by p q e h = subst (λ (d : Definitions). d.manager.max_message_length ≤
 removal_limit : (why : Why) (q : List ℕ) (rows : List Row) (p : Plain) → HasLimit p → HasLimit (do_part (removal_part why q rows) p)
 removal_limit why q rows p h = limit_by p (do_part (removal_part why q rows) p) (logged_definitions (removal_part why q rows).forced p) h
 
-removals_limit : (why : Why) (q : List ℕ) (rows : List Row) (p : Plain) → HasLimit p → AllKeep HasLimit (removal_parts why q rows) p
+pub removals_limit : (why : Why) (q : List ℕ) (rows : List Row) (p : Plain) → HasLimit p → AllKeep HasLimit (removal_parts why q rows) p
 removals_limit why q [] p h = tt
 removals_limit why q (r ∷ rows) p h = (removal_limit why q (r ∷ rows) p h, tt)
 

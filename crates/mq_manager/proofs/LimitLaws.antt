@@ -19,11 +19,11 @@ use Rattle.mq_law_manager.proofs.Stocks.{live_on, open_on, tested_on, going}
 use Rattle.mq_manager.specs.Facts.{HasLimit}
 
 -- a change that is none of objects
-IsSteady : Change → Type 0
+unfoldable pub IsSteady : Change → Type 0
 IsSteady (ChangeObjects change) = ⊥
 IsSteady _ = Unit {0}
 
-AllSteady : List Change → Type 0
+unfoldable pub AllSteady : List Change → Type 0
 AllSteady [] = Unit {0}
 AllSteady (c ∷ cs) = IsSteady c × AllSteady cs
 
@@ -35,17 +35,17 @@ steady_one (SetBound channel true) p a = refl
 steady_one (SetBound channel false) p a = refl
 steady_one c p a = refl
 
-steady_all : (cs : List Change) (p : Plain) → AllSteady cs → (apply_all cs p).definitions ≡ p.definitions
+pub steady_all : (cs : List Change) (p : Plain) → AllSteady cs → (apply_all cs p).definitions ≡ p.definitions
 unfolding AllSteady
 steady_all [] p a = refl
 steady_all (c ∷ cs) p a = steady_all cs (apply c p) a.1 ∙ steady_one c p a.0
 
-steady_append : (as_ bs : List Change) → AllSteady as_ → AllSteady bs → AllSteady (as_ ++ bs)
+pub steady_append : (as_ bs : List Change) → AllSteady as_ → AllSteady bs → AllSteady (as_ ++ bs)
 unfolding AllSteady
 steady_append [] bs a b = b
 steady_append (x ∷ as_) bs a b = (a.0, steady_append as_ bs a.1 b)
 
-part_limit : (part : Part) (p : Plain) → AllSteady part.changes → HasLimit p → HasLimit (do_part part p)
+pub part_limit : (part : Part) (p : Plain) → AllSteady part.changes → HasLimit p → HasLimit (do_part part p)
 part_limit part p s h = subst (λ (d : Definitions). d.manager.max_message_length ≤ 4194304) (sym (steady_all part.changes (logged part.forced p) s ∙ logged_definitions part.forced p)) h
 
 -- connections and handles
@@ -110,7 +110,7 @@ backout_steady : (c : Connection) → AllSteady (backout_part c).changes
 unfolding AllSteady IsSteady
 backout_steady c = steady_append (flat_map freed_item c.unit) (EndUnit c.number ∷ []) (freed_steady c.unit) (tt, tt)
 
-none_steady : AllSteady []
+pub none_steady : AllSteady []
 unfolding AllSteady
 none_steady = tt
 

@@ -50,7 +50,7 @@ stopped_down n [] left p w = absurd w
 stopped_down zero (part ∷ parts) left p w = refl
 stopped_down (suc n) (part ∷ parts) left p w = stopped_down n parts left (do_part part p) w
 
-true_false : (b : Bool) → b ≡ false → b ≡ true → ⊥
+pub true_false : (b : Bool) → b ≡ false → b ≡ true → ⊥
 true_false b e f = absurd cc
 
 stopped_by_channel : (n : ℕ) (parts : List Part) (left : ℕ) (p : Plain) → AreByChannel p.channels.batches → AllKeep (λ (q : Plain). AreByChannel q.channels.batches) parts p → AreByChannel (stopped_at n parts left p).channels.batches

@@ -1,2 +1,4 @@
+pub mod Due
 pub mod Facts
+pub mod Limits
 pub mod Tells

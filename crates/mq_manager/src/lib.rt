@@ -2,7 +2,9 @@
 #![tactic(auto)]
 
 mod laws;
+mod limit;
 mod manager;
+mod notes;
 
 pub use laws::a_call_keeps_what_the_log_tells;
 pub use manager::Manager;

@@ -1,20 +1,33 @@
 //! The queue manager and its calls.
-ghost use Rattle.std.specs.Prelude.{◌≡◌, []};
+ghost use Rattle.std.specs.Prelude.{◌≡◌, [], Ok, option_copied, option_map};
 ghost use Rattle.mq_spec_state.specs.Words.{Meets, MeetsInRoom, AreLow, is_up};
 ghost use Rattle.mq_core.specs.Values.{WritesLog, manager_of};
+ghost use Rattle.mq_spec_state.specs.Words.{MeetsOrWants};
+ghost use Rattle.mq_spec_manager.specs.Commands.{command};
 ghost use Rattle.mq_spec_manager.specs.Stops.{advance_clock, cut, stop};
 ghost use Rattle.mq_spec_manager.specs.Triggers.{trigger_turn};
+ghost use Rattle.mq_spec_agents.specs.Words.{IsUp, IsSenderHere, HasSeized, HasBatch, CanHold, CanPrepare, CanHarden, HasFreeRow, kept, stock, batch_row, next_row, seize, leave, set_bound, expire, hold_batch, release_batch, prepare, harden, discard};
+ghost use Rattle.mq_agents.specs.Ends.{by_agent, by_memory, by_seize, by_prepare, kept_of, place_and_message};
 ghost use Rattle.mq_steer.specs.Quiet.{quietly, Comes};
+ghost use Rattle.mq_manager.specs.Due.{next_due};
 ghost use Rattle.mq_steer.specs.Turns.{halted};
 ghost use Rattle.mq_spec_manager.specs.Words.{mqconn, mqopen, mqclose, mqput, mqput1, mqget, mqcmit, mqback, mqdisc};
 
+use crate::limit::command_that_fits;
+use crate::notes::harden_note;
+use mq_agents::Hardened;
 use mq_base::NoMemory;
-use mq_calls::{Answer, Appl, Delta, Get, GetAnswer, Halt, Hconn, Hobj, Open, Sent};
+use mq_calls::{
+    AgentStop, Answer, Appl, Delta, Get, GetAnswer, Halt, Hconn, Hobj, Note, Open, PrepareFault,
+    ScRefusal, SeizeFault, Sent, Shown,
+};
 use mq_codes::Reason;
 use mq_core::Core;
 use mq_disk::Disk;
-use mq_message::Md;
-use mq_name::QName;
+use mq_message::{Ident, Md, Message, Place};
+use mq_name::{ChName, QName};
+use mq_objects::{Command, Defs};
+use mq_sync::{Stock, Unit};
 use std::marker::Model;
 
 /// One queue manager. Contracts see it as the plain manager, what its last call did, what stopped
@@ -41,6 +54,27 @@ impl<D: Disk> Manager<D> {
         ensures { result ≡ is_up self.now.plain.running }
     {
         self.core.is_up()
+    }
+
+    /// The moment, in milliseconds since 1970. It takes no memory.
+    pub fn moment(&self) -> u64
+        ensures { result ≡ self.now.plain.moment }
+    {
+        self.core.parts.moment
+    }
+
+    /// The definitions. It takes no memory.
+    pub fn defs(&self) -> &Defs
+        ensures { result.now.definitions ≡ self.now.plain.definitions }
+    {
+        &self.core.parts.defs
+    }
+
+    /// The k of the cut that is armed: the k-th device call from now on is to be stopped; with 0 none is. It takes no memory.
+    pub fn armed(&self) -> u32
+        ensures { result ≡ self.now.plain.log.armed }
+    {
+        self.core.parts.log.armed()
     }
 
     /// MQCONN (MQI reference).
@@ -148,6 +182,14 @@ impl<D: Disk> Manager<D> {
         mq_ends::mqdisc(&mut self.core, hc)
     }
 
+    /// The queue whose trigger is served next: the first, in order of definition, with one due; none at a manager that is down.
+    /// It takes no memory.
+    pub fn next_due(&self) -> Option<QName>
+        ensures { result ≡ next_due self.now.plain }
+    {
+        mq_steer::next_due(&self.core)
+    }
+
     /// The trigger of the first queue, in order of definition, that has one due is served: false exactly where none is.
     ///
     /// # Errors
@@ -159,6 +201,20 @@ impl<D: Disk> Manager<D> {
         ensures told { WritesLog self.old (trigger_turn self.old.plain) (halted result) self.new }
     {
         mq_steer::trigger_turn(&mut self.core)
+    }
+
+    /// Does one MQSC command on objects. The lines are none but for DISPLAY.
+    ///
+    /// # Errors
+    ///
+    /// The first that applies of `Down`, `Exists`, `Missing`, `BadValue` with the first such keyword, `InUse`, `NotEmpty`
+    /// (IBM MQ: MQSC reference); no memory, and nothing has changed: also where ALTER QMGR gives a MAXMSGL above 4,194,304,
+    /// which no record keeps and no reader of commands gives; a forced write that was stopped, which takes the manager down.
+    pub fn command(&mut self, asked: &Command) -> Result<Shown, Halt<ScRefusal>>
+        ensures meets { MeetsOrWants (manager_of self.old) (command asked.now self.old.plain) result (manager_of self.new) }
+        ensures told { WritesLog self.old (command asked.now self.old.plain) result self.new }
+    {
+        command_that_fits(&mut self.core, asked)
     }
 
     /// The moment is later by so many milliseconds, but never past the last one that there is. It takes no memory.
@@ -188,5 +244,157 @@ impl<D: Disk> Manager<D> {
         ensures { Comes (stop self.old.plain) result self.old self.new }
     {
         mq_steer::stop(&mut self.core)
+    }
+
+    /// What this manager's ends of a channel have hardened; none exactly where nothing was hardened yet. It takes no memory.
+    pub fn kept(&self, channel: &ChName) -> Option<Hardened<'_>>
+        ensures { kept_of (option_map (λ k. (option_copied k.sender, option_copied k.receiver)) result) ≡ kept channel.now self.now.plain }
+    {
+        mq_agents::kept(&self.core, channel)
+    }
+
+    /// What a running sender sees of its queue. It takes no memory.
+    pub fn stock(&self, channel: &ChName) -> Stock
+        requires up { IsUp self.now.plain }
+        requires seized { HasSeized channel.now self.now.plain }
+        ensures { result ≡ stock channel.now self.now.plain }
+    {
+        mq_agents::stock(&self.core, channel)
+    }
+
+    /// The row of that number in the batch of a channel, from 1; none exactly where the batch has none. It takes no memory.
+    pub fn batch_row(&self, channel: &ChName, index: u32) -> Option<&Message>
+        ensures { option_copied result ≡ batch_row channel.now index self.now.plain }
+    {
+        mq_agents::batch_row(&self.core, channel, index)
+    }
+
+    /// The first free row of a queue above a place; none exactly where there is none. It takes no memory.
+    pub fn next_row(&self, queue: &QName, after: Option<Place>) -> Option<(Place, &Message)>
+        ensures { option_map (λ r. (r.0, r.1.now)) result ≡ option_map place_and_message (next_row queue.now after self.now.plain) }
+    {
+        mq_agents::next_row(&self.core, queue, after)
+    }
+
+    /// A sender opens its transmission queue, alone: `BadQueue` where its definition names no local queue of USAGE(XMITQ),
+    /// `QueueInUse` where that is open for input, or a unit, or another channel holds a row.
+    ///
+    /// # Errors
+    ///
+    /// As said, and no memory; nothing has changed.
+    pub fn seize(&mut self, channel: &ChName) -> Result<(), SeizeFault>
+        requires up { IsUp self.old.plain }
+        requires here { IsSenderHere channel.now self.old.plain }
+        ensures meets { MeetsOrWants (manager_of self.old) (seize channel.now self.old.plain) (by_seize result) (manager_of self.new) }
+        ensures told { WritesLog self.old (seize channel.now self.old.plain) (by_seize result) self.new }
+    {
+        mq_agents::seize(&mut self.core, channel)
+    }
+
+    /// A sender leaves its transmission queue. It takes no memory.
+    pub fn leave(&mut self, channel: &ChName)
+        requires up { IsUp self.old.plain }
+        ensures meets { MeetsInRoom (manager_of self.old) (leave channel.now self.old.plain) (Ok tt) (manager_of self.new) }
+        ensures told { WritesLog self.old (leave channel.now self.old.plain) (Ok tt) self.new }
+    {
+        mq_agents::leave(&mut self.core, channel);
+    }
+
+    /// Whether a receiver is bound from now on. Only a first bond of a channel takes memory.
+    ///
+    /// # Errors
+    ///
+    /// No memory; nothing has changed.
+    pub fn set_bound(&mut self, channel: &ChName, bound: bool) -> Result<(), NoMemory>
+        requires up { IsUp self.old.plain }
+        ensures meets { MeetsOrWants (manager_of self.old) (set_bound channel.now bound self.old.plain) (by_memory result) (manager_of self.new) }
+        ensures told { WritesLog self.old (set_bound channel.now bound self.old.plain) (by_memory result) self.new }
+    {
+        mq_agents::set_bound(&mut self.core, channel, bound)
+    }
+
+    /// The expired free rows of the queue that a sender has seized leave it, behind one forced record where one of them lasts.
+    /// It is not refused for want of room in the log.
+    ///
+    /// # Errors
+    ///
+    /// The disk or the cut stopped the write, and the manager is down; no memory, and nothing has changed.
+    pub fn expire(&mut self, channel: &ChName) -> Result<(), AgentStop>
+        requires up { IsUp self.old.plain }
+        requires seized { HasSeized channel.now self.old.plain }
+        ensures meets { MeetsOrWants (manager_of self.old) (expire channel.now self.old.plain) (by_agent result) (manager_of self.new) }
+        ensures told { WritesLog self.old (expire channel.now self.old.plain) (by_agent result) self.new }
+    {
+        mq_agents::expire(&mut self.core, channel)
+    }
+
+    /// A sender holds the first free rows of its queue, at most so many, as the next unit; their number.
+    ///
+    /// # Errors
+    ///
+    /// No memory; nothing has changed.
+    pub fn hold_batch(&mut self, channel: &ChName, unit: &Unit, most: u32) -> Result<u32, NoMemory>
+        requires up { IsUp self.old.plain }
+        requires can { CanHold channel.now self.old.plain }
+        ensures meets { MeetsOrWants (manager_of self.old) (hold_batch channel.now unit.now most self.old.plain) (by_memory result) (manager_of self.new) }
+        ensures told { WritesLog self.old (hold_batch channel.now unit.now most self.old.plain) (by_memory result) self.new }
+    {
+        mq_agents::hold_batch(&mut self.core, channel, unit, most)
+    }
+
+    /// A batch that is not prepared is released: its rows are free again, at their places, with no backout counted.
+    ///
+    /// # Errors
+    ///
+    /// No memory; nothing has changed.
+    pub fn release_batch(&mut self, channel: &ChName) -> Result<(), NoMemory>
+        requires up { IsUp self.old.plain }
+        requires batch { HasBatch channel.now self.old.plain }
+        ensures meets { MeetsOrWants (manager_of self.old) (release_batch channel.now self.old.plain) (by_memory result) (manager_of self.new) }
+        ensures told { WritesLog self.old (release_batch channel.now self.old.plain) (by_memory result) self.new }
+    {
+        mq_agents::release_batch(&mut self.core, channel)
+    }
+
+    /// The batch of a channel becomes its unit in doubt, behind a forced record: `NoRoom` exactly where the log has no room for it.
+    ///
+    /// # Errors
+    ///
+    /// As said; the disk or the cut stopped the write, and the manager is down; no memory, and nothing has changed.
+    pub fn prepare(&mut self, channel: &ChName, last: u32) -> Result<(), PrepareFault>
+        requires up { IsUp self.old.plain }
+        requires can { CanPrepare channel.now self.old.plain }
+        ensures meets { MeetsOrWants (manager_of self.old) (prepare channel.now last self.old.plain) (by_prepare result) (manager_of self.new) }
+        ensures told { WritesLog self.old (prepare channel.now last self.old.plain) (by_prepare result) self.new }
+    {
+        mq_agents::prepare(&mut self.core, channel, last)
+    }
+
+    /// A channel's end hardens a note: its record is forced, and a unit that is settled loses its rows, or they are free again.
+    ///
+    /// # Errors
+    ///
+    /// The disk or the cut stopped the write, and the manager is down; no memory, and nothing has changed.
+    pub fn harden(&mut self, channel: &ChName, note: &Note) -> Result<(), AgentStop>
+        requires up { IsUp self.old.plain }
+        requires can { CanHarden channel.now note.now self.old.plain }
+        ensures meets { MeetsOrWants (manager_of self.old) (harden channel.now note.now self.old.plain) (by_agent result) (manager_of self.new) }
+        ensures told { WritesLog self.old (harden channel.now note.now self.old.plain) (by_agent result) self.new }
+    {
+        harden_note(&mut self.core, channel, note)
+    }
+
+    /// A rule of the handler removes a row, behind a forced record where it lasts. It is not refused for want of room in the log.
+    ///
+    /// # Errors
+    ///
+    /// The disk or the cut stopped the write, and the manager is down; no memory, and nothing has changed.
+    pub fn discard(&mut self, from: &QName, ident: &Ident) -> Result<(), AgentStop>
+        requires up { IsUp self.old.plain }
+        requires there { HasFreeRow from.now ident.now self.old.plain }
+        ensures meets { MeetsOrWants (manager_of self.old) (discard from.now ident.now self.old.plain) (by_agent result) (manager_of self.new) }
+        ensures told { WritesLog self.old (discard from.now ident.now self.old.plain) (by_agent result) self.new }
+    {
+        mq_agents::discard(&mut self.core, from, ident)
     }
 }

@@ -1,1 +1,4 @@
 pub mod RowsReport
+pub mod PartLaws
+pub mod StepLaws
+pub mod TrimLemmas

@@ -1,7 +1,7 @@
 //! Scripts line by line, and steps with what they did.
-ghost use Rattle.std.specs.Prelude.{◌≡◌, ◌++◌, OnOk};
+ghost use Rattle.std.specs.Prelude.{◌≡◌, ◌++◌, OnOk, count_by};
 ghost use Rattle.std.specs.List.{flat_map};
-ghost use Rattle.mq_net_report.specs.Steps.{is_trigger, is_script, is_handler, is_monitor, is_operator, is_by, count_done, idle_text, command_text, command_if, answer_line, answer_if, watch_refusal, refusal_if, first_refusal, watched_text, lines_text};
+ghost use Rattle.mq_net_report.specs.Steps.{is_trigger, is_script, is_handler, is_monitor, is_operator, is_end, is_turn, is_by, count_done, idle_text, command_text, command_if, answer_line, answer_if, watch_refusal, refusal_if, first_refusal, watched_text, lines_text};
 
 use crate::replies::{put_act, put_displayed, put_line};
 use crate::writing::{Text, put_number, put_word};
@@ -55,6 +55,24 @@ fn is_operator(actor: &Actor) -> bool
     }
 }
 
+fn is_end(actor: &Actor) -> bool
+    ensures { result ≡ is_end actor.now }
+{
+    match actor {
+        Actor::Sender(_) => true,
+        Actor::Receiver(_) => true,
+        _ => false,
+    }
+}
+
+/// Whether an entry is a turn of a channel's end, or a timeout.
+#[tactic(auto, unfolding(crate::specs::Steps::is_turn))]
+fn is_turn(entry: &Entry) -> bool
+    ensures { result ≡ is_turn entry.now }
+{
+    is_end(&entry.actor) && !is_trigger(&entry.call)
+}
+
 /// Whether an entry is a line of a script.
 pub fn is_line(script: u64, entry: &Entry) -> bool
     ensures { result ≡ is_by (is_script script) entry.now }
@@ -99,6 +117,20 @@ pub fn count_actions(handler: u64, entries: &[Entry]) -> usize
         .iter()
         .filter(|entry| is_action(handler, entry))
         .count()
+}
+
+/// Turns of channels' ends, and timeouts.
+#[tactic(auto, using(std::proofs::lemmas::List::Sums::count_by_more_yes, std::proofs::lemmas::List::Sums::count_by_more_no))]
+pub fn count_turns(entries: &[Entry]) -> usize
+    ensures { result ≡ count_by is_turn entries.now }
+{
+    let mut turns = 0;
+    'counting: for entry in entries {
+        if is_turn(entry) {
+            turns += 1;
+        }
+    }
+    turns
 }
 
 /// A script's lines, numbered from 1.

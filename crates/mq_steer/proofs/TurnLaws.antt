@@ -24,6 +24,7 @@ use Rattle.mq_core.proofs.PutLaws.{OnWay, tied_on_way, way_counts, expected_view
 use Rattle.mq_spec_manager.specs.Triggers.{trigger_turn, trigger_at, serve, serve_by, first_due}
 use Rattle.mq_steer.specs.declared.triggers.Sending.{Sending}
 use Rattle.mq_steer.specs.declared.triggers.Serving.{Serving}
+use Rattle.mq_steer.specs.Due.{name_if, due_where, next_due}
 use Rattle.mq_steer.specs.Turns.{sent_part, IsDue, CanSend, Serves, ServesBy, IsServed, IsServedBy, IsServedOr, served_at, numbered}
 use Rattle.mq_steer.proofs.RestLaws.{seen_changed}
 
@@ -196,3 +197,13 @@ turn_down p down = λ i. trigger_at (down i) p
 
 pub turn_none : (p : Plain) → is_up p.running ≡ true → first_due (locals_of p.definitions) p ≡ None → trigger_turn p ≡ say false
 turn_none p up none = (λ i. trigger_at (up i) p) ∙ ap (λ (o : Option LocalQueue). serve o p) none
+
+-- the queue whose trigger is served next
+pub due_down : (p : Plain) → is_up p.running ≡ false → None ≡ next_due p
+due_down p down = sym (ap (λ (b : Bool). due_where b p) down)
+
+pub due_none : (p : Plain) → is_up p.running ≡ true → None ≡ first_due (locals_of p.definitions) p → None ≡ next_due p
+due_none p up e = ap name_if e ∙ sym (ap (λ (b : Bool). due_where b p) up)
+
+pub due_some : (p : Plain) (q : LocalQueue) → is_up p.running ≡ true → Some q ≡ first_due (locals_of p.definitions) p → Some q.name ≡ next_due p
+due_some p q up e = ap name_if e ∙ sym (ap (λ (b : Bool). due_where b p) up)

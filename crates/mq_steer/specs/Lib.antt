@@ -2,3 +2,4 @@ pub mod Quiet
 pub mod Rests
 pub mod Turns
 pub mod Altered
+pub mod Due

@@ -13,4 +13,4 @@ pub use clock::{advance_clock, cut};
 pub use commands::command;
 pub use deltas::take_delta;
 pub use stopping::stop;
-pub use triggers::trigger_turn;
+pub use triggers::{next_due, trigger_turn};

@@ -7,6 +7,7 @@ ghost use Rattle.mq_core.specs.Views.{plain_of};
 ghost use Rattle.mq_core.specs.Ties.{Tied, IsReady};
 ghost use Rattle.mq_core.specs.Forced.{IsExpected, HasMoreRoom};
 ghost use Rattle.mq_core.specs.Placing.{arrived_at};
+ghost use Rattle.mq_steer.specs.Due.{next_due};
 ghost use Rattle.mq_steer.specs.Turns.{Serves, IsTurn, IsServed, IsServedOr, IsDue, CanSend, sent_part, served_at, numbered, halted};
 ghost use Rattle.mq_core.specs.Values.{manager_of, WritesLog};
 
@@ -263,6 +264,21 @@ fn serve_turn<D: Disk>(core: &mut Core<D>, serving: Serving) -> Result<bool, NoM
             let Sending { to, message } = sending;
             send(core, &from, &to, message)
         }
+    }
+}
+
+/// The queue whose trigger is served next: the first, in order of definition, with one due; none at a manager that is down. It
+/// takes no memory.
+#[tactic(auto, using(crate::proofs::TurnLaws::due_down, crate::proofs::TurnLaws::due_none, crate::proofs::TurnLaws::due_some))]
+pub fn next_due<D: Disk>(core: &Core<D>) -> Option<QName>
+    ensures { result ≡ next_due core.now.plain }
+{
+    if !core.is_up() {
+        return None;
+    }
+    match first_due(&core.parts) {
+        None => None,
+        Some(queue) => Some(queue.name),
     }
 }
 

@@ -1,0 +1,206 @@
+-- A command that fits leaves MAXMSGL of the manager within what a record keeps.
+use Rattle.std.proofs.Common.{◌≡◌, ◌≤◌, ℕ, Bool, true, false, List, [], ◌∷◌, refl, ap, sym, subst}
+use Rattle.std.specs.Prelude.{Option, Some, None, Result, Ok, Err, not, ◌&&◌, ◌||◌, ◌++◌, nat_le, if◌then◌else◌}
+use Rattle.std.specs.List.{list_all}
+use Rattle.std.proofs.lemmas.Bool.{leb-true}
+use Rattle.mq_objects.specs.declared.object.Object.{Object}
+use Rattle.mq_objects.specs.declared.object.Object.TheVariants as objects
+use Rattle.mq_objects.specs.declared.object.ManagerAttributes.{ManagerAttributes}
+use Rattle.mq_objects.specs.declared.object.Definitions.{Definitions}
+use Rattle.mq_objects.specs.declared.setting.Keyword.{Keyword}
+use Rattle.mq_objects.specs.declared.setting.Setting.{Setting}
+use Rattle.mq_objects.specs.declared.setting.Setting.TheVariants as settings
+use Rattle.mq_objects.specs.declared.change.ObjectChange.{ObjectChange}
+use Rattle.mq_objects.specs.declared.change.ObjectChange.TheVariants as changes
+use Rattle.mq_objects.specs.declared.command.Subject.{Subject}
+use Rattle.mq_objects.specs.declared.command.Subject.TheVariants as subjects
+use Rattle.mq_objects.specs.declared.command.Command.{Command}
+use Rattle.mq_objects.specs.declared.command.Command.TheVariants as commands
+use Rattle.mq_objects.specs.declared.command.Define.{Define}
+use Rattle.mq_objects.specs.declared.command.Alter.{Alter}
+use Rattle.mq_objects.specs.declared.command.Delete.{Delete}
+use Rattle.mq_objects.specs.Names.{named, name_of, local_of, is_kind}
+use Rattle.mq_objects.specs.Changed.{changed as changed_by}
+use Rattle.mq_objects.specs.Settings.{set_manager, set_all, set_all_manager}
+use Rattle.mq_resolve.specs.declared.route.PathStep.{PathStep}
+use Rattle.mq_resolve.specs.declared.route.PathStep.TheVariants as steps
+use Rattle.mq_calls.specs.declared.commands.ScRefusal.{ScRefusal}
+use Rattle.mq_calls.specs.declared.commands.ScRefusal.TheVariants as refusals
+use Rattle.mq_calls.specs.declared.commands.Shown.{Shown}
+use Rattle.mq_calls.specs.declared.commands.Halt.TheVariants as halts
+use Rattle.mq_calls.specs.declared.records.LogRecord.TheVariants as records
+use Rattle.mq_sc_apply.specs.Uses.{Uses}
+use Rattle.mq_sc_apply.specs.declared.answers.Planned.{Planned}
+use Rattle.mq_sc_apply.specs.declared.answers.Plan.{Plan}
+use Rattle.mq_sc_apply.specs.declared.answers.Plan.TheVariants as plans
+use Rattle.mq_sc_apply.specs.Commands.{plan, to_change, to_show}
+use Rattle.mq_sc_apply.specs.Displayed.{display}
+use Rattle.mq_sc_apply.specs.Planned.{define, define_at, defined_object, changed, is_used, changes_rows, is_filled, alter, alter_at, alter_good, bad_in, switches_on, alter_manager, default_changes, delete, delete_at, is_on_path, is_sent_from, is_busy}
+use Rattle.mq_spec_state.specs.Words.{Halt, Plain, MeetsOrWants, LocalQueue, is_up, apply, logged, when, tested}
+use Rattle.mq_spec_state.specs.Meeting.Wants.{Anywhere}
+use Rattle.mq_spec_state.specs.State.Change.{ChangeObjects}
+use Rattle.mq_spec_manager.specs.Commands.{command, planned_step, uses_of, object_part, follows, renewed, renewed_if, stale_if, switched_if, dropped}
+use Rattle.mq_law_manager.specs.Kept.{StepKeeps}
+use Rattle.mq_law_manager.proofs.Lists.{bool_case}
+use Rattle.mq_law_manager.proofs.Shelves.{logged_definitions}
+use Rattle.mq_law_manager.proofs.Ending.{joined}
+use Rattle.mq_law_manager.proofs.Commanding.{command_keeps}
+use Rattle.mq_law_manager.proofs.StockCommands.{command_stocked}
+use Rattle.mq_law_manager.proofs.Stocks.{tested_on}
+use Rattle.mq_core.specs.Values.{CoreValue, WritesLog, begun_call, manager_of}
+use Rattle.mq_steer.proofs.PlanLaws.{meets_halt, told_halt}
+use Rattle.mq_manager.specs.Facts.{HasLimit, IsWell}
+use Rattle.mq_manager.specs.Limits.{setting_fits, fits}
+use Rattle.mq_manager.proofs.LimitLaws.{IsSteady, AllSteady, steady_all, steady_append, none_steady}
+use Rattle.mq_manager.proofs.WellLaws.{Idles, well_after}
+
+-- settings, one by one
+fits_one : (s : Setting) (m : ManagerAttributes) → setting_fits s ≡ true → m.max_message_length ≤ 4194304 → (set_manager s m).max_message_length ≤ 4194304
+fits_one (settings.MaxMessageLength n) m f h = leb-true n 4194304 f
+fits_one _ m f h = h
+
+fits_all : (ss : List Setting) (m : ManagerAttributes) → list_all setting_fits ss ≡ true → m.max_message_length ≤ 4194304 → (set_all_manager ss m).max_message_length ≤ 4194304
+fits_all [] m f h = h
+fits_all (s ∷ ss) m f h = bool_case (setting_fits s) (λ b. setting_fits s ≡ b → (b && list_all setting_fits ss) ≡ true → (set_all_manager ss (set_manager s m)).max_message_length ≤ 4194304)
+    (λ z e g. fits_all ss (set_manager s m) g (fits_one s m e h)) (λ z e g. absurd cc) refl f
+
+-- what is planned
+ChangeFits : ObjectChange → Type 0
+ChangeFits (changes.Set new) = Unit {0}
+ChangeFits (changes.SetManager m) = m.max_message_length ≤ 4194304
+ChangeFits (changes.Delete s) = Unit {0}
+
+PlannedFits : Result Planned ScRefusal → Type 0
+PlannedFits (Ok planned) = ChangeFits planned.change
+PlannedFits (Err refusal) = Unit {0}
+
+PlanFits : Result Plan ScRefusal → Type 0
+PlanFits (Ok (plans.Change planned)) = ChangeFits planned.change
+PlanFits (Ok (plans.Show shown)) = Unit {0}
+PlanFits (Err refusal) = Unit {0}
+
+row_fits : (b : Bool) (e : ScRefusal) (rest : Result Planned ScRefusal) → PlannedFits rest → PlannedFits (if b then Err e else rest)
+unfolding PlannedFits
+row_fits true e rest h = tt
+row_fits false e rest h = h
+
+changed_fits : (force : Bool) (old new : Object) (on : Bool) (u : Uses) → PlannedFits (changed force old new on u)
+unfolding PlannedFits ChangeFits
+changed_fits force old new on u = row_fits (is_used force old new u) refusals.InUse _ (row_fits (changes_rows old new && is_filled old u) refusals.NotEmpty _ tt)
+
+define_fits : (d : Define) (new : Object) (o : Option Object) (u : Uses) → PlannedFits (define_at d new o u)
+unfolding PlannedFits ChangeFits
+define_fits d new None u = tt
+define_fits d new (Some old) u = row_fits (not d.replace || not (is_kind d.subject old)) refusals.Exists (changed false old new false u) (changed_fits false old new false u)
+
+good_fits : (a : Alter) (old : Object) (o : Option Keyword) (u : Uses) → PlannedFits (alter_good o a old u)
+unfolding PlannedFits
+good_fits a old (Some keyword) u = tt
+good_fits a old None u = changed_fits a.force old (set_all a.settings old) (switches_on old a.settings) u
+
+alter_fits : (a : Alter) (o : Option Object) (u : Uses) → PlannedFits (alter_at a o u)
+unfolding PlannedFits
+alter_fits a None u = tt
+alter_fits a (Some old) u = row_fits (not (is_kind a.subject old)) refusals.Missing (alter_good (bad_in old a.settings) a old u) (good_fits a old (bad_in old a.settings) u)
+
+delete_fits : (d : Delete) (o : Option Object) (u : Uses) → PlannedFits (delete_at d o u)
+unfolding PlannedFits ChangeFits
+delete_fits d None u = tt
+delete_fits d (Some old) u = row_fits (not (is_kind d.subject old)) refusals.Missing _ (row_fits (is_on_path old u || is_sent_from old u || is_busy old u) refusals.InUse _ (row_fits (is_filled old u) refusals.NotEmpty _ tt))
+
+change_fits : (r : Result Planned ScRefusal) → PlannedFits r → PlanFits (to_change r)
+unfolding PlannedFits PlanFits
+change_fits (Ok planned) h = h
+change_fits (Err refusal) h = tt
+
+show_fits : (r : Result Shown ScRefusal) → PlanFits (to_show r)
+unfolding PlanFits
+show_fits (Ok shown) = tt
+show_fits (Err refusal) = tt
+
+plan_fits : (c : Command) (own : List ℕ) (d : Definitions) (u : Uses) → fits c ≡ true → d.manager.max_message_length ≤ 4194304 → PlanFits (plan c own d u)
+unfolding PlannedFits ChangeFits
+plan_fits (commands.Define c) own d u f h = change_fits (define c d u) (define_fits c (defined_object c.subject c.settings) (named c.subject d) u)
+plan_fits (commands.Alter a) own d u f h = change_fits (alter a d u) (alter_fits a (named a.subject d) u)
+plan_fits (commands.AlterManager a) own d u f h = change_fits (alter_manager a d u) (row_fits (not a.force && default_changes d.manager (set_all_manager a.settings d.manager) && u.defxmitq_on_path) refusals.InUse _ (fits_all a.settings d.manager f h))
+plan_fits (commands.Delete c) own d u f h = change_fits (delete c d u) (delete_fits c (named c.subject d) u)
+plan_fits (commands.Display c) own d u f h = show_fits (display c own d u)
+
+-- what follows a change of objects is none
+stale_steady : (b : Bool) (step : PathStep) → AllSteady (stale_if b step)
+unfolding AllSteady IsSteady
+stale_steady true step = (tt, tt)
+stale_steady false step = tt
+
+switched_steady : (b : Bool) (name : List ℕ) → AllSteady (switched_if b name)
+unfolding AllSteady IsSteady
+switched_steady true name = (tt, tt)
+switched_steady false name = tt
+
+renewed_steady : (o : Option LocalQueue) (name : List ℕ) → AllSteady (renewed_if o name)
+unfolding AllSteady IsSteady
+renewed_steady None name = (tt, tt)
+renewed_steady (Some q) name = tt
+
+new_steady : (new : Object) (d : Definitions) → AllSteady (renewed new d)
+new_steady (objects.Local q) d = renewed_steady (local_of q.name d) q.name
+new_steady (objects.Alias q) d = none_steady
+new_steady (objects.Remote q) d = none_steady
+new_steady (objects.Channel q) d = none_steady
+new_steady (objects.Process q) d = none_steady
+
+dropped_steady : (s : Subject) → AllSteady (dropped s)
+unfolding AllSteady IsSteady
+dropped_steady (subjects.Local name) = (tt, tt)
+dropped_steady (subjects.Alias name) = tt
+dropped_steady (subjects.Remote name) = tt
+dropped_steady (subjects.Channel name) = tt
+dropped_steady (subjects.Process name) = tt
+
+follows_steady : (change : ObjectChange) (planned : Planned) (d : Definitions) → AllSteady (follows change planned d)
+follows_steady (changes.Set new) planned d =
+    steady_append (renewed new d ++ stale_if planned.reroutes (steps.Queue (name_of new))) (switched_if planned.switches_on (name_of new))
+    (steady_append (renewed new d) (stale_if planned.reroutes (steps.Queue (name_of new))) (new_steady new d) (stale_steady planned.reroutes (steps.Queue (name_of new)))) (switched_steady planned.switches_on (name_of new))
+follows_steady (changes.SetManager m) planned d = stale_steady planned.reroutes steps.DefXmitq
+follows_steady (changes.Delete s) planned d = dropped_steady s
+
+changed_limit : (change : ObjectChange) (d : Definitions) → ChangeFits change → d.manager.max_message_length ≤ 4194304 → (changed_by change d).manager.max_message_length ≤ 4194304
+unfolding ChangeFits
+changed_limit (changes.Set new) d f h = h
+changed_limit (changes.SetManager m) d f h = f
+changed_limit (changes.Delete s) d f h = h
+
+planned_limit : (r : Result Plan ScRefusal) (p : Plain) → PlanFits r → HasLimit p → StepKeeps HasLimit (planned_step r p.definitions) p
+unfolding PlanFits
+planned_limit (Ok (plans.Change planned)) p f h =
+    let q : Plain = apply (ChangeObjects planned.change) (logged (Some (records.Objects planned.change)) p) in (
+      subst (λ (d : Definitions). d.manager.max_message_length ≤ 4194304) (sym (steady_all (follows planned.change planned p.definitions) q (follows_steady planned.change planned p.definitions)))
+          (changed_limit planned.change p.definitions f h),
+      tt,
+    )
+planned_limit (Ok (plans.Show shown)) p f h = tt
+planned_limit (Err refusal) p f h = tt
+
+command_limit : (c : Command) (p : Plain) → fits c ≡ true → HasLimit p → StepKeeps HasLimit (command c p) p
+command_limit c p f h = tested_on HasLimit (when (not (is_up p.running)) refusals.Down ∷ []) (planned_step (plan c p.given.name p.definitions (uses_of p)) p.definitions) p
+    (λ e. planned_limit (plan c p.given.name p.definitions (uses_of p)) p (plan_fits c p.given.name p.definitions (uses_of p) f h) h)
+
+command_down : (c : Command) (p : Plain) → is_up p.running ≡ false → Idles (command c p)
+command_down c p down = subst (λ (b : Bool). Idles (tested (when (not b) refusals.Down ∷ []) (planned_step (plan c p.given.name p.definitions (uses_of p)) p.definitions))) (sym down) tt
+
+-- want of memory in place of its answer
+pub meets_want : (c : Command) (v new : CoreValue) → new ≡ begun_call v → MeetsOrWants (manager_of v) (command c v.plain) (Err halts.NoMemory) (manager_of new)
+meets_want c v new e = meets_halt c v new halts.NoMemory tt e
+
+pub told_want : (c : Command) (v new : CoreValue) → new ≡ begun_call v → WritesLog v (command c v.plain) (Err halts.NoMemory) new
+told_want c v new e = told_halt c v new halts.NoMemory tt e
+
+-- the call
+pub well_command : (v new : CoreValue) (w : IsWell v.plain) (c : Command) (result : Result Shown (Halt ScRefusal)) → (fits c ≡ false → new ≡ begun_call v) → MeetsOrWants (manager_of v) (command c v.plain) result (manager_of new) → IsWell new.plain
+well_command v new w c result unfit m = by (fits c) refl
+  where
+    by : (b : Bool) → fits c ≡ b → IsWell new.plain
+    by true f = let p : Plain = v.plain in
+        well_after Anywhere (manager_of v) (manager_of new) (command c p) result m w (command_down c p)
+        (λ h. joined (command c p) p h (command_keeps c p h.stocked.rows h.facts) (command_stocked c p h.stocked)) (command_limit c p f w.limit)
+    by false f = subst IsWell (sym (ap (λ (x : CoreValue). x.plain) (unfit f))) w

@@ -1,0 +1,3 @@
+pub mod OpeningLaws
+pub mod ToldLaws
+pub mod ConflictLaws
