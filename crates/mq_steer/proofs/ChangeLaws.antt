@@ -97,9 +97,12 @@ forced_is planned x y z up h f = forced_view (record_of planned) y z (rooms_up x
 with_log : PlainLog → PartsValue → Plain
 with_log log x = record (plain_of x) { log = log }
 
+log_in : PlainLog → PartsValue → LogState → Plain
+log_in log x inside = record (plain_of (record x { log = inside })) { log = log }
+
 forced_but : (planned : Planned) (x y z : PartsValue) → HasRooms x y → IsForced (record_of planned) y (Ok tt) z → plain_of z ≡ record (plain_of x) { log = (plain_of z).log }
-unfolding with_log
-forced_but planned x y z h f = ap (with_log (plain_of z).log) f.same ∙ ap (with_log (plain_of z).log) h.same
+unfolding with_log log_in
+forced_but planned x y z h f = ap (with_log (plain_of z).log) f.same ∙ ap (log_in (plain_of z).log y) f.log ∙ ap (with_log (plain_of z).log) h.same
 
 can_behind : (planned : Planned) (x y z : PartsValue) → HasRooms x y → IsForced (record_of planned) y (Ok tt) z → CanChange planned.change planned.reroutes planned.switches_on (plain_of x) → CanChange planned.change planned.reroutes planned.switches_on (plain_of z)
 can_behind planned x y z h f can =
