@@ -72,11 +72,12 @@ behind_low g start (Some r) i j e low = by (applies g start r i) refl e
         some_is x y f = grind (arith, f)
     by false a f = absurd cc
 
+abbrev or_image : Image → Result Image ℕ → Image
+or_image d (Ok i) = i
+or_image d (Err place) = d
+
 from_low : (g : Given) (start : Start) (place : ℕ) (bodies : List (List ℕ)) (i j : Image) → image_from g start place bodies i ≡ Ok j → IsLow i → IsLow j
-from_low g start place [] i j e low = subst IsLow (ok_is i j e) low
-  where
-    ok_is : (x y : Image) → Ok x ≡ Ok y → x ≡ y
-    ok_is x y f = grind (arith, f)
+from_low g start place [] i j e low = subst IsLow (ap (or_image i) e) low
 from_low g start place (body ∷ bodies) i j e low = by (behind g start i (record_of body)) refl e (λ k f w. from_low g start (place + length (frame body)) bodies k j f w)
   where
     by : (o : Option Image) → behind g start i (record_of body) ≡ o → or_place place (image_from g start (place + length (frame body)) bodies) o ≡ Ok j → ((k : Image) → image_from g start (place + length (frame body)) bodies k ≡ Ok j → IsLow k → IsLow j) → IsLow j
