@@ -143,7 +143,10 @@ pub fn begin<D: Disk>(
         Err(unbegun) => return Err(unbegun),
     };
     match built_of(alloc, number, name, Start::First, &log) {
-        Ok(built) => begin_built(alloc, number, name, moment, built, log),
+        Ok(built) => match begin_built(alloc, number, name, moment, built, log) {
+            Ok(core) => Ok(core),
+            Err(unbegun) => Err(unbegun),
+        },
         Err(fault) => {
             let fault = recover_fault(fault);
             Err(handed_back(fault, log))

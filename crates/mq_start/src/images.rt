@@ -22,7 +22,6 @@ fn are_bytes(bytes: &[u8])
 {}
 
 /// The image that a log tells.
-#[tactic(auto, using(crate::proofs::ReadLaws::bodies_are))]
 fn image_of<D: Disk>(
     alloc: Global,
     number: u8,
@@ -43,7 +42,6 @@ fn image_of<D: Disk>(
 /// # Errors
 ///
 /// The place of the first body that is no record of this manager or doesn't apply. No memory.
-#[tactic(auto, using(crate::proofs::ReadLaws::is_image, crate::proofs::ReadLaws::is_read, crate::proofs::ReadLaws::is_unread))]
 pub fn built_of<D: Disk>(
     alloc: Global,
     number: u8,
