@@ -1,5 +1,5 @@
 -- A first start: what it comes to.
-use Rattle.std.proofs.Common.{◌≡◌, ℕ, ◌+◌, ◌-◌, ◌<◌, ◌≤◌, ◌^◌, true, false, List, [], ◌∷◌, ◌++◌, length, refl, ap, arith, sym, subst, ◌∙◌, inr}
+use Rattle.std.proofs.Common.{◌≡◌, ℕ, ◌+◌, ◌-◌, ◌<◌, ◌≤◌, ◌^◌, List, [], ◌∷◌, ◌++◌, length, refl, ap, arith, sym, subst, ◌∙◌, inr}
 use Rattle.std.specs.Prelude.{Option, Ok, Err, None}
 use Rattle.mq_base.specs.Outside.{Rose}
 use Rattle.mq_disk.specs.declared.cutter.Stop.{Stop}
@@ -11,14 +11,12 @@ use Rattle.mq_log.specs.State.{LogState, log_length, Appended}
 use Rattle.mq_log.specs.Force.{Stops}
 use Rattle.mq_log.proofs.Logs.{log_length-push}
 use Rattle.mq_record.specs.Records.{record_bytes}
-use Rattle.mq_spec_state.specs.State.{Given, Plain, LogState as PlainLog}
+use Rattle.mq_spec_state.specs.State.{Given}
 use Rattle.mq_spec_state.specs.Images.{Image, begun, raised}
-use Rattle.mq_spec_state.specs.Recovery.{IsImage, AreKnown}
 use Rattle.mq_spec_manager.specs.Stops.{first_start, started_record, started_need}
 use Rattle.mq_spec_manager.specs.Words.{last_moment}
 use Rattle.mq_spec_log.specs.Applies.{Start}
 use Rattle.mq_spec_log.specs.Applies.Start.{First}
-use Rattle.mq_spec_log.specs.Bodies.{image}
 use Rattle.mq_recover.specs.declared.recovery.RecoverFault.{RecoverFault}
 use Rattle.mq_recover.specs.declared.recovery.RecoverFault.TheVariants.{BadRecord, NoMemory}
 use Rattle.mq_rebuild.specs.declared.building.Built.{Built}
@@ -26,7 +24,7 @@ use Rattle.mq_rebuild.specs.Rebuilt.{IsBuilt}
 use Rattle.mq_core.specs.Ties.{Tied}
 use Rattle.mq_core.specs.Views.{plain_of}
 use Rattle.mq_core.specs.Values.{CoreValue, LogBodies, bodies_in}
-use Rattle.mq_start.specs.Begun.{given_by, begun_parts, begun_core, recovered_fault, IsFresh, IsOpened, HasOpened, IsStarted, BeginsFrom, IsReadFrom, IsUnread, IsBadOf, HasBegun, HasNotBegun}
+use Rattle.mq_start.specs.Begun.{given_by, begun_parts, begun_core, recovered_fault, IsFresh, HasOpened, IsStarted, BeginsFrom, IsReadFrom, IsUnread, HasBegun, HasNotBegun}
 use Rattle.mq_start.proofs.LowLaws.{image_low}
 use Rattle.mq_start.proofs.SeenLaws.{begun_seen}
 use Rattle.mq_start.proofs.TieLaws.{begun_tied}

@@ -1,6 +1,6 @@
 -- A restart that is refused: what its log then tells, that it finds no bad log, and which calls it made.
 use Rattle.std.proofs.Common.{◌≡◌, ℕ, zero, suc, ◌+◌, ◌-◌, ◌*◌, ◌<◌, ◌≤◌, ◌^◌, Bool, true, false, List, [], ◌∷◌, ◌++◌, length, refl, ap, arith, sym, subst, ◌∙◌, inl, inr}
-use Rattle.std.specs.Prelude.{◌≢◌, Option, Some, None, Result, Ok, Err, nat_lt}
+use Rattle.std.specs.Prelude.{Option, Some, None, Result, Ok, Err}
 use Rattle.std.proofs.lemmas.Bool.Decides.{nat_tests}
 use Rattle.std.proofs.lemmas.List.{length-append}
 use Rattle.mq_disk.specs.declared.cutter.Stop.{Stop}
@@ -12,7 +12,7 @@ use Rattle.mq_calls.specs.declared.records.LogRecord.{LogRecord}
 use Rattle.mq_log.specs.declared.open.StartFault.{StartFault}
 use Rattle.mq_log.specs.declared.open.StartFault.TheVariants as starts_
 use Rattle.mq_log.specs.declared.images.Found.{Found}
-use Rattle.mq_log.specs.State.{LogState, log_length}
+use Rattle.mq_log.specs.State.{LogState}
 use Rattle.mq_log.specs.Force.{Stops}
 use Rattle.mq_log.specs.Open.{RestartEnds, IsNotBad}
 use Rattle.mq_log.proofs.Logs.{log_length-push}
@@ -26,7 +26,6 @@ use Rattle.mq_spec_log.proofs.BodyLaws.{record_back}
 use Rattle.mq_spec_state.specs.Images.{Image}
 use Rattle.mq_law_image.specs.Tells.{TellsDown}
 use Rattle.mq_law_image.proofs.Telling.{begun_restarted, start_told}
-use Rattle.mq_recover.specs.declared.recovery.RecoverFault.{RecoverFault}
 use Rattle.mq_recover.specs.declared.recovery.RecoverFault.TheVariants.{BadRecord, NoMemory}
 use Rattle.mq_rebuild.specs.declared.building.Built.{Built}
 use Rattle.mq_core.specs.declared.parts.ReadLog.{ReadLog}
@@ -34,7 +33,7 @@ use Rattle.mq_core.specs.Views.{PartsValue, plain_of}
 use Rattle.mq_start.specs.Begun.{given_by, IsReadFrom, IsUnread}
 use Rattle.mq_start.specs.Tells.{Stood, LogStood, StoodBy, kept_of}
 use Rattle.mq_start.specs.declared.raising.Unraised.{Unraised}
-use Rattle.mq_start.specs.Raised.{given_of, with_log, HasRead, HasNotRead, HasHalted, IsHalted, IsUnraised, Fell, start_fault, read_fault, stop_fault, read_by, read_after, starts_after, fails_as}
+use Rattle.mq_start.specs.Raised.{given_of, with_log, HasHalted, Fell, start_fault, stop_fault, read_by, read_after, starts_after, fails_as}
 use Rattle.mq_start.specs.Raised.Fell.{Unopened, Unread, Unstarted}
 use Rattle.mq_start.specs.Raised.HasHalted.{Wanting, Halted}
 use Rattle.mq_start.proofs.RaiseLaws.{found_stood, read_number}

@@ -1,6 +1,6 @@
 -- The incarnations that a log tells are below 2^61.
-use Rattle.std.proofs.Common.{◌≡◌, ℕ, ◌+◌, ◌<◌, ◌^◌, Bool, true, false, List, [], ◌∷◌, length, refl, ap, arith, sym, subst, ◌∙◌}
-use Rattle.std.specs.Prelude.{Option, Some, None, Result, Ok, Err, if◌then◌else◌, max, nat_lt, ◌&&◌}
+use Rattle.std.proofs.Common.{◌≡◌, ℕ, ◌+◌, ◌<◌, ◌^◌, Bool, true, false, List, [], ◌∷◌, length, refl, ap, arith, subst, ◌∙◌}
+use Rattle.std.specs.Prelude.{Option, Some, None, Result, Ok, Err, if◌then◌else◌, max, ◌&&◌}
 use Rattle.std.specs.List.{list_all}
 use Rattle.std.proofs.lemmas.Bool.Decides.{nat_tests}
 use Rattle.mq_calls.specs.declared.records.Add.{Add}
@@ -11,10 +11,10 @@ use Rattle.mq_sync.specs.declared.data.End.TheVariants as ends
 use Rattle.mq_log.specs.Bodies.{frame}
 use Rattle.mq_spec_state.specs.State.{Given}
 use Rattle.mq_spec_state.specs.Images.{Image}
-use Rattle.mq_spec_log.specs.Applies.{Start, suits, applies, is_in_bounds, was_given, idents_in}
+use Rattle.mq_spec_log.specs.Applies.{Start, suits, applies, is_in_bounds, was_given}
 use Rattle.mq_spec_log.specs.Applies.Start.{First, Later}
 use Rattle.mq_spec_log.specs.Shelves.{added, removed, added_all, removed_all}
-use Rattle.mq_spec_log.specs.Records.{doing, settled_rows, set_number}
+use Rattle.mq_spec_log.specs.Records.{doing, settled_rows}
 use Rattle.mq_spec_log.specs.Bodies.{record_of, behind, or_place, image_from, begins, image, empty_image}
 
 abbrev IsLow : Image → Type 0

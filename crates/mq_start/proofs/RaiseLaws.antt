@@ -1,5 +1,5 @@
 -- A manager whose log was read again comes up as its history says.
-use Rattle.std.proofs.Common.{◌≡◌, ℕ, ◌+◌, ◌-◌, ◌<◌, ◌≤◌, ◌^◌, Bool, true, false, List, [], ◌∷◌, ◌++◌, length, refl, ap, arith, sym, subst, ◌∙◌}
+use Rattle.std.proofs.Common.{◌≡◌, ℕ, ◌+◌, ◌-◌, ◌<◌, Bool, true, false, List, [], ◌∷◌, ◌++◌, length, refl, ap, arith, sym, subst, ◌∙◌}
 use Rattle.std.specs.Prelude.{◌≢◌, Option, Some, None, Ok, Err, Result}
 use Rattle.mq_log.specs.declared.images.Found.{Found}
 use Rattle.mq_log.specs.declared.images.Found.TheVariants.{Before, After, Other}
@@ -7,12 +7,11 @@ use Rattle.mq_log.specs.Images.{IsFound}
 use Rattle.mq_log.specs.State.{LogState, log_length}
 use Rattle.mq_record.specs.Records.{record_bytes}
 use Rattle.mq_record.specs.Room.{Buffered}
-use Rattle.mq_spec_state.specs.State.{Plain, Given, Noted}
+use Rattle.mq_spec_state.specs.State.{Plain, Noted}
 use Rattle.mq_spec_state.specs.Images.{Image, lasting}
 use Rattle.mq_spec_log.specs.Applies.Start.{Later}
 use Rattle.mq_spec_log.specs.Bodies.{image}
 use Rattle.mq_spec_manager.specs.Stops.{started_need, started_record, redone_if}
-use Rattle.mq_spec_manager.specs.Words.{last_moment}
 use Rattle.mq_law_image.specs.Tells.{later_by}
 use Rattle.mq_rebuild.specs.declared.building.Built.{Built}
 use Rattle.mq_core.specs.declared.parts.ReadLog.{ReadLog}
@@ -20,7 +19,7 @@ use Rattle.mq_core.specs.Views.{PartsValue, plain_of}
 use Rattle.mq_core.specs.Ties.{Tied}
 use Rattle.mq_start.specs.Begun.{given_by, begun_parts, IsFresh, IsReadFrom}
 use Rattle.mq_start.specs.Tells.{Stood, LogStood, StoodBy, HasRestarted, kept_of}
-use Rattle.mq_start.specs.Raised.{given_of, with_log, Raises, ComesUp}
+use Rattle.mq_start.specs.Raised.{given_of, Raises, ComesUp}
 use Rattle.mq_start.proofs.RestartLaws.{restarted_seen, restarted_tied, redone_incarnation}
 
 -- what was found stands in the log as the history says

@@ -1,12 +1,12 @@
 -- The bodies of a log in memory are bytes, so the image that they tell is one.
-use Rattle.std.proofs.Common.{◌≡◌, ℕ, zero, suc, ◌<◌, ◌+◌, List, [], ◌∷◌, ◌++◌, length, ap, sym, arith}
+use Rattle.std.proofs.Common.{◌≡◌, ℕ, zero, suc, ◌+◌, List, [], ◌∷◌, ◌++◌, length, ap, sym, arith}
 use Rattle.std.specs.Prelude.{Result, Ok, Err}
 use Rattle.std.specs.List.{AllByRecursion}
 use Rattle.mq_frame.specs.Reading.{IsBytes}
 use Rattle.mq_log.specs.Bodies.{number_bytes, frame, frames}
 use Rattle.mq_spec_state.specs.State.{Given}
 use Rattle.mq_spec_state.specs.Images.{Image}
-use Rattle.mq_spec_state.specs.Recovery.{IsImage, AreKnown}
+use Rattle.mq_spec_state.specs.Recovery.{IsImage}
 use Rattle.mq_spec_log.specs.Applies.{Start}
 use Rattle.mq_spec_log.specs.Bodies.{image}
 use Rattle.mq_recover.specs.declared.recovery.RecoverFault.{RecoverFault}

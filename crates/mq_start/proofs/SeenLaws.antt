@@ -1,5 +1,5 @@
 -- The plain manager of parts that were built from an image is the one that begins with it.
-use Rattle.std.proofs.Common.{◌≡◌, ℕ, ◌+◌, List, [], ◌∷◌, refl, ap, arith, sym, subst, ◌∙◌}
+use Rattle.std.proofs.Common.{◌≡◌, ℕ, ◌+◌, List, [], ◌∷◌, refl, ap, arith, ◌∙◌}
 use Rattle.std.specs.Prelude.{map}
 use Rattle.mq_objects.specs.declared.object.Definitions.{Definitions}
 use Rattle.mq_spec_state.specs.State.{Plain, Queue, Given, SenderSide, ReceiverSide, LogState as PlainLog}

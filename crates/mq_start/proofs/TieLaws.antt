@@ -1,5 +1,5 @@
 -- The parts of a manager that was built from an image are tied.
-use Rattle.std.proofs.Common.{◌≡◌, ℕ, suc, ◌+◌, ◌<◌, ◌≤◌, ◌^◌, Bool, true, false, cond, List, [], ◌∷◌, length, refl, ap, arith, sym, subst, ◌∙◌, inl, inr}
+use Rattle.std.proofs.Common.{◌≡◌, ℕ, suc, ◌+◌, ◌<◌, ◌≤◌, ◌^◌, Bool, true, false, cond, List, [], ◌∷◌, refl, ap, arith, sym, subst, ◌∙◌, inl, inr}
 use Rattle.std.specs.Prelude.{Option, Some, None, is_some, map, All, AllPairs, ◌||◌}
 use Rattle.std.specs.List.{AllByRecursion, list_any}
 use Rattle.std.specs.Str.{bytes_eq}
@@ -13,16 +13,15 @@ use Rattle.mq_objects.specs.declared.object.LocalQueue.{LocalQueue}
 use Rattle.mq_objects.specs.declared.object.Object.{Object}
 use Rattle.mq_objects.specs.declared.object.Object.TheVariants as objects
 use Rattle.mq_objects.specs.declared.object.Definitions.{Definitions}
-use Rattle.mq_objects.specs.Names.{local_of, locals_of, object_in, as_local, is_object, space_of, name_of}
+use Rattle.mq_objects.specs.Names.{local_of, object_in, as_local, is_object, space_of, name_of}
 use Rattle.mq_objects.specs.Names.Space.{Queues}
-use Rattle.mq_spec_state.specs.State.{Queue}
-use Rattle.mq_spec_state.specs.Images.{Image, Shelf, queue_on, numbered}
-use Rattle.mq_spec_state.specs.Recovery.{IsImage, IsShelf, AreApart, AreKnown, IsKnown}
+use Rattle.mq_spec_state.specs.Images.{Image, Shelf, numbered}
+use Rattle.mq_spec_state.specs.Recovery.{IsImage, AreApart, AreKnown, IsKnown}
 use Rattle.mq_spec_manager.specs.Words.{last_moment}
 use Rattle.mq_log.specs.State.{LogState}
 use Rattle.mq_place.specs.States.{QueueState, queues_of, state_in}
-use Rattle.mq_law_manager.proofs.Lists.{ident_yes, ident_self, ident_no}
-use Rattle.mq_law_manager.proofs.Named.{name_is, name_self}
+use Rattle.mq_law_manager.proofs.Lists.{ident_yes, ident_self}
+use Rattle.mq_law_manager.proofs.Named.{name_is}
 use Rattle.mq_law_image.proofs.Naming.{shelf_names, local_names, is_local_at, name_listed, local_found}
 use Rattle.mq_core.specs.Ties.{Tied, state_lanes, local_lanes, pending_at, times_in_rows, times_in_queues, one_if}
 use Rattle.mq_rebuild.specs.declared.building.Built.{Built}

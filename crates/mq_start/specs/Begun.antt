@@ -1,5 +1,5 @@
 -- A manager that comes up from the image of its log, and its first start.
-use Rattle.std.specs.Prelude.{◌≡◌, ◌⊎◌, ℕ, ◌+◌, ◌≤◌, List, [], ◌∷◌, ◌++◌, true, Option, None, Result, Ok, Err}
+use Rattle.std.specs.Prelude.{◌≡◌, ◌⊎◌, ℕ, ◌+◌, ◌≤◌, List, [], ◌∷◌, ◌++◌, true, None, Ok, Err}
 use Rattle.mq_base.specs.Outside.{Rose}
 use Rattle.mq_log.specs.Bodies.{IsLog, IsNoLog}
 use Rattle.mq_log.specs.State.{LogState, log_length}

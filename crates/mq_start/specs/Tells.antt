@@ -6,7 +6,7 @@ use Rattle.mq_log.specs.State.{LogState, log_length}
 use Rattle.mq_spec_state.specs.State.{Plain, Noted}
 use Rattle.mq_spec_manager.specs.Stops.{CanBeKept, redone_if, started_need, started_record, calls_of_restart}
 use Rattle.mq_spec_log.specs.Applies.Start.{Later}
-use Rattle.mq_law_image.specs.Tells.{Tells, TellsDown}
+use Rattle.mq_law_image.specs.Tells.{TellsDown}
 use Rattle.mq_record.specs.Records.{record_bytes}
 use Rattle.mq_core.specs.declared.parts.ReadLog.{ReadLog}
 use Rattle.mq_rebuild.specs.declared.building.Built.{Built}

@@ -1,8 +1,7 @@
 //! What the log of a manager tells, read and built.
-ghost use Rattle.std.specs.Prelude.{◌≡◌, MatchResult};
+ghost use Rattle.std.specs.Prelude.{MatchResult};
 ghost use Rattle.std.specs.List.{AllByRecursion};
 ghost use Rattle.mq_frame.specs.Reading.{IsBytes};
-ghost use Rattle.mq_spec_state.specs.State.{Given};
 ghost use Rattle.mq_spec_log.specs.Bodies.{image};
 ghost use Rattle.mq_recover.specs.Found.{start_in, Recovers};
 ghost use Rattle.mq_start.specs.Begun.{given_by, IsReadFrom, IsUnread};
