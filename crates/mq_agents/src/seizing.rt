@@ -110,7 +110,10 @@ pub fn set_bound<D: Disk>(core: &mut Core<D>, channel: &ChName, bound: bool) -> 
 {
     core.begin_call();
     if bound {
-        return set_side(&mut core.parts.ends.bound, *channel);
+        return match set_side(&mut core.parts.ends.bound, *channel) {
+            Ok(()) => Ok(()),
+            Err(NoMemory) => Err(NoMemory),
+        };
     }
     drop_side(core.parts.alloc, &mut core.parts.ends.bound, channel);
     Ok(())
