@@ -63,7 +63,7 @@ pub hardened_view : (r : LogRecord) (bytes : List ℕ) (e : ChannelEnds) (x y : 
     → plain_of y ≡ record (logged (Some r) (plain_of x)) { channels = channels_of e }
 unfolding with_log with_ends with_channels
 hardened_view r bytes e x y up is size w =
-    ap plain_of w.same ∙ ends_view e (with_log y.log x) up ∙ ap (with_channels e) (forced_view r x (with_log y.log x) (forced_as r bytes e x y (Ok tt) is size w))
+    ap plain_of w.same ∙ ends_view e (with_log y.log x) up ∙ ap (with_channels e) (forced_view r x (with_log y.log x) up (forced_as r bytes e x y (Ok tt) is size w))
 
 pub hardened_tied : (bytes : List ℕ) (e : ChannelEnds) (x y : PartsValue) → IsWritten bytes e x (Ok tt) y → Tied x → Tied y
 hardened_tied bytes e x y w t =
@@ -86,11 +86,11 @@ hardened_tied bytes e x y w t =
 downed_by : StoppedWrite → PartsValue → PartsValue
 downed_by write y = downed write y
 
-pub down_view : (write : StoppedWrite) (r : LogRecord) (bytes : List ℕ) (stop : Stop) (x y : PartsValue) → bytes ≡ record_bytes r → length bytes ≡ record_size r → IsWritten bytes x.ends x (Err stop) y
+pub down_view : (write : StoppedWrite) (r : LogRecord) (bytes : List ℕ) (stop : Stop) (x y : PartsValue) → mode_is_up x.mode ≡ true → bytes ≡ record_bytes r → length bytes ≡ record_size r → IsWritten bytes x.ends x (Err stop) y
     → plain_of (downed write y) ≡ freeze (noted (frozen_of x) (Some write)) y.log.armed (plain_of x)
 unfolding with_log downed_by
-down_view write r bytes stop x y is size w =
-    ap (λ (z : PartsValue). plain_of (downed_by write z)) w.same ∙ frozen_view write r x (with_log y.log x) stop (forced_as r bytes x.ends x y (Err stop) is size w)
+down_view write r bytes stop x y up is size w =
+    ap (λ (z : PartsValue). plain_of (downed_by write z)) w.same ∙ frozen_view write r x (with_log y.log x) stop up (forced_as r bytes x.ends x y (Err stop) is size w)
 
 pub down_tied : (write : StoppedWrite) (r : LogRecord) (bytes : List ℕ) (stop : Stop) (x y : PartsValue) → bytes ≡ record_bytes r → length bytes ≡ record_size r → IsWritten bytes x.ends x (Err stop) y → Tied x → Tied (downed write y)
 unfolding with_log downed_by
@@ -177,12 +177,15 @@ forced_tied r x y z h f t =
       moment = s.moment;
     })
 
+roomy_up : (n : ℕ) (x y : PartsValue) → mode_is_up x.mode ≡ true → IsRoomy n x y → mode_is_up y.mode ≡ true
+roomy_up n x y up h = ap (λ (p : PartsValue). mode_is_up p.mode) h.same ∙ up
+
 with_record : LogRecord → Plain → Plain
 with_record r p = logged (Some r) p
 
-pub forced_seen : (r : LogRecord) (n : ℕ) (x y z : PartsValue) → IsRoomy n x y → IsForced r y (Ok tt) z → plain_of z ≡ logged (Some r) (plain_of x)
+pub forced_seen : (r : LogRecord) (n : ℕ) (x y z : PartsValue) → mode_is_up x.mode ≡ true → IsRoomy n x y → IsForced r y (Ok tt) z → plain_of z ≡ logged (Some r) (plain_of x)
 unfolding with_record
-forced_seen r n x y z h f = forced_view r y z f ∙ ap (with_record r) (roomier_view x y (roomy_more n x y h))
+forced_seen r n x y z up h f = forced_view r y z (roomy_up n x y up h) f ∙ ap (with_record r) (roomier_view x y (roomy_more n x y h))
 
 pub forced_mode : (r : LogRecord) (n : ℕ) (x y z : PartsValue) (result : Result (Unit {0}) Stop) → IsRoomy n x y → IsForced r y result z → z.mode ≡ x.mode
 forced_mode r n x y z result h f = ap (λ (p : PartsValue). p.mode) f.same ∙ ap (λ (p : PartsValue). p.mode) h.same
@@ -190,9 +193,9 @@ forced_mode r n x y z result h f = ap (λ (p : PartsValue). p.mode) f.same ∙ a
 freeze_at : StoppedWrite → ℕ → PartsValue → Plain
 freeze_at write armed x = freeze (noted (frozen_of x) (Some write)) armed (plain_of x)
 
-pub stopped_seen : (write : StoppedWrite) (r : LogRecord) (n : ℕ) (stop : Stop) (x y z : PartsValue) → IsRoomy n x y → IsForced r y (Err stop) z → plain_of (downed write z) ≡ freeze (noted (frozen_of x) (Some write)) z.log.armed (plain_of x)
+pub stopped_seen : (write : StoppedWrite) (r : LogRecord) (n : ℕ) (stop : Stop) (x y z : PartsValue) → mode_is_up x.mode ≡ true → IsRoomy n x y → IsForced r y (Err stop) z → plain_of (downed write z) ≡ freeze (noted (frozen_of x) (Some write)) z.log.armed (plain_of x)
 unfolding freeze_at
-stopped_seen write r n stop x y z h f = frozen_view write r y z stop f ∙ ap (freeze_at write z.log.armed) h.same
+stopped_seen write r n stop x y z up h f = frozen_view write r y z stop (roomy_up n x y up h) f ∙ ap (freeze_at write z.log.armed) h.same
 
 pub stopped_tied : (write : StoppedWrite) (r : LogRecord) (n : ℕ) (stop : Stop) (x y z : PartsValue) → IsRoomy n x y → IsForced r y (Err stop) z → Tied x → Tied (downed write z)
 stopped_tied write r n stop x y z h f t = tied_downed write r [] y z stop f (tied_roomier x y (roomy_more n x y h) t)
@@ -208,21 +211,21 @@ note_frozen : List ℕ → Note → Change → ℕ → Plain → Plain
 note_frozen channel note change armed p = freeze (note_of (noted_change channel note change) (Some (note_record channel note))) armed p
 
 ends_by : (u : Unwritten) (v : ManagerValue) (x z : PartsValue) (told : List Did) (channel : List ℕ) (note : Note) (change : Change) (bytes : List ℕ) (e : ChannelEnds)
-    → bytes ≡ record_bytes (note_record channel note) → length bytes ≡ record_size (note_record channel note) → Writes bytes e (writes.Hardened channel note) x (Err u) z
+    → mode_is_up x.mode ≡ true → bytes ≡ record_bytes (note_record channel note) → length bytes ≡ record_size (note_record channel note) → Writes bytes e (writes.Hardened channel note) x (Err u) z
     → plain_of x ≡ v.plain → harden_part channel note v.plain ≡ noted_change channel note change → x.log.faults ≡ v.faults → told ≡ []
     → MeetsOrWants v (harden channel note v.plain) (by_agent (Err (agent_of u))) (record { plain = plain_of z; delta = told; stopped = stop_of u; faults = z.log.faults })
 unfolding note_frozen
-ends_by unwritten.NoMemory v x z told channel note change bytes e is size w plain part faults none =
+ends_by unwritten.NoMemory v x z told channel note change bytes e up is size w plain part faults none =
     let seen = roomier_view x z w ∙ plain in
     let failed = ap (λ (p : PartsValue). p.log.faults) w.same ∙ faults in
     λ i. record { plain = seen i; delta = none i; stopped = None; faults = failed i }
-ends_by (unwritten.Stopped stop) v x z told channel note change bytes e is size w plain part faults none =
+ends_by (unwritten.Stopped stop) v x z told channel note change bytes e up is size w plain part faults none =
     let y = w.at in
     let armed : z.log.armed ≡ y.log.armed = ap (λ (p : PartsValue). p.log.armed) w.down in
     let failed : z.log.faults ≡ y.log.faults = ap (λ (p : PartsValue). p.log.faults) w.down in
     let before : x.log.armed ≡ v.plain.log.armed = ap (λ (p : Plain). p.log.armed) plain in
     let here : harden_part channel note (plain_of x) ≡ noted_change channel note change = ap (harden_part channel note) plain ∙ part in
-    let frozen = ap plain_of w.down ∙ down_view (writes.Hardened channel note) (note_record channel note) bytes stop x y is size w.is
+    let frozen = ap plain_of w.down ∙ down_view (writes.Hardened channel note) (note_record channel note) bytes stop x y up is size w.is
     ∙ ap (λ (n : Option Noted). freeze n y.log.armed (plain_of x)) (noted_as channel note change x here) ∙ ap (note_frozen channel note change y.log.armed) plain ∙ ap (λ (n : ℕ). note_frozen channel note change n v.plain) (sym armed) in
     hardening_stops v (record { plain = plain_of z; delta = told; stopped = Some stop; faults = z.log.faults }) channel note change stop (halt_of (stopped_agent stop)) (halt_stopped stop) part frozen none refl
     (subst (λ (n : ℕ). Stops n (Err stop) z.log.armed) before (subst (λ (n : ℕ). Stops x.log.armed (Err stop) n) (sym armed) w.is.calls))
@@ -230,14 +233,14 @@ ends_by (unwritten.Stopped stop) v x z told channel note change bytes e is size 
     (λ d. subst (λ (n : ℕ). Rose n z.log.faults) faults (subst (λ (n : ℕ). Rose x.log.faults n) (sym failed) (w.is.disk (ap (λ (s : Stop). Err s) d))))
 
 pub hardening_ends : (u : Unwritten) (v : ManagerValue) (x z : PartsValue) (told : List Did) (channel : List ℕ) (note : Note) (change : Change) (bytes : List ℕ) (e : ChannelEnds) (agent : AgentStop) (stopped : Option Stop)
-    → agent ≡ agent_of u → stopped ≡ stop_of u
+    → agent ≡ agent_of u → stopped ≡ stop_of u → mode_is_up x.mode ≡ true
     → bytes ≡ record_bytes (note_record channel note) → length bytes ≡ record_size (note_record channel note) → Writes bytes e (writes.Hardened channel note) x (Err u) z
     → plain_of x ≡ v.plain → harden_part channel note v.plain ≡ noted_change channel note change → x.log.faults ≡ v.faults → told ≡ []
     → MeetsOrWants v (harden channel note v.plain) (by_agent (Err agent)) (record { plain = plain_of z; delta = told; stopped = stopped; faults = z.log.faults })
-hardening_ends u v x z told channel note change bytes e agent stopped a s is size w plain part faults none =
+hardening_ends u v x z told channel note change bytes e agent stopped a s up is size w plain part faults none =
     subst (λ (a : AgentStop). MeetsOrWants v (harden channel note v.plain) (by_agent (Err a)) (record { plain = plain_of z; delta = told; stopped = stopped; faults = z.log.faults })) (sym a)
     (subst (λ (o : Option Stop). MeetsOrWants v (harden channel note v.plain) (by_agent (Err (agent_of u))) (record { plain = plain_of z; delta = told; stopped = o; faults = z.log.faults })) (sym s)
-    (ends_by u v x z told channel note change bytes e is size w plain part faults none))
+    (ends_by u v x z told channel note change bytes e up is size w plain part faults none))
 
 -- A note that was hardened, of a sender, of a receiver.
 with_sender_data : LogRecord → SenderSide → Plain → Plain
@@ -263,26 +266,29 @@ receiver_hardened r bytes side channel x y p up is size w named plain =
     ∙ ap (λ (c : List ℕ). with_receiver_data r (record side { channel = c }) p) named
 
 -- A record that was not written, of any call of one part: there was no memory, or its write was stopped.
+more_up : (x y : PartsValue) → mode_is_up x.mode ≡ true → HasMoreRoom x y → mode_is_up y.mode ≡ true
+more_up x y up m = ap (λ (p : PartsValue). mode_is_up p.mode) m.same ∙ up
+
 freeze_noted : Noted → ℕ → Plain → Plain
 freeze_noted n armed p = freeze (Some n) armed p
 
 part_ends : (F : Type 0) {T : Type 0} (u : Unwritten) (v : ManagerValue) (x y z : PartsValue) (told : List Did) (write : StoppedWrite) (r : LogRecord) (changes : List Change) (delta : List Did) (reply : T) (bytes : List ℕ) (e : ChannelEnds)
-    → HasMoreRoom x y → bytes ≡ record_bytes r → length bytes ≡ record_size r → Writes bytes e write y (Err u) z → noted (frozen_of x) (Some write) ≡ Some (record { written = r; changes = changes; delta = delta })
+    → mode_is_up x.mode ≡ true → HasMoreRoom x y → bytes ≡ record_bytes r → length bytes ≡ record_size r → Writes bytes e write y (Err u) z → noted (frozen_of x) (Some write) ≡ Some (record { written = r; changes = changes; delta = delta })
     → plain_of x ≡ v.plain → x.log.faults ≡ v.faults → told ≡ []
     → MeetsDone {F = F} Anywhere v reply (record { forced = Some r; changes = changes; delta = delta } ∷ []) (Err (halt_of {F = F} (agent_of u))) (record { plain = plain_of z; delta = told; stopped = stop_of u; faults = z.log.faults })
 unfolding freeze_noted
-part_ends F unwritten.NoMemory v x y z told write r changes delta reply bytes e m is size w note plain faults none =
+part_ends F unwritten.NoMemory v x y z told write r changes delta reply bytes e up m is size w note plain faults none =
     let seen = roomier_view y z w ∙ roomier_view x y m ∙ plain in
     let failed = ap (λ (p : PartsValue). p.log.faults) w.same ∙ ap (λ (p : PartsValue). p.log.faults) m.same ∙ faults in
     λ i. record { plain = seen i; delta = none i; stopped = None; faults = failed i }
-part_ends F (unwritten.Stopped stop) v x y z told write r changes delta reply bytes e m is size w note plain faults none =
+part_ends F (unwritten.Stopped stop) v x y z told write r changes delta reply bytes e up m is size w note plain faults none =
     let k = w.at in
     let n : Noted = record { written = r; changes = changes; delta = delta } in
     let armed : z.log.armed ≡ k.log.armed = ap (λ (p : PartsValue). p.log.armed) w.down in
     let failed : z.log.faults ≡ k.log.faults = ap (λ (p : PartsValue). p.log.faults) w.down in
     let before : y.log.armed ≡ v.plain.log.armed = ap (λ (p : PartsValue). p.log.armed) m.same ∙ ap (λ (p : Plain). p.log.armed) plain in
     let had : y.log.faults ≡ v.faults = ap (λ (p : PartsValue). p.log.faults) m.same ∙ faults in
-    let frozen = ap plain_of w.down ∙ down_view write r bytes stop y k is size w.is
+    let frozen = ap plain_of w.down ∙ down_view write r bytes stop y k (more_up x y up m) is size w.is
     ∙ ap (λ (p : PartsValue). freeze (noted (frozen_of p) (Some write)) k.log.armed (plain_of p)) m.same
     ∙ ap (λ (o : Option Noted). freeze o k.log.armed (plain_of x)) note ∙ ap (freeze_noted n k.log.armed) plain ∙ ap (λ (a : ℕ). freeze_noted n a v.plain) (sym armed) in
     broke_as Anywhere v (record { plain = plain_of z; delta = told; stopped = Some stop; faults = z.log.faults }) reply r changes delta stop (halt_of {F = F} (stopped_agent stop)) (halt_stopped {F = F} stop) frozen none refl
@@ -291,14 +297,14 @@ part_ends F (unwritten.Stopped stop) v x y z told write r changes delta reply by
     (λ d. subst (λ (a : ℕ). Rose a z.log.faults) had (subst (λ (a : ℕ). Rose y.log.faults a) (sym failed) (w.is.disk (ap (λ (s : Stop). Err s) d))))
 
 pub unwritten_ends : (F : Type 0) {T : Type 0} (u : Unwritten) (v : ManagerValue) (x y z : PartsValue) (told : List Did) (write : StoppedWrite) (r : LogRecord) (changes : List Change) (delta : List Did) (reply : T) (bytes : List ℕ) (e : ChannelEnds)
-    → (agent : AgentStop) (stopped : Option Stop) → agent ≡ agent_of u → stopped ≡ stop_of u
+    → (agent : AgentStop) (stopped : Option Stop) → agent ≡ agent_of u → stopped ≡ stop_of u → mode_is_up x.mode ≡ true
     → HasMoreRoom x y → bytes ≡ record_bytes r → length bytes ≡ record_size r → Writes bytes e write y (Err u) z → noted (frozen_of x) (Some write) ≡ Some (record { written = r; changes = changes; delta = delta })
     → plain_of x ≡ v.plain → x.log.faults ≡ v.faults → told ≡ []
     → MeetsDone {F = F} Anywhere v reply (record { forced = Some r; changes = changes; delta = delta } ∷ []) (Err (halt_of {F = F} agent)) (record { plain = plain_of z; delta = told; stopped = stopped; faults = z.log.faults })
-unwritten_ends F u v x y z told write r changes delta reply bytes e agent stopped a s m is size w note plain faults none =
+unwritten_ends F u v x y z told write r changes delta reply bytes e agent stopped a s up m is size w note plain faults none =
     subst (λ (k : AgentStop). MeetsDone {F = F} Anywhere v reply (record { forced = Some r; changes = changes; delta = delta } ∷ []) (Err (halt_of {F = F} k)) (record { plain = plain_of z; delta = told; stopped = stopped; faults = z.log.faults })) (sym a)
     (subst (λ (o : Option Stop). MeetsDone {F = F} Anywhere v reply (record { forced = Some r; changes = changes; delta = delta } ∷ []) (Err (halt_of {F = F} (agent_of u))) (record { plain = plain_of z; delta = told; stopped = o; faults = z.log.faults })) (sym s)
-    (part_ends F u v x y z told write r changes delta reply bytes e m is size w note plain faults none))
+    (part_ends F u v x y z told write r changes delta reply bytes e up m is size w note plain faults none))
 
 pub tied_after : (u : Unwritten) (x y z : PartsValue) (write : StoppedWrite) (r : LogRecord) (bytes : List ℕ) (e : ChannelEnds) → HasMoreRoom x y → bytes ≡ record_bytes r → length bytes ≡ record_size r → Writes bytes e write y (Err u) z → Tied x → Tied z
 tied_after unwritten.NoMemory x y z write r bytes e m is size w t = tied_roomier y z w (tied_roomier x y m t)
@@ -316,28 +322,28 @@ pub broke_told : {F T : Type 0} (v new : CoreValue) (halt : Halt F) (stop : Stop
 broke_told {F} v new halt stop reply part is write plain log = subst (λ (h : Halt F). WritesLog v (Do reply (part ∷ [])) (Err h) new) (sym is) (record { part = 0; write = write; plain = plain; log = log })
 
 part_told : (F : Type 0) {T : Type 0} (u : Unwritten) (v new : CoreValue) (x y z : PartsValue) (write : StoppedWrite) (r : LogRecord) (changes : List Change) (delta : List Did) (reply : T) (bytes : List ℕ) (e : ChannelEnds)
-    → HasMoreRoom x y → bytes ≡ record_bytes r → length bytes ≡ record_size r → Writes bytes e write y (Err u) z → noted (frozen_of x) (Some write) ≡ Some (record { written = r; changes = changes; delta = delta })
+    → mode_is_up x.mode ≡ true → HasMoreRoom x y → bytes ≡ record_bytes r → length bytes ≡ record_size r → Writes bytes e write y (Err u) z → noted (frozen_of x) (Some write) ≡ Some (record { written = r; changes = changes; delta = delta })
     → plain_of x ≡ v.plain → bodies_in x.log ≡ v.log → new.plain ≡ plain_of z → new.log ≡ bodies_in z.log
     → WritesLog {F = F} v (Do reply (record { forced = Some r; changes = changes; delta = delta } ∷ [])) (Err (halt_of {F = F} (agent_of u))) new
 unfolding freeze_noted
-part_told F unwritten.NoMemory v new x y z write r changes delta reply bytes e m is size w note plain bodies seen log = log ∙ roomier_bodies y z w ∙ roomier_bodies x y m ∙ bodies
-part_told F (unwritten.Stopped stop) v new x y z write r changes delta reply bytes e m is size w note plain bodies seen log =
+part_told F unwritten.NoMemory v new x y z write r changes delta reply bytes e up m is size w note plain bodies seen log = log ∙ roomier_bodies y z w ∙ roomier_bodies x y m ∙ bodies
+part_told F (unwritten.Stopped stop) v new x y z write r changes delta reply bytes e up m is size w note plain bodies seen log =
     let k = w.at in
     let n : Noted = record { written = r; changes = changes; delta = delta } in
     let armed : new.plain.log.armed ≡ k.log.armed = ap (λ (p : Plain). p.log.armed) seen ∙ ap (λ (p : PartsValue). p.log.armed) w.down in
-    let frozen = seen ∙ ap plain_of w.down ∙ down_view write r bytes stop y k is size w.is
+    let frozen = seen ∙ ap plain_of w.down ∙ down_view write r bytes stop y k (more_up x y up m) is size w.is
     ∙ ap (λ (p : PartsValue). freeze (noted (frozen_of p) (Some write)) k.log.armed (plain_of p)) m.same
     ∙ ap (λ (o : Option Noted). freeze o k.log.armed (plain_of x)) note ∙ ap (freeze_noted n k.log.armed) plain ∙ ap (λ (a : ℕ). freeze_noted n a v.plain) (sym armed) in
     broke_told {F = F} v new (halt_of {F = F} (stopped_agent stop)) stop reply (record { forced = Some r; changes = changes; delta = delta }) (halt_stopped {F = F} stop) refl frozen
     (log ∙ ap (λ (p : PartsValue). bodies_in p.log) w.down ∙ down_bodies r bytes stop y k is w.is ∙ ap (pending_record (Some r)) (roomier_bodies x y m ∙ bodies))
 
 pub unwritten_told : (F : Type 0) {T : Type 0} (u : Unwritten) (v new : CoreValue) (x y z : PartsValue) (write : StoppedWrite) (r : LogRecord) (changes : List Change) (delta : List Did) (reply : T) (bytes : List ℕ) (e : ChannelEnds) (agent : AgentStop)
-    → agent ≡ agent_of u → HasMoreRoom x y → bytes ≡ record_bytes r → length bytes ≡ record_size r → Writes bytes e write y (Err u) z → noted (frozen_of x) (Some write) ≡ Some (record { written = r; changes = changes; delta = delta })
+    → agent ≡ agent_of u → mode_is_up x.mode ≡ true → HasMoreRoom x y → bytes ≡ record_bytes r → length bytes ≡ record_size r → Writes bytes e write y (Err u) z → noted (frozen_of x) (Some write) ≡ Some (record { written = r; changes = changes; delta = delta })
     → plain_of x ≡ v.plain → bodies_in x.log ≡ v.log → new.plain ≡ plain_of z → new.log ≡ bodies_in z.log
     → WritesLog {F = F} v (Do reply (record { forced = Some r; changes = changes; delta = delta } ∷ [])) (Err (halt_of {F = F} agent)) new
-unwritten_told F u v new x y z write r changes delta reply bytes e agent a m is size w note plain bodies seen log =
+unwritten_told F u v new x y z write r changes delta reply bytes e agent a up m is size w note plain bodies seen log =
     subst (λ (k : AgentStop). WritesLog {F = F} v (Do reply (record { forced = Some r; changes = changes; delta = delta } ∷ [])) (Err (halt_of {F = F} k)) new) (sym a)
-    (part_told F u v new x y z write r changes delta reply bytes e m is size w note plain bodies seen log)
+    (part_told F u v new x y z write r changes delta reply bytes e up m is size w note plain bodies seen log)
 
 pub hardened_wrote : (channel : List ℕ) (note : Note) (change : Change) (p : Plain) (old new : LogBodies) → harden_part channel note p ≡ noted_change channel note change → new ≡ behind_record (Some (note_record channel note)) old
     → new ≡ wrote_all (harden_part channel note p ∷ []) old
@@ -347,11 +353,11 @@ same_room : (x : PartsValue) → HasMoreRoom x x
 same_room x = record { same = refl; log = omega arith; body = omega arith }
 
 pub hardening_told : (u : Unwritten) (v new : CoreValue) (x z : PartsValue) (channel : List ℕ) (note : Note) (change : Change) (bytes : List ℕ) (e : ChannelEnds) (agent : AgentStop)
-    → agent ≡ agent_of u → bytes ≡ record_bytes (note_record channel note) → length bytes ≡ record_size (note_record channel note) → Writes bytes e (writes.Hardened channel note) x (Err u) z
+    → agent ≡ agent_of u → mode_is_up x.mode ≡ true → bytes ≡ record_bytes (note_record channel note) → length bytes ≡ record_size (note_record channel note) → Writes bytes e (writes.Hardened channel note) x (Err u) z
     → harden_part channel note v.plain ≡ noted_change channel note change → plain_of x ≡ v.plain → bodies_in x.log ≡ v.log → new.plain ≡ plain_of z → new.log ≡ bodies_in z.log
     → WritesLog v (harden channel note v.plain) (by_agent (Err agent)) new
-hardening_told u v new x z channel note change bytes e agent a is size w part plain bodies seen log =
+hardening_told u v new x z channel note change bytes e agent a up is size w part plain bodies seen log =
     let here : harden_part channel note (plain_of x) ≡ noted_change channel note change = ap (harden_part channel note) plain ∙ part in
     let nothing : Unit {0} = tt in
     subst (λ (part : Part). WritesLog {F = Never} {T = Unit {0}} v (Do tt (part ∷ [])) (by_agent (Err agent)) new) (sym part)
-    (unwritten_told Never u v new x x z (writes.Hardened channel note) (note_record channel note) (change ∷ []) (did.Hardened channel note ∷ []) nothing bytes e agent a (same_room x) is size w (noted_as channel note change x here) plain bodies seen log)
+    (unwritten_told Never u v new x x z (writes.Hardened channel note) (note_record channel note) (change ∷ []) (did.Hardened channel note ∷ []) nothing bytes e agent a up (same_room x) is size w (noted_as channel note change x here) plain bodies seen log)

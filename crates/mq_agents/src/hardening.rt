@@ -46,7 +46,7 @@ pub fn go_down<D: Disk>(parts: &mut Parts<D>, write: StoppedWrite)
     parts.mode = Mode::Down {
         write: Some(write),
         starts: 0,
-        kept: None,
+        read: None,
     };
 }
 

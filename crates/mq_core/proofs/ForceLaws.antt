@@ -1,5 +1,5 @@
 -- What a forced write leaves: the view after it, and what ties the parts.
-use Rattle.std.proofs.Common.{◌≡◌, ℕ, ◌+◌, ◌≤◌, Bool, true, false, cond, List, [], ◌∷◌, length, refl, ap, arith, sym, subst, ◌∙◌}
+use Rattle.std.proofs.Common.{◌≡◌, ℕ, ◌+◌, ◌≤◌, Bool, true, false, cond, List, [], ◌∷◌, ◌++◌, length, refl, ap, arith, sym, subst, ◌∙◌}
 use Rattle.std.specs.Prelude.{Option, Some, Result, Ok, Err, map, not, IsErrOf, OnOk}
 use Rattle.std.specs.Str.{bytes_eq}
 use Rattle.mq_base.specs.Outside.{Rose}
@@ -14,12 +14,19 @@ use Rattle.mq_record.specs.Records.{record_bytes}
 use Rattle.mq_record.specs.Room.{Buffered}
 use Rattle.mq_place.specs.States.{QueueState, queues_of, state_in, on_queue, on_queues}
 use Rattle.mq_core.specs.declared.parts.StoppedWrite.{StoppedWrite}
-use Rattle.mq_core.specs.Views.{PartsValue, plain_of, frozen_of, noted}
-use Rattle.mq_core.specs.Ties.{TiedBut, state_lanes, pending_at, times_in_rows, times_in_queues, one_if}
+use Rattle.mq_core.specs.declared.parts.Mode.{Mode}
+use Rattle.mq_core.specs.declared.parts.Mode.TheVariants as modes
+use Rattle.mq_core.specs.Views.{PartsValue, plain_of, frozen_of, noted, length_of}
+use Rattle.mq_core.specs.Ties.{TiedBut, mode_is_up, state_lanes, pending_at, times_in_rows, times_in_queues, one_if}
 use Rattle.mq_core.specs.Forced.{IsForced, downed}
 
 true_false : true ≡ false → ⊥
 true_false e = absurd cc
+
+-- while it is up, the log is as long as its bodies
+pub length_up : (m : Mode) → mode_is_up m ≡ true → (long : ℕ) → length_of m long ≡ long
+length_up modes.Up e long = refl
+length_up (modes.Down write starts read) e long = absurd cc
 
 -- queues changed one by one
 pub queues_on : (f : StateQueue → StateQueue) (qs : List QueueState) → queues_of (on_queues f qs) ≡ map f (queues_of qs)
@@ -55,19 +62,23 @@ with_queues p qs = record p { queues = qs }
 downed_log : StoppedWrite → PartsValue → LogState → PartsValue
 downed_log write x log = downed write (record x { log = log })
 
-frozen : (write : StoppedWrite) (x : PartsValue) (log : LogState) (body : Buffered) (bytes : List ℕ) (stop : Stop) → Appended x.log bytes (Err stop) log
+freeze_long : StoppedWrite → PartsValue → ℕ → ℕ → Plain
+freeze_long write x left long = freeze (noted (frozen_of x) (Some write)) left (record (plain_of x) { log = record { length = long; armed = x.log.armed } })
+
+frozen : (write : StoppedWrite) (x : PartsValue) (log : LogState) (body : Buffered) (bytes : List ℕ) (stop : Stop) → mode_is_up x.mode ≡ true → Appended x.log bytes (Err stop) log
     → plain_of (downed write (record x { log = log; body = body })) ≡ freeze (noted (frozen_of x) (Some write)) log.armed (plain_of x)
-unfolding with_queues downed_log
-frozen write x log body bytes stop e =
+unfolding with_queues downed_log freeze_long
+frozen write x log body bytes stop up e =
     ap (λ (l : LogState). plain_of (downed_log write x (record l { armed = log.armed }))) e
-    ∙ ap (with_queues (freeze (noted (frozen_of x) (Some write)) log.armed (plain_of x))) (queues_on (kept_in Nonpersistent) x.queues.states)
+    ∙ ap (with_queues (freeze_long write x log.armed (log_length x.log.bodies))) (queues_on (kept_in Nonpersistent) x.queues.states)
+    ∙ ap (freeze_long write x log.armed) (sym (length_up x.mode up (log_length x.log.bodies)))
 
 downed_by : StoppedWrite → PartsValue → Plain
 downed_by write y = plain_of (downed write y)
 
-pub frozen_view : (write : StoppedWrite) (r : LogRecord) (x y : PartsValue) (stop : Stop) → IsForced r x (Err stop) y → plain_of (downed write y) ≡ freeze (noted (frozen_of x) (Some write)) y.log.armed (plain_of x)
+pub frozen_view : (write : StoppedWrite) (r : LogRecord) (x y : PartsValue) (stop : Stop) → mode_is_up x.mode ≡ true → IsForced r x (Err stop) y → plain_of (downed write y) ≡ freeze (noted (frozen_of x) (Some write)) y.log.armed (plain_of x)
 unfolding downed_by
-frozen_view write r x y stop f = ap (downed_by write) f.same ∙ frozen write x y.log y.body (record_bytes r) stop f.log
+frozen_view write r x y stop up f = ap (downed_by write) f.same ∙ frozen write x y.log y.body (record_bytes r) stop up f.log
 
 -- and what ties its parts
 pub tied_downed : (write : StoppedWrite) (r : LogRecord) (items : List Item) (x y : PartsValue) (stop : Stop) → IsForced r x (Err stop) y → TiedBut items x → TiedBut items (downed write y)
@@ -99,13 +110,13 @@ with_log p log = record p { log = log }
 plain_with : PartsValue → LogState → Plain
 plain_with x log = plain_of (record x { log = log })
 
-pub forced_view : (r : LogRecord) (x y : PartsValue) → IsForced r x (Ok tt) y → plain_of y ≡ logged (Some r) (plain_of x)
+pub forced_view : (r : LogRecord) (x y : PartsValue) → mode_is_up x.mode ≡ true → IsForced r x (Ok tt) y → plain_of y ≡ logged (Some r) (plain_of x)
 unfolding with_log plain_with
-forced_view r x y f =
+forced_view r x y up f =
     ap plain_of f.same
     ∙ ap (λ (l : LogState). plain_with x (record l { armed = y.log.armed })) f.log
-    ∙ ap (λ (n : ℕ). let l : PlainLog = record { length = n; armed = y.log.armed } in with_log (plain_of x) l) (log_length-push x.log.bodies (record_bytes r) ∙ ap (λ (n : ℕ). log_length x.log.bodies + (5 + n)) f.size)
-    ∙ ap (λ (n : ℕ). let l : PlainLog = record { length = log_length x.log.bodies + need r; armed = n } in with_log (plain_of x) l) f.ends.0
+    ∙ ap (λ (n : ℕ). let l : PlainLog = record { length = n; armed = y.log.armed } in with_log (plain_of x) l) (length_up x.mode up (log_length (x.log.bodies ++ record_bytes r ∷ [])) ∙ log_length-push x.log.bodies (record_bytes r) ∙ ap (λ (n : ℕ). log_length x.log.bodies + (5 + n)) f.size ∙ ap (λ (n : ℕ). n + need r) (sym (length_up x.mode up (log_length x.log.bodies))))
+    ∙ ap (λ (n : ℕ). let l : PlainLog = record { length = length_of x.mode (log_length x.log.bodies) + need r; armed = n } in with_log (plain_of x) l) f.ends.0
 
 -- how a forced write ends
 pub stops_at : (stop : Stop) (armed left : ℕ) → Stops armed (Err stop) left → StopsAt stop 4 armed 0 left

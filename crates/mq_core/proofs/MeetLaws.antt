@@ -41,11 +41,11 @@ quiet_done wants v new reply changes plain told stopped faults =
 -- while it is up, nothing of the connections shows in that
 pub mode_up : (frozen : Plain) (m : Mode) → is_up (running_of frozen m) ≡ true → mode_is_up m ≡ true
 mode_up frozen modes.Up e = refl
-mode_up frozen (modes.Down write starts kept) e = absurd cc
+mode_up frozen (modes.Down write starts read) e = absurd cc
 
 pub running_up : (old new : Plain) (m : Mode) → mode_is_up m ≡ true → running_of new m ≡ running_of old m
 running_up old new modes.Up e = refl
-running_up old new (modes.Down write starts kept) e = absurd cc
+running_up old new (modes.Down write starts read) e = absurd cc
 
 with_running : PartsValue → Desk → Running → Plain
 with_running x d r = record (plain_of x) { running = r; connections = d.live; numbers = record { incarnation = x.incarnation; idents = x.idents; connections = d.last } }

@@ -194,17 +194,20 @@ way_forced queue m n r x y z en ident e f t =
       ident = ident;
     }
 
+still_up : (queue : List ℕ) (n : ℕ) (x y : PartsValue) → mode_is_up x.mode ≡ true → IsExpected queue n x y → mode_is_up y.mode ≡ true
+still_up queue n x y up e = ap (λ (z : PartsValue). mode_is_up z.mode) e.same ∙ up
+
 -- and in the end
 pub free_done : (queue : List ℕ) (m : Message) (n : ℕ) (x y : PartsValue) → IsExpected queue n x y → IsReady queue m (counted_put n y)
     → plain_of (put_in_place queue m (counted_put n y)) ≡ apply_all (CountIdent ∷ placed queue m) (plain_of x)
 unfolding count_ident place_and_try
 free_done queue m n x y e r = placed_view queue m (counted_put n y) r ∙ ap (place_and_try queue m) (ap count_ident (expected_view queue n x y e))
 
-pub forced_done : (queue : List ℕ) (m : Message) (n : ℕ) (r : LogRecord) (x y z : PartsValue) → IsExpected queue n x y → IsForced r y (Ok tt) z → IsReady queue m (counted_put n z)
+pub forced_done : (queue : List ℕ) (m : Message) (n : ℕ) (r : LogRecord) (x y z : PartsValue) → mode_is_up x.mode ≡ true → IsExpected queue n x y → IsForced r y (Ok tt) z → IsReady queue m (counted_put n z)
     → plain_of (put_in_place queue m (counted_put n z)) ≡ apply_all (CountIdent ∷ placed queue m) (logged (Some r) (plain_of x))
 unfolding count_ident place_and_try
-forced_done queue m n r x y z e f k =
-    placed_view queue m (counted_put n z) k ∙ ap (place_and_try queue m) (ap count_ident (forced_view r y z f ∙ ap (λ (p : Plain). logged (Some r) p) (expected_view queue n x y e)))
+forced_done queue m n r x y z up e f k =
+    placed_view queue m (counted_put n z) k ∙ ap (place_and_try queue m) (ap count_ident (forced_view r y z (still_up queue n x y up e) f ∙ ap (λ (p : Plain). logged (Some r) p) (expected_view queue n x y e)))
 
 -- a put that is given up waits no longer
 pub unpend_expect : (at : List ℕ) (qs : List QueueState) → change_state at unpended (change_state at expecting qs) ≡ qs
@@ -259,11 +262,11 @@ still_forced queue r stop y z f = record { same = ap (up_to queue) f.same; log =
 freeze_by : StoppedWrite → PartsValue → ℕ → Plain → Plain
 freeze_by write x left p = freeze (noted (frozen_of x) (Some write)) left p
 
-pub put_stopped_view : (queue : List ℕ) (m : Message) (n : ℕ) (r : LogRecord) (stop : Stop) (x y z : PartsValue) → IsExpected queue n x y → IsForced r y (Err stop) z
+pub put_stopped_view : (queue : List ℕ) (m : Message) (n : ℕ) (r : LogRecord) (stop : Stop) (x y z : PartsValue) → mode_is_up x.mode ≡ true → IsExpected queue n x y → IsForced r y (Err stop) z
     → plain_of (downed_put queue m z) ≡ freeze (note_of (now_part queue m) (now_part queue m).forced) z.log.armed (plain_of x)
 unfolding up_to freeze_by
-put_stopped_view queue m n r stop x y z e f =
-    frozen_view (writes.Put queue m) r (up_to queue y) (up_to queue z) stop (still_forced queue r stop y z f)
+put_stopped_view queue m n r stop x y z up e f =
+    frozen_view (writes.Put queue m) r (up_to queue y) (up_to queue z) stop (still_up queue n x y up e) (still_forced queue r stop y z f)
     ∙ ap (freeze_by (writes.Put queue m) x z.log.armed) (roomier_view x (up_to queue y) (given_up queue n x y e))
 
 pub put_stopped_tied : (queue : List ℕ) (m : Message) (n : ℕ) (r : LogRecord) (stop : Stop) (x y z : PartsValue) → IsExpected queue n x y → IsForced r y (Err stop) z → Tied x → Tied (downed_put queue m z)

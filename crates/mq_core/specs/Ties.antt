@@ -13,7 +13,7 @@ use Rattle.mq_core.specs.Views.{PartsValue}
 
 abbrev pub mode_is_up : Mode → Bool
 mode_is_up modes.Up = true
-mode_is_up (modes.Down write starts kept) = false
+mode_is_up (modes.Down write starts read) = false
 
 -- How often an ident stands: in rows, and in uncommitted puts.
 abbrev pub one_if : Bool → ℕ

@@ -9,6 +9,7 @@ use Rattle.mq_handles.specs.Desks.{Desk}
 use Rattle.mq_place.specs.States.{QueueStates, queues_of}
 use Rattle.mq_core.specs.declared.parts.StoppedWrite.{StoppedWrite}
 use Rattle.mq_core.specs.declared.parts.StoppedWrite.TheVariants as writes
+use Rattle.mq_core.specs.declared.parts.ReadLog.{ReadLog}
 use Rattle.mq_core.specs.declared.parts.Mode.{Mode}
 use Rattle.mq_core.specs.declared.parts.Mode.TheVariants as modes
 use Rattle.mq_core.specs.declared.parts.ChannelEnds.{ChannelEnds}
@@ -72,7 +73,16 @@ noted frozen (Some (writes.Moved from target bare to message)) = noted_part (mov
 
 abbrev pub running_of : Plain → Mode → Running
 running_of frozen modes.Up = Up
-running_of frozen (modes.Down write starts kept) = Down (noted frozen write) starts
+running_of frozen (modes.Down write starts read) = Down (noted frozen write) starts
+
+-- The log's length, where its bodies are so long: a restart that read it and was refused leaves what it was at the stop.
+abbrev pub read_length : Option ReadLog → ℕ → ℕ
+read_length None long = long
+read_length (Some r) long = r.length
+
+abbrev pub length_of : Mode → ℕ → ℕ
+length_of modes.Up long = long
+length_of (modes.Down write starts read) long = read_length read long
 
 -- the plain manager
 abbrev pub plain_of : PartsValue → Plain
@@ -85,5 +95,5 @@ plain_of x = record {
   channels = channels_of x.ends;
   moment = x.moment;
   numbers = record { incarnation = x.incarnation; idents = x.idents; connections = x.desk.last };
-  log = record { length = log_length x.log.bodies; armed = x.log.armed };
+  log = record { length = length_of x.mode (log_length x.log.bodies); armed = x.log.armed };
 }

@@ -88,7 +88,7 @@ impl<D: Disk> Parts<D> {
                 message,
             }),
             starts: 0,
-            kept: None,
+            read: None,
         };
     }
 

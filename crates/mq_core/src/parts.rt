@@ -70,15 +70,24 @@ pub enum StoppedWrite {
     },
 }
 
+/// What the first restart that read the log found there.
+#[derive(Clone, Copy, Debug, PartialEq, Eq)]
+pub struct ReadLog {
+    /// Whether the log holds the stopped write.
+    pub kept: bool,
+    /// The log's length at the stop, in bytes.
+    pub length: u64,
+}
+
 /// Up, or down, with the write that was stopped, how many Started writes were stopped since, and
-/// whether the log holds the stopped write, from the first restart on that has read it.
+/// what the first restart found that has read the log since, if one has.
 #[derive(Drop)]
 pub enum Mode {
     Up,
     Down {
         write: Option<StoppedWrite>,
         starts: u64,
-        kept: Option<bool>,
+        read: Option<ReadLog>,
     },
 }
 

@@ -93,26 +93,26 @@ noted_so number ends c x found = ap (noted_commit ends) found
 freeze_with : Plain → ℕ → Option Noted → Plain
 freeze_with p left note = freeze note left p
 
-frozen_commit : (p q : Plain) (number : ℕ) (ends : Bool) (c : Connection) (r : LogRecord) (stop : Stop) (x y : PartsValue) → connection_at number x.desk.live ≡ Some c → plain_of x ≡ p → IsForced r x (Err stop) y
+frozen_commit : (p q : Plain) (number : ℕ) (ends : Bool) (c : Connection) (r : LogRecord) (stop : Stop) (x y : PartsValue) → mode_is_up x.mode ≡ true → connection_at number x.desk.live ≡ Some c → plain_of x ≡ p → IsForced r x (Err stop) y
     → q ≡ plain_of (downed (writes.Commit number ends) y) → q ≡ freeze (note_of (ended_part ends c) (ended_part ends c).forced) q.log.armed p
 unfolding freeze_with
-frozen_commit p q number ends c r stop x y live plain f is =
+frozen_commit p q number ends c r stop x y up live plain f is =
     let left : y.log.armed ≡ q.log.armed = ap (λ (p : Plain). p.log.armed) (sym is) in
-    is ∙ frozen_view (writes.Commit number ends) r x y stop f ∙ ap (freeze_with (plain_of x) y.log.armed) (noted_so number ends c x live)
+    is ∙ frozen_view (writes.Commit number ends) r x y stop up f ∙ ap (freeze_with (plain_of x) y.log.armed) (noted_so number ends c x live)
     ∙ ap (freeze (note_of (ended_part ends c) (ended_part ends c).forced) y.log.armed) plain
     ∙ ap (λ (n : ℕ). freeze (note_of (ended_part ends c) (ended_part ends c).forced) n p) left
 
-pub commit_stopped : (v new : ManagerValue) (number : ℕ) (ends : Bool) (c : Connection) (stop : Stop) (x y : PartsValue) → connection_at number v.plain.connections ≡ Some c → connection_at number x.desk.live ≡ Some c → plain_of x ≡ v.plain → x.log.faults ≡ v.faults
+pub commit_stopped : (v new : ManagerValue) (number : ℕ) (ends : Bool) (c : Connection) (stop : Stop) (x y : PartsValue) → mode_is_up x.mode ≡ true → connection_at number v.plain.connections ≡ Some c → connection_at number x.desk.live ≡ Some c → plain_of x ≡ v.plain → x.log.faults ≡ v.faults
     → IfForced (record_of (adds_of c.unit) (removes_of c.unit)) x (Err stop) y → new.plain ≡ plain_of (downed (writes.Commit number ends) y) → new.delta ≡ [] → new.stopped ≡ Some stop → new.faults ≡ y.log.faults
     → MeetsInRoom v (commit_at number ends v.plain) (Err (halts.Stopped stop)) new
-commit_stopped v new number ends c stop x y found live plain faults f is told stopped failed = by (record_of (adds_of c.unit) (removes_of c.unit)) refl f
+commit_stopped v new number ends c stop x y up found live plain faults f is told stopped failed = by (record_of (adds_of c.unit) (removes_of c.unit)) refl f
   where
     by : (o : Option LogRecord) → (ended_part ends c).forced ≡ o → IfForced o x (Err stop) y → MeetsInRoom v (commit_at number ends v.plain) (Err (halts.Stopped stop)) new
     by None e h = absurd (stopped_not stop (Err stop) refl h.0)
     by (Some r) e f =
         let armed : x.log.armed ≡ v.plain.log.armed = ap (λ (p : Plain). p.log.armed) plain in
         let left : y.log.armed ≡ new.plain.log.armed = ap (λ (p : Plain). p.log.armed) (sym is) in
-        stopped_of v new number ends c stop found (ap is_some e) (frozen_commit v.plain new.plain number ends c r stop x y live plain f is)
+        stopped_of v new number ends c stop found (ap is_some e) (frozen_commit v.plain new.plain number ends c r stop x y up live plain f is)
         told stopped
         (subst (λ (n : ℕ). Stops n (Err stop) new.plain.log.armed) armed (subst (λ (n : ℕ). Stops x.log.armed (Err stop) n) left f.ends))
         (omega (arith, faults, failed, f.later))
@@ -130,16 +130,16 @@ wrote_bodies (Some r) x y f = forced_bodies r x y f
 pub commit_writes : (v new : CoreValue) (number : ℕ) (ends : Bool) (c : Connection) → connection_at number v.plain.connections ≡ Some c → new.log ≡ behind_record (ended_part ends c).forced v.log → WritesLog v (commit_at number ends v.plain) (Ok (answers.Ok tt)) new
 commit_writes v new number ends c found log = writes_at v new number c (λ d. Do (answers.Ok tt) (ended_part ends d ∷ [])) (Ok (answers.Ok tt)) found log
 
-pub commit_breaks : (v new : CoreValue) (number : ℕ) (ends : Bool) (c : Connection) (stop : Stop) (x y : PartsValue) → connection_at number v.plain.connections ≡ Some c → connection_at number x.desk.live ≡ Some c → plain_of x ≡ v.plain → bodies_in x.log ≡ v.log
+pub commit_breaks : (v new : CoreValue) (number : ℕ) (ends : Bool) (c : Connection) (stop : Stop) (x y : PartsValue) → mode_is_up x.mode ≡ true → connection_at number v.plain.connections ≡ Some c → connection_at number x.desk.live ≡ Some c → plain_of x ≡ v.plain → bodies_in x.log ≡ v.log
     → IfForced (record_of (adds_of c.unit) (removes_of c.unit)) x (Err stop) y → new.plain ≡ plain_of (downed (writes.Commit number ends) y) → new.log ≡ bodies_in y.log → WritesLog v (commit_at number ends v.plain) (Err (halts.Stopped stop)) new
-commit_breaks v new number ends c stop x y found live plain bodies f is log = by (record_of (adds_of c.unit) (removes_of c.unit)) refl f
+commit_breaks v new number ends c stop x y up found live plain bodies f is log = by (record_of (adds_of c.unit) (removes_of c.unit)) refl f
   where
     by : (o : Option LogRecord) → (ended_part ends c).forced ≡ o → IfForced o x (Err stop) y → WritesLog v (commit_at number ends v.plain) (Err (halts.Stopped stop)) new
     by None e h = absurd (stopped_not stop (Err stop) refl h.0)
     by (Some r) e f = writes_at v new number c (λ d. Do (answers.Ok tt) (ended_part ends d ∷ [])) (Err (halts.Stopped stop)) found (record {
       part = 0;
       write = ap is_some e;
-      plain = frozen_commit v.plain new.plain number ends c r stop x y live plain f is;
+      plain = frozen_commit v.plain new.plain number ends c r stop x y up live plain f is;
       log = log ∙ stopped_bodies r x y stop f ∙ ap (pending_record (Some r)) bodies ∙ sym (ap (λ (o : Option LogRecord). pending_record o v.log) e);
     })
 

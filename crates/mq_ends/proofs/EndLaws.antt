@@ -58,9 +58,9 @@ pub wrote_if : (o : Option LogRecord) (x y : PartsValue) → IfForced o x (Ok tt
 wrote_if None x y h = wrote_none x y h.1
 wrote_if (Some r) x y f = wrote_forced r x y f
 
-pub wrote_view : (o : Option LogRecord) (x y : PartsValue) → IfForced o x (Ok tt) y → plain_of y ≡ logged o (plain_of x)
-wrote_view None x y h = ap plain_of h.1
-wrote_view (Some r) x y f = forced_view r x y f
+pub wrote_view : (o : Option LogRecord) (x y : PartsValue) → mode_is_up x.mode ≡ true → IfForced o x (Ok tt) y → plain_of y ≡ logged o (plain_of x)
+wrote_view None x y up h = ap plain_of h.1
+wrote_view (Some r) x y up f = forced_view r x y up f
 
 -- puts of the items, counted either way
 waits_step : (name : List ℕ) (item : Item) (items : List Item) → waits name (item ∷ items) ≡ cond (is_put_to name item) (1 + waits name items) (waits name items)

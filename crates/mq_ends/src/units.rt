@@ -44,7 +44,7 @@ pub(crate) fn go_down_commit<D: Disk>(parts: &mut Parts<D>, number: u64, ends: b
     parts.mode = Mode::Down {
         write: Some(StoppedWrite::Commit { number, ends }),
         starts: 0,
-        kept: None,
+        read: None,
     };
 }
 

@@ -110,7 +110,7 @@ held_run number queue mets met need n x r w y t u l is untold up roomy more h =
     let item = Take queue met.ident met.persistent in
     let o : Option LogRecord = leaving_record l.removes in
     let p : Plain = plain_of x in
-    let runs : HasRun (leaving_part queue l whys.Expired ∷ []) (seen w t.dids None) (seen h.mid h.left.dids None) = dropped_runs queue l whys.Expired w t h.mid h.left h.dropped in
+    let runs : HasRun (leaving_part queue l whys.Expired ∷ []) (seen w t.dids None) (seen h.mid h.left.dids None) = dropped_runs queue l whys.Expired w t h.mid h.left (ap (λ (z : PartsValue). mode_is_up z.mode) more.same ∙ roomy_up n x r roomy up) h.dropped in
     let m : CoreValue = record { plain = leave_by queue l.idents (logged o p); delta = h.left.dids; stopped = None; faults = h.mid.log.faults; log = behind_record o (bodies_in x.log) } in
     let armed : w.log.armed ≡ x.log.armed = ap (λ (z : PartsValue). z.log.armed) more.same ∙ ap (λ (z : PartsValue). z.log.armed) roomy.same in
     let faults : w.log.faults ≡ x.log.faults = ap (λ (z : PartsValue). z.log.faults) more.same ∙ ap (λ (z : PartsValue). z.log.faults) roomy.same in
@@ -159,14 +159,14 @@ held_room number item leaving need n x r w all roomy more =
     (omega (arith, all, roomy.log, more.more), omega (arith, all, roomy.body, more.body), omega (arith, reserved_w))
 
 -- the write was stopped, and the item is given up
-pub unheld_cut : (number : ℕ) (queue : List ℕ) (mets : List Met) (met : Met) (need n : ℕ) (stop : Stop) (x r w y : PartsValue) (t u : Telling) (l : Leaving) → l ≡ leaving_met queue mets → t.dids ≡ [] → Tied x
+pub unheld_cut : (number : ℕ) (queue : List ℕ) (mets : List Met) (met : Met) (need n : ℕ) (stop : Stop) (x r w y : PartsValue) (t u : Telling) (l : Leaving) → l ≡ leaving_met queue mets → t.dids ≡ [] → mode_is_up x.mode ≡ true → Tied x
     → IsRoomy n x r → IsItemMore number (Take queue met.ident met.persistent) need r w → IsUnheld number queue l need stop w t y u
     → IsCutOff stop (gone_parts whys.Expired queue mets ++ held_part number queue met ∷ []) x y u
-unheld_cut number queue mets met need n stop x r w y t u l is untold tied roomy more d =
+unheld_cut number queue mets met need n stop x r w y t u l is untold up tied roomy more d =
     let v : PartsValue = unheld number need w in
     let room = unheld_room number (Take queue met.ident met.persistent) need r w more in
     let writes = still_writes number need l.removes stop w d.written d.writes in
-    let breaks : HasBroken stop (leaving_part queue l whys.Expired ∷ []) (seen v t.dids None) (seen y t.dids (Some stop)) = stopped_breaks queue l whys.Expired stop v (unheld number need d.written) y t.dids writes d.gone in
+    let breaks : HasBroken stop (leaving_part queue l whys.Expired ∷ []) (seen v t.dids None) (seen y t.dids (Some stop)) = stopped_breaks queue l whys.Expired stop v (unheld number need d.written) y t.dids (ap (λ (z : PartsValue). mode_is_up z.mode) room.same ∙ roomy_up n x r roomy up) writes d.gone in
     let plain : plain_of v ≡ plain_of x = roomier_view r v room ∙ roomy_view n x r roomy in
     let faults : v.log.faults ≡ x.log.faults = ap (λ (z : PartsValue). z.log.faults) room.same ∙ ap (λ (z : PartsValue). z.log.faults) roomy.same in
     let log : bodies_in v.log ≡ bodies_in x.log = ap (λ (z : PartsValue). bodies_in z.log) room.same ∙ ap (λ (z : PartsValue). bodies_in z.log) roomy.same in

@@ -44,7 +44,7 @@ pub record Wrote (removes : List Remove) (x z : PartsValue) : Type 0 where
   pub later : x.log.faults ≤ z.log.faults
   pub room : x.log.room ≤ z.log.room + leaving_need removes
   pub body : x.body.room + length x.body.bytes ≤ z.body.room + length z.body.bytes
-  pub view : plain_of z ≡ logged (leaving_record removes) (plain_of x)
+  pub view : mode_is_up x.mode ≡ true → plain_of z ≡ logged (leaving_record removes) (plain_of x)
   pub bodies : bodies_in z.log ≡ behind_record (leaving_record removes) (bodies_in x.log)
 
 pub wrote : (removes : List Remove) (x z : PartsValue) → Writes removes x (Ok tt) z → Wrote removes x z
@@ -59,7 +59,7 @@ wrote [] x z e = record {
   later = let a = ap (λ (y : PartsValue). y.log.faults) e in omega (arith, a);
   room = let a = ap (λ (y : PartsValue). y.log.room) e in omega (arith, a);
   body = let a = ap (λ (y : PartsValue). y.body.room + length y.body.bytes) e in omega (arith, a);
-  view = ap plain_of e;
+  view = λ up. ap plain_of e;
   bodies = ap (λ (y : PartsValue). bodies_in y.log) e;
 }
 wrote (r ∷ rs) x z f = record {
@@ -73,7 +73,7 @@ wrote (r ∷ rs) x z f = record {
   later = f.later;
   room = f.room;
   body = f.body;
-  view = forced_view (records.Unit [] (r ∷ rs)) x z f;
+  view = λ up. forced_view (records.Unit [] (r ∷ rs)) x z up f;
   bodies = ap bodies_in f.log;
 }
 
@@ -112,13 +112,13 @@ log_by removes p = logged (leaving_record removes) p
 leave_by : List ℕ → List Ident → Plain → Plain
 leave_by queue idents p = record p { queues = map (kept_in (Among queue idents)) p.queues }
 
-pub dropped_runs : (queue : List ℕ) (l : Leaving) (why : Why) (x : PartsValue) (t : Telling) (y : PartsValue) (u : Telling) → IsDropped queue l why x t y u → HasRun (leaving_part queue l why ∷ []) (seen x t.dids None) (seen y u.dids None)
+pub dropped_runs : (queue : List ℕ) (l : Leaving) (why : Why) (x : PartsValue) (t : Telling) (y : PartsValue) (u : Telling) → mode_is_up x.mode ≡ true → IsDropped queue l why x t y u → HasRun (leaving_part queue l why ∷ []) (seen x t.dids None) (seen y u.dids None)
 unfolding leave_by
-dropped_runs queue l why x t y u d =
+dropped_runs queue l why x t y u up d =
     let w = wrote l.removes x d.written d.writes in
     let removed : List Did = map (λ (i : Ident). did.Removed queue i why) l.idents in
     record {
-      plain = ap plain_of d.gone ∙ out_view queue l.idents d.written ∙ ap (leave_by queue l.idents) w.view;
+      plain = ap plain_of d.gone ∙ out_view queue l.idents d.written ∙ ap (leave_by queue l.idents) (w.view up);
       told = ap (λ (s : Telling). s.dids) d.told ∙ ap (λ (ds : List Did). t.dids ++ ds) (sym (append-nil removed));
       later = let a = ap (λ (z : PartsValue). z.log.faults) d.gone in omega (arith, a, w.later);
       ran = λ some. let a = w.ran some in omega (arith, a);
@@ -127,8 +127,8 @@ dropped_runs queue l why x t y u d =
     }
 
 -- their write was stopped
-pub stopped_breaks : (queue : List ℕ) (l : Leaving) (why : Why) (stop : Stop) (x z y : PartsValue) (told : List Did) → Writes l.removes x (Err stop) z → y ≡ downed_out queue l why z → HasBroken stop (leaving_part queue l why ∷ []) (seen x told None) (seen y told (Some stop))
-stopped_breaks queue l why stop x z y told f gone = by l.removes refl f
+pub stopped_breaks : (queue : List ℕ) (l : Leaving) (why : Why) (stop : Stop) (x z y : PartsValue) (told : List Did) → mode_is_up x.mode ≡ true → Writes l.removes x (Err stop) z → y ≡ downed_out queue l why z → HasBroken stop (leaving_part queue l why ∷ []) (seen x told None) (seen y told (Some stop))
+stopped_breaks queue l why stop x z y told up f gone = by l.removes refl f
   where
     by : (rs : List Remove) → l.removes ≡ rs → Writes rs x (Err stop) z → HasBroken stop (leaving_part queue l why ∷ []) (seen x told None) (seen y told (Some stop))
     by [] is f = absurd f
@@ -144,7 +144,7 @@ stopped_breaks queue l why stop x z y told f gone = by l.removes refl f
           part = 0;
           write = refl;
           stop = subst (λ (n : ℕ). StopsAt stop 4 x.log.armed 0 n) (sym down) (stops_at stop x.log.armed z.log.armed f.ends);
-          plain = ap plain_of gone ∙ frozen_view (writes.Removal queue lv.removes lv.idents why) (records.Unit [] (r ∷ rs)) x z stop f
+          plain = ap plain_of gone ∙ frozen_view (writes.Removal queue lv.removes lv.idents why) (records.Unit [] (r ∷ rs)) x z stop up f
               ∙ ap (λ (n : ℕ). freeze (note_of (leaving_part queue lv why) (Some (records.Unit [] (r ∷ rs)))) n (plain_of x)) (sym down);
           told = sym (append-nil told);
           later = omega (arith, failed, f.later);

@@ -53,6 +53,9 @@ dropped_after queue l why x t y u d room tied =
       body = let a = ap (λ (z : PartsValue). z.body.room + length z.body.bytes) d.gone in omega (arith, a, w.body);
     }
 
+pub dropped_up : (queue : List ℕ) (l : Leaving) (why : Why) (x : PartsValue) (t : Telling) (y : PartsValue) (u : Telling) → mode_is_up x.mode ≡ true → IsDropped queue l why x t y u → mode_is_up y.mode ≡ true
+dropped_up queue l why x t y u up d = let w = wrote l.removes x d.written d.writes in ap (λ (z : PartsValue). mode_is_up z.mode) d.gone ∙ ap (λ (z : PartsValue). mode_is_up z.mode) w.same ∙ up
+
 -- room was taken: nothing of it is seen
 pub seen_roomy : (n : ℕ) (x r : PartsValue) (told : List Did) → IsRoomy n x r → told ≡ [] → seen r told None ≡ seen x [] None
 seen_roomy n x r told h none = let plain = roomy_view n x r h in let faults = ap (λ (z : PartsValue). z.log.faults) h.same in let log = ap (λ (z : PartsValue). bodies_in z.log) h.same in λ i. record { plain = plain i; delta = none i; stopped = None; faults = faults i; log = log i }
@@ -82,7 +85,7 @@ pub cleared : (queue : List ℕ) (mets : List Met) (n : ℕ) (x r mid y : PartsV
 cleared queue mets n x r mid y t u l is need untold up tied roomy d back =
     let same = seen_roomy n x r t.dids roomy untold in
     let after = dropped_after queue l whys.Expired r t mid u d (roomy_log n (leaving_need l.removes) x r roomy (omega (arith, need))) (tied_roomy n x r roomy tied) in
-    let runs : HasRun (leaving_part queue l whys.Expired ∷ []) (seen r t.dids None) (seen mid u.dids None) = dropped_runs queue l whys.Expired r t mid u d in
+    let runs : HasRun (leaving_part queue l whys.Expired ∷ []) (seen r t.dids None) (seen mid u.dids None) = dropped_runs queue l whys.Expired r t mid u (roomy_up n x r roomy up) d in
     let gone : HasRun (gone_part whys.Expired queue mets ∷ []) (seen x [] None) (seen mid u.dids None) =
     subst (λ (k : Leaving). HasRun (leaving_part queue k whys.Expired ∷ []) (seen x [] None) (seen mid u.dids None)) is (subst (λ (v : CoreValue). HasRun (leaving_part queue l whys.Expired ∷ []) v (seen mid u.dids None)) same runs) in
     record {
@@ -93,11 +96,11 @@ cleared queue mets n x r mid y t u l is need untold up tied roomy d back =
     }
 
 -- their write was stopped
-pub cut_off : (queue : List ℕ) (mets : List Met) (n : ℕ) (stop : Stop) (x r y : PartsValue) (t u : Telling) (l : Leaving) → l ≡ leaving_met queue mets → t.dids ≡ [] → Tied x → IsRoomy n x r → IsStopped queue l whys.Expired stop r t y u → IsCutOff stop (gone_parts whys.Expired queue mets) x y u
-cut_off queue mets n stop x r y t u l is untold tied roomy d =
+pub cut_off : (queue : List ℕ) (mets : List Met) (n : ℕ) (stop : Stop) (x r y : PartsValue) (t u : Telling) (l : Leaving) → l ≡ leaving_met queue mets → t.dids ≡ [] → mode_is_up x.mode ≡ true → Tied x → IsRoomy n x r → IsStopped queue l whys.Expired stop r t y u → IsCutOff stop (gone_parts whys.Expired queue mets) x y u
+cut_off queue mets n stop x r y t u l is untold up tied roomy d =
     let same = seen_roomy n x r t.dids roomy untold in
     let told = ap (λ (s : Telling). s.dids) d.told in
-    let breaks : HasBroken stop (leaving_part queue l whys.Expired ∷ []) (seen r t.dids None) (seen y t.dids (Some stop)) = stopped_breaks queue l whys.Expired stop r d.written y t.dids d.writes d.gone in
+    let breaks : HasBroken stop (leaving_part queue l whys.Expired ∷ []) (seen r t.dids None) (seen y t.dids (Some stop)) = stopped_breaks queue l whys.Expired stop r d.written y t.dids (roomy_up n x r roomy up) d.writes d.gone in
     let gone : HasBroken stop (gone_part whys.Expired queue mets ∷ []) (seen x [] None) (seen y t.dids (Some stop)) =
     subst (λ (k : Leaving). HasBroken stop (leaving_part queue k whys.Expired ∷ []) (seen x [] None) (seen y t.dids (Some stop))) is (subst (λ (v : CoreValue). HasBroken stop (leaving_part queue l whys.Expired ∷ []) v (seen y t.dids (Some stop))) same breaks) in
     record {
@@ -149,14 +152,15 @@ browsed_tied number handle place x y e t =
     subst Tied (sym e) (tied_seated x (record x { desk = desk }) refl (unit_kept number (cursor_set handle place) (λ c. refl) x.desk.live) t)
 
 -- the expired rows have left, and the row that was taken
-pub both_run : (queue : List ℕ) (mets : List Met) (met : Met) (n : ℕ) (x r mid : PartsValue) (t u : Telling) (gone taken : Leaving) → gone ≡ leaving_met queue mets → taken ≡ leaving_met queue (met ∷ []) → t.dids ≡ [] → IsRoomy n x r → AreDropped queue gone taken r t mid u
+pub both_run : (queue : List ℕ) (mets : List Met) (met : Met) (n : ℕ) (x r mid : PartsValue) (t u : Telling) (gone taken : Leaving) → gone ≡ leaving_met queue mets → taken ≡ leaving_met queue (met ∷ []) → t.dids ≡ [] → mode_is_up x.mode ≡ true → IsRoomy n x r → AreDropped queue gone taken r t mid u
     → HasRun (gone_parts whys.Expired queue mets ++ gone_part whys.Got queue (met ∷ []) ∷ []) (seen x [] None) (seen mid u.dids None)
-both_run queue mets met n x r mid t u gone taken g k untold roomy d =
+both_run queue mets met n x r mid t u gone taken g k untold up roomy d =
+    let was = roomy_up n x r roomy up in
     let same = seen_roomy n x r t.dids roomy untold in
-    let one : HasRun (leaving_part queue gone whys.Expired ∷ []) (seen r t.dids None) (seen d.mid d.told.dids None) = dropped_runs queue gone whys.Expired r t d.mid d.told d.first in
+    let one : HasRun (leaving_part queue gone whys.Expired ∷ []) (seen r t.dids None) (seen d.mid d.told.dids None) = dropped_runs queue gone whys.Expired r t d.mid d.told was d.first in
     let first : HasRun (gone_part whys.Expired queue mets ∷ []) (seen x [] None) (seen d.mid d.told.dids None) =
     subst (λ (k : Leaving). HasRun (leaving_part queue k whys.Expired ∷ []) (seen x [] None) (seen d.mid d.told.dids None)) g (subst (λ (v : CoreValue). HasRun (leaving_part queue gone whys.Expired ∷ []) v (seen d.mid d.told.dids None)) same one) in
-    let two : HasRun (leaving_part queue taken whys.Got ∷ []) (seen d.mid d.told.dids None) (seen mid u.dids None) = dropped_runs queue taken whys.Got d.mid d.told mid u d.then in
+    let two : HasRun (leaving_part queue taken whys.Got ∷ []) (seen d.mid d.told.dids None) (seen mid u.dids None) = dropped_runs queue taken whys.Got d.mid d.told mid u (dropped_up queue gone whys.Expired r t d.mid d.told was d.first) d.then in
     let then : HasRun (gone_part whys.Got queue (met ∷ []) ∷ []) (seen d.mid d.told.dids None) (seen mid u.dids None) = subst (λ (k : Leaving). HasRun (leaving_part queue k whys.Got ∷ []) (seen d.mid d.told.dids None) (seen mid u.dids None)) k two in
     run_both (gone_parts whys.Expired queue mets) (gone_part whys.Got queue (met ∷ []) ∷ []) (seen x [] None) (seen d.mid d.told.dids None) (seen mid u.dids None)
     (gone_runs whys.Expired queue mets (seen x [] None) (seen d.mid d.told.dids None) first) then
@@ -169,17 +173,18 @@ both_after queue n x r mid t u gone taken need tied roomy d =
     let two = dropped_after queue taken whys.Got d.mid d.told mid u d.then (omega (arith, room, need, one.log, one.reserved)) one.tied in
     (two.tied, two.reserved ∙ one.reserved, omega (arith, one.body, two.body))
 
-pub both_stopped : (queue : List ℕ) (mets : List Met) (met : Met) (n : ℕ) (stop : Stop) (x r y : PartsValue) (t u : Telling) (gone taken : Leaving) → gone ≡ leaving_met queue mets → taken ≡ leaving_met queue (met ∷ []) → n ≡ leaving_need gone.removes + leaving_need taken.removes → t.dids ≡ []
+pub both_stopped : (queue : List ℕ) (mets : List Met) (met : Met) (n : ℕ) (stop : Stop) (x r y : PartsValue) (t u : Telling) (gone taken : Leaving) → gone ≡ leaving_met queue mets → taken ≡ leaving_met queue (met ∷ []) → n ≡ leaving_need gone.removes + leaving_need taken.removes → t.dids ≡ [] → mode_is_up x.mode ≡ true
     → Tied x → IsRoomy n x r → AreStopped queue gone taken stop r t y u → IsCutOff stop (gone_parts whys.Expired queue mets ++ gone_part whys.Got queue (met ∷ []) ∷ []) x y u
-both_stopped queue mets met n stop x r y t u gone taken g k need untold tied roomy (First d) =
-    let cut = cut_off queue mets n stop x r y t u gone g untold tied roomy d in
+both_stopped queue mets met n stop x r y t u gone taken g k need untold up tied roomy (First d) =
+    let cut = cut_off queue mets n stop x r y t u gone g untold up tied roomy d in
     record { broken = broken_front stop (gone_parts whys.Expired queue mets) (gone_part whys.Got queue (met ∷ []) ∷ []) (seen x [] None) (seen y u.dids (Some stop)) cut.broken; tied = cut.tied }
-both_stopped queue mets met n stop x r y t u gone taken g k need untold tied roomy (Then mid told first d) =
+both_stopped queue mets met n stop x r y t u gone taken g k need untold up tied roomy (Then mid told first d) =
+    let was = roomy_up n x r roomy up in
     let same = seen_roomy n x r t.dids roomy untold in
-    let one : HasRun (leaving_part queue gone whys.Expired ∷ []) (seen r t.dids None) (seen mid told.dids None) = dropped_runs queue gone whys.Expired r t mid told first in
+    let one : HasRun (leaving_part queue gone whys.Expired ∷ []) (seen r t.dids None) (seen mid told.dids None) = dropped_runs queue gone whys.Expired r t mid told was first in
     let ran : HasRun (gone_part whys.Expired queue mets ∷ []) (seen x [] None) (seen mid told.dids None) =
     subst (λ (k : Leaving). HasRun (leaving_part queue k whys.Expired ∷ []) (seen x [] None) (seen mid told.dids None)) g (subst (λ (v : CoreValue). HasRun (leaving_part queue gone whys.Expired ∷ []) v (seen mid told.dids None)) same one) in
-    let two : HasBroken stop (leaving_part queue taken whys.Got ∷ []) (seen mid told.dids None) (seen y told.dids (Some stop)) = stopped_breaks queue taken whys.Got stop mid d.written y told.dids d.writes d.gone in
+    let two : HasBroken stop (leaving_part queue taken whys.Got ∷ []) (seen mid told.dids None) (seen y told.dids (Some stop)) = stopped_breaks queue taken whys.Got stop mid d.written y told.dids (dropped_up queue gone whys.Expired r t mid told was first) d.writes d.gone in
     let cut : HasBroken stop (gone_part whys.Got queue (met ∷ []) ∷ []) (seen mid told.dids None) (seen y u.dids (Some stop)) =
     subst (λ (ds : List Did). HasBroken stop (gone_part whys.Got queue (met ∷ []) ∷ []) (seen mid told.dids None) (seen y ds (Some stop))) (sym (ap (λ (s : Telling). s.dids) d.told))
     (subst (λ (k : Leaving). HasBroken stop (leaving_part queue k whys.Got ∷ []) (seen mid told.dids None) (seen y told.dids (Some stop))) k two) in

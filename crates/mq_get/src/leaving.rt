@@ -230,7 +230,7 @@ pub(crate) fn go_down_leaving<D: Disk>(
             why,
         }),
         starts: 0,
-        kept: None,
+        read: None,
     };
 }
 

@@ -1,5 +1,5 @@
 -- What the bodies of a log tell, behind stopped writes, stops and restarts.
-use Rattle.std.proofs.Common.{ℕ, ◌≡◌, ◌+◌, ◌-◌, ◌<◌, ◌^◌, Bool, true, false, List, [], ◌∷◌, ◌++◌, length, refl, ap, sym, subst, ◌∙◌, arith}
+use Rattle.std.proofs.Common.{ℕ, ◌≡◌, ◌+◌, ◌<◌, ◌^◌, Bool, true, false, List, [], ◌∷◌, ◌++◌, length, refl, ap, sym, subst, ◌∙◌, arith}
 use Rattle.std.specs.Prelude.{Option, Some, None, Result, Ok, Err, if◌then◌else◌, ◌&&◌, ◌==◌, nat_lt, max}
 use Rattle.std.specs.Str.{bytes_eq}
 use Rattle.std.specs.List.{list_all}
@@ -7,17 +7,19 @@ use Rattle.std.proofs.lemmas.Bool.Decides.{nat_tests}
 use Rattle.mq_name.specs.Name.{IsName}
 use Rattle.mq_calls.specs.declared.records.LogRecord.{LogRecord}
 use Rattle.mq_calls.specs.declared.records.LogRecord.TheVariants as records
+use Rattle.mq_calls.specs.declared.commands.RestartFault.{RestartFault}
+use Rattle.mq_calls.specs.declared.commands.RestartFault.TheVariants as faults
 use Rattle.mq_objects.specs.Names.{local_of}
 use Rattle.mq_record.specs.Records.{record_bytes}
 use Rattle.mq_log.specs.Bodies.{frame}
-use Rattle.mq_spec_state.specs.State.{Plain, Change, Given, Noted, Running}
+use Rattle.mq_spec_state.specs.State.{Plain, Change, Given, Noted, Running, LogState}
 use Rattle.mq_spec_state.specs.State.Running.{Up}
 use Rattle.mq_spec_state.specs.State.Change.{Try, SetBound}
 use Rattle.mq_spec_state.specs.Condition.{condition}
 use Rattle.mq_spec_state.specs.Changes.{apply, apply_all, try_if}
 use Rattle.mq_spec_state.specs.Images.{Image, lasting, begun, raised}
 use Rattle.mq_spec_state.specs.Steps.{Part, freeze, note_of, do_part, stands_in}
-use Rattle.mq_spec_manager.specs.Stops.{stop, stop_at, stop_changes, redone_if, restarted, next_started, started_record, grown}
+use Rattle.mq_spec_manager.specs.Stops.{failed, stop, stop_at, stop_changes, redone_if, restarted, next_started, started_record, grown}
 use Rattle.mq_spec_log.specs.Applies.Start.{First, Later}
 use Rattle.mq_spec_log.specs.Applies.{Start, applies, suits, was_given, idents_in, is_in_bounds}
 use Rattle.mq_spec_log.specs.Records.{doing}
@@ -25,10 +27,10 @@ use Rattle.mq_spec_log.specs.Bodies.{record_of, behind, or_place, image_from, be
 use Rattle.mq_spec_log.proofs.BodyLaws.{image_more, record_back}
 use Rattle.mq_law_manager.proofs.Lists.{bool_case}
 use Rattle.mq_law_manager.proofs.Named.{name_self}
-use Rattle.mq_law_log.specs.Restarts.{IsHarmless, IsGivenIn}
+use Rattle.mq_law_log.specs.Restarts.{IsHarmless, IsGivenIn, gone}
 use Rattle.mq_law_log.proofs.Stops.{frozen_lasts, rest_lasts, restart_recovers}
 use Rattle.mq_law_log.proofs.Ties.{told, written_tied}
-use Rattle.mq_law_image.specs.Tells.{Tells, TellsDown, later_by}
+use Rattle.mq_law_image.specs.Tells.{Tells, TellsDown, later_by, over}
 use Rattle.mq_law_image.proofs.Members.{both}
 
 -- ---- what is given stays
@@ -69,9 +71,6 @@ one_raised n k = omega arith
 raised_later : (n k : ℕ) → n + k + 0 + 1 ≡ n + k + 1
 raised_later n k = omega arith
 
-lowered : (n : ℕ) → n ≡ n + 0 + 1 - 1
-lowered n = omega arith
-
 abbrev or_image : Image → Result Image ℕ → Image
 or_image d (Ok i) = i
 or_image d (Err place) = d
@@ -79,34 +78,31 @@ or_image d (Err place) = d
 -- ---- a stopped write
 
 pub lost_told : (start : Start) (bodies : List (List ℕ)) (noted : Option Noted) (left : ℕ) (p : Plain) → Tells start bodies p → TellsDown start false 0 noted bodies (freeze noted left p)
-lost_told start bodies noted left p is = is ∙ ap (λ (i : Image). Ok i) (ap (with_incarnation (lasting p)) (none_later p.numbers.incarnation) ∙ ap (later_by 0) (sym (frozen_lasts noted left p)))
+lost_told start bodies noted left p is running log moment = is ∙ ap (λ (i : Image). Ok i) (ap (with_incarnation (lasting p)) (none_later p.numbers.incarnation) ∙ ap (later_by 0) (sym (frozen_lasts noted left p)))
 
-abbrev lower : Image → Image
-lower i = record i { incarnation = i.incarnation - 1 }
+-- what is done at a restart that finds the write, whenever it comes
+redone_at : (part : Part) (r : LogRecord) (f : Option LogRecord) (running : Running) (log : LogState) (moment left : ℕ) (p : Plain) → f ≡ Some r
+    → redone_if true (note_of part f) (over running log moment (freeze (note_of part f) left p)) ≡ apply_all part.changes (gone running (stands_in r log) moment p)
+redone_at part r None running log moment left p e = absurd cc
+redone_at part r (Some x) running log moment left p e = let same : r ≡ x = cc in ap (λ (y : LogRecord). apply_all part.changes (gone running (stands_in y log) moment p)) (sym same)
 
 pub found_told : (start : Start) (first : List ℕ) (bodies : List (List ℕ)) (next : List ℕ) (r : LogRecord) (part : Part) (left : ℕ) (p : Plain) → Tells start (first ∷ bodies) p → part.forced ≡ Some r
     → record_of next ≡ Some r → is_in_bounds start r ≡ true → IsHarmless part p → IsGivenIn part.forced p → TellsDown start true 0 (note_of part part.forced) (first ∷ bodies ++ next ∷ []) (freeze (note_of part part.forced) left p)
-found_told start first bodies next r part left p is forced read bounds h g =
+found_told start first bodies next r part left p is forced read bounds h g running log moment =
     written_tied start first bodies next r part p is forced read bounds h g
     ∙ ap (λ (i : Image). Ok i) (same ∙ ap (with_incarnation kept) (none_later kept.incarnation))
   where
-    down : Plain
-    down = freeze (note_of part part.forced) left p
-
     kept : Image
-    kept = lasting (redone_if true (note_of part part.forced) down)
-
-    up : raised 0 (lasting (do_part part p)) ≡ raised 0 kept
-    up = ap (raised 0) (told part.forced r p (lasting (do_part part p)) forced h.keeps) ∙ sym (h.found r left 0 forced).1 ∙ restart_recovers true 0 (note_of part part.forced) down
+    kept = lasting (redone_if true (note_of part part.forced) (over running log moment (freeze (note_of part part.forced) left p)))
 
     same : lasting (do_part part p) ≡ kept
-    same = ap (with_incarnation (lasting (do_part part p))) (lowered (lasting (do_part part p)).incarnation) ∙ ap lower up ∙ ap (with_incarnation kept) (sym (lowered kept.incarnation))
+    same = told part.forced r p (lasting (do_part part p)) forced h.keeps ∙ sym (h.anytime r running (stands_in r log) moment forced) ∙ ap lasting (sym (redone_at part r part.forced running log moment left p forced))
 
 -- ---- a stop
 
 pub stop_told : (start : Start) (bodies : List (List ℕ)) (p : Plain) → p.running ≡ Up → Tells start bodies p → TellsDown start false 0 None bodies (stop p).next
 stop_told start bodies p up is = subst (λ (r : Running). TellsDown start false 0 None bodies (stop_at r p).next) (sym up)
-    (ap (λ (g : Given). image g start bodies) (all_given (stop_changes p) p) ∙ is ∙ ap (λ (i : Image). Ok i) (ap (with_incarnation (lasting p)) (none_later p.numbers.incarnation) ∙ ap (later_by 0) (sym (rest_lasts p))))
+    (λ running log moment. ap (λ (g : Given). image g start bodies) (all_given (stop_changes p) p) ∙ is ∙ ap (λ (i : Image). Ok i) (ap (with_incarnation (lasting p)) (none_later p.numbers.incarnation) ∙ ap (later_by 0) (sym (rest_lasts p))))
 
 -- ---- Started records
 
@@ -120,19 +116,30 @@ started_applies g h start incarnation i e bounds =
     ∙ ap (λ (b : Bool). (true && b) && true && is_in_bounds start (started_record g incarnation)) (name_self g.name)
     ∙ ap (λ (b : Bool). (true && true) && true && b) (ap (λ (x : Given). is_in_bounds start (started_record x incarnation)) (sym e) ∙ bounds)
 
+-- each restart writes the same Started record, whenever it comes
+same_start : (start : Start) (bodies : List (List ℕ)) (kept : Bool) (started : ℕ) (noted : Option Noted) (p : Plain) (running : Running) (log : LogState) (moment : ℕ) → TellsDown start kept started noted bodies p
+    → next_started started (redone_if kept noted p) ≡ next_started started (redone_if kept noted (over running log moment p))
+same_start start bodies kept started noted p running log moment is =
+    ap (λ (g : Given). started_record g ((redone_if kept noted p).numbers.incarnation + started + 1)) (redone_given kept noted p ∙ sym (redone_given kept noted (over running log moment p)))
+    ∙ ap (λ (n : ℕ). started_record (redone_if kept noted (over running log moment p)).given (n + 1)) incarnations
+  where
+    incarnations : (redone_if kept noted p).numbers.incarnation + started ≡ (redone_if kept noted (over running log moment p)).numbers.incarnation + started
+    incarnations = ap (λ (o : Result Image ℕ). (or_image (lasting p) o).incarnation) (sym (is p.running p.log p.moment) ∙ is running log moment)
+
 pub start_told : (start : Start) (first : List ℕ) (bodies : List (List ℕ)) (next : List ℕ) (kept : Bool) (started : ℕ) (noted : Option Noted) (p : Plain) → TellsDown start kept started noted (first ∷ bodies) p
     → record_of next ≡ Some (next_started started (redone_if kept noted p)) → is_in_bounds start (next_started started (redone_if kept noted p)) ≡ true → TellsDown start kept (started + 1) noted (first ∷ bodies ++ next ∷ []) p
-start_told start first bodies next kept started noted p is read bounds =
-    let q : Plain = redone_if kept noted p in
-    image_more p.given start first bodies next (next_started started q) (later_by started (lasting q)) is read
-    (started_applies p.given q.given start (q.numbers.incarnation + started + 1) (later_by started (lasting q)) (redone_given kept noted p) bounds)
+start_told start first bodies next kept started noted p is read bounds running log moment =
+    let q : Plain = redone_if kept noted (over running log moment p) in
+    let same : next_started started (redone_if kept noted p) ≡ next_started started q = same_start start (first ∷ bodies) kept started noted p running log moment is in
+    image_more p.given start first bodies next (next_started started q) (later_by started (lasting q)) (is running log moment) (read ∙ ap (λ (r : LogRecord). Some r) same)
+    (started_applies p.given q.given start (q.numbers.incarnation + started + 1) (later_by started (lasting q)) (redone_given kept noted (over running log moment p)) (ap (is_in_bounds start) (sym same) ∙ bounds))
     ∙ ap (λ (n : ℕ). Ok (with_incarnation (lasting q) n)) (one_later q.numbers.incarnation started)
 
 pub up_told : (start : Start) (first : List ℕ) (bodies : List (List ℕ)) (next : List ℕ) (kept : Bool) (started : ℕ) (noted : Option Noted) (p : Plain) → TellsDown start kept started noted (first ∷ bodies) p
     → record_of next ≡ Some (next_started started (redone_if kept noted p)) → is_in_bounds start (next_started started (redone_if kept noted p)) ≡ true → Tells start (first ∷ bodies ++ next ∷ []) (restarted kept started noted p)
 up_told start first bodies next kept started noted p is read bounds =
     let q : Plain = redone_if kept noted p in
-    image_more p.given start first bodies next (next_started started q) (later_by started (lasting q)) is read
+    image_more p.given start first bodies next (next_started started q) (later_by started (lasting q)) (is p.running p.log p.moment) read
     (started_applies p.given q.given start (q.numbers.incarnation + started + 1) (later_by started (lasting q)) (redone_given kept noted p) bounds)
     ∙ ap (λ (i : Image). Ok i) (ap (with_incarnation (lasting q)) (one_raised q.numbers.incarnation started) ∙ sym (restart_recovers kept started noted p))
 
@@ -148,7 +155,21 @@ begun_restarted start bodies kept started noted p i is read = (
     q = redone_if kept noted p
 
     same : i ≡ later_by started (lasting q)
-    same = ap (or_image i) (sym read ∙ is)
+    same = ap (or_image i) (sym read ∙ is p.running p.log p.moment)
+
+-- ---- a restart that fails, a cut that is armed, a clock that moves
+
+pub failed_told : (start : Start) (bodies : List (List ℕ)) (kept : Bool) (started : ℕ) (noted : Option Noted) (fault : RestartFault) (in_write : Bool) (left : ℕ) (note : Option Noted) (starts : ℕ) (p : Plain)
+    → TellsDown start kept started noted bodies p → TellsDown start kept started noted bodies (failed fault in_write left note starts p).next
+failed_told start bodies kept started noted faults.NoMemory in_write left note starts p is = is
+failed_told start bodies kept started noted faults.Up true left note starts p is = is
+failed_told start bodies kept started noted faults.Up false left note starts p is = is
+failed_told start bodies kept started noted faults.Disk true left note starts p is = is
+failed_told start bodies kept started noted faults.Disk false left note starts p is = is
+failed_told start bodies kept started noted faults.Cut true left note starts p is = is
+failed_told start bodies kept started noted faults.Cut false left note starts p is = is
+failed_told start bodies kept started noted (faults.BadLog place) true left note starts p is = is
+failed_told start bodies kept started noted (faults.BadLog place) false left note starts p is = is
 
 -- what a start writes is read
 pub started_read : (g : Given) (incarnation : ℕ) → g.number < 256 → IsName 48 g.name → incarnation < 2 ^ 64 → record_of (record_bytes (started_record g incarnation)) ≡ Some (started_record g incarnation)

@@ -1,6 +1,6 @@
 -- What the bodies of a log tell of their manager.
 use Rattle.std.specs.Prelude.{◌≡◌, ℕ, ◌+◌, Bool, List, Option, Ok}
-use Rattle.mq_spec_state.specs.State.{Plain, Noted}
+use Rattle.mq_spec_state.specs.State.{Plain, Noted, Running, LogState}
 use Rattle.mq_spec_state.specs.Images.{Image, lasting}
 use Rattle.mq_spec_log.specs.Applies.{Start}
 use Rattle.mq_spec_log.specs.Bodies.{image}
@@ -14,6 +14,12 @@ Tells start bodies p = image p.given start bodies ≡ Ok (lasting p)
 abbrev pub later_by : ℕ → Image → Image
 later_by started i = record i { incarnation = i.incarnation + started }
 
--- While it is down: what lasts, with what the stopped write did where its record is kept, behind so many such records.
+-- the same manager with another state, of its run and of its log, at another moment
+abbrev pub over : Running → LogState → ℕ → Plain → Plain
+over running log moment p = record p { running = running; log = log; moment = moment }
+
+-- While it is down: what lasts, with what the stopped write did where its record is kept, behind so many such records; whatever
+-- became of its log and its clock since.
 abbrev pub TellsDown : Start → Bool → ℕ → Option Noted → List (List ℕ) → Plain → Type 0
-TellsDown start kept started noted bodies p = image p.given start bodies ≡ Ok (later_by started (lasting (redone_if kept noted p)))
+TellsDown start kept started noted bodies p =
+    (running : Running) (log : LogState) (moment : ℕ) → image p.given start bodies ≡ Ok (later_by started (lasting (redone_if kept noted (over running log moment p))))

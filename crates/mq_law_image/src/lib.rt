@@ -42,7 +42,7 @@ ghost use Rattle.mq_spec_state.specs.Counts.{AreAtMost};
 ghost use Rattle.mq_spec_state.specs.Sizes.{change_text};
 ghost use Rattle.mq_spec_state.specs.Images.{Image, Shelf, begun, raised};
 ghost use Rattle.mq_spec_state.specs.Steps.{Part, Step, after, do_part, freeze, note_of};
-ghost use Rattle.mq_spec_manager.specs.Stops.{failed, first_start, grown, next_started, redone_if, restarted, started_need, started_record, stop};
+ghost use Rattle.mq_spec_manager.specs.Stops.{advance_clock, cut, failed, first_start, grown, next_started, redone_if, restarted, started_need, started_record, stop};
 ghost use Rattle.mq_spec_state.specs.Recovery.{AreKnown, IsImage};
 ghost use Rattle.mq_spec_log.specs.Applies.{Start, is_in_bounds};
 ghost use Rattle.mq_spec_log.specs.Applies.Start.{First, Later};
@@ -66,7 +66,8 @@ pub fn a_first_start_has_what_its_log_tells()
 {}
 
 /// What a log tells of its manager: behind a stopped write, kept or not, a stop, and the Started records of restarts that were
-/// stopped; and a restart begins with the image that it reads, in the incarnation of its own Started record.
+/// stopped; and a restart begins with the image that it reads, in the incarnation of its own Started record. A restart that fails,
+/// a cut that is armed and a clock that moves leave what it tells.
 pub fn a_restart_has_what_its_log_tells()
     ensures lost { (start : Start) (bodies : List (List ℕ)) (noted : Option Noted) (left : ℕ) (p : Plain) → Tells start bodies p → TellsDown start false 0 noted bodies (freeze noted left p) }
     ensures found { (start : Start) (first : List ℕ) (bodies : List (List ℕ)) (next : List ℕ) (r : LogRecord) (part : Part) (left : ℕ) (p : Plain) → Tells start (first ∷ bodies) p → part.forced ≡ Some r
@@ -79,6 +80,10 @@ pub fn a_restart_has_what_its_log_tells()
     ensures begins { (start : Start) (bodies : List (List ℕ)) (kept : Bool) (started : ℕ) (noted : Option Noted) (p : Plain) (i : Image) → TellsDown start kept started noted bodies p → image p.given start bodies ≡ Ok i
         → (begun p.given (raised 0 i) (grown started (redone_if kept noted p)) p.moment ≡ restarted kept started noted p) × (started_record p.given (i.incarnation + 1) ≡ next_started started (redone_if kept noted p)) }
     ensures is_read { (g : Given) (incarnation : ℕ) → g.number < 256 → IsName 48 g.name → incarnation < 2 ^ 64 → record_of (record_bytes (started_record g incarnation)) ≡ Some (started_record g incarnation) }
+    ensures fails { (start : Start) (bodies : List (List ℕ)) (kept : Bool) (started : ℕ) (noted : Option Noted) (fault : RestartFault) (in_write : Bool) (left : ℕ) (note : Option Noted) (starts : ℕ) (p : Plain)
+        → TellsDown start kept started noted bodies p → TellsDown start kept started noted bodies (failed fault in_write left note starts p).next }
+    ensures cuts { (start : Start) (bodies : List (List ℕ)) (kept : Bool) (started : ℕ) (noted : Option Noted) (k : ℕ) (p : Plain) → TellsDown start kept started noted bodies p → TellsDown start kept started noted bodies (cut k p) }
+    ensures clock { (start : Start) (bodies : List (List ℕ)) (kept : Bool) (started : ℕ) (noted : Option Noted) (by : ℕ) (p : Plain) → TellsDown start kept started noted bodies p → TellsDown start kept started noted bodies (advance_clock by p) }
     ensures later { (g : Given) (bodies : List (List ℕ)) (i : Image) → image g First bodies ≡ Ok i → image g Later bodies ≡ Ok i }
 {}
 

@@ -57,7 +57,7 @@ use Rattle.mq_spec_log.specs.Applies.{was_given}
 
 -- a part without a write, that changes nothing that lasts
 pub unforced : (changes : List Change) (delta : List Did) (p : Plain) → lasting (apply_all changes p) ≡ lasting p → IsHarmless (record { forced = None; changes = changes; delta = delta }) p
-unforced changes delta p e = record { keeps = e; found = λ r left started f. absurd cc; lost = λ left started. undone_is None left started p }
+unforced changes delta p e = record { keeps = e; found = λ r left started f. absurd cc; anytime = λ r running log moment f. absurd cc; lost = λ left started. undone_is None left started p }
 
 -- A call as it is read
 

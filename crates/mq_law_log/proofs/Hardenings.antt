@@ -54,4 +54,4 @@ harden_harmless channel (notes.Resolved unit commit operator) p can = resolved_h
 harden_harmless channel (notes.Bound partner session last) p can = bound_harmless channel partner session last p (less (receiver_or (receiver_data channel p)).session session can)
 harden_harmless channel (notes.Closed session) p can = closed_harmless channel session p (less 0 session can.0) (same session (receiver_or (receiver_data channel p)).session can.1)
 harden_harmless channel (notes.SeqSet ends.Sender last) p can = number_harmless channel ends.Sender last p can
-harden_harmless channel (notes.SeqSet ends.Receiver last) p can = harmless (harden_part channel (notes.SeqSet ends.Receiver last) p) p (λ log. (refl, refl)) (λ running log. (refl, refl))
+harden_harmless channel (notes.SeqSet ends.Receiver last) p can = harmless (harden_part channel (notes.SeqSet ends.Receiver last) p) p (λ log. (refl, refl)) (λ running log moment. (refl, refl))

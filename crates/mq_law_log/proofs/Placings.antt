@@ -186,10 +186,10 @@ items_ready [] p s h = tt
 items_ready (item ∷ items) p s h = (item_ready item p s h.0, items_ready items p s h.1)
 
 -- wherever the log stands, up or down
-pub ready_elsewhere : (queue : List ℕ) (m : Message) (running : Running) (log : LogState) (p : Plain) → IsReady queue m p → IsReady queue m (record p { running = running; log = log })
-ready_elsewhere queue m running log p r = record { there = r.there; laned = r.laned; fit = r.fit; fresh = record { rows = r.fresh.rows; lists = r.fresh.lists } }
+pub ready_elsewhere : (queue : List ℕ) (m : Message) (running : Running) (log : LogState) (moment : ℕ) (p : Plain) → IsReady queue m p → IsReady queue m (record p { running = running; log = log; moment = moment })
+ready_elsewhere queue m running log moment p r = record { there = r.there; laned = r.laned; fit = r.fit; fresh = record { rows = r.fresh.rows; lists = r.fresh.lists } }
 
-pub all_elsewhere : (running : Running) (log : LogState) (items : List Item) (p : Plain) → AllByRecursion (ItemReady p) items → AllByRecursion (ItemReady (record p { running = running; log = log })) items
-all_elsewhere running log [] p h = tt
-all_elsewhere running log (Put queue m ∷ items) p h = (ready_elsewhere queue m running log p h.0, all_elsewhere running log items p h.1)
-all_elsewhere running log (Take queue ident persistent ∷ items) p h = (tt, all_elsewhere running log items p h.1)
+pub all_elsewhere : (running : Running) (log : LogState) (moment : ℕ) (items : List Item) (p : Plain) → AllByRecursion (ItemReady p) items → AllByRecursion (ItemReady (record p { running = running; log = log; moment = moment })) items
+all_elsewhere running log moment [] p h = tt
+all_elsewhere running log moment (Put queue m ∷ items) p h = (ready_elsewhere queue m running log moment p h.0, all_elsewhere running log moment items p h.1)
+all_elsewhere running log moment (Take queue ident persistent ∷ items) p h = (tt, all_elsewhere running log moment items p h.1)

@@ -22,13 +22,13 @@ use Rattle.mq_spec_log.specs.Records.{doing, shelf_if}
 use Rattle.mq_spec_log.specs.Shelves.{left, shelved}
 use Rattle.mq_law_manager.proofs.StockStarts.{has_shelf, has_lasting}
 use Rattle.mq_law_log.specs.Keeps.{AreLaned, Told, Does, has_queue}
-use Rattle.mq_law_log.specs.Restarts.{IsHarmless}
+use Rattle.mq_law_log.specs.Restarts.{IsHarmless, gone}
 use Rattle.mq_law_log.proofs.Rows.{bool_case}
 use Rattle.mq_law_log.proofs.Changes.{left_lasts, placed_lasts, placed_aside, tried_lasts}
 use Rattle.mq_law_log.proofs.Objects.{switched_aside, renewed_by, dropped_lasts}
 use Rattle.mq_law_log.proofs.Placings.{all_found, all_set, all_mapped, laned_kept, laned_inserted}
 use Rattle.mq_law_log.proofs.Stops.{frozen_lasts}
-use Rattle.mq_law_log.proofs.Harmless.{harmless, gone}
+use Rattle.mq_law_log.proofs.Harmless.{harmless}
 
 abbrev pub AllLaned : Plain → Type 0
 AllLaned p = AllByRecursion (λ (q : Queue). AreLaned q.rows) p.queues
@@ -139,7 +139,7 @@ gone_laned p h = all_mapped (λ (x : Queue). AreLaned x.rows) (kept_in Nonpersis
 pub steady_harmless : (part : Part) (p : Plain) → AllLaned p → AllSteady part.changes p → Does part p → IsHarmless part p
 steady_harmless part p laned a h = harmless part p
     (λ log. does_there part (record p { log = log }) p refl a (record { same = refl; near = laned; far = laned }) h)
-    (λ running log. does_there part (gone running log p) p refl a (record { same = frozen_lasts None 0 p; near = gone_laned p laned; far = laned }) h)
+    (λ running log moment. does_there part (gone running log moment p) p refl a (record { same = frozen_lasts None 0 p; near = gone_laned p laned; far = laned }) h)
 
 -- lists of changes one behind the other
 pub steady_append : (xs ys : List Change) (p : Plain) → AllSteady xs p → AllSteady ys (apply_all xs p) → AllSteady (xs ++ ys) p

@@ -2,8 +2,9 @@
 use Rattle.std.specs.Prelude.{◌≡◌, ℕ, zero, suc, true, false, List, [], ◌∷◌, Option, None, Some}
 use Rattle.std.specs.List.{list_all}
 use Rattle.mq_calls.specs.declared.records.LogRecord.{LogRecord}
-use Rattle.mq_spec_state.specs.State.{Plain, Batch, Noted}
-use Rattle.mq_spec_state.specs.Steps.{Part, Step, do_part, freeze, note_of, stopped_at}
+use Rattle.mq_spec_state.specs.State.{Plain, Batch, Noted, Running, LogState}
+use Rattle.mq_spec_state.specs.Changes.{apply_all}
+use Rattle.mq_spec_state.specs.Steps.{Part, Step, do_part, freeze, note_of, stopped_at, volatile_gone}
 use Rattle.mq_spec_state.specs.Steps.Step.{Refuse, Do}
 pub use Rattle.mq_spec_manager.specs.Stops.{restarted, next_started}
 use Rattle.mq_spec_state.specs.Reads.{sender_data}
@@ -16,13 +17,18 @@ use Rattle.mq_spec_log.specs.Applies.{suits, was_given, idents_in}
 use Rattle.mq_spec_log.specs.Records.{doing}
 use Rattle.mq_law_log.specs.Keeps.{Keeps}
 
+-- what is left behind a stopped write, wherever the log stands and whatever the clock says
+abbrev pub gone : Running → LogState → ℕ → Plain → Plain
+gone running log moment p = record (volatile_gone p) { running = running; log = log; moment = moment }
+
 -- A part's write makes a crash harmless: where it succeeds the image is as the record says; where it is stopped, a restart that finds
--- the record has that image, and one that doesn't has the image before.
+-- the record has that image, and one that doesn't has the image before; whenever it comes.
 pub record IsHarmless (part : Part) (p : Plain) : Type 0 where
   pub keeps : Keeps part p
   pub found : (r : LogRecord) (left started : ℕ) → part.forced ≡ Some r
       → (suits p.given r (lasting p) ≡ true)
       × (lasting (restarted true started (note_of part part.forced) (freeze (note_of part part.forced) left p)) ≡ raised started (doing r (lasting p)))
+  pub anytime : (r : LogRecord) (running : Running) (log : LogState) (moment : ℕ) → part.forced ≡ Some r → lasting (apply_all part.changes (gone running log moment p)) ≡ doing r (lasting p)
   pub lost : (left started : ℕ) → lasting (restarted false started (note_of part part.forced) (freeze (note_of part part.forced) left p)) ≡ raised started (lasting p)
 
 -- each ident of what is forced, if it is of this manager, was given in an incarnation that has begun

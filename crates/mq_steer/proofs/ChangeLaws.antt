@@ -84,16 +84,27 @@ can_logged (changes.Set new) reroutes on p log can = record {
 can_logged (changes.SetManager m) reroutes on p log can = tt
 can_logged (changes.Delete s) reroutes on p log can = record { old = can.old; found = can.found; kind = can.kind; filled = can.filled }
 
+rooms_up : (x y : PartsValue) → mode_is_up x.mode ≡ true → HasRooms x y → mode_is_up y.mode ≡ true
+rooms_up x y up h = ap (λ (w : PartsValue). mode_is_up w.mode) h.same ∙ up
+
 abbrev record_of : Planned → LogRecord
 record_of planned = records.Objects planned.change
 
-forced_is : (planned : Planned) (x y z : PartsValue) → HasRooms x y → IsForced (record_of planned) y (Ok tt) z → plain_of z ≡ logged (Some (record_of planned)) (plain_of x)
-forced_is planned x y z h f = forced_view (record_of planned) y z f ∙ ap (λ (p : Plain). logged (Some (record_of planned)) p) (rooms_view x y h)
+forced_is : (planned : Planned) (x y z : PartsValue) → mode_is_up x.mode ≡ true → HasRooms x y → IsForced (record_of planned) y (Ok tt) z → plain_of z ≡ logged (Some (record_of planned)) (plain_of x)
+forced_is planned x y z up h f = forced_view (record_of planned) y z (rooms_up x y up h) f ∙ ap (λ (p : Plain). logged (Some (record_of planned)) p) (rooms_view x y h)
+
+-- all but the log is as it was
+with_log : PlainLog → PartsValue → Plain
+with_log log x = record (plain_of x) { log = log }
+
+forced_but : (planned : Planned) (x y z : PartsValue) → HasRooms x y → IsForced (record_of planned) y (Ok tt) z → plain_of z ≡ record (plain_of x) { log = (plain_of z).log }
+unfolding with_log
+forced_but planned x y z h f = ap (with_log (plain_of z).log) f.same ∙ ap (with_log (plain_of z).log) h.same
 
 can_behind : (planned : Planned) (x y z : PartsValue) → HasRooms x y → IsForced (record_of planned) y (Ok tt) z → CanChange planned.change planned.reroutes planned.switches_on (plain_of x) → CanChange planned.change planned.reroutes planned.switches_on (plain_of z)
 can_behind planned x y z h f can =
-    subst (λ (p : Plain). CanChange planned.change planned.reroutes planned.switches_on p) (sym (forced_is planned x y z h f))
-    (can_logged planned.change planned.reroutes planned.switches_on (plain_of x) (logged (Some (record_of planned)) (plain_of x)).log can)
+    subst (λ (p : Plain). CanChange planned.change planned.reroutes planned.switches_on p) (sym (forced_but planned x y z h f))
+    (can_logged planned.change planned.reroutes planned.switches_on (plain_of x) (plain_of z).log can)
 
 pub can_alter : (planned : Planned) (x y z : PartsValue) → HasRooms x y → IsForced (record_of planned) y (Ok tt) z → CanChange planned.change planned.reroutes planned.switches_on (plain_of x) → CanChange planned.change planned.reroutes planned.switches_on (plain_of z)
 can_alter planned x y z h f can = can_behind planned x y z h f can
@@ -102,7 +113,7 @@ can_alter planned x y z h f can = can_behind planned x y z h f can
 pub change_tied : (planned : Planned) (long r s : ℕ) (x y z : PartsValue) → need (record_of planned) ≡ 11 + long → IsRoomy long x y → IsForced (record_of planned) y (Ok tt) z → Tied x
     → AreOnce x.defs.definitions.objects → CanChange planned.change planned.reroutes planned.switches_on (plain_of x) → Tied (altered planned r s z)
 change_tied planned long r s x y z e h f t once can =
-    let same = ap (λ (p : Plain). p.definitions) (forced_is planned x y z h.rooms f) in
+    let same = ap (λ (p : Plain). p.definitions) (forced_but planned x y z h.rooms f) in
     altered_tied planned r s z (tied_forced (record_of planned) long x y z e h f t) (subst (λ (d : Definitions). AreOnce d.objects) (sym same) once) (can_behind planned x y z h.rooms f can)
 
 abbrev done_to : Planned → Plain → Plain
@@ -113,15 +124,15 @@ pub change_view : (planned : Planned) (long r s : ℕ) (x y z : PartsValue) → 
 change_view planned long r s x y z up e h f t can =
     let mode = ap (λ (w : PartsValue). mode_is_up w.mode) f.same ∙ ap (λ (w : PartsValue). mode_is_up w.mode) h.rooms.same ∙ up in
     altered_view planned r s z mode (tied_forced (record_of planned) long x y z e h f t) (can_behind planned x y z h.rooms f can)
-    ∙ ap (done_to planned) (forced_is planned x y z h.rooms f)
+    ∙ ap (done_to planned) (forced_is planned x y z up h.rooms f)
 
 -- where the write was stopped
 abbrev freeze_as : Planned → ℕ → PartsValue → Plain
 freeze_as planned left x = freeze (note_of (object_part planned x.defs.definitions) (object_part planned x.defs.definitions).forced) left (plain_of x)
 
-pub change_frozen : (planned : Planned) (stop : Stop) (x y z : PartsValue) → HasRooms x y → IsForced (record_of planned) y (Err stop) z
+pub change_frozen : (planned : Planned) (stop : Stop) (x y z : PartsValue) → mode_is_up x.mode ≡ true → HasRooms x y → IsForced (record_of planned) y (Err stop) z
     → plain_of (downed (writes.Objects planned) z) ≡ freeze (note_of (object_part planned x.defs.definitions) (object_part planned x.defs.definitions).forced) z.log.armed (plain_of x)
-change_frozen planned stop x y z h f = frozen_view (writes.Objects planned) (record_of planned) y z stop f ∙ ap (freeze_as planned z.log.armed) h.same
+change_frozen planned stop x y z up h f = frozen_view (writes.Objects planned) (record_of planned) y z stop (rooms_up x y up h) f ∙ ap (freeze_as planned z.log.armed) h.same
 
 pub change_down : (planned : Planned) (stop : Stop) (x y z : PartsValue) → HasRooms x y → IsForced (record_of planned) y (Err stop) z → Tied x → Tied (downed (writes.Objects planned) z)
 change_down planned stop x y z h f t = tied_downed (writes.Objects planned) (record_of planned) [] y z stop f (tied_rooms x y h t)

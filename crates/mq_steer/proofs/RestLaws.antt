@@ -16,10 +16,11 @@ use Rattle.mq_spec_state.specs.State.Change.{Leave, ForgetAll}
 use Rattle.mq_spec_manager.specs.Stops.{at_rest, stop, stop_at, release_batch}
 use Rattle.mq_steer.specs.Quiet.{Comes}
 use Rattle.mq_place.specs.States.{QueueState, queues_of, state_in, change_state, on_queue, on_queues, unpended}
-use Rattle.mq_core.specs.Views.{PartsValue, plain_of}
+use Rattle.mq_log.specs.State.{log_length}
+use Rattle.mq_core.specs.Views.{PartsValue, plain_of, length_of}
 use Rattle.mq_core.specs.Values.{CoreValue, begun_call}
-use Rattle.mq_core.specs.Ties.{Tied, state_lanes, local_lanes, pending_at, times_in_rows, times_in_queues, one_if}
-use Rattle.mq_core.proofs.ForceLaws.{queues_on, seen_on, times_on, times_keep}
+use Rattle.mq_core.specs.Ties.{Tied, mode_is_up, state_lanes, local_lanes, pending_at, times_in_rows, times_in_queues, one_if}
+use Rattle.mq_core.proofs.ForceLaws.{length_up, queues_on, seen_on, times_on, times_keep}
 use Rattle.mq_core.proofs.PlaceLaws.{name_is, same_name}
 use Rattle.mq_core.proofs.PutLaws.{queues_same}
 use Rattle.mq_steer.specs.Rests.{HoldsJust, AreHeldIn, AreHeld, batches_released, lessened, unawaited, object_unawaited, objects_unawaited, rested, states_rested, parts_rested}
@@ -278,13 +279,14 @@ release_all : (bs : List Batch) (rest : List Change) (p : Plain) → apply_all (
 release_all [] rest p = refl
 release_all (b ∷ bs) rest p = release_all bs rest (record p { queues = map (released_in (HeldBy (holders.Batch b.channel)) false) p.queues })
 
-abbrev rested_with : PartsValue → List StateQueue → Plain
-rested_with x qs = record (plain_of (parts_rested x)) { queues = qs }
+abbrev rested_with : PartsValue → ℕ → List StateQueue → Plain
+rested_with x long qs = record (plain_of (parts_rested x)) { queues = qs; log = record { length = long; armed = x.log.armed } }
 
 -- the view at rest
-pub rested_view : (x : PartsValue) → AreHeld (plain_of x) → plain_of (parts_rested x) ≡ record (at_rest (plain_of x)) { running = Down None 0 }
-rested_view x h =
-    ap (rested_with x) (rested_queues x.ends.batches (objects_unawaited x.defs.definitions.objects x.queues.states) (subst (λ (qs : List StateQueue). AreHeldIn qs x.ends.batches) (sym (unawaited_queues x.defs.definitions.objects x.queues.states)) h)
+pub rested_view : (x : PartsValue) → mode_is_up x.mode ≡ true → AreHeld (plain_of x) → plain_of (parts_rested x) ≡ record (at_rest (plain_of x)) { running = Down None 0 }
+rested_view x up h =
+    ap (λ (long : ℕ). rested_with x long (queues_of (states_rested x))) (sym (length_up x.mode up (log_length x.log.bodies)))
+    ∙ ap (rested_with x (length_of x.mode (log_length x.log.bodies))) (rested_queues x.ends.batches (objects_unawaited x.defs.definitions.objects x.queues.states) (subst (λ (qs : List StateQueue). AreHeldIn qs x.ends.batches) (sym (unawaited_queues x.defs.definitions.objects x.queues.states)) h)
     ∙ ap (queues_rested x.ends.batches) (unawaited_queues x.defs.definitions.objects x.queues.states))
     ∙ ap (λ (p : Plain). record p { running = Down None 0 }) (sym (release_all x.ends.batches (Leave Nonpersistent ∷ ForgetAll ∷ []) (record (plain_of x) { queues = map (released_in HeldByUnits true) (queues_of x.queues.states) })))
 

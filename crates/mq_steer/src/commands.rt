@@ -124,7 +124,7 @@ fn go_down<D: Disk>(parts: &mut Parts<D>, planned: Planned)
     parts.mode = Mode::Down {
         write: Some(StoppedWrite::Objects { planned }),
         starts: 0,
-        kept: None,
+        read: None,
     };
 }
 

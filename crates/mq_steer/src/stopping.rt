@@ -85,7 +85,7 @@ fn rest<D: Disk>(parts: &mut Parts<D>)
     parts.mode = Mode::Down {
         write: None,
         starts: 0,
-        kept: None,
+        read: None,
     };
 }
 

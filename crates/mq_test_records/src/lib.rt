@@ -1,4 +1,5 @@
-//! Tests of records: each kind as the format's table lays it out, bodies that are none, and what a log of them tells.
+//! Tests of records: each kind as the format's table lays it out, bodies that are none, what a log of them tells,
+//! and how a manager begins from it.
 #![tactic(auto)]
 
 #[cfg(test)]
@@ -11,5 +12,7 @@ mod reading;
 mod recovery;
 #[cfg(test)]
 mod samples;
+#[cfg(test)]
+mod starts;
 #[cfg(test)]
 mod writing;

@@ -65,7 +65,7 @@ returns-in-Err-force_remove-clause-meets g c =
     let failed : w.log.faults ≡ z.log.faults = ap (λ (q : PartsValue). q.log.faults) c.go_down.ensures in
     let before : y.log.armed ≡ p.log.armed = ap (λ (q : PartsValue). q.log.armed) h.same ∙ ap (λ (q : Plain). q.log.armed) plain in
     let had : y.log.faults ≡ c.args.core.now.faults = ap (λ (q : PartsValue). q.log.faults) h.same ∙ ap (λ (k : CoreValue). k.faults) v in
-    let frozen = ap plain_of c.go_down.ensures ∙ stopped_seen c.in-Ok-removal.write r 79 stop x y z h f
+    let frozen = ap plain_of c.go_down.ensures ∙ stopped_seen c.in-Ok-removal.write r 79 stop x y z (mode_up (frozen_of x) x.mode (ap (λ (k : CoreValue). is_up k.plain.running) v ∙ c.requires.up)) h f
     ∙ ap (λ (k : StoppedWrite). freeze (noted (frozen_of x) (Some k)) z.log.armed (plain_of x)) c.in-Ok-removal.ensures
     ∙ ap (λ (q : Plain). freeze (Some n) z.log.armed q) plain
     ∙ ap (λ (a : ℕ). freeze (Some n) a p) (sym armed) in
@@ -119,7 +119,7 @@ returns-clause-meets g c =
     let before : y.log.armed ≡ p.log.armed = ap (λ (q : PartsValue). q.log.armed) h.same ∙ ap (λ (q : Plain). q.log.armed) plain in
     let had : y.log.faults ≡ c.args.core.now.faults = ap (λ (q : PartsValue). q.log.faults) h.same ∙ ap (λ (k : CoreValue). k.faults) v in
     let done = ap plain_of c.remove_row.ensures.parts ∙ removed_view queue ident z still
-    ∙ ap (λ (q : Plain). apply (Leave (Among queue (ident ∷ []))) q) (forced_seen r 79 x y z h f ∙ ap (λ (q : Plain). logged (Some r) q) plain) in
+    ∙ ap (λ (q : Plain). apply (Leave (Among queue (ident ∷ []))) q) (forced_seen r 79 x y z up h f ∙ ap (λ (q : Plain). logged (Some r) q) plain) in
     let told = ap (λ (t : Telling). t.dids) c.remove_row.ensures.told ∙ ap (λ (ds : List Did). ds ++ did.Removed queue ident whys.Discarded ∷ []) (c.reserve.ensures.dids ∙ ap (λ (k : CoreValue). k.delta) v) in
     let new : ManagerValue = record { plain = plain_of w; delta = c.remove_row.new.effects.dids; stopped = c.core.inside.stopped; faults = w.log.faults } in
     let nothing : Unit {0} = tt in
@@ -150,7 +150,7 @@ returns-in-Err-force_remove-clause-told g c =
     let w = c.go_down.new.parts in
     let n : Noted = record { written = r; changes = Leave (Among queue (ident ∷ [])) ∷ []; delta = did.Removed queue ident whys.Discarded ∷ [] } in
     let armed : w.log.armed ≡ z.log.armed = ap (λ (q : PartsValue). q.log.armed) c.go_down.ensures in
-    let frozen = ap plain_of c.go_down.ensures ∙ stopped_seen c.in-Ok-removal.write r 79 stop x y z h f
+    let frozen = ap plain_of c.go_down.ensures ∙ stopped_seen c.in-Ok-removal.write r 79 stop x y z (mode_up (frozen_of x) x.mode (ap (λ (k : CoreValue). is_up k.plain.running) v ∙ c.requires.up)) h f
     ∙ ap (λ (k : StoppedWrite). freeze (noted (frozen_of x) (Some k)) z.log.armed (plain_of x)) c.in-Ok-removal.ensures
     ∙ ap (λ (q : Plain). freeze (Some n) z.log.armed q) plain
     ∙ ap (λ (a : ℕ). freeze (Some n) a p) (sym armed) in

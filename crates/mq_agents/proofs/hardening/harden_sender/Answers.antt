@@ -44,7 +44,7 @@ returns-in-Err-write_sender-clause-meets g c =
     let bytes = c.args.bytes.now in
     let side = c.args.side in
     hardening_ends c.in-Err-write_sender.unwritten (manager_of c.args.core.now) x c.write_sender.new.parts c.reserve.new.self.dids channel note (SetSender channel side.hardened) bytes (with_senders (set_sender side x.ends.senders) x.ends) c.agent_of-agent.result c.stop_of-stopped.result
-    c.agent_of-agent.ensures c.stop_of-stopped.ensures c.requires.bytes c.requires.size c.in-Err-write_sender.ensures plain c.requires.side.part
+    c.agent_of-agent.ensures c.stop_of-stopped.ensures (mode_up (frozen_of x) x.mode (ap (λ (k : CoreValue). is_up k.plain.running) v ∙ c.requires.up)) c.requires.bytes c.requires.size c.in-Err-write_sender.ensures plain c.requires.side.part
     (ap (λ (w : CoreValue). w.faults) v) (c.reserve.ensures.dids ∙ ap (λ (w : CoreValue). w.delta) v)
 
 pub invariant_of-core-2 : goal.invariant_of-core-2
@@ -84,7 +84,7 @@ returns-in-Err-write_sender-clause-told g c =
     let x : PartsValue = c.core.inside.parts in
     let side = c.args.side in
     hardening_told c.in-Err-write_sender.unwritten c.args.core.now _ x c.write_sender.new.parts c.args.channel.now c.args.note.now (SetSender c.args.channel.now side.hardened) c.args.bytes.now (with_senders (set_sender side x.ends.senders) x.ends) c.agent_of-agent.result
-    c.agent_of-agent.ensures c.requires.bytes c.requires.size c.in-Err-write_sender.ensures c.requires.side.part (ap (λ (w : CoreValue). w.plain) v) (ap (λ (w : CoreValue). w.log) v) refl refl
+    c.agent_of-agent.ensures (mode_up (frozen_of x) x.mode (ap (λ (k : CoreValue). is_up k.plain.running) v ∙ c.requires.up)) c.requires.bytes c.requires.size c.in-Err-write_sender.ensures c.requires.side.part (ap (λ (w : CoreValue). w.plain) v) (ap (λ (w : CoreValue). w.log) v) refl refl
 
 pub returns-clause-told : goal.returns-clause-told
 returns-clause-told g c =

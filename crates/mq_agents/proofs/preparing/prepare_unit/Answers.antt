@@ -68,7 +68,7 @@ returns-in-Err-write_doubt-clause-meets g c =
     let nothing : Unit {0} = tt in
     subst (λ (s : Step PrepareFault (Unit {0})). MeetsOrWants (manager_of c.args.core.now) s (Err (halt_of {F = PrepareFault} c.agent_of-agent.result)) new) (sym step)
     (unwritten_ends PrepareFault c.in-Err-write_doubt.unwritten (manager_of c.args.core.now) x y z c.reserve.new.self.dids (writes.Prepared channel last) r (doubt_changes channel d old) (did.Prepared channel d.unit ∷ []) nothing y.body.bytes e
-    c.agent_of-agent.result c.stop_of-stopped.result c.agent_of-agent.ensures c.stop_of-stopped.ensures more fl.bytes size c.in-Err-write_doubt.ensures note plain
+    c.agent_of-agent.result c.stop_of-stopped.result c.agent_of-agent.ensures c.stop_of-stopped.ensures (mode_up (frozen_of x) x.mode (ap (λ (k : CoreValue). is_up k.plain.running) v ∙ c.requires.up)) more fl.bytes size c.in-Err-write_doubt.ensures note plain
     (ap (λ (w : CoreValue). w.faults) v) (c.reserve.ensures.dids ∙ ap (λ (w : CoreValue). w.delta) v))
 
 pub invariant_of-core-2 : goal.invariant_of-core-2
@@ -156,7 +156,7 @@ returns-in-Err-write_doubt-clause-told g c =
     let nothing : Unit {0} = tt in
     writes_as c.args.core.now _ (prepare channel last p) (Do tt (doubt_part channel d old ∷ [])) (Err (halt_of {F = PrepareFault} c.agent_of-agent.result)) step
     (unwritten_told PrepareFault c.in-Err-write_doubt.unwritten c.args.core.now _ x y z (writes.Prepared channel last) r (doubt_changes channel d old) (did.Prepared channel d.unit ∷ []) nothing y.body.bytes e
-    c.agent_of-agent.result c.agent_of-agent.ensures more fl.bytes size c.in-Err-write_doubt.ensures note plain (ap (λ (w : CoreValue). w.log) v) refl refl)
+    c.agent_of-agent.result c.agent_of-agent.ensures (mode_up (frozen_of x) x.mode (ap (λ (k : CoreValue). is_up k.plain.running) v ∙ c.requires.up)) more fl.bytes size c.in-Err-write_doubt.ensures note plain (ap (λ (w : CoreValue). w.log) v) refl refl)
 
 pub returns-clause-told : goal.returns-clause-told
 returns-clause-told g c =

@@ -79,7 +79,7 @@ returns-in-Err-write_settled-clause-meets g c =
     let new : ManagerValue = record { plain = plain_of z; delta = c.reserve.new.self.dids; stopped = c.stop_of-stopped.result; faults = z.log.faults } in
     subst (λ (s : Step Never (Unit {0})). MeetsOrWants (manager_of c.args.core.now) s (Err (halt_of {F = Never} c.agent_of-agent.result)) new) (sym step)
     (unwritten_ends Never c.in-Err-write_settled.unwritten (manager_of c.args.core.now) x x z c.reserve.new.self.dids (writes.Settled channel unit commit operator rows) r (settled_changes commit channel old) (settled_told commit operator channel unit rows) nothing bytes e
-    c.agent_of-agent.result c.stop_of-stopped.result c.agent_of-agent.ensures c.stop_of-stopped.ensures (more_same x) c.requires.bytes c.requires.size c.in-Err-write_settled.ensures note plain
+    c.agent_of-agent.result c.stop_of-stopped.result c.agent_of-agent.ensures c.stop_of-stopped.ensures (mode_up (frozen_of x) x.mode (ap (λ (k : CoreValue). is_up k.plain.running) v ∙ c.requires.up)) (more_same x) c.requires.bytes c.requires.size c.in-Err-write_settled.ensures note plain
     (ap (λ (w : CoreValue). w.faults) v) (c.reserve.ensures.dids ∙ ap (λ (w : CoreValue). w.delta) v))
 
 pub returns-in-Err-write_settled-clause-told : goal.returns-in-Err-write_settled-clause-told
@@ -107,7 +107,7 @@ returns-in-Err-write_settled-clause-told g c =
     let note = settled_noted commit operator channel unit rows old x c.in-Ok-sender_now.ensures in
     writes_as c.args.core.now _ (harden channel (notes.Resolved unit commit operator) p) (Do nothing (settled_part commit operator channel unit rows old ∷ [])) (Err (halt_of {F = Never} c.agent_of-agent.result)) step
     (unwritten_told Never c.in-Err-write_settled.unwritten c.args.core.now _ x x z (writes.Settled channel unit commit operator rows) r (settled_changes commit channel old) (settled_told commit operator channel unit rows) nothing bytes e
-    c.agent_of-agent.result c.agent_of-agent.ensures (more_same x) c.requires.bytes c.requires.size c.in-Err-write_settled.ensures note plain (ap (λ (w : CoreValue). w.log) v) refl refl)
+    c.agent_of-agent.result c.agent_of-agent.ensures (mode_up (frozen_of x) x.mode (ap (λ (k : CoreValue). is_up k.plain.running) v ∙ c.requires.up)) (more_same x) c.requires.bytes c.requires.size c.in-Err-write_settled.ensures note plain (ap (λ (w : CoreValue). w.log) v) refl refl)
 
 pub tell_settled-requires : goal.tell_settled-requires
 tell_settled-requires g c =

@@ -65,7 +65,7 @@ returns-in-Err-clause-meets g c =
     let live = some_is _ c.requires.live in
     let found = ap (λ (p : Plain). connection_at c.args.number p.connections) plain ∙ live.1 in
     let f = if_some (λ (d : Connection). IfForced (record_of (adds_of d.unit) (removes_of d.unit)) x (Err c.in-Err.stop) y) _ live.0 found c.in-Err.ensures in
-    commit_stopped (manager_of c.args.core.now) _ c.args.number c.args.ends live.0 c.in-Err.stop x y live.1 found plain (ap (λ (w : CoreValue). w.faults) v) f
+    commit_stopped (manager_of c.args.core.now) _ c.args.number c.args.ends live.0 c.in-Err.stop x y (mode_up (frozen_of x) x.mode (ap (λ (p : Plain). is_up p.running) plain ∙ c.requires.up)) live.1 found plain (ap (λ (w : CoreValue). w.faults) v) f
     (ap plain_of c.go_down_commit.ensures) (ap (λ (w : CoreValue). w.delta) v) refl (ap (λ (z : PartsValue). z.log.faults) c.go_down_commit.ensures)
 
 pub settle_unit-requires-clause-room : goal.settle_unit-requires-clause-room
@@ -119,7 +119,7 @@ returns-clause-meets g c =
     commit_done (manager_of c.args.core.now) _ c.args.number c.args.ends live.0 x y live.1 plain (ap (λ (w : CoreValue). w.faults) v) f
     (ap plain_of parts
     ∙ settled_view c.args.number c.args.ends live.0 y (ap mode_is_up (commit_mode c.args.number live.0 x y found f c.core.invariant) ∙ up) (number_is c.args.number y.desk.live live.0 later) ready
-    ∙ ap (apply_all (commit_changes live.0 ++ end_changes c.args.ends live.0.number)) (wrote_view o x y f ∙ ap (logged o) plain))
+    ∙ ap (apply_all (commit_changes live.0 ++ end_changes c.args.ends live.0.number)) (wrote_view o x y up f ∙ ap (logged o) plain))
     told (ap (λ (w : CoreValue). w.stopped) v) (ap (λ (z : PartsValue). z.log.faults) parts ∙ settled_faults c.args.number c.args.ends live.0 y)
 
 pub returns-in-Err-clause-told : goal.returns-in-Err-clause-told
@@ -131,7 +131,7 @@ returns-in-Err-clause-told g c =
     let live = some_is _ c.requires.live in
     let found = ap (λ (p : Plain). connection_at c.args.number p.connections) plain ∙ live.1 in
     let f = if_some (λ (d : Connection). IfForced (record_of (adds_of d.unit) (removes_of d.unit)) x (Err c.in-Err.stop) y) _ live.0 found c.in-Err.ensures in
-    commit_breaks c.args.core.now _ c.args.number c.args.ends live.0 c.in-Err.stop x y live.1 found plain (ap (λ (w : CoreValue). w.log) v) f
+    commit_breaks c.args.core.now _ c.args.number c.args.ends live.0 c.in-Err.stop x y (mode_up (frozen_of x) x.mode (ap (λ (p : Plain). is_up p.running) plain ∙ c.requires.up)) live.1 found plain (ap (λ (w : CoreValue). w.log) v) f
     (ap plain_of c.go_down_commit.ensures) (ap (λ (z : PartsValue). bodies_in z.log) c.go_down_commit.ensures)
 
 pub returns-clause-told : goal.returns-clause-told

@@ -39,4 +39,4 @@ returns-in-Ok-drop_rows g c =
 pub returns-in-Err-drop_rows : goal.returns-in-Err-drop_rows
 returns-in-Err-drop_rows g c =
     cut_off c.args.queue.now c.args.mets.now c.leaving_need-need.result c.in-Err-drop_rows.stop c.args.parts.now c.make_room.new.parts c.drop_rows.new.parts c.make_room.new.effects c.drop_rows.new.effects c.in-Ok.leaving
-    c.in-Ok.ensures (c.make_room.ensures.dids ∙ c.requires.told) c.requires.tied c.in-Ok-make_room.ensures.ok c.in-Err-drop_rows.ensures
+    c.in-Ok.ensures (c.make_room.ensures.dids ∙ c.requires.told) c.requires.up c.requires.tied c.in-Ok-make_room.ensures.ok c.in-Err-drop_rows.ensures

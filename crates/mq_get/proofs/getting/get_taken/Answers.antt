@@ -64,18 +64,18 @@ returns-in-Ok-drop_both-clause-tied g c =
 pub returns-in-Ok-drop_both-clause-meets : goal.returns-in-Ok-drop_both-clause-meets
 returns-in-Ok-drop_both-clause-meets g c =
     let run = both_run c.args.queue.now c.args.mets.now c.args.met (c.leaving_need.result + c.leaving_need-2.result) c.args.parts.now c.make_room.new.parts c.drop_both.new.parts c.make_room.new.effects c.drop_both.new.effects c.in-Ok.leaving c.in-Ok-leaving_of.leaving c.in-Ok.ensures c.in-Ok-leaving_of.ensures
-    (c.make_room.ensures.dids ∙ c.requires.told) c.in-Ok-make_room.ensures.ok c.in-Ok-drop_both.ensures in
+    (c.make_room.ensures.dids ∙ c.requires.told) c.requires.up c.in-Ok-make_room.ensures.ok c.in-Ok-drop_both.ensures in
     run_meets (gone_parts whys.Expired c.args.queue.now c.args.mets.now ++ gone_part whys.Got c.args.queue.now (c.args.met ∷ []) ∷ []) c.args.answer (seen c.args.parts.now [] None) (seen c.give_back.new.parts c.drop_both.new.effects.dids None) refl refl
     (back_run _ (seen c.args.parts.now [] None) _ c.drop_both.new.parts c.give_back.new.parts c.drop_both.new.effects.dids c.give_back.ensures run)
 
 pub returns-in-Err-drop_both-clause-tied : goal.returns-in-Err-drop_both-clause-tied
 returns-in-Err-drop_both-clause-tied g c =
     let cut = both_stopped c.args.queue.now c.args.mets.now c.args.met (c.leaving_need.result + c.leaving_need-2.result) c.in-Err-drop_both.stop c.args.parts.now c.make_room.new.parts c.drop_both.new.parts c.make_room.new.effects c.drop_both.new.effects c.in-Ok.leaving c.in-Ok-leaving_of.leaving c.in-Ok.ensures c.in-Ok-leaving_of.ensures
-    (omega (arith, c.leaving_need.ensures, c.leaving_need-2.ensures)) (c.make_room.ensures.dids ∙ c.requires.told) c.requires.tied c.in-Ok-make_room.ensures.ok c.in-Err-drop_both.ensures in
+    (omega (arith, c.leaving_need.ensures, c.leaving_need-2.ensures)) (c.make_room.ensures.dids ∙ c.requires.told) c.requires.up c.requires.tied c.in-Ok-make_room.ensures.ok c.in-Err-drop_both.ensures in
     cut.tied
 
 pub returns-in-Err-drop_both-clause-meets : goal.returns-in-Err-drop_both-clause-meets
 returns-in-Err-drop_both-clause-meets g c =
     let cut = both_stopped c.args.queue.now c.args.mets.now c.args.met (c.leaving_need.result + c.leaving_need-2.result) c.in-Err-drop_both.stop c.args.parts.now c.make_room.new.parts c.drop_both.new.parts c.make_room.new.effects c.drop_both.new.effects c.in-Ok.leaving c.in-Ok-leaving_of.leaving c.in-Ok.ensures c.in-Ok-leaving_of.ensures
-    (omega (arith, c.leaving_need.ensures, c.leaving_need-2.ensures)) (c.make_room.ensures.dids ∙ c.requires.told) c.requires.tied c.in-Ok-make_room.ensures.ok c.in-Err-drop_both.ensures in
+    (omega (arith, c.leaving_need.ensures, c.leaving_need-2.ensures)) (c.make_room.ensures.dids ∙ c.requires.told) c.requires.up c.requires.tied c.in-Ok-make_room.ensures.ok c.in-Err-drop_both.ensures in
     broken_meets c.in-Err-drop_both.stop (gone_parts whys.Expired c.args.queue.now c.args.mets.now ++ gone_part whys.Got c.args.queue.now (c.args.met ∷ []) ∷ []) c.args.answer (seen c.args.parts.now [] None) (seen c.drop_both.new.parts c.drop_both.new.effects.dids (Some c.in-Err-drop_both.stop)) refl refl cut.broken

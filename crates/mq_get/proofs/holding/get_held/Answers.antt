@@ -94,11 +94,11 @@ returns-in-Ok-hold_behind-clause-meets g c =
 pub returns-in-Err-hold_behind-clause-tied : goal.returns-in-Err-hold_behind-clause-tied
 returns-in-Err-hold_behind-clause-tied g c =
     let cut = unheld_cut c.args.number c.args.queue.now c.args.mets.now c.args.met c.hold_need-need.result (c.leaving_need.result + c.hold_need-need.result) c.in-Err-hold_behind.stop c.args.parts.now c.make_room.new.parts c.pend_in_room.new.parts c.hold_behind.new.parts c.make_room.new.effects c.hold_behind.new.effects c.in-Ok.leaving
-    c.in-Ok.ensures (c.make_room.ensures.dids ∙ c.requires.told) c.requires.tied c.in-Ok-make_room.ensures.ok c.in-Ok-pend_in_room.ensures.ok c.in-Err-hold_behind.ensures in
+    c.in-Ok.ensures (c.make_room.ensures.dids ∙ c.requires.told) c.requires.up c.requires.tied c.in-Ok-make_room.ensures.ok c.in-Ok-pend_in_room.ensures.ok c.in-Err-hold_behind.ensures in
     cut.tied
 
 pub returns-in-Err-hold_behind-clause-meets : goal.returns-in-Err-hold_behind-clause-meets
 returns-in-Err-hold_behind-clause-meets g c =
     let cut = unheld_cut c.args.number c.args.queue.now c.args.mets.now c.args.met c.hold_need-need.result (c.leaving_need.result + c.hold_need-need.result) c.in-Err-hold_behind.stop c.args.parts.now c.make_room.new.parts c.pend_in_room.new.parts c.hold_behind.new.parts c.make_room.new.effects c.hold_behind.new.effects c.in-Ok.leaving
-    c.in-Ok.ensures (c.make_room.ensures.dids ∙ c.requires.told) c.requires.tied c.in-Ok-make_room.ensures.ok c.in-Ok-pend_in_room.ensures.ok c.in-Err-hold_behind.ensures in
+    c.in-Ok.ensures (c.make_room.ensures.dids ∙ c.requires.told) c.requires.up c.requires.tied c.in-Ok-make_room.ensures.ok c.in-Ok-pend_in_room.ensures.ok c.in-Err-hold_behind.ensures in
     broken_meets c.in-Err-hold_behind.stop (gone_parts whys.Expired c.args.queue.now c.args.mets.now ++ held_part c.args.number c.args.queue.now c.args.met ∷ []) c.args.answer (seen c.args.parts.now [] None) (seen c.hold_behind.new.parts c.hold_behind.new.effects.dids (Some c.in-Err-hold_behind.stop)) refl refl cut.broken

@@ -1,5 +1,5 @@
 use Rattle.std.proofs.Common.{◌≡◌, ◌+◌, ◌<◌, ◌∙◌, sym, ap, subst, refl, arith}
-use Rattle.std.specs.Prelude.{ℕ, List, [], ◌∷◌, ◌++◌, Ok, Err, Some, None, IsSome}
+use Rattle.std.specs.Prelude.{ℕ, true, List, [], ◌∷◌, ◌++◌, Ok, Err, Some, None, IsSome}
 use Rattle.mq_base.specs.Outside.{Rose}
 use Rattle.mq_disk.specs.declared.cutter.Stop.{Stop}
 use Rattle.mq_log.specs.Force.{Stops}
@@ -11,7 +11,7 @@ use Rattle.mq_unit.specs.Told.{Telling}
 use Rattle.mq_core.specs.Views.{PartsValue, plain_of, frozen_of}
 use Rattle.mq_core.specs.Writes.{added, now_part}
 use Rattle.mq_core.specs.Calls.{now_step}
-use Rattle.mq_core.specs.Ties.{Tied}
+use Rattle.mq_core.specs.Ties.{Tied, mode_is_up}
 use Rattle.mq_core.specs.Forced.{counted_put}
 use Rattle.mq_core.proofs.MeetLaws.{mode_up}
 use Rattle.mq_core.proofs.PutLaws.{tied_roomier, roomier_view, way_forced, way_ready, way_tied, forced_done, forced_meets, stopped_meets, put_stopped_view, put_stopped_tied, need_added, short_record, placed_faults}
@@ -21,6 +21,9 @@ use Rattle.mq_mqi.proofs.putting.put_forced.Goals as goal
 
 plain_is : {v w : CoreValue} → v ≡ w → v.plain ≡ w.plain
 plain_is e = ap (λ (x : CoreValue). x.plain) e
+
+is_mode_up : (x : PartsValue) → is_up (plain_of x).running ≡ true → mode_is_up x.mode ≡ true
+is_mode_up x e = mode_up (frozen_of x) x.mode e
 
 pub invariant_of-core : goal.invariant_of-core
 invariant_of-core g c = tied_roomier c.core.inside.parts c.make_put_room.new.parts c.in-Err.ensures.err c.core.invariant
@@ -66,7 +69,7 @@ returns-in-Err-force_put-clause-meets g c =
     let y : PartsValue = c.make_put_room.new.parts in
     let z : PartsValue = c.force_put.new.self in
     let f = c.in-Err-force_put.ensures in
-    let is = ap plain_of c.go_down_put.ensures ∙ put_stopped_view c.args.queue.now c.args.message _ (added c.args.queue.now c.args.message) c.in-Err-force_put.stop x y z c.in-Ok.ensures.ok f
+    let is = ap plain_of c.go_down_put.ensures ∙ put_stopped_view c.args.queue.now c.args.message _ (added c.args.queue.now c.args.message) c.in-Err-force_put.stop x y z (is_mode_up c.core.inside.parts (ap (λ (p : Plain). is_up p.running) plain ∙ c.requires.up)) c.in-Ok.ensures.ok f
     ∙ ap (freeze (note_of (now_part c.args.queue.now c.args.message) (now_part c.args.queue.now c.args.message).forced) z.log.armed) plain in
     let same = c.in-Ok.ensures.ok.same in
     let down = ap (λ (w : PartsValue). w.log.armed) c.go_down_put.ensures in
@@ -132,7 +135,7 @@ returns-clause-meets g c =
     let need = need_added c.args.queue.now c.args.message in
     let way = way_forced c.args.queue.now c.args.message _ r x y z (omega (arith, need, c.put_bytes-need.ensures)) ident c.in-Ok.ensures.ok f c.core.invariant in
     let ready = way_ready c.args.queue.now c.args.message x _ there way c.core.invariant low in
-    let done = ap plain_of c.settle_put.ensures ∙ forced_done c.args.queue.now c.args.message _ r x y z c.in-Ok.ensures.ok f ready ∙ ap (λ (p : Plain). apply_all (CountIdent ∷ placed c.args.queue.now c.args.message) (logged (Some r) p)) plain in
+    let done = ap plain_of c.settle_put.ensures ∙ forced_done c.args.queue.now c.args.message _ r x y z (is_mode_up c.core.inside.parts (ap (λ (p : Plain). is_up p.running) plain ∙ c.requires.up)) c.in-Ok.ensures.ok f ready ∙ ap (λ (p : Plain). apply_all (CountIdent ∷ placed c.args.queue.now c.args.message) (logged (Some r) p)) plain in
     let told = ap (λ (t : Telling). t.dids) c.tell.ensures ∙ ap (λ (ds : List Did). ds ++ did.Placed c.args.queue.now c.args.message.ident None ∷ []) (c.make_put_room.ensures.dids ∙ ap (λ (w : CoreValue). w.delta) v) in
     let same = c.in-Ok.ensures.ok.same in
     let settled : c.settle_put.new.self.log.faults ≡ z.log.faults = ap (λ (w : PartsValue). w.log.faults) c.settle_put.ensures ∙ placed_faults c.args.queue.now c.args.message (counted_put (14 + c.put_bytes-need.result) z) in
@@ -155,7 +158,7 @@ returns-in-Err-force_put-clause-told g c =
     let z : PartsValue = c.force_put.new.self in
     let r = added c.args.queue.now c.args.message in
     let f = c.in-Err-force_put.ensures in
-    let is = ap plain_of c.go_down_put.ensures ∙ put_stopped_view c.args.queue.now c.args.message _ r c.in-Err-force_put.stop x y z c.in-Ok.ensures.ok f
+    let is = ap plain_of c.go_down_put.ensures ∙ put_stopped_view c.args.queue.now c.args.message _ r c.in-Err-force_put.stop x y z (is_mode_up c.core.inside.parts (ap (λ (p : Plain). is_up p.running) plain ∙ c.requires.up)) c.in-Ok.ensures.ok f
     ∙ ap (freeze (note_of (now_part c.args.queue.now c.args.message) (now_part c.args.queue.now c.args.message).forced) z.log.armed) plain in
     let down = ap (λ (w : PartsValue). w.log.armed) c.go_down_put.ensures in
     stopped_writes c.args.core.now _ c.args.high c.args.queue.now c.args.message c.in-Err-force_put.stop c.requires.kept

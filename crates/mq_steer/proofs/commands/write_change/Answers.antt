@@ -55,7 +55,7 @@ returns-in-Err-force_change-clause-meets g c =
     let z : PartsValue = c.force_change.new.parts in
     let f = c.in-Err-force_change.ensures in
     let rooms = c.in-Ok.ensures.ok.rooms in
-    let is = ap plain_of c.go_down.ensures ∙ change_frozen c.args.planned c.in-Err-force_change.stop x y z rooms f
+    let is = ap plain_of c.go_down.ensures ∙ change_frozen c.args.planned c.in-Err-force_change.stop x y z (mode_up (frozen_of x) x.mode (ap (λ (p : Plain). is_up p.running) plain ∙ c.requires.up)) rooms f
     ∙ ap (λ (p : Plain). freeze (note_of (object_part c.args.planned p.definitions) (object_part c.args.planned p.definitions).forced) z.log.armed p) plain in
     let down = ap (λ (w : PartsValue). w.log.armed) c.go_down.ensures in
     let failed = ap (λ (w : PartsValue). w.log.faults) c.go_down.ensures in
@@ -115,7 +115,7 @@ returns-in-Err-force_change-clause-told g c =
     let f = c.in-Err-force_change.ensures in
     let rooms = c.in-Ok.ensures.ok.rooms in
     let r = records.Objects c.args.planned.change in
-    let is = ap plain_of c.go_down.ensures ∙ change_frozen c.args.planned c.in-Err-force_change.stop x y z rooms f
+    let is = ap plain_of c.go_down.ensures ∙ change_frozen c.args.planned c.in-Err-force_change.stop x y z (mode_up (frozen_of x) x.mode (ap (λ (p : Plain). is_up p.running) plain ∙ c.requires.up)) rooms f
     ∙ ap (λ (p : Plain). freeze (note_of (object_part c.args.planned p.definitions) (object_part c.args.planned p.definitions).forced) z.log.armed p) plain in
     let down = ap (λ (w : PartsValue). w.log.armed) c.go_down.ensures in
     record {

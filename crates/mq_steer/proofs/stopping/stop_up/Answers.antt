@@ -1,9 +1,10 @@
 use Rattle.std.proofs.Common.{sym, ap, subst, ◌∙◌}
 use Rattle.std.specs.Prelude.{None}
-use Rattle.mq_spec_state.specs.Words.{Plain, Down}
+use Rattle.mq_spec_state.specs.Words.{Plain, Down, is_up}
 use Rattle.mq_spec_manager.specs.Stops.{at_rest}
-use Rattle.mq_core.specs.Views.{PartsValue, plain_of}
+use Rattle.mq_core.specs.Views.{PartsValue, plain_of, frozen_of}
 use Rattle.mq_core.specs.Ties.{Tied}
+use Rattle.mq_core.proofs.MeetLaws.{mode_up}
 use Rattle.mq_steer.specs.Rests.{AreHeld}
 use Rattle.mq_steer.proofs.RestLaws.{rested_view, tied_rested, stop_is_up}
 use Rattle.mq_core.specs.Values.{CoreValue, bodies_in}
@@ -18,6 +19,6 @@ returns g c =
     let plain = ap (λ (w : CoreValue). w.plain) v in
     let held = subst AreHeld (sym plain) c.requires.held in
     stop_is_up c.args.core.now _ c.requires.up
-    (ap plain_of c.rest.ensures ∙ rested_view c.core.inside.parts held ∙ ap (λ (p : Plain). record (at_rest p) { running = Down None 0 }) plain)
+    (ap plain_of c.rest.ensures ∙ rested_view c.core.inside.parts (mode_up (frozen_of c.core.inside.parts) c.core.inside.parts.mode (ap (λ (p : Plain). is_up p.running) plain ∙ c.requires.up)) held ∙ ap (λ (p : Plain). record (at_rest p) { running = Down None 0 }) plain)
     (ap (λ (w : CoreValue). w.delta) v) (ap (λ (w : CoreValue). w.stopped) v) (ap (λ (y : PartsValue). y.log.faults) c.rest.ensures ∙ ap (λ (w : CoreValue). w.faults) v)
     (ap (λ (y : PartsValue). bodies_in y.log) c.rest.ensures ∙ ap (λ (w : CoreValue). w.log) v)
