@@ -16,7 +16,7 @@ use Rattle.std.specs.Option.{option_map}
 use Rattle.mq_calls.specs.declared.records.LogRecord.TheVariants as records
 use Rattle.mq_agents.proofs.RemoveLaws.{ident_of_row}
 use Rattle.mq_moves.proofs.MoveLaws.{need_moved}
-use Rattle.mq_spec_agents.specs.Words.{CanMove, bare_if, row_with, route_tests, landing, move_full, move_found, move_resolved, move_landing, move_row}
+use Rattle.mq_spec_agents.specs.Words.{CanMove, bare_if, row_with, route_tests, move_full, move_found, move_resolved, move_landing, move_row}
 use Rattle.mq_moves.specs.Moving.{moved_step}
 use Rattle.mq_moves.specs.Landed.{at_end, message_moved}
 
