@@ -311,11 +311,14 @@ still_forced queue r stop y z f = record { same = ap (up_to queue) f.same; log =
 freeze_as : Option Noted → ℕ → Plain → Plain
 freeze_as note left p = freeze note left p
 
-pub move_stopped_view : (from : List ℕ) (target : Dest) (bare : Bool) (to : List ℕ) (m : Message) (n : ℕ) (r : LogRecord) (stop : Stop) (x y z : PartsValue) → CanBeKept m → IsExpected to n x y → IsForced r y (Err stop) z
+still_up : (queue : List ℕ) (n : ℕ) (x y : PartsValue) → mode_is_up x.mode ≡ true → IsExpected queue n x y → mode_is_up y.mode ≡ true
+still_up queue n x y up e = ap (λ (z : PartsValue). mode_is_up z.mode) e.same ∙ up
+
+pub move_stopped_view : (from : List ℕ) (target : Dest) (bare : Bool) (to : List ℕ) (m : Message) (n : ℕ) (r : LogRecord) (stop : Stop) (x y z : PartsValue) → mode_is_up x.mode ≡ true → CanBeKept m → IsExpected to n x y → IsForced r y (Err stop) z
     → plain_of (downed_move from target bare to m z) ≡ freeze (moved_note from target bare to m) z.log.armed (plain_of x)
 unfolding up_to freeze_as
-move_stopped_view from target bare to m n r stop x y z kept e f =
-    frozen_view (writes.Moved from target bare to m) r (up_to to y) (up_to to z) stop (still_forced to r stop y z f)
+move_stopped_view from target bare to m n r stop x y z up kept e f =
+    frozen_view (writes.Moved from target bare to m) r (up_to to y) (up_to to z) stop (still_up to n x y up e) (still_forced to r stop y z f)
     ∙ (λ i. freeze_as (noted_moved from target bare to m (frozen_of (up_to to y)) kept i) z.log.armed (roomier_view x (up_to to y) (given_up to n x y e) i))
 
 pub move_stopped_tied : (from : List ℕ) (target : Dest) (bare : Bool) (to : List ℕ) (m : Message) (n : ℕ) (r : LogRecord) (stop : Stop) (x y z : PartsValue) → IsExpected to n x y → IsForced r y (Err stop) z → Tied x → Tied (downed_move from target bare to m z)
@@ -327,9 +330,9 @@ move_stopped_tied from target bare to m n r stop x y z e f t =
 with_log : LogRecord → Plain → Plain
 with_log r p = logged (Some r) p
 
-pub moved_on : (queue : List ℕ) (n k : ℕ) (r : LogRecord) (x y z : PartsValue) (p : Plain) → IsExpected queue n x y → IsForced r y (Ok tt) z → plain_of x ≡ p → plain_of (given_back k z) ≡ logged (Some r) p
+pub moved_on : (queue : List ℕ) (n k : ℕ) (r : LogRecord) (x y z : PartsValue) (p : Plain) → mode_is_up x.mode ≡ true → IsExpected queue n x y → IsForced r y (Ok tt) z → plain_of x ≡ p → plain_of (given_back k z) ≡ logged (Some r) p
 unfolding with_log
-moved_on queue n k r x y z p e f is = forced_view r y z f ∙ ap (with_log r) (expected_view queue n x y e ∙ is)
+moved_on queue n k r x y z p up e f is = forced_view r y z (still_up queue n x y up e) f ∙ ap (with_log r) (expected_view queue n x y e ∙ is)
 
 route_is : (o : Option Dest) → cond (is_some o) 96 0 ≡ route_size o
 route_is None = refl

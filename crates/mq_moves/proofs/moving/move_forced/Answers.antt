@@ -91,7 +91,7 @@ returns-in-Err-force_moved-clause-meets g c =
     let bare = c.args.bare in
     let u : PartsValue = c.give_move_up.new.parts in
     let is =
-    ap plain_of c.give_move_up.ensures ∙ move_stopped_view from target bare to m n r stop x y z c.requires.kept e f
+    ap plain_of c.give_move_up.ensures ∙ move_stopped_view from target bare to m n r stop x y z (mode_up (frozen_of x) x.mode (ap (λ (p : Plain). is_up p.running) plain ∙ c.requires.up)) c.requires.kept e f
     ∙ ap (λ (p : Plain). freeze (moved_note from target bare to m) z.log.armed p) plain
     in
     let down = ap (λ (q : PartsValue). q.log.armed) c.give_move_up.ensures in
@@ -189,7 +189,7 @@ returns-clause-meets g c =
     let up = mode_up (frozen_of x) x.mode (ap (λ (p : Plain). is_up p.running) plain ∙ c.requires.up) in
     let still : mode_is_up z.mode ≡ true = ap (λ (q : PartsValue). mode_is_up q.mode) (f.same ∙ refl) ∙ ap (λ (q : PartsValue). mode_is_up q.mode) e.same ∙ up in
     let same = c.swap_rows.ensures ∙ ap (put_in_place to m) back in
-    let done = ap plain_of same ∙ moved_seen from ident to m (given_back n z) (logged (Some r) c.args.core.now.plain) still ready (moved_on to n n r x y z c.args.core.now.plain e f plain) in
+    let done = ap plain_of same ∙ moved_seen from ident to m (given_back n z) (logged (Some r) c.args.core.now.plain) still ready (moved_on to n n r x y z c.args.core.now.plain up e f plain) in
     let told =
     ap (λ (t : Telling). t.dids) c.tell.ensures
     ∙ ap (λ (ds : List Did). ds ++ did.Moved from ident to c.args.target.now c.args.bare ∷ []) (c.make_move_room.ensures.dids ∙ ap (λ (w : CoreValue). w.delta) v)
@@ -225,7 +225,7 @@ returns-in-Err-force_moved-clause-told g c =
     let bare = c.args.bare in
     let u : PartsValue = c.give_move_up.new.parts in
     let is =
-    ap plain_of c.give_move_up.ensures ∙ move_stopped_view from target bare to m n r stop x y z c.requires.kept e f
+    ap plain_of c.give_move_up.ensures ∙ move_stopped_view from target bare to m n r stop x y z (mode_up (frozen_of x) x.mode (ap (λ (p : Plain). is_up p.running) plain ∙ c.requires.up)) c.requires.kept e f
     ∙ ap (λ (p : Plain). freeze (moved_note from target bare to m) z.log.armed p) plain
     in
     let down = ap (λ (q : PartsValue). q.log.armed) c.give_move_up.ensures in
