@@ -1,16 +1,15 @@
 -- Commands and clocks in a loop: one event for each.
-use Rattle.std.specs.Prelude.{◌≡◌, ◌<◌, ◌≤◌, ◌+◌, ◌⊎◌, ℕ, zero, suc, List, [], ◌∷◌, ◌++◌, Option, Some, None, Result, Ok, Err, length, drop, slice_get, refl}
-use Rattle.std.proofs.Common.{ap, subst, sym, arith, inl, inr, ◌∙◌}
+use Rattle.std.specs.Prelude.{◌≡◌, ◌<◌, ◌≤◌, ◌+◌, ◌⊎◌, ℕ, zero, suc, List, [], ◌∷◌, Some, Ok, Err, length, drop, slice_get, refl}
+use Rattle.std.proofs.Common.{subst, sym, arith, inl, inr, ◌∙◌}
 use Rattle.mq_history.specs.declared.acts.Act.TheVariants as acts
 use Rattle.mq_history.specs.declared.calls.Actor.TheVariants as actors
 use Rattle.mq_history.specs.declared.calls.Call.TheVariants as calls
-use Rattle.mq_history.specs.declared.scenario.ManagerLine.{ManagerLine}
 use Rattle.mq_sc_parse.specs.declared.command.Command.{Command}
-use Rattle.mq_spec_network.specs.Tasks.{Task, obey_all, clocks_from}
+use Rattle.mq_spec_network.specs.Tasks.{Task, obey_all}
 use Rattle.mq_spec_network.specs.Tasks.Task.{Ask}
 use Rattle.mq_spec_network.specs.Steps.{Is}
 use Rattle.mq_nodes.specs.declared.nodes.Stop.{Stop}
-use Rattle.mq_nodes.specs.Course.{Course, Ready}
+use Rattle.mq_nodes.specs.Course.{Course}
 use Rattle.mq_nodes.specs.Told.{Does, Part, Onward}
 use Rattle.mq_nodes.proofs.Onward.{moved, broke, whole}
 

@@ -1,19 +1,17 @@
 -- The clocks of all managers in a loop.
-use Rattle.std.specs.Prelude.{filter, not, if◌then◌else◌, ◌≡◌, ◌<◌, ◌≤◌, ◌+◌, ◌⊎◌, ◌==◌, ℕ, zero, suc, Bool, false, List, [], ◌∷◌, ◌++◌, Option, Some, None, Result, Ok, Err, OnOk, length, drop, refl}
+use Rattle.std.specs.Prelude.{filter, not, if◌then◌else◌, ◌≡◌, ◌<◌, ◌≤◌, ◌+◌, ◌⊎◌, ◌==◌, ℕ, suc, Bool, false, List, [], ◌∷◌, ◌++◌, Option, Ok, Err, length, drop, refl}
 use Rattle.std.proofs.Common.{ap, subst, sym, arith, append-nil, inl, inr, ◌∙◌}
 use Rattle.std.proofs.lemmas.Bool.Decides.{nat_tests}
 use Rattle.mq_history.specs.declared.acts.Act.TheVariants as acts
 use Rattle.mq_history.specs.declared.calls.Actor.TheVariants as actors
-use Rattle.mq_history.specs.declared.calls.Actor.{Actor}
 use Rattle.mq_history.specs.declared.calls.Call.{Call}
 use Rattle.mq_history.specs.declared.calls.Call.TheVariants as calls
 use Rattle.mq_history.specs.declared.calls.Entry.{Entry}
 use Rattle.mq_history.specs.declared.scenario.ManagerLine.{ManagerLine}
-use Rattle.mq_history.specs.declared.scenario.Scenario.{Scenario}
 use Rattle.mq_spec_node.specs.Node.{Node}
 use Rattle.mq_spec_node.specs.Lines.{lines_by}
 use Rattle.mq_spec_node.specs.Doers.{is_script, is_trigger, mains}
-use Rattle.mq_spec_network.specs.Turns.{Network, node_at, node_of, does, more_at}
+use Rattle.mq_spec_network.specs.Turns.{Network, node_at, node_of, does}
 use Rattle.mq_spec_network.specs.Tasks.{Task, clocks, clocks_from, moment_of}
 use Rattle.mq_spec_network.specs.Tasks.Task.{Ask}
 use Rattle.mq_spec_network.specs.Steps.{Is, AreTriggers}

@@ -1,35 +1,31 @@
 -- A script's next line: how each answer of the call that does it goes on, and a get that waits.
-use Rattle.std.specs.Prelude.{if◌then◌else◌, ◌≡◌, ◌<◌, ◌≤◌, ◌+◌, ◌-◌, ◌⊎◌, ◌==◌, ℕ, zero, suc, min, nat_lt, Bool, true, false, List, [], ◌∷◌, ◌++◌, Option, Some, None, Result, Ok, Err, length, take, drop, refl}
-use Rattle.std.proofs.Common.{ap, subst, sym, arith, append-nil, inl, inr, ◌∙◌}
+use Rattle.std.specs.Prelude.{if◌then◌else◌, ◌≡◌, ◌==◌, ℕ, suc, Bool, true, false, List, [], ◌∷◌, Option, Some, None, Result, Ok, Err, take, drop, refl}
+use Rattle.std.proofs.Common.{ap, subst, sym, arith, inl, inr, ◌∙◌}
 use Rattle.std.proofs.lemmas.Bool.Decides.{nat_tests}
-use Rattle.mq_frame.specs.declared.frame.Seen.TheVariants as items
 use Rattle.mq_history.specs.declared.calls.Actor.TheVariants as actors
 use Rattle.mq_history.specs.declared.calls.Call.{Call}
-use Rattle.mq_history.specs.declared.calls.Call.TheVariants as calls
 use Rattle.mq_history.specs.declared.calls.Entry.{Entry}
 use Rattle.mq_history.specs.declared.scenario.ScriptPart.{ScriptPart}
 use Rattle.mq_history.specs.declared.scripts.ScriptLine.{ScriptLine}
 use Rattle.mq_history.specs.declared.scripts.ScriptLine.TheVariants as lines
-use Rattle.mq_spec_manager.specs.Stops.{last_moment}
 use Rattle.mq_spec_node.specs.Node.{Node}
 use Rattle.mq_spec_node.specs.Scripts.{Memory, deadline, line_call, until_of, wait_of}
-use Rattle.mq_spec_node.specs.Lines.{Next, next_by, next_if, next_of, next_until, deadline_kept, waits_at, call_after, left_after, lines_by, is_none, memory_by}
-use Rattle.mq_spec_node.specs.Lines.Next.{Ends, Waits, Makes}
-use Rattle.mq_spec_network.specs.Turns.{Network, node_at, does}
-use Rattle.mq_spec_network.specs.ScriptLines.{IsUntil, call_next, lines_left, still_waits}
-use Rattle.mq_spec_network.specs.Tasks.{Task, clocks, moment_of}
-use Rattle.mq_spec_network.specs.Tasks.Task.{Ask, Lines}
-use Rattle.mq_spec_network.specs.Steps as steps
-use Rattle.mq_spec_network.specs.Steps.{Goes, Is, IsNext, AreTriggers}
+use Rattle.mq_spec_node.specs.Lines.{next_if, next_of, next_until, waits_at, call_after, memory_by}
+use Rattle.mq_spec_node.specs.Lines.Next.{Ends, Waits}
+use Rattle.mq_spec_network.specs.Turns.{Network, node_at}
+use Rattle.mq_spec_network.specs.ScriptLines.{IsUntil, call_next, lines_left}
+use Rattle.mq_spec_network.specs.Tasks.{Task, moment_of}
+use Rattle.mq_spec_network.specs.Tasks.Task.{Lines}
+use Rattle.mq_spec_network.specs.Steps.{Goes, Is, IsNext}
 use Rattle.mq_spec_network.specs.Steps.Goes.{stays as stays_there}
 use Rattle.mq_spec_network.proofs.NextLines.{left_more}
 use Rattle.mq_nodes.specs.declared.nodes.Stop.{Stop}
 use Rattle.mq_nodes.specs.declared.nodes.Stop.TheVariants as stops
 use Rattle.mq_nodes.specs.declared.nodes.Advanced.{Advanced}
 use Rattle.mq_nodes.specs.declared.nodes.Advanced.TheVariants as advances
-use Rattle.mq_nodes.specs.Course.{Course, Did, Ready, Rests, IsSpent, waiting, waits_then}
-use Rattle.mq_nodes.specs.Told.{Part, Onward, OneLine, LineTold, LineAt, LineOf, IsLine, Clocked, later, upto}
-use Rattle.mq_nodes.proofs.Onward.{begin, moved, broke, passed, stopped, of_part, behind, unframed}
+use Rattle.mq_nodes.specs.Course.{Course, Did, Ready, Rests, waiting}
+use Rattle.mq_nodes.specs.Told.{Part, Onward, OneLine, LineTold, LineAt, LineOf, IsLine, upto}
+use Rattle.mq_nodes.proofs.Onward.{begin, moved, broke, behind}
 
 -- The call of a line tells its deadline, if it is a get.
 pub record SaysUntil (moment : ℕ) (label : List ℕ) (m : Memory) (until : Option ℕ) (l : ScriptLine) : Type 0 where

@@ -1,17 +1,14 @@
 -- What each loop keeps: from a beginning so much was done, and these tasks are left; and how each answer of a call goes on.
-use Rattle.std.specs.Prelude.{◌≡◌, ◌⊎◌, ℕ, Bool, List, [], ◌∷◌, ◌++◌, Option, Some, None, Result, Ok, Err, refl}
+use Rattle.std.specs.Prelude.{◌≡◌, List, [], ◌∷◌, ◌++◌, Ok, Err, refl}
 use Rattle.std.proofs.Common.{ap, subst, sym, append-nil, inl, inr, ◌∙◌}
-use Rattle.mq_history.specs.declared.calls.Entry.{Entry}
-use Rattle.mq_history.specs.declared.history.Mark.{Mark}
-use Rattle.mq_history.specs.declared.scenario.Scenario.{Scenario}
-use Rattle.mq_spec_network.specs.Turns.{Network, does}
+use Rattle.mq_spec_network.specs.Turns.{Network}
 use Rattle.mq_spec_network.specs.Tasks.{Task}
 use Rattle.mq_spec_network.specs.Steps.{Goes, Moves, Passes, left_by}
 use Rattle.mq_spec_network.specs.Steps.Goes.{stays, moves, serves, passes}
 use Rattle.mq_spec_network.proofs.Going.{on, one_more, before_others}
 use Rattle.mq_nodes.specs.declared.nodes.Stop.{Stop}
 use Rattle.mq_nodes.specs.declared.nodes.Stop.TheVariants as stops
-use Rattle.mq_nodes.specs.Course.{Course, Did, Ready, Rests, IsSpent}
+use Rattle.mq_nodes.specs.Course.{Course, Did, Ready}
 use Rattle.mq_nodes.specs.Told.{Broke, Part, Ended, Onward}
 
 -- The network's scenario stays.

@@ -1,5 +1,5 @@
 -- A pump's rounds in loops: how each answer of a turn goes on.
-use Rattle.std.specs.Prelude.{◌≡◌, ◌<◌, ◌≤◌, ◌+◌, ◌⊎◌, ℕ, zero, suc, nat_lt, Bool, true, false, List, [], ◌∷◌, ◌++◌, Option, Some, None, Result, Ok, Err, length, slice_get, refl}
+use Rattle.std.specs.Prelude.{◌≡◌, ◌<◌, ◌≤◌, ◌+◌, ◌⊎◌, ℕ, zero, suc, nat_lt, Bool, true, false, List, [], ◌∷◌, Option, Some, None, Ok, Err, length, slice_get, refl}
 use Rattle.std.proofs.Common.{ap, subst, sym, arith, inl, inr, ◌∙◌}
 use Rattle.std.proofs.lemmas.Bool.Decides.{nat_tests}
 use Rattle.std.proofs.lemmas.Option.{slice_get_past}
@@ -10,15 +10,15 @@ use Rattle.mq_spec_network.specs.Turns.{Network, is_idle}
 use Rattle.mq_spec_network.specs.Tasks.{Task, Slot}
 use Rattle.mq_spec_network.specs.Tasks.Task.{Pump}
 use Rattle.mq_spec_network.specs.Tasks.Slot.{Sends, Receives, TimesOut}
-use Rattle.mq_spec_network.specs.Steps.{Goes, Passes, PumpTakes, PumpSkips, TakesTurn, turn_in, pump_on, next_round}
+use Rattle.mq_spec_network.specs.Steps.{PumpTakes, PumpSkips, TakesTurn, turn_in, pump_on, next_round}
 use Rattle.mq_spec_network.specs.Steps.Goes.{stays as stays_there, passes}
 use Rattle.mq_spec_network.proofs.Going.{on}
 use Rattle.mq_nodes.specs.declared.nodes.Stop.{Stop}
 use Rattle.mq_nodes.specs.declared.nodes.Stop.TheVariants as stops
 use Rattle.mq_nodes.specs.Course.{Course, Did, Ready}
 use Rattle.mq_nodes.specs.Told.{Broke, Part, Onward}
-use Rattle.mq_nodes.specs.Pumps.{IsStill, StillAt, AllStill, TurnsOf, TurnsIn, pumping, round_then, RoundOf, RoundTold, TurnsStill, TimeoutsStill, from_start}
-use Rattle.mq_nodes.proofs.Onward.{begin, moved, broke, passed, unframed, after, whole, same_scenario}
+use Rattle.mq_nodes.specs.Pumps.{IsStill, StillAt, AllStill, TurnsOf, TurnsIn, pumping, round_then, RoundOf, TurnsStill, TimeoutsStill, from_start}
+use Rattle.mq_nodes.proofs.Onward.{begin, moved, broke, passed, unframed, after, same_scenario}
 use Rattle.mq_nodes.proofs.Asking.{at_place, same_value, same_or_less}
 use Rattle.mq_nodes.proofs.LineLaws.{fits_too}
 

@@ -1,5 +1,5 @@
 -- Steps in a loop, and the last restarts.
-use Rattle.std.specs.Prelude.{◌≡◌, ◌<◌, ◌≤◌, ◌+◌, ◌⊎◌, ℕ, zero, suc, Bool, true, false, List, [], ◌∷◌, ◌++◌, Option, Some, None, Result, Ok, Err, length, take, drop, slice_get, refl}
+use Rattle.std.specs.Prelude.{◌≡◌, ◌<◌, ◌≤◌, ◌+◌, ℕ, zero, suc, Bool, true, false, List, [], ◌∷◌, ◌++◌, Some, Result, Ok, Err, length, take, drop, slice_get, refl}
 use Rattle.std.proofs.Common.{ap, subst, sym, arith, append-nil, inl, inr, ◌∙◌}
 use Rattle.mq_history.specs.declared.acts.Act.TheVariants as acts
 use Rattle.mq_history.specs.declared.calls.Actor.{Actor}
@@ -16,16 +16,16 @@ use Rattle.mq_spec_network.specs.Turns.{Network, node_at, is_up_at}
 use Rattle.mq_spec_network.specs.Tasks.{Task, tasks_of, tasks_next, restarts_from}
 use Rattle.mq_spec_network.specs.Tasks.Task.{Ask, Restart}
 use Rattle.mq_spec_network.specs.Steps.{Goes, Is, is_cut, once_more}
-use Rattle.mq_spec_network.specs.Lawful.{Went, Stands, IsFar, AreSteps, IsDone, ends_idle, mark_of, network_begun}
+use Rattle.mq_spec_network.specs.Lawful.{Went, Stands, IsFar, AreSteps, IsDone, ends_idle, mark_of}
 use Rattle.mq_spec_network.specs.Lawful.Went.{begins as went_begins, ends as went_ends}
 use Rattle.mq_spec_network.proofs.Going.{on}
 use Rattle.mq_spec_network.proofs.Standing.{starts, goes_on, marked}
 use Rattle.mq_nodes.specs.declared.nodes.Stop.{Stop}
 use Rattle.mq_nodes.specs.declared.nodes.Stop.TheVariants as stops
-use Rattle.mq_nodes.specs.Course.{Course, Did, Ready, Rests, IsSpent, mark_at, noted}
-use Rattle.mq_nodes.specs.Told.{Broke, Does, Says, Part, Ended, Ran, AllDone, Has, Onward}
-use Rattle.mq_nodes.specs.Runs.{Unmarked, AllWhole, StepsTold, never_idle}
-use Rattle.mq_nodes.proofs.Onward.{begin, moved, broke, passed, unframed, after, behind, stopped, whole, of_part, same_scenario}
+use Rattle.mq_nodes.specs.Course.{Course, Ready, Rests, noted}
+use Rattle.mq_nodes.specs.Told.{Broke, Does, Says, Part, Ran, Has, Onward}
+use Rattle.mq_nodes.specs.Runs.{Unmarked, AllWhole, never_idle}
+use Rattle.mq_nodes.proofs.Onward.{begin, moved, broke, passed, unframed, behind, stopped, whole, of_part, same_scenario}
 use Rattle.mq_nodes.proofs.Asking.{at_place, none_left, same_value}
 use Rattle.mq_nodes.proofs.LineLaws.{fits_too}
 

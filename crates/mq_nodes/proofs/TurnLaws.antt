@@ -1,25 +1,21 @@
 -- Turns of handlers and monitors in loops.
-use Rattle.std.specs.Prelude.{◌≡◌, ◌<◌, ◌≤◌, ◌+◌, ◌-◌, ◌⊎◌, ℕ, zero, suc, Bool, true, false, List, [], ◌∷◌, ◌++◌, Option, Some, None, Result, Ok, Err, length, slice_get, refl}
-use Rattle.std.proofs.Common.{ap, subst, sym, arith, inl, inr, ◌∙◌}
-use Rattle.mq_history.specs.declared.calls.Actor.TheVariants as actors
-use Rattle.mq_history.specs.declared.calls.Call.TheVariants as calls
+use Rattle.std.specs.Prelude.{◌≡◌, ◌<◌, ◌≤◌, ◌+◌, ◌-◌, ℕ, suc, Bool, true, false, List, [], ◌∷◌, ◌++◌, Option, Some, None, Ok, Err, length, slice_get, refl}
+use Rattle.std.proofs.Common.{ap, subst, sym, arith, ◌∙◌}
 use Rattle.mq_history.specs.declared.calls.Entry.{Entry}
 use Rattle.mq_history.specs.declared.scenario.MonitorLine.{MonitorLine}
 use Rattle.mq_history.specs.declared.scenario.RulesPart.{RulesPart}
 use Rattle.mq_history.specs.declared.scenario.Scenario.{Scenario}
-use Rattle.mq_history.specs.declared.scenario.ScriptPart.{ScriptPart}
 use Rattle.mq_spec_network.specs.Turns.{Network, node_at}
 use Rattle.mq_spec_network.specs.Tasks.{Task, handle_with, serve_by, run_script}
 use Rattle.mq_spec_network.specs.Tasks.Task.{Handle, Serve}
-use Rattle.mq_spec_network.specs.Steps.{Goes, Is, MonitorGets, handler_idle, serves_nothing, begun}
+use Rattle.mq_spec_network.specs.Steps.{MonitorGets, handler_idle, begun}
 use Rattle.mq_spec_network.specs.Lawful.{handles_idle}
 use Rattle.mq_nodes.specs.declared.nodes.Stop.{Stop}
-use Rattle.mq_nodes.specs.declared.nodes.Stop.TheVariants as stops
 use Rattle.mq_nodes.specs.declared.nodes.Monitored.TheVariants as monitors
-use Rattle.mq_nodes.specs.Course.{Course, Did, Ready, Rests}
-use Rattle.mq_nodes.specs.Told.{Broke, Part, Onward, HandlerTold, HandlerOf, TurnTold, TurnOf, begun_by}
+use Rattle.mq_nodes.specs.Course.{Course, Did, Ready}
+use Rattle.mq_nodes.specs.Told.{Part, Onward, HandlerTold, HandlerOf, TurnTold, begun_by}
 use Rattle.mq_nodes.proofs.Onward.{begin, moved, broke, passed, unframed, behind, stopped, whole, of_part, same_scenario}
-use Rattle.mq_nodes.proofs.Asking.{at_place, same_value}
+use Rattle.mq_nodes.proofs.Asking.{at_place}
 use Rattle.mq_nodes.proofs.LineLaws.{fits_too}
 
 less_one : (n i : ℕ) → i < n → n - i ≡ suc (n - (i + 1))

@@ -1,5 +1,5 @@
 -- A get that waits: the clocks of all managers advance to its deadline, and then it comes.
-use Rattle.std.specs.Prelude.{if◌then◌else◌, ◌≡◌, ◌<◌, ◌≤◌, ◌+◌, ◌-◌, ◌⊎◌, ◌==◌, ℕ, zero, suc, min, nat_lt, Bool, true, false, List, [], ◌∷◌, ◌++◌, Option, Some, None, Result, Ok, Err, length, take, drop, refl}
+use Rattle.std.specs.Prelude.{if◌then◌else◌, ◌≡◌, ◌<◌, ◌≤◌, ◌+◌, ◌-◌, ◌⊎◌, ◌==◌, ℕ, suc, min, nat_lt, Bool, true, false, List, [], ◌∷◌, ◌++◌, Option, Some, None, Result, Ok, Err, length, take, drop, refl}
 use Rattle.std.proofs.Common.{ap, subst, sym, arith, append-nil, inl, inr, ◌∙◌}
 use Rattle.std.proofs.Math.Nat.{min-eq_left, min-le_right}
 use Rattle.std.proofs.lemmas.Bool.Decides.{nat_tests}
@@ -12,15 +12,15 @@ use Rattle.mq_history.specs.declared.scripts.ScriptLine.TheVariants as lines
 use Rattle.mq_spec_manager.specs.Stops.{last_moment}
 use Rattle.mq_spec_node.specs.Node.{Node}
 use Rattle.mq_spec_node.specs.Scripts.{Memory, deadline, fresh, line_call, until_of, wait_of}
-use Rattle.mq_spec_node.specs.Lines.{Next, next_by, next_if, next_of, next_until, waits_at, call_after, lines_by, memory_after, memory_by, is_none}
+use Rattle.mq_spec_node.specs.Lines.{Next, next_by, next_if, next_of, waits_at, call_after, lines_by, memory_after, memory_by, is_none}
 use Rattle.mq_spec_node.specs.Lines.Next.{Ends, Waits, Makes}
 use Rattle.mq_frame.specs.declared.frame.Seen.TheVariants as items
 use Rattle.mq_spec_network.specs.Turns.{Network, node_at, deed_at}
-use Rattle.mq_spec_network.specs.ScriptLines.{IsUntil, call_next, lines_left, still_waits}
+use Rattle.mq_spec_network.specs.ScriptLines.{call_next, lines_left}
 use Rattle.mq_spec_network.specs.Tasks.{Task, clocks, moment_of}
 use Rattle.mq_spec_network.specs.Tasks.Task.{Ask, Lines}
 use Rattle.mq_spec_network.specs.Steps as steps
-use Rattle.mq_spec_network.specs.Steps.{Goes, Is, IsNext, left_by}
+use Rattle.mq_spec_network.specs.Steps.{Goes, Is, IsNext}
 use Rattle.mq_spec_network.specs.Steps.Goes.{stays as stays_there, passes}
 use Rattle.mq_spec_network.proofs.Going.{on, one_more, before_others}
 use Rattle.mq_spec_network.proofs.NextLines.{left_more}
@@ -28,10 +28,10 @@ use Rattle.mq_nodes.specs.declared.nodes.Stop.{Stop}
 use Rattle.mq_nodes.specs.declared.nodes.Stop.TheVariants as stops
 use Rattle.mq_nodes.specs.declared.nodes.Advanced.{Advanced}
 use Rattle.mq_nodes.specs.declared.nodes.Advanced.TheVariants as advances
-use Rattle.mq_nodes.specs.Course.{Course, Did, Ready, Rests, IsSpent, waiting, waits_then}
-use Rattle.mq_nodes.specs.Told.{Part, Ended, Onward, OneLine, LineTold, LineAt, LineOf, IsLine, Clocked, later, upto}
+use Rattle.mq_nodes.specs.Course.{Course, Did, Ready, Rests, waiting, waits_then}
+use Rattle.mq_nodes.specs.Told.{Part, Ended, Onward, OneLine, LineTold, LineAt, LineOf, Clocked, later, upto}
 use Rattle.mq_nodes.proofs.GetLaws.{get_comes}
-use Rattle.mq_nodes.proofs.LineLaws.{SaysUntil, says_until, waits_so, by_node, fits_too, itself, bool_case, lines_of}
+use Rattle.mq_nodes.proofs.LineLaws.{says_until, waits_so, by_node, itself, bool_case, lines_of}
 
 -- The get of a script that waits until a moment, at its node.
 pub record IsWaiting (k : ℕ) (p : ScriptPart) (u : ℕ) (w : Network) (n : Node) (l : ScriptLine) (ls : List ScriptLine) : Type 0 where

@@ -1,5 +1,5 @@
 -- A pump's rounds: how many turns are left behind each.
-use Rattle.std.specs.Prelude.{◌≡◌, ◌≤◌, ◌<◌, ◌⊎◌, ℕ, zero, suc, nat_lt, Bool, false, List, [], ◌∷◌, Option, Some, Result, Ok, Err, length, slice_get}
+use Rattle.std.specs.Prelude.{◌≡◌, ◌≤◌, ◌<◌, ◌⊎◌, ℕ, zero, suc, nat_lt, Bool, false, List, [], ◌∷◌, Some, Result, Ok, Err, length, slice_get}
 use Rattle.mq_history.specs.declared.scenario.CableLine.{CableLine}
 use Rattle.mq_spec_network.specs.Turns.{Network, changes}
 use Rattle.mq_spec_network.specs.Tasks.{Task, Slot}

@@ -1,5 +1,5 @@
 -- The steps of a run, one after the other.
-use Rattle.std.specs.Prelude.{◌≡◌, ℕ, Bool, false, List, [], ◌∷◌, Result, Ok, Err}
+use Rattle.std.specs.Prelude.{◌≡◌, ℕ, Bool, false, [], Result, Ok, Err}
 use Rattle.mq_spec_network.specs.Tasks.{restarts_from}
 use Rattle.mq_spec_network.specs.Lawful.{Stands}
 use Rattle.mq_nodes.specs.declared.nodes.Stop.{Stop}
