@@ -143,7 +143,7 @@ is_done (get_answers.Done answer) = true
 no_both : false ≡ true → ⊥
 no_both e = absurd cc
 
-done_get : (own : Own) (value reply : GetAnswer) (parts : List Part) (old new : CoreValue) (waits : Bool) → IsGet waits (Do reply parts) → value ≡ reply → Meets (manager_of old) (Do reply parts) (Ok value) (manager_of new)
+done_get : (own : Own) (value reply : GetAnswer) (parts : List Part) (old new : CoreValue) (waits : Bool) → IsGet waits (Do reply parts) → value ≡ reply → Meets {F = Reason} (manager_of old) (Do reply parts) (Ok value) (manager_of new)
     → DoesIf (get_ended waits (Ok value)) (get_deed own (Do reply parts)) (node_of old.plain own) new
 done_get own get_answers.NotYet get_answers.NotYet parts old new waits is e m =
     (refl, ap (λ (v : ManagerValue). v.plain) m.3 ∙ ap (λ (ps : List Part). do_all ps old.plain) is.0)
@@ -159,7 +159,7 @@ done_get own (get_answers.Done value) (get_answers.Done answer) parts old new wa
   received = refl;
 }
 
-want_get : (own : Own) (reply : GetAnswer) (parts : List Part) (old new : CoreValue) (waits : Bool) → IsGet waits (Do reply parts) → Meets (manager_of old) (Do reply parts) (Err halts.NoMemory) (manager_of new)
+want_get : (own : Own) (reply : GetAnswer) (parts : List Part) (old new : CoreValue) (waits : Bool) → IsGet waits (Do reply parts) → Meets {F = Reason} (manager_of old) (Do reply parts) (Err halts.NoMemory) (manager_of new)
     → DoesIf (get_wanting waits) (get_deed own (Do reply parts)) (node_of old.plain own) new
 want_get own reply parts old new true is m = ap (λ (v : ManagerValue). v.plain) m
 want_get own get_answers.NotYet parts old new false is m = absurd (no_both is.1)
@@ -173,7 +173,7 @@ want_get own (get_answers.Done answer) parts old new false is m = record {
   received = refl;
 }
 
-stop_get : (by : Stop) (own : Own) (reply : GetAnswer) (parts : List Part) (old new : CoreValue) (waits : Bool) → IsGet waits (Do reply parts) → Meets (manager_of old) (Do reply parts) (Err (halts.Stopped by)) (manager_of new)
+stop_get : (by : Stop) (own : Own) (reply : GetAnswer) (parts : List Part) (old new : CoreValue) (waits : Bool) → IsGet waits (Do reply parts) → Meets {F = Reason} (manager_of old) (Do reply parts) (Err (halts.Stopped by)) (manager_of new)
     → DoesIf (get_ended waits (Err (halts.Stopped by))) (get_deed own (Do reply parts)) (node_of old.plain own) new
 stop_get by own get_answers.NotYet parts old new waits is m = absurd (subst (IsWrite m.part) is.0 m.write)
 stop_get by own (get_answers.Done answer) parts old new waits is m = stop_out by (Some (replies.Got (answers.Failed reasons.StorageNotAvailable))) (replies.Got answer) parts own old new is m
