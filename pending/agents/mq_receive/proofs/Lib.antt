@@ -1,0 +1,4 @@
+pub mod LetterLaws
+pub mod AheadLaws
+pub mod LeadLaws
+pub mod FillLaws

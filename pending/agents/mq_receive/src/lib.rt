@@ -1,0 +1,9 @@
+//! A receiver's commit of a batch: where each message lands.
+#![tactic(auto)]
+
+mod arriving;
+mod filling;
+mod letters;
+
+pub use arriving::{Arrival, land};
+pub use filling::put_received;
