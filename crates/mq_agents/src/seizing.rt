@@ -98,6 +98,29 @@ pub fn leave<D: Disk>(core: &mut Core<D>, channel: &ChName)
     drop_side(core.parts.alloc, &mut core.parts.ends.seizures, channel);
 }
 
+// A receiver is bound from now on.
+fn bind<D: Disk>(core: &mut Core<D>, channel: &ChName) -> Result<(), NoMemory>
+    requires up { IsUp core.old.plain }
+    ensures meets { MeetsOrWants (manager_of core.old) (set_bound channel.now true core.old.plain) (by_memory result) (manager_of core.new) }
+    ensures told { WritesLog core.old (set_bound channel.now true core.old.plain) (by_memory result) core.new }
+{
+    core.begin_call();
+    match set_side(&mut core.parts.ends.bound, *channel) {
+        Ok(()) => Ok(()),
+        Err(NoMemory) => Err(NoMemory),
+    }
+}
+
+// A receiver isn't bound from now on. It takes no memory.
+fn unbind<D: Disk>(core: &mut Core<D>, channel: &ChName)
+    requires up { IsUp core.old.plain }
+    ensures meets { MeetsOrWants (manager_of core.old) (set_bound channel.now false core.old.plain) (Ok tt) (manager_of core.new) }
+    ensures told { WritesLog core.old (set_bound channel.now false core.old.plain) (Ok tt) core.new }
+{
+    core.begin_call();
+    drop_side(core.parts.alloc, &mut core.parts.ends.bound, channel);
+}
+
 /// Whether a receiver is bound from now on. Only a first bond of a channel takes memory.
 ///
 /// # Errors
@@ -108,13 +131,9 @@ pub fn set_bound<D: Disk>(core: &mut Core<D>, channel: &ChName, bound: bool) -> 
     ensures meets { MeetsOrWants (manager_of core.old) (set_bound channel.now bound core.old.plain) (by_memory result) (manager_of core.new) }
     ensures told { WritesLog core.old (set_bound channel.now bound core.old.plain) (by_memory result) core.new }
 {
-    core.begin_call();
     if bound {
-        return match set_side(&mut core.parts.ends.bound, *channel) {
-            Ok(()) => Ok(()),
-            Err(NoMemory) => Err(NoMemory),
-        };
+        return bind(core, channel);
     }
-    drop_side(core.parts.alloc, &mut core.parts.ends.bound, channel);
+    unbind(core, channel);
     Ok(())
 }
