@@ -1,5 +1,5 @@
 //! A sender opens its transmission queue and leaves it; a receiver is bound or not.
-ghost use Rattle.std.specs.Prelude.{◌≡◌, Ok, not, ◌||◌};
+ghost use Rattle.std.specs.Prelude.{◌≡◌, Ok, true, false, not, ◌||◌};
 ghost use Rattle.mq_spec_state.specs.Words.{MeetsInRoom, MeetsOrWants, channel_of, has_held_by_other, is_open_for_input};
 ghost use Rattle.mq_spec_agents.specs.Words.{IsUp, IsSenderHere, channel_queue, leave, seize, set_bound};
 ghost use Rattle.mq_core.specs.Views.{plain_of};
