@@ -1,4 +1,4 @@
-use Rattle.std.proofs.Common.{ap, arith, length, ◌∙◌}
+use Rattle.std.proofs.Common.{ap, arith, length, ◌∙◌, ◌+◌}
 use Rattle.mq_record.proofs.SizeLaws.{record_whole}
 use Rattle.mq_spec_manager.specs.Stops.{started_record}
 use Rattle.mq_spec_log.specs.Applies.Start.{First}
