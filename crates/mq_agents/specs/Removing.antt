@@ -66,6 +66,10 @@ Doubts channel last p (Err (prepare_faults.Stop stop)) = stop ≡ agent_stops.No
 abbrev pub without_one : List ℕ → ChannelEnds → ChannelEnds
 without_one channel e = record e { batches = filter (λ (b : Batch). not (bytes_eq channel b.channel)) e.batches }
 
+-- a receiver is bound
+abbrev pub receiver_bound : List ℕ → PartsValue → PartsValue
+receiver_bound channel x = record x { ends = record x.ends { bound = set_named (λ (name : List ℕ). name) channel x.ends.bound } }
+
 -- a batch holds rows
 abbrev pub batch_held : Batch → List Ident → PartsValue → PartsValue
 batch_held b idents x = record (with_states (on_queues (held_in (Among b.queue idents) (holders.Batch b.channel)) x.queues.states) x) { ends = record x.ends { batches = set_named (λ (k : Batch). k.channel) b x.ends.batches } }

@@ -1,9 +1,10 @@
 //! A sender opens its transmission queue and leaves it; a receiver is bound or not.
-ghost use Rattle.std.specs.Prelude.{◌≡◌, Ok, true, false, not, ◌||◌};
+ghost use Rattle.std.specs.Prelude.{◌≡◌, Ok, OnOk, OnErr, true, false, not, ◌||◌};
 ghost use Rattle.mq_spec_state.specs.Words.{MeetsInRoom, MeetsOrWants, channel_of, has_held_by_other, is_open_for_input};
 ghost use Rattle.mq_spec_agents.specs.Words.{IsUp, IsSenderHere, channel_queue, leave, seize, set_bound};
 ghost use Rattle.mq_core.specs.Views.{plain_of};
 ghost use Rattle.mq_agents.specs.Ends.{Seizes, by_memory, by_seize};
+ghost use Rattle.mq_agents.specs.Removing.{receiver_bound};
 ghost use Rattle.mq_core.specs.Values.{manager_of, WritesLog};
 
 use crate::walking::has_held_by_other;
@@ -98,6 +99,17 @@ pub fn leave<D: Disk>(core: &mut Core<D>, channel: &ChName)
     drop_side(core.parts.alloc, &mut core.parts.ends.seizures, channel);
 }
 
+// A receiver is bound.
+fn put_bond<D: Disk>(parts: &mut Parts<D>, channel: &ChName) -> Result<(), NoMemory>
+    ensures ok { OnOk result (parts.new ≡ receiver_bound channel.now parts.old) }
+    ensures err { OnErr result (parts.new ≡ parts.old) }
+{
+    match set_side(&mut parts.ends.bound, *channel) {
+        Ok(()) => Ok(()),
+        Err(NoMemory) => Err(NoMemory),
+    }
+}
+
 // A receiver is bound from now on.
 fn bind<D: Disk>(core: &mut Core<D>, channel: &ChName) -> Result<(), NoMemory>
     requires up { IsUp core.old.plain }
@@ -105,7 +117,7 @@ fn bind<D: Disk>(core: &mut Core<D>, channel: &ChName) -> Result<(), NoMemory>
     ensures told { WritesLog core.old (set_bound channel.now true core.old.plain) (by_memory result) core.new }
 {
     core.begin_call();
-    match set_side(&mut core.parts.ends.bound, *channel) {
+    match put_bond(&mut core.parts, channel) {
         Ok(()) => Ok(()),
         Err(NoMemory) => Err(NoMemory),
     }
