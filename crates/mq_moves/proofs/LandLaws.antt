@@ -1,5 +1,5 @@
 -- What a route's tests come to, and the step of a move by them.
-use Rattle.std.proofs.Common.{◌≡◌, ℕ, ◌≤◌, Bool, true, false, cond, List, [], ◌∷◌, ◌++◌, length, refl, ap, arith, sym, subst, ◌∙◌}
+use Rattle.std.proofs.Common.{◌≡◌, ℕ, ◌+◌, ◌≤◌, Bool, true, false, cond, List, [], ◌∷◌, ◌++◌, length, refl, ap, arith, sym, subst, ◌∙◌}
 use Rattle.std.specs.Prelude.{Option, Some, None, Result, Ok, Err, IsSome, nat_le, nat_lt, is_ok, codes, find}
 use Rattle.std.proofs.lemmas.Bool.Decides.{nat_tests}
 use Rattle.mq_codes.specs.declared.reason.Reason.TheVariants as reasons
@@ -69,8 +69,8 @@ resolved_by from to bare r m p = move_resolved from to bare r m p
 
 -- a route that is not found
 by_row : (from : List ℕ) (to : Dest) (bare : Bool) (o : Option Message) (p : Plain) (reason : Reason) → IsSome o → resolve p.definitions p.given.name to.queue to.qmgr ≡ Err reason → move_found from to bare o p ≡ Refuse reason
-by_row from to bare None p reason some e = absurd cc
 unfolding resolved_by
+by_row from to bare None p reason some e = absurd cc
 by_row from to bare (Some m) p reason some e = ap (λ (r : Result Route Reason). resolved_by from to bare r (bare_if bare m) p) e
 
 pub unresolved : (from : List ℕ) (ident : Ident) (to : Dest) (bare : Bool) (p : Plain) (reason : Reason) → IsSome (row_with (Some ident) (stored from p).rows) → resolve p.definitions p.given.name to.queue to.qmgr ≡ Err reason
@@ -83,8 +83,8 @@ step_at from to bare route m p = move_landing from to bare route (record { queue
 
 landed_row : (from : List ℕ) (to : Dest) (bare : Bool) (o : Option Message) (route : Route) (m : Message) (p : Plain) → message_moved bare route.end o ≡ Some m → resolve p.definitions p.given.name to.queue to.qmgr ≡ Ok route
     → move_found from to bare o p ≡ move_landing from to bare route (record { queue = queue_at route.end; message = m; dead = None }) p
-landed_row from to bare None route m p e r = absurd cc
 unfolding resolved_by step_at
+landed_row from to bare None route m p e r = absurd cc
 landed_row from to bare (Some k) route m p e r =
     ap (λ (r : Result Route Reason). resolved_by from to bare r (bare_if bare k) p) r ∙ ap (λ (m : Message). step_at from to bare route m p) (some_is (at_end route.end (bare_if bare k)) m e)
 

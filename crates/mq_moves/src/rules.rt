@@ -183,7 +183,7 @@ pub fn move_row<D: Disk>(
     ensures told { WritesLog core.old (move_row from.now ident.now to.now bare core.old.plain) (by_place result) core.new }
 {
     match can_move(&core.parts, from, ident, to, bare) {
-        Ok(moving) => move_message(core, from, to, bare, &moving.queue, moving.message),
+        Ok(Moving { queue, message }) => move_message(core, from, to, bare, &queue, message),
         Err(fault) => {
             core.begin_call();
             Err(fault)
