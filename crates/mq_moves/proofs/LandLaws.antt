@@ -111,7 +111,7 @@ move_at_last from ident to bare route m p b found r e full =
     landed_row from to bare (row_with (Some ident) (stored from p).rows) route m p found r
     ∙ ap (λ (o : Option Reason). step_by o from to bare (queue_at route.end) m)
     (passed_first (route_tests route (length m.body) p) (last_test (move_full from (record { queue = queue_at route.end; message = m; dead = None }) p)) e
-     ∙ ap (λ (b : Bool). cond b (Some reasons.ResourceProblem) None) full)
+    ∙ ap (λ (b : Bool). cond b (Some reasons.ResourceProblem) None) full)
 
 -- a body that begins with the header of a dead letter has its 172 bytes
 pub dead_long : (body : List ℕ) → is_dead body ≡ true → 172 ≤ length body

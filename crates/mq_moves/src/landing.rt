@@ -84,7 +84,11 @@ pub fn refused_by<D: Disk>(
     if (parts.defs.manager().max_message_length as usize) < bytes {
         return Some(Reason::MessageTooBigForQueueManager);
     }
-    if is_at_most(max_depth(parts.defs.local(&queue)), parts.depth(&queue), more) {
+    if is_at_most(
+        max_depth(parts.defs.local(&queue)),
+        parts.depth(&queue),
+        more,
+    ) {
         return Some(Reason::QueueFull);
     }
     None

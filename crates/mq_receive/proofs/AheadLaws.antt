@@ -50,9 +50,9 @@ depth_left from name i p held =
     let q : Queue = stored name p in
     ap (depth_by name p) (queue_mapped (kept_in (Among from (i ∷ []))) name p.queues (λ q. refl) refl)
     ∙ ap (λ (n : ℕ). n + puts_to name p.connections) (free_kept (λ (row : Row). not (selects (Among from (i ∷ [])) q.name row)) q.rows (λ x m e.
-        let is = both_true (bytes_eq q.name from) _ e in
-        let here : name ≡ from = sym (found_name name p.queues) ∙ name_is q.name from is.0 in
-        held x (subst (λ (k : List ℕ). Mem x (stored k p).rows) here m) (only_one x.message.ident i (any_mem x.message.ident (i ∷ []) is.1))))
+    let is = both_true (bytes_eq q.name from) _ e in
+    let here : name ≡ from = sym (found_name name p.queues) ∙ name_is q.name from is.0 in
+    held x (subst (λ (k : List ℕ). Mem x (stored k p).rows) here m) (only_one x.message.ident i (any_mem x.message.ident (i ∷ []) is.1))))
 
 depth_set : (name : List ℕ) (new : Queue) (queue : List ℕ) (n : ℕ) (p : Plain) → new.name ≡ queue → (bytes_eq name queue ≡ true → count_by is_free new.rows ≡ count_by is_free (stored name p).rows + n)
     → count_by is_free (queue_in name (set_queue new p.queues)).rows ≡ count_by is_free (stored name p).rows + cond (bytes_eq name queue) n 0
@@ -66,7 +66,7 @@ depth_placed name queue m p =
     let row : Row = new_row (lane_of (local_of queue p.definitions) m.md.priority) ((stored queue p).arrivals + 1) m in
     let new : Queue = placed_in (lane_of (local_of queue p.definitions) m.md.priority) m (stored queue p) in
     let count = depth_set name new queue 1 p (found_name queue p.queues) (λ e.
-        free_inserted row (stored queue p).rows refl ∙ ap (λ (k : List ℕ). count_by is_free (stored k p).rows + 1) (sym (name_is name queue e))) in
+    free_inserted row (stored queue p).rows refl ∙ ap (λ (k : List ℕ). count_by is_free (stored k p).rows + 1) (sym (name_is name queue e))) in
     omega (arith, count)
 
 depth_tried : (b : Bool) (name queue : List ℕ) (p : Plain) → depth name (try_if b queue p) ≡ depth name p
@@ -74,7 +74,7 @@ depth_tried false name queue p = refl
 depth_tried true name queue p =
     let new : Queue = made_due (depth_type (local_of queue p.definitions)) p.moment (stored queue p) in
     let count = depth_set name new queue 0 p (found_name queue p.queues) (λ e.
-        ap (λ (k : List ℕ). count_by is_free (stored k p).rows) (sym (name_is name queue e))) in
+    ap (λ (k : List ℕ). count_by is_free (stored k p).rows) (sym (name_is name queue e))) in
     let none = nothing_more (bytes_eq name queue) in
     omega (arith, count, none)
   where

@@ -1,2 +1,3 @@
 pub mod LetterLaws
 pub mod AheadLaws
+pub mod LeadLaws

@@ -1,2 +1,3 @@
 pub mod Ahead
 pub mod Arriving
+pub mod Leading

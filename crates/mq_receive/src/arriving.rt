@@ -31,7 +31,10 @@ fn is_on(arrival: &Arrival, queue: &QName) -> bool
 fn times_on(landed: &[Arrival], queue: &QName) -> u64
     ensures { result ≡ times_on queue.now landed.now }
 {
-    landed.iter().filter(|arrival| is_on(arrival, queue)).count() as u64
+    landed
+        .iter()
+        .filter(|arrival| is_on(arrival, queue))
+        .count() as u64
 }
 
 /// A queue of so many messages, and so many more, has a place left.
@@ -58,12 +61,7 @@ fn uses_dead(channel: Option<&Channel>) -> bool
 }
 
 /// A local queue takes a dead letter with a body so long.
-fn can_take<D: Disk>(
-    parts: &Parts<D>,
-    queue: &LocalQueue,
-    bytes: usize,
-    landed: &[Arrival],
-) -> bool
+fn can_take<D: Disk>(parts: &Parts<D>, queue: &LocalQueue, bytes: usize, landed: &[Arrival]) -> bool
     requires tied { Tied parts.now }
     ensures { result ≡ can_take_at (Some queue.now) bytes (plain_of parts.now) (depth_ahead landed.now (plain_of parts.now)) }
 {
@@ -73,7 +71,11 @@ fn can_take<D: Disk>(
     if !queue.put_enabled {
         return false;
     }
-    if !has_place(queue.max_depth, parts.depth(&queue.name), times_on(landed, &queue.name)) {
+    if !has_place(
+        queue.max_depth,
+        parts.depth(&queue.name),
+        times_on(landed, &queue.name),
+    ) {
         return false;
     }
     if (queue.max_message_length as usize) < bytes + 172 {
@@ -174,7 +176,13 @@ fn land_by<D: Disk>(
         Err(reason) => return dead_letter(parts, channel, reason, message, dropped, landed),
     };
     let more = times_on(landed, &queue_at(&route.end));
-    match refused_by(parts, &route.end, route.path.as_slice(), message.body.len(), more) {
+    match refused_by(
+        parts,
+        &route.end,
+        route.path.as_slice(),
+        message.body.len(),
+        more,
+    ) {
         None => arrival(parts, message, &route.end, dropped),
         Some(reason) => dead_letter(parts, channel, reason, message, dropped, landed),
     }

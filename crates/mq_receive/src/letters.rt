@@ -10,7 +10,7 @@ use mq_clock::put_stamp;
 use mq_codes::Reason;
 use mq_heads::{Dlh, dlh_to_bytes};
 use mq_message::{Bytes, Dest, Md, Message};
-use mq_name::{ChName, QName, field_of};
+use mq_name::{ChName, QName};
 use std::alloc::Global;
 
 /// The names that came with a message; blank where none did.
@@ -38,7 +38,11 @@ fn reason_code(reason: &Reason) -> i32
 fn appl_name(channel: &ChName) -> [u8; 28]
     ensures { result ≡ padded 28 channel.now }
 {
-    field_of::<28>(channel.text())
+    let text = channel.text();
+    let mut field = [b' '; 28];
+    let (front, _) = field.split_at_mut(text.len());
+    front.copy_from_slice(text);
+    field
 }
 
 /// The header of a dead letter.

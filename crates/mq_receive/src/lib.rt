@@ -1,7 +1,7 @@
 //! A receiver's commit of a batch: where each message lands.
 #![tactic(auto)]
 
-mod letters;
 mod arriving;
+mod letters;
 
 pub use arriving::land;
