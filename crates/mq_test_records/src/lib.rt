@@ -1,5 +1,4 @@
-//! Tests of records: each kind as the format's table lays it out, bodies that are none, what a log of them tells,
-//! and how a manager begins from it.
+//! Tests of records: each kind as the format's table lays it out, bodies that are none, and what a log of them tells.
 #![tactic(auto)]
 
 #[cfg(test)]
@@ -12,7 +11,5 @@ mod reading;
 mod recovery;
 #[cfg(test)]
 mod samples;
-#[cfg(test)]
-mod starts;
 #[cfg(test)]
 mod writing;
