@@ -1,6 +1,6 @@
 -- A manager that is down reads its log again: what it comes to.
 use Rattle.std.proofs.Common.{◌≡◌, ℕ, ◌+◌, ◌≤◌, ◌<◌, true, false, List, length, refl, ap, arith, sym, subst, ◌∙◌}
-use Rattle.std.specs.Prelude.{◌≢◌, Option, Some, None, Ok, Err}
+use Rattle.std.specs.Prelude.{◌≢◌, Some, None, Ok, Err}
 use Rattle.mq_base.specs.Outside.{Rose}
 use Rattle.mq_disk.specs.declared.cutter.Stop.{Stop}
 use Rattle.mq_disk.specs.declared.cutter.Stop.TheVariants as stops
@@ -20,7 +20,7 @@ use Rattle.mq_rebuild.specs.declared.building.Built.{Built}
 use Rattle.mq_core.specs.Views.{PartsValue}
 use Rattle.mq_start.specs.declared.raising.Unraised.{Unraised}
 use Rattle.mq_start.specs.Begun.{given_by, IsFresh, IsStarted, IsReadFrom, IsUnread}
-use Rattle.mq_start.specs.Raised.{given_of, raised_parts, start_fault, read_fault, stop_fault, with_log, HasRead, HasNotRead, IsHalted, IsRaised, Halted, IsUnraised, Raises, Fell, Unopened, Unread, Unstarted}
+use Rattle.mq_start.specs.Raised.{given_of, raised_parts, start_fault, read_fault, stop_fault, with_log, HasRead, IsHalted, IsRaised, Halted, IsUnraised, Raises, Fell, Unopened, Unread, Unstarted}
 use Rattle.mq_start.proofs.BeginLaws.{has_started}
 
 -- ---- its Started record stands, or was stopped (`v` are the parts as they stand field by field)
