@@ -7,3 +7,4 @@ pub mod BeginLaws
 pub mod RestartLaws
 pub mod RaiseLaws
 pub mod FallLaws
+pub mod AgainLaws

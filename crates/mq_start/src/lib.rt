@@ -9,4 +9,4 @@ mod raising;
 
 pub use beginning::{Unbegun, begin};
 pub use laws::{a_restart_comes_up_as_its_history_says, a_restart_keeps_to_its_history};
-pub use raising::Unraised;
+pub use raising::{Unraised, raise};
