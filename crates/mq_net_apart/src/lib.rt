@@ -8,3 +8,4 @@ mod rows;
 mod twice;
 
 pub use idents::apart;
+pub use rows::is_held_there;

@@ -92,7 +92,7 @@ fn counts_there(
 }
 
 /// Whether who holds a row says that it counts at a receiver.
-fn is_held_there(
+pub fn is_held_there(
     scenario: &Scenario,
     histories: &[History],
     at: usize,

@@ -1,5 +1,5 @@
 -- Parts of lists that end where the list does.
-use Rattle.std.proofs.Common.{ℕ, zero, suc, Bool, true, false, cond, length-append, ◌≡◌, ◌+◌, ◌<◌, ◌≤◌, ◌⊎◌, inl, inr, List, [], ◌∷◌, ◌++◌, Option, Some, None, refl, ap, sym, ◌∙◌, arith, length, take, drop}
+use Rattle.std.proofs.Common.{ℕ, zero, suc, Bool, true, false, cond, length-append, ◌≡◌, ◌+◌, ◌≤◌, inl, inr, List, [], ◌∷◌, ◌++◌, None, refl, ap, sym, ◌∙◌, arith, length, take, drop}
 use Rattle.std.specs.Prelude.{slice_get, min, count_by, filter}
 use Rattle.std.proofs.lemmas.List.Sums.{length-filter}
 use Rattle.std.proofs.lemmas.Bool.{cases_lt}

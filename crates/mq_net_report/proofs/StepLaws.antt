@@ -1,5 +1,5 @@
 -- Loops over entries and histories, one step on.
-use Rattle.std.proofs.Common.{ℕ, ◌≡◌, ◌+◌, ◌<◌, Bool, true, false, List, [], ◌∷◌, ◌++◌, refl, ap, sym, ◌∙◌, arith, length, take, drop, get_or, append_assoc}
+use Rattle.std.proofs.Common.{ℕ, ◌≡◌, ◌+◌, ◌<◌, Bool, List, [], ◌∷◌, ◌++◌, ap, sym, ◌∙◌, arith, length, take, drop, get_or, append_assoc}
 use Rattle.std.specs.Prelude.{if◌then◌else◌, Some, count_by}
 use Rattle.std.proofs.lemmas.List.{drop_more, take_more}
 use Rattle.mq_history.specs.declared.calls.Entry.{Entry}

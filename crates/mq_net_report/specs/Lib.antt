@@ -1,4 +1,2 @@
-pub mod Replies
 pub mod Steps
-pub mod Stands
 pub mod Report

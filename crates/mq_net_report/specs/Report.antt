@@ -1,13 +1,13 @@
 -- The report of a run.
-use Rattle.std.specs.Prelude.{ℕ, List, [], ◌∷◌, ◌++◌, codes}
+use Rattle.std.specs.Prelude.{ℕ, List, ◌++◌, codes}
 use Rattle.std.specs.List.{flat_map}
 use Rattle.std.specs.Fmt.{decimal}
 use Rattle.mq_history.specs.declared.history.History.{History}
 use Rattle.mq_history.specs.declared.scenario.Scenario.{Scenario}
 use Rattle.mq_history.specs.declared.story.ManagerPlaces.{ManagerPlaces}
-use Rattle.mq_net_report.specs.declared.standing.Standing.{Standing}
+use Rattle.mq_net_stands.specs.declared.standing.Standing.{Standing}
 use Rattle.mq_net_report.specs.Steps.{scripts_text, steps_text}
-use Rattle.mq_net_report.specs.Stands.{manager_text, cable_text, ledger_text}
+use Rattle.mq_net_stands.specs.Stands.{manager_text, cable_text, ledger_text}
 
 -- its first parts: what was done
 abbrev pub done_text : Scenario → List History → List ℕ

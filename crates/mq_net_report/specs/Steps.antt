@@ -3,7 +3,6 @@ use Rattle.std.specs.Prelude.{ℕ, ◌+◌, ◌-◌, ◌==◌, ◌&&◌, suc, Bo
 use Rattle.std.specs.List.{flat_map}
 use Rattle.std.specs.Fmt.{decimal}
 use Rattle.std.specs.Str.{bytes_eq}
-use Rattle.mq_codes.specs.declared.reason.Reason.{Reason}
 use Rattle.mq_codes.specs.Numbers.{number}
 use Rattle.mq_name.specs.Name.{trimmed}
 use Rattle.mq_heads.specs.Headers.{tm_read}
@@ -28,7 +27,7 @@ use Rattle.mq_history.specs.declared.scenario.Section.{Section}
 use Rattle.mq_history.specs.declared.scenario.Scenario.{Scenario}
 use Rattle.mq_history.specs.declared.scenario.Step.{Step}
 use Rattle.mq_history.specs.declared.scenario.Step.TheVariants as steps
-use Rattle.mq_net_report.specs.Replies.{number4, act_text, displayed, line_text}
+use Rattle.mq_net_stands.specs.Replies.{number4, act_text, displayed, line_text}
 
 -- Who did an entry, and whether it is a turn. A trigger turn has the actor of the entry that it follows, and is none of a
 -- script's lines.

@@ -1,9 +1,8 @@
 //! The lines of steps.
-ghost use Rattle.std.specs.Prelude.{◌≡◌, ◌++◌, ◌+◌, OnOk, IfOk, IfSome, codes, option_copied, slice_get, length};
+ghost use Rattle.std.specs.Prelude.{◌≡◌, ◌++◌, ◌+◌, OnOk, IfOk, IfSome, codes, option_copied, slice_get};
 ghost use Rattle.std.specs.List.{flat_map};
-ghost use Rattle.std.specs.Fmt.{decimal};
-ghost use Rattle.mq_net_report.specs.Replies.{number4};
-ghost use Rattle.mq_net_report.specs.Steps.{name_at, script_label, asked_text, obey_text, run_text, label_text, turns_in, pump_text, handle_text, watch_text, serve_text, starts_in, before_step, in_step, step_text, steps_text, script_text, scripts_text, is_script, count_done};
+ghost use Rattle.mq_net_stands.specs.Replies.{number4};
+ghost use Rattle.mq_net_report.specs.Steps.{name_at, script_label, asked_text, obey_text, run_text, label_text, turns_in, pump_text, handle_text, watch_text, serve_text, starts_in, before_step, in_step, step_text, steps_text, script_text, scripts_text};
 
 use crate::marks::{before_step, entries_of, history_at, in_step, is_idle};
 use crate::starts::starts_in;
@@ -11,9 +10,9 @@ use crate::steps::{
     count_actions, count_lines, count_turns, first_refusal, idle_word, put_answers, put_commands,
     put_lines, put_watched,
 };
-use crate::writing::{Text, put, put_number, put_number4, put_word};
 use mq_base::NoMemory;
 use mq_history::{History, MonitorLine, RulesPart, Scenario, ScriptPart, Section, Step};
+use mq_net_stands::{Text, put, put_number, put_number4, put_word};
 use std::alloc::Global;
 
 /// The name of a manager by its place.

@@ -1,6 +1,6 @@
 //! What managers did, and which of it in a step, as their marks tell.
 ghost use Rattle.std.specs.Prelude.{◌≡◌, ◌-◌, min, take, drop, option_copied, slice_get};
-ghost use Rattle.mq_net_report.specs.Steps.{entries_of, marks_of, end_of, begin_of, before_step, in_step, is_idle_mark, is_idle};
+ghost use Rattle.mq_net_report.specs.Steps.{entries_of, marks_of, end_of, begin_of, before_step, in_step, is_idle};
 
 use mq_history::{Entry, History};
 

@@ -1,15 +1,12 @@
 //! The report as a whole.
 ghost use Rattle.std.specs.Prelude.{◌≡◌, ◌++◌, OnOk, IfOk, codes};
-ghost use Rattle.std.specs.List.{flat_map};
 ghost use Rattle.std.specs.Fmt.{decimal};
 ghost use Rattle.mq_net_report.specs.Report.{done_text, stands_text, report};
 
 use crate::lines::{put_scripts, put_steps};
-use crate::standing::Standing;
-use crate::stands::{put_cables, put_ledger, put_managers};
-use crate::writing::{Text, put_number, put_word};
 use mq_base::NoMemory;
 use mq_history::{History, ManagerPlaces, Scenario};
+use mq_net_stands::{Standing, Text, put_cables, put_ledger, put_managers, put_number, put_word};
 use std::alloc::Global;
 
 fn put_done(

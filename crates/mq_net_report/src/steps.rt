@@ -3,11 +3,10 @@ ghost use Rattle.std.specs.Prelude.{◌≡◌, ◌++◌, OnOk, count_by};
 ghost use Rattle.std.specs.List.{flat_map};
 ghost use Rattle.mq_net_report.specs.Steps.{is_trigger, is_script, is_handler, is_monitor, is_operator, is_end, is_turn, is_by, count_done, idle_text, command_text, command_if, answer_line, answer_if, watch_refusal, refusal_if, first_refusal, watched_text, lines_text};
 
-use crate::replies::{put_act, put_displayed, put_line};
-use crate::writing::{Text, put_number, put_word};
 use mq_base::NoMemory;
 use mq_calls::Answer;
 use mq_history::{Actor, Call, Entry, Reply};
+use mq_net_stands::{Text, put_act, put_displayed, put_line, put_number, put_word};
 use std::alloc::Global;
 
 fn is_trigger(call: &Call) -> bool
@@ -101,6 +100,7 @@ fn is_answer(entry: &Entry) -> bool
     is_operator(&entry.actor) && !is_trigger(&entry.call)
 }
 
+/// How many of some entries are lines of a script.
 pub fn count_lines(script: u64, entries: &[Entry]) -> usize
     ensures { result ≡ count_done (is_script script) entries.now }
 {
@@ -110,6 +110,7 @@ pub fn count_lines(script: u64, entries: &[Entry]) -> usize
         .count()
 }
 
+/// How many of some entries are turns of a handler.
 pub fn count_actions(handler: u64, entries: &[Entry]) -> usize
     ensures { result ≡ count_done (is_handler handler) entries.now }
 {
@@ -119,7 +120,7 @@ pub fn count_actions(handler: u64, entries: &[Entry]) -> usize
         .count()
 }
 
-/// Turns of channels' ends, and timeouts.
+/// How many of some entries are turns of channels' ends, or timeouts.
 #[tactic(auto, using(std::proofs::lemmas::List::Sums::count_by_more_yes, std::proofs::lemmas::List::Sums::count_by_more_no))]
 pub fn count_turns(entries: &[Entry]) -> usize
     ensures { result ≡ count_by is_turn entries.now }
@@ -174,6 +175,7 @@ fn put_command_if(out: &mut Text, entry: &Entry) -> Result<(), NoMemory>
     }
 }
 
+/// Of each command of a section its answer on an indented line, then what it showed.
 pub fn put_commands(out: &mut Text, entries: &[Entry]) -> Result<(), NoMemory>
     ensures { OnOk result (out.new ≡ out.old ++ flat_map command_if entries.now) }
 {
@@ -201,6 +203,7 @@ fn put_answer_if(out: &mut Text, entry: &Entry) -> Result<(), NoMemory>
     }
 }
 
+/// What an operator was answered on the rest of the line, then what was shown.
 pub fn put_answers(out: &mut Text, entries: &[Entry]) -> Result<(), NoMemory>
     ensures { OnOk result (out.new ≡ out.old ++ flat_map answer_if entries.now) }
 {
@@ -210,6 +213,7 @@ pub fn put_answers(out: &mut Text, entries: &[Entry]) -> Result<(), NoMemory>
     Ok(())
 }
 
+/// Whether a PUMP or a HANDLE ended idle, or at its limit.
 pub fn idle_word(is_idle: bool) -> &'static str
     ensures { result.now ≡ idle_text is_idle }
 {
@@ -238,6 +242,7 @@ fn refusal_if(monitor: u64, entry: &Entry) -> Option<u64>
     }
 }
 
+/// The first reason code with which a monitor was refused, if any.
 pub fn first_refusal(monitor: u64, entries: &[Entry]) -> Option<u64>
     ensures { result ≡ first_refusal monitor entries.now }
 {
@@ -249,6 +254,7 @@ pub fn first_refusal(monitor: u64, entries: &[Entry]) -> Option<u64>
     None
 }
 
+/// That a WATCH began, or the reason code of its refusal.
 pub fn put_watched(alloc: Global, out: &mut Text, refusal: Option<u64>) -> Result<(), NoMemory>
     ensures { OnOk result (out.new ≡ out.old ++ watched_text refusal) }
 {

@@ -1,0 +1,4 @@
+pub mod RowLaws
+pub mod CallerLaws
+pub mod BookLaws
+pub mod ObjectLaws

@@ -1,0 +1,13 @@
+//! What a network's ledger keeps: rows by manager and queue, who is connected with what open and what pending, and what
+//! is gone.
+#![tactic(auto)]
+
+mod accounts;
+mod books;
+mod callers;
+mod no_use;
+mod rows;
+
+pub use accounts::Account;
+pub use books::{Books, Halted, User};
+pub use callers::handle_at;

@@ -1,0 +1,116 @@
+-- The ledger begins with the rows of the logs that count where they stand.
+use Rattle.std.proofs.Common.{ℕ, suc, ◌≡◌, ◌+◌, Bool, true, false, List, [], ◌∷◌, ◌++◌, Option, None, Some, refl, ap, sym, ◌∙◌, arith}
+use Rattle.std.specs.Prelude.{map, not, ◌&&◌, if◌then◌else◌}
+use Rattle.std.specs.List.{list_any, AllByRecursion}
+use Rattle.std.specs.Str.{bytes_eq}
+use Rattle.std.specs.Cmp.Lexicographic.{bytes_decides}
+use Rattle.mq_message.specs.declared.place.Holder.{Holder}
+use Rattle.mq_message.specs.declared.place.Holder.TheVariants as holders
+use Rattle.mq_queue.specs.declared.row.Row.{Row}
+use Rattle.mq_objects.specs.declared.object.Object.{Object}
+use Rattle.mq_objects.specs.Names.{Space, same_space, is_object, space_of, name_of}
+use Rattle.mq_objects.specs.Names.Space.{Queues, Channels, Processes}
+use Rattle.mq_calls.specs.declared.image.Shelf.{Shelf}
+use Rattle.mq_history.specs.declared.history.History.{History}
+use Rattle.mq_history.specs.declared.scenario.Scenario.{Scenario}
+use Rattle.mq_history.specs.declared.story.ManagerPlaces.{ManagerPlaces}
+use Rattle.mq_spec_state.specs.State.{Plain}
+use Rattle.mq_spec_state.specs.Images.{numbered, queue_on}
+use Rattle.mq_spec_network.specs.Ledger.{Ledger, Users}
+use Rattle.mq_spec_network.specs.Standing.{node_after, managers_from, opening_managers, is_held_there, standing_in, stored_standing, places_of, opening_ledger}
+use Rattle.mq_net_apart.specs.Opened.{opened_held}
+use Rattle.mq_net_books.specs.Openings.{AreNewFrom}
+use Rattle.mq_net_ledger.specs.Opened.{row_if, opened_rows, opened_shelf, opened_place, opened_places, opened_user, IsOpened}
+use Rattle.mq_rebuild.proofs.FrontLaws.{Fronts, fronts}
+
+-- Objects of an image: no one has the name of one before it.
+same_way : (a b : Space) → same_space a b ≡ true → same_space b a ≡ true
+same_way Queues Queues e = refl
+same_way Queues Channels e = absurd cc
+same_way Queues Processes e = absurd cc
+same_way Channels Queues e = absurd cc
+same_way Channels Channels e = refl
+same_way Channels Processes e = absurd cc
+same_way Processes Queues e = absurd cc
+same_way Processes Channels e = absurd cc
+same_way Processes Processes e = refl
+
+both : (a b : Bool) → (a && b) ≡ true → (a ≡ true) × (b ≡ true)
+both true true e = (refl, refl)
+both true false e = absurd cc
+both false b e = absurd cc
+
+abbrev Differ : Object → Object → Type 0
+Differ a b = is_object (space_of a) (name_of a) b ≡ false
+
+other_way : (a b : Object) → Differ a b → Differ b a
+other_way a b e = by (is_object (space_of b) (name_of b) a) refl
+  where
+    by : (t : Bool) → is_object (space_of b) (name_of b) a ≡ t → t ≡ false
+    by true t =
+        let h = both (same_space (space_of b) (space_of a)) (bytes_eq (name_of b) (name_of a)) t in
+        let n : name_of a ≡ name_of b = sym ((bytes_decides (name_of b) (name_of a)).0 h.1) in
+        let back : is_object (space_of a) (name_of a) b ≡ true =
+        rw (same_way (space_of b) (space_of a) h.0) ((bytes_decides (name_of a) (name_of b)).1 n) in
+        sym back ∙ e
+    by false t = refl
+
+none_before : (x : Object) (before : List Object) → AllByRecursion (λ (a : Object). Differ a x) before → list_any (is_object (space_of x) (name_of x)) before ≡ false
+none_before x [] h = refl
+none_before x (a ∷ before) h = rw (other_way a x h.0) (none_before x before h.1)
+
+new_from : (before xs : List Object) → Fronts Differ before xs → AreNewFrom before xs
+new_from before [] h = tt
+new_from before (x ∷ xs) h = (none_before x before h.0, new_from (before ++ x ∷ []) xs h.1)
+
+pub are_new : (h : History) → IsOpened h → AreNewFrom [] h.opening.definitions.objects
+are_new h o = new_from [] h.opening.definitions.objects (fronts Differ h.opening.definitions.objects o.image.once)
+
+-- The rows of a queue that count.
+abbrev plain_at : Scenario → ℕ → History → Plain
+plain_at s m h = (node_after s m [] h).manager
+
+held_is : (s : Scenario) (ps : List Plain) (m : ℕ) (h : History) (by : Option Holder) → is_held_there s ps (plain_at s m h) by ≡ opened_held s ps (m + 1) h by
+held_is s ps m h None = refl
+held_is s ps m h (Some (holders.Unit n)) = refl
+held_is s ps m h (Some (holders.Batch channel)) = refl
+
+kept_if : (held : Bool) (n : ℕ) (row : Row) (kept rows : List Row) → kept ≡ rows → (if not held then record row { place = record row.place { arrival = n + 1 } } ∷ kept else kept) ≡ row_if held n row ++ rows
+kept_if true n row kept rows e = e
+kept_if false n row kept rows e = ap (λ (l : List Row). record row { place = record row.place { arrival = n + 1 } } ∷ l) e
+
+rows_opened : (s : Scenario) (ps : List Plain) (m : ℕ) (h : History) (n : ℕ) (rows : List Row) → standing_in s ps (plain_at s m h) (numbered n rows) ≡ opened_rows s ps (m + 1) h n rows
+rows_opened s ps m h n [] = refl
+rows_opened s ps m h n (row ∷ rows) =
+    kept_if (is_held_there s ps (plain_at s m h) row.by) n row (standing_in s ps (plain_at s m h) (numbered (n + 1) rows)) (opened_rows s ps (m + 1) h (n + 1) rows) (rows_opened s ps m h (n + 1) rows)
+    ∙ ap (λ (held : Bool). row_if held n row ++ opened_rows s ps (m + 1) h (n + 1) rows) (held_is s ps m h row.by)
+
+shelves_opened : (s : Scenario) (ps : List Plain) (m : ℕ) (h : History) (shelves : List Shelf) → map (stored_standing s ps (plain_at s m h)) (map queue_on shelves) ≡ map (opened_shelf s ps (m + 1) h) shelves
+shelves_opened s ps m h [] = refl
+shelves_opened s ps m h (x ∷ xs) =
+    ap (λ (rows : List Row). let shelf : Shelf = record { name = x.name; rows = rows } in shelf ∷ map (stored_standing s ps (plain_at s m h)) (map queue_on xs)) (rows_opened s ps m h 0 x.rows)
+    ∙ ap (λ (l : List Shelf). opened_shelf s ps (m + 1) h x ∷ l) (shelves_opened s ps m h xs)
+
+place_opened : (s : Scenario) (ps : List Plain) (m : ℕ) (h : History) → places_of s ps (plain_at s m h) ≡ opened_place s ps m h
+place_opened s ps m h = ap (λ (l : List Shelf). let p : ManagerPlaces = record { name = (opened_place s ps m h).name; definitions = h.opening.definitions; queues = l } in p) (shelves_opened s ps m h h.opening.shelves)
+
+one_more : (m : ℕ) → suc m ≡ m + 1
+one_more m = omega arith
+
+places_opened : (s : Scenario) (ps : List Plain) (m : ℕ) (hs : List History) → map (places_of s ps) (managers_from s m [] hs) ≡ opened_places s ps m hs
+places_opened s ps m [] = refl
+places_opened s ps m (h ∷ hs) =
+    ap (λ (p : ManagerPlaces). p ∷ map (places_of s ps) (managers_from s (suc m) [] hs)) (place_opened s ps m h)
+    ∙ ap (λ (l : List ManagerPlaces). opened_place s ps m h ∷ l) (places_opened s ps (suc m) hs ∙ ap (λ (n : ℕ). opened_places s ps n hs) (one_more m))
+
+users_opened : (s : Scenario) (m : ℕ) (hs : List History) → map (λ (p : Plain). let u : Users = record { moment = p.moment; connections = []; cut = None } in u) (managers_from s m [] hs) ≡ map opened_user hs
+users_opened s m [] = refl
+users_opened s m (h ∷ hs) = ap (λ (l : List Users). opened_user h ∷ l) (users_opened s (suc m) hs)
+
+abbrev with_lists : List ManagerPlaces → List Users → Ledger
+with_lists places users = record { places = places; users = users; gone = []; got = [] }
+
+pub opened_is : (s : Scenario) (hs : List History) → with_lists (opened_places s (opening_managers s hs) 0 hs) (map opened_user hs) ≡ opening_ledger s hs
+opened_is s hs =
+    ap (λ (l : List ManagerPlaces). with_lists l (map opened_user hs)) (sym (places_opened s (opening_managers s hs) 0 hs))
+    ∙ ap (λ (l : List Users). with_lists (map (places_of s (opening_managers s hs)) (opening_managers s hs)) l) (sym (users_opened s 0 hs))

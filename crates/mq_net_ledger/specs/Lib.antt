@@ -1,0 +1,5 @@
+pub mod Answers
+pub mod Posts
+pub mod Arrivals
+pub mod Opened
+pub mod Spots

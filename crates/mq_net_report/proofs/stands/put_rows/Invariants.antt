@@ -1,7 +1,0 @@
-use Rattle.std.proofs.Common.{◌≡◌, ◌++◌, take}
-use Rattle.std.specs.List.{flat_map}
-use Rattle.mq_net_report.specs.Stands.{row_text}
-use Rattle.mq_net_report.proofs.stands.put_rows.Given as goal
-
-abbrev pub invariant-loop-row : goal.invariant-loop-row
-invariant-loop-row l = l.out ≡ l.fn.out ++ flat_map row_text (take l.row-index l.rows)
