@@ -1,8 +1,0 @@
-pub mod AnswerLaws
-pub mod ArrivalLaws
-pub mod HeadLaws
-pub mod LetterLaws
-pub mod OpenLaws
-pub mod PostLaws
-pub mod SpotLaws
-pub mod UnitLaws

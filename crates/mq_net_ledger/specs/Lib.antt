@@ -1,5 +1,0 @@
-pub mod Answers
-pub mod Posts
-pub mod Arrivals
-pub mod Opened
-pub mod Spots
