@@ -2,12 +2,15 @@
 use Rattle.std.specs.Prelude.{ℕ, Bool, true, false, List, Option, Some, None}
 use Rattle.mq_calls.specs.declared.deltas.Did.{Did}
 use Rattle.mq_calls.specs.declared.choices.Return.TheVariants as returns
+use Rattle.mq_message.specs.declared.message.Message.{Message}
+use Rattle.mq_history.specs.declared.acts.Act.{Act}
 use Rattle.mq_history.specs.declared.acts.Acted.TheVariants as acted
+use Rattle.mq_history.specs.declared.calls.Call.TheVariants as calls
 use Rattle.mq_history.specs.declared.calls.Reply.{Reply}
 use Rattle.mq_history.specs.declared.calls.Reply.TheVariants as replies
 use Rattle.mq_history.specs.declared.calls.Chance.{Chance}
 use Rattle.mq_history.specs.declared.calls.Chance.TheVariants as chances
-use Rattle.mq_spec_network.specs.Ledger.{Ledger, users_at, found, up_again}
+use Rattle.mq_spec_network.specs.Ledger.{Ledger, users_at, found, up_again, post_call}
 
 -- the forced write of the call was stopped
 abbrev pub is_stopped : Reply → Bool
@@ -28,3 +31,7 @@ abbrev pub come_up_as : ℕ → Option Bool → List Did → Ledger → Ledger
 come_up_as m None ds l = l
 come_up_as m (Some true) ds l = up_again m (found m (users_at m l).cut ds l)
 come_up_as m (Some false) ds l = up_again m l
+
+-- what is asked beside MQI calls
+abbrev pub post_act : ℕ → Act → Reply → List Message → List Did → Ledger → Ledger
+post_act m a reply ms ds l = post_call m (calls.Act a) reply ms ds l

@@ -106,7 +106,7 @@ pub fn place_posted<'a>(
 {
     match posted {
         None => Ok(()),
-        Some(posted) => books.place(alloc, m, &posted.queue, posted.message),
+        Some(Posted { queue, message }) => books.place(alloc, m, &queue, message),
     }
 }
 
@@ -121,7 +121,8 @@ fn place_received<'a>(
 ) -> Result<(), NoMemory>
     ensures { OnOk result (books.new ≡ place_received m channel.now arrival.message arrival.dead books.old) }
 {
-    let posted = received_of(books, alloc, m, channel, arrival)?;
+    let Arrival { message, dead } = arrival;
+    let posted = received_of(books, alloc, m, channel, message, dead)?;
     place_posted(books, alloc, m, posted)
 }
 

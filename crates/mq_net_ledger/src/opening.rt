@@ -1,5 +1,5 @@
 //! How the ledger begins: with the rows of the logs that count where they stand.
-ghost use Rattle.std.specs.Prelude.{◌≡◌, ◌<◌, ◌^◌, ◌+◌, ◌++◌, ◌∷◌, [], OnOk, IfOk, map};
+ghost use Rattle.std.specs.Prelude.{◌≡◌, ◌<◌, ◌^◌, ◌-◌, ◌+◌, ◌++◌, ◌∷◌, [], OnOk, IfOk, map};
 ghost use Rattle.mq_spec_network.specs.Given.{name_at};
 ghost use Rattle.mq_spec_network.specs.Standing.{opening_managers, opening_ledger};
 ghost use Rattle.mq_net_ledger.specs.Opened.{row_if, opened_rows, opened_shelf, opened_place, opened_places, opened_user, IsOpened, AreOpened};

@@ -1,12 +1,10 @@
 //! What an entry does to the ledger.
 ghost use Rattle.std.specs.Prelude.{◌≡◌, ◌≤◌, OnOk, Some};
 ghost use Rattle.mq_spec_manager.specs.Stops.{last_moment};
-ghost use Rattle.mq_spec_network.specs.Ledger.{take_gone, take_all_gone, received_on, receive_if, resolved_at, open_to, move_row, row_in, places_at, users_at, move, move_all, trigger, trigger_for, first_placed, obey, stop, stop_if, connect_if, open_if, close_if, post_call, post, cut, found, up_again, come_up, returned, posted, when, is_obeyed};
+ghost use Rattle.mq_spec_network.specs.Ledger.{place, take_from, take_gone, take_all_gone, received_on, receive_if, resolved_at, open_to, move_row, row_in, places_at, users_at, move, move_all, trigger, trigger_for, first_placed, obey, stop, stop_if, connect_if, open_if, close_if, post_call, post, cut, found, up_again, come_up, returned, posted, when, is_obeyed};
 ghost use Rattle.mq_objects.specs.Names.{local_of};
-ghost use Rattle.mq_history.specs.declared.calls.Call.{Call};
-ghost use Rattle.mq_history.specs.declared.calls.Call.TheVariants.{Act};
 ghost use Rattle.mq_net_ledger.specs.Posts.{move_posted};
-ghost use Rattle.mq_net_ledger.specs.Answers.{come_up_as};
+ghost use Rattle.mq_net_ledger.specs.Answers.{come_up_as, post_act};
 
 use crate::answers::{
     first_placed, got_ident, is_done, is_obeyed, is_stopped, is_taken, kept_of, sent_ident,
@@ -17,7 +15,7 @@ use crate::units::{back_out_if, commit_if, disconnect_if, get, put, put1};
 use mq_base::NoMemory;
 use mq_calls::{Answer, Appl, Did, Hconn, Hobj, Messages, Open};
 use mq_history::{Act, Call, Chance, Entry, Reply};
-use mq_message::{Dest, Ident};
+use mq_message::{Dest, Ident, Message};
 use mq_name::QName;
 use mq_net_books::{Books, Halted};
 use mq_sc_parse::Command;
@@ -53,6 +51,21 @@ fn take_all_gone<'a>(
     Ok(())
 }
 
+/// A message leaves its place, and is placed on a queue.
+fn move_to<'a>(
+    books: &mut Books<'a>,
+    alloc: Global,
+    m: usize,
+    queue: &QName,
+    message: Message,
+) -> Result<(), NoMemory>
+    ensures { OnOk result (books.new ≡ place m queue.now message (take_from m message.ident books.old)) }
+{
+    let ident = message.ident;
+    books.take_from(alloc, m, &ident);
+    books.place(alloc, m, queue, message)
+}
+
 fn move_posted<'a>(
     books: &mut Books<'a>,
     alloc: Global,
@@ -63,10 +76,7 @@ fn move_posted<'a>(
 {
     match posted {
         None => Ok(()),
-        Some(posted) => {
-            books.take_from(alloc, m, &posted.message.ident);
-            books.place(alloc, m, &posted.queue, posted.message)
-        }
+        Some(Posted { queue, message }) => move_to(books, alloc, m, &queue, message),
     }
 }
 
@@ -217,7 +227,7 @@ fn act<'a>(
     messages: &Messages,
     delta: &[Did],
 ) -> Result<(), NoMemory>
-    ensures { OnOk result (books.new ≡ post_call m (Act act.now) reply.now messages.now delta.now books.old) }
+    ensures { OnOk result (books.new ≡ post_act m act.now reply.now messages.now delta.now books.old) }
 {
     match act {
         Act::Obey(command) => obey_if(books, alloc, m, command, reply),

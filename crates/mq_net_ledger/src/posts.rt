@@ -1,6 +1,7 @@
 //! What a call places, read from the ledger before anything changes.
-ghost use Rattle.std.specs.Prelude.{◌≡◌, IfOk};
+ghost use Rattle.std.specs.Prelude.{◌≡◌, IfOk, Some};
 ghost use Rattle.mq_spec_manager.specs.Put.{queue_at, dest_at};
+ghost use Rattle.mq_spec_agents.specs.Landing.{names_of};
 ghost use Rattle.mq_spec_agents.specs.Moves.{bare_if};
 ghost use Rattle.mq_spec_network.specs.Ledger.{connection_of, resolved_at, row_in, places_at};
 ghost use Rattle.mq_objects.specs.Names.{local_of};
@@ -226,29 +227,47 @@ pub fn moved_of(
     }
 }
 
+/// A message where the names that came with it lead.
+fn routed_by_names(books: &Books<'_>, alloc: Global, m: usize, message: Message) -> Option<Posted>
+    ensures { result ≡ routed message (resolved_at m (names_of message.route).queue (names_of message.route).qmgr books.now) }
+{
+    let names = names_of(&message.route);
+    routed(books, alloc, m, &names.queue, &names.qmgr, message)
+}
+
+/// A message on the dead-letter queue, behind a header with this reason.
+fn dead_posted(
+    books: &Books<'_>,
+    alloc: Global,
+    m: usize,
+    channel: &ChName,
+    message: &Message,
+    reason: Reason,
+) -> Result<Posted, NoMemory>
+    ensures { IfOk result (λ p. Some p ≡ received_of m channel.now message.now (Some reason) books.now) }
+{
+    let moment = books.moment(m);
+    let message = dead_message(alloc, channel, &reason, message, moment)?;
+    Ok(Posted {
+        queue: books.dead_letter_queue(m),
+        message,
+    })
+}
+
 /// What a receiver's commit places of a message: by the names that came, or as a dead letter.
 pub fn received_of(
     books: &Books<'_>,
     alloc: Global,
     m: usize,
     channel: &ChName,
-    arrival: Arrival,
+    message: Message,
+    dead: Option<Reason>,
 ) -> Result<Option<Posted>, NoMemory>
-    ensures { IfOk result (λ p. p ≡ received_of m channel.now arrival.message arrival.dead books.now) }
+    ensures { IfOk result (λ p. p ≡ received_of m channel.now message dead books.now) }
 {
-    match arrival.dead {
-        None => {
-            let names = names_of(&arrival.message.route);
-            Ok(routed(books, alloc, m, &names.queue, &names.qmgr, arrival.message))
-        }
-        Some(reason) => {
-            let moment = books.moment(m);
-            let message = dead_message(alloc, channel, &reason, &arrival.message, moment)?;
-            Ok(Some(Posted {
-                queue: books.dead_letter_queue(m),
-                message,
-            }))
-        }
+    match dead {
+        None => Ok(routed_by_names(books, alloc, m, message)),
+        Some(reason) => Ok(Some(dead_posted(books, alloc, m, channel, &message, reason)?)),
     }
 }
 

@@ -50,7 +50,7 @@ fn put_posted<'a>(
 {
     match posted {
         None => Ok(()),
-        Some(posted) => put_row(books, alloc, sync, m, hc, &posted.queue, posted.message),
+        Some(Posted { queue, message }) => put_row(books, alloc, sync, m, hc, &queue, message),
     }
 }
 
