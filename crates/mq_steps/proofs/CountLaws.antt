@@ -22,18 +22,28 @@ use Rattle.mq_steps.specs.Counts.{Counts, Fewer, IsTurn, RoundsTold, Took, left_
 use Rattle.mq_steps.specs.Counts.Took.{none, one}
 use Rattle.mq_steps.proofs.PartLaws.{err_is}
 
-took_on : {w0 w : Network} {n : ℕ} (k : ℕ) (v : Network) → Took w0 n w → Took w k v → Took w0 (k + n) v
-took_on k v h none = h
-took_on k v h (one i x m e es more turn due) = one (i + _) x m e es (took_on i x h more) turn due
+no_more : (m n : ℕ) → m ≡ 0 + n → n ≡ m
+no_more m n e = omega arith
+
+one_up : (m i n : ℕ) → m ≡ suc i + n → suc (i + n) ≡ m
+one_up m i n e = omega arith
+
+took_on : {w0 w : Network} (m k n : ℕ) (v : Network) → m ≡ k + n → Took w0 n w → Took w k v → Took w0 m v
+took_on {w0} {w} m k n v sum h none = subst (λ (x : ℕ). Took w0 x w) (no_more m n sum) h
+took_on {w0} {w} m k n v sum h (one i x at e es more turn due) =
+    subst (λ (y : ℕ). Took w0 y (does at (e ∷ es) x)) (one_up m i n sum) (one (i + n) x at e es (took_on (i + n) i n x refl h more) turn due)
+
+none_and : (n : ℕ) → n ≡ 0 + n
+none_and n = omega arith
 
 pub fewer_none : (n : ℕ) (w : Network) → Fewer n n w w
-fewer_none n w = record { taken = 0; is = refl; took = none }
+fewer_none n w = record { taken = 0; is = none_and n; took = none }
 
 pub fewer_on : (most left rest : ℕ) (w v u : Network) → Fewer most left w v → Fewer left rest v u → Fewer most rest w u
 fewer_on most left rest w v u h x = record {
   taken = x.taken + h.taken;
   is = sum h.taken x.taken h.is x.is;
-  took = took_on x.taken u h.took x.took;
+  took = took_on (x.taken + h.taken) x.taken h.taken u refl h.took x.took;
 } where
   sum : (a b : ℕ) → most ≡ a + left → left ≡ b + rest → most ≡ b + a + rest
   sum a b p q = omega arith
@@ -47,10 +57,13 @@ is_turn TimesOut cable l w m e h = inr h.is.2
 one_less : (n : ℕ) → 0 < n → n ≡ suc (n - 1)
 one_less n h = omega arith
 
+one_and : (n : ℕ) → 0 < n → n ≡ 1 + (n - 1)
+one_and n h = omega arith
+
 took_one : (slot : Slot) (cable : ℕ) (l : CableLine) (left : ℕ) (c d : Course) → 0 < left → Did (TakesTurn (turn_in c.net slot cable l)) c d → Fewer left (left - 1) c.net d.net
 took_one slot cable l left c d lt x = record {
   taken = 1;
-  is = one_less left lt;
+  is = one_and left lt;
   took = subst (λ (w : Network). Took c.net 1 w) (sym (ap (λ (y : Course). y.net) x.is)) (one 0 c.net x.at x.entry x.behind none (is_turn slot cable l c.net x.at x.entry x.fits) x.triggers);
 }
 
@@ -133,11 +146,17 @@ timeouts_stop cable most left end r h c d e is lt i told =
     so (halts.Spent m rest) t = timeout_breaks cable most left end c d e (stops.Spent m) lt i t
 
 -- after a round of none come the timeouts
-pub both : (most rest : ℕ) (r : Result ℕ Halt) (c d e : Course) → (rest < most → ⊥) → RoundOf (pumping most Sends 0 false) round_then TurnsStill most rest c d
+pub both : (most rest : ℕ) (r : Result ℕ Halt) (c d e : Course) → most ≤ rest → RoundOf (pumping most Sends 0 false) round_then TurnsStill most rest c d
     → RoundTold (pumping rest TimesOut 0 false) from_start TimeoutsStill rest (without_number r) d e → RoundTold (pumping most Sends 0 false) from_start AllStill most (without_number r) c e
-both most rest (Ok last) c d e not_so h x = none_taken most rest last c d e not_so h x
-both most rest (Err halts.NoMemory) c d e not_so h x = timeouts_break most rest c d e stops.NoMemory not_so h x
-both most rest (Err (halts.Spent m last)) c d e not_so h x = timeouts_break most rest c d e (stops.Spent m) not_so h x
+both most rest r c d e le h x = by_answer r x
+  where
+    clash : most ≤ rest → rest < most → ⊥
+    clash a b = omega arith
+
+    by_answer : (y : Result ℕ Halt) → RoundTold (pumping rest TimesOut 0 false) from_start TimeoutsStill rest (without_number y) d e → RoundTold (pumping most Sends 0 false) from_start AllStill most (without_number y) c e
+    by_answer (Ok last) t = none_taken most rest last c d e (clash le) h t
+    by_answer (Err halts.NoMemory) t = timeouts_break most rest c d e stops.NoMemory (clash le) h t
+    by_answer (Err (halts.Spent m last)) t = timeouts_break most rest c d e (stops.Spent m) (clash le) h t
 
 -- Rounds.
 pub rounds_stop : (turns rounds left : ℕ) (r : Result ℕ Halt) (h : Halt) (c d e : Course) → IsErrAnd r (λ (y : Halt). y ≡ h) → Ready c.net → Pumping turns rounds left c d → RoundTold (pumping left Sends 0 false) from_start AllStill left (without_number (Err h)) d e

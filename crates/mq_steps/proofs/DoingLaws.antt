@@ -1,9 +1,11 @@
 -- Each kind of step, by the answer of the call that does it.
-use Rattle.std.specs.Prelude.{◌≡◌, ◌<◌, ◌≤◌, ◌×◌, ◌+◌, ℕ, Bool, true, false, List, [], ◌∷◌, Option, Some, None, Result, Ok, Err, IfOk, IsErrAnd, All, length, slice_get, refl}
+use Rattle.std.specs.Prelude.{◌≡◌, ◌<◌, ◌≤◌, ℕ, Bool, true, false, List, [], ◌∷◌, Option, Some, None, Result, Ok, Err, IfOk, OnOk, IsErrAnd, All, length, slice_get, refl}
 use Rattle.std.proofs.Common.{ap, subst, sym, ◌∙◌}
 use Rattle.std.proofs.lemmas.List.Elements.{All-weaker}
+use Rattle.std.proofs.lemmas.Option.{slice_get_within}
 use Rattle.mq_base.specs.declared.want.NoMemory.{NoMemory}
-use Rattle.mq_history.specs.Scenarios.{IsScenario, IsStep}
+use Rattle.mq_history.specs.Scenarios.{IsScenario}
+use Rattle.mq_history.specs.declared.history.History.{History}
 use Rattle.mq_history.specs.declared.scenario.ScriptPart.{ScriptPart}
 use Rattle.mq_history.specs.declared.scenario.Scenario.{Scenario}
 use Rattle.mq_history.specs.declared.scenario.Step.{Step}
@@ -16,16 +18,17 @@ use Rattle.mq_spec_network.specs.Turns.{is_idle, is_up_at, node_at}
 use Rattle.mq_spec_network.specs.Tasks.{Task, tasks_of}
 use Rattle.mq_spec_network.specs.Tasks.Task.{Ask, Restart}
 use Rattle.mq_spec_network.specs.Steps.{Is, is_cut, once_more}
-use Rattle.mq_spec_network.specs.Lawful.{ends_idle, handles_idle}
+use Rattle.mq_spec_network.specs.Lawful.{IsDone, ends_idle, handles_idle}
 use Rattle.mq_spec_network.proofs.Going.{on}
 use Rattle.mq_nodes.specs.declared.nodes.Stop.{Stop}
 use Rattle.mq_nodes.specs.declared.nodes.Stop.TheVariants as stops
 use Rattle.mq_nodes.specs.Course.{Course, Did, Ready}
-use Rattle.mq_nodes.specs.Told.{Onward, Part, Ran, Says}
+use Rattle.mq_nodes.specs.Told.{Has, Onward, Part, Ran, Says}
 use Rattle.mq_nodes.specs.Runs.{StepsTold, never_idle}
 use Rattle.mq_nodes.proofs.LineLaws.{fits_too}
 use Rattle.mq_nodes.proofs.Onward.{begin, moved, same_scenario, unframed}
-use Rattle.mq_nodes.proofs.StepLaws.{never}
+use Rattle.mq_nodes.proofs.StepLaws.{are_done, never}
+use Rattle.mq_nodes.proofs.TurnLaws.{Handling}
 use Rattle.mq_steps.specs.declared.pumping.Pumped.{Pumped}
 use Rattle.mq_steps.specs.Counts.{idle_or_spent, idle_unless, pumped_then}
 use Rattle.mq_steps.proofs.PartLaws.{err_is, pumped_part}
@@ -112,3 +115,11 @@ second_part m cut r c d e ready down is (x, ready_then) part =
 
 pub manager_there : (i end : ℕ) (from left : List Task) (c d : Course) → i < end → end ≡ length c.net.scenario.managers → Onward from left c d → i < length d.net.scenario.managers
 manager_there i end from left c d lt upto h = subst (λ (n : ℕ). i < n) (upto ∙ sym (ap (λ (s : Scenario). length s.managers) (same_scenario h.goes))) lt
+
+-- The whole run.
+pub done_all : (s : Scenario) (r : Result (Unit {0}) Stop) (c d : Course) → c.net.scenario ≡ s → Ran r c d → OnOk r ((hs : List History) → Has s hs c d → IsDone s hs)
+done_all s (Ok x) c d same h = λ hs has. are_done s hs x c d same h has
+done_all s (Err stop) c d same h = tt
+
+pub handling_there : (k turns left : ℕ) (c d : Course) → Handling k turns left c d → k < length d.net.scenario.rules
+handling_there k turns left c d h = slice_get_within d.net.scenario.rules k h.part (ap (λ (s : Scenario). slice_get s.rules k) (same_scenario h.on.goes) ∙ h.known)
