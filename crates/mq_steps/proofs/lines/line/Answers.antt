@@ -1,9 +1,7 @@
-use Rattle.std.specs.Prelude.{◌<◌, ◌≡◌, ◌≤◌, ◌-◌, ℕ, Some, Ok, Result, length, slice_get, refl}
-use Rattle.std.proofs.Common.{ap, subst, sym, ◌∙◌}
+use Rattle.std.specs.Prelude.{◌<◌, ◌≡◌, ◌-◌, Some, Ok, length, slice_get, refl}
+use Rattle.std.proofs.Common.{subst, sym}
 use Rattle.mq_history.specs.declared.scenario.Scenario.{Scenario}
 use Rattle.mq_nodes.specs.declared.nodes.Advanced.{Advanced}
-use Rattle.mq_nodes.specs.declared.nodes.Advanced.TheVariants as advances
-use Rattle.mq_nodes.specs.Course.{Course}
 use Rattle.mq_nodes.specs.Told.{LineTold}
 use Rattle.mq_nodes.proofs.LineLaws.{line_breaks}
 use Rattle.mq_nodes.proofs.WaitLaws.{clocks_break, get_breaks, get_done, not_late, second, Second}

@@ -1,5 +1,5 @@
 use Rattle.mq_spec_network.specs.Tasks.Slot.{Receives, Sends}
-use Rattle.mq_nodes.proofs.PumpLaws.{InRound, begins, received, round_over, sent}
+use Rattle.mq_nodes.proofs.PumpLaws.{begins, received, round_over, sent}
 use Rattle.mq_steps.proofs.CountLaws.{cable_there, counts_stop, fewer_none, fewer_on, round_stops}
 use Rattle.mq_steps.proofs.pumping.round.Goals as goal
 

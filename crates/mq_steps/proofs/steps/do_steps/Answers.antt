@@ -26,7 +26,7 @@ mark-requires g c =
     let now = g.N.Nodes.course c.loop-step.nodes in
     let new = g.N.Nodes.course c.do_step.new.nodes in
     let lt = subst (λ (xs : List Step). c.loop-step.step-index < length xs) (c.as_slice-step-items.ensures ∙ sym (ap (λ (s : Scenario). s.steps) c.requires.same)) c.loop-step-test.true in
-    room c.loop-step.step-index old now new c.step-item.result _ _ lt c.loop-step.invariant c.in_ok-idle.ensures.told (scenario_stays _ _ now new c.in_ok-idle.ensures.told)
+    record { room = room c.loop-step.step-index old now new c.step-item.result _ _ lt c.loop-step.invariant c.in_ok-idle.ensures.told (scenario_stays _ _ now new c.in_ok-idle.ensures.told) }
 
 pub loop-step-preserved : goal.loop-step-preserved
 loop-step-preserved g c =

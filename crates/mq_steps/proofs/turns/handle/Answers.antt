@@ -1,4 +1,4 @@
-use Rattle.std.specs.Prelude.{◌≤◌, ◌≡◌, ◌<◌, Bool, Ok, Err, Option, Result, length, slice_get, true, false}
+use Rattle.std.specs.Prelude.{◌≤◌, ◌≡◌, ◌<◌, Bool, Ok, Err, Option, length, slice_get, true, false}
 use Rattle.std.proofs.Common.{ap, arith, subst, sym, ◌∙◌}
 use Rattle.std.proofs.lemmas.Option.{slice_get_past}
 use Rattle.mq_history.specs.declared.scenario.RulesPart.{RulesPart}

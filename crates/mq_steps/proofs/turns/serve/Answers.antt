@@ -1,4 +1,4 @@
-use Rattle.std.specs.Prelude.{◌<◌, ◌≤◌, ℕ, Option, Ok, Err, length, slice_get}
+use Rattle.std.specs.Prelude.{◌<◌, ◌≤◌, Ok, length, slice_get}
 use Rattle.std.proofs.Common.{ap, arith, subst, sym, ◌∙◌}
 use Rattle.std.proofs.lemmas.Option.{slice_get_past}
 use Rattle.mq_history.specs.declared.scenario.Scenario.{Scenario}

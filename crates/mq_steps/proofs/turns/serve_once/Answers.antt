@@ -1,5 +1,5 @@
-use Rattle.std.specs.Prelude.{◌≡◌, ◌<◌, Bool, Ok, Err, Result, None, length, slice_get, true}
-use Rattle.std.proofs.Common.{ap, subst, sym, ◌∙◌}
+use Rattle.std.specs.Prelude.{Bool, Ok, Err, Result, None, slice_get}
+use Rattle.std.proofs.Common.{subst, sym, ◌∙◌}
 use Rattle.mq_history.specs.declared.scenario.Scenario.{Scenario}
 use Rattle.mq_spec_network.specs.Tasks.{run_script}
 use Rattle.mq_nodes.specs.declared.nodes.Monitored.{Monitored}
