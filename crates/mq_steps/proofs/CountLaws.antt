@@ -1,5 +1,5 @@
 -- A pump counts its turns.
-use Rattle.std.specs.Prelude.{◌≡◌, ◌<◌, ◌≤◌, ◌⊎◌, ◌+◌, ◌-◌, ℕ, zero, suc, Bool, true, false, List, ◌∷◌, Some, Result, Ok, Err, IsErrAnd, length, slice_get, refl}
+use Rattle.std.specs.Prelude.{◌≡◌, ◌<◌, ◌≤◌, ◌+◌, ◌-◌, ℕ, zero, suc, Bool, true, false, List, ◌∷◌, Result, Ok, Err, IsErrAnd, length, refl}
 use Rattle.std.proofs.Common.{ap, subst, sym, arith, inl, inr, ◌∙◌}
 use Rattle.mq_history.specs.declared.calls.Entry.{Entry}
 use Rattle.mq_history.specs.declared.scenario.CableLine.{CableLine}

@@ -1,5 +1,5 @@
 -- Lines of a script in a loop.
-use Rattle.std.specs.Prelude.{◌≡◌, ◌<◌, ◌≤◌, ◌+◌, ◌-◌, ℕ, zero, suc, Bool, true, false, List, [], ◌∷◌, ◌++◌, Option, Some, None, Result, Ok, Err, length, take, drop, slice_get, refl}
+use Rattle.std.specs.Prelude.{◌≡◌, ◌<◌, ◌≤◌, ◌+◌, ◌-◌, ℕ, zero, suc, Bool, true, false, List, [], ◌∷◌, Option, Some, None, Result, Ok, Err, length, take, refl}
 use Rattle.std.proofs.Common.{ap, subst, sym, arith, ◌∙◌}
 use Rattle.std.proofs.lemmas.List.{length-drop, take_all}
 use Rattle.mq_history.specs.declared.scenario.ScriptPart.{ScriptPart}
@@ -14,11 +14,10 @@ use Rattle.mq_spec_network.specs.Steps.{Goes}
 use Rattle.mq_spec_network.specs.Steps.Goes.{stays as stays_there, passes}
 use Rattle.mq_spec_network.proofs.Going.{on}
 use Rattle.mq_nodes.specs.declared.nodes.Stop.{Stop}
-use Rattle.mq_nodes.specs.declared.nodes.Stop.TheVariants as stops
 use Rattle.mq_nodes.specs.Course.{Course, Ready}
 use Rattle.mq_nodes.specs.declared.nodes.Advanced.TheVariants as advances
 use Rattle.mq_nodes.specs.Told.{LineAt, LineTold, OneLine, Onward, Part, upto}
-use Rattle.mq_nodes.proofs.Onward.{after, alone, begin, passed, same_scenario, stopped, unframed, whole}
+use Rattle.mq_nodes.proofs.Onward.{after, alone, begin, passed, same_scenario, stopped, whole}
 use Rattle.mq_steps.specs.Lines.{number_or}
 
 pub lines_begin : (k : ℕ) (p : ScriptPart) (most : ℕ) (c : Course) → Ready c.net → Onward (upto k p most c) (upto k p (most - 0) c) c c

@@ -1,21 +1,19 @@
 -- A monitor's turns in a loop.
-use Rattle.std.specs.Prelude.{◌≡◌, ◌<◌, ◌≤◌, ◌+◌, ◌-◌, ℕ, suc, Bool, true, false, List, [], ◌∷◌, Some, None, Option, Result, Ok, Err, length, slice_get, refl}
+use Rattle.std.specs.Prelude.{◌≡◌, ◌<◌, ◌≤◌, ◌+◌, ◌-◌, ℕ, suc, Bool, true, false, List, [], ◌∷◌, Some, None, Option, Ok, Err, length, slice_get, refl}
 use Rattle.std.proofs.Common.{ap, subst, sym, arith, ◌∙◌}
 use Rattle.std.proofs.lemmas.Option.{slice_get_within}
 use Rattle.mq_history.specs.declared.scenario.MonitorLine.{MonitorLine}
 use Rattle.mq_history.specs.declared.scenario.Scenario.{Scenario}
-use Rattle.mq_spec_network.specs.Turns.{node_at}
 use Rattle.mq_spec_network.specs.Tasks.{Task, run_script, serve_by}
 use Rattle.mq_spec_network.specs.Tasks.Task.{Serve}
 use Rattle.mq_nodes.specs.declared.nodes.Stop.{Stop}
 use Rattle.mq_nodes.specs.declared.nodes.Stop.TheVariants as stops
-use Rattle.mq_nodes.specs.declared.nodes.Monitored.{Monitored}
 use Rattle.mq_nodes.specs.declared.nodes.Monitored.TheVariants as monitors
 use Rattle.mq_nodes.specs.Course.{Course, Ready, Rests}
-use Rattle.mq_nodes.specs.Told.{Onward, Part, TurnOf, TurnTold}
+use Rattle.mq_nodes.specs.Told.{Onward, Part, TurnTold}
 use Rattle.mq_nodes.proofs.Asking.{same_value}
-use Rattle.mq_nodes.proofs.Onward.{after, alone, begin, passed, same_scenario, stopped, whole}
-use Rattle.mq_nodes.proofs.TurnLaws.{Begun, Serving, began, got, monitor_breaks, ran, run_breaks, served_all, serving_begins}
+use Rattle.mq_nodes.proofs.Onward.{after, alone, passed, same_scenario, stopped, whole}
+use Rattle.mq_nodes.proofs.TurnLaws.{Serving, began, got, monitor_breaks, ran, run_breaks, served_all, serving_begins}
 use Rattle.mq_steps.specs.Served.{ServedBy, ServedTold}
 
 no_less : (n : ℕ) → 0 < suc n

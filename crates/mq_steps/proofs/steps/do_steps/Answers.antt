@@ -1,4 +1,4 @@
-use Rattle.std.specs.Prelude.{◌<◌, ◌≡◌, ℕ, Some, length, slice_get, refl, List}
+use Rattle.std.specs.Prelude.{◌<◌, ◌≡◌, Some, length, slice_get, refl, List}
 use Rattle.std.proofs.Common.{ap, subst, sym, ◌∙◌}
 use Rattle.std.proofs.lemmas.Option.{slice_get_read}
 use Rattle.mq_history.specs.declared.scenario.Scenario.{Scenario}
