@@ -6,17 +6,14 @@ use Rattle.std.proofs.lemmas.Option.{slice_get_within}
 use Rattle.mq_history.specs.declared.calls.Entry.{Entry}
 use Rattle.mq_history.specs.declared.history.History.{History}
 use Rattle.mq_history.specs.declared.history.Mark.{Mark}
-use Rattle.mq_history.specs.declared.scenario.Scenario.{Scenario}
-use Rattle.mq_spec_node.specs.Node.{Node}
 use Rattle.mq_spec_network.specs.Story.{entries_at, entries_or}
 use Rattle.mq_spec_network.specs.Terms.{Surroundings}
 use Rattle.mq_spec_network.specs.Given.{surroundings}
-use Rattle.mq_spec_network.specs.Turns.{Network, does, more_at}
+use Rattle.mq_spec_network.specs.Turns.{does, more_at}
 use Rattle.mq_spec_network.specs.Lawful.{marks_at, marks_or, network_begun, node_begun}
 use Rattle.mq_spec_network.proofs.Going.{same_network}
-use Rattle.mq_nodes.specs.Course.{Course, mark_at, noted}
-use Rattle.mq_nodes.specs.Told.{Has}
-use Rattle.mq_course.specs.Courses.{AllNote, HistoriesHave, OneDoes, absent, course_of, marks_or_absent, net_of, with_entries, with_mark}
+use Rattle.mq_nodes.specs.Course.{mark_at}
+use Rattle.mq_course.specs.Courses.{AllNote, HistoriesHave, OneDoes, absent, marks_or_absent, net_of, with_entries, with_mark}
 
 same_or_not : (n m : ℕ) → (n ≡ m) ⊎ ((n == m) ≡ false)
 same_or_not n m = at_it (n == m) refl
