@@ -1,0 +1,5 @@
+pub mod CountLaws
+pub mod DoingLaws
+pub mod LinesLaws
+pub mod PartLaws
+pub mod ServedLaws

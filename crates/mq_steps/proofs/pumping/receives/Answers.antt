@@ -1,0 +1,17 @@
+use Rattle.std.specs.Prelude.{ℕ, Result}
+use Rattle.std.proofs.Common.{subst, sym}
+use Rattle.mq_spec_network.specs.Tasks.Slot.{Receives}
+use Rattle.mq_steps.specs.declared.pumping.Halt.{Halt}
+use Rattle.mq_steps.specs.Counts.{Counts}
+use Rattle.mq_steps.proofs.CountLaws.{any_left, none_counted, turn_counted}
+use Rattle.mq_steps.proofs.pumping.receives.Goals as goal
+
+pub returns-then-left-eq0-clause-counted : goal.returns-then-left-eq0-clause-counted
+returns-then-left-eq0-clause-counted g c = none_counted c.args.left (g.N.Nodes.course c.args.nodes.now) c.if-left-eq0.true
+
+pub returns-clause-counted : goal.returns-clause-counted
+returns-clause-counted g c =
+    let old = g.N.Nodes.course c.args.nodes.now in
+    let new = g.N.Nodes.course c.receiver_turn.new.self in
+    subst (λ (r : Result ℕ Halt). Counts c.args.left r old new) (sym c.left_after.ensures)
+    (turn_counted Receives c.args.cable c.args.left c.receiver_turn.result old new (any_left c.args.left c.if-left-eq0.false) c.requires.there c.receiver_turn.ensures)
