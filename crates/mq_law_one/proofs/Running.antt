@@ -222,14 +222,14 @@ own_of (x ∷ es) e none (inl z) = subst (λ (y : Entry). IsOwn y.chance) (sym z
 own_of (x ∷ es) e none (inr n) = own_of es e none.1 n
 
 -- an entry of the prefix, and its event
-record Told_ (s : Scenario) (hs : List History) (p : List Line) (x : Line) : Type 0 where
-  h : History
-  is : slice_get hs x.manager ≡ Some h
-  stamp : ℕ
-  tells : Tells (node_after s x.manager p h) stamp x.entry
-  own : IsOwn x.entry.chance
+pub record Told_ (s : Scenario) (hs : List History) (p : List Line) (x : Line) : Type 0 where
+  pub h : History
+  pub is : slice_get hs x.manager ≡ Some h
+  pub stamp : ℕ
+  pub tells : Tells (node_after s x.manager p h) stamp x.entry
+  pub own : IsOwn x.entry.chance
 
-told_of : (s : Scenario) (hs : List History) (p : List Line) (x : Line) (rest : List Line) → Premises s hs → IsStory hs (p ++ x ∷ rest) → Told_ s hs p x
+pub told_of : (s : Scenario) (hs : List History) (p : List Line) (x : Line) (rest : List Line) → Premises s hs → IsStory hs (p ++ x ∷ rest) → Told_ s hs p x
 told_of s hs p x rest premises story =
     let k = history_of hs x p rest story in
     let t = story_tells s hs p x rest k.0 story k.1 (premises.lawful.histories x.manager k.0 k.1).replays.follows in
@@ -310,6 +310,30 @@ not_given i m n e = grind (arith, nat_tests)
 is_maker : (i : Ident) (m : ℕ) (t : Bool) → ((i.manager == m + 1) && t) ≡ true → i.manager ≡ suc m
 is_maker i m t e = grind (arith, nat_tests)
 
+pub first_at : (s : Scenario) (hs : List History) → Premises s hs → (m : ℕ) (h : History) → slice_get hs m ≡ Some h → IsAt NoOther m (is_given (opening_managers s hs)) (opening_node (surroundings s m) h) (opening_ledger s hs)
+first_at s hs premises m h is =
+    let ps : List Plain = opening_managers s hs in
+    let n : Node = opening_node (surroundings s m) h in
+    let p : Plain = n.manager in
+    let at : slice_get ps m ≡ Some p = manager_at s [] hs m ∙ ap (option_map (λ (h : History). (node_after s m [] h).manager)) is in
+    record {
+      told = record {
+        places = places_of s ps p;
+        placed = mapped_at (places_of s ps) ps m p at;
+        shelved = opening_shelved s ps p p.queues (first_sound (surroundings s m).given h.opening h.length h.moment (premises.openings m h is) (record { rows = known_own s hs m h is premises.openings premises.joined.together; doubts = premises.known m h is })).named;
+        name = refl;
+        definitions = refl;
+        users = record { moment = p.moment; connections = []; cut = None };
+        used = mapped_at (λ (p : Plain). record { moment = p.moment; connections = []; cut = None }) ps m p at;
+        connections = refl;
+      };
+      fresh = λ i u. ap (λ k. given_by (maker ps k) i) (is_maker i m _ u) ∙ ap (λ o. given_by o i) at ∙ not_given i (m + 1) p.numbers.incarnation u;
+      number = refl;
+      timed = record { users = record { moment = p.moment; connections = []; cut = None }; used = mapped_at (λ (p : Plain). record { moment = p.moment; connections = []; cut = None }) ps m p at; moment = refl };
+      state = first_sound (surroundings s m).given h.opening h.length h.moment (premises.openings m h is) (record { rows = known_own s hs m h is premises.openings premises.joined.together; doubts = premises.known m h is });
+      noted = tt;
+    }
+
 begins : (s : Scenario) (hs : List History) → IsAlone s → Premises s hs → Stand s hs []
 begins s hs alone premises =
     let ps : List Plain = opening_managers s hs in
@@ -319,36 +343,16 @@ begins s hs alone premises =
       calm = λ m c u. refl;
       inv = images_have_the_facts s hs premises.openings premises.joined.together;
       bare = λ m h is. record { ends = ap (λ cs. map (end_begun (opening_node (surroundings s m) h).manager) (ends_from s m 0 cs)) alone; batches = refl };
-      at = λ m h is.
-          let n : Node = opening_node (surroundings s m) h in
-          let p : Plain = n.manager in
-          let at : slice_get ps m ≡ Some p = manager_at s [] hs m ∙ ap (option_map (λ (h : History). (node_after s m [] h).manager)) is in
-          record {
-            told = record {
-              places = places_of s ps p;
-              placed = mapped_at (places_of s ps) ps m p at;
-              shelved = opening_shelved s ps p p.queues (first_sound (surroundings s m).given h.opening h.length h.moment (premises.openings m h is) (record { rows = known_own s hs m h is premises.openings premises.joined.together; doubts = premises.known m h is })).named;
-              name = refl;
-              definitions = refl;
-              users = record { moment = p.moment; connections = []; cut = None };
-              used = mapped_at (λ (p : Plain). record { moment = p.moment; connections = []; cut = None }) ps m p at;
-              connections = refl;
-            };
-            fresh = λ i u. ap (λ k. given_by (maker ps k) i) (is_maker i m _ u) ∙ ap (λ o. given_by o i) at ∙ not_given i (m + 1) p.numbers.incarnation u;
-            number = refl;
-            timed = record { users = record { moment = p.moment; connections = []; cut = None }; used = mapped_at (λ (p : Plain). record { moment = p.moment; connections = []; cut = None }) ps m p at; moment = refl };
-            state = first_sound (surroundings s m).given h.opening h.length h.moment (premises.openings m h is) (record { rows = known_own s hs m h is premises.openings premises.joined.together; doubts = premises.known m h is });
-            noted = tt;
-          };
+      at = λ m h is. first_at s hs premises m h is;
     }
 
 -- All prefixes
 
-one_more : {A : Type 0} (xs : List A) (y : A) (ys : List A) → (xs ++ y ∷ []) ++ ys ≡ xs ++ y ∷ ys
+pub one_more : {A : Type 0} (xs : List A) (y : A) (ys : List A) → (xs ++ y ∷ []) ++ ys ≡ xs ++ y ∷ ys
 one_more [] y ys = refl
 one_more (x ∷ xs) y ys = ap (λ zs. x ∷ zs) (one_more xs y ys)
 
-none_more : {A : Type 0} (xs : List A) → xs ++ [] ≡ xs
+pub none_more : {A : Type 0} (xs : List A) → xs ++ [] ≡ xs
 none_more [] = refl
 none_more (x ∷ xs) = ap (λ ys. x ∷ ys) (none_more xs)
 

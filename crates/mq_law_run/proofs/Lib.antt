@@ -1,1 +1,10 @@
 pub mod Standing
+pub mod Halves
+pub mod Telling
+pub mod Numbering
+pub mod Tying
+pub mod Beside
+pub mod Cabled
+pub mod Lining
+pub mod Owning
+pub mod Running

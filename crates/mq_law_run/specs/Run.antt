@@ -13,6 +13,7 @@ use Rattle.mq_history.specs.declared.scenario.CableLine.{CableLine}
 use Rattle.mq_history.specs.declared.scenario.Scenario.{Scenario}
 use Rattle.mq_spec_state.specs.State.{Plain}
 use Rattle.mq_spec_node.specs.Node.{Node}
+use Rattle.mq_spec_node.specs.Deeds.{Done}
 use Rattle.mq_spec_node.specs.Replays.{done_by}
 use Rattle.mq_spec_network.specs.Conflict.{deeds, is_committed}
 use Rattle.mq_spec_network.specs.Given.{name_at}
@@ -75,22 +76,26 @@ pub record IsMoved (s : Scenario) (m : ℕ) (next : Node) (i : ℕ) (k : CableLi
   pub far : k.receiver ≡ m → FarNode (far_at s i k) next z × SameNear x z × Among x.back z.back
   pub else : (k.sender == m) ≡ false → (k.receiver == m) ≡ false → z ≡ x
 
--- What an event of manager m of the story comes to, from what was kept before it: the entry x more.
-pub record Moves (s : Scenario) (hs : List History) (p : List Line) (x : Line) (h : History) (z : Stand s hs p) : Type 0 where
+-- What an event of the story comes to, the entry x more, from what was kept before it: with this done, and this ledger.
+pub record MovesTo (s : Scenario) (hs : List History) (p : List Line) (x : Line) (h : History) (z : Stand s hs p) (d : Done) (l : Ledger) : Type 0 where
   pub given : Ident → Bool
   pub ghost : Ghost
   pub xs : ℕ → List ℕ → Channel
   pub ys : ℕ → List ℕ → Past
-  pub joint : AreJoint (world_of s given (managers_at s (p ++ x ∷ []) hs)) ghost (book_of (ledger (opening_ledger s hs) (p ++ x ∷ []))) s.cables xs ys
-  pub moved : (i : ℕ) (k : CableLine) → slice_get s.cables i ≡ Some k → IsMoved s x.manager (done_by x.entry (node_after s x.manager p h)).next i k (z.xs k.sender k.channel) (xs k.sender k.channel) (ys k.sender k.channel)
+  pub joint : AreJoint (world_of s given (managers_at s (p ++ x ∷ []) hs)) ghost (book_of l) s.cables xs ys
+  pub moved : (i : ℕ) (k : CableLine) → slice_get s.cables i ≡ Some k → IsMoved s x.manager d.next i k (z.xs k.sender k.channel) (xs k.sender k.channel) (ys k.sender k.channel)
   pub out : (i : ℕ) (k : CableLine) (f : Frame) → slice_get s.cables i ≡ Some k → k.sender ≡ x.manager → x.entry.actor ≡ actors.Sender i → x.entry.effect.pushed ≡ Some f → Mem f (xs k.sender k.channel).out
   pub back : (i : ℕ) (k : CableLine) (f : Frame) → slice_get s.cables i ≡ Some k → k.receiver ≡ x.manager → x.entry.actor ≡ actors.Receiver i → x.entry.effect.pushed ≡ Some f → Mem f (xs k.sender k.channel).back
   pub told : (k : CableLine) → Mem k s.cables → IsToldOf s (opening_managers s hs) (deeds (p ++ x ∷ [])) k.sender k.channel (xs k.sender k.channel) (ys k.sender k.channel)
   pub resolved : (m : ℕ) (c : List ℕ) (u : Luw) → ghost.operated m c u ≡ true → Mem (record { manager = m; did = did.Hardened c (notes.Resolved u true true) }) (deeds (p ++ x ∷ []))
   pub not_yet : (m : ℕ) (c : List ℕ) (u : Luw) → ghost.operated m c u ≡ true → is_committed s (opening_managers s hs) (deeds (p ++ x ∷ [])) c u ≡ false
-  pub at : IsAt NoOther x.manager given (done_by x.entry (node_after s x.manager p h)).next (ledger (opening_ledger s hs) (p ++ x ∷ []))
+  pub at : IsAt NoOther x.manager given d.next l
   pub known : (i : Ident) → (i.manager == (node_after s x.manager p h).manager.given.number) ≡ false → given i ≡ z.given i
-  pub others : (a : ℕ) (r : Plain) → (a == x.manager) ≡ false → IsTold a r (ledger (opening_ledger s hs) p) → IsTold a r (ledger (opening_ledger s hs) (p ++ x ∷ []))
-  pub users : (a : ℕ) → (a == x.manager) ≡ false → slice_get (ledger (opening_ledger s hs) (p ++ x ∷ [])).users a ≡ slice_get (ledger (opening_ledger s hs) p).users a
-  pub counted : AreCountedAt (done_by x.entry (node_after s x.manager p h)).next.manager.numbers.connections x.manager (ledger (opening_ledger s hs) (p ++ x ∷ []))
-  pub cabled : AreCabled s.cables x.manager (done_by x.entry (node_after s x.manager p h)).next.manager
+  pub others : (a : ℕ) (r : Plain) → (a == x.manager) ≡ false → IsTold a r (ledger (opening_ledger s hs) p) → IsTold a r l
+  pub users : (a : ℕ) → (a == x.manager) ≡ false → slice_get l.users a ≡ slice_get (ledger (opening_ledger s hs) p).users a
+  pub counted : AreCountedAt d.next.manager.numbers.connections x.manager l
+  pub cabled : AreCabled s.cables x.manager d.next.manager
+
+-- with what the entry's event does, and what is posted of it
+abbrev pub Moves : (s : Scenario) (hs : List History) (p : List Line) → Line → History → Stand s hs p → Type 0
+Moves s hs p x h z = MovesTo s hs p x h z (done_by x.entry (node_after s x.manager p h)) (ledger (opening_ledger s hs) (p ++ x ∷ []))

@@ -1,5 +1,5 @@
 -- Each turn of a receiver's end, as what it is of the network: a unit's commit, or nothing of rows.
-use Rattle.std.proofs.Common.{ℕ, ◌≡◌, Bool, true, false, List, [], ◌∷◌, ◌++◌, refl, ap, sym, subst, ◌∙◌, map}
+use Rattle.std.proofs.Common.{ℕ, ◌≡◌, ◌≢◌, ◌⊎◌, Bool, true, false, List, [], ◌∷◌, ◌++◌, refl, ap, sym, subst, ◌∙◌, inl, inr, map}
 use Rattle.std.specs.Prelude.{Option, Some, None, Result, Ok, Err, ◌&&◌, if◌then◌else◌, slice_get}
 use Rattle.std.proofs.lemmas.List.{append-nil}
 use Rattle.mq_codes.specs.declared.reason.Reason.{Reason}
@@ -34,6 +34,7 @@ use Rattle.mq_law_channel.proofs.Following as following
 use Rattle.mq_law_rows.specs.Families.{put_at}
 use Rattle.mq_law_rows.specs.World.{Book, Ghost, Inv, World, tag_idents, tag_of}
 use Rattle.mq_law_rows.specs.Kinds.{ghost_receive, unit_at}
+use Rattle.mq_law_channel.proofs.Told.{unit_self}
 use Rattle.mq_law_rows.proofs.Lists.{bool_case, here_self, true_false}
 use Rattle.mq_law_seen.specs.Seen.{book_of, world_of}
 use Rattle.mq_law_events.specs.Tied.{IsNext}
@@ -66,6 +67,7 @@ same_taken z x k y j far = record {
   };
   sent = refl;
   operated = λ a d u e. refl;
+  own = λ u e. (e, inr refl);
   holds = λ a d. refl;
   doubt = λ a d. refl;
   last = λ a d e. refl;
@@ -136,6 +138,9 @@ receipt_taken z n x k y l j u qs q a waits far h holds doubt last r =
       };
       sent = refl;
       operated = λ o d v e. ap (λ t. if t && same_unit v u then false else z.ghost.operated o d v) e;
+      own = λ v e. bool_case (unit_at m c u m c v) (λ t. unit_at m c u m c v ≡ t → (if t then false else z.ghost.operated m c v) ≡ true → (z.ghost.operated m c v ≡ true) × ((world_of z.scenario z.given qs).last m c ≢ v ⊎ ((world_of z.scenario z.given qs).last m c ≡ (world_in z).last m c)))
+          (λ t f k. absurd (true_false (sym k)))
+          (λ t f k. (k, inl (λ w. true_false (sym (ap (λ b. b && same_unit v u) (here_self m c) ∙ ap (λ (o : Luw). same_unit v o) (sym (sym w ∙ last m c ∙ ap (λ b. if b then u else (world_in z).last m c) (here_self m c))) ∙ unit_self v) ∙ f)))) refl e;
       holds = holds;
       doubt = doubt;
       last = λ o d e. last o d ∙ ap (λ t. if t then u else (world_in z).last o d) e;
