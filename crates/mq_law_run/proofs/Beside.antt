@@ -20,11 +20,13 @@ use Rattle.mq_receiver.specs.declared.turns.ReceiverDoes.TheVariants as takes
 use Rattle.mq_calls.specs.declared.records.LogRecord.{LogRecord}
 use Rattle.mq_history.specs.declared.calls.Reply.{Reply}
 use Rattle.mq_history.specs.declared.calls.Reply.TheVariants as replies
-use Rattle.mq_spec_state.specs.State.{Batch, Change, Definitions, Connection, Given, Numbers, Plain, Running}
-use Rattle.mq_spec_state.specs.State.Change.{Hold, Leave, Release, SetSender, SetReceiver, Seize, Unseize, AddBatch, DropBatch, SetBound}
+use Rattle.mq_spec_state.specs.State.{Batch, Change, Connection, Given, Numbers, Plain, Running}
+use Rattle.mq_spec_state.specs.State.Change.{Place, Try, Undoubt, Hold, Leave, Release, SetSender, SetReceiver, Seize, Unseize, AddBatch, DropBatch, SetBound}
 use Rattle.mq_spec_state.specs.Reads.{batch_of, is_full}
 use Rattle.mq_spec_state.specs.Sizes.{need}
-use Rattle.mq_spec_state.specs.Changes.{apply, apply_all}
+use Rattle.mq_objects.specs.Names.{local_of}
+use Rattle.mq_spec_state.specs.Condition.{condition}
+use Rattle.mq_spec_state.specs.Changes.{apply, apply_all, try_if}
 use Rattle.mq_spec_state.specs.Steps.{Part, Step, do_all, do_part, logged}
 use Rattle.mq_spec_state.specs.Steps.Step.{Refuse, Do}
 use Rattle.mq_spec_manager.specs.Get.{expired_parts}
@@ -78,6 +80,9 @@ then_beside p q r a b = record {
 
 -- what ends ask
 abbrev pub is_of_end : Change → Bool
+is_of_end (Place queue message) = true
+is_of_end (Try queue priority) = true
+is_of_end (Undoubt ident) = true
 is_of_end (Hold which by_) = true
 is_of_end (Leave which) = true
 is_of_end (Release which counted) = true
@@ -99,6 +104,9 @@ parts_of_end [] = true
 parts_of_end (part ∷ parts) = all_of_end part.changes && parts_of_end parts
 
 change_beside : (c : Change) (p : Plain) → is_of_end c ≡ true → IsBeside p (apply c p)
+change_beside (Place queue message) p e = record { given = refl; running = refl; definitions = refl; connections = refl; moment = refl; numbers = refl }
+change_beside (Try queue priority) p e = bool_case (condition (local_of queue p.definitions) priority p) (λ t. IsBeside p (try_if t queue p)) (λ z. record { given = refl; running = refl; definitions = refl; connections = refl; moment = refl; numbers = refl }) (λ z. record { given = refl; running = refl; definitions = refl; connections = refl; moment = refl; numbers = refl })
+change_beside (Undoubt ident) p e = record { given = refl; running = refl; definitions = refl; connections = refl; moment = refl; numbers = refl }
 change_beside (Hold which by_) p e = record { given = refl; running = refl; definitions = refl; connections = refl; moment = refl; numbers = refl }
 change_beside (Leave which) p e = record { given = refl; running = refl; definitions = refl; connections = refl; moment = refl; numbers = refl }
 change_beside (Release which counted) p e = record { given = refl; running = refl; definitions = refl; connections = refl; moment = refl; numbers = refl }
@@ -168,7 +176,7 @@ settle_of_end e None p = refl
 settle_of_end e (Some settles.Commit) p = refl
 settle_of_end e (Some settles.Backout) p = refl
 
-release_of_end : (c : List ℕ) (o : Option Batch) (p : Plain) → parts_of_end (parts_of (release_of c o) ++ parts_of (leave c p)) ≡ true
+pub release_of_end : (c : List ℕ) (o : Option Batch) (p : Plain) → parts_of_end (parts_of (release_of c o) ++ parts_of (leave c p)) ≡ true
 release_of_end c None p = refl
 release_of_end c (Some b) p = refl
 
@@ -236,7 +244,7 @@ none_behind : (xs ys : List Part) → parts_add_none xs ≡ true → parts_add_n
 none_behind [] ys a b = b
 none_behind (x ∷ xs) ys a b = let z = and_both (all_add_none x.changes) (parts_add_none xs) a in ap (λ (t : Bool). t && parts_add_none (xs ++ ys)) z.0 ∙ none_behind xs ys z.1 b
 
-leave_adds : (c : List ℕ) (st : SenderState) (p : Plain) → parts_add_none (leave_if_stopped c st p) ≡ true
+pub leave_adds : (c : List ℕ) (st : SenderState) (p : Plain) → parts_add_none (leave_if_stopped c st p) ≡ true
 leave_adds c st p = bool_case (is_running st) (λ b. parts_add_none (if b then [] else parts_of (leave c p)) ≡ true) (λ e. refl) (λ e. refl)
 
 settle_adds : (e : SenderEnd) (o : Option Settle) (p : Plain) → parts_add_none (settle_parts_if e o p) ≡ true
@@ -244,7 +252,7 @@ settle_adds e None p = refl
 settle_adds e (Some settles.Commit) p = refl
 settle_adds e (Some settles.Backout) p = refl
 
-release_adds : (c : List ℕ) (o : Option Batch) (p : Plain) → parts_add_none (parts_of (release_of c o) ++ parts_of (leave c p)) ≡ true
+pub release_adds : (c : List ℕ) (o : Option Batch) (p : Plain) → parts_add_none (parts_of (release_of c o) ++ parts_of (leave c p)) ≡ true
 release_adds c None p = refl
 release_adds c (Some b) p = refl
 

@@ -8,3 +8,15 @@ pub mod Cabled
 pub mod Lining
 pub mod Owning
 pub mod Running
+pub mod Sending
+pub mod Landing
+pub mod Housing
+pub mod Keeping
+pub mod Receiving
+pub mod Stopping
+pub mod Restarting
+pub mod Timing
+pub mod Expiring
+pub mod Commanding
+pub mod Serving
+pub mod Turning

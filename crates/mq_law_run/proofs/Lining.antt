@@ -25,7 +25,7 @@ use Rattle.mq_law_run.proofs.Halves.{far_aside, near_aside}
 
 pub mem_at : {A : Type 0} (xs : List A) (i : ℕ) (x : A) → slice_get xs i ≡ Some x → Mem x xs
 mem_at [] i x e = absurd cc
-mem_at (y ∷ xs) zero x e = inl (sym (some_is y x e))
+mem_at {A = A} (y ∷ xs) zero x e = inl (sym (some_is y x e))
   where
     some_is : (a b : A) → Some a ≡ Some b → a ≡ b
     some_is a b e = cc

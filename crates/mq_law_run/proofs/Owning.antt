@@ -44,7 +44,9 @@ use Rattle.mq_law_one.proofs.Deltas.{own_quiet}
 use Rattle.mq_law_one.proofs.Happening.{entry_of}
 use Rattle.mq_law_one.proofs.Ordinary.{ordinary_happens}
 use Rattle.mq_law_one.proofs.Running.{Told_}
-use Rattle.mq_law_run.specs.Run.{Among, IsMoved, Moves, Stand, far_at, near_at}
+use Rattle.mq_history.specs.declared.story.ManagerPlaces.{ManagerPlaces}
+use Rattle.mq_law_rows.proofs.Lists.{bool_case, eqb_yes}
+use Rattle.mq_law_run.specs.Run.{Among, Housed, IsMoved, Moves, Stand, far_at, near_at}
 use Rattle.mq_law_run.proofs.Cabled.{same_batches}
 use Rattle.mq_law_run.proofs.Halves.{deed_quiet, far_own, near_own, own_elim}
 use Rattle.mq_law_run.proofs.Numbering.{IsRaised, own_raised}
@@ -66,6 +68,12 @@ none_frame o f e g = some_none (sym e ∙ g)
   where
     some_none : None ≡ Some f → ⊥
     some_none z = cc
+
+-- places are where they were
+pub housed_else : (m : ℕ) (l k : Ledger) (here : ManagerPlaces) → slice_get l.places m ≡ Some here → IsElse m l k → Housed l k
+housed_else m l k here at other a y e = bool_case (a == m) (λ t. (a == m) ≡ t → (w : ManagerPlaces) × (slice_get l.places a ≡ Some w))
+    (λ z f. (here, ap (slice_get l.places) (eqb_yes a m f) ∙ at))
+    (λ z f. (y, sym (other.places a f) ∙ e)) refl
 
 -- the other managers, as they were told
 pub others_told : (m a : ℕ) (r : Plain) (l k : Ledger) → (a == m) ≡ false → IsElse m l k → IsTold a r l → IsTold a r k
@@ -120,6 +128,7 @@ own_moves s hs p x z t is =
           (grows s (opening_managers s hs) (deeds p) (deeds_in m e.effect.delta) c.sender c.channel (z.xs c.sender c.channel) (z.ys c.sender c.channel) (z.told c n_));
       resolved = λ a_ c u f. told_before p x _ (z.resolved a_ c u ((λ i. sym j.1 i a_ c u) ∙ f));
       not_yet = λ a_ c u f. still_not s (opening_managers s hs) p x c u (none_committed c u m e.effect.delta quiet) (z.not_yet a_ c u ((λ i. sym j.1 i a_ c u) ∙ f));
+      owned = λ a_ c u f. z.owned a_ c u ((λ i. sym j.1 i a_ c u) ∙ f);
       at = subst (λ (y : Ledger). IsAt NoOther m b.now next y) whole b.at;
       known = b.known;
       others = λ c r_ ne o. subst (IsTold c r_) whole (others_told m c r_ l k ne b.other o);
@@ -127,4 +136,5 @@ own_moves s hs p x z t is =
       counted = subst (AreCountedAt next.manager.numbers.connections m) whole
           (counted_on n.manager.numbers.connections next.manager.numbers.connections m e r.choice l r.is (subst (λ w. IsNextNumber e.call w n.manager.numbers.connections next.manager.numbers.connections) (sym t.tells.reply) r.next) r.rises (z.counted m t.h t.is));
       cabled = same_batches s.cables m n.manager next.manager b.same.batches (z.cabled m t.h t.is);
+      housed = subst (Housed l) whole (housed_else m l k a.told.places a.told.placed b.other);
     }

@@ -32,7 +32,7 @@ use Rattle.mq_law_rows.proofs.Lists.{bool_case, here_yes}
 use Rattle.mq_law_seen.specs.Seen.{book_of}
 use Rattle.mq_law_events.specs.Tied.{IsNext}
 use Rattle.mq_law_turns.specs.Agreed.{IsToldOf}
-use Rattle.mq_law_turns.specs.Turns.{Scene, Turned, world_in}
+use Rattle.mq_law_turns.specs.Turns.{Scene, TurnedBy, world_in}
 use Rattle.mq_law_turns.proofs.Agreeing.{grows}
 use Rattle.mq_law_deeds.specs.Numbers.{AreCountedAt}
 use Rattle.mq_law_one.specs.Alone.{IsAt, IsState, NoOther}
@@ -114,18 +114,13 @@ told_all s ps old new k c y xs ys mine others h n = bool_case (here k h) (λ t. 
     (λ z f. let w = here_yes k.sender k.channel h.sender h.channel f in subst (λ m. IsToldOf s ps (old ++ new) m h.channel c y) (sym w.0) (subst (λ d. IsToldOf s ps (old ++ new) k.sender d c y) (sym w.1) mine))
     (λ z f. grows s ps old new h.sender h.channel (xs h.sender h.channel) (ys h.sender h.channel) (others h n)) refl
 
--- no operator has committed a unit with it
-pub operated_before : (z : Scene) (v : World) (c : Channel) (y : Past) (r : Turned z v c y) (a : ℕ) (d : List ℕ) (u : Luw) → r.ghost.operated a d u ≡ true → z.ghost.operated a d u ≡ true
-operated_before z v c y r a d u e = bool_case (is_here z.sender z.place.channel a d) (λ t. is_here z.sender z.place.channel a d ≡ t → z.ghost.operated a d u ≡ true)
+-- what an operator had committed, and what he commits with it
+pub operated_before : {o : Option Luw} (z : Scene) (v : World) (c : Channel) (y : Past) (r : TurnedBy o z v c y) (a : ℕ) (d : List ℕ) (u : Luw) → r.ghost.operated a d u ≡ true → (z.ghost.operated a d u ≡ true) ⊎ ((o ≡ Some u) × (a ≡ z.sender) × (d ≡ z.place.channel))
+operated_before {o} z v c y r a d u e = bool_case (is_here z.sender z.place.channel a d) (λ t. is_here z.sender z.place.channel a d ≡ t → (z.ghost.operated a d u ≡ true) ⊎ ((o ≡ Some u) × (a ≡ z.sender) × (d ≡ z.place.channel)))
     (λ w f.
     let q = here_yes z.sender z.place.channel a d f in
-    subst (λ m. z.ghost.operated m d u ≡ true) (sym q.0) (subst (λ b. z.ghost.operated z.sender b u ≡ true) (sym q.1)
-    (only (r.own u (subst (λ b. r.ghost.operated z.sender b u ≡ true) q.1 (subst (λ m. r.ghost.operated m d u ≡ true) q.0 e))))))
-    (λ w f. sym (r.operated a d u f) ∙ e) refl
-  where
-    none_some : None ≡ Some u → ⊥
-    none_some k = cc
-
-    only : (z.ghost.operated z.sender z.place.channel u ≡ true) ⊎ (None ≡ Some u) → z.ghost.operated z.sender z.place.channel u ≡ true
-    only (inl k) = k
-    only (inr k) = absurd (none_some k)
+    elim (r.own u (subst (λ b. r.ghost.operated z.sender b u ≡ true) q.1 (subst (λ m. r.ghost.operated m d u ≡ true) q.0 e))) [
+      inl old ↦ inl (subst (λ m. z.ghost.operated m d u ≡ true) (sym q.0) (subst (λ b. z.ghost.operated z.sender b u ≡ true) (sym q.1) old))
+      | inr new ↦ inr (new, q.0, q.1)
+    ])
+    (λ w f. inl (sym (r.operated a d u f) ∙ e)) refl

@@ -108,6 +108,7 @@ keeps_on s hs p x h z is v = record {
   told = v.told;
   resolved = v.resolved;
   not_yet = v.not_yet;
+  owned = v.owned;
   at = λ m k e. bool_case (m == x.manager) (λ t. (m == x.manager) ≡ t → IsAt NoOther m v.given (node_after s m (p ++ x ∷ []) k) (ledger (opening_ledger s hs) (p ++ x ∷ [])))
       (λ q f. let y : m ≡ x.manager = eqb_yes m x.manager f in
       subst (λ (n : Node). IsAt NoOther m v.given n (ledger (opening_ledger s hs) (p ++ x ∷ []))) (sym (here_node s p x k m y ∙ ap (λ (g : History). (done_by x.entry (node_after s x.manager p g)).next) (one_history hs x.manager m h k y is e)))
@@ -125,6 +126,7 @@ keeps_on s hs p x h z is v = record {
       subst (λ (n : Node). AreCabled s.cables m n.manager) (sym (here_node s p x k m y ∙ ap (λ (g : History). (done_by x.entry (node_after s x.manager p g)).next) (one_history hs x.manager m h k y is e)))
       (subst (λ (w : ℕ). AreCabled s.cables w (done_by x.entry (node_after s x.manager p h)).next.manager) (sym y) v.cabled))
       (λ q f. subst (λ (n : Node). AreCabled s.cables m n.manager) (sym (else_node s p x k m f)) (z.cabled m k e)) refl;
+  housed = λ a y e. let w = v.housed a y e in z.housed a w.0 w.1;
 }
   where
     mine : (m : ℕ) → (m == x.manager) ≡ true → m ≡ x.manager

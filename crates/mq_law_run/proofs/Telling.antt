@@ -64,7 +64,7 @@ or_right : (a b : Bool) → (a || b) ≡ false → b ≡ false
 or_right true b e = absurd cc
 or_right false b e = e
 
-any_none : {A : Type 0} (f : A → Bool) (xs ys : List A) → list_any f xs ≡ false → list_any f ys ≡ false → list_any f (xs ++ ys) ≡ false
+pub any_none : {A : Type 0} (f : A → Bool) (xs ys : List A) → list_any f xs ≡ false → list_any f ys ≡ false → list_any f (xs ++ ys) ≡ false
 any_none f [] ys e g = g
 any_none f (x ∷ xs) ys e g = or_none (f x) (list_any f (xs ++ ys)) (or_left (f x) (list_any f xs) e) (any_none f xs ys (or_right (f x) (list_any f xs) e) g)
 

@@ -16,6 +16,7 @@ ghost use Rattle.mq_sender.specs.declared.turns.SenderDoes.TheVariants.{Expire};
 ghost use Rattle.mq_receiver.specs.declared.turns.ReceiverDoes.{ReceiverDoes};
 ghost use Rattle.mq_sender.specs.Table.{is_idle, is_sending, sender_next};
 ghost use Rattle.mq_receiver.specs.declared.turns.ReceiverDoes.TheVariants.{Place};
+ghost use Rattle.mq_receiver.specs.declared.turns.ReceiverOut.TheVariants.{Done};
 ghost use Rattle.mq_calls.specs.declared.agents.Note.TheVariants as notes;
 ghost use Rattle.mq_history.specs.declared.scenario.CableLine.{CableLine};
 ghost use Rattle.mq_history.specs.declared.scenario.Scenario.{Scenario};
@@ -70,7 +71,7 @@ pub fn a_senders_turn_keeps_the_facts()
 pub fn a_receivers_turn_keeps_the_facts()
     ensures { (z : Scene) (n : Node) (x : Channel) (y : Past) (l : Ledger) (stamp : ℕ) (seen : Seen) → slice_get z.managers z.receiver ≡ Some n.manager → TakesAs z.place n x → Facts x y
         → IsJoint (world_in z) z.ghost z.book z.sender z.receiver z.place.channel x y → z.book ≡ book_of l → SeenIn seen x.out
-        → ((u : Luw) → receiver_does (taking_turn z.place stamp seen x.receiver x.kept n.manager) x ≡ Place u → (y.near.undone u ≡ false) × IsReady z n.manager l)
+        → ((u : Luw) → receiver_does (taking_turn z.place stamp seen x.receiver x.kept n.manager) x ≡ Place u → (taking_turn z.place stamp seen x.receiver x.kept n.manager).outcome ≡ Done → (y.near.undone u ≡ false) × IsReady z n.manager l)
         → EachTaken z n.manager l (receiver_deed stamp (receiver_of z.place x.receiver x.kept) seen n) (receiver_turn (taking_turn z.place stamp seen x.receiver x.kept n.manager) x) y }
 {}
 
