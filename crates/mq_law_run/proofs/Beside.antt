@@ -1,13 +1,10 @@
 -- What ends of channels ask of their manager leaves all beside rows and channels: definitions, connections, numbers, the moment.
-use Rattle.std.proofs.Common.{ℕ, ◌≡◌, ◌≢◌, Bool, true, false, List, [], ◌∷◌, ◌++◌, refl, ap, sym, subst, ◌∙◌, inl, inr}
-use Rattle.std.specs.Prelude.{Option, Some, None, if◌then◌else◌, ◌==◌, ◌&&◌, ◌||◌, ◌≤◌, not, nat_lt, slice_get}
+use Rattle.std.proofs.Common.{ℕ, ◌≡◌, ◌≢◌, Bool, true, false, List, [], ◌∷◌, ◌++◌, refl, ap, sym, ◌∙◌, inl, inr}
+use Rattle.std.specs.Prelude.{Option, Some, None, if◌then◌else◌, ◌==◌, ◌&&◌, ◌||◌, nat_lt}
 use Rattle.mq_message.specs.declared.message.Ident.{Ident}
-use Rattle.mq_message.specs.declared.message.Message.{Message}
-use Rattle.mq_codes.specs.declared.reason.Reason.{Reason}
 use Rattle.mq_frame.specs.declared.frame.Seen.{Seen}
 use Rattle.mq_queue.specs.Queues.{AreDistinct, Lacks}
 use Rattle.mq_queue.specs.declared.row.Row.{Row}
-use Rattle.mq_sync.specs.declared.unit.Unit.{Unit as Luw}
 use Rattle.mq_sync.specs.declared.unit.Settle.{Settle}
 use Rattle.mq_sync.specs.declared.unit.Settle.TheVariants as settles
 use Rattle.mq_sender.specs.declared.state.SenderState.{SenderState}
@@ -18,22 +15,20 @@ use Rattle.mq_sender.specs.After.{number_sent}
 use Rattle.mq_receiver.specs.declared.turns.ReceiverDoes.{ReceiverDoes}
 use Rattle.mq_receiver.specs.declared.turns.ReceiverDoes.TheVariants as takes
 use Rattle.mq_calls.specs.declared.records.LogRecord.{LogRecord}
-use Rattle.mq_history.specs.declared.calls.Reply.{Reply}
 use Rattle.mq_history.specs.declared.calls.Reply.TheVariants as replies
-use Rattle.mq_spec_state.specs.State.{Batch, Change, Connection, Given, Numbers, Plain, Running}
+use Rattle.mq_spec_state.specs.State.{Batch, Change, Given, Numbers, Plain}
 use Rattle.mq_spec_state.specs.State.Change.{Place, Try, Undoubt, Hold, Leave, Release, SetSender, SetReceiver, Seize, Unseize, AddBatch, DropBatch, SetBound}
 use Rattle.mq_spec_state.specs.Reads.{batch_of, is_full}
 use Rattle.mq_spec_state.specs.Sizes.{need}
 use Rattle.mq_objects.specs.Names.{local_of}
 use Rattle.mq_spec_state.specs.Condition.{condition}
 use Rattle.mq_spec_state.specs.Changes.{apply, apply_all, try_if}
-use Rattle.mq_spec_state.specs.Steps.{Part, Step, do_all, do_part, logged}
-use Rattle.mq_spec_state.specs.Steps.Step.{Refuse, Do}
+use Rattle.mq_spec_state.specs.Steps.{Part, do_all, do_part, logged}
 use Rattle.mq_spec_manager.specs.Get.{expired_parts}
-use Rattle.mq_spec_agents.specs.Words.{expired_rows, is_unborn, leave, prepare_of, prepared_record, queue_of_sender, release_of}
+use Rattle.mq_spec_agents.specs.Words.{expired_rows, leave, prepare_of, prepared_record, queue_of_sender, release_of}
 use Rattle.mq_spec_node.specs.Node.{Node, ReceiverEnd, SenderEnd}
 use Rattle.mq_spec_node.specs.Deeds.{Deed, parts_of}
-use Rattle.mq_spec_node.specs.Receivers.{place_deed, receiver_deed_by}
+use Rattle.mq_spec_node.specs.Receivers.{receiver_deed_by}
 use Rattle.mq_spec_node.specs.Senders.{after_timeout, leave_if_stopped, prepare_deed, sender_deed_by, settle_parts_if, timeout_deed}
 use Rattle.mq_spec_network.specs.Ledger.{Ledger}
 use Rattle.mq_spec_network.specs.Story.{Mem}

@@ -1,6 +1,6 @@
 -- Each batch of a manager is found by its channel, and is of a cable that it sends.
 use Rattle.std.proofs.Common.{ℕ, ◌≡◌, ◌⊎◌, Bool, true, false, not, List, [], ◌∷◌, refl, ap, sym, subst, ◌∙◌, inl, inr}
-use Rattle.std.specs.Prelude.{Option, Some, None, if◌then◌else◌, ◌&&◌, filter}
+use Rattle.std.specs.Prelude.{Option, Some, None, if◌then◌else◌, filter}
 use Rattle.std.specs.Str.{bytes_eq}
 use Rattle.mq_calls.specs.declared.records.LogRecord.{LogRecord}
 use Rattle.mq_calls.specs.declared.state.Batch.{Batch}
@@ -64,13 +64,13 @@ none_some b e = cc
 pub add_cabled : (ks : List CableLine) (m : ℕ) (b : Batch) (p : Plain) → batch_of b.channel p.channels.batches ≡ None → ((k : CableLine) × Mem k ks × (k.sender ≡ m) × (k.channel ≡ b.channel)) → AreCabled ks m p → AreCabled ks m (apply (AddBatch b) p)
 add_cabled ks m b p free there h = record {
   once = λ x n. batch_set x.channel b p.channels.batches ∙ elim (mem_set b p.channels.batches x n) [
-    inl e ↦ ap (λ (y : Batch). if bytes_eq y.channel b.channel then Some b else batch_of y.channel p.channels.batches) e ∙ ap (λ t. if t then Some b else batch_of b.channel p.channels.batches) (name_self b.channel) ∙ ap (λ (y : Batch). Some y) (sym e)
+    | inl e ↦ ap (λ (y : Batch). if bytes_eq y.channel b.channel then Some b else batch_of y.channel p.channels.batches) e ∙ ap (λ t. if t then Some b else batch_of b.channel p.channels.batches) (name_self b.channel) ∙ ap (λ (y : Batch). Some y) (sym e)
     | inr k ↦ bool_case (bytes_eq x.channel b.channel) (λ t. bytes_eq x.channel b.channel ≡ t → (if t then Some b else batch_of x.channel p.channels.batches) ≡ Some x)
         (λ z e. absurd (none_some x (sym free ∙ ap (λ c. batch_of c p.channels.batches) (sym (name_is x.channel b.channel e)) ∙ h.once x k)))
         (λ z e. h.once x k) refl
   ];
   line = λ x n. elim (mem_set b p.channels.batches x n) [
-    inl e ↦ subst (λ (y : Batch). (k : CableLine) × Mem k ks × (k.sender ≡ m) × (k.channel ≡ y.channel)) (sym e) there
+    | inl e ↦ subst (λ (y : Batch). (k : CableLine) × Mem k ks × (k.sender ≡ m) × (k.channel ≡ y.channel)) (sym e) there
     | inr k ↦ h.line x k
   ];
 }

@@ -5,12 +5,10 @@ use Rattle.std.specs.Str.{bytes_eq}
 use Rattle.mq_message.specs.declared.message.Ident.{Ident}
 use Rattle.mq_message.specs.declared.message.Message.{Message}
 use Rattle.mq_frame.specs.declared.frame.Frame.{Frame}
-use Rattle.mq_sync.specs.declared.data.End.TheVariants as end_kinds
 use Rattle.mq_sync.specs.declared.data.SenderData.{SenderData}
 use Rattle.mq_sync.specs.Settlement.{sender_or}
 use Rattle.mq_sender.specs.declared.state.Kept.{Kept}
 use Rattle.mq_sender.specs.States as senders
-use Rattle.mq_calls.specs.declared.agents.Note.TheVariants as notes
 use Rattle.mq_calls.specs.declared.agents.SeizeFault.{SeizeFault}
 use Rattle.mq_calls.specs.declared.agents.SeizeFault.TheVariants as seize_faults
 use Rattle.mq_calls.specs.declared.choices.Choice.TheVariants.{Runs}
@@ -25,8 +23,6 @@ use Rattle.mq_history.specs.declared.acts.Acted.{Acted}
 use Rattle.mq_history.specs.declared.acts.Acted.TheVariants as acted
 use Rattle.mq_history.specs.declared.acts.OpRefusal.{OpRefusal}
 use Rattle.mq_history.specs.declared.acts.OpRefusal.TheVariants as reasons
-use Rattle.mq_history.specs.declared.calls.Actor.{Actor}
-use Rattle.mq_history.specs.declared.calls.Actor.TheVariants as actors
 use Rattle.mq_history.specs.declared.calls.Call.TheVariants as calls
 use Rattle.mq_history.specs.declared.calls.Chance.TheVariants as chances
 use Rattle.mq_history.specs.declared.calls.Entry.{Entry}
@@ -73,7 +69,7 @@ use Rattle.mq_law_seen.specs.Seen.{book_of, world_of}
 use Rattle.mq_law_events.specs.Tied.{IsNext}
 use Rattle.mq_law_story.proofs.Weaving.{ledger_step}
 use Rattle.mq_law_turns.specs.Agreed.{IsToldOf}
-use Rattle.mq_law_turns.specs.Turns.{EachSound, IsAt, Scene, Turned, parts_for_others}
+use Rattle.mq_law_turns.specs.Turns.{IsAt, Scene, Turned, parts_for_others}
 use Rattle.mq_law_turns.proofs.Agreeing.{released_tells}
 use Rattle.mq_law_turns.proofs.Operating.{numbers, starts, still, stops}
 use Rattle.mq_law_turns.proofs.OperatorSounds.{operates}
@@ -164,22 +160,25 @@ Commands z n c y d = (step : NearStep) × IsCommand z n c y d step
 
 -- what is refused changes nothing
 refuses : (z : Scene) (n : Node) (c : Channel) (y : Past) (reason : OpRefusal) → IsAt z n c y → is_up n.manager.running ≡ true → Commands z n c y (refused reason n.own)
-refuses z n c y reason a up = (NearStep.Rest, record {
-  may = tt;
-  turned = λ rs h. still z n c c y n.manager rs a refl (record { queues = refl; connections = refl; batches = refl; doubts = λ d. refl; near = record { given = refl; receivers = λ d. refl } }) h;
-  sent = rests_sent z.place n c (refused reason n.own) a.sends up (told_is_quiet (replies.Acted (acted.Op reason)) n.own) (λ e. (a.sends.batched e).reads);
-  ends = refl;
-  adds = refl;
-  told = refl;
-  answer = acted.Op reason;
-  reply = refl;
-  is = refl;
-  pushed = refl;
-  tells = λ ps ds h. h;
-  near = λ v e f. (refl, refl);
-  others = λ v f. refl;
-  far = λ v e. (refl, refl);
-})
+refuses z n c y reason a up = (
+  NearStep.Rest,
+  record {
+    may = tt;
+    turned = λ rs h. still z n c c y n.manager rs a refl (record { queues = refl; connections = refl; batches = refl; doubts = λ d. refl; near = record { given = refl; receivers = λ d. refl } }) h;
+    sent = rests_sent z.place n c (refused reason n.own) a.sends up (told_is_quiet (replies.Acted (acted.Op reason)) n.own) (λ e. (a.sends.batched e).reads);
+    ends = refl;
+    adds = refl;
+    told = refl;
+    answer = acted.Op reason;
+    reply = refl;
+    is = refl;
+    pushed = refl;
+    tells = λ ps ds h. h;
+    near = λ v e f. (refl, refl);
+    others = λ v f. refl;
+    far = λ v e. (refl, refl);
+  },
+)
 
 -- START
 seizes : (z : Scene) (n : Node) (c : Channel) (y : Past) (s : Seizure) (o : Option SeizeFault) → IsAt z n c y → is_up n.manager.running ≡ true → senders.is_running c.sender.state ≡ false
@@ -188,28 +187,30 @@ seizes z n c y s (Some fault) a up off = refuses z n c y (seize_refusal fault) a
 seizes z n c y s None a up off =
     let w : Where = z.place in
     let h : SendsAs w n c = a.sends in
-    let parts : List Part = silent (Seize s ∷ []) ∷ [] in
-    (NearStep.Start (limits_here w.channel n), record {
-      may = off;
-      turned = λ rs g. starts z n c y (limits_here w.channel n) s rs a g;
-      sent = leaves w n (start_seized (sender_of w c.sender) (Do tt parts) n) c c.sends (senders.started (senders.kept_of (Some c.sends)) (limits_here w.channel n)) c.batch c.out up
-          (ends_set w n _ c.sender h.here ∙ ap (λ (k : Kept). Some (Sends (sender_of w (senders.started k (limits_here w.channel n))))) (kept_or (sender_data w.channel n.manager) ∙ sym h.data_))
-          (h.data_ ∙ ap (λ (o : Option SenderData). told_sends (sender_or o)) (sym (sender_parts_quiet w.channel parts (sender_data w.channel n.manager) refl)))
-          (λ e. absurd cc)
-          (λ e. batch_parts_quiet w.channel parts _ refl ∙ h.unbatched (resting_apart c.sender.state off))
-          refl;
-      ends = refl;
-      adds = refl;
-      told = refl;
-      answer = acted.Done;
-      reply = refl;
-      is = refl;
-      pushed = refl;
-      tells = λ ps ds i. record { undone = i.undone; last = i.last };
-      near = λ v e f. (set_apart v _ n e, refl);
-      others = λ v f. refl;
-      far = λ v e. (set_far v _ n e, refl);
-    })
+    let parts : List Part = silent (Seize s ∷ []) ∷ [] in (
+      NearStep.Start (limits_here w.channel n),
+      record {
+        may = off;
+        turned = λ rs g. starts z n c y (limits_here w.channel n) s rs a g;
+        sent = leaves w n (start_seized (sender_of w c.sender) (Do tt parts) n) c c.sends (senders.started (senders.kept_of (Some c.sends)) (limits_here w.channel n)) c.batch c.out up
+            (ends_set w n _ c.sender h.here ∙ ap (λ (k : Kept). Some (Sends (sender_of w (senders.started k (limits_here w.channel n))))) (kept_or (sender_data w.channel n.manager) ∙ sym h.data_))
+            (h.data_ ∙ ap (λ (o : Option SenderData). told_sends (sender_or o)) (sym (sender_parts_quiet w.channel parts (sender_data w.channel n.manager) refl)))
+            (λ e. absurd cc)
+            (λ e. batch_parts_quiet w.channel parts _ refl ∙ h.unbatched (resting_apart c.sender.state off))
+            refl;
+        ends = refl;
+        adds = refl;
+        told = refl;
+        answer = acted.Done;
+        reply = refl;
+        is = refl;
+        pushed = refl;
+        tells = λ ps ds i. record { undone = i.undone; last = i.last };
+        near = λ v e f. (set_apart v _ n e, refl);
+        others = λ v f. refl;
+        far = λ v e. (set_far v _ n e, refl);
+      },
+    )
 
 pub starts_so : (z : Scene) (n : Node) (c : Channel) (y : Past) → IsAt z n c y → is_up n.manager.running ≡ true → Commands z n c y (start_end (Some (Sends (sender_of z.place c.sender))) n)
 starts_so z n c y a up =
@@ -227,54 +228,58 @@ pub stops_so : (z : Scene) (n : Node) (c : Channel) (y : Past) → IsAt z n c y 
 stops_so z n c y a up =
     let w : Where = z.place in
     let h : SendsAs w n c = a.sends in
-    let o : Option Batch = batch_of w.channel n.manager.channels.batches in
-    (NearStep.Stop, record {
-      may = tt;
-      turned = λ rs g. stops z n c y rs a g;
-      sent = leaves w n (stop_end (Some (Sends (sender_of w c.sender))) n) c c.sends (senders.stopped c.sender) c.batch c.out up
-          (ends_set w n _ c.sender h.here)
-          (h.data_ ∙ ap (λ (d : Option SenderData). told_sends (sender_or d)) (sym (releases_data w.channel o n.manager (sender_data w.channel n.manager))))
-          (λ e. absurd cc)
-          (λ e. releases_batch w.channel o n.manager)
-          refl;
-      ends = release_of_end w.channel o n.manager;
-      adds = release_adds w.channel o n.manager;
-      told = release_told w.channel o n.manager;
-      answer = acted.Done;
-      reply = refl;
-      is = refl;
-      pushed = refl;
-      tells = λ ps ds i. released_tells z.scenario ps ds z.sender w.channel c (sender_stopped c) y refl i;
-      near = λ v e f. (set_apart v _ n e, release_apart v.channel w.channel o n.manager f);
-      others = λ v f. parts_behind v.channel (parts_of (release_batch w.channel n.manager)) (parts_of (leave w.channel n.manager)) (released_others v.channel w.channel o) refl;
-      far = λ v e. (set_far v _ n e, release_far v.channel w.channel o n.manager);
-    })
+    let o : Option Batch = batch_of w.channel n.manager.channels.batches in (
+      NearStep.Stop,
+      record {
+        may = tt;
+        turned = λ rs g. stops z n c y rs a g;
+        sent = leaves w n (stop_end (Some (Sends (sender_of w c.sender))) n) c c.sends (senders.stopped c.sender) c.batch c.out up
+            (ends_set w n _ c.sender h.here)
+            (h.data_ ∙ ap (λ (d : Option SenderData). told_sends (sender_or d)) (sym (releases_data w.channel o n.manager (sender_data w.channel n.manager))))
+            (λ e. absurd cc)
+            (λ e. releases_batch w.channel o n.manager)
+            refl;
+        ends = release_of_end w.channel o n.manager;
+        adds = release_adds w.channel o n.manager;
+        told = release_told w.channel o n.manager;
+        answer = acted.Done;
+        reply = refl;
+        is = refl;
+        pushed = refl;
+        tells = λ ps ds i. released_tells z.scenario ps ds z.sender w.channel c (sender_stopped c) y refl i;
+        near = λ v e f. (set_apart v _ n e, release_apart v.channel w.channel o n.manager f);
+        others = λ v f. parts_behind v.channel (parts_of (release_batch w.channel n.manager)) (parts_of (leave w.channel n.manager)) (released_others v.channel w.channel o) refl;
+        far = λ v e. (set_far v _ n e, release_far v.channel w.channel o n.manager);
+      },
+    )
 
 -- RESET
 numbered : (z : Scene) (n : Node) (c : Channel) (y : Past) (seqnum : ℕ) → IsAt z n c y → is_up n.manager.running ≡ true → senders.is_running c.sender.state ≡ false → Commands z n c y (reset_deed z.place seqnum n)
 numbered z n c y seqnum a up off =
     let w : Where = z.place in
-    let h : SendsAs w n c = a.sends in
-    (NearStep.Number (seqnum - 1), record {
-      may = off;
-      turned = λ rs g. numbers z n c y (seqnum - 1) rs a g;
-      sent = leaves w n (reset_deed w seqnum n) c (record c.sends { last = seqnum - 1; force = true }) c.sender c.batch c.out up h.here
-          (ap (λ (k : Kept). record k { last = seqnum - 1; force = true }) h.data_ ∙ found_data w.channel (record (sends_at w.channel n.manager) { last = seqnum - 1; force = true }) (sender_data w.channel n.manager))
-          (λ e. absurd (cc (e, resting_apart c.sender.state off)))
-          (λ e. h.unbatched e)
-          refl;
-      ends = refl;
-      adds = refl;
-      told = refl;
-      answer = acted.Done;
-      reply = refl;
-      is = refl;
-      pushed = refl;
-      tells = λ ps ds i. record { undone = i.undone; last = i.last };
-      near = λ v e f. (refl, ap (λ (b : Bool). (not b && true) && true) f);
-      others = λ v f. refl;
-      far = λ v e. (refl, refl);
-    })
+    let h : SendsAs w n c = a.sends in (
+      NearStep.Number (seqnum - 1),
+      record {
+        may = off;
+        turned = λ rs g. numbers z n c y (seqnum - 1) rs a g;
+        sent = leaves w n (reset_deed w seqnum n) c (record c.sends { last = seqnum - 1; force = true }) c.sender c.batch c.out up h.here
+            (ap (λ (k : Kept). record k { last = seqnum - 1; force = true }) h.data_ ∙ found_data w.channel (record (sends_at w.channel n.manager) { last = seqnum - 1; force = true }) (sender_data w.channel n.manager))
+            (λ e. absurd (cc (e, resting_apart c.sender.state off)))
+            (λ e. h.unbatched e)
+            refl;
+        ends = refl;
+        adds = refl;
+        told = refl;
+        answer = acted.Done;
+        reply = refl;
+        is = refl;
+        pushed = refl;
+        tells = λ ps ds i. record { undone = i.undone; last = i.last };
+        near = λ v e f. (refl, ap (λ (b : Bool). (not b && true) && true) f);
+        others = λ v f. refl;
+        far = λ v e. (refl, refl);
+      },
+    )
 
 pub numbers_so : (z : Scene) (n : Node) (c : Channel) (y : Past) (seqnum : ℕ) → IsAt z n c y → is_up n.manager.running ≡ true → Commands z n c y (reset_end seqnum (Some (Sends (sender_of z.place c.sender))) n)
 numbers_so z n c y seqnum a up =

@@ -1,33 +1,18 @@
 -- A turn of a sender's end that removes expired rows, as a move of the network.
-use Rattle.std.proofs.Common.{ℕ, ◌≡◌, Bool, true, false, List, [], ◌∷◌, ◌++◌, refl, ap, sym, subst, ◌∙◌, inl, inr, map, take}
+use Rattle.std.proofs.Common.{ℕ, ◌≡◌, true, List, [], ◌∷◌, ◌++◌, refl, ap, sym, subst, ◌∙◌, inl, map}
 use Rattle.std.specs.Prelude.{Option, Some, None, ◌==◌, if◌then◌else◌, slice_get}
-use Rattle.std.specs.Str.{bytes_eq}
-use Rattle.mq_message.specs.declared.message.Ident.{Ident}
-use Rattle.mq_message.specs.declared.message.Message.{Message}
-use Rattle.mq_message.specs.declared.place.Holder.TheVariants as holders
 use Rattle.mq_frame.specs.declared.frame.Frame.{Frame}
 use Rattle.mq_frame.specs.declared.frame.Seen.{Seen}
 use Rattle.mq_sync.specs.declared.unit.Unit.{Unit as Luw}
-use Rattle.mq_sync.specs.Units.{unit_named}
 use Rattle.mq_sync.specs.declared.data.Stock.{Stock}
-use Rattle.mq_sender.specs.declared.state.Sender.{Sender}
-use Rattle.mq_sender.specs.declared.state.SenderState.{SenderState}
-use Rattle.mq_sender.specs.declared.state.SenderState.TheVariants.{Sending}
 use Rattle.mq_sender.specs.declared.turns.SenderDoes.{SenderDoes}
 use Rattle.mq_sender.specs.declared.turns.SenderDoes.TheVariants as does
-use Rattle.mq_sender.specs.declared.turns.SenderOut.TheVariants as outs
-use Rattle.mq_sender.specs.After.{sender_after}
-use Rattle.mq_sender.specs.Table.{is_idle, is_sending, sender_next}
+use Rattle.mq_sender.specs.Table.{is_idle, sender_next}
 use Rattle.mq_calls.specs.declared.choices.Choice.TheVariants.{Runs}
-use Rattle.mq_calls.specs.declared.agents.Note.TheVariants as notes
 use Rattle.mq_calls.specs.declared.deltas.Did.{Did}
 use Rattle.mq_calls.specs.declared.deltas.Did.TheVariants as did
-use Rattle.mq_calls.specs.declared.state.Batch.{Batch}
-use Rattle.mq_history.specs.declared.calls.Actor.{Actor}
 use Rattle.mq_history.specs.declared.calls.Actor.TheVariants as actors
-use Rattle.mq_history.specs.declared.calls.Call.{Call}
 use Rattle.mq_history.specs.declared.calls.Call.TheVariants as calls
-use Rattle.mq_history.specs.declared.calls.Entry.{Entry}
 use Rattle.mq_history.specs.declared.calls.Reply.{Reply}
 use Rattle.mq_history.specs.declared.calls.Reply.TheVariants as replies
 use Rattle.mq_history.specs.declared.history.History.{History}
@@ -36,73 +21,55 @@ use Rattle.mq_history.specs.declared.scenario.Scenario.{Scenario}
 use Rattle.mq_history.specs.Scenarios.{IsScenario}
 use Rattle.mq_spec_state.specs.State.{Plain, Running, Given}
 use Rattle.mq_spec_state.specs.State.Running.{Up}
-use Rattle.mq_spec_state.specs.State.Which.{Among as Named}
-use Rattle.mq_spec_state.specs.State.Change.{AddBatch, Hold}
-use Rattle.mq_spec_state.specs.Reads.{batch_of, free_rows, is_up, stored}
-use Rattle.mq_spec_state.specs.Changes.{apply}
+use Rattle.mq_spec_state.specs.Reads.{is_up, stored}
 use Rattle.mq_spec_state.specs.Steps.{Part, delta_of, do_all}
-use Rattle.mq_spec_agents.specs.Words.{hold_batch, queue_of_sender, stock, expired_rows, leave}
+use Rattle.mq_spec_agents.specs.Words.{queue_of_sender, stock, expired_rows, leave}
 use Rattle.mq_spec_node.specs.Node.{Node, SenderEnd}
 use Rattle.mq_spec_node.specs.Deeds.{Deed, Done, done, parts_of}
 use Rattle.mq_spec_node.specs.Senders.{leave_if_stopped, sender_deed, sender_deed_by}
-use Rattle.mq_spec_network.specs.Conflict.{deeds, deeds_in, is_committed}
+use Rattle.mq_spec_network.specs.Conflict.{deeds, deeds_in}
 use Rattle.mq_spec_network.specs.Ledger as ledgers
 use Rattle.mq_spec_network.specs.Ledger.{Ledger, ledger, posted, take_all_gone}
 use Rattle.mq_spec_network.specs.Order.{unit_received}
 use Rattle.mq_spec_network.specs.Standing.{managers_at, node_after, opening_ledger, opening_managers}
 use Rattle.mq_spec_network.specs.Story.{Line, Mem}
-use Rattle.mq_law_channel.specs.Channel.{Channel, Facts, Past}
+use Rattle.mq_law_channel.specs.Channel.{Channel, Past}
 use Rattle.mq_law_channel.specs.Turns.{SeenIn, SenderTurn, sender_past, sender_turn, past_turned}
-use Rattle.mq_law_manager.specs.Facts.{IsSound}
-use Rattle.mq_law_node.specs.Beside.{AsideFar, AsideNear}
 use Rattle.mq_law_node.specs.Ends.{EachSent, Guard, SendsAs, Sent, Where, offering, sender_of, turn_of, out_of}
-use Rattle.mq_law_node.specs.Moves.{NearMay, NearStep, near_does, near_past}
+use Rattle.mq_law_node.specs.Moves.{NearStep}
 use Rattle.mq_law_node.specs.Nodes.{NearAt}
-use Rattle.mq_law_node.proofs.Aside.{EachApart, asides, turns_apart}
-use Rattle.mq_law_node.proofs.FarAside.{EachFarApart, far_asides, senders_far}
 use Rattle.mq_law_node.proofs.Freezing.{near_far}
 use Rattle.mq_law_node.proofs.Moving.{near_keeps}
 use Rattle.mq_law_node.proofs.Pairs.{offering_among}
 use Rattle.mq_law_node.proofs.SenderTable.{may_turn, turns_as}
 use Rattle.mq_law_node.proofs.SenderTurns.{guarded}
 use Rattle.mq_law_node.proofs.Standing.{running_done_all}
-use Rattle.mq_law_rows.specs.Families.{put_at, is_here}
+use Rattle.mq_law_rows.specs.Families.{put_at}
 use Rattle.mq_law_rows.proofs.Lists.{bool_case, eqb_self, here_self, true_false, here_yes}
 use Rattle.mq_law_seen.specs.Seen.{book_of, world_of}
 use Rattle.mq_law_story.proofs.Weaving.{ledger_step}
 use Rattle.mq_law_turns.specs.Agreed.{IsToldOf}
-use Rattle.mq_law_turns.specs.Turns.{EachForOthers, EachPosted, EachSound, EachTurned, Scene, TurnedBy, is_expiry, AreBegun, EachFollowed}
+use Rattle.mq_law_turns.specs.Turns.{is_expiry, AreBegun, EachFollowed}
 use Rattle.mq_law_turns.proofs.Agreeing.{grows, sender_tells}
-use Rattle.mq_law_turns.proofs.Posting.{EachPassed, posts, receives_nothing, sender_passes, expires}
-use Rattle.mq_law_turns.proofs.Reading.{senders_others, stays}
-use Rattle.mq_law_turns.proofs.Sending as sending
-use Rattle.mq_law_turns.proofs.Sounds.{senders_sound}
-use Rattle.mq_law_cables.specs.Joints.{AreCabled, AreJoint}
-use Rattle.mq_law_cables.proofs.Differing.{leads}
-use Rattle.mq_law_cables.proofs.Keeping.{joint_of, turned_joint}
-use Rattle.mq_law_deeds.proofs.Resting.{apart_batch}
-use Rattle.mq_law_deeds.proofs.Sounding.{behind}
+use Rattle.mq_law_turns.proofs.Posting.{expires}
+use Rattle.mq_law_cables.specs.Joints.{AreJoint}
 use Rattle.mq_law_one.proofs.Running.{Told_}
-use Rattle.mq_law_run.specs.Run.{Among, IsMoved, Moves, MovesTo, Stand, far_at, near_at}
-use Rattle.mq_law_run.proofs.Beside.{EachAddsNone, EachOfEnd, IsBeside, distinct_of, is_adding, leave_adds, parts_beside, senders_add, senders_of_end}
-use Rattle.mq_law_run.proofs.Cabled.{add_cabled, parts_cabled, same_batches}
+use Rattle.mq_law_run.specs.Run.{IsMoved, Moves, Stand, far_at, near_at}
+use Rattle.mq_law_run.proofs.Beside.{distinct_of}
 use Rattle.mq_law_run.proofs.Lining.{all_moved, else_channel, else_index, here, left_aside, mem_at, same_cable}
-use Rattle.mq_law_run.proofs.Running.{IsRun, beside_at, beside_counted, move_to, operated_before, run_next, scene, sends_here, sound_at, takes_here, told_all}
+use Rattle.mq_law_run.proofs.Running.{IsRun, move_to, run_next, sends_here, takes_here, told_all}
 use Rattle.mq_law_run.proofs.Telling.{deeds_more, none_committed, still_not, told_before}
 use Rattle.mq_calls.specs.declared.deltas.Why.TheVariants as whys
 use Rattle.mq_queue.specs.declared.row.Row.{Row}
 use Rattle.mq_spec_manager.specs.Get.{expired_parts}
 use Rattle.mq_sender.specs.States.{is_running}
-use Rattle.mq_sender.specs.declared.turns.SenderOut.{SenderOut}
 use Rattle.mq_sync.specs.declared.data.ReceiverData.{ReceiverData}
 use Rattle.mq_law_rows.specs.World.{Book, Ghost, World}
-use Rattle.mq_law_events.specs.Posting.{IsTimed}
 use Rattle.mq_law_events.specs.Tied.{Follow}
 use Rattle.mq_law_story.specs.Needs.{IsTied}
-use Rattle.mq_law_deeds.specs.Numbers.{AreCountedAt}
 use Rattle.mq_law_deeds.proofs.Counting.{calls_kept}
 use Rattle.mq_law_deeds.proofs.Rising.{parts_rise}
-use Rattle.mq_law_one.specs.Alone.{IsAt, NoOther}
+use Rattle.mq_law_one.specs.Alone.{NoOther}
 use Rattle.mq_law_one.proofs.Happening.{noted_up, state_up}
 use Rattle.mq_law_run.proofs.Owning.{housed_else, others_told}
 use Rattle.mq_law_run.proofs.Sending.{EachCabled, cabled_by, far_else, free_of, near_else, none_number, same_number, sender_number}
@@ -156,8 +123,11 @@ EachQuietDelta None = Unit {0}
 EachQuietDelta (Some d) = (unit_received (delta_of d.parts) ≡ None) × (d.reply ≡ replies.Changed)
 
 expire_quiet : (stamp : ℕ) (e : SenderEnd) (n : Node) → EachQuietDelta (sender_deed_by stamp e does.Expire n)
-expire_quiet stamp e n = (expired_quiet (queue_of_sender e.channel n.manager) (expired_rows (queue_of_sender e.channel n.manager) n.manager) (leave_if_stopped e.channel e.machine.state n.manager)
-    (bool_case (is_running e.machine.state) (λ b. unit_received (delta_of (if b then [] else parts_of (leave e.channel n.manager))) ≡ None) (λ f. refl) (λ f. refl)), refl)
+expire_quiet stamp e n = (
+  expired_quiet (queue_of_sender e.channel n.manager) (expired_rows (queue_of_sender e.channel n.manager) n.manager) (leave_if_stopped e.channel e.machine.state n.manager)
+      (bool_case (is_running e.machine.state) (λ b. unit_received (delta_of (if b then [] else parts_of (leave e.channel n.manager))) ≡ None) (λ f. refl) (λ f. refl)),
+  refl,
+)
 
 -- THE TURN
 pub expiry_moves : (s : Scenario) (hs : List History) (p : List Line) (x : Line) (z : Stand s hs p) (t : Told_ s hs p x) (i : ℕ) (k : CableLine) (d : Deed) → IsScenario s → slice_get s.cables i ≡ Some k → k.sender ≡ x.manager

@@ -1,5 +1,5 @@
 -- The two halves of a channel over what is a manager's own: the channel stays as it is.
-use Rattle.std.proofs.Common.{ℕ, ◌≡◌, true, false, List, [], refl, ap, sym, subst, ◌∙◌}
+use Rattle.std.proofs.Common.{ℕ, ◌≡◌, [], refl, ap, sym, subst, ◌∙◌}
 use Rattle.std.specs.Prelude.{Option, Some, None}
 use Rattle.mq_frame.specs.declared.frame.Seen.{Seen}
 use Rattle.mq_calls.specs.declared.choices.Choice.{Choice}
@@ -15,7 +15,7 @@ use Rattle.mq_history.specs.declared.calls.Call.TheVariants as calls
 use Rattle.mq_history.specs.declared.calls.Chance.{Chance}
 use Rattle.mq_history.specs.declared.calls.Chance.TheVariants as chances
 use Rattle.mq_history.specs.declared.calls.Reply.TheVariants as replies
-use Rattle.mq_spec_state.specs.State.{LogState, Noted, Plain, Running}
+use Rattle.mq_spec_state.specs.State.{Noted, Running}
 use Rattle.mq_spec_state.specs.State.Running.{Up, Down}
 use Rattle.mq_spec_manager.specs.Stops.{advance_clock, cut}
 use Rattle.mq_spec_state.specs.Reads.{receiver_data, sender_data}

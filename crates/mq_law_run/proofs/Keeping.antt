@@ -1,8 +1,7 @@
 -- What a turn of a receiver's end, and its post, leave of what is told of managers.
 use Rattle.std.proofs.Common.{ℕ, ◌≡◌, ◌⊎◌, Bool, true, false, List, [], ◌∷◌, ◌++◌, refl, ap, sym, subst, ◌∙◌, inl, inr, map}
-use Rattle.std.specs.Prelude.{Option, Some, None, Result, Ok, Err, ◌==◌, ◌&&◌, ◌||◌, if◌then◌else◌, slice_get}
+use Rattle.std.specs.Prelude.{Option, Some, None, Result, Ok, Err, ◌==◌, ◌&&◌, ◌||◌}
 use Rattle.std.proofs.lemmas.List.{append-nil}
-use Rattle.std.specs.List.{list_any}
 use Rattle.std.specs.Str.{bytes_eq}
 use Rattle.mq_message.specs.declared.message.Ident.{Ident}
 use Rattle.mq_message.specs.declared.message.Message.{Message}
@@ -22,7 +21,7 @@ use Rattle.mq_spec_state.specs.State.{Plain}
 use Rattle.mq_spec_state.specs.Reads.{is_full}
 use Rattle.mq_spec_state.specs.Sizes.{need}
 use Rattle.mq_spec_state.specs.Steps.{delta_of, do_all, do_part}
-use Rattle.mq_spec_agents.specs.Receiving.{Landed, landed, receive_landed, received_part, received_record, taken_of}
+use Rattle.mq_spec_agents.specs.Receiving.{Landed, landed, receive_landed, received_part, received_record}
 use Rattle.mq_spec_node.specs.Node.{Node, ReceiverEnd}
 use Rattle.mq_spec_node.specs.Deeds.{Deed}
 use Rattle.mq_spec_node.specs.Receivers.{place_deed, receiver_deed_by}
@@ -35,7 +34,6 @@ use Rattle.mq_law_node.proofs.Named.{bool_case}
 use Rattle.mq_law_node.proofs.ReceiverTurns.{placed_by}
 use Rattle.mq_law_events.specs.Posting.{IsTimed}
 use Rattle.mq_law_events.specs.Tied.{IsFresh, IsNext, IsTold}
-use Rattle.mq_law_receipts.specs.Receipts.{Receipt}
 use Rattle.mq_law_turns.specs.Turns.{IsAtFar, Scene}
 use Rattle.mq_law_turns.proofs.Taking.{Committing, receipt_of}
 use Rattle.mq_law_run.proofs.Beside.{IsBeside, beside_fresh, beside_timed, beside_told, parts_add_none, parts_beside, parts_of_end}

@@ -1,26 +1,23 @@
 -- Cables of a scenario by their numbers; all cables' channels behind an event of one.
-use Rattle.std.proofs.Common.{ℕ, zero, suc, ◌≡◌, ◌≢◌, ◌⊎◌, Bool, true, false, List, [], ◌∷◌, ◌++◌, refl, ap, sym, subst, ◌∙◌, inl, inr, map, arith}
-use Rattle.std.specs.Prelude.{Option, Some, None, ◌==◌, ◌+◌, ◌&&◌, if◌then◌else◌, slice_get}
+use Rattle.std.proofs.Common.{ℕ, zero, suc, ◌≡◌, ◌≢◌, Bool, true, false, List, [], ◌∷◌, refl, ap, sym, subst, ◌∙◌, inl, inr, map, arith}
+use Rattle.std.specs.Prelude.{Some, ◌==◌, ◌&&◌, if◌then◌else◌, slice_get}
 use Rattle.std.specs.Str.{bytes_eq}
 use Rattle.std.proofs.lemmas.Bool.Decides.{nat_tests}
 use Rattle.mq_history.specs.declared.scenario.CableLine.{CableLine}
 use Rattle.mq_history.specs.declared.scenario.Scenario.{Scenario}
 use Rattle.mq_calls.specs.declared.choices.Choice.{Choice}
 use Rattle.mq_history.specs.Scenarios.{IsScenario}
-use Rattle.mq_spec_state.specs.State.{Plain}
 use Rattle.mq_spec_state.specs.State.Running.{Up}
-use Rattle.mq_spec_state.specs.Steps.{do_all}
 use Rattle.mq_spec_node.specs.Node.{Node}
 use Rattle.mq_spec_node.specs.Deeds.{CanCome, Deed, done}
 use Rattle.mq_spec_network.specs.Story.{Chain, Mem}
 use Rattle.mq_law_channel.specs.Channel.{Channel, Facts, Past}
 use Rattle.mq_law_node.specs.Beside.{AsideFar, AsideNear}
-use Rattle.mq_law_node.specs.Ends.{SendsAs, TakesAs, Where}
-use Rattle.mq_law_node.specs.Nodes.{FarNode, NearNode}
+use Rattle.mq_law_node.specs.Ends.{SendsAs, TakesAs}
 use Rattle.mq_law_rows.specs.Families.{is_here, put_at}
-use Rattle.mq_law_rows.proofs.Lists.{bool_case, eqb_self, here_self, here_yes, mem_map, name_self}
+use Rattle.mq_law_rows.proofs.Lists.{bool_case, eqb_self, here_self, here_yes, mem_map}
 use Rattle.mq_law_seen.proofs.Images.{pairs_chain}
-use Rattle.mq_law_run.specs.Run.{Among, IsMoved, far_at, near_at}
+use Rattle.mq_law_run.specs.Run.{IsMoved, far_at, near_at}
 use Rattle.mq_law_run.proofs.Halves.{far_aside, near_aside}
 
 pub mem_at : {A : Type 0} (xs : List A) (i : ℕ) (x : A) → slice_get xs i ≡ Some x → Mem x xs

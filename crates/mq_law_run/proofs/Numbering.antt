@@ -1,5 +1,5 @@
 -- The last number that a manager gave to a connection, over what is its own.
-use Rattle.std.proofs.Common.{ℕ, zero, suc, ◌≡◌, Bool, true, false, List, [], ◌∷◌, refl, ap, sym, subst, ◌∙◌, arith}
+use Rattle.std.proofs.Common.{ℕ, zero, suc, ◌≡◌, List, [], ◌∷◌, sym, subst, arith}
 use Rattle.std.specs.Prelude.{Option, Some, None, ◌≤◌}
 use Rattle.mq_codes.specs.declared.reason.Reason.{Reason}
 use Rattle.mq_disk.specs.declared.cutter.Stop.{Stop}
@@ -18,7 +18,7 @@ use Rattle.mq_history.specs.declared.calls.Reply.{Reply}
 use Rattle.mq_history.specs.declared.calls.Reply.TheVariants as replies
 use Rattle.mq_spec_state.specs.State.{Plain}
 use Rattle.mq_spec_state.specs.State.Change.{Connect}
-use Rattle.mq_spec_state.specs.Steps.{Part, do_all, do_part, refusal, refused_or, silent, stopped_at}
+use Rattle.mq_spec_state.specs.Steps.{Part, do_part, refusal, refused_or, silent, stopped_at}
 use Rattle.mq_spec_state.specs.Steps.Step.{Do}
 use Rattle.mq_spec_manager.specs.Handles.{conn_tests, new_connection, new_hconn}
 use Rattle.mq_spec_node.specs.Node.{Node, Own}

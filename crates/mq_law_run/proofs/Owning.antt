@@ -1,35 +1,27 @@
 -- What is a manager's own, as a move of the network.
-use Rattle.std.proofs.Common.{ℕ, ◌≡◌, Bool, true, false, List, [], ◌∷◌, ◌++◌, refl, ap, sym, subst, ◌∙◌}
+use Rattle.std.proofs.Common.{ℕ, ◌≡◌, false, List, [], ◌∷◌, ◌++◌, refl, ap, sym, subst, ◌∙◌}
 use Rattle.std.specs.Prelude.{Option, Some, None, ◌==◌, slice_get}
 use Rattle.std.specs.Option.{option_map}
-use Rattle.mq_message.specs.declared.message.Ident.{Ident}
 use Rattle.mq_frame.specs.declared.frame.Frame.{Frame}
 use Rattle.mq_frame.specs.declared.frame.Seen.{Seen}
-use Rattle.mq_sync.specs.declared.unit.Unit.{Unit as Luw}
 use Rattle.mq_calls.specs.declared.choices.Choice.{Choice}
 use Rattle.mq_calls.specs.declared.choices.Choice.TheVariants.{Runs, NoMemory, Stopped}
-use Rattle.mq_calls.specs.declared.state.Batch.{Batch}
-use Rattle.mq_calls.specs.declared.agents.Note.TheVariants as notes
-use Rattle.mq_calls.specs.declared.deltas.Did.{Did}
-use Rattle.mq_calls.specs.declared.deltas.Did.TheVariants as did
 use Rattle.mq_history.specs.declared.calls.Actor.{Actor}
 use Rattle.mq_history.specs.declared.calls.Call.{Call}
 use Rattle.mq_history.specs.declared.calls.Chance.{Chance}
 use Rattle.mq_history.specs.declared.calls.Entry.{Entry}
 use Rattle.mq_history.specs.declared.history.History.{History}
-use Rattle.mq_history.specs.declared.scenario.CableLine.{CableLine}
 use Rattle.mq_history.specs.declared.scenario.Scenario.{Scenario}
 use Rattle.mq_spec_state.specs.State.{Plain}
-use Rattle.mq_spec_state.specs.Reads.{batch_of}
 use Rattle.mq_spec_node.specs.Node.{Node}
-use Rattle.mq_spec_node.specs.Deeds.{CanCome, Deed, Done, done}
+use Rattle.mq_spec_node.specs.Deeds.{Deed, Done, done}
 use Rattle.mq_spec_node.specs.Happens.{IsEvent, event}
 use Rattle.mq_spec_node.specs.Replays.{IsOwn, done_by}
 use Rattle.mq_spec_network.specs.Ledger.{Ledger, ledger, posted}
 use Rattle.mq_spec_network.specs.Conflict.{deeds, deeds_in}
 use Rattle.mq_spec_network.specs.Order.{unit_received}
 use Rattle.mq_spec_network.specs.Standing.{managers_at, node_after, opening_ledger, opening_managers}
-use Rattle.mq_spec_network.specs.Story.{Line, Mem}
+use Rattle.mq_spec_network.specs.Story.{Line}
 use Rattle.mq_law_channel.specs.Channel.{Channel}
 use Rattle.mq_law_node.specs.Nodes.{FarNode, NearNode}
 use Rattle.mq_law_seen.specs.Seen.{book_of, world_of}
@@ -37,7 +29,7 @@ use Rattle.mq_law_events.specs.Tied.{IsElse, IsNext, IsTold}
 use Rattle.mq_law_story.proofs.Weaving.{ledger_step, manager_at, other_manager, this_manager}
 use Rattle.mq_law_turns.specs.Agreed.{IsToldOf}
 use Rattle.mq_law_turns.proofs.Agreeing.{grows}
-use Rattle.mq_law_cables.specs.Joints.{AreCabled, AreJoint, Joined}
+use Rattle.mq_law_cables.specs.Joints.{AreJoint}
 use Rattle.mq_law_deeds.specs.Numbers.{AreCountedAt, IsNext as IsNextNumber}
 use Rattle.mq_law_one.specs.Alone.{Became, IsAt, IsOwnCall, NoOther}
 use Rattle.mq_law_one.proofs.Deltas.{own_quiet}
@@ -46,7 +38,7 @@ use Rattle.mq_law_one.proofs.Ordinary.{ordinary_happens}
 use Rattle.mq_law_one.proofs.Running.{Told_}
 use Rattle.mq_history.specs.declared.story.ManagerPlaces.{ManagerPlaces}
 use Rattle.mq_law_rows.proofs.Lists.{bool_case, eqb_yes}
-use Rattle.mq_law_run.specs.Run.{Among, Housed, IsMoved, Moves, Stand, far_at, near_at}
+use Rattle.mq_law_run.specs.Run.{Housed, Moves, Stand, far_at, near_at}
 use Rattle.mq_law_run.proofs.Cabled.{same_batches}
 use Rattle.mq_law_run.proofs.Halves.{deed_quiet, far_own, near_own, own_elim}
 use Rattle.mq_law_run.proofs.Numbering.{IsRaised, own_raised}
@@ -114,12 +106,18 @@ own_moves s hs p x z t is =
           let ch : Channel = z.xs c.sender c.channel in
           record {
             facts = y.facts;
-            near = λ q. (near_own (near_at s i c) e.stamp e.actor e.call e.chance e.effect.popped n ch (z.ys c.sender c.channel) is t.tells.event t.own
-                (subst (λ (w : ℕ). NearNode (near_at s i c) (node_after s w p t.h) ch) q (y.near t.h (ap (slice_get hs) q ∙ t.is))) y.facts a.state,
-                record { receives = refl; receiver = refl; kept = refl; back = refl }, (λ g w. w));
-            far = λ q. (far_own (far_at s i c) e.stamp e.actor e.call e.chance e.effect.popped n ch (z.ys c.sender c.channel) is t.tells.event t.own
-                (subst (λ (w : ℕ). FarNode (far_at s i c) (node_after s w p t.h) ch) q (y.far t.h (ap (slice_get hs) q ∙ t.is))) y.facts,
-                record { sends = refl; sender = refl; batch = refl; out = refl }, (λ g w. w));
+            near = λ q. (
+              near_own (near_at s i c) e.stamp e.actor e.call e.chance e.effect.popped n ch (z.ys c.sender c.channel) is t.tells.event t.own
+                  (subst (λ (w : ℕ). NearNode (near_at s i c) (node_after s w p t.h) ch) q (y.near t.h (ap (slice_get hs) q ∙ t.is))) y.facts a.state,
+              record { receives = refl; receiver = refl; kept = refl; back = refl },
+              (λ g w. w),
+            );
+            far = λ q. (
+              far_own (far_at s i c) e.stamp e.actor e.call e.chance e.effect.popped n ch (z.ys c.sender c.channel) is t.tells.event t.own
+                  (subst (λ (w : ℕ). FarNode (far_at s i c) (node_after s w p t.h) ch) q (y.far t.h (ap (slice_get hs) q ∙ t.is))) y.facts,
+              record { sends = refl; sender = refl; batch = refl; out = refl },
+              (λ g w. w),
+            );
             else = λ q w. refl;
           };
       out = λ i c f at q actor pushed. absurd (none_frame e.effect.pushed f silent pushed);

@@ -1,9 +1,8 @@
 -- A turn of a receiver's end that runs, as a move of the network.
-use Rattle.std.proofs.Common.{ℕ, ◌≡◌, ◌≢◌, ◌⊎◌, ◌<◌, Bool, true, false, List, [], ◌∷◌, ◌++◌, refl, ap, sym, subst, ◌∙◌, inl, inr, map, arith}
+use Rattle.std.proofs.Common.{ℕ, ◌≡◌, ◌<◌, Bool, true, false, List, [], ◌∷◌, ◌++◌, refl, ap, sym, subst, ◌∙◌, inl, inr, arith}
 use Rattle.std.specs.Prelude.{Option, Some, None, ◌==◌, ◌+◌, ◌&&◌, if◌then◌else◌, slice_get}
 use Rattle.std.specs.Option.{option_map}
 use Rattle.std.specs.Str.{bytes_eq}
-use Rattle.mq_message.specs.declared.message.Ident.{Ident}
 use Rattle.mq_frame.specs.declared.frame.Frame.{Frame}
 use Rattle.mq_frame.specs.declared.frame.Seen.{Seen}
 use Rattle.mq_sync.specs.declared.unit.Unit.{Unit as Luw}
@@ -40,12 +39,12 @@ use Rattle.mq_spec_network.specs.Standing.{managers_at, node_after, opening_ledg
 use Rattle.mq_spec_network.specs.Story.{Line, Mem}
 use Rattle.mq_law_channel.specs.Channel.{Channel, Facts, Past}
 use Rattle.mq_law_channel.specs.Turns.{ReceiverMay, ReceiverTurn, SeenIn, receiver_does, receiver_turn, receiver_turned}
-use Rattle.mq_law_channel.proofs.Told.{unit_self, unit_yes}
+use Rattle.mq_law_channel.proofs.Told.{unit_yes}
 use Rattle.mq_law_channel.proofs.Following as following
 use Rattle.mq_law_manager.specs.Facts.{IsSound}
 use Rattle.mq_law_manager.proofs.Named.{name_is}
 use Rattle.mq_law_node.specs.Beside.{AsideFar, AsideNear}
-use Rattle.mq_law_node.specs.Ends.{TakesAs, Taken as Took, Where, offering, receiver_of, receiver_out, stamped, taking_turn}
+use Rattle.mq_law_node.specs.Ends.{TakesAs, Taken as Took, Where, offering, receiver_of, receiver_out, taking_turn}
 use Rattle.mq_law_node.specs.Ends.{EachTaken as EachTook}
 use Rattle.mq_law_node.specs.Moves.{FarStep}
 use Rattle.mq_law_node.specs.Nodes.{FarAt}
@@ -60,7 +59,7 @@ use Rattle.mq_law_rows.specs.Families.{is_here, put_at}
 use Rattle.mq_law_rows.specs.World.{Book, World}
 use Rattle.mq_law_rows.proofs.Lists.{bool_case, eqb_self, here_self, here_yes, true_false}
 use Rattle.mq_law_seen.specs.Seen.{book_of, world_of}
-use Rattle.mq_law_events.specs.Tied.{AreShelved, IsFresh, IsTold}
+use Rattle.mq_law_events.specs.Tied.{AreShelved}
 use Rattle.mq_law_story.proofs.Weaving.{ledger_step, manager_at}
 use Rattle.mq_law_receipts.specs.Receipts.{IsCabled}
 use Rattle.mq_law_receipts.proofs.Cabling.{cabled}
@@ -86,7 +85,7 @@ use Rattle.mq_law_run.proofs.Beside.{IsBeside, parts_beside}
 use Rattle.mq_law_run.proofs.Cabled.{parts_cabled}
 use Rattle.mq_law_run.proofs.Housing as housing
 use Rattle.mq_law_run.proofs.Keeping.{EachKept, EachTaking, EachTells, IsCommit, IsKept, kept_by, post_of, takes_so, tells_by}
-use Rattle.mq_law_run.proofs.Lining.{all_moved, else_index, here, left_aside, mem_at, same_cable, same_index}
+use Rattle.mq_law_run.proofs.Lining.{all_moved, else_index, left_aside, mem_at, same_cable, same_index}
 use Rattle.mq_law_run.proofs.Running.{IsRun, move_to, run_next, scene, sends_here, sound_at, takes_here, told_all}
 use Rattle.mq_law_run.proofs.Telling.{deeds_more, mem_left, mem_right, still_not, told_before, told_now}
 
@@ -212,7 +211,7 @@ committed_apart : (z : Scene) (v : World) (b : Book) (c : Channel) (y : Past) (t
 committed_apart z v b c y turn u w r last does out rises same f =
     let now : (receiver_turn turn c).receives.unit ≡ u = (λ i. (receiver_turned (out i) (does i) turn c).receives.unit) in
     elim (r.own w f).1 [
-      inl ne ↦ ne (r.joint.tied.last ∙ now ∙ sym same)
+      | inl ne ↦ ne (r.joint.tied.last ∙ now ∙ sym same)
       | inr e ↦ below_not u (subst (λ (o : Luw). Below o u) (sym last ∙ sym e ∙ r.joint.tied.last ∙ now) rises)
     ]
 
@@ -306,7 +305,7 @@ receiver_moves s hs whole p es x z t i k d g scenario none split e q from actor 
           still_not s (opening_managers s hs) p x b u
           (subst (λ ds. committed_in b u (deeds_in m ds) ≡ false) (sym delta)
           (elim (subst (EachTells m b u (IsCommit end seen n does b u)) is (tells_by m b u stamp end seen does n)) [
-            inl none_ ↦ none_
+            | inl none_ ↦ none_
             | inr commit ↦ absurd (no_commit a b u does refl commit old (λ v apart. committed_apart zz (world_of s z.given ms) (book_of l1) c y turn v u took joint.tied.last apart.0 apart.1
                 (following.placed turn c y v facts may apart.0).rises apart.2 (subst (λ o. took.ghost.operated k.sender o u ≡ true) apart.4 (subst (λ o. took.ghost.operated o b u ≡ true) apart.3 f))))
           ]))
@@ -341,8 +340,13 @@ receiver_moves s hs whole p es x z t i k d g scenario none split e q from actor 
         let ch : b ≡ k.channel = name_is b k.channel (both_left (bytes_eq b k.channel) (same_unit u v) commit.1) in
         let o = z.owned a b u old in
         let same : o.1 ≡ k = same_cable s o.0 i o.1 k o.2 e (same_index s o.0 i o.1 k scenario o.2 e (o.4 ∙ ch)) in
-        f v (is_, ap (λ (dd : ReceiverDoes). receiver_out dd (far_at s i k) x.entry.effect.popped (z.xs k.sender k.channel).receiver (z.xs k.sender k.channel).kept (node_after s x.manager p t.h).manager) is_ ∙ commit.0,
-          unit_yes u v (both_right (bytes_eq b k.channel) (same_unit u v) commit.1), sym o.3 ∙ ap (λ (h : CableLine). h.sender) same, ch)
+        f v (
+          is_,
+          ap (λ (dd : ReceiverDoes). receiver_out dd (far_at s i k) x.entry.effect.popped (z.xs k.sender k.channel).receiver (z.xs k.sender k.channel).kept (node_after s x.manager p t.h).manager) is_ ∙ commit.0,
+          unit_yes u v (both_right (bytes_eq b k.channel) (same_unit u v) commit.1),
+          sym o.3 ∙ ap (λ (h : CableLine). h.sender) same,
+          ch,
+        )
     no_commit a b u takes.Still is_ commit old f = commit
     no_commit a b u takes.Ignore is_ commit old f = commit
     no_commit a b u takes.PushOwed is_ commit old f = commit

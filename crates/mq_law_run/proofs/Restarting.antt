@@ -1,17 +1,10 @@
 -- A restart of a manager that finds no write, as a move of the network.
-use Rattle.std.proofs.Common.{ℕ, ◌≡◌, ◌≢◌, ◌+◌, ◌⊎◌, Bool, true, false, List, [], ◌∷◌, ◌++◌, refl, ap, sym, subst, ◌∙◌, inl, inr, map}
-use Rattle.std.specs.Prelude.{Option, Some, None, ◌==◌, ◌&&◌, ◌||◌, if◌then◌else◌, slice_get}
-use Rattle.std.specs.List.{list_any}
-use Rattle.mq_message.specs.declared.message.Ident.{Ident}
+use Rattle.std.proofs.Common.{ℕ, ◌≡◌, true, false, List, [], ◌∷◌, ◌++◌, refl, ap, sym, subst, ◌∙◌}
+use Rattle.std.specs.Prelude.{Option, Some, None, ◌==◌, slice_get}
 use Rattle.mq_frame.specs.declared.frame.Frame.{Frame}
 use Rattle.mq_sync.specs.declared.unit.Unit.{Unit as Luw}
 use Rattle.mq_sync.specs.declared.data.ReceiverData.{ReceiverData}
-use Rattle.mq_sync.specs.declared.data.SenderData.{SenderData}
-use Rattle.mq_sync.specs.Settlement.{receiver_or, sender_or}
-use Rattle.mq_sender.specs.States as senders
-use Rattle.mq_history.specs.declared.calls.Actor.TheVariants as actors
 use Rattle.mq_history.specs.declared.history.History.{History}
-use Rattle.mq_history.specs.declared.story.ManagerPlaces.{ManagerPlaces}
 use Rattle.mq_history.specs.declared.scenario.CableLine.{CableLine}
 use Rattle.mq_history.specs.declared.scenario.Scenario.{Scenario}
 use Rattle.mq_history.specs.Scenarios.{IsScenario}
@@ -19,14 +12,10 @@ use Rattle.mq_spec_state.specs.State.{Plain, Running}
 use Rattle.mq_spec_state.specs.State.Running.{Down}
 use Rattle.mq_spec_state.specs.Reads.{receiver_data}
 use Rattle.mq_spec_network.specs.Story.{Line, Mem}
-use Rattle.mq_law_channel.specs.Channel.{Channel, Facts, Past}
-use Rattle.mq_law_channel.specs.Turns.{receiver_rests, released, sender_rests}
+use Rattle.mq_law_channel.specs.Channel.{Channel, Facts}
+use Rattle.mq_law_channel.specs.Turns.{receiver_rests}
 use Rattle.mq_law_channel.proofs.Operating.{receiver_inactive}
-use Rattle.mq_law_rows.specs.Families.{is_here}
-use Rattle.mq_law_rows.proofs.Lists.{bool_case, eqb_self, eqb_yes, here_self}
-use Rattle.mq_law_run.proofs.Lining.{mem_at, same_cable, same_index}
-
-use Rattle.mq_calls.specs.declared.choices.Choice.TheVariants.{Runs}
+use Rattle.mq_law_run.proofs.Lining.{mem_at}
 use Rattle.mq_history.specs.declared.acts.Act.TheVariants as acts
 use Rattle.mq_history.specs.declared.acts.Acted.TheVariants as acted
 use Rattle.mq_history.specs.declared.calls.Call.TheVariants as calls
@@ -34,54 +23,38 @@ use Rattle.mq_history.specs.declared.calls.Chance.TheVariants as chances
 use Rattle.mq_history.specs.declared.calls.Entry.{Entry}
 use Rattle.mq_history.specs.declared.calls.Reply.{Reply}
 use Rattle.mq_history.specs.declared.calls.Reply.TheVariants as replies
-use Rattle.mq_calls.specs.declared.agents.Note.TheVariants as notes
-use Rattle.mq_calls.specs.declared.deltas.Did.TheVariants as did
-use Rattle.mq_calls.specs.declared.state.Batch.{Batch}
-use Rattle.mq_spec_state.specs.State.{Given, Numbers}
-use Rattle.mq_spec_manager.specs.Stops.{at_rest, stop_at}
-use Rattle.mq_spec_node.specs.Node.{Node, Own, end_in}
-use Rattle.mq_spec_node.specs.Node.ChannelEnd.{Receives, Sends}
-use Rattle.mq_spec_node.specs.Deeds.{Done, own_at_rest}
-use Rattle.mq_spec_node.specs.Happens.{crashed}
+use Rattle.mq_spec_node.specs.Node.{Node}
+use Rattle.mq_spec_node.specs.Node.ChannelEnd.{Receives}
+use Rattle.mq_spec_node.specs.Deeds.{Done}
 use Rattle.mq_spec_node.specs.Replays.{done_by}
-use Rattle.mq_sync.specs.Units.{no_unit, same_unit}
-use Rattle.mq_spec_network.specs.Conflict.{Deed as ToldDeed, deeds, deeds_in, is_committed}
+use Rattle.mq_spec_network.specs.Conflict.{deeds, deeds_in}
 use Rattle.mq_spec_network.specs.Ledger as ledgers
 use Rattle.mq_spec_network.specs.Ledger.{Ledger, Users, ledger, posted}
 use Rattle.mq_spec_network.specs.Order.{unit_received}
 use Rattle.mq_spec_network.specs.Standing.{managers_at, node_after, opening_ledger, opening_managers}
-use Rattle.mq_law_manager.specs.Facts.{IsFrozen, IsSound}
-use Rattle.mq_law_manager.proofs.Ending.{sound_still, stop_sound}
-use Rattle.mq_law_node.specs.Ends.{SendsAs, TakesAs, Where, receiver_of, sender_of, told_receives, told_sends}
+use Rattle.mq_law_manager.specs.Facts.{IsFrozen}
+use Rattle.mq_law_node.specs.Ends.{receiver_of}
 use Rattle.mq_law_node.specs.Nodes.{FarNode, NearNode, SameFar, SameNear, SendsDown, TakesDown}
-use Rattle.mq_law_node.proofs.FarFreezing.{far_rest_data}
-use Rattle.mq_law_node.proofs.Freezing.{end_resting, rest_batch, rest_data}
-use Rattle.mq_law_seen.specs.Seen.{book_of, world_of}
-use Rattle.mq_law_events.specs.Posting.{IsTimed}
-use Rattle.mq_law_events.specs.Tied.{IsElse, IsFresh, IsNext, IsTold}
+use Rattle.mq_law_seen.specs.Seen.{book_of}
+use Rattle.mq_law_events.specs.Tied.{IsElse, IsNext, IsTold}
 use Rattle.mq_law_events.proofs.Telling.{else_places, else_then, else_users, here_changed}
 use Rattle.mq_law_batches.specs.Releases.{AreUnprepared, Rested}
 use Rattle.mq_law_batches.proofs.Stopping as batches
 use Rattle.mq_law_batches.proofs.Stopping.{IsRest, rest_stays}
 use Rattle.mq_law_story.proofs.Weaving.{ledger_step}
 use Rattle.mq_law_turns.specs.Agreed.{IsToldOf}
-use Rattle.mq_law_turns.specs.Turns.{IsAtRest}
-use Rattle.mq_law_turns.proofs.Agreeing.{grows, released_tells}
-use Rattle.mq_law_cables.specs.Joints.{AreCabled, AreJoint, LeadTo, rested}
-use Rattle.mq_law_cables.proofs.Differing.{leads}
+use Rattle.mq_law_turns.proofs.Agreeing.{grows}
+use Rattle.mq_law_cables.specs.Joints.{rested}
 use Rattle.mq_law_cables.proofs.Keeping.{rests}
-use Rattle.mq_law_cables.proofs.Unprepared.{unprepared}
-use Rattle.mq_law_deeds.specs.Numbers.{AreCountedAt}
 use Rattle.mq_law_deeds.proofs.Counting.{stopped}
-use Rattle.mq_law_one.specs.Alone.{IsAt, IsState, NoOther}
+use Rattle.mq_law_one.specs.Alone.{IsState}
 use Rattle.mq_law_one.proofs.Running.{Told_}
-use Rattle.mq_law_run.specs.Run.{Among, Housed, IsMoved, Moves, MovesTo, Stand, far_at, near_at, risen_done}
+use Rattle.mq_law_run.specs.Run.{Among, IsMoved, Moves, Stand, far_at, near_at, risen_done}
 use Rattle.mq_law_run.proofs.Owning.{housed_else, next_managers, others_told}
-use Rattle.mq_law_run.proofs.Running.{far_here, move_to, near_here, sends_here, sound_at, takes_here}
+use Rattle.mq_law_run.proofs.Running.{far_here, move_to, near_here}
 use Rattle.mq_law_events.proofs.Locals.{stays_leads}
 use Rattle.mq_law_events.proofs.Sounds.{restart_fresh}
 use Rattle.mq_law_events.specs.Local.{sheet_of, side_of}
-use Rattle.mq_law_seen.specs.Seen.{last_of}
 use Rattle.mq_law_manager.proofs.Ending.{restart_sound}
 use Rattle.mq_law_node.proofs.FarEvents.{far_begun_here, made_of}
 use Rattle.mq_law_node.proofs.NearEvents.{begun_here}
@@ -89,10 +62,7 @@ use Rattle.mq_calls.specs.declared.choices.Return.TheVariants.{Comes}
 use Rattle.mq_receiver.specs.declared.state.Receiver.{Receiver}
 use Rattle.mq_receiver.specs.States as receivers
 use Rattle.mq_spec_state.specs.State.{Noted}
-use Rattle.mq_spec_state.specs.Images.{lasting, raised}
 use Rattle.mq_spec_manager.specs.Stops.{grown, restarted}
-use Rattle.mq_spec_node.specs.Deeds.{begun_anew, quiet}
-use Rattle.mq_law_node.specs.Data.{receives_at}
 use Rattle.mq_law_node.specs.Nodes.{FarAt, NearAt}
 use Rattle.mq_law_cables.proofs.Unprepared.{unprepared_still}
 use Rattle.mq_law_run.proofs.Stopping.{all_at_rest, at_rest_far, at_rest_near, eqb_no, index_of, receiver_at_rest, resting, rest_facts, rest_told, same_receives, sender_at_rest}

@@ -1,13 +1,8 @@
 -- A deed that ran, at a manager that is up: what the parts of a move have in common.
-use Rattle.std.proofs.Common.{ℕ, ◌≡◌, ◌⊎◌, Bool, true, false, List, [], ◌∷◌, ◌++◌, refl, ap, sym, subst, ◌∙◌, inl, inr}
-use Rattle.std.specs.Prelude.{Option, Some, None, ◌==◌, ◌&&◌, if◌then◌else◌, slice_get}
-use Rattle.std.specs.Option.{option_map}
-use Rattle.std.specs.Str.{bytes_eq}
-use Rattle.mq_message.specs.declared.message.Ident.{Ident}
+use Rattle.std.proofs.Common.{ℕ, ◌≡◌, ◌⊎◌, true, List, [], ◌∷◌, ◌++◌, refl, ap, sym, subst, ◌∙◌, inl, inr}
+use Rattle.std.specs.Prelude.{Option, Some, if◌then◌else◌, slice_get}
 use Rattle.mq_sync.specs.declared.unit.Unit.{Unit as Luw}
 use Rattle.mq_calls.specs.declared.choices.Choice.TheVariants.{Runs}
-use Rattle.mq_calls.specs.declared.deltas.Did.{Did}
-use Rattle.mq_calls.specs.declared.deltas.Did.TheVariants as did
 use Rattle.mq_history.specs.declared.history.History.{History}
 use Rattle.mq_history.specs.declared.scenario.CableLine.{CableLine}
 use Rattle.mq_history.specs.declared.scenario.Scenario.{Scenario}
@@ -17,22 +12,21 @@ use Rattle.mq_spec_state.specs.Steps.{do_all}
 use Rattle.mq_spec_node.specs.Node.{Node}
 use Rattle.mq_spec_node.specs.Deeds.{CanCome, Deed, Done, done}
 use Rattle.mq_spec_node.specs.Replays.{done_by}
-use Rattle.mq_spec_network.specs.Conflict.{Deed as ToldDeed, deeds, deeds_in}
+use Rattle.mq_spec_network.specs.Conflict.{Deed as ToldDeed}
 use Rattle.mq_spec_network.specs.Ledger.{Ledger, ledger}
-use Rattle.mq_spec_network.specs.Order.{unit_received}
-use Rattle.mq_spec_network.specs.Standing.{managers_at, node_after, opening_ledger, opening_managers}
+use Rattle.mq_spec_network.specs.Standing.{managers_at, node_after, opening_ledger}
 use Rattle.mq_spec_network.specs.Story.{Line, Mem}
 use Rattle.mq_law_channel.specs.Channel.{Channel, Past}
 use Rattle.mq_law_manager.specs.Facts.{IsSound}
 use Rattle.mq_law_node.specs.Ends.{SendsAs, TakesAs, Where}
 use Rattle.mq_law_node.specs.Nodes.{FarAt, FarNode, NearAt, NearNode}
 use Rattle.mq_law_rows.specs.Families.{is_here, put_at}
-use Rattle.mq_law_rows.specs.World.{Book, World}
+use Rattle.mq_law_rows.specs.World.{World}
 use Rattle.mq_law_rows.proofs.Lists.{bool_case, here_yes}
 use Rattle.mq_law_seen.specs.Seen.{book_of}
 use Rattle.mq_law_events.specs.Tied.{IsNext}
 use Rattle.mq_law_turns.specs.Agreed.{IsToldOf}
-use Rattle.mq_law_turns.specs.Turns.{Scene, TurnedBy, world_in}
+use Rattle.mq_law_turns.specs.Turns.{Scene, TurnedBy}
 use Rattle.mq_law_turns.proofs.Agreeing.{grows}
 use Rattle.mq_law_deeds.specs.Numbers.{AreCountedAt}
 use Rattle.mq_law_one.specs.Alone.{IsAt, IsState, NoOther}
@@ -42,7 +36,6 @@ use Rattle.mq_law_run.specs.Run.{Moves, MovesTo, Stand, far_at, near_at}
 use Rattle.mq_law_run.proofs.Beside.{IsBeside, beside_fresh, beside_timed, beside_told}
 use Rattle.mq_law_run.proofs.Lining.{here}
 use Rattle.mq_law_run.proofs.Owning.{next_managers}
-use Rattle.mq_law_run.proofs.Telling.{deeds_more}
 
 -- a network and one of its cables
 abbrev pub scene : (s : Scenario) (hs : List History) (p : List Line) → Stand s hs p → CableLine → Where → Scene
@@ -120,7 +113,7 @@ operated_before {o} z v c y r a d u e = bool_case (is_here z.sender z.place.chan
     (λ w f.
     let q = here_yes z.sender z.place.channel a d f in
     elim (r.own u (subst (λ b. r.ghost.operated z.sender b u ≡ true) q.1 (subst (λ m. r.ghost.operated m d u ≡ true) q.0 e))) [
-      inl old ↦ inl (subst (λ m. z.ghost.operated m d u ≡ true) (sym q.0) (subst (λ b. z.ghost.operated z.sender b u ≡ true) (sym q.1) old))
+      | inl old ↦ inl (subst (λ m. z.ghost.operated m d u ≡ true) (sym q.0) (subst (λ b. z.ghost.operated z.sender b u ≡ true) (sym q.1) old))
       | inr new ↦ inr (new, q.0, q.1)
     ])
     (λ w f. inl (sym (r.operated a d u f) ∙ e)) refl

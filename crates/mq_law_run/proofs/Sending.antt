@@ -1,16 +1,14 @@
 -- A turn of a sender's end that runs and removes no expired rows, as a move of the network.
-use Rattle.std.proofs.Common.{ℕ, ◌≡◌, Bool, true, false, List, [], ◌∷◌, ◌++◌, refl, ap, sym, subst, ◌∙◌, inl, inr, take}
+use Rattle.std.proofs.Common.{ℕ, ◌≡◌, true, false, List, [], ◌∷◌, ◌++◌, refl, ap, sym, subst, ◌∙◌, inl, inr, take}
 use Rattle.std.specs.Prelude.{Option, Some, None, ◌==◌, if◌then◌else◌, slice_get}
 use Rattle.std.specs.Str.{bytes_eq}
 use Rattle.mq_message.specs.declared.message.Ident.{Ident}
-use Rattle.mq_message.specs.declared.message.Message.{Message}
 use Rattle.mq_message.specs.declared.place.Holder.TheVariants as holders
 use Rattle.mq_frame.specs.declared.frame.Frame.{Frame}
 use Rattle.mq_frame.specs.declared.frame.Seen.{Seen}
 use Rattle.mq_sync.specs.declared.unit.Unit.{Unit as Luw}
 use Rattle.mq_sync.specs.Units.{unit_named}
 use Rattle.mq_sync.specs.declared.data.Stock.{Stock}
-use Rattle.mq_sender.specs.declared.state.Sender.{Sender}
 use Rattle.mq_sender.specs.declared.state.SenderState.{SenderState}
 use Rattle.mq_sender.specs.declared.state.SenderState.TheVariants.{Sending}
 use Rattle.mq_sender.specs.declared.turns.SenderDoes.{SenderDoes}
@@ -25,7 +23,6 @@ use Rattle.mq_calls.specs.declared.deltas.Did.TheVariants as did
 use Rattle.mq_calls.specs.declared.state.Batch.{Batch}
 use Rattle.mq_history.specs.declared.calls.Actor.{Actor}
 use Rattle.mq_history.specs.declared.calls.Actor.TheVariants as actors
-use Rattle.mq_history.specs.declared.calls.Call.{Call}
 use Rattle.mq_history.specs.declared.calls.Call.TheVariants as calls
 use Rattle.mq_history.specs.declared.calls.Entry.{Entry}
 use Rattle.mq_history.specs.declared.calls.Reply.{Reply}
@@ -37,10 +34,10 @@ use Rattle.mq_history.specs.Scenarios.{IsScenario}
 use Rattle.mq_spec_state.specs.State.{Plain, Running}
 use Rattle.mq_spec_state.specs.State.Running.{Up}
 use Rattle.mq_spec_state.specs.State.Which.{Among as Named}
-use Rattle.mq_spec_state.specs.State.Change.{AddBatch, Hold}
+use Rattle.mq_spec_state.specs.State.Change.{Hold}
 use Rattle.mq_spec_state.specs.Reads.{batch_of, free_rows, is_up, stored}
 use Rattle.mq_spec_state.specs.Changes.{apply}
-use Rattle.mq_spec_state.specs.Steps.{Part, delta_of, do_all}
+use Rattle.mq_spec_state.specs.Steps.{delta_of, do_all}
 use Rattle.mq_spec_manager.specs.Get.{idents_of}
 use Rattle.mq_spec_agents.specs.Words.{hold_batch, queue_of_sender, stock}
 use Rattle.mq_spec_node.specs.Node.{Node, SenderEnd}
@@ -68,7 +65,7 @@ use Rattle.mq_law_node.proofs.SenderTable.{may_turn, turns_as}
 use Rattle.mq_law_node.proofs.SenderTurns.{guarded}
 use Rattle.mq_law_node.proofs.Standing.{running_done_all}
 use Rattle.mq_law_rows.specs.Families.{put_at}
-use Rattle.mq_law_rows.proofs.Lists.{bool_case, eqb_self, here_self, true_false}
+use Rattle.mq_law_rows.proofs.Lists.{eqb_self, here_self, true_false}
 use Rattle.mq_law_seen.specs.Seen.{book_of, world_of}
 use Rattle.mq_law_story.proofs.Weaving.{ledger_step}
 use Rattle.mq_law_turns.specs.Agreed.{IsToldOf}
@@ -78,14 +75,14 @@ use Rattle.mq_law_turns.proofs.Posting.{EachPassed, posts, receives_nothing, sen
 use Rattle.mq_law_turns.proofs.Reading.{senders_others, stays}
 use Rattle.mq_law_turns.proofs.Sending as sending
 use Rattle.mq_law_turns.proofs.Sounds.{senders_sound}
-use Rattle.mq_law_cables.specs.Joints.{AreCabled, AreJoint}
+use Rattle.mq_law_cables.specs.Joints.{AreCabled}
 use Rattle.mq_law_cables.proofs.Differing.{leads}
 use Rattle.mq_law_cables.proofs.Keeping.{joint_of, turned_joint}
 use Rattle.mq_law_deeds.proofs.Resting.{apart_batch}
 use Rattle.mq_law_deeds.proofs.Sounding.{behind}
 use Rattle.mq_law_one.proofs.Running.{Told_}
-use Rattle.mq_law_run.specs.Run.{Among, IsMoved, Moves, MovesTo, Stand, far_at, near_at}
-use Rattle.mq_law_run.proofs.Beside.{EachAddsNone, EachOfEnd, IsBeside, distinct_of, is_adding, leave_adds, parts_beside, senders_add, senders_of_end}
+use Rattle.mq_law_run.specs.Run.{IsMoved, Moves, Stand, far_at, near_at}
+use Rattle.mq_law_run.proofs.Beside.{EachAddsNone, EachOfEnd, IsBeside, distinct_of, leave_adds, parts_beside, senders_add, senders_of_end}
 use Rattle.mq_law_run.proofs.Cabled.{add_cabled, parts_cabled, same_batches}
 use Rattle.mq_law_run.proofs.Lining.{all_moved, else_channel, else_index, here, left_aside, mem_at, same_cable}
 use Rattle.mq_law_run.proofs.Running.{IsRun, beside_at, beside_counted, move_to, operated_before, run_next, scene, sends_here, sound_at, takes_here, told_all}
@@ -239,15 +236,15 @@ step_moves s hs p x z t i k d o step scenario e q v =
           (told_all s (opening_managers s hs) (deeds p) (deeds_in m x.entry.effect.delta) k c1 y1 z.xs z.ys
           (v.tells (grows s (opening_managers s hs) (deeds p) (deeds_in m x.entry.effect.delta) k.sender k.channel c y (z.told k there))) z.told h n_);
       resolved = λ a b u f. elim (operated_before zz (world_of s z.given ms) c1 y1 v.turned a b u f) [
-        inl old ↦ told_before p x _ (z.resolved a b u old)
+        | inl old ↦ told_before p x _ (z.resolved a b u old)
         | inr new ↦ resolved_here a b u (v.committed u new.0).0 new.1 new.2
       ];
       not_yet = λ a b u f. elim (operated_before zz (world_of s z.given ms) c1 y1 v.turned a b u f) [
-        inl old ↦ still_not s (opening_managers s hs) p x b u (none_committed b u m x.entry.effect.delta v.quiet) (z.not_yet a b u old)
+        | inl old ↦ still_not s (opening_managers s hs) p x b u (none_committed b u m x.entry.effect.delta v.quiet) (z.not_yet a b u old)
         | inr new ↦ subst (λ b. is_committed s (opening_managers s hs) (deeds (p ++ x ∷ [])) b u ≡ false) (sym new.2) (v.committed u new.0).1
       ];
       owned = λ a b u f. elim (operated_before zz (world_of s z.given ms) c1 y1 v.turned a b u f) [
-        inl old ↦ z.owned a b u old
+        | inl old ↦ z.owned a b u old
         | inr new ↦ (i, k, e, sym new.1, sym new.2)
       ];
       at = beside_at s hs p x z t d l r refl v.beside;

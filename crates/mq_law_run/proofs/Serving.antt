@@ -1,6 +1,6 @@
 -- START, STOP and RESET of a receiver's end, as moves of the network.
 use Rattle.std.proofs.Common.{ℕ, ◌≡◌, ◌-◌, Bool, true, false, List, [], ◌∷◌, ◌++◌, refl, ap, sym, subst, ◌∙◌}
-use Rattle.std.specs.Prelude.{Option, Some, None, ◌==◌, ◌&&◌, if◌then◌else◌, not, slice_get}
+use Rattle.std.specs.Prelude.{Some, None, ◌==◌, ◌&&◌, if◌then◌else◌, not, slice_get}
 use Rattle.std.specs.Str.{bytes_eq}
 use Rattle.mq_frame.specs.declared.frame.Frame.{Frame}
 use Rattle.mq_sync.specs.declared.unit.Unit.{Unit as Luw}
@@ -44,7 +44,7 @@ use Rattle.mq_law_channel.specs.Turns as channels
 use Rattle.mq_law_channel.specs.Turns.{receiver_stopped}
 use Rattle.mq_law_manager.specs.Facts.{IsSound}
 use Rattle.mq_law_node.specs.Data.{receives_at}
-use Rattle.mq_law_node.specs.Ends.{TakesAs, Taken as Took, Where, offering, receiver_of, told_receives}
+use Rattle.mq_law_node.specs.Ends.{TakesAs, Taken as Took, Where, receiver_of, told_receives}
 use Rattle.mq_law_node.specs.Moves.{FarMay, FarStep, far_does}
 use Rattle.mq_law_node.specs.Nodes.{FarAt}
 use Rattle.mq_law_node.specs.Quiet.{parts_far_apart}
@@ -65,7 +65,7 @@ use Rattle.mq_law_seen.specs.Seen.{book_of, world_of}
 use Rattle.mq_law_events.specs.Tied.{IsNext}
 use Rattle.mq_law_story.proofs.Weaving.{ledger_step}
 use Rattle.mq_law_turns.specs.Agreed.{IsToldOf}
-use Rattle.mq_law_turns.specs.Turns.{EachSound, IsAtFar, Scene, Taken, parts_for_others}
+use Rattle.mq_law_turns.specs.Turns.{IsAtFar, Scene, Taken, parts_for_others}
 use Rattle.mq_law_turns.proofs.Agreeing.{grows}
 use Rattle.mq_law_turns.proofs.FarOperating.{closed_unit, resets, starts, stops}
 use Rattle.mq_law_turns.proofs.OperatorSounds.{operates}
@@ -80,7 +80,7 @@ use Rattle.mq_law_run.specs.Run.{IsMoved, IsRunning, Moves, Stand, far_at, near_
 use Rattle.mq_law_run.proofs.Beside.{parts_add_none, parts_beside, parts_of_end}
 use Rattle.mq_law_run.proofs.Cabled.{parts_cabled}
 use Rattle.mq_law_run.proofs.Commanding.{all_leave, is_of_operator, none_received, operated_post, up_so}
-use Rattle.mq_law_run.proofs.Lining.{all_moved, else_index, here, left_aside, mem_at}
+use Rattle.mq_law_run.proofs.Lining.{all_moved, else_index, left_aside, mem_at}
 use Rattle.mq_law_run.proofs.Receiving.{channel_else, operated_old}
 use Rattle.mq_law_run.proofs.Running.{IsRun, beside_at, beside_counted, move_to, run_next, scene, sends_here, sound_at, takes_here, told_all}
 use Rattle.mq_law_run.proofs.Telling.{deeds_more, none_committed, still_not, told_before}
@@ -106,45 +106,50 @@ abbrev Serves : Scene → Node → Channel → Past → Ledger → Deed → Type
 Serves z n c y l d = (step : FarStep) × IsServed z n c y l d step
 
 refuses : (z : Scene) (n : Node) (c : Channel) (y : Past) (l : Ledger) (reason : OpRefusal) → IsAtFar z n c y l → is_up n.manager.running ≡ true → Serves z n c y l (refused reason n.own)
-refuses z n c y l reason a up = (FarStep.Rest, record {
-  may = tt;
-  taken = λ rs h. quiet z n c c y l rs a refl h;
-  took = arrives z.place n (refused reason n.own) c c.receives c.receiver c.kept c.back up a.takes_.here a.takes_.data_ refl;
-  unit = refl;
-  ends = refl;
-  adds = refl;
-  told = refl;
-  answer = acted.Op reason;
-  reply = refl;
-  is = refl;
-  pushed = refl;
-  near = λ v e. (refl, refl);
-  others = λ v. refl;
-  far = λ v e f. (refl, refl);
-})
+refuses z n c y l reason a up = (
+  FarStep.Rest,
+  record {
+    may = tt;
+    taken = λ rs h. quiet z n c c y l rs a refl h;
+    took = arrives z.place n (refused reason n.own) c c.receives c.receiver c.kept c.back up a.takes_.here a.takes_.data_ refl;
+    unit = refl;
+    ends = refl;
+    adds = refl;
+    told = refl;
+    answer = acted.Op reason;
+    reply = refl;
+    is = refl;
+    pushed = refl;
+    near = λ v e. (refl, refl);
+    others = λ v. refl;
+    far = λ v e f. (refl, refl);
+  },
+)
 
 -- START
 started : (z : Scene) (n : Node) (c : Channel) (y : Past) (l : Ledger) → IsAtFar z n c y l → is_up n.manager.running ≡ true → receivers.is_bound c.receiver.state ≡ false
     → Serves z n c y l (operated [] (with_end (Receives (receiver_of z.place (receivers.started c.receiver) c.kept)) n.own))
 started z n c y l a up off =
     let w : Where = z.place in
-    let h : TakesAs w n c = a.takes_ in
-    (FarStep.Start, record {
-      may = off;
-      taken = λ rs g. starts z n c y l rs a g;
-      took = arrives w n _ c c.receives (receivers.started c.receiver) c.kept c.back up (end_taken w n _ c.receiver c.kept c.kept h.here) h.data_ refl;
-      unit = refl;
-      ends = refl;
-      adds = refl;
-      told = refl;
-      answer = acted.Done;
-      reply = refl;
-      is = refl;
-      pushed = refl;
-      near = λ v e. (set_receiving v (receiver_of w (receivers.started c.receiver) c.kept) n e, refl);
-      others = λ v. refl;
-      far = λ v e f. (set_taking v (receiver_of w (receivers.started c.receiver) c.kept) n e, refl);
-    })
+    let h : TakesAs w n c = a.takes_ in (
+      FarStep.Start,
+      record {
+        may = off;
+        taken = λ rs g. starts z n c y l rs a g;
+        took = arrives w n _ c c.receives (receivers.started c.receiver) c.kept c.back up (end_taken w n _ c.receiver c.kept c.kept h.here) h.data_ refl;
+        unit = refl;
+        ends = refl;
+        adds = refl;
+        told = refl;
+        answer = acted.Done;
+        reply = refl;
+        is = refl;
+        pushed = refl;
+        near = λ v e. (set_receiving v (receiver_of w (receivers.started c.receiver) c.kept) n e, refl);
+        others = λ v. refl;
+        far = λ v e f. (set_taking v (receiver_of w (receivers.started c.receiver) c.kept) n e, refl);
+      },
+    )
 
 starts_so : (z : Scene) (n : Node) (c : Channel) (y : Past) (l : Ledger) → IsAtFar z n c y l → is_up n.manager.running ≡ true → Serves z n c y l (start_end (Some (Receives (receiver_of z.place c.receiver c.kept))) n)
 starts_so z n c y l a up = bool_case (receivers.is_bound c.receiver.state)
@@ -176,29 +181,31 @@ stops_so : (z : Scene) (n : Node) (c : Channel) (y : Past) (l : Ledger) → IsAt
 stops_so z n c y l a up =
     let w : Where = z.place in
     let h : TakesAs w n c = a.takes_ in
-    let parts = close_ends (receiver_of w c.receiver c.kept) n.manager in
-    (FarStep.Stop, record {
-      may = tt;
-      taken = λ rs g. stops z n c y l rs a g;
-      took = arrives w n (stop_end (Some (Receives (receiver_of w c.receiver c.kept))) n) c (if channels.is_open c.receives then record c.receives { closed = true } else c.receives) (receivers.stopped c.receiver) [] c.back up
-          (end_taken w n _ c.receiver [] c.kept h.here)
-          (closed_is_told (channels.is_open c.receives) c.receives ∙ ap closed_told h.data_
-          ∙ sym (closed_is_told (channels.is_open (receives_at w.channel n.manager)) (receives_at w.channel n.manager))
-          ∙ ap (λ (b : Bool). told_receives (if b then record (receives_at w.channel n.manager) { closed = true } else receives_at w.channel n.manager)) (sym (open_there (receiver_data w.channel n.manager)))
-          ∙ closed_at w c.receiver c.kept n.manager (is_open (receiver_data w.channel n.manager)))
-          refl;
-      unit = closed_unit (channels.is_open c.receives) c.receives;
-      ends = parts.0;
-      adds = parts.1;
-      told = parts.2;
-      answer = acted.Done;
-      reply = refl;
-      is = refl;
-      pushed = refl;
-      near = λ v e. (set_receiving v (receiver_of w (receivers.stopped c.receiver) []) n e, close_apart v (receiver_of w c.receiver c.kept) n);
-      others = λ v. close_others v.channel (receiver_of w c.receiver c.kept) n.manager;
-      far = λ v e f. (set_taking v (receiver_of w (receivers.stopped c.receiver) []) n e, close_far v.channel (receiver_of w c.receiver c.kept) n.manager f);
-    })
+    let parts = close_ends (receiver_of w c.receiver c.kept) n.manager in (
+      FarStep.Stop,
+      record {
+        may = tt;
+        taken = λ rs g. stops z n c y l rs a g;
+        took = arrives w n (stop_end (Some (Receives (receiver_of w c.receiver c.kept))) n) c (if channels.is_open c.receives then record c.receives { closed = true } else c.receives) (receivers.stopped c.receiver) [] c.back up
+            (end_taken w n _ c.receiver [] c.kept h.here)
+            (closed_is_told (channels.is_open c.receives) c.receives ∙ ap closed_told h.data_
+            ∙ sym (closed_is_told (channels.is_open (receives_at w.channel n.manager)) (receives_at w.channel n.manager))
+            ∙ ap (λ (b : Bool). told_receives (if b then record (receives_at w.channel n.manager) { closed = true } else receives_at w.channel n.manager)) (sym (open_there (receiver_data w.channel n.manager)))
+            ∙ closed_at w c.receiver c.kept n.manager (is_open (receiver_data w.channel n.manager)))
+            refl;
+        unit = closed_unit (channels.is_open c.receives) c.receives;
+        ends = parts.0;
+        adds = parts.1;
+        told = parts.2;
+        answer = acted.Done;
+        reply = refl;
+        is = refl;
+        pushed = refl;
+        near = λ v e. (set_receiving v (receiver_of w (receivers.stopped c.receiver) []) n e, close_apart v (receiver_of w c.receiver c.kept) n);
+        others = λ v. close_others v.channel (receiver_of w c.receiver c.kept) n.manager;
+        far = λ v e f. (set_taking v (receiver_of w (receivers.stopped c.receiver) []) n e, close_far v.channel (receiver_of w c.receiver c.kept) n.manager f);
+      },
+    )
 
 -- RESET
 abbrev reset_deed : Where → ℕ → Node → Channel → Deed
@@ -207,26 +214,28 @@ reset_deed w seqnum n c = operated (parts_of (harden w.channel (notes.SeqSet end
 numbered : (z : Scene) (n : Node) (c : Channel) (y : Past) (l : Ledger) (seqnum : ℕ) → IsAtFar z n c y l → is_up n.manager.running ≡ true → Serves z n c y l (reset_deed z.place seqnum n c)
 numbered z n c y l seqnum a up =
     let w : Where = z.place in
-    let h : TakesAs w n c = a.takes_ in
-    (FarStep.Number (seqnum - 1), record {
-      may = tt;
-      taken = λ rs g. resets z n c y l (seqnum - 1) rs a g;
-      took = arrives w n (reset_deed w seqnum n c) c (record c.receives { last = seqnum - 1 }) (receivers.numbered (seqnum - 1) c.receiver) c.kept c.back up
-          (end_taken w n _ c.receiver c.kept c.kept h.here)
-          (ap (λ (d : ReceiverData). record d { last = seqnum - 1 }) h.data_ ∙ found_receiver w.channel (record (receives_at w.channel n.manager) { last = seqnum - 1 }) (receiver_data w.channel n.manager))
-          refl;
-      unit = refl;
-      ends = refl;
-      adds = refl;
-      told = refl;
-      answer = acted.Done;
-      reply = refl;
-      is = refl;
-      pushed = refl;
-      near = λ v e. (set_receiving v (receiver_of w (receivers.numbered (seqnum - 1) c.receiver) c.kept) n e, refl);
-      others = λ v. refl;
-      far = λ v e f. (set_taking v (receiver_of w (receivers.numbered (seqnum - 1) c.receiver) c.kept) n e, ap (λ (b : Bool). (not b && true) && true) f);
-    })
+    let h : TakesAs w n c = a.takes_ in (
+      FarStep.Number (seqnum - 1),
+      record {
+        may = tt;
+        taken = λ rs g. resets z n c y l (seqnum - 1) rs a g;
+        took = arrives w n (reset_deed w seqnum n c) c (record c.receives { last = seqnum - 1 }) (receivers.numbered (seqnum - 1) c.receiver) c.kept c.back up
+            (end_taken w n _ c.receiver c.kept c.kept h.here)
+            (ap (λ (d : ReceiverData). record d { last = seqnum - 1 }) h.data_ ∙ found_receiver w.channel (record (receives_at w.channel n.manager) { last = seqnum - 1 }) (receiver_data w.channel n.manager))
+            refl;
+        unit = refl;
+        ends = refl;
+        adds = refl;
+        told = refl;
+        answer = acted.Done;
+        reply = refl;
+        is = refl;
+        pushed = refl;
+        near = λ v e. (set_receiving v (receiver_of w (receivers.numbered (seqnum - 1) c.receiver) c.kept) n e, refl);
+        others = λ v. refl;
+        far = λ v e f. (set_taking v (receiver_of w (receivers.numbered (seqnum - 1) c.receiver) c.kept) n e, ap (λ (b : Bool). (not b && true) && true) f);
+      },
+    )
 
 numbers_so : (z : Scene) (n : Node) (c : Channel) (y : Past) (l : Ledger) (seqnum : ℕ) → IsAtFar z n c y l → is_up n.manager.running ≡ true → Serves z n c y l (reset_end seqnum (Some (Receives (receiver_of z.place c.receiver c.kept))) n)
 numbers_so z n c y l seqnum a up =

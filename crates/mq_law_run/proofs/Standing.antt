@@ -1,21 +1,18 @@
 -- What an event comes to is kept again.
-use Rattle.std.proofs.Common.{ℕ, suc, ◌≡◌, ◌⊎◌, Bool, true, false, List, [], ◌∷◌, ◌++◌, refl, ap, sym, subst, ◌∙◌, inl, inr, arith}
-use Rattle.std.specs.Prelude.{Option, Some, None, ◌==◌, ◌+◌, ◌&&◌, ◌||◌, if◌then◌else◌, slice_get, nat_lt}
+use Rattle.std.proofs.Common.{ℕ, ◌≡◌, ◌⊎◌, Bool, true, false, List, [], ◌∷◌, ◌++◌, refl, ap, sym, subst, ◌∙◌, inl, inr, arith}
+use Rattle.std.specs.Prelude.{Some, ◌==◌, ◌+◌, ◌&&◌, ◌||◌, if◌then◌else◌, slice_get, nat_lt}
 use Rattle.std.proofs.lemmas.Bool.Decides.{nat_tests}
 use Rattle.mq_message.specs.declared.message.Ident.{Ident}
 use Rattle.mq_frame.specs.declared.frame.Frame.{Frame}
-use Rattle.mq_history.specs.declared.calls.Actor.TheVariants as actors
-use Rattle.mq_history.specs.declared.calls.Entry.{Entry}
 use Rattle.mq_history.specs.declared.history.History.{History}
 use Rattle.mq_history.specs.declared.scenario.CableLine.{CableLine}
 use Rattle.mq_history.specs.declared.scenario.Scenario.{Scenario}
-use Rattle.mq_spec_state.specs.State.{Plain}
 use Rattle.mq_spec_node.specs.Node.{Node}
 use Rattle.mq_spec_node.specs.Replays.{done_by}
 use Rattle.mq_spec_network.specs.Ledger.{Ledger, ledger, users_or}
 use Rattle.mq_spec_network.specs.Standing.{node_after, opening_ledger}
 use Rattle.mq_spec_network.specs.Story.{Line, Mem}
-use Rattle.mq_law_channel.specs.Channel.{Channel, Past}
+use Rattle.mq_law_channel.specs.Channel.{Channel}
 use Rattle.mq_law_node.specs.Nodes.{FarNode, NearNode}
 use Rattle.mq_law_node.proofs.Pairs.{far_stays, near_stays}
 use Rattle.mq_law_rows.proofs.Lists.{bool_case, eqb_yes}
@@ -25,7 +22,7 @@ use Rattle.mq_law_deeds.specs.Numbers.{AreCountedAt}
 use Rattle.mq_law_cables.specs.Joints.{AreCabled}
 use Rattle.mq_law_one.specs.Alone.{IsAt, NoOther}
 use Rattle.mq_law_one.proofs.Ordinary.{elsewhere_noted}
-use Rattle.mq_law_run.specs.Run.{Among, AreOffered, IsLine, IsMoved, Moves, Stand, far_at, near_at}
+use Rattle.mq_law_run.specs.Run.{Among, IsMoved, Moves, Stand, far_at, near_at}
 
 -- the node of the entry's manager, and the others
 pub here_node : (s : Scenario) (p : List Line) (x : Line) (h : History) (m : ℕ) → m ≡ x.manager → node_after s m (p ++ x ∷ []) h ≡ (done_by x.entry (node_after s x.manager p h)).next
@@ -97,11 +94,11 @@ keeps_on s hs p x h z is v = record {
       let b = z.offered i k e in
       record {
         out = λ o f n actor pushed. elim (mem_more p x (record { manager = k.sender; entry = o }) n) [
-          inl y ↦ out_among i k w f (b.out o f y actor pushed)
+          | inl y ↦ out_among i k w f (b.out o f y actor pushed)
           | inr y ↦ v.out i k f e (ap (λ (l : Line). l.manager) y) (ap (λ (l : Line). l.entry.actor) (sym y) ∙ actor) (ap (λ (l : Line). l.entry.effect.pushed) (sym y) ∙ pushed)
         ];
         back = λ o f n actor pushed. elim (mem_more p x (record { manager = k.receiver; entry = o }) n) [
-          inl y ↦ back_among i k w f (b.back o f y actor pushed)
+          | inl y ↦ back_among i k w f (b.back o f y actor pushed)
           | inr y ↦ v.back i k f e (ap (λ (l : Line). l.manager) y) (ap (λ (l : Line). l.entry.actor) (sym y) ∙ actor) (ap (λ (l : Line). l.entry.effect.pushed) (sym y) ∙ pushed)
         ];
       };

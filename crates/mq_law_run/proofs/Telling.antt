@@ -1,6 +1,6 @@
 -- What an entry more tells, and what its post leaves.
 use Rattle.std.proofs.Common.{ℕ, ◌≡◌, Bool, true, false, List, [], ◌∷◌, ◌++◌, refl, ap, sym, subst, ◌∙◌, inl, inr}
-use Rattle.std.specs.Prelude.{Option, Some, None, ◌||◌, ◌≤◌}
+use Rattle.std.specs.Prelude.{None, ◌||◌, ◌≤◌}
 use Rattle.std.specs.List.{list_any}
 use Rattle.mq_sync.specs.declared.unit.Unit.{Unit as Luw}
 use Rattle.mq_calls.specs.declared.choices.Choice.{Choice}
@@ -20,7 +20,6 @@ use Rattle.mq_spec_network.specs.Ledger as ledgers
 use Rattle.mq_spec_network.specs.Ledger.{Ledger, posted}
 use Rattle.mq_spec_network.specs.Order.{unit_received}
 use Rattle.mq_spec_network.specs.Story.{Line, Mem}
-use Rattle.mq_law_rows.proofs.Lists.{bool_case}
 use Rattle.mq_law_deeds.specs.Numbers.{AreCountedAt, IsNext}
 use Rattle.mq_law_deeds.proofs.Counting.{calls_kept, cut_kept}
 

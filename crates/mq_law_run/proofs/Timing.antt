@@ -1,18 +1,13 @@
 -- A timeout of a sender's end, as a move of the network.
 use Rattle.std.proofs.Common.{ℕ, ◌≡◌, Bool, true, false, List, [], ◌∷◌, ◌++◌, refl, ap, sym, subst, ◌∙◌}
 use Rattle.std.specs.Prelude.{Option, Some, None, ◌==◌, if◌then◌else◌, slice_get}
-use Rattle.std.specs.Str.{bytes_eq}
 use Rattle.mq_frame.specs.declared.frame.Frame.{Frame}
-use Rattle.mq_sync.specs.declared.unit.Unit.{Unit as Luw}
 use Rattle.mq_sync.specs.declared.data.SenderData.{SenderData}
 use Rattle.mq_sync.specs.Settlement.{sender_or}
 use Rattle.mq_sender.specs.States as senders
 use Rattle.mq_sender.specs.States.{awaits, is_running, timed_out}
 use Rattle.mq_sender.specs.Table.{is_sending}
-use Rattle.mq_history.specs.declared.calls.Actor.{Actor}
-use Rattle.mq_history.specs.declared.calls.Actor.TheVariants as actors
 use Rattle.mq_history.specs.declared.calls.Call.TheVariants as calls
-use Rattle.mq_history.specs.declared.calls.Entry.{Entry}
 use Rattle.mq_history.specs.declared.calls.Reply.{Reply}
 use Rattle.mq_history.specs.declared.calls.Reply.TheVariants as replies
 use Rattle.mq_history.specs.declared.history.History.{History}
@@ -26,7 +21,7 @@ use Rattle.mq_spec_state.specs.Steps.{delta_of, do_all}
 use Rattle.mq_spec_agents.specs.Words.{leave}
 use Rattle.mq_spec_node.specs.Node.{Node, SenderEnd}
 use Rattle.mq_spec_node.specs.Deeds.{Deed, Done, parts_of}
-use Rattle.mq_spec_node.specs.Senders.{after_timeout, leave_if_stopped, timeout_deed}
+use Rattle.mq_spec_node.specs.Senders.{after_timeout, timeout_deed}
 use Rattle.mq_spec_network.specs.Ledger as ledgers
 use Rattle.mq_spec_network.specs.Ledger.{Ledger, ledger, posted}
 use Rattle.mq_spec_network.specs.Order.{unit_received}
@@ -56,7 +51,7 @@ use Rattle.mq_law_one.proofs.Running.{Told_}
 use Rattle.mq_law_run.specs.Run.{Moves, Stand, far_at, near_at}
 use Rattle.mq_law_run.proofs.Beside.{EachAddsNone, EachOfEnd, parts_beside, timeouts_add, timeouts_of_end}
 use Rattle.mq_law_run.proofs.Cabled.{parts_cabled}
-use Rattle.mq_law_run.proofs.Lining.{else_channel, else_index, mem_at}
+use Rattle.mq_law_run.proofs.Lining.{else_index, mem_at}
 use Rattle.mq_law_run.proofs.Running.{IsRun, run_next, scene, sends_here, sound_at}
 use Rattle.mq_law_run.proofs.Sending.{none_committed_now, step_moves}
 

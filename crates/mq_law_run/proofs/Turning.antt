@@ -1,5 +1,5 @@
 -- Turns of ends that run, and timeouts, as moves of the network.
-use Rattle.std.proofs.Common.{ℕ, ◌≡◌, Bool, true, false, List, [], ◌∷◌, ◌++◌, refl}
+use Rattle.std.proofs.Common.{ℕ, ◌≡◌, List, [], ◌∷◌, ◌++◌, refl}
 use Rattle.std.specs.Prelude.{Some, slice_get}
 use Rattle.mq_sender.specs.Table.{sender_next}
 use Rattle.mq_history.specs.declared.calls.Actor.TheVariants as actors

@@ -1,5 +1,5 @@
 -- All channels stay tied where a manager's rows and the ledger's move together.
-use Rattle.std.proofs.Common.{ℕ, ◌≡◌, Bool, true, false, List, refl, ap, sym, ◌∙◌}
+use Rattle.std.proofs.Common.{ℕ, ◌≡◌, Bool, List, refl, ap, sym, ◌∙◌}
 use Rattle.std.specs.Prelude.{◌==◌, is_some, slice_get}
 use Rattle.mq_message.specs.declared.message.Ident.{Ident}
 use Rattle.mq_sync.specs.declared.unit.Unit.{Unit as Luw}
@@ -10,7 +10,7 @@ use Rattle.mq_spec_state.specs.Reads.{batch_of, in_doubt_of, receiver_in, sender
 use Rattle.mq_spec_network.specs.Ledger.{Ledger}
 use Rattle.mq_spec_network.specs.Standing.{last_unit_of}
 use Rattle.mq_law_channel.specs.Channel.{Channel, Past}
-use Rattle.mq_law_rows.specs.World.{Book, Ghost, World}
+use Rattle.mq_law_rows.specs.World.{Ghost, World}
 use Rattle.mq_law_rows.proofs.Lists.{bool_case, eqb_yes}
 use Rattle.mq_law_seen.specs.Seen.{book_of, doubt_of, held_unit, holds_of, world_of}
 use Rattle.mq_law_events.specs.Local.{Leads, sheet_of, side_of, with_owner}
@@ -49,13 +49,15 @@ pub leads_on : (s : Scenario) (given now : Ident → Bool) (a : ℕ) (p q : Plai
     → (j : Joined (world_of s now qs) (book_of k) ks xs ys) × (j.ghost.operated ≡ g.operated)
 leads_on s given now a p q ps qs l k g ks xs ys n told leads same again other j =
     let o = moves_on s given now a p q ps qs l k g n told leads same again other j.inv in
-    let near : IsNear p q = record { given = same.given; receivers = λ d. ap (λ rs. last_unit_of (receiver_in d rs)) same.receivers } in
-    (record {
-      ghost = with_owner g o.owner;
-      joint = record {
-        inv = o.inv;
-        tied = λ c i. tied_on (world_of s given ps) (world_of s now qs) g (with_owner g o.owner) c.sender c.receiver c.channel (xs c.sender c.channel) (ys c.sender c.channel)
-            (holds_same a c.sender p q ps qs c.channel n same) (doubt_same a c.sender p q ps qs c.channel n same) (lasts s a p q ps qs c.channel c.sender n near) (λ u. refl) (λ u. refl) (j.tied c i);
-        begun = λ c i. j.begun c i;
-      };
-    }, refl)
+    let near : IsNear p q = record { given = same.given; receivers = λ d. ap (λ rs. last_unit_of (receiver_in d rs)) same.receivers } in (
+      record {
+        ghost = with_owner g o.owner;
+        joint = record {
+          inv = o.inv;
+          tied = λ c i. tied_on (world_of s given ps) (world_of s now qs) g (with_owner g o.owner) c.sender c.receiver c.channel (xs c.sender c.channel) (ys c.sender c.channel)
+              (holds_same a c.sender p q ps qs c.channel n same) (doubt_same a c.sender p q ps qs c.channel n same) (lasts s a p q ps qs c.channel c.sender n near) (λ u. refl) (λ u. refl) (j.tied c i);
+          begun = λ c i. j.begun c i;
+        };
+      },
+      refl,
+    )
