@@ -1,5 +1,5 @@
 -- START, STOP and RESET of a sender's end, as moves of the network.
-use Rattle.std.proofs.Common.{ℕ, ◌≡◌, ◌-◌, Bool, true, false, List, [], ◌∷◌, ◌++◌, refl, ap, sym, subst, ◌∙◌}
+use Rattle.std.proofs.Common.{ℕ, ◌≡◌, ◌-◌, Bool, true, false, List, [], ◌∷◌, ◌++◌, refl, ap, sym, subst, ◌∙◌, inl, inr}
 use Rattle.std.specs.Prelude.{Option, Some, None, ◌==◌, ◌&&◌, ◌||◌, not, if◌then◌else◌, map, slice_get}
 use Rattle.std.specs.Str.{bytes_eq}
 use Rattle.mq_message.specs.declared.message.Ident.{Ident}
@@ -84,6 +84,7 @@ use Rattle.mq_law_run.proofs.Cabled.{parts_cabled}
 use Rattle.mq_law_run.proofs.Lining.{else_channel, else_index, mem_at}
 use Rattle.mq_law_run.proofs.Running.{IsRun, run_next, scene, sends_here, sound_at}
 use Rattle.mq_law_run.proofs.Sending.{none_committed_now, step_moves}
+use Rattle.mq_law_run.proofs.Telling.{mem_right}
 
 -- WHAT IS POSTED
 -- what leaves the rows where they are
@@ -112,7 +113,7 @@ released_leave : (q : List ℕ) (is : List Ident) → all_leave (map (λ i. did.
 released_leave q [] = refl
 released_leave q (i ∷ is) = released_leave q is
 
-leave_behind : (xs ys : List Did) → all_leave xs ≡ true → all_leave ys ≡ true → all_leave (xs ++ ys) ≡ true
+pub leave_behind : (xs ys : List Did) → all_leave xs ≡ true → all_leave ys ≡ true → all_leave (xs ++ ys) ≡ true
 leave_behind [] ys a b = b
 leave_behind (x ∷ xs) ys a b = let z = and_both (leaves_rows x) (all_leave xs) a in ap (λ (t : Bool). t && all_leave (xs ++ ys)) z.0 ∙ leave_behind xs ys z.1 b
 
@@ -138,6 +139,18 @@ operated_post m e op a l call chance reply is quiet = ap (λ (o : Reply). posted
     ∙ answered m op a e.effect.received e.effect.delta e.effect.delta (ledgers.take_all_gone m e.effect.delta l) is
     ∙ none_gone m e.effect.delta l quiet
 
+-- what is told of a manager
+abbrev pub told_of : ℕ → Did → ToldDeed
+told_of m d = record { manager = m; did = d }
+
+in_deeds : (m : ℕ) (ds : List Did) (e : Did) → Mem e ds → Mem (told_of m e) (deeds_in m ds)
+in_deeds m [] e n = absurd n
+in_deeds m (d ∷ ds) e (inl q) = inl (ap (told_of m) q)
+in_deeds m (d ∷ ds) e (inr n) = inr (in_deeds m ds e n)
+
+pub told_here : (a m : ℕ) (ds es : List Did) (e : Did) → a ≡ m → es ≡ ds → Mem e ds → Mem (told_of a e) (deeds_in m es)
+told_here a m ds es e q f n = subst (λ (b : ℕ). Mem (told_of b e) (deeds_in m es)) (sym q) (subst (λ (xs : List Did). Mem (told_of m e) (deeds_in m xs)) (sym f) (in_deeds m ds e n))
+
 -- WHAT A COMMAND ON AN END COMES TO
 pub record IsCommand (z : Scene) (n : Node) (c : Channel) (y : Past) (d : Deed) (step : NearStep) : Type 0 where
   pub may : NearMay step c
@@ -150,16 +163,16 @@ pub record IsCommand (z : Scene) (n : Node) (c : Channel) (y : Past) (d : Deed) 
   pub reply : d.reply ≡ replies.Acted answer
   pub is : is_of_operator answer ≡ true
   pub pushed : d.pushed ≡ None
-  pub tells : (ps : List Plain) (ds : List ToldDeed) → IsToldOf z.scenario ps ds z.sender z.place.channel c y → IsToldOf z.scenario ps ds z.sender z.place.channel (near_does step c) (near_past step c y)
+  pub tells : (ps : List Plain) (ds : List ToldDeed) → ((e : Did) → Mem e (delta_of d.parts) → Mem (told_of z.sender e) ds) → IsToldOf z.scenario ps ds z.sender z.place.channel c y → IsToldOf z.scenario ps ds z.sender z.place.channel (near_does step c) (near_past step c y)
   pub near : (v : Where) → (z.place.cable == v.cable) ≡ false → bytes_eq v.channel z.place.channel ≡ false → EachApart v n (Some d)
   pub others : (v : Where) → bytes_eq v.channel z.place.channel ≡ false → parts_for_others v.channel d.parts ≡ true
   pub far : (v : Where) → (z.place.cable == v.cable) ≡ false → EachFarApart v n (Some d)
 
-abbrev Commands : Scene → Node → Channel → Past → Deed → Type 0
+abbrev pub Commands : Scene → Node → Channel → Past → Deed → Type 0
 Commands z n c y d = (step : NearStep) × IsCommand z n c y d step
 
 -- what is refused changes nothing
-refuses : (z : Scene) (n : Node) (c : Channel) (y : Past) (reason : OpRefusal) → IsAt z n c y → is_up n.manager.running ≡ true → Commands z n c y (refused reason n.own)
+pub refuses : (z : Scene) (n : Node) (c : Channel) (y : Past) (reason : OpRefusal) → IsAt z n c y → is_up n.manager.running ≡ true → Commands z n c y (refused reason n.own)
 refuses z n c y reason a up = (
   NearStep.Rest,
   record {
@@ -173,7 +186,7 @@ refuses z n c y reason a up = (
     reply = refl;
     is = refl;
     pushed = refl;
-    tells = λ ps ds h. h;
+    tells = λ ps ds f h. h;
     near = λ v e f. (refl, refl);
     others = λ v f. refl;
     far = λ v e. (refl, refl);
@@ -205,7 +218,7 @@ seizes z n c y s None a up off =
         reply = refl;
         is = refl;
         pushed = refl;
-        tells = λ ps ds i. record { undone = i.undone; last = i.last };
+        tells = λ ps ds f i. record { undone = i.undone; last = i.last };
         near = λ v e f. (set_apart v _ n e, refl);
         others = λ v f. refl;
         far = λ v e. (set_far v _ n e, refl);
@@ -246,7 +259,7 @@ stops_so z n c y a up =
         reply = refl;
         is = refl;
         pushed = refl;
-        tells = λ ps ds i. released_tells z.scenario ps ds z.sender w.channel c (sender_stopped c) y refl i;
+        tells = λ ps ds f i. released_tells z.scenario ps ds z.sender w.channel c (sender_stopped c) y refl i;
         near = λ v e f. (set_apart v _ n e, release_apart v.channel w.channel o n.manager f);
         others = λ v f. parts_behind v.channel (parts_of (release_batch w.channel n.manager)) (parts_of (leave w.channel n.manager)) (released_others v.channel w.channel o) refl;
         far = λ v e. (set_far v _ n e, release_far v.channel w.channel o n.manager);
@@ -274,7 +287,7 @@ numbered z n c y seqnum a up off =
         reply = refl;
         is = refl;
         pushed = refl;
-        tells = λ ps ds i. record { undone = i.undone; last = i.last };
+        tells = λ ps ds f i. record { undone = i.undone; last = i.last };
         near = λ v e f. (refl, ap (λ (b : Bool). (not b && true) && true) f);
         others = λ v f. refl;
         far = λ v e. (refl, refl);
@@ -314,7 +327,8 @@ command_moves s hs p x z t i k d op step scenario e q call chance r v =
       beside = parts_beside d.parts n.manager v.ends;
       whole = ledger_step (opening_ledger s hs) p x ∙ operated_post m x.entry op v.answer l call chance reply v.is quiet;
       quiet = none_received x.entry.effect.delta quiet;
-      tells = λ h. v.tells (opening_managers s hs) (deeds p ++ deeds_in m x.entry.effect.delta) h;
+      tells = λ h. v.tells (opening_managers s hs) (deeds p ++ deeds_in m x.entry.effect.delta)
+          (λ b w. mem_right (told_of k.sender b) (deeds p) (deeds_in m x.entry.effect.delta) (told_here k.sender m (delta_of d.parts) x.entry.effect.delta b q delta w)) h;
       cabled = parts_cabled s.cables m d.parts n.manager v.adds (z.cabled m t.h t.is);
       near = λ j h f out a.
           let u : Where = near_at s j h in
@@ -336,7 +350,7 @@ command_moves s hs p x z t i k d op step scenario e q call chance r v =
 pub up_so : (op : Op) (n : Node) → is_up n.manager.running ≡ true → operate_up op n ≡ operate op n
 up_so op n up = sym (ap (λ (t : Bool). tested (when (not t) reasons.Down ∷ []) n.own (operate_up op n)) up)
 
-commanded : (s : Scenario) (hs : List History) (p : List Line) (x : Line) (z : Stand s hs p) (t : Told_ s hs p x) (i : ℕ) (k : CableLine) (d : Deed) (op : Op) → IsScenario s → slice_get s.cables i ≡ Some k → k.sender ≡ x.manager
+pub commanded : (s : Scenario) (hs : List History) (p : List Line) (x : Line) (z : Stand s hs p) (t : Told_ s hs p x) (i : ℕ) (k : CableLine) (d : Deed) (op : Op) → IsScenario s → slice_get s.cables i ≡ Some k → k.sender ≡ x.manager
     → x.entry.call ≡ calls.Act (acts.Obey (lines.Operate op)) → x.entry.chance ≡ chances.Call Runs → IsRunning s p x t.h (operate op (node_after s x.manager p t.h)) → d ≡ operate_up op (node_after s x.manager p t.h)
     → (IsAt (scene s hs p z k (near_at s i k)) (node_after s x.manager p t.h) (z.xs k.sender k.channel) (z.ys k.sender k.channel) → Commands (scene s hs p z k (near_at s i k)) (node_after s x.manager p t.h) (z.xs k.sender k.channel) (z.ys k.sender k.channel) d)
     → Moves s hs p x t.h z

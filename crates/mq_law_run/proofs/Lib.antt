@@ -8,6 +8,8 @@ pub mod Cabled
 pub mod Lining
 pub mod Owning
 pub mod Running
+pub mod Idling
+pub mod Failing
 pub mod Sending
 pub mod Landing
 pub mod Housing
@@ -18,5 +20,7 @@ pub mod Restarting
 pub mod Timing
 pub mod Expiring
 pub mod Commanding
+pub mod Resolving
 pub mod Serving
 pub mod Turning
+pub mod Beginning

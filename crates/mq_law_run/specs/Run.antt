@@ -16,8 +16,8 @@ use Rattle.mq_spec_node.specs.Node.{Node}
 use Rattle.mq_calls.specs.declared.choices.Choice.TheVariants.{Runs}
 use Rattle.mq_history.specs.declared.acts.Acted.TheVariants as acted
 use Rattle.mq_history.specs.declared.calls.Reply.TheVariants as replies
-use Rattle.mq_spec_state.specs.State.{Noted}
-use Rattle.mq_spec_state.specs.State.Running.{Up}
+use Rattle.mq_spec_state.specs.State.{LogState, Noted}
+use Rattle.mq_spec_state.specs.State.Running.{Down, Up}
 use Rattle.mq_spec_manager.specs.Stops.{restarted, stop_at}
 use Rattle.mq_spec_node.specs.Deeds.{CanCome, Deed, Done, begun_anew, done, quiet}
 use Rattle.mq_spec_node.specs.Happens.{crashed}
@@ -127,3 +127,7 @@ stopped_done n = crashed (stop_at Up n.manager) n
 
 abbrev pub risen_done : ℕ → Option Noted → Node → Done
 risen_done started noted n = quiet (replies.Acted acted.Done) [] (begun_anew (restarted false started noted n.manager) n.own)
+
+-- a manager whose restart failed
+abbrev pub failed_node : Option Noted → ℕ → LogState → Node → Node
+failed_node noted more g n = record { manager = record n.manager { running = Down noted more; log = g }; own = n.own }
