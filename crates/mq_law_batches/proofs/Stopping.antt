@@ -169,17 +169,17 @@ bulk_stays (b ∷ bs) p =
     let r = bulk_stays bs (apply (Release (HeldBy (holders.Batch b.channel)) false) p) in
     record { given = r.given; definitions = r.definitions; connections = r.connections; senders = r.senders; receivers = r.receivers; moment = r.moment; numbers = r.numbers }
 
-record IsRest (p r : Plain) : Type 0 where
-  given : r.given ≡ p.given
-  definitions : r.definitions ≡ p.definitions
-  connections : r.connections ≡ []
-  senders : r.channels.senders ≡ p.channels.senders
-  receivers : r.channels.receivers ≡ p.channels.receivers
-  batches : r.channels.batches ≡ []
-  moment : r.moment ≡ p.moment
-  numbers : r.numbers ≡ p.numbers
+pub record IsRest (p r : Plain) : Type 0 where
+  pub given : r.given ≡ p.given
+  pub definitions : r.definitions ≡ p.definitions
+  pub connections : r.connections ≡ []
+  pub senders : r.channels.senders ≡ p.channels.senders
+  pub receivers : r.channels.receivers ≡ p.channels.receivers
+  pub batches : r.channels.batches ≡ []
+  pub moment : r.moment ≡ p.moment
+  pub numbers : r.numbers ≡ p.numbers
 
-rest_stays : (p : Plain) → IsRest p (at_rest p)
+pub rest_stays : (p : Plain) → IsRest p (at_rest p)
 rest_stays p =
     let p0 : Plain = apply (Release HeldByUnits true) p in
     let r = bulk_stays p.channels.batches p0 in

@@ -1,6 +1,6 @@
 -- Each event leaves all channels tied to the network.
 use Rattle.std.proofs.Common.{ℕ, ◌≡◌, Bool, true, false, List, refl, sym, subst, ◌∙◌}
-use Rattle.std.specs.Prelude.{◌==◌, if◌then◌else◌}
+use Rattle.std.specs.Prelude.{Option, ◌==◌, if◌then◌else◌}
 use Rattle.mq_message.specs.declared.message.Ident.{Ident}
 use Rattle.mq_sync.specs.declared.unit.Unit.{Unit as Luw}
 use Rattle.mq_sync.specs.Units.{Upto}
@@ -20,7 +20,7 @@ use Rattle.mq_law_events.specs.Local.{with_owner}
 use Rattle.mq_law_events.specs.Tied.{Follow, IsNext, IsTold}
 use Rattle.mq_law_events.proofs.Stepping.{follows_on}
 use Rattle.mq_law_story.specs.Needs.{IsTied}
-use Rattle.mq_law_turns.specs.Turns.{AreBegun, IsAtRest, IsJoint, Scene, Taken, Turned, world_in}
+use Rattle.mq_law_turns.specs.Turns.{AreBegun, IsAtRest, IsJoint, Scene, Taken, TurnedBy, world_in}
 use Rattle.mq_law_turns.proofs.Keeping as keeping
 use Rattle.mq_law_turns.proofs.Resting as resting
 use Rattle.mq_law_cables.specs.Joints.{AreJoint, Joined, LeadTo, rested}
@@ -56,41 +56,43 @@ tied_at w g m t c k x y p q r i =
 begun_at : (g : Ghost) (m : ℕ) (c : List ℕ) (k : CableLine) (y : Past) → k.sender ≡ m → k.channel ≡ c → AreBegun g m c y → AreBegun g k.sender k.channel y
 begun_at g m c k y p q i = subst (λ a. AreBegun g a k.channel y) (sym p) (subst (λ d. AreBegun g m d y) (sym q) i)
 
-pub turned : (z : Scene) (v : World) (x : Channel) (y : Past) (ks : List CableLine) (xs : ℕ → List ℕ → Channel) (ys : ℕ → List ℕ → Past) → Turned z v x y → LeadTo ks z.sender z.place.channel z.receiver → AreJoint (world_in z) z.ghost z.book ks xs ys
-    → Joined v z.book ks (put_at xs z.sender z.place.channel x) (put_at ys z.sender z.place.channel y)
-turned z v x y ks xs ys r lead j =
+pub turned_joint : {o : Option Luw} (z : Scene) (v : World) (x : Channel) (y : Past) (ks : List CableLine) (xs : ℕ → List ℕ → Channel) (ys : ℕ → List ℕ → Past) → (r : TurnedBy o z v x y) → LeadTo ks z.sender z.place.channel z.receiver → AreJoint (world_in z) z.ghost z.book ks xs ys
+    → AreJoint v r.ghost z.book ks (put_at xs z.sender z.place.channel x) (put_at ys z.sender z.place.channel y)
+turned_joint z v x y ks xs ys r lead j =
     let m : ℕ = z.sender in
     let c : List ℕ = z.place.channel in
     record {
-      ghost = r.ghost;
-      joint = record {
-        inv = r.joint.inv;
-        tied = λ k n. bool_case (is_here m c k.sender k.channel) (λ t. is_here m c k.sender k.channel ≡ t → IsTied v r.ghost k.sender k.receiver k.channel (if t then x else xs k.sender k.channel) (if t then y else ys k.sender k.channel))
-            (λ e f. let p = here_yes m c k.sender k.channel f in tied_at v r.ghost m z.receiver c k x y p.0 p.1 (lead k n f) r.joint.tied)
-            (λ e f. (keeping.senders_others z v x y r k.sender k.receiver k.channel (xs k.sender k.channel) (ys k.sender k.channel) f (joint_of (world_in z) z.ghost z.book ks xs ys k n j)).tied) refl;
-        begun = λ k n. bool_case (is_here m c k.sender k.channel) (λ t. is_here m c k.sender k.channel ≡ t → AreBegun r.ghost k.sender k.channel (if t then y else ys k.sender k.channel))
-            (λ e f. let p = here_yes m c k.sender k.channel f in begun_at r.ghost m c k y p.0 p.1 r.joint.begun)
-            (λ e f. (keeping.senders_others z v x y r k.sender k.receiver k.channel (xs k.sender k.channel) (ys k.sender k.channel) f (joint_of (world_in z) z.ghost z.book ks xs ys k n j)).begun) refl;
-      };
+      inv = r.joint.inv;
+      tied = λ k n. bool_case (is_here m c k.sender k.channel) (λ t. is_here m c k.sender k.channel ≡ t → IsTied v r.ghost k.sender k.receiver k.channel (if t then x else xs k.sender k.channel) (if t then y else ys k.sender k.channel))
+          (λ e f. let p = here_yes m c k.sender k.channel f in tied_at v r.ghost m z.receiver c k x y p.0 p.1 (lead k n f) r.joint.tied)
+          (λ e f. (keeping.senders_others z v x y r k.sender k.receiver k.channel (xs k.sender k.channel) (ys k.sender k.channel) f (joint_of (world_in z) z.ghost z.book ks xs ys k n j)).tied) refl;
+      begun = λ k n. bool_case (is_here m c k.sender k.channel) (λ t. is_here m c k.sender k.channel ≡ t → AreBegun r.ghost k.sender k.channel (if t then y else ys k.sender k.channel))
+          (λ e f. let p = here_yes m c k.sender k.channel f in begun_at r.ghost m c k y p.0 p.1 r.joint.begun)
+          (λ e f. (keeping.senders_others z v x y r k.sender k.receiver k.channel (xs k.sender k.channel) (ys k.sender k.channel) f (joint_of (world_in z) z.ghost z.book ks xs ys k n j)).begun) refl;
+    }
+
+pub turned : {o : Option Luw} (z : Scene) (v : World) (x : Channel) (y : Past) (ks : List CableLine) (xs : ℕ → List ℕ → Channel) (ys : ℕ → List ℕ → Past) → TurnedBy o z v x y → LeadTo ks z.sender z.place.channel z.receiver → AreJoint (world_in z) z.ghost z.book ks xs ys
+    → Joined v z.book ks (put_at xs z.sender z.place.channel x) (put_at ys z.sender z.place.channel y)
+turned z v x y ks xs ys r lead j = record { ghost = r.ghost; joint = turned_joint z v x y ks xs ys r lead j }
+
+pub taken_joint : (z : Scene) (v : World) (b : Book) (x : Channel) (y : Past) (ks : List CableLine) (xs : ℕ → List ℕ → Channel) (ys : ℕ → List ℕ → Past) → (r : Taken z v b x y) → LeadTo ks z.sender z.place.channel z.receiver → AreJoint (world_in z) z.ghost z.book ks xs ys
+    → AreJoint v r.ghost b ks (put_at xs z.sender z.place.channel x) (put_at ys z.sender z.place.channel y)
+taken_joint z v b x y ks xs ys r lead j =
+    let m : ℕ = z.sender in
+    let c : List ℕ = z.place.channel in
+    record {
+      inv = r.joint.inv;
+      tied = λ k n. bool_case (is_here m c k.sender k.channel) (λ t. is_here m c k.sender k.channel ≡ t → IsTied v r.ghost k.sender k.receiver k.channel (if t then x else xs k.sender k.channel) (if t then y else ys k.sender k.channel))
+          (λ e f. let p = here_yes m c k.sender k.channel f in tied_at v r.ghost m z.receiver c k x y p.0 p.1 (lead k n f) r.joint.tied)
+          (λ e f. (keeping.receivers_others z v b x y r k.sender k.receiver k.channel (xs k.sender k.channel) (ys k.sender k.channel) f (joint_of (world_in z) z.ghost z.book ks xs ys k n j)).tied) refl;
+      begun = λ k n. bool_case (is_here m c k.sender k.channel) (λ t. is_here m c k.sender k.channel ≡ t → AreBegun r.ghost k.sender k.channel (if t then y else ys k.sender k.channel))
+          (λ e f. let p = here_yes m c k.sender k.channel f in begun_at r.ghost m c k y p.0 p.1 r.joint.begun)
+          (λ e f. (keeping.receivers_others z v b x y r k.sender k.receiver k.channel (xs k.sender k.channel) (ys k.sender k.channel) f (joint_of (world_in z) z.ghost z.book ks xs ys k n j)).begun) refl;
     }
 
 pub taken : (z : Scene) (v : World) (b : Book) (x : Channel) (y : Past) (ks : List CableLine) (xs : ℕ → List ℕ → Channel) (ys : ℕ → List ℕ → Past) → Taken z v b x y → LeadTo ks z.sender z.place.channel z.receiver → AreJoint (world_in z) z.ghost z.book ks xs ys
     → Joined v b ks (put_at xs z.sender z.place.channel x) (put_at ys z.sender z.place.channel y)
-taken z v b x y ks xs ys r lead j =
-    let m : ℕ = z.sender in
-    let c : List ℕ = z.place.channel in
-    record {
-      ghost = r.ghost;
-      joint = record {
-        inv = r.joint.inv;
-        tied = λ k n. bool_case (is_here m c k.sender k.channel) (λ t. is_here m c k.sender k.channel ≡ t → IsTied v r.ghost k.sender k.receiver k.channel (if t then x else xs k.sender k.channel) (if t then y else ys k.sender k.channel))
-            (λ e f. let p = here_yes m c k.sender k.channel f in tied_at v r.ghost m z.receiver c k x y p.0 p.1 (lead k n f) r.joint.tied)
-            (λ e f. (keeping.receivers_others z v b x y r k.sender k.receiver k.channel (xs k.sender k.channel) (ys k.sender k.channel) f (joint_of (world_in z) z.ghost z.book ks xs ys k n j)).tied) refl;
-        begun = λ k n. bool_case (is_here m c k.sender k.channel) (λ t. is_here m c k.sender k.channel ≡ t → AreBegun r.ghost k.sender k.channel (if t then y else ys k.sender k.channel))
-            (λ e f. let p = here_yes m c k.sender k.channel f in begun_at r.ghost m c k y p.0 p.1 r.joint.begun)
-            (λ e f. (keeping.receivers_others z v b x y r k.sender k.receiver k.channel (xs k.sender k.channel) (ys k.sender k.channel) f (joint_of (world_in z) z.ghost z.book ks xs ys k n j)).begun) refl;
-      };
-    }
+taken z v b x y ks xs ys r lead j = record { ghost = r.ghost; joint = taken_joint z v b x y ks xs ys r lead j }
 
 -- STOPS AND RESTARTS
 now_released : (y : Past) → now (released y).near ≡ now y.near

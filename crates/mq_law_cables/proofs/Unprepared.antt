@@ -35,19 +35,23 @@ found c (x ∷ bs) b e = bool_case (bytes_eq c x.channel) (λ t. bytes_eq c x.ch
 some_none : (u : Luw) → Some u ≡ None → ⊥
 some_none u e = cc
 
-apart : (s : Scenario) (given : Ident → Bool) (ps : List Plain) (g : Ghost) (m t : ℕ) (p : Plain) (c : List ℕ) (x : Channel) (y : Past) (b : Batch) → slice_get ps m ≡ Some p → IsSound p → batch_of c p.channels.batches ≡ Some b → IsTied (world_of s given ps) g m t c x y → Facts x y
+-- no channel has both a batch and a unit in doubt
+abbrev pub IsOne : Plain → Type 0
+IsOne p = (c : List ℕ) (b : Batch) → batch_of c p.channels.batches ≡ Some b → in_doubt_of (sender_data c p) ≡ None
+
+apart : (s : Scenario) (given : Ident → Bool) (ps : List Plain) (g : Ghost) (m t : ℕ) (p : Plain) (c : List ℕ) (x : Channel) (y : Past) (b : Batch) → slice_get ps m ≡ Some p → IsOne p → batch_of c p.channels.batches ≡ Some b → IsTied (world_of s given ps) g m t c x y → Facts x y
     → last_of s ps c (Some p) ≢ b.unit
 apart s given ps g m t p c x y b at sound is tied facts e =
-    let none : in_doubt_of (sender_data c p) ≡ None = sound.facts.batched.one c b is in
+    let none : in_doubt_of (sender_data c p) ≡ None = sound c b is in
     let holds : (world_of s given ps).holds m c ≡ Some b.unit = ap (holds_of c) at ∙ (λ i. held_unit (none i) (is i)) in
     let doubt : (world_of s given ps).doubt m c ≡ false = ap (doubt_of c) at ∙ ap (λ (o : Option InDoubt). is_some o) none in
     let free : y.forced ≡ false = bool_case y.forced (λ z. y.forced ≡ z → z ≡ false) (λ z f. absurd (some_none b.unit (sym holds ∙ tied.idle f))) (λ z f. refl) refl in
     unprepared_tied (world_of s given ps) g m t c x y tied facts free (sym (tied.held free).1 ∙ doubt) b.unit holds (ap (last_of s ps c) at ∙ e)
 
-pub unprepared : (s : Scenario) (given : Ident → Bool) (ps : List Plain) (g : Ghost) (b : Book) (ks : List CableLine) (xs : ℕ → List ℕ → Channel) (ys : ℕ → List ℕ → Past) (m : ℕ) (p : Plain) → slice_get ps m ≡ Some p → IsSound p → AreCabled ks m p
+pub unprepared_still : (s : Scenario) (given : Ident → Bool) (ps : List Plain) (g : Ghost) (b : Book) (ks : List CableLine) (xs : ℕ → List ℕ → Channel) (ys : ℕ → List ℕ → Past) (m : ℕ) (p : Plain) → slice_get ps m ≡ Some p → IsOne p → AreCabled ks m p
     → ((k : CableLine) → Mem k ks → Facts (xs k.sender k.channel) (ys k.sender k.channel)) → AreJoint (world_of s given ps) g b ks xs ys → AreUnprepared s ps p
-unprepared s given ps g b ks xs ys m p at sound cabled facts j = record {
-  alone = λ x n. sound.facts.batched.one x.channel x (cabled.once x n);
+unprepared_still s given ps g b ks xs ys m p at sound cabled facts j = record {
+  alone = λ x n. sound x.channel x (cabled.once x n);
   apart = λ c x is e.
       let f = found c p.channels.batches x is in
       let k = cabled.line x f.0 in
@@ -57,3 +61,7 @@ unprepared s given ps g b ks xs ys m p at sound cabled facts j = record {
       (subst (λ a. IsTied (world_of s given ps) g a k.0.receiver k.0.channel (xs k.0.sender k.0.channel) (ys k.0.sender k.0.channel)) k.2 (j.tied k.0 k.1)) in
       apart s given ps g m k.0.receiver p c (xs k.0.sender k.0.channel) (ys k.0.sender k.0.channel) x at sound is tied (facts k.0 k.1) e;
 }
+
+pub unprepared : (s : Scenario) (given : Ident → Bool) (ps : List Plain) (g : Ghost) (b : Book) (ks : List CableLine) (xs : ℕ → List ℕ → Channel) (ys : ℕ → List ℕ → Past) (m : ℕ) (p : Plain) → slice_get ps m ≡ Some p → IsSound p → AreCabled ks m p
+    → ((k : CableLine) → Mem k ks → Facts (xs k.sender k.channel) (ys k.sender k.channel)) → AreJoint (world_of s given ps) g b ks xs ys → AreUnprepared s ps p
+unprepared s given ps g b ks xs ys m p at sound cabled facts j = unprepared_still s given ps g b ks xs ys m p at sound.facts.batched.one cabled facts j

@@ -1,7 +1,7 @@
 //! A network and all its channels at once: whatever happens at one manager, all channels are of one mind with the network behind it.
 #![tactic(auto)]
 
-ghost use Rattle.std.specs.Prelude.{◌≡◌, ◌+◌, ℕ, Bool, false, List, Some, slice_get};
+ghost use Rattle.std.specs.Prelude.{◌≡◌, ◌+◌, ℕ, Bool, false, List, Option, Some, slice_get};
 ghost use Rattle.mq_sync.specs.declared.unit.Unit.{Unit as Luw};
 ghost use Rattle.mq_message.specs.declared.message.Ident.{Ident};
 ghost use Rattle.mq_history.specs.declared.scenario.CableLine.{CableLine};
@@ -17,7 +17,7 @@ ghost use Rattle.mq_law_seen.specs.Seen.{book_of, world_of};
 ghost use Rattle.mq_law_events.specs.Tied.{Follow, IsNext, IsTold};
 ghost use Rattle.mq_law_manager.specs.Facts.{IsSound};
 ghost use Rattle.mq_law_batches.specs.Releases.{AreUnprepared};
-ghost use Rattle.mq_law_turns.specs.Turns.{IsAtRest, IsJoint, Scene, Taken, Turned, world_in};
+ghost use Rattle.mq_law_turns.specs.Turns.{IsAtRest, IsJoint, Scene, Taken, TurnedBy, world_in};
 ghost use Rattle.mq_law_cables.specs.Joints.{AreCabled, AreJoint, Begins, Joined, LeadTo, rested};
 
 /// Where the ledger follows a manager, all channels stay tied to the network.
@@ -29,7 +29,7 @@ pub fn all_channels_stay_tied()
 
 /// So do they behind a turn of one channel's end, or an operator's command on it, whose own channel takes its step.
 pub fn an_ends_turn_leaves_all_channels_tied()
-    ensures sender { (z : Scene) (v : World) (x : Channel) (y : Past) (ks : List CableLine) (xs : ℕ → List ℕ → Channel) (ys : ℕ → List ℕ → Past) → Turned z v x y → LeadTo ks z.sender z.place.channel z.receiver → AreJoint (world_in z) z.ghost z.book ks xs ys
+    ensures sender { (o : Option Luw) (z : Scene) (v : World) (x : Channel) (y : Past) (ks : List CableLine) (xs : ℕ → List ℕ → Channel) (ys : ℕ → List ℕ → Past) → TurnedBy o z v x y → LeadTo ks z.sender z.place.channel z.receiver → AreJoint (world_in z) z.ghost z.book ks xs ys
         → Joined v z.book ks (put_at xs z.sender z.place.channel x) (put_at ys z.sender z.place.channel y) }
     ensures receiver { (z : Scene) (v : World) (b : Book) (x : Channel) (y : Past) (ks : List CableLine) (xs : ℕ → List ℕ → Channel) (ys : ℕ → List ℕ → Past) → Taken z v b x y → LeadTo ks z.sender z.place.channel z.receiver → AreJoint (world_in z) z.ghost z.book ks xs ys
         → Joined v b ks (put_at xs z.sender z.place.channel x) (put_at ys z.sender z.place.channel y) }

@@ -25,7 +25,7 @@ use Rattle.mq_history.specs.declared.calls.Chance.TheVariants as chances
 use Rattle.mq_history.specs.declared.calls.Entry.{Entry}
 use Rattle.mq_history.specs.declared.calls.Reply.{Reply}
 use Rattle.mq_history.specs.declared.calls.Reply.TheVariants as replies
-use Rattle.mq_spec_state.specs.State.{Plain}
+use Rattle.mq_spec_state.specs.State.{Plain, Noted}
 use Rattle.mq_spec_state.specs.State.Change.{Connect, Disconnect}
 use Rattle.mq_spec_state.specs.Reads.{is_up}
 use Rattle.mq_spec_state.specs.Steps.{none_of, going_on, silent, Step, when, refusal, refused_or}
@@ -59,9 +59,9 @@ use Rattle.mq_law_one.proofs.Noting.{conn_noted, open_noted, close_noted, back_n
 use Rattle.mq_law_one.proofs.Happening.{Deeded, entry_of, quiet_happens, step_happens, mqi_happens, ended_happens, Fits, fits_by, connected_down, down_refused, reply_or}
 
 -- what an event comes to, and is posted
-abbrev pub Happens : ℕ → (Ident → Bool) → Node → Ledger → Entry → ℕ → Actor → Call → Chance → Seen → Type 0
-Happens m given n l e stamp actor call chance seen =
-    Became m given n l (event stamp actor call chance seen n).next
+abbrev pub Happens : (ledgers.Stopped → Noted → Type 0) → ℕ → (Ident → Bool) → Node → Ledger → Entry → ℕ → Actor → Call → Chance → Seen → Type 0
+Happens E m given n l e stamp actor call chance seen =
+    Became E m given n l (event stamp actor call chance seen n).next
     (posted m (entry_of e call chance (event stamp actor call chance seen n).reply (event stamp actor call chance seen n).delta (event stamp actor call chance seen n).received) (event stamp actor call chance seen n).reply l)
 
 -- Calls of applications
@@ -74,9 +74,9 @@ conn_down qmgr appl p e = go (is_other_name qmgr p) (is_up p.running) e
     go false true z = absurd cc
     go false false z = (reasons.QueueManagerNotAvailable, refl)
 
-pub conn_happens : (m : ℕ) (given : Ident → Bool) (n : Node) (l : Ledger) (e : Entry) (actor : Actor) (choice : Choice) (qmgr : List ℕ) (appl : Appl) → IsAt m given n l → CanCome (mqi_deed replies.Connected n.own (mqconn qmgr appl n.manager)) choice n
-    → Deeded m given n l e actor (calls.Mqconn qmgr appl) choice (mqi_deed replies.Connected n.own (mqconn qmgr appl n.manager))
-conn_happens m given n l e actor choice qmgr appl a can =
+pub conn_happens : {E : ledgers.Stopped → Noted → Type 0} (m : ℕ) (given : Ident → Bool) (n : Node) (l : Ledger) (e : Entry) (actor : Actor) (choice : Choice) (qmgr : List ℕ) (appl : Appl) → IsAt E m given n l → CanCome (mqi_deed replies.Connected n.own (mqconn qmgr appl n.manager)) choice n
+    → Deeded E m given n l e actor (calls.Mqconn qmgr appl) choice (mqi_deed replies.Connected n.own (mqconn qmgr appl n.manager))
+conn_happens {E} m given n l e actor choice qmgr appl a can =
     let p : Plain = n.manager in
     mqi_happens m given n l e actor (calls.Mqconn qmgr appl) choice replies.Connected (λ reply ds k. connect_if m appl (replies.Connected reply) k) (mqconn qmgr appl p) a
     (fits_by m given p l (λ reply ds k. connect_if m appl (replies.Connected reply) k) (calls.Mqconn qmgr appl) (mqconn qmgr appl p) a.state
@@ -85,9 +85,9 @@ conn_happens m given n l e actor choice qmgr appl a can =
     (conn_down qmgr appl p))
     (λ answer c ds. refl) (λ reason. refl) can
 
-pub open_happens : (m : ℕ) (given : Ident → Bool) (n : Node) (l : Ledger) (e : Entry) (actor : Actor) (choice : Choice) (hc : Hconn) (name qmgr : List ℕ) (how : Open) → IsAt m given n l → CanCome (mqi_deed replies.Opened n.own (mqopen hc name qmgr how n.manager)) choice n
-    → Deeded m given n l e actor (calls.Mqopen hc name qmgr how) choice (mqi_deed replies.Opened n.own (mqopen hc name qmgr how n.manager))
-open_happens m given n l e actor choice hc name qmgr how a can =
+pub open_happens : {E : ledgers.Stopped → Noted → Type 0} (m : ℕ) (given : Ident → Bool) (n : Node) (l : Ledger) (e : Entry) (actor : Actor) (choice : Choice) (hc : Hconn) (name qmgr : List ℕ) (how : Open) → IsAt E m given n l → CanCome (mqi_deed replies.Opened n.own (mqopen hc name qmgr how n.manager)) choice n
+    → Deeded E m given n l e actor (calls.Mqopen hc name qmgr how) choice (mqi_deed replies.Opened n.own (mqopen hc name qmgr how n.manager))
+open_happens {E} m given n l e actor choice hc name qmgr how a can =
     let p : Plain = n.manager in
     mqi_happens m given n l e actor (calls.Mqopen hc name qmgr how) choice replies.Opened (λ reply ds k. open_if m hc name qmgr how (replies.Opened reply) k) (mqopen hc name qmgr how p) a
     (fits_by m given p l (λ reply ds k. open_if m hc name qmgr how (replies.Opened reply) k) (calls.Mqopen hc name qmgr how) (mqopen hc name qmgr how p) a.state
@@ -96,9 +96,9 @@ open_happens m given n l e actor choice hc name qmgr how a can =
     (λ z. let d = connected_down hc p z in (d.0, ap (λ (r : Result Connection Reason). going_on r (λ c. going_on (none_of (option_tests how)) (λ chosen. going_on (resolve p.definitions p.given.name name qmgr) (λ route. going_on (none_of (open_tests c how route p)) (λ fits. open_step c how route))))) d.1)))
     (λ answer c ds. refl) (λ reason. refl) can
 
-pub close_happens : (m : ℕ) (given : Ident → Bool) (n : Node) (l : Ledger) (e : Entry) (actor : Actor) (choice : Choice) (hc : Hconn) (ho : Hobj) → IsAt m given n l → CanCome (ended_deed replies.Ended n.own (mqclose hc ho n.manager)) choice n
-    → Deeded m given n l e actor (calls.Mqclose hc ho) choice (ended_deed replies.Ended n.own (mqclose hc ho n.manager))
-close_happens m given n l e actor choice hc ho a can =
+pub close_happens : {E : ledgers.Stopped → Noted → Type 0} (m : ℕ) (given : Ident → Bool) (n : Node) (l : Ledger) (e : Entry) (actor : Actor) (choice : Choice) (hc : Hconn) (ho : Hobj) → IsAt E m given n l → CanCome (ended_deed replies.Ended n.own (mqclose hc ho n.manager)) choice n
+    → Deeded E m given n l e actor (calls.Mqclose hc ho) choice (ended_deed replies.Ended n.own (mqclose hc ho n.manager))
+close_happens {E} m given n l e actor choice hc ho a can =
     let p : Plain = n.manager in
     ended_happens m given n l e actor (calls.Mqclose hc ho) choice replies.Ended (λ reply ds k. close_if m hc ho (replies.Ended reply) k) (mqclose hc ho p) a
     (fits_by m given p l (λ reply ds k. close_if m hc ho (replies.Ended reply) k) (calls.Mqclose hc ho) (mqclose hc ho p) a.state
@@ -115,9 +115,9 @@ put1_none : (sync : Bool) (m : ℕ) (hc : Hconn) (name qmgr : List ℕ) (o : Opt
 put1_none sync m hc name qmgr None md body l = refl
 put1_none sync m hc name qmgr (Some c) md body l = refl
 
-pub put_happens : (m : ℕ) (given : Ident → Bool) (n : Node) (l : Ledger) (e : Entry) (actor : Actor) (choice : Choice) (hc : Hconn) (ho : Hobj) (md : Md) (body : List ℕ) (sync : Bool) → IsAt m given n l → CanCome (mqi_deed replies.Put n.own (mqput hc ho md body sync n.manager)) choice n
-    → Deeded m given n l e actor (calls.Mqput hc ho md body sync) choice (mqi_deed replies.Put n.own (mqput hc ho md body sync n.manager))
-put_happens m given n l e actor choice hc ho md body sync a can =
+pub put_happens : {E : ledgers.Stopped → Noted → Type 0} (m : ℕ) (given : Ident → Bool) (n : Node) (l : Ledger) (e : Entry) (actor : Actor) (choice : Choice) (hc : Hconn) (ho : Hobj) (md : Md) (body : List ℕ) (sync : Bool) → IsAt E m given n l → CanCome (mqi_deed replies.Put n.own (mqput hc ho md body sync n.manager)) choice n
+    → Deeded E m given n l e actor (calls.Mqput hc ho md body sync) choice (mqi_deed replies.Put n.own (mqput hc ho md body sync n.manager))
+put_happens {E} m given n l e actor choice hc ho md body sync a can =
     let p : Plain = n.manager in
     mqi_happens m given n l e actor (calls.Mqput hc ho md body sync) choice replies.Put (λ reply ds k. ledgers.put sync m hc ho (ledgers.connection_of m hc k) (sent_ident (replies.Put reply) ds) md body k) (mqput hc ho md body sync p) a
     (fits_by m given p l (λ reply ds k. ledgers.put sync m hc ho (ledgers.connection_of m hc k) (sent_ident (replies.Put reply) ds) md body k) (calls.Mqput hc ho md body sync) (mqput hc ho md body sync p) a.state
@@ -126,9 +126,9 @@ put_happens m given n l e actor choice hc ho md body sync a can =
     (down_refused hc p (put_up ho md body sync p)))
     (λ answer c ds. refl) (λ reason. put_none sync m hc ho (ledgers.connection_of m hc l) md body l) can
 
-pub put1_happens : (m : ℕ) (given : Ident → Bool) (n : Node) (l : Ledger) (e : Entry) (actor : Actor) (choice : Choice) (hc : Hconn) (name qmgr : List ℕ) (md : Md) (body : List ℕ) (sync : Bool) → IsAt m given n l → CanCome (mqi_deed replies.Put n.own (mqput1 hc name qmgr md body sync n.manager)) choice n
-    → Deeded m given n l e actor (calls.Mqput1 hc name qmgr md body sync) choice (mqi_deed replies.Put n.own (mqput1 hc name qmgr md body sync n.manager))
-put1_happens m given n l e actor choice hc name qmgr md body sync a can =
+pub put1_happens : {E : ledgers.Stopped → Noted → Type 0} (m : ℕ) (given : Ident → Bool) (n : Node) (l : Ledger) (e : Entry) (actor : Actor) (choice : Choice) (hc : Hconn) (name qmgr : List ℕ) (md : Md) (body : List ℕ) (sync : Bool) → IsAt E m given n l → CanCome (mqi_deed replies.Put n.own (mqput1 hc name qmgr md body sync n.manager)) choice n
+    → Deeded E m given n l e actor (calls.Mqput1 hc name qmgr md body sync) choice (mqi_deed replies.Put n.own (mqput1 hc name qmgr md body sync n.manager))
+put1_happens {E} m given n l e actor choice hc name qmgr md body sync a can =
     let p : Plain = n.manager in
     mqi_happens m given n l e actor (calls.Mqput1 hc name qmgr md body sync) choice replies.Put (λ reply ds k. ledgers.put1 sync m hc name qmgr (ledgers.connection_of m hc k) (sent_ident (replies.Put reply) ds) md body k) (mqput1 hc name qmgr md body sync p) a
     (fits_by m given p l (λ reply ds k. ledgers.put1 sync m hc name qmgr (ledgers.connection_of m hc k) (sent_ident (replies.Put reply) ds) md body k) (calls.Mqput1 hc name qmgr md body sync) (mqput1 hc name qmgr md body sync p) a.state
@@ -137,9 +137,9 @@ put1_happens m given n l e actor choice hc name qmgr md body sync a can =
     (down_refused hc p (put1_resolved (resolve p.definitions p.given.name name qmgr) md body sync p)))
     (λ answer c ds. refl) (λ reason. put1_none sync m hc name qmgr (ledgers.connection_of m hc l) md body l) can
 
-pub commit_happens : (m : ℕ) (given : Ident → Bool) (n : Node) (l : Ledger) (e : Entry) (actor : Actor) (choice : Choice) (hc : Hconn) → IsAt m given n l → CanCome (ended_deed replies.Ended n.own (mqcmit hc n.manager)) choice n
-    → Deeded m given n l e actor (calls.Mqcmit hc) choice (ended_deed replies.Ended n.own (mqcmit hc n.manager))
-commit_happens m given n l e actor choice hc a can =
+pub commit_happens : {E : ledgers.Stopped → Noted → Type 0} (m : ℕ) (given : Ident → Bool) (n : Node) (l : Ledger) (e : Entry) (actor : Actor) (choice : Choice) (hc : Hconn) → IsAt E m given n l → CanCome (ended_deed replies.Ended n.own (mqcmit hc n.manager)) choice n
+    → Deeded E m given n l e actor (calls.Mqcmit hc) choice (ended_deed replies.Ended n.own (mqcmit hc n.manager))
+commit_happens {E} m given n l e actor choice hc a can =
     let p : Plain = n.manager in
     ended_happens m given n l e actor (calls.Mqcmit hc) choice replies.Ended (λ reply ds k. ledgers.when (is_ended (replies.Ended reply)) (ledgers.commit m hc) k) (mqcmit hc p) a
     (fits_by m given p l (λ reply ds k. ledgers.when (is_ended (replies.Ended reply)) (ledgers.commit m hc) k) (calls.Mqcmit hc) (mqcmit hc p) a.state
@@ -148,9 +148,9 @@ commit_happens m given n l e actor choice hc a can =
     (down_refused hc p (λ c. Do (answers.Ok tt) (commit_part [] c ∷ []))))
     (λ answer c ds. refl) (λ reason. refl) can
 
-pub back_happens : (m : ℕ) (given : Ident → Bool) (n : Node) (l : Ledger) (e : Entry) (actor : Actor) (choice : Choice) (hc : Hconn) → IsAt m given n l → CanCome (ended_deed replies.Ended n.own (mqback hc n.manager)) choice n
-    → Deeded m given n l e actor (calls.Mqback hc) choice (ended_deed replies.Ended n.own (mqback hc n.manager))
-back_happens m given n l e actor choice hc a can =
+pub back_happens : {E : ledgers.Stopped → Noted → Type 0} (m : ℕ) (given : Ident → Bool) (n : Node) (l : Ledger) (e : Entry) (actor : Actor) (choice : Choice) (hc : Hconn) → IsAt E m given n l → CanCome (ended_deed replies.Ended n.own (mqback hc n.manager)) choice n
+    → Deeded E m given n l e actor (calls.Mqback hc) choice (ended_deed replies.Ended n.own (mqback hc n.manager))
+back_happens {E} m given n l e actor choice hc a can =
     let p : Plain = n.manager in
     ended_happens m given n l e actor (calls.Mqback hc) choice replies.Ended (λ reply ds k. ledgers.when (is_ended (replies.Ended reply)) (ledgers.back_out m hc) k) (mqback hc p) a
     (fits_by m given p l (λ reply ds k. ledgers.when (is_ended (replies.Ended reply)) (ledgers.back_out m hc) k) (calls.Mqback hc) (mqback hc p) a.state
@@ -159,9 +159,9 @@ back_happens m given n l e actor choice hc a can =
     (down_refused hc p (λ c. Do (answers.Ok tt) (backout_part c ∷ []))))
     (λ answer c ds. refl) (λ reason. refl) can
 
-pub disc_happens : (m : ℕ) (given : Ident → Bool) (n : Node) (l : Ledger) (e : Entry) (actor : Actor) (choice : Choice) (hc : Hconn) → IsAt m given n l → CanCome (ended_deed replies.Ended n.own (mqdisc hc n.manager)) choice n
-    → Deeded m given n l e actor (calls.Mqdisc hc) choice (ended_deed replies.Ended n.own (mqdisc hc n.manager))
-disc_happens m given n l e actor choice hc a can =
+pub disc_happens : {E : ledgers.Stopped → Noted → Type 0} (m : ℕ) (given : Ident → Bool) (n : Node) (l : Ledger) (e : Entry) (actor : Actor) (choice : Choice) (hc : Hconn) → IsAt E m given n l → CanCome (ended_deed replies.Ended n.own (mqdisc hc n.manager)) choice n
+    → Deeded E m given n l e actor (calls.Mqdisc hc) choice (ended_deed replies.Ended n.own (mqdisc hc n.manager))
+disc_happens {E} m given n l e actor choice hc a can =
     let p : Plain = n.manager in
     ended_happens m given n l e actor (calls.Mqdisc hc) choice replies.Ended (λ reply ds k. ledgers.when (is_ended (replies.Ended reply)) (λ x. ledgers.disconnect m hc (ledgers.commit m hc x)) k) (mqdisc hc p) a
     (fits_by m given p l (λ reply ds k. ledgers.when (is_ended (replies.Ended reply)) (λ x. ledgers.disconnect m hc (ledgers.commit m hc x)) k) (calls.Mqdisc hc) (mqdisc hc p) a.state
@@ -171,20 +171,20 @@ disc_happens m given n l e actor choice hc a can =
     (λ answer c ds. refl) (λ reason. refl) can
 
 -- MQGET: one that may wait is no event
-get_step : (m : ℕ) (given : Ident → Bool) (n : Node) (l : Ledger) (e : Entry) (actor : Actor) (choice : Choice) (hc : Hconn) (ho : Hobj) (get : Get) (until : Option ℕ) (step : Step Reason GetAnswer) → IsAt m given n l → Fits m given n.manager l (post_get m hc get) (calls.Mqget hc ho get until) step → IsDeed (get_deed n.own step) (chances.Call choice) n
-    → Became m given n l (remembering actor (calls.Mqget hc ho get until) (done_or (get_deed n.own step) choice n)).next
+get_step : {E : ledgers.Stopped → Noted → Type 0} (m : ℕ) (given : Ident → Bool) (n : Node) (l : Ledger) (e : Entry) (actor : Actor) (choice : Choice) (hc : Hconn) (ho : Hobj) (get : Get) (until : Option ℕ) (step : Step Reason GetAnswer) → IsAt E m given n l → Fits m given n.manager l (post_get m hc get) (calls.Mqget hc ho get until) step → IsDeed (get_deed n.own step) (chances.Call choice) n
+    → Became E m given n l (remembering actor (calls.Mqget hc ho get until) (done_or (get_deed n.own step) choice n)).next
     (posted m (entry_of e (calls.Mqget hc ho get until) (chances.Call choice) (done_or (get_deed n.own step) choice n).reply (done_or (get_deed n.own step) choice n).delta (done_or (get_deed n.own step) choice n).received) (done_or (get_deed n.own step) choice n).reply l)
-get_step m given n l e actor choice hc ho get until (Refuse reason) a fit can = quiet_happens m given n l e actor (calls.Mqget hc ho get until) choice (replies.Got (answers.Failed reason)) a (λ c. refl) can
-get_step m given n l e actor choice hc ho get until (Do get_answers.NotYet parts) a fit can = absurd can
-get_step m given n l e actor choice hc ho get until (Do (get_answers.Done answer) parts) a fit can =
+get_step {E} m given n l e actor choice hc ho get until (Refuse reason) a fit can = quiet_happens m given n l e actor (calls.Mqget hc ho get until) choice (replies.Got (answers.Failed reason)) a (λ c. refl) can
+get_step {E} m given n l e actor choice hc ho get until (Do get_answers.NotYet parts) a fit can = absurd can
+get_step {E} m given n l e actor choice hc ho get until (Do (get_answers.Done answer) parts) a fit can =
     step_happens Reason m given n l e actor (calls.Mqget hc ho get until) choice (Some (replies.Got (answers.Failed reasons.StorageNotAvailable))) replies.Got (λ reply ds k. post_get m hc get (get_answers.Done reply) ds k) answer parts a fit.0 fit.1 fit.2 fit.3 fit.4 fit.5 (λ ds. refl)
     (λ r z. ap (λ (o : Option Reply). posted m (entry_of e (calls.Mqget hc ho get until) (chances.Call NoMemory) (reply_or r o) [] []) (reply_or r o) l) (sym z)) can
 
-pub get_happens : (m : ℕ) (given : Ident → Bool) (n : Node) (l : Ledger) (e : Entry) (actor : Actor) (choice : Choice) (hc : Hconn) (ho : Hobj) (get : Get) (until : Option ℕ) → IsAt m given n l → IsDeed (get_deed n.own (mqget hc ho get until n.manager)) (chances.Call choice) n
-    → Became m given n l (remembering actor (calls.Mqget hc ho get until) (done_or (get_deed n.own (mqget hc ho get until n.manager)) choice n)).next
+pub get_happens : {E : ledgers.Stopped → Noted → Type 0} (m : ℕ) (given : Ident → Bool) (n : Node) (l : Ledger) (e : Entry) (actor : Actor) (choice : Choice) (hc : Hconn) (ho : Hobj) (get : Get) (until : Option ℕ) → IsAt E m given n l → IsDeed (get_deed n.own (mqget hc ho get until n.manager)) (chances.Call choice) n
+    → Became E m given n l (remembering actor (calls.Mqget hc ho get until) (done_or (get_deed n.own (mqget hc ho get until n.manager)) choice n)).next
     (posted m (entry_of e (calls.Mqget hc ho get until) (chances.Call choice) (done_or (get_deed n.own (mqget hc ho get until n.manager)) choice n).reply (done_or (get_deed n.own (mqget hc ho get until n.manager)) choice n).delta (done_or (get_deed n.own (mqget hc ho get until n.manager)) choice n).received)
     (done_or (get_deed n.own (mqget hc ho get until n.manager)) choice n).reply l)
-get_happens m given n l e actor choice hc ho get until a can =
+get_happens {E} m given n l e actor choice hc ho get until a can =
     let p : Plain = n.manager in
     get_step m given n l e actor choice hc ho get until (mqget hc ho get until p) a
     (fits_by m given p l (post_get m hc get) (calls.Mqget hc ho get until) (mqget hc ho get until p) a.state

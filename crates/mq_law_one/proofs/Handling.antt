@@ -27,7 +27,7 @@ use Rattle.mq_history.specs.declared.calls.Call.TheVariants as calls
 use Rattle.mq_history.specs.declared.calls.Chance.TheVariants as chances
 use Rattle.mq_history.specs.declared.calls.Entry.{Entry}
 use Rattle.mq_history.specs.declared.calls.Reply.TheVariants as replies
-use Rattle.mq_spec_state.specs.State.{Plain, Running}
+use Rattle.mq_spec_state.specs.State.{Plain, Running, Noted}
 use Rattle.mq_spec_state.specs.State.Running.{Up, Down}
 use Rattle.mq_spec_state.specs.Reads.{stored}
 use Rattle.mq_spec_state.specs.Steps.{Step, Part, when, delta_of, do_part, do_all, logged}
@@ -67,7 +67,7 @@ use Rattle.mq_law_found.proofs.Finding.{one_noted}
 use Rattle.mq_law_found.proofs.Getting.{removals_noted, discard_posts}
 use Rattle.mq_law_found.proofs.Shifting.{move_noted}
 use Rattle.mq_law_one.specs.Alone.{IsState, IsAt, Became}
-use Rattle.mq_law_one.proofs.Happening.{Deeded, entry_of, nothing, step_happens, kept_ends}
+use Rattle.mq_law_one.proofs.Happening.{Deeded, entry_of, nothing, step_happens}
 
 -- what a turn posts
 abbrev post_turn : ℕ → List Did → Ledger → Ledger
@@ -118,7 +118,7 @@ free_row q p x h k = record { row = x; ordinary = k.ordinary; found = find_one (
 -- What a turn is: an answer alone, or parts that the ledger follows
 
 abbrev IsAnswer : Own → Deed → Type 0
-IsAnswer own d = (o : Own) × (d ≡ told replies.Tried o) × (o.ends ≡ own.ends)
+IsAnswer own d = (o : Own) × (d ≡ told replies.Tried o)
 
 record IsParts (m : ℕ) (given : Ident → Bool) (p : Plain) (l : Ledger) (own : Own) (d : Deed) : Type 0 where
   parts : List Part
@@ -199,7 +199,7 @@ move_fits m given p l q x to bare f t h k =
 -- a move that is refused is a failed try
 combine : (m : ℕ) (given : Ident → Bool) (p : Plain) (l : Ledger) (own : Own) (q : List ℕ) (message : Message) (n : ℕ) (rule : Rule) (tries : ℕ) (h : Handler) (step : Step Reason (Unit {0})) → IsFresh given p → IsTold m p l → MoveFits m given p l step → StepKeeps IsSound step p
     → TurnFits m given p l own (handlers.moved q message n rule tries h p own step)
-combine m given p l own q message n rule tries h (Refuse reason) f t fit keep = inl (with_handler (handlers.tried_as (handlers.try_later q message.ident n (tries + 1) rule h p) h) own, refl, refl)
+combine m given p l own q message n rule tries h (Refuse reason) f t fit keep = inl (with_handler (handlers.tried_as (handlers.try_later q message.ident n (tries + 1) rule h p) h) own, refl)
 combine m given p l own q message n rule tries h (Do reply parts) f t fit keep = inr (record { parts = parts; is = refl; follow = fit.0; stop = short_stops Never m given p l (tt {0}) parts f t fit.1; keep = keep; notes = fit.2 keep })
 
 moves : (m : ℕ) (given : Ident → Bool) (p : Plain) (l : Ledger) (own : Own) (q : List ℕ) (x : Row) (n : ℕ) (rule : Rule) (tries : ℕ) (h : Handler) (to : Dest) (bare : Bool) → IsFresh given p → IsTold m p l → IsSound p → IsLetter q p x
@@ -216,18 +216,18 @@ own_ignored q i h own = with_handler (handlers.tried_as (record { queue = q; ide
 acted_fits : (m : ℕ) (given : Ident → Bool) (p : Plain) (l : Ledger) (own : Own) (q : List ℕ) (x : Row) (n : ℕ) (rule : Rule) (action : Action) (tries : ℕ) (h : Handler) → IsFresh given p → IsTold m p l → IsSound p → IsLetter q p x
     → TurnFits m given p l own (handlers.acted q x.message n rule action tries h p own)
 acted_fits m given p l own q x n rule actions.Discard tries h f t sound k = discards m given p l own q x f t sound k
-acted_fits m given p l own q x n rule actions.Ignore tries h f t sound k = inl (own_ignored q x.message.ident h own, refl, refl)
+acted_fits m given p l own q x n rule actions.Ignore tries h f t sound k = inl (own_ignored q x.message.ident h own, refl)
 acted_fits m given p l own q x n rule actions.Retry tries h f t sound k = moves m given p l own q x n rule tries h (handlers.retry_to x.message) true f t sound k
 acted_fits m given p l own q x n rule (actions.Forward y) tries h f t sound k = moves m given p l own q x n rule tries h (handlers.forward_to x.message y) (not y.header) f t sound k
 
 ruled_fits : (m : ℕ) (given : Ident → Bool) (p : Plain) (l : Ledger) (own : Own) (q : List ℕ) (x : Row) (n : ℕ) (o : Option Rule) (tries : ℕ) (h : Handler) → IsFresh given p → IsTold m p l → IsSound p → IsLetter q p x
     → TurnFits m given p l own (handlers.ruled q x.message n o tries h p own)
-ruled_fits m given p l own q x n None tries h f t sound k = inl (own_ignored q x.message.ident h own, refl, refl)
+ruled_fits m given p l own q x n None tries h f t sound k = inl (own_ignored q x.message.ident h own, refl)
 ruled_fits m given p l own q x n (Some rule) tries h f t sound k = acted_fits m given p l own q x n rule rule.action tries h f t sound k
 
 letter_fits : (m : ℕ) (given : Ident → Bool) (p : Plain) (l : Ledger) (own : Own) (q : List ℕ) (x : Row) (o : Option ℕ) (tries : ℕ) (h : Handler) → IsFresh given p → IsTold m p l → IsSound p → IsLetter q p x
     → TurnFits m given p l own (handlers.in_force q x.message o tries h p own)
-letter_fits m given p l own q x None tries h f t sound k = inl (own_ignored q x.message.ident h own, refl, refl)
+letter_fits m given p l own q x None tries h f t sound k = inl (own_ignored q x.message.ident h own, refl)
 letter_fits m given p l own q x (Some n) tries h f t sound k = ruled_fits m given p l own q x n (slice_get h.table.rules n) tries h f t sound k
 
 -- The turn
@@ -253,25 +253,25 @@ turn_fits m given n l (Some h) f t sound = on (handlers.is_readable (local_of (h
     on true e = row e (handlers.next_letter (handlers.input_queue h.table n.manager) h n.manager) refl
 
 -- an answer alone, with another own
-answer_happens : (m : ℕ) (given : Ident → Bool) (n : Node) (l : Ledger) (e : Entry) (actor : Actor) (choice : Choice) (own : Own) → IsAt m given n l → own.ends ≡ [] → CanCome (told replies.Tried own) choice n → Deeded m given n l e actor calls.Turn choice (told replies.Tried own)
-answer_happens m given n l e actor Runs own a ends can = nothing m given n l (remembered actor calls.Turn replies.Tried (forgotten_rows [] own)) a (kept_ends actor calls.Turn replies.Tried (forgotten_rows [] own) ends)
-answer_happens m given n l e actor NoMemory own a ends can = absurd can
-answer_happens m given n l e actor (Stopped by_ part left) own a ends can = absurd can.0
+answer_happens : {E : ledgers.Stopped → Noted → Type 0} (m : ℕ) (given : Ident → Bool) (n : Node) (l : Ledger) (e : Entry) (actor : Actor) (choice : Choice) (own : Own) → IsAt E m given n l → CanCome (told replies.Tried own) choice n → Deeded E m given n l e actor calls.Turn choice (told replies.Tried own)
+answer_happens {E} m given n l e actor Runs own a can = nothing m given n l (remembered actor calls.Turn replies.Tried (forgotten_rows [] own)) a
+answer_happens {E} m given n l e actor NoMemory own a can = absurd can
+answer_happens {E} m given n l e actor (Stopped by_ part left) own a can = absurd can.0
 
-deed_happens : (m : ℕ) (given : Ident → Bool) (n : Node) (l : Ledger) (e : Entry) (actor : Actor) (choice : Choice) (d : Deed) → IsAt m given n l → n.manager.running ≡ Up → IsSound n.manager → TurnFits m given n.manager l n.own d → CanCome d choice n → Deeded m given n l e actor calls.Turn choice d
-deed_happens m given n l e actor choice d a up sound (inl fit) can = subst (λ x. Deeded m given n l e actor calls.Turn choice x) (sym fit.1) (answer_happens m given n l e actor choice fit.0 a (fit.2 ∙ a.ends) (subst (λ x. CanCome x choice n) fit.1 can))
-deed_happens m given n l e actor choice d a up sound (inr fit) can =
-    subst (λ x. Deeded m given n l e actor calls.Turn choice x) (sym fit.is)
+deed_happens : {E : ledgers.Stopped → Noted → Type 0} (m : ℕ) (given : Ident → Bool) (n : Node) (l : Ledger) (e : Entry) (actor : Actor) (choice : Choice) (d : Deed) → IsAt E m given n l → n.manager.running ≡ Up → IsSound n.manager → TurnFits m given n.manager l n.own d → CanCome d choice n → Deeded E m given n l e actor calls.Turn choice d
+deed_happens {E} m given n l e actor choice d a up sound (inl fit) can = subst (λ x. Deeded E m given n l e actor calls.Turn choice x) (sym fit.1) (answer_happens m given n l e actor choice fit.0 a (subst (λ x. CanCome x choice n) fit.1 can))
+deed_happens {E} m given n l e actor choice d a up sound (inr fit) can =
+    subst (λ x. Deeded E m given n l e actor calls.Turn choice x) (sym fit.is)
     (step_happens Never m given n l e actor calls.Turn choice None (λ (u : Unit {0}). replies.Tried) (λ reply ds k. post_turn m ds k) (tt {0}) fit.parts a up sound fit.follow fit.stop fit.keep fit.notes (λ ds. refl) (λ r z. absurd cc) (subst (λ x. CanCome x choice n) fit.is can))
 
-pub turn_happens : (m : ℕ) (given : Ident → Bool) (n : Node) (l : Ledger) (e : Entry) (actor : Actor) (choice : Choice) (r : Running) (o : Option Handler) → IsAt m given n l → n.manager.running ≡ r → IsDeed (where_up r (handler_turn o n)) (chances.Call choice) n
-    → Became m given n l (remembering actor calls.Turn (done_or (where_up r (handler_turn o n)) choice n)).next
+pub turn_happens : {E : ledgers.Stopped → Noted → Type 0} (m : ℕ) (given : Ident → Bool) (n : Node) (l : Ledger) (e : Entry) (actor : Actor) (choice : Choice) (r : Running) (o : Option Handler) → IsAt E m given n l → n.manager.running ≡ r → IsDeed (where_up r (handler_turn o n)) (chances.Call choice) n
+    → Became E m given n l (remembering actor calls.Turn (done_or (where_up r (handler_turn o n)) choice n)).next
     (posted m (entry_of e calls.Turn (chances.Call choice) (done_or (where_up r (handler_turn o n)) choice n).reply (done_or (where_up r (handler_turn o n)) choice n).delta (done_or (where_up r (handler_turn o n)) choice n).received) (done_or (where_up r (handler_turn o n)) choice n).reply l)
-turn_happens m given n l e actor choice (Down noted starts) o a z can = absurd can
-turn_happens m given n l e actor choice Up o a z can =
+turn_happens {E} m given n l e actor choice (Down noted starts) o a z can = absurd can
+turn_happens {E} m given n l e actor choice Up o a z can =
     let sound : IsSound n.manager = subst (λ r. IsState r n.manager) z a.state in go (handler_turn o n) (turn_fits m given n l o a.fresh a.told sound) can sound
   where
     go : (d : Option Deed) → AreTurns m given n.manager l n.own d → IsDeed d (chances.Call choice) n → IsSound n.manager
-        → Became m given n l (remembering actor calls.Turn (done_or d choice n)).next (posted m (entry_of e calls.Turn (chances.Call choice) (done_or d choice n).reply (done_or d choice n).delta (done_or d choice n).received) (done_or d choice n).reply l)
+        → Became E m given n l (remembering actor calls.Turn (done_or d choice n)).next (posted m (entry_of e calls.Turn (chances.Call choice) (done_or d choice n).reply (done_or d choice n).delta (done_or d choice n).received) (done_or d choice n).reply l)
     go None fit can sound = absurd can
     go (Some d) fit can sound = deed_happens m given n l e actor choice d a z sound fit can

@@ -5,4 +5,5 @@ pub mod Calls
 pub mod Acting
 pub mod Handling
 pub mod Deltas
+pub mod Ordinary
 pub mod Running

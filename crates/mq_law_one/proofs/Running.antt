@@ -1,5 +1,5 @@
 -- The induction over the prefixes of a story of managers without channels.
-use Rattle.std.proofs.Common.{ℕ, zero, suc, ◌≡◌, Bool, true, false, List, [], ◌∷◌, ◌++◌, refl, ap, sym, subst, ◌∙◌, inl, inr, map, arith}
+use Rattle.std.proofs.Common.{ℕ, zero, suc, ◌≡◌, Bool, true, false, List, [], ◌∷◌, ◌++◌, refl, ap, sym, subst, ◌∙◌, inl, inr, map, arith, ◌⊎◌}
 use Rattle.std.specs.Prelude.{Option, Some, None, ◌==◌, ◌+◌, if◌then◌else◌, ◌&&◌, ◌||◌, slice_get, nat_lt, nat_le}
 use Rattle.std.specs.Option.{option_map}
 use Rattle.std.specs.Str.{bytes_eq}
@@ -22,14 +22,24 @@ use Rattle.mq_history.specs.declared.scenario.Scenario.{Scenario}
 use Rattle.mq_sc_parse.specs.declared.command.Command.TheVariants as lines
 use Rattle.mq_spec_state.specs.State.{Plain, Queue, Running}
 use Rattle.mq_spec_state.specs.State.Running.{Up, Down}
-use Rattle.mq_spec_manager.specs.Get.{mqget}
-use Rattle.mq_spec_node.specs.Node.{Node, handler_in}
-use Rattle.mq_spec_node.specs.Deeds.{Deed, end_begun}
-use Rattle.mq_spec_node.specs.Happens.{get_deed, trigger_deed, IsEvent, IsDeed, where_up, turn_up, timeout_by}
+use Rattle.mq_spec_node.specs.Node.{Node}
+use Rattle.mq_spec_manager.specs.Stops.{failed, restart_at, restarted, stop_at}
+use Rattle.mq_calls.specs.declared.choices.Choice.{Choice}
+use Rattle.mq_calls.specs.declared.choices.Choice.TheVariants.{Runs, NoMemory, Stopped}
+use Rattle.mq_calls.specs.declared.choices.Return.TheVariants.{Comes, Fails}
+use Rattle.mq_calls.specs.declared.commands.RestartFault.TheVariants as faults
+use Rattle.mq_history.specs.declared.calls.Reply.{Reply}
+use Rattle.mq_spec_state.specs.State.Running.{Up, Down}
+use Rattle.mq_spec_node.specs.Node.{Own}
+use Rattle.mq_spec_node.specs.Deeds.{Deed, done, end_at_rest, end_begun}
+use Rattle.mq_spec_node.specs.Happens.{IsEvent, choice_event, crashed, deed_of, event, remembered, remembering, timeout_by, turn_up, where_up}
+use Rattle.mq_spec_node.specs.Happens.{restarted as node_restarted}
+use Rattle.mq_law_node.specs.Quiet.{EachQuiet, IsOrdinary}
+use Rattle.mq_law_node.proofs.Ordinary.{ordinary_is_quiet}
 use Rattle.mq_spec_node.specs.Replays.{Tells, NoneForeign, IsOwn, done_by, opening_node}
 use Rattle.mq_spec_network.specs.Apart.{maker}
 use Rattle.mq_spec_network.specs.Given.{surroundings, ends_from}
-use Rattle.mq_spec_network.specs.Ledger.{Ledger, ledger, posted, users_at, users_or}
+use Rattle.mq_spec_network.specs.Ledger.{Ledger, ledger, posted}
 use Rattle.mq_spec_network.specs.Order.{AllInOrderFrom, OrderAt, unit_received, forced_in, Forced}
 use Rattle.mq_spec_network.specs.Promised.{Premises, Promised}
 use Rattle.mq_spec_network.specs.Standing.{node_after, managers_at, opening_managers, opening_ledger, places_of, stored_standing}
@@ -44,107 +54,142 @@ use Rattle.mq_law_story.proofs.Promising.{rows_promised, once_promised}
 use Rattle.mq_law_story.proofs.Weaving.{node_step, manager_at, other_manager, this_manager, ledger_step, story_tells}
 use Rattle.mq_law_manager.specs.Facts.{AreNamed}
 use Rattle.mq_law_manager.proofs.Ending.{first_sound}
-use Rattle.mq_law_events.specs.Tied.{AreShelved, IsElse, IsNext}
+use Rattle.mq_law_events.specs.Tied.{AreShelved, IsNext}
 use Rattle.mq_law_events.proofs.Stepping.{moves_on}
-use Rattle.mq_law_one.specs.Alone.{IsAlone, IsState, IsNotedAt, IsAt, Became}
+use Rattle.mq_law_found.specs.Finds.{IsNoted}
+use Rattle.mq_law_one.specs.Alone.{IsAlone, IsBare, IsState, IsNotedAt, IsAt, Became, NoOther}
+use Rattle.mq_law_one.proofs.Ordinary.{ordinary_happens, stays_at}
 use Rattle.mq_law_one.proofs.Known.{known_own}
 use Rattle.mq_law_one.proofs.Happening.{entry_of}
-use Rattle.mq_law_one.proofs.Calls.{Happens, conn_happens, disc_happens, open_happens, close_happens, put_happens, put1_happens, get_happens, commit_happens, back_happens}
-use Rattle.mq_law_one.proofs.Acting.{no_deed, turn_none, timeout_none, command_happens, operate_happens, status_happens, crash_happens, restart_happens, aside_happens, clock_happens, trigger_happens}
-use Rattle.mq_law_one.proofs.Handling.{turn_happens}
+use Rattle.mq_law_one.proofs.Calls.{Happens}
+use Rattle.mq_law_one.proofs.Acting.{no_deed, turn_none, timeout_none, operated_is, operate_happens, crash_happens, restart_happens}
 use Rattle.mq_law_one.proofs.Deltas.{IsNoteQuiet, event_quiet}
 
--- Each event
+-- Each event of a manager alone
 
-never_restart : (d : Option Deed) (choice : Return) (n : Node) → IsDeed d (chances.Restart choice) n → ⊥
-never_restart None choice n z = z
-never_restart (Some d) choice n z = z
+happens : (m : ℕ) (given : Ident → Bool) (n : Node) (l : Ledger) (e : Entry) (stamp : ℕ) (actor : Actor) (call : Call) (chance : Chance) (seen : Seen) → IsAt NoOther m given n l → IsBare n → IsEvent stamp actor call chance seen n → IsOwn chance
+    → Happens NoOther m given n l e stamp actor call chance seen
+happens m given n l e stamp actor (calls.Act (acts.Obey (lines.Operate op))) (chances.Call choice) seen a bare can own = operate_happens m given n l e actor choice op a bare.ends can
+happens m given n l e stamp actor (calls.Act (acts.Obey (lines.Operate op))) (chances.Restart choice) seen a bare can own = absurd can
+happens m given n l e stamp actor (calls.Act (acts.Obey (lines.Operate op))) (chances.Foreign image length left) seen a bare can own = absurd can
+happens m given n l e stamp actor (calls.Act acts.Crash) chance seen a bare can own = crash_happens m given n l e stamp actor chance seen a bare.batches can
+happens m given n l e stamp actor (calls.Act acts.Restart) chance seen a bare can own = restart_happens m given n l e stamp actor chance seen a bare.batches can own
+happens m given n l e stamp (actors.Sender k) calls.Turn chance seen a bare can own = absurd (no_deed n.manager.running (turn_up stamp (actors.Sender k) seen n) chance n (turn_none stamp (actors.Sender k) seen n bare.ends (λ j e. cc)) can)
+happens m given n l e stamp (actors.Receiver k) calls.Turn chance seen a bare can own = absurd (no_deed n.manager.running (turn_up stamp (actors.Receiver k) seen n) chance n (turn_none stamp (actors.Receiver k) seen n bare.ends (λ j e. cc)) can)
+happens m given n l e stamp actor calls.Timeout chance seen a bare can own = absurd (no_deed n.manager.running (timeout_by actor n) chance n (timeout_none actor n bare.ends) can)
+happens m given n l e stamp actor (calls.Mqconn qmgr appl) chance seen a bare can own = ordinary_happens m given n l e stamp actor (calls.Mqconn qmgr appl) chance seen a tt can own
+happens m given n l e stamp actor (calls.Mqdisc hc) chance seen a bare can own = ordinary_happens m given n l e stamp actor (calls.Mqdisc hc) chance seen a tt can own
+happens m given n l e stamp actor (calls.Mqopen hc name qmgr how) chance seen a bare can own = ordinary_happens m given n l e stamp actor (calls.Mqopen hc name qmgr how) chance seen a tt can own
+happens m given n l e stamp actor (calls.Mqclose hc ho) chance seen a bare can own = ordinary_happens m given n l e stamp actor (calls.Mqclose hc ho) chance seen a tt can own
+happens m given n l e stamp actor (calls.Mqput hc ho md body sync) chance seen a bare can own = ordinary_happens m given n l e stamp actor (calls.Mqput hc ho md body sync) chance seen a tt can own
+happens m given n l e stamp actor (calls.Mqput1 hc name qmgr md body sync) chance seen a bare can own = ordinary_happens m given n l e stamp actor (calls.Mqput1 hc name qmgr md body sync) chance seen a tt can own
+happens m given n l e stamp actor (calls.Mqget hc ho get until) chance seen a bare can own = ordinary_happens m given n l e stamp actor (calls.Mqget hc ho get until) chance seen a tt can own
+happens m given n l e stamp actor (calls.Mqcmit hc) chance seen a bare can own = ordinary_happens m given n l e stamp actor (calls.Mqcmit hc) chance seen a tt can own
+happens m given n l e stamp actor (calls.Mqback hc) chance seen a bare can own = ordinary_happens m given n l e stamp actor (calls.Mqback hc) chance seen a tt can own
+happens m given n l e stamp actor (calls.Act (acts.Obey (lines.Objects c))) chance seen a bare can own = ordinary_happens m given n l e stamp actor (calls.Act (acts.Obey (lines.Objects c))) chance seen a tt can own
+happens m given n l e stamp actor (calls.Act (acts.Obey (lines.ShowStatus name any_end))) chance seen a bare can own = ordinary_happens m given n l e stamp actor (calls.Act (acts.Obey (lines.ShowStatus name any_end))) chance seen a tt can own
+happens m given n l e stamp actor (calls.Act (acts.Cut k)) chance seen a bare can own = ordinary_happens m given n l e stamp actor (calls.Act (acts.Cut k)) chance seen a tt can own
+happens m given n l e stamp actor (calls.Act (acts.Clock by_)) chance seen a bare can own = ordinary_happens m given n l e stamp actor (calls.Act (acts.Clock by_)) chance seen a tt can own
+happens m given n l e stamp actor calls.Trigger chance seen a bare can own = ordinary_happens m given n l e stamp actor calls.Trigger chance seen a tt can own
+happens m given n l e stamp (actors.Handler k) calls.Turn chance seen a bare can own = ordinary_happens m given n l e stamp (actors.Handler k) calls.Turn chance seen a tt can own
+happens m given n l e stamp (actors.Script k) calls.Turn chance seen a bare can own = ordinary_happens m given n l e stamp (actors.Script k) calls.Turn chance seen a tt can own
+happens m given n l e stamp (actors.Monitor k) calls.Turn chance seen a bare can own = ordinary_happens m given n l e stamp (actors.Monitor k) calls.Turn chance seen a tt can own
+happens m given n l e stamp actors.Operator calls.Turn chance seen a bare can own = ordinary_happens m given n l e stamp actors.Operator calls.Turn chance seen a tt can own
+happens m given n l e stamp actors.Clock calls.Turn chance seen a bare can own = ordinary_happens m given n l e stamp actors.Clock calls.Turn chance seen a tt can own
 
-happens : (m : ℕ) (given : Ident → Bool) (n : Node) (l : Ledger) (e : Entry) (stamp : ℕ) (actor : Actor) (call : Call) (chance : Chance) (seen : Seen) → IsAt m given n l → IsEvent stamp actor call chance seen n → IsOwn chance
-    → Happens m given n l e stamp actor call chance seen
-happens m given n l e stamp actor (calls.Mqconn qmgr appl) (chances.Call choice) seen a can own = conn_happens m given n l e actor choice qmgr appl a can
-happens m given n l e stamp actor (calls.Mqconn qmgr appl) (chances.Restart choice) seen a can own = absurd can
-happens m given n l e stamp actor (calls.Mqconn qmgr appl) (chances.Foreign image length left) seen a can own = absurd can
-happens m given n l e stamp actor (calls.Mqdisc hc) (chances.Call choice) seen a can own = disc_happens m given n l e actor choice hc a can
-happens m given n l e stamp actor (calls.Mqdisc hc) (chances.Restart choice) seen a can own = absurd can
-happens m given n l e stamp actor (calls.Mqdisc hc) (chances.Foreign image length left) seen a can own = absurd can
-happens m given n l e stamp actor (calls.Mqopen hc name qmgr how) (chances.Call choice) seen a can own = open_happens m given n l e actor choice hc name qmgr how a can
-happens m given n l e stamp actor (calls.Mqopen hc name qmgr how) (chances.Restart choice) seen a can own = absurd can
-happens m given n l e stamp actor (calls.Mqopen hc name qmgr how) (chances.Foreign image length left) seen a can own = absurd can
-happens m given n l e stamp actor (calls.Mqclose hc ho) (chances.Call choice) seen a can own = close_happens m given n l e actor choice hc ho a can
-happens m given n l e stamp actor (calls.Mqclose hc ho) (chances.Restart choice) seen a can own = absurd can
-happens m given n l e stamp actor (calls.Mqclose hc ho) (chances.Foreign image length left) seen a can own = absurd can
-happens m given n l e stamp actor (calls.Mqput hc ho md body sync) (chances.Call choice) seen a can own = put_happens m given n l e actor choice hc ho md body sync a can
-happens m given n l e stamp actor (calls.Mqput hc ho md body sync) (chances.Restart choice) seen a can own = absurd can
-happens m given n l e stamp actor (calls.Mqput hc ho md body sync) (chances.Foreign image length left) seen a can own = absurd can
-happens m given n l e stamp actor (calls.Mqput1 hc name qmgr md body sync) (chances.Call choice) seen a can own = put1_happens m given n l e actor choice hc name qmgr md body sync a can
-happens m given n l e stamp actor (calls.Mqput1 hc name qmgr md body sync) (chances.Restart choice) seen a can own = absurd can
-happens m given n l e stamp actor (calls.Mqput1 hc name qmgr md body sync) (chances.Foreign image length left) seen a can own = absurd can
-happens m given n l e stamp actor (calls.Mqget hc ho get until) (chances.Call choice) seen a can own = get_happens m given n l e actor choice hc ho get until a can
-happens m given n l e stamp actor (calls.Mqget hc ho get until) (chances.Restart choice) seen a can own = absurd (no_restart (get_deed n.own (mqget hc ho get until n.manager)) can)
+-- It stays without ends.
+
+kept_ends : (actor : Actor) (call : Call) (reply : Reply) (own : Own) → own.ends ≡ [] → (remembered actor call reply own).ends ≡ []
+kept_ends (actors.Script k) call reply own e = e
+kept_ends (actors.Sender k) call reply own e = e
+kept_ends (actors.Receiver k) call reply own e = e
+kept_ends (actors.Handler k) call reply own e = e
+kept_ends (actors.Monitor k) call reply own e = e
+kept_ends actors.Operator call reply own e = e
+kept_ends actors.Clock call reply own e = e
+
+abbrev EachBare : Option Deed → Type 0
+EachBare None = Unit {0}
+EachBare (Some d) = d.own.ends ≡ []
+
+done_bare : (choice : Choice) (d : Deed) (n : Node) → n.own.ends ≡ [] → d.own.ends ≡ [] → (done d choice n).next.own.ends ≡ []
+done_bare Runs d n e f = f
+done_bare NoMemory d n e f = e
+done_bare (Stopped by_ part left) d n e f = e
+
+chosen_bare : (chance : Chance) (o : Option Deed) (n : Node) → n.own.ends ≡ [] → EachBare o → (choice_event chance o n).next.own.ends ≡ []
+chosen_bare (chances.Call choice) None n e f = e
+chosen_bare (chances.Call choice) (Some d) n e f = done_bare choice d n e f
+chosen_bare (chances.Restart choice) o n e f = e
+chosen_bare (chances.Foreign image length left) o n e f = e
+
+of_quiet : (o : Option Deed) (n : Node) → n.own.ends ≡ [] → EachQuiet n.own o → EachBare o
+of_quiet None n e q = tt
+of_quiet (Some d) n e q = q.ends ∙ e
+
+deed_bare : (stamp : ℕ) (actor : Actor) (call : Call) (chance : Chance) (seen : Seen) (n : Node) → n.own.ends ≡ [] → EachBare (deed_of stamp actor call seen n) → (remembering actor call (choice_event chance (deed_of stamp actor call seen n) n)).next.own.ends ≡ []
+deed_bare stamp actor call chance seen n e f =
+    kept_ends actor call (choice_event chance (deed_of stamp actor call seen n) n).reply (choice_event chance (deed_of stamp actor call seen n) n).next.own (chosen_bare chance (deed_of stamp actor call seen n) n e f)
+
+ordinary_bare : (stamp : ℕ) (actor : Actor) (call : Call) (chance : Chance) (seen : Seen) (n : Node) → IsOrdinary actor call → n.own.ends ≡ [] → (remembering actor call (choice_event chance (deed_of stamp actor call seen n) n)).next.own.ends ≡ []
+ordinary_bare stamp actor call chance seen n is e = deed_bare stamp actor call chance seen n e (of_quiet (deed_of stamp actor call seen n) n e (ordinary_is_quiet stamp actor call seen n is))
+
+crash_bare : (r : Running) (n : Node) → n.own.ends ≡ [] → (crashed (stop_at r n.manager) n).next.own.ends ≡ []
+crash_bare Up n e = ap (map end_at_rest) e
+crash_bare (Down noted starts) n e = e
+
+return_bare : (r : Running) (choice : Return) (n : Node) → n.own.ends ≡ [] → (node_restarted (restart_at r choice n.manager) n).next.own.ends ≡ []
+return_bare Up choice n e = e
+return_bare (Down noted starts) (Comes kept started) n e = ap (map (end_begun (restarted kept started noted n.manager))) e
+return_bare (Down noted starts) (Fails faults.Up in_write left) n e = go in_write
   where
-    no_restart : (d : Option Deed) → IsDeed d (chances.Restart choice) n → ⊥
-    no_restart None z = z
-    no_restart (Some d) z = z
-happens m given n l e stamp actor (calls.Mqget hc ho get until) (chances.Foreign image length left) seen a can own = absurd own
-happens m given n l e stamp actor (calls.Mqcmit hc) (chances.Call choice) seen a can own = commit_happens m given n l e actor choice hc a can
-happens m given n l e stamp actor (calls.Mqcmit hc) (chances.Restart choice) seen a can own = absurd can
-happens m given n l e stamp actor (calls.Mqcmit hc) (chances.Foreign image length left) seen a can own = absurd can
-happens m given n l e stamp actor (calls.Mqback hc) (chances.Call choice) seen a can own = back_happens m given n l e actor choice hc a can
-happens m given n l e stamp actor (calls.Mqback hc) (chances.Restart choice) seen a can own = absurd can
-happens m given n l e stamp actor (calls.Mqback hc) (chances.Foreign image length left) seen a can own = absurd can
-happens m given n l e stamp actor (calls.Act (acts.Obey (lines.Objects c))) (chances.Call choice) seen a can own = command_happens m given n l e actor choice c a can
-happens m given n l e stamp actor (calls.Act (acts.Obey (lines.Operate op))) (chances.Call choice) seen a can own = operate_happens m given n l e actor choice op a can
-happens m given n l e stamp actor (calls.Act (acts.Obey (lines.ShowStatus name any_end))) (chances.Call choice) seen a can own = status_happens m given n l e actor choice name any_end a can
-happens m given n l e stamp actor (calls.Act (acts.Obey c)) (chances.Restart choice) seen a can own = absurd can
-happens m given n l e stamp actor (calls.Act (acts.Obey c)) (chances.Foreign image length left) seen a can own = absurd can
-happens m given n l e stamp actor (calls.Act acts.Crash) chance seen a can own = crash_happens m given n l e stamp actor chance seen a can
-happens m given n l e stamp actor (calls.Act acts.Restart) chance seen a can own = restart_happens m given n l e stamp actor chance seen a can own
-happens m given n l e stamp actor (calls.Act (acts.Cut k)) (chances.Call choice) seen a can own = aside_happens m given n l n.own n.manager.running (record n.manager.log { armed = k }) a a.ends refl a.noted
-happens m given n l e stamp actor (calls.Act (acts.Cut k)) (chances.Restart choice) seen a can own = absurd can
-happens m given n l e stamp actor (calls.Act (acts.Cut k)) (chances.Foreign image length left) seen a can own = absurd can
-happens m given n l e stamp actor (calls.Act (acts.Clock by_)) (chances.Call choice) seen a can own = clock_happens m given n l by_ a
-happens m given n l e stamp actor (calls.Act (acts.Clock by_)) (chances.Restart choice) seen a can own = absurd can
-happens m given n l e stamp actor (calls.Act (acts.Clock by_)) (chances.Foreign image length left) seen a can own = absurd can
-happens m given n l e stamp (actors.Handler number) calls.Turn (chances.Call choice) seen a can own = turn_happens m given n l e (actors.Handler number) choice n.manager.running (handler_in number n.own.handlers) a refl can
-happens m given n l e stamp (actors.Sender k) calls.Turn (chances.Call choice) seen a can own = absurd (no_deed n.manager.running (turn_up stamp (actors.Sender k) seen n) (chances.Call choice) n (turn_none stamp (actors.Sender k) seen n a.ends (λ j e. cc)) can)
-happens m given n l e stamp (actors.Receiver k) calls.Turn (chances.Call choice) seen a can own = absurd (no_deed n.manager.running (turn_up stamp (actors.Receiver k) seen n) (chances.Call choice) n (turn_none stamp (actors.Receiver k) seen n a.ends (λ j e. cc)) can)
-happens m given n l e stamp (actors.Script k) calls.Turn (chances.Call choice) seen a can own = absurd (no_deed n.manager.running None (chances.Call choice) n refl can)
-happens m given n l e stamp (actors.Monitor k) calls.Turn (chances.Call choice) seen a can own = absurd (no_deed n.manager.running None (chances.Call choice) n refl can)
-happens m given n l e stamp actors.Operator calls.Turn (chances.Call choice) seen a can own = absurd (no_deed n.manager.running None (chances.Call choice) n refl can)
-happens m given n l e stamp actors.Clock calls.Turn (chances.Call choice) seen a can own = absurd (no_deed n.manager.running None (chances.Call choice) n refl can)
-happens m given n l e stamp actor calls.Turn (chances.Restart choice) seen a can own = absurd (never_restart (where_up n.manager.running (turn_up stamp actor seen n)) choice n can)
-happens m given n l e stamp actor calls.Turn (chances.Foreign image length left) seen a can own = absurd own
-happens m given n l e stamp actor calls.Timeout chance seen a can own = absurd (no_deed n.manager.running (timeout_by actor n) chance n (timeout_none actor n a.ends) can)
-happens m given n l e stamp actor calls.Trigger (chances.Call choice) seen a can own = trigger_happens m given n l e stamp actor choice seen a can
-happens m given n l e stamp actor calls.Trigger (chances.Restart choice) seen a can own = absurd (no_restart (trigger_deed n) can)
-  where
-    no_restart : (d : Option Deed) → IsDeed d (chances.Restart choice) n → ⊥
-    no_restart None z = z
-    no_restart (Some d) z = z
-happens m given n l e stamp actor calls.Trigger (chances.Foreign image length left) seen a can own = absurd own
+    go : (t : Bool) → (node_restarted (failed faults.Up t left noted starts n.manager) n).next.own.ends ≡ []
+    go true = e
+    go false = e
+return_bare (Down noted starts) (Fails faults.NoMemory in_write left) n e = e
+return_bare (Down noted starts) (Fails faults.Disk true left) n e = e
+return_bare (Down noted starts) (Fails faults.Disk false left) n e = e
+return_bare (Down noted starts) (Fails faults.Cut true left) n e = e
+return_bare (Down noted starts) (Fails faults.Cut false left) n e = e
+return_bare (Down noted starts) (Fails (faults.BadLog place) true left) n e = e
+return_bare (Down noted starts) (Fails (faults.BadLog place) false left) n e = e
 
--- The other managers stay
+none_bare : (stamp : ℕ) (actor : Actor) (call : Call) (seen : Seen) (n : Node) → deed_of stamp actor call seen n ≡ None → EachBare (deed_of stamp actor call seen n)
+none_bare stamp actor call seen n e = subst EachBare (sym e) tt
 
-other_number : (i : Ident) (a m k : ℕ) (t : Bool) → (a == m) ≡ false → k ≡ m + 1 → ((i.manager == a + 1) && t) ≡ true → (i.manager == k) ≡ false
-other_number i a m k t ne e u = grind (arith, nat_tests)
+up_none : (r : Running) (o : Option Deed) → o ≡ None → where_up r o ≡ None
+up_none Up o e = e
+up_none (Down noted starts) o e = refl
 
-elsewhere_noted : (a : ℕ) (r : Running) (p : Plain) (l k : Ledger) → (users_at a k).cut ≡ (users_at a l).cut → IsNotedAt a r p l → IsNotedAt a r p k
-elsewhere_noted a Up p l k e h = tt
-elsewhere_noted a (Down None starts) p l k e h = tt
-elsewhere_noted a (Down (Some n) starts) p l k e h = (h.0, e ∙ h.1, h.2)
-
-stays_at : (m a : ℕ) (given now : Ident → Bool) (n c : Node) (l k : Ledger) → (a == m) ≡ false → IsAt a given c l → n.manager.given.number ≡ m + 1 → ((i : Ident) → (i.manager == n.manager.given.number) ≡ false → now i ≡ given i) → IsElse m l k → IsAt a now c k
-stays_at m a given now n c l k ne at number known other = record {
-  told = record { places = at.told.places; placed = other.places a ne ∙ at.told.placed; shelved = at.told.shelved; name = at.told.name; definitions = at.told.definitions; users = at.told.users; used = other.users a ne ∙ at.told.used; connections = at.told.connections };
-  fresh = λ i u. known i (other_number i a m n.manager.given.number _ ne number (ap (λ z. (i.manager == z) && (nat_lt c.manager.numbers.incarnation i.incarnation || ((i.incarnation == c.manager.numbers.incarnation) && nat_lt c.manager.numbers.idents i.number))) (sym at.number) ∙ u)) ∙ at.fresh i u;
-  number = at.number;
-  ends = at.ends;
-  batches = at.batches;
-  timed = record { users = at.timed.users; used = other.users a ne ∙ at.timed.used; moment = at.timed.moment };
-  state = at.state;
-  noted = elsewhere_noted a c.manager.running c.manager l k (ap (λ o. (users_or o).cut) (other.users a ne)) at.noted;
-}
+stays_bare : (stamp : ℕ) (actor : Actor) (call : Call) (chance : Chance) (seen : Seen) (n : Node) → n.own.ends ≡ [] → IsEvent stamp actor call chance seen n → IsOwn chance → (event stamp actor call chance seen n).next.own.ends ≡ []
+stays_bare stamp actor (calls.Act (acts.Obey (lines.Operate op))) chance seen n e can own =
+    deed_bare stamp actor (calls.Act (acts.Obey (lines.Operate op))) chance seen n e (let d = operated_is op n e in subst (λ (x : Deed). x.own.ends ≡ []) (sym d.1) e)
+stays_bare stamp actor (calls.Act acts.Crash) chance seen n e can own = crash_bare n.manager.running n e
+stays_bare stamp actor (calls.Act acts.Restart) (chances.Call choice) seen n e can own = absurd can
+stays_bare stamp actor (calls.Act acts.Restart) (chances.Restart choice) seen n e can own = return_bare n.manager.running choice n e
+stays_bare stamp actor (calls.Act acts.Restart) (chances.Foreign image length left) seen n e can own = absurd own
+stays_bare stamp actor (calls.Act (acts.Cut k)) chance seen n e can own = e
+stays_bare stamp actor (calls.Act (acts.Clock by_)) chance seen n e can own = e
+stays_bare stamp (actors.Sender k) calls.Turn chance seen n e can own = deed_bare stamp (actors.Sender k) calls.Turn chance seen n e (none_bare stamp (actors.Sender k) calls.Turn seen n (up_none n.manager.running (turn_up stamp (actors.Sender k) seen n) (turn_none stamp (actors.Sender k) seen n e (λ j e. cc))))
+stays_bare stamp (actors.Receiver k) calls.Turn chance seen n e can own = deed_bare stamp (actors.Receiver k) calls.Turn chance seen n e (none_bare stamp (actors.Receiver k) calls.Turn seen n (up_none n.manager.running (turn_up stamp (actors.Receiver k) seen n) (turn_none stamp (actors.Receiver k) seen n e (λ j e. cc))))
+stays_bare stamp actor calls.Timeout chance seen n e can own = deed_bare stamp actor calls.Timeout chance seen n e (none_bare stamp actor calls.Timeout seen n (up_none n.manager.running (timeout_by actor n) (timeout_none actor n e)))
+stays_bare stamp actor (calls.Mqconn qmgr appl) chance seen n e can own = ordinary_bare stamp actor (calls.Mqconn qmgr appl) chance seen n tt e
+stays_bare stamp actor (calls.Mqdisc hc) chance seen n e can own = ordinary_bare stamp actor (calls.Mqdisc hc) chance seen n tt e
+stays_bare stamp actor (calls.Mqopen hc name qmgr how) chance seen n e can own = ordinary_bare stamp actor (calls.Mqopen hc name qmgr how) chance seen n tt e
+stays_bare stamp actor (calls.Mqclose hc ho) chance seen n e can own = ordinary_bare stamp actor (calls.Mqclose hc ho) chance seen n tt e
+stays_bare stamp actor (calls.Mqput hc ho md body sync) chance seen n e can own = ordinary_bare stamp actor (calls.Mqput hc ho md body sync) chance seen n tt e
+stays_bare stamp actor (calls.Mqput1 hc name qmgr md body sync) chance seen n e can own = ordinary_bare stamp actor (calls.Mqput1 hc name qmgr md body sync) chance seen n tt e
+stays_bare stamp actor (calls.Mqget hc ho get until) chance seen n e can own = ordinary_bare stamp actor (calls.Mqget hc ho get until) chance seen n tt e
+stays_bare stamp actor (calls.Mqcmit hc) chance seen n e can own = ordinary_bare stamp actor (calls.Mqcmit hc) chance seen n tt e
+stays_bare stamp actor (calls.Mqback hc) chance seen n e can own = ordinary_bare stamp actor (calls.Mqback hc) chance seen n tt e
+stays_bare stamp actor (calls.Act (acts.Obey (lines.Objects c))) chance seen n e can own = ordinary_bare stamp actor (calls.Act (acts.Obey (lines.Objects c))) chance seen n tt e
+stays_bare stamp actor (calls.Act (acts.Obey (lines.ShowStatus name any_end))) chance seen n e can own = ordinary_bare stamp actor (calls.Act (acts.Obey (lines.ShowStatus name any_end))) chance seen n tt e
+stays_bare stamp actor calls.Trigger chance seen n e can own = ordinary_bare stamp actor calls.Trigger chance seen n tt e
+stays_bare stamp (actors.Handler k) calls.Turn chance seen n e can own = ordinary_bare stamp (actors.Handler k) calls.Turn chance seen n tt e
+stays_bare stamp (actors.Script k) calls.Turn chance seen n e can own = ordinary_bare stamp (actors.Script k) calls.Turn chance seen n tt e
+stays_bare stamp (actors.Monitor k) calls.Turn chance seen n e can own = ordinary_bare stamp (actors.Monitor k) calls.Turn chance seen n tt e
+stays_bare stamp actors.Operator calls.Turn chance seen n e can own = ordinary_bare stamp actors.Operator calls.Turn chance seen n tt e
+stays_bare stamp actors.Clock calls.Turn chance seen n e can own = ordinary_bare stamp actors.Clock calls.Turn chance seen n tt e
 
 -- A prefix
 
@@ -153,7 +198,8 @@ record Stand (s : Scenario) (hs : List History) (p : List Line) : Type 0 where
   ghost : Ghost
   calm : (m : ℕ) (c : List ℕ) (u : Luw) → ghost.operated m c u ≡ false
   inv : Inv (world_of s given (managers_at s p hs)) ghost (book_of (ledger (opening_ledger s hs) p))
-  at : (m : ℕ) (h : History) → slice_get hs m ≡ Some h → IsAt m given (node_after s m p h) (ledger (opening_ledger s hs) p)
+  at : (m : ℕ) (h : History) → slice_get hs m ≡ Some h → IsAt NoOther m given (node_after s m p h) (ledger (opening_ledger s hs) p)
+  bare : (m : ℕ) (h : History) → slice_get hs m ≡ Some h → IsBare (node_after s m p h)
 
 mem_part : (m : ℕ) (x : Line) (p rest : List Line) → m ≡ x.manager → Mem x.entry (part m (p ++ x ∷ rest))
 mem_part m x [] rest e = subst (λ t. Mem x.entry (if t then x.entry ∷ part m rest else part m rest)) (sym (ap (λ z. m == z) (sym e) ∙ eqb_self m)) (inl refl)
@@ -176,14 +222,14 @@ own_of (x ∷ es) e none (inl z) = subst (λ (y : Entry). IsOwn y.chance) (sym z
 own_of (x ∷ es) e none (inr n) = own_of es e none.1 n
 
 -- an entry of the prefix, and its event
-record Told_ (s : Scenario) (hs : List History) (p : List Line) (x : Line) : Type 0 where
-  h : History
-  is : slice_get hs x.manager ≡ Some h
-  stamp : ℕ
-  tells : Tells (node_after s x.manager p h) stamp x.entry
-  own : IsOwn x.entry.chance
+pub record Told_ (s : Scenario) (hs : List History) (p : List Line) (x : Line) : Type 0 where
+  pub h : History
+  pub is : slice_get hs x.manager ≡ Some h
+  pub stamp : ℕ
+  pub tells : Tells (node_after s x.manager p h) stamp x.entry
+  pub own : IsOwn x.entry.chance
 
-told_of : (s : Scenario) (hs : List History) (p : List Line) (x : Line) (rest : List Line) → Premises s hs → IsStory hs (p ++ x ∷ rest) → Told_ s hs p x
+pub told_of : (s : Scenario) (hs : List History) (p : List Line) (x : Line) (rest : List Line) → Premises s hs → IsStory hs (p ++ x ∷ rest) → Told_ s hs p x
 told_of s hs p x rest premises story =
     let k = history_of hs x p rest story in
     let t = story_tells s hs p x rest k.0 story k.1 (premises.lawful.histories x.manager k.0 k.1).replays.follows in
@@ -198,8 +244,8 @@ step s hs p x z t =
     let next : Node = (done_by e n).next in
     let a = z.at m t.h t.is in
     let k : Ledger = posted m e e.reply l in
-    let b : Became m z.given n l next k = subst (λ y. Became m z.given n l next y) (λ i. posted m (entry_of e e.call e.chance (sym t.tells.reply i) (sym t.tells.delta i) (sym t.tells.received i)) (sym t.tells.reply i) l)
-    (happens m z.given n l e e.stamp e.actor e.call e.chance e.effect.popped a t.tells.event t.own) in
+    let b : Became NoOther m z.given n l next k = subst (λ y. Became NoOther m z.given n l next y) (λ i. posted m (entry_of e e.call e.chance (sym t.tells.reply i) (sym t.tells.delta i) (sym t.tells.received i)) (sym t.tells.reply i) l)
+    (happens m z.given n l e e.stamp e.actor e.call e.chance e.effect.popped a (z.bare m t.h t.is) t.tells.event t.own) in
     let whole : k ≡ ledger (opening_ledger s hs) (p ++ x ∷ []) = sym (ledger_step (opening_ledger s hs) p x) in
     let at_next : IsNext m n.manager next.manager (managers_at s p hs) (managers_at s (p ++ x ∷ []) hs) = record {
       at = manager_at s p hs m ∙ ap (option_map (λ (h : History). (node_after s m p h).manager)) t.is;
@@ -212,22 +258,38 @@ step s hs p x z t =
       ghost = record { sent = z.ghost.sent; source = z.ghost.source; operated = z.ghost.operated; owner = r.owner };
       calm = z.calm;
       inv = subst (λ y. Inv (world_of s b.now (managers_at s (p ++ x ∷ []) hs)) (record { sent = z.ghost.sent; source = z.ghost.source; operated = z.ghost.operated; owner = r.owner }) (book_of y)) whole r.inv;
-      at = λ c h is. subst (λ y. IsAt c b.now (node_after s c (p ++ x ∷ []) h) y) whole (go c h is b (c == m) refl);
+      bare = λ c h is. bare_at c h is b (c == m) refl;
+      at = λ c h is. subst (λ y. IsAt NoOther c b.now (node_after s c (p ++ x ∷ []) h) y) whole (go c h is b (c == m) refl);
     }
   where
-    go : (c : ℕ) (h : History) → slice_get hs c ≡ Some h → (b : Became x.manager z.given (node_after s x.manager p t.h) (ledger (opening_ledger s hs) p) (done_by x.entry (node_after s x.manager p t.h)).next (posted x.manager x.entry x.entry.reply (ledger (opening_ledger s hs) p)))
-        → (v : Bool) → (c == x.manager) ≡ v → IsAt c b.now (node_after s c (p ++ x ∷ []) h) (posted x.manager x.entry x.entry.reply (ledger (opening_ledger s hs) p))
+    same_history : (h k : History) → Some h ≡ Some k → h ≡ k
+    same_history h k e = cc
+
+    bare_at : (c : ℕ) (h : History) → slice_get hs c ≡ Some h → (b : Became NoOther x.manager z.given (node_after s x.manager p t.h) (ledger (opening_ledger s hs) p) (done_by x.entry (node_after s x.manager p t.h)).next (posted x.manager x.entry x.entry.reply (ledger (opening_ledger s hs) p)))
+        → (v : Bool) → (c == x.manager) ≡ v → IsBare (node_after s c (p ++ x ∷ []) h)
+    bare_at c h is b true v =
+        let same : c ≡ x.manager = eqb_yes c x.manager v in
+        let here : h ≡ t.h = same_history h t.h (sym is ∙ ap (slice_get hs) same ∙ t.is) in
+        let n : Node = node_after s x.manager p t.h in
+        let bare : IsBare n = z.bare x.manager t.h t.is in
+        subst IsBare
+        (sym (node_step s c p x h ∙ ap (λ w. if w then (done_by x.entry (node_after s c p h)).next else node_after s c p h) v ∙ (λ i. (done_by x.entry (node_after s (same i) p (here i))).next)))
+        (record {
+          ends = stays_bare x.entry.stamp x.entry.actor x.entry.call x.entry.chance x.entry.effect.popped n bare.ends t.tells.event t.own;
+          batches = b.same.batches ∙ bare.batches;
+        })
+    bare_at c h is b false v = subst IsBare (sym (node_step s c p x h ∙ ap (λ w. if w then (done_by x.entry (node_after s c p h)).next else node_after s c p h) v)) (z.bare c h is)
+
+    go : (c : ℕ) (h : History) → slice_get hs c ≡ Some h → (b : Became NoOther x.manager z.given (node_after s x.manager p t.h) (ledger (opening_ledger s hs) p) (done_by x.entry (node_after s x.manager p t.h)).next (posted x.manager x.entry x.entry.reply (ledger (opening_ledger s hs) p)))
+        → (v : Bool) → (c == x.manager) ≡ v → IsAt NoOther c b.now (node_after s c (p ++ x ∷ []) h) (posted x.manager x.entry x.entry.reply (ledger (opening_ledger s hs) p))
     go c h is b true v =
         let same : c ≡ x.manager = eqb_yes c x.manager v in
-        let here : h ≡ t.h = some_same h t.h (sym is ∙ ap (slice_get hs) same ∙ t.is) in
-        subst (λ (y : Node). IsAt c b.now y (posted x.manager x.entry x.entry.reply (ledger (opening_ledger s hs) p)))
+        let here : h ≡ t.h = same_history h t.h (sym is ∙ ap (slice_get hs) same ∙ t.is) in
+        subst (λ (y : Node). IsAt NoOther c b.now y (posted x.manager x.entry x.entry.reply (ledger (opening_ledger s hs) p)))
         (sym (node_step s c p x h ∙ ap (λ w. if w then (done_by x.entry (node_after s c p h)).next else node_after s c p h) v ∙ (λ i. (done_by x.entry (node_after s (same i) p (here i))).next)))
-        (subst (λ w. IsAt w b.now (done_by x.entry (node_after s x.manager p t.h)).next (posted x.manager x.entry x.entry.reply (ledger (opening_ledger s hs) p))) (sym same) b.at)
-      where
-        some_same : (h k : History) → Some h ≡ Some k → h ≡ k
-        some_same h k e = cc
+        (subst (λ w. IsAt NoOther w b.now (done_by x.entry (node_after s x.manager p t.h)).next (posted x.manager x.entry x.entry.reply (ledger (opening_ledger s hs) p))) (sym same) b.at)
     go c h is b false v =
-        subst (λ (y : Node). IsAt c b.now y (posted x.manager x.entry x.entry.reply (ledger (opening_ledger s hs) p)))
+        subst (λ (y : Node). IsAt NoOther c b.now y (posted x.manager x.entry x.entry.reply (ledger (opening_ledger s hs) p)))
         (sym (node_step s c p x h ∙ ap (λ w. if w then (done_by x.entry (node_after s c p h)).next else node_after s c p h) v))
         (stays_at x.manager c z.given b.now (node_after s x.manager p t.h) (node_after s c p h) (ledger (opening_ledger s hs) p) (posted x.manager x.entry x.entry.reply (ledger (opening_ledger s hs) p)) v (z.at c h is) (z.at x.manager t.h t.is).number b.known b.other)
 
@@ -248,6 +310,30 @@ not_given i m n e = grind (arith, nat_tests)
 is_maker : (i : Ident) (m : ℕ) (t : Bool) → ((i.manager == m + 1) && t) ≡ true → i.manager ≡ suc m
 is_maker i m t e = grind (arith, nat_tests)
 
+pub first_at : (s : Scenario) (hs : List History) → Premises s hs → (m : ℕ) (h : History) → slice_get hs m ≡ Some h → IsAt NoOther m (is_given (opening_managers s hs)) (opening_node (surroundings s m) h) (opening_ledger s hs)
+first_at s hs premises m h is =
+    let ps : List Plain = opening_managers s hs in
+    let n : Node = opening_node (surroundings s m) h in
+    let p : Plain = n.manager in
+    let at : slice_get ps m ≡ Some p = manager_at s [] hs m ∙ ap (option_map (λ (h : History). (node_after s m [] h).manager)) is in
+    record {
+      told = record {
+        places = places_of s ps p;
+        placed = mapped_at (places_of s ps) ps m p at;
+        shelved = opening_shelved s ps p p.queues (first_sound (surroundings s m).given h.opening h.length h.moment (premises.openings m h is) (record { rows = known_own s hs m h is premises.openings premises.joined.together; doubts = premises.known m h is })).named;
+        name = refl;
+        definitions = refl;
+        users = record { moment = p.moment; connections = []; cut = None };
+        used = mapped_at (λ (p : Plain). record { moment = p.moment; connections = []; cut = None }) ps m p at;
+        connections = refl;
+      };
+      fresh = λ i u. ap (λ k. given_by (maker ps k) i) (is_maker i m _ u) ∙ ap (λ o. given_by o i) at ∙ not_given i (m + 1) p.numbers.incarnation u;
+      number = refl;
+      timed = record { users = record { moment = p.moment; connections = []; cut = None }; used = mapped_at (λ (p : Plain). record { moment = p.moment; connections = []; cut = None }) ps m p at; moment = refl };
+      state = first_sound (surroundings s m).given h.opening h.length h.moment (premises.openings m h is) (record { rows = known_own s hs m h is premises.openings premises.joined.together; doubts = premises.known m h is });
+      noted = tt;
+    }
+
 begins : (s : Scenario) (hs : List History) → IsAlone s → Premises s hs → Stand s hs []
 begins s hs alone premises =
     let ps : List Plain = opening_managers s hs in
@@ -256,38 +342,17 @@ begins s hs alone premises =
       ghost = _;
       calm = λ m c u. refl;
       inv = images_have_the_facts s hs premises.openings premises.joined.together;
-      at = λ m h is.
-          let n : Node = opening_node (surroundings s m) h in
-          let p : Plain = n.manager in
-          let at : slice_get ps m ≡ Some p = manager_at s [] hs m ∙ ap (option_map (λ (h : History). (node_after s m [] h).manager)) is in
-          record {
-            told = record {
-              places = places_of s ps p;
-              placed = mapped_at (places_of s ps) ps m p at;
-              shelved = opening_shelved s ps p p.queues (first_sound (surroundings s m).given h.opening h.length h.moment (premises.openings m h is) (record { rows = known_own s hs m h is premises.openings premises.joined.together; doubts = premises.known m h is })).named;
-              name = refl;
-              definitions = refl;
-              users = record { moment = p.moment; connections = []; cut = None };
-              used = mapped_at (λ (p : Plain). record { moment = p.moment; connections = []; cut = None }) ps m p at;
-              connections = refl;
-            };
-            fresh = λ i u. ap (λ k. given_by (maker ps k) i) (is_maker i m _ u) ∙ ap (λ o. given_by o i) at ∙ not_given i (m + 1) p.numbers.incarnation u;
-            number = refl;
-            ends = ap (λ cs. map (end_begun p) (ends_from s m 0 cs)) alone;
-            batches = refl;
-            timed = record { users = record { moment = p.moment; connections = []; cut = None }; used = mapped_at (λ (p : Plain). record { moment = p.moment; connections = []; cut = None }) ps m p at; moment = refl };
-            state = first_sound (surroundings s m).given h.opening h.length h.moment (premises.openings m h is) (record { rows = known_own s hs m h is premises.openings premises.joined.together; doubts = premises.known m h is });
-            noted = tt;
-          };
+      bare = λ m h is. record { ends = ap (λ cs. map (end_begun (opening_node (surroundings s m) h).manager) (ends_from s m 0 cs)) alone; batches = refl };
+      at = λ m h is. first_at s hs premises m h is;
     }
 
 -- All prefixes
 
-one_more : {A : Type 0} (xs : List A) (y : A) (ys : List A) → (xs ++ y ∷ []) ++ ys ≡ xs ++ y ∷ ys
+pub one_more : {A : Type 0} (xs : List A) (y : A) (ys : List A) → (xs ++ y ∷ []) ++ ys ≡ xs ++ y ∷ ys
 one_more [] y ys = refl
 one_more (x ∷ xs) y ys = ap (λ zs. x ∷ zs) (one_more xs y ys)
 
-none_more : {A : Type 0} (xs : List A) → xs ++ [] ≡ xs
+pub none_more : {A : Type 0} (xs : List A) → xs ++ [] ≡ xs
 none_more [] = refl
 none_more (x ∷ xs) = ap (λ ys. x ∷ ys) (none_more xs)
 
@@ -298,10 +363,14 @@ stands s hs before (x ∷ p) rest premises story z =
     subst (Stand s hs) (one_more before x p)
     (stands s hs (before ++ x ∷ []) p rest premises (subst (IsStory hs) (sym (one_more before x (p ++ rest))) story) (step s hs before x z t))
 
-quiet_note : (m : ℕ) (r : Running) (p : Plain) (l : Ledger) → IsNotedAt m r p l → IsNoteQuiet r
+quiet_note : (m : ℕ) (r : Running) (p : Plain) (l : Ledger) → IsNotedAt NoOther m r p l → IsNoteQuiet r
 quiet_note m Up p l h = tt
 quiet_note m (Down None starts) p l h = tt
-quiet_note m (Down (Some n) starts) p l h = h.2.quiet
+quiet_note m (Down (Some n) starts) p l h = go h.2
+  where
+    go : IsNoted m h.0 n p ⊎ ⊥ → IsNoteQuiet (Down (Some n) starts)
+    go (inl x) = x.quiet
+    go (inr x) = absurd x
 
 -- no receiver commits
 orders : (s : Scenario) (hs : List History) (before p rest : List Line) (fs : List Forced) → Premises s hs → IsStory hs (before ++ (p ++ rest)) → Stand s hs before → AllInOrderFrom fs (ledger (opening_ledger s hs) before) p
@@ -311,7 +380,7 @@ orders s hs before (x ∷ p) rest fs premises story z =
     let n : Node = node_after s x.manager before t.h in
     let l : Ledger = ledger (opening_ledger s hs) before in
     let a = z.at x.manager t.h t.is in
-    let quiet : unit_received x.entry.effect.delta ≡ None = ap unit_received t.tells.delta ∙ event_quiet n x.entry.stamp x.entry.actor x.entry.call x.entry.chance x.entry.effect.popped a.ends t.tells.event t.own (quiet_note x.manager n.manager.running n.manager l a.noted) in (
+    let quiet : unit_received x.entry.effect.delta ≡ None = ap unit_received t.tells.delta ∙ event_quiet n x.entry.stamp x.entry.actor x.entry.call x.entry.chance x.entry.effect.popped (z.bare x.manager t.h t.is).ends t.tells.event t.own (quiet_note x.manager n.manager.running n.manager l a.noted) in (
       subst (λ o. OrderAt o fs x l (posted x.manager x.entry x.entry.reply l)) (sym quiet) tt,
       subst (λ y. AllInOrderFrom (forced_in x.entry fs) y p) (ledger_step (opening_ledger s hs) before x)
           (orders s hs (before ++ x ∷ []) p rest (forced_in x.entry fs) premises (subst (IsStory hs) (sym (one_more before x (p ++ rest))) story) (step s hs before x z t)),

@@ -40,7 +40,7 @@ resets z n x y l last rs a h =
     let f = words z.scenario z.given z.receiver p z.managers (change_at z.receiver (λ (o : Plain). q) z.managers) c (notes.SeqSet ends.Receiver last) tt (next_mid z.receiver p q _ z.managers rs h) in
     taken_on z (world_of z.scenario z.given rs) l (receiver_numbered last x) y (e ∙ f) a.book (same_taken z x (receiver_numbered last x) y a.joint refl)
 
-closed_unit : (t : Bool) (d : ReceiverData) → (if t then record d { closed = true } else d).unit ≡ d.unit
+pub closed_unit : (t : Bool) (d : ReceiverData) → (if t then record d { closed = true } else d).unit ≡ d.unit
 closed_unit true d = refl
 closed_unit false d = refl
 

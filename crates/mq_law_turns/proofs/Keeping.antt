@@ -1,6 +1,6 @@
 -- Channels of which an event isn't: what ties them to the network stays.
 use Rattle.std.proofs.Common.{ℕ, ◌≡◌, Bool, false, List, refl, ap, sym, ◌∙◌}
-use Rattle.std.specs.Prelude.{◌==◌, is_some, slice_get}
+use Rattle.std.specs.Prelude.{Option, ◌==◌, is_some, slice_get}
 use Rattle.mq_message.specs.declared.message.Ident.{Ident}
 use Rattle.mq_sync.specs.declared.unit.Unit.{Unit as Luw}
 use Rattle.mq_history.specs.declared.scenario.Scenario.{Scenario}
@@ -18,7 +18,7 @@ use Rattle.mq_law_events.specs.Tied.{Follow, IsNext, IsSame, IsTold}
 use Rattle.mq_law_events.proofs.Stepping.{follows_on}
 use Rattle.mq_law_batches.proofs.Releasing.{IsNear, lasts}
 use Rattle.mq_law_story.specs.Needs.{IsTied}
-use Rattle.mq_law_turns.specs.Turns.{AreBegun, IsJoint, Scene, Taken, Turned, world_in}
+use Rattle.mq_law_turns.specs.Turns.{AreBegun, IsJoint, Scene, Taken, TurnedBy, world_in}
 
 -- what of a network a channel is tied to
 tied_on : (w v : World) (g h : Ghost) (m t : ℕ) (c : List ℕ) (x : Channel) (y : Past) → v.holds m c ≡ w.holds m c → v.doubt m c ≡ w.doubt m c → v.last m c ≡ w.last m c → ((u : Luw) → h.sent m c u ≡ g.sent m c u) → ((u : Luw) → h.operated m c u ≡ g.operated m c u)
@@ -62,7 +62,7 @@ follows s given a p q ps qs l k g n told f m t c x y j =
     )
 
 -- TURNS OF OTHER ENDS
-pub senders_others : (z : Scene) (v : World) (x : Channel) (y : Past) → (r : Turned z v x y) → (m t : ℕ) (c : List ℕ) (k : Channel) (l : Past) → is_here z.sender z.place.channel m c ≡ false → IsJoint (world_in z) z.ghost z.book m t c k l → IsJoint v r.ghost z.book m t c k l
+pub senders_others : {o : Option Luw} (z : Scene) (v : World) (x : Channel) (y : Past) → (r : TurnedBy o z v x y) → (m t : ℕ) (c : List ℕ) (k : Channel) (l : Past) → is_here z.sender z.place.channel m c ≡ false → IsJoint (world_in z) z.ghost z.book m t c k l → IsJoint v r.ghost z.book m t c k l
 senders_others z v x y r m t c k l out j = record {
   inv = r.joint.inv;
   tied = tied_on (world_in z) v z.ghost r.ghost m t c k l (r.holds m c out) (r.doubt m c out) (r.last m c) (λ u. r.sent m c u out) (λ u. r.operated m c u out) j.tied;

@@ -1,5 +1,5 @@
 -- An operator's START, STOP, RESET and RESOLVE at a sender's end, and its timeouts, as what they are of the network.
-use Rattle.std.proofs.Common.{ℕ, ◌≡◌, ◌≢◌, true, false, List, ◌++◌, refl, ap, sym, subst, ◌∙◌}
+use Rattle.std.proofs.Common.{ℕ, ◌≡◌, ◌≢◌, ◌⊎◌, true, false, List, ◌++◌, refl, ap, sym, subst, ◌∙◌, inl, inr}
 use Rattle.std.specs.Prelude.{Option, Some, None, ◌&&◌, if◌then◌else◌}
 use Rattle.mq_sync.specs.declared.unit.Unit.{Unit as Luw}
 use Rattle.mq_sync.specs.declared.unit.Settle.TheVariants as settles
@@ -37,7 +37,7 @@ use Rattle.mq_law_events.specs.Tied.{IsNext}
 use Rattle.mq_law_batches.specs.Releases.{release_changes, settled_changes}
 use Rattle.mq_law_batches.proofs.Settling.{backs_out, drops, forces, settled_doubts, settled_holds}
 use Rattle.mq_law_batches.proofs.Wording.{Stays, stays, words}
-use Rattle.mq_law_turns.specs.Turns.{IsAt, Scene, Turned, world_in}
+use Rattle.mq_law_turns.specs.Turns.{IsAt, Scene, Turned, TurnedBy, world_in}
 use Rattle.mq_law_turns.proofs.Parts.{changed, doubt_held, leaving_stays, next_mid, next_to, part_stays, same_turned, turned_on, world_behind}
 use Rattle.mq_law_turns.proofs.Sending.{IsSending, is_in_sending, released_turned, settled_only}
 
@@ -133,7 +133,7 @@ unit_or u (Some v) = v
 
 -- an operator says that the unit was committed, and it was
 committed_there : (z : Scene) (n : Node) (x : Channel) (y : Past) (d : InDoubt) (rs : List Plain) → IsAt z n x y → IsOpen z n x y d → batch_of z.place.channel n.manager.channels.batches ≡ None → x.receives.unit ≡ d.unit
-    → IsNext z.sender n.manager (apply_all (settled_changes true z.place.channel (sender_or (sender_data z.place.channel n.manager))) n.manager) z.managers rs → Turned z (world_of z.scenario z.given rs) (resolved settles.Commit x) (record y { forced = true })
+    → IsNext z.sender n.manager (apply_all (settled_changes true z.place.channel (sender_or (sender_data z.place.channel n.manager))) n.manager) z.managers rs → TurnedBy (Some d.unit) z (world_of z.scenario z.given rs) (resolved settles.Commit x) (record y { forced = true })
 committed_there z n x y d rs a o free so h =
     let c : List ℕ = z.place.channel in
     let p : Plain = n.manager in
@@ -149,6 +149,7 @@ committed_there z n x y d rs a o free so h =
       begun = a.joint.begun;
       sent = λ q e v f. refl;
       operated = λ q e v f. refl;
+      own = λ v e. inl e;
     })
 
 -- and it was not yet: its rows are in the ledger alone
@@ -156,7 +157,7 @@ force_self : (g : Ghost) (m : ℕ) (c : List ℕ) (u : Luw) → (ghost_force g m
 force_self g m c u = λ i. if here_self m c i && unit_self u i then true else g.operated m c u
 
 forced_there : (z : Scene) (n : Node) (x : Channel) (y : Past) (d : InDoubt) (rs : List Plain) → IsAt z n x y → IsOpen z n x y d → batch_of z.place.channel n.manager.channels.batches ≡ None → x.receives.unit ≢ d.unit
-    → IsNext z.sender n.manager (apply_all (settled_changes true z.place.channel (sender_or (sender_data z.place.channel n.manager))) n.manager) z.managers rs → Turned z (world_of z.scenario z.given rs) (resolved settles.Commit x) (record y { forced = true })
+    → IsNext z.sender n.manager (apply_all (settled_changes true z.place.channel (sender_or (sender_data z.place.channel n.manager))) n.manager) z.managers rs → TurnedBy (Some d.unit) z (world_of z.scenario z.given rs) (resolved settles.Commit x) (record y { forced = true })
 forced_there z n x y d rs a o free not_so h =
     let c : List ℕ = z.place.channel in
     let p : Plain = n.manager in
@@ -174,6 +175,8 @@ forced_there z n x y d rs a o free not_so h =
           (λ t f k. subst (λ (u : Luw). Upto u (now y.near)) (sym o.unit ∙ sym (unit_is v o.doubt.unit f)) o.upto) (λ t f k. a.joint.begun v k) refl e;
       sent = λ q e v f. refl;
       operated = λ q e v f. ap (λ t. if t && same_unit v o.doubt.unit then true else z.ghost.operated q e v) f;
+      own = λ v e. bool_case (is_here z.sender c z.sender c && same_unit v o.doubt.unit) (λ t. (is_here z.sender c z.sender c && same_unit v o.doubt.unit) ≡ t → (if t then true else z.ghost.operated z.sender c v) ≡ true → (z.ghost.operated z.sender c v ≡ true) ⊎ (Some d.unit ≡ Some v))
+          (λ t f k. inr (ap (λ (u : Luw). Some u) (sym o.unit ∙ sym (unit_is v o.doubt.unit f)))) (λ t f k. inl k) refl e;
     })
   where
     unit_is : (u v : Luw) → (is_here z.sender z.place.channel z.sender z.place.channel && same_unit u v) ≡ true → u ≡ v
@@ -197,11 +200,12 @@ undone_there z n x y d rs a o free not_so h =
       begun = a.joint.begun;
       sent = λ q e v f. refl;
       operated = λ q e v f. refl;
+      own = λ v e. inl e;
     })
 
 -- the part that settles it
 pub resolves_commit : (z : Scene) (n : Node) (x : Channel) (y : Past) (d : InDoubt) (u : Luw) (rs : List Plain) → IsAt z n x y → x.sends.in_doubt ≡ Some d → is_sending x.sender.state ≡ false
-    → IsNext z.sender n.manager (do_part (harden_part z.place.channel (notes.Resolved u true true) n.manager) n.manager) z.managers rs → Turned z (world_of z.scenario z.given rs) (resolved settles.Commit x) (past_resolved settles.Commit d y)
+    → IsNext z.sender n.manager (do_part (harden_part z.place.channel (notes.Resolved u true true) n.manager) n.manager) z.managers rs → TurnedBy (Some d.unit) z (world_of z.scenario z.given rs) (resolved settles.Commit x) (past_resolved settles.Commit d y)
 resolves_commit z n x y d u rs a e off h =
     let c : List ℕ = z.place.channel in
     let p : Plain = n.manager in
@@ -213,7 +217,7 @@ resolves_commit z n x y d u rs a e off h =
     let o = is_open z n x y d a e in
     let free = a.sends.unbatched off in
     turned_on z _ (world_of z.scenario z.given rs) (resolved settles.Commit x) (record y { forced = true }) (sym k)
-    (bool_case (same_unit x.receives.unit d.unit) (λ t. same_unit x.receives.unit d.unit ≡ t → Turned z (world_of z.scenario z.given mid) (resolved settles.Commit x) (record y { forced = true }))
+    (bool_case (same_unit x.receives.unit d.unit) (λ t. same_unit x.receives.unit d.unit ≡ t → TurnedBy (Some d.unit) z (world_of z.scenario z.given mid) (resolved settles.Commit x) (record y { forced = true }))
     (λ t f. committed_there z n x y d mid a o free (unit_yes x.receives.unit d.unit f) h1)
     (λ t f. forced_there z n x y d mid a o free (unit_no x.receives.unit d.unit f) h1) refl)
 

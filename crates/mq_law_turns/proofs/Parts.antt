@@ -1,5 +1,5 @@
 -- The parts of a turn: what stands behind them beside what they change of rows, batches and units.
-use Rattle.std.proofs.Common.{ℕ, ◌≡◌, ◌≢◌, Bool, true, false, List, [], refl, ap, sym, subst, ◌∙◌, map}
+use Rattle.std.proofs.Common.{ℕ, ◌≡◌, ◌≢◌, ◌⊎◌, Bool, true, false, List, [], refl, ap, sym, subst, ◌∙◌, inl, map}
 use Rattle.std.specs.Prelude.{Option, Some, None, ◌==◌, if◌then◌else◌, ◌&&◌, slice_get, is_some}
 use Rattle.std.specs.Str.{bytes_eq}
 use Rattle.mq_message.specs.declared.message.Ident.{Ident}
@@ -30,7 +30,7 @@ use Rattle.mq_law_events.proofs.Telling.{else_changed, here_changed}
 use Rattle.mq_law_batches.proofs.Releasing.{IsNear, lasts}
 use Rattle.mq_law_batches.proofs.Wording.{Stays, stays}
 use Rattle.mq_law_story.specs.Needs.{letter_tag}
-use Rattle.mq_law_turns.specs.Turns.{AreBegun, IsJoint, Scene, Turned, world_in}
+use Rattle.mq_law_turns.specs.Turns.{AreBegun, IsJoint, Scene, Turned, TurnedBy, world_in}
 
 -- What is left as it was
 
@@ -113,16 +113,17 @@ same_turned z x k y l j far holds doubt forced content rises = record {
   };
   sent = λ a d u e. refl;
   operated = λ a d u e. refl;
+  own = λ u e. inl e;
   holds = λ a d e. refl;
   doubt = λ a d e. refl;
   last = λ a d. refl;
 }
 
-pub turned_on : (z : Scene) (v w : World) (x : Channel) (y : Past) → v ≡ w → Turned z v x y → Turned z w x y
-turned_on z v w x y e t = subst (λ (u : World). Turned z u x y) e t
+pub turned_on : {o : Option Luw} (z : Scene) (v w : World) (x : Channel) (y : Past) → v ≡ w → TurnedBy o z v x y → TurnedBy o z w x y
+turned_on {o} z v w x y e t = subst (λ (u : World). TurnedBy o z u x y) e t
 
 -- what a manager has of the channel's unit after a change of it
-pub record IsLeft (z : Scene) (q : Plain) (g : Ghost) (x k : Channel) (y : Past) : Type 0 where
+pub record IsLeft (o : Option Luw) (z : Scene) (q : Plain) (g : Ghost) (x k : Channel) (y : Past) : Type 0 where
   pub far : k.receives ≡ x.receives
   pub held : y.forced ≡ false → (holds_of z.place.channel (Some q) ≡ y.near.holds) × (doubt_of z.place.channel (Some q) ≡ y.near.doubt)
   pub idle : y.forced ≡ true → holds_of z.place.channel (Some q) ≡ None
@@ -131,9 +132,10 @@ pub record IsLeft (z : Scene) (q : Plain) (g : Ghost) (x k : Channel) (y : Past)
   pub begun : AreBegun g z.sender z.place.channel y
   pub sent : (a : ℕ) (d : List ℕ) (u : Luw) → is_here z.sender z.place.channel a d ≡ false → g.sent a d u ≡ z.ghost.sent a d u
   pub operated : (a : ℕ) (d : List ℕ) (u : Luw) → is_here z.sender z.place.channel a d ≡ false → g.operated a d u ≡ z.ghost.operated a d u
+  pub own : (u : Luw) → g.operated z.sender z.place.channel u ≡ true → (z.ghost.operated z.sender z.place.channel u ≡ true) ⊎ (o ≡ Some u)
 
-pub changed : (z : Scene) (p q : Plain) (qs : List Plain) (g : Ghost) (x k : Channel) (y l : Past) → IsJoint (world_in z) z.ghost z.book z.sender z.receiver z.place.channel x y → IsNext z.sender p q z.managers qs → IsOnly z.place.channel p q
-    → Inv (world_of z.scenario z.given qs) g z.book → IsLeft z q g x k l → Turned z (world_of z.scenario z.given qs) k l
+pub changed : {o : Option Luw} (z : Scene) (p q : Plain) (qs : List Plain) (g : Ghost) (x k : Channel) (y l : Past) → IsJoint (world_in z) z.ghost z.book z.sender z.receiver z.place.channel x y → IsNext z.sender p q z.managers qs → IsOnly z.place.channel p q
+    → Inv (world_of z.scenario z.given qs) g z.book → IsLeft o z q g x k l → TurnedBy o z (world_of z.scenario z.given qs) k l
 changed z p q qs g x k y l j n only inv left =
     let last : (a : ℕ) (d : List ℕ) → last_of z.scenario qs d (slice_get qs a) ≡ last_of z.scenario z.managers d (slice_get z.managers a) = λ a d. lasts z.scenario z.sender p q z.managers qs d a n only.near in
     record {
@@ -152,6 +154,7 @@ changed z p q qs g x k y l j n only inv left =
       };
       sent = left.sent;
       operated = left.operated;
+      own = left.own;
       holds = λ a d e. else_holds z.sender p q z.managers qs z.place.channel a d n only e;
       doubt = λ a d e. else_doubt z.sender p q z.managers qs z.place.channel a d n only e;
       last = last;

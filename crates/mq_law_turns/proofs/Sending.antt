@@ -198,6 +198,7 @@ begun_turned z n x k y u count rs a idle far is h =
       begun = λ v e. next_begun y v (a.joint.begun v e);
       sent = λ o d v e. sent_else z.ghost z.sender q c u ts o d v e;
       operated = λ o d v e. refl;
+      own = λ v e. inl e;
     })
 
 begins : (z : Scene) (n : Node) (x : Channel) (y : Past) (stamp : ℕ) (seen : Seen) (k count : ℕ) → IsAt z n x y → Guard x.sender (stock z.place.channel n.manager) (does.Begin k count)
@@ -258,6 +259,7 @@ prepared_turned z n x k y b last rs a s is far h =
       begun = a.joint.begun;
       sent = λ o e v f. refl;
       operated = λ o e v f. refl;
+      own = λ v e. inl e;
     })
 
 pub released_turned : (z : Scene) (n : Node) (x k : Channel) (y : Past) (b : Batch) (rs : List Plain) → IsAt z n x y → IsSending z n x y b → batch_of z.place.channel n.manager.channels.batches ≡ Some b → k.receives ≡ x.receives
@@ -282,6 +284,7 @@ released_turned z n x k y b rs a s is far h =
       begun = a.joint.begun;
       sent = λ o e v f. refl;
       operated = λ o e v f. refl;
+      own = λ v e. inl e;
     })
   where
     batch_or : Batch → Option Batch → Batch
@@ -331,7 +334,7 @@ is_doubted z n x y o a runs e =
     record { doubt = d.0; is = d.1; held = t.0 ∙ ap (λ v. Some v) (sym d.2); sure = t.1; plain = t.2 }
 
 pub settled_left : (z : Scene) (n : Node) (commit : Bool) (x k : Channel) (y : Past) (g : Ghost) → IsAt z n x y → batch_of z.place.channel n.manager.channels.batches ≡ None → k.receives ≡ x.receives → g.operated ≡ z.ghost.operated → g.sent ≡ z.ghost.sent
-    → IsLeft z (apply_all (settled_changes commit z.place.channel (sender_or (sender_data z.place.channel n.manager))) n.manager) g x k (emptied y)
+    → IsLeft None z (apply_all (settled_changes commit z.place.channel (sender_or (sender_data z.place.channel n.manager))) n.manager) g x k (emptied y)
 settled_left z n commit x k y g a free far ops sent =
     let c : List ℕ = z.place.channel in
     let p : Plain = n.manager in
@@ -345,6 +348,7 @@ settled_left z n commit x k y g a free far ops sent =
       begun = λ v e. a.joint.begun v (sym (λ i. ops i z.sender c v) ∙ e);
       sent = λ o e v f i. sent i o e v;
       operated = λ o e v f i. ops i o e v;
+      own = λ v e. inl (sym (λ i. ops i z.sender c v) ∙ e);
     }
 
 pub settled_only : (commit : Bool) (c : List ℕ) (p : Plain) → batch_of c p.channels.batches ≡ None → IsOnly c p (apply_all (settled_changes commit c (sender_or (sender_data c p))) p)
@@ -442,6 +446,7 @@ status_none z n x k y st rs a binds none far h =
       begun = a.joint.begun;
       sent = λ o d v f. refl;
       operated = λ o d v f. refl;
+      own = λ v e. inl e;
     }))
 
 -- what the table says where a unit is settled

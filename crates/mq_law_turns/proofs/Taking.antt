@@ -1,5 +1,5 @@
 -- Each turn of a receiver's end, as what it is of the network: a unit's commit, or nothing of rows.
-use Rattle.std.proofs.Common.{ℕ, ◌≡◌, Bool, true, false, List, [], ◌∷◌, ◌++◌, refl, ap, sym, subst, ◌∙◌, map}
+use Rattle.std.proofs.Common.{ℕ, ◌≡◌, ◌≢◌, ◌⊎◌, Bool, true, false, List, [], ◌∷◌, ◌++◌, refl, ap, sym, subst, ◌∙◌, inl, inr, map}
 use Rattle.std.specs.Prelude.{Option, Some, None, Result, Ok, Err, ◌&&◌, if◌then◌else◌, slice_get}
 use Rattle.std.proofs.lemmas.List.{append-nil}
 use Rattle.mq_codes.specs.declared.reason.Reason.{Reason}
@@ -9,6 +9,7 @@ use Rattle.mq_sync.specs.declared.unit.Unit.{Unit as Luw}
 use Rattle.mq_sync.specs.Units.{same_unit}
 use Rattle.mq_receiver.specs.declared.turns.ReceiverDoes.{ReceiverDoes}
 use Rattle.mq_receiver.specs.declared.turns.ReceiverDoes.TheVariants as takes
+use Rattle.mq_receiver.specs.declared.turns.ReceiverOut.TheVariants as ends
 use Rattle.mq_receiver.specs.Table.{receiver_next}
 use Rattle.mq_receiver.specs.After.{bound_by, last_by}
 use Rattle.mq_calls.specs.declared.agents.Note.{Note}
@@ -29,18 +30,19 @@ use Rattle.mq_spec_node.specs.Receivers.{is_receiver_defined, place_deed, receiv
 use Rattle.mq_law_channel.specs.Facts.{Letter}
 use Rattle.mq_law_channel.specs.Channel.{Channel, Facts, Past}
 use Rattle.mq_law_channel.specs.Following.{Awaited, Placed}
-use Rattle.mq_law_channel.specs.Turns.{SeenIn, receiver_does, receiver_turn, receiver_turned}
+use Rattle.mq_law_channel.specs.Turns.{ReceiverMay, SeenIn, receiver_does, receiver_turn, receiver_turned}
 use Rattle.mq_law_channel.proofs.Following as following
 use Rattle.mq_law_rows.specs.Families.{put_at}
 use Rattle.mq_law_rows.specs.World.{Book, Ghost, Inv, World, tag_idents, tag_of}
 use Rattle.mq_law_rows.specs.Kinds.{ghost_receive, unit_at}
+use Rattle.mq_law_channel.proofs.Told.{unit_self}
 use Rattle.mq_law_rows.proofs.Lists.{bool_case, here_self, true_false}
 use Rattle.mq_law_seen.specs.Seen.{book_of, world_of}
 use Rattle.mq_law_events.specs.Tied.{IsNext}
 use Rattle.mq_law_batches.specs.Releases.{IsWord}
 use Rattle.mq_law_batches.proofs.Wording.{Stays, stays, words}
 use Rattle.mq_law_node.specs.Ends.{TakesAs, place_out, receiver_of, receiver_out, stamped, taking_turn}
-use Rattle.mq_law_node.proofs.ReceiverTurns.{may_take, placed_by}
+use Rattle.mq_law_node.proofs.ReceiverTurns.{placed_by, refused_places}
 use Rattle.mq_law_receipts.specs.Receipts.{IsReceipt, Receipt}
 use Rattle.mq_law_receipts.proofs.Receiving as receiving
 use Rattle.mq_law_story.specs.Needs.{letter_tag}
@@ -66,6 +68,7 @@ same_taken z x k y j far = record {
   };
   sent = refl;
   operated = λ a d u e. refl;
+  own = λ u e. (e, inr refl);
   holds = λ a d. refl;
   doubt = λ a d. refl;
   last = λ a d e. refl;
@@ -136,10 +139,33 @@ receipt_taken z n x k y l j u qs q a waits far h holds doubt last r =
       };
       sent = refl;
       operated = λ o d v e. ap (λ t. if t && same_unit v u then false else z.ghost.operated o d v) e;
+      own = λ v e. bool_case (unit_at m c u m c v) (λ t. unit_at m c u m c v ≡ t → (if t then false else z.ghost.operated m c v) ≡ true → (z.ghost.operated m c v ≡ true) × ((world_of z.scenario z.given qs).last m c ≢ v ⊎ ((world_of z.scenario z.given qs).last m c ≡ (world_in z).last m c)))
+          (λ t f k. absurd (true_false (sym k)))
+          (λ t f k. (k, inl (λ w. true_false (sym (ap (λ b. b && same_unit v u) (here_self m c) ∙ ap (λ (o : Luw). same_unit v o) (sym (sym w ∙ last m c ∙ ap (λ b. if b then u else (world_in z).last m c) (here_self m c))) ∙ unit_self v) ∙ f)))) refl e;
       holds = holds;
       doubt = doubt;
       last = λ o d e. last o d ∙ ap (λ t. if t then u else (world_in z).last o d) e;
     }
+
+pub receipt_of : (z : Scene) (n : Node) (x : Channel) (y : Past) (l : Ledger) (u : Luw) (last : ℕ) (ld : Landed) (rs : List Plain) → IsAtFar z n x y l → Placed x y u → Awaited x y u → IsReady z n.manager l → landed z.place.channel (map stamped x.kept) n.manager ≡ Ok ld
+    → IsNext z.receiver n.manager (do_part (received_part z.place.channel u last ld n.manager) n.manager) z.managers rs
+    → (taken_of (landed z.place.channel (map stamped x.kept) n.manager) ≡ map stamped x.kept)
+    × Receipt z.scenario z.given rs (do_part (received_part z.place.channel u last ld n.manager) n.manager) l
+    (post_call z.receiver calls.Turn replies.Changed (map stamped x.kept) (received_part z.place.channel u last ld n.manager).delta (take_all_gone z.receiver (received_part z.place.channel u last ld n.manager).delta l)) z.ghost z.sender z.receiver z.place.channel u
+receipt_of z n x y l u last ld rs a placed waits ready lands h =
+    let c : List ℕ = z.place.channel in
+    let tied = commit_tied (world_in z) z.ghost z.book z.sender z.receiver c x y u a.joint.inv a.joint.tied placed waits in
+    receiving.receives z.scenario z.given z.managers rs n.manager l z.ghost z.sender z.receiver c u last (map stamped x.kept) ld replies.Changed lands h (record {
+      commits = tied.0;
+      sent = tags_stamped x.kept ∙ tied.1;
+      cabled = ready.cabled;
+      sound = ready.sound;
+      numbered = ready.numbered;
+      fresh = ready.fresh;
+      told = ready.told;
+      timed = ready.timed;
+      shelved = ready.shelved;
+    }) (subst (λ (b : Book). Inv (world_in z) z.ghost b) a.book a.joint.inv)
 
 commits : (z : Scene) (n : Node) (x k : Channel) (y : Past) (l : Ledger) (u : Luw) (last : ℕ) (ld : Landed) (rs : List Plain) → IsAtFar z n x y l → Placed x y u → Awaited x y u → IsReady z n.manager l → landed z.place.channel (map stamped x.kept) n.manager ≡ Ok ld
     → k.receives.unit ≡ u → IsNext z.receiver n.manager (do_part (received_part z.place.channel u last ld n.manager) n.manager) z.managers rs
@@ -172,42 +198,48 @@ commits z n x k y l u last ld rs a placed waits ready lands far h =
     (subst (λ (v : List Did). Taken z (world_of z.scenario z.given rs) (book_of (post_call z.receiver calls.Turn replies.Changed ms v (take_all_gone z.receiver v l))) k y) (sym (append-nil ds)) b)) t
 
 -- a unit that is placed, or refused
-places : (z : Scene) (n : Node) (x : Channel) (y : Past) (l : Ledger) (stamp : ℕ) (seen : Seen) (u : Luw) (o : Result Landed Reason) → IsAtFar z n x y l → Placed x y u → Awaited x y u → IsReady z n.manager l → landed z.place.channel (map stamped x.kept) n.manager ≡ o
+places : (z : Scene) (n : Node) (x : Channel) (y : Past) (l : Ledger) (stamp : ℕ) (seen : Seen) (u : Luw) (o : Result Landed Reason) → IsAtFar z n x y l → (place_out (receive_landed z.place.channel u (last_by seen x.receiver.last) o n.manager) ≡ ends.Done → Placed x y u × Awaited x y u × IsReady z n.manager l) → landed z.place.channel (map stamped x.kept) n.manager ≡ o
     → EachTaken z n.manager l (Some (place_deed (receiver_of z.place x.receiver x.kept) u seen (receive_landed z.place.channel u (last_by seen x.receiver.last) o n.manager) n))
     (receiver_turned (place_out (receive_landed z.place.channel u (last_by seen x.receiver.last) o n.manager)) (takes.Place u) (taking_turn z.place stamp seen x.receiver x.kept n.manager) x) y
-places z n x y l stamp seen u (Err reason) a placed waits ready lands = λ rs h. says z n x _ y l (notes.Closed x.receiver.session) false rs a tt refl h
-places z n x y l stamp seen u (Ok ld) a placed waits ready lands =
+places z n x y l stamp seen u (Err reason) a k lands = λ rs h. says z n x _ y l (notes.Closed x.receiver.session) false rs a tt refl h
+places z n x y l stamp seen u (Ok ld) a k lands =
     let c : List ℕ = z.place.channel in
     let last : ℕ = last_by seen x.receiver.last in
     bool_case (is_full (need (received_record c u last ld)) n.manager)
     (λ b. EachTaken z n.manager l (Some (place_deed (receiver_of z.place x.receiver x.kept) u seen (placed_by z.place u last ld n.manager b) n))
     (receiver_turned (place_out (placed_by z.place u last ld n.manager b)) (takes.Place u) (taking_turn z.place stamp seen x.receiver x.kept n.manager) x) y)
     (λ e rs h. says z n x _ y l (notes.Closed x.receiver.session) false rs a tt refl h)
-    (λ e rs h. commits z n x _ y l u last ld rs a placed waits ready lands refl h)
+    (λ e rs h. let o = k (ap (λ b. place_out (placed_by z.place u last ld n.manager b)) e) in commits z n x _ y l u last ld rs a o.0 o.1 o.2 lands refl h)
 
 -- THE TABLE
 -- what a commit rests on, where the table says that one comes
-abbrev pub Committing : Scene → Node → Channel → Past → Ledger → ReceiverDoes → Type 0
-Committing z n x y l (takes.Place u) = Placed x y u × Awaited x y u × IsReady z n.manager l
-Committing z n x y l _ = Unit {0}
+abbrev pub Committing : Scene → Node → Channel → Past → Ledger → Seen → ReceiverDoes → Type 0
+Committing z n x y l seen (takes.Place u) = receiver_out (takes.Place u) z.place seen x.receiver x.kept n.manager ≡ ends.Done → Placed x y u × Awaited x y u × IsReady z n.manager l
+Committing z n x y l seen _ = Unit {0}
 
-taken_by : (z : Scene) (n : Node) (x : Channel) (y : Past) (l : Ledger) (stamp : ℕ) (seen : Seen) (d : ReceiverDoes) → IsAtFar z n x y l → Committing z n x y l d
+taken_by : (z : Scene) (n : Node) (x : Channel) (y : Past) (l : Ledger) (stamp : ℕ) (seen : Seen) (d : ReceiverDoes) → IsAtFar z n x y l → Committing z n x y l seen d
     → EachTaken z n.manager l (receiver_deed_by stamp (receiver_of z.place x.receiver x.kept) seen d n) (receiver_turned (receiver_out d z.place seen x.receiver x.kept n.manager) d (taking_turn z.place stamp seen x.receiver x.kept n.manager) x) y
 taken_by z n x y l stamp seen takes.Still a k = tt
 taken_by z n x y l stamp seen takes.Ignore a k = λ rs h. quiet z n x _ y l rs a refl h
 taken_by z n x y l stamp seen takes.PushOwed a k = λ rs h. quiet z n x _ y l rs a refl h
 taken_by z n x y l stamp seen takes.Bind a k = λ rs h. says z n x _ y l (notes.Bound z.place.partner (bound_by seen x.receiver).session (bound_by seen x.receiver).last) true rs a tt refl h
 taken_by z n x y l stamp seen takes.Keep a k = λ rs h. quiet z n x _ y l rs a refl h
-taken_by z n x y l stamp seen (takes.Place u) a k = places z n x y l stamp seen u (landed z.place.channel (map stamped x.kept) n.manager) a k.0 k.1 k.2 refl
+taken_by z n x y l stamp seen (takes.Place u) a k = places z n x y l stamp seen u (landed z.place.channel (map stamped x.kept) n.manager) a k refl
 taken_by z n x y l stamp seen takes.Again a k = λ rs h. quiet z n x _ y l rs a refl h
 taken_by z n x y l stamp seen takes.Close a k = λ rs h. says z n x _ y l (notes.Closed x.receiver.session) false rs a tt refl h
 
 -- the channel's facts give it
-committing : (z : Scene) (n : Node) (x : Channel) (y : Past) (l : Ledger) (stamp : ℕ) (seen : Seen) (d : ReceiverDoes) → receiver_does (taking_turn z.place stamp seen x.receiver x.kept n.manager) x ≡ d → Facts x y → SeenIn seen x.out
-    → ((u : Luw) → receiver_does (taking_turn z.place stamp seen x.receiver x.kept n.manager) x ≡ takes.Place u → (y.near.undone u ≡ false) × IsReady z n.manager l) → Committing z n x y l d
-committing z n x y l stamp seen (takes.Place u) e facts offered given =
-    let may = may_take z.place stamp seen n x y offered (λ v f. (given v f).0) in
-    (following.placed (taking_turn z.place stamp seen x.receiver x.kept n.manager) x y u facts may e, following.awaited (taking_turn z.place stamp seen x.receiver x.kept n.manager) x y u facts may e (given u e).0, (given u e).1)
+pub committing : (z : Scene) (n : Node) (x : Channel) (y : Past) (l : Ledger) (stamp : ℕ) (seen : Seen) (d : ReceiverDoes) → receiver_does (taking_turn z.place stamp seen x.receiver x.kept n.manager) x ≡ d → Facts x y → SeenIn seen x.out
+    → ((u : Luw) → receiver_does (taking_turn z.place stamp seen x.receiver x.kept n.manager) x ≡ takes.Place u → (taking_turn z.place stamp seen x.receiver x.kept n.manager).outcome ≡ ends.Done → (y.near.undone u ≡ false) × IsReady z n.manager l) → Committing z n x y l seen d
+committing z n x y l stamp seen (takes.Place u) e facts offered given = λ o.
+    let done = ap (λ d. receiver_out d z.place seen x.receiver x.kept n.manager) e ∙ o in
+    let may : ReceiverMay (taking_turn z.place stamp seen x.receiver x.kept n.manager) x y = record {
+      offered = offered;
+      refused = λ reason f. refused_places (receiver_next x.receiver seen (is_receiver_defined z.place.channel n.manager.definitions)) z.place seen x.receiver x.kept n.manager reason f;
+      agreed = λ v f g. (given v g f).0;
+    } in
+    let k = given u e done in
+    (following.placed (taking_turn z.place stamp seen x.receiver x.kept n.manager) x y u facts may e, following.awaited (taking_turn z.place stamp seen x.receiver x.kept n.manager) x y u facts may e k.0, k.1)
 committing z n x y l stamp seen takes.Still e facts offered given = tt
 committing z n x y l stamp seen takes.Ignore e facts offered given = tt
 committing z n x y l stamp seen takes.PushOwed e facts offered given = tt
@@ -218,7 +250,7 @@ committing z n x y l stamp seen takes.Close e facts offered given = tt
 
 pub turns : (z : Scene) (n : Node) (x : Channel) (y : Past) (l : Ledger) (stamp : ℕ) (seen : Seen) → slice_get z.managers z.receiver ≡ Some n.manager → TakesAs z.place n x → Facts x y → IsJoint (world_in z) z.ghost z.book z.sender z.receiver z.place.channel x y
     → z.book ≡ book_of l → SeenIn seen x.out
-    → ((u : Luw) → receiver_does (taking_turn z.place stamp seen x.receiver x.kept n.manager) x ≡ takes.Place u → (y.near.undone u ≡ false) × IsReady z n.manager l)
+    → ((u : Luw) → receiver_does (taking_turn z.place stamp seen x.receiver x.kept n.manager) x ≡ takes.Place u → (taking_turn z.place stamp seen x.receiver x.kept n.manager).outcome ≡ ends.Done → (y.near.undone u ≡ false) × IsReady z n.manager l)
     → EachTaken z n.manager l (receiver_deed stamp (receiver_of z.place x.receiver x.kept) seen n) (receiver_turn (taking_turn z.place stamp seen x.receiver x.kept n.manager) x) y
 turns z n x y l stamp seen at takes_ facts joint book offered given =
     taken_by z n x y l stamp seen (receiver_next x.receiver seen (is_receiver_defined z.place.channel n.manager.definitions)) (record { at = at; takes_ = takes_; facts = facts; joint = joint; book = book })

@@ -1,5 +1,5 @@
 -- A network and one channel of it: what ties the two, and what a turn of an end leaves of both.
-use Rattle.std.specs.Prelude.{ℕ, Bool, true, false, not, ◌&&◌, ◌≡◌, List, [], ◌∷◌, Option, Some, None}
+use Rattle.std.specs.Prelude.{ℕ, Bool, true, false, not, ◌&&◌, ◌≡◌, ◌≢◌, ◌⊎◌, List, [], ◌∷◌, Option, Some, None}
 use Rattle.std.specs.Str.{bytes_eq}
 use Rattle.mq_message.specs.declared.place.Holder.TheVariants as holders
 use Rattle.mq_spec_state.specs.State.Change.{Hold}
@@ -75,15 +75,20 @@ pub record IsAtFar (z : Scene) (n : Node) (x : Channel) (y : Past) (l : Ledger) 
   pub joint : IsJoint (world_in z) z.ghost z.book z.sender z.receiver z.place.channel x y
   pub book : z.book ≡ book_of l
 
--- So it is again; and what any other channel is tied to stays as it was.
-pub record Turned (z : Scene) (v : World) (x : Channel) (y : Past) : Type 0 where
+-- So it is again; and what any other channel is tied to stays as it was. An operator may have committed a unit with it.
+pub record TurnedBy (o : Option Luw) (z : Scene) (v : World) (x : Channel) (y : Past) : Type 0 where
   pub ghost : Ghost
   pub joint : IsJoint v ghost z.book z.sender z.receiver z.place.channel x y
   pub sent : (a : ℕ) (d : List ℕ) (u : Luw) → is_here z.sender z.place.channel a d ≡ false → ghost.sent a d u ≡ z.ghost.sent a d u
   pub operated : (a : ℕ) (d : List ℕ) (u : Luw) → is_here z.sender z.place.channel a d ≡ false → ghost.operated a d u ≡ z.ghost.operated a d u
+  pub own : (u : Luw) → ghost.operated z.sender z.place.channel u ≡ true → (z.ghost.operated z.sender z.place.channel u ≡ true) ⊎ (o ≡ Some u)
   pub holds : (a : ℕ) (d : List ℕ) → is_here z.sender z.place.channel a d ≡ false → v.holds a d ≡ (world_in z).holds a d
   pub doubt : (a : ℕ) (d : List ℕ) → is_here z.sender z.place.channel a d ≡ false → v.doubt a d ≡ (world_in z).doubt a d
   pub last : (a : ℕ) (d : List ℕ) → v.last a d ≡ (world_in z).last a d
+
+-- where none is
+abbrev pub Turned : Scene → World → Channel → Past → Type 0
+Turned z v x y = TurnedBy None z v x y
 
 -- a deed of the sender's end that ran
 abbrev pub EachTurned : Scene → Plain → Option Deed → Channel → Past → Type 0
@@ -111,6 +116,7 @@ pub record Taken (z : Scene) (v : World) (b : Book) (x : Channel) (y : Past) : T
   pub joint : IsJoint v ghost b z.sender z.receiver z.place.channel x y
   pub sent : ghost.sent ≡ z.ghost.sent
   pub operated : (a : ℕ) (d : List ℕ) (u : Luw) → is_here z.sender z.place.channel a d ≡ false → ghost.operated a d u ≡ z.ghost.operated a d u
+  pub own : (u : Luw) → ghost.operated z.sender z.place.channel u ≡ true → (z.ghost.operated z.sender z.place.channel u ≡ true) × (v.last z.sender z.place.channel ≢ u ⊎ (v.last z.sender z.place.channel ≡ (world_in z).last z.sender z.place.channel))
   pub holds : (a : ℕ) (d : List ℕ) → v.holds a d ≡ (world_in z).holds a d
   pub doubt : (a : ℕ) (d : List ℕ) → v.doubt a d ≡ (world_in z).doubt a d
   pub last : (a : ℕ) (d : List ℕ) → is_here z.sender z.place.channel a d ≡ false → v.last a d ≡ (world_in z).last a d

@@ -2,7 +2,7 @@
 //! ledger's are kept, and the channel is of one mind with the network again.
 #![tactic(auto)]
 
-ghost use Rattle.std.specs.Prelude.{◌≡◌, ◌≢◌, ◌++◌, ◌==◌, ℕ, Bool, true, false, List, [], Some, if◌then◌else◌, slice_get};
+ghost use Rattle.std.specs.Prelude.{◌≡◌, ◌≢◌, ◌++◌, ◌==◌, ℕ, Bool, true, false, List, [], Option, Some, if◌then◌else◌, slice_get};
 ghost use Rattle.mq_message.specs.declared.message.Ident.{Ident};
 ghost use Rattle.mq_frame.specs.declared.frame.Seen.{Seen};
 ghost use Rattle.mq_sync.specs.declared.unit.Unit.{Unit as Luw};
@@ -16,6 +16,7 @@ ghost use Rattle.mq_sender.specs.declared.turns.SenderDoes.TheVariants.{Expire};
 ghost use Rattle.mq_receiver.specs.declared.turns.ReceiverDoes.{ReceiverDoes};
 ghost use Rattle.mq_sender.specs.Table.{is_idle, is_sending, sender_next};
 ghost use Rattle.mq_receiver.specs.declared.turns.ReceiverDoes.TheVariants.{Place};
+ghost use Rattle.mq_receiver.specs.declared.turns.ReceiverOut.TheVariants.{Done};
 ghost use Rattle.mq_calls.specs.declared.agents.Note.TheVariants as notes;
 ghost use Rattle.mq_history.specs.declared.scenario.CableLine.{CableLine};
 ghost use Rattle.mq_history.specs.declared.scenario.Scenario.{Scenario};
@@ -55,7 +56,7 @@ ghost use Rattle.mq_spec_network.specs.Standing.{last_unit_of, opening_managers}
 ghost use Rattle.mq_spec_network.specs.Story.{Line, Mem};
 ghost use Rattle.mq_law_channel.specs.Turns.{ReceiverTurn, SenderTurn};
 ghost use Rattle.mq_law_turns.specs.Agreed.{IsToldOf, TellsCommit};
-ghost use Rattle.mq_law_turns.specs.Turns.{EachFollowed, EachForOthers, EachPosted, EachSound, EachTaken, EachTurned, IsAt, IsAtFar, IsAtRest, IsJoint, IsReady, Scene, Taken, Turned, is_expiry, parts_for_others, world_in};
+ghost use Rattle.mq_law_turns.specs.Turns.{EachFollowed, EachForOthers, EachPosted, EachSound, EachTaken, EachTurned, IsAt, IsAtFar, IsAtRest, IsJoint, IsReady, Scene, Taken, Turned, TurnedBy, is_expiry, parts_for_others, world_in};
 
 /// Each turn of a sender's end, but for one that removes expired rows, asks its manager for such changes as keep the facts of the whole
 /// network: and the channel after it is of one mind with the network again.
@@ -70,7 +71,7 @@ pub fn a_senders_turn_keeps_the_facts()
 pub fn a_receivers_turn_keeps_the_facts()
     ensures { (z : Scene) (n : Node) (x : Channel) (y : Past) (l : Ledger) (stamp : ℕ) (seen : Seen) → slice_get z.managers z.receiver ≡ Some n.manager → TakesAs z.place n x → Facts x y
         → IsJoint (world_in z) z.ghost z.book z.sender z.receiver z.place.channel x y → z.book ≡ book_of l → SeenIn seen x.out
-        → ((u : Luw) → receiver_does (taking_turn z.place stamp seen x.receiver x.kept n.manager) x ≡ Place u → (y.near.undone u ≡ false) × IsReady z n.manager l)
+        → ((u : Luw) → receiver_does (taking_turn z.place stamp seen x.receiver x.kept n.manager) x ≡ Place u → (taking_turn z.place stamp seen x.receiver x.kept n.manager).outcome ≡ Done → (y.near.undone u ≡ false) × IsReady z n.manager l)
         → EachTaken z n.manager l (receiver_deed stamp (receiver_of z.place x.receiver x.kept) seen n) (receiver_turn (taking_turn z.place stamp seen x.receiver x.kept n.manager) x) y }
 {}
 
@@ -91,7 +92,7 @@ pub fn operators_at_a_sender_keep_the_facts()
     ensures resets { (z : Scene) (n : Node) (x : Channel) (y : Past) (last : ℕ) (rs : List Plain) → IsAt z n x y → IsNext z.sender n.manager (do_part (harden_part z.place.channel (notes.SeqSet ends.Sender last) n.manager) n.manager) z.managers rs
         → Turned z (world_of z.scenario z.given rs) (sender_numbered last x) y }
     ensures commits { (z : Scene) (n : Node) (x : Channel) (y : Past) (d : InDoubt) (u : Luw) (rs : List Plain) → IsAt z n x y → x.sends.in_doubt ≡ Some d → is_sending x.sender.state ≡ false
-        → IsNext z.sender n.manager (do_part (harden_part z.place.channel (notes.Resolved u true true) n.manager) n.manager) z.managers rs → Turned z (world_of z.scenario z.given rs) (resolved settles.Commit x) (past_resolved settles.Commit d y) }
+        → IsNext z.sender n.manager (do_part (harden_part z.place.channel (notes.Resolved u true true) n.manager) n.manager) z.managers rs → TurnedBy (Some d.unit) z (world_of z.scenario z.given rs) (resolved settles.Commit x) (past_resolved settles.Commit d y) }
     ensures backs_out { (z : Scene) (n : Node) (x : Channel) (y : Past) (d : InDoubt) (u : Luw) (rs : List Plain) → IsAt z n x y → x.sends.in_doubt ≡ Some d → is_sending x.sender.state ≡ false → x.receives.unit ≢ d.unit
         → IsNext z.sender n.manager (do_part (harden_part z.place.channel (notes.Resolved u false true) n.manager) n.manager) z.managers rs → Turned z (world_of z.scenario z.given rs) (resolved settles.Backout x) (past_resolved settles.Backout d y) }
     ensures times_out { (z : Scene) (n : Node) (x : Channel) (y : Past) (st : SenderState) (rs : List Plain) → IsAt z n x y → IsNext z.sender n.manager (do_all (leave_if_stopped z.place.channel st n.manager) n.manager) z.managers rs
@@ -103,7 +104,7 @@ pub fn operators_at_a_sender_keep_the_facts()
 pub fn other_channels_stay_tied()
     ensures follows { (s : Scenario) (given : Ident → Bool) (a : ℕ) (p q : Plain) (ps qs : List Plain) (l k : Ledger) (g : Ghost) → IsNext a p q ps qs → IsTold a p l → (f : Follow a given p l q k) → (m t : ℕ) (c : List ℕ) (x : Channel) (y : Past)
         → IsJoint (world_of s given ps) g (book_of l) m t c x y → (o : Moved g (world_of s f.now qs) (book_of k)) × IsJoint (world_of s f.now qs) (with_owner g o.owner) (book_of k) m t c x y }
-    ensures sender { (z : Scene) (v : World) (x : Channel) (y : Past) → (r : Turned z v x y) → (m t : ℕ) (c : List ℕ) (k : Channel) (l : Past) → is_here z.sender z.place.channel m c ≡ false
+    ensures sender { (o : Option Luw) (z : Scene) (v : World) (x : Channel) (y : Past) → (r : TurnedBy o z v x y) → (m t : ℕ) (c : List ℕ) (k : Channel) (l : Past) → is_here z.sender z.place.channel m c ≡ false
         → IsJoint (world_in z) z.ghost z.book m t c k l → IsJoint v r.ghost z.book m t c k l }
     ensures receiver { (z : Scene) (v : World) (b : Book) (x : Channel) (y : Past) → (r : Taken z v b x y) → (m t : ℕ) (c : List ℕ) (k : Channel) (l : Past) → is_here z.sender z.place.channel m c ≡ false
         → IsJoint (world_in z) z.ghost z.book m t c k l → IsJoint v r.ghost b m t c k l }

@@ -1,0 +1,151 @@
+-- RESOLVE that backs a unit out, as a move of the network.
+use Rattle.std.proofs.Common.{ℕ, ◌≡◌, ◌≢◌, ◌≤◌, Bool, true, false, List, [], ◌∷◌, ◌++◌, refl, ap, sym, subst, ◌∙◌, inl, arith}
+use Rattle.std.specs.Prelude.{Option, Some, None, ◌==◌, ◌&&◌, not, if◌then◌else◌, map, slice_get}
+use Rattle.std.proofs.lemmas.Bool.Decides.{nat_tests}
+use Rattle.mq_message.specs.declared.place.Holder.TheVariants as holders
+use Rattle.mq_sync.specs.declared.unit.Unit.{Unit as Luw}
+use Rattle.mq_sync.specs.declared.unit.Settle.TheVariants as settles
+use Rattle.mq_sync.specs.declared.data.InDoubt.{InDoubt}
+use Rattle.mq_sync.specs.Units.{no_unit, same_unit}
+use Rattle.mq_sender.specs.declared.state.Kept.{Kept}
+use Rattle.mq_sender.specs.States as senders
+use Rattle.mq_calls.specs.declared.agents.Note.TheVariants as notes
+use Rattle.mq_calls.specs.declared.choices.Choice.TheVariants.{Runs}
+use Rattle.mq_calls.specs.declared.deltas.Did.{Did}
+use Rattle.mq_calls.specs.declared.deltas.Did.TheVariants as did
+use Rattle.mq_calls.specs.declared.records.Remove.{Remove}
+use Rattle.mq_sc_parse.specs.declared.command.Command.TheVariants as lines
+use Rattle.mq_sc_parse.specs.declared.command.Op.{Op}
+use Rattle.mq_sc_parse.specs.declared.command.Op.TheVariants as ops
+use Rattle.mq_history.specs.declared.acts.Act.TheVariants as acts
+use Rattle.mq_history.specs.declared.acts.Acted.TheVariants as acted
+use Rattle.mq_history.specs.declared.acts.OpRefusal.TheVariants as reasons
+use Rattle.mq_history.specs.declared.calls.Call.TheVariants as calls
+use Rattle.mq_history.specs.declared.calls.Chance.TheVariants as chances
+use Rattle.mq_history.specs.declared.history.History.{History}
+use Rattle.mq_history.specs.declared.scenario.CableLine.{CableLine}
+use Rattle.mq_history.specs.declared.scenario.Scenario.{Scenario}
+use Rattle.mq_history.specs.Scenarios.{IsScenario}
+use Rattle.mq_spec_state.specs.Reads.{in_doubt_of, is_up, sender_data}
+use Rattle.mq_spec_state.specs.Steps.{delta_of}
+use Rattle.mq_spec_agents.specs.Words.{held_rows, settle_did}
+use Rattle.mq_spec_node.specs.Node.{Node, SenderEnd, sender_named}
+use Rattle.mq_spec_node.specs.Deeds.{Deed, Done}
+use Rattle.mq_spec_node.specs.Operators.{operate, refused_or, resolve_doubt, resolve_end}
+use Rattle.mq_spec_node.specs.Replays.{IsOwn, Tells}
+use Rattle.mq_spec_network.specs.Conflict.{Deed as ToldDeed, NoConflict, deeds, deeds_in}
+use Rattle.mq_spec_network.specs.Standing.{node_after, opening_managers}
+use Rattle.mq_spec_network.specs.Story.{Line, Mem}
+use Rattle.mq_law_channel.specs.Channel.{Channel, Past}
+use Rattle.mq_law_channel.specs.Turns.{data_settled}
+use Rattle.mq_law_channel.proofs.Told.{Doubted, doubt_is}
+use Rattle.mq_law_node.specs.Ends.{SendsAs, Where, sender_of}
+use Rattle.mq_law_node.specs.Moves.{NearStep}
+use Rattle.mq_law_node.proofs.Named.{bool_case}
+use Rattle.mq_law_node.proofs.Operators.{doubt_there, resolve_deed, resolves_batch, resolves_data, resting_apart}
+use Rattle.mq_law_node.proofs.SenderTurns.{leaves}
+use Rattle.mq_law_turns.specs.Agreed.{IsToldOf}
+use Rattle.mq_law_turns.specs.Turns.{IsAt, Scene}
+use Rattle.mq_law_turns.proofs.Agreeing.{backout_tells, backs_out_rightly, grows}
+use Rattle.mq_law_turns.proofs.Operating.{resolves_backout}
+use Rattle.mq_law_run.specs.Run.{IsRunning, Moves, Stand, near_at}
+use Rattle.mq_law_run.proofs.Commanding.{Commands, all_leave, commanded, leave_behind, refuses, told_here, told_of, up_so}
+use Rattle.mq_law_run.proofs.Lining.{mem_at}
+use Rattle.mq_law_run.proofs.Running.{scene}
+use Rattle.mq_law_run.proofs.Telling.{deeds_more, mem_left, mem_right, told_now}
+
+settle_leave : (rs : List Remove) → all_leave (map (settle_did false) rs) ≡ true
+settle_leave [] = refl
+settle_leave (r ∷ rs) = settle_leave rs
+
+-- what it tells
+abbrev backed_out : List ℕ → Luw → Did
+backed_out c u = did.Hardened c (notes.Resolved u false true)
+
+tells_it : (w : Where) (d : InDoubt) (n : Node) → Mem (backed_out w.channel d.unit) (delta_of (resolve_deed w settles.Backout d n).parts)
+tells_it w d n =
+    let e : Did = backed_out w.channel d.unit in
+    let ds : List Did = map (settle_did false) (held_rows (holders.Batch w.channel) n.manager) in
+    mem_left e (ds ++ e ∷ []) [] (mem_right e ds (e ∷ []) (inl refl))
+
+backs_out : (z : Scene) (n : Node) (c : Channel) (y : Past) (d : InDoubt) → IsAt z n c y → is_up n.manager.running ≡ true → senders.is_running c.sender.state ≡ false → in_doubt_of (sender_data z.place.channel n.manager) ≡ Some d
+    → (1 ≤ d.unit.n → c.receives.unit ≢ d.unit) → Commands z n c y (resolve_deed z.place settles.Backout d n)
+backs_out z n c y d a up off so right =
+    let w : Where = z.place in
+    let h : SendsAs w n c = a.sends in
+    let found : senders.doubt_of c.sends.in_doubt ≡ Some (record { unit = d.unit; last = d.last }) =
+    ap (λ (k : Kept). k.doubt) h.data_ ∙ ap senders.doubt_of (sym (doubt_there (sender_data w.channel n.manager)) ∙ so) in
+    let own : Doubted c.sends.in_doubt (record { unit = d.unit; last = d.last }) = doubt_is c.sends.in_doubt (record { unit = d.unit; last = d.last }) found in
+    let held = a.facts.tied.in_doubt own.data_ own.is in
+    let real : 1 ≤ d.unit.n = subst (λ (u : Luw). 1 ≤ u.n) own.unit (a.facts.sound.held own.data_.unit held.0).0 in
+    let not_so : c.receives.unit ≢ own.data_.unit = λ e. right real (e ∙ own.unit) in (
+      NearStep.Resolve settles.Backout own.data_,
+      record {
+        may = (off, own.is);
+        turned = λ rs g. resolves_backout z n c y own.data_ d.unit rs a own.is (resting_apart c.sender.state off) not_so g;
+        sent = leaves w n (resolve_deed w settles.Backout d n) c (data_settled (Some settles.Backout) c.sends) c.sender c.batch c.out up h.here
+            (resolves_data w settles.Backout d n.manager c.sends h.data_)
+            (λ e. absurd (cc (e, resting_apart c.sender.state off)))
+            (λ e. resolves_batch w settles.Backout d n.manager _ ∙ h.unbatched e)
+            refl;
+        ends = refl;
+        adds = refl;
+        told = leave_behind (map (settle_did false) (held_rows (holders.Batch w.channel) n.manager) ++ backed_out w.channel d.unit ∷ []) []
+            (leave_behind (map (settle_did false) (held_rows (holders.Batch w.channel) n.manager)) (backed_out w.channel d.unit ∷ []) (settle_leave (held_rows (holders.Batch w.channel) n.manager)) refl) refl;
+        answer = acted.Done;
+        reply = refl;
+        is = refl;
+        pushed = refl;
+        tells = λ ps ds f i. backout_tells z.scenario ps ds z.sender w.channel c y own.data_
+            (subst (λ (u : Luw). Mem (told_of z.sender (backed_out w.channel u)) ds) (sym own.unit) (f (backed_out w.channel d.unit) (tells_it w d n))) i;
+        near = λ v e f. (refl, ap (λ (b : Bool). (not b && true) && true) f);
+        others = λ v f. refl;
+        far = λ v e. (refl, refl);
+      },
+    )
+
+resolves_so : (z : Scene) (n : Node) (c : Channel) (y : Past) (o : Option InDoubt) → IsAt z n c y → is_up n.manager.running ≡ true → in_doubt_of (sender_data z.place.channel n.manager) ≡ o
+    → ((d : InDoubt) → o ≡ Some d → senders.is_running c.sender.state ≡ false → 1 ≤ d.unit.n → c.receives.unit ≢ d.unit) → Commands z n c y (resolve_doubt (sender_of z.place c.sender) settles.Backout o n)
+resolves_so z n c y None a up is right = refuses z n c y reasons.NotInDoubt a up
+resolves_so z n c y (Some d) a up is right = bool_case (senders.is_running c.sender.state)
+    (λ b. Commands z n c y (refused_or (if b then Some reasons.Running else None) n.own (resolve_deed z.place settles.Backout d n)))
+    (λ e. refuses z n c y reasons.Running a up)
+    (λ e. backs_out z n c y d a up e is (right d refl e))
+
+-- a unit of a number has a name
+not_zero : (n : ℕ) → 1 ≤ n → (n == 0) ≡ false
+not_zero n e = grind (arith, nat_tests, e)
+
+and_none : (a : Bool) → (a && false) ≡ false
+and_none true = refl
+and_none false = refl
+
+real_unit : (u : Luw) → 1 ≤ u.n → same_unit u no_unit ≡ false
+real_unit u e = ap (λ (b : Bool). (u.session == 0) && b) (not_zero u.n e) ∙ and_none (u.session == 0)
+
+pub backing_out : (s : Scenario) (hs : List History) (whole p : List Line) (es : List ToldDeed) (x : Line) (h : History) (stamp : ℕ) (z : Stand s hs p) (i : ℕ) (k : CableLine) (name : List ℕ) → IsScenario s → NoConflict s hs whole
+    → deeds whole ≡ deeds (p ++ x ∷ []) ++ es → slice_get hs x.manager ≡ Some h → Tells (node_after s x.manager p h) stamp x.entry → IsOwn x.entry.chance → slice_get s.cables i ≡ Some k → k.sender ≡ x.manager
+    → x.entry.call ≡ calls.Act (acts.Obey (lines.Operate (ops.Resolve name settles.Backout))) → x.entry.chance ≡ chances.Call Runs → IsRunning s p x h (operate (ops.Resolve name settles.Backout) (node_after s x.manager p h))
+    → sender_named name (node_after s x.manager p h).own.ends ≡ Some (sender_of (near_at s i k) (z.xs k.sender k.channel).sender) → Moves s hs p x h z
+backing_out s hs whole p es x h stamp z i k name scenario none split is tells own e q call chance run named =
+    let n : Node = node_after s x.manager p h in
+    let w : Where = near_at s i k in
+    let c : Channel = z.xs k.sender k.channel in
+    let y : Past = z.ys k.sender k.channel in
+    let end : SenderEnd = sender_of w c.sender in
+    let op : Op = ops.Resolve name settles.Backout in
+    let up : is_up n.manager.running ≡ true = ap is_up run.up in
+    let o : Option InDoubt = in_doubt_of (sender_data k.channel n.manager) in
+    let there : Mem k s.cables = mem_at s.cables i k e in
+    let now : IsToldOf s (opening_managers s hs) (deeds (p ++ x ∷ [])) k.sender k.channel c y =
+    subst (λ ds. IsToldOf s (opening_managers s hs) ds k.sender k.channel c y) (sym (deeds_more p x)) (grows s (opening_managers s hs) (deeds p) (deeds_in x.manager x.entry.effect.delta) k.sender k.channel c y (z.told k there)) in
+    let right : (d : InDoubt) → o ≡ Some d → senders.is_running c.sender.state ≡ false → 1 ≤ d.unit.n → c.receives.unit ≢ d.unit = λ d f off real.
+    let same : operate op n ≡ resolve_deed w settles.Backout d n = sym (up_so op n up) ∙ ap (λ (v : Option SenderEnd). resolve_end settles.Backout v n) named ∙ ap (λ (v : Option InDoubt). resolve_doubt end settles.Backout v n) f
+    ∙ ap (λ (b : Bool). refused_or (if b then Some reasons.Running else None) n.own (resolve_deed w settles.Backout d n)) off in
+    let delta : x.entry.effect.delta ≡ delta_of (resolve_deed w settles.Backout d n).parts = tells.delta ∙ ap (λ (v : Done). v.delta) run.is ∙ ap (λ (g : Deed). delta_of g.parts) same in
+    let it : ToldDeed = told_of k.sender (backed_out k.channel d.unit) in
+    backs_out_rightly s hs whole (deeds (p ++ x ∷ [])) es k.sender k.channel c y d.unit none split now
+    (subst (λ (ds : List ToldDeed). Mem it ds) (sym split) (mem_left it (deeds (p ++ x ∷ [])) es (told_now p x it (told_here k.sender x.manager (delta_of (resolve_deed w settles.Backout d n).parts) x.entry.effect.delta (backed_out k.channel d.unit) q delta (tells_it w d n)))))
+    (real_unit d.unit real) in
+    commanded s hs p x z (record { h = h; is = is; stamp = stamp; tells = tells; own = own }) i k (resolve_doubt end settles.Backout o n) op scenario e q call chance run (ap (λ (v : Option SenderEnd). resolve_end settles.Backout v n) (sym named))
+    (λ a. resolves_so (scene s hs p z k w) n c y o a up refl right)

@@ -1,0 +1,156 @@
+-- What an event comes to is kept again.
+use Rattle.std.proofs.Common.{ℕ, ◌≡◌, ◌⊎◌, Bool, true, false, List, [], ◌∷◌, ◌++◌, refl, ap, sym, subst, ◌∙◌, inl, inr, arith}
+use Rattle.std.specs.Prelude.{Some, ◌==◌, ◌+◌, ◌&&◌, ◌||◌, if◌then◌else◌, slice_get, nat_lt}
+use Rattle.std.proofs.lemmas.Bool.Decides.{nat_tests}
+use Rattle.mq_message.specs.declared.message.Ident.{Ident}
+use Rattle.mq_frame.specs.declared.frame.Frame.{Frame}
+use Rattle.mq_history.specs.declared.history.History.{History}
+use Rattle.mq_history.specs.declared.scenario.CableLine.{CableLine}
+use Rattle.mq_history.specs.declared.scenario.Scenario.{Scenario}
+use Rattle.mq_spec_node.specs.Node.{Node}
+use Rattle.mq_spec_node.specs.Replays.{done_by}
+use Rattle.mq_spec_network.specs.Ledger.{Ledger, ledger, users_or}
+use Rattle.mq_spec_network.specs.Standing.{node_after, opening_ledger}
+use Rattle.mq_spec_network.specs.Story.{Line, Mem}
+use Rattle.mq_law_channel.specs.Channel.{Channel}
+use Rattle.mq_law_node.specs.Nodes.{FarNode, NearNode}
+use Rattle.mq_law_node.proofs.Pairs.{far_stays, near_stays}
+use Rattle.mq_law_rows.proofs.Lists.{bool_case, eqb_yes}
+use Rattle.mq_law_events.specs.Tied.{IsTold}
+use Rattle.mq_law_story.proofs.Weaving.{node_step}
+use Rattle.mq_law_deeds.specs.Numbers.{AreCountedAt}
+use Rattle.mq_law_cables.specs.Joints.{AreCabled}
+use Rattle.mq_law_one.specs.Alone.{IsAt, NoOther}
+use Rattle.mq_law_one.proofs.Ordinary.{elsewhere_noted}
+use Rattle.mq_law_run.specs.Run.{Among, IsMoved, Moves, Stand, far_at, near_at}
+
+-- the node of the entry's manager, and the others
+pub here_node : (s : Scenario) (p : List Line) (x : Line) (h : History) (m : ℕ) → m ≡ x.manager → node_after s m (p ++ x ∷ []) h ≡ (done_by x.entry (node_after s x.manager p h)).next
+here_node s p x h m e = node_step s m p x h ∙ ap (λ w. if w == x.manager then (done_by x.entry (node_after s w p h)).next else node_after s w p h) e
+    ∙ ap (λ t. if t then (done_by x.entry (node_after s x.manager p h)).next else node_after s x.manager p h) (same x.manager)
+  where
+    same : (n : ℕ) → (n == n) ≡ true
+    same n = grind (arith, nat_tests)
+
+pub else_node : (s : Scenario) (p : List Line) (x : Line) (h : History) (m : ℕ) → (m == x.manager) ≡ false → node_after s m (p ++ x ∷ []) h ≡ node_after s m p h
+else_node s p x h m e = node_step s m p x h ∙ ap (λ t. if t then (done_by x.entry (node_after s m p h)).next else node_after s m p h) e
+
+pub one_history : (hs : List History) (m a : ℕ) (h k : History) → a ≡ m → slice_get hs m ≡ Some h → slice_get hs a ≡ Some k → k ≡ h
+one_history hs m a h k e x y = some_is (sym y ∙ ap (slice_get hs) e ∙ x)
+  where
+    some_is : Some k ≡ Some h → k ≡ h
+    some_is z = cc
+
+other_number : (i : Ident) (a m k : ℕ) (t : Bool) → (a == m) ≡ false → k ≡ m + 1 → ((i.manager == a + 1) && t) ≡ true → (i.manager == k) ≡ false
+other_number i a m k t ne e u = grind (arith, nat_tests)
+
+-- another manager
+else_at : (a m number : ℕ) (given now : Ident → Bool) (c : Node) (l k : Ledger) → (a == m) ≡ false → IsAt NoOther a given c l → number ≡ m + 1 → ((i : Ident) → (i.manager == number) ≡ false → now i ≡ given i)
+    → IsTold a c.manager k → slice_get k.users a ≡ slice_get l.users a → IsAt NoOther a now c k
+else_at a m number given now c l k ne at num known told users = record {
+  told = told;
+  fresh = λ i u. known i (other_number i a m number _ ne num (ap (λ z. (i.manager == z) && (nat_lt c.manager.numbers.incarnation i.incarnation || ((i.incarnation == c.manager.numbers.incarnation) && nat_lt c.manager.numbers.idents i.number))) (sym at.number) ∙ u)) ∙ at.fresh i u;
+  number = at.number;
+  timed = record { users = at.timed.users; used = users ∙ at.timed.used; moment = at.timed.moment };
+  state = at.state;
+  noted = elsewhere_noted NoOther a c.manager.running c.manager l k (ap (λ o. (users_or o).cut) users) at.noted;
+}
+
+else_counted : (n a : ℕ) (l k : Ledger) → slice_get k.users a ≡ slice_get l.users a → AreCountedAt n a l → AreCountedAt n a k
+else_counted n a l k e c = record { users = c.users; used = e ∙ c.used; counted = c.counted }
+
+-- the last of a list with one more
+mem_more : (xs : List Line) (x y : Line) → Mem y (xs ++ x ∷ []) → Mem y xs ⊎ (y ≡ x)
+mem_more [] x y (inl e) = inr e
+mem_more [] x y (inr n) = absurd n
+mem_more (w ∷ xs) x y (inl e) = inl (inl e)
+mem_more (w ∷ xs) x y (inr n) = elim (mem_more xs x y n) [ inl z ↦ inl (inr z) | inr z ↦ inr z ]
+
+pub keeps_on : (s : Scenario) (hs : List History) (p : List Line) (x : Line) (h : History) (z : Stand s hs p) → slice_get hs x.manager ≡ Some h → Moves s hs p x h z → Stand s hs (p ++ x ∷ [])
+keeps_on s hs p x h z is v = record {
+  given = v.given;
+  ghost = v.ghost;
+  xs = v.xs;
+  ys = v.ys;
+  joint = v.joint;
+  lines = λ i k e.
+      let w = v.moved i k e in
+      let b = z.lines i k e in
+      let c : Channel = z.xs k.sender k.channel in
+      let d : Channel = v.xs k.sender k.channel in
+      record {
+        facts = w.facts;
+        near = λ a at. bool_case (k.sender == x.manager) (λ t. (k.sender == x.manager) ≡ t → NearNode (near_at s i k) (node_after s k.sender (p ++ x ∷ []) a) d)
+            (λ q f. let y : k.sender ≡ x.manager = eqb_yes k.sender x.manager f in
+            subst (λ (n : Node). NearNode (near_at s i k) n d) (sym (here_node s p x a k.sender y ∙ ap (λ (g : History). (done_by x.entry (node_after s x.manager p g)).next) (one_history hs x.manager k.sender h a y is at))) (w.near y).0)
+            (λ q f. subst (λ (n : Node). NearNode (near_at s i k) n d) (sym (else_node s p x a k.sender f)) (near_else i k w a f (b.near a at))) refl;
+        far = λ a at. bool_case (k.receiver == x.manager) (λ t. (k.receiver == x.manager) ≡ t → FarNode (far_at s i k) (node_after s k.receiver (p ++ x ∷ []) a) d)
+            (λ q f. let y : k.receiver ≡ x.manager = eqb_yes k.receiver x.manager f in
+            subst (λ (n : Node). FarNode (far_at s i k) n d) (sym (here_node s p x a k.receiver y ∙ ap (λ (g : History). (done_by x.entry (node_after s x.manager p g)).next) (one_history hs x.manager k.receiver h a y is at))) (w.far y).0)
+            (λ q f. subst (λ (n : Node). FarNode (far_at s i k) n d) (sym (else_node s p x a k.receiver f)) (far_else i k w a f (b.far a at))) refl;
+      };
+  offered = λ i k e.
+      let w = v.moved i k e in
+      let b = z.offered i k e in
+      record {
+        out = λ o f n actor pushed. elim (mem_more p x (record { manager = k.sender; entry = o }) n) [
+          | inl y ↦ out_among i k w f (b.out o f y actor pushed)
+          | inr y ↦ v.out i k f e (ap (λ (l : Line). l.manager) y) (ap (λ (l : Line). l.entry.actor) (sym y) ∙ actor) (ap (λ (l : Line). l.entry.effect.pushed) (sym y) ∙ pushed)
+        ];
+        back = λ o f n actor pushed. elim (mem_more p x (record { manager = k.receiver; entry = o }) n) [
+          | inl y ↦ back_among i k w f (b.back o f y actor pushed)
+          | inr y ↦ v.back i k f e (ap (λ (l : Line). l.manager) y) (ap (λ (l : Line). l.entry.actor) (sym y) ∙ actor) (ap (λ (l : Line). l.entry.effect.pushed) (sym y) ∙ pushed)
+        ];
+      };
+  told = v.told;
+  resolved = v.resolved;
+  not_yet = v.not_yet;
+  owned = v.owned;
+  at = λ m k e. bool_case (m == x.manager) (λ t. (m == x.manager) ≡ t → IsAt NoOther m v.given (node_after s m (p ++ x ∷ []) k) (ledger (opening_ledger s hs) (p ++ x ∷ [])))
+      (λ q f. let y : m ≡ x.manager = eqb_yes m x.manager f in
+      subst (λ (n : Node). IsAt NoOther m v.given n (ledger (opening_ledger s hs) (p ++ x ∷ []))) (sym (here_node s p x k m y ∙ ap (λ (g : History). (done_by x.entry (node_after s x.manager p g)).next) (one_history hs x.manager m h k y is e)))
+      (subst (λ (w : ℕ). IsAt NoOther w v.given (done_by x.entry (node_after s x.manager p h)).next (ledger (opening_ledger s hs) (p ++ x ∷ []))) (sym y) v.at))
+      (λ q f. subst (λ (n : Node). IsAt NoOther m v.given n (ledger (opening_ledger s hs) (p ++ x ∷ []))) (sym (else_node s p x k m f))
+      (else_at m x.manager (node_after s x.manager p h).manager.given.number z.given v.given (node_after s m p k) (ledger (opening_ledger s hs) p) (ledger (opening_ledger s hs) (p ++ x ∷ [])) f (z.at m k e) (z.at x.manager h is).number v.known (v.others m (node_after s m p k).manager f (z.at m k e).told) (v.users m f))) refl;
+  counted = λ m k e. bool_case (m == x.manager) (λ t. (m == x.manager) ≡ t → AreCountedAt (node_after s m (p ++ x ∷ []) k).manager.numbers.connections m (ledger (opening_ledger s hs) (p ++ x ∷ [])))
+      (λ q f. let y : m ≡ x.manager = eqb_yes m x.manager f in
+      subst (λ (n : Node). AreCountedAt n.manager.numbers.connections m (ledger (opening_ledger s hs) (p ++ x ∷ []))) (sym (here_node s p x k m y ∙ ap (λ (g : History). (done_by x.entry (node_after s x.manager p g)).next) (one_history hs x.manager m h k y is e)))
+      (subst (λ (w : ℕ). AreCountedAt (done_by x.entry (node_after s x.manager p h)).next.manager.numbers.connections w (ledger (opening_ledger s hs) (p ++ x ∷ []))) (sym y) v.counted))
+      (λ q f. subst (λ (n : Node). AreCountedAt n.manager.numbers.connections m (ledger (opening_ledger s hs) (p ++ x ∷ []))) (sym (else_node s p x k m f))
+      (else_counted (node_after s m p k).manager.numbers.connections m (ledger (opening_ledger s hs) p) (ledger (opening_ledger s hs) (p ++ x ∷ [])) (v.users m f) (z.counted m k e))) refl;
+  cabled = λ m k e. bool_case (m == x.manager) (λ t. (m == x.manager) ≡ t → AreCabled s.cables m (node_after s m (p ++ x ∷ []) k).manager)
+      (λ q f. let y : m ≡ x.manager = eqb_yes m x.manager f in
+      subst (λ (n : Node). AreCabled s.cables m n.manager) (sym (here_node s p x k m y ∙ ap (λ (g : History). (done_by x.entry (node_after s x.manager p g)).next) (one_history hs x.manager m h k y is e)))
+      (subst (λ (w : ℕ). AreCabled s.cables w (done_by x.entry (node_after s x.manager p h)).next.manager) (sym y) v.cabled))
+      (λ q f. subst (λ (n : Node). AreCabled s.cables m n.manager) (sym (else_node s p x k m f)) (z.cabled m k e)) refl;
+  housed = λ a y e. let w = v.housed a y e in z.housed a w.0 w.1;
+}
+  where
+    mine : (m : ℕ) → (m == x.manager) ≡ true → m ≡ x.manager
+    mine m f = eqb_yes m x.manager f
+
+    near_else : (i : ℕ) (k : CableLine) (w : IsMoved s x.manager (done_by x.entry (node_after s x.manager p h)).next i k (z.xs k.sender k.channel) (v.xs k.sender k.channel) (v.ys k.sender k.channel)) (a : History) → (k.sender == x.manager) ≡ false
+        → NearNode (near_at s i k) (node_after s k.sender p a) (z.xs k.sender k.channel) → NearNode (near_at s i k) (node_after s k.sender p a) (v.xs k.sender k.channel)
+    near_else i k w a f b = bool_case (k.receiver == x.manager) (λ t. (k.receiver == x.manager) ≡ t → NearNode (near_at s i k) (node_after s k.sender p a) (v.xs k.sender k.channel))
+        (λ q e. let r = w.far (mine k.receiver e) in near_stays (near_at s i k) (node_after s k.sender p a) (z.xs k.sender k.channel) (v.xs k.sender k.channel) r.1 r.2 b)
+        (λ q e. subst (λ (c : Channel). NearNode (near_at s i k) (node_after s k.sender p a) c) (sym (w.else f e)) b) refl
+
+    far_else : (i : ℕ) (k : CableLine) (w : IsMoved s x.manager (done_by x.entry (node_after s x.manager p h)).next i k (z.xs k.sender k.channel) (v.xs k.sender k.channel) (v.ys k.sender k.channel)) (a : History) → (k.receiver == x.manager) ≡ false
+        → FarNode (far_at s i k) (node_after s k.receiver p a) (z.xs k.sender k.channel) → FarNode (far_at s i k) (node_after s k.receiver p a) (v.xs k.sender k.channel)
+    far_else i k w a f b = bool_case (k.sender == x.manager) (λ t. (k.sender == x.manager) ≡ t → FarNode (far_at s i k) (node_after s k.receiver p a) (v.xs k.sender k.channel))
+        (λ q e. let r = w.near (mine k.sender e) in far_stays (far_at s i k) (node_after s k.receiver p a) (z.xs k.sender k.channel) (v.xs k.sender k.channel) r.1 r.2 b)
+        (λ q e. subst (λ (c : Channel). FarNode (far_at s i k) (node_after s k.receiver p a) c) (sym (w.else e f)) b) refl
+
+    out_among : (i : ℕ) (k : CableLine) (w : IsMoved s x.manager (done_by x.entry (node_after s x.manager p h)).next i k (z.xs k.sender k.channel) (v.xs k.sender k.channel) (v.ys k.sender k.channel)) → Among (z.xs k.sender k.channel).out (v.xs k.sender k.channel).out
+    out_among i k w = bool_case (k.sender == x.manager) (λ t. (k.sender == x.manager) ≡ t → Among (z.xs k.sender k.channel).out (v.xs k.sender k.channel).out)
+        (λ q e. (w.near (mine k.sender e)).2)
+        (λ q e. bool_case (k.receiver == x.manager) (λ t. (k.receiver == x.manager) ≡ t → Among (z.xs k.sender k.channel).out (v.xs k.sender k.channel).out)
+        (λ a f. let r = w.far (mine k.receiver f) in λ g n. subst (λ (l : List Frame). Mem g l) (sym r.1.out) n)
+        (λ a f g n. subst (λ (c : Channel). Mem g c.out) (sym (w.else e f)) n) refl) refl
+
+    back_among : (i : ℕ) (k : CableLine) (w : IsMoved s x.manager (done_by x.entry (node_after s x.manager p h)).next i k (z.xs k.sender k.channel) (v.xs k.sender k.channel) (v.ys k.sender k.channel)) → Among (z.xs k.sender k.channel).back (v.xs k.sender k.channel).back
+    back_among i k w = bool_case (k.receiver == x.manager) (λ t. (k.receiver == x.manager) ≡ t → Among (z.xs k.sender k.channel).back (v.xs k.sender k.channel).back)
+        (λ q e. (w.far (mine k.receiver e)).2)
+        (λ q e. bool_case (k.sender == x.manager) (λ t. (k.sender == x.manager) ≡ t → Among (z.xs k.sender k.channel).back (v.xs k.sender k.channel).back)
+        (λ a f. let r = w.near (mine k.sender f) in λ g n. subst (λ (l : List Frame). Mem g l) (sym r.1.back) n)
+        (λ a f g n. subst (λ (c : Channel). Mem g c.back) (sym (w.else f e)) n) refl) refl

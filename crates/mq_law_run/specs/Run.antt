@@ -1,0 +1,133 @@
+-- A network after a prefix of a story, with all its channels: what is kept along a run.
+use Rattle.std.specs.Prelude.{ℕ, Bool, ◌≡◌, ◌==◌, true, false, List, [], ◌∷◌, ◌++◌, Option, Some, slice_get}
+use Rattle.mq_message.specs.declared.message.Ident.{Ident}
+use Rattle.mq_frame.specs.declared.frame.Frame.{Frame}
+use Rattle.mq_sync.specs.declared.unit.Unit.{Unit as Luw}
+use Rattle.mq_calls.specs.declared.agents.Note.TheVariants as notes
+use Rattle.mq_calls.specs.declared.deltas.Did.TheVariants as did
+use Rattle.mq_history.specs.declared.calls.Actor.TheVariants as actors
+use Rattle.mq_history.specs.declared.calls.Entry.{Entry}
+use Rattle.mq_history.specs.declared.history.History.{History}
+use Rattle.mq_history.specs.declared.story.ManagerPlaces.{ManagerPlaces}
+use Rattle.mq_history.specs.declared.scenario.CableLine.{CableLine}
+use Rattle.mq_history.specs.declared.scenario.Scenario.{Scenario}
+use Rattle.mq_spec_state.specs.State.{Plain}
+use Rattle.mq_spec_node.specs.Node.{Node}
+use Rattle.mq_calls.specs.declared.choices.Choice.TheVariants.{Runs}
+use Rattle.mq_history.specs.declared.acts.Acted.TheVariants as acted
+use Rattle.mq_history.specs.declared.calls.Reply.TheVariants as replies
+use Rattle.mq_spec_state.specs.State.{LogState, Noted}
+use Rattle.mq_spec_state.specs.State.Running.{Down, Up}
+use Rattle.mq_spec_manager.specs.Stops.{restarted, stop_at}
+use Rattle.mq_spec_node.specs.Deeds.{CanCome, Deed, Done, begun_anew, done, quiet}
+use Rattle.mq_spec_node.specs.Happens.{crashed}
+use Rattle.mq_spec_node.specs.Replays.{done_by}
+use Rattle.mq_spec_network.specs.Conflict.{deeds, is_committed}
+use Rattle.mq_spec_network.specs.Given.{name_at}
+use Rattle.mq_spec_network.specs.Ledger.{Ledger, ledger}
+use Rattle.mq_spec_network.specs.Standing.{managers_at, node_after, opening_ledger, opening_managers}
+use Rattle.mq_spec_network.specs.Story.{Line, Mem}
+use Rattle.mq_law_channel.specs.Channel.{Channel, Facts, Past}
+use Rattle.mq_law_node.specs.Ends.{Where}
+use Rattle.mq_law_node.specs.Nodes.{FarNode, NearNode, SameFar, SameNear}
+use Rattle.mq_law_rows.specs.World.{Ghost}
+use Rattle.mq_law_seen.specs.Seen.{book_of, world_of}
+use Rattle.mq_law_events.specs.Tied.{IsTold}
+use Rattle.mq_law_turns.specs.Agreed.{IsToldOf}
+use Rattle.mq_law_cables.specs.Joints.{AreCabled, AreJoint}
+use Rattle.mq_law_deeds.specs.Numbers.{AreCountedAt}
+use Rattle.mq_law_one.specs.Alone.{IsAt, NoOther}
+
+-- a ledger has places where it had some
+abbrev pub Housed : Ledger → Ledger → Type 0
+Housed l k = (a : ℕ) (y : ManagerPlaces) → slice_get k.places a ≡ Some y → (w : ManagerPlaces) × (slice_get l.places a ≡ Some w)
+
+-- where the ends of a cable stand, at its sender's manager and at its receiver's
+abbrev pub near_at : Scenario → ℕ → CableLine → Where
+near_at s i k = record { cable = i; channel = k.channel; partner = name_at s k.receiver }
+
+abbrev pub far_at : Scenario → ℕ → CableLine → Where
+far_at s i k = record { cable = i; channel = k.channel; partner = name_at s k.sender }
+
+-- all of these frames are among those
+abbrev pub Among : List Frame → List Frame → Type 0
+Among xs ys = (f : Frame) → Mem f xs → Mem f ys
+
+-- One cable: its channel has the facts, and the nodes of its two managers are its halves.
+pub record IsLine (s : Scenario) (hs : List History) (p : List Line) (i : ℕ) (k : CableLine) (x : Channel) (y : Past) : Type 0 where
+  pub facts : Facts x y
+  pub near : (h : History) → slice_get hs k.sender ≡ Some h → NearNode (near_at s i k) (node_after s k.sender p h) x
+  pub far : (h : History) → slice_get hs k.receiver ≡ Some h → FarNode (far_at s i k) (node_after s k.receiver p h) x
+
+-- what its ends have offered is among what the channel knows
+pub record AreOffered (p : List Line) (i : ℕ) (k : CableLine) (x : Channel) : Type 0 where
+  pub out : (o : Entry) (f : Frame) → Mem (record { manager = k.sender; entry = o }) p → o.actor ≡ actors.Sender i → o.effect.pushed ≡ Some f → Mem f x.out
+  pub back : (o : Entry) (f : Frame) → Mem (record { manager = k.receiver; entry = o }) p → o.actor ≡ actors.Receiver i → o.effect.pushed ≡ Some f → Mem f x.back
+
+-- What is kept along a run: the network's facts and all channels'; what each manager has, and what is told of it.
+pub record Stand (s : Scenario) (hs : List History) (p : List Line) : Type 0 where
+  pub given : Ident → Bool
+  pub ghost : Ghost
+  pub xs : ℕ → List ℕ → Channel
+  pub ys : ℕ → List ℕ → Past
+  pub joint : AreJoint (world_of s given (managers_at s p hs)) ghost (book_of (ledger (opening_ledger s hs) p)) s.cables xs ys
+  pub lines : (i : ℕ) (k : CableLine) → slice_get s.cables i ≡ Some k → IsLine s hs p i k (xs k.sender k.channel) (ys k.sender k.channel)
+  pub offered : (i : ℕ) (k : CableLine) → slice_get s.cables i ≡ Some k → AreOffered p i k (xs k.sender k.channel)
+  pub told : (k : CableLine) → Mem k s.cables → IsToldOf s (opening_managers s hs) (deeds p) k.sender k.channel (xs k.sender k.channel) (ys k.sender k.channel)
+  pub resolved : (m : ℕ) (c : List ℕ) (u : Luw) → ghost.operated m c u ≡ true → Mem (record { manager = m; did = did.Hardened c (notes.Resolved u true true) }) (deeds p)
+  pub not_yet : (m : ℕ) (c : List ℕ) (u : Luw) → ghost.operated m c u ≡ true → is_committed s (opening_managers s hs) (deeds p) c u ≡ false
+  pub owned : (m : ℕ) (c : List ℕ) (u : Luw) → ghost.operated m c u ≡ true → (i : ℕ) × (k : CableLine) × (slice_get s.cables i ≡ Some k) × (k.sender ≡ m) × (k.channel ≡ c)
+  pub at : (m : ℕ) (h : History) → slice_get hs m ≡ Some h → IsAt NoOther m given (node_after s m p h) (ledger (opening_ledger s hs) p)
+  pub counted : (m : ℕ) (h : History) → slice_get hs m ≡ Some h → AreCountedAt (node_after s m p h).manager.numbers.connections m (ledger (opening_ledger s hs) p)
+  pub cabled : (m : ℕ) (h : History) → slice_get hs m ≡ Some h → AreCabled s.cables m (node_after s m p h).manager
+  pub housed : (a : ℕ) (y : ManagerPlaces) → slice_get (ledger (opening_ledger s hs) p).places a ≡ Some y → (h : History) × (slice_get hs a ≡ Some h)
+
+-- A cable's channel and its past after an event of manager m, whose node is then this one.
+pub record IsMoved (s : Scenario) (m : ℕ) (next : Node) (i : ℕ) (k : CableLine) (x : Channel) (z : Channel) (q : Past) : Type 0 where
+  pub facts : Facts z q
+  pub near : k.sender ≡ m → NearNode (near_at s i k) next z × SameFar x z × Among x.out z.out
+  pub far : k.receiver ≡ m → FarNode (far_at s i k) next z × SameNear x z × Among x.back z.back
+  pub else : (k.sender == m) ≡ false → (k.receiver == m) ≡ false → z ≡ x
+
+-- What an event of the story comes to, the entry x more, from what was kept before it: with this done, and this ledger.
+pub record MovesTo (s : Scenario) (hs : List History) (p : List Line) (x : Line) (h : History) (z : Stand s hs p) (d : Done) (l : Ledger) : Type 0 where
+  pub given : Ident → Bool
+  pub ghost : Ghost
+  pub xs : ℕ → List ℕ → Channel
+  pub ys : ℕ → List ℕ → Past
+  pub joint : AreJoint (world_of s given (managers_at s (p ++ x ∷ []) hs)) ghost (book_of l) s.cables xs ys
+  pub moved : (i : ℕ) (k : CableLine) → slice_get s.cables i ≡ Some k → IsMoved s x.manager d.next i k (z.xs k.sender k.channel) (xs k.sender k.channel) (ys k.sender k.channel)
+  pub out : (i : ℕ) (k : CableLine) (f : Frame) → slice_get s.cables i ≡ Some k → k.sender ≡ x.manager → x.entry.actor ≡ actors.Sender i → x.entry.effect.pushed ≡ Some f → Mem f (xs k.sender k.channel).out
+  pub back : (i : ℕ) (k : CableLine) (f : Frame) → slice_get s.cables i ≡ Some k → k.receiver ≡ x.manager → x.entry.actor ≡ actors.Receiver i → x.entry.effect.pushed ≡ Some f → Mem f (xs k.sender k.channel).back
+  pub told : (k : CableLine) → Mem k s.cables → IsToldOf s (opening_managers s hs) (deeds (p ++ x ∷ [])) k.sender k.channel (xs k.sender k.channel) (ys k.sender k.channel)
+  pub resolved : (m : ℕ) (c : List ℕ) (u : Luw) → ghost.operated m c u ≡ true → Mem (record { manager = m; did = did.Hardened c (notes.Resolved u true true) }) (deeds (p ++ x ∷ []))
+  pub not_yet : (m : ℕ) (c : List ℕ) (u : Luw) → ghost.operated m c u ≡ true → is_committed s (opening_managers s hs) (deeds (p ++ x ∷ [])) c u ≡ false
+  pub owned : (m : ℕ) (c : List ℕ) (u : Luw) → ghost.operated m c u ≡ true → (i : ℕ) × (k : CableLine) × (slice_get s.cables i ≡ Some k) × (k.sender ≡ m) × (k.channel ≡ c)
+  pub at : IsAt NoOther x.manager given d.next l
+  pub known : (i : Ident) → (i.manager == (node_after s x.manager p h).manager.given.number) ≡ false → given i ≡ z.given i
+  pub others : (a : ℕ) (r : Plain) → (a == x.manager) ≡ false → IsTold a r (ledger (opening_ledger s hs) p) → IsTold a r l
+  pub users : (a : ℕ) → (a == x.manager) ≡ false → slice_get l.users a ≡ slice_get (ledger (opening_ledger s hs) p).users a
+  pub counted : AreCountedAt d.next.manager.numbers.connections x.manager l
+  pub cabled : AreCabled s.cables x.manager d.next.manager
+  pub housed : Housed (ledger (opening_ledger s hs) p) l
+
+-- with what the entry's event does, and what is posted of it
+abbrev pub Moves : (s : Scenario) (hs : List History) (p : List Line) → Line → History → Stand s hs p → Type 0
+Moves s hs p x h z = MovesTo s hs p x h z (done_by x.entry (node_after s x.manager p h)) (ledger (opening_ledger s hs) (p ++ x ∷ []))
+
+-- the deed of an entry ran, at a manager that is up
+pub record IsRunning (s : Scenario) (p : List Line) (x : Line) (h : History) (d : Deed) : Type 0 where
+  pub up : (node_after s x.manager p h).manager.running ≡ Up
+  pub is : done_by x.entry (node_after s x.manager p h) ≡ done d Runs (node_after s x.manager p h)
+  pub can : CanCome d Runs (node_after s x.manager p h)
+
+-- what a stop is, and a restart that finds no write
+abbrev pub stopped_done : Node → Done
+stopped_done n = crashed (stop_at Up n.manager) n
+
+abbrev pub risen_done : ℕ → Option Noted → Node → Done
+risen_done started noted n = quiet (replies.Acted acted.Done) [] (begun_anew (restarted false started noted n.manager) n.own)
+
+-- a manager whose restart failed
+abbrev pub failed_node : Option Noted → ℕ → LogState → Node → Node
+failed_node noted more g n = record { manager = record n.manager { running = Down noted more; log = g }; own = n.own }

@@ -1,0 +1,124 @@
+//! A network with channels along a run: what is kept of it, entry by entry of its story.
+#![tactic(auto)]
+
+ghost use Rattle.std.specs.Prelude.{◌≡◌, ◌∷◌, ◌++◌, ℕ, false, true, List, [], None, Option, Some, slice_get};
+ghost use Rattle.mq_sync.specs.declared.unit.Settle.TheVariants as settles;
+ghost use Rattle.mq_calls.specs.declared.choices.Choice.TheVariants.{Runs};
+ghost use Rattle.mq_calls.specs.declared.choices.Return.TheVariants.{Comes};
+ghost use Rattle.mq_sc_parse.specs.declared.command.Command.TheVariants as lines;
+ghost use Rattle.mq_sc_parse.specs.declared.command.Op.TheVariants as ops;
+ghost use Rattle.mq_history.specs.declared.acts.Act.TheVariants as acts;
+ghost use Rattle.mq_history.specs.declared.calls.Actor.TheVariants as actors;
+ghost use Rattle.mq_history.specs.declared.calls.Call.TheVariants as calls;
+ghost use Rattle.mq_history.specs.declared.calls.Chance.TheVariants as chances;
+ghost use Rattle.mq_history.specs.declared.history.History.{History};
+ghost use Rattle.mq_history.specs.declared.scenario.CableLine.{CableLine};
+ghost use Rattle.mq_history.specs.declared.scenario.Scenario.{Scenario};
+ghost use Rattle.mq_history.specs.Scenarios.{IsScenario};
+ghost use Rattle.mq_spec_state.specs.State.{LogState, Noted};
+ghost use Rattle.mq_spec_state.specs.State.Running.{Down, Up};
+ghost use Rattle.mq_spec_node.specs.Deeds.{CanCome, Deed, done};
+ghost use Rattle.mq_spec_node.specs.Node.{sender_named};
+ghost use Rattle.mq_spec_node.specs.Node.ChannelEnd.{Receives, Sends};
+ghost use Rattle.mq_spec_node.specs.Operators.{end_here, operate};
+ghost use Rattle.mq_spec_node.specs.Receivers.{receiver_deed};
+ghost use Rattle.mq_spec_node.specs.Replays.{IsOwn, Tells, done_by};
+ghost use Rattle.mq_spec_node.specs.Senders.{sender_deed, timeout_deed};
+ghost use Rattle.mq_spec_network.specs.Conflict.{Deed as ToldDeed, NoConflict, deeds};
+ghost use Rattle.mq_spec_network.specs.Ledger.{ledger};
+ghost use Rattle.mq_spec_network.specs.Promised.{Premises};
+ghost use Rattle.mq_spec_network.specs.Standing.{node_after, opening_ledger};
+ghost use Rattle.mq_spec_network.specs.Story.{Line};
+ghost use Rattle.mq_law_channel.specs.Turns.{SeenIn};
+ghost use Rattle.mq_law_node.specs.Ends.{receiver_of, sender_of};
+ghost use Rattle.mq_law_one.specs.Alone.{IsOwnCall};
+ghost use Rattle.mq_law_run.specs.Run.{IsRunning, Moves, Stand, failed_node, far_at, near_at, risen_done, stopped_done};
+
+/// A network with channels begins so.
+pub fn a_network_begins_so()
+    ensures { (s : Scenario) (hs : List History) → Premises s hs → Stand s hs [] }
+{}
+
+/// What is kept of a prefix is kept with an entry more, where the entry's event comes to a move of the network.
+pub fn a_move_is_kept()
+    ensures { (s : Scenario) (hs : List History) (p : List Line) (x : Line) (h : History) (z : Stand s hs p) → slice_get hs x.manager ≡ Some h → Moves s hs p x h z → Stand s hs (p ++ x ∷ []) }
+{}
+
+/// What is a manager's own comes to one: the channels stay as they are.
+pub fn what_is_a_managers_own_is_a_move()
+    ensures { (s : Scenario) (hs : List History) (p : List Line) (x : Line) (h : History) (stamp : ℕ) (z : Stand s hs p) → slice_get hs x.manager ≡ Some h → Tells (node_after s x.manager p h) stamp x.entry → IsOwn x.entry.chance
+        → IsOwnCall x.entry.actor x.entry.call → Moves s hs p x h z }
+{}
+
+/// What changes nothing is one: what a manager that is down does not do, a refused command, a turn of an end that has nothing to do.
+pub fn what_changes_nothing_is_a_move()
+    ensures { (s : Scenario) (hs : List History) (p : List Line) (x : Line) (h : History) (stamp : ℕ) (z : Stand s hs p) → slice_get hs x.manager ≡ Some h → Tells (node_after s x.manager p h) stamp x.entry → IsOwn x.entry.chance
+        → (done_by x.entry (node_after s x.manager p h)).next ≡ node_after s x.manager p h → (done_by x.entry (node_after s x.manager p h)).delta ≡ [] → (done_by x.entry (node_after s x.manager p h)).pushed ≡ None
+        → ledger (opening_ledger s hs) (p ++ x ∷ []) ≡ ledger (opening_ledger s hs) p → Moves s hs p x h z }
+{}
+
+/// So does each turn of an end that runs, and each timeout: that cable's channel takes its step, and all others stay. A receiver's turn does in a
+/// prefix of one without conflict.
+pub fn turns_of_ends_are_moves()
+    ensures senders { (s : Scenario) (hs : List History) (p : List Line) (x : Line) (h : History) (stamp : ℕ) (z : Stand s hs p) (i : ℕ) (k : CableLine) (d : Deed) → IsScenario s → slice_get hs x.manager ≡ Some h
+        → Tells (node_after s x.manager p h) stamp x.entry → IsOwn x.entry.chance → slice_get s.cables i ≡ Some k → k.sender ≡ x.manager → x.entry.actor ≡ actors.Sender i → x.entry.call ≡ calls.Turn → IsRunning s p x h d
+        → sender_deed x.entry.stamp (sender_of (near_at s i k) (z.xs k.sender k.channel).sender) x.entry.effect.popped (node_after s x.manager p h) ≡ Some d → SeenIn x.entry.effect.popped (z.xs k.sender k.channel).back → Moves s hs p x h z }
+    ensures receivers { (s : Scenario) (hs : List History) (whole p : List Line) (es : List ToldDeed) (x : Line) (h g : History) (stamp : ℕ) (z : Stand s hs p) (i : ℕ) (k : CableLine) (d : Deed) → IsScenario s → NoConflict s hs whole
+        → deeds whole ≡ deeds (p ++ x ∷ []) ++ es → slice_get hs x.manager ≡ Some h → Tells (node_after s x.manager p h) stamp x.entry → IsOwn x.entry.chance → slice_get s.cables i ≡ Some k → k.receiver ≡ x.manager → slice_get hs k.sender ≡ Some g
+        → x.entry.actor ≡ actors.Receiver i → x.entry.call ≡ calls.Turn → IsRunning s p x h d
+        → receiver_deed x.entry.stamp (receiver_of (far_at s i k) (z.xs k.sender k.channel).receiver (z.xs k.sender k.channel).kept) x.entry.effect.popped (node_after s x.manager p h) ≡ Some d → SeenIn x.entry.effect.popped (z.xs k.sender k.channel).out
+        → Moves s hs p x h z }
+    ensures timeouts { (s : Scenario) (hs : List History) (p : List Line) (x : Line) (h : History) (stamp : ℕ) (z : Stand s hs p) (i : ℕ) (k : CableLine) (d : Deed) → IsScenario s → slice_get hs x.manager ≡ Some h
+        → Tells (node_after s x.manager p h) stamp x.entry → IsOwn x.entry.chance → slice_get s.cables i ≡ Some k → k.sender ≡ x.manager → x.entry.call ≡ calls.Timeout → IsRunning s p x h d
+        → timeout_deed (sender_of (near_at s i k) (z.xs k.sender k.channel).sender) (node_after s x.manager p h) ≡ Some d → Moves s hs p x h z }
+{}
+
+/// And a stop of a manager, and a restart that finds no write: where its ends let go what they have not prepared.
+pub fn stops_and_restarts_are_moves()
+    ensures stops { (s : Scenario) (hs : List History) (p : List Line) (x : Line) (h : History) (stamp : ℕ) (z : Stand s hs p) → IsScenario s → slice_get hs x.manager ≡ Some h → Tells (node_after s x.manager p h) stamp x.entry → IsOwn x.entry.chance
+        → (node_after s x.manager p h).manager.running ≡ Up → x.entry.call ≡ calls.Act acts.Crash → x.entry.chance ≡ chances.Call Runs → done_by x.entry (node_after s x.manager p h) ≡ stopped_done (node_after s x.manager p h) → Moves s hs p x h z }
+    ensures restarts { (s : Scenario) (hs : List History) (p : List Line) (x : Line) (h : History) (stamp : ℕ) (z : Stand s hs p) (noted : Option Noted) (starts started : ℕ) → IsScenario s → slice_get hs x.manager ≡ Some h
+        → Tells (node_after s x.manager p h) stamp x.entry → IsOwn x.entry.chance → (node_after s x.manager p h).manager.running ≡ Down noted starts → x.entry.call ≡ calls.Act acts.Restart → x.entry.chance ≡ chances.Restart (Comes false started)
+        → done_by x.entry (node_after s x.manager p h) ≡ risen_done started noted (node_after s x.manager p h) → Moves s hs p x h z }
+{}
+
+/// And an operator's START, STOP and RESET of a sender's end, whether they are refused or done.
+pub fn commands_on_senders_are_moves()
+    ensures starting { (s : Scenario) (hs : List History) (p : List Line) (x : Line) (h : History) (stamp : ℕ) (z : Stand s hs p) (i : ℕ) (k : CableLine) (name : List ℕ) → IsScenario s → slice_get hs x.manager ≡ Some h
+        → Tells (node_after s x.manager p h) stamp x.entry → IsOwn x.entry.chance → slice_get s.cables i ≡ Some k → k.sender ≡ x.manager → x.entry.call ≡ calls.Act (acts.Obey (lines.Operate (ops.Start name))) → x.entry.chance ≡ chances.Call Runs
+        → IsRunning s p x h (operate (ops.Start name) (node_after s x.manager p h)) → end_here name (node_after s x.manager p h) ≡ Some (Sends (sender_of (near_at s i k) (z.xs k.sender k.channel).sender)) → Moves s hs p x h z }
+    ensures stopping { (s : Scenario) (hs : List History) (p : List Line) (x : Line) (h : History) (stamp : ℕ) (z : Stand s hs p) (i : ℕ) (k : CableLine) (name : List ℕ) → IsScenario s → slice_get hs x.manager ≡ Some h
+        → Tells (node_after s x.manager p h) stamp x.entry → IsOwn x.entry.chance → slice_get s.cables i ≡ Some k → k.sender ≡ x.manager → x.entry.call ≡ calls.Act (acts.Obey (lines.Operate (ops.Stop name))) → x.entry.chance ≡ chances.Call Runs
+        → IsRunning s p x h (operate (ops.Stop name) (node_after s x.manager p h)) → end_here name (node_after s x.manager p h) ≡ Some (Sends (sender_of (near_at s i k) (z.xs k.sender k.channel).sender)) → Moves s hs p x h z }
+    ensures resetting { (s : Scenario) (hs : List History) (p : List Line) (x : Line) (h : History) (stamp : ℕ) (z : Stand s hs p) (i : ℕ) (k : CableLine) (name : List ℕ) (seqnum : ℕ) → IsScenario s → slice_get hs x.manager ≡ Some h
+        → Tells (node_after s x.manager p h) stamp x.entry → IsOwn x.entry.chance → slice_get s.cables i ≡ Some k → k.sender ≡ x.manager → x.entry.call ≡ calls.Act (acts.Obey (lines.Operate (ops.Reset name seqnum))) → x.entry.chance ≡ chances.Call Runs
+        → IsRunning s p x h (operate (ops.Reset name seqnum) (node_after s x.manager p h)) → end_here name (node_after s x.manager p h) ≡ Some (Sends (sender_of (near_at s i k) (z.xs k.sender k.channel).sender)) → Moves s hs p x h z }
+{}
+
+/// And an operator's START, STOP and RESET of a receiver's end.
+pub fn commands_on_receivers_are_moves()
+    ensures starting { (s : Scenario) (hs : List History) (p : List Line) (x : Line) (h : History) (stamp : ℕ) (z : Stand s hs p) (i : ℕ) (k : CableLine) (name : List ℕ) → IsScenario s → slice_get hs x.manager ≡ Some h
+        → Tells (node_after s x.manager p h) stamp x.entry → IsOwn x.entry.chance → slice_get s.cables i ≡ Some k → k.receiver ≡ x.manager → x.entry.call ≡ calls.Act (acts.Obey (lines.Operate (ops.Start name))) → x.entry.chance ≡ chances.Call Runs
+        → IsRunning s p x h (operate (ops.Start name) (node_after s x.manager p h)) → end_here name (node_after s x.manager p h) ≡ Some (Receives (receiver_of (far_at s i k) (z.xs k.sender k.channel).receiver (z.xs k.sender k.channel).kept)) → Moves s hs p x h z }
+    ensures stopping { (s : Scenario) (hs : List History) (p : List Line) (x : Line) (h : History) (stamp : ℕ) (z : Stand s hs p) (i : ℕ) (k : CableLine) (name : List ℕ) → IsScenario s → slice_get hs x.manager ≡ Some h
+        → Tells (node_after s x.manager p h) stamp x.entry → IsOwn x.entry.chance → slice_get s.cables i ≡ Some k → k.receiver ≡ x.manager → x.entry.call ≡ calls.Act (acts.Obey (lines.Operate (ops.Stop name))) → x.entry.chance ≡ chances.Call Runs
+        → IsRunning s p x h (operate (ops.Stop name) (node_after s x.manager p h)) → end_here name (node_after s x.manager p h) ≡ Some (Receives (receiver_of (far_at s i k) (z.xs k.sender k.channel).receiver (z.xs k.sender k.channel).kept)) → Moves s hs p x h z }
+    ensures resetting { (s : Scenario) (hs : List History) (p : List Line) (x : Line) (h : History) (stamp : ℕ) (z : Stand s hs p) (i : ℕ) (k : CableLine) (name : List ℕ) (seqnum : ℕ) → IsScenario s → slice_get hs x.manager ≡ Some h
+        → Tells (node_after s x.manager p h) stamp x.entry → IsOwn x.entry.chance → slice_get s.cables i ≡ Some k → k.receiver ≡ x.manager → x.entry.call ≡ calls.Act (acts.Obey (lines.Operate (ops.Reset name seqnum))) → x.entry.chance ≡ chances.Call Runs
+        → IsRunning s p x h (operate (ops.Reset name seqnum) (node_after s x.manager p h)) → end_here name (node_after s x.manager p h) ≡ Some (Receives (receiver_of (far_at s i k) (z.xs k.sender k.channel).receiver (z.xs k.sender k.channel).kept)) → Moves s hs p x h z }
+{}
+
+/// And his RESOLVE that backs out, in a prefix of one without conflict.
+pub fn what_is_backed_out_is_a_move()
+    ensures { (s : Scenario) (hs : List History) (whole p : List Line) (es : List ToldDeed) (x : Line) (h : History) (stamp : ℕ) (z : Stand s hs p) (i : ℕ) (k : CableLine) (name : List ℕ) → IsScenario s → NoConflict s hs whole
+        → deeds whole ≡ deeds (p ++ x ∷ []) ++ es → slice_get hs x.manager ≡ Some h → Tells (node_after s x.manager p h) stamp x.entry → IsOwn x.entry.chance → slice_get s.cables i ≡ Some k → k.sender ≡ x.manager
+        → x.entry.call ≡ calls.Act (acts.Obey (lines.Operate (ops.Resolve name settles.Backout))) → x.entry.chance ≡ chances.Call Runs → IsRunning s p x h (operate (ops.Resolve name settles.Backout) (node_after s x.manager p h))
+        → sender_named name (node_after s x.manager p h).own.ends ≡ Some (sender_of (near_at s i k) (z.xs k.sender k.channel).sender) → Moves s hs p x h z }
+{}
+
+/// And a restart that fails: the manager stays down, with what was noted.
+pub fn failing_restarts_are_moves()
+    ensures { (s : Scenario) (hs : List History) (p : List Line) (x : Line) (h : History) (stamp : ℕ) (z : Stand s hs p) (noted : Option Noted) (starts more : ℕ) (g : LogState) → slice_get hs x.manager ≡ Some h → Tells (node_after s x.manager p h) stamp x.entry
+        → IsOwn x.entry.chance → (node_after s x.manager p h).manager.running ≡ Down noted starts → (done_by x.entry (node_after s x.manager p h)).next ≡ failed_node noted more g (node_after s x.manager p h)
+        → (done_by x.entry (node_after s x.manager p h)).delta ≡ [] → (done_by x.entry (node_after s x.manager p h)).pushed ≡ None → ledger (opening_ledger s hs) (p ++ x ∷ []) ≡ ledger (opening_ledger s hs) p → Moves s hs p x h z }
+{}
