@@ -1,0 +1,5 @@
+pub mod StandLaws
+pub mod TellLaws
+pub mod UnitLaws
+pub mod WriteLaws
+pub mod ArrivalLaws
