@@ -1,5 +1,6 @@
-use Rattle.std.proofs.Common.{ap, arith, refl, sym, subst, ◌∙◌}
+use Rattle.std.proofs.Common.{false, ap, arith, refl, sym, subst, ◌∙◌}
 use Rattle.std.specs.Prelude.{MatchResult}
+use Rattle.mq_calls.specs.declared.commands.RestartFault.TheVariants as faults
 use Rattle.mq_spec_state.specs.Words.{is_up}
 use Rattle.mq_unit.specs.Told.{Telling}
 use Rattle.mq_core.specs.Values.{CoreValue, begun_call}
@@ -13,12 +14,12 @@ pub returns-then-is_up : goal.returns-then-is_up
 returns-then-is_up g c =
     let v = c.core.view_is ∙ c.begin_call.ensures in
     let old : CoreValue = c.args.core.now in
-    let up = ap (λ (o : CoreValue). is_up o.plain.running) (sym v) ∙ sym c.is_up.ensures ∙ c.if-is_up.true in
-    let left = c.armed-armed.ensures ∙ ap (λ (o : CoreValue). o.plain.log.armed) v in
+    let up = ap (λ (o : CoreValue). is_up o.plain.running) (sym c.begin_call.ensures) ∙ sym c.is_up.ensures ∙ c.if-is_up.true in
+    let left = c.cut_left-armed.ensures ∙ ap (λ (o : CoreValue). o.plain.log.armed) v in
     record {
-      ends = subst (λ (o : CoreValue). Stayed g.D.Disk.tells old.plain old.faults _ o) (sym v) (up_refused g.D.Disk.tells old.plain old.faults c.armed-armed.result (begun_call old) up left refl refl);
-      stands = subst (λ (o : CoreValue). LogStands g.D.Disk.tells c.args.read.now o.log o.plain) (sym v) c.requires.stands;
-      passes = subst (λ (o : CoreValue). Passes old o) (sym v) (record { unstopped = refl; later = omega arith });
+      ends = subst (λ (o : CoreValue). Stayed g.D.Disk.tells old.plain old.faults (record { fault = faults.Up; in_write = false; left = c.cut_left-armed.result }) o) (sym c.begin_call.ensures) (up_refused g.D.Disk.tells old.plain old.faults c.cut_left-armed.result (begun_call old) up left refl refl);
+      stands = subst (λ (o : CoreValue). LogStands g.D.Disk.tells c.args.read.now o.log o.plain) (sym c.begin_call.ensures) c.requires.stands;
+      passes = subst (λ (o : CoreValue). Passes old o) (sym c.begin_call.ensures) (record { unstopped = refl; later = omega arith });
     }
 
 pub returns-then-is_err : goal.returns-then-is_err
@@ -26,10 +27,10 @@ returns-then-is_err g c =
     let v = c.core.view_is ∙ c.begin_call.ensures in
     let old : CoreValue = c.args.core.now in
     let x : PartsValue = c.core.inside.parts in
-    let down = ap (λ (o : CoreValue). is_up o.plain.running) (sym v) ∙ sym c.is_up.ensures ∙ c.if-is_up.false in
+    let down = ap (λ (o : CoreValue). is_up o.plain.running) (sym c.begin_call.ensures) ∙ sym c.is_up.ensures ∙ c.if-is_up.false in
     let new : CoreValue = record { plain = plain_of x; delta = c.clear.new.self.dids; stopped = c.core.inside.stopped; faults = x.log.faults; log = record { bodies = x.log.bodies; pending = x.log.pending } } in
     record {
-      ends = wanting_refused g.D.Disk.tells old.plain old.faults c.armed-armed.result new down (ap (λ (o : CoreValue). o.plain) v) (ap (λ (t : Telling). t.dids) c.clear.ensures);
+      ends = wanting_refused g.D.Disk.tells old.plain old.faults c.cut_left-armed.result new down (ap (λ (o : CoreValue). o.plain) v) (ap (λ (t : Telling). t.dids) c.clear.ensures);
       stands = subst (λ (o : CoreValue). LogStands g.D.Disk.tells c.args.read.now o.log o.plain) (sym v) c.requires.stands;
       passes = record { unstopped = ap (λ (o : CoreValue). o.stopped) v; later = let e = ap (λ (o : CoreValue). o.faults) v in omega (arith, e) };
     }

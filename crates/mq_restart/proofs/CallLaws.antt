@@ -18,7 +18,7 @@ abbrev refused_by : RestartFault → ℕ → Unreturned
 refused_by fault armed = record { fault = fault; in_write = false; left = armed }
 
 no_disk : (f : RestartFault) → (f ≡ faults.Disk → ⊥) → (a b : ℕ) → f ≡ faults.Disk → Rose a b
-no_disk f no a b e = absurd (no e)
+no_disk f never a b e = absurd (never e)
 
 up_disk : faults.Up ≡ faults.Disk → ⊥
 up_disk e = absurd cc

@@ -24,6 +24,20 @@ pub(crate) fn length_at_stop<D: Disk>(parts: &Parts<D>) -> u64
     }
 }
 
+/// How many device calls are left before an armed cut, 0 for none.
+pub(crate) fn cut_left<D: Disk>(parts: &Parts<D>) -> u32
+    ensures { result ≡ parts.now.log.armed }
+{
+    parts.log.armed()
+}
+
+/// The number of the manager's last start.
+pub(crate) fn incarnation<D: Disk>(parts: &Parts<D>) -> u64
+    ensures { result ≡ parts.now.incarnation }
+{
+    parts.incarnation
+}
+
 fn fallen_mode(mode: Mode, read: Option<ReadLog>, in_write: bool) -> Mode
     requires few { starts_of mode + 1 < 2 ^ 64 }
     ensures { result ≡ fallen_mode read in_write mode }

@@ -5,7 +5,7 @@ ghost use Rattle.mq_redo.specs.Redone.{redone_of};
 ghost use Rattle.mq_restart.specs.Stands.{LogStands, CanStart};
 ghost use Rattle.mq_restart.specs.Returned.{CameUp, Stayed, Passes};
 
-use crate::falling::{fall, length_at_stop};
+use crate::falling::{cut_left, fall, incarnation, length_at_stop};
 use crate::reading::{
     LogRead, Returned, Unreturned, is_kept, read_fallen, read_found, read_up, returned_as,
 };
@@ -36,27 +36,27 @@ fn return_from<D: Disk>(core: &mut Core<D>, read: &mut LogRead) -> Result<Return
     ensures passes { Passes core.old core.new }
 {
     let length = length_at_stop(&core.parts);
-    let armed = core.parts.log.armed();
-    let before = core.parts.incarnation;
-    match raise(&mut core.parts) {
-        Ok(found) => {
-            let known = read_found(*read, found);
-            *read = read_up(known, core.parts.incarnation);
-            keep_if(&mut core.effects, is_kept(known));
-            Ok(returned_as(known, before, core.parts.incarnation))
-        }
+    let armed = cut_left(&core.parts);
+    let before = incarnation(&core.parts);
+    let found = match raise(&mut core.parts) {
+        Ok(found) => found,
         Err(e) => {
             fall(&mut core.parts, *read, length, armed, &e);
             *read = read_fallen(*read, e.found);
             core.effects.clear();
-            let left = core.parts.log.armed();
-            Err(Unreturned {
+            let left = cut_left(&core.parts);
+            return Err(Unreturned {
                 fault: e.fault,
                 in_write: e.in_write,
                 left,
-            })
+            });
         }
-    }
+    };
+    let known = read_found(*read, found);
+    let now = incarnation(&core.parts);
+    *read = read_up(known, now);
+    keep_if(&mut core.effects, is_kept(known));
+    Ok(returned_as(known, before, now))
 }
 
 /// Restarts a manager that is down: it comes up from its log alone, as a first start does. Where the log holds the write that
@@ -75,7 +75,7 @@ pub fn restart<D: Disk>(core: &mut Core<D>, read: &mut LogRead) -> Result<Return
     ensures passes { Passes core.old core.new }
 {
     core.begin_call();
-    let armed = core.parts.log.armed();
+    let armed = cut_left(&core.parts);
     if core.is_up() {
         return Err(Unreturned {
             fault: RestartFault::Up,

@@ -1,0 +1,5 @@
+//! Tests of first starts over a disk in memory.
+#![tactic(auto)]
+
+#[cfg(test)]
+mod starts;
