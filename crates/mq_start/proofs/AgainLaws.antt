@@ -26,9 +26,9 @@ use Rattle.mq_start.proofs.BeginLaws.{has_started}
 -- ---- its Started record stands, or was stopped (`v` are the parts as they stand field by field)
 
 pub is_raised : (b : Built) (bytes : List ℕ) (roomy new : LogState) (v x y : PartsValue) → v ≡ x → IsFresh x.log.max x.log → roomy ≡ record v.log { room = roomy.room } → Appended roomy bytes (Ok tt) new → Stops roomy.armed (Ok tt) new.armed → roomy.faults ≤ new.faults
-    → bytes ≡ record_bytes (started_record (given_of v) (b.incarnation + 1)) → length bytes ≡ 58 → y ≡ raised_parts b (with_log new v) → IsRaised b x y
-is_raised b bytes roomy new v x y view fresh room appended ends later are long is = subst (λ (z : PartsValue). IsRaised b z y) view (record {
-  started = subst (λ (l : LogState). IsStarted (given_of v) b v.log l) (sym log) (has_started b v.number v.name bytes v.log roomy new (subst (λ (z : PartsValue). IsFresh z.log.max z.log) (sym view) fresh) room appended ends later are long);
+    → bytes ≡ record_bytes (started_record (given_of v) (b.incarnation + 1)) → length bytes ≡ 58 → IsRecord (started_record (given_of v) (b.incarnation + 1)) → y ≡ raised_parts b (with_log new v) → IsRaised b x y
+is_raised b bytes roomy new v x y view fresh room appended ends later are long record_is is = subst (λ (z : PartsValue). IsRaised b z y) view (record {
+  started = subst (λ (l : LogState). IsStarted (given_of v) b v.log l) (sym log) (has_started b v.number v.name bytes v.log roomy new (subst (λ (z : PartsValue). IsFresh z.log.max z.log) (sym view) fresh) room appended ends later are long record_is);
   becomes = is ∙ ap (λ (l : LogState). raised_parts b (with_log l v)) (sym log);
 })
   where
@@ -57,8 +57,8 @@ is_unraised b bytes roomy new stop e v x view room appended ends later disk is a
 
 pub has_read : (tells : Type 0) (found : Found) (old new : LogState) → IsFound old.bodies old.pending found new.bodies → (tells → found ≢ Other)
     → new ≡ record old { bodies = new.bodies; live = true; pending = None; reserved = 0; room = new.room; armed = new.armed; faults = new.faults }
-    → (0 < length new.bodies → RestartEnds {T = Found} 1 old.armed (Ok found) new.armed) → old.faults ≤ new.faults → HasRead tells old found new
-has_read tells found old new bodies known same one later = record { bodies = bodies; known = known; same = same; one = one; later = later }
+    → EndsByOneOrThree {T = Found} old.armed (Ok found) new.armed → (0 < length new.bodies → RestartEnds {T = Found} 1 old.armed (Ok found) new.armed) → old.faults ≤ new.faults → HasRead tells old found new
+has_read tells found old new bodies known same ends one later = record { bodies = bodies; known = known; same = same; ends = ends; one = one; later = later }
 
 pub unopened : (tells : Type 0) (fault : StartFault) (e : Unraised) (new : LogState) (v x : PartsValue) → v ≡ x → new ≡ record v.log { live = false; room = new.room; armed = new.armed; faults = new.faults } → (tells → IsNotBad fault)
     → EndsByOneOrThree {T = Found} v.log.armed (Err fault) new.armed → (tells → 0 < length v.log.bodies → RestartEnds {T = Found} 1 v.log.armed (Err fault) new.armed) → v.log.faults ≤ new.faults

@@ -1,6 +1,8 @@
 -- A first start: what it comes to.
-use Rattle.std.proofs.Common.{◌≡◌, ℕ, ◌+◌, ◌-◌, ◌<◌, ◌≤◌, ◌^◌, List, [], ◌∷◌, ◌++◌, length, refl, ap, arith, sym, subst, ◌∙◌, inr}
-use Rattle.std.specs.Prelude.{Option, Ok, Err, None}
+use Rattle.std.proofs.Common.{◌≡◌, ℕ, ◌+◌, ◌-◌, ◌<◌, ◌≤◌, ◌^◌, true, List, [], ◌∷◌, ◌++◌, length, refl, ap, arith, sym, subst, ◌∙◌, inr}
+use Rattle.std.specs.Prelude.{Option, Ok, Err, Some, None}
+use Rattle.std.specs.List.{AllByRecursion}
+use Rattle.std.proofs.lemmas.Bool.Decides.{nat_tests}
 use Rattle.mq_base.specs.Outside.{Rose}
 use Rattle.mq_disk.specs.declared.cutter.Stop.{Stop}
 use Rattle.mq_disk.specs.declared.cutter.Stop.TheVariants as stops
@@ -10,13 +12,20 @@ use Rattle.mq_log.specs.Bodies.{IsLog}
 use Rattle.mq_log.specs.State.{LogState, log_length, Appended}
 use Rattle.mq_log.specs.Force.{Stops}
 use Rattle.mq_log.proofs.Logs.{log_length-push}
-use Rattle.mq_record.specs.Records.{record_bytes}
+use Rattle.mq_record.specs.Records.{record_bytes, IsRecord}
 use Rattle.mq_spec_state.specs.State.{Given}
 use Rattle.mq_spec_state.specs.Images.{Image, begun, raised}
 use Rattle.mq_spec_manager.specs.Stops.{first_start, started_record, started_need}
 use Rattle.mq_spec_manager.specs.Words.{last_moment}
-use Rattle.mq_spec_log.specs.Applies.{Start}
-use Rattle.mq_spec_log.specs.Applies.Start.{First}
+use Rattle.mq_frame.specs.Reading.{IsBytes}
+use Rattle.mq_spec_state.specs.State.{Plain}
+use Rattle.mq_spec_log.specs.Applies.{Start, is_in_bounds}
+use Rattle.mq_spec_log.specs.Applies.Start.{First, Later}
+use Rattle.mq_spec_log.specs.Bodies.{image, record_of}
+use Rattle.mq_spec_log.proofs.BodyLaws.{record_back}
+use Rattle.mq_law_image.specs.Tells.{Tells}
+use Rattle.mq_law_image.proofs.Starting.{first_told}
+use Rattle.mq_law_image.proofs.Telling.{later_read}
 use Rattle.mq_recover.specs.declared.recovery.RecoverFault.{RecoverFault}
 use Rattle.mq_recover.specs.declared.recovery.RecoverFault.TheVariants.{BadRecord, NoMemory}
 use Rattle.mq_rebuild.specs.declared.building.Built.{Built}
@@ -25,13 +34,14 @@ use Rattle.mq_core.specs.Ties.{Tied}
 use Rattle.mq_core.specs.Views.{plain_of}
 use Rattle.mq_core.specs.Values.{CoreValue, LogBodies, bodies_in}
 use Rattle.mq_start.specs.Begun.{given_by, begun_parts, begun_core, recovered_fault, IsFresh, HasOpened, IsStarted, BeginsFrom, IsReadFrom, IsUnread, HasBegun, HasNotBegun}
-use Rattle.mq_start.proofs.LowLaws.{image_low}
+use Rattle.mq_start.proofs.LowLaws.{image_low, image_under}
 use Rattle.mq_start.proofs.SeenLaws.{begun_seen}
 use Rattle.mq_start.proofs.TieLaws.{begun_tied}
 
 pub has_started : (b : Built) (number : ℕ) (name bytes : List ℕ) (old roomy new : LogState) → IsFresh old.max old → roomy ≡ record old { room = roomy.room } → Appended roomy bytes (Ok tt) new → Stops roomy.armed (Ok tt) new.armed → roomy.faults ≤ new.faults
-    → bytes ≡ record_bytes (started_record (given_by number name old.max) (b.incarnation + 1)) → length bytes ≡ 58 → IsStarted (given_by number name old.max) b old new
-has_started b number name bytes old roomy new first room appended ends later are long = record {
+    → bytes ≡ record_bytes (started_record (given_by number name old.max) (b.incarnation + 1)) → length bytes ≡ 58 → IsRecord (started_record (given_by number name old.max) (b.incarnation + 1)) → IsStarted (given_by number name old.max) b old new
+has_started b number name bytes old roomy new first room appended ends later are long is = record {
+  is = is;
   fresh = record {
     live = ap (λ (l : LogState). l.live) appended ∙ ap (λ (l : LogState). l.live) room ∙ first.live;
     settled = ap (λ (l : LogState). l.pending) appended ∙ ap (λ (l : LogState). l.pending) room ∙ first.settled;
@@ -58,6 +68,15 @@ plain_begun b number name moment old new i built none s =
     ∙ ap (λ (long : ℕ). begun (given_by number name old.max) (raised 0 i) (record { length = long; armed = new.armed }) moment) s.long
     ∙ ap (λ (armed : ℕ). begun (given_by number name old.max) (raised 0 i) (record { length = log_length old.bodies + started_need (given_by number name old.max); armed = armed }) moment) (none_armed b (given_by number name old.max) old new none s)
 
+-- the log behind a first start tells what lasts
+bounds_begun : (g : Given) (n : ℕ) → n < 2 ^ 60 → is_in_bounds Later (started_record g (n + 1)) ≡ true
+bounds_begun g n lt = grind (arith, nat_tests, lt)
+
+begun_tells : (g : Given) (bodies : List (List ℕ)) (i : Image) (long moment : ℕ) → image g First bodies ≡ Ok i → AllByRecursion IsBytes bodies
+    → record_of (record_bytes (started_record g (i.incarnation + 1))) ≡ Some (started_record g (i.incarnation + 1)) → Tells Later (bodies ++ record_bytes (started_record g (i.incarnation + 1)) ∷ []) (first_start g i long moment)
+begun_tells g bodies i long moment e bytes read =
+    first_told g Later bodies (record_bytes (started_record g (i.incarnation + 1))) i long moment (later_read g bodies i e) bytes read (bounds_begun g i.incarnation (image_under g First bodies i e))
+
 pub begins : (tells : Type 0) (b : Built) (number : ℕ) (name : List ℕ) (moment : ℕ) (old new : LogState) (core : CoreValue) → IsReadFrom (given_by number name old.max) First old.bodies b → old.armed ≡ 0 → IsStarted (given_by number name old.max) b old new
     → core ≡ begun_core number name moment b new → BeginsFrom tells old (given_by number name old.max) moment core
 begins tells b number name moment old new core r none s is seen before log less = record {
@@ -67,18 +86,36 @@ begins tells b number name moment old new core r none s is seen before log less 
   read = r.read;
   well = r.well;
   known = r.known;
+  bytes = r.bytes;
   plain = ap (λ (v : CoreValue). v.plain) is ∙ plain_begun b number name moment old new r.told r.built none s;
   untold = ap (λ (v : CoreValue). v.delta) is;
   unstopped = ap (λ (v : CoreValue). v.stopped) is;
   log = ap (λ (v : CoreValue). v.log) is ∙ logged;
+  log_tells = told;
+  long = ap (λ (v : CoreValue). v.plain.log.length) is ∙ sym (ap (λ (v : CoreValue). log_length v.log.bodies) is);
   later = let f = ap (λ (v : CoreValue). v.faults) is in let k = s.later in omega (arith, less, f, k);
 }
   where
+    g : Given
+    g = given_by number name old.max
+
+    own : r.told.incarnation ≡ b.incarnation
+    own = sym r.built.incarnation
+
+    read_back : record_of (record_bytes (started_record g (r.told.incarnation + 1))) ≡ Some (started_record g (r.told.incarnation + 1))
+    read_back = record_back (started_record g (r.told.incarnation + 1)) tt (subst (λ (n : ℕ). IsRecord (started_record g (n + 1))) (sym own) s.is)
+
     logged : bodies_in new ≡ record { bodies = old.bodies ++ record_bytes (started_record (given_by number name old.max) (r.told.incarnation + 1)) ∷ []; pending = None }
     logged =
         ap (λ (bodies : List (List ℕ)). let l : LogBodies = record { bodies = bodies; pending = new.pending } in l) s.bodies
         ∙ ap (λ (n : ℕ). let l : LogBodies = record { bodies = old.bodies ++ record_bytes (started_record (given_by number name old.max) (n + 1)) ∷ []; pending = new.pending } in l) r.built.incarnation
         ∙ ap (λ (o : Option (List ℕ)). let l : LogBodies = record { bodies = old.bodies ++ record_bytes (started_record (given_by number name old.max) (r.told.incarnation + 1)) ∷ []; pending = o } in l) s.fresh.settled
+
+    told : Tells Later core.log.bodies core.plain
+    told =
+        subst (λ (q : Plain). Tells Later core.log.bodies q) (sym (ap (λ (v : CoreValue). v.plain) is ∙ plain_begun b number name moment old new r.told r.built none s))
+        (subst (λ (bs : List (List ℕ)). Tells Later bs (first_start g r.told (log_length old.bodies) moment)) (sym (ap (λ (v : CoreValue). v.log.bodies) is ∙ ap (λ (l : LogBodies). l.bodies) logged))
+        (begun_tells g old.bodies r.told (log_length old.bodies) moment r.read r.bytes read_back))
 
 pub ties : (b : Built) (number : ℕ) (name : List ℕ) (moment : ℕ) (old new : LogState) → IsReadFrom (given_by number name old.max) First old.bodies b → IsStarted (given_by number name old.max) b old new → old.max < 2 ^ 32 → moment ≤ last_moment
     → Tied (begun_parts number name moment b new)

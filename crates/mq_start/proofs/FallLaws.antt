@@ -12,6 +12,7 @@ use Rattle.mq_calls.specs.declared.records.LogRecord.{LogRecord}
 use Rattle.mq_log.specs.declared.open.StartFault.{StartFault}
 use Rattle.mq_log.specs.declared.open.StartFault.TheVariants as starts_
 use Rattle.mq_log.specs.declared.images.Found.{Found}
+use Rattle.mq_log.specs.declared.images.Found.TheVariants.{Other}
 use Rattle.mq_log.specs.State.{LogState}
 use Rattle.mq_log.specs.Force.{Stops}
 use Rattle.mq_log.specs.Open.{RestartEnds, IsNotBad}
@@ -140,27 +141,49 @@ halted_log read noted starts x y e found log built was s settled max r low (Halt
     (subst (λ (k : Given). length (record_bytes (started_record k (built.incarnation + 1))) ≡ 58) g h.long)
     (omega (arith, n, few, low))))
 
--- what the log tells behind a restart that was refused
-pub falls : (tells : Type 0) → tells → (read : Option ReadLog) (noted : Option Noted) (starts : ℕ) (x y : PartsValue) (e : Unraised) → Fell tells x e y → LogStood read noted starts x.log.bodies x.log.pending (plain_of x) → x.incarnation + starts + 1 < 2 ^ 61
+-- over a disk that tells its bytes it has read no other log
+found_is : (o : Option Found) (a b : Found) → o ≡ Some a → o ≡ Some b → a ≡ b
+found_is o a b e f = or_found (sym e ∙ f)
+  where
+    or_found : Some a ≡ Some b → a ≡ b
+    or_found k = cc
+
+none_found : (o : Option Found) (b : Found) → o ≡ None → o ≡ Some b → ⊥
+none_found o b e f = no (sym e ∙ f)
+  where
+    no : None ≡ Some b → ⊥
+    no k = absurd cc
+
+pub fell_known : (tells : Type 0) → tells → (x y : PartsValue) (e : Unraised) → Fell tells x e y → e.found ≡ Some Other → ⊥
+fell_known tells t x y e (Unopened fault is none out h same) other = none_found e.found Other none other
+fell_known tells t x y e (Unread found fault is was out h unread same) other = h.known t (found_is e.found found Other was other)
+fell_known tells t x y e (Unstarted found log built was h r u) other = h.known t (found_is e.found found Other was other)
+
+-- what the log tells behind a restart that was refused, where it has read no other log
+pub falls_known : (tells : Type 0) (read : Option ReadLog) (noted : Option Noted) (starts : ℕ) (x y : PartsValue) (e : Unraised) → Fell tells x e y → (e.found ≡ Some Other → ⊥) → LogStood read noted starts x.log.bodies x.log.pending (plain_of x) → x.incarnation + starts + 1 < 2 ^ 61
     → LogStood (read_after read e.found (plain_of x).log.length) noted (starts_after e.in_write starts) y.log.bodies y.log.pending (plain_of x)
 unfolding long_of
-falls tells t read noted starts x y e (Unopened fault is none out h same) stood low =
+falls_known tells read noted starts x y e (Unopened fault is none out h same) known stood low =
     fell_as read noted starts e None false (long_of x) y.log (plain_of x) none out
     (kept_log read noted starts x.log y.log (plain_of x) (ap (λ (l : LogState). l.bodies) h.same) (ap (λ (l : LogState). l.pending) h.same) stood)
-falls tells t read noted starts x y e (Unread found fault is was out h unread same) stood low =
-    let s = found_stood read noted starts x.log.bodies x.log.pending found y.log.bodies (plain_of x) stood h.bodies (h.known t) in
+falls_known tells read noted starts x y e (Unread found fault is was out h unread same) known stood low =
+    let s = found_stood read noted starts x.log.bodies x.log.pending found y.log.bodies (plain_of x) stood h.bodies (λ f. known (was ∙ ap (λ (k : Found). Some k) f)) in
     fell_as read noted starts e (Some found) false (long_of x) y.log (plain_of x) was out
     (later_log (Some (read_by read found (long_of x))) noted starts y.log.bodies None y.log (plain_of x) refl (ap (λ (l : LogState). l.pending) h.same) (known_later read found noted starts y.log.bodies (long_of x) (plain_of x) s))
-falls tells t read noted starts x y e (Unstarted found log built was h r u) stood low =
-    let s = found_stood read noted starts x.log.bodies x.log.pending found log.bodies (plain_of x) stood h.bodies (h.known t) in
+falls_known tells read noted starts x y e (Unstarted found log built was h r u) known stood low =
+    let s = found_stood read noted starts x.log.bodies x.log.pending found log.bodies (plain_of x) stood h.bodies (λ f. known (was ∙ ap (λ (k : Found). Some k) f)) in
     halted_log read noted starts x y e found log built was s (ap (λ (l : LogState). l.pending) h.same) (ap (λ (l : LogState). l.max) h.same) r low u.halted
+
+pub falls : (tells : Type 0) → tells → (read : Option ReadLog) (noted : Option Noted) (starts : ℕ) (x y : PartsValue) (e : Unraised) → Fell tells x e y → LogStood read noted starts x.log.bodies x.log.pending (plain_of x) → x.incarnation + starts + 1 < 2 ^ 61
+    → LogStood (read_after read e.found (plain_of x).log.length) noted (starts_after e.in_write starts) y.log.bodies y.log.pending (plain_of x)
+falls tells t read noted starts x y e fell stood low = falls_known tells read noted starts x y e fell (fell_known tells t x y e fell) stood low
 
 -- over a disk that tells its bytes it makes no other calls than those of a restart, and finds no bad log
 some_bodies : (read : Option ReadLog) (noted : Option Noted) (starts : ℕ) (bodies : List (List ℕ)) (pending : Option (List ℕ)) (p : Plain) → LogStood read noted starts bodies pending p → 0 < length bodies
 some_bodies None noted starts bodies pending p h = h.without.some
 some_bodies (Some read) noted starts bodies pending p h = h.without.some
 
-spent_of : (least most armed left : ℕ) → (armed ≡ 0 → left ≡ 0) → (0 < armed → 0 < left) → (0 < armed → left + least ≤ armed) → (0 < armed → armed ≤ left + most) → Spent least most armed left
+pub spent_of : (least most armed left : ℕ) → (armed ≡ 0 → left ≡ 0) → (0 < armed → 0 < left) → (0 < armed → left + least ≤ armed) → (0 < armed → armed ≤ left + most) → Spent least most armed left
 spent_of least most zero left none some a b = inl (refl, none refl)
 spent_of least most (suc n) left none some a b = let lt : 0 < suc n = omega arith in inr (some lt, a lt, b lt)
 
@@ -183,7 +206,7 @@ halted_by noted starts armed mid left stops.Disk one ends =
     (λ z. let more = one.1 z in let there : 0 < mid = omega (arith, a, more) in let some = ends.1 there in omega (arith, a, more, low, some))
     (λ z. omega (arith, a, high, z))
 
-returned_as : (noted : Option Noted) (starts armed left : ℕ) (e : Unraised) (fault : RestartFault) (w : Bool) → e.fault ≡ fault → e.in_write ≡ w → CanReturnTold (Fails fault w left) noted starts armed → CanReturnTold (Fails e.fault e.in_write left) noted starts armed
+pub returned_as : (noted : Option Noted) (starts armed left : ℕ) (e : Unraised) (fault : RestartFault) (w : Bool) → e.fault ≡ fault → e.in_write ≡ w → CanReturnTold (Fails fault w left) noted starts armed → CanReturnTold (Fails e.fault e.in_write left) noted starts armed
 returned_as noted starts armed left e fault w is out h =
     subst (λ (f : RestartFault). CanReturnTold (Fails f e.in_write left) noted starts armed) (sym is) (subst (λ (b : Bool). CanReturnTold (Fails fault b left) noted starts armed) (sym out) h)
 

@@ -1,5 +1,5 @@
 -- A log that is opened for a first start.
-use Rattle.std.proofs.Common.{◌≡◌, ℕ, ◌-◌, ◌≤◌, Bool, true, false, List, refl, arith, inl}
+use Rattle.std.proofs.Common.{◌≡◌, ℕ, ◌≤◌, Bool, true, false, List, refl, arith, inl}
 use Rattle.std.specs.Prelude.{None}
 use Rattle.mq_base.specs.Outside.{Rose}
 use Rattle.mq_log.specs.declared.open.StartFault.{StartFault}

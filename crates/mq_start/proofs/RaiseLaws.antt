@@ -1,5 +1,5 @@
 -- A manager whose log was read again comes up as its history says.
-use Rattle.std.proofs.Common.{◌≡◌, ℕ, ◌+◌, ◌-◌, ◌<◌, Bool, true, false, List, [], ◌∷◌, ◌++◌, length, refl, ap, arith, sym, subst, ◌∙◌}
+use Rattle.std.proofs.Common.{◌≡◌, ℕ, ◌+◌, ◌<◌, Bool, true, false, List, [], ◌∷◌, ◌++◌, length, refl, ap, arith, sym, subst, ◌∙◌}
 use Rattle.std.specs.Prelude.{◌≢◌, Option, Some, None, Ok, Err, Result}
 use Rattle.mq_log.specs.declared.images.Found.{Found}
 use Rattle.mq_log.specs.declared.images.Found.TheVariants.{Before, After, Other}
@@ -35,7 +35,7 @@ found_stood (Some read) noted starts bodies (Some body) After new p h is known =
 found_stood (Some read) noted starts bodies pending Other new p h is known = absurd (known refl)
 
 -- the log behind its Started record
-most_kept : (tells : Type 0) (x y : PartsValue) (found : Found) (r : Raises tells x found y) → r.log.max ≡ x.log.max
+pub most_kept : (tells : Type 0) (x y : PartsValue) (found : Found) (r : Raises tells x found y) → r.log.max ≡ x.log.max
 most_kept tells x y found r = ap (λ (l : LogState). l.max) r.read.same
 
 pub has_restarted : (tells : Type 0) (x y : PartsValue) (found : Found) (r : Raises tells x found y) → 0 < length r.log.bodies → HasRestarted (plain_of x) r.log.bodies r.built y.log
@@ -52,7 +52,7 @@ has_restarted tells x y found r some =
     }
 
 -- its own room for a record changes no tie
-tied_body : (x : PartsValue) (b : Buffered) → x.log.reserved ≡ 0 → Tied x → Tied (record x { body = b })
+pub tied_body : (x : PartsValue) (b : Buffered) → x.log.reserved ≡ 0 → Tied x → Tied (record x { body = b })
 tied_body x b none t = record {
   up = λ u. let w = t.up u in record { live = w.live; settled = w.settled; room = w.room; body = omega (arith, none) };
   reserved = t.reserved;

@@ -48,6 +48,7 @@ is_read g start bodies i b r h built = record {
   read = of_image (image g start bodies) i r;
   well = is_image g start bodies i r h;
   known = (recovered g start bodies i (of_image (image g start bodies) i r) h).1;
+  bytes = h;
   built = built;
 }
 

@@ -58,7 +58,7 @@ log_kept (SetBound channel false) p = refl
 log_kept (SetMoment moment) p = refl
 log_kept ForgetAll p = refl
 
-logs_kept : (cs : List Change) (p : Plain) → (apply_all cs p).log ≡ p.log
+pub logs_kept : (cs : List Change) (p : Plain) → (apply_all cs p).log ≡ p.log
 logs_kept [] p = refl
 logs_kept (c ∷ cs) p = logs_kept cs (apply c p) ∙ log_kept c p
 

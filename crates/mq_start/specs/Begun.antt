@@ -1,6 +1,8 @@
 -- A manager that comes up from the image of its log, and its first start.
 use Rattle.std.specs.Prelude.{◌≡◌, ◌⊎◌, ℕ, ◌+◌, ◌≤◌, List, [], ◌∷◌, ◌++◌, true, None, Ok, Err}
+use Rattle.std.specs.List.{AllByRecursion}
 use Rattle.mq_base.specs.Outside.{Rose}
+use Rattle.mq_frame.specs.Reading.{IsBytes}
 use Rattle.mq_log.specs.Bodies.{IsLog, IsNoLog}
 use Rattle.mq_log.specs.State.{LogState, log_length}
 use Rattle.mq_log.specs.declared.open.StartFault.{StartFault}
@@ -13,9 +15,10 @@ use Rattle.mq_spec_state.specs.Recovery.{IsImage, AreKnown}
 use Rattle.mq_spec_manager.specs.Stops.{first_start, started_record, started_need}
 use Rattle.mq_log.specs.Force.{Stops}
 use Rattle.mq_spec_log.specs.Applies.{Start}
-use Rattle.mq_spec_log.specs.Applies.Start.{First}
+use Rattle.mq_spec_log.specs.Applies.Start.{First, Later}
+use Rattle.mq_law_image.specs.Tells.{Tells}
 use Rattle.mq_spec_log.specs.Bodies.{image}
-use Rattle.mq_record.specs.Records.{record_bytes}
+use Rattle.mq_record.specs.Records.{record_bytes, IsRecord}
 use Rattle.mq_recover.specs.declared.recovery.RecoverFault.{RecoverFault}
 use Rattle.mq_recover.specs.declared.recovery.RecoverFault.TheVariants.{BadRecord, NoMemory}
 use Rattle.mq_rebuild.specs.declared.building.Built.{Built}
@@ -33,6 +36,7 @@ pub record IsReadFrom (g : Given) (start : Start) (bodies : List (List ℕ)) (b 
   pub read : image g start bodies ≡ Ok told
   pub well : IsImage told
   pub known : AreKnown g.number told
+  pub bytes : AllByRecursion IsBytes bodies
   pub built : IsBuilt told b
 
 -- why nothing was
@@ -85,13 +89,15 @@ pub record HasOpened (tells : Type 0) (seen : List ℕ) (old max : ℕ) (log : L
 
 -- the Started record of what was built stands behind the bodies
 pub record IsStarted (g : Given) (b : Built) (old new : LogState) : Type 0 where
+  pub is : IsRecord (started_record g (b.incarnation + 1))
   pub fresh : IsFresh old.max new
   pub bodies : new.bodies ≡ old.bodies ++ record_bytes (started_record g (b.incarnation + 1)) ∷ []
   pub long : log_length new.bodies ≡ log_length old.bodies + started_need g
   pub ends : Stops old.armed (Ok tt) new.armed
   pub later : old.faults ≤ new.faults
 
--- A first start: the manager is that of the image that its log told, with its own Started record behind it.
+-- A first start: the manager is that of the image that its log told, with its own Started record behind it; and that log tells what
+-- lasts of it.
 pub record HasBegun (tells : Type 0) (seen : List ℕ) (old : ℕ) (g : Given) (moment : ℕ) (core : CoreValue) : Type 0 where
   pub bodies : List (List ℕ)
   pub told : Image
@@ -99,10 +105,13 @@ pub record HasBegun (tells : Type 0) (seen : List ℕ) (old : ℕ) (g : Given) (
   pub read : image g First bodies ≡ Ok told
   pub well : IsImage told
   pub known : AreKnown g.number told
+  pub bytes : AllByRecursion IsBytes bodies
   pub plain : core.plain ≡ first_start g told (log_length bodies) moment
   pub untold : core.delta ≡ []
   pub unstopped : core.stopped ≡ None
   pub log : core.log ≡ record { bodies = bodies ++ record_bytes (started_record g (told.incarnation + 1)) ∷ []; pending = None }
+  pub log_tells : Tells Later core.log.bodies core.plain
+  pub long : core.plain.log.length ≡ log_length core.log.bodies
   pub later : old ≤ core.faults
 
 -- from this log, whatever disk it was read from

@@ -1,5 +1,5 @@
 -- A manager that is down reads its log again, and comes up from it or not.
-use Rattle.std.specs.Prelude.{◌≡◌, ◌≢◌, ℕ, ◌+◌, ◌-◌, ◌<◌, ◌≤◌, Bool, true, false, length, Option, Some, None, Err}
+use Rattle.std.specs.Prelude.{◌≡◌, ◌≢◌, ℕ, ◌+◌, ◌-◌, ◌<◌, ◌≤◌, Bool, true, false, length, Option, Some, None, Ok, Err}
 use Rattle.mq_base.specs.Outside.{Rose}
 use Rattle.mq_disk.specs.declared.cutter.Stop.{Stop}
 use Rattle.mq_disk.specs.declared.cutter.Stop.TheVariants as stops
@@ -50,11 +50,12 @@ abbrev pub stop_fault : Stop → RestartFault
 stop_fault stops.Cut = faults.Cut
 stop_fault stops.Disk = faults.Disk
 
--- the log was read again, and one call counted where it has a body
+-- the log was read again, and one call counted where it has a body, else three
 pub record HasRead (tells : Type 0) (old : LogState) (found : Found) (new : LogState) : Type 0 where
   pub bodies : IsFound old.bodies old.pending found new.bodies
   pub known : tells → found ≢ Other
   pub same : new ≡ record old { bodies = new.bodies; live = true; pending = None; reserved = 0; room = new.room; armed = new.armed; faults = new.faults }
+  pub ends : EndsByOneOrThree {T = Found} old.armed (Ok found) new.armed
   pub one : 0 < length new.bodies → (new.armed ≡ old.armed - 1) × (0 < old.armed → 1 < old.armed)
   pub later : old.faults ≤ new.faults
 

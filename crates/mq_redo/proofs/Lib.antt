@@ -1,0 +1,4 @@
+pub mod StandLaws
+pub mod TellLaws
+pub mod UnitLaws
+pub mod WriteLaws

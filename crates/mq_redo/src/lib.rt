@@ -1,0 +1,7 @@
+//! What a write that was stopped did to what lasts, told by the restart that finds its record.
+#![tactic(auto)]
+
+mod telling;
+mod writes;
+
+pub use writes::tell_redone;
