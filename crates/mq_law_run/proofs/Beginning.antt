@@ -1,6 +1,6 @@
 -- With what a network with channels begins.
-use Rattle.std.proofs.Common.{ℕ, zero, suc, ◌≡◌, ◌<◌, Bool, true, false, List, [], ◌∷◌, ◌++◌, refl, ap, sym, subst, ◌∙◌, inl, inr, arith}
-use Rattle.std.specs.Prelude.{Option, Some, None, ◌==◌, ◌+◌, ◌||◌, if◌then◌else◌, nat_lt, is_some, length, map, slice_get, All}
+use Rattle.std.proofs.Common.{ℕ, zero, suc, ◌≡◌, ◌≢◌, ◌<◌, Bool, true, false, List, [], ◌∷◌, ◌++◌, refl, ap, sym, subst, ◌∙◌, inl, inr, arith}
+use Rattle.std.specs.Prelude.{Option, Some, None, ◌==◌, ◌+◌, ◌||◌, ◌&&◌, not, if◌then◌else◌, nat_lt, is_some, length, map, slice_get, All}
 use Rattle.std.specs.Option.{option_map}
 use Rattle.std.proofs.lemmas.Bool.Decides.{nat_tests}
 use Rattle.std.proofs.lemmas.List.Elements.{All-head, All-tail}
@@ -10,6 +10,8 @@ use Rattle.mq_queue.specs.declared.row.Row.{Row}
 use Rattle.mq_sync.specs.declared.data.InDoubt.{InDoubt}
 use Rattle.mq_sync.specs.declared.data.SenderData.{SenderData}
 use Rattle.mq_sync.specs.declared.data.ReceiverData.{ReceiverData}
+use Rattle.mq_sync.specs.declared.unit.Unit.{Unit as Luw}
+use Rattle.mq_sync.specs.Units.{Upto, no_unit, same_unit}
 use Rattle.mq_sync.specs.Settlement.{receiver_or, sender_or}
 use Rattle.mq_sender.specs.States.{new_sender}
 use Rattle.mq_receiver.specs.States as receivers
@@ -26,14 +28,16 @@ use Rattle.mq_spec_state.specs.Reads.{receiver_data, receiver_in, sender_data, s
 use Rattle.mq_spec_node.specs.Node.{ChannelEnd, end_in}
 use Rattle.mq_spec_node.specs.Node.ChannelEnd.{Receives, Sends}
 use Rattle.mq_spec_network.specs.Apart.{case, cable_apart, cable_cases, cables_apart, doubt_case, first_of, idents_apart, is_above, is_other, or_else, receiver_at, row_idents, sender_at, standing_idents}
+use Rattle.mq_spec_network.specs.Conflict.{is_committed}
 use Rattle.mq_spec_network.specs.Given.{end_at, ends_from, name_at, receives_at, sends_from}
 use Rattle.mq_spec_network.specs.Promised.{Premises}
-use Rattle.mq_spec_network.specs.Standing.{cable_from, last_unit_of, node_after, opening_ledger, opening_managers, places_of}
+use Rattle.mq_spec_network.specs.Standing.{cable_from, cable_named, last_unit, last_unit_at, last_unit_of, node_after, opening_ledger, opening_managers, places_of}
 use Rattle.mq_spec_network.specs.Story.{Mem}
 use Rattle.mq_law_channel.specs.Channel.{Channel, Facts, Past}
 use Rattle.mq_law_channel.specs.Facts.{Letter}
 use Rattle.mq_law_channel.specs.Opening.{Belong, doubt_unit, opened, past_opened}
 use Rattle.mq_law_channel.proofs.Opened.{begins_facts}
+use Rattle.mq_law_channel.proofs.Told.{and_both, unit_yes}
 use Rattle.mq_law_node.specs.Ends.{letters_of, receiver_of, sender_of, told_receives, told_sends}
 use Rattle.mq_law_node.proofs.FarEvents.{far_begun_here, made_of}
 use Rattle.mq_law_node.proofs.NearEvents.{begun_here}
@@ -48,11 +52,13 @@ use Rattle.mq_law_receipts.proofs.Cabling.{cabled}
 use Rattle.mq_law_story.specs.Needs.{letter_tag}
 use Rattle.mq_law_story.proofs.Beginning.{images_have_the_facts}
 use Rattle.mq_law_story.proofs.Weaving.{manager_at}
+use Rattle.mq_law_seen.proofs.Images.{pairs_chain}
 use Rattle.mq_law_turns.proofs.Beginning as telling
 use Rattle.mq_law_cables.proofs.Beginning as beginning
 use Rattle.mq_law_one.proofs.Running.{first_at}
 use Rattle.mq_law_run.specs.Run.{Stand, far_at, near_at}
 use Rattle.mq_law_run.proofs.Lining.{mem_at}
+use Rattle.mq_law_run.proofs.Receiving.{upto_self}
 use Rattle.mq_law_run.proofs.Stopping.{eqb_no}
 
 -- A cable's channel: what is hardened of both its ends, and the messages of the unit in doubt
@@ -157,6 +163,10 @@ unit_or : (o : Option ReceiverData) → (receiver_or o).unit ≡ last_unit_of o
 unit_or None = refl
 unit_or (Some d) = refl
 
+or_last : (t : Bool) → (t || false) ≡ t
+or_last true = refl
+or_last false = refl
+
 -- THE BEGINNING
 pub begins : (s : Scenario) (hs : List History) → Premises s hs → Stand s hs []
 begins s hs premises = record {
@@ -211,6 +221,7 @@ begins s hs premises = record {
       (ap (λ (d : ReceiverData). d.unit) (far_is k n ∙ ap (receiver_at k.channel) (stands k.receiver h.0 h.1)) ∙ unit_or (receiver_data k.channel r)) (λ u. refl);
   resolved = λ m c u e. absurd (true_false (sym e));
   not_yet = λ m c u e. absurd (true_false (sym e));
+  risen = λ k n u e. first_last k n u e;
   owned = λ m c u e. absurd (true_false (sym e));
   at = λ m h is. first_at s hs premises m h is;
   counted = λ m h is. record {
@@ -257,6 +268,18 @@ begins s hs premises = record {
         let g = near_history k n in
         let v = cabled s ps k (node_after s k.sender [] g.0).manager premises.scenario n numbers (stands k.sender g.0 g.1) in
         ap (λ (b : ℕ). far_data ps k.channel (cable_from b k.channel s.cables)) (sym (numbers k.sender v.sender v.at)) ∙ ap (far_data ps k.channel) v.from ∙ ap (λ (t : ℕ). receiver_at k.channel (slice_get ps t)) v.to
+
+    -- what was committed then is the receiver's last unit
+    first_last : (k : CableLine) → Mem k s.cables → (u : Luw) → is_committed s ps [] k.channel u ≡ true → Upto u (first_channel s ps k.sender k.channel).receives.unit
+    first_last k n u e =
+        let h = far_history k n in
+        let c : List ℕ = k.channel in
+        let last : Luw = last_unit ps c (cable_named c s.cables) in
+        let line : cable_named c s.cables ≡ Some k = telling.found s.cables k n (pairs_chain (λ (a b : List ℕ). a ≢ b) (map telling.channel_named s.cables) premises.scenario.channels) in
+        let mine : last ≡ (first_channel s ps k.sender c).receives.unit = ap (last_unit ps c) line ∙ ap (last_unit_at c) (stands k.receiver h.0 h.1)
+        ∙ sym (ap (λ (d : ReceiverData). d.unit) (far_is k n ∙ ap (receiver_at c) (stands k.receiver h.0 h.1)) ∙ unit_or (receiver_data c (node_after s k.receiver [] h.0).manager)) in
+        let both = and_both (not (same_unit u no_unit)) (same_unit u last) (sym (or_last (not (same_unit u no_unit) && same_unit u last)) ∙ e) in
+        subst (λ (v : Luw). Upto u v) (unit_yes u last both.1 ∙ mine) (upto_self u)
 
     -- its logs belong together
     belong : (k : CableLine) → Mem k s.cables → Belong (sender_at k.channel (slice_get ps k.sender)) (receiver_at k.channel (slice_get ps k.receiver))

@@ -56,9 +56,9 @@ use Rattle.mq_law_cables.specs.Joints.{AreJoint}
 use Rattle.mq_law_one.proofs.Running.{Told_}
 use Rattle.mq_law_run.specs.Run.{IsMoved, Moves, Stand, far_at, near_at}
 use Rattle.mq_law_run.proofs.Beside.{distinct_of}
-use Rattle.mq_law_run.proofs.Lining.{all_moved, else_channel, else_index, here, left_aside, mem_at, same_cable}
+use Rattle.mq_law_run.proofs.Lining.{all_moved, else_channel, else_index, here, left_aside, mem_at, same_cable, units_put}
 use Rattle.mq_law_run.proofs.Running.{IsRun, move_to, run_next, sends_here, takes_here, told_all}
-use Rattle.mq_law_run.proofs.Telling.{deeds_more, none_committed, still_not, told_before}
+use Rattle.mq_law_run.proofs.Telling.{deeds_more, none_committed, risen_still, still_not, told_before}
 use Rattle.mq_calls.specs.declared.deltas.Why.TheVariants as whys
 use Rattle.mq_queue.specs.declared.row.Row.{Row}
 use Rattle.mq_spec_manager.specs.Get.{expired_parts}
@@ -206,6 +206,7 @@ expiry_moves s hs p x z t i k d scenario e q actor call r is offered gone =
           (grows s (opening_managers s hs) (deeds p) (deeds_in m x.entry.effect.delta) k.sender k.channel c y (z.told k there))) z.told h n_);
       resolved = λ o v u f. told_before p x _ (z.resolved o v u (operated o v u f));
       not_yet = λ o v u f. still_not s (opening_managers s hs) p x v u (none_committed v u m x.entry.effect.delta quiet) (z.not_yet o v u (operated o v u f));
+      risen = λ h w. risen_still s (opening_managers s hs) p x h.channel (z.xs h.sender h.channel).receives.unit (put_at z.xs k.sender k.channel c1 h.sender h.channel).receives.unit quiet (units_put z.xs k h c1 (ap (λ (r : ReceiverData). r.unit) (near_far (NearStep.Turn turn) c).receives)) (z.risen h w);
       owned = λ o v u f. z.owned o v u (operated o v u f);
       at = record {
         told = follow.told;

@@ -29,7 +29,7 @@ use Rattle.mq_law_run.specs.Run.{Moves, Stand, failed_node, far_at, near_at}
 use Rattle.mq_law_run.proofs.Cabled.{same_batches}
 use Rattle.mq_law_run.proofs.Owning.{next_managers}
 use Rattle.mq_law_run.proofs.Running.{far_here, move_to, near_here}
-use Rattle.mq_law_run.proofs.Telling.{deeds_more, none_committed, still_not, told_before}
+use Rattle.mq_law_run.proofs.Telling.{deeds_more, none_committed, risen_still, still_not, told_before}
 use Rattle.mq_law_run.proofs.Tying.{leads_on}
 
 more_noted : (m : ℕ) (noted : Option Noted) (starts more : ℕ) (p : Plain) (l : Ledger) → IsNotedAt NoOther m (Down noted starts) p l → IsNotedAt NoOther m (Down noted more) p l
@@ -100,6 +100,7 @@ failing_moves s hs p x h stamp z noted starts more g is tells own down same none
           (grows s (opening_managers s hs) (deeds p) (deeds_in m x.entry.effect.delta) k.sender k.channel (z.xs k.sender k.channel) (z.ys k.sender k.channel) (z.told k w));
       resolved = λ a_ c u f. told_before p x _ (z.resolved a_ c u ((λ i. sym j.1 i a_ c u) ∙ f));
       not_yet = λ a_ c u f. still_not s (opening_managers s hs) p x c u (none_committed c u m x.entry.effect.delta received) (z.not_yet a_ c u ((λ i. sym j.1 i a_ c u) ∙ f));
+      risen = λ k w. risen_still s (opening_managers s hs) p x k.channel (z.xs k.sender k.channel).receives.unit (z.xs k.sender k.channel).receives.unit received refl (z.risen k w);
       owned = λ a_ c u f. z.owned a_ c u ((λ i. sym j.1 i a_ c u) ∙ f);
       at = subst (λ (w : Node). IsAt NoOther m b.now w l) (sym same) b.at;
       known = b.known;

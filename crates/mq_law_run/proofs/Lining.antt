@@ -28,6 +28,12 @@ mem_at {A = A} (y ∷ xs) zero x e = inl (sym (some_is y x e))
     some_is a b e = cc
 mem_at (y ∷ xs) (suc i) x e = inr (mem_at xs i x e)
 
+-- a member of a list has a number
+pub index_of : {A : Type 0} (xs : List A) (x : A) → Mem x xs → (i : ℕ) × (slice_get xs i ≡ Some x)
+index_of [] x n = absurd n
+index_of (y ∷ xs) x (inl e) = (0, ap (λ w. Some w) (sym e))
+index_of (y ∷ xs) x (inr n) = let r = index_of xs x n in (suc r.0, r.1)
+
 abbrev channel_of : CableLine → List ℕ
 channel_of k = k.channel
 
@@ -65,6 +71,11 @@ eqb_no a b n = bool_case (a == b) (λ t. (a == b) ≡ t → t ≡ false) (λ z e
 
 abbrev pub here : CableLine → CableLine → Bool
 here k h = is_here k.sender k.channel h.sender h.channel
+
+-- the receivers' last units, where one channel's stays
+pub units_put : (xs : ℕ → List ℕ → Channel) (k h : CableLine) (c : Channel) → c.receives.unit ≡ (xs k.sender k.channel).receives.unit → (put_at xs k.sender k.channel c h.sender h.channel).receives.unit ≡ (xs h.sender h.channel).receives.unit
+units_put xs k h c e = bool_case (here k h) (λ t. here k h ≡ t → (if t then c else xs h.sender h.channel).receives.unit ≡ (xs h.sender h.channel).receives.unit)
+    (λ z f. let w = here_yes k.sender k.channel h.sender h.channel f in e ∙ (λ i. (xs (sym w.0 i) (sym w.1 i)).receives.unit)) (λ z f. refl) refl
 
 -- a cable elsewhere has another number, and of one sender another channel
 pub else_index : (s : Scenario) (i j : ℕ) (k h : CableLine) → slice_get s.cables i ≡ Some k → slice_get s.cables j ≡ Some h → here k h ≡ false → (i == j) ≡ false

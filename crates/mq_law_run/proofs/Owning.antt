@@ -42,7 +42,7 @@ use Rattle.mq_law_run.specs.Run.{Housed, Moves, Stand, far_at, near_at}
 use Rattle.mq_law_run.proofs.Cabled.{same_batches}
 use Rattle.mq_law_run.proofs.Halves.{deed_quiet, far_own, near_own, own_elim}
 use Rattle.mq_law_run.proofs.Numbering.{IsRaised, own_raised}
-use Rattle.mq_law_run.proofs.Telling.{counted_on, deeds_more, none_committed, still_not, told_before}
+use Rattle.mq_law_run.proofs.Telling.{counted_on, deeds_more, none_committed, risen_still, still_not, told_before}
 use Rattle.mq_law_run.proofs.Tying.{leads_on}
 
 -- it offers nothing
@@ -126,6 +126,7 @@ own_moves s hs p x z t is =
           (grows s (opening_managers s hs) (deeds p) (deeds_in m e.effect.delta) c.sender c.channel (z.xs c.sender c.channel) (z.ys c.sender c.channel) (z.told c n_));
       resolved = λ a_ c u f. told_before p x _ (z.resolved a_ c u ((λ i. sym j.1 i a_ c u) ∙ f));
       not_yet = λ a_ c u f. still_not s (opening_managers s hs) p x c u (none_committed c u m e.effect.delta quiet) (z.not_yet a_ c u ((λ i. sym j.1 i a_ c u) ∙ f));
+      risen = λ k w. risen_still s (opening_managers s hs) p x k.channel (z.xs k.sender k.channel).receives.unit (z.xs k.sender k.channel).receives.unit quiet refl (z.risen k w);
       owned = λ a_ c u f. z.owned a_ c u ((λ i. sym j.1 i a_ c u) ∙ f);
       at = subst (λ (y : Ledger). IsAt NoOther m b.now next y) whole b.at;
       known = b.known;

@@ -1,12 +1,12 @@
 -- A turn of a receiver's end that runs, as a move of the network.
-use Rattle.std.proofs.Common.{ℕ, ◌≡◌, ◌<◌, Bool, true, false, List, [], ◌∷◌, ◌++◌, refl, ap, sym, subst, ◌∙◌, inl, inr, arith}
+use Rattle.std.proofs.Common.{ℕ, ◌≡◌, ◌<◌, ◌≤◌, Bool, true, false, List, [], ◌∷◌, ◌++◌, refl, ap, sym, subst, ◌∙◌, inl, inr, arith}
 use Rattle.std.specs.Prelude.{Option, Some, None, ◌==◌, ◌+◌, ◌&&◌, if◌then◌else◌, slice_get}
 use Rattle.std.specs.Option.{option_map}
 use Rattle.std.specs.Str.{bytes_eq}
 use Rattle.mq_frame.specs.declared.frame.Frame.{Frame}
 use Rattle.mq_frame.specs.declared.frame.Seen.{Seen}
 use Rattle.mq_sync.specs.declared.unit.Unit.{Unit as Luw}
-use Rattle.mq_sync.specs.Units.{Below, same_unit}
+use Rattle.mq_sync.specs.Units.{Below, Upto, same_unit}
 use Rattle.mq_receiver.specs.declared.turns.ReceiverDoes.{ReceiverDoes}
 use Rattle.mq_receiver.specs.declared.turns.ReceiverDoes.TheVariants as takes
 use Rattle.mq_receiver.specs.declared.turns.ReceiverOut.{ReceiverOut}
@@ -32,7 +32,7 @@ use Rattle.mq_spec_state.specs.Steps.{delta_of, do_all}
 use Rattle.mq_spec_node.specs.Node.{Node, ReceiverEnd}
 use Rattle.mq_spec_node.specs.Deeds.{Deed, Done, done}
 use Rattle.mq_spec_node.specs.Receivers.{is_receiver_defined, receiver_deed}
-use Rattle.mq_spec_network.specs.Conflict.{Deed as ToldDeed, NoConflict, committed_in, deeds, deeds_in}
+use Rattle.mq_spec_network.specs.Conflict.{Deed as ToldDeed, NoConflict, committed_in, deeds, deeds_in, is_committed}
 use Rattle.mq_spec_network.specs.Ledger as ledgers
 use Rattle.mq_spec_network.specs.Ledger.{Ledger, Users, ledger, posted, take_all_gone}
 use Rattle.mq_spec_network.specs.Standing.{managers_at, node_after, opening_ledger, opening_managers}
@@ -85,9 +85,9 @@ use Rattle.mq_law_run.proofs.Beside.{IsBeside, parts_beside}
 use Rattle.mq_law_run.proofs.Cabled.{parts_cabled}
 use Rattle.mq_law_run.proofs.Housing as housing
 use Rattle.mq_law_run.proofs.Keeping.{EachKept, EachTaking, EachTells, IsCommit, IsKept, kept_by, post_of, takes_so, tells_by}
-use Rattle.mq_law_run.proofs.Lining.{all_moved, else_index, left_aside, mem_at, same_cable, same_index}
+use Rattle.mq_law_run.proofs.Lining.{index_of, all_moved, else_index, left_aside, mem_at, same_cable, same_index, here}
 use Rattle.mq_law_run.proofs.Running.{IsRun, move_to, run_next, scene, sends_here, sound_at, takes_here, told_all}
-use Rattle.mq_law_run.proofs.Telling.{deeds_more, mem_left, mem_right, still_not, told_before, told_now}
+use Rattle.mq_law_run.proofs.Telling.{deeds_more, mem_left, mem_right, risen_told, still_not, told_before, told_now}
 
 -- each manager has its number
 pub numbers_of : (s : Scenario) (hs : List History) (p : List Line) → Stand s hs p → (a : ℕ) (v : Plain) → slice_get (managers_at s p hs) a ≡ Some v → v.given.number ≡ a + 1
@@ -223,6 +223,31 @@ both_right : (a b : Bool) → (a && b) ≡ true → b ≡ true
 both_right true b e = e
 both_right false b e = absurd cc
 
+-- the last unit rises
+pub upto_self : (u : Luw) → Upto u u
+upto_self u = inr (refl, same u.n)
+  where
+    same : (n : ℕ) → n ≤ n
+    same n = omega arith
+
+upto_on : (u v w : Luw) → Upto u v → Upto v w → Upto u w
+upto_on u v w e f = grind (arith, e, f)
+
+upto_below : (u v : Luw) → Below u v → Upto u v
+upto_below u v e = grind (arith, e)
+
+unit_rises : (o : ReceiverOut) (d : ReceiverDoes) (t : ReceiverTurn) (c : Channel) → ((u : Luw) → d ≡ takes.Place u → o ≡ ends.Done → Below c.receives.unit u) → Upto c.receives.unit (receiver_turned o d t c).receives.unit
+unit_rises ends.Done (takes.Place u) t c f = upto_below c.receives.unit u (f u refl refl)
+unit_rises ends.Done takes.Still t c f = upto_self c.receives.unit
+unit_rises ends.Done takes.Ignore t c f = upto_self c.receives.unit
+unit_rises ends.Done takes.PushOwed t c f = upto_self c.receives.unit
+unit_rises ends.Done takes.Bind t c f = upto_self c.receives.unit
+unit_rises ends.Done takes.Keep t c f = upto_self c.receives.unit
+unit_rises ends.Done takes.Again t c f = upto_self c.receives.unit
+unit_rises ends.Done takes.Close t c f = upto_self c.receives.unit
+unit_rises ends.Full d t c f = upto_self c.receives.unit
+unit_rises (ends.Refused reason) d t c f = upto_self c.receives.unit
+
 -- THE TURN
 pub receiver_moves : (s : Scenario) (hs : List History) (whole p : List Line) (es : List ToldDeed) (x : Line) (z : Stand s hs p) (t : Told_ s hs p x) (i : ℕ) (k : CableLine) (d : Deed) (g : History) → IsScenario s → NoConflict s hs whole → deeds whole ≡ deeds (p ++ x ∷ []) ++ es
     → slice_get s.cables i ≡ Some k → k.receiver ≡ x.manager → slice_get hs k.sender ≡ Some g → x.entry.actor ≡ actors.Receiver i → x.entry.call ≡ calls.Turn → IsRun s hs p x t d
@@ -310,6 +335,19 @@ receiver_moves s hs whole p es x z t i k d g scenario none split e q from actor 
                 (following.placed turn c y v facts may apart.0).rises apart.2 (subst (λ o. took.ghost.operated k.sender o u ≡ true) apart.4 (subst (λ o. took.ghost.operated o b u ≡ true) apart.3 f))))
           ]))
           (z.not_yet a b u old);
+      risen = λ h n_ u f. bool_case (here k h) (λ o. here k h ≡ o → Upto u (if o then c1 else z.xs h.sender h.channel).receives.unit)
+          (λ o w.
+          let v = here_yes k.sender k.channel h.sender h.channel w in
+          let mine : is_committed s (opening_managers s hs) (deeds (p ++ x ∷ [])) k.channel u ≡ true = (λ j. is_committed s (opening_managers s hs) (deeds (p ++ x ∷ [])) (sym v.1 j) u) ∙ f in
+          elim (subst (EachTells m k.channel u (IsCommit end seen n does k.channel u)) is (tells_by m k.channel u stamp end seen does n)) [
+            | inl none_ ↦ upto_on u c.receives.unit c1.receives.unit (risen_told s (opening_managers s hs) p x k.channel c.receives.unit (z.risen k there) u (subst (λ ds. committed_in k.channel u (deeds_in m ds) ≡ false) (sym delta) none_) mine)
+                (unit_rises turn.outcome (receiver_does turn c) turn c (λ b_ d_ o_. (following.placed turn c y b_ facts may d_).rises))
+            | inr commit ↦ now_last u does refl commit
+          ])
+          (λ o w. elim (subst (EachTells m h.channel u (IsCommit end seen n does h.channel u)) is (tells_by m h.channel u stamp end seen does n)) [
+            | inl none_ ↦ risen_told s (opening_managers s hs) p x h.channel (z.xs h.sender h.channel).receives.unit (z.risen h n_) u (subst (λ ds. committed_in h.channel u (deeds_in m ds) ≡ false) (sym delta) none_) f
+            | inr commit ↦ absurd (not_else h n_ u w does commit)
+          ]) refl;
       owned = λ a b u f. z.owned a b u (operated_old zz (world_of s z.given ms) (book_of l1) c1 y took a b u f);
       at = record {
         told = kept.told;
@@ -329,6 +367,38 @@ receiver_moves s hs whole p es x z t i k d g scenario none split e q from actor 
   where
     put_here : (c1 : Channel) → put_at z.xs k.sender k.channel c1 k.sender k.channel ≡ c1
     put_here c1 = ap (λ b. if b then c1 else z.xs k.sender k.channel) (here_self k.sender k.channel)
+
+    -- a commit makes its unit the last one; none is of another channel
+    now_last : (u : Luw) (dd : ReceiverDoes) → receiver_next (z.xs k.sender k.channel).receiver x.entry.effect.popped (is_receiver_defined k.channel (node_after s x.manager p t.h).manager.definitions) ≡ dd
+        → IsCommit (receiver_of (far_at s i k) (z.xs k.sender k.channel).receiver (z.xs k.sender k.channel).kept) x.entry.effect.popped (node_after s x.manager p t.h) dd k.channel u
+        → Upto u (receiver_turn (taking_turn (far_at s i k) x.entry.stamp x.entry.effect.popped (z.xs k.sender k.channel).receiver (z.xs k.sender k.channel).kept (node_after s x.manager p t.h).manager) (z.xs k.sender k.channel)).receives.unit
+    now_last u (takes.Place v) is_ commit =
+        let c : Channel = z.xs k.sender k.channel in
+        let turn : ReceiverTurn = taking_turn (far_at s i k) x.entry.stamp x.entry.effect.popped c.receiver c.kept (node_after s x.manager p t.h).manager in
+        let out : turn.outcome ≡ ends.Done = ap (λ (dd : ReceiverDoes). receiver_out dd (far_at s i k) x.entry.effect.popped c.receiver c.kept (node_after s x.manager p t.h).manager) is_ ∙ commit.0 in
+        let now : (receiver_turn turn c).receives.unit ≡ v = (λ j. (receiver_turned (out j) (is_ j) turn c).receives.unit) in
+        subst (λ (w : Luw). Upto u w) (sym now) (subst (λ (w : Luw). Upto u w) (unit_yes u v (both_right (bytes_eq k.channel k.channel) (same_unit u v) commit.1)) (upto_self u))
+    now_last u takes.Still is_ commit = absurd commit
+    now_last u takes.Ignore is_ commit = absurd commit
+    now_last u takes.PushOwed is_ commit = absurd commit
+    now_last u takes.Bind is_ commit = absurd commit
+    now_last u takes.Keep is_ commit = absurd commit
+    now_last u takes.Again is_ commit = absurd commit
+    now_last u takes.Close is_ commit = absurd commit
+
+    not_else : (h : CableLine) → Mem h s.cables → (u : Luw) → here k h ≡ false → (dd : ReceiverDoes) → IsCommit (receiver_of (far_at s i k) (z.xs k.sender k.channel).receiver (z.xs k.sender k.channel).kept) x.entry.effect.popped (node_after s x.manager p t.h) dd h.channel u → ⊥
+    not_else h n_ u apart (takes.Place v) commit =
+        let ch : h.channel ≡ k.channel = name_is h.channel k.channel (both_left (bytes_eq h.channel k.channel) (same_unit u v) commit.1) in
+        let o = index_of s.cables h n_ in
+        let one : h ≡ k = same_cable s o.0 i h k o.1 e (same_index s o.0 i h k scenario o.1 e ch) in
+        true_false (sym (ap (λ (w : CableLine). here k w) one ∙ here_self k.sender k.channel) ∙ apart)
+    not_else h n_ u apart takes.Still commit = commit
+    not_else h n_ u apart takes.Ignore commit = commit
+    not_else h n_ u apart takes.PushOwed commit = commit
+    not_else h n_ u apart takes.Bind commit = commit
+    not_else h n_ u apart takes.Keep commit = commit
+    not_else h n_ u apart takes.Again commit = commit
+    not_else h n_ u apart takes.Close commit = commit
 
     -- a commit that is told of this unit is the turn's
     no_commit : (a : ℕ) (b : List ℕ) (u : Luw) (dd : ReceiverDoes) → receiver_next (z.xs k.sender k.channel).receiver x.entry.effect.popped (is_receiver_defined k.channel (node_after s x.manager p t.h).manager.definitions) ≡ dd

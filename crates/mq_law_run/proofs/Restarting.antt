@@ -15,7 +15,7 @@ use Rattle.mq_spec_network.specs.Story.{Line, Mem}
 use Rattle.mq_law_channel.specs.Channel.{Channel, Facts}
 use Rattle.mq_law_channel.specs.Turns.{receiver_rests}
 use Rattle.mq_law_channel.proofs.Operating.{receiver_inactive}
-use Rattle.mq_law_run.proofs.Lining.{mem_at}
+use Rattle.mq_law_run.proofs.Lining.{index_of, mem_at}
 use Rattle.mq_history.specs.declared.acts.Act.TheVariants as acts
 use Rattle.mq_history.specs.declared.acts.Acted.TheVariants as acted
 use Rattle.mq_history.specs.declared.calls.Call.TheVariants as calls
@@ -40,7 +40,6 @@ use Rattle.mq_law_events.specs.Tied.{IsElse, IsNext, IsTold}
 use Rattle.mq_law_events.proofs.Telling.{else_places, else_then, else_users, here_changed}
 use Rattle.mq_law_batches.specs.Releases.{AreUnprepared, Rested}
 use Rattle.mq_law_batches.proofs.Stopping as batches
-use Rattle.mq_law_batches.proofs.Stopping.{IsRest, rest_stays}
 use Rattle.mq_law_story.proofs.Weaving.{ledger_step}
 use Rattle.mq_law_turns.specs.Agreed.{IsToldOf}
 use Rattle.mq_law_turns.proofs.Agreeing.{grows}
@@ -65,9 +64,9 @@ use Rattle.mq_spec_state.specs.State.{Noted}
 use Rattle.mq_spec_manager.specs.Stops.{grown, restarted}
 use Rattle.mq_law_node.specs.Nodes.{FarAt, NearAt}
 use Rattle.mq_law_cables.proofs.Unprepared.{unprepared_still}
-use Rattle.mq_law_run.proofs.Stopping.{all_at_rest, at_rest_far, at_rest_near, eqb_no, index_of, receiver_at_rest, resting, rest_facts, rest_told, same_receives, sender_at_rest}
+use Rattle.mq_law_run.proofs.Stopping.{all_at_rest, at_rest_far, at_rest_near, eqb_no, receiver_at_rest, resting, rest_facts, rest_told, same_receives, sender_at_rest}
 use Rattle.mq_law_run.proofs.Tying.{leads_on}
-use Rattle.mq_law_run.proofs.Telling.{deeds_more, none_committed, still_not, told_before}
+use Rattle.mq_law_run.proofs.Telling.{deeds_more, none_committed, risen_still, still_not, told_before}
 
 abbrev clear : Users → Users
 clear u = record u { cut = None }
@@ -156,6 +155,8 @@ rise_moves s hs p x z t noted starts started scenario down call chance is =
           (grows s (opening_managers s hs) (deeds p) (deeds_in m e.effect.delta) k.sender k.channel (z.xs k.sender k.channel) (z.ys k.sender k.channel) (z.told k w))));
       resolved = λ c d u f. told_before p x _ (z.resolved c d u (operated c d u f));
       not_yet = λ c d u f. still_not s (opening_managers s hs) p x d u (none_committed d u m e.effect.delta (ap unit_received delta)) (z.not_yet c d u (operated c d u f));
+      risen = λ k w. risen_still s (opening_managers s hs) p x k.channel (z.xs k.sender k.channel).receives.unit (zs k.sender k.channel).receives.unit (ap unit_received delta)
+          (ap (λ (o : Channel). o.receives.unit) (resting receiver_rests s m k z.xs scenario w) ∙ ap (λ (r : ReceiverData). r.unit) (same_receives receiver_rests (k.receiver == m) (k.sender == m) (z.xs k.sender k.channel) (λ y. refl))) (z.risen k w);
       owned = λ c d u f. z.owned c d u (operated c d u f);
       at = record {
         told = r.told;

@@ -7,6 +7,7 @@ use Rattle.mq_message.specs.declared.place.Holder.TheVariants as holders
 use Rattle.mq_frame.specs.declared.frame.Frame.{Frame}
 use Rattle.mq_frame.specs.declared.frame.Seen.{Seen}
 use Rattle.mq_sync.specs.declared.unit.Unit.{Unit as Luw}
+use Rattle.mq_sync.specs.declared.data.ReceiverData.{ReceiverData}
 use Rattle.mq_sync.specs.Units.{unit_named}
 use Rattle.mq_sync.specs.declared.data.Stock.{Stock}
 use Rattle.mq_sender.specs.declared.state.SenderState.{SenderState}
@@ -84,9 +85,9 @@ use Rattle.mq_law_one.proofs.Running.{Told_}
 use Rattle.mq_law_run.specs.Run.{IsMoved, Moves, Stand, far_at, near_at}
 use Rattle.mq_law_run.proofs.Beside.{EachAddsNone, EachOfEnd, IsBeside, distinct_of, leave_adds, parts_beside, senders_add, senders_of_end}
 use Rattle.mq_law_run.proofs.Cabled.{add_cabled, parts_cabled, same_batches}
-use Rattle.mq_law_run.proofs.Lining.{all_moved, else_channel, else_index, here, left_aside, mem_at, same_cable}
+use Rattle.mq_law_run.proofs.Lining.{all_moved, else_channel, else_index, here, left_aside, mem_at, same_cable, units_put}
 use Rattle.mq_law_run.proofs.Running.{IsRun, beside_at, beside_counted, move_to, operated_before, run_next, scene, sends_here, sound_at, takes_here, told_all}
-use Rattle.mq_law_run.proofs.Telling.{deeds_more, none_committed, still_not, told_before}
+use Rattle.mq_law_run.proofs.Telling.{deeds_more, none_committed, risen_still, still_not, told_before}
 
 -- BATCHES
 idle_not : (st : SenderState) → is_idle st ≡ true → is_sending st ≡ false
@@ -243,6 +244,7 @@ step_moves s hs p x z t i k d o step scenario e q v =
         | inl old ↦ still_not s (opening_managers s hs) p x b u (none_committed b u m x.entry.effect.delta v.quiet) (z.not_yet a b u old)
         | inr new ↦ subst (λ b. is_committed s (opening_managers s hs) (deeds (p ++ x ∷ [])) b u ≡ false) (sym new.2) (v.committed u new.0).1
       ];
+      risen = λ h w. risen_still s (opening_managers s hs) p x h.channel (z.xs h.sender h.channel).receives.unit (put_at z.xs k.sender k.channel c1 h.sender h.channel).receives.unit v.quiet (units_put z.xs k h c1 (ap (λ (r : ReceiverData). r.unit) (near_far step c).receives)) (z.risen h w);
       owned = λ a b u f. elim (operated_before zz (world_of s z.given ms) c1 y1 v.turned a b u f) [
         | inl old ↦ z.owned a b u old
         | inr new ↦ (i, k, e, sym new.1, sym new.2)

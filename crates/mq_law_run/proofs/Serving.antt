@@ -41,7 +41,6 @@ use Rattle.mq_spec_network.specs.Standing.{managers_at, node_after, opening_ledg
 use Rattle.mq_spec_network.specs.Story.{Line, Mem}
 use Rattle.mq_law_channel.specs.Channel.{Channel, Facts, Past}
 use Rattle.mq_law_channel.specs.Turns as channels
-use Rattle.mq_law_channel.specs.Turns.{receiver_stopped}
 use Rattle.mq_law_manager.specs.Facts.{IsSound}
 use Rattle.mq_law_node.specs.Data.{receives_at}
 use Rattle.mq_law_node.specs.Ends.{TakesAs, Taken as Took, Where, receiver_of, told_receives}
@@ -80,10 +79,10 @@ use Rattle.mq_law_run.specs.Run.{IsMoved, IsRunning, Moves, Stand, far_at, near_
 use Rattle.mq_law_run.proofs.Beside.{parts_add_none, parts_beside, parts_of_end}
 use Rattle.mq_law_run.proofs.Cabled.{parts_cabled}
 use Rattle.mq_law_run.proofs.Commanding.{all_leave, is_of_operator, none_received, operated_post, up_so}
-use Rattle.mq_law_run.proofs.Lining.{all_moved, else_index, left_aside, mem_at}
+use Rattle.mq_law_run.proofs.Lining.{all_moved, else_index, left_aside, mem_at, units_put}
 use Rattle.mq_law_run.proofs.Receiving.{channel_else, operated_old}
 use Rattle.mq_law_run.proofs.Running.{IsRun, beside_at, beside_counted, move_to, run_next, scene, sends_here, sound_at, takes_here, told_all}
-use Rattle.mq_law_run.proofs.Telling.{deeds_more, none_committed, still_not, told_before}
+use Rattle.mq_law_run.proofs.Telling.{deeds_more, none_committed, risen_still, still_not, told_before}
 
 -- WHAT A COMMAND ON A RECEIVER'S END COMES TO
 record IsServed (z : Scene) (n : Node) (c : Channel) (y : Past) (l : Ledger) (d : Deed) (step : FarStep) : Type 0 where
@@ -301,6 +300,7 @@ served_moves s hs p x z t i k d op step scenario e q call chance r v =
           (told_on (deeds p ++ deeds_in m x.entry.effect.delta) c1 v.unit (grows s (opening_managers s hs) (deeds p) (deeds_in m x.entry.effect.delta) k.sender k.channel c y (z.told k there))) z.told h n_);
       resolved = λ a b u f. told_before p x _ (z.resolved a b u (operated_old zz (world_of s z.given ms) (book_of l) c1 y took a b u f));
       not_yet = λ a b u f. still_not s (opening_managers s hs) p x b u (none_committed b u m x.entry.effect.delta (none_received x.entry.effect.delta silent)) (z.not_yet a b u (operated_old zz (world_of s z.given ms) (book_of l) c1 y took a b u f));
+      risen = λ h w. risen_still s (opening_managers s hs) p x h.channel (z.xs h.sender h.channel).receives.unit (put_at z.xs k.sender k.channel c1 h.sender h.channel).receives.unit (none_received x.entry.effect.delta silent) (units_put z.xs k h c1 v.unit) (z.risen h w);
       owned = λ a b u f. z.owned a b u (operated_old zz (world_of s z.given ms) (book_of l) c1 y took a b u f);
       at = beside_at s hs p x z t d l r refl (parts_beside d.parts n.manager v.ends);
       known = λ i_ f. refl;

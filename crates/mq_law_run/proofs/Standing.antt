@@ -105,6 +105,7 @@ keeps_on s hs p x h z is v = record {
   told = v.told;
   resolved = v.resolved;
   not_yet = v.not_yet;
+  risen = v.risen;
   owned = v.owned;
   at = λ m k e. bool_case (m == x.manager) (λ t. (m == x.manager) ≡ t → IsAt NoOther m v.given (node_after s m (p ++ x ∷ []) k) (ledger (opening_ledger s hs) (p ++ x ∷ [])))
       (λ q f. let y : m ≡ x.manager = eqb_yes m x.manager f in

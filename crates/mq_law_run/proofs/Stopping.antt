@@ -1,6 +1,6 @@
 -- A stop of a manager, as a move of the network.
-use Rattle.std.proofs.Common.{ℕ, suc, ◌≡◌, ◌≢◌, Bool, true, false, List, [], ◌∷◌, ◌++◌, refl, ap, sym, subst, ◌∙◌, inl, inr}
-use Rattle.std.specs.Prelude.{Option, Some, None, ◌==◌, ◌&&◌, ◌||◌, if◌then◌else◌, slice_get}
+use Rattle.std.proofs.Common.{ℕ, ◌≡◌, ◌≢◌, Bool, true, false, List, [], ◌∷◌, ◌++◌, refl, ap, sym, subst, ◌∙◌, inl, inr}
+use Rattle.std.specs.Prelude.{Option, Some, None, ◌==◌, ◌&&◌, ◌||◌, if◌then◌else◌}
 use Rattle.mq_frame.specs.declared.frame.Frame.{Frame}
 use Rattle.mq_sync.specs.declared.unit.Unit.{Unit as Luw}
 use Rattle.mq_sync.specs.declared.data.ReceiverData.{ReceiverData}
@@ -19,7 +19,7 @@ use Rattle.mq_law_channel.specs.Turns.{receiver_halted, released, sender_rests}
 use Rattle.mq_law_channel.proofs.Operating.{receiver_halts, sender_inactive}
 use Rattle.mq_law_rows.specs.Families.{is_here}
 use Rattle.mq_law_rows.proofs.Lists.{bool_case, eqb_self, eqb_yes, here_self}
-use Rattle.mq_law_run.proofs.Lining.{mem_at}
+use Rattle.mq_law_run.proofs.Lining.{index_of, mem_at}
 use Rattle.mq_calls.specs.declared.choices.Choice.TheVariants.{Runs}
 use Rattle.mq_history.specs.declared.acts.Act.TheVariants as acts
 use Rattle.mq_history.specs.declared.acts.Acted.TheVariants as acted
@@ -65,7 +65,7 @@ use Rattle.mq_law_one.proofs.Running.{Told_}
 use Rattle.mq_law_run.specs.Run.{Among, IsMoved, Moves, Stand, far_at, near_at, stopped_done}
 use Rattle.mq_law_run.proofs.Owning.{housed_else, next_managers, others_told}
 use Rattle.mq_law_run.proofs.Running.{move_to, sends_here, sound_at, takes_here}
-use Rattle.mq_law_run.proofs.Telling.{deeds_more, none_committed, still_not, told_before}
+use Rattle.mq_law_run.proofs.Telling.{deeds_more, none_committed, risen_still, still_not, told_before}
 
 -- CHANNELS AT REST
 -- the manager receives on this channel of that sender
@@ -135,12 +135,6 @@ rest_told F s ps ds m c a false x y f h = record {
   undone = h.undone;
   last = subst (λ (r : ReceiverData). same_unit r.unit no_unit ≡ false → is_committed s ps ds c r.unit ≡ true) (sym (same_receives F a false x f)) h.last;
 }
-
--- a member of a list has a number
-pub index_of : {A : Type 0} (xs : List A) (x : A) → Mem x xs → (i : ℕ) × (slice_get xs i ≡ Some x)
-index_of [] x n = absurd n
-index_of (y ∷ xs) x (inl e) = (0, ap (λ w. Some w) (sym e))
-index_of (y ∷ xs) x (inr n) = let r = index_of xs x n in (suc r.0, r.1)
 
 -- one of the two ends
 pub sender_at_rest : (F : Channel → Channel) (k : CableLine) (m : ℕ) (a : Bool) (x : Channel) → k.sender ≡ m → a ≡ false → at_rest_far F a (at_rest_near (k.sender == m) x) ≡ sender_rests (senders.halted x.sender) x
@@ -226,6 +220,8 @@ stop_moves s hs p x z t scenario up call chance is =
           (grows s (opening_managers s hs) (deeds p) (deeds_in m e.effect.delta) k.sender k.channel (z.xs k.sender k.channel) (z.ys k.sender k.channel) (z.told k w))));
       resolved = λ c d u f. told_before p x _ (z.resolved c d u (operated c d u f));
       not_yet = λ c d u f. still_not s (opening_managers s hs) p x d u (none_committed d u m e.effect.delta (ap unit_received delta)) (z.not_yet c d u (operated c d u f));
+      risen = λ k w. risen_still s (opening_managers s hs) p x k.channel (z.xs k.sender k.channel).receives.unit (zs k.sender k.channel).receives.unit (ap unit_received delta)
+          (ap (λ (o : Channel). o.receives.unit) (resting receiver_halted s m k z.xs scenario w) ∙ ap (λ (r : ReceiverData). r.unit) (same_receives receiver_halted (k.receiver == m) (k.sender == m) (z.xs k.sender k.channel) (λ y. refl))) (z.risen k w);
       owned = λ c d u f. z.owned c d u (operated c d u f);
       at = record {
         told = r.told;

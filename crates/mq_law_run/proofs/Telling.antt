@@ -3,6 +3,7 @@ use Rattle.std.proofs.Common.{ℕ, ◌≡◌, Bool, true, false, List, [], ◌�
 use Rattle.std.specs.Prelude.{None, ◌||◌, ◌≤◌}
 use Rattle.std.specs.List.{list_any}
 use Rattle.mq_sync.specs.declared.unit.Unit.{Unit as Luw}
+use Rattle.mq_sync.specs.Units.{Upto}
 use Rattle.mq_calls.specs.declared.choices.Choice.{Choice}
 use Rattle.mq_calls.specs.declared.deltas.Did.{Did}
 use Rattle.mq_calls.specs.declared.deltas.Did.TheVariants as did
@@ -84,6 +85,22 @@ still_not s ps p x c u none e =
     ap (λ ds. was_last s ps c u || committed_in c u ds) (deeds_more p x)
     ∙ or_none (was_last s ps c u) (committed_in c u (deeds p ++ deeds_in x.manager x.entry.effect.delta)) (or_left (was_last s ps c u) (committed_in c u (deeds p)) e)
     (any_none (λ (d : Deed). commits c u d.did) (deeds p) (deeds_in x.manager x.entry.effect.delta) (or_right (was_last s ps c u) (committed_in c u (deeds p)) e) none)
+
+-- and one that is committed behind such an entry was before
+was_committed : (s : Scenario) (ps : List Plain) (p : List Line) (x : Line) (c : List ℕ) (u : Luw) → committed_in c u (deeds_in x.manager x.entry.effect.delta) ≡ false → is_committed s ps (deeds (p ++ x ∷ [])) c u ≡ true → is_committed s ps (deeds p) c u ≡ true
+was_committed s ps p x c u none e = go (is_committed s ps (deeds p) c u) refl
+  where
+    go : (t : Bool) → is_committed s ps (deeds p) c u ≡ t → t ≡ true
+    go true f = refl
+    go false f = sym (still_not s ps p x c u none f) ∙ e
+
+pub risen_told : (s : Scenario) (ps : List Plain) (p : List Line) (x : Line) (c : List ℕ) (v : Luw) → ((u : Luw) → is_committed s ps (deeds p) c u ≡ true → Upto u v) → (u : Luw) → committed_in c u (deeds_in x.manager x.entry.effect.delta) ≡ false
+    → is_committed s ps (deeds (p ++ x ∷ [])) c u ≡ true → Upto u v
+risen_told s ps p x c v old u none e = old u (was_committed s ps p x c u none e)
+
+pub risen_still : (s : Scenario) (ps : List Plain) (p : List Line) (x : Line) (c : List ℕ) (v w : Luw) → unit_received x.entry.effect.delta ≡ None → w ≡ v → ((u : Luw) → is_committed s ps (deeds p) c u ≡ true → Upto u v) → (u : Luw)
+    → is_committed s ps (deeds (p ++ x ∷ [])) c u ≡ true → Upto u w
+risen_still s ps p x c v w quiet same old u e = subst (λ (z : Luw). Upto u z) (sym same) (risen_told s ps p x c v old u (none_committed c u x.manager x.entry.effect.delta quiet) e)
 
 -- CONNECTIONS' NUMBERS, behind the post of an entry that is no restart
 returned_none : (m : ℕ) (reply : Reply) (choice : Choice) (ds : List Did) (l : Ledger) → ledgers.returned m reply (chances.Call choice) ds l ≡ l

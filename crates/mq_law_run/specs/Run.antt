@@ -3,6 +3,7 @@ use Rattle.std.specs.Prelude.{ℕ, Bool, ◌≡◌, ◌==◌, true, false, List,
 use Rattle.mq_message.specs.declared.message.Ident.{Ident}
 use Rattle.mq_frame.specs.declared.frame.Frame.{Frame}
 use Rattle.mq_sync.specs.declared.unit.Unit.{Unit as Luw}
+use Rattle.mq_sync.specs.Units.{Upto}
 use Rattle.mq_calls.specs.declared.agents.Note.TheVariants as notes
 use Rattle.mq_calls.specs.declared.deltas.Did.TheVariants as did
 use Rattle.mq_history.specs.declared.calls.Actor.TheVariants as actors
@@ -76,6 +77,7 @@ pub record Stand (s : Scenario) (hs : List History) (p : List Line) : Type 0 whe
   pub told : (k : CableLine) → Mem k s.cables → IsToldOf s (opening_managers s hs) (deeds p) k.sender k.channel (xs k.sender k.channel) (ys k.sender k.channel)
   pub resolved : (m : ℕ) (c : List ℕ) (u : Luw) → ghost.operated m c u ≡ true → Mem (record { manager = m; did = did.Hardened c (notes.Resolved u true true) }) (deeds p)
   pub not_yet : (m : ℕ) (c : List ℕ) (u : Luw) → ghost.operated m c u ≡ true → is_committed s (opening_managers s hs) (deeds p) c u ≡ false
+  pub risen : (k : CableLine) → Mem k s.cables → (u : Luw) → is_committed s (opening_managers s hs) (deeds p) k.channel u ≡ true → Upto u (xs k.sender k.channel).receives.unit
   pub owned : (m : ℕ) (c : List ℕ) (u : Luw) → ghost.operated m c u ≡ true → (i : ℕ) × (k : CableLine) × (slice_get s.cables i ≡ Some k) × (k.sender ≡ m) × (k.channel ≡ c)
   pub at : (m : ℕ) (h : History) → slice_get hs m ≡ Some h → IsAt NoOther m given (node_after s m p h) (ledger (opening_ledger s hs) p)
   pub counted : (m : ℕ) (h : History) → slice_get hs m ≡ Some h → AreCountedAt (node_after s m p h).manager.numbers.connections m (ledger (opening_ledger s hs) p)
@@ -102,6 +104,7 @@ pub record MovesTo (s : Scenario) (hs : List History) (p : List Line) (x : Line)
   pub told : (k : CableLine) → Mem k s.cables → IsToldOf s (opening_managers s hs) (deeds (p ++ x ∷ [])) k.sender k.channel (xs k.sender k.channel) (ys k.sender k.channel)
   pub resolved : (m : ℕ) (c : List ℕ) (u : Luw) → ghost.operated m c u ≡ true → Mem (record { manager = m; did = did.Hardened c (notes.Resolved u true true) }) (deeds (p ++ x ∷ []))
   pub not_yet : (m : ℕ) (c : List ℕ) (u : Luw) → ghost.operated m c u ≡ true → is_committed s (opening_managers s hs) (deeds (p ++ x ∷ [])) c u ≡ false
+  pub risen : (k : CableLine) → Mem k s.cables → (u : Luw) → is_committed s (opening_managers s hs) (deeds (p ++ x ∷ [])) k.channel u ≡ true → Upto u (xs k.sender k.channel).receives.unit
   pub owned : (m : ℕ) (c : List ℕ) (u : Luw) → ghost.operated m c u ≡ true → (i : ℕ) × (k : CableLine) × (slice_get s.cables i ≡ Some k) × (k.sender ≡ m) × (k.channel ≡ c)
   pub at : IsAt NoOther x.manager given d.next l
   pub known : (i : Ident) → (i.manager == (node_after s x.manager p h).manager.given.number) ≡ false → given i ≡ z.given i

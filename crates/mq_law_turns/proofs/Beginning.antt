@@ -18,11 +18,11 @@ use Rattle.mq_law_rows.proofs.Lists.{is_false, mem_map, name_self, name_yes, tru
 use Rattle.mq_law_seen.proofs.Images.{pairs_chain}
 use Rattle.mq_law_turns.specs.Agreed.{IsToldOf}
 
-abbrev channel_named : CableLine → List ℕ
+abbrev pub channel_named : CableLine → List ℕ
 channel_named c = c.channel
 
 -- a cable is found by its channel
-found : (cs : List CableLine) (k : CableLine) → Mem k cs → Chain (λ (x y : List ℕ). x ≢ y) (map channel_named cs) → cable_named k.channel cs ≡ Some k
+pub found : (cs : List CableLine) (k : CableLine) → Mem k cs → Chain (λ (x y : List ℕ). x ≢ y) (map channel_named cs) → cable_named k.channel cs ≡ Some k
 found [] k n d = absurd n
 found (x ∷ cs) k (inl q) d = subst (λ (y : CableLine). (if bytes_eq k.channel y.channel then Some y else cable_named k.channel cs) ≡ Some k) q
     (λ i. if name_self k.channel i then Some k else cable_named k.channel cs)
