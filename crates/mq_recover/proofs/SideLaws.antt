@@ -1,10 +1,10 @@
 -- What is kept by channel, at its place in order of names.
-use Rattle.std.proofs.Common.{◌≡◌, ℕ, ◌≤◌, Bool, true, false, List, [], ◌∷◌, ◌++◌, refl, sym, ap, ◌∙◌, Some, None}
-use Rattle.std.specs.Prelude.{Option, map, option_map, if◌then◌else◌}
+use Rattle.std.proofs.Common.{◌≡◌, ℕ, Bool, true, false, List, [], ◌∷◌, refl, sym, ap, ◌∙◌}
+use Rattle.std.specs.Prelude.{map, option_map}
 use Rattle.std.specs.Str.{bytes_eq}
 use Rattle.std.specs.BTreeMap.{insert_entry, is_at}
 use Rattle.std.specs.Map.{lookup}
-use Rattle.std.specs.Ordering.{nat_cmp, is_eq, is_lt}
+use Rattle.std.specs.Ordering.{nat_cmp, is_eq}
 use Rattle.std.specs.Cmp.Lexicographic.{slice_cmp}
 use Rattle.std.specs.declared.cmp.Ordering.{Ordering}
 use Rattle.std.specs.declared.cmp.Ordering.TheVariants.{Less, Equal, Greater}
@@ -18,7 +18,7 @@ use Rattle.mq_sync.specs.Settlement.{sender_or}
 use Rattle.mq_calls.specs.declared.state.SenderSide.{SenderSide}
 use Rattle.mq_calls.specs.declared.state.ReceiverSide.{ReceiverSide}
 use Rattle.mq_spec_state.specs.Reads.{sender_in, receiver_in}
-use Rattle.mq_spec_state.specs.Changes.{set_named, comes_before, set_sender, set_receiver}
+use Rattle.mq_spec_state.specs.Changes.{set_named, set_sender, set_receiver}
 use Rattle.mq_recover.specs.declared.named.ByName.{ByName}
 use Rattle.mq_recover.specs.declared.kept.Kept.{Kept}
 use Rattle.mq_recover.specs.Kept.{name_cmp, key_named, blank_kept, hardened_of, sender_side, sender_sides, receiver_side, receiver_sides, HasSet}
