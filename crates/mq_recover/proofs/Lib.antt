@@ -1,4 +1,3 @@
-pub mod Edits
 pub mod SideLaws
+pub mod StrikeLaws
 pub mod WalkLaws
-pub mod ListedLaws

@@ -1,132 +1,101 @@
 -- What is kept by channel, at its place in order of names.
-use Rattle.std.proofs.Common.{◌≡◌, ℕ, suc, ◌+◌, ◌<◌, ◌≤◌, Bool, true, false, List, [], ◌∷◌, ◌++◌, refl, sym, ap, ◌∙◌, Some, None, length, get_or, slice_set, arith}
-use Rattle.std.specs.Prelude.{find, position, not, option_map}
-use Rattle.std.specs.List.{position_or_len, insert}
+use Rattle.std.proofs.Common.{◌≡◌, ℕ, Bool, true, false, List, [], ◌∷◌, refl, sym, ap, ◌∙◌}
+use Rattle.std.specs.Prelude.{map, option_map}
 use Rattle.std.specs.Str.{bytes_eq}
-use Rattle.std.proofs.Common.{Ordering, Less, Equal, Greater}
-use Rattle.std.specs.Ordering.{MatchOrdering, nat_cmp, ordering_then, is_lt, is_some_and}
-use Rattle.std.specs.Cmp.Lexicographic.{slice_cmp, slice_partial_cmp}
-use Rattle.std.proofs.lemmas.Cmp.{same_from_slice_cmp_tested}
-use Rattle.std.proofs.lemmas.Bool.Decides.{nat_tests}
-use Rattle.std.proofs.lemmas.List.{get_or_default}
-use Rattle.std.proofs.lemmas.List.Sums.{prefix_len-le-length}
-use Rattle.mq_sync.specs.declared.unit.Unit.{Unit as Luw}
-use Rattle.mq_sync.specs.Units.{unit_named, no_unit}
+use Rattle.std.specs.BTreeMap.{insert_entry, is_at}
+use Rattle.std.specs.Map.{lookup}
+use Rattle.std.specs.Ordering.{nat_cmp, is_eq}
+use Rattle.std.specs.Cmp.Lexicographic.{slice_cmp}
+use Rattle.std.specs.declared.cmp.Ordering.{Ordering}
+use Rattle.std.specs.declared.cmp.Ordering.TheVariants.{Less, Equal, Greater}
+use Rattle.std.proofs.lemmas.Map.Text.{is_eq-slice_cmp}
+use Rattle.std.proofs.lemmas.Slice.Eq.{bytes_eq-Decides}
+use Rattle.std.specs.Cmp.{Equal-is}
+use Rattle.mq_message.specs.declared.message.Ident.{Ident}
 use Rattle.mq_sync.specs.declared.data.SenderData.{SenderData}
 use Rattle.mq_sync.specs.declared.data.ReceiverData.{ReceiverData}
+use Rattle.mq_sync.specs.Settlement.{sender_or}
 use Rattle.mq_calls.specs.declared.state.SenderSide.{SenderSide}
 use Rattle.mq_calls.specs.declared.state.ReceiverSide.{ReceiverSide}
 use Rattle.mq_spec_state.specs.Reads.{sender_in, receiver_in}
-use Rattle.mq_spec_state.specs.Changes.{comes_before, set_named}
-use Rattle.mq_recover.specs.Recovering.{is_spot}
+use Rattle.mq_spec_state.specs.Changes.{set_named, set_sender, set_receiver}
+use Rattle.mq_recover.specs.declared.named.ByName.{ByName}
+use Rattle.mq_recover.specs.declared.kept.Kept.{Kept}
+use Rattle.mq_recover.specs.Kept.{name_cmp, key_named, blank_kept, hardened_of, sender_side, sender_sides, receiver_side, receiver_sides, HasSet}
 
-sender_step : (channel : List ℕ) (s : SenderSide) (ss : List SenderSide) (t : Bool) → bytes_eq channel s.channel ≡ t
-    → sender_in channel ss ≡ option_map (λ (s : SenderSide). s.hardened) (find (λ (s : SenderSide). bytes_eq channel s.channel) ss)
-    → sender_in channel (s ∷ ss) ≡ option_map (λ (s : SenderSide). s.hardened) (find (λ (s : SenderSide). bytes_eq channel s.channel) (s ∷ ss))
-sender_step channel s ss true e ih = rw e refl
-sender_step channel s ss false e ih = rw e ih
+same_name : (xs ys : List ℕ) → bytes_eq xs ys ≡ true → xs ≡ ys
+same_name xs ys e = (bytes_eq-Decides xs ys).0 e
 
-pub sender_found : (channel : List ℕ) (ss : List SenderSide) → sender_in channel ss ≡ option_map (λ (s : SenderSide). s.hardened) (find (λ (s : SenderSide). bytes_eq channel s.channel) ss)
-sender_found channel [] = refl
-sender_found channel (s ∷ ss) = sender_step channel s ss (bytes_eq channel s.channel) refl (sender_found channel ss)
+module _ {V A : Type 0} (name : A → List ℕ) (make : List ℕ → V → A) (is : (n : List ℕ) (v : V) → name (make n v) ≡ n) where
+  -- the entries as they are seen
+  abbrev pub made : List (ByName × V) → List A
+  made es = map (λ (e : ByName × V). make e.0.name e.1) es
 
-receiver_step : (channel : List ℕ) (s : ReceiverSide) (ss : List ReceiverSide) (t : Bool) → bytes_eq channel s.channel ≡ t
-    → receiver_in channel ss ≡ option_map (λ (s : ReceiverSide). s.hardened) (find (λ (s : ReceiverSide). bytes_eq channel s.channel) ss)
-    → receiver_in channel (s ∷ ss) ≡ option_map (λ (s : ReceiverSide). s.hardened) (find (λ (s : ReceiverSide). bytes_eq channel s.channel) (s ∷ ss))
-receiver_step channel s ss true e ih = rw e refl
-receiver_step channel s ss false e ih = rw e ih
+  step : (k : ByName) (v : V) (e : ByName × V) (es : List (ByName × V)) (o : Ordering) → slice_cmp nat_cmp k.name e.0.name ≡ o
+      → made (insert_entry name_cmp es k v) ≡ set_named name (make k.name v) (made es)
+      → made (insert_entry name_cmp (e ∷ es) k v) ≡ set_named name (make k.name v) (made (e ∷ es))
+  step k v e es Less f ih = rw (is k.name v, is e.0.name e.1, sym (is_eq-slice_cmp k.name e.0.name), f) refl
+  step k v e es Equal f ih =
+      let there : bytes_eq k.name e.0.name ≡ true = sym (is_eq-slice_cmp k.name e.0.name) ∙ ap is_eq f in
+      rw (is k.name v, is e.0.name e.1, sym (is_eq-slice_cmp k.name e.0.name), f) (ap (λ (n : List ℕ). make n v ∷ made es) (sym (same_name k.name e.0.name there)))
+  step k v e es Greater f ih = rw (is k.name v, is e.0.name e.1, sym (is_eq-slice_cmp k.name e.0.name), f) (ap (λ (xs : List A). make e.0.name e.1 ∷ xs) ih)
 
-pub receiver_found : (channel : List ℕ) (ss : List ReceiverSide) → receiver_in channel ss ≡ option_map (λ (s : ReceiverSide). s.hardened) (find (λ (s : ReceiverSide). bytes_eq channel s.channel) ss)
-receiver_found channel [] = refl
-receiver_found channel (s ∷ ss) = receiver_step channel s ss (bytes_eq channel s.channel) refl (receiver_found channel ss)
+  -- an entry comes in where one of its name is set
+  pub named_insert : (es : List (ByName × V)) (k : ByName) (v : V) → made (insert_entry name_cmp es k v) ≡ set_named name (make k.name v) (made es)
+  named_insert [] k v = refl
+  named_insert (e ∷ es) k v = step k v e es (slice_cmp nat_cmp k.name e.0.name) refl (named_insert es k v)
 
-insert_next : {A : Type 0} (x : A) (xs : List A) (i : ℕ) (y : A) → insert (x ∷ xs) (1 + i) y ≡ x ∷ insert xs i y
-insert_next x xs i y = let e : 1 + i ≡ suc i = omega arith in rw e refl
+module _ (k : ByName) (struck : Ident → ℕ) where
+  sender_step : (e : ByName × Kept) (es : List (ByName × Kept)) (t : Bool) → bytes_eq k.name e.0.name ≡ t → is_eq (slice_cmp nat_cmp k.name e.0.name) ≡ t
+      → sender_in k.name (sender_sides struck es) ≡ option_map (hardened_of struck) (lookup (is_at (name_cmp k)) es)
+      → sender_in k.name (sender_sides struck (e ∷ es)) ≡ option_map (hardened_of struck) (lookup (is_at (name_cmp k)) (e ∷ es))
+  sender_step e es true f g ih = rw (f, g) refl
+  sender_step e es false f g ih = rw (f, g) ih
 
-set_next : {A : Type 0} (x : A) (xs : List A) (i : ℕ) (y : A) → slice_set (x ∷ xs) (1 + i) y ≡ x ∷ slice_set xs i y
-set_next x xs i y = let e : 1 + i ≡ suc i = omega arith in rw e refl
+  -- what is kept of a sender is found by its name
+  pub sender_found : (es : List (ByName × Kept)) → sender_in k.name (sender_sides struck es) ≡ option_map (hardened_of struck) (lookup (is_at (name_cmp k)) es)
+  sender_found [] = refl
+  sender_found (e ∷ es) = sender_step e es (bytes_eq k.name e.0.name) refl (is_eq-slice_cmp k.name e.0.name) (sender_found es)
 
-get_next : {A : Type 0} (x : A) (xs : List A) (i : ℕ) (d : A) → get_or (x ∷ xs) (1 + i) d ≡ get_or xs i d
-get_next x xs i d = let e : 1 + i ≡ suc i = omega arith in rw e refl
+module _ (k : ByName) where
+  receiver_step : (e : ByName × ReceiverData) (es : List (ByName × ReceiverData)) (t : Bool) → bytes_eq k.name e.0.name ≡ t → is_eq (slice_cmp nat_cmp k.name e.0.name) ≡ t
+      → receiver_in k.name (receiver_sides es) ≡ lookup (is_at (name_cmp k)) es
+      → receiver_in k.name (receiver_sides (e ∷ es)) ≡ lookup (is_at (name_cmp k)) (e ∷ es)
+  receiver_step e es true f g ih = rw (f, g) refl
+  receiver_step e es false f g ih = rw (f, g) ih
 
-module _ {A : Type 0} (name : A → List ℕ) (new : A) where
-  abbrev spot : A → Bool
-  spot x = is_spot (name new) (name x)
+  pub receiver_found : (es : List (ByName × ReceiverData)) → receiver_in k.name (receiver_sides es) ≡ lookup (is_at (name_cmp k)) es
+  receiver_found [] = refl
+  receiver_found (e ∷ es) = receiver_step e es (bytes_eq k.name e.0.name) refl (is_eq-slice_cmp k.name e.0.name) (receiver_found es)
 
-  same-step : (x : A) (xs : List A) → (position_or_len spot xs < length xs → bytes_eq (name new) (name (get_or xs (position_or_len spot xs) new)) ≡ true → set_named name new xs ≡ slice_set xs (position_or_len spot xs) new)
-      → (t u : Bool) → bytes_eq (name new) (name x) ≡ t → comes_before (name new) (name x) ≡ u
-      → position_or_len spot (x ∷ xs) < length (x ∷ xs) → bytes_eq (name new) (name (get_or (x ∷ xs) (position_or_len spot (x ∷ xs)) new)) ≡ true
-      → set_named name new (x ∷ xs) ≡ slice_set (x ∷ xs) (position_or_len spot (x ∷ xs)) new
-  same-step x xs ih true u e f lt here = rw e refl
-  same-step x xs ih false true e f lt here = absurd (cc (rw (e, f) at here))
-  same-step x xs ih false false e f lt here =
-      let at_rest = rw (e, f, get_next x xs (position_or_len spot xs) new) at here in
-      let less : position_or_len spot xs < length xs = omega (arith, rw (e, f) at lt) in
-      rw (e, f) (ap (λ (ys : List A). x ∷ ys) (ih less at_rest) ∙ sym (set_next x xs (position_or_len spot xs) new))
+-- what comes in twice at one key is what came last
+module _ {V : Type 0} (k : ByName) (x y : V) where
+  key_itself : name_cmp k k ≡ Equal
+  key_itself = (Equal-is (name_cmp k k)).0 (is_eq-slice_cmp k.name k.name ∙ (bytes_eq-Decides k.name k.name).1 refl)
 
-  -- at the spot the one of its name is replaced
-  pub named_at : (xs : List A) → position_or_len spot xs < length xs → bytes_eq (name new) (name (get_or xs (position_or_len spot xs) new)) ≡ true → set_named name new xs ≡ slice_set xs (position_or_len spot xs) new
-  named_at [] lt here = absurd (omega arith)
-  named_at (x ∷ xs) lt here = same-step x xs (named_at xs) (bytes_eq (name new) (name x)) (comes_before (name new) (name x)) refl refl lt here
+  twice_step : (e : ByName × V) (es : List (ByName × V)) (o : Ordering) → name_cmp k e.0 ≡ o
+      → insert_entry name_cmp (insert_entry name_cmp es k x) k y ≡ insert_entry name_cmp es k y
+      → insert_entry name_cmp (insert_entry name_cmp (e ∷ es) k x) k y ≡ insert_entry name_cmp (e ∷ es) k y
+  twice_step e es Less f ih = rw (f, key_itself) refl
+  twice_step e es Equal f ih = rw (f, f) refl
+  twice_step e es Greater f ih = rw (f, f) (ap (λ (xs : List (ByName × V)). e ∷ xs) ih)
 
-  new-step : (x : A) (xs : List A) → ((position_or_len spot xs < length xs → bytes_eq (name new) (name (get_or xs (position_or_len spot xs) new)) ≡ false) → set_named name new xs ≡ insert xs (position_or_len spot xs) new)
-      → (t u : Bool) → bytes_eq (name new) (name x) ≡ t → comes_before (name new) (name x) ≡ u
-      → (position_or_len spot (x ∷ xs) < length (x ∷ xs) → bytes_eq (name new) (name (get_or (x ∷ xs) (position_or_len spot (x ∷ xs)) new)) ≡ false)
-      → set_named name new (x ∷ xs) ≡ insert (x ∷ xs) (position_or_len spot (x ∷ xs)) new
-  new-step x xs ih true u e f other =
-      let here = rw e at other in
-      absurd (cc (here (omega arith)))
-  new-step x xs ih false true e f other = rw (e, f) refl
-  new-step x xs ih false false e f other =
-      let there = rw (e, f, get_next x xs (position_or_len spot xs) new) at other in
-      rw (e, f) (ap (λ (ys : List A). x ∷ ys) (ih (λ less. there (omega (arith, less)))) ∙ sym (insert_next x xs (position_or_len spot xs) new))
+  pub insert_twice : (es : List (ByName × V)) → insert_entry name_cmp (insert_entry name_cmp es k x) k y ≡ insert_entry name_cmp es k y
+  insert_twice [] = rw key_itself refl
+  insert_twice (e ∷ es) = twice_step e es (name_cmp k e.0) refl (insert_twice es)
 
-  -- where there is none of its name it comes in there
-  pub named_new : (xs : List A) → (position_or_len spot xs < length xs → bytes_eq (name new) (name (get_or xs (position_or_len spot xs) new)) ≡ false) → set_named name new xs ≡ insert xs (position_or_len spot xs) new
-  named_new [] other = refl
-  named_new (x ∷ xs) other = new-step x xs (named_new xs) (bytes_eq (name new) (name x)) (comes_before (name new) (name x)) refl refl other
+-- what is taken out and put back changed is set
+pub sides_set : (struck : Ident → ℕ) (channel : List ℕ) (change : SenderData → SenderData) (old mid new : List (ByName × Kept)) (k0 k1 : Kept)
+    → mid ≡ insert_entry name_cmp old (key_named channel) blank_kept → new ≡ insert_entry name_cmp mid (key_named channel) k1
+    → hardened_of struck k0 ≡ sender_or (sender_in channel (sender_sides struck old)) → hardened_of struck k1 ≡ change (hardened_of struck k0)
+    → HasSet struck channel change old new
+sides_set struck channel change old mid new k0 k1 m n was now =
+    let at = key_named channel in
+    ap (sender_sides struck) (n ∙ ap (λ (es : List (ByName × Kept)). insert_entry name_cmp es at k1) m ∙ insert_twice at blank_kept k1 old)
+    ∙ named_insert (λ (s : SenderSide). s.channel) (λ (c : List ℕ) (k : Kept). sender_side struck (key_named c, k)) (λ c k. refl) old at k1
+    ∙ ap (λ (d : SenderData). set_sender (record { channel = channel; hardened = d }) (sender_sides struck old)) (now ∙ ap change was)
 
-  insert_end : (xs : List A) → insert xs (length xs) new ≡ xs ++ new ∷ []
-  insert_end [] = refl
-  insert_end (x ∷ xs) = ap (λ (ys : List A). x ∷ ys) (insert_end xs)
-
-  -- where a search finds the spot
-  pub spot_replaced : (xs : List A) (i : ℕ) (d : A) → position (λ (x : A). is_spot (name new) (name x)) xs ≡ Some i → bytes_eq (name new) (name (get_or xs i d)) ≡ true → slice_set xs i new ≡ set_named name new xs
-  spot_replaced xs i d e here =
-      let at : (i ≡ position_or_len spot xs) × (i < length xs) = grind (arith, nat_tests) in
-      let there : bytes_eq (name new) (name (get_or xs i new)) ≡ true = ap (λ (x : A). bytes_eq (name new) (name x)) (get_or_default xs i new d at.1) ∙ here in
-      ap (λ k. slice_set xs k new) at.0 ∙ sym (named_at xs (omega (arith, at.0, at.1)) (rw at.0 at there))
-
-  pub spot_taken : (xs : List A) (i : ℕ) (d : A) → position (λ (x : A). is_spot (name new) (name x)) xs ≡ Some i → bytes_eq (name new) (name (get_or xs i d)) ≡ false → insert xs i new ≡ set_named name new xs
-  spot_taken xs i d e here =
-      let at : (i ≡ position_or_len spot xs) × (i < length xs) = grind (arith, nat_tests) in
-      let there : bytes_eq (name new) (name (get_or xs i new)) ≡ false = ap (λ (x : A). bytes_eq (name new) (name x)) (get_or_default xs i new d at.1) ∙ here in
-      ap (λ k. insert xs k new) at.0 ∙ sym (named_new xs (λ less. rw at.0 at there))
-
-  pub spot_last : (xs : List A) → position (λ (x : A). is_spot (name new) (name x)) xs ≡ None → xs ++ new ∷ [] ≡ set_named name new xs
-  spot_last xs e =
-      let past : length xs ≤ position_or_len spot xs = grind (arith, nat_tests) in
-      let within = prefix_len-le-length (λ (x : A). not (spot x)) xs in
-      let whole : length xs ≡ position_or_len spot xs = omega (arith, past, within) in
-      sym (insert_end xs) ∙ ap (λ k. insert xs k new) whole ∙ sym (named_new xs (λ less. absurd (omega (arith, past, less))))
-
--- what a sender has hardened for which nothing was
-abbrev pub blank_sender : List ℕ → SenderData
-blank_sender partner = record { partner = partner; session = 0; last = 0; force = false; in_doubt = None }
-
--- the order of names
-lt_more : (x y : ℕ) (xs ys : List ℕ) (o : Ordering) → o ≡ nat_cmp x y → MatchOrdering o (comes_before (x ∷ xs) (y ∷ ys) ≡ is_lt Less) (comes_before (x ∷ xs) (y ∷ ys) ≡ comes_before xs ys) (comes_before (x ∷ xs) (y ∷ ys) ≡ is_lt Greater)
-lt_more x y xs ys Less h = ap (λ (q : Ordering). is_lt (ordering_then q (slice_cmp nat_cmp xs ys))) (sym h)
-lt_more x y xs ys Equal h = ap (λ (q : Ordering). is_lt (ordering_then q (slice_cmp nat_cmp xs ys))) (sym h)
-lt_more x y xs ys Greater h = ap (λ (q : Ordering). is_lt (ordering_then q (slice_cmp nat_cmp xs ys))) (sym h)
-
-pub lt_is : (xs ys : List ℕ) (r : Bool) → r ≡ is_some_and is_lt (slice_partial_cmp (λ x y. Some (nat_cmp x y)) xs ys) → r ≡ comes_before xs ys
-lt_is = same_from_slice_cmp_tested nat_cmp is_lt comes_before refl (λ _ _. refl) (λ _ _. refl) lt_more
-
--- the same of a receiver
-abbrev pub blank_of : List ℕ → Luw → ReceiverData
-blank_of partner unit = record { partner = partner; session = 0; closed = false; unit = unit; last = 0 }
-
-pub blank_receiver_is : (partner : List ℕ) (unit : Luw) → partner ≡ [] → unit.session ≡ 0 → unit.n ≡ 0 → blank_of partner unit ≡ blank_of [] no_unit
-blank_receiver_is partner unit p s n =
-    ap (λ (x : List ℕ). blank_of x unit) p ∙ ap (λ (x : ℕ). blank_of [] (unit_named x unit.n)) s ∙ ap (λ (x : ℕ). blank_of [] (unit_named 0 x)) n
+pub receivers_set : (channel : List ℕ) (d : ReceiverData) (old new : List (ByName × ReceiverData)) → new ≡ insert_entry name_cmp old (key_named channel) d
+    → receiver_sides new ≡ set_receiver (record { channel = channel; hardened = d }) (receiver_sides old)
+receivers_set channel d old new n =
+    ap receiver_sides n ∙ named_insert (λ (s : ReceiverSide). s.channel) (λ (c : List ℕ) (k : ReceiverData). receiver_side (key_named c, k)) (λ c k. refl) old (key_named channel) d

@@ -1,3 +1,3 @@
 pub mod Recovering
 pub mod Found
-pub mod Listed
+pub mod Kept

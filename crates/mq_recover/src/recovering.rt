@@ -1,19 +1,23 @@
 //! What a log has told so far.
-ghost use Rattle.std.specs.Prelude.{◌≡◌, IfOk, OnOk};
-ghost use Rattle.mq_spec_log.specs.Applies.{can_add, can_remove, can_add_all, can_remove_all};
+ghost use Rattle.std.specs.Prelude.{◌≡◌, Some, is_some, IfOk, OnOk};
+ghost use Rattle.mq_calls.specs.declared.records.LogRecord.TheVariants as records;
+ghost use Rattle.mq_sync.specs.declared.data.End.TheVariants as ends;
+ghost use Rattle.mq_sync.specs.Settlement.{data_prepared, data_settled, settle_by};
+ghost use Rattle.mq_spec_log.specs.Records.{doing, set_number};
+ghost use Rattle.mq_spec_log.specs.Applies.{is_unit_in_doubt, can_add, can_remove, can_add_all, can_remove_all};
 ghost use Rattle.mq_spec_log.specs.Bodies.{empty_image};
 ghost use Rattle.mq_spec_log.specs.Shelves.{added, removed, added_all, removed_all, sender_at, receiver_at, with_sender, with_receiver};
 ghost use Rattle.mq_recover.specs.Recovering.{seen, Does};
 
 use crate::objects::{copy_definitions, fits, lane_on};
+use crate::receivers::Receivers;
 use crate::senders::Senders;
-use crate::sides;
 use mq_base::{Items, NoMemory};
-use mq_calls::{Add, Image, ReceiverSide, Remove};
-use mq_name::ChName;
+use mq_calls::{Add, Image, Remove};
+use mq_name::{ChName, QName};
 use mq_objects::Defs;
 use mq_shelves::Shelves;
-use mq_sync::{ReceiverData, SenderData};
+use mq_sync::{InDoubt, ReceiverData, Unit};
 use std::alloc::Global;
 
 /// What a log has told so far.
@@ -26,7 +30,7 @@ pub struct Recovering {
     /// What senders have hardened, in order of the channels' names.
     pub senders: Senders,
     /// What receivers have hardened, in order of the channels' names.
-    pub receivers: Items<ReceiverSide>,
+    pub receivers: Receivers,
     /// The greatest incarnation that was started, 0 for none.
     pub incarnation: u64,
 }
@@ -40,7 +44,7 @@ impl Recovering {
             defs: Defs::new(alloc),
             shelves: Shelves::new(alloc),
             senders: Senders::new(alloc),
-            receivers: Items::new(alloc),
+            receivers: Receivers::new(alloc),
             incarnation: 0,
         }
     }
@@ -51,41 +55,78 @@ impl Recovering {
     {
         let definitions = copy_definitions(alloc, &self.defs)?;
         let shelves = self.shelves.into_shelves(alloc)?;
+        let senders = self.senders.into_sides(alloc)?;
+        let receivers = self.receivers.into_sides(alloc)?;
         Ok(Image {
             definitions,
             shelves,
-            senders: self.senders.into_sides(),
-            receivers: self.receivers,
+            senders,
+            receivers,
             incarnation: self.incarnation,
         })
     }
 
-    /// What the sender of a channel has hardened.
-    pub fn sender_at(&self, alloc: Global, channel: &ChName) -> Result<SenderData, NoMemory>
-        ensures { IfOk result (λ d. d ≡ sender_at channel.now (seen self.now)) }
+    /// The session that the sender of a channel has hardened, 0 for none.
+    pub fn session_of(&self, channel: &ChName) -> u64
+        ensures { result ≡ (sender_at channel.now (seen self.now)).session }
     {
-        self.senders.at(alloc, channel)
+        self.senders.session_of(channel)
+    }
+
+    /// Whether the sender of a channel has a unit in doubt.
+    pub fn is_in_doubt(&self, channel: &ChName) -> bool
+        ensures { result ≡ is_some (sender_at channel.now (seen self.now)).in_doubt }
+    {
+        self.senders.is_in_doubt(channel)
+    }
+
+    /// Whether the sender of a channel has that unit in doubt.
+    pub fn is_unit_in_doubt(&self, channel: &ChName, unit: Unit) -> bool
+        ensures { result ≡ is_unit_in_doubt unit (sender_at channel.now (seen self.now)).in_doubt }
+    {
+        self.senders.is_unit_in_doubt(channel, unit)
+    }
+
+    /// The sender of a channel has begun a session.
+    pub fn begin(&mut self, channel: ChName, partner: QName, session: u64) -> Result<(), NoMemory>
+        ensures { OnOk result (seen self.new ≡ doing (records.Session channel partner session) (seen self.old)) }
+    {
+        self.senders.begin(channel, partner, session)
+    }
+
+    /// The sender of a channel has a unit in doubt.
+    pub fn doubt(&mut self, channel: ChName, doubt: InDoubt) -> Result<(), NoMemory>
+        ensures { OnOk result (seen self.new ≡ with_sender channel (data_prepared doubt (sender_at channel (seen self.old))) (seen self.old)) }
+    {
+        self.senders.prepare(channel, doubt)
+    }
+
+    /// The unit in doubt of a channel's sender is settled, its rows apart.
+    pub fn settle(&mut self, channel: ChName, commit: bool) -> Result<(), NoMemory>
+        ensures { OnOk result (seen self.new ≡ with_sender channel (data_settled (Some (settle_by commit)) (sender_at channel (seen self.old))) (seen self.old)) }
+    {
+        self.senders.settle(channel, commit)
+    }
+
+    /// The sender of a channel has been given a last number by an operator.
+    pub fn number(&mut self, channel: ChName, last: u32) -> Result<(), NoMemory>
+        ensures { OnOk result (seen self.new ≡ set_number ends.Sender last channel (seen self.old)) }
+    {
+        self.senders.number(channel, last)
     }
 
     /// What the receiver of a channel has hardened.
     pub fn receiver_at(&self, channel: &ChName) -> ReceiverData
         ensures { result ≡ receiver_at channel.now (seen self.now) }
     {
-        sides::receiver_at(&self.receivers, channel)
-    }
-
-    /// The sender of a channel has hardened this.
-    pub fn set_sender(&mut self, channel: ChName, hardened: SenderData) -> Result<(), NoMemory>
-        ensures { OnOk result (seen self.new ≡ with_sender channel hardened (seen self.old)) }
-    {
-        self.senders.set(channel, hardened)
+        self.receivers.at(channel)
     }
 
     /// The receiver of a channel has hardened this.
     pub fn set_receiver(&mut self, channel: ChName, hardened: ReceiverData) -> Result<(), NoMemory>
         ensures { OnOk result (seen self.new ≡ with_receiver channel hardened (seen self.old)) }
     {
-        sides::set_receiver(&mut self.receivers, ReceiverSide { channel, hardened })
+        self.receivers.set(channel, hardened)
     }
 
     /// A message is placed, where it fits its queue and no free row has its ident. A held row of its ident goes.
@@ -96,7 +137,7 @@ impl Recovering {
         if !fits(&self.defs, &queue, &message) || self.shelves.stands_on(&message.ident) {
             return Ok(false);
         }
-        self.senders.strike(&message.ident);
+        self.senders.strike(&message.ident)?;
         let lane = lane_on(&self.defs, &queue, &message);
         self.shelves.replace(alloc, &queue, lane, message)?;
         Ok(true)

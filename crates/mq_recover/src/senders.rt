@@ -1,66 +1,74 @@
-//! What the senders of channels have hardened, with the idents that some unit in doubt has listed.
-ghost use Rattle.std.specs.Prelude.{◌≡◌, [], true, OnOk, IfOk};
-ghost use Rattle.std.specs.List.{list_any};
-ghost use Rattle.mq_message.specs.declared.message.Ident.{Ident};
-ghost use Rattle.mq_queue.specs.Rows.{same_ident};
+//! What the senders of channels have hardened.
+ghost use Rattle.std.specs.Prelude.{◌≡◌, [], true, Some, is_some, OnOk, IfOk};
+ghost use Rattle.mq_sync.specs.declared.data.SenderData.{SenderData};
+ghost use Rattle.mq_sync.specs.Settlement.{sender_or, data_prepared, data_settled, settle_by};
 ghost use Rattle.mq_spec_state.specs.Reads.{sender_in};
 ghost use Rattle.mq_spec_state.specs.Changes.{set_sender, off_lists};
-ghost use Rattle.mq_sync.specs.Settlement.{sender_or};
-ghost use Rattle.mq_shelves.specs.Spots.{is_met};
-ghost use Rattle.mq_recover.specs.Listed.{IsListed};
+ghost use Rattle.mq_spec_log.specs.Applies.{is_unit_in_doubt};
+ghost use Rattle.mq_recover.specs.Kept.{struck_at, sender_sides};
 
+use crate::kept::Kept;
+use crate::named::ByName;
 use crate::sides;
+use crate::strikes::{is_known, know_each, left_of, strike};
 use indexmap::IndexMap;
 use mq_base::{Items, NoMemory};
 use mq_calls::SenderSide;
 use mq_message::Ident;
-use mq_name::ChName;
-use mq_shelves::{IdentKey, is_met, meet};
-use mq_sync::{InDoubt, SenderData};
+use mq_name::{ChName, QName};
+use mq_shelves::IdentKey;
+use mq_sync::{InDoubt, SenderData, Unit};
 use std::alloc::Global;
+use std::collections::BTreeMap;
 use std::marker::Model;
 
-// Notes idents; those that were noted stay so.
-fn note_each(met: &mut IndexMap<IdentKey, bool>, idents: &[Ident]) -> Result<(), NoMemory>
-    ensures noted { OnOk result ((other : Ident) → list_any (λ (ident : Ident). same_ident ident other) idents.now ≡ true → is_met met.new other ≡ true) }
-    ensures kept { (other : Ident) → is_met met.old other ≡ true → is_met met.new other ≡ true }
+// The list of those that are left.
+fn sides_left(
+    alloc: Global,
+    struck: &IndexMap<IdentKey, u64>,
+    sides: BTreeMap<ByName, Kept>,
+) -> Result<Items<SenderSide>, NoMemory>
+    ensures { IfOk result (λ found. found ≡ sender_sides (struck_at struck.now) sides.entries) }
 {
-    for ident in idents {
-        meet(met, ident)?;
+    let mut found = Items::new(alloc);
+    let mut left = sides;
+    while let Some((key, kept)) = left.pop_first() {
+        let hardened = kept.hardened;
+        let hardened = SenderData {
+            partner: hardened.partner,
+            session: hardened.session,
+            last: hardened.last,
+            force: hardened.force,
+            in_doubt: left_of(struck, kept.since, hardened.in_doubt),
+        };
+        found.push(SenderSide {
+            channel: key.name,
+            hardened,
+        })?;
     }
-    Ok(())
-}
-
-// Notes the idents that a unit in doubt lists.
-fn note_doubt(met: &mut IndexMap<IdentKey, bool>, doubt: &Option<InDoubt>) -> Result<(), NoMemory>
-    ensures noted { OnOk result (IsListed (is_met met.new) doubt.now) }
-    ensures kept { (other : Ident) → is_met met.old other ≡ true → is_met met.new other ≡ true }
-{
-    match doubt {
-        None => Ok(()),
-        Some(doubt) => note_each(met, doubt.idents.as_slice()),
-    }
+    Ok(found)
 }
 
 /// What the senders of channels have hardened. Contracts see it as a list in order of the channels' names.
 #[derive(Drop)]
 pub struct Senders {
-    sides: Items<SenderSide>,
-    // The idents that some unit in doubt has listed; of another none need be looked for in the lists.
-    listed: IndexMap<IdentKey, bool>,
+    sides: BTreeMap<ByName, Kept>,
+    // When idents were struck; of another than these none need be looked for in the lists.
+    struck: IndexMap<IdentKey, u64>,
+    // How many strikes there were.
+    clock: u64,
 }
 
 impl Model for Senders {
     ghost use Rattle.std.specs.Prelude.{List};
     ghost use Rattle.mq_calls.specs.declared.state.SenderSide.{SenderSide};
-    ghost use Rattle.mq_shelves.specs.Spots.{is_met};
-    ghost use Rattle.mq_recover.specs.Listed.{AreListed};
+    ghost use Rattle.mq_recover.specs.Kept.{struck_at, is_known, sender_sides, AreKept};
 
     ghost Value = { List SenderSide };
 
-    ghost view = { λ s. s.sides };
+    ghost view = { λ s. sender_sides (struck_at s.struck) s.sides.entries };
 
-    ghost invariant = { λ s. AreListed (is_met s.listed) s.sides };
+    ghost invariant = { λ s. AreKept (is_known s.struck) (struck_at s.struck) s.clock s.sides.entries };
 }
 
 impl Senders {
@@ -69,39 +77,82 @@ impl Senders {
         ensures { result ≡ [] }
     {
         Senders {
-            sides: Items::new(alloc),
-            listed: IndexMap::new(alloc),
+            sides: BTreeMap::new(alloc),
+            struck: IndexMap::new(alloc),
+            clock: 0,
         }
     }
 
-    /// What the sender of a channel has hardened; what a new one has where there is none.
-    pub fn at(&self, alloc: Global, channel: &ChName) -> Result<SenderData, NoMemory>
-        ensures { IfOk result (λ d. d ≡ sender_or (sender_in channel.now self.now)) }
+    /// The session that the sender of a channel has hardened, 0 for none.
+    pub fn session_of(&self, channel: &ChName) -> u64
+        ensures { result ≡ (sender_or (sender_in channel.now self.now)).session }
     {
-        sides::sender_at(alloc, &self.sides, channel)
+        sides::session_of(&self.sides, channel)
     }
 
-    /// The sender of a channel has hardened this.
-    pub fn set(&mut self, channel: ChName, hardened: SenderData) -> Result<(), NoMemory>
-        ensures { OnOk result (self.new ≡ set_sender (record { channel = channel; hardened = hardened }) self.old) }
+    /// Whether the sender of a channel has a unit in doubt.
+    pub fn is_in_doubt(&self, channel: &ChName) -> bool
+        ensures { result ≡ is_some (sender_or (sender_in channel.now self.now)).in_doubt }
     {
-        note_doubt(&mut self.listed, &hardened.in_doubt)?;
-        sides::set_sender(&mut self.sides, SenderSide { channel, hardened })
+        sides::is_in_doubt(&self.sides, channel)
+    }
+
+    /// Whether the sender of a channel has that unit in doubt.
+    pub fn is_unit_in_doubt(&self, channel: &ChName, unit: Unit) -> bool
+        ensures { result ≡ is_unit_in_doubt unit (sender_or (sender_in channel.now self.now)).in_doubt }
+    {
+        sides::is_unit_in_doubt(&self.sides, channel, unit)
+    }
+
+    /// The sender of a channel has begun a session.
+    pub fn begin(&mut self, channel: ChName, partner: QName, session: u64) -> Result<(), NoMemory>
+        ensures { OnOk result (self.new ≡ set_sender (record { channel = channel; hardened = record (sender_or (sender_in channel self.old)) { partner = partner; session = session } }) self.old) }
+    {
+        sides::begin(&mut self.sides, channel, partner, session)
+    }
+
+    /// The sender of a channel has a unit in doubt.
+    pub fn prepare(&mut self, channel: ChName, doubt: InDoubt) -> Result<(), NoMemory>
+        ensures { OnOk result (self.new ≡ set_sender (record { channel = channel; hardened = data_prepared doubt (sender_or (sender_in channel self.old)) }) self.old) }
+    {
+        know_each(&mut self.struck, doubt.idents.as_slice())?;
+        sides::prepare(&mut self.sides, channel, doubt, self.clock)
+    }
+
+    /// The unit in doubt of a channel's sender is settled.
+    pub fn settle(&mut self, channel: ChName, commit: bool) -> Result<(), NoMemory>
+        ensures { OnOk result (self.new ≡ set_sender (record { channel = channel; hardened = data_settled (Some (settle_by commit)) (sender_or (sender_in channel self.old)) }) self.old) }
+    {
+        sides::settle(&mut self.sides, channel, commit)
+    }
+
+    /// The sender of a channel has been given a last number by an operator.
+    pub fn number(&mut self, channel: ChName, last: u32) -> Result<(), NoMemory>
+        ensures { OnOk result (self.new ≡ set_sender (record { channel = channel; hardened = record (sender_or (sender_in channel self.old)) { last = last; force = true } }) self.old) }
+    {
+        sides::number(&mut self.sides, channel, last)
     }
 
     /// An ident goes off the list of each unit in doubt.
-    pub fn strike(&mut self, ident: &Ident)
-        ensures { self.new ≡ off_lists ident.now self.old }
+    pub fn strike(&mut self, ident: &Ident) -> Result<(), NoMemory>
+        ensures { OnOk result (self.new ≡ off_lists ident.now self.old) }
     {
-        if is_met(&self.listed, ident) {
-            sides::strike_all(&mut self.sides, ident);
+        if !is_known(&self.struck, ident) {
+            return Ok(());
         }
+        let Some(number) = self.clock.checked_add(1) else {
+            return Err(NoMemory);
+        };
+        strike(&mut self.struck, ident, number)?;
+        self.clock = number;
+        Ok(())
     }
 
     /// All of them.
-    pub fn into_sides(self) -> Items<SenderSide>
-        ensures { result ≡ self }
+    pub fn into_sides(self, alloc: Global) -> Result<Items<SenderSide>, NoMemory>
+        ensures { IfOk result (λ sides. sides ≡ self) }
     {
-        self.sides
+        let struck = self.struck;
+        sides_left(alloc, &struck, self.sides)
     }
 }

@@ -1,235 +1,171 @@
-//! What the ends of channels have hardened, in order of the channels' names.
-ghost use Rattle.std.specs.Prelude.{◌≡◌, ◌<◌, Some, not, OnOk, OnErr, IfOk, IfSome, filter, find, length, position, option_copied};
-ghost use Rattle.std.specs.Str.{bytes_eq};
+//! What is kept of senders by the channels' names: each change of what one has hardened.
+ghost use Rattle.std.specs.Prelude.{◌≡◌, ℕ, ◌≤◌, Bool, true, Some, option_copied, option_map, is_some, OnOk, OnErr, IfOk};
+ghost use Rattle.std.specs.BTreeMap.{insert_entry};
 ghost use Rattle.mq_message.specs.declared.message.Ident.{Ident};
-ghost use Rattle.mq_queue.specs.Rows.{same_ident};
-ghost use Rattle.mq_spec_state.specs.Reads.{sender_in, receiver_in};
-ghost use Rattle.mq_spec_state.specs.Changes.{comes_before, set_sender, set_receiver, less_ident, off_list, off_lists};
-ghost use Rattle.mq_sync.specs.Settlement.{sender_or, receiver_or};
-ghost use Rattle.mq_calls.specs.declared.state.SenderSide.{SenderSide};
-ghost use Rattle.mq_calls.specs.declared.state.ReceiverSide.{ReceiverSide};
-ghost use Rattle.mq_recover.specs.Recovering.{is_spot};
+ghost use Rattle.mq_spec_state.specs.Reads.{sender_in};
+ghost use Rattle.mq_spec_log.specs.Applies.{is_unit_in_doubt};
+ghost use Rattle.mq_sync.specs.declared.data.SenderData.{SenderData};
+ghost use Rattle.mq_sync.specs.Settlement.{sender_or, data_prepared, data_settled, settle_by};
+ghost use Rattle.mq_recover.specs.Kept.{name_cmp, key_named, blank_kept, hardened_of, sender_sides, IsKept, EachKept, IsListed, HasSet};
 
-use mq_base::{Items, NoMemory};
-use mq_calls::{ReceiverSide, SenderSide};
-use mq_message::Ident;
+use crate::kept::Kept;
+use crate::named::ByName;
+use mq_base::NoMemory;
 use mq_name::{ChName, QName};
-use mq_sync::{InDoubt, ReceiverData, SenderData, Unit};
-use std::alloc::Global;
-use std::mem;
+use mq_sync::{InDoubt, SenderData, Unit};
+use std::collections::BTreeMap;
 
-fn copy_doubt(alloc: Global, doubt: &Option<InDoubt>) -> Result<Option<InDoubt>, NoMemory>
-    ensures { IfOk result (λ d. d ≡ doubt.now) }
+fn kept_of<'a>(sides: &'a BTreeMap<ByName, Kept>, channel: &ChName) -> Option<&'a Kept>
+    ensures { (struck : Ident → ℕ) → sender_in channel.now (sender_sides struck sides.now.entries) ≡ option_map (hardened_of struck) (option_copied result) }
 {
-    match doubt {
-        None => Ok(None),
-        Some(doubt) => {
-            let idents = Items::from_slice(alloc, doubt.idents.as_slice())?;
-            Ok(Some(InDoubt {
-                unit: doubt.unit,
-                queue: doubt.queue,
-                idents,
-                last: doubt.last,
-            }))
-        }
+    sides.get(&ByName { name: *channel })
+}
+
+/// The session that the sender of a channel has hardened, 0 for none.
+pub fn session_of(sides: &BTreeMap<ByName, Kept>, channel: &ChName) -> u64
+    ensures { (struck : Ident → ℕ) → result ≡ (sender_or (sender_in channel.now (sender_sides struck sides.now.entries))).session }
+{
+    match kept_of(sides, channel) {
+        None => 0,
+        Some(kept) => kept.hardened.session,
     }
 }
 
-fn copy_sender(alloc: Global, data: &SenderData) -> Result<SenderData, NoMemory>
-    ensures { IfOk result (λ d. d ≡ data.now) }
+/// Whether the sender of a channel has a unit in doubt.
+pub fn is_in_doubt(sides: &BTreeMap<ByName, Kept>, channel: &ChName) -> bool
+    ensures { (struck : Ident → ℕ) → result ≡ is_some (sender_or (sender_in channel.now (sender_sides struck sides.now.entries))).in_doubt }
 {
-    let in_doubt = copy_doubt(alloc, &data.in_doubt)?;
-    Ok(SenderData {
-        partner: data.partner,
-        session: data.session,
-        last: data.last,
-        force: data.force,
-        in_doubt,
-    })
+    match kept_of(sides, channel) {
+        None => false,
+        Some(kept) => kept.hardened.in_doubt.is_some(),
+    }
 }
 
-fn find_sender<'a>(sides: &'a [SenderSide], channel: &ChName) -> Option<&'a SenderSide>
-    ensures { option_copied result ≡ find (λ (s : SenderSide). bytes_eq channel.now s.channel) sides.now }
+fn is_unit(unit: Unit, doubt: &Option<InDoubt>) -> bool
+    ensures { result ≡ is_unit_in_doubt unit doubt.now }
 {
-    sides.iter().find(|side| *channel == side.channel)
+    match doubt {
+        None => false,
+        Some(doubt) => doubt.unit.session == unit.session && doubt.unit.n == unit.n,
+    }
 }
 
-/// What the sender of a channel has hardened; what a new one has where there is none.
-pub fn sender_at(
-    alloc: Global,
-    sides: &Items<SenderSide>,
-    channel: &ChName,
-) -> Result<SenderData, NoMemory>
-    ensures { IfOk result (λ d. d ≡ sender_or (sender_in channel.now sides.now)) }
+/// Whether the sender of a channel has that unit in doubt.
+pub fn is_unit_in_doubt(sides: &BTreeMap<ByName, Kept>, channel: &ChName, unit: Unit) -> bool
+    ensures { (struck : Ident → ℕ) → result ≡ is_unit_in_doubt unit (sender_or (sender_in channel.now (sender_sides struck sides.now.entries))).in_doubt }
 {
-    match find_sender(sides.as_slice(), channel) {
-        None => Ok(SenderData {
+    match kept_of(sides, channel) {
+        None => false,
+        Some(kept) => is_unit(unit, &kept.hardened.in_doubt),
+    }
+}
+
+fn blank() -> Kept
+    ensures { result ≡ blank_kept }
+{
+    Kept {
+        hardened: SenderData {
             partner: QName::blank(),
             session: 0,
             last: 0,
             force: false,
             in_doubt: None,
-        }),
-        Some(side) => copy_sender(alloc, &side.hardened),
-    }
-}
-
-fn copy_receiver(data: &ReceiverData) -> ReceiverData
-    ensures { result ≡ data.now }
-{
-    ReceiverData {
-        partner: data.partner,
-        session: data.session,
-        closed: data.closed,
-        unit: data.unit,
-        last: data.last,
-    }
-}
-
-fn find_receiver<'a>(sides: &'a [ReceiverSide], channel: &ChName) -> Option<&'a ReceiverSide>
-    ensures { option_copied result ≡ find (λ (s : ReceiverSide). bytes_eq channel.now s.channel) sides.now }
-{
-    sides.iter().find(|side| *channel == side.channel)
-}
-
-/// What the receiver of a channel has hardened; what a new one has where there is none.
-pub fn receiver_at(sides: &Items<ReceiverSide>, channel: &ChName) -> ReceiverData
-    ensures { result ≡ receiver_or (receiver_in channel.now sides.now) }
-{
-    match find_receiver(sides.as_slice(), channel) {
-        None => ReceiverData {
-            partner: QName::blank(),
-            session: 0,
-            closed: false,
-            unit: Unit::none(),
-            last: 0,
         },
-        Some(side) => copy_receiver(&side.hardened),
+        since: 0,
     }
 }
 
-/// Whether a channel's name comes before another in the order of bytes.
-fn comes_before(a: &ChName, b: &ChName) -> bool
-    ensures { result ≡ comes_before a.now b.now }
+// What is kept for a channel; a blank stands for it meanwhile.
+fn take(sides: &mut BTreeMap<ByName, Kept>, channel: ChName) -> Result<Kept, NoMemory>
+    ensures was { IfOk result (λ k. (struck : Ident → ℕ) → hardened_of struck k ≡ sender_or (sender_in channel (sender_sides struck sides.old.entries))) }
+    ensures kept { (known : Ident → Bool) (clock : ℕ) → EachKept known clock sides.old.entries → IfOk result (IsKept known clock) }
+    ensures ok { OnOk result (sides.new.entries ≡ insert_entry name_cmp sides.old.entries (key_named channel) blank_kept) }
+    ensures err { OnErr result (sides.new.entries ≡ sides.old.entries) }
 {
-    a.text() < b.text()
-}
-
-/// Whether a channel's name is another, or comes before it in the order of bytes.
-fn is_spot(name: &ChName, there: &ChName) -> bool
-    ensures { result ≡ is_spot name.now there.now }
-{
-    *name == *there || comes_before(name, there)
-}
-
-fn sender_spot(sides: &[SenderSide], name: &ChName) -> Option<usize>
-    ensures place { result ≡ position (λ (s : SenderSide). is_spot name.now s.channel) sides.now }
-    ensures within { IfSome result (λ at. at < length sides.now) }
-{
-    sides.iter().position(|side| is_spot(name, &side.channel))
-}
-
-fn receiver_spot(sides: &[ReceiverSide], name: &ChName) -> Option<usize>
-    ensures place { result ≡ position (λ (s : ReceiverSide). is_spot name.now s.channel) sides.now }
-    ensures within { IfSome result (λ at. at < length sides.now) }
-{
-    sides.iter().position(|side| is_spot(name, &side.channel))
-}
-
-fn set_sender_at(sides: &mut Items<SenderSide>, at: usize, side: SenderSide) -> Result<(), NoMemory>
-    requires place { position (λ (s : SenderSide). is_spot side.channel s.channel) sides.old ≡ Some at }
-    requires within { at < length sides.old }
-    ensures ok { OnOk result (sides.new ≡ set_sender side sides.old) }
-    ensures err { OnErr result (sides.new ≡ sides.old) }
-{
-    if side.channel == sides.as_slice()[at].channel {
-        *sides.at_mut(at) = side;
-        return Ok(());
+    let before = sides.insert(ByName { name: channel }, blank())?;
+    match before {
+        None => Ok(blank()),
+        Some(kept) => Ok(kept),
     }
-    sides.insert(at, side)?;
+}
+
+// This is kept for a channel.
+fn put(sides: &mut BTreeMap<ByName, Kept>, channel: ChName, kept: Kept) -> Result<(), NoMemory>
+    ensures ok { OnOk result (sides.new.entries ≡ insert_entry name_cmp sides.old.entries (key_named channel) kept) }
+    ensures err { OnErr result (sides.new.entries ≡ sides.old.entries) }
+{
+    sides.insert(ByName { name: channel }, kept)?;
     Ok(())
 }
 
-/// The data of a sender take the place of those of its channel, or theirs in order of names.
-pub fn set_sender(sides: &mut Items<SenderSide>, side: SenderSide) -> Result<(), NoMemory>
-    ensures ok { OnOk result (sides.new ≡ set_sender side sides.old) }
-    ensures err { OnErr result (sides.new ≡ sides.old) }
-{
-    match sender_spot(sides.as_slice(), &side.channel) {
-        None => {
-            sides.push(side)?;
-            Ok(())
-        }
-        Some(at) => set_sender_at(sides, at, side),
-    }
-}
-
-fn set_receiver_at(
-    sides: &mut Items<ReceiverSide>,
-    at: usize,
-    side: ReceiverSide,
+/// The sender of a channel has begun a session.
+pub fn begin(
+    sides: &mut BTreeMap<ByName, Kept>,
+    channel: ChName,
+    partner: QName,
+    session: u64,
 ) -> Result<(), NoMemory>
-    requires place { position (λ (s : ReceiverSide). is_spot side.channel s.channel) sides.old ≡ Some at }
-    requires within { at < length sides.old }
-    ensures { OnOk result (sides.new ≡ set_receiver side sides.old) }
+    ensures ok { OnOk result ((struck : Ident → ℕ) → HasSet struck channel (λ (d : SenderData). record d { partner = partner; session = session }) sides.old.entries sides.new.entries) }
+    ensures kept { (known : Ident → Bool) (clock : ℕ) → EachKept known clock sides.old.entries → EachKept known clock sides.new.entries }
 {
-    if side.channel == sides.as_slice()[at].channel {
-        *sides.at_mut(at) = side;
-        return Ok(());
-    }
-    sides.insert(at, side)?;
-    Ok(())
+    let mut kept = take(sides, channel)?;
+    kept.hardened.partner = partner;
+    kept.hardened.session = session;
+    put(sides, channel, kept)
 }
 
-/// The data of a receiver take the place of those of its channel, or theirs in order of names.
-pub fn set_receiver(sides: &mut Items<ReceiverSide>, side: ReceiverSide) -> Result<(), NoMemory>
-    ensures { OnOk result (sides.new ≡ set_receiver side sides.old) }
+/// The sender of a channel has a unit in doubt, behind so many strikes.
+pub fn prepare(
+    sides: &mut BTreeMap<ByName, Kept>,
+    channel: ChName,
+    doubt: InDoubt,
+    since: u64,
+) -> Result<(), NoMemory>
+    ensures ok { OnOk result ((struck : Ident → ℕ) → ((ident : Ident) → struck ident ≤ since) → HasSet struck channel (data_prepared doubt) sides.old.entries sides.new.entries) }
+    ensures kept { (known : Ident → Bool) → IsListed known (Some doubt) → EachKept known since sides.old.entries → EachKept known since sides.new.entries }
 {
-    match receiver_spot(sides.as_slice(), &side.channel) {
-        None => {
-            sides.push(side)?;
-            Ok(())
-        }
-        Some(at) => set_receiver_at(sides, at, side),
-    }
+    let mut kept = take(sides, channel)?;
+    kept.hardened.force = false;
+    kept.hardened.in_doubt = Some(doubt);
+    kept.since = since;
+    put(sides, channel, kept)
 }
 
-fn drop_ident(idents: &mut Vec<Ident>, ident: &Ident)
-    ensures { idents.new.items ≡ filter (λ (other : Ident). not (same_ident ident.now other)) idents.old.items }
+fn last_settled(hardened: &SenderData, commit: bool) -> u32
+    ensures { result ≡ (data_settled (Some (settle_by commit)) hardened.now).last }
 {
-    idents.retain(|other| !(*ident == *other));
-}
-
-fn without(doubt: Option<InDoubt>, ident: &Ident) -> Option<InDoubt>
-    ensures { result ≡ less_ident ident.now doubt }
-{
-    match doubt {
-        None => None,
-        Some(doubt) => {
-            let mut idents = doubt.idents.into_vec();
-            drop_ident(&mut idents, ident);
-            Some(InDoubt {
-                unit: doubt.unit,
-                queue: doubt.queue,
-                idents: Items::from_vec(idents),
-                last: doubt.last,
-            })
-        }
+    match &hardened.in_doubt {
+        None => hardened.last,
+        Some(doubt) => { if commit { doubt.last } else { hardened.last } }
     }
 }
 
-fn strike(side: &mut SenderSide, ident: &Ident)
-    ensures { side.new ≡ off_list ident.now side.old }
+/// The unit in doubt of a channel's sender is settled: a commit takes its last number over.
+pub fn settle(
+    sides: &mut BTreeMap<ByName, Kept>,
+    channel: ChName,
+    commit: bool,
+) -> Result<(), NoMemory>
+    ensures ok { OnOk result ((struck : Ident → ℕ) → HasSet struck channel (data_settled (Some (settle_by commit))) sides.old.entries sides.new.entries) }
+    ensures kept { (known : Ident → Bool) (clock : ℕ) → EachKept known clock sides.old.entries → EachKept known clock sides.new.entries }
 {
-    let doubt = mem::replace(&mut side.hardened.in_doubt, None);
-    side.hardened.in_doubt = without(doubt, ident);
+    let mut kept = take(sides, channel)?;
+    kept.hardened.last = last_settled(&kept.hardened, commit);
+    kept.hardened.in_doubt = None;
+    put(sides, channel, kept)
 }
 
-/// An ident goes off the list of each unit in doubt.
-pub fn strike_all(sides: &mut Items<SenderSide>, ident: &Ident)
-    ensures { sides.new ≡ off_lists ident.now sides.old }
+/// The sender of a channel has been given a last number by an operator.
+pub fn number(
+    sides: &mut BTreeMap<ByName, Kept>,
+    channel: ChName,
+    last: u32,
+) -> Result<(), NoMemory>
+    ensures ok { OnOk result ((struck : Ident → ℕ) → HasSet struck channel (λ (d : SenderData). record d { last = last; force = true }) sides.old.entries sides.new.entries) }
+    ensures kept { (known : Ident → Bool) (clock : ℕ) → EachKept known clock sides.old.entries → EachKept known clock sides.new.entries }
 {
-    for at in 0..sides.len() {
-        strike(sides.at_mut(at), ident);
-    }
+    let mut kept = take(sides, channel)?;
+    kept.hardened.last = last;
+    kept.hardened.force = true;
+    put(sides, channel, kept)
 }

@@ -19,7 +19,7 @@ use mq_message::Ident;
 use mq_name::{ChName, QName};
 use mq_objects::ObjectChange;
 use mq_shelves::are_distinct;
-use mq_sync::{End, InDoubt, ReceiverData, SenderData, Unit};
+use mq_sync::{End, InDoubt, ReceiverData, Unit};
 use std::alloc::Global;
 
 fn is_unit(unit: Unit) -> bool
@@ -42,41 +42,6 @@ fn can_receive(unit: Unit, data: &ReceiverData) -> bool
         && !data.closed
         && 0 < data.session
         && is_above(unit, data.unit)
-}
-
-fn is_unit_in_doubt(unit: Unit, doubt: &Option<InDoubt>) -> bool
-    ensures { result ≡ is_unit_in_doubt unit doubt.now }
-{
-    match doubt {
-        None => false,
-        Some(doubt) => doubt.unit.session == unit.session && doubt.unit.n == unit.n,
-    }
-}
-
-fn can_number(end: End, data: &SenderData) -> bool
-    ensures { result ≡ can_number end data.now }
-{
-    match end {
-        End::Sender => !data.in_doubt.is_some(),
-        End::Receiver => true,
-    }
-}
-
-/// The data with a unit in doubt settled: a commit takes its last number over.
-fn settle(hardened: SenderData, commit: bool) -> SenderData
-    ensures { result ≡ data_settled (Some (settle_by commit)) hardened }
-{
-    let last = match &hardened.in_doubt {
-        None => hardened.last,
-        Some(doubt) => doubt.last,
-    };
-    SenderData {
-        partner: hardened.partner,
-        session: hardened.session,
-        last: if commit { last } else { hardened.last },
-        force: hardened.force,
-        in_doubt: None,
-    }
 }
 
 impl Recovering {
@@ -103,34 +68,30 @@ impl Recovering {
 impl Recovering {
     fn begin_session(
         &mut self,
-        alloc: Global,
         channel: ChName,
         partner: QName,
         session: u64,
     ) -> Result<bool, NoMemory>
         ensures { IfOk result (λ done. Does (nat_lt (sender_at channel (seen self.old)).session session) (doing (records.Session channel partner session) (seen self.old)) done (seen self.new)) }
     {
-        let mut data = self.sender_at(alloc, &channel)?;
-        if data.session >= session {
+        if self.session_of(&channel) >= session {
             return Ok(false);
         }
-        data.partner = partner;
-        data.session = session;
-        self.set_sender(channel, data)?;
+        self.begin(channel, partner, session)?;
         Ok(true)
     }
 
     fn can_prepare(
         &self,
         alloc: Global,
+        channel: &ChName,
         unit: Unit,
         queue: &QName,
         idents: &[Ident],
-        data: &SenderData,
     ) -> Result<bool, NoMemory>
-        ensures { IfOk result (λ can. can ≡ can_prepare unit queue.now idents.now data.now self.now.shelves) }
+        ensures { IfOk result (λ can. can ≡ can_prepare unit queue.now idents.now (sender_at channel.now (seen self.now)) self.now.shelves) }
     {
-        if !is_unit(unit) || data.in_doubt.is_some() || unit.session > data.session {
+        if !is_unit(unit) || self.is_in_doubt(channel) || unit.session > self.session_of(channel) {
             return Ok(false);
         }
         if !are_distinct(alloc, idents)? {
@@ -142,21 +103,12 @@ impl Recovering {
     fn prepare(&mut self, alloc: Global, channel: ChName, doubt: InDoubt) -> Result<bool, NoMemory>
         ensures { IfOk result (λ done. Does (can_prepare doubt.unit doubt.queue doubt.idents (sender_at channel (seen self.old)) self.old.shelves) (doing (records.Prepared channel doubt.unit doubt.last doubt.queue doubt.idents) (seen self.old)) done (seen self.new)) }
     {
-        let mut data = self.sender_at(alloc, &channel)?;
-        if !self.can_prepare(
-            alloc,
-            doubt.unit,
-            &doubt.queue,
-            doubt.idents.as_slice(),
-            &data,
-        )? {
+        let idents = doubt.idents.as_slice();
+        if !self.can_prepare(alloc, &channel, doubt.unit, &doubt.queue, idents)? {
             return Ok(false);
         }
-        let idents = doubt.idents.as_slice();
         self.shelves.hold(alloc, &doubt.queue, idents, &channel)?;
-        data.force = false;
-        data.in_doubt = Some(doubt);
-        self.set_sender(channel, data)?;
+        self.doubt(channel, doubt)?;
         Ok(true)
     }
 
@@ -170,21 +122,14 @@ impl Recovering {
         }
     }
 
-    fn resolve(
-        &mut self,
-        alloc: Global,
-        channel: ChName,
-        unit: Unit,
-        commit: bool,
-    ) -> Result<bool, NoMemory>
+    fn resolve(&mut self, channel: ChName, unit: Unit, commit: bool) -> Result<bool, NoMemory>
         ensures { IfOk result (λ done. Does (is_unit_in_doubt unit (sender_at channel (seen self.old)).in_doubt) (with_sender channel (data_settled (Some (settle_by commit)) (sender_at channel (seen self.old))) (settled_rows commit channel (seen self.old))) done (seen self.new)) }
     {
-        let data = self.sender_at(alloc, &channel)?;
-        if !is_unit_in_doubt(unit, &data.in_doubt) {
+        if !self.is_unit_in_doubt(&channel, unit) {
             return Ok(false);
         }
         self.settle_rows(&channel, commit);
-        self.set_sender(channel, settle(data, commit))?;
+        self.settle(channel, commit)?;
         Ok(true)
     }
 
@@ -248,16 +193,13 @@ impl Recovering {
         Ok(true)
     }
 
-    fn number_sender(&mut self, alloc: Global, channel: ChName, last: u32) -> Result<bool, NoMemory>
+    fn number_sender(&mut self, channel: ChName, last: u32) -> Result<bool, NoMemory>
         ensures { IfOk result (λ done. Does (can_number ends.Sender (sender_at channel (seen self.old))) (set_number ends.Sender last channel (seen self.old)) done (seen self.new)) }
     {
-        let mut data = self.sender_at(alloc, &channel)?;
-        if !can_number(End::Sender, &data) {
+        if self.is_in_doubt(&channel) {
             return Ok(false);
         }
-        data.last = last;
-        data.force = true;
-        self.set_sender(channel, data)?;
+        self.number(channel, last)?;
         Ok(true)
     }
 
@@ -270,17 +212,11 @@ impl Recovering {
         Ok(true)
     }
 
-    fn number(
-        &mut self,
-        alloc: Global,
-        channel: ChName,
-        end: End,
-        last: u32,
-    ) -> Result<bool, NoMemory>
+    fn number_end(&mut self, channel: ChName, end: End, last: u32) -> Result<bool, NoMemory>
         ensures { IfOk result (λ done. Does (can_number end (sender_at channel (seen self.old))) (set_number end last channel (seen self.old)) done (seen self.new)) }
     {
         match end {
-            End::Sender => self.number_sender(alloc, channel, last),
+            End::Sender => self.number_sender(channel, last),
             End::Receiver => self.number_receiver(channel, last),
         }
     }
@@ -350,7 +286,7 @@ impl Recovering {
                 channel,
                 partner,
                 session,
-            } => self.begin_session(alloc, channel, partner, session),
+            } => self.begin_session(channel, partner, session),
             LogRecord::Prepared {
                 channel,
                 unit,
@@ -371,7 +307,7 @@ impl Recovering {
                 unit,
                 commit,
                 ..
-            } => self.resolve(alloc, channel, unit, commit),
+            } => self.resolve(channel, unit, commit),
             LogRecord::Bound {
                 channel,
                 partner,
@@ -385,7 +321,7 @@ impl Recovering {
                 last,
                 adds,
             } => self.receive(alloc, channel, unit, last, adds),
-            LogRecord::SeqSet { channel, end, last } => self.number(alloc, channel, end, last),
+            LogRecord::SeqSet { channel, end, last } => self.number_end(channel, end, last),
             LogRecord::Moved {
                 from,
                 ident,

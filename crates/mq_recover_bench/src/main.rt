@@ -3,7 +3,7 @@
 
 mod logs;
 
-use logs::log_of;
+use logs::{channels_log, doubt_log, log_of};
 use mq_base::NoMemory;
 use mq_log::Bodies;
 use mq_name::QName;
@@ -19,13 +19,19 @@ const PAIRS: u64 = 50_000;
 /// How many adds the second log has, whose rows all stand in the end.
 const STANDING: u64 = 100_000;
 
+/// How many messages the unit in doubt of the third log lists: 100,000 records behind it.
+const LISTED: u32 = 50_000;
+
+/// How many channels the fourth log has, of two records each.
+const CHANNELS: u64 = 50_000;
+
 /// What a recovery came to.
 #[derive(Clone, Copy)]
 struct Recovered {
-    /// The bytes of the log.
-    bytes: usize,
     /// The rows that stand in the end.
     rows: usize,
+    /// The senders that have hardened something.
+    senders: usize,
     /// In microseconds.
     time: u64,
 }
@@ -41,53 +47,57 @@ fn moment(clock: &impl Clock) -> u64 {
     }
 }
 
-/// Recovers from a log of so many pairs of an add and a remove, and then of so many adds; none where it told no image.
-fn recover(
-    alloc: Global,
-    clock: &impl Clock,
-    pairs: u64,
-    standing: u64,
-) -> Result<Option<Recovered>, NoMemory> {
+/// Recovers from a log; none where it told no image.
+fn recover(alloc: Global, clock: &impl Clock, log: &[u8]) -> Option<Recovered> {
     let Ok(name) = QName::of(b"M1") else {
-        return Ok(None);
+        return None;
     };
-    let log = log_of(alloc, pairs, standing)?;
-    let bodies = Bodies {
-        framed: log.as_slice(),
-    };
+    let bodies = Bodies { framed: log };
     let before = moment(clock);
     let told = image(alloc, 1, &name, Start::First, &bodies);
     let time = moment(clock).saturating_sub(before);
     let Ok(told) = told else {
-        return Ok(None);
+        return None;
     };
     let rows = match told.shelves.get(0) {
         None => 0,
         Some(shelf) => shelf.rows.len(),
     };
-    Ok(Some(Recovered {
-        bytes: log.len(),
+    Some(Recovered {
         rows,
+        senders: told.senders.len(),
         time,
-    }))
+    })
 }
 
-fn print(
-    rt: &HostRuntime,
-    what: &str,
-    recovered: Result<Option<Recovered>, NoMemory>,
-) -> io::Result<()> {
-    let Ok(Some(recovered)) = recovered else {
+fn print(rt: &HostRuntime, what: &str, log: Result<Vec<u8>, NoMemory>) -> io::Result<()> {
+    let Ok(log) = log else {
+        return println!(*rt; "{what}: no log");
+    };
+    let bytes = log.len();
+    let Some(recovered) = recover(rt.alloc(), rt, log.as_slice()) else {
         return println!(*rt; "{what}: no image");
     };
-    let Recovered { bytes, rows, time } = recovered;
-    println!(*rt; "{what}: {bytes} bytes, {rows} rows in the end")?;
+    let Recovered {
+        rows,
+        senders,
+        time,
+    } = recovered;
+    println!(*rt; "{what}: {bytes} bytes, {rows} rows and {senders} senders in the end")?;
     eprintln!(*rt; "{what}: {time} microseconds")
 }
 
 fn main(rt: HostRuntime) -> io::Result<()> {
-    let passing = recover(rt.alloc(), &rt, PAIRS, 0);
-    print(&rt, "messages that pass", passing)?;
-    let standing = recover(rt.alloc(), &rt, 0, STANDING);
-    print(&rt, "messages that stay", standing)
+    print(&rt, "messages that pass", log_of(rt.alloc(), PAIRS, 0))?;
+    print(&rt, "messages that stay", log_of(rt.alloc(), 0, STANDING))?;
+    print(
+        &rt,
+        "messages of a unit in doubt",
+        doubt_log(rt.alloc(), LISTED),
+    )?;
+    print(
+        &rt,
+        "channels with a unit in doubt",
+        channels_log(rt.alloc(), CHANNELS),
+    )
 }

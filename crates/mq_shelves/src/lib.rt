@@ -10,4 +10,4 @@ mod spots;
 
 pub use distinct::{are_distinct, is_met, meet};
 pub use shelves::Shelves;
-pub use spots::IdentKey;
+pub use spots::{IdentKey, key_of};

@@ -1,0 +1,5 @@
+use Rattle.mq_recover.specs.Kept.{is_known}
+use Rattle.mq_recover.proofs.senders.Senders.begin.Goals as goal
+
+pub invariant_of-self : goal.invariant_of-self
+invariant_of-self c = record { low = c.self.invariant.low; each = c.begin.ensures.kept (is_known c.self.inside.struck) c.self.inside.clock c.self.invariant.each }
