@@ -1,7 +1,6 @@
 -- A log goes on to stand behind what is not a restart.
 use Rattle.std.proofs.Common.{◌≡◌, ℕ, ◌+◌, true, false, List, ◌∷◌, length, refl, ap, arith, sym, subst, ◌∙◌}
 use Rattle.std.specs.Prelude.{Option, Some, None, min}
-use Rattle.mq_log.specs.State.{log_length}
 use Rattle.mq_log.proofs.Logs.{log_length-push}
 use Rattle.mq_calls.specs.declared.records.LogRecord.{LogRecord}
 use Rattle.mq_record.specs.Records.{record_bytes}
