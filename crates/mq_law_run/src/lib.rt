@@ -122,3 +122,10 @@ pub fn failing_restarts_are_moves()
         → IsOwn x.entry.chance → (node_after s x.manager p h).manager.running ≡ Down noted starts → (done_by x.entry (node_after s x.manager p h)).next ≡ failed_node noted more g (node_after s x.manager p h)
         → (done_by x.entry (node_after s x.manager p h)).delta ≡ [] → (done_by x.entry (node_after s x.manager p h)).pushed ≡ None → ledger (opening_ledger s hs) (p ++ x ∷ []) ≡ ledger (opening_ledger s hs) p → Moves s hs p x h z }
 {}
+
+/// And his RESOLVE that commits: what its receiver has not committed yet counts as there, and is committed nowhere else.
+pub fn what_is_committed_is_a_move()
+    ensures { (s : Scenario) (hs : List History) (p : List Line) (x : Line) (h : History) (stamp : ℕ) (z : Stand s hs p) (i : ℕ) (k : CableLine) (name : List ℕ) → IsScenario s → slice_get hs x.manager ≡ Some h → Tells (node_after s x.manager p h) stamp x.entry
+        → IsOwn x.entry.chance → slice_get s.cables i ≡ Some k → k.sender ≡ x.manager → x.entry.call ≡ calls.Act (acts.Obey (lines.Operate (ops.Resolve name settles.Commit))) → x.entry.chance ≡ chances.Call Runs
+        → IsRunning s p x h (operate (ops.Resolve name settles.Commit) (node_after s x.manager p h)) → sender_named name (node_after s x.manager p h).own.ends ≡ Some (sender_of (near_at s i k) (z.xs k.sender k.channel).sender) → Moves s hs p x h z }
+{}
