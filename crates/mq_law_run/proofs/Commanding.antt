@@ -5,10 +5,13 @@ use Rattle.std.specs.Str.{bytes_eq}
 use Rattle.mq_message.specs.declared.message.Ident.{Ident}
 use Rattle.mq_message.specs.declared.message.Message.{Message}
 use Rattle.mq_frame.specs.declared.frame.Frame.{Frame}
+use Rattle.mq_sync.specs.declared.unit.Unit.{Unit as Luw}
+use Rattle.mq_sync.specs.Units.{Upto}
 use Rattle.mq_sync.specs.declared.data.SenderData.{SenderData}
 use Rattle.mq_sync.specs.Settlement.{sender_or}
 use Rattle.mq_sender.specs.declared.state.Kept.{Kept}
 use Rattle.mq_sender.specs.States as senders
+use Rattle.mq_calls.specs.declared.agents.Note.TheVariants as notes
 use Rattle.mq_calls.specs.declared.agents.SeizeFault.{SeizeFault}
 use Rattle.mq_calls.specs.declared.agents.SeizeFault.TheVariants as seize_faults
 use Rattle.mq_calls.specs.declared.choices.Choice.TheVariants.{Runs}
@@ -44,7 +47,7 @@ use Rattle.mq_spec_node.specs.Node.ChannelEnd.{Sends}
 use Rattle.mq_spec_node.specs.Deeds.{Deed, Done, parts_of}
 use Rattle.mq_spec_node.specs.Operators.{end_here, is_bad_number, is_in_doubt, limits_here, operate, operate_up, refused, refused_or, reset_end, seize_refusal, start_end, start_seized, stop_end, tested}
 use Rattle.mq_spec_node.specs.Replays.{IsOwn, Tells}
-use Rattle.mq_spec_network.specs.Conflict.{Deed as ToldDeed, deeds, deeds_in}
+use Rattle.mq_spec_network.specs.Conflict.{Deed as ToldDeed, deeds, deeds_in, is_committed}
 use Rattle.mq_spec_network.specs.Ledger as ledgers
 use Rattle.mq_spec_network.specs.Ledger.{Ledger, ledger, posted}
 use Rattle.mq_spec_network.specs.Order.{unit_received}
@@ -65,11 +68,12 @@ use Rattle.mq_law_node.proofs.Quiet.{batch_parts_quiet, sender_parts_quiet}
 use Rattle.mq_law_node.proofs.SenderTable.{releases_batch, releases_data}
 use Rattle.mq_law_node.proofs.SenderTurns.{ends_set, found_data, leaves}
 use Rattle.mq_law_channel.proofs.Told.{and_both}
+use Rattle.mq_law_rows.proofs.Lists.{is_false}
 use Rattle.mq_law_seen.specs.Seen.{book_of, world_of}
 use Rattle.mq_law_events.specs.Tied.{IsNext}
 use Rattle.mq_law_story.proofs.Weaving.{ledger_step}
 use Rattle.mq_law_turns.specs.Agreed.{IsToldOf}
-use Rattle.mq_law_turns.specs.Turns.{IsAt, Scene, Turned, parts_for_others}
+use Rattle.mq_law_turns.specs.Turns.{IsAt, Scene, TurnedBy, parts_for_others}
 use Rattle.mq_law_turns.proofs.Agreeing.{released_tells}
 use Rattle.mq_law_turns.proofs.Operating.{numbers, starts, still, stops}
 use Rattle.mq_law_turns.proofs.OperatorSounds.{operates}
@@ -83,30 +87,39 @@ use Rattle.mq_law_run.proofs.Beside.{parts_add_none, parts_beside, parts_of_end,
 use Rattle.mq_law_run.proofs.Cabled.{parts_cabled}
 use Rattle.mq_law_run.proofs.Lining.{else_channel, else_index, mem_at}
 use Rattle.mq_law_run.proofs.Running.{IsRun, run_next, scene, sends_here, sound_at}
-use Rattle.mq_law_run.proofs.Sending.{none_committed_now, step_moves}
-use Rattle.mq_law_run.proofs.Telling.{mem_right}
+use Rattle.mq_law_run.proofs.Sending.{step_moves}
+use Rattle.mq_law_run.proofs.Telling.{mem_right, risen_still, told_now}
 
 -- WHAT IS POSTED
 -- what leaves the rows where they are
 abbrev leaves_rows : Did → Bool
 leaves_rows (did.Released q i) = true
 leaves_rows (did.Hardened c note) = true
+leaves_rows (did.Removed q i why) = not (ledgers.is_taken why)
 leaves_rows _ = false
 
 abbrev pub all_leave : List Did → Bool
 all_leave [] = true
 all_leave (d ∷ ds) = leaves_rows d && all_leave ds
 
+untaken : (t : Bool) → not t ≡ true → t ≡ false
+untaken true e = absurd cc
+untaken false e = refl
+
 none_gone : (m : ℕ) (ds : List Did) (l : Ledger) → all_leave ds ≡ true → ledgers.take_all_gone m ds l ≡ l
 none_gone m [] l e = refl
 none_gone m (did.Released q i ∷ ds) l e = none_gone m ds l e
 none_gone m (did.Hardened c note ∷ ds) l e = none_gone m ds l e
+none_gone m (did.Removed q i why ∷ ds) l e =
+    let b = and_both (not (ledgers.is_taken why)) (all_leave ds) e in
+    ap (λ (t : Bool). ledgers.take_all_gone m ds (ledgers.when t (ledgers.take m i) l)) (untaken (ledgers.is_taken why) b.0) ∙ none_gone m ds l b.1
 none_gone m (d ∷ ds) l e = absurd cc
 
 pub none_received : (ds : List Did) → all_leave ds ≡ true → unit_received ds ≡ None
 none_received [] e = refl
 none_received (did.Released q i ∷ ds) e = none_received ds e
 none_received (did.Hardened c note ∷ ds) e = none_received ds e
+none_received (did.Removed q i why ∷ ds) e = none_received ds (and_both (not (ledgers.is_taken why)) (all_leave ds) e).1
 none_received (d ∷ ds) e = absurd cc
 
 released_leave : (q : List ℕ) (is : List Ident) → all_leave (map (λ i. did.Released q i) is) ≡ true
@@ -152,9 +165,9 @@ pub told_here : (a m : ℕ) (ds es : List Did) (e : Did) → a ≡ m → es ≡ 
 told_here a m ds es e q f n = subst (λ (b : ℕ). Mem (told_of b e) (deeds_in m es)) (sym q) (subst (λ (xs : List Did). Mem (told_of m e) (deeds_in m xs)) (sym f) (in_deeds m ds e n))
 
 -- WHAT A COMMAND ON AN END COMES TO
-pub record IsCommand (z : Scene) (n : Node) (c : Channel) (y : Past) (d : Deed) (step : NearStep) : Type 0 where
+pub record IsCommand (o : Option Luw) (z : Scene) (n : Node) (c : Channel) (y : Past) (d : Deed) (step : NearStep) : Type 0 where
   pub may : NearMay step c
-  pub turned : (rs : List Plain) → IsNext z.sender n.manager (do_all d.parts n.manager) z.managers rs → Turned z (world_of z.scenario z.given rs) (near_does step c) (near_past step c y)
+  pub turned : (rs : List Plain) → IsNext z.sender n.manager (do_all d.parts n.manager) z.managers rs → TurnedBy o z (world_of z.scenario z.given rs) (near_does step c) (near_past step c y)
   pub sent : Sent z.place n d c.out (near_does step c)
   pub ends : parts_of_end d.parts ≡ true
   pub adds : parts_add_none d.parts ≡ true
@@ -164,16 +177,25 @@ pub record IsCommand (z : Scene) (n : Node) (c : Channel) (y : Past) (d : Deed) 
   pub is : is_of_operator answer ≡ true
   pub pushed : d.pushed ≡ None
   pub tells : (ps : List Plain) (ds : List ToldDeed) → ((e : Did) → Mem e (delta_of d.parts) → Mem (told_of z.sender e) ds) → IsToldOf z.scenario ps ds z.sender z.place.channel c y → IsToldOf z.scenario ps ds z.sender z.place.channel (near_does step c) (near_past step c y)
+  pub commits : (u : Luw) → o ≡ Some u → Mem (did.Hardened z.place.channel (notes.Resolved u true true)) (delta_of d.parts) × (Upto u c.receives.unit → ⊥)
   pub near : (v : Where) → (z.place.cable == v.cable) ≡ false → bytes_eq v.channel z.place.channel ≡ false → EachApart v n (Some d)
   pub others : (v : Where) → bytes_eq v.channel z.place.channel ≡ false → parts_for_others v.channel d.parts ≡ true
   pub far : (v : Where) → (z.place.cable == v.cable) ≡ false → EachFarApart v n (Some d)
 
 abbrev pub Commands : Scene → Node → Channel → Past → Deed → Type 0
-Commands z n c y d = (step : NearStep) × IsCommand z n c y d step
+Commands z n c y d = (o : Option Luw) × (step : NearStep) × IsCommand o z n c y d step
+
+-- where nothing is committed
+pub none_commits : (c : Channel) (ch : List ℕ) (ds : List Did) (u : Luw) → None ≡ Some u → Mem (did.Hardened ch (notes.Resolved u true true)) ds × (Upto u c.receives.unit → ⊥)
+none_commits c ch ds u e = absurd (no_unit u e)
+  where
+    no_unit : (u : Luw) → None ≡ Some u → ⊥
+    no_unit u e = cc
 
 -- what is refused changes nothing
 pub refuses : (z : Scene) (n : Node) (c : Channel) (y : Past) (reason : OpRefusal) → IsAt z n c y → is_up n.manager.running ≡ true → Commands z n c y (refused reason n.own)
 refuses z n c y reason a up = (
+  None,
   NearStep.Rest,
   record {
     may = tt;
@@ -187,6 +209,7 @@ refuses z n c y reason a up = (
     is = refl;
     pushed = refl;
     tells = λ ps ds f h. h;
+    commits = none_commits c z.place.channel (delta_of (refused reason n.own).parts);
     near = λ v e f. (refl, refl);
     others = λ v f. refl;
     far = λ v e. (refl, refl);
@@ -201,6 +224,7 @@ seizes z n c y s None a up off =
     let w : Where = z.place in
     let h : SendsAs w n c = a.sends in
     let parts : List Part = silent (Seize s ∷ []) ∷ [] in (
+      None,
       NearStep.Start (limits_here w.channel n),
       record {
         may = off;
@@ -219,6 +243,7 @@ seizes z n c y s None a up off =
         is = refl;
         pushed = refl;
         tells = λ ps ds f i. record { undone = i.undone; last = i.last };
+        commits = none_commits c w.channel (delta_of (start_seized (sender_of w c.sender) (Do tt parts) n).parts);
         near = λ v e f. (set_apart v _ n e, refl);
         others = λ v f. refl;
         far = λ v e. (set_far v _ n e, refl);
@@ -242,6 +267,7 @@ stops_so z n c y a up =
     let w : Where = z.place in
     let h : SendsAs w n c = a.sends in
     let o : Option Batch = batch_of w.channel n.manager.channels.batches in (
+      None,
       NearStep.Stop,
       record {
         may = tt;
@@ -260,6 +286,7 @@ stops_so z n c y a up =
         is = refl;
         pushed = refl;
         tells = λ ps ds f i. released_tells z.scenario ps ds z.sender w.channel c (sender_stopped c) y refl i;
+        commits = none_commits c w.channel (delta_of (stop_end (Some (Sends (sender_of w c.sender))) n).parts);
         near = λ v e f. (set_apart v _ n e, release_apart v.channel w.channel o n.manager f);
         others = λ v f. parts_behind v.channel (parts_of (release_batch w.channel n.manager)) (parts_of (leave w.channel n.manager)) (released_others v.channel w.channel o) refl;
         far = λ v e. (set_far v _ n e, release_far v.channel w.channel o n.manager);
@@ -271,6 +298,7 @@ numbered : (z : Scene) (n : Node) (c : Channel) (y : Past) (seqnum : ℕ) → Is
 numbered z n c y seqnum a up off =
     let w : Where = z.place in
     let h : SendsAs w n c = a.sends in (
+      None,
       NearStep.Number (seqnum - 1),
       record {
         may = off;
@@ -288,6 +316,7 @@ numbered z n c y seqnum a up off =
         is = refl;
         pushed = refl;
         tells = λ ps ds f i. record { undone = i.undone; last = i.last };
+        commits = none_commits c w.channel (delta_of (reset_deed w seqnum n).parts);
         near = λ v e f. (refl, ap (λ (b : Bool). (not b && true) && true) f);
         others = λ v f. refl;
         far = λ v e. (refl, refl);
@@ -309,17 +338,17 @@ numbers_so z n c y seqnum a up =
     (λ g. numbered z n c y seqnum a up f)))
 
 -- AS A MOVE
-command_moves : (s : Scenario) (hs : List History) (p : List Line) (x : Line) (z : Stand s hs p) (t : Told_ s hs p x) (i : ℕ) (k : CableLine) (d : Deed) (op : Op) (step : NearStep) → IsScenario s → slice_get s.cables i ≡ Some k → k.sender ≡ x.manager
+command_moves : (s : Scenario) (hs : List History) (p : List Line) (x : Line) (z : Stand s hs p) (t : Told_ s hs p x) (i : ℕ) (k : CableLine) (d : Deed) (op : Op) (o : Option Luw) (step : NearStep) → IsScenario s → slice_get s.cables i ≡ Some k → k.sender ≡ x.manager
     → x.entry.call ≡ calls.Act (acts.Obey (lines.Operate op)) → x.entry.chance ≡ chances.Call Runs → IsRun s hs p x t d
-    → IsCommand (scene s hs p z k (near_at s i k)) (node_after s x.manager p t.h) (z.xs k.sender k.channel) (z.ys k.sender k.channel) d step → Moves s hs p x t.h z
-command_moves s hs p x z t i k d op step scenario e q call chance r v =
+    → IsCommand o (scene s hs p z k (near_at s i k)) (node_after s x.manager p t.h) (z.xs k.sender k.channel) (z.ys k.sender k.channel) d step → Moves s hs p x t.h z
+command_moves s hs p x z t i k d op o step scenario e q call chance r v =
     let m : ℕ = x.manager in
     let n : Node = node_after s m p t.h in
     let l : Ledger = ledger (opening_ledger s hs) p in
     let reply : x.entry.reply ≡ replies.Acted v.answer = t.tells.reply ∙ ap (λ (o : Done). o.reply) r.is ∙ v.reply in
     let delta : x.entry.effect.delta ≡ delta_of d.parts = t.tells.delta ∙ ap (λ (o : Done). o.delta) r.is in
     let quiet : all_leave x.entry.effect.delta ≡ true = ap all_leave delta ∙ v.told in
-    step_moves s hs p x z t i k d None step scenario e q (record {
+    step_moves s hs p x z t i k d o step scenario e q (record {
       run = r;
       may = v.may;
       turned = v.turned (managers_at s (p ++ x ∷ []) hs) (run_next s hs p x t d k.sender r q);
@@ -333,15 +362,21 @@ command_moves s hs p x z t i k d op step scenario e q call chance r v =
       near = λ j h f out a.
           let u : Where = near_at s j h in
           let other = else_channel k h (a ∙ sym q) out in
-          let o : EachApart u n (Some d) = v.near u (else_index s i j k h e f out) other in
-          asides u n d o.0 o.1 (stays u.channel n.manager d.parts r.before r.after (apart_batch u n d o.1) (v.others u other));
+          let g : EachApart u n (Some d) = v.near u (else_index s i j k h e f out) other in
+          asides u n d g.0 g.1 (stays u.channel n.manager d.parts r.before r.after (apart_batch u n d g.1) (v.others u other));
       far = λ j h f out a.
           let u : Where = far_at s j h in
-          let o : EachFarApart u n (Some d) = v.far u (else_index s i j k h e f out) in
-          far_asides u n d o.0 o.1;
+          let g : EachFarApart u n (Some d) = v.far u (else_index s i j k h e f out) in
+          far_asides u n d g.0 g.1;
       offers = λ j f by_ push. absurd (no_frame f (sym v.pushed ∙ push));
       answers = λ j f by_ push. no_frame f (sym v.pushed ∙ push);
-      committed = none_committed_now s hs p x k;
+      committed = λ u f.
+          let b = v.commits u f in
+          let w : Luw = (z.xs k.sender k.channel).receives.unit in (
+            told_now p x (told_of k.sender (did.Hardened k.channel (notes.Resolved u true true))) (told_here k.sender m (delta_of d.parts) x.entry.effect.delta (did.Hardened k.channel (notes.Resolved u true true)) q delta b.0),
+            is_false (is_committed s (opening_managers s hs) (deeds (p ++ x ∷ [])) k.channel u)
+                (λ g. b.1 (risen_still s (opening_managers s hs) p x k.channel w w (none_received x.entry.effect.delta quiet) refl (z.risen k (mem_at s.cables i k e)) u g)),
+          );
     })
   where
     no_frame : (f : Frame) → None ≡ Some f → ⊥
@@ -366,7 +401,7 @@ commanded s hs p x z t i k d op scenario e q call chance run is so =
     let next = run_next s hs p x t (operate op n) k.sender r q in
     let at : IsAt zz n c y = record { at = next.at; sends = sends_here s hs p x z t i k e q run.up; facts = (z.lines i k e).facts; joint = joint_of (world_of s z.given (managers_at s p hs)) z.ghost (book_of l) s.cables z.xs z.ys k there z.joint } in
     let b = subst (λ (g : Deed). Commands zz n c y g) (is ∙ up_so op n (ap is_up run.up)) (so at) in
-    command_moves s hs p x z t i k (operate op n) op b.0 scenario e q call chance r b.1
+    command_moves s hs p x z t i k (operate op n) op b.0 b.1 scenario e q call chance r b.2
 
 pub starting : (s : Scenario) (hs : List History) (p : List Line) (x : Line) (h : History) (stamp : ℕ) (z : Stand s hs p) (i : ℕ) (k : CableLine) (name : List ℕ) → IsScenario s → slice_get hs x.manager ≡ Some h → Tells (node_after s x.manager p h) stamp x.entry
     → IsOwn x.entry.chance → slice_get s.cables i ≡ Some k → k.sender ≡ x.manager → x.entry.call ≡ calls.Act (acts.Obey (lines.Operate (ops.Start name))) → x.entry.chance ≡ chances.Call Runs

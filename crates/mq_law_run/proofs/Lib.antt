@@ -23,4 +23,5 @@ pub mod Commanding
 pub mod Resolving
 pub mod Serving
 pub mod Turning
+pub mod Popping
 pub mod Beginning

@@ -1,4 +1,4 @@
--- RESOLVE that backs a unit out, as a move of the network.
+-- RESOLVE, as a move of the network.
 use Rattle.std.proofs.Common.{ℕ, ◌≡◌, ◌≢◌, ◌≤◌, Bool, true, false, List, [], ◌∷◌, ◌++◌, refl, ap, sym, subst, ◌∙◌, inl, arith}
 use Rattle.std.specs.Prelude.{Option, Some, None, ◌==◌, ◌&&◌, not, if◌then◌else◌, map, slice_get}
 use Rattle.std.proofs.lemmas.Bool.Decides.{nat_tests}
@@ -6,7 +6,7 @@ use Rattle.mq_message.specs.declared.place.Holder.TheVariants as holders
 use Rattle.mq_sync.specs.declared.unit.Unit.{Unit as Luw}
 use Rattle.mq_sync.specs.declared.unit.Settle.TheVariants as settles
 use Rattle.mq_sync.specs.declared.data.InDoubt.{InDoubt}
-use Rattle.mq_sync.specs.Units.{no_unit, same_unit}
+use Rattle.mq_sync.specs.Units.{Upto, no_unit, same_unit}
 use Rattle.mq_sender.specs.declared.state.Kept.{Kept}
 use Rattle.mq_sender.specs.States as senders
 use Rattle.mq_calls.specs.declared.agents.Note.TheVariants as notes
@@ -27,8 +27,9 @@ use Rattle.mq_history.specs.declared.scenario.CableLine.{CableLine}
 use Rattle.mq_history.specs.declared.scenario.Scenario.{Scenario}
 use Rattle.mq_history.specs.Scenarios.{IsScenario}
 use Rattle.mq_spec_state.specs.Reads.{in_doubt_of, is_up, sender_data}
-use Rattle.mq_spec_state.specs.Steps.{delta_of}
-use Rattle.mq_spec_agents.specs.Words.{held_rows, settle_did}
+use Rattle.mq_spec_state.specs.State.{Plain}
+use Rattle.mq_spec_state.specs.Steps.{delta_of, do_part}
+use Rattle.mq_spec_agents.specs.Words.{harden_part, held_rows, settle_did}
 use Rattle.mq_spec_node.specs.Node.{Node, SenderEnd, sender_named}
 use Rattle.mq_spec_node.specs.Deeds.{Deed, Done}
 use Rattle.mq_spec_node.specs.Operators.{operate, refused_or, resolve_doubt, resolve_end}
@@ -37,19 +38,22 @@ use Rattle.mq_spec_network.specs.Conflict.{Deed as ToldDeed, NoConflict, deeds, 
 use Rattle.mq_spec_network.specs.Standing.{node_after, opening_managers}
 use Rattle.mq_spec_network.specs.Story.{Line, Mem}
 use Rattle.mq_law_channel.specs.Channel.{Channel, Past}
-use Rattle.mq_law_channel.specs.Turns.{data_settled}
-use Rattle.mq_law_channel.proofs.Told.{Doubted, doubt_is}
+use Rattle.mq_law_channel.specs.Turns.{data_settled, past_resolved, resolved}
+use Rattle.mq_law_channel.proofs.Core.{unit_eq}
+use Rattle.mq_law_channel.proofs.Told.{Doubted, doubt_is, unit_no, unit_yes}
 use Rattle.mq_law_node.specs.Ends.{SendsAs, Where, sender_of}
 use Rattle.mq_law_node.specs.Moves.{NearStep}
 use Rattle.mq_law_node.proofs.Named.{bool_case}
 use Rattle.mq_law_node.proofs.Operators.{doubt_there, resolve_deed, resolves_batch, resolves_data, resting_apart}
 use Rattle.mq_law_node.proofs.SenderTurns.{leaves}
+use Rattle.mq_law_seen.specs.Seen.{world_of}
+use Rattle.mq_law_events.specs.Tied.{IsNext}
 use Rattle.mq_law_turns.specs.Agreed.{IsToldOf}
-use Rattle.mq_law_turns.specs.Turns.{IsAt, Scene}
-use Rattle.mq_law_turns.proofs.Agreeing.{backout_tells, backs_out_rightly, grows}
-use Rattle.mq_law_turns.proofs.Operating.{resolves_backout}
+use Rattle.mq_law_turns.specs.Turns.{IsAt, Scene, TurnedBy}
+use Rattle.mq_law_turns.proofs.Agreeing.{backout_tells, backs_out_rightly, commit_tells, grows}
+use Rattle.mq_law_turns.proofs.Operating.{resolves_backout, resolves_commit, resolves_committed}
 use Rattle.mq_law_run.specs.Run.{IsRunning, Moves, Stand, near_at}
-use Rattle.mq_law_run.proofs.Commanding.{Commands, all_leave, commanded, leave_behind, refuses, told_here, told_of, up_so}
+use Rattle.mq_law_run.proofs.Commanding.{Commands, all_leave, commanded, leave_behind, none_commits, refuses, told_here, told_of, up_so}
 use Rattle.mq_law_run.proofs.Lining.{mem_at}
 use Rattle.mq_law_run.proofs.Running.{scene}
 use Rattle.mq_law_run.proofs.Telling.{deeds_more, mem_left, mem_right, told_now}
@@ -79,6 +83,7 @@ backs_out z n c y d a up off so right =
     let held = a.facts.tied.in_doubt own.data_ own.is in
     let real : 1 ≤ d.unit.n = subst (λ (u : Luw). 1 ≤ u.n) own.unit (a.facts.sound.held own.data_.unit held.0).0 in
     let not_so : c.receives.unit ≢ own.data_.unit = λ e. right real (e ∙ own.unit) in (
+      None,
       NearStep.Resolve settles.Backout own.data_,
       record {
         may = (off, own.is);
@@ -98,6 +103,7 @@ backs_out z n c y d a up off so right =
         pushed = refl;
         tells = λ ps ds f i. backout_tells z.scenario ps ds z.sender w.channel c y own.data_
             (subst (λ (u : Luw). Mem (told_of z.sender (backed_out w.channel u)) ds) (sym own.unit) (f (backed_out w.channel d.unit) (tells_it w d n))) i;
+        commits = none_commits c w.channel (delta_of (resolve_deed w settles.Backout d n).parts);
         near = λ v e f. (refl, ap (λ (b : Bool). (not b && true) && true) f);
         others = λ v f. refl;
         far = λ v e. (refl, refl);
@@ -112,6 +118,101 @@ resolves_so z n c y (Some d) a up is right = bool_case (senders.is_running c.sen
     (λ e. refuses z n c y reasons.Running a up)
     (λ e. backs_out z n c y d a up e is (right d refl e))
 
+-- THAT COMMITS
+sent_leave : (rs : List Remove) → all_leave (map (settle_did true) rs) ≡ true
+sent_leave [] = refl
+sent_leave (r ∷ rs) = sent_leave rs
+
+abbrev committed_did : List ℕ → Luw → Did
+committed_did c u = did.Hardened c (notes.Resolved u true true)
+
+commits_it : (w : Where) (d : InDoubt) (n : Node) → Mem (committed_did w.channel d.unit) (delta_of (resolve_deed w settles.Commit d n).parts)
+commits_it w d n =
+    let e : Did = committed_did w.channel d.unit in
+    let ds : List Did = map (settle_did true) (held_rows (holders.Batch w.channel) n.manager) in
+    mem_left e (ds ++ e ∷ []) [] (mem_right e ds (e ∷ []) (inl refl))
+
+upto_both : (u v : Luw) → Upto u v → Upto v u → u ≡ v
+upto_both u v e f = unit_eq u v (grind (arith, e, f)) (grind (arith, e, f))
+
+commits_by : (o : Option Luw) (z : Scene) (n : Node) (c : Channel) (y : Past) (d e : InDoubt) → IsAt z n c y → is_up n.manager.running ≡ true → senders.is_running c.sender.state ≡ false → c.sends.in_doubt ≡ Some e → e.unit ≡ d.unit
+    → ((rs : List Plain) → IsNext z.sender n.manager (do_part (harden_part z.place.channel (notes.Resolved d.unit true true) n.manager) n.manager) z.managers rs → TurnedBy o z (world_of z.scenario z.given rs) (resolved settles.Commit c) (past_resolved settles.Commit e y))
+    → ((u : Luw) → o ≡ Some u → (u ≡ d.unit) × (Upto u c.receives.unit → ⊥)) → Commands z n c y (resolve_deed z.place settles.Commit d n)
+commits_by o z n c y d e a up off is same turned past =
+    let w : Where = z.place in
+    let h : SendsAs w n c = a.sends in (
+      o,
+      NearStep.Resolve settles.Commit e,
+      record {
+        may = (off, is);
+        turned = turned;
+        sent = leaves w n (resolve_deed w settles.Commit d n) c (data_settled (Some settles.Commit) c.sends) c.sender c.batch c.out up h.here
+            (resolves_data w settles.Commit d n.manager c.sends h.data_)
+            (λ b. absurd (cc (b, resting_apart c.sender.state off)))
+            (λ b. resolves_batch w settles.Commit d n.manager _ ∙ h.unbatched b)
+            refl;
+        ends = refl;
+        adds = refl;
+        told = leave_behind (map (settle_did true) (held_rows (holders.Batch w.channel) n.manager) ++ committed_did w.channel d.unit ∷ []) []
+            (leave_behind (map (settle_did true) (held_rows (holders.Batch w.channel) n.manager)) (committed_did w.channel d.unit ∷ []) (sent_leave (held_rows (holders.Batch w.channel) n.manager)) refl) refl;
+        answer = acted.Done;
+        reply = refl;
+        is = refl;
+        pushed = refl;
+        tells = λ ps ds f i. commit_tells z.scenario ps ds z.sender w.channel c y e i;
+        commits = λ u f.
+            let b = past u f in
+            (subst (λ (v : Luw). Mem (committed_did w.channel v) (delta_of (resolve_deed w settles.Commit d n).parts)) (sym b.0) (commits_it w d n), b.1);
+        near = λ v b f. (refl, ap (λ (t : Bool). (not t && true) && true) f);
+        others = λ v f. refl;
+        far = λ v b. (refl, refl);
+      },
+    )
+
+commits_deed : (z : Scene) (n : Node) (c : Channel) (y : Past) (d : InDoubt) → IsAt z n c y → is_up n.manager.running ≡ true → senders.is_running c.sender.state ≡ false → in_doubt_of (sender_data z.place.channel n.manager) ≡ Some d
+    → Commands z n c y (resolve_deed z.place settles.Commit d n)
+commits_deed z n c y d a up off so =
+    let w : Where = z.place in
+    let found : senders.doubt_of c.sends.in_doubt ≡ Some (record { unit = d.unit; last = d.last }) =
+    ap (λ (k : Kept). k.doubt) a.sends.data_ ∙ ap senders.doubt_of (sym (doubt_there (sender_data w.channel n.manager)) ∙ so) in
+    let own : Doubted c.sends.in_doubt (record { unit = d.unit; last = d.last }) = doubt_is c.sends.in_doubt (record { unit = d.unit; last = d.last }) found in
+    let held = a.facts.tied.in_doubt own.data_ own.is in
+    let above : Upto c.receives.unit own.data_.unit = (a.facts.sound.held own.data_.unit held.0).2 in
+    bool_case (same_unit c.receives.unit own.data_.unit) (λ t. Commands z n c y (resolve_deed w settles.Commit d n))
+    (λ f. commits_by None z n c y d own.data_ a up off own.is own.unit (λ rs g. resolves_committed z n c y own.data_ d.unit rs a own.is (resting_apart c.sender.state off) (unit_yes c.receives.unit own.data_.unit f) g)
+    (λ u g. absurd (no_one u g)))
+    (λ f. commits_by (Some own.data_.unit) z n c y d own.data_ a up off own.is own.unit (λ rs g. resolves_commit z n c y own.data_ d.unit rs a own.is (resting_apart c.sender.state off) g)
+    (λ u g. (some_unit own.data_.unit u g ∙ own.unit, λ b. unit_no c.receives.unit own.data_.unit f (upto_both c.receives.unit own.data_.unit above (subst (λ (v : Luw). Upto v c.receives.unit) (some_unit own.data_.unit u g) b)))))
+  where
+    no_one : (u : Luw) → None ≡ Some u → ⊥
+    no_one u e = cc
+
+    some_unit : (v u : Luw) → Some v ≡ Some u → u ≡ v
+    some_unit v u e = cc
+
+committed_so : (z : Scene) (n : Node) (c : Channel) (y : Past) (o : Option InDoubt) → IsAt z n c y → is_up n.manager.running ≡ true → in_doubt_of (sender_data z.place.channel n.manager) ≡ o
+    → Commands z n c y (resolve_doubt (sender_of z.place c.sender) settles.Commit o n)
+committed_so z n c y None a up is = refuses z n c y reasons.NotInDoubt a up
+committed_so z n c y (Some d) a up is = bool_case (senders.is_running c.sender.state)
+    (λ b. Commands z n c y (refused_or (if b then Some reasons.Running else None) n.own (resolve_deed z.place settles.Commit d n)))
+    (λ e. refuses z n c y reasons.Running a up)
+    (λ e. commits_deed z n c y d a up e is)
+
+pub committing : (s : Scenario) (hs : List History) (p : List Line) (x : Line) (h : History) (stamp : ℕ) (z : Stand s hs p) (i : ℕ) (k : CableLine) (name : List ℕ) → IsScenario s → slice_get hs x.manager ≡ Some h → Tells (node_after s x.manager p h) stamp x.entry
+    → IsOwn x.entry.chance → slice_get s.cables i ≡ Some k → k.sender ≡ x.manager → x.entry.call ≡ calls.Act (acts.Obey (lines.Operate (ops.Resolve name settles.Commit))) → x.entry.chance ≡ chances.Call Runs
+    → IsRunning s p x h (operate (ops.Resolve name settles.Commit) (node_after s x.manager p h)) → sender_named name (node_after s x.manager p h).own.ends ≡ Some (sender_of (near_at s i k) (z.xs k.sender k.channel).sender) → Moves s hs p x h z
+committing s hs p x h stamp z i k name scenario is tells own e q call chance run named =
+    let n : Node = node_after s x.manager p h in
+    let w : Where = near_at s i k in
+    let c : Channel = z.xs k.sender k.channel in
+    let y : Past = z.ys k.sender k.channel in
+    let end : SenderEnd = sender_of w c.sender in
+    let op : Op = ops.Resolve name settles.Commit in
+    let o : Option InDoubt = in_doubt_of (sender_data k.channel n.manager) in
+    commanded s hs p x z (record { h = h; is = is; stamp = stamp; tells = tells; own = own }) i k (resolve_doubt end settles.Commit o n) op scenario e q call chance run (ap (λ (v : Option SenderEnd). resolve_end settles.Commit v n) (sym named))
+    (λ a. committed_so (scene s hs p z k w) n c y o a (ap is_up run.up) refl)
+
+-- THAT BACKS OUT
 -- a unit of a number has a name
 not_zero : (n : ℕ) → 1 ≤ n → (n == 0) ≡ false
 not_zero n e = grind (arith, nat_tests, e)

@@ -3,6 +3,7 @@
 
 ghost use Rattle.std.specs.Prelude.{◌≡◌, ◌∷◌, ◌++◌, ℕ, false, true, List, [], None, Option, Some, slice_get};
 ghost use Rattle.mq_sync.specs.declared.unit.Settle.TheVariants as settles;
+ghost use Rattle.mq_frame.specs.declared.frame.Frame.{Frame};
 ghost use Rattle.mq_calls.specs.declared.choices.Choice.TheVariants.{Runs};
 ghost use Rattle.mq_calls.specs.declared.choices.Return.TheVariants.{Comes};
 ghost use Rattle.mq_sc_parse.specs.declared.command.Command.TheVariants as lines;
@@ -11,6 +12,7 @@ ghost use Rattle.mq_history.specs.declared.acts.Act.TheVariants as acts;
 ghost use Rattle.mq_history.specs.declared.calls.Actor.TheVariants as actors;
 ghost use Rattle.mq_history.specs.declared.calls.Call.TheVariants as calls;
 ghost use Rattle.mq_history.specs.declared.calls.Chance.TheVariants as chances;
+ghost use Rattle.mq_history.specs.declared.calls.Entry.{Entry};
 ghost use Rattle.mq_history.specs.declared.history.History.{History};
 ghost use Rattle.mq_history.specs.declared.scenario.CableLine.{CableLine};
 ghost use Rattle.mq_history.specs.declared.scenario.Scenario.{Scenario};
@@ -28,7 +30,8 @@ ghost use Rattle.mq_spec_network.specs.Conflict.{Deed as ToldDeed, NoConflict, d
 ghost use Rattle.mq_spec_network.specs.Ledger.{ledger};
 ghost use Rattle.mq_spec_network.specs.Promised.{Premises};
 ghost use Rattle.mq_spec_network.specs.Standing.{node_after, opening_ledger};
-ghost use Rattle.mq_spec_network.specs.Story.{Line};
+ghost use Rattle.mq_spec_network.specs.Lawful.{IsLawful};
+ghost use Rattle.mq_spec_network.specs.Story.{IsStory, Line, Mem, entries_at};
 ghost use Rattle.mq_law_channel.specs.Turns.{SeenIn};
 ghost use Rattle.mq_law_node.specs.Ends.{receiver_of, sender_of};
 ghost use Rattle.mq_law_one.specs.Alone.{IsOwnCall};
@@ -55,6 +58,14 @@ pub fn what_changes_nothing_is_a_move()
     ensures { (s : Scenario) (hs : List History) (p : List Line) (x : Line) (h : History) (stamp : ℕ) (z : Stand s hs p) → slice_get hs x.manager ≡ Some h → Tells (node_after s x.manager p h) stamp x.entry → IsOwn x.entry.chance
         → (done_by x.entry (node_after s x.manager p h)).next ≡ node_after s x.manager p h → (done_by x.entry (node_after s x.manager p h)).delta ≡ [] → (done_by x.entry (node_after s x.manager p h)).pushed ≡ None
         → ledger (opening_ledger s hs) (p ++ x ∷ []) ≡ ledger (opening_ledger s hs) p → Moves s hs p x h z }
+{}
+
+/// What an end popped was offered to its channel, where frames have their entries' stamps.
+pub fn what_ends_pop_was_offered()
+    ensures senders { (s : Scenario) (hs : List History) (p rest : List Line) (x : Line) (z : Stand s hs p) (i : ℕ) (k : CableLine) → IsStory hs (p ++ x ∷ rest) → IsLawful s hs → slice_get s.cables i ≡ Some k → k.sender ≡ x.manager → x.entry.actor ≡ actors.Sender i
+        → ((o : Entry) (f : Frame) → Mem o (entries_at hs k.receiver) → o.effect.pushed ≡ Some f → o.stamp ≡ f.stamp) → SeenIn x.entry.effect.popped (z.xs k.sender k.channel).back }
+    ensures receivers { (s : Scenario) (hs : List History) (p rest : List Line) (x : Line) (z : Stand s hs p) (i : ℕ) (k : CableLine) → IsStory hs (p ++ x ∷ rest) → IsLawful s hs → slice_get s.cables i ≡ Some k → k.receiver ≡ x.manager → x.entry.actor ≡ actors.Receiver i
+        → ((o : Entry) (f : Frame) → Mem o (entries_at hs k.sender) → o.effect.pushed ≡ Some f → o.stamp ≡ f.stamp) → SeenIn x.entry.effect.popped (z.xs k.sender k.channel).out }
 {}
 
 /// So does each turn of an end that runs, and each timeout: that cable's channel takes its step, and all others stay. A receiver's turn does in a
@@ -121,4 +132,11 @@ pub fn failing_restarts_are_moves()
     ensures { (s : Scenario) (hs : List History) (p : List Line) (x : Line) (h : History) (stamp : ℕ) (z : Stand s hs p) (noted : Option Noted) (starts more : ℕ) (g : LogState) → slice_get hs x.manager ≡ Some h → Tells (node_after s x.manager p h) stamp x.entry
         → IsOwn x.entry.chance → (node_after s x.manager p h).manager.running ≡ Down noted starts → (done_by x.entry (node_after s x.manager p h)).next ≡ failed_node noted more g (node_after s x.manager p h)
         → (done_by x.entry (node_after s x.manager p h)).delta ≡ [] → (done_by x.entry (node_after s x.manager p h)).pushed ≡ None → ledger (opening_ledger s hs) (p ++ x ∷ []) ≡ ledger (opening_ledger s hs) p → Moves s hs p x h z }
+{}
+
+/// And his RESOLVE that commits: what its receiver has not committed yet counts as there, and is committed nowhere else.
+pub fn what_is_committed_is_a_move()
+    ensures { (s : Scenario) (hs : List History) (p : List Line) (x : Line) (h : History) (stamp : ℕ) (z : Stand s hs p) (i : ℕ) (k : CableLine) (name : List ℕ) → IsScenario s → slice_get hs x.manager ≡ Some h → Tells (node_after s x.manager p h) stamp x.entry
+        → IsOwn x.entry.chance → slice_get s.cables i ≡ Some k → k.sender ≡ x.manager → x.entry.call ≡ calls.Act (acts.Obey (lines.Operate (ops.Resolve name settles.Commit))) → x.entry.chance ≡ chances.Call Runs
+        → IsRunning s p x h (operate (ops.Resolve name settles.Commit) (node_after s x.manager p h)) → sender_named name (node_after s x.manager p h).own.ends ≡ Some (sender_of (near_at s i k) (z.xs k.sender k.channel).sender) → Moves s hs p x h z }
 {}

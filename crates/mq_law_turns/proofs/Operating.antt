@@ -132,9 +132,9 @@ unit_or u None = u
 unit_or u (Some v) = v
 
 -- an operator says that the unit was committed, and it was
-committed_there : (z : Scene) (n : Node) (x : Channel) (y : Past) (d : InDoubt) (rs : List Plain) → IsAt z n x y → IsOpen z n x y d → batch_of z.place.channel n.manager.channels.batches ≡ None → x.receives.unit ≡ d.unit
-    → IsNext z.sender n.manager (apply_all (settled_changes true z.place.channel (sender_or (sender_data z.place.channel n.manager))) n.manager) z.managers rs → TurnedBy (Some d.unit) z (world_of z.scenario z.given rs) (resolved settles.Commit x) (record y { forced = true })
-committed_there z n x y d rs a o free so h =
+committed_there : (by_ : Option Luw) (z : Scene) (n : Node) (x : Channel) (y : Past) (d : InDoubt) (rs : List Plain) → IsAt z n x y → IsOpen z n x y d → batch_of z.place.channel n.manager.channels.batches ≡ None → x.receives.unit ≡ d.unit
+    → IsNext z.sender n.manager (apply_all (settled_changes true z.place.channel (sender_or (sender_data z.place.channel n.manager))) n.manager) z.managers rs → TurnedBy by_ z (world_of z.scenario z.given rs) (resolved settles.Commit x) (record y { forced = true })
+committed_there by_ z n x y d rs a o free so h =
     let c : List ℕ = z.place.channel in
     let p : Plain = n.manager in
     let s = sender_or (sender_data c p) in
@@ -218,8 +218,21 @@ resolves_commit z n x y d u rs a e off h =
     let free = a.sends.unbatched off in
     turned_on z _ (world_of z.scenario z.given rs) (resolved settles.Commit x) (record y { forced = true }) (sym k)
     (bool_case (same_unit x.receives.unit d.unit) (λ t. same_unit x.receives.unit d.unit ≡ t → TurnedBy (Some d.unit) z (world_of z.scenario z.given mid) (resolved settles.Commit x) (record y { forced = true }))
-    (λ t f. committed_there z n x y d mid a o free (unit_yes x.receives.unit d.unit f) h1)
+    (λ t f. committed_there (Some d.unit) z n x y d mid a o free (unit_yes x.receives.unit d.unit f) h1)
     (λ t f. forced_there z n x y d mid a o free (unit_no x.receives.unit d.unit f) h1) refl)
+
+-- where its receiver has it already, nothing is told of it
+pub resolves_committed : (z : Scene) (n : Node) (x : Channel) (y : Past) (d : InDoubt) (u : Luw) (rs : List Plain) → IsAt z n x y → x.sends.in_doubt ≡ Some d → is_sending x.sender.state ≡ false → x.receives.unit ≡ d.unit
+    → IsNext z.sender n.manager (do_part (harden_part z.place.channel (notes.Resolved u true true) n.manager) n.manager) z.managers rs → Turned z (world_of z.scenario z.given rs) (resolved settles.Commit x) (past_resolved settles.Commit d y)
+resolves_committed z n x y d u rs a e off so h =
+    let c : List ℕ = z.place.channel in
+    let p : Plain = n.manager in
+    let part = harden_part c (notes.Resolved u true true) p in
+    let q : Plain = apply_all (settled_changes true c (sender_or (sender_data c p))) p in
+    let k = world_behind z.scenario z.given z.sender p q _ z.managers rs h (part_stays part p) in
+    let mid : List Plain = change_at z.sender (λ (o : Plain). q) z.managers in
+    let h1 = next_mid z.sender p q _ z.managers rs h in
+    turned_on z _ (world_of z.scenario z.given rs) (resolved settles.Commit x) (record y { forced = true }) (sym k) (committed_there None z n x y d mid a (is_open z n x y d a e) (a.sends.unbatched off) so h1)
 
 pub resolves_backout : (z : Scene) (n : Node) (x : Channel) (y : Past) (d : InDoubt) (u : Luw) (rs : List Plain) → IsAt z n x y → x.sends.in_doubt ≡ Some d → is_sending x.sender.state ≡ false → x.receives.unit ≢ d.unit
     → IsNext z.sender n.manager (do_part (harden_part z.place.channel (notes.Resolved u false true) n.manager) n.manager) z.managers rs → Turned z (world_of z.scenario z.given rs) (resolved settles.Backout x) (past_resolved settles.Backout d y)
