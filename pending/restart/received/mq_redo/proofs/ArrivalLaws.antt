@@ -1,5 +1,5 @@
 -- What a receiver's commit did to what lasts.
-use Rattle.std.proofs.Common.{◌≡◌, ℕ, Bool, true, false, List, [], ◌∷◌, ◌++◌, refl, ap, sym, ◌∙◌, append_assoc}
+use Rattle.std.proofs.Common.{◌≡◌, ℕ, Bool, true, false, List, [], ◌∷◌, ◌++◌, refl, ap, sym, ◌∙◌}
 use Rattle.std.specs.Prelude.{Option, Some, None, filter, ◌||◌, ◌&&◌, if◌then◌else◌}
 use Rattle.std.specs.List.{flat_map, list_any}
 use Rattle.std.proofs.lemmas.List.Elements.{filter-append}
@@ -13,7 +13,7 @@ use Rattle.mq_calls.specs.declared.deltas.Why.TheVariants as whys
 use Rattle.mq_calls.specs.declared.records.Add.{Add}
 use Rattle.mq_calls.specs.declared.records.LogRecord.{LogRecord}
 use Rattle.mq_calls.specs.declared.records.LogRecord.TheVariants as records
-use Rattle.mq_spec_state.specs.Words.{Plain, is_persistent, stands}
+use Rattle.mq_spec_state.specs.Words.{Plain, is_persistent}
 use Rattle.mq_spec_manager.specs.Stops.{lasts}
 use Rattle.mq_spec_agents.specs.Words.{received_part, drop_did}
 use Rattle.mq_core.specs.declared.parts.Arrival.{Arrival}

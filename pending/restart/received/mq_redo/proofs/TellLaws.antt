@@ -1,5 +1,5 @@
 -- What is told of one value after another.
-use Rattle.std.proofs.Common.{◌≡◌, ℕ, suc, ◌+◌, ◌<◌, ◌≤◌, List, [], ◌∷◌, ◌++◌, length, get_or, drop, ap, sym, subst, ◌∙◌, append_assoc, add-one, drop-cons, arith}
+use Rattle.std.proofs.Common.{◌≡◌, ℕ, suc, ◌+◌, ◌<◌, ◌≤◌, List, ◌∷◌, ◌++◌, length, get_or, drop, ap, sym, ◌∙◌, append_assoc, add-one, drop-cons, arith}
 use Rattle.std.specs.List.{flat_map}
 use Rattle.mq_calls.specs.declared.deltas.Did.{Did}
 use Rattle.mq_unit.specs.Told.{Telling}

@@ -10,7 +10,9 @@ ghost use Rattle.mq_core.specs.Writes.{all_landed, now_part, gone_part, settled_
 ghost use Rattle.mq_redo.specs.Redone.{redone_of, redone_part, taken_of, placed_of};
 
 use crate::arrivals::tell_all_arrived;
-use crate::telling::{is_persistent, tell_all_placed, tell_all_removed, tell_all_settled, tell_all_taken};
+use crate::telling::{
+    is_persistent, tell_all_placed, tell_all_removed, tell_all_settled, tell_all_taken,
+};
 use mq_base::NoMemory;
 use mq_calls::{Did, Note, Remove, Why};
 use mq_core::{Arrival, Mode, Parts, StoppedWrite};
@@ -130,11 +132,7 @@ fn tell_settlement<D: Disk>(
     Ok(())
 }
 
-fn tell_unit<D: Disk>(
-    effects: &mut Effects,
-    parts: &Parts<D>,
-    seat: &Seat,
-) -> Result<(), NoMemory>
+fn tell_unit<D: Disk>(effects: &mut Effects, parts: &Parts<D>, seat: &Seat) -> Result<(), NoMemory>
     requires none { effects.old.dids ≡ [] }
     ensures ok { OnOk result (effects.new.dids ≡ flat_map (taken_of (plain_of parts.now)) seat.now.unit ++ flat_map placed_of seat.now.unit) }
 {

@@ -21,12 +21,17 @@ fn adds_ident(arrival: &Arrival, ident: &Ident) -> bool
     is_persistent(&arrival.message) && *ident == arrival.message.ident
 }
 
+fn any_adds(landed: &[Arrival], ident: &Ident) -> bool
+    ensures { result ≡ list_any (adds_ident ident.now) landed.now }
+{
+    landed.iter().any(|arrival| adds_ident(arrival, ident))
+}
+
 /// Whether a persistent message of a batch has the ident.
-#[tactic(auto, using(crate::proofs::ArrivalLaws::is_added))]
 fn is_added(landed: &[Arrival], ident: &Ident) -> bool
     ensures { result ≡ is_in ident.now (flat_map arrival_adds landed.now) }
 {
-    landed.iter().any(|arrival| adds_ident(arrival, ident))
+    any_adds(landed, ident)
 }
 
 fn tell_dropped<D: Disk>(
@@ -70,11 +75,7 @@ fn tell_arrived<D: Disk>(
 
 /// Tells of the messages of a batch: of those that last, and of the rows of units in doubt that stood till then.
 #[tactic(auto, using(crate::proofs::TellLaws::twice_fits, crate::proofs::TellLaws::twice_next))]
-pub(crate) fn tell_all_arrived<D: Disk>(
-    effects: &mut Effects,
-    parts: &Parts<D>,
-    landed: &[Arrival],
-)
+pub(crate) fn tell_all_arrived<D: Disk>(effects: &mut Effects, parts: &Parts<D>, landed: &[Arrival])
     requires room { length landed.now + length landed.now ≤ effects.old.room }
     ensures dids { effects.new.dids ≡ effects.old.dids ++ flat_map (arrived_of (flat_map arrival_adds landed.now) (plain_of parts.now)) landed.now }
     ensures room { effects.old.room ≤ effects.new.room + (length landed.now + length landed.now) }
