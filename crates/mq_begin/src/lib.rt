@@ -5,5 +5,5 @@ mod beginning;
 mod faults;
 mod one;
 
-pub use beginning::begin_managers;
+pub use beginning::{begin_managers, first_moment};
 pub use faults::{NetFault, NoNet};
