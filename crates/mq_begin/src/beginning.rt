@@ -1,0 +1,162 @@
+//! All managers of a scenario begin over a shelf, in the scenario's order.
+ghost use Rattle.std.specs.Prelude.{◌≡◌, ◌+◌, ◌++◌, [], ◌<◌, ◌∷◌, map, option_map, option_to_list, MatchResult, vec_len, vec_capacity};
+ghost use Rattle.mq_history.specs.Scenarios.{IsScenario};
+ghost use Rattle.mq_disk.specs.declared.shelf.Side.TheVariants as sides;
+ghost use Rattle.mq_begin.specs.declared.faults.NetFault.TheVariants as faults;
+ghost use Rattle.mq_begin.specs.Begun.{AllBegan, NotBegan, moment_or};
+
+use crate::faults::{NetFault, NoNet};
+use crate::one::{Refused, begin_one};
+use mq_core::{Core, Parts};
+use mq_disk::{Cutter, Disk, Shelf};
+use mq_history::Scenario;
+use std::alloc::Global;
+
+/// The moment with which the managers begin: that of the scenario, if it has one, or that of the start, which is taken as
+/// 253,300,000,000,000 where it is above that.
+pub fn first_moment(scenario: &Scenario, start: u64) -> u64
+    ensures { result ≡ moment_or scenario.now.moment start }
+{
+    match scenario.moment {
+        Some(moment) => moment,
+        None => start.min(253_300_000_000_000),
+    }
+}
+
+/// The disk of a manager.
+fn disk_of<D: Disk>(core: Core<D>) -> D
+    ensures { D.faults result ≡ core.faults }
+{
+    let Core {
+        parts,
+        effects: _,
+        stopped: _,
+    } = core;
+    let Parts {
+        alloc: _,
+        number: _,
+        name: _,
+        mode: _,
+        defs: _,
+        queues: _,
+        live: _,
+        ends: _,
+        moment: _,
+        incarnation: _,
+        idents: _,
+        log,
+        body: _,
+    } = parts;
+    let Cutter {
+        inner,
+        armed: _,
+        stopped: _,
+    } = log.end();
+    inner
+}
+
+/// One disk more, in room that was taken.
+fn with_disk<D: Disk>(mut disks: Vec<D>, disk: D) -> Vec<D>
+    requires room { vec_len disks < vec_capacity disks }
+    ensures items { result.items ≡ disks.items ++ disk ∷ [] }
+    ensures len { vec_len result ≡ vec_len disks + 1 }
+    ensures capacity { vec_capacity result ≡ vec_capacity disks }
+{
+    disks.push_reserved(disk);
+    disks
+}
+
+/// One manager more, likewise.
+fn with_core<D: Disk>(mut cores: Vec<Core<D>>, core: Core<D>) -> Vec<Core<D>>
+    requires room { vec_len cores < vec_capacity cores }
+    ensures items { result.items ≡ cores.items ++ core ∷ [] }
+    ensures len { vec_len result ≡ vec_len cores + 1 }
+    ensures capacity { vec_capacity result ≡ vec_capacity cores }
+{
+    cores.push_reserved(core);
+    cores
+}
+
+/// The disk of the manager that was not begun, if it was taken, behind the others.
+fn with_own<D: Disk>(disks: Vec<D>, own: Option<D>) -> Vec<D>
+    requires room { vec_len disks < vec_capacity disks }
+    ensures { result.items ≡ disks.items ++ option_to_list own }
+{
+    match own {
+        Some(disk) => with_disk(disks, disk),
+        None => disks,
+    }
+}
+
+/// The disks of managers, in their order.
+fn disks_of<D: Disk>(cores: Vec<Core<D>>, disks: Vec<D>) -> Vec<D>
+    requires none { disks.items ≡ [] }
+    requires room { vec_len disks + vec_len cores < vec_capacity disks }
+    ensures faults { map D.faults result.items ≡ map (λ c. c.faults) cores.items }
+    ensures room { vec_len result < vec_capacity result }
+{
+    let mut left = cores;
+    left.reverse();
+    let mut disks = disks;
+    while let Some(core) = left.pop() {
+        disks = with_disk(disks, disk_of(core));
+    }
+    disks
+}
+
+/// The disks of managers that had begun, in their order, and that of the one that did not, if it was taken.
+fn hand_back<D: Disk>(cores: Vec<Core<D>>, disks: Vec<D>, refused: Refused<D>) -> NoNet<D>
+    requires none { disks.items ≡ [] }
+    requires room { vec_len disks + vec_len cores < vec_capacity disks }
+    ensures fault { result.fault ≡ refused.fault }
+    ensures counts { map D.faults result.disks.items ≡ map (λ c. c.faults) cores.items ++ option_to_list (option_map D.faults refused.disk) }
+{
+    let Refused { fault, disk } = refused;
+    let disks = with_own(disks_of(cores, disks), disk);
+    NoNet { fault, disks }
+}
+
+/// Nothing was taken.
+fn no_room<D: Disk>(alloc: Global) -> NoNet<D>
+    ensures fault { result.fault ≡ faults.NoMemory }
+    ensures none { result.disks.items ≡ [] }
+{
+    NoNet {
+        fault: NetFault::NoMemory,
+        disks: Vec::new(alloc),
+    }
+}
+
+/// Begins the managers of a scenario in its order, each over its own disk of the shelf.
+///
+/// # Errors
+///
+/// The first fault: the shelf or a disk failed, a manager's bytes are no log of it, or there was no memory. The disks that
+/// were taken are handed back.
+pub fn begin_managers<H: Shelf>(
+    alloc: Global,
+    scenario: &Scenario,
+    shelf: &mut H,
+    start: u64,
+) -> Result<Vec<Core<H::D>>, NoNet<H::D>>
+    requires scenario { IsScenario scenario.now }
+    ensures { MatchResult result (λ cores. AllBegan H.D.tells (λ n b. H.holds shelf.old n sides.A b) (moment_or scenario.now.moment start) 0 scenario.now.managers cores.items) (λ e. NotBegan H.D.tells (λ n b. H.holds shelf.old n sides.A b) (moment_or scenario.now.moment start) scenario.now.managers (H.faults shelf.old) (H.faults shelf.new) (map H.D.faults e.disks.items) e.fault) }
+{
+    let moment = first_moment(scenario, start);
+    let count = scenario.managers.len();
+    let mut cores = match Vec::with_capacity(alloc, count) {
+        Ok(cores) => cores,
+        Err(_) => return Err(no_room(alloc)),
+    };
+    let disks = match Vec::with_capacity(alloc, count) {
+        Ok(disks) => disks,
+        Err(_) => return Err(no_room(alloc)),
+    };
+    for line in scenario.managers.as_slice() {
+        match begin_one(alloc, shelf, cores.len() as u16, line, moment) {
+            Ok(core) => cores = with_core(cores, core),
+            Err(refused) => return Err(hand_back(cores, disks, refused)),
+        }
+    }
+    Ok(cores)
+}

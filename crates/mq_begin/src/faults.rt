@@ -1,0 +1,22 @@
+//! Why the managers of a scenario were not begun.
+use mq_disk::Disk;
+
+/// Why a network was not begun.
+#[derive(Clone, Copy, Debug, PartialEq, Eq)]
+pub enum NetFault {
+    /// The shelf or a disk failed: its count of faults rose.
+    DiskFault,
+    /// The bytes of this manager's disk, a place in the scenario from 0, are no log of it: the gate at fault.
+    BadLog(u16, u64),
+    /// There was no memory.
+    NoMemory,
+}
+
+/// What is left where a network was not begun.
+#[derive(Drop)]
+pub struct NoNet<D: Disk> {
+    /// Why it was not.
+    pub fault: NetFault,
+    /// The disks that were taken, in the order of the managers.
+    pub disks: Vec<D>,
+}

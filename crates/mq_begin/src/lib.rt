@@ -1,0 +1,9 @@
+//! The managers of a scenario begin over a shelf, each from the log on its own disk.
+#![tactic(auto)]
+
+mod beginning;
+mod faults;
+mod one;
+
+pub use beginning::{begin_managers, first_moment};
+pub use faults::{NetFault, NoNet};
