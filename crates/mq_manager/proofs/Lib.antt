@@ -5,3 +5,4 @@ pub mod WellLaws
 pub mod CommandLaws
 pub mod TellLaws
 pub mod AgentLaws
+pub mod BeginLaws

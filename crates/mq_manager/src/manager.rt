@@ -1,33 +1,37 @@
 //! The queue manager and its calls.
-ghost use Rattle.std.specs.Prelude.{◌≡◌, [], Ok, option_copied, option_map};
+ghost use Rattle.std.specs.Prelude.{◌≡◌, ◌≤◌, [], false, Ok, MatchResult, option_copied, option_map};
 ghost use Rattle.mq_spec_state.specs.Words.{Meets, MeetsInRoom, AreLow, is_up};
 ghost use Rattle.mq_core.specs.Values.{WritesLog, manager_of};
 ghost use Rattle.mq_spec_state.specs.Words.{MeetsOrWants};
 ghost use Rattle.mq_spec_manager.specs.Commands.{command};
 ghost use Rattle.mq_spec_manager.specs.Stops.{advance_clock, cut, stop};
 ghost use Rattle.mq_spec_manager.specs.Triggers.{trigger_turn};
-ghost use Rattle.mq_spec_agents.specs.Words.{IsUp, IsSenderHere, HasSeized, HasBatch, CanHold, CanPrepare, CanHarden, HasFreeRow, kept, stock, batch_row, next_row, seize, leave, set_bound, expire, hold_batch, release_batch, prepare, harden, discard};
-ghost use Rattle.mq_agents.specs.Ends.{by_agent, by_memory, by_seize, by_prepare, kept_of, place_and_message};
+ghost use Rattle.mq_spec_agents.specs.Words.{IsUp, IsSenderHere, HasSeized, HasBatch, CanHold, CanPrepare, CanHarden, HasFreeRow, kept, stock, batch_row, next_row, seize, leave, set_bound, expire, hold_batch, release_batch, prepare, harden, discard, CanMove, move_row};
+ghost use Rattle.mq_agents.specs.Ends.{by_agent, by_memory, by_seize, by_prepare, by_place, kept_of, place_and_message};
 ghost use Rattle.mq_steer.specs.Quiet.{quietly, Comes};
+ghost use Rattle.mq_spec_manager.specs.Words.{last_moment};
+ghost use Rattle.mq_start.specs.Begun.{given_by, HasBegun, HasNotBegun};
 ghost use Rattle.mq_manager.specs.Due.{next_due};
 ghost use Rattle.mq_steer.specs.Turns.{halted};
 ghost use Rattle.mq_spec_manager.specs.Words.{mqconn, mqopen, mqclose, mqput, mqput1, mqget, mqcmit, mqback, mqdisc};
 
-use crate::limit::command_that_fits;
+use crate::limit::{begin_that_fits, command_that_fits};
 use crate::notes::harden_note;
 use mq_agents::Hardened;
 use mq_base::NoMemory;
 use mq_calls::{
-    AgentStop, Answer, Appl, Delta, Get, GetAnswer, Halt, Hconn, Hobj, Note, Open, PrepareFault,
-    ScRefusal, SeizeFault, Sent, Shown,
+    AgentStop, Answer, Appl, Delta, Get, GetAnswer, Halt, Hconn, Hobj, Note, Open, PlaceFault,
+    PrepareFault, ScRefusal, SeizeFault, Sent, Shown,
 };
 use mq_codes::Reason;
 use mq_core::Core;
-use mq_disk::Disk;
-use mq_message::{Ident, Md, Message, Place};
+use mq_disk::{Cutter, Disk};
+use mq_message::{Dest, Ident, Md, Message, Place};
 use mq_name::{ChName, QName};
 use mq_objects::{Command, Defs};
+use mq_start::Unbegun;
 use mq_sync::{Stock, Unit};
+use std::alloc::Global;
 use std::marker::Model;
 
 /// One queue manager. Contracts see it as the plain manager, what its last call did, what stopped
@@ -49,6 +53,35 @@ impl<D: Disk> Model for Manager<D> {
 }
 
 impl<D: Disk> Manager<D> {
+    /// A first start, of the log on a disk: the manager has what its log tells, and its own Started record behind it. On an
+    /// empty disk there is no log, and the manager begins with nothing.
+    ///
+    /// # Errors
+    ///
+    /// `Disk` only where the disk's count of faults rose; `BadLog`, where the disk tells its bytes, only where these are no log
+    /// of this manager, with the place of the gate at fault; `NoMemory`. The disk is handed back.
+    pub fn begin(
+        alloc: Global,
+        number: u8,
+        name: &QName,
+        disk: Cutter<D>,
+        max: u64,
+        moment: u64,
+    ) -> Result<Self, Unbegun<D>>
+        requires low { 1 ≤ number }
+        requires high { number ≤ 8 }
+        requires max { max ≤ 268435456 }
+        requires moment { moment ≤ last_moment }
+        requires armed { disk.armed ≡ 0 }
+        requires passes { disk.stopped ≡ false }
+        ensures { MatchResult result (λ m. HasBegun D.tells (D.seen disk.inner) (D.faults disk.inner) (given_by number name.now max) moment m) (λ e. HasNotBegun D.tells (D.seen disk.inner) (given_by number name.now max) (D.faults disk.inner) e.fault (D.faults e.disk.inner)) }
+    {
+        match begin_that_fits(alloc, number, name, disk, max, moment) {
+            Ok(core) => Ok(Manager { core }),
+            Err(unbegun) => Err(unbegun),
+        }
+    }
+
     /// Whether the manager is up. It takes no memory.
     pub fn is_up(&self) -> bool
         ensures { result ≡ is_up self.now.plain.running }
@@ -382,6 +415,29 @@ impl<D: Disk> Manager<D> {
         ensures told { WritesLog self.old (harden channel.now note.now self.old.plain) (by_agent result) self.new }
     {
         harden_note(&mut self.core, channel, note)
+    }
+
+    /// The row of an ident goes to the end of a rule's route: FWD, or RETRY; without its header where `bare`. Where its message
+    /// lasts, it goes behind one forced record, in which it leaves the one queue and stands on the other.
+    ///
+    /// # Errors
+    ///
+    /// Refused: what name resolution refuses, 2045, 2051, 2030, 2031, 2053, and 2102 where the message lasts and the log has no
+    /// room for its record. The disk or the cut stopped the write, and the manager is down; no memory, and nothing has changed.
+    pub fn move_row(
+        &mut self,
+        from: &QName,
+        ident: &Ident,
+        to: &Dest,
+        bare: bool,
+    ) -> Result<(), PlaceFault>
+        requires up { IsUp self.old.plain }
+        requires low { AreLow self.old.plain }
+        requires can { CanMove from.now ident.now bare self.old.plain }
+        ensures meets { MeetsOrWants (manager_of self.old) (move_row from.now ident.now to.now bare self.old.plain) (by_place result) (manager_of self.new) }
+        ensures told { WritesLog self.old (move_row from.now ident.now to.now bare self.old.plain) (by_place result) self.new }
+    {
+        mq_moves::move_row(&mut self.core, from, ident, to, bare)
     }
 
     /// A rule of the handler removes a row, behind a forced record where it lasts. It is not refused for want of room in the log.
