@@ -1,6 +1,7 @@
 //! The queue manager and its calls.
 ghost use Rattle.std.specs.Prelude.{◌≡◌, [], Ok, option_copied, option_map};
-ghost use Rattle.mq_spec_state.specs.Words.{Meets, MeetsInRoom, AreLow, is_up};
+ghost use Rattle.mq_spec_state.specs.Words.{Meets, MeetsInRoom, is_up};
+ghost use Rattle.mq_core.specs.Counting.{CanCount};
 ghost use Rattle.mq_core.specs.Values.{WritesLog, manager_of};
 ghost use Rattle.mq_spec_state.specs.Words.{MeetsOrWants};
 ghost use Rattle.mq_spec_manager.specs.Commands.{command};
@@ -79,7 +80,7 @@ impl<D: Disk> Manager<D> {
 
     /// MQCONN (MQI reference).
     pub fn mqconn(&mut self, qmgr: &QName, appl: &Appl) -> Result<Answer<Hconn>, Halt<Reason>>
-        requires low { AreLow self.old.plain }
+        requires low { CanCount self.old.plain }
         ensures meets { Meets (manager_of self.old) (mqconn qmgr.now appl.now self.old.plain) result (manager_of self.new) }
         ensures told { WritesLog self.old (mqconn qmgr.now appl.now self.old.plain) result self.new }
     {
@@ -94,7 +95,7 @@ impl<D: Disk> Manager<D> {
         qmgr: &QName,
         how: &Open,
     ) -> Result<Answer<Hobj>, Halt<Reason>>
-        requires low { AreLow self.old.plain }
+        requires low { CanCount self.old.plain }
         ensures meets { Meets (manager_of self.old) (mqopen hc name.now qmgr.now how.now self.old.plain) result (manager_of self.new) }
         ensures told { WritesLog self.old (mqopen hc name.now qmgr.now how.now self.old.plain) result self.new }
     {
@@ -118,7 +119,7 @@ impl<D: Disk> Manager<D> {
         body: &[u8],
         sync: bool,
     ) -> Result<Answer<Sent>, Halt<Reason>>
-        requires low { AreLow self.old.plain }
+        requires low { CanCount self.old.plain }
         ensures meets { Meets (manager_of self.old) (mqput hc ho md.now body.now sync self.old.plain) result (manager_of self.new) }
         ensures told { WritesLog self.old (mqput hc ho md.now body.now sync self.old.plain) result self.new }
     {
@@ -135,7 +136,7 @@ impl<D: Disk> Manager<D> {
         body: &[u8],
         sync: bool,
     ) -> Result<Answer<Sent>, Halt<Reason>>
-        requires low { AreLow self.old.plain }
+        requires low { CanCount self.old.plain }
         ensures meets { Meets (manager_of self.old) (mqput1 hc name.now qmgr.now md.now body.now sync self.old.plain) result (manager_of self.new) }
         ensures told { WritesLog self.old (mqput1 hc name.now qmgr.now md.now body.now sync self.old.plain) result self.new }
     {
@@ -158,7 +159,7 @@ impl<D: Disk> Manager<D> {
 
     /// MQCMIT (MQI reference). It takes no memory.
     pub fn mqcmit(&mut self, hc: Hconn) -> Result<Answer<()>, Halt<Reason>>
-        requires low { AreLow self.old.plain }
+        requires low { CanCount self.old.plain }
         ensures meets { MeetsInRoom (manager_of self.old) (mqcmit hc self.old.plain) result (manager_of self.new) }
         ensures told { WritesLog self.old (mqcmit hc self.old.plain) result self.new }
     {
@@ -175,7 +176,7 @@ impl<D: Disk> Manager<D> {
 
     /// MQDISC (MQI reference). It takes no memory.
     pub fn mqdisc(&mut self, hc: Hconn) -> Result<Answer<()>, Halt<Reason>>
-        requires low { AreLow self.old.plain }
+        requires low { CanCount self.old.plain }
         ensures meets { MeetsInRoom (manager_of self.old) (mqdisc hc self.old.plain) result (manager_of self.new) }
         ensures told { WritesLog self.old (mqdisc hc self.old.plain) result self.new }
     {
@@ -196,7 +197,7 @@ impl<D: Disk> Manager<D> {
     ///
     /// No memory; the trigger stays due.
     pub fn trigger_turn(&mut self) -> Result<bool, NoMemory>
-        requires low { AreLow self.old.plain }
+        requires low { CanCount self.old.plain }
         ensures meets { Meets (manager_of self.old) (trigger_turn self.old.plain) (halted result) (manager_of self.new) }
         ensures told { WritesLog self.old (trigger_turn self.old.plain) (halted result) self.new }
     {
