@@ -100,8 +100,7 @@ fn fill_prepared<D: Disk>(
     }
     parts.body.clear();
     parts.body.put(&prepared_front(channel, doubt.unit, doubt.last, &doubt.queue, count as u32));
-    let idents = doubt.idents.as_slice();
-    put_idents(&mut parts.body, idents);
+    put_idents(&mut parts.body, doubt.idents.as_slice());
     Ok(())
 }
 
