@@ -1,5 +1,5 @@
 -- The parts of calls that are written to the log.
-use Rattle.std.specs.Prelude.{ℕ, Bool, true, false, List, [], ◌∷◌, ◌++◌, map, flat_map, Option, Some, None}
+use Rattle.std.specs.Prelude.{ℕ, ◌<◌, Bool, true, false, List, [], ◌∷◌, ◌++◌, length, map, flat_map, Option, Some, None}
 use Rattle.mq_spec_state.specs.Words.{Add, Did, Ident, Message, Connection, Part, Change, LogRecord, Remove, Luw, Among, Batch, Plain, sender_or, sender_data, data_settled, settle_by}
 use Rattle.mq_calls.specs.declared.deltas.Did.TheVariants as did
 use Rattle.mq_calls.specs.declared.records.LogRecord.TheVariants as records
@@ -8,7 +8,23 @@ use Rattle.mq_spec_state.specs.State.Change.{Disconnect, CountIdent, Leave, SetS
 use Rattle.mq_spec_manager.specs.Words.{placed, unit_record, commit_part}
 use Rattle.mq_calls.specs.declared.agents.Note.TheVariants as notes
 use Rattle.mq_spec_agents.specs.Words.{prepared_record, prepared_changes, settle_change, settle_did, Landing, Landed, Standing, Absent, InDoubtAt, add_of, land_changes, drop_did}
+use Rattle.mq_record.specs.Records.{IsRecord}
 use Rattle.mq_core.specs.declared.parts.Arrival.{Arrival}
+
+-- where a record is of a channel, the channel has a name
+abbrev pub NamesChannel : LogRecord → Type 0
+NamesChannel (records.Session channel partner session) = 0 < length channel
+NamesChannel (records.Prepared channel unit last queue idents) = 0 < length channel
+NamesChannel (records.Resolved channel unit commit operator) = 0 < length channel
+NamesChannel (records.Bound channel partner session last) = 0 < length channel
+NamesChannel (records.Closed channel session) = 0 < length channel
+NamesChannel (records.Received channel unit last adds) = 0 < length channel
+NamesChannel (records.SeqSet channel end last) = 0 < length channel
+NamesChannel _ = Unit {0}
+
+-- then its fields fit, so that it is read from its bytes (mq_record)
+abbrev pub FitsRecord : LogRecord → Type 0
+FitsRecord r = NamesChannel r → IsRecord r
 
 -- the record that adds one message
 abbrev pub added : List ℕ → Message → LogRecord
