@@ -203,7 +203,7 @@ pub stopped_tied : (write : StoppedWrite) (r : LogRecord) (n : ℕ) (stop : Stop
 stopped_tied write r n stop x y z h f t = tied_downed write r [] y z stop f (tied_roomier x y (roomy_more n x y h) t)
 
 -- A note that was not hardened: there was no memory, or its write was stopped.
-pub unwritten_tied : (u : Unwritten) (channel : List ℕ) (note : Note) (bytes : List ℕ) (e : ChannelEnds) (x z : PartsValue) → bytes ≡ record_bytes (note_record channel note) → length bytes ≡ record_size (note_record channel note)
+pub unwritten_tied : (u : Unwritten) (channel : List ℕ) (note : Note) (bytes : List ℕ) (e : ChannelEnds) (x z : PartsValue) → bytes ≡ record_bytes (note_record channel note) → IsWhole bytes (note_record channel note)
     → Writes bytes e (writes.Hardened channel note) x (Err u) z → Tied x → Tied z
 unwritten_tied unwritten.NoMemory channel note bytes e x z is size w t = tied_roomier x z w t
 unwritten_tied (unwritten.Stopped stop) channel note bytes e x z is size w t =
@@ -251,7 +251,7 @@ with_sender_data r side p = record (logged (Some r) p) { channels = record p.cha
 with_receiver_data : LogRecord → ReceiverSide → Plain → Plain
 with_receiver_data r side p = record (logged (Some r) p) { channels = record p.channels { receivers = set_receiver side p.channels.receivers } }
 
-pub sender_hardened : (r : LogRecord) (bytes : List ℕ) (side : SenderSide) (channel : List ℕ) (x y : PartsValue) (p : Plain) → mode_is_up x.mode ≡ true → bytes ≡ record_bytes r → length bytes ≡ record_size r
+pub sender_hardened : (r : LogRecord) (bytes : List ℕ) (side : SenderSide) (channel : List ℕ) (x y : PartsValue) (p : Plain) → mode_is_up x.mode ≡ true → bytes ≡ record_bytes r → IsWhole bytes r
     → IsWritten bytes (with_senders (set_sender side x.ends.senders) x.ends) x (Ok tt) y → side.channel ≡ channel → plain_of x ≡ p → plain_of y ≡ apply (SetSender channel side.hardened) (logged (Some r) p)
 unfolding with_sender_data
 sender_hardened r bytes side channel x y p up is size w named plain =
@@ -259,7 +259,7 @@ sender_hardened r bytes side channel x y p up is size w named plain =
     ∙ ap (with_sender_data r side) plain
     ∙ ap (λ (c : List ℕ). with_sender_data r (record side { channel = c }) p) named
 
-pub receiver_hardened : (r : LogRecord) (bytes : List ℕ) (side : ReceiverSide) (channel : List ℕ) (x y : PartsValue) (p : Plain) → mode_is_up x.mode ≡ true → bytes ≡ record_bytes r → length bytes ≡ record_size r
+pub receiver_hardened : (r : LogRecord) (bytes : List ℕ) (side : ReceiverSide) (channel : List ℕ) (x y : PartsValue) (p : Plain) → mode_is_up x.mode ≡ true → bytes ≡ record_bytes r → IsWhole bytes r
     → IsWritten bytes (with_receivers (set_receiver side x.ends.receivers) x.ends) x (Ok tt) y → side.channel ≡ channel → plain_of x ≡ p → plain_of y ≡ apply (SetReceiver channel side.hardened) (logged (Some r) p)
 unfolding with_receiver_data
 receiver_hardened r bytes side channel x y p up is size w named plain =

@@ -12,7 +12,7 @@ use Rattle.mq_core.specs.Views.{PartsValue, plain_of, frozen_of}
 use Rattle.mq_core.specs.Ties.{Tied, mode_is_up}
 use Rattle.mq_core.proofs.MeetLaws.{mode_up}
 use Rattle.mq_core.proofs.PutLaws.{tied_roomier, roomier_view}
-use Rattle.mq_agents.specs.Written.{with_senders}
+use Rattle.mq_agents.specs.Written.{IsWhole, with_senders}
 use Rattle.mq_agents.specs.Removing.{IsDoubtOf, doubt_record}
 use Rattle.mq_agents.specs.Ends.{by_prepare, halt_of}
 use Rattle.mq_agents.proofs.WriteLaws.{roomy_more, hardened_tied, sender_hardened, unwritten_ends, unwritten_told, hardened_bodies, tied_after, wrote_as}
@@ -35,7 +35,7 @@ invariant_of-core-in-Err-write_doubt g c =
     let z : PartsValue = c.write_doubt.new.parts in
     let fl = c.in-Ok-fill_prepared.ensures.ok in
     let more = roomy_more (need r) x y fl.roomy in
-    let size = (ap length fl.bytes ∙ fl.size, fl.fits) in
+    let size : IsWhole y.body.bytes r = (ap length fl.bytes ∙ fl.size, fl.fits) in
     let old = c.in-Ok-sender_now.old in
     let side : SenderSide = record { channel = channel; hardened = data_prepared d old } in
     let e : ChannelEnds = with_senders (set_sender side y.ends.senders) y.ends in
@@ -55,7 +55,7 @@ returns-in-Err-write_doubt-clause-meets g c =
     let z : PartsValue = c.write_doubt.new.parts in
     let fl = c.in-Ok-fill_prepared.ensures.ok in
     let more = roomy_more (need r) x y fl.roomy in
-    let size = (ap length fl.bytes ∙ fl.size, fl.fits) in
+    let size : IsWhole y.body.bytes r = (ap length fl.bytes ∙ fl.size, fl.fits) in
     let old = c.in-Ok-sender_now.old in
     let side : SenderSide = record { channel = channel; hardened = data_prepared d old } in
     let e : ChannelEnds = with_senders (set_sender side y.ends.senders) y.ends in
@@ -85,7 +85,7 @@ invariant_of-core-2 g c =
     let z : PartsValue = c.write_doubt.new.parts in
     let fl = c.in-Ok-fill_prepared.ensures.ok in
     let more = roomy_more (need r) x y fl.roomy in
-    let size = (ap length fl.bytes ∙ fl.size, fl.fits) in
+    let size : IsWhole y.body.bytes r = (ap length fl.bytes ∙ fl.size, fl.fits) in
     let old = c.in-Ok-sender_now.old in
     let side : SenderSide = record { channel = channel; hardened = data_prepared d old } in
     let e : ChannelEnds = with_senders (set_sender side y.ends.senders) y.ends in
@@ -105,7 +105,7 @@ returns-clause-meets g c =
     let z : PartsValue = c.write_doubt.new.parts in
     let fl = c.in-Ok-fill_prepared.ensures.ok in
     let more = roomy_more (need r) x y fl.roomy in
-    let size = (ap length fl.bytes ∙ fl.size, fl.fits) in
+    let size : IsWhole y.body.bytes r = (ap length fl.bytes ∙ fl.size, fl.fits) in
     let old = c.in-Ok-sender_now.old in
     let side : SenderSide = record { channel = channel; hardened = data_prepared d old } in
     let e : ChannelEnds = with_senders (set_sender side y.ends.senders) y.ends in
@@ -144,7 +144,7 @@ returns-in-Err-write_doubt-clause-told g c =
     let z : PartsValue = c.write_doubt.new.parts in
     let fl = c.in-Ok-fill_prepared.ensures.ok in
     let more = roomy_more (need r) x y fl.roomy in
-    let size = (ap length fl.bytes ∙ fl.size, fl.fits) in
+    let size : IsWhole y.body.bytes r = (ap length fl.bytes ∙ fl.size, fl.fits) in
     let old = c.in-Ok-sender_now.old in
     let side : SenderSide = record { channel = channel; hardened = data_prepared d old } in
     let e : ChannelEnds = with_senders (set_sender side y.ends.senders) y.ends in
@@ -172,7 +172,7 @@ returns-clause-told g c =
     let z : PartsValue = c.write_doubt.new.parts in
     let fl = c.in-Ok-fill_prepared.ensures.ok in
     let more = roomy_more (need r) x y fl.roomy in
-    let size = (ap length fl.bytes ∙ fl.size, fl.fits) in
+    let size : IsWhole y.body.bytes r = (ap length fl.bytes ∙ fl.size, fl.fits) in
     let old = c.in-Ok-sender_now.old in
     let side : SenderSide = record { channel = channel; hardened = data_prepared d old } in
     let e : ChannelEnds = with_senders (set_sender side y.ends.senders) y.ends in
