@@ -133,7 +133,7 @@ pub begun_told : (parts : List Part) (v w : CoreValue) (r : Result (Unit {0}) (H
 begun_told parts v w (Ok value) m = m
 begun_told parts v w (Err (halts.Refused reason)) m = m
 begun_told parts v w (Err halts.NoMemory) m = m
-begun_told parts v w (Err (halts.Stopped by)) m = record { part = m.part; write = m.write; plain = m.plain; log = m.log }
+begun_told parts v w (Err (halts.Stopped by)) m = record { part = m.part; write = m.write; records = m.records; plain = m.plain; log = m.log }
 
 pub cleared_meets : (queue : List ℕ) (mets : List Met) (x y : PartsValue) (u : Telling) → IsCleared queue mets x y u
     → MeetsOrWants {F = Never} (manager_of (seen x [] None)) (Do nothing (gone_parts whys.Expired queue mets)) (Ok nothing) (manager_of (seen y u.dids None))
@@ -141,7 +141,7 @@ cleared_meets queue mets x y u c = (run_meets (gone_parts whys.Expired queue met
 
 pub cleared_told : (queue : List ℕ) (mets : List Met) (x y : PartsValue) (u : Telling) → IsCleared queue mets x y u
     → WritesLog {F = Never} (seen x [] None) (Do nothing (gone_parts whys.Expired queue mets)) (Ok nothing) (seen y u.dids None)
-cleared_told queue mets x y u c = c.run.log
+cleared_told queue mets x y u c = (c.run.log, c.run.records)
 
 pub halted_meets : (parts : List Part) (x y : PartsValue) (u : Telling) (halt : Halt Reason) → Halts parts x halt y u
     → MeetsOrWants {F = Never} (manager_of (seen x [] None)) (Do nothing parts) (Err (halt_of (agent_of_halt halt))) (manager_of (seen y u.dids (stop_of_halt halt)))

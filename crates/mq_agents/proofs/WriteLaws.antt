@@ -21,15 +21,16 @@ use Rattle.mq_core.specs.declared.parts.ChannelEnds.{ChannelEnds}
 use Rattle.mq_core.specs.declared.parts.StoppedWrite.{StoppedWrite}
 use Rattle.mq_core.specs.declared.parts.StoppedWrite.TheVariants as writes
 use Rattle.mq_core.specs.Views.{PartsValue, plain_of, frozen_of, channels_of, noted}
+use Rattle.mq_core.specs.Writes.{FitsRecord}
 use Rattle.mq_core.specs.Ties.{Tied, mode_is_up}
 use Rattle.mq_core.specs.Forced.{IsForced, HasMoreRoom, downed}
-use Rattle.mq_core.specs.Values.{CoreValue, LogBodies, WritesLog, bodies_in, behind_record, pending_record, wrote_all}
+use Rattle.mq_core.specs.Values.{CoreValue, LogBodies, WritesLog, IsRecordIn, AreRecords, bodies_in, behind_record, pending_record, wrote_all}
 use Rattle.mq_core.proofs.WriteLaws.{roomier_bodies}
 use Rattle.mq_core.proofs.PutLaws.{tied_roomier, roomier_view}
 use Rattle.mq_agents.specs.Removing.{IsRoomy}
 use Rattle.mq_core.proofs.ForceLaws.{forced_view, frozen_view, tied_downed, stops_at}
 use Rattle.mq_agents.specs.Ends.{halt_of, stopped_agent}
-use Rattle.mq_agents.specs.Written.{IsWritten, IsDowned, Writes, agent_of, stop_of, with_senders, with_receivers, note_record, noted_change}
+use Rattle.mq_agents.specs.Written.{IsWhole, IsWritten, IsDowned, Writes, agent_of, stop_of, with_senders, with_receivers, note_record, noted_change}
 use Rattle.mq_agents.specs.declared.hardening.Unwritten.{Unwritten}
 use Rattle.mq_agents.specs.declared.hardening.Unwritten.TheVariants as unwritten
 use Rattle.mq_agents.specs.Ends.{by_agent}
@@ -41,14 +42,15 @@ with_log : LogState → PartsValue → PartsValue
 with_log log x = record x { log = log }
 
 -- without what it says of an end
-forced_as : (r : LogRecord) (bytes : List ℕ) (e : ChannelEnds) (x y : PartsValue) (result : Result (Unit {0}) Stop) → bytes ≡ record_bytes r → length bytes ≡ record_size r → IsWritten bytes e x result y → IsForced r x result (with_log y.log x)
+forced_as : (r : LogRecord) (bytes : List ℕ) (e : ChannelEnds) (x y : PartsValue) (result : Result (Unit {0}) Stop) → bytes ≡ record_bytes r → IsWhole bytes r → IsWritten bytes e x result y → IsForced r x result (with_log y.log x)
 unfolding with_log
 forced_as r bytes e x y result is size w =
-    let whole : 5 + length bytes ≡ need r = ap (λ (n : ℕ). 5 + n) size in
+    let whole : 5 + length bytes ≡ need r = ap (λ (n : ℕ). 5 + n) size.0 in
     record {
       same = refl;
       log = subst (λ (b : List ℕ). Appended x.log b result y.log) is w.log;
-      size = ap length (sym is) ∙ size;
+      fits = size.1;
+      size = ap length (sym is) ∙ size.0;
       ends = w.calls;
       room = subst (λ (n : ℕ). OnOk result (x.log.room ≤ y.log.room + n)) whole w.room;
       body = omega arith;
@@ -59,7 +61,7 @@ forced_as r bytes e x y result is size w =
 with_channels : ChannelEnds → Plain → Plain
 with_channels e p = record p { channels = channels_of e }
 
-pub hardened_view : (r : LogRecord) (bytes : List ℕ) (e : ChannelEnds) (x y : PartsValue) → mode_is_up x.mode ≡ true → bytes ≡ record_bytes r → length bytes ≡ record_size r → IsWritten bytes e x (Ok tt) y
+pub hardened_view : (r : LogRecord) (bytes : List ℕ) (e : ChannelEnds) (x y : PartsValue) → mode_is_up x.mode ≡ true → bytes ≡ record_bytes r → IsWhole bytes r → IsWritten bytes e x (Ok tt) y
     → plain_of y ≡ record (logged (Some r) (plain_of x)) { channels = channels_of e }
 unfolding with_log with_ends with_channels
 hardened_view r bytes e x y up is size w =
@@ -86,13 +88,13 @@ hardened_tied bytes e x y w t =
 downed_by : StoppedWrite → PartsValue → PartsValue
 downed_by write y = downed write y
 
-pub down_view : (write : StoppedWrite) (r : LogRecord) (bytes : List ℕ) (stop : Stop) (x y : PartsValue) → mode_is_up x.mode ≡ true → bytes ≡ record_bytes r → length bytes ≡ record_size r → IsWritten bytes x.ends x (Err stop) y
+pub down_view : (write : StoppedWrite) (r : LogRecord) (bytes : List ℕ) (stop : Stop) (x y : PartsValue) → mode_is_up x.mode ≡ true → bytes ≡ record_bytes r → IsWhole bytes r → IsWritten bytes x.ends x (Err stop) y
     → plain_of (downed write y) ≡ freeze (noted (frozen_of x) (Some write)) y.log.armed (plain_of x)
 unfolding with_log downed_by
 down_view write r bytes stop x y up is size w =
     ap (λ (z : PartsValue). plain_of (downed_by write z)) w.same ∙ frozen_view write r x (with_log y.log x) stop up (forced_as r bytes x.ends x y (Err stop) is size w)
 
-pub down_tied : (write : StoppedWrite) (r : LogRecord) (bytes : List ℕ) (stop : Stop) (x y : PartsValue) → bytes ≡ record_bytes r → length bytes ≡ record_size r → IsWritten bytes x.ends x (Err stop) y → Tied x → Tied (downed write y)
+pub down_tied : (write : StoppedWrite) (r : LogRecord) (bytes : List ℕ) (stop : Stop) (x y : PartsValue) → bytes ≡ record_bytes r → IsWhole bytes r → IsWritten bytes x.ends x (Err stop) y → Tied x → Tied (downed write y)
 unfolding with_log downed_by
 down_tied write r bytes stop x y is size w t =
     subst (λ (z : PartsValue). Tied (downed_by write z)) (sym w.same) (tied_downed write r [] x (with_log y.log x) stop (forced_as r bytes x.ends x y (Err stop) is size w) t)
@@ -201,7 +203,7 @@ pub stopped_tied : (write : StoppedWrite) (r : LogRecord) (n : ℕ) (stop : Stop
 stopped_tied write r n stop x y z h f t = tied_downed write r [] y z stop f (tied_roomier x y (roomy_more n x y h) t)
 
 -- A note that was not hardened: there was no memory, or its write was stopped.
-pub unwritten_tied : (u : Unwritten) (channel : List ℕ) (note : Note) (bytes : List ℕ) (e : ChannelEnds) (x z : PartsValue) → bytes ≡ record_bytes (note_record channel note) → length bytes ≡ record_size (note_record channel note)
+pub unwritten_tied : (u : Unwritten) (channel : List ℕ) (note : Note) (bytes : List ℕ) (e : ChannelEnds) (x z : PartsValue) → bytes ≡ record_bytes (note_record channel note) → IsWhole bytes (note_record channel note)
     → Writes bytes e (writes.Hardened channel note) x (Err u) z → Tied x → Tied z
 unwritten_tied unwritten.NoMemory channel note bytes e x z is size w t = tied_roomier x z w t
 unwritten_tied (unwritten.Stopped stop) channel note bytes e x z is size w t =
@@ -211,7 +213,7 @@ note_frozen : List ℕ → Note → Change → ℕ → Plain → Plain
 note_frozen channel note change armed p = freeze (note_of (noted_change channel note change) (Some (note_record channel note))) armed p
 
 ends_by : (u : Unwritten) (v : ManagerValue) (x z : PartsValue) (told : List Did) (channel : List ℕ) (note : Note) (change : Change) (bytes : List ℕ) (e : ChannelEnds)
-    → mode_is_up x.mode ≡ true → bytes ≡ record_bytes (note_record channel note) → length bytes ≡ record_size (note_record channel note) → Writes bytes e (writes.Hardened channel note) x (Err u) z
+    → mode_is_up x.mode ≡ true → bytes ≡ record_bytes (note_record channel note) → IsWhole bytes (note_record channel note) → Writes bytes e (writes.Hardened channel note) x (Err u) z
     → plain_of x ≡ v.plain → harden_part channel note v.plain ≡ noted_change channel note change → x.log.faults ≡ v.faults → told ≡ []
     → MeetsOrWants v (harden channel note v.plain) (by_agent (Err (agent_of u))) (record { plain = plain_of z; delta = told; stopped = stop_of u; faults = z.log.faults })
 unfolding note_frozen
@@ -234,7 +236,7 @@ ends_by (unwritten.Stopped stop) v x z told channel note change bytes e up is si
 
 pub hardening_ends : (u : Unwritten) (v : ManagerValue) (x z : PartsValue) (told : List Did) (channel : List ℕ) (note : Note) (change : Change) (bytes : List ℕ) (e : ChannelEnds) (agent : AgentStop) (stopped : Option Stop)
     → agent ≡ agent_of u → stopped ≡ stop_of u → mode_is_up x.mode ≡ true
-    → bytes ≡ record_bytes (note_record channel note) → length bytes ≡ record_size (note_record channel note) → Writes bytes e (writes.Hardened channel note) x (Err u) z
+    → bytes ≡ record_bytes (note_record channel note) → IsWhole bytes (note_record channel note) → Writes bytes e (writes.Hardened channel note) x (Err u) z
     → plain_of x ≡ v.plain → harden_part channel note v.plain ≡ noted_change channel note change → x.log.faults ≡ v.faults → told ≡ []
     → MeetsOrWants v (harden channel note v.plain) (by_agent (Err agent)) (record { plain = plain_of z; delta = told; stopped = stopped; faults = z.log.faults })
 hardening_ends u v x z told channel note change bytes e agent stopped a s up is size w plain part faults none =
@@ -249,7 +251,7 @@ with_sender_data r side p = record (logged (Some r) p) { channels = record p.cha
 with_receiver_data : LogRecord → ReceiverSide → Plain → Plain
 with_receiver_data r side p = record (logged (Some r) p) { channels = record p.channels { receivers = set_receiver side p.channels.receivers } }
 
-pub sender_hardened : (r : LogRecord) (bytes : List ℕ) (side : SenderSide) (channel : List ℕ) (x y : PartsValue) (p : Plain) → mode_is_up x.mode ≡ true → bytes ≡ record_bytes r → length bytes ≡ record_size r
+pub sender_hardened : (r : LogRecord) (bytes : List ℕ) (side : SenderSide) (channel : List ℕ) (x y : PartsValue) (p : Plain) → mode_is_up x.mode ≡ true → bytes ≡ record_bytes r → IsWhole bytes r
     → IsWritten bytes (with_senders (set_sender side x.ends.senders) x.ends) x (Ok tt) y → side.channel ≡ channel → plain_of x ≡ p → plain_of y ≡ apply (SetSender channel side.hardened) (logged (Some r) p)
 unfolding with_sender_data
 sender_hardened r bytes side channel x y p up is size w named plain =
@@ -257,7 +259,7 @@ sender_hardened r bytes side channel x y p up is size w named plain =
     ∙ ap (with_sender_data r side) plain
     ∙ ap (λ (c : List ℕ). with_sender_data r (record side { channel = c }) p) named
 
-pub receiver_hardened : (r : LogRecord) (bytes : List ℕ) (side : ReceiverSide) (channel : List ℕ) (x y : PartsValue) (p : Plain) → mode_is_up x.mode ≡ true → bytes ≡ record_bytes r → length bytes ≡ record_size r
+pub receiver_hardened : (r : LogRecord) (bytes : List ℕ) (side : ReceiverSide) (channel : List ℕ) (x y : PartsValue) (p : Plain) → mode_is_up x.mode ≡ true → bytes ≡ record_bytes r → IsWhole bytes r
     → IsWritten bytes (with_receivers (set_receiver side x.ends.receivers) x.ends) x (Ok tt) y → side.channel ≡ channel → plain_of x ≡ p → plain_of y ≡ apply (SetReceiver channel side.hardened) (logged (Some r) p)
 unfolding with_receiver_data
 receiver_hardened r bytes side channel x y p up is size w named plain =
@@ -273,7 +275,7 @@ freeze_noted : Noted → ℕ → Plain → Plain
 freeze_noted n armed p = freeze (Some n) armed p
 
 part_ends : (F : Type 0) {T : Type 0} (u : Unwritten) (v : ManagerValue) (x y z : PartsValue) (told : List Did) (write : StoppedWrite) (r : LogRecord) (changes : List Change) (delta : List Did) (reply : T) (bytes : List ℕ) (e : ChannelEnds)
-    → mode_is_up x.mode ≡ true → HasMoreRoom x y → bytes ≡ record_bytes r → length bytes ≡ record_size r → Writes bytes e write y (Err u) z → noted (frozen_of x) (Some write) ≡ Some (record { written = r; changes = changes; delta = delta })
+    → mode_is_up x.mode ≡ true → HasMoreRoom x y → bytes ≡ record_bytes r → IsWhole bytes r → Writes bytes e write y (Err u) z → noted (frozen_of x) (Some write) ≡ Some (record { written = r; changes = changes; delta = delta })
     → plain_of x ≡ v.plain → x.log.faults ≡ v.faults → told ≡ []
     → MeetsDone {F = F} Anywhere v reply (record { forced = Some r; changes = changes; delta = delta } ∷ []) (Err (halt_of {F = F} (agent_of u))) (record { plain = plain_of z; delta = told; stopped = stop_of u; faults = z.log.faults })
 unfolding freeze_noted
@@ -298,7 +300,7 @@ part_ends F (unwritten.Stopped stop) v x y z told write r changes delta reply by
 
 pub unwritten_ends : (F : Type 0) {T : Type 0} (u : Unwritten) (v : ManagerValue) (x y z : PartsValue) (told : List Did) (write : StoppedWrite) (r : LogRecord) (changes : List Change) (delta : List Did) (reply : T) (bytes : List ℕ) (e : ChannelEnds)
     → (agent : AgentStop) (stopped : Option Stop) → agent ≡ agent_of u → stopped ≡ stop_of u → mode_is_up x.mode ≡ true
-    → HasMoreRoom x y → bytes ≡ record_bytes r → length bytes ≡ record_size r → Writes bytes e write y (Err u) z → noted (frozen_of x) (Some write) ≡ Some (record { written = r; changes = changes; delta = delta })
+    → HasMoreRoom x y → bytes ≡ record_bytes r → IsWhole bytes r → Writes bytes e write y (Err u) z → noted (frozen_of x) (Some write) ≡ Some (record { written = r; changes = changes; delta = delta })
     → plain_of x ≡ v.plain → x.log.faults ≡ v.faults → told ≡ []
     → MeetsDone {F = F} Anywhere v reply (record { forced = Some r; changes = changes; delta = delta } ∷ []) (Err (halt_of {F = F} agent)) (record { plain = plain_of z; delta = told; stopped = stopped; faults = z.log.faults })
 unwritten_ends F u v x y z told write r changes delta reply bytes e agent stopped a s up m is size w note plain faults none =
@@ -306,7 +308,7 @@ unwritten_ends F u v x y z told write r changes delta reply bytes e agent stoppe
     (subst (λ (o : Option Stop). MeetsDone {F = F} Anywhere v reply (record { forced = Some r; changes = changes; delta = delta } ∷ []) (Err (halt_of {F = F} (agent_of u))) (record { plain = plain_of z; delta = told; stopped = o; faults = z.log.faults })) (sym s)
     (part_ends F u v x y z told write r changes delta reply bytes e up m is size w note plain faults none))
 
-pub tied_after : (u : Unwritten) (x y z : PartsValue) (write : StoppedWrite) (r : LogRecord) (bytes : List ℕ) (e : ChannelEnds) → HasMoreRoom x y → bytes ≡ record_bytes r → length bytes ≡ record_size r → Writes bytes e write y (Err u) z → Tied x → Tied z
+pub tied_after : (u : Unwritten) (x y z : PartsValue) (write : StoppedWrite) (r : LogRecord) (bytes : List ℕ) (e : ChannelEnds) → HasMoreRoom x y → bytes ≡ record_bytes r → IsWhole bytes r → Writes bytes e write y (Err u) z → Tied x → Tied z
 tied_after unwritten.NoMemory x y z write r bytes e m is size w t = tied_roomier y z w (tied_roomier x y m t)
 tied_after (unwritten.Stopped stop) x y z write r bytes e m is size w t = subst Tied (sym w.down) (down_tied write r bytes stop y w.at is size w.is (tied_roomier x y m t))
 
@@ -317,12 +319,12 @@ hardened_bodies r bytes e x y is w = ap bodies_in (subst (λ (b : List ℕ). App
 down_bodies : (r : LogRecord) (bytes : List ℕ) (stop : Stop) (x y : PartsValue) → bytes ≡ record_bytes r → IsWritten bytes x.ends x (Err stop) y → bodies_in y.log ≡ pending_record (Some r) (bodies_in x.log)
 down_bodies r bytes stop x y is w = ap bodies_in (subst (λ (b : List ℕ). Appended x.log b (Err stop) y.log) is w.log)
 
-pub broke_told : {F T : Type 0} (v new : CoreValue) (halt : Halt F) (stop : Stop) (reply : T) (part : Part) → halt ≡ halts.Stopped stop → is_some part.forced ≡ true → new.plain ≡ freeze (note_of part part.forced) new.plain.log.armed v.plain
+pub broke_told : {F T : Type 0} (v new : CoreValue) (halt : Halt F) (stop : Stop) (reply : T) (part : Part) → halt ≡ halts.Stopped stop → is_some part.forced ≡ true → IsRecordIn part.forced → new.plain ≡ freeze (note_of part part.forced) new.plain.log.armed v.plain
     → new.log ≡ pending_record part.forced v.log → WritesLog v (Do reply (part ∷ [])) (Err halt) new
-broke_told {F} v new halt stop reply part is write plain log = subst (λ (h : Halt F). WritesLog v (Do reply (part ∷ [])) (Err h) new) (sym is) (record { part = 0; write = write; plain = plain; log = log })
+broke_told {F} v new halt stop reply part is write fits plain log = subst (λ (h : Halt F). WritesLog v (Do reply (part ∷ [])) (Err h) new) (sym is) (record { part = 0; write = write; records = fits; plain = plain; log = log })
 
 part_told : (F : Type 0) {T : Type 0} (u : Unwritten) (v new : CoreValue) (x y z : PartsValue) (write : StoppedWrite) (r : LogRecord) (changes : List Change) (delta : List Did) (reply : T) (bytes : List ℕ) (e : ChannelEnds)
-    → mode_is_up x.mode ≡ true → HasMoreRoom x y → bytes ≡ record_bytes r → length bytes ≡ record_size r → Writes bytes e write y (Err u) z → noted (frozen_of x) (Some write) ≡ Some (record { written = r; changes = changes; delta = delta })
+    → mode_is_up x.mode ≡ true → HasMoreRoom x y → bytes ≡ record_bytes r → IsWhole bytes r → Writes bytes e write y (Err u) z → noted (frozen_of x) (Some write) ≡ Some (record { written = r; changes = changes; delta = delta })
     → plain_of x ≡ v.plain → bodies_in x.log ≡ v.log → new.plain ≡ plain_of z → new.log ≡ bodies_in z.log
     → WritesLog {F = F} v (Do reply (record { forced = Some r; changes = changes; delta = delta } ∷ [])) (Err (halt_of {F = F} (agent_of u))) new
 unfolding freeze_noted
@@ -334,26 +336,26 @@ part_told F (unwritten.Stopped stop) v new x y z write r changes delta reply byt
     let frozen = seen ∙ ap plain_of w.down ∙ down_view write r bytes stop y k (more_up x y up m) is size w.is
     ∙ ap (λ (p : PartsValue). freeze (noted (frozen_of p) (Some write)) k.log.armed (plain_of p)) m.same
     ∙ ap (λ (o : Option Noted). freeze o k.log.armed (plain_of x)) note ∙ ap (freeze_noted n k.log.armed) plain ∙ ap (λ (a : ℕ). freeze_noted n a v.plain) (sym armed) in
-    broke_told {F = F} v new (halt_of {F = F} (stopped_agent stop)) stop reply (record { forced = Some r; changes = changes; delta = delta }) (halt_stopped {F = F} stop) refl frozen
+    broke_told {F = F} v new (halt_of {F = F} (stopped_agent stop)) stop reply (record { forced = Some r; changes = changes; delta = delta }) (halt_stopped {F = F} stop) refl size.1 frozen
     (log ∙ ap (λ (p : PartsValue). bodies_in p.log) w.down ∙ down_bodies r bytes stop y k is w.is ∙ ap (pending_record (Some r)) (roomier_bodies x y m ∙ bodies))
 
 pub unwritten_told : (F : Type 0) {T : Type 0} (u : Unwritten) (v new : CoreValue) (x y z : PartsValue) (write : StoppedWrite) (r : LogRecord) (changes : List Change) (delta : List Did) (reply : T) (bytes : List ℕ) (e : ChannelEnds) (agent : AgentStop)
-    → agent ≡ agent_of u → mode_is_up x.mode ≡ true → HasMoreRoom x y → bytes ≡ record_bytes r → length bytes ≡ record_size r → Writes bytes e write y (Err u) z → noted (frozen_of x) (Some write) ≡ Some (record { written = r; changes = changes; delta = delta })
+    → agent ≡ agent_of u → mode_is_up x.mode ≡ true → HasMoreRoom x y → bytes ≡ record_bytes r → IsWhole bytes r → Writes bytes e write y (Err u) z → noted (frozen_of x) (Some write) ≡ Some (record { written = r; changes = changes; delta = delta })
     → plain_of x ≡ v.plain → bodies_in x.log ≡ v.log → new.plain ≡ plain_of z → new.log ≡ bodies_in z.log
     → WritesLog {F = F} v (Do reply (record { forced = Some r; changes = changes; delta = delta } ∷ [])) (Err (halt_of {F = F} agent)) new
 unwritten_told F u v new x y z write r changes delta reply bytes e agent a up m is size w note plain bodies seen log =
     subst (λ (k : AgentStop). WritesLog {F = F} v (Do reply (record { forced = Some r; changes = changes; delta = delta } ∷ [])) (Err (halt_of {F = F} k)) new) (sym a)
     (part_told F u v new x y z write r changes delta reply bytes e up m is size w note plain bodies seen log)
 
-pub hardened_wrote : (channel : List ℕ) (note : Note) (change : Change) (p : Plain) (old new : LogBodies) → harden_part channel note p ≡ noted_change channel note change → new ≡ behind_record (Some (note_record channel note)) old
-    → new ≡ wrote_all (harden_part channel note p ∷ []) old
-hardened_wrote channel note change p old new e log = subst (λ (part : Part). new ≡ wrote_all (part ∷ []) old) (sym e) log
+pub hardened_wrote : (channel : List ℕ) (note : Note) (change : Change) (p : Plain) (old new : LogBodies) → harden_part channel note p ≡ noted_change channel note change → FitsRecord (note_record channel note) → new ≡ behind_record (Some (note_record channel note)) old
+    → (new ≡ wrote_all (harden_part channel note p ∷ []) old) × AreRecords (harden_part channel note p ∷ [])
+hardened_wrote channel note change p old new e fits log = subst (λ (part : Part). (new ≡ wrote_all (part ∷ []) old) × AreRecords (part ∷ [])) (sym e) (log, (fits, tt))
 
 same_room : (x : PartsValue) → HasMoreRoom x x
 same_room x = record { same = refl; log = omega arith; body = omega arith }
 
 pub hardening_told : (u : Unwritten) (v new : CoreValue) (x z : PartsValue) (channel : List ℕ) (note : Note) (change : Change) (bytes : List ℕ) (e : ChannelEnds) (agent : AgentStop)
-    → agent ≡ agent_of u → mode_is_up x.mode ≡ true → bytes ≡ record_bytes (note_record channel note) → length bytes ≡ record_size (note_record channel note) → Writes bytes e (writes.Hardened channel note) x (Err u) z
+    → agent ≡ agent_of u → mode_is_up x.mode ≡ true → bytes ≡ record_bytes (note_record channel note) → IsWhole bytes (note_record channel note) → Writes bytes e (writes.Hardened channel note) x (Err u) z
     → harden_part channel note v.plain ≡ noted_change channel note change → plain_of x ≡ v.plain → bodies_in x.log ≡ v.log → new.plain ≡ plain_of z → new.log ≡ bodies_in z.log
     → WritesLog v (harden channel note v.plain) (by_agent (Err agent)) new
 hardening_told u v new x z channel note change bytes e agent a up is size w part plain bodies seen log =

@@ -14,6 +14,7 @@ use Rattle.mq_calls.specs.declared.agents.AgentStop.TheVariants as agent_stops
 use Rattle.mq_place.specs.States.{on_queues}
 use Rattle.mq_core.specs.Views.{PartsValue}
 use Rattle.mq_core.specs.Placing.{with_states}
+use Rattle.mq_core.specs.Writes.{FitsRecord}
 
 -- there is room for a record of so many bytes, and nothing else has changed
 pub record IsRoomy (need : ℕ) (x y : PartsValue) : Type 0 where
@@ -44,6 +45,7 @@ pub record IsFilled (r : LogRecord) (x y : PartsValue) : Type 0 where
   pub roomy : IsRoomy (need r) x y
   pub bytes : y.body.bytes ≡ record_bytes r
   pub size : length (record_bytes r) ≡ record_size r
+  pub fits : FitsRecord r
 
 -- the unit in doubt that a batch becomes
 abbrev pub IsDoubtOf : InDoubt → ℕ → Option Batch → Type 0

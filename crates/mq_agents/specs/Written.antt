@@ -3,7 +3,7 @@ use Rattle.std.specs.Prelude.{◌≡◌, ℕ, ◌+◌, ◌≤◌, List, [], ◌�
 use Rattle.mq_base.specs.Outside.{Rose}
 use Rattle.mq_disk.specs.declared.cutter.Stop.{Stop}
 use Rattle.mq_disk.specs.declared.cutter.Stop.TheVariants as stops
-use Rattle.mq_spec_state.specs.Words.{AgentStop, SenderSide, ReceiverSide, LogRecord, Note, Part, Change, Plain}
+use Rattle.mq_spec_state.specs.Words.{AgentStop, SenderSide, ReceiverSide, LogRecord, Note, Part, Change, Plain, record_size}
 use Rattle.mq_spec_state.specs.State.Change.{SetSender, SetReceiver}
 use Rattle.mq_calls.specs.declared.agents.Note.TheVariants as notes
 use Rattle.mq_calls.specs.declared.deltas.Did.TheVariants as did
@@ -13,6 +13,7 @@ use Rattle.mq_log.specs.State.{Appended}
 use Rattle.mq_log.specs.Force.{Stops}
 use Rattle.mq_core.specs.declared.parts.ChannelEnds.{ChannelEnds}
 use Rattle.mq_core.specs.Views.{PartsValue}
+use Rattle.mq_core.specs.Writes.{FitsRecord}
 use Rattle.mq_core.specs.declared.parts.StoppedWrite.{StoppedWrite}
 use Rattle.mq_core.specs.Forced.{HasMoreRoom, downed}
 use Rattle.mq_calls.specs.declared.agents.AgentStop.TheVariants as agent_stops
@@ -25,6 +26,10 @@ with_senders sides e = record e { senders = sides }
 
 abbrev pub with_receivers : List ReceiverSide → ChannelEnds → ChannelEnds
 with_receivers sides e = record e { receivers = sides }
+
+-- bytes of a record are as many as it has, and its fields fit
+abbrev pub IsWhole : List ℕ → LogRecord → Type 0
+IsWhole bytes r = (length bytes ≡ record_size r) × FitsRecord r
 
 -- bytes were forced into the log, or their write was stopped; these are the ends of channels; nothing else has changed
 pub record IsWritten (bytes : List ℕ) (e : ChannelEnds) (x : PartsValue) (result : Result (Unit {0}) Stop) (y : PartsValue) : Type 0 where

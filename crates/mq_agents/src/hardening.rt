@@ -1,6 +1,6 @@
 //! What channel ends harden beside their messages.
 ghost use Rattle.std.specs.Prelude.{◌≡◌, ◌<◌, ◌^◌, true, length, IfOk};
-ghost use Rattle.mq_spec_state.specs.Words.{MeetsOrWants, record_size, set_sender, set_receiver, sender_or, sender_data, receiver_or, receiver_data};
+ghost use Rattle.mq_spec_state.specs.Words.{MeetsOrWants, set_sender, set_receiver, sender_or, sender_data, receiver_or, receiver_data};
 ghost use Rattle.mq_spec_agents.specs.Words.{IsUp, harden};
 ghost use Rattle.mq_calls.specs.declared.agents.Note.TheVariants as notes;
 ghost use Rattle.mq_sync.specs.declared.data.End.TheVariants as sync_ends;
@@ -9,7 +9,7 @@ ghost use Rattle.mq_core.specs.declared.parts.StoppedWrite.TheVariants as writes
 ghost use Rattle.mq_core.specs.Forced.{downed};
 ghost use Rattle.mq_core.specs.Views.{plain_of};
 ghost use Rattle.mq_agents.specs.Ends.{by_agent, stopped_agent};
-ghost use Rattle.mq_agents.specs.Written.{Writes, agent_of, stop_of, with_senders, with_receivers, note_record, IsSenderNote, IsReceiverNote};
+ghost use Rattle.mq_agents.specs.Written.{IsWhole, Writes, agent_of, stop_of, with_senders, with_receivers, note_record, IsSenderNote, IsReceiverNote};
 ghost use Rattle.mq_core.specs.Values.{manager_of, WritesLog};
 
 use mq_base::NoMemory;
@@ -154,7 +154,7 @@ fn harden_sender<D: Disk>(
 ) -> Result<(), AgentStop>
     requires up { IsUp core.old.plain }
     requires bytes { bytes.now ≡ record_bytes (note_record channel.now note.now) }
-    requires size { length bytes.now ≡ record_size (note_record channel.now note.now) }
+    requires size { IsWhole bytes.now (note_record channel.now note.now) }
     requires small { length bytes.now < 2 ^ 32 }
     requires side { IsSenderNote channel.now note.now side core.old.plain }
     ensures meets { MeetsOrWants (manager_of core.old) (harden channel.now note.now core.old.plain) (by_agent result) (manager_of core.new) }
@@ -191,7 +191,7 @@ fn harden_receiver<D: Disk>(
 ) -> Result<(), AgentStop>
     requires up { IsUp core.old.plain }
     requires bytes { bytes.now ≡ record_bytes (note_record channel.now note.now) }
-    requires size { length bytes.now ≡ record_size (note_record channel.now note.now) }
+    requires size { IsWhole bytes.now (note_record channel.now note.now) }
     requires small { length bytes.now < 2 ^ 32 }
     requires side { IsReceiverNote channel.now note.now side core.old.plain }
     ensures meets { MeetsOrWants (manager_of core.old) (harden channel.now note.now core.old.plain) (by_agent result) (manager_of core.new) }

@@ -1,7 +1,7 @@
 //! A batch becomes the unit in doubt of its channel.
 ghost use Rattle.std.specs.Prelude.{◌≡◌, ◌+◌, ◌*◌, ◌<◌, ◌≤◌, ◌^◌, ℕ, List, Some, true, false, length, option_copied, IfOk, OnOk, OnErr};
-ghost use Rattle.std.specs.List.{flat_map};
-ghost use Rattle.mq_frame.specs.Frames.{ident_bytes};
+ghost use Rattle.std.specs.List.{flat_map, AllByRecursion};
+ghost use Rattle.mq_frame.specs.Frames.{ident_bytes, IsIdent};
 ghost use Rattle.mq_spec_state.specs.Words.{MeetsOrWants, batch_of, is_full, need, set_sender};
 ghost use Rattle.mq_spec_agents.specs.Words.{IsUp, CanPrepare, prepare, prepared_doubt, prepared_record};
 ghost use Rattle.mq_record.specs.Room.{with_piece};
@@ -66,7 +66,8 @@ pub(crate) fn batch_now<'a, D: Disk>(parts: &'a Parts<D>, channel: &ChName) -> O
 #[tactic(auto, unfolding(crate::specs::Removing::ident_put))]
 fn put_one(body: &mut Buffer, ident: &Ident)
     requires { 17 ≤ body.old.room }
-    ensures { body.new ≡ ident_put ident.now body.old }
+    ensures bytes { body.new ≡ ident_put ident.now body.old }
+    ensures ident { IsIdent ident.now }
 {
     body.put_ident(ident);
 }
@@ -74,7 +75,8 @@ fn put_one(body: &mut Buffer, ident: &Ident)
 #[tactic(auto, using(crate::proofs::FillLaws::put_fits, crate::proofs::FillLaws::put_next))]
 fn put_idents(body: &mut Buffer, idents: &[Ident])
     requires { 17 * length idents.now ≤ body.old.room }
-    ensures { body.new ≡ with_piece (flat_map ident_bytes idents.now) body.old }
+    ensures bytes { body.new ≡ with_piece (flat_map ident_bytes idents.now) body.old }
+    ensures idents { AllByRecursion IsIdent idents.now }
 {
     for ident in idents {
         put_one(body, ident);

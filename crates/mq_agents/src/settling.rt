@@ -1,6 +1,6 @@
 //! A unit in doubt is settled: its rows go, or are free again.
 ghost use Rattle.std.specs.Prelude.{◌≡◌, ◌<◌, ◌≤◌, ◌^◌, Some, true, map, length, IfOk};
-ghost use Rattle.mq_spec_state.specs.Words.{MeetsOrWants, record_size, set_sender, data_settled, settle_by};
+ghost use Rattle.mq_spec_state.specs.Words.{MeetsOrWants, set_sender, data_settled, settle_by};
 ghost use Rattle.mq_spec_agents.specs.Words.{IsUp, harden, held_rows, settle_did};
 ghost use Rattle.mq_calls.specs.declared.agents.Note.TheVariants as notes;
 ghost use Rattle.mq_calls.specs.declared.records.LogRecord.TheVariants as records;
@@ -9,7 +9,7 @@ ghost use Rattle.mq_unit.specs.Told.{told, told_all};
 ghost use Rattle.mq_core.specs.declared.parts.StoppedWrite.TheVariants as writes;
 ghost use Rattle.mq_core.specs.Views.{plain_of};
 ghost use Rattle.mq_agents.specs.Ends.{by_agent};
-ghost use Rattle.mq_agents.specs.Written.{with_senders};
+ghost use Rattle.mq_agents.specs.Written.{IsWhole, with_senders};
 ghost use Rattle.mq_agents.specs.Settling.{WritesRows, rows_settled};
 ghost use Rattle.mq_core.specs.Values.{manager_of, WritesLog};
 
@@ -151,7 +151,7 @@ fn settle_unit<D: Disk>(
 ) -> Result<(), AgentStop>
     requires up { IsUp core.old.plain }
     requires bytes { bytes.now ≡ record_bytes (records.Resolved channel.now unit.now commit operator) }
-    requires size { length bytes.now ≡ record_size (records.Resolved channel.now unit.now commit operator) }
+    requires size { IsWhole bytes.now (records.Resolved channel.now unit.now commit operator) }
     requires small { length bytes.now < 2 ^ 32 }
     ensures meets { MeetsOrWants (manager_of core.old) (harden channel.now (notes.Resolved unit.now commit operator) core.old.plain) (by_agent result) (manager_of core.new) }
     ensures told { WritesLog core.old (harden channel.now (notes.Resolved unit.now commit operator) core.old.plain) (by_agent result) core.new }

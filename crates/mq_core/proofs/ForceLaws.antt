@@ -19,6 +19,7 @@ use Rattle.mq_core.specs.declared.parts.Mode.TheVariants as modes
 use Rattle.mq_core.specs.Views.{PartsValue, plain_of, frozen_of, noted, length_of}
 use Rattle.mq_core.specs.Ties.{TiedBut, mode_is_up, state_lanes, pending_at, times_in_rows, times_in_queues, one_if}
 use Rattle.mq_core.specs.Forced.{IsForced, downed}
+use Rattle.mq_core.specs.Writes.{FitsRecord}
 
 true_false : true ≡ false → ⊥
 true_false e = absurd cc
@@ -124,11 +125,12 @@ stops_at stops.Cut armed left h = (h.0, omega (arith, h.1), h.2)
 stops_at stops.Disk armed left h = ((λ some. (some, h.1 some, omega (arith, h.0, some))), omega (arith, h.2), (λ none. omega (arith, h.0, none)))
 
 -- The bytes of a record were forced; the parts stood so before its bytes were written.
-pub forced_body : (r : LogRecord) (x : PartsValue) (log : LogState) (result : Result (Unit {0}) Stop) → x.body.bytes ≡ record_bytes r → length (record_bytes r) ≡ record_size r → Appended x.log x.body.bytes result log
+pub forced_body : (r : LogRecord) (x : PartsValue) (log : LogState) (result : Result (Unit {0}) Stop) → x.body.bytes ≡ record_bytes r → FitsRecord r → length (record_bytes r) ≡ record_size r → Appended x.log x.body.bytes result log
     → Stops x.log.armed result log.armed → OnOk result (x.log.room ≤ log.room + (5 + length x.body.bytes)) → x.log.faults ≤ log.faults → (IsErrOf result stops.Disk → Rose x.log.faults log.faults) → IsForced r x result (record x { log = log })
-forced_body r x log result is size appended ends room later disk = record {
+forced_body r x log result is fits size appended ends room later disk = record {
   same = refl;
   log = subst (λ (b : List ℕ). Appended x.log b result log) is appended;
+  fits = fits;
   size = size;
   ends = ends;
   room = let needs : 5 + length x.body.bytes ≡ need r = ap (λ (b : List ℕ). 5 + length b) is ∙ ap (λ (n : ℕ). 5 + n) size in subst (λ (n : ℕ). OnOk result (x.log.room ≤ log.room + n)) needs room;
@@ -147,6 +149,7 @@ forced_from r x z y result e body f =
     record {
       same = f.same ∙ ap (λ (w : PartsValue). with_log_body w y.log y.body) e;
       log = subst (λ (l : LogState). Appended l (record_bytes r) result y.log) log f.log;
+      fits = f.fits;
       size = f.size;
       ends = subst (λ (l : LogState). Stops l.armed result y.log.armed) log f.ends;
       room = subst (λ (l : LogState). OnOk result (l.room ≤ y.log.room + need r)) log f.room;

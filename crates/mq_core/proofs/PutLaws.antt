@@ -13,7 +13,8 @@ use Rattle.std.specs.List.{AllByRecursion}
 use Rattle.std.specs.Str.{bytes_eq}
 use Rattle.std.proofs.lemmas.Bool.Decides.{nat_tests}
 use Rattle.mq_spec_state.specs.State.{Queue as StateQueue}
-use Rattle.mq_spec_state.specs.Words.{Ident, Dest, Message, Reason, LocalQueue, Plain, Part, ManagerValue, Meets, AreLow, IsCounted, Sent, Answer, need, is_persistent, local_of, logged, apply, apply_all, LogRecord, Noted, Step, freeze, note_of, is_int, same_ident, puts_to, place, try_trigger, condition, put_bytes, route_size, Do}
+use Rattle.mq_spec_state.specs.Words.{Ident, Dest, Message, Reason, LocalQueue, Plain, Part, ManagerValue, Meets, IsCounted, Sent, Answer, need, is_persistent, local_of, logged, apply, apply_all, LogRecord, Noted, Step, freeze, note_of, is_int, same_ident, puts_to, place, try_trigger, condition, put_bytes, route_size, Do}
+use Rattle.mq_core.specs.Counting.{CanCount}
 use Rattle.mq_spec_state.specs.State.Change.{CountIdent}
 use Rattle.mq_calls.specs.declared.state.Item.TheVariants.{Put}
 use Rattle.mq_calls.specs.declared.deltas.Did.TheVariants as did
@@ -116,7 +117,7 @@ queue_at P name (q ∷ qs) s e h = by (bytes_eq name q.queue.name) e (λ e. queu
     by true e rest = subst (λ (t : QueueState). P t.queue) (some_same q s e) h.0
     by false e rest = rest e
 
-pub counts_low : (x : PartsValue) → Tied x → AreLow (plain_of x) → AreCounted (2 ^ 63) x
+pub counts_low : (x : PartsValue) → Tied x → CanCount (plain_of x) → AreCounted (2 ^ 63) x
 counts_low x t low name s is =
     let c = queue_at (IsCounted (2 ^ 63) (plain_of x)) name x.queues.states s is low.queues in
     let named = name_is name s.queue.name (state_named name x.queues.states s is) in
@@ -134,16 +135,16 @@ counts_more most queue qs s e h name t is = by (bytes_eq name queue) refl
         (record { arrivals = omega (arith, c.arrivals); due = omega (arith, c.due) })
     by false n = let c = h name t (sym (state_other queue expecting (λ s. refl) name n qs) ∙ is) in record { arrivals = omega (arith, c.arrivals); due = omega (arith, c.due) }
 
-pub way_counts : (queue : List ℕ) (m : Message) (x w : PartsValue) → IsSome (local_of queue x.defs.definitions) → OnWay queue m x w → Tied x → AreLow (plain_of x) → AreCounted (2 ^ 63 + 1) w
+pub way_counts : (queue : List ℕ) (m : Message) (x w : PartsValue) → IsSome (local_of queue x.defs.definitions) → OnWay queue m x w → Tied x → CanCount (plain_of x) → AreCounted (2 ^ 63 + 1) w
 way_counts queue m x w there o t low =
     let found = kept_queue queue x t there in
     subst (AreCounted (2 ^ 63 + 1)) (sym o.same) (counts_more (2 ^ 63) queue x.queues.states found.0 found.1 (counts_low x t low))
 
 -- it is ready, and placed it is tied
-pub way_ready : (queue : List ℕ) (m : Message) (x w : PartsValue) → IsSome (local_of queue x.defs.definitions) → OnWay queue m x w → Tied x → AreLow (plain_of x) → IsReady queue m w
+pub way_ready : (queue : List ℕ) (m : Message) (x w : PartsValue) → IsSome (local_of queue x.defs.definitions) → OnWay queue m x w → Tied x → CanCount (plain_of x) → IsReady queue m w
 way_ready queue m x w there o t low = ready (2 ^ 63 + 1) queue m [] w (omega arith) (way_counts queue m x w there o t low) (tied_on_way queue m x w there o t)
 
-pub way_tied : (queue : List ℕ) (m : Message) (x w : PartsValue) → IsSome (local_of queue x.defs.definitions) → OnWay queue m x w → Tied x → AreLow (plain_of x) → Tied (put_in_place queue m w)
+pub way_tied : (queue : List ℕ) (m : Message) (x w : PartsValue) → IsSome (local_of queue x.defs.definitions) → OnWay queue m x w → Tied x → CanCount (plain_of x) → Tied (put_in_place queue m w)
 way_tied queue m x w there o t low = tied_placed queue m [] w (way_ready queue m x w there o t low) (tied_on_way queue m x w there o t)
 
 -- the views on the way
@@ -257,7 +258,7 @@ up_to queue x = with_states (change_state queue unpended x.queues.states) x
 
 still_forced : (queue : List ℕ) (r : LogRecord) (stop : Stop) (y z : PartsValue) → IsForced r y (Err stop) z → IsForced r (up_to queue y) (Err stop) (up_to queue z)
 unfolding up_to
-still_forced queue r stop y z f = record { same = ap (up_to queue) f.same; log = f.log; size = f.size; ends = f.ends; room = f.room; body = f.body; later = f.later; disk = f.disk }
+still_forced queue r stop y z f = record { same = ap (up_to queue) f.same; log = f.log; fits = f.fits; size = f.size; ends = f.ends; room = f.room; body = f.body; later = f.later; disk = f.disk }
 
 freeze_by : StoppedWrite → PartsValue → ℕ → Plain → Plain
 freeze_by write x left p = freeze (noted (frozen_of x) (Some write)) left p

@@ -11,11 +11,11 @@ use Rattle.mq_spec_manager.specs.Words.{placed, sent_answer, for_connection, liv
 use Rattle.mq_record.specs.Records.{CanBeKept}
 use Rattle.mq_log.specs.State.{LogState}
 use Rattle.mq_core.specs.Views.{PartsValue, plain_of}
-use Rattle.mq_core.specs.Writes.{added, now_part}
+use Rattle.mq_core.specs.Writes.{FitsRecord, added, now_part}
 use Rattle.mq_core.specs.Calls.{at_number, now_step}
 use Rattle.mq_core.specs.Placing.{arrived_at, put_in_place}
 use Rattle.mq_core.specs.Forced.{IsForced, IsExpected, IsPended, IsReserved, HasMoreRoom}
-use Rattle.mq_core.specs.Values.{CoreValue, LogBodies, WritesLog, BreaksOff, bodies_in, behind_record, pending_record, wrote_all}
+use Rattle.mq_core.specs.Values.{CoreValue, LogBodies, WritesLog, AreRecords, BreaksOff, bodies_in, behind_record, pending_record, wrote_all}
 use Rattle.mq_core.proofs.PutLaws.{kept_persistent, due_log}
 
 -- only room was taken
@@ -58,20 +58,20 @@ part_if b queue m = record { forced = if b then Some (added queue m) else None; 
 step_if : Bool → Bool → List ℕ → Message → Step Reason (Answer Sent)
 step_if b high queue m = Do (sent_answer high m) (part_if b queue m ∷ [])
 
-pub free_wrote : (queue : List ℕ) (m : Message) (old new : LogBodies) → is_persistent m ≡ false → new ≡ old → new ≡ wrote_all (now_part queue m ∷ []) old
+pub free_wrote : (queue : List ℕ) (m : Message) (old new : LogBodies) → is_persistent m ≡ false → new ≡ old → (new ≡ wrote_all (now_part queue m ∷ []) old) × AreRecords (now_part queue m ∷ [])
 unfolding part_if
-free_wrote queue m old new free log = subst (λ (b : Bool). new ≡ wrote_all (part_if b queue m ∷ []) old) (sym free) log
+free_wrote queue m old new free log = subst (λ (b : Bool). (new ≡ wrote_all (part_if b queue m ∷ []) old) × AreRecords (part_if b queue m ∷ [])) (sym free) (log, (tt, tt))
 
-pub forced_wrote : (queue : List ℕ) (m : Message) (old new : LogBodies) → CanBeKept m → new ≡ behind_record (Some (added queue m)) old → new ≡ wrote_all (now_part queue m ∷ []) old
+pub forced_wrote : (queue : List ℕ) (m : Message) (old new : LogBodies) → CanBeKept m → FitsRecord (added queue m) → new ≡ behind_record (Some (added queue m)) old → (new ≡ wrote_all (now_part queue m ∷ []) old) × AreRecords (now_part queue m ∷ [])
 unfolding part_if
-forced_wrote queue m old new kept log = subst (λ (b : Bool). new ≡ wrote_all (part_if b queue m ∷ []) old) (sym (kept_persistent m kept)) log
+forced_wrote queue m old new kept fits log = subst (λ (b : Bool). (new ≡ wrote_all (part_if b queue m ∷ []) old) × AreRecords (part_if b queue m ∷ [])) (sym (kept_persistent m kept)) (log, (fits, tt))
 
 note_by : Bool → List ℕ → Message → Option Noted
 note_by b queue m = note_of (part_if b queue m) (part_if b queue m).forced
 
-pub stopped_writes : (v new : CoreValue) (high : Bool) (queue : List ℕ) (m : Message) (stop : Stop) → CanBeKept m → new.plain ≡ freeze (note_of (now_part queue m) (now_part queue m).forced) new.plain.log.armed v.plain
+pub stopped_writes : (v new : CoreValue) (high : Bool) (queue : List ℕ) (m : Message) (stop : Stop) → CanBeKept m → FitsRecord (added queue m) → new.plain ≡ freeze (note_of (now_part queue m) (now_part queue m).forced) new.plain.log.armed v.plain
     → new.log ≡ pending_record (Some (added queue m)) v.log → WritesLog v (now_step high queue m) (Err (halts.Stopped stop)) new
 unfolding step_if part_if note_by
-stopped_writes v new high queue m stop kept plain log =
+stopped_writes v new high queue m stop kept fits plain log =
     subst (λ (b : Bool). (new.plain ≡ freeze (note_by b queue m) new.plain.log.armed v.plain) → WritesLog v (step_if b high queue m) (Err (halts.Stopped stop)) new) (sym (kept_persistent m kept))
-    (λ is. record { part = 0; write = refl; plain = is; log = log }) plain
+    (λ is. record { part = 0; write = refl; records = fits; plain = is; log = log }) plain

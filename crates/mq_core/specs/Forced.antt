@@ -14,12 +14,14 @@ use Rattle.mq_core.specs.declared.parts.StoppedWrite.{StoppedWrite}
 use Rattle.mq_core.specs.declared.parts.StoppedWrite.TheVariants as writes
 use Rattle.mq_core.specs.declared.parts.Mode.TheVariants as modes
 use Rattle.mq_core.specs.Views.{PartsValue}
+use Rattle.mq_core.specs.Writes.{FitsRecord}
 use Rattle.mq_core.specs.Placing.{with_states}
 
 -- the record was forced into the log, or its write was stopped; nothing else has changed
 pub record IsForced (r : LogRecord) (x : PartsValue) (result : Result (Unit {0}) Stop) (y : PartsValue) : Type 0 where
   pub same : y ≡ record x { log = y.log; body = y.body }
   pub log : Appended x.log (record_bytes r) result y.log
+  pub fits : FitsRecord r
   pub size : length (record_bytes r) ≡ record_size r
   pub ends : Stops x.log.armed result y.log.armed
   pub room : OnOk result (x.log.room ≤ y.log.room + need r)

@@ -3,5 +3,6 @@ pub mod Values
 pub mod Views
 pub mod Ties
 pub mod Calls
+pub mod Counting
 pub mod Placing
 pub mod Forced

@@ -6,6 +6,7 @@ use Rattle.mq_calls.specs.declared.commands.Halt.TheVariants as halts
 use Rattle.mq_spec_state.specs.Words.{Did, Halt, LogRecord, ManagerValue, Part, Plain, Step, Refuse, Do, IsWrite, Meets, stopped_at}
 use Rattle.mq_log.specs.State.{LogState}
 use Rattle.mq_record.specs.Records.{record_bytes}
+use Rattle.mq_core.specs.Writes.{FitsRecord}
 
 -- the bodies of the log, and the body whose forced write was stopped
 pub record LogBodies : Type 0 where
@@ -51,17 +52,35 @@ broke_at n [] log = log
 broke_at zero (part ∷ parts) log = pending_record part.forced log
 broke_at (suc n) (part ∷ parts) log = broke_at n parts (behind_record part.forced log)
 
+-- the fields of what is written fit its record
+abbrev pub IsRecordIn : Option LogRecord → Type 0
+IsRecordIn None = Unit {0}
+IsRecordIn (Some r) = FitsRecord r
+
+-- of all parts
+abbrev pub AreRecords : List Part → Type 0
+AreRecords [] = Unit {0}
+AreRecords (part ∷ parts) = IsRecordIn part.forced × AreRecords parts
+
+-- of those in front of the part of that number, and of that part
+abbrev pub AreRecordsTo : ℕ → List Part → Type 0
+AreRecordsTo n [] = Unit {0}
+AreRecordsTo zero (part ∷ parts) = IsRecordIn part.forced
+AreRecordsTo (suc n) (part ∷ parts) = IsRecordIn part.forced × AreRecordsTo n parts
+
 -- the write of one part was stopped: so in the plain manager, and so in the log
 pub record BreaksOff (parts : List Part) (old new : CoreValue) : Type 0 where
   pub part : ℕ
   pub write : IsWrite part parts
+  pub records : AreRecordsTo part parts
   pub plain : new.plain ≡ stopped_at part parts new.plain.log.armed old.plain
   pub log : new.log ≡ broke_at part parts old.log
 
--- What a call writes: nothing where it is refused or finds no memory; all records of its parts; or up to the stopped one.
+-- What a call writes: nothing where it is refused or finds no memory; all records of its parts; or up to the stopped one. Each is
+-- read from its bytes.
 abbrev pub WritesLog : {F T : Type 0} → CoreValue → Step F T → Result T (Halt F) → CoreValue → Type 0
 WritesLog old (Refuse reason) result new = new.log ≡ old.log
-WritesLog old (Do reply parts) (Ok value) new = new.log ≡ wrote_all parts old.log
+WritesLog old (Do reply parts) (Ok value) new = (new.log ≡ wrote_all parts old.log) × AreRecords parts
 WritesLog old (Do reply parts) (Err (halts.Refused reason)) new = new.log ≡ old.log
 WritesLog old (Do reply parts) (Err halts.NoMemory) new = new.log ≡ old.log
 WritesLog old (Do reply parts) (Err (halts.Stopped by)) new = BreaksOff parts old new

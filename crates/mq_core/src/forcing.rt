@@ -2,7 +2,7 @@
 ghost use Rattle.std.specs.Prelude.{◌≡◌, ◌+◌, ◌-◌, ◌<◌, ◌≤◌, ◌^◌, true, length, OnOk, OnErr, IfSome, IsSome};
 ghost use Rattle.mq_spec_state.specs.Words.{LogRecord, need, put_bytes, record_size};
 ghost use Rattle.mq_record.specs.Records.{CanBeKept, record_bytes};
-ghost use Rattle.mq_core.specs.Writes.{added};
+ghost use Rattle.mq_core.specs.Writes.{FitsRecord, added};
 ghost use Rattle.mq_core.specs.Ties.{IsReady};
 ghost use Rattle.mq_core.specs.Placing.{put_in_place};
 ghost use Rattle.mq_core.specs.Forced.{IsForced, IsExpected, HasMoreRoom, downed_put, counted_put};
@@ -56,7 +56,7 @@ impl<D: Disk> Parts<D> {
         requires live { self.old.log.live ≡ true }
         requires small { length self.old.body.bytes < 2 ^ 32 }
         requires room { 5 + length self.old.body.bytes ≤ self.old.log.room }
-        ensures { (r : LogRecord) → self.old.body.bytes ≡ record_bytes r → length (record_bytes r) ≡ record_size r → IsForced r self.old result self.new }
+        ensures { (r : LogRecord) → self.old.body.bytes ≡ record_bytes r → FitsRecord r → length (record_bytes r) ≡ record_size r → IsForced r self.old result self.new }
     {
         self.log.append_forced(self.body.as_slice())
     }

@@ -22,7 +22,7 @@ use Rattle.mq_core.specs.Views.{PartsValue, plain_of, frozen_of, noted, noted_co
 use Rattle.mq_core.specs.Writes.{ended_part}
 use Rattle.mq_core.specs.Ties.{Tied, mode_is_up}
 use Rattle.mq_core.specs.Forced.{IsForced, downed}
-use Rattle.mq_core.specs.Values.{CoreValue, WritesLog, bodies_in, behind_record, pending_record}
+use Rattle.mq_core.specs.Values.{CoreValue, WritesLog, IsRecordIn, bodies_in, behind_record, pending_record}
 use Rattle.mq_core.specs.Calls.{CanGo}
 use Rattle.mq_core.proofs.ForceLaws.{frozen_view, tied_downed, stops_at}
 use Rattle.mq_core.proofs.PendLaws.{unit_le}
@@ -127,8 +127,12 @@ pub wrote_bodies : (o : Option LogRecord) (x y : PartsValue) → IfForced o x (O
 wrote_bodies None x y h = ap (λ (z : PartsValue). bodies_in z.log) h.1
 wrote_bodies (Some r) x y f = forced_bodies r x y f
 
-pub commit_writes : (v new : CoreValue) (number : ℕ) (ends : Bool) (c : Connection) → connection_at number v.plain.connections ≡ Some c → new.log ≡ behind_record (ended_part ends c).forced v.log → WritesLog v (commit_at number ends v.plain) (Ok (answers.Ok tt)) new
-commit_writes v new number ends c found log = writes_at v new number c (λ d. Do (answers.Ok tt) (ended_part ends d ∷ [])) (Ok (answers.Ok tt)) found log
+pub wrote_record : (o : Option LogRecord) (x y : PartsValue) → IfForced o x (Ok tt) y → IsRecordIn o
+wrote_record None x y h = tt
+wrote_record (Some r) x y f = f.fits
+
+pub commit_writes : (v new : CoreValue) (number : ℕ) (ends : Bool) (c : Connection) → connection_at number v.plain.connections ≡ Some c → IsRecordIn (ended_part ends c).forced → new.log ≡ behind_record (ended_part ends c).forced v.log → WritesLog v (commit_at number ends v.plain) (Ok (answers.Ok tt)) new
+commit_writes v new number ends c found is log = writes_at v new number c (λ d. Do (answers.Ok tt) (ended_part ends d ∷ [])) (Ok (answers.Ok tt)) found (log, (is, tt))
 
 pub commit_breaks : (v new : CoreValue) (number : ℕ) (ends : Bool) (c : Connection) (stop : Stop) (x y : PartsValue) → mode_is_up x.mode ≡ true → connection_at number v.plain.connections ≡ Some c → connection_at number x.desk.live ≡ Some c → plain_of x ≡ v.plain → bodies_in x.log ≡ v.log
     → IfForced (record_of (adds_of c.unit) (removes_of c.unit)) x (Err stop) y → new.plain ≡ plain_of (downed (writes.Commit number ends) y) → new.log ≡ bodies_in y.log → WritesLog v (commit_at number ends v.plain) (Err (halts.Stopped stop)) new
@@ -139,6 +143,7 @@ commit_breaks v new number ends c stop x y up found live plain bodies f is log =
     by (Some r) e f = writes_at v new number c (λ d. Do (answers.Ok tt) (ended_part ends d ∷ [])) (Err (halts.Stopped stop)) found (record {
       part = 0;
       write = ap is_some e;
+      records = subst IsRecordIn (sym e) f.fits;
       plain = frozen_commit v.plain new.plain number ends c r stop x y up live plain f is;
       log = log ∙ stopped_bodies r x y stop f ∙ ap (pending_record (Some r)) bodies ∙ sym (ap (λ (o : Option LogRecord). pending_record o v.log) e);
     })

@@ -6,7 +6,8 @@ use Rattle.std.specs.Str.{bytes_eq}
 use Rattle.std.proofs.lemmas.List.Sums.{sum_by-cons}
 use Rattle.std.proofs.lemmas.List.Recursion.{is_count_by}
 use Rattle.std.proofs.lemmas.Bool.Decides.{nat_tests}
-use Rattle.mq_spec_state.specs.Words.{AreLow, Ident, Message, Row, Connection, Item, LogRecord, Among, retag, kept_in, released_in, release_if, selects, need, puts_to, unit_need, connection_at, change_connection, logged, has_ident}
+use Rattle.mq_spec_state.specs.Words.{Ident, Message, Row, Connection, Item, LogRecord, Among, retag, kept_in, released_in, release_if, selects, need, puts_to, unit_need, connection_at, change_connection, logged, has_ident}
+use Rattle.mq_core.specs.Counting.{CanCount}
 use Rattle.mq_spec_state.specs.Reads.{is_put_to}
 use Rattle.mq_calls.specs.declared.state.Item.TheVariants.{Put, Take}
 use Rattle.mq_log.specs.State.{LogState}
@@ -341,10 +342,10 @@ module _ (number : ℕ) (c : Connection) (x y : PartsValue) (found : connection_
   on_way : TiedBut c.unit (take_each c.unit (ended_unit number c y))
   on_way = tied_taken c.unit c.unit (ended_unit number c y) (tied_ended number _ c x y most found (wrote_if (record_of (adds_of c.unit) (removes_of c.unit)) x y f) t)
 
-  pub commit_ready : AreLow (plain_of x) → AreReady c.unit (take_each c.unit (ended_unit number c y))
+  pub commit_ready : CanCount (plain_of x) → AreReady c.unit (take_each c.unit (ended_unit number c y))
   commit_ready low = ready_each (2 ^ 63) c.unit _ (omega arith) (counts_taken (2 ^ 63) c.unit (ended_unit number c y) (counts_ended (2 ^ 63) number _ c x y (wrote_if (record_of (adds_of c.unit) (removes_of c.unit)) x y f) (counts_low x t low))) on_way
 
-  pub commit_tied : (ends : Bool) → AreRising connection_number y.desk.live → AreLow (plain_of x) → Tied (settled number ends c y)
+  pub commit_tied : (ends : Bool) → AreRising connection_number y.desk.live → CanCount (plain_of x) → Tied (settled number ends c y)
   commit_tied ends rising low =
       let e = ended_unit number c y in
       tied_left ends number y.desk.live (put_each c.unit (take_each c.unit e)) rising (subst IsSome (sym found_then) refl)

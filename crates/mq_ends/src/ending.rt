@@ -1,6 +1,7 @@
 //! MQCMIT, MQBACK, MQDISC.
 ghost use Rattle.std.specs.Prelude.{◌≡◌, true, IsSome};
-ghost use Rattle.mq_spec_state.specs.Words.{MeetsInRoom, AreLow, is_up, connection_at};
+ghost use Rattle.mq_spec_state.specs.Words.{MeetsInRoom, is_up, connection_at};
+ghost use Rattle.mq_core.specs.Counting.{CanCount};
 ghost use Rattle.mq_spec_manager.specs.Words.{mqcmit, mqback, mqdisc};
 ghost use Rattle.mq_ends.specs.Ends.{commit_at, back_at};
 ghost use Rattle.mq_core.specs.Values.{manager_of, WritesLog};
@@ -15,7 +16,7 @@ use mq_disk::Disk;
 fn commit<D: Disk>(core: &mut Core<D>, number: u64, ends: bool) -> Result<Answer<()>, Halt<Reason>>
     requires up { is_up core.old.plain.running ≡ true }
     requires live { IsSome (connection_at number core.old.plain.connections) }
-    requires low { AreLow core.old.plain }
+    requires low { CanCount core.old.plain }
     ensures meets { MeetsInRoom (manager_of core.old) (commit_at number ends core.old.plain) result (manager_of core.new) }
     ensures told { WritesLog core.old (commit_at number ends core.old.plain) result core.new }
 {
@@ -39,7 +40,7 @@ fn commit<D: Disk>(core: &mut Core<D>, number: u64, ends: bool) -> Result<Answer
 ///
 /// Refused: 2018, 2009. Stopped: its write was stopped, by the armed cut or by the disk.
 pub fn mqcmit<D: Disk>(core: &mut Core<D>, hc: Hconn) -> Result<Answer<()>, Halt<Reason>>
-    requires low { AreLow core.old.plain }
+    requires low { CanCount core.old.plain }
     ensures meets { MeetsInRoom (manager_of core.old) (mqcmit hc core.old.plain) result (manager_of core.new) }
     ensures told { WritesLog core.old (mqcmit hc core.old.plain) result core.new }
 {
@@ -58,7 +59,7 @@ pub fn mqcmit<D: Disk>(core: &mut Core<D>, hc: Hconn) -> Result<Answer<()>, Halt
 ///
 /// Refused: 2018, 2009. Stopped: the unit's write was stopped, by the armed cut or by the disk.
 pub fn mqdisc<D: Disk>(core: &mut Core<D>, hc: Hconn) -> Result<Answer<()>, Halt<Reason>>
-    requires low { AreLow core.old.plain }
+    requires low { CanCount core.old.plain }
     ensures meets { MeetsInRoom (manager_of core.old) (mqdisc hc core.old.plain) result (manager_of core.new) }
     ensures told { WritesLog core.old (mqdisc hc core.old.plain) result core.new }
 {

@@ -6,7 +6,7 @@ use Rattle.mq_disk.specs.declared.cutter.Stop.{Stop}
 use Rattle.mq_disk.specs.declared.cutter.Stop.TheVariants as stops
 use Rattle.mq_calls.specs.declared.commands.Halt.TheVariants as halts
 use Rattle.mq_spec_state.specs.Words.{Reason, Did, Part, Plain, Do, IsWrite, StopsAt, do_all, do_part, delta_of, delta_before, stopped_at, write_calls, calls_at, calls_before}
-use Rattle.mq_core.specs.Values.{CoreValue, LogBodies, MeetsTold, behind_record, wrote_all, broke_at}
+use Rattle.mq_core.specs.Values.{CoreValue, LogBodies, MeetsTold, AreRecords, AreRecordsTo, behind_record, wrote_all, broke_at}
 use Rattle.mq_get.specs.Does.{HasRun, HasBroken}
 
 -- the number of a part behind others
@@ -60,6 +60,15 @@ unfolding behind
 broke_behind [] qs k l = refl
 broke_behind (a ∷ ps) qs k l = broke_behind ps qs k (behind_record a.forced l)
 
+records_both : (ps qs : List Part) → AreRecords ps → AreRecords qs → AreRecords (ps ++ qs)
+records_both [] qs a b = b
+records_both (p ∷ ps) qs a b = (a.0, records_both ps qs a.1 b)
+
+records_behind : (ps qs : List Part) (k : ℕ) → AreRecords ps → AreRecordsTo k qs → AreRecordsTo (behind ps k) (ps ++ qs)
+unfolding behind
+records_behind [] qs k a b = b
+records_behind (p ∷ ps) qs k a b = (a.0, records_behind ps qs k a.1 b)
+
 -- a part in front of others
 write_front : (k : ℕ) (ps qs : List Part) → IsWrite k ps → IsWrite k (ps ++ qs)
 write_front k [] qs w = absurd w
@@ -91,6 +100,11 @@ broke_front k [] qs l w = absurd w
 broke_front zero (a ∷ ps) qs l w = refl
 broke_front (suc k) (a ∷ ps) qs l w = broke_front k ps qs (behind_record a.forced l) w
 
+records_front : (k : ℕ) (ps qs : List Part) → IsWrite k ps → AreRecordsTo k ps → AreRecordsTo k (ps ++ qs)
+records_front k [] qs w a = absurd w
+records_front zero (p ∷ ps) qs w a = a
+records_front (suc k) (p ∷ ps) qs w a = (a.0, records_front k ps qs w a.1)
+
 rose_later : (v m w : ℕ) → v ≤ m → Rose m w → Rose v w
 rose_later v m w le rose = omega (arith, le, rose)
 
@@ -103,6 +117,7 @@ run_both ps qs v m w a b = record {
   ran = λ some. let one = a.ran some in let two = b.ran (omega (arith, one, a.armed)) in omega (arith, one, two, a.armed, calls_both ps qs);
   armed = omega (arith, a.armed, b.armed, calls_both ps qs);
   log = b.log ∙ ap (wrote_all qs) a.log ∙ sym (wrote_both ps qs v.log);
+  records = records_both ps qs a.records b.records;
 }
 
 -- the first were done, then a write was stopped
@@ -125,6 +140,7 @@ broken_behind by ps qs v m w a b = record {
   later = omega (arith, a.later, b.later);
   rose = λ e. rose_later v.faults m.faults w.faults a.later (b.rose e);
   log = b.log ∙ ap (broke_at b.part qs) a.log ∙ sym (broke_behind ps qs b.part v.log);
+  records = records_behind ps qs b.part a.records b.records;
 }
 
 -- a write was stopped, and nothing behind it was done
@@ -140,12 +156,13 @@ broken_front by ps qs v w b = record {
   later = b.later;
   rose = b.rose;
   log = b.log ∙ sym (broke_front b.part ps qs v.log b.write);
+  records = records_front b.part ps qs b.write b.records;
 }
 
 -- how the call then ends
 pub run_meets : {T : Type 0} (ps : List Part) (reply : T) (v w : CoreValue) → v.delta ≡ [] → w.stopped ≡ None → HasRun ps v w → MeetsTold {F = Reason} v (Do reply ps) (Ok reply) w
 run_meets ps reply v w none stopped h =
-    record { meets = (refl, h.ran, h.later, (λ i. record { plain = h.plain i; delta = (h.told ∙ ap (λ (d : List Did). d ++ delta_of ps) none) i; stopped = stopped i; faults = w.faults })); told = h.log }
+    record { meets = (refl, h.ran, h.later, (λ i. record { plain = h.plain i; delta = (h.told ∙ ap (λ (d : List Did). d ++ delta_of ps) none) i; stopped = stopped i; faults = w.faults })); told = (h.log, h.records) }
 
 pub broken_meets : {T : Type 0} (by : Stop) (ps : List Part) (reply : T) (v w : CoreValue) → v.delta ≡ [] → w.stopped ≡ Some by → HasBroken by ps v w → MeetsTold {F = Reason} v (Do reply ps) (Err (halts.Stopped by)) w
 broken_meets by ps reply v w none stopped h = record {
@@ -157,9 +174,9 @@ broken_meets by ps reply v w none stopped h = record {
     later = h.later;
     rose = h.rose;
   };
-  told = record { part = h.part; write = h.write; plain = h.plain; log = h.log };
+  told = record { part = h.part; write = h.write; records = h.records; plain = h.plain; log = h.log };
 }
 
 -- nothing is done
 pub say_meets : {T : Type 0} (reply : T) (v w : CoreValue) → v.delta ≡ [] → w.delta ≡ [] → w.plain ≡ v.plain → w.faults ≡ v.faults → w.stopped ≡ None → w.log ≡ v.log → MeetsTold {F = Reason} v (Do reply []) (Ok reply) w
-say_meets reply v w none told plain faults stopped log = record { meets = (refl, (λ some. some), omega (arith, faults), (λ i. record { plain = plain i; delta = told i; stopped = stopped i; faults = w.faults })); told = log }
+say_meets reply v w none told plain faults stopped log = record { meets = (refl, (λ some. some), omega (arith, faults), (λ i. record { plain = plain i; delta = told i; stopped = stopped i; faults = w.faults })); told = (log, tt) }

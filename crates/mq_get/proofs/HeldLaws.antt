@@ -71,6 +71,7 @@ still_writes number need [] stop x z f = absurd f
 still_writes number need (r ∷ rs) stop x z f = record {
   same = ap (unheld_by number need) f.same;
   log = ap (less_by need) f.log;
+  fits = f.fits;
   size = f.size;
   ends = f.ends;
   room = f.room;
@@ -122,6 +123,7 @@ held_run number queue mets met need n x r w y t u l is untold up roomy more h =
       ran = λ some. let a = runs.ran (omega (arith, armed, some)) in omega (arith, armed, a);
       armed = is_armed;
       log = refl;
+      records = runs.records;
     } in
     let gone : HasRun (gone_part whys.Expired queue mets ∷ []) (seen x [] None) m = subst (λ (k : Leaving). HasRun (leaving_part queue k whys.Expired ∷ []) (seen x [] None) m) is first in
     let view : plain_of w ≡ pend_by number item p = item_view number item need r w (roomy_up n x r roomy up) more ∙ ap (pend_by number item) (roomy_view n x r roomy) in
@@ -132,6 +134,7 @@ held_run number queue mets met need n x r w y t u l is untold up roomy more h =
       ran = λ some. some;
       armed = let a = ap (λ (z : PartsValue). z.log.armed) h.held in omega (arith, a, runs.armed, armed, is_armed);
       log = ap (λ (z : PartsValue). bodies_in z.log) h.held ∙ runs.log ∙ ap (behind_record o) (ap (λ (z : PartsValue). bodies_in z.log) more.same ∙ ap (λ (z : PartsValue). bodies_in z.log) roomy.same);
+      records = (tt, tt);
     } in
     run_both (gone_parts whys.Expired queue mets) (held_part number queue met ∷ []) (seen x [] None) m (seen y u.dids None) (gone_runs whys.Expired queue mets (seen x [] None) m gone) then
 

@@ -17,7 +17,7 @@ use Rattle.mq_unit.specs.Told.{Telling}
 use Rattle.mq_core.specs.declared.parts.StoppedWrite.TheVariants as writes
 use Rattle.mq_core.specs.Views.{PartsValue, plain_of}
 use Rattle.mq_core.specs.Ties.{Tied, state_lanes, pending_at, times_in_queues, mode_is_up}
-use Rattle.mq_core.specs.Values.{CoreValue, bodies_in, behind_record}
+use Rattle.mq_core.specs.Values.{CoreValue, IsRecordIn, bodies_in, behind_record}
 use Rattle.mq_core.proofs.ForceLaws.{queues_on, seen_on, times_on, times_keep, forced_view, frozen_view, tied_downed, stops_at}
 use Rattle.mq_get.specs.declared.leaving.Leaving.{Leaving}
 use Rattle.mq_get.specs.Leaving.{leaving_record, leaving_need, leaving_part, gone_part, gone_parts}
@@ -46,6 +46,7 @@ pub record Wrote (removes : List Remove) (x z : PartsValue) : Type 0 where
   pub body : x.body.room + length x.body.bytes ≤ z.body.room + length z.body.bytes
   pub view : mode_is_up x.mode ≡ true → plain_of z ≡ logged (leaving_record removes) (plain_of x)
   pub bodies : bodies_in z.log ≡ behind_record (leaving_record removes) (bodies_in x.log)
+  pub fits : IsRecordIn (leaving_record removes)
 
 pub wrote : (removes : List Remove) (x z : PartsValue) → Writes removes x (Ok tt) z → Wrote removes x z
 wrote [] x z e = record {
@@ -61,6 +62,7 @@ wrote [] x z e = record {
   body = let a = ap (λ (y : PartsValue). y.body.room + length y.body.bytes) e in omega (arith, a);
   view = λ up. ap plain_of e;
   bodies = ap (λ (y : PartsValue). bodies_in y.log) e;
+  fits = tt;
 }
 wrote (r ∷ rs) x z f = record {
   same = f.same;
@@ -75,6 +77,7 @@ wrote (r ∷ rs) x z f = record {
   body = f.body;
   view = λ up. forced_view (records.Unit [] (r ∷ rs)) x z up f;
   bodies = ap bodies_in f.log;
+  fits = f.fits;
 }
 
 -- rows that leave leave all tied
@@ -124,6 +127,7 @@ dropped_runs queue l why x t y u up d =
       ran = λ some. let a = w.ran some in omega (arith, a);
       armed = let a = ap (λ (z : PartsValue). z.log.armed) d.gone in omega (arith, a, w.armed);
       log = ap (λ (z : PartsValue). bodies_in z.log) d.gone ∙ w.bodies;
+      records = (w.fits, tt);
     }
 
 -- their write was stopped
@@ -150,6 +154,7 @@ stopped_breaks queue l why stop x z y told up f gone = by l.removes refl f
           later = omega (arith, failed, f.later);
           rose = λ e. subst (λ (n : ℕ). Rose x.log.faults n) (sym failed) (f.disk (ap (λ (s : Stop). Err s) e));
           log = ap (λ (w : PartsValue). bodies_in w.log) gone ∙ ap bodies_in f.log;
+          records = f.fits;
         }) gone
 
 pub stopped_tied : (queue : List ℕ) (l : Leaving) (why : Why) (stop : Stop) (x z y : PartsValue) → Writes l.removes x (Err stop) z → y ≡ downed_out queue l why z → Tied x → Tied y
@@ -181,6 +186,7 @@ gone_runs why queue [] v w h = record {
   ran = h.ran;
   armed = h.armed;
   log = h.log;
+  records = tt;
 }
 gone_runs why queue (m ∷ ms) v w h = h
 

@@ -144,6 +144,7 @@ browsed_run number handle place c x y told up found e = record {
   ran = λ some. some;
   armed = let a = ap (λ (z : PartsValue). z.log.armed) e in omega (arith, a);
   log = ap (λ (z : PartsValue). bodies_in z.log) e;
+  records = (tt, tt);
 }
 
 pub browsed_tied : (number handle : ℕ) (place : Place) (x y : PartsValue) → y ≡ record x { desk = record { live = change_connection number (cursor_set handle place) x.desk.live; last = x.desk.last } } → Tied x → Tied y

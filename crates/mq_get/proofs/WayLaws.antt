@@ -71,7 +71,7 @@ begun_told (Refuse reason) v w r m = m
 begun_told (Do reply parts) v w (Ok value) m = m
 begun_told (Do reply parts) v w (Err (halts.Refused other)) m = m
 begun_told (Do reply parts) v w (Err halts.NoMemory) m = m
-begun_told (Do reply parts) v w (Err (halts.Stopped by)) m = record { part = m.part; write = m.write; plain = m.plain; log = m.log }
+begun_told (Do reply parts) v w (Err (halts.Stopped by)) m = record { part = m.part; write = m.write; records = m.records; plain = m.plain; log = m.log }
 
 pub meets_begun : {T : Type 0} (step : Step Reason T) (v w : CoreValue) (r : Result T (Halt Reason)) → MeetsTold (begun_call v) step r w → MeetsTold v step r w
 meets_begun step v w r m = record { meets = begun_meets step (manager_of v) (manager_of w) r m.meets; told = begun_told step v w r m.told }

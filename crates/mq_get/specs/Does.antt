@@ -11,7 +11,7 @@ use Rattle.mq_scan.specs.declared.scanning.Met.{Met}
 use Rattle.mq_unit.specs.Told.{Telling}
 use Rattle.mq_core.specs.Views.{PartsValue, plain_of}
 use Rattle.mq_core.specs.Ties.{Tied}
-use Rattle.mq_core.specs.Values.{CoreValue, bodies_in, wrote_all, broke_at}
+use Rattle.mq_core.specs.Values.{CoreValue, AreRecords, AreRecordsTo, bodies_in, wrote_all, broke_at}
 use Rattle.mq_core.specs.Forced.{HasMoreRoom}
 use Rattle.mq_get.specs.declared.leaving.Leaving.{Leaving}
 use Rattle.mq_get.specs.Leaving.{gone_parts}
@@ -28,6 +28,7 @@ pub record HasRun (parts : List Part) (v w : CoreValue) : Type 0 where
   pub ran : Ran parts v.plain.log.armed
   pub armed : w.plain.log.armed ≡ v.plain.log.armed - write_calls parts
   pub log : w.log ≡ wrote_all parts v.log
+  pub records : AreRecords parts
 
 pub record HasBroken (by : Stop) (parts : List Part) (v w : CoreValue) : Type 0 where
   pub part : ℕ
@@ -38,6 +39,7 @@ pub record HasBroken (by : Stop) (parts : List Part) (v w : CoreValue) : Type 0 
   pub later : v.faults ≤ w.faults
   pub rose : by ≡ stops.Disk → Rose v.faults w.faults
   pub log : w.log ≡ broke_at part parts v.log
+  pub records : AreRecordsTo part parts
 
 abbrev pub Does : List Part → CoreValue → Result (Unit {0}) Stop → CoreValue → Type 0
 Does parts v (Ok _) w = HasRun parts v w

@@ -124,7 +124,7 @@ unfolding with_bodies
 done_tells wants v new reply parts (Ok value) first bodies e m w is h read =
     let log : v.log ≡ record { bodies = first ∷ bodies; pending = v.log.pending } = ap (with_bodies v.log.pending) e in
     subst (λ (p : Plain). Tells new.log.bodies p) (sym (plain_is m.3))
-    (subst (λ (l : LogBodies). Tells l.bodies (do_all parts v.plain)) (sym (w ∙ ap (wrote_all parts) log))
+    (subst (λ (l : LogBodies). Tells l.bodies (do_all parts v.plain)) (sym (w.0 ∙ ap (wrote_all parts) log))
     (tells_all parts v.plain first bodies v.log.pending (subst (λ (bs : List (List ℕ)). Tells bs v.plain) e is) h read))
 done_tells wants v new reply parts (Err (halts.Refused reason)) first bodies e m w is h read = absurd m
 done_tells Nowhere v new reply parts (Err halts.NoMemory) first bodies e m w is h read = absurd m

@@ -1,6 +1,7 @@
 //! The queue manager and its calls.
 ghost use Rattle.std.specs.Prelude.{◌≡◌, ◌≤◌, [], false, Ok, MatchResult, option_copied, option_map};
-ghost use Rattle.mq_spec_state.specs.Words.{Meets, MeetsInRoom, AreLow, is_up};
+ghost use Rattle.mq_spec_state.specs.Words.{Meets, MeetsInRoom, is_up};
+ghost use Rattle.mq_core.specs.Counting.{CanCount};
 ghost use Rattle.mq_core.specs.Values.{WritesLog, manager_of};
 ghost use Rattle.mq_spec_state.specs.Words.{MeetsOrWants};
 ghost use Rattle.mq_spec_manager.specs.Commands.{command};
@@ -112,7 +113,7 @@ impl<D: Disk> Manager<D> {
 
     /// MQCONN (MQI reference).
     pub fn mqconn(&mut self, qmgr: &QName, appl: &Appl) -> Result<Answer<Hconn>, Halt<Reason>>
-        requires low { AreLow self.old.plain }
+        requires low { CanCount self.old.plain }
         ensures meets { Meets (manager_of self.old) (mqconn qmgr.now appl.now self.old.plain) result (manager_of self.new) }
         ensures told { WritesLog self.old (mqconn qmgr.now appl.now self.old.plain) result self.new }
     {
@@ -127,7 +128,7 @@ impl<D: Disk> Manager<D> {
         qmgr: &QName,
         how: &Open,
     ) -> Result<Answer<Hobj>, Halt<Reason>>
-        requires low { AreLow self.old.plain }
+        requires low { CanCount self.old.plain }
         ensures meets { Meets (manager_of self.old) (mqopen hc name.now qmgr.now how.now self.old.plain) result (manager_of self.new) }
         ensures told { WritesLog self.old (mqopen hc name.now qmgr.now how.now self.old.plain) result self.new }
     {
@@ -151,7 +152,7 @@ impl<D: Disk> Manager<D> {
         body: &[u8],
         sync: bool,
     ) -> Result<Answer<Sent>, Halt<Reason>>
-        requires low { AreLow self.old.plain }
+        requires low { CanCount self.old.plain }
         ensures meets { Meets (manager_of self.old) (mqput hc ho md.now body.now sync self.old.plain) result (manager_of self.new) }
         ensures told { WritesLog self.old (mqput hc ho md.now body.now sync self.old.plain) result self.new }
     {
@@ -168,7 +169,7 @@ impl<D: Disk> Manager<D> {
         body: &[u8],
         sync: bool,
     ) -> Result<Answer<Sent>, Halt<Reason>>
-        requires low { AreLow self.old.plain }
+        requires low { CanCount self.old.plain }
         ensures meets { Meets (manager_of self.old) (mqput1 hc name.now qmgr.now md.now body.now sync self.old.plain) result (manager_of self.new) }
         ensures told { WritesLog self.old (mqput1 hc name.now qmgr.now md.now body.now sync self.old.plain) result self.new }
     {
@@ -191,7 +192,7 @@ impl<D: Disk> Manager<D> {
 
     /// MQCMIT (MQI reference). It takes no memory.
     pub fn mqcmit(&mut self, hc: Hconn) -> Result<Answer<()>, Halt<Reason>>
-        requires low { AreLow self.old.plain }
+        requires low { CanCount self.old.plain }
         ensures meets { MeetsInRoom (manager_of self.old) (mqcmit hc self.old.plain) result (manager_of self.new) }
         ensures told { WritesLog self.old (mqcmit hc self.old.plain) result self.new }
     {
@@ -208,7 +209,7 @@ impl<D: Disk> Manager<D> {
 
     /// MQDISC (MQI reference). It takes no memory.
     pub fn mqdisc(&mut self, hc: Hconn) -> Result<Answer<()>, Halt<Reason>>
-        requires low { AreLow self.old.plain }
+        requires low { CanCount self.old.plain }
         ensures meets { MeetsInRoom (manager_of self.old) (mqdisc hc self.old.plain) result (manager_of self.new) }
         ensures told { WritesLog self.old (mqdisc hc self.old.plain) result self.new }
     {
@@ -229,7 +230,7 @@ impl<D: Disk> Manager<D> {
     ///
     /// No memory; the trigger stays due.
     pub fn trigger_turn(&mut self) -> Result<bool, NoMemory>
-        requires low { AreLow self.old.plain }
+        requires low { CanCount self.old.plain }
         ensures meets { Meets (manager_of self.old) (trigger_turn self.old.plain) (halted result) (manager_of self.new) }
         ensures told { WritesLog self.old (trigger_turn self.old.plain) (halted result) self.new }
     {
@@ -432,7 +433,7 @@ impl<D: Disk> Manager<D> {
         bare: bool,
     ) -> Result<(), PlaceFault>
         requires up { IsUp self.old.plain }
-        requires low { AreLow self.old.plain }
+        requires low { CanCount self.old.plain }
         requires can { CanMove from.now ident.now bare self.old.plain }
         ensures meets { MeetsOrWants (manager_of self.old) (move_row from.now ident.now to.now bare self.old.plain) (by_place result) (manager_of self.new) }
         ensures told { WritesLog self.old (move_row from.now ident.now to.now bare self.old.plain) (by_place result) self.new }

@@ -5,7 +5,8 @@ use Rattle.std.specs.List.{list_any}
 use Rattle.std.specs.Str.{bytes_eq}
 use Rattle.mq_queue.proofs.Edits.{same_is}
 use Rattle.mq_spec_state.specs.State.{Queue as StateQueue}
-use Rattle.mq_spec_state.specs.Words.{Ident, Message, Row, Among, AreLow, Plain, has_ident, same_ident, keep, kept_in, selects, queue_in, local_of, apply, place, try_trigger}
+use Rattle.mq_spec_state.specs.Words.{Ident, Message, Row, Among, Plain, has_ident, same_ident, keep, kept_in, selects, queue_in, local_of, apply, place, try_trigger}
+use Rattle.mq_core.specs.Counting.{CanCount}
 use Rattle.mq_spec_state.specs.State.Change.{Leave}
 use Rattle.mq_calls.specs.declared.state.Item.TheVariants.{Put}
 use Rattle.mq_log.specs.State.{LogState}
@@ -38,7 +39,8 @@ use Rattle.mq_core.specs.declared.parts.StoppedWrite.TheVariants as writes
 use Rattle.mq_core.specs.Views.{frozen_of, noted}
 use Rattle.mq_core.proofs.ForceLaws.{forced_view, frozen_view, tied_downed}
 use Rattle.mq_core.proofs.PutLaws.{expected_view, given_up, tied_roomier, roomier_view}
-use Rattle.mq_core.specs.Values.{CoreValue, WritesLog, behind_record, pending_record, wrote_all}
+use Rattle.mq_core.specs.Values.{CoreValue, WritesLog, AreRecords, behind_record, pending_record, wrote_all}
+use Rattle.mq_core.specs.Writes.{FitsRecord}
 use Rattle.mq_agents.proofs.WriteLaws.{wrote_as, broke_as, broke_told}
 use Rattle.mq_agents.proofs.RemoveLaws.{removed_view}
 use Rattle.mq_agents.proofs.EndLaws.{free_as}
@@ -172,7 +174,7 @@ one_more : (b : Bool) (n : ℕ) → cond b (n + 1) n ≤ n + 1
 one_more true n = omega arith
 one_more false n = omega arith
 
-pub move_counts : (from : List ℕ) (i : Ident) (queue : List ℕ) (x w : PartsValue) → IsSome (local_of queue x.defs.definitions) → OnMove from i queue x w → Tied x → AreLow (plain_of x) → AreCounted (2 ^ 63 + 1) w
+pub move_counts : (from : List ℕ) (i : Ident) (queue : List ℕ) (x w : PartsValue) → IsSome (local_of queue x.defs.definitions) → OnMove from i queue x w → Tied x → CanCount (plain_of x) → AreCounted (2 ^ 63 + 1) w
 move_counts from i queue x w there o t low = subst (AreCounted (2 ^ 63 + 1)) (sym o.same) (λ name s is.
     let kept = kept_queue queue x t there in
     let f = kept_in (Among from (i ∷ [])) in
@@ -185,11 +187,11 @@ move_counts from i queue x w there o t low = subst (AreCounted (2 ^ 63 + 1)) (sy
     record { arrivals = omega (arith, arrivals, pending, more, old.0); due = omega (arith, due, pending, more, old.1) })
 
 pub move_ready : (from : List ℕ) (i : Ident) (queue : List ℕ) (m : Message) (row : Row) (x w : PartsValue) → IsSome (local_of queue x.defs.definitions) → find (has_ident i) (queue_in from (queues_of x.queues.states)).rows ≡ Some row → m.ident ≡ i
-    → OnMove from i queue x w → Tied x → AreLow (plain_of x) → IsReady queue m w
+    → OnMove from i queue x w → Tied x → CanCount (plain_of x) → IsReady queue m w
 move_ready from i queue m row x w there found ident o t low = ready (2 ^ 63 + 1) queue m [] w (omega arith) (move_counts from i queue x w there o t low) (tied_on_move from i queue m row x w there found ident o t)
 
 pub move_tied : (from : List ℕ) (i : Ident) (queue : List ℕ) (m : Message) (row : Row) (x w : PartsValue) → IsSome (local_of queue x.defs.definitions) → find (has_ident i) (queue_in from (queues_of x.queues.states)).rows ≡ Some row → m.ident ≡ i
-    → OnMove from i queue x w → Tied x → AreLow (plain_of x) → Tied (put_in_place queue m w)
+    → OnMove from i queue x w → Tied x → CanCount (plain_of x) → Tied (put_in_place queue m w)
 move_tied from i queue m row x w there found ident o t low =
     tied_placed queue m [] w (move_ready from i queue m row x w there found ident o t low) (tied_on_move from i queue m row x w there found ident o t)
 
@@ -306,7 +308,7 @@ up_to queue x = with_states (change_state queue unpended x.queues.states) x
 
 still_forced : (queue : List ℕ) (r : LogRecord) (stop : Stop) (y z : PartsValue) → IsForced r y (Err stop) z → IsForced r (up_to queue y) (Err stop) (up_to queue z)
 unfolding up_to
-still_forced queue r stop y z f = record { same = ap (up_to queue) f.same; log = f.log; size = f.size; ends = f.ends; room = f.room; body = f.body; later = f.later; disk = f.disk }
+still_forced queue r stop y z f = record { same = ap (up_to queue) f.same; log = f.log; fits = f.fits; size = f.size; ends = f.ends; room = f.room; body = f.body; later = f.later; disk = f.disk }
 
 freeze_as : Option Noted → ℕ → Plain → Plain
 freeze_as note left p = freeze note left p
@@ -365,18 +367,18 @@ part_if b from target bare to m = record {
 
 pub free_told : (v new : CoreValue) (from : List ℕ) (target : Dest) (bare : Bool) (to : List ℕ) (m : Message) → is_persistent m ≡ false → new.log ≡ v.log → WritesLog v (moved_step from target bare to m) (Ok (let nothing : Unit {0} = tt in nothing)) new
 unfolding part_if
-free_told v new from target bare to m free e = subst (λ (b : Bool). new.log ≡ wrote_all (part_if b from target bare to m ∷ []) v.log) (sym free) e
+free_told v new from target bare to m free e = subst (λ (b : Bool). (new.log ≡ wrote_all (part_if b from target bare to m ∷ []) v.log) × AreRecords (part_if b from target bare to m ∷ [])) (sym free) (e, (tt, tt))
 
-pub forced_told : (v new : CoreValue) (from : List ℕ) (target : Dest) (bare : Bool) (to : List ℕ) (m : Message) → CanBeKept m → new.log ≡ behind_record (Some (records.Moved from m.ident to m)) v.log
+pub forced_told : (v new : CoreValue) (from : List ℕ) (target : Dest) (bare : Bool) (to : List ℕ) (m : Message) → CanBeKept m → FitsRecord (records.Moved from m.ident to m) → new.log ≡ behind_record (Some (records.Moved from m.ident to m)) v.log
     → WritesLog v (moved_step from target bare to m) (Ok (let nothing : Unit {0} = tt in nothing)) new
 unfolding part_if
-forced_told v new from target bare to m kept e = subst (λ (b : Bool). new.log ≡ wrote_all (part_if b from target bare to m ∷ []) v.log) (sym (kept_persistent m kept)) e
+forced_told v new from target bare to m kept fits e = subst (λ (b : Bool). (new.log ≡ wrote_all (part_if b from target bare to m ∷ []) v.log) × AreRecords (part_if b from target bare to m ∷ [])) (sym (kept_persistent m kept)) (e, (fits, tt))
 
-pub stopped_told : (v new : CoreValue) (from : List ℕ) (target : Dest) (bare : Bool) (to : List ℕ) (m : Message) (stop : Stop) (halt : Halt Reason) → halt ≡ halts.Stopped stop → CanBeKept m
+pub stopped_told : (v new : CoreValue) (from : List ℕ) (target : Dest) (bare : Bool) (to : List ℕ) (m : Message) (stop : Stop) (halt : Halt Reason) → halt ≡ halts.Stopped stop → CanBeKept m → FitsRecord (records.Moved from m.ident to m)
     → new.plain ≡ freeze (moved_note from target bare to m) new.plain.log.armed v.plain → new.log ≡ pending_record (Some (records.Moved from m.ident to m)) v.log
     → WritesLog v (moved_step from target bare to m) (Err halt) new
 unfolding move_if part_if
-stopped_told v new from target bare to m stop halt is kept plain log =
+stopped_told v new from target bare to m stop halt is kept fits plain log =
     let nothing : Unit {0} = tt in
     subst (λ (b : Bool). WritesLog v (move_if b from target bare to m) (Err halt) new) (sym (kept_persistent m kept))
-    (broke_told v new halt stop nothing (part_if true from target bare to m) is refl plain log)
+    (broke_told v new halt stop nothing (part_if true from target bare to m) is refl fits plain log)

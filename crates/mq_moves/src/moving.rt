@@ -1,7 +1,8 @@
 //! A rule of the dead-letter handler moves a row: it goes from one queue and stands on another by one forced write.
 ghost use Rattle.std.specs.Prelude.{◌≡◌, ◌+◌, ◌<◌, ◌≤◌, ◌^◌, true, false, length, IsSome, OnOk, OnErr};
 ghost use Rattle.mq_calls.specs.declared.records.LogRecord.TheVariants as records;
-ghost use Rattle.mq_spec_state.specs.Words.{MeetsOrWants, AreLow, is_persistent, local_of, need, record_size};
+ghost use Rattle.mq_spec_state.specs.Words.{MeetsOrWants, is_persistent, local_of, need, record_size};
+ghost use Rattle.mq_core.specs.Counting.{CanCount};
 ghost use Rattle.mq_spec_agents.specs.Words.{IsUp, HasFreeRow};
 ghost use Rattle.mq_record.specs.Records.{CanBeKept};
 ghost use Rattle.mq_core.specs.Ties.{IsReady};
@@ -64,7 +65,7 @@ fn move_free<D: Disk>(
     message: Message,
 ) -> Result<(), PlaceFault>
     requires up { IsUp core.old.plain }
-    requires low { AreLow core.old.plain }
+    requires low { CanCount core.old.plain }
     requires there { IsSome (local_of to.now core.old.plain.definitions) }
     requires row { HasFreeRow from.now message.ident core.old.plain }
     requires free { is_persistent message ≡ false }
@@ -151,7 +152,7 @@ fn move_forced<D: Disk>(
     message: Message,
 ) -> Result<(), PlaceFault>
     requires up { IsUp core.old.plain }
-    requires low { AreLow core.old.plain }
+    requires low { CanCount core.old.plain }
     requires there { IsSome (local_of to.now core.old.plain.definitions) }
     requires row { HasFreeRow from.now message.ident core.old.plain }
     requires kept { CanBeKept message }
@@ -196,7 +197,7 @@ pub(crate) fn move_message<D: Disk>(
     message: Message,
 ) -> Result<(), PlaceFault>
     requires up { IsUp core.old.plain }
-    requires low { AreLow core.old.plain }
+    requires low { CanCount core.old.plain }
     requires there { IsSome (local_of to.now core.old.plain.definitions) }
     requires row { HasFreeRow from.now message.ident core.old.plain }
     ensures meets { MeetsOrWants (manager_of core.old) (moved_step from.now target.now bare to.now message) (by_place result) (manager_of core.new) }

@@ -1,6 +1,7 @@
 //! A row goes to the end of a rule's route: what refuses it, in order, and the message as it stands there.
 ghost use Rattle.std.specs.Prelude.{◌≡◌, ◌<◌, ◌^◌, ℕ, List, true, Some, None, drop, length, IfOk};
-ghost use Rattle.mq_spec_state.specs.Words.{MeetsOrWants, AreLow, stored};
+ghost use Rattle.mq_spec_state.specs.Words.{MeetsOrWants, stored};
+ghost use Rattle.mq_core.specs.Counting.{CanCount};
 ghost use Rattle.mq_spec_manager.specs.Words.{is_dead};
 ghost use Rattle.mq_spec_agents.specs.Words.{IsUp, CanMove, bare_if, row_with, move_full, move_row};
 ghost use Rattle.mq_core.specs.Views.{plain_of};
@@ -177,7 +178,7 @@ pub fn move_row<D: Disk>(
     bare: bool,
 ) -> Result<(), PlaceFault>
     requires up { IsUp core.old.plain }
-    requires low { AreLow core.old.plain }
+    requires low { CanCount core.old.plain }
     requires can { CanMove from.now ident.now bare core.old.plain }
     ensures meets { MeetsOrWants (manager_of core.old) (move_row from.now ident.now to.now bare core.old.plain) (by_place result) (manager_of core.new) }
     ensures told { WritesLog core.old (move_row from.now ident.now to.now bare core.old.plain) (by_place result) core.new }

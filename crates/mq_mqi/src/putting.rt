@@ -1,6 +1,7 @@
 //! MQPUT and MQPUT1.
 ghost use Rattle.std.specs.Prelude.{◌≡◌, ◌≤◌, ◌<◌, ◌^◌, length, true, false, IsSome, IfSome, IfOk, OnOk, OnErr};
-ghost use Rattle.mq_spec_state.specs.Words.{Meets, AreLow, connection_at, is_up, is_persistent, local_of, put_bytes};
+ghost use Rattle.mq_spec_state.specs.Words.{Meets, connection_at, is_up, is_persistent, local_of, put_bytes};
+ghost use Rattle.mq_core.specs.Counting.{CanCount};
 ghost use Rattle.mq_spec_manager.specs.Words.{next_ident, sent_answer, is_high, mqput, mqput1};
 ghost use Rattle.mq_record.specs.Records.{CanBeKept};
 ghost use Rattle.mq_core.specs.Forced.{IsExpected, HasMoreRoom};
@@ -82,7 +83,7 @@ fn put_free<D: Disk>(
     high: bool,
 ) -> Result<Answer<Sent>, Halt<Reason>>
     requires up { is_up core.old.plain.running ≡ true }
-    requires low { AreLow core.old.plain }
+    requires low { CanCount core.old.plain }
     requires there { IsSome (local_of queue.now core.old.plain.definitions) }
     requires ident { message.ident ≡ next_ident core.old.plain }
     requires free { is_persistent message ≡ false }
@@ -112,7 +113,7 @@ fn put_forced<D: Disk>(
     high: bool,
 ) -> Result<Answer<Sent>, Halt<Reason>>
     requires up { is_up core.old.plain.running ≡ true }
-    requires low { AreLow core.old.plain }
+    requires low { CanCount core.old.plain }
     requires there { IsSome (local_of queue.now core.old.plain.definitions) }
     requires ident { message.ident ≡ next_ident core.old.plain }
     requires kept { CanBeKept message }
@@ -153,7 +154,7 @@ fn put_in_unit<D: Disk>(
 ) -> Result<Answer<Sent>, Halt<Reason>>
     requires up { is_up core.old.plain.running ≡ true }
     requires live { IsSome (connection_at number core.old.plain.connections) }
-    requires low { AreLow core.old.plain }
+    requires low { CanCount core.old.plain }
     requires there { IsSome (local_of queue.now core.old.plain.definitions) }
     requires ident { message.ident ≡ next_ident core.old.plain }
     requires kept { is_persistent message ≡ true → CanBeKept message }
@@ -182,7 +183,7 @@ fn put<D: Disk>(
     requires up { is_up core.old.plain.running ≡ true }
     requires live { IsSome (connection_at number core.old.plain.connections) }
     requires can { IfSome (connection_at number core.old.plain.connections) (λ c. CanPost letter.now sync body.now c core.old.plain) }
-    requires low { AreLow core.old.plain }
+    requires low { CanCount core.old.plain }
     requires limit { core.old.plain.definitions.manager.max_message_length ≤ 4194304 }
     ensures meets { Meets (manager_of core.old) (letter_at number letter.now high sync body.now core.old.plain) result (manager_of core.new) }
     ensures told { WritesLog core.old (letter_at number letter.now high sync body.now core.old.plain) result core.new }
@@ -218,7 +219,7 @@ pub fn mqput<D: Disk>(
     body: &[u8],
     sync: bool,
 ) -> Result<Answer<Sent>, Halt<Reason>>
-    requires low { AreLow core.old.plain }
+    requires low { CanCount core.old.plain }
     requires limit { core.old.plain.definitions.manager.max_message_length ≤ 4194304 }
     ensures meets { Meets (manager_of core.old) (mqput hc ho md.now body.now sync core.old.plain) result (manager_of core.new) }
     ensures told { WritesLog core.old (mqput hc ho md.now body.now sync core.old.plain) result core.new }
@@ -246,7 +247,7 @@ pub fn mqput1<D: Disk>(
     body: &[u8],
     sync: bool,
 ) -> Result<Answer<Sent>, Halt<Reason>>
-    requires low { AreLow core.old.plain }
+    requires low { CanCount core.old.plain }
     requires limit { core.old.plain.definitions.manager.max_message_length ≤ 4194304 }
     ensures meets { Meets (manager_of core.old) (mqput1 hc name.now qmgr.now md.now body.now sync core.old.plain) result (manager_of core.new) }
     ensures told { WritesLog core.old (mqput1 hc name.now qmgr.now md.now body.now sync core.old.plain) result core.new }

@@ -228,7 +228,7 @@ told_halt c v new halts.NoMemory e n = told_any v new (command c v.plain) n
 told_halt c v new (halts.Stopped by) e n = absurd e
 
 pub told_show : (c : Command) (v new : CoreValue) (shown : Shown) → command c v.plain ≡ say shown → new ≡ begun_call v → WritesLog v (command c v.plain) (Ok shown) new
-told_show c v new shown e n = subst (λ (s : Step ScRefusal Shown). WritesLog v s (Ok shown) new) (sym e) (ap (λ (w : CoreValue). w.log) n)
+told_show c v new shown e n = subst (λ (s : Step ScRefusal Shown). WritesLog v s (Ok shown) new) (sym e) (ap (λ (w : CoreValue). w.log) n, tt)
 
 pub told_down : (c : Command) (v new : CoreValue) → is_up v.plain.running ≡ false → new ≡ begun_call v → WritesLog v (command c v.plain) (Err (halts.Refused refusals.Down)) new
 told_down c v new down n = told_halt c v new (halts.Refused refusals.Down) (down_is c v.plain down) n

@@ -8,7 +8,8 @@ use Rattle.mq_objects.specs.declared.object.Object.TheVariants as objects
 use Rattle.mq_objects.specs.Names.{object_in, as_local, is_object}
 use Rattle.mq_objects.specs.Names.Space.{Queues}
 use Rattle.mq_spec_state.specs.State.{Queue as StateQueue}
-use Rattle.mq_spec_state.specs.Words.{Part, say, stored, is_up, locals_of, process_of, Ident, Message, Item, LocalQueue, Plain, Do, Meets, AreLow, local_of, place, apply, apply_all, set_queue, Definitions}
+use Rattle.mq_spec_state.specs.Words.{Part, say, stored, is_up, locals_of, process_of, Ident, Message, Item, LocalQueue, Plain, Do, Meets, local_of, place, apply, apply_all, set_queue, Definitions}
+use Rattle.mq_core.specs.Counting.{CanCount}
 use Rattle.mq_calls.specs.declared.state.Item.TheVariants.{Put}
 use Rattle.mq_calls.specs.declared.commands.Halt.TheVariants as halts
 use Rattle.mq_spec_state.specs.State.Change.{CountIdent, Serve}
@@ -102,21 +103,21 @@ on_way to m x y can e t = record {
 due_on_way : (from to : List ℕ) (x y : PartsValue) → IsExpected to 0 x y → IsDue from (plain_of x) → IsDue from (plain_of (numbered y))
 due_on_way from to x y e due = subst (λ (p : Plain). IsDue from p) (sym (expected_view to 0 x y e)) due
 
-pub turn_ready : (from to : List ℕ) (m : Message) (x y : PartsValue) → AreLow (plain_of x) → IsDue from (plain_of x) → CanSend to m (plain_of x) → IsExpected to 0 x y → Tied x → IsReady to m (served_at from (numbered y))
+pub turn_ready : (from to : List ℕ) (m : Message) (x y : PartsValue) → CanCount (plain_of x) → IsDue from (plain_of x) → CanSend to m (plain_of x) → IsExpected to 0 x y → Tied x → IsReady to m (served_at from (numbered y))
 turn_ready from to m x y low due can e t =
     let way = on_way to m x y can e t in
     ready (2 ^ 63 + 1) to m [] (served_at from (numbered y)) (omega arith)
     (counts_served (2 ^ 63 + 1) from (numbered y) (due_on_way from to x y e due) (way_counts to m x (numbered y) can.there way t low))
     (tied_served from (Put to m ∷ []) (numbered y) (tied_on_way to m x (numbered y) can.there way t))
 
-pub turn_tied : (from to : List ℕ) (m : Message) (x y : PartsValue) → AreLow (plain_of x) → IsDue from (plain_of x) → CanSend to m (plain_of x) → IsExpected to 0 x y → Tied x → Tied (arrived_at to m (served_at from (numbered y)))
+pub turn_tied : (from to : List ℕ) (m : Message) (x y : PartsValue) → CanCount (plain_of x) → IsDue from (plain_of x) → CanSend to m (plain_of x) → IsExpected to 0 x y → Tied x → Tied (arrived_at to m (served_at from (numbered y)))
 turn_tied from to m x y low due can e t =
     tied_arrived to m [] (served_at from (numbered y)) (turn_ready from to m x y low due can e t) (tied_served from (Put to m ∷ []) (numbered y) (tied_on_way to m x (numbered y) can.there (on_way to m x y can e t) t))
 
 abbrev place_served : List ℕ → List ℕ → Message → Plain → Plain
 place_served from to m p = place to m (apply (Serve from) (apply CountIdent p))
 
-pub turn_view : (from to : List ℕ) (m : Message) (x y : PartsValue) → AreLow (plain_of x) → IsDue from (plain_of x) → CanSend to m (plain_of x) → IsExpected to 0 x y → Tied x
+pub turn_view : (from to : List ℕ) (m : Message) (x y : PartsValue) → CanCount (plain_of x) → IsDue from (plain_of x) → CanSend to m (plain_of x) → IsExpected to 0 x y → Tied x
     → plain_of (arrived_at to m (served_at from (numbered y))) ≡ apply_all (sent_part from to m).changes (plain_of x)
 turn_view from to m x y low due can e t =
     arrived_view to m (served_at from (numbered y)) (turn_ready from to m x y low due can e t)

@@ -1,6 +1,7 @@
 //! Trigger turns.
 ghost use Rattle.std.specs.Prelude.{◌≡◌, [], ◌∷◌, None, ◌+◌, ◌<◌, ◌^◌, ◌≤◌, is_some, nat_lt, option_copied, true, Some, OnOk, OnErr};
-ghost use Rattle.mq_spec_state.specs.Words.{Meets, AreLow, Do, apply, stored, local_of, locals_of, process_of, is_transmission, is_up};
+ghost use Rattle.mq_spec_state.specs.Words.{Meets, Do, apply, stored, local_of, locals_of, process_of, is_transmission, is_up};
+ghost use Rattle.mq_core.specs.Counting.{CanCount};
 ghost use Rattle.mq_spec_state.specs.State.Change.{Serve};
 ghost use Rattle.mq_spec_manager.specs.Triggers.{first_due, takes_it, serve_into, serve_by, trigger_turn};
 ghost use Rattle.mq_core.specs.Views.{plain_of};
@@ -226,7 +227,7 @@ fn send<D: Disk>(
     to: &QName,
     message: Message,
 ) -> Result<bool, NoMemory>
-    requires low { AreLow core.old.plain }
+    requires low { CanCount core.old.plain }
     requires due { IsDue from.now core.old.plain }
     requires can { CanSend to.now message core.old.plain }
     ensures meets { Meets (manager_of core.old) (Do true (sent_part from.now to.now message ∷ [])) (halted result) (manager_of core.new) }
@@ -249,7 +250,7 @@ fn send<D: Disk>(
 
 /// The trigger of a queue is served.
 fn serve_turn<D: Disk>(core: &mut Core<D>, serving: Serving) -> Result<bool, NoMemory>
-    requires low { AreLow core.old.plain }
+    requires low { CanCount core.old.plain }
     requires turn { IsServed core.old.plain serving }
     ensures meets { Meets (manager_of core.old) (trigger_turn core.old.plain) (halted result) (manager_of core.new) }
     ensures told { WritesLog core.old (trigger_turn core.old.plain) (halted result) core.new }
@@ -290,7 +291,7 @@ pub fn next_due<D: Disk>(core: &Core<D>) -> Option<QName>
 /// No memory; the trigger stays due.
 #[tactic(auto, using(crate::proofs::TurnLaws::turn_wants, crate::proofs::TurnLaws::turn_writes))]
 pub fn trigger_turn<D: Disk>(core: &mut Core<D>) -> Result<bool, NoMemory>
-    requires low { AreLow core.old.plain }
+    requires low { CanCount core.old.plain }
     ensures meets { Meets (manager_of core.old) (trigger_turn core.old.plain) (halted result) (manager_of core.new) }
     ensures told { WritesLog core.old (trigger_turn core.old.plain) (halted result) core.new }
 {

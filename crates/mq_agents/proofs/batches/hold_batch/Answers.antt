@@ -64,4 +64,4 @@ returns-clause-meets g c =
     (free_as Never Anywhere (manager_of c.args.core.now) new (length ids) c.len-2.result (Hold (Among queue ids) by ∷ AddBatch batch ∷ []) (map (held_did queue by) ids) c.len-2.ensures done told (ap (λ (w : CoreValue). w.stopped) v) faults)
 
 pub returns-clause-told : goal.returns-clause-told
-returns-clause-told g c = ap (λ (p : PartsValue). bodies_in p.log) c.in-Ok-put_batch.ensures.ok ∙ ap (λ (w : CoreValue). w.log) (c.core.view_is ∙ c.begin_call.ensures)
+returns-clause-told g c = (ap (λ (p : PartsValue). bodies_in p.log) c.in-Ok-put_batch.ensures.ok ∙ ap (λ (w : CoreValue). w.log) (c.core.view_is ∙ c.begin_call.ensures), (tt, tt))

@@ -159,7 +159,7 @@ returns-in-Err-force_remove-clause-told g c =
     let new : CoreValue = record { plain = plain_of w; delta = c.reserve.new.self.dids; stopped = Some stop; faults = w.log.faults; log = bodies_in w.log } in
     let nothing : Unit {0} = tt in
     writes_as c.args.core.now new (discard queue ident p) (Do nothing (one_part queue ident true ∷ [])) (Err halt) step
-    (broke_told c.args.core.now new halt stop nothing (one_part queue ident true) is refl frozen
+    (broke_told c.args.core.now new halt stop nothing (one_part queue ident true) is refl f.fits frozen
     (ap (λ (q : PartsValue). bodies_in q.log) c.go_down.ensures ∙ stopped_bodies r y z stop f ∙ ap (pending_record (Some r)) (ap (λ (q : PartsValue). bodies_in q.log) h.same ∙ ap (λ (k : CoreValue). k.log) v)))
 
 pub returns-clause-told : goal.returns-clause-told
@@ -182,6 +182,8 @@ returns-clause-told g c =
     let w = c.remove_row.new.parts in
     let new : CoreValue = record { plain = plain_of w; delta = c.remove_row.new.effects.dids; stopped = c.core.inside.stopped; faults = w.log.faults; log = bodies_in w.log } in
     let nothing : Unit {0} = tt in
-    writes_as c.args.core.now new (discard queue ident p) (Do nothing (one_part queue ident true ∷ [])) (Ok nothing) step
-    (ap (λ (q : PartsValue). bodies_in q.log) c.remove_row.ensures.parts ∙ forced_bodies r y z c.in-Ok-force_remove.ensures
-    ∙ ap (behind_record (Some r)) (ap (λ (q : PartsValue). bodies_in q.log) h.same ∙ ap (λ (k : CoreValue). k.log) v))
+    writes_as c.args.core.now new (discard queue ident p) (Do nothing (one_part queue ident true ∷ [])) (Ok nothing) step (
+      ap (λ (q : PartsValue). bodies_in q.log) c.remove_row.ensures.parts ∙ forced_bodies r y z c.in-Ok-force_remove.ensures
+          ∙ ap (behind_record (Some r)) (ap (λ (q : PartsValue). bodies_in q.log) h.same ∙ ap (λ (k : CoreValue). k.log) v),
+      (c.in-Ok-force_remove.ensures.fits, tt),
+    )

@@ -74,4 +74,4 @@ returns-clause-told g c =
     let new : CoreValue = record { plain = plain_of w; delta = c.remove_row.new.effects.dids; stopped = c.core.inside.stopped; faults = w.log.faults; log = bodies_in w.log } in
     let nothing : Unit {0} = tt in
     writes_as c.args.core.now new (discard queue ident p) (Do nothing (one_part queue ident false ∷ [])) (Ok nothing) step
-    (ap (λ (q : PartsValue). bodies_in q.log) c.remove_row.ensures.parts ∙ ap (λ (k : CoreValue). k.log) v)
+    (ap (λ (q : PartsValue). bodies_in q.log) c.remove_row.ensures.parts ∙ ap (λ (k : CoreValue). k.log) v, (tt, tt))

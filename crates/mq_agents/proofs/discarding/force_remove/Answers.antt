@@ -65,4 +65,4 @@ returns g c =
     let piece = remove_length r c.put_remove.ensures.remove in
     omega (arith, taken, cleared, first, second, nine, size, piece) in
     forced_from (records.Unit [] (r ∷ [])) x z c.force_body.new.self c.force_body.result (λ i. record (c.parts.view_is i) { body = c.put_remove.new.self }) room
-    (c.force_body.ensures (records.Unit [] (r ∷ [])) bytes whole)
+    (c.force_body.ensures (records.Unit [] (r ∷ [])) bytes (λ named. remove_record r c.put_remove.ensures.remove) whole)

@@ -91,6 +91,6 @@ returns-clause-told g c =
     let x : PartsValue = c.core.inside.parts in
     let side = c.args.side in
     let r = note_record c.args.channel.now c.args.note.now in
-    hardened_wrote c.args.channel.now c.args.note.now (SetReceiver c.args.channel.now side.hardened) c.args.core.now.plain c.args.core.now.log _ c.requires.side.part
+    hardened_wrote c.args.channel.now c.args.note.now (SetReceiver c.args.channel.now side.hardened) c.args.core.now.plain c.args.core.now.log _ c.requires.side.part c.requires.size.1
     (hardened_bodies r c.args.bytes.now (with_receivers (set_receiver side x.ends.receivers) x.ends) x c.write_receiver.new.parts c.requires.bytes c.in-Ok-write_receiver.ensures
     ∙ ap (behind_record (Some r)) (ap (λ (w : CoreValue). w.log) (c.core.view_is ∙ c.begin_call.ensures)))

@@ -1,9 +1,9 @@
 use Rattle.std.proofs.Common.{◌≡◌, ℕ, ◌+◌, ◌-◌, ◌≤◌, ◌∙◌, sym, ap, subst, refl, arith}
 use Rattle.std.specs.Prelude.{List, [], ◌++◌, length, ◌*◌}
-use Rattle.std.specs.List.{flat_map}
+use Rattle.std.specs.List.{flat_map, AllByRecursion}
 use Rattle.std.proofs.lemmas.List.{length-append}
 use Rattle.mq_message.specs.declared.message.Ident.{Ident}
-use Rattle.mq_frame.specs.Frames.{ident_bytes}
+use Rattle.mq_frame.specs.Frames.{ident_bytes, IsIdent}
 use Rattle.mq_record.specs.Room.{Buffered}
 use Rattle.mq_record.specs.Records.{prepared_front}
 use Rattle.mq_log.specs.State.{LogState}
@@ -34,7 +34,7 @@ returns-clause-ok g c =
     let front : c.prepared_front.result ≡ prepared_front c.args.channel.now d.unit d.last d.queue (length d.idents) =
     c.prepared_front.ensures.bytes ∙ ap (λ (n : ℕ). prepared_front c.args.channel.now d.unit d.last d.queue n) c.len-count.ensures in
     let bytes =
-    ap (λ (b : Buffered). b.bytes) c.put_idents.ensures ∙ ap (λ (is : List Ident). c.put.new.self.bytes ++ flat_map ident_bytes is) ids
+    ap (λ (b : Buffered). b.bytes) c.put_idents.ensures.bytes ∙ ap (λ (is : List Ident). c.put.new.self.bytes ++ flat_map ident_bytes is) ids
     ∙ ap (λ (b : Buffered). b.bytes ++ pieces) c.put.ensures ∙ ap (λ (bs : List ℕ). (bs ++ c.prepared_front.result) ++ pieces) none ∙ ap (λ (f : List ℕ). f ++ pieces) front in
     let whole : length c.prepared_front.result ≡ 93 = omega (arith, c.prepared_front.type_inv) in
     let long : length pieces ≡ 17 * length d.idents = idents_length d.idents in
@@ -44,7 +44,7 @@ returns-clause-ok g c =
     let taken = ap (λ (p : PartsValue). p.body.room + length p.body.bytes) c.parts.view_is in
     let cleared = ap (λ (b : Buffered). b.room) c.clear.ensures in
     let first = ap (λ (b : Buffered). b.room) c.put.ensures in
-    let second = ap (λ (b : Buffered). b.room) c.put_idents.ensures in
+    let second = ap (λ (b : Buffered). b.room) c.put_idents.ensures.bytes in
     let other = ap (λ (is : List Ident). length (flat_map ident_bytes is)) ids in
     let all = ap length bytes in
     let log = ap (λ (p : PartsValue). p.log) c.parts.view_is in
@@ -59,4 +59,5 @@ returns-clause-ok g c =
       };
       bytes = bytes;
       size = size;
+      fits = λ named. c.prepared_front.ensures.record named d.idents (record { count = omega (arith, c.requires.few); each = subst (AllByRecursion IsIdent) ids c.put_idents.ensures.idents });
     }

@@ -12,7 +12,7 @@ use Rattle.mq_core.specs.Views.{PartsValue, plain_of, frozen_of}
 use Rattle.mq_core.specs.Ties.{Tied, mode_is_up}
 use Rattle.mq_core.proofs.MeetLaws.{mode_up}
 use Rattle.mq_core.proofs.PutLaws.{tied_roomier, roomier_view}
-use Rattle.mq_agents.specs.Written.{with_senders}
+use Rattle.mq_agents.specs.Written.{IsWhole, with_senders}
 use Rattle.mq_agents.specs.Removing.{IsDoubtOf, doubt_record}
 use Rattle.mq_agents.specs.Ends.{by_prepare, halt_of}
 use Rattle.mq_agents.proofs.WriteLaws.{roomy_more, hardened_tied, sender_hardened, unwritten_ends, unwritten_told, hardened_bodies, tied_after, wrote_as}
@@ -35,7 +35,7 @@ invariant_of-core-in-Err-write_doubt g c =
     let z : PartsValue = c.write_doubt.new.parts in
     let fl = c.in-Ok-fill_prepared.ensures.ok in
     let more = roomy_more (need r) x y fl.roomy in
-    let size = ap length fl.bytes ∙ fl.size in
+    let size : IsWhole y.body.bytes r = (ap length fl.bytes ∙ fl.size, fl.fits) in
     let old = c.in-Ok-sender_now.old in
     let side : SenderSide = record { channel = channel; hardened = data_prepared d old } in
     let e : ChannelEnds = with_senders (set_sender side y.ends.senders) y.ends in
@@ -55,7 +55,7 @@ returns-in-Err-write_doubt-clause-meets g c =
     let z : PartsValue = c.write_doubt.new.parts in
     let fl = c.in-Ok-fill_prepared.ensures.ok in
     let more = roomy_more (need r) x y fl.roomy in
-    let size = ap length fl.bytes ∙ fl.size in
+    let size : IsWhole y.body.bytes r = (ap length fl.bytes ∙ fl.size, fl.fits) in
     let old = c.in-Ok-sender_now.old in
     let side : SenderSide = record { channel = channel; hardened = data_prepared d old } in
     let e : ChannelEnds = with_senders (set_sender side y.ends.senders) y.ends in
@@ -85,7 +85,7 @@ invariant_of-core-2 g c =
     let z : PartsValue = c.write_doubt.new.parts in
     let fl = c.in-Ok-fill_prepared.ensures.ok in
     let more = roomy_more (need r) x y fl.roomy in
-    let size = ap length fl.bytes ∙ fl.size in
+    let size : IsWhole y.body.bytes r = (ap length fl.bytes ∙ fl.size, fl.fits) in
     let old = c.in-Ok-sender_now.old in
     let side : SenderSide = record { channel = channel; hardened = data_prepared d old } in
     let e : ChannelEnds = with_senders (set_sender side y.ends.senders) y.ends in
@@ -105,7 +105,7 @@ returns-clause-meets g c =
     let z : PartsValue = c.write_doubt.new.parts in
     let fl = c.in-Ok-fill_prepared.ensures.ok in
     let more = roomy_more (need r) x y fl.roomy in
-    let size = ap length fl.bytes ∙ fl.size in
+    let size : IsWhole y.body.bytes r = (ap length fl.bytes ∙ fl.size, fl.fits) in
     let old = c.in-Ok-sender_now.old in
     let side : SenderSide = record { channel = channel; hardened = data_prepared d old } in
     let e : ChannelEnds = with_senders (set_sender side y.ends.senders) y.ends in
@@ -144,7 +144,7 @@ returns-in-Err-write_doubt-clause-told g c =
     let z : PartsValue = c.write_doubt.new.parts in
     let fl = c.in-Ok-fill_prepared.ensures.ok in
     let more = roomy_more (need r) x y fl.roomy in
-    let size = ap length fl.bytes ∙ fl.size in
+    let size : IsWhole y.body.bytes r = (ap length fl.bytes ∙ fl.size, fl.fits) in
     let old = c.in-Ok-sender_now.old in
     let side : SenderSide = record { channel = channel; hardened = data_prepared d old } in
     let e : ChannelEnds = with_senders (set_sender side y.ends.senders) y.ends in
@@ -172,7 +172,7 @@ returns-clause-told g c =
     let z : PartsValue = c.write_doubt.new.parts in
     let fl = c.in-Ok-fill_prepared.ensures.ok in
     let more = roomy_more (need r) x y fl.roomy in
-    let size = ap length fl.bytes ∙ fl.size in
+    let size : IsWhole y.body.bytes r = (ap length fl.bytes ∙ fl.size, fl.fits) in
     let old = c.in-Ok-sender_now.old in
     let side : SenderSide = record { channel = channel; hardened = data_prepared d old } in
     let e : ChannelEnds = with_senders (set_sender side y.ends.senders) y.ends in
@@ -181,4 +181,4 @@ returns-clause-told g c =
     let was : sender_or (sender_data channel (plain_of x)) ≡ old = sym c.in-Ok-sender_now.ensures in
     let step : prepare channel last p ≡ Do tt (doubt_part channel d old ∷ []) = ap (prepare channel last) (sym plain) ∙ prepares_as d channel last (plain_of x) here fits ∙ ap (λ (s : SenderData). Do tt (doubt_part channel d s ∷ [])) was in
     writes_as c.args.core.now _ (prepare channel last p) (Do tt (doubt_part channel d old ∷ [])) (Ok tt) step
-    (ap (λ (q : PartsValue). bodies_in q.log) c.drop_batch.ensures ∙ hardened_bodies r y.body.bytes e y z fl.bytes c.in-Ok-write_doubt.ensures ∙ ap (behind_record (Some r)) (roomier_bodies x y more ∙ ap (λ (w : CoreValue). w.log) v))
+    (ap (λ (q : PartsValue). bodies_in q.log) c.drop_batch.ensures ∙ hardened_bodies r y.body.bytes e y z fl.bytes c.in-Ok-write_doubt.ensures ∙ ap (behind_record (Some r)) (roomier_bodies x y more ∙ ap (λ (w : CoreValue). w.log) v), (fl.fits, tt))

@@ -60,4 +60,4 @@ returns-clause-told g c =
     let step : release_of channel (Some b) ≡ release_batch channel c.args.core.now.plain = ap (release_of channel) (c.in-Some.ensures ∙ ap (λ (p : Plain). batch_of channel p.channels.batches) plain) in
     let nothing : Unit {0} = tt in
     writes_as c.args.core.now _ (release_batch channel c.args.core.now.plain) (release_of channel (Some b)) (Ok nothing) (sym step)
-    (ap (λ (p : PartsValue). bodies_in p.log) c.free_batch.ensures ∙ ap (λ (w : CoreValue). w.log) v)
+    (ap (λ (p : PartsValue). bodies_in p.log) c.free_batch.ensures ∙ ap (λ (w : CoreValue). w.log) v, (tt, tt))

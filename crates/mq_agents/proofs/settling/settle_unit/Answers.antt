@@ -215,4 +215,4 @@ returns-clause-told g c =
     let w = c.in-Ok-write_settled.ensures in
     let new : CoreValue = record { plain = plain_of c.settle_rows.new.parts; delta = c.tell.new.self.dids; stopped = c.core.inside.stopped; faults = c.settle_rows.new.parts.log.faults; log = bodies_in c.settle_rows.new.parts.log } in
     writes_as c.args.core.now new (harden channel (notes.Resolved unit commit operator) p) (Do nothing (settled_part commit operator channel unit rows old ∷ [])) (Ok nothing) step
-    (ap (λ (q : PartsValue). bodies_in q.log) c.settle_rows.ensures ∙ hardened_bodies r bytes e x z c.requires.bytes w.1 ∙ ap (behind_record (Some r)) (ap (λ (q : CoreValue). q.log) v))
+    (ap (λ (q : PartsValue). bodies_in q.log) c.settle_rows.ensures ∙ hardened_bodies r bytes e x z c.requires.bytes w.1 ∙ ap (behind_record (Some r)) (ap (λ (q : CoreValue). q.log) v), (c.requires.size.1, tt))

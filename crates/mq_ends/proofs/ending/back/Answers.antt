@@ -56,4 +56,4 @@ returns-clause-told g c =
     let found = ap (λ (w : CoreValue). connection_at c.args.number w.plain.connections) v ∙ live.1 in
     let parts = if_some (λ (d : Connection). c.back_out_unit.new.parts ≡ backed c.args.number d x) _ live.0 found c.back_out_unit.ensures.parts in
     writes_at c.args.core.now _ c.args.number live.0 (λ d. Do (answers.Ok tt) (backout_part d ∷ [])) _ live.1
-    (ap (λ (z : PartsValue). bodies_in z.log) parts ∙ ap bodies_in (backed_faults live.0.unit (ended_unit c.args.number live.0 x)) ∙ ap (λ (w : CoreValue). w.log) v)
+    (ap (λ (z : PartsValue). bodies_in z.log) parts ∙ ap bodies_in (backed_faults live.0.unit (ended_unit c.args.number live.0 x)) ∙ ap (λ (w : CoreValue). w.log) v, (tt, tt))

@@ -1,6 +1,7 @@
 use Rattle.std.proofs.Common.{◌≡◌, ◌+◌, ◌<◌, ◌≤◌, ◌^◌, sym, ap, subst, refl, ◌∙◌, arith, length}
 use Rattle.std.specs.Prelude.{Ok, Err, ◌++◌}
-use Rattle.mq_spec_state.specs.Words.{Plain, Connection, AreLow, connection_at, is_up, apply_all, logged, unit_need}
+use Rattle.mq_spec_state.specs.Words.{Plain, Connection, connection_at, is_up, apply_all, logged, unit_need}
+use Rattle.mq_core.specs.Counting.{CanCount}
 use Rattle.mq_spec_manager.specs.Units.{adds_of, removes_of, record_of, commit_delta, commit_changes}
 use Rattle.mq_core.specs.Views.{PartsValue, plain_of, frozen_of}
 use Rattle.mq_core.specs.Writes.{end_changes}
@@ -11,7 +12,7 @@ use Rattle.mq_ends.specs.Ends.{IfForced, HasRoom, AreReady, ended_unit, settled}
 use Rattle.mq_core.specs.Placing.{take_each}
 use Rattle.mq_ends.proofs.EndLaws.{settled_bodies, wrote_view, found_then, commit_ready, commit_tied, commit_room, commit_mode, settled_faults}
 use Rattle.mq_ends.proofs.LateLaws.{settled_view}
-use Rattle.mq_ends.proofs.CommitLaws.{wrote_bodies, commit_writes, commit_breaks, unit_low, commit_done, commit_stopped, tied_stopped}
+use Rattle.mq_ends.proofs.CommitLaws.{wrote_bodies, wrote_record, commit_writes, commit_breaks, unit_low, commit_done, commit_stopped, tied_stopped}
 use Rattle.mq_core.specs.Values.{CoreValue, manager_of, bodies_in, behind_record}
 use Rattle.mq_ends.proofs.ending.commit.Goals as goal
 
@@ -88,7 +89,7 @@ settle_unit-requires-clause-ready g c =
     let found = ap (λ (p : Plain). connection_at c.args.number p.connections) plain ∙ live.1 in
     let f = if_some (λ (d : Connection). IfForced (record_of (adds_of d.unit) (removes_of d.unit)) x (Ok tt) y) _ live.0 found c.in-Ok.ensures in
     some_of (λ (d : Connection). AreReady d.unit (take_each d.unit (ended_unit c.args.number d y))) _ live.0 (found_then c.args.number live.0 x y found f c.core.invariant)
-    (commit_ready c.args.number live.0 x y found f c.core.invariant (subst AreLow (sym plain) c.requires.low))
+    (commit_ready c.args.number live.0 x y found f c.core.invariant (subst CanCount (sym plain) c.requires.low))
 
 pub invariant_of-core-2 : goal.invariant_of-core-2
 invariant_of-core-2 g c =
@@ -99,7 +100,7 @@ invariant_of-core-2 g c =
     let found = ap (λ (p : Plain). connection_at c.args.number p.connections) plain ∙ live.1 in
     let f = if_some (λ (d : Connection). IfForced (record_of (adds_of d.unit) (removes_of d.unit)) x (Ok tt) y) _ live.0 found c.in-Ok.ensures in
     let parts = if_some (λ (d : Connection). c.settle_unit.new.parts ≡ settled c.args.number c.args.ends d y) _ live.0 (found_then c.args.number live.0 x y found f c.core.invariant) c.settle_unit.ensures.parts in
-    subst Tied (sym parts) (commit_tied c.args.number live.0 x y found f c.core.invariant c.args.ends c.settle_unit.ensures.rising (subst AreLow (sym plain) c.requires.low))
+    subst Tied (sym parts) (commit_tied c.args.number live.0 x y found f c.core.invariant c.args.ends c.settle_unit.ensures.rising (subst CanCount (sym plain) c.requires.low))
 
 pub returns-clause-meets : goal.returns-clause-meets
 returns-clause-meets g c =
@@ -115,7 +116,7 @@ returns-clause-meets g c =
     let later = found_then c.args.number live.0 x y found f c.core.invariant in
     let parts = if_some (λ (d : Connection). c.settle_unit.new.parts ≡ settled c.args.number c.args.ends d y) _ live.0 later c.settle_unit.ensures.parts in
     let told = if_some (λ (d : Connection). c.settle_unit.result.dids ≡ commit_delta d) _ live.0 later c.settle_unit.ensures.told in
-    let ready = commit_ready c.args.number live.0 x y found f c.core.invariant (subst AreLow (sym plain) c.requires.low) in
+    let ready = commit_ready c.args.number live.0 x y found f c.core.invariant (subst CanCount (sym plain) c.requires.low) in
     commit_done (manager_of c.args.core.now) _ c.args.number c.args.ends live.0 x y live.1 plain (ap (λ (w : CoreValue). w.faults) v) f
     (ap plain_of parts
     ∙ settled_view c.args.number c.args.ends live.0 y (ap mode_is_up (commit_mode c.args.number live.0 x y found f c.core.invariant) ∙ up) (number_is c.args.number y.desk.live live.0 later) ready
@@ -145,5 +146,5 @@ returns-clause-told g c =
     let f = if_some (λ (d : Connection). IfForced (record_of (adds_of d.unit) (removes_of d.unit)) x (Ok tt) y) _ live.0 found c.in-Ok.ensures in
     let later = found_then c.args.number live.0 x y found f c.core.invariant in
     let parts = if_some (λ (d : Connection). c.settle_unit.new.parts ≡ settled c.args.number c.args.ends d y) _ live.0 later c.settle_unit.ensures.parts in
-    commit_writes c.args.core.now _ c.args.number c.args.ends live.0 live.1
+    commit_writes c.args.core.now _ c.args.number c.args.ends live.0 live.1 (wrote_record o x y f)
     (ap (λ (z : PartsValue). bodies_in z.log) parts ∙ settled_bodies c.args.number c.args.ends live.0 y ∙ wrote_bodies o x y f ∙ ap (behind_record o) (ap (λ (w : CoreValue). w.log) v))

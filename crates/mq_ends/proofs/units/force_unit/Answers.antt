@@ -81,4 +81,4 @@ returns g c =
     (subst (λ o. IfForced o old c.force_body.result c.force_body.new.self) (sym (unit_there con forced))
     (subst (λ (k : LogRecord). IfForced (Some k) old c.force_body.result c.force_body.new.self) same
     (forced_from r old _ c.force_body.new.self c.force_body.result (ap (with_body c.write_record.new.body) c.parts.view_is)
-    (omega (arith, size, need, body, cleared, left, taken, bytes, whole)) (c.force_body.ensures r is whole))))
+    (omega (arith, size, need, body, cleared, left, taken, bytes, whole)) (c.force_body.ensures r is (λ named. c.write_record.ensures.record) whole))))

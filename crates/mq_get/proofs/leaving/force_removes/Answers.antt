@@ -55,7 +55,8 @@ returns g c =
     let r : LogRecord = records.Unit [] rs in
     let none = ap (λ (b : Buffered). b.bytes) c.clear.ensures in
     let bytes = c.as_slice.ensures ∙ record_are rs c.unit_front.result c.clear.new.self c.put.new.self c.put_removes.new.body none front c.put.ensures c.put_removes.ensures.bytes in
-    let whole = record_whole r (removes_record rs few c.put_removes.ensures.removes) in
+    let fits = removes_record rs few c.put_removes.ensures.removes in
+    let whole = record_whole r fits in
     let size = ap length bytes ∙ whole in
     let log = ap (λ (x : PartsValue). x.log) c.parts.view_is in
     let e = c.append_forced.ensures in
@@ -64,6 +65,7 @@ returns g c =
     record {
       same = ap (with_parts c.parts.inside.queues new c.put_removes.new.body) c.parts.view_is ∙ (λ i. with_parts (c.parts.view_is i).queues new c.put_removes.new.body old);
       log = subst (λ (l : LogState). Appended l (record_bytes r) c.append_forced.result new) log (subst (λ (b : List ℕ). Appended c.parts.inside.log b c.append_forced.result new) bytes e.appended);
+      fits = λ named. fits;
       size = whole;
       ends = subst (λ (n : ℕ). Stops n c.append_forced.result new.armed) (ap (λ (l : LogState). l.armed) log) e.ends;
       room = subst (λ (n : ℕ). OnOk c.append_forced.result (n ≤ new.room + need r)) (ap (λ (l : LogState). l.room) log) (subst (λ (n : ℕ). OnOk c.append_forced.result (c.parts.inside.log.room ≤ new.room + n)) needs e.room);

@@ -36,7 +36,8 @@ returns g c =
     let m = c.args.message.now in
     let r : LogRecord = records.Moved c.args.from.now m.ident c.args.to.now m in
     let bytes = moved_are c.args.from.now c.args.to.now m c.moved_front.result c.clear.new.self c.put.new.self c.put_message.new.self (ap (λ (b : Buffered). b.bytes) c.clear.ensures) c.moved_front.ensures.bytes c.put.ensures c.put_message.ensures.bytes in
-    let whole = record_whole r (c.moved_front.ensures.record m (c.put_message.ensures.message c.requires.kept)) in
+    let fits = c.moved_front.ensures.record m (c.put_message.ensures.message c.requires.kept) in
+    let whole = record_whole r fits in
     let x : PartsValue = c.args.parts.now in
     let z : PartsValue = record {
       number = c.parts.inside.number;
@@ -59,4 +60,4 @@ returns g c =
     let sum = ap length bytes.1 ∙ length-append c.moved_front.result (message_bytes m) in
     let room : x.body.room + length x.body.bytes ≤ c.put_message.new.self.room + length c.put_message.new.self.bytes = omega (arith, taken, cleared, first, second, sum) in
     forced_from r x z c.force_body.new.self c.force_body.result (λ i. record (c.parts.view_is i) { body = c.put_message.new.self }) room
-    (c.force_body.ensures r bytes.0 whole)
+    (c.force_body.ensures r bytes.0 (λ named. fits) whole)

@@ -5,7 +5,8 @@ use Rattle.mq_disk.specs.declared.cutter.Stop.{Stop}
 use Rattle.mq_log.specs.Force.{Stops}
 use Rattle.mq_calls.specs.declared.deltas.Did.TheVariants as did
 use Rattle.mq_calls.specs.declared.records.LogRecord.TheVariants as records
-use Rattle.mq_spec_state.specs.Words.{ManagerValue, Plain, Did, Ident, Reason, AgentStop, LogRecord, AreLow, local_of, is_up, need, freeze, logged}
+use Rattle.mq_spec_state.specs.Words.{ManagerValue, Plain, Did, Ident, Reason, AgentStop, LogRecord, local_of, is_up, need, freeze, logged}
+use Rattle.mq_core.specs.Counting.{CanCount}
 use Rattle.mq_spec_agents.specs.Words.{HasFreeRow}
 use Rattle.mq_unit.specs.Told.{Telling}
 use Rattle.mq_core.specs.Views.{PartsValue, plain_of, frozen_of}
@@ -128,7 +129,7 @@ swap_rows-requires g c =
     let e = c.in-Ok.ensures.ok in
     let f = c.in-Ok-force_moved.ensures in
     let there = subst (λ (p : Plain). IsSome (local_of to p.definitions)) (sym plain) c.requires.there in
-    let low = subst AreLow (sym plain) c.requires.low in
+    let low = subst CanCount (sym plain) c.requires.low in
     let h = subst (HasFreeRow from ident) (sym plain) c.requires.row in
     let w : PartsValue = removed_one from ident (given_back n z) in
     let back : removed_one from ident c.return_room.new.parts ≡ w = ap (λ (q : PartsValue). taken_out from ident q) c.return_room.ensures in
@@ -154,7 +155,7 @@ invariant_of-core-2 g c =
     let e = c.in-Ok.ensures.ok in
     let f = c.in-Ok-force_moved.ensures in
     let there = subst (λ (p : Plain). IsSome (local_of to p.definitions)) (sym plain) c.requires.there in
-    let low = subst AreLow (sym plain) c.requires.low in
+    let low = subst CanCount (sym plain) c.requires.low in
     let h = subst (HasFreeRow from ident) (sym plain) c.requires.row in
     let w : PartsValue = removed_one from ident (given_back n z) in
     let back : removed_one from ident c.return_room.new.parts ≡ w = ap (λ (q : PartsValue). taken_out from ident q) c.return_room.ensures in
@@ -180,7 +181,7 @@ returns-clause-meets g c =
     let e = c.in-Ok.ensures.ok in
     let f = c.in-Ok-force_moved.ensures in
     let there = subst (λ (p : Plain). IsSome (local_of to p.definitions)) (sym plain) c.requires.there in
-    let low = subst AreLow (sym plain) c.requires.low in
+    let low = subst CanCount (sym plain) c.requires.low in
     let h = subst (HasFreeRow from ident) (sym plain) c.requires.row in
     let w : PartsValue = removed_one from ident (given_back n z) in
     let back : removed_one from ident c.return_room.new.parts ≡ w = ap (λ (q : PartsValue). taken_out from ident q) c.return_room.ensures in
@@ -232,7 +233,7 @@ returns-in-Err-force_moved-clause-told g c =
     let failed = ap (λ (q : PartsValue). q.log.faults) c.give_move_up.ensures in
     let halt : halt_of {F = Reason} c.agent_stop-agent.result ≡ halt_of (stopped_agent stop) = ap (λ (a : AgentStop). halt_of {F = Reason} a) c.agent_stop-agent.ensures in
     let new : CoreValue = record { plain = plain_of u; delta = c.make_move_room.new.effects.dids; stopped = Some stop; faults = u.log.faults; log = bodies_in u.log } in
-    stopped_told c.args.core.now new from target bare to m stop (halt_of c.agent_stop-agent.result) (halt ∙ halt_stopped stop) c.requires.kept
+    stopped_told c.args.core.now new from target bare to m stop (halt_of c.agent_stop-agent.result) (halt ∙ halt_stopped stop) c.requires.kept f.fits
     (subst (λ (k : ℕ). plain_of u ≡ freeze (moved_note from target bare to m) k c.args.core.now.plain) (sym down) is)
     (ap (λ (q : PartsValue). bodies_in q.log) c.give_move_up.ensures ∙ stopped_bodies r y z stop f ∙ ap (pending_record (Some r)) (expected_bodies to n x y e ∙ ap (λ (w : CoreValue). w.log) v))
 
@@ -254,13 +255,13 @@ returns-clause-told g c =
     let e = c.in-Ok.ensures.ok in
     let f = c.in-Ok-force_moved.ensures in
     let there = subst (λ (p : Plain). IsSome (local_of to p.definitions)) (sym plain) c.requires.there in
-    let low = subst AreLow (sym plain) c.requires.low in
+    let low = subst CanCount (sym plain) c.requires.low in
     let h = subst (HasFreeRow from ident) (sym plain) c.requires.row in
     let w : PartsValue = removed_one from ident (given_back n z) in
     let back : removed_one from ident c.return_room.new.parts ≡ w = ap (λ (q : PartsValue). taken_out from ident q) c.return_room.ensures in
     let way = move_forced from ident to n r x y z needs e f c.core.invariant in
     let ready = move_ready from ident to m h.row x w there h.found refl way c.core.invariant low in
     let new : CoreValue = record { plain = plain_of c.swap_rows.new.parts; delta = c.tell.new.self.dids; stopped = c.core.inside.stopped; faults = c.swap_rows.new.parts.log.faults; log = bodies_in c.swap_rows.new.parts.log } in
-    forced_told c.args.core.now new from c.args.target.now c.args.bare to m c.requires.kept
+    forced_told c.args.core.now new from c.args.target.now c.args.bare to m c.requires.kept f.fits
     (ap (λ (q : PartsValue). bodies_in q.log) (c.swap_rows.ensures ∙ ap (put_in_place to m) back) ∙ ap bodies_in (placed_log to m w)
     ∙ forced_bodies r y z f ∙ ap (behind_record (Some r)) (expected_bodies to n x y e ∙ ap (λ (q : CoreValue). q.log) v))

@@ -1,7 +1,8 @@
 use Rattle.std.proofs.Common.{◌≡◌, ◌∙◌, sym, ap, subst, refl, true}
 use Rattle.std.specs.Prelude.{List, [], ◌∷◌, ◌++◌, IsSome}
 use Rattle.mq_calls.specs.declared.deltas.Did.TheVariants as did
-use Rattle.mq_spec_state.specs.Words.{ManagerValue, Plain, Did, Ident, AreLow, local_of, is_up}
+use Rattle.mq_spec_state.specs.Words.{ManagerValue, Plain, Did, Ident, local_of, is_up}
+use Rattle.mq_core.specs.Counting.{CanCount}
 use Rattle.mq_spec_agents.specs.Words.{HasFreeRow}
 use Rattle.mq_unit.specs.Told.{Telling}
 use Rattle.mq_core.specs.Views.{PartsValue, plain_of, frozen_of}
@@ -35,7 +36,7 @@ swap_rows-requires g c =
     let to = c.args.to.now in
     let ident : Ident = c.args.message.ident in
     let there = subst (λ (p : Plain). IsSome (local_of to p.definitions)) (sym plain) c.requires.there in
-    let low = subst AreLow (sym plain) c.requires.low in
+    let low = subst CanCount (sym plain) c.requires.low in
     let h = subst (HasFreeRow from ident) (sym plain) c.requires.row in
     move_ready from ident to c.args.message h.row x (removed_one from ident y) there h.found refl (move_free from ident to x y c.in-Ok.ensures.ok c.core.invariant) c.core.invariant low
 
@@ -48,7 +49,7 @@ invariant_of-core-2 g c =
     let to = c.args.to.now in
     let ident : Ident = c.args.message.ident in
     let there = subst (λ (p : Plain). IsSome (local_of to p.definitions)) (sym plain) c.requires.there in
-    let low = subst AreLow (sym plain) c.requires.low in
+    let low = subst CanCount (sym plain) c.requires.low in
     let h = subst (HasFreeRow from ident) (sym plain) c.requires.row in
     subst Tied (sym c.swap_rows.ensures)
     (move_tied from ident to c.args.message h.row x (removed_one from ident y) there h.found refl (move_free from ident to x y c.in-Ok.ensures.ok c.core.invariant) c.core.invariant low)
@@ -65,7 +66,7 @@ returns-clause-meets g c =
     let ident : Ident = m.ident in
     let up = mode_up (frozen_of x) x.mode (ap (λ (p : Plain). is_up p.running) plain ∙ c.requires.up) in
     let there = subst (λ (p : Plain). IsSome (local_of to p.definitions)) (sym plain) c.requires.there in
-    let low = subst AreLow (sym plain) c.requires.low in
+    let low = subst CanCount (sym plain) c.requires.low in
     let h = subst (HasFreeRow from ident) (sym plain) c.requires.row in
     let ready = move_ready from ident to m h.row x (removed_one from ident y) there h.found refl (move_free from ident to x y c.in-Ok.ensures.ok c.core.invariant) c.core.invariant low in
     let same = c.in-Ok.ensures.ok.same in

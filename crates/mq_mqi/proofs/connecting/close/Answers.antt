@@ -38,4 +38,4 @@ returns-clause-told g c =
     let has = if_some (HasHandle c.args.ho.now) _ live.0 live.1 c.requires.live in
     writes_at c.args.core.now _ c.args.number live.0 (close_up c.args.ho.now) _ live.1
     (writes_as c.args.core.now _ _ _ (Ok (answers.Ok tt)) (closes_as c.args.ho.now live.0 has)
-    (ap (λ (y : PartsValue). bodies_in y.log) c.close.ensures.parts ∙ ap (λ (w : CoreValue). w.log) v))
+    (ap (λ (y : PartsValue). bodies_in y.log) c.close.ensures.parts ∙ ap (λ (w : CoreValue). w.log) v, (tt, tt)))

@@ -38,4 +38,4 @@ returns-clause-told g c =
     let found = ap (λ (w : CoreValue). connection_at c.args.number w.plain.connections) v ∙ live.1 in
     let parts = if_some (λ (d : Connection). c.open.new.self ≡ record x { desk = record { live = change_connection c.args.number (opened (new_handle c.args.how.now c.args.route d)) x.desk.live; last = x.desk.last } }) _ live.0 found c.in-Ok.ensures.ok in
     writes_at c.args.core.now _ c.args.number live.0 (λ d. open_step d c.args.how.now c.args.route) _ live.1
-    (ap (λ (y : PartsValue). bodies_in y.log) parts ∙ ap (λ (w : CoreValue). w.log) v)
+    (ap (λ (y : PartsValue). bodies_in y.log) parts ∙ ap (λ (w : CoreValue). w.log) v, (tt, tt))

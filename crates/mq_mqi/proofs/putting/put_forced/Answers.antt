@@ -3,7 +3,8 @@ use Rattle.std.specs.Prelude.{ℕ, true, List, [], ◌∷◌, ◌++◌, Ok, Err,
 use Rattle.mq_base.specs.Outside.{Rose}
 use Rattle.mq_disk.specs.declared.cutter.Stop.{Stop}
 use Rattle.mq_log.specs.Force.{Stops}
-use Rattle.mq_spec_state.specs.Words.{ManagerValue, Plain, Did, Answer, Sent, Meets, AreLow, local_of, is_up, freeze, apply_all, logged, note_of}
+use Rattle.mq_spec_state.specs.Words.{ManagerValue, Plain, Did, Answer, Sent, Meets, local_of, is_up, freeze, apply_all, logged, note_of}
+use Rattle.mq_core.specs.Counting.{CanCount}
 use Rattle.mq_spec_state.specs.State.Change.{CountIdent}
 use Rattle.mq_spec_manager.specs.Words.{next_ident, placed}
 use Rattle.mq_calls.specs.declared.deltas.Did.TheVariants as did
@@ -101,7 +102,7 @@ settle_put-requires-clause-ready g c =
     let y : PartsValue = c.make_put_room.new.parts in
     let z : PartsValue = c.force_put.new.self in
     let there = subst (λ (p : Plain). IsSome (local_of c.args.queue.now p.definitions)) (sym plain) c.requires.there in
-    let low = subst AreLow (sym plain) c.requires.low in
+    let low = subst CanCount (sym plain) c.requires.low in
     let ident = c.requires.ident ∙ ap next_ident (sym plain) in
     let need = need_added c.args.queue.now c.args.message in
     let way = way_forced c.args.queue.now c.args.message _ (added c.args.queue.now c.args.message) x y z (omega (arith, need, c.put_bytes-need.ensures)) ident c.in-Ok.ensures.ok c.in-Ok-force_put.ensures c.core.invariant in
@@ -114,7 +115,7 @@ invariant_of-core-2 g c =
     let y : PartsValue = c.make_put_room.new.parts in
     let z : PartsValue = c.force_put.new.self in
     let there = subst (λ (p : Plain). IsSome (local_of c.args.queue.now p.definitions)) (sym plain) c.requires.there in
-    let low = subst AreLow (sym plain) c.requires.low in
+    let low = subst CanCount (sym plain) c.requires.low in
     let ident = c.requires.ident ∙ ap next_ident (sym plain) in
     let need = need_added c.args.queue.now c.args.message in
     let way = way_forced c.args.queue.now c.args.message _ (added c.args.queue.now c.args.message) x y z (omega (arith, need, c.put_bytes-need.ensures)) ident c.in-Ok.ensures.ok c.in-Ok-force_put.ensures c.core.invariant in
@@ -130,7 +131,7 @@ returns-clause-meets g c =
     let r = added c.args.queue.now c.args.message in
     let f = c.in-Ok-force_put.ensures in
     let there = subst (λ (p : Plain). IsSome (local_of c.args.queue.now p.definitions)) (sym plain) c.requires.there in
-    let low = subst AreLow (sym plain) c.requires.low in
+    let low = subst CanCount (sym plain) c.requires.low in
     let ident = c.requires.ident ∙ ap next_ident (sym plain) in
     let need = need_added c.args.queue.now c.args.message in
     let way = way_forced c.args.queue.now c.args.message _ r x y z (omega (arith, need, c.put_bytes-need.ensures)) ident c.in-Ok.ensures.ok f c.core.invariant in
@@ -161,7 +162,7 @@ returns-in-Err-force_put-clause-told g c =
     let is = ap plain_of c.go_down_put.ensures ∙ put_stopped_view c.args.queue.now c.args.message _ r c.in-Err-force_put.stop x y z (is_mode_up c.core.inside.parts (ap (λ (p : Plain). is_up p.running) plain ∙ c.requires.up)) c.in-Ok.ensures.ok f
     ∙ ap (freeze (note_of (now_part c.args.queue.now c.args.message) (now_part c.args.queue.now c.args.message).forced) z.log.armed) plain in
     let down = ap (λ (w : PartsValue). w.log.armed) c.go_down_put.ensures in
-    stopped_writes c.args.core.now _ c.args.high c.args.queue.now c.args.message c.in-Err-force_put.stop c.requires.kept
+    stopped_writes c.args.core.now _ c.args.high c.args.queue.now c.args.message c.in-Err-force_put.stop c.requires.kept f.fits
     (subst (λ (n : ℕ). plain_of c.go_down_put.new.self ≡ freeze (note_of (now_part c.args.queue.now c.args.message) (now_part c.args.queue.now c.args.message).forced) n c.args.core.now.plain) (sym down) is)
     (ap (λ (w : PartsValue). bodies_in w.log) c.go_down_put.ensures ∙ stopped_bodies r y z c.in-Err-force_put.stop f
     ∙ ap (pending_record (Some r)) (expected_bodies c.args.queue.now _ x y c.in-Ok.ensures.ok ∙ ap (λ (w : CoreValue). w.log) v))
@@ -171,7 +172,7 @@ returns-clause-told g c =
     let y : PartsValue = c.make_put_room.new.parts in
     let z : PartsValue = c.force_put.new.self in
     let r = added c.args.queue.now c.args.message in
-    forced_wrote c.args.queue.now c.args.message c.args.core.now.log _ c.requires.kept
+    forced_wrote c.args.queue.now c.args.message c.args.core.now.log _ c.requires.kept c.in-Ok-force_put.ensures.fits
     (ap (λ (w : PartsValue). bodies_in w.log) c.settle_put.ensures
     ∙ ap bodies_in (placed_log c.args.queue.now c.args.message (counted_put (14 + c.put_bytes-need.result) z))
     ∙ forced_bodies r y z c.in-Ok-force_put.ensures

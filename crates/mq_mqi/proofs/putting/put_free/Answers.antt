@@ -1,6 +1,7 @@
 use Rattle.std.proofs.Common.{◌≡◌, ◌∙◌, sym, ap, subst, arith}
 use Rattle.std.specs.Prelude.{List, [], ◌∷◌, ◌++◌, Ok, None, IsSome}
-use Rattle.mq_spec_state.specs.Words.{ManagerValue, Plain, Did, Answer, Sent, Meets, AreLow, local_of, apply_all}
+use Rattle.mq_spec_state.specs.Words.{ManagerValue, Plain, Did, Answer, Sent, Meets, local_of, apply_all}
+use Rattle.mq_core.specs.Counting.{CanCount}
 use Rattle.mq_spec_state.specs.State.Change.{CountIdent}
 use Rattle.mq_spec_manager.specs.Words.{next_ident, placed}
 use Rattle.mq_calls.specs.declared.deltas.Did.TheVariants as did
@@ -41,7 +42,7 @@ settle_put-requires-clause-ready g c =
     let plain = plain_is (c.core.view_is ∙ c.begin_call.ensures) in
     let x : PartsValue = c.core.inside.parts in
     let there = subst (λ (p : Plain). IsSome (local_of c.args.queue.now p.definitions)) (sym plain) c.requires.there in
-    let low = subst AreLow (sym plain) c.requires.low in
+    let low = subst CanCount (sym plain) c.requires.low in
     let ident = c.requires.ident ∙ ap next_ident (sym plain) in
     way_ready c.args.queue.now c.args.message x (counted_put 0 c.make_put_room.new.parts) there (way_free c.args.queue.now c.args.message 0 x c.make_put_room.new.parts ident c.in-Ok.ensures.ok c.core.invariant) c.core.invariant low
 
@@ -50,7 +51,7 @@ invariant_of-core-2 g c =
     let plain = plain_is (c.core.view_is ∙ c.begin_call.ensures) in
     let x : PartsValue = c.core.inside.parts in
     let there = subst (λ (p : Plain). IsSome (local_of c.args.queue.now p.definitions)) (sym plain) c.requires.there in
-    let low = subst AreLow (sym plain) c.requires.low in
+    let low = subst CanCount (sym plain) c.requires.low in
     let ident = c.requires.ident ∙ ap next_ident (sym plain) in
     subst Tied (sym c.settle_put.ensures) (way_tied c.args.queue.now c.args.message x (counted_put 0 c.make_put_room.new.parts) there (way_free c.args.queue.now c.args.message 0 x c.make_put_room.new.parts ident c.in-Ok.ensures.ok c.core.invariant) c.core.invariant low)
 
@@ -61,7 +62,7 @@ returns-clause-meets g c =
     let x : PartsValue = c.core.inside.parts in
     let y : PartsValue = c.make_put_room.new.parts in
     let there = subst (λ (p : Plain). IsSome (local_of c.args.queue.now p.definitions)) (sym plain) c.requires.there in
-    let low = subst AreLow (sym plain) c.requires.low in
+    let low = subst CanCount (sym plain) c.requires.low in
     let ident = c.requires.ident ∙ ap next_ident (sym plain) in
     let way = way_free c.args.queue.now c.args.message 0 x y ident c.in-Ok.ensures.ok c.core.invariant in
     let ready = way_ready c.args.queue.now c.args.message x (counted_put 0 y) there way c.core.invariant low in

@@ -96,4 +96,4 @@ pub returns-clause-told : goal.returns-clause-told
 returns-clause-told g c =
     let live = some_is _ c.requires.live in
     writes_at c.args.core.now _ c.args.number live.0 (unit_call c.args.high c.args.queue.now c.args.message) _ live.1
-    (pended_bodies c.args.number c.args.queue.now c.args.message _ c.core.inside.parts c.pend_put.new.self c.in-Ok.ensures.ok ∙ ap (λ (w : CoreValue). w.log) (c.core.view_is ∙ c.begin_call.ensures))
+    (pended_bodies c.args.number c.args.queue.now c.args.message _ c.core.inside.parts c.pend_put.new.self c.in-Ok.ensures.ok ∙ ap (λ (w : CoreValue). w.log) (c.core.view_is ∙ c.begin_call.ensures), (tt, tt))

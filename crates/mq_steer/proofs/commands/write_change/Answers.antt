@@ -121,13 +121,16 @@ returns-in-Err-force_change-clause-told g c =
     record {
       part = 0;
       write = refl;
+      records = f.fits;
       plain = subst (λ (n : ℕ). plain_of c.go_down.new.parts ≡ freeze (note_of (object_part c.args.planned c.args.core.now.plain.definitions) (object_part c.args.planned c.args.core.now.plain.definitions).forced) n c.args.core.now.plain) (sym down) is;
       log = ap (λ (w : PartsValue). bodies_in w.log) c.go_down.ensures ∙ stopped_bodies r y z c.in-Err-force_change.stop f ∙ ap (pending_record (Some r)) (rooms_bodies x y rooms ∙ ap (λ (w : CoreValue). w.log) v);
     }
 
 pub returns-clause-told : goal.returns-clause-told
 returns-clause-told g c =
-    let r = records.Objects c.args.planned.change in
-    ap (λ (w : PartsValue). bodies_in w.log) c.alter.ensures
-    ∙ forced_bodies r c.make_room.new.parts c.force_change.new.parts c.in-Ok-force_change.ensures
-    ∙ ap (behind_record (Some r)) (rooms_bodies c.core.inside.parts c.make_room.new.parts c.in-Ok.ensures.ok.rooms ∙ ap (λ (w : CoreValue). w.log) (c.core.view_is ∙ c.begin_call.ensures))
+    let r = records.Objects c.args.planned.change in (
+      ap (λ (w : PartsValue). bodies_in w.log) c.alter.ensures
+          ∙ forced_bodies r c.make_room.new.parts c.force_change.new.parts c.in-Ok-force_change.ensures
+          ∙ ap (behind_record (Some r)) (rooms_bodies c.core.inside.parts c.make_room.new.parts c.in-Ok.ensures.ok.rooms ∙ ap (λ (w : CoreValue). w.log) (c.core.view_is ∙ c.begin_call.ensures)),
+      (c.in-Ok-force_change.ensures.fits, tt),
+    )

@@ -1,6 +1,7 @@
 use Rattle.std.proofs.Common.{◌≡◌, ◌∙◌, sym, ap, subst, refl, arith}
 use Rattle.std.specs.Prelude.{List, [], ◌∷◌, ◌++◌, None}
-use Rattle.mq_spec_state.specs.Words.{Plain, Did, AreLow, apply_all}
+use Rattle.mq_spec_state.specs.Words.{Plain, Did, apply_all}
+use Rattle.mq_core.specs.Counting.{CanCount}
 use Rattle.mq_calls.specs.declared.deltas.Did.TheVariants as did
 use Rattle.mq_unit.specs.Told.{Telling}
 use Rattle.mq_core.specs.Views.{PartsValue, plain_of}
@@ -38,7 +39,7 @@ pub place-requires-clause-ready : goal.place-requires-clause-ready
 place-requires-clause-ready g c =
     let plain = plain_is (c.core.view_is ∙ c.begin_call.ensures) in
     let x : PartsValue = c.core.inside.parts in
-    let low = subst AreLow (sym plain) c.requires.low in
+    let low = subst CanCount (sym plain) c.requires.low in
     let due = subst (λ (p : Plain). IsDue c.args.from.now p) (sym plain) c.requires.due in
     let can = subst (λ (p : Plain). CanSend c.args.to.now c.args.message p) (sym plain) c.requires.can in
     turn_ready c.args.from.now c.args.to.now c.args.message x c.make_room.new.parts low due can c.in-Ok.ensures.ok c.core.invariant
@@ -47,7 +48,7 @@ pub invariant_of-core-2 : goal.invariant_of-core-2
 invariant_of-core-2 g c =
     let plain = plain_is (c.core.view_is ∙ c.begin_call.ensures) in
     let x : PartsValue = c.core.inside.parts in
-    let low = subst AreLow (sym plain) c.requires.low in
+    let low = subst CanCount (sym plain) c.requires.low in
     let due = subst (λ (p : Plain). IsDue c.args.from.now p) (sym plain) c.requires.due in
     let can = subst (λ (p : Plain). CanSend c.args.to.now c.args.message p) (sym plain) c.requires.can in
     subst Tied (sym c.place.ensures) (turn_tied c.args.from.now c.args.to.now c.args.message x c.make_room.new.parts low due can c.in-Ok.ensures.ok c.core.invariant)
@@ -58,7 +59,7 @@ returns-clause-meets g c =
     let plain = plain_is v in
     let x : PartsValue = c.core.inside.parts in
     let y : PartsValue = c.make_room.new.parts in
-    let low = subst AreLow (sym plain) c.requires.low in
+    let low = subst CanCount (sym plain) c.requires.low in
     let due = subst (λ (p : Plain). IsDue c.args.from.now p) (sym plain) c.requires.due in
     let can = subst (λ (p : Plain). CanSend c.args.to.now c.args.message p) (sym plain) c.requires.can in
     let is = ap plain_of c.place.ensures ∙ turn_view c.args.from.now c.args.to.now c.args.message x y low due can c.in-Ok.ensures.ok c.core.invariant ∙ ap (apply_all (sent_part c.args.from.now c.args.to.now c.args.message).changes) plain in
@@ -71,7 +72,9 @@ pub returns-in-Err-clause-told : goal.returns-in-Err-clause-told
 returns-in-Err-clause-told g c = roomier_bodies c.core.inside.parts c.make_room.new.parts c.in-Err.ensures.err ∙ ap (λ (w : CoreValue). w.log) (c.core.view_is ∙ c.begin_call.ensures)
 
 pub returns-clause-told : goal.returns-clause-told
-returns-clause-told g c =
-    ap (λ (z : PartsValue). bodies_in z.log) c.place.ensures
-    ∙ expected_bodies c.args.to.now 0 c.core.inside.parts c.make_room.new.parts c.in-Ok.ensures.ok
-    ∙ ap (λ (w : CoreValue). w.log) (c.core.view_is ∙ c.begin_call.ensures)
+returns-clause-told g c = (
+  ap (λ (z : PartsValue). bodies_in z.log) c.place.ensures
+      ∙ expected_bodies c.args.to.now 0 c.core.inside.parts c.make_room.new.parts c.in-Ok.ensures.ok
+      ∙ ap (λ (w : CoreValue). w.log) (c.core.view_is ∙ c.begin_call.ensures),
+  (tt, tt),
+)

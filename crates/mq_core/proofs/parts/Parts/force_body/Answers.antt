@@ -3,6 +3,7 @@ use Rattle.std.specs.Prelude.{List, length, OnOk}
 use Rattle.mq_spec_state.specs.Words.{LogRecord, record_size}
 use Rattle.mq_log.specs.State.{LogState, Appended}
 use Rattle.mq_record.specs.Records.{record_bytes}
+use Rattle.mq_core.specs.Writes.{FitsRecord}
 use Rattle.mq_core.specs.Views.{PartsValue}
 use Rattle.mq_core.specs.Forced.{IsForced}
 use Rattle.mq_core.proofs.ForceLaws.{forced_body}
@@ -27,7 +28,7 @@ returns g c =
       log = new;
       body = c.self.inside.body;
     } in
-    subst (λ (x : PartsValue). (r : LogRecord) → x.body.bytes ≡ record_bytes r → length (record_bytes r) ≡ record_size r → IsForced r x c.append_forced.result y) c.self.view_is
-    (λ r is size. forced_body r (record y { log = c.self.inside.log }) new c.append_forced.result is size
+    subst (λ (x : PartsValue). (r : LogRecord) → x.body.bytes ≡ record_bytes r → FitsRecord r → length (record_bytes r) ≡ record_size r → IsForced r x c.append_forced.result y) c.self.view_is
+    (λ r is fits size. forced_body r (record y { log = c.self.inside.log }) new c.append_forced.result is fits size
     (subst (λ (b : List ℕ). Appended c.self.inside.log b c.append_forced.result new) bytes e.appended) e.ends
     (subst (λ (b : List ℕ). OnOk c.append_forced.result (c.self.inside.log.room ≤ new.room + (5 + length b))) bytes e.room) e.later e.disk)

@@ -34,7 +34,8 @@ returns g c =
     let old : PartsValue = c.args.self.now in
     let r = added c.args.queue.now c.args.message.now in
     let bytes = c.as_slice.ensures ∙ put_bytes_are c.args.queue.now c.args.message.now c.unit_front.result c.clear.new.self c.put.new.self c.put_add.new.self (ap (λ (b : Buffered). b.bytes) c.clear.ensures) c.unit_front.ensures c.put.ensures c.put_add.ensures.bytes in
-    let whole = record_whole r (put_is_record c.args.queue.now c.args.message.now (c.put_add.ensures.add c.requires.kept)) in
+    let fits = put_is_record c.args.queue.now c.args.message.now (c.put_add.ensures.add c.requires.kept) in
+    let whole = record_whole r fits in
     let size = ap length bytes ∙ whole in
     let log = ap (λ (x : PartsValue). x.log) c.self.view_is in
     let e = c.append_forced.ensures in
@@ -43,6 +44,7 @@ returns g c =
     record {
       same = ap (with_parts c.self.inside.queues new c.put_add.new.self) c.self.view_is ∙ (λ i. with_parts (c.self.view_is i).queues new c.put_add.new.self old);
       log = subst (λ (l : LogState). Appended l (record_bytes r) c.append_forced.result new) log (subst (λ (b : List ℕ). Appended c.self.inside.log b c.append_forced.result new) bytes e.appended);
+      fits = λ named. fits;
       size = whole;
       ends = subst (λ (n : ℕ). Stops n c.append_forced.result new.armed) (ap (λ (l : LogState). l.armed) log) e.ends;
       room = subst (λ (n : ℕ). OnOk c.append_forced.result (n ≤ new.room + need r)) (ap (λ (l : LogState). l.room) log) (subst (λ (n : ℕ). OnOk c.append_forced.result (c.self.inside.log.room ≤ new.room + n)) needs e.room);

@@ -1,5 +1,5 @@
 use Rattle.std.proofs.Common.{◌^◌, sym, subst, arith}
-use Rattle.mq_spec_state.specs.Words.{AreLow}
+use Rattle.mq_core.specs.Counting.{CanCount}
 use Rattle.mq_core.specs.Values.{CoreValue, manager_of}
 use Rattle.mq_manager.proofs.WellLaws.{well_open, handle_low}
 use Rattle.mq_manager.proofs.manager.Manager.mqopen.Goals as goal
@@ -9,5 +9,5 @@ invariant_of-self g c = well_open (manager_of c.self.inside.core) (manager_of c.
 
 pub mqopen-requires : goal.mqopen-requires
 mqopen-requires g c =
-    let low = subst (λ (v : CoreValue). AreLow v.plain) (sym c.self.view_is) c.requires.low in
+    let low = subst (λ (v : CoreValue). CanCount v.plain) (sym c.self.view_is) c.requires.low in
     record { count = handle_low (2 ^ 63) c.args.hc.number c.self.inside.core.plain.connections low.handles (omega arith) }
