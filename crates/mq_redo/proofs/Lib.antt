@@ -2,3 +2,4 @@ pub mod StandLaws
 pub mod TellLaws
 pub mod UnitLaws
 pub mod WriteLaws
+pub mod ArrivalLaws

@@ -25,3 +25,21 @@ module _ {A : Type 0} (f : A → List Did) where
         ∙ s.dids;
     room = omega (arith, less, lt, s.room);
   }
+
+  -- where two are told of each
+  pub record TellsTwice (items : List A) (i : ℕ) (start t : Telling) : Type 0 where
+    pub dids : t.dids ++ flat_map f (drop i items) ≡ start.dids ++ flat_map f items
+    pub room : start.room ≤ t.room + (i + i)
+
+  pub twice_fits : (items : List A) (i : ℕ) (start t : Telling) → i < length items → length items + length items ≤ start.room → TellsTwice items i start t → 1 < t.room
+  twice_fits items i start t lt fits s = omega (arith, lt, fits, s.room)
+
+  pub twice_next : (items : List A) (i : ℕ) (start t u : Telling) (item : A) → i < length items → item ≡ get_or items i item → u.dids ≡ t.dids ++ f item → t.room ≤ u.room + 2 → TellsTwice items i start t → TellsTwice items (i + 1) start u
+  twice_next items i start t u item lt is e less s = record {
+    dids =
+        ap (λ (ds : List Did). ds ++ flat_map f (drop (i + 1) items)) e
+        ∙ append_assoc t.dids (f item) (flat_map f (drop (i + 1) items))
+        ∙ ap (λ (xs : List A). t.dids ++ flat_map f xs) (sym (left_at items i item lt is))
+        ∙ s.dids;
+    room = omega (arith, less, lt, s.room);
+  }

@@ -1,5 +1,5 @@
 -- What a stopped write did to what lasts, thing by thing, as the restart that finds its record tells it.
-use Rattle.std.specs.Prelude.{ℕ, Bool, true, false, List, [], ◌∷◌, Option, None}
+use Rattle.std.specs.Prelude.{ℕ, Bool, true, false, List, [], ◌∷◌, Option, None, Some, ◌&&◌, ◌++◌}
 use Rattle.mq_calls.specs.declared.deltas.Did.{Did}
 use Rattle.mq_calls.specs.declared.deltas.Did.TheVariants as did
 use Rattle.mq_calls.specs.declared.deltas.Why.{Why}
@@ -10,6 +10,7 @@ use Rattle.std.specs.List.{list_any}
 use Rattle.mq_calls.specs.declared.records.Add.{Add}
 use Rattle.mq_calls.specs.declared.records.Remove.{Remove}
 use Rattle.mq_message.specs.declared.message.Ident.{Ident}
+use Rattle.mq_message.specs.declared.message.Message.{Message}
 use Rattle.mq_queue.specs.Rows.{same_ident}
 use Rattle.mq_spec_state.specs.State.{Noted, Plain, Running}
 use Rattle.mq_spec_state.specs.State.Running.{Up, Down}
@@ -17,6 +18,7 @@ use Rattle.mq_spec_state.specs.Reads.{is_persistent, stands}
 use Rattle.mq_spec_state.specs.Steps.{Part, note_of}
 use Rattle.mq_spec_manager.specs.Stops.{redone_delta}
 use Rattle.mq_spec_agents.specs.Words.{settle_did}
+use Rattle.mq_core.specs.declared.parts.Arrival.{Arrival}
 
 -- the note of the write that was stopped, if any was
 abbrev pub noted_in : Running → Option Noted
@@ -55,3 +57,14 @@ placed_of (Take queue ident persistent) = []
 -- an ident is among those that a record adds
 abbrev pub is_in : Ident → List Add → Bool
 is_in ident adds = list_any (λ (a : Add). same_ident ident a.message.ident) adds
+
+-- Messages that a channel brought: first the row of a unit in doubt that went for it, then the message where it lasts.
+abbrev pub adds_ident : Ident → Arrival → Bool
+adds_ident ident a = is_persistent a.message && same_ident ident a.message.ident
+
+abbrev pub dropped_of : Option (List ℕ) → Message → Plain → List Did
+dropped_of None m p = []
+dropped_of (Some queue) m p = removed_of queue whys.CameBack p m.ident
+
+abbrev pub arrived_of : List Add → Plain → Arrival → List Did
+arrived_of adds p a = dropped_of a.dropped a.message p ++ only_if (is_in a.message.ident adds) (did.Placed a.queue a.message.ident a.dead)

@@ -1,6 +1,7 @@
 //! What a write that was stopped did to what lasts, told by the restart that finds its record.
 #![tactic(auto)]
 
+mod arrivals;
 mod telling;
 mod writes;
 

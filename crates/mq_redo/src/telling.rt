@@ -27,7 +27,7 @@ fn stands<D: Disk>(parts: &Parts<D>, ident: &Ident) -> bool
     parts.queues.home(ident).is_some()
 }
 
-fn tell_if(effects: &mut Effects, lasts: bool, did: Did)
+pub(crate) fn tell_if(effects: &mut Effects, lasts: bool, did: Did)
     requires room { 0 < effects.old.room }
     ensures dids { effects.new.dids ≡ effects.old.dids ++ only_if lasts did }
     ensures room { effects.old.room ≤ effects.new.room + 1 }
@@ -37,7 +37,7 @@ fn tell_if(effects: &mut Effects, lasts: bool, did: Did)
     }
 }
 
-fn tell_removed<D: Disk>(
+pub(crate) fn tell_removed<D: Disk>(
     effects: &mut Effects,
     parts: &Parts<D>,
     queue: &QName,

@@ -3,18 +3,19 @@ ghost use Rattle.std.specs.Prelude.{◌≡◌, ◌++◌, ◌∷◌, [], true, No
 ghost use Rattle.std.specs.List.{flat_map};
 ghost use Rattle.mq_spec_state.specs.Words.{batch_of, connection_at};
 ghost use Rattle.mq_spec_manager.specs.Stops.{redone_delta};
-ghost use Rattle.mq_spec_agents.specs.Words.{harden_part, move_part};
+ghost use Rattle.mq_spec_agents.specs.Words.{harden_part, move_part, received_part};
 ghost use Rattle.mq_core.specs.Ties.{Tied};
 ghost use Rattle.mq_core.specs.Views.{plain_of, frozen_of, noted, noted_commit, noted_batch, channels_of};
-ghost use Rattle.mq_core.specs.Writes.{now_part, gone_part, settled_part};
+ghost use Rattle.mq_core.specs.Writes.{all_landed, now_part, gone_part, settled_part};
 ghost use Rattle.mq_redo.specs.Redone.{redone_of, redone_part, taken_of, placed_of};
 
+use crate::arrivals::tell_all_arrived;
 use crate::telling::{
     is_persistent, tell_all_placed, tell_all_removed, tell_all_settled, tell_all_taken,
 };
 use mq_base::NoMemory;
 use mq_calls::{Did, Note, Remove, Why};
-use mq_core::{Mode, Parts, StoppedWrite};
+use mq_core::{Arrival, Mode, Parts, StoppedWrite};
 use mq_disk::Disk;
 use mq_handles::Seat;
 use mq_message::{Dest, Ident, Message};
@@ -208,6 +209,34 @@ fn tell_hardened<D: Disk>(
     )
 }
 
+fn tell_received<D: Disk>(
+    effects: &mut Effects,
+    parts: &Parts<D>,
+    channel: &ChName,
+    unit: &Unit,
+    last: u32,
+    landed: &[Arrival],
+) -> Result<(), NoMemory>
+    requires none { effects.old.dids ≡ [] }
+    ensures ok { OnOk result (effects.new.dids ≡ redone_part (received_part channel.now unit.now last (all_landed landed.now) (frozen_of parts.now)) (plain_of parts.now)) }
+{
+    let Some(twice) = landed.len().checked_add(landed.len()) else {
+        return Err(NoMemory);
+    };
+    let Some(most) = twice.checked_add(1) else {
+        return Err(NoMemory);
+    };
+    if effects.reserve(most).is_err() {
+        return Err(NoMemory);
+    }
+    tell_all_arrived(effects, parts, landed);
+    effects.tell(Did::Received {
+        channel: *channel,
+        unit: *unit,
+    });
+    Ok(())
+}
+
 fn tell_write<D: Disk>(
     effects: &mut Effects,
     parts: &Parts<D>,
@@ -258,6 +287,12 @@ fn tell_write<D: Disk>(
             to,
             message,
         } => tell_moved(effects, parts, from, target, *bare, to, message),
+        StoppedWrite::Received {
+            channel,
+            unit,
+            last,
+            landed,
+        } => tell_received(effects, parts, channel, unit, *last, landed.as_slice()),
     }
 }
 
