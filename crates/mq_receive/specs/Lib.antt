@@ -1,0 +1,7 @@
+pub mod Landings
+pub mod Ahead
+pub mod Arriving
+pub mod Leading
+pub mod Filling
+pub mod Standings
+pub mod Planned
