@@ -13,8 +13,8 @@ use Rattle.mq_core.specs.declared.parts.ReadLog.{ReadLog}
 use Rattle.mq_core.specs.declared.parts.Mode.{Mode}
 use Rattle.mq_core.specs.declared.parts.Mode.TheVariants as modes
 use Rattle.mq_core.specs.declared.parts.ChannelEnds.{ChannelEnds}
-use Rattle.mq_spec_agents.specs.Words.{harden_part, move_part}
-use Rattle.mq_core.specs.Writes.{now_part, ended_part, gone_part, settled_part, batch_part}
+use Rattle.mq_spec_agents.specs.Words.{harden_part, move_part, received_part}
+use Rattle.mq_core.specs.Writes.{now_part, ended_part, gone_part, settled_part, batch_part, all_landed}
 
 -- the parts, with the room that was taken
 pub record PartsValue : Type 0 where
@@ -70,6 +70,7 @@ noted frozen (Some (writes.Hardened channel note)) = noted_part (harden_part cha
 noted frozen (Some (writes.Settled channel unit commit operator rows)) = noted_part (settled_part channel unit commit operator rows frozen)
 noted frozen (Some (writes.Prepared channel last)) = noted_batch channel last (batch_of channel frozen.channels.batches) frozen
 noted frozen (Some (writes.Moved from target bare to message)) = noted_part (move_part from target bare (record { queue = to; message = message; dead = None }))
+noted frozen (Some (writes.Received channel unit last landed)) = noted_part (received_part channel unit last (all_landed landed) frozen)
 
 abbrev pub running_of : Plain → Mode → Running
 running_of frozen modes.Up = Up

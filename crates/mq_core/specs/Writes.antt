@@ -1,13 +1,14 @@
 -- The parts of calls that are written to the log.
-use Rattle.std.specs.Prelude.{ℕ, Bool, true, false, List, [], ◌∷◌, ◌++◌, map, Some, None}
-use Rattle.mq_spec_state.specs.Words.{Ident, Message, Connection, Part, Change, LogRecord, Remove, Luw, Among, Batch, Plain, sender_or, sender_data, data_settled, settle_by}
+use Rattle.std.specs.Prelude.{ℕ, Bool, true, false, List, [], ◌∷◌, ◌++◌, map, flat_map, Option, Some, None}
+use Rattle.mq_spec_state.specs.Words.{Add, Did, Ident, Message, Connection, Part, Change, LogRecord, Remove, Luw, Among, Batch, Plain, sender_or, sender_data, data_settled, settle_by}
 use Rattle.mq_calls.specs.declared.deltas.Did.TheVariants as did
 use Rattle.mq_calls.specs.declared.records.LogRecord.TheVariants as records
 use Rattle.mq_calls.specs.declared.deltas.Why.{Why}
 use Rattle.mq_spec_state.specs.State.Change.{Disconnect, CountIdent, Leave, SetSender}
 use Rattle.mq_spec_manager.specs.Words.{placed, unit_record, commit_part}
 use Rattle.mq_calls.specs.declared.agents.Note.TheVariants as notes
-use Rattle.mq_spec_agents.specs.Words.{prepared_record, prepared_changes, settle_change, settle_did}
+use Rattle.mq_spec_agents.specs.Words.{prepared_record, prepared_changes, settle_change, settle_did, Landing, Landed, Standing, Absent, InDoubtAt, add_of, land_changes, drop_did}
+use Rattle.mq_core.specs.declared.parts.Arrival.{Arrival}
 
 -- the record that adds one message
 abbrev pub added : List ℕ → Message → LogRecord
@@ -48,3 +49,25 @@ batch_part channel last b p = record {
   changes = prepared_changes channel last b (sender_or (sender_data channel p));
   delta = did.Prepared channel b.unit ∷ [];
 }
+
+-- a message that a channel brought, as it is placed
+abbrev pub landing_of : Arrival → Landing
+landing_of a = record { queue = a.queue; message = a.message; dead = a.dead }
+
+abbrev pub standing_of : Option (List ℕ) → Standing
+standing_of None = Absent
+standing_of (Some queue) = InDoubtAt queue
+
+-- what each does, adds to the record and tells
+abbrev pub arrival_changes : Arrival → List Change
+arrival_changes a = land_changes (landing_of a) (standing_of a.dropped)
+
+abbrev pub arrival_adds : Arrival → List Add
+arrival_adds a = add_of (landing_of a)
+
+abbrev pub arrival_dids : Arrival → List Did
+arrival_dids a = drop_did a.message (standing_of a.dropped) ++ did.Placed a.queue a.message.ident a.dead ∷ []
+
+-- the messages of a batch in order, as mq_spec_agents' `landed` without those that were taken
+abbrev pub all_landed : List Arrival → Landed
+all_landed landed = record { changes = flat_map arrival_changes landed; adds = flat_map arrival_adds landed; delta = flat_map arrival_dids landed; taken = [] }

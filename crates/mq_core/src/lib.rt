@@ -13,4 +13,4 @@ mod placing;
 pub use checks::is_input;
 pub use forcing::put_bytes;
 pub use manager::Core;
-pub use parts::{ChannelEnds, Mode, Parts, ReadLog, StoppedWrite};
+pub use parts::{Arrival, ChannelEnds, Mode, Parts, ReadLog, StoppedWrite};

@@ -1,6 +1,7 @@
 //! The parts of a queue manager, as its code keeps them.
 use mq_base::Items;
 use mq_calls::{Batch, Note, ReceiverSide, Remove, Seizure, SenderSide, Why};
+use mq_codes::Reason;
 use mq_disk::Disk;
 use mq_handles::Live;
 use mq_log::Log;
@@ -68,6 +69,27 @@ pub enum StoppedWrite {
         to: QName,
         message: Message,
     },
+    /// A batch of messages that a receiver commits, as they are placed, in order.
+    Received {
+        channel: ChName,
+        unit: Unit,
+        /// The last sequence number of the batch.
+        last: u32,
+        landed: Items<Arrival>,
+    },
+}
+
+/// A message that a channel brought, as it is placed.
+#[derive(Drop)]
+pub struct Arrival {
+    /// The local queue on which it is put.
+    pub queue: QName,
+    /// The message as it stands there: by its route, or as a dead letter.
+    pub message: Message,
+    /// Why it is a dead letter; none where it is put by its route.
+    pub dead: Option<Reason>,
+    /// The queue of the row of a unit in doubt that goes for it, where its ident stood here already.
+    pub dropped: Option<QName>,
 }
 
 /// What the first restart that read the log found there.

@@ -1,6 +1,8 @@
 -- What is done to one connection: what `apply` of a manager's changes does to it.
-use Rattle.std.specs.Prelude.{ℕ, ◌+◌, ◌-◌, ◌==◌, not, List, [], ◌∷◌, ◌++◌, length, take, filter, Some}
-use Rattle.mq_spec_state.specs.Words.{Place, Appl, Item, Handle, Connection, change_handle}
+use Rattle.std.specs.List.{list_any}
+use Rattle.mq_calls.specs.declared.state.Item.TheVariants.{Put, Take}
+use Rattle.std.specs.Prelude.{ℕ, Bool, false, ◌+◌, ◌-◌, ◌==◌, not, List, [], ◌∷◌, ◌++◌, length, take, filter, Some}
+use Rattle.mq_spec_state.specs.Words.{Place, Appl, Ident, Item, same_ident, Handle, Connection, change_handle}
 use Rattle.mq_handles.specs.Rising.{AreRising, AreBelow, handle_number}
 
 -- the numbers of a connection's handles rise, up to the last one given
@@ -36,3 +38,11 @@ given_up c = record c { unit = take (length c.unit - 1) c.unit }
 
 abbrev pub emptied : Connection → Connection
 emptied c = record c { unit = [] }
+
+-- an uncommitted put of an ident; a connection's unit has one
+abbrev pub puts_ident : Ident → Item → Bool
+puts_ident ident (Put queue message) = same_ident ident message.ident
+puts_ident ident (Take queue other persistent) = false
+
+abbrev pub has_put : Ident → Connection → Bool
+has_put ident c = list_any (puts_ident ident) c.unit

@@ -1,10 +1,11 @@
 //! The live connections of a manager.
 ghost use Rattle.std.specs.Prelude.{◌≡◌, ◌==◌, ◌+◌, ◌^◌, ◌<◌, ◌++◌, ◌∷◌, [], not, filter, position, map as mapped, option_copied, OnOk, OnErr, IfOk, IfSome, IsSome};
+ghost use Rattle.std.specs.List.{list_any};
 ghost use Rattle.mq_spec_state.specs.Words.{Connection, connection_at, any_handle, has_step, change_connection, made_stale, unit_need};
 ghost use Rattle.mq_spec_manager.specs.Handles.{new_handle};
 ghost use Rattle.mq_unit.specs.Forced.{IsEnded};
 ghost use Rattle.mq_handles.specs.Rising.{AreRising, connection_number, has_number};
-ghost use Rattle.mq_handles.specs.Seats.{connection_of, opened, closed, cursor_set, pended, given_up, emptied};
+ghost use Rattle.mq_handles.specs.Seats.{connection_of, opened, closed, cursor_set, pended, given_up, emptied, has_put};
 ghost use Rattle.mq_handles.specs.Users.{reads_from, reads_alone_from};
 
 use crate::numbers::place_of_connection;
@@ -12,7 +13,7 @@ use crate::seat::Seat;
 use crate::users::Users;
 use mq_base::{Items, NoMemory};
 use mq_calls::{Appl, Item, Open};
-use mq_message::Place;
+use mq_message::{Ident, Place};
 use mq_name::QName;
 use mq_resolve::{PathStep, Route};
 use mq_unit::Ended;
@@ -88,6 +89,13 @@ impl Live {
         ensures { result ≡ any_handle (has_step step.now) self.now.live }
     {
         self.users.steps(step) > 0
+    }
+
+    /// Whether an uncommitted put of some connection has the ident. It walks over all units.
+    pub fn has_put(&self, ident: &Ident) -> bool
+        ensures { result ≡ list_any (has_put ident.now) self.now.live }
+    {
+        self.live.as_slice().iter().any(|seat| seat.has_put(ident))
     }
 
     /// A new connection, with the next number.

@@ -4,18 +4,27 @@ ghost use Rattle.mq_spec_state.specs.Words.{Handle, handle_at, made_stale, stale
 ghost use Rattle.mq_unit.specs.Forced.{IsEnded};
 ghost use Rattle.mq_spec_manager.specs.Handles.{new_handle};
 ghost use Rattle.mq_handles.specs.Rising.{has_handle_number};
-ghost use Rattle.mq_handles.specs.Seats.{connection_of, opened, closed, at_place, cursor_set, pended, given_up, emptied};
+ghost use Rattle.mq_handles.specs.Seats.{connection_of, opened, closed, at_place, cursor_set, pended, given_up, emptied, has_put, puts_ident};
 ghost use Rattle.mq_handles.specs.Users.{IsPartOf, IsMoved};
 
 use crate::numbers::place_of_handle;
 use crate::users::Users;
 use mq_base::NoMemory;
 use mq_calls::{Appl, Handle, Item, Open};
-use mq_message::Place;
+use mq_message::{Ident, Place};
 use mq_resolve::{PathStep, Route};
 use mq_unit::{Ended, Unit};
 use std::alloc::Global;
 use std::marker::Model;
+
+fn puts_ident(item: &Item, ident: &Ident) -> bool
+    ensures { result ≡ puts_ident ident.now item.now }
+{
+    match item {
+        Item::Put { message, .. } => *ident == message.ident,
+        Item::Take { .. } => false,
+    }
+}
 
 /// A live connection. Contracts see it as the plain connection.
 #[derive(Drop)]
@@ -102,6 +111,13 @@ impl Seat {
         ensures { result.now ≡ self.now.unit }
     {
         &self.unit
+    }
+
+    /// Its unit has an uncommitted put of that ident.
+    pub fn has_put(&self, ident: &Ident) -> bool
+        ensures { result ≡ has_put ident.now self.now }
+    {
+        self.unit.items().iter().any(|item| puts_ident(item, ident))
     }
 
     fn place_of(&self, number: u64) -> Option<usize>
