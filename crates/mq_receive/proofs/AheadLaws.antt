@@ -18,8 +18,8 @@ use Rattle.mq_law_manager.proofs.Lists.{bool_case, any_mem, one_row}
 use Rattle.mq_law_manager.proofs.Named.{name_is, found_name, queue_set, queue_mapped}
 use Rattle.mq_law_manager.proofs.Units.{behind}
 use Rattle.mq_law_manager.proofs.Receiving.{IsStanding}
-use Rattle.mq_receive.specs.declared.arriving.Arrival.{Arrival}
-use Rattle.mq_receive.specs.Landings.{landing_of, standing_of}
+use Rattle.mq_core.specs.declared.parts.Arrival.{Arrival}
+use Rattle.mq_core.specs.Writes.{landing_of, standing_of}
 use Rattle.mq_calls.specs.declared.agents.PlaceFault.TheVariants as place_faults
 use Rattle.mq_resolve.specs.declared.route.RouteEnd.{RouteEnd}
 use Rattle.mq_moves.specs.Landed.{route_by, tests_at}

@@ -11,8 +11,8 @@ use Rattle.mq_spec_agents.specs.Words.{received_record}
 use Rattle.mq_record.specs.Room.{Buffered, with_piece}
 use Rattle.mq_record.specs.Records.{add_bytes, IsAdd, record_bytes, received_front}
 use Rattle.mq_unit.proofs.UnitLaws.{adds_whole}
-use Rattle.mq_receive.specs.declared.arriving.Arrival.{Arrival}
-use Rattle.mq_receive.specs.Landings.{arrival_adds, all_landed}
+use Rattle.mq_core.specs.declared.parts.Arrival.{Arrival}
+use Rattle.mq_core.specs.Writes.{arrival_adds, all_landed}
 use Rattle.mq_receive.specs.Filling.{CanStand, is_lasting, adds_size, adds_bytes}
 
 with_two : (x y : List ℕ) (b : Buffered) → with_piece y (with_piece x b) ≡ with_piece (x ++ y) b

@@ -7,8 +7,8 @@ use Rattle.mq_spec_state.specs.Words.{Reason, Message, Plain, Change, Did, apply
 use Rattle.mq_calls.specs.declared.deltas.Did.TheVariants as did
 use Rattle.mq_spec_agents.specs.Words.{Landing, Landed, Standing, land, landed, landed_by, landed_unless, before, nothing_landed, standing_at, is_present, drop_did}
 use Rattle.mq_law_manager.proofs.Units.{behind}
-use Rattle.mq_receive.specs.declared.arriving.Arrival.{Arrival}
-use Rattle.mq_receive.specs.Landings.{landing_of, standing_of, arrival_changes, arrival_adds, arrival_dids, all_landed}
+use Rattle.mq_core.specs.declared.parts.Arrival.{Arrival}
+use Rattle.mq_core.specs.Writes.{landing_of, standing_of, arrival_changes, arrival_adds, arrival_dids, all_landed}
 use Rattle.mq_receive.specs.Leading.{IsBehind, Leads}
 
 -- before any message has landed

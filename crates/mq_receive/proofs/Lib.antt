@@ -1,3 +1,4 @@
+pub mod HomeLaws
 pub mod LetterLaws
 pub mod AheadLaws
 pub mod LeadLaws

@@ -11,8 +11,8 @@ use Rattle.mq_law_manager.proofs.Lists.{bool_case, ident_yes, ident_self, ident_
 use Rattle.mq_law_manager.proofs.Receiving.{IsStanding, IsLanding, standing_is, land_is, land_sound}
 use Rattle.mq_law_manager.proofs.QueueNames.{all_named}
 use Rattle.mq_law_manager.proofs.Units.{behind}
-use Rattle.mq_receive.specs.declared.arriving.Arrival.{Arrival}
-use Rattle.mq_receive.specs.Landings.{landing_of, standing_of, arrival_changes, all_landed}
+use Rattle.mq_core.specs.declared.parts.Arrival.{Arrival}
+use Rattle.mq_core.specs.Writes.{landing_of, standing_of, arrival_changes, all_landed}
 use Rattle.mq_receive.specs.Ahead.{IsAhead}
 use Rattle.mq_receive.specs.Leading.{IsBehind, Leads}
 use Rattle.mq_receive.specs.Standings.{has_landed, is_landed, standing_among, FitsAt, AreFitting, behind_all}

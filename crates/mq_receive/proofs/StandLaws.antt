@@ -15,8 +15,8 @@ use Rattle.mq_law_manager.proofs.Named.{name_is, name_yes, name_self, found_name
 use Rattle.mq_law_manager.proofs.Steps.{among_other}
 use Rattle.mq_law_manager.proofs.Receiving.{IsStanding, row_there, land_sound}
 use Rattle.mq_law_manager.proofs.QueueNames.{all_named}
-use Rattle.mq_receive.specs.declared.arriving.Arrival.{Arrival}
-use Rattle.mq_receive.specs.Landings.{landing_of, standing_of, arrival_changes}
+use Rattle.mq_core.specs.declared.parts.Arrival.{Arrival}
+use Rattle.mq_core.specs.Writes.{landing_of, standing_of, arrival_changes}
 use Rattle.mq_receive.specs.Ahead.{IsBeside}
 use Rattle.mq_receive.proofs.AheadLaws.{with_both, beside_landed, beside_placed, dropped_as}
 

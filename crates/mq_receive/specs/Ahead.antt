@@ -5,7 +5,7 @@ use Rattle.mq_resolve.specs.Resolved.{resolve}
 use Rattle.mq_spec_state.specs.Words.{Reason, Message, LocalQueue, Plain, Route, depth, refusal, local_of, channel_of, is_transmission}
 use Rattle.mq_spec_manager.specs.Words.{queue_at}
 use Rattle.mq_spec_agents.specs.Words.{Landing, landing, dead_or, uses_dead, names_of}
-use Rattle.mq_receive.specs.declared.arriving.Arrival.{Arrival}
+use Rattle.mq_core.specs.declared.parts.Arrival.{Arrival}
 use Rattle.mq_moves.specs.Landed.{tests_at}
 
 -- how many messages were placed on a queue

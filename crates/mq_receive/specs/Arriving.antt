@@ -4,8 +4,8 @@ use Rattle.mq_calls.specs.declared.agents.PlaceFault.TheVariants as place_faults
 use Rattle.mq_calls.specs.declared.agents.AgentStop.TheVariants as agent_stops
 use Rattle.mq_spec_state.specs.Words.{Reason, PlaceFault}
 use Rattle.mq_spec_agents.specs.Words.{Landing}
-use Rattle.mq_receive.specs.declared.arriving.Arrival.{Arrival}
-use Rattle.mq_receive.specs.Landings.{landing_of}
+use Rattle.mq_core.specs.declared.parts.Arrival.{Arrival}
+use Rattle.mq_core.specs.Writes.{landing_of}
 
 -- a message lands so, and this row goes for it; or it is refused; or there was no memory
 abbrev pub Lands : Result Landing Reason → Option (List ℕ) → Result Arrival PlaceFault → Type 0

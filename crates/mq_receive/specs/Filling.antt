@@ -2,8 +2,8 @@
 use Rattle.std.specs.Prelude.{◌≡◌, ℕ, Bool, true, List, flat_map, sum_by}
 use Rattle.mq_spec_state.specs.Words.{is_persistent, add_size}
 use Rattle.mq_record.specs.Records.{CanBeKept, add_bytes}
-use Rattle.mq_receive.specs.declared.arriving.Arrival.{Arrival}
-use Rattle.mq_receive.specs.Landings.{arrival_adds}
+use Rattle.mq_core.specs.declared.parts.Arrival.{Arrival}
+use Rattle.mq_core.specs.Writes.{arrival_adds}
 
 -- a message that lasts can stand in a record
 abbrev pub CanStand : Arrival → Type 0

@@ -2,8 +2,8 @@
 use Rattle.std.specs.Prelude.{◌≡◌, List, ◌++◌, Result, Ok, Err}
 use Rattle.mq_spec_state.specs.Words.{Reason}
 use Rattle.mq_spec_agents.specs.Words.{Landed}
-use Rattle.mq_receive.specs.declared.arriving.Arrival.{Arrival}
-use Rattle.mq_receive.specs.Landings.{all_landed}
+use Rattle.mq_core.specs.declared.parts.Arrival.{Arrival}
+use Rattle.mq_core.specs.Writes.{all_landed}
 
 -- what the whole batch comes to: these messages, and the rest behind them
 pub record IsBehind (whole : Result Landed Reason) (landed : List Arrival) (rest : Landed) : Type 0 where

@@ -1,4 +1,3 @@
-pub mod Landings
 pub mod Ahead
 pub mod Arriving
 pub mod Leading

@@ -5,7 +5,7 @@ use Rattle.mq_calls.specs.declared.agents.AgentStop.TheVariants as agent_stops
 use Rattle.mq_spec_state.specs.Words.{Message, Reason, Plain, PlaceFault}
 use Rattle.mq_spec_agents.specs.Words.{Landed, landed, standing_at}
 use Rattle.mq_law_manager.specs.Facts.{Sound, AreNamed}
-use Rattle.mq_receive.specs.declared.arriving.Arrival.{Arrival}
+use Rattle.mq_core.specs.declared.parts.Arrival.{Arrival}
 use Rattle.mq_receive.specs.Ahead.{IsAhead}
 use Rattle.mq_receive.specs.Leading.{Leads}
 use Rattle.mq_receive.specs.Standings.{standing_among, AreFitting, behind_all}

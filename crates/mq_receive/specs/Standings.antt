@@ -4,10 +4,10 @@ use Rattle.std.specs.List.{list_any}
 use Rattle.mq_spec_state.specs.Words.{Ident, Message, Plain, Change, same_ident, local_of, apply_all}
 use Rattle.mq_spec_agents.specs.Words.{Standing, Absent, InDoubtAt, Present, standing_at}
 use Rattle.mq_law_manager.specs.Facts.{Sound, AreNamed}
-use Rattle.mq_receive.specs.declared.arriving.Arrival.{Arrival}
+use Rattle.mq_core.specs.declared.parts.Arrival.{Arrival}
 use Rattle.mq_receive.specs.declared.standing.Found.{Found}
 use Rattle.mq_receive.specs.declared.standing.Found.TheVariants as found
-use Rattle.mq_receive.specs.Landings.{standing_of, arrival_changes}
+use Rattle.mq_core.specs.Writes.{standing_of, arrival_changes}
 
 abbrev pub standing_as : Found → Standing
 standing_as found.Absent = Absent

@@ -12,7 +12,7 @@ use crate::letters::{dead_message, names_of};
 use mq_base::NoMemory;
 use mq_calls::{AgentStop, PlaceFault};
 use mq_codes::Reason;
-use mq_core::Parts;
+use mq_core::{Arrival, Parts};
 use mq_disk::Disk;
 use mq_message::{Bytes, Message};
 use mq_moves::{dest_at, queue_at, refused_by};
@@ -20,19 +20,6 @@ use mq_name::{ChName, QName};
 use mq_objects::{Channel, ChannelKind, LocalQueue, Usage};
 use mq_resolve::{PathStep, RouteEnd, resolve};
 use std::alloc::Global;
-
-/// A message that a channel brought, as it is placed.
-#[derive(Drop)]
-pub struct Arrival {
-    /// The local queue on which it is put.
-    pub queue: QName,
-    /// The message as it stands there: by its route, or as a dead letter.
-    pub message: Message,
-    /// Why it is a dead letter; none where it is put by its route.
-    pub dead: Option<Reason>,
-    /// The queue of the row of a unit in doubt that goes for it, where its ident stood here already.
-    pub dropped: Option<QName>,
-}
 
 fn is_on(arrival: &Arrival, queue: &QName) -> bool
     ensures { result ≡ is_on queue.now arrival.now }

@@ -4,10 +4,10 @@ ghost use Rattle.std.specs.List.{AllByRecursion};
 ghost use Rattle.mq_spec_agents.specs.Words.{received_record};
 ghost use Rattle.mq_record.specs.Records.{record_bytes, IsAdd, IsRecord};
 ghost use Rattle.mq_record.specs.Room.{with_piece};
-ghost use Rattle.mq_receive.specs.Landings.{arrival_adds, all_landed};
+ghost use Rattle.mq_core.specs.Writes.{arrival_adds, all_landed};
 ghost use Rattle.mq_receive.specs.Filling.{CanStand, is_lasting, adds_size, adds_bytes};
 
-use crate::arriving::Arrival;
+use mq_core::Arrival;
 use mq_name::ChName;
 use mq_record::{Buffer, received_front};
 use mq_sync::Unit;

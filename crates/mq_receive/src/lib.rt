@@ -7,6 +7,6 @@ mod letters;
 mod planning;
 mod standing;
 
-pub use arriving::{Arrival, land};
+pub use arriving::land;
 pub use filling::put_received;
 pub use planning::plan;

@@ -7,14 +7,14 @@ ghost use Rattle.mq_core.specs.Views.{plain_of};
 ghost use Rattle.mq_core.specs.Ties.{Tied};
 ghost use Rattle.mq_law_manager.specs.Facts.{Sound, AreNamed};
 ghost use Rattle.mq_receive.specs.Standings.{has_landed, is_landed, standing_among, standing_as};
-ghost use Rattle.mq_receive.specs.Landings.{standing_of};
+ghost use Rattle.mq_core.specs.Writes.{standing_of};
 ghost use Rattle.mq_receive.specs.Planned.{Goes, IsPlan, Plans};
 
-use crate::arriving::{Arrival, land};
+use crate::arriving::land;
 use crate::standing::{Found, standing};
 use mq_base::Items;
 use mq_calls::{AgentStop, PlaceFault};
-use mq_core::Parts;
+use mq_core::{Arrival, Parts};
 use mq_disk::Disk;
 use mq_message::{Ident, Message};
 use mq_name::{ChName, QName};

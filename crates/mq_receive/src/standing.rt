@@ -99,17 +99,11 @@ fn standing_in_row<D: Disk>(
     Found::Present
 }
 
-fn has_put<D: Disk>(parts: &Parts<D>, ident: &Ident) -> bool
-    ensures { result ≡ is_pending ident.now (plain_of parts.now) }
-{
-    false
-}
-
 /// How an ident stands of which there is no row.
 fn standing_apart<D: Disk>(parts: &Parts<D>, message: &Message) -> Found
     ensures { standing_as result ≡ standing_by message.now None (plain_of parts.now) }
 {
-    if has_put(parts, &message.ident) || is_unborn(parts, &message.ident) {
+    if parts.live.has_put(&message.ident) || is_unborn(parts, &message.ident) {
         return Found::Present;
     }
     Found::Absent
