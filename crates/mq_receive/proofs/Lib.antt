@@ -5,3 +5,9 @@ pub mod LeadLaws
 pub mod FillLaws
 pub mod StandLaws
 pub mod PlanLaws
+pub mod PlacedLaws
+pub mod LoopLaws
+pub mod ExpectLaws
+pub mod AwaitLaws
+pub mod AsideLaws
+pub mod CommitLaws

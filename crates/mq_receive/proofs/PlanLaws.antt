@@ -1,10 +1,11 @@
 -- The plan of a batch, message by message.
-use Rattle.std.proofs.Common.{◌≡◌, ◌≢◌, ℕ, Bool, true, false, List, [], ◌∷◌, ◌++◌, refl, ap, sym, subst, ◌∙◌}
+use Rattle.std.proofs.Common.{◌≡◌, ◌≢◌, ℕ, suc, ◌+◌, ◌<◌, length, get_or, drop, add-one, drop-cons, Bool, true, false, List, [], ◌∷◌, ◌++◌, refl, ap, sym, subst, ◌∙◌}
 use Rattle.std.specs.Prelude.{Option, Some, None, Result, Ok, Err, ◌||◌, ◌&&◌, if◌then◌else◌, flat_map, IsSome, is_some}
 use Rattle.std.specs.List.{list_any}
 use Rattle.mq_objects.specs.declared.object.LocalQueue.{LocalQueue}
 use Rattle.std.proofs.lemmas.List.{append-nil}
-use Rattle.mq_spec_state.specs.Words.{Add, Change, Did, Refuse, Ident, Message, Reason, Plain, Luw, Step, same_ident, is_persistent, local_of, apply_all}
+use Rattle.mq_calls.specs.declared.agents.PlaceFault.TheVariants as place_faults
+use Rattle.mq_spec_state.specs.Words.{PlaceFault, Add, Change, Did, Refuse, Ident, Message, Reason, Plain, Luw, Step, same_ident, is_persistent, local_of, apply_all}
 use Rattle.mq_spec_agents.specs.Words.{Landing, Landed, RowAt, Standing, Absent, InDoubtAt, Present, standing_by, standing_at, is_present, row_of, is_pending, is_unborn, is_doubted_by, same_flag, land, landed, nothing_landed, receive, receive_landed}
 use Rattle.mq_law_manager.specs.Facts.{Sound, AreNamed}
 use Rattle.mq_law_manager.proofs.Lists.{bool_case, ident_yes, ident_self, ident_no}
@@ -16,7 +17,8 @@ use Rattle.mq_core.specs.Writes.{landing_of, standing_of, arrival_changes, all_l
 use Rattle.mq_receive.specs.Ahead.{IsAhead}
 use Rattle.mq_receive.specs.Leading.{IsBehind, Leads}
 use Rattle.mq_receive.specs.Standings.{has_landed, is_landed, standing_among, FitsAt, AreFitting, behind_all}
-use Rattle.mq_receive.specs.Planned.{IsPlan}
+use Rattle.mq_receive.specs.Arriving.{Lands}
+use Rattle.mq_receive.specs.Planned.{IsPlan, Goes}
 use Rattle.mq_receive.proofs.AheadLaws.{ahead_first, ahead_more}
 use Rattle.mq_receive.proofs.LeadLaws.{leads_first, leads_over, leads_refused, leads_more, leads_last, state_more}
 use Rattle.mq_receive.proofs.StandLaws.{standing_other, standing_own}
@@ -152,3 +154,23 @@ plan_last channel unit last batch done p h =
 pub plan_ends : (channel : List ℕ) (unit : Luw) (last : ℕ) (batch : List Message) (p : Plain) (reason : Reason) → landed channel batch p ≡ Err reason → receive channel unit last batch p ≡ Refuse reason
 unfolding receive_as
 plan_ends channel unit last batch p reason e = ap (receive_as channel unit last p) e
+
+-- what the landing of one message comes to
+pub land_fails : (whole : Result Landed Reason) (channel : List ℕ) (done now : List Arrival) (m : Message) (rest : List Message) (p : Plain) (dropped : Option (List ℕ)) (fault : PlaceFault) → standing_among done m p ≡ standing_of dropped
+    → ((q : Plain) → IsAhead done p q → Lands (land channel m q) dropped (Err fault)) → IsPlan whole channel done (m ∷ rest) p → Goes whole channel rest p (Err fault) now
+land_fails whole channel done now m rest p dropped (place_faults.Refused reason) e lands h = plan_refused whole channel done m rest p dropped reason e (lands (behind_all done p) h.ahead) h
+land_fails whole channel done now m rest p dropped (place_faults.Stop stop) e lands h = lands (behind_all done p) h.ahead
+
+pub land_goes : (whole : Result Landed Reason) (channel : List ℕ) (done now : List Arrival) (m : Message) (rest : List Message) (p : Plain) (dropped : Option (List ℕ)) (a : Arrival) → standing_among done m p ≡ standing_of dropped
+    → ((q : Plain) → IsAhead done p q → Lands (land channel m q) dropped (Ok a)) → now ≡ done ++ a ∷ [] → IsPlan whole channel done (m ∷ rest) p → IsPlan whole channel now rest p
+land_goes whole channel done now m rest p dropped a e lands is h =
+    let l = lands (behind_all done p) h.ahead in
+    subst (λ (as : List Arrival). IsPlan whole channel as rest p) (sym is) (plan_more whole channel done m rest p a (e ∙ ap standing_of (sym l.1)) l.0 h)
+
+-- a loop over the batch
+pub plan_left : (batch : List Message) (i : ℕ) (m : Message) → i < length batch → m ≡ get_or batch i m → drop i batch ≡ m ∷ drop (i + 1) batch
+plan_left batch i m lt is = drop-cons batch i m lt ∙ ap (λ (x : Message). x ∷ drop (suc i) batch) (sym is) ∙ ap (λ (n : ℕ). m ∷ drop n batch) (sym (add-one i))
+
+pub plan_at : (whole : Result Landed Reason) (channel : List ℕ) (done : List Arrival) (batch : List Message) (i : ℕ) (m : Message) (p : Plain) → i < length batch → m ≡ get_or batch i m → IsPlan whole channel done (drop i batch) p
+    → IsPlan whole channel done (m ∷ drop (i + 1) batch) p
+plan_at whole channel done batch i m p lt is h = subst (λ (ms : List Message). IsPlan whole channel done ms p) (plan_left batch i m lt is) h

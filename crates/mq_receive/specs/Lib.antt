@@ -4,3 +4,5 @@ pub mod Leading
 pub mod Filling
 pub mod Standings
 pub mod Planned
+pub mod Placed
+pub mod Committed

@@ -72,7 +72,8 @@ fn is_unborn<D: Disk>(parts: &Parts<D>, ident: &Ident) -> bool
             || (ident.incarnation == parts.incarnation && parts.idents < ident.number))
 }
 
-fn lasts(message: &Message) -> bool
+/// The message lasts.
+pub(crate) fn lasts(message: &Message) -> bool
     ensures { result ≡ is_persistent message.now }
 {
     message.md.persistence == 1

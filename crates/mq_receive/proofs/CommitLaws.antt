@@ -1,0 +1,170 @@
+-- How a receiver's commit ends.
+use Rattle.std.proofs.Common.{◌≡◌, ℕ, ◌+◌, ◌*◌, ◌<◌, ◌≤◌, ◌^◌, true, List, [], ◌∷◌, ◌++◌, length, refl, ap, arith, sym, subst, ◌∙◌}
+use Rattle.std.specs.Prelude.{Option, Some, Ok, Err, flat_map}
+use Rattle.mq_base.specs.Outside.{Rose}
+use Rattle.mq_disk.specs.declared.cutter.Stop.{Stop}
+use Rattle.mq_disk.specs.declared.cutter.Stop.TheVariants as stops
+use Rattle.mq_log.specs.State.{LogState}
+use Rattle.mq_log.specs.Force.{Stops}
+use Rattle.mq_record.specs.Room.{Buffered}
+use Rattle.mq_spec_state.specs.State.Change.{SetReceiver}
+use Rattle.mq_spec_state.specs.Words.{AreLow, Change, Did, LogRecord, Luw, Plain, Part, ReceiverData, ReceiverSide, freeze, logged, need, note_of, set_receiver, written, apply, apply_all}
+use Rattle.mq_core.specs.declared.parts.Arrival.{Arrival}
+use Rattle.mq_core.specs.declared.parts.ChannelEnds.{ChannelEnds}
+use Rattle.mq_core.specs.declared.parts.StoppedWrite.{StoppedWrite}
+use Rattle.mq_core.specs.declared.parts.StoppedWrite.TheVariants as writes
+use Rattle.mq_core.specs.Views.{PartsValue, plain_of, frozen_of, noted}
+use Rattle.mq_core.specs.Ties.{Tied, mode_is_up}
+use Rattle.mq_core.specs.Forced.{IsForced, HasMoreRoom, downed}
+use Rattle.mq_core.specs.Values.{bodies_in, behind_record, pending_record}
+use Rattle.mq_core.specs.Writes.{arrival_changes, all_landed}
+use Rattle.mq_core.proofs.ForceLaws.{forced_view, frozen_view, tied_downed}
+use Rattle.mq_core.proofs.PutLaws.{tied_roomier, roomier_view}
+use Rattle.mq_core.proofs.WriteLaws.{roomier_bodies, forced_bodies, stopped_bodies}
+use Rattle.mq_agents.specs.Written.{with_receivers}
+use Rattle.mq_agents.specs.declared.hardening.Unwritten.{Unwritten}
+use Rattle.mq_agents.specs.declared.hardening.Unwritten.TheVariants as unwritten
+use Rattle.mq_agents.proofs.EndLaws.{with_ends, ends_view}
+use Rattle.mq_law_manager.proofs.Units.{behind}
+use Rattle.mq_moves.specs.Moving.{given_back}
+use Rattle.mq_receive.specs.Standings.{AreFitting, behind_all}
+use Rattle.mq_receive.specs.Placed.{IsAwaited, landed_all, AreLanding}
+use Rattle.mq_receive.specs.Committed.{batch_part, side_after, with_side, WritesBatch, unawaited, given_up, IsDone, IsUnchanged, IsBroken, Commits}
+use Rattle.mq_receive.proofs.AsideLaws.{set_first, fits_aside}
+use Rattle.mq_receive.proofs.AwaitLaws.{IsOnWay, defined_all, on_way_counts, on_way_tied, awaited_view, unawaited_more}
+use Rattle.mq_receive.proofs.PlacedLaws.{HasLanded, lands_all, landed_tied}
+
+-- It found no memory
+
+pub unchanged : (x y : PartsValue) (told tells : List Did) → HasMoreRoom x y → tells ≡ told → Tied x → IsUnchanged x told y tells
+unchanged x y told tells h same t = record {
+  plain = roomier_view x y h;
+  tied = tied_roomier x y h t;
+  told = same;
+  bodies = roomier_bodies x y h;
+  faults = ap (λ (z : PartsValue). z.log.faults) h.same;
+}
+
+-- Its write was stopped
+
+still_up : (landed : List Arrival) (n : ℕ) (x y : PartsValue) → mode_is_up x.mode ≡ true → IsAwaited landed n x y → mode_is_up y.mode ≡ true
+still_up landed n x y up e = ap (λ (z : PartsValue). mode_is_up z.mode) e.same ∙ up
+
+unawaited_by : List Arrival → PartsValue → PartsValue
+unawaited_by landed x = unawaited landed x
+
+still_forced : (landed : List Arrival) (r : LogRecord) (stop : Stop) (y z : PartsValue) → IsForced r y (Err stop) z → IsForced r (unawaited landed y) (Err stop) (unawaited landed z)
+unfolding unawaited_by
+still_forced landed r stop y z f = record { same = ap (unawaited_by landed) f.same; log = f.log; size = f.size; ends = f.ends; room = f.room; body = f.body; later = f.later; disk = f.disk }
+
+freeze_by : StoppedWrite → ℕ → PartsValue → Plain
+freeze_by write left x = freeze (noted (frozen_of x) (Some write)) left (plain_of x)
+
+pub broken : (channel : List ℕ) (unit : Luw) (last : ℕ) (landed : List Arrival) (n : ℕ) (r : LogRecord) (stop : Stop) (x y z w : PartsValue) (told tells : List Did) → (batch_part channel unit last landed (plain_of x)).forced ≡ Some r
+    → mode_is_up x.mode ≡ true → IsAwaited landed n x y → IsForced r y (Err stop) z → w ≡ given_up (unwritten.Stopped stop) channel unit last landed z → tells ≡ told → Tied x → IsBroken (batch_part channel unit last landed (plain_of x)) r stop x told w tells
+unfolding freeze_by
+broken channel unit last landed n r stop x y z w told tells is up e f down same t =
+    let write : StoppedWrite = writes.Received channel unit last landed in
+    let part : Part = batch_part channel unit last landed (plain_of x) in
+    let h = unawaited_more landed n x y e in
+    let still = still_forced landed r stop y z f in
+    let armed : w.log.armed ≡ z.log.armed = ap (λ (q : PartsValue). q.log.armed) down in
+    let failed : w.log.faults ≡ z.log.faults = ap (λ (q : PartsValue). q.log.faults) down in
+    let before : y.log.armed ≡ x.log.armed = ap (λ (q : PartsValue). q.log.armed) e.same in
+    let had : y.log.faults ≡ x.log.faults = ap (λ (q : PartsValue). q.log.faults) e.same in
+    record {
+      plain = ap plain_of down ∙ frozen_view write r (unawaited landed y) (unawaited landed z) stop (still_up landed n x y up e) still ∙ ap (freeze_by write z.log.armed) h.same
+          ∙ ap (λ (o : Option LogRecord). freeze (note_of part o) z.log.armed (plain_of x)) is ∙ ap (λ (left : ℕ). freeze (note_of part (Some r)) left (plain_of x)) (sym armed);
+      tied = subst Tied (sym down) (tied_downed write r [] (unawaited landed y) (unawaited landed z) stop still (tied_roomier x (unawaited landed y) h t));
+      told = same;
+      bodies = ap (λ (q : PartsValue). bodies_in q.log) down ∙ stopped_bodies r y z stop f ∙ ap (λ (q : PartsValue). pending_record (Some r) (bodies_in q.log)) e.same;
+      ends = subst (λ (left : ℕ). Stops x.log.armed (Err stop) left) (sym armed) (subst (λ (k : ℕ). Stops k (Err stop) z.log.armed) before f.ends);
+      later = omega (arith, failed, had, f.later);
+      rose = λ d. subst (λ (k : ℕ). Rose x.log.faults k) (sym failed) (subst (λ (k : ℕ). Rose k z.log.faults) had (f.disk (ap (λ (s : Stop). Err s) d)));
+    }
+
+-- either of them
+pub not_written : (u : Unwritten) (channel : List ℕ) (unit : Luw) (last : ℕ) (landed : List Arrival) (n : ℕ) (r : LogRecord) (side : ReceiverSide) (x y z w : PartsValue) (told tells : List Did) → (batch_part channel unit last landed (plain_of x)).forced ≡ Some r
+    → mode_is_up x.mode ≡ true → IsAwaited landed n x y → WritesBatch r side y (Err u) z → w ≡ given_up u channel unit last landed z → tells ≡ told → Tied x → Commits (batch_part channel unit last landed (plain_of x)) r x told (Err u) w tells
+unfolding unawaited_by
+not_written unwritten.NoMemory channel unit last landed n r side x y z w told tells is up e f down same t =
+    unchanged x w told tells (subst (HasMoreRoom x) (sym (down ∙ ap (unawaited_by landed) f)) (unawaited_more landed n x y e)) same t
+not_written (unwritten.Stopped stop) channel unit last landed n r side x y z w told tells is up e f down same t = broken channel unit last landed n r stop x y z w told tells is up e f down same t
+
+-- It was written
+
+with_rest : ChannelEnds → LogState → Buffered → PartsValue → PartsValue
+with_rest ends log body v = record v { ends = ends; log = log; body = body }
+
+pub on_way : (landed : List Arrival) (n : ℕ) (r : LogRecord) (side : ReceiverSide) (x y z : PartsValue) → n ≡ need r → IsAwaited landed n x y → IsForced r (with_side side y) (Ok tt) z → Tied x → IsOnWay landed x (given_back n z)
+unfolding with_rest
+on_way landed n r side x y z en e f t =
+    let is = ap (λ (q : PartsValue). q.log) e.same in
+    let wrote = f.log in
+    record {
+      same = ap (with_rest z.ends z.log (given_back n z).body) f.same ∙ ap (with_rest z.ends z.log (given_back n z).body) e.same;
+      live = ap (λ (l : LogState). l.live) wrote ∙ ap (λ (l : LogState). l.live) is;
+      settled = ap (λ (l : LogState). l.pending) wrote ∙ ap (λ (l : LogState). l.pending) is;
+      reserved = ap (λ (l : LogState). l.reserved) wrote ∙ ap (λ (l : LogState). l.reserved) is;
+      max = ap (λ (l : LogState). l.max) wrote ∙ ap (λ (l : LogState). l.max) is;
+      room = λ u. omega (arith, f.room, e.log, en);
+      body = λ u. let w = (t.up u).body in omega (arith, w, e.body, f.body);
+    }
+
+set_side : ReceiverSide → Plain → Plain
+set_side side p = apply (SetReceiver side.channel side.hardened) p
+
+side_view : (side : ReceiverSide) (y : PartsValue) → mode_is_up y.mode ≡ true → plain_of (with_side side y) ≡ set_side side (plain_of y)
+unfolding with_ends set_side
+side_view side y up = ends_view (with_receivers (set_receiver side y.ends.receivers) y.ends) y up
+
+log_of : LogRecord → Plain → Plain
+log_of r p = logged (Some r) p
+
+-- what is seen before the messages take their places
+pub way_view : (landed : List Arrival) (n : ℕ) (r : LogRecord) (side : ReceiverSide) (x y z : PartsValue) → mode_is_up x.mode ≡ true → IsAwaited landed n x y → IsForced r (with_side side y) (Ok tt) z
+    → plain_of (given_back n z) ≡ logged (Some r) (apply (SetReceiver side.channel side.hardened) (plain_of x))
+unfolding set_side log_of
+way_view landed n r side x y z up e f =
+    forced_view r (with_side side y) z (still_up landed n x y up e) f ∙ ap (log_of r) (side_view side y (still_up landed n x y up e) ∙ ap (set_side side) (awaited_view landed n x y e))
+
+pub way_lands : (landed : List Arrival) (n : ℕ) (r : LogRecord) (side : ReceiverSide) (x y z : PartsValue) → mode_is_up x.mode ≡ true → n ≡ need r → IsAwaited landed n x y → IsForced r (with_side side y) (Ok tt) z → Tied x → AreLow (plain_of x) → AreFitting landed (plain_of x)
+    → 2 * length landed + 2 < 2 ^ 64 → HasLanded landed (given_back n z)
+way_lands landed n r side x y z up en e f t low fits few =
+    let w : PartsValue = given_back n z in
+    let p : Plain = plain_of x in
+    let o = on_way landed n r side x y z en e f t in
+    let there = defined_all landed p fits in
+    let still : mode_is_up w.mode ≡ true = ap (λ (q : PartsValue). mode_is_up q.mode) f.same ∙ still_up landed n x y up e in
+    lands_all (2 ^ 63 + length landed) landed w (omega (arith, few)) still (on_way_counts landed x w there o t low)
+    (subst (AreFitting landed) (sym (way_view landed n r side x y z up e f)) (fits_aside landed (set_receiver side p.channels.receivers) (written r p.log) p fits))
+    (on_way_tied landed x w there o t)
+
+rest_by : List Arrival → Plain → Plain
+rest_by landed p = behind_all landed p
+
+part_by : List ℕ → Luw → ℕ → List Arrival → Plain → ReceiverSide → Plain
+part_by channel unit last landed p side = apply_all (flat_map arrival_changes landed ++ SetReceiver side.channel side.hardened ∷ []) p
+
+pub done : (channel : List ℕ) (unit : Luw) (last : ℕ) (landed : List Arrival) (n : ℕ) (r : LogRecord) (side : ReceiverSide) (x y z w v : PartsValue) (told tells : List Did) → side ≡ side_after channel unit last (plain_of x)
+    → mode_is_up x.mode ≡ true → IsAwaited landed n x y → IsForced r (with_side side y) (Ok tt) z → w ≡ given_back n z → HasLanded landed (given_back n z) → v ≡ landed_all landed w
+    → tells ≡ told ++ (batch_part channel unit last landed (plain_of x)).delta → IsDone (batch_part channel unit last landed (plain_of x)) r x told v tells
+unfolding rest_by part_by
+done channel unit last landed n r side x y z w v told tells is up e f back h end says =
+    let p : Plain = plain_of x in
+    let placed : v ≡ landed_all landed (given_back n z) = end ∙ ap (λ (q : PartsValue). landed_all landed q) back in
+    let log : v.log ≡ z.log = ap (λ (q : PartsValue). q.log) placed ∙ h.log in
+    let failed = ap (λ (l : LogState). l.faults) log in
+    let had : y.log.faults ≡ x.log.faults = ap (λ (q : PartsValue). q.log.faults) e.same in
+    let armed : y.log.armed ≡ x.log.armed = ap (λ (q : PartsValue). q.log.armed) e.same in
+    record {
+      plain = ap plain_of placed ∙ h.view ∙ ap (rest_by landed) (way_view landed n r side x y z up e f)
+          ∙ set_first landed side.channel side.hardened (logged (Some r) p)
+          ∙ sym (behind (flat_map arrival_changes landed) (SetReceiver side.channel side.hardened ∷ []) (logged (Some r) p))
+          ∙ ap (part_by channel unit last landed (logged (Some r) p)) is;
+      tied = subst Tied (sym placed) (landed_tied (landed_all landed (given_back n z)) h.tied);
+      told = says;
+      bodies = ap bodies_in log ∙ forced_bodies r (with_side side y) z f ∙ ap (λ (q : PartsValue). behind_record (Some r) (bodies_in q.log)) e.same;
+      later = omega (arith, failed, had, f.later);
+      ran = λ some. let here : 0 < y.log.armed = omega (arith, armed, some) in let more = f.ends.1 here in omega (arith, armed, more);
+    }
