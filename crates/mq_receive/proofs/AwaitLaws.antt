@@ -33,9 +33,7 @@ abbrev pub AreKept : List Arrival → List QueueState → Type 0
 AreKept landed qs = AllByRecursion (λ (a : Arrival). IsSome (state_in a.queue qs)) landed
 
 some_as : (o k : Option QueueState) → is_some o ≡ is_some k → IsSome k → IsSome o
-some_as (Some s) k e h = tt
-some_as None (Some s) e h = absurd cc
-some_as None None e h = absurd h
+some_as o k e h = e ∙ h
 
 kept_next : (at : List ℕ) (landed : List Arrival) (qs : List QueueState) → IsSome (state_in at qs) → AreKept landed qs → AreKept landed (change_state at expecting qs)
 kept_next at [] qs here k = tt
@@ -55,8 +53,7 @@ defined_all [] p h = tt
 defined_all (a ∷ landed) p h = (h.0.defined, subst (AreDefined landed) (definitions_same a p) (defined_all landed (apply_all (arrival_changes a) p) h.1))
 
 some_is : (o : Option QueueState) (s : QueueState) → o ≡ Some s → IsSome o
-some_is (Some k) s e = tt
-some_is None s e = absurd cc
+some_is o s e = ap (λ (o : Option QueueState). is_some o) e
 
 pub kept_all : (landed : List Arrival) (x : PartsValue) → Tied x → AreDefined landed x.defs.definitions → AreKept landed x.queues.states
 kept_all [] x t h = tt
@@ -167,8 +164,11 @@ with_all x qs log body = record x { queues = qs; log = log; body = body }
 
 pub unawaited_more : (landed : List Arrival) (n : ℕ) (x y : PartsValue) → IsAwaited landed n x y → HasMoreRoom x (unawaited landed y)
 unfolding unawaited_by with_all
-unawaited_more landed n x y e = record {
-  same = ap (unawaited_by landed) e.same ∙ ap (λ (qs : QueueStates). let l : LogState = record x.log { room = y.log.room } in with_all x qs l y.body) (expected_undone landed _ _ x.queues refl refl);
-  log = e.more;
-  body = omega (arith, e.body);
-}
+unawaited_more landed n x y e =
+    let v : QueueStates = record x.queues { states = expected_all landed x.queues.states } in
+    let l : LogState = record x.log { room = y.log.room } in
+    record {
+      same = ap (unawaited_by landed) e.same ∙ ap (λ (qs : QueueStates). with_all x qs l y.body) (expected_undone landed v (unexpected_in landed v) x.queues refl refl);
+      log = e.more;
+      body = omega (arith, e.body);
+    }

@@ -45,51 +45,8 @@ unchanged x y told tells h same t = record {
   faults = ap (λ (z : PartsValue). z.log.faults) h.same;
 }
 
--- Its write was stopped
-
-still_up : (landed : List Arrival) (n : ℕ) (x y : PartsValue) → mode_is_up x.mode ≡ true → IsAwaited landed n x y → mode_is_up y.mode ≡ true
+pub still_up : (landed : List Arrival) (n : ℕ) (x y : PartsValue) → mode_is_up x.mode ≡ true → IsAwaited landed n x y → mode_is_up y.mode ≡ true
 still_up landed n x y up e = ap (λ (z : PartsValue). mode_is_up z.mode) e.same ∙ up
-
-unawaited_by : List Arrival → PartsValue → PartsValue
-unawaited_by landed x = unawaited landed x
-
-still_forced : (landed : List Arrival) (r : LogRecord) (stop : Stop) (y z : PartsValue) → IsForced r y (Err stop) z → IsForced r (unawaited landed y) (Err stop) (unawaited landed z)
-unfolding unawaited_by
-still_forced landed r stop y z f = record { same = ap (unawaited_by landed) f.same; log = f.log; size = f.size; ends = f.ends; room = f.room; body = f.body; later = f.later; disk = f.disk }
-
-freeze_by : StoppedWrite → ℕ → PartsValue → Plain
-freeze_by write left x = freeze (noted (frozen_of x) (Some write)) left (plain_of x)
-
-pub broken : (channel : List ℕ) (unit : Luw) (last : ℕ) (landed : List Arrival) (n : ℕ) (r : LogRecord) (stop : Stop) (x y z w : PartsValue) (told tells : List Did) → (batch_part channel unit last landed (plain_of x)).forced ≡ Some r
-    → mode_is_up x.mode ≡ true → IsAwaited landed n x y → IsForced r y (Err stop) z → w ≡ given_up (unwritten.Stopped stop) channel unit last landed z → tells ≡ told → Tied x → IsBroken (batch_part channel unit last landed (plain_of x)) r stop x told w tells
-unfolding freeze_by
-broken channel unit last landed n r stop x y z w told tells is up e f down same t =
-    let write : StoppedWrite = writes.Received channel unit last landed in
-    let part : Part = batch_part channel unit last landed (plain_of x) in
-    let h = unawaited_more landed n x y e in
-    let still = still_forced landed r stop y z f in
-    let armed : w.log.armed ≡ z.log.armed = ap (λ (q : PartsValue). q.log.armed) down in
-    let failed : w.log.faults ≡ z.log.faults = ap (λ (q : PartsValue). q.log.faults) down in
-    let before : y.log.armed ≡ x.log.armed = ap (λ (q : PartsValue). q.log.armed) e.same in
-    let had : y.log.faults ≡ x.log.faults = ap (λ (q : PartsValue). q.log.faults) e.same in
-    record {
-      plain = ap plain_of down ∙ frozen_view write r (unawaited landed y) (unawaited landed z) stop (still_up landed n x y up e) still ∙ ap (freeze_by write z.log.armed) h.same
-          ∙ ap (λ (o : Option LogRecord). freeze (note_of part o) z.log.armed (plain_of x)) is ∙ ap (λ (left : ℕ). freeze (note_of part (Some r)) left (plain_of x)) (sym armed);
-      tied = subst Tied (sym down) (tied_downed write r [] (unawaited landed y) (unawaited landed z) stop still (tied_roomier x (unawaited landed y) h t));
-      told = same;
-      bodies = ap (λ (q : PartsValue). bodies_in q.log) down ∙ stopped_bodies r y z stop f ∙ ap (λ (q : PartsValue). pending_record (Some r) (bodies_in q.log)) e.same;
-      ends = subst (λ (left : ℕ). Stops x.log.armed (Err stop) left) (sym armed) (subst (λ (k : ℕ). Stops k (Err stop) z.log.armed) before f.ends);
-      later = omega (arith, failed, had, f.later);
-      rose = λ d. subst (λ (k : ℕ). Rose x.log.faults k) (sym failed) (subst (λ (k : ℕ). Rose k z.log.faults) had (f.disk (ap (λ (s : Stop). Err s) d)));
-    }
-
--- either of them
-pub not_written : (u : Unwritten) (channel : List ℕ) (unit : Luw) (last : ℕ) (landed : List Arrival) (n : ℕ) (r : LogRecord) (side : ReceiverSide) (x y z w : PartsValue) (told tells : List Did) → (batch_part channel unit last landed (plain_of x)).forced ≡ Some r
-    → mode_is_up x.mode ≡ true → IsAwaited landed n x y → WritesBatch r side y (Err u) z → w ≡ given_up u channel unit last landed z → tells ≡ told → Tied x → Commits (batch_part channel unit last landed (plain_of x)) r x told (Err u) w tells
-unfolding unawaited_by
-not_written unwritten.NoMemory channel unit last landed n r side x y z w told tells is up e f down same t =
-    unchanged x w told tells (subst (HasMoreRoom x) (sym (down ∙ ap (unawaited_by landed) f)) (unawaited_more landed n x y e)) same t
-not_written (unwritten.Stopped stop) channel unit last landed n r side x y z w told tells is up e f down same t = broken channel unit last landed n r stop x y z w told tells is up e f down same t
 
 -- It was written
 

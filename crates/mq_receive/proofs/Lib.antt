@@ -10,4 +10,7 @@ pub mod LoopLaws
 pub mod ExpectLaws
 pub mod AwaitLaws
 pub mod AsideLaws
+pub mod NeedLaws
 pub mod CommitLaws
+pub mod BrokenLaws
+pub mod EndingLaws

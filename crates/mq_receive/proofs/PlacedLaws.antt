@@ -432,27 +432,27 @@ pub record HasLanded (landed : List Arrival) (x : PartsValue) : Type 0 where
 rest_of : List Arrival → Plain → Plain
 rest_of landed p = behind_all landed p
 
+lands_next : (most : ℕ) (landed : List Arrival) (a : Arrival) (x : PartsValue) → most + 1 < 2 ^ 64 → mode_is_up x.mode ≡ true → AreCounted most x → AreFitting (a ∷ landed) (plain_of x) → TiedOnWay (a ∷ landed) x
+    → ((z : PartsValue) → mode_is_up z.mode ≡ true → AreCounted most z → AreFitting landed (plain_of z) → TiedOnWay landed z → HasLanded landed z) → HasLanded (a ∷ landed) x
+unfolding rest_of
+lands_next most landed a x small up counts fits t rest =
+    let y : PartsValue = cleared_for a x in
+    let apart : IsApart a.message.ident y = fresh_undoubted (is_persistent a.message) a.message.ident a.dropped x (fresh_ident a x fits.0 t.idents) in
+    let tied : TiedOnWay (a ∷ landed) y = tied_cleared (a ∷ landed) a x t in
+    let counted : AreCounted most y = counts_cleared most a x counts in
+    let r : IsReady a.queue a.message y = ready_one most a.queue a.message landed a y refl small counted apart tied in
+    let view : plain_of (landed_at a x) ≡ apply_all (arrival_changes a) (plain_of x) = landed_view a x up r in
+    let more : HasLanded landed (landed_at a x) = rest (landed_at a x) (up_landed a x up) (counts_placed most a.queue a.message y r counted) (subst (AreFitting landed) (sym view) fits.1) (tied_placed a landed y r apart tied) in
+    record {
+      ready = (r, more.ready);
+      tied = more.tied;
+      view = more.view ∙ ap (rest_of landed) view ∙ sym (behind (arrival_changes a) (flat_map arrival_changes landed) (plain_of x));
+      log = more.log ∙ log_landed a x;
+    }
+
 pub lands_all : (most : ℕ) (landed : List Arrival) (x : PartsValue) → most + 1 < 2 ^ 64 → mode_is_up x.mode ≡ true → AreCounted most x → AreFitting landed (plain_of x) → TiedOnWay landed x → HasLanded landed x
 lands_all most [] x small up counts fits t = record { ready = tt; tied = t; view = refl; log = refl }
 lands_all most (a ∷ landed) x small up counts fits t = lands_next most landed a x small up counts fits t (λ z. lands_all most landed z small)
-  where
-    lands_next : (most : ℕ) (landed : List Arrival) (a : Arrival) (x : PartsValue) → most + 1 < 2 ^ 64 → mode_is_up x.mode ≡ true → AreCounted most x → AreFitting (a ∷ landed) (plain_of x) → TiedOnWay (a ∷ landed) x
-        → ((z : PartsValue) → mode_is_up z.mode ≡ true → AreCounted most z → AreFitting landed (plain_of z) → TiedOnWay landed z → HasLanded landed z) → HasLanded (a ∷ landed) x
-    unfolding rest_of
-    lands_next most landed a x small up counts fits t rest =
-        let y : PartsValue = cleared_for a x in
-        let apart : IsApart a.message.ident y = fresh_undoubted (is_persistent a.message) a.message.ident a.dropped x (fresh_ident a x fits.0 t.idents) in
-        let tied : TiedOnWay (a ∷ landed) y = tied_cleared (a ∷ landed) a x t in
-        let counted = counts_cleared most a x counts in
-        let r : IsReady a.queue a.message y = ready_one most a.queue a.message landed a y refl small counted apart tied in
-        let view = landed_view a x up r in
-        let more = rest (landed_at a x) (up_landed a x up) (counts_placed most a.queue a.message y r counted) (subst (AreFitting landed) (sym view) fits.1) (tied_placed a landed y r apart tied) in
-        record {
-          ready = (r, more.ready);
-          tied = more.tied;
-          view = more.view ∙ ap (rest_of landed) view ∙ sym (behind (arrival_changes a) (flat_map arrival_changes landed) (plain_of x));
-          log = more.log ∙ log_landed a x;
-        }
 
 -- and nothing is on its way any more
 pub landed_tied : (x : PartsValue) → TiedOnWay [] x → Tied x

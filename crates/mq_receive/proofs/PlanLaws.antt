@@ -1,8 +1,7 @@
 -- The plan of a batch, message by message.
 use Rattle.std.proofs.Common.{◌≡◌, ◌≢◌, ℕ, suc, ◌+◌, ◌<◌, length, get_or, drop, add-one, drop-cons, Bool, true, false, List, [], ◌∷◌, ◌++◌, refl, ap, sym, subst, ◌∙◌}
-use Rattle.std.specs.Prelude.{Option, Some, None, Result, Ok, Err, ◌||◌, ◌&&◌, if◌then◌else◌, flat_map, IsSome, is_some}
+use Rattle.std.specs.Prelude.{Option, Some, None, Result, Ok, Err, ◌||◌, ◌&&◌, if◌then◌else◌, flat_map}
 use Rattle.std.specs.List.{list_any}
-use Rattle.mq_objects.specs.declared.object.LocalQueue.{LocalQueue}
 use Rattle.std.proofs.lemmas.List.{append-nil}
 use Rattle.mq_calls.specs.declared.agents.PlaceFault.TheVariants as place_faults
 use Rattle.mq_spec_state.specs.Words.{PlaceFault, Add, Change, Did, Refuse, Ident, Message, Reason, Plain, Luw, Step, same_ident, is_persistent, local_of, apply_all}
@@ -104,13 +103,6 @@ stands_more done a p k sound named st before =
     by true e = standing_own k a.message (standing_of a.dropped) a.queue (behind_all done p) sound named st (not_present a.dropped) (ident_yes k.ident a.message.ident e)
     by false e = standing_other k a.message (standing_of a.dropped) a.queue (behind_all done p) (λ is. cc (e, ap (same_ident k.ident) (sym is), ident_self k.ident)) ∙ before
 
-some_local : (o : Option LocalQueue) → is_some o ≡ true → IsSome o
-some_local None e = absurd cc
-some_local (Some l) e = tt
-
-abbrev same_landing : Landing → Arrival → Type 0
-same_landing l a = l ≡ landing_of a
-
 lands_as : (channel : List ℕ) (m : Message) (a : Arrival) (p : Plain) → land channel m p ≡ Ok (landing_of a) → IsLanding m p (Ok (landing_of a))
 lands_as channel m a p e = subst (IsLanding m p) e (land_is channel m p)
 
@@ -129,7 +121,7 @@ plan_more whole channel done m rest p a e is h =
       sound = subst Sound (sym next) (land_sound a.queue a.message (standing_of a.dropped) q h.sound st (not_present a.dropped));
       named = subst (λ (z : Plain). AreNamed z.queues) (sym next) (all_named (arrival_changes a) q h.named);
       stands = λ k. ap (standing_at k) next ∙ stands_more done a p k h.sound h.named st (h.stands k);
-      fits = fits_more done a p h.fits (record { standing = own; defined = some_local (local_of a.queue q.definitions) l.1.0; named = h.named });
+      fits = fits_more done a p h.fits (record { standing = own; defined = l.1.0; named = h.named });
     }
 
 -- where none is left, the commit is of those that have landed

@@ -7,7 +7,7 @@ ghost use Rattle.mq_spec_agents.specs.Words.{IsUp, receive, receive_landed};
 ghost use Rattle.mq_law_manager.specs.Facts.{Sound, AreNamed};
 ghost use Rattle.mq_agents.specs.Ends.{by_place};
 ghost use Rattle.mq_agents.specs.Written.{agent_of, stop_of};
-ghost use Rattle.mq_core.specs.Ties.{Tied, mode_is_up};
+ghost use Rattle.mq_core.specs.Ties.{Tied};
 ghost use Rattle.mq_core.specs.Values.{manager_of, WritesLog};
 ghost use Rattle.mq_core.specs.Views.{plain_of};
 ghost use Rattle.mq_core.specs.Writes.{all_landed};
@@ -80,7 +80,7 @@ fn batch_need(landed: &[Arrival]) -> Option<u64>
 /// What the record of a batch takes of the log, in bytes; none where the log has no room for it.
 fn need_in<D: Disk>(parts: &Parts<D>, landed: &[Arrival]) -> Option<u64>
     requires tied { Tied parts.now }
-    requires up { mode_is_up parts.now.mode ≡ true }
+    requires up { IsUp (plain_of parts.now) }
     requires can { AllByRecursion CanStand landed.now }
     ensures { (channel : List ℕ) (unit : Luw) (last : ℕ) → IsNeeded (batch_record channel unit last landed.now) (plain_of parts.now) result }
 {
@@ -141,14 +141,15 @@ fn commit_landed<D: Disk>(
         landed,
         need,
     ) {
-        Ok(()) => Ok(()),
+        Ok(()) => {}
         Err(unwritten) => {
             let stopped = stop_of(unwritten);
             let agent = agent_of(unwritten);
             core.stopped = stopped;
-            Err(PlaceFault::Stop(agent))
+            return Err(PlaceFault::Stop(agent));
         }
     }
+    Ok(())
 }
 
 /// Messages that have landed are committed: refused where the log has no room.
