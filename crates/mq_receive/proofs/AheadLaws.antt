@@ -12,7 +12,7 @@ use Rattle.mq_codes.specs.declared.reason.Reason.TheVariants as reasons
 use Rattle.mq_resolve.specs.Resolved.{resolve}
 use Rattle.mq_resolve.specs.declared.route.RouteEnd.TheVariants as ends
 use Rattle.mq_spec_manager.specs.Words.{placed, inhibited_tests, is_unfit, length_tests, max_depth, output_only, queue_at}
-use Rattle.mq_spec_agents.specs.Words.{Landing, dead_or, land, names_of, uses_dead, Standing, Absent, InDoubtAt, Present, drop_row, undoubted, drop_changes, land_changes}
+use Rattle.mq_spec_agents.specs.Words.{Landing, dead_or, land, land_resolved, land_tested, dead_letter, can_take_dead, route_tests, names_of, uses_dead, Standing, Absent, InDoubtAt, Present, drop_row, undoubted, drop_changes, land_changes}
 use Rattle.mq_law_manager.specs.Facts.{Mem, Sound}
 use Rattle.mq_law_manager.proofs.Lists.{bool_case, any_mem, one_row}
 use Rattle.mq_law_manager.proofs.Named.{name_is, found_name, queue_set, queue_mapped}
@@ -97,7 +97,7 @@ depth_tried false name queue p = refl
 depth_tried true name queue p =
     let new : Queue = made_due (depth_type (local_of queue p.definitions)) p.moment (stored queue p) in
     let count = depth_set name new queue 0 p (found_name queue p.queues) (λ e.
-    ap (λ (k : List ℕ). count_by is_free (stored k p).rows) (sym (name_is name queue e))) in
+    ap (λ (k : List ℕ). count_by is_free (stored k p).rows) (sym (name_is name queue e)) ∙ plus_none (count_by is_free (stored name p).rows)) in
     let none = same_both (bytes_eq name queue) 0 in
     omega (arith, count, none)
   where
@@ -232,11 +232,29 @@ beside_same : (channel : List ℕ) (m : Message) (q x : Plain) (d : List ℕ →
 unfolding with_both
 beside_same channel m q x d = resolved_same (resolve x.definitions x.given.name (names_of m.route).queue (names_of m.route).qmgr) channel m q x d
 
+-- a landing, by the depths that there are
+take_as : (o : Option LocalQueue) (bytes : ℕ) (p : Plain) → can_take_dead o bytes p ≡ can_take_at o bytes p (λ name. depth name p)
+take_as None bytes p = refl
+take_as (Some l) bytes p = refl
+
+dead_as : (channel : List ℕ) (reason : Reason) (m : Message) (p : Plain) → dead_letter channel reason m p ≡ dead_at channel reason m p (λ name. depth name p)
+unfolding dead_by
+dead_as channel reason m p = ap (λ (b : Bool). dead_by (uses_dead (channel_of channel p.definitions)) b channel reason m p) (take_as (local_of p.definitions.manager.dead_letter_queue p.definitions) (length m.body) p)
+
+tested_as : (o : Option Reason) (route : Route) (channel : List ℕ) (m : Message) (p : Plain) → land_tested o route channel m p ≡ tested_at o route channel m p (λ name. depth name p)
+tested_as None route channel m p = refl
+tested_as (Some reason) route channel m p = dead_as channel reason m p
+
+resolved_as : (r : Result Route Reason) (channel : List ℕ) (m : Message) (p : Plain) → land_resolved r channel m p ≡ resolved_at r channel m p (λ name. depth name p)
+resolved_as (Err reason) channel m p = dead_as channel reason m p
+resolved_as (Ok route) channel m p = tested_as (refusal (route_tests route (length m.body) p)) route channel m p
+
 -- where a message lands, with those before it
 pub land_ahead : (landed : List Arrival) (x p : Plain) (channel : List ℕ) (m : Message) → IsAhead landed x p → land channel m p ≡ land_at channel m x (depth_ahead landed x)
 unfolding with_both
 land_ahead landed x p channel m h =
-    ap (λ (q : Plain). land_at channel m q (λ name. depth name p)) h.beside ∙ beside_same channel m p x (λ name. depth name p) ∙ (λ i. land_at channel m x (λ name. h.depths name i))
+    resolved_as (resolve p.definitions p.given.name (names_of m.route).queue (names_of m.route).qmgr) channel m p
+    ∙ ap (λ (q : Plain). land_at channel m q (λ name. depth name p)) h.beside ∙ beside_same channel m p x (λ name. depth name p) ∙ (λ i. land_at channel m x (λ name. h.depths name i))
 
 -- a message that may not be a dead letter, and one that may
 pub lands_refused : (b : Bool) (channel : List ℕ) (reason : Reason) (m : Message) (p : Plain) (dropped : Option (List ℕ)) → b ≡ false → Lands (dead_or b channel reason m p) dropped (Err (place_faults.Refused reason))

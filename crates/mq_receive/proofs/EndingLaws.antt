@@ -30,11 +30,11 @@ use Rattle.mq_receive.proofs.PlanLaws.{plan_ends}
 abbrev pub seen_of : PartsValue → List Did → Option Stop → CoreValue
 seen_of y tells stopped = record { plain = plain_of y; delta = tells; stopped = stopped; faults = y.log.faults; log = bodies_in y.log }
 
-pub record IsSeen (v : CoreValue) (x : PartsValue) (told : List Did) : Type 0 where
+pub record IsSeen (v : CoreValue) (x : PartsValue) (old : List Did) : Type 0 where
   pub plain : plain_of x ≡ v.plain
   pub faults : x.log.faults ≡ v.faults
   pub log : bodies_in x.log ≡ v.log
-  pub told : told ≡ []
+  pub told : old ≡ []
 
 done_by : List ℕ → Luw → ℕ → List Arrival → Plain → Plain
 done_by channel unit last landed p = apply_all (batch_part channel unit last landed p).changes (logged (Some (batch_record channel unit last landed)) p)

@@ -6,7 +6,7 @@ use Rattle.std.proofs.lemmas.List.{length-append}
 use Rattle.std.proofs.lemmas.List.Sums.{sum_by-cons}
 use Rattle.std.proofs.lemmas.Grind.{flat_map-append}
 use Rattle.std.proofs.lemmas.List.Recursion.{is_count_by}
-use Rattle.mq_spec_state.specs.Words.{Add, Luw, add_size}
+use Rattle.mq_spec_state.specs.Words.{Add, Luw, add_size, record_size}
 use Rattle.mq_spec_agents.specs.Words.{received_record}
 use Rattle.mq_record.specs.Room.{Buffered, with_piece}
 use Rattle.mq_record.specs.Records.{add_bytes, IsAdd, record_bytes, received_front}
@@ -94,3 +94,11 @@ pub received_put : (channel : List ℕ) (unit : Luw) (last n : ℕ) (landed : Li
 received_put channel unit last n landed start b c front count is first second =
     second ∙ ap (with_piece (adds_bytes landed)) first ∙ with_two front (adds_bytes landed) start
     ∙ ap (λ (f : List ℕ). with_piece (f ++ adds_bytes landed) start) (is ∙ ap (λ (k : ℕ). received_front channel unit last k) count)
+
+-- its length
+pub received_size : (channel : List ℕ) (unit : Luw) (last n : ℕ) (landed : List Arrival) (front : List ℕ) → n ≡ length (flat_map arrival_adds landed) → front ≡ received_front channel unit last n → length front ≡ 45 → AllByRecursion IsAdd (flat_map arrival_adds landed)
+    → length (record_bytes (received_record channel unit last (all_landed landed))) ≡ record_size (received_record channel unit last (all_landed landed))
+received_size channel unit last n landed front count is long each =
+    let adds : List Add = flat_map arrival_adds landed in
+    let first : length (received_front channel unit last (length adds)) ≡ 45 = ap length (sym (is ∙ ap (λ (k : ℕ). received_front channel unit last k) count)) ∙ long in
+    omega (arith, length-append (received_front channel unit last (length adds)) (flat_map add_bytes adds), first, adds_whole adds each)

@@ -31,6 +31,13 @@ abbrev or_located : Located → Option Located → Located
 or_located d None = d
 or_located d (Some l) = l
 
+other_by : (name : List ℕ) (s : QueueState) (ss : List QueueState) (t : QueueState) (b : Bool) → bytes_eq name s.queue.name ≡ b → IsUnnamed s.queue.name ss → state_in name ss ≡ Some t → (if b then Some s else state_in name ss) ≡ state_in name ss
+other_by name s ss t true z h there = absurd (cc (ap (λ (n : List ℕ). state_in n ss) (sym (name_is name s.queue.name z)) ∙ there, unnamed_none s.queue.name ss h))
+other_by name s ss t false z h there = refl
+
+other_state : (name : List ℕ) (s : QueueState) (ss : List QueueState) (t : QueueState) → IsUnnamed s.queue.name ss → state_in name ss ≡ Some t → state_in name (s ∷ ss) ≡ state_in name ss
+other_state name s ss t h there = other_by name s ss t (bytes_eq name s.queue.name) refl h there
+
 -- the state that has the row is the one of its name
 state_of_row : (i : Ident) (ss : List QueueState) (l : Located) → AreApart ss → row_at i ss ≡ Some l → (s : QueueState) × (state_in l.name ss ≡ Some s) × (find (has_ident i) s.queue.rows ≡ Some l.row)
 state_of_row i [] l apart e = absurd cc
@@ -43,22 +50,19 @@ state_of_row i (s ∷ ss) l apart e = by (find (has_ident i) s.queue.rows) refl 
         (s, ap (λ (b : Bool). if b then Some s else state_in l.name ss) (ap (λ (n : List ℕ). bytes_eq n s.queue.name) (sym name) ∙ name_self s.queue.name), w ∙ ap (λ (r : Row). Some r) is)
     by None w f =
         let rest = state_of_row i ss l apart.1 f in
-        (rest.0, other (bytes_eq l.name s.queue.name) refl rest.0 rest.1 ∙ rest.1, rest.2)
-      where
-        other : (b : Bool) → bytes_eq l.name s.queue.name ≡ b → (t : QueueState) → state_in l.name ss ≡ Some t → (if b then Some s else state_in l.name ss) ≡ state_in l.name ss
-        other true z t there = absurd (cc (ap (λ (n : List ℕ). state_in n ss) (sym (name_is l.name s.queue.name z)) ∙ there, unnamed_none s.queue.name ss apart.0))
-        other false z t there = refl
+        (rest.0, other_state l.name s ss rest.0 apart.0 rest.1 ∙ rest.1, rest.2)
 
 unmapped : (o : Option Located) → None ≡ option_map name_of o → o ≡ None
 unmapped None e = refl
 unmapped (Some l) e = absurd cc
 
+abbrev or_name : List ℕ → Option (List ℕ) → List ℕ
+or_name d None = d
+or_name d (Some name) = name
+
 mapped : (name : List ℕ) (o : Option Located) → Some name ≡ option_map name_of o → (l : Located) × (o ≡ Some l) × (l.name ≡ name)
 mapped name None e = absurd cc
-mapped name (Some l) e = (l, refl, sym (some_is name l.name e))
-  where
-    some_is : (a b : List ℕ) → Some a ≡ Some b → a ≡ b
-    some_is a b e = ap (λ (o : Option (List ℕ)). elim o as (λ o. List ℕ) [ None ↦ a | Some x ↦ x ]) e
+mapped name (Some l) e = (l, refl, sym (ap (or_name name) e))
 
 standing_of_row : Message → Plain → Option RowAt → Standing
 standing_of_row m p o = standing_by m o p
@@ -73,8 +77,12 @@ no_state i name ss apart e none =
     let s = state_of_row i ss l.0 apart l.1 in
     cc (ap (λ (n : List ℕ). state_in n ss) (sym l.2) ∙ s.1, none)
 
+abbrev or_state : QueueState → Option QueueState → QueueState
+or_state d None = d
+or_state d (Some s) = s
+
 same_state : (a b : QueueState) → Some a ≡ Some b → a ≡ b
-same_state a b e = ap (λ (o : Option QueueState). elim o as (λ o. QueueState) [ None ↦ a | Some x ↦ x ]) e
+same_state a b e = ap (or_state a) e
 
 pub row_here : (i : Ident) (name : List ℕ) (ss : List QueueState) (s : QueueState) → AreApart ss → Some name ≡ option_map (λ (l : Located). l.name) (row_at i ss) → state_in name ss ≡ Some s
     → (l : Located) × (row_at i ss ≡ Some l) × (l.name ≡ name) × (find (has_ident i) s.queue.rows ≡ Some l.row)
@@ -87,8 +95,12 @@ row_here i name ss s apart e is =
 pub no_row : (i : Ident) (name : List ℕ) (ss : List QueueState) (s : QueueState) → AreApart ss → Some name ≡ option_map (λ (l : Located). l.name) (row_at i ss) → state_in name ss ≡ Some s → find (has_ident i) s.queue.rows ≡ None → ⊥
 no_row i name ss s apart e is none = let l = row_here i name ss s apart e is in cc (l.3, none)
 
+abbrev or_row : Row → Option Row → Row
+or_row d None = d
+or_row d (Some r) = r
+
 same_row : (a b : Row) → Some a ≡ Some b → a ≡ b
-same_row a b e = ap (λ (o : Option Row). elim o as (λ o. Row) [ None ↦ a | Some x ↦ x ]) e
+same_row a b e = ap (or_row a) e
 
 in_row : List ℕ → Row → Message → Plain → Standing
 in_row name row m p = standing_by m (Some (record { queue = name; row = row })) p

@@ -71,4 +71,4 @@ fits_small n p small some e = grind (arith, nat_tests, small, some, e)
 pub has_need : (channel : List ℕ) (unit : Luw) (last : ℕ) (landed : List Arrival) (n : ℕ) (p : Plain) → p.given.log_max < 2 ^ 32 → n ≡ 50 + adds_size landed → is_full n p ≡ false → HasNeed (batch_record channel unit last landed) p n
 has_need channel unit last landed n p small is fits =
     let same : n ≡ need (batch_record channel unit last landed) = is ∙ sym (need_is channel unit last landed) in
-    record { need = same; fits = ap (λ (k : ℕ). is_full k p) (sym same) ∙ fits; small = fits_small n p small (omega (arith, is)) fits }
+    record { is = same; fits = ap (λ (k : ℕ). is_full k p) (sym same) ∙ fits; small = fits_small n p small (omega (arith, is)) fits }

@@ -44,7 +44,7 @@ no_times i (r ∷ rows) e = by (has_ident i r) e (no_times i rows)
   where
     by : (b : Bool) → cond b (Some r) (find (has_ident i) rows) ≡ None → (find (has_ident i) rows ≡ None → times_in_rows i rows ≡ 0) → one_if b + times_in_rows i rows ≡ 0
     by true e rest = absurd cc
-    by false e rest = rest e
+    by false e rest = let none = rest e in omega (arith, none)
 
 no_row_times : (i : Ident) (qs : List StateQueue) → row_of i qs ≡ None → times_in_queues i qs ≡ 0
 no_row_times i [] e = refl

@@ -51,27 +51,27 @@ given_up unwritten.NoMemory channel unit last landed x = unawaited landed x
 given_up (unwritten.Stopped stop) channel unit last landed x = downed (writes.Received channel unit last landed) (unawaited landed x)
 
 -- the commit was done
-pub record IsDone (part : Part) (r : LogRecord) (x : PartsValue) (told : List Did) (y : PartsValue) (tells : List Did) : Type 0 where
+pub record IsDone (part : Part) (r : LogRecord) (x : PartsValue) (old : List Did) (y : PartsValue) (new : List Did) : Type 0 where
   pub plain : plain_of y ≡ apply_all part.changes (logged (Some r) (plain_of x))
   pub tied : Tied y
-  pub told : tells ≡ told ++ part.delta
+  pub told : new ≡ old ++ part.delta
   pub bodies : bodies_in y.log ≡ behind_record (Some r) (bodies_in x.log)
   pub later : x.log.faults ≤ y.log.faults
   pub ran : 0 < x.log.armed → 4 < x.log.armed
 
 -- it found no memory
-pub record IsUnchanged (x : PartsValue) (told : List Did) (y : PartsValue) (tells : List Did) : Type 0 where
+pub record IsUnchanged (x : PartsValue) (old : List Did) (y : PartsValue) (new : List Did) : Type 0 where
   pub plain : plain_of y ≡ plain_of x
   pub tied : Tied y
-  pub told : tells ≡ told
+  pub told : new ≡ old
   pub bodies : bodies_in y.log ≡ bodies_in x.log
   pub faults : y.log.faults ≡ x.log.faults
 
 -- its write was stopped
-pub record IsBroken (part : Part) (r : LogRecord) (stop : Stop) (x : PartsValue) (told : List Did) (y : PartsValue) (tells : List Did) : Type 0 where
+pub record IsBroken (part : Part) (r : LogRecord) (stop : Stop) (x : PartsValue) (old : List Did) (y : PartsValue) (new : List Did) : Type 0 where
   pub plain : plain_of y ≡ freeze (note_of part (Some r)) y.log.armed (plain_of x)
   pub tied : Tied y
-  pub told : tells ≡ told
+  pub told : new ≡ old
   pub bodies : bodies_in y.log ≡ pending_record (Some r) (bodies_in x.log)
   pub ends : Stops x.log.armed (Err stop) y.log.armed
   pub later : x.log.faults ≤ y.log.faults
@@ -89,7 +89,7 @@ IsNeed landed None = 2 ^ 64 ≤ 50 + adds_size landed
 
 -- and whether it has the room
 pub record HasNeed (r : LogRecord) (p : Plain) (n : ℕ) : Type 0 where
-  pub need : n ≡ need r
+  pub is : n ≡ need r
   pub fits : is_full (need r) p ≡ false
   pub small : n < 2 ^ 32
 

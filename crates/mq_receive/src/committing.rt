@@ -121,12 +121,12 @@ fn give_up<D: Disk>(
 }
 
 /// The room of a record is given back.
-fn return_room<D: Disk>(parts: &mut Parts<D>, need: u64)
-    requires { need ≤ parts.old.body.room + length parts.old.body.bytes }
-    ensures { parts.new ≡ given_back need parts.old }
+fn return_room<D: Disk>(parts: &mut Parts<D>, bytes: u64)
+    requires { bytes ≤ parts.old.body.room + length parts.old.body.bytes }
+    ensures { parts.new ≡ given_back bytes parts.old }
 {
     parts.body.clear();
-    parts.body.give_back(need as usize);
+    parts.body.give_back(bytes as usize);
 }
 
 /// Tells what a commit did, in order. It takes no memory.
@@ -149,18 +149,18 @@ pub(crate) fn commit<D: Disk>(
     unit: Unit,
     last: u32,
     landed: Items<Arrival>,
-    need: u64,
+    bytes: u64,
 ) -> Result<(), Unwritten>
     requires up { mode_is_up parts.old.mode ≡ true }
     requires tied { Tied parts.old }
     requires low { AreLow (plain_of parts.old) }
     requires fits { AreFitting landed (plain_of parts.old) }
     requires can { AllByRecursion CanStand landed }
-    requires need { need ≡ need (batch_record channel.now unit last landed) }
-    requires small { need < 2 ^ 32 }
+    requires need { bytes ≡ need (batch_record channel.now unit last landed) }
+    requires small { bytes < 2 ^ 32 }
     ensures { Commits (batch_part channel.now unit last landed (plain_of parts.old)) (batch_record channel.now unit last landed) parts.old effects.old.dids result parts.new effects.new.dids }
 {
-    match make_room(parts, effects, landed.as_slice(), need) {
+    match make_room(parts, effects, landed.as_slice(), bytes) {
         Ok(()) => {}
         Err(NoMemory) => return Err(Unwritten::NoMemory),
     }
@@ -173,7 +173,7 @@ pub(crate) fn commit<D: Disk>(
         }
     }
     tell_received(effects, channel, unit, landed.as_slice());
-    return_room(parts, need);
+    return_room(parts, bytes);
     place_all(parts, landed);
     Ok(())
 }

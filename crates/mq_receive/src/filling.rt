@@ -1,6 +1,7 @@
 //! The record of a receiver's commit: its messages that last, in order.
 ghost use Rattle.std.specs.Prelude.{◌≡◌, ◌+◌, ◌<◌, ◌≤◌, ◌^◌, [], ◌∷◌, flat_map, length};
 ghost use Rattle.std.specs.List.{AllByRecursion};
+ghost use Rattle.mq_spec_state.specs.Words.{record_size};
 ghost use Rattle.mq_spec_agents.specs.Words.{received_record};
 ghost use Rattle.mq_record.specs.Records.{record_bytes, IsAdd, IsRecord};
 ghost use Rattle.mq_record.specs.Room.{with_piece};
@@ -57,6 +58,7 @@ pub fn put_received(channel: &ChName, unit: Unit, last: u32, landed: &[Arrival],
     requires small { 45 + adds_size landed.now < 2 ^ 32 }
     requires can { AllByRecursion CanStand landed.now }
     ensures bytes { body.new ≡ with_piece (record_bytes (received_record channel.now unit last (all_landed landed.now))) body.old }
+    ensures size { length (record_bytes (received_record channel.now unit last (all_landed landed.now))) ≡ record_size (received_record channel.now unit last (all_landed landed.now)) }
     ensures record { 0 < length channel.now → IsRecord (received_record channel.now unit last (all_landed landed.now)) }
 {
     let adds = count_adds(landed);

@@ -84,13 +84,13 @@ fn need_in<D: Disk>(parts: &Parts<D>, landed: &[Arrival]) -> Option<u64>
     requires can { AllByRecursion CanStand landed.now }
     ensures { (channel : List ℕ) (unit : Luw) (last : ℕ) → IsNeeded (batch_record channel unit last landed.now) (plain_of parts.now) result }
 {
-    let Some(need) = batch_need(landed) else {
+    let Some(bytes) = batch_need(landed) else {
         return None;
     };
-    if parts.is_full(need) {
+    if parts.is_full(bytes) {
         return None;
     }
-    Some(need)
+    Some(bytes)
 }
 
 /// What stopped a write; none where there was no memory.
@@ -120,14 +120,14 @@ fn commit_landed<D: Disk>(
     unit: Unit,
     last: u32,
     landed: Items<Arrival>,
-    need: u64,
+    bytes: u64,
 ) -> Result<(), PlaceFault>
     requires up { IsUp core.old.plain }
     requires low { AreLow core.old.plain }
     requires fits { AreFitting landed core.old.plain }
     requires can { AllByRecursion CanStand landed }
-    requires need { need ≡ need (batch_record channel.now unit last landed) }
-    requires small { need < 2 ^ 32 }
+    requires need { bytes ≡ need (batch_record channel.now unit last landed) }
+    requires small { bytes < 2 ^ 32 }
     ensures meets { MeetsOrWants (manager_of core.old) (batch_step channel.now unit last landed core.old.plain) (by_place result) (manager_of core.new) }
     ensures told { WritesLog core.old (batch_step channel.now unit last landed core.old.plain) (by_place result) core.new }
 {
@@ -139,7 +139,7 @@ fn commit_landed<D: Disk>(
         unit,
         last,
         landed,
-        need,
+        bytes,
     ) {
         Ok(()) => {}
         Err(unwritten) => {
@@ -175,7 +175,7 @@ fn receive_landed<D: Disk>(
             core.begin_call();
             Err(PlaceFault::Refused(Reason::ResourceProblem))
         }
-        Some(need) => commit_landed(core, channel, unit, last, landed, need),
+        Some(bytes) => commit_landed(core, channel, unit, last, landed, bytes),
     }
 }
 

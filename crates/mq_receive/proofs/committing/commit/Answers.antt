@@ -26,7 +26,7 @@ write_received-requires-clause-small g c = omega (arith, c.requires.need, c.requ
 
 pub returns-in-Err-write_received : goal.returns-in-Err-write_received
 returns-in-Err-write_received g c =
-    not_written c.in-Err-write_received.unwritten c.args.channel.now c.args.unit c.args.last c.args.landed c.args.need (batch_record c.args.channel.now c.args.unit c.args.last c.args.landed) c.side_after-side.result
+    not_written c.in-Err-write_received.unwritten c.args.channel.now c.args.unit c.args.last c.args.landed c.args.bytes (batch_record c.args.channel.now c.args.unit c.args.last c.args.landed) c.side_after-side.result
     c.args.parts.now c.make_room.new.parts c.write_received.new.parts c.give_up.new.parts c.args.effects.now.dids c.make_room.new.effects.dids refl c.requires.up c.in-Ok.ensures.ok c.in-Err-write_received.ensures c.give_up.ensures c.make_room.ensures.dids c.requires.tied
 
 pub tell_received-requires : goal.tell_received-requires
@@ -38,7 +38,7 @@ return_room-requires g c = omega (arith, c.in-Ok.ensures.ok.body, c.in-Ok-write_
 pub place_all-requires : goal.place_all-requires
 place_all-requires g c =
     subst (AreLanding c.args.landed) (sym c.return_room.ensures)
-    (way_lands c.args.landed c.args.need (batch_record c.args.channel.now c.args.unit c.args.last c.args.landed) c.side_after-side.result c.args.parts.now c.make_room.new.parts c.write_received.new.parts
+    (way_lands c.args.landed c.args.bytes (batch_record c.args.channel.now c.args.unit c.args.last c.args.landed) c.side_after-side.result c.args.parts.now c.make_room.new.parts c.write_received.new.parts
     c.requires.up c.requires.need c.in-Ok.ensures.ok c.in-Ok-write_received.ensures c.requires.tied c.requires.low c.requires.fits c.in-Ok.ensures.few).ready
 
 pub returns : goal.returns
@@ -53,7 +53,7 @@ returns g c =
     let r = batch_record channel unit last landed in
     let e = c.in-Ok.ensures.ok in
     let f = c.in-Ok-write_received.ensures in
-    let lands = way_lands landed c.args.need r c.side_after-side.result x y z c.requires.up c.requires.need e f c.requires.tied c.requires.low c.requires.fits c.in-Ok.ensures.few in
-    done channel unit last landed c.args.need r c.side_after-side.result x y z c.return_room.new.parts c.place_all.new.parts c.args.effects.now.dids c.tell_received.new.effects.dids
-    (c.side_after-side.ensures ∙ ap (λ (p : Plain). side_after channel unit last p) (awaited_view landed c.args.need x y e)) c.requires.up e f c.return_room.ensures lands c.place_all.ensures
+    let lands = way_lands landed c.args.bytes r c.side_after-side.result x y z c.requires.up c.requires.need e f c.requires.tied c.requires.low c.requires.fits c.in-Ok.ensures.few in
+    done channel unit last landed c.args.bytes r c.side_after-side.result x y z c.return_room.new.parts c.place_all.new.parts c.args.effects.now.dids c.tell_received.new.effects.dids
+    (c.side_after-side.ensures ∙ ap (λ (p : Plain). side_after channel unit last p) (awaited_view landed c.args.bytes x y e)) c.requires.up e f c.return_room.ensures lands c.place_all.ensures
     (c.tell_received.ensures ∙ ap (λ (ds : List Did). ds ++ (batch_part channel unit last landed (plain_of x)).delta) c.make_room.ensures.dids)

@@ -1,6 +1,6 @@
 use Rattle.std.proofs.Common.{ℕ, List, length, ap, arith}
 use Rattle.mq_record.specs.Room.{Buffered}
-use Rattle.mq_receive.proofs.FillLaws.{adds_fit, received_put}
+use Rattle.mq_receive.proofs.FillLaws.{adds_fit, received_put, received_size}
 use Rattle.mq_receive.proofs.filling.put_received.Goals as goal
 
 pub overflow_cast-adds : goal.overflow_cast-adds
@@ -19,3 +19,8 @@ returns-clause-bytes c =
 
 pub returns-clause-record : goal.returns-clause-record
 returns-clause-record c = λ some. c.received_front.ensures.record some _ (record { count = adds_fit c.args.landed.now 4294967296 c.requires.small; each = c.put_adds.ensures.adds })
+
+pub returns-clause-size : goal.returns-clause-size
+returns-clause-size c =
+    received_size c.args.channel.now c.args.unit c.args.last c.count_adds-adds.result c.args.landed.now c.received_front.result
+    c.count_adds-adds.ensures c.received_front.ensures.bytes (omega (arith, c.received_front.type_inv)) c.put_adds.ensures.adds
