@@ -8,7 +8,7 @@ use Rattle.mq_log.specs.State.{LogState}
 use Rattle.mq_log.specs.Force.{Stops}
 use Rattle.mq_record.specs.Room.{Buffered}
 use Rattle.mq_spec_state.specs.State.Change.{SetReceiver}
-use Rattle.mq_spec_state.specs.Words.{AreLow, Change, Did, LogRecord, Luw, Plain, Part, ReceiverData, ReceiverSide, freeze, logged, need, note_of, set_receiver, written, apply, apply_all}
+use Rattle.mq_spec_state.specs.Words.{AreLow, Change, Did, LogRecord, Luw, Noted, Plain, Part, ReceiverData, ReceiverSide, freeze, logged, need, note_of, set_receiver, written, apply, apply_all}
 use Rattle.mq_core.specs.declared.parts.Arrival.{Arrival}
 use Rattle.mq_core.specs.declared.parts.ChannelEnds.{ChannelEnds}
 use Rattle.mq_core.specs.declared.parts.StoppedWrite.{StoppedWrite}
@@ -44,10 +44,10 @@ still_forced landed r stop y z f = record { same = ap (unawaited_by landed) f.sa
 freeze_by : StoppedWrite → ℕ → PartsValue → Plain
 freeze_by write left x = freeze (noted (frozen_of x) (Some write)) left (plain_of x)
 
-pub broken : (channel : List ℕ) (unit : Luw) (last : ℕ) (landed : List Arrival) (n : ℕ) (r : LogRecord) (stop : Stop) (x y z w : PartsValue) (told tells : List Did) → (batch_part channel unit last landed (plain_of x)).forced ≡ Some r
-    → mode_is_up x.mode ≡ true → IsAwaited landed n x y → IsForced r y (Err stop) z → w ≡ given_up (unwritten.Stopped stop) channel unit last landed z → tells ≡ told → Tied x → IsBroken (batch_part channel unit last landed (plain_of x)) r stop x told w tells
+pub broken : (channel : List ℕ) (unit : Luw) (last : ℕ) (landed : List Arrival) (n : ℕ) (r : LogRecord) (stop : Stop) (x y z w : PartsValue) (told tells : List Did) → noted (frozen_of x) (Some (writes.Received channel unit last landed)) ≡ note_of (batch_part channel unit last landed (plain_of x)) (batch_part channel unit last landed (plain_of x)).forced
+    → (batch_part channel unit last landed (plain_of x)).forced ≡ Some r → mode_is_up x.mode ≡ true → IsAwaited landed n x y → IsForced r y (Err stop) z → w ≡ given_up (unwritten.Stopped stop) channel unit last landed z → tells ≡ told → Tied x → IsBroken (batch_part channel unit last landed (plain_of x)) r stop x told w tells
 unfolding freeze_by
-broken channel unit last landed n r stop x y z w told tells is up e f down same t =
+broken channel unit last landed n r stop x y z w told tells note is up e f down same t =
     let write : StoppedWrite = writes.Received channel unit last landed in
     let part : Part = batch_part channel unit last landed (plain_of x) in
     let h = unawaited_more landed n x y e in
@@ -58,7 +58,7 @@ broken channel unit last landed n r stop x y z w told tells is up e f down same 
     let had : y.log.faults ≡ x.log.faults = ap (λ (q : PartsValue). q.log.faults) e.same in
     record {
       plain = ap plain_of down ∙ frozen_view write r (unawaited landed y) (unawaited landed z) stop (still_up landed n x y up e) still ∙ ap (freeze_by write z.log.armed) h.same
-          ∙ ap (λ (o : Option LogRecord). freeze (note_of part o) z.log.armed (plain_of x)) is ∙ ap (λ (left : ℕ). freeze (note_of part (Some r)) left (plain_of x)) (sym armed);
+          ∙ ap (λ (o : Option Noted). freeze o z.log.armed (plain_of x)) note ∙ ap (λ (o : Option LogRecord). freeze (note_of part o) z.log.armed (plain_of x)) is ∙ ap (λ (left : ℕ). freeze (note_of part (Some r)) left (plain_of x)) (sym armed);
       tied = subst Tied (sym down) (tied_downed write r [] (unawaited landed y) (unawaited landed z) stop still (tied_roomier x (unawaited landed y) h t));
       told = same;
       bodies = ap (λ (q : PartsValue). bodies_in q.log) down ∙ stopped_bodies r y z stop f ∙ ap (λ (q : PartsValue). pending_record (Some r) (bodies_in q.log)) e.same;
@@ -68,10 +68,10 @@ broken channel unit last landed n r stop x y z w told tells is up e f down same 
     }
 
 -- either of them
-pub not_written : (u : Unwritten) (channel : List ℕ) (unit : Luw) (last : ℕ) (landed : List Arrival) (n : ℕ) (r : LogRecord) (side : ReceiverSide) (x y z w : PartsValue) (told tells : List Did) → (batch_part channel unit last landed (plain_of x)).forced ≡ Some r
-    → mode_is_up x.mode ≡ true → IsAwaited landed n x y → WritesBatch r side y (Err u) z → w ≡ given_up u channel unit last landed z → tells ≡ told → Tied x → Commits (batch_part channel unit last landed (plain_of x)) r x told (Err u) w tells
+pub not_written : (u : Unwritten) (channel : List ℕ) (unit : Luw) (last : ℕ) (landed : List Arrival) (n : ℕ) (r : LogRecord) (side : ReceiverSide) (x y z w : PartsValue) (told tells : List Did) → noted (frozen_of x) (Some (writes.Received channel unit last landed)) ≡ note_of (batch_part channel unit last landed (plain_of x)) (batch_part channel unit last landed (plain_of x)).forced
+    → (batch_part channel unit last landed (plain_of x)).forced ≡ Some r → mode_is_up x.mode ≡ true → IsAwaited landed n x y → WritesBatch r side y (Err u) z → w ≡ given_up u channel unit last landed z → tells ≡ told → Tied x → Commits (batch_part channel unit last landed (plain_of x)) r x told (Err u) w tells
 unfolding unawaited_by
-not_written unwritten.NoMemory channel unit last landed n r side x y z w told tells is up e f down same t =
+not_written unwritten.NoMemory channel unit last landed n r side x y z w told tells note is up e f down same t =
     unchanged x w told tells (subst (HasMoreRoom x) (sym (down ∙ ap (unawaited_by landed) f)) (unawaited_more landed n x y e)) same t
-not_written (unwritten.Stopped stop) channel unit last landed n r side x y z w told tells is up e f down same t = broken channel unit last landed n r stop x y z w told tells is up e f down same t
+not_written (unwritten.Stopped stop) channel unit last landed n r side x y z w told tells note is up e f down same t = broken channel unit last landed n r stop x y z w told tells note is up e f down same t
 

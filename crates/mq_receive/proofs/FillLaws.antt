@@ -21,7 +21,7 @@ with_two x y b =
     let room : b.room - length x - length y ≡ b.room - length (x ++ y) = omega (arith, length-append x y) in
     λ i. record { bytes = bytes i; room = room i }
 
-sum_two : (xs ys : List Add) → sum_by add_size (xs ++ ys) ≡ sum_by add_size xs + sum_by add_size ys
+pub sum_two : (xs ys : List Add) → sum_by add_size (xs ++ ys) ≡ sum_by add_size xs + sum_by add_size ys
 sum_two [] ys = omega arith
 sum_two (x ∷ xs) ys = omega (arith, sum_two xs ys, sum_by-cons add_size x (xs ++ ys), sum_by-cons add_size x xs)
 
@@ -29,7 +29,7 @@ all_two : (xs ys : List Add) → AllByRecursion IsAdd xs → AllByRecursion IsAd
 all_two [] ys h k = k
 all_two (x ∷ xs) ys h k = (h.0, all_two xs ys h.1 k)
 
-left_at : (landed : List Arrival) (i : ℕ) (a : Arrival) → i < length landed → a ≡ get_or landed i a → drop i landed ≡ a ∷ drop (i + 1) landed
+pub left_at : (landed : List Arrival) (i : ℕ) (a : Arrival) → i < length landed → a ≡ get_or landed i a → drop i landed ≡ a ∷ drop (i + 1) landed
 left_at landed i a lt is = drop-cons landed i a lt ∙ ap (λ (x : Arrival). x ∷ drop (suc i) landed) (sym is) ∙ ap (λ (n : ℕ). a ∷ drop n landed) (sym (add-one i))
 
 -- what is written so far, and what is left

@@ -41,16 +41,16 @@ other_state name s ss t h there = other_by name s ss t (bytes_eq name s.queue.na
 -- the state that has the row is the one of its name
 state_of_row : (i : Ident) (ss : List QueueState) (l : Located) → AreApart ss → row_at i ss ≡ Some l → (s : QueueState) × (state_in l.name ss ≡ Some s) × (find (has_ident i) s.queue.rows ≡ Some l.row)
 state_of_row i [] l apart e = absurd cc
-state_of_row i (s ∷ ss) l apart e = by (find (has_ident i) s.queue.rows) refl e
+state_of_row i (s ∷ ss) l apart e = by (λ f. state_of_row i ss l apart.1 f) (find (has_ident i) s.queue.rows) refl e
   where
-    by : (o : Option Row) → find (has_ident i) s.queue.rows ≡ o → place_found o s.queue.name (row_at i ss) ≡ Some l → (t : QueueState) × (state_in l.name (s ∷ ss) ≡ Some t) × (find (has_ident i) t.queue.rows ≡ Some l.row)
-    by (Some row) w f =
+    by : (row_at i ss ≡ Some l → (t : QueueState) × (state_in l.name ss ≡ Some t) × (find (has_ident i) t.queue.rows ≡ Some l.row)) → (o : Option Row) → find (has_ident i) s.queue.rows ≡ o → place_found o s.queue.name (row_at i ss) ≡ Some l → (t : QueueState) × (state_in l.name (s ∷ ss) ≡ Some t) × (find (has_ident i) t.queue.rows ≡ Some l.row)
+    by rest (Some row) w f =
         let name : s.queue.name ≡ l.name = ap (λ (o : Option Located). (or_located l o).name) f in
         let is : row ≡ l.row = ap (λ (o : Option Located). (or_located l o).row) f in
         (s, ap (λ (b : Bool). if b then Some s else state_in l.name ss) (ap (λ (n : List ℕ). bytes_eq n s.queue.name) (sym name) ∙ name_self s.queue.name), w ∙ ap (λ (r : Row). Some r) is)
-    by None w f =
-        let rest = state_of_row i ss l apart.1 f in
-        (rest.0, other_state l.name s ss rest.0 apart.0 rest.1 ∙ rest.1, rest.2)
+    by rest None w f =
+        let t = rest f in
+        (t.0, other_state l.name s ss t.0 apart.0 t.1 ∙ t.1, t.2)
 
 unmapped : (o : Option Located) → None ≡ option_map name_of o → o ≡ None
 unmapped None e = refl

@@ -72,3 +72,10 @@ pub has_need : (channel : List ℕ) (unit : Luw) (last : ℕ) (landed : List Arr
 has_need channel unit last landed n p small is fits =
     let same : n ≡ need (batch_record channel unit last landed) = is ∙ sym (need_is channel unit last landed) in
     record { is = same; fits = ap (λ (k : ℕ). is_full k p) (sym same) ∙ fits; small = fits_small n p small (omega (arith, is)) fits }
+
+-- one message more
+pub need_next : (landed : List Arrival) (i : ℕ) (a : Arrival) (sum more new : ℕ) → i < length landed → a ≡ get_or landed i a → more ≡ adds_size (a ∷ []) → sum + adds_size (drop i landed) ≡ 50 + adds_size landed → new ≡ sum + more → new + adds_size (drop (i + 1) landed) ≡ 50 + adds_size landed
+need_next landed i a sum more new lt is one so_far e = let next = size_at landed i a lt is in omega (arith, next, one, so_far, e)
+
+pub need_past : (landed : List Arrival) (i : ℕ) (a : Arrival) (sum more : ℕ) → i < length landed → a ≡ get_or landed i a → more ≡ adds_size (a ∷ []) → sum + adds_size (drop i landed) ≡ 50 + adds_size landed → 2 ^ 64 ≤ sum + more → 2 ^ 64 ≤ 50 + adds_size landed
+need_past landed i a sum more lt is one so_far long = let next = size_at landed i a lt is in omega (arith, next, one, so_far, long)

@@ -157,7 +157,7 @@ pub land_goes : (whole : Result Landed Reason) (channel : List ℕ) (done now : 
     → ((q : Plain) → IsAhead done p q → Lands (land channel m q) dropped (Ok a)) → now ≡ done ++ a ∷ [] → IsPlan whole channel done (m ∷ rest) p → IsPlan whole channel now rest p
 land_goes whole channel done now m rest p dropped a e lands is h =
     let l = lands (behind_all done p) h.ahead in
-    subst (λ (as : List Arrival). IsPlan whole channel as rest p) (sym is) (plan_more whole channel done m rest p a (e ∙ ap standing_of (sym l.1)) l.0 h)
+    subst (λ (ys : List Arrival). IsPlan whole channel ys rest p) (sym is) (plan_more whole channel done m rest p a (e ∙ ap standing_of (sym l.1)) l.0 h)
 
 -- a loop over the batch
 pub plan_left : (batch : List Message) (i : ℕ) (m : Message) → i < length batch → m ≡ get_or batch i m → drop i batch ≡ m ∷ drop (i + 1) batch

@@ -50,11 +50,12 @@ row_mapped j f n h (q ∷ qs) =
 
 row_set : (j : Ident) (new : Queue) (qs : List Queue) → find (has_ident j) new.rows ≡ find (has_ident j) (queue_in new.name qs).rows → row_of j (set_queue new qs) ≡ row_of j qs
 row_set j new [] h = ap (λ (o : Option Row). row_found o new.name None) h
-row_set j new (q ∷ qs) h = by (bytes_eq new.name q.name) refl h
+row_set j new (q ∷ qs) h = by (λ e. row_set j new qs e) (bytes_eq new.name q.name) refl h
   where
-    by : (b : Bool) → bytes_eq new.name q.name ≡ b → find (has_ident j) new.rows ≡ find (has_ident j) (if b then q else queue_in new.name qs).rows → row_of j (if b then new ∷ qs else q ∷ set_queue new qs) ≡ row_of j (q ∷ qs)
-    by true w e = ap (λ (o : Option Row). row_found o new.name (row_of j qs)) e ∙ ap (λ (name : List ℕ). row_found (find (has_ident j) q.rows) name (row_of j qs)) (name_is new.name q.name w)
-    by false w e = ap (λ (rest : Option RowAt). row_found (find (has_ident j) q.rows) q.name rest) (row_set j new qs e)
+    by : (find (has_ident j) new.rows ≡ find (has_ident j) (queue_in new.name qs).rows → row_of j (set_queue new qs) ≡ row_of j qs) → (b : Bool) → bytes_eq new.name q.name ≡ b
+        → find (has_ident j) new.rows ≡ find (has_ident j) (if b then q else queue_in new.name qs).rows → row_of j (if b then new ∷ qs else q ∷ set_queue new qs) ≡ row_of j (q ∷ qs)
+    by rest true w e = ap (λ (o : Option Row). row_found o new.name (row_of j qs)) e ∙ ap (λ (name : List ℕ). row_found (find (has_ident j) q.rows) name (row_of j qs)) (name_is new.name q.name w)
+    by rest false w e = ap (λ (o : Option RowAt). row_found (find (has_ident j) q.rows) q.name o) (rest e)
 
 row_left : (j i : Ident) (s : Standing) (p : Plain) → j ≢ i → row_of j (apply_all (drop_row i s) p).queues ≡ row_of j p.queues
 row_left j i Absent p ne = refl
@@ -113,6 +114,7 @@ off_if true i sides = off_lists i sides
 off_if false i sides = sides
 
 senders_forgot : (b : Bool) (i : Ident) (p : Plain) → (apply_all (undoubted b i) p).channels.senders ≡ off_if b i p.channels.senders
+unfolding off_if
 senders_forgot true i p = refl
 senders_forgot false i p = refl
 
@@ -125,6 +127,7 @@ senders_after m s queue p =
     ∙ ap (off_if (is_persistent m) m.ident) (senders_left m.ident s p)
 
 doubt_off : (b : Bool) (j i : Ident) (channel : List ℕ) (sides : List SenderSide) → j ≢ i → doubts j (in_doubt_of (sender_in channel (off_if b i sides))) ≡ doubts j (in_doubt_of (sender_in channel sides))
+unfolding off_if
 doubt_off true j i channel sides ne = ap (doubts j) (doubt_less channel i sides) ∙ doubts_less j i (in_doubt_of (sender_in channel sides)) ne
 doubt_off false j i channel sides ne = refl
 
@@ -169,21 +172,21 @@ standing_other k m s queue p ne =
 
 find_there : (i : Ident) (rows : List Row) (h : Row) → Mem h rows → h.message.ident ≡ i → find (has_ident i) rows ≢ None
 find_there i [] h m e = absurd m
-find_there i (r ∷ rows) h m e = by (has_ident i r) refl m
+find_there i (r ∷ rows) h m e = by (λ n. find_there i rows h n e) (has_ident i r) refl m
   where
-    by : (b : Bool) → has_ident i r ≡ b → Mem h (r ∷ rows) → cond b (Some r) (find (has_ident i) rows) ≢ None
-    by true w n = λ f. absurd cc
-    by false w (inl is) = λ f. cc (w, ap (λ (x : Row). same_ident x.message.ident i) (sym is) ∙ ap (λ (j : Ident). same_ident j i) e ∙ ident_self i)
-    by false w (inr n) = find_there i rows h n e
+    by : (Mem h rows → find (has_ident i) rows ≢ None) → (b : Bool) → has_ident i r ≡ b → Mem h (r ∷ rows) → cond b (Some r) (find (has_ident i) rows) ≢ None
+    by rest true w n = λ f. absurd cc
+    by rest false w (inl is) = λ f. cc (w, ap (λ (x : Row). same_ident x.message.ident i) (sym is) ∙ ap (λ (j : Ident). same_ident j i) e ∙ ident_self i)
+    by rest false w (inr n) = rest n
 
 row_is_there : (i : Ident) (qs : List Queue) (d : List ℕ) (h : Row) → Mem h (queue_in d qs).rows → h.message.ident ≡ i → row_of i qs ≢ None
 row_is_there i [] d h m e = absurd m
-row_is_there i (q ∷ qs) d h m e = by (find (has_ident i) q.rows) refl
+row_is_there i (q ∷ qs) d h m e = by (λ n. row_is_there i qs d h n e) (find (has_ident i) q.rows) refl
   where
-    by : (o : Option Row) → find (has_ident i) q.rows ≡ o → row_found o q.name (row_of i qs) ≢ None
-    by (Some r) w = λ f. absurd cc
-    by None w = bool_case (bytes_eq d q.name) (λ b. Mem h (if b then q else queue_in d qs).rows → row_of i qs ≢ None)
-        (λ z n. absurd (find_there i q.rows h n e w)) (λ z n. row_is_there i qs d h n e) m
+    by : (Mem h (queue_in d qs).rows → row_of i qs ≢ None) → (o : Option Row) → find (has_ident i) q.rows ≡ o → row_found o q.name (row_of i qs) ≢ None
+    by rest (Some r) w = λ f. absurd cc
+    by rest None w = bool_case (bytes_eq d q.name) (λ b. Mem h (if b then q else queue_in d qs).rows → row_of i qs ≢ None)
+        (λ z n. absurd (find_there i q.rows h n e w)) (λ z n. rest n) m
 
 -- a free row of the ident is there: the ident is present
 free_present : (k : Message) (p : Plain) (d : List ℕ) (h : Row) → Sound p → AreNamed p.queues → Mem h (stored d p).rows → h.message.ident ≡ k.ident → h.by ≡ None → standing_at k p ≡ Present

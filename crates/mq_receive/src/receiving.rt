@@ -1,6 +1,6 @@
 //! A receiver's commit of a batch.
 ghost use Rattle.std.specs.List.{AllByRecursion};
-ghost use Rattle.std.specs.Prelude.{◌≡◌, ◌+◌, ◌<◌, ◌^◌, ◌∷◌, [], ℕ, Ok, true};
+ghost use Rattle.std.specs.Prelude.{◌≡◌, ◌+◌, ◌<◌, ◌^◌, ◌∷◌, [], ℕ, List, Ok, true};
 ghost use Rattle.mq_sync.specs.declared.unit.Unit.{Unit as Luw};
 ghost use Rattle.mq_spec_state.specs.Words.{AreLow, MeetsOrWants, need};
 ghost use Rattle.mq_spec_agents.specs.Words.{IsUp, receive, receive_landed};

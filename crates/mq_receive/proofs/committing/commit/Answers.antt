@@ -45,7 +45,7 @@ returns-in-Err-write_received g c =
     let w = subst (λ (l : List Arrival). WritesBatch (batch_record c.args.channel.now c.args.unit c.args.last l) c.side_after-side.result c.make_room.new.parts (Err c.in-Err-write_received.unwritten) c.write_received.new.parts) c.as_slice-2.ensures
     c.in-Err-write_received.ensures in
     not_written c.in-Err-write_received.unwritten c.args.channel.now c.args.unit c.args.last c.args.landed c.args.bytes (batch_record c.args.channel.now c.args.unit c.args.last c.args.landed) c.side_after-side.result
-    c.args.parts.now c.make_room.new.parts c.write_received.new.parts c.give_up.new.parts c.args.effects.now.dids c.make_room.new.effects.dids refl c.requires.up e w c.give_up.ensures c.make_room.ensures.dids c.requires.tied
+    c.args.parts.now c.make_room.new.parts c.write_received.new.parts c.give_up.new.parts c.args.effects.now.dids c.make_room.new.effects.dids refl refl c.requires.up e w c.give_up.ensures c.make_room.ensures.dids c.requires.tied
 
 pub tell_received-requires : goal.tell_received-requires
 tell_received-requires g c = let long = ap (λ (l : List Arrival). length l) (c.as_slice-3.ensures ∙ sym c.as_slice.ensures) in omega (arith, long, c.in-Ok.ensures.room)
@@ -58,9 +58,9 @@ place_all-requires g c =
     let e = subst (λ (l : List Arrival). IsAwaited l c.args.bytes c.args.parts.now c.make_room.new.parts) c.as_slice.ensures c.in-Ok.ensures.ok in
     let f = subst (λ (l : List Arrival). IsForced (batch_record c.args.channel.now c.args.unit c.args.last l) (with_side c.side_after-side.result c.make_room.new.parts) (Ok tt) c.write_received.new.parts) c.as_slice-2.ensures c.in-Ok-write_received.ensures in
     let few = subst (λ (l : List Arrival). 2 * length l + 2 < 2 ^ 64) c.as_slice.ensures c.in-Ok.ensures.few in
-    subst (AreLanding c.args.landed) (sym c.return_room.ensures)
+    record { ready = subst (AreLanding c.args.landed) (sym c.return_room.ensures)
     (way_lands c.args.landed c.args.bytes (batch_record c.args.channel.now c.args.unit c.args.last c.args.landed) c.side_after-side.result c.args.parts.now c.make_room.new.parts c.write_received.new.parts
-    c.requires.up c.requires.need e f c.requires.tied c.requires.low c.requires.fits few).ready
+    c.requires.up c.requires.need e f c.requires.tied c.requires.low c.requires.fits few).ready }
 
 pub returns : goal.returns
 returns g c =
