@@ -6,7 +6,7 @@ ghost use Rattle.mq_core.specs.Writes.{arrival_dids};
 ghost use Rattle.mq_receive.specs.Placed.{dropped_at, undoubted_at, cleared_for, landed_at, landed_all, AreLanding, unexpected_in};
 
 use crate::doubts::strike_all;
-use crate::standing::lasts;
+use crate::filling::lasts;
 use mq_base::Items;
 use mq_calls::{Did, Why};
 use mq_core::{Arrival, Parts};

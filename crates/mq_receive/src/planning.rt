@@ -33,10 +33,10 @@ fn has_landed(landed: &[Arrival], ident: &Ident) -> bool
 }
 
 /// How the ident of a message stands behind those of its batch that have landed.
-fn standing_among<D: Disk>(parts: &Parts<D>, message: &Message, landed: &[Arrival]) -> Found
+fn standing_among<D: Disk>(parts: &Parts<D>, message: &Message, landed: &Items<Arrival>) -> Found
     ensures { standing_as result ≡ standing_among landed.now message.now (plain_of parts.now) }
 {
-    if has_landed(landed, &message.ident) {
+    if has_landed(landed.as_slice(), &message.ident) {
         return Found::Present;
     }
     standing(parts, message)
@@ -74,7 +74,7 @@ fn plan_next<D: Disk>(
     requires tied { Tied parts.now }
     ensures { (whole : AnyResult Landed PlainReason) (rest : List PlainMessage) → IsPlan whole channel.now landed.old (message.now ∷ rest) (plain_of parts.now) → Goes whole channel.now rest (plain_of parts.now) result landed.new }
 {
-    match standing_among(parts, message, landed.as_slice()) {
+    match standing_among(parts, message, landed) {
         Found::Present => Ok(()),
         Found::Absent => land_next(parts, channel, message, None, landed),
         Found::InDoubt { queue } => land_next(parts, channel, message, Some(queue), landed),

@@ -17,7 +17,7 @@ ghost use Rattle.mq_receive.specs.Committed.{batch_record, batch_step, IsNeed, I
 
 use crate::committing::commit;
 use crate::planning::plan;
-use crate::standing::lasts;
+use crate::filling::lasts;
 use mq_agents::{Unwritten, agent_stop};
 use mq_base::Items;
 use mq_calls::{AgentStop, PlaceFault};

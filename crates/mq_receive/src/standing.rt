@@ -6,6 +6,7 @@ ghost use Rattle.mq_spec_agents.specs.Words.{doubts, is_doubted_by, is_pending, 
 ghost use Rattle.mq_core.specs.Views.{plain_of};
 ghost use Rattle.mq_receive.specs.Standings.{standing_as};
 
+use crate::filling::lasts;
 use mq_core::Parts;
 use mq_disk::Disk;
 use mq_message::{Holder, Ident, Message};
@@ -70,13 +71,6 @@ fn is_unborn<D: Disk>(parts: &Parts<D>, ident: &Ident) -> bool
     ident.manager == parts.number
         && (parts.incarnation < ident.incarnation
             || (ident.incarnation == parts.incarnation && parts.idents < ident.number))
-}
-
-/// The message lasts.
-pub(crate) fn lasts(message: &Message) -> bool
-    ensures { result ≡ is_persistent message.now }
-{
-    message.md.persistence == 1
 }
 
 fn is_same(a: bool, b: bool) -> bool
