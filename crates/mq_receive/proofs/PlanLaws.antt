@@ -17,7 +17,7 @@ use Rattle.mq_receive.specs.Ahead.{IsAhead}
 use Rattle.mq_receive.specs.Leading.{IsBehind, Leads}
 use Rattle.mq_receive.specs.Standings.{has_landed, is_landed, standing_among, FitsAt, AreFitting, behind_all}
 use Rattle.mq_receive.specs.Arriving.{Lands}
-use Rattle.mq_receive.specs.Planned.{IsPlan, Goes}
+use Rattle.mq_receive.specs.Planned.{IsPlan, Goes, Plans}
 use Rattle.mq_receive.proofs.AheadLaws.{ahead_first, ahead_more}
 use Rattle.mq_receive.proofs.LeadLaws.{leads_first, leads_over, leads_refused, leads_more, leads_last, state_more}
 use Rattle.mq_receive.proofs.StandLaws.{standing_other, standing_own}
@@ -166,3 +166,8 @@ plan_left batch i m lt is = drop-cons batch i m lt ∙ ap (λ (x : Message). x �
 pub plan_at : (whole : Result Landed Reason) (channel : List ℕ) (done : List Arrival) (batch : List Message) (i : ℕ) (m : Message) (p : Plain) → i < length batch → m ≡ get_or batch i m → IsPlan whole channel done (drop i batch) p
     → IsPlan whole channel done (m ∷ drop (i + 1) batch) p
 plan_at whole channel done batch i m p lt is h = subst (λ (ms : List Message). IsPlan whole channel done ms p) (plan_left batch i m lt is) h
+
+-- a message that ends the plan
+pub plan_stops : (channel : List ℕ) (batch rest : List Message) (p : Plain) (fault : PlaceFault) (done : List Arrival) → Goes (landed channel batch p) channel rest p (Err fault) done → Plans channel batch p (Err fault)
+plan_stops channel batch rest p (place_faults.Refused reason) done h = h
+plan_stops channel batch rest p (place_faults.Stop stop) done h = h

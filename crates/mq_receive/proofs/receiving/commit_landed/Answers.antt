@@ -19,8 +19,8 @@ commit-requires-clause-low g c = subst AreLow (sym (ap (λ (w : CoreValue). w.pl
 pub commit-requires-clause-fits : goal.commit-requires-clause-fits
 commit-requires-clause-fits g c = subst (AreFitting c.args.landed) (sym (ap (λ (w : CoreValue). w.plain) (c.core.view_is ∙ c.begin_call.ensures))) c.requires.fits
 
-pub invariant_of-core : goal.invariant_of-core
-invariant_of-core g c =
+pub invariant_of-core-in-Err : goal.invariant_of-core-in-Err
+invariant_of-core-in-Err g c =
     ends_tied c.in-Err.unwritten (batch_part c.args.channel.now c.args.unit c.args.last c.args.landed (plain_of c.core.inside.parts)) (batch_record c.args.channel.now c.args.unit c.args.last c.args.landed)
     c.core.inside.parts c.commit.new.parts c.core.inside.effects.dids c.commit.new.effects.dids c.in-Err.ensures
 
@@ -38,8 +38,8 @@ returns-in-Err-clause-told g c =
     c.agent_of-agent.ensures
     (record { plain = ap (λ (w : CoreValue). w.plain) v; faults = ap (λ (w : CoreValue). w.faults) v; log = ap (λ (w : CoreValue). w.log) v; told = ap (λ (w : CoreValue). w.delta) v }) c.in-Err.ensures
 
-pub invariant_of-core-2 : goal.invariant_of-core-2
-invariant_of-core-2 g c = c.in-Ok.ensures.tied
+pub invariant_of-core : goal.invariant_of-core
+invariant_of-core g c = c.in-Ok.ensures.tied
 
 pub returns-clause-meets : goal.returns-clause-meets
 returns-clause-meets g c =

@@ -42,15 +42,15 @@ pub returns-in-None-clause-meets : goal.returns-in-None-clause-meets
 returns-in-None-clause-meets g c =
     let full = subst (λ (l : List Arrival). is_full (need (batch_record c.args.channel.now c.args.unit c.args.last l)) (plain_of c.core.inside.parts) ≡ true) c.as_slice-2.ensures (c.in-None.ensures c.args.channel.now c.args.unit c.args.last) in
     let here = ap (λ (w : CoreValue). is_full (need (batch_record c.args.channel.now c.args.unit c.args.last c.args.landed)) w.plain) (sym c.core.view_is) ∙ full in
-    refuses c.args.core.now c.begin_call-2.new.self (receive_landed c.args.channel.now c.args.unit c.args.last (Ok (all_landed c.args.landed)) c.args.core.now.plain) reasons.ResourceProblem
-    (has_none c.args.channel.now c.args.unit c.args.last c.args.landed c.args.core.now.plain here) (ap manager_of c.begin_call-2.ensures)
+    refuses c.args.core.now c.begin_call-in-None.new.self (receive_landed c.args.channel.now c.args.unit c.args.last (Ok (all_landed c.args.landed)) c.args.core.now.plain) reasons.ResourceProblem
+    (has_none c.args.channel.now c.args.unit c.args.last c.args.landed c.args.core.now.plain here) (ap manager_of c.begin_call-in-None.ensures)
 
 pub returns-in-None-clause-told : goal.returns-in-None-clause-told
 returns-in-None-clause-told g c =
     let full = subst (λ (l : List Arrival). is_full (need (batch_record c.args.channel.now c.args.unit c.args.last l)) (plain_of c.core.inside.parts) ≡ true) c.as_slice-2.ensures (c.in-None.ensures c.args.channel.now c.args.unit c.args.last) in
     let here = ap (λ (w : CoreValue). is_full (need (batch_record c.args.channel.now c.args.unit c.args.last c.args.landed)) w.plain) (sym c.core.view_is) ∙ full in
-    refuses_told c.args.core.now c.begin_call-2.new.self (receive_landed c.args.channel.now c.args.unit c.args.last (Ok (all_landed c.args.landed)) c.args.core.now.plain) reasons.ResourceProblem
-    (has_none c.args.channel.now c.args.unit c.args.last c.args.landed c.args.core.now.plain here) (ap (λ (w : CoreValue). w.log) c.begin_call-2.ensures)
+    refuses_told c.args.core.now c.begin_call-in-None.new.self (receive_landed c.args.channel.now c.args.unit c.args.last (Ok (all_landed c.args.landed)) c.args.core.now.plain) reasons.ResourceProblem
+    (has_none c.args.channel.now c.args.unit c.args.last c.args.landed c.args.core.now.plain here) (ap (λ (w : CoreValue). w.log) c.begin_call-in-None.ensures)
 
 pub returns-in-Some-clause-meets : goal.returns-in-Some-clause-meets
 returns-in-Some-clause-meets g c =
