@@ -1,6 +1,6 @@
 -- What receivers have hardened, and what the log has, say nothing of how a batch lands.
-use Rattle.std.proofs.Common.{◌≡◌, ℕ, ◌+◌, Bool, true, false, List, [], ◌∷◌, ◌++◌, refl, ap, sym, subst, ◌∙◌}
-use Rattle.std.specs.Prelude.{ℤ, Option, Some, None, not, ◌&&◌, ◌||◌, if◌then◌else◌, is_some, flat_map}
+use Rattle.std.proofs.Common.{◌≡◌, ℕ, Bool, true, false, List, [], ◌∷◌, refl, ap, sym, subst, ◌∙◌}
+use Rattle.std.specs.Prelude.{ℤ, Option, Some, None, not, ◌&&◌, if◌then◌else◌, is_some, flat_map}
 use Rattle.mq_message.specs.declared.place.Holder.TheVariants as holders
 use Rattle.mq_objects.specs.declared.object.TriggerType.{TriggerType}
 use Rattle.mq_objects.specs.declared.object.TriggerType.TheVariants as triggers
@@ -8,14 +8,14 @@ use Rattle.mq_objects.specs.Names.{local_of, process_of}
 use Rattle.mq_spec_state.specs.State.{LogState}
 use Rattle.mq_spec_state.specs.State.Change.{SetReceiver}
 use Rattle.mq_spec_state.specs.Condition.{by_type, is_served}
-use Rattle.mq_spec_state.specs.Words.{Ident, Message, Holder, LocalQueue, ReceiverData, ReceiverSide, Plain, Change, stored, has_priority, is_persistent, condition, try_if, place, set_receiver, apply, apply_all}
+use Rattle.mq_spec_state.specs.Words.{Ident, Message, Holder, LocalQueue, ReceiverData, ReceiverSide, Plain, stored, has_priority, is_persistent, condition, try_if, place, set_receiver, apply, apply_all}
 use Rattle.mq_spec_manager.specs.Words.{placed}
-use Rattle.mq_spec_agents.specs.Words.{RowAt, row_of, is_doubted_by, is_pending, is_unborn, same_flag, Standing, Absent, InDoubtAt, Present, standing_by, standing_at, drop_row, undoubted, drop_changes}
+use Rattle.mq_spec_agents.specs.Words.{RowAt, row_of, is_doubted_by, same_flag, Standing, Absent, InDoubtAt, Present, standing_by, drop_row, undoubted}
 use Rattle.mq_law_manager.proofs.Units.{behind}
 use Rattle.mq_law_manager.proofs.Receiving.{with_log, log_aside}
 use Rattle.mq_core.specs.declared.parts.Arrival.{Arrival}
 use Rattle.mq_core.specs.Writes.{standing_of, arrival_changes}
-use Rattle.mq_receive.specs.Standings.{FitsAt, AreFitting, behind_all}
+use Rattle.mq_receive.specs.Standings.{AreFitting, behind_all}
 use Rattle.mq_receive.proofs.AheadLaws.{dropped_as}
 
 abbrev pub with_side : List ReceiverSide → Plain → Plain

@@ -1,27 +1,23 @@
 -- A batch whose messages wait for their places: what ties the parts, and what is seen of them.
-use Rattle.std.proofs.Common.{◌≡◌, ℕ, ◌+◌, ◌<◌, ◌≤◌, ◌^◌, Bool, true, false, cond, List, [], ◌∷◌, ◌++◌, length, refl, ap, arith, sym, subst, ◌∙◌}
-use Rattle.std.specs.Prelude.{Option, Some, None, Ok, Err, IsSome, is_some}
+use Rattle.std.proofs.Common.{◌≡◌, ℕ, ◌+◌, ◌≤◌, ◌^◌, Bool, true, false, cond, List, [], ◌∷◌, length, refl, ap, arith, sym, subst, ◌∙◌}
+use Rattle.std.specs.Prelude.{Option, Some, None, IsSome, is_some}
 use Rattle.std.specs.List.{AllByRecursion}
 use Rattle.std.specs.Str.{bytes_eq}
-use Rattle.mq_disk.specs.declared.cutter.Stop.{Stop}
-use Rattle.mq_objects.specs.declared.object.LocalQueue.{LocalQueue}
 use Rattle.mq_objects.specs.declared.object.Definitions.{Definitions}
 use Rattle.mq_log.specs.State.{LogState}
 use Rattle.mq_record.specs.Room.{Buffered}
 use Rattle.mq_spec_state.specs.State.{Queue as StateQueue}
-use Rattle.mq_spec_state.specs.Words.{LogRecord, Plain, AreLow, local_of, need, apply_all, puts_to}
+use Rattle.mq_spec_state.specs.Words.{Plain, AreLow, local_of, apply_all}
 use Rattle.mq_place.specs.States.{QueueState, QueueStates, queues_of, state_in, change_state, expecting}
 use Rattle.mq_core.specs.declared.parts.Arrival.{Arrival}
-use Rattle.mq_core.specs.declared.parts.ChannelEnds.{ChannelEnds}
 use Rattle.mq_core.specs.Views.{PartsValue, plain_of}
 use Rattle.mq_core.specs.Ties.{Tied, AreCounted, HasCounts, mode_is_up, state_lanes, pending_at, one_if, times_in_queues, waits}
 use Rattle.mq_core.specs.Placing.{with_states}
-use Rattle.mq_core.specs.Forced.{IsForced, HasMoreRoom}
+use Rattle.mq_core.specs.Forced.{HasMoreRoom}
 use Rattle.mq_core.specs.Writes.{standing_of, arrival_changes}
 use Rattle.mq_core.proofs.PlaceLaws.{is_some_of, seen_kept, pending_changed}
 use Rattle.mq_core.proofs.PutLaws.{queues_same, kept_queue, counts_low}
-use Rattle.mq_moves.specs.Moving.{given_back}
-use Rattle.mq_receive.specs.Standings.{FitsAt, AreFitting}
+use Rattle.mq_receive.specs.Standings.{AreFitting}
 use Rattle.mq_receive.specs.Placed.{expected_all, unexpected_in, puts_of, TiedOnWay, IsAwaited}
 use Rattle.mq_receive.specs.Committed.{unawaited}
 use Rattle.mq_receive.proofs.AheadLaws.{with_both, beside_landed}

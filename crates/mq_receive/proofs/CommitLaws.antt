@@ -1,37 +1,29 @@
 -- How a receiver's commit ends.
-use Rattle.std.proofs.Common.{◌≡◌, ℕ, ◌+◌, ◌*◌, ◌<◌, ◌≤◌, ◌^◌, true, List, [], ◌∷◌, ◌++◌, length, refl, ap, arith, sym, subst, ◌∙◌}
-use Rattle.std.specs.Prelude.{Option, Some, Ok, Err, flat_map}
-use Rattle.mq_base.specs.Outside.{Rose}
-use Rattle.mq_disk.specs.declared.cutter.Stop.{Stop}
-use Rattle.mq_disk.specs.declared.cutter.Stop.TheVariants as stops
+use Rattle.std.proofs.Common.{◌≡◌, ℕ, ◌+◌, ◌*◌, ◌<◌, ◌^◌, true, List, [], ◌∷◌, ◌++◌, length, ap, arith, sym, subst, ◌∙◌}
+use Rattle.std.specs.Prelude.{Some, Ok, flat_map}
 use Rattle.mq_log.specs.State.{LogState}
-use Rattle.mq_log.specs.Force.{Stops}
 use Rattle.mq_record.specs.Room.{Buffered}
 use Rattle.mq_spec_state.specs.State.Change.{SetReceiver}
-use Rattle.mq_spec_state.specs.Words.{AreLow, Change, Did, LogRecord, Luw, Plain, Part, ReceiverData, ReceiverSide, freeze, logged, need, note_of, set_receiver, written, apply, apply_all}
+use Rattle.mq_spec_state.specs.Words.{AreLow, Did, LogRecord, Luw, Plain, ReceiverSide, logged, need, set_receiver, written, apply, apply_all}
 use Rattle.mq_core.specs.declared.parts.Arrival.{Arrival}
 use Rattle.mq_core.specs.declared.parts.ChannelEnds.{ChannelEnds}
-use Rattle.mq_core.specs.declared.parts.StoppedWrite.{StoppedWrite}
-use Rattle.mq_core.specs.declared.parts.StoppedWrite.TheVariants as writes
-use Rattle.mq_core.specs.Views.{PartsValue, plain_of, frozen_of, noted}
+use Rattle.mq_core.specs.Views.{PartsValue, plain_of}
 use Rattle.mq_core.specs.Ties.{Tied, mode_is_up}
-use Rattle.mq_core.specs.Forced.{IsForced, HasMoreRoom, downed}
-use Rattle.mq_core.specs.Values.{bodies_in, behind_record, pending_record}
-use Rattle.mq_core.specs.Writes.{arrival_changes, all_landed}
-use Rattle.mq_core.proofs.ForceLaws.{forced_view, frozen_view, tied_downed}
+use Rattle.mq_core.specs.Forced.{IsForced, HasMoreRoom}
+use Rattle.mq_core.specs.Values.{bodies_in, behind_record}
+use Rattle.mq_core.specs.Writes.{arrival_changes}
+use Rattle.mq_core.proofs.ForceLaws.{forced_view}
 use Rattle.mq_core.proofs.PutLaws.{tied_roomier, roomier_view}
-use Rattle.mq_core.proofs.WriteLaws.{roomier_bodies, forced_bodies, stopped_bodies}
+use Rattle.mq_core.proofs.WriteLaws.{roomier_bodies, forced_bodies}
 use Rattle.mq_agents.specs.Written.{with_receivers}
-use Rattle.mq_agents.specs.declared.hardening.Unwritten.{Unwritten}
-use Rattle.mq_agents.specs.declared.hardening.Unwritten.TheVariants as unwritten
 use Rattle.mq_agents.proofs.EndLaws.{with_ends, ends_view}
 use Rattle.mq_law_manager.proofs.Units.{behind}
 use Rattle.mq_moves.specs.Moving.{given_back}
 use Rattle.mq_receive.specs.Standings.{AreFitting, behind_all}
-use Rattle.mq_receive.specs.Placed.{IsAwaited, landed_all, AreLanding}
-use Rattle.mq_receive.specs.Committed.{batch_part, side_after, with_side, WritesBatch, unawaited, given_up, IsDone, IsUnchanged, IsBroken, Commits}
+use Rattle.mq_receive.specs.Placed.{IsAwaited, landed_all}
+use Rattle.mq_receive.specs.Committed.{batch_part, side_after, with_side, IsDone, IsUnchanged}
 use Rattle.mq_receive.proofs.AsideLaws.{set_first, fits_aside}
-use Rattle.mq_receive.proofs.AwaitLaws.{IsOnWay, defined_all, on_way_counts, on_way_tied, awaited_view, unawaited_more}
+use Rattle.mq_receive.proofs.AwaitLaws.{IsOnWay, defined_all, on_way_counts, on_way_tied, awaited_view}
 use Rattle.mq_receive.proofs.PlacedLaws.{HasLanded, lands_all, landed_tied}
 
 -- It found no memory

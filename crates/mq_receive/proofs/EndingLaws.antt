@@ -1,17 +1,15 @@
 -- How the call of a receiver's commit meets its step.
-use Rattle.std.proofs.Common.{◌≡◌, ℕ, ◌+◌, ◌<◌, ◌≤◌, Bool, true, false, List, [], ◌∷◌, ◌++◌, refl, ap, arith, sym, subst, ◌∙◌}
-use Rattle.std.specs.Prelude.{Option, Some, None, Result, Ok, Err, if◌then◌else◌}
+use Rattle.std.proofs.Common.{◌≡◌, ℕ, ◌+◌, ◌<◌, Bool, true, false, List, [], ◌++◌, refl, ap, arith, sym, subst, ◌∙◌}
+use Rattle.std.specs.Prelude.{Option, Some, None, Ok, Err, if◌then◌else◌}
 use Rattle.mq_base.specs.Outside.{Rose}
 use Rattle.mq_disk.specs.declared.cutter.Stop.{Stop}
-use Rattle.mq_disk.specs.declared.cutter.Stop.TheVariants as stops
 use Rattle.mq_log.specs.Force.{Stops}
 use Rattle.mq_codes.specs.declared.reason.Reason.TheVariants as reasons
-use Rattle.mq_calls.specs.declared.commands.Halt.TheVariants as halts
 use Rattle.mq_calls.specs.declared.agents.AgentStop.TheVariants as agent_stops
 use Rattle.mq_calls.specs.declared.agents.PlaceFault.TheVariants as place_faults
 use Rattle.mq_spec_state.specs.Meeting.Wants.{Anywhere}
-use Rattle.mq_spec_state.specs.Words.{AgentStop, Change, Did, LogRecord, Luw, ManagerValue, MeetsOrWants, Message, Part, PlaceFault, Plain, Reason, Step, Refuse, Do, untouched, apply_all, freeze, is_full, logged, need, note_of, refusal, refused_or, when}
-use Rattle.mq_spec_agents.specs.Words.{Landed, landed, receive, receive_landed}
+use Rattle.mq_spec_state.specs.Words.{AgentStop, Did, LogRecord, Luw, MeetsOrWants, Message, Part, PlaceFault, Plain, Reason, Step, Refuse, Do, untouched, apply_all, freeze, is_full, logged, need, note_of, refused_or}
+use Rattle.mq_spec_agents.specs.Words.{landed, receive, receive_landed}
 use Rattle.mq_core.specs.declared.parts.Arrival.{Arrival}
 use Rattle.mq_core.specs.Views.{PartsValue, plain_of}
 use Rattle.mq_core.specs.Ties.{Tied}
@@ -23,7 +21,7 @@ use Rattle.mq_agents.specs.declared.hardening.Unwritten.{Unwritten}
 use Rattle.mq_agents.specs.declared.hardening.Unwritten.TheVariants as unwritten
 use Rattle.mq_agents.proofs.WriteLaws.{wrote_as, broke_as, broke_told, halt_stopped}
 use Rattle.mq_receive.specs.Planned.{Plans}
-use Rattle.mq_receive.specs.Committed.{batch_record, batch_part, batch_step, IsDone, IsUnchanged, IsBroken, Commits}
+use Rattle.mq_receive.specs.Committed.{batch_record, batch_part, batch_step, IsDone, Commits}
 use Rattle.mq_receive.proofs.PlanLaws.{plan_ends}
 
 -- The parts, as they are seen of the manager

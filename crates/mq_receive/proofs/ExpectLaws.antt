@@ -1,18 +1,10 @@
 -- Messages of a batch wait for their places, and no more.
-use Rattle.std.proofs.Common.{◌≡◌, ℕ, zero, suc, ◌+◌, ◌<◌, ◌≤◌, ◌^◌, Bool, true, false, cond, List, [], ◌∷◌, ◌++◌, length, get_or, take, drop, refl, ap, arith, sym, subst, ◌∙◌, add-one}
-use Rattle.std.specs.Prelude.{Option, Some, None, IsSome, is_some}
-use Rattle.std.specs.List.{AllByRecursion}
+use Rattle.std.proofs.Common.{◌≡◌, ℕ, zero, suc, ◌+◌, ◌<◌, Bool, true, false, cond, List, [], ◌∷◌, ◌++◌, length, get_or, take, refl, ap, arith, sym, ◌∙◌, add-one}
 use Rattle.std.specs.Str.{bytes_eq}
-use Rattle.mq_objects.specs.declared.object.LocalQueue.{LocalQueue}
-use Rattle.mq_spec_state.specs.State.{Queue as StateQueue}
-use Rattle.mq_spec_state.specs.Words.{Plain, AreLow, local_of, puts_to}
-use Rattle.mq_place.specs.States.{QueueState, QueueStates, queues_of, state_in, change_state, expecting, unpended}
+use Rattle.mq_place.specs.States.{QueueState, QueueStates, change_state, expecting, unpended}
 use Rattle.mq_core.specs.declared.parts.Arrival.{Arrival}
-use Rattle.mq_core.specs.Views.{PartsValue, plain_of}
-use Rattle.mq_core.specs.Ties.{Tied, AreCounted, HasCounts, state_lanes, local_lanes, pending_at, one_if, waits}
-use Rattle.mq_core.proofs.PlaceLaws.{name_is, same_name, some_same, state_changed, state_other, seen_kept, pending_changed}
-use Rattle.mq_core.proofs.PutLaws.{queues_same, kept_queue, unpend_expect, counts_low}
-use Rattle.mq_receive.specs.Placed.{expected_all, unexpected_all, unexpected_in, puts_of}
+use Rattle.mq_core.proofs.PutLaws.{unpend_expect}
+use Rattle.mq_receive.specs.Placed.{expected_all, unexpected_all, unexpected_in}
 
 -- two queues that wait for one more each, in any order
 swapped : (a b : List ℕ) (qs : List QueueState) → change_state a expecting (change_state b expecting qs) ≡ change_state b expecting (change_state a expecting qs)

@@ -1,10 +1,10 @@
 -- The row that has an ident, as the queues of a manager find it.
-use Rattle.std.proofs.Common.{◌≡◌, ℕ, Bool, true, false, cond, List, [], ◌∷◌, refl, ap, sym, subst, ◌∙◌}
+use Rattle.std.proofs.Common.{◌≡◌, ℕ, Bool, true, false, List, [], ◌∷◌, refl, ap, sym, ◌∙◌}
 use Rattle.std.specs.Prelude.{Option, Some, None, find, option_map, if◌then◌else◌}
 use Rattle.std.specs.Str.{bytes_eq}
 use Rattle.mq_spec_state.specs.Words.{Ident, Message, Row, Plain, has_ident}
 use Rattle.mq_spec_agents.specs.Words.{RowAt, Standing, row_found, row_of, standing_by, standing_at}
-use Rattle.mq_place.specs.States.{QueueState, Located, queues_of, has_name, state_in, row_at, IsUnnamed, AreApart}
+use Rattle.mq_place.specs.States.{QueueState, Located, queues_of, state_in, row_at, IsUnnamed, AreApart}
 use Rattle.mq_place.specs.States.{row_found as place_found}
 use Rattle.mq_core.specs.Views.{PartsValue, plain_of}
 use Rattle.mq_law_manager.proofs.Named.{name_is, name_self}

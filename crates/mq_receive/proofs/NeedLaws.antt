@@ -1,11 +1,11 @@
 -- What the record of a batch takes of the log.
 use Rattle.std.proofs.Common.{◌≡◌, ℕ, ◌+◌, ◌<◌, ◌≤◌, ◌^◌, Bool, true, false, cond, List, [], ◌∷◌, ◌++◌, length, get_or, drop, refl, ap, arith, sym, subst, ◌∙◌}
-use Rattle.std.specs.Prelude.{Option, Some, None, sum_by, nat_lt, ◌&&◌, is_some, if◌then◌else◌}
+use Rattle.std.specs.Prelude.{Option, Some, None, sum_by, is_some, if◌then◌else◌}
 use Rattle.std.specs.List.{flat_map, AllByRecursion}
 use Rattle.std.proofs.lemmas.Bool.Decides.{nat_tests}
 use Rattle.std.proofs.lemmas.List.Sums.{sum_by-cons}
 use Rattle.std.proofs.lemmas.Grind.{flat_map-append}
-use Rattle.mq_spec_state.specs.Words.{Add, Dest, LogRecord, Luw, Message, Plain, add_size, is_full, is_persistent, need, put_bytes, route_size}
+use Rattle.mq_spec_state.specs.Words.{Add, Dest, Luw, Plain, add_size, is_full, is_persistent, need, put_bytes, route_size}
 use Rattle.mq_core.specs.declared.parts.Arrival.{Arrival}
 use Rattle.mq_core.specs.Writes.{arrival_adds}
 use Rattle.mq_receive.specs.Filling.{CanStand, adds_size}

@@ -1,27 +1,24 @@
 -- The messages of a batch take their places: each can, all is tied behind them, and the plain manager has done what they do.
-use Rattle.std.proofs.Common.{◌≡◌, ℕ, ◌+◌, ◌-◌, ◌<◌, ◌≤◌, ◌^◌, Bool, true, false, cond, List, [], ◌∷◌, ◌++◌, refl, ap, arith, sym, subst, ◌∙◌, inl, inr}
-use Rattle.std.specs.Prelude.{Option, Some, None, IsSome, find, not, ◌&&◌, ◌||◌, if◌then◌else◌, flat_map}
+use Rattle.std.proofs.Common.{◌≡◌, ℕ, ◌+◌, ◌-◌, ◌<◌, ◌≤◌, ◌^◌, Bool, true, false, cond, List, [], ◌∷◌, refl, ap, arith, sym, subst, ◌∙◌, inl, inr}
+use Rattle.std.specs.Prelude.{Option, Some, None, find, not, ◌&&◌, ◌||◌, if◌then◌else◌, flat_map}
 use Rattle.std.specs.List.{list_any, AllByRecursion}
 use Rattle.std.specs.Str.{bytes_eq}
 use Rattle.std.proofs.lemmas.Bool.Decides.{nat_tests}
 use Rattle.mq_calls.specs.declared.state.Item.TheVariants.{Put, Take}
 use Rattle.mq_spec_state.specs.State.{Queue as StateQueue}
-use Rattle.mq_spec_state.specs.State.Change.{Leave, Undoubt}
-use Rattle.mq_spec_state.specs.Words.{Ident, Message, Row, Item, Connection, LocalQueue, Plain, Among, has_ident, same_ident, keep, kept_in, selects, queue_in, local_of, is_persistent, off_lists, puts_to, is_by_priority, condition, made_due, depth_type, apply, apply_all, place, try_trigger}
+use Rattle.mq_spec_state.specs.Words.{Ident, Message, Row, Item, Connection, LocalQueue, Plain, Among, has_ident, same_ident, keep, kept_in, selects, queue_in, local_of, is_persistent, off_lists, puts_to, is_by_priority, condition, made_due, depth_type, apply_all}
 use Rattle.mq_spec_manager.specs.Words.{placed}
-use Rattle.mq_spec_agents.specs.Words.{RowAt, row_found, row_of, is_pending, is_unborn, has_put, is_doubted_by, same_flag, Standing, Absent, InDoubtAt, Present, standing_by, standing_at, drop_row, undoubted, drop_changes}
+use Rattle.mq_spec_agents.specs.Words.{RowAt, row_found, row_of, is_pending, is_unborn, has_put, is_doubted_by, same_flag, Standing, Absent, InDoubtAt, Present, standing_by, drop_row, undoubted}
 use Rattle.mq_queue.specs.Queues.{Lacks}
-use Rattle.mq_log.specs.State.{LogState}
-use Rattle.mq_place.specs.States.{QueueState, queues_of, state_in, change_state, on_queue, on_queues, arrived}
+use Rattle.mq_place.specs.States.{QueueState, queues_of, state_in, on_queue, on_queues, arrived}
 use Rattle.mq_core.specs.declared.parts.Arrival.{Arrival}
 use Rattle.mq_core.specs.Views.{PartsValue, plain_of}
-use Rattle.mq_core.specs.Ties.{Tied, TiedBut, TiedQueues, TiedIdents, IsReady, AreCounted, HasCounts, mode_is_up, one_if, times_in_rows, times_in_queues, times_in_unit, times_in_units, waits, state_lanes, local_lanes, pending_at}
-use Rattle.mq_core.specs.Placing.{with_states, arrived_at, due_if, put_in_place}
+use Rattle.mq_core.specs.Ties.{Tied, TiedIdents, IsReady, AreCounted, HasCounts, mode_is_up, one_if, times_in_rows, times_in_queues, times_in_unit, times_in_units, waits, state_lanes, local_lanes, pending_at}
+use Rattle.mq_core.specs.Placing.{arrived_at, due_if, put_in_place}
 use Rattle.mq_core.specs.Writes.{standing_of, arrival_changes}
-use Rattle.mq_core.proofs.PlaceLaws.{name_is, same_name, state_changed, seen_kept, pending_changed, times_changed, times_insert, nowhere_of, placed_view, arrived_there, waits_less, counts_placed}
+use Rattle.mq_core.proofs.PlaceLaws.{name_is, same_name, seen_kept, pending_changed, times_changed, times_insert, nowhere_of, placed_view, arrived_there, waits_less, counts_placed}
 use Rattle.mq_core.proofs.ForceLaws.{seen_on, times_on, times_keep}
 use Rattle.mq_core.proofs.WriteLaws.{placed_log}
-use Rattle.mq_agents.specs.Removing.{removed_one}
 use Rattle.mq_agents.proofs.RemoveLaws.{removed_view}
 use Rattle.mq_agents.proofs.EndLaws.{with_ends, ends_view}
 use Rattle.mq_law_manager.specs.Facts.{Mem, AreNamed}

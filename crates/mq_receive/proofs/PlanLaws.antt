@@ -1,21 +1,20 @@
 -- The plan of a batch, message by message.
-use Rattle.std.proofs.Common.{◌≡◌, ◌≢◌, ℕ, suc, ◌+◌, ◌<◌, length, get_or, drop, add-one, drop-cons, Bool, true, false, List, [], ◌∷◌, ◌++◌, refl, ap, sym, subst, ◌∙◌}
+use Rattle.std.proofs.Common.{◌≡◌, ℕ, suc, ◌+◌, ◌<◌, length, get_or, drop, add-one, drop-cons, Bool, true, false, List, [], ◌∷◌, ◌++◌, refl, ap, sym, subst, ◌∙◌}
 use Rattle.std.specs.Prelude.{Option, Some, None, Result, Ok, Err, ◌||◌, ◌&&◌, if◌then◌else◌, flat_map}
-use Rattle.std.specs.List.{list_any}
 use Rattle.std.proofs.lemmas.List.{append-nil}
 use Rattle.mq_calls.specs.declared.agents.PlaceFault.TheVariants as place_faults
-use Rattle.mq_spec_state.specs.Words.{PlaceFault, Add, Change, Did, Refuse, Ident, Message, Reason, Plain, Luw, Step, same_ident, is_persistent, local_of, apply_all}
-use Rattle.mq_spec_agents.specs.Words.{Landing, Landed, RowAt, Standing, Absent, InDoubtAt, Present, standing_by, standing_at, is_present, row_of, is_pending, is_unborn, is_doubted_by, same_flag, land, landed, nothing_landed, receive, receive_landed}
+use Rattle.mq_spec_state.specs.Words.{PlaceFault, Add, Change, Did, Refuse, Ident, Message, Reason, Plain, Luw, Step, same_ident, is_persistent, apply_all}
+use Rattle.mq_spec_agents.specs.Words.{Landed, RowAt, Standing, Absent, InDoubtAt, Present, standing_by, standing_at, is_present, row_of, is_pending, is_unborn, is_doubted_by, same_flag, land, landed, receive, receive_landed}
 use Rattle.mq_law_manager.specs.Facts.{Sound, AreNamed}
-use Rattle.mq_law_manager.proofs.Lists.{bool_case, ident_yes, ident_self, ident_no}
+use Rattle.mq_law_manager.proofs.Lists.{ident_yes, ident_self}
 use Rattle.mq_law_manager.proofs.Receiving.{IsStanding, IsLanding, standing_is, land_is, land_sound}
 use Rattle.mq_law_manager.proofs.QueueNames.{all_named}
 use Rattle.mq_law_manager.proofs.Units.{behind}
 use Rattle.mq_core.specs.declared.parts.Arrival.{Arrival}
 use Rattle.mq_core.specs.Writes.{landing_of, standing_of, arrival_changes, all_landed}
 use Rattle.mq_receive.specs.Ahead.{IsAhead}
-use Rattle.mq_receive.specs.Leading.{IsBehind, Leads}
-use Rattle.mq_receive.specs.Standings.{has_landed, is_landed, standing_among, FitsAt, AreFitting, behind_all}
+use Rattle.mq_receive.specs.Leading.{Leads}
+use Rattle.mq_receive.specs.Standings.{has_landed, standing_among, FitsAt, AreFitting, behind_all}
 use Rattle.mq_receive.specs.Arriving.{Lands}
 use Rattle.mq_receive.specs.Planned.{IsPlan, Goes, Plans}
 use Rattle.mq_receive.proofs.AheadLaws.{ahead_first, ahead_more}

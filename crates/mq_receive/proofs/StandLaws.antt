@@ -5,20 +5,16 @@ use Rattle.std.specs.List.{list_any}
 use Rattle.std.specs.Str.{bytes_eq}
 use Rattle.mq_message.specs.declared.place.Holder.TheVariants as holders
 use Rattle.mq_spec_state.specs.State.{Queue}
-use Rattle.mq_spec_state.specs.State.Change.{Leave, Undoubt}
-use Rattle.mq_spec_state.specs.Words.{Ident, Message, Row, Holder, InDoubt, Plain, Channels, SenderSide, Among, has_ident, same_ident, keep, insert_row, set_queue, kept_in, selects, queue_in, stored, sender_in, in_doubt_of, is_persistent, off_lists, less_ident, local_of, lane_of, new_row, placed_in, place, try_if, made_due, depth_type, condition, apply, apply_all}
+use Rattle.mq_spec_state.specs.Words.{Ident, Message, Row, Holder, InDoubt, Plain, SenderSide, Among, has_ident, same_ident, keep, insert_row, set_queue, kept_in, selects, queue_in, stored, sender_in, in_doubt_of, is_persistent, off_lists, less_ident, local_of, lane_of, new_row, placed_in, place, try_if, made_due, depth_type, condition, apply_all}
 use Rattle.mq_spec_manager.specs.Words.{placed}
-use Rattle.mq_spec_agents.specs.Words.{RowAt, row_found, row_of, doubts, is_doubted_by, is_pending, is_unborn, same_flag, Standing, Absent, InDoubtAt, Present, standing_by, standing_at, is_present, drop_row, undoubted, drop_changes, land_changes}
+use Rattle.mq_spec_agents.specs.Words.{RowAt, row_found, row_of, doubts, is_doubted_by, is_pending, is_unborn, same_flag, Standing, Absent, InDoubtAt, Present, standing_by, standing_at, is_present, drop_row, undoubted, drop_changes}
 use Rattle.mq_law_manager.specs.Facts.{Mem, Sound, AreNamed}
 use Rattle.mq_law_manager.proofs.Lists.{bool_case, ident_yes, ident_self, ident_no, mem_inserted, one_row}
-use Rattle.mq_law_manager.proofs.Named.{name_is, name_yes, name_self, found_name, queue_set, doubt_less}
+use Rattle.mq_law_manager.proofs.Named.{name_is, name_yes, found_name, queue_set, doubt_less}
 use Rattle.mq_law_manager.proofs.Steps.{among_other}
 use Rattle.mq_law_manager.proofs.Receiving.{IsStanding, row_there, land_sound}
 use Rattle.mq_law_manager.proofs.QueueNames.{all_named}
-use Rattle.mq_core.specs.declared.parts.Arrival.{Arrival}
-use Rattle.mq_core.specs.Writes.{landing_of, standing_of, arrival_changes}
-use Rattle.mq_receive.specs.Ahead.{IsBeside}
-use Rattle.mq_receive.proofs.AheadLaws.{with_both, beside_landed, beside_placed, dropped_as}
+use Rattle.mq_receive.proofs.AheadLaws.{with_both, beside_landed, dropped_as}
 
 -- A search by ident passes over rows of others
 

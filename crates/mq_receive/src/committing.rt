@@ -1,19 +1,16 @@
 //! A receiver's commit of messages that have landed: one forced record, and then they take their places.
 ghost use Rattle.std.specs.List.{AllByRecursion};
 ghost use Rattle.std.specs.Prelude.{◌≡◌, ◌+◌, ◌*◌, ◌<◌, ◌≤◌, ◌^◌, ◌∷◌, ◌++◌, [], true, length, flat_map};
-ghost use Rattle.mq_spec_state.specs.Words.{AreLow, MeetsOrWants, need, record_size};
-ghost use Rattle.mq_spec_agents.specs.Words.{IsUp};
-ghost use Rattle.mq_agents.specs.Ends.{by_place};
+ghost use Rattle.mq_spec_state.specs.Words.{AreLow, need};
 ghost use Rattle.mq_moves.specs.Moving.{given_back};
 ghost use Rattle.mq_core.specs.Forced.{IsForced};
 ghost use Rattle.mq_core.specs.Ties.{Tied, mode_is_up};
-ghost use Rattle.mq_core.specs.Values.{manager_of, WritesLog};
 ghost use Rattle.mq_core.specs.Views.{plain_of};
 ghost use Rattle.mq_core.specs.Writes.{arrival_dids};
 ghost use Rattle.mq_calls.specs.declared.deltas.Did.TheVariants as did;
 ghost use Rattle.mq_receive.specs.Filling.{CanStand};
 ghost use Rattle.mq_receive.specs.Standings.{AreFitting};
-ghost use Rattle.mq_receive.specs.Committed.{batch_record, batch_part, batch_step, side_after, with_side, WritesBatch, given_up, Commits};
+ghost use Rattle.mq_receive.specs.Committed.{batch_record, batch_part, side_after, WritesBatch, given_up, Commits};
 
 use crate::filling::put_received;
 use crate::placing::{place_all, tell_landed, unexpect_all};

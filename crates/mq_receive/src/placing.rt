@@ -1,6 +1,5 @@
 //! The messages of a batch take their places.
 ghost use Rattle.std.specs.Prelude.{◌≡◌, ◌+◌, ◌*◌, ◌≤◌, ◌∷◌, ◌++◌, [], length, flat_map};
-ghost use Rattle.mq_unit.specs.Told.{told_all};
 ghost use Rattle.mq_core.specs.Ties.{IsReady};
 ghost use Rattle.mq_core.specs.Writes.{arrival_dids};
 ghost use Rattle.mq_receive.specs.Placed.{dropped_at, undoubted_at, cleared_for, landed_at, landed_all, AreLanding, unexpected_in};

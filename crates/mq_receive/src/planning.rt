@@ -1,5 +1,5 @@
 //! The plan of a receiver's commit: where each message of the batch lands, with those before it on their queues.
-ghost use Rattle.std.specs.Prelude.{◌≡◌, ◌∷◌, List, Option, Some, drop};
+ghost use Rattle.std.specs.Prelude.{◌≡◌, ◌∷◌, List, Option, Some};
 ghost use Rattle.mq_spec_state.specs.Words.{Message as PlainMessage, Reason as PlainReason};
 ghost use Rattle.std.specs.Prelude.{Result as AnyResult};
 ghost use Rattle.mq_spec_agents.specs.Words.{Landed};

@@ -1,6 +1,6 @@
 //! A receiver's commit of a batch.
 ghost use Rattle.std.specs.List.{AllByRecursion};
-ghost use Rattle.std.specs.Prelude.{◌≡◌, ◌+◌, ◌<◌, ◌^◌, ◌∷◌, [], ℕ, List, Ok, true};
+ghost use Rattle.std.specs.Prelude.{◌≡◌, ◌<◌, ◌^◌, ◌∷◌, [], ℕ, List, Ok, true};
 ghost use Rattle.mq_sync.specs.declared.unit.Unit.{Unit as Luw};
 ghost use Rattle.mq_spec_state.specs.Words.{AreLow, MeetsOrWants, need};
 ghost use Rattle.mq_spec_agents.specs.Words.{IsUp, receive, receive_landed};
@@ -16,8 +16,8 @@ ghost use Rattle.mq_receive.specs.Standings.{AreFitting};
 ghost use Rattle.mq_receive.specs.Committed.{batch_record, batch_step, IsNeed, IsNeeded};
 
 use crate::committing::commit;
-use crate::planning::plan;
 use crate::filling::lasts;
+use crate::planning::plan;
 use mq_agents::{Unwritten, agent_stop};
 use mq_base::Items;
 use mq_calls::{AgentStop, PlaceFault};

@@ -1,8 +1,8 @@
 //! How the ident of a message that a channel brings stands at the manager already.
 ghost use Rattle.std.specs.Prelude.{◌≡◌, ◌&&◌, ◌||◌, None, Some, option_copied};
 ghost use Rattle.std.specs.List.{list_any};
-ghost use Rattle.mq_spec_state.specs.Words.{is_persistent, in_doubt_of, same_ident};
-ghost use Rattle.mq_spec_agents.specs.Words.{doubts, is_doubted_by, is_pending, is_unborn, same_flag, standing_at, standing_by};
+ghost use Rattle.mq_spec_state.specs.Words.{in_doubt_of, same_ident};
+ghost use Rattle.mq_spec_agents.specs.Words.{doubts, is_doubted_by, is_unborn, same_flag, standing_at, standing_by};
 ghost use Rattle.mq_core.specs.Views.{plain_of};
 ghost use Rattle.mq_receive.specs.Standings.{standing_as};
 
@@ -80,15 +80,12 @@ fn is_same(a: bool, b: bool) -> bool
 }
 
 /// How an ident stands of which there is a row.
-fn standing_in_row<D: Disk>(
-    parts: &Parts<D>,
-    message: &Message,
-    queue: QName,
-    row: &Row,
-) -> Found
+fn standing_in_row<D: Disk>(parts: &Parts<D>, message: &Message, queue: QName, row: &Row) -> Found
     ensures { standing_as result ≡ standing_by message.now (Some (record { queue = queue; row = row.now })) (plain_of parts.now) }
 {
-    if is_doubted_by(parts, &message.ident, &row.by) && is_same(lasts(message), lasts(&row.message)) {
+    if is_doubted_by(parts, &message.ident, &row.by)
+        && is_same(lasts(message), lasts(&row.message))
+    {
         return Found::InDoubt { queue };
     }
     Found::Present

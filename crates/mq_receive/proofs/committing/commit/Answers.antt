@@ -58,9 +58,11 @@ place_all-requires g c =
     let e = subst (λ (l : List Arrival). IsAwaited l c.args.bytes c.args.parts.now c.make_room.new.parts) c.as_slice.ensures c.in-Ok.ensures.ok in
     let f = subst (λ (l : List Arrival). IsForced (batch_record c.args.channel.now c.args.unit c.args.last l) (with_side c.side_after-side.result c.make_room.new.parts) (Ok tt) c.write_received.new.parts) c.as_slice-2.ensures c.in-Ok-write_received.ensures in
     let few = subst (λ (l : List Arrival). 2 * length l + 2 < 2 ^ 64) c.as_slice.ensures c.in-Ok.ensures.few in
-    record { ready = subst (AreLanding c.args.landed) (sym c.return_room.ensures)
-    (way_lands c.args.landed c.args.bytes (batch_record c.args.channel.now c.args.unit c.args.last c.args.landed) c.side_after-side.result c.args.parts.now c.make_room.new.parts c.write_received.new.parts
-    c.requires.up c.requires.need e f c.requires.tied c.requires.low c.requires.fits few).ready }
+    record {
+      ready = subst (AreLanding c.args.landed) (sym c.return_room.ensures)
+          (way_lands c.args.landed c.args.bytes (batch_record c.args.channel.now c.args.unit c.args.last c.args.landed) c.side_after-side.result c.args.parts.now c.make_room.new.parts c.write_received.new.parts
+          c.requires.up c.requires.need e f c.requires.tied c.requires.low c.requires.fits few).ready;
+    }
 
 pub returns : goal.returns
 returns g c =

@@ -1,5 +1,5 @@
-use Rattle.std.proofs.Common.{◌≡◌, ◌+◌, ◌≤◌, ◌++◌, ℕ, ap, arith, ◌∙◌}
-use Rattle.std.specs.Prelude.{List, length}
+use Rattle.std.proofs.Common.{◌+◌, ◌≤◌, ◌++◌, ap, arith, ◌∙◌}
+use Rattle.std.specs.Prelude.{length}
 use Rattle.mq_record.specs.Room.{Buffered}
 use Rattle.mq_record.specs.Records.{record_bytes}
 use Rattle.mq_core.specs.Views.{PartsValue}

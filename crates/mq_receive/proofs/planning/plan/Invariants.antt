@@ -1,4 +1,4 @@
-use Rattle.std.proofs.Common.{◌≡◌, drop}
+use Rattle.std.proofs.Common.{drop}
 use Rattle.mq_spec_agents.specs.Words.{landed}
 use Rattle.mq_core.specs.Views.{plain_of}
 use Rattle.mq_receive.specs.Planned.{IsPlan}

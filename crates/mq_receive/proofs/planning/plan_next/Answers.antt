@@ -1,4 +1,4 @@
-use Rattle.std.proofs.Common.{refl, ap, sym, ◌∙◌}
+use Rattle.std.proofs.Common.{ap, sym, ◌∙◌}
 use Rattle.mq_core.specs.Views.{plain_of}
 use Rattle.mq_receive.specs.Standings.{standing_as}
 use Rattle.mq_receive.proofs.PlanLaws.{plan_over}

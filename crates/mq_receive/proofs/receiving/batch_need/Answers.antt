@@ -1,4 +1,4 @@
-use Rattle.std.proofs.Common.{rules, refl, arith}
+use Rattle.std.proofs.Common.{rules}
 use Rattle.mq_receive.proofs.NeedLaws.{can_at, need_next, need_past}
 use Rattle.mq_receive.proofs.receiving.batch_need.Goals as goal
 

@@ -1,7 +1,7 @@
 use Rattle.std.proofs.Common.{ap, sym, subst, ◌∙◌}
-use Rattle.mq_spec_state.specs.Words.{AreLow, Plain, is_up}
+use Rattle.mq_spec_state.specs.Words.{AreLow, is_up}
 use Rattle.mq_core.specs.Values.{CoreValue}
-use Rattle.mq_core.specs.Views.{PartsValue, plain_of, frozen_of}
+use Rattle.mq_core.specs.Views.{plain_of, frozen_of}
 use Rattle.mq_core.proofs.MeetLaws.{mode_up}
 use Rattle.mq_receive.specs.Standings.{AreFitting}
 use Rattle.mq_receive.specs.Committed.{batch_record, batch_part}

@@ -1,5 +1,5 @@
-use Rattle.std.proofs.Common.{ap, sym, subst, ◌∙◌}
-use Rattle.std.specs.Prelude.{[], Ok, Err}
+use Rattle.std.proofs.Common.{ap, sym, subst}
+use Rattle.std.specs.Prelude.{[], Err}
 use Rattle.mq_spec_state.specs.Words.{MeetsOrWants, Reason, Step}
 use Rattle.mq_spec_agents.specs.Words.{landed}
 use Rattle.mq_law_manager.specs.Facts.{Sound, AreNamed}

@@ -1,5 +1,4 @@
 use Rattle.std.proofs.Common.{ap, sym, take, ◌∙◌}
-use Rattle.std.specs.Prelude.{List}
 use Rattle.mq_place.specs.States.{QueueStates, change_state, expecting}
 use Rattle.mq_core.specs.declared.parts.Arrival.{Arrival}
 use Rattle.mq_receive.specs.Placed.{unexpected_in}

@@ -1,8 +1,7 @@
 use Rattle.std.proofs.Common.{sym, ap, subst, ◌∙◌}
-use Rattle.std.specs.Prelude.{Option, option_map, option_copied}
-use Rattle.mq_spec_state.specs.Words.{Row}
-use Rattle.mq_place.specs.States.{QueueState, Located, row_at, state_in, AreApart}
-use Rattle.mq_core.specs.Views.{PartsValue, plain_of}
+use Rattle.std.specs.Prelude.{option_map, option_copied}
+use Rattle.mq_place.specs.States.{Located, row_at, state_in, AreApart}
+use Rattle.mq_core.specs.Views.{PartsValue}
 use Rattle.mq_receive.proofs.HomeLaws.{stands_apart, no_state, no_row, stands_in_row}
 use Rattle.mq_receive.proofs.standing.standing.Goals as goal
 
