@@ -1,0 +1,16 @@
+pub mod HomeLaws
+pub mod LetterLaws
+pub mod AheadLaws
+pub mod LeadLaws
+pub mod FillLaws
+pub mod StandLaws
+pub mod PlanLaws
+pub mod PlacedLaws
+pub mod LoopLaws
+pub mod ExpectLaws
+pub mod AwaitLaws
+pub mod AsideLaws
+pub mod NeedLaws
+pub mod CommitLaws
+pub mod BrokenLaws
+pub mod EndingLaws

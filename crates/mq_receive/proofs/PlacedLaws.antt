@@ -1,0 +1,456 @@
+-- The messages of a batch take their places: each can, all is tied behind them, and the plain manager has done what they do.
+use Rattle.std.proofs.Common.{◌≡◌, ℕ, ◌+◌, ◌-◌, ◌<◌, ◌≤◌, ◌^◌, Bool, true, false, cond, List, [], ◌∷◌, refl, ap, arith, sym, subst, ◌∙◌, inl, inr}
+use Rattle.std.specs.Prelude.{Option, Some, None, find, not, ◌&&◌, ◌||◌, if◌then◌else◌, flat_map}
+use Rattle.std.specs.List.{list_any, AllByRecursion}
+use Rattle.std.specs.Str.{bytes_eq}
+use Rattle.std.proofs.lemmas.Bool.Decides.{nat_tests}
+use Rattle.mq_calls.specs.declared.state.Item.TheVariants.{Put, Take}
+use Rattle.mq_spec_state.specs.State.{Queue as StateQueue}
+use Rattle.mq_spec_state.specs.Words.{Ident, Message, Row, Item, Connection, LocalQueue, Plain, Among, has_ident, same_ident, keep, kept_in, selects, queue_in, local_of, is_persistent, off_lists, puts_to, is_by_priority, condition, made_due, depth_type, apply_all}
+use Rattle.mq_spec_manager.specs.Words.{placed}
+use Rattle.mq_spec_agents.specs.Words.{RowAt, row_found, row_of, is_pending, is_unborn, has_put, is_doubted_by, same_flag, Standing, Absent, InDoubtAt, Present, standing_by, drop_row, undoubted}
+use Rattle.mq_queue.specs.Queues.{Lacks}
+use Rattle.mq_place.specs.States.{QueueState, queues_of, state_in, on_queue, on_queues, arrived}
+use Rattle.mq_core.specs.declared.parts.Arrival.{Arrival}
+use Rattle.mq_core.specs.Views.{PartsValue, plain_of}
+use Rattle.mq_core.specs.Ties.{Tied, TiedIdents, IsReady, AreCounted, HasCounts, mode_is_up, one_if, times_in_rows, times_in_queues, times_in_unit, times_in_units, waits, state_lanes, local_lanes, pending_at}
+use Rattle.mq_core.specs.Placing.{arrived_at, due_if, put_in_place}
+use Rattle.mq_core.specs.Writes.{standing_of, arrival_changes}
+use Rattle.mq_core.proofs.PlaceLaws.{name_is, same_name, seen_kept, pending_changed, times_changed, times_insert, nowhere_of, placed_view, arrived_there, waits_less, counts_placed}
+use Rattle.mq_core.proofs.ForceLaws.{seen_on, times_on, times_keep}
+use Rattle.mq_core.proofs.WriteLaws.{placed_log}
+use Rattle.mq_agents.proofs.RemoveLaws.{removed_view}
+use Rattle.mq_agents.proofs.EndLaws.{with_ends, ends_view}
+use Rattle.mq_law_manager.specs.Facts.{Mem, AreNamed}
+use Rattle.mq_law_manager.proofs.Lists.{bool_case, ident_yes, ident_self, ident_no}
+use Rattle.mq_law_manager.proofs.Receiving.{row_there}
+use Rattle.mq_law_manager.proofs.Units.{behind}
+use Rattle.mq_receive.specs.Standings.{FitsAt, AreFitting, behind_all}
+use Rattle.mq_receive.specs.Placed.{dropped_at, undoubted_at, cleared_for, landed_at, landed_all, AreLanding, TiedOnWay, puts_of}
+use Rattle.mq_receive.proofs.AheadLaws.{dropped_as}
+
+-- How often an ident stands, as its standing tells
+
+turned : (a b : Ident) → same_ident a b ≡ same_ident b a
+turned a b = bool_case (same_ident b a) (λ t. same_ident b a ≡ t → same_ident a b ≡ t)
+    (λ w e. ap (same_ident a) (ident_yes b a e) ∙ ident_self a) (λ w e. ident_no a b (λ is. cc (e, ap (same_ident b) is ∙ ident_self b))) refl
+
+no_times : (i : Ident) (rows : List Row) → find (has_ident i) rows ≡ None → times_in_rows i rows ≡ 0
+no_times i [] e = refl
+no_times i (r ∷ rows) e = by (has_ident i r) e (no_times i rows)
+  where
+    by : (b : Bool) → cond b (Some r) (find (has_ident i) rows) ≡ None → (find (has_ident i) rows ≡ None → times_in_rows i rows ≡ 0) → one_if b + times_in_rows i rows ≡ 0
+    by true e rest = absurd cc
+    by false e rest = let none = rest e in omega (arith, none)
+
+no_row_times : (i : Ident) (qs : List StateQueue) → row_of i qs ≡ None → times_in_queues i qs ≡ 0
+no_row_times i [] e = refl
+no_row_times i (q ∷ qs) e = by (find (has_ident i) q.rows) refl e (no_row_times i qs)
+  where
+    by : (o : Option Row) → find (has_ident i) q.rows ≡ o → row_found o q.name (row_of i qs) ≡ None → (row_of i qs ≡ None → times_in_queues i qs ≡ 0) → times_in_rows i q.rows + times_in_queues i qs ≡ 0
+    by (Some r) w f rest = absurd cc
+    by None w f rest = let here = no_times i q.rows w in let more = rest f in omega (arith, here, more)
+
+or_none : (a b : Bool) → (a || b) ≡ false → (a ≡ false) × (b ≡ false)
+or_none false false e = (refl, refl)
+or_none false true e = absurd cc
+or_none true b e = absurd cc
+
+no_put_times : (i : Ident) (items : List Item) → list_any (has_put i) items ≡ false → times_in_unit i items ≡ 0
+no_put_times i [] e = refl
+no_put_times i (Put queue m ∷ items) e =
+    let z = or_none (same_ident i m.ident) (list_any (has_put i) items) e in
+    let here : one_if (same_ident m.ident i) ≡ 0 = ap one_if (turned m.ident i ∙ z.0) in
+    let rest = no_put_times i items z.1 in
+    omega (arith, here, rest)
+no_put_times i (Take queue ident persistent ∷ items) e = no_put_times i items e
+
+no_unit_times : (i : Ident) (cs : List Connection) → list_any (λ (c : Connection). list_any (has_put i) c.unit) cs ≡ false → times_in_units i cs ≡ 0
+no_unit_times i [] e = refl
+no_unit_times i (c ∷ cs) e =
+    let z = or_none (list_any (has_put i) c.unit) (list_any (λ (c : Connection). list_any (has_put i) c.unit) cs) e in
+    let here = no_put_times i c.unit z.0 in
+    let rest = no_unit_times i cs z.1 in
+    omega (arith, here, rest)
+
+mem_times : (i : Ident) (rows : List Row) (h : Row) → Mem h rows → h.message.ident ≡ i → 1 ≤ times_in_rows i rows
+mem_times i [] h m e = absurd m
+mem_times i (r ∷ rows) h (inl is) e =
+    let one : one_if (has_ident i r) ≡ 1 = ap one_if (ap (λ (x : Row). same_ident x.message.ident i) (sym is) ∙ ap (λ (j : Ident). same_ident j i) e ∙ ident_self i) in
+    omega (arith, one)
+mem_times i (r ∷ rows) h (inr m) e = let rest = mem_times i rows h m e in omega (arith, rest)
+
+-- the rows of the ident are gone from the queue
+left_none : (from : List ℕ) (i : Ident) (rows : List Row) → times_in_rows i (keep (λ (row : Row). not (true && list_any (same_ident row.message.ident) (i ∷ []))) rows) ≡ 0
+left_none from i [] = refl
+left_none from i (row ∷ rows) = by (same_ident row.message.ident i) refl (left_none from i rows)
+  where
+    by : (b : Bool) → same_ident row.message.ident i ≡ b → times_in_rows i (keep (λ (row : Row). not (true && list_any (same_ident row.message.ident) (i ∷ []))) rows) ≡ 0
+        → times_in_rows i (cond (not (true && (b || false))) (row ∷ keep (λ (row : Row). not (true && list_any (same_ident row.message.ident) (i ∷ []))) rows) (keep (λ (row : Row). not (true && list_any (same_ident row.message.ident) (i ∷ []))) rows)) ≡ 0
+    by true e rest = rest
+    by false e rest = let none = ap one_if e in omega (arith, none, rest)
+
+left_out : (from : List ℕ) (i : Ident) (qs : List QueueState) → times_in_queues i (queues_of (on_queues (kept_in (Among from (i ∷ []))) qs)) + times_in_rows i (queue_in from (queues_of qs)).rows ≤ times_in_queues i (queues_of qs)
+left_out from i [] = omega arith
+left_out from i (s ∷ ss) = by (bytes_eq from s.queue.name) refl (left_out from i ss) (times_on i (kept_in (Among from (i ∷ []))) (λ q. times_keep i (λ (row : Row). not (selects (Among from (i ∷ [])) q.name row)) q.rows) ss)
+  where
+    by : (b : Bool) → bytes_eq from s.queue.name ≡ b
+        → times_in_queues i (queues_of (on_queues (kept_in (Among from (i ∷ []))) ss)) + times_in_rows i (queue_in from (queues_of ss)).rows ≤ times_in_queues i (queues_of ss)
+        → times_in_queues i (queues_of (on_queues (kept_in (Among from (i ∷ []))) ss)) ≤ times_in_queues i (queues_of ss)
+        → times_in_rows i (kept_in (Among from (i ∷ [])) s.queue).rows + times_in_queues i (queues_of (on_queues (kept_in (Among from (i ∷ []))) ss)) + times_in_rows i (cond b s.queue (queue_in from (queues_of ss))).rows ≤ times_in_rows i s.queue.rows + times_in_queues i (queues_of ss)
+    by true e rest less =
+        let named : bytes_eq s.queue.name from ≡ true = ap (λ (n : List ℕ). bytes_eq n from) (sym (name_is from s.queue.name e)) ∙ same_name from in
+        let none : times_in_rows i (kept_in (Among from (i ∷ [])) s.queue).rows ≡ 0 =
+        ap (λ (b : Bool). times_in_rows i (keep (λ (row : Row). not (b && list_any (same_ident row.message.ident) (i ∷ []))) s.queue.rows)) named ∙ left_none from i s.queue.rows in
+        omega (arith, none, less)
+    by false e rest less = let here = times_keep i (λ (row : Row). not (selects (Among from (i ∷ [])) s.queue.name row)) s.queue.rows in omega (arith, here, rest)
+
+-- An ident that stands nowhere once its row is dropped, and that was given
+
+pub record IsFresh (i : Ident) (dropped : Option (List ℕ)) (x : PartsValue) : Type 0 where
+  pub none : times_in_queues i (queues_of (dropped_at dropped i x).queues.states) + times_in_units i x.desk.live ≡ 0
+  pub born : i.manager ≡ x.number → i.incarnation ≡ x.incarnation → x.idents < i.number → ⊥
+
+unborn_as : (i : Ident) (x : PartsValue) → is_unborn i (plain_of x) ≡ false → i.manager ≡ x.number → i.incarnation ≡ x.incarnation → x.idents < i.number → ⊥
+unborn_as i x e a b c = grind (arith, nat_tests, e, a, b, c)
+
+not_absent : (b : Bool) (queue : List ℕ) → (if b then InDoubtAt queue else Present) ≡ Absent → ⊥
+not_absent true queue e = absurd cc
+not_absent false queue e = absurd cc
+
+is_absent : (b : Bool) → (if b then Present else Absent) ≡ Absent → b ≡ false
+is_absent true e = absurd cc
+is_absent false e = refl
+
+not_doubt : (b : Bool) (queue : List ℕ) → (if b then Present else Absent) ≡ InDoubtAt queue → ⊥
+not_doubt true queue e = absurd cc
+not_doubt false queue e = absurd cc
+
+doubt_queue : List ℕ → Standing → List ℕ
+doubt_queue d Absent = d
+doubt_queue d (InDoubtAt queue) = queue
+doubt_queue d Present = d
+
+is_doubt : (b : Bool) (at queue : List ℕ) → (if b then InDoubtAt at else Present) ≡ InDoubtAt queue → at ≡ queue
+unfolding doubt_queue
+is_doubt true at queue e = ap (doubt_queue queue) e
+is_doubt false at queue e = absurd cc
+
+fresh_by : (m : Message) (dropped : Option (List ℕ)) (x : PartsValue) (o : Option RowAt) → row_of m.ident (queues_of x.queues.states) ≡ o → standing_by m o (plain_of x) ≡ standing_of dropped → AreNamed (queues_of x.queues.states) → TiedIdents [] x → IsFresh m.ident dropped x
+fresh_by m None x None w e named t =
+    let z = or_none (is_pending m.ident (plain_of x)) (is_unborn m.ident (plain_of x)) (is_absent (is_pending m.ident (plain_of x) || is_unborn m.ident (plain_of x)) e) in
+    let rows = no_row_times m.ident (queues_of x.queues.states) w in
+    let units = no_unit_times m.ident x.desk.live z.0 in
+    record { none = omega (arith, rows, units); born = unborn_as m.ident x z.1 }
+fresh_by m None x (Some at) w e named t = absurd (not_absent (is_doubted_by m.ident at.row.by (plain_of x) && same_flag (is_persistent m) (is_persistent at.row.message)) at.queue e)
+fresh_by m (Some queue) x None w e named t = absurd (not_doubt (is_pending m.ident (plain_of x) || is_unborn m.ident (plain_of x)) queue e)
+fresh_by m (Some queue) x (Some at) w e named t =
+    let i : Ident = m.ident in
+    let is : at.queue ≡ queue = is_doubt (is_doubted_by m.ident at.row.by (plain_of x) && same_flag (is_persistent m) (is_persistent at.row.message)) at.queue queue e in
+    let there = row_there i (queues_of x.queues.states) at named w in
+    let one = mem_times i (queue_in at.queue (queues_of x.queues.states)).rows at.row there.0 there.1 in
+    let here = ap (λ (n : List ℕ). times_in_rows i (queue_in n (queues_of x.queues.states)).rows) is in
+    let out = left_out queue i x.queues.states in
+    let once = t.once i in
+    record {
+      none = omega (arith, one, here, out, once);
+      born = λ a b c. let zero = t.given i a b c in omega (arith, one, here, out, zero);
+    }
+
+pub fresh_ident : (a : Arrival) (x : PartsValue) → FitsAt a (plain_of x) → TiedIdents [] x → IsFresh a.message.ident a.dropped x
+fresh_ident a x f t = fresh_by a.message a.dropped x (row_of a.message.ident (queues_of x.queues.states)) refl f.standing f.named t
+
+-- Its row is dropped, its ident is off the lists
+
+dropped_log : (dropped : Option (List ℕ)) (i : Ident) (x : PartsValue) → (dropped_at dropped i x).log ≡ x.log
+dropped_log None i x = refl
+dropped_log (Some queue) i x = refl
+
+undoubted_log : (b : Bool) (i : Ident) (x : PartsValue) → (undoubted_at b i x).log ≡ x.log
+undoubted_log true i x = refl
+undoubted_log false i x = refl
+
+undoubted_queues : (b : Bool) (i : Ident) (x : PartsValue) → (undoubted_at b i x).queues ≡ x.queues
+undoubted_queues true i x = refl
+undoubted_queues false i x = refl
+
+up_dropped : (dropped : Option (List ℕ)) (i : Ident) (x : PartsValue) → mode_is_up (dropped_at dropped i x).mode ≡ mode_is_up x.mode
+up_dropped None i x = refl
+up_dropped (Some queue) i x = refl
+
+up_undoubted : (b : Bool) (i : Ident) (x : PartsValue) → mode_is_up (undoubted_at b i x).mode ≡ mode_is_up x.mode
+up_undoubted true i x = refl
+up_undoubted false i x = refl
+
+up_due : (b : Bool) (queue : List ℕ) (x : PartsValue) → mode_is_up (due_if b queue x).mode ≡ mode_is_up x.mode
+up_due true queue x = refl
+up_due false queue x = refl
+
+up_cleared : (a : Arrival) (x : PartsValue) → mode_is_up x.mode ≡ true → mode_is_up (cleared_for a x).mode ≡ true
+up_cleared a x up =
+    let y = dropped_at a.dropped a.message.ident x in
+    up_undoubted (is_persistent a.message) a.message.ident y ∙ up_dropped a.dropped a.message.ident x ∙ up
+
+up_landed : (a : Arrival) (x : PartsValue) → mode_is_up x.mode ≡ true → mode_is_up (landed_at a x).mode ≡ true
+up_landed a x up =
+    let z = cleared_for a x in
+    let y = arrived_at a.queue a.message z in
+    up_due (condition (local_of a.queue y.defs.definitions) a.message.md.priority (plain_of y)) a.queue y ∙ up_cleared a x up
+
+log_landed : (a : Arrival) (x : PartsValue) → (landed_at a x).log ≡ x.log
+log_landed a x =
+    let y = dropped_at a.dropped a.message.ident x in
+    placed_log a.queue a.message (cleared_for a x) ∙ undoubted_log (is_persistent a.message) a.message.ident y ∙ dropped_log a.dropped a.message.ident x
+
+tied_dropped : (landed : List Arrival) (dropped : Option (List ℕ)) (i : Ident) (x : PartsValue) → TiedOnWay landed x → TiedOnWay landed (dropped_at dropped i x)
+tied_dropped landed None i x t = t
+tied_dropped landed (Some queue) i x t =
+    let f : StateQueue → StateQueue = kept_in (Among queue (i ∷ [])) in
+    let times = λ (k : Ident). times_on k f (λ q. times_keep k (λ (row : Row). not (selects (Among queue (i ∷ [])) q.name row)) q.rows) x.queues.states in
+    record {
+      up = λ u. let w = t.up u in record { live = w.live; settled = w.settled; room = w.room; body = w.body };
+      reserved = t.reserved;
+      within = t.within;
+      queues = record {
+        lanes = λ name. seen_on f (λ q. refl) state_lanes (λ s. refl) name x.queues.states ∙ t.queues.lanes name;
+        pending = λ name. seen_on f (λ q. refl) pending_at (λ s. refl) name x.queues.states ∙ t.queues.pending name;
+      };
+      idents = record {
+        once = λ k. let less = times k in let old = t.idents.once k in omega (arith, less, old);
+        given = λ k a b c. let less = times k in let old = t.idents.given k a b c in omega (arith, less, old);
+      };
+      forced = t.forced;
+      max = t.max;
+      moment = t.moment;
+    }
+
+tied_undoubted : (landed : List Arrival) (b : Bool) (i : Ident) (x : PartsValue) → TiedOnWay landed x → TiedOnWay landed (undoubted_at b i x)
+tied_undoubted landed false i x t = t
+tied_undoubted landed true i x t = record {
+  up = λ u. let w = t.up u in record { live = w.live; settled = w.settled; room = w.room; body = w.body };
+  reserved = t.reserved;
+  within = t.within;
+  queues = record { lanes = t.queues.lanes; pending = t.queues.pending };
+  idents = record { once = t.idents.once; given = t.idents.given };
+  forced = t.forced;
+  max = t.max;
+  moment = t.moment;
+}
+
+tied_cleared : (landed : List Arrival) (a : Arrival) (x : PartsValue) → TiedOnWay landed x → TiedOnWay landed (cleared_for a x)
+tied_cleared landed a x t = tied_undoubted landed (is_persistent a.message) a.message.ident (dropped_at a.dropped a.message.ident x) (tied_dropped landed a.dropped a.message.ident x t)
+
+-- counters stay
+abbrev arrivals_at : Option QueueState → ℕ
+arrivals_at None = 0
+arrivals_at (Some s) = s.queue.arrivals
+
+abbrev due_at : Option QueueState → ℕ
+due_at None = 0
+due_at (Some s) = s.queue.due
+
+few : (most : ℕ) (o : Option QueueState) → ((s : QueueState) → o ≡ Some s → HasCounts most s) → (arrivals_at o + pending_at o ≤ most) × (due_at o + pending_at o ≤ most)
+few most None h = (omega arith, omega arith)
+few most (Some s) h = let c = h s refl in (c.arrivals, c.due)
+
+counts_dropped : (most : ℕ) (dropped : Option (List ℕ)) (i : Ident) (x : PartsValue) → AreCounted most x → AreCounted most (dropped_at dropped i x)
+counts_dropped most None i x h = h
+counts_dropped most (Some queue) i x h = λ name s is.
+    let f : StateQueue → StateQueue = kept_in (Among queue (i ∷ [])) in
+    let old = few most (state_in name x.queues.states) (h name) in
+    let arrivals = ap arrivals_at (sym is) ∙ seen_on f (λ q. refl) arrivals_at (λ s. refl) name x.queues.states in
+    let due = ap due_at (sym is) ∙ seen_on f (λ q. refl) due_at (λ s. refl) name x.queues.states in
+    let pending = ap pending_at (sym is) ∙ seen_on f (λ q. refl) pending_at (λ s. refl) name x.queues.states in
+    record { arrivals = omega (arith, arrivals, pending, old.0); due = omega (arith, due, pending, old.1) }
+
+counts_undoubted : (most : ℕ) (b : Bool) (i : Ident) (x : PartsValue) → AreCounted most x → AreCounted most (undoubted_at b i x)
+counts_undoubted most true i x h = h
+counts_undoubted most false i x h = h
+
+counts_cleared : (most : ℕ) (a : Arrival) (x : PartsValue) → AreCounted most x → AreCounted most (cleared_for a x)
+counts_cleared most a x h = counts_undoubted most (is_persistent a.message) a.message.ident (dropped_at a.dropped a.message.ident x) (counts_dropped most a.dropped a.message.ident x h)
+
+-- It can be placed then
+
+some_same : {X : Type 0} (a b : X) → Some a ≡ Some b → a ≡ b
+some_same a b e = grind (arith, e)
+
+all_at : (P : QueueState → Type 0) (name : List ℕ) (qs : List QueueState) (s : QueueState) → state_in name qs ≡ Some s → AllByRecursion P qs → P s
+all_at P name [] s e h = absurd cc
+all_at P name (q ∷ qs) s e h = by (bytes_eq name q.queue.name) e (all_at P name qs s)
+  where
+    by : (b : Bool) → cond b (Some q) (state_in name qs) ≡ Some s → (state_in name qs ≡ Some s → AllByRecursion P qs → P s) → P s
+    by true e rest = subst P (some_same q s e) h.0
+    by false e rest = rest e h.1
+
+ready_at : (most : ℕ) (queue : List ℕ) (m : Message) (x : PartsValue) (s : QueueState) → most + 1 < 2 ^ 64 → AreCounted most x → times_in_queues m.ident (queues_of x.queues.states) ≡ 0 → state_in queue x.queues.states ≡ Some s → 0 < s.pending
+    → (o : Option LocalQueue) → local_of queue x.defs.definitions ≡ o → Some s.by_priority ≡ local_lanes o → IsReady queue m x
+ready_at most queue m x s small counts none is wait None defined lanes = absurd cc
+ready_at most queue m x s small counts none is wait (Some q) defined lanes =
+    let counted = counts queue s is in
+    let nowhere = nowhere_of m.ident x.queues.states none in
+    record {
+      state = s;
+      local = q;
+      is = is;
+      defined = defined;
+      lanes = some_same s.by_priority (is_by_priority q.delivery) lanes;
+      can = record { expected = wait; fresh = all_at (λ (s : QueueState). Lacks m.ident s.queue.rows) queue x.queues.states s is nowhere; count = omega (arith, counted.arrivals, wait, small) };
+      fresh = nowhere;
+      due = omega (arith, counted.due, wait, small);
+    }
+
+ready_by : (most : ℕ) (queue : List ℕ) (m : Message) (x : PartsValue) (w : ℕ) → most + 1 < 2 ^ 64 → AreCounted most x → times_in_queues m.ident (queues_of x.queues.states) ≡ 0
+    → (o : Option QueueState) → state_in queue x.queues.states ≡ o → pending_at o ≡ w + 1 → state_lanes o ≡ local_lanes (local_of queue x.defs.definitions) → IsReady queue m x
+ready_by most queue m x w small counts none None is pending lanes = absurd (omega (arith, pending))
+ready_by most queue m x w small counts none (Some s) is pending lanes = ready_at most queue m x s small counts none is (omega (arith, pending)) (local_of queue x.defs.definitions) refl lanes
+
+-- an ident that stands nowhere, and was given
+pub record IsApart (i : Ident) (x : PartsValue) : Type 0 where
+  pub none : times_in_queues i (queues_of x.queues.states) + times_in_units i x.desk.live ≡ 0
+  pub born : i.manager ≡ x.number → i.incarnation ≡ x.incarnation → x.idents < i.number → ⊥
+
+fresh_undoubted : (b : Bool) (i : Ident) (dropped : Option (List ℕ)) (x : PartsValue) → IsFresh i dropped x → IsApart i (undoubted_at b i (dropped_at dropped i x))
+fresh_undoubted true i None x f = record { none = f.none; born = f.born }
+fresh_undoubted false i None x f = record { none = f.none; born = f.born }
+fresh_undoubted true i (Some queue) x f = record { none = f.none; born = f.born }
+fresh_undoubted false i (Some queue) x f = record { none = f.none; born = f.born }
+
+ready_one : (most : ℕ) (queue : List ℕ) (m : Message) (landed : List Arrival) (a : Arrival) (x : PartsValue) → a.queue ≡ queue → most + 1 < 2 ^ 64 → AreCounted most x → IsApart m.ident x → TiedOnWay (a ∷ landed) x → IsReady queue m x
+ready_one most queue m landed a x same small counts apart t =
+    let here : one_if (bytes_eq queue a.queue) ≡ 1 = ap (λ (n : List ℕ). one_if (bytes_eq queue n)) same ∙ ap one_if (same_name queue) in
+    let pending = t.queues.pending queue in
+    let none = apart.none in
+    ready_by most queue m x (puts_to queue x.desk.live + waits queue (puts_of landed)) small counts (omega (arith, none)) (state_in queue x.queues.states) refl (omega (arith, pending, here)) (t.queues.lanes queue)
+
+-- and all is tied behind it
+once_more : (b : Bool) (n k : ℕ) → (b ≡ true → n + k ≡ 0) → n + k + 0 ≤ 1 → one_if b + n + k + 0 ≤ 1
+once_more true n k none old = let zero = none refl in omega (arith, zero)
+once_more false n k none old = omega (arith, old)
+
+none_more : (b : Bool) (n k : ℕ) → (b ≡ true → ⊥) → n + k + 0 ≡ 0 → one_if b + n + k + 0 ≡ 0
+none_more true n k never old = absurd (never refl)
+none_more false n k never old = omega (arith, old)
+
+tied_arrived : (a : Arrival) (landed : List Arrival) (x : PartsValue) → IsReady a.queue a.message x → IsApart a.message.ident x → TiedOnWay (a ∷ landed) x → TiedOnWay landed (arrived_at a.queue a.message x)
+tied_arrived a landed x r apart t =
+    let queue = a.queue in
+    let m : Message = a.message in
+    let times = λ (i : Ident). times_changed queue (arrived m) (λ s. refl) i (one_if (same_ident m.ident i)) (λ s. times_insert i _ s.queue.rows) x.queues.states r.state r.is in
+    record {
+      up = λ u. let w = t.up u in record { live = w.live; settled = w.settled; room = w.room; body = w.body };
+      reserved = t.reserved;
+      within = t.within;
+      queues = record {
+        lanes = λ name. seen_kept queue (arrived m) (λ s. refl) state_lanes (λ s. refl) name x.queues.states r.state r.is ∙ t.queues.lanes name;
+        pending = λ name. pending_changed queue (arrived m) (λ s. refl) (λ n. n - 1) (λ s. refl) name x.queues.states r.state r.is ∙ waits_less (bytes_eq name queue) _ (waits name (puts_of landed)) _ (t.queues.pending name);
+      };
+      idents = record {
+        once = λ i.
+            let more = times i in
+            let old = t.idents.once i in
+            let one = once_more (same_ident m.ident i) (times_in_queues i (queues_of x.queues.states)) (times_in_units i x.desk.live)
+            (λ e. subst (λ (j : Ident). times_in_queues j (queues_of x.queues.states) + times_in_units j x.desk.live ≡ 0) (ident_yes m.ident i e) apart.none) old in
+            omega (arith, more, one);
+        given = λ i k b c.
+            let more = times i in
+            let old = t.idents.given i k b c in
+            let none = none_more (same_ident m.ident i) (times_in_queues i (queues_of x.queues.states)) (times_in_units i x.desk.live)
+            (λ e. let is = ident_yes m.ident i e in apart.born (ap (λ (j : Ident). j.manager) is ∙ k) (ap (λ (j : Ident). j.incarnation) is ∙ b) (let n = ap (λ (j : Ident). j.number) is in omega (arith, n, c))) old in
+            omega (arith, more, none);
+      };
+      forced = t.forced;
+      max = t.max;
+      moment = t.moment;
+    }
+
+tied_due : (b : Bool) (queue : List ℕ) (landed : List Arrival) (x : PartsValue) (s : QueueState) → state_in queue x.queues.states ≡ Some s → TiedOnWay landed x → TiedOnWay landed (due_if b queue x)
+tied_due false queue landed x s e t = t
+tied_due true queue landed x s e t =
+    let f = on_queue (made_due (depth_type (local_of queue x.defs.definitions)) x.moment) in
+    let times = λ (i : Ident). times_changed queue f (λ s. refl) i 0 (λ s. omega arith) x.queues.states s e in
+    record {
+      up = λ u. let w = t.up u in record { live = w.live; settled = w.settled; room = w.room; body = w.body };
+      reserved = t.reserved;
+      within = t.within;
+      queues = record {
+        lanes = λ name. seen_kept queue f (λ s. refl) state_lanes (λ s. refl) name x.queues.states s e ∙ t.queues.lanes name;
+        pending = λ name. seen_kept queue f (λ s. refl) pending_at (λ s. refl) name x.queues.states s e ∙ t.queues.pending name;
+      };
+      idents = record {
+        once = λ i. let same = times i in let old = t.idents.once i in omega (arith, same, old);
+        given = λ i a b c. let same = times i in let old = t.idents.given i a b c in omega (arith, same, old);
+      };
+      forced = t.forced;
+      max = t.max;
+      moment = t.moment;
+    }
+
+tied_placed : (a : Arrival) (landed : List Arrival) (x : PartsValue) → IsReady a.queue a.message x → IsApart a.message.ident x → TiedOnWay (a ∷ landed) x → TiedOnWay landed (put_in_place a.queue a.message x)
+tied_placed a landed x r apart t =
+    let y = arrived_at a.queue a.message x in
+    tied_due (condition (local_of a.queue y.defs.definitions) a.message.md.priority (plain_of y)) a.queue landed y (arrived a.message r.state) (arrived_there a.queue a.message x r) (tied_arrived a landed x r apart t)
+
+-- What the plain manager sees of it
+
+drop_view : (dropped : Option (List ℕ)) (i : Ident) (x : PartsValue) → mode_is_up x.mode ≡ true → plain_of (dropped_at dropped i x) ≡ apply_all (drop_row i (standing_of dropped)) (plain_of x)
+drop_view None i x up = refl
+drop_view (Some queue) i x up = removed_view queue i x up
+
+undoubt_view : (b : Bool) (i : Ident) (x : PartsValue) → mode_is_up x.mode ≡ true → plain_of (undoubted_at b i x) ≡ apply_all (undoubted b i) (plain_of x)
+unfolding with_ends
+undoubt_view true i x up = ends_view (record x.ends { senders = off_lists i x.ends.senders }) x up
+undoubt_view false i x up = refl
+
+off_by : Bool → Ident → Plain → Plain
+off_by b i p = apply_all (undoubted b i) p
+
+place_by : List ℕ → Message → Plain → Plain
+place_by queue m p = apply_all (placed queue m) p
+
+pub landed_view : (a : Arrival) (x : PartsValue) → mode_is_up x.mode ≡ true → IsReady a.queue a.message (cleared_for a x) → plain_of (landed_at a x) ≡ apply_all (arrival_changes a) (plain_of x)
+unfolding off_by place_by
+landed_view a x up r =
+    let i : Ident = a.message.ident in
+    let b = is_persistent a.message in
+    let y = dropped_at a.dropped i x in
+    placed_view a.queue a.message (cleared_for a x) r
+    ∙ ap (place_by a.queue a.message) (undoubt_view b i y (up_dropped a.dropped i x ∙ up) ∙ ap (off_by b i) (drop_view a.dropped i x up))
+    ∙ sym (dropped_as a.message (standing_of a.dropped) a.queue (plain_of x))
+
+-- All of them, one behind the other
+
+pub record HasLanded (landed : List Arrival) (x : PartsValue) : Type 0 where
+  pub ready : AreLanding landed x
+  pub tied : TiedOnWay [] (landed_all landed x)
+  pub view : plain_of (landed_all landed x) ≡ behind_all landed (plain_of x)
+  pub log : (landed_all landed x).log ≡ x.log
+
+rest_of : List Arrival → Plain → Plain
+rest_of landed p = behind_all landed p
+
+lands_next : (most : ℕ) (landed : List Arrival) (a : Arrival) (x : PartsValue) → most + 1 < 2 ^ 64 → mode_is_up x.mode ≡ true → AreCounted most x → AreFitting (a ∷ landed) (plain_of x) → TiedOnWay (a ∷ landed) x
+    → ((z : PartsValue) → mode_is_up z.mode ≡ true → AreCounted most z → AreFitting landed (plain_of z) → TiedOnWay landed z → HasLanded landed z) → HasLanded (a ∷ landed) x
+unfolding rest_of
+lands_next most landed a x small up counts fits t rest =
+    let y : PartsValue = cleared_for a x in
+    let apart : IsApart a.message.ident y = fresh_undoubted (is_persistent a.message) a.message.ident a.dropped x (fresh_ident a x fits.0 t.idents) in
+    let tied : TiedOnWay (a ∷ landed) y = tied_cleared (a ∷ landed) a x t in
+    let counted : AreCounted most y = counts_cleared most a x counts in
+    let r : IsReady a.queue a.message y = ready_one most a.queue a.message landed a y refl small counted apart tied in
+    let view : plain_of (landed_at a x) ≡ apply_all (arrival_changes a) (plain_of x) = landed_view a x up r in
+    let more : HasLanded landed (landed_at a x) = rest (landed_at a x) (up_landed a x up) (counts_placed most a.queue a.message y r counted) (subst (AreFitting landed) (sym view) fits.1) (tied_placed a landed y r apart tied) in
+    record {
+      ready = (r, more.ready);
+      tied = more.tied;
+      view = more.view ∙ ap (rest_of landed) view ∙ sym (behind (arrival_changes a) (flat_map arrival_changes landed) (plain_of x));
+      log = more.log ∙ log_landed a x;
+    }
+
+pub lands_all : (most : ℕ) (landed : List Arrival) (x : PartsValue) → most + 1 < 2 ^ 64 → mode_is_up x.mode ≡ true → AreCounted most x → AreFitting landed (plain_of x) → TiedOnWay landed x → HasLanded landed x
+lands_all most [] x small up counts fits t = record { ready = tt; tied = t; view = refl; log = refl }
+lands_all most (a ∷ landed) x small up counts fits t = lands_next most landed a x small up counts fits t (λ z. lands_all most landed z small)
+
+-- and nothing is on its way any more
+pub landed_tied : (x : PartsValue) → TiedOnWay [] x → Tied x
+landed_tied x t = record { up = t.up; reserved = t.reserved; within = t.within; queues = t.queues; idents = t.idents; forced = t.forced; max = t.max; moment = t.moment }

@@ -1,0 +1,18 @@
+//! A receiver's commit of a batch: where each message lands.
+#![tactic(auto)]
+
+mod arriving;
+mod committing;
+mod doubts;
+mod filling;
+mod letters;
+mod placing;
+mod planning;
+mod receiving;
+mod rooms;
+mod standing;
+
+pub use arriving::land;
+pub use filling::put_received;
+pub use planning::plan;
+pub use receiving::receive;
