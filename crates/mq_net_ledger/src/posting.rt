@@ -17,7 +17,7 @@ use mq_calls::{Answer, Appl, Did, Hconn, Hobj, Messages, Open};
 use mq_history::{Act, Call, Chance, Entry, Reply};
 use mq_message::{Dest, Ident, Message};
 use mq_name::QName;
-use mq_net_books::{Books, Halted};
+use mq_net_books::Books;
 use mq_sc_parse::Command;
 use std::alloc::Global;
 

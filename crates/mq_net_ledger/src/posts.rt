@@ -9,13 +9,13 @@ ghost use Rattle.mq_net_ledger.specs.Posts.{put_by_of, put_of, put1_by_of, put1_
 
 use crate::messages::{bare_if, dead_message, names_of};
 use mq_base::NoMemory;
-use mq_calls::{Appl, Connection, Hconn, Hobj};
+use mq_calls::{Connection, Hconn, Hobj};
 use mq_codes::Reason;
 use mq_message::{Bytes, Dest, Ident, Md, Message};
 use mq_name::{ChName, QName};
 use mq_net_books::{Books, handle_at};
 use mq_objects::LocalQueue;
-use mq_resolve::{PathStep, Route, RouteEnd};
+use mq_resolve::{PathStep, RouteEnd};
 use mq_trigger::trigger_message;
 use std::alloc::Global;
 

@@ -1,0 +1,7 @@
+pub mod ReplayLaws
+pub mod EventLaws
+pub mod LastLaws
+pub mod ActLaws
+pub mod StepLaws
+pub mod ObeyLaws
+pub mod MarkLaws

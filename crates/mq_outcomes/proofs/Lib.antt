@@ -1,0 +1,4 @@
+pub mod NumberLaws
+pub mod CallLaws
+pub mod TurnLaws
+pub mod CommandLaws
