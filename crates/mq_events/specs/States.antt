@@ -5,7 +5,7 @@ use Rattle.mq_history.specs.declared.calls.Reply.TheVariants as replies
 use Rattle.mq_frame.specs.declared.frame.Seen.TheVariants as items
 use Rattle.mq_spec_node.specs.Terms.{Acted, Choice, Runs, NoMemory, Stopped, Did, Actor, Call, Entry, History}
 use Rattle.mq_spec_node.specs.Words.{Node, Own, Surroundings, NodeValue, IsReplayed, node_of, forgotten_rows, remembered, more_entries, trigger_deed}
-use Rattle.mq_spec_state.specs.Words.{AreLow}
+use Rattle.mq_core.specs.Counting.{CanCount}
 use Rattle.mq_core.specs.Values.{CoreValue}
 use Rattle.mq_outcomes.specs.declared.outcome.Outcome.{Outcome}
 
@@ -75,7 +75,7 @@ IsServed s = trigger_deed (node_in s) ≡ None
 
 -- the counters of its manager are low
 abbrev pub IsLow : NodeState → Type 0
-IsLow s = AreLow s.manager.plain
+IsLow s = CanCount s.manager.plain
 
 -- a step ends here
 abbrev pub marked : Bool → NodeState → NodeState
