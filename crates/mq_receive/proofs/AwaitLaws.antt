@@ -7,12 +7,13 @@ use Rattle.mq_objects.specs.declared.object.Definitions.{Definitions}
 use Rattle.mq_log.specs.State.{LogState}
 use Rattle.mq_record.specs.Room.{Buffered}
 use Rattle.mq_spec_state.specs.State.{Queue as StateQueue}
-use Rattle.mq_spec_state.specs.Words.{Plain, AreLow, local_of, apply_all}
+use Rattle.mq_spec_state.specs.Words.{Plain, local_of, apply_all}
 use Rattle.mq_place.specs.States.{QueueState, QueueStates, queues_of, state_in, change_state, expecting}
 use Rattle.mq_core.specs.declared.parts.Arrival.{Arrival}
 use Rattle.mq_core.specs.Views.{PartsValue, plain_of}
 use Rattle.mq_core.specs.Ties.{Tied, AreCounted, HasCounts, mode_is_up, state_lanes, pending_at, one_if, times_in_queues, waits}
 use Rattle.mq_core.specs.Placing.{with_states}
+use Rattle.mq_core.specs.Counting.{CanCount}
 use Rattle.mq_core.specs.Forced.{HasMoreRoom}
 use Rattle.mq_core.specs.Writes.{standing_of, arrival_changes}
 use Rattle.mq_core.proofs.PlaceLaws.{is_some_of, seen_kept, pending_changed}
@@ -112,7 +113,7 @@ pub record IsOnWay (landed : List Arrival) (x w : PartsValue) : Type 0 where
   pub room : mode_is_up x.mode ≡ true → x.log.reserved ≤ w.log.room
   pub body : mode_is_up x.mode ≡ true → x.log.reserved ≤ w.body.room + length w.body.bytes
 
-pub on_way_counts : (landed : List Arrival) (x w : PartsValue) → AreDefined landed x.defs.definitions → IsOnWay landed x w → Tied x → AreLow (plain_of x) → AreCounted (2 ^ 63 + length landed) w
+pub on_way_counts : (landed : List Arrival) (x w : PartsValue) → AreDefined landed x.defs.definitions → IsOnWay landed x w → Tied x → CanCount (plain_of x) → AreCounted (2 ^ 63 + length landed) w
 on_way_counts landed x w there o t low = subst (AreCounted (2 ^ 63 + length landed)) (sym o.same) (λ name s is.
     let kept = kept_all landed x t there in
     let old = few (2 ^ 63) (state_in name x.queues.states) (counts_low x t low name) in

@@ -27,7 +27,7 @@ unawaited_by landed x = unawaited landed x
 
 still_forced : (landed : List Arrival) (r : LogRecord) (stop : Stop) (y z : PartsValue) → IsForced r y (Err stop) z → IsForced r (unawaited landed y) (Err stop) (unawaited landed z)
 unfolding unawaited_by
-still_forced landed r stop y z f = record { same = ap (unawaited_by landed) f.same; log = f.log; size = f.size; ends = f.ends; room = f.room; body = f.body; later = f.later; disk = f.disk }
+still_forced landed r stop y z f = record { same = ap (unawaited_by landed) f.same; log = f.log; fits = f.fits; size = f.size; ends = f.ends; room = f.room; body = f.body; later = f.later; disk = f.disk }
 
 freeze_by : StoppedWrite → ℕ → PartsValue → Plain
 freeze_by write left x = freeze (noted (frozen_of x) (Some write)) left (plain_of x)
@@ -49,6 +49,7 @@ broken channel unit last landed n r stop x y z w told tells note is up e f down 
           ∙ ap (λ (o : Option Noted). freeze o z.log.armed (plain_of x)) note ∙ ap (λ (o : Option LogRecord). freeze (note_of part o) z.log.armed (plain_of x)) is ∙ ap (λ (left : ℕ). freeze (note_of part (Some r)) left (plain_of x)) (sym armed);
       tied = subst Tied (sym down) (tied_downed write r [] (unawaited landed y) (unawaited landed z) stop still (tied_roomier x (unawaited landed y) h t));
       told = same;
+      fits = f.fits;
       bodies = ap (λ (q : PartsValue). bodies_in q.log) down ∙ stopped_bodies r y z stop f ∙ ap (λ (q : PartsValue). pending_record (Some r) (bodies_in q.log)) e.same;
       ends = subst (λ (left : ℕ). Stops x.log.armed (Err stop) left) (sym armed) (subst (λ (k : ℕ). Stops k (Err stop) z.log.armed) before f.ends);
       later = omega (arith, failed, had, f.later);

@@ -4,11 +4,12 @@ use Rattle.std.specs.Prelude.{Some, Ok, flat_map}
 use Rattle.mq_log.specs.State.{LogState}
 use Rattle.mq_record.specs.Room.{Buffered}
 use Rattle.mq_spec_state.specs.State.Change.{SetReceiver}
-use Rattle.mq_spec_state.specs.Words.{AreLow, Did, LogRecord, Luw, Plain, ReceiverSide, logged, need, set_receiver, written, apply, apply_all}
+use Rattle.mq_spec_state.specs.Words.{Did, LogRecord, Luw, Plain, ReceiverSide, logged, need, set_receiver, written, apply, apply_all}
 use Rattle.mq_core.specs.declared.parts.Arrival.{Arrival}
 use Rattle.mq_core.specs.declared.parts.ChannelEnds.{ChannelEnds}
 use Rattle.mq_core.specs.Views.{PartsValue, plain_of}
 use Rattle.mq_core.specs.Ties.{Tied, mode_is_up}
+use Rattle.mq_core.specs.Counting.{CanCount}
 use Rattle.mq_core.specs.Forced.{IsForced, HasMoreRoom}
 use Rattle.mq_core.specs.Values.{bodies_in, behind_record}
 use Rattle.mq_core.specs.Writes.{arrival_changes}
@@ -77,7 +78,7 @@ unfolding set_side log_of
 way_view landed n r side x y z up e f =
     forced_view r (with_side side y) z (still_up landed n x y up e) f ∙ ap (log_of r) (side_view side y (still_up landed n x y up e) ∙ ap (set_side side) (awaited_view landed n x y e))
 
-pub way_lands : (landed : List Arrival) (n : ℕ) (r : LogRecord) (side : ReceiverSide) (x y z : PartsValue) → mode_is_up x.mode ≡ true → n ≡ need r → IsAwaited landed n x y → IsForced r (with_side side y) (Ok tt) z → Tied x → AreLow (plain_of x) → AreFitting landed (plain_of x)
+pub way_lands : (landed : List Arrival) (n : ℕ) (r : LogRecord) (side : ReceiverSide) (x y z : PartsValue) → mode_is_up x.mode ≡ true → n ≡ need r → IsAwaited landed n x y → IsForced r (with_side side y) (Ok tt) z → Tied x → CanCount (plain_of x) → AreFitting landed (plain_of x)
     → 2 * length landed + 2 < 2 ^ 64 → HasLanded landed (given_back n z)
 way_lands landed n r side x y z up en e f t low fits few =
     let w : PartsValue = given_back n z in
@@ -113,6 +114,7 @@ done channel unit last landed n r side x y z w v told tells is up e f back h end
           ∙ ap (part_by channel unit last landed (logged (Some r) p)) is;
       tied = subst Tied (sym placed) (landed_tied (landed_all landed (given_back n z)) h.tied);
       told = says;
+      fits = f.fits;
       bodies = ap bodies_in log ∙ forced_bodies r (with_side side y) z f ∙ ap (λ (q : PartsValue). behind_record (Some r) (bodies_in q.log)) e.same;
       later = omega (arith, failed, had, f.later);
       ran = λ some. let here : 0 < y.log.armed = omega (arith, armed, some) in let more = f.ends.1 here in omega (arith, armed, more);

@@ -53,7 +53,7 @@ commit_done v channel unit last landed x y told tells stopped s quiet d =
 pub commit_wrote : (v : CoreValue) (channel : List ℕ) (unit : Luw) (last : ℕ) (landed : List Arrival) (x y : PartsValue) (told tells : List Did) (stopped : Option Stop) → IsSeen v x told
     → IsDone (batch_part channel unit last landed (plain_of x)) (batch_record channel unit last landed) x told y tells
     → WritesLog v (batch_step channel unit last landed v.plain) (Ok (let nothing : Unit {0} = tt in nothing)) (seen_of y tells stopped)
-commit_wrote v channel unit last landed x y told tells stopped s d = d.bodies ∙ ap (behind_record (Some (batch_record channel unit last landed))) s.log
+commit_wrote v channel unit last landed x y told tells stopped s d = (d.bodies ∙ ap (behind_record (Some (batch_record channel unit last landed))) s.log, (d.fits, tt))
 
 froze_by : List ℕ → Luw → ℕ → List Arrival → ℕ → Plain → Plain
 froze_by channel unit last landed left p = freeze (note_of (batch_part channel unit last landed p) (Some (batch_record channel unit last landed))) left p
@@ -91,7 +91,7 @@ unfolding froze_by
 told_by unwritten.NoMemory v channel unit last landed x y told tells stopped s c = c.bodies ∙ s.log
 told_by (unwritten.Stopped stop) v channel unit last landed x y told tells stopped s c =
     let nothing : Unit {0} = tt in
-    broke_told {F = Reason} v (seen_of y tells stopped) (halt_of {F = Reason} (stopped_agent stop)) stop nothing (batch_part channel unit last landed v.plain) (halt_stopped {F = Reason} stop) refl
+    broke_told {F = Reason} v (seen_of y tells stopped) (halt_of {F = Reason} (stopped_agent stop)) stop nothing (batch_part channel unit last landed v.plain) (halt_stopped {F = Reason} stop) refl c.fits
     (c.plain ∙ ap (froze_by channel unit last landed y.log.armed) s.plain) (c.bodies ∙ ap (pending_record (Some (batch_record channel unit last landed))) s.log)
 
 pub commit_told : (u : Unwritten) (v : CoreValue) (channel : List ℕ) (unit : Luw) (last : ℕ) (landed : List Arrival) (x y : PartsValue) (told tells : List Did) (agent : AgentStop) (stopped : Option Stop) → agent ≡ agent_of u → IsSeen v x told

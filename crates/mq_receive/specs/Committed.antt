@@ -12,7 +12,7 @@ use Rattle.mq_core.specs.Views.{PartsValue, plain_of}
 use Rattle.mq_core.specs.Ties.{Tied}
 use Rattle.mq_core.specs.Forced.{IsForced, downed}
 use Rattle.mq_core.specs.Values.{bodies_in, behind_record, pending_record}
-use Rattle.mq_core.specs.Writes.{all_landed}
+use Rattle.mq_core.specs.Writes.{FitsRecord, all_landed}
 use Rattle.mq_agents.specs.Written.{with_receivers}
 use Rattle.mq_agents.specs.declared.hardening.Unwritten.{Unwritten}
 use Rattle.mq_agents.specs.declared.hardening.Unwritten.TheVariants as unwritten
@@ -55,6 +55,7 @@ pub record IsDone (part : Part) (r : LogRecord) (x : PartsValue) (old : List Did
   pub plain : plain_of y ≡ apply_all part.changes (logged (Some r) (plain_of x))
   pub tied : Tied y
   pub told : new ≡ old ++ part.delta
+  pub fits : FitsRecord r
   pub bodies : bodies_in y.log ≡ behind_record (Some r) (bodies_in x.log)
   pub later : x.log.faults ≤ y.log.faults
   pub ran : 0 < x.log.armed → 4 < x.log.armed
@@ -72,6 +73,7 @@ pub record IsBroken (part : Part) (r : LogRecord) (stop : Stop) (x : PartsValue)
   pub plain : plain_of y ≡ freeze (note_of part (Some r)) y.log.armed (plain_of x)
   pub tied : Tied y
   pub told : new ≡ old
+  pub fits : FitsRecord r
   pub bodies : bodies_in y.log ≡ pending_record (Some r) (bodies_in x.log)
   pub ends : Stops x.log.armed (Err stop) y.log.armed
   pub later : x.log.faults ≤ y.log.faults

@@ -1,7 +1,8 @@
 //! A receiver's commit of messages that have landed: one forced record, and then they take their places.
 ghost use Rattle.std.specs.List.{AllByRecursion};
 ghost use Rattle.std.specs.Prelude.{◌≡◌, ◌+◌, ◌*◌, ◌<◌, ◌≤◌, ◌^◌, ◌∷◌, ◌++◌, [], true, length, flat_map};
-ghost use Rattle.mq_spec_state.specs.Words.{AreLow, need};
+ghost use Rattle.mq_spec_state.specs.Words.{need};
+ghost use Rattle.mq_core.specs.Counting.{CanCount};
 ghost use Rattle.mq_moves.specs.Moving.{given_back};
 ghost use Rattle.mq_core.specs.Forced.{IsForced};
 ghost use Rattle.mq_core.specs.Ties.{Tied, mode_is_up};
@@ -150,7 +151,7 @@ pub(crate) fn commit<D: Disk>(
 ) -> Result<(), Unwritten>
     requires up { mode_is_up parts.old.mode ≡ true }
     requires tied { Tied parts.old }
-    requires low { AreLow (plain_of parts.old) }
+    requires low { CanCount (plain_of parts.old) }
     requires fits { AreFitting landed (plain_of parts.old) }
     requires can { AllByRecursion CanStand landed }
     requires need { bytes ≡ need (batch_record channel.now unit last landed) }

@@ -2,7 +2,8 @@
 ghost use Rattle.std.specs.List.{AllByRecursion};
 ghost use Rattle.std.specs.Prelude.{◌≡◌, ◌<◌, ◌^◌, ◌∷◌, [], ℕ, List, Ok, true};
 ghost use Rattle.mq_sync.specs.declared.unit.Unit.{Unit as Luw};
-ghost use Rattle.mq_spec_state.specs.Words.{AreLow, MeetsOrWants, need};
+ghost use Rattle.mq_spec_state.specs.Words.{MeetsOrWants, need};
+ghost use Rattle.mq_core.specs.Counting.{CanCount};
 ghost use Rattle.mq_spec_agents.specs.Words.{IsUp, receive, receive_landed};
 ghost use Rattle.mq_law_manager.specs.Facts.{Sound, AreNamed};
 ghost use Rattle.mq_agents.specs.Ends.{by_place};
@@ -123,7 +124,7 @@ fn commit_landed<D: Disk>(
     bytes: u64,
 ) -> Result<(), PlaceFault>
     requires up { IsUp core.old.plain }
-    requires low { AreLow core.old.plain }
+    requires low { CanCount core.old.plain }
     requires fits { AreFitting landed core.old.plain }
     requires can { AllByRecursion CanStand landed }
     requires need { bytes ≡ need (batch_record channel.now unit last landed) }
@@ -161,7 +162,7 @@ fn receive_landed<D: Disk>(
     landed: Items<Arrival>,
 ) -> Result<(), PlaceFault>
     requires up { IsUp core.old.plain }
-    requires low { AreLow core.old.plain }
+    requires low { CanCount core.old.plain }
     requires fits { AreFitting landed core.old.plain }
     ensures meets { MeetsOrWants (manager_of core.old) (receive_landed channel.now unit last (Ok (all_landed landed)) core.old.plain) (by_place result) (manager_of core.new) }
     ensures told { WritesLog core.old (receive_landed channel.now unit last (Ok (all_landed landed)) core.old.plain) (by_place result) core.new }
@@ -195,7 +196,7 @@ pub fn receive<D: Disk>(
     batch: &[Message],
 ) -> Result<(), PlaceFault>
     requires up { IsUp core.old.plain }
-    requires low { AreLow core.old.plain }
+    requires low { CanCount core.old.plain }
     requires sound { Sound core.old.plain }
     requires named { AreNamed core.old.plain.queues }
     ensures meets { MeetsOrWants (manager_of core.old) (receive channel.now unit.now last batch.now core.old.plain) (by_place result) (manager_of core.new) }

@@ -47,4 +47,4 @@ returns g c =
     let cleared = ap (λ (b : Buffered). b.room) c.clear.ensures in
     let left = ap (λ (b : Buffered). b.room) c.put_received.ensures.bytes in
     let room : x.body.room + length x.body.bytes ≤ c.put_received.new.body.room + length c.put_received.new.body.bytes = omega (arith, taken, cleared, left, long) in
-    forced_from r x z c.force_body.new.self c.force_body.result (λ i. record (c.parts.view_is i) { body = c.put_received.new.body }) room (c.force_body.ensures r bytes whole)
+    forced_from r x z c.force_body.new.self c.force_body.result (λ i. record (c.parts.view_is i) { body = c.put_received.new.body }) room (c.force_body.ensures r bytes c.put_received.ensures.record whole)

@@ -1,5 +1,6 @@
 use Rattle.std.proofs.Common.{ap, sym, subst, ◌∙◌}
-use Rattle.mq_spec_state.specs.Words.{AreLow, is_up}
+use Rattle.mq_spec_state.specs.Words.{is_up}
+use Rattle.mq_core.specs.Counting.{CanCount}
 use Rattle.mq_core.specs.Values.{CoreValue}
 use Rattle.mq_core.specs.Views.{plain_of, frozen_of}
 use Rattle.mq_core.proofs.MeetLaws.{mode_up}
@@ -14,7 +15,7 @@ commit-requires-clause-up g c =
     mode_up (frozen_of c.core.inside.parts) c.core.inside.parts.mode (ap (λ (w : CoreValue). is_up w.plain.running) v ∙ c.requires.up)
 
 pub commit-requires-clause-low : goal.commit-requires-clause-low
-commit-requires-clause-low g c = subst AreLow (sym (ap (λ (w : CoreValue). w.plain) (c.core.view_is ∙ c.begin_call.ensures))) c.requires.low
+commit-requires-clause-low g c = subst CanCount (sym (ap (λ (w : CoreValue). w.plain) (c.core.view_is ∙ c.begin_call.ensures))) c.requires.low
 
 pub commit-requires-clause-fits : goal.commit-requires-clause-fits
 commit-requires-clause-fits g c = subst (AreFitting c.args.landed) (sym (ap (λ (w : CoreValue). w.plain) (c.core.view_is ∙ c.begin_call.ensures))) c.requires.fits
