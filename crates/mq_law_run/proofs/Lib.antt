@@ -17,6 +17,7 @@ pub mod Keeping
 pub mod Receiving
 pub mod Stopping
 pub mod Restarting
+pub mod Returning
 pub mod Timing
 pub mod Expiring
 pub mod Commanding

@@ -19,7 +19,7 @@ use Rattle.mq_history.specs.declared.acts.Acted.TheVariants as acted
 use Rattle.mq_history.specs.declared.calls.Reply.TheVariants as replies
 use Rattle.mq_spec_state.specs.State.{LogState, Noted}
 use Rattle.mq_spec_state.specs.State.Running.{Down, Up}
-use Rattle.mq_spec_manager.specs.Stops.{restarted, stop_at}
+use Rattle.mq_spec_manager.specs.Stops.{redone_delta, restarted, stop_at}
 use Rattle.mq_spec_node.specs.Deeds.{CanCome, Deed, Done, begun_anew, done, quiet}
 use Rattle.mq_spec_node.specs.Happens.{crashed}
 use Rattle.mq_spec_node.specs.Replays.{done_by}
@@ -130,6 +130,10 @@ stopped_done n = crashed (stop_at Up n.manager) n
 
 abbrev pub risen_done : ℕ → Option Noted → Node → Done
 risen_done started noted n = quiet (replies.Acted acted.Done) [] (begun_anew (restarted false started noted n.manager) n.own)
+
+-- and one that finds the write
+abbrev pub back_done : ℕ → Noted → Node → Done
+back_done started noted n = quiet (replies.Acted acted.Done) (redone_delta true (Some noted) n.manager) (begun_anew (restarted true started (Some noted) n.manager) n.own)
 
 -- a manager whose restart failed
 abbrev pub failed_node : Option Noted → ℕ → LogState → Node → Node

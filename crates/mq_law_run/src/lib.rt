@@ -35,7 +35,7 @@ ghost use Rattle.mq_spec_network.specs.Story.{IsStory, Line, Mem, entries_at};
 ghost use Rattle.mq_law_channel.specs.Turns.{SeenIn};
 ghost use Rattle.mq_law_node.specs.Ends.{receiver_of, sender_of};
 ghost use Rattle.mq_law_one.specs.Alone.{IsOwnCall};
-ghost use Rattle.mq_law_run.specs.Run.{IsRunning, Moves, Stand, failed_node, far_at, near_at, risen_done, stopped_done};
+ghost use Rattle.mq_law_run.specs.Run.{IsRunning, Moves, Stand, back_done, failed_node, far_at, near_at, risen_done, stopped_done};
 
 /// A network with channels begins so.
 pub fn a_network_begins_so()
@@ -139,4 +139,11 @@ pub fn what_is_committed_is_a_move()
     ensures { (s : Scenario) (hs : List History) (p : List Line) (x : Line) (h : History) (stamp : ℕ) (z : Stand s hs p) (i : ℕ) (k : CableLine) (name : List ℕ) → IsScenario s → slice_get hs x.manager ≡ Some h → Tells (node_after s x.manager p h) stamp x.entry
         → IsOwn x.entry.chance → slice_get s.cables i ≡ Some k → k.sender ≡ x.manager → x.entry.call ≡ calls.Act (acts.Obey (lines.Operate (ops.Resolve name settles.Commit))) → x.entry.chance ≡ chances.Call Runs
         → IsRunning s p x h (operate (ops.Resolve name settles.Commit) (node_after s x.manager p h)) → sender_named name (node_after s x.manager p h).own.ends ≡ Some (sender_of (near_at s i k) (z.xs k.sender k.channel).sender) → Moves s hs p x h z }
+{}
+
+/// And a restart that finds the write of a call: it does what the note says, and then the manager comes up.
+pub fn restarts_that_find_a_write_are_moves()
+    ensures { (s : Scenario) (hs : List History) (p : List Line) (x : Line) (h : History) (stamp : ℕ) (z : Stand s hs p) (noted : Noted) (starts started : ℕ) → IsScenario s → slice_get hs x.manager ≡ Some h
+        → Tells (node_after s x.manager p h) stamp x.entry → IsOwn x.entry.chance → (node_after s x.manager p h).manager.running ≡ Down (Some noted) starts → x.entry.call ≡ calls.Act acts.Restart → x.entry.chance ≡ chances.Restart (Comes true started)
+        → done_by x.entry (node_after s x.manager p h) ≡ back_done started noted (node_after s x.manager p h) → Moves s hs p x h z }
 {}
