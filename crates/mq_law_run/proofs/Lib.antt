@@ -25,4 +25,6 @@ pub mod Resolving
 pub mod Serving
 pub mod Turning
 pub mod Popping
+pub mod Stamping
+pub mod Rising
 pub mod Beginning

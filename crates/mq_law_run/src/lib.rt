@@ -147,3 +147,16 @@ pub fn restarts_that_find_a_write_are_moves()
         → Tells (node_after s x.manager p h) stamp x.entry → IsOwn x.entry.chance → (node_after s x.manager p h).manager.running ≡ Down (Some noted) starts → x.entry.call ≡ calls.Act acts.Restart → x.entry.chance ≡ chances.Restart (Comes true started)
         → done_by x.entry (node_after s x.manager p h) ≡ back_done started noted (node_after s x.manager p h) → Moves s hs p x h z }
 {}
+
+/// Each frame that an entry offers has the entry's stamp.
+pub fn offers_have_their_entries_stamps()
+    ensures { (s : Scenario) (hs : List History) → Premises s hs → (m : ℕ) (o : Entry) (f : Frame) → Mem o (entries_at hs m) → o.effect.pushed ≡ Some f → o.stamp ≡ f.stamp }
+{}
+
+/// So each stop and each restart is a move, whether it is refused, fails, or finds a write.
+pub fn each_stop_and_each_restart_is_a_move()
+    ensures stops { (s : Scenario) (hs : List History) (p : List Line) (x : Line) (h : History) (stamp : ℕ) (z : Stand s hs p) → IsScenario s → slice_get hs x.manager ≡ Some h → Tells (node_after s x.manager p h) stamp x.entry → IsOwn x.entry.chance
+        → x.entry.call ≡ calls.Act acts.Crash → Moves s hs p x h z }
+    ensures restarts { (s : Scenario) (hs : List History) (p : List Line) (x : Line) (h : History) (stamp : ℕ) (z : Stand s hs p) → IsScenario s → slice_get hs x.manager ≡ Some h → Tells (node_after s x.manager p h) stamp x.entry → IsOwn x.entry.chance
+        → x.entry.call ≡ calls.Act acts.Restart → Moves s hs p x h z }
+{}
