@@ -27,4 +27,6 @@ pub mod Turning
 pub mod Popping
 pub mod Stamping
 pub mod Rising
+pub mod Cabling
+pub mod Acting
 pub mod Beginning

@@ -42,7 +42,7 @@ use Rattle.mq_law_run.proofs.Returning.{return_moves}
 use Rattle.mq_law_run.proofs.Stopping.{stop_moves}
 
 -- nothing is posted of one that isn't done
-none_posted : (s : Scenario) (hs : List History) (p : List Line) (x : Line) (call : Call) (a : Acted) → x.entry.call ≡ call → x.entry.reply ≡ replies.Acted a → x.entry.effect.delta ≡ []
+pub none_posted : (s : Scenario) (hs : List History) (p : List Line) (x : Line) (call : Call) (a : Acted) → x.entry.call ≡ call → x.entry.reply ≡ replies.Acted a → x.entry.effect.delta ≡ []
     → ((c : Chance) (l : Ledger) → ledgers.returned x.manager (replies.Acted a) c [] (ledgers.post_call x.manager call (replies.Acted a) x.entry.effect.received [] l) ≡ l)
     → ledger (opening_ledger s hs) (p ++ x ∷ []) ≡ ledger (opening_ledger s hs) p
 none_posted s hs p x call a is reply delta none =

@@ -14,7 +14,14 @@ use Rattle.mq_history.specs.declared.scenario.CableLine.{CableLine}
 use Rattle.mq_history.specs.declared.scenario.Scenario.{Scenario}
 use Rattle.mq_spec_state.specs.State.{Plain}
 use Rattle.mq_spec_node.specs.Node.{Node}
-use Rattle.mq_calls.specs.declared.choices.Choice.TheVariants.{Runs}
+use Rattle.mq_calls.specs.declared.choices.Choice.TheVariants.{Runs, Stopped}
+use Rattle.mq_sc_parse.specs.declared.command.Command.TheVariants as lines
+use Rattle.mq_history.specs.declared.acts.Act.TheVariants as acts
+use Rattle.mq_history.specs.declared.calls.Actor.{Actor}
+use Rattle.mq_history.specs.declared.calls.Call.{Call}
+use Rattle.mq_history.specs.declared.calls.Call.TheVariants as calls
+use Rattle.mq_history.specs.declared.calls.Chance.{Chance}
+use Rattle.mq_history.specs.declared.calls.Chance.TheVariants as chances
 use Rattle.mq_history.specs.declared.acts.Acted.TheVariants as acted
 use Rattle.mq_history.specs.declared.calls.Reply.TheVariants as replies
 use Rattle.mq_spec_state.specs.State.{LogState, Noted}
@@ -138,3 +145,19 @@ back_done started noted n = quiet (replies.Acted acted.Done) (redone_delta true 
 -- a manager whose restart failed
 abbrev pub failed_node : Option Noted → ℕ → LogState → Node → Node
 failed_node noted more g n = record { manager = record n.manager { running = Down noted more; log = g }; own = n.own }
+
+-- an end of a channel acts, or an operator on one
+abbrev pub is_of_end : Actor → Call → Bool
+is_of_end actor (calls.Act (acts.Obey (lines.Operate op))) = true
+is_of_end (actors.Sender cable) calls.Turn = true
+is_of_end (actors.Receiver cable) calls.Turn = true
+is_of_end actor calls.Timeout = true
+is_of_end actor _ = false
+
+abbrev pub is_stopped_call : Chance → Bool
+is_stopped_call (chances.Call (Stopped by part left)) = true
+is_stopped_call _ = false
+
+-- no write of an end of a channel is stopped
+abbrev pub NoEndStopped : List Line → Type 0
+NoEndStopped p = (x : Line) → Mem x p → is_of_end x.entry.actor x.entry.call ≡ true → is_stopped_call x.entry.chance ≡ false

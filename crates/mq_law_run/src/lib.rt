@@ -35,7 +35,7 @@ ghost use Rattle.mq_spec_network.specs.Story.{IsStory, Line, Mem, entries_at};
 ghost use Rattle.mq_law_channel.specs.Turns.{SeenIn};
 ghost use Rattle.mq_law_node.specs.Ends.{receiver_of, sender_of};
 ghost use Rattle.mq_law_one.specs.Alone.{IsOwnCall};
-ghost use Rattle.mq_law_run.specs.Run.{IsRunning, Moves, Stand, back_done, failed_node, far_at, near_at, risen_done, stopped_done};
+ghost use Rattle.mq_law_run.specs.Run.{IsRunning, Moves, Stand, back_done, failed_node, far_at, is_stopped_call, near_at, risen_done, stopped_done};
 
 /// A network with channels begins so.
 pub fn a_network_begins_so()
@@ -159,4 +159,16 @@ pub fn each_stop_and_each_restart_is_a_move()
         → x.entry.call ≡ calls.Act acts.Crash → Moves s hs p x h z }
     ensures restarts { (s : Scenario) (hs : List History) (p : List Line) (x : Line) (h : History) (stamp : ℕ) (z : Stand s hs p) → IsScenario s → slice_get hs x.manager ≡ Some h → Tells (node_after s x.manager p h) stamp x.entry → IsOwn x.entry.chance
         → x.entry.call ≡ calls.Act acts.Restart → Moves s hs p x h z }
+{}
+
+/// Each turn of an end of a channel, and each timeout, is a move, where its write is not stopped: the end is of a cable of the scenario, and
+/// what it popped was offered. A receiver's turn is one in a prefix of one without conflict.
+pub fn each_turn_of_an_end_is_a_move()
+    ensures senders { (s : Scenario) (hs : List History) (p rest : List Line) (x : Line) (h : History) (stamp : ℕ) (z : Stand s hs p) (i : ℕ) → Premises s hs → IsStory hs (p ++ x ∷ rest) → slice_get hs x.manager ≡ Some h
+        → Tells (node_after s x.manager p h) stamp x.entry → IsOwn x.entry.chance → x.entry.actor ≡ actors.Sender i → x.entry.call ≡ calls.Turn → is_stopped_call x.entry.chance ≡ false → Moves s hs p x h z }
+    ensures receivers { (s : Scenario) (hs : List History) (whole p rest : List Line) (es : List ToldDeed) (x : Line) (h : History) (stamp : ℕ) (z : Stand s hs p) (i : ℕ) → Premises s hs → IsStory hs (p ++ x ∷ rest) → NoConflict s hs whole
+        → deeds whole ≡ deeds (p ++ x ∷ []) ++ es → slice_get hs x.manager ≡ Some h → Tells (node_after s x.manager p h) stamp x.entry → IsOwn x.entry.chance → x.entry.actor ≡ actors.Receiver i → x.entry.call ≡ calls.Turn
+        → is_stopped_call x.entry.chance ≡ false → Moves s hs p x h z }
+    ensures timeouts { (s : Scenario) (hs : List History) (p : List Line) (x : Line) (h : History) (stamp : ℕ) (z : Stand s hs p) → Premises s hs → slice_get hs x.manager ≡ Some h → Tells (node_after s x.manager p h) stamp x.entry
+        → IsOwn x.entry.chance → x.entry.call ≡ calls.Timeout → is_stopped_call x.entry.chance ≡ false → Moves s hs p x h z }
 {}
