@@ -1,5 +1,5 @@
 -- Each turn of an end of a channel, and each timeout, as a move of the network, where no write of it is stopped.
-use Rattle.std.proofs.Common.{ℕ, zero, suc, ◌≡◌, ◌⊎◌, ◌<◌, Bool, true, false, List, [], ◌∷◌, ◌++◌, refl, ap, sym, subst, ◌∙◌, inl, inr, arith}
+use Rattle.std.proofs.Common.{ℕ, zero, suc, ◌≡◌, ◌<◌, Bool, true, false, List, [], ◌∷◌, ◌++◌, refl, ap, sym, subst, ◌∙◌, inl, inr, arith}
 use Rattle.std.specs.Prelude.{Option, Some, None, if◌then◌else◌, length, slice_get}
 use Rattle.std.specs.List.{All}
 use Rattle.std.proofs.lemmas.List.Elements.{All-head, All-tail}
@@ -14,7 +14,6 @@ use Rattle.mq_history.specs.declared.calls.Call.{Call}
 use Rattle.mq_history.specs.declared.calls.Call.TheVariants as calls
 use Rattle.mq_history.specs.declared.calls.Chance.{Chance}
 use Rattle.mq_history.specs.declared.calls.Chance.TheVariants as chances
-use Rattle.mq_history.specs.declared.calls.Entry.{Entry}
 use Rattle.mq_history.specs.declared.calls.Reply.{Reply}
 use Rattle.mq_history.specs.declared.history.History.{History}
 use Rattle.mq_history.specs.declared.scenario.CableLine.{CableLine}
@@ -30,11 +29,11 @@ use Rattle.mq_spec_state.specs.Steps.{Step}
 use Rattle.mq_spec_state.specs.Steps.Step.{Refuse, Do}
 use Rattle.mq_spec_node.specs.Node.{ChannelEnd, Node, ReceiverEnd, SenderEnd, as_receiver, as_sender, end_in}
 use Rattle.mq_spec_node.specs.Node.ChannelEnd.{Sends, Receives}
-use Rattle.mq_spec_node.specs.Deeds.{CanCome, Deed, done}
+use Rattle.mq_spec_node.specs.Deeds.{CanCome, Deed}
 use Rattle.mq_spec_node.specs.Senders.{after_timeout, prepare_deed, sender_deed, sender_deed_by, timeout_deed}
 use Rattle.mq_spec_node.specs.Receivers.{place_deed, receiver_deed, receiver_deed_by}
-use Rattle.mq_spec_node.specs.Calls.{deed_of, receiver_turn, sender_turn, timeout_by, timeout_of, turn_up, where_up}
-use Rattle.mq_spec_node.specs.Happens.{IsDeed, IsEvent, choice_event, event, remembering}
+use Rattle.mq_spec_node.specs.Calls.{receiver_turn, sender_turn, timeout_by, timeout_of, turn_up, where_up}
+use Rattle.mq_spec_node.specs.Happens.{IsDeed, IsEvent, choice_event, event}
 use Rattle.mq_spec_node.specs.Replays.{done_by}
 use Rattle.mq_spec_network.specs.Conflict.{Deed as ToldDeed, NoConflict, deeds}
 use Rattle.mq_spec_network.specs.Promised.{Premises}

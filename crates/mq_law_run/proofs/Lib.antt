@@ -29,4 +29,6 @@ pub mod Stamping
 pub mod Rising
 pub mod Cabling
 pub mod Acting
+pub mod Obeying
+pub mod Whole
 pub mod Beginning

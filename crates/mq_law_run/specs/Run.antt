@@ -32,8 +32,9 @@ use Rattle.mq_spec_node.specs.Happens.{crashed}
 use Rattle.mq_spec_node.specs.Replays.{done_by}
 use Rattle.mq_spec_network.specs.Conflict.{deeds, is_committed}
 use Rattle.mq_spec_network.specs.Given.{name_at}
-use Rattle.mq_spec_network.specs.Ledger.{Ledger, ledger}
-use Rattle.mq_spec_network.specs.Standing.{managers_at, node_after, opening_ledger, opening_managers}
+use Rattle.mq_spec_network.specs.Ledger.{Ledger, ledger, ledger_rows}
+use Rattle.mq_spec_network.specs.Promised.{AreDistinct, all_standing}
+use Rattle.mq_spec_network.specs.Standing.{managers_at, node_after, opening_ledger, opening_managers, rows_told, standing}
 use Rattle.mq_spec_network.specs.Story.{Line, Mem}
 use Rattle.mq_law_channel.specs.Channel.{Channel, Facts, Past}
 use Rattle.mq_law_node.specs.Ends.{Where}
@@ -161,3 +162,10 @@ is_stopped_call _ = false
 -- no write of an end of a channel is stopped
 abbrev pub NoEndStopped : List Line → Type 0
 NoEndStopped p = (x : Line) → Mem x p → is_of_end x.entry.actor x.entry.call ≡ true → is_stopped_call x.entry.chance ≡ false
+
+-- The rows of a prefix are as promised: the standing rows of each queue are the ledger's, list for list; each ident stands once, and is in at
+-- most one committed get. (`Holds` has beside that each receiver's commit kept the order.)
+pub record HoldsRows (s : Scenario) (hs : List History) (p : List Line) : Type 0 where
+  pub rows : (m : ℕ) (name : List ℕ) → rows_told (standing s (managers_at s p hs) m name) ≡ rows_told (ledger_rows m name (ledger (opening_ledger s hs) p))
+  pub once : AreDistinct (all_standing s (managers_at s p hs))
+  pub got_once : AreDistinct (ledger (opening_ledger s hs) p).got

@@ -7,6 +7,7 @@ ghost use Rattle.mq_frame.specs.declared.frame.Frame.{Frame};
 ghost use Rattle.mq_calls.specs.declared.choices.Choice.TheVariants.{Runs};
 ghost use Rattle.mq_calls.specs.declared.choices.Return.TheVariants.{Comes};
 ghost use Rattle.mq_sc_parse.specs.declared.command.Command.TheVariants as lines;
+ghost use Rattle.mq_sc_parse.specs.declared.command.Op.{Op};
 ghost use Rattle.mq_sc_parse.specs.declared.command.Op.TheVariants as ops;
 ghost use Rattle.mq_history.specs.declared.acts.Act.TheVariants as acts;
 ghost use Rattle.mq_history.specs.declared.calls.Actor.TheVariants as actors;
@@ -35,7 +36,7 @@ ghost use Rattle.mq_spec_network.specs.Story.{IsStory, Line, Mem, entries_at};
 ghost use Rattle.mq_law_channel.specs.Turns.{SeenIn};
 ghost use Rattle.mq_law_node.specs.Ends.{receiver_of, sender_of};
 ghost use Rattle.mq_law_one.specs.Alone.{IsOwnCall};
-ghost use Rattle.mq_law_run.specs.Run.{IsRunning, Moves, Stand, back_done, failed_node, far_at, is_stopped_call, near_at, risen_done, stopped_done};
+ghost use Rattle.mq_law_run.specs.Run.{HoldsRows, IsRunning, Moves, NoEndStopped, Stand, back_done, failed_node, far_at, is_stopped_call, near_at, risen_done, stopped_done};
 
 /// A network with channels begins so.
 pub fn a_network_begins_so()
@@ -171,4 +172,18 @@ pub fn each_turn_of_an_end_is_a_move()
         → is_stopped_call x.entry.chance ≡ false → Moves s hs p x h z }
     ensures timeouts { (s : Scenario) (hs : List History) (p : List Line) (x : Line) (h : History) (stamp : ℕ) (z : Stand s hs p) → Premises s hs → slice_get hs x.manager ≡ Some h → Tells (node_after s x.manager p h) stamp x.entry
         → IsOwn x.entry.chance → x.entry.call ≡ calls.Timeout → is_stopped_call x.entry.chance ≡ false → Moves s hs p x h z }
+{}
+
+/// And each command on an end, whether it is refused or done: the end that is named is of a cable of the scenario.
+pub fn each_command_on_an_end_is_a_move()
+    ensures { (s : Scenario) (hs : List History) (whole p : List Line) (es : List ToldDeed) (x : Line) (h : History) (stamp : ℕ) (z : Stand s hs p) (op : Op) → Premises s hs → NoConflict s hs whole → deeds whole ≡ deeds (p ++ x ∷ []) ++ es
+        → slice_get hs x.manager ≡ Some h → Tells (node_after s x.manager p h) stamp x.entry → IsOwn x.entry.chance → x.entry.call ≡ calls.Act (acts.Obey (lines.Operate op)) → is_stopped_call x.entry.chance ≡ false → Moves s hs p x h z }
+{}
+
+/// After each prefix of a lawful story in which no operator's settlement is at odds with its receiver, and no write of a channel's end is
+/// stopped by a device failure (`NoEndStopped`: writes of calls may be): the standing rows of each queue are the ledger's, list for list, and each
+/// ident stands once, and is in at most one committed get. All else is premised as `Promised` has it: any losses, repeats, stops, restarts,
+/// timeouts and commands.
+pub fn networks_are_as_promised_where_ends_are_not_stopped()
+    ensures { (s : Scenario) (hs : List History) → Premises s hs → (story p rest : List Line) → IsStory hs story → story ≡ p ++ rest → NoConflict s hs p → NoEndStopped p → HoldsRows s hs p }
 {}
