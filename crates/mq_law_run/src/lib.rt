@@ -180,10 +180,10 @@ pub fn each_command_on_an_end_is_a_move()
         → slice_get hs x.manager ≡ Some h → Tells (node_after s x.manager p h) stamp x.entry → IsOwn x.entry.chance → x.entry.call ≡ calls.Act (acts.Obey (lines.Operate op)) → is_stopped_call x.entry.chance ≡ false → Moves s hs p x h z }
 {}
 
-/// After each prefix of a lawful story in which no operator's settlement is at odds with its receiver, and no write of a channel's end is
-/// stopped by a device failure (`NoEndStopped`: writes of calls may be): the standing rows of each queue are the ledger's, list for list, and each
-/// ident stands once, and is in at most one committed get. All else is premised as `Promised` has it: any losses, repeats, stops, restarts,
-/// timeouts and commands.
+/// After each prefix of a lawful story in which no operator's settlement is at odds with its receiver, and no write of a channel's end or of
+/// a command on one is stopped (`NoEndStopped`; writes of calls, of commands on objects and of the handler may be): the standing rows of each
+/// queue are the ledger's, list for list, and each ident stands once, and is in at most one committed get. The other premises are those of
+/// `Promised`; it says nothing of the order of receivers' commits.
 pub fn networks_are_as_promised_where_ends_are_not_stopped()
     ensures { (s : Scenario) (hs : List History) → Premises s hs → (story p rest : List Line) → IsStory hs story → story ≡ p ++ rest → NoConflict s hs p → NoEndStopped p → HoldsRows s hs p }
 {}
