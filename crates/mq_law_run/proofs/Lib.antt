@@ -17,6 +17,7 @@ pub mod Keeping
 pub mod Receiving
 pub mod Stopping
 pub mod Restarting
+pub mod Returning
 pub mod Timing
 pub mod Expiring
 pub mod Commanding
@@ -24,4 +25,10 @@ pub mod Resolving
 pub mod Serving
 pub mod Turning
 pub mod Popping
+pub mod Stamping
+pub mod Rising
+pub mod Cabling
+pub mod Acting
+pub mod Obeying
+pub mod Whole
 pub mod Beginning

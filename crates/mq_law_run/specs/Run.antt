@@ -14,19 +14,27 @@ use Rattle.mq_history.specs.declared.scenario.CableLine.{CableLine}
 use Rattle.mq_history.specs.declared.scenario.Scenario.{Scenario}
 use Rattle.mq_spec_state.specs.State.{Plain}
 use Rattle.mq_spec_node.specs.Node.{Node}
-use Rattle.mq_calls.specs.declared.choices.Choice.TheVariants.{Runs}
+use Rattle.mq_calls.specs.declared.choices.Choice.TheVariants.{Runs, Stopped}
+use Rattle.mq_sc_parse.specs.declared.command.Command.TheVariants as lines
+use Rattle.mq_history.specs.declared.acts.Act.TheVariants as acts
+use Rattle.mq_history.specs.declared.calls.Actor.{Actor}
+use Rattle.mq_history.specs.declared.calls.Call.{Call}
+use Rattle.mq_history.specs.declared.calls.Call.TheVariants as calls
+use Rattle.mq_history.specs.declared.calls.Chance.{Chance}
+use Rattle.mq_history.specs.declared.calls.Chance.TheVariants as chances
 use Rattle.mq_history.specs.declared.acts.Acted.TheVariants as acted
 use Rattle.mq_history.specs.declared.calls.Reply.TheVariants as replies
 use Rattle.mq_spec_state.specs.State.{LogState, Noted}
 use Rattle.mq_spec_state.specs.State.Running.{Down, Up}
-use Rattle.mq_spec_manager.specs.Stops.{restarted, stop_at}
+use Rattle.mq_spec_manager.specs.Stops.{redone_delta, restarted, stop_at}
 use Rattle.mq_spec_node.specs.Deeds.{CanCome, Deed, Done, begun_anew, done, quiet}
 use Rattle.mq_spec_node.specs.Happens.{crashed}
 use Rattle.mq_spec_node.specs.Replays.{done_by}
 use Rattle.mq_spec_network.specs.Conflict.{deeds, is_committed}
 use Rattle.mq_spec_network.specs.Given.{name_at}
-use Rattle.mq_spec_network.specs.Ledger.{Ledger, ledger}
-use Rattle.mq_spec_network.specs.Standing.{managers_at, node_after, opening_ledger, opening_managers}
+use Rattle.mq_spec_network.specs.Ledger.{Ledger, ledger, ledger_rows}
+use Rattle.mq_spec_network.specs.Promised.{AreDistinct, all_standing}
+use Rattle.mq_spec_network.specs.Standing.{managers_at, node_after, opening_ledger, opening_managers, rows_told, standing}
 use Rattle.mq_spec_network.specs.Story.{Line, Mem}
 use Rattle.mq_law_channel.specs.Channel.{Channel, Facts, Past}
 use Rattle.mq_law_node.specs.Ends.{Where}
@@ -131,6 +139,33 @@ stopped_done n = crashed (stop_at Up n.manager) n
 abbrev pub risen_done : ℕ → Option Noted → Node → Done
 risen_done started noted n = quiet (replies.Acted acted.Done) [] (begun_anew (restarted false started noted n.manager) n.own)
 
+-- and one that finds the write
+abbrev pub back_done : ℕ → Noted → Node → Done
+back_done started noted n = quiet (replies.Acted acted.Done) (redone_delta true (Some noted) n.manager) (begun_anew (restarted true started (Some noted) n.manager) n.own)
+
 -- a manager whose restart failed
 abbrev pub failed_node : Option Noted → ℕ → LogState → Node → Node
 failed_node noted more g n = record { manager = record n.manager { running = Down noted more; log = g }; own = n.own }
+
+-- an end of a channel acts, or an operator on one
+abbrev pub is_of_end : Actor → Call → Bool
+is_of_end actor (calls.Act (acts.Obey (lines.Operate op))) = true
+is_of_end (actors.Sender cable) calls.Turn = true
+is_of_end (actors.Receiver cable) calls.Turn = true
+is_of_end actor calls.Timeout = true
+is_of_end actor _ = false
+
+abbrev pub is_stopped_call : Chance → Bool
+is_stopped_call (chances.Call (Stopped by part left)) = true
+is_stopped_call _ = false
+
+-- no write of an end of a channel is stopped
+abbrev pub NoEndStopped : List Line → Type 0
+NoEndStopped p = (x : Line) → Mem x p → is_of_end x.entry.actor x.entry.call ≡ true → is_stopped_call x.entry.chance ≡ false
+
+-- The rows of a prefix are as promised: the standing rows of each queue are the ledger's, list for list; each ident stands once, and is in at
+-- most one committed get. (`Holds` has beside that each receiver's commit kept the order.)
+pub record HoldsRows (s : Scenario) (hs : List History) (p : List Line) : Type 0 where
+  pub rows : (m : ℕ) (name : List ℕ) → rows_told (standing s (managers_at s p hs) m name) ≡ rows_told (ledger_rows m name (ledger (opening_ledger s hs) p))
+  pub once : AreDistinct (all_standing s (managers_at s p hs))
+  pub got_once : AreDistinct (ledger (opening_ledger s hs) p).got

@@ -7,6 +7,7 @@ ghost use Rattle.mq_frame.specs.declared.frame.Frame.{Frame};
 ghost use Rattle.mq_calls.specs.declared.choices.Choice.TheVariants.{Runs};
 ghost use Rattle.mq_calls.specs.declared.choices.Return.TheVariants.{Comes};
 ghost use Rattle.mq_sc_parse.specs.declared.command.Command.TheVariants as lines;
+ghost use Rattle.mq_sc_parse.specs.declared.command.Op.{Op};
 ghost use Rattle.mq_sc_parse.specs.declared.command.Op.TheVariants as ops;
 ghost use Rattle.mq_history.specs.declared.acts.Act.TheVariants as acts;
 ghost use Rattle.mq_history.specs.declared.calls.Actor.TheVariants as actors;
@@ -35,7 +36,7 @@ ghost use Rattle.mq_spec_network.specs.Story.{IsStory, Line, Mem, entries_at};
 ghost use Rattle.mq_law_channel.specs.Turns.{SeenIn};
 ghost use Rattle.mq_law_node.specs.Ends.{receiver_of, sender_of};
 ghost use Rattle.mq_law_one.specs.Alone.{IsOwnCall};
-ghost use Rattle.mq_law_run.specs.Run.{IsRunning, Moves, Stand, failed_node, far_at, near_at, risen_done, stopped_done};
+ghost use Rattle.mq_law_run.specs.Run.{HoldsRows, IsRunning, Moves, NoEndStopped, Stand, back_done, failed_node, far_at, is_stopped_call, near_at, risen_done, stopped_done};
 
 /// A network with channels begins so.
 pub fn a_network_begins_so()
@@ -139,4 +140,50 @@ pub fn what_is_committed_is_a_move()
     ensures { (s : Scenario) (hs : List History) (p : List Line) (x : Line) (h : History) (stamp : ℕ) (z : Stand s hs p) (i : ℕ) (k : CableLine) (name : List ℕ) → IsScenario s → slice_get hs x.manager ≡ Some h → Tells (node_after s x.manager p h) stamp x.entry
         → IsOwn x.entry.chance → slice_get s.cables i ≡ Some k → k.sender ≡ x.manager → x.entry.call ≡ calls.Act (acts.Obey (lines.Operate (ops.Resolve name settles.Commit))) → x.entry.chance ≡ chances.Call Runs
         → IsRunning s p x h (operate (ops.Resolve name settles.Commit) (node_after s x.manager p h)) → sender_named name (node_after s x.manager p h).own.ends ≡ Some (sender_of (near_at s i k) (z.xs k.sender k.channel).sender) → Moves s hs p x h z }
+{}
+
+/// And a restart that finds the write of a call: it does what the note says, and then the manager comes up.
+pub fn restarts_that_find_a_write_are_moves()
+    ensures { (s : Scenario) (hs : List History) (p : List Line) (x : Line) (h : History) (stamp : ℕ) (z : Stand s hs p) (noted : Noted) (starts started : ℕ) → IsScenario s → slice_get hs x.manager ≡ Some h
+        → Tells (node_after s x.manager p h) stamp x.entry → IsOwn x.entry.chance → (node_after s x.manager p h).manager.running ≡ Down (Some noted) starts → x.entry.call ≡ calls.Act acts.Restart → x.entry.chance ≡ chances.Restart (Comes true started)
+        → done_by x.entry (node_after s x.manager p h) ≡ back_done started noted (node_after s x.manager p h) → Moves s hs p x h z }
+{}
+
+/// Each frame that an entry offers has the entry's stamp.
+pub fn offers_have_their_entries_stamps()
+    ensures { (s : Scenario) (hs : List History) → Premises s hs → (m : ℕ) (o : Entry) (f : Frame) → Mem o (entries_at hs m) → o.effect.pushed ≡ Some f → o.stamp ≡ f.stamp }
+{}
+
+/// So each stop and each restart is a move, whether it is refused, fails, or finds a write.
+pub fn each_stop_and_each_restart_is_a_move()
+    ensures stops { (s : Scenario) (hs : List History) (p : List Line) (x : Line) (h : History) (stamp : ℕ) (z : Stand s hs p) → IsScenario s → slice_get hs x.manager ≡ Some h → Tells (node_after s x.manager p h) stamp x.entry → IsOwn x.entry.chance
+        → x.entry.call ≡ calls.Act acts.Crash → Moves s hs p x h z }
+    ensures restarts { (s : Scenario) (hs : List History) (p : List Line) (x : Line) (h : History) (stamp : ℕ) (z : Stand s hs p) → IsScenario s → slice_get hs x.manager ≡ Some h → Tells (node_after s x.manager p h) stamp x.entry → IsOwn x.entry.chance
+        → x.entry.call ≡ calls.Act acts.Restart → Moves s hs p x h z }
+{}
+
+/// Each turn of an end of a channel, and each timeout, is a move, where its write is not stopped: the end is of a cable of the scenario, and
+/// what it popped was offered. A receiver's turn is one in a prefix of one without conflict.
+pub fn each_turn_of_an_end_is_a_move()
+    ensures senders { (s : Scenario) (hs : List History) (p rest : List Line) (x : Line) (h : History) (stamp : ℕ) (z : Stand s hs p) (i : ℕ) → Premises s hs → IsStory hs (p ++ x ∷ rest) → slice_get hs x.manager ≡ Some h
+        → Tells (node_after s x.manager p h) stamp x.entry → IsOwn x.entry.chance → x.entry.actor ≡ actors.Sender i → x.entry.call ≡ calls.Turn → is_stopped_call x.entry.chance ≡ false → Moves s hs p x h z }
+    ensures receivers { (s : Scenario) (hs : List History) (whole p rest : List Line) (es : List ToldDeed) (x : Line) (h : History) (stamp : ℕ) (z : Stand s hs p) (i : ℕ) → Premises s hs → IsStory hs (p ++ x ∷ rest) → NoConflict s hs whole
+        → deeds whole ≡ deeds (p ++ x ∷ []) ++ es → slice_get hs x.manager ≡ Some h → Tells (node_after s x.manager p h) stamp x.entry → IsOwn x.entry.chance → x.entry.actor ≡ actors.Receiver i → x.entry.call ≡ calls.Turn
+        → is_stopped_call x.entry.chance ≡ false → Moves s hs p x h z }
+    ensures timeouts { (s : Scenario) (hs : List History) (p : List Line) (x : Line) (h : History) (stamp : ℕ) (z : Stand s hs p) → Premises s hs → slice_get hs x.manager ≡ Some h → Tells (node_after s x.manager p h) stamp x.entry
+        → IsOwn x.entry.chance → x.entry.call ≡ calls.Timeout → is_stopped_call x.entry.chance ≡ false → Moves s hs p x h z }
+{}
+
+/// And each command on an end, whether it is refused or done: the end that is named is of a cable of the scenario.
+pub fn each_command_on_an_end_is_a_move()
+    ensures { (s : Scenario) (hs : List History) (whole p : List Line) (es : List ToldDeed) (x : Line) (h : History) (stamp : ℕ) (z : Stand s hs p) (op : Op) → Premises s hs → NoConflict s hs whole → deeds whole ≡ deeds (p ++ x ∷ []) ++ es
+        → slice_get hs x.manager ≡ Some h → Tells (node_after s x.manager p h) stamp x.entry → IsOwn x.entry.chance → x.entry.call ≡ calls.Act (acts.Obey (lines.Operate op)) → is_stopped_call x.entry.chance ≡ false → Moves s hs p x h z }
+{}
+
+/// After each prefix of a lawful story in which no operator's settlement is at odds with its receiver, and no write of a channel's end or of
+/// a command on one is stopped (`NoEndStopped`; writes of calls, of commands on objects and of the handler may be): the standing rows of each
+/// queue are the ledger's, list for list, and each ident stands once, and is in at most one committed get. The other premises are those of
+/// `Promised`; it says nothing of the order of receivers' commits.
+pub fn networks_are_as_promised_where_ends_are_not_stopped()
+    ensures { (s : Scenario) (hs : List History) → Premises s hs → (story p rest : List Line) → IsStory hs story → story ≡ p ++ rest → NoConflict s hs p → NoEndStopped p → HoldsRows s hs p }
 {}
