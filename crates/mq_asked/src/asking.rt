@@ -1,5 +1,5 @@
 //! Any call that a script makes, as an event of its node.
-ghost use Rattle.std.specs.Prelude.{◌≡◌, Ok, Err, false};
+ghost use Rattle.std.specs.Prelude.{◌≡◌, false};
 ghost use Rattle.mq_history.specs.declared.calls.Call.TheVariants as calls;
 ghost use Rattle.mq_events.specs.States.{IsLow, IsServed};
 ghost use Rattle.mq_events.specs.Events.{MayAct};
