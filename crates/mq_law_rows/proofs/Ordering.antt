@@ -1,6 +1,6 @@
--- Order on a channel: rows of the ledger are placed and kept, batches are taken from the front.
+-- Order on a channel: batches are taken from the front, and receivers commit them.
 use Rattle.std.proofs.Common.{ℕ, ◌≡◌, ◌<◌, ◌≤◌, ◌⊎◌, Bool, true, false, not, List, [], ◌∷◌, refl, ap, sym, subst, ◌∙◌, inl, inr, arith, map}
-use Rattle.std.specs.Prelude.{Option, Some, None, if◌then◌else◌, nat_le}
+use Rattle.std.specs.Prelude.{Option, Some, None, if◌then◌else◌, nat_le, ◌&&◌}
 use Rattle.std.proofs.lemmas.Bool.Decides.{nat_tests}
 use Rattle.mq_message.specs.declared.message.Ident.{Ident}
 use Rattle.mq_queue.specs.declared.row.Row.{Row}
@@ -11,118 +11,15 @@ use Rattle.mq_spec_network.specs.Story.{Mem}
 use Rattle.mq_spec_network.specs.Order.{Before, KeepsQueue}
 use Rattle.mq_spec_network.specs.Standing.{row_told, rows_told}
 use Rattle.mq_law_rows.specs.Families.{is_here, put_at}
-use Rattle.mq_law_rows.specs.World.{World, Book, Ghost, Tag, At, InBatch, tag_idents, ident_of, is_forced, is_counted, counted, standing, claim, LanesRise, Inv}
-use Rattle.mq_law_rows.specs.Kinds.{among, Landing, place_all, ghost_hold, unit_at}
-use Rattle.mq_law_rows.specs.Ordered.{IsOthers, InOrder, IsFront, with_young}
+use Rattle.mq_law_rows.specs.World.{World, Book, Ghost, Tag, At, InBatch, tag_idents, ident_of, is_forced, is_counted, counted, standing, claim, LanesRise, IsOthers, InOrder, is_young, Inv}
+use Rattle.mq_law_rows.specs.Kinds.{among, Landing, place_all, ghost_take, hold_batch, unit_at}
+use Rattle.mq_law_rows.specs.Ordered.{IsFront, with_young}
 use Rattle.mq_message.specs.declared.place.Holder.{Holder}
 use Rattle.mq_message.specs.declared.place.Holder.TheVariants as holders
 use Rattle.mq_law_rows.proofs.Owners.{ledger_row, told_ident}
 use Rattle.mq_law_rows.proofs.Receiving.{any_mem}
 use Rattle.mq_law_rows.proofs.Lists.{true_false, bool_case, is_false, here_yes, here_self, mem_insert, mem_inserted, mem_insert_old, mem_keep, mem_kept, and_left, and_right, sorted_insert}
-
-pub before_mem : {A : Type 0} (x y : A) (xs : List A) → Before x y xs → Mem x xs × Mem y xs
-before_mem x y [] b = absurd b
-before_mem x y (z ∷ zs) (inl e) = (inl e.0, inr e.1)
-before_mem x y (z ∷ zs) (inr b) = let r = before_mem x y zs b in (inr r.0, inr r.1)
-
-pub before_keep : (p : Row → Bool) (x y : Row) (xs : List Row) → Before x y (keep p xs) → Before x y xs
-before_keep p x y [] b = absurd b
-before_keep p x y (z ∷ zs) b =
-    bool_case (p z) (λ t. Before x y (if t then z ∷ keep p zs else keep p zs) → Before x y (z ∷ zs))
-    (λ e. elim [ inl k ↦ inl (k.0, (mem_keep p y zs k.1).0) | inr k ↦ inr (before_keep p x y zs k) ])
-    (λ e k. inr (before_keep p x y zs k)) b
-
-pub before_kept : (p : Row → Bool) (x y : Row) (xs : List Row) → Before x y xs → p x ≡ true → p y ≡ true → Before x y (keep p xs)
-before_kept p x y [] b e f = absurd b
-before_kept p x y (z ∷ zs) (inl k) e f = subst (λ t. Before x y (if t then z ∷ keep p zs else keep p zs)) (sym (ap p (sym k.0) ∙ e)) (inl (k.0, mem_kept p y zs k.1 f))
-before_kept p x y (z ∷ zs) (inr k) e f = bool_case (p z) (λ t. Before x y (if t then z ∷ keep p zs else keep p zs)) (λ a. inr (before_kept p x y zs k e f)) (λ a. before_kept p x y zs k e f)
-
-pub before_map : {A B : Type 0} (f : A → B) (x y : A) (xs : List A) → Before x y xs → Before (f x) (f y) (map f xs)
-before_map f x y [] b = absurd b
-before_map f x y (z ∷ zs) (inl k) = inl (ap f k.0, there f y zs k.1)
-  where
-    there : {A B : Type 0} (f : A → B) (y : A) (zs : List A) → Mem y zs → Mem (f y) (map f zs)
-    there f y [] n = absurd n
-    there f y (z ∷ zs) (inl e) = inl (ap f e)
-    there f y (z ∷ zs) (inr n) = inr (there f y zs n)
-before_map f x y (z ∷ zs) (inr k) = inr (before_map f x y zs k)
-
-pub map_before : {A B : Type 0} (f : A → B) (a b : B) (xs : List A) → Before a b (map f xs) → (x y : A) × Before x y xs × (a ≡ f x) × (b ≡ f y)
-map_before f a b [] n = absurd n
-map_before f a b (z ∷ zs) (inl k) = let r = there f b zs k.1 in (z, r.0, inl (refl, r.1), k.0, r.2)
-  where
-    there : {A B : Type 0} (f : A → B) (b : B) (zs : List A) → Mem b (map f zs) → (y : A) × Mem y zs × (b ≡ f y)
-    there f b [] n = absurd n
-    there f b (z ∷ zs) (inl e) = (z, inl refl, e)
-    there f b (z ∷ zs) (inr n) = let r = there f b zs n in (r.0, inr r.1, r.2)
-map_before f a b (z ∷ zs) (inr k) = let r = map_before f a b zs k in (r.0, r.1, inr r.2, r.3, r.4)
-
-le_yes : (a b : ℕ) → nat_le a b ≡ true → a ≤ b
-le_yes a b e = grind (arith, nat_tests)
-
-le_no : (a b : ℕ) → nat_le a b ≡ false → b < a
-le_no a b e = grind (arith, nat_tests)
-
--- a row that is placed stands behind its lane
-pub before_insert : (n x y : Row) (xs : List Row) → LanesRise xs → Before x y (insert_row n xs) → Before x y xs ⊎ (((x ≡ n) × (n.place.lane < y.place.lane)) ⊎ (y ≡ n))
-before_insert n x y [] s (inl e) = absurd e.1
-before_insert n x y [] s (inr e) = absurd e
-before_insert n x y (z ∷ zs) s b =
-    bool_case (nat_le z.place.lane n.place.lane) (λ t. nat_le z.place.lane n.place.lane ≡ t → Before x y (if t then z ∷ insert_row n zs else n ∷ z ∷ zs) → Before x y (z ∷ zs) ⊎ (((x ≡ n) × (n.place.lane < y.place.lane)) ⊎ (y ≡ n)))
-    (λ e f. elim [
-      | inl k ↦ elim (mem_insert y n zs k.1) [ inl q ↦ inr (inr q) | inr q ↦ inl (inl (k.0, q)) ]
-      | inr k ↦ elim (before_insert n x y zs s.1 k) [ inl q ↦ inl (inr q) | inr q ↦ inr q ]
-    ])
-    (λ e f. elim [ inl k ↦ inr (inl (k.0, above n z y zs s f k.1)) | inr k ↦ inl k ]) refl b
-  where
-    above : (n z y : Row) (zs : List Row) → LanesRise (z ∷ zs) → nat_le z.place.lane n.place.lane ≡ false → Mem y (z ∷ zs) → n.place.lane < y.place.lane
-    above n z y zs s f (inl q) = subst (λ (r : Row). n.place.lane < r.place.lane) (sym q) (le_no z.place.lane n.place.lane f)
-    above n z y zs s f (inr k) = let a = le_no z.place.lane n.place.lane f in let b = s.0 y k in omega arith
-
--- rows go
-pub order_keep : (g : Ghost) (rows : ℕ → List ℕ → List Row) (young : ℕ → List ℕ → Luw → Bool) (p : ℕ → List ℕ → Row → Bool) → InOrder g rows young → InOrder g (λ m q. keep (p m q) (rows m q)) young
-order_keep g rows young p o = record { first = λ m q c u x y z b n l no_. o.first m q c u x y z (before_keep (p m q) x y (rows m q) b) n l no_ }
-
--- a row that is in hand is placed
-pub order_place : (g : Ghost) (rows : ℕ → List ℕ → List Row) (young : ℕ → List ℕ → Luw → Bool) (m : ℕ) (q : List ℕ) (row : Row) → InOrder g rows young → LanesRise (rows m q)
-    → ((a : ℕ) (c : List ℕ) (u : Luw) → young a c u ≡ true → Mem row.message.ident (tag_idents (g.sent a c u)) → ⊥)
-    → InOrder g (put_at rows m q (insert_row row (rows m q))) young
-order_place g rows young m q row o s new = record {
-  first = λ a d c u x y z b n l no_.
-      let split : Before x y (rows a d) ⊎ (((x ≡ row) × (row.place.lane < y.place.lane)) ⊎ (y ≡ row)) =
-      bool_case (is_here m q a d) (λ t. is_here m q a d ≡ t → Before x y (if t then insert_row row (rows m q) else rows a d) → Before x y (rows a d) ⊎ (((x ≡ row) × (row.place.lane < y.place.lane)) ⊎ (y ≡ row)))
-      (λ e f b. let p = here_yes m q a d f in elim (before_insert row x y (rows m q) s b) [ inl k ↦ inl (subst (λ (r : List Row). Before x y r) (λ i. rows (sym p.0 i) (sym p.1 i)) k) | inr k ↦ inr k ])
-      (λ e f b. inl b) refl b in
-      elim split [
-        | inl k ↦ o.first a d c u x y z k n l no_
-        | inr k ↦ elim k [
-          | inl v ↦ absurd (same_less row.place.lane y.place.lane (ap (λ (r : Row). r.place.lane) (sym v.0) ∙ l) v.1)
-          | inr v ↦ absurd (new a c u z (subst (λ (r : Row). Mem r.message.ident (tag_idents (g.sent a c u))) v n))
-        ]
-      ];
-}
-  where
-    same_less : (a b : ℕ) → a ≡ b → a < b → ⊥
-    same_less a b e lt = omega arith
-
--- fewer units are young
-pub order_less : (g : Ghost) (rows : ℕ → List ℕ → List Row) (young older : ℕ → List ℕ → Luw → Bool) → InOrder g rows young → ((m : ℕ) (c : List ℕ) (u : Luw) → older m c u ≡ true → young m c u ≡ true) → InOrder g rows older
-order_less g rows young older o less = record { first = λ m q c u x y z. o.first m q c u x y (less m c u z) }
-
--- a receiver's commit places its rows
-pub order_all : (g : Ghost) (young : ℕ → List ℕ → Luw → Bool) (t : ℕ) (ls : List Landing) (rows : ℕ → List ℕ → List Row) → InOrder g rows young → ((m : ℕ) (q : List ℕ) → LanesRise (rows m q))
-    → ((l : Landing) → Mem l ls → (a : ℕ) (c : List ℕ) (u : Luw) → young a c u ≡ true → Mem l.row.message.ident (tag_idents (g.sent a c u)) → ⊥)
-    → InOrder g (λ a d. place_all t ls a d (rows a d)) young
-order_all g young t [] rows o s new = o
-order_all g young t (l ∷ ls) rows o s new =
-    order_all g young t ls (λ a d. if is_here t l.queue a d then insert_row l.row (rows a d) else rows a d)
-    (record { first = λ a d c u x y z b n e no_. (order_place g rows young t l.queue l.row o (s t l.queue) (new l (inl refl))).first a d c u x y z (place_is rows t l.queue l.row a d x y b) n e no_ })
-    (λ a d. bool_case (is_here t l.queue a d) (λ z. LanesRise (if z then insert_row l.row (rows a d) else rows a d)) (λ e. sorted_insert l.row (rows a d) (s a d)) (λ e. s a d))
-    (λ k n. new k (inr n))
-  where
-    place_is : (rows : ℕ → List ℕ → List Row) (t : ℕ) (q : List ℕ) (r : Row) (a : ℕ) (d : List ℕ) (x y : Row) → Before x y (if is_here t q a d then insert_row r (rows a d) else rows a d) → Before x y (put_at rows t q (insert_row r (rows t q)) a d)
-    place_is rows t q r a d x y = bool_case (is_here t q a d) (λ z. is_here t q a d ≡ z → Before x y (if z then insert_row r (rows a d) else rows a d) → Before x y (if z then insert_row r (rows t q) else rows a d))
-        (λ e f b. let p = here_yes t q a d f in subst (λ (l : List Row). Before x y (insert_row r l)) (λ i. rows (p.0 i) (p.1 i)) b) (λ e f b. b) refl
+use Rattle.mq_law_rows.proofs.Young.{before_mem, before_kept, before_map, map_before, order_less, order_ghost, young_means, young_so}
 
 -- so it is on the ledger's queue, but for rows of units that an operator has settled
 pub front_told : (w : World) (g : Ghost) (b : Book) (m : ℕ) (q : List ℕ) (ids : List Ident) → Inv w g b → IsFront ids (standing w m q) → ((i : Ident) → Mem i ids → is_forced (g.owner i) ≡ false)
@@ -193,23 +90,10 @@ lands_in_order t (j ∷ ls) q xs l k s (inr n) e f same =
     lands_in_order t ls q (if is_here t j.queue t q then insert_row j.row xs else xs) l k
     (bool_case (is_here t j.queue t q) (λ z. LanesRise (if z then insert_row j.row xs else xs)) (λ e. sorted_insert j.row xs s) (λ e. s)) n e f same
 
--- Owners change, and no row that an operator has settled gets another one.
-pub order_ghost : (g v : Ghost) (rows : ℕ → List ℕ → List Row) (young : ℕ → List ℕ → Luw → Bool) → InOrder g rows young
-    → ((m : ℕ) (c : List ℕ) (u : Luw) → young m c u ≡ true → v.sent m c u ≡ g.sent m c u)
-    → ((m : ℕ) (q : List ℕ) (x : Row) → Mem x (rows m q) → is_forced (g.owner x.message.ident) ≡ true → v.owner x.message.ident ≡ g.owner x.message.ident)
-    → InOrder v rows young
-order_ghost g v rows young o sent same = record {
-  first = λ m q c u x y z b n l no_.
-      let s : v.sent m c u ≡ g.sent m c u = sent m c u z in
-      let r = o.first m q c u x y z b (subst (λ (t : List Tag). Mem y.message.ident (tag_idents t)) s n) l
-      (λ e. let k = same m q x (before_mem x y (rows m q) b).0 e.0 in no_ (ap is_forced k ∙ e.0, (λ f. e.1 (sym k ∙ f)))) in
-      (subst (λ (t : List Tag). Mem x.message.ident (tag_idents t)) (sym s) r.0, subst (λ (t : List Tag). Before x.message.ident y.message.ident (tag_idents t)) (sym s) r.1);
-}
-
-pub order_holds : (w : World) (g : Ghost) (b : Book) (young : ℕ → List ℕ → Luw → Bool) (m : ℕ) (q c : List ℕ) (u : Luw) (ts : List Tag) → Inv w g b → InOrder g b.rows young → g.operated m c u ≡ false
+pub order_holds : (w : World) (g : Ghost) (b : Book) (young : ℕ → List ℕ → Luw → Bool) (m : ℕ) (q c : List ℕ) (u : Luw) (ts : List Tag) (front : Bool) → Inv w g b → InOrder g b.rows young → g.operated m c u ≡ false
     → ((i : Ident) → Mem i (tag_idents ts) → g.owner i ≡ At m q) → IsFront (tag_idents ts) (standing w m q)
-    → InOrder (ghost_hold g m q c u ts) b.rows (with_young young m c u)
-order_holds w g b young m q c u ts h o done mine front = record {
+    → InOrder (ghost_take g m q c u ts front) b.rows (with_young young m c u)
+order_holds w g b young m q c u ts front h o done mine first_ = record {
   first = λ a d e x2 x y z before n l no_.
       bool_case (unit_at m c u a e x2) (λ t. unit_at m c u a e x2 ≡ t → (if t then true else young a e x2) ≡ true → Mem y.message.ident (tag_idents (if t then ts else g.sent a e x2))
       → Mem x.message.ident (tag_idents (if t then ts else g.sent a e x2)) × Before x.message.ident y.message.ident (tag_idents (if t then ts else g.sent a e x2)))
@@ -223,7 +107,7 @@ order_holds w g b young m q c u ts h o done mine front = record {
         | inr k ↦ queue_of m a q d k.0.by (sym (mine y.message.ident n) ∙ ap g.owner (told_ident y k.0 k.3) ∙ h.claims a d k.0 k.1 k.2)
       ] in
       let free_ : is_forced (g.owner x.message.ident) ≡ false = is_false _ (λ k. no_ (others a e x2 x am p.1 xu k)) in
-      front_told w g b m q (tag_idents ts) h front (λ i k. ap is_forced (mine i k)) x y (subst (λ (r : List Row). Before x y r) (λ i. b.rows (am i) (at_q i)) before) n l free_)
+      front_told w g b m q (tag_idents ts) h first_ (λ i k. ap is_forced (mine i k)) x y (subst (λ (r : List Row). Before x y r) (λ i. b.rows (am i) (at_q i)) before) n l free_)
       (λ t f z n. o.first a d e x2 x y z before n l (λ k. no_ (still a e x2 x k))) refl z n;
 }
   where
@@ -238,11 +122,50 @@ order_holds w g b young m q c u ts h o done mine front = record {
     not_chosen : (x : Row) → is_forced (g.owner x.message.ident) ≡ true → among (tag_idents ts) x.message.ident ≡ false
     not_chosen x k = is_false _ (λ z. true_false (sym k ∙ ap is_forced (mine x.message.ident (any_mem x.message.ident (tag_idents ts) z))))
 
-    same_owner : (x : Row) → is_forced (g.owner x.message.ident) ≡ true → (ghost_hold g m q c u ts).owner x.message.ident ≡ g.owner x.message.ident
+    same_owner : (x : Row) → is_forced (g.owner x.message.ident) ≡ true → (ghost_take g m q c u ts front).owner x.message.ident ≡ g.owner x.message.ident
     same_owner x k = ap (λ t. if t then InBatch m c else g.owner x.message.ident) (not_chosen x k)
 
-    still : (a : ℕ) (e : List ℕ) (x2 : Luw) (x : Row) → IsOthers g a e x2 x → IsOthers (ghost_hold g m q c u ts) a e x2 x
+    still : (a : ℕ) (e : List ℕ) (x2 : Luw) (x : Row) → IsOthers g a e x2 x → IsOthers (ghost_take g m q c u ts front) a e x2 x
     still a e x2 x k = (ap is_forced (same_owner x k.0) ∙ k.0, (λ f. k.1 (sym (same_owner x k.0) ∙ f)))
 
-    others : (a : ℕ) (e : List ℕ) (x2 : Luw) (x : Row) → a ≡ m → e ≡ c → x2 ≡ u → is_forced (g.owner x.message.ident) ≡ true → IsOthers (ghost_hold g m q c u ts) a e x2 x
+    others : (a : ℕ) (e : List ℕ) (x2 : Luw) (x : Row) → a ≡ m → e ≡ c → x2 ≡ u → is_forced (g.owner x.message.ident) ≡ true → IsOthers (ghost_take g m q c u ts front) a e x2 x
     others a e x2 x am ec xu k = still a e x2 x (k, (λ f. true_false (sym (h.forced a e x2 x.message.ident f).0 ∙ (λ i. g.operated (am i) (ec i) (xu i)) ∙ done)))
+
+-- a unit that is young after a batch was held, and is another one, was young before
+older : (w : World) (g : Ghost) (m : ℕ) (q c : List ℕ) (u : Luw) (ts : List Tag) (front : Bool) (a : ℕ) (d : List ℕ) (x : Luw) → unit_at m c u a d x ≡ false
+    → is_young (hold_batch w m q c u (tag_idents ts)) (ghost_take g m q c u ts front) a d x ≡ true → is_young w g a d x ≡ true
+older w g m q c u ts front a d x out z =
+    let y = young_means (hold_batch w m q c u (tag_idents ts)) (ghost_take g m q c u ts front) a d x z in
+    young_so w g a d x (sym (ap (λ t. if t then not front else g.loose a d x) out) ∙ y.0) (elim y.1 [
+      | inl p ↦ inl (held_still (is_here m c a d) (w.holds a d) u x p.0 out, p.1)
+      | inr p ↦ inr p
+    ])
+  where
+    some_of : (u x : Luw) → Some u ≡ Some x → u ≡ x
+    some_of u x e = cc
+
+    differs : (u x : Luw) → u ≡ x → same_unit x u ≡ false → ⊥
+    differs u x e f = grind (arith, nat_tests)
+
+    held_still : (t : Bool) (o : Option Luw) (u x : Luw) → (if t then Some u else o) ≡ Some x → (t && same_unit x u) ≡ false → o ≡ Some x
+    held_still true o u x e f = absurd (differs u x (some_of u x e) f)
+    held_still false o u x e f = e
+
+-- A batch is held: where it is known to be the front of its queue, its unit is young from then on.
+pub hold_order : (w : World) (g : Ghost) (b : Book) (m : ℕ) (q c : List ℕ) (u : Luw) (ts : List Tag) (front : Bool) → Inv w g b → g.operated m c u ≡ false
+    → ((i : Ident) → Mem i (tag_idents ts) → g.owner i ≡ At m q) → (front ≡ true → IsFront (tag_idents ts) (standing w m q))
+    → InOrder (ghost_take g m q c u ts front) b.rows (is_young (hold_batch w m q c u (tag_idents ts)) (ghost_take g m q c u ts front))
+hold_order w g b m q c u ts true h done mine first_ =
+    let v : World = hold_batch w m q c u (tag_idents ts) in
+    let e : Ghost = ghost_take g m q c u ts true in
+    order_less e b.rows (with_young (is_young w g) m c u) (is_young v e) (order_holds w g b (is_young w g) m q c u ts true h h.order done mine (first_ refl))
+    (λ a d x z. bool_case (unit_at m c u a d x) (λ t. unit_at m c u a d x ≡ t → (if t then true else is_young w g a d x) ≡ true) (λ k f. refl) (λ k f. older w g m q c u ts true a d x f z) refl)
+hold_order w g b m q c u ts false h done mine first_ =
+    let v : World = hold_batch w m q c u (tag_idents ts) in
+    let e : Ghost = ghost_take g m q c u ts false in
+    let out : (a : ℕ) (d : List ℕ) (x : Luw) → is_young v e a d x ≡ true → unit_at m c u a d x ≡ false = λ a d x z.
+    is_false _ (λ k. true_false (sym (ap (λ t. if t then true else g.loose a d x) k) ∙ (young_means v e a d x z).0)) in
+    order_ghost g e b.rows (is_young v e)
+    (order_less g b.rows (is_young w g) (is_young v e) h.order (λ a d x z. older w g m q c u ts false a d x (out a d x z) z))
+    (λ a d x z. ap (λ t. if t then ts else g.sent a d x) (out a d x z))
+    (λ a d x n f. ap (λ t. if t then InBatch m c else g.owner x.message.ident) (is_false _ (λ k. true_false (sym f ∙ ap is_forced (mine x.message.ident (any_mem x.message.ident (tag_idents ts) k))))))
