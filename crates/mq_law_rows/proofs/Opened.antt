@@ -98,7 +98,7 @@ opens w b spots sent source o =
       };
       order = let g : Ghost = record { sent = sent; source = source; operated = λ m c u. false; loose = λ m c u. is_last (w.holds m c) u; owner = first_owner w spots } in
           record {
-            first = λ m q c u x y z. let k = young_means w g m c u z in elim k.1 [ inl p ↦ absurd (true_false (sym (rw (p.0) (unit_self u)) ∙ k.0)) | inr p ↦ absurd cc ];
+            first = λ m a q c u x y z. let k = young_means w g m c u z in elim k.1 [ inl p ↦ absurd (true_false (sym (rw (p.0) (unit_self u)) ∙ k.0)) | inr p ↦ absurd cc ];
           };
       distinct = o.distinct;
       back = λ m q h n s. elim (owner_case w spots h.message.ident (if w.given h.message.ident then Gone else Unborn)) [

@@ -1,5 +1,5 @@
 -- Order on a channel: batches are taken from the front, and receivers commit them.
-use Rattle.std.proofs.Common.{ℕ, ◌≡◌, ◌<◌, ◌≤◌, ◌⊎◌, Bool, true, false, not, List, [], ◌∷◌, refl, ap, sym, subst, ◌∙◌, inl, inr, arith, map}
+use Rattle.std.proofs.Common.{ℕ, ◌≡◌, ◌≤◌, Bool, true, false, not, List, [], ◌∷◌, ◌++◌, refl, ap, sym, subst, ◌∙◌, inl, inr, arith}
 use Rattle.std.specs.Prelude.{Option, Some, None, if◌then◌else◌, nat_le, ◌&&◌}
 use Rattle.std.proofs.lemmas.Bool.Decides.{nat_tests}
 use Rattle.mq_message.specs.declared.message.Ident.{Ident}
@@ -8,17 +8,18 @@ use Rattle.mq_queue.specs.Rows.{insert_row, keep}
 use Rattle.mq_sync.specs.declared.unit.Unit.{Unit as Luw}
 use Rattle.mq_sync.specs.Units.{same_unit}
 use Rattle.mq_spec_network.specs.Story.{Mem}
+use Rattle.mq_spec_network.specs.Promised.{AreDistinct}
 use Rattle.mq_spec_network.specs.Order.{Before, KeepsQueue}
 use Rattle.mq_spec_network.specs.Standing.{row_told, rows_told}
-use Rattle.mq_law_rows.specs.Families.{is_here, put_at}
-use Rattle.mq_law_rows.specs.World.{World, Book, Ghost, Tag, At, InBatch, tag_idents, ident_of, is_forced, is_counted, counted, standing, claim, LanesRise, IsOthers, InOrder, is_young, Inv}
-use Rattle.mq_law_rows.specs.Kinds.{among, Landing, place_all, ghost_take, hold_batch, unit_at}
+use Rattle.mq_law_rows.specs.Families.{is_here}
+use Rattle.mq_law_rows.specs.World.{World, Book, Ghost, Tag, At, InBatch, Forced, tag_idents, ident_of, idents_in, is_forced, is_counted, counted, standing, claim, LanesRise, IsOthers, InOrder, is_young, Inv}
+use Rattle.mq_law_rows.specs.Kinds.{among, Landing, place_all, ghost_take, hold_batch, unit_at, awaits, Commits}
 use Rattle.mq_law_rows.specs.Ordered.{IsFront, with_young}
 use Rattle.mq_message.specs.declared.place.Holder.{Holder}
 use Rattle.mq_message.specs.declared.place.Holder.TheVariants as holders
 use Rattle.mq_law_rows.proofs.Owners.{ledger_row, told_ident}
-use Rattle.mq_law_rows.proofs.Receiving.{any_mem}
-use Rattle.mq_law_rows.proofs.Lists.{true_false, bool_case, is_false, here_yes, here_self, mem_insert, mem_inserted, mem_insert_old, mem_keep, mem_kept, and_left, and_right, sorted_insert}
+use Rattle.mq_law_rows.proofs.Receiving.{any_mem, mem_any, holds_means, landing_idents, mem_all}
+use Rattle.mq_law_rows.proofs.Lists.{once_not, mem_map, true_false, bool_case, is_false, here_yes, here_self, mem_inserted, mem_insert_old, and_left, and_right, sorted_insert, mem_keep, sorted_keep}
 use Rattle.mq_law_rows.proofs.Young.{before_mem, before_kept, before_map, map_before, order_less, order_ghost, young_means, young_so}
 
 -- so it is on the ledger's queue, but for rows of units that an operator has settled
@@ -34,11 +35,11 @@ front_told w g b m q ids h f mine x y before n l free_ =
     let z = f.front r.0 r.1 r.2 (subst (λ (i : Ident). Mem i ids) iy n) (ap (λ (r : Row). r.place.lane) (sym r.3) ∙ l ∙ ap (λ (r : Row). r.place.lane) r.4) in
     (subst (λ (i : Ident). Mem i ids) (sym ix) z.0, subst (λ (i : Ident). Before i y.message.ident ids) (sym ix) (subst (λ (i : Ident). Before r.0.message.ident i ids) (sym iy) z.1))
 
--- at a receiver's commit: the first two of the order's clauses, on each queue of the sending manager
+-- at a receiver's commit: the first two of the order's clauses, on each queue of any manager
 pub keeps_queue : (g : Ghost) (b : Book) (young : ℕ → List ℕ → Luw → Bool) (m : ℕ) (c : List ℕ) (u : Luw) → InOrder g b.rows young → young m c u ≡ true
-    → (q : List ℕ) (xs : List Row) → ((x y : Row) → Before x y xs → Before x y (b.rows m q)) → ((x : Row) → Mem x xs → IsOthers g m c u x → ⊥)
+    → (a : ℕ) (q : List ℕ) (xs : List Row) → ((x y : Row) → Before x y xs → Before x y (b.rows a q)) → ((x : Row) → Mem x xs → IsOthers g m c u x → ⊥)
     → KeepsQueue (tag_idents (g.sent m c u)) xs
-keeps_queue g b young m c u o z q xs part no_ x y before n l = o.first m q c u x y z (part x y before) n l (no_ x (before_mem x y xs before).0)
+keeps_queue g b young m c u o z a q xs part no_ x y before n l = o.first m a q c u x y z (part x y before) n l (no_ x (before_mem x y xs before).0)
 
 -- and the third: what lands on one queue with one priority stands there in the order of the list
 before_insert_old : (n x y : Row) (xs : List Row) → Before x y xs → Before x y (insert_row n xs)
@@ -94,28 +95,28 @@ pub order_holds : (w : World) (g : Ghost) (b : Book) (young : ℕ → List ℕ �
     → ((i : Ident) → Mem i (tag_idents ts) → g.owner i ≡ At m q) → IsFront (tag_idents ts) (standing w m q)
     → InOrder (ghost_take g m q c u ts front) b.rows (with_young young m c u)
 order_holds w g b young m q c u ts front h o done mine first_ = record {
-  first = λ a d e x2 x y z before n l no_.
+  first = λ a i d e x2 x y z before n l no_.
       bool_case (unit_at m c u a e x2) (λ t. unit_at m c u a e x2 ≡ t → (if t then true else young a e x2) ≡ true → Mem y.message.ident (tag_idents (if t then ts else g.sent a e x2))
       → Mem x.message.ident (tag_idents (if t then ts else g.sent a e x2)) × Before x.message.ident y.message.ident (tag_idents (if t then ts else g.sent a e x2)))
       (λ t f z n.
       let p = here_yes m c a e (and_left (is_here m c a e) (same_unit x2 u) f) in
       let xu : x2 ≡ u = unit_yes x2 u (and_right (is_here m c a e) (same_unit x2 u) f) in
       let am : a ≡ m = p.0 in
-      let py = before_mem x y (b.rows a d) before in
-      let at_q : d ≡ q = elim (ledger_row w g b h a d y py.1) [
+      let py = before_mem x y (b.rows i d) before in
+      let at_q : (i ≡ m) × (d ≡ q) = elim (ledger_row w g b h i d y py.1) [
         | inl k ↦ absurd (true_false (sym k ∙ ap is_forced (mine y.message.ident n)))
-        | inr k ↦ queue_of m a q d k.0.by (sym (mine y.message.ident n) ∙ ap g.owner (told_ident y k.0 k.3) ∙ h.claims a d k.0 k.1 k.2)
+        | inr k ↦ queue_of m i q d k.0.by (sym (mine y.message.ident n) ∙ ap g.owner (told_ident y k.0 k.3) ∙ h.claims i d k.0 k.1 k.2)
       ] in
       let free_ : is_forced (g.owner x.message.ident) ≡ false = is_false _ (λ k. no_ (others a e x2 x am p.1 xu k)) in
-      front_told w g b m q (tag_idents ts) h first_ (λ i k. ap is_forced (mine i k)) x y (subst (λ (r : List Row). Before x y r) (λ i. b.rows (am i) (at_q i)) before) n l free_)
-      (λ t f z n. o.first a d e x2 x y z before n l (λ k. no_ (still a e x2 x k))) refl z n;
+      front_told w g b m q (tag_idents ts) h first_ (λ i k. ap is_forced (mine i k)) x y (subst (λ (r : List Row). Before x y r) (λ j. b.rows (at_q.0 j) (at_q.1 j)) before) n l free_)
+      (λ t f z n. o.first a i d e x2 x y z before n l (λ k. no_ (still a e x2 x k))) refl z n;
 }
   where
     unit_yes : (u v : Luw) → same_unit u v ≡ true → u ≡ v
     unit_yes u v e = grind (arith, nat_tests)
 
-    queue_of : (m a : ℕ) (q d : List ℕ) (x : Option Holder) → At m q ≡ claim a d x → d ≡ q
-    queue_of m a q d None e = cc
+    queue_of : (m a : ℕ) (q d : List ℕ) (x : Option Holder) → At m q ≡ claim a d x → (a ≡ m) × (d ≡ q)
+    queue_of m a q d None e = (cc, cc)
     queue_of m a q d (Some (holders.Unit k)) e = absurd cc
     queue_of m a q d (Some (holders.Batch k)) e = absurd cc
 
@@ -169,3 +170,62 @@ hold_order w g b m q c u ts false h done mine first_ =
     (order_less g b.rows (is_young w g) (is_young v e) h.order (λ a d x z. older w g m q c u ts false a d x (out a d x z) z))
     (λ a d x z. ap (λ t. if t then ts else g.sent a d x) (out a d x z))
     (λ a d x n f. ap (λ t. if t then InBatch m c else g.owner x.message.ident) (is_false _ (λ k. true_false (sym f ∙ ap is_forced (mine x.message.ident (any_mem x.message.ident (tag_idents ts) k))))))
+
+-- the first rows of a queue are its front
+first_two : (xs rest : List Row) (x y : Row) → AreDistinct (idents_in (xs ++ rest)) → Before x y (xs ++ rest) → Mem y.message.ident (idents_in xs) → Mem x.message.ident (idents_in xs) × Before x.message.ident y.message.ident (idents_in xs)
+first_two [] rest x y once b n = absurd n
+first_two (z ∷ zs) rest x y once (inl e) (inl n) = absurd (once_not z.message.ident (idents_in (zs ++ rest)) once.0 (subst (λ (i : Ident). Mem i (idents_in (zs ++ rest))) n (mem_map ident_of y (zs ++ rest) e.1)))
+first_two (z ∷ zs) rest x y once (inl e) (inr n) = (inl (ap ident_of e.0), inl (ap ident_of e.0, n))
+first_two (z ∷ zs) rest x y once (inr b) (inl n) = absurd (once_not z.message.ident (idents_in (zs ++ rest)) once.0 (subst (λ (i : Ident). Mem i (idents_in (zs ++ rest))) n (mem_map ident_of y (zs ++ rest) (before_mem x y (zs ++ rest) b).1)))
+first_two (z ∷ zs) rest x y once (inr b) (inr n) = let r = first_two zs rest x y once.1 b n in (inr r.0, inr r.1)
+
+pub first_is_front : (xs rest : List Row) → AreDistinct (idents_in (xs ++ rest)) → IsFront (idents_in xs) (xs ++ rest)
+first_is_front xs rest once = record { front = λ x y b n l. first_two xs rest x y once b n }
+
+-- at a receiver's commit of a unit whose batch was taken from the front of its queue
+pub commit_keeps : (w : World) (g : Ghost) (b : Book) (m : ℕ) (c : List ℕ) (u : Luw) (t : ℕ) → Inv w g b → Commits w g m c u t → g.loose m c u ≡ false
+    → (a : ℕ) (q : List ℕ) (xs : List Row) → ((x y : Row) → Before x y xs → Before x y (b.rows a q)) → ((x : Row) → Mem x xs → IsOthers g m c u x → ⊥)
+    → KeepsQueue (tag_idents (g.sent m c u)) xs
+commit_keeps w g b m c u t h k tight a q xs part no_ x y before n l =
+    let young : is_young w g m c u ≡ true =
+    bool_case (awaits w m c u) (λ z. awaits w m c u ≡ z → is_young w g m c u ≡ true)
+    (λ z e. let holds = holds_means (w.doubt m c) (w.holds m c) u e in young_so w g m c u tight (inl (holds, k.others u holds)))
+    (λ z e. young_so w g m c u tight (inr (h.forced m c u y.message.ident (k.mine y.message.ident n ∙ ap (λ f. if f then InBatch m c else Forced m c u) e)).0)) refl in
+    keeps_queue g b (is_young w g) m c u h.order young a q xs part no_ x y before n l
+
+-- what a commit places on one queue with one priority stands there in the order of its list
+one_landing : (ks : List Landing) → AreDistinct (landing_idents ks) → (l k : Landing) → Mem l ks → Mem k ks → l.row.message.ident ≡ k.row.message.ident → l ≡ k
+one_landing [] once l k n o e = absurd n
+one_landing (j ∷ js) once l k (inl a) (inl b) e = a ∙ sym b
+one_landing (j ∷ js) once l k (inl a) (inr b) e = absurd (once_not j.row.message.ident (landing_idents js) once.0 (subst (λ (i : Ident). Mem i (landing_idents js)) (sym e ∙ ap (λ (z : Landing). z.row.message.ident) a) (mem_map (λ (z : Landing). z.row.message.ident) k js b)))
+one_landing (j ∷ js) once l k (inr a) (inl b) e = absurd (once_not j.row.message.ident (landing_idents js) once.0 (subst (λ (i : Ident). Mem i (landing_idents js)) (e ∙ ap (λ (z : Landing). z.row.message.ident) b) (mem_map (λ (z : Landing). z.row.message.ident) l js a)))
+one_landing (j ∷ js) once l k (inr a) (inr b) e = one_landing js once.1 l k a b e
+
+landed_there : (t : ℕ) (ids : List Ident) (ks : List Landing) (q : List ℕ) (xs : List Row) (x : Row) → Mem x (place_all t ks t q (keep (λ r. not (among ids r.message.ident)) xs)) → Mem x.message.ident ids
+    → (l : Landing) × Mem l ks × (x ≡ l.row) × (q ≡ l.queue)
+landed_there t ids ks q xs x n there = elim (mem_all t ks t q _ x n) [
+  | inl z ↦ absurd (no_row (among ids x.message.ident) (mem_any x.message.ident ids there) (mem_keep (λ r. not (among ids r.message.ident)) x xs z).1)
+  | inr z ↦ (z.1.0, z.1.1, z.1.2, z.1.3)
+]
+  where
+    no_row : (f : Bool) → f ≡ true → not f ≡ true → ⊥
+    no_row true e f = true_false (sym f)
+    no_row false e f = true_false (sym e)
+
+pub commit_lists : (t : ℕ) (ids : List Ident) (ks : List Landing) (q : List ℕ) (xs : List Row) → landing_idents ks ≡ ids → AreDistinct ids → LanesRise xs
+    → (x y : Row) → Mem x (place_all t ks t q (keep (λ r. not (among ids r.message.ident)) xs)) → Mem y (place_all t ks t q (keep (λ r. not (among ids r.message.ident)) xs)) → x.place.lane ≡ y.place.lane
+    → Before x.message.ident y.message.ident ids → Before x y (place_all t ks t q (keep (λ r. not (among ids r.message.ident)) xs))
+commit_lists t ids ks q xs named once rise x y nx ny lane before =
+    let b = before_mem x.message.ident y.message.ident ids before in
+    let rest : List Row = keep (λ r. not (among ids r.message.ident)) xs in
+    let l = landed_there t ids ks q xs x nx b.0 in
+    let k = landed_there t ids ks q xs y ny b.1 in
+    let r = map_before (λ (z : Landing). z.row.message.ident) x.message.ident y.message.ident ks (subst (λ (is : List Ident). Before x.message.ident y.message.ident is) (sym named) before) in
+    let apart : AreDistinct (landing_idents ks) = subst AreDistinct (sym named) once in
+    let m = before_mem r.0 r.1 ks r.2 in
+    let le : r.0 ≡ l.0 = one_landing ks apart r.0 l.0 m.0 l.1 (sym r.3 ∙ ap ident_of l.2) in
+    let ke : r.1 ≡ k.0 = one_landing ks apart r.1 k.0 m.1 k.1 (sym r.4 ∙ ap ident_of k.2) in
+    let order : Before l.0 k.0 ks = subst (λ (z : Landing). Before l.0 z ks) ke (subst (λ (z : Landing). Before z r.1 ks) le r.2) in
+    let placed : Before l.0.row k.0.row (place_all t ks t q rest) =
+    lands_in_order t ks q rest l.0 k.0 (sorted_keep _ xs rise) order (sym l.3) (sym k.3) (ap (λ (z : Row). z.place.lane) (sym l.2) ∙ lane ∙ ap (λ (z : Row). z.place.lane) k.2) in
+    subst (λ (z : Row). Before x z (place_all t ks t q rest)) (sym k.2) (subst (λ (z : Row). Before z k.0.row (place_all t ks t q rest)) (sym l.2) placed)

@@ -10,9 +10,9 @@ use Rattle.mq_sync.specs.Units.{same_unit}
 use Rattle.mq_spec_network.specs.Story.{Mem}
 use Rattle.mq_spec_network.specs.Order.{Before}
 use Rattle.mq_law_rows.specs.Families.{is_here, put_at}
-use Rattle.mq_law_rows.specs.World.{World, Book, Ghost, Tag, Owner, InBatch, Forced, tag_idents, is_forced, is_last, is_young, LanesRise, IsOthers, InOrder, Inv}
+use Rattle.mq_law_rows.specs.World.{World, Book, Ghost, Tag, Owner, InBatch, tag_idents, is_forced, is_last, is_young, LanesRise, InOrder, Inv}
 use Rattle.mq_law_rows.specs.Kinds.{Landing, place_all, after, owned}
-use Rattle.mq_law_rows.proofs.Lists.{true_false, bool_case, ident_yes, here_yes, mem_insert, mem_inserted, mem_insert_old, mem_keep, mem_kept, map_mem, and_left, and_right, sorted_insert}
+use Rattle.mq_law_rows.proofs.Lists.{true_false, bool_case, ident_yes, here_yes, mem_insert, mem_keep, mem_kept, map_mem, and_left, and_right, sorted_insert}
 
 pub before_mem : {A : Type 0} (x y : A) (xs : List A) → Before x y xs → Mem x xs × Mem y xs
 before_mem x y [] b = absurd b
@@ -75,23 +75,23 @@ before_insert n x y (z ∷ zs) s b =
 
 -- rows go
 pub order_keep : (g : Ghost) (rows : ℕ → List ℕ → List Row) (young : ℕ → List ℕ → Luw → Bool) (p : ℕ → List ℕ → Row → Bool) → InOrder g rows young → InOrder g (λ m q. keep (p m q) (rows m q)) young
-order_keep g rows young p o = record { first = λ m q c u x y z b n l no_. o.first m q c u x y z (before_keep (p m q) x y (rows m q) b) n l no_ }
+order_keep g rows young p o = record { first = λ m e q c u x y z b n l no_. o.first m e q c u x y z (before_keep (p e q) x y (rows e q) b) n l no_ }
 
 -- a row that is in hand is placed
 pub order_place : (g : Ghost) (rows : ℕ → List ℕ → List Row) (young : ℕ → List ℕ → Luw → Bool) (m : ℕ) (q : List ℕ) (row : Row) → InOrder g rows young → LanesRise (rows m q)
     → ((a : ℕ) (c : List ℕ) (u : Luw) → young a c u ≡ true → Mem row.message.ident (tag_idents (g.sent a c u)) → ⊥)
     → InOrder g (put_at rows m q (insert_row row (rows m q))) young
 order_place g rows young m q row o s new = record {
-  first = λ a d c u x y z b n l no_.
+  first = λ e a d c u x y z b n l no_.
       let split : Before x y (rows a d) ⊎ (((x ≡ row) × (row.place.lane < y.place.lane)) ⊎ (y ≡ row)) =
       bool_case (is_here m q a d) (λ t. is_here m q a d ≡ t → Before x y (if t then insert_row row (rows m q) else rows a d) → Before x y (rows a d) ⊎ (((x ≡ row) × (row.place.lane < y.place.lane)) ⊎ (y ≡ row)))
       (λ e f b. let p = here_yes m q a d f in elim (before_insert row x y (rows m q) s b) [ inl k ↦ inl (subst (λ (r : List Row). Before x y r) (λ i. rows (sym p.0 i) (sym p.1 i)) k) | inr k ↦ inr k ])
       (λ e f b. inl b) refl b in
       elim split [
-        | inl k ↦ o.first a d c u x y z k n l no_
+        | inl k ↦ o.first e a d c u x y z k n l no_
         | inr k ↦ elim k [
           | inl v ↦ absurd (same_less row.place.lane y.place.lane (ap (λ (r : Row). r.place.lane) (sym v.0) ∙ l) v.1)
-          | inr v ↦ absurd (new a c u z (subst (λ (r : Row). Mem r.message.ident (tag_idents (g.sent a c u))) v n))
+          | inr v ↦ absurd (new e c u z (subst (λ (r : Row). Mem r.message.ident (tag_idents (g.sent e c u))) v n))
         ]
       ];
 }
@@ -101,7 +101,7 @@ order_place g rows young m q row o s new = record {
 
 -- fewer units are young
 pub order_less : (g : Ghost) (rows : ℕ → List ℕ → List Row) (young older : ℕ → List ℕ → Luw → Bool) → InOrder g rows young → ((m : ℕ) (c : List ℕ) (u : Luw) → older m c u ≡ true → young m c u ≡ true) → InOrder g rows older
-order_less g rows young older o less = record { first = λ m q c u x y z. o.first m q c u x y (less m c u z) }
+order_less g rows young older o less = record { first = λ m e q c u x y z. o.first m e q c u x y (less m c u z) }
 
 -- a receiver's commit places its rows
 pub order_all : (g : Ghost) (young : ℕ → List ℕ → Luw → Bool) (t : ℕ) (ls : List Landing) (rows : ℕ → List ℕ → List Row) → InOrder g rows young → ((m : ℕ) (q : List ℕ) → LanesRise (rows m q))
@@ -110,7 +110,7 @@ pub order_all : (g : Ghost) (young : ℕ → List ℕ → Luw → Bool) (t : ℕ
 order_all g young t [] rows o s new = o
 order_all g young t (l ∷ ls) rows o s new =
     order_all g young t ls (λ a d. if is_here t l.queue a d then insert_row l.row (rows a d) else rows a d)
-    (record { first = λ a d c u x y z b n e no_. (order_place g rows young t l.queue l.row o (s t l.queue) (new l (inl refl))).first a d c u x y z (place_is rows t l.queue l.row a d x y b) n e no_ })
+    (record { first = λ k a d c u x y z b n e no_. (order_place g rows young t l.queue l.row o (s t l.queue) (new l (inl refl))).first k a d c u x y z (place_is rows t l.queue l.row a d x y b) n e no_ })
     (λ a d. bool_case (is_here t l.queue a d) (λ z. LanesRise (if z then insert_row l.row (rows a d) else rows a d)) (λ e. sorted_insert l.row (rows a d) (s a d)) (λ e. s a d))
     (λ k n. new k (inr n))
   where
@@ -124,10 +124,10 @@ pub order_ghost : (g v : Ghost) (rows : ℕ → List ℕ → List Row) (young : 
     → ((m : ℕ) (q : List ℕ) (x : Row) → Mem x (rows m q) → is_forced (g.owner x.message.ident) ≡ true → v.owner x.message.ident ≡ g.owner x.message.ident)
     → InOrder v rows young
 order_ghost g v rows young o sent same = record {
-  first = λ m q c u x y z b n l no_.
+  first = λ m a q c u x y z b n l no_.
       let s : v.sent m c u ≡ g.sent m c u = sent m c u z in
-      let r = o.first m q c u x y z b (subst (λ (t : List Tag). Mem y.message.ident (tag_idents t)) s n) l
-      (λ e. let k = same m q x (before_mem x y (rows m q) b).0 e.0 in no_ (ap is_forced k ∙ e.0, (λ f. e.1 (sym k ∙ f)))) in
+      let r = o.first m a q c u x y z b (subst (λ (t : List Tag). Mem y.message.ident (tag_idents t)) s n) l
+      (λ e. let k = same a q x (before_mem x y (rows a q) b).0 e.0 in no_ (ap is_forced k ∙ e.0, (λ f. e.1 (sym k ∙ f)))) in
       (subst (λ (t : List Tag). Mem x.message.ident (tag_idents t)) (sym s) r.0, subst (λ (t : List Tag). Before x.message.ident y.message.ident (tag_idents t)) (sym s) r.1);
 }
 
@@ -173,9 +173,9 @@ young_means w g m c u z =
       not_so (g.loose m c u) (and_left (not (g.loose m c u)) open_ z),
       elim (or_yes held (g.operated m c u) (and_right (not (g.loose m c u)) open_ z)) [
         | inl k ↦ inl (
-            held_so (w.holds m c) u (and_left (is_last (w.holds m c) u) (not (same_unit u (w.last m c))) k),
-            (λ e. true_false (sym (ap (λ l. same_unit u l) e ∙ unit_self u) ∙ not_so (same_unit u (w.last m c)) (and_right (is_last (w.holds m c) u) (not (same_unit u (w.last m c))) k))),
-          )
+          held_so (w.holds m c) u (and_left (is_last (w.holds m c) u) (not (same_unit u (w.last m c))) k),
+          (λ e. true_false (sym (ap (λ l. same_unit u l) e ∙ unit_self u) ∙ not_so (same_unit u (w.last m c)) (and_right (is_last (w.holds m c) u) (not (same_unit u (w.last m c))) k))),
+        )
         | inr k ↦ inr k
       ],
     )

@@ -1,12 +1,11 @@
 -- The order that messages of one channel keep, on the ledger's queues.
-use Rattle.std.specs.Prelude.{ℕ, ◌≡◌, ◌≢◌, Bool, true, List, if◌then◌else◌}
+use Rattle.std.specs.Prelude.{ℕ, ◌≡◌, Bool, true, List, if◌then◌else◌}
 use Rattle.mq_message.specs.declared.message.Ident.{Ident}
 use Rattle.mq_queue.specs.declared.row.Row.{Row}
 use Rattle.mq_sync.specs.declared.unit.Unit.{Unit as Luw}
 use Rattle.mq_spec_network.specs.Story.{Mem}
 use Rattle.mq_spec_network.specs.Order.{Before}
 use Rattle.mq_law_rows.specs.Kinds.{unit_at}
-use Rattle.mq_law_rows.specs.World.{Ghost, Forced, tag_idents, is_forced}
 
 -- A batch is taken from the front of its queue: what stands before one of its rows, with its priority, is of it too.
 pub record IsFront (ids : List Ident) (rows : List Row) : Type 0 where

@@ -10,5 +10,8 @@ returns c = record {
   owned = young.order_ghost;
   taken = ordering.order_holds;
   queue = ordering.keeps_queue;
+  committed = ordering.commit_keeps;
+  listed = ordering.commit_lists;
+  first = ordering.first_is_front;
   list = ordering.lands_in_order;
 }
