@@ -5,6 +5,7 @@ use Rattle.std.specs.List.{list_any}
 use Rattle.std.specs.Str.{bytes_eq}
 use Rattle.mq_message.specs.declared.message.Ident.{Ident}
 use Rattle.mq_message.specs.declared.place.Holder.{Holder}
+use Rattle.mq_message.specs.declared.place.Holder.TheVariants as holders
 use Rattle.mq_queue.specs.declared.row.Row.{Row}
 use Rattle.mq_queue.specs.Rows.{is_free, keep}
 use Rattle.mq_frame.specs.declared.frame.Seen.{Seen}
@@ -28,7 +29,7 @@ use Rattle.mq_sender.specs.Table.{is_ack, is_binding, is_err, is_idle, is_sendin
 use Rattle.mq_calls.specs.declared.agents.Note.TheVariants as notes
 use Rattle.mq_calls.specs.declared.state.Batch.{Batch}
 use Rattle.mq_spec_state.specs.State.{Plain}
-use Rattle.mq_spec_state.specs.Reads.{batch_of, free_rows, has_held, in_doubt_of, is_full, sender_data, stored}
+use Rattle.mq_spec_state.specs.Reads.{batch_of, free_rows, has_held, has_held_by_other, in_doubt_of, is_by_other, is_full, sender_data, stored}
 use Rattle.mq_spec_state.specs.Sizes.{need}
 use Rattle.mq_spec_state.specs.Changes.{apply_all}
 use Rattle.mq_spec_state.specs.Steps.{do_all, do_part}
@@ -51,7 +52,7 @@ use Rattle.mq_law_rows.specs.Families.{is_here}
 use Rattle.mq_law_rows.specs.World.{Ghost, Inv, Tag, World, away, idents_in, row_stands, standing, stands, tag_idents, tag_of}
 use Rattle.mq_law_rows.specs.Kinds.{Chosen, after, freed, ghost_take, unit_at}
 use Rattle.mq_law_rows.specs.Ordered.{IsFront}
-use Rattle.mq_law_rows.proofs.Lists.{bool_case, here_self, keep_all, map_mem, mem_map, name_self, true_false}
+use Rattle.mq_law_rows.proofs.Lists.{bool_case, here_self, keep_all, map_mem, mem_map, name_self, name_yes, true_false}
 use Rattle.mq_law_rows.proofs.Ordering.{first_is_front}
 use Rattle.mq_law_seen.specs.Seen.{doubt_of, held_unit, holds_of, last_of, rows_of, world_of}
 use Rattle.mq_law_manager.proofs.Removals.{mem_filter}
@@ -183,6 +184,40 @@ front_now z p q count at h clear =
     let ids : tag_idents (tags_of (take count (free_rows q p))) ≡ idents_in (take count rows) = tags_named (take count (free_rows q p)) ∙ ap (λ (l : List Row). idents_in (take count l)) (filter_same rows free) in
     subst (λ (is : List Ident). IsFront is (standing (world_in z) z.sender q)) (sym ids)
     (subst (λ (l : List Row). IsFront (idents_in (take count rows)) l) (sym stand) (front_rows rows count (subst (λ (l : List Row). AreDistinct (idents_in l)) here (h.distinct z.sender q))))
+
+-- A sender that is idle has no batch: where no other holds a row of its queue, none of its rows is held, and what it begins next is
+-- the front of it.
+own_only : (c : List ℕ) (o : Option Holder) → is_by_other c o ≡ false → (o ≡ None) ⊎ (o ≡ Some (holders.Batch c))
+own_only c None e = inl refl
+own_only c (Some (holders.Unit k)) e = absurd (true_false e)
+own_only c (Some (holders.Batch d)) e = inr (ap (λ (f : List ℕ). Some (holders.Batch f)) (sym (name_yes c d (twice (bytes_eq c d) (ap not e)))))
+
+is_free_by : (row : Row) → row.by ≡ None → is_free row ≡ true
+is_free_by row e = ap (λ (o : Option Holder). elim o as (λ h. Bool) [ None ↦ true | Some h ↦ false ]) e
+
+none_held : (c : List ℕ) (xs : List Row) → list_any (λ (row : Row). is_by_other c row.by) xs ≡ false → ((row : Row) → Mem row xs → row.by ≡ Some (holders.Batch c) → ⊥)
+    → list_any (λ (row : Row). not (is_free row)) xs ≡ false
+none_held c [] e no_ = refl
+none_held c (x ∷ xs) e no_ =
+    bool_case (is_by_other c x.by) (λ t. is_by_other c x.by ≡ t → (t || list_any (λ (row : Row). is_by_other c row.by) xs) ≡ false → (not (is_free x) || list_any (λ (row : Row). not (is_free row)) xs) ≡ false)
+    (λ t f k. absurd (true_false k))
+    (λ t f k. elim (own_only c x.by f) [
+      | inl z ↦ ap (λ b. not b || list_any (λ (row : Row). not (is_free row)) xs) (is_free_by x z) ∙ none_held c xs k (λ row n. no_ row (inr n))
+      | inr z ↦ absurd (no_ x (inl refl) z)
+    ]) refl e
+
+pub clear_queue : (z : Scene) (n : Node) (x : Channel) (y : Past) → IsAt z n x y → is_idle x.sender.state ≡ true
+    → has_held_by_other z.place.channel (queue_of_sender z.place.channel n.manager) n.manager ≡ false → is_mixed z.place.channel (slice_get z.managers z.sender) ≡ false
+clear_queue z n x y a idle alone =
+    let p : Plain = n.manager in
+    let c : List ℕ = z.place.channel in
+    let q : List ℕ = queue_of_sender c p in
+    let fits = fits_at x y _ a.facts.tied (idle_is x.sender.state idle) in
+    let plain : y.forced ≡ false = not_forced x y a.facts.tied fits.1 in
+    let none : (world_in z).holds z.sender c ≡ None = (a.joint.tied.held plain).0 ∙ fits.0 in
+    let apart : (row : Row) → Mem row (stored q p).rows → row.by ≡ Some (holders.Batch c) → ⊥ = λ row h by_.
+    (a.joint.inv.batch z.sender q row c (subst (λ (o : Option Plain). Mem row (rows_of q o)) (sym a.at) h) by_).1 none in
+    ap (is_mixed c) a.at ∙ none_held c (stored q p).rows alone apart
 
 sent_self : (g : Ghost) (m : ℕ) (q c : List ℕ) (u : Luw) (ts : List Tag) (front : Bool) → (ghost_take g m q c u ts front).sent m c u ≡ ts
 sent_self g m q c u ts front = (λ i. if here_self m c i && unit_self u i then ts else g.sent m c u)
