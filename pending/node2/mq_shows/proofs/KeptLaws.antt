@@ -22,3 +22,12 @@ receiver_is None (Some y) None r e = absurd cc
 receiver_is None (Some y) (Some z) r e = absurd cc
 receiver_is (Some x) None b None e = absurd cc
 receiver_is (Some x) None b (Some z) e = absurd cc
+
+pub none_sender : (s : Option SenderData) (r : Option ReceiverData) → None ≡ kept_by s r → None ≡ s
+none_sender None r e = refl
+none_sender (Some y) r e = absurd cc
+
+pub none_receiver : (s : Option SenderData) (r : Option ReceiverData) → None ≡ kept_by s r → None ≡ r
+none_receiver None None e = refl
+none_receiver None (Some y) e = absurd cc
+none_receiver (Some y) r e = absurd cc

@@ -1,9 +1,10 @@
 //! DISPLAY CHSTATUS at a manager: a line for each end of a channel that is asked for.
 ghost use Rattle.std.specs.Prelude.{◌≡◌, ◌++◌, [], ◌∷◌, IfOk, OnOk, option_copied};
 ghost use Rattle.mq_spec_state.specs.Words.{receiver_data, sender_data};
-ghost use Rattle.mq_spec_node.specs.Status.{is_asked, status_line};
+ghost use Rattle.mq_spec_node.specs.Status.{channel_at, is_asked, status_line};
 ghost use Rattle.mq_shows.specs.Shows.{lines_of, shown_as};
 
+use mq_agents::Hardened;
 use mq_base::Items;
 use mq_calls::{ScRefusal, Shown};
 use mq_disk::Disk;
@@ -16,24 +17,30 @@ use mq_sync::{ReceiverData, SenderData};
 use std::alloc::{AllocError, Global};
 
 /// What the manager's sender of a channel has hardened.
-#[tactic(auto, using(crate::proofs::KeptLaws::kept_sender))]
+#[tactic(auto, using(crate::proofs::KeptLaws::sender_is, crate::proofs::KeptLaws::none_sender))]
 fn sender_kept<'a, D: Disk>(manager: &'a Manager<D>, channel: &ChName) -> Option<&'a SenderData>
     ensures { option_copied result.entry ≡ sender_data channel.now manager.now.plain }
 {
     match manager.kept(channel) {
         None => None,
-        Some(kept) => kept.sender,
+        Some(Hardened {
+            sender,
+            receiver: _,
+        }) => sender,
     }
 }
 
 /// What the manager's receiver of a channel has hardened.
-#[tactic(auto, using(crate::proofs::KeptLaws::kept_receiver))]
+#[tactic(auto, using(crate::proofs::KeptLaws::receiver_is, crate::proofs::KeptLaws::none_receiver))]
 fn receiver_kept<'a, D: Disk>(manager: &'a Manager<D>, channel: &ChName) -> Option<&'a ReceiverData>
     ensures { option_copied result.entry ≡ receiver_data channel.now manager.now.plain }
 {
     match manager.kept(channel) {
         None => None,
-        Some(kept) => kept.receiver,
+        Some(Hardened {
+            sender: _,
+            receiver,
+        }) => receiver,
     }
 }
 
@@ -52,7 +59,9 @@ fn line_of<D: Disk>(
 }
 
 /// The name of an end's channel.
-fn name_of(end: &ChannelEnd) -> &[u8] {
+fn name_of(end: &ChannelEnd) -> &[u8]
+    ensures { result.now ≡ channel_at end.now }
+{
     match &end.kind {
         EndKind::Sends(end) => end.channel.text(),
         EndKind::Receives(end) => end.channel.text(),
