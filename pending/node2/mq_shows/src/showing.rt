@@ -19,7 +19,7 @@ use std::alloc::{AllocError, Global};
 /// What the manager's sender of a channel has hardened.
 #[tactic(auto, using(crate::proofs::KeptLaws::sender_is, crate::proofs::KeptLaws::none_sender))]
 fn sender_kept<'a, D: Disk>(manager: &'a Manager<D>, channel: &ChName) -> Option<&'a SenderData>
-    ensures { option_copied result.entry ≡ sender_data channel.now manager.now.plain }
+    ensures { option_copied result ≡ sender_data channel.now manager.now.plain }
 {
     match manager.kept(channel) {
         None => None,
@@ -33,7 +33,7 @@ fn sender_kept<'a, D: Disk>(manager: &'a Manager<D>, channel: &ChName) -> Option
 /// What the manager's receiver of a channel has hardened.
 #[tactic(auto, using(crate::proofs::KeptLaws::receiver_is, crate::proofs::KeptLaws::none_receiver))]
 fn receiver_kept<'a, D: Disk>(manager: &'a Manager<D>, channel: &ChName) -> Option<&'a ReceiverData>
-    ensures { option_copied result.entry ≡ receiver_data channel.now manager.now.plain }
+    ensures { option_copied result ≡ receiver_data channel.now manager.now.plain }
 {
     match manager.kept(channel) {
         None => None,
@@ -108,7 +108,7 @@ fn push_lines<D: Disk>(
     ensures { IfOk result (λ lines. lines ≡ lines_of name.now any_end manager.now.plain ends.now) }
 {
     let mut lines = Items::new(alloc);
-    'showing: for end in ends {
+    for end in ends {
         push_line(alloc, &mut lines, manager, name, any_end, end)?;
     }
     Ok(lines)
