@@ -185,7 +185,7 @@ command_limit : (c : Command) (p : Plain) → fits c ≡ true → HasLimit p →
 command_limit c p f h = tested_on HasLimit (when (not (is_up p.running)) refusals.Down ∷ []) (planned_step (plan c p.given.name p.definitions (uses_of p)) p.definitions) p
     (λ e. planned_limit (plan c p.given.name p.definitions (uses_of p)) p (plan_fits c p.given.name p.definitions (uses_of p) f h) h)
 
-command_down : (c : Command) (p : Plain) → is_up p.running ≡ false → Idles (command c p)
+pub command_down : (c : Command) (p : Plain) → is_up p.running ≡ false → Idles (command c p)
 command_down c p down = subst (λ (b : Bool). Idles (tested (when (not b) refusals.Down ∷ []) (planned_step (plan c p.given.name p.definitions (uses_of p)) p.definitions))) (sym down) tt
 
 -- want of memory in place of its answer

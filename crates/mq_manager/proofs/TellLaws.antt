@@ -39,16 +39,16 @@ given_logged : (o : Option LogRecord) (p : Plain) → (logged o p).given ≡ p.g
 given_logged None p = refl
 given_logged (Some r) p = refl
 
-given_part : (part : Part) (p : Plain) → (do_part part p).given ≡ p.given
+pub given_part : (part : Part) (p : Plain) → (do_part part p).given ≡ p.given
 given_part part p = given_all part.changes (logged part.forced p) ∙ given_logged part.forced p
 
 -- a part that writes nothing, and one that does
-silent_tells : (first : List ℕ) (bodies : List (List ℕ)) (part : Part) (p : Plain) → Tells (first ∷ bodies) p → part.forced ≡ None → Keeps part p → Tells (first ∷ bodies) (do_part part p)
+pub silent_tells : (first : List ℕ) (bodies : List (List ℕ)) (part : Part) (p : Plain) → Tells (first ∷ bodies) p → part.forced ≡ None → Keeps part p → Tells (first ∷ bodies) (do_part part p)
 silent_tells first bodies part p is none k =
     let same : lasting (do_part part p) ≡ lasting p = subst (λ (o : Option LogRecord). Told o p (lasting (do_part part p))) none k in
     ap (λ (g : Given). image g Later (first ∷ bodies)) (given_part part p) ∙ is ∙ ap (λ (i : Image). Ok i) (sym same)
 
-forced_tells : (first : List ℕ) (bodies : List (List ℕ)) (r : LogRecord) (part : Part) (p : Plain) → Tells (first ∷ bodies) p → part.forced ≡ Some r → IsRead (Some r) → IsHarmless part p → IsGivenIn part.forced p
+pub forced_tells : (first : List ℕ) (bodies : List (List ℕ)) (r : LogRecord) (part : Part) (p : Plain) → Tells (first ∷ bodies) p → part.forced ≡ Some r → IsRead (Some r) → IsHarmless part p → IsGivenIn part.forced p
     → image p.given Later (first ∷ (bodies ++ record_bytes r ∷ [])) ≡ Ok (lasting (do_part part p))
 forced_tells first bodies r part p is forced read h g = written_tied Later first bodies (record_bytes r) r part p is forced read.0 read.1 h g
 
