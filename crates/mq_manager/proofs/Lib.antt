@@ -12,3 +12,4 @@ pub mod CallLaws
 pub mod AsideLaws
 pub mod WantLaws
 pub mod BeginLaws
+pub mod RestartLaws

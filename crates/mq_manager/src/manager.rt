@@ -13,6 +13,8 @@ ghost use Rattle.mq_steer.specs.Quiet.{quietly, Comes};
 ghost use Rattle.mq_spec_manager.specs.Words.{last_moment};
 ghost use Rattle.mq_start.specs.Begun.{given_by, HasBegun, HasNotBegun};
 ghost use Rattle.mq_law_image.specs.Values.{IsCommandText};
+ghost use Rattle.mq_restart.specs.Returned.{CameUp, Passes, Stayed};
+ghost use Rattle.mq_restart.specs.Stands.{CanStart};
 ghost use Rattle.mq_manager.specs.Due.{next_due};
 ghost use Rattle.mq_steer.specs.Turns.{halted};
 ghost use Rattle.mq_spec_manager.specs.Words.{mqconn, mqopen, mqclose, mqput, mqput1, mqget, mqcmit, mqback, mqdisc};
@@ -31,7 +33,7 @@ use mq_disk::{Cutter, Disk};
 use mq_message::{Dest, Ident, Md, Message, Place};
 use mq_name::{ChName, QName};
 use mq_objects::{Command, Defs};
-use mq_restart::LogRead;
+use mq_restart::{LogRead, Returned, Unreturned};
 use mq_start::Unbegun;
 use mq_sync::{Stock, Unit};
 use std::alloc::Global;
@@ -245,7 +247,11 @@ impl<D: Disk> Manager<D> {
         mq_steer::trigger_turn(&mut self.core)
     }
 
-    /// Does one MQSC command on objects, whose values are such as a text of commands gives. The lines are none but for DISPLAY.
+    /// Does one MQSC command on objects. The lines are none but for DISPLAY.
+    ///
+    /// The values of the command are such as a text of commands gives (`IsCommandText`): names within their length, numbers within
+    /// their bounds, texts on one line, known keywords. Each command that `parse` reads from a line of a text has such values
+    /// (mq_law_image, `what_commands_write_is_read`); with others no restart would read what the command wrote.
     ///
     /// # Errors
     ///
@@ -287,6 +293,22 @@ impl<D: Disk> Manager<D> {
         ensures { Comes (stop self.old.plain) result self.old self.new }
     {
         mq_steer::stop(&mut self.core)
+    }
+
+    /// Restarts a manager that is down: it comes up from its log alone, as a first start does. Where the log holds the write that
+    /// was stopped, what that did is told. Over a disk that tells its bytes it comes up as its history says, and no log is bad.
+    ///
+    /// # Errors
+    ///
+    /// `Up`, where it is up. `Disk`, only where the disk's count rose; `Cut`, at the armed device call; `BadLog`, with the place of
+    /// the gate at fault; `NoMemory`. It is then as before, but that the calls made count for an armed cut; after `NoMemory` that is
+    /// armed again as it was.
+    pub fn restart(&mut self) -> Result<Returned, Unreturned>
+        requires low { CanStart self.old.plain }
+        ensures ends { MatchResult result (λ r. CameUp D.tells self.old.plain r self.new) (λ e. Stayed D.tells self.old.plain self.old.faults e self.new) }
+        ensures passes { Passes self.old self.new }
+    {
+        mq_restart::restart(&mut self.core, &mut self.read)
     }
 
     /// What this manager's ends of a channel have hardened; none exactly where nothing was hardened yet. It takes no memory.
