@@ -1,5 +1,5 @@
 -- Time, a cut that is armed, a delta that is taken and a stop keep what holds of a manager and of its log.
-use Rattle.std.proofs.Common.{◌≡◌, ℕ, [], sym, subst}
+use Rattle.std.proofs.Common.{◌≡◌, ℕ, [], refl, sym, subst}
 use Rattle.std.specs.Prelude.{None}
 use Rattle.mq_spec_state.specs.State.{Running}
 use Rattle.mq_spec_state.specs.State.Running.{Up, Down}
