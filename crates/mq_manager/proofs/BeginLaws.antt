@@ -1,9 +1,8 @@
 -- What holds of a manager and of its log between its calls holds of it behind its first start.
-use Rattle.std.proofs.Common.{◌≡◌, ◌≤◌, ◌+◌, ◌<◌, ℕ, List, [], ◌∷◌, ◌++◌, length, ap, sym, subst, arith, ◌∙◌}
+use Rattle.std.proofs.Common.{◌+◌, ◌<◌, ℕ, List, [], ◌∷◌, ◌++◌, length, ap, sym, subst, arith}
 use Rattle.std.proofs.lemmas.List.{length-append}
 use Rattle.mq_log.specs.State.{log_length}
 use Rattle.mq_spec_state.specs.State.{Given, Running}
-use Rattle.mq_spec_state.specs.State.Running.{Up}
 use Rattle.mq_spec_state.specs.Words.{Plain}
 use Rattle.mq_spec_manager.specs.Stops.{first_start, started_record}
 use Rattle.mq_record.specs.Records.{record_bytes}

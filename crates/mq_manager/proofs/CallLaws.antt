@@ -7,7 +7,7 @@ use Rattle.mq_calls.specs.declared.agents.Note.TheVariants as notes
 use Rattle.mq_message.specs.declared.message.Ident.{Ident}
 use Rattle.mq_objects.specs.declared.command.Command.{Command}
 use Rattle.mq_calls.specs.declared.commands.ScRefusal.{ScRefusal}
-use Rattle.mq_spec_state.specs.Words.{Reason, Dest, Message, Luw, Answer, Get, GetAnswer, Sent, Md, Hconn, Hobj, Appl, Open, Shown, Plain, Step, Halt, SeizeFault, PrepareFault, Wants, MeetsAs, Meets, MeetsInRoom, MeetsOrWants, is_up}
+use Rattle.mq_spec_state.specs.Words.{Reason, Dest, Message, Luw, Answer, Get, GetAnswer, Sent, Md, Hconn, Hobj, Appl, Open, Shown, Step, Halt, SeizeFault, PrepareFault, Wants, MeetsAs, Meets, MeetsInRoom, MeetsOrWants, is_up}
 use Rattle.mq_spec_state.specs.Meeting.Wants.{Nowhere, Behind, Anywhere}
 use Rattle.mq_spec_manager.specs.Words.{Never, mqconn, mqopen, mqclose, mqput, mqput1, mqget, mqcmit, mqback, mqdisc}
 use Rattle.mq_spec_manager.specs.Triggers.{trigger_turn}

@@ -6,9 +6,8 @@ use Rattle.mq_calls.specs.declared.commands.Halt.TheVariants as halts
 use Rattle.mq_spec_state.specs.State.{Given, Running, LogState as PlainLog}
 use Rattle.mq_spec_state.specs.State.Running.{Up, Down}
 use Rattle.mq_spec_state.specs.State.Change.{Try, SetBound}
-use Rattle.mq_spec_state.specs.Words.{Plain, Part, Step, Change, LogRecord, Halt, Refuse, Do, ManagerValue, Wants, MeetsAs, MeetsDone, IsWrite, apply, apply_all, logged, do_part, do_all, stopped_at, freeze, note_of, try_if, condition, local_of, lasting, is_up, need}
+use Rattle.mq_spec_state.specs.Words.{Plain, Part, Step, Change, LogRecord, Halt, Refuse, Do, ManagerValue, Wants, MeetsAs, MeetsDone, IsWrite, apply, apply_all, logged, do_part, do_all, stopped_at, freeze, note_of, try_if, condition, local_of, is_up}
 use Rattle.mq_spec_state.specs.Meeting.Wants.{Nowhere, Behind, Anywhere}
-use Rattle.mq_log.specs.State.{log_length}
 use Rattle.mq_log.proofs.Logs.{log_length-push}
 use Rattle.mq_record.specs.Records.{record_bytes}
 use Rattle.mq_spec_log.specs.Applies.Start.{Later}
@@ -190,9 +189,9 @@ done_keeps : {F T : Type 0} (tells : Type 0) (read : LogRead) (wants : Wants) (v
 done_keeps tells read wants v new reply parts (Ok value) m w up h a k =
     let plain = plain_is m.3 in
     let stands : LogStandsAt tells read Up (wrote_all parts v.log) (do_all parts v.plain) = up_kept tells read v.log (wrote_all parts v.log) v.plain (do_all parts v.plain)
-        (λ s. let bs = has_bodies v.log v.plain s in
-            subst (λ (l : LogBodies). StandsUp (wrote_all parts l) (do_all parts v.plain)) (sym bs.is) (stands_all parts v.plain bs.first bs.rest (subst (λ (l : LogBodies). StandsUp l v.plain) bs.is s) a (all_back parts w.1 k)))
-        (at_up tells read v.log v.plain up h.stands) in
+    (λ s. let bs = has_bodies v.log v.plain s in
+    subst (λ (l : LogBodies). StandsUp (wrote_all parts l) (do_all parts v.plain)) (sym bs.is) (stands_all parts v.plain bs.first bs.rest (subst (λ (l : LogBodies). StandsUp l v.plain) bs.is s) a (all_back parts w.1 k)))
+    (at_up tells read v.log v.plain up h.stands) in
     subst (λ (p : Plain). HasLog tells read new.log p) (sym plain)
     (subst (λ (l : LogBodies). HasLog tells read l (do_all parts v.plain)) (sym w.0)
     (record { texts = texts_all parts v.plain a k h.texts; stands = subst (λ (r : Running). LogStandsAt tells read r (wrote_all parts v.log) (do_all parts v.plain)) (sym (runs_all parts v.plain ∙ up)) stands }))
@@ -203,10 +202,10 @@ done_keeps tells read Anywhere v new reply parts (Err halts.NoMemory) m w up h a
 done_keeps tells read wants v new reply parts (Err (halts.Stopped by)) m w up h a k =
     let left = new.plain.log.armed in
     let stands : LogStands tells read (broke_at w.part parts v.log) (stopped_at w.part parts left v.plain) = broken_kept tells read v.log (broke_at w.part parts v.log) v.plain (stopped_at w.part parts left v.plain)
-        (λ s. let bs = has_bodies v.log v.plain s in
-            subst (λ (l : LogBodies). LogStands tells reads.Unread (broke_at w.part parts l) (stopped_at w.part parts left v.plain)) (sym bs.is)
-            (stands_broken tells w.part parts left v.plain bs.first bs.rest w.write (subst (λ (l : LogBodies). StandsUp l v.plain) bs.is s) a (back_to w.part parts w.records k)))
-        (at_up tells read v.log v.plain up h.stands) in
+    (λ s. let bs = has_bodies v.log v.plain s in
+    subst (λ (l : LogBodies). LogStands tells reads.Unread (broke_at w.part parts l) (stopped_at w.part parts left v.plain)) (sym bs.is)
+    (stands_broken tells w.part parts left v.plain bs.first bs.rest w.write (subst (λ (l : LogBodies). StandsUp l v.plain) bs.is s) a (back_to w.part parts w.records k)))
+    (at_up tells read v.log v.plain up h.stands) in
     subst (λ (p : Plain). HasLog tells read new.log p) (sym w.plain)
     (subst (λ (l : LogBodies). HasLog tells read l (stopped_at w.part parts left v.plain)) (sym w.log)
     (record { texts = texts_stopped w.part parts left v.plain a k h.texts; stands = stands }))

@@ -52,7 +52,6 @@ use Rattle.mq_law_image.proofs.Valued.{command_text}
 use Rattle.mq_law_manager.proofs.Lists.{bool_case}
 use Rattle.mq_manager.specs.Reads.{CanBeReadIn, AllCanBeRead, StepCanBeRead, IsLowNote}
 
-
 tested_can : {F T : Type 0} (o : Option F) (s : Step F T) → StepCanBeRead s → StepCanBeRead (refused_or o s)
 tested_can None s h = h
 tested_can (Some reason) s h = tt

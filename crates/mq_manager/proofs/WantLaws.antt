@@ -1,6 +1,6 @@
 -- Want of memory in place of a call's answer: nothing has changed, and nothing is written.
 use Rattle.std.proofs.Common.{◌≡◌, ℕ, List, ap}
-use Rattle.std.specs.Prelude.{Result, Ok, Err}
+use Rattle.std.specs.Prelude.{Err}
 use Rattle.mq_calls.specs.declared.agents.Note.{Note}
 use Rattle.mq_calls.specs.declared.agents.AgentStop.TheVariants as agent_stops
 use Rattle.mq_calls.specs.declared.agents.PrepareFault.TheVariants as prepare_faults

@@ -1,6 +1,6 @@
 -- What must hold of a record beside its fields so that a later start reads it from its bytes: its channel, if it is of one, has a
 -- name; the text of what it changes of objects is read; its session is below 2^61.
-use Rattle.std.specs.Prelude.{ℕ, ◌<◌, ◌^◌, nat_lt, Bool, true, ◌&&◌, List, [], ◌∷◌, length, Option, Some, None}
+use Rattle.std.specs.Prelude.{ℕ, ◌<◌, ◌^◌, nat_lt, Bool, true, ◌&&◌, List, length, Option, Some, None}
 use Rattle.std.specs.List.{AllByRecursion}
 use Rattle.mq_calls.specs.declared.records.LogRecord.{LogRecord}
 use Rattle.mq_calls.specs.declared.records.LogRecord.TheVariants as records

@@ -78,11 +78,7 @@ pub fn prepare_named<D: Disk>(
     mq_agents::prepare(core, channel, last)
 }
 
-fn harden_kind<D: Disk>(
-    core: &mut Core<D>,
-    channel: &ChName,
-    note: &Note,
-) -> Result<(), AgentStop>
+fn harden_kind<D: Disk>(core: &mut Core<D>, channel: &ChName, note: &Note) -> Result<(), AgentStop>
     requires up { IsUp core.old.plain }
     ensures meets { MeetsOrWants (manager_of core.old) (harden channel.now note.now core.old.plain) (by_agent result) (manager_of core.new) }
     ensures told { WritesLog core.old (harden channel.now note.now core.old.plain) (by_agent result) core.new }
