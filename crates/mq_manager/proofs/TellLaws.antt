@@ -1,6 +1,6 @@
 -- What a call leaves of what its manager's log tells: from the image of the bodies in front of the call to those behind it, and
 -- where a write was stopped to the image with and without its pending body.
-use Rattle.std.proofs.Common.{◌≡◌, ℕ, zero, suc, ◌+◌, Bool, true, false, List, [], ◌∷◌, ◌++◌, refl, ap, arith, sym, subst, ◌∙◌}
+use Rattle.std.proofs.Common.{◌≡◌, ℕ, zero, suc, Bool, true, false, List, [], ◌∷◌, ◌++◌, refl, ap, arith, sym, subst, ◌∙◌}
 use Rattle.std.specs.Prelude.{Option, Some, None, Result, Ok, Err, is_some}
 use Rattle.mq_calls.specs.declared.commands.Halt.TheVariants as halts
 use Rattle.mq_spec_state.specs.State.{Given}
@@ -8,15 +8,14 @@ use Rattle.mq_spec_state.specs.State.Change.{Try, SetBound}
 use Rattle.mq_spec_state.specs.Words.{Plain, Part, Step, Change, LogRecord, Noted, Halt, Image, Refuse, Do, ManagerValue, Wants, MeetsAs, MeetsDone, IsWrite, apply, apply_all, logged, do_part, do_all, stopped_at, freeze, note_of, try_if, condition, local_of, lasting, raised}
 use Rattle.mq_spec_manager.specs.Stops.{redone, restarted}
 use Rattle.mq_record.specs.Records.{record_bytes}
-use Rattle.mq_spec_log.specs.Applies.{is_in_bounds}
 use Rattle.mq_spec_log.specs.Applies.Start.{Later}
-use Rattle.mq_spec_log.specs.Bodies.{image, record_of}
+use Rattle.mq_spec_log.specs.Bodies.{image}
 use Rattle.mq_spec_log.specs.Records.{doing}
 use Rattle.mq_law_log.specs.Keeps.{Keeps, Told}
 use Rattle.mq_law_log.specs.Restarts.{AllHarmless, StepHarmless, IsHarmless, IsGivenIn, note_at}
 use Rattle.mq_law_log.proofs.Ties.{written_tied, told}
 use Rattle.mq_law_log.proofs.Stops.{frozen_lasts, restart_recovers}
-use Rattle.mq_core.specs.Values.{CoreValue, LogBodies, WritesLog, BreaksOff, manager_of, behind_record, pending_record, wrote_all, broke_at}
+use Rattle.mq_core.specs.Values.{CoreValue, LogBodies, WritesLog, manager_of, behind_record, pending_record, wrote_all, broke_at}
 use Rattle.mq_manager.specs.Tells.{Tells, IsRead, AreRead, StepRead, TellsBroken, TellsAfter}
 use Rattle.mq_spec_state.specs.Meeting.Wants.{Nowhere, Behind, Anywhere}
 
