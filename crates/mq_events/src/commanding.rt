@@ -1,5 +1,6 @@
 //! Commands on objects, as events.
 ghost use Rattle.std.specs.Prelude.{◌≡◌};
+ghost use Rattle.mq_law_image.specs.Values.{IsCommandText};
 ghost use Rattle.mq_sc_parse.specs.declared.command.Command.TheVariants as commands;
 ghost use Rattle.mq_history.specs.declared.acts.Act.TheVariants as acts;
 ghost use Rattle.mq_history.specs.declared.calls.Call.TheVariants as calls;
@@ -17,6 +18,7 @@ use mq_sc_parse::Command;
 impl<D: Disk> NodeParts<D> {
     /// A command on objects at the manager.
     fn obey(&mut self, asked: &mq_objects::Command) -> Result<Obeyed, NoMemory>
+        requires text { IsCommandText asked.now }
         ensures same { self.new ≡ record self.old { manager = self.new.manager } }
         ensures ends { ObeysAs asked.now self.old.manager result self.new.manager }
     {
@@ -32,6 +34,7 @@ impl<D: Disk> NodeParts<D> {
         requires kept { IsKept self.old }
         requires served { IsServed self.old }
         requires may { MayAct self.old }
+        requires text { IsCommandText asked }
         ensures kept { IsKept self.new }
         ensures did { ActsAs actor (calls.Act (acts.Obey (commands.Objects asked))) self.old result self.new }
     {

@@ -3,6 +3,7 @@ ghost use Rattle.std.specs.Prelude.{◌≡◌, ◌+◌, ◌<◌, []};
 ghost use Rattle.mq_frame.specs.declared.frame.Seen.TheVariants as items;
 ghost use Rattle.mq_history.specs.declared.acts.Act.TheVariants as acts;
 ghost use Rattle.mq_history.specs.declared.calls.Call.TheVariants as calls;
+ghost use Rattle.mq_law_image.specs.Values.{IsCommandText};
 ghost use Rattle.mq_sc_parse.specs.declared.command.Command.TheVariants as commands;
 ghost use Rattle.mq_spec_state.specs.Words.{is_up};
 ghost use Rattle.mq_spec_node.specs.Words.{deed_of, is_spent, opening_node};
@@ -159,7 +160,8 @@ impl<D: Disk> Node<D> {
         self.parts.advance_clock(actor, by)
     }
 
-    /// A command on objects.
+    /// A command on objects, whose values are such as a text of commands gives: so are those of each command that `parse` reads from a
+    /// line of a text (mq_law_image, `what_commands_write_is_read`).
     ///
     /// # Errors
     ///
@@ -167,6 +169,7 @@ impl<D: Disk> Node<D> {
     pub fn command(&mut self, actor: Actor, asked: mq_objects::Command) -> Result<Acted, NoMemory>
         requires served { IsServed self.old }
         requires may { MayAct self.old }
+        requires text { IsCommandText asked }
         ensures { ActsAs actor (calls.Act (acts.Obey (commands.Objects asked))) self.old result self.new }
     {
         self.parts.command(actor, asked)

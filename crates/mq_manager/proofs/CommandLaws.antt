@@ -1,6 +1,6 @@
 -- A command that fits leaves MAXMSGL of the manager within what a record keeps.
 use Rattle.std.proofs.Common.{◌≡◌, ◌≤◌, ℕ, Bool, true, false, List, [], ◌∷◌, refl, ap, sym, subst}
-use Rattle.std.specs.Prelude.{Option, Some, None, Result, Ok, Err, not, ◌&&◌, ◌||◌, ◌++◌, nat_le, if◌then◌else◌}
+use Rattle.std.specs.Prelude.{Option, Some, None, Result, Ok, Err, not, ◌&&◌, ◌||◌, ◌++◌, if◌then◌else◌}
 use Rattle.std.specs.List.{list_all}
 use Rattle.std.proofs.lemmas.Bool.{leb-true}
 use Rattle.mq_objects.specs.declared.object.Object.{Object}
@@ -39,10 +39,9 @@ use Rattle.mq_sc_apply.specs.Planned.{define, define_at, defined_object, changed
 use Rattle.mq_spec_state.specs.Words.{Halt, Plain, MeetsOrWants, LocalQueue, is_up, apply, logged, when, tested}
 use Rattle.mq_spec_state.specs.Meeting.Wants.{Anywhere}
 use Rattle.mq_spec_state.specs.State.Change.{ChangeObjects}
-use Rattle.mq_spec_manager.specs.Commands.{command, planned_step, uses_of, object_part, follows, renewed, renewed_if, stale_if, switched_if, dropped}
+use Rattle.mq_spec_manager.specs.Commands.{command, planned_step, uses_of, follows, renewed, renewed_if, stale_if, switched_if, dropped}
 use Rattle.mq_law_manager.specs.Kept.{StepKeeps}
 use Rattle.mq_law_manager.proofs.Lists.{bool_case}
-use Rattle.mq_law_manager.proofs.Shelves.{logged_definitions}
 use Rattle.mq_law_manager.proofs.Ending.{joined}
 use Rattle.mq_law_manager.proofs.Commanding.{command_keeps}
 use Rattle.mq_law_manager.proofs.StockCommands.{command_stocked}
@@ -185,7 +184,7 @@ command_limit : (c : Command) (p : Plain) → fits c ≡ true → HasLimit p →
 command_limit c p f h = tested_on HasLimit (when (not (is_up p.running)) refusals.Down ∷ []) (planned_step (plan c p.given.name p.definitions (uses_of p)) p.definitions) p
     (λ e. planned_limit (plan c p.given.name p.definitions (uses_of p)) p (plan_fits c p.given.name p.definitions (uses_of p) f h) h)
 
-command_down : (c : Command) (p : Plain) → is_up p.running ≡ false → Idles (command c p)
+pub command_down : (c : Command) (p : Plain) → is_up p.running ≡ false → Idles (command c p)
 command_down c p down = subst (λ (b : Bool). Idles (tested (when (not b) refusals.Down ∷ []) (planned_step (plan c p.given.name p.definitions (uses_of p)) p.definitions))) (sym down) tt
 
 -- want of memory in place of its answer

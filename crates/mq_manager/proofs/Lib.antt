@@ -5,4 +5,11 @@ pub mod WellLaws
 pub mod CommandLaws
 pub mod TellLaws
 pub mod AgentLaws
+pub mod ReadableLaws
+pub mod BackLaws
+pub mod KeepLaws
+pub mod CallLaws
+pub mod AsideLaws
+pub mod WantLaws
 pub mod BeginLaws
+pub mod RestartLaws

@@ -165,5 +165,8 @@ rest_steady : (p : Plain) → AllSteady (stop_changes p)
 unfolding AllSteady IsSteady
 rest_steady p = (tt, batches_steady p.channels.batches (Leave Nonpersistent ∷ ForgetAll ∷ []) (tt, (tt, tt)))
 
+pub rest_same : (p : Plain) → (at_rest p).definitions ≡ p.definitions
+rest_same p = steady_all (stop_changes p) p (rest_steady p)
+
 pub stop_limit : (p : Plain) → HasLimit p → HasLimit (at_rest p)
-stop_limit p h = subst (λ (d : Definitions). d.manager.max_message_length ≤ 4194304) (sym (steady_all (stop_changes p) p (rest_steady p))) h
+stop_limit p h = subst (λ (d : Definitions). d.manager.max_message_length ≤ 4194304) (sym (rest_same p)) h

@@ -1,6 +1,6 @@
 -- What a call leaves of what its manager's log tells: from the image of the bodies in front of the call to those behind it, and
 -- where a write was stopped to the image with and without its pending body.
-use Rattle.std.proofs.Common.{◌≡◌, ℕ, zero, suc, ◌+◌, Bool, true, false, List, [], ◌∷◌, ◌++◌, refl, ap, arith, sym, subst, ◌∙◌}
+use Rattle.std.proofs.Common.{◌≡◌, ℕ, zero, suc, Bool, true, false, List, [], ◌∷◌, ◌++◌, refl, ap, arith, sym, subst, ◌∙◌}
 use Rattle.std.specs.Prelude.{Option, Some, None, Result, Ok, Err, is_some}
 use Rattle.mq_calls.specs.declared.commands.Halt.TheVariants as halts
 use Rattle.mq_spec_state.specs.State.{Given}
@@ -8,15 +8,14 @@ use Rattle.mq_spec_state.specs.State.Change.{Try, SetBound}
 use Rattle.mq_spec_state.specs.Words.{Plain, Part, Step, Change, LogRecord, Noted, Halt, Image, Refuse, Do, ManagerValue, Wants, MeetsAs, MeetsDone, IsWrite, apply, apply_all, logged, do_part, do_all, stopped_at, freeze, note_of, try_if, condition, local_of, lasting, raised}
 use Rattle.mq_spec_manager.specs.Stops.{redone, restarted}
 use Rattle.mq_record.specs.Records.{record_bytes}
-use Rattle.mq_spec_log.specs.Applies.{is_in_bounds}
 use Rattle.mq_spec_log.specs.Applies.Start.{Later}
-use Rattle.mq_spec_log.specs.Bodies.{image, record_of}
+use Rattle.mq_spec_log.specs.Bodies.{image}
 use Rattle.mq_spec_log.specs.Records.{doing}
 use Rattle.mq_law_log.specs.Keeps.{Keeps, Told}
 use Rattle.mq_law_log.specs.Restarts.{AllHarmless, StepHarmless, IsHarmless, IsGivenIn, note_at}
 use Rattle.mq_law_log.proofs.Ties.{written_tied, told}
 use Rattle.mq_law_log.proofs.Stops.{frozen_lasts, restart_recovers}
-use Rattle.mq_core.specs.Values.{CoreValue, LogBodies, WritesLog, BreaksOff, manager_of, behind_record, pending_record, wrote_all, broke_at}
+use Rattle.mq_core.specs.Values.{CoreValue, LogBodies, WritesLog, manager_of, behind_record, pending_record, wrote_all, broke_at}
 use Rattle.mq_manager.specs.Tells.{Tells, IsRead, AreRead, StepRead, TellsBroken, TellsAfter}
 use Rattle.mq_spec_state.specs.Meeting.Wants.{Nowhere, Behind, Anywhere}
 
@@ -39,16 +38,16 @@ given_logged : (o : Option LogRecord) (p : Plain) → (logged o p).given ≡ p.g
 given_logged None p = refl
 given_logged (Some r) p = refl
 
-given_part : (part : Part) (p : Plain) → (do_part part p).given ≡ p.given
+pub given_part : (part : Part) (p : Plain) → (do_part part p).given ≡ p.given
 given_part part p = given_all part.changes (logged part.forced p) ∙ given_logged part.forced p
 
 -- a part that writes nothing, and one that does
-silent_tells : (first : List ℕ) (bodies : List (List ℕ)) (part : Part) (p : Plain) → Tells (first ∷ bodies) p → part.forced ≡ None → Keeps part p → Tells (first ∷ bodies) (do_part part p)
+pub silent_tells : (first : List ℕ) (bodies : List (List ℕ)) (part : Part) (p : Plain) → Tells (first ∷ bodies) p → part.forced ≡ None → Keeps part p → Tells (first ∷ bodies) (do_part part p)
 silent_tells first bodies part p is none k =
     let same : lasting (do_part part p) ≡ lasting p = subst (λ (o : Option LogRecord). Told o p (lasting (do_part part p))) none k in
     ap (λ (g : Given). image g Later (first ∷ bodies)) (given_part part p) ∙ is ∙ ap (λ (i : Image). Ok i) (sym same)
 
-forced_tells : (first : List ℕ) (bodies : List (List ℕ)) (r : LogRecord) (part : Part) (p : Plain) → Tells (first ∷ bodies) p → part.forced ≡ Some r → IsRead (Some r) → IsHarmless part p → IsGivenIn part.forced p
+pub forced_tells : (first : List ℕ) (bodies : List (List ℕ)) (r : LogRecord) (part : Part) (p : Plain) → Tells (first ∷ bodies) p → part.forced ≡ Some r → IsRead (Some r) → IsHarmless part p → IsGivenIn part.forced p
     → image p.given Later (first ∷ (bodies ++ record_bytes r ∷ [])) ≡ Ok (lasting (do_part part p))
 forced_tells first bodies r part p is forced read h g = written_tied Later first bodies (record_bytes r) r part p is forced read.0 read.1 h g
 

@@ -130,16 +130,16 @@ refused_down hc p e = by (is_other hc p) refl
     by true o = (reasons.ConnectionHandleError, ap (λ (b : Bool). connected_by hc p b (is_present hc p)) o)
     by false o = (reasons.ConnectionBroken, (λ i. connected_by hc p (o i) (e i && hc.incarnation == p.numbers.incarnation)))
 
-for_down : {T : Type 0} (hc : Hconn) (p : Plain) (f : Connection → Step Reason T) → is_up p.running ≡ false → Idles (for_connection (connected hc p) f)
+pub for_down : {T : Type 0} (hc : Hconn) (p : Plain) (f : Connection → Step Reason T) → is_up p.running ≡ false → Idles (for_connection (connected hc p) f)
 for_down hc p f e = let r = refused_down hc p e in subst (λ (x : Result Connection Reason). Idles (for_connection x f)) (sym r.1) tt
 
-going_down : {T : Type 0} (hc : Hconn) (p : Plain) (f : Connection → Step Reason T) → is_up p.running ≡ false → Idles (going_on (connected hc p) f)
+pub going_down : {T : Type 0} (hc : Hconn) (p : Plain) (f : Connection → Step Reason T) → is_up p.running ≡ false → Idles (going_on (connected hc p) f)
 going_down hc p f e = let r = refused_down hc p e in subst (λ (x : Result Connection Reason). Idles (going_on x f)) (sym r.1) tt
 
 mqconn_done : List ℕ → Appl → Plain → Step Reason (Answer Hconn)
 mqconn_done qmgr appl p = Do (answers.Ok (new_hconn p)) (silent (Connect (new_connection appl p) ∷ []) ∷ [])
 
-conn_down : (qmgr : List ℕ) (appl : Appl) (p : Plain) → is_up p.running ≡ false → Idles (mqconn qmgr appl p)
+pub conn_down : (qmgr : List ℕ) (appl : Appl) (p : Plain) → is_up p.running ≡ false → Idles (mqconn qmgr appl p)
 unfolding mqconn_done
 conn_down qmgr appl p e = subst (λ (b : Bool). Idles (refused_or (cond (is_other_name qmgr p) (Some reasons.QueueManagerNameError) (cond (not b) (Some reasons.QueueManagerNotAvailable) None)) (mqconn_done qmgr appl p))) (sym e) (by (is_other_name qmgr p))
   where
@@ -147,7 +147,7 @@ conn_down qmgr appl p e = subst (λ (b : Bool). Idles (refused_or (cond (is_othe
     by true = tt
     by false = tt
 
-turn_down : (p : Plain) → is_up p.running ≡ false → Idles (trigger_turn p)
+pub turn_down : (p : Plain) → is_up p.running ≡ false → Idles (trigger_turn p)
 turn_down p e = subst (λ (b : Bool). Idles (trigger_at b p)) (sym e) tt
 
 -- call by call

@@ -2,3 +2,5 @@ pub mod Due
 pub mod Facts
 pub mod Limits
 pub mod Tells
+pub mod Reads
+pub mod Kept

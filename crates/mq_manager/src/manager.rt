@@ -12,12 +12,15 @@ ghost use Rattle.mq_agents.specs.Ends.{by_agent, by_memory, by_seize, by_prepare
 ghost use Rattle.mq_steer.specs.Quiet.{quietly, Comes};
 ghost use Rattle.mq_spec_manager.specs.Words.{last_moment};
 ghost use Rattle.mq_start.specs.Begun.{given_by, HasBegun, HasNotBegun};
+ghost use Rattle.mq_law_image.specs.Values.{IsCommandText};
+ghost use Rattle.mq_restart.specs.Returned.{CameUp, Passes, Stayed};
+ghost use Rattle.mq_restart.specs.Stands.{CanStart};
 ghost use Rattle.mq_manager.specs.Due.{next_due};
 ghost use Rattle.mq_steer.specs.Turns.{halted};
 ghost use Rattle.mq_spec_manager.specs.Words.{mqconn, mqopen, mqclose, mqput, mqput1, mqget, mqcmit, mqback, mqdisc};
 
-use crate::limit::{begin_that_fits, command_that_fits};
-use crate::notes::harden_note;
+use crate::limit::command_that_fits;
+use crate::notes::{harden_note, prepare_named};
 use mq_agents::Hardened;
 use mq_base::NoMemory;
 use mq_calls::{
@@ -30,27 +33,31 @@ use mq_disk::{Cutter, Disk};
 use mq_message::{Dest, Ident, Md, Message, Place};
 use mq_name::{ChName, QName};
 use mq_objects::{Command, Defs};
+use mq_restart::{LogRead, Returned, Unreturned};
 use mq_start::Unbegun;
 use mq_sync::{Stock, Unit};
 use std::alloc::Global;
 use std::marker::Model;
 
 /// One queue manager. Contracts see it as the plain manager, what its last call did, what stopped
-/// that call's write, and the bodies of its log. Between calls its facts hold (`IsWell`).
+/// that call's write, and the bodies of its log. Between calls its facts hold, and its log tells what
+/// a restart asks of it (`IsKept`).
 #[derive(Drop)]
 pub struct Manager<D: Disk> {
     core: Core<D>,
+    /// What restarts have read of the log since the stop.
+    read: LogRead,
 }
 
 impl<D: Disk> Model for Manager<D> {
     ghost use Rattle.mq_core.specs.Values.{CoreValue};
-    ghost use Rattle.mq_manager.specs.Facts.{IsWell};
+    ghost use Rattle.mq_manager.specs.Kept.{IsKept};
 
     ghost Value = { CoreValue };
 
     ghost view = { λ m. m.core };
 
-    ghost invariant = { λ m. IsWell m.core.plain };
+    ghost invariant = { λ m. IsKept D.tells m.read m.core };
 }
 
 impl<D: Disk> Manager<D> {
@@ -77,8 +84,11 @@ impl<D: Disk> Manager<D> {
         requires passes { disk.stopped ≡ false }
         ensures { MatchResult result (λ m. HasBegun D.tells (D.seen disk.inner) (D.faults disk.inner) (given_by number name.now max) moment m) (λ e. HasNotBegun D.tells (D.seen disk.inner) (given_by number name.now max) (D.faults disk.inner) e.fault (D.faults e.disk.inner)) }
     {
-        match begin_that_fits(alloc, number, name, disk, max, moment) {
-            Ok(core) => Ok(Manager { core }),
+        match mq_start::begin(alloc, number, name, disk, max, moment) {
+            Ok(core) => Ok(Manager {
+                core,
+                read: LogRead::Unread,
+            }),
             Err(unbegun) => Err(unbegun),
         }
     }
@@ -239,12 +249,17 @@ impl<D: Disk> Manager<D> {
 
     /// Does one MQSC command on objects. The lines are none but for DISPLAY.
     ///
+    /// The values of the command are such as a text of commands gives (`IsCommandText`): names within their length, numbers within
+    /// their bounds, texts on one line, known keywords. Each command that `parse` reads from a line of a text has such values
+    /// (mq_law_image, `what_commands_write_is_read`); with others no restart would read what the command wrote.
+    ///
     /// # Errors
     ///
     /// The first that applies of `Down`, `Exists`, `Missing`, `BadValue` with the first such keyword, `InUse`, `NotEmpty`
     /// (IBM MQ: MQSC reference); no memory, and nothing has changed: also where ALTER QMGR gives a MAXMSGL above 4,194,304,
     /// which no record keeps and no reader of commands gives; a forced write that was stopped, which takes the manager down.
     pub fn command(&mut self, asked: &Command) -> Result<Shown, Halt<ScRefusal>>
+        requires text { IsCommandText asked.now }
         ensures meets { MeetsOrWants (manager_of self.old) (command asked.now self.old.plain) result (manager_of self.new) }
         ensures told { WritesLog self.old (command asked.now self.old.plain) result self.new }
     {
@@ -278,6 +293,22 @@ impl<D: Disk> Manager<D> {
         ensures { Comes (stop self.old.plain) result self.old self.new }
     {
         mq_steer::stop(&mut self.core)
+    }
+
+    /// Restarts a manager that is down: it comes up from its log alone, as a first start does. Where the log holds the write that
+    /// was stopped, what that did is told. Over a disk that tells its bytes it comes up as its history says, and no log is bad.
+    ///
+    /// # Errors
+    ///
+    /// `Up`, where it is up. `Disk`, only where the disk's count rose; `Cut`, at the armed device call; `BadLog`, with the place of
+    /// the gate at fault; `NoMemory`. It is then as before, but that the calls made count for an armed cut; after `NoMemory` that is
+    /// armed again as it was.
+    pub fn restart(&mut self) -> Result<Returned, Unreturned>
+        requires low { CanStart self.old.plain }
+        ensures ends { MatchResult result (λ r. CameUp D.tells self.old.plain r self.new) (λ e. Stayed D.tells self.old.plain self.old.faults e self.new) }
+        ensures passes { Passes self.old self.new }
+    {
+        mq_restart::restart(&mut self.core, &mut self.read)
     }
 
     /// What this manager's ends of a channel have hardened; none exactly where nothing was hardened yet. It takes no memory.
@@ -401,14 +432,15 @@ impl<D: Disk> Manager<D> {
         ensures meets { MeetsOrWants (manager_of self.old) (prepare channel.now last self.old.plain) (by_prepare result) (manager_of self.new) }
         ensures told { WritesLog self.old (prepare channel.now last self.old.plain) (by_prepare result) self.new }
     {
-        mq_agents::prepare(&mut self.core, channel, last)
+        prepare_named(&mut self.core, channel, last)
     }
 
     /// A channel's end hardens a note: its record is forced, and a unit that is settled loses its rows, or they are free again.
     ///
     /// # Errors
     ///
-    /// The disk or the cut stopped the write, and the manager is down; no memory, and nothing has changed.
+    /// The disk or the cut stopped the write, and the manager is down; no memory, and nothing has changed: also where the channel's
+    /// name is blank, or a session comes to 2^61, which no restart would read.
     pub fn harden(&mut self, channel: &ChName, note: &Note) -> Result<(), AgentStop>
         requires up { IsUp self.old.plain }
         requires can { CanHarden channel.now note.now self.old.plain }

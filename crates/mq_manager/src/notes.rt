@@ -1,21 +1,84 @@
-//! What channel ends harden, by their notes.
+//! What channel ends write, of channels whose names are not blank and with sessions that a restart reads.
 ghost use Rattle.mq_spec_state.specs.Words.{MeetsOrWants};
-ghost use Rattle.mq_spec_agents.specs.Words.{IsUp, harden};
-ghost use Rattle.mq_agents.specs.Ends.{by_agent};
-ghost use Rattle.mq_core.specs.Values.{WritesLog, manager_of};
+ghost use Rattle.std.specs.Prelude.{◌≡◌, false};
+ghost use Rattle.mq_spec_agents.specs.Words.{IsUp, CanPrepare, harden, prepare};
+ghost use Rattle.mq_agents.specs.Ends.{by_agent, by_prepare};
+ghost use Rattle.mq_core.specs.Values.{WritesLog, begun_call, manager_of};
+ghost use Rattle.mq_manager.specs.Reads.{has_name, is_low, can_harden};
 
-use mq_calls::{AgentStop, Note};
+use mq_calls::{AgentStop, Note, PrepareFault};
 use mq_core::Core;
 use mq_disk::Disk;
 use mq_name::ChName;
 use mq_sync::End;
 
-/// A channel's end hardens a note.
+/// The first session that no restart would read.
+const HIGH_SESSION: u64 = 2_305_843_009_213_693_952;
+
+fn has_name(channel: &ChName) -> bool
+    ensures { result ≡ has_name channel.now }
+{
+    0 < channel.text().len()
+}
+
+fn is_low(note: &Note) -> bool
+    ensures { result ≡ is_low note.now }
+{
+    match note {
+        Note::Session { session, .. } => *session < HIGH_SESSION,
+        Note::Resolved { .. } => true,
+        Note::Bound { .. } => true,
+        Note::Closed { .. } => true,
+        Note::SeqSet { .. } => true,
+    }
+}
+
+fn can_harden(channel: &ChName, note: &Note) -> bool
+    ensures { result ≡ can_harden channel.now note.now }
+{
+    has_name(channel) && is_low(note)
+}
+
+/// A channel's end hardens a note; where no restart would read its record, there is no memory for it.
+#[tactic(auto, using(crate::proofs::WantLaws::harden_wants, crate::proofs::WantLaws::harden_untold))]
 pub fn harden_note<D: Disk>(
     core: &mut Core<D>,
     channel: &ChName,
     note: &Note,
 ) -> Result<(), AgentStop>
+    requires up { IsUp core.old.plain }
+    ensures meets { MeetsOrWants (manager_of core.old) (harden channel.now note.now core.old.plain) (by_agent result) (manager_of core.new) }
+    ensures told { WritesLog core.old (harden channel.now note.now core.old.plain) (by_agent result) core.new }
+    ensures unfit { can_harden channel.now note.now ≡ false → core.new ≡ begun_call core.old }
+{
+    if !can_harden(channel, note) {
+        core.begin_call();
+        return Err(AgentStop::NoMemory);
+    }
+    harden_kind(core, channel, note)
+}
+
+/// The batch of a channel becomes its unit in doubt; where the channel's name is blank, there is no memory for it.
+#[tactic(auto, using(crate::proofs::WantLaws::prepare_wants, crate::proofs::WantLaws::prepare_untold))]
+pub fn prepare_named<D: Disk>(
+    core: &mut Core<D>,
+    channel: &ChName,
+    last: u32,
+) -> Result<(), PrepareFault>
+    requires up { IsUp core.old.plain }
+    requires can { CanPrepare channel.now core.old.plain }
+    ensures meets { MeetsOrWants (manager_of core.old) (prepare channel.now last core.old.plain) (by_prepare result) (manager_of core.new) }
+    ensures told { WritesLog core.old (prepare channel.now last core.old.plain) (by_prepare result) core.new }
+    ensures unfit { has_name channel.now ≡ false → core.new ≡ begun_call core.old }
+{
+    if !has_name(channel) {
+        core.begin_call();
+        return Err(PrepareFault::Stop(AgentStop::NoMemory));
+    }
+    mq_agents::prepare(core, channel, last)
+}
+
+fn harden_kind<D: Disk>(core: &mut Core<D>, channel: &ChName, note: &Note) -> Result<(), AgentStop>
     requires up { IsUp core.old.plain }
     ensures meets { MeetsOrWants (manager_of core.old) (harden channel.now note.now core.old.plain) (by_agent result) (manager_of core.new) }
     ensures told { WritesLog core.old (harden channel.now note.now core.old.plain) (by_agent result) core.new }

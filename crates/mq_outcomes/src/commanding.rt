@@ -1,5 +1,6 @@
 //! Commands on objects.
 ghost use Rattle.std.specs.Prelude.{◌≡◌, [], IfOk, IsOk, Ok};
+ghost use Rattle.mq_law_image.specs.Values.{IsCommandText};
 ghost use Rattle.mq_outcomes.specs.Outcomes.{reply_of, acted_of, AnswersAs, ObeysAs};
 ghost use Rattle.mq_spec_node.specs.Answers.{sc_stopped};
 
@@ -65,7 +66,7 @@ fn reply_of(ended: Result<Shown, Halt<ScRefusal>>) -> Reply
     }
 }
 
-/// A command on objects.
+/// A command on objects, whose values are such as a text of commands gives.
 ///
 /// # Errors
 ///
@@ -75,6 +76,7 @@ pub fn obey<D: Disk>(
     alloc: Global,
     asked: &mq_objects::Command,
 ) -> Result<Obeyed, NoMemory>
+    requires text { IsCommandText asked.now }
     ensures { ObeysAs asked.now manager.old result manager.new }
 {
     let ended = manager.command(asked);

@@ -1,9 +1,9 @@
 use Rattle.std.proofs.Common.{sym, subst}
 use Rattle.mq_spec_agents.specs.Words.{IsUp, HasFreeRow}
-use Rattle.mq_core.specs.Values.{CoreValue, manager_of}
+use Rattle.mq_core.specs.Values.{CoreValue}
 use Rattle.mq_agents.specs.Ends.{by_agent}
-use Rattle.mq_manager.proofs.AgentLaws.{well_discard}
+use Rattle.mq_manager.proofs.CallLaws.{kept_discard}
 use Rattle.mq_manager.proofs.manager.Manager.discard.Goals as goal
 
 pub invariant_of-self : goal.invariant_of-self
-invariant_of-self g c = well_discard (manager_of c.self.inside.core) (manager_of c.discard.new.core) c.self.invariant (subst (λ (v : CoreValue). IsUp v.plain) (sym c.self.view_is) c.requires.up) c.args.from.now c.args.ident.now (by_agent c.discard.result) (subst (λ (v : CoreValue). HasFreeRow c.args.from.now c.args.ident.now v.plain) (sym c.self.view_is) c.requires.there) c.discard.ensures.meets
+invariant_of-self g c = kept_discard g.D.Disk.tells c.self.inside.read c.self.inside.core c.discard.new.core c.self.invariant (subst (λ (v : CoreValue). IsUp v.plain) (sym c.self.view_is) c.requires.up) c.args.from.now c.args.ident.now (by_agent c.discard.result) (subst (λ (v : CoreValue). HasFreeRow c.args.from.now c.args.ident.now v.plain) (sym c.self.view_is) c.requires.there) c.discard.ensures.meets c.discard.ensures.told

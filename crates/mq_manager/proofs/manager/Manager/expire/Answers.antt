@@ -1,9 +1,9 @@
 use Rattle.std.proofs.Common.{sym, subst}
 use Rattle.mq_spec_agents.specs.Words.{IsUp}
-use Rattle.mq_core.specs.Values.{CoreValue, manager_of}
+use Rattle.mq_core.specs.Values.{CoreValue}
 use Rattle.mq_agents.specs.Ends.{by_agent}
-use Rattle.mq_manager.proofs.AgentLaws.{well_expire}
+use Rattle.mq_manager.proofs.CallLaws.{kept_expire}
 use Rattle.mq_manager.proofs.manager.Manager.expire.Goals as goal
 
 pub invariant_of-self : goal.invariant_of-self
-invariant_of-self g c = well_expire (manager_of c.self.inside.core) (manager_of c.expire.new.core) c.self.invariant (subst (λ (v : CoreValue). IsUp v.plain) (sym c.self.view_is) c.requires.up) c.args.channel.now (by_agent c.expire.result) c.expire.ensures.meets
+invariant_of-self g c = kept_expire g.D.Disk.tells c.self.inside.read c.self.inside.core c.expire.new.core c.self.invariant (subst (λ (v : CoreValue). IsUp v.plain) (sym c.self.view_is) c.requires.up) c.args.channel.now (by_agent c.expire.result) c.expire.ensures.meets c.expire.ensures.told

@@ -1,9 +1,9 @@
 use Rattle.std.proofs.Common.{sym, subst}
 use Rattle.std.specs.Prelude.{Ok}
 use Rattle.mq_spec_agents.specs.Words.{IsUp}
-use Rattle.mq_core.specs.Values.{CoreValue, manager_of}
-use Rattle.mq_manager.proofs.AgentLaws.{well_leave}
+use Rattle.mq_core.specs.Values.{CoreValue}
+use Rattle.mq_manager.proofs.CallLaws.{kept_leave}
 use Rattle.mq_manager.proofs.manager.Manager.leave.Goals as goal
 
 pub invariant_of-self : goal.invariant_of-self
-invariant_of-self g c = well_leave (manager_of c.self.inside.core) (manager_of c.leave.new.core) c.self.invariant (subst (λ (v : CoreValue). IsUp v.plain) (sym c.self.view_is) c.requires.up) c.args.channel.now (Ok tt) c.leave.ensures.meets
+invariant_of-self g c = kept_leave g.D.Disk.tells c.self.inside.read c.self.inside.core c.leave.new.core c.self.invariant (subst (λ (v : CoreValue). IsUp v.plain) (sym c.self.view_is) c.requires.up) c.args.channel.now (Ok tt) c.leave.ensures.meets c.leave.ensures.told

@@ -1,11 +1,12 @@
 use Rattle.std.proofs.Common.{◌^◌, sym, subst, arith}
 use Rattle.mq_core.specs.Counting.{CanCount}
-use Rattle.mq_core.specs.Values.{CoreValue, manager_of}
-use Rattle.mq_manager.proofs.WellLaws.{well_open, handle_low}
+use Rattle.mq_core.specs.Values.{CoreValue}
+use Rattle.mq_manager.proofs.CallLaws.{kept_open}
+use Rattle.mq_manager.proofs.WellLaws.{handle_low}
 use Rattle.mq_manager.proofs.manager.Manager.mqopen.Goals as goal
 
 pub invariant_of-self : goal.invariant_of-self
-invariant_of-self g c = well_open (manager_of c.self.inside.core) (manager_of c.mqopen.new.core) c.self.invariant c.args.hc c.args.name.now c.args.qmgr.now c.args.how.now c.mqopen.result c.mqopen.ensures.meets
+invariant_of-self g c = kept_open g.D.Disk.tells c.self.inside.read c.self.inside.core c.mqopen.new.core c.self.invariant c.args.hc c.args.name.now c.args.qmgr.now c.args.how.now c.mqopen.result c.mqopen.ensures.meets c.mqopen.ensures.told
 
 pub mqopen-requires : goal.mqopen-requires
 mqopen-requires g c =

@@ -1,9 +1,9 @@
 use Rattle.std.proofs.Common.{sym, subst}
 use Rattle.mq_spec_agents.specs.Words.{IsUp}
-use Rattle.mq_core.specs.Values.{CoreValue, manager_of}
+use Rattle.mq_core.specs.Values.{CoreValue}
 use Rattle.mq_agents.specs.Ends.{by_memory}
-use Rattle.mq_manager.proofs.AgentLaws.{well_bound}
+use Rattle.mq_manager.proofs.CallLaws.{kept_bound}
 use Rattle.mq_manager.proofs.manager.Manager.set_bound.Goals as goal
 
 pub invariant_of-self : goal.invariant_of-self
-invariant_of-self g c = well_bound (manager_of c.self.inside.core) (manager_of c.set_bound.new.core) c.self.invariant (subst (λ (v : CoreValue). IsUp v.plain) (sym c.self.view_is) c.requires.up) c.args.channel.now c.args.bound (by_memory c.set_bound.result) c.set_bound.ensures.meets
+invariant_of-self g c = kept_bound g.D.Disk.tells c.self.inside.read c.self.inside.core c.set_bound.new.core c.self.invariant (subst (λ (v : CoreValue). IsUp v.plain) (sym c.self.view_is) c.requires.up) c.args.channel.now c.args.bound (by_memory c.set_bound.result) c.set_bound.ensures.meets c.set_bound.ensures.told

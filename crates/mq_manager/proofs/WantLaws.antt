@@ -1,0 +1,31 @@
+-- Want of memory in place of a call's answer: nothing has changed, and nothing is written.
+use Rattle.std.proofs.Common.{◌≡◌, ℕ, List, ap}
+use Rattle.std.specs.Prelude.{Err}
+use Rattle.mq_calls.specs.declared.agents.Note.{Note}
+use Rattle.mq_calls.specs.declared.agents.AgentStop.TheVariants as agent_stops
+use Rattle.mq_calls.specs.declared.agents.PrepareFault.TheVariants as prepare_faults
+use Rattle.mq_calls.specs.declared.commands.Halt.TheVariants as halts
+use Rattle.mq_spec_state.specs.Words.{Step, Refuse, Do, MeetsOrWants}
+use Rattle.mq_spec_agents.specs.Words.{harden, prepare}
+use Rattle.mq_agents.specs.Ends.{by_agent, by_prepare}
+use Rattle.mq_core.specs.Values.{CoreValue, WritesLog, begun_call, manager_of}
+
+wants : {F T : Type 0} (v new : CoreValue) (s : Step F T) → new ≡ begun_call v → MeetsOrWants (manager_of v) s (Err halts.NoMemory) (manager_of new)
+wants v new (Refuse reason) e = ap manager_of e
+wants v new (Do reply parts) e = ap manager_of e
+
+untold : {F T : Type 0} (v new : CoreValue) (s : Step F T) → new ≡ begun_call v → WritesLog v s (Err halts.NoMemory) new
+untold v new (Refuse reason) e = ap (λ (w : CoreValue). w.log) e
+untold v new (Do reply parts) e = ap (λ (w : CoreValue). w.log) e
+
+pub harden_wants : (channel : List ℕ) (note : Note) (v new : CoreValue) → new ≡ begun_call v → MeetsOrWants (manager_of v) (harden channel note v.plain) (by_agent (Err agent_stops.NoMemory)) (manager_of new)
+harden_wants channel note v new e = wants v new (harden channel note v.plain) e
+
+pub harden_untold : (channel : List ℕ) (note : Note) (v new : CoreValue) → new ≡ begun_call v → WritesLog v (harden channel note v.plain) (by_agent (Err agent_stops.NoMemory)) new
+harden_untold channel note v new e = untold v new (harden channel note v.plain) e
+
+pub prepare_wants : (channel : List ℕ) (last : ℕ) (v new : CoreValue) → new ≡ begun_call v → MeetsOrWants (manager_of v) (prepare channel last v.plain) (by_prepare (Err (prepare_faults.Stop agent_stops.NoMemory))) (manager_of new)
+prepare_wants channel last v new e = wants v new (prepare channel last v.plain) e
+
+pub prepare_untold : (channel : List ℕ) (last : ℕ) (v new : CoreValue) → new ≡ begun_call v → WritesLog v (prepare channel last v.plain) (by_prepare (Err (prepare_faults.Stop agent_stops.NoMemory))) new
+prepare_untold channel last v new e = untold v new (prepare channel last v.plain) e
