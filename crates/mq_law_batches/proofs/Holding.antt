@@ -17,9 +17,10 @@ use Rattle.mq_spec_state.specs.Changes.{apply_all, retag_if}
 use Rattle.mq_spec_network.specs.Promised.{AreDistinct}
 use Rattle.mq_spec_network.specs.Story.{Mem}
 use Rattle.mq_law_rows.specs.Families.{put_at}
-use Rattle.mq_law_rows.specs.World.{Book, Ghost, Inv, Tag, World, idents_in, tag_idents}
-use Rattle.mq_law_rows.specs.Kinds.{Chosen, among, ghost_hold}
-use Rattle.mq_law_rows.proofs.Holding.{holds_batch, only_one}
+use Rattle.mq_law_rows.specs.World.{Book, Ghost, Inv, Tag, World, idents_in, standing, tag_idents}
+use Rattle.mq_law_rows.specs.Kinds.{Chosen, among, ghost_take, ghost_hold}
+use Rattle.mq_law_rows.specs.Ordered.{IsFront}
+use Rattle.mq_law_rows.proofs.Holding.{takes_batch, only_one}
 use Rattle.mq_law_rows.proofs.Receiving.{any_mem}
 use Rattle.mq_law_rows.proofs.Lists.{and_left, and_right, bool_case, map_mem, name_yes}
 use Rattle.mq_law_seen.specs.Seen.{doubt_of, held_unit, holds_of, last_of, rows_of, world_of}
@@ -73,10 +74,11 @@ rows_seen s given m p ps c u q ts g k at chosen h a d e f =
     (λ z w. ap (λ t. retag_if t o y) (sym (chosen_free s given m p ps q ts g k at chosen h d y n w))) (λ z w. refl) refl)
     ∙ sym (rows_after (Hold (Among q ids) (holders.Batch c)) p d tt)
 
-pub holds : (s : Scenario) (given : Ident → Bool) (m : ℕ) (p : Plain) (ps qs : List Plain) (c : List ℕ) (u : Luw) (q : List ℕ) (ts : List Tag) (g : Ghost) (k : Book) → IsNext m p (apply_all (held_changes c u q (tag_idents ts)) p) ps qs
-    → batch_of c p.channels.batches ≡ None → in_doubt_of (sender_data c p) ≡ None → last_of s ps c (Some p) ≢ u → g.operated m c u ≡ false → Chosen (world_of s given ps) m q ts → Inv (world_of s given ps) g k
-    → Inv (world_of s given qs) (ghost_hold g m q c u ts) k
-holds s given m p ps qs c u q ts g k n free none apart done chosen h =
+pub takes : (s : Scenario) (given : Ident → Bool) (m : ℕ) (p : Plain) (ps qs : List Plain) (c : List ℕ) (u : Luw) (q : List ℕ) (ts : List Tag) (front : Bool) (g : Ghost) (k : Book) → IsNext m p (apply_all (held_changes c u q (tag_idents ts)) p) ps qs
+    → batch_of c p.channels.batches ≡ None → in_doubt_of (sender_data c p) ≡ None → last_of s ps c (Some p) ≢ u → g.operated m c u ≡ false → Chosen (world_of s given ps) m q ts
+    → (front ≡ true → IsFront (tag_idents ts) (standing (world_of s given ps) m q)) → Inv (world_of s given ps) g k
+    → Inv (world_of s given qs) (ghost_take g m q c u ts front) k
+takes s given m p ps qs c u q ts front g k n free none apart done chosen first_ h =
     let w : World = world_of s given ps in
     let ids : List Ident = tag_idents ts in
     let e = looks s given m p (apply_all (held_changes c u q ids) p) ps qs (rows_held w m q c ids) (put_at w.holds m c (Some u)) (put_at w.doubt m c false) n (record { given = refl; receivers = λ c. refl }) refl (record {
@@ -87,5 +89,10 @@ holds s given m p ps qs c u q ts g k n free none apart done chosen h =
       doubt_here = λ a d e f. put_here w.doubt m c false a d e ∙ ap (λ o. if bytes_eq d c then false else doubt_of d o) f ∙ held_doubts c d p none (bytes_eq d c) refl;
       doubt_else = λ a d e. put_else w.doubt m c false a d e;
     }) in
-    subst (λ (v : World). Inv v (ghost_hold g m q c u ts) k) (sym e)
-    (holds_batch w g k m q c u ts h (ap (holds_of c) n.at ∙ (λ i. held_unit (none i) (free i))) (λ f. apart (sym (ap (last_of s ps c) n.at) ∙ f)) done chosen)
+    subst (λ (v : World). Inv v (ghost_take g m q c u ts front) k) (sym e)
+    (takes_batch w g k m q c u ts front h (ap (holds_of c) n.at ∙ (λ i. held_unit (none i) (free i))) (λ f. apart (sym (ap (last_of s ps c) n.at) ∙ f)) done chosen first_)
+
+pub holds : (s : Scenario) (given : Ident → Bool) (m : ℕ) (p : Plain) (ps qs : List Plain) (c : List ℕ) (u : Luw) (q : List ℕ) (ts : List Tag) (g : Ghost) (k : Book) → IsNext m p (apply_all (held_changes c u q (tag_idents ts)) p) ps qs
+    → batch_of c p.channels.batches ≡ None → in_doubt_of (sender_data c p) ≡ None → last_of s ps c (Some p) ≢ u → g.operated m c u ≡ false → Chosen (world_of s given ps) m q ts → Inv (world_of s given ps) g k
+    → Inv (world_of s given qs) (ghost_hold g m q c u ts) k
+holds s given m p ps qs c u q ts g k n free none apart done chosen h = takes s given m p ps qs c u q ts false g k n free none apart done chosen (λ e. absurd cc) h

@@ -58,7 +58,7 @@ kept_batch false o b e = e
 
 all_release : (bs : List Batch) (s : Scenario) (given : Ident → Bool) (m : ℕ) (p : Plain) (ps qs : List Plain) (g : Ghost) (k : Book) → IsNext m p (let_go bs p) ps qs → ((b : Batch) → Mem b bs → in_doubt_of (sender_data b.channel p) ≡ None)
     → ((c : List ℕ) (b : Batch) → batch_of c p.channels.batches ≡ Some b → last_of s ps c (Some p) ≢ b.unit) → Inv (world_of s given ps) g k → Stands s given qs g k
-all_release [] s given m p ps qs g k n alone apart h = record { ghost = g; sent = refl; source = refl; operated = refl; inv = subst (λ (w : World). Inv w g k) (same_world s given m p ps qs n) h }
+all_release [] s given m p ps qs g k n alone apart h = record { ghost = g; sent = refl; source = refl; operated = refl; loose = refl; inv = subst (λ (w : World). Inv w g k) (same_world s given m p ps qs n) h }
 all_release (b ∷ bs) s given m p ps qs g k n alone apart h =
     let one : Plain = apply_all (release_changes b.channel) p in
     let mid : List Plain = change_at m (λ x. one) ps in
@@ -67,7 +67,7 @@ all_release (b ∷ bs) s given m p ps qs g k n alone apart h =
     let rest = all_release bs s given m one mid qs (after g (freed g m b.channel)) k n2 (λ x i. alone x (inr i))
     (λ c x e f. apart c x (kept_batch (bytes_eq c b.channel) (batch_of c p.channels.batches) x (sym (batch_dropped c b.channel p.channels.batches) ∙ e)) (sym (last_here s m p one ps mid c n1 (record { given = refl; receivers = λ c. refl })) ∙ f))
     (releases s given m p ps mid b.channel g k n1 (alone b (inl refl)) (λ x e. apart b.channel x e) h) in
-    record { ghost = rest.ghost; sent = rest.sent; source = rest.source; operated = rest.operated; inv = rest.inv }
+    record { ghost = rest.ghost; sent = rest.sent; source = rest.source; operated = rest.operated; loose = rest.loose; inv = rest.inv }
 
 -- What stays of the manager
 
@@ -220,7 +220,7 @@ rests s given m p q ps qs l g n t fresh k apart rows h =
       known = λ i e. f.known i (ap (λ (x : Given). i.manager == x.number) stay.given ∙ e);
       fresh = f.fresh;
       told = f.told;
-      stands = record { ghost = record { sent = a.ghost.sent; source = a.ghost.source; operated = a.ghost.operated; owner = moved.owner }; sent = a.sent; source = a.source; operated = a.operated; inv = moved.inv };
+      stands = record { ghost = record { sent = a.ghost.sent; source = a.ghost.source; operated = a.ghost.operated; loose = a.ghost.loose; owner = moved.owner }; sent = a.sent; source = a.source; operated = a.operated; loose = a.loose; inv = moved.inv };
     }
 
 pub stops : (s : Scenario) (given : Ident → Bool) (m : ℕ) (p : Plain) (running : Running) (ps qs : List Plain) (l : Ledger) (g : Ghost) → IsNext m p (record (at_rest p) { running = running }) ps qs → IsTold m p l → IsFresh given p → AreUnprepared s ps p

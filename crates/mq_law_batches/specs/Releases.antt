@@ -56,6 +56,7 @@ pub record Stands (s : Scenario) (given : Ident → Bool) (ps : List Plain) (g :
   pub sent : ghost.sent ≡ g.sent
   pub source : ghost.source ≡ g.source
   pub operated : ghost.operated ≡ g.operated
+  pub loose : ghost.loose ≡ g.loose
   pub inv : Inv (world_of s given ps) ghost b
 
 -- After a stop or a restart of manager m the network stands, and the ledger tells the manager again.

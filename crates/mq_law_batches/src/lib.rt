@@ -19,8 +19,9 @@ ghost use Rattle.mq_spec_manager.specs.Stops.{at_rest};
 ghost use Rattle.mq_spec_agents.specs.Batches.{prepared_changes};
 ghost use Rattle.mq_spec_agents.specs.Hardening.{harden_part};
 ghost use Rattle.mq_spec_network.specs.Ledger.{Ledger};
-ghost use Rattle.mq_law_rows.specs.World.{Book, Ghost, Inv, Tag, tag_idents};
-ghost use Rattle.mq_law_rows.specs.Kinds.{Chosen, after, freed, ghost_force, ghost_hold};
+ghost use Rattle.mq_law_rows.specs.World.{Book, Ghost, Inv, Tag, standing, tag_idents};
+ghost use Rattle.mq_law_rows.specs.Kinds.{Chosen, after, freed, ghost_force, ghost_hold, ghost_take};
+ghost use Rattle.mq_law_rows.specs.Ordered.{IsFront};
 ghost use Rattle.mq_law_seen.specs.Seen.{book_of, last_of, world_of};
 ghost use Rattle.mq_law_events.specs.Tied.{IsFresh, IsNext, IsTold};
 ghost use Rattle.mq_law_batches.specs.Releases.{AreUnprepared, IsWord, Rested, held_changes, release_changes, settled_changes};
@@ -31,11 +32,14 @@ pub fn a_released_batch_keeps_the_facts()
         → ((b : Batch) → batch_of c p.channels.batches ≡ Some b → last_of s ps c (Some p) ≢ b.unit) → Inv (world_of s given ps) g k → Inv (world_of s given qs) (after g (freed g m c)) k }
 {}
 
-/// Free rows are held as the batch of a channel that has none.
+/// Free rows are held as the batch of a channel that has none; where they are the front of their queue, that is known of the unit.
 pub fn a_held_batch_keeps_the_facts()
-    ensures { (s : Scenario) (given : Ident → Bool) (m : ℕ) (p : Plain) (ps qs : List Plain) (c : List ℕ) (u : Luw) (q : List ℕ) (ts : List Tag) (g : Ghost) (k : Book) → IsNext m p (apply_all (held_changes c u q (tag_idents ts)) p) ps qs
+    ensures held { (s : Scenario) (given : Ident → Bool) (m : ℕ) (p : Plain) (ps qs : List Plain) (c : List ℕ) (u : Luw) (q : List ℕ) (ts : List Tag) (g : Ghost) (k : Book) → IsNext m p (apply_all (held_changes c u q (tag_idents ts)) p) ps qs
         → batch_of c p.channels.batches ≡ None → in_doubt_of (sender_data c p) ≡ None → last_of s ps c (Some p) ≢ u → g.operated m c u ≡ false → Chosen (world_of s given ps) m q ts → Inv (world_of s given ps) g k
         → Inv (world_of s given qs) (ghost_hold g m q c u ts) k }
+    ensures fronted { (s : Scenario) (given : Ident → Bool) (m : ℕ) (p : Plain) (ps qs : List Plain) (c : List ℕ) (u : Luw) (q : List ℕ) (ts : List Tag) (front : Bool) (g : Ghost) (k : Book) → IsNext m p (apply_all (held_changes c u q (tag_idents ts)) p) ps qs
+        → batch_of c p.channels.batches ≡ None → in_doubt_of (sender_data c p) ≡ None → last_of s ps c (Some p) ≢ u → g.operated m c u ≡ false → Chosen (world_of s given ps) m q ts
+        → (front ≡ true → IsFront (tag_idents ts) (standing (world_of s given ps) m q)) → Inv (world_of s given ps) g k → Inv (world_of s given qs) (ghost_take g m q c u ts front) k }
 {}
 
 /// A batch is prepared. A unit in doubt is settled: dropped, since it is its receiver's last unit; committed by an operator before

@@ -69,6 +69,7 @@ lands m w g b x y R U B h rows units brows gone got old =
       got_once = k.got_once;
       operated_words = k.operated_words;
       persistence = k.persistence;
+      order = k.order;
       distinct = k.distinct;
       back = k.back;
       same = k.same;

@@ -11,9 +11,10 @@ use Rattle.mq_spec_state.specs.Changes.{release_if}
 use Rattle.mq_spec_network.specs.Story.{Mem}
 use Rattle.mq_spec_network.specs.Promised.{AreDistinct}
 use Rattle.mq_spec_network.specs.Standing.{rows_told}
-use Rattle.mq_law_rows.specs.World.{World, Book, Ghost, Tag, Owner, Unborn, At, HeldBy, InBatch, Forced, InUnit, InHand, Gone, tag_of, ident_of, away, stands, row_stands, is_forced, claim, IsHeldBy, IsElsewhere, put_idents, got_idents, items_told, Inv}
+use Rattle.mq_law_rows.specs.World.{World, Book, Ghost, Tag, Owner, Unborn, At, HeldBy, InBatch, Forced, InUnit, InHand, Gone, tag_of, ident_of, away, stands, row_stands, is_forced, is_young, claim, IsHeldBy, IsElsewhere, put_idents, got_idents, items_told, Inv}
 use Rattle.mq_calls.specs.declared.state.Item.TheVariants.{Put}
 use Rattle.mq_law_rows.specs.Kinds.{after}
+use Rattle.mq_law_rows.proofs.Young.{order_ghost}
 use Rattle.mq_law_rows.proofs.Lasting.{lasts}
 use Rattle.mq_law_rows.proofs.Lists.{true_false, and_false, and_left, eqb_self, eqb_yes, bool_case, is_false, mem_retag, mem_retagged, sorted_retag, keep_same, keep_retag}
 use Rattle.mq_law_rows.proofs.Batches.{retag_idents, release_place, release_told, release_tag, release_ident, released, unreleased}
@@ -66,6 +67,16 @@ rested_held m j a e (Forced b d u) z n = absurd n
 rested_held m j a e (InHand b) z n = absurd n
 rested_held m j a e Unborn z n = absurd n
 rested_held m j a e Gone z n = absurd n
+
+rested_keeps : (m : ℕ) (j : Ident) (o : Owner) → is_forced o ≡ true → rested m j o ≡ o
+rested_keeps m j (Forced a d u) z = refl
+rested_keeps m j (HeldBy a q e) z = absurd cc
+rested_keeps m j (InUnit a e) z = absurd cc
+rested_keeps m j (At a q) z = refl
+rested_keeps m j (InBatch a d) z = refl
+rested_keeps m j (InHand a) z = refl
+rested_keeps m j Unborn z = refl
+rested_keeps m j Gone z = refl
 
 rested_claim : (m : ℕ) (j : Ident) (a : ℕ) (d : List ℕ) (x : Option Holder) → ((a == m) && is_by_unit x) ≡ false → rested m j (claim a d x) ≡ claim a d x
 rested_claim m j a d None e = refl
@@ -132,6 +143,7 @@ backs_out_all w g b m back h =
       persistence = lasts w.rows (back_out_all w m back).rows w.units (back_out_all w m back).units w.holds w.last g.sent g.operated h.persistence
           (λ a d y n. let r = mem_retag (G a) y (w.rows a d) n in (r.0, r.1, ap (λ (z : Row). tag_of z.message) r.2 ∙ release_tag (T a r.0) back r.0))
           (λ a e q y. bool_case (a == m) (λ t. Mem (Put q y) (if t then [] else w.units a e) → Mem (Put q y) (w.units a e)) (λ z n. absurd n) (λ z n. n));
+      order = order_ghost g (after g (rested m)) b.rows (is_young w g) h.order (λ a d u z. refl) (λ a d r n e. rested_keeps m r.message.ident (g.owner r.message.ident) e);
       distinct = λ a d. subst AreDistinct (sym (retag_idents (G a) (same_ident_ a) (w.rows a d))) (h.distinct a d);
       back = λ a d y n s. let r = mem_retag (G a) y (w.rows a d) n in
           let st : stands (away w a) r.0.by ≡ false = sym (stood a r.0) ∙ ap (λ (z : Row). stands (away w a) z.by) (sym r.2) ∙ s in

@@ -41,7 +41,7 @@ page b m v t = record {
 
 -- idents belong elsewhere; what was sent and what an operator settled stays
 abbrev pub with_owner : Ghost → (Ident → Owner) → Ghost
-with_owner g owner = record { sent = g.sent; source = g.source; operated = g.operated; owner = owner }
+with_owner g owner = record { sent = g.sent; source = g.source; operated = g.operated; loose = g.loose; owner = owner }
 
 -- the facts hold, wherever idents belong by now
 pub record Moved (g : Ghost) (w : World) (b : Book) : Type 0 where

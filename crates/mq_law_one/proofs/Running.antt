@@ -255,9 +255,9 @@ step s hs p x z t =
     let r = moves_on s z.given b.now m n.manager next.manager (managers_at s p hs) (managers_at s (p ++ x ∷ []) hs) l k z.ghost at_next a.told b.leads b.same b.at.told b.other z.inv in
     record {
       given = b.now;
-      ghost = record { sent = z.ghost.sent; source = z.ghost.source; operated = z.ghost.operated; owner = r.owner };
+      ghost = record { sent = z.ghost.sent; source = z.ghost.source; operated = z.ghost.operated; loose = z.ghost.loose; owner = r.owner };
       calm = z.calm;
-      inv = subst (λ y. Inv (world_of s b.now (managers_at s (p ++ x ∷ []) hs)) (record { sent = z.ghost.sent; source = z.ghost.source; operated = z.ghost.operated; owner = r.owner }) (book_of y)) whole r.inv;
+      inv = subst (λ y. Inv (world_of s b.now (managers_at s (p ++ x ∷ []) hs)) (record { sent = z.ghost.sent; source = z.ghost.source; operated = z.ghost.operated; loose = z.ghost.loose; owner = r.owner }) (book_of y)) whole r.inv;
       bare = λ c h is. bare_at c h is b (c == m) refl;
       at = λ c h is. subst (λ y. IsAt NoOther c b.now (node_after s c (p ++ x ∷ []) h) y) whole (go c h is b (c == m) refl);
     }

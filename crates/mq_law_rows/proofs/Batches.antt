@@ -1,5 +1,5 @@
 -- Batches that are held, prepared, released and settled keep the facts; so do rows that a stop loses.
-use Rattle.std.proofs.Common.{ℕ, ◌≡◌, ◌≢◌, Bool, true, false, not, List, [], ◌∷◌, refl, ap, sym, subst, ◌∙◌, arith}
+use Rattle.std.proofs.Common.{ℕ, ◌≡◌, ◌≢◌, Bool, true, false, not, List, [], ◌∷◌, refl, ap, sym, subst, ◌∙◌, arith, inl, inr}
 use Rattle.std.specs.Prelude.{Option, Some, None, ◌==◌, if◌then◌else◌, ◌&&◌}
 use Rattle.std.proofs.lemmas.Bool.Decides.{nat_tests}
 use Rattle.mq_message.specs.declared.message.Ident.{Ident}
@@ -14,8 +14,9 @@ use Rattle.mq_spec_network.specs.Story.{Mem}
 use Rattle.mq_spec_network.specs.Promised.{AreDistinct}
 use Rattle.mq_spec_network.specs.Standing.{row_told, rows_told}
 use Rattle.mq_law_rows.specs.Families.{is_here, put_at}
-use Rattle.mq_law_rows.specs.World.{World, Book, Ghost, Tag, Owner, Unborn, At, HeldBy, InBatch, Forced, InUnit, InHand, Gone, tag_of, ident_of, idents_in, is_last, away, stands, row_stands, is_forced, claim, IsHeldBy, IsElsewhere, got_idents, Inv}
+use Rattle.mq_law_rows.specs.World.{World, Book, Ghost, Tag, Owner, Unborn, At, HeldBy, InBatch, Forced, InUnit, InHand, Gone, tag_of, ident_of, idents_in, is_last, away, stands, row_stands, is_forced, is_young, claim, IsHeldBy, IsElsewhere, got_idents, Inv}
 use Rattle.mq_law_rows.specs.Kinds.{after, has_batch, release_batch, freed}
+use Rattle.mq_law_rows.proofs.Young.{order_less, order_ghost, young_means, young_so}
 use Rattle.mq_law_rows.proofs.Lasting.{row_flag}
 use Rattle.mq_law_rows.proofs.Lists.{true_false, and_false, and_right, and_left, eqb_self, eqb_yes, name_yes, name_self, bool_case, is_false, here_yes, here_self, mem_retag, mem_retagged, sorted_retag, keep_same, keep_retag}
 
@@ -86,6 +87,16 @@ put_down_here w m c a d e = rw e refl
 
 pub held_none : (w : World) (m : ℕ) (c : List ℕ) (a : ℕ) (d : List ℕ) {u : Luw} → put_at w.holds m c None a d ≡ Some u → (is_here m c a d ≡ false) × (w.holds a d ≡ Some u)
 held_none w m c a d {u} = bool_case (is_here m c a d) (λ t. (if t then None else w.holds a d) ≡ Some u → (t ≡ false) × (w.holds a d ≡ Some u)) (λ e z. absurd cc) (λ e z. (refl, z))
+
+freed_keeps : (g : Ghost) (m : ℕ) (c : List ℕ) (j : Ident) (o : Owner) → is_forced o ≡ true → freed g m c j o ≡ o
+freed_keeps g m c j (Forced a d u) z = refl
+freed_keeps g m c j (InBatch a d) z = absurd cc
+freed_keeps g m c j (At a q) z = refl
+freed_keeps g m c j (HeldBy a q k) z = refl
+freed_keeps g m c j (InUnit a k) z = refl
+freed_keeps g m c j (InHand a) z = refl
+freed_keeps g m c j Unborn z = refl
+freed_keeps g m c j Gone z = refl
 
 freed_free : (g : Ghost) (m : ℕ) (c : List ℕ) (j : Ident) (o : Owner) → is_forced (freed g m c j o) ≡ is_forced o
 freed_free g m c j (InBatch a d) = bool_case (is_here m c a d) (λ t. is_forced (if t then At m (g.source m c) else InBatch a d) ≡ false) (λ e. refl) (λ e. refl)
@@ -209,6 +220,9 @@ releases_batch w g b m c back h no_ =
             of_unit = λ a e u t z no2 n. p.of_unit a e u t (held_none w m c a e z).1 no2 n;
             of_operated = p.of_operated;
           };
+      order = order_less (after g (freed g m c)) b.rows (is_young w g) (is_young v (after g (freed g m c)))
+          (order_ghost g (after g (freed g m c)) b.rows (is_young w g) h.order (λ a d u z. refl) (λ a d r n e. freed_keeps g m c r.message.ident (g.owner r.message.ident) e))
+          (λ a d x z. let y = young_means v (after g (freed g m c)) a d x z in young_so w g a d x y.0 (elim y.1 [ inl p ↦ inl ((held_none w m c a d p.0).1, p.1) | inr p ↦ inr p ]));
       distinct = λ a d. subst AreDistinct (sym (retag_idents (G a) (same_ident_ a) (w.rows a d))) (h.distinct a d);
       back = λ a d y n s. let r = mem_retag (G a) y (w.rows a d) n in
           let st : stands (away w a) r.0.by ≡ false = sym (stood a r.0) ∙ ap (λ (z : Row). stands (away v a) z.by) (sym r.2) ∙ s in

@@ -13,11 +13,13 @@ use Rattle.mq_spec_network.specs.Story.{Mem}
 use Rattle.mq_spec_network.specs.Promised.{AreDistinct}
 use Rattle.mq_spec_network.specs.Standing.{row_told, rows_told}
 use Rattle.mq_law_rows.specs.Families.{is_here, put_at}
-use Rattle.mq_law_rows.specs.World.{World, Book, Ghost, Tag, Owner, Unborn, At, InBatch, Forced, InUnit, Gone, tag_of, tag_idents, ident_of, idents_in, is_last, away, stands, row_stands, is_forced, claim, IsHeldBy, IsElsewhere, StandsIn, got_idents, Inv}
-use Rattle.mq_law_rows.specs.Kinds.{among, unit_at, hold_batch, ghost_hold, prepare, Chosen}
+use Rattle.mq_law_rows.specs.World.{World, Book, Ghost, Tag, Owner, Unborn, At, InBatch, Forced, InUnit, Gone, tag_of, tag_idents, ident_of, idents_in, is_last, away, stands, row_stands, standing, is_forced, claim, IsHeldBy, IsElsewhere, StandsIn, got_idents, Inv}
+use Rattle.mq_law_rows.specs.Kinds.{among, unit_at, hold_batch, ghost_take, ghost_hold, prepare, Chosen}
+use Rattle.mq_law_rows.specs.Ordered.{IsFront}
 use Rattle.mq_law_rows.proofs.Lists.{once_not, true_false, and_right, and_left, bool_case, is_false, here_yes, here_self, mem_retag, mem_retagged, map_mem, mem_map, sorted_retag, keep_same, keep_retag}
 use Rattle.mq_law_rows.proofs.Receiving.{any_mem, mem_any}
 use Rattle.mq_law_rows.proofs.Batches.{retag_idents, not_last}
+use Rattle.mq_law_rows.proofs.Ordering.{hold_order}
 use Rattle.mq_law_rows.proofs.Lasting.{row_flag}
 
 pub retag_place : (t : Bool) (o : Option Holder) (x : Row) → (retag_if t o x).place ≡ x.place
@@ -69,9 +71,10 @@ at_claim m a q d (Some (holders.Batch c)) e = absurd cc
 set_other : (is : List Ident) (j : Ident) (o new p : Owner) → o ≡ p → (among is j ≡ true → o ≡ p → ⊥) → (if among is j then new else o) ≡ p
 set_other is j o new p e no_ = bool_case (among is j) (λ z. (if z then new else o) ≡ p) (λ z. absurd (no_ z e)) (λ z. e)
 
-pub holds_batch : (w : World) (g : Ghost) (b : Book) (m : ℕ) (q c : List ℕ) (u : Luw) (ts : List Tag) → Inv w g b → w.holds m c ≡ None → w.last m c ≢ u → g.operated m c u ≡ false → Chosen w m q ts
-    → Inv (hold_batch w m q c u (tag_idents ts)) (ghost_hold g m q c u ts) b
-holds_batch w g b m q c u ts h free_ new done k =
+pub takes_batch : (w : World) (g : Ghost) (b : Book) (m : ℕ) (q c : List ℕ) (u : Luw) (ts : List Tag) (front : Bool) → Inv w g b → w.holds m c ≡ None → w.last m c ≢ u → g.operated m c u ≡ false → Chosen w m q ts
+    → (front ≡ true → IsFront (tag_idents ts) (standing w m q))
+    → Inv (hold_batch w m q c u (tag_idents ts)) (ghost_take g m q c u ts front) b
+takes_batch w g b m q c u ts front h free_ new done k first_ =
     let ids : List Ident = tag_idents ts in
     let v : World = hold_batch w m q c u ids in
     let o : Option Holder = Some (holders.Batch c) in
@@ -105,15 +108,15 @@ holds_batch w g b m q c u ts h free_ new done k =
     -- a sender that held a batch before is another one
     let elsewhere : (a : ℕ) (d : List ℕ) (x : Luw) → w.holds a d ≡ Some x → is_here m c a d ≡ false = λ a d x z. is_false _ (λ e. let p = here_yes m c a d e in none_some x (sym free_ ∙ rw (p.0, p.1) at z)) in
     let elsewhere_held : (a : ℕ) (d : List ℕ) → (w.holds a d ≢ None) → is_here m c a d ≡ false = λ a d z. is_false _ (λ e. let p = here_yes m c a d e in z (rw (p.0, p.1) free_)) in
-    let same_sent : (a : ℕ) (d : List ℕ) (x : Luw) → is_here m c a d ≡ false → (ghost_hold g m q c u ts).sent a d x ≡ g.sent a d x = λ a d x e. ap (λ z. if z && same_unit x u then ts else g.sent a d x) e in
-    let same_source : (a : ℕ) (d : List ℕ) → is_here m c a d ≡ false → (ghost_hold g m q c u ts).source a d ≡ g.source a d = λ a d e. ap (λ z. if z then q else g.source a d) e in
-    let new_sent : (ghost_hold g m q c u ts).sent m c u ≡ ts = rw (here_self m c, unit_self u) refl in
-    let new_source : (ghost_hold g m q c u ts).source m c ≡ q = rw (here_self m c) refl in
+    let same_sent : (a : ℕ) (d : List ℕ) (x : Luw) → is_here m c a d ≡ false → (ghost_take g m q c u ts front).sent a d x ≡ g.sent a d x = λ a d x e. ap (λ z. if z && same_unit x u then ts else g.sent a d x) e in
+    let same_source : (a : ℕ) (d : List ℕ) → is_here m c a d ≡ false → (ghost_take g m q c u ts front).source a d ≡ g.source a d = λ a d e. ap (λ z. if z then q else g.source a d) e in
+    let new_sent : (ghost_take g m q c u ts front).sent m c u ≡ ts = rw (here_self m c, unit_self u) refl in
+    let new_source : (ghost_take g m q c u ts front).source m c ≡ q = rw (here_self m c) refl in
     -- a unit of the network after it: the new one, or one from before
     let which : (a : ℕ) (d : List ℕ) (x : Luw) → put_at w.holds m c (Some u) a d ≡ Some x → ((a ≡ m) × (d ≡ c) × (x ≡ u)) ⊎ ((is_here m c a d ≡ false) × (w.holds a d ≡ Some x)) = λ a d x.
     bool_case (is_here m c a d) (λ z. is_here m c a d ≡ z → (if z then Some u else w.holds a d) ≡ Some x → ((a ≡ m) × (d ≡ c) × (x ≡ u)) ⊎ ((z ≡ false) × (w.holds a d ≡ Some x)))
     (λ e f y. let p = here_yes m c a d f in inl (p.0, p.1, sym (some_unit u x y))) (λ e f y. inr (refl, y)) refl in
-    let still : (a : ℕ) (d : List ℕ) (x : Luw) → g.operated a d x ≡ true → (ghost_hold g m q c u ts).sent a d x ≡ g.sent a d x = λ a d x z.
+    let still : (a : ℕ) (d : List ℕ) (x : Luw) → g.operated a d x ≡ true → (ghost_take g m q c u ts front).sent a d x ≡ g.sent a d x = λ a d x z.
     ap (λ y. if y then ts else g.sent a d x) (is_false (unit_at m c u a d x) (λ e. let p = here_yes m c a d (and_left (is_here m c a d) (same_unit x u) e) in
     let r : x ≡ u = unit_yes x u (and_right (is_here m c a d) (same_unit x u) e) in true_false (sym z ∙ (λ i. g.operated (p.0 i) (p.1 i) (r i)) ∙ done))) in
     record {
@@ -143,10 +146,10 @@ holds_batch w g b m q c u ts h free_ new done k =
             | inl z ↦ let p = here_yes m q a d (and_left (is_here m q a d) (among ids x.message.ident) z.0) in
                 let ec : e ≡ c = batch_same e c z.1 in
                 let now_holds : put_at w.holds m c (Some u) a e ≡ Some u = (λ i. put_at w.holds m c (Some u) (p.0 i) (ec i)) ∙ rw (here_self m c) refl in (
-                  p.1 ∙ sym new_source ∙ (λ i. (ghost_hold g m q c u ts).source (sym p.0 i) (sym ec i)),
+                  p.1 ∙ sym new_source ∙ (λ i. (ghost_take g m q c u ts front).source (sym p.0 i) (sym ec i)),
                   (λ y. none_some u (sym y ∙ now_holds)),
                   (λ x2 y2. let xu : x2 ≡ u = some_unit x2 u (sym y2 ∙ now_holds) in
-                      subst (λ (l : List Tag). Mem (tag_of y.message) l) (sym ((λ i. (ghost_hold g m q c u ts).sent (p.0 i) (ec i) (xu i)) ∙ new_sent))
+                      subst (λ (l : List Tag). Mem (tag_of y.message) l) (sym ((λ i. (ghost_take g m q c u ts front).sent (p.0 i) (ec i) (xu i)) ∙ new_sent))
                       (subst (λ (s : Tag). Mem s ts) (sym tag) (is_it a d x r.1 z.0).1)),
                 )
             | inr z ↦ let b2 = h.batch a d x e r.1 z.1 in
@@ -158,21 +161,21 @@ holds_batch w g b m q c u ts h free_ new done k =
                 )
           ];
       live = λ a d x t z no_ n. elim (which a d x z) [
-        | inl p ↦ let there : Mem t ts = subst (λ (l : List Tag). Mem t l) ((λ i. (ghost_hold g m q c u ts).sent (p.0 i) (p.1 i) (p.2 i)) ∙ new_sent) n in
+        | inl p ↦ let there : Mem t ts = subst (λ (l : List Tag). Mem t l) ((λ i. (ghost_take g m q c u ts front).sent (p.0 i) (p.1 i) (p.2 i)) ∙ new_sent) n in
             rw (mem_any t.ident ids (mem_map (λ (t : Tag). t.ident) t ts there)) (λ i. InBatch (sym p.0 i) (sym p.1 i))
         | inr p ↦ other t.ident (InBatch a d) (h.live a d x t p.1 no_ (subst (λ (l : List Tag). Mem t l) (same_sent a d x p.0) n)) (λ e. cc)
       ];
       present = λ a d x t z no_ n l. elim (which a d x z) [
-        | inl p ↦ let there : Mem t ts = subst (λ (l : List Tag). Mem t l) ((λ i. (ghost_hold g m q c u ts).sent (p.0 i) (p.1 i) (p.2 i)) ∙ new_sent) n in
+        | inl p ↦ let there : Mem t ts = subst (λ (l : List Tag). Mem t l) ((λ i. (ghost_take g m q c u ts front).sent (p.0 i) (p.1 i) (p.2 i)) ∙ new_sent) n in
             let y = k.rows t there in
             let chosen_ : T m q y.0 ≡ true = rw (here_self m q) (ap (λ (s : Tag). among ids s.ident) y.3 ∙ mem_any t.ident ids (mem_map (λ (t : Tag). t.ident) t ts there)) in
-            let base : StandsIn t c (v.rows m ((ghost_hold g m q c u ts).source m c)) = subst (λ z. StandsIn t c (v.rows m z)) (sym new_source) (record {
+            let base : StandsIn t c (v.rows m ((ghost_take g m q c u ts front).source m c)) = subst (λ z. StandsIn t c (v.rows m z)) (sym new_source) (record {
               row = G m q y.0;
               there = mem_retagged (G m q) y.0 (w.rows m q) y.1;
               by = ap (λ z. (retag_if z o y.0).by) chosen_;
               tag = retag_tag (T m q y.0) o y.0 ∙ y.3;
             }) in
-            subst (λ z. StandsIn t d (v.rows z ((ghost_hold g m q c u ts).source z d))) (sym p.0) (subst (λ z. StandsIn t z (v.rows m ((ghost_hold g m q c u ts).source m z))) (sym p.1) base)
+            subst (λ z. StandsIn t d (v.rows z ((ghost_take g m q c u ts front).source z d))) (sym p.0) (subst (λ z. StandsIn t z (v.rows m ((ghost_take g m q c u ts front).source m z))) (sym p.1) base)
         | inr p ↦ let s = h.present a d x t p.1 no_ (subst (λ (l : List Tag). Mem t l) (same_sent a d x p.0) n) l in
             let src : List ℕ = g.source a d in
             let out : T a src s.row ≡ false = is_false (T a src s.row) (λ e. cc ((is_it a src s.row s.there e).0, s.by)) in
@@ -184,13 +187,13 @@ holds_batch w g b m q c u ts h free_ new done k =
             })
       ];
       sent_once = λ a d x z. elim (which a d x z) [
-        | inl p ↦ subst (λ (l : List Tag). AreDistinct (tag_idents l)) (sym ((λ i. (ghost_hold g m q c u ts).sent (p.0 i) (p.1 i) (p.2 i)) ∙ new_sent)) k.once
+        | inl p ↦ subst (λ (l : List Tag). AreDistinct (tag_idents l)) (sym ((λ i. (ghost_take g m q c u ts front).sent (p.0 i) (p.1 i) (p.2 i)) ∙ new_sent)) k.once
         | inr p ↦ subst (λ (l : List Tag). AreDistinct (tag_idents l)) (sym (same_sent a d x p.0)) (h.sent_once a d x p.1)
       ];
       operated = λ a d x t z n. other t.ident (Forced a d x) (h.operated a d x t z (subst (λ (l : List Tag). Mem t l) (still a d x z) n)) (λ e. cc);
       operated_there = λ a d x t z n l. h.operated_there a d x t z (subst (λ (l : List Tag). Mem t l) (still a d x z) n) l;
       operated_once = λ a d x z. subst (λ (l : List Tag). AreDistinct (tag_idents l)) (sym (still a d x z)) (h.operated_once a d x z);
-      forced = λ a d x j. bool_case (among ids j) (λ z. (if z then InBatch m c else g.owner j) ≡ Forced a d x → (g.operated a d x ≡ true) × Mem j (tag_idents ((ghost_hold g m q c u ts).sent a d x)))
+      forced = λ a d x j. bool_case (among ids j) (λ z. (if z then InBatch m c else g.owner j) ≡ Forced a d x → (g.operated a d x ≡ true) × Mem j (tag_idents ((ghost_take g m q c u ts front).sent a d x)))
           (λ y e. absurd cc) (λ y e. let p = h.forced a d x j e in (p.0, subst (λ (l : List Tag). Mem j (tag_idents l)) (sym (still a d x p.0)) p.1));
       pending = λ a e j n. other j (InUnit a e) (h.pending a e j n) (λ e. cc);
       pending_once = h.pending_once;
@@ -201,7 +204,7 @@ holds_batch w g b m q c u ts h free_ new done k =
       gone = λ j n. other j Gone (h.gone j n) (λ e. cc);
       got = λ j n. other j Gone (h.got j n) (λ e. cc);
       got_once = h.got_once;
-      operated_words = λ a d x e p r n. bool_case (among ids r.message.ident) (λ z. (if z then InBatch m c else g.owner r.message.ident) ≡ Forced a d x → Mem (tag_of r.message) ((ghost_hold g m q c u ts).sent a d x))
+      operated_words = λ a d x e p r n. bool_case (among ids r.message.ident) (λ z. (if z then InBatch m c else g.owner r.message.ident) ≡ Forced a d x → Mem (tag_of r.message) ((ghost_take g m q c u ts front).sent a d x))
           (λ y z. absurd cc) (λ y z. subst (λ (l : List Tag). Mem (tag_of r.message) l) (sym (still a d x (h.forced a d x r.message.ident z).0)) (h.operated_words a d x e p r n z));
       persistence =
           let p = h.persistence in
@@ -210,12 +213,13 @@ holds_batch w g b m q c u ts h free_ new done k =
             of_row = λ a d y n. let r = mem_retag (G a d) y (w.rows a d) n in row_flag p.flag r.0 y (ap (λ (z : Row). tag_of z.message) r.2 ∙ retag_tag (T a d r.0) o r.0) (p.of_row a d r.0 r.1);
             of_put = p.of_put;
             of_unit = λ a d x t z no_ n. elim (which a d x z) [
-              | inl s ↦ let y = k.rows t (subst (λ (l : List Tag). Mem t l) ((λ i. (ghost_hold g m q c u ts).sent (s.0 i) (s.1 i) (s.2 i)) ∙ new_sent) n) in
+              | inl s ↦ let y = k.rows t (subst (λ (l : List Tag). Mem t l) ((λ i. (ghost_take g m q c u ts front).sent (s.0 i) (s.1 i) (s.2 i)) ∙ new_sent) n) in
                   ap (λ (t : Tag). t.lasting) (sym y.3) ∙ p.of_row m q y.0 y.1 ∙ ap (λ (t : Tag). p.flag t.ident) y.3
               | inr s ↦ p.of_unit a d x t s.1 no_ (subst (λ (l : List Tag). Mem t l) (same_sent a d x s.0) n)
             ];
             of_operated = λ a d x t z n. p.of_operated a d x t z (subst (λ (l : List Tag). Mem t l) (still a d x z) n);
           };
+      order = hold_order w g b m q c u ts front h done (λ i n. mine i (mem_any i ids n)) first_;
       distinct = λ a d. subst AreDistinct (sym (retag_idents (G a d) (same_ident_ a d) (w.rows a d))) (h.distinct a d);
       back = λ a d y n s. let r = mem_retag (G a d) y (w.rows a d) n in
           let x : Row = r.0 in
@@ -229,6 +233,11 @@ holds_batch w g b m q c u ts h free_ new done k =
           ∙ h.same a d
           ∙ sym (keep_retag (row_stands (away w a)) (row_stands (away v a)) (G a d) (w.rows a d) (λ x n. stood a d x n) (λ x. retag_told (T a d x) o x));
     }
+
+-- nothing is asked of the order where it isn't known that the batch is the front of its queue
+pub holds_batch : (w : World) (g : Ghost) (b : Book) (m : ℕ) (q c : List ℕ) (u : Luw) (ts : List Tag) → Inv w g b → w.holds m c ≡ None → w.last m c ≢ u → g.operated m c u ≡ false → Chosen w m q ts
+    → Inv (hold_batch w m q c u (tag_idents ts)) (ghost_hold g m q c u ts) b
+holds_batch w g b m q c u ts h free_ new done k = takes_batch w g b m q c u ts false h free_ new done k (λ e. absurd cc)
 
 -- the unit that is held is prepared
 pub prepares : (w : World) (g : Ghost) (b : Book) (m : ℕ) (c : List ℕ) (u : Luw) → Inv w g b → w.holds m c ≡ Some u → w.last m c ≢ u → Inv (prepare w m c) g b
@@ -263,6 +272,7 @@ prepares w g b m c u h holds new =
       got_once = h.got_once;
       operated_words = h.operated_words;
       persistence = h.persistence;
+      order = h.order;
       distinct = h.distinct;
       back = λ a d y n s. h.back a d y n (sym (stands_same a y.by) ∙ s);
       same = λ a d. h.same a d ∙ sym (ap rows_told (keep_same (row_stands (away v a)) (row_stands (away w a)) (w.rows a d) (λ y n. stands_same a y.by)));

@@ -1,6 +1,7 @@
 pub mod Lists
 pub mod Owners
 pub mod Lasting
+pub mod Young
 pub mod Placing
 pub mod Receiving
 pub mod Batches

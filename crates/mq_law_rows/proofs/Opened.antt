@@ -12,10 +12,11 @@ use Rattle.mq_calls.specs.declared.state.Item.TheVariants.{Put}
 use Rattle.mq_spec_network.specs.Story.{Mem}
 use Rattle.mq_spec_network.specs.Promised.{AreDistinct}
 use Rattle.mq_spec_network.specs.Standing.{rows_told}
-use Rattle.mq_law_rows.specs.World.{World, Book, Tag, Owner, Unborn, Gone, ident_of, away, stands, row_stands, standing, is_forced, is_counted, claim, IsElsewhere, LanesRise, put_idents, got_idents, items_told, Inv}
+use Rattle.mq_law_rows.specs.World.{World, Book, Ghost, Tag, Owner, Unborn, Gone, ident_of, is_last, away, stands, row_stands, standing, is_forced, is_counted, claim, IsElsewhere, LanesRise, put_idents, got_idents, items_told, Inv}
 use Rattle.mq_law_rows.specs.Beginning.{Spot, owner_by, owner_in, first_owner, Opens}
 use Rattle.mq_law_rows.proofs.Lists.{true_false, bool_case, ident_yes, ident_self, mem_keep, mem_kept, sorted_keep, keep_all}
 use Rattle.mq_law_rows.proofs.Owners.{claim_counted}
+use Rattle.mq_law_rows.proofs.Young.{young_means, unit_self}
 use Rattle.mq_law_rows.proofs.Batches.{not_last}
 
 find_mem : (i : Ident) (xs : List Row) (row : Row) → find (has_ident i) xs ≡ Some row → Mem row xs × (row.message.ident ≡ i)
@@ -45,7 +46,7 @@ owner_case w (s ∷ ss) i rest = go (find (has_ident i) (standing w s.manager s.
     go None e (inr f) = inr (f.0, (λ s2 row n k is. elim n [ inl q ↦ find_none i (standing w s.manager s.queue) row e (subst (λ (z : Spot). Mem row (standing w z.manager z.queue)) q k) is | inr z ↦ f.1 s2 row z k is ]))
 
 pub opens : (w : World) (b : Book) (spots : List Spot) (sent : ℕ → List ℕ → Luw → List Tag) (source : ℕ → List ℕ → List ℕ) → Opens w b spots sent source
-    → Inv w (record { sent = sent; source = source; operated = λ m c u. false; owner = first_owner w spots }) b
+    → Inv w (record { sent = sent; source = source; operated = λ m c u. false; loose = λ m c u. is_last (w.holds m c) u; owner = first_owner w spots }) b
 opens w b spots sent source o =
     let claims : (m : ℕ) (q : List ℕ) (h : Row) → Mem h (w.rows m q) → stands (away w m) h.by ≡ true → first_owner w spots h.message.ident ≡ claim m q h.by = λ m q h n s.
     let here : Mem h (standing w m q) = mem_kept (row_stands (away w m)) h (w.rows m q) n s in
@@ -95,6 +96,10 @@ opens w b spots sent source o =
         of_unit = λ m c u t z no_ n. let s = o.doubted m c u t z n in ap (λ (t : Tag). t.lasting) (sym s.tag) ∙ o.lasting m (source m c) s.row s.there;
         of_operated = λ m c u t z n. absurd cc;
       };
+      order = let g : Ghost = record { sent = sent; source = source; operated = λ m c u. false; loose = λ m c u. is_last (w.holds m c) u; owner = first_owner w spots } in
+          record {
+            first = λ m a q c u x y z. let k = young_means w g m c u z in elim k.1 [ inl p ↦ absurd (true_false (sym (rw (p.0) (unit_self u)) ∙ k.0)) | inr p ↦ absurd cc ];
+          };
       distinct = o.distinct;
       back = λ m q h n s. elim (owner_case w spots h.message.ident (if w.given h.message.ident then Gone else Unborn)) [
         | inl f ↦ subst (IsElsewhere m) (sym f.4) (claim_far f.0.manager m f.0.queue f.1.by (λ e.

@@ -1,6 +1,6 @@
--- Order on a channel: rows of the ledger are placed and kept, batches are taken from the front.
-use Rattle.std.proofs.Common.{ℕ, ◌≡◌, ◌<◌, ◌≤◌, ◌⊎◌, Bool, true, false, not, List, [], ◌∷◌, refl, ap, sym, subst, ◌∙◌, inl, inr, arith, map}
-use Rattle.std.specs.Prelude.{Option, Some, None, if◌then◌else◌, nat_le}
+-- Order on a channel: batches are taken from the front, and receivers commit them.
+use Rattle.std.proofs.Common.{ℕ, ◌≡◌, ◌≤◌, Bool, true, false, not, List, [], ◌∷◌, ◌++◌, refl, ap, sym, subst, ◌∙◌, inl, inr, arith}
+use Rattle.std.specs.Prelude.{Option, Some, None, if◌then◌else◌, nat_le, ◌&&◌}
 use Rattle.std.proofs.lemmas.Bool.Decides.{nat_tests}
 use Rattle.mq_message.specs.declared.message.Ident.{Ident}
 use Rattle.mq_queue.specs.declared.row.Row.{Row}
@@ -8,121 +8,19 @@ use Rattle.mq_queue.specs.Rows.{insert_row, keep}
 use Rattle.mq_sync.specs.declared.unit.Unit.{Unit as Luw}
 use Rattle.mq_sync.specs.Units.{same_unit}
 use Rattle.mq_spec_network.specs.Story.{Mem}
+use Rattle.mq_spec_network.specs.Promised.{AreDistinct}
 use Rattle.mq_spec_network.specs.Order.{Before, KeepsQueue}
 use Rattle.mq_spec_network.specs.Standing.{row_told, rows_told}
-use Rattle.mq_law_rows.specs.Families.{is_here, put_at}
-use Rattle.mq_law_rows.specs.World.{World, Book, Ghost, Tag, At, InBatch, tag_idents, ident_of, is_forced, is_counted, counted, standing, claim, LanesRise, Inv}
-use Rattle.mq_law_rows.specs.Kinds.{among, Landing, place_all, ghost_hold, unit_at}
-use Rattle.mq_law_rows.specs.Ordered.{IsOthers, InOrder, IsFront, with_young}
+use Rattle.mq_law_rows.specs.Families.{is_here}
+use Rattle.mq_law_rows.specs.World.{World, Book, Ghost, Tag, At, InBatch, Forced, tag_idents, ident_of, idents_in, is_forced, is_counted, counted, standing, claim, LanesRise, IsOthers, InOrder, is_young, Inv}
+use Rattle.mq_law_rows.specs.Kinds.{among, Landing, place_all, ghost_take, hold_batch, unit_at, awaits, Commits}
+use Rattle.mq_law_rows.specs.Ordered.{IsFront, with_young}
 use Rattle.mq_message.specs.declared.place.Holder.{Holder}
 use Rattle.mq_message.specs.declared.place.Holder.TheVariants as holders
 use Rattle.mq_law_rows.proofs.Owners.{ledger_row, told_ident}
-use Rattle.mq_law_rows.proofs.Receiving.{any_mem}
-use Rattle.mq_law_rows.proofs.Lists.{true_false, bool_case, is_false, here_yes, here_self, mem_insert, mem_inserted, mem_insert_old, mem_keep, mem_kept, and_left, and_right, sorted_insert}
-
-pub before_mem : {A : Type 0} (x y : A) (xs : List A) → Before x y xs → Mem x xs × Mem y xs
-before_mem x y [] b = absurd b
-before_mem x y (z ∷ zs) (inl e) = (inl e.0, inr e.1)
-before_mem x y (z ∷ zs) (inr b) = let r = before_mem x y zs b in (inr r.0, inr r.1)
-
-pub before_keep : (p : Row → Bool) (x y : Row) (xs : List Row) → Before x y (keep p xs) → Before x y xs
-before_keep p x y [] b = absurd b
-before_keep p x y (z ∷ zs) b =
-    bool_case (p z) (λ t. Before x y (if t then z ∷ keep p zs else keep p zs) → Before x y (z ∷ zs))
-    (λ e. elim [ inl k ↦ inl (k.0, (mem_keep p y zs k.1).0) | inr k ↦ inr (before_keep p x y zs k) ])
-    (λ e k. inr (before_keep p x y zs k)) b
-
-pub before_kept : (p : Row → Bool) (x y : Row) (xs : List Row) → Before x y xs → p x ≡ true → p y ≡ true → Before x y (keep p xs)
-before_kept p x y [] b e f = absurd b
-before_kept p x y (z ∷ zs) (inl k) e f = subst (λ t. Before x y (if t then z ∷ keep p zs else keep p zs)) (sym (ap p (sym k.0) ∙ e)) (inl (k.0, mem_kept p y zs k.1 f))
-before_kept p x y (z ∷ zs) (inr k) e f = bool_case (p z) (λ t. Before x y (if t then z ∷ keep p zs else keep p zs)) (λ a. inr (before_kept p x y zs k e f)) (λ a. before_kept p x y zs k e f)
-
-pub before_map : {A B : Type 0} (f : A → B) (x y : A) (xs : List A) → Before x y xs → Before (f x) (f y) (map f xs)
-before_map f x y [] b = absurd b
-before_map f x y (z ∷ zs) (inl k) = inl (ap f k.0, there f y zs k.1)
-  where
-    there : {A B : Type 0} (f : A → B) (y : A) (zs : List A) → Mem y zs → Mem (f y) (map f zs)
-    there f y [] n = absurd n
-    there f y (z ∷ zs) (inl e) = inl (ap f e)
-    there f y (z ∷ zs) (inr n) = inr (there f y zs n)
-before_map f x y (z ∷ zs) (inr k) = inr (before_map f x y zs k)
-
-pub map_before : {A B : Type 0} (f : A → B) (a b : B) (xs : List A) → Before a b (map f xs) → (x y : A) × Before x y xs × (a ≡ f x) × (b ≡ f y)
-map_before f a b [] n = absurd n
-map_before f a b (z ∷ zs) (inl k) = let r = there f b zs k.1 in (z, r.0, inl (refl, r.1), k.0, r.2)
-  where
-    there : {A B : Type 0} (f : A → B) (b : B) (zs : List A) → Mem b (map f zs) → (y : A) × Mem y zs × (b ≡ f y)
-    there f b [] n = absurd n
-    there f b (z ∷ zs) (inl e) = (z, inl refl, e)
-    there f b (z ∷ zs) (inr n) = let r = there f b zs n in (r.0, inr r.1, r.2)
-map_before f a b (z ∷ zs) (inr k) = let r = map_before f a b zs k in (r.0, r.1, inr r.2, r.3, r.4)
-
-le_yes : (a b : ℕ) → nat_le a b ≡ true → a ≤ b
-le_yes a b e = grind (arith, nat_tests)
-
-le_no : (a b : ℕ) → nat_le a b ≡ false → b < a
-le_no a b e = grind (arith, nat_tests)
-
--- a row that is placed stands behind its lane
-pub before_insert : (n x y : Row) (xs : List Row) → LanesRise xs → Before x y (insert_row n xs) → Before x y xs ⊎ (((x ≡ n) × (n.place.lane < y.place.lane)) ⊎ (y ≡ n))
-before_insert n x y [] s (inl e) = absurd e.1
-before_insert n x y [] s (inr e) = absurd e
-before_insert n x y (z ∷ zs) s b =
-    bool_case (nat_le z.place.lane n.place.lane) (λ t. nat_le z.place.lane n.place.lane ≡ t → Before x y (if t then z ∷ insert_row n zs else n ∷ z ∷ zs) → Before x y (z ∷ zs) ⊎ (((x ≡ n) × (n.place.lane < y.place.lane)) ⊎ (y ≡ n)))
-    (λ e f. elim [
-      | inl k ↦ elim (mem_insert y n zs k.1) [ inl q ↦ inr (inr q) | inr q ↦ inl (inl (k.0, q)) ]
-      | inr k ↦ elim (before_insert n x y zs s.1 k) [ inl q ↦ inl (inr q) | inr q ↦ inr q ]
-    ])
-    (λ e f. elim [ inl k ↦ inr (inl (k.0, above n z y zs s f k.1)) | inr k ↦ inl k ]) refl b
-  where
-    above : (n z y : Row) (zs : List Row) → LanesRise (z ∷ zs) → nat_le z.place.lane n.place.lane ≡ false → Mem y (z ∷ zs) → n.place.lane < y.place.lane
-    above n z y zs s f (inl q) = subst (λ (r : Row). n.place.lane < r.place.lane) (sym q) (le_no z.place.lane n.place.lane f)
-    above n z y zs s f (inr k) = let a = le_no z.place.lane n.place.lane f in let b = s.0 y k in omega arith
-
--- rows go
-pub order_keep : (g : Ghost) (rows : ℕ → List ℕ → List Row) (young : ℕ → List ℕ → Luw → Bool) (p : ℕ → List ℕ → Row → Bool) → InOrder g rows young → InOrder g (λ m q. keep (p m q) (rows m q)) young
-order_keep g rows young p o = record { first = λ m q c u x y z b n l no_. o.first m q c u x y z (before_keep (p m q) x y (rows m q) b) n l no_ }
-
--- a row that is in hand is placed
-pub order_place : (g : Ghost) (rows : ℕ → List ℕ → List Row) (young : ℕ → List ℕ → Luw → Bool) (m : ℕ) (q : List ℕ) (row : Row) → InOrder g rows young → LanesRise (rows m q)
-    → ((a : ℕ) (c : List ℕ) (u : Luw) → young a c u ≡ true → Mem row.message.ident (tag_idents (g.sent a c u)) → ⊥)
-    → InOrder g (put_at rows m q (insert_row row (rows m q))) young
-order_place g rows young m q row o s new = record {
-  first = λ a d c u x y z b n l no_.
-      let split : Before x y (rows a d) ⊎ (((x ≡ row) × (row.place.lane < y.place.lane)) ⊎ (y ≡ row)) =
-      bool_case (is_here m q a d) (λ t. is_here m q a d ≡ t → Before x y (if t then insert_row row (rows m q) else rows a d) → Before x y (rows a d) ⊎ (((x ≡ row) × (row.place.lane < y.place.lane)) ⊎ (y ≡ row)))
-      (λ e f b. let p = here_yes m q a d f in elim (before_insert row x y (rows m q) s b) [ inl k ↦ inl (subst (λ (r : List Row). Before x y r) (λ i. rows (sym p.0 i) (sym p.1 i)) k) | inr k ↦ inr k ])
-      (λ e f b. inl b) refl b in
-      elim split [
-        | inl k ↦ o.first a d c u x y z k n l no_
-        | inr k ↦ elim k [
-          | inl v ↦ absurd (same_less row.place.lane y.place.lane (ap (λ (r : Row). r.place.lane) (sym v.0) ∙ l) v.1)
-          | inr v ↦ absurd (new a c u z (subst (λ (r : Row). Mem r.message.ident (tag_idents (g.sent a c u))) v n))
-        ]
-      ];
-}
-  where
-    same_less : (a b : ℕ) → a ≡ b → a < b → ⊥
-    same_less a b e lt = omega arith
-
--- fewer units are young
-pub order_less : (g : Ghost) (rows : ℕ → List ℕ → List Row) (young older : ℕ → List ℕ → Luw → Bool) → InOrder g rows young → ((m : ℕ) (c : List ℕ) (u : Luw) → older m c u ≡ true → young m c u ≡ true) → InOrder g rows older
-order_less g rows young older o less = record { first = λ m q c u x y z. o.first m q c u x y (less m c u z) }
-
--- a receiver's commit places its rows
-pub order_all : (g : Ghost) (young : ℕ → List ℕ → Luw → Bool) (t : ℕ) (ls : List Landing) (rows : ℕ → List ℕ → List Row) → InOrder g rows young → ((m : ℕ) (q : List ℕ) → LanesRise (rows m q))
-    → ((l : Landing) → Mem l ls → (a : ℕ) (c : List ℕ) (u : Luw) → young a c u ≡ true → Mem l.row.message.ident (tag_idents (g.sent a c u)) → ⊥)
-    → InOrder g (λ a d. place_all t ls a d (rows a d)) young
-order_all g young t [] rows o s new = o
-order_all g young t (l ∷ ls) rows o s new =
-    order_all g young t ls (λ a d. if is_here t l.queue a d then insert_row l.row (rows a d) else rows a d)
-    (record { first = λ a d c u x y z b n e no_. (order_place g rows young t l.queue l.row o (s t l.queue) (new l (inl refl))).first a d c u x y z (place_is rows t l.queue l.row a d x y b) n e no_ })
-    (λ a d. bool_case (is_here t l.queue a d) (λ z. LanesRise (if z then insert_row l.row (rows a d) else rows a d)) (λ e. sorted_insert l.row (rows a d) (s a d)) (λ e. s a d))
-    (λ k n. new k (inr n))
-  where
-    place_is : (rows : ℕ → List ℕ → List Row) (t : ℕ) (q : List ℕ) (r : Row) (a : ℕ) (d : List ℕ) (x y : Row) → Before x y (if is_here t q a d then insert_row r (rows a d) else rows a d) → Before x y (put_at rows t q (insert_row r (rows t q)) a d)
-    place_is rows t q r a d x y = bool_case (is_here t q a d) (λ z. is_here t q a d ≡ z → Before x y (if z then insert_row r (rows a d) else rows a d) → Before x y (if z then insert_row r (rows t q) else rows a d))
-        (λ e f b. let p = here_yes t q a d f in subst (λ (l : List Row). Before x y (insert_row r l)) (λ i. rows (p.0 i) (p.1 i)) b) (λ e f b. b) refl
+use Rattle.mq_law_rows.proofs.Receiving.{any_mem, mem_any, holds_means, landing_idents, mem_all}
+use Rattle.mq_law_rows.proofs.Lists.{once_not, mem_map, true_false, bool_case, is_false, here_yes, here_self, mem_inserted, mem_insert_old, and_left, and_right, sorted_insert, mem_keep, sorted_keep}
+use Rattle.mq_law_rows.proofs.Young.{before_mem, before_kept, before_map, map_before, order_less, order_ghost, young_means, young_so}
 
 -- so it is on the ledger's queue, but for rows of units that an operator has settled
 pub front_told : (w : World) (g : Ghost) (b : Book) (m : ℕ) (q : List ℕ) (ids : List Ident) → Inv w g b → IsFront ids (standing w m q) → ((i : Ident) → Mem i ids → is_forced (g.owner i) ≡ false)
@@ -137,11 +35,11 @@ front_told w g b m q ids h f mine x y before n l free_ =
     let z = f.front r.0 r.1 r.2 (subst (λ (i : Ident). Mem i ids) iy n) (ap (λ (r : Row). r.place.lane) (sym r.3) ∙ l ∙ ap (λ (r : Row). r.place.lane) r.4) in
     (subst (λ (i : Ident). Mem i ids) (sym ix) z.0, subst (λ (i : Ident). Before i y.message.ident ids) (sym ix) (subst (λ (i : Ident). Before r.0.message.ident i ids) (sym iy) z.1))
 
--- at a receiver's commit: the first two of the order's clauses, on each queue of the sending manager
+-- at a receiver's commit: the first two of the order's clauses, on each queue of any manager
 pub keeps_queue : (g : Ghost) (b : Book) (young : ℕ → List ℕ → Luw → Bool) (m : ℕ) (c : List ℕ) (u : Luw) → InOrder g b.rows young → young m c u ≡ true
-    → (q : List ℕ) (xs : List Row) → ((x y : Row) → Before x y xs → Before x y (b.rows m q)) → ((x : Row) → Mem x xs → IsOthers g m c u x → ⊥)
+    → (a : ℕ) (q : List ℕ) (xs : List Row) → ((x y : Row) → Before x y xs → Before x y (b.rows a q)) → ((x : Row) → Mem x xs → IsOthers g m c u x → ⊥)
     → KeepsQueue (tag_idents (g.sent m c u)) xs
-keeps_queue g b young m c u o z q xs part no_ x y before n l = o.first m q c u x y z (part x y before) n l (no_ x (before_mem x y xs before).0)
+keeps_queue g b young m c u o z a q xs part no_ x y before n l = o.first m a q c u x y z (part x y before) n l (no_ x (before_mem x y xs before).0)
 
 -- and the third: what lands on one queue with one priority stands there in the order of the list
 before_insert_old : (n x y : Row) (xs : List Row) → Before x y xs → Before x y (insert_row n xs)
@@ -193,56 +91,141 @@ lands_in_order t (j ∷ ls) q xs l k s (inr n) e f same =
     lands_in_order t ls q (if is_here t j.queue t q then insert_row j.row xs else xs) l k
     (bool_case (is_here t j.queue t q) (λ z. LanesRise (if z then insert_row j.row xs else xs)) (λ e. sorted_insert j.row xs s) (λ e. s)) n e f same
 
--- Owners change, and no row that an operator has settled gets another one.
-pub order_ghost : (g v : Ghost) (rows : ℕ → List ℕ → List Row) (young : ℕ → List ℕ → Luw → Bool) → InOrder g rows young
-    → ((m : ℕ) (c : List ℕ) (u : Luw) → young m c u ≡ true → v.sent m c u ≡ g.sent m c u)
-    → ((m : ℕ) (q : List ℕ) (x : Row) → Mem x (rows m q) → is_forced (g.owner x.message.ident) ≡ true → v.owner x.message.ident ≡ g.owner x.message.ident)
-    → InOrder v rows young
-order_ghost g v rows young o sent same = record {
-  first = λ m q c u x y z b n l no_.
-      let s : v.sent m c u ≡ g.sent m c u = sent m c u z in
-      let r = o.first m q c u x y z b (subst (λ (t : List Tag). Mem y.message.ident (tag_idents t)) s n) l
-      (λ e. let k = same m q x (before_mem x y (rows m q) b).0 e.0 in no_ (ap is_forced k ∙ e.0, (λ f. e.1 (sym k ∙ f)))) in
-      (subst (λ (t : List Tag). Mem x.message.ident (tag_idents t)) (sym s) r.0, subst (λ (t : List Tag). Before x.message.ident y.message.ident (tag_idents t)) (sym s) r.1);
-}
-
-pub order_holds : (w : World) (g : Ghost) (b : Book) (young : ℕ → List ℕ → Luw → Bool) (m : ℕ) (q c : List ℕ) (u : Luw) (ts : List Tag) → Inv w g b → InOrder g b.rows young → g.operated m c u ≡ false
+pub order_holds : (w : World) (g : Ghost) (b : Book) (young : ℕ → List ℕ → Luw → Bool) (m : ℕ) (q c : List ℕ) (u : Luw) (ts : List Tag) (front : Bool) → Inv w g b → InOrder g b.rows young → g.operated m c u ≡ false
     → ((i : Ident) → Mem i (tag_idents ts) → g.owner i ≡ At m q) → IsFront (tag_idents ts) (standing w m q)
-    → InOrder (ghost_hold g m q c u ts) b.rows (with_young young m c u)
-order_holds w g b young m q c u ts h o done mine front = record {
-  first = λ a d e x2 x y z before n l no_.
+    → InOrder (ghost_take g m q c u ts front) b.rows (with_young young m c u)
+order_holds w g b young m q c u ts front h o done mine first_ = record {
+  first = λ a i d e x2 x y z before n l no_.
       bool_case (unit_at m c u a e x2) (λ t. unit_at m c u a e x2 ≡ t → (if t then true else young a e x2) ≡ true → Mem y.message.ident (tag_idents (if t then ts else g.sent a e x2))
       → Mem x.message.ident (tag_idents (if t then ts else g.sent a e x2)) × Before x.message.ident y.message.ident (tag_idents (if t then ts else g.sent a e x2)))
       (λ t f z n.
       let p = here_yes m c a e (and_left (is_here m c a e) (same_unit x2 u) f) in
       let xu : x2 ≡ u = unit_yes x2 u (and_right (is_here m c a e) (same_unit x2 u) f) in
       let am : a ≡ m = p.0 in
-      let py = before_mem x y (b.rows a d) before in
-      let at_q : d ≡ q = elim (ledger_row w g b h a d y py.1) [
+      let py = before_mem x y (b.rows i d) before in
+      let at_q : (i ≡ m) × (d ≡ q) = elim (ledger_row w g b h i d y py.1) [
         | inl k ↦ absurd (true_false (sym k ∙ ap is_forced (mine y.message.ident n)))
-        | inr k ↦ queue_of m a q d k.0.by (sym (mine y.message.ident n) ∙ ap g.owner (told_ident y k.0 k.3) ∙ h.claims a d k.0 k.1 k.2)
+        | inr k ↦ queue_of m i q d k.0.by (sym (mine y.message.ident n) ∙ ap g.owner (told_ident y k.0 k.3) ∙ h.claims i d k.0 k.1 k.2)
       ] in
       let free_ : is_forced (g.owner x.message.ident) ≡ false = is_false _ (λ k. no_ (others a e x2 x am p.1 xu k)) in
-      front_told w g b m q (tag_idents ts) h front (λ i k. ap is_forced (mine i k)) x y (subst (λ (r : List Row). Before x y r) (λ i. b.rows (am i) (at_q i)) before) n l free_)
-      (λ t f z n. o.first a d e x2 x y z before n l (λ k. no_ (still a e x2 x k))) refl z n;
+      front_told w g b m q (tag_idents ts) h first_ (λ i k. ap is_forced (mine i k)) x y (subst (λ (r : List Row). Before x y r) (λ j. b.rows (at_q.0 j) (at_q.1 j)) before) n l free_)
+      (λ t f z n. o.first a i d e x2 x y z before n l (λ k. no_ (still a e x2 x k))) refl z n;
 }
   where
     unit_yes : (u v : Luw) → same_unit u v ≡ true → u ≡ v
     unit_yes u v e = grind (arith, nat_tests)
 
-    queue_of : (m a : ℕ) (q d : List ℕ) (x : Option Holder) → At m q ≡ claim a d x → d ≡ q
-    queue_of m a q d None e = cc
+    queue_of : (m a : ℕ) (q d : List ℕ) (x : Option Holder) → At m q ≡ claim a d x → (a ≡ m) × (d ≡ q)
+    queue_of m a q d None e = (cc, cc)
     queue_of m a q d (Some (holders.Unit k)) e = absurd cc
     queue_of m a q d (Some (holders.Batch k)) e = absurd cc
 
     not_chosen : (x : Row) → is_forced (g.owner x.message.ident) ≡ true → among (tag_idents ts) x.message.ident ≡ false
     not_chosen x k = is_false _ (λ z. true_false (sym k ∙ ap is_forced (mine x.message.ident (any_mem x.message.ident (tag_idents ts) z))))
 
-    same_owner : (x : Row) → is_forced (g.owner x.message.ident) ≡ true → (ghost_hold g m q c u ts).owner x.message.ident ≡ g.owner x.message.ident
+    same_owner : (x : Row) → is_forced (g.owner x.message.ident) ≡ true → (ghost_take g m q c u ts front).owner x.message.ident ≡ g.owner x.message.ident
     same_owner x k = ap (λ t. if t then InBatch m c else g.owner x.message.ident) (not_chosen x k)
 
-    still : (a : ℕ) (e : List ℕ) (x2 : Luw) (x : Row) → IsOthers g a e x2 x → IsOthers (ghost_hold g m q c u ts) a e x2 x
+    still : (a : ℕ) (e : List ℕ) (x2 : Luw) (x : Row) → IsOthers g a e x2 x → IsOthers (ghost_take g m q c u ts front) a e x2 x
     still a e x2 x k = (ap is_forced (same_owner x k.0) ∙ k.0, (λ f. k.1 (sym (same_owner x k.0) ∙ f)))
 
-    others : (a : ℕ) (e : List ℕ) (x2 : Luw) (x : Row) → a ≡ m → e ≡ c → x2 ≡ u → is_forced (g.owner x.message.ident) ≡ true → IsOthers (ghost_hold g m q c u ts) a e x2 x
+    others : (a : ℕ) (e : List ℕ) (x2 : Luw) (x : Row) → a ≡ m → e ≡ c → x2 ≡ u → is_forced (g.owner x.message.ident) ≡ true → IsOthers (ghost_take g m q c u ts front) a e x2 x
     others a e x2 x am ec xu k = still a e x2 x (k, (λ f. true_false (sym (h.forced a e x2 x.message.ident f).0 ∙ (λ i. g.operated (am i) (ec i) (xu i)) ∙ done)))
+
+-- a unit that is young after a batch was held, and is another one, was young before
+older : (w : World) (g : Ghost) (m : ℕ) (q c : List ℕ) (u : Luw) (ts : List Tag) (front : Bool) (a : ℕ) (d : List ℕ) (x : Luw) → unit_at m c u a d x ≡ false
+    → is_young (hold_batch w m q c u (tag_idents ts)) (ghost_take g m q c u ts front) a d x ≡ true → is_young w g a d x ≡ true
+older w g m q c u ts front a d x out z =
+    let y = young_means (hold_batch w m q c u (tag_idents ts)) (ghost_take g m q c u ts front) a d x z in
+    young_so w g a d x (sym (ap (λ t. if t then not front else g.loose a d x) out) ∙ y.0) (elim y.1 [
+      | inl p ↦ inl (held_still (is_here m c a d) (w.holds a d) u x p.0 out, p.1)
+      | inr p ↦ inr p
+    ])
+  where
+    some_of : (u x : Luw) → Some u ≡ Some x → u ≡ x
+    some_of u x e = cc
+
+    differs : (u x : Luw) → u ≡ x → same_unit x u ≡ false → ⊥
+    differs u x e f = grind (arith, nat_tests)
+
+    held_still : (t : Bool) (o : Option Luw) (u x : Luw) → (if t then Some u else o) ≡ Some x → (t && same_unit x u) ≡ false → o ≡ Some x
+    held_still true o u x e f = absurd (differs u x (some_of u x e) f)
+    held_still false o u x e f = e
+
+-- A batch is held: where it is known to be the front of its queue, its unit is young from then on.
+pub hold_order : (w : World) (g : Ghost) (b : Book) (m : ℕ) (q c : List ℕ) (u : Luw) (ts : List Tag) (front : Bool) → Inv w g b → g.operated m c u ≡ false
+    → ((i : Ident) → Mem i (tag_idents ts) → g.owner i ≡ At m q) → (front ≡ true → IsFront (tag_idents ts) (standing w m q))
+    → InOrder (ghost_take g m q c u ts front) b.rows (is_young (hold_batch w m q c u (tag_idents ts)) (ghost_take g m q c u ts front))
+hold_order w g b m q c u ts true h done mine first_ =
+    let v : World = hold_batch w m q c u (tag_idents ts) in
+    let e : Ghost = ghost_take g m q c u ts true in
+    order_less e b.rows (with_young (is_young w g) m c u) (is_young v e) (order_holds w g b (is_young w g) m q c u ts true h h.order done mine (first_ refl))
+    (λ a d x z. bool_case (unit_at m c u a d x) (λ t. unit_at m c u a d x ≡ t → (if t then true else is_young w g a d x) ≡ true) (λ k f. refl) (λ k f. older w g m q c u ts true a d x f z) refl)
+hold_order w g b m q c u ts false h done mine first_ =
+    let v : World = hold_batch w m q c u (tag_idents ts) in
+    let e : Ghost = ghost_take g m q c u ts false in
+    let out : (a : ℕ) (d : List ℕ) (x : Luw) → is_young v e a d x ≡ true → unit_at m c u a d x ≡ false = λ a d x z.
+    is_false _ (λ k. true_false (sym (ap (λ t. if t then true else g.loose a d x) k) ∙ (young_means v e a d x z).0)) in
+    order_ghost g e b.rows (is_young v e)
+    (order_less g b.rows (is_young w g) (is_young v e) h.order (λ a d x z. older w g m q c u ts false a d x (out a d x z) z))
+    (λ a d x z. ap (λ t. if t then ts else g.sent a d x) (out a d x z))
+    (λ a d x n f. ap (λ t. if t then InBatch m c else g.owner x.message.ident) (is_false _ (λ k. true_false (sym f ∙ ap is_forced (mine x.message.ident (any_mem x.message.ident (tag_idents ts) k))))))
+
+-- the first rows of a queue are its front
+first_two : (xs rest : List Row) (x y : Row) → AreDistinct (idents_in (xs ++ rest)) → Before x y (xs ++ rest) → Mem y.message.ident (idents_in xs) → Mem x.message.ident (idents_in xs) × Before x.message.ident y.message.ident (idents_in xs)
+first_two [] rest x y once b n = absurd n
+first_two (z ∷ zs) rest x y once (inl e) (inl n) = absurd (once_not z.message.ident (idents_in (zs ++ rest)) once.0 (subst (λ (i : Ident). Mem i (idents_in (zs ++ rest))) n (mem_map ident_of y (zs ++ rest) e.1)))
+first_two (z ∷ zs) rest x y once (inl e) (inr n) = (inl (ap ident_of e.0), inl (ap ident_of e.0, n))
+first_two (z ∷ zs) rest x y once (inr b) (inl n) = absurd (once_not z.message.ident (idents_in (zs ++ rest)) once.0 (subst (λ (i : Ident). Mem i (idents_in (zs ++ rest))) n (mem_map ident_of y (zs ++ rest) (before_mem x y (zs ++ rest) b).1)))
+first_two (z ∷ zs) rest x y once (inr b) (inr n) = let r = first_two zs rest x y once.1 b n in (inr r.0, inr r.1)
+
+pub first_is_front : (xs rest : List Row) → AreDistinct (idents_in (xs ++ rest)) → IsFront (idents_in xs) (xs ++ rest)
+first_is_front xs rest once = record { front = λ x y b n l. first_two xs rest x y once b n }
+
+-- at a receiver's commit of a unit whose batch was taken from the front of its queue
+pub commit_keeps : (w : World) (g : Ghost) (b : Book) (m : ℕ) (c : List ℕ) (u : Luw) (t : ℕ) → Inv w g b → Commits w g m c u t → g.loose m c u ≡ false
+    → (a : ℕ) (q : List ℕ) (xs : List Row) → ((x y : Row) → Before x y xs → Before x y (b.rows a q)) → ((x : Row) → Mem x xs → IsOthers g m c u x → ⊥)
+    → KeepsQueue (tag_idents (g.sent m c u)) xs
+commit_keeps w g b m c u t h k tight a q xs part no_ x y before n l =
+    let young : is_young w g m c u ≡ true =
+    bool_case (awaits w m c u) (λ z. awaits w m c u ≡ z → is_young w g m c u ≡ true)
+    (λ z e. let holds = holds_means (w.doubt m c) (w.holds m c) u e in young_so w g m c u tight (inl (holds, k.others u holds)))
+    (λ z e. young_so w g m c u tight (inr (h.forced m c u y.message.ident (k.mine y.message.ident n ∙ ap (λ f. if f then InBatch m c else Forced m c u) e)).0)) refl in
+    keeps_queue g b (is_young w g) m c u h.order young a q xs part no_ x y before n l
+
+-- what a commit places on one queue with one priority stands there in the order of its list
+one_landing : (ks : List Landing) → AreDistinct (landing_idents ks) → (l k : Landing) → Mem l ks → Mem k ks → l.row.message.ident ≡ k.row.message.ident → l ≡ k
+one_landing [] once l k n o e = absurd n
+one_landing (j ∷ js) once l k (inl a) (inl b) e = a ∙ sym b
+one_landing (j ∷ js) once l k (inl a) (inr b) e = absurd (once_not j.row.message.ident (landing_idents js) once.0 (subst (λ (i : Ident). Mem i (landing_idents js)) (sym e ∙ ap (λ (z : Landing). z.row.message.ident) a) (mem_map (λ (z : Landing). z.row.message.ident) k js b)))
+one_landing (j ∷ js) once l k (inr a) (inl b) e = absurd (once_not j.row.message.ident (landing_idents js) once.0 (subst (λ (i : Ident). Mem i (landing_idents js)) (e ∙ ap (λ (z : Landing). z.row.message.ident) b) (mem_map (λ (z : Landing). z.row.message.ident) l js a)))
+one_landing (j ∷ js) once l k (inr a) (inr b) e = one_landing js once.1 l k a b e
+
+landed_there : (t : ℕ) (ids : List Ident) (ks : List Landing) (q : List ℕ) (xs : List Row) (x : Row) → Mem x (place_all t ks t q (keep (λ r. not (among ids r.message.ident)) xs)) → Mem x.message.ident ids
+    → (l : Landing) × Mem l ks × (x ≡ l.row) × (q ≡ l.queue)
+landed_there t ids ks q xs x n there = elim (mem_all t ks t q _ x n) [
+  | inl z ↦ absurd (no_row (among ids x.message.ident) (mem_any x.message.ident ids there) (mem_keep (λ r. not (among ids r.message.ident)) x xs z).1)
+  | inr z ↦ (z.1.0, z.1.1, z.1.2, z.1.3)
+]
+  where
+    no_row : (f : Bool) → f ≡ true → not f ≡ true → ⊥
+    no_row true e f = true_false (sym f)
+    no_row false e f = true_false (sym e)
+
+pub commit_lists : (t : ℕ) (ids : List Ident) (ks : List Landing) (q : List ℕ) (xs : List Row) → landing_idents ks ≡ ids → AreDistinct ids → LanesRise xs
+    → (x y : Row) → Mem x (place_all t ks t q (keep (λ r. not (among ids r.message.ident)) xs)) → Mem y (place_all t ks t q (keep (λ r. not (among ids r.message.ident)) xs)) → x.place.lane ≡ y.place.lane
+    → Before x.message.ident y.message.ident ids → Before x y (place_all t ks t q (keep (λ r. not (among ids r.message.ident)) xs))
+commit_lists t ids ks q xs named once rise x y nx ny lane before =
+    let b = before_mem x.message.ident y.message.ident ids before in
+    let rest : List Row = keep (λ r. not (among ids r.message.ident)) xs in
+    let l = landed_there t ids ks q xs x nx b.0 in
+    let k = landed_there t ids ks q xs y ny b.1 in
+    let r = map_before (λ (z : Landing). z.row.message.ident) x.message.ident y.message.ident ks (subst (λ (is : List Ident). Before x.message.ident y.message.ident is) (sym named) before) in
+    let apart : AreDistinct (landing_idents ks) = subst AreDistinct (sym named) once in
+    let m = before_mem r.0 r.1 ks r.2 in
+    let le : r.0 ≡ l.0 = one_landing ks apart r.0 l.0 m.0 l.1 (sym r.3 ∙ ap ident_of l.2) in
+    let ke : r.1 ≡ k.0 = one_landing ks apart r.1 k.0 m.1 k.1 (sym r.4 ∙ ap ident_of k.2) in
+    let order : Before l.0 k.0 ks = subst (λ (z : Landing). Before l.0 z ks) ke (subst (λ (z : Landing). Before z r.1 ks) le r.2) in
+    let placed : Before l.0.row k.0.row (place_all t ks t q rest) =
+    lands_in_order t ks q rest l.0 k.0 (sorted_keep _ xs rise) order (sym l.3) (sym k.3) (ap (λ (z : Row). z.place.lane) (sym l.2) ∙ lane ∙ ap (λ (z : Row). z.place.lane) k.2) in
+    subst (λ (z : Row). Before x z (place_all t ks t q rest)) (sym k.2) (subst (λ (z : Row). Before z k.0.row (place_all t ks t q rest)) (sym l.2) placed)

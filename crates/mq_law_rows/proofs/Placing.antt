@@ -10,11 +10,12 @@ use Rattle.mq_calls.specs.declared.state.Item.{Item}
 use Rattle.mq_spec_network.specs.Story.{Mem}
 use Rattle.mq_spec_network.specs.Promised.{AreDistinct}
 use Rattle.mq_spec_network.specs.Standing.{row_told, rows_told}
-use Rattle.mq_law_rows.specs.Families.{is_here}
-use Rattle.mq_law_rows.specs.World.{World, Book, Ghost, Tag, Owner, Unborn, At, HeldBy, InBatch, Forced, InUnit, InHand, Gone, ident_of, idents_in, away, stands, row_stands, standing, is_forced, is_counted, counted, claim, IsHeldBy, IsElsewhere, LanesRise, items_told, put_idents, got_idents, Lasting, Inv}
+use Rattle.mq_law_rows.specs.Families.{is_here, put_at}
+use Rattle.mq_law_rows.specs.World.{World, Book, Ghost, Tag, Owner, Unborn, At, HeldBy, InBatch, Forced, InUnit, InHand, Gone, ident_of, idents_in, away, stands, row_stands, standing, is_forced, is_counted, counted, is_young, claim, IsHeldBy, IsElsewhere, LanesRise, items_told, put_idents, got_idents, Lasting, Inv}
 use Rattle.mq_law_rows.specs.Kinds.{after, owned, give, place_row, book_place, lift_row, book_lift, book_bury, is_row, is_told_row}
 use Rattle.mq_law_rows.proofs.Lists.{true_false, and_none, and_false, and_right, and_swap, eqb_self, bool_case, is_false, ident_yes, here_yes, here_self, mem_keep, mem_kept, sorted_insert, sorted_keep, distinct_insert, distinct_keep, keep_insert, keep_same, keep_swap, told_insert, told_keep}
 use Rattle.mq_spec_state.specs.Reads.{is_persistent}
+use Rattle.mq_law_rows.proofs.Young.{order_keep, order_place, order_owned, not_young}
 use Rattle.mq_law_rows.proofs.Lasting.{flagged, flag_is, flag_new, lasts, put_in}
 use Rattle.mq_law_rows.proofs.Owners.{mem_put, mem_put_old, hand_no_claim, absent, told_ident, owned_other, owned_self, held_owned, away_owned, forced_owned, owned_forced}
 
@@ -80,6 +81,8 @@ places_row w g b m q row told h hand none same agrees =
             of_unit = λ a c u t z no_ n. flag_is i t.ident (is_persistent row.message) t.lasting p.flag (λ e. absurd (cc (h.live a c u t z no_ n, ap g.owner e, hand))) (p.of_unit a c u t z no_ n);
             of_operated = λ a c u t z n. flag_is i t.ident (is_persistent row.message) t.lasting p.flag (λ e. absurd (cc (h.operated a c u t z n, ap g.owner e, hand))) (p.of_operated a c u t z n);
           };
+      order = order_owned g (put_at b.rows m q (insert_row told (b.rows m q))) (is_young w g) i (At m q) (InHand m) hand refl
+          (order_place g b.rows (is_young w g) m q told h.order (h.shelved m q) (not_young w g b told.message.ident (InHand m) h (ap g.owner (told_ident told row same) ∙ hand) (λ a c e. cc) refl));
       distinct = λ a c. bool_case (is_here m q a c) (λ t. AreDistinct (idents_in (if t then insert_row row (w.rows m q) else w.rows a c)))
           (λ e. distinct_insert row (w.rows m q) (absent w g b h m q i hand) (h.distinct m q)) (λ e. h.distinct a c);
       back = λ a c x n s. elim (mem_put w.rows m q row a c x n) [
@@ -181,6 +184,7 @@ reowns w g b i old new units bunits given gone got h own aside free far fits las
       got_once = fits.got_once;
       operated_words = λ a c u d p r n e. h.operated_words a c u d p r n (owned_forced i r.message.ident new (g.owner r.message.ident) a c u (λ z. true_false (sym (ap is_forced z) ∙ free)) e);
       persistence = lasting;
+      order = order_owned g b.rows (is_young w g) i new old own (aside_free old aside) h.order;
       distinct = h.distinct;
       back = λ m q x n s. away_owned m i x.message.ident new old g.owner own (far m) (h.back m q x n s);
       same = λ m q.
@@ -313,6 +317,7 @@ lifts_row w g b m q x h here none =
       got_once = h.got_once;
       operated_words = λ a c u d p r n e. h.operated_words a c u d p r (mem_keep _ r (b.rows d p) n).0 (owned_forced i r.message.ident (InHand m) (g.owner r.message.ident) a c u (λ z. cc) e);
       persistence = lasts w.rows (lift_row w m q i).rows w.units w.units w.holds w.last g.sent g.operated h.persistence (λ a c y n. (y, (old a c y n).0, refl)) (λ a k p message n. n);
+      order = order_owned g (book_lift b m i).rows (is_young w g) i (InHand m) (At m q) own refl (order_keep g b.rows (is_young w g) (λ a c r. not (is_told_row m i a r)) h.order);
       distinct = λ a c. distinct_keep _ _ (h.distinct a c);
       back = λ a c y n s. away_owned a i y.message.ident (InHand m) (At m q) g.owner own (λ ne. ne) (h.back a c y (old a c y n).0 s);
       same = λ a c.

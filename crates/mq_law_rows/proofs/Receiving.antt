@@ -15,8 +15,9 @@ use Rattle.mq_spec_network.specs.Promised.{AreDistinct}
 use Rattle.mq_spec_network.specs.Standing.{row_told, rows_told}
 use Rattle.mq_spec_state.specs.Reads.{is_persistent}
 use Rattle.mq_law_rows.specs.Families.{is_here, put_at}
-use Rattle.mq_law_rows.specs.World.{World, Book, Ghost, Mark, Tag, Owner, Unborn, At, InBatch, Forced, InUnit, Gone, tag_of, tag_mark, tag_idents, ident_of, idents_in, is_last, away, stands, row_stands, standing, is_forced, is_counted, counted, claim, IsHeldBy, IsElsewhere, LanesRise, Inv}
+use Rattle.mq_law_rows.specs.World.{World, Book, Ghost, Mark, Tag, Owner, Unborn, At, InBatch, Forced, InUnit, Gone, tag_of, tag_mark, tag_idents, ident_of, idents_in, is_last, away, stands, row_stands, standing, is_forced, is_counted, counted, is_young, claim, IsHeldBy, IsElsewhere, LanesRise, Inv}
 use Rattle.mq_law_rows.specs.Kinds.{among, Landing, landing_told, landing_mark, place_all, lands_on, unit_at, receive, book_receive, received, ghost_receive, awaits, Commits}
+use Rattle.mq_law_rows.proofs.Young.{order_keep, order_all, order_less, order_ghost, young_means, young_so}
 use Rattle.mq_law_rows.proofs.Lists.{true_false, and_false, and_right, and_left, and_swap, eqb_self, bool_case, is_false, ident_yes, ident_self, here_yes, here_self, mem_insert, mem_insert_old, mem_keep, mem_kept, map_mem, mem_map, sorted_insert, sorted_keep, distinct_insert, distinct_keep, keep_insert, keep_swap, told_insert, told_keep}
 
 -- Idents of a list
@@ -337,6 +338,18 @@ receives w g b m c u t ls ks h k tags told free_ =
             of_unit = λ a d x s z no_ n. p.of_unit a d x s z (not_last a d x z no_) n;
             of_operated = λ a d x s z n. p.of_operated a d x s (still a d x z).0 n;
           };
+      order = let e : Ghost = ghost_receive g m c u t ids ls in
+          let young : ℕ → List ℕ → Luw → Bool = is_young v e in
+          let kept : ℕ → List ℕ → List Row = λ a d. keep (λ r. not (among ids r.message.ident)) (b.rows a d) in
+          let less : (a : ℕ) (d : List ℕ) (x : Luw) → young a d x ≡ true → is_young w g a d x ≡ true = λ a d x z.
+          let y = young_means v e a d x z in young_so w g a d x y.0 (elim y.1 [ inl p ↦ inl (p.0, not_last a d x p.0 p.1) | inr p ↦ inr (still a d x p).0 ]) in
+          let out : (a : ℕ) (d : List ℕ) (x : Luw) → young a d x ≡ true → (s : Tag) → Mem s (g.sent a d x) → among ids s.ident ≡ false = λ a d x z s n.
+          elim (young_means v e a d x z).1 [ inl p ↦ not_among a d x s p.0 p.1 n | inr p ↦ out_forced a d x s p n ] in
+          order_all e young t ks kept
+          (order_ghost g e kept young (order_less g kept (is_young w g) young (order_keep g b.rows (is_young w g) (λ a d r. not (among ids r.message.ident)) h.order) less) (λ a d x z. refl)
+          (λ a d r n f. let k = mem_keep (λ r. not (among ids r.message.ident)) r (b.rows a d) n in ap (λ z. if z then At t (lands_on ls r.message.ident) else g.owner r.message.ident) (not_true (among ids r.message.ident) k.1)))
+          (λ a d. sorted_keep _ _ (h.shelved a d))
+          (λ l n a d x z there. let s = map_mem (λ (t : Tag). t.ident) l.row.message.ident (g.sent a d x) there in true_false (sym (ks_among l n) ∙ ap (among ids) s.2 ∙ out a d x z s.0 s.1));
       distinct = λ a d. distinct_all t ls a d _ land_once (distinct_keep (test a) _ (h.distinct a d))
           (λ i at n y. let r = map_mem ident_of i (keep (test a) (w.rows a d)) y in
           let q = mem_keep (test a) r.0 (w.rows a d) r.1 in

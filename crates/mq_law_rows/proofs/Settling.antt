@@ -1,5 +1,5 @@
 -- Batches that are dropped, forced by an operator, held and prepared, and rows that a stop loses, keep the facts.
-use Rattle.std.proofs.Common.{ℕ, ◌≡◌, ◌≢◌, Bool, true, false, not, List, [], ◌∷◌, refl, ap, sym, subst, ◌∙◌, arith, inl, inr}
+use Rattle.std.proofs.Common.{ℕ, ◌≡◌, ◌≢◌, ◌⊎◌, Bool, true, false, not, List, [], ◌∷◌, refl, ap, sym, subst, ◌∙◌, arith, inl, inr}
 use Rattle.std.specs.Prelude.{Option, Some, None, ◌==◌, if◌then◌else◌, ◌&&◌}
 use Rattle.std.proofs.lemmas.Bool.Decides.{nat_tests}
 use Rattle.mq_message.specs.declared.message.Ident.{Ident}
@@ -14,10 +14,11 @@ use Rattle.mq_spec_network.specs.Story.{Mem}
 use Rattle.mq_spec_network.specs.Promised.{AreDistinct}
 use Rattle.mq_spec_network.specs.Standing.{row_told, rows_told}
 use Rattle.mq_law_rows.specs.Families.{is_here}
-use Rattle.mq_law_rows.specs.World.{World, Book, Ghost, Tag, Owner, Unborn, InBatch, Forced, InUnit, Gone, tag_of, tag_idents, away, stands, row_stands, standing, is_forced, is_counted, counted, claim, IsHeldBy, IsElsewhere, IsPlaced, Inv}
+use Rattle.mq_law_rows.specs.World.{World, Book, Ghost, Tag, Owner, Unborn, InBatch, Forced, InUnit, Gone, tag_of, tag_idents, away, stands, row_stands, standing, is_forced, is_counted, counted, is_young, claim, IsHeldBy, IsElsewhere, IsPlaced, Inv}
 use Rattle.mq_law_rows.specs.Kinds.{among, unit_at, has_batch, drop_batch, ghost_force, is_lost, lose, book_lose, awaits, Commits}
 use Rattle.mq_law_rows.proofs.Lists.{true_false, and_false, and_right, and_left, and_swap, eqb_self, name_self, bool_case, once_not, here_yes, here_self, mem_keep, mem_kept, map_mem, mem_map, sorted_keep, distinct_keep, keep_swap, keep_all, told_keep}
 use Rattle.mq_law_rows.proofs.Owners.{standing_row, ledger_row, told_ident}
+use Rattle.mq_law_rows.proofs.Young.{order_keep, order_less, order_ghost, young_means, young_so}
 use Rattle.mq_law_rows.proofs.Lasting.{lasts as persists}
 use Rattle.mq_law_rows.proofs.Receiving.{any_mem, mem_any, holds_means, sent_flag}
 use Rattle.mq_law_rows.proofs.Batches.{batch_yes, batch_no, batch_other, not_last, held_none, stands_put_down}
@@ -77,6 +78,8 @@ drops_batch w g b m c h gone_ =
             of_unit = λ a e u t z no_ n. p.of_unit a e u t (held_none w m c a e z).1 no_ n;
             of_operated = p.of_operated;
           };
+      order = order_less g b.rows (is_young w g) (is_young v g) h.order
+          (λ a d x z. let y = young_means v g a d x z in young_so w g a d x y.0 (elim y.1 [ inl p ↦ inl ((held_none w m c a d p.0).1, p.1) | inr p ↦ inr p ]));
       distinct = λ a d. distinct_keep _ _ (h.distinct a d);
       back = λ a d y n s. let k = old a d y n in h.back a d y k.0 (sym (stands_put_down w m c a y.by k.1) ∙ s);
       same = λ a d. h.same a d ∙ sym (ap rows_told (
@@ -226,6 +229,15 @@ forces_unit w g b m c u h holds new =
                 (λ e z n. let s = unit_at_yes m c u a d x e in p.of_unit m c u t holds new (subst (λ (l : List Tag). Mem t l) (λ i. g.sent (s.0 i) (s.1 i) (s.2 i)) n))
                 (λ e z n. p.of_operated a d x t z n);
           };
+      order = order_less (ghost_force g m c u) b.rows (is_young w g) (is_young v (ghost_force g m c u))
+          (order_ghost g (ghost_force g m c u) b.rows (is_young w g) h.order (λ a d x z. refl)
+          (λ a d r n e. bool_case (among ids r.message.ident) (λ z. among ids r.message.ident ≡ z → (if z then Forced m c u else g.owner r.message.ident) ≡ g.owner r.message.ident)
+          (λ z y. absurd (true_false (sym e ∙ ap is_forced (mine r.message.ident y)))) (λ z y. refl) refl))
+          (λ a d x z. let y = young_means v (ghost_force g m c u) a d x z in young_so w g a d x y.0 (elim y.1 [
+            | inl p ↦ inl ((held_none w m c a d p.0).1, p.1)
+            | inr p ↦ bool_case (unit_at m c u a d x) (λ t. unit_at m c u a d x ≡ t → (if t then true else g.operated a d x) ≡ true → ((w.holds a d ≡ Some x) × (w.last a d ≢ x)) ⊎ (g.operated a d x ≡ true))
+                (λ k f n. let s = unit_at_yes m c u a d x f in inl (rw (s.0, s.1, s.2) holds, (λ q. new ((λ i. w.last (sym s.0 i) (sym s.1 i)) ∙ q ∙ s.2)))) (λ k f n. inr n) refl p
+          ]));
       distinct = λ a d. distinct_keep _ _ (h.distinct a d);
       back = λ a d y n s. let k = old a d y n in
           let far = h.back a d y k.0 (sym (stands_put_down w m c a y.by k.1) ∙ s) in
@@ -283,6 +295,7 @@ loses w g b m h =
       got_once = h.got_once;
       operated_words = λ a d u e q r n z. h.operated_words a d u e q r (mem_keep _ r (b.rows e q) n).0 z;
       persistence = persists w.rows (lose w m).rows w.units w.units w.holds w.last g.sent g.operated h.persistence (λ a d y n. (y, old a d y n, refl)) (λ a k q message n. n);
+      order = order_keep g b.rows (is_young w g) (λ a d r. not (is_lost m a r)) h.order;
       distinct = λ a d. distinct_keep _ _ (h.distinct a d);
       back = λ a d y n s. h.back a d y (old a d y n) s;
       same = λ a d.

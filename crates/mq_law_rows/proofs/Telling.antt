@@ -69,6 +69,7 @@ retells w g b change h alike =
         of_unit = h.persistence.of_unit;
         of_operated = h.persistence.of_operated;
       };
+      order = h.order;
       distinct = λ m q. subst AreDistinct (sym (retag_idents (change m) (same_ident_ m) (w.rows m q))) (h.distinct m q);
       back = λ m q y n s. let r = mem_retag (change m) y (w.rows m q) n in
           let by_ : r.0.by ≡ y.by = sym (ap (λ (x : Row). x.by) r.2 ∙ (alike m).by r.0) in
@@ -114,6 +115,7 @@ untells w g b change alike h =
         of_unit = h.persistence.of_unit;
         of_operated = h.persistence.of_operated;
       };
+      order = h.order;
       distinct = λ m q. subst AreDistinct (retag_idents (change m) (same_ident_ m) (w.rows m q)) (h.distinct m q);
       back = λ m q y n s. subst (λ j. IsElsewhere m (g.owner j)) (same_ident_ m y) (h.back m q (change m y) (mem_retagged (change m) y (w.rows m q) n) (ap (stands (away w m)) ((alike m).by y) ∙ s));
       same = λ m q. h.same m q ∙ keep_retag (row_stands (away w m)) (row_stands (away w m)) (change m) (w.rows m q) (λ x n. ap (stands (away w m)) ((alike m).by x)) (λ x. (alike m).told x);

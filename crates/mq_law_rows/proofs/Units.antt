@@ -13,7 +13,7 @@ use Rattle.mq_spec_network.specs.Story.{Mem}
 use Rattle.mq_spec_network.specs.Promised.{AreDistinct}
 use Rattle.mq_spec_network.specs.Standing.{rows_told}
 use Rattle.mq_law_rows.specs.Families.{is_here, is_at, put_by}
-use Rattle.mq_law_rows.specs.World.{World, Book, Ghost, Tag, Owner, Unborn, At, HeldBy, InBatch, Forced, InUnit, InHand, Gone, tag_of, tag_idents, ident_of, away, stands, row_stands, standing, is_forced, is_counted, counted, claim, IsHeldBy, IsElsewhere, put_idents, got_idents, Inv}
+use Rattle.mq_law_rows.specs.World.{World, Book, Ghost, Tag, Owner, Unborn, At, HeldBy, InBatch, Forced, InUnit, InHand, Gone, tag_of, tag_idents, ident_of, away, stands, row_stands, standing, is_forced, is_counted, counted, is_young, claim, IsHeldBy, IsElsewhere, put_idents, got_idents, Inv}
 use Rattle.mq_law_rows.proofs.Lists.{true_false, and_false, and_right, and_left, and_swap, eqb_self, eqb_yes, bool_case, is_false, ident_yes, ident_self, here_yes, here_self, mem_keep, mem_kept, mem_retag, mem_retagged, sorted_keep, sorted_retag, distinct_keep, keep_same, keep_swap, keep_retag, told_keep}
 use Rattle.mq_calls.specs.declared.state.Item.{Item}
 use Rattle.mq_calls.specs.declared.state.Item.TheVariants.{Put, Take}
@@ -22,6 +22,7 @@ use Rattle.mq_law_rows.specs.World.{item_told, items_told}
 use Rattle.mq_law_rows.specs.Kinds.{after, owned, among, is_row, with_units, book_units, hold_row, book_hold, has_unit, puts_of, bury_all, take_gets, book_take_gets, spent, back_out, backed_out}
 use Rattle.mq_law_rows.proofs.Lists.{once_not, mem_append, distinct_append, at_yes, at_self}
 use Rattle.mq_law_rows.proofs.Owners.{owned_other, owned_self, held_owned, away_owned, forced_owned, owned_forced}
+use Rattle.mq_law_rows.proofs.Young.{order_keep, order_ghost, order_owned}
 use Rattle.mq_law_rows.proofs.Lasting.{flagged, flag_is, flag_new, lasts, put_in, puts_left, not_taken, put_joined}
 use Rattle.mq_law_rows.proofs.Placing.{reowns}
 use Rattle.mq_law_rows.proofs.Receiving.{any_mem, mem_any}
@@ -258,6 +259,7 @@ holds_row w g b m q k x lasting h here free_ =
       persistence = lasts w.rows v.rows w.units v.units w.holds w.last g.sent g.operated h.persistence
           (λ a d y n. let r = mem_retag (G a d) y (w.rows a d) n in (r.0, r.1, ap (λ (z : Row). tag_of z.message) r.2 ∙ retag_tag (T a d r.0) (Some o) r.0))
           (λ a e p y. unit_case w.units m k (xs ++ more) (λ a e l. Mem (Put p y) l → Mem (Put p y) (w.units a e)) (not_taken p y xs q i lasting) (λ a e z n. n) a e);
+      order = order_owned g b.rows (is_young w g) i new (At m q) own refl h.order;
       distinct = λ a d. subst AreDistinct (sym (retag_idents (G a d) (same_ident_ a d) (w.rows a d))) (h.distinct a d);
       back = λ a d y n s. let r = mem_retag (G a d) y (w.rows a d) n in
           let st : stands (away w a) r.0.by ≡ false = sym (stood a d r.0 r.1) ∙ ap (λ (z : Row). stands (away w a) z.by) (sym r.2) ∙ s in
@@ -372,6 +374,9 @@ takes_gets w g b m k went h from =
           (λ y z. absurd cc) (λ y z. h.operated_words a d u e q r (mem_keep _ r (b.rows e q) n).0 z);
       persistence = lasts w.rows v.rows w.units v.units w.holds w.last g.sent g.operated h.persistence (λ a d y n. (y, (old a d y n).0, refl))
           (λ a e q y. unit_case w.units m k (puts_of (w.units m k)) (λ a e l. Mem (Put q y) l → Mem (Put q y) (w.units a e)) (puts_left q y (w.units m k)) (λ a e z n. n) a e);
+      order = order_ghost g (after g (spent ids)) (λ a d. keep (test a) (b.rows a d)) (is_young w g) (order_keep g b.rows (is_young w g) (λ a d r. test a r) h.order) (λ a d u z. refl)
+          (λ a d r n e. bool_case (among ids r.message.ident) (λ z. among ids r.message.ident ≡ z → (if z then Gone else g.owner r.message.ident) ≡ g.owner r.message.ident)
+          (λ z y. absurd (true_false (sym e ∙ ap is_forced (mine r.message.ident y).1))) (λ z y. refl) refl);
       distinct = λ a d. distinct_keep _ _ (h.distinct a d);
       back = λ a d y n s. let far = h.back a d y (old a d y n).0 s in bool_case (among ids y.message.ident) (λ z. IsElsewhere a (if z then Gone else g.owner y.message.ident)) (λ z. tt) (λ z. far);
       same = λ a d.
@@ -407,6 +412,16 @@ backed_free m k j (Forced a d u) = refl
 backed_free m k j (InHand a) = refl
 backed_free m k j Unborn = refl
 backed_free m k j Gone = refl
+
+backed_keeps : (m k : ℕ) (j : Ident) (o : Owner) → is_forced o ≡ true → backed_out m k j o ≡ o
+backed_keeps m k j (Forced a d u) z = refl
+backed_keeps m k j (HeldBy a q e) z = absurd cc
+backed_keeps m k j (InUnit a e) z = absurd cc
+backed_keeps m k j (At a q) z = refl
+backed_keeps m k j (InBatch a d) z = refl
+backed_keeps m k j (InHand a) z = refl
+backed_keeps m k j Unborn z = refl
+backed_keeps m k j Gone z = refl
 
 backed_forced : (m k : ℕ) (j : Ident) (o : Owner) (a : ℕ) (d : List ℕ) (u : Luw) → backed_out m k j o ≡ Forced a d u → o ≡ Forced a d u
 backed_forced m k j (HeldBy b q e) a d u = bool_case (is_at m k b e) (λ t. (if t then At b q else HeldBy b q e) ≡ Forced a d u → HeldBy b q e ≡ Forced a d u) (λ z y. absurd cc) (λ z y. y)
@@ -505,6 +520,7 @@ backs_out w g b m k back h =
       persistence = lasts w.rows v.rows w.units v.units w.holds w.last g.sent g.operated h.persistence
           (λ a d y n. let r = mem_retag (G a) y (w.rows a d) n in (r.0, r.1, ap (λ (z : Row). tag_of z.message) r.2 ∙ release_tag (T a r.0) back r.0))
           (λ a e q y. unit_case w.units m k [] (λ a e l. Mem (Put q y) l → Mem (Put q y) (w.units a e)) (λ n. absurd n) (λ a e z n. n) a e);
+      order = order_ghost g (after g (backed_out m k)) b.rows (is_young w g) h.order (λ a d u z. refl) (λ a d r n e. backed_keeps m k r.message.ident (g.owner r.message.ident) e);
       distinct = λ a d. subst AreDistinct (sym (retag_idents (G a) (same_ident_ a) (w.rows a d))) (h.distinct a d);
       back = λ a d y n s. let r = mem_retag (G a) y (w.rows a d) n in
           let st : stands (away w a) r.0.by ≡ false = sym (stood a r.0) ∙ ap (λ (z : Row). stands (away w a) z.by) (sym r.2) ∙ s in

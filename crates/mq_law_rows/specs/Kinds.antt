@@ -19,7 +19,7 @@ use Rattle.mq_spec_network.specs.Standing.{row_told}
 
 -- the owners after a change: by ident and owner before
 abbrev pub after : Ghost → (Ident → Owner → Owner) → Ghost
-after g f = record { sent = g.sent; source = g.source; operated = g.operated; owner = λ j. f j (g.owner j) }
+after g f = record { sent = g.sent; source = g.source; operated = g.operated; loose = g.loose; owner = λ j. f j (g.owner j) }
 
 abbrev pub owned : Ident → Owner → Ident → Owner → Owner
 owned i new j o = if same_ident j i then new else o
@@ -107,6 +107,7 @@ ghost_receive g m c u t ids ls = record {
   sent = g.sent;
   source = g.source;
   operated = λ a d v. if unit_at m c u a d v then false else g.operated a d v;
+  loose = g.loose;
   owner = λ j. received t ids ls j (g.owner j);
 }
 
@@ -164,6 +165,7 @@ ghost_force g m c u = record {
   sent = g.sent;
   source = g.source;
   operated = λ a d v. if unit_at m c u a d v then true else g.operated a d v;
+  loose = g.loose;
   owner = λ j. if among (tag_idents (g.sent m c u)) j then Forced m c u else g.owner j;
 }
 
@@ -178,13 +180,18 @@ hold_batch w m q c u ids = record {
   last = w.last;
 }
 
-abbrev pub ghost_hold : Ghost → ℕ → List ℕ → List ℕ → Luw → List Tag → Ghost
-ghost_hold g m q c u ts = record {
+-- (`front`: they are known to be the front of their queue)
+abbrev pub ghost_take : Ghost → ℕ → List ℕ → List ℕ → Luw → List Tag → Bool → Ghost
+ghost_take g m q c u ts front = record {
   sent = λ a d v. if unit_at m c u a d v then ts else g.sent a d v;
   source = put_at g.source m c q;
   operated = g.operated;
+  loose = λ a d v. if unit_at m c u a d v then not front else g.loose a d v;
   owner = λ j. if among (tag_idents ts) j then InBatch m c else g.owner j;
 }
+
+abbrev pub ghost_hold : Ghost → ℕ → List ℕ → List ℕ → Luw → List Tag → Ghost
+ghost_hold g m q c u ts = ghost_take g m q c u ts false
 
 -- the unit that is held is in doubt from now on
 abbrev pub prepare : World → ℕ → List ℕ → World

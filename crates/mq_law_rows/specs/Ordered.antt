@@ -1,22 +1,11 @@
 -- The order that messages of one channel keep, on the ledger's queues.
-use Rattle.std.specs.Prelude.{ℕ, ◌≡◌, ◌≢◌, Bool, true, List, if◌then◌else◌}
+use Rattle.std.specs.Prelude.{ℕ, ◌≡◌, Bool, true, List, if◌then◌else◌}
 use Rattle.mq_message.specs.declared.message.Ident.{Ident}
 use Rattle.mq_queue.specs.declared.row.Row.{Row}
 use Rattle.mq_sync.specs.declared.unit.Unit.{Unit as Luw}
 use Rattle.mq_spec_network.specs.Story.{Mem}
 use Rattle.mq_spec_network.specs.Order.{Before}
 use Rattle.mq_law_rows.specs.Kinds.{unit_at}
-use Rattle.mq_law_rows.specs.World.{Ghost, Forced, tag_idents, is_forced}
-
--- an operator has settled a row of another unit, and that unit's receiver has not committed it
-abbrev pub IsOthers : Ghost → ℕ → List ℕ → Luw → Row → Type 0
-IsOthers g m c u x = (is_forced (g.owner x.message.ident) ≡ true) × (g.owner x.message.ident ≢ Forced m c u)
-
--- `young` are the units that were taken in this run and that their receivers have not committed. A row of the ledger that
--- stands before one of such a unit, with its priority, is of the unit too, and before it there.
-pub record InOrder (g : Ghost) (rows : ℕ → List ℕ → List Row) (young : ℕ → List ℕ → Luw → Bool) : Type 0 where
-  pub first : (m : ℕ) (q c : List ℕ) (u : Luw) (x y : Row) → young m c u ≡ true → Before x y (rows m q) → Mem y.message.ident (tag_idents (g.sent m c u)) → x.place.lane ≡ y.place.lane
-      → (IsOthers g m c u x → ⊥) → Mem x.message.ident (tag_idents (g.sent m c u)) × Before x.message.ident y.message.ident (tag_idents (g.sent m c u))
 
 -- A batch is taken from the front of its queue: what stands before one of its rows, with its priority, is of it too.
 pub record IsFront (ids : List Ident) (rows : List Row) : Type 0 where

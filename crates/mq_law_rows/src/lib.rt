@@ -5,7 +5,7 @@
 //! each queue's standing rows are the ledger's, list for list, and that each ident stands once.
 #![tactic(auto)]
 
-ghost use Rattle.std.specs.Prelude.{◌≡◌, ◌≢◌, ◌⊎◌, ◌∷◌, ◌++◌, ℕ, Bool, true, false, List, [], Some, None, map};
+ghost use Rattle.std.specs.Prelude.{◌≡◌, ◌≢◌, ◌⊎◌, ◌∷◌, ◌++◌, ℕ, Bool, true, false, not, List, [], Some, None, map};
 ghost use Rattle.mq_message.specs.declared.message.Ident.{Ident};
 ghost use Rattle.mq_message.specs.declared.message.Message.{Message};
 ghost use Rattle.mq_queue.specs.declared.row.Row.{Row};
@@ -16,10 +16,10 @@ ghost use Rattle.mq_calls.specs.declared.state.Item.TheVariants.{Put};
 ghost use Rattle.mq_spec_network.specs.Promised.{AreDistinct};
 ghost use Rattle.mq_spec_network.specs.Story.{Mem};
 ghost use Rattle.mq_spec_network.specs.Standing.{row_told, rows_told};
-ghost use Rattle.mq_law_rows.specs.World.{Book, Ghost, InHand, At, Gone, InUnit, HeldBy, Inv, Tag, World, away, got_idents, LanesRise, idents_in, is_forced, items_told, standing, tag_idents, tag_mark, tag_of};
-ghost use Rattle.mq_law_rows.specs.Kinds.{AllBorne, Chosen, Commits, Landing, after, back_out, backed_out, book_bury, book_hold, book_lift, book_lose, book_place, book_receive, book_take_gets, book_units, drop_batch, freed, ghost_force, ghost_hold, ghost_receive, give, hold_batch, hold_row, landing_mark, landing_told, place_all, lift_row, lose, owned, place_row, prepare, receive, release_batch, spent, take_gets, with_units};
+ghost use Rattle.mq_law_rows.specs.World.{Book, Ghost, InOrder, IsOthers, is_last, InHand, At, Gone, InUnit, HeldBy, Inv, Tag, World, away, got_idents, LanesRise, idents_in, is_forced, items_told, standing, tag_idents, tag_mark, tag_of};
+ghost use Rattle.mq_law_rows.specs.Kinds.{AllBorne, Chosen, among, Commits, Landing, after, back_out, backed_out, book_bury, book_hold, book_lift, book_lose, book_place, book_receive, book_take_gets, book_units, drop_batch, freed, ghost_force, ghost_hold, ghost_take, ghost_receive, give, hold_batch, hold_row, landing_mark, landing_told, place_all, lift_row, lose, owned, place_row, prepare, receive, release_batch, spent, take_gets, with_units};
 ghost use Rattle.mq_law_rows.specs.Beginning.{Opens, Spot, first_owner};
-ghost use Rattle.mq_law_rows.specs.Ordered.{InOrder, IsFront, IsOthers, with_young};
+ghost use Rattle.mq_law_rows.specs.Ordered.{IsFront, with_young};
 ghost use Rattle.mq_law_rows.specs.Families.{put_at};
 ghost use Rattle.mq_spec_network.specs.Order.{Before, KeepsQueue};
 ghost use Rattle.mq_spec_state.specs.Reads.{is_persistent};
@@ -58,6 +58,8 @@ pub fn units_keep_the_facts()
 pub fn batches_keep_the_facts()
     ensures held { (w : World) (g : Ghost) (b : Book) (m : ℕ) (q c : List ℕ) (u : Luw) (ts : List Tag) → Inv w g b → w.holds m c ≡ None → w.last m c ≢ u → g.operated m c u ≡ false → Chosen w m q ts
         → Inv (hold_batch w m q c u (tag_idents ts)) (ghost_hold g m q c u ts) b }
+    ensures fronted { (w : World) (g : Ghost) (b : Book) (m : ℕ) (q c : List ℕ) (u : Luw) (ts : List Tag) (front : Bool) → Inv w g b → w.holds m c ≡ None → w.last m c ≢ u → g.operated m c u ≡ false → Chosen w m q ts
+        → (front ≡ true → IsFront (tag_idents ts) (standing w m q)) → Inv (hold_batch w m q c u (tag_idents ts)) (ghost_take g m q c u ts front) b }
     ensures prepared { (w : World) (g : Ghost) (b : Book) (m : ℕ) (c : List ℕ) (u : Luw) → Inv w g b → w.holds m c ≡ Some u → w.last m c ≢ u → Inv (prepare w m c) g b }
     ensures released { (w : World) (g : Ghost) (b : Book) (m : ℕ) (c : List ℕ) (back : Bool) → Inv w g b → ((u : Luw) → w.holds m c ≡ Some u → w.last m c ≢ u) → Inv (release_batch w m c back) (after g (freed g m c)) b }
     ensures dropped { (w : World) (g : Ghost) (b : Book) (m : ℕ) (c : List ℕ) → Inv w g b → away w m c ≡ true → Inv (drop_batch w m c) g b }
@@ -88,10 +90,16 @@ pub fn batches_keep_the_order()
         → ((l : Landing) → Mem l ls → (a : ℕ) (c : List ℕ) (u : Luw) → young a c u ≡ true → Mem l.row.message.ident (tag_idents (g.sent a c u)) → ⊥) → InOrder g (λ a d. place_all t ls a d (rows a d)) young }
     ensures owned { (g v : Ghost) (rows : ℕ → List ℕ → List Row) (young : ℕ → List ℕ → Luw → Bool) → InOrder g rows young → ((m : ℕ) (c : List ℕ) (u : Luw) → young m c u ≡ true → v.sent m c u ≡ g.sent m c u)
         → ((m : ℕ) (q : List ℕ) (x : Row) → Mem x (rows m q) → is_forced (g.owner x.message.ident) ≡ true → v.owner x.message.ident ≡ g.owner x.message.ident) → InOrder v rows young }
-    ensures taken { (w : World) (g : Ghost) (b : Book) (young : ℕ → List ℕ → Luw → Bool) (m : ℕ) (q c : List ℕ) (u : Luw) (ts : List Tag) → Inv w g b → InOrder g b.rows young → g.operated m c u ≡ false
-        → ((i : Ident) → Mem i (tag_idents ts) → g.owner i ≡ At m q) → IsFront (tag_idents ts) (standing w m q) → InOrder (ghost_hold g m q c u ts) b.rows (with_young young m c u) }
+    ensures taken { (w : World) (g : Ghost) (b : Book) (young : ℕ → List ℕ → Luw → Bool) (m : ℕ) (q c : List ℕ) (u : Luw) (ts : List Tag) (front : Bool) → Inv w g b → InOrder g b.rows young → g.operated m c u ≡ false
+        → ((i : Ident) → Mem i (tag_idents ts) → g.owner i ≡ At m q) → IsFront (tag_idents ts) (standing w m q) → InOrder (ghost_take g m q c u ts front) b.rows (with_young young m c u) }
     ensures queue { (g : Ghost) (b : Book) (young : ℕ → List ℕ → Luw → Bool) (m : ℕ) (c : List ℕ) (u : Luw) → InOrder g b.rows young → young m c u ≡ true
-        → (q : List ℕ) (xs : List Row) → ((x y : Row) → Before x y xs → Before x y (b.rows m q)) → ((x : Row) → Mem x xs → IsOthers g m c u x → ⊥) → KeepsQueue (tag_idents (g.sent m c u)) xs }
+        → (a : ℕ) (q : List ℕ) (xs : List Row) → ((x y : Row) → Before x y xs → Before x y (b.rows a q)) → ((x : Row) → Mem x xs → IsOthers g m c u x → ⊥) → KeepsQueue (tag_idents (g.sent m c u)) xs }
+    ensures committed { (w : World) (g : Ghost) (b : Book) (m : ℕ) (c : List ℕ) (u : Luw) (t : ℕ) → Inv w g b → Commits w g m c u t → g.loose m c u ≡ false
+        → (a : ℕ) (q : List ℕ) (xs : List Row) → ((x y : Row) → Before x y xs → Before x y (b.rows a q)) → ((x : Row) → Mem x xs → IsOthers g m c u x → ⊥) → KeepsQueue (tag_idents (g.sent m c u)) xs }
+    ensures listed { (t : ℕ) (ids : List Ident) (ks : List Landing) (q : List ℕ) (xs : List Row) → map (λ (l : Landing). l.row.message.ident) ks ≡ ids → AreDistinct ids → LanesRise xs
+        → (x y : Row) → Mem x (place_all t ks t q (keep (λ r. not (among ids r.message.ident)) xs)) → Mem y (place_all t ks t q (keep (λ r. not (among ids r.message.ident)) xs)) → x.place.lane ≡ y.place.lane
+        → Before x.message.ident y.message.ident ids → Before x y (place_all t ks t q (keep (λ r. not (among ids r.message.ident)) xs)) }
+    ensures first { (xs rest : List Row) → AreDistinct (idents_in (xs ++ rest)) → IsFront (idents_in xs) (xs ++ rest) }
     ensures list { (t : ℕ) (ls : List Landing) (q : List ℕ) (xs : List Row) (l k : Landing) → LanesRise xs → Before l k ls → l.queue ≡ q → k.queue ≡ q → l.row.place.lane ≡ k.row.place.lane → Before l.row k.row (place_all t ls t q xs) }
 {}
 
@@ -106,5 +114,5 @@ pub fn the_facts_say_that_rows_stand_as_posted()
 /// Families that begin as first starts do have the facts.
 pub fn rows_begin_with_the_facts()
     ensures { (w : World) (b : Book) (spots : List Spot) (sent : ℕ → List ℕ → Luw → List Tag) (source : ℕ → List ℕ → List ℕ) → Opens w b spots sent source
-        → Inv w (record { sent = sent; source = source; operated = λ m c u. false; owner = first_owner w spots }) b }
+        → Inv w (record { sent = sent; source = source; operated = λ m c u. false; loose = λ m c u. is_last (w.holds m c) u; owner = first_owner w spots }) b }
 {}

@@ -44,7 +44,7 @@ use Rattle.mq_law_node.proofs.NearEvents.{begun_here}
 use Rattle.mq_law_node.proofs.Openings.{images_belong}
 use Rattle.mq_law_node.proofs.Operators.{doubt_there}
 use Rattle.mq_law_rows.specs.Beginning.{first_owner}
-use Rattle.mq_law_rows.specs.World.{Ghost, tag_of}
+use Rattle.mq_law_rows.specs.World.{Ghost, is_last, tag_of}
 use Rattle.mq_law_rows.proofs.Lists.{bool_case, eqb_self, true_false}
 use Rattle.mq_law_seen.specs.Given.{is_given, sent_at, source_at, spots_of}
 use Rattle.mq_law_seen.specs.Seen.{book_of, rows_of, world_of}
@@ -237,7 +237,7 @@ begins s hs premises = record {
     ps = opening_managers s hs
 
     origin : Ghost
-    origin = record { sent = sent_at ps; source = source_at ps; operated = λ m c u. false; owner = first_owner (world_of s (is_given ps) ps) (spots_of 0 ps) }
+    origin = record { sent = sent_at ps; source = source_at ps; operated = λ m c u. false; loose = λ m c u. is_last ((world_of s (is_given ps) ps).holds m c) u; owner = first_owner (world_of s (is_given ps) ps) (spots_of 0 ps) }
 
     zero_plus : (i : ℕ) → i ≡ 0 + i
     zero_plus i = omega arith

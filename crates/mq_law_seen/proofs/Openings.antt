@@ -24,7 +24,7 @@ use Rattle.mq_spec_network.specs.Ledger.{Users, places_or, users_or, unit_of, ro
 use Rattle.mq_spec_network.specs.Standing.{standing_in, standing_of, stored_standing, places_of, opening_ledger_of}
 use Rattle.mq_spec_network.specs.Standing as standings
 use Rattle.mq_spec_network.specs.Apart.{or_else, first_of, case, idents_in, row_idents, standing_idents, known, maker, newer_case, ident_case, idents_apart, cables_apart, apart_of}
-use Rattle.mq_law_rows.specs.World.{World, Book, Tag, tag_of, tag_idents, row_stands, away, standing, StandsIn, LanesRise, Inv}
+use Rattle.mq_law_rows.specs.World.{World, Book, Tag, tag_of, tag_idents, is_last, row_stands, away, standing, StandsIn, LanesRise, Inv}
 use Rattle.mq_law_rows.specs.World as worlds
 use Rattle.mq_law_seen.specs.Seen.{rows_of, units_of, held_unit, holds_of, world_of, book_of}
 use Rattle.mq_law_rows.specs.Beginning.{Spot, Opens, first_owner}
@@ -297,7 +297,7 @@ openings_open s ps o together =
 
 -- where the logs belong together, the network begins with the facts, on the definitions' own lists
 pub openings_have_the_facts : (s : Scenario) (ps : List Plain) → AreOpenings ps → apart_of s ps ≡ None
-    → Inv (world_of s (is_given ps) ps) (record { sent = sent_at ps; source = source_at ps; operated = λ m c u. false; owner = first_owner (world_of s (is_given ps) ps) (spots_of 0 ps) }) (book_of (opening_ledger_of s ps))
+    → Inv (world_of s (is_given ps) ps) (record { sent = sent_at ps; source = source_at ps; operated = λ m c u. false; loose = λ m c u. is_last ((world_of s (is_given ps) ps).holds m c) u; owner = first_owner (world_of s (is_given ps) ps) (spots_of 0 ps) }) (book_of (opening_ledger_of s ps))
 openings_have_the_facts s ps o together =
     opens (world_of s (is_given ps) ps) (book_of (opening_ledger_of s ps)) (spots_of 0 ps) (sent_at ps) (source_at ps)
     (openings_open s ps o (none_else (cables_apart s ps 0 s.cables) (idents_apart ps (standing_idents s ps) (row_idents ps)) together).1)

@@ -3,7 +3,7 @@
 #![tactic(auto)]
 
 ghost use Rattle.std.specs.Prelude.{◌≡◌, ℕ, false, List, None};
-ghost use Rattle.mq_law_rows.specs.World.{Inv, standing};
+ghost use Rattle.mq_law_rows.specs.World.{Inv, is_last, standing};
 ghost use Rattle.mq_law_rows.specs.Beginning.{first_owner};
 ghost use Rattle.mq_law_seen.specs.Seen.{world_of, book_of};
 ghost use Rattle.mq_law_seen.specs.Given.{AreOpenings, is_given, sent_at, source_at, spots_of};
@@ -21,6 +21,6 @@ ghost use Rattle.mq_law_seen.specs.Opening.{IsOpening};
 /// of a log gives such a start.
 pub fn openings_have_the_facts()
     ensures managers { (s : Scenario) (ps : List Plain) → AreOpenings ps → apart_of s ps ≡ None
-        → Inv (world_of s (is_given ps) ps) (record { sent = sent_at ps; source = source_at ps; operated = λ m c u. false; owner = first_owner (world_of s (is_given ps) ps) (spots_of 0 ps) }) (book_of (opening_ledger_of s ps)) }
+        → Inv (world_of s (is_given ps) ps) (record { sent = sent_at ps; source = source_at ps; operated = λ m c u. false; loose = λ m c u. is_last ((world_of s (is_given ps) ps).holds m c) u; owner = first_owner (world_of s (is_given ps) ps) (spots_of 0 ps) }) (book_of (opening_ledger_of s ps)) }
     ensures images { (given : Given) (image : Image) (log : LogState) (moment : ℕ) → IsImage image → IsOpening (begun given (raised 0 image) log moment) }
 {}

@@ -10,7 +10,7 @@ use Rattle.mq_spec_manager.specs.Stops.{started_need}
 use Rattle.mq_spec_network.specs.Given.{surroundings}
 use Rattle.mq_spec_network.specs.Apart.{apart_of}
 use Rattle.mq_spec_network.specs.Standing.{node_after, opening_managers, opening_ledger}
-use Rattle.mq_law_rows.specs.World.{Inv}
+use Rattle.mq_law_rows.specs.World.{Inv, is_last}
 use Rattle.mq_law_seen.specs.Seen.{world_of, book_of}
 use Rattle.mq_law_seen.specs.Opening.{IsOpening}
 use Rattle.mq_law_rows.specs.Beginning.{first_owner}
@@ -43,6 +43,7 @@ pub images_have_the_facts : (s : Scenario) (hs : List History) → AreImages hs 
       sent = sent_at (opening_managers s hs);
       source = source_at (opening_managers s hs);
       operated = λ m c u. false;
+      loose = λ m c u. is_last ((world_of s (is_given (opening_managers s hs)) (opening_managers s hs)).holds m c) u;
       owner = first_owner (world_of s (is_given (opening_managers s hs)) (opening_managers s hs)) (spots_of 0 (opening_managers s hs));
     }) (book_of (opening_ledger s hs))
 images_have_the_facts s hs images together = openings_have_the_facts s (opening_managers s hs) (managers_open s hs images) together

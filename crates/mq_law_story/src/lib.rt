@@ -8,7 +8,7 @@ ghost use Rattle.mq_sync.specs.declared.unit.Unit.{Unit as Luw};
 ghost use Rattle.mq_spec_network.specs.Promised.{AreDistinct};
 ghost use Rattle.mq_spec_network.specs.Story.{Mem};
 ghost use Rattle.mq_spec_network.specs.Standing.{rows_told};
-ghost use Rattle.mq_law_rows.specs.World.{Book, Ghost, Inv, World, standing};
+ghost use Rattle.mq_law_rows.specs.World.{Book, Ghost, Inv, World, is_last, standing};
 ghost use Rattle.mq_law_rows.specs.Kinds.{Commits};
 ghost use Rattle.mq_law_rows.specs.Beginning.{first_owner};
 ghost use Rattle.mq_law_seen.specs.Seen.{world_of, book_of};
@@ -46,6 +46,7 @@ pub fn a_network_begins_with_the_facts()
           sent = sent_at (opening_managers s hs);
           source = source_at (opening_managers s hs);
           operated = λ m c u. false;
+          loose = λ m c u. is_last ((world_of s (is_given (opening_managers s hs)) (opening_managers s hs)).holds m c) u;
           owner = first_owner (world_of s (is_given (opening_managers s hs)) (opening_managers s hs)) (spots_of 0 (opening_managers s hs));
         }) (book_of (opening_ledger s hs)) }
 {}

@@ -1,11 +1,13 @@
 -- Each turn of a sender's end, as what it is of the network: rows are held, prepared, released or settled, or nothing of them.
-use Rattle.std.proofs.Common.{ℕ, ◌≡◌, ◌≢◌, ◌+◌, zero, suc, Bool, true, false, List, [], ◌∷◌, ◌++◌, refl, ap, sym, subst, ◌∙◌, inl, inr, map, take, arith}
-use Rattle.std.specs.Prelude.{Option, Some, None, if◌then◌else◌, ◌&&◌, slice_get, is_some, filter}
+use Rattle.std.proofs.Common.{ℕ, ◌≡◌, ◌≢◌, ◌+◌, zero, suc, Bool, true, false, not, ◌⊎◌, List, [], ◌∷◌, ◌++◌, refl, ap, sym, subst, ◌∙◌, inl, inr, map, take, arith}
+use Rattle.std.specs.Prelude.{Option, Some, None, if◌then◌else◌, ◌&&◌, ◌||◌, slice_get, is_some, filter}
+use Rattle.std.specs.List.{list_any}
 use Rattle.std.specs.Str.{bytes_eq}
 use Rattle.mq_message.specs.declared.message.Ident.{Ident}
 use Rattle.mq_message.specs.declared.place.Holder.{Holder}
+use Rattle.mq_message.specs.declared.place.Holder.TheVariants as holders
 use Rattle.mq_queue.specs.declared.row.Row.{Row}
-use Rattle.mq_queue.specs.Rows.{is_free}
+use Rattle.mq_queue.specs.Rows.{is_free, keep}
 use Rattle.mq_frame.specs.declared.frame.Seen.{Seen}
 use Rattle.mq_sync.specs.declared.unit.Unit.{Unit as Luw}
 use Rattle.mq_sync.specs.declared.unit.Settle.{Settle}
@@ -27,7 +29,7 @@ use Rattle.mq_sender.specs.Table.{is_ack, is_binding, is_err, is_idle, is_sendin
 use Rattle.mq_calls.specs.declared.agents.Note.TheVariants as notes
 use Rattle.mq_calls.specs.declared.state.Batch.{Batch}
 use Rattle.mq_spec_state.specs.State.{Plain}
-use Rattle.mq_spec_state.specs.Reads.{batch_of, free_rows, in_doubt_of, is_full, sender_data, stored}
+use Rattle.mq_spec_state.specs.Reads.{batch_of, free_rows, has_held, has_held_by_other, in_doubt_of, is_by_other, is_full, sender_data, stored}
 use Rattle.mq_spec_state.specs.Sizes.{need}
 use Rattle.mq_spec_state.specs.Changes.{apply_all}
 use Rattle.mq_spec_state.specs.Steps.{do_all, do_part}
@@ -47,9 +49,11 @@ use Rattle.mq_law_channel.proofs.Following.{said}
 use Rattle.mq_law_channel.proofs.Sending.{binding_is, fits_at, fits_sending, idle_is, kept_session, not_forced, waiting_is}
 use Rattle.mq_law_channel.proofs.Told.{ack_told, and_both, by_lines, doubt_is, err_told, given_self, no_doubt, unit_self}
 use Rattle.mq_law_rows.specs.Families.{is_here}
-use Rattle.mq_law_rows.specs.World.{Ghost, Inv, Tag, World, idents_in, tag_idents, tag_of}
-use Rattle.mq_law_rows.specs.Kinds.{Chosen, after, freed, ghost_hold}
-use Rattle.mq_law_rows.proofs.Lists.{bool_case, here_self, map_mem, mem_map, name_self, true_false}
+use Rattle.mq_law_rows.specs.World.{Ghost, Inv, Tag, World, away, idents_in, row_stands, standing, stands, tag_idents, tag_of}
+use Rattle.mq_law_rows.specs.Kinds.{Chosen, after, freed, ghost_take, unit_at}
+use Rattle.mq_law_rows.specs.Ordered.{IsFront}
+use Rattle.mq_law_rows.proofs.Lists.{bool_case, here_self, keep_all, map_mem, mem_map, name_self, name_yes, true_false}
+use Rattle.mq_law_rows.proofs.Ordering.{first_is_front}
 use Rattle.mq_law_seen.specs.Seen.{doubt_of, held_unit, holds_of, last_of, rows_of, world_of}
 use Rattle.mq_law_manager.proofs.Removals.{mem_filter}
 use Rattle.mq_law_manager.proofs.Named.{batch_dropped}
@@ -67,7 +71,7 @@ use Rattle.mq_law_node.proofs.SenderTable.{may_turn, prepared_by}
 use Rattle.mq_law_node.proofs.SenderTurns.{binding_apart, guarded, idle_apart, waiting_apart}
 use Rattle.mq_law_story.specs.Needs.{letter_tag}
 use Rattle.mq_law_story.proofs.Tying.{next_tied, unprepared_tied}
-use Rattle.mq_law_turns.specs.Turns.{EachTurned, IsAt, IsJoint, Scene, Turned, is_expiry, world_in}
+use Rattle.mq_law_turns.specs.Turns.{EachTurned, IsAt, IsJoint, Scene, Turned, is_expiry, is_mixed, world_in}
 use Rattle.mq_law_turns.proofs.Parts.{IsLeft, IsOnly, changed, doubt_held, here_holds, leaving_stays, next_mid, next_to, no_doubt_held, not_doubted, part_stays, same_turned, stays_none, stays_then, turned_on, world_behind}
 
 -- no part at all
@@ -139,11 +143,87 @@ chosen z p q count at h = record {
   once = subst AreDistinct (sym (tags_named (take count (free_rows q p)))) (take_distinct count (free_rows q p) (filter_distinct is_free (stored q p).rows (subst (λ (o : Option Plain). AreDistinct (idents_in (rows_of q o))) at (h.distinct z.sender q))));
 }
 
-sent_self : (g : Ghost) (m : ℕ) (q c : List ℕ) (u : Luw) (ts : List Tag) → (ghost_hold g m q c u ts).sent m c u ≡ ts
-sent_self g m q c u ts = (λ i. if here_self m c i && unit_self u i then ts else g.sent m c u)
+-- where all rows of the queue are free, what is chosen is its front
 
-sent_else : (g : Ghost) (m : ℕ) (q c : List ℕ) (u : Luw) (ts : List Tag) (a : ℕ) (d : List ℕ) (v : Luw) → is_here m c a d ≡ false → (ghost_hold g m q c u ts).sent a d v ≡ g.sent a d v
-sent_else g m q c u ts a d v e = ap (λ t. if t && same_unit v u then ts else g.sent a d v) e
+twice : (t : Bool) → not (not t) ≡ true → t ≡ true
+twice true e = refl
+twice false e = absurd cc
+
+no_not : (t : Bool) → not t ≡ true → t ≡ false
+no_not true e = absurd cc
+no_not false e = refl
+
+take_rest : (k : ℕ) (xs : List Row) → (rest : List Row) × (take k xs ++ rest ≡ xs)
+take_rest zero xs = (xs, refl)
+take_rest (suc k) [] = ([], refl)
+take_rest (suc k) (x ∷ xs) = let r = take_rest k xs in (r.0, ap (λ (l : List Row). x ∷ l) r.1)
+
+all_free : (xs : List Row) → list_any (λ (row : Row). not (is_free row)) xs ≡ false → (row : Row) → Mem row xs → is_free row ≡ true
+all_free [] e row n = absurd n
+all_free (x ∷ xs) e row n =
+    bool_case (is_free x) (λ t. is_free x ≡ t → (not t || list_any (λ (row : Row). not (is_free row)) xs) ≡ false → is_free row ≡ true)
+    (λ t f k. elim n [ inl s ↦ ap is_free s ∙ f | inr s ↦ all_free xs k row s ]) (λ t f k. absurd (true_false k)) refl e
+
+filter_same : (xs : List Row) → ((row : Row) → Mem row xs → is_free row ≡ true) → filter is_free xs ≡ xs
+filter_same [] all = refl
+filter_same (x ∷ xs) all = ap (λ t. if t then x ∷ filter is_free xs else filter is_free xs) (all x (inl refl)) ∙ ap (λ (l : List Row). x ∷ l) (filter_same xs (λ row n. all row (inr n)))
+
+front_rows : (xs : List Row) (k : ℕ) → AreDistinct (idents_in xs) → IsFront (idents_in (take k xs)) xs
+front_rows xs k once =
+    let r = take_rest k xs in
+    subst (λ (l : List Row). IsFront (idents_in (take k xs)) l) r.1 (first_is_front (take k xs) r.0 (subst (λ (l : List Row). AreDistinct (idents_in l)) (sym r.1) once))
+
+front_now : (z : Scene) (p : Plain) (q : List ℕ) (count : ℕ) → slice_get z.managers z.sender ≡ Some p → Inv (world_in z) z.ghost z.book → not (has_held q p) ≡ true
+    → IsFront (tag_idents (tags_of (take count (free_rows q p)))) (standing (world_in z) z.sender q)
+front_now z p q count at h clear =
+    let rows : List Row = (stored q p).rows in
+    let stays_ : Row → Bool = row_stands (away (world_in z) z.sender) in
+    let free : (row : Row) → Mem row rows → is_free row ≡ true = all_free rows (no_not (has_held q p) clear) in
+    let here : (world_in z).rows z.sender q ≡ rows = ap (rows_of q) at in
+    let stand : standing (world_in z) z.sender q ≡ rows = ap (keep stays_) here ∙ keep_all stays_ rows (λ row n. ap (stands (away (world_in z) z.sender)) (free_by row.by row refl (free row n))) in
+    let ids : tag_idents (tags_of (take count (free_rows q p))) ≡ idents_in (take count rows) = tags_named (take count (free_rows q p)) ∙ ap (λ (l : List Row). idents_in (take count l)) (filter_same rows free) in
+    subst (λ (is : List Ident). IsFront is (standing (world_in z) z.sender q)) (sym ids)
+    (subst (λ (l : List Row). IsFront (idents_in (take count rows)) l) (sym stand) (front_rows rows count (subst (λ (l : List Row). AreDistinct (idents_in l)) here (h.distinct z.sender q))))
+
+-- A sender that is idle has no batch: where no other holds a row of its queue, none of its rows is held, and what it begins next is
+-- the front of it.
+own_only : (c : List ℕ) (o : Option Holder) → is_by_other c o ≡ false → (o ≡ None) ⊎ (o ≡ Some (holders.Batch c))
+own_only c None e = inl refl
+own_only c (Some (holders.Unit k)) e = absurd (true_false e)
+own_only c (Some (holders.Batch d)) e = inr (ap (λ (f : List ℕ). Some (holders.Batch f)) (sym (name_yes c d (twice (bytes_eq c d) (ap not e)))))
+
+is_free_by : (row : Row) → row.by ≡ None → is_free row ≡ true
+is_free_by row e = ap (λ (o : Option Holder). elim o as (λ h. Bool) [ None ↦ true | Some h ↦ false ]) e
+
+none_held : (c : List ℕ) (xs : List Row) → list_any (λ (row : Row). is_by_other c row.by) xs ≡ false → ((row : Row) → Mem row xs → row.by ≡ Some (holders.Batch c) → ⊥)
+    → list_any (λ (row : Row). not (is_free row)) xs ≡ false
+none_held c [] e no_ = refl
+none_held c (x ∷ xs) e no_ =
+    bool_case (is_by_other c x.by) (λ t. is_by_other c x.by ≡ t → (t || list_any (λ (row : Row). is_by_other c row.by) xs) ≡ false → (not (is_free x) || list_any (λ (row : Row). not (is_free row)) xs) ≡ false)
+    (λ t f k. absurd (true_false k))
+    (λ t f k. elim (own_only c x.by f) [
+      | inl z ↦ ap (λ b. not b || list_any (λ (row : Row). not (is_free row)) xs) (is_free_by x z) ∙ none_held c xs k (λ row n. no_ row (inr n))
+      | inr z ↦ absurd (no_ x (inl refl) z)
+    ]) refl e
+
+pub clear_queue : (z : Scene) (n : Node) (x : Channel) (y : Past) → IsAt z n x y → is_idle x.sender.state ≡ true
+    → has_held_by_other z.place.channel (queue_of_sender z.place.channel n.manager) n.manager ≡ false → is_mixed z.place.channel (slice_get z.managers z.sender) ≡ false
+clear_queue z n x y a idle alone =
+    let p : Plain = n.manager in
+    let c : List ℕ = z.place.channel in
+    let q : List ℕ = queue_of_sender c p in
+    let fits = fits_at x y _ a.facts.tied (idle_is x.sender.state idle) in
+    let plain : y.forced ≡ false = not_forced x y a.facts.tied fits.1 in
+    let none : (world_in z).holds z.sender c ≡ None = (a.joint.tied.held plain).0 ∙ fits.0 in
+    let apart : (row : Row) → Mem row (stored q p).rows → row.by ≡ Some (holders.Batch c) → ⊥ = λ row h by_.
+    (a.joint.inv.batch z.sender q row c (subst (λ (o : Option Plain). Mem row (rows_of q o)) (sym a.at) h) by_).1 none in
+    ap (is_mixed c) a.at ∙ none_held c (stored q p).rows alone apart
+
+sent_self : (g : Ghost) (m : ℕ) (q c : List ℕ) (u : Luw) (ts : List Tag) (front : Bool) → (ghost_take g m q c u ts front).sent m c u ≡ ts
+sent_self g m q c u ts front = (λ i. if here_self m c i && unit_self u i then ts else g.sent m c u)
+
+sent_else : (g : Ghost) (m : ℕ) (q c : List ℕ) (u : Luw) (ts : List Tag) (front : Bool) (a : ℕ) (d : List ℕ) (v : Luw) → is_here m c a d ≡ false → (ghost_take g m q c u ts front).sent a d v ≡ g.sent a d v
+sent_else g m q c u ts front a d v e = ap (λ t. if t && same_unit v u then ts else g.sent a d v) e
 
 next_begun : (y : Past) (u : Luw) → Upto u (now y.near) → Upto u (unit_named y.near.session (y.near.begun + 1))
 next_begun y u (inl e) = inl e
@@ -176,11 +256,12 @@ begun_turned z n x k y u count rs a idle far is h =
     let n1 = next_to z.sender p _ (apply_all (held_changes c u q (tag_idents ts)) p) z.managers rs h (ap (λ is. apply_all (held_changes c u q is) p) (sym (tags_named rows))) in
     let new : last_of z.scenario z.managers c (Some p) ≢ u = λ e. next_tied (world_in z) z.ghost z.sender z.receiver c x y a.joint.tied a.facts (ap (last_of z.scenario z.managers c) a.at ∙ e ∙ is) in
     let fresh : z.ghost.operated z.sender c u ≡ false = bool_case (z.ghost.operated z.sender c u) (λ t. z.ghost.operated z.sender c u ≡ t → t ≡ false) (λ e f. absurd (next_new y u is (a.joint.begun u f))) (λ e f. refl) refl in
-    let inv = holding.holds z.scenario z.given z.sender p z.managers rs c u q ts z.ghost z.book n1 free certain new fresh (chosen z p q count a.at a.joint.inv) a.joint.inv in
+    let front : Bool = not (has_held q p) in
+    let inv = holding.takes z.scenario z.given z.sender p z.managers rs c u q ts front z.ghost z.book n1 free certain new fresh (chosen z p q count a.at a.joint.inv) (λ e. front_now z p q count a.at a.joint.inv e) a.joint.inv in
     let after_ : Plain = apply_all (held_changes c u q (tag_idents ts)) p in
     let hold : (d : List ℕ) → holds_of d (Some after_) ≡ (if bytes_eq d c then Some u else holds_of d (Some p)) = λ d. held_holds c d u q (tag_idents ts) p certain in
     let sure : (d : List ℕ) → doubt_of d (Some after_) ≡ doubt_of d (Some p) = λ d. refl in
-    changed z p after_ rs (ghost_hold z.ghost z.sender q c u ts) x k y (begun_unit y (letters_of rows)) a.joint n1
+    changed z p after_ rs (ghost_take z.ghost z.sender q c u ts front) x k y (begun_unit y (letters_of rows)) a.joint n1
     (record {
       near = record { given = refl; receivers = λ d. refl };
       holds = λ d e. hold d ∙ ap (λ t. if t then Some u else holds_of d (Some p)) e;
@@ -192,13 +273,15 @@ begun_turned z n x k y u count rs a idle far is h =
       forced = λ v f. absurd (true_false (sym f ∙ plain));
       content = λ v e.
           let same : unit_named y.near.session (y.near.begun + 1) ≡ v = ap (unit_or v) e in
-          subst (λ (o : Luw). map letter_tag (given y.content (unit_named y.near.session (y.near.begun + 1)) (letters_of rows) o) ≡ (ghost_hold z.ghost z.sender q c u ts).sent z.sender c o) same
+          subst (λ (o : Luw). map letter_tag (given y.content (unit_named y.near.session (y.near.begun + 1)) (letters_of rows) o) ≡ (ghost_take z.ghost z.sender q c u ts front).sent z.sender c o) same
           (ap (map letter_tag) (given_self y.content (unit_named y.near.session (y.near.begun + 1)) (letters_of rows)) ∙ letters_tags rows
-          ∙ sym (sent_self z.ghost z.sender q c u ts) ∙ ap ((ghost_hold z.ghost z.sender q c u ts).sent z.sender c) is);
+          ∙ sym (sent_self z.ghost z.sender q c u ts front) ∙ ap ((ghost_take z.ghost z.sender q c u ts front).sent z.sender c) is);
       begun = λ v e. next_begun y v (a.joint.begun v e);
-      sent = λ o d v e. sent_else z.ghost z.sender q c u ts o d v e;
+      sent = λ o d v e. sent_else z.ghost z.sender q c u ts front o d v e;
       operated = λ o d v e. refl;
       own = λ v e. inl e;
+      loose = λ o d v e. bool_case (unit_at z.sender c u o d v) (λ t. (if t then not front else z.ghost.loose o d v) ≡ true → (z.ghost.loose o d v ≡ true) ⊎ (is_mixed c (slice_get z.managers z.sender) ≡ true))
+          (λ t f. inr (ap (is_mixed c) a.at ∙ twice (has_held q p) f)) (λ t f. inl f) e;
     })
 
 begins : (z : Scene) (n : Node) (x : Channel) (y : Past) (stamp : ℕ) (seen : Seen) (k count : ℕ) → IsAt z n x y → Guard x.sender (stock z.place.channel n.manager) (does.Begin k count)
@@ -260,6 +343,7 @@ prepared_turned z n x k y b last rs a s is far h =
       sent = λ o e v f. refl;
       operated = λ o e v f. refl;
       own = λ v e. inl e;
+      loose = λ o e v f. inl f;
     })
 
 pub released_turned : (z : Scene) (n : Node) (x k : Channel) (y : Past) (b : Batch) (rs : List Plain) → IsAt z n x y → IsSending z n x y b → batch_of z.place.channel n.manager.channels.batches ≡ Some b → k.receives ≡ x.receives
@@ -285,6 +369,7 @@ released_turned z n x k y b rs a s is far h =
       sent = λ o e v f. refl;
       operated = λ o e v f. refl;
       own = λ v e. inl e;
+      loose = λ o e v f. inl f;
     })
   where
     batch_or : Batch → Option Batch → Batch
@@ -333,9 +418,9 @@ is_doubted z n x y o a runs e =
     let d = doubt_held (in_doubt_of (sender_data c n.manager)) (batch_of c n.manager.channels.batches) k.data_.unit (sym (ap (doubt_of c) a.at) ∙ w.1 ∙ t.1) (sym (ap (holds_of c) a.at) ∙ w.0 ∙ t.0) in
     record { doubt = d.0; is = d.1; held = t.0 ∙ ap (λ v. Some v) (sym d.2); sure = t.1; plain = t.2 }
 
-pub settled_left : (z : Scene) (n : Node) (commit : Bool) (x k : Channel) (y : Past) (g : Ghost) → IsAt z n x y → batch_of z.place.channel n.manager.channels.batches ≡ None → k.receives ≡ x.receives → g.operated ≡ z.ghost.operated → g.sent ≡ z.ghost.sent
+pub settled_left : (z : Scene) (n : Node) (commit : Bool) (x k : Channel) (y : Past) (g : Ghost) → IsAt z n x y → batch_of z.place.channel n.manager.channels.batches ≡ None → k.receives ≡ x.receives → g.operated ≡ z.ghost.operated → g.loose ≡ z.ghost.loose → g.sent ≡ z.ghost.sent
     → IsLeft None z (apply_all (settled_changes commit z.place.channel (sender_or (sender_data z.place.channel n.manager))) n.manager) g x k (emptied y)
-settled_left z n commit x k y g a free far ops sent =
+settled_left z n commit x k y g a free far ops loose sent =
     let c : List ℕ = z.place.channel in
     let p : Plain = n.manager in
     let d = sender_or (sender_data c p) in
@@ -349,6 +434,7 @@ settled_left z n commit x k y g a free far ops sent =
       sent = λ o e v f i. sent i o e v;
       operated = λ o e v f i. ops i o e v;
       own = λ v e. inl (sym (λ i. ops i z.sender c v) ∙ e);
+      loose = λ o e v f. inl (sym (λ i. loose i o e v) ∙ f);
     }
 
 pub settled_only : (commit : Bool) (c : List ℕ) (p : Plain) → batch_of c p.channels.batches ≡ None → IsOnly c p (apply_all (settled_changes commit c (sender_or (sender_data c p))) p)
@@ -372,7 +458,7 @@ committed_turned z n x k y rs a o free was far h =
     let d = sender_or (sender_data c p) in
     let last : last_of z.scenario z.managers c (Some p) ≡ o.doubt.unit = sym (ap (last_of z.scenario z.managers c) a.at) ∙ a.joint.tied.last ∙ sym (was o.doubt.unit o.held) in
     let inv = drops z.scenario z.given z.sender p z.managers rs c d o.doubt z.ghost z.book h free o.is last a.joint.inv in
-    changed z p _ rs z.ghost x k y (emptied y) a.joint h (settled_only true c p free) inv (settled_left z n true x k y z.ghost a free far refl refl)
+    changed z p _ rs z.ghost x k y (emptied y) a.joint h (settled_only true c p free) inv (settled_left z n true x k y z.ghost a free far refl refl refl)
 
 backed_turned : (z : Scene) (n : Node) (x k : Channel) (y : Past) (rs : List Plain) → IsAt z n x y → IsDoubted z n y → batch_of z.place.channel n.manager.channels.batches ≡ None → WasNot x y → k.receives ≡ x.receives
     → IsNext z.sender n.manager (apply_all (settled_changes false z.place.channel (sender_or (sender_data z.place.channel n.manager))) n.manager) z.managers rs → Turned z (world_of z.scenario z.given rs) k (emptied y)
@@ -382,7 +468,7 @@ backed_turned z n x k y rs a o free was far h =
     let d = sender_or (sender_data c p) in
     let last : last_of z.scenario z.managers c (Some p) ≢ o.doubt.unit = λ e. (was o.doubt.unit o.held).0 (sym e ∙ sym (ap (last_of z.scenario z.managers c) a.at) ∙ a.joint.tied.last) in
     let inv = backs_out z.scenario z.given z.sender p z.managers rs c d o.doubt z.ghost z.book h free o.is last a.joint.inv in
-    changed z p _ rs (after z.ghost (freed z.ghost z.sender c)) x k y (emptied y) a.joint h (settled_only false c p free) inv (settled_left z n false x k y (after z.ghost (freed z.ghost z.sender c)) a free far refl refl)
+    changed z p _ rs (after z.ghost (freed z.ghost z.sender c)) x k y (emptied y) a.joint h (settled_only false c p free) inv (settled_left z n false x k y (after z.ghost (freed z.ghost z.sender c)) a free far refl refl refl)
 
 -- the part that settles, and then the end may leave its queue
 commits : (z : Scene) (n : Node) (x k : Channel) (y : Past) (u : Luw) (st : SenderState) (rs : List Plain) → IsAt z n x y → IsDoubted z n y → batch_of z.place.channel n.manager.channels.batches ≡ None → WasCommitted x y → k.receives ≡ x.receives
@@ -447,6 +533,7 @@ status_none z n x k y st rs a binds none far h =
       sent = λ o d v f. refl;
       operated = λ o d v f. refl;
       own = λ v e. inl e;
+      loose = λ o e v f. inl f;
     }))
 
 -- what the table says where a unit is settled

@@ -67,6 +67,7 @@ same_taken z x k y j far = record {
     begun = j.begun;
   };
   sent = refl;
+  loose = refl;
   operated = λ a d u e. refl;
   own = λ u e. (e, inr refl);
   holds = λ a d. refl;
@@ -138,6 +139,7 @@ receipt_taken z n x k y l j u qs q a waits far h holds doubt last r =
         begun = λ v e. a.joint.begun v (less_operated (unit_at m c u m c v) (z.ghost.operated m c v) e);
       };
       sent = refl;
+      loose = refl;
       operated = λ o d v e. ap (λ t. if t && same_unit v u then false else z.ghost.operated o d v) e;
       own = λ v e. bool_case (unit_at m c u m c v) (λ t. unit_at m c u m c v ≡ t → (if t then false else z.ghost.operated m c v) ≡ true → (z.ghost.operated m c v ≡ true) × ((world_of z.scenario z.given qs).last m c ≢ v ⊎ ((world_of z.scenario z.given qs).last m c ≡ (world_in z).last m c)))
           (λ t f k. absurd (true_false (sym k)))

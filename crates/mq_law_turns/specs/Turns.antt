@@ -11,6 +11,8 @@ use Rattle.mq_sender.specs.declared.turns.SenderDoes.TheVariants as does
 use Rattle.mq_history.specs.declared.scenario.Scenario.{Scenario}
 use Rattle.mq_spec_state.specs.State.{Change, Plain}
 use Rattle.mq_spec_state.specs.Steps.{Part, do_all}
+use Rattle.mq_spec_state.specs.Reads.{has_held}
+use Rattle.mq_spec_agents.specs.Words.{queue_of_sender}
 use Rattle.mq_spec_node.specs.Deeds.{Deed}
 use Rattle.mq_spec_node.specs.Node.{Node}
 use Rattle.mq_history.specs.declared.calls.Reply.{Reply}
@@ -75,6 +77,11 @@ pub record IsAtFar (z : Scene) (n : Node) (x : Channel) (y : Past) (l : Ledger) 
   pub joint : IsJoint (world_in z) z.ghost z.book z.sender z.receiver z.place.channel x y
   pub book : z.book ≡ book_of l
 
+-- a row of the queue that the channel has seized is held: a batch that is taken there may not be the front of its queue
+abbrev pub is_mixed : List ℕ → Option Plain → Bool
+is_mixed channel None = false
+is_mixed channel (Some p) = has_held (queue_of_sender channel p) p
+
 -- So it is again; and what any other channel is tied to stays as it was. An operator may have committed a unit with it.
 pub record TurnedBy (o : Option Luw) (z : Scene) (v : World) (x : Channel) (y : Past) : Type 0 where
   pub ghost : Ghost
@@ -82,6 +89,7 @@ pub record TurnedBy (o : Option Luw) (z : Scene) (v : World) (x : Channel) (y : 
   pub sent : (a : ℕ) (d : List ℕ) (u : Luw) → is_here z.sender z.place.channel a d ≡ false → ghost.sent a d u ≡ z.ghost.sent a d u
   pub operated : (a : ℕ) (d : List ℕ) (u : Luw) → is_here z.sender z.place.channel a d ≡ false → ghost.operated a d u ≡ z.ghost.operated a d u
   pub own : (u : Luw) → ghost.operated z.sender z.place.channel u ≡ true → (z.ghost.operated z.sender z.place.channel u ≡ true) ⊎ (o ≡ Some u)
+  pub loose : (a : ℕ) (d : List ℕ) (u : Luw) → ghost.loose a d u ≡ true → (z.ghost.loose a d u ≡ true) ⊎ (is_mixed z.place.channel (slice_get z.managers z.sender) ≡ true)
   pub holds : (a : ℕ) (d : List ℕ) → is_here z.sender z.place.channel a d ≡ false → v.holds a d ≡ (world_in z).holds a d
   pub doubt : (a : ℕ) (d : List ℕ) → is_here z.sender z.place.channel a d ≡ false → v.doubt a d ≡ (world_in z).doubt a d
   pub last : (a : ℕ) (d : List ℕ) → v.last a d ≡ (world_in z).last a d
@@ -115,6 +123,7 @@ pub record Taken (z : Scene) (v : World) (b : Book) (x : Channel) (y : Past) : T
   pub ghost : Ghost
   pub joint : IsJoint v ghost b z.sender z.receiver z.place.channel x y
   pub sent : ghost.sent ≡ z.ghost.sent
+  pub loose : ghost.loose ≡ z.ghost.loose
   pub operated : (a : ℕ) (d : List ℕ) (u : Luw) → is_here z.sender z.place.channel a d ≡ false → ghost.operated a d u ≡ z.ghost.operated a d u
   pub own : (u : Luw) → ghost.operated z.sender z.place.channel u ≡ true → (z.ghost.operated z.sender z.place.channel u ≡ true) × (v.last z.sender z.place.channel ≢ u ⊎ (v.last z.sender z.place.channel ≡ (world_in z).last z.sender z.place.channel))
   pub holds : (a : ℕ) (d : List ℕ) → v.holds a d ≡ (world_in z).holds a d

@@ -7,6 +7,7 @@ use Rattle.mq_law_rows.proofs.batches_keep_the_facts.Goals as goal
 pub returns : goal.returns
 returns c = record {
   held = holding.holds_batch;
+  fronted = holding.takes_batch;
   prepared = holding.prepares;
   released = batches.releases_batch;
   dropped = settling.drops_batch;
