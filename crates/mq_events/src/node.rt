@@ -20,7 +20,8 @@ use std::marker::Model;
 /// nothing else; the entry's room is taken before anything happens.
 #[derive(Drop)]
 pub struct Node<D: Disk> {
-    parts: NodeParts<D>,
+    /// Who changes these adds the entry of the event that does it.
+    pub parts: NodeParts<D>,
 }
 
 impl<D: Disk> Model for Node<D> {

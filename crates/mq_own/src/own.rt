@@ -16,10 +16,14 @@ use std::marker::Model;
 /// All that is a node's own beside its manager, each list in the order of the numbers in it.
 #[derive(Drop)]
 pub struct Own {
-    ends: Items<ChannelEnd>,
-    handlers: Items<Handler>,
-    monitors: Items<Monitor>,
-    scripts: Items<Script>,
+    /// The ends of its channels.
+    pub ends: Items<ChannelEnd>,
+    /// Its dead-letter handlers.
+    pub handlers: Items<Handler>,
+    /// Its trigger monitors.
+    pub monitors: Items<Monitor>,
+    /// Its scripts.
+    pub scripts: Items<Script>,
 }
 
 impl Model for Own {
