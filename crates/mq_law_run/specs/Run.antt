@@ -45,7 +45,8 @@ use Rattle.mq_law_events.specs.Tied.{IsTold}
 use Rattle.mq_law_turns.specs.Agreed.{IsToldOf}
 use Rattle.mq_law_cables.specs.Joints.{AreCabled, AreJoint}
 use Rattle.mq_law_deeds.specs.Numbers.{AreCountedAt}
-use Rattle.mq_law_one.specs.Alone.{IsAt, NoOther}
+use Rattle.mq_law_stopped.specs.Noted.{EndNote}
+use Rattle.mq_law_one.specs.Alone.{IsAt}
 
 -- a ledger has places where it had some
 abbrev pub Housed : Ledger → Ledger → Type 0
@@ -87,7 +88,7 @@ pub record Stand (s : Scenario) (hs : List History) (p : List Line) : Type 0 whe
   pub not_yet : (m : ℕ) (c : List ℕ) (u : Luw) → ghost.operated m c u ≡ true → is_committed s (opening_managers s hs) (deeds p) c u ≡ false
   pub risen : (k : CableLine) → Mem k s.cables → (u : Luw) → is_committed s (opening_managers s hs) (deeds p) k.channel u ≡ true → Upto u (xs k.sender k.channel).receives.unit
   pub owned : (m : ℕ) (c : List ℕ) (u : Luw) → ghost.operated m c u ≡ true → (i : ℕ) × (k : CableLine) × (slice_get s.cables i ≡ Some k) × (k.sender ≡ m) × (k.channel ≡ c)
-  pub at : (m : ℕ) (h : History) → slice_get hs m ≡ Some h → IsAt NoOther m given (node_after s m p h) (ledger (opening_ledger s hs) p)
+  pub at : (m : ℕ) (h : History) → slice_get hs m ≡ Some h → IsAt (EndNote s xs m) m given (node_after s m p h) (ledger (opening_ledger s hs) p)
   pub counted : (m : ℕ) (h : History) → slice_get hs m ≡ Some h → AreCountedAt (node_after s m p h).manager.numbers.connections m (ledger (opening_ledger s hs) p)
   pub cabled : (m : ℕ) (h : History) → slice_get hs m ≡ Some h → AreCabled s.cables m (node_after s m p h).manager
   pub housed : (a : ℕ) (y : ManagerPlaces) → slice_get (ledger (opening_ledger s hs) p).places a ≡ Some y → (h : History) × (slice_get hs a ≡ Some h)
@@ -114,7 +115,7 @@ pub record MovesTo (s : Scenario) (hs : List History) (p : List Line) (x : Line)
   pub not_yet : (m : ℕ) (c : List ℕ) (u : Luw) → ghost.operated m c u ≡ true → is_committed s (opening_managers s hs) (deeds (p ++ x ∷ [])) c u ≡ false
   pub risen : (k : CableLine) → Mem k s.cables → (u : Luw) → is_committed s (opening_managers s hs) (deeds (p ++ x ∷ [])) k.channel u ≡ true → Upto u (xs k.sender k.channel).receives.unit
   pub owned : (m : ℕ) (c : List ℕ) (u : Luw) → ghost.operated m c u ≡ true → (i : ℕ) × (k : CableLine) × (slice_get s.cables i ≡ Some k) × (k.sender ≡ m) × (k.channel ≡ c)
-  pub at : IsAt NoOther x.manager given d.next l
+  pub at : IsAt (EndNote s xs x.manager) x.manager given d.next l
   pub known : (i : Ident) → (i.manager == (node_after s x.manager p h).manager.given.number) ≡ false → given i ≡ z.given i
   pub others : (a : ℕ) (r : Plain) → (a == x.manager) ≡ false → IsTold a r (ledger (opening_ledger s hs) p) → IsTold a r l
   pub users : (a : ℕ) → (a == x.manager) ≡ false → slice_get l.users a ≡ slice_get (ledger (opening_ledger s hs) p).users a

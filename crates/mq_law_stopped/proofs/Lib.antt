@@ -1,0 +1,4 @@
+pub mod Redoing
+pub mod FarRedoing
+pub mod Staying
+pub mod Leaving
