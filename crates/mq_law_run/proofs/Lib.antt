@@ -18,6 +18,8 @@ pub mod Receiving
 pub mod Stopping
 pub mod Restarting
 pub mod Returning
+pub mod Redoing
+pub mod Finding
 pub mod Timing
 pub mod Expiring
 pub mod Commanding

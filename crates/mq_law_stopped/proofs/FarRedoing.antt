@@ -1,5 +1,5 @@
 -- A found word of a receiver's end, as what it is of the network.
-use Rattle.std.proofs.Common.{ℕ, ◌≡◌, List, [], ◌∷◌, refl, ap, sym, subst, ◌∙◌}
+use Rattle.std.proofs.Common.{ℕ, ◌≡◌, List, refl, sym, subst, ◌∙◌}
 use Rattle.std.specs.Prelude.{Some, slice_get}
 use Rattle.mq_sync.specs.declared.data.End.TheVariants as ends
 use Rattle.mq_calls.specs.declared.agents.Note.{Note}

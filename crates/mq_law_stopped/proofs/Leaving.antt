@@ -1,5 +1,5 @@
 -- What a stopped write of an end leaves: a restart that finds it has a sound manager, and the ledger posts nothing of it.
-use Rattle.std.proofs.Common.{ℕ, ◌≡◌, Bool, true, false, not, List, [], ◌∷◌, ◌++◌, refl, ap, sym, subst, ◌∙◌, map}
+use Rattle.std.proofs.Common.{ℕ, ◌≡◌, Bool, true, false, not, List, [], ◌∷◌, ◌++◌, refl, ap, sym, ◌∙◌, map}
 use Rattle.std.specs.Prelude.{Option, Some, None, ◌&&◌, filter, if◌then◌else◌}
 use Rattle.std.specs.Option.{option_map}
 use Rattle.mq_message.specs.declared.message.Message.{Message}
@@ -14,35 +14,32 @@ use Rattle.mq_calls.specs.declared.records.LogRecord.{LogRecord}
 use Rattle.mq_calls.specs.declared.records.Remove.{Remove}
 use Rattle.mq_calls.specs.declared.state.Batch.{Batch}
 use Rattle.mq_sc_parse.specs.declared.command.Command.TheVariants as lines
-use Rattle.mq_sc_parse.specs.declared.command.Op.{Op}
 use Rattle.mq_history.specs.declared.acts.Act.TheVariants as acts
 use Rattle.mq_history.specs.declared.calls.Call.{Call}
 use Rattle.mq_history.specs.declared.calls.Call.TheVariants as calls
 use Rattle.mq_history.specs.declared.calls.Reply.{Reply}
-use Rattle.mq_history.specs.declared.calls.Reply.TheVariants as replies
-use Rattle.mq_disk.specs.declared.cutter.Stop.{Stop}
 use Rattle.mq_message.specs.declared.place.Holder.TheVariants as holders
 use Rattle.mq_spec_state.specs.State.{LogState, Noted, Plain, Running}
-use Rattle.mq_spec_state.specs.Reads.{batch_of, in_doubt_of, sender_data}
+use Rattle.mq_spec_state.specs.Reads.{batch_of, in_doubt_of, sender_data, sender_in}
 use Rattle.mq_spec_state.specs.Changes.{apply_all}
-use Rattle.mq_spec_state.specs.Images.{lasting}
-use Rattle.mq_spec_state.specs.Steps.{Part, do_part, freeze, note_of, volatile_gone}
-use Rattle.mq_spec_manager.specs.Stops.{lasts, redone_delta, restarted}
+use Rattle.mq_spec_state.specs.Steps.{Part, do_part, freeze, logged, stands_in}
+use Rattle.mq_spec_manager.specs.Stops.{lasts, redone, redone_delta, restarted}
 use Rattle.mq_spec_agents.specs.Words.{harden_part, held_rows, prepared_changes, prepared_record, settle_did, unit_of}
 use Rattle.mq_spec_network.specs.Ledger as ledgers
 use Rattle.mq_spec_network.specs.Ledger.{Ledger}
 use Rattle.mq_spec_network.specs.Order.{unit_received}
-use Rattle.mq_law_rows.proofs.Lists.{bool_case, true_false}
+use Rattle.mq_law_rows.proofs.Lists.{bool_case}
 use Rattle.mq_law_channel.proofs.Told.{and_both}
 use Rattle.mq_law_manager.specs.Facts.{IsSound}
-use Rattle.mq_law_log.specs.Restarts.{IsHarmless, prepare_part}
+use Rattle.mq_law_log.specs.Restarts.{IsHarmless}
 use Rattle.mq_law_log.proofs.Hardenings.{harden_harmless}
 use Rattle.mq_law_log.proofs.Stops.{frozen_lasts}
 use Rattle.mq_law_found.specs.Finds.{posted_again, since}
 use Rattle.mq_law_found.proofs.Again.{part_given, rises}
 use Rattle.mq_law_found.proofs.Finding.{moments_back}
 use Rattle.mq_law_batches.specs.Releases.{IsWord}
-use Rattle.mq_law_stopped.specs.Noted.{IsLeft, IsOfEnd, Stays_, is_calm, all_calm, left_as, noted_of}
+use Rattle.mq_law_stopped.proofs.Channels.{all_after}
+use Rattle.mq_law_stopped.specs.Noted.{IsLeft, IsOfEnd, IsOne_, Stays_, is_calm, all_calm, left_as, noted_of}
 
 -- A SOUND MANAGER
 pub sound_of : (p : Plain) (part : Part) (r : LogRecord) (left : ℕ) → IsSound (do_part part p) → Stays_ p part
@@ -174,7 +171,17 @@ nothing_posted m st note is e p l =
     ∙ ap (λ (k : Ledger). ledgers.at_moment m (ledgers.users_at m l).moment k) (call_posts m st.entry.call st.entry.reply st.entry.effect.received ds at is calm)
     ∙ moments_back m st.moment l
 
--- BOTH
+-- ALL OF IT
+one_on : (p q : Plain) → p.channels ≡ q.channels → IsOne_ p → IsOne_ q
+one_on p q e h d t f = (λ i. in_doubt_of (sender_in d (sym e i).senders)) ∙ h d t ((λ i. batch_of d (e i).batches) ∙ f)
+
+pub one_redone : (note : Noted) (p : Plain) → IsOne_ (apply_all note.changes (left_as p)) → IsOne_ (redone note p)
+one_redone note p h = one_on (apply_all note.changes (left_as p)) (redone note p) (all_after note.changes (left_as p) (record p { log = stands_in note.written p.log }) refl) h
+
 pub leaves : (m : ℕ) (st : ledgers.Stopped) (p : Plain) (part : Part) (r : LogRecord) (left : ℕ) → IsOfEnd st.entry.call → all_calm part.delta ≡ true → IsSound (do_part part p) → Stays_ p part
     → IsLeft m st (noted_of part r) (left_as (freeze (Some (noted_of part r)) left p))
-leaves m st p part r left is calm sound same = record { sound = sound_of p part r left sound same; posts = nothing_posted m st (noted_of part r) is calm }
+leaves m st p part r left is calm sound same = record { sound = sound_of p part r left sound same; posts = nothing_posted m st (noted_of part r) is calm; one = one_on (do_part part p) (apply_all part.changes (left_as (freeze (Some (noted_of part r)) left p))) (all_after part.changes (logged part.forced p) (left_as (freeze (Some (noted_of part r)) left p)) (kept part.forced)) sound.facts.batched.one }
+  where
+    kept : (o : Option LogRecord) → (logged o p).channels ≡ p.channels
+    kept None = refl
+    kept (Some s) = refl

@@ -1,50 +1,41 @@
 -- A found write of a sender's end, as what it is of the network: the manager is as its stopped write has left it.
-use Rattle.std.proofs.Common.{ℕ, ◌≡◌, ◌≢◌, Bool, true, false, List, [], ◌∷◌, refl, ap, sym, subst, ◌∙◌, inl, inr, arith}
-use Rattle.std.specs.Prelude.{Option, Some, None, ◌+◌, ◌≤◌, ◌≢◌, if◌then◌else◌, slice_get}
+use Rattle.std.proofs.Common.{ℕ, ◌≡◌, ◌≢◌, Bool, true, false, List, refl, ap, sym, subst, ◌∙◌, inl, inr, arith}
+use Rattle.std.specs.Prelude.{Some, None, ◌+◌, ◌≤◌, ◌≢◌, if◌then◌else◌}
 use Rattle.std.specs.Str.{bytes_eq}
-use Rattle.mq_frame.specs.declared.frame.Seen.{Seen}
 use Rattle.mq_sync.specs.declared.unit.Unit.{Unit as Luw}
 use Rattle.mq_sync.specs.declared.unit.Settle.{Settle}
 use Rattle.mq_sync.specs.declared.unit.Settle.TheVariants as settles
 use Rattle.mq_sync.specs.declared.data.Doubt.{Doubt}
 use Rattle.mq_sync.specs.declared.data.End.TheVariants as ends
 use Rattle.mq_sync.specs.declared.data.InDoubt.{InDoubt}
-use Rattle.mq_sync.specs.declared.data.Stock.{Stock}
 use Rattle.mq_sync.specs.Settlement.{is_commit, sender_or}
 use Rattle.mq_sync.specs.Units.{Upto, same_unit, unit_named}
 use Rattle.mq_sender.specs.declared.state.Kept.{Kept}
-use Rattle.mq_sender.specs.declared.state.Sender.{Sender}
 use Rattle.mq_sender.specs.declared.turns.SenderDoes.{SenderDoes}
 use Rattle.mq_sender.specs.declared.turns.SenderDoes.TheVariants as does
-use Rattle.mq_sender.specs.declared.turns.SenderOut.TheVariants as outs
 use Rattle.mq_sender.specs.States.{is_running}
-use Rattle.mq_sender.specs.Table.{is_sending, sender_next, status_unit}
+use Rattle.mq_sender.specs.Table.{is_sending, status_unit}
 use Rattle.mq_calls.specs.declared.agents.Note.{Note}
 use Rattle.mq_calls.specs.declared.agents.Note.TheVariants as notes
-use Rattle.mq_calls.specs.declared.deltas.Did.{Did}
 use Rattle.mq_calls.specs.declared.deltas.Did.TheVariants as did
 use Rattle.mq_calls.specs.declared.state.Batch.{Batch}
-use Rattle.mq_spec_state.specs.State.{Change, LogState, Noted, Plain}
-use Rattle.mq_spec_state.specs.State.Running.{Up}
+use Rattle.mq_spec_state.specs.State.{Change, Noted, Plain}
 use Rattle.mq_spec_state.specs.Reads.{batch_of, in_doubt_of, sender_data}
 use Rattle.mq_spec_state.specs.Changes.{apply_all}
 use Rattle.mq_spec_state.specs.Steps.{Part, do_part, stands_in}
 use Rattle.mq_spec_manager.specs.Stops.{redone}
 use Rattle.mq_spec_agents.specs.Words.{harden_part, prepared_changes}
-use Rattle.mq_spec_network.specs.Conflict.{Deed as ToldDeed}
 use Rattle.mq_spec_network.specs.Ledger.{change_at}
 use Rattle.mq_spec_network.specs.Story.{Mem}
-use Rattle.mq_spec_node.specs.Node.{Node, end_in}
-use Rattle.mq_spec_node.specs.Node.ChannelEnd.{Sends}
+use Rattle.mq_spec_node.specs.Node.{Node}
 use Rattle.mq_law_channel.specs.Facts.{now}
-use Rattle.mq_law_channel.specs.Channel.{Channel, Facts, Past}
+use Rattle.mq_law_channel.specs.Channel.{Channel, Past}
 use Rattle.mq_law_channel.specs.Following.{Said, WasCommitted, WasNot}
-use Rattle.mq_law_channel.specs.Turns.{SenderMay, SenderTurn, emptied, past_done, past_resolved, past_turned, resolved, sender_done, sender_numbered, sender_turn, sender_turned}
+use Rattle.mq_law_channel.specs.Turns.{SenderMay, SenderTurn, emptied, past_done, past_turned, sender_done, sender_numbered, sender_turned}
 use Rattle.mq_law_channel.proofs.Following.{said}
 use Rattle.mq_law_channel.proofs.Core.{unit_eq}
 use Rattle.mq_law_channel.proofs.Sending.{binding_is, fits_at, fits_sending, not_forced, waiting_is}
 use Rattle.mq_law_channel.proofs.Told.{ack_told, doubt_is, err_told, unit_no, unit_yes}
-use Rattle.mq_law_rows.specs.World.{Ghost, World}
 use Rattle.mq_law_rows.specs.Kinds.{after, freed}
 use Rattle.mq_law_rows.proofs.Lists.{bool_case, name_self, true_false}
 use Rattle.mq_law_seen.specs.Seen.{doubt_of, held_unit, holds_of, last_of, world_of}
@@ -53,20 +44,18 @@ use Rattle.mq_law_events.specs.Tied.{IsNext}
 use Rattle.mq_law_batches.specs.Releases.{IsWord, settled_changes}
 use Rattle.mq_law_batches.proofs.Settling as settling
 use Rattle.mq_law_batches.proofs.Settling.{backs_out, drops, prepared_doubts, prepared_holds}
-use Rattle.mq_law_batches.proofs.Wording.{Stays, stays, words}
-use Rattle.mq_law_node.specs.Data.{sends_at}
-use Rattle.mq_law_node.specs.Ends.{Guard, SendsAs, sender_of, told_sends}
-use Rattle.mq_law_node.specs.Moves.{NearMay, NearStep, near_does, near_past}
+use Rattle.mq_law_batches.proofs.Wording.{Stays, words}
+use Rattle.mq_law_node.specs.Ends.{Guard}
+use Rattle.mq_law_node.specs.Moves.{NearMay, NearStep, near_past}
 use Rattle.mq_law_node.proofs.Operators.{resting_apart}
 use Rattle.mq_law_node.proofs.SenderTurns.{binding_apart, guarded, waiting_apart}
 use Rattle.mq_law_story.proofs.Tying.{unprepared_tied}
-use Rattle.mq_law_turns.specs.Agreed.{IsToldOf}
-use Rattle.mq_law_turns.specs.Turns.{IsAt, IsJoint, Scene, Turned, TurnedBy, world_in}
+use Rattle.mq_law_turns.specs.Turns.{IsAt, Scene, Turned, TurnedBy, world_in}
 use Rattle.mq_law_turns.proofs.Agreeing.{backout_tells, commit_tells, sender_tells}
 use Rattle.mq_law_turns.proofs.Operating.{resolves_backout, resolves_commit, resolves_committed}
-use Rattle.mq_law_turns.proofs.Parts.{IsLeft, IsOnly, changed, doubt_held, here_holds, next_mid, not_doubted, part_stays, same_turned, turned_on, world_behind}
+use Rattle.mq_law_turns.proofs.Parts.{changed, doubt_held, here_holds, next_mid, not_doubted, part_stays, same_turned, turned_on, world_behind}
 use Rattle.mq_law_turns.proofs.Sending.{IsSending, Settling, settled_left, settled_only, settled_some, settles_so}
-use Rattle.mq_law_stopped.specs.Noted.{IsDown, IsSettling, IsTurn, Redone, RedoneTo, SenderKind, SenderNote, left_as, told_at}
+use Rattle.mq_law_stopped.specs.Noted.{IsDown, IsSettling, IsTurn, Redone, SenderKind, SenderNote, left_as}
 use Rattle.mq_law_stopped.specs.Noted.SenderKind.{Begins, Numbers, Prepares, Resolves, Settles}
 
 -- what is noted is done, and its record stands in the log
@@ -224,15 +213,15 @@ prepares z n x y note t b last rs a is found says h =
     (prepared z n x (sender_done does.Prepare t x) y b last (change_at z.sender (λ (v : Plain). q) z.managers) a (sending_at z n x y b a sends found) found refl (next_mid z.sender p q _ z.managers rs h)))
 
 -- what the table says of a turn that settles
-record IsWord_ (x : Channel) (y : Past) (commit : Bool) : Type 0 where
-  doubt : Doubt
-  is : x.sender.kept.doubt ≡ Some doubt
-  runs : is_running x.sender.state ≡ true
-  off : is_sending x.sender.state ≡ false
-  was : commit ≡ true → WasCommitted x y
-  not_ : commit ≡ false → WasNot x y
+pub record IsWord_ (x : Channel) (y : Past) (commit : Bool) : Type 0 where
+  pub doubt : Doubt
+  pub is : x.sender.kept.doubt ≡ Some doubt
+  pub runs : is_running x.sender.state ≡ true
+  pub off : is_sending x.sender.state ≡ false
+  pub was : commit ≡ true → WasCommitted x y
+  pub not_ : commit ≡ false → WasNot x y
 
-word_of : (x : Channel) (y : Past) (t : SenderTurn) (d : SenderDoes) (commit : Bool) → SenderMay t x → IsSettling d commit → Settling x.sender t.seen d → Said d t x y → IsWord_ x y commit
+pub word_of : (x : Channel) (y : Past) (t : SenderTurn) (d : SenderDoes) (commit : Bool) → SenderMay t x → IsSettling d commit → Settling x.sender t.seen d → Said d t x y → IsWord_ x y commit
 word_of x y t (does.Bound (Some settles.Commit) partner) commit may is k s =
     let q = settled_some x.sender.kept.doubt (status_unit t.seen) settles.Commit k.1 in
     record { doubt = q.0; is = q.1; runs = ap is_running (binding_is x.sender.state k.0); off = binding_apart x.sender.state k.0; was = λ e. s.2; not_ = λ e. absurd (true_false (sym is ∙ e)) }
@@ -358,14 +347,14 @@ resolves z n x y note settles.Backout d rs a still is free says told right h =
 -- EACH
 near_by : (z : Scene) (n : Node) (x : Channel) (y : Past) (note : Noted) (step : NearStep) (rs : List Plain) → IsDown z n x y → NearMay step x → SenderKind z.place.channel (left_as n.manager) note x step
     → ((d : InDoubt) → Mem (did.Hardened z.place.channel (notes.Resolved d.unit false true)) note.delta → 1 ≤ d.unit.n → x.receives.unit ≢ d.unit) → IsNext z.sender n.manager (redone note n.manager) z.managers rs → Redone z note x y step rs
-near_by z n x y note step rs a may (Begins t partner session is turn says) right h = subst (λ (w : NearStep). Redone z note x y w rs) (sym is) (begins z n x y note t partner session rs a turn says h)
-near_by z n x y note step rs a may (Prepares t batch last is turn found says) right h = subst (λ (w : NearStep). Redone z note x y w rs) (sym is) (prepares z n x y note t batch last rs a turn found says h)
-near_by z n x y note step rs a may (Settles t d commit is turn so free says) right h = subst (λ (w : NearStep). Redone z note x y w rs) (sym is)
+near_by z n x y note way rs a may (Begins t partner session is turn says) right h = subst (λ (w : NearStep). Redone z note x y w rs) (sym is) (begins z n x y note t partner session rs a turn says h)
+near_by z n x y note way rs a may (Prepares t batch last is turn found says) right h = subst (λ (w : NearStep). Redone z note x y w rs) (sym is) (prepares z n x y note t batch last rs a turn found says h)
+near_by z n x y note way rs a may (Settles t d commit is turn so free says) right h = subst (λ (w : NearStep). Redone z note x y w rs) (sym is)
     (settles_ z n x y note t d commit rs a (subst (λ (w : NearStep). NearMay w x) is may) turn so free says h)
-near_by z n x y note step rs a may (Resolves settle d is free says told) right h =
+near_by z n x y note way rs a may (Resolves settle d is free says told) right h =
     let m : NearMay (NearStep.Resolve settle d) x = subst (λ (w : NearStep). NearMay w x) is may in
     subst (λ (w : NearStep). Redone z note x y w rs) (sym is) (resolves z n x y note settle d rs a m.0 m.1 free says told (right d) h)
-near_by z n x y note step rs a may (Numbers last is says) right h = subst (λ (w : NearStep). Redone z note x y w rs) (sym is) (numbers z n x y note last rs a says h)
+near_by z n x y note way rs a may (Numbers last is says) right h = subst (λ (w : NearStep). Redone z note x y w rs) (sym is) (numbers z n x y note last rs a says h)
 
 pub near_redone : (z : Scene) (n : Node) (x : Channel) (y : Past) (note : Noted) (k : SenderNote z.place.channel (left_as n.manager) note x) (rs : List Plain) → IsDown z n x y
     → ((d : InDoubt) → Mem (did.Hardened z.place.channel (notes.Resolved d.unit false true)) note.delta → 1 ≤ d.unit.n → x.receives.unit ≢ d.unit) → IsNext z.sender n.manager (redone note n.manager) z.managers rs → Redone z note x y k.step rs

@@ -1,5 +1,5 @@
 -- What is noted of an end stays noted, whatever the other end of its channel does.
-use Rattle.std.proofs.Common.{ℕ, ◌≡◌, List, refl, ap, sym, subst, ◌∙◌}
+use Rattle.std.proofs.Common.{ℕ, ◌≡◌, List, ap, subst, ◌∙◌}
 use Rattle.std.specs.Prelude.{Some, slice_get}
 use Rattle.mq_frame.specs.declared.frame.Frame.{Frame}
 use Rattle.mq_sync.specs.declared.data.ReceiverData.{ReceiverData}
@@ -17,7 +17,7 @@ use Rattle.mq_law_node.specs.Ends.{told_receives, told_sends}
 use Rattle.mq_law_node.specs.Moves.{NearStep}
 use Rattle.mq_law_node.specs.Nodes.{SameFar, SameNear}
 use Rattle.mq_law_node.proofs.Pairs.{far_may_same, far_step_same, near_may_same, near_step_same, same_far_is, same_near_is}
-use Rattle.mq_law_stopped.specs.Noted.{EndNote, IsTurn, ReceiverNote, SenderKind, SenderNote}
+use Rattle.mq_law_stopped.specs.Noted.{EndNote, ReceiverNote, SenderKind, SenderNote}
 use Rattle.mq_law_stopped.specs.Noted.SenderKind.{Begins, Numbers, Prepares, Resolves, Settles}
 use Rattle.mq_law_stopped.specs.Noted.EndNote.{Commits, Far, Near}
 
@@ -29,11 +29,11 @@ abbrev with_near : SenderData → Sender → List Letter → List Frame → Chan
 with_near a b k o x = record x { sends = a; sender = b; batch = k; out = o }
 
 kind_stays : (c : List ℕ) (b : Plain) (note : Noted) (step : NearStep) (a : ReceiverData) (r : Receiver) (k : List Letter) (o : List Frame) (x : Channel) → SenderKind c b note x step → SenderKind c b note (with_far a r k o x) step
-kind_stays c b note step a r k o x (Begins t partner session is turn says) = Begins t partner session is (record { done = turn.done; does = turn.does }) says
-kind_stays c b note step a r k o x (Prepares t batch last is turn found says) = Prepares t batch last is (record { done = turn.done; does = turn.does }) found says
-kind_stays c b note step a r k o x (Settles t d commit is turn so free says) = Settles t d commit is (record { done = turn.done; does = turn.does }) so free says
-kind_stays c b note step a r k o x (Resolves settle d is free says told) = Resolves settle d is free says told
-kind_stays c b note step a r k o x (Numbers last is says) = Numbers last is says
+kind_stays c b note way a r k o x (Begins t partner session is turn says) = Begins t partner session is (record { done = turn.done; does = turn.does }) says
+kind_stays c b note way a r k o x (Prepares t batch last is turn found says) = Prepares t batch last is (record { done = turn.done; does = turn.does }) found says
+kind_stays c b note way a r k o x (Settles t d commit is turn so free says) = Settles t d commit is (record { done = turn.done; does = turn.does }) so free says
+kind_stays c b note way a r k o x (Resolves settle d is free says told) = Resolves settle d is free says told
+kind_stays c b note way a r k o x (Numbers last is says) = Numbers last is says
 
 sender_stays : (c : List ℕ) (b : Plain) (note : Noted) (x d : Channel) → SameNear x d → ((f : Frame) → Mem f x.back → Mem f d.back) → SenderNote c b note x → SenderNote c b note d
 sender_stays c b note x d same among h = subst (λ (z : Channel). SenderNote c b note z) (same_near_is x d same) (record {

@@ -1,5 +1,5 @@
 -- What the stopped write of a channel's end leaves: a step of its channel, and the change of the network that a restart may still do.
-use Rattle.std.specs.Prelude.{ℕ, Bool, true, false, not, ◌&&◌, ◌≡◌, List, [], ◌∷◌, Option, Some, None, slice_get}
+use Rattle.std.specs.Prelude.{ℕ, Bool, true, false, not, ◌&&◌, ◌≡◌, ◌⊎◌, List, [], ◌∷◌, Option, Some, None, slice_get}
 use Rattle.mq_sync.specs.declared.unit.Unit.{Unit as Luw}
 use Rattle.mq_sync.specs.declared.unit.Settle.{Settle}
 use Rattle.mq_sync.specs.declared.unit.Settle.TheVariants as settles
@@ -21,10 +21,10 @@ use Rattle.mq_history.specs.declared.scenario.CableLine.{CableLine}
 use Rattle.mq_history.specs.declared.scenario.Scenario.{Scenario}
 use Rattle.mq_spec_state.specs.State.{LogState, Noted, Plain, Running}
 use Rattle.mq_spec_state.specs.State.Running.{Up}
-use Rattle.mq_spec_state.specs.Reads.{batch_of, receiver_data, sender_data}
+use Rattle.mq_spec_state.specs.Reads.{batch_of, in_doubt_of, receiver_data, sender_data}
 use Rattle.mq_spec_state.specs.Changes.{apply_all}
 use Rattle.mq_spec_state.specs.Images.{lasting}
-use Rattle.mq_spec_state.specs.Steps.{Part, do_part, volatile_gone}
+use Rattle.mq_spec_state.specs.Steps.{Part, do_part, freeze, volatile_gone}
 use Rattle.mq_calls.specs.declared.records.LogRecord.{LogRecord}
 use Rattle.mq_sc_parse.specs.declared.command.Command.TheVariants as lines
 use Rattle.mq_history.specs.declared.acts.Act.TheVariants as acts
@@ -40,7 +40,8 @@ use Rattle.mq_spec_network.specs.Story.{Mem}
 use Rattle.mq_spec_node.specs.Node.{Node, end_in}
 use Rattle.mq_spec_node.specs.Node.ChannelEnd.{Sends}
 use Rattle.mq_law_channel.specs.Channel.{Channel, Facts, Past}
-use Rattle.mq_law_channel.specs.Turns.{ReceiverTurn, SenderTurn, receiver_does, sender_does}
+use Rattle.mq_spec_node.specs.Deeds.{Deed}
+use Rattle.mq_law_channel.specs.Turns.{ReceiverTurn, SenderTurn, receiver_does, receiver_turn, sender_does}
 use Rattle.mq_law_manager.specs.Facts.{IsSound}
 use Rattle.mq_law_node.specs.Data.{receiver_by_all, sender_by_all, sends_at}
 use Rattle.mq_law_node.specs.Ends.{sender_of, told_receives, told_sends}
@@ -96,10 +97,15 @@ pub record ReceiverNote (c : List ℕ) (b : Plain) (note : Noted) (x : Channel) 
   pub says : note.changes ≡ (harden_part c word b).changes
   pub quiet : unit_received note.delta ≡ None
 
+-- no channel has both a batch and a unit in doubt
+abbrev pub IsOne_ : Plain → Type 0
+IsOne_ p = (d : List ℕ) (t : Batch) → batch_of d p.channels.batches ≡ Some t → in_doubt_of (sender_data d p) ≡ None
+
 -- A restart that finds it has a sound manager, and the ledger posts nothing.
 pub record IsLeft (m : ℕ) (st : ledgers.Stopped) (note : Noted) (b : Plain) : Type 0 where
   pub sound : (started : ℕ) (running : Running) (moment : ℕ) (log : LogState) → IsSound (restarted true started (Some note) (since b running moment log))
   pub posts : (p : Plain) (l : Ledger) → posted_again m st (redone_delta true (Some note) p) l ≡ l
+  pub one : IsOne_ (apply_all note.changes b)
 
 -- The noted write of an end of manager m, which is left as b, among these channels: of a sender's end, of a receiver's, or a receiver's
 -- commit.
@@ -159,3 +165,24 @@ abbrev pub IsOfEnd : Call → Type 0
 IsOfEnd calls.Turn = Unit {0}
 IsOfEnd (calls.Act (acts.Obey (lines.Operate op))) = Unit {0}
 IsOfEnd _ = ⊥
+
+-- what holds of the record that a deed's first part forces
+abbrev pub EachFirst : (Part → LogRecord → Type 0) → List Part → Type 0
+EachFirst P [] = Unit {0}
+EachFirst P (part ∷ parts) = (r : LogRecord) → part.forced ≡ Some r → P part r
+
+abbrev pub EachWrites : (Part → LogRecord → Type 0) → Option Deed → Type 0
+EachWrites P None = Unit {0}
+EachWrites P (Some d) = EachFirst P d.parts
+
+-- a sender's, with what is left where it is stopped
+abbrev pub SaysSender : (c : List ℕ) (left : ℕ) (b : Plain) (x : Channel) (step : NearStep) → Part → LogRecord → Type 0
+SaysSender c left b x step part r = SenderKind c (left_as (freeze (Some (noted_of part r)) left b)) (noted_of part r) x step × Stays_ b part × (all_calm part.delta ≡ true)
+
+-- a word of a receiver
+abbrev pub IsWordOf : (c : List ℕ) (b : Plain) → Part → Type 0
+IsWordOf c b part = (w : Note) × IsWord w × (part ≡ harden_part c w b)
+
+-- a receiver's turn: such a word, and nothing is committed; or a commit
+abbrev pub SaysReceiver : (c : List ℕ) (b : Plain) (x : Channel) (t : ReceiverTurn) → Part → LogRecord → Type 0
+SaysReceiver c b x t part r = (IsWordOf c b part × ((receiver_turn t x).receives.unit ≡ x.receives.unit) × ((u : Luw) → t.outcome ≡ done.Done → receiver_does t x ≡ takes.Place u → ⊥)) ⊎ ((v : List ℕ × Luw) × (unit_received part.delta ≡ Some v))

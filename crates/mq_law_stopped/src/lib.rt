@@ -2,8 +2,15 @@
 #![tactic(auto)]
 
 ghost use Rattle.std.specs.Option.{option_map};
-ghost use Rattle.std.specs.Prelude.{◌≡◌, ◌≢◌, ◌≤◌, ◌∷◌, ℕ, Bool, List, [], None, Some, false, slice_get, true};
+ghost use Rattle.std.specs.Str.{bytes_eq};
+ghost use Rattle.std.specs.Prelude.{◌≡◌, ◌≢◌, ◌≤◌, ◌∷◌, ℕ, Bool, List, [], None, Option, Some, false, slice_get, true};
 ghost use Rattle.mq_frame.specs.declared.frame.Frame.{Frame};
+ghost use Rattle.mq_frame.specs.declared.frame.Seen.{Seen};
+ghost use Rattle.mq_sender.specs.declared.turns.SenderDoes.{SenderDoes};
+ghost use Rattle.mq_sender.specs.Table.{sender_next};
+ghost use Rattle.mq_receiver.specs.declared.turns.ReceiverDoes.{ReceiverDoes};
+ghost use Rattle.mq_receiver.specs.Table.{receiver_next};
+ghost use Rattle.mq_sync.specs.declared.data.SenderData.{SenderData};
 ghost use Rattle.mq_sync.specs.declared.unit.Unit.{Unit as Luw};
 ghost use Rattle.mq_sync.specs.declared.data.InDoubt.{InDoubt};
 ghost use Rattle.mq_sync.specs.Settlement.{sender_or};
@@ -18,19 +25,24 @@ ghost use Rattle.mq_spec_state.specs.State.{Noted, Plain};
 ghost use Rattle.mq_spec_state.specs.Reads.{batch_of, in_doubt_of, sender_data};
 ghost use Rattle.mq_spec_state.specs.Steps.{Part, do_part, freeze};
 ghost use Rattle.mq_spec_manager.specs.Stops.{redone};
-ghost use Rattle.mq_spec_agents.specs.Words.{harden_part, prepared_changes, prepared_record, unit_of};
+ghost use Rattle.mq_spec_agents.specs.Words.{harden_part, prepared_changes, prepared_record, stock, unit_of};
 ghost use Rattle.mq_spec_network.specs.Ledger.{Stopped};
 ghost use Rattle.mq_spec_network.specs.Story.{Mem};
 ghost use Rattle.mq_spec_node.specs.Node.{Node};
-ghost use Rattle.mq_law_channel.specs.Channel.{Channel, Past};
+ghost use Rattle.mq_spec_node.specs.Receivers.{is_receiver_defined, receiver_deed_by};
+ghost use Rattle.mq_spec_node.specs.Senders.{sender_deed_by};
+ghost use Rattle.mq_law_channel.specs.Channel.{Channel, Facts, Past};
+ghost use Rattle.mq_law_channel.specs.Turns.{SeenIn};
 ghost use Rattle.mq_law_manager.specs.Facts.{IsSound};
 ghost use Rattle.mq_law_seen.specs.Seen.{world_of};
 ghost use Rattle.mq_law_events.specs.Tied.{IsNext};
 ghost use Rattle.mq_law_batches.specs.Releases.{IsWord};
-ghost use Rattle.mq_law_node.specs.Moves.{far_does};
+ghost use Rattle.mq_law_node.specs.Data.{sender_by_all};
+ghost use Rattle.mq_law_node.specs.Ends.{SendsAs, Where, receiver_of, sender_of, taking_turn, turn_of};
+ghost use Rattle.mq_law_node.specs.Moves.{NearStep, far_does};
 ghost use Rattle.mq_law_node.specs.Nodes.{SameFar, SameNear};
-ghost use Rattle.mq_law_turns.specs.Turns.{IsJoint, Scene, Taken, world_in};
-ghost use Rattle.mq_law_stopped.specs.Noted.{EndNote, IsDown, IsLeft, IsOfEnd, ReceiverNote, Redone, SenderNote, Stays_, all_calm, left_as, noted_of};
+ghost use Rattle.mq_law_turns.specs.Turns.{IsJoint, Scene, Taken, is_expiry, world_in};
+ghost use Rattle.mq_law_stopped.specs.Noted.{EachWrites, EndNote, IsDown, IsLeft, IsOfEnd, ReceiverNote, Redone, SaysReceiver, SaysSender, SenderKind, SenderNote, Stays_, all_calm, left_as, noted_of};
 
 /// A restart that finds the write of a sender's end does what the end would have done: the network keeps its facts, and the channel takes
 /// its step. Where an operator's RESOLVE backs a unit out, the unit is not its receiver's last.
@@ -62,4 +74,18 @@ pub fn found_writes_leave_sound_managers()
     ensures left { (m : ℕ) (st : Stopped) (p : Plain) (part : Part) (r : LogRecord) (left : ℕ) → IsOfEnd st.entry.call → all_calm part.delta ≡ true → IsSound (do_part part p) → Stays_ p part
         → IsLeft m st (noted_of part r) (left_as (freeze (Some (noted_of part r)) left p)) }
     ensures calm { (c : List ℕ) (w : Note) (p : Plain) → all_calm (harden_part c w p).delta ≡ true }
+{}
+
+/// Each turn of an end whose write is stopped notes such a write: a sender's, a word of a receiver, or a receiver's commit.
+pub fn turns_of_ends_note_what_they_write()
+    ensures senders { (w : Where) (left stamp : ℕ) (seen : Seen) (n : Node) (c : Channel) (y : Past) (d : SenderDoes) → SendsAs w n c → Facts c y → SeenIn seen c.back → sender_next c.sender seen (stock w.channel n.manager) ≡ d → is_expiry d ≡ false
+        → EachWrites (SaysSender w.channel left n.manager c (NearStep.Turn (turn_of w stamp seen c.sender n.manager))) (sender_deed_by stamp (sender_of w c.sender) d n) }
+    ensures receivers { (w : Where) (stamp : ℕ) (seen : Seen) (n : Node) (c : Channel) (d : ReceiverDoes) → receiver_next c.receiver seen (is_receiver_defined w.channel n.manager.definitions) ≡ d
+        → EachWrites (SaysReceiver w.channel n.manager c (taking_turn w stamp seen c.receiver c.kept n.manager)) (receiver_deed_by stamp (receiver_of w c.receiver c.kept) seen d n) }
+{}
+
+/// It spares what is hardened of other channels.
+pub fn noted_writes_spare_other_channels()
+    ensures senders { (c : List ℕ) (b : Plain) (note : Noted) (x : Channel) (way : NearStep) (other : List ℕ) (old : Option SenderData) → SenderKind c b note x way → bytes_eq other c ≡ false → sender_by_all other note.changes old ≡ old }
+    ensures words { (c : List ℕ) (w : Note) (p : Plain) (other : List ℕ) (old : Option SenderData) → IsWord w → bytes_eq other c ≡ false → sender_by_all other (harden_part c w p).changes old ≡ old }
 {}
