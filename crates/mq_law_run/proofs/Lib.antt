@@ -30,6 +30,7 @@ pub mod Popping
 pub mod Stamping
 pub mod Rising
 pub mod Cabling
+pub mod Cutting
 pub mod Acting
 pub mod Obeying
 pub mod Whole

@@ -168,14 +168,14 @@ below_not u (inr e) = less_not u.n e.1
     less_not n e = omega arith
 
 -- OTHER ENDS
-near_else : (v : Where) (stamp : ℕ) (e : ReceiverEnd) (seen : Seen) (n : Node) (d : Deed) → receiver_deed stamp e seen n ≡ Some d → (e.cable == v.cable) ≡ false → IsSound n.manager → IsSound (do_all d.parts n.manager) → AsideNear v n d
+pub near_else : (v : Where) (stamp : ℕ) (e : ReceiverEnd) (seen : Seen) (n : Node) (d : Deed) → receiver_deed stamp e seen n ≡ Some d → (e.cable == v.cable) ≡ false → IsSound n.manager → IsSound (do_all d.parts n.manager) → AsideNear v n d
 near_else v stamp e seen n d is cable before after =
     let does : ReceiverDoes = receiver_next e.machine seen (is_receiver_defined e.channel n.manager.definitions) in
     let a : EachAsideNear v n (Some d) = subst (EachAsideNear v n) is (receivers_aside v stamp e seen n cable) in
     let f : EachRests v n (Some d) = subst (EachRests v n) is (takes_rests v stamp e seen does n (receivers_others v.channel stamp e seen does n)) in
     a (stays v.channel n.manager d.parts before after f.1 f.0)
 
-far_else : (v : Where) (stamp : ℕ) (e : ReceiverEnd) (seen : Seen) (n : Node) (d : Deed) → receiver_deed stamp e seen n ≡ Some d → (e.cable == v.cable) ≡ false → bytes_eq v.channel e.channel ≡ false → AsideFar v n d
+pub far_else : (v : Where) (stamp : ℕ) (e : ReceiverEnd) (seen : Seen) (n : Node) (d : Deed) → receiver_deed stamp e seen n ≡ Some d → (e.cable == v.cable) ≡ false → bytes_eq v.channel e.channel ≡ false → AsideFar v n d
 far_else v stamp e seen n d is cable other = subst (EachAsideOf v n) is (receivers_far v stamp e seen n cable other)
 
 pub receiver_run : (s : Scenario) (hs : List History) (p : List Line) (x : Line) (z : Stand s hs p) (t : Told_ s hs p x) (e : ReceiverEnd) (d : Deed) → (node_after s x.manager p t.h).manager.running ≡ Up

@@ -1,11 +1,12 @@
 -- A found word of a receiver's end, as what it is of the network.
 use Rattle.std.proofs.Common.{ℕ, ◌≡◌, List, refl, sym, subst, ◌∙◌}
-use Rattle.std.specs.Prelude.{Some, slice_get}
+use Rattle.std.specs.Prelude.{Option, Some, slice_get}
 use Rattle.mq_sync.specs.declared.data.End.TheVariants as ends
 use Rattle.mq_calls.specs.declared.agents.Note.{Note}
 use Rattle.mq_calls.specs.declared.agents.Note.TheVariants as notes
 use Rattle.mq_spec_state.specs.State.{Change, Noted, Plain}
 use Rattle.mq_spec_state.specs.Changes.{apply_all}
+use Rattle.mq_spec_state.specs.Steps.{freeze}
 use Rattle.mq_spec_manager.specs.Stops.{redone}
 use Rattle.mq_spec_agents.specs.Words.{harden_part}
 use Rattle.mq_spec_network.specs.Ledger.{change_at}
@@ -29,6 +30,15 @@ word_same c (notes.Bound partner session last) p = refl
 word_same c (notes.Closed session) p = refl
 word_same c (notes.SeqSet ends.Sender last) p = refl
 word_same c (notes.SeqSet ends.Receiver last) p = refl
+
+-- and where a stopped write has left it
+pub word_frozen : (c : List ℕ) (w : Note) (note : Option Noted) (left : ℕ) (p : Plain) → (harden_part c w p).changes ≡ (harden_part c w (left_as (freeze note left p))).changes
+word_frozen c (notes.Session partner session) note left p = refl
+word_frozen c (notes.Resolved unit commit operator) note left p = refl
+word_frozen c (notes.Bound partner session last) note left p = refl
+word_frozen c (notes.Closed session) note left p = refl
+word_frozen c (notes.SeqSet ends.Sender last) note left p = refl
+word_frozen c (notes.SeqSet ends.Receiver last) note left p = refl
 
 pub far_redone : (z : Scene) (p : Plain) (x : Channel) (y : Past) (note : Noted) (k : ReceiverNote z.place.channel (left_as p) note x) (rs : List Plain) → slice_get z.managers z.receiver ≡ Some p
     → IsJoint (world_in z) z.ghost z.book z.sender z.receiver z.place.channel x y → IsNext z.receiver p (redone note p) z.managers rs → Taken z (world_of z.scenario z.given rs) z.book (far_does k.step x) y
