@@ -178,6 +178,15 @@ cut_moves s hs p x z t i k d by_ left part r scenario at_k v mine noted =
         (λ g. (takes_here s hs p x z t o h f g v.up, v.far o h f w g))) refl
 
 -- WHICH WRITE: the first part's, the only one that forces
+pub none_written : (j : ℕ) (ps : List Part) → unforced ps ≡ true → IsWrite j ps → ⊥
+none_written j [] u w = absurd w
+none_written zero (q ∷ ps) u w = true_false (sym w ∙ none_forced q.forced (and_both (is_none q.forced) (unforced ps) u).0)
+  where
+    none_forced : (o : Option LogRecord) → is_none o ≡ true → is_some o ≡ false
+    none_forced None e = refl
+    none_forced (Some r) e = absurd cc
+none_written (suc j) (q ∷ ps) u w = none_written j ps (and_both (is_none q.forced) (unforced ps) u).1 w
+
 record IsFirst (d : Deed) (n_ : ℕ) : Type 0 where
   first : Part
   rest : List Part
@@ -200,25 +209,24 @@ first_of d k single write = by_parts d.parts refl single write
         let r = none_some part.forced (subst (λ (j : ℕ). IsWrite j (part ∷ rest)) zero_ w) in
         record { first = part; rest = rest; written = r.0; parts = e; forced = r.1; is = zero_ }
       where
-        none : (j : ℕ) (ps : List Part) → unforced ps ≡ true → IsWrite j ps → ⊥
-        none j [] u w = absurd w
-        none zero (q ∷ ps) u w = true_false (sym w ∙ none_forced q.forced (and_both (is_none q.forced) (unforced ps) u).0)
-          where
-            none_forced : (o : Option LogRecord) → is_none o ≡ true → is_some o ≡ false
-            none_forced None e = refl
-            none_forced (Some r) e = absurd cc
-        none (suc j) (q ∷ ps) u w = none j ps (and_both (is_none q.forced) (unforced ps) u).1 w
-
         at_first : (q : Part) (ps : List Part) (j : ℕ) → unforced ps ≡ true → IsWrite j (q ∷ ps) → j ≡ zero
         at_first q ps zero u w = refl
-        at_first q ps (suc j) u w = absurd (none j ps u w)
+        at_first q ps (suc j) u w = absurd (none_written j ps u w)
 
--- A SENDER'S END, by its turn or by an operator's command on it
+-- what holds of each first part
+pub each_first : (P Q : Part → LogRecord → Type 0) (ps : List Part) → ((part : Part) (r : LogRecord) → P part r → Q part r) → EachFirst P ps → EachFirst Q ps
+each_first P Q [] f h = tt
+each_first P Q (part ∷ ps) f h = λ r e. f part r (h r e)
+
+-- A SENDER'S END, by its turn or by an operator's command on it: its own write, or one that is noted as a call's
+abbrev pub SaysNear : (m : ℕ) (e : Entry) (c : List ℕ) (left : ℕ) (b : Plain) (x : Channel) (step : NearStep) → Part → LogRecord → Type 0
+SaysNear m e c left b x step part r = SaysSender c left b x step part r ⊎ IsNoted m (stopped_entry e b) (noted_of part r) (cut_as part r left b)
+
 pub near_cut : (s : Scenario) (hs : List History) (p : List Line) (x : Line) (z : Stand s hs p) (t : Told_ s hs p x) (i : ℕ) (k : CableLine) (d : Deed) (by_ : Stop) (n_ left : ℕ) (step : NearStep) → IsScenario s → slice_get s.cables i ≡ Some k → k.sender ≡ x.manager
     → (node_after s x.manager p t.h).manager.running ≡ Up → done_by x.entry (node_after s x.manager p t.h) ≡ done d (Stopped by_ n_ left) (node_after s x.manager p t.h) → CanCome d (Stopped by_ n_ left) (node_after s x.manager p t.h) → IsOfEnd x.entry.call
     → IsSound (node_after s x.manager p t.h).manager → AllKeep IsSound d.parts (node_after s x.manager p t.h).manager → Single d.parts d.pushed → NearMay step (z.xs k.sender k.channel)
     → Sent (near_at s i k) (node_after s x.manager p t.h) d (z.xs k.sender k.channel).out (near_does step (z.xs k.sender k.channel))
-    → EachFirst (SaysSender k.channel left (node_after s x.manager p t.h).manager (z.xs k.sender k.channel) step) d.parts
+    → EachFirst (SaysNear x.manager x.entry k.channel left (node_after s x.manager p t.h).manager (z.xs k.sender k.channel) step) d.parts
     → ((j : ℕ) (h : CableLine) → slice_get s.cables j ≡ Some h → here k h ≡ false → h.sender ≡ x.manager → AsideNear (near_at s j h) (node_after s x.manager p t.h) d)
     → ((j : ℕ) (h : CableLine) → slice_get s.cables j ≡ Some h → here k h ≡ false → h.receiver ≡ x.manager → AsideFar (far_at s j h) (node_after s x.manager p t.h) d) → Moves s hs p x t.h z
 near_cut s hs p x z t i k d by_ n_ left step scenario at_k q up is can of_end before keeps single may sent says near far =
@@ -236,7 +244,7 @@ near_cut s hs p x z t i k d by_ n_ left step scenario at_k q up is can of_end be
     let can0 : CanCome d (Stopped by_ zero left) n = subst (λ (j : ℕ). CanCome d (Stopped by_ j left) n) f.is can in
     let single0 : Single (part ∷ f.rest) d.pushed = subst (λ (ps : List Part). Single ps d.pushed) f.parts single in
     let keeps0 : AllKeep IsSound (part ∷ f.rest) b = subst (λ (ps : List Part). AllKeep IsSound ps b) f.parts keeps in
-    let say = (subst (EachFirst (SaysSender k.channel left b c step)) f.parts says) r f.forced in
+    let say : SaysNear m x.entry k.channel left b c step part r = (subst (EachFirst (SaysNear m x.entry k.channel left b c step)) f.parts says) r f.forced in
     let data_all : told_sends (near_does step c).sends ≡ told_sends (sender_or (sender_in_parts k.channel d.parts (sender_data k.channel b))) = sent.sends.data_ ∙ ap (λ (o : Option SenderData). told_sends (sender_or o)) (sender_done_all k.channel d.parts b) in
     let cut : IsCut s hs p x z t k d by_ left part r = record { up = up; is = is0; can = can0; rest = f.rest; parts = f.parts; forced = f.forced; before = before; keeps = keeps; near = near; far = far } in
     cut_moves s hs p x z t i k d by_ left part r scenario at_k cut (record {
@@ -248,15 +256,18 @@ near_cut s hs p x z t i k d by_ n_ left step scenario at_k q up is can of_end be
       );
       far = λ a. absurd ((z.joint.tied k (mem_at s.cables i k at_k)).apart (a ∙ sym q));
       else = λ a o. refl;
-    }) (inr (Near i k at_k q (leaves m (stopped_entry x.entry b) b part r left of_end say.2 keeps0.0 say.1) (record {
-      step = step;
-      may = may;
-      data_ = data_all ∙ ap (λ (ps : List Part). told_sends (sender_or (sender_in_parts k.channel ps (sender_data k.channel b)))) f.parts
-          ∙ ap (λ (o : Option SenderData). told_sends (sender_or o)) (sender_parts_quiet k.channel f.rest (sender_by_all k.channel part.changes (sender_data k.channel b)) single0.1);
-      out = sym sent.offers ∙ ap (λ (o : Option Frame). offering o c.out) (single0.2 (ap (λ (o : Option LogRecord). is_some o) f.forced));
-      kind = say.0;
-      quiet = calm_quiet part.delta say.2;
-    })))
+    }) (elim say [
+      | inr v ↦ inl v
+      | inl v ↦ inr (Near i k at_k q (leaves m (stopped_entry x.entry b) b part r left of_end v.2 keeps0.0 v.1) (record {
+        step = step;
+        may = may;
+        data_ = data_all ∙ ap (λ (ps : List Part). told_sends (sender_or (sender_in_parts k.channel ps (sender_data k.channel b)))) f.parts
+            ∙ ap (λ (o : Option SenderData). told_sends (sender_or o)) (sender_parts_quiet k.channel f.rest (sender_by_all k.channel part.changes (sender_data k.channel b)) single0.1);
+        out = sym sent.offers ∙ ap (λ (o : Option Frame). offering o c.out) (single0.2 (ap (λ (o : Option LogRecord). is_some o) f.forced));
+        kind = v.0;
+        quiet = calm_quiet part.delta v.2;
+      }))
+    ])
 
 -- A RECEIVER'S END: a word, or a commit
 abbrev pub SaysFar : (c : List ℕ) (b : Plain) (x : Channel) (step : FarStep) → Part → LogRecord → Type 0

@@ -31,7 +31,9 @@ pub mod Stamping
 pub mod Rising
 pub mod Cabling
 pub mod Cutting
+pub mod Halting
 pub mod Acting
 pub mod Obeying
+pub mod Breaking
 pub mod Whole
 pub mod Beginning

@@ -1,5 +1,5 @@
 -- A network after a prefix of a story, with all its channels: what is kept along a run.
-use Rattle.std.specs.Prelude.{ℕ, Bool, ◌≡◌, ◌==◌, true, false, List, [], ◌∷◌, ◌++◌, Option, Some, slice_get}
+use Rattle.std.specs.Prelude.{ℕ, Bool, ◌≡◌, ◌==◌, true, false, List, [], ◌∷◌, ◌++◌, Option, Some, None, slice_get}
 use Rattle.mq_message.specs.declared.message.Ident.{Ident}
 use Rattle.mq_frame.specs.declared.frame.Frame.{Frame}
 use Rattle.mq_sync.specs.declared.unit.Unit.{Unit as Luw}
@@ -33,6 +33,7 @@ use Rattle.mq_spec_node.specs.Replays.{done_by}
 use Rattle.mq_spec_network.specs.Conflict.{deeds, is_committed}
 use Rattle.mq_spec_network.specs.Given.{name_at}
 use Rattle.mq_spec_network.specs.Ledger.{Ledger, ledger, ledger_rows}
+use Rattle.mq_spec_network.specs.Order.{unit_received}
 use Rattle.mq_spec_network.specs.Promised.{AreDistinct, all_standing}
 use Rattle.mq_spec_network.specs.Standing.{managers_at, node_after, opening_ledger, opening_managers, rows_told, standing}
 use Rattle.mq_spec_network.specs.Story.{Line, Mem}
@@ -148,21 +149,14 @@ back_done started noted n = quiet (replies.Acted acted.Done) (redone_delta true 
 abbrev pub failed_node : Option Noted → ℕ → LogState → Node → Node
 failed_node noted more g n = record { manager = record n.manager { running = Down noted more; log = g }; own = n.own }
 
--- an end of a channel acts, or an operator on one
-abbrev pub is_of_end : Actor → Call → Bool
-is_of_end actor (calls.Act (acts.Obey (lines.Operate op))) = true
-is_of_end (actors.Sender cable) calls.Turn = true
-is_of_end (actors.Receiver cable) calls.Turn = true
-is_of_end actor calls.Timeout = true
-is_of_end actor _ = false
-
+-- a call whose write is stopped
 abbrev pub is_stopped_call : Chance → Bool
 is_stopped_call (chances.Call (Stopped by part left)) = true
 is_stopped_call _ = false
 
--- no write of an end of a channel is stopped
-abbrev pub NoEndStopped : List Line → Type 0
-NoEndStopped p = (x : Line) → Mem x p → is_of_end x.entry.actor x.entry.call ≡ true → is_stopped_call x.entry.chance ≡ false
+-- no restart finds the stopped write of a receiver's commit
+abbrev pub NoCommitFound : List Line → Type 0
+NoCommitFound p = (x : Line) → Mem x p → x.entry.call ≡ calls.Act acts.Restart → unit_received x.entry.effect.delta ≡ None
 
 -- The rows of a prefix are as promised: the standing rows of each queue are the ledger's, list for list; each ident stands once, and is in at
 -- most one committed get. (`Holds` has beside that each receiver's commit kept the order.)

@@ -5,17 +5,14 @@ use Rattle.std.specs.Option.{option_map}
 use Rattle.mq_codes.specs.declared.reason.Reason.{Reason}
 use Rattle.mq_frame.specs.declared.frame.Seen.{Seen}
 use Rattle.mq_sync.specs.declared.unit.Unit.{Unit as Luw}
-use Rattle.mq_sync.specs.declared.unit.Settle.{Settle}
 use Rattle.mq_sync.specs.declared.unit.Settle.TheVariants as settles
-use Rattle.mq_sync.specs.declared.data.InDoubt.{InDoubt}
-use Rattle.mq_sync.specs.Settlement.{sender_or}
 use Rattle.mq_sender.specs.declared.state.Kept.{Kept}
 use Rattle.mq_sender.specs.declared.state.SenderState.{SenderState}
 use Rattle.mq_sender.specs.declared.turns.SenderDoes.{SenderDoes}
 use Rattle.mq_sender.specs.declared.turns.SenderDoes.TheVariants as does
 use Rattle.mq_sender.specs.declared.turns.SenderOut.TheVariants as outs
 use Rattle.mq_sender.specs.States.{is_running}
-use Rattle.mq_sender.specs.After.{number_sent}
+use Rattle.mq_sender.specs.After.{number_sent, sender_after}
 use Rattle.mq_sender.specs.Table.{sender_next}
 use Rattle.mq_receiver.specs.declared.turns.ReceiverDoes.{ReceiverDoes}
 use Rattle.mq_receiver.specs.declared.turns.ReceiverDoes.TheVariants as takes
@@ -30,16 +27,16 @@ use Rattle.mq_calls.specs.declared.state.Batch.{Batch}
 use Rattle.mq_spec_state.specs.State.{Plain}
 use Rattle.mq_spec_state.specs.Reads.{batch_of, in_doubt_of, is_full, sender_data}
 use Rattle.mq_spec_state.specs.Sizes.{need}
-use Rattle.mq_spec_state.specs.Steps.{Part, freeze}
+use Rattle.mq_spec_state.specs.Steps.{Part}
 use Rattle.mq_spec_agents.specs.Words.{Landed, harden_part, landed, leave, prepare_of, prepared_record, receive_landed, received_record, release_of, stock, unit_of}
 use Rattle.mq_spec_network.specs.Order.{unit_received}
 use Rattle.mq_spec_node.specs.Node.{Node}
-use Rattle.mq_spec_node.specs.Deeds.{Deed, parts_of}
-use Rattle.mq_spec_node.specs.Receivers.{is_receiver_defined, place_deed, receiver_deed, receiver_deed_by}
-use Rattle.mq_spec_node.specs.Senders.{doubted, leave_if_stopped, prepare_deed, sender_deed, sender_deed_by}
+use Rattle.mq_spec_node.specs.Deeds.{parts_of}
+use Rattle.mq_spec_node.specs.Receivers.{is_receiver_defined, place_deed, receiver_deed_by}
+use Rattle.mq_spec_node.specs.Senders.{doubted, leave_if_stopped, prepare_deed, sender_deed_by}
 use Rattle.mq_law_channel.specs.Channel.{Channel, Facts, Past}
 use Rattle.mq_law_channel.specs.Following.{Said}
-use Rattle.mq_law_channel.specs.Turns.{ReceiverTurn, SeenIn, SenderTurn, receiver_does, receiver_turn, receiver_turned}
+use Rattle.mq_law_channel.specs.Turns.{ReceiverTurn, SeenIn, SenderTurn, receiver_does, receiver_turned}
 use Rattle.mq_law_channel.proofs.Following.{said}
 use Rattle.mq_law_channel.proofs.Told.{doubt_is}
 use Rattle.mq_law_rows.proofs.Lists.{bool_case}
@@ -49,10 +46,9 @@ use Rattle.mq_law_node.specs.Moves.{NearStep}
 use Rattle.mq_law_node.proofs.Operators.{doubt_there}
 use Rattle.mq_law_node.proofs.ReceiverTurns.{placed_by}
 use Rattle.mq_law_node.proofs.SenderTable.{may_turn, prepared_by}
-use Rattle.mq_law_node.proofs.SenderTurns.{guarded}
 use Rattle.mq_law_turns.specs.Turns.{is_expiry}
 use Rattle.mq_law_turns.proofs.Sending.{Settling, settles_so}
-use Rattle.mq_law_stopped.specs.Noted.{EachFirst, EachWrites, IsSettling, IsTurn, IsWordOf, SaysReceiver, SaysSender, left_as, noted_of}
+use Rattle.mq_law_stopped.specs.Noted.{EachFirst, EachWrites, IsSettling, SaysReceiver, SaysSender}
 use Rattle.mq_law_stopped.specs.Noted.SenderKind.{Begins, Prepares, Settles}
 use Rattle.mq_law_stopped.proofs.Leaving.{hardened_calm, prepared_lasts, settled_lasts, word_lasts}
 use Rattle.mq_law_stopped.proofs.Redoing.{IsWord_, word_of}
@@ -64,6 +60,10 @@ leaving_first P c st p = bool_case (is_running st) (λ t. EachFirst P (if t then
 pub release_first : (P : Part → LogRecord → Type 0) (c : List ℕ) (o : Option Batch) (p : Plain) → EachFirst P (parts_of (release_of c o) ++ parts_of (leave c p))
 release_first P c None p = λ r f. absurd cc
 release_first P c (Some b) p = λ r f. absurd cc
+
+-- what is left beside, where the sender stops
+after_first : (P : Part → LogRecord → Type 0) (w : Where) (c : Channel) (d : SenderDoes) (n : Node) → EachFirst P (leave_if_stopped w.channel (sender_after c.sender d outs.Done).state n.manager)
+after_first P w c d n = leaving_first P w.channel (sender_after c.sender d outs.Done).state n.manager
 
 -- A SENDER'S TURN
 abbrev Says : Where → ℕ → ℕ → Seen → Node → Channel → Part → LogRecord → Type 0
@@ -89,7 +89,7 @@ settled_says w left stamp seen n c y d commit r sends facts offered e out so =
 
 prepare_says : (w : Where) (left stamp : ℕ) (seen : Seen) (n : Node) (c : Channel) (o : Option Batch) → sender_next c.sender seen (stock w.channel n.manager) ≡ does.Prepare → batch_of w.channel n.manager.channels.batches ≡ o
     → EachWrites (Says w left stamp seen n c) (Some (prepare_deed (sender_of w c.sender) (prepare_of w.channel (number_sent c.sender.state c.sender.kept.last) o n.manager) n))
-prepare_says w left stamp seen n c None e found = leaving_first (Says w left stamp seen n c) w.channel _ n.manager
+prepare_says w left stamp seen n c None e found = after_first (Says w left stamp seen n c) w c does.Prepare n
 prepare_says w left stamp seen n c (Some b) e found =
     let last : ℕ = number_sent c.sender.state c.sender.kept.last in
     bool_case (is_full (need (prepared_record w.channel last b)) n.manager)
@@ -113,13 +113,13 @@ sender_says w left stamp seen n c y (does.HardenSession session) sends facts off
   word_lasts w.channel (notes.Session w.partner session) n.manager tt,
   refl,
 )
-sender_says w left stamp seen n c y does.PushBind sends facts offered e plain = leaving_first (Says w left stamp seen n c) w.channel _ n.manager
+sender_says w left stamp seen n c y does.PushBind sends facts offered e plain = after_first (Says w left stamp seen n c) w c does.PushBind n
 sender_says w left stamp seen n c y does.Expire sends facts offered e plain = absurd cc
 sender_says w left stamp seen n c y (does.Begin k count) sends facts offered e plain = λ r f. absurd cc
-sender_says w left stamp seen n c y (does.PushMsg index) sends facts offered e plain = leaving_first (Says w left stamp seen n c) w.channel _ n.manager
+sender_says w left stamp seen n c y (does.PushMsg index) sends facts offered e plain = after_first (Says w left stamp seen n c) w c (does.PushMsg index) n
 sender_says w left stamp seen n c y does.Prepare sends facts offered e plain = prepare_says w left stamp seen n c (batch_of w.channel n.manager.channels.batches) e refl
-sender_says w left stamp seen n c y does.PushEnd sends facts offered e plain = leaving_first (Says w left stamp seen n c) w.channel _ n.manager
-sender_says w left stamp seen n c y (does.Bound None partner) sends facts offered e plain = leaving_first (Says w left stamp seen n c) w.channel _ n.manager
+sender_says w left stamp seen n c y does.PushEnd sends facts offered e plain = after_first (Says w left stamp seen n c) w c does.PushEnd n
+sender_says w left stamp seen n c y (does.Bound None partner) sends facts offered e plain = after_first (Says w left stamp seen n c) w c (does.Bound None partner) n
 sender_says w left stamp seen n c y (does.Bound (Some settles.Commit) partner) sends facts offered e plain = λ r f. settled_says w left stamp seen n c y (does.Bound (Some settles.Commit) partner) true r sends facts offered e refl refl
 sender_says w left stamp seen n c y (does.Bound (Some settles.Backout) partner) sends facts offered e plain = λ r f. settled_says w left stamp seen n c y (does.Bound (Some settles.Backout) partner) false r sends facts offered e refl refl
 sender_says w left stamp seen n c y does.Commit sends facts offered e plain = λ r f. settled_says w left stamp seen n c y does.Commit true r sends facts offered e refl refl

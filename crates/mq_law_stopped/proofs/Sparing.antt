@@ -1,13 +1,12 @@
 -- A noted write of one channel's end spares what is hardened of all other channels.
-use Rattle.std.proofs.Common.{ℕ, ◌≡◌, Bool, true, false, List, [], ◌∷◌, refl, ap, sym, subst, ◌∙◌}
-use Rattle.std.specs.Prelude.{Option, Some, if◌then◌else◌}
+use Rattle.std.proofs.Common.{ℕ, ◌≡◌, Bool, true, false, List, refl, ap, sym, subst}
+use Rattle.std.specs.Prelude.{Option, if◌then◌else◌}
 use Rattle.std.specs.Str.{bytes_eq}
-use Rattle.mq_sync.specs.declared.unit.Settle.{Settle}
-use Rattle.mq_sync.specs.declared.unit.Settle.TheVariants as settles
 use Rattle.mq_sync.specs.declared.data.End.TheVariants as ends
 use Rattle.mq_sync.specs.declared.data.ReceiverData.{ReceiverData}
 use Rattle.mq_sync.specs.declared.data.SenderData.{SenderData}
-use Rattle.mq_sync.specs.Settlement.{is_commit}
+use Rattle.mq_sync.specs.Settlement.{is_commit, sender_or}
+use Rattle.mq_spec_state.specs.Reads.{sender_data}
 use Rattle.mq_calls.specs.declared.agents.Note.{Note}
 use Rattle.mq_calls.specs.declared.agents.Note.TheVariants as notes
 use Rattle.mq_spec_state.specs.State.{Change, Noted, Plain}
@@ -43,15 +42,15 @@ settled_receiver false c other d old = refl
 pub sender_spares : (c : List ℕ) (b : Plain) (note : Noted) (x : Channel) (way : NearStep) (other : List ℕ) (old : Option SenderData) → SenderKind c b note x way → bytes_eq other c ≡ false → SparesSender other old note.changes
 sender_spares c b note x way other old (Begins t partner session is turn says) e = subst (SparesSender other old) (sym says) (one_set (bytes_eq other c) _ old e)
 sender_spares c b note x way other old (Prepares t batch last is turn found says) e = subst (SparesSender other old) (sym says) (one_set (bytes_eq other c) _ old e)
-sender_spares c b note x way other old (Settles t d commit is turn so free says) e = subst (SparesSender other old) (sym says) (settled_sender commit c other _ old e)
-sender_spares c b note x way other old (Resolves settle d is free says told) e = subst (SparesSender other old) (sym says) (settled_sender (is_commit settle) c other _ old e)
+sender_spares c b note x way other old (Settles t d commit is turn so free says) e = subst (SparesSender other old) (sym says) (settled_sender commit c other (sender_or (sender_data c b)) old e)
+sender_spares c b note x way other old (Resolves settle d is free says told) e = subst (SparesSender other old) (sym says) (settled_sender (is_commit settle) c other (sender_or (sender_data c b)) old e)
 sender_spares c b note x way other old (Numbers last is says) e = subst (SparesSender other old) (sym says) (one_set (bytes_eq other c) _ old e)
 
 pub sender_leaves : (c : List ℕ) (b : Plain) (note : Noted) (x : Channel) (way : NearStep) (other : List ℕ) (old : Option ReceiverData) → SenderKind c b note x way → SparesReceiver other old note.changes
 sender_leaves c b note x way other old (Begins t partner session is turn says) = subst (SparesReceiver other old) (sym says) refl
 sender_leaves c b note x way other old (Prepares t batch last is turn found says) = subst (SparesReceiver other old) (sym says) refl
-sender_leaves c b note x way other old (Settles t d commit is turn so free says) = subst (SparesReceiver other old) (sym says) (settled_receiver commit c other _ old)
-sender_leaves c b note x way other old (Resolves settle d is free says told) = subst (SparesReceiver other old) (sym says) (settled_receiver (is_commit settle) c other _ old)
+sender_leaves c b note x way other old (Settles t d commit is turn so free says) = subst (SparesReceiver other old) (sym says) (settled_receiver commit c other (sender_or (sender_data c b)) old)
+sender_leaves c b note x way other old (Resolves settle d is free says told) = subst (SparesReceiver other old) (sym says) (settled_receiver (is_commit settle) c other (sender_or (sender_data c b)) old)
 sender_leaves c b note x way other old (Numbers last is says) = subst (SparesReceiver other old) (sym says) refl
 
 pub word_spares : (c : List ℕ) (w : Note) (p : Plain) (other : List ℕ) (old : Option SenderData) → IsWord w → bytes_eq other c ≡ false → SparesSender other old (harden_part c w p).changes
