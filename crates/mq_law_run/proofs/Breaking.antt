@@ -42,7 +42,7 @@ use Rattle.mq_history.specs.Scenarios.{IsScenario}
 use Rattle.mq_spec_state.specs.State.{Batch, Plain, Running, Seizure}
 use Rattle.mq_spec_state.specs.State.Change.{Seize}
 use Rattle.mq_spec_state.specs.State.Running.{Down, Up}
-use Rattle.mq_spec_state.specs.Reads.{has_held_by_other, in_doubt_of, is_open_for_input, is_up, receiver_data, sender_data}
+use Rattle.mq_spec_state.specs.Reads.{batch_of, has_held_by_other, in_doubt_of, is_open_for_input, is_up, receiver_data, sender_data}
 use Rattle.mq_spec_state.specs.Steps.{IsWrite, Part, refusal, refused_or as step_or, silent, when}
 use Rattle.mq_spec_state.specs.Steps.Step.{Do}
 use Rattle.mq_spec_manager.specs.Handles.{is_transmission_queue}
@@ -366,7 +366,7 @@ obey_breaks s hs p x z t op by_ n_ left scenario call chance = by_running (node_
         by_op (ops.Start name) so = nothing (start_end (end_here name (node_after s x.manager p t.h)) (node_after s x.manager p t.h)) (up_is up (ops.Start name) so) (start_unforced (end_here name (node_after s x.manager p t.h)) (node_after s x.manager p t.h))
         by_op (ops.Stop name) so = here_case name (channel_of name (node_after s x.manager p t.h).manager.definitions) ends (λ v. end_here name (node_after s x.manager p t.h) ≡ v → Moves s hs p x t.h z)
             (λ e. nothing (stop_end None (node_after s x.manager p t.h)) (up_is up (ops.Stop name) so ∙ ap (λ (v : Option ChannelEnd). stop_end v (node_after s x.manager p t.h)) e) refl)
-            (λ y w e. nothing (stop_end (Some (Sends y)) (node_after s x.manager p t.h)) (up_is up (ops.Stop name) so ∙ ap (λ (v : Option ChannelEnd). stop_end v (node_after s x.manager p t.h)) e) (release_unforced y.channel _ (node_after s x.manager p t.h).manager))
+            (λ y w e. nothing (stop_end (Some (Sends y)) (node_after s x.manager p t.h)) (up_is up (ops.Stop name) so ∙ ap (λ (v : Option ChannelEnd). stop_end v (node_after s x.manager p t.h)) e) (release_unforced y.channel (batch_of y.channel (node_after s x.manager p t.h).manager.channels.batches) (node_after s x.manager p t.h).manager))
             (λ y w e. of_receiver s hs p x z t y scenario up (receiver_mem name ends y w) (λ i k f q g.
             far (stop_end (Some (Receives (receiver_of (far_at s i k) (z.xs k.sender k.channel).receiver (z.xs k.sender k.channel).kept))) (node_after s x.manager p t.h)) i k f q
             (up_is up (ops.Stop name) so ∙ ap (λ (v : Option ChannelEnd). stop_end v (node_after s x.manager p t.h)) (e ∙ ap (λ (v : ReceiverEnd). Some (Receives v)) g))

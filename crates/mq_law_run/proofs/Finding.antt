@@ -337,7 +337,7 @@ far_returns s hs p x z t noted starts started st i k scenario at_k q left note c
           record { receives = refl; receiver = refl; kept = refl; back = refl },
           (λ fr n. n),
           v1.data_ ∙ ap (λ (e : Option SenderData). told_sends (sender_or e)) (sym (redone_data h.channel noted b
-          ∙ ap (λ (cs : List Change). sender_by_all h.channel cs (sender_data h.channel b)) note.says ∙ word_spares k.channel note.word (as_left b) h.channel (sender_data h.channel b) note.is other)),
+              ∙ ap (λ (cs : List Change). sender_by_all h.channel cs (sender_data h.channel b)) note.says ∙ word_spares k.channel note.word (as_left b) h.channel (sender_data h.channel b) note.is other)),
         )) refl
 
     far_part : (j : ℕ) (h : CableLine) → slice_get s.cables j ≡ Some h → h.receiver ≡ x.manager
@@ -359,7 +359,7 @@ far_returns s hs p x z t noted starts started st i k scenario at_k q left note c
           record { sends = refl; sender = refl; batch = refl; out = refl },
           (λ fr n. n),
           v1.data_ ∙ ap (λ (e : Option ReceiverData). told_receives (receiver_or e)) (sym (far_redone_data h.channel noted b
-          ∙ ap (λ (cs : List Change). receiver_by_all h.channel cs (receiver_data h.channel b)) note.says ∙ word_leaves k.channel note.word (as_left b) h.channel (receiver_data h.channel b) note.is other)),
+              ∙ ap (λ (cs : List Change). receiver_by_all h.channel cs (receiver_data h.channel b)) note.says ∙ word_leaves k.channel note.word (as_left b) h.channel (receiver_data h.channel b) note.is other)),
         )) refl
 
 -- EACH

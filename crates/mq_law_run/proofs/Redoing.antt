@@ -81,6 +81,7 @@ use Rattle.mq_law_turns.proofs.Agreeing.{released_tells}
 use Rattle.mq_law_run.specs.Run.{Among, Housed, IsMoved, Moves, Stand, back_done, far_at, near_at}
 use Rattle.mq_law_run.proofs.Stopping.{at_rest_far, eqb_no, receives_so, receives_on}
 use Rattle.mq_calls.specs.declared.deltas.Did.TheVariants as did
+
 -- WHAT THE WRITE DOES: the network as the manager would have it, its channels and what is told, from what was kept before
 abbrev pub base_of : (s : Scenario) (p : List Line) (x : Line) → History → Plain
 base_of s p x h = (node_after s x.manager p h).manager
