@@ -101,7 +101,7 @@ retied w g b ks xs ys k c y e f j = record {
 }
 
 -- what it does
-expires_so : (d : SenderDoes) → is_expiry d ≡ true → d ≡ does.Expire
+pub expires_so : (d : SenderDoes) → is_expiry d ≡ true → d ≡ does.Expire
 expires_so does.Expire e = refl
 expires_so d e = absurd cc
 

@@ -106,8 +106,8 @@ settled_of_end false c d = (refl, refl)
 sender_of_end : (c : List ℕ) (b : Plain) (note : Noted) (x : Channel) (way : NearStep) → SenderKind c b note x way → AreOfEnd note.changes
 sender_of_end c b note x way (Begins t partner session is turn says) = subst AreOfEnd (sym says) (refl, refl)
 sender_of_end c b note x way (Prepares t batch last is turn found says) = subst AreOfEnd (sym says) (refl, refl)
-sender_of_end c b note x way (Settles t d commit is turn so free says) = subst AreOfEnd (sym says) (settled_of_end commit c _)
-sender_of_end c b note x way (Resolves settle d is free says told) = subst AreOfEnd (sym says) (settled_of_end (is_commit settle) c _)
+sender_of_end c b note x way (Settles t d commit is turn so free says) = subst AreOfEnd (sym says) (settled_of_end commit c (sender_or (sender_data c b)))
+sender_of_end c b note x way (Resolves settle d is free says told) = subst AreOfEnd (sym says) (settled_of_end (is_commit settle) c (sender_or (sender_data c b)))
 sender_of_end c b note x way (Numbers last is says) = subst AreOfEnd (sym says) (refl, refl)
 
 word_of_end : (c : List ℕ) (w : Note) (p : Plain) → IsWord w → AreOfEnd (harden_part c w p).changes
@@ -180,7 +180,7 @@ near_returns s hs wide p es x z t noted starts started st i k scenario peace spl
       free = unprepared_still s z.given mid r.turned.ghost (book_of l) s.cables xs ys m g n1.to (one_redone noted b left.one) (all_cabled s.cables m noted.changes (record b { log = stands_in noted.written b.log }) of_end.1 (same_batches s.cables m b (record b { log = stands_in noted.written b.log }) refl (z.cabled m t.h t.is))) facts joint;
       near = λ j h f o. near_part j h f o;
       far = λ j h f o. far_part j h f o;
-      else = λ h o f e. bool_case (here k h) (λ v. here k h ≡ v → (if v then c1 else z.xs h.sender h.channel) ≡ z.xs h.sender h.channel)
+      aside = λ h o f e. bool_case (here k h) (λ v. here k h ≡ v → (if v then c1 else z.xs h.sender h.channel) ≡ z.xs h.sender h.channel)
           (λ d v. absurd (true_false (sym (ap (λ b_. b_ == m) (sym (here_yes k.sender k.channel h.sender h.channel v).0 ∙ q) ∙ eqb_self m) ∙ f))) (λ d v. refl) refl;
       known = λ j f. refl;
       others = λ d o f h. h;
@@ -237,7 +237,7 @@ near_returns s hs wide p es x z t noted starts started st i k scenario peace spl
         let b : Plain = (node_after s x.manager p t.h).manager in
         let c : Channel = z.xs k.sender k.channel in
         bool_case (here k h) (λ v. here k h ≡ v → FarPart (z.xs h.sender h.channel) (if v then near_does note.step c else z.xs h.sender h.channel) h.channel (redone noted b))
-        (λ d v. absurd ((z.joint.tied h (mem_at s.cables j h f)).apart (o ∙ sym (sym (here_yes k.sender k.channel h.sender h.channel v).0 ∙ q))))
+        (λ d v. absurd ((z.joint.tied h (mem_at s.cables j h f)).apart (o ∙ sym ((here_yes k.sender k.channel h.sender h.channel v).0 ∙ q))))
         (λ d v.
         let v1 : TakesDown (far_at s j h) (node_after s x.manager p t.h) (Some noted) (z.xs h.sender h.channel) = subst (FarAt (far_at s j h) (node_after s x.manager p t.h) (z.xs h.sender h.channel)) down (far_here s hs p x z t j h f o) in (
           record { sends = refl; sender = refl; batch = refl; out = refl },
@@ -260,7 +260,7 @@ unit_tells s ps ds m c x k y e h = record { undone = h.undone; last = subst (λ 
 same_here : (s : Scenario) (i : ℕ) (k h : CableLine) → IsScenario s → slice_get s.cables i ≡ Some k → Mem h s.cables → here k h ≡ true → h ≡ k
 same_here s i k h scenario e o v =
     let j = index_of s.cables h o in
-    same_cable s j.0 i h k j.1 e (same_index s j.0 i h k scenario j.1 e (sym (here_yes k.sender k.channel h.sender h.channel v).1))
+    same_cable s j.0 i h k j.1 e (same_index s j.0 i h k scenario j.1 e (here_yes k.sender k.channel h.sender h.channel v).1)
 
 far_returns : (s : Scenario) (hs : List History) (p : List Line) (x : Line) (z : Stand s hs p) (t : Told_ s hs p x) (noted : Noted) (starts started : ℕ) (st : ledgers.Stopped) (i : ℕ) (k : CableLine) → IsScenario s
     → slice_get s.cables i ≡ Some k → k.receiver ≡ x.manager → IsLeft x.manager st noted (as_left (node_after s x.manager p t.h).manager) → ReceiverNote k.channel (as_left (node_after s x.manager p t.h).manager) noted (z.xs k.sender k.channel)
@@ -308,7 +308,7 @@ far_returns s hs p x z t noted starts started st i k scenario at_k q left note c
       free = unprepared_still s z.given mid r.ghost (book_of l) s.cables xs ys m g n1.to (one_redone noted b left.one) (all_cabled s.cables m noted.changes (record b { log = stands_in noted.written b.log }) of_end.1 (same_batches s.cables m b (record b { log = stands_in noted.written b.log }) refl (z.cabled m t.h t.is))) facts joint;
       near = λ j h f o. near_part j h f o;
       far = λ j h f o. far_part j h f o;
-      else = λ h o f e. bool_case (here k h) (λ v. here k h ≡ v → (if v then c1 else z.xs h.sender h.channel) ≡ z.xs h.sender h.channel)
+      aside = λ h o f e. bool_case (here k h) (λ v. here k h ≡ v → (if v then c1 else z.xs h.sender h.channel) ≡ z.xs h.sender h.channel)
           (λ d v. absurd (true_false (sym (ap (λ b_. b_ == m) (ap (λ (v_ : CableLine). v_.receiver) (same_here s i k h scenario at_k o v) ∙ q) ∙ eqb_self m) ∙ e))) (λ d v. refl) refl;
       known = λ j f. refl;
       others = λ d o f h. h;

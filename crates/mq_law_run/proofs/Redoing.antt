@@ -35,6 +35,7 @@ use Rattle.mq_law_turns.specs.Agreed.{IsToldOf}
 use Rattle.mq_law_cables.proofs.Keeping.{rests}
 use Rattle.mq_law_one.specs.Alone.{IsState}
 use Rattle.mq_law_one.proofs.Running.{Told_}
+use Rattle.mq_law_events.proofs.Telling.{else_changed, here_changed}
 use Rattle.mq_law_run.proofs.Owning.{housed_else, next_managers, others_told}
 use Rattle.mq_law_run.proofs.Running.{far_here, move_to, near_here}
 use Rattle.mq_law_events.proofs.Locals.{stays_leads}
@@ -107,7 +108,7 @@ pub record IsRedone (s : Scenario) (hs : List History) (p : List Line) (x : Line
   pub free : AreUnprepared s (mid_of s hs p x g) g
   pub near : (i : ℕ) (c : CableLine) → slice_get s.cables i ≡ Some c → c.sender ≡ x.manager → NearPart (z.xs c.sender c.channel) (xs c.sender c.channel) c.channel g
   pub far : (i : ℕ) (c : CableLine) → slice_get s.cables i ≡ Some c → c.receiver ≡ x.manager → FarPart (z.xs c.sender c.channel) (xs c.sender c.channel) c.channel g
-  pub else : (c : CableLine) → Mem c s.cables → (c.sender == x.manager) ≡ false → (c.receiver == x.manager) ≡ false → xs c.sender c.channel ≡ z.xs c.sender c.channel
+  pub aside : (c : CableLine) → Mem c s.cables → (c.sender == x.manager) ≡ false → (c.receiver == x.manager) ≡ false → xs c.sender c.channel ≡ z.xs c.sender c.channel
   pub known : (i : Ident) → (i.manager == (base_of s p x h).given.number) ≡ false → given i ≡ z.given i
   pub others : (a : ℕ) (r : Plain) → (a == x.manager) ≡ false → IsTold a r (ledger (opening_ledger s hs) p) → IsTold a r k
   pub users : (a : ℕ) → (a == x.manager) ≡ false → slice_get k.users a ≡ slice_get (ledger (opening_ledger s hs) p).users a
@@ -237,7 +238,7 @@ end_returns s hs p x z t noted starts started st given ghost xs ys k1 scenario d
                   record { sends = d0.0.sends; sender = d0.0.sender; batch = d0.0.batch; out = d0.0.out },
                   d0.1,
                 );
-            else = λ w y. ap (λ o. at_rest_far receiver_rests (k.receiver == m) (near_back o c.sender d)) w ∙ ap (λ o. at_rest_far receiver_rests o d) y ∙ r1.else k there w y;
+            else = λ w y. ap (λ o. at_rest_far receiver_rests (k.receiver == m) (near_back o c.sender d)) w ∙ ap (λ o. at_rest_far receiver_rests o d) y ∙ r1.aside k there w y;
           });
       out = λ i k f g w actor push. absurd (no_frame f (sym pushed ∙ push));
       back = λ i k f g w actor push. absurd (no_frame f (sym pushed ∙ push));

@@ -1,0 +1,4 @@
+pub mod Changing
+pub mod Plain
+pub mod Calling
+pub mod Seizing
