@@ -1,6 +1,6 @@
 -- The stopped write of a command on an end, as a move of the network.
 use Rattle.std.proofs.Common.{ℕ, ◌≡◌, ◌⊎◌, ◌-◌, Bool, true, false, List, [], ◌∷◌, ◌++◌, refl, ap, sym, subst, ◌∙◌, inl, inr}
-use Rattle.std.specs.Prelude.{Option, Some, None, ◌==◌, ◌&&◌, ◌||◌, if◌then◌else◌, map, not, slice_get}
+use Rattle.std.specs.Prelude.{Option, Some, None, ◌==◌, ◌&&◌, ◌||◌, if◌then◌else◌, map, not}
 use Rattle.std.specs.Option.{option_map}
 use Rattle.std.specs.Str.{bytes_eq}
 use Rattle.mq_disk.specs.declared.cutter.Stop.{Stop}
@@ -16,15 +16,12 @@ use Rattle.mq_sync.specs.Settlement.{is_commit, receiver_or}
 use Rattle.mq_sender.specs.declared.state.Kept.{Kept}
 use Rattle.mq_sender.specs.States as senders
 use Rattle.mq_receiver.specs.States as receivers
-use Rattle.mq_receiver.specs.declared.turns.ReceiverDoes.TheVariants as takes
-use Rattle.mq_receiver.specs.declared.turns.ReceiverOut.TheVariants as outs
 use Rattle.mq_calls.specs.declared.agents.Note.TheVariants as notes
 use Rattle.mq_calls.specs.declared.agents.SeizeFault.{SeizeFault}
 use Rattle.mq_calls.specs.declared.agents.SeizeFault.TheVariants as seize_faults
 use Rattle.mq_calls.specs.declared.choices.Choice.TheVariants.{NoMemory, Runs, Stopped}
 use Rattle.mq_calls.specs.declared.deltas.Did.{Did}
 use Rattle.mq_calls.specs.declared.deltas.Did.TheVariants as did
-use Rattle.mq_calls.specs.declared.records.LogRecord.{LogRecord}
 use Rattle.mq_sc_parse.specs.declared.command.Command.TheVariants as lines
 use Rattle.mq_sc_parse.specs.declared.command.Op.{Op}
 use Rattle.mq_sc_parse.specs.declared.command.Op.TheVariants as ops
@@ -46,14 +43,14 @@ use Rattle.mq_spec_state.specs.Reads.{batch_of, has_held_by_other, in_doubt_of, 
 use Rattle.mq_spec_state.specs.Steps.{IsWrite, Part, refusal, refused_or as step_or, silent, when}
 use Rattle.mq_spec_state.specs.Steps.Step.{Do}
 use Rattle.mq_spec_manager.specs.Handles.{is_transmission_queue}
-use Rattle.mq_spec_agents.specs.Words.{channel_queue, harden, harden_part, held_rows, leave, release_of, seize, set_bound, settle_did, unit_of}
+use Rattle.mq_spec_agents.specs.Words.{channel_queue, harden, held_rows, leave, release_of, seize, set_bound, settle_did, unit_of}
 use Rattle.mq_spec_network.specs.Conflict.{Deed as ToldDeed, NoConflict, deeds}
 use Rattle.mq_spec_network.specs.Promised.{Premises}
 use Rattle.mq_spec_network.specs.Standing.{node_after}
 use Rattle.mq_spec_network.specs.Story.{Line, Mem}
 use Rattle.mq_spec_node.specs.Node.{ChannelEnd, Node, Own, ReceiverEnd, SenderEnd, sender_named, with_end}
 use Rattle.mq_spec_node.specs.Node.ChannelEnd.{Receives, Sends}
-use Rattle.mq_spec_node.specs.Deeds.{CanCome, Deed, Done, done, parts_of}
+use Rattle.mq_spec_node.specs.Deeds.{CanCome, Deed, done, parts_of}
 use Rattle.mq_spec_node.specs.Happens.{IsEvent, event}
 use Rattle.mq_spec_node.specs.Operators.{close_open, end_here, is_bad_number, is_in_doubt, is_open, limits_here, operate, operate_up, operated, refused, refused_or, reset_end, resolve_doubt, resolve_end, start_end, start_seized, stop_end}
 use Rattle.mq_spec_node.specs.Replays.{done_by}

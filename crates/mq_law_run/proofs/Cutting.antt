@@ -1,6 +1,6 @@
 -- A write of a channel's end that is stopped, as a move of the network: the channel stays as it was, and the write is noted.
-use Rattle.std.proofs.Common.{ℕ, zero, suc, ◌≡◌, ◌≤◌, ◌⊎◌, Bool, true, false, List, [], ◌∷◌, ◌++◌, refl, ap, sym, subst, ◌∙◌, inl, inr, arith}
-use Rattle.std.specs.Prelude.{Option, Some, None, if◌then◌else◌, is_none, is_some, slice_get}
+use Rattle.std.proofs.Common.{ℕ, zero, suc, ◌≡◌, ◌≤◌, ◌⊎◌, true, false, List, [], ◌∷◌, ◌++◌, refl, ap, sym, subst, ◌∙◌, inl, inr, arith}
+use Rattle.std.specs.Prelude.{Option, Some, None, is_none, is_some, slice_get}
 use Rattle.mq_sync.specs.declared.unit.Unit.{Unit as Luw}
 use Rattle.mq_sync.specs.declared.data.ReceiverData.{ReceiverData}
 use Rattle.mq_sync.specs.declared.data.SenderData.{SenderData}
@@ -19,11 +19,11 @@ use Rattle.mq_history.specs.declared.history.History.{History}
 use Rattle.mq_history.specs.declared.scenario.CableLine.{CableLine}
 use Rattle.mq_history.specs.declared.scenario.Scenario.{Scenario}
 use Rattle.mq_history.specs.Scenarios.{IsScenario}
-use Rattle.mq_spec_state.specs.State.{Noted, Plain, Running}
-use Rattle.mq_spec_state.specs.State.Running.{Down, Up}
+use Rattle.mq_spec_state.specs.State.{Plain}
+use Rattle.mq_spec_state.specs.State.Running.{Up}
 use Rattle.mq_spec_state.specs.Reads.{receiver_data, sender_data}
 use Rattle.mq_spec_agents.specs.Words.{harden_part}
-use Rattle.mq_spec_state.specs.Steps.{IsWrite, Part, delta_before, do_all, freeze, note_of, stopped_at}
+use Rattle.mq_spec_state.specs.Steps.{IsWrite, Part, delta_before, freeze, note_of, stopped_at}
 use Rattle.mq_spec_state.specs.Steps.Step.{Do}
 use Rattle.mq_spec_node.specs.Node.{Node}
 use Rattle.mq_spec_node.specs.Deeds.{CanCome, Deed, Done, done, node_of}
@@ -33,7 +33,7 @@ use Rattle.mq_spec_network.specs.Ledger as ledgers
 use Rattle.mq_spec_network.specs.Ledger.{Ledger, Users, ledger, posted}
 use Rattle.mq_spec_network.specs.Order.{unit_received}
 use Rattle.mq_spec_network.specs.Standing.{managers_at, node_after, opening_ledger, opening_managers}
-use Rattle.mq_spec_network.specs.Story.{Line, Mem}
+use Rattle.mq_spec_network.specs.Story.{Line}
 use Rattle.mq_law_channel.specs.Channel.{Channel, Past}
 use Rattle.mq_law_channel.specs.Turns.{ReceiverTurn, receiver_does}
 use Rattle.mq_law_channel.proofs.Told.{and_both}
@@ -50,8 +50,7 @@ use Rattle.mq_law_node.proofs.FarFreezing.{far_stops_noted}
 use Rattle.mq_law_node.proofs.Freezing.{stops_noted}
 use Rattle.mq_law_node.proofs.Quiet.{receiver_parts_quiet, sender_parts_quiet}
 use Rattle.mq_law_rows.proofs.Lists.{bool_case, here_yes, true_false}
-use Rattle.mq_law_seen.specs.Seen.{book_of, world_of}
-use Rattle.mq_law_events.specs.Tied.{Follow, IsNext, IsTold}
+use Rattle.mq_law_events.specs.Tied.{Follow, IsNext}
 use Rattle.mq_law_events.proofs.Stopping.{freezes}
 use Rattle.mq_law_events.proofs.Telling.{here_changed}
 use Rattle.mq_law_found.specs.Finds.{IsNoted}
@@ -64,7 +63,7 @@ use Rattle.mq_law_stopped.specs.Noted.{EachFirst, EndNote, IsOfEnd, IsWordOf, Sa
 use Rattle.mq_law_stopped.specs.Noted.EndNote.{Commits, Far, Near}
 use Rattle.mq_law_stopped.proofs.FarRedoing.{word_frozen}
 use Rattle.mq_law_stopped.proofs.Leaving.{calm_quiet, hardened_calm, leaves, word_lasts}
-use Rattle.mq_law_one.specs.Alone.{Became, IsNotedAt, as_left}
+use Rattle.mq_law_one.specs.Alone.{Became, as_left}
 use Rattle.mq_law_one.proofs.Happening.{became_marked, mark, state_down}
 use Rattle.mq_law_one.proofs.Running.{Told_}
 use Rattle.mq_law_run.specs.Run.{IsMoved, Moves, Stand, far_at, near_at}

@@ -1,11 +1,9 @@
 -- A restart that finds the write of a channel's end, as a move of the network: a sender's write, and a word of a receiver.
 use Rattle.std.proofs.Common.{ℕ, ◌≡◌, ◌≢◌, Bool, true, false, List, [], ◌∷◌, ◌++◌, refl, ap, sym, subst, ◌∙◌, inl, inr}
-use Rattle.std.specs.Prelude.{Option, Some, None, ◌==◌, ◌&&◌, ◌≤◌, filter, if◌then◌else◌, slice_get}
+use Rattle.std.specs.Prelude.{Option, Some, None, ◌==◌, ◌≤◌, filter, if◌then◌else◌, slice_get}
 use Rattle.std.specs.Str.{bytes_eq}
 use Rattle.mq_frame.specs.declared.frame.Frame.{Frame}
 use Rattle.mq_sync.specs.declared.unit.Unit.{Unit as Luw}
-use Rattle.mq_sync.specs.declared.unit.Settle.{Settle}
-use Rattle.mq_sync.specs.declared.unit.Settle.TheVariants as settles
 use Rattle.mq_sync.specs.declared.data.End.TheVariants as end_kinds
 use Rattle.mq_sync.specs.declared.data.InDoubt.{InDoubt}
 use Rattle.mq_sync.specs.declared.data.ReceiverData.{ReceiverData}
@@ -44,8 +42,7 @@ use Rattle.mq_spec_network.specs.Standing.{managers_at, node_after, opening_ledg
 use Rattle.mq_spec_network.specs.Story.{Line, Mem}
 use Rattle.mq_law_channel.specs.Channel.{Channel, Facts, Past}
 use Rattle.mq_law_channel.specs.Turns.{ReceiverTurn, receiver_does}
-use Rattle.mq_law_manager.specs.Facts.{IsFrozen}
-use Rattle.mq_law_node.specs.Data.{receiver_by_all, receives_at, sender_by_all, sends_at}
+use Rattle.mq_law_node.specs.Data.{receiver_by_all, sender_by_all}
 use Rattle.mq_law_node.specs.Ends.{Where, told_receives, told_sends}
 use Rattle.mq_law_node.specs.Moves.{FarMay, FarStep, NearStep, far_does, near_does, near_past}
 use Rattle.mq_law_node.specs.Nodes.{FarAt, FarMayLater, NearAt, SendsDown, TakesDown}
@@ -66,9 +63,8 @@ use Rattle.mq_law_turns.proofs.Agreeing.{backs_out_rightly, grows}
 use Rattle.mq_law_cables.proofs.Differing.{leads}
 use Rattle.mq_law_cables.proofs.Keeping.{joint_of, taken_joint, turned_joint}
 use Rattle.mq_law_cables.proofs.Unprepared.{unprepared_still}
-use Rattle.mq_law_one.specs.Alone.{IsNotedAt, IsState, as_left}
+use Rattle.mq_law_one.specs.Alone.{IsNotedAt, as_left}
 use Rattle.mq_law_one.proofs.Running.{Told_}
-use Rattle.mq_law_found.specs.Finds.{IsNoted}
 use Rattle.mq_law_stopped.specs.Noted.{EndNote, IsDown, IsLeft, ReceiverNote, Redone, SenderKind, SenderNote}
 use Rattle.mq_law_stopped.specs.Noted.EndNote.{Commits, Far, Near}
 use Rattle.mq_law_stopped.specs.Noted.SenderKind.{Begins, Numbers, Prepares, Resolves, Settles}
@@ -76,15 +72,15 @@ use Rattle.mq_law_stopped.proofs.FarRedoing.{far_redone}
 use Rattle.mq_law_stopped.proofs.Leaving.{one_redone}
 use Rattle.mq_law_stopped.proofs.Redoing.{near_redone}
 use Rattle.mq_law_stopped.proofs.Sparing.{sender_leaves, sender_spares, word_leaves, word_spares}
-use Rattle.mq_law_run.specs.Run.{Among, Moves, Stand, back_done, far_at, near_at}
+use Rattle.mq_law_run.specs.Run.{Moves, Stand, back_done, far_at, near_at}
 use Rattle.mq_law_run.proofs.Beside.{IsBeside, all_add_none, all_beside, all_of_end, beside_fresh}
 use Rattle.mq_law_run.proofs.Cabled.{all_cabled, same_batches}
 use Rattle.mq_law_run.proofs.Lining.{else_channel, else_index, here, index_of, mem_at, same_cable, same_index, units_put}
 use Rattle.mq_law_run.proofs.Owning.{next_managers}
 use Rattle.mq_law_run.proofs.Receiving.{channel_else, operated_old}
-use Rattle.mq_law_run.proofs.Redoing.{FarPart, IsRedone, NearPart, end_returns, mid_of}
+use Rattle.mq_law_run.proofs.Redoing.{FarPart, NearPart, end_returns, mid_of}
 use Rattle.mq_law_run.proofs.Resolving.{real_unit}
-use Rattle.mq_law_run.proofs.Returning.{FoundAt, call_returns, filter_quiet}
+use Rattle.mq_law_run.proofs.Returning.{call_returns, filter_quiet}
 use Rattle.mq_law_run.proofs.Running.{far_here, near_here, operated_before, scene, told_all}
 use Rattle.mq_law_run.proofs.Telling.{deeds_more, mem_left, mem_right, none_committed, risen_still, still_not, told_before, told_now}
 use Rattle.mq_law_run.proofs.Commanding.{told_here, told_of}
@@ -181,7 +177,7 @@ near_returns s hs wide p es x z t noted starts started st i k scenario peace spl
       near = λ j h f o. near_part j h f o;
       far = λ j h f o. far_part j h f o;
       aside = λ h o f e. bool_case (here k h) (λ v. here k h ≡ v → (if v then c1 else z.xs h.sender h.channel) ≡ z.xs h.sender h.channel)
-          (λ d v. absurd (true_false (sym (ap (λ b_. b_ == m) (sym (here_yes k.sender k.channel h.sender h.channel v).0 ∙ q) ∙ eqb_self m) ∙ f))) (λ d v. refl) refl;
+          (λ d v. absurd (true_false (sym (ap (λ b_. b_ == m) ((here_yes k.sender k.channel h.sender h.channel v).0 ∙ q) ∙ eqb_self m) ∙ f))) (λ d v. refl) refl;
       known = λ j f. refl;
       others = λ d o f h. h;
       users = λ d f. refl;

@@ -1,11 +1,9 @@
 -- The stopped write of an end's turn, as a move of the network.
-use Rattle.std.proofs.Common.{ℕ, ◌≡◌, ◌⊎◌, Bool, true, false, List, [], ◌∷◌, ◌++◌, refl, ap, sym, subst, ◌∙◌, inl, inr}
+use Rattle.std.proofs.Common.{ℕ, ◌≡◌, List, [], ◌∷◌, ◌++◌, refl, ap, sym, subst, ◌∙◌, inl, inr}
 use Rattle.std.specs.Prelude.{Option, Some, None, slice_get}
 use Rattle.mq_disk.specs.declared.cutter.Stop.{Stop}
-use Rattle.mq_message.specs.declared.message.Message.{Message}
 use Rattle.mq_frame.specs.declared.frame.Seen.{Seen}
 use Rattle.mq_queue.specs.declared.row.Row.{Row}
-use Rattle.mq_sync.specs.declared.unit.Unit.{Unit as Luw}
 use Rattle.mq_sender.specs.declared.turns.SenderDoes.{SenderDoes}
 use Rattle.mq_sender.specs.declared.turns.SenderDoes.TheVariants as does
 use Rattle.mq_sender.specs.Table.{sender_next}
@@ -15,13 +13,10 @@ use Rattle.mq_receiver.specs.declared.turns.ReceiverOut.{ReceiverOut}
 use Rattle.mq_receiver.specs.declared.turns.ReceiverOut.TheVariants as outs
 use Rattle.mq_receiver.specs.Table.{receiver_next}
 use Rattle.mq_calls.specs.declared.choices.Choice.TheVariants.{Stopped}
-use Rattle.mq_calls.specs.declared.deltas.Did.{Did}
 use Rattle.mq_calls.specs.declared.deltas.Why.TheVariants as whys
 use Rattle.mq_calls.specs.declared.records.LogRecord.{LogRecord}
-use Rattle.mq_history.specs.declared.calls.Call.{Call}
 use Rattle.mq_history.specs.declared.calls.Call.TheVariants as calls
 use Rattle.mq_history.specs.declared.calls.Entry.{Entry}
-use Rattle.mq_history.specs.declared.calls.Reply.{Reply}
 use Rattle.mq_history.specs.declared.calls.Reply.TheVariants as replies
 use Rattle.mq_history.specs.declared.history.History.{History}
 use Rattle.mq_history.specs.declared.scenario.CableLine.{CableLine}
@@ -32,14 +27,14 @@ use Rattle.mq_spec_state.specs.State.Running.{Up}
 use Rattle.mq_queue.specs.Rows.{is_free}
 use Rattle.mq_spec_state.specs.Reads.{free_rows, is_expired, is_up, stored}
 use Rattle.mq_calls.specs.declared.agents.PrepareFault.{PrepareFault}
-use Rattle.mq_spec_state.specs.Steps.{Part, Step, do_part}
+use Rattle.mq_spec_state.specs.Steps.{Part, Step}
 use Rattle.mq_spec_state.specs.Steps.Step.{Do, Refuse}
 use Rattle.mq_spec_manager.specs.Get.{expired_parts, removal_part}
 use Rattle.mq_spec_agents.specs.Words.{expired_rows, queue_of_sender, stock}
 use Rattle.mq_spec_network.specs.Ledger as ledgers
 use Rattle.mq_spec_network.specs.Ledger.{Ledger, move_all, receive_if, received_on}
 use Rattle.mq_spec_network.specs.Standing.{node_after}
-use Rattle.mq_spec_network.specs.Story.{Line, Mem}
+use Rattle.mq_spec_network.specs.Story.{Line}
 use Rattle.mq_spec_node.specs.Node.{Node, ReceiverEnd, SenderEnd}
 use Rattle.mq_spec_node.specs.Deeds.{CanCome, Deed, Done, done}
 use Rattle.mq_spec_node.specs.Receivers.{is_receiver_defined, receiver_deed}
@@ -50,8 +45,7 @@ use Rattle.mq_law_channel.specs.Turns.{ReceiverTurn, SeenIn, SenderTurn, receive
 use Rattle.mq_law_manager.specs.Facts.{IsSound, ident_of}
 use Rattle.mq_law_manager.specs.Kept.{AllKeep}
 use Rattle.mq_law_manager.proofs.Removals.{differ_filter, mem_filter}
-use Rattle.mq_law_node.specs.Beside.{AsideFar, AsideNear}
-use Rattle.mq_law_node.specs.Ends.{EachSent, EachTaken as EachTook, SendsAs, Sent, Taken as Took, TakesAs, Where, receiver_of, sender_of, taking_turn, turn_of}
+use Rattle.mq_law_node.specs.Ends.{EachSent, EachTaken as EachTook, SendsAs, TakesAs, Where, receiver_of, sender_of, taking_turn, turn_of}
 use Rattle.mq_law_node.specs.Moves.{FarStep, NearStep}
 use Rattle.mq_law_node.specs.Nodes.{EachSingle}
 use Rattle.mq_law_node.proofs.FarSingles.{EachTold, commits_told, taking_singles}
@@ -74,7 +68,7 @@ use Rattle.mq_law_run.specs.Run.{Moves, Stand, far_at, near_at}
 use Rattle.mq_law_run.proofs.Beside.{distinct_of}
 use Rattle.mq_law_run.proofs.Cutting.{SaysFar, SaysNear, cut_as, each_first, far_cut, near_cut, stopped_entry}
 use Rattle.mq_law_run.proofs.Expiring.{expires_so}
-use Rattle.mq_law_run.proofs.Lining.{else_channel, else_index, here}
+use Rattle.mq_law_run.proofs.Lining.{else_channel, else_index}
 use Rattle.mq_law_run.proofs.Receiving as receiving
 use Rattle.mq_law_run.proofs.Receiving.{channel_else}
 use Rattle.mq_law_run.proofs.Running.{sends_here, sound_at, takes_here}

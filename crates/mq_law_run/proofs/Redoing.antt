@@ -1,17 +1,17 @@
 -- A restart of a manager that finds the write of one of its ends, as a move of the network: what the write does, and then the start.
-use Rattle.std.proofs.Common.{ℕ, ◌≡◌, ◌⊎◌, true, false, List, [], ◌∷◌, ◌++◌, refl, ap, sym, subst, ◌∙◌, inl, inr}
-use Rattle.std.specs.Prelude.{Bool, Option, Some, None, ◌==◌, filter, if◌then◌else◌, slice_get}
+use Rattle.std.proofs.Common.{ℕ, ◌≡◌, true, false, List, [], ◌∷◌, ◌++◌, refl, ap, sym, subst, ◌∙◌}
+use Rattle.std.specs.Prelude.{Bool, Some, None, ◌==◌, if◌then◌else◌, slice_get}
 use Rattle.mq_frame.specs.declared.frame.Frame.{Frame}
 use Rattle.mq_sync.specs.declared.data.ReceiverData.{ReceiverData}
 use Rattle.mq_history.specs.declared.history.History.{History}
 use Rattle.mq_history.specs.declared.scenario.CableLine.{CableLine}
 use Rattle.mq_history.specs.declared.scenario.Scenario.{Scenario}
 use Rattle.mq_history.specs.Scenarios.{IsScenario}
-use Rattle.mq_spec_state.specs.State.{Plain, Running}
+use Rattle.mq_spec_state.specs.State.{Plain}
 use Rattle.mq_spec_state.specs.State.Running.{Down}
 use Rattle.mq_spec_state.specs.Reads.{receiver_data}
 use Rattle.mq_spec_network.specs.Story.{Line, Mem}
-use Rattle.mq_law_run.proofs.Lining.{index_of, mem_at}
+use Rattle.mq_law_run.proofs.Lining.{mem_at}
 use Rattle.mq_history.specs.declared.acts.Act.TheVariants as acts
 use Rattle.mq_history.specs.declared.acts.Acted.TheVariants as acted
 use Rattle.mq_history.specs.declared.calls.Call.TheVariants as calls
@@ -33,9 +33,8 @@ use Rattle.mq_law_batches.proofs.Stopping as batches
 use Rattle.mq_law_story.proofs.Weaving.{ledger_step}
 use Rattle.mq_law_turns.specs.Agreed.{IsToldOf}
 use Rattle.mq_law_cables.proofs.Keeping.{rests}
-use Rattle.mq_law_one.specs.Alone.{IsState}
 use Rattle.mq_law_one.proofs.Running.{Told_}
-use Rattle.mq_law_events.proofs.Telling.{else_changed, here_changed}
+use Rattle.mq_law_events.proofs.Telling.{else_changed, else_places, else_then, else_users, here_changed}
 use Rattle.mq_law_run.proofs.Owning.{housed_else, next_managers, others_told}
 use Rattle.mq_law_run.proofs.Running.{far_here, move_to, near_here}
 use Rattle.mq_law_events.proofs.Locals.{stays_leads}
@@ -47,19 +46,15 @@ use Rattle.mq_calls.specs.declared.choices.Return.TheVariants.{Comes}
 use Rattle.mq_receiver.specs.declared.state.Receiver.{Receiver}
 use Rattle.mq_receiver.specs.States as receivers
 use Rattle.mq_spec_state.specs.State.{Noted}
-use Rattle.mq_spec_manager.specs.Stops.{grown, lasts, redone, redone_delta, restarted}
+use Rattle.mq_spec_manager.specs.Stops.{grown, redone, redone_delta, restarted}
 use Rattle.mq_calls.specs.declared.deltas.Did.{Did}
 use Rattle.mq_law_node.specs.Nodes.{FarAt, NearAt}
 use Rattle.mq_law_run.proofs.Tying.{leads_on}
-use Rattle.mq_sync.specs.declared.data.SenderData.{SenderData}
-use Rattle.mq_sync.specs.Settlement.{receiver_or, sender_or}
 use Rattle.mq_spec_state.specs.State.{Given}
-use Rattle.mq_spec_state.specs.Reads.{batch_of, in_doubt_of, receiver_in, sender_in}
 use Rattle.mq_spec_state.specs.Images.{begun, lasting, raised}
 use Rattle.mq_spec_network.specs.Ledger.{change_at}
 use Rattle.mq_law_node.specs.Ends.{told_receives, told_sends}
 use Rattle.mq_message.specs.declared.message.Ident.{Ident}
-use Rattle.mq_law_rows.proofs.Lists.{bool_case}
 use Rattle.mq_sync.specs.declared.unit.Unit.{Unit as Luw}
 use Rattle.mq_law_run.proofs.Returning.{alone, clear, gone_users, none_counted}
 use Rattle.mq_sender.specs.declared.state.Sender.{Sender}

@@ -1,5 +1,5 @@
 -- A restart of a manager that finds a call's write, as a move of the network: it does what the note says, and then comes up.
-use Rattle.std.proofs.Common.{ℕ, ◌≡◌, ◌⊎◌, true, false, List, [], ◌∷◌, ◌++◌, refl, ap, sym, subst, ◌∙◌, inl, inr}
+use Rattle.std.proofs.Common.{ℕ, ◌≡◌, true, false, List, [], ◌∷◌, ◌++◌, refl, ap, sym, subst, ◌∙◌}
 use Rattle.std.specs.Prelude.{Bool, Option, Some, None, ◌==◌, filter, if◌then◌else◌, slice_get}
 use Rattle.mq_frame.specs.declared.frame.Frame.{Frame}
 use Rattle.mq_sync.specs.declared.unit.Unit.{Unit as Luw}

@@ -15,10 +15,7 @@ use Rattle.mq_history.specs.declared.scenario.Scenario.{Scenario}
 use Rattle.mq_spec_state.specs.State.{Plain}
 use Rattle.mq_spec_node.specs.Node.{Node}
 use Rattle.mq_calls.specs.declared.choices.Choice.TheVariants.{Runs, Stopped}
-use Rattle.mq_sc_parse.specs.declared.command.Command.TheVariants as lines
 use Rattle.mq_history.specs.declared.acts.Act.TheVariants as acts
-use Rattle.mq_history.specs.declared.calls.Actor.{Actor}
-use Rattle.mq_history.specs.declared.calls.Call.{Call}
 use Rattle.mq_history.specs.declared.calls.Call.TheVariants as calls
 use Rattle.mq_history.specs.declared.calls.Chance.{Chance}
 use Rattle.mq_history.specs.declared.calls.Chance.TheVariants as chances

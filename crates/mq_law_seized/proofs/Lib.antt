@@ -1,4 +1,0 @@
-pub mod Changing
-pub mod Plain
-pub mod Calling
-pub mod Seizing
