@@ -5,3 +5,4 @@ pub mod ActLaws
 pub mod StepLaws
 pub mod ObeyLaws
 pub mod MarkLaws
+pub mod CountLaws

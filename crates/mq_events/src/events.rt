@@ -1,7 +1,7 @@
 //! Events of applications, and trigger turns.
 ghost use Rattle.std.specs.Prelude.{◌≡◌, ◌+◌, ◌<◌, Some, None};
 ghost use Rattle.mq_frame.specs.declared.frame.Seen.TheVariants as items;
-ghost use Rattle.mq_core.specs.Counting.{CanCount};
+ghost use Rattle.mq_manager.specs.Facts.{MayCount};
 ghost use Rattle.mq_spec_node.specs.Words.{deed_of};
 ghost use Rattle.mq_events.specs.States.{IsKept, IsLow, IsServed, node_in, last_actor};
 ghost use Rattle.mq_outcomes.specs.Outcomes.{Ends, TurnEnds, next_due};
@@ -23,7 +23,7 @@ use mq_outcomes::{
 ///
 /// No memory, where the get might wait; nothing has changed.
 fn call<D: Disk>(manager: &mut Manager<D>, call: &Call) -> Result<Option<Outcome>, NoMemory>
-    requires low { CanCount manager.old.plain }
+    requires low { MayCount manager.old.plain }
     requires mqi { IsMqi call.now }
     ensures { Ends call.now manager.old result manager.new }
 {
