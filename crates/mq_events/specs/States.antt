@@ -1,23 +1,23 @@
 -- What is seen of the parts of a node, and the entry that an event adds.
-use Rattle.std.specs.Prelude.{◌≡◌, ℕ, ◌+◌, ◌*◌, ◌^◌, ◌-◌, Bool, length, List, [], ◌∷◌, ◌++◌, Option, Some, None}
+use Rattle.std.specs.Prelude.{◌≡◌, ℕ, ◌+◌, ◌-◌, Bool, length, List, [], ◌∷◌, ◌++◌, Option, Some, None}
 use Rattle.mq_history.specs.declared.calls.Chance.TheVariants as chances
 use Rattle.mq_history.specs.declared.calls.Reply.TheVariants as replies
 use Rattle.mq_frame.specs.declared.frame.Seen.TheVariants as items
 use Rattle.mq_spec_node.specs.Terms.{Acted, Choice, Runs, NoMemory, Stopped, Did, Actor, Call, Entry, History}
 use Rattle.mq_spec_node.specs.Words.{Node, Own, Surroundings, NodeValue, IsReplayed, node_of, forgotten_rows, remembered, more_entries, trigger_deed}
-use Rattle.mq_law_counts.specs.Counts.{AreWithin}
 use Rattle.mq_manager.specs.Facts.{MayCount}
 use Rattle.mq_core.specs.Values.{CoreValue}
 use Rattle.mq_outcomes.specs.declared.outcome.Outcome.{Outcome}
 
--- What the scenario gives it, its history, its manager, its own, its last stamp; for how many more entries and marks there
--- is room.
+-- What the scenario gives it, its history, its manager, its own, its last stamp; whether its manager had few rows when it began;
+-- for how many more entries and marks there is room.
 pub record NodeState : Type 0 where
   pub given : Surroundings
   pub history : History
   pub manager : CoreValue
   pub own : Own
   pub stamp : ℕ
+  pub few : Bool
   pub room : ℕ
   pub marks : ℕ
 
@@ -73,15 +73,6 @@ quietly acted = record { choice = Runs; reply = replies.Acted acted; delta = [] 
 -- no trigger is due
 abbrev pub IsServed : NodeState → Type 0
 IsServed s = trigger_deed (node_in s) ≡ None
-
--- Its counters are at most three higher for each event than an opening has them.
-abbrev pub AreCounted : NodeState → Type 0
-AreCounted s = AreWithin (2 ^ 60 + 3 * length s.history.entries) s.manager.plain
-
--- What holds of a node between its calls.
-pub record IsNode (s : NodeState) : Type 0 where
-  pub kept : IsKept s
-  pub counted : AreCounted s
 
 -- the counters of its manager are low
 abbrev pub IsLow : NodeState → Type 0

@@ -1,7 +1,5 @@
 //! A node: a queue manager with its own, whose history replays.
-ghost use Rattle.std.specs.Prelude.{◌≡◌, ◌+◌, ◌<◌, ◌≤◌, ◌^◌, [], length};
-ghost use Rattle.mq_calls.specs.declared.image.Shelf.{Shelf};
-ghost use Rattle.mq_law_manager.specs.Facts.{Mem};
+ghost use Rattle.std.specs.Prelude.{◌≡◌, ◌+◌, ◌<◌, []};
 ghost use Rattle.mq_frame.specs.declared.frame.Seen.TheVariants as items;
 ghost use Rattle.mq_history.specs.declared.acts.Act.TheVariants as acts;
 ghost use Rattle.mq_history.specs.declared.calls.Call.TheVariants as calls;
@@ -10,6 +8,7 @@ ghost use Rattle.mq_sc_parse.specs.declared.command.Command.TheVariants as comma
 ghost use Rattle.mq_spec_state.specs.Words.{is_up};
 ghost use Rattle.mq_spec_node.specs.Words.{deed_of, is_spent, opening_node};
 ghost use Rattle.mq_events.specs.States.{IsKept, IsServed, marked, node_in, value_of};
+ghost use Rattle.mq_events.specs.Counts.{IsNode};
 ghost use Rattle.mq_events.specs.Events.{ActsAs, EventIs, IsMqi, MayAct, ServesOne};
 
 use crate::state::NodeParts;
@@ -27,7 +26,8 @@ pub struct Node<D: Disk> {
 }
 
 impl<D: Disk> Model for Node<D> {
-    ghost use Rattle.mq_events.specs.States.{NodeState, IsNode};
+    ghost use Rattle.mq_events.specs.States.{NodeState};
+    ghost use Rattle.mq_events.specs.Counts.{IsNode};
 
     ghost Value = { NodeState };
 
@@ -37,19 +37,24 @@ impl<D: Disk> Model for Node<D> {
 }
 
 impl<D: Disk> Node<D> {
-    /// A node of which nothing has happened: it is as its history opens. It takes no memory.
-    pub fn new(parts: NodeParts<D>) -> Node<D>
+    /// A node of which nothing has happened: it is as its history opens. It takes no memory. Where a queue of its manager has
+    /// more than 2^62 rows, its calls find no memory.
+    pub fn new(mut parts: NodeParts<D>) -> Node<D>
         requires none { parts.history.entries ≡ [] }
         requires stamp { parts.stamp ≡ 0 }
         requires number { parts.history.number ≡ parts.given.given.number }
         requires name { parts.history.name ≡ parts.given.given.name }
-        requires incarnation { parts.history.opening.incarnation < 2 ^ 60 }
-        requires rows { (x : Shelf) → Mem x parts.history.opening.shelves → length x.rows ≤ 2 ^ 60 }
         requires opens { node_in parts ≡ opening_node parts.given parts.history }
-        ensures { result ≡ parts }
+        ensures { result ≡ record parts { few = result.few } }
     {
+        parts.recount();
         Node { parts }
     }
+
+    /// What holds of it between its calls. It does nothing.
+    pub fn facts(&self)
+        ensures { IsNode self.now }
+    {}
 
     /// Whether it has made all its events: 2^48, or one whose stamp is 2^60 or more.
     pub fn is_spent(&self) -> bool
@@ -102,13 +107,16 @@ impl<D: Disk> Node<D> {
     /// # Errors
     ///
     /// No memory; nothing has changed.
-    #[tactic(auto, using(crate::proofs::CountLaws::applied_counted, crate::proofs::CountLaws::node_low))]
+    #[tactic(auto, using(crate::proofs::CountLaws::applied_counted, crate::proofs::CountLaws::node_low, crate::proofs::CountLaws::same_event))]
     pub fn apply(&mut self, actor: Actor, asked: Call) -> Result<bool, NoMemory>
         requires served { IsServed self.old }
         requires may { MayAct self.old }
         requires mqi { IsMqi asked }
         ensures { EventIs actor asked (deed_of (self.old.stamp + 1) actor asked items.Nothing (node_in self.old)) self.old result self.new }
     {
+        if !self.parts.few {
+            return Err(NoMemory);
+        }
         self.parts.apply(actor, asked)
     }
 
@@ -117,11 +125,14 @@ impl<D: Disk> Node<D> {
     /// # Errors
     ///
     /// No memory; nothing has changed, and the trigger stays due.
-    #[tactic(auto, using(crate::proofs::CountLaws::served_counted, crate::proofs::CountLaws::node_low))]
+    #[tactic(auto, using(crate::proofs::CountLaws::served_counted, crate::proofs::CountLaws::node_low, crate::proofs::CountLaws::same_turn))]
     pub fn serve_next(&mut self) -> Result<bool, NoMemory>
         requires may { MayAct self.old }
         ensures { ServesOne self.old result self.new }
     {
+        if !self.parts.few {
+            return Err(NoMemory);
+        }
         self.parts.serve_next()
     }
 

@@ -97,8 +97,7 @@ impl<D: Disk> Manager<D> {
     /// What holds of it between its calls. It does nothing.
     pub fn facts(&self)
         ensures well { IsWell self.now.plain }
-    {
-    }
+    {}
 
     /// Whether the manager is up. It takes no memory.
     pub fn is_up(&self) -> bool

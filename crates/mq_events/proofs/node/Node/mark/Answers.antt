@@ -1,5 +1,5 @@
 use Rattle.std.proofs.Common.{subst, sym}
-use Rattle.mq_events.specs.States.{IsNode}
+use Rattle.mq_events.specs.Counts.{IsNode}
 use Rattle.mq_events.proofs.CountLaws.{marked_counted}
 use Rattle.mq_events.proofs.node.Node.mark.Goals as goal
 
