@@ -98,8 +98,7 @@ impl<D: Disk> Manager<D> {
     pub fn facts(&self)
         ensures well { IsWell self.now.plain }
     {
-        // (what a type keeps is known where a field is used)
-        let _core = &self.core;
+        let _ = &self.core;
     }
 
     /// Whether the manager is up. It takes no memory.

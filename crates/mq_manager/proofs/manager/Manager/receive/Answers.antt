@@ -2,8 +2,16 @@ use Rattle.std.proofs.Common.{sym, subst}
 use Rattle.mq_spec_agents.specs.Words.{IsUp, CanReceive}
 use Rattle.mq_core.specs.Values.{CoreValue}
 use Rattle.mq_agents.specs.Ends.{by_place}
+use Rattle.mq_manager.specs.Facts.{MayCount}
 use Rattle.mq_manager.proofs.CallLaws.{kept_received}
+use Rattle.mq_manager.proofs.CountLaws.{can_count}
 use Rattle.mq_manager.proofs.manager.Manager.receive.Goals as goal
+
+pub receive_named-requires-clause-up : goal.receive_named-requires-clause-up
+receive_named-requires-clause-up g c = subst (λ (v : CoreValue). IsUp v.plain) (sym c.self.view_is) c.requires.up
+
+pub receive_named-requires-clause-low : goal.receive_named-requires-clause-low
+receive_named-requires-clause-low g c = can_count c.self.inside.core.plain c.self.invariant.well (subst (λ (v : CoreValue). MayCount v.plain) (sym c.self.view_is) c.requires.low)
 
 pub receive_named-requires-clause-sound : goal.receive_named-requires-clause-sound
 receive_named-requires-clause-sound g c = (c.self.invariant.well.up (subst (λ (v : CoreValue). IsUp v.plain) (sym c.self.view_is) c.requires.up)).facts
