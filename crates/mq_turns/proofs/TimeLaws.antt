@@ -1,0 +1,2 @@
+-- A sender's timeout.
+use Rattle.std.proofs.Common.{◌≡◌, refl}

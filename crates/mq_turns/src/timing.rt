@@ -1,0 +1,82 @@
+//! A sender's timeout.
+ghost use Rattle.std.specs.Prelude.{◌≡◌, ◌<◌, Some, true, IsSome};
+ghost use Rattle.mq_history.specs.declared.calls.Actor.TheVariants as actors;
+ghost use Rattle.mq_history.specs.declared.calls.Call.TheVariants as calls;
+ghost use Rattle.mq_frame.specs.declared.frame.Seen.TheVariants as items;
+ghost use Rattle.mq_spec_agents.specs.Words.{IsUp};
+ghost use Rattle.mq_sender.specs.States.{awaits};
+ghost use Rattle.mq_spec_node.specs.Words.{deed_of, sender_end};
+ghost use Rattle.mq_events.specs.States.{IsKept, IsServed, node_in};
+ghost use Rattle.mq_events.specs.Events.{MayAct};
+ghost use Rattle.mq_turns.specs.Turns.{TimeoutIs};
+
+use crate::parting::{leave_if, nothing_done};
+use crate::telling::{Passed, Turn, keep_end, tell_turn};
+use mq_base::NoMemory;
+use mq_cabled::sender_of;
+use mq_calls::Messages;
+use mq_disk::Disk;
+use mq_events::NodeParts;
+use mq_frame::Seen;
+use mq_history::{Actor, Call};
+use mq_own::{ChannelEnd, EndKind, SenderEnd};
+
+/// A sender that waits for an answer has a timeout, in room that is there.
+fn time_out<D: Disk>(parts: &mut NodeParts<D>, end: SenderEnd)
+    requires room { 0 < parts.old.room }
+    requires kept { IsKept parts.old }
+    requires served { IsServed parts.old }
+    requires may { MayAct parts.old }
+    requires up { IsUp parts.old.manager.plain }
+    requires there { sender_end end.cable parts.old.own ≡ Some end }
+    requires waits { awaits end.machine.state ≡ true }
+    ensures kept { IsKept parts.new }
+    ensures did { TimeoutIs end.cable (deed_of (parts.old.stamp + 1) (actors.Sender end.cable) calls.Timeout items.Nothing (node_in parts.old)) parts.old (Ok (turns.Changed)) parts.new }
+{
+    let mut end = end;
+    let cable = end.cable;
+    end.machine.timeout();
+    let told = nothing_done(parts.alloc);
+    leave_if(&mut parts.manager, &end.channel, &told, end.machine.is_running());
+    let kind = EndKind::Sends(end);
+    keep_end(parts, &told, ChannelEnd { kind });
+    let passed = Passed {
+        stamp: parts.stamp + 1,
+        pushed: None,
+        extras: 0,
+        popped: Seen::Nothing,
+    };
+    let received = Messages::new(parts.alloc);
+    tell_turn(parts, Actor::Sender(cable), Call::Timeout, told, passed, received);
+}
+
+/// A timeout of the sender end of a cable. Still exactly where the manager is down or the sender waits for no answer; nothing has
+/// changed then.
+///
+/// # Errors
+///
+/// No memory for the entry; nothing has changed.
+pub fn timeout<D: Disk>(parts: &mut NodeParts<D>, cable: u16) -> Result<Turn, NoMemory>
+    requires kept { IsKept parts.old }
+    requires served { IsServed parts.old }
+    requires may { MayAct parts.old }
+    requires there { IsSome (sender_end cable parts.old.own) }
+    ensures kept { IsKept parts.new }
+    ensures did { TimeoutIs cable (deed_of (parts.old.stamp + 1) (actors.Sender cable) calls.Timeout items.Nothing (node_in parts.old)) parts.old result parts.new }
+{
+    if !parts.manager.is_up() {
+        return Ok(Turn::Still);
+    }
+    let Some(end) = sender_of(&parts.own, cable) else {
+        unreachable!()
+    };
+    if !end.machine.awaits() {
+        return Ok(Turn::Still);
+    }
+    match parts.reserve(1) {
+        Ok(()) => {}
+        Err(NoMemory) => return Err(NoMemory),
+    }
+    time_out(parts, end);
+    Ok(Turn::Changed)
+}
