@@ -1,5 +1,5 @@
 -- Parts one behind the other: what each call of the manager comes to, and what they come to together.
-use Rattle.std.proofs.Common.{◌≡◌, ℕ, zero, suc, ◌+◌, ◌<◌, ◌≤◌, refl, sym, ap, subst, ◌∙◌, List, [], ◌∷◌, ◌++◌, Bool, true, false, arith, append_nil, append_assoc}
+use Rattle.std.proofs.Common.{◌≡◌, ℕ, zero, suc, ◌+◌, ◌<◌, ◌≤◌, refl, sym, ap, subst, ◌∙◌, List, [], ◌∷◌, ◌++◌, Bool, true, false, arith}
 use Rattle.std.specs.Prelude.{Option, Some, None, Result, Ok, Err}
 use Rattle.mq_base.specs.declared.want.NoMemory.{NoMemory as Want}
 use Rattle.mq_calls.specs.declared.choices.Choice.{Choice}
@@ -7,7 +7,7 @@ use Rattle.mq_calls.specs.declared.choices.Choice.TheVariants.{Runs, NoMemory, S
 use Rattle.mq_calls.specs.declared.commands.Halt.{Halt}
 use Rattle.mq_calls.specs.declared.commands.Halt.TheVariants as halts
 use Rattle.mq_disk.specs.declared.cutter.Stop.{Stop}
-use Rattle.mq_spec_state.specs.Steps.{IsWrite, calls_at, calls_before, calls_of, write_calls, StopsAt}
+use Rattle.mq_spec_state.specs.Steps.{IsWrite, calls_at, calls_before, calls_of, forced_calls, write_calls, StopsAt}
 use Rattle.mq_spec_state.specs.Meeting.{ManagerValue, Wants, MeetsAs, StoppedIn, untouched}
 use Rattle.mq_spec_state.specs.Meeting.Wants.{Nowhere, Behind, Anywhere}
 use Rattle.mq_spec_node.specs.Terms.{Did, Plain, Part, Step, Refuse, Do, Possible, do_all, delta_of, delta_before, stopped_at}
@@ -37,7 +37,7 @@ told_append (x ∷ ps) qs s = ap (λ (d : List Did). x.delta ++ d) (told_append 
 
 silent_calls : (qs : List Part) → AreSilent qs → write_calls qs ≡ 0
 silent_calls [] s = refl
-silent_calls (x ∷ qs) s = ap (λ (f : Option _). write_calls (record x { forced = f } ∷ qs)) s.0 ∙ silent_calls qs s.2
+silent_calls (x ∷ qs) s = let e = ap forced_calls s.0 in let r = silent_calls qs s.2 in omega (arith, e, r)
 
 calls_append : (ps qs : List Part) → AreSilent qs → write_calls (ps ++ qs) ≡ write_calls ps
 calls_append [] qs s = silent_calls qs s

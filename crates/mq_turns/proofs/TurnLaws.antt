@@ -7,20 +7,15 @@ use Rattle.mq_history.specs.declared.calls.Actor.TheVariants as actors
 use Rattle.mq_history.specs.declared.calls.Call.TheVariants as calls
 use Rattle.mq_history.specs.declared.calls.Chance.TheVariants as chances
 use Rattle.mq_history.specs.declared.calls.Reply.TheVariants as replies
-use Rattle.mq_spec_node.specs.Terms.{Message, Frame, Did, Actor, Call, Chance, Entry, Reply, Seen, Plain, Possible}
-use Rattle.mq_spec_node.specs.Words.{Node, Own, Deed, Done, done, done_or, deed_of, done_by, event, remembering, remembered, IsDeed, IsEvent, CanCome, IsStamp, IsPop, AreExtras, Tells, node_of}
+use Rattle.mq_spec_node.specs.Terms.{Message, Did, Actor, Call, Entry, Plain, Possible}
+use Rattle.mq_spec_node.specs.Words.{Node, Own, Deed, Done, done, done_or, deed_of, done_by, event, remembering, remembered, IsDeed, CanCome, Tells, node_of}
 use Rattle.mq_core.specs.Values.{CoreValue}
 use Rattle.mq_events.specs.States.{NodeState, node_in, value_of, IsKept, IsServed, with_entry}
 use Rattle.mq_events.specs.Events.{Adds}
 use Rattle.mq_events.proofs.EntryLaws.{entry_kept}
 use Rattle.mq_turns.specs.declared.telling.Passed.{Passed}
 use Rattle.mq_turns.specs.Turns.{Made, delta_by, plain_by, IsMade, own_by, pushed_by, reply_for, turn_entry}
-
--- What acts here remembers nothing, and the event is its deed's.
-pub record ActsHere (actor : Actor) (call : Call) : Type 0 where
-  pub quiet : (reply : Reply) (own : Own) → remembered actor call reply own ≡ own
-  pub event_is : (stamp : ℕ) (choice : Choice) (seen : Seen) (n : Node) → event stamp actor call (chances.Call choice) seen n ≡ remembering actor call (done_or (deed_of stamp actor call seen n) choice n)
-  pub is_event : (stamp : ℕ) (choice : Choice) (seen : Seen) (n : Node) → IsDeed (deed_of stamp actor call seen n) (chances.Call choice) n → IsEvent stamp actor call (chances.Call choice) seen n
+use Rattle.mq_turns.specs.Told.{ActsHere, Closed, IsBefore, IsTold}
 
 pub sender_turns : (cable : ℕ) → ActsHere (actors.Sender cable) calls.Turn
 sender_turns cable = record { quiet = λ reply own. refl; event_is = λ stamp choice seen n. refl; is_event = λ stamp choice seen n d. d }
@@ -62,17 +57,6 @@ can_come d Runs n m p = p
 can_come d NoMemory n m p = absurd m
 can_come d (Stopped by part left) n m p = p
 
--- What is to be known of a turn: its deed, what its parts came to, and what passed on the wire.
-pub record IsTold (s : NodeState) (actor : Actor) (call : Call) (d : Deed) (choice : Choice) (delta : List Did) (w : Passed) (received : List Message) (m : CoreValue) : Type 0 where
-  pub deed : deed_of w.stamp actor call w.popped (node_in s) ≡ Some d
-  pub reply : d.reply ≡ replies.Changed
-  pub made : Made d.parts choice delta s.manager m
-  pub pushed : w.pushed ≡ pushed_by choice d.pushed
-  pub received_is : received ≡ d.received
-  pub stamp : IsStamp s.stamp w.popped w.stamp
-  pub pop : IsPop w.popped w.pushed call actor
-  pub extras : AreExtras w.pushed w.extras
-
 module _ (s t : NodeState) (actor : Actor) (call : Call) (d : Deed) (choice : Choice) (delta : List Did) (w : Passed) (received : List Message) (m : CoreValue) where
   abbrev it : Entry
   it = turn_entry actor call choice delta w received
@@ -113,3 +97,20 @@ module _ (s t : NodeState) (actor : Actor) (call : Call) (d : Deed) (choice : Ch
   turn_adds k room e =
       let A : NodeState → Type 0 = λ x. Adds actor call it s x in
       subst A (sym e) (record { grows = record { given = refl; history = refl }; actor = refl; call = refl; marks = refl; faults = k.made.later })
+
+-- A turn is closed: its entry is added, and its end and the handlers are as it leaves them.
+pub closed_so : (s p q t : NodeState) (actor : Actor) (call : Call) (choice : Choice) (delta : List Did) (behind : Own) (w : Passed) (received : List Message) (d : Deed)
+    → q ≡ record p { own = own_by choice delta behind p.own } → t ≡ with_entry (turn_entry actor call choice delta w received) q
+    → IsBefore s p → ActsHere actor call → IsTold s actor call d choice delta w received p.manager → own_by choice delta behind p.own ≡ own_by choice delta d.own s.own → IsKept s → IsServed s → Closed s actor call (turn_entry actor call choice delta w received) t
+closed_so s p q t actor call choice delta behind w received d k z before a told same kept served =
+    let E : NodeState → NodeState = λ x. with_entry (turn_entry actor call choice delta w received) x in
+    let is : t ≡ E (record s { manager = p.manager; own = own_by choice delta d.own s.own; room = p.room }) =
+    z ∙ ap E (k ∙ ap (λ (o : Own). record p { own = o }) same ∙ ap (λ (x : NodeState). record x { own = own_by choice delta d.own s.own }) before) in
+    record {
+      kept = turn_kept s t actor call d choice delta w received p.manager a told kept served p.room is;
+      adds = turn_adds s t actor call d choice delta w received p.manager told p.room is;
+    }
+
+-- where only the manager has changed
+pub before_of : (s a : NodeState) → a ≡ record s { manager = a.manager } → IsBefore s a
+before_of s a g = g ∙ sym (ap (λ (x : NodeState). record s { manager = a.manager; own = x.own; room = x.room }) g)

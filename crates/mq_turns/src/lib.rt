@@ -3,9 +3,11 @@
 #![tactic(auto)]
 
 mod parting;
+mod passing;
 mod telling;
 mod timing;
 
-pub use parting::{expired, hardened, leave_if, nothing_done, released};
-pub use telling::{Passed, Turn, keep_end, tell_turn};
+pub use parting::{expired, hardened, leave_if, leave_in, nothing_done, released};
+pub use passing::{next_stamp, pass};
+pub use telling::{Passed, Turn, close_turn};
 pub use timing::timeout;

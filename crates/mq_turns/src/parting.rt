@@ -3,11 +3,12 @@ ghost use Rattle.std.specs.Prelude.{◌≡◌, [], false};
 ghost use Rattle.mq_calls.specs.declared.choices.Choice.TheVariants as choices;
 ghost use Rattle.mq_spec_node.specs.Words.{parts_of};
 ghost use Rattle.mq_spec_agents.specs.Words.{CanHarden, HasBatch, HasSeized, IsUp, expire, harden, release_batch};
-ghost use Rattle.mq_turns.specs.Turns.{IsBehind, MadeOr, left_parts};
+ghost use Rattle.mq_turns.specs.Turns.{IsBehind, MadeOr, has_run as has_run_by, left_parts};
 
 use mq_base::{Items, NoMemory};
 use mq_calls::{AgentStop, Choice, Note};
 use mq_disk::{Disk, Stop};
+use mq_events::NodeParts;
 use mq_manager::Manager;
 use mq_name::ChName;
 use mq_outcomes::Told;
@@ -107,7 +108,7 @@ pub fn released<D: Disk>(manager: &mut Manager<D>, channel: &ChName) -> Result<T
 
 /// Whether all was done.
 pub(crate) fn has_run(told: &Told) -> bool
-    ensures { result ≡ has_run told.now.choice }
+    ensures { result ≡ has_run_by told.now.choice }
 {
     match told.choice {
         Choice::Runs => true,
@@ -118,10 +119,19 @@ pub(crate) fn has_run(told: &Told) -> bool
 
 /// A sender that has stopped leaves its transmission queue, where all before was done. It takes no memory.
 pub fn leave_if<D: Disk>(manager: &mut Manager<D>, channel: &ChName, told: &Told, running: bool)
-    requires up { IsUp manager.old.plain }
+    requires up { told.now.choice ≡ choices.Runs → IsUp manager.old.plain }
     ensures { IsBehind (left_parts channel.now told.now.choice running manager.old.plain) manager.old manager.new }
 {
     if has_run(told) && !running {
         manager.leave(channel);
     }
+}
+
+/// So at a node.
+pub fn leave_in<D: Disk>(parts: &mut NodeParts<D>, channel: &ChName, told: &Told, running: bool)
+    requires up { told.now.choice ≡ choices.Runs → IsUp parts.old.manager.plain }
+    ensures same { parts.new ≡ record parts.old { manager = parts.new.manager } }
+    ensures behind { IsBehind (left_parts channel.now told.now.choice running parts.old.manager.plain) parts.old.manager parts.new.manager }
+{
+    leave_if(&mut parts.manager, channel, told, running);
 }

@@ -3,6 +3,7 @@ ghost use Rattle.std.specs.Prelude.{◌≡◌, ◌<◌};
 ghost use Rattle.mq_spec_node.specs.Words.{with_end};
 ghost use Rattle.mq_events.specs.States.{with_entry};
 ghost use Rattle.mq_turns.specs.Turns.{own_by, reply_for, turn_entry};
+ghost use Rattle.mq_turns.specs.Told.{Closes};
 
 use crate::parting::has_run;
 use mq_cabled::set_end;
@@ -89,4 +90,22 @@ pub fn keep_end<D: Disk>(parts: &mut NodeParts<D>, told: &Told, end: ChannelEnd)
         set_end(&mut parts.own, end);
         parts.own.forget_rows(told.delta.as_slice());
     }
+}
+
+/// Closes a turn or a timeout: the end after it, and its entry, in room that is there. It takes no memory.
+#[tactic(auto, using(crate::proofs::TurnLaws::closed_so))]
+pub fn close_turn<D: Disk>(
+    parts: &mut NodeParts<D>,
+    actor: Actor,
+    call: Call,
+    told: Told,
+    end: ChannelEnd,
+    passed: Passed,
+    received: Messages,
+)
+    requires room { 0 < parts.old.room }
+    ensures { Closes actor call told.choice told.delta (with_end end parts.old.own) passed received parts.old parts.new }
+{
+    keep_end(parts, &told, end);
+    tell_turn(parts, actor, call, told, passed, received);
 }

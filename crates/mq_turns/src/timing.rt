@@ -1,17 +1,18 @@
 //! A sender's timeout.
-ghost use Rattle.std.specs.Prelude.{◌≡◌, ◌<◌, Some, true, IsSome};
+ghost use Rattle.std.specs.Prelude.{◌≡◌, ◌+◌, ◌<◌, Ok, Some, true, IsSome};
 ghost use Rattle.mq_history.specs.declared.calls.Actor.TheVariants as actors;
 ghost use Rattle.mq_history.specs.declared.calls.Call.TheVariants as calls;
 ghost use Rattle.mq_frame.specs.declared.frame.Seen.TheVariants as items;
 ghost use Rattle.mq_spec_agents.specs.Words.{IsUp};
-ghost use Rattle.mq_sender.specs.States.{awaits};
+ghost use Rattle.mq_sender.specs.States.{awaits, timed_out};
 ghost use Rattle.mq_spec_node.specs.Words.{deed_of, sender_end};
 ghost use Rattle.mq_events.specs.States.{IsKept, IsServed, node_in};
 ghost use Rattle.mq_events.specs.Events.{MayAct};
 ghost use Rattle.mq_turns.specs.Turns.{TimeoutIs};
+ghost use Rattle.mq_turns.specs.declared.telling.Turn.TheVariants as turns;
 
-use crate::parting::{leave_if, nothing_done};
-use crate::telling::{Passed, Turn, keep_end, tell_turn};
+use crate::parting::{leave_in, nothing_done};
+use crate::telling::{Passed, Turn, close_turn};
 use mq_base::NoMemory;
 use mq_cabled::sender_of;
 use mq_calls::Messages;
@@ -20,6 +21,20 @@ use mq_events::NodeParts;
 use mq_frame::Seen;
 use mq_history::{Actor, Call};
 use mq_own::{ChannelEnd, EndKind, SenderEnd};
+
+/// The end after a timeout.
+fn timed_out(end: &SenderEnd) -> SenderEnd
+    ensures { result ≡ record end.now { machine = timed_out end.now.machine } }
+{
+    let mut machine = end.machine;
+    machine.timeout();
+    SenderEnd {
+        cable: end.cable,
+        channel: end.channel,
+        partner: end.partner,
+        machine,
+    }
+}
 
 /// A sender that waits for an answer has a timeout, in room that is there.
 fn time_out<D: Disk>(parts: &mut NodeParts<D>, end: SenderEnd)
@@ -31,15 +46,11 @@ fn time_out<D: Disk>(parts: &mut NodeParts<D>, end: SenderEnd)
     requires there { sender_end end.cable parts.old.own ≡ Some end }
     requires waits { awaits end.machine.state ≡ true }
     ensures kept { IsKept parts.new }
-    ensures did { TimeoutIs end.cable (deed_of (parts.old.stamp + 1) (actors.Sender end.cable) calls.Timeout items.Nothing (node_in parts.old)) parts.old (Ok (turns.Changed)) parts.new }
+    ensures did { TimeoutIs end.cable (deed_of (parts.old.stamp + 1) (actors.Sender end.cable) calls.Timeout items.Nothing (node_in parts.old)) parts.old (Ok turns.Changed) parts.new }
 {
-    let mut end = end;
-    let cable = end.cable;
-    end.machine.timeout();
+    let after = timed_out(&end);
     let told = nothing_done(parts.alloc);
-    leave_if(&mut parts.manager, &end.channel, &told, end.machine.is_running());
-    let kind = EndKind::Sends(end);
-    keep_end(parts, &told, ChannelEnd { kind });
+    leave_in(parts, &end.channel, &told, after.machine.is_running());
     let passed = Passed {
         stamp: parts.stamp + 1,
         pushed: None,
@@ -47,7 +58,16 @@ fn time_out<D: Disk>(parts: &mut NodeParts<D>, end: SenderEnd)
         popped: Seen::Nothing,
     };
     let received = Messages::new(parts.alloc);
-    tell_turn(parts, Actor::Sender(cable), Call::Timeout, told, passed, received);
+    let kind = EndKind::Sends(after);
+    close_turn(
+        parts,
+        Actor::Sender(end.cable),
+        Call::Timeout,
+        told,
+        ChannelEnd { kind },
+        passed,
+        received,
+    );
 }
 
 /// A timeout of the sender end of a cable. Still exactly where the manager is down or the sender waits for no answer; nothing has

@@ -27,7 +27,7 @@ pub record ShowsItem (front : Option Item) (seen : Seen) (stamp : ℕ) : Type 0 
 
 -- what is seen: nothing, where a fetch found nothing; or what the fetched item shows
 abbrev pub Sees : Option Item → Type 0 → Seen → ℕ → Type 0
-Sees front empty items.Nothing stamp = empty
+Sees front empty items.Nothing stamp = empty × (stamp ≡ 0)
 Sees front empty items.Spoiled stamp = ShowsItem front items.Spoiled stamp
 Sees front empty (items.Frame f) stamp = ShowsItem front (items.Frame f) stamp
 

@@ -1,0 +1,3 @@
+pub mod SendLaws
+pub mod SettleLaws
+pub mod TableLaws

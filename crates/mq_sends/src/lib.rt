@@ -1,0 +1,7 @@
+//! Turns of a channel's sender end, line by line of its table.
+#![tactic(auto)]
+
+mod asking;
+mod settling;
+mod working;
+
