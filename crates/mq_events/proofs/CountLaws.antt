@@ -8,6 +8,7 @@ use Rattle.mq_base.specs.declared.want.NoMemory.{NoMemory as Want}
 use Rattle.mq_calls.specs.declared.image.Shelf.{Shelf}
 use Rattle.mq_history.specs.declared.calls.Call.TheVariants as calls
 use Rattle.mq_spec_state.specs.State.{Given, LogState, Queue}
+use Rattle.mq_queue.specs.declared.row.Row.{Row}
 use Rattle.mq_spec_state.specs.Counts.{IsCounted}
 use Rattle.mq_spec_state.specs.Reads.{queue_in, stored, puts_to}
 use Rattle.mq_spec_state.specs.Images.{Image, begun, numbered, queue_on, raised}
@@ -16,7 +17,6 @@ use Rattle.mq_spec_node.specs.Words.{Deed, Node, NodeValue, Surroundings, openin
 use Rattle.mq_law_manager.specs.Facts.{Mem, AreNamed}
 use Rattle.mq_law_manager.proofs.Lists.{bool_case}
 use Rattle.mq_law_manager.proofs.Named.{name_self, name_turned}
-use Rattle.mq_law_manager.proofs.Numbered.{numbered_length}
 use Rattle.mq_law_image.proofs.Growing.{handles_more}
 use Rattle.mq_law_log.proofs.Bridge.{all_of}
 use Rattle.mq_law_counts.specs.Counts.{Climbs, IsCountedCall}
@@ -85,10 +85,14 @@ pub counted_still : (s t : NodeState) → AreCounted s → KeepsCounts s t → S
 counted_still s t b q k = λ is. subst HasBound (sym k.same) (b (sym q.few ∙ is))
 
 -- With what a manager begins, each queue has counted its rows alone.
+numbered_long : (n : ℕ) (rows : List Row) → length (numbered n rows) ≡ length rows
+numbered_long n [] = refl
+numbered_long n (row ∷ rows) = let h = numbered_long (n + 1) rows in omega (arith, h)
+
 arrived : (name : List ℕ) (ss : List Shelf) → (queue_in name (map queue_on ss)).arrivals ≡ length (queue_in name (map queue_on ss)).rows
 arrived name [] = refl
 arrived name (s ∷ ss) = bool_case (bytes_eq name s.name) (λ b. (if b then queue_on s else queue_in name (map queue_on ss)).arrivals ≡ length (if b then queue_on s else queue_in name (map queue_on ss)).rows)
-    (λ e. sym (numbered_length 0 s.rows)) (λ e. arrived name ss)
+    (λ e. sym (numbered_long 0 s.rows)) (λ e. arrived name ss)
 
 undue : (name : List ℕ) (ss : List Shelf) → (queue_in name (map queue_on ss)).due ≡ 0
 undue name [] = refl
