@@ -1,8 +1,8 @@
 -- Ends by their cables, and by their places in the list.
-use Rattle.std.proofs.Common.{◌≡◌, ℕ, zero, suc, ◌<◌, List, [], ◌∷◌, length, refl, sym, ap, ◌∙◌, subst, arith, Bool, true, false}
-use Rattle.std.specs.Prelude.{position, Option, Some, None, ◌==◌, if◌then◌else◌, slice_get, slice_set}
+use Rattle.std.proofs.Common.{◌≡◌, ℕ, zero, suc, ◌<◌, List, [], ◌∷◌, length, refl, sym, ap, ◌∙◌, arith}
+use Rattle.std.specs.Prelude.{position, Some, None, ◌==◌, slice_get, slice_set}
 use Rattle.std.proofs.lemmas.Bool.Decides.{nat_tests}
-use Rattle.mq_spec_node.specs.Node.{ChannelEnd, Own, SenderEnd, ReceiverEnd, cable_of, end_in, as_sender, as_receiver, set_end, with_end}
+use Rattle.mq_spec_node.specs.Node.{ChannelEnd, cable_of, end_in, as_receiver, set_end}
 use Rattle.mq_spec_node.specs.Node.ChannelEnd.{Sends, Receives}
 use Rattle.mq_cabled.specs.Lifted.{lifted, lifted_ends}
 

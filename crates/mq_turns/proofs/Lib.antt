@@ -3,3 +3,7 @@ pub mod RunLaws
 pub mod TurnLaws
 pub mod TimeLaws
 pub mod WireLaws
+pub mod SendLaws
+pub mod SettleLaws
+pub mod TableLaws
+pub mod IgnoreLaws

@@ -1,5 +1,5 @@
 -- What is to be known of a turn before its entry is added, and what holds then.
-use Rattle.std.specs.Prelude.{◌≡◌, ℕ, List}
+use Rattle.std.specs.Prelude.{◌≡◌, ℕ, List, Some}
 use Rattle.mq_calls.specs.declared.choices.Choice.{Choice}
 use Rattle.mq_history.specs.declared.calls.Chance.TheVariants as chances
 use Rattle.mq_history.specs.declared.calls.Reply.TheVariants as replies

@@ -1,13 +1,15 @@
-//! What the turns of both ends of a channel have in common, and a sender's timeout: a call of the manager as a part of a turn, and the
-//! entry that tells the turn.
+//! Turns of a channel's sender end and its timeouts, each as one event of a node.
 #![tactic(auto)]
 
+mod answering;
+mod asking;
 mod parting;
 mod passing;
+mod pushing;
+mod settling;
 mod telling;
 mod timing;
+mod working;
 
-pub use parting::{expired, hardened, leave_if, leave_in, nothing_done, released};
-pub use passing::{next_stamp, pass};
-pub use telling::{Passed, Turn, close_turn};
+pub use telling::{Passed, Turn};
 pub use timing::timeout;

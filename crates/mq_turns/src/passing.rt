@@ -1,11 +1,13 @@
 //! What passes on a wire in a turn.
-ghost use Rattle.std.specs.Prelude.{◌≡◌, ◌+◌, ◌<◌, ◌≤◌, ◌^◌, ℕ, [], max};
+ghost use Rattle.std.specs.Prelude.{◌≡◌, ◌+◌, ◌<◌, ◌≤◌, ◌^◌, ℕ, [], max, true};
+ghost use Rattle.mq_frame.specs.Frames.{HasSpelling};
 ghost use Rattle.mq_frame.specs.declared.frame.Seen.TheVariants as items;
 ghost use Rattle.mq_wires.specs.Wires.{Sees};
 ghost use Rattle.mq_turns.specs.Wired.{Popped};
 
 use mq_cable::Wire;
-use mq_frame::Seen;
+use mq_frame::{FrameKind, Seen};
+use mq_unit::can_be_kept;
 use mq_wires::{Sight, take};
 
 /// The stamp of an entry, by the last one and by the item that it pops, if it pops one.
@@ -28,5 +30,21 @@ pub fn pass<W: Wire>(wire: &mut W, sight: &Sight)
         Seen::Nothing => {}
         Seen::Spoiled => take(wire),
         Seen::Frame(_) => take(wire),
+    }
+}
+
+/// The bytes of a frame of that kind show it again.
+pub fn has_spelling(kind: &FrameKind) -> bool
+    ensures { result ≡ true → HasSpelling kind.now }
+{
+    match kind {
+        FrameKind::Bind { .. } => true,
+        FrameKind::Status { .. } => true,
+        FrameKind::Msg { index, message, .. } => {
+            *index > 0 && can_be_kept(message) && message.route.is_none()
+        }
+        FrameKind::End { count, .. } => *count > 0,
+        FrameKind::Ack { .. } => true,
+        FrameKind::Err { .. } => true,
     }
 }

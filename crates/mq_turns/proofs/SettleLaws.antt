@@ -25,8 +25,8 @@ use Rattle.mq_turns.specs.Turns.{IsAsWas, Made, own_by, turn_entry}
 use Rattle.mq_turns.specs.Told.{Closes, IsBefore, IsTold}
 use Rattle.mq_turns.specs.Wired.{Popped, TurnIs}
 use Rattle.mq_turns.proofs.TurnLaws.{before_of, sender_turns}
-use Rattle.mq_sends.specs.Sends.{Works, all_parts}
-use Rattle.mq_sends.proofs.SendLaws.{behind_end, none_pushed, pop_is, stamp_is, turn_is, worked, works_is}
+use Rattle.mq_turns.specs.Sends.{Works, all_parts, behind_end}
+use Rattle.mq_turns.proofs.SendLaws.{none_pushed, pop_is, stamp_is, turn_is, worked, works_is}
 
 module _ (s a t : NodeState) (e : SenderEnd) (does : SenderDoes) (seen : Seen) (front : Option Item) (stamp : ℕ) (choice : Choice) (delta : List Did) where
   abbrev w : Passed

@@ -4,19 +4,20 @@ ghost use Rattle.mq_spec_agents.specs.Words.{IsUp};
 ghost use Rattle.mq_spec_node.specs.Words.{doubted, settle_parts, settle_parts_if};
 ghost use Rattle.mq_sync.specs.Settlement.{is_commit};
 ghost use Rattle.mq_turns.specs.Turns.{MadeOr};
-ghost use Rattle.mq_sends.specs.Sends.{Works, all_parts, sender_parts};
+ghost use Rattle.mq_turns.specs.Sends.{Works, all_parts, sender_parts};
 ghost use Rattle.mq_sender.specs.declared.turns.SenderDoes.TheVariants as does_what;
 
 use crate::asking::{has_seized, may_begin, may_settle};
 use mq_base::NoMemory;
 use mq_calls::Note;
 use mq_disk::Disk;
+use mq_events::NodeParts;
 use mq_manager::Manager;
 use mq_outcomes::Told;
 use mq_own::SenderEnd;
 use mq_sender::{Sender, SenderDoes};
 use mq_sync::{Settle, Unit};
-use mq_turns::{expired, hardened, leave_if, nothing_done};
+use crate::parting::{expired, hardened, leave_if, nothing_done};
 use std::alloc::Global;
 
 /// The unit in doubt, as a machine knows it.
@@ -142,7 +143,7 @@ fn act<D: Disk>(
 /// # Errors
 ///
 /// No memory; nothing has changed. So it is too where the manager has not what the end knows of it, which never comes.
-pub(crate) fn work<D: Disk>(
+fn work<D: Disk>(
     alloc: Global,
     manager: &mut Manager<D>,
     end: &SenderEnd,
@@ -160,4 +161,19 @@ pub(crate) fn work<D: Disk>(
             Ok(told)
         }
     }
+}
+
+/// So at a node.
+pub(crate) fn work_in<D: Disk>(
+    parts: &mut NodeParts<D>,
+    end: &SenderEnd,
+    does: &SenderDoes,
+    running: bool,
+) -> Result<Told, NoMemory>
+    requires up { IsUp parts.old.manager.plain }
+    requires works { Works does.now }
+    ensures same { parts.new ≡ record parts.old { manager = parts.new.manager } }
+    ensures told { MadeOr (all_parts end.now does.now running parts.old.manager.plain) result parts.old.manager parts.new.manager }
+{
+    work(parts.alloc, &mut parts.manager, end, does, running)
 }

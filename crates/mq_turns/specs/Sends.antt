@@ -1,9 +1,11 @@
 -- What each line of the sender's table does at the manager.
-use Rattle.std.specs.Prelude.{◌≡◌, ℕ, Bool, true, false, List, [], ◌++◌}
+use Rattle.std.specs.Prelude.{◌≡◌, ℕ, Bool, true, false, List, [], ◌++◌, Some}
 use Rattle.mq_calls.specs.declared.agents.Note.TheVariants as notes
 use Rattle.mq_sender.specs.declared.turns.SenderDoes.TheVariants as does
-use Rattle.mq_spec_node.specs.Terms.{SenderDoes, Plain, Part, expire, harden}
-use Rattle.mq_spec_node.specs.Words.{SenderEnd, parts_of, settle_parts, settle_parts_if}
+use Rattle.mq_sender.specs.After.{done_after}
+use Rattle.mq_spec_node.specs.Terms.{Frame, SenderDoes, Plain, Part, expire, harden}
+use Rattle.mq_spec_node.specs.Words.{Deed, Node, SenderEnd, parts_of, settle_parts, settle_parts_if, turned, with_end}
+use Rattle.mq_spec_node.specs.Node.ChannelEnd.{Sends}
 use Rattle.mq_turns.specs.Turns.{leave_unless}
 
 -- lines that do no more at the manager than to harden a record or to remove expired rows
@@ -42,3 +44,16 @@ IsOwn (does.Bound settle partner) = ⊥
 IsOwn does.Commit = ⊥
 IsOwn (does.Backout reason) = ⊥
 IsOwn _ = Unit {0}
+
+-- the item is taken, and nothing else is done
+abbrev pub is_ignore : SenderDoes → Bool
+is_ignore does.Ignore = true
+is_ignore _ = false
+
+-- the end after a line
+abbrev pub behind_end : SenderEnd → SenderDoes → SenderEnd
+behind_end e d = record e { machine = done_after e.machine d }
+
+-- the deed of a line that offers this frame and does nothing at the manager
+abbrev pub pushed_deed : SenderEnd → SenderDoes → Frame → Node → Deed
+pushed_deed e d f n = turned [] (Some f) (with_end (Sends (behind_end e d)) n.own)

@@ -11,7 +11,7 @@ use Rattle.mq_sender.specs.declared.state.Sender.{Sender}
 use Rattle.mq_sender.specs.declared.turns.SenderDoes.{SenderDoes}
 use Rattle.mq_sender.specs.declared.turns.SenderDoes.TheVariants as does
 use Rattle.mq_sender.specs.Table.{err_reason, is_ack, is_binding, is_err, is_hailing, is_idle, is_ready, is_sending, is_starting, is_status, is_waiting, messages_sent, sender_lines, sender_next, settled_by, status_last, status_unit}
-use Rattle.mq_sends.specs.Sends.{Answers, IsOwn, Works}
+use Rattle.mq_turns.specs.Sends.{Answers, IsOwn, Works, is_ignore}
 
 -- the lines of what waits, and the others
 abbrev heads : Sender → Seen → Bool → List (Line SenderDoes) → SenderDoes
@@ -84,8 +84,8 @@ own_is m a =
     pass (is_ready m.state) does.PushEnd does.Still tt tt)))))))))
 
 -- an answer that isn't ignored works at the manager
-pub answers_work : (d : SenderDoes) → Answers d → (d ≡ does.Ignore → ⊥) → Works d
-answers_work does.Ignore a n = absurd (n refl)
+pub answers_work : (d : SenderDoes) → Answers d → is_ignore d ≡ false → Works d
+answers_work does.Ignore a n = absurd cc
 answers_work (does.Bound settle partner) a n = tt
 answers_work does.Commit a n = tt
 answers_work (does.Backout reason) a n = tt
@@ -97,3 +97,17 @@ answers_work (does.Begin k count) a n = absurd a
 answers_work (does.PushMsg index) a n = absurd a
 answers_work does.Prepare a n = absurd a
 answers_work does.PushEnd a n = absurd a
+
+pub ignore_is : (d : SenderDoes) → is_ignore d ≡ true → d ≡ does.Ignore
+ignore_is does.Ignore e = refl
+ignore_is (does.Bound settle partner) e = absurd cc
+ignore_is does.Commit e = absurd cc
+ignore_is (does.Backout reason) e = absurd cc
+ignore_is does.Still e = absurd cc
+ignore_is (does.HardenSession session) e = absurd cc
+ignore_is does.PushBind e = absurd cc
+ignore_is does.Expire e = absurd cc
+ignore_is (does.Begin k count) e = absurd cc
+ignore_is (does.PushMsg index) e = absurd cc
+ignore_is does.Prepare e = absurd cc
+ignore_is does.PushEnd e = absurd cc

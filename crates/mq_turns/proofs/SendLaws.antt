@@ -21,11 +21,7 @@ use Rattle.mq_core.specs.Values.{CoreValue}
 use Rattle.mq_events.specs.States.{NodeState, node_in}
 use Rattle.mq_turns.specs.Turns.{Made, pushed_by, leave_unless}
 use Rattle.mq_turns.proofs.TimeLaws.{leaves_are, up_is}
-use Rattle.mq_sends.specs.Sends.{Works, all_parts, sender_parts}
-
--- the end after a line
-abbrev pub behind_end : SenderEnd → SenderDoes → SenderEnd
-behind_end e d = record e { machine = done_after e.machine d }
+use Rattle.mq_turns.specs.Sends.{Works, all_parts, behind_end, sender_parts}
 
 -- A line that works at the manager.
 abbrev pub worked : SenderEnd → SenderDoes → Node → Deed

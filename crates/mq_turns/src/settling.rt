@@ -13,9 +13,9 @@ ghost use Rattle.mq_wires.specs.Wires.{Sees};
 ghost use Rattle.mq_events.specs.States.{IsKept, IsServed, node_in};
 ghost use Rattle.mq_events.specs.Events.{MayAct};
 ghost use Rattle.mq_turns.specs.Wired.{TurnIs};
-ghost use Rattle.mq_sends.specs.Sends.{Works};
+ghost use Rattle.mq_turns.specs.Sends.{Works};
 
-use crate::working::work;
+use crate::working::work_in;
 use mq_base::NoMemory;
 use mq_cable::Wire;
 use mq_calls::Messages;
@@ -24,7 +24,8 @@ use mq_events::NodeParts;
 use mq_history::{Actor, Call};
 use mq_own::{ChannelEnd, EndKind, SenderEnd};
 use mq_sender::{SenderDoes, SenderOut};
-use mq_turns::{Passed, Turn, close_turn, next_stamp, pass};
+use crate::passing::{next_stamp, pass};
+use crate::telling::{Passed, Turn, close_turn};
 use mq_wires::Sight;
 
 /// The end after a line of its table.
@@ -64,7 +65,7 @@ pub(crate) fn settling_turn<D: Disk, W: Wire>(
 {
     let after = end_after(&end, &does);
     let running = after.machine.is_running();
-    let told = match work(parts.alloc, &mut parts.manager, &end, &does, running) {
+    let told = match work_in(parts, &end, &does, running) {
         Ok(told) => told,
         Err(NoMemory) => return Err(NoMemory),
     };

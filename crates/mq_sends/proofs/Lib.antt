@@ -1,3 +1,0 @@
-pub mod SendLaws
-pub mod SettleLaws
-pub mod TableLaws
