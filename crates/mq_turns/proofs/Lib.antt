@@ -1,5 +1,6 @@
 pub mod PartLaws
 pub mod RunLaws
+pub mod CountLaws
 pub mod TurnLaws
 pub mod TimeLaws
 pub mod WireLaws

@@ -11,7 +11,7 @@ use Rattle.mq_sender.specs.States.{awaits, is_running, timed_out}
 use Rattle.mq_sender.specs.declared.state.Sender.{Sender}
 use Rattle.mq_spec_state.specs.Reads.{is_up}
 use Rattle.mq_spec_agents.specs.Words.{IsUp}
-use Rattle.mq_spec_node.specs.Terms.{Did, Plain, Part, Running, Up, Down}
+use Rattle.mq_spec_node.specs.Terms.{Did, Message, Plain, Part, Running, Up, Down}
 use Rattle.mq_spec_node.specs.Words.{Node, Own, SenderEnd, Deed, node_of, deed_of, sender_end, timeout_of, where_up, after_timeout, with_end}
 use Rattle.mq_spec_node.specs.Node.ChannelEnd.{Sends}
 use Rattle.mq_core.specs.Values.{CoreValue}
@@ -21,7 +21,9 @@ use Rattle.mq_turns.specs.declared.telling.Turn.TheVariants as turns
 use Rattle.mq_turns.specs.Turns.{IsBehind, Made, TimeoutIs, leave_unless, left_parts, own_by, pushed_by, turn_entry}
 use Rattle.mq_turns.proofs.PartLaws.{AreSilent, behind_if, made_behind, none_made}
 use Rattle.mq_turns.specs.Told.{Closes, IsBefore, IsTold}
+use Rattle.mq_turns.specs.Counted.{IsUnmoved}
 use Rattle.mq_turns.proofs.TurnLaws.{before_of, sender_times_out}
+use Rattle.mq_turns.proofs.CountLaws.{BringNone, kept_turn, leaves_none, made_climbs, unmoved_by}
 
 -- what stops leaves
 pub leaves_are : (running : Bool) (channel : List ℕ) (p : Plain) → (if running then [] else leave_unless false channel p) ≡ leave_unless running channel p
@@ -121,12 +123,51 @@ module _ (s a t : NodeState) (e : SenderEnd) (choice : Choice) (delta : List Did
     extras = refl;
   }
 
+  brings : BringNone d.parts
+  brings = let B : List Part → Type 0 = λ ps. BringNone ps in subst B (sym (leaves_are (is_running (timed_out e.machine).state) e.channel s.manager.plain)) (leaves_none (is_running (timed_out e.machine).state) e.channel s.manager.plain)
+
   pub timed : IsUp s.manager.plain → sender_end e.cable s.own ≡ Some e → awaits e.machine.state ≡ true → choice ≡ Runs → delta ≡ [] → left → IsKept s → IsServed s → a ≡ record s { manager = a.manager }
       → Closes (actors.Sender e.cable) calls.Timeout choice delta (with_end (Sends after) a.own) (nothing_passed (s.stamp + 1)) [] a t
-      → IsKept t × TimeoutIs e.cable (deed_of (s.stamp + 1) (actors.Sender e.cable) calls.Timeout items.Nothing (node_in s)) s (Ok turns.Changed) t
+      → IsKept t × TimeoutIs e.cable (deed_of (s.stamp + 1) (actors.Sender e.cable) calls.Timeout items.Nothing (node_in s)) s (Ok turns.Changed) t × IsUnmoved s t
   timed up there waits c f b kept served g z =
       let same : a.own ≡ s.own = ap (λ (x : NodeState). x.own) g in
       let before : IsBefore s a = before_of s a g in
       let k = z s d before (sender_times_out e.cable) (told_is up there waits c f b) (ap (λ (o : Own). own_by choice delta (with_end (Sends after) o) o) same) kept served in
       let T : Option Deed → Type 0 = λ o. TimeoutIs e.cable o s (Ok turns.Changed) t in
-      (k.kept, subst T (sym (timeout_is (s.stamp + 1) e.cable (node_in s) e up there waits)) (turn_entry (actors.Sender e.cable) calls.Timeout choice delta (nothing_passed (s.stamp + 1)) [], k.adds))
+      (k.kept, subst T (sym (timeout_is (s.stamp + 1) e.cable (node_in s) e up there waits)) (turn_entry (actors.Sender e.cable) calls.Timeout choice delta (nothing_passed (s.stamp + 1)) [], k.adds),
+      unmoved_by s t a.manager (own_by choice delta (with_end (Sends after) s.own) s.own) k.few k.manager_is k.own_is (made_climbs d.parts choice delta s.manager a.manager brings (told_is up there waits c f b).made) (kept_turn s.own choice delta e after refl there))
+
+-- with what the code has for the end after it, for whether it runs, for the stamp
+pub timed_so : (s a t : NodeState) (e after : SenderEnd) (running : Bool) (stamp : ℕ) (received : List Message) (choice : Choice) (delta : List Did) → after ≡ record e { machine = timed_out e.machine } → running ≡ is_running after.machine.state → stamp ≡ s.stamp + 1 → received ≡ []
+    → IsUp s.manager.plain → sender_end e.cable s.own ≡ Some e → awaits e.machine.state ≡ true → choice ≡ Runs → delta ≡ [] → IsBehind (left_parts e.channel choice running s.manager.plain) s.manager a.manager → IsKept s → IsServed s → a ≡ record s { manager = a.manager }
+    → Closes (actors.Sender e.cable) calls.Timeout choice delta (with_end (Sends after) a.own) (nothing_passed stamp) received a t
+    → IsKept t × TimeoutIs e.cable (deed_of (s.stamp + 1) (actors.Sender e.cable) calls.Timeout items.Nothing (node_in s)) s (Ok turns.Changed) t × IsUnmoved s t
+timed_so s a t e after running stamp received choice delta is runs st rs up there waits c f b kept served g z =
+    let B : Bool → Type 0 = λ r. IsBehind (left_parts e.channel choice r s.manager.plain) s.manager a.manager in
+    let A : SenderEnd → Type 0 = λ x. Closes (actors.Sender e.cable) calls.Timeout choice delta (with_end (Sends x) a.own) (nothing_passed stamp) received a t in
+    let S : ℕ → Type 0 = λ n. Closes (actors.Sender e.cable) calls.Timeout choice delta (with_end (Sends (record e { machine = timed_out e.machine })) a.own) (nothing_passed n) received a t in
+    let R : List Message → Type 0 = λ ms. Closes (actors.Sender e.cable) calls.Timeout choice delta (with_end (Sends (record e { machine = timed_out e.machine })) a.own) (nothing_passed (s.stamp + 1)) ms a t in
+    timed s a t e choice delta up there waits c f (subst B (runs ∙ ap (λ (x : SenderEnd). is_running x.machine.state) is) b) kept served g (subst R rs (subst S st (subst A is z)))
+
+pub room_up : (s r : NodeState) → r ≡ record s { room = r.room } → IsUp s.manager.plain → IsUp r.manager.plain
+room_up s r e up = subst (λ (x : NodeState). IsUp x.manager.plain) (sym e) up
+
+pub room_end : (s r : NodeState) (cable : ℕ) (e : Option SenderEnd) → r ≡ record s { room = r.room } → sender_end cable s.own ≡ e → sender_end cable r.own ≡ e
+room_end s r cable o e h = ap (λ (x : NodeState). sender_end cable x.own) e ∙ h
+
+-- room was taken before
+pub room_timed : (s r t : NodeState) (cable : ℕ) → r ≡ record s { room = r.room } → TimeoutIs cable (deed_of (r.stamp + 1) (actors.Sender cable) calls.Timeout items.Nothing (node_in r)) r (Ok turns.Changed) t
+    → TimeoutIs cable (deed_of (s.stamp + 1) (actors.Sender cable) calls.Timeout items.Nothing (node_in s)) s (Ok turns.Changed) t
+room_timed s r t cable e h =
+    let T : NodeState → Type 0 = λ x. TimeoutIs cable (deed_of (x.stamp + 1) (actors.Sender cable) calls.Timeout items.Nothing (node_in x)) x (Ok turns.Changed) t in
+    at (deed_of (s.stamp + 1) (actors.Sender cable) calls.Timeout items.Nothing (node_in s)) (subst T e h)
+  where
+    at : (d : Option Deed) → TimeoutIs cable d (record s { room = r.room }) (Ok turns.Changed) t → TimeoutIs cable d s (Ok turns.Changed) t
+    at None h = absurd h
+    at (Some d) h = (h.0, record { grows = record { given = h.1.grows.given; history = h.1.grows.history }; actor = h.1.actor; call = h.1.call; marks = h.1.marks; faults = h.1.faults })
+
+pub room_unmoved : (s r t : NodeState) → r ≡ record s { room = r.room } → IsUnmoved r t → IsUnmoved s t
+room_unmoved s r t e u = let U : NodeState → Type 0 = λ x. IsUnmoved x t in at (subst U e u)
+  where
+    at : IsUnmoved (record s { room = r.room }) t → IsUnmoved s t
+    at u = record { few = u.few; total = u.total; climbs = u.climbs }

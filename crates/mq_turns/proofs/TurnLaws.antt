@@ -101,7 +101,7 @@ module _ (s t : NodeState) (actor : Actor) (call : Call) (d : Deed) (choice : Ch
 -- A turn is closed: its entry is added, and its end and the handlers are as it leaves them.
 pub closed_so : (s p q t : NodeState) (actor : Actor) (call : Call) (choice : Choice) (delta : List Did) (behind : Own) (w : Passed) (received : List Message) (d : Deed)
     → q ≡ record p { own = own_by choice delta behind p.own } → t ≡ with_entry (turn_entry actor call choice delta w received) q
-    → IsBefore s p → ActsHere actor call → IsTold s actor call d choice delta w received p.manager → own_by choice delta behind p.own ≡ own_by choice delta d.own s.own → IsKept s → IsServed s → Closed s actor call (turn_entry actor call choice delta w received) t
+    → IsBefore s p → ActsHere actor call → IsTold s actor call d choice delta w received p.manager → own_by choice delta behind p.own ≡ own_by choice delta d.own s.own → IsKept s → IsServed s → Closed s actor call (turn_entry actor call choice delta w received) p.manager (own_by choice delta d.own s.own) t
 closed_so s p q t actor call choice delta behind w received d k z before a told same kept served =
     let E : NodeState → NodeState = λ x. with_entry (turn_entry actor call choice delta w received) x in
     let is : t ≡ E (record s { manager = p.manager; own = own_by choice delta d.own s.own; room = p.room }) =
@@ -109,6 +109,9 @@ closed_so s p q t actor call choice delta behind w received d k z before a told 
     record {
       kept = turn_kept s t actor call d choice delta w received p.manager a told kept served p.room is;
       adds = turn_adds s t actor call d choice delta w received p.manager told p.room is;
+      few = ap (λ (x : NodeState). x.few) is;
+      manager_is = ap (λ (x : NodeState). x.manager) is;
+      own_is = ap (λ (x : NodeState). x.own) is;
     }
 
 -- where only the manager has changed

@@ -32,13 +32,16 @@ pub record IsTold (s : NodeState) (actor : Actor) (call : Call) (d : Deed) (choi
 abbrev pub IsBefore : NodeState → NodeState → Type 0
 IsBefore s p = p ≡ record s { manager = p.manager; own = p.own; room = p.room }
 
--- the history with the entry replays
-pub record Closed (s : NodeState) (actor : Actor) (call : Call) (e : Entry) (t : NodeState) : Type 0 where
+-- the history with the entry replays; the manager and the node's own are these
+pub record Closed (s : NodeState) (actor : Actor) (call : Call) (e : Entry) (m : CoreValue) (own : Own) (t : NodeState) : Type 0 where
   pub kept : IsKept t
   pub adds : Adds actor call e s t
+  pub few : t.few ≡ s.few
+  pub manager_is : t.manager ≡ m
+  pub own_is : t.own ≡ own
 
 -- So it is closed, whatever its deed is, where all that is known: with the end that the deed leaves.
 abbrev pub Closes : Actor → Call → Choice → List Did → Own → Passed → List Message → NodeState → NodeState → Type 0
 Closes actor call choice delta behind w received p t =
     (s : NodeState) (d : Deed) → IsBefore s p → ActsHere actor call → IsTold s actor call d choice delta w received p.manager → own_by choice delta behind p.own ≡ own_by choice delta d.own s.own → IsKept s → IsServed s
-        → Closed s actor call (turn_entry actor call choice delta w received) t
+        → Closed s actor call (turn_entry actor call choice delta w received) p.manager (own_by choice delta d.own s.own) t

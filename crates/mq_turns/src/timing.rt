@@ -9,6 +9,7 @@ ghost use Rattle.mq_spec_node.specs.Words.{deed_of, sender_end};
 ghost use Rattle.mq_events.specs.States.{IsKept, IsServed, node_in};
 ghost use Rattle.mq_events.specs.Events.{MayAct};
 ghost use Rattle.mq_turns.specs.Turns.{TimeoutIs};
+ghost use Rattle.mq_turns.specs.Counted.{IsUnmoved};
 ghost use Rattle.mq_turns.specs.declared.telling.Turn.TheVariants as turns;
 
 use crate::parting::{leave_in, nothing_done};
@@ -17,7 +18,7 @@ use mq_base::NoMemory;
 use mq_cabled::sender_of;
 use mq_calls::Messages;
 use mq_disk::Disk;
-use mq_events::NodeParts;
+use mq_events::{Node, NodeParts};
 use mq_frame::Seen;
 use mq_history::{Actor, Call};
 use mq_own::{ChannelEnd, EndKind, SenderEnd};
@@ -47,6 +48,7 @@ fn time_out<D: Disk>(parts: &mut NodeParts<D>, end: SenderEnd)
     requires waits { awaits end.machine.state ≡ true }
     ensures kept { IsKept parts.new }
     ensures did { TimeoutIs end.cable (deed_of (parts.old.stamp + 1) (actors.Sender end.cable) calls.Timeout items.Nothing (node_in parts.old)) parts.old (Ok turns.Changed) parts.new }
+    ensures counts { IsUnmoved parts.old parts.new }
 {
     let after = timed_out(&end);
     let told = nothing_done(parts.alloc);
@@ -70,19 +72,15 @@ fn time_out<D: Disk>(parts: &mut NodeParts<D>, end: SenderEnd)
     );
 }
 
-/// A timeout of the sender end of a cable. Still exactly where the manager is down or the sender waits for no answer; nothing has
-/// changed then.
-///
-/// # Errors
-///
-/// No memory for the entry; nothing has changed.
-pub fn timeout<D: Disk>(parts: &mut NodeParts<D>, cable: u16) -> Result<Turn, NoMemory>
+/// A timeout of the sender end of a cable.
+fn timeout_at<D: Disk>(parts: &mut NodeParts<D>, cable: u16) -> Result<Turn, NoMemory>
     requires kept { IsKept parts.old }
     requires served { IsServed parts.old }
     requires may { MayAct parts.old }
     requires there { IsSome (sender_end cable parts.old.own) }
     ensures kept { IsKept parts.new }
     ensures did { TimeoutIs cable (deed_of (parts.old.stamp + 1) (actors.Sender cable) calls.Timeout items.Nothing (node_in parts.old)) parts.old result parts.new }
+    ensures counts { IsUnmoved parts.old parts.new }
 {
     if !parts.manager.is_up() {
         return Ok(Turn::Still);
@@ -99,4 +97,20 @@ pub fn timeout<D: Disk>(parts: &mut NodeParts<D>, cable: u16) -> Result<Turn, No
     }
     time_out(parts, end);
     Ok(Turn::Changed)
+}
+
+/// A timeout of the sender end of a cable. Still exactly where the manager is down or the sender waits for no answer; nothing has
+/// changed then.
+///
+/// # Errors
+///
+/// No memory for the entry; nothing has changed.
+#[tactic(auto, using(crate::proofs::CountLaws::timed_node))]
+pub fn timeout<D: Disk>(node: &mut Node<D>, cable: u16) -> Result<Turn, NoMemory>
+    requires served { IsServed node.old }
+    requires may { MayAct node.old }
+    requires there { IsSome (sender_end cable node.old.own) }
+    ensures { TimeoutIs cable (deed_of (node.old.stamp + 1) (actors.Sender cable) calls.Timeout items.Nothing (node_in node.old)) node.old result node.new }
+{
+    timeout_at(&mut node.parts, cable)
 }
