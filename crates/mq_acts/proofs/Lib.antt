@@ -1,0 +1,4 @@
+pub mod ReturnLaws
+pub mod RestartLaws
+pub mod AnswerLaws
+pub mod OwnLaws
