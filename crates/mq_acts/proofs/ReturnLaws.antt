@@ -71,9 +71,6 @@ own_does kept started p new delta own (Down n starts) e down is told =
     ap (λ (q : Plain). quiet (replies.Acted acted.Done) (restart_at (Down n starts) (Comes kept started) p).delta (begun_anew q own)) (sym is)
     ∙ ap (λ (ds : List Did). quiet (replies.Acted acted.Done) ds (begun_anew new own)) (sym told)
 
-later_of : (old new : CoreValue) (delta : List Did) → Passes old new → old.faults ≤ (record new { delta = delta }).faults
-later_of old new delta p = p.later
-
 pub came_up : (tells : Type 0) (old new : CoreValue) (b : Back) → IsBack tells old.plain b new → Passes old new → IsRestart tells old (came_as b new.delta) (record new { delta = [] })
 came_up tells old new (backs.Own kept started) b p =
     let ends : Ends tells (Comes kept started) old.plain new = b.ends in
@@ -136,9 +133,6 @@ refused_does tells fault in_write left p own Up w h = ap (λ (f : RestartFault).
 refused_does tells fault in_write left p own (Down n starts) w h = failed_does fault in_write left n starts p own w
 
 -- it is down otherwise, and its cut is armed otherwise: no counter is higher
-over : Running → LogState → Plain → Plain
-over r log p = record p { running = r; log = log }
-
 below_over : (r : Running) (log : LogState) (p : Plain) (most : ℕ) → AreBelow most p → AreBelow most (record p { running = r; log = log })
 below_over r log p most b = record { idents = b.idents; connections = b.connections; handles = b.handles; arrivals = b.arrivals; due = b.due }
 

@@ -4,10 +4,9 @@ ghost use Rattle.mq_history.specs.declared.calls.Call.TheVariants as calls;
 ghost use Rattle.mq_events.specs.States.{IsServed};
 ghost use Rattle.mq_events.specs.Events.{ActsAs, MayAct};
 ghost use Rattle.mq_events.specs.Texts.{IsTextAct};
-ghost use Rattle.mq_acts.specs.Answers.{HasEndsFor};
 ghost use Rattle.mq_acts.specs.Restarts.{RestartIsOwn};
 
-use crate::answering::{refuse, show};
+use crate::answering::{operate, show};
 use crate::restarting::restart;
 use mq_base::NoMemory;
 use mq_disk::Disk;
@@ -20,12 +19,11 @@ fn obey<D: Disk>(node: &mut Node<D>, actor: Actor, asked: Command) -> Result<Act
     requires served { IsServed node.old }
     requires may { MayAct node.old }
     requires text { IsTextAct (acts.Obey asked) }
-    requires ends { HasEndsFor (acts.Obey asked) node.old }
     ensures { ActsAs actor (calls.Act (acts.Obey asked)) node.old result node.new }
 {
     match asked {
         Command::Objects(command) => node.command(actor, command),
-        Command::Operate(op) => refuse(node, actor, op),
+        Command::Operate(op) => operate(node, actor, op),
         Command::ShowStatus { name, any_end } => show(node, actor, name, any_end),
     }
 }
@@ -40,7 +38,6 @@ pub fn act<D: Disk>(node: &mut Node<D>, actor: Actor, asked: Act) -> Result<Acte
     requires served { IsServed node.old }
     requires may { MayAct node.old }
     requires text { IsTextAct asked }
-    requires ends { HasEndsFor asked node.old }
     ensures did { ActsAs actor (calls.Act asked) node.old result node.new }
     ensures own { D.tells → RestartIsOwn asked node.old.history.entries node.new.history.entries }
 {

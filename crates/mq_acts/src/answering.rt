@@ -104,7 +104,7 @@ fn absent<D: Disk>(manager: &Manager<D>) -> OpRefusal
 /// # Errors
 ///
 /// No memory; nothing has changed.
-pub fn refuse<D: Disk>(node: &mut Node<D>, actor: Actor, op: Op) -> Result<Acted, NoMemory>
+fn refuse<D: Disk>(node: &mut Node<D>, actor: Actor, op: Op) -> Result<Acted, NoMemory>
     requires served { IsServed node.old }
     requires may { MayAct node.old }
     requires bare { node.old.own.ends ≡ [] }
@@ -119,4 +119,20 @@ pub fn refuse<D: Disk>(node: &mut Node<D>, actor: Actor, op: Op) -> Result<Acted
         Acted::Op(reason),
     );
     Ok(Acted::Op(reason))
+}
+
+/// A command on a channel's end, as an event. At a node that has ends it finds no memory today.
+///
+/// # Errors
+///
+/// No memory; nothing has changed.
+pub fn operate<D: Disk>(node: &mut Node<D>, actor: Actor, op: Op) -> Result<Acted, NoMemory>
+    requires served { IsServed node.old }
+    requires may { MayAct node.old }
+    ensures { ActsAs actor (calls.Act (acts.Obey (commands.Operate op))) node.old result node.new }
+{
+    if !node.parts.own.ends.is_empty() {
+        return Err(NoMemory);
+    }
+    refuse(node, actor, op)
 }

@@ -7,5 +7,5 @@ mod beginning;
 mod restarting;
 
 pub use acting::act;
-pub use answering::{refuse, show};
+pub use answering::{operate, show};
 pub use restarting::restart;
