@@ -1,4 +1,3 @@
 pub mod ReturnLaws
 pub mod RestartLaws
-pub mod AnswerLaws
 pub mod OwnLaws

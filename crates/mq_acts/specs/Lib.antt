@@ -1,2 +1,1 @@
 pub mod Restarts
-pub mod Answers

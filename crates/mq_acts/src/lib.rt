@@ -2,10 +2,8 @@
 #![tactic(auto)]
 
 mod acting;
-mod answering;
 mod beginning;
 mod restarting;
 
 pub use acting::act;
-pub use answering::{operate, show};
 pub use restarting::restart;

@@ -25,7 +25,7 @@ use Rattle.mq_events.specs.Events.{ActsAs}
 use Rattle.mq_events.proofs.CountLaws.{climbs_counted, long_more}
 use Rattle.mq_events.proofs.EventLaws.{came_kept, served_is}
 use Rattle.mq_events.proofs.KeepLaws.{finished_counts}
-use Rattle.mq_acts.specs.Answers.{absent}
+use Rattle.mq_answers.specs.Answers.{absent}
 
 climbs_on : (a b : ℕ) → a ≤ b → a + 0 ≤ b + 1024
 climbs_on a b le = omega (arith, le)

@@ -8,7 +8,7 @@ ghost use Rattle.mq_spec_state.specs.Words.{is_up};
 ghost use Rattle.mq_shows.specs.Shows.{shown_as};
 ghost use Rattle.mq_events.specs.States.{IsServed, finished, quietly};
 ghost use Rattle.mq_events.specs.Events.{ActsAs, MayAct};
-ghost use Rattle.mq_acts.specs.Answers.{absent};
+ghost use Rattle.mq_answers.specs.Answers.{absent};
 
 use mq_base::{Items, NoMemory};
 use mq_calls::Choice;
