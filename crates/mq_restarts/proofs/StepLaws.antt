@@ -49,6 +49,12 @@ told_is x i r h =
 pub untold_is : (x : PartsValue) (fault : RecoverFault) → Recovers (image (given_by x.number x.name x.log.max) Later x.log.bodies) (Err fault) → IsUnread (given_of x) Later x.log.bodies fault
 untold_is x fault r = is_unread (given_of x) Later x.log.bodies fault r
 
+pub told_at : (v x : PartsValue) (i : Image) → v ≡ x → Recovers (image (given_by v.number v.name v.log.max) Later v.log.bodies) (Ok i) → AllByRecursion IsBytes v.log.bodies → IsToldBy x i
+told_at v x i view r h = subst (λ (z : PartsValue). IsToldBy z i) view (told_is v i r h)
+
+pub untold_at : (v x : PartsValue) (fault : RecoverFault) → v ≡ x → Recovers (image (given_by v.number v.name v.log.max) Later v.log.bodies) (Err fault) → IsUnread (given_of x) Later x.log.bodies fault
+untold_at v x fault view r = subst (λ (z : PartsValue). IsUnread (given_of z) Later z.log.bodies fault) view (untold_is v fault r)
+
 -- ---- a Started record behind it
 
 pub low_built : (i : Image) (b : Built) → IsBuilt i b → i.incarnation + 1 < 2 ^ 64 → b.incarnation + 1 < 2 ^ 64
@@ -99,17 +105,20 @@ same_told x i j a b = by (image (given_of x) Later x.log.bodies) a.read b.read
 less : (n : ℕ) → n + 1 < 2 ^ 61 → n < 2 ^ 61
 less n lt = omega (arith, lt)
 
-pub far_well : (x : PartsValue) (i : Image) (least : ℕ) → least + 1 < 2 ^ 61 → IsToldBy x i → IsImage (above least i)
-far_well x i least low t = above_image (given_of x) x.log.bodies i least t.read t.bytes (less least low)
+pub far_well : (x : PartsValue) (i j : Image) (least : ℕ) → least + 1 < 2 ^ 61 → IsToldBy x i → j ≡ above least i → IsImage j
+far_well x i j least low t e = subst IsImage (sym e) (above_image (given_of x) x.log.bodies i least t.read t.bytes (less least low))
 
-pub far_low : (x : PartsValue) (i : Image) (least : ℕ) → least + 1 < 2 ^ 61 → IsToldBy x i → (above least i).incarnation + 1 < 2 ^ 64
-far_low x i least low t = let lt = image_low (given_of x) Later x.log.bodies i t.read in omega (arith, lt, low)
+high : (a b : ℕ) → a < 2 ^ 61 → b + 1 < 2 ^ 61 → max a b + 1 < 2 ^ 64
+high a b lt low = omega (arith, lt, low)
+
+pub far_low : (x : PartsValue) (i j : Image) (least : ℕ) → least + 1 < 2 ^ 61 → IsToldBy x i → j ≡ above least i → j.incarnation + 1 < 2 ^ 64
+far_low x i j least low t e = subst (λ (k : Image). k.incarnation + 1 < 2 ^ 64) (sym e) (high i.incarnation least (image_low (given_of x) Later x.log.bodies i t.read) low)
 
 pub far_comes : (x y : PartsValue) (i copy out : Image) (least : ℕ) → IsToldBy x i → IsToldBy x copy → out ≡ above least copy → Rises x (above least i) y → ComesFar least x out y
 far_comes x y i copy out least t c e m = record { told = i; is = t; image = e ∙ ap (above least) (sym (same_told x i copy t c)); rises = m }
 
-pub far_stays : (x y : PartsValue) (i : Image) (found : Found) (e : Unraised) (least : ℕ) → IsToldBy x i → e.found ≡ Some found → Halts x (above least i) e y → StaysFar least found x e y
-far_stays x y i found e least t f m = Unstarted i t f m
+pub far_stays : (x y : PartsValue) (i j : Image) (found : Found) (e : Unraised) (least : ℕ) → IsToldBy x i → j ≡ above least i → e.found ≡ Some found → Halts x j e y → StaysFar least found x e y
+far_stays x y i j found e least t is f m = Unstarted i t f (subst (λ (k : Image). Halts x k e y) is m)
 
 -- ---- whatever it tells
 

@@ -42,7 +42,6 @@ fn told_by<D: Disk>(
 /// # Errors
 ///
 /// The place of the first body that is no record of this manager or doesn't apply. No memory.
-#[tactic(auto, using(crate::proofs::StepLaws::told_is, crate::proofs::StepLaws::untold_is))]
 pub(crate) fn image_of<D: Disk>(parts: &Parts<D>) -> Result<Image, RecoverFault>
     ensures { MatchResult result (λ i. IsToldBy parts.now i) (λ fault. IsUnread (given_of parts.now) Later parts.now.log.bodies fault) }
 {

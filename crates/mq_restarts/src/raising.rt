@@ -43,17 +43,18 @@ fn stop_fault(stop: Stop) -> RestartFault
 pub(crate) fn reread<D: Disk>(parts: &mut Parts<D>) -> Result<Found, Unraised>
     ensures { MatchResult result (λ found. IsReread D.tells parts.old found parts.new) (λ e. Fell D.tells parts.old e parts.new) }
 {
-    match parts.log.restart(parts.alloc) {
-        Ok(found) => Ok(found),
+    let found = match parts.log.restart(parts.alloc) {
+        Ok(found) => found,
         Err(fault) => {
             let fault = start_fault(fault);
-            Err(Unraised {
+            return Err(Unraised {
                 fault,
                 found: None,
                 in_write: false,
-            })
+            });
         }
-    }
+    };
+    Ok(found)
 }
 
 // The parts of a manager that was built take the place of those that were. It takes no memory.
