@@ -167,6 +167,28 @@ fn begin_parts<D: Disk>(parts: &mut NodeParts<D>, refused: Option<RestartFault>)
     }
 }
 
+/// A restart, as an event.
+fn restart_in<D: Disk>(parts: &mut NodeParts<D>, actor: Actor) -> Result<Acted, NoMemory>
+    requires node { IsNode parts.old }
+    requires served { IsServed parts.old }
+    requires may { MayAct parts.old }
+    ensures node { IsNode parts.new }
+    ensures did { TellsAs D.tells actor (calls.Act acts.Restart) parts.old result parts.new }
+{
+    if parts.reserve(1).is_err() {
+        return Err(NoMemory);
+    }
+    let r = match restart_parts(parts) {
+        Ok(r) => r,
+        Err(NoMemory) => return Err(NoMemory),
+    };
+    let refused = r.refused;
+    begin_parts(parts, refused);
+    let entry = restart_entry(parts.alloc, parts.stamp + 1, actor, r);
+    parts.add(entry);
+    Ok(acted_by(refused))
+}
+
 /// A restart, as an event: of a manager that is up it is refused and is nothing else. The ends begin with what is hardened.
 ///
 /// # Errors
@@ -177,14 +199,5 @@ pub fn restart<D: Disk>(node: &mut Node<D>, actor: Actor) -> Result<Acted, NoMem
     requires may { MayAct node.old }
     ensures { TellsAs D.tells actor (calls.Act acts.Restart) node.old result node.new }
 {
-    node.parts.reserve(1)?;
-    let r = match restart_parts(&mut node.parts) {
-        Ok(r) => r,
-        Err(NoMemory) => return Err(NoMemory),
-    };
-    let refused = r.refused;
-    begin_parts(&mut node.parts, refused);
-    let entry = restart_entry(node.parts.alloc, node.parts.stamp + 1, actor, r);
-    node.parts.add(entry);
-    Ok(acted_by(refused))
+    restart_in(&mut node.parts, actor)
 }

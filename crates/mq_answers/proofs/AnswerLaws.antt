@@ -1,6 +1,7 @@
 -- A command that is answered without anything done, as an event.
 use Rattle.std.proofs.Common.{◌≡◌, ℕ, ◌+◌, ◌≤◌, Bool, true, false, not, List, [], ◌∷◌, ◌++◌, length, refl, ap, sym, subst, ◌∙◌, arith}
-use Rattle.std.specs.Prelude.{Option, Some, None, Ok, if◌then◌else◌}
+use Rattle.std.specs.Prelude.{Option, Some, None, Ok, Err, if◌then◌else◌}
+use Rattle.mq_base.specs.declared.want.NoMemory.{NoMemory as Want}
 use Rattle.mq_calls.specs.declared.commands.ScRefusal.TheVariants as refusals
 use Rattle.mq_objects.specs.declared.object.Channel.{Channel}
 use Rattle.mq_objects.specs.declared.object.ChannelKind.{ChannelKind}
@@ -25,7 +26,16 @@ use Rattle.mq_events.specs.Events.{ActsAs}
 use Rattle.mq_events.proofs.CountLaws.{climbs_counted, long_more}
 use Rattle.mq_events.proofs.EventLaws.{came_kept, served_is}
 use Rattle.mq_events.proofs.KeepLaws.{finished_counts}
+use Rattle.mq_events.proofs.StepLaws.{roomed_stays}
 use Rattle.mq_answers.specs.Answers.{absent}
+
+-- ---- where memory lacks, all is as it was
+
+pub roomed_node : (s r : NodeState) → r ≡ record s { room = r.room } → IsNode s → IsNode r
+roomed_node s r e n = let t : NodeState = record s { room = r.room } in let k : IsNode t = record { kept = n.kept; counted = n.counted } in subst IsNode (sym e) k
+
+pub wants_room : (s r : NodeState) (who : Actor) (what : Call) (x : Want) → r ≡ record s { room = r.room } → ActsAs who what s (Err x) r
+wants_room s r who what x e = roomed_stays s r e
 
 climbs_on : (a b : ℕ) → a ≤ b → a + 0 ≤ b + 1024
 climbs_on a b le = omega (arith, le)

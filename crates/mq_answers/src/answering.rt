@@ -1,6 +1,6 @@
 //! Commands that a node answers without its manager doing anything, as events: DISPLAY CHSTATUS, and commands on channels' ends
 //! that are refused.
-ghost use Rattle.std.specs.Prelude.{◌≡◌, ◌+◌, ◌<◌, ◌^◌, [], IfOk};
+ghost use Rattle.std.specs.Prelude.{◌≡◌, ◌+◌, ◌<◌, ◌^◌, ◌↔◌, [], IfOk, IsTrue};
 ghost use Rattle.mq_history.specs.declared.acts.Act.TheVariants as acts;
 ghost use Rattle.mq_history.specs.declared.calls.Call.TheVariants as calls;
 ghost use Rattle.mq_sc_parse.specs.declared.command.Command.TheVariants as commands;
@@ -8,6 +8,7 @@ ghost use Rattle.mq_spec_state.specs.Words.{is_up};
 ghost use Rattle.mq_shows.specs.Shows.{shown_as};
 ghost use Rattle.mq_events.specs.States.{IsServed, finished, quietly};
 ghost use Rattle.mq_events.specs.Events.{ActsAs, MayAct};
+ghost use Rattle.mq_events.specs.Counts.{IsNode};
 ghost use Rattle.mq_answers.specs.Answers.{absent};
 
 use mq_base::{Items, NoMemory};
@@ -56,6 +57,39 @@ fn shown<D: Disk>(parts: &NodeParts<D>, name: &ChName, any_end: bool) -> Result<
 }
 
 /// DISPLAY CHSTATUS, as an event.
+fn show_in<D: Disk>(
+    parts: &mut NodeParts<D>,
+    actor: Actor,
+    name: ChName,
+    any_end: bool,
+) -> Result<Acted, NoMemory>
+    requires node { IsNode parts.old }
+    requires served { IsServed parts.old }
+    requires may { MayAct parts.old }
+    ensures node { IsNode parts.new }
+    ensures did { ActsAs actor (calls.Act (acts.Obey (commands.ShowStatus name any_end))) parts.old result parts.new }
+{
+    if parts.reserve(1).is_err() {
+        return Err(NoMemory);
+    }
+    let acted = match shown(parts, &name, any_end) {
+        Ok(acted) => acted,
+        Err(NoMemory) => return Err(NoMemory),
+    };
+    let copy = match shown(parts, &name, any_end) {
+        Ok(copy) => copy,
+        Err(NoMemory) => return Err(NoMemory),
+    };
+    tell_answer(
+        parts,
+        actor,
+        Command::ShowStatus { name, any_end },
+        copy,
+    );
+    Ok(acted)
+}
+
+/// DISPLAY CHSTATUS, as an event.
 ///
 /// # Errors
 ///
@@ -70,22 +104,7 @@ pub fn show<D: Disk>(
     requires may { MayAct node.old }
     ensures { ActsAs actor (calls.Act (acts.Obey (commands.ShowStatus name any_end))) node.old result node.new }
 {
-    node.parts.reserve(1)?;
-    let acted = match shown(&node.parts, &name, any_end) {
-        Ok(acted) => acted,
-        Err(NoMemory) => return Err(NoMemory),
-    };
-    let copy = match shown(&node.parts, &name, any_end) {
-        Ok(copy) => copy,
-        Err(NoMemory) => return Err(NoMemory),
-    };
-    tell_answer(
-        &mut node.parts,
-        actor,
-        Command::ShowStatus { name, any_end },
-        copy,
-    );
-    Ok(acted)
+    show_in(&mut node.parts, actor, name, any_end)
 }
 
 /// Why a command is refused whose channel has no end here.
@@ -100,25 +119,31 @@ fn absent<D: Disk>(manager: &Manager<D>) -> OpRefusal
 }
 
 /// A command on a channel's end, at a node without ends, as an event: it is refused.
-///
-/// # Errors
-///
-/// No memory; nothing has changed.
-fn refuse<D: Disk>(node: &mut Node<D>, actor: Actor, op: Op) -> Result<Acted, NoMemory>
-    requires served { IsServed node.old }
-    requires may { MayAct node.old }
-    requires bare { node.old.own.ends ≡ [] }
-    ensures { ActsAs actor (calls.Act (acts.Obey (commands.Operate op))) node.old result node.new }
+fn refuse<D: Disk>(
+    parts: &mut NodeParts<D>,
+    actor: Actor,
+    op: Op,
+) -> Result<Acted, NoMemory>
+    requires node { IsNode parts.old }
+    requires served { IsServed parts.old }
+    requires may { MayAct parts.old }
+    requires bare { parts.old.own.ends ≡ [] }
+    ensures node { IsNode parts.new }
+    ensures did { ActsAs actor (calls.Act (acts.Obey (commands.Operate op))) parts.old result parts.new }
 {
-    node.parts.reserve(1)?;
-    let reason = absent(&node.parts.manager);
-    tell_answer(
-        &mut node.parts,
-        actor,
-        Command::Operate(op),
-        Acted::Op(reason),
-    );
+    if parts.reserve(1).is_err() {
+        return Err(NoMemory);
+    }
+    let reason = absent(&parts.manager);
+    tell_answer(parts, actor, Command::Operate(op), Acted::Op(reason));
     Ok(Acted::Op(reason))
+}
+
+/// Whether the node has no ends.
+fn is_bare<D: Disk>(parts: &NodeParts<D>) -> bool
+    ensures { IsTrue result ↔ (parts.now.own.ends ≡ []) }
+{
+    parts.own.ends.is_empty()
 }
 
 /// A command on a channel's end, as an event. At a node that has ends it finds no memory today.
@@ -131,8 +156,8 @@ pub fn operate<D: Disk>(node: &mut Node<D>, actor: Actor, op: Op) -> Result<Acte
     requires may { MayAct node.old }
     ensures { ActsAs actor (calls.Act (acts.Obey (commands.Operate op))) node.old result node.new }
 {
-    if !node.parts.own.ends.is_empty() {
+    if !is_bare(&node.parts) {
         return Err(NoMemory);
     }
-    refuse(node, actor, op)
+    refuse(&mut node.parts, actor, op)
 }

@@ -65,6 +65,9 @@ own_known (reads.Known kept) After e = refl
 own_known (reads.Known kept) Other e = absurd cc
 own_known reads.Foreign found e = absurd cc
 
+pub coming_as : (tells : Type 0) (read : LogRead) (least : ℕ) (x y : PartsValue) (c : Coming) (o : Option Image) → c.image ≡ o → ComesBack tells read least x c y → ComesBack tells read least x (record { found = c.found; length = c.length; image = o }) y
+coming_as tells read least x y c o e h = subst (λ (k : Option Image). ComesBack tells read least x (record { found = c.found; length = c.length; image = k }) y) e h
+
 module _ (tells : Type 0) (x y : PartsValue) (dids : List Did) (s : Option Stop) (old : CoreValue) (read : LogRead) (least found_long : ℕ) (found : Found) (v : core_seen x dids s ≡ old) (down : is_up old.plain.running ≡ false)
     (stands : LogStands tells read old.log old.plain) (tied : Tied x) (above_all : IsFirstAbove least old.plain) where
   here : IsFirstAbove least (plain_of x)

@@ -1,5 +1,5 @@
 //! The call `restart` of a queue manager.
-ghost use Rattle.std.specs.Prelude.{◌≡◌, ◌+◌, ◌^◌, ◌<◌, [], None, false, if◌then◌else◌, MatchResult};
+ghost use Rattle.std.specs.Prelude.{◌≡◌, ◌-◌, [], None, false, if◌then◌else◌, MatchResult};
 ghost use Rattle.mq_spec_state.specs.Words.{is_up};
 ghost use Rattle.mq_redo.specs.Redone.{redone_of};
 ghost use Rattle.mq_restart.specs.Stands.{LogStands};
@@ -40,6 +40,13 @@ fn keep_if(effects: &mut Effects, kept: bool)
     if !kept {
         effects.clear();
     }
+}
+
+/// How many Started records of stopped restarts stand between two incarnations.
+fn started_since(before: u64, now: u64) -> u64
+    ensures { result ≡ now - before - 1 }
+{
+    now.saturating_sub(before).saturating_sub(1)
 }
 
 fn refused(fault: RestartFault, armed: u32) -> Unreturned
@@ -94,11 +101,10 @@ fn return_from<D: Disk>(
     *read = read_up(known, now);
     match image {
         None => {
-            keep_if(&mut core.effects, is_kept(known));
-            Ok(Back::Own {
-                kept: is_kept(known),
-                started: now.saturating_sub(before).saturating_sub(1),
-            })
+            let kept = is_kept(known);
+            keep_if(&mut core.effects, kept);
+            let started = started_since(before, now);
+            Ok(Back::Own { kept, started })
         }
         Some(image) => {
             core.effects.clear();
