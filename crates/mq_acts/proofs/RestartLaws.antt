@@ -23,12 +23,6 @@ use Rattle.mq_acts.specs.Restarts.{own_behind, CountsBehind, acted_by, IsRestart
 
 -- ---- where memory lacks, all is as it was
 
-pub roomed : (s r : NodeState) → r ≡ record s { room = r.room } → IsNode s → IsNode r
-roomed s r e n = let t : NodeState = record s { room = r.room } in let k : IsNode t = record { kept = n.kept; counted = n.counted } in subst IsNode (sym e) k
-
-pub roomed_stays : (s r : NodeState) → r ≡ record s { room = r.room } → Stays s r
-roomed_stays s r e = subst (Stays s) (sym e) (record { same = refl; marks = refl; faults = omega arith })
-
 same_value : (s r a : NodeState) → r ≡ record s { room = r.room } → a ≡ record r { manager = a.manager } → a ≡ record s { manager = a.manager; room = r.room }
 same_value s r a e h = h ∙ ap (λ (x : NodeState). let y : NodeState = record x { manager = a.manager } in y) e
 

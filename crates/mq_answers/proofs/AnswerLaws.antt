@@ -1,7 +1,6 @@
 -- A command that is answered without anything done, as an event.
 use Rattle.std.proofs.Common.{◌≡◌, ℕ, ◌+◌, ◌≤◌, Bool, true, false, not, List, [], ◌∷◌, ◌++◌, length, refl, ap, sym, subst, ◌∙◌, arith}
-use Rattle.std.specs.Prelude.{Option, Some, None, Ok, Err, if◌then◌else◌}
-use Rattle.mq_base.specs.declared.want.NoMemory.{NoMemory as Want}
+use Rattle.std.specs.Prelude.{Option, Some, None, Ok, if◌then◌else◌}
 use Rattle.mq_calls.specs.declared.commands.ScRefusal.TheVariants as refusals
 use Rattle.mq_objects.specs.declared.object.Channel.{Channel}
 use Rattle.mq_objects.specs.declared.object.ChannelKind.{ChannelKind}
@@ -9,6 +8,7 @@ use Rattle.mq_objects.specs.declared.object.ChannelKind.TheVariants as kinds
 use Rattle.mq_history.specs.declared.acts.Act.TheVariants as acts
 use Rattle.mq_history.specs.declared.acts.Acted.{Acted}
 use Rattle.mq_history.specs.declared.acts.Acted.TheVariants as acted
+use Rattle.mq_history.specs.declared.acts.OpRefusal.{OpRefusal}
 use Rattle.mq_history.specs.declared.acts.OpRefusal.TheVariants as reasons
 use Rattle.mq_history.specs.declared.calls.Call.TheVariants as calls
 use Rattle.mq_history.specs.declared.calls.Reply.TheVariants as replies
@@ -22,7 +22,7 @@ use Rattle.mq_shows.specs.Shows.{lines_of, shown_as, answered}
 use Rattle.mq_outcomes.specs.Outcomes.{Came}
 use Rattle.mq_events.specs.States.{NodeState, IsKept, IsServed, finished, node_in, quietly, entry_of}
 use Rattle.mq_events.specs.Counts.{IsNode, KeepsCounts, kept_total}
-use Rattle.mq_events.specs.Events.{ActsAs}
+use Rattle.mq_events.specs.Events.{ActsAs, Stays}
 use Rattle.mq_events.proofs.CountLaws.{climbs_counted, long_more}
 use Rattle.mq_events.proofs.EventLaws.{came_kept, served_is}
 use Rattle.mq_events.proofs.KeepLaws.{finished_counts}
@@ -34,8 +34,11 @@ use Rattle.mq_answers.specs.Answers.{absent}
 pub roomed_node : (s r : NodeState) → r ≡ record s { room = r.room } → IsNode s → IsNode r
 roomed_node s r e n = let t : NodeState = record s { room = r.room } in let k : IsNode t = record { kept = n.kept; counted = n.counted } in subst IsNode (sym e) k
 
-pub wants_room : (s r : NodeState) (who : Actor) (what : Call) (x : Want) → r ≡ record s { room = r.room } → ActsAs who what s (Err x) r
-wants_room s r who what x e = roomed_stays s r e
+pub room_stays : (s r : NodeState) → r ≡ record s { room = r.room } → Stays s r
+room_stays s r e = roomed_stays s r e
+
+pub still_stays : (s : NodeState) → Stays s s
+still_stays s = record { same = refl; marks = refl; faults = omega arith }
 
 climbs_on : (a b : ℕ) → a ≤ b → a + 0 ≤ b + 1024
 climbs_on a b le = omega (arith, le)
@@ -109,3 +112,30 @@ refused_by false own d e = refl
 
 pub refuses : (s : NodeState) (op : Op) → s.own.ends ≡ [] → obey_deed (commands.Operate op) (node_in s) ≡ told (replies.Acted (acted.Op (absent (is_up s.manager.plain.running)))) s.own
 refuses s op e = refused_by (is_up s.manager.plain.running) s.own (operate_up op (node_in s)) (up_refused op (node_in s) e)
+
+-- ---- step by step
+
+module _ (s r f : NodeState) (who : Actor) (name : List ℕ) (any_end : Bool) (copy : Acted) (e : r ≡ record s { room = r.room }) (is : copy ≡ shown_as name any_end r.manager.plain r.own.ends)
+    (z : f ≡ finished who (calls.Act (acts.Obey (commands.ShowStatus name any_end))) (quietly copy) r) where
+  seen : copy ≡ shown_as name any_end s.manager.plain s.own.ends
+  seen = is ∙ ap (λ (x : NodeState). shown_as name any_end x.manager.plain x.own.ends) e
+
+  deed : obey_deed (commands.ShowStatus name any_end) (node_in s) ≡ told (replies.Acted copy) s.own
+  deed = shows s name any_end ∙ ap (λ (a : Acted). told (replies.Acted a) s.own) (sym seen)
+
+  pub shown_node : IsNode s → IsServed s → IsNode f
+  shown_node n served = answered_node s r f who (commands.ShowStatus name any_end) copy e z deed n served
+
+  pub shown_did : (acted : Acted) → acted ≡ shown_as name any_end r.manager.plain r.own.ends → ActsAs who (calls.Act (acts.Obey (commands.ShowStatus name any_end))) s (Ok acted) f
+  shown_did acted same = answered_as s r f who (commands.ShowStatus name any_end) copy e z deed acted (same ∙ sym is)
+
+module _ (s r f : NodeState) (who : Actor) (op : Op) (reason : OpRefusal) (e : r ≡ record s { room = r.room }) (is : reason ≡ absent (is_up r.manager.plain.running))
+    (z : f ≡ finished who (calls.Act (acts.Obey (commands.Operate op))) (quietly (acted.Op reason)) r) (bare : s.own.ends ≡ []) where
+  refused_deed : obey_deed (commands.Operate op) (node_in s) ≡ told (replies.Acted (acted.Op reason)) s.own
+  refused_deed = refuses s op bare ∙ ap (λ (o : OpRefusal). told (replies.Acted (acted.Op o)) s.own) (sym (is ∙ ap (λ (x : NodeState). absent (is_up x.manager.plain.running)) e))
+
+  pub refused_node : IsNode s → IsServed s → IsNode f
+  refused_node n served = answered_node s r f who (commands.Operate op) (acted.Op reason) e z refused_deed n served
+
+  pub refused_did : ActsAs who (calls.Act (acts.Obey (commands.Operate op))) s (Ok (acted.Op reason)) f
+  refused_did = answered_as s r f who (commands.Operate op) (acted.Op reason) e z refused_deed (acted.Op reason) refl

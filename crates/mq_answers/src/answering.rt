@@ -57,6 +57,7 @@ fn shown<D: Disk>(parts: &NodeParts<D>, name: &ChName, any_end: bool) -> Result<
 }
 
 /// DISPLAY CHSTATUS, as an event.
+#[tactic(auto, using(crate::proofs::AnswerLaws::roomed_node, crate::proofs::AnswerLaws::room_stays, crate::proofs::AnswerLaws::shown_node, crate::proofs::AnswerLaws::shown_did))]
 fn show_in<D: Disk>(
     parts: &mut NodeParts<D>,
     actor: Actor,
@@ -119,6 +120,7 @@ fn absent<D: Disk>(manager: &Manager<D>) -> OpRefusal
 }
 
 /// A command on a channel's end, at a node without ends, as an event: it is refused.
+#[tactic(auto, using(crate::proofs::AnswerLaws::roomed_node, crate::proofs::AnswerLaws::room_stays, crate::proofs::AnswerLaws::refused_node, crate::proofs::AnswerLaws::refused_did))]
 fn refuse<D: Disk>(
     parts: &mut NodeParts<D>,
     actor: Actor,
@@ -151,6 +153,7 @@ fn is_bare<D: Disk>(parts: &NodeParts<D>) -> bool
 /// # Errors
 ///
 /// No memory; nothing has changed.
+#[tactic(auto, using(crate::proofs::AnswerLaws::still_stays))]
 pub fn operate<D: Disk>(node: &mut Node<D>, actor: Actor, op: Op) -> Result<Acted, NoMemory>
     requires served { IsServed node.old }
     requires may { MayAct node.old }
