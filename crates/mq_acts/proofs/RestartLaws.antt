@@ -18,10 +18,17 @@ use Rattle.mq_events.specs.Events.{Stays}
 use Rattle.mq_events.proofs.CountLaws.{fresh_counted, long_more}
 use Rattle.mq_events.proofs.EntryLaws.{entry_kept}
 use Rattle.mq_events.proofs.KeepLaws.{begun_none}
+use Rattle.mq_answers.proofs.AnswerLaws.{room_stays, roomed_node}
 use Rattle.mq_acts.specs.declared.restarting.Restart.{Restart}
 use Rattle.mq_acts.specs.Restarts.{own_behind, CountsBehind, acted_by, IsRestart, IsUnchanged, restart_entry, TellsActed, TellsAs, BeganFew}
 
 -- ---- where memory lacks, all is as it was
+
+pub roomed : (s r : NodeState) → r ≡ record s { room = r.room } → IsNode s → IsNode r
+roomed s r e n = roomed_node s r e n
+
+pub roomed_stays : (s r : NodeState) → r ≡ record s { room = r.room } → Stays s r
+roomed_stays s r e = room_stays s r e
 
 same_value : (s r a : NodeState) → r ≡ record s { room = r.room } → a ≡ record r { manager = a.manager } → a ≡ record s { manager = a.manager; room = r.room }
 same_value s r a e h = h ∙ ap (λ (x : NodeState). let y : NodeState = record x { manager = a.manager } in y) e
@@ -96,11 +103,14 @@ module _ (tells : Type 0) (s : NodeState) (m : CoreValue) (few : Bool) (room : �
   behind_node b = record { kept = behind_kept; counted = counted_by r.refused h.counts (own_behind r.refused m.plain s.own) refl b }
 
   behind_told : TellsAs tells who (calls.Act acts.Restart) s (Ok (acted_by r.refused)) behind
-  behind_told = (it, record {
-    adds = record { grows = record { given = refl; history = refl }; actor = refl; call = refl; marks = refl; faults = h.later };
-    answer = refl;
-    own = h.own;
-  })
+  behind_told = (
+    it,
+    record {
+      adds = record { grows = record { given = refl; history = refl }; actor = refl; call = refl; marks = refl; faults = h.later };
+      answer = refl;
+      own = h.own;
+    },
+  )
 
 -- step by step
 module _ (tells : Type 0) (s r a b f : NodeState) (e : r ≡ record s { room = r.room }) (g : a ≡ record r { manager = a.manager }) (who : Actor) (x : Restart)

@@ -98,10 +98,7 @@ fn stayed(e: Unreturned, delta: Delta) -> Result<Restart, NoMemory>
 /// # Errors
 ///
 /// No memory; nothing has changed.
-fn restart_manager<D: Disk>(
-    manager: &mut Manager<D>,
-    alloc: Global,
-) -> Result<Restart, NoMemory>
+fn restart_manager<D: Disk>(manager: &mut Manager<D>, alloc: Global) -> Result<Restart, NoMemory>
     ensures { RestartsAs D.tells manager.old result manager.new }
 {
     match return_manager(manager) {

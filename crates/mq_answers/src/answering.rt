@@ -81,12 +81,7 @@ fn show_in<D: Disk>(
         Ok(copy) => copy,
         Err(NoMemory) => return Err(NoMemory),
     };
-    tell_answer(
-        parts,
-        actor,
-        Command::ShowStatus { name, any_end },
-        copy,
-    );
+    tell_answer(parts, actor, Command::ShowStatus { name, any_end }, copy);
     Ok(acted)
 }
 
@@ -121,11 +116,7 @@ fn absent<D: Disk>(manager: &Manager<D>) -> OpRefusal
 
 /// A command on a channel's end, at a node without ends, as an event: it is refused.
 #[tactic(auto, using(crate::proofs::AnswerLaws::roomed_node, crate::proofs::AnswerLaws::room_stays, crate::proofs::AnswerLaws::refused_node, crate::proofs::AnswerLaws::refused_did))]
-fn refuse<D: Disk>(
-    parts: &mut NodeParts<D>,
-    actor: Actor,
-    op: Op,
-) -> Result<Acted, NoMemory>
+fn refuse<D: Disk>(parts: &mut NodeParts<D>, actor: Actor, op: Op) -> Result<Acted, NoMemory>
     requires node { IsNode parts.old }
     requires served { IsServed parts.old }
     requires may { MayAct parts.old }

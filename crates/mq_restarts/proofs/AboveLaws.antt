@@ -76,7 +76,7 @@ shelves_last : (g : Given) (bodies : List (List ℕ)) (i : Image) (n moment : �
 shelves_last g bodies i n moment e fits is low =
     let whole : IsRecord (started_record g (i.incarnation + 1)) = small g (i.incarnation + 1) n is low in
     let told : Tells Later (bodies ++ record_bytes (started_record g (i.incarnation + 1)) ∷ []) (first_start g i 0 moment) =
-        first_told g Later bodies (record_bytes (started_record g (i.incarnation + 1))) i 0 moment e fits (record_back (started_record g (i.incarnation + 1)) tt whole) (in_bounds g (i.incarnation + 1) low) in
+    first_told g Later bodies (record_bytes (started_record g (i.incarnation + 1))) i 0 moment e fits (record_back (started_record g (i.incarnation + 1)) tt whole) (in_bounds g (i.incarnation + 1) low) in
     ap (λ (k : Image). k.shelves) (same_image (lasting (first_start g i 0 moment)) (numbered i (max i.incarnation (i.incarnation + 1))) (image g Later (bodies ++ record_bytes (started_record g (i.incarnation + 1)) ∷ [])) told (started_behind g bodies i (i.incarnation + 1) e whole low))
 
 higher : (n least : ℕ) → max n (max n least + 1) ≡ max n least + 0 + 1

@@ -84,10 +84,10 @@ module _ (tells : Type 0) (x y : PartsValue) (dids : List Did) (s : Option Stop)
         → new.plain ≡ plain_of y → new.log ≡ bodies_in y.log → new.delta ≡ (if kept then dids else []) → IsBack tells old.plain (Own kept started) new
     comes_own new known kept started told known_is kept_is started_is plain log delta =
         let came : CameUp tells old.plain (returned_as known x.incarnation y.incarnation) new =
-            rises tells x y dids s old new read found known kept (returned_as known x.incarnation y.incarnation) v down told stands raised tied known_is kept_is plain log delta refl in
+        rises tells x y dids s old new read found known kept (returned_as known x.incarnation y.incarnation) v down told stands raised tied known_is kept_is plain log delta refl in
         let is : known ≡ reads.Known kept = known_is ∙ own_known read found c.comes.0 ∙ ap (λ (k : LogRead). reads.Known (is_kept k)) (sym known_is) ∙ ap reads.Known (sym kept_is) in
         let ended : Ends tells (Comes kept (y.incarnation - x.incarnation - 1)) old.plain new =
-            subst (λ (k : Returned). CameUpAs tells old.plain k new) (ap (λ (k : LogRead). returned_as k x.incarnation y.incarnation) is) came.ends in
+        subst (λ (k : Returned). CameUpAs tells old.plain k new) (ap (λ (k : LogRead). returned_as k x.incarnation y.incarnation) is) came.ends in
         let ends : Ends tells (Comes kept started) old.plain new = subst (λ (n : ℕ). Ends tells (Comes kept n) old.plain new) (sym started_is) ended in
         record { ends = ends; image = came.image }
 

@@ -112,7 +112,7 @@ module _ (tells : Type 0) (read : LogRead) (x y : PartsValue) (e : Unraised) (f 
   can d z is =
       let n : Option Noted = noted (frozen_of x) d.write in
       let armed : z.log.armed ≡ y.log.armed =
-          ap (λ (v : PartsValue). v.log.armed) is ∙ ap (λ (g : RestartFault). left_by g x.log.armed y.log.armed) f.stopped.fault ∙ left_is f.stopped.by x.log.armed y.log.armed in
+      ap (λ (v : PartsValue). v.log.armed) is ∙ ap (λ (g : RestartFault). left_by g x.log.armed y.log.armed) f.stopped.fault ∙ left_is f.stopped.by x.log.armed y.log.armed in
       subst (λ (k : ℕ). CanReturn (Fails e.fault e.in_write k) n d.starts x.log.armed) (sym armed)
       (subst (λ (b : Bool). CanReturn (Fails e.fault b y.log.armed) n d.starts x.log.armed) (sym f.stopped.in_write)
       (subst (λ (g : RestartFault). CanReturn (Fails g true y.log.armed) n d.starts x.log.armed) (sym f.stopped.fault)

@@ -173,9 +173,10 @@ module _ (tells : Type 0) (least : ℕ) (x y : PartsValue) (found : Found) (log 
   pub far_from : (d : IsDown x.mode) (new : CoreValue) (length left : ℕ) → IsFirstAbove least (plain_of x) → (tells → ⊥) → new.plain ≡ plain_of y → new.delta ≡ [] → length ≡ log_length log.bodies → left ≡ y.log.armed → IsBackFrom tells i length left (plain_of x) new
   far_from d new length left above_all untold is told read_long at = record {
     untold = untold;
-    can = subst (λ (k : Running). IsReturn (chances.Foreign i length left) k (plain_of x)) (sym (down_running x d))
-        (foreign (noted (frozen_of x) d.write) d.starts length (above_all.is ∙ ap (λ (k : Running). x.incarnation + starts_of k + 1) (down_running x d)),
-        subst (λ (n : ℕ). Spent calls_of_restart 7 x.log.armed n) (sym at) (spent_by x.log.armed log.armed y.log.armed found r.ends started.ends));
+    can = subst (λ (k : Running). IsReturn (chances.Foreign i length left) k (plain_of x)) (sym (down_running x d)) (
+      foreign (noted (frozen_of x) d.write) d.starts length (above_all.is ∙ ap (λ (k : Running). x.incarnation + starts_of k + 1) (down_running x d)),
+      subst (λ (n : ℕ). Spent calls_of_restart 7 x.log.armed n) (sym at) (spent_by x.log.armed log.armed y.log.armed found r.ends started.ends),
+    );
     plain = is ∙ far_seen
         ∙ ap (λ (k : Image). begun (given_of x) (raised 0 k) (record { length = log_length y.log.bodies; armed = y.log.armed }) x.moment) (sym c.image)
         ∙ ap (λ (n : ℕ). begun (given_of x) (raised 0 i) (record { length = n; armed = y.log.armed }) x.moment) (long length read_long)

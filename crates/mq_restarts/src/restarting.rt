@@ -24,7 +24,10 @@ use mq_unit::Effects;
 pub enum Back {
     /// As its history says: with the write that was stopped or without it, behind so many Started records of restarts that were
     /// stopped themselves.
-    Own { kept: bool, started: u64 },
+    Own {
+        kept: bool,
+        started: u64,
+    },
     /// From a log that was changed from outside: what it took, the log's length in bytes then, and how many device calls are left
     /// before an armed cut, 0 for none.
     Foreign {

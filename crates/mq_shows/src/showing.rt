@@ -23,24 +23,31 @@ pub fn sender_kept<'a, D: Disk>(manager: &'a Manager<D>, channel: &ChName) -> Op
 {
     match manager.kept(channel) {
         None => None,
-        Some(Hardened {
-            sender,
-            receiver: _,
-        }) => sender,
+        Some(
+            Hardened {
+                sender,
+                receiver: _,
+            },
+        ) => sender,
     }
 }
 
 /// What the manager's receiver of a channel has hardened.
 #[tactic(auto, using(crate::proofs::KeptLaws::receiver_is, crate::proofs::KeptLaws::none_receiver))]
-pub fn receiver_kept<'a, D: Disk>(manager: &'a Manager<D>, channel: &ChName) -> Option<&'a ReceiverData>
+pub fn receiver_kept<'a, D: Disk>(
+    manager: &'a Manager<D>,
+    channel: &ChName,
+) -> Option<&'a ReceiverData>
     ensures { option_copied result ≡ receiver_data channel.now manager.now.plain }
 {
     match manager.kept(channel) {
         None => None,
-        Some(Hardened {
-            sender: _,
-            receiver,
-        }) => receiver,
+        Some(
+            Hardened {
+                sender: _,
+                receiver,
+            },
+        ) => receiver,
     }
 }
 
