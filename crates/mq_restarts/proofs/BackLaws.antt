@@ -1,33 +1,25 @@
 -- The call's clauses from those of what it calls.
-use Rattle.std.proofs.Common.{◌≡◌, ℕ, ◌+◌, ◌-◌, ◌<◌, ◌≤◌, ◌^◌, Bool, true, false, List, [], refl, ap, arith, sym, subst, ◌∙◌}
-use Rattle.std.specs.Prelude.{Option, Some, None, Ok, max, if◌then◌else◌}
+use Rattle.std.proofs.Common.{◌≡◌, ℕ, ◌+◌, ◌-◌, ◌<◌, ◌≤◌, ◌^◌, Bool, false, List, [], refl, ap, arith, sym, subst, ◌∙◌}
+use Rattle.std.specs.Prelude.{Option, Some, None, if◌then◌else◌}
 use Rattle.mq_disk.specs.declared.cutter.Stop.{Stop}
 use Rattle.mq_calls.specs.declared.deltas.Did.{Did}
 use Rattle.mq_calls.specs.declared.choices.Return.TheVariants.{Comes}
 use Rattle.mq_log.specs.declared.images.Found.{Found}
 use Rattle.mq_log.specs.declared.images.Found.TheVariants.{Before, After, Other}
-use Rattle.mq_log.specs.State.{log_length}
-use Rattle.mq_spec_state.specs.State.{Plain, Noted, Running}
+use Rattle.mq_spec_state.specs.State.{Plain, Running}
 use Rattle.mq_spec_state.specs.State.Running.{Up, Down}
 use Rattle.mq_spec_state.specs.Images.{Image}
 use Rattle.mq_spec_state.specs.Counts.{starts_of as starts_in}
 use Rattle.mq_spec_state.specs.Words.{is_up}
-use Rattle.mq_spec_manager.specs.Stops.{restart_at}
-use Rattle.mq_spec_log.specs.Applies.Start.{Later}
-use Rattle.mq_spec_log.specs.Bodies.{image}
-use Rattle.mq_law_image.proofs.Logged.{image_text}
 use Rattle.mq_core.specs.Ties.{Tied}
-use Rattle.mq_core.specs.Values.{CoreValue, LogBodies, bodies_in}
+use Rattle.mq_core.specs.Values.{CoreValue, bodies_in}
 use Rattle.mq_core.specs.Views.{PartsValue, plain_of, frozen_of}
 use Rattle.mq_start.specs.declared.raising.Unraised.{Unraised}
-use Rattle.mq_start.specs.Begun.{given_by}
-use Rattle.mq_start.specs.Raised.{given_of, Raises, Fell}
-use Rattle.mq_start.proofs.RestartLaws.{redone_incarnation}
+use Rattle.mq_start.specs.Raised.{Raises}
 use Rattle.mq_redo.specs.Redone.{redone_of}
 use Rattle.mq_restart.specs.declared.reading.LogRead.{LogRead}
 use Rattle.mq_restart.specs.declared.reading.LogRead.TheVariants as reads
 use Rattle.mq_restart.specs.declared.reading.Returned.{Returned}
-use Rattle.mq_restart.specs.declared.reading.Returned.TheVariants as returns
 use Rattle.mq_restart.specs.Stands.{read_found, read_up, read_fallen, is_kept, LogStands, CanStart, CanStartAt}
 use Rattle.mq_restart.specs.Falls.{fallen, starts_of}
 use Rattle.mq_restart.specs.Returned.{returned_as, IsOfImage, Ends, CameUp, CameUpAs, Stayed}
@@ -36,10 +28,10 @@ use Rattle.mq_restart.proofs.RiseLaws.{rise_tied}
 use Rattle.mq_restart.proofs.ReturnLaws.{core_seen, rises, rises_stands, rises_later, fall_starts, falls_tied, falls_stayed, falls_stands, falls_later}
 use Rattle.mq_restarts.specs.declared.coming.Coming.{Coming}
 use Rattle.mq_restarts.specs.declared.restarting.Back.TheVariants.{Own, Foreign}
-use Rattle.mq_restarts.specs.Comings.{is_foreign, IsFirstAbove, ComesBack, ComesOwn, ComesFar, StaysBack}
+use Rattle.mq_restarts.specs.Comings.{is_foreign, IsFirstAbove, ComesBack, StaysBack}
 use Rattle.mq_restarts.specs.Backs.{IsBack}
-use Rattle.mq_restarts.proofs.ComingLaws.{most_same, raises_own, FellBack, Near, Far, fell_back}
-use Rattle.mq_restarts.proofs.FarLaws.{untold_by, foreign_is, far_tied, far_seen, far_back, far_number, far_stands, far_from}
+use Rattle.mq_restarts.proofs.ComingLaws.{raises_own, FellBack, Near, Far, fell_back}
+use Rattle.mq_restarts.proofs.FarLaws.{untold_by, foreign_is, far_tied, far_back, far_stands, far_from}
 use Rattle.mq_restarts.proofs.EndLaws.{stopped_mode, stopped_later, stopped_tied, stopped_stayed, stopped_stands}
 
 -- ---- numbers are low

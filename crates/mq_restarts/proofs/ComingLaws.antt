@@ -1,7 +1,6 @@
 -- A manager that came up from its own log, or stayed down, did as mq_start says.
-use Rattle.std.proofs.Common.{◌≡◌, ℕ, Bool, true, false, refl, ap, sym, subst, ◌∙◌}
-use Rattle.std.specs.Prelude.{Option, Some, None}
-use Rattle.mq_calls.specs.declared.commands.RestartFault.{RestartFault}
+use Rattle.std.proofs.Common.{◌≡◌, ℕ, Bool, true, false, refl, ap, sym, subst}
+use Rattle.std.specs.Prelude.{Some}
 use Rattle.mq_calls.specs.declared.commands.RestartFault.TheVariants as faults
 use Rattle.mq_log.specs.declared.images.Found.{Found}
 use Rattle.mq_log.specs.State.{LogState}
@@ -13,13 +12,12 @@ use Rattle.mq_rebuild.specs.Rebuilt.{IsBuilt}
 use Rattle.mq_core.specs.Views.{PartsValue}
 use Rattle.mq_start.specs.declared.raising.Unraised.{Unraised}
 use Rattle.mq_start.specs.Begun.{given_by, IsReadFrom, IsUnread, IsFresh}
-use Rattle.mq_start.specs.Raised.{given_of, with_log, HasRead, IsUnraised, HasHalted, Raises, Fell}
+use Rattle.mq_start.specs.Raised.{given_of, with_log, HasRead, Raises, Fell}
 use Rattle.mq_start.specs.Raised.Fell.{Unread, Unstarted as WasUnstarted}
-use Rattle.mq_start.specs.Raised.HasHalted.{Wanting, Halted}
+use Rattle.mq_start.specs.Raised.HasHalted.{Halted}
 use Rattle.mq_restart.specs.declared.reading.LogRead.{LogRead}
 use Rattle.mq_restart.specs.Stands.{read_found}
-use Rattle.mq_restarts.specs.declared.coming.Coming.{Coming}
-use Rattle.mq_restarts.specs.Comings.{is_foreign, IsToldBy, Rises, IsStopped, Halts, Wants, Breaks, IsUnmade, StaysBy, Unmade, Unstarted, ComesOwn, ComesFar, StaysOwn, StaysFar, StaysAs, ComesAs, ComesBack, StaysBack, Unopened, Reread, above}
+use Rattle.mq_restarts.specs.Comings.{is_foreign, IsToldBy, IsStopped, Halts, Wants, Breaks, IsUnmade, Unmade, Unstarted, ComesOwn, StaysOwn, StaysFar, StaysAs, StaysBack, Unopened, Reread, above}
 
 -- a log that was read again is as long as before
 pub most_same : (tells : Type 0) (found : Found) (old new : LogState) → HasRead tells old found new → new.max ≡ old.max

@@ -1,6 +1,6 @@
 -- The write of the Started record of a manager whose log was changed from outside was stopped.
-use Rattle.std.proofs.Common.{◌≡◌, ℕ, ◌+◌, ◌-◌, ◌<◌, ◌≤◌, ◌^◌, Bool, true, false, List, [], refl, ap, arith, sym, subst, ◌∙◌, inl, inr}
-use Rattle.std.specs.Prelude.{Option, Some, None, Ok, Err}
+use Rattle.std.proofs.Common.{◌≡◌, ℕ, ◌+◌, ◌-◌, ◌<◌, ◌≤◌, Bool, true, [], refl, ap, arith, sym, subst, ◌∙◌, inl, inr}
+use Rattle.std.specs.Prelude.{Option, Ok, Err}
 use Rattle.mq_base.specs.Outside.{Rose}
 use Rattle.mq_disk.specs.declared.cutter.Stop.{Stop}
 use Rattle.mq_disk.specs.declared.cutter.Stop.TheVariants as stops
@@ -16,7 +16,7 @@ use Rattle.mq_spec_state.specs.State.Running.{Up, Down}
 use Rattle.mq_spec_manager.specs.Stops.{CanReturn, failed, restart_at}
 use Rattle.mq_core.specs.declared.parts.Mode.{Mode}
 use Rattle.mq_core.specs.Ties.{Tied, mode_is_up}
-use Rattle.mq_core.specs.Values.{CoreValue, LogBodies, bodies_in}
+use Rattle.mq_core.specs.Values.{CoreValue, LogBodies}
 use Rattle.mq_core.specs.Views.{PartsValue, plain_of, frozen_of, noted, read_length}
 use Rattle.mq_start.specs.declared.raising.Unraised.{Unraised}
 use Rattle.mq_start.specs.Raised.{with_log, starts_after, stop_fault}
@@ -25,8 +25,8 @@ use Rattle.mq_restart.specs.declared.reading.LogRead.{LogRead}
 use Rattle.mq_restart.specs.declared.reading.LogRead.TheVariants as reads
 use Rattle.mq_restart.specs.Stands.{read_found, read_fallen, LogStandsAt, LogStands}
 use Rattle.mq_restart.specs.Falls.{or_read, fallen_mode, read_noted, left_by, fallen}
-use Rattle.mq_restart.specs.Returned.{CanEnd, Ends, Stayed, IsNotBad}
-use Rattle.mq_restart.proofs.FallenLaws.{IsDown, mode_down, tied_log, fallen_plain, down_running, failed_quiet}
+use Rattle.mq_restart.specs.Returned.{CanEnd, Stayed, IsNotBad}
+use Rattle.mq_restart.proofs.FallenLaws.{IsDown, tied_log, fallen_plain, down_running, failed_quiet}
 use Rattle.mq_restarts.proofs.ComingLaws.{most_same, FellFar}
 use Rattle.mq_restarts.proofs.FarLaws.{foreign_is}
 

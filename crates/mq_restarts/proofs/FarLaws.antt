@@ -1,6 +1,6 @@
 -- A manager that came up from a log that was changed from outside.
 use Rattle.std.proofs.Common.{◌≡◌, ℕ, zero, suc, ◌+◌, ◌-◌, ◌<◌, ◌≤◌, ◌^◌, Bool, true, false, List, [], ◌∷◌, ◌++◌, length, refl, ap, arith, sym, subst, ◌∙◌, inl, inr}
-use Rattle.std.specs.Prelude.{Option, Some, None, Ok, max, nat_lt}
+use Rattle.std.specs.Prelude.{Option, Ok, max, nat_lt}
 use Rattle.std.proofs.lemmas.Bool.Decides.{nat_tests}
 use Rattle.std.proofs.lemmas.List.{length-append}
 use Rattle.mq_log.specs.declared.images.Found.{Found}
@@ -10,11 +10,11 @@ use Rattle.mq_log.specs.Open.{EndsByOneOrThree}
 use Rattle.mq_log.specs.State.{LogState, log_length}
 use Rattle.mq_history.specs.declared.calls.Chance.TheVariants as chances
 use Rattle.mq_record.specs.Records.{record_bytes, IsRecord}
-use Rattle.mq_spec_state.specs.State.{Given, Plain, Noted, Running, LogState as PlainLog}
+use Rattle.mq_spec_state.specs.State.{Plain, Noted, Running, LogState as PlainLog}
 use Rattle.mq_spec_state.specs.State.Running.{Up, Down}
-use Rattle.mq_spec_state.specs.Images.{Image, begun, raised, lasting}
+use Rattle.mq_spec_state.specs.Images.{Image, begun, raised}
 use Rattle.mq_spec_state.specs.Counts.{starts_of}
-use Rattle.mq_spec_manager.specs.Stops.{started_record, started_need, redone_if, calls_of_restart, Spent}
+use Rattle.mq_spec_manager.specs.Stops.{started_record, started_need, calls_of_restart, Spent}
 use Rattle.mq_spec_log.specs.Applies.Start.{Later}
 use Rattle.mq_spec_log.specs.Bodies.{image}
 use Rattle.mq_law_image.proofs.Logged.{image_text}
@@ -33,8 +33,8 @@ use Rattle.mq_restart.specs.declared.reading.LogRead.TheVariants as reads
 use Rattle.mq_restart.specs.Stands.{read_found, read_up, unread_if, LogStandsAt, LogStands, StandsUp}
 use Rattle.mq_restart.specs.Returned.{IsOfImage}
 use Rattle.mq_restart.proofs.FallenLaws.{IsDown, down_running}
-use Rattle.mq_spec_node.specs.Words.{resumed, IsForeign, IsReturn, IsAllowed, most_restart_calls}
-use Rattle.mq_restarts.specs.Comings.{is_foreign, above, IsToldBy, ComesFar, IsFirstAbove}
+use Rattle.mq_spec_node.specs.Words.{IsForeign, IsReturn}
+use Rattle.mq_restarts.specs.Comings.{is_foreign, above, ComesFar, IsFirstAbove}
 use Rattle.mq_restarts.specs.Backs.{IsBackFrom}
 use Rattle.mq_restarts.proofs.ComingLaws.{most_same}
 use Rattle.mq_restarts.proofs.AboveLaws.{above_image, above_known, above_tells}

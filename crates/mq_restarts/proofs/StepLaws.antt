@@ -1,13 +1,13 @@
 -- What each step of a restart comes to, as the definitions say it.
-use Rattle.std.proofs.Common.{◌≡◌, ℕ, ◌+◌, ◌<◌, ◌^◌, Bool, true, false, List, refl, ap, arith, sym, subst, ◌∙◌}
-use Rattle.std.specs.Prelude.{Option, Some, None, Result, Ok, Err, MatchResult, max}
+use Rattle.std.proofs.Common.{◌≡◌, ℕ, ◌+◌, ◌<◌, ◌^◌, Bool, true, false, refl, ap, arith, sym, subst, ◌∙◌}
+use Rattle.std.specs.Prelude.{Some, None, Result, Ok, Err, MatchResult, max}
 use Rattle.std.specs.List.{AllByRecursion}
 use Rattle.mq_calls.specs.declared.commands.RestartFault.TheVariants as faults
 use Rattle.mq_frame.specs.Reading.{IsBytes}
 use Rattle.mq_log.specs.declared.images.Found.{Found}
 use Rattle.mq_log.specs.State.{LogState, log_length}
 use Rattle.mq_spec_state.specs.Images.{Image}
-use Rattle.mq_spec_state.specs.Recovery.{IsImage, AreKnown}
+use Rattle.mq_spec_state.specs.Recovery.{IsImage}
 use Rattle.mq_spec_log.specs.Applies.Start.{Later}
 use Rattle.mq_spec_log.specs.Bodies.{image}
 use Rattle.mq_recover.specs.declared.recovery.RecoverFault.{RecoverFault}
@@ -25,7 +25,7 @@ use Rattle.mq_start.proofs.ReadLaws.{is_unread}
 use Rattle.mq_restart.specs.declared.reading.LogRead.{LogRead}
 use Rattle.mq_restart.specs.Stands.{read_found}
 use Rattle.mq_restarts.specs.declared.coming.Coming.{Coming}
-use Rattle.mq_restarts.specs.Comings.{is_foreign, above, IsReread, IsToldBy, Rises, Halts, Wants, Breaks, IsUnmade, StaysBy, Unmade, Unstarted, ComesOwn, ComesFar, StaysOwn, StaysFar, StaysAs, ComesAs, ComesBack, StaysBack, Unopened, Reread}
+use Rattle.mq_restarts.specs.Comings.{is_foreign, above, IsReread, IsToldBy, Rises, Halts, Wants, Breaks, StaysBy, Unmade, Unstarted, ComesOwn, ComesFar, StaysOwn, StaysFar, StaysAs, ComesBack, StaysBack, Unopened, Reread}
 use Rattle.mq_restarts.proofs.ComingLaws.{fresh_read}
 use Rattle.mq_restarts.proofs.AboveLaws.{above_image}
 

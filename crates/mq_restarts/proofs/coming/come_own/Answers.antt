@@ -1,4 +1,3 @@
-use Rattle.std.proofs.Common.{refl}
 use Rattle.mq_restarts.proofs.StepLaws.{unmade, own_well, own_low, own_ends}
 use Rattle.mq_restarts.proofs.coming.come_own.Goals as goal
 
