@@ -94,6 +94,11 @@ came_up tells old new (backs.Foreign image length left) b p =
       later = p.later;
     }
 
+pub came_told : (tells : Type 0) (old m new : CoreValue) (b : Back) (r : Restart) (delta : List Did) → IsBack tells old.plain b m → Passes old m → r ≡ came_as b delta → delta ≡ m.delta → new ≡ record m { delta = [] } → IsRestart tells old r new
+came_told tells old m new b r delta back p is told left =
+    subst (λ (x : CoreValue). IsRestart tells old r x) (sym left)
+    (subst (λ (x : Restart). IsRestart tells old x (record m { delta = [] })) (sym (is ∙ ap (came_as b) told)) (came_up tells old m b back p))
+
 -- ---- it was refused
 
 told_fault : (fault : RestartFault) (in_write : Bool) (left : ℕ) → is_wanting fault ≡ false → IsToldReturn (Fails fault in_write left)

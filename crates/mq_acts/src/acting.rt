@@ -34,6 +34,7 @@ fn obey<D: Disk>(node: &mut Node<D>, actor: Actor, asked: Command) -> Result<Act
 /// # Errors
 ///
 /// No memory; nothing has changed.
+#[tactic(auto, using(crate::proofs::OwnLaws::did_told, crate::proofs::OwnLaws::own_told))]
 pub fn act<D: Disk>(node: &mut Node<D>, actor: Actor, asked: Act) -> Result<Acted, NoMemory>
     requires served { IsServed node.old }
     requires may { MayAct node.old }

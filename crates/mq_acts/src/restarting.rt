@@ -7,7 +7,7 @@ ghost use Rattle.mq_restarts.specs.Backs.{IsBack};
 ghost use Rattle.mq_events.specs.States.{IsServed, with_entry};
 ghost use Rattle.mq_events.specs.Events.{MayAct};
 ghost use Rattle.mq_events.specs.Counts.{HasFewRows, IsNode};
-ghost use Rattle.mq_acts.specs.Restarts.{BeganFew, RestartsAs, StayedAs, TellsAs, acted_by, came_as, is_wanting, own_behind, restart_entry};
+ghost use Rattle.mq_acts.specs.Restarts.{BeganFew, RestartsAs, StayedAs, TellsAs, acted_by, came_as, chance_of, is_wanting, own_behind, restart_entry};
 
 use crate::beginning::begin;
 use mq_base::{Items, NoMemory};
@@ -38,11 +38,10 @@ fn return_manager<D: Disk>(manager: &mut Manager<D>) -> Result<Back, Unreturned>
     mq_restarts::restart(&mut manager.core, &mut manager.read)
 }
 
-/// How a manager came up, as the history keeps it.
-fn came(back: Back, delta: Delta) -> Restart
-    ensures { result ≡ came_as back delta }
+fn chance_of(back: Back) -> Chance
+    ensures { result ≡ chance_of back }
 {
-    let chance = match back {
+    match back {
         Back::Own { kept, started } => Chance::Restart(Return::Comes { kept, started }),
         Back::Foreign {
             image,
@@ -53,9 +52,15 @@ fn came(back: Back, delta: Delta) -> Restart
             length,
             left,
         },
-    };
+    }
+}
+
+/// How a manager came up, as the history keeps it.
+fn came(back: Back, delta: Delta) -> Restart
+    ensures { result ≡ came_as back delta }
+{
     Restart {
-        chance,
+        chance: chance_of(back),
         refused: None,
         delta,
     }
