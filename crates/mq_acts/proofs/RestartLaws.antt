@@ -19,7 +19,7 @@ use Rattle.mq_events.proofs.CountLaws.{fresh_counted, long_more}
 use Rattle.mq_events.proofs.EntryLaws.{entry_kept}
 use Rattle.mq_events.proofs.KeepLaws.{begun_none}
 use Rattle.mq_answers.proofs.AnswerLaws.{room_stays, roomed_node}
-use Rattle.mq_acts.specs.declared.restarting.Restart.{Restart}
+use Rattle.mq_acts.specs.declared.restarting.Restarted.{Restarted}
 use Rattle.mq_acts.specs.Restarts.{own_behind, CountsBehind, acted_by, IsRestart, IsUnchanged, restart_entry, TellsActed, TellsAs, BeganFew}
 
 -- ---- where memory lacks, all is as it was
@@ -62,7 +62,7 @@ module _ (s r a : NodeState) (e : r ≡ record s { room = r.room }) (h : a ≡ r
 still_fits : (most kept long longer : ℕ) → most + kept ≤ 2 ^ 62 + 1024 * long → longer ≡ long + 1 → most + kept ≤ 2 ^ 62 + 1024 * longer
 still_fits most kept long longer f l = omega (arith, f, l)
 
-module _ (tells : Type 0) (s : NodeState) (m : CoreValue) (few : Bool) (room : ℕ) (who : Actor) (r : Restart) (n : IsNode s) (served : IsServed s) (h : IsRestart tells s.manager r m) where
+module _ (tells : Type 0) (s : NodeState) (m : CoreValue) (few : Bool) (room : ℕ) (who : Actor) (r : Restarted) (n : IsNode s) (served : IsServed s) (h : IsRestart tells s.manager r m) where
   abbrev it : Entry
   it = restart_entry (s.stamp + 1) who r
 
@@ -113,7 +113,7 @@ module _ (tells : Type 0) (s : NodeState) (m : CoreValue) (few : Bool) (room : �
   )
 
 -- step by step
-module _ (tells : Type 0) (s r a b f : NodeState) (e : r ≡ record s { room = r.room }) (g : a ≡ record r { manager = a.manager }) (who : Actor) (x : Restart)
+module _ (tells : Type 0) (s r a b f : NodeState) (e : r ≡ record s { room = r.room }) (g : a ≡ record r { manager = a.manager }) (who : Actor) (x : Restarted)
     (k : b ≡ record a { own = own_behind x.refused a.manager.plain a.own; few = b.few }) (entry : Entry) (at : entry ≡ restart_entry (b.stamp + 1) who x) (z : f ≡ with_entry entry b) (h : IsRestart tells r.manager x a.manager) where
   abbrev whole : NodeState
   whole = record s { manager = a.manager; own = own_behind x.refused a.manager.plain s.own; few = b.few; room = r.room }
