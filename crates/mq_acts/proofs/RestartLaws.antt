@@ -11,7 +11,7 @@ use Rattle.mq_core.specs.Values.{CoreValue}
 use Rattle.mq_restart.specs.Returned.{IsOfImage}
 use Rattle.mq_spec_node.specs.Terms.{Actor, Call, Entry, Plain}
 use Rattle.mq_history.specs.declared.calls.Reply.TheVariants as replies
-use Rattle.mq_spec_node.specs.Words.{Done, IsReplayed, Own, Tells, node_of, done_by, quiet}
+use Rattle.mq_spec_node.specs.Words.{begun_anew, Done, IsReplayed, Own, Tells, node_of, done_by, quiet}
 use Rattle.mq_events.specs.States.{NodeState, IsKept, IsServed, node_in, value_of, with_entry}
 use Rattle.mq_events.specs.Counts.{AreCounted, HasBound, HasFewRows, IsNode, kept_total}
 use Rattle.mq_events.specs.Events.{Stays}
@@ -56,6 +56,16 @@ module _ (s r a : NodeState) (e : r ≡ record s { room = r.room }) (h : a ≡ r
 
   pub unchanged_stays : Stays s a
   unchanged_stays = subst (Stays s) (sym (same_value s r a e h)) (record { same = value_same; marks = refl; faults = let b = u.later in let c = ap (λ (m : CoreValue). m.faults) here in omega (arith, b, c) })
+
+-- ---- where it came up, its own begins
+
+pub began_same : (s v t : NodeState) (own : Own) (refused : Option RestartFault) → v ≡ s → refused ≡ None → own ≡ (begun_anew v.manager.plain v.own).own → t ≡ record v { own = own; few = t.few }
+    → t ≡ record s { own = own_behind refused s.manager.plain s.own; few = t.few }
+began_same s v t own refused view none own_is same =
+    same
+    ∙ ap (λ (o : Own). let y : NodeState = record v { own = o; few = t.few } in y) own_is
+    ∙ ap (λ (x : NodeState). let y : NodeState = record x { own = (begun_anew x.manager.plain x.own).own; few = t.few } in y) view
+    ∙ ap (λ (r : Option RestartFault). let y : NodeState = record s { own = own_behind r s.manager.plain s.own; few = t.few } in y) (sym none)
 
 -- ---- the event
 
