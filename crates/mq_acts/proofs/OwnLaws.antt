@@ -34,23 +34,23 @@ IsNoRestart (calls.Act acts.Restart) = ⊥
 IsNoRestart _ = Unit {0}
 
 pub own_event : (stamp : ℕ) (actor : Actor) (call : Call) (chance : Chance) (seen : Seen) (n : Node) → IsNoRestart call → IsEvent stamp actor call chance seen n → IsOwn chance
-own_event stamp actor (calls.Mqconn qmgr appl) chance seen n no h = own_deed (deed_of stamp actor (calls.Mqconn qmgr appl) seen n) chance n h
-own_event stamp actor (calls.Mqdisc hc) chance seen n no h = own_deed (deed_of stamp actor (calls.Mqdisc hc) seen n) chance n h
-own_event stamp actor (calls.Mqopen hc name qmgr how) chance seen n no h = own_deed (deed_of stamp actor (calls.Mqopen hc name qmgr how) seen n) chance n h
-own_event stamp actor (calls.Mqclose hc ho) chance seen n no h = own_deed (deed_of stamp actor (calls.Mqclose hc ho) seen n) chance n h
-own_event stamp actor (calls.Mqput hc ho md body sync) chance seen n no h = own_deed (deed_of stamp actor (calls.Mqput hc ho md body sync) seen n) chance n h
-own_event stamp actor (calls.Mqput1 hc name qmgr md body sync) chance seen n no h = own_deed (deed_of stamp actor (calls.Mqput1 hc name qmgr md body sync) seen n) chance n h
-own_event stamp actor (calls.Mqget hc ho get until) chance seen n no h = own_deed (deed_of stamp actor (calls.Mqget hc ho get until) seen n) chance n h
-own_event stamp actor (calls.Mqcmit hc) chance seen n no h = own_deed (deed_of stamp actor (calls.Mqcmit hc) seen n) chance n h
-own_event stamp actor (calls.Mqback hc) chance seen n no h = own_deed (deed_of stamp actor (calls.Mqback hc) seen n) chance n h
-own_event stamp actor (calls.Act (acts.Obey c)) chance seen n no h = own_deed (deed_of stamp actor (calls.Act (acts.Obey c)) seen n) chance n h
-own_event stamp actor (calls.Act acts.Crash) chance seen n no h = own_alone chance h
-own_event stamp actor (calls.Act acts.Restart) chance seen n no h = absurd no
-own_event stamp actor (calls.Act (acts.Cut k)) chance seen n no h = own_alone chance h
-own_event stamp actor (calls.Act (acts.Clock by)) chance seen n no h = own_alone chance h
-own_event stamp actor calls.Turn chance seen n no h = own_deed (deed_of stamp actor calls.Turn seen n) chance n h
-own_event stamp actor calls.Timeout chance seen n no h = own_deed (deed_of stamp actor calls.Timeout seen n) chance n h
-own_event stamp actor calls.Trigger chance seen n no h = own_deed (deed_of stamp actor calls.Trigger seen n) chance n h
+own_event stamp actor (calls.Mqconn qmgr appl) chance seen n other h = own_deed (deed_of stamp actor (calls.Mqconn qmgr appl) seen n) chance n h
+own_event stamp actor (calls.Mqdisc hc) chance seen n other h = own_deed (deed_of stamp actor (calls.Mqdisc hc) seen n) chance n h
+own_event stamp actor (calls.Mqopen hc name qmgr how) chance seen n other h = own_deed (deed_of stamp actor (calls.Mqopen hc name qmgr how) seen n) chance n h
+own_event stamp actor (calls.Mqclose hc ho) chance seen n other h = own_deed (deed_of stamp actor (calls.Mqclose hc ho) seen n) chance n h
+own_event stamp actor (calls.Mqput hc ho md body sync) chance seen n other h = own_deed (deed_of stamp actor (calls.Mqput hc ho md body sync) seen n) chance n h
+own_event stamp actor (calls.Mqput1 hc name qmgr md body sync) chance seen n other h = own_deed (deed_of stamp actor (calls.Mqput1 hc name qmgr md body sync) seen n) chance n h
+own_event stamp actor (calls.Mqget hc ho get until) chance seen n other h = own_deed (deed_of stamp actor (calls.Mqget hc ho get until) seen n) chance n h
+own_event stamp actor (calls.Mqcmit hc) chance seen n other h = own_deed (deed_of stamp actor (calls.Mqcmit hc) seen n) chance n h
+own_event stamp actor (calls.Mqback hc) chance seen n other h = own_deed (deed_of stamp actor (calls.Mqback hc) seen n) chance n h
+own_event stamp actor (calls.Act (acts.Obey c)) chance seen n other h = own_deed (deed_of stamp actor (calls.Act (acts.Obey c)) seen n) chance n h
+own_event stamp actor (calls.Act acts.Crash) chance seen n other h = own_alone chance h
+own_event stamp actor (calls.Act acts.Restart) chance seen n other h = absurd other
+own_event stamp actor (calls.Act (acts.Cut k)) chance seen n other h = own_alone chance h
+own_event stamp actor (calls.Act (acts.Clock by)) chance seen n other h = own_alone chance h
+own_event stamp actor calls.Turn chance seen n other h = own_deed (deed_of stamp actor calls.Turn seen n) chance n h
+own_event stamp actor calls.Timeout chance seen n other h = own_deed (deed_of stamp actor calls.Timeout seen n) chance n h
+own_event stamp actor calls.Trigger chance seen n other h = own_deed (deed_of stamp actor calls.Trigger seen n) chance n h
 
 -- so of the last entry of a history that replays
 last_tells : (n : Node) (last : ℕ) (es : List Entry) (e : Entry) → Follows n last (es ++ e ∷ []) → Tells (after n es) (stamp_after last es) e
@@ -58,13 +58,13 @@ last_tells n last [] e f = f.0
 last_tells n last (x ∷ es) e f = last_tells (done_by x n).next x.stamp es e f.1
 
 own_last : (n : Node) (last : ℕ) (es : List Entry) (e : Entry) → Follows n last (es ++ e ∷ []) → IsNoRestart e.call → IsOwn e.chance
-own_last n last es e f no = own_event e.stamp e.actor e.call e.chance e.effect.popped (after n es) no (last_tells n last es e f).event
+own_last n last es e f other = own_event e.stamp e.actor e.call e.chance e.effect.popped (after n es) other (last_tells n last es e f).event
 
 pub own_adds : (who : Actor) (what : Call) (e : Entry) (s t : NodeState) → IsKept t → Adds who what e s t → IsNoRestart what → NoneForeign s.history.entries → NoneForeign t.history.entries
-own_adds who what e s t k a no none =
+own_adds who what e s t k a other none =
     let longer = ap (λ (h : History). h.entries) a.grows.history in
     let f : Follows (opening_node t.given t.history) 0 (s.history.entries ++ e ∷ []) = subst (Follows (opening_node t.given t.history) 0) longer k.replays.follows in
-    subst NoneForeign (sym longer) (none_more s.history.entries e none (own_last (opening_node t.given t.history) 0 s.history.entries e f (subst IsNoRestart (sym a.call) no)))
+    subst NoneForeign (sym longer) (none_more s.history.entries e none (own_last (opening_node t.given t.history) 0 s.history.entries e f (subst IsNoRestart (sym a.call) other)))
 
 pub own_stays : (s t : NodeState) → Stays s t → NoneForeign s.history.entries → NoneForeign t.history.entries
 own_stays s t h none = subst NoneForeign (sym (ap (λ (v : NodeValue). v.history.entries) h.same)) none

@@ -11,7 +11,7 @@ use Rattle.mq_core.specs.Values.{CoreValue}
 use Rattle.mq_restart.specs.Returned.{IsOfImage}
 use Rattle.mq_spec_node.specs.Terms.{Actor, Call, Entry, Plain}
 use Rattle.mq_history.specs.declared.calls.Reply.TheVariants as replies
-use Rattle.mq_spec_node.specs.Words.{Done, IsReplayed, Own, Tells, node_of, done_by, quiet}
+use Rattle.mq_spec_node.specs.Words.{begun_anew, Done, IsReplayed, Own, Tells, node_of, done_by, quiet}
 use Rattle.mq_events.specs.States.{NodeState, IsKept, IsServed, node_in, value_of, with_entry}
 use Rattle.mq_events.specs.Counts.{AreCounted, HasBound, HasFewRows, IsNode, kept_total}
 use Rattle.mq_events.specs.Events.{Stays}
@@ -19,7 +19,7 @@ use Rattle.mq_events.proofs.CountLaws.{fresh_counted, long_more}
 use Rattle.mq_events.proofs.EntryLaws.{entry_kept}
 use Rattle.mq_events.proofs.KeepLaws.{begun_none}
 use Rattle.mq_answers.proofs.AnswerLaws.{room_stays, roomed_node}
-use Rattle.mq_acts.specs.declared.restarting.Restart.{Restart}
+use Rattle.mq_acts.specs.declared.restarting.Restarted.{Restarted}
 use Rattle.mq_acts.specs.Restarts.{own_behind, CountsBehind, acted_by, IsRestart, IsUnchanged, restart_entry, TellsActed, TellsAs, BeganFew}
 
 -- ---- where memory lacks, all is as it was
@@ -57,12 +57,22 @@ module _ (s r a : NodeState) (e : r ≡ record s { room = r.room }) (h : a ≡ r
   pub unchanged_stays : Stays s a
   unchanged_stays = subst (Stays s) (sym (same_value s r a e h)) (record { same = value_same; marks = refl; faults = let b = u.later in let c = ap (λ (m : CoreValue). m.faults) here in omega (arith, b, c) })
 
+-- ---- where it came up, its own begins
+
+pub began_same : (s v t : NodeState) (own : Own) (refused : Option RestartFault) → v ≡ s → refused ≡ None → own ≡ (begun_anew v.manager.plain v.own).own → t ≡ record v { own = own; few = t.few }
+    → t ≡ record s { own = own_behind refused s.manager.plain s.own; few = t.few }
+began_same s v t own refused view none own_is same =
+    same
+    ∙ ap (λ (o : Own). let y : NodeState = record v { own = o; few = t.few } in y) own_is
+    ∙ ap (λ (x : NodeState). let y : NodeState = record x { own = (begun_anew x.manager.plain x.own).own; few = t.few } in y) view
+    ∙ ap (λ (r : Option RestartFault). let y : NodeState = record s { own = own_behind r s.manager.plain s.own; few = t.few } in y) (sym none)
+
 -- ---- the event
 
 still_fits : (most kept long longer : ℕ) → most + kept ≤ 2 ^ 62 + 1024 * long → longer ≡ long + 1 → most + kept ≤ 2 ^ 62 + 1024 * longer
 still_fits most kept long longer f l = omega (arith, f, l)
 
-module _ (tells : Type 0) (s : NodeState) (m : CoreValue) (few : Bool) (room : ℕ) (who : Actor) (r : Restart) (n : IsNode s) (served : IsServed s) (h : IsRestart tells s.manager r m) where
+module _ (tells : Type 0) (s : NodeState) (m : CoreValue) (few : Bool) (room : ℕ) (who : Actor) (r : Restarted) (n : IsNode s) (served : IsServed s) (h : IsRestart tells s.manager r m) where
   abbrev it : Entry
   it = restart_entry (s.stamp + 1) who r
 
@@ -113,7 +123,7 @@ module _ (tells : Type 0) (s : NodeState) (m : CoreValue) (few : Bool) (room : �
   )
 
 -- step by step
-module _ (tells : Type 0) (s r a b f : NodeState) (e : r ≡ record s { room = r.room }) (g : a ≡ record r { manager = a.manager }) (who : Actor) (x : Restart)
+module _ (tells : Type 0) (s r a b f : NodeState) (e : r ≡ record s { room = r.room }) (g : a ≡ record r { manager = a.manager }) (who : Actor) (x : Restarted)
     (k : b ≡ record a { own = own_behind x.refused a.manager.plain a.own; few = b.few }) (entry : Entry) (at : entry ≡ restart_entry (b.stamp + 1) who x) (z : f ≡ with_entry entry b) (h : IsRestart tells r.manager x a.manager) where
   abbrev whole : NodeState
   whole = record s { manager = a.manager; own = own_behind x.refused a.manager.plain s.own; few = b.few; room = r.room }

@@ -35,7 +35,7 @@ use Rattle.mq_manager.proofs.RestartLaws.{kept_restart}
 use Rattle.mq_spec_node.specs.Terms.{Did}
 use Rattle.mq_spec_node.specs.Words.{Own, Node, Done, node_of, begun_anew, quiet, restart_event, restarted, IsReturn, IsToldReturn, IsOwn}
 use Rattle.mq_events.specs.Counts.{AreBelow}
-use Rattle.mq_acts.specs.declared.restarting.Restart.{Restart}
+use Rattle.mq_acts.specs.declared.restarting.Restarted.{Restarted}
 use Rattle.mq_acts.specs.Restarts.{own_behind, CountsBehind, acted_by, IsRestart, IsUnchanged, RestartsAs, came_as, is_wanting, refused_as, StayedAs}
 
 -- ---- what holds of the manager between its calls
@@ -94,10 +94,10 @@ came_up tells old new (backs.Foreign image length left) b p =
       later = p.later;
     }
 
-pub came_told : (tells : Type 0) (old m new : CoreValue) (b : Back) (r : Restart) (delta : List Did) → IsBack tells old.plain b m → Passes old m → r ≡ came_as b delta → delta ≡ m.delta → new ≡ record m { delta = [] } → IsRestart tells old r new
+pub came_told : (tells : Type 0) (old m new : CoreValue) (b : Back) (r : Restarted) (delta : List Did) → IsBack tells old.plain b m → Passes old m → r ≡ came_as b delta → delta ≡ m.delta → new ≡ record m { delta = [] } → IsRestart tells old r new
 came_told tells old m new b r delta back p is told left =
     subst (λ (x : CoreValue). IsRestart tells old r x) (sym left)
-    (subst (λ (x : Restart). IsRestart tells old x (record m { delta = [] })) (sym (is ∙ ap (came_as b) told)) (came_up tells old m b back p))
+    (subst (λ (x : Restarted). IsRestart tells old x (record m { delta = [] })) (sym (is ∙ ap (came_as b) told)) (came_up tells old m b back p))
 
 -- ---- it was refused
 
@@ -176,6 +176,6 @@ unchanged (Down n starts) faults.Disk in_write left p w = absurd cc
 unchanged (Down n starts) faults.Cut in_write left p w = absurd cc
 unchanged (Down n starts) (faults.BadLog place) in_write left p w = absurd cc
 
-pub stayed_down : (tells : Type 0) (old new : CoreValue) (e : Unreturned) (result : Result Restart Want) → Stayed tells old.plain old.faults e new → Passes old new → StayedAs e result → RestartsAs tells old result new
-stayed_down tells old new e (Ok r) s p h = subst (λ (x : Restart). IsRestart tells old x new) (sym h.0) (refused tells old new e h.1 s p)
+pub stayed_down : (tells : Type 0) (old new : CoreValue) (e : Unreturned) (result : Result Restarted Want) → Stayed tells old.plain old.faults e new → Passes old new → StayedAs e result → RestartsAs tells old result new
+stayed_down tells old new e (Ok r) s p h = subst (λ (x : Restarted). IsRestart tells old x new) (sym h.0) (refused tells old new e h.1 s p)
 stayed_down tells old new e (Err x) s p h = record { same = s.ends.plain ∙ unchanged old.plain.running e.fault e.in_write e.left old.plain h; later = p.later }

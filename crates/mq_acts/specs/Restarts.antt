@@ -20,7 +20,7 @@ use Rattle.mq_spec_node.specs.Words.{Own, node_of, begun_anew, quiet, restart_ev
 use Rattle.mq_events.specs.Counts.{AreBelow, HasFewRows}
 use Rattle.mq_events.specs.Events.{Adds, Stays}
 use Rattle.mq_events.specs.States.{NodeState}
-use Rattle.mq_acts.specs.declared.restarting.Restart.{Restart}
+use Rattle.mq_acts.specs.declared.restarting.Restarted.{Restarted}
 
 -- the node's own behind it: as it begins, where the manager came up
 abbrev pub own_behind : Option RestartFault → Plain → Own → Own
@@ -38,7 +38,7 @@ acted_by None = acted.Done
 acted_by (Some fault) = acted.Start fault
 
 -- It is a restart that there is, and did this.
-pub record IsRestart (tells : Type 0) (old : CoreValue) (r : Restart) (new : CoreValue) : Type 0 where
+pub record IsRestart (tells : Type 0) (old : CoreValue) (r : Restarted) (new : CoreValue) : Type 0 where
   pub can : IsReturn r.chance old.plain.running old.plain
   pub does : (own : Own) → restart_event r.chance (node_of old.plain own) ≡ quiet (replies.Acted (acted_by r.refused)) r.delta (node_of new.plain (own_behind r.refused new.plain own))
   pub own : tells → IsOwn r.chance
@@ -50,12 +50,12 @@ pub record IsUnchanged (old new : CoreValue) : Type 0 where
   pub same : new.plain ≡ old.plain
   pub later : old.faults ≤ new.faults
 
-abbrev pub RestartsAs : Type 0 → CoreValue → Result Restart Want → CoreValue → Type 0
+abbrev pub RestartsAs : Type 0 → CoreValue → Result Restarted Want → CoreValue → Type 0
 RestartsAs tells old (Ok r) new = IsRestart tells old r new
 RestartsAs tells old (Err e) new = IsUnchanged old new
 
 -- the entry of a restart
-abbrev pub restart_entry : ℕ → Actor → Restart → Entry
+abbrev pub restart_entry : ℕ → Actor → Restarted → Entry
 restart_entry stamp who r = record {
   stamp = stamp;
   actor = who;
@@ -80,7 +80,7 @@ abbrev pub chance_of : Back → Chance
 chance_of (backs.Own kept started) = chances.Restart (Comes kept started)
 chance_of (backs.Foreign image length left) = chances.Foreign image length left
 
-abbrev pub came_as : Back → List Did → Restart
+abbrev pub came_as : Back → List Did → Restarted
 came_as back delta = record { chance = chance_of back; refused = None; delta = delta }
 
 abbrev pub is_wanting : RestartFault → Bool
@@ -90,10 +90,10 @@ is_wanting faults.Disk = false
 is_wanting faults.Cut = false
 is_wanting (faults.BadLog place) = false
 
-abbrev pub refused_as : Unreturned → Restart
+abbrev pub refused_as : Unreturned → Restarted
 refused_as e = record { chance = chances.Restart (Fails e.fault e.in_write e.left); refused = Some e.fault; delta = [] }
 
-abbrev pub StayedAs : Unreturned → Result Restart Want → Type 0
+abbrev pub StayedAs : Unreturned → Result Restarted Want → Type 0
 StayedAs e (Ok r) = (r ≡ refused_as e) × (is_wanting e.fault ≡ false)
 StayedAs e (Err x) = is_wanting e.fault ≡ true
 

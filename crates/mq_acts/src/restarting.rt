@@ -23,7 +23,7 @@ use std::alloc::Global;
 
 /// What a restart came to, as the history keeps it.
 #[derive(Drop)]
-pub(crate) struct Restart {
+pub(crate) struct Restarted {
     pub chance: Chance,
     /// Why it was refused; none where the manager came up.
     pub refused: Option<RestartFault>,
@@ -56,10 +56,10 @@ fn chance_of(back: Back) -> Chance
 }
 
 /// How a manager came up, as the history keeps it.
-fn came(back: Back, delta: Delta) -> Restart
+fn came(back: Back, delta: Delta) -> Restarted
     ensures { result ≡ came_as back delta }
 {
-    Restart {
+    Restarted {
         chance: chance_of(back),
         refused: None,
         delta,
@@ -80,14 +80,14 @@ fn is_wanting(fault: RestartFault) -> bool
 }
 
 /// A restart that was refused, as the history keeps it. None for want of memory, which is no event.
-fn stayed(e: Unreturned, delta: Delta) -> Result<Restart, NoMemory>
+fn stayed(e: Unreturned, delta: Delta) -> Result<Restarted, NoMemory>
     requires none { delta ≡ [] }
     ensures { StayedAs e result }
 {
     if is_wanting(e.fault) {
         return Err(NoMemory);
     }
-    Ok(Restart {
+    Ok(Restarted {
         chance: Chance::Restart(Return::Fails {
             fault: e.fault,
             in_write: e.in_write,
@@ -103,7 +103,7 @@ fn stayed(e: Unreturned, delta: Delta) -> Result<Restart, NoMemory>
 /// # Errors
 ///
 /// No memory; nothing has changed.
-fn restart_manager<D: Disk>(manager: &mut Manager<D>, alloc: Global) -> Result<Restart, NoMemory>
+fn restart_manager<D: Disk>(manager: &mut Manager<D>, alloc: Global) -> Result<Restarted, NoMemory>
     ensures { RestartsAs D.tells manager.old result manager.new }
 {
     match return_manager(manager) {
@@ -123,10 +123,10 @@ fn acted_by(refused: Option<RestartFault>) -> Acted
 }
 
 /// The entry of a restart.
-fn restart_entry(alloc: Global, stamp: u64, actor: Actor, r: Restart) -> Entry
+fn restart_entry(alloc: Global, stamp: u64, actor: Actor, r: Restarted) -> Entry
     ensures { result ≡ restart_entry stamp actor r }
 {
-    let Restart {
+    let Restarted {
         chance,
         refused,
         delta,
@@ -148,7 +148,7 @@ fn restart_entry(alloc: Global, stamp: u64, actor: Actor, r: Restart) -> Entry
 }
 
 /// The manager of a node restarts.
-fn restart_parts<D: Disk>(parts: &mut NodeParts<D>) -> Result<Restart, NoMemory>
+fn restart_parts<D: Disk>(parts: &mut NodeParts<D>) -> Result<Restarted, NoMemory>
     ensures same { parts.new ≡ record parts.old { manager = parts.new.manager } }
     ensures ends { RestartsAs D.tells parts.old.manager result parts.new.manager }
 {

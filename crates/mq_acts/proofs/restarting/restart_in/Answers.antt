@@ -1,3 +1,6 @@
+use Rattle.std.proofs.Common.{◌+◌, ap, ◌∙◌}
+use Rattle.mq_events.specs.States.{NodeState}
+use Rattle.mq_acts.specs.Restarts.{restart_entry}
 use Rattle.mq_acts.proofs.RestartLaws.{roomed, roomed_stays, unchanged_node, unchanged_stays, restart_node, restart_told}
 use Rattle.mq_acts.proofs.restarting.restart_in.Goals as goal
 
@@ -15,10 +18,10 @@ returns-in-Err-clause-did g c = unchanged_stays c.args.parts.now c.reserve.new.s
 
 pub returns-clause-node : goal.returns-clause-node
 returns-clause-node g c =
-    restart_node g.D.Disk.tells c.args.parts.now c.reserve.new.self c.restart_parts.new.parts c.begin_parts.new.parts c.add.new.self c.reserve.ensures.same c.restart_parts.ensures.same c.args.actor c.in-Ok.r c.begin_parts.ensures.same c.restart_entry-entry.result c.restart_entry-entry.ensures c.add.ensures c.in-Ok.ensures.ends
+    restart_node g.D.Disk.tells c.args.parts.now c.reserve.new.self c.restart_parts.new.parts c.begin_parts.new.parts c.add.new.self c.reserve.ensures.same c.restart_parts.ensures.same c.args.actor c.in-Ok.r c.begin_parts.ensures.same c.restart_entry-entry.result (c.restart_entry-entry.ensures ∙ ap (λ (x : NodeState). restart_entry (x.stamp + 1) c.args.actor c.in-Ok.r) c.parts.view_is) c.add.ensures c.in-Ok.ensures.ends
     c.requires.node c.requires.served c.begin_parts.ensures.few
 
 pub returns-clause-did : goal.returns-clause-did
 returns-clause-did g c =
-    restart_told g.D.Disk.tells c.args.parts.now c.reserve.new.self c.restart_parts.new.parts c.begin_parts.new.parts c.add.new.self c.reserve.ensures.same c.restart_parts.ensures.same c.args.actor c.in-Ok.r c.begin_parts.ensures.same c.restart_entry-entry.result c.restart_entry-entry.ensures c.add.ensures c.in-Ok.ensures.ends
+    restart_told g.D.Disk.tells c.args.parts.now c.reserve.new.self c.restart_parts.new.parts c.begin_parts.new.parts c.add.new.self c.reserve.ensures.same c.restart_parts.ensures.same c.args.actor c.in-Ok.r c.begin_parts.ensures.same c.restart_entry-entry.result (c.restart_entry-entry.ensures ∙ ap (λ (x : NodeState). restart_entry (x.stamp + 1) c.args.actor c.in-Ok.r) c.parts.view_is) c.add.ensures c.in-Ok.ensures.ends
     c.acted_by.result c.requires.node c.requires.served c.acted_by.ensures
