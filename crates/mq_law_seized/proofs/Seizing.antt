@@ -28,7 +28,7 @@ use Rattle.mq_spec_state.specs.Steps.{Test, silent, when}
 use Rattle.mq_spec_state.specs.Steps.Step.{Do}
 use Rattle.mq_spec_manager.specs.Get.{idents_of}
 use Rattle.mq_spec_manager.specs.Handles.{is_transmission_queue}
-use Rattle.mq_spec_agents.specs.Words.{CanHold, Landed, Landing, Standing, before, channel_queue, drop_changes, expire, harden, harden_part, hold_batch, is_present, land, land_changes, landed, landed_by, landed_unless, leave, prepare, prepare_of, prepared_changes, prepared_record, queue_of_sender, receive, receive_landed, received_record, release_batch, release_of, seize, seized_queue, set_bound, standing_at, undoubted, expired_rows}
+use Rattle.mq_spec_agents.specs.Words.{CanHold, HasSeized, Landed, Landing, Standing, before, channel_queue, drop_changes, expire, harden, harden_part, hold_batch, is_present, land, land_changes, landed, landed_by, landed_unless, leave, prepare, prepare_of, prepared_changes, prepared_record, queue_of_sender, receive, receive_landed, received_record, release_batch, release_of, seize, seized_queue, set_bound, standing_at, undoubted, expired_rows}
 use Rattle.mq_spec_agents.specs.Standing.Standing.{Absent, InDoubtAt, Present}
 use Rattle.mq_spec_state.specs.Reads.{is_persistent}
 use Rattle.mq_law_manager.specs.Facts.{Mem}
@@ -120,18 +120,21 @@ seized_mem c (x ∷ xs) s e = bool_case (bytes_eq c x.channel) (λ b. bytes_eq c
     one : (x s : Seizure) → Some x ≡ Some s → s ≡ x
     one x s f = cc
 
-pub holds_batch : (channel : List ℕ) (unit : Luw) (most : ℕ) (p : Plain) → CanHold channel p → AreSeized p → StepKeeps AreSeized (hold_batch channel unit most p) p
-holds_batch channel unit most p can h =
+pub holds_seized : (channel : List ℕ) (unit : Luw) (most : ℕ) (p : Plain) → HasSeized channel p → AreSeized p → StepKeeps AreSeized (hold_batch channel unit most p) p
+holds_seized channel unit most p seized h =
     let q : List ℕ = queue_of_sender channel p in
     let is : List Ident = idents_of (take most (free_rows q p)) in
     let b : Batch = record { channel = channel; unit = unit; queue = q; idents = is } in
-    let o = some_of (seizure_of channel p.channels.seizures) can.seized in
+    let o = some_of (seizure_of channel p.channels.seizures) seized in
     let mine = seized_mem channel p.channels.seizures o.0 o.1 in (
       change_leaves (AddBatch b) _ refl (holds q is (holders.Batch channel) p h (λ s n e.
           let same : s.channel ≡ channel = h.alone s o.0 n mine.0 (e ∙ ap seized_queue o.1) ∙ sym mine.1 in
           ap not (ap (λ (x : List ℕ). bytes_eq x channel) same ∙ name_self channel))),
       tt,
     )
+
+pub holds_batch : (channel : List ℕ) (unit : Luw) (most : ℕ) (p : Plain) → CanHold channel p → AreSeized p → StepKeeps AreSeized (hold_batch channel unit most p) p
+holds_batch channel unit most p can h = holds_seized channel unit most p can.seized h
 
 -- WHAT IS PLAIN
 prepare_plain : (channel : List ℕ) (last : ℕ) (o : Option Batch) (p : Plain) → step_plain (prepare_of channel last o p) ≡ true
