@@ -1,16 +1,14 @@
 //! Any call that a script makes, as an event of its node.
 ghost use Rattle.std.specs.Prelude.{◌≡◌, false};
-ghost use Rattle.mq_history.specs.declared.calls.Call.TheVariants as calls;
 ghost use Rattle.mq_events.specs.States.{IsServed};
-ghost use Rattle.mq_events.specs.Events.{ActsAs, MayAct};
-ghost use Rattle.mq_events.specs.Texts.{IsTextAct};
+ghost use Rattle.mq_events.specs.Events.{MayAct};
 ghost use Rattle.mq_asked.specs.Asks.{Comes, IsDoneCall, happened_if, is_mqi};
 
+use mq_acts::act;
 use mq_base::NoMemory;
 use mq_disk::Disk;
 use mq_events::Node;
-use mq_history::{Act, Acted, Actor, Call};
-use mq_sc_parse::Command;
+use mq_history::{Acted, Actor, Call};
 
 /// Whether a call is one of the MQI.
 fn is_mqi(call: &Call) -> bool
@@ -29,27 +27,6 @@ fn happened(acted: Result<Acted, NoMemory>) -> Result<bool, NoMemory>
     match acted {
         Ok(_) => Ok(true),
         Err(NoMemory) => Err(NoMemory),
-    }
-}
-
-/// An act, as an event. Restarts, commands on channel ends and DISPLAY CHSTATUS find no memory here.
-///
-/// # Errors
-///
-/// No memory; nothing has changed.
-#[tactic(auto, using(crate::proofs::AskLaws::unacted))]
-fn act<D: Disk>(node: &mut Node<D>, actor: Actor, asked: Act) -> Result<Acted, NoMemory>
-    requires served { IsServed node.old }
-    requires may { MayAct node.old }
-    requires text { IsTextAct asked }
-    ensures { ActsAs actor (calls.Act asked) node.old result node.new }
-{
-    match asked {
-        Act::Crash => node.crash(actor),
-        Act::Cut(k) => node.cut(actor, k),
-        Act::Clock(by) => node.advance_clock(actor, by),
-        Act::Obey(Command::Objects(command)) => node.command(actor, command),
-        Act::Obey(_) | Act::Restart => Err(NoMemory),
     }
 }
 
