@@ -171,9 +171,6 @@ letter_is a b e = cc
 pub letter_can : (h : Handler) (p : Plain) (l : DueLetter) → IsWell p → letter_by h p ≡ Some l → IsUp p × ((bare : Bool) → CanMove l.queue l.ident bare p)
 letter_can h p l well e = up (is_up p.running) refl e
   where
-    q : List ℕ
-    q = input_queue h.table p
-
     at : IsUp p → is_readable (local_of (input_queue h.table p) p.definitions) ≡ true → (row : Option Row) → next_letter (input_queue h.table p) h p ≡ row → letter_at (input_queue h.table p) h row ≡ Some l → (bare : Bool) → CanMove l.queue l.ident bare p
     at is readable None r k bare = absurd cc
     at is readable (Some x) r k bare =

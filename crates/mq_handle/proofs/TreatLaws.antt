@@ -29,7 +29,7 @@ use Rattle.mq_core.specs.Values.{CoreValue, manager_of}
 use Rattle.mq_agents.specs.Ends.{by_agent, by_place}
 use Rattle.mq_outcomes.specs.declared.outcome.Outcome.{Outcome}
 use Rattle.mq_outcomes.specs.Outcomes.{Came}
-use Rattle.mq_outcomes.proofs.CallLaws.{came_so, later as faults_later, nothing_possible, outcome_by, same_plain}
+use Rattle.mq_outcomes.proofs.CallLaws.{came_so, nothing_possible, outcome_by, same_plain}
 use Rattle.mq_outcomes.proofs.NumberLaws.{IsShort, StepIsShort, tested_all}
 use Rattle.mq_handle.specs.declared.choosing.Dispatch.{Dispatch}
 use Rattle.mq_handle.specs.declared.choosing.Ruling.TheVariants as rulings

@@ -48,7 +48,7 @@ next_none (Some m) e = at_none m.connection m.handle e
 at_some : (hc : Option Hconn) (ho : Option Hobj) (w : Watched) → watched_at hc ho ≡ Some w → monitor_call hc ho ≡ Some (get_of w)
 at_some None ho w e = absurd cc
 at_some (Some hc) None w e = absurd cc
-at_some (Some hc) (Some ho) w e = let is : record { connection = hc; queue = ho } ≡ w = watched_is (record { connection = hc; queue = ho }) w e in ap (λ (x : Watched). Some (get_of x)) is
+at_some (Some hc) (Some ho) w e = ap (λ (x : Watched). Some (get_of x)) (watched_is (record { connection = hc; queue = ho }) w e)
   where
     watched_is : (a b : Watched) → Some a ≡ Some b → a ≡ b
     watched_is a b e = cc
@@ -199,7 +199,7 @@ module _ (k : ℕ) (s r a : NodeState) (w : Watched) (e : Roomed s r) (h : Asked
       let it = was_refused s.own s.manager.plain a.manager.plain (step_of w s.manager.plain) o shape ((ends_at (Ok (Some o)) n).ends 0 (actors.Monitor k) s.own) is in
       record { stays = stays_at it.0 (ends_at (Ok (Some o)) n).later; idle = idle_at k s w seat ∙ it.1 }
 
-  got_turn : (f : NodeState) (o : Outcome) (begun : Option ℕ) → Ends (get_of w) r.manager (Ok (Some o)) a.manager → is_refused o.choice o.reply ≡ false → begun ≡ begins s.own.scripts s.history.entries o.reply → f ≡ finished (actors.Monitor k) (get_of w) o a → Gets k begun s f
+  got_turn : (f : NodeState) (o : Outcome) (begun : Option ℕ) → Ends (get_of w) r.manager (Ok (Some o)) a.manager → is_refused o.choice o.reply ≡ false → begun ≡ begins a.own.scripts a.history.entries o.reply → f ≡ finished (actors.Monitor k) (get_of w) o a → Gets k begun s f
   got_turn f o begun n is b z =
       let same : f ≡ finished (actors.Monitor k) (get_of w) o (record s { manager = a.manager; room = r.room }) = z ∙ ap (finished (actors.Monitor k) (get_of w) o) (roomed_asked s r a e h) in
       let entry : Entry = entry_of (s.stamp + 1) (actors.Monitor k) (get_of w) o in
@@ -210,10 +210,10 @@ module _ (k : ℕ) (s r a : NodeState) (w : Watched) (e : Roomed s r) (h : Asked
         adds = subst A (sym same) (record { grows = record { given = refl; history = refl }; actor = refl; call = refl; marks = refl; faults = (ends_at (Ok (Some o)) n).later });
         next = sym (next_some (monitor_in k s.own.monitors) w seat);
         finds = idle_at k s w seat ∙ was_got s.own s.manager.plain a.manager.plain (step_of w s.manager.plain) o shape ((ends_at (Ok (Some o)) n).ends 0 (actors.Monitor k) s.own) is;
-        script = sym b;
+        script = sym (b ∙ ap (λ (x : NodeState). begins x.own.scripts x.history.entries o.reply) (roomed_asked s r a e h));
       }
 
-  pub got_did : (f : NodeState) (o : Outcome) (begun : Option ℕ) → Ends (get_of w) r.manager (Ok (Some o)) a.manager → is_refused o.choice o.reply ≡ false → begun ≡ begins s.own.scripts s.history.entries o.reply → f ≡ finished (actors.Monitor k) (get_of w) o a → Turns k s (Ok (monitored begun)) f
+  pub got_did : (f : NodeState) (o : Outcome) (begun : Option ℕ) → Ends (get_of w) r.manager (Ok (Some o)) a.manager → is_refused o.choice o.reply ≡ false → begun ≡ begins a.own.scripts a.history.entries o.reply → f ≡ finished (actors.Monitor k) (get_of w) o a → Turns k s (Ok (monitored begun)) f
   got_did f o None n is b z = got_turn f o None n is b z
   got_did f o (Some script) n is b z = got_turn f o (Some script) n is b z
 

@@ -1,13 +1,12 @@
 -- The last entry, and what a monitor was answered.
 use Rattle.std.proofs.Common.{◌≡◌, ℕ, suc, ◌-◌, refl, sym, ap, subst, ◌∙◌, List, [], ◌∷◌, ◌++◌, length, Bool, true, false, arith}
 use Rattle.std.specs.Prelude.{Option, Some, None, Result, Ok, Err, slice_get}
-use Rattle.std.specs.Option.{option_map}
 use Rattle.mq_history.specs.declared.calls.Actor.TheVariants as actors
 use Rattle.mq_history.specs.declared.calls.Call.TheVariants as calls
-use Rattle.mq_spec_node.specs.Terms.{Actor, Call, Entry, Hconn, History}
-use Rattle.mq_spec_node.specs.Words.{Monitor, is_opened, monitor_in, script_appl, shared}
+use Rattle.mq_spec_node.specs.Terms.{Actor, Call, Entry, Hconn, History, MonitorLine}
+use Rattle.mq_spec_node.specs.Words.{is_opened, script_appl, shared}
 use Rattle.mq_events.specs.States.{NodeState}
-use Rattle.mq_events.specs.Events.{Adds, Stays}
+use Rattle.mq_events.specs.Events.{Adds}
 use Rattle.mq_watch.specs.Turns.{Connects, Opens, connection_of, last_entry}
 
 one_less : (x y : Entry) (es : List Entry) → slice_get (x ∷ y ∷ es) (length (x ∷ y ∷ es) - 1) ≡ slice_get (y ∷ es) (length (y ∷ es) - 1)
@@ -37,36 +36,18 @@ last_same who what old new a x e = entry_is x a.0 (e ∙ adds_last who what a.0 
     entry_is : (a b : Entry) → Some a ≡ Some b → a ≡ b
     entry_is a b e = cc
 
-found : (call : Monitor → Call) (c : Call) (o : Option Monitor) → Some c ≡ option_map call o → (m : Monitor) × (o ≡ Some m) × (c ≡ call m)
-found call c None e = absurd cc
-found call c (Some m) e = (m, refl, call_is c (call m) e)
-  where
-    call_is : (a b : Call) → Some a ≡ Some b → a ≡ b
-    call_is a b e = cc
+pub connected : (k : ℕ) (line : MonitorLine) (old new : NodeState) (c : Call) (x : Entry) (given : Option Hconn) → c ≡ calls.Mqconn [] (script_appl line.label) → (e : Entry) × Adds (actors.Monitor k) c e old new
+    → Some x ≡ last_entry new.history.entries → given ≡ connection_of x.reply → Connects k line old (Ok given) new
+connected k line old new c x given f a l g = record {
+  entry = a.0;
+  adds = subst (λ (y : Call). Adds (actors.Monitor k) y a.0 old new) f a.1;
+  gives = g ∙ ap (λ (y : Entry). connection_of y.reply) (last_same (actors.Monitor k) c old new a x l);
+}
 
-pub connected : (k : ℕ) (old new : NodeState) (c : Call) (x : Entry) (given : Option Hconn) → Some c ≡ option_map (λ (m : Monitor). calls.Mqconn [] (script_appl m.line.label)) (monitor_in k old.own.monitors)
-    → (e : Entry) × Adds (actors.Monitor k) c e old new → Some x ≡ last_entry new.history.entries → given ≡ connection_of x.reply → Connects k old (Ok given) new
-connected k old new c x given f a l g =
-    let it = found (λ (m : Monitor). calls.Mqconn [] (script_appl m.line.label)) c (monitor_in k old.own.monitors) f in
-    record {
-      monitor = it.0;
-      there = it.1;
-      entry = a.0;
-      adds = subst (λ (y : Call). Adds (actors.Monitor k) y a.0 old new) it.2 a.1;
-      gives = g ∙ ap (λ (y : Entry). connection_of y.reply) (last_same (actors.Monitor k) c old new a x l);
-    }
-
-pub opened : (k : ℕ) (hc : Hconn) (old new : NodeState) (c : Call) (x : Entry) (given : Bool) → Some c ≡ option_map (λ (m : Monitor). calls.Mqopen hc m.line.queue [] shared) (monitor_in k old.own.monitors)
-    → (e : Entry) × Adds (actors.Monitor k) c e old new → Some x ≡ last_entry new.history.entries → given ≡ is_opened x.reply → Opens k hc old (Ok given) new
-opened k hc old new c x given f a l g =
-    let it = found (λ (m : Monitor). calls.Mqopen hc m.line.queue [] shared) c (monitor_in k old.own.monitors) f in
-    record {
-      monitor = it.0;
-      there = it.1;
-      entry = a.0;
-      adds = subst (λ (y : Call). Adds (actors.Monitor k) y a.0 old new) it.2 a.1;
-      gives = g ∙ ap (λ (y : Entry). is_opened y.reply) (last_same (actors.Monitor k) c old new a x l);
-    }
-
-pub same_stays : (s : NodeState) → Stays s s
-same_stays s = record { same = refl; marks = refl; faults = omega arith }
+pub opened : (k : ℕ) (line : MonitorLine) (hc : Hconn) (old new : NodeState) (c : Call) (x : Entry) (given : Bool) → c ≡ calls.Mqopen hc line.queue [] shared → (e : Entry) × Adds (actors.Monitor k) c e old new
+    → Some x ≡ last_entry new.history.entries → given ≡ is_opened x.reply → Opens k line hc old (Ok given) new
+opened k line hc old new c x given f a l g = record {
+  entry = a.0;
+  adds = subst (λ (y : Call). Adds (actors.Monitor k) y a.0 old new) f a.1;
+  gives = g ∙ ap (λ (y : Entry). is_opened y.reply) (last_same (actors.Monitor k) c old new a x l);
+}

@@ -5,8 +5,8 @@ use Rattle.mq_calls.specs.declared.answers.Answer.TheVariants as answers
 use Rattle.mq_history.specs.declared.calls.Actor.TheVariants as actors
 use Rattle.mq_history.specs.declared.calls.Call.TheVariants as calls
 use Rattle.mq_history.specs.declared.calls.Reply.TheVariants as replies
-use Rattle.mq_spec_node.specs.Terms.{Answer, Call, Choice, Runs, NoMemory, Stopped, Entry, Got, Hconn, Hobj, Reply}
-use Rattle.mq_spec_node.specs.Words.{Monitor, begins, is_opened, is_script, is_trigger, monitor_get, monitor_idle, monitor_in, monitor_next, script_appl, shared}
+use Rattle.mq_spec_node.specs.Terms.{Answer, Call, Choice, Runs, NoMemory, Stopped, Entry, Got, Hconn, Hobj, MonitorLine, Reply}
+use Rattle.mq_spec_node.specs.Words.{Monitor, begins, is_opened, is_script, is_trigger, monitor_get, monitor_idle, monitor_next, script_appl, shared}
 use Rattle.mq_events.specs.States.{NodeState, node_in}
 use Rattle.mq_events.specs.Events.{Adds, Stays}
 use Rattle.mq_watch.specs.declared.getting.Monitored.{Monitored}
@@ -80,26 +80,22 @@ abbrev pub connection_of : Reply → Option Hconn
 connection_of (replies.Connected (answers.Ok hc)) = Some hc
 connection_of _ = None
 
--- The monitor of that number connected, and was given this; it opened its queue, or not. Where there was no memory, nothing has
+-- A monitor of that number and line connected, and was given this; it opened its queue, or not. Where there was no memory, nothing has
 -- changed.
-pub record ConnectsTo (k : ℕ) (given : Option Hconn) (old new : NodeState) : Type 0 where
-  pub monitor : Monitor
-  pub there : monitor_in k old.own.monitors ≡ Some monitor
+pub record ConnectsTo (k : ℕ) (line : MonitorLine) (given : Option Hconn) (old new : NodeState) : Type 0 where
   pub entry : Entry
-  pub adds : Adds (actors.Monitor k) (calls.Mqconn [] (script_appl monitor.line.label)) entry old new
+  pub adds : Adds (actors.Monitor k) (calls.Mqconn [] (script_appl line.label)) entry old new
   pub gives : given ≡ connection_of entry.reply
 
-abbrev pub Connects : ℕ → NodeState → Result (Option Hconn) Want → NodeState → Type 0
-Connects k old (Ok given) new = ConnectsTo k given old new
-Connects k old (Err e) new = Stays old new
+abbrev pub Connects : ℕ → MonitorLine → NodeState → Result (Option Hconn) Want → NodeState → Type 0
+Connects k line old (Ok given) new = ConnectsTo k line given old new
+Connects k line old (Err e) new = Stays old new
 
-pub record OpensQueue (k : ℕ) (hc : Hconn) (opened : Bool) (old new : NodeState) : Type 0 where
-  pub monitor : Monitor
-  pub there : monitor_in k old.own.monitors ≡ Some monitor
+pub record OpensQueue (k : ℕ) (line : MonitorLine) (hc : Hconn) (opened : Bool) (old new : NodeState) : Type 0 where
   pub entry : Entry
-  pub adds : Adds (actors.Monitor k) (calls.Mqopen hc monitor.line.queue [] shared) entry old new
+  pub adds : Adds (actors.Monitor k) (calls.Mqopen hc line.queue [] shared) entry old new
   pub gives : opened ≡ is_opened entry.reply
 
-abbrev pub Opens : ℕ → Hconn → NodeState → Result Bool Want → NodeState → Type 0
-Opens k hc old (Ok opened) new = OpensQueue k hc opened old new
-Opens k hc old (Err e) new = Stays old new
+abbrev pub Opens : ℕ → MonitorLine → Hconn → NodeState → Result Bool Want → NodeState → Type 0
+Opens k line hc old (Ok opened) new = OpensQueue k line hc opened old new
+Opens k line hc old (Err e) new = Stays old new

@@ -1,7 +1,7 @@
 //! A monitor that connects, and opens its initiation queue.
-ghost use Rattle.std.specs.Prelude.{◌≡◌, [], option_copied, option_map};
+ghost use Rattle.std.specs.Prelude.{◌≡◌, [], option_copied};
 ghost use Rattle.mq_history.specs.declared.calls.Call.TheVariants as calls;
-ghost use Rattle.mq_spec_node.specs.Words.{Own, is_live, is_opened, monitor_in, monitor_live, node_of, script_appl, shared};
+ghost use Rattle.mq_spec_node.specs.Words.{Own, is_live, is_opened, monitor_live, node_of, script_appl, shared};
 ghost use Rattle.mq_events.specs.Events.{MayAct};
 ghost use Rattle.mq_events.specs.States.{IsServed, node_in};
 ghost use Rattle.mq_watch.specs.Turns.{Connects, Opens, connection_of, last_entry};
@@ -83,26 +83,6 @@ fn open_call(line: &MonitorLine, hc: Hconn) -> Call
     }
 }
 
-/// The call by which the monitor of a number connects; none where there is no such monitor.
-fn connecting(monitors: &[Monitor], number: u16) -> Option<Call>
-    ensures { result ≡ option_map (λ m. calls.Mqconn [] (script_appl m.line.label)) (monitor_in number monitors.now) }
-{
-    match monitor_in(monitors, number) {
-        None => None,
-        Some(monitor) => Some(connect_call(&monitor.line)),
-    }
-}
-
-/// The call by which it opens its queue.
-fn opening(monitors: &[Monitor], number: u16, hc: Hconn) -> Option<Call>
-    ensures { result ≡ option_map (λ m. calls.Mqopen hc m.line.queue [] shared) (monitor_in number monitors.now) }
-{
-    match monitor_in(monitors, number) {
-        None => None,
-        Some(monitor) => Some(open_call(&monitor.line, hc)),
-    }
-}
-
 fn has_connection<D: Disk>(core: &Core<D>, monitor: Option<&Monitor>) -> bool
     ensures { (own : Own) → result ≡ is_live (option_copied monitor.entry) (node_of core.now.plain own) }
 {
@@ -126,21 +106,23 @@ pub fn is_watching<D: Disk>(node: &Node<D>, monitor: u16) -> bool
     )
 }
 
-/// A monitor's MQCONN, as an event of its node: the connection that it was given, none where the call was refused or stopped.
+/// A monitor's MQCONN, by its line of the scenario, as an event of its node: the connection that it was given, none where the call was
+/// refused or stopped.
 ///
 /// # Errors
 ///
-/// No memory; nothing has changed. So it is also at a node without that monitor.
-#[tactic(auto, using(crate::proofs::WatchLaws::connected, crate::proofs::WatchLaws::not_connected, crate::proofs::WatchLaws::stays_so))]
-pub fn connect<D: Disk>(node: &mut Node<D>, monitor: u16) -> Result<Option<Hconn>, NoMemory>
+/// No memory; nothing has changed.
+#[tactic(auto, using(crate::proofs::WatchLaws::connected, crate::proofs::WatchLaws::some_last))]
+pub fn connect<D: Disk>(
+    node: &mut Node<D>,
+    monitor: u16,
+    line: &MonitorLine,
+) -> Result<Option<Hconn>, NoMemory>
     requires served { IsServed node.old }
     requires may { MayAct node.old }
-    ensures { Connects monitor node.old result node.new }
+    ensures { Connects monitor line.now node.old result node.new }
 {
-    let Some(call) = connecting(node.parts.own.monitors.as_slice(), monitor) else {
-        return Err(NoMemory);
-    };
-    match node.apply(Actor::Monitor(monitor), call) {
+    match node.apply(Actor::Monitor(monitor), connect_call(line)) {
         Err(NoMemory) => Err(NoMemory),
         Ok(false) => unreachable!(),
         Ok(true) => match last(node.entries()) {
@@ -150,20 +132,23 @@ pub fn connect<D: Disk>(node: &mut Node<D>, monitor: u16) -> Result<Option<Hconn
     }
 }
 
-/// A monitor's MQOPEN of its initiation queue, SHARED, as an event of its node: whether it was opened.
+/// A monitor's MQOPEN of its initiation queue, SHARED, by its line of the scenario, as an event of its node: whether it was opened.
 ///
 /// # Errors
 ///
-/// No memory; nothing has changed. So it is also at a node without that monitor.
-pub fn open<D: Disk>(node: &mut Node<D>, monitor: u16, hc: Hconn) -> Result<bool, NoMemory>
+/// No memory; nothing has changed.
+#[tactic(auto, using(crate::proofs::WatchLaws::opened, crate::proofs::WatchLaws::some_last))]
+pub fn open<D: Disk>(
+    node: &mut Node<D>,
+    monitor: u16,
+    line: &MonitorLine,
+    hc: Hconn,
+) -> Result<bool, NoMemory>
     requires served { IsServed node.old }
     requires may { MayAct node.old }
-    ensures { Opens monitor hc node.old result node.new }
+    ensures { Opens monitor line.now hc node.old result node.new }
 {
-    let Some(call) = opening(node.parts.own.monitors.as_slice(), monitor, hc) else {
-        return Err(NoMemory);
-    };
-    match node.apply(Actor::Monitor(monitor), call) {
+    match node.apply(Actor::Monitor(monitor), open_call(line, hc)) {
         Err(NoMemory) => Err(NoMemory),
         Ok(false) => unreachable!(),
         Ok(true) => match last(node.entries()) {
