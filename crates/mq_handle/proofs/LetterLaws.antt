@@ -95,13 +95,13 @@ module _ (q : List ℕ) (h : Handler) (p : Plain) where
   free_here : (after : Option Place) (row : Row) → next_row q after p ≡ Some row → find is_free (rows_after after rows) ≡ Some row
   free_here after row e = sym (find_after (is_free_after after) is_free after (free_is_after after) rows) ∙ e
 
+  free_step : (x row : Row) (xs : List Row) (b : Bool) → is_free x ≡ b → cond b (Some x) (find is_free xs) ≡ Some row → (find is_free xs ≡ Some row → is_free row ≡ true) → is_free row ≡ true
+  free_step x row xs true f k rest = let is : x ≡ row = grind (arith, k) in ap is_free (sym is) ∙ f
+  free_step x row xs false f k rest = rest k
+
   is_free_here : (xs : List Row) (row : Row) → find is_free xs ≡ Some row → is_free row ≡ true
   is_free_here [] row e = absurd cc
-  is_free_here (x ∷ xs) row e = at (is_free x) refl e
-    where
-      at : (b : Bool) → is_free x ≡ b → cond b (Some x) (find is_free xs) ≡ Some row → is_free row ≡ true
-      at true f k = let is : x ≡ row = grind (arith, k) in ap is_free (sym is) ∙ f
-      at false f k = is_free_here xs row k
+  is_free_here (x ∷ xs) row e = free_step x row xs (is_free x) refl e (is_free_here xs row)
 
   pub walk_start : left None ≡ next_letter q h p
   walk_start = ap (find (is_handled q h p)) (rows_from_front rows)
@@ -164,6 +164,20 @@ letter_moves q h p x bare sound readable e =
       free = record { row = x; ordinary = ordinary_of (local_of q p.definitions) readable; found = found_one (stored q p).rows x (sound.facts.apart.once q) k.0; free = free_is x (both_first (is_free x) (bytes_eq x.message.md.format (codes "MQDEAD  ")) first) };
       dead = λ z. both_last (is_free x && bytes_eq x.message.md.format (codes "MQDEAD  ")) (is_dead x.message.body) letter;
     }
+
+some_message : (o : Option Row) (m : Message) → Some m ≡ option_map (λ (row : Row). row.message) o → (row : Row) × (o ≡ Some row) × (row.message ≡ m)
+some_message None m e = absurd cc
+some_message (Some row) m e = (row, refl, sym (message_is m row.message e))
+  where
+    message_is : (a b : Message) → Some a ≡ Some b → a ≡ b
+    message_is a b e = cc
+
+pub letter_dead : (q : List ℕ) (h : Handler) (p : Plain) (m : Message) → Some m ≡ option_map (λ (row : Row). row.message) (next_letter q h p) → is_dead m.body ≡ true
+letter_dead q h p m e =
+    let it = some_message (next_letter q h p) m e in
+    let k = found_in (is_handled q h p) (stored q p).rows it.0 it.1 in
+    let letter : is_letter it.0 ≡ true = both_first (is_letter it.0) (is_due p.moment (tries_of q it.0.message.ident h)) k.1 in
+    ap (λ (x : Message). is_dead x.body) (sym it.2) ∙ both_last (is_free it.0 && bytes_eq it.0.message.md.format (codes "MQDEAD  ")) (is_dead it.0.message.body) letter
 
 letter_is : (a b : DueLetter) → Some a ≡ Some b → a ≡ b
 letter_is a b e = cc

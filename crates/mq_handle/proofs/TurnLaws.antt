@@ -133,37 +133,38 @@ placed_handler : (number : ℕ) (hs : List Handler) (at : ℕ) (h : Handler) →
 placed_handler number hs at h e g = handler_found number hs ∙ find_at (is_number number) hs ∙ ap (slice_get hs) (sym (placed_at number hs at e)) ∙ g
 
 -- a handler that is found has the number
+eq_is : (a b : ℕ) → (a == b) ≡ true → a ≡ b
+eq_is a b t = grind (arith, nat_tests)
+
+number_step : (number : ℕ) (x h : Handler) (xs : List Handler) (b : Bool) → (x.number == number) ≡ b → cond b (Some x) (handler_in number xs) ≡ Some h → (handler_in number xs ≡ Some h → h.number ≡ number) → h.number ≡ number
+number_step number x h xs true t k rest = let is : x ≡ h = cc in ap (λ (y : Handler). y.number) (sym is) ∙ eq_is x.number number t
+number_step number x h xs false t k rest = rest k
+
 found_number : (number : ℕ) (hs : List Handler) (h : Handler) → handler_in number hs ≡ Some h → h.number ≡ number
 found_number number [] h e = absurd cc
-found_number number (x ∷ xs) h e = at (x.number == number) refl e
-  where
-    at : (b : Bool) → (x.number == number) ≡ b → cond b (Some x) (handler_in number xs) ≡ Some h → h.number ≡ number
-    at true t k = let is : x ≡ h = cc in ap (λ (y : Handler). y.number) (sym is) ∙ eq x.number number t
-      where
-        eq : (a b : ℕ) → (a == b) ≡ true → a ≡ b
-        eq a b t = grind (arith, nat_tests)
-    at false t k = found_number number xs h k
+found_number number (x ∷ xs) h e = number_step number x h xs (x.number == number) refl e (found_number number xs h)
 
 abbrev setting : ℕ → Handler → Handler → Handler
 setting number new h = if h.number == number then new else h
 
+none_step : (number : ℕ) (new h : Handler) (hs : List Handler) (b : Bool) → cond b 1 0 + count_by (is_number number) hs ≡ 0 → (count_by (is_number number) hs ≡ 0 → map (setting number new) hs ≡ hs) → cond b new h ∷ map (setting number new) hs ≡ h ∷ hs
+none_step number new h hs true k rest = absurd (omega (arith, k))
+none_step number new h hs false k rest = ap (λ (l : List Handler). h ∷ l) (rest (omega (arith, k)))
+
 none_set : (number : ℕ) (new : Handler) (hs : List Handler) → count_by (is_number number) hs ≡ 0 → map (setting number new) hs ≡ hs
 none_set number new [] e = refl
-none_set number new (h ∷ hs) e = at (h.number == number) refl e
-  where
-    at : (b : Bool) → (h.number == number) ≡ b → cond b 1 0 + count_by (is_number number) hs ≡ 0 → cond b new h ∷ map (setting number new) hs ≡ h ∷ hs
-    at true t k = absurd (omega (arith, k))
-    at false t k = ap (λ (l : List Handler). h ∷ l) (none_set number new hs (omega (arith, k)))
+none_set number new (h ∷ hs) e = none_step number new h hs (h.number == number) e (none_set number new hs)
+
+alone_step : (number : ℕ) (new h : Handler) (hs : List Handler) (b : Bool) → cond b 1 0 + count_by (is_number number) hs ≡ 1 → (count_by (is_number number) hs ≡ 1 → map (setting number new) hs ≡ slice_set hs (position_or_len (is_number number) hs) new)
+    → cond b new h ∷ map (setting number new) hs ≡ slice_set (h ∷ hs) (cond (not b) (1 + position_or_len (is_number number) hs) 0) new
+alone_step number new h hs true k rest = ap (λ (l : List Handler). new ∷ l) (none_set number new hs (omega (arith, k)))
+alone_step number new h hs false k rest =
+    let one : 1 + position_or_len (is_number number) hs ≡ suc (position_or_len (is_number number) hs) = omega arith in
+    ap (λ (l : List Handler). h ∷ l) (rest (omega (arith, k))) ∙ ap (λ (i : ℕ). slice_set (h ∷ hs) i new) (sym one)
 
 set_alone : (number : ℕ) (new : Handler) (hs : List Handler) → count_by (is_number number) hs ≡ 1 → map (setting number new) hs ≡ slice_set hs (position_or_len (is_number number) hs) new
 set_alone number new [] e = absurd (omega (arith, e))
-set_alone number new (h ∷ hs) e = at (h.number == number) refl e
-  where
-    at : (b : Bool) → (h.number == number) ≡ b → cond b 1 0 + count_by (is_number number) hs ≡ 1 → cond b new h ∷ map (setting number new) hs ≡ slice_set (h ∷ hs) (cond (not b) (1 + position_or_len (is_number number) hs) 0) new
-    at true t k = ap (λ (l : List Handler). new ∷ l) (none_set number new hs (omega (arith, k)))
-    at false t k =
-        let one : 1 + position_or_len (is_number number) hs ≡ suc (position_or_len (is_number number) hs) = omega arith in
-        ap (λ (l : List Handler). h ∷ l) (set_alone number new hs (omega (arith, k))) ∙ ap (λ (i : ℕ). slice_set (h ∷ hs) i new) (sym one)
+set_alone number new (h ∷ hs) e = alone_step number new h hs (h.number == number) e (set_alone number new hs)
 
 set_same : (hs : List Handler) (at : ℕ) (h : Handler) → slice_get hs at ≡ Some h → slice_set hs at h ≡ hs
 set_same [] at h e = absurd cc

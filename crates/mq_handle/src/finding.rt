@@ -9,7 +9,7 @@ ghost use Rattle.mq_handle.specs.Letters.{is_dead_letter, takes, letter_by};
 
 use crate::choosing::{Ruling, rule_on};
 use crate::tries::{is_due, tries_of};
-use mq_agents::next_row;
+use mq_agents::{moment, next_row};
 use mq_core::Core;
 use mq_disk::Disk;
 use mq_heads::dlh_of;
@@ -82,10 +82,10 @@ fn next_letter<'a, D: Disk>(
     requires well { IsWell core.now.plain }
     ensures { option_copied result ≡ option_map (λ row. row.message) (next_letter queue.now handler.now core.now.plain) }
 {
-    let moment = core.parts.moment;
+    let now = moment(core);
     let mut after = None;
     'walking: while let Some((place, message)) = next_row(core, queue, after) {
-        if takes(queue, handler, moment, message) {
+        if takes(queue, handler, now, message) {
             return Some(message);
         }
         after = Some(place);

@@ -13,33 +13,36 @@ use Rattle.mq_spec_node.specs.Terms.{Entry, Reply, trimmed}
 use Rattle.mq_spec_node.specs.Words.{Script, appl_id, begins, got_body, is_script, is_trigger, lines_done, script_named, unless_begun}
 use Rattle.mq_watch.specs.Turns.{is_line}
 
-abbrev number_of : Script → ℕ
-number_of s = s.number
+named_step : (label : List ℕ) (s : Script) (ss : List Script) (b : Bool) → option_map (λ (s : Script). s.number) (find (λ (s : Script). bytes_eq label s.part.label) ss) ≡ script_named label ss
+    → option_map (λ (s : Script). s.number) (cond b (Some s) (find (λ (s : Script). bytes_eq label s.part.label) ss)) ≡ cond b (Some s.number) (script_named label ss)
+named_step label s ss true rest = refl
+named_step label s ss false rest = rest
 
 pub named_is : (label : List ℕ) (ss : List Script) → option_map (λ (s : Script). s.number) (find (λ (s : Script). bytes_eq label s.part.label) ss) ≡ script_named label ss
 named_is label [] = refl
-named_is label (s ∷ ss) = by (bytes_eq label s.part.label)
-  where
-    by : (b : Bool) → option_map (λ (s : Script). s.number) (cond b (Some s) (find (λ (s : Script). bytes_eq label s.part.label) ss)) ≡ cond b (Some s.number) (script_named label ss)
-    by true = refl
-    by false = named_is label ss
+named_is label (s ∷ ss) = named_step label s ss (bytes_eq label s.part.label) (named_is label ss)
 
 -- no line of a script was done
+some_done : (n : ℕ) → false ≡ (suc n == 0)
+some_done n = grind (arith, nat_tests)
+
+abbrev by_script : ℕ → List Entry → List Entry
+by_script k es = filter (λ (e : Entry). is_script k e.actor) es
+
+abbrev no_trigger : List Entry → List Entry
+no_trigger es = filter (λ (e : Entry). not (is_trigger e.call)) es
+
+done_step : (k : ℕ) (e : Entry) (es : List Entry) (t s : Bool) → is_script k e.actor ≡ s → not (list_any (is_line k) es) ≡ (length (by_script k (no_trigger es)) == 0)
+    → not ((s && not t) || list_any (is_line k) es) ≡ (length (by_script k (cond (not t) (e ∷ no_trigger es) (no_trigger es))) == 0)
+done_step k e es true true is rest = rest
+done_step k e es true false is rest = rest
+done_step k e es false true is rest = some_done (length (by_script k (no_trigger es))) ∙ ap (λ (b : Bool). length (cond b (e ∷ by_script k (no_trigger es)) (by_script k (no_trigger es))) == 0) (sym is)
+done_step k e es false false is rest = rest ∙ ap (λ (b : Bool). length (cond b (e ∷ by_script k (no_trigger es)) (by_script k (no_trigger es))) == 0) (sym is)
+
 pub none_done : (k : ℕ) (es : List Entry) → not (list_any (is_line k) es) ≡ (lines_done k es == 0)
 none_done k [] = refl
-none_done k (e ∷ es) = by (is_trigger e.call) (is_script k e.actor) refl
-  where
-    rest : List Entry
-    rest = filter (λ (e : Entry). not (is_trigger e.call)) es
-
-    some : (n : ℕ) → false ≡ (suc n == 0)
-    some n = grind (arith, nat_tests)
-
-    by : (t s : Bool) → is_script k e.actor ≡ s → not ((s && not t) || list_any (is_line k) es) ≡ (length (filter (λ (e : Entry). is_script k e.actor) (cond (not t) (e ∷ filter (λ (e : Entry). not (is_trigger e.call)) es) (filter (λ (e : Entry). not (is_trigger e.call)) es))) == 0)
-    by true true is = none_done k es
-    by true false is = none_done k es
-    by false true is = some (length (filter (λ (e : Entry). is_script k e.actor) (filter (λ (e : Entry). not (is_trigger e.call)) es))) ∙ ap (λ (b : Bool). length (cond b (e ∷ filter (λ (e : Entry). is_script k e.actor) (filter (λ (e : Entry). not (is_trigger e.call)) es)) (filter (λ (e : Entry). is_script k e.actor) (filter (λ (e : Entry). not (is_trigger e.call)) es))) == 0) (sym is)
-    by false false is = none_done k es ∙ ap (λ (b : Bool). length (cond b (e ∷ filter (λ (e : Entry). is_script k e.actor) (filter (λ (e : Entry). not (is_trigger e.call)) es)) (filter (λ (e : Entry). is_script k e.actor) (filter (λ (e : Entry). not (is_trigger e.call)) es))) == 0) (sym is)
+none_done k (e ∷ es) =
+    ap (λ (b : Bool). not ((b && not (is_trigger e.call)) || list_any (is_line k) es)) refl ∙ done_step k e es (is_trigger e.call) (is_script k e.actor) refl (none_done k es)
 
 -- a body that is no trigger message, and one that is
 pub no_message : (ss : List Script) (es : List Entry) (reply : Reply) (fault : HeadFault) → tm_read (got_body reply) ≡ Err fault → begins ss es reply ≡ None
