@@ -14,5 +14,5 @@ returns-in-NoMemory g c n h = discard_want c.args.queue.now c.args.ident.now n h
 
 pub returns-in-Stopped : goal.returns-in-Stopped
 returns-in-Stopped g c n h =
-    discard_cut c.args.queue.now c.args.ident.now n h c.args.manager.now c.discard.new.self c.discard.result c.in-Stopped.by _ c.tell-2.new.manager c.in-Stopped.ensures c.discard.ensures.meets
-    (c.tell-2.ensures.choice, c.tell-2.ensures.reply, c.tell-2.ensures.delta, c.tell-2.ensures.after)
+    discard_cut c.args.queue.now c.args.ident.now n h c.args.manager.now c.discard.new.self c.discard.result c.in-Stopped.by _ c.tell-in-Stopped.new.manager c.in-Stopped.ensures c.discard.ensures.meets
+    (c.tell-in-Stopped.ensures.choice, c.tell-in-Stopped.ensures.reply, c.tell-in-Stopped.ensures.delta, c.tell-in-Stopped.ensures.after)
