@@ -1,5 +1,5 @@
 -- What a handler's turn comes to, by how its manager's call ended.
-use Rattle.std.proofs.Common.{◌≡◌, ℕ, zero, suc, ◌+◌, refl, sym, ap, subst, ◌∙◌, List, [], ◌∷◌, ◌≤◌, Bool, true, false, arith}
+use Rattle.std.proofs.Common.{◌≡◌, ℕ, zero, suc, ◌+◌, refl, sym, ap, subst, ◌∙◌, List, [], ◌∷◌, ◌≤◌, Bool, not, arith}
 use Rattle.std.specs.Prelude.{Option, Some, None, Result, Ok, Err, filter, ◌++◌}
 use Rattle.mq_base.specs.declared.want.NoMemory.{NoMemory as Want}
 use Rattle.mq_calls.specs.declared.agents.AgentStop.{AgentStop}
@@ -23,8 +23,8 @@ use Rattle.mq_spec_manager.specs.Words.{removal_parts}
 use Rattle.mq_spec_agents.specs.Landing.{landing, route_tests}
 use Rattle.mq_spec_agents.specs.Moves.{bare_if, move_part, move_full, move_resolved, move_found, move_row, discard}
 use Rattle.mq_spec_agents.specs.Words.{row_with}
-use Rattle.mq_spec_node.specs.Terms.{Choice, Runs, NoMemory, Stopped, Dest, Did, Ident, Message, Part, Plain, Reason, Reply, Step, Refuse, Do, Stop, do_all, delta_before, stopped_at}
-use Rattle.mq_spec_node.specs.Words.{Handler, Own, CanCome, node_of, tried_as}
+use Rattle.mq_spec_node.specs.Terms.{Choice, Runs, NoMemory, Stopped, Dest, Did, Ident, Message, Part, Plain, Reason, Reply, Step, Refuse, Do, Stop, Table, delta_before, stopped_at}
+use Rattle.mq_spec_node.specs.Words.{Handler, Own, Tried, CanCome, is_tried, node_of, tried_as}
 use Rattle.mq_core.specs.Values.{CoreValue, manager_of}
 use Rattle.mq_agents.specs.Ends.{by_agent, by_place}
 use Rattle.mq_outcomes.specs.declared.outcome.Outcome.{Outcome}
@@ -199,3 +199,18 @@ module _ (q : List ℕ) (i : Ident) (s : Dispatch) (n : ℕ) (h : Handler) (old 
   move_want step (Err (place_faults.Stop agent_stops.Disk)) x next e m is = absurd cc
   move_want step (Err (place_faults.Stop agent_stops.Cut)) x next e m is = absurd cc
   move_want step (Err (place_faults.Stop agent_stops.NoMemory)) x next e m is = want_so step x m next is
+
+-- The handler, as it is seen when its tries have changed or only their room.
+abbrev pub handler_by : ℕ → Table → List Tried → Handler
+handler_by n table tried = record { number = n; table = table; tried = tried }
+
+pub remembered_is : (n : ℕ) (table : Table) (old xs new : List Tried) (h : Handler) (t u : Tried) → handler_by n table old ≡ h → xs ≡ old → new ≡ filter (λ (x : Tried). not (is_tried t.queue t.ident x)) xs ++ t ∷ [] → t ≡ u
+    → handler_by n table new ≡ tried_as u h
+remembered_is n table old xs new h t u seen same kept is =
+    ap (handler_by n table) (kept ∙ ap (λ (l : List Tried). filter (λ (x : Tried). not (is_tried t.queue t.ident x)) l ++ t ∷ []) same) ∙ ap (tried_as t) seen ∙ ap (λ (x : Tried). tried_as x h) is
+
+pub reserved_is : (n : ℕ) (table : Table) (old xs : List Tried) (h : Handler) → handler_by n table old ≡ h → xs ≡ old → handler_by n table xs ≡ h
+reserved_is n table old xs h seen same = ap (handler_by n table) same ∙ seen
+
+pub treated_like : (t : Treatment) (h : Handler) (old : CoreValue) (o : Outcome) (next : Handler) (new : CoreValue) → next ≡ h → TreatsAs t h old (Ok o) h new → TreatsAs t h old (Ok o) next new
+treated_like t h old o next new e k = subst (λ (x : Handler). TreatsAs t h old (Ok o) x new) (sym e) k

@@ -2,7 +2,8 @@
 use Rattle.std.proofs.Common.{◌≡◌, ℕ, zero, suc, ◌+◌, ◌-◌, ◌<◌, ◌≤◌, nat_lt, refl, sym, ap, subst, ◌∙◌, List, [], ◌∷◌, length, Bool, true, false, cond, arith}
 use Rattle.std.proofs.lemmas.Bool.Decides.{nat_tests}
 use Rattle.std.proofs.lemmas.List.Folds.{find_at}
-use Rattle.std.specs.Prelude.{Option, Some, None, Result, Ok, Err, map, not, ◌==◌, if◌then◌else◌, find, position, count_by, slice_get, slice_set}
+use Rattle.std.proofs.lemmas.List.Recursion.{is_count_by}
+use Rattle.std.specs.Prelude.{Option, Some, None, Result, Ok, Err, map, not, ◌==◌, if◌then◌else◌, find, position, count_by, slice_get, slice_set, IfSome, ◌&&◌}
 use Rattle.std.specs.List.{position_or_len}
 use Rattle.mq_base.specs.declared.want.NoMemory.{NoMemory as Want}
 use Rattle.mq_frame.specs.declared.frame.Seen.TheVariants as items
@@ -29,6 +30,8 @@ use Rattle.mq_handle.specs.declared.finding.DueLetter.{DueLetter}
 use Rattle.mq_handle.specs.declared.turning.DueTurn.{DueTurn}
 use Rattle.mq_handle.specs.declared.choosing.Ruling.TheVariants as rulings
 use Rattle.mq_handle.specs.Rulings.{ruling, ruling_by, ruling_in, ruling_of, sent_to}
+use Rattle.mq_manager.specs.Facts.{IsWell}
+use Rattle.mq_handle.proofs.LetterLaws.{letter_can}
 use Rattle.mq_handle.specs.Letters.{letter_at, letter_by, letter_of, letter_on, letter_up}
 use Rattle.mq_handle.specs.Treatments.{Treatment, Treated, TreatsAs, TreatsAt, Untreated, at_place, deed_by, handler_after, ignoring, later, moving, treatment, treatment_of, with_parts}
 use Rattle.mq_handle.specs.Turns.{Finds, FindsOne, IsDue, Idles, Tries, Turns, is_number, turn_of}
@@ -147,22 +150,30 @@ found_number number (x ∷ xs) h e = number_step number x h xs (x.number == numb
 abbrev setting : ℕ → Handler → Handler → Handler
 setting number new h = if h.number == number then new else h
 
-none_step : (number : ℕ) (new h : Handler) (hs : List Handler) (b : Bool) → cond b 1 0 + count_by (is_number number) hs ≡ 0 → (count_by (is_number number) hs ≡ 0 → map (setting number new) hs ≡ hs) → cond b new h ∷ map (setting number new) hs ≡ h ∷ hs
-none_step number new h hs true k rest = absurd (omega (arith, k))
-none_step number new h hs false k rest = ap (λ (l : List Handler). h ∷ l) (rest (omega (arith, k)))
+-- how many handlers have the number
+many : ℕ → List Handler → ℕ
+many number [] = 0
+many number (h ∷ hs) = cond (h.number == number) (1 + many number hs) (many number hs)
 
-none_set : (number : ℕ) (new : Handler) (hs : List Handler) → count_by (is_number number) hs ≡ 0 → map (setting number new) hs ≡ hs
+many_is : (number : ℕ) (hs : List Handler) → many number hs ≡ count_by (is_number number) hs
+many_is number hs = is_count_by (many number) (is_number number) refl (λ x xs. refl) hs
+
+none_step : (number : ℕ) (new h : Handler) (hs : List Handler) (b : Bool) → cond b (1 + many number hs) (many number hs) ≡ 0 → (many number hs ≡ 0 → map (setting number new) hs ≡ hs) → cond b new h ∷ map (setting number new) hs ≡ h ∷ hs
+none_step number new h hs true k rest = absurd (omega (arith, k))
+none_step number new h hs false k rest = ap (λ (l : List Handler). h ∷ l) (rest k)
+
+none_set : (number : ℕ) (new : Handler) (hs : List Handler) → many number hs ≡ 0 → map (setting number new) hs ≡ hs
 none_set number new [] e = refl
 none_set number new (h ∷ hs) e = none_step number new h hs (h.number == number) e (none_set number new hs)
 
-alone_step : (number : ℕ) (new h : Handler) (hs : List Handler) (b : Bool) → cond b 1 0 + count_by (is_number number) hs ≡ 1 → (count_by (is_number number) hs ≡ 1 → map (setting number new) hs ≡ slice_set hs (position_or_len (is_number number) hs) new)
+alone_step : (number : ℕ) (new h : Handler) (hs : List Handler) (b : Bool) → cond b (1 + many number hs) (many number hs) ≡ 1 → (many number hs ≡ 1 → map (setting number new) hs ≡ slice_set hs (position_or_len (is_number number) hs) new)
     → cond b new h ∷ map (setting number new) hs ≡ slice_set (h ∷ hs) (cond (not b) (1 + position_or_len (is_number number) hs) 0) new
 alone_step number new h hs true k rest = ap (λ (l : List Handler). new ∷ l) (none_set number new hs (omega (arith, k)))
 alone_step number new h hs false k rest =
     let one : 1 + position_or_len (is_number number) hs ≡ suc (position_or_len (is_number number) hs) = omega arith in
-    ap (λ (l : List Handler). h ∷ l) (rest (omega (arith, k))) ∙ ap (λ (i : ℕ). slice_set (h ∷ hs) i new) (sym one)
+    ap (λ (l : List Handler). h ∷ l) (rest k) ∙ ap (λ (i : ℕ). slice_set (h ∷ hs) i new) (sym one)
 
-set_alone : (number : ℕ) (new : Handler) (hs : List Handler) → count_by (is_number number) hs ≡ 1 → map (setting number new) hs ≡ slice_set hs (position_or_len (is_number number) hs) new
+set_alone : (number : ℕ) (new : Handler) (hs : List Handler) → many number hs ≡ 1 → map (setting number new) hs ≡ slice_set hs (position_or_len (is_number number) hs) new
 set_alone number new [] e = absurd (omega (arith, e))
 set_alone number new (h ∷ hs) e = alone_step number new h hs (h.number == number) e (set_alone number new hs)
 
@@ -177,7 +188,7 @@ is_place number own at h e g one =
     record {
       set = λ new same.
           ap (λ (hs : List Handler). record own { handlers = hs })
-          (ap (λ (k : ℕ). map (setting k new) own.handlers) (same ∙ numbered) ∙ set_alone number new own.handlers one ∙ ap (λ (k : ℕ). slice_set own.handlers k new) (sym (placed_at number own.handlers at e)));
+          (ap (λ (k : ℕ). map (setting k new) own.handlers) (same ∙ numbered) ∙ set_alone number new own.handlers (many_is number own.handlers ∙ one) ∙ ap (λ (k : ℕ). slice_set own.handlers k new) (sym (placed_at number own.handlers at e)));
       same = ap (λ (hs : List Handler). record own { handlers = hs }) (set_same own.handlers at h g);
     }
 
@@ -190,6 +201,48 @@ pub found_one : (number : ℕ) (n : Node) (at : ℕ) (h : Handler) (l : DueLette
 found_one number n at h l e g k can =
     let it : TurnIs (Some l) h n (turn_of number n) = subst (λ (o : Option DueLetter). TurnIs o h n (turn_of number n)) (sym k) (turn_is number n h (placed_handler number n.own.handlers at h e g)) in
     record { deed = it.0; due = λ one. record { handler = h; there = g; up = can.0; can = can.1; deed = it.1 at (is_place number n.own at h e g one) } }
+
+placed_some : (number : ℕ) (hs : List Handler) (at : ℕ) → at < length hs → None ≡ slice_get hs at → ⊥
+placed_some number [] at lt e = absurd (omega (arith, lt))
+placed_some number (h ∷ hs) zero lt e = absurd cc
+placed_some number (h ∷ hs) (suc at) lt e = placed_some number hs at (omega (arith, lt)) e
+
+pub never_past : (number : ℕ) (n : Node) (at : ℕ) → Some at ≡ position (is_number number) n.own.handlers → None ≡ slice_get n.own.handlers at → turn_of number n ≡ None
+never_past number n at e g = absurd (placed_some number n.own.handlers at (placed_below number n.own.handlers at e) g)
+
+pub can_of : (h : Handler) (p : Plain) (o : Option DueLetter) → IsWell p → o ≡ letter_by h p → IfSome o (λ (l : DueLetter). IsUp p × ((bare : Bool) → CanMove l.queue l.ident bare p))
+can_of h p None well e = tt
+can_of h p (Some l) well e = letter_can h p l well (sym e)
+
+-- whether the turn can be told
+both_one : (a b : Bool) → (a && b) ≡ true → a ≡ true
+both_one true b e = refl
+both_one false b e = absurd cc
+
+both_two : (a b : Bool) → (a && b) ≡ true → b ≡ true
+both_two true b e = e
+both_two false b e = absurd cc
+
+pub may_few : (s : NodeState) (number : ℕ) (r : Bool) → r ≡ (s.few && (count_by (is_number number) s.own.handlers == 1)) → r ≡ true → s.few ≡ true
+may_few s number r e t = both_one s.few (count_by (is_number number) s.own.handlers == 1) (sym e ∙ t)
+
+pub may_one : (s : NodeState) (number : ℕ) (r : Bool) → r ≡ (s.few && (count_by (is_number number) s.own.handlers == 1)) → r ≡ true → count_by (is_number number) s.own.handlers ≡ 1
+may_one s number r e t = eq_is (count_by (is_number number) s.own.handlers) 1 (both_two s.few (count_by (is_number number) s.own.handlers == 1) (sym e ∙ t))
+
+pub idles : (number : ℕ) (s : NodeState) → Finds number (node_in s) None → Turns number s (Ok false) s
+idles number s e = record { same = refl; deed = e }
+
+pub same_still : (number : ℕ) (s : NodeState) (x : Want) → Turns number s (Err x) s
+same_still number s x = record { same = refl; marks = refl; faults = omega arith }
+
+pub same_counts : (s : NodeState) → KeepsCounts s s
+same_counts s = record { few = refl; total = omega arith }
+
+pub idle_none : (number : ℕ) (n : Node) → Finds number n None → true ≡ is_none (turn_of number n)
+idle_none number n e = sym (ap is_none e)
+
+pub idle_some : (number : ℕ) (n : Node) (d : DueTurn) → Finds number n (Some d) → false ≡ is_none (turn_of number n)
+idle_some number n d e = sym e.deed
 
 -- The event of a turn that came to this.
 abbrev it : ℕ → ℕ → Outcome → Entry

@@ -1,5 +1,5 @@
 //! A handler's turn as an event of its node.
-ghost use Rattle.std.specs.Prelude.{◌≡◌, ◌==◌, ◌<◌, Bool, IfSome, length, position, count_by};
+ghost use Rattle.std.specs.Prelude.{◌≡◌, ◌==◌, ◌<◌, ◌&&◌, Bool, true, IfSome, length, position, count_by};
 ghost use Rattle.mq_spec_agents.specs.Words.{CanMove, IsUp};
 ghost use Rattle.mq_spec_node.specs.Words.{is_none};
 ghost use Rattle.mq_events.specs.Counts.{IsNode, KeepsCounts};
@@ -7,7 +7,7 @@ ghost use Rattle.mq_events.specs.Events.{MayAct};
 ghost use Rattle.mq_events.specs.States.{IsKept, IsLow, IsServed, node_in};
 ghost use Rattle.mq_handle.specs.Letters.{letter_by};
 ghost use Rattle.mq_handle.specs.Treatments.{TreatsAt};
-ghost use Rattle.mq_handle.specs.Turns.{Finds, IsDue, Turns, is_number, turn_of};
+ghost use Rattle.mq_handle.specs.Turns.{Finds, FindsOne, Turns, is_number, turn_of};
 
 use crate::finding::{DueLetter, find_letter};
 use crate::treating::treat_at;
@@ -53,15 +53,37 @@ fn letter_at<D: Disk>(manager: &Manager<D>, handler: &Handler) -> Option<DueLett
     find_letter(&manager.core, handler)
 }
 
+fn handlers_of<D: Disk>(parts: &NodeParts<D>) -> &[Handler]
+    ensures { result.now ≡ parts.now.own.handlers }
+{
+    parts.own.handlers.as_slice()
+}
+
+fn manager_of<D: Disk>(parts: &NodeParts<D>) -> &Manager<D>
+    ensures { result.now ≡ parts.now.manager }
+{
+    &parts.manager
+}
+
+/// Whether a turn of the handler of a number can be told: its manager may count, and no other handler has the number.
+fn may_treat<D: Disk>(parts: &NodeParts<D>, number: u16) -> bool
+    ensures { result ≡ (parts.now.few && (count_by (is_number number) parts.now.own.handlers == 1)) }
+{
+    parts.few && is_alone(handlers_of(parts), number)
+}
+
 /// The turn that a handler takes next; none where it is idle. It takes no memory.
 fn next_turn<D: Disk>(parts: &NodeParts<D>, number: u16) -> Option<DueTurn>
     ensures { Finds number (node_in parts.now) result }
 {
-    let handlers = parts.own.handlers.as_slice();
+    let handlers = handlers_of(parts);
     let Some(at) = place_of(handlers, number) else {
         return None;
     };
-    match letter_at(&parts.manager, &handlers[at]) {
+    let Some(handler) = handlers.get(at) else {
+        return None;
+    };
+    match letter_at(manager_of(parts), handler) {
         None => None,
         Some(letter) => Some(DueTurn { at, letter }),
     }
@@ -90,11 +112,42 @@ fn treat<D: Disk>(parts: &mut NodeParts<D>, due: &DueTurn) -> Result<Outcome, No
     )
 }
 
+/// The turn that was found, as an event of its node.
+///
+/// # Errors
+///
+/// No memory; nothing has changed.
+fn take_turn<D: Disk>(
+    parts: &mut NodeParts<D>,
+    number: u16,
+    due: &DueTurn,
+) -> Result<bool, NoMemory>
+    requires node { IsNode parts.old }
+    requires served { IsServed parts.old }
+    requires may { MayAct parts.old }
+    requires few { parts.old.few ≡ true }
+    requires found { FindsOne due.now number (node_in parts.old) }
+    requires alone { count_by (is_number number) parts.old.own.handlers ≡ 1 }
+    ensures kept { IsKept parts.new }
+    ensures counts { KeepsCounts parts.old parts.new }
+    ensures did { Turns number parts.old result parts.new }
+{
+    parts.reserve(1)?;
+    match treat(parts, due) {
+        Err(NoMemory) => Err(NoMemory),
+        Ok(outcome) => {
+            parts.finish(Actor::Handler(number), Call::Turn, outcome);
+            Ok(true)
+        }
+    }
+}
+
 /// A turn of a handler, as an event of its node: false where the turn is idle.
 ///
 /// # Errors
 ///
 /// No memory; nothing has changed.
+#[tactic(auto, using(crate::proofs::TurnLaws::may_few, crate::proofs::TurnLaws::may_one, crate::proofs::TurnLaws::idles, crate::proofs::TurnLaws::same_still, crate::proofs::TurnLaws::same_counts))]
 fn turn<D: Disk>(parts: &mut NodeParts<D>, number: u16) -> Result<bool, NoMemory>
     requires node { IsNode parts.old }
     requires served { IsServed parts.old }
@@ -106,17 +159,10 @@ fn turn<D: Disk>(parts: &mut NodeParts<D>, number: u16) -> Result<bool, NoMemory
     let Some(due) = next_turn(parts, number) else {
         return Ok(false);
     };
-    if !parts.few || !is_alone(parts.own.handlers.as_slice(), number) {
-        return Err(NoMemory);
+    if may_treat(parts, number) {
+        return take_turn(parts, number, &due);
     }
-    parts.reserve(1)?;
-    match treat(parts, &due) {
-        Err(NoMemory) => Err(NoMemory),
-        Ok(outcome) => {
-            parts.finish(Actor::Handler(number), Call::Turn, outcome);
-            Ok(true)
-        }
-    }
+    Err(NoMemory)
 }
 
 /// A turn of the dead-letter handler of a rules table, as one event: it takes the first free dead letter on its queue, in order of
@@ -137,9 +183,12 @@ pub fn handler_turn<D: Disk>(node: &mut Node<D>, rules: u16) -> Result<bool, NoM
 }
 
 /// Whether the handler's next turn would be idle. It takes no memory.
-#[tactic(auto, using(crate::proofs::TurnLaws::idle_is))]
+#[tactic(auto, using(crate::proofs::TurnLaws::idle_none, crate::proofs::TurnLaws::idle_some))]
 pub fn handler_idle<D: Disk>(node: &Node<D>, rules: u16) -> bool
     ensures { result ≡ is_none (turn_of rules (node_in node.now)) }
 {
-    next_turn(&node.parts, rules).is_none()
+    match next_turn(&node.parts, rules) {
+        None => true,
+        Some(_) => false,
+    }
 }
