@@ -151,7 +151,7 @@ abbrev setting : ℕ → Handler → Handler → Handler
 setting number new h = if h.number == number then new else h
 
 -- how many handlers have the number
-many : ℕ → List Handler → ℕ
+abbrev many : ℕ → List Handler → ℕ
 many number [] = 0
 many number (h ∷ hs) = cond (h.number == number) (1 + many number hs) (many number hs)
 
@@ -213,6 +213,9 @@ never_past number n at e g = absurd (placed_some number n.own.handlers at (place
 pub can_of : (h : Handler) (p : Plain) (o : Option DueLetter) → IsWell p → o ≡ letter_by h p → IfSome o (λ (l : DueLetter). IsUp p × ((bare : Bool) → CanMove l.queue l.ident bare p))
 can_of h p None well e = tt
 can_of h p (Some l) well e = letter_can h p l well (sym e)
+
+pub can_at : (v w : CoreValue) (l : DueLetter) → v ≡ w → IsUp v.plain × ((bare : Bool) → CanMove l.queue l.ident bare v.plain) → IsUp w.plain × ((bare : Bool) → CanMove l.queue l.ident bare w.plain)
+can_at v w l e can = subst (λ (x : CoreValue). IsUp x.plain × ((bare : Bool) → CanMove l.queue l.ident bare x.plain)) e can
 
 -- whether the turn can be told
 both_one : (a b : Bool) → (a && b) ≡ true → a ≡ true

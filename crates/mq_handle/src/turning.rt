@@ -1,5 +1,5 @@
 //! A handler's turn as an event of its node.
-ghost use Rattle.std.specs.Prelude.{◌≡◌, ◌==◌, ◌<◌, ◌&&◌, Bool, true, IfSome, length, position, count_by};
+ghost use Rattle.std.specs.Prelude.{◌≡◌, ◌==◌, ◌<◌, ◌&&◌, Bool, true, IfSome, length, position, count_by, option_copied, slice_get};
 ghost use Rattle.mq_spec_agents.specs.Words.{CanMove, IsUp};
 ghost use Rattle.mq_spec_node.specs.Words.{is_none};
 ghost use Rattle.mq_events.specs.Counts.{IsNode, KeepsCounts};
@@ -32,6 +32,12 @@ fn place_of(handlers: &[Handler], number: u16) -> Option<usize>
     ensures { result ≡ position (is_number number) handlers.now }
 {
     handlers.iter().position(|handler| handler.number == number)
+}
+
+fn handler_at(handlers: &[Handler], at: usize) -> Option<&Handler>
+    ensures { option_copied result ≡ slice_get handlers.now at }
+{
+    handlers.get(at)
 }
 
 /// Whether a number is that of one handler alone.
@@ -73,6 +79,7 @@ fn may_treat<D: Disk>(parts: &NodeParts<D>, number: u16) -> bool
 }
 
 /// The turn that a handler takes next; none where it is idle. It takes no memory.
+#[tactic(auto, using(crate::proofs::TurnLaws::never_past))]
 fn next_turn<D: Disk>(parts: &NodeParts<D>, number: u16) -> Option<DueTurn>
     ensures { Finds number (node_in parts.now) result }
 {
@@ -80,7 +87,7 @@ fn next_turn<D: Disk>(parts: &NodeParts<D>, number: u16) -> Option<DueTurn>
     let Some(at) = place_of(handlers, number) else {
         return None;
     };
-    let Some(handler) = handlers.get(at) else {
+    let Some(handler) = handler_at(handlers, at) else {
         return None;
     };
     match letter_at(manager_of(parts), handler) {

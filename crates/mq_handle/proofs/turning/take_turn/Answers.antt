@@ -1,6 +1,6 @@
 use Rattle.mq_events.proofs.CountLaws.{node_low}
 use Rattle.mq_events.proofs.KeepLaws.{roomed_counts}
-use Rattle.mq_events.proofs.StepLaws.{roomed_kept, roomed_stays}
+use Rattle.mq_events.proofs.StepLaws.{roomed_kept}
 use Rattle.mq_handle.proofs.TurnLaws.{turn_place, turn_up, turn_low, turn_can, turned_kept, turned_did, turned_counts, wanted_kept, wanted_did, wanted_counts}
 use Rattle.mq_handle.proofs.turning.take_turn.Goals as goal
 
@@ -9,9 +9,6 @@ returns-in_err-reserve-clause-kept g c = roomed_kept c.args.parts.now c.reserve.
 
 pub returns-in_err-reserve-clause-counts : goal.returns-in_err-reserve-clause-counts
 returns-in_err-reserve-clause-counts g c = roomed_counts c.args.parts.now c.reserve.new.self c.reserve.ensures.same
-
-pub returns-in_err-reserve-clause-did : goal.returns-in_err-reserve-clause-did
-returns-in_err-reserve-clause-did g c = roomed_stays c.args.parts.now c.reserve.new.self c.reserve.ensures.same
 
 pub treat-requires-clause-place : goal.treat-requires-clause-place
 treat-requires-clause-place g c = turn_place c.args.number c.args.parts.now c.reserve.new.self c.args.due.now c.reserve.ensures.same c.requires.found c.requires.alone
