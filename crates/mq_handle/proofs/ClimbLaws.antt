@@ -1,5 +1,5 @@
 -- A handler's turn raises its manager's counters by three at most.
-use Rattle.std.proofs.Common.{◌≡◌, ℕ, ◌+◌, ◌≤◌, refl, sym, subst, List, [], ◌∷◌, ◌++◌, Bool, true, false, not, arith}
+use Rattle.std.proofs.Common.{◌≡◌, ℕ, ◌+◌, ◌≤◌, sym, subst, List, [], ◌∷◌, ◌++◌, Bool, true, false, not, arith}
 use Rattle.std.specs.Prelude.{Option, Some, None, Result, Ok, Err, filter, slice_get}
 use Rattle.mq_base.specs.declared.want.NoMemory.{NoMemory as Want}
 use Rattle.mq_calls.specs.declared.deltas.Why.TheVariants as whys
@@ -20,10 +20,10 @@ use Rattle.mq_spec_state.specs.Steps.{when, logged}
 use Rattle.mq_spec_state.specs.Words.{stored}
 use Rattle.mq_spec_manager.specs.Words.{removal_part, removal_parts}
 use Rattle.mq_spec_agents.specs.Landing.{landing, route_tests}
-use Rattle.mq_spec_agents.specs.Moves.{bare_if, move_part, move_full, move_resolved, move_found, move_row, discard}
+use Rattle.mq_spec_agents.specs.Moves.{bare_if, move_part, move_full, move_resolved, move_found, move_row}
 use Rattle.mq_spec_agents.specs.Words.{row_with}
-use Rattle.mq_spec_node.specs.Terms.{Actor, Call, Choice, Runs, NoMemory, Stopped, Dest, Entry, History, Ident, Message, Part, Plain, Reason, Rule, Running, Up, Down, Step, Refuse, Do}
-use Rattle.mq_spec_node.specs.Words.{Deed, Handler, Node, Own, acted, done, event, choice_event, forward_to, handler_in, handler_on, handler_row, handler_turn, in_force, input_queue, is_readable, letter_deed, moved, next_letter, retry_to, rule_in_force, ruled, failed_of, tries_of, where_up, done_by}
+use Rattle.mq_spec_node.specs.Terms.{Actor, Call, Choice, Runs, NoMemory, Stopped, Dest, Entry, Ident, Message, Part, Plain, Reason, Rule, Running, Up, Down, Step, Refuse, Do}
+use Rattle.mq_spec_node.specs.Words.{Deed, Handler, Node, Own, acted, done, event, choice_event, forward_to, handler_in, handler_on, handler_row, handler_turn, in_force, input_queue, is_readable, moved, next_letter, retry_to, rule_in_force, ruled, failed_of, tries_of, where_up, done_by}
 use Rattle.mq_law_image.specs.Bounds.{all_growth}
 use Rattle.mq_law_counts.specs.Counts.{Climbs, PartsClimb, StepClimbs}
 use Rattle.mq_law_counts.proofs.Climbing.{grown, none_climb, one_climbs, stay}

@@ -1,11 +1,11 @@
 -- The walk of a handler over the free rows of its queue, and what is so of the dead letter that it takes.
-use Rattle.std.proofs.Common.{◌≡◌, ℕ, ◌+◌, ◌<◌, ◌≤◌, refl, sym, ap, subst, ◌∙◌, List, [], ◌∷◌, length, Bool, true, false, cond, inl, inr, arith}
-use Rattle.std.specs.Prelude.{Option, Some, None, find, if◌then◌else◌, ◌&&◌, not, codes, option_map}
+use Rattle.std.proofs.Common.{◌≡◌, ℕ, ◌<◌, refl, sym, ap, subst, ◌∙◌, List, [], ◌∷◌, length, Bool, true, false, cond, inl, inr, arith}
+use Rattle.std.specs.Prelude.{Option, Some, None, find, ◌&&◌, not, codes, option_map}
 use Rattle.std.specs.Str.{bytes_eq}
 use Rattle.mq_message.specs.declared.message.Message.{Message}
 use Rattle.mq_message.specs.declared.place.Place.{Place}
 use Rattle.mq_queue.specs.declared.row.Row.{Row}
-use Rattle.mq_queue.specs.Rows.{has_ident, is_free, is_after, same_ident}
+use Rattle.mq_queue.specs.Rows.{has_ident, is_free, same_ident}
 use Rattle.mq_queue.specs.Queues.{AreInOrder}
 use Rattle.mq_place.specs.States.{rows_after, is_free_after}
 use Rattle.mq_place.proofs.AfterLaws.{behind, find_after, free_is_after, next_after, rows_from_front, shorter}

@@ -1,12 +1,12 @@
 -- The rule in force for a dead letter.
-use Rattle.std.proofs.Common.{◌≡◌, ℕ, refl, sym, ap, ◌∙◌, List, Bool, true, false}
-use Rattle.std.specs.Prelude.{Option, Some, None, Result, Ok, Err, is_ok}
+use Rattle.std.proofs.Common.{◌≡◌, ℕ, refl, sym, ap, ◌∙◌, List, true, false}
+use Rattle.std.specs.Prelude.{Option, Some, None, Result, Err, is_ok}
 use Rattle.mq_message.specs.declared.head.HeadFault.{HeadFault}
 use Rattle.mq_heads.specs.declared.headers.Dlh.{Dlh}
 use Rattle.mq_heads.specs.Headers.{dlh_read}
 use Rattle.mq_spec_manager.specs.Words.{is_dead}
 use Rattle.mq_spec_node.specs.Terms.{Message, Table, decision}
-use Rattle.mq_spec_node.specs.Words.{Tried, rule_in_force, matching, head_of}
+use Rattle.mq_spec_node.specs.Words.{Tried, rule_in_force, head_of}
 use Rattle.mq_handle.specs.Rulings.{from_of, ruling, ruling_in}
 
 -- a body that is no dead letter's

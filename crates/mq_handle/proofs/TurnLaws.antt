@@ -1,12 +1,11 @@
 -- A handler's turn: which it is, and that the history replays behind it.
-use Rattle.std.proofs.Common.{◌≡◌, ℕ, zero, suc, ◌+◌, ◌-◌, ◌<◌, ◌≤◌, nat_lt, refl, sym, ap, subst, ◌∙◌, List, [], ◌∷◌, length, Bool, true, false, cond, arith}
+use Rattle.std.proofs.Common.{◌≡◌, ℕ, zero, suc, ◌+◌, ◌<◌, ◌≤◌, nat_lt, refl, sym, ap, subst, ◌∙◌, List, [], ◌∷◌, length, Bool, true, false, cond, arith}
 use Rattle.std.proofs.lemmas.Bool.Decides.{nat_tests}
 use Rattle.std.proofs.lemmas.List.Folds.{find_at}
 use Rattle.std.proofs.lemmas.List.Recursion.{is_count_by}
-use Rattle.std.specs.Prelude.{Option, Some, None, Result, Ok, Err, map, not, ◌==◌, if◌then◌else◌, find, position, count_by, slice_get, slice_set, IfSome, ◌&&◌}
+use Rattle.std.specs.Prelude.{Option, Some, None, Ok, Err, map, not, ◌==◌, if◌then◌else◌, find, position, count_by, slice_get, slice_set, IfSome, ◌&&◌}
 use Rattle.std.specs.List.{position_or_len}
 use Rattle.mq_base.specs.declared.want.NoMemory.{NoMemory as Want}
-use Rattle.mq_frame.specs.declared.frame.Seen.TheVariants as items
 use Rattle.mq_history.specs.declared.calls.Actor.TheVariants as actors
 use Rattle.mq_history.specs.declared.calls.Call.TheVariants as calls
 use Rattle.mq_history.specs.declared.calls.Chance.TheVariants as chances
@@ -17,13 +16,13 @@ use Rattle.mq_queue.specs.declared.row.Row.{Row}
 use Rattle.mq_objects.specs.Names.{local_of}
 use Rattle.mq_spec_state.specs.Words.{is_up}
 use Rattle.mq_spec_agents.specs.Words.{CanMove, IsUp, discard, move_row}
-use Rattle.mq_spec_node.specs.Terms.{Choice, Runs, NoMemory, Stopped, Call, Did, Dest, Entry, Message, Part, Plain, Reason, Reply, Rule, Running, Up, Down, Step, Refuse, Do, delta_of}
-use Rattle.mq_spec_node.specs.Words.{CanCome, Deed, Done, Handler, Node, Own, Tells, Tried, TriggerIs, IsDeed, done, done_by, done_or, deed_of, failed_of, forgotten_rows, forward_to, handler_deed, handler_in, handler_on, handler_row, handler_turn, in_force, input_queue, is_none, is_readable, letter_deed, moved, next_letter, node_of, parts_of, remembering, retry_to, rule_in_force, ruled, acted, told, tried_as, tries_of, trigger_deed, where_up, with_handler, IsReplayed}
+use Rattle.mq_spec_node.specs.Terms.{Choice, Runs, NoMemory, Stopped, Did, Dest, Entry, Message, Part, Plain, Reason, Rule, Running, Up, Down, Step, Refuse, Do}
+use Rattle.mq_spec_node.specs.Words.{CanCome, Deed, Done, Handler, Node, Own, Tells, Tried, IsDeed, done, done_by, done_or, failed_of, forgotten_rows, forward_to, handler_deed, handler_in, handler_on, handler_row, handler_turn, in_force, input_queue, is_none, is_readable, letter_deed, moved, next_letter, node_of, parts_of, remembering, retry_to, rule_in_force, ruled, acted, told, tried_as, tries_of, where_up, with_handler, IsReplayed}
 use Rattle.mq_core.specs.Values.{CoreValue}
 use Rattle.mq_outcomes.specs.declared.outcome.Outcome.{Outcome}
-use Rattle.mq_events.specs.States.{NodeState, IsKept, IsLow, IsServed, entry_of, finished, forgotten_if, last_actor, node_in, value_of}
-use Rattle.mq_events.specs.Counts.{IsNode, KeepsCounts, kept_total}
-use Rattle.mq_events.specs.Events.{Adds, MayAct, Stays}
+use Rattle.mq_events.specs.States.{NodeState, IsKept, IsLow, IsServed, entry_of, finished, forgotten_if, node_in, value_of}
+use Rattle.mq_events.specs.Counts.{KeepsCounts, kept_total}
+use Rattle.mq_events.specs.Events.{Adds, Stays}
 use Rattle.mq_events.proofs.ReplayLaws.{replayed_more, with_more}
 use Rattle.mq_events.proofs.EventLaws.{served_is}
 use Rattle.mq_handle.specs.declared.finding.DueLetter.{DueLetter}
@@ -32,9 +31,9 @@ use Rattle.mq_handle.specs.declared.choosing.Ruling.TheVariants as rulings
 use Rattle.mq_handle.specs.Rulings.{ruling, ruling_by, ruling_in, ruling_of, sent_to}
 use Rattle.mq_manager.specs.Facts.{IsWell}
 use Rattle.mq_handle.proofs.LetterLaws.{letter_can}
-use Rattle.mq_handle.specs.Letters.{letter_at, letter_by, letter_of, letter_on, letter_up}
-use Rattle.mq_handle.specs.Treatments.{Treatment, Treated, TreatsAs, TreatsAt, Untreated, at_place, deed_by, handler_after, ignoring, later, moving, treatment, treatment_of, with_parts}
-use Rattle.mq_handle.specs.Turns.{Finds, FindsOne, IsDue, Idles, Tries, Turns, is_number, turn_of}
+use Rattle.mq_handle.specs.Letters.{letter_at, letter_by, letter_on, letter_up}
+use Rattle.mq_handle.specs.Treatments.{Treatment, Treated, TreatsAt, Untreated, at_place, deed_by, handler_after, ignoring, later, moving, treatment, treatment_of, with_parts}
+use Rattle.mq_handle.specs.Turns.{Finds, FindsOne, IsDue, Turns, is_number, turn_of}
 
 -- The handler of a number stands at this place, alone.
 pub record IsPlace (at : ℕ) (h : Handler) (own : Own) : Type 0 where

@@ -1,5 +1,5 @@
 -- The dead letter that a handler takes next, with what is to be done with it.
-use Rattle.std.specs.Prelude.{◌≡◌, ℕ, ◌&&◌, Bool, true, false, List, Option, Some, None, codes}
+use Rattle.std.specs.Prelude.{ℕ, ◌&&◌, Bool, true, false, List, Option, Some, None, codes}
 use Rattle.std.specs.Str.{bytes_eq}
 use Rattle.mq_spec_node.specs.Terms.{Message, Plain, Row, is_dead, is_up, local_of}
 use Rattle.mq_spec_node.specs.Words.{Handler, input_queue, is_readable, is_due, tries_of, next_letter, failed_of}

@@ -1,5 +1,5 @@
 -- What is to be done with a dead letter: the rule in force, and what that makes of it.
-use Rattle.std.specs.Prelude.{ℕ, Bool, true, not, List, Option, Some, None, slice_get}
+use Rattle.std.specs.Prelude.{ℕ, Bool, true, not, Option, Some, None, slice_get}
 use Rattle.mq_rules.specs.declared.rule.Action.TheVariants as actions
 use Rattle.mq_spec_node.specs.Terms.{Action, Dest, Message, Rule, Table}
 use Rattle.mq_spec_node.specs.Words.{Tried, rule_in_force, forward_to, retry_to}

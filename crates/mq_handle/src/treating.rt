@@ -7,8 +7,8 @@ ghost use Rattle.mq_manager.specs.Facts.{MayCount};
 ghost use Rattle.mq_handle.specs.declared.choosing.Ruling.TheVariants as rulings;
 ghost use Rattle.mq_handle.specs.Treatments.{TreatsAs, TreatsAt, by_stop, choice_of, discarded, moved, reply_of, treatment, treatment_of};
 
-use crate::finding::DueLetter;
 use crate::choosing::{Dispatch, Ruling};
+use crate::finding::DueLetter;
 use crate::tries::{failed_once, ignore, remember};
 use mq_base::{Items, NoMemory};
 use mq_calls::{AgentStop, Choice, PlaceFault};
