@@ -1,0 +1,4 @@
+pub mod LookLaws
+pub mod BeginLaws
+pub mod MonitorLaws
+pub mod WatchLaws
