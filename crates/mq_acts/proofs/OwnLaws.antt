@@ -1,5 +1,5 @@
 -- No restart of a replaying history is from a log that was changed from outside, but where its entry says so.
-use Rattle.std.proofs.Common.{ℕ, ap, sym, subst, List, [], ◌∷◌, ◌++◌}
+use Rattle.std.proofs.Common.{◌≡◌, ℕ, refl, ap, sym, subst, List, [], ◌∷◌, ◌++◌}
 use Rattle.std.specs.Prelude.{Option, Some, None, Result, Ok, Err}
 use Rattle.mq_base.specs.declared.want.NoMemory.{NoMemory as Want}
 use Rattle.mq_frame.specs.declared.frame.Seen.{Seen}
@@ -7,11 +7,11 @@ use Rattle.mq_history.specs.declared.acts.Act.TheVariants as acts
 use Rattle.mq_history.specs.declared.calls.Call.TheVariants as calls
 use Rattle.mq_history.specs.declared.calls.Chance.TheVariants as chances
 use Rattle.mq_history.specs.declared.history.History.{History}
-use Rattle.mq_spec_node.specs.Terms.{Acted, Actor, Call, Chance, Entry}
-use Rattle.mq_spec_node.specs.Words.{Deed, Node, NodeValue, after, done_by, deed_of, Follows, IsDeed, IsEvent, IsOwn, NoneForeign, RunsAlone, Tells, opening_node, stamp_after}
-use Rattle.mq_events.specs.States.{NodeState, IsKept}
+use Rattle.mq_spec_node.specs.Terms.{Act, Acted, Actor, Call, Chance, Entry}
+use Rattle.mq_spec_node.specs.Words.{Deed, Node, NodeValue, after, done_by, deed_of, Follows, IsDeed, IsEvent, IsOwn, IsReplayed, NoneForeign, RunsAlone, Tells, opening_node, stamp_after}
+use Rattle.mq_events.specs.States.{NodeState, IsKept, value_of}
 use Rattle.mq_events.specs.Events.{ActsAs, Adds, Stays}
-use Rattle.mq_acts.specs.Restarts.{TellsAs, RestartIsOwn}
+use Rattle.mq_acts.specs.Restarts.{TellsActed, TellsAs, RestartIsOwn}
 
 pub none_more : (es : List Entry) (e : Entry) → NoneForeign es → IsOwn e.chance → NoneForeign (es ++ e ∷ [])
 none_more [] e n own = (own, tt)
