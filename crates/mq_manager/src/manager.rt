@@ -97,7 +97,9 @@ impl<D: Disk> Manager<D> {
     /// What holds of it between its calls. It does nothing.
     pub fn facts(&self)
         ensures well { IsWell self.now.plain }
-    {}
+    {
+        let _ = &self.core;
+    }
 
     /// Whether the manager is up. It takes no memory.
     pub fn is_up(&self) -> bool
