@@ -66,7 +66,7 @@ there (x ∷ xs) [] long m z e = absurd cc
 there (x ∷ xs) (y ∷ ys) long zero z e = (y, refl)
 there (x ∷ xs) (y ∷ ys) long (suc m) z e = there xs ys (omega (arith, long)) m z e
 
-opening : (tells : Type 0) (held : List ℕ → List ℕ → Type 0) (start : ℕ) (l : Left) → AreHistories l.scenario l.histories → AreOpenings tells held start l → (m : ℕ) (h : History) → slice_get l.histories m ≡ Some h
+pub opening : (tells : Type 0) (held : List ℕ → List ℕ → Type 0) (start : ℕ) (l : Left) → AreHistories l.scenario l.histories → AreOpenings tells held start l → (m : ℕ) (h : History) → slice_get l.histories m ≡ Some h
     → (line : ManagerLine) × IsOpening tells (held line.name) (surroundings l.scenario m) (first_moment l.scenario start) h
 opening tells held start l a o m h e = let (line, is) = there l.histories l.scenario.managers a.all m h e in (line, o m h line e is)
 
@@ -76,14 +76,14 @@ images tells held start l a o m h e = (opening tells held start l a o m h e).1.w
 pub known : (tells : Type 0) (held : List ℕ → List ℕ → Type 0) (start : ℕ) (l : Left) → AreHistories l.scenario l.histories → AreOpenings tells held start l → AreDoubtsKnown l.histories
 known tells held start l a o m h e = (opening tells held start l a o m h e).1.known.doubts
 
-each_there : {A : Type 0} (P : A → Type 0) (xs : List A) → ((m : ℕ) (x : A) → slice_get xs m ≡ Some x → P x) → All P xs
+pub each_there : {A : Type 0} (P : A → Type 0) (xs : List A) → ((m : ℕ) (x : A) → slice_get xs m ≡ Some x → P x) → All P xs
 each_there P [] f = All-nil P
 each_there P (x ∷ xs) f = All-cons P x xs (f 0 x refl) (each_there P xs (λ m y e. f (suc m) y e))
 
 least : (n : ℕ) → min n 253300000000000 ≤ last_moment
 least n = let le : min n 253300000000000 ≤ 253300000000000 = min-le_right n 253300000000000 in omega (arith, le)
 
-moment_fits : (moment : Option ℕ) (start : ℕ) → IfSome moment (λ m. m ≤ 253300000000000) → moment_or moment start ≤ last_moment
+pub moment_fits : (moment : Option ℕ) (start : ℕ) → IfSome moment (λ m. m ≤ 253300000000000) → moment_or moment start ≤ last_moment
 moment_fits None start h = least start
 moment_fits (Some m) start h = omega (arith, h)
 
