@@ -5,4 +5,4 @@ mod ending;
 mod verdict;
 
 pub use ending::{Ending, ending_of};
-pub use verdict::{Verdict, verdict_of};
+pub use verdict::{BadLog, Verdict, verdict_of};
