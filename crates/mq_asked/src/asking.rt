@@ -1,15 +1,14 @@
 //! Any call that a script makes, as an event of its node.
 ghost use Rattle.std.specs.Prelude.{◌≡◌, false};
-ghost use Rattle.mq_history.specs.declared.calls.Call.TheVariants as calls;
 ghost use Rattle.mq_events.specs.States.{IsServed};
 ghost use Rattle.mq_events.specs.Events.{MayAct};
-ghost use Rattle.mq_asked.specs.Asks.{Comes, IsDoneAct, IsDoneCall, happened_if, is_mqi};
+ghost use Rattle.mq_asked.specs.Asks.{Comes, IsDoneCall, happened_if, is_mqi};
 
+use mq_acts::act;
 use mq_base::NoMemory;
 use mq_disk::Disk;
 use mq_events::Node;
-use mq_history::{Act, Acted, Actor, Call};
-use mq_sc_parse::Command;
+use mq_history::{Acted, Actor, Call};
 
 /// Whether a call is one of the MQI.
 fn is_mqi(call: &Call) -> bool
@@ -31,32 +30,12 @@ fn happened(acted: Result<Acted, NoMemory>) -> Result<bool, NoMemory>
     }
 }
 
-/// What is asked beside MQI calls.
-///
-/// # Errors
-///
-/// No memory; nothing has changed.
-#[tactic(auto, using(crate::proofs::AskLaws::acts_come))]
-fn act<D: Disk>(node: &mut Node<D>, actor: Actor, asked: Act) -> Result<bool, NoMemory>
-    requires served { IsServed node.old }
-    requires may { MayAct node.old }
-    requires does { IsDoneAct asked }
-    ensures { Comes actor (calls.Act asked) node.old result node.new }
-{
-    match asked {
-        Act::Crash => happened(node.crash(actor)),
-        Act::Cut(k) => happened(node.cut(actor, k)),
-        Act::Clock(by) => happened(node.advance_clock(actor, by)),
-        Act::Obey(Command::Objects(command)) => happened(node.command(actor, command)),
-        Act::Obey(_) | Act::Restart => unreachable!(),
-    }
-}
-
 /// An act of this actor, as an event.
 ///
 /// # Errors
 ///
 /// No memory; nothing has changed.
+#[tactic(auto, using(crate::proofs::AskLaws::acts_come))]
 fn ask_act<D: Disk>(node: &mut Node<D>, actor: Actor, asked: Call) -> Result<bool, NoMemory>
     requires served { IsServed node.old }
     requires may { MayAct node.old }
@@ -65,7 +44,7 @@ fn ask_act<D: Disk>(node: &mut Node<D>, actor: Actor, asked: Call) -> Result<boo
     ensures { Comes actor asked node.old result node.new }
 {
     match asked {
-        Call::Act(asked) => act(node, actor, asked),
+        Call::Act(asked) => happened(act(node, actor, asked)),
         _ => unreachable!(),
     }
 }

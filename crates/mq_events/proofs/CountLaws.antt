@@ -13,7 +13,7 @@ use Rattle.mq_spec_state.specs.Counts.{IsCounted}
 use Rattle.mq_spec_state.specs.Reads.{queue_in, stored, puts_to}
 use Rattle.mq_spec_state.specs.Images.{Image, begun, numbered, queue_on, raised}
 use Rattle.mq_spec_node.specs.Terms.{Acted, Actor, Call, Entry, History, Plain, started_need}
-use Rattle.mq_spec_node.specs.Words.{Deed, Node, NodeValue, Surroundings, opening_node, after, done_by}
+use Rattle.mq_spec_node.specs.Words.{Deed, Node, Surroundings, opening_node, after, done_by}
 use Rattle.mq_law_manager.specs.Facts.{Mem, AreNamed}
 use Rattle.mq_law_manager.proofs.Lists.{bool_case}
 use Rattle.mq_law_manager.proofs.Named.{name_self, name_turned}
@@ -21,7 +21,6 @@ use Rattle.mq_law_image.proofs.Growing.{handles_more}
 use Rattle.mq_law_log.proofs.Bridge.{all_of}
 use Rattle.mq_law_counts.specs.Counts.{Climbs, IsCountedCall}
 use Rattle.mq_law_counts.proofs.Deeds.{event_climbs}
-use Rattle.mq_core.specs.Counting.{CanCount}
 use Rattle.mq_events.specs.States.{NodeState, IsKept, IsLow, marked, node_in, value_of}
 use Rattle.mq_events.specs.Counts.{AreBelow, AreCounted, HasBound, HasFewRows, IsNode, KeepsCounts, kept_total}
 use Rattle.mq_events.specs.Events.{ActsAs, Adds, EventIs, IsMqi, MayAct, ServesOne, Stays}

@@ -1,5 +1,5 @@
 -- Queues with few rows: one by one, and by any name.
-use Rattle.std.proofs.Common.{◌≡◌, ℕ, ◌≤◌, ◌^◌, Bool, refl, sym, ap, subst, ◌∙◌, List, [], ◌∷◌, length, arith}
+use Rattle.std.proofs.Common.{◌≡◌, ℕ, ◌≤◌, ◌^◌, refl, sym, ap, subst, ◌∙◌, List, [], ◌∷◌, length, arith}
 use Rattle.std.specs.Prelude.{Option, Some, None, if◌then◌else◌}
 use Rattle.std.specs.List.{AllByRecursion}
 use Rattle.std.specs.Str.{bytes_eq}
@@ -7,7 +7,7 @@ use Rattle.mq_objects.specs.declared.object.LocalQueue.{LocalQueue}
 use Rattle.mq_objects.specs.declared.object.Object.{Object}
 use Rattle.mq_objects.specs.declared.object.Object.TheVariants as objects
 use Rattle.mq_objects.specs.Names.{Queues, as_local, local_of, locals_in, locals_of, object_in}
-use Rattle.mq_spec_state.specs.Words.{Queue, stored}
+use Rattle.mq_spec_state.specs.Words.{Queue}
 use Rattle.mq_spec_state.specs.Reads.{queue_in}
 use Rattle.mq_law_manager.proofs.Lists.{bool_case, name_yes}
 use Rattle.mq_place.specs.States.{QueueState, queues_of, state_in}

@@ -54,7 +54,9 @@ impl<D: Disk> Node<D> {
     /// What holds of it between its calls. It does nothing.
     pub fn facts(&self)
         ensures { IsNode self.now }
-    {}
+    {
+        let _ = &self.parts;
+    }
 
     /// Whether it has made all its events: 2^48, or one whose stamp is 2^60 or more.
     pub fn is_spent(&self) -> bool

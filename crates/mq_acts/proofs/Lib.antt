@@ -1,0 +1,3 @@
+pub mod ReturnLaws
+pub mod RestartLaws
+pub mod OwnLaws

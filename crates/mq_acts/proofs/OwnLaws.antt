@@ -1,0 +1,79 @@
+-- No restart of a replaying history is from a log that was changed from outside, but where its entry says so.
+use Rattle.std.proofs.Common.{◌≡◌, ℕ, refl, ap, sym, subst, List, [], ◌∷◌, ◌++◌}
+use Rattle.std.specs.Prelude.{Option, Some, None, Result, Ok, Err}
+use Rattle.mq_base.specs.declared.want.NoMemory.{NoMemory as Want}
+use Rattle.mq_frame.specs.declared.frame.Seen.{Seen}
+use Rattle.mq_history.specs.declared.acts.Act.TheVariants as acts
+use Rattle.mq_history.specs.declared.calls.Call.TheVariants as calls
+use Rattle.mq_history.specs.declared.calls.Chance.TheVariants as chances
+use Rattle.mq_history.specs.declared.history.History.{History}
+use Rattle.mq_spec_node.specs.Terms.{Act, Acted, Actor, Call, Chance, Entry}
+use Rattle.mq_spec_node.specs.Words.{Deed, Node, NodeValue, after, done_by, deed_of, Follows, IsDeed, IsEvent, IsOwn, IsReplayed, NoneForeign, RunsAlone, Tells, opening_node, stamp_after}
+use Rattle.mq_events.specs.States.{NodeState, IsKept, value_of}
+use Rattle.mq_events.specs.Events.{ActsAs, Adds, Stays}
+use Rattle.mq_acts.specs.Restarts.{TellsActed, TellsAs, RestartIsOwn}
+
+pub none_more : (es : List Entry) (e : Entry) → NoneForeign es → IsOwn e.chance → NoneForeign (es ++ e ∷ [])
+none_more [] e n own = (own, tt)
+none_more (x ∷ es) e n own = (n.0, none_more es e n.1 own)
+
+-- every event but a restart has a choice of its own
+own_deed : (o : Option Deed) (chance : Chance) (n : Node) → IsDeed o chance n → IsOwn chance
+own_deed None chance n h = absurd h
+own_deed (Some d) (chances.Call choice) n h = tt
+own_deed (Some d) (chances.Restart choice) n h = absurd h
+own_deed (Some d) (chances.Foreign image length left) n h = absurd h
+
+own_alone : (chance : Chance) → RunsAlone chance → IsOwn chance
+own_alone (chances.Call choice) h = tt
+own_alone (chances.Restart choice) h = absurd h
+own_alone (chances.Foreign image length left) h = absurd h
+
+abbrev pub IsNoRestart : Call → Type 0
+IsNoRestart (calls.Act acts.Restart) = ⊥
+IsNoRestart _ = Unit {0}
+
+pub own_event : (stamp : ℕ) (actor : Actor) (call : Call) (chance : Chance) (seen : Seen) (n : Node) → IsNoRestart call → IsEvent stamp actor call chance seen n → IsOwn chance
+own_event stamp actor (calls.Mqconn qmgr appl) chance seen n other h = own_deed (deed_of stamp actor (calls.Mqconn qmgr appl) seen n) chance n h
+own_event stamp actor (calls.Mqdisc hc) chance seen n other h = own_deed (deed_of stamp actor (calls.Mqdisc hc) seen n) chance n h
+own_event stamp actor (calls.Mqopen hc name qmgr how) chance seen n other h = own_deed (deed_of stamp actor (calls.Mqopen hc name qmgr how) seen n) chance n h
+own_event stamp actor (calls.Mqclose hc ho) chance seen n other h = own_deed (deed_of stamp actor (calls.Mqclose hc ho) seen n) chance n h
+own_event stamp actor (calls.Mqput hc ho md body sync) chance seen n other h = own_deed (deed_of stamp actor (calls.Mqput hc ho md body sync) seen n) chance n h
+own_event stamp actor (calls.Mqput1 hc name qmgr md body sync) chance seen n other h = own_deed (deed_of stamp actor (calls.Mqput1 hc name qmgr md body sync) seen n) chance n h
+own_event stamp actor (calls.Mqget hc ho get until) chance seen n other h = own_deed (deed_of stamp actor (calls.Mqget hc ho get until) seen n) chance n h
+own_event stamp actor (calls.Mqcmit hc) chance seen n other h = own_deed (deed_of stamp actor (calls.Mqcmit hc) seen n) chance n h
+own_event stamp actor (calls.Mqback hc) chance seen n other h = own_deed (deed_of stamp actor (calls.Mqback hc) seen n) chance n h
+own_event stamp actor (calls.Act (acts.Obey c)) chance seen n other h = own_deed (deed_of stamp actor (calls.Act (acts.Obey c)) seen n) chance n h
+own_event stamp actor (calls.Act acts.Crash) chance seen n other h = own_alone chance h
+own_event stamp actor (calls.Act acts.Restart) chance seen n other h = absurd other
+own_event stamp actor (calls.Act (acts.Cut k)) chance seen n other h = own_alone chance h
+own_event stamp actor (calls.Act (acts.Clock by)) chance seen n other h = own_alone chance h
+own_event stamp actor calls.Turn chance seen n other h = own_deed (deed_of stamp actor calls.Turn seen n) chance n h
+own_event stamp actor calls.Timeout chance seen n other h = own_deed (deed_of stamp actor calls.Timeout seen n) chance n h
+own_event stamp actor calls.Trigger chance seen n other h = own_deed (deed_of stamp actor calls.Trigger seen n) chance n h
+
+-- so of the last entry of a history that replays
+last_tells : (n : Node) (last : ℕ) (es : List Entry) (e : Entry) → Follows n last (es ++ e ∷ []) → Tells (after n es) (stamp_after last es) e
+last_tells n last [] e f = f.0
+last_tells n last (x ∷ es) e f = last_tells (done_by x n).next x.stamp es e f.1
+
+own_last : (n : Node) (last : ℕ) (es : List Entry) (e : Entry) → Follows n last (es ++ e ∷ []) → IsNoRestart e.call → IsOwn e.chance
+own_last n last es e f other = own_event e.stamp e.actor e.call e.chance e.effect.popped (after n es) other (last_tells n last es e f).event
+
+pub own_adds : (who : Actor) (what : Call) (e : Entry) (s t : NodeState) → IsKept t → Adds who what e s t → IsNoRestart what → NoneForeign s.history.entries → NoneForeign t.history.entries
+own_adds who what e s t k a other none =
+    let longer = ap (λ (h : History). h.entries) a.grows.history in
+    let f : Follows (opening_node t.given t.history) 0 (s.history.entries ++ e ∷ []) = subst (Follows (opening_node t.given t.history) 0) longer k.replays.follows in
+    subst NoneForeign (sym longer) (none_more s.history.entries e none (own_last (opening_node t.given t.history) 0 s.history.entries e f (subst IsNoRestart (sym a.call) other)))
+
+pub own_stays : (s t : NodeState) → Stays s t → NoneForeign s.history.entries → NoneForeign t.history.entries
+own_stays s t h none = subst NoneForeign (sym (ap (λ (v : NodeValue). v.history.entries) h.same)) none
+
+-- a restart says it of itself
+pub own_told : (tells : Type 0) (who : Actor) (s t : NodeState) (result : Result Acted Want) → TellsAs tells who (calls.Act acts.Restart) s result t → tells → RestartIsOwn acts.Restart s.history.entries t.history.entries
+own_told tells who s t (Ok a) h is none = subst NoneForeign (sym (ap (λ (x : History). x.entries) h.1.adds.grows.history)) (none_more s.history.entries h.0 none (h.1.own is))
+own_told tells who s t (Err e) h is none = own_stays s t h none
+
+pub did_told : (tells : Type 0) (who : Actor) (what : Call) (s t : NodeState) (result : Result Acted Want) → TellsAs tells who what s result t → ActsAs who what s result t
+did_told tells who what s t (Ok a) h = (h.0, h.1.adds, h.1.answer)
+did_told tells who what s t (Err e) h = h

@@ -1,0 +1,4 @@
+pub mod Rulings
+pub mod Letters
+pub mod Treatments
+pub mod Turns

@@ -1,0 +1,35 @@
+//! Whatever happens at a node leaves the queues that its running senders have open theirs alone.
+#![tactic(auto)]
+
+ghost use Rattle.std.specs.Prelude.{ℕ, List, Some};
+ghost use Rattle.mq_frame.specs.declared.frame.Seen.{Seen};
+ghost use Rattle.mq_sc_parse.specs.declared.command.Op.{Op};
+ghost use Rattle.mq_history.specs.declared.calls.Actor.{Actor};
+ghost use Rattle.mq_history.specs.declared.calls.Call.{Call};
+ghost use Rattle.mq_spec_state.specs.State.{Plain};
+ghost use Rattle.mq_spec_state.specs.Steps.{Part, do_all};
+ghost use Rattle.mq_spec_agents.specs.Words.{HasSeized};
+ghost use Rattle.mq_spec_node.specs.Node.{Node, ReceiverEnd, SenderEnd};
+ghost use Rattle.mq_spec_node.specs.Happens.{deed_of};
+ghost use Rattle.mq_spec_node.specs.Operators.{operate};
+ghost use Rattle.mq_spec_node.specs.Receivers.{receiver_deed};
+ghost use Rattle.mq_spec_node.specs.Senders.{sender_deed, timeout_deed};
+ghost use Rattle.mq_law_manager.specs.Facts.{IsSound};
+ghost use Rattle.mq_law_manager.specs.Kept.{AllKeep};
+ghost use Rattle.mq_law_node.specs.Quiet.{IsOrdinary};
+ghost use Rattle.mq_law_seized.specs.Seized.{AreSeized};
+ghost use Rattle.mq_law_unshared.specs.Unshared.{EachLeaves};
+
+/// Behind each part of what is no end's turn or timeout and no operator's command they are theirs still; and so behind all parts of a deed.
+pub fn ordinary_deeds_leave_seized_queues()
+    ensures ordinary { (stamp : ℕ) (actor : Actor) (call : Call) (seen : Seen) (n : Node) → IsOrdinary actor call → IsSound n.manager → AreSeized n.manager → EachLeaves n.manager (deed_of stamp actor call seen n) }
+    ensures behind { (parts : List Part) (p : Plain) → AreSeized p → AllKeep AreSeized parts p → AreSeized (do_all parts p) }
+{}
+
+/// And behind each part of a turn of an end, a timeout and a command on an end; a sender's turn where it has seized its queue.
+pub fn ends_leave_seized_queues()
+    ensures senders { (stamp : ℕ) (e : SenderEnd) (seen : Seen) (n : Node) → HasSeized e.channel n.manager → AreSeized n.manager → EachLeaves n.manager (sender_deed stamp e seen n) }
+    ensures receivers { (stamp : ℕ) (e : ReceiverEnd) (seen : Seen) (n : Node) → AreSeized n.manager → EachLeaves n.manager (receiver_deed stamp e seen n) }
+    ensures timeouts { (e : SenderEnd) (n : Node) → AreSeized n.manager → EachLeaves n.manager (timeout_deed e n) }
+    ensures operators { (op : Op) (n : Node) → AreSeized n.manager → EachLeaves n.manager (Some (operate op n)) }
+{}

@@ -1,0 +1,6 @@
+pub mod ComingLaws
+pub mod AboveLaws
+pub mod FarLaws
+pub mod StepLaws
+pub mod EndLaws
+pub mod BackLaws

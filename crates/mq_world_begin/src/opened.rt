@@ -1,0 +1,125 @@
+//! With what the histories of managers open that have just begun, and what is their own.
+ghost use Rattle.std.specs.Prelude.{◌≡◌, ◌≤◌, ◌<◌, ◌+◌, ◌++◌, ◌∷◌, [], ℕ, IfOk, Some, length, slice_get, vec_len, vec_capacity};
+ghost use Rattle.mq_core.specs.Values.{CoreValue};
+ghost use Rattle.mq_history.specs.declared.history.History as histories;
+ghost use Rattle.mq_spec_node.specs.Node as nodes;
+ghost use Rattle.mq_spec_network.specs.Given.{own_at};
+ghost use Rattle.mq_opening.specs.Opened.{JustBegun};
+ghost use Rattle.mq_owned.specs.Owned.{HasNoCables};
+ghost use Rattle.mq_world_begin.specs.Rested.{OpensWith};
+
+use mq_base::{Items, NoMemory};
+use mq_core::{Core, Parts};
+use mq_disk::Disk;
+use mq_history::{History, Scenario};
+use mq_manager::Manager;
+use mq_name::QName;
+use mq_opening::{opening_length, opening_of};
+use mq_own::Own;
+use mq_owned::own_of;
+use std::alloc::Global;
+
+/// Whose a history is, and the moment with which it opens.
+#[derive(Clone, Copy)]
+struct Heading {
+    number: u8,
+    name: QName,
+    moment: u64,
+}
+
+fn heading_in<D: Disk>(parts: &Parts<D>) -> Heading
+    ensures number { result.number ≡ parts.now.number }
+    ensures name { result.name ≡ parts.now.name }
+    ensures moment { result.moment ≡ parts.now.moment }
+{
+    Heading {
+        number: parts.number,
+        name: parts.name,
+        moment: parts.moment,
+    }
+}
+
+fn heading_of<D: Disk>(core: &Core<D>) -> Heading
+    ensures number { result.number ≡ core.now.plain.given.number }
+    ensures name { result.name ≡ core.now.plain.given.name }
+    ensures moment { result.moment ≡ core.now.plain.moment }
+{
+    heading_in(&core.parts)
+}
+
+fn history_in<D: Disk>(alloc: Global, core: &Core<D>) -> Result<History, NoMemory>
+    requires begun { JustBegun D.tells core.now }
+    ensures { IfOk result (λ h. OpensWith D.tells core.now h) }
+{
+    let opening = opening_of(alloc, core)?;
+    let length = opening_length(core);
+    let heading = heading_of(core);
+    Ok(History {
+        number: heading.number,
+        name: heading.name,
+        opening,
+        length,
+        moment: heading.moment,
+        entries: Items::new(alloc),
+        marks: Items::new(alloc),
+    })
+}
+
+/// The history of a manager that has just begun.
+fn history_of<D: Disk>(alloc: Global, manager: &Manager<D>) -> Result<History, NoMemory>
+    requires begun { JustBegun D.tells manager.now }
+    ensures { IfOk result (λ h. OpensWith D.tells manager.now h) }
+{
+    history_in(alloc, &manager.core)
+}
+
+/// One value more, in room that was taken.
+fn with_one<T: Drop>(mut list: Vec<T>, value: T) -> Vec<T>
+    requires room { vec_len list < vec_capacity list }
+    ensures items { result.items ≡ list.items ++ value ∷ [] }
+    ensures len { vec_len result ≡ vec_len list + 1 }
+    ensures capacity { vec_capacity result ≡ vec_capacity list }
+{
+    list.push_reserved(value);
+    list
+}
+
+/// The histories of managers that have just begun.
+pub fn histories_of<D: Disk>(
+    alloc: Global,
+    managers: &[Manager<D>],
+) -> Result<Vec<History>, NoMemory>
+    requires begun { (m : ℕ) (v : CoreValue) → slice_get managers.now m ≡ Some v → JustBegun D.tells v }
+    ensures all { IfOk result (λ hs. length hs.items ≡ length managers.now) }
+    ensures each { IfOk result (λ hs. (m : ℕ) (v : CoreValue) (h : histories.History) → slice_get managers.now m ≡ Some v → slice_get hs.items m ≡ Some h → OpensWith D.tells v h) }
+{
+    let mut histories = match Vec::with_capacity(alloc, managers.len()) {
+        Ok(histories) => histories,
+        Err(_) => return Err(NoMemory),
+    };
+    for manager in managers {
+        let history = history_of(alloc, manager)?;
+        histories = with_one(histories, history);
+    }
+    Ok(histories)
+}
+
+/// What is each manager's own.
+pub fn owns_of(alloc: Global, scenario: &Scenario, count: u16) -> Result<Vec<Own>, NoMemory>
+    requires rules { length scenario.now.rules ≤ 64 }
+    requires scripts { length scenario.now.scripts ≤ 64 }
+    requires monitors { length scenario.now.monitors ≤ 64 }
+    requires apart { HasNoCables scenario.now }
+    ensures all { IfOk result (λ owns. length owns.items ≡ count) }
+    ensures each { IfOk result (λ owns. (m : ℕ) (own : nodes.Own) → slice_get owns.items m ≡ Some own → own ≡ own_at scenario.now m) }
+{
+    let mut owns = match Vec::with_capacity(alloc, usize::from(count)) {
+        Ok(owns) => owns,
+        Err(_) => return Err(NoMemory),
+    };
+    for manager in 0..count {
+        let own = own_of(alloc, scenario, manager)?;
+        owns = with_one(owns, own);
+    }
+    Ok(owns)
+}
