@@ -1,5 +1,0 @@
-pub mod LookLaws
-pub mod BeginLaws
-pub mod MonitorLaws
-pub mod WatchLaws
-pub mod TrimLemmas

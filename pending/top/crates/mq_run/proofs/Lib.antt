@@ -1,3 +1,0 @@
-pub mod EndLaws
-pub mod JoinLaws
-pub mod RunLaws

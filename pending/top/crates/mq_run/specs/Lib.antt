@@ -1,3 +1,0 @@
-pub mod Statuses
-pub mod Ends
-pub mod Leaves
