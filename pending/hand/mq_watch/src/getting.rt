@@ -1,5 +1,5 @@
 //! A monitor's turn as an event of its node.
-ghost use Rattle.std.specs.Prelude.{◌≡◌, true, Some, option_copied};
+ghost use Rattle.std.specs.Prelude.{◌≡◌, ◌==◌, true, find, Some, option_copied};
 ghost use Rattle.mq_outcomes.specs.Outcomes.{Ends};
 ghost use Rattle.mq_spec_node.specs.Words.{monitor_get, monitor_in};
 ghost use Rattle.mq_events.specs.Counts.{IsNode, KeepsCounts};
@@ -37,12 +37,18 @@ pub struct Watched {
     pub queue: Hobj,
 }
 
+fn find_monitor(monitors: &[Monitor], number: u16) -> Option<&Monitor>
+    ensures { option_copied result ≡ find (λ m. m.number == number) monitors.now }
+{
+    monitors.iter().find(|monitor| monitor.number == number)
+}
+
 /// The monitor of a number.
 #[tactic(auto, using(crate::proofs::MonitorLaws::monitor_found))]
 pub(crate) fn monitor_in(monitors: &[Monitor], number: u16) -> Option<&Monitor>
     ensures { option_copied result ≡ monitor_in number monitors.now }
 {
-    monitors.iter().find(|monitor| monitor.number == number)
+    find_monitor(monitors, number)
 }
 
 /// Where a monitor gets, if it is connected and has its queue open.

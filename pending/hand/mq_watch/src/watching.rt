@@ -7,13 +7,14 @@ ghost use Rattle.mq_events.specs.States.{IsServed, node_in};
 ghost use Rattle.mq_watch.specs.Turns.{Connects, Opens, connection_of, last_entry};
 
 use crate::getting::monitor_in;
+use crate::text::appl_name;
 use mq_base::NoMemory;
 use mq_calls::{Answer, Appl, Hconn, Input, Open};
 use mq_core::Core;
 use mq_disk::Disk;
 use mq_events::Node;
 use mq_history::{Actor, Call, Entry, MonitorLine, Reply};
-use mq_name::{Label, QName, field_of};
+use mq_name::{Label, QName};
 use mq_own::Monitor;
 
 /// The last entry.
@@ -58,7 +59,7 @@ fn appl_of(label: &Label) -> Appl
     ensures { result ≡ script_appl label.now }
 {
     Appl {
-        name: field_of(label.text()),
+        name: appl_name(label),
         user: [b' '; 12],
     }
 }

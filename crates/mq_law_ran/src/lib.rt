@@ -1,0 +1,48 @@
+//! What follows from what the calls of a run tell: its story is lawful, and what is promised of it.
+#![tactic(auto)]
+
+ghost use Rattle.std.specs.Prelude.{◌≡◌, ℕ, List, [], Some, length, slice_get};
+ghost use Rattle.mq_history.specs.declared.history.History.{History};
+ghost use Rattle.mq_history.specs.declared.history.Mark.{Mark};
+ghost use Rattle.mq_history.specs.declared.scenario.Scenario.{Scenario};
+ghost use Rattle.mq_history.specs.declared.scenario.Step.{Step};
+ghost use Rattle.mq_course.specs.Courses.{net_of};
+ghost use Rattle.mq_spec_network.specs.Apart.{apart};
+ghost use Rattle.mq_spec_network.specs.Tasks.{Task};
+ghost use Rattle.mq_history.specs.Scenarios.{IsScenario};
+ghost use Rattle.mq_story.specs.Spots.{AreRising};
+ghost use Rattle.mq_law_one.specs.Alone.{IsAlone};
+ghost use Rattle.mq_spec_network.specs.Lawful.{AreSteps, IsLawful, Stands, marks_at};
+ghost use Rattle.mq_spec_network.specs.Promised.{AreDoubtsKnown, AreImages};
+ghost use Rattle.mq_spec_network.specs.Story.{entries_at};
+ghost use Rattle.mq_law_ran.specs.Runs.{AreHistories, BeginsAs, Left};
+ghost use Rattle.mq_law_ran.specs.Promises.{GotOnce, OrderKept, RowsAreLedgers, StandOnce};
+
+/// The stamps of a history that replays rise.
+pub fn histories_rise()
+    ensures { (s : Scenario) (hs : List History) → AreHistories s hs → AreRising hs }
+{}
+
+/// Without cables, histories that replay and have the entries of the scenario's steps make a lawful story; so do those without
+/// entries and marks.
+pub fn a_run_is_lawful()
+    ensures steps { (s : Scenario) (hs : List History) → IsAlone s → AreHistories s hs → AreSteps s hs → IsLawful s hs }
+    ensures begun { (s : Scenario) (hs : List History) → ((m : ℕ) → entries_at hs m ≡ []) → ((m : ℕ) → marks_at hs m ≡ []) → AreSteps s hs }
+{}
+
+/// The steps of a run keep the nodes with which it began, and so whether the logs belong together.
+pub fn a_run_keeps_its_beginning()
+    ensures begins { (s : Scenario) (gs hs : List History) (whole rest : List Step) (marks : ℕ → List Mark) (tasks : List Task) → Stands (net_of s gs) whole rest marks (net_of s hs) tasks
+        → (m : ℕ) (h : History) → slice_get hs m ≡ Some h → BeginsAs s gs m h }
+    ensures apart { (s : Scenario) (gs hs : List History) (whole rest : List Step) (marks : ℕ → List Mark) (tasks : List Task) → Stands (net_of s gs) whole rest marks (net_of s hs) tasks
+        → length gs ≡ length hs → apart s gs ≡ apart s hs }
+{}
+
+/// Of a scenario without cables: after each prefix of its story the rows of each queue are the ledger's, list for list; each ident
+/// stands at most once, and is in at most one committed get; the order is kept.
+pub fn a_run_is_as_promised()
+    ensures rows { (l : Left) → IsScenario l.scenario → IsAlone l.scenario → AreImages l.histories → AreDoubtsKnown l.histories → IsLawful l.scenario l.histories → RowsAreLedgers l }
+    ensures once { (l : Left) → IsScenario l.scenario → IsAlone l.scenario → AreImages l.histories → AreDoubtsKnown l.histories → IsLawful l.scenario l.histories → StandOnce l }
+    ensures got_once { (l : Left) → IsScenario l.scenario → IsAlone l.scenario → AreImages l.histories → AreDoubtsKnown l.histories → IsLawful l.scenario l.histories → GotOnce l }
+    ensures order { (l : Left) → IsScenario l.scenario → IsAlone l.scenario → AreImages l.histories → AreDoubtsKnown l.histories → IsLawful l.scenario l.histories → OrderKept l }
+{}

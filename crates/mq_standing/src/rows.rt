@@ -1,0 +1,72 @@
+//! The rows of a queue, copied in order of place.
+ghost use Rattle.std.specs.Prelude.{◌≡◌, ◌++◌, ◌∷◌, [], IfOk, OnOk};
+ghost use Rattle.mq_spec_state.specs.Reads.{queue_in};
+ghost use Rattle.mq_place.specs.States.{queues_of};
+
+use mq_base::{Items, NoMemory};
+use mq_message::{Bytes, Message};
+use mq_name::QName;
+use mq_place::{LocalRows, Queues};
+use mq_queue::{Queue, Row};
+use std::alloc::Global;
+
+/// A copy of a row.
+pub fn copy_row(alloc: Global, row: &Row) -> Result<Row, NoMemory>
+    ensures { IfOk result (λ r. r ≡ row.now) }
+{
+    let body = Bytes::from_slice(alloc, row.message.body.as_slice())?;
+    Ok(Row {
+        place: row.place,
+        message: Message {
+            ident: row.message.ident,
+            md: row.message.md,
+            route: row.message.route,
+            deadline: row.message.deadline,
+            body,
+        },
+        by: row.by,
+    })
+}
+
+fn put_row(out: &mut Items<Row>, alloc: Global, row: &Row) -> Result<(), NoMemory>
+    ensures { OnOk result (out.new ≡ out.old ++ row.now ∷ []) }
+{
+    let copy = copy_row(alloc, row)?;
+    out.push(copy)?;
+    Ok(())
+}
+
+/// The rows of a queue at the end of others, in order of place.
+pub fn put_rows<Q: Queue + Drop>(
+    out: &mut Items<Row>,
+    alloc: Global,
+    local: &LocalRows<Q>,
+) -> Result<(), NoMemory>
+    ensures { OnOk result (out.new ≡ out.old ++ local.now.queue.rows) }
+{
+    let mut after = None;
+    for seen in 0..local.len() {
+        let Some(row) = local.next_row(after) else {
+            return Ok(());
+        };
+        let place = row.place;
+        put_row(out, alloc, row)?;
+        after = Some(place);
+    }
+    Ok(())
+}
+
+/// Those of the queue of a name; none where there is none.
+pub fn put_stored<Q: Queue + Drop>(
+    out: &mut Items<Row>,
+    alloc: Global,
+    queues: &Queues<Q>,
+    name: &QName,
+) -> Result<(), NoMemory>
+    ensures { OnOk result (out.new ≡ out.old ++ (queue_in name.now (queues_of queues.now.states)).rows) }
+{
+    match queues.local(name) {
+        None => Ok(()),
+        Some(local) => put_rows(out, alloc, local),
+    }
+}

@@ -1,0 +1,5 @@
+//! Tests of what is told of texts that aren't run.
+#![tactic(auto)]
+
+#[cfg(test)]
+mod hints;

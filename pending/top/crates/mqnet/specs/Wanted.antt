@@ -1,0 +1,46 @@
+-- What the words ask for, and what the bytes say of a scenario.
+use Rattle.std.specs.Prelude.{◌≡◌, ℕ, List, [], ◌∷◌, if◌then◌else◌, Option, Some, None, Result, Ok, Err, codes}
+use Rattle.std.specs.Str.{bytes_eq}
+use Rattle.mq_history.specs.declared.scenario.CableLine.{CableLine}
+use Rattle.mq_history.specs.declared.scenario.Scenario.{Scenario}
+use Rattle.mq_scn_text.specs.declared.fault.ScenarioFault.{ScenarioFault}
+use Rattle.mq_scn_text.specs.declared.fault.ScenarioFault.TheVariants as faults
+use Rattle.mq_scn_text.specs.Reading.{scenario_of}
+use Rattle.mq_hints.specs.Cables.{cable_line}
+use Rattle.mq_run.specs.declared.status.BadCause.TheVariants as causes
+use Rattle.mq_run.specs.declared.status.Status.{Status}
+use Rattle.mq_run.specs.declared.status.Status.TheVariants as status
+use Rattle.mqnet.specs.declared.top.Task.{Task}
+use Rattle.mqnet.specs.declared.top.Task.TheVariants as tasks
+
+-- the words are the one word run, or the one word check
+abbrev pub word_task : List ℕ → Option Task
+word_task word = if bytes_eq word (codes "run") then Some tasks.Run else if bytes_eq word (codes "check") then Some tasks.Check else None
+
+abbrev pub task_of : List (List ℕ) → Option Task
+task_of [] = None
+task_of (word ∷ []) = word_task word
+task_of (word ∷ other ∷ words) = None
+
+-- the fault of a text, told as a status
+abbrev pub fault_status : ScenarioFault → Status
+fault_status (faults.BadLine line cause) = status.BadScenario line (causes.Line cause)
+fault_status (faults.Limit line limit) = status.BadScenario line (causes.Limit limit)
+fault_status faults.NoMemory = status.NoMemory
+
+-- a scenario runs that has no cable; of another the line of its first cable is told
+abbrev pub built_status : List ℕ → List CableLine → Status
+built_status bytes [] = status.Ok
+built_status bytes (c ∷ cs) = status.NotBuilt (cable_line bytes)
+
+abbrev pub scenario_status : Task → List ℕ → Scenario → Status
+scenario_status tasks.Run bytes s = built_status bytes s.cables
+scenario_status tasks.Check bytes s = status.Ok
+
+abbrev pub text_status : Task → List ℕ → Result Scenario ScenarioFault → Status
+text_status task bytes (Ok s) = scenario_status task bytes s
+text_status task bytes (Err fault) = fault_status fault
+
+-- why these bytes are refused; Ok where they aren't
+abbrev pub wanted : Task → List ℕ → Status
+wanted task bytes = text_status task bytes (scenario_of bytes)
