@@ -2,7 +2,7 @@
 ghost use Rattle.std.specs.Prelude.{◌≡◌, ◌<◌, ◌^◌, Some, IfSome, IsSome, option_copied, slice_get};
 ghost use Rattle.std.specs.Option.{option_map};
 ghost use Rattle.mq_advance.specs.declared.advancing.Advanced.TheVariants as advances;
-ghost use Rattle.mq_events.specs.States.{IsLow, IsServed};
+ghost use Rattle.mq_events.specs.States.{IsServed};
 ghost use Rattle.mq_events.specs.Events.{MayAct};
 ghost use Rattle.mq_progress.specs.Course.{Finished, until_in};
 ghost use Rattle.mq_advance.specs.Advances.{Advances, IsDoneLine, Keeps, last_entry};
@@ -75,7 +75,6 @@ fn do_line<D: Disk>(
 ) -> Result<Advanced, NoMemory>
     requires served { IsServed node.old }
     requires may { MayAct node.old }
-    requires low { IsLow node.old }
     requires is { slice_get part.now.lines progress.old.done ≡ Some line.now }
     requires does { IsDoneLine line.now }
     requires keeps { Keeps progress.old.until line.now }
@@ -113,7 +112,6 @@ pub fn advance<D: Disk>(
 ) -> Result<Advanced, NoMemory>
     requires served { IsServed node.old }
     requires may { MayAct node.old }
-    requires low { IsLow node.old }
     requires does { IfSome (slice_get part.now.lines progress.old.done) IsDoneLine }
     requires keeps { IfSome (slice_get part.now.lines progress.old.done) (Keeps progress.old.until) }
     requires more { progress.old.done < 2 ^ 32 }

@@ -6,10 +6,10 @@ use Rattle.std.specs.Prelude.{Ok, Err}
 use Rattle.mq_base.specs.declared.want.NoMemory.{NoMemory}
 use Rattle.mq_spec_node.specs.Terms.{Actor, Call, Entry, History}
 use Rattle.mq_spec_node.specs.Words.{Grows, NodeValue, more_entries, is_spent}
-use Rattle.mq_events.specs.States.{NodeState, IsKept, IsLow, value_of}
-use Rattle.mq_events.specs.Events.{MayAct, Stays, ServesOne}
+use Rattle.mq_events.specs.States.{NodeState, value_of}
+use Rattle.mq_events.specs.Events.{Stays, ServesOne}
 use Rattle.mq_asked.specs.Asks.{Made}
-use Rattle.mq_asked.specs.Serving.{AreTurns, IsDone, LowOn, Played, Plays, Serves}
+use Rattle.mq_asked.specs.Serving.{AreTurns, IsDone, Played, Plays, Serves}
 
 turns_more : (xs ys : List Entry) → AreTurns xs → AreTurns ys → AreTurns (xs ++ ys)
 turns_more [] ys a b = b
@@ -63,13 +63,6 @@ turn_counts a b may o =
     let more : length b.history.entries ≡ length a.history.entries + 1 = ap (λ (h : History). length h.entries) o.2.grows.history ∙ long_more a.history.entries o.1 in
     let room : length a.history.entries < 2 ^ 48 = few (2 ^ 48) (length a.history.entries) (no_first (nat_le (2 ^ 48) (length a.history.entries)) (nat_le (2 ^ 60) a.stamp) may) in
     omega (arith, more, room)
-
--- what comes of it
-pub low_at : (s t : NodeState) → LowOn s → Serves s t → IsKept t → MayAct t → IsLow t
-low_at s t low v k may = low v.turns t k v.grows may
-
-pub low_behind : (who : Actor) (what : Call) (s t : NodeState) → LowOn s → Made who what s t → LowOn t
-low_behind who what s t low m = λ es u k g may. low (m.entry ∷ es) u k (grows_more (value_of s) (value_of t) (value_of u) (m.entry ∷ []) es m.adds.grows g) may
 
 plays : (who : Actor) (what : Call) (s t u : NodeState) → Made who what s t → Serves t u → Plays who what s u
 plays who what s t u m v = record {

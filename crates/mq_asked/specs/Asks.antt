@@ -5,6 +5,7 @@ use Rattle.mq_frame.specs.declared.frame.Seen.TheVariants as items
 use Rattle.mq_history.specs.declared.acts.Act.TheVariants as acts
 use Rattle.mq_history.specs.declared.calls.Call.TheVariants as calls
 use Rattle.mq_sc_parse.specs.declared.command.Command.TheVariants as commands
+use Rattle.mq_law_image.specs.Values.{IsCommandText}
 use Rattle.mq_spec_node.specs.Terms.{Act, Acted, Actor, Call, Command, Entry}
 use Rattle.mq_spec_node.specs.Words.{deed_of, is_none}
 use Rattle.mq_events.specs.States.{NodeState, node_in}
@@ -23,9 +24,10 @@ abbrev pub happened_if : Result Acted NoMemory → Result Bool NoMemory
 happened_if (Ok acted) = Ok true
 happened_if (Err e) = Err e
 
--- what a node does today: MQI calls, commands on objects, stops, cuts, clock advances
+-- What a node does today: MQI calls, stops, cuts, clock advances, and commands on objects whose values are such as a text of commands
+-- gives.
 abbrev pub IsDoneCommand : Command → Type 0
-IsDoneCommand (commands.Objects c) = Unit {0}
+IsDoneCommand (commands.Objects c) = IsCommandText c
 IsDoneCommand (commands.Operate op) = ⊥
 IsDoneCommand (commands.ShowStatus name any_end) = ⊥
 

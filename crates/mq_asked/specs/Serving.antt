@@ -5,13 +5,9 @@ use Rattle.mq_base.specs.declared.want.NoMemory.{NoMemory}
 use Rattle.mq_history.specs.declared.calls.Call.TheVariants as calls
 use Rattle.mq_spec_node.specs.Terms.{Actor, Call, Entry}
 use Rattle.mq_spec_node.specs.Words.{Grows, is_spent}
-use Rattle.mq_events.specs.States.{NodeState, IsKept, IsLow, IsServed, value_of}
-use Rattle.mq_events.specs.Events.{MayAct, Stays}
+use Rattle.mq_events.specs.States.{NodeState, IsServed, value_of}
+use Rattle.mq_events.specs.Events.{Stays}
 use Rattle.mq_asked.specs.Asks.{MayWait}
-
--- Whatever comes of it, its counters are low, until it has made all its events.
-abbrev pub LowOn : NodeState → Type 0
-LowOn s = (es : List Entry) (t : NodeState) → IsKept t → Grows (value_of s) es (value_of t) → MayAct t → IsLow t
 
 -- trigger turns alone
 abbrev pub AreTurns : List Entry → Type 0

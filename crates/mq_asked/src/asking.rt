@@ -1,7 +1,7 @@
 //! Any call that a script makes, as an event of its node.
 ghost use Rattle.std.specs.Prelude.{◌≡◌, false};
 ghost use Rattle.mq_history.specs.declared.calls.Call.TheVariants as calls;
-ghost use Rattle.mq_events.specs.States.{IsLow, IsServed};
+ghost use Rattle.mq_events.specs.States.{IsServed};
 ghost use Rattle.mq_events.specs.Events.{MayAct};
 ghost use Rattle.mq_asked.specs.Asks.{Comes, IsDoneAct, IsDoneCall, happened_if, is_mqi};
 
@@ -79,7 +79,6 @@ fn ask_act<D: Disk>(node: &mut Node<D>, actor: Actor, asked: Call) -> Result<boo
 pub fn ask<D: Disk>(node: &mut Node<D>, actor: Actor, asked: Call) -> Result<bool, NoMemory>
     requires served { IsServed node.old }
     requires may { MayAct node.old }
-    requires low { IsLow node.old }
     requires does { IsDoneCall asked }
     ensures { Comes actor asked node.old result node.new }
 {

@@ -1,8 +1,8 @@
 //! An event of a node with the trigger turns behind it.
-ghost use Rattle.mq_events.specs.States.{IsLow, IsServed};
+ghost use Rattle.mq_events.specs.States.{IsServed};
 ghost use Rattle.mq_events.specs.Events.{MayAct};
 ghost use Rattle.mq_asked.specs.Asks.{IsDoneCall};
-ghost use Rattle.mq_asked.specs.Serving.{LowOn, Played};
+ghost use Rattle.mq_asked.specs.Serving.{Played};
 
 use crate::asking::ask;
 use crate::serving::serve;
@@ -17,12 +17,10 @@ use mq_history::{Actor, Call};
 /// # Errors
 ///
 /// No memory: nothing has changed, or the event stands with some of the turns, and a trigger stays due.
-#[tactic(auto, using(crate::proofs::ServeLaws::low_behind, crate::proofs::ServeLaws::played_all, crate::proofs::ServeLaws::played_some, crate::proofs::ServeLaws::played_none))]
+#[tactic(auto, using(crate::proofs::ServeLaws::played_all, crate::proofs::ServeLaws::played_some, crate::proofs::ServeLaws::played_none))]
 pub fn play<D: Disk>(node: &mut Node<D>, actor: Actor, asked: Call) -> Result<bool, NoMemory>
     requires served { IsServed node.old }
     requires may { MayAct node.old }
-    requires low { IsLow node.old }
-    requires on { LowOn node.old }
     requires does { IsDoneCall asked }
     ensures { Played actor asked node.old result node.new }
 {

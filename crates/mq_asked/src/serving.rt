@@ -1,6 +1,6 @@
 //! Trigger turns, one after the other.
 ghost use Rattle.std.specs.Prelude.{OnOk};
-ghost use Rattle.mq_asked.specs.Serving.{IsDone, LowOn, Serves};
+ghost use Rattle.mq_asked.specs.Serving.{IsDone, Serves};
 
 use mq_base::NoMemory;
 use mq_disk::Disk;
@@ -11,9 +11,8 @@ use mq_events::Node;
 /// # Errors
 ///
 /// No memory; the turns before stand, and the trigger stays due.
-#[tactic(auto, using(crate::proofs::ServeLaws::serves_none, crate::proofs::ServeLaws::serves_more, crate::proofs::ServeLaws::serves_still, crate::proofs::ServeLaws::turn_counts, crate::proofs::ServeLaws::low_at))]
+#[tactic(auto, using(crate::proofs::ServeLaws::serves_none, crate::proofs::ServeLaws::serves_more, crate::proofs::ServeLaws::serves_still, crate::proofs::ServeLaws::turn_counts))]
 pub fn serve<D: Disk>(node: &mut Node<D>) -> Result<(), NoMemory>
-    requires low { LowOn node.old }
     ensures turns { Serves node.old node.new }
     ensures done { OnOk result (IsDone node.new) }
 {

@@ -1,5 +1,5 @@
 -- Stops, cuts and moments that advance, as events.
-use Rattle.std.proofs.Common.{◌≡◌, ℕ, ◌+◌, ◌-◌, refl, sym, ap, subst, ◌∙◌, ◌≤◌, [], Bool, true, false, arith}
+use Rattle.std.proofs.Common.{◌≡◌, ℕ, ◌+◌, refl, sym, ap, subst, ◌∙◌, ◌≤◌, [], Bool, true, false, arith}
 use Rattle.std.specs.Prelude.{Ok, Err}
 use Rattle.mq_base.specs.declared.want.NoMemory.{NoMemory as Want}
 use Rattle.mq_history.specs.declared.acts.Act.{Act}

@@ -1,7 +1,11 @@
 pub mod ReplayLaws
-pub mod EventLaws
 pub mod LastLaws
+pub mod EventLaws
 pub mod ActLaws
 pub mod StepLaws
 pub mod ObeyLaws
 pub mod MarkLaws
+pub mod EntryLaws
+pub mod RowLaws
+pub mod KeepLaws
+pub mod CountLaws

@@ -1,5 +1,5 @@
 -- One entry more: the history replays still, and leads to the node behind the event.
-use Rattle.std.proofs.Common.{◌≡◌, ℕ, ◌+◌, refl, sym, ap, subst, ◌∙◌, List, [], ◌∷◌, ◌++◌}
+use Rattle.std.proofs.Common.{◌≡◌, ℕ, refl, sym, ap, subst, ◌∙◌, List, [], ◌∷◌, ◌++◌}
 use Rattle.std.specs.Prelude.{Option, Some, None}
 use Rattle.mq_spec_node.specs.Terms.{Actor, Entry}
 use Rattle.mq_spec_node.specs.Words.{Node, after, done_by, Tells, Follows, TriggerIs, TriggersStand, trigger_deed, opening_node, stamp_after, more_entries, NodeValue, IsReplayed}

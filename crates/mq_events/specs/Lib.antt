@@ -1,2 +1,4 @@
 pub mod States
+pub mod Counts
 pub mod Events
+pub mod Texts

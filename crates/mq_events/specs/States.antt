@@ -5,18 +5,19 @@ use Rattle.mq_history.specs.declared.calls.Reply.TheVariants as replies
 use Rattle.mq_frame.specs.declared.frame.Seen.TheVariants as items
 use Rattle.mq_spec_node.specs.Terms.{Acted, Choice, Runs, NoMemory, Stopped, Did, Actor, Call, Entry, History}
 use Rattle.mq_spec_node.specs.Words.{Node, Own, Surroundings, NodeValue, IsReplayed, node_of, forgotten_rows, remembered, more_entries, trigger_deed}
-use Rattle.mq_core.specs.Counting.{CanCount}
+use Rattle.mq_manager.specs.Facts.{MayCount}
 use Rattle.mq_core.specs.Values.{CoreValue}
 use Rattle.mq_outcomes.specs.declared.outcome.Outcome.{Outcome}
 
--- What the scenario gives it, its history, its manager, its own, its last stamp; for how many more entries and marks there
--- is room.
+-- What the scenario gives it, its history, its manager, its own, its last stamp; whether its manager had few rows when it began;
+-- for how many more entries and marks there is room.
 pub record NodeState : Type 0 where
   pub given : Surroundings
   pub history : History
   pub manager : CoreValue
   pub own : Own
   pub stamp : ℕ
+  pub few : Bool
   pub room : ℕ
   pub marks : ℕ
 
@@ -75,7 +76,7 @@ IsServed s = trigger_deed (node_in s) ≡ None
 
 -- the counters of its manager are low
 abbrev pub IsLow : NodeState → Type 0
-IsLow s = CanCount s.manager.plain
+IsLow s = MayCount s.manager.plain
 
 -- a step ends here
 abbrev pub marked : Bool → NodeState → NodeState

@@ -4,6 +4,7 @@ ghost use Rattle.mq_history.specs.declared.acts.Act.TheVariants as acts;
 ghost use Rattle.mq_history.specs.declared.calls.Call.TheVariants as calls;
 ghost use Rattle.mq_events.specs.States.{IsKept, IsServed};
 ghost use Rattle.mq_spec_node.specs.Terms.{Answered, advance_clock, cut, stop};
+ghost use Rattle.mq_events.specs.Counts.{KeepsCounts};
 ghost use Rattle.mq_events.specs.Events.{MayAct, ActsAs, acted_by, own_by};
 
 use crate::state::NodeParts;
@@ -55,12 +56,14 @@ impl<D: Disk> NodeParts<D> {
     /// # Errors
     ///
     /// No memory; nothing has changed.
+    #[tactic(auto, using(crate::proofs::KeepLaws::roomed_counts, crate::proofs::KeepLaws::stopped_counts))]
     pub fn crash(&mut self, actor: Actor) -> Result<Acted, NoMemory>
         requires kept { IsKept self.old }
         requires served { IsServed self.old }
         requires may { MayAct self.old }
         ensures kept { IsKept self.new }
         ensures did { ActsAs actor (calls.Act acts.Crash) self.old result self.new }
+        ensures counts { KeepsCounts self.old self.new }
     {
         self.reserve(1)?;
         let up = self.stop();
@@ -73,12 +76,14 @@ impl<D: Disk> NodeParts<D> {
     /// # Errors
     ///
     /// No memory; nothing has changed.
+    #[tactic(auto, using(crate::proofs::KeepLaws::roomed_counts, crate::proofs::KeepLaws::acted_counts))]
     pub fn cut(&mut self, actor: Actor, k: u32) -> Result<Acted, NoMemory>
         requires kept { IsKept self.old }
         requires served { IsServed self.old }
         requires may { MayAct self.old }
         ensures kept { IsKept self.new }
         ensures did { ActsAs actor (calls.Act (acts.Cut k)) self.old result self.new }
+        ensures counts { KeepsCounts self.old self.new }
     {
         self.reserve(1)?;
         self.arm(k);
@@ -91,12 +96,14 @@ impl<D: Disk> NodeParts<D> {
     /// # Errors
     ///
     /// No memory; nothing has changed.
+    #[tactic(auto, using(crate::proofs::KeepLaws::roomed_counts, crate::proofs::KeepLaws::acted_counts))]
     pub fn advance_clock(&mut self, actor: Actor, by: u64) -> Result<Acted, NoMemory>
         requires kept { IsKept self.old }
         requires served { IsServed self.old }
         requires may { MayAct self.old }
         ensures kept { IsKept self.new }
         ensures did { ActsAs actor (calls.Act (acts.Clock by)) self.old result self.new }
+        ensures counts { KeepsCounts self.old self.new }
     {
         self.reserve(1)?;
         self.later(by);

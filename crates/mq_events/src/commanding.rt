@@ -6,6 +6,7 @@ ghost use Rattle.mq_history.specs.declared.acts.Act.TheVariants as acts;
 ghost use Rattle.mq_history.specs.declared.calls.Call.TheVariants as calls;
 ghost use Rattle.mq_outcomes.specs.Outcomes.{ObeysAs};
 ghost use Rattle.mq_events.specs.States.{IsKept, IsServed};
+ghost use Rattle.mq_events.specs.Counts.{KeepsCounts};
 ghost use Rattle.mq_events.specs.Events.{MayAct, ActsAs};
 
 use crate::state::NodeParts;
@@ -30,6 +31,7 @@ impl<D: Disk> NodeParts<D> {
     /// # Errors
     ///
     /// No memory; nothing has changed.
+    #[tactic(auto, using(crate::proofs::KeepLaws::roomed_counts, crate::proofs::KeepLaws::asked_counts, crate::proofs::KeepLaws::finished_counts))]
     pub fn command(&mut self, actor: Actor, asked: mq_objects::Command) -> Result<Acted, NoMemory>
         requires kept { IsKept self.old }
         requires served { IsServed self.old }
@@ -37,6 +39,7 @@ impl<D: Disk> NodeParts<D> {
         requires text { IsCommandText asked }
         ensures kept { IsKept self.new }
         ensures did { ActsAs actor (calls.Act (acts.Obey (commands.Objects asked))) self.old result self.new }
+        ensures counts { KeepsCounts self.old self.new }
     {
         self.reserve(1)?;
         match self.obey(&asked) {

@@ -1,10 +1,11 @@
 //! Events of applications, and trigger turns.
 ghost use Rattle.std.specs.Prelude.{◌≡◌, ◌+◌, ◌<◌, Some, None};
 ghost use Rattle.mq_frame.specs.declared.frame.Seen.TheVariants as items;
-ghost use Rattle.mq_core.specs.Counting.{CanCount};
+ghost use Rattle.mq_manager.specs.Facts.{MayCount};
 ghost use Rattle.mq_spec_node.specs.Words.{deed_of};
 ghost use Rattle.mq_events.specs.States.{IsKept, IsLow, IsServed, node_in, last_actor};
 ghost use Rattle.mq_outcomes.specs.Outcomes.{Ends, TurnEnds, next_due};
+ghost use Rattle.mq_events.specs.Counts.{KeepsCounts};
 ghost use Rattle.mq_events.specs.Events.{MayAct, IsMqi, EventIs, ServesOne};
 
 use crate::state::NodeParts;
@@ -23,7 +24,7 @@ use mq_outcomes::{
 ///
 /// No memory, where the get might wait; nothing has changed.
 fn call<D: Disk>(manager: &mut Manager<D>, call: &Call) -> Result<Option<Outcome>, NoMemory>
-    requires low { CanCount manager.old.plain }
+    requires low { MayCount manager.old.plain }
     requires mqi { IsMqi call.now }
     ensures { Ends call.now manager.old result manager.new }
 {
@@ -108,6 +109,7 @@ impl<D: Disk> NodeParts<D> {
     /// # Errors
     ///
     /// No memory; nothing has changed.
+    #[tactic(auto, using(crate::proofs::KeepLaws::roomed_counts, crate::proofs::KeepLaws::asked_counts, crate::proofs::KeepLaws::finished_counts))]
     pub fn apply(&mut self, actor: Actor, asked: Call) -> Result<bool, NoMemory>
         requires kept { IsKept self.old }
         requires served { IsServed self.old }
@@ -116,6 +118,7 @@ impl<D: Disk> NodeParts<D> {
         requires mqi { IsMqi asked }
         ensures kept { IsKept self.new }
         ensures did { EventIs actor asked (deed_of (self.old.stamp + 1) actor asked items.Nothing (node_in self.old)) self.old result self.new }
+        ensures counts { KeepsCounts self.old self.new }
     {
         self.reserve(1)?;
         match self.ask(&asked) {
@@ -140,6 +143,7 @@ impl<D: Disk> NodeParts<D> {
     /// # Errors
     ///
     /// No memory; nothing has changed.
+    #[tactic(auto, using(crate::proofs::KeepLaws::roomed_counts, crate::proofs::KeepLaws::asked_counts, crate::proofs::KeepLaws::finished_counts))]
     fn take_turn(&mut self, actor: Actor, queue: QName) -> Result<bool, NoMemory>
         requires kept { IsKept self.old }
         requires may { MayAct self.old }
@@ -148,6 +152,7 @@ impl<D: Disk> NodeParts<D> {
         requires actor { last_actor None self.old.history.entries ≡ Some actor }
         ensures kept { IsKept self.new }
         ensures did { ServesOne self.old result self.new }
+        ensures counts { KeepsCounts self.old self.new }
     {
         self.reserve(1)?;
         match self.turn(queue) {
@@ -164,12 +169,14 @@ impl<D: Disk> NodeParts<D> {
     /// # Errors
     ///
     /// No memory; nothing has changed.
+    #[tactic(auto, using(crate::proofs::KeepLaws::same_counts))]
     pub fn serve_next(&mut self) -> Result<bool, NoMemory>
         requires kept { IsKept self.old }
         requires may { MayAct self.old }
         requires low { IsLow self.old }
         ensures kept { IsKept self.new }
         ensures did { ServesOne self.old result self.new }
+        ensures counts { KeepsCounts self.old self.new }
     {
         match self.last_actor() {
             None => Ok(false),
@@ -182,6 +189,7 @@ impl<D: Disk> NodeParts<D> {
     /// # Errors
     ///
     /// No memory; nothing has changed.
+    #[tactic(auto, using(crate::proofs::KeepLaws::same_counts))]
     fn serve_as(&mut self, actor: Actor) -> Result<bool, NoMemory>
         requires kept { IsKept self.old }
         requires may { MayAct self.old }
@@ -189,6 +197,7 @@ impl<D: Disk> NodeParts<D> {
         requires actor { last_actor None self.old.history.entries ≡ Some actor }
         ensures kept { IsKept self.new }
         ensures did { ServesOne self.old result self.new }
+        ensures counts { KeepsCounts self.old self.new }
     {
         match self.due() {
             None => Ok(false),

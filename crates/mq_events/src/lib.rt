@@ -3,9 +3,11 @@
 
 mod acting;
 mod commanding;
+mod counting;
 mod events;
 mod node;
 mod state;
 
+pub use counting::has_few_rows;
 pub use node::Node;
 pub use state::{NodeParts, Opening};

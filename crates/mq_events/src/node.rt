@@ -7,7 +7,8 @@ ghost use Rattle.mq_law_image.specs.Values.{IsCommandText};
 ghost use Rattle.mq_sc_parse.specs.declared.command.Command.TheVariants as commands;
 ghost use Rattle.mq_spec_state.specs.Words.{is_up};
 ghost use Rattle.mq_spec_node.specs.Words.{deed_of, is_spent, opening_node};
-ghost use Rattle.mq_events.specs.States.{IsKept, IsLow, IsServed, marked, node_in, value_of};
+ghost use Rattle.mq_events.specs.States.{IsKept, IsServed, marked, node_in, value_of};
+ghost use Rattle.mq_events.specs.Counts.{IsNode};
 ghost use Rattle.mq_events.specs.Events.{ActsAs, EventIs, IsMqi, MayAct, ServesOne};
 
 use crate::state::NodeParts;
@@ -25,27 +26,36 @@ pub struct Node<D: Disk> {
 }
 
 impl<D: Disk> Model for Node<D> {
-    ghost use Rattle.mq_events.specs.States.{NodeState, IsKept};
+    ghost use Rattle.mq_events.specs.States.{NodeState};
+    ghost use Rattle.mq_events.specs.Counts.{IsNode};
 
     ghost Value = { NodeState };
 
     ghost view = { λ n. n.parts };
 
-    ghost invariant = { λ n. IsKept n.parts };
+    ghost invariant = { λ n. IsNode n.parts };
 }
 
 impl<D: Disk> Node<D> {
-    /// A node of which nothing has happened: it is as its history opens. It takes no memory.
-    #[tactic(auto, using(crate::proofs::MarkLaws::begun_kept))]
-    pub fn new(parts: NodeParts<D>) -> Node<D>
+    /// A node of which nothing has happened: it is as its history opens. It takes no memory. Where a queue of its manager has
+    /// more than 2^62 rows, its calls find no memory.
+    pub fn new(mut parts: NodeParts<D>) -> Node<D>
         requires none { parts.history.entries ≡ [] }
         requires stamp { parts.stamp ≡ 0 }
         requires number { parts.history.number ≡ parts.given.given.number }
         requires name { parts.history.name ≡ parts.given.given.name }
         requires opens { node_in parts ≡ opening_node parts.given parts.history }
-        ensures { result ≡ parts }
+        ensures { result ≡ record parts { few = result.few } }
     {
+        parts.recount();
         Node { parts }
+    }
+
+    /// What holds of it between its calls. It does nothing.
+    pub fn facts(&self)
+        ensures { IsNode self.now }
+    {
+        let _ = &self.parts;
     }
 
     /// Whether it has made all its events: 2^48, or one whose stamp is 2^60 or more.
@@ -99,13 +109,16 @@ impl<D: Disk> Node<D> {
     /// # Errors
     ///
     /// No memory; nothing has changed.
+    #[tactic(auto, using(crate::proofs::CountLaws::applied_counted, crate::proofs::CountLaws::node_low, crate::proofs::CountLaws::same_event))]
     pub fn apply(&mut self, actor: Actor, asked: Call) -> Result<bool, NoMemory>
         requires served { IsServed self.old }
         requires may { MayAct self.old }
-        requires low { IsLow self.old }
         requires mqi { IsMqi asked }
         ensures { EventIs actor asked (deed_of (self.old.stamp + 1) actor asked items.Nothing (node_in self.old)) self.old result self.new }
     {
+        if !self.parts.few {
+            return Err(NoMemory);
+        }
         self.parts.apply(actor, asked)
     }
 
@@ -114,11 +127,14 @@ impl<D: Disk> Node<D> {
     /// # Errors
     ///
     /// No memory; nothing has changed, and the trigger stays due.
+    #[tactic(auto, using(crate::proofs::CountLaws::served_counted, crate::proofs::CountLaws::node_low, crate::proofs::CountLaws::same_turn))]
     pub fn serve_next(&mut self) -> Result<bool, NoMemory>
         requires may { MayAct self.old }
-        requires low { IsLow self.old }
         ensures { ServesOne self.old result self.new }
     {
+        if !self.parts.few {
+            return Err(NoMemory);
+        }
         self.parts.serve_next()
     }
 
@@ -127,6 +143,7 @@ impl<D: Disk> Node<D> {
     /// # Errors
     ///
     /// No memory; nothing has changed.
+    #[tactic(auto, using(crate::proofs::CountLaws::acted_counted))]
     pub fn crash(&mut self, actor: Actor) -> Result<Acted, NoMemory>
         requires served { IsServed self.old }
         requires may { MayAct self.old }
@@ -140,6 +157,7 @@ impl<D: Disk> Node<D> {
     /// # Errors
     ///
     /// No memory; nothing has changed.
+    #[tactic(auto, using(crate::proofs::CountLaws::acted_counted))]
     pub fn cut(&mut self, actor: Actor, k: u32) -> Result<Acted, NoMemory>
         requires served { IsServed self.old }
         requires may { MayAct self.old }
@@ -153,6 +171,7 @@ impl<D: Disk> Node<D> {
     /// # Errors
     ///
     /// No memory; nothing has changed.
+    #[tactic(auto, using(crate::proofs::CountLaws::acted_counted))]
     pub fn advance_clock(&mut self, actor: Actor, by: u64) -> Result<Acted, NoMemory>
         requires served { IsServed self.old }
         requires may { MayAct self.old }
@@ -167,6 +186,7 @@ impl<D: Disk> Node<D> {
     /// # Errors
     ///
     /// No memory; nothing has changed.
+    #[tactic(auto, using(crate::proofs::CountLaws::acted_counted))]
     pub fn command(&mut self, actor: Actor, asked: mq_objects::Command) -> Result<Acted, NoMemory>
         requires served { IsServed self.old }
         requires may { MayAct self.old }

@@ -1,9 +1,11 @@
 //! The parts of a node, and its history.
-ghost use Rattle.std.specs.Prelude.{◌≡◌, ◌<◌, ◌≤◌, ◌+◌, ◌^◌, OnOk, length};
+ghost use Rattle.std.specs.Prelude.{◌≡◌, ◌<◌, ◌≤◌, ◌+◌, ◌^◌, OnOk, length, true};
 ghost use Rattle.mq_spec_node.specs.Values.{is_spent};
-ghost use Rattle.mq_events.specs.States.{value_of, forgotten_if, told, finished, quietly, marked};
+ghost use Rattle.mq_events.specs.States.{value_of, forgotten_if, told, finished, quietly, marked, with_entry};
+ghost use Rattle.mq_events.specs.Counts.{HasFewRows};
 ghost use Rattle.mq_history.specs.declared.calls.Call.TheVariants as calls;
 
+use crate::counting::has_few_rows;
 use mq_base::{Items, NoMemory};
 use mq_calls::{Choice, Did, Image};
 use mq_disk::Disk;
@@ -47,6 +49,8 @@ pub struct NodeParts<D: Disk> {
     pub marks: Vec<Mark>,
     /// That of its last entry, 0 before the first.
     pub stamp: u64,
+    /// Whether its manager had few rows when it began last, so that it counts what comes without an end.
+    pub few: bool,
 }
 
 impl<D: Disk> Model for NodeParts<D> {
@@ -62,6 +66,7 @@ impl<D: Disk> Model for NodeParts<D> {
       manager = n.manager;
       own = n.own;
       stamp = n.stamp;
+      few = n.few;
       room = vec_capacity n.entries - vec_len n.entries;
       marks = vec_capacity n.marks - vec_len n.marks;
     } };
@@ -95,6 +100,14 @@ impl<D: Disk> NodeParts<D> {
         Ok(())
     }
 
+    /// Notes whether its manager has few rows, as it begins. It walks over all queues, and takes no memory.
+    pub fn recount(&mut self)
+        ensures same { self.new ≡ record self.old { few = self.new.few } }
+        ensures few { self.new.few ≡ true → HasFewRows self.new.manager.plain }
+    {
+        self.few = has_few_rows(&self.manager.core);
+    }
+
     /// Whether it has made all its events: 2^48, or one whose stamp is 2^60 or more.
     pub fn is_spent(&self) -> bool
         ensures { result ≡ is_spent (value_of self.now) }
@@ -114,20 +127,29 @@ impl<D: Disk> NodeParts<D> {
         self.marks.push_reserved(mark);
     }
 
+    /// One entry more, in room that is there.
+    pub fn add(&mut self, entry: Entry)
+        requires room { 0 < self.old.room }
+        ensures { self.new ≡ with_entry entry self.old }
+    {
+        self.stamp = entry.stamp;
+        self.entries.push_reserved(entry);
+    }
+
     /// One entry more, which offers nothing and takes nothing, in room that is there.
-    fn tell(&mut self, actor: Actor, call: Call, outcome: Outcome)
+    pub fn tell(&mut self, actor: Actor, call: Call, outcome: Outcome)
         requires room { 0 < self.old.room }
         requires stamp { self.old.stamp < 2 ^ 60 }
         ensures { self.new ≡ told actor call outcome self.old }
     {
-        self.stamp += 1;
         let Outcome {
             choice,
             reply,
             delta,
         } = outcome;
-        self.entries.push_reserved(Entry {
-            stamp: self.stamp,
+        let received = Items::new(self.alloc);
+        self.add(Entry {
+            stamp: self.stamp + 1,
             actor,
             call,
             chance: Chance::Call(choice),
@@ -137,7 +159,7 @@ impl<D: Disk> NodeParts<D> {
                 pushed: None,
                 extras: 0,
                 popped: Seen::Nothing,
-                received: Items::new(self.alloc),
+                received,
             },
         });
     }

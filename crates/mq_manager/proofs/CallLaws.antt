@@ -140,3 +140,11 @@ module _ (tells : Type 0) (read : LogRead) (v new : CoreValue) (k : IsKept tells
       by : (a : Bool) → has_name channel ≡ a → IsKept tells read new
       by false e = begun_kept (unfit e)
       by true e = kept_prepare channel last result can (named_is channel e) m w
+
+  pub kept_received : (channel : List ℕ) (unit : Luw) (last : ℕ) (batch : List Message) (result : Result (Unit {0}) (Halt Reason)) → CanReceive channel unit v.plain → (has_name channel ≡ false → new ≡ begun_call v)
+      → MeetsOrWants (manager_of v) (receive channel unit last batch v.plain) result (manager_of new) → WritesLog v (receive channel unit last batch v.plain) result new → IsKept tells read new
+  kept_received channel unit last batch result can unfit m w = by (has_name channel) refl
+    where
+      by : (a : Bool) → has_name channel ≡ a → IsKept tells read new
+      by false e = begun_kept (unfit e)
+      by true e = kept_receive channel unit last batch result can (named_is channel e) m w

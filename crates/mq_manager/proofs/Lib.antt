@@ -13,3 +13,4 @@ pub mod AsideLaws
 pub mod WantLaws
 pub mod BeginLaws
 pub mod RestartLaws
+pub mod CountLaws

@@ -2,7 +2,8 @@
 use Rattle.std.specs.Prelude.{◌≡◌, ◌≤◌, true, List}
 use Rattle.mq_base.specs.Members.{Chain}
 use Rattle.mq_spec_state.specs.Words.{Batch, Plain, comes_before, is_up}
-use Rattle.mq_law_manager.specs.Facts.{IsSound, IsFrozen}
+use Rattle.mq_core.specs.Counting.{CanCount}
+use Rattle.mq_law_manager.specs.Facts.{AreNamed, IsSound, IsFrozen}
 
 -- MAXMSGL of the manager is at most what a record can hold
 abbrev pub HasLimit : Plain → Type 0
@@ -18,3 +19,7 @@ pub record IsWell (p : Plain) : Type 0 where
   pub rest : IsFrozen p
   pub limit : HasLimit p
   pub batches : AreByChannel p.channels.batches
+
+-- It can count, since no two of its queues have one name.
+abbrev pub MayCount : Plain → Type 0
+MayCount p = AreNamed p.queues → CanCount p

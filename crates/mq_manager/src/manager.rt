@@ -1,13 +1,12 @@
 //! The queue manager and its calls.
 ghost use Rattle.std.specs.Prelude.{◌≡◌, ◌≤◌, [], false, Ok, MatchResult, option_copied, option_map};
 ghost use Rattle.mq_spec_state.specs.Words.{Meets, MeetsInRoom, is_up};
-ghost use Rattle.mq_core.specs.Counting.{CanCount};
 ghost use Rattle.mq_core.specs.Values.{WritesLog, manager_of};
 ghost use Rattle.mq_spec_state.specs.Words.{MeetsOrWants};
 ghost use Rattle.mq_spec_manager.specs.Commands.{command};
 ghost use Rattle.mq_spec_manager.specs.Stops.{advance_clock, cut, stop};
 ghost use Rattle.mq_spec_manager.specs.Triggers.{trigger_turn};
-ghost use Rattle.mq_spec_agents.specs.Words.{IsUp, IsSenderHere, HasSeized, HasBatch, CanHold, CanPrepare, CanHarden, HasFreeRow, kept, stock, batch_row, next_row, seize, leave, set_bound, expire, hold_batch, release_batch, prepare, harden, discard, CanMove, move_row};
+ghost use Rattle.mq_spec_agents.specs.Words.{IsUp, IsSenderHere, HasSeized, HasBatch, CanHold, CanPrepare, CanHarden, HasFreeRow, kept, stock, batch_row, next_row, seize, leave, set_bound, expire, hold_batch, release_batch, prepare, harden, discard, CanMove, CanReceive, move_row, receive};
 ghost use Rattle.mq_agents.specs.Ends.{by_agent, by_memory, by_seize, by_prepare, by_place, kept_of, place_and_message};
 ghost use Rattle.mq_steer.specs.Quiet.{quietly, Comes};
 ghost use Rattle.mq_spec_manager.specs.Words.{last_moment};
@@ -16,11 +15,12 @@ ghost use Rattle.mq_law_image.specs.Values.{IsCommandText};
 ghost use Rattle.mq_restart.specs.Returned.{CameUp, Passes, Stayed};
 ghost use Rattle.mq_restart.specs.Stands.{CanStart};
 ghost use Rattle.mq_manager.specs.Due.{next_due};
+ghost use Rattle.mq_manager.specs.Facts.{IsWell, MayCount};
 ghost use Rattle.mq_steer.specs.Turns.{halted};
 ghost use Rattle.mq_spec_manager.specs.Words.{mqconn, mqopen, mqclose, mqput, mqput1, mqget, mqcmit, mqback, mqdisc};
 
 use crate::limit::command_that_fits;
-use crate::notes::{harden_note, prepare_named};
+use crate::notes::{harden_note, prepare_named, receive_named};
 use mq_agents::Hardened;
 use mq_base::NoMemory;
 use mq_calls::{
@@ -44,9 +44,10 @@ use std::marker::Model;
 /// a restart asks of it (`IsKept`).
 #[derive(Drop)]
 pub struct Manager<D: Disk> {
-    core: Core<D>,
+    /// Who changes it leaves the facts and the log as `IsKept` says.
+    pub core: Core<D>,
     /// What restarts have read of the log since the stop.
-    read: LogRead,
+    pub read: LogRead,
 }
 
 impl<D: Disk> Model for Manager<D> {
@@ -93,6 +94,13 @@ impl<D: Disk> Manager<D> {
         }
     }
 
+    /// What holds of it between its calls. It does nothing.
+    pub fn facts(&self)
+        ensures well { IsWell self.now.plain }
+    {
+        let _ = &self.core;
+    }
+
     /// Whether the manager is up. It takes no memory.
     pub fn is_up(&self) -> bool
         ensures { result ≡ is_up self.now.plain.running }
@@ -122,8 +130,9 @@ impl<D: Disk> Manager<D> {
     }
 
     /// MQCONN (MQI reference).
+    #[tactic(auto, using(crate::proofs::CountLaws::can_count))]
     pub fn mqconn(&mut self, qmgr: &QName, appl: &Appl) -> Result<Answer<Hconn>, Halt<Reason>>
-        requires low { CanCount self.old.plain }
+        requires low { MayCount self.old.plain }
         ensures meets { Meets (manager_of self.old) (mqconn qmgr.now appl.now self.old.plain) result (manager_of self.new) }
         ensures told { WritesLog self.old (mqconn qmgr.now appl.now self.old.plain) result self.new }
     {
@@ -131,6 +140,7 @@ impl<D: Disk> Manager<D> {
     }
 
     /// MQOPEN (MQI reference).
+    #[tactic(auto, using(crate::proofs::CountLaws::can_count))]
     pub fn mqopen(
         &mut self,
         hc: Hconn,
@@ -138,7 +148,7 @@ impl<D: Disk> Manager<D> {
         qmgr: &QName,
         how: &Open,
     ) -> Result<Answer<Hobj>, Halt<Reason>>
-        requires low { CanCount self.old.plain }
+        requires low { MayCount self.old.plain }
         ensures meets { Meets (manager_of self.old) (mqopen hc name.now qmgr.now how.now self.old.plain) result (manager_of self.new) }
         ensures told { WritesLog self.old (mqopen hc name.now qmgr.now how.now self.old.plain) result self.new }
     {
@@ -154,6 +164,7 @@ impl<D: Disk> Manager<D> {
     }
 
     /// MQPUT (MQI reference).
+    #[tactic(auto, using(crate::proofs::CountLaws::can_count))]
     pub fn mqput(
         &mut self,
         hc: Hconn,
@@ -162,7 +173,7 @@ impl<D: Disk> Manager<D> {
         body: &[u8],
         sync: bool,
     ) -> Result<Answer<Sent>, Halt<Reason>>
-        requires low { CanCount self.old.plain }
+        requires low { MayCount self.old.plain }
         ensures meets { Meets (manager_of self.old) (mqput hc ho md.now body.now sync self.old.plain) result (manager_of self.new) }
         ensures told { WritesLog self.old (mqput hc ho md.now body.now sync self.old.plain) result self.new }
     {
@@ -170,6 +181,7 @@ impl<D: Disk> Manager<D> {
     }
 
     /// MQPUT1 (MQI reference).
+    #[tactic(auto, using(crate::proofs::CountLaws::can_count))]
     pub fn mqput1(
         &mut self,
         hc: Hconn,
@@ -179,7 +191,7 @@ impl<D: Disk> Manager<D> {
         body: &[u8],
         sync: bool,
     ) -> Result<Answer<Sent>, Halt<Reason>>
-        requires low { CanCount self.old.plain }
+        requires low { MayCount self.old.plain }
         ensures meets { Meets (manager_of self.old) (mqput1 hc name.now qmgr.now md.now body.now sync self.old.plain) result (manager_of self.new) }
         ensures told { WritesLog self.old (mqput1 hc name.now qmgr.now md.now body.now sync self.old.plain) result self.new }
     {
@@ -201,8 +213,9 @@ impl<D: Disk> Manager<D> {
     }
 
     /// MQCMIT (MQI reference). It takes no memory.
+    #[tactic(auto, using(crate::proofs::CountLaws::can_count))]
     pub fn mqcmit(&mut self, hc: Hconn) -> Result<Answer<()>, Halt<Reason>>
-        requires low { CanCount self.old.plain }
+        requires low { MayCount self.old.plain }
         ensures meets { MeetsInRoom (manager_of self.old) (mqcmit hc self.old.plain) result (manager_of self.new) }
         ensures told { WritesLog self.old (mqcmit hc self.old.plain) result self.new }
     {
@@ -218,8 +231,9 @@ impl<D: Disk> Manager<D> {
     }
 
     /// MQDISC (MQI reference). It takes no memory.
+    #[tactic(auto, using(crate::proofs::CountLaws::can_count))]
     pub fn mqdisc(&mut self, hc: Hconn) -> Result<Answer<()>, Halt<Reason>>
-        requires low { CanCount self.old.plain }
+        requires low { MayCount self.old.plain }
         ensures meets { MeetsInRoom (manager_of self.old) (mqdisc hc self.old.plain) result (manager_of self.new) }
         ensures told { WritesLog self.old (mqdisc hc self.old.plain) result self.new }
     {
@@ -239,8 +253,9 @@ impl<D: Disk> Manager<D> {
     /// # Errors
     ///
     /// No memory; the trigger stays due.
+    #[tactic(auto, using(crate::proofs::CountLaws::can_count))]
     pub fn trigger_turn(&mut self) -> Result<bool, NoMemory>
-        requires low { CanCount self.old.plain }
+        requires low { MayCount self.old.plain }
         ensures meets { Meets (manager_of self.old) (trigger_turn self.old.plain) (halted result) (manager_of self.new) }
         ensures told { WritesLog self.old (trigger_turn self.old.plain) (halted result) self.new }
     {
@@ -450,6 +465,32 @@ impl<D: Disk> Manager<D> {
         harden_note(&mut self.core, channel, note)
     }
 
+    /// A receiver commits the messages of a unit, with the last sequence number: each lands on its queue or, with its reason, on the
+    /// dead-letter queue; one whose ident stands here otherwise is left out. One forced record tells of those that last and of the
+    /// unit.
+    ///
+    /// # Errors
+    ///
+    /// Refused: by the first message that can neither be put nor be a dead letter, with its put's reason; 2102 where the log has no
+    /// room. Stop: the disk or the cut stopped the write, and the manager is down; no memory, and nothing has changed: also where the
+    /// channel's name is blank, whose record no restart would read.
+    #[tactic(auto, using(crate::proofs::CountLaws::can_count))]
+    pub fn receive(
+        &mut self,
+        channel: &ChName,
+        unit: &Unit,
+        last: u32,
+        batch: &[Message],
+    ) -> Result<(), PlaceFault>
+        requires up { IsUp self.old.plain }
+        requires low { MayCount self.old.plain }
+        requires can { CanReceive channel.now unit.now self.old.plain }
+        ensures meets { MeetsOrWants (manager_of self.old) (receive channel.now unit.now last batch.now self.old.plain) (by_place result) (manager_of self.new) }
+        ensures told { WritesLog self.old (receive channel.now unit.now last batch.now self.old.plain) (by_place result) self.new }
+    {
+        receive_named(&mut self.core, channel, unit, last, batch)
+    }
+
     /// The row of an ident goes to the end of a rule's route: FWD, or RETRY; without its header where `bare`. Where its message
     /// lasts, it goes behind one forced record, in which it leaves the one queue and stands on the other.
     ///
@@ -457,6 +498,7 @@ impl<D: Disk> Manager<D> {
     ///
     /// Refused: what name resolution refuses, 2045, 2051, 2030, 2031, 2053, and 2102 where the message lasts and the log has no
     /// room for its record. The disk or the cut stopped the write, and the manager is down; no memory, and nothing has changed.
+    #[tactic(auto, using(crate::proofs::CountLaws::can_count))]
     pub fn move_row(
         &mut self,
         from: &QName,
@@ -465,7 +507,7 @@ impl<D: Disk> Manager<D> {
         bare: bool,
     ) -> Result<(), PlaceFault>
         requires up { IsUp self.old.plain }
-        requires low { CanCount self.old.plain }
+        requires low { MayCount self.old.plain }
         requires can { CanMove from.now ident.now bare self.old.plain }
         ensures meets { MeetsOrWants (manager_of self.old) (move_row from.now ident.now to.now bare self.old.plain) (by_place result) (manager_of self.new) }
         ensures told { WritesLog self.old (move_row from.now ident.now to.now bare self.old.plain) (by_place result) self.new }

@@ -1,16 +1,19 @@
 //! What channel ends write, of channels whose names are not blank and with sessions that a restart reads.
 ghost use Rattle.mq_spec_state.specs.Words.{MeetsOrWants};
 ghost use Rattle.std.specs.Prelude.{◌≡◌, false};
-ghost use Rattle.mq_spec_agents.specs.Words.{IsUp, CanPrepare, harden, prepare};
-ghost use Rattle.mq_agents.specs.Ends.{by_agent, by_prepare};
+ghost use Rattle.mq_spec_agents.specs.Words.{IsUp, CanPrepare, harden, prepare, receive};
+ghost use Rattle.mq_agents.specs.Ends.{by_agent, by_place, by_prepare};
+ghost use Rattle.mq_law_manager.specs.Facts.{Sound, AreNamed};
+ghost use Rattle.mq_core.specs.Counting.{CanCount};
 ghost use Rattle.mq_core.specs.Values.{WritesLog, begun_call, manager_of};
 ghost use Rattle.mq_manager.specs.Reads.{has_name, is_low, can_harden};
 
-use mq_calls::{AgentStop, Note, PrepareFault};
+use mq_calls::{AgentStop, Note, PlaceFault, PrepareFault};
 use mq_core::Core;
 use mq_disk::Disk;
+use mq_message::Message;
 use mq_name::ChName;
-use mq_sync::End;
+use mq_sync::{End, Unit};
 
 /// The first session that no restart would read.
 const HIGH_SESSION: u64 = 2_305_843_009_213_693_952;
@@ -76,6 +79,30 @@ pub fn prepare_named<D: Disk>(
         return Err(PrepareFault::Stop(AgentStop::NoMemory));
     }
     mq_agents::prepare(core, channel, last)
+}
+
+/// A receiver commits the messages of a unit; where the channel's name is blank, there is no memory for it.
+#[tactic(auto, using(crate::proofs::WantLaws::receive_wants, crate::proofs::WantLaws::receive_untold))]
+pub fn receive_named<D: Disk>(
+    core: &mut Core<D>,
+    channel: &ChName,
+    unit: &Unit,
+    last: u32,
+    batch: &[Message],
+) -> Result<(), PlaceFault>
+    requires up { IsUp core.old.plain }
+    requires low { CanCount core.old.plain }
+    requires sound { Sound core.old.plain }
+    requires named { AreNamed core.old.plain.queues }
+    ensures meets { MeetsOrWants (manager_of core.old) (receive channel.now unit.now last batch.now core.old.plain) (by_place result) (manager_of core.new) }
+    ensures told { WritesLog core.old (receive channel.now unit.now last batch.now core.old.plain) (by_place result) core.new }
+    ensures unfit { has_name channel.now ≡ false → core.new ≡ begun_call core.old }
+{
+    if !has_name(channel) {
+        core.begin_call();
+        return Err(PlaceFault::Stop(AgentStop::NoMemory));
+    }
+    mq_receive::receive(core, channel, unit, last, batch)
 }
 
 fn harden_kind<D: Disk>(core: &mut Core<D>, channel: &ChName, note: &Note) -> Result<(), AgentStop>

@@ -1,6 +1,6 @@
 //! The calls of a manager as events.
 ghost use Rattle.std.specs.Prelude.{◌≡◌, [], Some};
-ghost use Rattle.mq_core.specs.Counting.{CanCount};
+ghost use Rattle.mq_manager.specs.Facts.{MayCount};
 ghost use Rattle.mq_history.specs.declared.calls.Call.TheVariants as calls;
 ghost use Rattle.mq_history.specs.declared.calls.Reply.TheVariants as replies;
 ghost use Rattle.mq_outcomes.specs.Outcomes.{part_by, choice_by, reply_by, is_wanting, outcome_of, next_due, TurnEnds, Ends, EndsSo};
@@ -101,7 +101,7 @@ fn sent(ended: Result<Answer<Sent>, Halt<Reason>>) -> Reply
 
 /// MQCONN as an event.
 pub fn mqconn<D: Disk>(manager: &mut Manager<D>, qmgr: &QName, appl: &Appl) -> Outcome
-    requires low { CanCount manager.old.plain }
+    requires low { MayCount manager.old.plain }
     ensures { EndsSo (calls.Mqconn qmgr.now appl.now) manager.old result manager.new }
 {
     let ended = manager.mqconn(qmgr, appl);
@@ -122,7 +122,7 @@ pub fn mqopen<D: Disk>(
     qmgr: &QName,
     how: &Open,
 ) -> Outcome
-    requires low { CanCount manager.old.plain }
+    requires low { MayCount manager.old.plain }
     ensures { EndsSo (calls.Mqopen hc name.now qmgr.now how.now) manager.old result manager.new }
 {
     let ended = manager.mqopen(hc, name, qmgr, how);
@@ -158,7 +158,7 @@ pub fn mqput<D: Disk>(
     body: &[u8],
     sync: bool,
 ) -> Outcome
-    requires low { CanCount manager.old.plain }
+    requires low { MayCount manager.old.plain }
     ensures { EndsSo (calls.Mqput hc ho md.now body.now sync) manager.old result manager.new }
 {
     let ended = manager.mqput(hc, ho, md, body, sync);
@@ -181,7 +181,7 @@ pub fn mqput1<D: Disk>(
     body: &[u8],
     sync: bool,
 ) -> Outcome
-    requires low { CanCount manager.old.plain }
+    requires low { MayCount manager.old.plain }
     ensures { EndsSo (calls.Mqput1 hc name.now qmgr.now md.now body.now sync) manager.old result manager.new }
 {
     let ended = manager.mqput1(hc, name, qmgr, md, body, sync);
@@ -196,7 +196,7 @@ pub fn mqput1<D: Disk>(
 
 /// MQCMIT as an event.
 pub fn mqcmit<D: Disk>(manager: &mut Manager<D>, hc: Hconn) -> Outcome
-    requires low { CanCount manager.old.plain }
+    requires low { MayCount manager.old.plain }
     ensures { EndsSo (calls.Mqcmit hc) manager.old result manager.new }
 {
     let done = manager.mqcmit(hc);
@@ -225,7 +225,7 @@ pub fn mqback<D: Disk>(manager: &mut Manager<D>, hc: Hconn) -> Outcome
 
 /// MQDISC as an event.
 pub fn mqdisc<D: Disk>(manager: &mut Manager<D>, hc: Hconn) -> Outcome
-    requires low { CanCount manager.old.plain }
+    requires low { MayCount manager.old.plain }
     ensures { EndsSo (calls.Mqdisc hc) manager.old result manager.new }
 {
     let done = manager.mqdisc(hc);
@@ -321,7 +321,7 @@ pub fn mqget<D: Disk>(
 ///
 /// No memory; nothing has changed.
 pub fn trigger<D: Disk>(manager: &mut Manager<D>, queue: QName) -> Result<Outcome, NoMemory>
-    requires low { CanCount manager.old.plain }
+    requires low { MayCount manager.old.plain }
     requires due { next_due manager.old.plain ≡ Some queue }
     ensures { TurnEnds manager.old result manager.new }
 {

@@ -1,8 +1,9 @@
 use Rattle.std.proofs.Common.{◌^◌, sym, subst, arith}
-use Rattle.mq_core.specs.Counting.{CanCount}
 use Rattle.mq_core.specs.Values.{CoreValue}
 use Rattle.mq_manager.proofs.CallLaws.{kept_open}
+use Rattle.mq_manager.proofs.CountLaws.{can_count}
 use Rattle.mq_manager.proofs.WellLaws.{handle_low}
+use Rattle.mq_manager.specs.Facts.{MayCount}
 use Rattle.mq_manager.proofs.manager.Manager.mqopen.Goals as goal
 
 pub invariant_of-self : goal.invariant_of-self
@@ -10,5 +11,5 @@ invariant_of-self g c = kept_open g.D.Disk.tells c.self.inside.read c.self.insid
 
 pub mqopen-requires : goal.mqopen-requires
 mqopen-requires g c =
-    let low = subst (λ (v : CoreValue). CanCount v.plain) (sym c.self.view_is) c.requires.low in
+    let low = can_count c.self.inside.core.plain c.self.invariant.well (subst (λ (v : CoreValue). MayCount v.plain) (sym c.self.view_is) c.requires.low) in
     record { count = handle_low (2 ^ 63) c.args.hc.number c.self.inside.core.plain.connections low.handles (omega arith) }
