@@ -18,7 +18,7 @@ use Rattle.mq_progress.specs.Course.{Course, Finished, call_in, next_in, until_i
 use Rattle.mq_events.specs.States.{NodeState, node_in}
 use Rattle.mq_events.specs.Events.{Adds, Stays}
 use Rattle.mq_asked.specs.Asks.{IsDoneCall, IsGet, Made, MayWait}
-use Rattle.mq_advance.specs.Advances.{Advances, IsDoneLine, Keeps, last_entry}
+use Rattle.mq_advance.specs.Advances.{Advances, IsTextLine, Keeps, last_entry}
 use Rattle.mq_advance.specs.declared.advancing.Advanced.{Advanced}
 use Rattle.mq_advance.specs.declared.advancing.Advanced.TheVariants as advances
 
@@ -41,8 +41,8 @@ behind (x ∷ y ∷ es) e = behind (y ∷ es) e
 pub adds_last : (who : Actor) (what : Call) (e : Entry) (old new : NodeState) → Adds who what e old new → last_entry new.history.entries ≡ Some e
 adds_last who what e old new a = ap (λ (h : History). last_entry h.entries) a.grows.history ∙ behind old.history.entries e
 
--- the call of a line that is done today is one that a node does
-pub line_does : (label : List ℕ) (m : Memory) (until : Option ℕ) (l : ScriptLine) → IsDoneLine l → IsDoneCall (line_call label m until l)
+-- the call of a line is one that a node does
+pub line_does : (label : List ℕ) (m : Memory) (until : Option ℕ) (l : ScriptLine) → IsTextLine l → IsDoneCall (line_call label m until l)
 line_does label m until (lines.Mqconn name) d = tt
 line_does label m until lines.Mqdisc d = tt
 line_does label m until lines.Mqcmit d = tt
@@ -54,10 +54,10 @@ line_does label m until (lines.Mqput1 name qmgr body o) d = tt
 line_does label m until (lines.Reply body o) d = tt
 line_does label m until (lines.Mqget handle o) d = tt
 line_does label m until (lines.Mqsc (commands.Objects c)) d = d
-line_does label m until (lines.Mqsc (commands.Operate op)) d = absurd d
-line_does label m until (lines.Mqsc (commands.ShowStatus name any_end)) d = absurd d
+line_does label m until (lines.Mqsc (commands.Operate op)) d = tt
+line_does label m until (lines.Mqsc (commands.ShowStatus name any_end)) d = tt
 line_does label m until lines.Crash d = tt
-line_does label m until lines.Restart d = absurd d
+line_does label m until lines.Restart d = tt
 line_does label m until (lines.Cut j) d = tt
 
 -- a get that may wait still has a deadline
@@ -100,7 +100,7 @@ kept_none : (until : Option ℕ) (moment : ℕ) → until ≡ None → deadline_
 kept_none None moment e = refl
 kept_none (Some u) moment e = absurd cc
 
-next_makes : (k : ℕ) (p : ScriptPart) (c : Course) (l : ScriptLine) (n : Node) → IsDoneLine l → Keeps c.until l → (IsGet (call_in p c n.manager.moment l) → is_none (deed_of 0 (actors.Script k) (call_in p c n.manager.moment l) items.Nothing n) ≡ false)
+next_makes : (k : ℕ) (p : ScriptPart) (c : Course) (l : ScriptLine) (n : Node) → IsTextLine l → Keeps c.until l → (IsGet (call_in p c n.manager.moment l) → is_none (deed_of 0 (actors.Script k) (call_in p c n.manager.moment l) items.Nothing n) ≡ false)
     → next_in k p c (Some l) n ≡ Makes (call_in p c n.manager.moment l)
 next_makes k p c (lines.Mqconn name) n d kept some = makes_some (waits_at k (call_in p c n.manager.moment (lines.Mqconn name)) n) (until_in c n.manager.moment (lines.Mqconn name)) (call_in p c n.manager.moment (lines.Mqconn name)) refl
 next_makes k p c lines.Mqdisc n d kept some = makes_some (waits_at k (call_in p c n.manager.moment lines.Mqdisc) n) (until_in c n.manager.moment lines.Mqdisc) (call_in p c n.manager.moment lines.Mqdisc) refl
@@ -113,10 +113,10 @@ next_makes k p c (lines.Mqput1 name qmgr body o) n d kept some = makes_some (wai
 next_makes k p c (lines.Reply body o) n d kept some = makes_some (waits_at k (call_in p c n.manager.moment (lines.Reply body o)) n) (until_in c n.manager.moment (lines.Reply body o)) (call_in p c n.manager.moment (lines.Reply body o)) refl
 next_makes k p c (lines.Mqget handle o) n d kept some = makes_some (waits_at k (call_in p c n.manager.moment (lines.Mqget handle o)) n) (until_in c n.manager.moment (lines.Mqget handle o)) (call_in p c n.manager.moment (lines.Mqget handle o)) (some tt)
 next_makes k p c (lines.Mqsc (commands.Objects x)) n d kept some = makes_some (waits_at k (call_in p c n.manager.moment (lines.Mqsc (commands.Objects x))) n) (until_in c n.manager.moment (lines.Mqsc (commands.Objects x))) (call_in p c n.manager.moment (lines.Mqsc (commands.Objects x))) refl
-next_makes k p c (lines.Mqsc (commands.Operate op)) n d kept some = absurd d
-next_makes k p c (lines.Mqsc (commands.ShowStatus name any_end)) n d kept some = absurd d
+next_makes k p c (lines.Mqsc (commands.Operate op)) n d kept some = makes_some (waits_at k (call_in p c n.manager.moment (lines.Mqsc (commands.Operate op))) n) (until_in c n.manager.moment (lines.Mqsc (commands.Operate op))) (call_in p c n.manager.moment (lines.Mqsc (commands.Operate op))) refl
+next_makes k p c (lines.Mqsc (commands.ShowStatus name any_end)) n d kept some = makes_some (waits_at k (call_in p c n.manager.moment (lines.Mqsc (commands.ShowStatus name any_end))) n) (until_in c n.manager.moment (lines.Mqsc (commands.ShowStatus name any_end))) (call_in p c n.manager.moment (lines.Mqsc (commands.ShowStatus name any_end))) refl
 next_makes k p c lines.Crash n d kept some = makes_none (waits_at k (call_in p c n.manager.moment lines.Crash) n) (until_in c n.manager.moment lines.Crash) (call_in p c n.manager.moment lines.Crash) (kept_none c.until n.manager.moment kept)
-next_makes k p c lines.Restart n d kept some = absurd d
+next_makes k p c lines.Restart n d kept some = makes_none (waits_at k (call_in p c n.manager.moment lines.Restart) n) (until_in c n.manager.moment lines.Restart) (call_in p c n.manager.moment lines.Restart) (kept_none c.until n.manager.moment kept)
 next_makes k p c (lines.Cut j) n d kept some = makes_none (waits_at k (call_in p c n.manager.moment (lines.Cut j)) n) (until_in c n.manager.moment (lines.Cut j)) (call_in p c n.manager.moment (lines.Cut j)) (kept_none c.until n.manager.moment kept)
 
 -- the three ends of a line
@@ -127,7 +127,7 @@ if_some : {A : Type 0} (P : A → Type 0) (o : Option A) (a : A) → o ≡ Some 
 if_some P None a e h = absurd cc
 if_some P (Some b) a e h = subst P (some_is b a e) h
 
-pub line_comes : (k : ℕ) (p : ScriptPart) (l : ScriptLine) (c d : Course) (old new : NodeState) → slice_get p.lines c.done ≡ Some l → IsDoneLine l → Keeps c.until l
+pub line_comes : (k : ℕ) (p : ScriptPart) (l : ScriptLine) (c d : Course) (old new : NodeState) → slice_get p.lines c.done ≡ Some l → IsTextLine l → Keeps c.until l
     → (m : Made (actors.Script k) (call_in p c old.manager.plain.moment l) old new) → IfSome (last_entry new.history.entries) (λ (e : Entry). Finished l e.reply c d) → Advances k p c old (Ok advances.Done) d new
 line_comes k p l c d old new is does keeps m f = record {
   line = l;

@@ -8,19 +8,19 @@ use Rattle.mq_spec_node.specs.Lines.Next.{Waits, Makes}
 use Rattle.mq_progress.specs.Course.{Course, Finished, call_in, next_in}
 use Rattle.mq_events.specs.States.{NodeState, node_in}
 use Rattle.mq_events.specs.Events.{Adds, Stays}
-use Rattle.mq_asked.specs.Asks.{IsDoneCommand}
+use Rattle.mq_events.specs.Texts.{IsTextCommand}
 use Rattle.mq_advance.specs.declared.advancing.Advanced.{Advanced}
 use Rattle.mq_advance.specs.declared.advancing.Advanced.TheVariants as advances
 
--- a line whose call a node does today
-abbrev pub IsDoneLine : ScriptLine → Type 0
-IsDoneLine (lines.Mqsc command) = IsDoneCommand command
-IsDoneLine lines.Restart = ⊥
-IsDoneLine _ = Unit {0}
+-- a line whose command, if it has one, is such as a text of commands gives
+abbrev pub IsTextLine : ScriptLine → Type 0
+IsTextLine (lines.Mqsc command) = IsTextCommand command
+IsTextLine _ = Unit {0}
 
 -- a deadline is kept of a get alone
 abbrev pub Keeps : Option ℕ → ScriptLine → Type 0
 Keeps until lines.Crash = until ≡ None
+Keeps until lines.Restart = until ≡ None
 Keeps until (lines.Cut k) = until ≡ None
 Keeps until _ = Unit {0}
 

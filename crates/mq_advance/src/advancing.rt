@@ -5,7 +5,7 @@ ghost use Rattle.mq_advance.specs.declared.advancing.Advanced.TheVariants as adv
 ghost use Rattle.mq_events.specs.States.{IsServed};
 ghost use Rattle.mq_events.specs.Events.{MayAct};
 ghost use Rattle.mq_progress.specs.Course.{Finished, until_in};
-ghost use Rattle.mq_advance.specs.Advances.{Advances, IsDoneLine, Keeps, last_entry};
+ghost use Rattle.mq_advance.specs.Advances.{Advances, IsTextLine, Keeps, last_entry};
 
 use mq_asked::ask;
 use mq_base::NoMemory;
@@ -76,7 +76,7 @@ fn do_line<D: Disk>(
     requires served { IsServed node.old }
     requires may { MayAct node.old }
     requires is { slice_get part.now.lines progress.old.done ≡ Some line.now }
-    requires does { IsDoneLine line.now }
+    requires text { IsTextLine line.now }
     requires keeps { Keeps progress.old.until line.now }
     requires room { 0 < progress.old.room }
     requires more { progress.old.done < 2 ^ 32 }
@@ -112,7 +112,7 @@ pub fn advance<D: Disk>(
 ) -> Result<Advanced, NoMemory>
     requires served { IsServed node.old }
     requires may { MayAct node.old }
-    requires does { IfSome (slice_get part.now.lines progress.old.done) IsDoneLine }
+    requires text { IfSome (slice_get part.now.lines progress.old.done) IsTextLine }
     requires keeps { IfSome (slice_get part.now.lines progress.old.done) (Keeps progress.old.until) }
     requires more { progress.old.done < 2 ^ 32 }
     ensures { Advances number part.now progress.old node.old result progress.new node.new }

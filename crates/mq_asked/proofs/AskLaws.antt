@@ -1,5 +1,5 @@
 -- What is asked of a node, as an event.
-use Rattle.std.proofs.Common.{◌≡◌, ◌+◌, Bool, true, false, refl, sym, subst}
+use Rattle.std.proofs.Common.{◌≡◌, ◌+◌, Bool, true, false, refl, sym, subst, arith}
 use Rattle.std.specs.Prelude.{Option, Some, None, Result, Ok, Err}
 use Rattle.mq_base.specs.declared.want.NoMemory.{NoMemory}
 use Rattle.mq_frame.specs.declared.frame.Seen.TheVariants as items
@@ -11,6 +11,10 @@ use Rattle.mq_spec_node.specs.Words.{Deed, deed_of, ended_deed, is_none, mqi_dee
 use Rattle.mq_events.specs.States.{NodeState, node_in}
 use Rattle.mq_events.specs.Events.{ActsAs, EventIs, IsMqi}
 use Rattle.mq_asked.specs.Asks.{Comes, IsGet, happened_if, is_mqi}
+
+-- what finds no memory leaves all as it was
+pub unacted : (who : Actor) (asked : Act) (s : NodeState) (x : NoMemory) → ActsAs who (calls.Act asked) s (Err x) s
+unacted who asked s x = record { same = refl; marks = refl; faults = omega arith }
 
 acts_come_so : (who : Actor) (asked : Act) (old : NodeState) (r : Result Acted NoMemory) (new : NodeState) → ActsAs who (calls.Act asked) old r new → Comes who (calls.Act asked) old (happened_if r) new
 acts_come_so who asked old (Ok a) new h = record { entry = h.0; adds = h.1; deed = λ g. absurd g }

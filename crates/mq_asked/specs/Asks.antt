@@ -2,14 +2,12 @@
 use Rattle.std.specs.Prelude.{◌≡◌, Bool, true, false, None, Result, Ok, Err}
 use Rattle.mq_base.specs.declared.want.NoMemory.{NoMemory}
 use Rattle.mq_frame.specs.declared.frame.Seen.TheVariants as items
-use Rattle.mq_history.specs.declared.acts.Act.TheVariants as acts
 use Rattle.mq_history.specs.declared.calls.Call.TheVariants as calls
-use Rattle.mq_sc_parse.specs.declared.command.Command.TheVariants as commands
-use Rattle.mq_law_image.specs.Values.{IsCommandText}
-use Rattle.mq_spec_node.specs.Terms.{Act, Acted, Actor, Call, Command, Entry}
+use Rattle.mq_spec_node.specs.Terms.{Acted, Actor, Call, Entry}
 use Rattle.mq_spec_node.specs.Words.{deed_of, is_none}
 use Rattle.mq_events.specs.States.{NodeState, node_in}
 use Rattle.mq_events.specs.Events.{Adds, Stays}
+use Rattle.mq_events.specs.Texts.{IsTextAct}
 
 -- an MQI call
 abbrev pub is_mqi : Call → Bool
@@ -24,22 +22,10 @@ abbrev pub happened_if : Result Acted NoMemory → Result Bool NoMemory
 happened_if (Ok acted) = Ok true
 happened_if (Err e) = Err e
 
--- What a node does today: MQI calls, stops, cuts, clock advances, and commands on objects whose values are such as a text of commands
+-- What a script or an operator asks for: MQI calls and acts; of commands on objects those whose values are such as a text of commands
 -- gives.
-abbrev pub IsDoneCommand : Command → Type 0
-IsDoneCommand (commands.Objects c) = IsCommandText c
-IsDoneCommand (commands.Operate op) = ⊥
-IsDoneCommand (commands.ShowStatus name any_end) = ⊥
-
-abbrev pub IsDoneAct : Act → Type 0
-IsDoneAct (acts.Obey c) = IsDoneCommand c
-IsDoneAct acts.Crash = Unit {0}
-IsDoneAct acts.Restart = ⊥
-IsDoneAct (acts.Cut k) = Unit {0}
-IsDoneAct (acts.Clock by) = Unit {0}
-
 abbrev pub IsDoneCall : Call → Type 0
-IsDoneCall (calls.Act act) = IsDoneAct act
+IsDoneCall (calls.Act act) = IsTextAct act
 IsDoneCall calls.Turn = ⊥
 IsDoneCall calls.Timeout = ⊥
 IsDoneCall calls.Trigger = ⊥

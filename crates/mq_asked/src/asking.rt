@@ -2,8 +2,9 @@
 ghost use Rattle.std.specs.Prelude.{◌≡◌, false};
 ghost use Rattle.mq_history.specs.declared.calls.Call.TheVariants as calls;
 ghost use Rattle.mq_events.specs.States.{IsServed};
-ghost use Rattle.mq_events.specs.Events.{MayAct};
-ghost use Rattle.mq_asked.specs.Asks.{Comes, IsDoneAct, IsDoneCall, happened_if, is_mqi};
+ghost use Rattle.mq_events.specs.Events.{ActsAs, MayAct};
+ghost use Rattle.mq_events.specs.Texts.{IsTextAct};
+ghost use Rattle.mq_asked.specs.Asks.{Comes, IsDoneCall, happened_if, is_mqi};
 
 use mq_base::NoMemory;
 use mq_disk::Disk;
@@ -31,24 +32,24 @@ fn happened(acted: Result<Acted, NoMemory>) -> Result<bool, NoMemory>
     }
 }
 
-/// What is asked beside MQI calls.
+/// An act, as an event. Restarts, commands on channel ends and DISPLAY CHSTATUS find no memory here.
 ///
 /// # Errors
 ///
 /// No memory; nothing has changed.
-#[tactic(auto, using(crate::proofs::AskLaws::acts_come))]
-fn act<D: Disk>(node: &mut Node<D>, actor: Actor, asked: Act) -> Result<bool, NoMemory>
+#[tactic(auto, using(crate::proofs::AskLaws::unacted))]
+fn act<D: Disk>(node: &mut Node<D>, actor: Actor, asked: Act) -> Result<Acted, NoMemory>
     requires served { IsServed node.old }
     requires may { MayAct node.old }
-    requires does { IsDoneAct asked }
-    ensures { Comes actor (calls.Act asked) node.old result node.new }
+    requires text { IsTextAct asked }
+    ensures { ActsAs actor (calls.Act asked) node.old result node.new }
 {
     match asked {
-        Act::Crash => happened(node.crash(actor)),
-        Act::Cut(k) => happened(node.cut(actor, k)),
-        Act::Clock(by) => happened(node.advance_clock(actor, by)),
-        Act::Obey(Command::Objects(command)) => happened(node.command(actor, command)),
-        Act::Obey(_) | Act::Restart => unreachable!(),
+        Act::Crash => node.crash(actor),
+        Act::Cut(k) => node.cut(actor, k),
+        Act::Clock(by) => node.advance_clock(actor, by),
+        Act::Obey(Command::Objects(command)) => node.command(actor, command),
+        Act::Obey(_) | Act::Restart => Err(NoMemory),
     }
 }
 
@@ -57,6 +58,7 @@ fn act<D: Disk>(node: &mut Node<D>, actor: Actor, asked: Act) -> Result<bool, No
 /// # Errors
 ///
 /// No memory; nothing has changed.
+#[tactic(auto, using(crate::proofs::AskLaws::acts_come))]
 fn ask_act<D: Disk>(node: &mut Node<D>, actor: Actor, asked: Call) -> Result<bool, NoMemory>
     requires served { IsServed node.old }
     requires may { MayAct node.old }
@@ -65,7 +67,7 @@ fn ask_act<D: Disk>(node: &mut Node<D>, actor: Actor, asked: Call) -> Result<boo
     ensures { Comes actor asked node.old result node.new }
 {
     match asked {
-        Call::Act(asked) => act(node, actor, asked),
+        Call::Act(asked) => happened(act(node, actor, asked)),
         _ => unreachable!(),
     }
 }

@@ -63,9 +63,15 @@ AllBegan tells held moment place [] (core ∷ cores) = ⊥
 AllBegan tells held moment place (l ∷ ls) [] = ⊥
 AllBegan tells held moment place (l ∷ ls) (core ∷ cores) = BeginsOn tells (held l.name) (given_at place l) moment core × AllBegan tells held moment (suc place) ls cores
 
--- One did not: those before it had begun, and the disks that were taken are handed back.
+-- One did not, or there was no memory for what is kept beside them all: those before it had begun, and the disks that were taken are
+-- handed back.
+abbrev pub IsWant : NetFault → Type 0
+IsWant faults.DiskFault = ⊥
+IsWant (faults.BadLog m gate) = ⊥
+IsWant faults.NoMemory = Unit {0}
+
 abbrev pub RefusesAt : (tells : Type 0) (held : Held) (place old new : ℕ) → Option ℕ → NetFault → Option ManagerLine → Type 0
-RefusesAt tells held place old new own fault None = ⊥
+RefusesAt tells held place old new own fault None = IsWant fault
 RefusesAt tells held place old new own fault (Some l) = Refuses tells (held l.name) place (given_at place l) old new own fault
 
 pub record NotBegan (tells : Type 0) (held : Held) (moment : ℕ) (ls : List ManagerLine) (old new : ℕ) (counts : List ℕ) (fault : NetFault) : Type 0 where

@@ -1,5 +1,6 @@
 //! Why the managers of a scenario were not begun.
 use mq_disk::Disk;
+use mq_manager::Manager;
 
 /// Why a network was not begun.
 #[derive(Clone, Copy, Debug, PartialEq, Eq)]
@@ -18,5 +19,13 @@ pub struct NoNet<D: Disk> {
     /// Why it was not.
     pub fault: NetFault,
     /// The disks that were taken, in the order of the managers.
+    pub disks: Vec<D>,
+}
+
+/// The managers of a scenario that have begun, in its order.
+#[derive(Drop)]
+pub struct Begun<D: Disk> {
+    pub managers: Vec<Manager<D>>,
+    /// Room for the disk of each of them, and of one more.
     pub disks: Vec<D>,
 }

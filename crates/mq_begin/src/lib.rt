@@ -5,5 +5,5 @@ mod beginning;
 mod faults;
 mod one;
 
-pub use beginning::{begin_managers, first_moment};
-pub use faults::{NetFault, NoNet};
+pub use beginning::{begin_managers, disks_of, first_moment};
+pub use faults::{Begun, NetFault, NoNet};

@@ -7,10 +7,9 @@ ghost use Rattle.mq_begin.specs.Begun.{BeginsOn, Refuses, given_at, net_fault, t
 
 use crate::faults::NetFault;
 use mq_calls::BeginFault;
-use mq_core::Core;
 use mq_disk::{Cutter, Disk, Shelf, Side, TakeFault};
 use mq_history::ManagerLine;
-use mq_start::begin;
+use mq_manager::Manager;
 use std::alloc::Global;
 
 /// A manager that was not begun, with its disk, if that was taken.
@@ -46,11 +45,11 @@ pub(crate) fn begin_one<H: Shelf>(
     place: u16,
     line: &ManagerLine,
     moment: u64,
-) -> Result<Core<H::D>, Refused<H::D>>
+) -> Result<Manager<H::D>, Refused<H::D>>
     requires place { place < 8 }
     requires max { line.now.log_max ≤ 268435456 }
     requires moment { moment ≤ last_moment }
-    ensures told { MatchResult result (λ core. BeginsOn H.D.tells (λ b. H.holds shelf.old line.now.name sides.A b) (given_at place line.now) moment core) (λ e. Refuses H.D.tells (λ b. H.holds shelf.old line.now.name sides.A b) place (given_at place line.now) (H.faults shelf.old) (H.faults shelf.new) (option_map H.D.faults e.disk) e.fault) }
+    ensures told { MatchResult result (λ m. BeginsOn H.D.tells (λ b. H.holds shelf.old line.now.name sides.A b) (given_at place line.now) moment m) (λ e. Refuses H.D.tells (λ b. H.holds shelf.old line.now.name sides.A b) place (given_at place line.now) (H.faults shelf.old) (H.faults shelf.new) (option_map H.D.faults e.disk) e.fault) }
     ensures others { (n : List ℕ) (s : Side) (b : List ℕ) → ((n ≡ line.now.name) × (s ≡ sides.A) → ⊥) → H.holds shelf.old n s b → H.holds shelf.new n s b }
     ensures later { H.faults shelf.old ≤ H.faults shelf.new }
 {
@@ -64,7 +63,7 @@ pub(crate) fn begin_one<H: Shelf>(
         }
     };
     let number = place as u8 + 1;
-    match begin(
+    match Manager::begin(
         alloc,
         number,
         &line.name,
@@ -72,7 +71,7 @@ pub(crate) fn begin_one<H: Shelf>(
         u64::from(line.log_max),
         moment,
     ) {
-        Ok(core) => Ok(core),
+        Ok(manager) => Ok(manager),
         Err(unbegun) => {
             let fault = net_fault(place, unbegun.fault);
             Err(Refused {

@@ -86,7 +86,7 @@ use Rattle.mq_law_events.proofs.Stopping.{stops_so, stop_follows, restart_follow
 use Rattle.mq_law_events.proofs.Calling.{objects_follow, shown_follow}
 use Rattle.mq_law_found.proofs.Obeying.{commands_noted}
 use Rattle.mq_law_found.specs.Finds.{IsNoted}
-use Rattle.mq_law_one.specs.Alone.{IsState, IsNotedAt, IsAt, Became, NoOther}
+use Rattle.mq_law_one.specs.Alone.{IsState, IsNotedAt, IsAt, Became, NoOther, as_left}
 use Rattle.mq_law_one.proofs.Noting.{serve_noted}
 use Rattle.mq_law_one.proofs.Happening.{Deeded, deed_of_parts, entry_of, became, nothing, quiet_happens, step_happens, Fits, fits_by}
 use Rattle.mq_law_one.proofs.Calls.{Happens}
@@ -108,13 +108,13 @@ command_follows m given p l c f t h = events.tested_follows m given p l (λ repl
 command_down : (c : Command) (p : Plain) → is_up p.running ≡ false → (reason : ScRefusal) × (command c p ≡ Refuse reason)
 command_down c p e = (refusals.Down, ap (λ t. refused_or (refusal (when (not t) refusals.Down ∷ [])) (planned_step (plan c p.given.name p.definitions (uses_of p)) p.definitions)) e)
 
-command_step : {E : ledgers.Stopped → Noted → Type 0} (m : ℕ) (given : Ident → Bool) (n : Node) (l : Ledger) (e : Entry) (actor : Actor) (choice : Choice) (c : Command) (step : Step ScRefusal Shown) → IsAt E m given n l → Fits m given n.manager l (λ reply ds k. ledgers.obey m (lines.Objects c) k) (calls.Act (acts.Obey (lines.Objects c))) step → CanCome (command_deed n.own step) choice n
+command_step : {E : ledgers.Stopped → Noted → Plain → Type 0} (m : ℕ) (given : Ident → Bool) (n : Node) (l : Ledger) (e : Entry) (actor : Actor) (choice : Choice) (c : Command) (step : Step ScRefusal Shown) → IsAt E m given n l → Fits m given n.manager l (λ reply ds k. ledgers.obey m (lines.Objects c) k) (calls.Act (acts.Obey (lines.Objects c))) step → CanCome (command_deed n.own step) choice n
     → Deeded E m given n l e actor (calls.Act (acts.Obey (lines.Objects c))) choice (command_deed n.own step)
 command_step {E} m given n l e actor choice c (Refuse reason) a fit can = quiet_happens m given n l e actor (calls.Act (acts.Obey (lines.Objects c))) choice (replies.Acted (acted.Sc reason)) a (λ x. refl) can
 command_step {E} m given n l e actor choice c (Do shown parts) a fit can =
     step_happens ScRefusal m given n l e actor (calls.Act (acts.Obey (lines.Objects c))) choice None (λ (s : Shown). replies.Acted (acted.Shown s)) (λ reply ds k. ledgers.obey m (lines.Objects c) k) shown parts a fit.0 fit.1 fit.2 fit.3 fit.4 fit.5 (λ ds. refl) (λ r z. absurd cc) can
 
-pub command_happens : {E : ledgers.Stopped → Noted → Type 0} (m : ℕ) (given : Ident → Bool) (n : Node) (l : Ledger) (e : Entry) (actor : Actor) (choice : Choice) (c : Command) → IsAt E m given n l → CanCome (command_deed n.own (command c n.manager)) choice n
+pub command_happens : {E : ledgers.Stopped → Noted → Plain → Type 0} (m : ℕ) (given : Ident → Bool) (n : Node) (l : Ledger) (e : Entry) (actor : Actor) (choice : Choice) (c : Command) → IsAt E m given n l → CanCome (command_deed n.own (command c n.manager)) choice n
     → Deeded E m given n l e actor (calls.Act (acts.Obey (lines.Objects c))) choice (command_deed n.own (command c n.manager))
 command_happens {E} m given n l e actor choice c a can =
     let p : Plain = n.manager in
@@ -147,7 +147,7 @@ operated_is op n e = go (is_up n.manager.running)
     go true = (op_refusals.NotFound, operated_up op n e)
     go false = (op_refusals.Down, refl)
 
-pub operate_happens : {E : ledgers.Stopped → Noted → Type 0} (m : ℕ) (given : Ident → Bool) (n : Node) (l : Ledger) (e : Entry) (actor : Actor) (choice : Choice) (op : Op) → IsAt E m given n l → n.own.ends ≡ [] → CanCome (operators.operate op n) choice n
+pub operate_happens : {E : ledgers.Stopped → Noted → Plain → Type 0} (m : ℕ) (given : Ident → Bool) (n : Node) (l : Ledger) (e : Entry) (actor : Actor) (choice : Choice) (op : Op) → IsAt E m given n l → n.own.ends ≡ [] → CanCome (operators.operate op n) choice n
     → Deeded E m given n l e actor (calls.Act (acts.Obey (lines.Operate op))) choice (operators.operate op n)
 operate_happens {E} m given n l e actor choice op a none can =
     let d = operated_is op n none in
@@ -165,7 +165,7 @@ shown_quiet m e name any_end l own true (t ∷ ts) = (replies.Acted (acted.Shown
 shown_quiet m e name any_end l own false [] = (replies.Acted (acted.Sc refusals.Missing), refl, (λ c. refl))
 shown_quiet m e name any_end l own false (t ∷ ts) = (replies.Acted (acted.Shown (record { lines = t ∷ ts })), refl, (λ c. refl))
 
-pub status_happens : {E : ledgers.Stopped → Noted → Type 0} (m : ℕ) (given : Ident → Bool) (n : Node) (l : Ledger) (e : Entry) (actor : Actor) (choice : Choice) (name : List ℕ) (any_end : Bool) → IsAt E m given n l → CanCome (show_status name any_end n) choice n
+pub status_happens : {E : ledgers.Stopped → Noted → Plain → Type 0} (m : ℕ) (given : Ident → Bool) (n : Node) (l : Ledger) (e : Entry) (actor : Actor) (choice : Choice) (name : List ℕ) (any_end : Bool) → IsAt E m given n l → CanCome (show_status name any_end n) choice n
     → Deeded E m given n l e actor (calls.Act (acts.Obey (lines.ShowStatus name any_end))) choice (show_status name any_end n)
 status_happens {E} m given n l e actor choice name any_end a can =
     let d = shown_is (is_up n.manager.running) in
@@ -191,21 +191,21 @@ same_state Up (Down z w) p t g e h = absurd cc
 same_state (Down x y) Up p t g e h = absurd cc
 
 -- a note stays with the call that the ledger has as stopped
-still : (E : ledgers.Stopped → Noted → Type 0) (m : ℕ) (x : ledgers.Stopped) (n : Noted) (p : Plain) (s : Running) (moment : ℕ) (g : LogState) → IsNoted m x n p ⊎ E x n → IsNoted m x n (record p { running = s; moment = moment; log = g }) ⊎ E x n
+still : (E : ledgers.Stopped → Noted → Plain → Type 0) (m : ℕ) (x : ledgers.Stopped) (n : Noted) (p : Plain) (s : Running) (moment : ℕ) (g : LogState) → IsNoted m x n p ⊎ E x n (as_left p) → IsNoted m x n (record p { running = s; moment = moment; log = g }) ⊎ E x n (as_left p)
 still E m x n p s moment g (inl h) = inl (record { followed = h.followed; sound = h.sound; quiet = h.quiet })
 still E m x n p s moment g (inr h) = inr h
 
-still_noted : (E : ledgers.Stopped → Noted → Type 0) (m : ℕ) (r : Running) (p : Plain) (l k : Ledger) (s : Running) (moment : ℕ) (g : LogState) → (users_at m k).cut ≡ (users_at m l).cut → IsNotedAt E m r p l → IsNotedAt E m r (record p { running = s; moment = moment; log = g }) k
+still_noted : (E : ledgers.Stopped → Noted → Plain → Type 0) (m : ℕ) (r : Running) (p : Plain) (l k : Ledger) (s : Running) (moment : ℕ) (g : LogState) → (users_at m k).cut ≡ (users_at m l).cut → IsNotedAt E m r p l → IsNotedAt E m r (record p { running = s; moment = moment; log = g }) k
 still_noted E m Up p l k s moment g e h = tt
 still_noted E m (Down None starts) p l k s moment g e h = tt
 still_noted E m (Down (Some n) starts) p l k s moment g e h = (h.0, e ∙ h.1, still E m h.0 n p s moment g h.2)
 
-more_noted : (E : ledgers.Stopped → Noted → Type 0) (m : ℕ) (noted : Option Noted) (starts more : ℕ) (p : Plain) (l : Ledger) → IsNotedAt E m (Down noted starts) p l → IsNotedAt E m (Down noted more) p l
+more_noted : (E : ledgers.Stopped → Noted → Plain → Type 0) (m : ℕ) (noted : Option Noted) (starts more : ℕ) (p : Plain) (l : Ledger) → IsNotedAt E m (Down noted starts) p l → IsNotedAt E m (Down noted more) p l
 more_noted E m None starts more p l h = tt
 more_noted E m (Some n) starts more p l h = h
 
 -- it runs or not, with another log: nothing is posted
-pub aside_happens : {E : ledgers.Stopped → Noted → Type 0} (m : ℕ) (given : Ident → Bool) (n : Node) (l : Ledger) (own : Own) (s : Running) (g : LogState) → IsAt E m given n l → is_up n.manager.running ≡ is_up s → IsNotedAt E m s n.manager l
+pub aside_happens : {E : ledgers.Stopped → Noted → Plain → Type 0} (m : ℕ) (given : Ident → Bool) (n : Node) (l : Ledger) (own : Own) (s : Running) (g : LogState) → IsAt E m given n l → is_up n.manager.running ≡ is_up s → IsNotedAt E m s n.manager l
     → Became E m given n l (record { manager = record n.manager { running = s; log = g }; own = own }) l
 aside_happens {E} m given n l own s g a up noted =
     let p : Plain = n.manager in
@@ -225,7 +225,7 @@ aside_happens {E} m given n l own s g a up noted =
       };
     }
 
-pub clock_happens : {E : ledgers.Stopped → Noted → Type 0} (m : ℕ) (given : Ident → Bool) (n : Node) (l : Ledger) (by_ : ℕ) → IsAt E m given n l
+pub clock_happens : {E : ledgers.Stopped → Noted → Plain → Type 0} (m : ℕ) (given : Ident → Bool) (n : Node) (l : Ledger) (by_ : ℕ) → IsAt E m given n l
     → Became E m given n l (record n { manager = record n.manager { moment = min (n.manager.moment + by_) last_moment } }) (ledgers.with_users m (λ (u : Users). record u { moment = min (u.moment + by_) last_moment }) l)
 clock_happens {E} m given n l by_ a =
     let p : Plain = n.manager in
@@ -248,7 +248,7 @@ clock_happens {E} m given n l by_ a =
     }
 
 -- A stop, by whether the manager runs
-crash_as : {E : ledgers.Stopped → Noted → Type 0} (m : ℕ) (given : Ident → Bool) (n : Node) (l : Ledger) (e : Entry) (choice : Choice) → IsAt E m given n l → n.manager.channels.batches ≡ [] → (r : Running) → n.manager.running ≡ r
+crash_as : {E : ledgers.Stopped → Noted → Plain → Type 0} (m : ℕ) (given : Ident → Bool) (n : Node) (l : Ledger) (e : Entry) (choice : Choice) → IsAt E m given n l → n.manager.channels.batches ≡ [] → (r : Running) → n.manager.running ≡ r
     → Became E m given n l (crashed (stop_at r n.manager) n).next (posted m (entry_of e (calls.Act acts.Crash) (chances.Call choice) (crashed (stop_at r n.manager) n).reply (crashed (stop_at r n.manager) n).delta (crashed (stop_at r n.manager) n).received) (crashed (stop_at r n.manager) n).reply l)
 crash_as {E} m given n l e choice a none Up z =
     let p : Plain = n.manager in
@@ -258,7 +258,7 @@ crash_as {E} m given n l e choice a none Up z =
     (sound_still _ (subst (λ r. IsSound (stop_at r p).next) z (stop_sound p sound))) tt
 crash_as {E} m given n l e choice a none (Down noted starts) z = nothing m given n l n.own a
 
-pub crash_happens : {E : ledgers.Stopped → Noted → Type 0} (m : ℕ) (given : Ident → Bool) (n : Node) (l : Ledger) (e : Entry) (stamp : ℕ) (actor : Actor) (chance : Chance) (seen : Seen) → IsAt E m given n l → n.manager.channels.batches ≡ [] → RunsAlone chance → Happens E m given n l e stamp actor (calls.Act acts.Crash) chance seen
+pub crash_happens : {E : ledgers.Stopped → Noted → Plain → Type 0} (m : ℕ) (given : Ident → Bool) (n : Node) (l : Ledger) (e : Entry) (stamp : ℕ) (actor : Actor) (chance : Chance) (seen : Seen) → IsAt E m given n l → n.manager.channels.batches ≡ [] → RunsAlone chance → Happens E m given n l e stamp actor (calls.Act acts.Crash) chance seen
 crash_happens {E} m given n l e stamp actor (chances.Restart choice) seen a none can = absurd can
 crash_happens {E} m given n l e stamp actor (chances.Foreign image length left) seen a none can = absurd can
 crash_happens {E} m given n l e stamp actor (chances.Call choice) seen a none can = crash_as m given n l e choice a none n.manager.running refl
@@ -267,7 +267,7 @@ crash_happens {E} m given n l e stamp actor (chances.Call choice) seen a none ca
 abbrev clear : Users → Users
 clear u = record u { cut = None }
 
-comes_up : {E : ledgers.Stopped → Noted → Type 0} (m : ℕ) (given : Ident → Bool) (n : Node) (l : Ledger) (noted : Option Noted) (starts started : ℕ) → IsAt E m given n l → n.manager.channels.batches ≡ [] → n.manager.running ≡ Down noted starts
+comes_up : {E : ledgers.Stopped → Noted → Plain → Type 0} (m : ℕ) (given : Ident → Bool) (n : Node) (l : Ledger) (noted : Option Noted) (starts started : ℕ) → IsAt E m given n l → n.manager.channels.batches ≡ [] → n.manager.running ≡ Down noted starts
     → Became E m given n l (begun_anew (restarted false started noted n.manager) n.own) (ledgers.up_again m l)
 comes_up {E} m given n l noted starts started a none z =
     let p : Plain = n.manager in
@@ -297,7 +297,7 @@ comes_up {E} m given n l noted starts started a none z =
     told_moment m p l t w = ap (λ o. (ledgers.users_or o).moment) (sym t.used ∙ w.used) ∙ w.moment
 
 -- one that is stopped in its own write
-fails_in : {E : ledgers.Stopped → Noted → Type 0} (m : ℕ) (given : Ident → Bool) (n : Node) (l : Ledger) (noted : Option Noted) (starts left : ℕ) → IsAt E m given n l → n.manager.running ≡ Down noted starts
+fails_in : {E : ledgers.Stopped → Noted → Plain → Type 0} (m : ℕ) (given : Ident → Bool) (n : Node) (l : Ledger) (noted : Option Noted) (starts left : ℕ) → IsAt E m given n l → n.manager.running ≡ Down noted starts
     → Became E m given n l (record n { manager = record n.manager { running = Down noted (starts + 1); log = record n.manager.log { armed = left } } }) l
 fails_in {E} m given n l noted starts left a z = aside_happens m given n l n.own (Down noted (starts + 1)) (record n.manager.log { armed = left }) a (ap is_up z)
     (more_noted E m noted starts (starts + 1) n.manager l (subst (λ r. IsNotedAt E m r n.manager l) z a.noted))
@@ -322,7 +322,7 @@ gone_users m (d ∷ ds) l = gone_users m ds (ledgers.take_gone m d l) ∙ one d
     one (did.Received c u) = refl
 
 -- One that finds the stopped write: it does what the note says, and then comes up.
-comes_back : {E : ledgers.Stopped → Noted → Type 0} (m : ℕ) (given : Ident → Bool) (n : Node) (l : Ledger) (noted : Noted) (starts started : ℕ) → IsAt E m given n l → n.manager.channels.batches ≡ [] → (x : (s : ledgers.Stopped) × ((users_at m l).cut ≡ Some s) × IsNoted m s noted n.manager) → n.manager.running ≡ Down (Some noted) starts
+comes_back : {E : ledgers.Stopped → Noted → Plain → Type 0} (m : ℕ) (given : Ident → Bool) (n : Node) (l : Ledger) (noted : Noted) (starts started : ℕ) → IsAt E m given n l → n.manager.channels.batches ≡ [] → (x : (s : ledgers.Stopped) × ((users_at m l).cut ≡ Some s) × IsNoted m s noted n.manager) → n.manager.running ≡ Down (Some noted) starts
     → Became E m given n l (begun_anew (restarted true started (Some noted) n.manager) n.own)
     (ledgers.come_up m (chances.Restart (Comes true started)) (redone_delta true (Some noted) n.manager) (take_all_gone m (redone_delta true (Some noted) n.manager) l))
 comes_back {E} m given n l noted starts started a none x z =
@@ -442,7 +442,7 @@ served_gone m p l q (Some process) (Some i) = usage (is_transmission i.usage)
 abbrev part_of : LocalQueue → Plain → Part
 part_of q p = serve_by q (process_of q.process p.definitions) (local_of q.initiation_queue p.definitions) p
 
-trigger_as : {E : ledgers.Stopped → Noted → Type 0} (m : ℕ) (given : Ident → Bool) (n : Node) (l : Ledger) (e : Entry) (actor : Actor) (choice : Choice) → IsAt E m given n l → (r : Running) → n.manager.running ≡ r → (o : Option LocalQueue) → first_due (locals_of n.manager.definitions) n.manager ≡ o
+trigger_as : {E : ledgers.Stopped → Noted → Plain → Type 0} (m : ℕ) (given : Ident → Bool) (n : Node) (l : Ledger) (e : Entry) (actor : Actor) (choice : Choice) → IsAt E m given n l → (r : Running) → n.manager.running ≡ r → (o : Option LocalQueue) → first_due (locals_of n.manager.definitions) n.manager ≡ o
     → IsDeed (where_up r (trigger_deed_of o n)) (chances.Call choice) n
     → Became E m given n l (remembering actor calls.Trigger (done_or (where_up r (trigger_deed_of o n)) choice n)).next
     (posted m (entry_of e calls.Trigger (chances.Call choice) (done_or (where_up r (trigger_deed_of o n)) choice n).reply (done_or (where_up r (trigger_deed_of o n)) choice n).delta (done_or (where_up r (trigger_deed_of o n)) choice n).received) (done_or (where_up r (trigger_deed_of o n)) choice n).reply l)
@@ -467,7 +467,7 @@ trigger_as {E} m given n l e actor choice a Up z (Some q) d can =
     (serve_noted m q (process_of q.process p.definitions) (local_of q.initiation_queue p.definitions) p) (λ ds. refl) (λ r w. absurd cc)
     (subst (λ x. CanCome x choice n) same can))
 
-pub trigger_happens : {E : ledgers.Stopped → Noted → Type 0} (m : ℕ) (given : Ident → Bool) (n : Node) (l : Ledger) (e : Entry) (stamp : ℕ) (actor : Actor) (choice : Choice) (seen : Seen) → IsAt E m given n l → IsDeed (trigger_deed n) (chances.Call choice) n → Happens E m given n l e stamp actor calls.Trigger (chances.Call choice) seen
+pub trigger_happens : {E : ledgers.Stopped → Noted → Plain → Type 0} (m : ℕ) (given : Ident → Bool) (n : Node) (l : Ledger) (e : Entry) (stamp : ℕ) (actor : Actor) (choice : Choice) (seen : Seen) → IsAt E m given n l → IsDeed (trigger_deed n) (chances.Call choice) n → Happens E m given n l e stamp actor calls.Trigger (chances.Call choice) seen
 trigger_happens {E} m given n l e stamp actor choice seen a can = trigger_as m given n l e actor choice a n.manager.running refl (first_due (locals_of n.manager.definitions) n.manager) refl can
 
 -- Turns of ends and handlers, of which there are none

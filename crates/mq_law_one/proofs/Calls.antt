@@ -59,7 +59,7 @@ use Rattle.mq_law_one.proofs.Noting.{conn_noted, open_noted, close_noted, back_n
 use Rattle.mq_law_one.proofs.Happening.{Deeded, entry_of, quiet_happens, step_happens, mqi_happens, ended_happens, Fits, fits_by, connected_down, down_refused, reply_or}
 
 -- what an event comes to, and is posted
-abbrev pub Happens : (ledgers.Stopped → Noted → Type 0) → ℕ → (Ident → Bool) → Node → Ledger → Entry → ℕ → Actor → Call → Chance → Seen → Type 0
+abbrev pub Happens : (ledgers.Stopped → Noted → Plain → Type 0) → ℕ → (Ident → Bool) → Node → Ledger → Entry → ℕ → Actor → Call → Chance → Seen → Type 0
 Happens E m given n l e stamp actor call chance seen =
     Became E m given n l (event stamp actor call chance seen n).next
     (posted m (entry_of e call chance (event stamp actor call chance seen n).reply (event stamp actor call chance seen n).delta (event stamp actor call chance seen n).received) (event stamp actor call chance seen n).reply l)
@@ -74,7 +74,7 @@ conn_down qmgr appl p e = go (is_other_name qmgr p) (is_up p.running) e
     go false true z = absurd cc
     go false false z = (reasons.QueueManagerNotAvailable, refl)
 
-pub conn_happens : {E : ledgers.Stopped → Noted → Type 0} (m : ℕ) (given : Ident → Bool) (n : Node) (l : Ledger) (e : Entry) (actor : Actor) (choice : Choice) (qmgr : List ℕ) (appl : Appl) → IsAt E m given n l → CanCome (mqi_deed replies.Connected n.own (mqconn qmgr appl n.manager)) choice n
+pub conn_happens : {E : ledgers.Stopped → Noted → Plain → Type 0} (m : ℕ) (given : Ident → Bool) (n : Node) (l : Ledger) (e : Entry) (actor : Actor) (choice : Choice) (qmgr : List ℕ) (appl : Appl) → IsAt E m given n l → CanCome (mqi_deed replies.Connected n.own (mqconn qmgr appl n.manager)) choice n
     → Deeded E m given n l e actor (calls.Mqconn qmgr appl) choice (mqi_deed replies.Connected n.own (mqconn qmgr appl n.manager))
 conn_happens {E} m given n l e actor choice qmgr appl a can =
     let p : Plain = n.manager in
@@ -85,7 +85,7 @@ conn_happens {E} m given n l e actor choice qmgr appl a can =
     (conn_down qmgr appl p))
     (λ answer c ds. refl) (λ reason. refl) can
 
-pub open_happens : {E : ledgers.Stopped → Noted → Type 0} (m : ℕ) (given : Ident → Bool) (n : Node) (l : Ledger) (e : Entry) (actor : Actor) (choice : Choice) (hc : Hconn) (name qmgr : List ℕ) (how : Open) → IsAt E m given n l → CanCome (mqi_deed replies.Opened n.own (mqopen hc name qmgr how n.manager)) choice n
+pub open_happens : {E : ledgers.Stopped → Noted → Plain → Type 0} (m : ℕ) (given : Ident → Bool) (n : Node) (l : Ledger) (e : Entry) (actor : Actor) (choice : Choice) (hc : Hconn) (name qmgr : List ℕ) (how : Open) → IsAt E m given n l → CanCome (mqi_deed replies.Opened n.own (mqopen hc name qmgr how n.manager)) choice n
     → Deeded E m given n l e actor (calls.Mqopen hc name qmgr how) choice (mqi_deed replies.Opened n.own (mqopen hc name qmgr how n.manager))
 open_happens {E} m given n l e actor choice hc name qmgr how a can =
     let p : Plain = n.manager in
@@ -96,7 +96,7 @@ open_happens {E} m given n l e actor choice hc name qmgr how a can =
     (λ z. let d = connected_down hc p z in (d.0, ap (λ (r : Result Connection Reason). going_on r (λ c. going_on (none_of (option_tests how)) (λ chosen. going_on (resolve p.definitions p.given.name name qmgr) (λ route. going_on (none_of (open_tests c how route p)) (λ fits. open_step c how route))))) d.1)))
     (λ answer c ds. refl) (λ reason. refl) can
 
-pub close_happens : {E : ledgers.Stopped → Noted → Type 0} (m : ℕ) (given : Ident → Bool) (n : Node) (l : Ledger) (e : Entry) (actor : Actor) (choice : Choice) (hc : Hconn) (ho : Hobj) → IsAt E m given n l → CanCome (ended_deed replies.Ended n.own (mqclose hc ho n.manager)) choice n
+pub close_happens : {E : ledgers.Stopped → Noted → Plain → Type 0} (m : ℕ) (given : Ident → Bool) (n : Node) (l : Ledger) (e : Entry) (actor : Actor) (choice : Choice) (hc : Hconn) (ho : Hobj) → IsAt E m given n l → CanCome (ended_deed replies.Ended n.own (mqclose hc ho n.manager)) choice n
     → Deeded E m given n l e actor (calls.Mqclose hc ho) choice (ended_deed replies.Ended n.own (mqclose hc ho n.manager))
 close_happens {E} m given n l e actor choice hc ho a can =
     let p : Plain = n.manager in
@@ -115,7 +115,7 @@ put1_none : (sync : Bool) (m : ℕ) (hc : Hconn) (name qmgr : List ℕ) (o : Opt
 put1_none sync m hc name qmgr None md body l = refl
 put1_none sync m hc name qmgr (Some c) md body l = refl
 
-pub put_happens : {E : ledgers.Stopped → Noted → Type 0} (m : ℕ) (given : Ident → Bool) (n : Node) (l : Ledger) (e : Entry) (actor : Actor) (choice : Choice) (hc : Hconn) (ho : Hobj) (md : Md) (body : List ℕ) (sync : Bool) → IsAt E m given n l → CanCome (mqi_deed replies.Put n.own (mqput hc ho md body sync n.manager)) choice n
+pub put_happens : {E : ledgers.Stopped → Noted → Plain → Type 0} (m : ℕ) (given : Ident → Bool) (n : Node) (l : Ledger) (e : Entry) (actor : Actor) (choice : Choice) (hc : Hconn) (ho : Hobj) (md : Md) (body : List ℕ) (sync : Bool) → IsAt E m given n l → CanCome (mqi_deed replies.Put n.own (mqput hc ho md body sync n.manager)) choice n
     → Deeded E m given n l e actor (calls.Mqput hc ho md body sync) choice (mqi_deed replies.Put n.own (mqput hc ho md body sync n.manager))
 put_happens {E} m given n l e actor choice hc ho md body sync a can =
     let p : Plain = n.manager in
@@ -126,7 +126,7 @@ put_happens {E} m given n l e actor choice hc ho md body sync a can =
     (down_refused hc p (put_up ho md body sync p)))
     (λ answer c ds. refl) (λ reason. put_none sync m hc ho (ledgers.connection_of m hc l) md body l) can
 
-pub put1_happens : {E : ledgers.Stopped → Noted → Type 0} (m : ℕ) (given : Ident → Bool) (n : Node) (l : Ledger) (e : Entry) (actor : Actor) (choice : Choice) (hc : Hconn) (name qmgr : List ℕ) (md : Md) (body : List ℕ) (sync : Bool) → IsAt E m given n l → CanCome (mqi_deed replies.Put n.own (mqput1 hc name qmgr md body sync n.manager)) choice n
+pub put1_happens : {E : ledgers.Stopped → Noted → Plain → Type 0} (m : ℕ) (given : Ident → Bool) (n : Node) (l : Ledger) (e : Entry) (actor : Actor) (choice : Choice) (hc : Hconn) (name qmgr : List ℕ) (md : Md) (body : List ℕ) (sync : Bool) → IsAt E m given n l → CanCome (mqi_deed replies.Put n.own (mqput1 hc name qmgr md body sync n.manager)) choice n
     → Deeded E m given n l e actor (calls.Mqput1 hc name qmgr md body sync) choice (mqi_deed replies.Put n.own (mqput1 hc name qmgr md body sync n.manager))
 put1_happens {E} m given n l e actor choice hc name qmgr md body sync a can =
     let p : Plain = n.manager in
@@ -137,7 +137,7 @@ put1_happens {E} m given n l e actor choice hc name qmgr md body sync a can =
     (down_refused hc p (put1_resolved (resolve p.definitions p.given.name name qmgr) md body sync p)))
     (λ answer c ds. refl) (λ reason. put1_none sync m hc name qmgr (ledgers.connection_of m hc l) md body l) can
 
-pub commit_happens : {E : ledgers.Stopped → Noted → Type 0} (m : ℕ) (given : Ident → Bool) (n : Node) (l : Ledger) (e : Entry) (actor : Actor) (choice : Choice) (hc : Hconn) → IsAt E m given n l → CanCome (ended_deed replies.Ended n.own (mqcmit hc n.manager)) choice n
+pub commit_happens : {E : ledgers.Stopped → Noted → Plain → Type 0} (m : ℕ) (given : Ident → Bool) (n : Node) (l : Ledger) (e : Entry) (actor : Actor) (choice : Choice) (hc : Hconn) → IsAt E m given n l → CanCome (ended_deed replies.Ended n.own (mqcmit hc n.manager)) choice n
     → Deeded E m given n l e actor (calls.Mqcmit hc) choice (ended_deed replies.Ended n.own (mqcmit hc n.manager))
 commit_happens {E} m given n l e actor choice hc a can =
     let p : Plain = n.manager in
@@ -148,7 +148,7 @@ commit_happens {E} m given n l e actor choice hc a can =
     (down_refused hc p (λ c. Do (answers.Ok tt) (commit_part [] c ∷ []))))
     (λ answer c ds. refl) (λ reason. refl) can
 
-pub back_happens : {E : ledgers.Stopped → Noted → Type 0} (m : ℕ) (given : Ident → Bool) (n : Node) (l : Ledger) (e : Entry) (actor : Actor) (choice : Choice) (hc : Hconn) → IsAt E m given n l → CanCome (ended_deed replies.Ended n.own (mqback hc n.manager)) choice n
+pub back_happens : {E : ledgers.Stopped → Noted → Plain → Type 0} (m : ℕ) (given : Ident → Bool) (n : Node) (l : Ledger) (e : Entry) (actor : Actor) (choice : Choice) (hc : Hconn) → IsAt E m given n l → CanCome (ended_deed replies.Ended n.own (mqback hc n.manager)) choice n
     → Deeded E m given n l e actor (calls.Mqback hc) choice (ended_deed replies.Ended n.own (mqback hc n.manager))
 back_happens {E} m given n l e actor choice hc a can =
     let p : Plain = n.manager in
@@ -159,7 +159,7 @@ back_happens {E} m given n l e actor choice hc a can =
     (down_refused hc p (λ c. Do (answers.Ok tt) (backout_part c ∷ []))))
     (λ answer c ds. refl) (λ reason. refl) can
 
-pub disc_happens : {E : ledgers.Stopped → Noted → Type 0} (m : ℕ) (given : Ident → Bool) (n : Node) (l : Ledger) (e : Entry) (actor : Actor) (choice : Choice) (hc : Hconn) → IsAt E m given n l → CanCome (ended_deed replies.Ended n.own (mqdisc hc n.manager)) choice n
+pub disc_happens : {E : ledgers.Stopped → Noted → Plain → Type 0} (m : ℕ) (given : Ident → Bool) (n : Node) (l : Ledger) (e : Entry) (actor : Actor) (choice : Choice) (hc : Hconn) → IsAt E m given n l → CanCome (ended_deed replies.Ended n.own (mqdisc hc n.manager)) choice n
     → Deeded E m given n l e actor (calls.Mqdisc hc) choice (ended_deed replies.Ended n.own (mqdisc hc n.manager))
 disc_happens {E} m given n l e actor choice hc a can =
     let p : Plain = n.manager in
@@ -171,7 +171,7 @@ disc_happens {E} m given n l e actor choice hc a can =
     (λ answer c ds. refl) (λ reason. refl) can
 
 -- MQGET: one that may wait is no event
-get_step : {E : ledgers.Stopped → Noted → Type 0} (m : ℕ) (given : Ident → Bool) (n : Node) (l : Ledger) (e : Entry) (actor : Actor) (choice : Choice) (hc : Hconn) (ho : Hobj) (get : Get) (until : Option ℕ) (step : Step Reason GetAnswer) → IsAt E m given n l → Fits m given n.manager l (post_get m hc get) (calls.Mqget hc ho get until) step → IsDeed (get_deed n.own step) (chances.Call choice) n
+get_step : {E : ledgers.Stopped → Noted → Plain → Type 0} (m : ℕ) (given : Ident → Bool) (n : Node) (l : Ledger) (e : Entry) (actor : Actor) (choice : Choice) (hc : Hconn) (ho : Hobj) (get : Get) (until : Option ℕ) (step : Step Reason GetAnswer) → IsAt E m given n l → Fits m given n.manager l (post_get m hc get) (calls.Mqget hc ho get until) step → IsDeed (get_deed n.own step) (chances.Call choice) n
     → Became E m given n l (remembering actor (calls.Mqget hc ho get until) (done_or (get_deed n.own step) choice n)).next
     (posted m (entry_of e (calls.Mqget hc ho get until) (chances.Call choice) (done_or (get_deed n.own step) choice n).reply (done_or (get_deed n.own step) choice n).delta (done_or (get_deed n.own step) choice n).received) (done_or (get_deed n.own step) choice n).reply l)
 get_step {E} m given n l e actor choice hc ho get until (Refuse reason) a fit can = quiet_happens m given n l e actor (calls.Mqget hc ho get until) choice (replies.Got (answers.Failed reason)) a (λ c. refl) can
@@ -180,7 +180,7 @@ get_step {E} m given n l e actor choice hc ho get until (Do (get_answers.Done an
     step_happens Reason m given n l e actor (calls.Mqget hc ho get until) choice (Some (replies.Got (answers.Failed reasons.StorageNotAvailable))) replies.Got (λ reply ds k. post_get m hc get (get_answers.Done reply) ds k) answer parts a fit.0 fit.1 fit.2 fit.3 fit.4 fit.5 (λ ds. refl)
     (λ r z. ap (λ (o : Option Reply). posted m (entry_of e (calls.Mqget hc ho get until) (chances.Call NoMemory) (reply_or r o) [] []) (reply_or r o) l) (sym z)) can
 
-pub get_happens : {E : ledgers.Stopped → Noted → Type 0} (m : ℕ) (given : Ident → Bool) (n : Node) (l : Ledger) (e : Entry) (actor : Actor) (choice : Choice) (hc : Hconn) (ho : Hobj) (get : Get) (until : Option ℕ) → IsAt E m given n l → IsDeed (get_deed n.own (mqget hc ho get until n.manager)) (chances.Call choice) n
+pub get_happens : {E : ledgers.Stopped → Noted → Plain → Type 0} (m : ℕ) (given : Ident → Bool) (n : Node) (l : Ledger) (e : Entry) (actor : Actor) (choice : Choice) (hc : Hconn) (ho : Hobj) (get : Get) (until : Option ℕ) → IsAt E m given n l → IsDeed (get_deed n.own (mqget hc ho get until n.manager)) (chances.Call choice) n
     → Became E m given n l (remembering actor (calls.Mqget hc ho get until) (done_or (get_deed n.own (mqget hc ho get until n.manager)) choice n)).next
     (posted m (entry_of e (calls.Mqget hc ho get until) (chances.Call choice) (done_or (get_deed n.own (mqget hc ho get until n.manager)) choice n).reply (done_or (get_deed n.own (mqget hc ho get until n.manager)) choice n).delta (done_or (get_deed n.own (mqget hc ho get until n.manager)) choice n).received)
     (done_or (get_deed n.own (mqget hc ho get until n.manager)) choice n).reply l)

@@ -253,18 +253,18 @@ turn_fits m given n l (Some h) f t sound = on (handlers.is_readable (local_of (h
     on true e = row e (handlers.next_letter (handlers.input_queue h.table n.manager) h n.manager) refl
 
 -- an answer alone, with another own
-answer_happens : {E : ledgers.Stopped → Noted → Type 0} (m : ℕ) (given : Ident → Bool) (n : Node) (l : Ledger) (e : Entry) (actor : Actor) (choice : Choice) (own : Own) → IsAt E m given n l → CanCome (told replies.Tried own) choice n → Deeded E m given n l e actor calls.Turn choice (told replies.Tried own)
+answer_happens : {E : ledgers.Stopped → Noted → Plain → Type 0} (m : ℕ) (given : Ident → Bool) (n : Node) (l : Ledger) (e : Entry) (actor : Actor) (choice : Choice) (own : Own) → IsAt E m given n l → CanCome (told replies.Tried own) choice n → Deeded E m given n l e actor calls.Turn choice (told replies.Tried own)
 answer_happens {E} m given n l e actor Runs own a can = nothing m given n l (remembered actor calls.Turn replies.Tried (forgotten_rows [] own)) a
 answer_happens {E} m given n l e actor NoMemory own a can = absurd can
 answer_happens {E} m given n l e actor (Stopped by_ part left) own a can = absurd can.0
 
-deed_happens : {E : ledgers.Stopped → Noted → Type 0} (m : ℕ) (given : Ident → Bool) (n : Node) (l : Ledger) (e : Entry) (actor : Actor) (choice : Choice) (d : Deed) → IsAt E m given n l → n.manager.running ≡ Up → IsSound n.manager → TurnFits m given n.manager l n.own d → CanCome d choice n → Deeded E m given n l e actor calls.Turn choice d
+deed_happens : {E : ledgers.Stopped → Noted → Plain → Type 0} (m : ℕ) (given : Ident → Bool) (n : Node) (l : Ledger) (e : Entry) (actor : Actor) (choice : Choice) (d : Deed) → IsAt E m given n l → n.manager.running ≡ Up → IsSound n.manager → TurnFits m given n.manager l n.own d → CanCome d choice n → Deeded E m given n l e actor calls.Turn choice d
 deed_happens {E} m given n l e actor choice d a up sound (inl fit) can = subst (λ x. Deeded E m given n l e actor calls.Turn choice x) (sym fit.1) (answer_happens m given n l e actor choice fit.0 a (subst (λ x. CanCome x choice n) fit.1 can))
 deed_happens {E} m given n l e actor choice d a up sound (inr fit) can =
     subst (λ x. Deeded E m given n l e actor calls.Turn choice x) (sym fit.is)
     (step_happens Never m given n l e actor calls.Turn choice None (λ (u : Unit {0}). replies.Tried) (λ reply ds k. post_turn m ds k) (tt {0}) fit.parts a up sound fit.follow fit.stop fit.keep fit.notes (λ ds. refl) (λ r z. absurd cc) (subst (λ x. CanCome x choice n) fit.is can))
 
-pub turn_happens : {E : ledgers.Stopped → Noted → Type 0} (m : ℕ) (given : Ident → Bool) (n : Node) (l : Ledger) (e : Entry) (actor : Actor) (choice : Choice) (r : Running) (o : Option Handler) → IsAt E m given n l → n.manager.running ≡ r → IsDeed (where_up r (handler_turn o n)) (chances.Call choice) n
+pub turn_happens : {E : ledgers.Stopped → Noted → Plain → Type 0} (m : ℕ) (given : Ident → Bool) (n : Node) (l : Ledger) (e : Entry) (actor : Actor) (choice : Choice) (r : Running) (o : Option Handler) → IsAt E m given n l → n.manager.running ≡ r → IsDeed (where_up r (handler_turn o n)) (chances.Call choice) n
     → Became E m given n l (remembering actor calls.Turn (done_or (where_up r (handler_turn o n)) choice n)).next
     (posted m (entry_of e calls.Turn (chances.Call choice) (done_or (where_up r (handler_turn o n)) choice n).reply (done_or (where_up r (handler_turn o n)) choice n).delta (done_or (where_up r (handler_turn o n)) choice n).received) (done_or (where_up r (handler_turn o n)) choice n).reply l)
 turn_happens {E} m given n l e actor choice (Down noted starts) o a z can = absurd can

@@ -49,7 +49,7 @@ use Rattle.mq_law_one.specs.Alone.{IsState, IsNotedAt, IsAt, Became}
 
 -- From a follow to an event
 
-pub became : {E : ledgers.Stopped → Noted → Type 0} (m : ℕ) (given : Ident → Bool) (n : Node) (l : Ledger) (next : Node) (k : Ledger) → IsAt E m given n l → Follow m given n.manager l next.manager k
+pub became : {E : ledgers.Stopped → Noted → Plain → Type 0} (m : ℕ) (given : Ident → Bool) (n : Node) (l : Ledger) (next : Node) (k : Ledger) → IsAt E m given n l → Follow m given n.manager l next.manager k
     → IsState next.manager.running next.manager → IsNotedAt E m next.manager.running next.manager k → Became E m given n l next k
 became {E} m given n l next k a f state noted = record {
   now = f.now;
@@ -68,7 +68,7 @@ became {E} m given n l next k a f state noted = record {
 }
 
 -- and with a mark on the manager's users
-pub became_marked : {E : ledgers.Stopped → Noted → Type 0} (m : ℕ) (given : Ident → Bool) (n : Node) (l : Ledger) (next : Node) (k : Ledger) (g : Users → Users) → ((u : Users) → (g u).connections ≡ u.connections) → ((u : Users) → (g u).moment ≡ u.moment)
+pub became_marked : {E : ledgers.Stopped → Noted → Plain → Type 0} (m : ℕ) (given : Ident → Bool) (n : Node) (l : Ledger) (next : Node) (k : Ledger) (g : Users → Users) → ((u : Users) → (g u).connections ≡ u.connections) → ((u : Users) → (g u).moment ≡ u.moment)
     → IsAt E m given n l → Follow m given n.manager l next.manager k → IsState next.manager.running next.manager → IsNotedAt E m next.manager.running next.manager (ledgers.with_users m g k) → Became E m given n l next (ledgers.with_users m g k)
 became_marked {E} m given n l next k g cs mo a f state noted =
     let used : slice_get (ledgers.with_users m g k).users m ≡ Some (g f.told.users) = here_changed m g k.users f.told.users f.told.used in
@@ -150,7 +150,7 @@ stopped_running n [] left p w = absurd w
 stopped_running zero (part ∷ parts) left p w = refl
 stopped_running (suc n) (part ∷ parts) left p w = stopped_running n parts left (do_part part p) w
 
-pub noted_up : (E : ledgers.Stopped → Noted → Type 0) (m : ℕ) (p : Plain) (l : Ledger) → p.running ≡ Up → IsNotedAt E m p.running p l
+pub noted_up : (E : ledgers.Stopped → Noted → Plain → Type 0) (m : ℕ) (p : Plain) (l : Ledger) → p.running ≡ Up → IsNotedAt E m p.running p l
 noted_up E m p l e = subst (λ r. IsNotedAt E m r p l) (sym e) tt
 
 pub state_up : (p : Plain) → p.running ≡ Up → IsSound p → IsState p.running p
@@ -167,23 +167,23 @@ abbrev pub entry_of : Entry → Call → Chance → Reply → List Did → List 
 entry_of e call chance reply ds ms = record e { call = call; chance = chance; reply = reply; effect = record e.effect { delta = ds; received = ms } }
 
 -- what a deed comes to, and is posted
-abbrev pub Deeded : (ledgers.Stopped → Noted → Type 0) → ℕ → (Ident → Bool) → Node → Ledger → Entry → Actor → Call → Choice → Deed → Type 0
+abbrev pub Deeded : (ledgers.Stopped → Noted → Plain → Type 0) → ℕ → (Ident → Bool) → Node → Ledger → Entry → Actor → Call → Choice → Deed → Type 0
 Deeded E m given n l e actor call choice d =
     Became E m given n l (remembering actor call (done d choice n)).next (posted m (entry_of e call (chances.Call choice) (done d choice n).reply (done d choice n).delta (done d choice n).received) (done d choice n).reply l)
 
 -- nothing happens
-pub nothing : {E : ledgers.Stopped → Noted → Type 0} (m : ℕ) (given : Ident → Bool) (n : Node) (l : Ledger) (own : Own) → IsAt E m given n l → Became E m given n l (node_of n.manager own) l
+pub nothing : {E : ledgers.Stopped → Noted → Plain → Type 0} (m : ℕ) (given : Ident → Bool) (n : Node) (l : Ledger) (own : Own) → IsAt E m given n l → Became E m given n l (node_of n.manager own) l
 nothing {E} m given n l own a = became m given n l (node_of n.manager own) l a (calm_follows m given n.manager n.manager l a.fresh a.told (calm_none n.manager) refl) a.state a.noted
 
 -- a step that runs or whose write is stopped, at a manager that is up
-pub parts_happen : {E : ledgers.Stopped → Noted → Type 0} (F : Type 0) {T : Type 0} (m : ℕ) (given : Ident → Bool) (n : Node) (l : Ledger) (own : Own) (post : T → List Did → Ledger → Ledger) (reply : T) (parts : List Part) → IsAt E m given n l → n.manager.running ≡ Up → IsSound n.manager
+pub parts_happen : {E : ledgers.Stopped → Noted → Plain → Type 0} (F : Type 0) {T : Type 0} (m : ℕ) (given : Ident → Bool) (n : Node) (l : Ledger) (own : Own) (post : T → List Did → Ledger → Ledger) (reply : T) (parts : List Part) → IsAt E m given n l → n.manager.running ≡ Up → IsSound n.manager
     → StepFollows {F = F} m given n.manager l post (Do reply parts) → AllKeep IsSound parts n.manager
     → Became E m given n l (node_of (do_all parts n.manager) own) (post reply (delta_of parts) (take_all_gone m (delta_of parts) l))
 parts_happen {E} F {T} m given n l own post reply parts a up sound f k =
     became m given n l (node_of (do_all parts n.manager) own) _ a f (state_up (do_all parts n.manager) (parts_running parts n.manager ∙ up) (ends {F = F} (Do reply parts) Runs n.manager sound k))
     (noted_up E m (do_all parts n.manager) _ (parts_running parts n.manager ∙ up))
 
-pub stop_happens : {E : ledgers.Stopped → Noted → Type 0} (F : Type 0) {T : Type 0} (m : ℕ) (given : Ident → Bool) (n : Node) (l : Ledger) (own : Own) (e : Entry) (call : Call) (by_ : Stop) (reply : T) (parts : List Part) (part left : ℕ) → IsAt E m given n l → IsSound n.manager
+pub stop_happens : {E : ledgers.Stopped → Noted → Plain → Type 0} (F : Type 0) {T : Type 0} (m : ℕ) (given : Ident → Bool) (n : Node) (l : Ledger) (own : Own) (e : Entry) (call : Call) (by_ : Stop) (reply : T) (parts : List Part) (part left : ℕ) → IsAt E m given n l → IsSound n.manager
     → StopFollows {F = F} m given n.manager l (Do reply parts) → AllKeep IsSound parts n.manager → StepNotes {F = F} {T = T} m call n.manager (Do reply parts) → IsWrite part parts
     → Became E m given n l (node_of (stopped_at part parts left n.manager) own) (cut m (entry_of e call (chances.Call (Stopped by_ part left)) (replies.Stopped by_) (delta_before part parts) []) l)
 stop_happens {E} F m given n l own e call by_ reply parts part left a sound f k notes w =
@@ -208,7 +208,7 @@ stop_happens {E} F m given n l own e call by_ reply parts part left a sound f k 
     go (Some noted) is c = (record { entry = entry_of e call (chances.Call (Stopped by_ part left)) (replies.Stopped by_) (delta_before part parts) []; moment = n.manager.moment }, c, inl (notes part left e (chances.Call (Stopped by_ part left)) by_ (delta_before part parts) noted w is))
 
 -- a deed that is an answer alone
-pub quiet_happens : {E : ledgers.Stopped → Noted → Type 0} (m : ℕ) (given : Ident → Bool) (n : Node) (l : Ledger) (e : Entry) (actor : Actor) (call : Call) (choice : Choice) (reply : Reply) → IsAt E m given n l
+pub quiet_happens : {E : ledgers.Stopped → Noted → Plain → Type 0} (m : ℕ) (given : Ident → Bool) (n : Node) (l : Ledger) (e : Entry) (actor : Actor) (call : Call) (choice : Choice) (reply : Reply) → IsAt E m given n l
     → ((c : Choice) → posted m (entry_of e call (chances.Call c) reply [] []) reply l ≡ l) → CanCome (told reply n.own) choice n → Deeded E m given n l e actor call choice (told reply n.own)
 quiet_happens {E} m given n l e actor call Runs reply a none can =
     subst (λ k. Became E m given n l (node_of n.manager (remembered actor call reply (forgotten_rows [] n.own))) k) (sym (none Runs))
@@ -220,7 +220,7 @@ quiet_happens {E} m given n l e actor call (Stopped by_ part left) reply a none 
 abbrev pub deed_of_parts : Option Reply → Reply → List Part → Own → Deed
 deed_of_parts w reply parts own = record { wanting = w; reply = reply; parts = parts; pushed = None; received = []; own = own }
 
-pub step_happens : {E : ledgers.Stopped → Noted → Type 0} (F : Type 0) {T : Type 0} (m : ℕ) (given : Ident → Bool) (n : Node) (l : Ledger) (e : Entry) (actor : Actor) (call : Call) (choice : Choice) (w : Option Reply) (f : T → Reply) (post : T → List Did → Ledger → Ledger) (reply : T) (parts : List Part)
+pub step_happens : {E : ledgers.Stopped → Noted → Plain → Type 0} (F : Type 0) {T : Type 0} (m : ℕ) (given : Ident → Bool) (n : Node) (l : Ledger) (e : Entry) (actor : Actor) (call : Call) (choice : Choice) (w : Option Reply) (f : T → Reply) (post : T → List Did → Ledger → Ledger) (reply : T) (parts : List Part)
     → IsAt E m given n l → n.manager.running ≡ Up → IsSound n.manager → StepFollows {F = F} m given n.manager l post (Do reply parts) → StopFollows {F = F} {T = T} m given n.manager l (Do reply parts) → AllKeep IsSound parts n.manager → StepNotes {F = F} {T = T} m call n.manager (Do reply parts)
     → ((ds : List Did) → posted m (entry_of e call (chances.Call Runs) (f reply) ds []) (f reply) l ≡ post reply ds (take_all_gone m ds l))
     → ((r : Reply) → w ≡ Some r → posted m (entry_of e call (chances.Call NoMemory) r [] []) r l ≡ l)
@@ -275,7 +275,7 @@ reply_or r None = r
 reply_or r (Some x) = x
 
 -- MQI calls
-pub mqi_happens : {E : ledgers.Stopped → Noted → Type 0} {T : Type 0} (m : ℕ) (given : Ident → Bool) (n : Node) (l : Ledger) (e : Entry) (actor : Actor) (call : Call) (choice : Choice) (f : Answer T → Reply) (post : Answer T → List Did → Ledger → Ledger) (step : Step Reason (Answer T)) → IsAt E m given n l
+pub mqi_happens : {E : ledgers.Stopped → Noted → Plain → Type 0} {T : Type 0} (m : ℕ) (given : Ident → Bool) (n : Node) (l : Ledger) (e : Entry) (actor : Actor) (call : Call) (choice : Choice) (f : Answer T → Reply) (post : Answer T → List Did → Ledger → Ledger) (step : Step Reason (Answer T)) → IsAt E m given n l
     → Fits m given n.manager l post call step
     → ((answer : Answer T) (c : Choice) (ds : List Did) → posted m (entry_of e call (chances.Call c) (f answer) ds []) (f answer) l ≡ post answer ds (take_all_gone m ds l)) → ((reason : Reason) → post (answers.Failed reason) [] l ≡ l)
     → CanCome (mqi_deed f n.own step) choice n → Deeded E m given n l e actor call choice (mqi_deed f n.own step)
@@ -284,7 +284,7 @@ mqi_happens {E} m given n l e actor call choice f post (Do reply parts) a fit po
     step_happens Reason m given n l e actor call choice (Some (f (answers.Failed reasons.StorageNotAvailable))) f post reply parts a fit.0 fit.1 fit.2 fit.3 fit.4 fit.5 (λ ds. posts reply Runs ds)
     (λ r z. ap (λ (o : Option Reply). posted m (entry_of e call (chances.Call NoMemory) (reply_or r o) [] []) (reply_or r o) l) (sym z) ∙ posts (answers.Failed reasons.StorageNotAvailable) NoMemory [] ∙ none reasons.StorageNotAvailable) can
 
-pub ended_happens : {E : ledgers.Stopped → Noted → Type 0} {T : Type 0} (m : ℕ) (given : Ident → Bool) (n : Node) (l : Ledger) (e : Entry) (actor : Actor) (call : Call) (choice : Choice) (f : Answer T → Reply) (post : Answer T → List Did → Ledger → Ledger) (step : Step Reason (Answer T)) → IsAt E m given n l
+pub ended_happens : {E : ledgers.Stopped → Noted → Plain → Type 0} {T : Type 0} (m : ℕ) (given : Ident → Bool) (n : Node) (l : Ledger) (e : Entry) (actor : Actor) (call : Call) (choice : Choice) (f : Answer T → Reply) (post : Answer T → List Did → Ledger → Ledger) (step : Step Reason (Answer T)) → IsAt E m given n l
     → Fits m given n.manager l post call step
     → ((answer : Answer T) (c : Choice) (ds : List Did) → posted m (entry_of e call (chances.Call c) (f answer) ds []) (f answer) l ≡ post answer ds (take_all_gone m ds l)) → ((reason : Reason) → post (answers.Failed reason) [] l ≡ l)
     → CanCome (ended_deed f n.own step) choice n → Deeded E m given n l e actor call choice (ended_deed f n.own step)

@@ -33,7 +33,7 @@ never_restart : (d : Option Deed) (choice : Return) (n : Node) → IsDeed d (cha
 never_restart None choice n z = z
 never_restart (Some d) choice n z = z
 
-pub ordinary_happens : {E : ledgers.Stopped → Noted → Type 0} (m : ℕ) (given : Ident → Bool) (n : Node) (l : Ledger) (e : Entry) (stamp : ℕ) (actor : Actor) (call : Call) (chance : Chance) (seen : Seen) → IsAt E m given n l → IsOwnCall actor call → IsEvent stamp actor call chance seen n → IsOwn chance
+pub ordinary_happens : {E : ledgers.Stopped → Noted → Plain → Type 0} (m : ℕ) (given : Ident → Bool) (n : Node) (l : Ledger) (e : Entry) (stamp : ℕ) (actor : Actor) (call : Call) (chance : Chance) (seen : Seen) → IsAt E m given n l → IsOwnCall actor call → IsEvent stamp actor call chance seen n → IsOwn chance
     → Happens E m given n l e stamp actor call chance seen
 ordinary_happens {E} m given n l e stamp actor (calls.Mqconn qmgr appl) (chances.Call choice) seen a is can own = conn_happens m given n l e actor choice qmgr appl a can
 ordinary_happens {E} m given n l e stamp actor (calls.Mqconn qmgr appl) (chances.Restart choice) seen a is can own = absurd can
@@ -102,12 +102,12 @@ ordinary_happens {E} m given n l e stamp actor calls.Trigger (chances.Foreign im
 other_number : (i : Ident) (a m k : ℕ) (t : Bool) → (a == m) ≡ false → k ≡ m + 1 → ((i.manager == a + 1) && t) ≡ true → (i.manager == k) ≡ false
 other_number i a m k t ne e u = grind (arith, nat_tests)
 
-pub elsewhere_noted : (E : ledgers.Stopped → Noted → Type 0) (a : ℕ) (r : Running) (p : Plain) (l k : Ledger) → (users_at a k).cut ≡ (users_at a l).cut → IsNotedAt E a r p l → IsNotedAt E a r p k
+pub elsewhere_noted : (E : ledgers.Stopped → Noted → Plain → Type 0) (a : ℕ) (r : Running) (p : Plain) (l k : Ledger) → (users_at a k).cut ≡ (users_at a l).cut → IsNotedAt E a r p l → IsNotedAt E a r p k
 elsewhere_noted E a Up p l k e h = tt
 elsewhere_noted E a (Down None starts) p l k e h = tt
 elsewhere_noted E a (Down (Some n) starts) p l k e h = (h.0, e ∙ h.1, h.2)
 
-pub stays_at : {E : ledgers.Stopped → Noted → Type 0} (m a : ℕ) (given now : Ident → Bool) (n c : Node) (l k : Ledger) → (a == m) ≡ false → IsAt E a given c l → n.manager.given.number ≡ m + 1 → ((i : Ident) → (i.manager == n.manager.given.number) ≡ false → now i ≡ given i) → IsElse m l k → IsAt E a now c k
+pub stays_at : {E : ledgers.Stopped → Noted → Plain → Type 0} (m a : ℕ) (given now : Ident → Bool) (n c : Node) (l k : Ledger) → (a == m) ≡ false → IsAt E a given c l → n.manager.given.number ≡ m + 1 → ((i : Ident) → (i.manager == n.manager.given.number) ≡ false → now i ≡ given i) → IsElse m l k → IsAt E a now c k
 stays_at {E} m a given now n c l k ne at number known other = record {
   told = record { places = at.told.places; placed = other.places a ne ∙ at.told.placed; shelved = at.told.shelved; name = at.told.name; definitions = at.told.definitions; users = at.told.users; used = other.users a ne ∙ at.told.used; connections = at.told.connections };
   fresh = λ i u. known i (other_number i a m n.manager.given.number _ ne number (ap (λ z. (i.manager == z) && (nat_lt c.manager.numbers.incarnation i.incarnation || ((i.incarnation == c.manager.numbers.incarnation) && nat_lt c.manager.numbers.idents i.number))) (sym at.number) ∙ u)) ∙ at.fresh i u;

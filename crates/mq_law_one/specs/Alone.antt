@@ -29,19 +29,23 @@ abbrev pub IsState : Running → Plain → Type 0
 IsState Up p = IsSound p
 IsState (Down noted starts) p = IsFrozen p
 
+-- a manager that is down as its stopped write has left it, whatever a clock, an armed cut and stopped restarts have done since
+abbrev pub as_left : Plain → Plain
+as_left p = record p { running = Up; moment = 0; log = record { length = 0; armed = 0 } }
+
 -- One that is down with a note: the ledger has the call as stopped of which the note is. It is one that the ledger's post of the call follows,
 -- or one of these others: a network's ends leave such, a manager alone none.
-abbrev pub IsNotedAt : (ledgers.Stopped → Noted → Type 0) → ℕ → Running → Plain → Ledger → Type 0
+abbrev pub IsNotedAt : (ledgers.Stopped → Noted → Plain → Type 0) → ℕ → Running → Plain → Ledger → Type 0
 IsNotedAt E m Up p l = Unit {0}
 IsNotedAt E m (Down None starts) p l = Unit {0}
-IsNotedAt E m (Down (Some n) starts) p l = (s : ledgers.Stopped) × ((users_at m l).cut ≡ Some s) × (IsNoted m s n p ⊎ E s n)
+IsNotedAt E m (Down (Some n) starts) p l = (s : ledgers.Stopped) × ((users_at m l).cut ≡ Some s) × (IsNoted m s n p ⊎ E s n (as_left p))
 
 -- no other notes
-abbrev pub NoOther : ledgers.Stopped → Noted → Type 0
-NoOther s n = ⊥
+abbrev pub NoOther : ledgers.Stopped → Noted → Plain → Type 0
+NoOther s n p = ⊥
 
 -- A manager and the ledger, between two events: what holds with channels and without.
-pub record IsAt (E : ledgers.Stopped → Noted → Type 0) (m : ℕ) (given : Ident → Bool) (n : Node) (l : Ledger) : Type 0 where
+pub record IsAt (E : ledgers.Stopped → Noted → Plain → Type 0) (m : ℕ) (given : Ident → Bool) (n : Node) (l : Ledger) : Type 0 where
   pub told : IsTold m n.manager l
   pub fresh : IsFresh given n.manager
   pub number : n.manager.given.number ≡ m + 1
@@ -55,7 +59,7 @@ pub record IsBare (n : Node) : Type 0 where
   pub batches : n.manager.channels.batches ≡ []
 
 -- an event, and what is posted of it
-pub record Became (E : ledgers.Stopped → Noted → Type 0) (m : ℕ) (given : Ident → Bool) (n : Node) (l : Ledger) (next : Node) (k : Ledger) : Type 0 where
+pub record Became (E : ledgers.Stopped → Noted → Plain → Type 0) (m : ℕ) (given : Ident → Bool) (n : Node) (l : Ledger) (next : Node) (k : Ledger) : Type 0 where
   pub now : Ident → Bool
   pub leads : Leads m (side_of n.manager given) (sheet_of m l) (side_of next.manager now) (sheet_of m k)
   pub known : (i : Ident) → (i.manager == n.manager.given.number) ≡ false → now i ≡ given i

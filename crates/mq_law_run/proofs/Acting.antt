@@ -1,4 +1,4 @@
--- Each turn of an end of a channel, and each timeout, as a move of the network, where no write of it is stopped.
+-- Each turn of an end of a channel, and each timeout, as a move of the network, whether its write is stopped or not.
 use Rattle.std.proofs.Common.{ℕ, zero, suc, ◌≡◌, ◌<◌, Bool, true, false, List, [], ◌∷◌, ◌++◌, refl, ap, sym, subst, ◌∙◌, inl, inr, arith}
 use Rattle.std.specs.Prelude.{Option, Some, None, if◌then◌else◌, length, slice_get}
 use Rattle.std.specs.List.{All}
@@ -41,9 +41,16 @@ use Rattle.mq_spec_network.specs.Standing.{node_after}
 use Rattle.mq_spec_network.specs.Story.{IsStory, Line, Mem}
 use Rattle.mq_law_channel.specs.Channel.{Channel}
 use Rattle.mq_law_node.specs.Ends.{receiver_of, sender_of}
+use Rattle.mq_law_node.specs.Nodes.{unforced}
+use Rattle.mq_law_node.proofs.Singles.{leave_unforced}
+use Rattle.mq_law_rows.proofs.Lists.{bool_case}
+use Rattle.mq_sender.specs.States.{awaits, timed_out}
+use Rattle.mq_disk.specs.declared.cutter.Stop.{Stop}
 use Rattle.mq_law_one.proofs.Running.{Told_}
 use Rattle.mq_law_run.specs.Run.{IsRunning, Moves, Stand, far_at, is_stopped_call, near_at}
 use Rattle.mq_law_run.proofs.Cabling.{cable_there}
+use Rattle.mq_law_run.proofs.Cutting.{none_written}
+use Rattle.mq_law_run.proofs.Halting.{receiver_halts, sender_halts}
 use Rattle.mq_law_run.proofs.Lining.{mem_at}
 use Rattle.mq_law_run.proofs.Popping.{receivers_see, senders_see}
 use Rattle.mq_law_run.proofs.Running.{sends_here, takes_here}
@@ -116,6 +123,36 @@ runs (Some d) (chances.Call (Stopped by part left)) n can none free = absurd cc
 runs (Some d) (chances.Restart choice) n can none free = absurd can
 runs (Some d) (chances.Foreign image length left) n can none free = absurd can
 
+-- OR A WRITE IS STOPPED
+record Stops_ (o : Option Deed) (chance : Chance) (n : Node) : Type 0 where
+  deed : Deed
+  by : Stop
+  part : ℕ
+  left : ℕ
+  is : o ≡ Some deed
+  alone : chance ≡ chances.Call (Stopped by part left)
+  can : CanCome deed (Stopped by part left) n
+
+stops : (o : Option Deed) (chance : Chance) (n : Node) → IsDeed o chance n → is_stopped_call chance ≡ true → Stops_ o chance n
+stops None chance n can some = absurd can
+stops (Some d) (chances.Call (Stopped by part left)) n can some = record { deed = d; by = by; part = part; left = left; is = refl; alone = refl; can = can }
+stops (Some d) (chances.Call Runs) n can some = absurd cc
+stops (Some d) (chances.Call NoMemory) n can some = absurd cc
+stops (Some d) (chances.Restart choice) n can some = absurd cc
+stops (Some d) (chances.Foreign image length left) n can some = absurd cc
+
+-- a timeout writes nothing
+abbrev EachUnforced : Option Deed → Type 0
+EachUnforced None = Unit {0}
+EachUnforced (Some d) = unforced d.parts ≡ true
+
+if_unforced : (t : Bool) (d : Deed) → unforced d.parts ≡ true → EachUnforced (if t then Some d else None)
+if_unforced true d e = e
+if_unforced false d e = tt
+
+timeout_unforced : (e : SenderEnd) (n : Node) → EachUnforced (timeout_deed e n)
+timeout_unforced e n = if_unforced (awaits e.machine.state) (after_timeout e (timed_out e.machine) n) (leave_unforced e.channel (timed_out e.machine).state n.manager)
+
 -- what an entry of such a deed is
 record Acts (s : Scenario) (p : List Line) (x : Line) (h : History) (o : Option Deed) : Type 0 where
   deed : Deed
@@ -141,8 +178,8 @@ cable_is s (x ∷ ks) k h (inl e) = subst (IsCable s) (sym e) (All-head (IsCable
 cable_is s (x ∷ ks) k h (inr n) = cable_is s ks k (All-tail (IsCable s) x ks h) n
 
 -- A SENDER'S TURN
-pub sender_acts : (s : Scenario) (hs : List History) (p rest : List Line) (x : Line) (z : Stand s hs p) (t : Told_ s hs p x) (j : ℕ) → Premises s hs → IsStory hs (p ++ x ∷ rest) → x.entry.actor ≡ actors.Sender j → x.entry.call ≡ calls.Turn → is_stopped_call x.entry.chance ≡ false → Moves s hs p x t.h z
-sender_acts s hs p rest x z t j premises story actor call none = by_running (node_after s x.manager p t.h).manager.running refl
+pub sender_acts : (s : Scenario) (hs : List History) (p rest : List Line) (x : Line) (z : Stand s hs p) (t : Told_ s hs p x) (j : ℕ) → Premises s hs → IsStory hs (p ++ x ∷ rest) → x.entry.actor ≡ actors.Sender j → x.entry.call ≡ calls.Turn → Moves s hs p x t.h z
+sender_acts s hs p rest x z t j premises story actor call = by_running (node_after s x.manager p t.h).manager.running refl
   where
     can : IsDeed (where_up (node_after s x.manager p t.h).manager.running (turn_up x.entry.stamp (actors.Sender j) x.entry.effect.popped (node_after s x.manager p t.h))) x.entry.chance (node_after s x.manager p t.h)
     can = subst (λ (c : Call). IsEvent x.entry.stamp (actors.Sender j) c x.entry.chance x.entry.effect.popped (node_after s x.manager p t.h)) call
@@ -160,9 +197,16 @@ sender_acts s hs p rest x z t j premises story actor call none = by_running (nod
         let here = (sends_here s hs p x z t j k e q up).here in
         let on : where_up n.manager.running (turn_up x.entry.stamp (actors.Sender j) x.entry.effect.popped n) ≡ o =
         ap (λ (r : Running). where_up r (turn_up x.entry.stamp (actors.Sender j) x.entry.effect.popped n)) up ∙ ap (λ (v : Option ChannelEnd). sender_turn x.entry.stamp (as_sender v) x.entry.effect.popped n) here in
-        let a : Acts s p x t.h o = acts s hs p x t (actors.Sender j) calls.Turn o up none (sender_free x.entry.stamp own _ n) (subst (λ (v : Option Deed). IsDeed v x.entry.chance n) on can) (same ∙ ap (λ (v : Option Deed). choice_event x.entry.chance v n) on) in
-        senders s hs p x t.h t.stamp z j k a.deed premises.scenario t.is t.tells t.own e q actor call a.run a.is
-        (senders_see s hs p rest x z j k story premises.lawful e q actor (λ o f w. offers_have_stamps s hs premises k.receiver o f w))
+        let can_here : IsDeed o x.entry.chance n = subst (λ (v : Option Deed). IsDeed v x.entry.chance n) on can in
+        let same_here : done_by x.entry n ≡ choice_event x.entry.chance o n = same ∙ ap (λ (v : Option Deed). choice_event x.entry.chance v n) on in
+        let see = senders_see s hs p rest x z j k story premises.lawful e q actor (λ o f w. offers_have_stamps s hs premises k.receiver o f w) in
+        bool_case (is_stopped_call x.entry.chance) (λ b. is_stopped_call x.entry.chance ≡ b → Moves s hs p x t.h z)
+        (λ b some.
+        let v : Stops_ o x.entry.chance n = stops o x.entry.chance n can_here some in
+        sender_halts s hs p x z t j k v.deed v.by v.part v.left premises.scenario e q call up (same_here ∙ (λ i. choice_event (v.alone i) (v.is i) n)) v.can v.is see)
+        (λ b none.
+        let a : Acts s p x t.h o = acts s hs p x t (actors.Sender j) calls.Turn o up none (sender_free x.entry.stamp own _ n) can_here same_here in
+        senders s hs p x t.h t.stamp z j k a.deed premises.scenario t.is t.tells t.own e q actor call a.run a.is see) refl
 
     by_end : (v : Option ChannelEnd) → (node_after s x.manager p t.h).manager.running ≡ Up → end_in j (node_after s x.manager p t.h).own.ends ≡ v → IsDeed (sender_turn x.entry.stamp (as_sender v) x.entry.effect.popped (node_after s x.manager p t.h)) x.entry.chance (node_after s x.manager p t.h) → Moves s hs p x t.h z
     by_end None up e d = absurd d
@@ -184,8 +228,8 @@ sender_acts s hs p rest x z t j premises story actor call none = by_running (nod
 
 -- A RECEIVER'S TURN
 pub receiver_acts : (s : Scenario) (hs : List History) (wide p rest : List Line) (es : List ToldDeed) (x : Line) (z : Stand s hs p) (t : Told_ s hs p x) (j : ℕ) → Premises s hs → IsStory hs (p ++ x ∷ rest) → NoConflict s hs wide → deeds wide ≡ deeds (p ++ x ∷ []) ++ es
-    → x.entry.actor ≡ actors.Receiver j → x.entry.call ≡ calls.Turn → is_stopped_call x.entry.chance ≡ false → Moves s hs p x t.h z
-receiver_acts s hs wide p rest es x z t j premises story peace split actor call none = by_running (node_after s x.manager p t.h).manager.running refl
+    → x.entry.actor ≡ actors.Receiver j → x.entry.call ≡ calls.Turn → Moves s hs p x t.h z
+receiver_acts s hs wide p rest es x z t j premises story peace split actor call = by_running (node_after s x.manager p t.h).manager.running refl
   where
     can : IsDeed (where_up (node_after s x.manager p t.h).manager.running (turn_up x.entry.stamp (actors.Receiver j) x.entry.effect.popped (node_after s x.manager p t.h))) x.entry.chance (node_after s x.manager p t.h)
     can = subst (λ (c : Call). IsEvent x.entry.stamp (actors.Receiver j) c x.entry.chance x.entry.effect.popped (node_after s x.manager p t.h)) call
@@ -203,10 +247,17 @@ receiver_acts s hs wide p rest es x z t j premises story peace split actor call 
         let here = (takes_here s hs p x z t j k e q up).here in
         let on : where_up n.manager.running (turn_up x.entry.stamp (actors.Receiver j) x.entry.effect.popped n) ≡ o =
         ap (λ (r : Running). where_up r (turn_up x.entry.stamp (actors.Receiver j) x.entry.effect.popped n)) up ∙ ap (λ (v : Option ChannelEnd). receiver_turn x.entry.stamp (as_receiver v) x.entry.effect.popped n) here in
-        let a : Acts s p x t.h o = acts s hs p x t (actors.Receiver j) calls.Turn o up none (receiver_free x.entry.stamp own x.entry.effect.popped _ n) (subst (λ (v : Option Deed). IsDeed v x.entry.chance n) on can) (same ∙ ap (λ (v : Option Deed). choice_event x.entry.chance v n) on) in
+        let can_here : IsDeed o x.entry.chance n = subst (λ (v : Option Deed). IsDeed v x.entry.chance n) on can in
+        let same_here : done_by x.entry n ≡ choice_event x.entry.chance o n = same ∙ ap (λ (v : Option Deed). choice_event x.entry.chance v n) on in
+        let see = receivers_see s hs p rest x z j k story premises.lawful e q actor (λ o f w. offers_have_stamps s hs premises k.sender o f w) in
         let g = some_at hs k.sender (subst (λ (l : ℕ). k.sender < l) (sym premises.joined.all) (cable_is s s.cables k premises.scenario.cables (mem_at s.cables j k e)).sender) in
-        receivers s hs wide p es x t.h g.0 t.stamp z j k a.deed premises.scenario peace split t.is t.tells t.own e q g.1 actor call a.run a.is
-        (receivers_see s hs p rest x z j k story premises.lawful e q actor (λ o f w. offers_have_stamps s hs premises k.sender o f w))
+        bool_case (is_stopped_call x.entry.chance) (λ b. is_stopped_call x.entry.chance ≡ b → Moves s hs p x t.h z)
+        (λ b some.
+        let v : Stops_ o x.entry.chance n = stops o x.entry.chance n can_here some in
+        receiver_halts s hs p x z t j k v.deed v.by v.part v.left premises.scenario e q call up (same_here ∙ (λ i. choice_event (v.alone i) (v.is i) n)) v.can v.is see)
+        (λ b none.
+        let a : Acts s p x t.h o = acts s hs p x t (actors.Receiver j) calls.Turn o up none (receiver_free x.entry.stamp own x.entry.effect.popped _ n) can_here same_here in
+        receivers s hs wide p es x t.h g.0 t.stamp z j k a.deed premises.scenario peace split t.is t.tells t.own e q g.1 actor call a.run a.is see) refl
 
     by_end : (v : Option ChannelEnd) → (node_after s x.manager p t.h).manager.running ≡ Up → end_in j (node_after s x.manager p t.h).own.ends ≡ v → IsDeed (receiver_turn x.entry.stamp (as_receiver v) x.entry.effect.popped (node_after s x.manager p t.h)) x.entry.chance (node_after s x.manager p t.h) → Moves s hs p x t.h z
     by_end None up e d = absurd d
@@ -227,8 +278,8 @@ receiver_acts s hs wide p rest es x z t j premises story peace split actor call 
         (subst (λ (r : Running). IsDeed (where_up r (turn_up x.entry.stamp (actors.Receiver j) x.entry.effect.popped (node_after s x.manager p t.h))) x.entry.chance (node_after s x.manager p t.h)) up can)
 
 -- A TIMEOUT
-pub timeout_acts : (s : Scenario) (hs : List History) (p : List Line) (x : Line) (z : Stand s hs p) (t : Told_ s hs p x) → Premises s hs → x.entry.call ≡ calls.Timeout → is_stopped_call x.entry.chance ≡ false → Moves s hs p x t.h z
-timeout_acts s hs p x z t premises call none = by_actor x.entry.actor refl
+pub timeout_acts : (s : Scenario) (hs : List History) (p : List Line) (x : Line) (z : Stand s hs p) (t : Told_ s hs p x) → Premises s hs → x.entry.call ≡ calls.Timeout → Moves s hs p x t.h z
+timeout_acts s hs p x z t premises call = by_actor x.entry.actor refl
   where
     can : (a : Actor) → x.entry.actor ≡ a → IsDeed (where_up (node_after s x.manager p t.h).manager.running (timeout_by a (node_after s x.manager p t.h))) x.entry.chance (node_after s x.manager p t.h)
     can a actor = subst (λ (c : Call). IsEvent x.entry.stamp a c x.entry.chance x.entry.effect.popped (node_after s x.manager p t.h)) call
@@ -247,8 +298,14 @@ timeout_acts s hs p x z t premises call none = by_actor x.entry.actor refl
         let here = (sends_here s hs p x z t j k e q up).here in
         let on : where_up n.manager.running (timeout_by (actors.Sender j) n) ≡ o = ap (λ (r : Running). where_up r (timeout_by (actors.Sender j) n)) up ∙ ap (λ (v : Option ChannelEnd). timeout_of (as_sender v) n) here in
         let same : done_by x.entry n ≡ choice_event x.entry.chance (where_up n.manager.running (timeout_by (actors.Sender j) n)) n = λ i. event x.entry.stamp (actor i) (call i) x.entry.chance x.entry.effect.popped n in
-        let a : Acts s p x t.h o = acts s hs p x t (actors.Sender j) calls.Timeout o up none (timeout_free own n) (subst (λ (v : Option Deed). IsDeed v x.entry.chance n) on (can (actors.Sender j) actor)) (same ∙ ap (λ (v : Option Deed). choice_event x.entry.chance v n) on) in
-        timeouts s hs p x t.h t.stamp z j k a.deed premises.scenario t.is t.tells t.own e q call a.run a.is
+        let can_here : IsDeed o x.entry.chance n = subst (λ (v : Option Deed). IsDeed v x.entry.chance n) on (can (actors.Sender j) actor) in
+        bool_case (is_stopped_call x.entry.chance) (λ b. is_stopped_call x.entry.chance ≡ b → Moves s hs p x t.h z)
+        (λ b some.
+        let v : Stops_ o x.entry.chance n = stops o x.entry.chance n can_here some in
+        absurd (none_written v.part v.deed.parts (subst EachUnforced v.is (timeout_unforced own n)) v.can.0))
+        (λ b none.
+        let a : Acts s p x t.h o = acts s hs p x t (actors.Sender j) calls.Timeout o up none (timeout_free own n) can_here (same ∙ ap (λ (v : Option Deed). choice_event x.entry.chance v n) on) in
+        timeouts s hs p x t.h t.stamp z j k a.deed premises.scenario t.is t.tells t.own e q call a.run a.is) refl
 
     by_end : (j : ℕ) (v : Option ChannelEnd) → x.entry.actor ≡ actors.Sender j → (node_after s x.manager p t.h).manager.running ≡ Up → end_in j (node_after s x.manager p t.h).own.ends ≡ v → IsDeed (timeout_of (as_sender v) (node_after s x.manager p t.h)) x.entry.chance (node_after s x.manager p t.h) → Moves s hs p x t.h z
     by_end j None actor up e d = absurd d

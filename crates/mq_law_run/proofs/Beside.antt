@@ -115,7 +115,7 @@ change_beside (SetBound channel true) p e = record { given = refl; running = ref
 change_beside (SetBound channel false) p e = record { given = refl; running = refl; definitions = refl; connections = refl; moment = refl; numbers = refl }
 change_beside c p e = absurd cc
 
-all_beside : (cs : List Change) (p : Plain) → all_of_end cs ≡ true → IsBeside p (apply_all cs p)
+pub all_beside : (cs : List Change) (p : Plain) → all_of_end cs ≡ true → IsBeside p (apply_all cs p)
 all_beside [] p e = none_beside p
 all_beside (c ∷ cs) p e = let b = and_both (is_of_end c) (all_of_end cs) e in then_beside p (apply c p) (apply_all cs (apply c p)) (change_beside c p b.0) (all_beside cs (apply c p) b.1)
 

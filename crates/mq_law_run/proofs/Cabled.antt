@@ -85,7 +85,7 @@ change_cabled ks m (SetBound c true) p e h = same_batches ks m p (apply (SetBoun
 change_cabled ks m (SetBound c false) p e h = same_batches ks m p (apply (SetBound c false) p) refl h
 change_cabled ks m c p e h = same_batches ks m p (apply c p) refl h
 
-all_cabled : (ks : List CableLine) (m : ℕ) (cs : List Change) (p : Plain) → all_add_none cs ≡ true → AreCabled ks m p → AreCabled ks m (apply_all cs p)
+pub all_cabled : (ks : List CableLine) (m : ℕ) (cs : List Change) (p : Plain) → all_add_none cs ≡ true → AreCabled ks m p → AreCabled ks m (apply_all cs p)
 all_cabled ks m [] p e h = h
 all_cabled ks m (c ∷ cs) p e h = let b = and_both (adds_none c) (all_add_none cs) e in all_cabled ks m cs (apply c p) b.1 (change_cabled ks m c p b.0 h)
 

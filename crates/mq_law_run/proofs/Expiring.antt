@@ -69,7 +69,7 @@ use Rattle.mq_law_events.specs.Tied.{Follow}
 use Rattle.mq_law_story.specs.Needs.{IsTied}
 use Rattle.mq_law_deeds.proofs.Counting.{calls_kept}
 use Rattle.mq_law_deeds.proofs.Rising.{parts_rise}
-use Rattle.mq_law_one.specs.Alone.{NoOther}
+use Rattle.mq_law_stopped.specs.Noted.{EndNote}
 use Rattle.mq_law_one.proofs.Happening.{noted_up, state_up}
 use Rattle.mq_law_run.proofs.Owning.{housed_else, others_told}
 use Rattle.mq_law_run.proofs.Sending.{EachCabled, cabled_by, far_else, free_of, near_else, none_number, same_number, sender_number}
@@ -101,7 +101,7 @@ retied w g b ks xs ys k c y e f j = record {
 }
 
 -- what it does
-expires_so : (d : SenderDoes) → is_expiry d ≡ true → d ≡ does.Expire
+pub expires_so : (d : SenderDoes) → is_expiry d ≡ true → d ≡ does.Expire
 expires_so does.Expire e = refl
 expires_so d e = absurd cc
 
@@ -214,7 +214,7 @@ expiry_moves s hs p x z t i k d scenario e q actor call r is offered gone =
         number = ap (λ (g : Given). g.number) follow.same.given ∙ a.number;
         timed = record { users = follow.told.users; used = follow.told.used; moment = (follow.kept a.timed.users follow.told.users a.timed.used follow.told.used).moment ∙ a.timed.moment ∙ sym follow.steady };
         state = state_up q1 up r.after;
-        noted = noted_up NoOther m q1 l1 up;
+        noted = noted_up (EndNote s (put_at z.xs k.sender k.channel c1) m) m q1 l1 up;
       };
       known = follow.known;
       others = λ o v f h. others_told m o v l l1 f follow.other h;

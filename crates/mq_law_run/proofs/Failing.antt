@@ -22,7 +22,9 @@ use Rattle.mq_law_turns.specs.Agreed.{IsToldOf}
 use Rattle.mq_law_turns.proofs.Agreeing.{grows}
 use Rattle.mq_law_cables.specs.Joints.{AreCabled}
 use Rattle.mq_law_deeds.specs.Numbers.{AreCountedAt}
-use Rattle.mq_law_one.specs.Alone.{Became, IsAt, IsNotedAt, NoOther}
+use Rattle.mq_spec_network.specs.Ledger as ledgers
+use Rattle.mq_law_stopped.specs.Noted.{EndNote}
+use Rattle.mq_law_one.specs.Alone.{Became, IsAt, IsNotedAt}
 use Rattle.mq_law_one.proofs.Acting.{aside_happens}
 use Rattle.mq_law_one.proofs.Running.{Told_}
 use Rattle.mq_law_run.specs.Run.{Moves, Stand, failed_node, far_at, near_at}
@@ -32,9 +34,9 @@ use Rattle.mq_law_run.proofs.Running.{far_here, move_to, near_here}
 use Rattle.mq_law_run.proofs.Telling.{deeds_more, none_committed, risen_still, still_not, told_before}
 use Rattle.mq_law_run.proofs.Tying.{leads_on}
 
-more_noted : (m : ℕ) (noted : Option Noted) (starts more : ℕ) (p : Plain) (l : Ledger) → IsNotedAt NoOther m (Down noted starts) p l → IsNotedAt NoOther m (Down noted more) p l
-more_noted m None starts more p l h = tt
-more_noted m (Some n) starts more p l h = h
+more_noted : (E : ledgers.Stopped → Noted → Plain → Type 0) (m : ℕ) (noted : Option Noted) (starts more : ℕ) (p : Plain) (l : Ledger) → IsNotedAt E m (Down noted starts) p l → IsNotedAt E m (Down noted more) p l
+more_noted E m None starts more p l h = tt
+more_noted E m (Some n) starts more p l h = h
 
 near_noted : (w : Where) (noted : Option Noted) (more : ℕ) (g : LogState) (n : Node) (c : Channel) → EachNoted w n.manager noted c → EachNoted w (failed_node noted more g n).manager noted c
 near_noted w None more g n c h = tt
@@ -65,8 +67,8 @@ failing_moves s hs p x h stamp z noted starts more g is tells own down same none
     let next : Node = failed_node noted more g n in
     let ps : List Plain = managers_at s p hs in
     let qs : List Plain = managers_at s (p ++ x ∷ []) hs in
-    let a : IsAt NoOther m z.given n l = z.at m h is in
-    let b : Became NoOther m z.given n l next l = aside_happens m z.given n l n.own (Down noted more) g a (ap is_up down) (more_noted m noted starts more n.manager l (subst (λ (r : Running). IsNotedAt NoOther m r n.manager l) down a.noted)) in
+    let a : IsAt (EndNote s z.xs m) m z.given n l = z.at m h is in
+    let b : Became (EndNote s z.xs m) m z.given n l next l = aside_happens m z.given n l n.own (Down noted more) g a (ap is_up down) (more_noted (EndNote s z.xs m) m noted starts more n.manager l (subst (λ (r : Running). IsNotedAt (EndNote s z.xs m) m r n.manager l) down a.noted)) in
     let on : IsNext m n.manager next.manager ps qs = subst (λ (w : Node). IsNext m n.manager w.manager ps qs) same (next_managers s hs p x t) in
     let j = leads_on s z.given b.now m n.manager next.manager ps qs l l z.ghost s.cables z.xs z.ys on a.told b.leads b.same b.at.told b.other z.joint in
     let delta : x.entry.effect.delta ≡ [] = tells.delta ∙ none in
@@ -102,7 +104,7 @@ failing_moves s hs p x h stamp z noted starts more g is tells own down same none
       not_yet = λ a_ c u f. still_not s (opening_managers s hs) p x c u (none_committed c u m x.entry.effect.delta received) (z.not_yet a_ c u ((λ i. sym j.1 i a_ c u) ∙ f));
       risen = λ k w. risen_still s (opening_managers s hs) p x k.channel (z.xs k.sender k.channel).receives.unit (z.xs k.sender k.channel).receives.unit received refl (z.risen k w);
       owned = λ a_ c u f. z.owned a_ c u ((λ i. sym j.1 i a_ c u) ∙ f);
-      at = subst (λ (w : Node). IsAt NoOther m b.now w l) (sym same) b.at;
+      at = subst (λ (w : Node). IsAt (EndNote s z.xs m) m b.now w l) (sym same) b.at;
       known = b.known;
       others = λ c r ne o. o;
       users = λ c ne. refl;

@@ -24,7 +24,8 @@ use Rattle.mq_law_turns.proofs.Agreeing.{grows}
 use Rattle.mq_law_turns.proofs.Parts.{stays_none}
 use Rattle.mq_law_cables.specs.Joints.{AreCabled, AreJoint}
 use Rattle.mq_law_deeds.specs.Numbers.{AreCountedAt}
-use Rattle.mq_law_one.specs.Alone.{IsAt, NoOther}
+use Rattle.mq_law_stopped.specs.Noted.{EndNote}
+use Rattle.mq_law_one.specs.Alone.{IsAt}
 use Rattle.mq_law_one.proofs.Running.{Told_}
 use Rattle.mq_law_run.specs.Run.{Moves, Stand, far_at, near_at}
 use Rattle.mq_law_run.proofs.Owning.{next_managers}
@@ -69,7 +70,7 @@ idle_moves s hs p x h stamp z is tells own same none quiet whole =
       not_yet = λ a c u f. still_not s (opening_managers s hs) p x c u (none_committed c u m x.entry.effect.delta received) (z.not_yet a c u f);
       risen = λ k w. risen_still s (opening_managers s hs) p x k.channel (z.xs k.sender k.channel).receives.unit (z.xs k.sender k.channel).receives.unit received refl (z.risen k w);
       owned = z.owned;
-      at = subst (λ (w : Node). IsAt NoOther m z.given w l) (sym same) (z.at m h is);
+      at = subst (λ (w : Node). IsAt (EndNote s z.xs m) m z.given w l) (sym same) (z.at m h is);
       known = λ i f. refl;
       others = λ a r ne o. o;
       users = λ a ne. refl;

@@ -18,6 +18,8 @@ pub mod Receiving
 pub mod Stopping
 pub mod Restarting
 pub mod Returning
+pub mod Redoing
+pub mod Finding
 pub mod Timing
 pub mod Expiring
 pub mod Commanding
@@ -28,7 +30,10 @@ pub mod Popping
 pub mod Stamping
 pub mod Rising
 pub mod Cabling
+pub mod Cutting
+pub mod Halting
 pub mod Acting
 pub mod Obeying
+pub mod Breaking
 pub mod Whole
 pub mod Beginning

@@ -37,6 +37,7 @@ use Rattle.mq_spec_node.specs.Deeds.{CanCome, Deed, Done, done, still_tried}
 use Rattle.mq_spec_node.specs.Operators.{end_here, operate, operate_up, refused, refused_or, reset_end, resolve_doubt, resolve_end, start_end, start_seized, stop_end}
 use Rattle.mq_spec_node.specs.Happens.{IsDeed, IsEvent, connected_by, event, remembering}
 use Rattle.mq_spec_node.specs.Replays.{done_by}
+use Rattle.mq_history.specs.Scenarios.{IsScenario}
 use Rattle.mq_spec_network.specs.Conflict.{Deed as ToldDeed, NoConflict, deeds}
 use Rattle.mq_spec_network.specs.Promised.{Premises}
 use Rattle.mq_spec_network.specs.Standing.{node_after}
@@ -136,20 +137,20 @@ same_monitors k f (m ∷ ms) same = λ i. one (m.number == k) i ∷ same_monitor
 told_same : (r : Reply) (a : Acted) (m : Monitor) → r ≡ replies.Acted a → connected_by r m ≡ m
 told_same r a m e = ap (λ (o : Reply). connected_by o m) e
 
-remembers : (actor : Actor) (op : Op) (d : Done) (a : Acted) → d.reply ≡ replies.Acted a → remembering actor (calls.Act (acts.Obey (lines.Operate op))) d ≡ d
-remembers (actors.Monitor k) op d a e = ap (λ (ms : List Monitor). record d { next = record d.next { own = record d.next.own { monitors = ms } } }) (same_monitors k (connected_by d.reply) d.next.own.monitors (λ m. told_same d.reply a m e))
-remembers (actors.Script k) op d a e = refl
-remembers (actors.Sender k) op d a e = refl
-remembers (actors.Receiver k) op d a e = refl
-remembers (actors.Handler k) op d a e = refl
-remembers actors.Operator op d a e = refl
-remembers actors.Clock op d a e = refl
+pub remembers : (actor : Actor) (op : Op) (d : Done) → ((m : Monitor) → connected_by d.reply m ≡ m) → remembering actor (calls.Act (acts.Obey (lines.Operate op))) d ≡ d
+remembers (actors.Monitor k) op d same = ap (λ (ms : List Monitor). record d { next = record d.next { own = record d.next.own { monitors = ms } } }) (same_monitors k (connected_by d.reply) d.next.own.monitors same)
+remembers (actors.Script k) op d same = refl
+remembers (actors.Sender k) op d same = refl
+remembers (actors.Receiver k) op d same = refl
+remembers (actors.Handler k) op d same = refl
+remembers actors.Operator op d same = refl
+remembers actors.Clock op d same = refl
 
 -- a cable at its place
-abbrev slice_at : Scenario → ℕ → CableLine → Type 0
+abbrev pub slice_at : Scenario → ℕ → CableLine → Type 0
 slice_at s i k = slice_get s.cables i ≡ Some k
 
-abbrev obeys : Op → Call
+abbrev pub obeys : Op → Call
 obeys op = calls.Act (acts.Obey (lines.Operate op))
 
 -- an end that is there is found by its cable
@@ -161,6 +162,40 @@ found_in (y ∷ es) x h n = bool_case (cable_of y == cable_of x) (λ t. (cable_o
       | inl q ↦ absurd (true_false (sym (eqb_self (cable_of x)) ∙ ap (λ (o : ChannelEnd). cable_of o == cable_of x) q ∙ e))
       | inr w ↦ w
     ])) refl
+
+-- the sender's end that is named
+pub of_sender : (s : Scenario) (hs : List History) (p : List Line) (x : Line) (z : Stand s hs p) (t : Told_ s hs p x) (e : SenderEnd) → IsScenario s → (node_after s x.manager p t.h).manager.running ≡ Up → Mem (Sends e) (node_after s x.manager p t.h).own.ends
+    → ((i : ℕ) (k : CableLine) → slice_at s i k → k.sender ≡ x.manager → e ≡ sender_of (near_at s i k) (z.xs k.sender k.channel).sender → Moves s hs p x t.h z) → Moves s hs p x t.h z
+of_sender s hs p x z t e scenario up there f =
+    let at = found_in (node_after s x.manager p t.h).own.ends (Sends e) (run_keyed s x.manager t.h (part x.manager p) scenario) there in
+    let w = cable_there s x.manager p t.h e.cable (Sends e) scenario at in
+    elim w.2 [
+      | inl q ↦ f e.cable w.0 w.1 q (same_end (sym at ∙ (sends_here s hs p x z t e.cable w.0 w.1 q up).here))
+      | inr q ↦ absurd (kinds (sym at ∙ (takes_here s hs p x z t e.cable w.0 w.1 q up).here))
+    ]
+  where
+    same_end : {o : SenderEnd} → Some (Sends e) ≡ Some (Sends o) → e ≡ o
+    same_end f = cc
+
+    kinds : {o : ReceiverEnd} → Some (Sends e) ≡ Some (Receives o) → ⊥
+    kinds f = cc
+
+-- the receiver's
+pub of_receiver : (s : Scenario) (hs : List History) (p : List Line) (x : Line) (z : Stand s hs p) (t : Told_ s hs p x) (e : ReceiverEnd) → IsScenario s → (node_after s x.manager p t.h).manager.running ≡ Up → Mem (Receives e) (node_after s x.manager p t.h).own.ends
+    → ((i : ℕ) (k : CableLine) → slice_at s i k → k.receiver ≡ x.manager → e ≡ receiver_of (far_at s i k) (z.xs k.sender k.channel).receiver (z.xs k.sender k.channel).kept → Moves s hs p x t.h z) → Moves s hs p x t.h z
+of_receiver s hs p x z t e scenario up there f =
+    let at = found_in (node_after s x.manager p t.h).own.ends (Receives e) (run_keyed s x.manager t.h (part x.manager p) scenario) there in
+    let w = cable_there s x.manager p t.h e.cable (Receives e) scenario at in
+    elim w.2 [
+      | inl q ↦ absurd (kinds (sym at ∙ (sends_here s hs p x z t e.cable w.0 w.1 q up).here))
+      | inr q ↦ f e.cable w.0 w.1 q (same_end (sym at ∙ (takes_here s hs p x z t e.cable w.0 w.1 q up).here))
+    ]
+  where
+    same_end : {o : ReceiverEnd} → Some (Receives e) ≡ Some (Receives o) → e ≡ o
+    same_end f = cc
+
+    kinds : {o : SenderEnd} → Some (Receives e) ≡ Some (Sends o) → ⊥
+    kinds f = cc
 
 -- EACH COMMAND
 pub obey_acts : (s : Scenario) (hs : List History) (wide p : List Line) (es : List ToldDeed) (x : Line) (z : Stand s hs p) (t : Told_ s hs p x) (op : Op) → Premises s hs → NoConflict s hs wide → deeds wide ≡ deeds (p ++ x ∷ []) ++ es
@@ -175,7 +210,7 @@ obey_acts s hs wide p es x z t op premises peace split call none = by_running (n
         (subst (λ (c : Call). IsEvent x.entry.stamp x.entry.actor c x.entry.chance x.entry.effect.popped (node_after s x.manager p t.h)) call t.tells.event) none a.2
 
     ran : done_by x.entry (node_after s x.manager p t.h) ≡ done (operate op (node_after s x.manager p t.h)) Runs (node_after s x.manager p t.h)
-    ran = (λ i. event x.entry.stamp x.entry.actor (call i) (r.0 i) x.entry.effect.popped (node_after s x.manager p t.h)) ∙ remembers x.entry.actor op (done (operate op (node_after s x.manager p t.h)) Runs (node_after s x.manager p t.h)) a.0 a.1
+    ran = (λ i. event x.entry.stamp x.entry.actor (call i) (r.0 i) x.entry.effect.popped (node_after s x.manager p t.h)) ∙ remembers x.entry.actor op (done (operate op (node_after s x.manager p t.h)) Runs (node_after s x.manager p t.h)) (λ m. told_same (operate op (node_after s x.manager p t.h)).reply a.0 m a.1)
 
     run : (node_after s x.manager p t.h).manager.running ≡ Up → IsRunning s p x t.h (operate op (node_after s x.manager p t.h))
     run up = record { up = up; is = ran; can = r.1 }
@@ -191,43 +226,6 @@ obey_acts s hs wide p es x z t op premises peace split call none = by_running (n
     up_so : (node_after s x.manager p t.h).manager.running ≡ Up → operate op (node_after s x.manager p t.h) ≡ operate_up op (node_after s x.manager p t.h)
     up_so up = ap (λ (v : Running). refused_or (refusal (when (not (is_up v)) reasons.Down ∷ [])) (node_after s x.manager p t.h).own (operate_up op (node_after s x.manager p t.h))) up
 
-    keyed : AreKeyed (keys (node_after s x.manager p t.h).own.ends)
-    keyed = run_keyed s x.manager t.h (part x.manager p) premises.scenario
-
-    -- the sender's end that is named
-    of_sender : (e : SenderEnd) → (node_after s x.manager p t.h).manager.running ≡ Up → Mem (Sends e) (node_after s x.manager p t.h).own.ends
-        → ((i : ℕ) (k : CableLine) → slice_at s i k → k.sender ≡ x.manager → e ≡ sender_of (near_at s i k) (z.xs k.sender k.channel).sender → Moves s hs p x t.h z) → Moves s hs p x t.h z
-    of_sender e up there f =
-        let at = found_in (node_after s x.manager p t.h).own.ends (Sends e) keyed there in
-        let w = cable_there s x.manager p t.h e.cable (Sends e) premises.scenario at in
-        elim w.2 [
-          | inl q ↦ f e.cable w.0 w.1 q (same_end (sym at ∙ (sends_here s hs p x z t e.cable w.0 w.1 q up).here))
-          | inr q ↦ absurd (kinds (sym at ∙ (takes_here s hs p x z t e.cable w.0 w.1 q up).here))
-        ]
-      where
-        same_end : {o : SenderEnd} → Some (Sends e) ≡ Some (Sends o) → e ≡ o
-        same_end f = cc
-
-        kinds : {o : ReceiverEnd} → Some (Sends e) ≡ Some (Receives o) → ⊥
-        kinds f = cc
-
-    -- the receiver's
-    of_receiver : (e : ReceiverEnd) → (node_after s x.manager p t.h).manager.running ≡ Up → Mem (Receives e) (node_after s x.manager p t.h).own.ends
-        → ((i : ℕ) (k : CableLine) → slice_at s i k → k.receiver ≡ x.manager → e ≡ receiver_of (far_at s i k) (z.xs k.sender k.channel).receiver (z.xs k.sender k.channel).kept → Moves s hs p x t.h z) → Moves s hs p x t.h z
-    of_receiver e up there f =
-        let at = found_in (node_after s x.manager p t.h).own.ends (Receives e) keyed there in
-        let w = cable_there s x.manager p t.h e.cable (Receives e) premises.scenario at in
-        elim w.2 [
-          | inl q ↦ absurd (kinds (sym at ∙ (sends_here s hs p x z t e.cable w.0 w.1 q up).here))
-          | inr q ↦ f e.cable w.0 w.1 q (same_end (sym at ∙ (takes_here s hs p x z t e.cable w.0 w.1 q up).here))
-        ]
-      where
-        same_end : {o : ReceiverEnd} → Some (Receives e) ≡ Some (Receives o) → e ≡ o
-        same_end f = cc
-
-        kinds : {o : SenderEnd} → Some (Receives e) ≡ Some (Sends o) → ⊥
-        kinds f = cc
-
     by_running : (v : Running) → (node_after s x.manager p t.h).manager.running ≡ v → Moves s hs p x t.h z
     by_running (Down noted starts) down = refuses reasons.Down (ap (λ (v : Running). refused_or (refusal (when (not (is_up v)) reasons.Down ∷ [])) (node_after s x.manager p t.h).own (operate_up op (node_after s x.manager p t.h))) down)
     by_running Up up = by_op op refl
@@ -238,16 +236,16 @@ obey_acts s hs wide p es x z t op premises peace split call none = by_running (n
         by_op : (o : Op) → op ≡ o → Moves s hs p x t.h z
         by_op (ops.Start name) is = here_case name (channel_of name (node_after s x.manager p t.h).manager.definitions) ends (λ v. end_here name (node_after s x.manager p t.h) ≡ v → Moves s hs p x t.h z)
             (λ e. refuses reasons.NotFound (up_so up ∙ ap (λ (o : Op). operate_up o (node_after s x.manager p t.h)) is ∙ ap (λ (v : Option ChannelEnd). start_end v (node_after s x.manager p t.h)) e))
-            (λ y w e. of_sender y up (sender_mem name ends y w) (λ i k f q g. senders.starting s hs p x t.h t.stamp z i k name premises.scenario t.is t.tells t.own f q (call ∙ ap obeys is) r.0 (subst (λ (o : Op). IsRunning s p x t.h (operate o (node_after s x.manager p t.h))) is (run up)) (e ∙ ap (λ (v : SenderEnd). Some (Sends v)) g)))
-            (λ y w e. of_receiver y up (receiver_mem name ends y w) (λ i k f q g. receivers.starting s hs p x t.h t.stamp z i k name premises.scenario t.is t.tells t.own f q (call ∙ ap obeys is) r.0 (subst (λ (o : Op). IsRunning s p x t.h (operate o (node_after s x.manager p t.h))) is (run up)) (e ∙ ap (λ (v : ReceiverEnd). Some (Receives v)) g))) refl
+            (λ y w e. of_sender s hs p x z t y premises.scenario up (sender_mem name ends y w) (λ i k f q g. senders.starting s hs p x t.h t.stamp z i k name premises.scenario t.is t.tells t.own f q (call ∙ ap obeys is) r.0 (subst (λ (o : Op). IsRunning s p x t.h (operate o (node_after s x.manager p t.h))) is (run up)) (e ∙ ap (λ (v : SenderEnd). Some (Sends v)) g)))
+            (λ y w e. of_receiver s hs p x z t y premises.scenario up (receiver_mem name ends y w) (λ i k f q g. receivers.starting s hs p x t.h t.stamp z i k name premises.scenario t.is t.tells t.own f q (call ∙ ap obeys is) r.0 (subst (λ (o : Op). IsRunning s p x t.h (operate o (node_after s x.manager p t.h))) is (run up)) (e ∙ ap (λ (v : ReceiverEnd). Some (Receives v)) g))) refl
         by_op (ops.Stop name) is = here_case name (channel_of name (node_after s x.manager p t.h).manager.definitions) ends (λ v. end_here name (node_after s x.manager p t.h) ≡ v → Moves s hs p x t.h z)
             (λ e. refuses reasons.NotFound (up_so up ∙ ap (λ (o : Op). operate_up o (node_after s x.manager p t.h)) is ∙ ap (λ (v : Option ChannelEnd). stop_end v (node_after s x.manager p t.h)) e))
-            (λ y w e. of_sender y up (sender_mem name ends y w) (λ i k f q g. senders.stopping s hs p x t.h t.stamp z i k name premises.scenario t.is t.tells t.own f q (call ∙ ap obeys is) r.0 (subst (λ (o : Op). IsRunning s p x t.h (operate o (node_after s x.manager p t.h))) is (run up)) (e ∙ ap (λ (v : SenderEnd). Some (Sends v)) g)))
-            (λ y w e. of_receiver y up (receiver_mem name ends y w) (λ i k f q g. receivers.stopping s hs p x t.h t.stamp z i k name premises.scenario t.is t.tells t.own f q (call ∙ ap obeys is) r.0 (subst (λ (o : Op). IsRunning s p x t.h (operate o (node_after s x.manager p t.h))) is (run up)) (e ∙ ap (λ (v : ReceiverEnd). Some (Receives v)) g))) refl
+            (λ y w e. of_sender s hs p x z t y premises.scenario up (sender_mem name ends y w) (λ i k f q g. senders.stopping s hs p x t.h t.stamp z i k name premises.scenario t.is t.tells t.own f q (call ∙ ap obeys is) r.0 (subst (λ (o : Op). IsRunning s p x t.h (operate o (node_after s x.manager p t.h))) is (run up)) (e ∙ ap (λ (v : SenderEnd). Some (Sends v)) g)))
+            (λ y w e. of_receiver s hs p x z t y premises.scenario up (receiver_mem name ends y w) (λ i k f q g. receivers.stopping s hs p x t.h t.stamp z i k name premises.scenario t.is t.tells t.own f q (call ∙ ap obeys is) r.0 (subst (λ (o : Op). IsRunning s p x t.h (operate o (node_after s x.manager p t.h))) is (run up)) (e ∙ ap (λ (v : ReceiverEnd). Some (Receives v)) g))) refl
         by_op (ops.Reset name seqnum) is = here_case name (channel_of name (node_after s x.manager p t.h).manager.definitions) ends (λ v. end_here name (node_after s x.manager p t.h) ≡ v → Moves s hs p x t.h z)
             (λ e. refuses reasons.NotFound (up_so up ∙ ap (λ (o : Op). operate_up o (node_after s x.manager p t.h)) is ∙ ap (λ (v : Option ChannelEnd). reset_end seqnum v (node_after s x.manager p t.h)) e))
-            (λ y w e. of_sender y up (sender_mem name ends y w) (λ i k f q g. senders.resetting s hs p x t.h t.stamp z i k name seqnum premises.scenario t.is t.tells t.own f q (call ∙ ap obeys is) r.0 (subst (λ (o : Op). IsRunning s p x t.h (operate o (node_after s x.manager p t.h))) is (run up)) (e ∙ ap (λ (v : SenderEnd). Some (Sends v)) g)))
-            (λ y w e. of_receiver y up (receiver_mem name ends y w) (λ i k f q g. receivers.resetting s hs p x t.h t.stamp z i k name seqnum premises.scenario t.is t.tells t.own f q (call ∙ ap obeys is) r.0 (subst (λ (o : Op). IsRunning s p x t.h (operate o (node_after s x.manager p t.h))) is (run up)) (e ∙ ap (λ (v : ReceiverEnd). Some (Receives v)) g))) refl
+            (λ y w e. of_sender s hs p x z t y premises.scenario up (sender_mem name ends y w) (λ i k f q g. senders.resetting s hs p x t.h t.stamp z i k name seqnum premises.scenario t.is t.tells t.own f q (call ∙ ap obeys is) r.0 (subst (λ (o : Op). IsRunning s p x t.h (operate o (node_after s x.manager p t.h))) is (run up)) (e ∙ ap (λ (v : SenderEnd). Some (Sends v)) g)))
+            (λ y w e. of_receiver s hs p x z t y premises.scenario up (receiver_mem name ends y w) (λ i k f q g. receivers.resetting s hs p x t.h t.stamp z i k name seqnum premises.scenario t.is t.tells t.own f q (call ∙ ap obeys is) r.0 (subst (λ (o : Op). IsRunning s p x t.h (operate o (node_after s x.manager p t.h))) is (run up)) (e ∙ ap (λ (v : ReceiverEnd). Some (Receives v)) g))) refl
         by_op (ops.Resolve name settle) is = by_end (sender_named name ends) refl
           where
             by_settle : (i : ℕ) (k : CableLine) (v : Settle) → settle ≡ v → slice_at s i k → k.sender ≡ x.manager → sender_named name ends ≡ Some (sender_of (near_at s i k) (z.xs k.sender k.channel).sender) → Moves s hs p x t.h z
@@ -260,4 +258,4 @@ obey_acts s hs wide p es x z t op premises peace split call none = by_running (n
 
             by_end : (v : Option SenderEnd) → sender_named name ends ≡ v → Moves s hs p x t.h z
             by_end None e = refuses reasons.NotFound (up_so up ∙ ap (λ (o : Op). operate_up o (node_after s x.manager p t.h)) is ∙ ap (λ (v : Option SenderEnd). resolve_end settle v (node_after s x.manager p t.h)) e)
-            by_end (Some y) e = of_sender y up (sender_mem name ends y e) (λ i k f q g. by_settle i k settle refl f q (e ∙ ap (λ (v : SenderEnd). Some v) g))
+            by_end (Some y) e = of_sender s hs p x z t y premises.scenario up (sender_mem name ends y e) (λ i k f q g. by_settle i k settle refl f q (e ∙ ap (λ (v : SenderEnd). Some v) g))

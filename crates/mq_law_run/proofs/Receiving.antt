@@ -77,7 +77,8 @@ use Rattle.mq_law_deeds.proofs.Resting.{EachRests, takes_rests}
 use Rattle.mq_law_deeds.proofs.Sounding.{behind}
 use Rattle.mq_law_deeds.proofs.Telling.{commits_told}
 use Rattle.mq_law_deeds.specs.Numbers.{AreCountedAt}
-use Rattle.mq_law_one.specs.Alone.{IsAt, NoOther}
+use Rattle.mq_law_stopped.specs.Noted.{EndNote}
+use Rattle.mq_law_one.specs.Alone.{IsAt}
 use Rattle.mq_law_one.proofs.Happening.{noted_up, state_up}
 use Rattle.mq_law_one.proofs.Running.{Told_}
 use Rattle.mq_law_run.specs.Run.{IsMoved, Moves, Stand, far_at, near_at}
@@ -113,7 +114,7 @@ ready : (s : Scenario) (hs : List History) (p : List Line) (x : Line) (z : Stand
 ready s hs p x z t k w scenario there q channel g from sound =
     let n : Node = node_after s x.manager p t.h in
     let l : Ledger = ledger (opening_ledger s hs) p in
-    let a : IsAt NoOther k.receiver z.given n l = subst (λ m. IsAt NoOther m z.given n l) (sym q) (z.at x.manager t.h t.is) in
+    let a : IsAt (EndNote s z.xs x.manager) k.receiver z.given n l = subst (λ m. IsAt (EndNote s z.xs x.manager) m z.given n l) (sym q) (z.at x.manager t.h t.is) in
     let c = subst (λ m. AreCountedAt n.manager.numbers.connections m l) (sym q) (z.counted x.manager t.h t.is) in
     record {
       cabled = subst (λ d. IsCabled s (managers_at s p hs) k.sender k.receiver d) (sym channel)
@@ -167,14 +168,14 @@ below_not u (inr e) = less_not u.n e.1
     less_not n e = omega arith
 
 -- OTHER ENDS
-near_else : (v : Where) (stamp : ℕ) (e : ReceiverEnd) (seen : Seen) (n : Node) (d : Deed) → receiver_deed stamp e seen n ≡ Some d → (e.cable == v.cable) ≡ false → IsSound n.manager → IsSound (do_all d.parts n.manager) → AsideNear v n d
+pub near_else : (v : Where) (stamp : ℕ) (e : ReceiverEnd) (seen : Seen) (n : Node) (d : Deed) → receiver_deed stamp e seen n ≡ Some d → (e.cable == v.cable) ≡ false → IsSound n.manager → IsSound (do_all d.parts n.manager) → AsideNear v n d
 near_else v stamp e seen n d is cable before after =
     let does : ReceiverDoes = receiver_next e.machine seen (is_receiver_defined e.channel n.manager.definitions) in
     let a : EachAsideNear v n (Some d) = subst (EachAsideNear v n) is (receivers_aside v stamp e seen n cable) in
     let f : EachRests v n (Some d) = subst (EachRests v n) is (takes_rests v stamp e seen does n (receivers_others v.channel stamp e seen does n)) in
     a (stays v.channel n.manager d.parts before after f.1 f.0)
 
-far_else : (v : Where) (stamp : ℕ) (e : ReceiverEnd) (seen : Seen) (n : Node) (d : Deed) → receiver_deed stamp e seen n ≡ Some d → (e.cable == v.cable) ≡ false → bytes_eq v.channel e.channel ≡ false → AsideFar v n d
+pub far_else : (v : Where) (stamp : ℕ) (e : ReceiverEnd) (seen : Seen) (n : Node) (d : Deed) → receiver_deed stamp e seen n ≡ Some d → (e.cable == v.cable) ≡ false → bytes_eq v.channel e.channel ≡ false → AsideFar v n d
 far_else v stamp e seen n d is cable other = subst (EachAsideOf v n) is (receivers_far v stamp e seen n cable other)
 
 pub receiver_run : (s : Scenario) (hs : List History) (p : List Line) (x : Line) (z : Stand s hs p) (t : Told_ s hs p x) (e : ReceiverEnd) (d : Deed) → (node_after s x.manager p t.h).manager.running ≡ Up
@@ -286,7 +287,7 @@ receiver_moves s hs whole p es x z t i k d g scenario none split e q from actor 
     let l1 : Ledger = post_of k.receiver l d in
     let took : Taken zz (world_of s z.given ms) (book_of l1) c1 y =
     (subst (λ (o : Option Deed). EachTaken zz n.manager l o c1 y) is (taking.turns zz n c y l stamp seen next.at takes_ facts joint refl offered given)) ms next in
-    let before : IsAt NoOther k.receiver z.given n l = subst (λ a. IsAt NoOther a z.given n l) (sym q) (z.at m t.h t.is) in
+    let before : IsAt (EndNote s z.xs m) k.receiver z.given n l = subst (λ a. IsAt (EndNote s z.xs m) a z.given n l) (sym q) (z.at m t.h t.is) in
     let kept0 : IsKept k.receiver z.given (do_all d.parts n.manager) l l1 =
     (subst (λ (o : Option Deed). EachKept zz n.manager l o) is (kept_by zz n c y l stamp seen does far (taking.committing zz n c y l stamp seen does refl facts offered given) (record { fresh = before.fresh; told = before.told; timed = before.timed }))) ms next in
     let kept : IsKept m z.given (do_all d.parts n.manager) l l1 = subst (λ a. IsKept a z.given (do_all d.parts n.manager) l l1) q kept0 in
@@ -355,7 +356,7 @@ receiver_moves s hs whole p es x z t i k d g scenario none split e q from actor 
         number = ap (λ (o : Given). o.number) beside.given ∙ (z.at m t.h t.is).number;
         timed = kept.timed;
         state = state_up (do_all d.parts n.manager) up r.after;
-        noted = noted_up NoOther m (do_all d.parts n.manager) l1 up;
+        noted = noted_up (EndNote s (put_at z.xs k.sender k.channel c1) m) m (do_all d.parts n.manager) l1 up;
       };
       known = λ i_ f. refl;
       others = kept.others;

@@ -221,7 +221,7 @@ and_none : (a : Bool) → (a && false) ≡ false
 and_none true = refl
 and_none false = refl
 
-real_unit : (u : Luw) → 1 ≤ u.n → same_unit u no_unit ≡ false
+pub real_unit : (u : Luw) → 1 ≤ u.n → same_unit u no_unit ≡ false
 real_unit u e = ap (λ (b : Bool). (u.session == 0) && b) (not_zero u.n e) ∙ and_none (u.session == 0)
 
 pub backing_out : (s : Scenario) (hs : List History) (whole p : List Line) (es : List ToldDeed) (x : Line) (h : History) (stamp : ℕ) (z : Stand s hs p) (i : ℕ) (k : CableLine) (name : List ℕ) → IsScenario s → NoConflict s hs whole

@@ -1,5 +1,5 @@
 -- A restart of a manager that finds a call's write, as a move of the network: it does what the note says, and then comes up.
-use Rattle.std.proofs.Common.{ℕ, ◌≡◌, ◌⊎◌, true, false, List, [], ◌∷◌, ◌++◌, refl, ap, sym, subst, ◌∙◌, inl, inr}
+use Rattle.std.proofs.Common.{ℕ, ◌≡◌, true, false, List, [], ◌∷◌, ◌++◌, refl, ap, sym, subst, ◌∙◌}
 use Rattle.std.specs.Prelude.{Bool, Option, Some, None, ◌==◌, filter, if◌then◌else◌, slice_get}
 use Rattle.mq_frame.specs.declared.frame.Frame.{Frame}
 use Rattle.mq_sync.specs.declared.unit.Unit.{Unit as Luw}
@@ -78,7 +78,6 @@ use Rattle.mq_law_events.proofs.Telling.{else_changed}
 use Rattle.mq_law_found.specs.Finds.{IsNoted}
 use Rattle.mq_law_cables.proofs.Unprepared.{IsOne}
 use Rattle.mq_law_deeds.specs.Numbers.{AreCounted}
-use Rattle.mq_law_one.specs.Alone.{IsNotedAt, NoOther}
 use Rattle.mq_law_events.proofs.Taking.{taken_users}
 use Rattle.mq_message.specs.declared.message.Ident.{Ident}
 use Rattle.mq_calls.specs.declared.deltas.Did.TheVariants as did
@@ -86,28 +85,21 @@ use Rattle.mq_law_rows.proofs.Lists.{bool_case}
 use Rattle.mq_law_run.proofs.Cabled.{same_batches}
 use Rattle.mq_law_run.proofs.Telling.{deeds_more, none_committed, risen_still, still_not, told_before}
 
-abbrev clear : Users → Users
+abbrev pub clear : Users → Users
 clear u = record u { cut = None }
 
-abbrev alone : Users → Users
+abbrev pub alone : Users → Users
 alone u = record u { connections = [] }
 
 -- the call whose write was stopped
-abbrev FoundAt : ℕ → Noted → Plain → Ledger → Type 0
+abbrev pub FoundAt : ℕ → Noted → Plain → Ledger → Type 0
 FoundAt m noted b l = (o : ledgers.Stopped) × ((ledgers.users_at m l).cut ≡ Some o) × IsNoted m o noted b
 
-of_call : (m : ℕ) (noted : Noted) (starts : ℕ) (b : Plain) (l : Ledger) → IsNotedAt NoOther m (Down (Some noted) starts) b l → FoundAt m noted b l
-of_call m noted starts b l h = (h.0, h.1, only h.2)
-  where
-    only : IsNoted m h.0 noted b ⊎ ⊥ → IsNoted m h.0 noted b
-    only (inl o) = o
-    only (inr o) = absurd o
-
 -- what a restart tells of the note commits nothing, and touches no connection
-abbrev IsQuiet : List Did → Type 0
+abbrev pub IsQuiet : List Did → Type 0
 IsQuiet ds = unit_received ds ≡ None
 
-filter_quiet : (f : Did → Bool) (ds : List Did) → IsQuiet ds → IsQuiet (filter f ds)
+pub filter_quiet : (f : Did → Bool) (ds : List Did) → IsQuiet ds → IsQuiet (filter f ds)
 filter_quiet f [] a = refl
 filter_quiet f (did.Received c u ∷ ds) a = absurd cc
 filter_quiet f (did.Placed q i dead ∷ ds) a = bool_case (f (did.Placed q i dead)) (λ t. IsQuiet (if t then did.Placed q i dead ∷ filter f ds else filter f ds)) (λ e. filter_quiet f ds a) (λ e. filter_quiet f ds a)
@@ -118,7 +110,7 @@ filter_quiet f (did.Released q i ∷ ds) a = bool_case (f (did.Released q i)) (�
 filter_quiet f (did.Hardened c note ∷ ds) a = bool_case (f (did.Hardened c note)) (λ t. IsQuiet (if t then did.Hardened c note ∷ filter f ds else filter f ds)) (λ e. filter_quiet f ds a) (λ e. filter_quiet f ds a)
 filter_quiet f (did.Prepared c u ∷ ds) a = bool_case (f (did.Prepared c u)) (λ t. IsQuiet (if t then did.Prepared c u ∷ filter f ds else filter f ds)) (λ e. filter_quiet f ds a) (λ e. filter_quiet f ds a)
 
-gone_users : (m : ℕ) (ds : List Did) (l : Ledger) → (ledgers.take_all_gone m ds l).users ≡ l.users
+pub gone_users : (m : ℕ) (ds : List Did) (l : Ledger) → (ledgers.take_all_gone m ds l).users ≡ l.users
 gone_users m [] l = refl
 gone_users m (d ∷ ds) l = gone_users m ds (ledgers.take_gone m d l) ∙ one d
   where
@@ -136,15 +128,15 @@ gone_users m (d ∷ ds) l = gone_users m ds (ledgers.take_gone m d l) ∙ one d
     one (did.Prepared c u) = refl
     one (did.Received c u) = refl
 
-one_redone : (p r : Plain) → IsSame p r → IsOne p → IsOne r
+pub one_redone : (p r : Plain) → IsSame p r → IsOne p → IsOne r
 one_redone p r same one c b e = (λ i. in_doubt_of (sender_in c (same.senders i))) ∙ one c b ((λ i. batch_of c (sym same.batches i)) ∙ e)
 
-none_counted : (last : ℕ) → AreCounted last []
+pub none_counted : (last : ℕ) → AreCounted last []
 none_counted last = record { apart = tt; upto = λ k n. absurd n }
 
-pub return_moves : (s : Scenario) (hs : List History) (p : List Line) (x : Line) (z : Stand s hs p) (t : Told_ s hs p x) (noted : Noted) (starts started : ℕ) → IsScenario s → (node_after s x.manager p t.h).manager.running ≡ Down (Some noted) starts → x.entry.call ≡ calls.Act acts.Restart
+pub call_returns : (s : Scenario) (hs : List History) (p : List Line) (x : Line) (z : Stand s hs p) (t : Told_ s hs p x) (noted : Noted) (starts started : ℕ) → IsScenario s → FoundAt x.manager noted (node_after s x.manager p t.h).manager (ledger (opening_ledger s hs) p) → (node_after s x.manager p t.h).manager.running ≡ Down (Some noted) starts → x.entry.call ≡ calls.Act acts.Restart
     → x.entry.chance ≡ chances.Restart (Comes true started) → done_by x.entry (node_after s x.manager p t.h) ≡ back_done started noted (node_after s x.manager p t.h) → Moves s hs p x t.h z
-return_moves s hs p x z t noted starts started scenario down call chance is =
+call_returns s hs p x z t noted starts started scenario found down call chance is =
     let m : ℕ = x.manager in
     let n : Node = node_after s m p t.h in
     let b : Plain = n.manager in
@@ -152,7 +144,6 @@ return_moves s hs p x z t noted starts started scenario down call chance is =
     let e : Entry = x.entry in
     let ds : List Did = redone_delta true (Some noted) b in
     let a = z.at m t.h t.is in
-    let found : FoundAt m noted b l = of_call m noted starts b l (subst (λ (r : Running). IsNotedAt NoOther m r b l) down a.noted) in
     let g : Plain = redone noted b in
     let q : Plain = restarted true started (Some noted) b in
     let k1 : Ledger = ledgers.found m (Some found.0) ds (ledgers.take_all_gone m ds l) in

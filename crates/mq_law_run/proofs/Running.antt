@@ -6,13 +6,14 @@ use Rattle.mq_calls.specs.declared.choices.Choice.TheVariants.{Runs}
 use Rattle.mq_history.specs.declared.history.History.{History}
 use Rattle.mq_history.specs.declared.scenario.CableLine.{CableLine}
 use Rattle.mq_history.specs.declared.scenario.Scenario.{Scenario}
-use Rattle.mq_spec_state.specs.State.{Given, Numbers, Plain, Running}
+use Rattle.mq_spec_state.specs.State.{Given, Noted, Numbers, Plain, Running}
 use Rattle.mq_spec_state.specs.State.Running.{Up}
 use Rattle.mq_spec_state.specs.Steps.{do_all}
 use Rattle.mq_spec_node.specs.Node.{Node}
 use Rattle.mq_spec_node.specs.Deeds.{CanCome, Deed, Done, done}
 use Rattle.mq_spec_node.specs.Replays.{done_by}
 use Rattle.mq_spec_network.specs.Conflict.{Deed as ToldDeed}
+use Rattle.mq_spec_network.specs.Ledger as ledgers
 use Rattle.mq_spec_network.specs.Ledger.{Ledger, ledger}
 use Rattle.mq_spec_network.specs.Standing.{managers_at, node_after, opening_ledger}
 use Rattle.mq_spec_network.specs.Story.{Line, Mem}
@@ -29,7 +30,8 @@ use Rattle.mq_law_turns.specs.Agreed.{IsToldOf}
 use Rattle.mq_law_turns.specs.Turns.{Scene, TurnedBy}
 use Rattle.mq_law_turns.proofs.Agreeing.{grows}
 use Rattle.mq_law_deeds.specs.Numbers.{AreCountedAt}
-use Rattle.mq_law_one.specs.Alone.{IsAt, IsState, NoOther}
+use Rattle.mq_law_stopped.specs.Noted.{EndNote}
+use Rattle.mq_law_one.specs.Alone.{IsAt, IsState}
 use Rattle.mq_law_one.proofs.Happening.{noted_up, state_up}
 use Rattle.mq_law_one.proofs.Running.{Told_}
 use Rattle.mq_law_run.specs.Run.{Moves, MovesTo, Stand, far_at, near_at}
@@ -74,12 +76,12 @@ pub takes_here : (s : Scenario) (hs : List History) (p : List Line) (x : Line) (
 takes_here s hs p x z t i k e q up = subst (FarAt (far_at s i k) (node_after s x.manager p t.h) (z.xs k.sender k.channel)) up (far_here s hs p x z t i k e q)
 
 -- what is beside rows and channels stays: so does what is told of the manager, and where it stands
-pub beside_at : (s : Scenario) (hs : List History) (p : List Line) (x : Line) (z : Stand s hs p) (t : Told_ s hs p x) (d : Deed) (l : Ledger) → IsRun s hs p x t d → l ≡ ledger (opening_ledger s hs) p
-    → IsBeside (node_after s x.manager p t.h).manager (do_all d.parts (node_after s x.manager p t.h).manager) → IsAt NoOther x.manager z.given (done d Runs (node_after s x.manager p t.h)).next l
-beside_at s hs p x z t d l r e b =
+pub beside_at : {E : ledgers.Stopped → Noted → Plain → Type 0} (s : Scenario) (hs : List History) (p : List Line) (x : Line) (z : Stand s hs p) (t : Told_ s hs p x) (d : Deed) (l : Ledger) → IsRun s hs p x t d → l ≡ ledger (opening_ledger s hs) p
+    → IsBeside (node_after s x.manager p t.h).manager (do_all d.parts (node_after s x.manager p t.h).manager) → IsAt E x.manager z.given (done d Runs (node_after s x.manager p t.h)).next l
+beside_at {E} s hs p x z t d l r e b =
     let n : Node = node_after s x.manager p t.h in
     let q : Plain = do_all d.parts n.manager in
-    let a = subst (λ (k : Ledger). IsAt NoOther x.manager z.given n k) (sym e) (z.at x.manager t.h t.is) in
+    let a = subst (λ (k : Ledger). IsAt (EndNote s z.xs x.manager) x.manager z.given n k) (sym e) (z.at x.manager t.h t.is) in
     let up : q.running ≡ Up = b.running ∙ r.up in
     record {
       told = beside_told x.manager n.manager q l b a.told;
@@ -87,7 +89,7 @@ beside_at s hs p x z t d l r e b =
       number = ap (λ (g : Given). g.number) b.given ∙ a.number;
       timed = beside_timed x.manager n.manager q l b a.timed;
       state = state_up q up r.after;
-      noted = noted_up NoOther x.manager q l up;
+      noted = noted_up E x.manager q l up;
     }
 
 pub beside_counted : (s : Scenario) (hs : List History) (p : List Line) (x : Line) (z : Stand s hs p) (t : Told_ s hs p x) (d : Deed) (l : Ledger) → l ≡ ledger (opening_ledger s hs) p

@@ -163,17 +163,17 @@ close_ends e p = bool_case (is_open (receiver_data e.channel p))
     (parts_of_end parts ≡ true) × (parts_add_none parts ≡ true) × (all_leave (delta_of parts) ≡ true))
     (λ z. (refl, refl, refl)) (λ z. (refl, refl, refl))
 
-close_others : (ch : List ℕ) (e : ReceiverEnd) (p : Plain) → parts_for_others ch (close_open e p) ≡ true
+pub close_others : (ch : List ℕ) (e : ReceiverEnd) (p : Plain) → parts_for_others ch (close_open e p) ≡ true
 close_others ch e p = bool_case (is_open (receiver_data e.channel p))
     (λ b. parts_for_others ch (if b then parts_of (harden e.channel (notes.Closed (receiver_or (receiver_data e.channel p)).session) p) ++ parts_of (set_bound e.channel false p) else parts_of (set_bound e.channel false p)) ≡ true)
     (λ z. refl) (λ z. refl)
 
-close_far : (ch : List ℕ) (e : ReceiverEnd) (p : Plain) → bytes_eq ch e.channel ≡ false → parts_far_apart ch (close_open e p) ≡ true
+pub close_far : (ch : List ℕ) (e : ReceiverEnd) (p : Plain) → bytes_eq ch e.channel ≡ false → parts_far_apart ch (close_open e p) ≡ true
 close_far ch e p other = bool_case (is_open (receiver_data e.channel p))
     (λ b. parts_far_apart ch (if b then parts_of (harden e.channel (notes.Closed (receiver_or (receiver_data e.channel p)).session) p) ++ parts_of (set_bound e.channel false p) else parts_of (set_bound e.channel false p)) ≡ true)
     (λ z. ap (λ (b : Bool). (not b && true) && true) other) (λ z. refl)
 
-abbrev closed_told : ReceiverData → ReceiverData
+abbrev pub closed_told : ReceiverData → ReceiverData
 closed_told d = if channels.is_open d then record d { closed = true } else d
 
 stops_so : (z : Scene) (n : Node) (c : Channel) (y : Past) (l : Ledger) → IsAtFar z n c y l → is_up n.manager.running ≡ true → Serves z n c y l (stop_end (Some (Receives (receiver_of z.place c.receiver c.kept))) n)
@@ -207,7 +207,7 @@ stops_so z n c y l a up =
     )
 
 -- RESET
-abbrev reset_deed : Where → ℕ → Node → Channel → Deed
+abbrev pub reset_deed : Where → ℕ → Node → Channel → Deed
 reset_deed w seqnum n c = operated (parts_of (harden w.channel (notes.SeqSet end_kinds.Receiver (seqnum - 1)) n.manager)) (with_end (Receives (receiver_of w (receivers.numbered (seqnum - 1) c.receiver) c.kept)) n.own)
 
 numbered : (z : Scene) (n : Node) (c : Channel) (y : Past) (l : Ledger) (seqnum : ℕ) → IsAtFar z n c y l → is_up n.manager.running ≡ true → Serves z n c y l (reset_deed z.place seqnum n c)

@@ -1,6 +1,6 @@
 -- What an event comes to is kept again.
 use Rattle.std.proofs.Common.{ℕ, ◌≡◌, ◌⊎◌, Bool, true, false, List, [], ◌∷◌, ◌++◌, refl, ap, sym, subst, ◌∙◌, inl, inr, arith}
-use Rattle.std.specs.Prelude.{Some, ◌==◌, ◌+◌, ◌&&◌, ◌||◌, if◌then◌else◌, slice_get, nat_lt}
+use Rattle.std.specs.Prelude.{None, Some, ◌==◌, ◌+◌, ◌&&◌, ◌||◌, if◌then◌else◌, slice_get, nat_lt}
 use Rattle.std.proofs.lemmas.Bool.Decides.{nat_tests}
 use Rattle.mq_message.specs.declared.message.Ident.{Ident}
 use Rattle.mq_frame.specs.declared.frame.Frame.{Frame}
@@ -20,7 +20,13 @@ use Rattle.mq_law_events.specs.Tied.{IsTold}
 use Rattle.mq_law_story.proofs.Weaving.{node_step}
 use Rattle.mq_law_deeds.specs.Numbers.{AreCountedAt}
 use Rattle.mq_law_cables.specs.Joints.{AreCabled}
-use Rattle.mq_law_one.specs.Alone.{IsAt, NoOther}
+use Rattle.mq_spec_state.specs.State.{Noted, Plain, Running}
+use Rattle.mq_spec_state.specs.State.Running.{Down, Up}
+use Rattle.mq_spec_network.specs.Ledger as ledgers
+use Rattle.mq_law_node.specs.Nodes.{SameFar, SameNear}
+use Rattle.mq_law_stopped.specs.Noted.{EndNote}
+use Rattle.mq_law_stopped.proofs.Staying.{notes_stay}
+use Rattle.mq_law_one.specs.Alone.{IsAt, IsNotedAt, as_left}
 use Rattle.mq_law_one.proofs.Ordinary.{elsewhere_noted}
 use Rattle.mq_law_run.specs.Run.{Among, IsMoved, Moves, Stand, far_at, near_at}
 
@@ -44,16 +50,21 @@ one_history hs m a h k e x y = some_is (sym y ∙ ap (slice_get hs) e ∙ x)
 other_number : (i : Ident) (a m k : ℕ) (t : Bool) → (a == m) ≡ false → k ≡ m + 1 → ((i.manager == a + 1) && t) ≡ true → (i.manager == k) ≡ false
 other_number i a m k t ne e u = grind (arith, nat_tests)
 
--- another manager
-else_at : (a m number : ℕ) (given now : Ident → Bool) (c : Node) (l k : Ledger) → (a == m) ≡ false → IsAt NoOther a given c l → number ≡ m + 1 → ((i : Ident) → (i.manager == number) ≡ false → now i ≡ given i)
-    → IsTold a c.manager k → slice_get k.users a ≡ slice_get l.users a → IsAt NoOther a now c k
-else_at a m number given now c l k ne at num known told users = record {
+-- another manager, of which other notes may be told
+noted_on : (E F : ledgers.Stopped → Noted → Plain → Type 0) (a : ℕ) (r : Running) (p : Plain) (l : Ledger) → ((st : ledgers.Stopped) (n : Noted) (b : Plain) → E st n b → F st n b) → IsNotedAt E a r p l → IsNotedAt F a r p l
+noted_on E F a Up p l f h = tt
+noted_on E F a (Down None starts) p l f h = tt
+noted_on E F a (Down (Some n) starts) p l f h = (h.0, h.1, elim h.2 [ inl x ↦ inl x | inr x ↦ inr (f h.0 n (as_left p) x) ])
+
+else_at : (E F : ledgers.Stopped → Noted → Plain → Type 0) (a m number : ℕ) (given now : Ident → Bool) (c : Node) (l k : Ledger) → ((st : ledgers.Stopped) (n : Noted) (b : Plain) → E st n b → F st n b) → (a == m) ≡ false → IsAt E a given c l → number ≡ m + 1 → ((i : Ident) → (i.manager == number) ≡ false → now i ≡ given i)
+    → IsTold a c.manager k → slice_get k.users a ≡ slice_get l.users a → IsAt F a now c k
+else_at E F a m number given now c l k on ne at num known told users = record {
   told = told;
   fresh = λ i u. known i (other_number i a m number _ ne num (ap (λ z. (i.manager == z) && (nat_lt c.manager.numbers.incarnation i.incarnation || ((i.incarnation == c.manager.numbers.incarnation) && nat_lt c.manager.numbers.idents i.number))) (sym at.number) ∙ u)) ∙ at.fresh i u;
   number = at.number;
   timed = record { users = at.timed.users; used = users ∙ at.timed.used; moment = at.timed.moment };
   state = at.state;
-  noted = elsewhere_noted NoOther a c.manager.running c.manager l k (ap (λ o. (users_or o).cut) users) at.noted;
+  noted = noted_on E F a c.manager.running c.manager k on (elsewhere_noted E a c.manager.running c.manager l k (ap (λ o. (users_or o).cut) users) at.noted);
 }
 
 else_counted : (n a : ℕ) (l k : Ledger) → slice_get k.users a ≡ slice_get l.users a → AreCountedAt n a l → AreCountedAt n a k
@@ -107,12 +118,12 @@ keeps_on s hs p x h z is v = record {
   not_yet = v.not_yet;
   risen = v.risen;
   owned = v.owned;
-  at = λ m k e. bool_case (m == x.manager) (λ t. (m == x.manager) ≡ t → IsAt NoOther m v.given (node_after s m (p ++ x ∷ []) k) (ledger (opening_ledger s hs) (p ++ x ∷ [])))
+  at = λ m k e. bool_case (m == x.manager) (λ t. (m == x.manager) ≡ t → IsAt (EndNote s v.xs m) m v.given (node_after s m (p ++ x ∷ []) k) (ledger (opening_ledger s hs) (p ++ x ∷ [])))
       (λ q f. let y : m ≡ x.manager = eqb_yes m x.manager f in
-      subst (λ (n : Node). IsAt NoOther m v.given n (ledger (opening_ledger s hs) (p ++ x ∷ []))) (sym (here_node s p x k m y ∙ ap (λ (g : History). (done_by x.entry (node_after s x.manager p g)).next) (one_history hs x.manager m h k y is e)))
-      (subst (λ (w : ℕ). IsAt NoOther w v.given (done_by x.entry (node_after s x.manager p h)).next (ledger (opening_ledger s hs) (p ++ x ∷ []))) (sym y) v.at))
-      (λ q f. subst (λ (n : Node). IsAt NoOther m v.given n (ledger (opening_ledger s hs) (p ++ x ∷ []))) (sym (else_node s p x k m f))
-      (else_at m x.manager (node_after s x.manager p h).manager.given.number z.given v.given (node_after s m p k) (ledger (opening_ledger s hs) p) (ledger (opening_ledger s hs) (p ++ x ∷ [])) f (z.at m k e) (z.at x.manager h is).number v.known (v.others m (node_after s m p k).manager f (z.at m k e).told) (v.users m f))) refl;
+      subst (λ (n : Node). IsAt (EndNote s v.xs m) m v.given n (ledger (opening_ledger s hs) (p ++ x ∷ []))) (sym (here_node s p x k m y ∙ ap (λ (g : History). (done_by x.entry (node_after s x.manager p g)).next) (one_history hs x.manager m h k y is e)))
+      (subst (λ (w : ℕ). IsAt (EndNote s v.xs w) w v.given (done_by x.entry (node_after s x.manager p h)).next (ledger (opening_ledger s hs) (p ++ x ∷ []))) (sym y) v.at))
+      (λ q f. subst (λ (n : Node). IsAt (EndNote s v.xs m) m v.given n (ledger (opening_ledger s hs) (p ++ x ∷ []))) (sym (else_node s p x k m f))
+      (else_at (EndNote s z.xs m) (EndNote s v.xs m) m x.manager (node_after s x.manager p h).manager.given.number z.given v.given (node_after s m p k) (ledger (opening_ledger s hs) p) (ledger (opening_ledger s hs) (p ++ x ∷ [])) (λ st n b o. notes_on m f st n b o) f (z.at m k e) (z.at x.manager h is).number v.known (v.others m (node_after s m p k).manager f (z.at m k e).told) (v.users m f))) refl;
   counted = λ m k e. bool_case (m == x.manager) (λ t. (m == x.manager) ≡ t → AreCountedAt (node_after s m (p ++ x ∷ []) k).manager.numbers.connections m (ledger (opening_ledger s hs) (p ++ x ∷ [])))
       (λ q f. let y : m ≡ x.manager = eqb_yes m x.manager f in
       subst (λ (n : Node). AreCountedAt n.manager.numbers.connections m (ledger (opening_ledger s hs) (p ++ x ∷ []))) (sym (here_node s p x k m y ∙ ap (λ (g : History). (done_by x.entry (node_after s x.manager p g)).next) (one_history hs x.manager m h k y is e)))
@@ -142,6 +153,16 @@ keeps_on s hs p x h z is v = record {
         (λ q e. let r = w.near (mine k.sender e) in far_stays (far_at s i k) (node_after s k.receiver p a) (z.xs k.sender k.channel) (v.xs k.sender k.channel) r.1 r.2 b)
         (λ q e. subst (λ (c : Channel). FarNode (far_at s i k) (node_after s k.receiver p a) c) (sym (w.else e f)) b) refl
 
+    same_near : (i : ℕ) (k : CableLine) (w : IsMoved s x.manager (done_by x.entry (node_after s x.manager p h)).next i k (z.xs k.sender k.channel) (v.xs k.sender k.channel) (v.ys k.sender k.channel)) → (k.sender == x.manager) ≡ false → SameNear (z.xs k.sender k.channel) (v.xs k.sender k.channel)
+    same_near i k w f = bool_case (k.receiver == x.manager) (λ t. (k.receiver == x.manager) ≡ t → SameNear (z.xs k.sender k.channel) (v.xs k.sender k.channel))
+        (λ q e. (w.far (mine k.receiver e)).1)
+        (λ q e. subst (λ (c : Channel). SameNear (z.xs k.sender k.channel) c) (sym (w.else f e)) (record { sends = refl; sender = refl; batch = refl; out = refl })) refl
+
+    same_far : (i : ℕ) (k : CableLine) (w : IsMoved s x.manager (done_by x.entry (node_after s x.manager p h)).next i k (z.xs k.sender k.channel) (v.xs k.sender k.channel) (v.ys k.sender k.channel)) → (k.receiver == x.manager) ≡ false → SameFar (z.xs k.sender k.channel) (v.xs k.sender k.channel)
+    same_far i k w f = bool_case (k.sender == x.manager) (λ t. (k.sender == x.manager) ≡ t → SameFar (z.xs k.sender k.channel) (v.xs k.sender k.channel))
+        (λ q e. (w.near (mine k.sender e)).1)
+        (λ q e. subst (λ (c : Channel). SameFar (z.xs k.sender k.channel) c) (sym (w.else e f)) (record { receives = refl; receiver = refl; kept = refl; back = refl })) refl
+
     out_among : (i : ℕ) (k : CableLine) (w : IsMoved s x.manager (done_by x.entry (node_after s x.manager p h)).next i k (z.xs k.sender k.channel) (v.xs k.sender k.channel) (v.ys k.sender k.channel)) → Among (z.xs k.sender k.channel).out (v.xs k.sender k.channel).out
     out_among i k w = bool_case (k.sender == x.manager) (λ t. (k.sender == x.manager) ≡ t → Among (z.xs k.sender k.channel).out (v.xs k.sender k.channel).out)
         (λ q e. (w.near (mine k.sender e)).2)
@@ -155,3 +176,9 @@ keeps_on s hs p x h z is v = record {
         (λ q e. bool_case (k.sender == x.manager) (λ t. (k.sender == x.manager) ≡ t → Among (z.xs k.sender k.channel).back (v.xs k.sender k.channel).back)
         (λ a f. let r = w.near (mine k.sender f) in λ g n. subst (λ (l : List Frame). Mem g l) (sym r.1.back) n)
         (λ a f g n. subst (λ (c : Channel). Mem g c.back) (sym (w.else f e)) n) refl) refl
+
+    -- what is noted at another manager
+    notes_on : (a : ℕ) → (a == x.manager) ≡ false → (st : ledgers.Stopped) (n : Noted) (b : Plain) → EndNote s z.xs a st n b → EndNote s v.xs a st n b
+    notes_on a f st n b o = notes_stay s z.xs v.xs a st n b
+        (λ i k e q. let w = v.moved i k e in (same_near i k w (ap (λ c. c == x.manager) q ∙ f), back_among i k w))
+        (λ i k e q. let w = v.moved i k e in (same_far i k w (ap (λ c. c == x.manager) q ∙ f), out_among i k w)) o

@@ -29,6 +29,7 @@ ghost use Rattle.mq_spec_node.specs.Replays.{IsOwn, Tells, done_by};
 ghost use Rattle.mq_spec_node.specs.Senders.{sender_deed, timeout_deed};
 ghost use Rattle.mq_spec_network.specs.Conflict.{Deed as ToldDeed, NoConflict, deeds};
 ghost use Rattle.mq_spec_network.specs.Ledger.{ledger};
+ghost use Rattle.mq_spec_network.specs.Order.{unit_received};
 ghost use Rattle.mq_spec_network.specs.Promised.{Premises};
 ghost use Rattle.mq_spec_network.specs.Standing.{node_after, opening_ledger};
 ghost use Rattle.mq_spec_network.specs.Lawful.{IsLawful};
@@ -36,7 +37,7 @@ ghost use Rattle.mq_spec_network.specs.Story.{IsStory, Line, Mem, entries_at};
 ghost use Rattle.mq_law_channel.specs.Turns.{SeenIn};
 ghost use Rattle.mq_law_node.specs.Ends.{receiver_of, sender_of};
 ghost use Rattle.mq_law_one.specs.Alone.{IsOwnCall};
-ghost use Rattle.mq_law_run.specs.Run.{HoldsRows, IsRunning, Moves, NoEndStopped, Stand, back_done, failed_node, far_at, is_stopped_call, near_at, risen_done, stopped_done};
+ghost use Rattle.mq_law_run.specs.Run.{HoldsRows, IsRunning, Moves, NoCommitFound, Stand, back_done, failed_node, far_at, near_at, risen_done, stopped_done};
 
 /// A network with channels begins so.
 pub fn a_network_begins_so()
@@ -142,10 +143,11 @@ pub fn what_is_committed_is_a_move()
         → IsRunning s p x h (operate (ops.Resolve name settles.Commit) (node_after s x.manager p h)) → sender_named name (node_after s x.manager p h).own.ends ≡ Some (sender_of (near_at s i k) (z.xs k.sender k.channel).sender) → Moves s hs p x h z }
 {}
 
-/// And a restart that finds the write of a call: it does what the note says, and then the manager comes up.
+/// And a restart that finds the write of a call, or of a channel's end that is no receiver's commit: it does what the note says, and then
+/// the manager comes up. It is in a prefix of one without conflict.
 pub fn restarts_that_find_a_write_are_moves()
-    ensures { (s : Scenario) (hs : List History) (p : List Line) (x : Line) (h : History) (stamp : ℕ) (z : Stand s hs p) (noted : Noted) (starts started : ℕ) → IsScenario s → slice_get hs x.manager ≡ Some h
-        → Tells (node_after s x.manager p h) stamp x.entry → IsOwn x.entry.chance → (node_after s x.manager p h).manager.running ≡ Down (Some noted) starts → x.entry.call ≡ calls.Act acts.Restart → x.entry.chance ≡ chances.Restart (Comes true started)
+    ensures { (s : Scenario) (hs : List History) (whole p : List Line) (es : List ToldDeed) (x : Line) (h : History) (stamp : ℕ) (z : Stand s hs p) (noted : Noted) (starts started : ℕ) → IsScenario s → NoConflict s hs whole
+        → deeds whole ≡ deeds (p ++ x ∷ []) ++ es → unit_received x.entry.effect.delta ≡ None → slice_get hs x.manager ≡ Some h → Tells (node_after s x.manager p h) stamp x.entry → IsOwn x.entry.chance → (node_after s x.manager p h).manager.running ≡ Down (Some noted) starts → x.entry.call ≡ calls.Act acts.Restart → x.entry.chance ≡ chances.Restart (Comes true started)
         → done_by x.entry (node_after s x.manager p h) ≡ back_done started noted (node_after s x.manager p h) → Moves s hs p x h z }
 {}
 
@@ -154,36 +156,36 @@ pub fn offers_have_their_entries_stamps()
     ensures { (s : Scenario) (hs : List History) → Premises s hs → (m : ℕ) (o : Entry) (f : Frame) → Mem o (entries_at hs m) → o.effect.pushed ≡ Some f → o.stamp ≡ f.stamp }
 {}
 
-/// So each stop and each restart is a move, whether it is refused, fails, or finds a write.
+/// So each stop and each restart is a move, whether it is refused, fails, or finds a write that is no receiver's commit.
 pub fn each_stop_and_each_restart_is_a_move()
     ensures stops { (s : Scenario) (hs : List History) (p : List Line) (x : Line) (h : History) (stamp : ℕ) (z : Stand s hs p) → IsScenario s → slice_get hs x.manager ≡ Some h → Tells (node_after s x.manager p h) stamp x.entry → IsOwn x.entry.chance
         → x.entry.call ≡ calls.Act acts.Crash → Moves s hs p x h z }
-    ensures restarts { (s : Scenario) (hs : List History) (p : List Line) (x : Line) (h : History) (stamp : ℕ) (z : Stand s hs p) → IsScenario s → slice_get hs x.manager ≡ Some h → Tells (node_after s x.manager p h) stamp x.entry → IsOwn x.entry.chance
-        → x.entry.call ≡ calls.Act acts.Restart → Moves s hs p x h z }
+    ensures restarts { (s : Scenario) (hs : List History) (whole p : List Line) (es : List ToldDeed) (x : Line) (h : History) (stamp : ℕ) (z : Stand s hs p) → IsScenario s → NoConflict s hs whole → deeds whole ≡ deeds (p ++ x ∷ []) ++ es
+        → unit_received x.entry.effect.delta ≡ None → slice_get hs x.manager ≡ Some h → Tells (node_after s x.manager p h) stamp x.entry → IsOwn x.entry.chance → x.entry.call ≡ calls.Act acts.Restart → Moves s hs p x h z }
 {}
 
-/// Each turn of an end of a channel, and each timeout, is a move, where its write is not stopped: the end is of a cable of the scenario, and
-/// what it popped was offered. A receiver's turn is one in a prefix of one without conflict.
+/// Each turn of an end of a channel, and each timeout, is a move, whether its write is stopped or not: the end is of a cable of the scenario,
+/// and what it popped was offered. A receiver's turn is one in a prefix of one without conflict.
 pub fn each_turn_of_an_end_is_a_move()
     ensures senders { (s : Scenario) (hs : List History) (p rest : List Line) (x : Line) (h : History) (stamp : ℕ) (z : Stand s hs p) (i : ℕ) → Premises s hs → IsStory hs (p ++ x ∷ rest) → slice_get hs x.manager ≡ Some h
-        → Tells (node_after s x.manager p h) stamp x.entry → IsOwn x.entry.chance → x.entry.actor ≡ actors.Sender i → x.entry.call ≡ calls.Turn → is_stopped_call x.entry.chance ≡ false → Moves s hs p x h z }
+        → Tells (node_after s x.manager p h) stamp x.entry → IsOwn x.entry.chance → x.entry.actor ≡ actors.Sender i → x.entry.call ≡ calls.Turn → Moves s hs p x h z }
     ensures receivers { (s : Scenario) (hs : List History) (whole p rest : List Line) (es : List ToldDeed) (x : Line) (h : History) (stamp : ℕ) (z : Stand s hs p) (i : ℕ) → Premises s hs → IsStory hs (p ++ x ∷ rest) → NoConflict s hs whole
         → deeds whole ≡ deeds (p ++ x ∷ []) ++ es → slice_get hs x.manager ≡ Some h → Tells (node_after s x.manager p h) stamp x.entry → IsOwn x.entry.chance → x.entry.actor ≡ actors.Receiver i → x.entry.call ≡ calls.Turn
-        → is_stopped_call x.entry.chance ≡ false → Moves s hs p x h z }
+        → Moves s hs p x h z }
     ensures timeouts { (s : Scenario) (hs : List History) (p : List Line) (x : Line) (h : History) (stamp : ℕ) (z : Stand s hs p) → Premises s hs → slice_get hs x.manager ≡ Some h → Tells (node_after s x.manager p h) stamp x.entry
-        → IsOwn x.entry.chance → x.entry.call ≡ calls.Timeout → is_stopped_call x.entry.chance ≡ false → Moves s hs p x h z }
+        → IsOwn x.entry.chance → x.entry.call ≡ calls.Timeout → Moves s hs p x h z }
 {}
 
-/// And each command on an end, whether it is refused or done: the end that is named is of a cable of the scenario.
+/// And each command on an end, whether it is refused, done or stopped: the end that is named is of a cable of the scenario.
 pub fn each_command_on_an_end_is_a_move()
     ensures { (s : Scenario) (hs : List History) (whole p : List Line) (es : List ToldDeed) (x : Line) (h : History) (stamp : ℕ) (z : Stand s hs p) (op : Op) → Premises s hs → NoConflict s hs whole → deeds whole ≡ deeds (p ++ x ∷ []) ++ es
-        → slice_get hs x.manager ≡ Some h → Tells (node_after s x.manager p h) stamp x.entry → IsOwn x.entry.chance → x.entry.call ≡ calls.Act (acts.Obey (lines.Operate op)) → is_stopped_call x.entry.chance ≡ false → Moves s hs p x h z }
+        → slice_get hs x.manager ≡ Some h → Tells (node_after s x.manager p h) stamp x.entry → IsOwn x.entry.chance → x.entry.call ≡ calls.Act (acts.Obey (lines.Operate op)) → Moves s hs p x h z }
 {}
 
-/// After each prefix of a lawful story in which no operator's settlement is at odds with its receiver, and no write of a channel's end or of
-/// a command on one is stopped (`NoEndStopped`; writes of calls, of commands on objects and of the handler may be): the standing rows of each
-/// queue are the ledger's, list for list, and each ident stands once, and is in at most one committed get. The other premises are those of
-/// `Promised`; it says nothing of the order of receivers' commits.
-pub fn networks_are_as_promised_where_ends_are_not_stopped()
-    ensures { (s : Scenario) (hs : List History) → Premises s hs → (story p rest : List Line) → IsStory hs story → story ≡ p ++ rest → NoConflict s hs p → NoEndStopped p → HoldsRows s hs p }
+/// After each prefix of a lawful story in which no operator's settlement is at odds with its receiver, and no restart finds the stopped write
+/// of a receiver's commit (`NoCommitFound`; writes may be stopped, and restarts may find all others): the standing rows of each queue are the
+/// ledger's, list for list, and each ident stands once, and is in at most one committed get. The other premises are those of `Promised`; it
+/// says nothing of the order of receivers' commits.
+pub fn networks_are_as_promised_where_no_stopped_commit_is_found()
+    ensures { (s : Scenario) (hs : List History) → Premises s hs → (story p rest : List Line) → IsStory hs story → story ≡ p ++ rest → NoConflict s hs p → NoCommitFound p → HoldsRows s hs p }
 {}

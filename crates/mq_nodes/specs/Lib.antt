@@ -2,3 +2,4 @@ pub mod Course
 pub mod Told
 pub mod Pumps
 pub mod Runs
+pub mod Texts

@@ -1,5 +1,4 @@
 //! Nodes as the steps of a scenario see them: each call does one event with the trigger turns that are due after it.
-use mq_base::Items;
 use mq_history::ScriptPart;
 use mq_sc_parse::Command;
 
@@ -38,21 +37,23 @@ pub enum Monitored {
 /// the scenario, from 0. A call answers that a node is spent exactly where its event was the last that the node makes.
 pub trait Nodes {
     ghost use Rattle.std.specs.Prelude.{◌≡◌, ◌<◌, ℕ, true, Some, OnOk, length, slice_get};
-    ghost use Rattle.mq_history.specs.Scenarios.{ArePhased};
     ghost use Rattle.mq_history.specs.declared.acts.Act.TheVariants as acts;
     ghost use Rattle.mq_history.specs.declared.calls.Actor.TheVariants as actors;
     ghost use Rattle.mq_history.specs.declared.calls.Call.TheVariants as calls;
-    ghost use Rattle.mq_history.specs.declared.scenario.Step.TheVariants as steps;
     ghost use Rattle.mq_spec_network.specs.Turns.{is_idle, is_up_at, node_at};
-    ghost use Rattle.mq_spec_network.specs.Tasks.{moment_of, tasks_of, watch_by};
+    ghost use Rattle.mq_spec_network.specs.Tasks.{moment_of, watch_by};
     ghost use Rattle.mq_spec_network.specs.Tasks.Slot.{Sends, Receives, TimesOut};
     ghost use Rattle.mq_spec_network.specs.Steps.{Is, is_cut};
     ghost use Rattle.mq_spec_network.specs.Lawful.{handles_idle};
-    ghost use Rattle.mq_nodes.specs.Course.{Course, Ready, Rests, noted};
+    ghost use Rattle.mq_nodes.specs.Course.{Course, Ready, noted};
     ghost use Rattle.mq_nodes.specs.Told.{Does, HandlerTold, LineTold, Part, Says, TurnTold, later};
     ghost use Rattle.mq_nodes.specs.Pumps.{AllStill, TurnIn};
+    ghost use Rattle.mq_sc_parse.specs.declared.command.Command.{Command};
 
     ghost course: { Self → Course };
+
+    /// The commands that a node can be given.
+    ghost may_obey: { Command → Type 0 };
 
     /// How many managers there are.
     fn managers(&self) -> u16
@@ -67,6 +68,7 @@ pub trait Nodes {
     fn obey(&mut self, manager: u16, command: &Command) -> Result<(), Stop>
         requires ready { Ready (course self.old).net }
         requires there { manager < length (course self.old).net.scenario.managers }
+        requires may { may_obey command.now }
         ensures { Does (Is manager actors.Operator (calls.Act (acts.Obey command.now))) result (course self.old) (course self.new) };
 
     /// The moment of a manager advances by so many milliseconds, to 253,402,300,799,999 at most.
@@ -133,13 +135,6 @@ pub trait Nodes {
         requires ready { Ready (course self.old).net }
         requires there { monitor < length (course self.old).net.scenario.monitors }
         ensures { Part (watch_by monitor (slice_get (course self.old).net.scenario.monitors monitor)) result (course self.old) (course self.new) };
-
-    /// The scripts of a phase at once, with the turns of channel ends; then each is finished, one after the other.
-    fn phase(&mut self, scripts: &Items<u16>) -> Result<(), Stop>
-        requires ready { Ready (course self.old).net }
-        requires rests { Rests (course self.old) }
-        requires phased { ArePhased (course self.old).net.scenario scripts.now }
-        ensures { Part (tasks_of (course self.old).net (steps.Phase scripts.now)) result (course self.old) (course self.new) };
 
     /// Whether a manager is up.
     fn is_up(&self, manager: u16) -> bool

@@ -14,6 +14,7 @@ use mq_sc_parse::Command;
 pub fn obey_all<N: Nodes>(nodes: &mut N, manager: u16, commands: &[Command]) -> Result<(), Stop>
     requires ready { Ready (N.course nodes.old).net }
     requires there { manager < length (N.course nodes.old).net.scenario.managers }
+    requires may { All N.may_obey commands.now }
     ensures { Part (tasks.obey_all manager commands.now) result (N.course nodes.old) (N.course nodes.new) }
 {
     for command in commands {
@@ -27,6 +28,7 @@ pub fn obey<N: Nodes>(nodes: &mut N, scenario: &Scenario, section: u16) -> Resul
     requires ready { Ready (N.course nodes.old).net }
     requires same { (N.course nodes.old).net.scenario ≡ scenario.now }
     requires sections { All (λ (p : Section). p.manager < length scenario.now.managers) scenario.now.sections }
+    requires may { All (λ (p : Section). All N.may_obey p.commands) scenario.now.sections }
     ensures { Part (tasks.obey_section (slice_get scenario.now.sections section)) result (N.course nodes.old) (N.course nodes.new) }
 {
     let Some(part) = scenario.sections.get(usize::from(section)) else {

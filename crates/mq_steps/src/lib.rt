@@ -3,6 +3,7 @@
 
 mod asks;
 mod lines;
+mod phases;
 mod pumping;
 mod steps;
 mod turns;

@@ -1,5 +1,5 @@
 //! The whole run: step by step, each with its mark, and last the restarts of managers that are down.
-ghost use Rattle.std.specs.Prelude.{◌≡◌, ◌<◌, ◌∷◌, [], List, OnOk, IfOk, length};
+ghost use Rattle.std.specs.Prelude.{◌≡◌, ◌<◌, ◌∷◌, [], List, OnOk, IfOk, length, All};
 ghost use Rattle.mq_history.specs.Scenarios.{IsScenario, IsStep};
 ghost use Rattle.mq_history.specs.declared.history.History as histories;
 ghost use Rattle.mq_history.specs.declared.scenario.Step.TheVariants as kinds;
@@ -9,10 +9,13 @@ ghost use Rattle.mq_spec_network.specs.Tasks.Task.{Restart};
 ghost use Rattle.mq_nodes.specs.Course.{Ready, Rests};
 ghost use Rattle.mq_nodes.specs.Told.{Part, Ran, Has};
 ghost use Rattle.mq_nodes.specs.Runs.{StepsTold, Unmarked, never_idle};
+ghost use Rattle.mq_nodes.specs.Texts.{AllFit, StepFits};
+ghost use Rattle.mq_history.specs.declared.scenario.Section.{Section};
 ghost use Rattle.mq_steps.specs.Counts.{idle_or_spent};
 
 use crate::asks::{clocks, obey};
 use crate::lines::run;
+use crate::phases::phase;
 use crate::pumping::{Pumped, pump};
 use crate::turns::{handle, serve};
 use mq_base::NoMemory;
@@ -57,6 +60,7 @@ fn restart_once<N: Nodes>(nodes: &mut N, manager: u16) -> Result<(), Stop>
 fn command_once<N: Nodes>(nodes: &mut N, manager: u16, command: &Command) -> Result<(), Stop>
     requires ready { Ready (N.course nodes.old).net }
     requires there { manager < length (N.course nodes.old).net.scenario.managers }
+    requires may { N.may_obey command.now }
     ensures { Part (tasks_of (N.course nodes.old).net (kinds.Do manager command.now)) result (N.course nodes.old) (N.course nodes.new) }
 {
     nodes.obey(manager, command)
@@ -87,6 +91,8 @@ fn do_step<N: Nodes>(nodes: &mut N, scenario: &Scenario, step: &Step) -> Result<
     requires same { (N.course nodes.old).net.scenario ≡ scenario.now }
     requires scenario { IsScenario scenario.now }
     requires step { IsStep scenario.now step.now }
+    requires sections { All (λ (p : Section). All N.may_obey p.commands) scenario.now.sections }
+    requires may { StepFits N.may_obey step.now }
     ensures told { Part (tasks_of (N.course nodes.old).net step.now) result (N.course nodes.old) (N.course nodes.new) }
     ensures idle { IfOk result (λ idle. idle ≡ ends_idle (N.course nodes.new).net step.now) }
 {
@@ -94,7 +100,7 @@ fn do_step<N: Nodes>(nodes: &mut N, scenario: &Scenario, step: &Step) -> Result<
         Step::Obey(section) => not_idle(obey(nodes, scenario, *section)),
         Step::Do(manager, command) => not_idle(command_once(nodes, *manager, command)),
         Step::Run(script, most) => not_idle(run(nodes, scenario, *script, *most)),
-        Step::Phase(scripts) => not_idle(nodes.phase(scripts)),
+        Step::Phase(scripts) => not_idle(phase(nodes, scenario, scripts.as_slice())),
         Step::Pump(turns) => pump_idle(pump(nodes, *turns)),
         Step::Handle(rules, turns) => handle(nodes, scenario, *rules, *turns),
         Step::Watch(monitor) => not_idle(nodes.watch(*monitor)),
@@ -113,6 +119,7 @@ fn do_steps<N: Nodes>(nodes: &mut N, scenario: &Scenario) -> Result<(), Stop>
     requires unmarked { Unmarked (N.course nodes.old) }
     requires same { (N.course nodes.old).net.scenario ≡ scenario.now }
     requires scenario { IsScenario scenario.now }
+    requires may { AllFit N.may_obey scenario.now }
     ensures { StepsTold result (N.course nodes.old) (N.course nodes.new) }
 {
     for step in scenario.steps.as_slice() {
@@ -156,6 +163,7 @@ pub fn run_steps<N: Nodes>(nodes: &mut N, scenario: &Scenario) -> Result<(), Sto
     requires unmarked { Unmarked (N.course nodes.old) }
     requires same { (N.course nodes.old).net.scenario ≡ scenario.now }
     requires scenario { IsScenario scenario.now }
+    requires may { AllFit N.may_obey scenario.now }
     ensures ran { Ran result (N.course nodes.old) (N.course nodes.new) }
     ensures lawful { (hs : List histories.History) → Has scenario.now hs (N.course nodes.old) (N.course nodes.new) → AreSteps scenario.now hs }
     ensures all { OnOk result ((hs : List histories.History) → Has scenario.now hs (N.course nodes.old) (N.course nodes.new) → IsDone scenario.now hs) }

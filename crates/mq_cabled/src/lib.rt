@@ -1,0 +1,6 @@
+//! The ends of a node's channels, found and changed by their cables.
+#![tactic(auto)]
+
+mod ends;
+
+pub use ends::{lift_receiver, sender_of, set_end};

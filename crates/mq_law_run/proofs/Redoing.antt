@@ -1,0 +1,264 @@
+-- A restart of a manager that finds the write of one of its ends, as a move of the network: what the write does, and then the start.
+use Rattle.std.proofs.Common.{ℕ, ◌≡◌, true, false, List, [], ◌∷◌, ◌++◌, refl, ap, sym, subst, ◌∙◌}
+use Rattle.std.specs.Prelude.{Bool, Some, None, ◌==◌, if◌then◌else◌, slice_get}
+use Rattle.mq_frame.specs.declared.frame.Frame.{Frame}
+use Rattle.mq_sync.specs.declared.data.ReceiverData.{ReceiverData}
+use Rattle.mq_history.specs.declared.history.History.{History}
+use Rattle.mq_history.specs.declared.scenario.CableLine.{CableLine}
+use Rattle.mq_history.specs.declared.scenario.Scenario.{Scenario}
+use Rattle.mq_history.specs.Scenarios.{IsScenario}
+use Rattle.mq_spec_state.specs.State.{Plain}
+use Rattle.mq_spec_state.specs.State.Running.{Down}
+use Rattle.mq_spec_state.specs.Reads.{receiver_data}
+use Rattle.mq_spec_network.specs.Story.{Line, Mem}
+use Rattle.mq_law_run.proofs.Lining.{mem_at}
+use Rattle.mq_history.specs.declared.acts.Act.TheVariants as acts
+use Rattle.mq_history.specs.declared.acts.Acted.TheVariants as acted
+use Rattle.mq_history.specs.declared.calls.Call.TheVariants as calls
+use Rattle.mq_history.specs.declared.calls.Chance.TheVariants as chances
+use Rattle.mq_history.specs.declared.calls.Entry.{Entry}
+use Rattle.mq_history.specs.declared.calls.Reply.{Reply}
+use Rattle.mq_history.specs.declared.calls.Reply.TheVariants as replies
+use Rattle.mq_spec_node.specs.Node.{Node}
+use Rattle.mq_spec_node.specs.Node.ChannelEnd.{Receives}
+use Rattle.mq_spec_node.specs.Deeds.{Done}
+use Rattle.mq_spec_node.specs.Replays.{done_by}
+use Rattle.mq_spec_network.specs.Ledger as ledgers
+use Rattle.mq_spec_network.specs.Ledger.{Ledger, Users, ledger, posted}
+use Rattle.mq_spec_network.specs.Standing.{managers_at, node_after, opening_ledger, opening_managers}
+use Rattle.mq_law_node.specs.Ends.{receiver_of}
+use Rattle.mq_law_node.specs.Nodes.{FarNode, NearNode, SameFar, SameNear, SendsDown, TakesDown}
+use Rattle.mq_law_batches.specs.Releases.{AreUnprepared, Rested}
+use Rattle.mq_law_batches.proofs.Stopping as batches
+use Rattle.mq_law_story.proofs.Weaving.{ledger_step}
+use Rattle.mq_law_turns.specs.Agreed.{IsToldOf}
+use Rattle.mq_law_cables.proofs.Keeping.{rests}
+use Rattle.mq_law_one.proofs.Running.{Told_}
+use Rattle.mq_law_events.proofs.Telling.{else_changed, else_places, else_then, else_users, here_changed}
+use Rattle.mq_law_run.proofs.Owning.{housed_else, next_managers, others_told}
+use Rattle.mq_law_run.proofs.Running.{far_here, move_to, near_here}
+use Rattle.mq_law_events.proofs.Locals.{stays_leads}
+use Rattle.mq_law_events.proofs.Sounds.{restart_fresh}
+use Rattle.mq_law_events.specs.Local.{sheet_of, side_of}
+use Rattle.mq_law_node.proofs.FarEvents.{far_begun_here, made_of}
+use Rattle.mq_law_node.proofs.NearEvents.{begun_here}
+use Rattle.mq_calls.specs.declared.choices.Return.TheVariants.{Comes}
+use Rattle.mq_receiver.specs.declared.state.Receiver.{Receiver}
+use Rattle.mq_receiver.specs.States as receivers
+use Rattle.mq_spec_state.specs.State.{Noted}
+use Rattle.mq_spec_manager.specs.Stops.{grown, redone, redone_delta, restarted}
+use Rattle.mq_calls.specs.declared.deltas.Did.{Did}
+use Rattle.mq_law_node.specs.Nodes.{FarAt, NearAt}
+use Rattle.mq_law_run.proofs.Tying.{leads_on}
+use Rattle.mq_spec_state.specs.State.{Given}
+use Rattle.mq_spec_state.specs.Images.{begun, lasting, raised}
+use Rattle.mq_spec_network.specs.Ledger.{change_at}
+use Rattle.mq_law_node.specs.Ends.{told_receives, told_sends}
+use Rattle.mq_message.specs.declared.message.Ident.{Ident}
+use Rattle.mq_sync.specs.declared.unit.Unit.{Unit as Luw}
+use Rattle.mq_law_run.proofs.Returning.{alone, clear, gone_users, none_counted}
+use Rattle.mq_sender.specs.declared.state.Sender.{Sender}
+use Rattle.mq_sender.specs.States as senders
+use Rattle.mq_sync.specs.Units.{Upto, no_unit, same_unit}
+use Rattle.mq_calls.specs.declared.agents.Note.TheVariants as notes
+use Rattle.mq_spec_network.specs.Conflict.{Deed as ToldDeed, deeds, is_committed}
+use Rattle.mq_law_channel.specs.Channel.{Channel, Facts, Past}
+use Rattle.mq_law_channel.specs.Turns.{receiver_rests, released, sender_rests}
+use Rattle.mq_law_channel.proofs.Operating.{receiver_inactive, sender_inactive}
+use Rattle.mq_law_rows.specs.World.{Ghost}
+use Rattle.mq_law_rows.proofs.Lists.{eqb_self}
+use Rattle.mq_law_seen.specs.Seen.{book_of, world_of}
+use Rattle.mq_law_manager.specs.Facts.{IsSound}
+use Rattle.mq_law_node.specs.Data.{receives_at, sends_at}
+use Rattle.mq_law_cables.specs.Joints.{AreJoint, rested}
+use Rattle.mq_law_events.specs.Tied.{IsElse, IsFresh, IsNext, IsTold}
+use Rattle.mq_law_found.specs.Finds.{posted_again}
+use Rattle.mq_law_turns.proofs.Agreeing.{released_tells}
+use Rattle.mq_law_run.specs.Run.{Among, Housed, IsMoved, Moves, Stand, back_done, far_at, near_at}
+use Rattle.mq_law_run.proofs.Stopping.{at_rest_far, eqb_no, receives_so, receives_on}
+use Rattle.mq_calls.specs.declared.deltas.Did.TheVariants as did
+
+-- WHAT THE WRITE DOES: the network as the manager would have it, its channels and what is told, from what was kept before
+abbrev pub base_of : (s : Scenario) (p : List Line) (x : Line) → History → Plain
+base_of s p x h = (node_after s x.manager p h).manager
+
+abbrev pub mid_of : (s : Scenario) (hs : List History) (p : List Line) (x : Line) → Plain → List Plain
+mid_of s hs p x g = change_at x.manager (λ (o : Plain). g) (managers_at s p hs)
+
+-- a cable's channel at its sender's manager, and at its receiver's
+abbrev pub NearPart : Channel → Channel → List ℕ → Plain → Type 0
+NearPart c d ch g = SameFar c d × Among c.out d.out × (told_sends d.sends ≡ told_sends (sends_at ch g))
+
+abbrev pub FarPart : Channel → Channel → List ℕ → Plain → Type 0
+FarPart c d ch g = SameNear c d × Among c.back d.back × (told_receives d.receives ≡ told_receives (receives_at ch g))
+
+pub record IsRedone (s : Scenario) (hs : List History) (p : List Line) (x : Line) (h : History) (z : Stand s hs p) (g : Plain) (given : Ident → Bool) (ghost : Ghost) (xs : ℕ → List ℕ → Channel) (ys : ℕ → List ℕ → Past) (k : Ledger) : Type 0 where
+  pub joint : AreJoint (world_of s given (mid_of s hs p x g)) ghost (book_of k) s.cables xs ys
+  pub facts : (c : CableLine) → Mem c s.cables → Facts (xs c.sender c.channel) (ys c.sender c.channel)
+  pub told : IsTold x.manager g k
+  pub fresh : IsFresh given g
+  pub moment : told.users.moment ≡ (base_of s p x h).moment
+  pub same : g.given ≡ (base_of s p x h).given
+  pub steady : g.moment ≡ (base_of s p x h).moment
+  pub free : AreUnprepared s (mid_of s hs p x g) g
+  pub near : (i : ℕ) (c : CableLine) → slice_get s.cables i ≡ Some c → c.sender ≡ x.manager → NearPart (z.xs c.sender c.channel) (xs c.sender c.channel) c.channel g
+  pub far : (i : ℕ) (c : CableLine) → slice_get s.cables i ≡ Some c → c.receiver ≡ x.manager → FarPart (z.xs c.sender c.channel) (xs c.sender c.channel) c.channel g
+  pub aside : (c : CableLine) → Mem c s.cables → (c.sender == x.manager) ≡ false → (c.receiver == x.manager) ≡ false → xs c.sender c.channel ≡ z.xs c.sender c.channel
+  pub known : (i : Ident) → (i.manager == (base_of s p x h).given.number) ≡ false → given i ≡ z.given i
+  pub others : (a : ℕ) (r : Plain) → (a == x.manager) ≡ false → IsTold a r (ledger (opening_ledger s hs) p) → IsTold a r k
+  pub users : (a : ℕ) → (a == x.manager) ≡ false → slice_get k.users a ≡ slice_get (ledger (opening_ledger s hs) p).users a
+  pub housed : Housed (ledger (opening_ledger s hs) p) k
+  pub tells : (c : CableLine) → Mem c s.cables → IsToldOf s (opening_managers s hs) (deeds (p ++ x ∷ [])) c.sender c.channel (xs c.sender c.channel) (ys c.sender c.channel)
+  pub resolved : (a : ℕ) (c : List ℕ) (u : Luw) → ghost.operated a c u ≡ true → Mem (record { manager = a; did = did.Hardened c (notes.Resolved u true true) }) (deeds (p ++ x ∷ []))
+  pub not_yet : (a : ℕ) (c : List ℕ) (u : Luw) → ghost.operated a c u ≡ true → is_committed s (opening_managers s hs) (deeds (p ++ x ∷ [])) c u ≡ false
+  pub risen : (c : CableLine) → Mem c s.cables → (u : Luw) → is_committed s (opening_managers s hs) (deeds (p ++ x ∷ [])) c.channel u ≡ true → Upto u (xs c.sender c.channel).receives.unit
+  pub owned : (a : ℕ) (c : List ℕ) (u : Luw) → ghost.operated a c u ≡ true → (i : ℕ) × (k : CableLine) × (slice_get s.cables i ≡ Some k) × (k.sender ≡ a) × (k.channel ≡ c)
+
+-- AND THEN THE START: ends begin with what is hardened, with the machines that they had
+abbrev near_back : Bool → Sender → Channel → Channel
+near_back true m x = sender_rests (senders.halted m) x
+near_back false m x = x
+
+abbrev all_back : List CableLine → ℕ → (ℕ → List ℕ → Channel) → (ℕ → List ℕ → Channel) → ℕ → List ℕ → Channel
+all_back ks m ws xs a c = at_rest_far receiver_rests (receives_on ks m a c) (near_back (a == m) (ws a c).sender (xs a c))
+
+back_at : (s : Scenario) (m : ℕ) (k : CableLine) (ws xs : ℕ → List ℕ → Channel) → IsScenario s → Mem k s.cables
+    → all_back s.cables m ws xs k.sender k.channel ≡ at_rest_far receiver_rests (k.receiver == m) (near_back (k.sender == m) (ws k.sender k.channel).sender (xs k.sender k.channel))
+back_at s m k ws xs scenario n = ap (λ t. at_rest_far receiver_rests t (near_back (k.sender == m) (ws k.sender k.channel).sender (xs k.sender k.channel))) (receives_so s m k scenario n)
+
+back_receives : (a b : Bool) (m : Sender) (x : Channel) → (at_rest_far receiver_rests a (near_back b m x)).receives ≡ x.receives
+back_receives true true m x = refl
+back_receives true false m x = refl
+back_receives false true m x = refl
+back_receives false false m x = refl
+
+back_facts : (a b : Bool) (m : Sender) (x : Channel) (y : Past) → Facts x y → Facts (at_rest_far receiver_rests a (near_back b m x)) (if b then released y else y)
+back_facts true true m x y h = receiver_inactive (sender_rests (senders.halted m) x) (released y) (sender_inactive (senders.halted m) x y h refl)
+back_facts true false m x y h = receiver_inactive x y h
+back_facts false true m x y h = sender_inactive (senders.halted m) x y h refl
+back_facts false false m x y h = h
+
+back_told : (s : Scenario) (ps : List Plain) (ds : List ToldDeed) (m : ℕ) (c : List ℕ) (a b : Bool) (w : Sender) (x : Channel) (y : Past) → IsToldOf s ps ds m c x y → IsToldOf s ps ds m c (at_rest_far receiver_rests a (near_back b w x)) (if b then released y else y)
+back_told s ps ds m c a true w x y h = released_tells s ps ds m c x (at_rest_far receiver_rests a (near_back true w x)) y (back_receives a true w x) h
+back_told s ps ds m c a false w x y h = record {
+  undone = h.undone;
+  last = subst (λ (r : ReceiverData). same_unit r.unit no_unit ≡ false → is_committed s ps ds c r.unit ≡ true) (sym (back_receives a false w x)) h.last;
+}
+
+sender_back : (k : CableLine) (m : ℕ) (a : Bool) (w : Sender) (x : Channel) → k.sender ≡ m → a ≡ false → at_rest_far receiver_rests a (near_back (k.sender == m) w x) ≡ sender_rests (senders.halted w) x
+sender_back k m a w x q e = ap (λ t. at_rest_far receiver_rests t (near_back (k.sender == m) w x)) e ∙ ap (λ t. near_back t w x) (ap (λ o. o == m) q ∙ eqb_self m)
+
+receiver_back : (k : CableLine) (m : ℕ) (b : Bool) (w : Sender) (x : Channel) → k.receiver ≡ m → b ≡ false → at_rest_far receiver_rests (k.receiver == m) (near_back b w x) ≡ receiver_rests x
+receiver_back k m b w x q e = ap (λ t. at_rest_far receiver_rests (k.receiver == m) (near_back t w x)) e ∙ ap (λ t. at_rest_far receiver_rests t x) (ap (λ o. o == m) q ∙ eqb_self m)
+
+pub end_returns : (s : Scenario) (hs : List History) (p : List Line) (x : Line) (z : Stand s hs p) (t : Told_ s hs p x) (noted : Noted) (starts started : ℕ) (st : ledgers.Stopped) (given : Ident → Bool) (ghost : Ghost) (xs : ℕ → List ℕ → Channel) (ys : ℕ → List ℕ → Past) (k1 : Ledger) → IsScenario s
+    → (node_after s x.manager p t.h).manager.running ≡ Down (Some noted) starts → x.entry.call ≡ calls.Act acts.Restart → x.entry.chance ≡ chances.Restart (Comes true started) → done_by x.entry (node_after s x.manager p t.h) ≡ back_done started noted (node_after s x.manager p t.h)
+    → (ledgers.users_at x.manager (ledger (opening_ledger s hs) p)).cut ≡ Some st → posted_again x.manager st (redone_delta true (Some noted) (node_after s x.manager p t.h).manager) (ledger (opening_ledger s hs) p) ≡ k1
+    → IsSound (restarted true started (Some noted) (node_after s x.manager p t.h).manager) → IsRedone s hs p x t.h z (redone noted (node_after s x.manager p t.h).manager) given ghost xs ys k1 → Moves s hs p x t.h z
+end_returns s hs p x z t noted starts started st given ghost xs ys k1 scenario down call chance is cut posts sound r1 =
+    let m : ℕ = x.manager in
+    let n : Node = node_after s m p t.h in
+    let b : Plain = n.manager in
+    let l : Ledger = ledger (opening_ledger s hs) p in
+    let e : Entry = x.entry in
+    let ds : List Did = redone_delta true (Some noted) b in
+    let a = z.at m t.h t.is in
+    let g : Plain = redone noted b in
+    let q : Plain = restarted true started (Some noted) b in
+    let l0 : Ledger = ledgers.with_users m clear k1 in
+    let l1 : Ledger = ledgers.up_again m k1 in
+    let ps : List Plain = managers_at s p hs in
+    let mid : List Plain = mid_of s hs p x g in
+    let ms : List Plain = managers_at s (p ++ x ∷ []) hs in
+    let next : IsNext m b q ps ms = subst (λ (w : Done). IsNext m b w.next.manager ps ms) is (next_managers s hs p x t) in
+    let n1 : IsNext m b g ps mid = record { at = next.at; to = here_changed m (λ (o : Plain). g) ps b next.at; others = λ c f. else_changed m c (λ (o : Plain). g) ps f } in
+    let n2 : IsNext m g q mid ms = record { at = n1.to; to = next.to; others = λ c f. next.others c f ∙ sym (n1.others c f) } in
+    let used0 : slice_get l0.users m ≡ Some (clear r1.told.users) = here_changed m clear k1.users r1.told.users r1.told.used in
+    let t0 : IsTold m g l0 = record { places = r1.told.places; placed = r1.told.placed; shelved = r1.told.shelved; name = r1.told.name; definitions = r1.told.definitions; users = clear r1.told.users; used = used0; connections = r1.told.connections } in
+    let stay : IsNext m g g mid mid = record { at = n1.to; to = n1.to; others = λ c f. refl } in
+    let j0 = leads_on s given given m g g mid mid k1 l0 ghost s.cables xs ys stay r1.told (stays_leads m (side_of g given) (sheet_of m k1)) (record { given = refl; senders = refl; receivers = refl; batches = refl }) t0 (else_users m clear k1) r1.joint in
+    let same : begun g.given (raised started (lasting g)) (grown started g) g.moment ≡ q = λ i. begun (r1.same i) (raised started (lasting g)) (grown started g) (r1.steady i) in
+    let r : Rested s given m g q ms j0.0.ghost l0 = subst (λ (o : Plain). IsNext m g o mid ms → Rested s given m g o ms j0.0.ghost l0) same
+    (λ on. batches.restarts s given m started g (grown started g) mid ms l0 j0.0.ghost on t0 (restart_fresh given g started (grown started g) r1.fresh) r1.free j0.0.joint.inv) n2 in
+    let zs : ℕ → List ℕ → Channel = all_back s.cables m z.xs xs in
+    let reply : e.reply ≡ replies.Acted acted.Done = t.tells.reply ∙ ap (λ (o : Done). o.reply) is in
+    let delta : e.effect.delta ≡ ds = t.tells.delta ∙ ap (λ (o : Done). o.delta) is in
+    let pushed : e.effect.pushed ≡ None = t.tells.pushed ∙ ap (λ (o : Done). o.pushed) is in
+    let cut_ : (ledgers.users_at m (ledgers.take_all_gone m ds l)).cut ≡ Some st = ap (λ us. (ledgers.users_or (slice_get us m)).cut) (gone_users m ds l) ∙ cut in
+    let whole : ledger (opening_ledger s hs) (p ++ x ∷ []) ≡ l1 = ledger_step (opening_ledger s hs) p x ∙ ap (λ (o : Reply). posted m e o l) reply
+    ∙ (λ i. ledgers.come_up m (chance i) (delta i) (ledgers.post_call m (call i) (reply i) e.effect.received (delta i) (ledgers.take_all_gone m (delta i) l)))
+    ∙ ap (λ o. ledgers.up_again m (ledgers.found m o ds (ledgers.take_all_gone m ds l))) cut_ ∙ ap (ledgers.up_again m) posts in
+    let other1 : IsElse m k1 l1 = else_then m k1 l0 l1 (else_users m clear k1) (else_then m l0 (ledgers.with_users m alone l0) l1 (else_users m alone l0) (else_places m _ (ledgers.with_users m alone l0))) in
+    let operated : (c : ℕ) (d : List ℕ) (u : Luw) → r.stands.ghost.operated c d u ≡ true → ghost.operated c d u ≡ true = λ c d u f. (λ i. sym j0.1 i c d u) ∙ (λ i. sym r.stands.operated i c d u) ∙ f in
+    move_to s hs p x t.h z (back_done started noted n) l1 is whole (record {
+      given = r.now;
+      ghost = r.stands.ghost;
+      xs = zs;
+      ys = rested m ys;
+      joint = rests s given r.now m g q mid ms j0.0.ghost r.stands.ghost (book_of l0) (book_of l1) s.cables xs zs ys n2
+          (record { given = sym r1.same; senders = refl; receivers = refl; batches = refl }) r.stands.sent r.stands.operated r.stands.inv r1.facts
+          (λ k w. ap (λ (o : Channel). o.receives) (back_at s m k z.xs xs scenario w) ∙ back_receives (k.receiver == m) (k.sender == m) (z.xs k.sender k.channel).sender (xs k.sender k.channel)) j0.0.joint;
+      moved = λ i k f.
+          let there : Mem k s.cables = mem_at s.cables i k f in
+          let c : Channel = z.xs k.sender k.channel in
+          let d : Channel = xs k.sender k.channel in
+          let v : zs k.sender k.channel ≡ at_rest_far receiver_rests (k.receiver == m) (near_back (k.sender == m) c.sender d) = back_at s m k z.xs xs scenario there in
+          subst (λ (o : Channel). IsMoved s m (back_done started noted n).next i k c o (rested m ys k.sender k.channel)) (sym v) (record {
+            facts = back_facts (k.receiver == m) (k.sender == m) c.sender d (ys k.sender k.channel) (r1.facts k there);
+            near = λ w.
+                let v0 : SendsDown (near_at s i k) n (Some noted) c = subst (NearAt (near_at s i k) n c) down (near_here s hs p x z t i k f w) in
+                let d0 = r1.near i k f w in
+                let o = sender_back k m (k.receiver == m) c.sender d w (eqb_no k.receiver m (λ y. (z.joint.tied k there).apart (y ∙ sym w))) in
+                subst (λ (y : Channel). NearNode (near_at s i k) (back_done started noted n).next y × SameFar c y × Among c.out y.out) (sym o) (
+                  record {
+                    here = begun_here i q n.own.ends (near_at s i k) c.sender v0.here;
+                    data_ = d0.2;
+                    batched = λ y. absurd cc;
+                    unbatched = λ y. refl;
+                  },
+                  record { receives = d0.0.receives; receiver = d0.0.receiver; kept = d0.0.kept; back = d0.0.back },
+                  d0.1,
+                );
+            far = λ w.
+                let v0 : TakesDown (far_at s i k) n (Some noted) c = subst (FarAt (far_at s i k) n c) down (far_here s hs p x z t i k f w) in
+                let d0 = r1.far i k f w in
+                let data_now : told_receives d.receives ≡ told_receives (receives_at k.channel q) = d0.2 in
+                let o = receiver_back k m (k.sender == m) c.sender d w (eqb_no k.sender m (λ y. (z.joint.tied k there).apart (w ∙ sym y))) in
+                subst (λ (y : Channel). FarNode (far_at s i k) (back_done started noted n).next y × SameNear c y × Among c.back y.back) (sym o) (
+                  record {
+                    here = far_begun_here i q n.own.ends (far_at s i k) c.receiver c.kept v0.here
+                        ∙ ap (λ (o : Receiver). Some (Receives (receiver_of (far_at s i k) o []))) (made_of (receiver_data k.channel q) ∙ sym (ap (λ (o : ReceiverData). receivers.receiver_of (Some o)) data_now));
+                    data_ = data_now;
+                  },
+                  record { sends = d0.0.sends; sender = d0.0.sender; batch = d0.0.batch; out = d0.0.out },
+                  d0.1,
+                );
+            else = λ w y. ap (λ o. at_rest_far receiver_rests (k.receiver == m) (near_back o c.sender d)) w ∙ ap (λ o. at_rest_far receiver_rests o d) y ∙ r1.aside k there w y;
+          });
+      out = λ i k f g w actor push. absurd (no_frame f (sym pushed ∙ push));
+      back = λ i k f g w actor push. absurd (no_frame f (sym pushed ∙ push));
+      told = λ k w. subst (λ (o : Channel). IsToldOf s (opening_managers s hs) (deeds (p ++ x ∷ [])) k.sender k.channel o (rested m ys k.sender k.channel)) (sym (back_at s m k z.xs xs scenario w))
+          (back_told s (opening_managers s hs) (deeds (p ++ x ∷ [])) k.sender k.channel (k.receiver == m) (k.sender == m) (z.xs k.sender k.channel).sender (xs k.sender k.channel) (ys k.sender k.channel) (r1.tells k w));
+      resolved = λ c d u f. r1.resolved c d u (operated c d u f);
+      not_yet = λ c d u f. r1.not_yet c d u (operated c d u f);
+      risen = λ k w u f. subst (λ (o : Luw). Upto u o) (sym (ap (λ (o : Channel). o.receives.unit) (back_at s m k z.xs xs scenario w)
+          ∙ ap (λ (o : ReceiverData). o.unit) (back_receives (k.receiver == m) (k.sender == m) (z.xs k.sender k.channel).sender (xs k.sender k.channel)))) (r1.risen k w u f);
+      owned = λ c d u f. r1.owned c d u (operated c d u f);
+      at = record {
+        told = r.told;
+        fresh = r.fresh;
+        number = a.number;
+        timed = record { users = alone (clear r1.told.users); used = here_changed m alone l0.users (clear r1.told.users) used0; moment = r1.moment };
+        state = sound;
+        noted = tt;
+      };
+      known = λ i w. r.known i (ap (λ (o : Given). i.manager == o.number) r1.same ∙ w) ∙ r1.known i w;
+      others = λ c o ne h. others_told m c o k1 l1 ne other1 (r1.others c o ne h);
+      users = λ c ne. other1.users c ne ∙ r1.users c ne;
+      counted = record { users = alone (clear r1.told.users); used = here_changed m alone l0.users (clear r1.told.users) used0; counted = none_counted q.numbers.connections };
+      cabled = record { once = λ c w. absurd w; line = λ c w. absurd w };
+      housed = λ c w f. let v = housed_else m k1 l1 r1.told.places r1.told.placed other1 c w f in r1.housed c v.0 v.1;
+    })
+  where
+    no_frame : (f : Frame) → None ≡ Some f → ⊥
+    no_frame f e = cc

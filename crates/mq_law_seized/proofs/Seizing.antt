@@ -1,0 +1,223 @@
+-- What ends of channels do leaves seized queues their senders'; and a manager begins with none.
+use Rattle.std.proofs.Common.{ℕ, ◌≡◌, ◌⊎◌, Bool, true, false, List, [], ◌∷◌, refl, ap, sym, subst, ◌∙◌, inl, inr}
+use Rattle.std.specs.Prelude.{Option, Some, None, Result, Ok, Err, IsSome, ◌&&◌, ◌||◌, if◌then◌else◌, not, take}
+use Rattle.std.specs.Str.{bytes_eq}
+use Rattle.mq_codes.specs.declared.reason.Reason.{Reason}
+use Rattle.mq_codes.specs.declared.reason.Reason.TheVariants as reasons
+use Rattle.mq_message.specs.declared.message.Ident.{Ident}
+use Rattle.mq_message.specs.declared.message.Message.{Message}
+use Rattle.mq_message.specs.declared.place.Holder.TheVariants as holders
+use Rattle.mq_objects.specs.Names.{channel_of, local_of}
+use Rattle.mq_sync.specs.declared.data.End.TheVariants as ends
+use Rattle.mq_sync.specs.declared.unit.Unit.{Unit as Luw}
+use Rattle.mq_sync.specs.Settlement.{sender_or}
+use Rattle.mq_calls.specs.declared.agents.Note.{Note}
+use Rattle.mq_calls.specs.declared.agents.Note.TheVariants as notes
+use Rattle.mq_calls.specs.declared.agents.PrepareFault.TheVariants as prepare_faults
+use Rattle.mq_calls.specs.declared.agents.SeizeFault.{SeizeFault}
+use Rattle.mq_calls.specs.declared.agents.SeizeFault.TheVariants as seize_faults
+use Rattle.mq_calls.specs.declared.deltas.Did.TheVariants as did
+use Rattle.mq_calls.specs.declared.deltas.Why.TheVariants as whys
+use Rattle.mq_calls.specs.declared.state.Seizure.{Seizure}
+use Rattle.mq_spec_state.specs.State.{Batch, Plain}
+use Rattle.mq_spec_state.specs.State.Change.{AddBatch, Seize}
+use Rattle.mq_spec_state.specs.Changes.{apply, comes_before, set_named}
+use Rattle.mq_spec_state.specs.Reads.{batch_of, free_rows, has_held_by_other, is_full, is_open_for_input, read_by_handle, read_by_sender, seizure_of, sender_data}
+use Rattle.mq_spec_state.specs.Sizes.{need}
+use Rattle.mq_spec_state.specs.Steps.{Test, silent, when}
+use Rattle.mq_spec_state.specs.Steps.Step.{Do}
+use Rattle.mq_spec_manager.specs.Get.{idents_of}
+use Rattle.mq_spec_manager.specs.Handles.{is_transmission_queue}
+use Rattle.mq_spec_agents.specs.Words.{CanHold, Landed, Landing, Standing, before, channel_queue, drop_changes, expire, harden, harden_part, hold_batch, is_present, land, land_changes, landed, landed_by, landed_unless, leave, prepare, prepare_of, prepared_changes, prepared_record, queue_of_sender, receive, receive_landed, received_record, release_batch, release_of, seize, seized_queue, set_bound, standing_at, undoubted, expired_rows}
+use Rattle.mq_spec_agents.specs.Standing.Standing.{Absent, InDoubtAt, Present}
+use Rattle.mq_spec_state.specs.Reads.{is_persistent}
+use Rattle.mq_law_manager.specs.Facts.{Mem}
+use Rattle.mq_law_manager.specs.Kept.{StepKeeps}
+use Rattle.mq_law_manager.proofs.Lists.{bool_case, name_self, name_yes}
+use Rattle.mq_law_seized.specs.Seized.{AreSeized, all_plain, step_plain}
+use Rattle.mq_law_seized.proofs.Calling.{holds, tested_keeps, tests_none}
+use Rattle.mq_law_seized.proofs.Changing.{change_leaves, none_any, step_leaves}
+use Rattle.mq_law_seized.proofs.Plain.{plain_behind, removal_plain, tested_plain}
+
+true_false : true ≡ false → ⊥
+true_false e = cc
+
+either_none : (a b : Bool) → (a || b) ≡ false → (a ≡ false) × (b ≡ false)
+either_none true b e = absurd cc
+either_none false b e = (refl, e)
+
+-- SEIZING
+mem_set : (new : Seizure) (xs : List Seizure) (s : Seizure) → Mem s (set_named (λ (x : Seizure). x.channel) new xs) → (s ≡ new) ⊎ Mem s xs
+mem_set new [] s n = elim n [ inl e ↦ inl e | inr k ↦ absurd k ]
+mem_set new (x ∷ xs) s n = bool_case (bytes_eq new.channel x.channel)
+    (λ b. Mem s (if b then new ∷ xs else (if comes_before new.channel x.channel then new ∷ x ∷ xs else x ∷ set_named (λ (x : Seizure). x.channel) new xs)) → (s ≡ new) ⊎ Mem s (x ∷ xs))
+    (λ z m. elim m [ inl e ↦ inl e | inr k ↦ inr (inr k) ])
+    (λ z. bool_case (comes_before new.channel x.channel) (λ b. Mem s (if b then new ∷ x ∷ xs else x ∷ set_named (λ (x : Seizure). x.channel) new xs) → (s ≡ new) ⊎ Mem s (x ∷ xs))
+    (λ w m. elim m [ inl e ↦ inl e | inr k ↦ inr k ])
+    (λ w m. elim m [
+      | inl e ↦ inr (inl e)
+      | inr k ↦ elim (mem_set new xs s k) [ inl e ↦ inl e | inr j ↦ inr (inr j) ]
+    ])) n
+
+unsent : (d : List ℕ) (p : Plain) → read_by_sender d p ≡ false → (s : Seizure) → Mem s p.channels.seizures → s.queue ≡ d → ⊥
+unsent d p f s n e = true_false (sym (name_self d) ∙ ap (λ (x : List ℕ). bytes_eq d x) (sym e) ∙ none_any (λ (x : Seizure). bytes_eq d x.queue) p.channels.seizures f s n)
+
+seizes_one : (new : Seizure) (p : Plain) → AreSeized p → is_transmission_queue (local_of new.queue p.definitions) ≡ true → is_open_for_input new.queue p ≡ false → has_held_by_other new.channel new.queue p ≡ false → AreSeized (apply (Seize new) p)
+seizes_one new p h xm shut held =
+    let o = either_none (read_by_handle new.queue p) (read_by_sender new.queue p) shut in
+    record {
+      local = h.local;
+      sends = λ s n. elim (mem_set new p.channels.seizures s n) [
+        | inl e ↦ subst (λ (x : Seizure). is_transmission_queue (local_of x.queue p.definitions) ≡ true) (sym e) xm
+        | inr k ↦ h.sends s k
+      ];
+      unread = λ s n. elim (mem_set new p.channels.seizures s n) [
+        | inl e ↦ subst (λ (x : Seizure). read_by_handle x.queue p ≡ false) (sym e) o.0
+        | inr k ↦ h.unread s k
+      ];
+      alone = λ s t n m q. elim (mem_set new p.channels.seizures s n) [
+        | inl e ↦ elim (mem_set new p.channels.seizures t m) [
+          | inl f ↦ ap (λ (x : Seizure). x.channel) (e ∙ sym f)
+          | inr k ↦ absurd (unsent new.queue p o.1 t k (sym q ∙ ap (λ (x : Seizure). x.queue) e))
+        ]
+        | inr j ↦ elim (mem_set new p.channels.seizures t m) [
+          | inl f ↦ absurd (unsent new.queue p o.1 s j (q ∙ ap (λ (x : Seizure). x.queue) f))
+          | inr k ↦ h.alone s t j k q
+        ]
+      ];
+      held = λ s n. elim (mem_set new p.channels.seizures s n) [
+        | inl e ↦ subst (λ (x : Seizure). has_held_by_other x.channel x.queue p ≡ false) (sym e) held
+        | inr k ↦ h.held s k
+      ];
+    }
+
+not_false : (b : Bool) → not b ≡ false → b ≡ true
+not_false true e = refl
+not_false false e = absurd cc
+
+pub seizes : (channel : List ℕ) (p : Plain) → AreSeized p → StepKeeps AreSeized (seize channel p) p
+seizes channel p h =
+    let queue : List ℕ = channel_queue (channel_of channel p.definitions) in
+    let ts : List (Test SeizeFault) = when (not (is_transmission_queue (local_of queue p.definitions))) seize_faults.BadQueue
+    ∷ when (is_open_for_input queue p || has_held_by_other channel queue p) seize_faults.QueueInUse
+    ∷ [] in
+    tested_keeps ts (Do tt (silent (Seize (record { channel = channel; queue = queue }) ∷ []) ∷ [])) p (λ e.
+    let t = tests_none ts e in
+    let v = either_none (is_open_for_input queue p) (has_held_by_other channel queue p) t.1.0 in
+    (seizes_one (record { channel = channel; queue = queue }) p h (not_false (is_transmission_queue (local_of queue p.definitions)) t.0) v.0 v.1, tt))
+
+-- A BATCH
+some_of : {A : Type 0} (o : Option A) → IsSome o → (x : A) × (o ≡ Some x)
+some_of None e = absurd cc
+some_of (Some x) e = (x, refl)
+
+seized_mem : (c : List ℕ) (ss : List Seizure) (s : Seizure) → seizure_of c ss ≡ Some s → Mem s ss × (c ≡ s.channel)
+seized_mem c [] s e = absurd cc
+seized_mem c (x ∷ xs) s e = bool_case (bytes_eq c x.channel) (λ b. bytes_eq c x.channel ≡ b → (if b then Some x else seizure_of c xs) ≡ Some s → Mem s (x ∷ xs) × (c ≡ s.channel))
+    (λ z w f. let same : s ≡ x = one x s f in (inl same, name_yes c x.channel w ∙ ap (λ (o : Seizure). o.channel) (sym same)))
+    (λ z w f. let r = seized_mem c xs s f in (inr r.0, r.1)) refl e
+  where
+    one : (x s : Seizure) → Some x ≡ Some s → s ≡ x
+    one x s f = cc
+
+pub holds_batch : (channel : List ℕ) (unit : Luw) (most : ℕ) (p : Plain) → CanHold channel p → AreSeized p → StepKeeps AreSeized (hold_batch channel unit most p) p
+holds_batch channel unit most p can h =
+    let q : List ℕ = queue_of_sender channel p in
+    let is : List Ident = idents_of (take most (free_rows q p)) in
+    let b : Batch = record { channel = channel; unit = unit; queue = q; idents = is } in
+    let o = some_of (seizure_of channel p.channels.seizures) can.seized in
+    let mine = seized_mem channel p.channels.seizures o.0 o.1 in (
+      change_leaves (AddBatch b) _ refl (holds q is (holders.Batch channel) p h (λ s n e.
+          let same : s.channel ≡ channel = h.alone s o.0 n mine.0 (e ∙ ap seized_queue o.1) ∙ sym mine.1 in
+          ap not (ap (λ (x : List ℕ). bytes_eq x channel) same ∙ name_self channel))),
+      tt,
+    )
+
+-- WHAT IS PLAIN
+prepare_plain : (channel : List ℕ) (last : ℕ) (o : Option Batch) (p : Plain) → step_plain (prepare_of channel last o p) ≡ true
+prepare_plain channel last None p = refl
+prepare_plain channel last (Some b) p = tested_plain (when (is_full (need (prepared_record channel last b)) p) prepare_faults.NoRoom ∷ []) (Do (tt {0}) (record {
+  forced = Some (prepared_record channel last b);
+  changes = prepared_changes channel last b (sender_or (sender_data channel p));
+  delta = did.Prepared channel b.unit ∷ [];
+} ∷ [])) refl
+
+release_plain : (channel : List ℕ) (o : Option Batch) → step_plain (release_of channel o) ≡ true
+release_plain channel None = refl
+release_plain channel (Some b) = refl
+
+harden_plain : (channel : List ℕ) (note : Note) (p : Plain) → all_plain (harden_part channel note p).changes ≡ true
+harden_plain channel (notes.Session partner session) p = refl
+harden_plain channel (notes.Resolved unit true operator) p = refl
+harden_plain channel (notes.Resolved unit false operator) p = refl
+harden_plain channel (notes.Bound partner session last) p = refl
+harden_plain channel (notes.Closed session) p = refl
+harden_plain channel (notes.SeqSet ends.Sender last) p = refl
+harden_plain channel (notes.SeqSet ends.Receiver last) p = refl
+
+undoubted_plain : (b : Bool) (i : Ident) → all_plain (undoubted b i) ≡ true
+undoubted_plain true i = refl
+undoubted_plain false i = refl
+
+drop_plain : (m : Message) (s : Standing) → all_plain (drop_changes m s) ≡ true
+drop_plain m Absent = undoubted_plain (is_persistent m) m.ident
+drop_plain m Present = undoubted_plain (is_persistent m) m.ident
+drop_plain m (InDoubtAt queue) = undoubted_plain (is_persistent m) m.ident
+
+land_plain : (l : Landing) (s : Standing) → all_plain (land_changes l s) ≡ true
+land_plain l s = plain_behind (drop_changes l.message s) _ (drop_plain l.message s) refl
+
+abbrev LandsPlain : Result Landed Reason → Type 0
+LandsPlain (Err reason) = Unit {0}
+LandsPlain (Ok l) = all_plain l.changes ≡ true
+
+before_plain : (m : Message) (l : Landing) (s : Standing) (r : Result Landed Reason) → LandsPlain r → LandsPlain (before m l s r)
+before_plain m l s (Err reason) h = tt
+before_plain m l s (Ok rest) h = plain_behind (land_changes l s) rest.changes (land_plain l s) h
+
+by_plain : (o : Result Landing Reason) (m : Message) (s : Standing) (p : Plain) (rest : Plain → Result Landed Reason) → ((q : Plain) → LandsPlain (rest q)) → LandsPlain (landed_by o m s p rest)
+by_plain (Err reason) m s p rest h = tt
+by_plain (Ok l) m s p rest h = before_plain m l s _ (h _)
+
+unless_plain : (b : Bool) (channel : List ℕ) (m : Message) (s : Standing) (p : Plain) (rest : Plain → Result Landed Reason) → ((q : Plain) → LandsPlain (rest q)) → LandsPlain (landed_unless b channel m s p rest)
+unless_plain true channel m s p rest h = h p
+unless_plain false channel m s p rest h = by_plain (land channel m p) m s p rest h
+
+landed_plain : (channel : List ℕ) (ms : List Message) (p : Plain) → LandsPlain (landed channel ms p)
+landed_plain channel [] p = refl
+landed_plain channel (m ∷ ms) p = unless_plain (is_present (standing_at m p)) channel m (standing_at m p) p (λ q. landed channel ms q) (λ q. landed_plain channel ms q)
+
+receive_plain : (channel : List ℕ) (unit : Luw) (last : ℕ) (o : Result Landed Reason) (p : Plain) → LandsPlain o → step_plain (receive_landed channel unit last o p) ≡ true
+receive_plain channel unit last (Err reason) p h = refl
+receive_plain channel unit last (Ok l) p h = tested_plain (when (is_full (need (received_record channel unit last l)) p) reasons.ResourceProblem ∷ []) _ (ap (λ (b : Bool). b && true) (plain_behind l.changes _ h refl))
+
+pub receives : (channel : List ℕ) (unit : Luw) (last : ℕ) (batch : List Message) (p : Plain) → AreSeized p → StepKeeps AreSeized (receive channel unit last batch p) p
+receives channel unit last batch p h = step_leaves (receive channel unit last batch p) p (receive_plain channel unit last (landed channel batch p) p (landed_plain channel batch p)) h
+
+pub prepares : (channel : List ℕ) (last : ℕ) (p : Plain) → AreSeized p → StepKeeps AreSeized (prepare channel last p) p
+prepares channel last p h = step_leaves (prepare channel last p) p (prepare_plain channel last (batch_of channel p.channels.batches) p) h
+
+pub releases : (channel : List ℕ) (p : Plain) → AreSeized p → StepKeeps AreSeized (release_batch channel p) p
+releases channel p h = step_leaves (release_batch channel p) p (release_plain channel (batch_of channel p.channels.batches)) h
+
+pub hardens : (channel : List ℕ) (note : Note) (p : Plain) → AreSeized p → StepKeeps AreSeized (harden channel note p) p
+hardens channel note p h = step_leaves (harden channel note p) p (ap (λ (b : Bool). b && true) (harden_plain channel note p)) h
+
+pub expires : (channel : List ℕ) (p : Plain) → AreSeized p → StepKeeps AreSeized (expire channel p) p
+expires channel p h = step_leaves (expire channel p) p (removal_plain whys.Expired (queue_of_sender channel p) (expired_rows (queue_of_sender channel p) p)) h
+
+pub leaves : (channel : List ℕ) (p : Plain) → AreSeized p → StepKeeps AreSeized (leave channel p) p
+leaves channel p h = step_leaves (leave channel p) p refl h
+
+pub binds : (channel : List ℕ) (bound : Bool) (p : Plain) → AreSeized p → StepKeeps AreSeized (set_bound channel bound p) p
+binds channel bound p h = step_leaves (set_bound channel bound p) p refl h
+
+-- NONE
+pub none_seized : (p : Plain) → p.channels.seizures ≡ [] → p.connections ≡ [] → AreSeized p
+none_seized p e f = record {
+  local = λ d n h k. absurd (subst (λ xs. Mem d xs) f n);
+  sends = λ s n. absurd (subst (λ xs. Mem s xs) e n);
+  unread = λ s n. absurd (subst (λ xs. Mem s xs) e n);
+  alone = λ s t n m q. absurd (subst (λ xs. Mem s xs) e n);
+  held = λ s n. absurd (subst (λ xs. Mem s xs) e n);
+}

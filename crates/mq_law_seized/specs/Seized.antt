@@ -1,0 +1,50 @@
+-- The queues that running senders have open at one manager: each is a transmission queue, nobody else reads it, no other sender has it, and
+-- no row there is held by a unit or for another channel's batch.
+use Rattle.std.specs.Prelude.{◌≡◌, Bool, true, false, not, ◌&&◌, List, [], ◌∷◌}
+use Rattle.mq_objects.specs.Names.{local_of}
+use Rattle.mq_calls.specs.declared.state.Handle.{Handle}
+use Rattle.mq_calls.specs.declared.state.Connection.{Connection}
+use Rattle.mq_spec_state.specs.State.{Change, Plain, Seizure}
+use Rattle.mq_spec_state.specs.State.Change.{Seize, OpenHandle, Hold, Connect, ChangeObjects}
+use Rattle.mq_spec_state.specs.Reads.{has_held_by_other, is_input, leads_to, read_by_handle}
+use Rattle.mq_spec_state.specs.Steps.{Part, Step}
+use Rattle.mq_spec_state.specs.Steps.Step.{Do, Refuse}
+use Rattle.mq_spec_manager.specs.Handles.{is_transmission_queue}
+use Rattle.mq_spec_manager.specs.Put.{queue_at}
+use Rattle.mq_law_manager.specs.Facts.{Mem}
+
+-- a handle that is open for input, but not of a queue here
+abbrev pub strays : Handle → Bool
+strays h = is_input h.how.input && not (leads_to (queue_at h.leads) h.leads)
+
+pub record AreSeized (p : Plain) : Type 0 where
+  pub local : (d : Connection) → Mem d p.connections → (h : Handle) → Mem h d.handles → strays h ≡ false
+  pub sends : (s : Seizure) → Mem s p.channels.seizures → is_transmission_queue (local_of s.queue p.definitions) ≡ true
+  pub unread : (s : Seizure) → Mem s p.channels.seizures → read_by_handle s.queue p ≡ false
+  pub alone : (s t : Seizure) → Mem s p.channels.seizures → Mem t p.channels.seizures → s.queue ≡ t.queue → s.channel ≡ t.channel
+  pub held : (s : Seizure) → Mem s p.channels.seizures → has_held_by_other s.channel s.queue p ≡ false
+
+-- what leaves them so, whatever it is of: no queue is seized or opened, no row held, no definition changed
+abbrev pub has_none : List Handle → Bool
+has_none [] = true
+has_none (h ∷ hs) = false
+
+abbrev pub is_plain : Change → Bool
+is_plain (Seize s) = false
+is_plain (OpenHandle number h) = false
+is_plain (Hold which by) = false
+is_plain (ChangeObjects change) = false
+is_plain (Connect c) = has_none c.handles
+is_plain _ = true
+
+abbrev pub all_plain : List Change → Bool
+all_plain [] = true
+all_plain (c ∷ cs) = is_plain c && all_plain cs
+
+abbrev pub parts_plain : List Part → Bool
+parts_plain [] = true
+parts_plain (part ∷ parts) = all_plain part.changes && parts_plain parts
+
+abbrev pub step_plain : {F T : Type 0} → Step F T → Bool
+step_plain (Refuse reason) = true
+step_plain (Do reply parts) = parts_plain parts

@@ -1,0 +1,7 @@
+pub mod Redoing
+pub mod FarRedoing
+pub mod Staying
+pub mod Channels
+pub mod Leaving
+pub mod Sparing
+pub mod Noting

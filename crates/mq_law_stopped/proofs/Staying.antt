@@ -1,0 +1,68 @@
+-- What is noted of an end stays noted, whatever the other end of its channel does.
+use Rattle.std.proofs.Common.{ℕ, ◌≡◌, List, ap, subst, ◌∙◌}
+use Rattle.std.specs.Prelude.{Some, slice_get}
+use Rattle.mq_frame.specs.declared.frame.Frame.{Frame}
+use Rattle.mq_sync.specs.declared.data.ReceiverData.{ReceiverData}
+use Rattle.mq_sync.specs.declared.data.SenderData.{SenderData}
+use Rattle.mq_sender.specs.declared.state.Sender.{Sender}
+use Rattle.mq_receiver.specs.declared.state.Receiver.{Receiver}
+use Rattle.mq_history.specs.declared.scenario.CableLine.{CableLine}
+use Rattle.mq_history.specs.declared.scenario.Scenario.{Scenario}
+use Rattle.mq_spec_state.specs.State.{Noted, Plain}
+use Rattle.mq_spec_network.specs.Ledger as ledgers
+use Rattle.mq_spec_network.specs.Story.{Mem}
+use Rattle.mq_law_channel.specs.Facts.{Letter}
+use Rattle.mq_law_channel.specs.Channel.{Channel}
+use Rattle.mq_law_node.specs.Ends.{told_receives, told_sends}
+use Rattle.mq_law_node.specs.Moves.{NearStep}
+use Rattle.mq_law_node.specs.Nodes.{SameFar, SameNear}
+use Rattle.mq_law_node.proofs.Pairs.{far_may_same, far_step_same, near_may_same, near_step_same, same_far_is, same_near_is}
+use Rattle.mq_law_stopped.specs.Noted.{EndNote, ReceiverNote, SenderKind, SenderNote}
+use Rattle.mq_law_stopped.specs.Noted.SenderKind.{Begins, Numbers, Prepares, Resolves, Settles}
+use Rattle.mq_law_stopped.specs.Noted.EndNote.{Commits, Far, Near}
+
+-- a channel with another far half, and with another near half
+abbrev with_far : ReceiverData → Receiver → List Letter → List Frame → Channel → Channel
+with_far a b k o x = record x { receives = a; receiver = b; kept = k; back = o }
+
+abbrev with_near : SenderData → Sender → List Letter → List Frame → Channel → Channel
+with_near a b k o x = record x { sends = a; sender = b; batch = k; out = o }
+
+kind_stays : (c : List ℕ) (b : Plain) (note : Noted) (step : NearStep) (a : ReceiverData) (r : Receiver) (k : List Letter) (o : List Frame) (x : Channel) → SenderKind c b note x step → SenderKind c b note (with_far a r k o x) step
+kind_stays c b note way a r k o x (Begins t partner session is turn says) = Begins t partner session is (record { done = turn.done; does = turn.does }) says
+kind_stays c b note way a r k o x (Prepares t batch last is turn found says) = Prepares t batch last is (record { done = turn.done; does = turn.does }) found says
+kind_stays c b note way a r k o x (Settles t d commit is turn so free says) = Settles t d commit is (record { done = turn.done; does = turn.does }) so free says
+kind_stays c b note way a r k o x (Resolves settle d is free says told) = Resolves settle d is free says told
+kind_stays c b note way a r k o x (Numbers last is says) = Numbers last is says
+
+sender_stays : (c : List ℕ) (b : Plain) (note : Noted) (x d : Channel) → SameNear x d → ((f : Frame) → Mem f x.back → Mem f d.back) → SenderNote c b note x → SenderNote c b note d
+sender_stays c b note x d same among h = subst (λ (z : Channel). SenderNote c b note z) (same_near_is x d same) (record {
+  step = h.step;
+  may = near_may_same h.step d.receives d.receiver d.kept d.back x among h.may;
+  data_ = ap told_sends (near_step_same h.step d.receives d.receiver d.kept d.back x).0 ∙ h.data_;
+  out = (near_step_same h.step d.receives d.receiver d.kept d.back x).1 ∙ h.out;
+  kind = kind_stays c b note h.step d.receives d.receiver d.kept d.back x h.kind;
+  quiet = h.quiet;
+})
+
+receiver_stays : (c : List ℕ) (b : Plain) (note : Noted) (x d : Channel) → SameFar x d → ((f : Frame) → Mem f x.out → Mem f d.out) → ReceiverNote c b note x → ReceiverNote c b note d
+receiver_stays c b note x d same among h = subst (λ (z : Channel). ReceiverNote c b note z) (same_far_is x d same) (record {
+  step = h.step;
+  may = far_may_same h.step d.sends d.sender d.batch d.out x among h.may;
+  data_ = ap told_receives (far_step_same h.step d.sends d.sender d.batch d.out x).0 ∙ h.data_;
+  back = (far_step_same h.step d.sends d.sender d.batch d.out x).1 ∙ h.back;
+  unit = ap (λ (r : ReceiverData). r.unit) (far_step_same h.step d.sends d.sender d.batch d.out x).0 ∙ h.unit;
+  calm = λ t u e f g. h.calm t u e f g;
+  word = h.word;
+  is = h.is;
+  says = h.says;
+  quiet = h.quiet;
+})
+
+pub notes_stay : (s : Scenario) (xs zs : ℕ → List ℕ → Channel) (m : ℕ) (st : ledgers.Stopped) (note : Noted) (b : Plain)
+    → ((i : ℕ) (k : CableLine) → slice_get s.cables i ≡ Some k → k.sender ≡ m → SameNear (xs k.sender k.channel) (zs k.sender k.channel) × ((f : Frame) → Mem f (xs k.sender k.channel).back → Mem f (zs k.sender k.channel).back))
+    → ((i : ℕ) (k : CableLine) → slice_get s.cables i ≡ Some k → k.receiver ≡ m → SameFar (xs k.sender k.channel) (zs k.sender k.channel) × ((f : Frame) → Mem f (xs k.sender k.channel).out → Mem f (zs k.sender k.channel).out))
+    → EndNote s xs m st note b → EndNote s zs m st note b
+notes_stay s xs zs m st note b near far (Near i k at q left h) = let v = near i k at q in Near i k at q left (sender_stays k.channel b note (xs k.sender k.channel) (zs k.sender k.channel) v.0 v.1 h)
+notes_stay s xs zs m st note b near far (Far i k at q left h) = let v = far i k at q in Far i k at q left (receiver_stays k.channel b note (xs k.sender k.channel) (zs k.sender k.channel) v.0 v.1 h)
+notes_stay s xs zs m st note b near far (Commits u h) = Commits u h
