@@ -1,0 +1,3 @@
+pub mod Worlds
+pub mod Resting
+pub mod Starting

@@ -1,0 +1,11 @@
+//! A network whose nodes are real: managers over disks, each with its history, as the steps of a scenario run over them.
+#![tactic(auto)]
+
+mod marks;
+mod network;
+mod parts;
+mod resting;
+mod starting;
+mod turns;
+
+pub use network::Network;
