@@ -107,31 +107,42 @@ the_run r w w1 n0 n1 rested fresh rests same c begun d ended ran steps =
 left_at : (s : Scenario) (w1 : RestState) → w1.scenario ≡ s → left s w1.histories ≡ left_of w1
 left_at s w1 same = λ i. record { scenario = sym same i; histories = w1.histories }
 
+at_scenario : (w : RestState) (s : Scenario) (c d : Course) → w.scenario ≡ s → ((xs : List History) → Has s xs c d → AreSteps s xs) → (xs : List History) → Has w.scenario xs c d → AreSteps w.scenario xs
+at_scenario w s c d same steps xs h = subst (λ (x : Scenario). AreSteps x xs) (sym same) (steps xs (subst (λ (x : Scenario). Has x xs c d) same h))
+
 -- what the steps did
-pub steps_ran : (r : Result (Unit {0}) Stop) (w w1 : RestState) (n0 n1 : NetState) → IsRested w → IsFresh w → Starts w n0 → w1 ≡ rest_of n1.scenario n1.nodes → IsRested w1 → Ran r (course_in n0) (course_in n1)
-    → ((xs : List History) → Has w.scenario xs (course_in n0) (course_in n1) → AreSteps w.scenario xs) → RanOn w.scenario w.histories (left_of w1)
-steps_ran r w w1 n0 n1 rested fresh start rest rests ran steps =
+pub steps_ran : (r : Result (Unit {0}) Stop) (s : Scenario) (w w1 : RestState) (n0 n1 : NetState) → w.scenario ≡ s → IsRested w → IsFresh w → Starts w n0 → w1 ≡ rest_of n1.scenario n1.nodes → IsRested w1 → Ran r (course_in n0) (course_in n1)
+    → ((xs : List History) → Has s xs (course_in n0) (course_in n1) → AreSteps s xs) → RanOn s w.histories (left_of w1)
+steps_ran r s w w1 n0 n1 is rested fresh start rest rests ran steps =
     let same = same_run r w w1 n0 n1 start rest ran in
-    subst (RanOn w.scenario w.histories) (left_at w.scenario w1 same)
+    subst (λ (x : Scenario). RanOn x w.histories (left_of w1)) is
+    (subst (RanOn w.scenario w.histories) (left_at w.scenario w1 same)
     (ran_on w.scenario w.histories w1.histories (waits_in n0) (waits_in n1)
-      (the_run r w w1 n0 n1 rested fresh rests same (course_in n0) (first_course w n0 start) (course_in n1) (last_course w w1 n1 rest same) ran steps))
+      (the_run r w w1 n0 n1 rested fresh rests same (course_in n0) (first_course w n0 start) (course_in n1) (last_course w w1 n1 rest same) ran (at_scenario w s (course_in n0) (course_in n1) is steps))))
 
 steps_spent : (w1 : RestState) (n1 : NetState) → w1 ≡ rest_of n1.scenario n1.nodes → (m : ℕ) → is_spent (entries_at (histories_in n1) m) ≡ true → is_spent (entries_at w1.histories m) ≡ true
 steps_spent w1 n1 rest m e = ap (λ (x : RestState). is_spent (entries_at x.histories m)) rest ∙ e
 
 -- and whether all were done
-pub steps_end : (r : Result (Unit {0}) Stop) (w w1 : RestState) (n0 n1 : NetState) → IsRested w → IsFresh w → Starts w n0 → w1 ≡ rest_of n1.scenario n1.nodes → IsRested w1 → Ran r (course_in n0) (course_in n1)
+steps_done : (w w1 : RestState) (n0 n1 : NetState) → IsRested w → IsFresh w → Starts w n0 → w1 ≡ rest_of n1.scenario n1.nodes → IsRested w1 → Ran {T = Unit {0}} (Ok tt) (course_in n0) (course_in n1)
     → ((xs : List History) → Has w.scenario xs (course_in n0) (course_in n1) → AreSteps w.scenario xs)
-    → OnOk r ((xs : List History) → Has w.scenario xs (course_in n0) (course_in n1) → IsDone w.scenario xs) → StepsEnd r (left_of w1)
-steps_end (Ok done) w w1 n0 n1 rested fresh start rest rests ran steps all =
-    let same = same_run (Ok done) w w1 n0 n1 start rest ran in
-    let x = the_run (Ok done) w w1 n0 n1 rested fresh rests same (course_in n0) (first_course w n0 start) (course_in n1) (last_course w w1 n1 rest same) ran steps in
+    → ((xs : List History) → Has w.scenario xs (course_in n0) (course_in n1) → IsDone w.scenario xs) → IsDone w1.scenario w1.histories
+steps_done w w1 n0 n1 rested fresh start rest rests ran steps all =
+    let same = same_run (Ok tt) w w1 n0 n1 start rest ran in
+    let x = the_run (Ok tt) w w1 n0 n1 rested fresh rests same (course_in n0) (first_course w n0 start) (course_in n1) (last_course w w1 n1 rest same) ran steps in
     subst (λ (s : Scenario). IsDone s w1.histories) (sym same)
     (all w1.histories (subst (λ (c : Course). Has w.scenario w1.histories c (course_in n1)) (sym (first_course w n0 start))
       (subst (Has w.scenario w1.histories (course_of w.scenario w.histories (waits_in n0))) (sym (last_course w w1 n1 rest same))
         (has w.scenario w.histories w1.histories (waits_in n0) (waits_in n1) x))))
-steps_end (Err stops.NoMemory) w w1 n0 n1 rested fresh start rest rests ran steps all = tt
-steps_end (Err (stops.Spent m)) w w1 n0 n1 rested fresh start rest rests ran steps all = steps_spent w1 n1 rest m ran.ends
+
+pub steps_end : (r : Result (Unit {0}) Stop) (s : Scenario) (w w1 : RestState) (n0 n1 : NetState) → w.scenario ≡ s → IsRested w → IsFresh w → Starts w n0 → w1 ≡ rest_of n1.scenario n1.nodes → IsRested w1 → Ran r (course_in n0) (course_in n1)
+    → ((xs : List History) → Has s xs (course_in n0) (course_in n1) → AreSteps s xs)
+    → OnOk r ((xs : List History) → Has s xs (course_in n0) (course_in n1) → IsDone s xs) → StepsEnd r (left_of w1)
+steps_end (Ok done) s w w1 n0 n1 is rested fresh start rest rests ran steps all =
+    steps_done w w1 n0 n1 rested fresh start rest rests ran (at_scenario w s (course_in n0) (course_in n1) is steps)
+    (λ xs h. subst (λ (x : Scenario). IsDone x xs) (sym is) (all xs (subst (λ (x : Scenario). Has x xs (course_in n0) (course_in n1)) is h)))
+steps_end (Err stops.NoMemory) s w w1 n0 n1 is rested fresh start rest rests ran steps all = tt
+steps_end (Err (stops.Spent m)) s w w1 n0 n1 is rested fresh start rest rests ran steps all = steps_spent w1 n1 rest m ran.ends
 
 -- where the logs belong together
 pub did_all : (s : Scenario) (gs : List History) (l : Left) → RanOn s gs l → apart s gs ≡ None → StepsEnd (Ok tt) l → DidAll l

@@ -1,7 +1,5 @@
 use Rattle.std.proofs.Common.{◌≡◌, ◌++◌, drop, map}
 use Rattle.mq_run.specs.Leaves.{manager_stands}
-use Rattle.mq_run.proofs.JoinLaws as joins
-use Rattle.mq_run.proofs.RunLaws as runs
 use Rattle.mq_run.proofs.standing.put_managers.Given as goal
 
 abbrev pub invariant-loop-manager : goal.invariant-loop-manager
