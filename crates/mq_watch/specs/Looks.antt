@@ -1,6 +1,6 @@
 -- What a monitor's get would find.
-use Rattle.std.specs.Prelude.{ℕ, Bool, true, false, not, ◌&&◌, Option, Some, None, Result, Ok, Err}
-use Rattle.mq_spec_state.specs.Words.{Connection, Handle, Hconn, Hobj, Plain, Reason, Row, handle_at, is_free, is_past}
+use Rattle.std.specs.Prelude.{ℕ, Bool, true, false, not, ◌&&◌, find, List, Option, Some, None, Result, Ok, Err}
+use Rattle.mq_spec_state.specs.Words.{Connection, Handle, Hconn, Hobj, Plain, Reason, Row, handle_at, is_free, is_past, stored}
 use Rattle.mq_spec_manager.specs.Words.{connected, is_left, scanned}
 use Rattle.mq_spec_node.specs.Words.{monitor_get}
 
@@ -12,6 +12,10 @@ is_fresh moment row = is_free row && not (is_past moment row.message.deadline)
 abbrev pub row_fits : Option Row → Bool
 row_fits None = false
 row_fits (Some row) = not (is_left monitor_get row.message)
+
+-- the first such row of a queue fits
+abbrev pub queue_fits : List ℕ → Plain → Bool
+queue_fits queue p = row_fits (find (is_fresh p.moment) (stored queue p).rows)
 
 abbrev pub handle_fits : Plain → Handle → Bool
 handle_fits p h = row_fits (scanned monitor_get h p).found

@@ -5,7 +5,7 @@ ghost use Rattle.mq_spec_state.specs.Reads.{is_past};
 ghost use Rattle.mq_spec_manager.specs.Heads.{xqh_of};
 ghost use Rattle.mq_spec_manager.specs.Words.{length_of, queue_at};
 ghost use Rattle.mq_core.specs.Views.{plain_of};
-ghost use Rattle.mq_watch.specs.Looks.{fits, handle_fits, is_fresh, row_fits, seat_fits};
+ghost use Rattle.mq_watch.specs.Looks.{fits, handle_fits, is_fresh, queue_fits, row_fits, seat_fits};
 
 use mq_calls::{Handle, Hconn, Hobj};
 use mq_core::{Core, Parts};
@@ -107,15 +107,23 @@ fn queue_at(end: &RouteEnd) -> QName
     }
 }
 
-/// The first row of a queue that the get would find fits.
-#[tactic(auto, using(mq_core::proofs::PlaceLaws::queue_in_state, mq_core::proofs::ReadLaws::queue_none, crate::proofs::LookLaws::found_fits))]
-fn handle_fits<D: Disk>(parts: &Parts<D>, handle: &Handle) -> bool
-    ensures { result ≡ handle_fits (plain_of parts.now) handle.now }
+/// Whether the first row of a queue that the get would find is there, and fits.
+#[tactic(auto, using(mq_core::proofs::PlaceLaws::queue_in_state, mq_core::proofs::ReadLaws::queue_none))]
+fn queue_fits<D: Disk>(parts: &Parts<D>, queue: &QName) -> bool
+    ensures { result ≡ queue_fits queue.now (plain_of parts.now) }
 {
-    match parts.queues.local(&queue_at(&handle.leads)) {
+    match parts.queues.local(queue) {
         None => false,
         Some(local) => row_fits(first_fresh(local, parts.moment)),
     }
+}
+
+/// The first row of a handle's queue that the get would find fits.
+#[tactic(auto, using(crate::proofs::LookLaws::found_fits))]
+fn handle_fits<D: Disk>(parts: &Parts<D>, handle: &Handle) -> bool
+    ensures { result ≡ handle_fits (plain_of parts.now) handle.now }
+{
+    queue_fits(parts, &queue_at(&handle.leads))
 }
 
 fn seat_fits<D: Disk>(parts: &Parts<D>, seat: &Seat, ho: &Hobj) -> bool

@@ -6,7 +6,7 @@ use Rattle.mq_queue.specs.Rows.{is_free}
 use Rattle.mq_spec_state.specs.Words.{Handle, Plain, is_expired, is_past, stored}
 use Rattle.mq_spec_manager.specs.Words.{Scan, queue_at, scan, scan_row, scanned}
 use Rattle.mq_spec_node.specs.Words.{monitor_get}
-use Rattle.mq_watch.specs.Looks.{is_fresh, row_fits, handle_fits}
+use Rattle.mq_watch.specs.Looks.{is_fresh, row_fits, queue_fits, handle_fits}
 
 scan_step : (p : Plain) (row : Row) (rows : List Row) (free past : Bool) (rest : Scan) → rest.found ≡ find (is_fresh p.moment) rows
     → (scan_row free past row rest).found ≡ cond (free && not past) (Some row) (find (is_fresh p.moment) rows)
@@ -26,5 +26,5 @@ scan_found p (row ∷ rows) =
 pub found_is : (h : Handle) (p : Plain) → (scanned monitor_get h p).found ≡ find (is_fresh p.moment) (stored (queue_at h.leads) p).rows
 found_is h p = scan_found p (stored (queue_at h.leads) p).rows
 
-pub found_fits : (h : Handle) (p : Plain) → row_fits (find (is_fresh p.moment) (stored (queue_at h.leads) p).rows) ≡ handle_fits p h
+pub found_fits : (h : Handle) (p : Plain) → queue_fits (queue_at h.leads) p ≡ handle_fits p h
 found_fits h p = ap row_fits (sym (found_is h p))

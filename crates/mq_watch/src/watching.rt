@@ -113,7 +113,7 @@ pub fn is_watching<D: Disk>(node: &Node<D>, monitor: u16) -> bool
 /// # Errors
 ///
 /// No memory; nothing has changed.
-#[tactic(auto, using(crate::proofs::WatchLaws::connected, crate::proofs::WatchLaws::some_last))]
+#[tactic(auto, using(crate::proofs::WatchLaws::connected, crate::proofs::WatchLaws::connect_last))]
 pub fn connect<D: Disk>(
     node: &mut Node<D>,
     monitor: u16,
@@ -138,7 +138,7 @@ pub fn connect<D: Disk>(
 /// # Errors
 ///
 /// No memory; nothing has changed.
-#[tactic(auto, using(crate::proofs::WatchLaws::opened, crate::proofs::WatchLaws::some_last))]
+#[tactic(auto, using(crate::proofs::WatchLaws::opened, crate::proofs::WatchLaws::open_last))]
 pub fn open<D: Disk>(
     node: &mut Node<D>,
     monitor: u16,
