@@ -136,6 +136,7 @@ fn get<D: Disk>(
 /// # Errors
 ///
 /// No memory; nothing has changed.
+#[tactic(auto, using(mq_events::proofs::StepLaws::roomed_stays, mq_events::proofs::KeepLaws::roomed_counts, mq_events::proofs::KeepLaws::asked_counts, mq_events::proofs::KeepLaws::finished_counts))]
 fn turn_at<D: Disk>(
     parts: &mut NodeParts<D>,
     number: u16,
@@ -169,6 +170,7 @@ fn turn_at<D: Disk>(
     }
 }
 
+#[tactic(auto, using(mq_events::proofs::KeepLaws::same_counts, crate::proofs::MonitorLaws::unwatched, crate::proofs::MonitorLaws::unfit))]
 fn turn<D: Disk>(parts: &mut NodeParts<D>, number: u16) -> Result<Monitored, NoMemory>
     requires kept { IsKept parts.old }
     requires served { IsServed parts.old }
