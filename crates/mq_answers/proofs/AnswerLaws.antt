@@ -15,7 +15,7 @@ use Rattle.mq_history.specs.declared.calls.Reply.TheVariants as replies
 use Rattle.mq_sc_parse.specs.declared.command.Command.TheVariants as commands
 use Rattle.mq_sc_parse.specs.declared.command.Op.TheVariants as ops
 use Rattle.mq_spec_node.specs.Terms.{Actor, Call, Command, Op, channel_of, is_up}
-use Rattle.mq_spec_node.specs.Words.{ChannelEnd, Deed, Node, Own, obey_deed, operate, operate_up, refused_or, refused, end_defined, end_of_kind, start_end, stop_end, reset_end, resolve_end, sender_named, shown}
+use Rattle.mq_spec_node.specs.Words.{ChannelEnd, Deed, Node, Own, obey_deed, operate_up, refused_or, refused, end_defined, end_of_kind, start_end, stop_end, reset_end, resolve_end, sender_named, shown}
 use Rattle.mq_spec_node.specs.Deeds.{told}
 use Rattle.mq_law_counts.proofs.Climbing.{stay}
 use Rattle.mq_shows.specs.Shows.{lines_of, shown_as, answered}
