@@ -8,5 +8,5 @@ pub mod RackLaws
 pub mod EachLaws
 pub mod NotedLaws
 pub mod FoundLaws
-pub mod PutLaws
+pub mod SlotLaws
 pub mod TellLaws

@@ -139,6 +139,14 @@ empty_apart : IsDistinct (eq_by_cmp stand_cmp) []
 unfolding IsDistinct
 empty_apart = tt
 
+-- no queue
+names_none : IsDistinct bytes_eq []
+unfolding IsDistinct
+names_none = tt
+
+pub racks_none : (spot : Ident → Option Spot) (now : List (List ℕ × List (Stand × Row))) → now ≡ [] → AreRacks spot 0 now
+racks_none spot now none = subst (AreRacks spot 0) (sym none) (record { each = tt; named = names_none })
+
 -- a queue without rows takes the place of the one of its name
 pub racks_empty : (spot : Ident → Option Spot) (next : ℕ) (q : List ℕ) (new : List (Stand × Row)) → new ≡ [] → (rs now : List (List ℕ × List (Stand × Row))) → AreRacks spot next rs → IsDistinct bytes_eq (keys_of now) → now ≡ named_entry bytes_eq rs q new → AreRacks spot next now
 racks_empty spot next q new none rs now were named is = record {

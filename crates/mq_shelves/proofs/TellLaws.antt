@@ -1,27 +1,29 @@
--- Shelves that are given out one after another, the last first.
+-- Shelves that are given out one after another.
 use Rattle.std.proofs.Common.{◌≡◌, ℕ, ◌<◌, List, [], ◌∷◌, ◌++◌, length, refl, sym, ap, ◌∙◌, arith}
-use Rattle.std.specs.Prelude.{reverse}
-use Rattle.std.proofs.lemmas.List.{reverse-append}
 use Rattle.mq_queue.specs.declared.row.Row.{Row}
 use Rattle.mq_calls.specs.declared.image.Shelf.{Shelf}
-use Rattle.mq_shelves.specs.declared.rack.Stand.{Stand}
-use Rattle.mq_shelves.specs.Racks.{rows_of, shelf_of, shelves_of}
+use Rattle.mq_shelves.specs.declared.slots.Slot.{Slot}
+use Rattle.mq_shelves.specs.Racks.{rows_of, shelves_of}
+use Rattle.mq_shelves.specs.Slots.{slot_entries}
 
 abbrev rows_shelf : List ℕ → List Row → Shelf
 rows_shelf name rows = record { name = name; rows = rows }
 
-last_moves : (rs : List (List ℕ × List (Stand × Row))) (r : List ℕ × List (Stand × Row)) (ss : List Shelf) → shelves_of (rs ++ r ∷ []) ++ ss ≡ shelves_of rs ++ shelf_of r ∷ ss
-last_moves [] r ss = refl
-last_moves (x ∷ rs) r ss = ap (λ (ys : List Shelf). shelf_of x ∷ ys) (last_moves rs r ss)
+one_moves : (ss : List Shelf) (s : Shelf) (more : List Shelf) → (ss ++ s ∷ []) ++ more ≡ ss ++ s ∷ more
+one_moves [] s more = refl
+one_moves (x ∷ ss) s more = ap (λ (ys : List Shelf). x ∷ ys) (one_moves ss s more)
 
-pub shelf_told : (left new : List (List ℕ × List (Stand × Row))) (r : List ℕ × List (Stand × Row)) (rows : List Row) (shelves all : List Shelf) → shelves_of left ++ reverse shelves ≡ all → left ≡ new ++ r ∷ [] → rows ≡ rows_of r.1
-    → shelves_of new ++ reverse (shelves ++ record { name = r.0; rows = rows } ∷ []) ≡ all
-shelf_told left new r rows shelves all so_far is same =
-    ap (λ (ys : List Shelf). shelves_of new ++ ys) (reverse-append shelves (rows_shelf r.0 rows ∷ []))
-    ∙ ap (λ (x : List Row). shelves_of new ++ rows_shelf r.0 x ∷ reverse shelves) same
-    ∙ sym (last_moves new r (reverse shelves))
-    ∙ ap (λ (x : List (List ℕ × List (Stand × Row))). shelves_of x ++ reverse shelves) (sym is) ∙ so_far
+pub shelf_told : (left new : List (ℕ × Slot)) (e : ℕ × Slot) (rows : List Row) (shelves all : List Shelf) → shelves ++ shelves_of (slot_entries left) ≡ all → left ≡ e ∷ new → rows ≡ rows_of e.1.rack
+    → (shelves ++ record { name = e.1.name; rows = rows } ∷ []) ++ shelves_of (slot_entries new) ≡ all
+shelf_told left new e rows shelves all so_far is same =
+    one_moves shelves (rows_shelf e.1.name rows) (shelves_of (slot_entries new))
+    ∙ ap (λ (x : List Row). shelves ++ rows_shelf e.1.name x ∷ shelves_of (slot_entries new)) same
+    ∙ ap (λ (es : List (ℕ × Slot)). shelves ++ shelves_of (slot_entries es)) (sym is) ∙ so_far
 
-pub all_told : (left : List (List ℕ × List (Stand × Row))) (shelves all : List Shelf) → shelves_of left ++ reverse shelves ≡ all → (0 < length left → ⊥) → reverse shelves ≡ all
-all_told [] shelves all so_far none = so_far
-all_told (r ∷ rs) shelves all so_far none = absurd (none (omega arith))
+none_more : (ss : List Shelf) → ss ≡ ss ++ []
+none_more [] = refl
+none_more (s ∷ ss) = ap (λ (ys : List Shelf). s ∷ ys) (none_more ss)
+
+pub all_told : (left : List (ℕ × Slot)) (shelves all : List Shelf) → shelves ++ shelves_of (slot_entries left) ≡ all → (0 < length left → ⊥) → shelves ≡ all
+all_told [] shelves all so_far none = none_more shelves ∙ so_far
+all_told (e ∷ es) shelves all so_far none = absurd (none (omega arith))

@@ -1,4 +1,5 @@
 pub mod Racks
+pub mod Slots
 pub mod Spots
 pub mod Found
 pub mod Holds

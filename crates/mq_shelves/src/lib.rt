@@ -6,6 +6,7 @@ mod rack;
 mod racks;
 mod rows;
 mod shelves;
+mod slots;
 mod spots;
 
 pub use distinct::{are_distinct, is_met, meet};

@@ -12,7 +12,8 @@ ghost use Rattle.mq_shelves.specs.Found.{IsFound};
 ghost use Rattle.mq_shelves.specs.Racks.{any_row, tagged, less_held, freed_held};
 
 use crate::rack::{Rack, Stand};
-use crate::racks::{hold_at, put_at, row_at, standing, take_at};
+use crate::racks::{row_at, standing};
+use crate::slots::Racks;
 use crate::spots::{IdentKey, Spot, note_spot, spot_of};
 use indexmap::IndexMap;
 use mq_base::{Items, NoMemory};
@@ -36,7 +37,7 @@ pub struct Found<'a> {
 #[derive(Drop)]
 pub struct Rows {
     // In the order in which the queues came.
-    racks: IndexMap<QName, Rack>,
+    racks: Racks,
     // Where the row of each ident stands. Some idents may have none any more.
     spots: IndexMap<IdentKey, Spot>,
     // How many rows came.
@@ -51,9 +52,9 @@ impl Model for Rows {
 
     ghost Value = { List Shelf };
 
-    ghost view = { λ r. shelves_of r.racks.entries };
+    ghost view = { λ r. shelves_of r.racks };
 
-    ghost invariant = { λ r. AreRacks (spot_of r.spots) r.next r.racks.entries };
+    ghost invariant = { λ r. AreRacks (spot_of r.spots) r.next r.racks };
 }
 
 impl Rows {
@@ -62,7 +63,7 @@ impl Rows {
         ensures { result ≡ [] }
     {
         Rows {
-            racks: IndexMap::new(alloc),
+            racks: Racks::new(alloc),
             spots: IndexMap::new(alloc),
             next: 0,
         }
@@ -103,7 +104,7 @@ impl Rows {
         ensures { self.new ≡ on_all (without_ident ident.now) self.old }
     {
         if let Some(spot) = standing(&self.racks, &self.spots, ident) {
-            take_at(&mut self.racks, &spot);
+            self.racks.take(&spot.queue, &spot.stand);
         }
     }
 
@@ -112,7 +113,7 @@ impl Rows {
         ensures { self.new ≡ on_all (tagged ident.now by) self.old }
     {
         if let Some(spot) = standing(&self.racks, &self.spots, ident) {
-            hold_at(&mut self.racks, &spot, by);
+            self.racks.hold(&spot.queue, &spot.stand, by);
         }
     }
 
@@ -121,7 +122,7 @@ impl Rows {
         ensures ok { OnOk result (self.new ≡ set_shelf (record { name = name.now; rows = [] }) self.old) }
         ensures err { OnErr result (self.new ≡ self.old) }
     {
-        self.racks.insert(*name, Rack::new(alloc))?;
+        self.racks.set(name, Rack::new(alloc))?;
         Ok(())
     }
 
@@ -129,7 +130,7 @@ impl Rows {
     pub fn drop_queue(&mut self, name: &QName)
         ensures { self.new ≡ filter (λ (s : Shelf). not (bytes_eq name.now s.name)) self.old }
     {
-        let _rack = self.racks.shift_remove(name);
+        self.racks.drop_queue(name);
     }
 
     // A message takes the last place of its lane; no row has its ident.
@@ -148,9 +149,10 @@ impl Rows {
             return Err(NoMemory);
         };
         let arrival = self.next;
+        let stand = Stand { lane, arrival };
         let spot = Spot {
             queue: *queue,
-            stand: Stand { lane, arrival },
+            stand,
         };
         note_spot(&mut self.spots, &message.ident, spot)?;
         self.next = next;
@@ -161,7 +163,7 @@ impl Rows {
             message,
             by: None,
         };
-        put_at(alloc, &mut self.racks, &spot, row)?;
+        self.racks.put(alloc, queue, stand, row)?;
         Ok(())
     }
 
@@ -170,12 +172,14 @@ impl Rows {
         ensures { IfOk result (λ shelves. shelves ≡ self) }
     {
         let mut shelves = Vec::new(alloc);
-        let mut left = self.racks;
-        while let Some((name, rack)) = left.pop() {
-            let rows = rack.into_rows(alloc)?;
-            shelves.push(Shelf { name, rows })?;
+        let mut left = self.racks.into_slots();
+        while let Some((_, slot)) = left.pop_first() {
+            let rows = slot.rack.into_rows(alloc)?;
+            shelves.push(Shelf {
+                name: slot.name,
+                rows,
+            })?;
         }
-        shelves.reverse();
         Ok(Items::from_vec(shelves))
     }
 }

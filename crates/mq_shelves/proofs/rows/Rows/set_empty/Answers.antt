@@ -10,10 +10,10 @@ use Rattle.mq_shelves.proofs.RackLaws.{racks_empty}
 use Rattle.mq_shelves.proofs.rows.Rows.set_empty.Goals as goal
 
 pub invariant_of-self-2 : goal.invariant_of-self-2
-invariant_of-self-2 c = racks_empty (spot_of c.self.inside.spots) c.self.inside.next c.args.name.now c.new.result c.new.ensures c.self.inside.racks.entries c.insert.new.self.entries c.self.invariant c.insert.ensures.unique c.in_ok-insert.ensures.entries
+invariant_of-self-2 c = racks_empty (spot_of c.self.inside.spots) c.self.inside.next c.args.name.now c.new.result c.new.ensures c.self.inside.racks c.set.new.self c.self.invariant c.in_ok-set.ensures.named c.in_ok-set.ensures.ok
 
 pub returns-clause-ok : goal.returns-clause-ok
 returns-clause-ok c =
-    ap shelves_of c.in_ok-insert.ensures.entries ∙ queue_set c.args.name.now c.new.result c.self.inside.racks.entries
-    ∙ ap (λ (es : List (Stand × Row)). set_shelf (shelf_of (c.args.name.now, es)) (shelves_of c.self.inside.racks.entries)) c.new.ensures
+    ap shelves_of c.in_ok-set.ensures.ok ∙ queue_set c.args.name.now c.new.result c.self.inside.racks
+    ∙ ap (λ (es : List (Stand × Row)). set_shelf (shelf_of (c.args.name.now, es)) (shelves_of c.self.inside.racks)) c.new.ensures
     ∙ ap (λ (v : List Shelf). set_shelf (record { name = c.args.name.now; rows = [] }) v) c.self.view_is
