@@ -18,7 +18,7 @@ use Rattle.mq_events.specs.Events.{Stays}
 use Rattle.mq_events.proofs.CountLaws.{fresh_counted, long_more}
 use Rattle.mq_events.proofs.EntryLaws.{entry_kept}
 use Rattle.mq_events.proofs.KeepLaws.{begun_none}
-use Rattle.mq_answers.proofs.AnswerLaws.{room_stays, roomed_node}
+use Rattle.mq_acts.proofs.AnswerLaws.{room_stays, roomed_node}
 use Rattle.mq_acts.specs.declared.restarting.Restarted.{Restarted}
 use Rattle.mq_acts.specs.Restarts.{own_behind, CountsBehind, acted_by, IsRestart, IsUnchanged, restart_entry, TellsActed, TellsAs, BeganFew}
 

@@ -6,8 +6,8 @@ ghost use Rattle.mq_events.specs.Events.{ActsAs, MayAct};
 ghost use Rattle.mq_events.specs.Texts.{IsTextAct};
 ghost use Rattle.mq_acts.specs.Restarts.{RestartIsOwn};
 
+use crate::answering::{operate, show};
 use crate::restarting::restart;
-use mq_answers::{operate, show};
 use mq_base::NoMemory;
 use mq_disk::Disk;
 use mq_events::Node;

@@ -3,12 +3,12 @@ ghost use Rattle.std.specs.Prelude.{◌≡◌, map};
 ghost use Rattle.mq_spec_node.specs.Words.{begun_anew, end_begun};
 ghost use Rattle.mq_own.specs.Views.{forgetting_all};
 
+use crate::showing::receiver_kept;
 use mq_base::Items;
 use mq_disk::Disk;
 use mq_manager::Manager;
 use mq_own::{ChannelEnd, EndKind, Handler, Own};
 use mq_receiver::Receiver;
-use mq_shows::receiver_kept;
 
 /// A sender is inactive; a receiver has what is hardened, and has kept nothing.
 fn begin_end<D: Disk>(end: &mut ChannelEnd, manager: &Manager<D>)

@@ -9,7 +9,7 @@ use Rattle.mq_history.specs.declared.acts.Acted.{Acted}
 use Rattle.mq_spec_node.specs.Terms.{Actor, Call, Did, Plain, Reply}
 use Rattle.mq_spec_node.specs.Words.{ChannelEnd, Own, begun_anew, end_at_rest, end_begun, own_at_rest, remembered}
 use Rattle.mq_spec_node.specs.Node.ChannelEnd.{Sends, Receives}
-use Rattle.mq_outcomes.specs.declared.outcome.Outcome.{Outcome}
+use Rattle.mq_events.specs.declared.outcome.Outcome.{Outcome}
 use Rattle.mq_events.specs.States.{NodeState, finished, forgotten_if, own_after, quietly, told}
 use Rattle.mq_events.specs.Counts.{KeepsCounts, kept_in, kept_total}
 use Rattle.mq_events.specs.Events.{own_by}

@@ -9,3 +9,7 @@ pub mod EntryLaws
 pub mod RowLaws
 pub mod KeepLaws
 pub mod CountLaws
+pub mod NumberLaws
+pub mod CallLaws
+pub mod TurnLaws
+pub mod CommandLaws

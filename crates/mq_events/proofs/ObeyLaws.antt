@@ -10,8 +10,8 @@ use Rattle.mq_history.specs.declared.calls.Call.TheVariants as calls
 use Rattle.mq_history.specs.declared.calls.Reply.TheVariants as replies
 use Rattle.mq_spec_node.specs.Terms.{Actor, Call}
 use Rattle.mq_spec_node.specs.Words.{answer_of}
-use Rattle.mq_outcomes.specs.declared.outcome.Outcome.{Outcome}
-use Rattle.mq_outcomes.specs.Outcomes.{Ends, EndsSo}
+use Rattle.mq_events.specs.declared.outcome.Outcome.{Outcome}
+use Rattle.mq_events.specs.Outcomes.{Ends, EndsSo}
 use Rattle.mq_events.specs.States.{NodeState, IsKept, IsServed, finished, entry_of}
 use Rattle.mq_events.specs.Events.{Stays, ActsAs}
 use Rattle.mq_events.proofs.EventLaws.{event_kept, want_kept, wanted_stays_so}

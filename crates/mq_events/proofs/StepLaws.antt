@@ -9,8 +9,8 @@ use Rattle.mq_history.specs.declared.calls.Call.TheVariants as calls
 use Rattle.mq_spec_node.specs.Terms.{Actor, Call, Answered, stop, cut, advance_clock}
 use Rattle.mq_spec_node.specs.Words.{deed_of}
 use Rattle.mq_core.specs.Values.{CoreValue}
-use Rattle.mq_outcomes.specs.declared.outcome.Outcome.{Outcome}
-use Rattle.mq_outcomes.specs.Outcomes.{Ends, EndsSo, next_due}
+use Rattle.mq_events.specs.declared.outcome.Outcome.{Outcome}
+use Rattle.mq_events.specs.Outcomes.{Ends, EndsSo, next_due}
 use Rattle.mq_events.specs.States.{NodeState, node_in, IsKept, IsLow, IsServed, last_actor, told, finished, quietly}
 use Rattle.mq_events.specs.Events.{Stays, EventIs, ServesOne, ActsAs, acted_by, own_by}
 use Rattle.mq_events.proofs.EventLaws.{event_kept, event_adds, none_kept, none_stays, want_kept, want_stays, turn_kept, turn_adds, wanted_turn_stays}

@@ -2,3 +2,4 @@ pub mod States
 pub mod Counts
 pub mod Events
 pub mod Texts
+pub mod Outcomes

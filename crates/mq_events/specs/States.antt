@@ -7,7 +7,7 @@ use Rattle.mq_spec_node.specs.Terms.{Acted, Choice, Runs, NoMemory, Stopped, Did
 use Rattle.mq_spec_node.specs.Words.{Node, Own, Surroundings, NodeValue, IsReplayed, node_of, forgotten_rows, remembered, more_entries, trigger_deed}
 use Rattle.mq_manager.specs.Facts.{MayCount}
 use Rattle.mq_core.specs.Values.{CoreValue}
-use Rattle.mq_outcomes.specs.declared.outcome.Outcome.{Outcome}
+use Rattle.mq_events.specs.declared.outcome.Outcome.{Outcome}
 
 -- What the scenario gives it, its history, its manager, its own, its last stamp; whether its manager had few rows when it began;
 -- for how many more entries and marks there is room.

@@ -4,16 +4,17 @@ ghost use Rattle.mq_law_image.specs.Values.{IsCommandText};
 ghost use Rattle.mq_sc_parse.specs.declared.command.Command.TheVariants as commands;
 ghost use Rattle.mq_history.specs.declared.acts.Act.TheVariants as acts;
 ghost use Rattle.mq_history.specs.declared.calls.Call.TheVariants as calls;
-ghost use Rattle.mq_outcomes.specs.Outcomes.{ObeysAs};
+ghost use Rattle.mq_events.specs.Outcomes.{ObeysAs};
 ghost use Rattle.mq_events.specs.States.{IsKept, IsServed};
 ghost use Rattle.mq_events.specs.Counts.{KeepsCounts};
 ghost use Rattle.mq_events.specs.Events.{MayAct, ActsAs};
 
+use crate::obeying::obey;
+use crate::outcome::Obeyed;
 use crate::state::NodeParts;
 use mq_base::NoMemory;
 use mq_disk::Disk;
 use mq_history::{Act, Acted, Actor, Call};
-use mq_outcomes::{Obeyed, obey};
 use mq_sc_parse::Command;
 
 impl<D: Disk> NodeParts<D> {

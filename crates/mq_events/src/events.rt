@@ -4,19 +4,20 @@ ghost use Rattle.mq_frame.specs.declared.frame.Seen.TheVariants as items;
 ghost use Rattle.mq_manager.specs.Facts.{MayCount};
 ghost use Rattle.mq_spec_node.specs.Words.{deed_of};
 ghost use Rattle.mq_events.specs.States.{IsKept, IsLow, IsServed, node_in, last_actor};
-ghost use Rattle.mq_outcomes.specs.Outcomes.{Ends, TurnEnds, next_due};
+ghost use Rattle.mq_events.specs.Outcomes.{Ends, TurnEnds, next_due};
 ghost use Rattle.mq_events.specs.Counts.{KeepsCounts};
 ghost use Rattle.mq_events.specs.Events.{MayAct, IsMqi, EventIs, ServesOne};
 
+use crate::calling::{
+    mqback, mqclose, mqcmit, mqconn, mqdisc, mqget, mqopen, mqput, mqput1, trigger,
+};
+use crate::outcome::Outcome;
 use crate::state::NodeParts;
 use mq_base::NoMemory;
 use mq_disk::Disk;
 use mq_history::{Actor, Call, Entry};
 use mq_manager::Manager;
 use mq_name::QName;
-use mq_outcomes::{
-    Outcome, mqback, mqclose, mqcmit, mqconn, mqdisc, mqget, mqopen, mqput, mqput1, trigger,
-};
 
 /// An MQI call at the manager. None where it is a get that may wait still.
 ///

@@ -2,12 +2,18 @@
 #![tactic(auto)]
 
 mod acting;
+mod calling;
 mod commanding;
 mod counting;
 mod events;
 mod node;
+mod obeying;
+mod outcome;
 mod state;
 
+pub use calling::{mqback, mqclose, mqcmit, mqconn, mqdisc, mqget, mqopen, mqput, mqput1, trigger};
 pub use counting::has_few_rows;
 pub use node::Node;
+pub use obeying::obey;
+pub use outcome::{Obeyed, Outcome, Told};
 pub use state::{NodeParts, Opening};

@@ -27,10 +27,10 @@ use Rattle.mq_spec_node.specs.Terms.{Choice, Runs, Stopped, Dest, Did, Ident, Me
 use Rattle.mq_spec_node.specs.Words.{Handler, Own, Tried, CanCome, is_tried, node_of, tried_as}
 use Rattle.mq_core.specs.Values.{CoreValue, manager_of}
 use Rattle.mq_agents.specs.Ends.{by_agent, by_place}
-use Rattle.mq_outcomes.specs.declared.outcome.Outcome.{Outcome}
-use Rattle.mq_outcomes.specs.Outcomes.{Came}
-use Rattle.mq_outcomes.proofs.CallLaws.{came_so, nothing_possible, outcome_by, same_plain}
-use Rattle.mq_outcomes.proofs.NumberLaws.{IsShort, StepIsShort, tested_all}
+use Rattle.mq_events.specs.declared.outcome.Outcome.{Outcome}
+use Rattle.mq_events.specs.Outcomes.{Came}
+use Rattle.mq_events.proofs.CallLaws.{came_so, nothing_possible, outcome_by, same_plain}
+use Rattle.mq_events.proofs.NumberLaws.{IsShort, StepIsShort, tested_all}
 use Rattle.mq_handle.specs.declared.choosing.Dispatch.{Dispatch}
 use Rattle.mq_handle.specs.declared.choosing.Ruling.TheVariants as rulings
 use Rattle.mq_handle.specs.declared.treating.Ended.TheVariants as ends

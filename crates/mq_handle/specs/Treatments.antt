@@ -10,8 +10,8 @@ use Rattle.mq_history.specs.declared.calls.Reply.TheVariants as replies
 use Rattle.mq_spec_node.specs.Terms.{Choice, Runs, NoMemory, Stopped, Ident, Part, Plain, Reason, Reply, Step, Refuse, Do, Stop, discard, move_row}
 use Rattle.mq_spec_node.specs.Words.{Deed, Handler, Own, Tried, node_of, parts_of, told, tried_as}
 use Rattle.mq_core.specs.Values.{CoreValue}
-use Rattle.mq_outcomes.specs.declared.outcome.Outcome.{Outcome}
-use Rattle.mq_outcomes.specs.Outcomes.{Came}
+use Rattle.mq_events.specs.declared.outcome.Outcome.{Outcome}
+use Rattle.mq_events.specs.Outcomes.{Came}
 use Rattle.mq_handle.specs.declared.choosing.Dispatch.{Dispatch}
 use Rattle.mq_handle.specs.declared.choosing.Ruling.{Ruling}
 use Rattle.mq_handle.specs.declared.choosing.Ruling.TheVariants as rulings

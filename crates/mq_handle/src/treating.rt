@@ -17,7 +17,7 @@ use mq_history::Reply;
 use mq_manager::Manager;
 use mq_message::Ident;
 use mq_name::QName;
-use mq_outcomes::Outcome;
+use mq_events::Outcome;
 use mq_own::Handler;
 use std::alloc::Global;
 

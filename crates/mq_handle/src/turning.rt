@@ -16,7 +16,7 @@ use mq_disk::Disk;
 use mq_events::{Node, NodeParts};
 use mq_history::{Actor, Call};
 use mq_manager::Manager;
-use mq_outcomes::Outcome;
+use mq_events::Outcome;
 use mq_own::Handler;
 
 /// A handler's turn: which of the node's handlers takes it, and its dead letter.

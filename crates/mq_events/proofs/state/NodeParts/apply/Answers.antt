@@ -1,7 +1,7 @@
 use Rattle.std.proofs.Common.{subst}
 use Rattle.std.specs.Prelude.{Option, Ok}
-use Rattle.mq_outcomes.specs.declared.outcome.Outcome.{Outcome}
-use Rattle.mq_outcomes.specs.Outcomes.{Ends}
+use Rattle.mq_events.specs.declared.outcome.Outcome.{Outcome}
+use Rattle.mq_events.specs.Outcomes.{Ends}
 use Rattle.mq_events.proofs.StepLaws.{roomed_kept, roomed_low, applied_kept, applied_adds, waits_kept, wanted_kept, wanted_stays}
 use Rattle.mq_events.proofs.state.NodeParts.apply.Goals as goal
 

@@ -1,0 +1,141 @@
+-- A command that is answered without anything done, as an event.
+use Rattle.std.proofs.Common.{◌≡◌, ℕ, ◌+◌, ◌≤◌, Bool, true, false, not, List, [], ◌∷◌, ◌++◌, length, refl, ap, sym, subst, ◌∙◌, arith}
+use Rattle.std.specs.Prelude.{Option, Some, None, Ok, if◌then◌else◌}
+use Rattle.mq_calls.specs.declared.commands.ScRefusal.TheVariants as refusals
+use Rattle.mq_objects.specs.declared.object.Channel.{Channel}
+use Rattle.mq_objects.specs.declared.object.ChannelKind.{ChannelKind}
+use Rattle.mq_objects.specs.declared.object.ChannelKind.TheVariants as kinds
+use Rattle.mq_history.specs.declared.acts.Act.TheVariants as acts
+use Rattle.mq_history.specs.declared.acts.Acted.{Acted}
+use Rattle.mq_history.specs.declared.acts.Acted.TheVariants as acted
+use Rattle.mq_history.specs.declared.acts.OpRefusal.{OpRefusal}
+use Rattle.mq_history.specs.declared.acts.OpRefusal.TheVariants as reasons
+use Rattle.mq_history.specs.declared.calls.Call.TheVariants as calls
+use Rattle.mq_history.specs.declared.calls.Reply.TheVariants as replies
+use Rattle.mq_sc_parse.specs.declared.command.Command.TheVariants as commands
+use Rattle.mq_sc_parse.specs.declared.command.Op.TheVariants as ops
+use Rattle.mq_spec_node.specs.Terms.{Actor, Call, Command, Op, Plain, channel_of, is_up}
+use Rattle.mq_spec_node.specs.Words.{ChannelEnd, Deed, Node, Own, obey_deed, operate, operate_up, refused_or, refused, end_defined, end_of_kind, start_end, stop_end, reset_end, resolve_end, sender_named, shown, show_status}
+use Rattle.mq_spec_node.specs.Deeds.{told}
+use Rattle.mq_law_counts.proofs.Climbing.{stay}
+use Rattle.mq_acts.specs.Shows.{lines_of, shown_as, answered}
+use Rattle.mq_events.specs.Outcomes.{Came}
+use Rattle.mq_events.specs.States.{NodeState, IsKept, IsServed, finished, node_in, quietly, entry_of}
+use Rattle.mq_events.specs.Counts.{IsNode, KeepsCounts, kept_total}
+use Rattle.mq_events.specs.Events.{ActsAs, Stays}
+use Rattle.mq_events.proofs.CountLaws.{climbs_counted, long_more}
+use Rattle.mq_events.proofs.EventLaws.{came_kept, served_is}
+use Rattle.mq_events.proofs.KeepLaws.{finished_counts}
+use Rattle.mq_events.proofs.StepLaws.{roomed_stays}
+use Rattle.mq_acts.specs.Answers.{absent}
+
+-- ---- where memory lacks, all is as it was
+
+pub roomed_node : (s r : NodeState) → r ≡ record s { room = r.room } → IsNode s → IsNode r
+roomed_node s r e n = let t : NodeState = record s { room = r.room } in let k : IsNode t = record { kept = n.kept; counted = n.counted } in subst IsNode (sym e) k
+
+pub room_stays : (s r : NodeState) → r ≡ record s { room = r.room } → Stays s r
+room_stays s r e = roomed_stays s r e
+
+pub still_stays : (s : NodeState) → Stays s s
+still_stays s = record { same = refl; marks = refl; faults = omega arith }
+
+climbs_on : (a b : ℕ) → a ≤ b → a + 0 ≤ b + 1024
+climbs_on a b le = omega (arith, le)
+
+-- what its deed is, and what holds then
+module _ (s r f : NodeState) (who : Actor) (c : Command) (a : Acted) (e : r ≡ record s { room = r.room }) (z : f ≡ finished who (calls.Act (acts.Obey c)) (quietly a) r) (deed : obey_deed c (node_in s) ≡ told (replies.Acted a) s.own) where
+  abbrev call : Call
+  call = calls.Act (acts.Obey c)
+
+  abbrev behind : NodeState
+  behind = finished who call (quietly a) (record s { room = r.room })
+
+  f_is : f ≡ behind
+  f_is = z ∙ ap (finished who call (quietly a)) e
+
+  came : Came (told (replies.Acted a) s.own) (node_in s) (quietly a) s.manager.plain
+  came = record { can = λ lt. lt; reply = refl; delta = refl; manager = refl; own = refl; pushed = refl; received = refl }
+
+  behind_kept : IsKept s → IsServed s → IsKept behind
+  behind_kept k served = came_kept s who call (quietly a) (told (replies.Acted a) s.own) s.manager r.room k (served_is s (entry_of (s.stamp + 1) who call (quietly a)) served) (ap (λ (d : Deed). Some d) deed) came
+
+  counts : KeepsCounts s behind
+  counts = finished_counts s (record s { room = r.room }) (record s { room = r.room }) behind who call (quietly a) refl refl refl
+
+  pub answered_node : IsNode s → IsServed s → IsNode f
+  answered_node n served = subst IsNode (sym f_is) (record {
+    kept = behind_kept n.kept served;
+    counted = climbs_counted 0 s behind n.counted counts.few (long_more s.history.entries (entry_of (s.stamp + 1) who call (quietly a))) (stay 0 s.manager.plain) (climbs_on (kept_total behind.own) (kept_total s.own) counts.total);
+  })
+
+  pub answered_as : (b : Acted) → b ≡ a → ActsAs who (calls.Act (acts.Obey c)) s (Ok b) f
+  answered_as b is =
+      subst (λ (x : Acted). ActsAs who (calls.Act (acts.Obey c)) s (Ok x) f) (sym is)
+      (subst (λ (t : NodeState). ActsAs who (calls.Act (acts.Obey c)) s (Ok a) t) (sym f_is)
+      (entry_of (s.stamp + 1) who call (quietly a), record { grows = record { given = refl; history = refl }; actor = refl; call = refl; marks = refl; faults = omega arith }, refl))
+
+-- ---- DISPLAY CHSTATUS
+
+shown_by : (any_end up : Bool) (lines : List (List ℕ)) (own : Own)
+    → (if up then shown own any_end lines else told (replies.Acted (acted.Sc refusals.Down)) own) ≡ told (replies.Acted (if up then answered any_end lines else acted.Sc refusals.Down)) own
+shown_by any_end false lines own = refl
+shown_by true true [] own = refl
+shown_by false true [] own = refl
+shown_by any_end true (line ∷ lines) own = refl
+
+pub shows : (s : NodeState) (name : List ℕ) (any_end : Bool) → obey_deed (commands.ShowStatus name any_end) (node_in s) ≡ told (replies.Acted (shown_as name any_end s.manager.plain s.own.ends)) s.own
+shows s name any_end = shown_by any_end (is_up s.manager.plain.running) (lines_of name any_end s.manager.plain s.own.ends) s.own
+
+-- ---- commands on ends, where there are none
+
+kind_none : (channel : List ℕ) (k : ChannelKind) → end_of_kind channel k [] ≡ None
+kind_none channel (kinds.Sender batch retry xmitq) = refl
+kind_none channel (kinds.Receiver dead) = refl
+
+defined_none : (channel : List ℕ) (c : Option Channel) → end_defined channel c [] ≡ None
+defined_none channel None = refl
+defined_none channel (Some c) = kind_none channel c.kind
+
+none_here : (channel : List ℕ) (n : Node) → n.own.ends ≡ [] → end_defined channel (channel_of channel n.manager.definitions) n.own.ends ≡ None
+none_here channel n e = ap (end_defined channel (channel_of channel n.manager.definitions)) e ∙ defined_none channel (channel_of channel n.manager.definitions)
+
+up_refused : (op : Op) (n : Node) → n.own.ends ≡ [] → operate_up op n ≡ refused reasons.NotFound n.own
+up_refused (ops.Start channel) n e = ap (λ (x : Option ChannelEnd). start_end x n) (none_here channel n e)
+up_refused (ops.Stop channel) n e = ap (λ (x : Option ChannelEnd). stop_end x n) (none_here channel n e)
+up_refused (ops.Reset channel seqnum) n e = ap (λ (x : Option ChannelEnd). reset_end seqnum x n) (none_here channel n e)
+up_refused (ops.Resolve channel settle) n e = ap (λ (es : List ChannelEnd). resolve_end settle (sender_named channel es) n) e
+
+refused_by : (up : Bool) (own : Own) (d : Deed) → d ≡ refused reasons.NotFound own → refused_or (if not up then Some reasons.Down else None) own d ≡ told (replies.Acted (acted.Op (absent up))) own
+refused_by true own d e = e
+refused_by false own d e = refl
+
+pub refuses : (s : NodeState) (op : Op) → s.own.ends ≡ [] → obey_deed (commands.Operate op) (node_in s) ≡ told (replies.Acted (acted.Op (absent (is_up s.manager.plain.running)))) s.own
+refuses s op e = refused_by (is_up s.manager.plain.running) s.own (operate_up op (node_in s)) (up_refused op (node_in s) e)
+
+-- ---- step by step
+
+module _ (s r f : NodeState) (who : Actor) (name : List ℕ) (any_end : Bool) (copy : Acted) (e : r ≡ record s { room = r.room }) (is : copy ≡ shown_as name any_end r.manager.plain r.own.ends)
+    (z : f ≡ finished who (calls.Act (acts.Obey (commands.ShowStatus name any_end))) (quietly copy) r) where
+  seen : copy ≡ shown_as name any_end s.manager.plain s.own.ends
+  seen = is ∙ ap (λ (x : NodeState). shown_as name any_end x.manager.plain x.own.ends) e
+
+  deed : obey_deed (commands.ShowStatus name any_end) (node_in s) ≡ told (replies.Acted copy) s.own
+  deed = shows s name any_end ∙ ap (λ (a : Acted). told (replies.Acted a) s.own) (sym seen)
+
+  pub shown_node : IsNode s → IsServed s → IsNode f
+  shown_node n served = answered_node s r f who (commands.ShowStatus name any_end) copy e z deed n served
+
+  pub shown_did : (acted : Acted) → acted ≡ shown_as name any_end r.manager.plain r.own.ends → ActsAs who (calls.Act (acts.Obey (commands.ShowStatus name any_end))) s (Ok acted) f
+  shown_did acted same = answered_as s r f who (commands.ShowStatus name any_end) copy e z deed acted (same ∙ sym is)
+
+module _ (s r f : NodeState) (who : Actor) (op : Op) (reason : OpRefusal) (e : r ≡ record s { room = r.room }) (is : reason ≡ absent (is_up r.manager.plain.running))
+    (z : f ≡ finished who (calls.Act (acts.Obey (commands.Operate op))) (quietly (acted.Op reason)) r) (bare : s.own.ends ≡ []) where
+  refused_deed : obey_deed (commands.Operate op) (node_in s) ≡ told (replies.Acted (acted.Op reason)) s.own
+  refused_deed = refuses s op bare ∙ ap (λ (o : OpRefusal). told (replies.Acted (acted.Op o)) s.own) (sym (is ∙ ap (λ (x : NodeState). absent (is_up x.manager.plain.running)) e))
+
+  pub refused_node : IsNode s → IsServed s → IsNode f
+  refused_node n served = answered_node s r f who (commands.Operate op) (acted.Op reason) e z refused_deed n served
+
+  pub refused_did : ActsAs who (calls.Act (acts.Obey (commands.Operate op))) s (Ok (acted.Op reason)) f
+  refused_did = answered_as s r f who (commands.Operate op) (acted.Op reason) e z refused_deed (acted.Op reason) refl

@@ -1,4 +1,0 @@
-pub mod NumberLaws
-pub mod CallLaws
-pub mod TurnLaws
-pub mod CommandLaws
