@@ -2,6 +2,7 @@
 //! itself.
 #![tactic(auto)]
 
+mod cables;
 mod commands;
 mod finding;
 mod hint;
@@ -10,6 +11,6 @@ mod spot;
 mod telling;
 mod usage;
 
+pub use cables::{cable_line, unbuilt_text};
 pub use hint::Hint;
-pub use place::lack_line;
-pub use telling::{fault_text, lack_text};
+pub use telling::fault_text;

@@ -5,7 +5,6 @@ use crate::finding::{Flaw, Found, first_flaw};
 use crate::hint::{Hint, shown, shown_word};
 use crate::spot::{Spot, behind_lines, spot_of};
 use crate::usage::{Slot, Usage, part_usage, script_usage, step_usage};
-use mq_forms::Lack;
 use mq_scn_lines::{Limit, MqscFault, first_word, is_open, words_of};
 use mq_scn_text::{Cause, Inside, ScenarioFault, Stage};
 use std::alloc::{AllocError, Global};
@@ -253,18 +252,4 @@ pub fn fault_text(alloc: Global, text: &[u8], fault: ScenarioFault) -> Result<St
     let hint = hint_at(alloc, text, &spot, fault)?;
     let line = shown(alloc, spot.line, LINE_SHOWN)?;
     format!(in alloc; "{fault}: {hint}\n{line}\n")
-}
-
-/// What is told of a scenario that doesn't run yet, in the same way.
-pub fn lack_text(
-    alloc: Global,
-    text: &[u8],
-    number: u32,
-    lack: Lack,
-) -> Result<String, AllocError> {
-    let Some(spot) = spot_of(alloc, text, number)? else {
-        return format!(in alloc; "line {number}: NotBuilt: {lack}\n");
-    };
-    let line = shown(alloc, spot.line, LINE_SHOWN)?;
-    format!(in alloc; "line {number}: NotBuilt: {lack}\n{line}\n")
 }

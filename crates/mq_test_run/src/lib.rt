@@ -1,9 +1,5 @@
-//! Tests of scenarios on their way to the engines, a file for each crate.
+//! Tests of what is told of texts that aren't run.
 #![tactic(auto)]
 
 #[cfg(test)]
-mod forms;
-#[cfg(test)]
 mod hints;
-#[cfg(test)]
-mod obey;

@@ -1,252 +1,358 @@
--- From the parts of a call to its end.
-use Rattle.std.proofs.Common.{◌≡◌, ℕ, ◌≤◌, ◌<◌, ◌∙◌, get_or, map, List, [], ◌∷◌, length, refl, sym, inl, inr, ap, arith, subst, length-append}
-use Rattle.std.specs.Prelude.{◌⊎◌, Option, Some, None, Ok, Err}
-use Rattle.std.specs.Io.KnownBytes.{Keeps}
+-- What a call of the program comes to, from what its parts promise.
+use Rattle.std.proofs.Common.{◌≡◌, ◌≢◌, ◌≤◌, ℕ, List, [], ◌∷◌, refl, ap, sym, subst, ◌∙◌, inl, inr, arith, length, map, ◌<◌, ◌⊎◌, get_or}
+use Rattle.std.proofs.lemmas.List.Elements.{All-weaker}
+use Rattle.std.specs.Prelude.{All, IfSome, Option, None, Some, Ok, Err}
+use Rattle.std.specs.Io.KnownBytes.{Appends, Keeps}
 use Rattle.mq_base.specs.Outside.{Rose, Told, IsLonger}
-use Rattle.mq_model.specs.declared.calls.Entry.{Entry}
-use Rattle.mq_model.specs.declared.scenario.Scenario as model
-use Rattle.mq_model.specs.Replay.{History, IsHistory}
-use Rattle.mq_model.specs.Lawful.{Obeys, IsRunTo, WholeRun, PartRun}
-use Rattle.mq_ledger.proofs.ToldLaws.{headline}
+use Rattle.mq_history.specs.Scenarios.{IsScenario}
+use Rattle.mq_history.specs.declared.scenario.CableLine.{CableLine}
 use Rattle.mq_history.specs.declared.scenario.Scenario.{Scenario}
-use Rattle.mq_scn_text.specs.declared.fault.ScenarioFault.{ScenarioFault}
+use Rattle.mq_history.specs.declared.scenario.ScriptPart.{ScriptPart}
+use Rattle.mq_history.specs.declared.scenario.Section.{Section}
+use Rattle.mq_history.specs.declared.scenario.Step.{Step}
+use Rattle.mq_history.specs.declared.scenario.Step.TheVariants as steps
+use Rattle.mq_history.specs.declared.scripts.ScriptLine.{ScriptLine}
+use Rattle.mq_history.specs.declared.scripts.ScriptLine.TheVariants as lines
+use Rattle.mq_law_image.proofs.Made.{line_text}
+use Rattle.mq_law_commands.specs.Written.{IsWritten}
+use Rattle.mq_law_commands.proofs.Commanding.{texts_written}
+use Rattle.mq_law_scenario.proofs.Either.{text_found}
+use Rattle.mq_law_scenario.proofs.Kept.{text_kept}
+use Rattle.mq_nodes.specs.Texts.{AllFit, LineFits, StepFits}
+use Rattle.mq_events.specs.Texts.{IsTextCommand}
+use Rattle.mq_sc_parse.specs.declared.command.Command.{Command}
+use Rattle.mq_sc_parse.specs.declared.command.Command.TheVariants as commands
+use Rattle.mq_hints.specs.Cables.{cable_line}
 use Rattle.mq_scn_text.specs.Reading.{scenario_of}
-use Rattle.mq_forms.specs.declared.form.Section.{Section}
-use Rattle.mq_forms.specs.declared.form.Form.{Form}
-use Rattle.mq_forms.specs.declared.form.Form.TheVariants as forms
-use Rattle.mq_forms.specs.declared.lack.Lack.{Lack}
-use Rattle.mq_forms.specs.Forms.{form_of}
-use Rattle.mq_hints.specs.Places.{lack_line}
-use Rattle.mq_obey.specs.declared.events.CommandNode.{CommandNode}
-use Rattle.mq_obey.specs.Obeyed.{IsObeyed, IsObeyedInPart}
-use Rattle.mqnet.specs.declared.network.BadCause.{BadCause}
-use Rattle.mqnet.specs.declared.network.Status.{Status}
-use Rattle.mqnet.specs.declared.network.Status.TheVariants as status
-use Rattle.mqnet.specs.declared.network.Task.{Task}
-use Rattle.mqnet.specs.declared.network.Task.TheVariants as tasks
-use Rattle.mqnet.specs.declared.network.Network.{Network}
-use Rattle.mqnet.specs.declared.network.Network.TheVariants as networks
+use Rattle.mq_law_ran.specs.Runs.{Left}
+use Rattle.mq_law_ran.specs.Promises.{GotOnce, OrderKept, RowsAreLedgers, StandOnce}
+use Rattle.mq_law_ran.proofs.Lawfuls as lawfuls
+use Rattle.mq_run.specs.declared.status.BadCause.{BadCause}
+use Rattle.mq_run.specs.declared.status.Status.{Status}
+use Rattle.mq_run.specs.declared.status.Status.TheVariants as status
+use Rattle.mq_run.specs.Ends.{LeftEnds, NoneEnds, RunEnds, RunLeaves}
+use Rattle.mqnet.specs.declared.top.Task.{Task}
+use Rattle.mqnet.specs.declared.top.Task.TheVariants as tasks
 use Rattle.mqnet.specs.declared.top.Work.{Work}
 use Rattle.mqnet.specs.declared.top.Work.TheVariants as works
-use Rattle.mqnet.specs.Wanted.{word_task, task_of, fault_status, form_status, text_status, wanted}
-use Rattle.mqnet.specs.Headline.{WasRead, IsFormRead, IsScenarioRead, ReadNoScenario, ReadUnbuilt, Completes, Ends, Reports, Writes, RanWhole, RanSome, ObeyedWhole, first_moment, form_run, DidWhole, DidSome, report_of, RefusesBytes}
-use Rattle.mqnet.specs.Work.{IsWork, IsWorkRead, RefusesWork, RefusesRead, WorkEnds}
+use Rattle.mqnet.specs.Wanted.{built_status, task_of, text_status, wanted, word_task}
+use Rattle.mqnet.specs.Work.{FitsWork, IsWork, RefusesWork, WorkEnds}
+use Rattle.mqnet.specs.Headline.{Checked, Comes, Completes, Ends, IsEarly, IsOfRun, IsRead, Nothing, RanScenario, ReadNoScenario, ReadUnbuilt, RefusesBytes, WasRead, Writes, check_text}
 
--- a list of one word
 pub one_word : {A : Type 0} (f : A → List ℕ) (ws : List A) (w : A) → 1 ≤ length ws → length ws < 2 → w ≡ get_or ws 0 w → word_task (f w) ≡ task_of (map f ws)
 one_word f [] w le lt e = absurd (omega arith)
 one_word f (x ∷ y ∷ zs) w le lt e = absurd (omega arith)
 one_word f (x ∷ []) w le lt e = ap word_task (ap f e)
 
--- A whole run
+-- ---- what a run asks of its scenario
 
-obeys_length : (names : List (List ℕ)) (es : List Entry) → Obeys names es [] → length es ≡ length names
-obeys_length [] [] h = refl
-obeys_length (n ∷ ns) [] h = absurd (let e : [] ≡ n ∷ ns = h in cc)
-obeys_length [] (e ∷ es) h = absurd h
-obeys_length (n ∷ ns) (e ∷ es) h = omega (arith, obeys_length ns es h.2)
+may_obey : (c : Command) → IsWritten c → IsTextCommand c
+may_obey (commands.Objects o) w = line_text w.text w.lines w.line o w.read w.there w.parsed
+may_obey (commands.Operate op) w = tt
+may_obey (commands.ShowStatus name any_end) w = tt
 
--- has an entry for each definition
-pub enough : (s : model.Scenario) (es : List Entry) → IsRunTo s es [] [] → length s.queues ≤ length es
-enough s es h = omega (arith, obeys_length s.queues h.obeyed h.obeys, ap length h.parts, length-append h.obeyed h.ran)
+line_obeys : (l : ScriptLine) → LineFits IsWritten l → LineFits IsTextCommand l
+line_obeys (lines.Mqsc c) h = may_obey c h
+line_obeys (lines.Mqconn name) h = tt
+line_obeys lines.Mqdisc h = tt
+line_obeys lines.Mqcmit h = tt
+line_obeys lines.Mqback h = tt
+line_obeys (lines.Mqopen handle name qmgr how) h = tt
+line_obeys (lines.Mqclose handle) h = tt
+line_obeys (lines.Mqput handle body o) h = tt
+line_obeys (lines.Mqput1 name qmgr body o) h = tt
+line_obeys (lines.Reply body o) h = tt
+line_obeys (lines.Mqget handle o) h = tt
+line_obeys lines.Crash h = tt
+line_obeys lines.Restart h = tt
+line_obeys (lines.Cut k) h = tt
 
--- What was run and written
+step_obeys : (s : Step) → StepFits IsWritten s → StepFits IsTextCommand s
+step_obeys (steps.Do m c) h = may_obey c h
+step_obeys (steps.Obey k) h = tt
+step_obeys (steps.Run k n) h = tt
+step_obeys (steps.Phase ks) h = tt
+step_obeys (steps.Pump n) h = tt
+step_obeys (steps.Handle k n) h = tt
+step_obeys (steps.Watch k) h = tt
+step_obeys (steps.Serve k n) h = tt
+step_obeys (steps.Crash m) h = tt
+step_obeys (steps.Restart m) h = tt
+step_obeys (steps.Cut m k) h = tt
+step_obeys (steps.Clock ms) h = tt
 
-ran_part : (start : ℕ) (s : model.Scenario) (node : History) → IsHistory node → PartRun s node.entries node.marks → node.opening ≡ first_moment start → RanSome start s node
-ran_part start s node history run opening = record { some = inr (history, run); opening = opening; headline = headline node history }
+all_obey : (s : Scenario) → AllFit IsWritten s → AllFit IsTextCommand s
+all_obey s h = record {
+  sections = All-weaker (λ (p : Section). All IsWritten p.commands) (λ (p : Section). All IsTextCommand p.commands) (λ p a. All-weaker IsWritten IsTextCommand may_obey p.commands a) s.sections h.sections;
+  scripts = All-weaker (λ (p : ScriptPart). All (LineFits IsWritten) p.lines) (λ (p : ScriptPart). All (LineFits IsTextCommand) p.lines) (λ p a. All-weaker (LineFits IsWritten) (LineFits IsTextCommand) line_obeys p.lines a) s.scripts h.scripts;
+  steps = All-weaker (StepFits IsWritten) (StepFits IsTextCommand) step_obeys s.steps h.steps;
+}
 
-pub ran_whole : (start : ℕ) (s : model.Scenario) (node : History) → IsHistory node → WholeRun s node.entries node.marks → node.opening ≡ first_moment start → RanWhole start s node
-ran_whole start s node history run opening = record { lawful = (history, run); opening = opening; headline = headline node history }
+-- all commands of a scenario that is read
+pub fits : (bytes : List ℕ) (s : Scenario) → scenario_of bytes ≡ Ok s → s.cables ≡ [] → FitsWork (works.Run s)
+fits bytes s e none = (text_kept bytes s (text_found bytes s e), none, all_obey s (texts_written bytes s e))
 
-abbrev pub script_run : model.Scenario → History → Network
-script_run s node = networks.Script (record { scenario = s; node = node })
+-- ---- work that is done
 
-abbrev pub section_run : Section → CommandNode → Network
-section_run s node = networks.Section (record { section = s; node = node })
+read_by : (left : Option (List ℕ)) (bytes : List ℕ) (s : Scenario) → WasRead left bytes → scenario_of bytes ≡ Ok s → IsRead left s
+read_by left bytes s read text = record { bytes = bytes; read = read; text = text }
 
-some_of_whole : (start : ℕ) (n : Network) → DidWhole start n → DidSome start n
-some_of_whole start (networks.Script run) h = record { some = inl h.lawful; opening = h.opening; headline = h.headline }
-some_of_whole start (networks.Section run) h = record { some = inl h.obeyed; opening = h.opening }
+checked : (left old new : Option (List ℕ)) (s : Scenario) (st : Status) → IsRead left s → Writes old new check_text st → Checked left old new st
+checked left old new s status.Ok r h = (s, r, h)
+checked left old new s (status.WriteFault n) r h = (s, r, h)
+checked left old new s status.BadWords r h = absurd h
+checked left old new s (status.BadScenario line cause) r h = absurd h
+checked left old new s status.ReadFault r h = absurd h
+checked left old new s status.DiskFault r h = absurd h
+checked left old new s status.NoMemory r h = absurd h
+checked left old new s status.TooLong r h = absurd h
+checked left old new s (status.Conflict found) r h = absurd h
+checked left old new s (status.BadLog bad) r h = absurd h
+checked left old new s (status.Apart found) r h = absurd h
+checked left old new s (status.Spent m) r h = absurd h
+checked left old new s (status.NotBuilt line) r h = absurd h
 
-pub reported : (start : ℕ) (old new : Option (List ℕ)) (n : Network) (st : Status) → DidWhole start n → Writes old new (report_of n) st → Reports start old new (form_run n) st (Some n)
-reported start old new n status.Ok h w = (refl, h, w)
-reported start old new n (status.WriteFault written) h w = (refl, h, w)
-reported start old new n status.NoMemory h w = (refl, some_of_whole start n h, w)
-reported start old new n status.BadWords h w = w
-reported start old new n (status.BadScenario line cause) h w = w
-reported start old new n status.ReadFault h w = w
-reported start old new n status.TooLong h w = w
-reported start old new n (status.NotBuilt line lack) h w = w
+pub done_ends : (left : Option (List ℕ)) (bytes : List ℕ) (tells : Type 0) (held : List ℕ → List ℕ → Type 0) (start before now : ℕ) (old new : Option (List ℕ)) (task : Task) (w : Work) (st : Status) (net : Option Left) (counts : List ℕ)
+    → WasRead left bytes → IsWork task bytes w → WorkEnds w tells held start before now old new st net counts → Ends (Some task) left tells held start before now old new st net counts
+done_ends left bytes tells held start before now old new tasks.Run (works.Run s) st net counts read is h = inr (record { scenario = s; read = read_by left bytes s read is.0; alone = is.1; ended = h })
+done_ends left bytes tells held start before now old new tasks.Run works.Check st net counts read is h = absurd is
+done_ends left bytes tells held start before now old new tasks.Check (works.Run s) st net counts read is h = absurd is
+done_ends left bytes tells held start before now old new tasks.Check works.Check st net counts read is h = inr (h.0, h.1, checked left old new is.0 st (read_by left bytes is.0 read is.1) h.2)
 
-keeps_same : (o : Option (List ℕ)) → Keeps o o
-keeps_same None = tt
-keeps_same (Some xs) = refl
+-- ---- nothing is done
 
--- a run that ended within a step
-pub ran_short : (start : ℕ) (old : Option (List ℕ)) (s : model.Scenario) (node : History) → IsHistory node → PartRun s node.entries node.marks → node.opening ≡ first_moment start → Reports start old old (forms.Script s) status.NoMemory (Some (script_run s node))
-ran_short start old s node history run opening = (refl, ran_part start s node history run opening, keeps_same old)
+early_bytes : (left : Option (List ℕ)) (b n : ℕ) (task : Task) (st : Status) → RefusesBytes left b n st → IsEarly task st
+early_bytes left b n task status.ReadFault h = tt
+early_bytes left b n task status.TooLong h = tt
+early_bytes left b n task status.NoMemory h = tt
+early_bytes left b n task status.Ok h = absurd h
+early_bytes left b n task status.BadWords h = absurd h
+early_bytes left b n task (status.BadScenario line cause) h = absurd h
+early_bytes left b n task (status.WriteFault m) h = absurd h
+early_bytes left b n task status.DiskFault h = absurd h
+early_bytes left b n task (status.Conflict found) h = absurd h
+early_bytes left b n task (status.BadLog bad) h = absurd h
+early_bytes left b n task (status.Apart found) h = absurd h
+early_bytes left b n task (status.Spent m) h = absurd h
+early_bytes left b n task (status.NotBuilt line) h = absurd h
 
-pub obeyed_whole : (start : ℕ) (s : Section) (node : CommandNode) → IsObeyed s node → node.opening ≡ first_moment start → ObeyedWhole start s node
-obeyed_whole start s node h opening = record { obeyed = h; opening = opening }
+early_work : (bytes : List ℕ) (task : Task) (st : Status) → RefusesWork task bytes st → IsEarly task st
+early_work bytes task (status.BadScenario line cause) h = tt
+early_work bytes task (status.NotBuilt line) h = h.0
+early_work bytes task status.NoMemory h = tt
+early_work bytes task status.ReadFault h = absurd h
+early_work bytes task status.TooLong h = absurd h
+early_work bytes task status.Ok h = absurd h
+early_work bytes task status.BadWords h = absurd h
+early_work bytes task (status.WriteFault m) h = absurd h
+early_work bytes task status.DiskFault h = absurd h
+early_work bytes task (status.Conflict found) h = absurd h
+early_work bytes task (status.BadLog bad) h = absurd h
+early_work bytes task (status.Apart found) h = absurd h
+early_work bytes task (status.Spent m) h = absurd h
 
-pub obeyed_short : (start : ℕ) (old : Option (List ℕ)) (s : Section) (node : CommandNode) → IsObeyedInPart s node → node.opening ≡ first_moment start → Reports start old old (forms.Section s) status.NoMemory (Some (section_run s node))
-obeyed_short start old s node h opening = (refl, record { some = inr h; opening = opening }, keeps_same old)
+pub early_ends : (left : Option (List ℕ)) (tells : Type 0) (held : List ℕ → List ℕ → Type 0) (start before now : ℕ) (old new : Option (List ℕ)) (task : Task) (st : Status) (net : Option Left) (counts : List ℕ)
+    → IsEarly task st → Nothing old new net counts → Ends (Some task) left tells held start before now old new st net counts
+early_ends left tells held start before now old new tasks.Run st net counts early nothing = inl (early, nothing)
+early_ends left tells held start before now old new tasks.Check st net counts early nothing = inl (early, nothing)
 
--- What the bytes leave to do is what the bytes that were read leave to do
+-- ---- what is promised
 
-pub refused_bytes : (left : Option (List ℕ)) (b n : ℕ) (task : Task) (st : Status) → RefusesBytes left b n st → RefusesRead left b n task st
-refused_bytes left b n task status.ReadFault h = h
-refused_bytes left b n task status.TooLong h = h
-refused_bytes left b n task status.NoMemory h = tt
-refused_bytes left b n task status.Ok h = absurd h
-refused_bytes left b n task status.BadWords h = absurd h
-refused_bytes left b n task (status.BadScenario line cause) h = absurd h
-refused_bytes left b n task (status.WriteFault written) h = absurd h
-refused_bytes left b n task (status.NotBuilt line lack) h = absurd h
+none_of : (P : Left → Type 0) (net : Option Left) → net ≡ None → IfSome net P
+none_of P net e = subst (λ (x : Option Left). IfSome x P) (sym e) tt
 
-pub refused_text : (left : Option (List ℕ)) (b n : ℕ) (task : Task) (bytes : List ℕ) (st : Status) → WasRead left bytes → RefusesWork task bytes st → RefusesRead left b n task st
-refused_text left b n task bytes (status.BadScenario line cause) r h = record { bytes = bytes; read = r; fault = h.0; text = h.1; told = h.2 }
-refused_text left b n task bytes (status.NotBuilt line lack) r h = (h.0, record { bytes = bytes; read = r; scenario = h.1; text = h.2; form = h.3; place = h.4 })
-refused_text left b n task bytes status.NoMemory r h = tt
-refused_text left b n task bytes status.ReadFault r h = absurd h
-refused_text left b n task bytes status.TooLong r h = absurd h
-refused_text left b n task bytes status.Ok r h = absurd h
-refused_text left b n task bytes status.BadWords r h = absurd h
-refused_text left b n task bytes (status.WriteFault written) r h = absurd h
+ran_of : (P : Left → Type 0) (left : Option (List ℕ)) (tells : Type 0) (held : List ℕ → List ℕ → Type 0) (start before now : ℕ) (old new : Option (List ℕ)) (st : Status) (net : Option Left) (counts : List ℕ)
+    → ((l : Left) → (s : Scenario) → IsRead left s → s.cables ≡ [] → RunLeaves tells held start s counts l → P l) → RanScenario left tells held start before now old new st net counts → IfSome net P
+ran_of P left tells held start before now old new st None counts f r = tt
+ran_of P left tells held start before now old new st (Some l) counts f r = f l r.scenario r.read r.alone r.ended.0
 
--- By words and status
+promised_of : (P : Left → Type 0) (asked : Option Task) (left : Option (List ℕ)) (tells : Type 0) (held : List ℕ → List ℕ → Type 0) (start before now : ℕ) (old new : Option (List ℕ)) (st : Status) (net : Option Left) (counts : List ℕ)
+    → ((l : Left) → (s : Scenario) → IsRead left s → s.cables ≡ [] → RunLeaves tells held start s counts l → P l) → Ends asked left tells held start before now old new st net counts → IfSome net P
+promised_of P None left tells held start before now old new st net counts f e = none_of P net e.1.network
+promised_of P (Some tasks.Run) left tells held start before now old new st net counts f (inl e) = none_of P net e.1.network
+promised_of P (Some tasks.Run) left tells held start before now old new st net counts f (inr r) = ran_of P left tells held start before now old new st net counts f r
+promised_of P (Some tasks.Check) left tells held start before now old new st net counts f (inl e) = none_of P net e.1.network
+promised_of P (Some tasks.Check) left tells held start before now old new st net counts f (inr e) = none_of P net e.0
 
-form_read : (left : Option (List ℕ)) (f : Form) → IsWorkRead left tasks.Run (works.Run f) → IsFormRead left f
-form_read left f h = record { bytes = h.0; read = h.1; scenario = h.2.0; text = h.2.1; form = h.2.2 }
+-- a scenario that was read keeps to what is meant by one
+is_scenario : (left : Option (List ℕ)) (s : Scenario) → IsRead left s → IsScenario s
+is_scenario left s r = text_kept r.bytes s (text_found r.bytes s r.text)
 
-scenario_read : (left : Option (List ℕ)) → IsWorkRead left tasks.Check works.Check → IsScenarioRead left
-scenario_read left h = record { bytes = h.0; read = h.1; scenario = h.2.0; text = h.2.1 }
+-- what the law asks of a run, of its scenario
+pub record Given (l : Left) : Type 0 where
+  pub scenario : IsScenario l.scenario
+  pub alone : l.scenario.cables ≡ []
 
--- what was run is what was read
-run_ends : (left : Option (List ℕ)) (start : ℕ) (old new : Option (List ℕ)) (f : Form) (st : Status) (n : Option Network) → IsFormRead left f → Reports start old new f st n → Ends (Some tasks.Run) left start old new st n
-run_ends left start old new f status.Ok (Some n) r h = (subst (IsFormRead left) (sym h.0) r, h.1, h.2)
-run_ends left start old new f status.Ok None r h = h
-run_ends left start old new f (status.WriteFault written) (Some n) r h = (subst (IsFormRead left) (sym h.0) r, h.1, h.2)
-run_ends left start old new f (status.WriteFault written) None r h = h
-run_ends left start old new f status.NoMemory (Some n) r h = (subst (IsFormRead left) (sym h.0) r, h.1, h.2)
-run_ends left start old new f status.NoMemory None r h = h
-run_ends left start old new f status.BadWords n r h = absurd h
-run_ends left start old new f (status.BadScenario line cause) n r h = absurd h
-run_ends left start old new f (status.NotBuilt line lack) n r h = absurd h
-run_ends left start old new f status.ReadFault n r h = absurd h
-run_ends left start old new f status.TooLong n r h = absurd h
+given_of : (left : Option (List ℕ)) (tells : Type 0) (held : List ℕ → List ℕ → Type 0) (start : ℕ) (counts : List ℕ) (l : Left) (s : Scenario) → IsRead left s → s.cables ≡ [] → RunLeaves tells held start s counts l → Given l
+given_of left tells held start counts l s r none h = record { scenario = subst IsScenario (sym h.scenario) (is_scenario left s r); alone = ap (λ (x : Scenario). x.cables) h.scenario ∙ none }
 
-check_ends : (left : Option (List ℕ)) (start : ℕ) (old new : Option (List ℕ)) (st : Status) (n : Option Network) → IsScenarioRead left → WorkEnds start old new works.Check st n → Ends (Some tasks.Check) left start old new st n
-check_ends left start old new status.Ok None r h = (r, h)
-check_ends left start old new (status.WriteFault written) None r h = (r, h)
-check_ends left start old new status.NoMemory None r h = h
-check_ends left start old new status.BadWords None r h = absurd h
-check_ends left start old new (status.BadScenario line cause) None r h = absurd h
-check_ends left start old new (status.NotBuilt line lack) None r h = absurd h
-check_ends left start old new status.ReadFault None r h = absurd h
-check_ends left start old new status.TooLong None r h = absurd h
-check_ends left start old new st (Some n) r h = absurd h
+pub rows_of : (asked : Option Task) (left : Option (List ℕ)) (tells : Type 0) (held : List ℕ → List ℕ → Type 0) (start before now : ℕ) (old new : Option (List ℕ)) (st : Status) (net : Option Left) (counts : List ℕ)
+    → Ends asked left tells held start before now old new st net counts → IfSome net RowsAreLedgers
+rows_of asked left tells held start before now old new st net counts e = promised_of RowsAreLedgers asked left tells held start before now old new st net counts
+    (λ l s r none h. let g : Given l = given_of left tells held start counts l s r none h in
+    lawfuls.rows_are l g.scenario g.alone (lawfuls.images tells held start l h.histories h.openings) (lawfuls.known tells held start l h.histories h.openings) h.lawful) e
 
-pub done_ends : (left : Option (List ℕ)) (start : ℕ) (old new : Option (List ℕ)) (task : Task) (w : Work) (st : Status) (n : Option Network) → IsWorkRead left task w → WorkEnds start old new w st n → Ends (Some task) left start old new st n
-done_ends left start old new tasks.Run (works.Run f) st n r h = run_ends left start old new f st n (form_read left f r) h
-done_ends left start old new tasks.Run works.Check st n r h = absurd r.2
-done_ends left start old new tasks.Check (works.Run f) st n r h = absurd r.2
-done_ends left start old new tasks.Check works.Check st n r h = check_ends left start old new st n (scenario_read left r) h
+pub once_of : (asked : Option Task) (left : Option (List ℕ)) (tells : Type 0) (held : List ℕ → List ℕ → Type 0) (start before now : ℕ) (old new : Option (List ℕ)) (st : Status) (net : Option Left) (counts : List ℕ)
+    → Ends asked left tells held start before now old new st net counts → IfSome net StandOnce
+once_of asked left tells held start before now old new st net counts e = promised_of StandOnce asked left tells held start before now old new st net counts
+    (λ l s r none h. let g : Given l = given_of left tells held start counts l s r none h in
+    lawfuls.once l g.scenario g.alone (lawfuls.images tells held start l h.histories h.openings) (lawfuls.known tells held start l h.histories h.openings) h.lawful) e
 
--- what was read leaves nothing to do
-pub bad_of : (left : Option (List ℕ)) (b n : ℕ) (task : Task) (st : Status) → RefusesRead left b n task st → (line : ℕ) (cause : BadCause) → st ≡ status.BadScenario line cause → ReadNoScenario left line cause
-bad_of left b n task st h line cause e = subst (RefusesRead left b n task) e h
+pub got_once_of : (asked : Option Task) (left : Option (List ℕ)) (tells : Type 0) (held : List ℕ → List ℕ → Type 0) (start before now : ℕ) (old new : Option (List ℕ)) (st : Status) (net : Option Left) (counts : List ℕ)
+    → Ends asked left tells held start before now old new st net counts → IfSome net GotOnce
+got_once_of asked left tells held start before now old new st net counts e = promised_of GotOnce asked left tells held start before now old new st net counts
+    (λ l s r none h. let g : Given l = given_of left tells held start counts l s r none h in
+    lawfuls.got_once l g.scenario g.alone (lawfuls.images tells held start l h.histories h.openings) (lawfuls.known tells held start l h.histories h.openings) h.lawful) e
 
-pub unbuilt_of : (left : Option (List ℕ)) (b n : ℕ) (task : Task) (st : Status) → RefusesRead left b n task st → (line : ℕ) (lack : Lack) → st ≡ status.NotBuilt line lack → ReadUnbuilt left line lack
-unbuilt_of left b n task st h line lack e = let r : RefusesRead left b n task (status.NotBuilt line lack) = subst (RefusesRead left b n task) e h in r.1
+pub order_of : (asked : Option Task) (left : Option (List ℕ)) (tells : Type 0) (held : List ℕ → List ℕ → Type 0) (start before now : ℕ) (old new : Option (List ℕ)) (st : Status) (net : Option Left) (counts : List ℕ)
+    → Ends asked left tells held start before now old new st net counts → IfSome net OrderKept
+order_of asked left tells held start before now old new st net counts e = promised_of OrderKept asked left tells held start before now old new st net counts
+    (λ l s r none h. let g : Given l = given_of left tells held start counts l s r none h in
+    lawfuls.order l g.scenario g.alone (lawfuls.images tells held start l h.histories h.openings) (lawfuls.known tells held start l h.histories h.openings) h.lawful) e
 
-is_check : {A : Type 0} → tasks.Check ≡ tasks.Run → A
-is_check e = absurd (cc (e))
+-- ---- completeness
 
-pub refused_ends : (left : Option (List ℕ)) (start b m : ℕ) (old : Option (List ℕ)) (task : Task) (st : Status) → RefusesRead left b m task st → Ends (Some task) left start old old st None
-refused_ends left start b m old tasks.Run (status.BadScenario line cause) h = keeps_same old
-refused_ends left start b m old tasks.Run (status.NotBuilt line lack) h = keeps_same old
-refused_ends left start b m old tasks.Run status.ReadFault h = keeps_same old
-refused_ends left start b m old tasks.Run status.TooLong h = keeps_same old
-refused_ends left start b m old tasks.Run status.NoMemory h = keeps_same old
-refused_ends left start b m old tasks.Run status.Ok h = absurd h
-refused_ends left start b m old tasks.Run status.BadWords h = absurd h
-refused_ends left start b m old tasks.Run (status.WriteFault written) h = absurd h
-refused_ends left start b m old tasks.Check (status.BadScenario line cause) h = keeps_same old
-refused_ends left start b m old tasks.Check (status.NotBuilt line lack) h = is_check h.0
-refused_ends left start b m old tasks.Check status.ReadFault h = keeps_same old
-refused_ends left start b m old tasks.Check status.TooLong h = keeps_same old
-refused_ends left start b m old tasks.Check status.NoMemory h = keeps_same old
-refused_ends left start b m old tasks.Check status.Ok h = absurd h
-refused_ends left start b m old tasks.Check status.BadWords h = absurd h
-refused_ends left start b m old tasks.Check (status.WriteFault written) h = absurd h
+-- want of memory may come instead of each; one that is told is
+comes_memory : (x : Status) → Comes x status.NoMemory
+comes_memory status.Ok = tt
+comes_memory status.BadWords = inr refl
+comes_memory (status.BadScenario line cause) = inr refl
+comes_memory status.ReadFault = inr refl
+comes_memory (status.WriteFault n) = inr refl
+comes_memory status.DiskFault = inr refl
+comes_memory status.NoMemory = inr refl
+comes_memory status.TooLong = inr refl
+comes_memory (status.Conflict found) = inr refl
+comes_memory (status.BadLog bad) = inr refl
+comes_memory (status.Apart found) = inr refl
+comes_memory (status.Spent m) = inr refl
+comes_memory (status.NotBuilt line) = inr refl
 
--- What the words and the bytes ask for
+-- a run ends by no status of the bytes
+of_left : (old new : Option (List ℕ)) (st : Status) (l : Left) → LeftEnds old new st l → ((n : ℕ) → st ≡ status.WriteFault n → ⊥) → IsOfRun st
+of_left old new status.Ok l h nw = tt
+of_left old new status.BadWords l h nw = h
+of_left old new (status.BadScenario line cause) l h nw = h
+of_left old new status.ReadFault l h nw = h
+of_left old new (status.WriteFault n) l h nw = nw n refl
+of_left old new status.DiskFault l h nw = tt
+of_left old new status.NoMemory l h nw = tt
+of_left old new status.TooLong l h nw = h
+of_left old new (status.Conflict found) l h nw = tt
+of_left old new (status.BadLog bad) l h nw = tt
+of_left old new (status.Apart found) l h nw = tt
+of_left old new (status.Spent m) l h nw = tt
+of_left old new (status.NotBuilt line) l h nw = h
 
-form_wanted : (bytes : List ℕ) (f : Form) → IsFormRead (Some bytes) f → wanted tasks.Run bytes ≡ status.Ok
-form_wanted bytes f h =
-    let text : scenario_of bytes ≡ Ok h.scenario = ap scenario_of h.read.0 ∙ h.text in
-    ap (text_status tasks.Run bytes) text ∙ ap (form_status bytes) h.form
+of_none : (tells : Type 0) (held : List ℕ → List ℕ → Type 0) (start : ℕ) (s : Scenario) (before now : ℕ) (counts : List ℕ) (st : Status) → NoneEnds tells held start s before now counts st → IsOfRun st
+of_none tells held start s before now counts status.Ok h = absurd h
+of_none tells held start s before now counts status.BadWords h = absurd h
+of_none tells held start s before now counts (status.BadScenario line cause) h = absurd h
+of_none tells held start s before now counts status.ReadFault h = absurd h
+of_none tells held start s before now counts (status.WriteFault n) h = absurd h
+of_none tells held start s before now counts status.DiskFault h = tt
+of_none tells held start s before now counts status.NoMemory h = tt
+of_none tells held start s before now counts status.TooLong h = absurd h
+of_none tells held start s before now counts (status.Conflict found) h = absurd h
+of_none tells held start s before now counts (status.BadLog bad) h = tt
+of_none tells held start s before now counts (status.Apart found) h = absurd h
+of_none tells held start s before now counts (status.Spent m) h = absurd h
+of_none tells held start s before now counts (status.NotBuilt line) h = absurd h
 
-scenario_wanted : (bytes : List ℕ) → IsScenarioRead (Some bytes) → wanted tasks.Check bytes ≡ status.Ok
-scenario_wanted bytes h =
-    let text : scenario_of bytes ≡ Ok h.scenario = ap scenario_of h.read.0 ∙ h.text in
-    ap (text_status tasks.Check bytes) text
+of_run : (tells : Type 0) (held : List ℕ → List ℕ → Type 0) (start : ℕ) (s : Scenario) (before now : ℕ) (old new : Option (List ℕ)) (st : Status) (net : Option Left) (counts : List ℕ) → RunEnds tells held start s before now old new st net counts
+    → ((n : ℕ) → st ≡ status.WriteFault n → ⊥) → IsOfRun st
+of_run tells held start s before now old new st None counts h nw = of_none tells held start s before now counts st h.0
+of_run tells held start s before now old new st (Some l) counts h nw = of_left old new st l h.1 nw
 
-fault_wanted : (task : Task) (bytes : List ℕ) (line : ℕ) (cause : BadCause) → ReadNoScenario (Some bytes) line cause → status.BadScenario line cause ≡ wanted task bytes
-fault_wanted task bytes line cause h =
-    let text : scenario_of bytes ≡ Err h.fault = ap scenario_of h.read.0 ∙ h.text in
-    sym (ap (text_status task bytes) text ∙ h.told)
+-- the bytes are those that the source had
+same_bytes : (bytes : List ℕ) (s : Scenario) → IsRead (Some bytes) s → scenario_of bytes ≡ Ok s
+same_bytes bytes s r = ap scenario_of r.read.0 ∙ r.text
 
-unbuilt_wanted : (bytes : List ℕ) (line : ℕ) (lack : Lack) → ReadUnbuilt (Some bytes) line lack → status.NotBuilt line lack ≡ wanted tasks.Run bytes
-unbuilt_wanted bytes line lack h =
-    let text : scenario_of bytes ≡ Ok h.scenario = ap scenario_of h.read.0 ∙ h.text in
-    let place : line ≡ lack_line lack bytes = h.place ∙ ap (lack_line lack) (sym h.read.0) in
-    ap (λ (n : ℕ). status.NotBuilt n lack) place ∙ sym (ap (text_status tasks.Run bytes) text ∙ ap (form_status bytes) h.form)
+run_wanted : (bytes : List ℕ) (s : Scenario) → IsRead (Some bytes) s → s.cables ≡ [] → wanted tasks.Run bytes ≡ status.Ok
+run_wanted bytes s r none = ap (text_status tasks.Run bytes) (same_bytes bytes s r) ∙ ap (built_status bytes) none
 
--- work that was done is what was asked for
-done_wanted : (task : Task) (bytes : List ℕ) (start : ℕ) (old new : Option (List ℕ)) (n : Option Network) → Ends (Some task) (Some bytes) start old new status.Ok n → status.Ok ≡ wanted task bytes
-done_wanted tasks.Run bytes start old new (Some n) h = sym (form_wanted bytes (form_run n) h.0)
-done_wanted tasks.Run bytes start old new None h = absurd h
-done_wanted tasks.Check bytes start old new None h = sym (scenario_wanted bytes h.0)
-done_wanted tasks.Check bytes start old new (Some n) h = absurd h
+check_wanted : (bytes : List ℕ) (s : Scenario) → IsRead (Some bytes) s → wanted tasks.Check bytes ≡ status.Ok
+check_wanted bytes s r = ap (text_status tasks.Check bytes) (same_bytes bytes s r)
 
-written_wanted : (task : Task) (bytes : List ℕ) (start : ℕ) (old new : Option (List ℕ)) (written : ℕ) (n : Option Network) → Ends (Some task) (Some bytes) start old new (status.WriteFault written) n → wanted task bytes ≡ status.Ok
-written_wanted tasks.Run bytes start old new written (Some n) h = form_wanted bytes (form_run n) h.0
-written_wanted tasks.Run bytes start old new written None h = absurd h
-written_wanted tasks.Check bytes start old new written None h = scenario_wanted bytes h.0
-written_wanted tasks.Check bytes start old new written (Some n) h = absurd h
+fault_wanted : (task : Task) (bytes : List ℕ) (line : ℕ) (cause : BadCause) → ReadNoScenario (Some bytes) line cause → wanted task bytes ≡ status.BadScenario line cause
+fault_wanted task bytes line cause h = ap (text_status task bytes) (ap scenario_of h.read.0 ∙ h.text) ∙ h.told
 
-built_wanted : (task : Task) (bytes : List ℕ) (start : ℕ) (old new : Option (List ℕ)) (line : ℕ) (lack : Lack) (n : Option Network) → Ends (Some task) (Some bytes) start old new (status.NotBuilt line lack) n → ReadUnbuilt (Some bytes) line lack
-    → status.NotBuilt line lack ≡ wanted task bytes
-built_wanted tasks.Run bytes start old new line lack n h r = unbuilt_wanted bytes line lack r
-built_wanted tasks.Check bytes start old new line lack n h r = absurd h
+has_cable : (bytes : List ℕ) (cs : List CableLine) → cs ≢ [] → built_status bytes cs ≡ status.NotBuilt (cable_line bytes)
+has_cable bytes [] h = absurd (h refl)
+has_cable bytes (c ∷ cs) h = refl
 
--- from the causes of each status, where the source told these bytes and the words ask for this
-pub told : (task : Task) (bytes : List ℕ) (start : ℕ) (old new : Option (List ℕ)) (r0 r1 w0 w1 : ℕ) (st : Status) (n : Option Network) → Ends (Some task) (Some bytes) start old new st n → (st ≡ status.BadWords → ⊥)
-    → ((line : ℕ) (cause : BadCause) → st ≡ status.BadScenario line cause → ReadNoScenario (Some bytes) line cause) → ((line : ℕ) (lack : Lack) → st ≡ status.NotBuilt line lack → ReadUnbuilt (Some bytes) line lack) → (st ≡ status.ReadFault → Rose r0 r1)
-    → ((m : ℕ) → st ≡ status.WriteFault m → Rose w0 w1) → (st ≡ status.TooLong → IsLonger (Some bytes) 1048576) → length bytes ≤ 1048576 → ¬ Rose r0 r1 → (wanted task bytes ≡ status.Ok → ¬ Rose w0 w1) → (st ≡ wanted task bytes) ⊎ (st ≡ status.NoMemory)
-told task bytes start old new r0 r1 w0 w1 status.Ok n ends bw bs nb rf wf tl few nr nw = inl (done_wanted task bytes start old new n ends)
-told task bytes start old new r0 r1 w0 w1 status.NoMemory n ends bw bs nb rf wf tl few nr nw = inr refl
-told task bytes start old new r0 r1 w0 w1 status.BadWords n ends bw bs nb rf wf tl few nr nw = absurd (bw refl)
-told task bytes start old new r0 r1 w0 w1 (status.BadScenario line cause) n ends bw bs nb rf wf tl few nr nw = inl (fault_wanted task bytes line cause (bs line cause refl))
-told task bytes start old new r0 r1 w0 w1 (status.NotBuilt line lack) n ends bw bs nb rf wf tl few nr nw = inl (built_wanted task bytes start old new line lack n ends (nb line lack refl))
-told task bytes start old new r0 r1 w0 w1 status.ReadFault n ends bw bs nb rf wf tl few nr nw = absurd (nr (rf refl))
-told task bytes start old new r0 r1 w0 w1 (status.WriteFault m) n ends bw bs nb rf wf tl few nr nw = absurd (nw (written_wanted task bytes start old new m n ends) (wf m refl))
-told task bytes start old new r0 r1 w0 w1 status.TooLong n ends bw bs nb rf wf tl few nr nw = let longer : IsLonger (Some bytes) 1048576 = tl refl in absurd (omega (arith, longer, few))
+unbuilt_wanted : (bytes : List ℕ) (line : ℕ) → ReadUnbuilt (Some bytes) line → wanted tasks.Run bytes ≡ status.NotBuilt line
+unbuilt_wanted bytes line h =
+    ap (text_status tasks.Run bytes) (ap scenario_of h.read.0 ∙ h.text) ∙ has_cable bytes h.scenario.cables h.cables
+    ∙ ap (λ (n : ℕ). status.NotBuilt n) (sym (h.place ∙ ap cable_line (sym h.read.0)))
 
-none_or_some : (task : Task) → Some task ≡ None → ⊥
-none_or_some task e = absurd (cc (e))
+-- what was found out early is what the bytes ask for
+early_comes : (task : Task) (bytes : List ℕ) (r0 r1 : ℕ) (st : Status) → IsEarly task st → ((line : ℕ) (cause : BadCause) → st ≡ status.BadScenario line cause → ReadNoScenario (Some bytes) line cause)
+    → ((line : ℕ) → st ≡ status.NotBuilt line → ReadUnbuilt (Some bytes) line) → (st ≡ status.ReadFault → Rose r0 r1) → (st ≡ status.TooLong → IsLonger (Some bytes) 1048576) → length bytes ≤ 1048576 → ¬ Rose r0 r1 → Comes (wanted task bytes) st
+early_comes task bytes r0 r1 (status.BadScenario line cause) h bs nb rf tl few nr = subst (λ (x : Status). Comes x (status.BadScenario line cause)) (sym (fault_wanted task bytes line cause (bs line cause refl))) (inl refl)
+early_comes task bytes r0 r1 (status.NotBuilt line) h bs nb rf tl few nr =
+    subst (λ (t : Task). Comes (wanted t bytes) (status.NotBuilt line)) (sym h) (subst (λ (x : Status). Comes x (status.NotBuilt line)) (sym (unbuilt_wanted bytes line (nb line refl))) (inl refl))
+early_comes task bytes r0 r1 status.ReadFault h bs nb rf tl few nr = absurd (nr (rf refl))
+early_comes task bytes r0 r1 status.TooLong h bs nb rf tl few nr = let longer : IsLonger (Some bytes) 1048576 = tl refl in absurd (omega (arith, longer, few))
+early_comes task bytes r0 r1 status.NoMemory h bs nb rf tl few nr = comes_memory (wanted task bytes)
+early_comes task bytes r0 r1 status.Ok h bs nb rf tl few nr = absurd h
+early_comes task bytes r0 r1 status.BadWords h bs nb rf tl few nr = absurd h
+early_comes task bytes r0 r1 (status.WriteFault n) h bs nb rf tl few nr = absurd h
+early_comes task bytes r0 r1 status.DiskFault h bs nb rf tl few nr = absurd h
+early_comes task bytes r0 r1 (status.Conflict found) h bs nb rf tl few nr = absurd h
+early_comes task bytes r0 r1 (status.BadLog bad) h bs nb rf tl few nr = absurd h
+early_comes task bytes r0 r1 (status.Apart found) h bs nb rf tl few nr = absurd h
+early_comes task bytes r0 r1 (status.Spent m) h bs nb rf tl few nr = absurd h
 
-pub completes : (asked : Option Task) (left : Option (List ℕ)) (start : ℕ) (old new : Option (List ℕ)) (r0 r1 w0 w1 : ℕ) (st : Status) (n : Option Network) → Ends asked left start old new st n → (st ≡ status.BadWords → asked ≡ None)
-    → ((line : ℕ) (cause : BadCause) → st ≡ status.BadScenario line cause → ReadNoScenario left line cause) → ((line : ℕ) (lack : Lack) → st ≡ status.NotBuilt line lack → ReadUnbuilt left line lack) → (st ≡ status.ReadFault → Rose r0 r1)
-    → ((m : ℕ) → st ≡ status.WriteFault m → Rose w0 w1) → (st ≡ status.TooLong → IsLonger left 1048576) → Completes asked left r0 r1 w0 w1 st
-completes asked left start old new r0 r1 w0 w1 st n ends bw bs nb rf wf tl = λ task bytes a l few nr nw.
-    told task bytes start old new r0 r1 w0 w1 st n
-    (subst (λ (x : Option Task). Ends x (Some bytes) start old new st n) a (subst (λ (x : Option (List ℕ)). Ends asked x start old new st n) l ends))
-    (λ e. none_or_some task (sym a ∙ bw e))
+checked_comes : (bytes : List ℕ) (old new : Option (List ℕ)) (st : Status) → Checked (Some bytes) old new st → ((n : ℕ) → st ≡ status.WriteFault n → ⊥) → Comes (wanted tasks.Check bytes) st
+checked_comes bytes old new status.Ok h nw = subst (λ (x : Status). Comes x status.Ok) (sym (check_wanted bytes h.0 h.1)) tt
+checked_comes bytes old new (status.WriteFault n) h nw = absurd (nw n refl)
+checked_comes bytes old new status.BadWords h nw = absurd h
+checked_comes bytes old new (status.BadScenario line cause) h nw = absurd h
+checked_comes bytes old new status.ReadFault h nw = absurd h
+checked_comes bytes old new status.DiskFault h nw = absurd h
+checked_comes bytes old new status.NoMemory h nw = absurd h
+checked_comes bytes old new status.TooLong h nw = absurd h
+checked_comes bytes old new (status.Conflict found) h nw = absurd h
+checked_comes bytes old new (status.BadLog bad) h nw = absurd h
+checked_comes bytes old new (status.Apart found) h nw = absurd h
+checked_comes bytes old new (status.Spent m) h nw = absurd h
+checked_comes bytes old new (status.NotBuilt line) h nw = absurd h
+
+task_comes : (task : Task) (bytes : List ℕ) (tells : Type 0) (held : List ℕ → List ℕ → Type 0) (start before now : ℕ) (old new : Option (List ℕ)) (st : Status) (net : Option Left) (counts : List ℕ) (r0 r1 w0 w1 : ℕ)
+    → Ends (Some task) (Some bytes) tells held start before now old new st net counts → ((line : ℕ) (cause : BadCause) → st ≡ status.BadScenario line cause → ReadNoScenario (Some bytes) line cause)
+    → ((line : ℕ) → st ≡ status.NotBuilt line → ReadUnbuilt (Some bytes) line) → (st ≡ status.ReadFault → Rose r0 r1) → ((n : ℕ) → st ≡ status.WriteFault n → Rose w0 w1) → (st ≡ status.TooLong → IsLonger (Some bytes) 1048576)
+    → length bytes ≤ 1048576 → ¬ Rose r0 r1 → ¬ Rose w0 w1 → Comes (wanted task bytes) st
+task_comes tasks.Run bytes tells held start before now old new st net counts r0 r1 w0 w1 (inl e) bs nb rf wf tl few nr nw = early_comes tasks.Run bytes r0 r1 st e.0 bs nb rf tl few nr
+task_comes tasks.Run bytes tells held start before now old new st net counts r0 r1 w0 w1 (inr r) bs nb rf wf tl few nr nw =
+    subst (λ (x : Status). Comes x st) (sym (run_wanted bytes r.scenario r.read r.alone)) (of_run tells held start r.scenario before now old new st net counts r.ended (λ n e. nw (wf n e)))
+task_comes tasks.Check bytes tells held start before now old new st net counts r0 r1 w0 w1 (inl e) bs nb rf wf tl few nr nw = early_comes tasks.Check bytes r0 r1 st e.0 bs nb rf tl few nr
+task_comes tasks.Check bytes tells held start before now old new st net counts r0 r1 w0 w1 (inr e) bs nb rf wf tl few nr nw = checked_comes bytes old new st e.2 (λ n e. nw (wf n e))
+
+pub completes : (asked : Option Task) (left : Option (List ℕ)) (tells : Type 0) (held : List ℕ → List ℕ → Type 0) (start before now : ℕ) (old new : Option (List ℕ)) (st : Status) (net : Option Left) (counts : List ℕ) (r0 r1 w0 w1 : ℕ)
+    → Ends asked left tells held start before now old new st net counts → ((line : ℕ) (cause : BadCause) → st ≡ status.BadScenario line cause → ReadNoScenario left line cause)
+    → ((line : ℕ) → st ≡ status.NotBuilt line → ReadUnbuilt left line) → (st ≡ status.ReadFault → Rose r0 r1) → ((n : ℕ) → st ≡ status.WriteFault n → Rose w0 w1) → (st ≡ status.TooLong → IsLonger left 1048576)
+    → Completes asked left r0 r1 w0 w1 st
+completes asked left tells held start before now old new st net counts r0 r1 w0 w1 ends bs nb rf wf tl = λ task bytes a l few nr nw.
+    task_comes task bytes tells held start before now old new st net counts r0 r1 w0 w1
+    (subst (λ (x : Option Task). Ends x (Some bytes) tells held start before now old new st net counts) a (subst (λ (x : Option (List ℕ)). Ends asked x tells held start before now old new st net counts) l ends))
     (λ line cause e. subst (λ (x : Option (List ℕ)). ReadNoScenario x line cause) l (bs line cause e))
-    (λ line lack e. subst (λ (x : Option (List ℕ)). ReadUnbuilt x line lack) l (nb line lack e))
+    (λ line e. subst (λ (x : Option (List ℕ)). ReadUnbuilt x line) l (nb line e))
     rf wf
     (λ e. subst (λ (x : Option (List ℕ)). IsLonger x 1048576) l (tl e))
     few nr nw
+
+-- ---- bad words
+
+no_bad_words : (task : Task) (left : Option (List ℕ)) (tells : Type 0) (held : List ℕ → List ℕ → Type 0) (start before now : ℕ) (old new : Option (List ℕ)) (st : Status) (net : Option Left) (counts : List ℕ)
+    → Ends (Some task) left tells held start before now old new st net counts → st ≡ status.BadWords → ⊥
+no_bad_words tasks.Run left tells held start before now old new st net counts (inl e) is = subst (λ (x : Status). IsEarly tasks.Run x) is e.0
+no_bad_words tasks.Run left tells held start before now old new st net counts (inr r) is =
+    of_run tells held start r.scenario before now old new status.BadWords net counts (subst (λ (x : Status). RunEnds tells held start r.scenario before now old new x net counts) is r.ended) (λ n e. absurd cc)
+no_bad_words tasks.Check left tells held start before now old new st net counts (inl e) is = subst (λ (x : Status). IsEarly tasks.Check x) is e.0
+no_bad_words tasks.Check left tells held start before now old new st net counts (inr e) is = subst (Checked left old new) is e.2
+
+pub bad_words : (asked : Option Task) (left : Option (List ℕ)) (tells : Type 0) (held : List ℕ → List ℕ → Type 0) (start before now : ℕ) (old new : Option (List ℕ)) (st : Status) (net : Option Left) (counts : List ℕ)
+    → Ends asked left tells held start before now old new st net counts → (st ≡ status.BadWords → asked ≡ None) × (asked ≡ None → st ≡ status.BadWords)
+bad_words None left tells held start before now old new st net counts e = (λ is. refl, λ is. e.0)
+bad_words (Some task) left tells held start before now old new st net counts e = (λ is. absurd (no_bad_words task left tells held start before now old new st net counts e is), λ is. absurd cc)

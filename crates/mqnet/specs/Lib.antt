@@ -1,4 +1,3 @@
 pub mod Wanted
 pub mod Headline
 pub mod Work
-pub mod Numbers

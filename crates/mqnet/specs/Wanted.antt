@@ -1,20 +1,17 @@
--- What the words and the bytes ask for: the status where nothing fails.
-use Rattle.std.specs.Prelude.{ℕ, List, [], ◌∷◌, if◌then◌else◌, Option, Some, None, Result, Ok, Err, codes}
+-- What the words ask for, and what the bytes say of a scenario.
+use Rattle.std.specs.Prelude.{◌≡◌, ℕ, List, [], ◌∷◌, if◌then◌else◌, Option, Some, None, Result, Ok, Err, codes}
 use Rattle.std.specs.Str.{bytes_eq}
+use Rattle.mq_history.specs.declared.scenario.CableLine.{CableLine}
 use Rattle.mq_history.specs.declared.scenario.Scenario.{Scenario}
 use Rattle.mq_scn_text.specs.declared.fault.ScenarioFault.{ScenarioFault}
 use Rattle.mq_scn_text.specs.declared.fault.ScenarioFault.TheVariants as faults
 use Rattle.mq_scn_text.specs.Reading.{scenario_of}
-use Rattle.mq_forms.specs.declared.form.Form.{Form}
-use Rattle.mq_forms.specs.declared.lack.Lack.{Lack}
-use Rattle.mq_forms.specs.Forms.{form_of}
-use Rattle.mq_hints.specs.Places.{lack_line}
-use Rattle.mqnet.specs.declared.network.BadCause.{BadCause}
-use Rattle.mqnet.specs.declared.network.BadCause.TheVariants as causes
-use Rattle.mqnet.specs.declared.network.Status.{Status}
-use Rattle.mqnet.specs.declared.network.Status.TheVariants as status
-use Rattle.mqnet.specs.declared.network.Task.{Task}
-use Rattle.mqnet.specs.declared.network.Task.TheVariants as tasks
+use Rattle.mq_hints.specs.Cables.{cable_line}
+use Rattle.mq_run.specs.declared.status.BadCause.TheVariants as causes
+use Rattle.mq_run.specs.declared.status.Status.{Status}
+use Rattle.mq_run.specs.declared.status.Status.TheVariants as status
+use Rattle.mqnet.specs.declared.top.Task.{Task}
+use Rattle.mqnet.specs.declared.top.Task.TheVariants as tasks
 
 -- the words are the one word run, or the one word check
 abbrev pub word_task : List ℕ → Option Task
@@ -31,19 +28,19 @@ fault_status (faults.BadLine line cause) = status.BadScenario line (causes.Line 
 fault_status (faults.Limit line limit) = status.BadScenario line (causes.Limit limit)
 fault_status faults.NoMemory = status.NoMemory
 
--- a scenario that runs today, or the line of its first part that doesn't
-abbrev pub form_status : List ℕ → Result Form Lack → Status
-form_status bytes (Ok form) = status.Ok
-form_status bytes (Err lack) = status.NotBuilt (lack_line lack bytes) lack
+-- a scenario runs that has no cable; of another the line of its first cable is told
+abbrev pub built_status : List ℕ → List CableLine → Status
+built_status bytes [] = status.Ok
+built_status bytes (c ∷ cs) = status.NotBuilt (cable_line bytes)
 
 abbrev pub scenario_status : Task → List ℕ → Scenario → Status
-scenario_status tasks.Run bytes s = form_status bytes (form_of s)
+scenario_status tasks.Run bytes s = built_status bytes s.cables
 scenario_status tasks.Check bytes s = status.Ok
 
 abbrev pub text_status : Task → List ℕ → Result Scenario ScenarioFault → Status
 text_status task bytes (Ok s) = scenario_status task bytes s
 text_status task bytes (Err fault) = fault_status fault
 
--- the status of these bytes where nothing fails
+-- why these bytes are refused; Ok where they aren't
 abbrev pub wanted : Task → List ℕ → Status
 wanted task bytes = text_status task bytes (scenario_of bytes)

@@ -1,10 +1,10 @@
-//! Runs a queue manager by a scenario from standard input, and reports on standard output.
+//! Runs queue managers by a scenario from standard input, over files of the current folder, and reports on standard output.
 #![tactic(auto)]
 
-mod network;
 mod top;
 
 use mq_base::{StdSink, StdSource};
+use mq_disk::FileShelf;
 use std::process::ExitCode;
 use std::rt::Clock;
 use std::time::{SystemTime, UNIX_EPOCH};
@@ -32,14 +32,15 @@ fn main(rt: HostRuntime) -> io::Result<ExitCode> {
     }
     let mut source = StdSource::new(rt.reader());
     let mut sink = StdSink::new(io::writer(&rt));
+    let mut shelf = FileShelf::new(&rt);
     let start = moment(&rt);
-    let ended = mqnet(rt.alloc(), &words, &mut source, &mut sink, start);
+    let ended = mqnet(rt.alloc(), &words, &mut source, &mut sink, &mut shelf, start);
     let number = ended.status.number();
     if number != 0 {
         eprintln!(rt; "mqnet: status {number}")?;
         match &ended.told {
             Some(told) => eprint!(rt; "mqnet: {told}")?,
-            None => eprintln!(rt; "mqnet: {}", ended.status)?,
+            None => eprintln!(rt; "mqnet: {}", ended.status.words())?,
         }
     }
     Ok(ExitCode::from(number))

@@ -2,8 +2,9 @@
 
 use crate::top::mqnet;
 use mq_base::{MemSink, MemSource};
+use mq_disk::{Image, MemDisk, MemShelf, Side};
+use mq_name::QName;
 use std::alloc::{AllocError, Global};
-use std::process::Abort;
 use std::test::*;
 
 const HEAD: &str = "NETWORK
@@ -19,17 +20,22 @@ const TAIL: &str = "ENDSCRIPT
 STEPS
 OBEY D1
 RUN A
+CRASH LONDON
+RESTART LONDON
 ENDSTEPS
 ";
 
-/// A call of the program: a word, the script's lines, the calls of source and sink that fail, and what
-/// is wanted.
+/// A call of the program: a word, the script's lines, the calls of source, sink, shelf and disk that fail, the bytes of the
+/// manager's log, and what is wanted.
 #[derive(Clone, Copy)]
 struct Case {
     word: &'static str,
     script: &'static str,
     failing_read: Option<u64>,
     failing_write: Option<u64>,
+    failing_take: Option<u64>,
+    failing_disk: Option<u64>,
+    log: &'static [u8],
     status: u8,
     /// A piece of the output; none where nothing is written.
     piece: Option<&'static str>,
@@ -48,6 +54,9 @@ fn plain(
         script,
         failing_read: None,
         failing_write: None,
+        failing_take: None,
+        failing_disk: None,
+        log: b"",
         status,
         piece,
         told: None,
@@ -56,7 +65,9 @@ fn plain(
 
 const PUT_AND_GET: &str = "MQOPEN H1 QUEUE(Q1) SHARED OUTPUT\nMQPUT H1 TEXT('HELLO')\nMQGET H1\n";
 
-fn cases() -> [Case; 13] {
+const PUT_THAT_LASTS: &str = "MQOPEN H1 QUEUE(Q1) OUTPUT\nMQPUT H1 TEXT('HELLO') PERSIST\n";
+
+fn cases() -> [Case; 14] {
     [
         plain(
             "run",
@@ -64,20 +75,14 @@ fn cases() -> [Case; 13] {
             0,
             Some("0004 MQGET 0 0 ID 1.1.1 LEN 5 BYTES 'HELLO'\n"),
         ),
+        plain(
+            "run",
+            PUT_THAT_LASTS,
+            0,
+            Some("Q1 DEPTH 1\n  1.1.1 PRTY 0 PERSIST YES LEN 5 FREE\nCHANNELS\nLEDGER\nLONDON Q1 1.1.1\nSTATUS 0\n"),
+        ),
         plain("x", PUT_AND_GET, 1, None),
         plain("check", "", 0, Some("CHECK OK\n")),
-        plain(
-            "run",
-            "MQOPEN H1 QUEUE(Q1) SHARED OUTPUT\nMQGET H1\n",
-            0,
-            Some("0003 MQGET 2 2033\nSTEPS\n0001 OBEY D1\n  OK\n0002 RUN A 3\n"),
-        ),
-        plain(
-            "run",
-            "MQOPEN H1 QUEUE(Q1) SHARED OUTPUT\nMQGET H2\n",
-            0,
-            Some("0003 MQGET 2 2019\n"),
-        ),
         plain(
             "run",
             "MQOPEN H1 QUEUE(Q2) SHARED OUTPUT\nMQPUT H1 TEXT('')\n",
@@ -93,14 +98,6 @@ fn cases() -> [Case; 13] {
             ..plain("check", "MQOPEN H1 QUEUE(a?)\n", 2, None)
         },
         Case {
-            told: Some("line 8: NotBuilt: "),
-            ..plain("run", "MQDISC\n", 20, None)
-        },
-        Case {
-            failing_read: Some(0),
-            ..plain("run", PUT_AND_GET, 3, None)
-        },
-        Case {
             failing_read: Some(1),
             ..plain("run", PUT_AND_GET, 3, None)
         },
@@ -111,6 +108,22 @@ fn cases() -> [Case; 13] {
         Case {
             failing_write: Some(0),
             ..plain("check", PUT_AND_GET, 4, None)
+        },
+        Case {
+            failing_take: Some(0),
+            ..plain("run", PUT_AND_GET, 5, None)
+        },
+        Case {
+            failing_disk: Some(0),
+            ..plain("run", PUT_AND_GET, 5, None)
+        },
+        Case {
+            failing_disk: Some(9),
+            ..plain("run", PUT_THAT_LASTS, 5, Some("STATUS 5\n"))
+        },
+        Case {
+            log: b"no log",
+            ..plain("run", PUT_AND_GET, 9, None)
         },
     ]
 }
@@ -130,6 +143,19 @@ fn source(alloc: Global, case: &Case) -> Result<MemSource, AllocError> {
     Ok(MemSource::new(text.into_bytes(), calls(alloc, case.failing_read)?))
 }
 
+fn shelf(alloc: Global, case: &Case) -> Result<MemShelf<MemDisk>, Fail> {
+    let mut shelf = MemShelf::new(alloc, calls(alloc, case.failing_take)?);
+    let Ok(name) = QName::of(b"LONDON") else {
+        return Ok(shelf);
+    };
+    let failing = calls(alloc, case.failing_disk)?;
+    let Ok(disk) = MemDisk::new(alloc, case.log, 65_536, Image::Kept, failing) else {
+        return Ok(shelf);
+    };
+    let _put = shelf.put(name, Side::A, disk);
+    Ok(shelf)
+}
+
 #[test]
 fn each_status_comes_by_its_cause(rt: HostRuntime) -> Result<(), Fail> {
     let cases = cases();
@@ -138,7 +164,8 @@ fn each_status_comes_by_its_cause(rt: HostRuntime) -> Result<(), Fail> {
         words.push(String::from_str(rt.alloc(), case.word)?)?;
         let mut source = source(rt.alloc(), case)?;
         let mut sink = MemSink::new(rt.alloc(), 4096, calls(rt.alloc(), case.failing_write)?)?;
-        let ended = mqnet(rt.alloc(), &words, &mut source, &mut sink, 0);
+        let mut shelf = shelf(rt.alloc(), case)?;
+        let ended = mqnet(rt.alloc(), &words, &mut source, &mut sink, &mut shelf, 0);
         assert_eq!(rt; ended.status.number(), case.status);
         let output = str::from_utf8(sink.held())?;
         match case.piece {

@@ -1,35 +1,40 @@
 //! The top call: reads the scenario, runs or checks it, writes what comes of it.
 
-ghost use Rattle.std.specs.Prelude.{◌≡◌, ◌↔◌, ◌≤◌, ◌<◌, ◌^◌, ℕ, List, map, None, IfOk, IfErr, Ok, length};
+ghost use Rattle.std.specs.Prelude.{◌≡◌, ◌↔◌, ◌≤◌, ◌<◌, ℕ, List, [], Option, map, None, Some, IfOk, IfErr, IfSome, Ok, option_map};
 ghost use Rattle.std.specs.String.{string_bytes};
 ghost use Rattle.mq_base.specs.Outside.{Rose, IsLonger};
-ghost use Rattle.mq_model.specs.Report.{report};
+ghost use Rattle.mq_disk.specs.declared.shelf.Side.TheVariants as sides;
 ghost use Rattle.mq_scn_text.specs.Reading.{scenario_of};
-ghost use Rattle.mq_forms.specs.declared.form.Form.TheVariants as forms;
-ghost use Rattle.mq_forms.specs.declared.lack.Lack.{Lack};
-ghost use Rattle.mq_forms.specs.Forms.{form_of, FitsForm};
-ghost use Rattle.mq_obey.specs.Report as section_report;
+ghost use Rattle.mq_law_ran.specs.Runs.{Left};
+ghost use Rattle.mq_law_ran.specs.Promises.{GotOnce, OrderKept, RowsAreLedgers, StandOnce};
+ghost use Rattle.mq_run.specs.declared.status.BadCause.{BadCause};
+ghost use Rattle.mq_run.specs.declared.status.Status.TheVariants.{BadWords, BadScenario, ReadFault, WriteFault, NoMemory, TooLong, NotBuilt};
+ghost use Rattle.mq_run.specs.Leaves.{left_of};
 ghost use Rattle.mqnet.specs.Wanted.{word_task, task_of};
-ghost use Rattle.mqnet.specs.Headline.{first_moment, Ends, WasRead, ReadNoScenario, ReadUnbuilt, Writes, Reports, RefusesBytes, RefusesText, RefusesForm, Completes};
-ghost use Rattle.mqnet.specs.Work.{IsWork, FitsWork, RefusesWork, WorkEnds, IsDone};
-ghost use Rattle.mqnet.specs.declared.network.BadCause.{BadCause};
-ghost use Rattle.mqnet.specs.declared.network.Status.TheVariants.{BadWords, BadScenario, ReadFault, WriteFault, NoMemory, TooLong, NotBuilt};
+ghost use Rattle.mqnet.specs.Headline.{Ends, WasRead, ReadNoScenario, ReadUnbuilt, Writes, RefusesBytes, Completes};
+ghost use Rattle.mqnet.specs.Work.{FitsWork, IsUnbuilt, IsWork, RefusesText, RefusesWork, WorkEnds};
 
-use crate::network::{BadCause, Ended, Network, ScriptRun, SectionRun, Status, Task};
 use mq_base::{ReadStop, Sink, Source, read_all, write_all};
-use mq_forms::{Form, Section, Unbuilt, form_of};
-use mq_hints::{fault_text, lack_line, lack_text};
-use mq_ledger::ledger_of;
-use mq_node::{Node, run};
-use mq_obey::{CommandNode, obey, report_bytes};
-use mq_report::report_text;
+use mq_disk::Shelf;
+use mq_hints::{cable_line, fault_text, unbuilt_text};
+use mq_history::Scenario;
+use mq_run::{BadCause, Ended, Status, ended_early, run_scenario};
 use mq_scn_text::{ScenarioFault, read_scenario};
 use std::alloc::Global;
+
+/// What the words ask for.
+#[derive(Clone, Copy, Debug, PartialEq, Eq)]
+pub enum Task {
+    /// A scenario is read and run.
+    Run,
+    /// A scenario is read.
+    Check,
+}
 
 /// What is left to do when the bytes were read.
 #[derive(Drop)]
 pub enum Work {
-    Run(Form),
+    Run(Scenario),
     Check,
 }
 
@@ -56,142 +61,14 @@ fn task_of(words: &[String]) -> Option<Task>
     }
 }
 
-/// The moment of a run's beginning.
-fn first_moment(start: u64) -> u64
-    ensures { result ≡ first_moment start }
-{
-    start.min(253_300_000_000_000)
-}
-
 /// Writes a text.
 fn write_text<K: Sink>(text: &[u8], sink: &mut K) -> Status
     ensures writes { Writes (K.held sink.old) (K.held sink.new) text.now result }
     ensures write_fault { (n : ℕ) → result ≡ WriteFault n → Rose (K.faults sink.old) (K.faults sink.new) }
-    ensures done { IsDone result }
 {
     match write_all(sink, text) {
         Ok(()) => Status::Ok,
         Err(fault) => Status::WriteFault(fault.written),
-    }
-}
-
-/// Writes the report of a run, with the ledger of its history.
-fn write_report<K: Sink>(
-    alloc: Global,
-    scenario: &mq_model::Scenario,
-    node: &Node,
-    sink: &mut K,
-) -> Status
-    requires { length scenario.now.queues ≤ length node.now.entries }
-    ensures writes { Writes (K.held sink.old) (K.held sink.new) (report scenario.now node.now) result }
-    ensures write_fault { (n : ℕ) → result ≡ WriteFault n → Rose (K.faults sink.old) (K.faults sink.new) }
-    ensures done { IsDone result }
-{
-    let ledger = match ledger_of(alloc, node.entries()) {
-        Err(_) => return Status::NoMemory,
-        Ok(ledger) => ledger,
-    };
-    let text = match report_text(alloc, scenario, node, &ledger) {
-        Err(_) => return Status::NoMemory,
-        Ok(text) => text,
-    };
-    write_text(text.as_bytes(), sink)
-}
-
-/// Runs a scenario with a script from a moment on, and writes its report.
-fn run_script<K: Sink>(
-    alloc: Global,
-    scenario: mq_model::Scenario,
-    start: u64,
-    sink: &mut K,
-) -> Ended
-    requires few { length scenario.queues < 2 ^ 40 }
-    requires short { length scenario.lines < 2 ^ 40 }
-    ensures reports { Reports start (K.held sink.old) (K.held sink.new) (forms.Script scenario) result.status result.network }
-    ensures write_fault { (n : ℕ) → result.status ≡ WriteFault n → Rose (K.faults sink.old) (K.faults sink.new) }
-    ensures done { IsDone result.status }
-{
-    let moment = first_moment(start);
-    let mut node = match Node::begin(alloc, moment, 2) {
-        Ok(node) => node,
-        Err(_) => return Ended {
-            status: Status::NoMemory,
-            network: None,
-            told: None,
-        },
-    };
-    let ran = run(alloc, &scenario, &mut node);
-    let _history = node.entries().len();
-    match ran {
-        Err(_) => Ended {
-            status: Status::NoMemory,
-            network: Some(Network::Script(ScriptRun { scenario, node })),
-            told: None,
-        },
-        Ok(()) => {
-            let status = write_report(alloc, &scenario, &node, sink);
-            Ended {
-                status,
-                network: Some(Network::Script(ScriptRun { scenario, node })),
-                told: None,
-            }
-        }
-    }
-}
-
-/// Writes the report of a section that was obeyed.
-fn write_answers<K: Sink>(
-    alloc: Global,
-    section: &Section,
-    node: &CommandNode,
-    sink: &mut K,
-) -> Status
-    ensures writes { Writes (K.held sink.old) (K.held sink.new) (section_report.report section.now node.now) result }
-    ensures write_fault { (n : ℕ) → result ≡ WriteFault n → Rose (K.faults sink.old) (K.faults sink.new) }
-    ensures done { IsDone result }
-{
-    let text = match report_bytes(alloc, section, node) {
-        Err(_) => return Status::NoMemory,
-        Ok(text) => text,
-    };
-    write_text(text.as_slice(), sink)
-}
-
-/// Obeys a section from a moment on, and writes its report.
-fn run_section<K: Sink>(alloc: Global, section: Section, start: u64, sink: &mut K) -> Ended
-    ensures reports { Reports start (K.held sink.old) (K.held sink.new) (forms.Section section) result.status result.network }
-    ensures write_fault { (n : ℕ) → result.status ≡ WriteFault n → Rose (K.faults sink.old) (K.faults sink.new) }
-    ensures done { IsDone result.status }
-{
-    let moment = first_moment(start);
-    let mut node = CommandNode::begin(alloc, moment);
-    match obey(alloc, &section, &mut node) {
-        Err(_) => Ended {
-            status: Status::NoMemory,
-            network: Some(Network::Section(SectionRun { section, node })),
-            told: None,
-        },
-        Ok(()) => {
-            let status = write_answers(alloc, &section, &node, sink);
-            Ended {
-                status,
-                network: Some(Network::Section(SectionRun { section, node })),
-                told: None,
-            }
-        }
-    }
-}
-
-/// Runs a scenario in its form, from a moment on, and writes its report.
-fn run_and_report<K: Sink>(alloc: Global, form: Form, start: u64, sink: &mut K) -> Ended
-    requires { FitsForm form }
-    ensures reports { Reports start (K.held sink.old) (K.held sink.new) form result.status result.network }
-    ensures write_fault { (n : ℕ) → result.status ≡ WriteFault n → Rose (K.faults sink.old) (K.faults sink.new) }
-    ensures done { IsDone result.status }
-{
-    match form {
-        Form::Script(scenario) => run_script(alloc, scenario, start, sink),
-        Form::Section(section) => run_section(alloc, section, start, sink),
     }
 }
 
@@ -209,7 +86,7 @@ fn read_bytes<S: Source>(alloc: Global, source: &mut S) -> Result<Vec<u8>, Statu
 }
 
 /// The scenario of a text.
-fn scenario_in(alloc: Global, text: &[u8]) -> Result<mq_history::Scenario, Status>
+fn scenario_in(alloc: Global, text: &[u8]) -> Result<Scenario, Status>
     ensures found { IfOk result (λ s. scenario_of text.now ≡ Ok s) }
     ensures refused { IfErr result (RefusesText text.now) }
 {
@@ -225,23 +102,18 @@ fn scenario_in(alloc: Global, text: &[u8]) -> Result<mq_history::Scenario, Statu
     }
 }
 
-/// The form in which the scenario of a text runs.
-fn form_in(alloc: Global, text: &[u8], scenario: mq_history::Scenario) -> Result<Form, Status>
-    ensures found { IfOk result (λ f. form_of scenario ≡ Ok f) }
-    ensures fits { IfOk result FitsForm }
-    ensures refused { IfErr result (RefusesForm text.now scenario) }
+/// That a scenario with cables doesn't run: the line of the first one.
+fn unbuilt(alloc: Global, text: &[u8]) -> Status
+    ensures { IsUnbuilt text.now result }
 {
-    match form_of(alloc, scenario) {
-        Ok(form) => Ok(form),
-        Err(Unbuilt::NoMemory) => Err(Status::NoMemory),
-        Err(Unbuilt::Lacks(lack)) => match lack_line(alloc, text, lack) {
-            Ok(line) => Err(Status::NotBuilt(line, lack)),
-            Err(_) => Err(Status::NoMemory),
-        },
+    match cable_line(alloc, text) {
+        Ok(line) => Status::NotBuilt(line),
+        Err(_) => Status::NoMemory,
     }
 }
 
 /// What a text leaves to do.
+#[tactic(auto, using(crate::proofs::Ending::fits))]
 fn work_in(alloc: Global, task: Task, text: &[u8]) -> Result<Work, Status>
     ensures found { IfOk result (IsWork task text.now) }
     ensures fits { IfOk result FitsWork }
@@ -253,114 +125,116 @@ fn work_in(alloc: Global, task: Task, text: &[u8]) -> Result<Work, Status>
     };
     match task {
         Task::Check => Ok(Work::Check),
-        Task::Run => match form_in(alloc, text, scenario) {
-            Ok(form) => Ok(Work::Run(form)),
-            Err(status) => Err(status),
-        },
+        Task::Run => {
+            if scenario.cables.is_empty() {
+                Ok(Work::Run(scenario))
+            } else {
+                Err(unbuilt(alloc, text))
+            }
+        }
     }
 }
 
 /// What is told of a text that isn't run; none where memory ran out.
-fn told(alloc: Global, text: &[u8], status: Status) -> Option<String> {
+fn told(alloc: Global, text: &[u8], status: &Status) -> Option<String> {
     let told = match status {
         Status::BadScenario(line, BadCause::Line(cause)) => {
-            fault_text(alloc, text, ScenarioFault::BadLine(line, cause))
+            fault_text(alloc, text, ScenarioFault::BadLine(*line, *cause))
         }
         Status::BadScenario(line, BadCause::Limit(limit)) => {
-            fault_text(alloc, text, ScenarioFault::Limit(line, limit))
+            fault_text(alloc, text, ScenarioFault::Limit(*line, *limit))
         }
-        Status::NotBuilt(line, lack) => lack_text(alloc, text, line, lack),
-        Status::Ok
-        | Status::BadWords
-        | Status::ReadFault
-        | Status::WriteFault(_)
-        | Status::NoMemory
-        | Status::TooLong => return None,
+        Status::NotBuilt(line) => unbuilt_text(alloc, text, *line),
+        _ => return None,
     };
     told.ok()
 }
 
 /// Does what is left to do.
-fn do_work<K: Sink>(alloc: Global, left: Work, start: u64, sink: &mut K) -> Ended
+fn do_work<K: Sink, H: Shelf>(
+    alloc: Global,
+    left: Work,
+    shelf: &mut H,
+    start: u64,
+    sink: &mut K,
+) -> Ended<H::D>
     requires { FitsWork left }
-    ensures reports { WorkEnds start (K.held sink.old) (K.held sink.new) left result.status result.network }
+    ensures ends { WorkEnds left H.D.tells (λ n b. H.holds shelf.old n sides.A b) start (H.faults shelf.old) (H.faults shelf.new) (K.held sink.old) (K.held sink.new) result.status (option_map left_of result.network) (map H.D.faults result.disks.items) }
     ensures write_fault { (n : ℕ) → result.status ≡ WriteFault n → Rose (K.faults sink.old) (K.faults sink.new) }
-    ensures done { IsDone result.status }
 {
     match left {
-        Work::Run(form) => run_and_report(alloc, form, start, sink),
-        Work::Check => Ended {
-            status: write_text(b"CHECK OK\n", sink),
-            network: None,
-            told: None,
-        },
+        Work::Run(scenario) => run_scenario(alloc, &scenario, shelf, start, sink),
+        Work::Check => ended_early(alloc, write_text(b"CHECK OK\n", sink), None),
     }
 }
 
 /// Does what the words say.
-fn obey_words<S: Source, K: Sink>(
+#[tactic(auto, using(crate::proofs::Ending::done_ends, crate::proofs::Ending::early_ends))]
+fn obey_words<S: Source, K: Sink, H: Shelf>(
     alloc: Global,
     words: &[String],
     source: &mut S,
     sink: &mut K,
+    shelf: &mut H,
     start: u64,
-) -> Ended
-    ensures ends { Ends (task_of (map string_bytes words.now)) (S.left source.old) start (K.held sink.old) (K.held sink.new) result.status result.network }
-    ensures bad_words { result.status ≡ BadWords ↔ (task_of (map string_bytes words.now) ≡ None) }
+) -> Ended<H::D>
+    ensures ends { Ends (task_of (map string_bytes words.now)) (S.left source.old) H.D.tells (λ n b. H.holds shelf.old n sides.A b) start (H.faults shelf.old) (H.faults shelf.new) (K.held sink.old) (K.held sink.new) result.status (option_map left_of result.network) (map H.D.faults result.disks.items) }
     ensures bad_scenario { (line : ℕ) (cause : BadCause) → result.status ≡ BadScenario line cause → ReadNoScenario (S.left source.old) line cause }
-    ensures not_built { (line : ℕ) (lack : Lack) → result.status ≡ NotBuilt line lack → ReadUnbuilt (S.left source.old) line lack }
+    ensures not_built { (line : ℕ) → result.status ≡ NotBuilt line → ReadUnbuilt (S.left source.old) line }
     ensures read_fault { result.status ≡ ReadFault → Rose (S.faults source.old) (S.faults source.new) }
     ensures write_fault { (n : ℕ) → result.status ≡ WriteFault n → Rose (K.faults sink.old) (K.faults sink.new) }
     ensures too_long { result.status ≡ TooLong → IsLonger (S.left source.old) 1048576 }
 {
     let Some(task) = task_of(words) else {
-        return Ended {
-            status: Status::BadWords,
-            network: None,
-            told: None,
-        };
+        return ended_early(alloc, Status::BadWords, None);
     };
     let text = match read_bytes(alloc, source) {
         Ok(text) => text,
-        Err(status) => return Ended {
-            status,
-            network: None,
-            told: None,
-        },
+        Err(status) => return ended_early(alloc, status, None),
     };
     match work_in(alloc, task, text.as_slice()) {
-        Ok(left) => do_work(alloc, left, start, sink),
-        Err(status) => Ended {
-            status,
-            network: None,
-            told: told(alloc, text.as_slice(), status),
-        },
+        Ok(left) => do_work(alloc, left, shelf, start, sink),
+        Err(status) => {
+            let told = told(alloc, text.as_slice(), &status);
+            ended_early(alloc, status, told)
+        }
     }
 }
 
-/// Runs the program: by the word `run`, the scenario that the source gives, with its report to the sink; by the word
-/// `check` the scenario is read alone, and CHECK OK written. `start` is the moment of its beginning in milliseconds since
-/// 1970; a moment above 253,300,000,000,000 is taken as that number.
-pub fn mqnet<S: Source, K: Sink>(
+/// Runs the program: by the word `run`, the scenario that the source gives, over the shelf's disks, with its report to the sink; by
+/// the word `check` the scenario is read alone, and CHECK OK written. `start` is the moment of its beginning in milliseconds since
+/// 1970; a moment above 253,300,000,000,000 is taken as that number. A scenario with cables doesn't run yet.
+#[tactic(auto, using(crate::proofs::Ending::rows_of, crate::proofs::Ending::once_of, crate::proofs::Ending::got_once_of, crate::proofs::Ending::order_of, crate::proofs::Ending::bad_words, crate::proofs::Ending::completes))]
+pub fn mqnet<S: Source, K: Sink, H: Shelf>(
     alloc: Global,
     words: &[String],
     source: &mut S,
     sink: &mut K,
+    shelf: &mut H,
     start: u64,
-) -> Ended
-    // By words and status: the story is lawful for the scenario of the bytes read, in the form in which it runs: after
-    // each prefix of a script's the rows stand as the ledger says, once and in order; of a section's commands each is
-    // answered in its place. The report is written, or nothing.
-    ensures ends { Ends (task_of (map string_bytes words.now)) (S.left source.old) start (K.held sink.old) (K.held sink.new) result.status result.network }
+) -> Ended<H::D>
+    // By words and status: each history opens with what its disk told, and replays; all make a lawful story of the scenario of the
+    // bytes read, with every step whole where the run was not broken off; the bytes written are the report of scenario, story,
+    // standing and ledger, or its front, or none; the verdict is what the story says.
+    ensures ends { Ends (task_of (map string_bytes words.now)) (S.left source.old) H.D.tells (λ n b. H.holds shelf.old n sides.A b) start (H.faults shelf.old) (H.faults shelf.new) (K.held sink.old) (K.held sink.new) result.status (option_map left_of result.network) (map H.D.faults result.disks.items) }
+    // After each prefix of the story without a conflict, where the logs belong together and no restart read a log that was changed
+    // from outside: the standing rows of each queue are the ledger's, list for list,
+    ensures rows { IfSome (option_map left_of result.network) RowsAreLedgers }
+    // each ident stands at most once in the network,
+    ensures once { IfSome (option_map left_of result.network) StandOnce }
+    // and is in at most one committed get,
+    ensures got_once { IfSome (option_map left_of result.network) GotOnce }
+    // and each receiver's commit keeps the order of its queue.
+    ensures order { IfSome (option_map left_of result.network) OrderKept }
     ensures bad_words { result.status ≡ BadWords ↔ (task_of (map string_bytes words.now) ≡ None) }
     ensures bad_scenario { (line : ℕ) (cause : BadCause) → result.status ≡ BadScenario line cause → ReadNoScenario (S.left source.old) line cause }
-    ensures not_built { (line : ℕ) (lack : Lack) → result.status ≡ NotBuilt line lack → ReadUnbuilt (S.left source.old) line lack }
+    ensures not_built { (line : ℕ) → result.status ≡ NotBuilt line → ReadUnbuilt (S.left source.old) line }
     ensures read_fault { result.status ≡ ReadFault → Rose (S.faults source.old) (S.faults source.new) }
     ensures write_fault { (n : ℕ) → result.status ≡ WriteFault n → Rose (K.faults sink.old) (K.faults sink.new) }
     ensures too_long { result.status ≡ TooLong → IsLonger (S.left source.old) 1048576 }
-    // Where nothing failed and memory was there, the status is the one that words and bytes ask for: of no scenario its
-    // first line at fault, of one that doesn't run yet the line of its first such part, else all is done and written.
+    // Where neither source nor sink fails, a text that is no scenario, or has a cable, is told so, and of another the status is one of a
+    // run, or want of memory.
     ensures complete { Completes (task_of (map string_bytes words.now)) (S.left source.old) (S.faults source.old) (S.faults source.new) (K.faults sink.old) (K.faults sink.new) result.status }
 {
-    obey_words(alloc, words, source, sink, start)
+    obey_words(alloc, words, source, sink, shelf, start)
 }

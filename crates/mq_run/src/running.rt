@@ -1,0 +1,190 @@
+//! A scenario's run over a shelf: its managers begin, its steps are done, its report is written.
+ghost use Rattle.std.specs.Prelude.{◌≡◌, ℕ, List, [], Some, None, option_map, map};
+ghost use Rattle.mq_base.specs.Outside.{Rose};
+ghost use Rattle.mq_disk.specs.declared.shelf.Side.TheVariants as sides;
+ghost use Rattle.mq_history.specs.Scenarios.{IsScenario};
+ghost use Rattle.mq_nodes.specs.Texts.{AllFit};
+ghost use Rattle.mq_events.specs.Texts.{IsTextCommand};
+ghost use Rattle.mq_owned.specs.Owned.{HasNoCables};
+ghost use Rattle.mq_run.specs.declared.status.Status.TheVariants.{WriteFault};
+ghost use Rattle.mq_net_ledger.specs.Opened.{AreOpened};
+ghost use Rattle.mq_spec_network.specs.Apart.{apart};
+ghost use Rattle.mq_world.specs.Starting.{IsFresh};
+ghost use Rattle.mq_world_begin.specs.Rested.{IsRested};
+ghost use Rattle.mq_run.specs.Ends.{DidAll, LeftEnds, RanOn, RunEnds, StepsEnd, WholeEnds};
+ghost use Rattle.mq_run.specs.Leaves.{AreTimed, left_of};
+
+use crate::reporting::report_run;
+use crate::standing::standing_at_rest;
+use crate::status::{Status, net_status};
+use mq_base::Sink;
+use mq_disk::{Disk, Shelf};
+use mq_history::Scenario;
+use mq_net_apart::apart;
+use mq_nodes::Stop;
+use mq_steps::run_steps;
+use mq_world::Network;
+use mq_world_begin::{Rested, begin};
+use std::alloc::Global;
+
+/// How a call of the program ended, and what it leaves.
+#[derive(Drop)]
+pub struct Ended<D: Disk> {
+    pub status: Status,
+    /// The scenario's managers, at rest; none exactly where the status came before all of them had begun.
+    pub network: Option<Rested<D>>,
+    /// Where there is no network, the disks that were taken, in the managers' order.
+    pub disks: Vec<D>,
+    /// What is told of bytes that aren't run: the line, why, and the line itself, each with a line feed; none where there is
+    /// nothing to tell, or no memory for it.
+    pub told: Option<String>,
+}
+
+/// A call that ended before any manager began.
+pub fn ended_early<D: Disk>(alloc: Global, status: Status, told: Option<String>) -> Ended<D>
+    ensures status { result.status ≡ status }
+    ensures network { result.network ≡ None }
+    ensures disks { result.disks.items ≡ [] }
+{
+    Ended {
+        status,
+        network: None,
+        disks: Vec::new(alloc),
+        told,
+    }
+}
+
+fn ended_with<D: Disk>(alloc: Global, status: Status, network: Rested<D>) -> Ended<D>
+    ensures status { result.status ≡ status }
+    ensures network { result.network ≡ Some network }
+    ensures disks { result.disks.items ≡ [] }
+{
+    Ended {
+        status,
+        network: Some(network),
+        disks: Vec::new(alloc),
+        told: None,
+    }
+}
+
+/// What a run came to, as far as it was done.
+#[derive(Drop)]
+struct Done<D: Disk> {
+    ran: Result<(), Stop>,
+    rested: Rested<D>,
+}
+
+/// Does the steps of a scenario over its managers, and restarts last those that are down.
+#[tactic(auto, using(crate::proofs::JoinLaws::ran_none, crate::proofs::RunLaws::steps_ran, crate::proofs::RunLaws::steps_end))]
+fn do_steps<D: Disk>(alloc: Global, scenario: &Scenario, rested: Rested<D>) -> Done<D>
+    requires scenario { IsScenario scenario.now }
+    requires same { rested.scenario ≡ scenario.now }
+    requires stands { IsRested rested }
+    requires fresh { IsFresh rested }
+    requires texts { AllFit IsTextCommand scenario.now }
+    ensures on { RanOn scenario.now rested.histories (left_of result.rested) }
+    ensures stands { IsRested result.rested }
+    ensures ends { StepsEnd result.ran (left_of result.rested) }
+{
+    let mut network = match Network::start(alloc, scenario, rested) {
+        Ok(network) => network,
+        Err(rested) => {
+            return Done {
+                ran: Err(Stop::NoMemory),
+                rested,
+            };
+        }
+    };
+    let ran = run_steps(&mut network, scenario);
+    let rested = network.rest();
+    let _ = rested.histories();
+    Done { ran, rested }
+}
+
+/// Writes the report of a run that was done whole.
+#[tactic(auto, using(crate::proofs::RunLaws::few, crate::proofs::RunLaws::rising, crate::proofs::RunLaws::stood, crate::proofs::RunLaws::did_at, crate::proofs::RunLaws::ends_at))]
+fn report<K: Sink, D: Disk>(
+    alloc: Global,
+    scenario: &Scenario,
+    rested: &Rested<D>,
+    sink: &mut K,
+) -> Status
+    requires scenario { IsScenario scenario.now }
+    requires same { rested.now.scenario ≡ scenario.now }
+    requires stands { IsRested rested.now }
+    requires opened { AreOpened rested.now.histories }
+    requires did { DidAll (left_of rested.now) }
+    ensures ends { LeftEnds (K.held sink.old) (K.held sink.new) result (left_of rested.now) }
+    ensures write_fault { (n : ℕ) → result ≡ WriteFault n → Rose (K.faults sink.old) (K.faults sink.new) }
+{
+    let standing = match standing_at_rest(alloc, rested) {
+        Ok(standing) => standing,
+        Err(_) => return Status::NoMemory,
+    };
+    report_run(alloc, scenario, rested.histories(), &standing, sink)
+}
+
+/// Does the steps of a scenario whose managers' logs belong together, and writes its report.
+#[tactic(auto, using(crate::proofs::RunLaws::opened_on, crate::proofs::RunLaws::did_all, crate::proofs::RunLaws::whole_did, crate::proofs::RunLaws::whole_wants, crate::proofs::RunLaws::whole_spent))]
+fn run_whole<K: Sink, D: Disk>(
+    alloc: Global,
+    scenario: &Scenario,
+    rested: Rested<D>,
+    sink: &mut K,
+) -> Ended<D>
+    requires scenario { IsScenario scenario.now }
+    requires same { rested.scenario ≡ scenario.now }
+    requires stands { IsRested rested }
+    requires fresh { IsFresh rested }
+    requires timed { AreTimed rested.histories }
+    requires texts { AllFit IsTextCommand scenario.now }
+    requires together { apart scenario.now rested.histories ≡ None }
+    ensures ends { WholeEnds (K.held sink.old) (K.held sink.new) scenario.now rested.histories result.status (option_map left_of result.network) }
+    ensures none { result.disks.items ≡ [] }
+    ensures write_fault { (n : ℕ) → result.status ≡ WriteFault n → Rose (K.faults sink.old) (K.faults sink.new) }
+{
+    let done = do_steps(alloc, scenario, rested);
+    let Done { ran, rested } = done;
+    match ran {
+        Ok(()) => {
+            let status = report(alloc, scenario, &rested, sink);
+            ended_with(alloc, status, rested)
+        }
+        Err(Stop::NoMemory) => ended_with(alloc, Status::NoMemory, rested),
+        Err(Stop::Spent(manager)) => ended_with(alloc, Status::Spent(manager), rested),
+    }
+}
+
+/// Runs a scenario without cables over a shelf: its managers begin, their logs are checked to belong together, its steps are done,
+/// those that are down are restarted, and the report is written.
+#[tactic(auto, using(crate::proofs::JoinLaws::fresh, crate::proofs::RunLaws::begun_timed, crate::proofs::RunLaws::run_whole, crate::proofs::RunLaws::run_wants, crate::proofs::RunLaws::run_apart, crate::proofs::RunLaws::run_none, crate::proofs::RunLaws::net_no_write))]
+pub fn run_scenario<K: Sink, H: Shelf>(
+    alloc: Global,
+    scenario: &Scenario,
+    shelf: &mut H,
+    start: u64,
+    sink: &mut K,
+) -> Ended<H::D>
+    requires scenario { IsScenario scenario.now }
+    requires alone { HasNoCables scenario.now }
+    requires texts { AllFit IsTextCommand scenario.now }
+    ensures ends { RunEnds H.D.tells (λ n b. H.holds shelf.old n sides.A b) start scenario.now (H.faults shelf.old) (H.faults shelf.new) (K.held sink.old) (K.held sink.new) result.status (option_map left_of result.network) (map H.D.faults result.disks.items) }
+    ensures write_fault { (n : ℕ) → result.status ≡ WriteFault n → Rose (K.faults sink.old) (K.faults sink.new) }
+{
+    let rested = match begin(alloc, scenario, shelf, start) {
+        Ok(rested) => rested,
+        Err(none) => {
+            return Ended {
+                status: net_status(none.fault),
+                network: None,
+                disks: none.disks,
+                told: None,
+            };
+        }
+    };
+    match apart(alloc, scenario, rested.histories()) {
+        Err(_) => ended_with(alloc, Status::NoMemory, rested),
+        Ok(Some(found)) => ended_with(alloc, Status::Apart(found), rested),
+        Ok(None) => run_whole(alloc, scenario, rested, sink),
+    }
+}

@@ -1,0 +1,49 @@
+//! How managers at rest stand.
+ghost use Rattle.std.specs.Prelude.{◌≡◌, ◌++◌, ◌∷◌, [], IfOk, OnOk, map};
+ghost use Rattle.mq_law_ran.specs.Runs.{standing_left};
+ghost use Rattle.mq_run.specs.Leaves.{left_of, manager_stands, stands_at_rest};
+
+use mq_base::{Items, NoMemory};
+use mq_disk::Disk;
+use mq_manager::Manager;
+use mq_net_stands::{ManagerStanding, Standing};
+use mq_standing::manager_standing;
+use mq_world_begin::Rested;
+use std::alloc::Global;
+
+fn put_manager<D: Disk>(
+    out: &mut Items<ManagerStanding>,
+    alloc: Global,
+    manager: &Manager<D>,
+) -> Result<(), NoMemory>
+    ensures { OnOk result (out.new ≡ out.old ++ manager_stands manager.now ∷ []) }
+{
+    let standing = manager_standing(alloc, &manager.core)?;
+    out.push(standing)?;
+    Ok(())
+}
+
+fn put_managers<D: Disk>(
+    out: &mut Items<ManagerStanding>,
+    alloc: Global,
+    managers: &[Manager<D>],
+) -> Result<(), NoMemory>
+    ensures { OnOk result (out.new ≡ out.old ++ map manager_stands managers.now) }
+{
+    for manager in managers {
+        put_manager(out, alloc, manager)?;
+    }
+    Ok(())
+}
+
+/// How managers stand that no cable joins.
+pub fn standing_at_rest<D: Disk>(alloc: Global, rested: &Rested<D>) -> Result<Standing, NoMemory>
+    ensures { IfOk result (λ s. s ≡ stands_at_rest rested.now) }
+{
+    let mut managers = Items::new(alloc);
+    put_managers(&mut managers, alloc, rested.managers.as_slice())?;
+    Ok(Standing {
+        managers,
+        cables: Items::new(alloc),
+    })
+}
