@@ -122,7 +122,7 @@ fn cases() -> [Case; 14] {
             ..plain("run", PUT_THAT_LASTS, 5, Some("STATUS 5\n"))
         },
         Case {
-            log: b"no log",
+            log: b"\xa5\0",
             ..plain("run", PUT_AND_GET, 9, None)
         },
     ]
