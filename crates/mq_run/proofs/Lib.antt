@@ -1,3 +1,4 @@
 pub mod EndLaws
 pub mod JoinLaws
 pub mod RunLaws
+pub mod Promising

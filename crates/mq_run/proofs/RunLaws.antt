@@ -35,7 +35,6 @@ use Rattle.mq_world_begin.specs.Rested.{Began, IsRested, RestState}
 use Rattle.mq_begin.specs.Begun.{Held, NotBegan, moment_or}
 use Rattle.mq_begin.specs.declared.faults.NetFault.{NetFault}
 use Rattle.mq_begin.specs.declared.faults.NetFault.TheVariants as faults
-use Rattle.mq_law_one.specs.Alone.{IsAlone}
 use Rattle.mq_law_ran.specs.Runs.{AreHistories, AreOpenings, BeginsAs, Left, standing_left}
 use Rattle.mq_law_ran.proofs.Keeping.{begins_as, same_apart, same_begun, same_scenario}
 use Rattle.mq_law_ran.proofs.Lawfuls as lawfuls
@@ -45,7 +44,7 @@ use Rattle.mq_story.specs.Spots.{AreRising}
 
 -- The run, with the histories that it had and has.
 pub record Run (s : Scenario) (gs hs : List History) (w0 w1 : ℕ → Option ℕ) : Type 0 where
-  pub alone : IsAlone s
+  pub alone : s.cables ≡ []
   pub before : AreHistories s gs
   pub now : AreHistories s hs
   pub undone : (m : ℕ) → entries_at gs m ≡ []

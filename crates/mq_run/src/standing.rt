@@ -4,8 +4,8 @@ ghost use Rattle.mq_law_ran.specs.Runs.{standing_left};
 ghost use Rattle.mq_run.specs.Leaves.{left_of, manager_stands, stands_at_rest};
 
 use mq_base::{Items, NoMemory};
+use mq_core::Core;
 use mq_disk::Disk;
-use mq_manager::Manager;
 use mq_net_stands::{ManagerStanding, Standing};
 use mq_standing::manager_standing;
 use mq_world_begin::Rested;
@@ -14,25 +14,12 @@ use std::alloc::Global;
 fn put_manager<D: Disk>(
     out: &mut Items<ManagerStanding>,
     alloc: Global,
-    manager: &Manager<D>,
+    core: &Core<D>,
 ) -> Result<(), NoMemory>
-    ensures { OnOk result (out.new ≡ out.old ++ manager_stands manager.now ∷ []) }
+    ensures { OnOk result (out.new ≡ out.old ++ manager_stands core.now ∷ []) }
 {
-    let standing = manager_standing(alloc, &manager.core)?;
+    let standing = manager_standing(alloc, core)?;
     out.push(standing)?;
-    Ok(())
-}
-
-fn put_managers<D: Disk>(
-    out: &mut Items<ManagerStanding>,
-    alloc: Global,
-    managers: &[Manager<D>],
-) -> Result<(), NoMemory>
-    ensures { OnOk result (out.new ≡ out.old ++ map manager_stands managers.now) }
-{
-    for manager in managers {
-        put_manager(out, alloc, manager)?;
-    }
     Ok(())
 }
 
@@ -41,7 +28,9 @@ pub fn standing_at_rest<D: Disk>(alloc: Global, rested: &Rested<D>) -> Result<St
     ensures { IfOk result (λ s. s ≡ stands_at_rest rested.now) }
 {
     let mut managers = Items::new(alloc);
-    put_managers(&mut managers, alloc, rested.managers.as_slice())?;
+    for manager in rested.managers.as_slice() {
+        put_manager(&mut managers, alloc, &manager.core)?;
+    }
     Ok(Standing {
         managers,
         cables: Items::new(alloc),

@@ -19,18 +19,16 @@ use Rattle.mq_law_commands.proofs.Commanding.{texts_written}
 use Rattle.mq_law_scenario.proofs.Either.{text_found}
 use Rattle.mq_law_scenario.proofs.Kept.{text_kept}
 use Rattle.mq_nodes.specs.Texts.{AllFit, LineFits, StepFits}
-use Rattle.mq_events.specs.Texts.{IsTextCommand}
 use Rattle.mq_sc_parse.specs.declared.command.Command.{Command}
 use Rattle.mq_sc_parse.specs.declared.command.Command.TheVariants as commands
 use Rattle.mq_hints.specs.Cables.{cable_line}
 use Rattle.mq_scn_text.specs.Reading.{scenario_of}
-use Rattle.mq_law_ran.specs.Runs.{Left}
-use Rattle.mq_law_ran.specs.Promises.{GotOnce, OrderKept, RowsAreLedgers, StandOnce}
-use Rattle.mq_law_ran.proofs.Lawfuls as lawfuls
 use Rattle.mq_run.specs.declared.status.BadCause.{BadCause}
 use Rattle.mq_run.specs.declared.status.Status.{Status}
 use Rattle.mq_run.specs.declared.status.Status.TheVariants as status
 use Rattle.mq_run.specs.Ends.{LeftEnds, NoneEnds, RunEnds, RunLeaves}
+use Rattle.mq_run.specs.Words.{GotOnce, IsTextCommand, Left, OrderKept, RowsAreLedgers, StandOnce}
+use Rattle.mq_run.proofs.Promising as promising
 use Rattle.mqnet.specs.declared.top.Task.{Task}
 use Rattle.mqnet.specs.declared.top.Task.TheVariants as tasks
 use Rattle.mqnet.specs.declared.top.Work.{Work}
@@ -178,37 +176,25 @@ promised_of P (Some tasks.Check) left tells held start before now old new st net
 is_scenario : (left : Option (List ℕ)) (s : Scenario) → IsRead left s → IsScenario s
 is_scenario left s r = text_kept r.bytes s (text_found r.bytes s r.text)
 
--- what the law asks of a run, of its scenario
-pub record Given (l : Left) : Type 0 where
-  pub scenario : IsScenario l.scenario
-  pub alone : l.scenario.cables ≡ []
-
-given_of : (left : Option (List ℕ)) (tells : Type 0) (held : List ℕ → List ℕ → Type 0) (start : ℕ) (counts : List ℕ) (l : Left) (s : Scenario) → IsRead left s → s.cables ≡ [] → RunLeaves tells held start s counts l → Given l
-given_of left tells held start counts l s r none h = record { scenario = subst IsScenario (sym h.scenario) (is_scenario left s r); alone = ap (λ (x : Scenario). x.cables) h.scenario ∙ none }
-
 pub rows_of : (asked : Option Task) (left : Option (List ℕ)) (tells : Type 0) (held : List ℕ → List ℕ → Type 0) (start before now : ℕ) (old new : Option (List ℕ)) (st : Status) (net : Option Left) (counts : List ℕ)
     → Ends asked left tells held start before now old new st net counts → IfSome net RowsAreLedgers
 rows_of asked left tells held start before now old new st net counts e = promised_of RowsAreLedgers asked left tells held start before now old new st net counts
-    (λ l s r none h. let g : Given l = given_of left tells held start counts l s r none h in
-    lawfuls.rows_are l g.scenario g.alone (lawfuls.images tells held start l h.histories h.openings) (lawfuls.known tells held start l h.histories h.openings) h.lawful) e
+    (λ l s r none h. promising.rows tells held start s counts l (is_scenario left s r) none h) e
 
 pub once_of : (asked : Option Task) (left : Option (List ℕ)) (tells : Type 0) (held : List ℕ → List ℕ → Type 0) (start before now : ℕ) (old new : Option (List ℕ)) (st : Status) (net : Option Left) (counts : List ℕ)
     → Ends asked left tells held start before now old new st net counts → IfSome net StandOnce
 once_of asked left tells held start before now old new st net counts e = promised_of StandOnce asked left tells held start before now old new st net counts
-    (λ l s r none h. let g : Given l = given_of left tells held start counts l s r none h in
-    lawfuls.once l g.scenario g.alone (lawfuls.images tells held start l h.histories h.openings) (lawfuls.known tells held start l h.histories h.openings) h.lawful) e
+    (λ l s r none h. promising.once tells held start s counts l (is_scenario left s r) none h) e
 
 pub got_once_of : (asked : Option Task) (left : Option (List ℕ)) (tells : Type 0) (held : List ℕ → List ℕ → Type 0) (start before now : ℕ) (old new : Option (List ℕ)) (st : Status) (net : Option Left) (counts : List ℕ)
     → Ends asked left tells held start before now old new st net counts → IfSome net GotOnce
 got_once_of asked left tells held start before now old new st net counts e = promised_of GotOnce asked left tells held start before now old new st net counts
-    (λ l s r none h. let g : Given l = given_of left tells held start counts l s r none h in
-    lawfuls.got_once l g.scenario g.alone (lawfuls.images tells held start l h.histories h.openings) (lawfuls.known tells held start l h.histories h.openings) h.lawful) e
+    (λ l s r none h. promising.got_once tells held start s counts l (is_scenario left s r) none h) e
 
 pub order_of : (asked : Option Task) (left : Option (List ℕ)) (tells : Type 0) (held : List ℕ → List ℕ → Type 0) (start before now : ℕ) (old new : Option (List ℕ)) (st : Status) (net : Option Left) (counts : List ℕ)
     → Ends asked left tells held start before now old new st net counts → IfSome net OrderKept
 order_of asked left tells held start before now old new st net counts e = promised_of OrderKept asked left tells held start before now old new st net counts
-    (λ l s r none h. let g : Given l = given_of left tells held start counts l s r none h in
-    lawfuls.order l g.scenario g.alone (lawfuls.images tells held start l h.histories h.openings) (lawfuls.known tells held start l h.histories h.openings) h.lawful) e
+    (λ l s r none h. promising.order tells held start s counts l (is_scenario left s r) none h) e
 
 -- ---- completeness
 

@@ -6,11 +6,11 @@ use Rattle.mq_history.specs.declared.scenario.Scenario.{Scenario}
 use Rattle.mq_scn_text.specs.declared.fault.ScenarioFault.{ScenarioFault}
 use Rattle.mq_scn_text.specs.Reading.{scenario_of}
 use Rattle.mq_hints.specs.Cables.{cable_line}
-use Rattle.mq_law_ran.specs.Runs.{Left}
 use Rattle.mq_run.specs.declared.status.BadCause.{BadCause}
 use Rattle.mq_run.specs.declared.status.Status.{Status}
 use Rattle.mq_run.specs.declared.status.Status.TheVariants as status
 use Rattle.mq_run.specs.Ends.{RunEnds, WroteFront}
+use Rattle.mq_run.specs.Words.{Left}
 use Rattle.mqnet.specs.declared.top.Task.{Task}
 use Rattle.mqnet.specs.declared.top.Task.TheVariants as tasks
 use Rattle.mqnet.specs.Wanted.{fault_status, wanted}

@@ -6,9 +6,8 @@ use Rattle.mq_scn_text.specs.Reading.{scenario_of}
 use Rattle.mq_hints.specs.Cables.{cable_line}
 use Rattle.mq_history.specs.Scenarios.{IsScenario}
 use Rattle.mq_nodes.specs.Texts.{AllFit}
-use Rattle.mq_events.specs.Texts.{IsTextCommand}
-use Rattle.mq_law_ran.specs.Runs.{Left}
 use Rattle.mq_run.specs.Ends.{RunEnds}
+use Rattle.mq_run.specs.Words.{IsTextCommand, Left}
 use Rattle.mq_run.specs.declared.status.Status.{Status}
 use Rattle.mq_run.specs.declared.status.Status.TheVariants as status
 use Rattle.mqnet.specs.declared.top.Task.{Task}
