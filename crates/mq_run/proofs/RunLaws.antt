@@ -117,7 +117,7 @@ steps_ran r s w w1 n0 n1 is rested fresh start rest rests ran steps =
     subst (λ (x : Scenario). RanOn x w.histories (left_of w1)) is
     (subst (RanOn w.scenario w.histories) (left_at w.scenario w1 same)
     (ran_on w.scenario w.histories w1.histories (waits_in n0) (waits_in n1)
-      (the_run r w w1 n0 n1 rested fresh rests same (course_in n0) (first_course w n0 start) (course_in n1) (last_course w w1 n1 rest same) ran (at_scenario w s (course_in n0) (course_in n1) is steps))))
+    (the_run r w w1 n0 n1 rested fresh rests same (course_in n0) (first_course w n0 start) (course_in n1) (last_course w w1 n1 rest same) ran (at_scenario w s (course_in n0) (course_in n1) is steps))))
 
 steps_spent : (w1 : RestState) (n1 : NetState) → w1 ≡ rest_of n1.scenario n1.nodes → (m : ℕ) → is_spent (entries_at (histories_in n1) m) ≡ true → is_spent (entries_at w1.histories m) ≡ true
 steps_spent w1 n1 rest m e = ap (λ (x : RestState). is_spent (entries_at x.histories m)) rest ∙ e
@@ -131,8 +131,8 @@ steps_done w w1 n0 n1 rested fresh start rest rests ran steps all =
     let x = the_run (Ok tt) w w1 n0 n1 rested fresh rests same (course_in n0) (first_course w n0 start) (course_in n1) (last_course w w1 n1 rest same) ran steps in
     subst (λ (s : Scenario). IsDone s w1.histories) (sym same)
     (all w1.histories (subst (λ (c : Course). Has w.scenario w1.histories c (course_in n1)) (sym (first_course w n0 start))
-      (subst (Has w.scenario w1.histories (course_of w.scenario w.histories (waits_in n0))) (sym (last_course w w1 n1 rest same))
-        (has w.scenario w.histories w1.histories (waits_in n0) (waits_in n1) x))))
+    (subst (Has w.scenario w1.histories (course_of w.scenario w.histories (waits_in n0))) (sym (last_course w w1 n1 rest same))
+    (has w.scenario w.histories w1.histories (waits_in n0) (waits_in n1) x))))
 
 pub steps_end : (r : Result (Unit {0}) Stop) (s : Scenario) (w w1 : RestState) (n0 n1 : NetState) → w.scenario ≡ s → IsRested w → IsFresh w → Starts w n0 → w1 ≡ rest_of n1.scenario n1.nodes → IsRested w1 → Ran r (course_in n0) (course_in n1)
     → ((xs : List History) → Has s xs (course_in n0) (course_in n1) → AreSteps s xs)

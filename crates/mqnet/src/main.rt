@@ -34,7 +34,14 @@ fn main(rt: HostRuntime) -> io::Result<ExitCode> {
     let mut sink = StdSink::new(io::writer(&rt));
     let mut shelf = FileShelf::new(&rt);
     let start = moment(&rt);
-    let ended = mqnet(rt.alloc(), &words, &mut source, &mut sink, &mut shelf, start);
+    let ended = mqnet(
+        rt.alloc(),
+        &words,
+        &mut source,
+        &mut sink,
+        &mut shelf,
+        start,
+    );
     let number = ended.status.number();
     if number != 0 {
         eprintln!(rt; "mqnet: status {number}")?;

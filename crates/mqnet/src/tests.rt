@@ -79,7 +79,9 @@ fn cases() -> [Case; 14] {
             "run",
             PUT_THAT_LASTS,
             0,
-            Some("Q1 DEPTH 1\n  1.1.1 PRTY 0 PERSIST YES LEN 5 FREE\nCHANNELS\nLEDGER\nLONDON Q1 1.1.1\nSTATUS 0\n"),
+            Some(
+                "Q1 DEPTH 1\n  1.1.1 PRTY 0 PERSIST YES LEN 5 FREE\nCHANNELS\nLEDGER\nLONDON Q1 1.1.1\nSTATUS 0\n",
+            ),
         ),
         plain("x", PUT_AND_GET, 1, None),
         plain("check", "", 0, Some("CHECK OK\n")),
