@@ -4,6 +4,7 @@ use Rattle.std.specs.Prelude.{OnOk, Option, Some, None, Result, Ok, Err, slice_g
 use Rattle.std.specs.Io.KnownBytes.{Keeps}
 use Rattle.mq_history.specs.declared.history.History.{History}
 use Rattle.mq_history.specs.declared.history.Mark.{Mark}
+use Rattle.mq_history.specs.declared.scenario.CableLine.{CableLine}
 use Rattle.mq_history.specs.declared.scenario.Scenario.{Scenario}
 use Rattle.mq_history.specs.declared.scenario.Step.{Step}
 use Rattle.mq_spec_network.specs.Apart.{apart}
@@ -244,6 +245,10 @@ none_ends tells held start s before now counts faults.NoMemory h = none_left tel
 pub run_none : (tells : Type 0) (held : Held) (start : ℕ) (s : Scenario) (before now : ℕ) (old new : Option (List ℕ)) (counts : List ℕ) (fault : NetFault)
     → NotBegan tells held (moment_or s.moment start) s.managers before now counts fault → Keeps old new → RunEnds tells held start s before now old new (net_status fault) None counts
 run_none tells held start s before now old new counts fault h kept = (none_ends tells held start s before now counts fault h, kept)
+
+-- what the check of its logs asks
+pub no_cables : (s : Scenario) → s.cables ≡ [] → length s.cables ≤ 65536
+no_cables s e = subst (λ (cs : List CableLine). length cs ≤ 65536) (sym e) (omega arith)
 
 -- such a status is no write that failed
 pub net_no_write : {A : Type 0} (fault : NetFault) (n : ℕ) → net_status fault ≡ status.WriteFault n → A
