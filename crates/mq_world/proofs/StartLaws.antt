@@ -102,7 +102,12 @@ drop_first (a ∷ as_) zero x ys e = (first a x ys as_ e, rest a x ys as_ e)
 
     rest : {A : Type 0} (b y : A) (zs bs : List A) → y ∷ zs ≡ b ∷ bs → zs ≡ bs
     rest b y zs bs k = cc
-drop_first (a ∷ as_) (suc i) x ys e = drop_first as_ i x ys e
+drop_first (a ∷ as_) (suc i) x ys e =
+    let h = drop_first as_ i x ys e in
+    (h.0, h.1 ∙ ap (λ (n : ℕ). drop n (a ∷ as_)) (one_up i))
+  where
+    one_up : (n : ℕ) → suc (n + 1) ≡ suc n + 1
+    one_up n = omega arith
 
 pub next_of : {A : Type 0} (all left rest : List A) (i : ℕ) (x : A) → reverse left ≡ drop i all → left ≡ rest ++ x ∷ [] → (slice_get all i ≡ Some x) × (reverse rest ≡ drop (i + 1) all)
 next_of all left rest i x so_far popped = drop_first all i x (reverse rest) (sym (ap reverse popped ∙ reverse-append rest (x ∷ [])) ∙ so_far)
