@@ -37,6 +37,10 @@ long_map f (x ∷ xs) = let h = long_map f xs in omega (arith, h)
 abbrev pub all_marked : Bool → NetState → NetState
 all_marked idle w = record w { nodes = map (marked idle) w.nodes }
 
+-- as a call sees it that changes its nodes
+pub marked_so : {inside w v : NetState} (idle : Bool) (ns : List NodeState) → inside ≡ w → ns ≡ map (marked idle) inside.nodes → v ≡ record inside { nodes = ns } → v ≡ all_marked idle w
+marked_so {inside} idle ns view is same = same ∙ ap (λ (xs : List NodeState). record inside { nodes = xs }) is ∙ ap (all_marked idle) view
+
 -- the course,
 pub marks_lift : (w : NetState) (idle : Bool) → IsNetwork w → course_in (all_marked idle w) ≡ noted idle (course_in w)
 marks_lift w idle h =
