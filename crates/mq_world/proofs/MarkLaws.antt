@@ -30,7 +30,7 @@ map_on : (idle : Bool) (ns : List NodeState) → map history_in (map (marked idl
 map_on idle [] = refl
 map_on idle (n ∷ ns) = ap (λ (hs : List History). with_mark idle n.history ∷ hs) (map_on idle ns)
 
-long_map : {A B : Type 0} (f : A → B) (xs : List A) → length (map f xs) ≡ length xs
+pub long_map : {A B : Type 0} (f : A → B) (xs : List A) → length (map f xs) ≡ length xs
 long_map f [] = refl
 long_map f (x ∷ xs) = let h = long_map f xs in omega (arith, h)
 

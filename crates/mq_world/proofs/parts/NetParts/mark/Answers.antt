@@ -1,7 +1,8 @@
-use Rattle.std.specs.Prelude.{refl, slice_get}
+use Rattle.std.specs.Prelude.{length, refl, slice_get}
 use Rattle.std.proofs.Common.{sym, ap, subst, ◌∙◌}
+use Rattle.mq_events.specs.States.{marked}
 use Rattle.mq_world.specs.Worlds.{IsNetwork, NetState, course_in}
-use Rattle.mq_world.proofs.MarkLaws.{has_room, marked_so, marks_keep, marks_lift}
+use Rattle.mq_world.proofs.MarkLaws.{has_room, long_map, marked_so, marks_keep, marks_lift}
 use Rattle.mq_world.proofs.parts.NetParts.mark.Goals as goal
 
 pub mark_all-requires : goal.mark_all-requires
@@ -16,3 +17,8 @@ pub returns-clause-noted : goal.returns-clause-noted
 returns-clause-noted g c =
     ap course_in (marked_so c.args.idle c.mark_all.new.nodes c.self.view_is c.mark_all.ensures refl)
     ∙ marks_lift c.args.self.now c.args.idle c.requires.kept
+
+pub returns-clause-long : goal.returns-clause-long
+returns-clause-long g c =
+    ap (λ (w : NetState). length w.nodes) (marked_so c.args.idle c.mark_all.new.nodes c.self.view_is c.mark_all.ensures refl)
+    ∙ long_map (marked c.args.idle) c.args.self.now.nodes
