@@ -116,6 +116,11 @@ pub record Asked (w : NetState) (i m : ℕ) (n : NodeState) : Type 0 where
   pub place : i ≡ m
   pub known : slice_get w.nodes i ≡ Some n
 
+-- by the parts that such a call sees
+pub asked : {inside : NetState} {w : NetState} {i m : ℕ} {n : NodeState} → inside ≡ w → IsNetwork w → Ready (course_in w).net → i ≡ m → slice_get inside.nodes i ≡ Some n → Asked w i m n
+asked {inside} {w} {i} {m} {n} view kept ready place known =
+    record { kept = kept; ready = ready; place = place; known = ap (λ (x : NetState). slice_get x.nodes i) (sym view) ∙ known }
+
 pub asked_at : (w : NetState) (i m : ℕ) (n : NodeState) → Asked w i m n → slice_get w.nodes m ≡ Some n
 asked_at w i m n a = subst (λ (j : ℕ). slice_get w.nodes j ≡ Some n) a.place a.known
 

@@ -30,12 +30,16 @@ map_on : (idle : Bool) (ns : List NodeState) → map history_in (map (marked idl
 map_on idle [] = refl
 map_on idle (n ∷ ns) = ap (λ (hs : List History). with_mark idle n.history ∷ hs) (map_on idle ns)
 
-long_map : {A B : Type 0} (f : A → B) (xs : List A) → length (map f xs) ≡ length xs
+pub long_map : {A B : Type 0} (f : A → B) (xs : List A) → length (map f xs) ≡ length xs
 long_map f [] = refl
 long_map f (x ∷ xs) = let h = long_map f xs in omega (arith, h)
 
 abbrev pub all_marked : Bool → NetState → NetState
 all_marked idle w = record w { nodes = map (marked idle) w.nodes }
+
+-- as a call sees it that changes its nodes
+pub marked_so : {inside w v : NetState} (idle : Bool) (ns : List NodeState) → inside ≡ w → ns ≡ map (marked idle) inside.nodes → v ≡ record inside { nodes = ns } → v ≡ all_marked idle w
+marked_so {inside} idle ns view is same = same ∙ ap (λ (xs : List NodeState). record inside { nodes = xs }) is ∙ ap (all_marked idle) view
 
 -- the course,
 pub marks_lift : (w : NetState) (idle : Bool) → IsNetwork w → course_in (all_marked idle w) ≡ noted idle (course_in w)

@@ -1,7 +1,7 @@
 -- A network whose nodes rest.
 use Rattle.std.proofs.Common.{◌≡◌, ℕ, ◌+◌, List, [], ◌∷◌, ◌++◌, length, refl, sym, ap, subst, ◌∙◌, arith, append_assoc}
 use Rattle.std.specs.Prelude.{map, reverse, Option, Some, None, option_map, slice_get}
-use Rattle.std.proofs.lemmas.List.{reverse-append}
+use Rattle.std.proofs.lemmas.List.{reverse-append, reverse-reverse}
 use Rattle.mq_history.specs.declared.history.History.{History}
 use Rattle.mq_spec_node.specs.Words.{Own, Replays, Surroundings, TriggersStand, node_of, opening_node, state_of}
 use Rattle.mq_spec_network.specs.Given.{surroundings}
@@ -11,6 +11,10 @@ use Rattle.mq_world_begin.specs.Rested.{IsRested, IsRestedAt}
 use Rattle.mq_world.specs.Resting.{manager_in, own_in, rest_of}
 use Rattle.mq_world.specs.Worlds.{IsNetwork, IsNodeAt, NetState, history_in}
 use Rattle.mq_world.proofs.ListLaws.{get_map, some_is}
+
+-- none yet
+pub first_moved : {A B : Type 0} (f : A → B) (xs : List B) (left all : List A) → xs ≡ [] → left ≡ reverse all → xs ++ map f (reverse left) ≡ map f all
+first_moved f xs left all none is = ap (λ (zs : List _). zs ++ map f (reverse left)) none ∙ ap (λ (zs : List _). map f (reverse zs)) is ∙ ap (map f) (reverse-reverse all)
 
 -- one taken off the end of a list that is reversed, and put behind the others
 pub moved_on : {A B : Type 0} (f : A → B) (xs ys : List B) (left rest : List A) (x : A) (y : B) (all : List B) → ys ≡ xs ++ y ∷ [] → y ≡ f x → left ≡ rest ++ x ∷ [] → xs ++ map f (reverse left) ≡ all → ys ++ map f (reverse rest) ≡ all

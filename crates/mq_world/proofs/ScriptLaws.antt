@@ -202,6 +202,11 @@ pub record AskedLine (w : NetState) (i j m k : ℕ) (p : ScriptPart) (n : NodeSt
   pub part : slice_get w.scenario.scripts k ≡ Some p
   pub here : p.manager ≡ m
 
+-- by the parts that such a call sees
+pub asked_line : {inside : NetState} {w : NetState} {i j m k : ℕ} {p : ScriptPart} {n : NodeState} {c : progress.Course} → inside ≡ w → Asked w i m n → j ≡ k → slice_get inside.scripts j ≡ Some c → slice_get w.scenario.scripts k ≡ Some p → p.manager ≡ m → AskedLine w i j m k p n c
+asked_line {inside} {w} {i} {j} {m} {k} {p} {n} {c} view a at course part here =
+    record { asked = a; at = at; course = ap (λ (x : NetState). slice_get x.scripts j) (sym view) ∙ course; part = part; here = here }
+
 pub course_at : (w : NetState) (i j m k : ℕ) (p : ScriptPart) (n : NodeState) (c : progress.Course) → AskedLine w i j m k p n c → slice_get w.scripts k ≡ Some c
 course_at w i j m k p n c a = subst (λ (x : ℕ). slice_get w.scripts x ≡ Some c) a.at a.course
 

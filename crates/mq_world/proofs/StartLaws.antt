@@ -1,10 +1,13 @@
 -- A node of which nothing has happened is its manager's, and may act.
 use Rattle.std.proofs.Common.{◌≡◌, ℕ, zero, suc, ◌+◌, ◌≤◌, ◌^◌, ◌||◌, nat_le, Bool, true, false, List, [], ◌∷◌, ◌++◌, length, drop, refl, sym, ap, subst, ◌∙◌, arith}
 use Rattle.std.specs.Prelude.{if◌then◌else◌, All, map, nat_lt, reverse, Option, Some, None, option_map, slice_get}
-use Rattle.std.proofs.lemmas.List.{reverse-append}
+use Rattle.std.proofs.lemmas.List.{reverse-append, reverse-reverse}
+use Rattle.std.proofs.lemmas.List.Elements.{All-take}
+use Rattle.std.proofs.Math.Seq.{take-append_seam}
 use Rattle.std.specs.Str.{bytes_eq}
 use Rattle.mq_calls.specs.declared.image.Shelf.{Shelf}
 use Rattle.mq_history.specs.declared.history.History.{History}
+use Rattle.mq_history.specs.declared.history.Mark.{Mark}
 use Rattle.mq_history.specs.declared.scenario.ManagerLine.{ManagerLine}
 use Rattle.mq_history.specs.declared.scenario.Scenario.{Scenario}
 use Rattle.mq_objects.specs.declared.object.LocalQueue.{LocalQueue}
@@ -99,10 +102,53 @@ drop_first (a ∷ as_) zero x ys e = (first a x ys as_ e, rest a x ys as_ e)
 
     rest : {A : Type 0} (b y : A) (zs bs : List A) → y ∷ zs ≡ b ∷ bs → zs ≡ bs
     rest b y zs bs k = cc
-drop_first (a ∷ as_) (suc i) x ys e = drop_first as_ i x ys e
+drop_first (a ∷ as_) (suc i) x ys e =
+    let h = drop_first as_ i x ys e in
+    (h.0, h.1 ∙ ap (λ (n : ℕ). drop n (a ∷ as_)) (one_up i))
+  where
+    one_up : (n : ℕ) → suc (n + 1) ≡ suc n + 1
+    one_up n = omega arith
 
 pub next_of : {A : Type 0} (all left rest : List A) (i : ℕ) (x : A) → reverse left ≡ drop i all → left ≡ rest ++ x ∷ [] → (slice_get all i ≡ Some x) × (reverse rest ≡ drop (i + 1) all)
 next_of all left rest i x so_far popped = drop_first all i x (reverse rest) (sym (ap reverse popped ∙ reverse-append rest (x ∷ [])) ∙ so_far)
+
+pub first_of : {A : Type 0} (all left : List A) → left ≡ reverse all → reverse left ≡ drop 0 all
+first_of all left is = ap reverse is ∙ reverse-reverse all
+
+-- the last of a list, of each of which something holds
+pub all_front : {A : Type 0} (P : A → Type 0) (xs ys : List A) (x : A) → ys ≡ xs ++ x ∷ [] → All P ys → All P xs × P x
+all_front P xs ys x is all =
+    let there : All P (xs ++ x ∷ []) = subst (λ (zs : List _). All P zs) is all in (
+      subst (λ (zs : List _). All P zs) (take-append_seam xs (x ∷ [])) (All-take P (length xs) (xs ++ x ∷ []) there),
+      at_it P (xs ++ x ∷ []) (length xs) x there (last_there xs x),
+    )
+  where
+    last_there : {A : Type 0} (zs : List A) (z : A) → slice_get (zs ++ z ∷ []) (length zs) ≡ Some z
+    last_there [] z = refl
+    last_there (y ∷ ys) z = last_there ys z
+
+-- What a node begins as.
+abbrev pub made : ℕ → CoreValue → Own → Own → History → List Entry → List Mark → ℕ → ℕ → Bool → NodeState
+made log_max v own first h entries marks room more few = record {
+  given = record { given = record { number = h.number; name = h.name; log_max = log_max }; own = first };
+  history = record h { entries = entries; marks = marks };
+  manager = v;
+  own = own;
+  stamp = 0;
+  few = few;
+  room = room;
+  marks = more;
+}
+
+pub made_so : (log_max : ℕ) (v : CoreValue) (own first : Own) (h : History) (entries : List Entry) (marks : List Mark) (room more : ℕ) (n : NodeState) → h.entries ≡ [] → h.marks ≡ [] → entries ≡ [] → marks ≡ [] → first ≡ own
+    → n ≡ made log_max v own first h entries marks room more n.few → n ≡ begun_state log_max v own h n.room n.marks n.few
+made_so log_max v own first h entries marks room more n undone unmarked none no_marks same is =
+    is
+    ∙ ap (λ (x : Own). made log_max v own x h entries marks room more n.few) same
+    ∙ ap (λ (xs : List Entry). made log_max v own own h xs marks room more n.few) (none ∙ sym undone)
+    ∙ ap (λ (xs : List Mark). made log_max v own own h h.entries xs room more n.few) (no_marks ∙ sym unmarked)
+    ∙ ap (λ (k : ℕ). begun_state log_max v own h k more n.few) (sym (ap (λ (x : NodeState). x.room) is))
+    ∙ ap (λ (k : ℕ). begun_state log_max v own h n.room k n.few) (sym (ap (λ (x : NodeState). x.marks) is))
 
 -- What the type of a network keeps, at its start; and what is seen of it.
 map_is : {A B : Type 0} (f : A → B) (xs : List A) (ys : List B) → length xs ≡ length ys → ((m : ℕ) (x : A) → slice_get xs m ≡ Some x → slice_get ys m ≡ Some (f x)) → map f xs ≡ ys

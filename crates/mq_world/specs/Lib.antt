@@ -4,3 +4,4 @@ pub mod Starting
 pub mod Settling
 pub mod Lines
 pub mod Turning
+pub mod Words

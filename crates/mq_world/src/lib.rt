@@ -12,4 +12,5 @@ mod starting;
 mod turning;
 mod turns;
 
+pub use mq_world_begin::{Rested, begin};
 pub use network::Network;

@@ -88,6 +88,7 @@ impl<D: Disk> NetParts<D> {
         requires there { manager < length self.old.scenario.managers }
         ensures kept { IsNetwork self.new }
         ensures told { Does (Is manager actors.Operator (calls.Act acts.Crash)) result (course_in self.old) (course_in self.new) }
+        ensures long { length self.new.nodes ≡ length self.old.nodes }
     {
         act_on(
             self.nodes.at_mut(usize::from(manager)),
@@ -104,6 +105,7 @@ impl<D: Disk> NetParts<D> {
         requires there { manager < length self.old.scenario.managers }
         ensures kept { IsNetwork self.new }
         ensures told { Does (Is manager actors.Operator (calls.Act (acts.Cut device_calls))) result (course_in self.old) (course_in self.new) }
+        ensures long { length self.new.nodes ≡ length self.old.nodes }
     {
         act_on(
             self.nodes.at_mut(usize::from(manager)),
@@ -121,6 +123,7 @@ impl<D: Disk> NetParts<D> {
         requires text { IsTextCommand command.now }
         ensures kept { IsNetwork self.new }
         ensures told { Does (Is manager actors.Operator (calls.Act (acts.Obey command.now))) result (course_in self.old) (course_in self.new) }
+        ensures long { length self.new.nodes ≡ length self.old.nodes }
     {
         obey_on(
             self.alloc,
@@ -137,6 +140,7 @@ impl<D: Disk> NetParts<D> {
         requires there { manager < length self.old.scenario.managers }
         ensures kept { IsNetwork self.new }
         ensures told { Says (Is manager actors.Operator (calls.Act acts.Restart)) (λ cut e. is_cut e.reply ≡ cut) result (course_in self.old) (course_in self.new) }
+        ensures long { length self.new.nodes ≡ length self.old.nodes }
     {
         restart_on(self.nodes.at_mut(usize::from(manager)), manager)
     }
@@ -149,6 +153,7 @@ impl<D: Disk> NetParts<D> {
         ensures kept { IsNetwork self.new }
         ensures told { Does (Is manager actors.Clock (calls.Act (acts.Clock ms))) result (course_in self.old) (course_in self.new) }
         ensures moment { OnOk result (moment_of (node_at (course_in self.new).net manager) ≡ later (moment_of (node_at (course_in self.old).net manager)) ms) }
+        ensures long { length self.new.nodes ≡ length self.old.nodes }
     {
         clock_on(self.nodes.at_mut(usize::from(manager)), manager, ms)
     }
@@ -161,6 +166,7 @@ impl<D: Disk> NetParts<D> {
         requires manager { part.now.manager < length self.old.scenario.managers }
         ensures kept { IsNetwork self.new }
         ensures told { LineTold script part.now result (course_in self.old) (course_in self.new) }
+        ensures long { length self.new.nodes ≡ length self.old.nodes }
     {
         let place = usize::from(part.manager);
         let at = usize::from(script);
@@ -175,6 +181,7 @@ impl<D: Disk> NetParts<D> {
         requires room { (m : ℕ) → length ((course_in self.old).marks m) < length self.old.scenario.steps }
         ensures kept { IsNetwork self.new }
         ensures noted { course_in self.new ≡ noted idle (course_in self.old) }
+        ensures long { length self.new.nodes ≡ length self.old.nodes }
     {
         mark_all(&mut self.nodes, idle);
     }

@@ -65,6 +65,7 @@ fn begun_node<D: Disk>(
         marks: _,
     } = history;
     let first = Snapshot::of(&own);
+    let entries = Vec::new(alloc);
     Node::new(NodeParts {
         alloc,
         manager,
@@ -78,7 +79,7 @@ fn begun_node<D: Disk>(
             length,
             moment,
         },
-        entries: Vec::new(alloc),
+        entries,
         marks,
         stamp: 0,
         few: false,

@@ -53,6 +53,7 @@ impl<D: Disk> NetParts<D> {
         requires there { rules < length self.old.scenario.rules }
         ensures kept { IsNetwork self.new }
         ensures told { HandlerTold rules result (course_in self.old) (course_in self.new) }
+        ensures long { length self.new.nodes ≡ length self.old.nodes }
     {
         let manager = manager_of(&self.handlers, rules);
         handler_on(self.nodes.at_mut(usize::from(manager)), manager, rules)
@@ -79,6 +80,7 @@ impl<D: Disk> NetParts<D> {
         requires there { monitor < length self.old.scenario.monitors }
         ensures kept { IsNetwork self.new }
         ensures told { TurnTold monitor result (course_in self.old) (course_in self.new) }
+        ensures long { length self.new.nodes ≡ length self.old.nodes }
     {
         let line = line_of(&self.monitors, monitor);
         monitor_on(
@@ -108,6 +110,7 @@ impl<D: Disk> NetParts<D> {
         ensures kept { IsNetwork self.new }
         ensures told { Says (Is line.now.manager (actors.Monitor monitor) (calls.Mqconn [] (script_appl line.now.label))) (λ given e. given ≡ connection_of e.reply) result (course_in self.old) (course_in self.new) }
         ensures same { self.new.scenario ≡ self.old.scenario }
+        ensures long { length self.new.nodes ≡ length self.old.nodes }
     {
         connect_on(
             self.nodes.at_mut(usize::from(line.manager)),
@@ -125,6 +128,7 @@ impl<D: Disk> NetParts<D> {
         ensures kept { IsNetwork self.new }
         ensures told { Says (Is line.now.manager (actors.Monitor monitor) (calls.Mqopen connection line.now.queue [] shared)) (λ opened e. opened ≡ is_opened e.reply) result (course_in self.old) (course_in self.new) }
         ensures same { self.new.scenario ≡ self.old.scenario }
+        ensures long { length self.new.nodes ≡ length self.old.nodes }
     {
         open_on(
             self.nodes.at_mut(usize::from(line.manager)),
@@ -142,6 +146,7 @@ impl<D: Disk> NetParts<D> {
         requires there { manager < length self.old.scenario.managers }
         ensures kept { IsNetwork self.new }
         ensures told { Does (Is manager (actors.Monitor monitor) (calls.Mqdisc connection)) result (course_in self.old) (course_in self.new) }
+        ensures long { length self.new.nodes ≡ length self.old.nodes }
     {
         leave_on(
             self.nodes.at_mut(usize::from(manager)),
@@ -158,6 +163,7 @@ impl<D: Disk> NetParts<D> {
         requires there { monitor < length self.old.scenario.monitors }
         ensures kept { IsNetwork self.new }
         ensures told { Part (watch_by monitor (slice_get self.old.scenario.monitors monitor)) result (course_in self.old) (course_in self.new) }
+        ensures long { length self.new.nodes ≡ length self.old.nodes }
     {
         let line = line_of(&self.monitors, monitor);
         if self.watches(monitor, line.manager) {

@@ -1,18 +1,24 @@
-use Rattle.std.proofs.Common.{List, sym, ap, subst, ◌∙◌}
-use Rattle.mq_events.specs.States.{NodeState}
-use Rattle.mq_world.specs.Worlds.{IsNetwork, course_in}
-use Rattle.mq_world.proofs.MarkLaws.{has_room, marks_keep, marks_lift}
+use Rattle.std.specs.Prelude.{length, refl, slice_get}
+use Rattle.std.proofs.Common.{sym, ap, subst, ◌∙◌}
+use Rattle.mq_events.specs.States.{marked}
+use Rattle.mq_world.specs.Worlds.{IsNetwork, NetState, course_in}
+use Rattle.mq_world.proofs.MarkLaws.{has_room, long_map, marked_so, marks_keep, marks_lift}
 use Rattle.mq_world.proofs.parts.NetParts.mark.Goals as goal
 
 pub mark_all-requires : goal.mark_all-requires
-mark_all-requires g c = record { room = λ m n known. has_room c.args.self.now m n c.requires.kept c.requires.room known }
+mark_all-requires g c = record { room = λ m n known. has_room c.args.self.now m n c.requires.kept c.requires.room (ap (λ (w : NetState). slice_get w.nodes m) (sym c.self.view_is) ∙ known) }
 
 pub returns-clause-kept : goal.returns-clause-kept
 returns-clause-kept g c =
-    subst IsNetwork (sym (ap (λ (ns : List NodeState). record c.args.self.now { nodes = ns }) c.mark_all.ensures))
+    subst IsNetwork (sym (marked_so c.args.idle c.mark_all.new.nodes c.self.view_is c.mark_all.ensures refl))
     (marks_keep c.args.self.now c.args.idle c.requires.kept c.requires.room)
 
 pub returns-clause-noted : goal.returns-clause-noted
 returns-clause-noted g c =
-    ap (λ (ns : List NodeState). course_in (record c.args.self.now { nodes = ns })) c.mark_all.ensures
+    ap course_in (marked_so c.args.idle c.mark_all.new.nodes c.self.view_is c.mark_all.ensures refl)
     ∙ marks_lift c.args.self.now c.args.idle c.requires.kept
+
+pub returns-clause-long : goal.returns-clause-long
+returns-clause-long g c =
+    ap (λ (w : NetState). length w.nodes) (marked_so c.args.idle c.mark_all.new.nodes c.self.view_is c.mark_all.ensures refl)
+    ∙ long_map (marked c.args.idle) c.args.self.now.nodes
