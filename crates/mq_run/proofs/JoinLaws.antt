@@ -21,7 +21,7 @@ use Rattle.mq_spec_network.specs.Story.{entries_at, entries_or}
 use Rattle.mq_begin.specs.Begun.{AllBegan, BeginsOn, Held, moment_or}
 use Rattle.mq_begin.specs.Begun as begun
 use Rattle.mq_opening.specs.Opened.{JustBegun}
-use Rattle.mq_world_begin.specs.Rested.{Began, IsRested, IsRestedAt, OpensWith, RestState}
+use Rattle.mq_world.specs.Words.{Began, IsRested, IsRestedAt, OpensWith, RestState}
 use Rattle.mq_law_ran.specs.Runs.{AreHistories, AreOpenings, BeginsAs, IsOpening, Left, nodes_from, standing_left}
 use Rattle.mq_law_ran.proofs.Lawfuls as lawfuls
 use Rattle.mq_history.specs.declared.scenario.CableLine.{CableLine}

@@ -32,7 +32,7 @@ use Rattle.mq_nodes.specs.Course.{Course}
 use Rattle.mq_world.specs.Resting.{rest_of}
 use Rattle.mq_world.specs.Starting.{IsFresh, Starts}
 use Rattle.mq_world.specs.Worlds.{NetState, course_in, histories_in, waits_in}
-use Rattle.mq_world_begin.specs.Rested.{Began, IsRested, RestState}
+use Rattle.mq_world.specs.Words.{Began, IsRested, RestState}
 use Rattle.mq_begin.specs.Begun.{Held, NotBegan, moment_or}
 use Rattle.mq_begin.specs.declared.faults.NetFault.{NetFault}
 use Rattle.mq_begin.specs.declared.faults.NetFault.TheVariants as faults

@@ -7,7 +7,7 @@ use Rattle.mq_spec_manager.specs.Stops.{last_moment}
 use Rattle.mq_net_stands.specs.declared.standing.ManagerStanding.{ManagerStanding}
 use Rattle.mq_net_stands.specs.declared.standing.Standing.{Standing}
 use Rattle.mq_standing.specs.Stands.{manager_standing}
-use Rattle.mq_world_begin.specs.Rested.{RestState}
+use Rattle.mq_world.specs.Words.{RestState}
 use Rattle.mq_law_ran.specs.Runs.{Left}
 
 -- the scenario and the histories

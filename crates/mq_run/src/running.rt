@@ -4,13 +4,13 @@ ghost use Rattle.mq_base.specs.Outside.{Rose};
 ghost use Rattle.mq_disk.specs.declared.shelf.Side.TheVariants as sides;
 ghost use Rattle.mq_history.specs.Scenarios.{IsScenario};
 ghost use Rattle.mq_nodes.specs.Texts.{AllFit};
-ghost use Rattle.mq_events.specs.Texts.{IsTextCommand};
+ghost use Rattle.mq_world.specs.Words.{IsTextCommand};
 ghost use Rattle.mq_owned.specs.Owned.{HasNoCables};
 ghost use Rattle.mq_run.specs.declared.status.Status.TheVariants.{WriteFault};
 ghost use Rattle.mq_net_ledger.specs.Opened.{AreOpened};
 ghost use Rattle.mq_spec_network.specs.Apart.{apart};
 ghost use Rattle.mq_world.specs.Starting.{IsFresh};
-ghost use Rattle.mq_world_begin.specs.Rested.{IsRested};
+ghost use Rattle.mq_world.specs.Words.{IsRested};
 ghost use Rattle.mq_run.specs.Ends.{DidAll, LeftEnds, RanOn, RunEnds, StepsEnd, WholeEnds};
 ghost use Rattle.mq_run.specs.Leaves.{AreTimed, left_of};
 
@@ -23,8 +23,7 @@ use mq_history::Scenario;
 use mq_net_apart::apart;
 use mq_nodes::Stop;
 use mq_steps::run_steps;
-use mq_world::Network;
-use mq_world_begin::{Rested, begin};
+use mq_world::{Network, Rested, begin};
 use std::alloc::Global;
 
 /// How a call of the program ended, and what it leaves.

@@ -8,7 +8,7 @@ use mq_core::Core;
 use mq_disk::Disk;
 use mq_net_stands::{ManagerStanding, Standing};
 use mq_standing::manager_standing;
-use mq_world_begin::Rested;
+use mq_world::Rested;
 use std::alloc::Global;
 
 fn put_manager<D: Disk>(
