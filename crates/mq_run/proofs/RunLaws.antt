@@ -1,6 +1,6 @@
 -- A run over managers at rest, from what its steps tell.
 use Rattle.std.proofs.Common.{ℕ, ◌≡◌, ◌≤◌, ◌<◌, true, List, [], refl, ap, sym, subst, ◌∙◌, length, arith}
-use Rattle.std.specs.Prelude.{OnOk, Option, Some, None, Result, Ok, Err, slice_get}
+use Rattle.std.specs.Prelude.{OnOk, Option, Some, None, Result, Ok, Err, option_map, slice_get}
 use Rattle.std.specs.Io.KnownBytes.{Keeps}
 use Rattle.mq_history.specs.declared.history.History.{History}
 use Rattle.mq_history.specs.declared.history.Mark.{Mark}
@@ -25,7 +25,7 @@ use Rattle.mq_spec_node.specs.Node.{Node}
 use Rattle.mq_net_ledger.specs.Opened.{AreOpened, IsOpened}
 use Rattle.mq_run.specs.declared.status.Status.{Status}
 use Rattle.mq_run.specs.declared.status.Status.TheVariants as status
-use Rattle.mq_run.specs.Statuses.{net_status}
+use Rattle.mq_run.specs.Statuses.{net_status, stop_status}
 use Rattle.mq_run.proofs.JoinLaws as joins
 use Rattle.mq_run.proofs.JoinLaws.{alike}
 use Rattle.mq_nodes.specs.Course.{Course}
@@ -202,11 +202,9 @@ begun_timed tells held s start w scenario r b = timed tells held start (left_of 
 spent_ends : (old new : Option (List ℕ)) (l : Left) (m : ℕ) → apart l.scenario l.histories ≡ None → is_spent (entries_at l.histories m) ≡ true → Keeps old new → LeftEnds old new (status.Spent m) l
 spent_ends old new l m together spent kept = (together, spent, kept)
 
-pub whole_spent : (old new : Option (List ℕ)) (s : Scenario) (gs : List History) (l : Left) (m : ℕ) → RanOn s gs l → apart s gs ≡ None → StepsEnd (Err (stops.Spent m)) l → Keeps old new → WholeEnds old new s gs (status.Spent m) (Some l)
-whole_spent old new s gs l m r e spent kept = (r, spent_ends old new l m (r.apart ∙ e) spent kept)
-
-pub whole_wants : (old new : Option (List ℕ)) (s : Scenario) (gs : List History) (l : Left) → RanOn s gs l → Keeps old new → WholeEnds old new s gs status.NoMemory (Some l)
-whole_wants old new s gs l r kept = (r, kept)
+pub whole_stopped : (old new : Option (List ℕ)) (s : Scenario) (gs : List History) (l : Left) (stop : Stop) → RanOn s gs l → apart s gs ≡ None → StepsEnd (Err stop) l → Keeps old new → WholeEnds old new s gs (stop_status stop) (Some l)
+whole_stopped old new s gs l stops.NoMemory r e spent kept = (r, kept)
+whole_stopped old new s gs l (stops.Spent m) r e spent kept = (r, spent_ends old new l m (r.apart ∙ e) spent kept)
 
 pub whole_did : (old new : Option (List ℕ)) (s : Scenario) (gs : List History) (st : Status) (l : Left) → RanOn s gs l → LeftEnds old new st l → WholeEnds old new s gs st (Some l)
 whole_did old new s gs st l r ends = (r, ends)
@@ -246,9 +244,27 @@ pub run_none : (tells : Type 0) (held : Held) (start : ℕ) (s : Scenario) (befo
     → NotBegan tells held (moment_or s.moment start) s.managers before now counts fault → Keeps old new → RunEnds tells held start s before now old new (net_status fault) None counts
 run_none tells held start s before now old new counts fault h kept = (none_ends tells held start s before now counts fault h, kept)
 
+-- as the code has them: a status, and the managers at rest
+pub stays : (old : Option (List ℕ)) → Keeps old old
+stays None = tt
+stays (Some xs) = refl
+
+pub whole_at : (old new : Option (List ℕ)) (s : Scenario) (gs : List History) (w : RestState) (st is : Status) (net : Option RestState) → st ≡ is → net ≡ Some w → WholeEnds old new s gs is (Some (left_of w)) → WholeEnds old new s gs st (option_map left_of net)
+whole_at old new s gs w st is net e f h =
+    subst (λ (x : Status). WholeEnds old new s gs x (option_map left_of net)) (sym e) (subst (λ (x : Option RestState). WholeEnds old new s gs is (option_map left_of x)) (sym f) h)
+
+pub run_at : (tells : Type 0) (held : Held) (start : ℕ) (s : Scenario) (before now : ℕ) (old new : Option (List ℕ)) (w : RestState) (st is : Status) (net : Option RestState) (counts : List ℕ) → st ≡ is → net ≡ Some w
+    → RunEnds tells held start s before now old new is (Some (left_of w)) counts → RunEnds tells held start s before now old new st (option_map left_of net) counts
+run_at tells held start s before now old new w st is net counts e f h =
+    subst (λ (x : Status). RunEnds tells held start s before now old new x (option_map left_of net) counts) (sym e) (subst (λ (x : Option RestState). RunEnds tells held start s before now old new is (option_map left_of x) counts) (sym f) h)
+
 -- what the check of its logs asks
 pub no_cables : (s : Scenario) → s.cables ≡ [] → length s.cables ≤ 65536
 no_cables s e = subst (λ (cs : List CableLine). length cs ≤ 65536) (sym e) (omega arith)
+
+pub stop_no_write : {A : Type 0} (stop : Stop) (n : ℕ) → stop_status stop ≡ status.WriteFault n → A
+stop_no_write stops.NoMemory n e = absurd cc
+stop_no_write (stops.Spent m) n e = absurd cc
 
 -- such a status is no write that failed
 pub net_no_write : {A : Type 0} (fault : NetFault) (n : ℕ) → net_status fault ≡ status.WriteFault n → A

@@ -1,9 +1,11 @@
--- Statuses: their numbers, and those of a run that was done whole, or whose managers were not begun.
+-- Statuses: their numbers, and those of a run that was done whole, or broken off, or whose managers were not begun.
 use Rattle.std.specs.Prelude.{ℕ}
 use Rattle.mq_begin.specs.declared.faults.NetFault.{NetFault}
 use Rattle.mq_begin.specs.declared.faults.NetFault.TheVariants as faults
 use Rattle.mq_ending.specs.declared.verdict.Verdict.{Verdict}
 use Rattle.mq_ending.specs.declared.verdict.Verdict.TheVariants as verdicts
+use Rattle.mq_nodes.specs.declared.nodes.Stop.{Stop}
+use Rattle.mq_nodes.specs.declared.nodes.Stop.TheVariants as stops
 use Rattle.mq_run.specs.declared.status.Status.{Status}
 use Rattle.mq_run.specs.declared.status.Status.TheVariants as status
 
@@ -32,3 +34,7 @@ abbrev pub net_status : NetFault → Status
 net_status faults.DiskFault = status.DiskFault
 net_status (faults.BadLog m gate) = status.BadLog (record { manager = m; gate = gate })
 net_status faults.NoMemory = status.NoMemory
+
+abbrev pub stop_status : Stop → Status
+stop_status stops.NoMemory = status.NoMemory
+stop_status (stops.Spent m) = status.Spent m

@@ -9,4 +9,4 @@ mod status;
 pub use reporting::report_run;
 pub use running::{Ended, ended_early, run_scenario};
 pub use standing::standing_at_rest;
-pub use status::{BadCause, Status, net_status, verdict_status};
+pub use status::{BadCause, Status, net_status, stop_status, verdict_status};

@@ -16,7 +16,7 @@ ghost use Rattle.mq_run.specs.Leaves.{AreTimed, left_of};
 
 use crate::reporting::report_run;
 use crate::standing::standing_at_rest;
-use crate::status::{Status, net_status};
+use crate::status::{Status, net_status, stop_status};
 use mq_base::Sink;
 use mq_disk::{Disk, Shelf};
 use mq_history::Scenario;
@@ -124,7 +124,7 @@ fn report<K: Sink, D: Disk>(
 }
 
 /// Does the steps of a scenario whose managers' logs belong together, and writes its report.
-#[tactic(auto, using(crate::proofs::RunLaws::opened_on, crate::proofs::RunLaws::did_all, crate::proofs::RunLaws::whole_did, crate::proofs::RunLaws::whole_wants, crate::proofs::RunLaws::whole_spent))]
+#[tactic(auto, using(crate::proofs::RunLaws::opened_on, crate::proofs::RunLaws::did_all, crate::proofs::RunLaws::whole_did, crate::proofs::RunLaws::stays))]
 fn run_whole<K: Sink, D: Disk>(
     alloc: Global,
     scenario: &Scenario,
@@ -149,8 +149,7 @@ fn run_whole<K: Sink, D: Disk>(
             let status = report(alloc, scenario, &rested, sink);
             ended_with(alloc, status, rested)
         }
-        Err(Stop::NoMemory) => ended_with(alloc, Status::NoMemory, rested),
-        Err(Stop::Spent(manager)) => ended_with(alloc, Status::Spent(manager), rested),
+        Err(stop) => ended_with(alloc, stop_status(stop), rested),
     }
 }
 

@@ -1,10 +1,11 @@
 //! How a call of the program ends.
 ghost use Rattle.std.specs.Prelude.{◌≡◌};
-ghost use Rattle.mq_run.specs.Statuses.{net_status, status_number, verdict_status};
+ghost use Rattle.mq_run.specs.Statuses.{net_status, status_number, stop_status, verdict_status};
 
 use mq_begin::NetFault;
 use mq_ending::{BadLog, Verdict};
 use mq_history::{Apart, Conflict};
+use mq_nodes::Stop;
 use mq_scn_lines::Limit;
 use mq_scn_text::Cause;
 
@@ -113,5 +114,15 @@ pub fn net_status(fault: NetFault) -> Status
         NetFault::DiskFault => Status::DiskFault,
         NetFault::BadLog(manager, gate) => Status::BadLog(BadLog { manager, gate }),
         NetFault::NoMemory => Status::NoMemory,
+    }
+}
+
+/// How one ends that was broken off within its steps.
+pub fn stop_status(stop: Stop) -> Status
+    ensures { result ≡ stop_status stop }
+{
+    match stop {
+        Stop::NoMemory => Status::NoMemory,
+        Stop::Spent(manager) => Status::Spent(manager),
     }
 }
