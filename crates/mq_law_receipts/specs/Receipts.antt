@@ -45,6 +45,16 @@ pub record IsReceipt (s : Scenario) (given : Ident → Bool) (ps : List Plain) (
   pub timed : IsTimed t p l
   pub shelved : (a : ℕ) (x : ManagerPlaces) → slice_get l.places a ≡ Some x → AreShelved x.queues
 
+-- but for the facts of the manager itself: of one that is down they are those that held as its turn was stopped
+pub record IsAwaitedAt (s : Scenario) (given : Ident → Bool) (ps : List Plain) (p : Plain) (l : Ledger) (g : Ghost) (m t : ℕ) (c : List ℕ) (u : Luw) (ms : List Message) : Type 0 where
+  pub commits : Commits (world_of s given ps) g m c u t
+  pub sent : map tag_of ms ≡ g.sent m c u
+  pub cabled : IsCabled s ps m t c
+  pub fresh : IsFresh given p
+  pub told : IsTold t p l
+  pub timed : IsTimed t p l
+  pub shelved : (a : ℕ) (x : ManagerPlaces) → slice_get l.places a ≡ Some x → AreShelved x.queues
+
 -- Behind it the network has the facts, the unit's messages belong where they landed, and the ledger tells each manager again.
 pub record Receipt (s : Scenario) (given : Ident → Bool) (qs : List Plain) (q : Plain) (l k : Ledger) (g : Ghost) (m t : ℕ) (c : List ℕ) (u : Luw) : Type 0 where
   pub lands : List Landing
