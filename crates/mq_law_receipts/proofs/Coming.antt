@@ -22,16 +22,10 @@ use Rattle.mq_law_rows.specs.Kinds.{among}
 use Rattle.mq_law_rows.proofs.Lists.{bool_case, is_false, ident_yes, name_self, and_false, keep_same, keep_all, true_false}
 use Rattle.mq_law_rows.proofs.Receiving.{any_mem, mem_any}
 use Rattle.mq_law_manager.specs.Facts.{AreNamed, IsOf, Sound}
+use Rattle.mq_law_receipts.specs.Receipts.{Comes}
 use Rattle.mq_law_manager.proofs.Named.{doubt_less}
 use Rattle.mq_law_manager.proofs.Receiving.{IsStanding, row_there}
 use Rattle.mq_law_events.proofs.Putting.{IsBeside, rows_after, unborn_by}
-
--- no row of its ident is there but of a unit in doubt, as persistent as it is; no uncommitted put has it; it was given
-pub record Comes (p : Plain) (x : Message) : Type 0 where
-  pub rows : (q : List ℕ) (h : Row) → Mem h (stored q p).rows → h.message.ident ≡ x.ident
-      → (c : List ℕ) × (h.by ≡ Some (holders.Batch c)) × (batch_of c p.channels.batches ≡ None) × (is_persistent h.message ≡ is_persistent x)
-  pub pending : is_pending x.ident p ≡ false
-  pub unborn : is_unborn x.ident p ≡ false
 
 pub flag_self : (b : Bool) → same_flag b b ≡ true
 flag_self true = refl

@@ -30,8 +30,7 @@ use Rattle.mq_law_seen.specs.Seen.{book_of, doubt_of, rows_of, units_of, world_o
 use Rattle.mq_law_seen.proofs.Receipts.{admitted}
 use Rattle.mq_law_events.specs.Tied.{AreShelved}
 use Rattle.mq_law_events.proofs.Moving.{InShelves, row_in_is}
-use Rattle.mq_law_receipts.specs.Receipts.{AreNumbered, IsAwaitedAt, IsReceipt}
-use Rattle.mq_law_receipts.proofs.Coming.{Comes}
+use Rattle.mq_law_receipts.specs.Receipts.{AreNumbered, Comes, IsAwaitedAt, IsReceipt}
 use Rattle.mq_law_receipts.proofs.Landing.{IsOwn, uncounted}
 
 -- Its idents are the unit's

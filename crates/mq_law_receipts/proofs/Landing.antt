@@ -42,7 +42,8 @@ use Rattle.mq_law_manager.proofs.Units.{behind}
 use Rattle.mq_law_events.specs.Posting.{IsTimed}
 use Rattle.mq_law_events.specs.Tied.{IsTold, connections_told}
 use Rattle.mq_law_events.proofs.Putting.{place_told, placed_beside, placed_rows}
-use Rattle.mq_law_receipts.proofs.Coming.{Comes, Goes, IsAside, aside_none, aside_then, beside_aside, comes_on, drop_aside, drop_rows, goes_is, not_present}
+use Rattle.mq_law_receipts.specs.Receipts.{Comes, IsShadow}
+use Rattle.mq_law_receipts.proofs.Coming.{Goes, IsAside, aside_none, aside_then, beside_aside, comes_on, drop_aside, drop_rows, goes_is, not_present}
 
 -- A message but for its count of backouts
 
@@ -223,7 +224,7 @@ one_row t l s p goes d =
     (λ z w. ap (λ n. insert_row row (keep T (stored n p).rows)) (sym (name_yes d l.queue w))) (λ z w. refl) refl
     ∙ ap (λ z. if z && bytes_eq d l.queue then insert_row row (keep T (stored d p).rows) else keep T (stored d p).rows) (sym (eqb_self t))
 
-push_keep : (T : Row → Bool) (z : Bool) (row : Row) (xs : List Row) → LanesRise xs → T row ≡ true → keep T (if z then insert_row row xs else xs) ≡ (if z then insert_row row (keep T xs) else keep T xs)
+pub push_keep : (T : Row → Bool) (z : Bool) (row : Row) (xs : List Row) → LanesRise xs → T row ≡ true → keep T (if z then insert_row row xs else xs) ≡ (if z then insert_row row (keep T xs) else keep T xs)
 push_keep T true row xs rise e = keep_insert T row xs rise e
 push_keep T false row xs rise e = refl
 
@@ -231,18 +232,9 @@ mem_if : (z : Bool) (row h : Row) (xs : List Row) → Mem h (if z then insert_ro
 mem_if true row h xs n no_ = elim (mem_insert h row xs n) [ inl e ↦ absurd (no_ (ap (λ (x : Row). x.message.ident) e)) | inr k ↦ k ]
 mem_if false row h xs n no_ = n
 
-rise_if : (z : Bool) (row : Row) (xs : List Row) → LanesRise xs → LanesRise (if z then insert_row row xs else xs)
+pub rise_if : (z : Bool) (row : Row) (xs : List Row) → LanesRise xs → LanesRise (if z then insert_row row xs else xs)
 rise_if true row xs r = sorted_insert row xs r
 rise_if false row xs r = r
-
--- The manager by which a batch lands, and one that has lost rows of it since: the same but for rows, of which it has none that the other
--- has not, by their idents
-pub record IsShadow (b p : Plain) : Type 0 where
-  pub given : p.given ≡ b.given
-  pub definitions : p.definitions ≡ b.definitions
-  pub connections : p.connections ≡ b.connections
-  pub moment : p.moment ≡ b.moment
-  pub rows : (d : List ℕ) (h : Row) → Mem h (stored d p).rows → (k : Row) × Mem k (stored d b).rows × (k.message.ident ≡ h.message.ident)
 
 pub shadow_self : (p : Plain) → IsShadow p p
 shadow_self p = record { given = refl; definitions = refl; connections = refl; moment = refl; rows = λ d h n. (h, n, refl) }

@@ -46,14 +46,14 @@ use Rattle.mq_law_events.specs.Posting.{IsTimed}
 use Rattle.mq_law_events.specs.Tied.{IsNext, IsTold, connections_told}
 use Rattle.mq_law_events.proofs.Putting.{place_told, unborn_by}
 use Rattle.mq_law_events.proofs.Telling.{else_changed, left_shelved}
-use Rattle.mq_law_receipts.specs.Receipts.{IsAwaitedAt, IsCabled, IsReceipt, Receipt}
-use Rattle.mq_law_receipts.proofs.Coming.{Comes, doubt_unit}
+use Rattle.mq_law_receipts.specs.Receipts.{Comes, IsAwaitedAt, IsCabled, IsReceipt, IsShadow, Receipt}
+use Rattle.mq_law_receipts.proofs.Coming.{doubt_unit}
 use Rattle.mq_law_receipts.proofs.Knowing.{marks_tagged, comes_in, idents_tagged, own_in}
-use Rattle.mq_law_receipts.proofs.Landing.{IsShadow, IsStill, Lands, batch_lands, batch_lands_by, dead_behind}
+use Rattle.mq_law_receipts.proofs.Landing.{IsStill, Lands, batch_lands, batch_lands_by, dead_behind}
 
 -- The ledger's step
 
-posts : (t : ℕ) (c : List ℕ) (u : Luw) (reply : Reply) (ms : List Message) (ds : List Did) (l : Ledger) → IsStill ds
+pub posts : (t : ℕ) (c : List ℕ) (u : Luw) (reply : Reply) (ms : List Message) (ds : List Did) (l : Ledger) → IsStill ds
     → post_call t calls.Turn reply ms (ds ++ did.Received c u ∷ []) (take_all_gone t (ds ++ did.Received c u ∷ []) l) ≡ ledgers.receive t c ms (ds ++ did.Received c u ∷ []) l
 posts t c u reply ms ds l k =
     let all : List Did = ds ++ did.Received c u ∷ [] in
@@ -61,10 +61,10 @@ posts t c u reply ms ds l k =
     ∙ ap (λ x. receive_if t (Some c) ms all x) (k.moves t (did.Received c u ∷ []) l)
 
 -- what it leaves
-record Keeps (l k : Ledger) : Type 0 where
-  users : k.users ≡ l.users
-  gone : k.gone ≡ l.gone
-  got : k.got ≡ l.got
+pub record Keeps (l k : Ledger) : Type 0 where
+  pub users : k.users ≡ l.users
+  pub gone : k.gone ≡ l.gone
+  pub got : k.got ≡ l.got
 
 placed_keeps : (t : ℕ) (c : List ℕ) (m : Message) (dead : Option Reason) (l : Ledger) → Keeps l (place_received t c m dead l)
 placed_keeps t c m dead l = subst (λ (z : Ledger). Keeps l z) (sym (received_is t c m dead l)) (go (placing t c l m dead))
@@ -84,7 +84,7 @@ list_keeps t c ds first l (m ∷ ms) = go (is_admitted first m) (λ x. list_keep
         let b = rest (place_received t c (own_row first m) (dead_reason m.ident ds) l) in
         record { users = b.users ∙ a.users; gone = b.gone ∙ a.gone; got = b.got ∙ a.got }
 
-receipt_keeps : (t : ℕ) (c : List ℕ) (ms : List Message) (ds : List Did) (l : Ledger) → Keeps l (ledgers.receive t c ms ds l)
+pub receipt_keeps : (t : ℕ) (c : List ℕ) (ms : List Message) (ds : List Did) (l : Ledger) → Keeps l (ledgers.receive t c ms ds l)
 receipt_keeps t c ms ds l = let k = list_keeps t c ds l (take_everywhere (idents_of ms) l) ms in record { users = k.users; gone = k.gone; got = k.got }
 
 -- and tells
@@ -130,7 +130,7 @@ list_told t a r c ds first l (m ∷ ms) told = go (is_admitted first m) (λ x k.
     go false rest = rest l told
     go true rest = rest _ (maybe_told t a r c (own_row first m) (dead_reason m.ident ds) l told)
 
-receipt_told : (t a : ℕ) (r : Plain) (c : List ℕ) (ms : List Message) (ds : List Did) (l : Ledger) → IsTold a r l → IsTold a r (ledgers.receive t c ms ds l)
+pub receipt_told : (t a : ℕ) (r : Plain) (c : List ℕ) (ms : List Message) (ds : List Did) (l : Ledger) → IsTold a r l → IsTold a r (ledgers.receive t c ms ds l)
 receipt_told t a r c ms ds l told = list_told t a r c ds l (take_everywhere (idents_of ms) l) ms (taken_told (idents_of ms) a r l told)
 
 -- The manager's step
@@ -371,6 +371,11 @@ receives_by s given ps qs p l g m t c u last ms x reply y n r h = record {
           used = z.used;
           connections = z.connections ∙ ap connections_told (sym y.aside.connections);
         }
+
+pub found_receives : (s : Scenario) (given : Ident → Bool) (ps qs : List Plain) (b p : Plain) (l : Ledger) (g : Ghost) (m t : ℕ) (c : List ℕ) (u : Luw) (last : ℕ) (ms : List Message) (x : Landed) (reply : Reply) → landed c ms b ≡ Ok x → IsSound b → IsShadow b p → ((y : Message) → Mem y ms → Comes b y)
+    → IsNext t p (do_part (received_part c u last x p) p) ps qs → IsAwaitedAt s given ps p l g m t c u ms → Inv (world_of s given ps) g (book_of l)
+    → Receipt s given qs (do_part (received_part c u last x p) p) l (post_call t calls.Turn reply ms (received_part c u last x p).delta (take_all_gone t (received_part c u last x p).delta l)) g m t c u
+found_receives s given ps qs b p l g m t c u last ms x reply e sound shadow comes n r h = receives_by s given ps qs p l g m t c u last ms x reply (lands_then s given ps b p l g m t c u ms x e sound shadow comes n.at r h) n r h
 
 pub receives : (s : Scenario) (given : Ident → Bool) (ps qs : List Plain) (p : Plain) (l : Ledger) (g : Ghost) (m t : ℕ) (c : List ℕ) (u : Luw) (last : ℕ) (ms : List Message) (x : Landed) (reply : Reply) → landed c ms p ≡ Ok x
     → IsNext t p (do_part (received_part c u last x p) p) ps qs → IsReceipt s given ps p l g m t c u ms → Inv (world_of s given ps) g (book_of l)
