@@ -5,7 +5,6 @@ use Rattle.std.specs.List.{list_any}
 use Rattle.std.specs.Str.{bytes_eq}
 use Rattle.mq_message.specs.declared.message.Ident.{Ident}
 use Rattle.mq_message.specs.declared.message.Message.{Message}
-use Rattle.mq_message.specs.declared.place.Holder.TheVariants as holders
 use Rattle.mq_queue.specs.declared.row.Row.{Row}
 use Rattle.mq_queue.specs.Rows.{same_ident, keep}
 use Rattle.mq_sync.specs.declared.data.InDoubt.{InDoubt}
@@ -16,7 +15,7 @@ use Rattle.mq_spec_state.specs.State.Which.{Among}
 use Rattle.mq_spec_state.specs.State.Change.{Leave, Undoubt}
 use Rattle.mq_spec_state.specs.Reads.{batch_of, in_doubt_of, is_persistent, sender_data, sender_in, stored}
 use Rattle.mq_spec_state.specs.Changes.{apply, apply_all, less_ident}
-use Rattle.mq_spec_agents.specs.Words.{RowAt, row_of, doubts, is_doubted_by, Standing, Absent, InDoubtAt, Present, same_flag, standing_by, has_put, is_pending, is_unborn, standing_at, is_present, undoubted, drop_changes}
+use Rattle.mq_spec_agents.specs.Words.{RowAt, row_of, doubts, is_doubted_by, Standing, Absent, InDoubtAt, Present, same_flag, standing_by, has_put, standing_at, is_present, undoubted, drop_changes}
 use Rattle.mq_spec_network.specs.Story.{Mem}
 use Rattle.mq_law_rows.specs.Kinds.{among}
 use Rattle.mq_law_rows.proofs.Lists.{bool_case, is_false, ident_yes, name_self, and_false, keep_same, keep_all, true_false}

@@ -17,11 +17,8 @@ use Rattle.mq_sync.specs.declared.unit.Unit.{Unit as Luw}
 use Rattle.mq_calls.specs.declared.deltas.Did.{Did}
 use Rattle.mq_calls.specs.declared.deltas.Did.TheVariants as did
 use Rattle.mq_calls.specs.declared.deltas.Why.TheVariants as whys
-use Rattle.mq_calls.specs.declared.records.Add.{Add}
 use Rattle.mq_calls.specs.declared.records.LogRecord.{LogRecord}
-use Rattle.mq_history.specs.declared.calls.Call.{Call}
 use Rattle.mq_history.specs.declared.calls.Call.TheVariants as calls
-use Rattle.mq_history.specs.declared.calls.Reply.{Reply}
 use Rattle.mq_history.specs.declared.scenario.Scenario.{Scenario}
 use Rattle.mq_history.specs.declared.story.ManagerPlaces.{ManagerPlaces}
 use Rattle.mq_spec_state.specs.State.{Plain}
@@ -35,14 +32,14 @@ use Rattle.mq_spec_network.specs.Story.{Mem}
 use Rattle.mq_law_rows.specs.Families.{is_here}
 use Rattle.mq_law_rows.specs.World.{Ghost, Inv, LanesRise}
 use Rattle.mq_law_rows.specs.Kinds.{Landing, among, is_lost, place_all}
-use Rattle.mq_law_rows.proofs.Lists.{and_false, and_left, and_right, bool_case, eqb_yes, ident_self, ident_yes, sorted_keep, true_false}
+use Rattle.mq_law_rows.proofs.Lists.{and_false, and_left, and_right, bool_case, ident_yes, sorted_keep, true_false}
 use Rattle.mq_law_seen.specs.Seen.{book_of, world_of}
 use Rattle.mq_law_seen.proofs.Bridges.{loses_rows}
 use Rattle.mq_law_seen.proofs.Receipts.{Placing, landing_at, landing_if, landing_maybe, landings, place_maybe, placing, received_is, receipt_rows, routed}
 use Rattle.mq_law_manager.specs.Facts.{IsSound}
 use Rattle.mq_law_receipts.specs.Receipts.{Comes, IsAwaitedAt, IsShadow}
 use Rattle.mq_law_receipts.proofs.Knowing.{own_in}
-use Rattle.mq_law_receipts.proofs.Landing.{IsOwn, IsStill, Lands, all_landed, dead_behind, has_add, is_landed, push_keep, rise_if}
+use Rattle.mq_law_receipts.proofs.Landing.{IsOwn, IsStill, Lands, all_landed, is_landed, push_keep, rise_if}
 use Rattle.mq_law_receipts.proofs.Receiving.{lands_then, posts, receipt_keeps}
 
 -- WHAT IS TOLD

@@ -1,5 +1,5 @@
 -- A receiver's commit as the kind that it is: the network and its ledger have the facts behind it.
-use Rattle.std.proofs.Common.{ℕ, ◌≡◌, ◌≢◌, ◌+◌, Bool, true, false, not, List, [], ◌∷◌, ◌++◌, refl, ap, sym, subst, ◌∙◌, map}
+use Rattle.std.proofs.Common.{ℕ, ◌≡◌, ◌≢◌, Bool, true, false, not, List, [], ◌∷◌, ◌++◌, refl, ap, sym, subst, ◌∙◌, map}
 use Rattle.std.specs.Prelude.{Option, Some, None, Ok, ◌==◌, if◌then◌else◌, ◌&&◌, slice_get, is_some}
 use Rattle.std.specs.Str.{bytes_eq}
 use Rattle.mq_codes.specs.declared.reason.Reason.{Reason}
@@ -300,14 +300,14 @@ pub receives_by : (s : Scenario) (given : Ident → Bool) (ps qs : List Plain) (
     → IsNext t p (do_part (received_part c u last x p) p) ps qs → IsAwaitedAt s given ps p l g m t c u ms → Inv (world_of s given ps) g (book_of l)
     → Receipt s given qs (do_part (received_part c u last x p) p) l (post_call t calls.Turn reply ms (received_part c u last x p).delta (take_all_gone t (received_part c u last x p).delta l)) g m t c u
 receives_by s given ps qs p l g m t c u last ms x reply y n r h = record {
-    lands = y.lands;
-    inv = subst (λ (k : Ledger). Inv (world_of s given qs) (ghost_receive g m c u t (tag_idents (g.sent m c u)) y.lands) (book_of k)) (sym posted) inv;
-    fresh = λ i f. r.fresh i (sym (ap (unborn_at i) (done_is c u last x p) ∙ (λ j. unborn_by (y.aside.given j) (y.aside.numbers j) i)) ∙ f);
-    told = subst (λ (k : Ledger). IsTold t done k) (sym posted) (subst (λ (z : Plain). IsTold t z k) (sym (done_is c u last x p)) told_q);
-    timed = record { users = r.timed.users; used = ap (λ us. slice_get us t) users ∙ r.timed.used; moment = r.timed.moment ∙ sym (ap (λ (z : Plain). z.moment) (done_is c u last x p) ∙ y.aside.moment) };
-    others = λ a z f told. subst (λ (k : Ledger). IsTold a z k) (sym posted) (receipt_told t a z c ms ds l told);
-    users = users;
-  }
+  lands = y.lands;
+  inv = subst (λ (k : Ledger). Inv (world_of s given qs) (ghost_receive g m c u t (tag_idents (g.sent m c u)) y.lands) (book_of k)) (sym posted) inv;
+  fresh = λ i f. r.fresh i (sym (ap (unborn_at i) (done_is c u last x p) ∙ (λ j. unborn_by (y.aside.given j) (y.aside.numbers j) i)) ∙ f);
+  told = subst (λ (k : Ledger). IsTold t done k) (sym posted) (subst (λ (z : Plain). IsTold t z k) (sym (done_is c u last x p)) told_q);
+  timed = record { users = r.timed.users; used = ap (λ us. slice_get us t) users ∙ r.timed.used; moment = r.timed.moment ∙ sym (ap (λ (z : Plain). z.moment) (done_is c u last x p) ∙ y.aside.moment) };
+  others = λ a z f told. subst (λ (k : Ledger). IsTold a z k) (sym posted) (receipt_told t a z c ms ds l told);
+  users = users;
+}
   where
     done : Plain
     done = do_part (received_part c u last x p) p
