@@ -147,6 +147,16 @@ done_is c u last x p =
     behind x.changes (SetReceiver c (received_data c u last p) ∷ []) (with_log lg p)
     ∙ ap (λ (z : Plain). apply (SetReceiver c (received_data c u last p)) z) (log_aside x.changes lg p)
 
+-- beside rows and channels all stays
+pub record IsDone (p r : Plain) : Type 0 where
+  pub given : r.given ≡ p.given
+  pub definitions : r.definitions ≡ p.definitions
+  pub connections : r.connections ≡ p.connections
+  pub numbers : r.numbers ≡ p.numbers
+
+pub done_beside : (t : ℕ) (c : List ℕ) (u : Luw) (last : ℕ) (ms : List Message) (x : Landed) (p : Plain) → Lands t c p ms x → IsDone p (do_part (received_part c u last x p) p)
+done_beside t c u last ms x p y = subst (λ (z : Plain). IsDone p z) (sym (done_is c u last x p)) (record { given = y.aside.given; definitions = y.aside.definitions; connections = y.aside.connections; numbers = y.aside.numbers })
+
 unit_held : (o r : Option InDoubt) (b : Option Batch) → doubt_unit o ≡ doubt_unit r → held_unit o b ≡ held_unit r b
 unit_held None None b e = refl
 unit_held None (Some d) b e = absurd cc
