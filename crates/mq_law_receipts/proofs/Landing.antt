@@ -133,7 +133,7 @@ abbrev pub all_landed : List Did → Bool
 all_landed [] = true
 all_landed (d ∷ ds) = is_landed d && all_landed ds
 
-plain_one : (m : Message) (s : Standing) (q : List ℕ) (i : Ident) (dead : Option Reason) (ds : List Did) → all_landed ds ≡ true → all_landed (drop_did m s ++ did.Placed q i dead ∷ ds) ≡ true
+pub plain_one : (m : Message) (s : Standing) (q : List ℕ) (i : Ident) (dead : Option Reason) (ds : List Did) → all_landed ds ≡ true → all_landed (drop_did m s ++ did.Placed q i dead ∷ ds) ≡ true
 plain_one m Absent q i dead ds e = e
 plain_one m Present q i dead ds e = e
 plain_one m (InDoubtAt from) q i dead ds e = e
