@@ -173,7 +173,7 @@ near_returns s hs wide p es x z t noted starts started st i k scenario peace spl
       fresh = beside_fresh z.given b g beside a.fresh;
       now = beside_told m b g l beside a.told;
       books = refl;
-      moment = ap (λ o. (ledgers.users_or o).moment) (sym a.told.used ∙ a.timed.used) ∙ a.timed.moment;
+      moment = ap (λ o. (ledgers.users_or o).moment) (sym (beside_told m b g l beside a.told).used ∙ a.timed.used) ∙ a.timed.moment;
       same = beside.given;
       steady = beside.moment;
       free = unprepared_still s z.given mid r.turned.ghost (book_of l) s.cables xs ys m g n1.to (one_redone noted b left.one) (all_cabled s.cables m noted.changes (record b { log = stands_in noted.written b.log }) of_end.1 (same_batches s.cables m b (record b { log = stands_in noted.written b.log }) refl (z.cabled m t.h t.is))) facts joint;
@@ -303,7 +303,7 @@ far_returns s hs p x z t noted starts started st i k scenario at_k q left note c
       fresh = beside_fresh z.given b g beside a.fresh;
       now = beside_told m b g l beside a.told;
       books = refl;
-      moment = ap (λ o. (ledgers.users_or o).moment) (sym a.told.used ∙ a.timed.used) ∙ a.timed.moment;
+      moment = ap (λ o. (ledgers.users_or o).moment) (sym (beside_told m b g l beside a.told).used ∙ a.timed.used) ∙ a.timed.moment;
       same = beside.given;
       steady = beside.moment;
       free = unprepared_still s z.given mid r.ghost (book_of l) s.cables xs ys m g n1.to (one_redone noted b left.one) (all_cabled s.cables m noted.changes (record b { log = stands_in noted.written b.log }) of_end.1 (same_batches s.cables m b (record b { log = stands_in noted.written b.log }) refl (z.cabled m t.h t.is))) facts joint;

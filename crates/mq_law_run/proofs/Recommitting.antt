@@ -306,7 +306,7 @@ commit_returns s hs wide p es x z t noted starts started st i k scenario peace s
         let l0 : Ledger = ledgers.take_all_gone m ds l in
         let l1 : Ledger = ledgers.at_moment m st.moment l0 in
         let gone : Housed l l1 = λ d o f. housing.gone m ds l d o f in
-        let on : Housed l (ledgers.post_call m calls.Turn st.entry.reply st.entry.effect.received ds (ledgers.take_all_gone m ds l1)) = housing.chain l l1 _ gone (housing.turned m st.entry.reply st.entry.effect.received ds l1) in
+        let on : Housed l (ledgers.post_call m calls.Turn st.entry.reply st.entry.effect.received ds (ledgers.take_all_gone m ds l1)) = housing.chain l l1 (ledgers.post_call m calls.Turn st.entry.reply st.entry.effect.received ds (ledgers.take_all_gone m ds l1)) gone (housing.turned m st.entry.reply st.entry.effect.received ds l1) in
         let so : Housed l (ledgers.post_call m st.entry.call st.entry.reply st.entry.effect.received ds (ledgers.take_all_gone m ds l1)) = subst (λ (o : Call). Housed l (ledgers.post_call m o st.entry.reply st.entry.effect.received ds (ledgers.take_all_gone m ds l1))) (sym note.call) on in
         λ d o f. so d o f
 
