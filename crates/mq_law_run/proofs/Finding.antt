@@ -25,7 +25,7 @@ use Rattle.mq_history.specs.declared.history.History.{History}
 use Rattle.mq_history.specs.declared.scenario.CableLine.{CableLine}
 use Rattle.mq_history.specs.declared.scenario.Scenario.{Scenario}
 use Rattle.mq_history.specs.Scenarios.{IsScenario}
-use Rattle.mq_spec_state.specs.State.{Change, Given, Noted, Plain, Running}
+use Rattle.mq_spec_state.specs.State.{Change, Noted, Plain, Running}
 use Rattle.mq_spec_state.specs.State.Running.{Down}
 use Rattle.mq_spec_state.specs.Reads.{receiver_data, sender_data}
 use Rattle.mq_spec_state.specs.Steps.{stands_in}
@@ -54,7 +54,7 @@ use Rattle.mq_law_node.proofs.NearEvents.{redone_data}
 use Rattle.mq_law_rows.specs.Families.{put_at}
 use Rattle.mq_law_rows.proofs.Lists.{bool_case, eqb_self, here_yes, is_false, true_false}
 use Rattle.mq_law_seen.specs.Seen.{book_of, world_of}
-use Rattle.mq_law_events.specs.Tied.{IsNext, connections_told}
+use Rattle.mq_law_events.specs.Tied.{IsNext}
 use Rattle.mq_law_events.proofs.Telling.{else_changed, here_changed}
 use Rattle.mq_law_batches.specs.Releases.{IsWord, settled_changes}
 use Rattle.mq_law_turns.specs.Agreed.{IsToldOf}

@@ -1,7 +1,7 @@
 -- A restart that finds the stopped write of a receiver's commit, as a move of the network: the unit is committed there by now, with what the
 -- network has become since; and then the manager comes up.
 use Rattle.std.proofs.Common.{ℕ, ◌≡◌, Bool, true, false, List, [], ◌∷◌, ◌++◌, refl, ap, sym, subst, ◌∙◌, inl, inr, map}
-use Rattle.std.specs.Prelude.{Option, Some, None, Result, Ok, Err, ◌==◌, ◌+◌, ◌&&◌, ◌||◌, filter, if◌then◌else◌, slice_get}
+use Rattle.std.specs.Prelude.{Option, Some, Result, Ok, Err, ◌==◌, ◌&&◌, ◌||◌, filter, if◌then◌else◌, slice_get}
 use Rattle.std.specs.Option.{option_map}
 use Rattle.std.specs.Str.{bytes_eq}
 use Rattle.mq_codes.specs.declared.reason.Reason.{Reason}
@@ -11,12 +11,11 @@ use Rattle.mq_sync.specs.declared.unit.Unit.{Unit as Luw}
 use Rattle.mq_sync.specs.declared.data.ReceiverData.{ReceiverData}
 use Rattle.mq_sync.specs.declared.data.SenderData.{SenderData}
 use Rattle.mq_sync.specs.Settlement.{receiver_or, sender_or}
-use Rattle.mq_sync.specs.Units.{Below, Upto, no_unit, same_unit}
+use Rattle.mq_sync.specs.Units.{Upto, no_unit, same_unit}
 use Rattle.mq_receiver.specs.declared.turns.ReceiverDoes.{ReceiverDoes}
 use Rattle.mq_receiver.specs.declared.turns.ReceiverDoes.TheVariants as takes
 use Rattle.mq_receiver.specs.declared.turns.ReceiverOut.{ReceiverOut}
 use Rattle.mq_receiver.specs.declared.turns.ReceiverOut.TheVariants as outs
-use Rattle.mq_calls.specs.declared.agents.Note.TheVariants as notes
 use Rattle.mq_calls.specs.declared.choices.Return.TheVariants.{Comes}
 use Rattle.mq_calls.specs.declared.deltas.Did.{Did}
 use Rattle.mq_calls.specs.declared.deltas.Did.TheVariants as did
@@ -42,7 +41,7 @@ use Rattle.mq_spec_agents.specs.Words.{Landed, Standing, before, is_present, lan
 use Rattle.mq_spec_node.specs.Node.{Node}
 use Rattle.mq_spec_node.specs.Deeds.{Done}
 use Rattle.mq_spec_node.specs.Replays.{done_by}
-use Rattle.mq_spec_network.specs.Conflict.{Deed as ToldDeed, NoConflict, commits, committed_in, deeds, deeds_in, is_committed}
+use Rattle.mq_spec_network.specs.Conflict.{Deed as ToldDeed, NoConflict, committed_in, deeds, deeds_in, is_committed}
 use Rattle.mq_spec_network.specs.Ledger as ledgers
 use Rattle.mq_spec_network.specs.Ledger.{Ledger, Users, change_at, ledger, users_or}
 use Rattle.mq_spec_network.specs.Standing.{managers_at, node_after, opening_ledger, opening_managers}
@@ -64,7 +63,7 @@ use Rattle.mq_law_node.proofs.Moving.{far_keeps}
 use Rattle.mq_law_node.proofs.NearEvents.{redone_data}
 use Rattle.mq_law_manager.proofs.Named.{name_is}
 use Rattle.mq_law_rows.specs.Families.{put_at}
-use Rattle.mq_law_rows.proofs.Lists.{bool_case, eqb_self, here_self, here_yes, true_false}
+use Rattle.mq_law_rows.proofs.Lists.{bool_case, eqb_self, here_yes, true_false}
 use Rattle.mq_law_seen.specs.Seen.{book_of, world_of}
 use Rattle.mq_law_events.specs.Posting.{IsTimed}
 use Rattle.mq_law_events.specs.Tied.{IsNext, IsTold}

@@ -1,22 +1,17 @@
 -- A receiver's commit whose write was stopped, where a restart finds it: the manager that the restart makes of it, and what is posted.
 use Rattle.std.proofs.Common.{ℕ, zero, suc, ◌≡◌, ◌≢◌, Bool, true, false, List, [], ◌∷◌, ◌++◌, refl, ap, sym, subst, ◌∙◌, inl, inr, map}
-use Rattle.std.specs.Prelude.{Option, Some, None, Result, Ok, Err, ◌==◌, filter, is_none, slice_get}
+use Rattle.std.specs.Prelude.{Option, Some, Result, Ok, Err, ◌==◌, filter, slice_get}
 use Rattle.mq_message.specs.declared.message.Ident.{Ident}
 use Rattle.mq_message.specs.declared.message.Message.{Message}
 use Rattle.mq_codes.specs.declared.reason.Reason.{Reason}
-use Rattle.mq_queue.specs.declared.row.Row.{Row}
 use Rattle.mq_sync.specs.declared.unit.Unit.{Unit as Luw}
 use Rattle.mq_sync.specs.declared.data.ReceiverData.{ReceiverData}
 use Rattle.mq_sync.specs.Settlement.{receiver_or}
 use Rattle.mq_calls.specs.declared.deltas.Did.{Did}
 use Rattle.mq_calls.specs.declared.deltas.Did.TheVariants as did
-use Rattle.mq_calls.specs.declared.records.LogRecord.{LogRecord}
 use Rattle.mq_history.specs.declared.calls.Call.TheVariants as calls
-use Rattle.mq_history.specs.declared.calls.Reply.{Reply}
-use Rattle.mq_history.specs.declared.scenario.CableLine.{CableLine}
 use Rattle.mq_history.specs.declared.scenario.Scenario.{Scenario}
-use Rattle.mq_history.specs.declared.story.ManagerPlaces.{ManagerPlaces}
-use Rattle.mq_spec_state.specs.State.{Change, Given, LogState, Noted, Plain, Running}
+use Rattle.mq_spec_state.specs.State.{Change, Given, Noted, Plain}
 use Rattle.mq_spec_state.specs.State.Change.{Leave, SetReceiver}
 use Rattle.mq_spec_state.specs.State.Which.{Among}
 use Rattle.mq_spec_state.specs.Reads.{connection_at, is_persistent, receiver_data, stored}
@@ -36,7 +31,7 @@ use Rattle.mq_law_channel.specs.Channel.{Channel, Past}
 use Rattle.mq_law_channel.specs.Following.{Awaited, Placed}
 use Rattle.mq_law_channel.specs.Turns.{receiver_turn, receiver_turned}
 use Rattle.mq_law_rows.specs.World.{Book, Inv, World}
-use Rattle.mq_law_rows.proofs.Lists.{bool_case, eqb_self, eqb_yes, is_false}
+use Rattle.mq_law_rows.proofs.Lists.{bool_case, eqb_yes, is_false}
 use Rattle.mq_law_seen.specs.Seen.{book_of, world_of}
 use Rattle.mq_law_manager.specs.Facts.{IsSound, has_queue}
 use Rattle.mq_law_manager.proofs.Shelves.{has_mapped}
@@ -46,18 +41,17 @@ use Rattle.mq_law_found.specs.Finds.{posted_again, since}
 use Rattle.mq_law_found.proofs.Again.{steady_lasts}
 use Rattle.mq_law_found.proofs.Finding.{moments_back, timed_then, told_then}
 use Rattle.mq_law_found.proofs.Going.{left_row}
-use Rattle.mq_law_events.specs.Posting.{IsTimed}
-use Rattle.mq_law_events.specs.Tied.{IsFresh, IsNext, IsTold, connections_told}
+use Rattle.mq_law_events.specs.Tied.{IsNext, IsTold, connections_told}
 use Rattle.mq_law_events.proofs.Telling.{else_changed, here_changed}
 use Rattle.mq_law_batches.proofs.Wording.{stays}
 use Rattle.mq_law_node.specs.Ends.{stamped}
-use Rattle.mq_law_receipts.specs.Receipts.{Comes, IsAwaitedAt, IsCabled, IsShadow, Receipt}
+use Rattle.mq_law_receipts.specs.Receipts.{Comes, IsAwaitedAt, IsCabled, IsShadow}
 use Rattle.mq_law_receipts.proofs.Landing.{Lands}
 use Rattle.mq_law_receipts.proofs.Losing.{posts_alike, posts_found}
 use Rattle.mq_law_receipts.proofs.Receiving.{IsDone, done_beside, lands_then, posts, receipt_keeps, receipt_told}
 use Rattle.mq_law_turns.specs.Turns.{Found, IsHome, IsJoint, Scene, Taken, world_in}
 use Rattle.mq_law_turns.proofs.Taking.{found_at, found_commits}
-use Rattle.mq_law_stopped.specs.Noted.{CommitFound, CommitNote, IsCommitting, Stays_, left_as, noted_of}
+use Rattle.mq_law_stopped.specs.Noted.{CommitFound, CommitNote, Stays_, left_as, noted_of}
 use Rattle.mq_law_stopped.proofs.Channels.{all_after}
 
 -- WHAT LASTS OF IT follows from what lasted: so wherever a restart finds it, it has the image that the turn would have had

@@ -1,5 +1,5 @@
 -- What each turn of an end notes where its write is stopped.
-use Rattle.std.proofs.Common.{ℕ, ◌≡◌, ◌⊎◌, Bool, true, false, List, [], ◌∷◌, ◌++◌, refl, ap, sym, subst, ◌∙◌, inl, inr, map}
+use Rattle.std.proofs.Common.{ℕ, ◌≡◌, ◌⊎◌, Bool, true, false, List, [], ◌++◌, refl, ap, sym, subst, ◌∙◌, inl, inr, map}
 use Rattle.std.specs.Prelude.{Option, Some, None, Result, Ok, Err, if◌then◌else◌}
 use Rattle.std.specs.Option.{option_map}
 use Rattle.mq_codes.specs.declared.reason.Reason.{Reason}
@@ -20,8 +20,6 @@ use Rattle.mq_receiver.specs.declared.turns.ReceiverOut.TheVariants as ends
 use Rattle.mq_receiver.specs.After.{bound_by, last_by}
 use Rattle.mq_receiver.specs.Table.{receiver_next}
 use Rattle.mq_calls.specs.declared.agents.Note.TheVariants as notes
-use Rattle.mq_calls.specs.declared.deltas.Did.{Did}
-use Rattle.mq_calls.specs.declared.deltas.Did.TheVariants as did
 use Rattle.mq_calls.specs.declared.records.LogRecord.{LogRecord}
 use Rattle.mq_calls.specs.declared.state.Batch.{Batch}
 use Rattle.mq_spec_state.specs.State.{Plain}
@@ -29,7 +27,6 @@ use Rattle.mq_spec_state.specs.Reads.{batch_of, in_doubt_of, is_full, sender_dat
 use Rattle.mq_spec_state.specs.Sizes.{need}
 use Rattle.mq_spec_state.specs.Steps.{Part}
 use Rattle.mq_spec_agents.specs.Words.{Landed, harden_part, landed, leave, prepare_of, prepared_record, receive_landed, received_record, release_of, stock, unit_of}
-use Rattle.mq_spec_network.specs.Order.{unit_received}
 use Rattle.mq_spec_node.specs.Node.{Node}
 use Rattle.mq_spec_node.specs.Deeds.{parts_of}
 use Rattle.mq_spec_node.specs.Receivers.{is_receiver_defined, place_deed, receiver_deed_by}
