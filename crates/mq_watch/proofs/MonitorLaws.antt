@@ -1,5 +1,6 @@
 -- A monitor's turn: what its get would find, and what it comes to.
-use Rattle.std.proofs.Common.{◌≡◌, ℕ, ◌+◌, ◌≤◌, refl, sym, ap, subst, ◌∙◌, List, [], ◌∷◌, Bool, true, false, cond, not, arith}
+use Rattle.std.proofs.Common.{◌≡◌, ℕ, ◌+◌, ◌^◌, ◌<◌, ◌≤◌, nat_le, refl, sym, ap, subst, ◌∙◌, List, [], ◌∷◌, length, Bool, true, false, ◌||◌, cond, not, arith}
+use Rattle.std.proofs.lemmas.Bool.Decides.{nat_tests}
 use Rattle.std.specs.Prelude.{Option, Some, None, Result, Ok, Err, ◌==◌, ◌&&◌, find}
 use Rattle.mq_base.specs.declared.want.NoMemory.{NoMemory as Want}
 use Rattle.mq_calls.specs.declared.answers.Answer.TheVariants as answers
@@ -21,9 +22,8 @@ use Rattle.mq_events.specs.Outcomes.{Came, Ends, EndsAs}
 use Rattle.mq_events.proofs.NumberLaws.{tested_all}
 use Rattle.mq_events.specs.States.{NodeState, IsKept, IsServed, entry_of, finished, node_in, value_of}
 use Rattle.mq_events.specs.Counts.{IsNode, KeepsCounts}
-use Rattle.mq_events.specs.Events.{Adds, Stays}
-use Rattle.mq_events.proofs.StepLaws.{Asked, Roomed, applied_kept, ends_from, manager_same, roomed_asked, roomed_kept, roomed_stays, wanted_kept, wanted_stays}
-use Rattle.mq_events.proofs.KeepLaws.{asked_counts, finished_counts, roomed_counts, same_counts}
+use Rattle.mq_events.specs.Events.{Adds, MayAct, Stays}
+use Rattle.mq_events.proofs.StepLaws.{Asked, Roomed, ends_from, roomed_asked, room_same, stamp_same}
 use Rattle.mq_events.proofs.CountLaws.{counted_more, counted_still}
 use Rattle.mq_watch.specs.declared.getting.Monitored.{Monitored}
 use Rattle.mq_watch.specs.declared.getting.Monitored.TheVariants as monitors
@@ -171,6 +171,13 @@ idle_at k s w e = ap (λ (o : Option Call). gets_nothing (monitor_deed k o (node
 pub unfit : (k : ℕ) (s : NodeState) (w : Watched) → Some w ≡ watched_by (monitor_in k s.own.monitors) → fits w.connection w.queue s.manager.plain ≡ false → Turns k s (Ok monitors.Idle) s
 unfit k s w e f = record { stays = same_stays s; idle = idle_at k s w (sym e) ∙ seat_nothing w.queue s.manager.plain s.own (connected w.connection s.manager.plain) f }
 
+no_second : (a b : Bool) → (a || b) ≡ false → b ≡ false
+no_second true b h = absurd cc
+no_second false b h = h
+
+below : (n m : ℕ) → nat_le n m ≡ false → m < n
+below n m h = grind (arith, nat_tests)
+
 module _ (k : ℕ) (s r a : NodeState) (w : Watched) (e : Roomed s r) (h : Asked r a) (seat : watched_by (monitor_in k s.own.monitors) ≡ Some w) (fit : fits w.connection w.queue s.manager.plain ≡ true) where
   shape : Shape (step_of w s.manager.plain)
   shape = seat_shape w.queue s.manager.plain (connected w.connection s.manager.plain) fit
@@ -187,6 +194,14 @@ module _ (k : ℕ) (s r a : NodeState) (w : Watched) (e : Roomed s r) (h : Asked
   kept_at kept same =
       let V : Plain → Type 0 = λ p. IsReplayed (record (value_of s) { node = node_of p s.own }) in
       subst IsKept (sym (roomed_asked s r a e h)) (subst V (sym same) kept)
+
+  pub room_left : 1 ≤ r.room → 0 < a.room
+  room_left more = let same = room_same r a h in omega (arith, more, same)
+
+  pub stamp_left : MayAct s → a.stamp < 2 ^ 60
+  stamp_left may =
+      let low : s.stamp < 2 ^ 60 = below (2 ^ 60) s.stamp (no_second (nat_le (2 ^ 48) (length s.history.entries)) (nat_le (2 ^ 60) s.stamp) may) in
+      subst (λ (n : ℕ). n < 2 ^ 60) (sym (stamp_same s r a e h)) low
 
   pub waits_turn : Ends (get_of w) r.manager (Ok None) a.manager → ⊥
   waits_turn n = never_waits s.own s.manager.plain a.manager.plain (step_of w s.manager.plain) shape ((ends_at (Ok None) n).ends 0 (actors.Monitor k) s.own)
