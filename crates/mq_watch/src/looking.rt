@@ -119,7 +119,6 @@ fn queue_fits<D: Disk>(parts: &Parts<D>, queue: &QName) -> bool
 }
 
 /// The first row of a handle's queue that the get would find fits.
-#[tactic(auto, using(crate::proofs::LookLaws::found_fits))]
 fn handle_fits<D: Disk>(parts: &Parts<D>, handle: &Handle) -> bool
     ensures { result ≡ handle_fits (plain_of parts.now) handle.now }
 {
