@@ -1,7 +1,7 @@
 //! A monitor's turn as an event of its node.
 ghost use Rattle.std.specs.Prelude.{◌≡◌, ◌==◌, true, find, Some, option_copied};
 ghost use Rattle.mq_events.specs.Outcomes.{Ends};
-ghost use Rattle.mq_spec_node.specs.Words.{monitor_get, monitor_in};
+ghost use Rattle.mq_spec_node.specs.Words.{begins, monitor_get, monitor_in};
 ghost use Rattle.mq_events.specs.Counts.{IsNode, KeepsCounts};
 ghost use Rattle.mq_events.specs.Events.{MayAct};
 ghost use Rattle.mq_events.specs.States.{IsKept, IsServed};
