@@ -171,6 +171,9 @@ idle_at k s w e = ap (λ (o : Option Call). gets_nothing (monitor_deed k o (node
 pub unfit : (k : ℕ) (s : NodeState) (w : Watched) → Some w ≡ watched_by (monitor_in k s.own.monitors) → fits w.connection w.queue s.manager.plain ≡ false → Turns k s (Ok monitors.Idle) s
 unfit k s w e f = record { stays = same_stays s; idle = idle_at k s w (sym e) ∙ seat_nothing w.queue s.manager.plain s.own (connected w.connection s.manager.plain) f }
 
+pub short_turn : (k : ℕ) (s t : NodeState) (x : Result Monitored Want) (y : Want) → x ≡ Err y → Stays s t → Turns k s x t
+short_turn k s t x y e h = let T : Result Monitored Want → Type 0 = λ z. Turns k s z t in subst T (sym e) h
+
 no_second : (a b : Bool) → (a || b) ≡ false → b ≡ false
 no_second true b h = absurd cc
 no_second false b h = h
