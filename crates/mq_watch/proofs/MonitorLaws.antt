@@ -7,7 +7,6 @@ use Rattle.mq_calls.specs.declared.answers.Answer.TheVariants as answers
 use Rattle.mq_calls.specs.declared.answers.GetAnswer.{GetAnswer}
 use Rattle.mq_calls.specs.declared.answers.GetAnswer.TheVariants as get_answers
 use Rattle.mq_codes.specs.declared.reason.Reason.TheVariants as reasons
-use Rattle.mq_frame.specs.declared.frame.Seen.TheVariants as items
 use Rattle.mq_history.specs.declared.calls.Actor.TheVariants as actors
 use Rattle.mq_history.specs.declared.calls.Call.TheVariants as calls
 use Rattle.mq_history.specs.declared.calls.Reply.TheVariants as replies
@@ -15,12 +14,12 @@ use Rattle.mq_queue.specs.declared.row.Row.{Row}
 use Rattle.mq_spec_state.specs.Words.{Connection, Handle, handle_at}
 use Rattle.mq_spec_manager.specs.Words.{connected, for_connection, for_handle, get_found, get_handle, get_scanned, get_tests, get_up, got, got_answer, is_left, is_too_long, mqget, queue_at, room_tests, scanned, with_row, expired_parts}
 use Rattle.mq_spec_node.specs.Terms.{Call, Choice, Runs, NoMemory, Stopped, Entry, Got, Hconn, Hobj, Part, Plain, Reason, Reply, Step, Refuse, Do}
-use Rattle.mq_spec_node.specs.Words.{CanCome, Deed, IsReplayed, Monitor, Node, Own, begins, call_of, deed_of, done, get_deed, gets_nothing, monitor_deed, monitor_call, monitor_get, monitor_idle, monitor_in, monitor_next, node_of, told}
+use Rattle.mq_spec_node.specs.Words.{CanCome, IsReplayed, Monitor, Node, Own, begins, call_of, done, get_deed, gets_nothing, monitor_deed, monitor_call, monitor_get, monitor_idle, monitor_in, node_of, told}
 use Rattle.mq_law_counts.specs.Counts.{IsCountedCall}
 use Rattle.mq_events.specs.declared.outcome.Outcome.{Outcome}
-use Rattle.mq_events.specs.Outcomes.{Came, Ends, EndsAs}
+use Rattle.mq_events.specs.Outcomes.{Ends, EndsAs}
 use Rattle.mq_events.proofs.NumberLaws.{tested_all}
-use Rattle.mq_events.specs.States.{NodeState, IsKept, IsServed, entry_of, finished, node_in, value_of}
+use Rattle.mq_events.specs.States.{NodeState, IsKept, entry_of, finished, node_in, value_of}
 use Rattle.mq_events.specs.Counts.{IsNode, KeepsCounts}
 use Rattle.mq_events.specs.Events.{Adds, MayAct, Stays}
 use Rattle.mq_events.proofs.StepLaws.{Asked, Roomed, ends_from, roomed_asked, room_same, stamp_same}
@@ -29,7 +28,7 @@ use Rattle.mq_watch.specs.declared.getting.Monitored.{Monitored}
 use Rattle.mq_watch.specs.declared.getting.Monitored.TheVariants as monitors
 use Rattle.mq_watch.specs.declared.getting.Watched.{Watched}
 use Rattle.mq_watch.specs.Looks.{fits, handle_or, row_fits, seat_or}
-use Rattle.mq_watch.specs.Turns.{Gets, Rests, Turns, get_of, is_refused, monitored, refused_reply, watched_at, watched_by}
+use Rattle.mq_watch.specs.Turns.{Gets, Turns, get_of, is_refused, monitored, refused_reply, watched_at, watched_by}
 
 pub monitor_found : (number : ℕ) (ms : List Monitor) → find (λ (m : Monitor). m.number == number) ms ≡ monitor_in number ms
 monitor_found number [] = refl

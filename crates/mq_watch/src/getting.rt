@@ -2,7 +2,7 @@
 ghost use Rattle.std.specs.Prelude.{◌≡◌, ◌==◌, true, find, Some, option_copied};
 ghost use Rattle.mq_events.specs.Outcomes.{Ends};
 ghost use Rattle.mq_spec_node.specs.Words.{begins, monitor_get, monitor_in};
-ghost use Rattle.mq_events.specs.Counts.{IsNode, KeepsCounts};
+ghost use Rattle.mq_events.specs.Counts.{KeepsCounts};
 ghost use Rattle.mq_events.specs.Events.{MayAct};
 ghost use Rattle.mq_events.specs.States.{IsKept, IsServed};
 ghost use Rattle.mq_watch.specs.Looks.{fits};

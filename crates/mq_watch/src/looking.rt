@@ -1,5 +1,5 @@
 //! Whether a monitor's get would find a message that fits, seen without a change.
-ghost use Rattle.std.specs.Prelude.{◌≡◌, find, length, option_copied, not};
+ghost use Rattle.std.specs.Prelude.{◌≡◌, find, length, option_copied};
 ghost use Rattle.mq_heads.specs.Headers.{xqh_bytes};
 ghost use Rattle.mq_spec_state.specs.Reads.{is_past};
 ghost use Rattle.mq_spec_manager.specs.Heads.{xqh_of};
