@@ -1,9 +1,9 @@
 -- The row that a monitor's get finds is the first that is free and has not expired.
-use Rattle.std.proofs.Common.{◌≡◌, ℕ, refl, sym, ap, ◌∙◌, List, [], ◌∷◌, Bool, true, false, cond}
-use Rattle.std.specs.Prelude.{Option, Some, None, find, not, ◌&&◌}
+use Rattle.std.proofs.Common.{◌≡◌, refl, sym, ap, ◌∙◌, List, [], ◌∷◌, Bool, true, false, cond}
+use Rattle.std.specs.Prelude.{Some, find, not, ◌&&◌}
 use Rattle.mq_queue.specs.declared.row.Row.{Row}
 use Rattle.mq_queue.specs.Rows.{is_free}
-use Rattle.mq_spec_state.specs.Words.{Handle, Plain, is_expired, is_past, stored}
+use Rattle.mq_spec_state.specs.Words.{Handle, Plain, is_expired, stored}
 use Rattle.mq_spec_manager.specs.Words.{Scan, queue_at, scan, scan_row, scanned}
 use Rattle.mq_spec_node.specs.Words.{monitor_get}
 use Rattle.mq_watch.specs.Looks.{is_fresh, row_fits, queue_fits, handle_fits}

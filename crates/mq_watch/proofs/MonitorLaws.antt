@@ -1,12 +1,12 @@
 -- A monitor's turn: what its get would find, and what it comes to.
-use Rattle.std.proofs.Common.{◌≡◌, ℕ, ◌+◌, ◌≤◌, refl, sym, ap, subst, ◌∙◌, List, [], ◌∷◌, Bool, true, false, cond, not, arith}
+use Rattle.std.proofs.Common.{◌≡◌, ℕ, ◌+◌, ◌^◌, ◌<◌, ◌≤◌, nat_le, refl, sym, ap, subst, ◌∙◌, List, [], ◌∷◌, length, Bool, true, false, ◌||◌, cond, not, arith}
+use Rattle.std.proofs.lemmas.Bool.Decides.{nat_tests}
 use Rattle.std.specs.Prelude.{Option, Some, None, Result, Ok, Err, ◌==◌, ◌&&◌, find}
 use Rattle.mq_base.specs.declared.want.NoMemory.{NoMemory as Want}
 use Rattle.mq_calls.specs.declared.answers.Answer.TheVariants as answers
 use Rattle.mq_calls.specs.declared.answers.GetAnswer.{GetAnswer}
 use Rattle.mq_calls.specs.declared.answers.GetAnswer.TheVariants as get_answers
 use Rattle.mq_codes.specs.declared.reason.Reason.TheVariants as reasons
-use Rattle.mq_frame.specs.declared.frame.Seen.TheVariants as items
 use Rattle.mq_history.specs.declared.calls.Actor.TheVariants as actors
 use Rattle.mq_history.specs.declared.calls.Call.TheVariants as calls
 use Rattle.mq_history.specs.declared.calls.Reply.TheVariants as replies
@@ -14,22 +14,21 @@ use Rattle.mq_queue.specs.declared.row.Row.{Row}
 use Rattle.mq_spec_state.specs.Words.{Connection, Handle, handle_at}
 use Rattle.mq_spec_manager.specs.Words.{connected, for_connection, for_handle, get_found, get_handle, get_scanned, get_tests, get_up, got, got_answer, is_left, is_too_long, mqget, queue_at, room_tests, scanned, with_row, expired_parts}
 use Rattle.mq_spec_node.specs.Terms.{Call, Choice, Runs, NoMemory, Stopped, Entry, Got, Hconn, Hobj, Part, Plain, Reason, Reply, Step, Refuse, Do}
-use Rattle.mq_spec_node.specs.Words.{CanCome, Deed, IsReplayed, Monitor, Node, Own, begins, call_of, deed_of, done, get_deed, gets_nothing, monitor_deed, monitor_call, monitor_get, monitor_idle, monitor_in, monitor_next, node_of, told}
+use Rattle.mq_spec_node.specs.Words.{CanCome, IsReplayed, Monitor, Node, Own, begins, call_of, done, get_deed, gets_nothing, monitor_deed, monitor_call, monitor_get, monitor_idle, monitor_in, node_of, told}
 use Rattle.mq_law_counts.specs.Counts.{IsCountedCall}
 use Rattle.mq_events.specs.declared.outcome.Outcome.{Outcome}
-use Rattle.mq_events.specs.Outcomes.{Came, Ends, EndsAs}
+use Rattle.mq_events.specs.Outcomes.{Ends, EndsAs}
 use Rattle.mq_events.proofs.NumberLaws.{tested_all}
-use Rattle.mq_events.specs.States.{NodeState, IsKept, IsServed, entry_of, finished, node_in, value_of}
+use Rattle.mq_events.specs.States.{NodeState, IsKept, entry_of, finished, node_in, value_of}
 use Rattle.mq_events.specs.Counts.{IsNode, KeepsCounts}
-use Rattle.mq_events.specs.Events.{Adds, Stays}
-use Rattle.mq_events.proofs.StepLaws.{Asked, Roomed, applied_kept, ends_from, manager_same, roomed_asked, roomed_kept, roomed_stays, wanted_kept, wanted_stays}
-use Rattle.mq_events.proofs.KeepLaws.{asked_counts, finished_counts, roomed_counts, same_counts}
+use Rattle.mq_events.specs.Events.{Adds, MayAct, Stays}
+use Rattle.mq_events.proofs.StepLaws.{Asked, Roomed, ends_from, roomed_asked, room_same, stamp_same}
 use Rattle.mq_events.proofs.CountLaws.{counted_more, counted_still}
 use Rattle.mq_watch.specs.declared.getting.Monitored.{Monitored}
 use Rattle.mq_watch.specs.declared.getting.Monitored.TheVariants as monitors
 use Rattle.mq_watch.specs.declared.getting.Watched.{Watched}
 use Rattle.mq_watch.specs.Looks.{fits, handle_or, row_fits, seat_or}
-use Rattle.mq_watch.specs.Turns.{Gets, Rests, Turns, get_of, is_refused, monitored, refused_reply, watched_at, watched_by}
+use Rattle.mq_watch.specs.Turns.{Gets, Turns, get_of, is_refused, monitored, refused_reply, watched_at, watched_by}
 
 pub monitor_found : (number : ℕ) (ms : List Monitor) → find (λ (m : Monitor). m.number == number) ms ≡ monitor_in number ms
 monitor_found number [] = refl
@@ -171,6 +170,16 @@ idle_at k s w e = ap (λ (o : Option Call). gets_nothing (monitor_deed k o (node
 pub unfit : (k : ℕ) (s : NodeState) (w : Watched) → Some w ≡ watched_by (monitor_in k s.own.monitors) → fits w.connection w.queue s.manager.plain ≡ false → Turns k s (Ok monitors.Idle) s
 unfit k s w e f = record { stays = same_stays s; idle = idle_at k s w (sym e) ∙ seat_nothing w.queue s.manager.plain s.own (connected w.connection s.manager.plain) f }
 
+pub short_turn : (k : ℕ) (s t : NodeState) (x : Result Monitored Want) (y : Want) → x ≡ Err y → Stays s t → Turns k s x t
+short_turn k s t x y e h = let T : Result Monitored Want → Type 0 = λ z. Turns k s z t in subst T (sym e) h
+
+no_second : (a b : Bool) → (a || b) ≡ false → b ≡ false
+no_second true b h = absurd cc
+no_second false b h = h
+
+below : (n m : ℕ) → nat_le n m ≡ false → m < n
+below n m h = grind (arith, nat_tests)
+
 module _ (k : ℕ) (s r a : NodeState) (w : Watched) (e : Roomed s r) (h : Asked r a) (seat : watched_by (monitor_in k s.own.monitors) ≡ Some w) (fit : fits w.connection w.queue s.manager.plain ≡ true) where
   shape : Shape (step_of w s.manager.plain)
   shape = seat_shape w.queue s.manager.plain (connected w.connection s.manager.plain) fit
@@ -187,6 +196,14 @@ module _ (k : ℕ) (s r a : NodeState) (w : Watched) (e : Roomed s r) (h : Asked
   kept_at kept same =
       let V : Plain → Type 0 = λ p. IsReplayed (record (value_of s) { node = node_of p s.own }) in
       subst IsKept (sym (roomed_asked s r a e h)) (subst V (sym same) kept)
+
+  pub room_left : 1 ≤ r.room → 0 < a.room
+  room_left more = let same = room_same r a h in omega (arith, more, same)
+
+  pub stamp_left : MayAct s → a.stamp < 2 ^ 60
+  stamp_left may =
+      let low : s.stamp < 2 ^ 60 = below (2 ^ 60) s.stamp (no_second (nat_le (2 ^ 48) (length s.history.entries)) (nat_le (2 ^ 60) s.stamp) may) in
+      subst (λ (n : ℕ). n < 2 ^ 60) (sym (stamp_same s r a e h)) low
 
   pub waits_turn : Ends (get_of w) r.manager (Ok None) a.manager → ⊥
   waits_turn n = never_waits s.own s.manager.plain a.manager.plain (step_of w s.manager.plain) shape ((ends_at (Ok None) n).ends 0 (actors.Monitor k) s.own)

@@ -1,6 +1,6 @@
 -- The last entry, and what a monitor was answered.
-use Rattle.std.proofs.Common.{◌≡◌, ℕ, suc, ◌+◌, ◌-◌, refl, sym, ap, subst, ◌∙◌, List, [], ◌∷◌, ◌++◌, length, Bool, true, false, arith}
-use Rattle.std.specs.Prelude.{Option, Some, None, Result, Ok, Err, slice_get}
+use Rattle.std.proofs.Common.{◌≡◌, ℕ, suc, ◌+◌, ◌-◌, refl, ap, subst, ◌∙◌, List, [], ◌∷◌, ◌++◌, length, Bool, true, false, arith}
+use Rattle.std.specs.Prelude.{Option, Some, None, Ok, slice_get}
 use Rattle.mq_history.specs.declared.calls.Actor.TheVariants as actors
 use Rattle.mq_history.specs.declared.calls.Call.TheVariants as calls
 use Rattle.mq_spec_node.specs.Terms.{Actor, Call, Entry, Hconn, History, MonitorLine}
@@ -37,33 +37,41 @@ last_same who what old new a x e = entry_is x a.0 (e ∙ adds_last who what a.0 
     entry_is : (a b : Entry) → Some a ≡ Some b → a ≡ b
     entry_is a b e = cc
 
-abbrev Made : Actor → Call → NodeState → NodeState → Type 0
-Made who call old new = EventIs who call (deed_of (old.stamp + 1) who call items.Nothing (node_in old)) old (Ok true) new
+-- neither call waits
+abbrev Made : Actor → Call → NodeState → Bool → NodeState → Type 0
+Made who call old made new = EventIs who call (deed_of (old.stamp + 1) who call items.Nothing (node_in old)) old (Ok made) new
 
-pub connect_last : (k : ℕ) (line : MonitorLine) (old new : NodeState) (c : Call) → c ≡ calls.Mqconn [] (script_appl line.label)
-    → EventIs (actors.Monitor k) c (deed_of (old.stamp + 1) (actors.Monitor k) c items.Nothing (node_in old)) old (Ok true) new → None ≡ last_entry new.history.entries → ⊥
-connect_last k line old new c f made e =
-    let M : Call → Type 0 = λ y. Made (actors.Monitor k) y old new in
-    some_last (actors.Monitor k) (calls.Mqconn [] (script_appl line.label)) old new (subst M f made) e
+connect_adds : (k : ℕ) (line : MonitorLine) (old new : NodeState) (made : Bool) → Made (actors.Monitor k) (calls.Mqconn [] (script_appl line.label)) old made new → (e : Entry) × Adds (actors.Monitor k) (calls.Mqconn [] (script_appl line.label)) e old new
+connect_adds k line old new true is = is
+connect_adds k line old new false is = absurd is
 
-pub open_last : (k : ℕ) (line : MonitorLine) (hc : Hconn) (old new : NodeState) (c : Call) → c ≡ calls.Mqopen hc line.queue [] shared
-    → EventIs (actors.Monitor k) c (deed_of (old.stamp + 1) (actors.Monitor k) c items.Nothing (node_in old)) old (Ok true) new → None ≡ last_entry new.history.entries → ⊥
-open_last k line hc old new c f made e =
-    let M : Call → Type 0 = λ y. Made (actors.Monitor k) y old new in
-    some_last (actors.Monitor k) (calls.Mqopen hc line.queue [] shared) old new (subst M f made) e
+open_adds : (k : ℕ) (line : MonitorLine) (hc : Hconn) (old new : NodeState) (made : Bool) → Made (actors.Monitor k) (calls.Mqopen hc line.queue [] shared) old made new → (e : Entry) × Adds (actors.Monitor k) (calls.Mqopen hc line.queue [] shared) e old new
+open_adds k line hc old new true is = is
+open_adds k line hc old new false is = absurd is
 
-pub connected : (k : ℕ) (line : MonitorLine) (old new : NodeState) (c : Call) (x : Entry) (given : Option Hconn) → c ≡ calls.Mqconn [] (script_appl line.label) → (e : Entry) × Adds (actors.Monitor k) c e old new
-    → Some x ≡ last_entry new.history.entries → given ≡ connection_of x.reply → Connects k line old (Ok given) new
-connected k line old new c x given f a l g = record {
-  entry = a.0;
-  adds = subst (λ (y : Call). Adds (actors.Monitor k) y a.0 old new) f a.1;
-  gives = g ∙ ap (λ (y : Entry). connection_of y.reply) (last_same (actors.Monitor k) c old new a x l);
-}
+module _ (k : ℕ) (line : MonitorLine) (old new : NodeState) (c : Call) (made : Bool) where
+  connect_made : c ≡ calls.Mqconn [] (script_appl line.label) → EventIs (actors.Monitor k) c (deed_of (old.stamp + 1) (actors.Monitor k) c items.Nothing (node_in old)) old (Ok made) new
+      → (e : Entry) × Adds (actors.Monitor k) (calls.Mqconn [] (script_appl line.label)) e old new
+  connect_made f is = let M : Call → Type 0 = λ y. Made (actors.Monitor k) y old made new in connect_adds k line old new made (subst M f is)
 
-pub opened : (k : ℕ) (line : MonitorLine) (hc : Hconn) (old new : NodeState) (c : Call) (x : Entry) (given : Bool) → c ≡ calls.Mqopen hc line.queue [] shared → (e : Entry) × Adds (actors.Monitor k) c e old new
-    → Some x ≡ last_entry new.history.entries → given ≡ is_opened x.reply → Opens k line hc old (Ok given) new
-opened k line hc old new c x given f a l g = record {
-  entry = a.0;
-  adds = subst (λ (y : Call). Adds (actors.Monitor k) y a.0 old new) f a.1;
-  gives = g ∙ ap (λ (y : Entry). is_opened y.reply) (last_same (actors.Monitor k) c old new a x l);
-}
+  pub connect_last : c ≡ calls.Mqconn [] (script_appl line.label) → EventIs (actors.Monitor k) c (deed_of (old.stamp + 1) (actors.Monitor k) c items.Nothing (node_in old)) old (Ok made) new → None ≡ last_entry new.history.entries → ⊥
+  connect_last f is none = some_last (actors.Monitor k) (calls.Mqconn [] (script_appl line.label)) old new (connect_made f is) none
+
+  pub connected : (x : Entry) (given : Option Hconn) → c ≡ calls.Mqconn [] (script_appl line.label) → EventIs (actors.Monitor k) c (deed_of (old.stamp + 1) (actors.Monitor k) c items.Nothing (node_in old)) old (Ok made) new
+      → Some x ≡ last_entry new.history.entries → given ≡ connection_of x.reply → Connects k line old (Ok given) new
+  connected x given f is l g =
+      let a = connect_made f is in
+      record { entry = a.0; adds = a.1; gives = g ∙ ap (λ (y : Entry). connection_of y.reply) (last_same (actors.Monitor k) (calls.Mqconn [] (script_appl line.label)) old new a x l) }
+
+  open_made : (hc : Hconn) → c ≡ calls.Mqopen hc line.queue [] shared → EventIs (actors.Monitor k) c (deed_of (old.stamp + 1) (actors.Monitor k) c items.Nothing (node_in old)) old (Ok made) new
+      → (e : Entry) × Adds (actors.Monitor k) (calls.Mqopen hc line.queue [] shared) e old new
+  open_made hc f is = let M : Call → Type 0 = λ y. Made (actors.Monitor k) y old made new in open_adds k line hc old new made (subst M f is)
+
+  pub open_last : (hc : Hconn) → c ≡ calls.Mqopen hc line.queue [] shared → EventIs (actors.Monitor k) c (deed_of (old.stamp + 1) (actors.Monitor k) c items.Nothing (node_in old)) old (Ok made) new → None ≡ last_entry new.history.entries → ⊥
+  open_last hc f is none = some_last (actors.Monitor k) (calls.Mqopen hc line.queue [] shared) old new (open_made hc f is) none
+
+  pub opened : (hc : Hconn) (x : Entry) (given : Bool) → c ≡ calls.Mqopen hc line.queue [] shared → EventIs (actors.Monitor k) c (deed_of (old.stamp + 1) (actors.Monitor k) c items.Nothing (node_in old)) old (Ok made) new
+      → Some x ≡ last_entry new.history.entries → given ≡ is_opened x.reply → Opens k line hc old (Ok given) new
+  opened hc x given f is l g =
+      let a = open_made hc f is in
+      record { entry = a.0; adds = a.1; gives = g ∙ ap (λ (y : Entry). is_opened y.reply) (last_same (actors.Monitor k) (calls.Mqopen hc line.queue [] shared) old new a x l) }

@@ -1,5 +1,6 @@
 //! Which script a trigger message begins.
 ghost use Rattle.std.specs.Prelude.{◌≡◌, ◌==◌, find, option_map};
+ghost use Rattle.std.specs.List.{list_any};
 ghost use Rattle.std.specs.Str.{bytes_eq};
 ghost use Rattle.mq_spec_node.specs.Words.{begins, got_body, is_script, is_trigger, lines_done, script_named, unless_begun};
 ghost use Rattle.mq_watch.specs.Turns.{is_line};
@@ -33,7 +34,6 @@ fn first_named(label: &[u8], scripts: &[Script]) -> Option<u16>
 }
 
 /// The first script with this label.
-#[tactic(auto, using(crate::proofs::BeginLaws::named_is))]
 fn script_named(label: &[u8], scripts: &[Script]) -> Option<u16>
     ensures { result ≡ script_named label.now scripts.now }
 {
@@ -65,12 +65,18 @@ fn is_line(number: u16, entry: &Entry) -> bool
     is_script(number, &entry.actor) && !is_trigger(&entry.call)
 }
 
+/// Whether a line of a script was done.
+fn has_begun(number: u16, entries: &[Entry]) -> bool
+    ensures { result ≡ list_any (is_line number) entries.now }
+{
+    entries.iter().any(|entry| is_line(number, entry))
+}
+
 /// Whether no line of a script was done.
-#[tactic(auto, using(crate::proofs::BeginLaws::none_done))]
 fn is_unbegun(number: u16, entries: &[Entry]) -> bool
     ensures { result ≡ (lines_done number entries.now == 0) }
 {
-    !entries.iter().any(|entry| is_line(number, entry))
+    !has_begun(number, entries)
 }
 
 fn unless_begun(entries: &[Entry], script: Option<u16>) -> Option<u16>

@@ -1,8 +1,8 @@
 //! A monitor's turn as an event of its node.
 ghost use Rattle.std.specs.Prelude.{◌≡◌, ◌==◌, true, find, Some, option_copied};
 ghost use Rattle.mq_events.specs.Outcomes.{Ends};
-ghost use Rattle.mq_spec_node.specs.Words.{monitor_get, monitor_in};
-ghost use Rattle.mq_events.specs.Counts.{IsNode, KeepsCounts};
+ghost use Rattle.mq_spec_node.specs.Words.{begins, monitor_get, monitor_in};
+ghost use Rattle.mq_events.specs.Counts.{KeepsCounts};
 ghost use Rattle.mq_events.specs.Events.{MayAct};
 ghost use Rattle.mq_events.specs.States.{IsKept, IsServed};
 ghost use Rattle.mq_watch.specs.Looks.{fits};
@@ -127,12 +127,42 @@ fn get<D: Disk>(parts: &mut NodeParts<D>, watched: &Watched) -> Result<Option<Ou
     )
 }
 
+fn monitors_of<D: Disk>(parts: &NodeParts<D>) -> &[Monitor]
+    ensures { result.now ≡ parts.now.own.monitors }
+{
+    parts.own.monitors.as_slice()
+}
+
+/// Where a node's monitor gets, if it is connected and has its queue open.
+fn watched_in<D: Disk>(parts: &NodeParts<D>, number: u16) -> Option<Watched>
+    ensures { result ≡ watched_by (monitor_in number parts.now.own.monitors) }
+{
+    watched_by(monitor_in(monitors_of(parts), number))
+}
+
+/// Whether its get would find a message that fits.
+fn fits_in<D: Disk>(parts: &NodeParts<D>, watched: &Watched) -> bool
+    ensures { result ≡ fits watched.now.connection watched.now.queue parts.now.manager.plain }
+{
+    fits(&parts.manager.core, &watched.connection, &watched.queue)
+}
+
+/// The script of a node that a monitor's get begins.
+fn begun_by<D: Disk>(parts: &NodeParts<D>, reply: &Reply) -> Option<u16>
+    ensures { result ≡ begins parts.now.own.scripts parts.now.history.entries reply.now }
+{
+    begins(
+        parts.own.scripts.as_slice(),
+        parts.entries.as_slice(),
+        reply,
+    )
+}
+
 /// A turn of a monitor that would find a message that fits, where its get isn't refused.
 ///
 /// # Errors
 ///
 /// No memory; nothing has changed.
-#[tactic(auto, using(mq_events::proofs::StepLaws::roomed_stays, mq_events::proofs::KeepLaws::roomed_counts, mq_events::proofs::KeepLaws::asked_counts, mq_events::proofs::KeepLaws::finished_counts))]
 fn turn_at<D: Disk>(
     parts: &mut NodeParts<D>,
     number: u16,
@@ -155,11 +185,7 @@ fn turn_at<D: Disk>(
             if is_refused(&outcome) {
                 return Ok(Monitored::Idle);
             }
-            let script = begins(
-                parts.own.scripts.as_slice(),
-                parts.entries.as_slice(),
-                &outcome.reply,
-            );
+            let script = begun_by(parts, &outcome.reply);
             parts.finish(Actor::Monitor(number), get_of(watched), outcome);
             Ok(answer_of(script))
         }
@@ -175,15 +201,13 @@ fn turn<D: Disk>(parts: &mut NodeParts<D>, number: u16) -> Result<Monitored, NoM
     ensures counts { KeepsCounts parts.old parts.new }
     ensures did { Turns number parts.old result parts.new }
 {
-    match watched_by(monitor_in(parts.own.monitors.as_slice(), number)) {
-        None => Ok(Monitored::Idle),
-        Some(watched) => {
-            if !fits(&parts.manager.core, &watched.connection, &watched.queue) {
-                return Ok(Monitored::Idle);
-            }
-            turn_at(parts, number, &watched)
-        }
+    let Some(watched) = watched_in(parts, number) else {
+        return Ok(Monitored::Idle);
+    };
+    if fits_in(parts, &watched) {
+        return turn_at(parts, number, &watched);
     }
+    Ok(Monitored::Idle)
 }
 
 /// A turn of a trigger monitor, as one event: an MQGET of the next message on its initiation queue, without sync, ids, wait or

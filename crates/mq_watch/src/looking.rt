@@ -1,5 +1,5 @@
 //! Whether a monitor's get would find a message that fits, seen without a change.
-ghost use Rattle.std.specs.Prelude.{◌≡◌, find, length, option_copied, not};
+ghost use Rattle.std.specs.Prelude.{◌≡◌, find, length, option_copied};
 ghost use Rattle.mq_heads.specs.Headers.{xqh_bytes};
 ghost use Rattle.mq_spec_state.specs.Reads.{is_past};
 ghost use Rattle.mq_spec_manager.specs.Heads.{xqh_of};
@@ -119,7 +119,6 @@ fn queue_fits<D: Disk>(parts: &Parts<D>, queue: &QName) -> bool
 }
 
 /// The first row of a handle's queue that the get would find fits.
-#[tactic(auto, using(crate::proofs::LookLaws::found_fits))]
 fn handle_fits<D: Disk>(parts: &Parts<D>, handle: &Handle) -> bool
     ensures { result ≡ handle_fits (plain_of parts.now) handle.now }
 {

@@ -25,6 +25,13 @@ fn last(entries: &[Entry]) -> Option<&Entry>
     entries.last()
 }
 
+/// The last entry of a node's history.
+fn last_of<D: Disk>(node: &Node<D>) -> Option<&Entry>
+    ensures { option_copied result ≡ last_entry node.now.history.entries }
+{
+    last(node.entries())
+}
+
 fn connection_of(reply: &Reply) -> Option<Hconn>
     ensures { result ≡ connection_of reply.now }
 {
@@ -125,8 +132,8 @@ pub fn connect<D: Disk>(
 {
     match node.apply(Actor::Monitor(monitor), connect_call(line)) {
         Err(NoMemory) => Err(NoMemory),
-        Ok(false) => unreachable!(),
-        Ok(true) => match last(node.entries()) {
+        // Such a call never waits.
+        Ok(_) => match last_of(node) {
             None => unreachable!(),
             Some(entry) => Ok(connection_of(&entry.reply)),
         },
@@ -151,8 +158,8 @@ pub fn open<D: Disk>(
 {
     match node.apply(Actor::Monitor(monitor), open_call(line, hc)) {
         Err(NoMemory) => Err(NoMemory),
-        Ok(false) => unreachable!(),
-        Ok(true) => match last(node.entries()) {
+        // Such a call never waits.
+        Ok(_) => match last_of(node) {
             None => unreachable!(),
             Some(entry) => Ok(is_opened(&entry.reply)),
         },
