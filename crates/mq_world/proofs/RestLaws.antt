@@ -10,7 +10,7 @@ use Rattle.mq_events.specs.States.{NodeState}
 use Rattle.mq_world_begin.specs.Rested.{IsRested, IsRestedAt}
 use Rattle.mq_world.specs.Resting.{manager_in, own_in, rest_of}
 use Rattle.mq_world.specs.Worlds.{IsNetwork, IsNodeAt, NetState, history_in}
-use Rattle.mq_world.proofs.ListLaws.{get_map, some_is}
+use Rattle.mq_world.proofs.ListLaws.{get_map, long_map, some_is}
 
 -- none yet
 pub first_moved : {A B : Type 0} (f : A → B) (xs : List B) (left all : List A) → xs ≡ [] → left ≡ reverse all → xs ++ map f (reverse left) ≡ map f all
@@ -30,10 +30,6 @@ all_moved f xs left all none before = sym (append_none xs) ∙ sym (ap (λ (zs :
     append_none : {B : Type 0} (zs : List B) → zs ++ [] ≡ zs
     append_none [] = refl
     append_none (z ∷ zs) = ap (λ (l : List _). z ∷ l) (append_none zs)
-
-long_map : {A B : Type 0} (f : A → B) (xs : List A) → length (map f xs) ≡ length xs
-long_map f [] = refl
-long_map f (x ∷ xs) = let h = long_map f xs in omega (arith, h)
 
 -- the node behind what is seen of it
 record Behind {B : Type 0} (f : NodeState → B) (ns : List NodeState) (m : ℕ) (y : B) : Type 0 where

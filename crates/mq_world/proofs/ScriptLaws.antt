@@ -155,7 +155,7 @@ line_keeps w m k p c d (Err stops.NoMemory) n new h known part is here (inr z) =
 line_keeps w m k p c d (Err (stops.Spent j)) n new h known part is here (at, z, spent) = did_keeps w m k p c d n new h known part is here z
 
 -- A deadline is kept of a get alone.
-none_some : {A : Type 0} → IsSome {A = A} None → ⊥
+none_some : false ≡ true → ⊥
 none_some h = cc
 
 pub keeps_so : (l : ScriptLine) (u : Option ℕ) → WaitsSo u l → Keeps u l
