@@ -17,14 +17,13 @@ use Rattle.std.proofs.lemmas.Bool.Decides.{nat_tests}
 use Rattle.mq_spec_node.specs.Lines.Next.{Waits}
 use Rattle.mq_spec_network.specs.Steps.{AreTriggers}
 use Rattle.mq_spec_network.specs.Story.{entries_at}
-use Rattle.mq_spec_network.specs.Turns.{more_at}
 use Rattle.mq_nodes.specs.Course.{Course}
 use Rattle.mq_progress.specs.Course as progress
 use Rattle.mq_progress.specs.Course.{Finished, Stands}
 use Rattle.mq_progress.proofs.CourseLaws.{stands_further, stands_others}
 use Rattle.mq_events.specs.States.{NodeState, IsKept, value_of}
 use Rattle.mq_world.specs.Settling.{NodeDid, NodeStays}
-use Rattle.mq_world.specs.Worlds.{IsNetwork, IsNodeAt, IsScriptAt, NetState, WaitsSo, history_in, until_of, with_node, with_script}
+use Rattle.mq_world.specs.Worlds.{IsNetwork, IsNodeAt, IsScriptAt, NetState, WaitsSo, history_in, with_node, with_script}
 use Rattle.mq_world.proofs.ListLaws.{itself, same_or_not, set_here, set_long, set_other, some_is}
 use Rattle.mq_world.proofs.SeenLaws.{AreAt, course_more, course_same}
 

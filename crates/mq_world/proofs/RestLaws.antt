@@ -1,10 +1,9 @@
 -- A network whose nodes rest.
-use Rattle.std.proofs.Common.{◌≡◌, ℕ, ◌+◌, List, [], ◌∷◌, ◌++◌, length, refl, sym, ap, subst, ◌∙◌, arith, append_assoc}
+use Rattle.std.proofs.Common.{◌≡◌, ℕ, List, [], ◌∷◌, ◌++◌, refl, sym, ap, subst, ◌∙◌, append_assoc}
 use Rattle.std.specs.Prelude.{map, reverse, Option, Some, None, option_map, slice_get}
 use Rattle.std.proofs.lemmas.List.{reverse-append, reverse-reverse}
 use Rattle.mq_history.specs.declared.history.History.{History}
 use Rattle.mq_spec_node.specs.Words.{Own, Replays, Surroundings, TriggersStand, node_of, opening_node, state_of}
-use Rattle.mq_spec_network.specs.Given.{surroundings}
 use Rattle.mq_core.specs.Values.{CoreValue}
 use Rattle.mq_events.specs.States.{NodeState}
 use Rattle.mq_world_begin.specs.Rested.{IsRested, IsRestedAt}

@@ -1,6 +1,6 @@
 -- Turns of handlers and monitors at their node are the network's.
-use Rattle.std.proofs.Common.{◌≡◌, ℕ, suc, ◌<◌, Bool, true, false, List, [], ◌∷◌, length, refl, sym, ap, subst, ◌∙◌}
-use Rattle.std.specs.Prelude.{map, Option, Some, None, option_map, Result, Ok, Err, slice_get}
+use Rattle.std.proofs.Common.{◌≡◌, ℕ, ◌<◌, Bool, true, false, List, length, refl, sym, ap, subst, ◌∙◌}
+use Rattle.std.specs.Prelude.{Option, Some, None, option_map, Result, Ok, Err, slice_get}
 use Rattle.mq_history.specs.declared.calls.Actor.TheVariants as actors
 use Rattle.mq_history.specs.declared.calls.Call.TheVariants as calls
 use Rattle.mq_history.specs.declared.scenario.MonitorLine.{MonitorLine}
@@ -15,7 +15,7 @@ use Rattle.mq_events.specs.States.{NodeState, node_in, value_of}
 use Rattle.mq_nodes.specs.declared.nodes.Monitored.{Monitored}
 use Rattle.mq_nodes.specs.declared.nodes.Monitored.TheVariants as monitors
 use Rattle.mq_nodes.specs.declared.nodes.Stop.{Stop}
-use Rattle.mq_nodes.specs.Course.{Course, Ready}
+use Rattle.mq_nodes.specs.Course.{Ready}
 use Rattle.mq_nodes.specs.Told.{HandlerOf, HandlerTold, TurnOf, TurnTold, begun_by}
 use Rattle.mq_steps.proofs.PartLaws.{at_it}
 use Rattle.mq_handle.specs.Turns.{turn_of}

@@ -16,7 +16,7 @@ use Rattle.mq_watch.specs.Turns.{connection_of}
 use Rattle.mq_nodes.specs.declared.nodes.Stop.{Stop}
 use Rattle.mq_nodes.specs.declared.nodes.Stop.TheVariants as stops
 use Rattle.mq_nodes.specs.Course.{Course, Did, Ready}
-use Rattle.mq_nodes.specs.Told.{Broke, Does, Onward, Part, Says}
+use Rattle.mq_nodes.specs.Told.{Broke, Does, Onward, Part}
 use Rattle.mq_nodes.proofs.Onward.{begin, broke, moved, passed, unframed, whole}
 
 abbrev did_with : (P Q : ℕ → Entry → Type 0) (c d : Course) → ((m : ℕ) (e : Entry) → P m e → Q m e) → Did P c d → Did Q c d

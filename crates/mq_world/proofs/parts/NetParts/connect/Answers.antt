@@ -1,9 +1,9 @@
-use Rattle.std.specs.Prelude.{length, ◌≡◌, Bool, Option, []}
+use Rattle.std.specs.Prelude.{length, ◌≡◌, Option, []}
 use Rattle.std.proofs.Common.{ap, arith}
 use Rattle.mq_history.specs.declared.calls.Actor.TheVariants as actors
 use Rattle.mq_history.specs.declared.calls.Call.TheVariants as calls
 use Rattle.mq_spec_node.specs.Terms.{Entry, Hconn}
-use Rattle.mq_spec_node.specs.Words.{is_opened, script_appl, shared}
+use Rattle.mq_spec_node.specs.Words.{script_appl}
 use Rattle.mq_spec_network.specs.Steps.{Is}
 use Rattle.mq_watch.specs.Turns.{connection_of}
 use Rattle.mq_world.specs.Settling.{IsOf}

@@ -46,13 +46,13 @@ returns-in-Ok-None-clause-told g c =
     (line_at c.args.self.now c.args.monitor c.line_of-line.result c.requires.kept (ap (λ (w : NetState). slice_get w.monitors c.args.monitor) (sym c.self.view_is) ∙ c.line_of-line.ensures))
     (not_given c.args.monitor c.line_of-line.result (course_in c.args.self.now) (course_in c.connect.new.self)
     (subst (λ (o : Option Hconn). Onward (Watch c.args.monitor c.line_of-line.result ∷ []) (opens_of c.args.monitor c.line_of-line.result o) (course_in c.args.self.now) (course_in c.connect.new.self)) c.in-Ok-None.field-0-is
-        (connected c.args.monitor c.line_of-line.result c.in-Ok-None.field-0 (course_in c.args.self.now) (course_in c.connect.new.self) c.requires.ready (sym c.watches.ensures ∙ c.if-watches.false) c.in-Ok-None.ensures.told)))
+    (connected c.args.monitor c.line_of-line.result c.in-Ok-None.field-0 (course_in c.args.self.now) (course_in c.connect.new.self) c.requires.ready (sym c.watches.ensures ∙ c.if-watches.false) c.in-Ok-None.ensures.told)))
 
 pub returns-in-Err-open-clause-told : goal.returns-in-Err-open-clause-told
 returns-in-Err-open-clause-told g c =
     let on : Onward (Watch c.args.monitor c.line_of-line.result ∷ []) (Open c.args.monitor c.line_of-line.result c.in-Ok-Some.connection ∷ []) (course_in c.args.self.now) (course_in c.connect.new.self) =
-        (subst (λ (o : Option Hconn). Onward (Watch c.args.monitor c.line_of-line.result ∷ []) (opens_of c.args.monitor c.line_of-line.result o) (course_in c.args.self.now) (course_in c.connect.new.self)) c.in-Ok-Some.field-0-is
-        (connected c.args.monitor c.line_of-line.result c.in-Ok-Some.field-0 (course_in c.args.self.now) (course_in c.connect.new.self) c.requires.ready (sym c.watches.ensures ∙ c.if-watches.false) c.in-Ok-Some.ensures.told)) in
+    (subst (λ (o : Option Hconn). Onward (Watch c.args.monitor c.line_of-line.result ∷ []) (opens_of c.args.monitor c.line_of-line.result o) (course_in c.args.self.now) (course_in c.connect.new.self)) c.in-Ok-Some.field-0-is
+    (connected c.args.monitor c.line_of-line.result c.in-Ok-Some.field-0 (course_in c.args.self.now) (course_in c.connect.new.self) c.requires.ready (sym c.watches.ensures ∙ c.if-watches.false) c.in-Ok-Some.ensures.told)) in
     by_line c.args.monitor c.line_of-line.result c.args.self.now.scenario.monitors (Err c.in-Err-open.stop) (course_in c.args.self.now) (course_in c.open.new.self)
     (line_at c.args.self.now c.args.monitor c.line_of-line.result c.requires.kept (ap (λ (w : NetState). slice_get w.monitors c.args.monitor) (sym c.self.view_is) ∙ c.line_of-line.ensures))
     (open_breaks c.args.monitor c.line_of-line.result c.in-Ok-Some.connection c.in-Err-open.stop (course_in c.args.self.now) (course_in c.connect.new.self) (course_in c.open.new.self) on c.in-Err-open.ensures.told)
@@ -60,8 +60,8 @@ returns-in-Err-open-clause-told g c =
 pub returns-in-Ok-true-clause-told : goal.returns-in-Ok-true-clause-told
 returns-in-Ok-true-clause-told g c =
     let on : Onward (Watch c.args.monitor c.line_of-line.result ∷ []) (Open c.args.monitor c.line_of-line.result c.in-Ok-Some.connection ∷ []) (course_in c.args.self.now) (course_in c.connect.new.self) =
-        (subst (λ (o : Option Hconn). Onward (Watch c.args.monitor c.line_of-line.result ∷ []) (opens_of c.args.monitor c.line_of-line.result o) (course_in c.args.self.now) (course_in c.connect.new.self)) c.in-Ok-Some.field-0-is
-        (connected c.args.monitor c.line_of-line.result c.in-Ok-Some.field-0 (course_in c.args.self.now) (course_in c.connect.new.self) c.requires.ready (sym c.watches.ensures ∙ c.if-watches.false) c.in-Ok-Some.ensures.told)) in
+    (subst (λ (o : Option Hconn). Onward (Watch c.args.monitor c.line_of-line.result ∷ []) (opens_of c.args.monitor c.line_of-line.result o) (course_in c.args.self.now) (course_in c.connect.new.self)) c.in-Ok-Some.field-0-is
+    (connected c.args.monitor c.line_of-line.result c.in-Ok-Some.field-0 (course_in c.args.self.now) (course_in c.connect.new.self) c.requires.ready (sym c.watches.ensures ∙ c.if-watches.false) c.in-Ok-Some.ensures.told)) in
     by_line c.args.monitor c.line_of-line.result c.args.self.now.scenario.monitors (Ok tt) (course_in c.args.self.now) (course_in c.open.new.self)
     (line_at c.args.self.now c.args.monitor c.line_of-line.result c.requires.kept (ap (λ (w : NetState). slice_get w.monitors c.args.monitor) (sym c.self.view_is) ∙ c.line_of-line.ensures))
     (not_given c.args.monitor c.line_of-line.result (course_in c.args.self.now) (course_in c.open.new.self)
@@ -71,8 +71,8 @@ returns-in-Ok-true-clause-told g c =
 pub returns-in-Ok-false-clause-told : goal.returns-in-Ok-false-clause-told
 returns-in-Ok-false-clause-told g c =
     let on : Onward (Watch c.args.monitor c.line_of-line.result ∷ []) (Open c.args.monitor c.line_of-line.result c.in-Ok-Some.connection ∷ []) (course_in c.args.self.now) (course_in c.connect.new.self) =
-        (subst (λ (o : Option Hconn). Onward (Watch c.args.monitor c.line_of-line.result ∷ []) (opens_of c.args.monitor c.line_of-line.result o) (course_in c.args.self.now) (course_in c.connect.new.self)) c.in-Ok-Some.field-0-is
-        (connected c.args.monitor c.line_of-line.result c.in-Ok-Some.field-0 (course_in c.args.self.now) (course_in c.connect.new.self) c.requires.ready (sym c.watches.ensures ∙ c.if-watches.false) c.in-Ok-Some.ensures.told)) in
+    (subst (λ (o : Option Hconn). Onward (Watch c.args.monitor c.line_of-line.result ∷ []) (opens_of c.args.monitor c.line_of-line.result o) (course_in c.args.self.now) (course_in c.connect.new.self)) c.in-Ok-Some.field-0-is
+    (connected c.args.monitor c.line_of-line.result c.in-Ok-Some.field-0 (course_in c.args.self.now) (course_in c.connect.new.self) c.requires.ready (sym c.watches.ensures ∙ c.if-watches.false) c.in-Ok-Some.ensures.told)) in
     by_line c.args.monitor c.line_of-line.result c.args.self.now.scenario.monitors c.leave.result (course_in c.args.self.now) (course_in c.leave.new.self)
     (line_at c.args.self.now c.args.monitor c.line_of-line.result c.requires.kept (ap (λ (w : NetState). slice_get w.monitors c.args.monitor) (sym c.self.view_is) ∙ c.line_of-line.ensures))
     (leaves c.args.monitor c.line_of-line.result c.in-Ok-Some.connection c.leave.result (course_in c.args.self.now) (course_in c.open.new.self) (course_in c.leave.new.self)

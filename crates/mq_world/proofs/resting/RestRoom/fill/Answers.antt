@@ -14,12 +14,12 @@ pub loop-node-init : goal.loop-node-init
 loop-node-init g c =
     let left = c.reverse.ensures.items ∙ ap reverse c.into_vec-left.ensures in
     record {
-  managers = first_moved manager_in c.self.inside.managers.items c.reverse.new.self.items c.args.nodes c.self.invariant.0 left;
-  owns = first_moved own_in c.self.inside.owns.items c.reverse.new.self.items c.args.nodes c.self.invariant.2 left;
-  histories = first_moved history_in c.self.inside.histories.items c.reverse.new.self.items c.args.nodes c.self.invariant.4 left;
-  managers_room = omega (arith, c.self.invariant.1, c.reverse.ensures.len, c.into_vec-left.result.ok, ap length c.into_vec-left.ensures, c.requires.room, c.self.view_is);
-  owns_room = omega (arith, c.self.invariant.3, c.reverse.ensures.len, c.into_vec-left.result.ok, ap length c.into_vec-left.ensures, c.requires.room, c.self.view_is);
-  histories_room = omega (arith, c.self.invariant.5, c.reverse.ensures.len, c.into_vec-left.result.ok, ap length c.into_vec-left.ensures, c.requires.room, c.self.view_is);
+      managers = first_moved manager_in c.self.inside.managers.items c.reverse.new.self.items c.args.nodes c.self.invariant.0 left;
+      owns = first_moved own_in c.self.inside.owns.items c.reverse.new.self.items c.args.nodes c.self.invariant.2 left;
+      histories = first_moved history_in c.self.inside.histories.items c.reverse.new.self.items c.args.nodes c.self.invariant.4 left;
+      managers_room = omega (arith, c.self.invariant.1, c.reverse.ensures.len, c.into_vec-left.result.ok, ap length c.into_vec-left.ensures, c.requires.room, c.self.view_is);
+      owns_room = omega (arith, c.self.invariant.3, c.reverse.ensures.len, c.into_vec-left.result.ok, ap length c.into_vec-left.ensures, c.requires.room, c.self.view_is);
+      histories_room = omega (arith, c.self.invariant.5, c.reverse.ensures.len, c.into_vec-left.result.ok, ap length c.into_vec-left.ensures, c.requires.room, c.self.view_is);
     }
 
 pub loop-node-preserved : goal.loop-node-preserved
@@ -37,8 +37,7 @@ invariant_of-result g c =
     let none : c.loop-node.left.items ≡ [] = none_left c.loop-node.left.items (omega (arith, c.in_default.ensures.cases, c.loop-node.left.ok)) in
     let managers : c.loop-node.managers.items ≡ map manager_in c.args.nodes = all_moved manager_in c.loop-node.managers.items c.loop-node.left.items _ none c.loop-node.invariant.managers in
     let owns : c.loop-node.owns.items ≡ map own_in c.args.nodes = all_moved own_in c.loop-node.owns.items c.loop-node.left.items _ none c.loop-node.invariant.owns in
-    let histories : c.loop-node.histories.items ≡ map history_in c.args.nodes = all_moved history_in c.loop-node.histories.items c.loop-node.left.items _ none c.loop-node.invariant.histories in
-    (
+    let histories : c.loop-node.histories.items ≡ map history_in c.args.nodes = all_moved history_in c.loop-node.histories.items c.loop-node.left.items _ none c.loop-node.invariant.histories in (
       subst (λ (vs : List CoreValue). IsRested (record { scenario = c.args.scenario.value; managers = vs; owns = c.loop-node.owns.items; histories = c.loop-node.histories.items })) (sym managers)
           (subst (λ (os : List Own). IsRested (record { scenario = c.args.scenario.value; managers = map manager_in c.args.nodes; owns = os; histories = c.loop-node.histories.items })) (sym owns)
           (subst (λ (hs : List History). IsRested (record { scenario = c.args.scenario.value; managers = map manager_in c.args.nodes; owns = map own_in c.args.nodes; histories = hs })) (sym histories) c.requires.rested)),
