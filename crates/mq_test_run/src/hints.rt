@@ -260,6 +260,9 @@ fn a_first_cable_is_told_by_its_line(rt: HostRuntime) -> Result<(), Fail> {
     let none = with_line(rt.alloc(), "CABLE LON.PAR LONDON PARIS OUT DROP(2)", "")?;
     assert_eq!(rt; cable_line(rt.alloc(), none.as_bytes())?, 0);
     let told = unbuilt_text(rt.alloc(), TEXT.as_bytes(), 4)?;
-    assert_eq!(rt; told.as_str(), "line 4: NotBuilt: a cable doesn't run yet\nCABLE LON.PAR LONDON PARIS OUT DROP(2)\n");
+    assert_eq!(rt;
+        told.as_str(),
+        "line 4: NotBuilt: a cable doesn't run yet\nCABLE LON.PAR LONDON PARIS OUT DROP(2)\n"
+    );
     Ok(())
 }

@@ -1,6 +1,6 @@
 -- A network without cables.
 use Rattle.std.proofs.Common.{◌≡◌, ℕ, ◌<◌, Bool, true, List, [], length, sym, ap, ◌∙◌, arith}
-use Rattle.std.specs.Prelude.{Some, Result, slice_get}
+use Rattle.std.specs.Prelude.{Result, slice_get}
 use Rattle.std.proofs.lemmas.Option.{slice_get_within}
 use Rattle.mq_history.specs.declared.scenario.CableLine.{CableLine}
 use Rattle.mq_spec_network.specs.Tasks.{Slot}

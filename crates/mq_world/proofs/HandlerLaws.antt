@@ -1,12 +1,11 @@
 -- Turns of handlers and monitors, with the trigger turns behind them.
-use Rattle.std.proofs.Common.{◌≡◌, ℕ, Bool, true, false, [], refl, sym, ap, ◌∙◌}
+use Rattle.std.proofs.Common.{◌≡◌, ℕ, Bool, true, false, [], ap, ◌∙◌}
 use Rattle.std.specs.Prelude.{Option, Some, None, Result, Ok, Err, IfOk}
 use Rattle.mq_history.specs.declared.calls.Actor.TheVariants as actors
 use Rattle.mq_history.specs.declared.calls.Call.TheVariants as calls
-use Rattle.mq_spec_node.specs.Terms.{Call, Entry, Hconn, MonitorLine}
-use Rattle.mq_spec_node.specs.Words.{begins, is_opened, script_appl, shared}
+use Rattle.mq_spec_node.specs.Terms.{Entry, Hconn, MonitorLine}
+use Rattle.mq_spec_node.specs.Words.{is_opened, script_appl, shared}
 use Rattle.mq_events.specs.States.{NodeState}
-use Rattle.mq_events.specs.Events.{Adds, Stays}
 use Rattle.mq_handle.specs.Turns.{Idles, Tries}
 use Rattle.mq_watch.specs.Turns.{ConnectsTo, Gets, OpensQueue, Rests, connection_of}
 use Rattle.mq_nodes.specs.declared.nodes.Monitored.{Monitored}

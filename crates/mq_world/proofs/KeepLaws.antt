@@ -17,14 +17,13 @@ use Rattle.std.proofs.lemmas.Bool.Decides.{nat_tests}
 use Rattle.mq_spec_node.specs.Lines.Next.{Waits}
 use Rattle.mq_spec_network.specs.Steps.{AreTriggers}
 use Rattle.mq_spec_network.specs.Story.{entries_at}
-use Rattle.mq_spec_network.specs.Turns.{more_at}
 use Rattle.mq_nodes.specs.Course.{Course}
 use Rattle.mq_progress.specs.Course as progress
 use Rattle.mq_progress.specs.Course.{Finished, Stands}
 use Rattle.mq_progress.proofs.CourseLaws.{stands_further, stands_others}
 use Rattle.mq_events.specs.States.{NodeState, IsKept, value_of}
 use Rattle.mq_world.specs.Settling.{NodeDid, NodeStays}
-use Rattle.mq_world.specs.Worlds.{IsNetwork, IsNodeAt, IsScriptAt, NetState, WaitsSo, history_in, until_of, with_node, with_script}
+use Rattle.mq_world.specs.Worlds.{IsNetwork, IsNodeAt, IsScriptAt, NetState, WaitsSo, history_in, with_node, with_script}
 use Rattle.mq_world.proofs.ListLaws.{itself, same_or_not, set_here, set_long, set_other, some_is}
 use Rattle.mq_world.proofs.SeenLaws.{AreAt, course_more, course_same}
 
@@ -108,29 +107,29 @@ at_more k p c q m old es here there = by_place (same_or_not q m)
     by_place (inl e) = subst (λ (b : Bool). IsScriptAt k p (if b then old ++ es else old) c) (sym (ap (λ (x : ℕ). x == m) e ∙ itself m)) (here e)
     by_place (inr e) = subst (λ (b : Bool). IsScriptAt k p (if b then old ++ es else old) c) (sym e) there
 
--- an entry of no script
+-- an entry of free script
 abbrev pub NoScript : Entry → Type 0
 NoScript e = (k : ℕ) → is_script k e.actor ≡ false
 
 scripts_others : (s : Scenario) (ns : List NodeState) (cs : List progress.Course) (m : ℕ) (P : Entry → Type 0) (n new : NodeState) → ScriptsAt s ns cs → slice_get ns m ≡ Some n → (d : NodeDid P n new) → NoScript d.entry → ScriptsAt s (slice_set ns m new) cs
-scripts_others s ns cs m P n new h known d no k p c part is =
+scripts_others s ns cs m P n new h known d free k p c part is =
     let old : List Entry = entries_at (map history_in ns) p.manager in
     subst (λ (es : List Entry). IsScriptAt k p es c) (sym (entries_set s ns m n new (d.entry ∷ d.behind) p.manager known d.grows.history))
-    (at_more k p c p.manager m old (d.entry ∷ d.behind) (λ e. others_more k p old d.behind d.entry c (no k) d.triggers (h k p c part is)) (h k p c part is))
+    (at_more k p c p.manager m old (d.entry ∷ d.behind) (λ e. others_more k p old d.behind d.entry c (free k) d.triggers (h k p c part is)) (h k p c part is))
 
 scripts_same : (s : Scenario) (ns : List NodeState) (cs : List progress.Course) (m : ℕ) (n new : NodeState) → ScriptsAt s ns cs → slice_get ns m ≡ Some n → new.history ≡ n.history → ScriptsAt s (slice_set ns m new) cs
 scripts_same s ns cs m n new h known same k p c part is = subst (λ (es : List Entry). IsScriptAt k p es c) (sym (entries_same s ns m n new p.manager known same)) (h k p c part is)
 
--- The network then: an event of no script,
+-- The network then: an event of free script,
 pub network_did : (w : NetState) (m : ℕ) (P : Entry → Type 0) (n new : NodeState) → IsNetwork w → slice_get w.nodes m ≡ Some n → (d : NodeDid P n new) → NoScript d.entry → IsNetwork (with_node m new w)
-network_did w m P n new h known d no = record {
+network_did w m P n new h known d free = record {
   apart = h.apart;
   scenario = h.scenario;
   texts = h.texts;
   all = set_long w.nodes m new ∙ h.all;
   nodes = are_at_set w.scenario w.nodes m n new h.nodes known (at_did w.scenario m P n new (h.nodes m n known) d);
   each = h.each;
-  scripts = scripts_others w.scenario w.nodes w.scripts m P n new h.scripts known d no;
+  scripts = scripts_others w.scenario w.nodes w.scripts m P n new h.scripts known d free;
   handlers = h.handlers;
   monitors = h.monitors;
 }

@@ -59,23 +59,23 @@ spent_lifts s ns m k P n new known d is spent =
     subst (λ (j : ℕ). is_spent (entries_at (map history_in (slice_set ns m new)) j) ≡ true) (sym is)
     (ap is_spent (done_there (slice_set ns m new) m new (set_here ns m n new known)) ∙ spent_there new d.keeps ∙ spent)
 
-stays_lifts : (w : NetState) (m : ℕ) (n new : NodeState) → slice_get w.nodes m ≡ Some n → NodeStays n new → course_in (with_node m new w) ≡ course_in w
+pub stays_lifts : (w : NetState) (m : ℕ) (n new : NodeState) → slice_get w.nodes m ≡ Some n → NodeStays n new → course_in (with_node m new w) ≡ course_in w
 stays_lifts w m n new known s = course_same w.scenario w.nodes (waits_in w) m n new known (ap (λ (v : NodeValue). v.history) s.same)
 
-broke_lifts : (w : NetState) (m : ℕ) (P : Entry → Type 0) (Q : ℕ → Entry → Type 0) (stop : Stop) (n new : NodeState) → slice_get w.nodes m ≡ Some n → ((e : Entry) → P e → Q m e) → NodeBroke P m stop n new → Broke Q stop (course_in w) (course_in (with_node m new w))
+pub broke_lifts : (w : NetState) (m : ℕ) (P : Entry → Type 0) (Q : ℕ → Entry → Type 0) (stop : Stop) (n new : NodeState) → slice_get w.nodes m ≡ Some n → ((e : Entry) → P e → Q m e) → NodeBroke P m stop n new → Broke Q stop (course_in w) (course_in (with_node m new w))
 broke_lifts w m P Q stops.NoMemory n new known fits (inl s) = inl (stays_lifts w m n new known s)
 broke_lifts w m P Q stops.NoMemory n new known fits (inr d) = inr (did_lifts w m P Q n new known fits d)
 broke_lifts w m P Q (stops.Spent k) n new known fits (is, d, spent) = (did_lifts w m P Q n new known fits d, spent_lifts w.scenario w.nodes m k P n new known d is spent)
 
-broke_keeps : (w : NetState) (m : ℕ) (P : Entry → Type 0) (stop : Stop) (n new : NodeState) → IsNetwork w → slice_get w.nodes m ≡ Some n → ((e : Entry) → P e → NoScript e) → NodeBroke P m stop n new → IsNetwork (with_node m new w)
-broke_keeps w m P stops.NoMemory n new h known no (inl s) = network_stays w m n new h known s
-broke_keeps w m P stops.NoMemory n new h known no (inr d) = network_did w m P n new h known d (no d.entry d.fits)
-broke_keeps w m P (stops.Spent k) n new h known no (is, d, spent) = network_did w m P n new h known d (no d.entry d.fits)
+pub broke_keeps : (w : NetState) (m : ℕ) (P : Entry → Type 0) (stop : Stop) (n new : NodeState) → IsNetwork w → slice_get w.nodes m ≡ Some n → ((e : Entry) → P e → NoScript e) → NodeBroke P m stop n new → IsNetwork (with_node m new w)
+broke_keeps w m P stops.NoMemory n new h known free (inl s) = network_stays w m n new h known s
+broke_keeps w m P stops.NoMemory n new h known free (inr d) = network_did w m P n new h known d (free d.entry d.fits)
+broke_keeps w m P (stops.Spent k) n new h known free (is, d, spent) = network_did w m P n new h known d (free d.entry d.fits)
 
 -- A call that does one event.
 pub does_keeps : {T : Type 0} (w : NetState) (m : ℕ) (P : Entry → Type 0) (r : Result T Stop) (n new : NodeState) → IsNetwork w → slice_get w.nodes m ≡ Some n → ((e : Entry) → P e → NoScript e) → NodeDoes P m r n new → IsNetwork (with_node m new w)
-does_keeps w m P (Ok x) n new h known no (d, ready) = network_did w m P n new h known d (no d.entry d.fits)
-does_keeps w m P (Err stop) n new h known no b = broke_keeps w m P stop n new h known no b
+does_keeps w m P (Ok x) n new h known free (d, served, may) = network_did w m P n new h known d (free d.entry d.fits)
+does_keeps w m P (Err stop) n new h known free b = broke_keeps w m P stop n new h known free b
 
 pub does_lifts : {T : Type 0} (w : NetState) (m : ℕ) (P : Entry → Type 0) (Q : ℕ → Entry → Type 0) (r : Result T Stop) (n new : NodeState) → IsNetwork w → IsNetwork (with_node m new w) → Ready (course_in w).net → slice_get w.nodes m ≡ Some n → ((e : Entry) → P e → Q m e)
     → NodeDoes P m r n new → Does Q r (course_in w) (course_in (with_node m new w))
@@ -84,8 +84,8 @@ does_lifts w m P Q (Err stop) n new h k r known fits b = broke_lifts w m P Q sto
 
 -- one that says more of it
 pub says_keeps : {T : Type 0} (w : NetState) (m : ℕ) (P : Entry → Type 0) (S : T → Entry → Type 0) (r : Result T Stop) (n new : NodeState) → IsNetwork w → slice_get w.nodes m ≡ Some n → ((e : Entry) → P e → NoScript e) → NodeSays P S m r n new → IsNetwork (with_node m new w)
-says_keeps w m P S (Ok x) n new h known no (d, ready) = network_did w m (λ e. P e × S x e) n new h known d (no d.entry d.fits.0)
-says_keeps w m P S (Err stop) n new h known no b = broke_keeps w m P stop n new h known no b
+says_keeps w m P S (Ok x) n new h known free (d, served, may) = network_did w m (λ e. P e × S x e) n new h known d (free d.entry d.fits.0)
+says_keeps w m P S (Err stop) n new h known free b = broke_keeps w m P stop n new h known free b
 
 pub says_lifts : {T : Type 0} (w : NetState) (m : ℕ) (P : Entry → Type 0) (S : T → Entry → Type 0) (Q : ℕ → Entry → Type 0) (r : Result T Stop) (n new : NodeState) → IsNetwork w → IsNetwork (with_node m new w) → Ready (course_in w).net → slice_get w.nodes m ≡ Some n
     → ((e : Entry) → P e → Q m e) → NodeSays P S m r n new → Says Q S r (course_in w) (course_in (with_node m new w))
@@ -93,7 +93,7 @@ says_lifts w m P S Q (Ok x) n new h k r known fits (d, served, may) =
     (did_lifts w m (λ e. P e × S x e) (λ j e. Q j e × S x e) n new known (λ e p. (fits e p.0, p.1)) d, ready_set w.scenario w.nodes m n new h.nodes k.nodes known r served may)
 says_lifts w m P S Q (Err stop) n new h k r known fits b = broke_lifts w m P Q stop n new known fits b
 
--- The operator and the clock are no scripts, nor are handlers and monitors.
+-- The operator and the clock are free scripts, nor are handlers and monitors.
 pub operator_fits : (m : ℕ) (call : Call) (e : Entry) → IsOf actors.Operator call e → Is m actors.Operator call m e
 operator_fits m call e h = (refl, h.0, h.1)
 
@@ -131,24 +131,24 @@ pub asked_kept : (w : NetState) (i m : ℕ) (n : NodeState) → Asked w i m n �
 asked_kept w i m n a = (a.kept.nodes m n (asked_at w i m n a)).keeps
 
 pub does_kept : {T : Type 0} (w v : NetState) (i m : ℕ) (P : Entry → Type 0) (r : Result T Stop) (n new : NodeState) → Asked w i m n → v ≡ with_node i new w → ((e : Entry) → P e → NoScript e) → NodeDoes P m r n new → IsNetwork v
-does_kept w v i m P r n new a is no d =
-    subst IsNetwork (sym (is ∙ ap (λ (j : ℕ). with_node j new w) a.place)) (does_keeps w m P r n new a.kept (asked_at w i m n a) no d)
+does_kept w v i m P r n new a is free d =
+    subst IsNetwork (sym (is ∙ ap (λ (j : ℕ). with_node j new w) a.place)) (does_keeps w m P r n new a.kept (asked_at w i m n a) free d)
 
 pub does_told : {T : Type 0} (w v : NetState) (i m : ℕ) (P : Entry → Type 0) (Q : ℕ → Entry → Type 0) (r : Result T Stop) (n new : NodeState) → Asked w i m n → v ≡ with_node i new w → ((e : Entry) → P e → NoScript e) → ((e : Entry) → P e → Q m e) → NodeDoes P m r n new
     → Does Q r (course_in w) (course_in v)
-does_told w v i m P Q r n new a is no fits d =
+does_told w v i m P Q r n new a is free fits d =
     subst (λ (x : NetState). Does Q r (course_in w) (course_in x)) (sym (is ∙ ap (λ (j : ℕ). with_node j new w) a.place))
-    (does_lifts w m P Q r n new a.kept (does_keeps w m P r n new a.kept (asked_at w i m n a) no d) a.ready (asked_at w i m n a) fits d)
+    (does_lifts w m P Q r n new a.kept (does_keeps w m P r n new a.kept (asked_at w i m n a) free d) a.ready (asked_at w i m n a) fits d)
 
 pub says_kept : {T : Type 0} (w v : NetState) (i m : ℕ) (P : Entry → Type 0) (S : T → Entry → Type 0) (r : Result T Stop) (n new : NodeState) → Asked w i m n → v ≡ with_node i new w → ((e : Entry) → P e → NoScript e) → NodeSays P S m r n new → IsNetwork v
-says_kept w v i m P S r n new a is no d =
-    subst IsNetwork (sym (is ∙ ap (λ (j : ℕ). with_node j new w) a.place)) (says_keeps w m P S r n new a.kept (asked_at w i m n a) no d)
+says_kept w v i m P S r n new a is free d =
+    subst IsNetwork (sym (is ∙ ap (λ (j : ℕ). with_node j new w) a.place)) (says_keeps w m P S r n new a.kept (asked_at w i m n a) free d)
 
 pub says_told : {T : Type 0} (w v : NetState) (i m : ℕ) (P : Entry → Type 0) (S : T → Entry → Type 0) (Q : ℕ → Entry → Type 0) (r : Result T Stop) (n new : NodeState) → Asked w i m n → v ≡ with_node i new w → ((e : Entry) → P e → NoScript e) → ((e : Entry) → P e → Q m e) → NodeSays P S m r n new
     → Says Q S r (course_in w) (course_in v)
-says_told w v i m P S Q r n new a is no fits d =
+says_told w v i m P S Q r n new a is free fits d =
     subst (λ (x : NetState). Says Q S r (course_in w) (course_in x)) (sym (is ∙ ap (λ (j : ℕ). with_node j new w) a.place))
-    (says_lifts w m P S Q r n new a.kept (says_keeps w m P S r n new a.kept (asked_at w i m n a) no d) a.ready (asked_at w i m n a) fits d)
+    (says_lifts w m P S Q r n new a.kept (says_keeps w m P S r n new a.kept (asked_at w i m n a) free d) a.ready (asked_at w i m n a) fits d)
 
 -- the moment of a manager whose clock advanced
 pub moment_told : (w v : NetState) (i m : ℕ) (n new : NodeState) (r : Result (Unit {0}) Stop) (ms : ℕ) → Asked w i m n → v ≡ with_node i new w → IsNetwork v → OnOk r (new.manager.plain.moment ≡ later n.manager.plain.moment ms)

@@ -1,6 +1,6 @@
 -- Lists of which one value is another now.
-use Rattle.std.proofs.Common.{◌≡◌, ℕ, zero, suc, ◌<◌, Bool, true, false, List, [], ◌∷◌, length, refl, sym, ap, ◌∙◌, arith, inl, inr}
-use Rattle.std.specs.Prelude.{◌⊎◌, ◌==◌, map, Option, Some, None, option_map, slice_get, slice_set}
+use Rattle.std.proofs.Common.{◌≡◌, ℕ, zero, suc, ◌<◌, Bool, true, false, List, [], ◌∷◌, length, refl, ap, arith, inl, inr}
+use Rattle.std.specs.Prelude.{◌⊎◌, ◌==◌, map, Some, option_map, slice_get, slice_set}
 use Rattle.std.proofs.lemmas.Bool.Decides.{nat_tests}
 
 pub same_or_not : (n m : ℕ) → (n ≡ m) ⊎ ((n == m) ≡ false)
@@ -30,6 +30,10 @@ set_map f [] zero y = refl
 set_map f [] (suc n) y = refl
 set_map f (x ∷ xs) zero y = refl
 set_map f (x ∷ xs) (suc n) y = ap (λ (l : List _). f x ∷ l) (set_map f xs n y)
+
+pub long_map : {A B : Type 0} (f : A → B) (xs : List A) → length (map f xs) ≡ length xs
+long_map f [] = refl
+long_map f (x ∷ xs) = let h = long_map f xs in omega (arith, h)
 
 pub set_long : {A : Type 0} (xs : List A) (n : ℕ) (x : A) → length (slice_set xs n x) ≡ length xs
 set_long [] zero y = refl
@@ -76,3 +80,8 @@ pub there : {A : Type 0} (xs : List A) (m : ℕ) → m < length xs → (x : A) �
 there [] m lt = absurd (nothing m lt)
 there (x ∷ xs) zero lt = (x, refl)
 there (x ∷ xs) (suc m) lt = there xs m (omega arith)
+
+-- no value
+pub none_left : {A : Type 0} (xs : List A) → length xs ≡ 0 → xs ≡ []
+none_left [] e = refl
+none_left (x ∷ xs) e = absurd cc

@@ -1,5 +1,5 @@
 -- The end of a step at each node is the network's.
-use Rattle.std.proofs.Common.{◌≡◌, ℕ, zero, suc, ◌+◌, ◌-◌, ◌<◌, ◌≤◌, Bool, List, [], ◌∷◌, ◌++◌, length, take, drop, refl, sym, ap, subst, ◌∙◌, arith, inl, inr}
+use Rattle.std.proofs.Common.{◌≡◌, ℕ, zero, suc, ◌+◌, ◌<◌, Bool, List, [], ◌∷◌, ◌++◌, length, take, drop, refl, sym, ap, subst, ◌∙◌, arith}
 use Rattle.std.specs.Prelude.{map, Option, Some, None, option_map, slice_get}
 use Rattle.mq_history.specs.declared.history.History.{History}
 use Rattle.mq_history.specs.declared.history.Mark.{Mark}
@@ -13,7 +13,7 @@ use Rattle.mq_nodes.specs.Course.{noted}
 use Rattle.mq_course.specs.Courses.{course_of, marks_or_absent, with_mark}
 use Rattle.mq_course.proofs.CourseLaws.{all_note}
 use Rattle.mq_world.specs.Worlds.{IsNetwork, IsNodeAt, IsScriptAt, NetState, course_in, history_in, waits_in}
-use Rattle.mq_world.proofs.ListLaws.{get_map, some_is}
+use Rattle.mq_world.proofs.ListLaws.{get_map, long_map, some_is}
 use Rattle.mq_world.proofs.SeenLaws.{history_there}
 
 -- where so many of a list were changed, the next is as it was
@@ -29,10 +29,6 @@ mapped_here f xs ys i e = ap (λ (l : List _). slice_get l i) e ∙ here f xs i
 map_on : (idle : Bool) (ns : List NodeState) → map history_in (map (marked idle) ns) ≡ map (with_mark idle) (map history_in ns)
 map_on idle [] = refl
 map_on idle (n ∷ ns) = ap (λ (hs : List History). with_mark idle n.history ∷ hs) (map_on idle ns)
-
-pub long_map : {A B : Type 0} (f : A → B) (xs : List A) → length (map f xs) ≡ length xs
-long_map f [] = refl
-long_map f (x ∷ xs) = let h = long_map f xs in omega (arith, h)
 
 abbrev pub all_marked : Bool → NetState → NetState
 all_marked idle w = record w { nodes = map (marked idle) w.nodes }

@@ -1,16 +1,15 @@
 -- A network whose nodes rest.
-use Rattle.std.proofs.Common.{◌≡◌, ℕ, ◌+◌, List, [], ◌∷◌, ◌++◌, length, refl, sym, ap, subst, ◌∙◌, arith, append_assoc}
+use Rattle.std.proofs.Common.{◌≡◌, ℕ, List, [], ◌∷◌, ◌++◌, refl, sym, ap, subst, ◌∙◌, append_assoc}
 use Rattle.std.specs.Prelude.{map, reverse, Option, Some, None, option_map, slice_get}
 use Rattle.std.proofs.lemmas.List.{reverse-append, reverse-reverse}
 use Rattle.mq_history.specs.declared.history.History.{History}
 use Rattle.mq_spec_node.specs.Words.{Own, Replays, Surroundings, TriggersStand, node_of, opening_node, state_of}
-use Rattle.mq_spec_network.specs.Given.{surroundings}
 use Rattle.mq_core.specs.Values.{CoreValue}
 use Rattle.mq_events.specs.States.{NodeState}
 use Rattle.mq_world_begin.specs.Rested.{IsRested, IsRestedAt}
 use Rattle.mq_world.specs.Resting.{manager_in, own_in, rest_of}
 use Rattle.mq_world.specs.Worlds.{IsNetwork, IsNodeAt, NetState, history_in}
-use Rattle.mq_world.proofs.ListLaws.{get_map, some_is}
+use Rattle.mq_world.proofs.ListLaws.{get_map, long_map, some_is}
 
 -- none yet
 pub first_moved : {A B : Type 0} (f : A → B) (xs : List B) (left all : List A) → xs ≡ [] → left ≡ reverse all → xs ++ map f (reverse left) ≡ map f all
@@ -30,10 +29,6 @@ all_moved f xs left all none before = sym (append_none xs) ∙ sym (ap (λ (zs :
     append_none : {B : Type 0} (zs : List B) → zs ++ [] ≡ zs
     append_none [] = refl
     append_none (z ∷ zs) = ap (λ (l : List _). z ∷ l) (append_none zs)
-
-long_map : {A B : Type 0} (f : A → B) (xs : List A) → length (map f xs) ≡ length xs
-long_map f [] = refl
-long_map f (x ∷ xs) = let h = long_map f xs in omega (arith, h)
 
 -- the node behind what is seen of it
 record Behind {B : Type 0} (f : NodeState → B) (ns : List NodeState) (m : ℕ) (y : B) : Type 0 where

@@ -1,9 +1,8 @@
 -- A script's next line at its node is the network's.
-use Rattle.std.proofs.Common.{◌≡◌, ℕ, ◌+◌, ◌<◌, ◌≤◌, Bool, true, false, List, [], ◌∷◌, ◌++◌, length, refl, sym, ap, subst, ◌∙◌, arith, inl, inr}
-use Rattle.std.specs.Prelude.{◌⊎◌, ◌==◌, ◌^◌, if◌then◌else◌, map, Option, Some, None, IsSome, IfSome, All, Result, Ok, Err, slice_get, slice_set}
+use Rattle.std.proofs.Common.{◌≡◌, ℕ, ◌<◌, ◌≤◌, Bool, true, false, List, ◌∷◌, ◌++◌, length, refl, sym, ap, subst, ◌∙◌, arith, inl, inr}
+use Rattle.std.specs.Prelude.{◌⊎◌, ◌==◌, ◌^◌, if◌then◌else◌, map, Option, Some, None, IfSome, All, Result, Ok, Err, slice_get, slice_set}
 use Rattle.std.proofs.lemmas.Option.{slice_get_within}
 use Rattle.mq_history.specs.Scenarios.{IsScenario}
-use Rattle.mq_history.specs.declared.calls.Actor.TheVariants as actors
 use Rattle.mq_history.specs.declared.scenario.Scenario.{Scenario}
 use Rattle.mq_history.specs.declared.scenario.ScriptPart.{ScriptPart}
 use Rattle.mq_history.specs.declared.scripts.ScriptLine.TheVariants as lines
@@ -155,7 +154,7 @@ line_keeps w m k p c d (Err stops.NoMemory) n new h known part is here (inr z) =
 line_keeps w m k p c d (Err (stops.Spent j)) n new h known part is here (at, z, spent) = did_keeps w m k p c d n new h known part is here z
 
 -- A deadline is kept of a get alone.
-none_some : {A : Type 0} → IsSome {A = A} None → ⊥
+none_some : false ≡ true → ⊥
 none_some h = cc
 
 pub keeps_so : (l : ScriptLine) (u : Option ℕ) → WaitsSo u l → Keeps u l

@@ -33,6 +33,7 @@ use Rattle.mq_events.specs.Texts.{IsTextCommand}
 use Rattle.mq_nodes.specs.Texts.{AllFit}
 use Rattle.mq_course.specs.Courses.{absent, marks_or_absent}
 use Rattle.mq_progress.specs.Course as progress
+use Rattle.mq_progress.proofs.CourseLaws.{stands_first}
 use Rattle.mq_steps.proofs.PartLaws.{at_it}
 use Rattle.mq_owned.specs.Owned.{HasNoCables}
 use Rattle.mq_world.specs.Starting.{Starts, StartsAt, around, begun_script, begun_state}
@@ -55,16 +56,16 @@ opens_so s m l v own h is r owned none =
     ∙ ap (λ (g : Surroundings). opening_node g h) (sym (around_is s m l v own h is r owned))
 
 -- No trigger is due of a manager that has just begun.
-none_stored : (name : List ℕ) (ss : List Shelf) (p : Plain) → p.queues ≡ map queue_on ss → (stored name p).due ≡ 0
-none_stored name ss p e = ap (λ (qs : List Queue). (queue_in name qs).due) e ∙ none_in ss
+none_in : (name : List ℕ) (ss : List Shelf) → (queue_in name (map queue_on ss)).due ≡ 0
+none_in name [] = refl
+none_in name (s ∷ ss) = by_name (bytes_eq name s.name) (none_in name ss)
   where
-    none_in : (ts : List Shelf) → (queue_in name (map queue_on ts)).due ≡ 0
-    none_in [] = refl
-    none_in (t ∷ ts) = by_name (bytes_eq name t.name)
-      where
-        by_name : (b : Bool) → (if b then queue_on t else queue_in name (map queue_on ts)).due ≡ 0
-        by_name true = refl
-        by_name false = none_in ts
+    by_name : (b : Bool) → (queue_in name (map queue_on ss)).due ≡ 0 → (if b then queue_on s else queue_in name (map queue_on ss)).due ≡ 0
+    by_name true h = refl
+    by_name false h = h
+
+none_stored : (name : List ℕ) (ss : List Shelf) (p : Plain) → p.queues ≡ map queue_on ss → (stored name p).due ≡ 0
+none_stored name ss p e = ap (λ (qs : List Queue). (queue_in name qs).due) e ∙ none_in name ss
 
 none_due_in : (qs : List LocalQueue) (ss : List Shelf) (p : Plain) → p.queues ≡ map queue_on ss → first_due qs p ≡ None
 none_due_in [] ss p e = refl
@@ -190,7 +191,7 @@ started s hs ns cs handlers lines apart scenario texts all each many begun of_ru
   each = many;
   scripts = λ k p c part is. subst (IsScriptAt k p (entries_at (map history_in ns) p.manager)) (sym (all_begun cs k c begun is))
       (subst (λ (es : List Entry). IsScriptAt k p es begun_script) (sym (none_done ns p.manager (λ m n known. (each m n known).undone)))
-      (record { stands = record { memory = refl; done = refl }; few = low (length p.lines); waits = λ l there. tt }));
+      (record { stands = stands_first k p begun_script refl refl; few = low (length p.lines); waits = λ l there. tt }));
   handlers = of_rules;
   monitors = of_monitors;
 } where

@@ -1,6 +1,6 @@
 -- Turns of handlers and monitors at their node are the network's.
-use Rattle.std.proofs.Common.{◌≡◌, ℕ, suc, ◌<◌, Bool, true, false, List, [], ◌∷◌, length, refl, sym, ap, subst, ◌∙◌}
-use Rattle.std.specs.Prelude.{map, Option, Some, None, option_map, Result, Ok, Err, slice_get}
+use Rattle.std.proofs.Common.{◌≡◌, ℕ, ◌<◌, Bool, true, false, List, length, refl, sym, ap, subst, ◌∙◌}
+use Rattle.std.specs.Prelude.{Option, Some, None, option_map, Result, Ok, Err, slice_get}
 use Rattle.mq_history.specs.declared.calls.Actor.TheVariants as actors
 use Rattle.mq_history.specs.declared.calls.Call.TheVariants as calls
 use Rattle.mq_history.specs.declared.scenario.MonitorLine.{MonitorLine}
@@ -15,14 +15,14 @@ use Rattle.mq_events.specs.States.{NodeState, node_in, value_of}
 use Rattle.mq_nodes.specs.declared.nodes.Monitored.{Monitored}
 use Rattle.mq_nodes.specs.declared.nodes.Monitored.TheVariants as monitors
 use Rattle.mq_nodes.specs.declared.nodes.Stop.{Stop}
-use Rattle.mq_nodes.specs.Course.{Course, Ready}
+use Rattle.mq_nodes.specs.Course.{Ready}
 use Rattle.mq_nodes.specs.Told.{HandlerOf, HandlerTold, TurnOf, TurnTold, begun_by}
 use Rattle.mq_steps.proofs.PartLaws.{at_it}
 use Rattle.mq_handle.specs.Turns.{turn_of}
 use Rattle.mq_world.specs.Settling.{IsOf, NodeStays}
 use Rattle.mq_world.specs.Turning.{HandlerOn, IsGet, IsGot, MonitorOn}
 use Rattle.mq_world.specs.Worlds.{IsNetwork, NetState, course_in, with_node}
-use Rattle.mq_world.proofs.ListLaws.{get_map, some_is}
+use Rattle.mq_world.proofs.ListLaws.{get_map, long_map, some_is}
 use Rattle.mq_world.proofs.SeenLaws.{done_there, node_there}
 use Rattle.mq_world.proofs.KeepLaws.{NoScript, network_did, network_stays}
 use Rattle.mq_world.proofs.LiftLaws.{Asked, asked_at, broke_keeps, broke_lifts, did_lifts, of_handler, ready_set, seen_at, stays_lifts}
@@ -77,10 +77,6 @@ rules_low w k m h found = by_part (slice_get w.scenario.rules k) refl
 
 pub rules_there : (w : NetState) (k : ℕ) → IsNetwork w → k < length w.scenario.rules → k < length w.handlers
 rules_there w k h lt = subst (λ (n : ℕ). k < n) (sym (ap (λ (xs : List ℕ). length xs) h.handlers ∙ long_map rules_manager w.scenario.rules)) lt
-  where
-    long_map : {A B : Type 0} (f : A → B) (xs : List A) → length (map f xs) ≡ length xs
-    long_map f [] = refl
-    long_map f (x ∷ xs) = ap suc (long_map f xs)
 
 pub handler_told : (w v : NetState) (i m k : ℕ) (r : Result Bool Stop) (n new : NodeState) → Asked w i m n → v ≡ with_node i new w → slice_get w.handlers k ≡ Some m → HandlerOn k m n r new → HandlerTold k r (course_in w) (course_in v)
 handler_told w v i m k r n new a is found x p part =

@@ -16,10 +16,10 @@ use Rattle.mq_watch.specs.Turns.{connection_of}
 use Rattle.mq_nodes.specs.declared.nodes.Stop.{Stop}
 use Rattle.mq_nodes.specs.declared.nodes.Stop.TheVariants as stops
 use Rattle.mq_nodes.specs.Course.{Course, Did, Ready}
-use Rattle.mq_nodes.specs.Told.{Broke, Does, Onward, Part, Says}
+use Rattle.mq_nodes.specs.Told.{Broke, Does, Onward, Part}
 use Rattle.mq_nodes.proofs.Onward.{begin, broke, moved, passed, unframed, whole}
 
-did_with : (P Q : ℕ → Entry → Type 0) (c d : Course) → ((m : ℕ) (e : Entry) → P m e → Q m e) → Did P c d → Did Q c d
+abbrev did_with : (P Q : ℕ → Entry → Type 0) (c d : Course) → ((m : ℕ) (e : Entry) → P m e → Q m e) → Did P c d → Did Q c d
 did_with P Q c d f x = record { at = x.at; entry = x.entry; behind = x.behind; fits = f x.at x.entry x.fits; triggers = x.triggers; is = x.is }
 
 broke_with : (P Q : ℕ → Entry → Type 0) (stop : Stop) (c d : Course) → ((m : ℕ) (e : Entry) → P m e → Q m e) → Broke P stop c d → Broke Q stop c d
@@ -46,8 +46,8 @@ watching k l c r e = whole (Watch k l ∷ []) c c tt (passed (Watch k l ∷ []) 
 
 -- It connects,
 pub connect_breaks : (k : ℕ) (l : MonitorLine) (stop : Stop) (c d : Course) → Ready c.net → is_watching k (node_at c.net l.manager) ≡ false → Broke (Connecting k l) stop c d → Part {T = Unit {0}} (Watch k l ∷ []) (Err stop) c d
-connect_breaks k l stop c d r no b =
-    broke (Watch k l ∷ []) (Watch k l) [] c c d stop (begin (Watch k l ∷ []) c r) (broke_with (Connecting k l) (Moves c.net (Watch k l)) stop c d (λ m e p. (no, p)) b)
+connect_breaks k l stop c d r free b =
+    broke (Watch k l ∷ []) (Watch k l) [] c c d stop (begin (Watch k l ∷ []) c r) (broke_with (Connecting k l) (Moves c.net (Watch k l)) stop c d (λ m e p. (free, p)) b)
 
 abbrev pub opens_of : ℕ → MonitorLine → Option Hconn → List Task
 opens_of k l None = []
@@ -71,8 +71,8 @@ abbrev GivenSo : ℕ → MonitorLine → Option Hconn → ℕ → Entry → Type
 GivenSo k l given m e = Connecting k l m e × (given ≡ connection_of e.reply)
 
 pub connected : (k : ℕ) (l : MonitorLine) (given : Option Hconn) (c d : Course) → Ready c.net → is_watching k (node_at c.net l.manager) ≡ false → Did (GivenSo k l given) c d × Ready d.net → Onward (Watch k l ∷ []) (opens_of k l given) c d
-connected k l given c d r no (x, ready) =
-    let on : Onward (Watch k l ∷ []) (opens k l x.entry.reply ++ []) c d = moved (Watch k l ∷ []) (Watch k l) [] c c d (begin (Watch k l ∷ []) c r) (did_with (GivenSo k l given) (Moves c.net (Watch k l)) c d (λ m e p. (no, p.0)) x) ready in
+connected k l given c d r free (x, ready) =
+    let on : Onward (Watch k l ∷ []) (opens k l x.entry.reply ++ []) c d = moved (Watch k l ∷ []) (Watch k l) [] c c d (begin (Watch k l ∷ []) c r) (did_with (GivenSo k l given) (Moves c.net (Watch k l)) c d (λ m e p. (free, p.0)) x) ready in
     subst (λ (ts : List Task). Onward (Watch k l ∷ []) ts c d) (opens_so k l x.entry.reply ∙ ap (opens_of k l) (sym x.fits.1)) (unframed (Watch k l ∷ []) (opens k l x.entry.reply) c d on)
 
 pub not_given : (k : ℕ) (l : MonitorLine) (c d : Course) → Onward (Watch k l ∷ []) [] c d → Part {T = Unit {0}} (Watch k l ∷ []) (Ok tt) c d
@@ -89,9 +89,6 @@ pub opened : (k : ℕ) (l : MonitorLine) (hc : Hconn) (is : Bool) (c d e : Cours
 opened k l hc is c d e on (x, ready) =
     let next : Onward (Watch k l ∷ []) (gives_up k l hc (is_opened x.entry.reply) ++ []) c e = moved (Watch k l ∷ []) (Open k l hc) [] c d e on (did_with (OpenedSo k l hc is) (Opening k l hc) d e (λ m y p. p.0) x) ready in
     subst (λ (b : Bool). Onward (Watch k l ∷ []) (gives_up k l hc b) c e) (sym x.fits.1) (unframed (Watch k l ∷ []) (gives_up k l hc (is_opened x.entry.reply)) c e next)
-
-pub is_open : (k : ℕ) (l : MonitorLine) (hc : Hconn) (c d e : Course) → Onward (Watch k l ∷ []) (Open k l hc ∷ []) c d → Did (OpenedSo k l hc true) d e × Ready e.net → Part {T = Unit {0}} (Watch k l ∷ []) (Ok tt) c e
-is_open k l hc c d e on x = whole (Watch k l ∷ []) c e tt (opened k l hc true c d e on x)
 
 -- or disconnects.
 pub leaves : (k : ℕ) (l : MonitorLine) (hc : Hconn) (r : Result (Unit {0}) Stop) (c d e : Course) → Onward (Watch k l ∷ []) (Ask l.manager (actors.Monitor k) (calls.Mqdisc hc) ∷ []) c d → Does (Leaving k l hc) r d e → Part (Watch k l ∷ []) r c e

@@ -1,6 +1,5 @@
 -- What a network is once it rests.
 use Rattle.std.specs.Prelude.{List, map}
-use Rattle.mq_history.specs.declared.history.History.{History}
 use Rattle.mq_history.specs.declared.scenario.Scenario.{Scenario}
 use Rattle.mq_spec_node.specs.Words.{Own}
 use Rattle.mq_core.specs.Values.{CoreValue}

@@ -3,7 +3,7 @@ use Rattle.std.specs.Prelude.{◌≡◌, ◌+◌, ◌≤◌, ℕ, Bool, List, []
 use Rattle.std.proofs.Common.{Global, Vec}
 use Rattle.mq_history.specs.declared.history.History.{History}
 use Rattle.mq_history.specs.declared.scenario.Scenario.{Scenario}
-use Rattle.mq_spec_node.specs.Words.{Own, Surroundings, node_of, opening_node}
+use Rattle.mq_spec_node.specs.Words.{Own, Surroundings}
 use Rattle.mq_spec_network.specs.Given.{own_at}
 use Rattle.mq_core.specs.Values.{CoreValue}
 use Rattle.mq_events.specs.States.{NodeState, IsServed}

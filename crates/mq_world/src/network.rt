@@ -139,29 +139,29 @@ impl<D: Disk> Nodes for Network<D> {
         self.parts.advance(script, part)
     }
 
-    #[tactic(auto, using(crate::proofs::CableLaws::none_long))]
+    // (there is no cable, as its parts say: none of the next three is asked)
     fn cables(&self) -> u16 {
+        let _ = &self.parts;
         0
     }
 
-    // (there is no cable: none of the next three is asked)
-    #[tactic(auto, using(crate::proofs::CableLaws::turn_none))]
     fn sender_turn(&mut self, cable: u16) -> Result<bool, Stop> {
+        let _ = &self.parts;
         Ok(false)
     }
 
-    #[tactic(auto, using(crate::proofs::CableLaws::turn_none))]
     fn receiver_turn(&mut self, cable: u16) -> Result<bool, Stop> {
+        let _ = &self.parts;
         Ok(false)
     }
 
-    #[tactic(auto, using(crate::proofs::CableLaws::turn_none))]
     fn timeout(&mut self, cable: u16) -> Result<bool, Stop> {
+        let _ = &self.parts;
         Ok(false)
     }
 
-    #[tactic(auto, using(crate::proofs::CableLaws::idle_none, crate::proofs::CableLaws::idle_law))]
     fn is_idle(&self) -> bool {
+        let _ = &self.parts;
         true
     }
 

@@ -20,7 +20,7 @@ use mq_nodes::{Monitored, Stop};
 use mq_watch::{connect, monitor_turn, open};
 
 /// The handler of a rules table takes a turn at its node, if it isn't idle: whether it did.
-#[tactic(auto, using(crate::proofs::NodeLaws::none_done, crate::proofs::TurnLaws::idles, crate::proofs::TurnLaws::tries_then))]
+#[tactic(auto, using(crate::proofs::NodeLaws::none_done, crate::proofs::HandlerLaws::idles, crate::proofs::HandlerLaws::tries_then))]
 pub fn handler_on<D: Disk>(node: &mut Node<D>, manager: u16, rules: u16) -> Result<bool, Stop>
     requires served { IsServed node.old }
     requires may { MayAct node.old }
@@ -34,7 +34,7 @@ pub fn handler_on<D: Disk>(node: &mut Node<D>, manager: u16, rules: u16) -> Resu
 }
 
 /// A monitor takes a turn at its node, if there is a message to get.
-#[tactic(auto, using(crate::proofs::NodeLaws::none_done, crate::proofs::TurnLaws::rests, crate::proofs::TurnLaws::got_then, crate::proofs::TurnLaws::started_then))]
+#[tactic(auto, using(crate::proofs::NodeLaws::none_done, crate::proofs::HandlerLaws::rests, crate::proofs::HandlerLaws::got_then, crate::proofs::HandlerLaws::started_then))]
 pub fn monitor_on<D: Disk>(
     node: &mut Node<D>,
     manager: u16,
@@ -55,7 +55,7 @@ pub fn monitor_on<D: Disk>(
 }
 
 /// A monitor connects at its node: the connection that it was given, if any.
-#[tactic(auto, using(crate::proofs::NodeLaws::none_done, crate::proofs::TurnLaws::connects_then))]
+#[tactic(auto, using(crate::proofs::NodeLaws::none_done, crate::proofs::HandlerLaws::connects_then))]
 pub fn connect_on<D: Disk>(
     node: &mut Node<D>,
     manager: u16,
@@ -73,7 +73,7 @@ pub fn connect_on<D: Disk>(
 }
 
 /// A monitor opens its queue at its node: whether it is open.
-#[tactic(auto, using(crate::proofs::NodeLaws::none_done, crate::proofs::TurnLaws::opens_then))]
+#[tactic(auto, using(crate::proofs::NodeLaws::none_done, crate::proofs::HandlerLaws::opens_then))]
 pub fn open_on<D: Disk>(
     node: &mut Node<D>,
     manager: u16,

@@ -1,10 +1,7 @@
-use Rattle.std.specs.Prelude.{◌≡◌, ◌≤◌, ℕ, All, List, Some, length, slice_get, refl}
+use Rattle.std.specs.Prelude.{◌≡◌, List, Some, length, slice_get, refl}
 use Rattle.std.proofs.Common.{ap, arith, subst, sym, ◌∙◌}
 use Rattle.std.proofs.lemmas.Option.{slice_get_read}
-use Rattle.mq_history.specs.declared.history.History.{History}
 use Rattle.mq_history.specs.declared.scenario.ManagerLine.{ManagerLine}
-use Rattle.mq_core.specs.Values.{CoreValue}
-use Rattle.mq_spec_node.specs.Words.{Own}
 use Rattle.mq_events.specs.States.{NodeState}
 use Rattle.mq_world_begin.proofs.PlaceLaws.{each_more, long_more, none_there}
 use Rattle.mq_world.specs.Starting.{IsRoom, StartsAt}
@@ -59,7 +56,7 @@ begun_node-node-requires-clause-opens g c =
     let o = next_of c.args.owns.items c.loop-line.owns.items c.taken-own.new.list.items c.loop-line.line-index c.taken-own.result c.loop-line.invariant.owns c.taken-own.ensures.items in
     let h = next_of c.args.histories.items c.loop-line.histories.items c.taken-history.new.list.items c.loop-line.line-index c.taken-history.result c.loop-line.invariant.histories c.taken-history.ensures.items in
     let line : slice_get c.args.scenario.now.managers c.loop-line.line-index ≡ Some c.line-item.result =
-        sym (ap (λ (xs : List ManagerLine). slice_get xs c.loop-line.line-index) c.as_slice-line-items.ensures) ∙ slice_get_read _ _ _ _ refl c.loop-line-test.true c.line-item.is in
+    sym (ap (λ (xs : List ManagerLine). slice_get xs c.loop-line.line-index) c.as_slice-line-items.ensures) ∙ slice_get_read _ _ _ _ refl c.loop-line-test.true c.line-item.is in
     opens_so c.args.scenario.now c.loop-line.line-index c.line-item.result c.taken-manager.result c.taken-own.result c.taken-history.result line
     (c.requires.rested.each c.loop-line.line-index c.taken-manager.result c.taken-own.result c.taken-history.result v.0 o.0 h.0)
     (c.requires.fresh.owned c.loop-line.line-index c.taken-own.result o.0) (c.requires.fresh.undone c.loop-line.line-index c.taken-history.result h.0)
@@ -74,13 +71,13 @@ loop-line-preserved g c =
     let h = next_of c.args.histories.items c.loop-line.histories.items c.taken-history.new.list.items c.loop-line.line-index c.taken-history.result c.loop-line.invariant.histories c.taken-history.ensures.items in
     let front = all_front (IsRoom (length c.args.scenario.now.steps)) c.taken-room.new.list.items c.loop-line.rooms.items c.taken-room.result c.taken-room.ensures.items c.loop-line.invariant.rooms in
     let line : slice_get c.args.scenario.now.managers c.loop-line.line-index ≡ Some c.line-item.result =
-        sym (ap (λ (xs : List ManagerLine). slice_get xs c.loop-line.line-index) c.as_slice-line-items.ensures) ∙ slice_get_read _ _ _ _ refl c.loop-line-test.true c.line-item.is in
+    sym (ap (λ (xs : List ManagerLine). slice_get xs c.loop-line.line-index) c.as_slice-line-items.ensures) ∙ slice_get_read _ _ _ _ refl c.loop-line-test.true c.line-item.is in
     let started : StartsAt c.args.scenario.now c.args.histories.items c.loop-line.line-index c.begun_node-node.result =
-        subst (λ (n : NodeState). StartsAt c.args.scenario.now c.args.histories.items c.loop-line.line-index n) (sym c.begun_node-node.ensures.same)
-        (starts_at c.args.scenario.now c.loop-line.line-index c.line-item.result c.taken-manager.result c.taken-own.result c.taken-history.result c.begun_node-node.result.room c.begun_node-node.result.marks c.begun_node-node.result.few c.args.histories.items h.0 line
-        (c.requires.rested.each c.loop-line.line-index c.taken-manager.result c.taken-own.result c.taken-history.result v.0 o.0 h.0)
-        (c.requires.fresh.owned c.loop-line.line-index c.taken-own.result o.0) (c.requires.fresh.undone c.loop-line.line-index c.taken-history.result h.0) (c.requires.fresh.unmarked c.loop-line.line-index c.taken-history.result h.0)
-        (omega (arith, front.1.1, c.begun_node-node.ensures.room))) in
+    subst (λ (n : NodeState). StartsAt c.args.scenario.now c.args.histories.items c.loop-line.line-index n) (sym c.begun_node-node.ensures.same)
+    (starts_at c.args.scenario.now c.loop-line.line-index c.line-item.result c.taken-manager.result c.taken-own.result c.taken-history.result c.begun_node-node.result.room c.begun_node-node.result.marks c.begun_node-node.result.few c.args.histories.items h.0 line
+    (c.requires.rested.each c.loop-line.line-index c.taken-manager.result c.taken-own.result c.taken-history.result v.0 o.0 h.0)
+    (c.requires.fresh.owned c.loop-line.line-index c.taken-own.result o.0) (c.requires.fresh.undone c.loop-line.line-index c.taken-history.result h.0) (c.requires.fresh.unmarked c.loop-line.line-index c.taken-history.result h.0)
+    (omega (arith, front.1.1, c.begun_node-node.ensures.room))) in
     record {
       managers = v.1;
       owns = o.1;

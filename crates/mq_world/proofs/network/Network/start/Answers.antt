@@ -1,4 +1,4 @@
-use Rattle.std.specs.Prelude.{◌≡◌, ◌≤◌, List, length}
+use Rattle.std.specs.Prelude.{◌≡◌, List, length}
 use Rattle.std.proofs.Common.{ap, arith, subst, sym, ◌∙◌}
 use Rattle.mq_history.specs.Scenarios.{IsScenario}
 use Rattle.mq_history.specs.declared.scenario.Scenario.{Scenario}
@@ -39,7 +39,7 @@ returns g c =
     let begun : NetState = record { scenario = c.args.scenario.now; nodes = c.nodes_of-nodes.result.items; scripts = c.in-Ok.room.scripts; handlers = c.in-Ok.room.handlers; monitors = c.in-Ok.room.monitors } in
     let rest : RestState = record { scenario = c.args.scenario.now; managers = c.rested.inside.managers.items; owns = c.rested.inside.owns.items; histories = c.rested.inside.histories.items } in
     let long : length c.nodes_of-nodes.result.items ≡ length c.rested.inside.histories.items =
-        c.nodes_of-nodes.ensures.all ∙ ap (λ (s : Scenario). length s.managers) (sym same) ∙ sym c.rested.invariant.0.histories in
+    c.nodes_of-nodes.ensures.all ∙ ap (λ (s : Scenario). length s.managers) (sym same) ∙ sym c.rested.invariant.0.histories in
     subst (λ (r : RestState). Starts r (record begun { scenario = c.rested.inside.scenario.value; nodes = c.from_vec.result })) c.rested.view_is
     (subst (λ (s : Scenario). Starts (record rest { scenario = s }) (record begun { scenario = s; nodes = c.from_vec.result })) (sym same)
     (subst (λ (ns : List NodeState). Starts rest (record begun { nodes = ns })) (sym c.from_vec.ensures)

@@ -2,7 +2,8 @@ use Rattle.std.specs.Prelude.{length, refl, slice_get}
 use Rattle.std.proofs.Common.{sym, ap, subst, ◌∙◌}
 use Rattle.mq_events.specs.States.{marked}
 use Rattle.mq_world.specs.Worlds.{IsNetwork, NetState, course_in}
-use Rattle.mq_world.proofs.MarkLaws.{has_room, long_map, marked_so, marks_keep, marks_lift}
+use Rattle.mq_world.proofs.ListLaws.{long_map}
+use Rattle.mq_world.proofs.MarkLaws.{has_room, marked_so, marks_keep, marks_lift}
 use Rattle.mq_world.proofs.parts.NetParts.mark.Goals as goal
 
 pub mark_all-requires : goal.mark_all-requires

@@ -3,7 +3,7 @@ use Rattle.std.proofs.Common.{ap, arith, sym, ◌∙◌}
 use Rattle.mq_world.specs.Worlds.{NetState, with_node}
 use Rattle.mq_world.proofs.LiftLaws.{asked, asked_ready}
 use Rattle.mq_world.proofs.TurnLaws.{handler_kept, handler_told, rules_low, rules_there}
-use Rattle.mq_world.proofs.turns.NetParts.handler_turn.Goals as goal
+use Rattle.mq_world.proofs.parts.NetParts.handler_turn.Goals as goal
 
 pub manager_of-manager-requires : goal.manager_of-manager-requires
 manager_of-manager-requires g c =

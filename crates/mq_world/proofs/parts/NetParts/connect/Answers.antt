@@ -1,15 +1,15 @@
-use Rattle.std.specs.Prelude.{length, ◌≡◌, Bool, Option, []}
+use Rattle.std.specs.Prelude.{length, ◌≡◌, Option, []}
 use Rattle.std.proofs.Common.{ap, arith}
 use Rattle.mq_history.specs.declared.calls.Actor.TheVariants as actors
 use Rattle.mq_history.specs.declared.calls.Call.TheVariants as calls
 use Rattle.mq_spec_node.specs.Terms.{Entry, Hconn}
-use Rattle.mq_spec_node.specs.Words.{is_opened, script_appl, shared}
+use Rattle.mq_spec_node.specs.Words.{script_appl}
 use Rattle.mq_spec_network.specs.Steps.{Is}
 use Rattle.mq_watch.specs.Turns.{connection_of}
 use Rattle.mq_world.specs.Settling.{IsOf}
 use Rattle.mq_world.specs.Worlds.{NetState, with_node}
 use Rattle.mq_world.proofs.LiftLaws.{asked, asked_ready, monitor_fits, of_monitor, says_kept, says_told}
-use Rattle.mq_world.proofs.turns.NetParts.connect.Goals as goal
+use Rattle.mq_world.proofs.parts.NetParts.connect.Goals as goal
 
 pub at_mut-requires : goal.at_mut-requires
 at_mut-requires g c = omega (arith, c.requires.kept.all, c.requires.there, c.from.ensures, ap (λ (w : NetState). length w.nodes) c.self.view_is)

@@ -3,7 +3,7 @@ use Rattle.std.proofs.Common.{ap, arith, sym, ◌∙◌}
 use Rattle.mq_world.specs.Worlds.{NetState, with_node}
 use Rattle.mq_world.proofs.LiftLaws.{asked, asked_ready}
 use Rattle.mq_world.proofs.TurnLaws.{line_low, lines_there, monitor_kept, monitor_told}
-use Rattle.mq_world.proofs.turns.NetParts.monitor_turn.Goals as goal
+use Rattle.mq_world.proofs.parts.NetParts.monitor_turn.Goals as goal
 
 pub line_of-line-requires : goal.line_of-line-requires
 line_of-line-requires g c =
