@@ -29,7 +29,7 @@ use Rattle.mq_spec_node.specs.Node.{ChannelEnd, end_in}
 use Rattle.mq_spec_node.specs.Node.ChannelEnd.{Receives, Sends}
 use Rattle.mq_spec_network.specs.Apart.{case, cable_apart, cable_cases, cables_apart, doubt_case, first_of, idents_apart, is_above, is_other, or_else, receiver_at, row_idents, sender_at, standing_idents}
 use Rattle.mq_spec_network.specs.Conflict.{is_committed}
-use Rattle.mq_spec_network.specs.Given.{end_at, ends_from, name_at, receives_at, sends_from}
+use Rattle.mq_spec_network.specs.Given.{surroundings, end_at, ends_from, name_at, receives_at, sends_from}
 use Rattle.mq_spec_network.specs.Promised.{Premises}
 use Rattle.mq_spec_network.specs.Standing.{cable_from, cable_named, last_unit, last_unit_at, last_unit_of, node_after, opening_ledger, opening_managers, places_of}
 use Rattle.mq_spec_network.specs.Story.{Mem}
@@ -53,6 +53,7 @@ use Rattle.mq_law_story.specs.Needs.{letter_tag}
 use Rattle.mq_law_story.proofs.Beginning.{images_have_the_facts}
 use Rattle.mq_law_story.proofs.Weaving.{manager_at}
 use Rattle.mq_law_seen.proofs.Images.{pairs_chain}
+use Rattle.mq_law_unshared.proofs.Events as happening
 use Rattle.mq_law_turns.proofs.Beginning as telling
 use Rattle.mq_law_cables.proofs.Beginning as beginning
 use Rattle.mq_law_one.proofs.Running.{first_at}
@@ -230,6 +231,7 @@ begins s hs premises = record {
     counted = record { apart = tt; upto = λ k n. absurd n };
   };
   cabled = λ m h is. record { once = λ b n. absurd n; line = λ b n. absurd n };
+  unshared = λ m h is on. happening.begins (surroundings s m) h;
   housed = λ a y e. house a y (slice_get hs a) refl (sym (mapped (places_of s ps) ps a ∙ ap (option_map (places_of s ps)) (manager_at s [] hs a)) ∙ e);
 }
   where

@@ -7,12 +7,16 @@ use Rattle.mq_frame.specs.declared.frame.Frame.{Frame}
 use Rattle.mq_history.specs.declared.history.History.{History}
 use Rattle.mq_history.specs.declared.scenario.CableLine.{CableLine}
 use Rattle.mq_history.specs.declared.scenario.Scenario.{Scenario}
+use Rattle.mq_history.specs.Scenarios.{IsScenario}
 use Rattle.mq_spec_node.specs.Node.{Node}
-use Rattle.mq_spec_node.specs.Replays.{done_by}
+use Rattle.mq_spec_node.specs.Replays.{IsOwn, Tells, done_by}
 use Rattle.mq_spec_network.specs.Ledger.{Ledger, ledger, users_or}
 use Rattle.mq_spec_network.specs.Standing.{node_after, opening_ledger}
 use Rattle.mq_spec_network.specs.Conflict.{deeds}
-use Rattle.mq_spec_network.specs.Story.{Line, Mem}
+use Rattle.mq_spec_network.specs.Story.{Line, Mem, part}
+use Rattle.mq_law_keys.proofs.Starting.{run_keyed}
+use Rattle.mq_law_unshared.specs.Unshared.{WhereUp}
+use Rattle.mq_law_unshared.proofs.Events.{events}
 use Rattle.mq_law_channel.specs.Channel.{Channel}
 use Rattle.mq_law_node.specs.Nodes.{FarNode, NearNode}
 use Rattle.mq_law_node.proofs.Pairs.{far_stays, near_stays}
@@ -27,7 +31,7 @@ use Rattle.mq_spec_network.specs.Ledger as ledgers
 use Rattle.mq_law_node.specs.Nodes.{SameFar, SameNear}
 use Rattle.mq_law_stopped.specs.Noted.{EndNote}
 use Rattle.mq_law_stopped.proofs.Staying.{notes_stay}
-use Rattle.mq_law_one.specs.Alone.{IsAt, IsNotedAt, as_left}
+use Rattle.mq_law_one.specs.Alone.{IsAt, IsNotedAt, IsState, as_left}
 use Rattle.mq_law_one.proofs.Ordinary.{elsewhere_noted}
 use Rattle.mq_law_run.specs.Run.{Among, IsMoved, Moves, Stand, far_at, near_at}
 use Rattle.mq_law_run.proofs.Telling.{told_before}
@@ -79,8 +83,9 @@ mem_more [] x y (inr n) = absurd n
 mem_more (w ∷ xs) x y (inl e) = inl (inl e)
 mem_more (w ∷ xs) x y (inr n) = elim (mem_more xs x y n) [ inl z ↦ inl (inr z) | inr z ↦ inr z ]
 
-pub keeps_on : (s : Scenario) (hs : List History) (p : List Line) (x : Line) (h : History) (z : Stand s hs p) → slice_get hs x.manager ≡ Some h → Moves s hs p x h z → Stand s hs (p ++ x ∷ [])
-keeps_on s hs p x h z is v = record {
+pub keeps_on : (s : Scenario) (hs : List History) (p : List Line) (x : Line) (h : History) (stamp : ℕ) (z : Stand s hs p) → IsScenario s → slice_get hs x.manager ≡ Some h → Tells (node_after s x.manager p h) stamp x.entry → IsOwn x.entry.chance → Moves s hs p x h z
+    → Stand s hs (p ++ x ∷ [])
+keeps_on s hs p x h stamp z scenario is tells own v = record {
   given = v.given;
   ghost = v.ghost;
   xs = v.xs;
@@ -138,8 +143,16 @@ keeps_on s hs p x h z is v = record {
       (subst (λ (w : ℕ). AreCabled s.cables w (done_by x.entry (node_after s x.manager p h)).next.manager) (sym y) v.cabled))
       (λ q f. subst (λ (n : Node). AreCabled s.cables m n.manager) (sym (else_node s p x k m f)) (z.cabled m k e)) refl;
   housed = λ a y e. let w = v.housed a y e in z.housed a w.0 w.1;
+  unshared = λ m k e. bool_case (m == x.manager) (λ t. (m == x.manager) ≡ t → WhereUp (node_after s m (p ++ x ∷ []) k))
+      (λ q f. let y : m ≡ x.manager = eqb_yes m x.manager f in
+      subst (λ (n : Node). WhereUp n) (sym (here_node s p x k m y ∙ ap (λ (g : History). (done_by x.entry (node_after s x.manager p g)).next) (one_history hs x.manager m h k y is e))) here_open)
+      (λ q f. subst (λ (n : Node). WhereUp n) (sym (else_node s p x k m f)) (z.unshared m k e)) refl;
 }
   where
+    here_open : WhereUp (done_by x.entry (node_after s x.manager p h)).next
+    here_open = events x.entry.stamp x.entry.actor x.entry.call x.entry.chance x.entry.effect.popped (node_after s x.manager p h) (z.unshared x.manager h is) (run_keyed s x.manager h (part x.manager p) scenario)
+        (λ up. subst (λ (r : Running). IsState r (node_after s x.manager p h).manager) up (z.at x.manager h is).state) tells.event own
+
     mine : (m : ℕ) → (m == x.manager) ≡ true → m ≡ x.manager
     mine m f = eqb_yes m x.manager f
 

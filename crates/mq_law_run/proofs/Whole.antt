@@ -86,7 +86,7 @@ stands s hs wide before (x ∷ p) rest premises story peace same z =
     let on : wide ≡ (before ++ x ∷ []) ++ p = same ∙ sym (one_more before x p) in
     let v = entry_moves s hs wide before (p ++ rest) (deeds p) x z t premises story peace (ap deeds on ∙ deeds_both (before ++ x ∷ []) p) in
     subst (Stand s hs) (one_more before x p)
-    (stands s hs wide (before ++ x ∷ []) p rest premises (subst (IsStory hs) (sym (one_more before x (p ++ rest))) story) peace on (keeps_on s hs before x t.h z t.is v))
+    (stands s hs wide (before ++ x ∷ []) p rest premises (subst (IsStory hs) (sym (one_more before x (p ++ rest))) story) peace on (keeps_on s hs before x t.h t.stamp z premises.scenario t.is t.tells t.own v))
 
 named : (r : Running) (p : Plain) → IsState r p → AreNamed p.queues
 named Up p h = h.named

@@ -37,6 +37,7 @@ use Rattle.mq_law_node.specs.Nodes.{FarNode, NearNode, SameFar, SameNear}
 use Rattle.mq_law_rows.specs.World.{Ghost}
 use Rattle.mq_law_seen.specs.Seen.{book_of, world_of}
 use Rattle.mq_law_events.specs.Tied.{IsTold}
+use Rattle.mq_law_unshared.specs.Unshared.{WhereUp}
 use Rattle.mq_law_turns.specs.Agreed.{IsToldOf}
 use Rattle.mq_law_cables.specs.Joints.{AreCabled, AreJoint}
 use Rattle.mq_law_deeds.specs.Numbers.{AreCountedAt}
@@ -87,6 +88,7 @@ pub record Stand (s : Scenario) (hs : List History) (p : List Line) : Type 0 whe
   pub counted : (m : ℕ) (h : History) → slice_get hs m ≡ Some h → AreCountedAt (node_after s m p h).manager.numbers.connections m (ledger (opening_ledger s hs) p)
   pub cabled : (m : ℕ) (h : History) → slice_get hs m ≡ Some h → AreCabled s.cables m (node_after s m p h).manager
   pub housed : (a : ℕ) (y : ManagerPlaces) → slice_get (ledger (opening_ledger s hs) p).places a ≡ Some y → (h : History) × (slice_get hs a ≡ Some h)
+  pub unshared : (m : ℕ) (h : History) → slice_get hs m ≡ Some h → WhereUp (node_after s m p h)
 
 -- A cable's channel and its past after an event of manager m, whose node is then this one.
 pub record IsMoved (s : Scenario) (m : ℕ) (next : Node) (i : ℕ) (k : CableLine) (x : Channel) (z : Channel) (q : Past) : Type 0 where

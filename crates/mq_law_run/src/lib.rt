@@ -45,7 +45,8 @@ pub fn a_network_begins_so()
 
 /// What is kept of a prefix is kept with an entry more, where the entry's event comes to a move of the network.
 pub fn a_move_is_kept()
-    ensures { (s : Scenario) (hs : List History) (p : List Line) (x : Line) (h : History) (z : Stand s hs p) → slice_get hs x.manager ≡ Some h → Moves s hs p x h z → Stand s hs (p ++ x ∷ []) }
+    ensures { (s : Scenario) (hs : List History) (p : List Line) (x : Line) (h : History) (stamp : ℕ) (z : Stand s hs p) → IsScenario s → slice_get hs x.manager ≡ Some h → Tells (node_after s x.manager p h) stamp x.entry → IsOwn x.entry.chance
+        → Moves s hs p x h z → Stand s hs (p ++ x ∷ []) }
 {}
 
 /// What is a manager's own comes to one: the channels stay as they are.

@@ -1,10 +1,74 @@
--- Behind each part of a deed, the queues that senders have open are theirs alone.
-use Rattle.std.specs.Prelude.{Option, Some, None}
-use Rattle.mq_spec_state.specs.State.{Plain}
+-- Behind each part of a deed, the queues that senders have open are theirs alone; and a sender that runs has its queue open.
+use Rattle.std.specs.Prelude.{◌≡◌, Bool, true, false, not, ◌&&◌, List, [], ◌∷◌, Option, Some, None}
+use Rattle.std.specs.Str.{bytes_eq}
+use Rattle.std.specs.Prelude.{ℕ}
+use Rattle.mq_sender.specs.States.{is_running}
+use Rattle.mq_spec_state.specs.State.{Change, Plain}
+use Rattle.mq_spec_state.specs.State.Change.{ForgetAll, Unseize}
+use Rattle.mq_spec_state.specs.State.Running.{Up}
+use Rattle.mq_spec_state.specs.Steps.{Part, Step}
+use Rattle.mq_spec_state.specs.Steps.Step.{Do, Refuse}
+use Rattle.mq_spec_agents.specs.Words.{HasSeized}
+use Rattle.mq_spec_node.specs.Node.{ChannelEnd, Node, Own, SenderEnd}
+use Rattle.mq_spec_node.specs.Node.ChannelEnd.{Sends}
 use Rattle.mq_spec_node.specs.Deeds.{Deed}
+use Rattle.mq_base.specs.Members.{Mem}
 use Rattle.mq_law_manager.specs.Kept.{AllKeep}
 use Rattle.mq_law_seized.specs.Seized.{AreSeized}
 
 abbrev pub EachLeaves : Plain → Option Deed → Type 0
 EachLeaves p None = Unit {0}
 EachLeaves p (Some d) = AllKeep AreSeized d.parts p
+
+-- what leaves all queues open that senders have open
+abbrev pub is_still : Change → Bool
+is_still (Unseize channel) = false
+is_still ForgetAll = false
+is_still _ = true
+
+abbrev pub all_still : List Change → Bool
+all_still [] = true
+all_still (c ∷ cs) = is_still c && all_still cs
+
+abbrev pub parts_still : List Part → Bool
+parts_still [] = true
+parts_still (part ∷ parts) = all_still part.changes && parts_still parts
+
+abbrev pub step_still : {F T : Type 0} → Step F T → Bool
+step_still (Refuse reason) = true
+step_still (Do reply parts) = parts_still parts
+
+-- or at least this channel's
+abbrev pub is_still_for : List ℕ → Change → Bool
+is_still_for channel (Unseize other) = not (bytes_eq channel other)
+is_still_for channel ForgetAll = false
+is_still_for channel _ = true
+
+abbrev pub all_still_for : List ℕ → List Change → Bool
+all_still_for channel [] = true
+all_still_for channel (c ∷ cs) = is_still_for channel c && all_still_for channel cs
+
+abbrev pub parts_still_for : List ℕ → List Part → Bool
+parts_still_for channel [] = true
+parts_still_for channel (part ∷ parts) = all_still_for channel part.changes && parts_still_for channel parts
+
+-- a deed that leaves them so, and the ends of channels as they are
+pub record IsStillDeed (own : Own) (d : Deed) : Type 0 where
+  pub parts : parts_still d.parts ≡ true
+  pub ends : d.own.ends ≡ own.ends
+
+abbrev pub EachStill : Own → Option Deed → Type 0
+EachStill own None = Unit {0}
+EachStill own (Some d) = IsStillDeed own d
+
+-- each sender that runs has its queue open
+abbrev pub AreOpen : List ChannelEnd → Plain → Type 0
+AreOpen es p = (e : SenderEnd) → Mem (Sends e) es → is_running e.machine.state ≡ true → HasSeized e.channel p
+
+-- so it is at a manager that is up, and each such queue is its sender's alone
+pub record IsUnshared (n : Node) : Type 0 where
+  pub seized : AreSeized n.manager
+  pub open_ : AreOpen n.own.ends n.manager
+
+abbrev pub WhereUp : Node → Type 0
+WhereUp n = n.manager.running ≡ Up → IsUnshared n
