@@ -1,7 +1,7 @@
 //! The line of a scenario's first cable.
 
 ghost use Rattle.std.specs.Prelude.{◌≡◌, IfOk};
-ghost use Rattle.mq_hints.specs.Cables.{cable_line, cable_line_from};
+ghost use Rattle.mq_hints.specs.Cables.{cable_line};
 
 use crate::hint::shown;
 use crate::place::read_on;

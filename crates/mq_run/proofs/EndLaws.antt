@@ -1,5 +1,5 @@
 -- The end of a run, by what its story says, and by what was written.
-use Rattle.std.proofs.Common.{◌≡◌, ℕ, List, refl, sym, subst}
+use Rattle.std.proofs.Common.{◌≡◌, ℕ, List}
 use Rattle.std.specs.Prelude.{Option}
 use Rattle.std.specs.Io.KnownBytes.{Appends, Keeps}
 use Rattle.mq_ending.specs.declared.verdict.Verdict.{Verdict}

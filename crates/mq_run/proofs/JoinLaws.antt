@@ -1,32 +1,25 @@
 -- From managers at rest to what a run leaves.
-use Rattle.std.proofs.Common.{ℕ, zero, suc, ◌≡◌, ◌+◌, List, [], ◌∷◌, ◌++◌, refl, ap, sym, subst, ◌∙◌, arith, length, map}
+use Rattle.std.proofs.Common.{ℕ, zero, suc, ◌≡◌, ◌+◌, List, [], ◌∷◌, refl, ap, sym, subst, ◌∙◌, arith, length, map}
 use Rattle.std.specs.Prelude.{Option, Some, None, slice_get}
 use Rattle.mq_core.specs.Values.{CoreValue}
-use Rattle.mq_history.specs.declared.calls.Entry.{Entry}
 use Rattle.mq_history.specs.declared.history.History.{History}
-use Rattle.mq_history.specs.declared.history.Mark.{Mark}
 use Rattle.mq_history.specs.declared.scenario.ManagerLine.{ManagerLine}
 use Rattle.mq_history.specs.declared.scenario.Scenario.{Scenario}
 use Rattle.mq_log.specs.State.{log_length}
 use Rattle.mq_spec_state.specs.State.{Given}
-use Rattle.mq_spec_state.specs.Images.{Image}
 use Rattle.mq_spec_state.specs.Recovery.{AreKnown, IsImage}
-use Rattle.mq_spec_log.specs.Applies.Start.{First}
 use Rattle.mq_spec_log.specs.Bodies.{image}
 use Rattle.mq_spec_node.specs.Node.{Own}
 use Rattle.mq_spec_node.specs.Openings.{first_node}
 use Rattle.mq_spec_network.specs.Given as givens
-use Rattle.mq_spec_network.specs.Lawful.{IsHistory, IsLawful, marks_at, marks_or}
+use Rattle.mq_spec_network.specs.Lawful.{marks_at, marks_or}
 use Rattle.mq_spec_network.specs.Story.{entries_at, entries_or}
 use Rattle.mq_begin.specs.Begun.{AllBegan, BeginsOn, Held, moment_or}
 use Rattle.mq_begin.specs.Begun as begun
 use Rattle.mq_opening.specs.Opened.{JustBegun}
 use Rattle.mq_world.specs.Words.{Began, IsRested, IsRestedAt, OpensWith, RestState}
-use Rattle.mq_law_ran.specs.Runs.{AreHistories, AreOpenings, BeginsAs, IsOpening, Left, nodes_from, standing_left}
+use Rattle.mq_law_ran.specs.Runs.{AreHistories, AreOpenings, BeginsAs, IsOpening, nodes_from, standing_left}
 use Rattle.mq_law_ran.proofs.Lawfuls as lawfuls
-use Rattle.mq_history.specs.declared.scenario.CableLine.{CableLine}
-use Rattle.mq_net_stands.specs.declared.standing.ManagerStanding.{ManagerStanding}
-use Rattle.mq_net_stands.specs.declared.standing.Standing.{Standing}
 use Rattle.mq_spec_network.specs.Given.{surroundings}
 use Rattle.mq_spec_node.specs.Node.{Node}
 use Rattle.mq_spec_node.specs.Replays.{state_of}

@@ -1,6 +1,6 @@
 -- A run over managers at rest, from what its steps tell.
 use Rattle.std.proofs.Common.{ℕ, ◌≡◌, ◌≤◌, ◌<◌, true, List, [], refl, ap, sym, subst, ◌∙◌, length, arith}
-use Rattle.std.specs.Prelude.{OnOk, Option, Some, None, Result, Ok, Err, option_map, slice_get}
+use Rattle.std.specs.Prelude.{OnOk, Option, Some, None, Result, Ok, Err, option_map}
 use Rattle.std.specs.Io.KnownBytes.{Keeps}
 use Rattle.mq_history.specs.declared.history.History.{History}
 use Rattle.mq_history.specs.declared.history.Mark.{Mark}
@@ -8,8 +8,7 @@ use Rattle.mq_history.specs.declared.scenario.CableLine.{CableLine}
 use Rattle.mq_history.specs.declared.scenario.Scenario.{Scenario}
 use Rattle.mq_history.specs.declared.scenario.Step.{Step}
 use Rattle.mq_spec_network.specs.Apart.{apart}
-use Rattle.mq_spec_network.specs.Given.{surroundings}
-use Rattle.mq_spec_network.specs.Lawful.{AreSteps, IsDone, IsLawful, Stands, node_begun}
+use Rattle.mq_spec_network.specs.Lawful.{AreSteps, IsDone, Stands}
 use Rattle.mq_spec_network.specs.Story.{entries_at}
 use Rattle.mq_spec_network.specs.Tasks.{Task}
 use Rattle.mq_course.specs.Courses.{course_of, net_of}
@@ -36,7 +35,7 @@ use Rattle.mq_world.specs.Words.{Began, IsRested, RestState}
 use Rattle.mq_begin.specs.Begun.{Held, NotBegan, moment_or}
 use Rattle.mq_begin.specs.declared.faults.NetFault.{NetFault}
 use Rattle.mq_begin.specs.declared.faults.NetFault.TheVariants as faults
-use Rattle.mq_law_ran.specs.Runs.{AreHistories, AreOpenings, BeginsAs, Left, standing_left}
+use Rattle.mq_law_ran.specs.Runs.{AreHistories, AreOpenings, Left, standing_left}
 use Rattle.mq_law_ran.proofs.Keeping.{begins_as, same_apart, same_begun, same_scenario}
 use Rattle.mq_law_ran.proofs.Lawfuls as lawfuls
 use Rattle.mq_run.specs.Ends.{DidAll, LeftEnds, RanOn, NoneEnds, NoneLeft, RunEnds, RunLeaves, StepsEnd, WholeEnds, left}

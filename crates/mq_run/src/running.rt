@@ -1,5 +1,5 @@
 //! A scenario's run over a shelf: its managers begin, its steps are done, its report is written.
-ghost use Rattle.std.specs.Prelude.{◌≡◌, ℕ, List, [], Some, None, option_map, map};
+ghost use Rattle.std.specs.Prelude.{◌≡◌, ℕ, [], Some, None, option_map, map};
 ghost use Rattle.mq_base.specs.Outside.{Rose};
 ghost use Rattle.mq_disk.specs.declared.shelf.Side.TheVariants as sides;
 ghost use Rattle.mq_history.specs.Scenarios.{IsScenario};

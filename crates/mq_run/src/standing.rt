@@ -1,7 +1,6 @@
 //! How managers at rest stand.
-ghost use Rattle.std.specs.Prelude.{◌≡◌, ◌++◌, ◌∷◌, [], IfOk, OnOk, map};
-ghost use Rattle.mq_law_ran.specs.Runs.{standing_left};
-ghost use Rattle.mq_run.specs.Leaves.{left_of, manager_stands, stands_at_rest};
+ghost use Rattle.std.specs.Prelude.{◌≡◌, ◌++◌, ◌∷◌, [], IfOk, OnOk};
+ghost use Rattle.mq_run.specs.Leaves.{manager_stands, stands_at_rest};
 
 use mq_base::{Items, NoMemory};
 use mq_core::Core;

@@ -1,5 +1,5 @@
 -- What a call of the program promises.
-use Rattle.std.specs.Prelude.{◌≡◌, ◌≢◌, ◌⊎◌, ℕ, ◌≤◌, List, [], length, take, Option, Some, None, Ok, Err, codes}
+use Rattle.std.specs.Prelude.{◌≡◌, ◌≢◌, ◌⊎◌, ℕ, ◌≤◌, List, [], length, Option, Some, None, Ok, Err, codes}
 use Rattle.std.specs.Io.KnownBytes.{Appends, Keeps}
 use Rattle.mq_base.specs.Outside.{Rose, Told, IsLonger}
 use Rattle.mq_history.specs.declared.scenario.Scenario.{Scenario}

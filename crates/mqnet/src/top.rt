@@ -1,6 +1,6 @@
 //! The top call: reads the scenario, runs or checks it, writes what comes of it.
 
-ghost use Rattle.std.specs.Prelude.{◌≡◌, ◌↔◌, ◌≤◌, ◌<◌, ℕ, List, [], Option, map, None, Some, IfOk, IfErr, IfSome, Ok, option_map};
+ghost use Rattle.std.specs.Prelude.{◌≡◌, ◌↔◌, ℕ, Option, map, None, Some, IfOk, IfErr, IfSome, Ok, option_map};
 ghost use Rattle.std.specs.String.{string_bytes};
 ghost use Rattle.mq_base.specs.Outside.{Rose, IsLonger};
 ghost use Rattle.mq_disk.specs.declared.shelf.Side.TheVariants as sides;

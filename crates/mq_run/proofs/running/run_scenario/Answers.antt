@@ -1,4 +1,4 @@
-use Rattle.std.proofs.Common.{◌≡◌, ◌∙◌, ap, map, subst, sym}
+use Rattle.std.proofs.Common.{◌∙◌, ap, map, subst, sym}
 use Rattle.std.specs.Io.KnownBytes.{Keeps}
 use Rattle.mq_disk.specs.declared.shelf.Side.TheVariants as sides
 use Rattle.mq_spec_network.specs.Apart.{apart}

@@ -1,6 +1,4 @@
 use Rattle.std.proofs.Common.{◌∙◌, subst, sym}
-use Rattle.std.specs.Prelude.{Err, Result}
-use Rattle.mq_nodes.specs.declared.nodes.Stop.{Stop}
 use Rattle.mq_run.specs.Ends.{StepsEnd}
 use Rattle.mq_run.specs.Leaves.{left_of}
 use Rattle.mq_run.specs.Statuses.{stop_status}
