@@ -1,5 +1,6 @@
 -- When a sender has a timeout.
-use Rattle.std.proofs.Common.{◌≡◌, ℕ, ◌+◌, refl, sym, ap, subst, ◌∙◌, Bool, true, false, arith}
+use Rattle.std.proofs.Common.{◌≡◌, ℕ, ◌+◌, ◌^◌, ◌<◌, ◌||◌, nat_le, refl, sym, ap, subst, ◌∙◌, Bool, true, false, length, arith}
+use Rattle.std.proofs.lemmas.Bool.Decides.{nat_tests}
 use Rattle.std.specs.Prelude.{Option, Some, None, Result, Ok, Err, if◌then◌else◌}
 use Rattle.mq_base.specs.declared.want.NoMemory.{NoMemory as Want}
 use Rattle.mq_frame.specs.declared.frame.Seen.TheVariants as items
@@ -8,10 +9,10 @@ use Rattle.mq_history.specs.declared.calls.Call.TheVariants as calls
 use Rattle.mq_sender.specs.States.{awaits, timed_out}
 use Rattle.mq_spec_state.specs.Reads.{is_up}
 use Rattle.mq_spec_node.specs.Terms.{Running, Up, Down}
-use Rattle.mq_spec_node.specs.Words.{ChannelEnd, Deed, Node, Own, SenderEnd, after_timeout, as_sender, deed_of, end_in, node_of, sender_end, timeout_of, where_up}
+use Rattle.mq_spec_node.specs.Words.{ChannelEnd, Deed, Node, Own, SenderEnd, after_timeout, as_sender, deed_of, end_in, sender_end, timeout_of, where_up}
 use Rattle.mq_spec_node.specs.Node.ChannelEnd.{Receives, Sends}
 use Rattle.mq_cabled.proofs.EndLaws.{found_cable}
-use Rattle.mq_events.specs.States.{IsKept, IsServed, NodeState, node_in}
+use Rattle.mq_events.specs.States.{IsServed, NodeState, node_in}
 use Rattle.mq_events.specs.Events.{MayAct}
 use Rattle.mq_turns.specs.declared.telling.Turn.{Turn}
 use Rattle.mq_turns.specs.declared.telling.Turn.TheVariants as turns
@@ -93,6 +94,17 @@ still_undue s cable e =
 wanted_is : (s : NodeState) (room cable : ℕ) (d : Option Deed) (x : Want) → TimeoutIs cable d s (Err x) (record s { room = room })
 wanted_is s room cable None x = record { same = refl; marks = refl; faults = omega arith }
 wanted_is s room cable (Some d) x = record { same = refl; marks = refl; faults = omega arith }
+
+-- A node that may act has room for a stamp.
+no_second : (a b : Bool) → (a || b) ≡ false → b ≡ false
+no_second true b h = absurd cc
+no_second false b h = h
+
+few : (n m : ℕ) → nat_le n m ≡ false → m < n
+few n m h = grind (arith, nat_tests)
+
+pub may_low : (s : NodeState) → MayAct s → s.stamp < 2 ^ 60
+may_low s m = few (2 ^ 60) s.stamp (no_second (nat_le (2 ^ 48) (length s.history.entries)) (nat_le (2 ^ 60) s.stamp) m)
 
 -- Room was taken before.
 pub room_wanted : (s r : NodeState) (cable : ℕ) (x : Want) → r ≡ record s { room = r.room } → TimesOut cable s (Err x) r

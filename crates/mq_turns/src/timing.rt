@@ -52,6 +52,7 @@ fn waiting_end<D: Disk>(parts: &NodeParts<D>, cable: u16) -> Option<SenderEnd>
 }
 
 /// A sender that waits for an answer has a timeout, in room that is there.
+#[tactic(auto, using(crate::proofs::DueLaws::may_low))]
 fn time_out<D: Disk>(parts: &mut NodeParts<D>, end: SenderEnd)
     requires room { 0 < parts.old.room }
     requires kept { IsKept parts.old }
