@@ -12,7 +12,7 @@ use Rattle.mq_spec_node.specs.Terms.{Running, Up, Down}
 use Rattle.mq_spec_node.specs.Words.{ChannelEnd, Deed, Node, Own, SenderEnd, after_timeout, as_sender, deed_of, end_in, sender_end, timeout_of, where_up}
 use Rattle.mq_spec_node.specs.Node.ChannelEnd.{Receives, Sends}
 use Rattle.mq_cabled.proofs.EndLaws.{found_cable}
-use Rattle.mq_events.specs.States.{IsServed, NodeState, node_in}
+use Rattle.mq_events.specs.States.{IsKept, IsServed, NodeState, node_in}
 use Rattle.mq_events.specs.Events.{MayAct}
 use Rattle.mq_turns.specs.declared.telling.Turn.{Turn}
 use Rattle.mq_turns.specs.declared.telling.Turn.TheVariants as turns
@@ -111,6 +111,12 @@ pub room_wanted : (s r : NodeState) (cable : ℕ) (x : Want) → r ≡ record s 
 room_wanted s r cable x e =
     let d : Option Deed = deed_of (s.stamp + 1) (actors.Sender cable) calls.Timeout items.Nothing (node_in s) in
     subst (λ (y : NodeState). TimeoutIs cable d s (Err x) y) (sym e) (wanted_is s r.room cable d x)
+
+pub room_kept : (s r : NodeState) → r ≡ record s { room = r.room } → IsKept s → IsKept r
+room_kept s r e h = subst (λ (x : NodeState). IsKept x) (sym e) h
+
+pub room_few : (s r t : NodeState) → r ≡ record s { room = r.room } → t.few ≡ r.few → t.few ≡ s.few
+room_few s r t e h = h ∙ ap (λ (x : NodeState). x.few) e
 
 pub room_served : (s r : NodeState) → r ≡ record s { room = r.room } → IsServed s → IsServed r
 room_served s r e h = subst (λ (x : NodeState). IsServed x) (sym e) h

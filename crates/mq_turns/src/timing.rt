@@ -87,7 +87,7 @@ fn time_out<D: Disk>(parts: &mut NodeParts<D>, end: SenderEnd)
 }
 
 /// So, where its entry's room can be had.
-#[tactic(auto, using(crate::proofs::DueLaws::room_served, crate::proofs::DueLaws::room_may, crate::proofs::DueLaws::room_due))]
+#[tactic(auto, using(crate::proofs::DueLaws::room_kept, crate::proofs::DueLaws::room_served, crate::proofs::DueLaws::room_may, crate::proofs::DueLaws::room_due, crate::proofs::DueLaws::room_wanted, crate::proofs::DueLaws::room_timed, crate::proofs::DueLaws::room_few))]
 fn time_out_if<D: Disk>(parts: &mut NodeParts<D>, end: SenderEnd) -> Result<Turn, NoMemory>
     requires kept { IsKept parts.old }
     requires served { IsServed parts.old }
@@ -97,7 +97,9 @@ fn time_out_if<D: Disk>(parts: &mut NodeParts<D>, end: SenderEnd) -> Result<Turn
     ensures did { TimesOut end.cable parts.old result parts.new }
     ensures few { parts.new.few ≡ parts.old.few }
 {
-    parts.reserve(1)?;
+    if parts.reserve(1).is_err() {
+        return Err(NoMemory);
+    }
     time_out(parts, end);
     Ok(Turn::Changed)
 }

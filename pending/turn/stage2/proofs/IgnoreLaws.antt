@@ -35,6 +35,9 @@ use Rattle.mq_turns.proofs.SendLaws.{none_pushed, pop_is, stamp_is, turn_is}
 pub same_end : (own : Own) (e : SenderEnd) → sender_end e.cable own ≡ Some e → with_end (Sends e) own ≡ own
 same_end own e there = ap (λ (es : List ChannelEnd). record own { ends = es }) (set_same e.cable (Sends e) own.ends (sender_is (end_in e.cable own.ends) e there))
 
+pub some_pushed : (c : Choice) (f : Frame) → c ≡ Runs → Some f ≡ pushed_by c (Some f)
+some_pushed c f e = let P : Choice → Type 0 = λ x. Some f ≡ pushed_by x (Some f) in subst P (sym e) refl
+
 module _ (s t : NodeState) (e : SenderEnd) (choice : Choice) (delta : List Did) where
   -- an item that is ignored
   ignored_told : (seen : Seen) (front : Option Item) (stamp : ℕ) → Acts e s → lines.Ignore ≡ sender_next e.machine seen (stock e.channel s.manager.plain) → Sees front (Unit {0}) seen stamp → choice ≡ Runs → delta ≡ []
@@ -64,9 +67,6 @@ module _ (s t : NodeState) (e : SenderEnd) (choice : Choice) (delta : List Did) 
       }
 
   -- a frame that is offered
-  some_pushed : (c : Choice) (f : Frame) → c ≡ Runs → Some f ≡ pushed_by c (Some f)
-  some_pushed c f e = let P : Choice → Type 0 = λ x. Some f ≡ pushed_by x (Some f) in subst P (sym e) refl
-
   pushed_told : (d : SenderDoes) (f : Frame) (extras : ℕ) → Acts e s → d ≡ sender_next e.machine items.Nothing (stock e.channel s.manager.plain) → sender_deed_by (s.stamp + 1) e d (node_in s) ≡ Some (pushed_deed e d f (node_in s))
       → f.stamp ≡ s.stamp + 1 → choice ≡ Runs → delta ≡ [] → IsTold s (actors.Sender e.cable) calls.Turn (pushed_deed e d f (node_in s)) choice delta (record { stamp = f.stamp; pushed = Some f; extras = extras; popped = items.Nothing }) [] s.manager
   pushed_told d f extras acts next deed st c g = record {

@@ -73,13 +73,13 @@ settled_so s a t e after does seen front sight running stamp received choice del
     settled s a t e does seen front sight choice delta reads writes o acts next works sees (subst M (runs ∙ ap (λ (x : SenderEnd). is_running x.machine.state) is) made) g (subst R rs (subst S st (subst A is z))) popped written
 
 -- the manager wants memory: it is as it was
-want_kept : (s a : NodeState) → a ≡ record s { manager = a.manager } → IsAsWas s.manager a.manager → IsKept s → IsKept a
+pub want_kept : (s a : NodeState) → a ≡ record s { manager = a.manager } → IsAsWas s.manager a.manager → IsKept s → IsKept a
 want_kept s a g w k = subst IsKept (sym g) (at a.manager w)
   where
     at : (m : CoreValue) → IsAsWas s.manager m → IsKept (record s { manager = m })
     at m w = let K : Plain → Type 0 = λ p. IsKept (record s { manager = record s.manager { plain = p } }) in subst K (sym w.plain) k
 
-want_stays : (s a : NodeState) → a ≡ record s { manager = a.manager } → IsAsWas s.manager a.manager → Stays s a
+pub want_stays : (s a : NodeState) → a ≡ record s { manager = a.manager } → IsAsWas s.manager a.manager → Stays s a
 want_stays s a g w =
     let S : NodeState → Type 0 = λ x. Stays s x in
     subst S (sym g) (record { same = ap (λ (p : Plain). record (value_of s) { node = node_in (record s { manager = record s.manager { plain = p } }) }) w.plain; marks = refl; faults = w.later })

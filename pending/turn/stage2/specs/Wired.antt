@@ -14,6 +14,7 @@ use Rattle.mq_history.specs.declared.calls.Actor.TheVariants as actors
 use Rattle.mq_spec_agents.specs.Words.{IsUp}
 use Rattle.mq_events.specs.States.{IsKept, IsServed, NodeState, node_in}
 use Rattle.mq_events.specs.Events.{Adds, MayAct, Stays}
+use Rattle.mq_turns.specs.declared.beginning.First.{First}
 use Rattle.mq_turns.specs.declared.telling.Turn.{Turn}
 use Rattle.mq_turns.specs.declared.telling.Turn.TheVariants as turns
 
@@ -70,3 +71,9 @@ pub record SendsTurn (cable : ℕ) (reads writes : List Item → Type 0) (none f
   pub kept : IsKept new
   pub few : new.few ≡ old.few
   pub turn : TurnIs (actors.Sender cable) reads writes none full o n (deed_of (old.stamp + 1) (actors.Sender cable) calls.Turn items.Nothing (node_in old)) old result new
+
+-- What a first message's offer comes to; there may be no frame of it.
+abbrev pub FirstTold : (writes : List Item → Type 0) → (full : Type 0) → Offering → Option Frame → Result (Option First) Want → Offering → Type 0
+FirstTold writes full o f (Ok (Some first)) n = (f ≡ Some first.frame) × HasPushed writes full o first.frame first.extras n × HasSpelling first.frame.kind
+FirstTold writes full o f (Ok None) n = (x : Frame) × (f ≡ Some x) × OffersNone writes o n × IsFull full o (item_of x)
+FirstTold writes full o f (Err e) n = OffersNone writes o n
