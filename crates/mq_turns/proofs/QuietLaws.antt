@@ -3,7 +3,10 @@ use Rattle.std.proofs.Common.{◌≡◌, ℕ, ◌+◌, ◌≤◌, refl, sym, ap,
 use Rattle.std.specs.Prelude.{Option, Some, None, if◌then◌else◌, ◌==◌}
 use Rattle.std.specs.List.{AllByRecursion}
 use Rattle.mq_sync.specs.declared.data.End.TheVariants as ends
+use Rattle.std.specs.Option.{option_map}
 use Rattle.mq_sync.specs.declared.unit.Settle.{Settle}
+use Rattle.mq_sync.specs.Settlement.{is_commit}
+use Rattle.mq_sync.specs.Units.{unit_named}
 use Rattle.mq_calls.specs.declared.agents.Note.{Note}
 use Rattle.mq_calls.specs.declared.agents.Note.TheVariants as notes
 use Rattle.mq_calls.specs.declared.agents.PrepareFault.TheVariants as prepare_faults
@@ -13,18 +16,20 @@ use Rattle.mq_sender.specs.declared.turns.SenderOut.TheVariants as outs
 use Rattle.mq_sender.specs.declared.state.Sender.{Sender}
 use Rattle.mq_sender.specs.Table.{sender_next}
 use Rattle.mq_sender.specs.States.{awaits, is_running, timed_out}
-use Rattle.mq_sender.specs.After.{sender_after}
+use Rattle.mq_sender.specs.After.{number_sent, sender_after}
+use Rattle.mq_sender.specs.Frames.{bind_frame, end_frame}
 use Rattle.mq_queue.specs.declared.row.Row.{Row}
 use Rattle.mq_law_counts.specs.Counts.{PartsClimb}
 use Rattle.mq_law_image.specs.Bounds.{all_growth}
 use Rattle.mq_law_counts.proofs.Climbing.{grown, stay, two_climb}
-use Rattle.mq_spec_state.specs.Words.{batch_of, is_full, need}
-use Rattle.mq_spec_state.specs.Steps.{Part, Step, do_part, logged, tested, when}
+use Rattle.mq_spec_state.specs.Words.{batch_of, is_full, need, sender_data, sender_or}
+use Rattle.mq_calls.specs.declared.deltas.Did.TheVariants as did
+use Rattle.mq_spec_state.specs.Steps.{Part, Step, do_all, do_part, logged, tested, when}
 use Rattle.mq_spec_state.specs.Steps.Step.{Do, Refuse}
 use Rattle.mq_spec_manager.specs.Words.{expired_parts}
-use Rattle.mq_spec_agents.specs.Words.{expired_rows, harden, leave, prepare_of, prepared_record, queue_of_sender, release_batch, release_of, stock}
+use Rattle.mq_spec_agents.specs.Words.{batch_row, expire, expired_rows, harden, hold_batch, leave, prepare, prepare_of, prepared_changes, prepared_record, queue_of_sender, release_batch, release_of, stock}
 use Rattle.mq_spec_node.specs.Terms.{Frame, Plain, PrepareFault, Running, Up, Down, Seen, SenderDoes}
-use Rattle.mq_spec_node.specs.Words.{ChannelEnd, Deed, Node, Own, SenderEnd, after_timeout, as_sender, cable_of, end_in, leave_if_stopped, parts_of, prepare_deed, sender_deed_by, sender_end, sender_turn, sent, set_end, settle_parts_if, timeout_of, where_up, with_end}
+use Rattle.mq_spec_node.specs.Words.{ChannelEnd, Deed, Node, Own, SenderEnd, after_timeout, as_sender, cable_of, carried, doubted, end_in, leave_if_stopped, parts_of, prepare_deed, sender_deed_by, sender_end, sender_turn, sent, set_end, settle_parts, settle_parts_if, timeout_of, where_up, with_end}
 use Rattle.mq_spec_node.specs.Node.ChannelEnd.{Receives, Sends}
 use Rattle.mq_events.specs.Counts.{kept_in, kept_total}
 use Rattle.mq_turns.proofs.DueLaws.{cable_found}
@@ -80,15 +85,26 @@ expire_brings queue (row ∷ rows) = (zero_one, tt)
 
 settle_brings : (e : SenderEnd) (s : Option Settle) (p : Plain) → BringNone (settle_parts_if e s p)
 settle_brings e None p = tt
-settle_brings e (Some s) p = harden_brings e.channel _ p
+settle_brings e (Some s) p = harden_brings e.channel (notes.Resolved (doubted e.machine.kept.doubt) (is_commit s) false) p
 
-prepared_if : (b : Bool) (part : Part) → all_growth part.changes ≤ 0 → StepBrings (tested (when b prepare_faults.NoRoom ∷ []) (Do tt (part ∷ [])))
-prepared_if true part h = tt
-prepared_if false part h = (h, tt)
+-- what a batch's preparing does
+abbrev batch_part : List ℕ → ℕ → Batch → Plain → Part
+batch_part channel last b p = record {
+  forced = Some (prepared_record channel last b);
+  changes = prepared_changes channel last b (sender_or (sender_data channel p));
+  delta = did.Prepared channel b.unit ∷ [];
+}
+
+abbrev batch_step : List ℕ → ℕ → Batch → Plain → Step PrepareFault (Unit {0})
+batch_step channel last b p = Do tt (batch_part channel last b p ∷ [])
+
+prepared_if : (channel : List ℕ) (last : ℕ) (x : Batch) (p : Plain) (b : Bool) → StepBrings (tested (when b prepare_faults.NoRoom ∷ []) (batch_step channel last x p))
+prepared_if channel last x p true = tt
+prepared_if channel last x p false = (zero_two, tt)
 
 prepare_brings : (channel : List ℕ) (last : ℕ) (o : Option Batch) (p : Plain) → StepBrings (prepare_of channel last o p)
 prepare_brings channel last None p = tt
-prepare_brings channel last (Some b) p = prepared_if (is_full (need (prepared_record channel last b)) p) _ zero_two
+prepare_brings channel last (Some b) p = prepared_if channel last b p (is_full (need (prepared_record channel last b)) p)
 
 -- A sender's end in its place: no message of a receiver's is touched.
 kept_at : (cable : ℕ) (e new : SenderEnd) (y : ChannelEnd) (ys : List ChannelEnd) (b : Bool) → as_sender (if b then Some y else end_in cable ys) ≡ Some e → (b ≡ false → as_sender (end_in cable ys) ≡ Some e → kept_in (set_end (Sends new) ys) ≡ kept_in ys)
@@ -130,16 +146,22 @@ prepared_quiet e (Do reply parts) n there b = sent_quiet e does.Prepare parts No
 line_quiet : (stamp : ℕ) (e : SenderEnd) (d : SenderDoes) (n : Node) → sender_end e.cable n.own ≡ Some e → Quiet (sender_deed_by stamp e d n) n.own
 line_quiet stamp e does.Still n there = tt
 line_quiet stamp e does.Ignore n there = (tt, le_same (kept_total n.own) (kept_total n.own) refl)
-line_quiet stamp e (does.HardenSession session) n there = sent_quiet e (does.HardenSession session) _ None n there (harden_brings e.channel (notes.Session e.partner session) n.manager)
-line_quiet stamp e does.PushBind n there = sent_quiet e does.PushBind [] _ n there tt
-line_quiet stamp e does.Expire n there = sent_quiet e does.Expire _ None n there (expire_brings (queue_of_sender e.channel n.manager) (expired_rows (queue_of_sender e.channel n.manager) n.manager))
-line_quiet stamp e (does.Begin k count) n there = sent_quiet e (does.Begin k count) _ _ n there (zero_two, tt)
-line_quiet stamp e (does.PushMsg index) n there = sent_quiet e (does.PushMsg index) [] _ n there tt
-line_quiet stamp e does.Prepare n there = prepared_quiet e _ n there (prepare_brings e.channel _ _ n.manager)
-line_quiet stamp e does.PushEnd n there = sent_quiet e does.PushEnd [] _ n there tt
-line_quiet stamp e (does.Bound settle partner) n there = sent_quiet e (does.Bound settle partner) _ None n there (settle_brings e settle n.manager)
-line_quiet stamp e does.Commit n there = sent_quiet e does.Commit _ None n there (harden_brings e.channel _ n.manager)
-line_quiet stamp e (does.Backout reason) n there = sent_quiet e (does.Backout reason) _ None n there (harden_brings e.channel _ n.manager)
+line_quiet stamp e (does.HardenSession session) n there =
+    sent_quiet e (does.HardenSession session) (parts_of (harden e.channel (notes.Session e.partner session) n.manager)) None n there (harden_brings e.channel (notes.Session e.partner session) n.manager)
+line_quiet stamp e does.PushBind n there = sent_quiet e does.PushBind [] (Some (bind_frame stamp e.machine)) n there tt
+line_quiet stamp e does.Expire n there =
+    sent_quiet e does.Expire (parts_of (expire e.channel n.manager)) None n there (expire_brings (queue_of_sender e.channel n.manager) (expired_rows (queue_of_sender e.channel n.manager) n.manager))
+line_quiet stamp e (does.Begin k count) n there =
+    let parts : List Part = parts_of (hold_batch e.channel (unit_named e.machine.kept.session k) count n.manager) in
+    sent_quiet e (does.Begin k count) parts (option_map (carried stamp e k 1) (batch_row e.channel 1 (do_all parts n.manager))) n there (zero_two, tt)
+line_quiet stamp e (does.PushMsg index) n there = sent_quiet e (does.PushMsg index) [] (option_map (carried stamp e e.machine.begun index) (batch_row e.channel index n.manager)) n there tt
+line_quiet stamp e does.Prepare n there =
+    let last : ℕ = number_sent e.machine.state e.machine.kept.last in
+    prepared_quiet e (prepare e.channel last n.manager) n there (prepare_brings e.channel last (batch_of e.channel n.manager.channels.batches) n.manager)
+line_quiet stamp e does.PushEnd n there = sent_quiet e does.PushEnd [] (Some (end_frame stamp e.machine)) n there tt
+line_quiet stamp e (does.Bound settle partner) n there = sent_quiet e (does.Bound settle partner) (settle_parts_if e settle n.manager) None n there (settle_brings e settle n.manager)
+line_quiet stamp e does.Commit n there = sent_quiet e does.Commit (settle_parts e true n.manager) None n there (harden_brings e.channel (notes.Resolved (doubted e.machine.kept.doubt) true false) n.manager)
+line_quiet stamp e (does.Backout reason) n there = sent_quiet e (does.Backout reason) (settle_parts e false n.manager) None n there (harden_brings e.channel (notes.Resolved (doubted e.machine.kept.doubt) false false) n.manager)
 
 own_place : (cable : ℕ) (own : Own) (e : SenderEnd) → sender_end cable own ≡ Some e → sender_end e.cable own ≡ Some e
 own_place cable own e there = subst (λ (k : ℕ). sender_end k own ≡ Some e) (sym (cable_found cable own e there)) there

@@ -31,7 +31,7 @@ use Rattle.mq_turns.specs.Told.{Closes, IsTold}
 use Rattle.mq_turns.specs.Wired.{Acts, Refuses, SendsTurn}
 use Rattle.mq_turns.specs.Sends.{behind_end}
 use Rattle.mq_turns.proofs.HoldLaws.{given_up, own_batch}
-use Rattle.mq_turns.proofs.IgnoreLaws.{some_pushed}
+use Rattle.mq_turns.proofs.PushLaws.{some_pushed}
 use Rattle.mq_turns.proofs.RunLaws.{stays_up}
 use Rattle.mq_turns.proofs.SendLaws.{message_stamp, turn_is}
 use Rattle.mq_turns.proofs.SettleLaws.{want_kept, want_stays}

@@ -91,17 +91,21 @@ none_of channel (x ∷ xs) h =
     let o = others_if (bytes_eq channel x.channel) channel x xs refl h in
     ap (λ (t : Bool). if not t then x ∷ filter (λ (b : Batch). not (bytes_eq channel b.channel)) xs else filter (λ (b : Batch). not (bytes_eq channel b.channel)) xs) o.0 ∙ ap (λ (l : List Batch). x ∷ l) (none_of channel xs o.1)
 
+gone_at : (channel : List ℕ) (b x : Batch) (xs : List Batch) → b.channel ≡ channel → batch_of channel (x ∷ xs) ≡ None → bytes_eq channel x.channel ≡ false → batch_of channel xs ≡ None → (s t : Bool) → bytes_eq b.channel x.channel ≡ s
+    → filter (λ (y : Batch). not (bytes_eq channel y.channel)) (set_named (λ (y : Batch). y.channel) b xs) ≡ xs
+    → filter (λ (y : Batch). not (bytes_eq channel y.channel)) (if s then b ∷ xs else (if t then b ∷ x ∷ xs else x ∷ set_named (λ (y : Batch). y.channel) b xs)) ≡ x ∷ xs
+gone_at channel b x xs c h f n true t e k = let g : true ≡ false = sym e ∙ ap (λ (n : List ℕ). bytes_eq n x.channel) c ∙ f in absurd cc
+gone_at channel b x xs c h f n false true e k =
+    ap (λ (u : Bool). if not u then b ∷ filter (λ (y : Batch). not (bytes_eq channel y.channel)) (x ∷ xs) else filter (λ (y : Batch). not (bytes_eq channel y.channel)) (x ∷ xs)) (ap (bytes_eq channel) c ∙ name_self channel) ∙ none_of channel (x ∷ xs) h
+gone_at channel b x xs c h f n false false e k =
+    ap (λ (u : Bool). if not u then x ∷ filter (λ (y : Batch). not (bytes_eq channel y.channel)) (set_named (λ (y : Batch). y.channel) b xs) else filter (λ (y : Batch). not (bytes_eq channel y.channel)) (set_named (λ (y : Batch). y.channel) b xs)) f
+    ∙ ap (λ (l : List Batch). x ∷ l) k
+
 gone : (channel : List ℕ) (b : Batch) (bs : List Batch) → b.channel ≡ channel → batch_of channel bs ≡ None → filter (λ (x : Batch). not (bytes_eq channel x.channel)) (set_named (λ (x : Batch). x.channel) b bs) ≡ bs
 gone channel b [] c h = ap (λ (t : Bool). if not t then b ∷ [] else []) (ap (bytes_eq channel) c ∙ name_self channel)
-gone channel b (x ∷ xs) c h = at (bytes_eq b.channel x.channel) (comes_before b.channel x.channel) refl
-  where
-    o : (bytes_eq channel x.channel ≡ false) × (batch_of channel xs ≡ None)
-    o = others_if (bytes_eq channel x.channel) channel x xs refl h
-    at : (s t : Bool) → bytes_eq b.channel x.channel ≡ s → filter (λ (y : Batch). not (bytes_eq channel y.channel)) (if s then b ∷ xs else (if t then b ∷ x ∷ xs else x ∷ set_named (λ (y : Batch). y.channel) b xs)) ≡ x ∷ xs
-    at true t e = let f = sym e ∙ ap (λ (n : List ℕ). bytes_eq n x.channel) c ∙ o.0 in absurd cc
-    at false true e = ap (λ (u : Bool). if not u then b ∷ filter (λ (y : Batch). not (bytes_eq channel y.channel)) (x ∷ xs) else filter (λ (y : Batch). not (bytes_eq channel y.channel)) (x ∷ xs)) (ap (bytes_eq channel) c ∙ name_self channel) ∙ none_of channel (x ∷ xs) h
-    at false false e = ap (λ (u : Bool). if not u then x ∷ filter (λ (y : Batch). not (bytes_eq channel y.channel)) (set_named (λ (y : Batch). y.channel) b xs) else filter (λ (y : Batch). not (bytes_eq channel y.channel)) (set_named (λ (y : Batch). y.channel) b xs)) o.0
-        ∙ ap (λ (l : List Batch). x ∷ l) (gone channel b xs c o.1)
+gone channel b (x ∷ xs) c h =
+    let o = others_if (bytes_eq channel x.channel) channel x xs refl h in
+    gone_at channel b x xs c h o.0 o.1 (bytes_eq b.channel x.channel) (comes_before b.channel x.channel) refl (gone channel b xs c o.1)
 
 -- the whole manager
 module _ (channel : List ℕ) (unit : Luw) (most : ℕ) (p : Plain) where

@@ -11,9 +11,14 @@ use Rattle.mq_history.specs.declared.calls.Call.TheVariants as calls
 use Rattle.mq_sender.specs.States.{is_running}
 use Rattle.mq_sender.specs.Table.{sender_next}
 use Rattle.mq_sender.specs.After.{done_after}
+use Rattle.mq_sender.specs.declared.turns.SenderDoes.TheVariants as lines
+use Rattle.mq_calls.specs.declared.choices.Choice.TheVariants.{Runs}
+use Rattle.mq_cabled.proofs.EndLaws.{set_same}
+use Rattle.mq_turns.proofs.DueLaws.{sender_is}
+use Rattle.mq_turns.proofs.PartLaws.{none_made}
 use Rattle.mq_spec_agents.specs.Words.{stock}
-use Rattle.mq_spec_node.specs.Terms.{Did, Message, Plain, Seen, SenderDoes}
-use Rattle.mq_spec_node.specs.Words.{Own, SenderEnd, with_end}
+use Rattle.mq_spec_node.specs.Terms.{Did, Message, Part, Plain, Seen, SenderDoes}
+use Rattle.mq_spec_node.specs.Words.{ChannelEnd, Deed, Own, SenderEnd, deed_of, end_in, sender_end, turned, with_end}
 use Rattle.mq_spec_node.specs.Node.ChannelEnd.{Sends}
 use Rattle.mq_wires.specs.Wires.{Sees}
 use Rattle.mq_core.specs.Values.{CoreValue}
@@ -26,51 +31,75 @@ use Rattle.mq_turns.specs.Told.{Closes, IsTold}
 use Rattle.mq_turns.specs.Wired.{Acts, Popped, SendsTurn}
 use Rattle.mq_turns.proofs.TurnLaws.{before_of, sender_turns}
 use Rattle.mq_turns.specs.Sends.{Works, all_parts, behind_end}
-use Rattle.mq_turns.proofs.SendLaws.{none_pushed, pop_is, stamp_is, turn_is, worked, works_is}
+use Rattle.mq_turns.proofs.SendLaws.{none_pushed, pop_is, stamp_is, turn_is, works_is}
 
-module _ (s a t : NodeState) (e : SenderEnd) (does : SenderDoes) (seen : Seen) (front : Option Item) (stamp : ℕ) (choice : Choice) (delta : List Did) where
+-- A turn that offers nothing, by its deed: with what the code has for the end after it and for the stamp.
+module _ (s a t : NodeState) (e last : SenderEnd) (parts : List Part) (seen : Seen) (front : Option Item) (sight : ℕ) (choice : Choice) (delta : List Did) where
+  abbrev d : Deed
+  d = turned parts None (with_end (Sends last) s.own)
+
   abbrev w : Passed
-  w = record { stamp = max s.stamp stamp + 1; pushed = None; extras = 0; popped = seen }
+  w = record { stamp = max s.stamp sight + 1; pushed = None; extras = 0; popped = seen }
 
-  told_is : Acts e s → does ≡ sender_next e.machine seen (stock e.channel s.manager.plain) → Works does → Sees front (Unit {0}) seen stamp
-      → Made (all_parts e does (is_running (done_after e.machine does).state) s.manager.plain) choice delta s.manager a.manager → IsTold s (actors.Sender e.cable) calls.Turn (worked e does (node_in s)) choice delta w [] a.manager
-  told_is acts next works sees made = record {
-    deed = turn_is w.stamp e.cable e does seen (node_in s) acts.up acts.there next ∙ works_is w.stamp e does (node_in s) works;
+  told_is : deed_of w.stamp (actors.Sender e.cable) calls.Turn seen (node_in s) ≡ Some d → Sees front (Unit {0}) seen sight → Made parts choice delta s.manager a.manager → IsTold s (actors.Sender e.cable) calls.Turn d choice delta w [] a.manager
+  told_is deed sees made = record {
+    deed = deed;
     reply = refl;
     made = made;
     pushed = none_pushed choice;
     received_is = refl;
-    stamp = stamp_is front s.stamp stamp seen sees;
+    stamp = stamp_is front s.stamp sight seen sees;
     pop = pop_is seen e.cable;
     extras = refl;
   }
 
-  pub settled : (reads writes : List Item → Type 0) (o : Offering) → Acts e s → does ≡ sender_next e.machine seen (stock e.channel s.manager.plain) → Works does → Sees front (Unit {0}) seen stamp
-      → Made (all_parts e does (is_running (done_after e.machine does).state) s.manager.plain) choice delta s.manager a.manager → a ≡ record s { manager = a.manager }
-      → Closes (actors.Sender e.cable) calls.Turn choice delta (with_end (Sends (behind_end e does)) a.own) w [] a t
-      → Popped reads (seen ≡ items.Nothing) s.stamp seen (max s.stamp stamp + 1) → writes [] → SendsTurn e.cable reads writes (seen ≡ items.Nothing) ⊥ o o s (Ok turns.Changed) t
-  settled reads writes o acts next works sees made g z popped written =
+  turned_at : (reads writes : List Item → Type 0) (o : Offering) → Acts e s → deed_of w.stamp (actors.Sender e.cable) calls.Turn seen (node_in s) ≡ Some d → Sees front (Unit {0}) seen sight → Made parts choice delta s.manager a.manager → a ≡ record s { manager = a.manager }
+      → Closes (actors.Sender e.cable) calls.Turn choice delta (with_end (Sends last) a.own) w [] a t → Popped reads (seen ≡ items.Nothing) s.stamp seen w.stamp → writes [] → SendsTurn e.cable reads writes (seen ≡ items.Nothing) ⊥ o o s (Ok turns.Changed) t
+  turned_at reads writes o acts deed sees made g z popped written =
       let same : a.own ≡ s.own = ap (λ (x : NodeState). x.own) g in
-      let k = z s (worked e does (node_in s)) (before_of s a g) (sender_turns e.cable) (told_is acts next works sees made) (ap (λ (x : Own). own_by choice delta (with_end (Sends (behind_end e does)) x) x) same) acts.kept acts.served in
+      let k = z s d (before_of s a g) (sender_turns e.cable) (told_is deed sees made) (ap (λ (x : Own). own_by choice delta (with_end (Sends last) x) x) same) acts.kept acts.served in
       record {
         kept = k.kept;
         few = k.few;
         turn = record { entry = turn_entry (actors.Sender e.cable) calls.Turn choice delta w []; adds = k.adds; popped = popped; offered = record { same = refl; written = written } };
       }
 
--- with what the code has for the end after it, for whether it runs, for the stamp
-pub settled_so : (s a t : NodeState) (e after : SenderEnd) (does : SenderDoes) (seen : Seen) (front : Option Item) (sight : ℕ) (running : Bool) (stamp : ℕ) (received : List Message) (choice : Choice) (delta : List Did) (reads writes : List Item → Type 0) (o : Offering)
-    → after ≡ behind_end e does → running ≡ is_running after.machine.state → stamp ≡ max s.stamp sight + 1 → received ≡ []
-    → Acts e s → does ≡ sender_next e.machine seen (stock e.channel s.manager.plain) → Works does → Sees front (Unit {0}) seen sight
-    → Made (all_parts e does running s.manager.plain) choice delta s.manager a.manager → a ≡ record s { manager = a.manager }
+pub turned_so : (s a t : NodeState) (e last after : SenderEnd) (parts : List Part) (seen : Seen) (front : Option Item) (sight stamp : ℕ) (received : List Message) (choice : Choice) (delta : List Did) (reads writes : List Item → Type 0) (o : Offering) → after ≡ last → stamp ≡ max s.stamp sight + 1 → received ≡ []
+    → Acts e s → deed_of (max s.stamp sight + 1) (actors.Sender e.cable) calls.Turn seen (node_in s) ≡ Some (turned parts None (with_end (Sends last) s.own)) → Sees front (Unit {0}) seen sight
+    → Made parts choice delta s.manager a.manager → a ≡ record s { manager = a.manager }
     → Closes (actors.Sender e.cable) calls.Turn choice delta (with_end (Sends after) a.own) (record { stamp = stamp; pushed = None; extras = 0; popped = seen }) received a t
     → Popped reads (seen ≡ items.Nothing) s.stamp seen (max s.stamp sight + 1) → writes [] → SendsTurn e.cable reads writes (seen ≡ items.Nothing) ⊥ o o s (Ok turns.Changed) t
-settled_so s a t e after does seen front sight running stamp received choice delta reads writes o is runs st rs acts next works sees made g z popped written =
-    let M : Bool → Type 0 = λ r. Made (all_parts e does r s.manager.plain) choice delta s.manager a.manager in
+turned_so s a t e last after parts seen front sight stamp received choice delta reads writes o is st rs acts deed sees made g z popped written =
     let A : SenderEnd → Type 0 = λ x. Closes (actors.Sender e.cable) calls.Turn choice delta (with_end (Sends x) a.own) (record { stamp = stamp; pushed = None; extras = 0; popped = seen }) received a t in
-    let S : ℕ → Type 0 = λ n. Closes (actors.Sender e.cable) calls.Turn choice delta (with_end (Sends (behind_end e does)) a.own) (record { stamp = n; pushed = None; extras = 0; popped = seen }) received a t in
-    let R : List Message → Type 0 = λ ms. Closes (actors.Sender e.cable) calls.Turn choice delta (with_end (Sends (behind_end e does)) a.own) (record { stamp = max s.stamp sight + 1; pushed = None; extras = 0; popped = seen }) ms a t in
-    settled s a t e does seen front sight choice delta reads writes o acts next works sees (subst M (runs ∙ ap (λ (x : SenderEnd). is_running x.machine.state) is) made) g (subst R rs (subst S st (subst A is z))) popped written
+    let S : ℕ → Type 0 = λ n. Closes (actors.Sender e.cable) calls.Turn choice delta (with_end (Sends last) a.own) (record { stamp = n; pushed = None; extras = 0; popped = seen }) received a t in
+    let R : List Message → Type 0 = λ ms. Closes (actors.Sender e.cable) calls.Turn choice delta (with_end (Sends last) a.own) (record { stamp = max s.stamp sight + 1; pushed = None; extras = 0; popped = seen }) ms a t in
+    turned_at s a t e last parts seen front sight choice delta reads writes o acts deed sees made g (subst R rs (subst S st (subst A is z))) popped written
+
+-- so of a line that works at the manager
+pub settled_so : (s a t : NodeState) (e after : SenderEnd) (line : SenderDoes) (seen : Seen) (front : Option Item) (sight : ℕ) (running : Bool) (stamp : ℕ) (received : List Message) (choice : Choice) (delta : List Did) (reads writes : List Item → Type 0) (o : Offering)
+    → after ≡ behind_end e line → running ≡ is_running after.machine.state → stamp ≡ max s.stamp sight + 1 → received ≡ []
+    → Acts e s → line ≡ sender_next e.machine seen (stock e.channel s.manager.plain) → Works line → Sees front (Unit {0}) seen sight
+    → Made (all_parts e line running s.manager.plain) choice delta s.manager a.manager → a ≡ record s { manager = a.manager }
+    → Closes (actors.Sender e.cable) calls.Turn choice delta (with_end (Sends after) a.own) (record { stamp = stamp; pushed = None; extras = 0; popped = seen }) received a t
+    → Popped reads (seen ≡ items.Nothing) s.stamp seen (max s.stamp sight + 1) → writes [] → SendsTurn e.cable reads writes (seen ≡ items.Nothing) ⊥ o o s (Ok turns.Changed) t
+settled_so s a t e after line seen front sight running stamp received choice delta reads writes o is runs st rs acts next works sees made g z popped written =
+    let M : Bool → Type 0 = λ r. Made (all_parts e line r s.manager.plain) choice delta s.manager a.manager in
+    turned_so s a t e (behind_end e line) after (all_parts e line (is_running (done_after e.machine line).state) s.manager.plain) seen front sight stamp received choice delta reads writes o is st rs acts
+    (turn_is (max s.stamp sight + 1) e.cable e line seen (node_in s) acts.up acts.there next ∙ works_is (max s.stamp sight + 1) e line (node_in s) works) sees
+    (subst M (runs ∙ ap (λ (x : SenderEnd). is_running x.machine.state) is) made) g z popped written
+
+-- of one that takes an item and does nothing else: its end stands in its place already
+sender_same : (own : Own) (e : SenderEnd) → sender_end e.cable own ≡ Some e → with_end (Sends e) own ≡ own
+sender_same own e there = ap (λ (es : List ChannelEnd). record own { ends = es }) (set_same e.cable (Sends e) own.ends (sender_is (end_in e.cable own.ends) e there))
+
+pub ignored_so : (s t : NodeState) (e : SenderEnd) (choice : Choice) (delta : List Did) (seen : Seen) (front : Option Item) (sight stamp : ℕ) (received : List Message) (reads writes : List Item → Type 0) (o : Offering) → stamp ≡ max s.stamp sight + 1 → received ≡ []
+    → Acts e s → lines.Ignore ≡ sender_next e.machine seen (stock e.channel s.manager.plain) → Sees front (Unit {0}) seen sight → choice ≡ Runs → delta ≡ []
+    → Closes (actors.Sender e.cable) calls.Turn choice delta (with_end (Sends e) s.own) (record { stamp = stamp; pushed = None; extras = 0; popped = seen }) received s t
+    → Popped reads (seen ≡ items.Nothing) s.stamp seen (max s.stamp sight + 1) → writes [] → SendsTurn e.cable reads writes (seen ≡ items.Nothing) ⊥ o o s (Ok turns.Changed) t
+ignored_so s t e choice delta seen front sight stamp received reads writes o st rs acts next sees c f z popped written =
+    turned_so s s t e e e [] seen front sight stamp received choice delta reads writes o refl st rs acts
+    (turn_is (max s.stamp sight + 1) e.cable e lines.Ignore seen (node_in s) acts.up acts.there next ∙ ap (λ (x : Own). Some (turned [] None x)) (sym (sender_same s.own e acts.there))) sees
+    (none_made choice delta s.manager c f) refl z popped written
 
 -- the manager wants memory: it is as it was
 pub want_kept : (s a : NodeState) → a ≡ record s { manager = a.manager } → IsAsWas s.manager a.manager → IsKept s → IsKept a

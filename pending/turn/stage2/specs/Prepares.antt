@@ -20,3 +20,11 @@ abbrev pub Prepared : Step PrepareFault (Unit {0}) → Result (Option Told) Want
 Prepared step (Ok (Some t)) old new = IsDone step × Made (parts_of step) t.choice t.delta old new
 Prepared step (Ok None) old new = IsRefused step × IsAsWas old new
 Prepared step (Err e) old new = IsAsWas old new
+
+-- what the code asks of a batch beside the manager's facts
+pub record IsPreparable (channel : List ℕ) (p : Plain) : Type 0 where
+  pub batch : Batch
+  pub own : batch_of channel p.channels.batches ≡ Some batch
+  pub unit : IsNumbered batch.unit
+  pub session : batch.unit.session ≤ (sender_or (sender_data channel p)).session
+  pub apart : AllPairs (λ (x y : Ident). same_ident x y ≡ false) batch.idents

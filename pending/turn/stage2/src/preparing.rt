@@ -13,6 +13,50 @@ ghost use Rattle.mq_spec_agents.specs.Words.{CanPrepare, HasBatch, IsUp, prepare
 ghost use Rattle.mq_turns.specs.Prepares.{Prepared};
 ghost use Rattle.mq_turns.specs.Wired.{Acts, SendsTurn};
 
+/// The unit is numbered, of a session that is hardened.
+fn is_numbered<D: Disk>(parts: &Parts<D>, channel: &ChName, unit: &Unit) -> bool
+    ensures { result ≡ true → IsNumbered unit.now × (unit.now.session ≤ (sender_or (sender_data channel.now (plain_of parts.now))).session) }
+{
+    let session = match sender_of(&parts.ends.senders, channel) {
+        None => 0,
+        Some(hardened) => hardened.session,
+    };
+    1 <= unit.session && 1 <= unit.n && unit.session <= session
+}
+
+/// What a batch's preparing asks beside the manager's facts.
+#[tactic(auto, using(crate::proofs::PrepareLaws::are_apart))]
+fn is_preparable<D: Disk>(
+    parts: &Parts<D>,
+    channel: &ChName,
+) -> Result<bool, NoMemory>
+    ensures { IfOk result (λ may. may ≡ true → IsPreparable channel.now (plain_of parts.now)) }
+{
+    match batch_of(&parts.ends.batches, channel) {
+        None => Ok(false),
+        Some(batch) => {
+            if !is_numbered(parts, channel, &batch.unit) {
+                return Ok(false);
+            }
+            are_distinct(parts.alloc, batch.idents.as_slice())
+        }
+    }
+}
+
+/// The channel may prepare its batch.
+///
+/// # Errors
+///
+/// No memory.
+#[tactic(auto, using(crate::proofs::PrepareLaws::can_prepare))]
+fn may_prepare<D: Disk>(manager: &Manager<D>, channel: &ChName) -> Result<bool, NoMemory>
+    requires up { IsUp manager.now.plain }
+    ensures { IfOk result (λ may. may ≡ true → CanPrepare channel.now manager.now.plain) }
+{
+    manager.facts();
+    is_preparable(&manager.core.parts, channel)
+}
+
 /// The batch of a channel is prepared. None where the log has no room for it; nothing has changed then.
 ///
 /// # Errors
@@ -33,5 +77,22 @@ fn prepared<D: Disk>(
         Err(PrepareFault::Stop(AgentStop::NoMemory)) => Err(NoMemory),
         Err(PrepareFault::Stop(AgentStop::Disk)) => Ok(Some(stopped(manager, Stop::Disk))),
         Err(PrepareFault::Stop(AgentStop::Cut)) => Ok(Some(stopped(manager, Stop::Cut))),
+    }
+}
+
+/// So, where the channel may; where it may not, which never comes, there is no memory.
+#[tactic(auto, using(crate::proofs::PartLaws::as_was))]
+fn prepared_if<D: Disk>(
+    manager: &mut Manager<D>,
+    channel: &ChName,
+    last: u32,
+) -> Result<Option<Told>, NoMemory>
+    requires up { IsUp manager.old.plain }
+    ensures { Prepared (prepare channel.now last manager.old.plain) result manager.old manager.new }
+{
+    match may_prepare(manager, channel) {
+        Err(NoMemory) => Err(NoMemory),
+        Ok(false) => Err(NoMemory),
+        Ok(true) => prepared(manager, channel, last),
     }
 }

@@ -1,4 +1,4 @@
-use Rattle.mq_turns.proofs.IgnoreLaws.{ignored_so}
+use Rattle.mq_turns.proofs.SettleLaws.{ignored_so}
 use Rattle.mq_turns.proofs.answering.ignoring_turn.Goals as goal
 
 pub returns : goal.returns

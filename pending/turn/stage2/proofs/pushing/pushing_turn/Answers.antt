@@ -1,4 +1,4 @@
-use Rattle.mq_turns.proofs.IgnoreLaws.{pushed_so, refused, untaken}
+use Rattle.mq_turns.proofs.PushLaws.{pushed_so, refused, untaken}
 use Rattle.mq_turns.proofs.pushing.pushing_turn.Goals as goal
 
 pub returns-in-Err : goal.returns-in-Err

@@ -1,5 +1,5 @@
--- A sender's turn that takes an item and does nothing else; and one that offers a frame.
-use Rattle.std.proofs.Common.{◌≡◌, ℕ, ◌+◌, max, refl, sym, ap, subst, ◌∙◌, List, [], arith}
+-- A sender's turn that offers a frame and does nothing at the manager.
+use Rattle.std.proofs.Common.{◌≡◌, ℕ, ◌+◌, refl, sym, ap, subst, ◌∙◌, List, [], arith}
 use Rattle.std.specs.Prelude.{Option, Some, None, Ok, Err}
 use Rattle.mq_base.specs.declared.want.NoMemory.{NoMemory as Want}
 use Rattle.mq_calls.specs.declared.choices.Choice.{Choice}
@@ -11,61 +11,27 @@ use Rattle.mq_frame.specs.declared.frame.Seen.TheVariants as items
 use Rattle.mq_history.specs.declared.calls.Actor.TheVariants as actors
 use Rattle.mq_history.specs.declared.calls.Call.TheVariants as calls
 use Rattle.mq_sender.specs.Table.{sender_next}
-use Rattle.mq_sender.specs.declared.turns.SenderDoes.TheVariants as lines
 use Rattle.mq_spec_agents.specs.Words.{stock}
 use Rattle.mq_spec_node.specs.Terms.{Did, Frame, Message, Seen, SenderDoes}
-use Rattle.mq_spec_node.specs.Words.{ChannelEnd, Own, SenderEnd, deed_of, end_in, item_of, sender_deed_by, sender_end, turned, with_end}
+use Rattle.mq_spec_node.specs.Words.{SenderEnd, deed_of, item_of, sender_deed_by, with_end}
 use Rattle.mq_spec_node.specs.Node.ChannelEnd.{Sends}
-use Rattle.mq_wires.specs.Wires.{HasPushed, IsFull, OffersNone, Sees}
-use Rattle.mq_cabled.proofs.EndLaws.{set_same}
+use Rattle.mq_wires.specs.Wires.{HasPushed, IsFull, OffersNone}
 use Rattle.mq_events.specs.States.{IsKept, NodeState, node_in}
 use Rattle.mq_events.specs.Events.{Stays}
 use Rattle.mq_turns.specs.declared.telling.Passed.{Passed}
 use Rattle.mq_turns.specs.declared.telling.Turn.TheVariants as turns
-use Rattle.mq_turns.specs.Turns.{own_by, pushed_by, turn_entry}
+use Rattle.mq_turns.specs.Turns.{pushed_by, turn_entry}
 use Rattle.mq_turns.specs.Told.{Closes, IsTold}
-use Rattle.mq_turns.specs.Wired.{Acts, Popped, Refuses, SendsTurn}
-use Rattle.mq_turns.proofs.DueLaws.{sender_is}
+use Rattle.mq_turns.specs.Wired.{Acts, Refuses, SendsTurn}
 use Rattle.mq_turns.proofs.PartLaws.{none_made}
 use Rattle.mq_turns.proofs.TurnLaws.{sender_turns}
 use Rattle.mq_turns.specs.Sends.{behind_end, pushed_deed}
-use Rattle.mq_turns.proofs.SendLaws.{none_pushed, pop_is, stamp_is, turn_is}
-
--- the end stands in its place already
-pub same_end : (own : Own) (e : SenderEnd) → sender_end e.cable own ≡ Some e → with_end (Sends e) own ≡ own
-same_end own e there = ap (λ (es : List ChannelEnd). record own { ends = es }) (set_same e.cable (Sends e) own.ends (sender_is (end_in e.cable own.ends) e there))
+use Rattle.mq_turns.proofs.SendLaws.{turn_is}
 
 pub some_pushed : (c : Choice) (f : Frame) → c ≡ Runs → Some f ≡ pushed_by c (Some f)
 some_pushed c f e = let P : Choice → Type 0 = λ x. Some f ≡ pushed_by x (Some f) in subst P (sym e) refl
 
 module _ (s t : NodeState) (e : SenderEnd) (choice : Choice) (delta : List Did) where
-  -- an item that is ignored
-  ignored_told : (seen : Seen) (front : Option Item) (stamp : ℕ) → Acts e s → lines.Ignore ≡ sender_next e.machine seen (stock e.channel s.manager.plain) → Sees front (Unit {0}) seen stamp → choice ≡ Runs → delta ≡ []
-      → IsTold s (actors.Sender e.cable) calls.Turn (turned [] None s.own) choice delta (record { stamp = max s.stamp stamp + 1; pushed = None; extras = 0; popped = seen }) [] s.manager
-  ignored_told seen front stamp acts next sees c f = record {
-    deed = turn_is (max s.stamp stamp + 1) e.cable e lines.Ignore seen (node_in s) acts.up acts.there next;
-    reply = refl;
-    made = none_made choice delta s.manager c f;
-    pushed = none_pushed choice;
-    received_is = refl;
-    stamp = stamp_is front s.stamp stamp seen sees;
-    pop = pop_is seen e.cable;
-    extras = refl;
-  }
-
-  ignored : (seen : Seen) (front : Option Item) (stamp : ℕ) (reads writes : List Item → Type 0) (o : Offering) → Acts e s → lines.Ignore ≡ sender_next e.machine seen (stock e.channel s.manager.plain)
-      → Sees front (Unit {0}) seen stamp → choice ≡ Runs → delta ≡ []
-      → Closes (actors.Sender e.cable) calls.Turn choice delta (with_end (Sends e) s.own) (record { stamp = max s.stamp stamp + 1; pushed = None; extras = 0; popped = seen }) [] s t
-      → Popped reads (seen ≡ items.Nothing) s.stamp seen (max s.stamp stamp + 1) → writes [] → SendsTurn e.cable reads writes (seen ≡ items.Nothing) ⊥ o o s (Ok turns.Changed) t
-  ignored seen front stamp reads writes o acts next sees c f z popped written =
-      let w : Passed = record { stamp = max s.stamp stamp + 1; pushed = None; extras = 0; popped = seen } in
-      let k = z s (turned [] None s.own) refl (sender_turns e.cable) (ignored_told seen front stamp acts next sees c f) (ap (λ (x : Own). own_by choice delta x s.own) (same_end s.own e acts.there)) acts.kept acts.served in
-      record {
-        kept = k.kept;
-        few = k.few;
-        turn = record { entry = turn_entry (actors.Sender e.cable) calls.Turn choice delta w []; adds = k.adds; popped = popped; offered = record { same = refl; written = written } };
-      }
-
   -- a frame that is offered
   pushed_told : (d : SenderDoes) (f : Frame) (extras : ℕ) → Acts e s → d ≡ sender_next e.machine items.Nothing (stock e.channel s.manager.plain) → sender_deed_by (s.stamp + 1) e d (node_in s) ≡ Some (pushed_deed e d f (node_in s))
       → f.stamp ≡ s.stamp + 1 → choice ≡ Runs → delta ≡ [] → IsTold s (actors.Sender e.cable) calls.Turn (pushed_deed e d f (node_in s)) choice delta (record { stamp = f.stamp; pushed = Some f; extras = extras; popped = items.Nothing }) [] s.manager
@@ -94,15 +60,6 @@ module _ (s t : NodeState) (e : SenderEnd) (choice : Choice) (delta : List Did) 
       }
 
 -- with what the code has
-pub ignored_so : (s t : NodeState) (e : SenderEnd) (choice : Choice) (delta : List Did) (seen : Seen) (front : Option Item) (sight stamp : ℕ) (received : List Message) (reads writes : List Item → Type 0) (o : Offering) → stamp ≡ max s.stamp sight + 1 → received ≡ []
-    → Acts e s → lines.Ignore ≡ sender_next e.machine seen (stock e.channel s.manager.plain) → Sees front (Unit {0}) seen sight → choice ≡ Runs → delta ≡ []
-    → Closes (actors.Sender e.cable) calls.Turn choice delta (with_end (Sends e) s.own) (record { stamp = stamp; pushed = None; extras = 0; popped = seen }) received s t
-    → Popped reads (seen ≡ items.Nothing) s.stamp seen (max s.stamp sight + 1) → writes [] → SendsTurn e.cable reads writes (seen ≡ items.Nothing) ⊥ o o s (Ok turns.Changed) t
-ignored_so s t e choice delta seen front sight stamp received reads writes o st rs acts next sees c f z popped written =
-    let S : ℕ → Type 0 = λ n. Closes (actors.Sender e.cable) calls.Turn choice delta (with_end (Sends e) s.own) (record { stamp = n; pushed = None; extras = 0; popped = seen }) received s t in
-    let R : List Message → Type 0 = λ ms. Closes (actors.Sender e.cable) calls.Turn choice delta (with_end (Sends e) s.own) (record { stamp = max s.stamp sight + 1; pushed = None; extras = 0; popped = seen }) ms s t in
-    ignored s t e choice delta seen front sight reads writes o acts next sees c f (subst R rs (subst S st z)) popped written
-
 pub pushed_so : (s t : NodeState) (e after : SenderEnd) (choice : Choice) (delta : List Did) (d : SenderDoes) (f : Frame) (extras : ℕ) (received : List Message) (reads writes : List Item → Type 0) (full : Type 0) (o n : Offering) → after ≡ behind_end e d → received ≡ []
     → Acts e s → d ≡ sender_next e.machine items.Nothing (stock e.channel s.manager.plain) → sender_deed_by (s.stamp + 1) e d (node_in s) ≡ Some (pushed_deed e d f (node_in s)) → f.stamp ≡ s.stamp + 1 → choice ≡ Runs → delta ≡ []
     → Closes (actors.Sender e.cable) calls.Turn choice delta (with_end (Sends after) s.own) (record { stamp = f.stamp; pushed = Some f; extras = extras; popped = items.Nothing }) received s t
