@@ -90,11 +90,11 @@ module _ (s a t : NodeState) (e : SenderEnd) (choice : Choice) (delta : List Did
       (k.kept, subst T (sym (timeout_is (s.stamp + 1) e.cable (node_in s) e up there waits)) (turn_entry (actors.Sender e.cable) calls.Timeout choice delta (nothing_passed (s.stamp + 1)) [], k.adds), k.few)
 
 -- with what the code has for the end after it, for whether it runs, for the stamp
-pub timed_so : (s a t : NodeState) (e after : SenderEnd) (running : Bool) (stamp : ℕ) (received : List Message) (choice : Choice) (delta : List Did) → after ≡ record e { machine = timed_out e.machine } → running ≡ is_running after.machine.state → stamp ≡ s.stamp + 1 → received ≡ []
+pub timed_so : (s a t : NodeState) (e last : SenderEnd) (running : Bool) (stamp : ℕ) (received : List Message) (choice : Choice) (delta : List Did) → last ≡ record e { machine = timed_out e.machine } → running ≡ is_running last.machine.state → stamp ≡ s.stamp + 1 → received ≡ []
     → IsDue e.cable e s → choice ≡ Runs → delta ≡ [] → IsBehind (left_parts e.channel choice running s.manager.plain) s.manager a.manager → IsKept s → IsServed s → a ≡ record s { manager = a.manager }
-    → Closes (actors.Sender e.cable) calls.Timeout choice delta (with_end (Sends after) a.own) (nothing_passed stamp) received a t
+    → Closes (actors.Sender e.cable) calls.Timeout choice delta (with_end (Sends last) a.own) (nothing_passed stamp) received a t
     → IsKept t × TimesOut e.cable s (Ok turns.Changed) t × (t.few ≡ s.few)
-timed_so s a t e after running stamp received choice delta is runs st rs due c f b kept served g z =
+timed_so s a t e last running stamp received choice delta is runs st rs due c f b kept served g z =
     let B : Bool → Type 0 = λ r. IsBehind (left_parts e.channel choice r s.manager.plain) s.manager a.manager in
     let A : SenderEnd → Type 0 = λ x. Closes (actors.Sender e.cable) calls.Timeout choice delta (with_end (Sends x) a.own) (nothing_passed stamp) received a t in
     let S : ℕ → Type 0 = λ n. Closes (actors.Sender e.cable) calls.Timeout choice delta (with_end (Sends (record e { machine = timed_out e.machine })) a.own) (nothing_passed n) received a t in
