@@ -133,14 +133,16 @@ abbrev pub after : SenderEnd → Sender → SenderEnd
 after e machine = record e { machine = machine }
 
 sent_quiet : (e : SenderEnd) (d : SenderDoes) (parts : List Part) (pushed : Option Frame) (n : Node) → sender_end e.cable n.own ≡ Some e → BringNone parts → IsQuiet (sent e d parts pushed n) n.own
-sent_quiet e d parts pushed n there b =
-    (some_bring parts (leave_if_stopped e.channel (sender_after e.machine d outs.Done).state n.manager) b (leaves_bring (is_running (sender_after e.machine d outs.Done).state) e.channel n.manager),
-    kept_same n.own e (after e (sender_after e.machine d outs.Done)) there)
+sent_quiet e d parts pushed n there b = (
+  some_bring parts (leave_if_stopped e.channel (sender_after e.machine d outs.Done).state n.manager) b (leaves_bring (is_running (sender_after e.machine d outs.Done).state) e.channel n.manager),
+  kept_same n.own e (after e (sender_after e.machine d outs.Done)) there,
+)
 
 prepared_quiet : (e : SenderEnd) (s : Step PrepareFault (Unit {0})) (n : Node) → sender_end e.cable n.own ≡ Some e → StepBrings s → IsQuiet (prepare_deed e s n) n.own
-prepared_quiet e (Refuse fault) n there b =
-    (some_bring (parts_of (release_batch e.channel n.manager)) (parts_of (leave e.channel n.manager)) (release_brings e.channel (batch_of e.channel n.manager.channels.batches)) (leave_brings e.channel n.manager),
-    kept_same n.own e (after e (sender_after e.machine does.Prepare outs.NoRoom)) there)
+prepared_quiet e (Refuse fault) n there b = (
+  some_bring (parts_of (release_batch e.channel n.manager)) (parts_of (leave e.channel n.manager)) (release_brings e.channel (batch_of e.channel n.manager.channels.batches)) (leave_brings e.channel n.manager),
+  kept_same n.own e (after e (sender_after e.machine does.Prepare outs.NoRoom)) there,
+)
 prepared_quiet e (Do reply parts) n there b = sent_quiet e does.Prepare parts None n there b
 
 line_quiet : (stamp : ℕ) (e : SenderEnd) (d : SenderDoes) (n : Node) → sender_end e.cable n.own ≡ Some e → Quiet (sender_deed_by stamp e d n) n.own

@@ -44,4 +44,4 @@ pub record Closed (s : NodeState) (actor : Actor) (call : Call) (e : Entry) (m :
 abbrev pub Closes : Actor → Call → Choice → List Did → Own → Passed → List Message → NodeState → NodeState → Type 0
 Closes actor call choice delta behind w received p t =
     (s : NodeState) (d : Deed) → IsBefore s p → ActsHere actor call → IsTold s actor call d choice delta w received p.manager → own_by choice delta behind p.own ≡ own_by choice delta d.own s.own → IsKept s → IsServed s
-        → Closed s actor call (turn_entry actor call choice delta w received) p.manager (own_by choice delta d.own s.own) t
+    → Closed s actor call (turn_entry actor call choice delta w received) p.manager (own_by choice delta d.own s.own) t
