@@ -1,2 +1,4 @@
 pub mod Turns
 pub mod Told
+pub mod Sends
+pub mod Wired

@@ -1,9 +1,15 @@
 //! Timeouts of a channel's sender end, each as one event of a node.
 #![tactic(auto)]
 
+mod answering;
+mod asking;
 mod parting;
+mod passing;
+mod pushing;
+mod settling;
 mod telling;
 mod timing;
+mod working;
 
 pub use telling::{Passed, Turn};
 pub use timing::timeout;
