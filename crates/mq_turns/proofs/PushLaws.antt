@@ -15,14 +15,15 @@ use Rattle.mq_spec_agents.specs.Words.{stock}
 use Rattle.mq_spec_node.specs.Terms.{Did, Frame, Message, Seen, SenderDoes}
 use Rattle.mq_spec_node.specs.Words.{SenderEnd, deed_of, item_of, sender_deed_by, with_end}
 use Rattle.mq_spec_node.specs.Node.ChannelEnd.{Sends}
-use Rattle.mq_wires.specs.Wires.{HasPushed, IsFull, OffersNone}
+use Rattle.mq_wires.specs.Wires.{HasPushed, IsFull, OfferTold, OffersNone}
 use Rattle.mq_events.specs.States.{IsKept, NodeState, node_in}
 use Rattle.mq_events.specs.Events.{Stays}
 use Rattle.mq_turns.specs.declared.telling.Passed.{Passed}
 use Rattle.mq_turns.specs.declared.telling.Turn.TheVariants as turns
 use Rattle.mq_turns.specs.Turns.{pushed_by, turn_entry}
 use Rattle.mq_turns.specs.Told.{Closes, IsTold}
-use Rattle.mq_turns.specs.Wired.{Acts, Refuses, SendsTurn}
+use Rattle.mq_turns.specs.Wired.{Refuses}
+use Rattle.mq_turns.specs.Acting.{Acts, SendsTurn}
 use Rattle.mq_turns.proofs.PartLaws.{none_made}
 use Rattle.mq_turns.proofs.TurnLaws.{sender_turns}
 use Rattle.mq_turns.specs.Sends.{behind_end, pushed_deed}
@@ -60,7 +61,7 @@ module _ (s t : NodeState) (e : SenderEnd) (choice : Choice) (delta : List Did) 
       }
 
 -- with what the code has
-pub pushed_so : (s t : NodeState) (e after : SenderEnd) (choice : Choice) (delta : List Did) (d : SenderDoes) (f : Frame) (extras : ℕ) (received : List Message) (reads writes : List Item → Type 0) (full : Type 0) (o n : Offering) → after ≡ behind_end e d → received ≡ []
+pushed_so : (s t : NodeState) (e after : SenderEnd) (choice : Choice) (delta : List Did) (d : SenderDoes) (f : Frame) (extras : ℕ) (received : List Message) (reads writes : List Item → Type 0) (full : Type 0) (o n : Offering) → after ≡ behind_end e d → received ≡ []
     → Acts e s → d ≡ sender_next e.machine items.Nothing (stock e.channel s.manager.plain) → sender_deed_by (s.stamp + 1) e d (node_in s) ≡ Some (pushed_deed e d f (node_in s)) → f.stamp ≡ s.stamp + 1 → choice ≡ Runs → delta ≡ []
     → Closes (actors.Sender e.cable) calls.Turn choice delta (with_end (Sends after) s.own) (record { stamp = f.stamp; pushed = Some f; extras = extras; popped = items.Nothing }) received s t
     → reads [] → HasPushed writes full o f extras n → HasSpelling f.kind → SendsTurn e.cable reads writes (Unit {0}) full o n s (Ok turns.Changed) t
@@ -73,7 +74,7 @@ pushed_so s t e after choice delta d f extras received reads writes full o n is 
 stays : (s : NodeState) → Stays s s
 stays s = record { same = refl; marks = refl; faults = omega arith }
 
-pub refused : (s : NodeState) (e : SenderEnd) (d : SenderDoes) (f : Frame) (reads writes : List Item → Type 0) (full : Type 0) (o n : Offering) → Acts e s → d ≡ sender_next e.machine items.Nothing (stock e.channel s.manager.plain)
+refused : (s : NodeState) (e : SenderEnd) (d : SenderDoes) (f : Frame) (reads writes : List Item → Type 0) (full : Type 0) (o n : Offering) → Acts e s → d ≡ sender_next e.machine items.Nothing (stock e.channel s.manager.plain)
     → sender_deed_by (s.stamp + 1) e d (node_in s) ≡ Some (pushed_deed e d f (node_in s)) → reads [] → OffersNone writes o n → IsFull full o (item_of f) → SendsTurn e.cable reads writes (Unit {0}) full o n s (Ok turns.Still) s
 refused s e d f reads writes full o n acts next deed read none was = record {
   kept = acts.kept;
@@ -83,3 +84,19 @@ refused s e d f reads writes full o n acts next deed read none was = record {
 
 pub untaken : (s : NodeState) (cable : ℕ) (x : Want) (reads writes : List Item → Type 0) (none full : Type 0) (o n : Offering) → IsKept s → reads [] → OffersNone writes o n → SendsTurn cable reads writes none full o n s (Err x) s
 untaken s cable x reads writes none full o n kept read offers = record { kept = kept; few = refl; turn = record { stays = stays s; read = read; offers = offers } }
+
+-- so by what the offer came to
+pub pushed_as : (s t : NodeState) (e after : SenderEnd) (choice : Choice) (delta : List Did) (d : SenderDoes) (f : Frame) (extras : ℕ) (received : List Message) (reads writes : List Item → Type 0) (full : Type 0) (o n : Offering) (x : Option ℕ) → x ≡ Some extras → OfferTold writes full o f (Ok x) n → after ≡ behind_end e d → received ≡ []
+    → Acts e s → d ≡ sender_next e.machine items.Nothing (stock e.channel s.manager.plain) → sender_deed_by (s.stamp + 1) e d (node_in s) ≡ Some (pushed_deed e d f (node_in s)) → f.stamp ≡ s.stamp + 1 → choice ≡ Runs → delta ≡ []
+    → Closes (actors.Sender e.cable) calls.Turn choice delta (with_end (Sends after) s.own) (record { stamp = f.stamp; pushed = Some f; extras = extras; popped = items.Nothing }) received s t
+    → reads [] → HasSpelling f.kind → SendsTurn e.cable reads writes (Unit {0}) full o n s (Ok turns.Changed) t
+pushed_as s t e after choice delta d f extras received reads writes full o n x is told ends rs acts next deed st c g z read spells =
+    let O : Option ℕ → Type 0 = λ y. OfferTold writes full o f (Ok y) n in
+    pushed_so s t e after choice delta d f extras received reads writes full o n ends rs acts next deed st c g z read (subst O is told) spells
+
+pub refused_as : (s : NodeState) (e : SenderEnd) (d : SenderDoes) (f : Frame) (reads writes : List Item → Type 0) (full : Type 0) (o n : Offering) (x : Option ℕ) → x ≡ None → OfferTold writes full o f (Ok x) n → Acts e s → d ≡ sender_next e.machine items.Nothing (stock e.channel s.manager.plain)
+    → sender_deed_by (s.stamp + 1) e d (node_in s) ≡ Some (pushed_deed e d f (node_in s)) → reads [] → SendsTurn e.cable reads writes (Unit {0}) full o n s (Ok turns.Still) s
+refused_as s e d f reads writes full o n x is told acts next deed read =
+    let O : Option ℕ → Type 0 = λ y. OfferTold writes full o f (Ok y) n in
+    let h : OffersNone writes o n × IsFull full o (item_of f) = subst O is told in
+    refused s e d f reads writes full o n acts next deed read h.0 h.1

@@ -21,7 +21,7 @@ use Rattle.mq_spec_node.specs.Node.ChannelEnd.{Sends}
 use Rattle.mq_wires.specs.Wires.{Sees}
 use Rattle.mq_turns.specs.Turns.{leave_unless, pushed_by}
 use Rattle.mq_events.specs.States.{NodeState}
-use Rattle.mq_turns.specs.Wired.{Acts}
+use Rattle.mq_turns.specs.Acting.{Acts}
 use Rattle.mq_turns.proofs.DueLaws.{may_low, up_is}
 use Rattle.mq_turns.proofs.TimeLaws.{leaves_are}
 use Rattle.mq_turns.specs.Sends.{Works, all_parts, behind_end, pushed_deed, sender_parts}

@@ -28,7 +28,8 @@ use Rattle.mq_turns.specs.declared.telling.Passed.{Passed}
 use Rattle.mq_turns.specs.declared.telling.Turn.TheVariants as turns
 use Rattle.mq_turns.specs.Turns.{IsAsWas, Made, own_by, turn_entry}
 use Rattle.mq_turns.specs.Told.{Closes, IsTold}
-use Rattle.mq_turns.specs.Wired.{Acts, Popped, SendsTurn}
+use Rattle.mq_turns.specs.Wired.{Popped}
+use Rattle.mq_turns.specs.Acting.{Acts, SendsTurn}
 use Rattle.mq_turns.proofs.TurnLaws.{before_of, sender_turns}
 use Rattle.mq_turns.specs.Sends.{Works, all_parts, behind_end}
 use Rattle.mq_turns.proofs.SendLaws.{none_pushed, pop_is, stamp_is, turn_is, works_is}

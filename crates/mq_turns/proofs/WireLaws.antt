@@ -13,7 +13,8 @@ use Rattle.mq_events.specs.States.{NodeState}
 use Rattle.mq_turns.specs.declared.telling.Turn.{Turn}
 use Rattle.mq_turns.specs.declared.telling.Turn.TheVariants as turns
 use Rattle.mq_history.specs.declared.calls.Actor.TheVariants as actors
-use Rattle.mq_turns.specs.Wired.{Idles, IsStill, Offered, Popped, PopsItem, Refuses, SendsTurn, TurnIs, Untaken}
+use Rattle.mq_turns.specs.Wired.{Idles, IsStill, Offered, Popped, PopsItem, Refuses, TurnIs, Untaken}
+use Rattle.mq_turns.specs.Acting.{SendsTurn}
 
 -- what is seen, whatever is known where nothing is
 pub sees_all : (front : Option Item) (empty : Type 0) (seen : Seen) (stamp : ℕ) → Sees front empty seen stamp → Sees front (Unit {0}) seen stamp
@@ -55,7 +56,7 @@ module _ (reads writes rs ws : List Item → Type 0) (none full no fu : Type 0) 
   wide_untaken : (o n : Offering) (old new : NodeState) → Untaken reads writes o n old new → Untaken rs ws o n old new
   wide_untaken o n old new u = record { stays = u.stays; read = r [] u.read; offers = wide_none o n u.offers }
 
-  turn_widened : (who : Actor) (o n : Offering) (d : Option Deed) (old : NodeState) (result : Result Turn Want) (new : NodeState) → TurnIs who reads writes none full o n d old result new → TurnIs who rs ws no fu o n d old result new
+  pub turn_widened : (who : Actor) (o n : Offering) (d : Option Deed) (old : NodeState) (result : Result Turn Want) (new : NodeState) → TurnIs who reads writes none full o n d old result new → TurnIs who rs ws no fu o n d old result new
   turn_widened who o n d old (Ok turns.Changed) new t = record { entry = t.entry; adds = t.adds; popped = wide_popped old.stamp t.entry.effect.popped t.entry.stamp t.popped; offered = wide_offered o n t.entry.effect.pushed t.entry.effect.extras t.offered }
   turn_widened who o n d old (Ok turns.Still) new t = (wide_untaken o n old new t.0, wide_still o d t.0.read t.1)
   turn_widened who o n d old (Err e) new t = wide_untaken o n old new t

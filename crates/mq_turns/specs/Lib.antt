@@ -2,3 +2,4 @@ pub mod Turns
 pub mod Told
 pub mod Sends
 pub mod Wired
+pub mod Acting

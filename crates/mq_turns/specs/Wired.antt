@@ -8,12 +8,10 @@ use Rattle.mq_frame.specs.Sight.{Shows}
 use Rattle.mq_frame.specs.declared.frame.Seen.TheVariants as items
 use Rattle.mq_history.specs.declared.calls.Call.TheVariants as calls
 use Rattle.mq_spec_node.specs.Terms.{Actor, Entry, Frame, Seen}
-use Rattle.mq_spec_node.specs.Words.{Deed, SenderEnd, deed_of, item_of, sender_end}
+use Rattle.mq_spec_node.specs.Words.{Deed, item_of}
 use Rattle.mq_wires.specs.Wires.{HasPushed, IsFull, OffersNone}
-use Rattle.mq_history.specs.declared.calls.Actor.TheVariants as actors
-use Rattle.mq_spec_agents.specs.Words.{IsUp}
-use Rattle.mq_events.specs.States.{IsKept, IsServed, NodeState, node_in}
-use Rattle.mq_events.specs.Events.{Adds, MayAct, Stays}
+use Rattle.mq_events.specs.States.{NodeState}
+use Rattle.mq_events.specs.Events.{Adds, Stays}
 use Rattle.mq_turns.specs.declared.telling.Turn.{Turn}
 use Rattle.mq_turns.specs.declared.telling.Turn.TheVariants as turns
 
@@ -56,17 +54,3 @@ abbrev pub TurnIs : (who : Actor) → (reads writes : List Item → Type 0) → 
 TurnIs who reads writes none full o n deed old (Ok turns.Changed) new = ChangedBy who reads writes none full o n old new
 TurnIs who reads writes none full o n deed old (Ok turns.Still) new = Untaken reads writes o n old new × IsStill none full o deed
 TurnIs who reads writes none full o n deed old (Err e) new = Untaken reads writes o n old new
-
--- A sender's end that may act, at a manager that is up.
-pub record Acts (e : SenderEnd) (s : NodeState) : Type 0 where
-  pub kept : IsKept s
-  pub served : IsServed s
-  pub may : MayAct s
-  pub up : IsUp s.manager.plain
-  pub there : sender_end e.cable s.own ≡ Some e
-
--- Its turn: the history that it leaves replays.
-pub record SendsTurn (cable : ℕ) (reads writes : List Item → Type 0) (none full : Type 0) (o n : Offering) (old : NodeState) (result : Result Turn Want) (new : NodeState) : Type 0 where
-  pub kept : IsKept new
-  pub few : new.few ≡ old.few
-  pub turn : TurnIs (actors.Sender cable) reads writes none full o n (deed_of (old.stamp + 1) (actors.Sender cable) calls.Turn items.Nothing (node_in old)) old result new

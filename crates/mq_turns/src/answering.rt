@@ -7,7 +7,7 @@ ghost use Rattle.mq_sender.specs.Table.{sender_next};
 ghost use Rattle.mq_sender.specs.declared.turns.SenderDoes.TheVariants as does_what;
 ghost use Rattle.mq_spec_agents.specs.Words.{stock};
 ghost use Rattle.mq_wires.specs.Wires.{Sees};
-ghost use Rattle.mq_turns.specs.Wired.{Acts, SendsTurn};
+ghost use Rattle.mq_turns.specs.Acting.{Acts, SendsTurn};
 ghost use Rattle.mq_turns.specs.Sends.{is_ignore, unseen};
 
 use crate::parting::nothing_done;
@@ -88,7 +88,7 @@ fn ignoring_turn<D: Disk, W: Wire>(
 }
 
 /// The next line of a sender's table; none where its session or its unit can't be counted on, which never comes.
-pub(crate) fn next_line(machine: &Sender, seen: &Seen, stock: &Stock) -> Option<SenderDoes>
+pub fn next_line(machine: &Sender, seen: &Seen, stock: &Stock) -> Option<SenderDoes>
     ensures { IfSome result (λ d. d ≡ sender_next machine.now seen.now stock.now) }
 {
     if machine.kept.session >= LAST || machine.begun >= LAST {
@@ -121,7 +121,7 @@ fn answer_turn<D: Disk, W: Wire>(
 }
 
 /// The turn where an item waits: it is taken, with what its line does at the manager. What is seen of the queue makes no difference.
-pub(crate) fn answering_turn<D: Disk, W: Wire>(
+pub fn answering_turn<D: Disk, W: Wire>(
     parts: &mut NodeParts<D>,
     wire: &mut W,
     end: SenderEnd,

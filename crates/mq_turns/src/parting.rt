@@ -14,7 +14,7 @@ use mq_name::ChName;
 use std::alloc::Global;
 
 /// What a manager tells of a call that ran.
-pub(crate) fn ran<D: Disk>(manager: &mut Manager<D>) -> Told
+pub fn ran<D: Disk>(manager: &mut Manager<D>) -> Told
     ensures choice { result.choice ≡ choices.Runs }
     ensures delta { result.delta ≡ manager.old.delta }
     ensures left { manager.new ≡ record manager.old { delta = [] } }
@@ -26,7 +26,7 @@ pub(crate) fn ran<D: Disk>(manager: &mut Manager<D>) -> Told
 }
 
 /// What it tells of a call of one part whose write was stopped.
-pub(crate) fn stopped<D: Disk>(manager: &mut Manager<D>, by: Stop) -> Told
+pub fn stopped<D: Disk>(manager: &mut Manager<D>, by: Stop) -> Told
     ensures choice { result.choice ≡ choices.Stopped by 0 manager.old.plain.log.armed }
     ensures delta { result.delta ≡ manager.old.delta }
     ensures left { manager.new ≡ record manager.old { delta = [] } }
@@ -106,7 +106,7 @@ pub fn released<D: Disk>(manager: &mut Manager<D>, channel: &ChName) -> Result<T
 }
 
 /// Whether all was done.
-pub(crate) fn has_run(told: &Told) -> bool
+pub fn has_run(told: &Told) -> bool
     ensures { result ≡ has_run_by told.now.choice }
 {
     match told.choice {

@@ -8,7 +8,7 @@ ghost use Rattle.mq_sender.specs.declared.turns.SenderDoes.TheVariants as does_w
 ghost use Rattle.mq_spec_agents.specs.Words.{batch_row, names_of, stock};
 ghost use Rattle.mq_spec_node.specs.Words.{carried, sender_deed_by};
 ghost use Rattle.mq_events.specs.States.{node_in};
-ghost use Rattle.mq_turns.specs.Wired.{Acts, SendsTurn};
+ghost use Rattle.mq_turns.specs.Acting.{Acts, SendsTurn};
 ghost use Rattle.mq_turns.specs.Sends.{pushed_deed};
 
 use crate::parting::nothing_done;
@@ -81,7 +81,7 @@ fn carry(
 }
 
 /// The frame of a message of the batch.
-pub(crate) fn batch_frame<D: Disk>(
+pub fn batch_frame<D: Disk>(
     alloc: Global,
     manager: &Manager<D>,
     end: &SenderEnd,
@@ -168,7 +168,7 @@ fn spelling_turn<D: Disk, W: Wire>(
 
 /// BIND is offered.
 #[tactic(auto, using(crate::proofs::SendLaws::bind_deed, crate::proofs::SendLaws::bind_stamp, crate::proofs::SendLaws::acts_low))]
-pub(crate) fn bind_turn<D: Disk, W: Wire>(
+pub fn bind_turn<D: Disk, W: Wire>(
     parts: &mut NodeParts<D>,
     offers: &mut Offers,
     wire: &mut W,
@@ -186,7 +186,7 @@ pub(crate) fn bind_turn<D: Disk, W: Wire>(
 
 /// END is offered.
 #[tactic(auto, using(crate::proofs::SendLaws::end_deed, crate::proofs::SendLaws::end_stamp, crate::proofs::SendLaws::acts_low))]
-pub(crate) fn end_turn<D: Disk, W: Wire>(
+pub fn end_turn<D: Disk, W: Wire>(
     parts: &mut NodeParts<D>,
     offers: &mut Offers,
     wire: &mut W,
@@ -204,7 +204,7 @@ pub(crate) fn end_turn<D: Disk, W: Wire>(
 
 /// The next message of the batch is offered.
 #[tactic(auto, using(crate::proofs::SendLaws::message_deed, crate::proofs::SendLaws::message_stamp, crate::proofs::SendLaws::acts_low))]
-pub(crate) fn message_turn<D: Disk, W: Wire>(
+pub fn message_turn<D: Disk, W: Wire>(
     parts: &mut NodeParts<D>,
     offers: &mut Offers,
     wire: &mut W,

@@ -6,7 +6,7 @@ ghost use Rattle.mq_sender.specs.Table.{sender_next};
 ghost use Rattle.mq_sender.specs.After.{done_after};
 ghost use Rattle.mq_spec_agents.specs.Words.{stock};
 ghost use Rattle.mq_wires.specs.Wires.{Sees};
-ghost use Rattle.mq_turns.specs.Wired.{Acts, SendsTurn};
+ghost use Rattle.mq_turns.specs.Acting.{Acts, SendsTurn};
 ghost use Rattle.mq_turns.specs.Sends.{Works};
 
 use crate::passing::{next_stamp, pass};
@@ -23,7 +23,7 @@ use mq_sender::{SenderDoes, SenderOut};
 use mq_wires::Sight;
 
 /// The end after a line of its table.
-pub(crate) fn end_after(end: &SenderEnd, does: &SenderDoes) -> SenderEnd
+pub fn end_after(end: &SenderEnd, does: &SenderDoes) -> SenderEnd
     ensures { result ≡ record end.now { machine = done_after end.now.machine does.now } }
 {
     let mut machine = end.machine;
@@ -38,7 +38,7 @@ pub(crate) fn end_after(end: &SenderEnd, does: &SenderDoes) -> SenderEnd
 
 /// The turn of a line that works at the manager.
 #[tactic(auto, using(crate::proofs::SendLaws::acts_low))]
-pub(crate) fn settling_turn<D: Disk, W: Wire>(
+pub fn settling_turn<D: Disk, W: Wire>(
     parts: &mut NodeParts<D>,
     wire: &mut W,
     end: SenderEnd,
