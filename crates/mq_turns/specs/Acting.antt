@@ -1,5 +1,5 @@
 -- A sender's end that may act, and what its turn comes to.
-use Rattle.std.specs.Prelude.{◌≡◌, ℕ, List, Some, Result}
+use Rattle.std.specs.Prelude.{◌≡◌, ◌+◌, ℕ, List, Some, Result}
 use Rattle.mq_base.specs.declared.want.NoMemory.{NoMemory as Want}
 use Rattle.mq_cable.specs.declared.item.Item.{Item}
 use Rattle.mq_cable.specs.Offers.{Offering}
