@@ -1,0 +1,10 @@
+pub mod PartLaws
+pub mod RunLaws
+pub mod CountLaws
+pub mod TurnLaws
+pub mod TimeLaws
+pub mod WireLaws
+pub mod SendLaws
+pub mod SettleLaws
+pub mod TableLaws
+pub mod IgnoreLaws

@@ -1,0 +1,16 @@
+use Rattle.mq_disk.specs.declared.cutter.Stop.TheVariants as stops
+use Rattle.mq_spec_agents.specs.Words.{harden}
+use Rattle.mq_turns.proofs.PartLaws.{agent_ran, agent_stopped, want_made}
+use Rattle.mq_turns.proofs.parting.hardened.Goals as goal
+
+pub returns-in-Ok : goal.returns-in-Ok
+returns-in-Ok g c = agent_ran (harden c.args.channel.now c.args.note.now c.args.manager.now.plain) tt c.ran.result c.args.manager.now c.harden.new.self c.ran.new.manager c.in-Ok.ensures.meets c.ran.ensures.choice c.ran.ensures.delta c.ran.ensures.left
+
+pub returns-in-Err-NoMemory : goal.returns-in-Err-NoMemory
+returns-in-Err-NoMemory g c = want_made (harden c.args.channel.now c.args.note.now c.args.manager.now.plain) c.args.manager.now c.harden.new.self c.in-Err-NoMemory.ensures.meets
+
+pub returns-in-Err-Disk : goal.returns-in-Err-Disk
+returns-in-Err-Disk g c = agent_stopped (harden c.args.channel.now c.args.note.now c.args.manager.now.plain) stops.Disk c.stopped.result c.args.manager.now c.harden.new.self c.stopped.new.manager tt c.in-Err-Disk.ensures.meets c.stopped.ensures.choice c.stopped.ensures.delta c.stopped.ensures.left
+
+pub returns-in-Err-Cut : goal.returns-in-Err-Cut
+returns-in-Err-Cut g c = agent_stopped (harden c.args.channel.now c.args.note.now c.args.manager.now.plain) stops.Cut c.stopped.result c.args.manager.now c.harden.new.self c.stopped.new.manager tt c.in-Err-Cut.ensures.meets c.stopped.ensures.choice c.stopped.ensures.delta c.stopped.ensures.left
