@@ -224,6 +224,7 @@ begins s hs premises = record {
   not_yet = λ m c u e. absurd (true_false (sym e));
   risen = λ k n u e. first_last k n u e;
   owned = λ m c u e. absurd (true_false (sym e));
+  loose = λ m c u e. e;
   at = λ m h is. let a = first_at s hs premises m h is in record { told = a.told; fresh = a.fresh; number = a.number; timed = a.timed; state = a.state; noted = tt };
   counted = λ m h is. record {
     users = record { moment = (node_after s m [] h).manager.moment; connections = []; cut = None };

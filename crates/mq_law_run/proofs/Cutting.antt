@@ -154,6 +154,7 @@ cut_moves s hs p x z t i k d by_ left part r scenario at_k v mine noted =
       not_yet = λ o c u f. still_not s (opening_managers s hs) p x c u (none_committed c u m e.effect.delta quiet) (z.not_yet o c u ((λ w. sym j.1 w o c u) ∙ f));
       risen = λ h w. risen_still s (opening_managers s hs) p x h.channel (z.xs h.sender h.channel).receives.unit (z.xs h.sender h.channel).receives.unit quiet refl (z.risen h w);
       owned = λ o c u f. z.owned o c u ((λ w. sym j.1 w o c u) ∙ f);
+      loose = λ o c u f. (λ w. sym j.2 w o c u) ∙ f;
       at = became.at;
       known = became.known;
       others = λ o c ne h. others_told m o c l k1 ne became.other h;

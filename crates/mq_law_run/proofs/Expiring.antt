@@ -208,6 +208,7 @@ expiry_moves s hs p x z t i k d scenario e q actor call r is offered gone =
       not_yet = λ o v u f. still_not s (opening_managers s hs) p x v u (none_committed v u m x.entry.effect.delta quiet) (z.not_yet o v u (operated o v u f));
       risen = λ h w. risen_still s (opening_managers s hs) p x h.channel (z.xs h.sender h.channel).receives.unit (put_at z.xs k.sender k.channel c1 h.sender h.channel).receives.unit quiet (units_put z.xs k h c1 (ap (λ (r : ReceiverData). r.unit) (near_far (NearStep.Turn turn) c).receives)) (z.risen h w);
       owned = λ o v u f. z.owned o v u (operated o v u f);
+      loose = λ o v u f. (λ w. sym j.2 w o v u) ∙ f;
       at = record {
         told = follow.told;
         fresh = follow.fresh;

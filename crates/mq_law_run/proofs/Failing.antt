@@ -104,6 +104,7 @@ failing_moves s hs p x h stamp z noted starts more g is tells own down same none
       not_yet = λ a_ c u f. still_not s (opening_managers s hs) p x c u (none_committed c u m x.entry.effect.delta received) (z.not_yet a_ c u ((λ i. sym j.1 i a_ c u) ∙ f));
       risen = λ k w. risen_still s (opening_managers s hs) p x k.channel (z.xs k.sender k.channel).receives.unit (z.xs k.sender k.channel).receives.unit received refl (z.risen k w);
       owned = λ a_ c u f. z.owned a_ c u ((λ i. sym j.1 i a_ c u) ∙ f);
+      loose = λ a_ c u f. (λ i. sym j.2 i a_ c u) ∙ f;
       at = subst (λ (w : Node). IsAt (EndNote s (deeds p) z.xs m) m b.now w l) (sym same) b.at;
       known = b.known;
       others = λ c r ne o. o;

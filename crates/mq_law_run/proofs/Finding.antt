@@ -203,6 +203,7 @@ near_returns s hs wide p es x z t noted starts started st i k scenario peace spl
         | inl old ↦ z.owned d e u old
         | inr new ↦ (i, k, at_k, sym new.1, sym new.2)
       ];
+      loose = λ d e u f. r.turned.loose d e u f;
     })
   where
     resolved_here : (a : ℕ) (d : List ℕ) (u : Luw) → Mem (record { manager = k.sender; did = did.Hardened k.channel (notes.Resolved u true true) }) (deeds (p ++ x ∷ [])) → a ≡ k.sender → d ≡ k.channel
@@ -323,6 +324,7 @@ far_returns s hs p x z t noted starts started st i k scenario at_k q left note c
       not_yet = λ d e u f. still_not s (opening_managers s hs) p x e u (none_committed e u m x.entry.effect.delta quiet) (z.not_yet d e u (old d e u f));
       risen = λ h o. risen_still s (opening_managers s hs) p x h.channel (z.xs h.sender h.channel).receives.unit (xs h.sender h.channel).receives.unit quiet (units_put z.xs k h c1 note.unit) (z.risen h o);
       owned = λ d e u f. z.owned d e u (old d e u f);
+      loose = λ d e u f. (λ v. sym r.loose v d e u) ∙ f;
     })
   where
     near_part : (j : ℕ) (h : CableLine) → slice_get s.cables j ≡ Some h → h.sender ≡ x.manager

@@ -70,6 +70,7 @@ idle_moves s hs p x h stamp z is tells own same none quiet whole =
       not_yet = λ a c u f. still_not s (opening_managers s hs) p x c u (none_committed c u m x.entry.effect.delta received) (z.not_yet a c u f);
       risen = λ k w. risen_still s (opening_managers s hs) p x k.channel (z.xs k.sender k.channel).receives.unit (z.xs k.sender k.channel).receives.unit received refl (z.risen k w);
       owned = z.owned;
+      loose = λ a c u f. f;
       at = subst (λ (w : Node). IsAt (EndNote s (deeds p) z.xs m) m z.given w l) (sym same) (z.at m h is);
       known = λ i f. refl;
       others = λ a r ne o. o;

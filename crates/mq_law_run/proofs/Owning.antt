@@ -129,6 +129,7 @@ own_moves s hs p x z t is =
       not_yet = λ a_ c u f. still_not s (opening_managers s hs) p x c u (none_committed c u m e.effect.delta quiet) (z.not_yet a_ c u ((λ i. sym j.1 i a_ c u) ∙ f));
       risen = λ k w. risen_still s (opening_managers s hs) p x k.channel (z.xs k.sender k.channel).receives.unit (z.xs k.sender k.channel).receives.unit quiet refl (z.risen k w);
       owned = λ a_ c u f. z.owned a_ c u ((λ i. sym j.1 i a_ c u) ∙ f);
+      loose = λ a_ c u f. (λ i. sym j.2 i a_ c u) ∙ f;
       at = subst (λ (y : Ledger). IsAt (EndNote s (deeds p) z.xs m) m b.now next y) whole b.at;
       known = b.known;
       others = λ c r_ ne o. subst (IsTold c r_) whole (others_told m c r_ l k ne b.other o);

@@ -350,6 +350,7 @@ receiver_moves s hs whole p es x z t i k d g scenario none split e q from actor 
             | inr commit ↦ absurd (not_else h n_ u w does commit)
           ]) refl;
       owned = λ a b u f. z.owned a b u (operated_old zz (world_of s z.given ms) (book_of l1) c1 y took a b u f);
+      loose = λ a b u f. (λ v. sym took.loose v a b u) ∙ f;
       at = record {
         told = kept.told;
         fresh = kept.fresh;

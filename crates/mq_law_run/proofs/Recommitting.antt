@@ -277,6 +277,7 @@ commit_returns s hs wide p es x z t noted starts started st i k scenario peace s
           (subst (λ (d : Luw). Upto c.receives.unit d) (sym c1_unit) (upto_below c.receives.unit u placed.rises)) (ap (λ (d : List ℕ). is_committed s os (deeds (p ++ x ∷ [])) d v) (sym (here_yes k.sender ch h.sender h.channel yes).1) ∙ f) (only ch v))
           (λ e no_. risen_told s os p x h.channel (z.xs h.sender h.channel).receives.unit (z.risen h o) v (only h.channel v ∙ or_false (bytes_eq h.channel ch && same_unit v u) (ap (λ b_. b_ && same_unit v u) (else_name h o no_))) f) refl;
       owned = λ d e v f. z.owned d e v (old d e v f);
+      loose = λ d e v f. (λ o. sym r.loose o d e v) ∙ f;
     })
   where
     one_here : (h : CableLine) → Mem h s.cables → here k h ≡ true → h ≡ k

@@ -118,6 +118,7 @@ pub record IsRedone (s : Scenario) (hs : List History) (p : List Line) (x : Line
   pub not_yet : (a : ℕ) (c : List ℕ) (u : Luw) → ghost.operated a c u ≡ true → is_committed s (opening_managers s hs) (deeds (p ++ x ∷ [])) c u ≡ false
   pub risen : (c : CableLine) → Mem c s.cables → (u : Luw) → is_committed s (opening_managers s hs) (deeds (p ++ x ∷ [])) c.channel u ≡ true → Upto u (xs c.sender c.channel).receives.unit
   pub owned : (a : ℕ) (c : List ℕ) (u : Luw) → ghost.operated a c u ≡ true → (i : ℕ) × (k : CableLine) × (slice_get s.cables i ≡ Some k) × (k.sender ≡ a) × (k.channel ≡ c)
+  pub loose : (a : ℕ) (c : List ℕ) (u : Luw) → ghost.loose a c u ≡ true → z.ghost.loose a c u ≡ true
 
 -- AND THEN THE START: ends begin with what is hardened, with the machines that they had
 abbrev near_back : Bool → Sender → Channel → Channel
@@ -253,6 +254,7 @@ end_returns s hs p x z t noted starts started st given ghost xs ys g k1 kn scena
       risen = λ k w u f. subst (λ (o : Luw). Upto u o) (sym (ap (λ (o : Channel). o.receives.unit) (back_at s m k z.xs xs scenario w)
           ∙ ap (λ (o : ReceiverData). o.unit) (back_receives (k.receiver == m) (k.sender == m) (z.xs k.sender k.channel).sender (xs k.sender k.channel)))) (r1.risen k w u f);
       owned = λ c d u f. r1.owned c d u (operated c d u f);
+      loose = λ c d u f. r1.loose c d u ((λ i. sym j0.2 i c d u) ∙ (λ i. sym r.stands.loose i c d u) ∙ f);
       at = record {
         told = record {
           places = record r1.now.places { queues = ledgers.leave_queues (λ (row : Row). is_persistent row.message) r1.now.places.queues };

@@ -158,6 +158,7 @@ rise_moves s hs p x z t noted starts started scenario down call chance is =
       risen = λ k w. risen_still s (opening_managers s hs) p x k.channel (z.xs k.sender k.channel).receives.unit (zs k.sender k.channel).receives.unit (ap unit_received delta)
           (ap (λ (o : Channel). o.receives.unit) (resting receiver_rests s m k z.xs scenario w) ∙ ap (λ (r : ReceiverData). r.unit) (same_receives receiver_rests (k.receiver == m) (k.sender == m) (z.xs k.sender k.channel) (λ y. refl))) (z.risen k w);
       owned = λ c d u f. z.owned c d u (operated c d u f);
+      loose = λ c d u f. (λ i. sym j.2 i c d u) ∙ (λ i. sym r.stands.loose i c d u) ∙ f;
       at = record {
         told = r.told;
         fresh = r.fresh;

@@ -70,7 +70,10 @@ use Rattle.mq_law_rows.proofs.Lists.{eqb_self, here_self, true_false}
 use Rattle.mq_law_seen.specs.Seen.{book_of, world_of}
 use Rattle.mq_law_story.proofs.Weaving.{ledger_step}
 use Rattle.mq_law_turns.specs.Agreed.{IsToldOf}
-use Rattle.mq_law_turns.specs.Turns.{EachForOthers, EachPosted, EachSound, EachTurned, Scene, TurnedBy, is_expiry}
+use Rattle.mq_law_turns.specs.Turns.{EachForOthers, EachPosted, EachSound, EachTurned, IsAlone, Scene, TurnedBy, is_expiry}
+use Rattle.mq_law_keys.proofs.Telling.{end_mem}
+use Rattle.mq_law_unshared.proofs.Alone.{seized_alone}
+use Rattle.mq_spec_node.specs.Node.ChannelEnd.{Sends}
 use Rattle.mq_law_turns.proofs.Agreeing.{grows, sender_tells}
 use Rattle.mq_law_turns.proofs.Posting.{EachPassed, posts, receives_nothing, sender_passes}
 use Rattle.mq_law_turns.proofs.Reading.{senders_others, stays}
@@ -249,6 +252,7 @@ step_moves s hs p x z t i k d o step scenario e q v =
         | inl old ↦ z.owned a b u old
         | inr new ↦ (i, k, e, sym new.1, sym new.2)
       ];
+      loose = λ a b u f. v.turned.loose a b u f;
       at = beside_at s hs p x z t d l r refl v.beside;
       known = λ i_ f. refl;
       others = λ a b f h. h;
@@ -297,12 +301,14 @@ sender_moves s hs p x z t i k d scenario e q actor call r is offered plain =
     let ends : EachOfEnd (Some d) = subst EachOfEnd is (senders_of_end stamp (sender_of w c.sender) does_ n plain) in
     let reply : x.entry.reply ≡ replies.Changed = t.tells.reply ∙ ap (λ (o : Done). o.reply) r.is ∙ ends.1 in
     let delta : x.entry.effect.delta ≡ delta_of d.parts = t.tells.delta ∙ ap (λ (o : Done). o.delta) r.is in
+    let mine = (end_mem i n.own.ends (Sends (sender_of w c.sender)) sends.here).0 in
+    let alone : IsAlone zz n c = λ on. seized_alone k.channel n.manager ((z.unshared m t.h t.is r.up).open_ (sender_of w c.sender) mine on) (z.unshared m t.h t.is r.up).seized in
     let passed : EachPassed (Some d) = subst EachPassed is (sender_passes stamp (sender_of w c.sender) does_ n plain) in
     step_moves s hs p x z t i k d None (NearStep.Turn turn) scenario e q (record {
       run = r;
       may = may_turn w stamp seen n.manager c offered;
       turned = (subst (λ (o : Option Deed). EachTurned zz n.manager o (sender_turn turn c) (sender_past turn c y)) is
-          (sending.turns zz n c y stamp seen next.at sends facts (joint_of (world_of s z.given (managers_at s p hs)) z.ghost (book_of l) s.cables z.xs z.ys k there z.joint) offered plain)) (managers_at s (p ++ x ∷ []) hs) next;
+          (sending.turns zz n c y stamp seen next.at sends facts (joint_of (world_of s z.given (managers_at s p hs)) z.ghost (book_of l) s.cables z.xs z.ys k there z.joint) alone offered plain)) (managers_at s (p ++ x ∷ []) hs) next;
       sent = subst (λ (o : Option Deed). EachSent w n o c.out (sender_turn turn c)) is
           (turns_as w stamp seen n c sends (ap is_up r.up) (distinct_of (stored (queue_of_sender w.channel n.manager) n.manager).rows (r.before.facts.apart.once (queue_of_sender w.channel n.manager))));
       beside = parts_beside d.parts n.manager ends.0.0;

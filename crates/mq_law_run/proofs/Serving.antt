@@ -302,6 +302,7 @@ served_moves s hs p x z t i k d op step scenario e q call chance r v =
       not_yet = λ a b u f. still_not s (opening_managers s hs) p x b u (none_committed b u m x.entry.effect.delta (none_received x.entry.effect.delta silent)) (z.not_yet a b u (operated_old zz (world_of s z.given ms) (book_of l) c1 y took a b u f));
       risen = λ h w. risen_still s (opening_managers s hs) p x h.channel (z.xs h.sender h.channel).receives.unit (put_at z.xs k.sender k.channel c1 h.sender h.channel).receives.unit (none_received x.entry.effect.delta silent) (units_put z.xs k h c1 v.unit) (z.risen h w);
       owned = λ a b u f. z.owned a b u (operated_old zz (world_of s z.given ms) (book_of l) c1 y took a b u f);
+      loose = λ a b u f. (λ v. sym took.loose v a b u) ∙ f;
       at = beside_at s hs p x z t d l r refl (parts_beside d.parts n.manager v.ends);
       known = λ i_ f. refl;
       others = λ a b f h. h;

@@ -125,6 +125,7 @@ keeps_on s hs p x h stamp z scenario is tells own v = record {
   not_yet = v.not_yet;
   risen = v.risen;
   owned = v.owned;
+  loose = λ m c u e. z.loose m c u (v.loose m c u e);
   at = λ m k e. bool_case (m == x.manager) (λ t. (m == x.manager) ≡ t → IsAt (EndNote s (deeds (p ++ x ∷ [])) v.xs m) m v.given (node_after s m (p ++ x ∷ []) k) (ledger (opening_ledger s hs) (p ++ x ∷ [])))
       (λ q f. let y : m ≡ x.manager = eqb_yes m x.manager f in
       subst (λ (n : Node). IsAt (EndNote s (deeds (p ++ x ∷ [])) v.xs m) m v.given n (ledger (opening_ledger s hs) (p ++ x ∷ []))) (sym (here_node s p x k m y ∙ ap (λ (g : History). (done_by x.entry (node_after s x.manager p g)).next) (one_history hs x.manager m h k y is e)))

@@ -46,7 +46,7 @@ doubt_same a m p q ps qs c n k = bool_case (m == a) (λ t. (m == a) ≡ t → do
 
 pub leads_on : (s : Scenario) (given now : Ident → Bool) (a : ℕ) (p q : Plain) (ps qs : List Plain) (l k : Ledger) (g : Ghost) (ks : List CableLine) (xs : ℕ → List ℕ → Channel) (ys : ℕ → List ℕ → Past) → IsNext a p q ps qs → IsTold a p l
     → Leads a (side_of p given) (sheet_of a l) (side_of q now) (sheet_of a k) → IsSame p q → IsTold a q k → IsElse a l k → AreJoint (world_of s given ps) g (book_of l) ks xs ys
-    → (j : Joined (world_of s now qs) (book_of k) ks xs ys) × (j.ghost.operated ≡ g.operated)
+    → (j : Joined (world_of s now qs) (book_of k) ks xs ys) × (j.ghost.operated ≡ g.operated) × (j.ghost.loose ≡ g.loose)
 leads_on s given now a p q ps qs l k g ks xs ys n told leads same again other j =
     let o = moves_on s given now a p q ps qs l k g n told leads same again other j.inv in
     let near : IsNear p q = record { given = same.given; receivers = λ d. ap (λ rs. last_unit_of (receiver_in d rs)) same.receivers } in (
@@ -59,5 +59,6 @@ leads_on s given now a p q ps qs l k g ks xs ys n told leads same again other j 
           begun = λ c i. j.begun c i;
         };
       },
+      refl,
       refl,
     )

@@ -34,8 +34,8 @@ use Rattle.mq_spec_network.specs.Story.{Line, Mem}
 use Rattle.mq_law_channel.specs.Channel.{Channel, Facts, Past}
 use Rattle.mq_law_node.specs.Ends.{Where}
 use Rattle.mq_law_node.specs.Nodes.{FarNode, NearNode, SameFar, SameNear}
-use Rattle.mq_law_rows.specs.World.{Ghost}
-use Rattle.mq_law_seen.specs.Seen.{book_of, world_of}
+use Rattle.mq_law_rows.specs.World.{Ghost, is_last}
+use Rattle.mq_law_seen.specs.Seen.{book_of, holds_of, world_of}
 use Rattle.mq_law_events.specs.Tied.{IsTold}
 use Rattle.mq_law_unshared.specs.Unshared.{WhereUp}
 use Rattle.mq_law_turns.specs.Agreed.{IsToldOf}
@@ -70,6 +70,10 @@ pub record AreOffered (p : List Line) (i : ℕ) (k : CableLine) (x : Channel) : 
   pub out : (o : Entry) (f : Frame) → Mem (record { manager = k.sender; entry = o }) p → o.actor ≡ actors.Sender i → o.effect.pushed ≡ Some f → Mem f x.out
   pub back : (o : Entry) (f : Frame) → Mem (record { manager = k.receiver; entry = o }) p → o.actor ≡ actors.Receiver i → o.effect.pushed ≡ Some f → Mem f x.back
 
+-- A unit that its sender's log had in doubt at the opening. Of all others it is known that they were taken from the front of their queue.
+abbrev pub WasInDoubt : Scenario → List History → ℕ → List ℕ → Luw → Type 0
+WasInDoubt s hs m c u = is_last (holds_of c (slice_get (opening_managers s hs) m)) u ≡ true
+
 -- What is kept along a run: the network's facts and all channels'; what each manager has, and what is told of it.
 pub record Stand (s : Scenario) (hs : List History) (p : List Line) : Type 0 where
   pub given : Ident → Bool
@@ -84,6 +88,7 @@ pub record Stand (s : Scenario) (hs : List History) (p : List Line) : Type 0 whe
   pub not_yet : (m : ℕ) (c : List ℕ) (u : Luw) → ghost.operated m c u ≡ true → is_committed s (opening_managers s hs) (deeds p) c u ≡ false
   pub risen : (k : CableLine) → Mem k s.cables → (u : Luw) → is_committed s (opening_managers s hs) (deeds p) k.channel u ≡ true → Upto u (xs k.sender k.channel).receives.unit
   pub owned : (m : ℕ) (c : List ℕ) (u : Luw) → ghost.operated m c u ≡ true → (i : ℕ) × (k : CableLine) × (slice_get s.cables i ≡ Some k) × (k.sender ≡ m) × (k.channel ≡ c)
+  pub loose : (m : ℕ) (c : List ℕ) (u : Luw) → ghost.loose m c u ≡ true → WasInDoubt s hs m c u
   pub at : (m : ℕ) (h : History) → slice_get hs m ≡ Some h → IsAt (EndNote s (deeds p) xs m) m given (node_after s m p h) (ledger (opening_ledger s hs) p)
   pub counted : (m : ℕ) (h : History) → slice_get hs m ≡ Some h → AreCountedAt (node_after s m p h).manager.numbers.connections m (ledger (opening_ledger s hs) p)
   pub cabled : (m : ℕ) (h : History) → slice_get hs m ≡ Some h → AreCabled s.cables m (node_after s m p h).manager
@@ -112,6 +117,7 @@ pub record MovesTo (s : Scenario) (hs : List History) (p : List Line) (x : Line)
   pub not_yet : (m : ℕ) (c : List ℕ) (u : Luw) → ghost.operated m c u ≡ true → is_committed s (opening_managers s hs) (deeds (p ++ x ∷ [])) c u ≡ false
   pub risen : (k : CableLine) → Mem k s.cables → (u : Luw) → is_committed s (opening_managers s hs) (deeds (p ++ x ∷ [])) k.channel u ≡ true → Upto u (xs k.sender k.channel).receives.unit
   pub owned : (m : ℕ) (c : List ℕ) (u : Luw) → ghost.operated m c u ≡ true → (i : ℕ) × (k : CableLine) × (slice_get s.cables i ≡ Some k) × (k.sender ≡ m) × (k.channel ≡ c)
+  pub loose : (m : ℕ) (c : List ℕ) (u : Luw) → ghost.loose m c u ≡ true → z.ghost.loose m c u ≡ true
   pub at : IsAt (EndNote s (deeds p) xs x.manager) x.manager given d.next l
   pub known : (i : Ident) → (i.manager == (node_after s x.manager p h).manager.given.number) ≡ false → given i ≡ z.given i
   pub others : (a : ℕ) (r : Plain) → (a == x.manager) ≡ false → IsTold a r (ledger (opening_ledger s hs) p) → IsTold a r l

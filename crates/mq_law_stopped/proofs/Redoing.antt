@@ -126,7 +126,7 @@ prepared z n x k y b last rs a s is far h =
       sent = λ o e v f. refl;
       operated = λ o e v f. refl;
       own = λ v e. inl e;
-      loose = λ o e v f. inl f;
+      loose = λ o e v f. f;
     })
 
 -- A UNIT THAT IS SETTLED BY ITS RECEIVER'S WORD

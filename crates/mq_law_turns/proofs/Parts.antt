@@ -30,7 +30,7 @@ use Rattle.mq_law_events.proofs.Telling.{else_changed, here_changed}
 use Rattle.mq_law_batches.proofs.Releasing.{IsNear, lasts}
 use Rattle.mq_law_batches.proofs.Wording.{Stays, stays}
 use Rattle.mq_law_story.specs.Needs.{letter_tag}
-use Rattle.mq_law_turns.specs.Turns.{AreBegun, IsJoint, Scene, Turned, TurnedBy, world_in, is_mixed}
+use Rattle.mq_law_turns.specs.Turns.{AreBegun, IsJoint, Scene, Turned, TurnedBy, world_in}
 
 -- What is left as it was
 
@@ -114,7 +114,7 @@ same_turned z x k y l j far holds doubt forced content rises = record {
   sent = λ a d u e. refl;
   operated = λ a d u e. refl;
   own = λ u e. inl e;
-  loose = λ a d u e. inl e;
+  loose = λ a d u e. e;
   holds = λ a d e. refl;
   doubt = λ a d e. refl;
   last = λ a d. refl;
@@ -134,7 +134,7 @@ pub record IsLeft (o : Option Luw) (z : Scene) (q : Plain) (g : Ghost) (x k : Ch
   pub sent : (a : ℕ) (d : List ℕ) (u : Luw) → is_here z.sender z.place.channel a d ≡ false → g.sent a d u ≡ z.ghost.sent a d u
   pub operated : (a : ℕ) (d : List ℕ) (u : Luw) → is_here z.sender z.place.channel a d ≡ false → g.operated a d u ≡ z.ghost.operated a d u
   pub own : (u : Luw) → g.operated z.sender z.place.channel u ≡ true → (z.ghost.operated z.sender z.place.channel u ≡ true) ⊎ (o ≡ Some u)
-  pub loose : (a : ℕ) (d : List ℕ) (u : Luw) → g.loose a d u ≡ true → (z.ghost.loose a d u ≡ true) ⊎ (is_mixed z.place.channel (slice_get z.managers z.sender) ≡ true)
+  pub loose : (a : ℕ) (d : List ℕ) (u : Luw) → g.loose a d u ≡ true → z.ghost.loose a d u ≡ true
 
 pub changed : {o : Option Luw} (z : Scene) (p q : Plain) (qs : List Plain) (g : Ghost) (x k : Channel) (y l : Past) → IsJoint (world_in z) z.ghost z.book z.sender z.receiver z.place.channel x y → IsNext z.sender p q z.managers qs → IsOnly z.place.channel p q
     → Inv (world_of z.scenario z.given qs) g z.book → IsLeft o z q g x k l → TurnedBy o z (world_of z.scenario z.given qs) k l

@@ -29,7 +29,7 @@ use Rattle.mq_sender.specs.Table.{is_ack, is_binding, is_err, is_idle, is_sendin
 use Rattle.mq_calls.specs.declared.agents.Note.TheVariants as notes
 use Rattle.mq_calls.specs.declared.state.Batch.{Batch}
 use Rattle.mq_spec_state.specs.State.{Plain}
-use Rattle.mq_spec_state.specs.Reads.{batch_of, free_rows, has_held, has_held_by_other, in_doubt_of, is_by_other, is_full, sender_data, stored}
+use Rattle.mq_spec_state.specs.Reads.{batch_of, free_rows, has_held, in_doubt_of, is_by_other, is_full, sender_data, stored}
 use Rattle.mq_spec_state.specs.Sizes.{need}
 use Rattle.mq_spec_state.specs.Changes.{apply_all}
 use Rattle.mq_spec_state.specs.Steps.{do_all, do_part}
@@ -71,7 +71,7 @@ use Rattle.mq_law_node.proofs.SenderTable.{may_turn, prepared_by}
 use Rattle.mq_law_node.proofs.SenderTurns.{binding_apart, guarded, idle_apart, waiting_apart}
 use Rattle.mq_law_story.specs.Needs.{letter_tag}
 use Rattle.mq_law_story.proofs.Tying.{next_tied, unprepared_tied}
-use Rattle.mq_law_turns.specs.Turns.{EachTurned, IsAt, IsJoint, Scene, Turned, is_expiry, is_mixed, world_in}
+use Rattle.mq_law_turns.specs.Turns.{EachTurned, IsAlone, IsAt, IsJoint, Scene, Turned, is_expiry, world_in}
 use Rattle.mq_law_turns.proofs.Parts.{IsLeft, IsOnly, changed, doubt_held, here_holds, leaving_stays, next_mid, next_to, no_doubt_held, not_doubted, part_stays, same_turned, stays_none, stays_then, turned_on, world_behind}
 
 -- no part at all
@@ -206,8 +206,7 @@ none_held c (x ∷ xs) e no_ =
       | inr z ↦ absurd (no_ x (inl refl) z)
     ]) refl e
 
-pub clear_queue : (z : Scene) (n : Node) (x : Channel) (y : Past) → IsAt z n x y → is_idle x.sender.state ≡ true
-    → has_held_by_other z.place.channel (queue_of_sender z.place.channel n.manager) n.manager ≡ false → is_mixed z.place.channel (slice_get z.managers z.sender) ≡ false
+clear_queue : (z : Scene) (n : Node) (x : Channel) (y : Past) → IsAt z n x y → is_idle x.sender.state ≡ true → IsAlone z n x → has_held (queue_of_sender z.place.channel n.manager) n.manager ≡ false
 clear_queue z n x y a idle alone =
     let p : Plain = n.manager in
     let c : List ℕ = z.place.channel in
@@ -217,7 +216,7 @@ clear_queue z n x y a idle alone =
     let none : (world_in z).holds z.sender c ≡ None = (a.joint.tied.held plain).0 ∙ fits.0 in
     let apart : (row : Row) → Mem row (stored q p).rows → row.by ≡ Some (holders.Batch c) → ⊥ = λ row h by_.
     (a.joint.inv.batch z.sender q row c (subst (λ (o : Option Plain). Mem row (rows_of q o)) (sym a.at) h) by_).1 none in
-    ap (is_mixed c) a.at ∙ none_held c (stored q p).rows alone apart
+    none_held c (stored q p).rows (alone (ap is_running (idle_is x.sender.state idle))) apart
 
 sent_self : (g : Ghost) (m : ℕ) (q c : List ℕ) (u : Luw) (ts : List Tag) (front : Bool) → (ghost_take g m q c u ts front).sent m c u ≡ ts
 sent_self g m q c u ts front = (λ i. if here_self m c i && unit_self u i then ts else g.sent m c u)
@@ -238,10 +237,10 @@ unit_or u None = u
 unit_or u (Some v) = v
 
 -- rows are held as the next unit, which has these messages
-begun_turned : (z : Scene) (n : Node) (x k : Channel) (y : Past) (u : Luw) (count : ℕ) (rs : List Plain) → IsAt z n x y → is_idle x.sender.state ≡ true → k.receives ≡ x.receives → u ≡ unit_named y.near.session (y.near.begun + 1)
+begun_turned : (z : Scene) (n : Node) (x k : Channel) (y : Past) (u : Luw) (count : ℕ) (rs : List Plain) → IsAt z n x y → is_idle x.sender.state ≡ true → IsAlone z n x → k.receives ≡ x.receives → u ≡ unit_named y.near.session (y.near.begun + 1)
     → IsNext z.sender n.manager (apply_all (held_changes z.place.channel u (queue_of_sender z.place.channel n.manager) (idents_of (take count (free_rows (queue_of_sender z.place.channel n.manager) n.manager)))) n.manager) z.managers rs
     → Turned z (world_of z.scenario z.given rs) k (begun_unit y (letters_of (take count (free_rows (queue_of_sender z.place.channel n.manager) n.manager))))
-begun_turned z n x k y u count rs a idle far is h =
+begun_turned z n x k y u count rs a idle alone far is h =
     let p : Plain = n.manager in
     let c : List ℕ = z.place.channel in
     let q : List ℕ = queue_of_sender c p in
@@ -280,20 +279,20 @@ begun_turned z n x k y u count rs a idle far is h =
       sent = λ o d v e. sent_else z.ghost z.sender q c u ts front o d v e;
       operated = λ o d v e. refl;
       own = λ v e. inl e;
-      loose = λ o d v e. bool_case (unit_at z.sender c u o d v) (λ t. (if t then not front else z.ghost.loose o d v) ≡ true → (z.ghost.loose o d v ≡ true) ⊎ (is_mixed c (slice_get z.managers z.sender) ≡ true))
-          (λ t f. inr (ap (is_mixed c) a.at ∙ twice (has_held q p) f)) (λ t f. inl f) e;
+      loose = λ o d v e. bool_case (unit_at z.sender c u o d v) (λ t. (if t then not front else z.ghost.loose o d v) ≡ true → z.ghost.loose o d v ≡ true)
+          (λ t f. absurd (true_false (sym (twice (has_held q p) f) ∙ clear_queue z n x y a idle alone))) (λ t f. f) e;
     })
 
-begins : (z : Scene) (n : Node) (x : Channel) (y : Past) (stamp : ℕ) (seen : Seen) (k count : ℕ) → IsAt z n x y → Guard x.sender (stock z.place.channel n.manager) (does.Begin k count)
+begins : (z : Scene) (n : Node) (x : Channel) (y : Past) (stamp : ℕ) (seen : Seen) (k count : ℕ) → IsAt z n x y → IsAlone z n x → Guard x.sender (stock z.place.channel n.manager) (does.Begin k count)
     → EachTurned z n.manager (sender_deed_by stamp (sender_of z.place x.sender) (does.Begin k count) n) (sender_done (does.Begin k count) (turn_of z.place stamp seen x.sender n.manager) x)
     (begun_unit y (batch_letters z.place x.sender n.manager))
-begins z n x y stamp seen k count a g rs h =
+begins z n x y stamp seen k count a alone g rs h =
     let c : List ℕ = z.place.channel in
     let q : List ℕ = queue_of_sender c n.manager in
     let fits = fits_at x y _ a.facts.tied (idle_is x.sender.state g.0) in
     let session : x.sender.kept.session ≡ y.near.session = sym (kept_session x y a.facts.tied (ap is_running (idle_is x.sender.state g.0))) in
     let u : unit_named x.sender.kept.session k ≡ unit_named y.near.session (y.near.begun + 1) = (λ i. unit_named (session i) ((g.1 ∙ ap (λ j. j + 1) fits.2) i)) in
-    let t = begun_turned z n x (sender_done (does.Begin k count) (turn_of z.place stamp seen x.sender n.manager) x) y (unit_named x.sender.kept.session k) count rs a g.0 refl u h in
+    let t = begun_turned z n x (sender_done (does.Begin k count) (turn_of z.place stamp seen x.sender n.manager) x) y (unit_named x.sender.kept.session k) count rs a g.0 alone refl u h in
     subst (λ (j : ℕ). Turned z (world_of z.scenario z.given rs) (sender_done (does.Begin k count) (turn_of z.place stamp seen x.sender n.manager) x) (begun_unit y (letters_of (take j (free_rows q n.manager))))) g.2 t
 
 -- PREPARE
@@ -343,7 +342,7 @@ prepared_turned z n x k y b last rs a s is far h =
       sent = λ o e v f. refl;
       operated = λ o e v f. refl;
       own = λ v e. inl e;
-      loose = λ o e v f. inl f;
+      loose = λ o e v f. f;
     })
 
 pub released_turned : (z : Scene) (n : Node) (x k : Channel) (y : Past) (b : Batch) (rs : List Plain) → IsAt z n x y → IsSending z n x y b → batch_of z.place.channel n.manager.channels.batches ≡ Some b → k.receives ≡ x.receives
@@ -369,7 +368,7 @@ released_turned z n x k y b rs a s is far h =
       sent = λ o e v f. refl;
       operated = λ o e v f. refl;
       own = λ v e. inl e;
-      loose = λ o e v f. inl f;
+      loose = λ o e v f. f;
     })
   where
     batch_or : Batch → Option Batch → Batch
@@ -434,7 +433,7 @@ settled_left z n commit x k y g a free far ops loose sent =
       sent = λ o e v f i. sent i o e v;
       operated = λ o e v f i. ops i o e v;
       own = λ v e. inl (sym (λ i. ops i z.sender c v) ∙ e);
-      loose = λ o e v f. inl (sym (λ i. loose i o e v) ∙ f);
+      loose = λ o e v f. sym (λ i. loose i o e v) ∙ f;
     }
 
 pub settled_only : (commit : Bool) (c : List ℕ) (p : Plain) → batch_of c p.channels.batches ≡ None → IsOnly c p (apply_all (settled_changes commit c (sender_or (sender_data c p))) p)
@@ -533,7 +532,7 @@ status_none z n x k y st rs a binds none far h =
       sent = λ o d v f. refl;
       operated = λ o d v f. refl;
       own = λ v e. inl e;
-      loose = λ o e v f. inl f;
+      loose = λ o e v f. f;
     }))
 
 -- what the table says where a unit is settled
@@ -566,30 +565,30 @@ binds z n x y stamp seen (Some settles.Backout) partner a g s rs h =
     backs z n x _ y (doubted x.sender.kept.doubt) _ rs a (is_doubted z n x y q.0 a (ap is_running (binding_is x.sender.state g.0)) q.1) (a.sends.unbatched (binding_apart x.sender.state g.0)) s.2 refl h
 
 -- THE TABLE
-turned_by : (z : Scene) (n : Node) (x : Channel) (y : Past) (stamp : ℕ) (seen : Seen) (d : SenderDoes) → IsAt z n x y → SeenIn seen x.back → Guard x.sender (stock z.place.channel n.manager) d → Settling x.sender seen d → Said d (turn_of z.place stamp seen x.sender n.manager) x y
+turned_by : (z : Scene) (n : Node) (x : Channel) (y : Past) (stamp : ℕ) (seen : Seen) (d : SenderDoes) → IsAt z n x y → IsAlone z n x → SeenIn seen x.back → Guard x.sender (stock z.place.channel n.manager) d → Settling x.sender seen d → Said d (turn_of z.place stamp seen x.sender n.manager) x y
     → is_expiry d ≡ false → EachTurned z n.manager (sender_deed_by stamp (sender_of z.place x.sender) d n) (sender_turned (out_of d z.place x.sender n.manager) d (turn_of z.place stamp seen x.sender n.manager) x)
     (past_turned (out_of d z.place x.sender n.manager) d (turn_of z.place stamp seen x.sender n.manager) y)
-turned_by z n x y stamp seen does.Still a o g k s e = tt
-turned_by z n x y stamp seen does.Ignore a o g k s e = λ rs h. quiet z n x _ y rs a refl h
-turned_by z n x y stamp seen (does.HardenSession session) a o g k s e = hardens z n x y stamp seen session a
-turned_by z n x y stamp seen does.PushBind a o g k s e = λ rs h. quiet z n x _ y rs a refl h
-turned_by z n x y stamp seen does.Expire a o g k s e = absurd (true_false e)
-turned_by z n x y stamp seen (does.Begin i count) a o g k s e = begins z n x y stamp seen i count a g
-turned_by z n x y stamp seen (does.PushMsg index) a o g k s e = λ rs h. quiet z n x _ y rs a refl h
-turned_by z n x y stamp seen does.Prepare a o g k s e = prepares z n x y stamp seen a g
-turned_by z n x y stamp seen does.PushEnd a o g k s e = λ rs h. quiet z n x _ y rs a refl h
-turned_by z n x y stamp seen (does.Bound settle partner) a o g k s e = binds z n x y stamp seen settle partner a k s
-turned_by z n x y stamp seen does.Commit a o g k s e = λ rs h.
+turned_by z n x y stamp seen does.Still a alone o g k s e = tt
+turned_by z n x y stamp seen does.Ignore a alone o g k s e = λ rs h. quiet z n x _ y rs a refl h
+turned_by z n x y stamp seen (does.HardenSession session) a alone o g k s e = hardens z n x y stamp seen session a
+turned_by z n x y stamp seen does.PushBind a alone o g k s e = λ rs h. quiet z n x _ y rs a refl h
+turned_by z n x y stamp seen does.Expire a alone o g k s e = absurd (true_false e)
+turned_by z n x y stamp seen (does.Begin i count) a alone o g k s e = begins z n x y stamp seen i count a alone g
+turned_by z n x y stamp seen (does.PushMsg index) a alone o g k s e = λ rs h. quiet z n x _ y rs a refl h
+turned_by z n x y stamp seen does.Prepare a alone o g k s e = prepares z n x y stamp seen a g
+turned_by z n x y stamp seen does.PushEnd a alone o g k s e = λ rs h. quiet z n x _ y rs a refl h
+turned_by z n x y stamp seen (does.Bound settle partner) a alone o g k s e = binds z n x y stamp seen settle partner a k s
+turned_by z n x y stamp seen does.Commit a alone o g k s e = λ rs h.
     let q = ack_told x.sender.kept.doubt seen x.back k.1 o in
     commits z n x _ y (doubted x.sender.kept.doubt) (sender_after x.sender does.Commit outs.Done).state rs a (is_doubted z n x y q.doubt a (ap is_running (waiting_is x.sender.state k.0)) q.is) (a.sends.unbatched (waiting_apart x.sender.state k.0)) s refl h
-turned_by z n x y stamp seen (does.Backout reason) a o g k s e = λ rs h.
+turned_by z n x y stamp seen (does.Backout reason) a alone o g k s e = λ rs h.
     let q = err_told x.sender.kept.doubt seen x.back k.1 o in
     backs z n x _ y (doubted x.sender.kept.doubt) (sender_after x.sender (does.Backout reason) outs.Done).state rs a (is_doubted z n x y q.doubt a (ap is_running (waiting_is x.sender.state k.0)) q.is) (a.sends.unbatched (waiting_apart x.sender.state k.0)) s refl h
 
-pub turns : (z : Scene) (n : Node) (x : Channel) (y : Past) (stamp : ℕ) (seen : Seen) → slice_get z.managers z.sender ≡ Some n.manager → SendsAs z.place n x → Facts x y → IsJoint (world_in z) z.ghost z.book z.sender z.receiver z.place.channel x y → SeenIn seen x.back
+pub turns : (z : Scene) (n : Node) (x : Channel) (y : Past) (stamp : ℕ) (seen : Seen) → slice_get z.managers z.sender ≡ Some n.manager → SendsAs z.place n x → Facts x y → IsJoint (world_in z) z.ghost z.book z.sender z.receiver z.place.channel x y → IsAlone z n x → SeenIn seen x.back
     → is_expiry (sender_next x.sender seen (stock z.place.channel n.manager)) ≡ false
     → EachTurned z n.manager (sender_deed stamp (sender_of z.place x.sender) seen n) (sender_turn (turn_of z.place stamp seen x.sender n.manager) x) (sender_past (turn_of z.place stamp seen x.sender n.manager) x y)
-turns z n x y stamp seen at sends facts joint offered e =
+turns z n x y stamp seen at sends facts joint alone offered e =
     let t : SenderTurn = turn_of z.place stamp seen x.sender n.manager in
-    turned_by z n x y stamp seen (sender_next x.sender seen (stock z.place.channel n.manager)) (record { at = at; sends = sends; facts = facts; joint = joint }) offered (guarded x.sender seen (stock z.place.channel n.manager))
+    turned_by z n x y stamp seen (sender_next x.sender seen (stock z.place.channel n.manager)) (record { at = at; sends = sends; facts = facts; joint = joint }) alone offered (guarded x.sender seen (stock z.place.channel n.manager))
     (settles_so x.sender seen (stock z.place.channel n.manager)) (said t x y facts (may_turn z.place stamp seen n.manager x offered)) e

@@ -11,7 +11,8 @@ use Rattle.mq_sender.specs.declared.turns.SenderDoes.TheVariants as does
 use Rattle.mq_history.specs.declared.scenario.Scenario.{Scenario}
 use Rattle.mq_spec_state.specs.State.{Change, Plain}
 use Rattle.mq_spec_state.specs.Steps.{Part, do_all, do_part}
-use Rattle.mq_spec_state.specs.Reads.{has_held}
+use Rattle.mq_spec_state.specs.Reads.{has_held_by_other}
+use Rattle.mq_sender.specs.States.{is_running}
 use Rattle.mq_spec_agents.specs.Words.{Landed, queue_of_sender, received_part}
 use Rattle.mq_spec_node.specs.Deeds.{Deed}
 use Rattle.mq_spec_node.specs.Node.{Node}
@@ -77,10 +78,9 @@ pub record IsAtFar (z : Scene) (n : Node) (x : Channel) (y : Past) (l : Ledger) 
   pub joint : IsJoint (world_in z) z.ghost z.book z.sender z.receiver z.place.channel x y
   pub book : z.book ≡ book_of l
 
--- a row of the queue that the channel has seized is held: a batch that is taken there may not be the front of its queue
-abbrev pub is_mixed : List ℕ → Option Plain → Bool
-is_mixed channel None = false
-is_mixed channel (Some p) = has_held (queue_of_sender channel p) p
+-- Where the sender runs, no unit and no other batch holds a row of the queue that it has open: so what an idle one takes there is the front.
+abbrev pub IsAlone : Scene → Node → Channel → Type 0
+IsAlone z n x = is_running x.sender.state ≡ true → has_held_by_other z.place.channel (queue_of_sender z.place.channel n.manager) n.manager ≡ false
 
 -- So it is again; and what any other channel is tied to stays as it was. An operator may have committed a unit with it.
 pub record TurnedBy (o : Option Luw) (z : Scene) (v : World) (x : Channel) (y : Past) : Type 0 where
@@ -89,7 +89,7 @@ pub record TurnedBy (o : Option Luw) (z : Scene) (v : World) (x : Channel) (y : 
   pub sent : (a : ℕ) (d : List ℕ) (u : Luw) → is_here z.sender z.place.channel a d ≡ false → ghost.sent a d u ≡ z.ghost.sent a d u
   pub operated : (a : ℕ) (d : List ℕ) (u : Luw) → is_here z.sender z.place.channel a d ≡ false → ghost.operated a d u ≡ z.ghost.operated a d u
   pub own : (u : Luw) → ghost.operated z.sender z.place.channel u ≡ true → (z.ghost.operated z.sender z.place.channel u ≡ true) ⊎ (o ≡ Some u)
-  pub loose : (a : ℕ) (d : List ℕ) (u : Luw) → ghost.loose a d u ≡ true → (z.ghost.loose a d u ≡ true) ⊎ (is_mixed z.place.channel (slice_get z.managers z.sender) ≡ true)
+  pub loose : (a : ℕ) (d : List ℕ) (u : Luw) → ghost.loose a d u ≡ true → z.ghost.loose a d u ≡ true
   pub holds : (a : ℕ) (d : List ℕ) → is_here z.sender z.place.channel a d ≡ false → v.holds a d ≡ (world_in z).holds a d
   pub doubt : (a : ℕ) (d : List ℕ) → is_here z.sender z.place.channel a d ≡ false → v.doubt a d ≡ (world_in z).doubt a d
   pub last : (a : ℕ) (d : List ℕ) → v.last a d ≡ (world_in z).last a d

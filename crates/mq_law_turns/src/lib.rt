@@ -61,13 +61,13 @@ ghost use Rattle.mq_spec_network.specs.Standing.{last_unit_of, opening_managers}
 ghost use Rattle.mq_spec_network.specs.Story.{Line, Mem};
 ghost use Rattle.mq_law_channel.specs.Turns.{ReceiverTurn, SenderTurn};
 ghost use Rattle.mq_law_turns.specs.Agreed.{IsToldOf, TellsCommit};
-ghost use Rattle.mq_law_turns.specs.Turns.{EachFollowed, EachForOthers, EachPosted, EachSound, EachTaken, EachTurned, Found, IsAt, IsAtFar, IsAtRest, IsHome, IsJoint, IsReady, Scene, Taken, Turned, TurnedBy, is_expiry, parts_for_others, world_in};
+ghost use Rattle.mq_law_turns.specs.Turns.{EachFollowed, EachForOthers, EachPosted, EachSound, EachTaken, EachTurned, Found, IsAlone, IsAt, IsAtFar, IsAtRest, IsHome, IsJoint, IsReady, Scene, Taken, Turned, TurnedBy, is_expiry, parts_for_others, world_in};
 
 /// Each turn of a sender's end, but for one that removes expired rows, asks its manager for such changes as keep the facts of the whole
 /// network: and the channel after it is of one mind with the network again.
 pub fn a_senders_turn_keeps_the_facts()
     ensures { (z : Scene) (n : Node) (x : Channel) (y : Past) (stamp : ℕ) (seen : Seen) → slice_get z.managers z.sender ≡ Some n.manager → SendsAs z.place n x → Facts x y
-        → IsJoint (world_in z) z.ghost z.book z.sender z.receiver z.place.channel x y → SeenIn seen x.back → is_expiry (sender_next x.sender seen (stock z.place.channel n.manager)) ≡ false
+        → IsJoint (world_in z) z.ghost z.book z.sender z.receiver z.place.channel x y → IsAlone z n x → SeenIn seen x.back → is_expiry (sender_next x.sender seen (stock z.place.channel n.manager)) ≡ false
         → EachTurned z n.manager (sender_deed stamp (sender_of z.place x.sender) seen n) (sender_turn (turn_of z.place stamp seen x.sender n.manager) x) (sender_past (turn_of z.place stamp seen x.sender n.manager) x y) }
 {}
 

@@ -5,3 +5,4 @@ pub mod StillCalls
 pub mod StillDeeds
 pub mod Opening
 pub mod Events
+pub mod Alone

@@ -1,7 +1,7 @@
 //! Whatever happens at a node leaves the queues that its running senders have open theirs alone.
 #![tactic(auto)]
 
-ghost use Rattle.std.specs.Prelude.{ℕ, List, Some, ◌≡◌};
+ghost use Rattle.std.specs.Prelude.{ℕ, List, Some, false, ◌≡◌};
 ghost use Rattle.mq_frame.specs.declared.frame.Seen.{Seen};
 ghost use Rattle.mq_sc_parse.specs.declared.command.Op.{Op};
 ghost use Rattle.mq_history.specs.declared.calls.Actor.{Actor};
@@ -9,9 +9,10 @@ ghost use Rattle.mq_history.specs.declared.calls.Call.{Call};
 ghost use Rattle.mq_history.specs.declared.calls.Chance.{Chance};
 ghost use Rattle.mq_history.specs.declared.history.History.{History};
 ghost use Rattle.mq_spec_state.specs.State.{Plain};
+ghost use Rattle.mq_spec_state.specs.Reads.{has_held_by_other};
 ghost use Rattle.mq_spec_state.specs.State.Running.{Up};
 ghost use Rattle.mq_spec_state.specs.Steps.{Part, do_all};
-ghost use Rattle.mq_spec_agents.specs.Words.{HasSeized};
+ghost use Rattle.mq_spec_agents.specs.Words.{HasSeized, queue_of_sender};
 ghost use Rattle.mq_spec_node.specs.Node.{Node, ReceiverEnd, SenderEnd};
 ghost use Rattle.mq_spec_node.specs.Happens.{IsEvent, deed_of, event};
 ghost use Rattle.mq_spec_node.specs.Operators.{operate};
@@ -42,6 +43,7 @@ pub fn ends_leave_seized_queues()
 /// So each sender that runs has seized its queue, and has it alone: from the beginning of each history, and behind each event, at a manager that is up.
 pub fn senders_that_run_have_seized_their_queues()
     ensures begins { (s : Surroundings) (h : History) → IsUnshared (opening_node s h) }
+    ensures alone { (c : List ℕ) (p : Plain) → HasSeized c p → AreSeized p → has_held_by_other c (queue_of_sender c p) p ≡ false }
     ensures events { (stamp : ℕ) (actor : Actor) (call : Call) (chance : Chance) (seen : Seen) (n : Node) → WhereUp n → IsKeyed n → (n.manager.running ≡ Up → IsSound n.manager) → IsEvent stamp actor call chance seen n → IsOwn chance
         → WhereUp (event stamp actor call chance seen n).next }
 {}
