@@ -49,10 +49,10 @@ any_at p x (z ∷ zs) (inl s) e = or_left (p z) (list_any p zs) (ap p (sym s) �
 any_at p x (z ∷ zs) (inr n) e = or_right (p z) (list_any p zs) (any_at p x zs n e)
 
 -- what stands in the promise's queue is of no other unit that an operator has committed
-not_others : (w : World) (g : Ghost) (b : Book) (m : ℕ) (c : List ℕ) (u : Luw) (fs : List order.Forced) → Inv w g b → AreListed g fs → IsOnly g m c → (x : Row) → not (order.is_forced (others c u fs) x.message.ident) ≡ true → IsOthers g m c u x → ⊥
-not_others w g b m c u fs h listed only x free o = go (g.owner x.message.ident) refl o.0
+not_others : (w : World) (g : Ghost) (b : Book) (m : ℕ) (c : List ℕ) (u : Luw) (fs : List order.Forced) → Inv w g b → AreListed g b.rows fs → IsOnly g m c → (e : ℕ) (q : List ℕ) (x : Row) → Mem x (b.rows e q) → not (order.is_forced (others c u fs) x.message.ident) ≡ true → IsOthers g m c u x → ⊥
+not_others w g b m c u fs h listed only at queue x stands free o = go (g.owner x.message.ident) refl o.0
   where
-    apart : (a : ℕ) (d : List ℕ) (v : Luw) → g.owner x.message.ident ≡ Forced a d v → IsListed g fs a d v → g.operated a d v ≡ true → Mem x.message.ident (tag_idents (g.sent a d v)) → ⊥
+    apart : (a : ℕ) (d : List ℕ) (v : Luw) → g.owner x.message.ident ≡ Forced a d v → IsListed g b.rows fs a d v → g.operated a d v ≡ true → Mem x.message.ident (tag_idents (g.sent a d v)) → ⊥
     apart a d v e l on there = bool_case (bytes_eq c l.entry.channel && same_unit u l.entry.unit) (λ t. (bytes_eq c l.entry.channel && same_unit u l.entry.unit) ≡ t → ⊥)
         (λ t yes.
         let name : d ≡ c = sym l.channel ∙ sym (name_is c l.entry.channel (and_left (bytes_eq c l.entry.channel) (same_unit u l.entry.unit) yes)) in
@@ -62,7 +62,7 @@ not_others w g b m c u fs h listed only x free o = go (g.owner x.message.ident) 
         (λ t no_.
         let stays : Mem l.entry (others c u fs) = still_in (λ (f : order.Forced). not (bytes_eq c f.channel && same_unit u f.unit)) l.entry fs l.there (ap not no_) in
         let forced : order.is_forced (others c u fs) x.message.ident ≡ true = any_at (λ (f : order.Forced). list_any (same_ident x.message.ident) f.idents) l.entry (others c u fs) stays
-        (any_at (same_ident x.message.ident) x.message.ident l.entry.idents (l.idents x.message.ident there) (ident_self x.message.ident)) in
+        (any_at (same_ident x.message.ident) x.message.ident l.entry.idents (l.idents at queue x stands there) (ident_self x.message.ident)) in
         true_false (sym free ∙ ap not forced)) refl
 
     go : (p : Owner) → g.owner x.message.ident ≡ p → is_forced (g.owner x.message.ident) ≡ true → ⊥
@@ -76,8 +76,10 @@ not_others w g b m c u fs h listed only x free o = go (g.owner x.message.ident) 
     go Gone e f = true_false (sym f ∙ ap is_forced e)
 
 -- THE QUEUE
-pub keeps_its_queue : (w : World) (g : Ghost) (b : Book) (m : ℕ) (c : List ℕ) (u : Luw) (t : ℕ) (fs : List order.Forced) → Inv w g b → Commits w g m c u t → g.loose m c u ≡ false → AreListed g fs → IsOnly g m c
+pub keeps_its_queue : (w : World) (g : Ghost) (b : Book) (m : ℕ) (c : List ℕ) (u : Luw) (t : ℕ) (fs : List order.Forced) → Inv w g b → Commits w g m c u t → g.loose m c u ≡ false → AreListed g b.rows fs → IsOnly g m c
     → (a : ℕ) (q : List ℕ) → KeepsQueue (tag_idents (g.sent m c u)) (unforced (others c u fs) (b.rows a q))
 keeps_its_queue w g b m c u t fs h k tight listed only a q = commit_keeps w g b m c u t h k tight a q (unforced (others c u fs) (b.rows a q))
     (λ x y n. less_before (λ (r : Row). not (order.is_forced (others c u fs) r.message.ident)) x y (b.rows a q) n)
-    (λ x n o. not_others w g b m c u fs h listed only x (less_mem (λ (r : Row). not (order.is_forced (others c u fs) r.message.ident)) x (b.rows a q) n).1 o)
+    (λ x n o.
+    let k = less_mem (λ (r : Row). not (order.is_forced (others c u fs) r.message.ident)) x (b.rows a q) n in
+    not_others w g b m c u fs h listed only a q x k.0 k.1 o)

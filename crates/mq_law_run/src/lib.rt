@@ -190,7 +190,7 @@ pub fn each_command_on_an_end_is_a_move()
 /// At a receiver's commit of a unit that is not loose, what stands before a row of its list on its queue, with its priority, is in the list too, and
 /// before it: but for rows of other units that an operator has committed before their receivers, where the promise lists these.
 pub fn a_commit_keeps_its_queue()
-    ensures { (w : World) (g : Ghost) (b : Book) (m : ℕ) (c : List ℕ) (u : Luw) (t : ℕ) (fs : List Forced) → Inv w g b → Commits w g m c u t → g.loose m c u ≡ false → AreListed g fs → IsOnly g m c
+    ensures { (w : World) (g : Ghost) (b : Book) (m : ℕ) (c : List ℕ) (u : Luw) (t : ℕ) (fs : List Forced) → Inv w g b → Commits w g m c u t → g.loose m c u ≡ false → AreListed g b.rows fs → IsOnly g m c
         → (a : ℕ) (q : List ℕ) → KeepsQueue (tag_idents (g.sent m c u)) (unforced (others c u fs) (b.rows a q)) }
 {}
 
