@@ -38,3 +38,4 @@ pub mod Breaking
 pub mod Whole
 pub mod Beginning
 pub mod Recommitting
+pub mod Ordering

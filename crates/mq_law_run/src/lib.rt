@@ -27,6 +27,8 @@ ghost use Rattle.mq_spec_node.specs.Operators.{end_here, operate};
 ghost use Rattle.mq_spec_node.specs.Receivers.{receiver_deed};
 ghost use Rattle.mq_spec_node.specs.Replays.{IsOwn, Tells, done_by};
 ghost use Rattle.mq_spec_node.specs.Senders.{sender_deed, timeout_deed};
+ghost use Rattle.mq_sync.specs.declared.unit.Unit.{Unit as Luw};
+ghost use Rattle.mq_spec_network.specs.Order.{Forced, KeepsQueue, others, unforced};
 ghost use Rattle.mq_spec_network.specs.Conflict.{Deed as ToldDeed, NoConflict, deeds};
 ghost use Rattle.mq_spec_network.specs.Ledger.{ledger};
 ghost use Rattle.mq_spec_network.specs.Promised.{Premises};
@@ -35,7 +37,10 @@ ghost use Rattle.mq_spec_network.specs.Lawful.{IsLawful};
 ghost use Rattle.mq_spec_network.specs.Story.{IsStory, Line, Mem, entries_at};
 ghost use Rattle.mq_law_channel.specs.Turns.{SeenIn};
 ghost use Rattle.mq_law_node.specs.Ends.{receiver_of, sender_of};
+ghost use Rattle.mq_law_rows.specs.World.{Book, Ghost, Inv, World, tag_idents};
+ghost use Rattle.mq_law_rows.specs.Kinds.{Commits};
 ghost use Rattle.mq_law_one.specs.Alone.{IsOwnCall};
+ghost use Rattle.mq_law_run.specs.Ordered.{AreListed, IsOnly};
 ghost use Rattle.mq_law_run.specs.Run.{HaveSenders, HoldsRows, IsRunning, Moves, Stand, back_done, failed_node, far_at, near_at, risen_done, stopped_done};
 
 /// A network with channels begins so.
@@ -180,6 +185,13 @@ pub fn each_turn_of_an_end_is_a_move()
 pub fn each_command_on_an_end_is_a_move()
     ensures { (s : Scenario) (hs : List History) (whole p : List Line) (es : List ToldDeed) (x : Line) (h : History) (stamp : ℕ) (z : Stand s hs p) (op : Op) → Premises s hs → NoConflict s hs whole → deeds whole ≡ deeds (p ++ x ∷ []) ++ es
         → slice_get hs x.manager ≡ Some h → Tells (node_after s x.manager p h) stamp x.entry → IsOwn x.entry.chance → x.entry.call ≡ calls.Act (acts.Obey (lines.Operate op)) → Moves s hs p x h z }
+{}
+
+/// At a receiver's commit of a unit that is not loose, what stands before a row of its list on its queue, with its priority, is in the list too, and
+/// before it: but for rows of other units that an operator has committed before their receivers, where the promise lists these.
+pub fn a_commit_keeps_its_queue()
+    ensures { (w : World) (g : Ghost) (b : Book) (m : ℕ) (c : List ℕ) (u : Luw) (t : ℕ) (fs : List Forced) → Inv w g b → Commits w g m c u t → g.loose m c u ≡ false → AreListed g b.rows fs → IsOnly g m c
+        → (a : ℕ) (q : List ℕ) → KeepsQueue (tag_idents (g.sent m c u)) (unforced (others c u fs) (b.rows a q)) }
 {}
 
 /// After each prefix of a lawful story in which no operator's settlement is at odds with its receiver (writes may be stopped, and restarts
