@@ -1,11 +1,11 @@
-//! Logs of the manager 1, M1, with one queue, Q1: bodies behind open gates (docs/FORMATS.md).
+//! Logs of the manager 1, M1, most with one queue, Q1: bodies behind open gates (docs/FORMATS.md).
 
 use mq_base::NoMemory;
 use std::alloc::Global;
 
-/// The text that defines the queue.
-const DEFINE: &[u8] =
-    b"DEFINE QLOCAL('Q1') DEFPRTY(0) DEFPSIST(NO) GET(ENABLED) INITQ('') MAXDEPTH(5000) MAXMSGL(4194304) MSGDLVSQ(PRIORITY) PROCESS('') PUT(ENABLED) TRIGDATA('') TRIGDPTH(1) NOTRIGGER TRIGMPRI(0) TRIGTYPE(FIRST) USAGE(NORMAL)";
+/// What stands behind a queue's name in the text that defines it.
+const ATTRIBUTES: &[u8] =
+    b"') DEFPRTY(0) DEFPSIST(NO) GET(ENABLED) INITQ('') MAXDEPTH(5000) MAXMSGL(4194304) MSGDLVSQ(PRIORITY) PROCESS('') PUT(ENABLED) TRIGDATA('') TRIGDPTH(1) NOTRIGGER TRIGMPRI(0) TRIGTYPE(FIRST) USAGE(NORMAL)";
 
 fn put_name(log: &mut Vec<u8>, text: &[u8], width: usize) -> Result<(), NoMemory> {
     log.extend_from_slice(text)?;
@@ -37,12 +37,34 @@ fn put_started(log: &mut Vec<u8>) -> Result<(), NoMemory> {
     Ok(())
 }
 
-fn put_objects(log: &mut Vec<u8>) -> Result<(), NoMemory> {
-    put_gate(log, 6 + DEFINE.len() as u32)?;
-    log.extend_from_slice(&[2, 1])?;
-    log.extend_from_slice(&(DEFINE.len() as u32).to_be_bytes())?;
-    log.extend_from_slice(DEFINE)?;
+/// A change of objects: 1 sets, 2 deletes. Its text is what stands in front of a name, the name and what stands behind it.
+fn put_objects(
+    log: &mut Vec<u8>,
+    operation: u8,
+    front: &[u8],
+    name: &[u8],
+    back: &[u8],
+) -> Result<(), NoMemory> {
+    let size = front
+        .len()
+        .saturating_add(name.len())
+        .saturating_add(back.len());
+    let size = u32::try_from(size).unwrap_or(0);
+    put_gate(log, size.saturating_add(6))?;
+    log.extend_from_slice(&[2, operation])?;
+    log.extend_from_slice(&size.to_be_bytes())?;
+    log.extend_from_slice(front)?;
+    log.extend_from_slice(name)?;
+    log.extend_from_slice(back)?;
     Ok(())
+}
+
+fn put_define(log: &mut Vec<u8>, name: &[u8]) -> Result<(), NoMemory> {
+    put_objects(log, 1, b"DEFINE QLOCAL('", name, ATTRIBUTES)
+}
+
+fn put_delete(log: &mut Vec<u8>, name: &[u8]) -> Result<(), NoMemory> {
+    put_objects(log, 2, b"DELETE QLOCAL('", name, b"')")
 }
 
 /// A unit that adds one persistent message without a body.
@@ -73,18 +95,22 @@ fn digit(number: u64) -> u8 {
     b'0' + (number % 10) as u8
 }
 
-/// The channel of a number, by its last six digits.
-fn put_channel(log: &mut Vec<u8>, number: u64) -> Result<(), NoMemory> {
-    let name = [
-        b'C',
+/// A letter and the last six digits of a number.
+fn numbered(letter: u8, number: u64) -> [u8; 7] {
+    [
+        letter,
         digit(number / 100_000),
         digit(number / 10_000),
         digit(number / 1_000),
         digit(number / 100),
         digit(number / 10),
         digit(number),
-    ];
-    put_name(log, &name, 20)
+    ]
+}
+
+/// The channel of a number.
+fn put_channel(log: &mut Vec<u8>, number: u64) -> Result<(), NoMemory> {
+    put_name(log, &numbered(b'C', number), 20)
 }
 
 /// A channel's sender begins a session with M2.
@@ -118,7 +144,7 @@ fn put_prepared(log: &mut Vec<u8>, channel: u64, first: u64, count: u32) -> Resu
 pub fn doubt_log(alloc: Global, listed: u32) -> Result<Vec<u8>, NoMemory> {
     let mut log = Vec::new(alloc);
     put_started(&mut log)?;
-    put_objects(&mut log)?;
+    put_define(&mut log, b"Q1")?;
     put_session(&mut log, 0, 1)?;
     put_prepared(&mut log, 0, 0, listed)?;
     for number in 0..listed as u64 {
@@ -143,13 +169,26 @@ pub fn channels_log(alloc: Global, channels: u64) -> Result<Vec<u8>, NoMemory> {
 pub fn log_of(alloc: Global, pairs: u64, standing: u64) -> Result<Vec<u8>, NoMemory> {
     let mut log = Vec::new(alloc);
     put_started(&mut log)?;
-    put_objects(&mut log)?;
+    put_define(&mut log, b"Q1")?;
     for number in 0..pairs {
         put_add(&mut log, number, (number % 10) as u8)?;
         put_remove(&mut log, number)?;
     }
     for number in pairs..pairs.saturating_add(standing) {
         put_add(&mut log, number, (number % 10) as u8)?;
+    }
+    Ok(log)
+}
+
+/// A start, and so many queues that are defined, of which so many are deleted, the oldest first.
+pub fn queues_log(alloc: Global, defined: u64, deleted: u64) -> Result<Vec<u8>, NoMemory> {
+    let mut log = Vec::new(alloc);
+    put_started(&mut log)?;
+    for queue in 0..defined {
+        put_define(&mut log, &numbered(b'Q', queue))?;
+    }
+    for queue in 0..deleted {
+        put_delete(&mut log, &numbered(b'Q', queue))?;
     }
     Ok(log)
 }

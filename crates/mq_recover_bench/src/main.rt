@@ -1,9 +1,9 @@
-//! What a recovery costs: logs of one queue, in memory. The counts go to standard output, the times to standard error.
+//! What a recovery costs: logs in memory. The counts go to standard output, the times to standard error.
 #![tactic(auto)]
 
 mod logs;
 
-use logs::{channels_log, doubt_log, log_of};
+use logs::{channels_log, doubt_log, log_of, queues_log};
 use mq_base::NoMemory;
 use mq_log::Bodies;
 use mq_name::QName;
@@ -25,10 +25,18 @@ const LISTED: u32 = 50_000;
 /// How many channels the fourth log has, of two records each.
 const CHANNELS: u64 = 50_000;
 
+/// How many queues the fifth log defines.
+const DEFINED: u64 = 100_000;
+
+/// How many of them it deletes, the oldest first.
+const DELETED: u64 = 90_000;
+
 /// What a recovery came to.
 #[derive(Clone, Copy)]
 struct Recovered {
-    /// The rows that stand in the end.
+    /// The local queues that stand in the end.
+    queues: usize,
+    /// The rows that stand on the first of them.
     rows: usize,
     /// The senders that have hardened something.
     senders: usize,
@@ -64,6 +72,7 @@ fn recover(alloc: Global, clock: &impl Clock, log: &[u8]) -> Option<Recovered> {
         Some(shelf) => shelf.rows.len(),
     };
     Some(Recovered {
+        queues: told.shelves.len(),
         rows,
         senders: told.senders.len(),
         time,
@@ -79,11 +88,14 @@ fn print(rt: &HostRuntime, what: &str, log: Result<Vec<u8>, NoMemory>) -> io::Re
         return println!(*rt; "{what}: no image");
     };
     let Recovered {
+        queues,
         rows,
         senders,
         time,
     } = recovered;
-    println!(*rt; "{what}: {bytes} bytes, {rows} rows and {senders} senders in the end")?;
+    println!(*rt;
+        "{what}: {bytes} bytes, {queues} queues, {rows} rows and {senders} senders in the end"
+    )?;
     eprintln!(*rt; "{what}: {time} microseconds")
 }
 
@@ -99,5 +111,10 @@ fn main(rt: HostRuntime) -> io::Result<()> {
         &rt,
         "channels with a unit in doubt",
         channels_log(rt.alloc(), CHANNELS),
+    )?;
+    print(
+        &rt,
+        "queues that go",
+        queues_log(rt.alloc(), DEFINED, DELETED),
     )
 }
