@@ -5,5 +5,6 @@ mod parting;
 mod telling;
 mod timing;
 
-pub use telling::{Passed, Turn};
+pub use parting::nothing_done;
+pub use telling::{Passed, Turn, close_turn};
 pub use timing::timeout;
