@@ -19,9 +19,9 @@ use Rattle.mq_receiver.specs.declared.state.Receiver.{Receiver}
 use Rattle.mq_receiver.specs.declared.turns.ReceiverDoes.TheVariants as does
 use Rattle.mq_spec_state.specs.Reads.{is_up}
 use Rattle.mq_spec_node.specs.Terms.{Did, Frame, Message, Part, Plain, ReceiverDoes, Seen, owed_frame}
-use Rattle.mq_spec_node.specs.Words.{ChannelEnd, Deed, IsPop, IsStamp, Node, Own, ReceiverEnd, as_receiver, deed_of, end_in, forgotten_rows, is_receiver_defined, item_of, receiver_deed_by, receiver_end, receiver_turn, turned, with_end}
+use Rattle.mq_spec_node.specs.Words.{ChannelEnd, Deed, IsPop, IsStamp, Node, Own, ReceiverEnd, as_receiver, deed_of, end_in, forgotten_rows, is_receiver_defined, receiver_deed_by, receiver_end, receiver_turn, turned, with_end}
 use Rattle.mq_spec_node.specs.Node.ChannelEnd.{Receives, Sends}
-use Rattle.mq_wires.specs.Wires.{HasPushed, IsFull, OffersNone, Sees}
+use Rattle.mq_wires.specs.Wires.{HasPushed, OfferTold, OffersNone, Sees}
 use Rattle.mq_cabled.proofs.EndLaws.{set_same, set_twice}
 use Rattle.mq_core.specs.Values.{CoreValue}
 use Rattle.mq_events.specs.States.{IsKept, NodeState, node_in}
@@ -166,12 +166,12 @@ put_so p t e last x reads writes none full o n may is k read offers =
     le_self n = omega arith
 
 -- A frame that is owed.
+first_of : (b : Bool) (x other : ReceiverDoes) → b ≡ true → x ≡ (if b then x else other)
+first_of true x other e = refl
+first_of false x other e = absurd cc
+
 owes_first : (r : Receiver) (owed : Owed) (seen : Seen) (defined : Bool) → r.owes ≡ Some owed → does.PushOwed ≡ receiver_next r seen defined
-owes_first r owed seen defined h = at (is_some r.owes) (ap is_some h)
-  where
-    at : (b : Bool) → b ≡ true → does.PushOwed ≡ (if b then does.PushOwed else _)
-    at true e = refl
-    at false e = absurd cc
+owes_first r owed seen defined h = first_of (is_some r.owes) does.PushOwed _ (ap is_some h)
 
 owed_deed : (stamp : ℕ) (e : ReceiverEnd) (owed : Owed) (f : Frame) (seen : Seen) (s : NodeState) → MayTake e s → e.machine.owes ≡ Some owed → f ≡ owed_frame stamp owed
     → deed_of stamp (actors.Receiver e.cable) calls.Turn seen (node_in s) ≡ Some (turned [] (Some f) (with_end (Receives (paid e)) s.own))
@@ -191,35 +191,35 @@ owed_stamp stamp (owings.Ack unit) = refl
 owed_stamp stamp (owings.Err unit reason) = refl
 
 pub refused_so : (p t : NodeState) (e : ReceiverEnd) (owed : Owed) (f : Frame) (reads writes : List Item → Type 0) (full : Type 0) (o n : Offering) → MayTake e (whole e p) → e.machine.owes ≡ Some owed → f ≡ owed_frame (p.stamp + 1) owed → t ≡ whole e p → reads []
-    → OffersNone writes o n → IsFull full o (item_of f) → ReceivesTurn e.cable reads writes (Unit {0}) full o n (whole e p) (Ok turns.Still) t
-refused_so p t e owed f reads writes full o n may h is at read offers was =
+    → OfferTold writes full o f (Ok None) n → ReceivesTurn e.cable reads writes (Unit {0}) full o n (whole e p) (Ok turns.Still) t
+refused_so p t e owed f reads writes full o n may h is at read told =
     let T : NodeState → Type 0 = λ y. ReceivesTurn e.cable reads writes (Unit {0}) full o n (whole e p) (Ok turns.Still) y in
     subst T (sym at) (record {
       kept = may.kept;
       few = refl;
-      turn = (record { stays = record { same = refl; marks = refl; faults = le_self p.manager.faults }; read = read; offers = offers },
-        Refuses (turned [] (Some f) (with_end (Receives (paid e)) (whole e p).own)) f tt (owed_deed (p.stamp + 1) e owed f items.Nothing (whole e p) may h is) refl was);
+      turn = (record { stays = record { same = refl; marks = refl; faults = le_self p.manager.faults }; read = read; offers = told.0 },
+        Refuses (turned [] (Some f) (with_end (Receives (paid e)) (whole e p).own)) f tt (owed_deed (p.stamp + 1) e owed f items.Nothing (whole e p) may h is) refl told.1);
     })
   where
     le_self : (n : ℕ) → n ≤ n
     le_self n = omega arith
 
 module _ (p t : NodeState) (e : ReceiverEnd) (owed : Owed) (f : Frame) (extras : ℕ) (choice : Choice) (delta : List Did) where
-  abbrev s : NodeState
-  s = whole e p
+  abbrev before : NodeState
+  before = whole e p
 
-  abbrev d : Deed
-  d = turned [] (Some f) (with_end (Receives (paid e)) s.own)
+  abbrev frame_deed : Deed
+  frame_deed = turned [] (Some f) (with_end (Receives (paid e)) before.own)
 
-  abbrev w : Passed
-  w = record { stamp = f.stamp; pushed = Some f; extras = extras; popped = items.Nothing }
+  abbrev frame_passed : Passed
+  frame_passed = record { stamp = f.stamp; pushed = Some f; extras = extras; popped = items.Nothing }
 
   stamped : f ≡ owed_frame (p.stamp + 1) owed → f.stamp ≡ p.stamp + 1
   stamped is = ap (λ (x : Frame). x.stamp) is ∙ owed_stamp (p.stamp + 1) owed
 
-  told_is : MayTake e s → e.machine.owes ≡ Some owed → f ≡ owed_frame (p.stamp + 1) owed → choice ≡ Runs → delta ≡ [] → IsTold s (actors.Receiver e.cable) calls.Turn d choice delta w [] p.manager
-  told_is may h is runs none = record {
-    deed = let D : ℕ → Type 0 = λ x. deed_of x (actors.Receiver e.cable) calls.Turn items.Nothing (node_in s) ≡ Some d in subst D (sym (stamped is)) (owed_deed (p.stamp + 1) e owed f items.Nothing s may h is);
+  frame_told : MayTake e before → e.machine.owes ≡ Some owed → f ≡ owed_frame (p.stamp + 1) owed → choice ≡ Runs → delta ≡ [] → IsTold before (actors.Receiver e.cable) calls.Turn frame_deed choice delta frame_passed [] p.manager
+  frame_told may h is runs none = record {
+    deed = let D : ℕ → Type 0 = λ x. deed_of x (actors.Receiver e.cable) calls.Turn items.Nothing (node_in before) ≡ Some frame_deed in subst D (sym (stamped is)) (owed_deed (p.stamp + 1) e owed f items.Nothing before may h is);
     reply = refl;
     made = none_made choice delta p.manager runs none;
     pushed = some_pushed choice f runs;
@@ -229,16 +229,16 @@ module _ (p t : NodeState) (e : ReceiverEnd) (owed : Owed) (f : Frame) (extras :
     extras = tt;
   }
 
-  pushed_at : (reads writes : List Item → Type 0) (full : Type 0) (o n : Offering) → MayTake e s → e.machine.owes ≡ Some owed → f ≡ owed_frame (p.stamp + 1) owed → choice ≡ Runs → delta ≡ []
-      → Closes (actors.Receiver e.cable) calls.Turn choice delta (with_end (Receives (paid e)) p.own) w [] p t → reads [] → HasPushed writes full o f extras n → ReceivesTurn e.cable reads writes (Unit {0}) full o n s (Ok turns.Changed) t
+  pushed_at : (reads writes : List Item → Type 0) (full : Type 0) (o n : Offering) → MayTake e before → e.machine.owes ≡ Some owed → f ≡ owed_frame (p.stamp + 1) owed → choice ≡ Runs → delta ≡ []
+      → Closes (actors.Receiver e.cable) calls.Turn choice delta (with_end (Receives (paid e)) p.own) frame_passed [] p t → reads [] → HasPushed writes full o f extras n → ReceivesTurn e.cable reads writes (Unit {0}) full o n before (Ok turns.Changed) t
   pushed_at reads writes full o n may h is runs none z read offered =
-      let same = own_same choice delta (with_end (Receives (paid e)) p.own) (with_end (Receives (paid e)) s.own) p.own s.own runs (sym (set_over e (paid e) p.own refl)) in
-      let k = z s d refl (receiver_turns e.cable) (told_is may h is runs none) same may.kept may.served in
+      let same = own_same choice delta (with_end (Receives (paid e)) p.own) (with_end (Receives (paid e)) before.own) p.own before.own runs (sym (set_over e (paid e) p.own refl)) in
+      let k = z before frame_deed refl (receiver_turns e.cable) (frame_told may h is runs none) same may.kept may.served in
       record {
         kept = k.kept;
         few = k.few;
         turn = record {
-          entry = turn_entry (actors.Receiver e.cable) calls.Turn choice delta w [];
+          entry = turn_entry (actors.Receiver e.cable) calls.Turn choice delta frame_passed [];
           adds = k.adds;
           popped = (read, tt);
           offered = (offered, subst (λ (x : Frame). HasSpelling x.kind) (sym is) (owed_spells (p.stamp + 1) owed));
@@ -247,7 +247,7 @@ module _ (p t : NodeState) (e : ReceiverEnd) (owed : Owed) (f : Frame) (extras :
 
 pub pushed_so : (p t : NodeState) (e last : ReceiverEnd) (cable : ℕ) (owed : Owed) (f : Frame) (extras : ℕ) (received : List Message) (choice : Choice) (delta : List Did) (reads writes : List Item → Type 0) (full : Type 0) (o n : Offering)
     → MayTake e (whole e p) → e.machine.owes ≡ Some owed → f ≡ owed_frame (p.stamp + 1) owed → cable ≡ e.cable → last ≡ paid e → received ≡ [] → choice ≡ Runs → delta ≡ []
-    → Closes (actors.Receiver cable) calls.Turn choice delta (with_end (Receives last) p.own) (record { stamp = f.stamp; pushed = Some f; extras = extras; popped = items.Nothing }) received p t → reads [] → HasPushed writes full o f extras n
+    → Closes (actors.Receiver cable) calls.Turn choice delta (with_end (Receives last) p.own) (record { stamp = f.stamp; pushed = Some f; extras = extras; popped = items.Nothing }) received p t → reads [] → OfferTold writes full o f (Ok (Some extras)) n
     → ReceivesTurn e.cable reads writes (Unit {0}) full o n (whole e p) (Ok turns.Changed) t
 pushed_so p t e last cable owed f extras received choice delta reads writes full o n may h is c l rs runs none z read offered =
     let W : Passed = record { stamp = f.stamp; pushed = Some f; extras = extras; popped = items.Nothing } in
