@@ -13,11 +13,11 @@ use crate::tries::{failed_once, ignore, remember};
 use mq_base::{Items, NoMemory};
 use mq_calls::{AgentStop, Choice, PlaceFault};
 use mq_disk::{Disk, Stop};
+use mq_events::Outcome;
 use mq_history::Reply;
 use mq_manager::Manager;
 use mq_message::Ident;
 use mq_name::QName;
-use mq_events::Outcome;
 use mq_own::Handler;
 use std::alloc::Global;
 

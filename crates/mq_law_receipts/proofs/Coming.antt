@@ -5,7 +5,6 @@ use Rattle.std.specs.List.{list_any}
 use Rattle.std.specs.Str.{bytes_eq}
 use Rattle.mq_message.specs.declared.message.Ident.{Ident}
 use Rattle.mq_message.specs.declared.message.Message.{Message}
-use Rattle.mq_message.specs.declared.place.Holder.TheVariants as holders
 use Rattle.mq_queue.specs.declared.row.Row.{Row}
 use Rattle.mq_queue.specs.Rows.{same_ident, keep}
 use Rattle.mq_sync.specs.declared.data.InDoubt.{InDoubt}
@@ -16,22 +15,16 @@ use Rattle.mq_spec_state.specs.State.Which.{Among}
 use Rattle.mq_spec_state.specs.State.Change.{Leave, Undoubt}
 use Rattle.mq_spec_state.specs.Reads.{batch_of, in_doubt_of, is_persistent, sender_data, sender_in, stored}
 use Rattle.mq_spec_state.specs.Changes.{apply, apply_all, less_ident}
-use Rattle.mq_spec_agents.specs.Words.{RowAt, row_of, doubts, is_doubted_by, Standing, Absent, InDoubtAt, Present, same_flag, standing_by, has_put, is_pending, is_unborn, standing_at, is_present, undoubted, drop_changes}
+use Rattle.mq_spec_agents.specs.Words.{RowAt, row_of, doubts, is_doubted_by, Standing, Absent, InDoubtAt, Present, same_flag, standing_by, has_put, standing_at, is_present, undoubted, drop_changes}
 use Rattle.mq_spec_network.specs.Story.{Mem}
 use Rattle.mq_law_rows.specs.Kinds.{among}
-use Rattle.mq_law_rows.proofs.Lists.{bool_case, is_false, ident_yes, name_self, and_false, keep_same, keep_all}
+use Rattle.mq_law_rows.proofs.Lists.{bool_case, is_false, ident_yes, name_self, and_false, keep_same, keep_all, true_false}
 use Rattle.mq_law_rows.proofs.Receiving.{any_mem, mem_any}
 use Rattle.mq_law_manager.specs.Facts.{AreNamed, IsOf, Sound}
+use Rattle.mq_law_receipts.specs.Receipts.{Comes}
 use Rattle.mq_law_manager.proofs.Named.{doubt_less}
 use Rattle.mq_law_manager.proofs.Receiving.{IsStanding, row_there}
 use Rattle.mq_law_events.proofs.Putting.{IsBeside, rows_after, unborn_by}
-
--- no row of its ident is there but of a unit in doubt, as persistent as it is; no uncommitted put has it; it was given
-pub record Comes (p : Plain) (x : Message) : Type 0 where
-  pub rows : (q : List ℕ) (h : Row) → Mem h (stored q p).rows → h.message.ident ≡ x.ident
-      → (c : List ℕ) × (h.by ≡ Some (holders.Batch c)) × (batch_of c p.channels.batches ≡ None) × (is_persistent h.message ≡ is_persistent x)
-  pub pending : is_pending x.ident p ≡ false
-  pub unborn : is_unborn x.ident p ≡ false
 
 pub flag_self : (b : Bool) → same_flag b b ≡ true
 flag_self true = refl
@@ -62,12 +55,31 @@ undoubted_rows : (b : Bool) (i : Ident) (p : Plain) (d : List ℕ) → (stored d
 undoubted_rows true i p d = rows_after (Undoubt i) p d tt
 undoubted_rows false i p d = refl
 
-pub drop_rows : (m : Message) (s : Standing) (p : Plain) → Sound p → IsStanding s m.ident p → is_present s ≡ false → (d : List ℕ)
+-- its standing says where rows of an ident go
+abbrev pub drops_at : Standing → List ℕ → Bool
+drops_at Absent d = false
+drops_at (InDoubtAt q) d = bytes_eq d q
+drops_at Present d = false
+
+-- and there are no others (at a manager that is down those that don't last are gone, this one maybe among them)
+abbrev pub Goes : Standing → Ident → Plain → Type 0
+Goes s i p = (d : List ℕ) (h : Row) → Mem h (stored d p).rows → h.message.ident ≡ i → drops_at s d ≡ true
+
+pub goes_is : (i : Ident) (s : Standing) (p : Plain) → Sound p → IsStanding s i p → is_present s ≡ false → Goes s i p
+goes_is i Present p sound st e d h n f = absurd cc
+goes_is i Absent p sound st e d h n f = absurd (st.no_row d h n (sym f))
+goes_is i (InDoubtAt q) p sound st e d h n f = ap (λ z. bytes_eq z q) (sound.apart.alone d q h st.row n st.there (f ∙ sym st.is)) ∙ name_self q
+
+none_goes : (m : Message) (p : Plain) → ((d : List ℕ) (h : Row) → Mem h (stored d p).rows → h.message.ident ≡ m.ident → false ≡ true) → (d : List ℕ)
+    → (stored d (apply_all (undoubted (is_persistent m) m.ident) p)).rows ≡ keep (λ h. not (among (m.ident ∷ []) h.message.ident)) (stored d p).rows
+none_goes m p goes d = undoubted_rows (is_persistent m) m.ident p d
+    ∙ sym (keep_all (λ h. not (among (m.ident ∷ []) h.message.ident)) (stored d p).rows (λ x n. ap (λ t. not (t || false)) (is_false (same_ident x.message.ident m.ident) (λ t. true_false (sym (goes d x n (ident_yes x.message.ident m.ident t)))))))
+
+pub drop_rows : (m : Message) (s : Standing) (p : Plain) → Goes s m.ident p → (d : List ℕ)
     → (stored d (apply_all (drop_changes m s) p)).rows ≡ keep (λ h. not (among (m.ident ∷ []) h.message.ident)) (stored d p).rows
-drop_rows m Present p sound st e d = absurd cc
-drop_rows m Absent p sound st e d = undoubted_rows (is_persistent m) m.ident p d
-    ∙ sym (keep_all (λ h. not (among (m.ident ∷ []) h.message.ident)) (stored d p).rows (λ x n. ap (λ t. not (t || false)) (is_false (same_ident x.message.ident m.ident) (λ t. st.no_row d x n (sym (ident_yes x.message.ident m.ident t))))))
-drop_rows m (InDoubtAt q) p sound st e d =
+drop_rows m Present p goes d = none_goes m p goes d
+drop_rows m Absent p goes d = none_goes m p goes d
+drop_rows m (InDoubtAt q) p goes d =
     let r : Plain = apply (Leave (Among q (m.ident ∷ []))) p in
     undoubted_rows (is_persistent m) m.ident r d ∙ rows_after (Leave (Among q (m.ident ∷ []))) p d tt
     ∙ keep_same (λ h. not (bytes_eq d q && among (m.ident ∷ []) h.message.ident)) (λ h. not (among (m.ident ∷ []) h.message.ident)) (stored d p).rows (λ x n.
@@ -75,7 +87,7 @@ drop_rows m (InDoubtAt q) p sound st e d =
     (λ z w. ap (λ t. not (t && true)) (here x n (any_mem x.message.ident (m.ident ∷ []) w))) (λ z w. ap not (and_false (bytes_eq d q))) refl)
   where
     here : (x : Row) → Mem x (stored d p).rows → Mem x.message.ident (m.ident ∷ []) → bytes_eq d q ≡ true
-    here x n (inl e) = ap (λ z. bytes_eq z q) (sound.apart.alone d q x st.row n st.there (e ∙ sym st.is)) ∙ name_self q
+    here x n (inl e) = goes d x n e
     here x n (inr k) = absurd k
 
 -- What it leaves

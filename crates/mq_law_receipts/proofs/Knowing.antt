@@ -30,8 +30,7 @@ use Rattle.mq_law_seen.specs.Seen.{book_of, doubt_of, rows_of, units_of, world_o
 use Rattle.mq_law_seen.proofs.Receipts.{admitted}
 use Rattle.mq_law_events.specs.Tied.{AreShelved}
 use Rattle.mq_law_events.proofs.Moving.{InShelves, row_in_is}
-use Rattle.mq_law_receipts.specs.Receipts.{AreNumbered, IsReceipt}
-use Rattle.mq_law_receipts.proofs.Coming.{Comes}
+use Rattle.mq_law_receipts.specs.Receipts.{AreNumbered, Comes, IsAwaitedAt, IsReceipt}
 use Rattle.mq_law_receipts.proofs.Landing.{IsOwn, uncounted}
 
 -- Its idents are the unit's
@@ -115,7 +114,7 @@ row_at_is i (p ∷ ps) apart row e = go (row_in i p.queues) (row_in_is i p.queue
     go None none rest f = let k = rest f in (suc k.0, k.1)
     go (Some x) is rest f = let same : x ≡ row = ap (some_or x) f in (0, (is.queue, subst (λ (y : Row). Mem y (rows_in is.queue p.queues)) same is.there, ap (λ (y : Row). y.message.ident) (sym same) ∙ is.is))
 
-pub own_in : (s : Scenario) (given : Ident → Bool) (ps : List Plain) (p : Plain) (l : Ledger) (g : Ghost) (m t : ℕ) (c : List ℕ) (u : Luw) (ms : List Message) → IsReceipt s given ps p l g m t c u ms
+pub own_in : (s : Scenario) (given : Ident → Bool) (ps : List Plain) (p : Plain) (l : Ledger) (g : Ghost) (m t : ℕ) (c : List ℕ) (u : Luw) (ms : List Message) → IsAwaitedAt s given ps p l g m t c u ms
     → Inv (world_of s given ps) g (book_of l) → (y : Message) → Mem y ms → IsOwn l y
 own_in s given ps p l g m t c u ms r h y n =
     record { admitted = admitted l m y lasting fleeting; own = text (row_at y.ident l.places) refl }

@@ -4,3 +4,4 @@ pub mod Landing
 pub mod Receiving
 pub mod Numbering
 pub mod Cabling
+pub mod Losing

@@ -1,5 +1,5 @@
 -- A receiver's commit as the kind that it is: the network and its ledger have the facts behind it.
-use Rattle.std.proofs.Common.{ℕ, ◌≡◌, ◌≢◌, ◌+◌, Bool, true, false, not, List, [], ◌∷◌, ◌++◌, refl, ap, sym, subst, ◌∙◌, map}
+use Rattle.std.proofs.Common.{ℕ, ◌≡◌, ◌≢◌, Bool, true, false, not, List, [], ◌∷◌, ◌++◌, refl, ap, sym, subst, ◌∙◌, map}
 use Rattle.std.specs.Prelude.{Option, Some, None, Ok, ◌==◌, if◌then◌else◌, ◌&&◌, slice_get, is_some}
 use Rattle.std.specs.Str.{bytes_eq}
 use Rattle.mq_codes.specs.declared.reason.Reason.{Reason}
@@ -29,6 +29,7 @@ use Rattle.mq_spec_network.specs.Ledger as ledgers
 use Rattle.mq_spec_network.specs.Ledger.{Ledger, dead_reason, idents_of, is_admitted, is_one_of, leave_queues, move_all, own_row, place_list, place_received, post_call, receive_if, take_all_gone, take_everywhere, unit_of, when}
 use Rattle.mq_spec_network.specs.Promised.{AreDistinct}
 use Rattle.mq_spec_network.specs.Standing.{cable_from, last_unit, last_unit_at, last_unit_of}
+use Rattle.mq_spec_network.specs.Story.{Mem}
 use Rattle.mq_law_rows.specs.Families.{is_here, put_at}
 use Rattle.mq_law_rows.specs.World.{Book, Ghost, Inv, LanesRise, World, tag_idents, tag_mark}
 use Rattle.mq_law_rows.specs.Kinds.{Landing, among, book_receive, ghost_receive, landing_told, place_all}
@@ -37,6 +38,7 @@ use Rattle.mq_law_rows.proofs.Lists.{bool_case, eqb_self, eqb_yes, here_yes, is_
 use Rattle.mq_law_rows.proofs.Receiving as receiving
 use Rattle.mq_law_seen.specs.Seen.{book_of, doubt_of, held_unit, holds_of, last_of, rows_of, units_of, world_of}
 use Rattle.mq_law_seen.proofs.Receipts.{Placing, landings, mapped_get, place_maybe, placing, receipt_rows, received_is}
+use Rattle.mq_law_manager.specs.Facts.{IsSound}
 use Rattle.mq_law_manager.proofs.Named.{receiver_set}
 use Rattle.mq_law_manager.proofs.Receiving.{log_aside, with_log}
 use Rattle.mq_law_manager.proofs.Units.{behind}
@@ -44,14 +46,14 @@ use Rattle.mq_law_events.specs.Posting.{IsTimed}
 use Rattle.mq_law_events.specs.Tied.{IsNext, IsTold, connections_told}
 use Rattle.mq_law_events.proofs.Putting.{place_told, unborn_by}
 use Rattle.mq_law_events.proofs.Telling.{else_changed, left_shelved}
-use Rattle.mq_law_receipts.specs.Receipts.{IsCabled, IsReceipt, Receipt}
+use Rattle.mq_law_receipts.specs.Receipts.{Comes, IsAwaitedAt, IsCabled, IsReceipt, IsShadow, Receipt}
 use Rattle.mq_law_receipts.proofs.Coming.{doubt_unit}
 use Rattle.mq_law_receipts.proofs.Knowing.{marks_tagged, comes_in, idents_tagged, own_in}
-use Rattle.mq_law_receipts.proofs.Landing.{IsStill, Lands, batch_lands, dead_behind}
+use Rattle.mq_law_receipts.proofs.Landing.{IsStill, Lands, batch_lands, batch_lands_by, dead_behind}
 
 -- The ledger's step
 
-posts : (t : ℕ) (c : List ℕ) (u : Luw) (reply : Reply) (ms : List Message) (ds : List Did) (l : Ledger) → IsStill ds
+pub posts : (t : ℕ) (c : List ℕ) (u : Luw) (reply : Reply) (ms : List Message) (ds : List Did) (l : Ledger) → IsStill ds
     → post_call t calls.Turn reply ms (ds ++ did.Received c u ∷ []) (take_all_gone t (ds ++ did.Received c u ∷ []) l) ≡ ledgers.receive t c ms (ds ++ did.Received c u ∷ []) l
 posts t c u reply ms ds l k =
     let all : List Did = ds ++ did.Received c u ∷ [] in
@@ -59,10 +61,10 @@ posts t c u reply ms ds l k =
     ∙ ap (λ x. receive_if t (Some c) ms all x) (k.moves t (did.Received c u ∷ []) l)
 
 -- what it leaves
-record Keeps (l k : Ledger) : Type 0 where
-  users : k.users ≡ l.users
-  gone : k.gone ≡ l.gone
-  got : k.got ≡ l.got
+pub record Keeps (l k : Ledger) : Type 0 where
+  pub users : k.users ≡ l.users
+  pub gone : k.gone ≡ l.gone
+  pub got : k.got ≡ l.got
 
 placed_keeps : (t : ℕ) (c : List ℕ) (m : Message) (dead : Option Reason) (l : Ledger) → Keeps l (place_received t c m dead l)
 placed_keeps t c m dead l = subst (λ (z : Ledger). Keeps l z) (sym (received_is t c m dead l)) (go (placing t c l m dead))
@@ -82,7 +84,7 @@ list_keeps t c ds first l (m ∷ ms) = go (is_admitted first m) (λ x. list_keep
         let b = rest (place_received t c (own_row first m) (dead_reason m.ident ds) l) in
         record { users = b.users ∙ a.users; gone = b.gone ∙ a.gone; got = b.got ∙ a.got }
 
-receipt_keeps : (t : ℕ) (c : List ℕ) (ms : List Message) (ds : List Did) (l : Ledger) → Keeps l (ledgers.receive t c ms ds l)
+pub receipt_keeps : (t : ℕ) (c : List ℕ) (ms : List Message) (ds : List Did) (l : Ledger) → Keeps l (ledgers.receive t c ms ds l)
 receipt_keeps t c ms ds l = let k = list_keeps t c ds l (take_everywhere (idents_of ms) l) ms in record { users = k.users; gone = k.gone; got = k.got }
 
 -- and tells
@@ -128,7 +130,7 @@ list_told t a r c ds first l (m ∷ ms) told = go (is_admitted first m) (λ x k.
     go false rest = rest l told
     go true rest = rest _ (maybe_told t a r c (own_row first m) (dead_reason m.ident ds) l told)
 
-receipt_told : (t a : ℕ) (r : Plain) (c : List ℕ) (ms : List Message) (ds : List Did) (l : Ledger) → IsTold a r l → IsTold a r (ledgers.receive t c ms ds l)
+pub receipt_told : (t a : ℕ) (r : Plain) (c : List ℕ) (ms : List Message) (ds : List Did) (l : Ledger) → IsTold a r l → IsTold a r (ledgers.receive t c ms ds l)
 receipt_told t a r c ms ds l told = list_told t a r c ds l (take_everywhere (idents_of ms) l) ms (taken_told (idents_of ms) a r l told)
 
 -- The manager's step
@@ -144,6 +146,16 @@ done_is c u last x p =
     let lg : LogState = written (received_record c u last x) p.log in
     behind x.changes (SetReceiver c (received_data c u last p) ∷ []) (with_log lg p)
     ∙ ap (λ (z : Plain). apply (SetReceiver c (received_data c u last p)) z) (log_aside x.changes lg p)
+
+-- beside rows and channels all stays
+pub record IsDone (p r : Plain) : Type 0 where
+  pub given : r.given ≡ p.given
+  pub definitions : r.definitions ≡ p.definitions
+  pub connections : r.connections ≡ p.connections
+  pub numbers : r.numbers ≡ p.numbers
+
+pub done_beside : (t : ℕ) (c : List ℕ) (u : Luw) (last : ℕ) (ms : List Message) (x : Landed) (p : Plain) → Lands t c p ms x → IsDone p (do_part (received_part c u last x p) p)
+done_beside t c u last ms x p y = subst (λ (z : Plain). IsDone p z) (sym (done_is c u last x p)) (record { given = y.aside.given; definitions = y.aside.definitions; connections = y.aside.connections; numbers = y.aside.numbers })
 
 unit_held : (o r : Option InDoubt) (b : Option Batch) → doubt_unit o ≡ doubt_unit r → held_unit o b ≡ held_unit r b
 unit_held None None b e = refl
@@ -277,22 +289,35 @@ received_book t c ms ds p l told =
 abbrev unborn_at : Ident → Plain → Bool
 unborn_at i z = unborn_by z.given z.numbers i
 
-pub receives : (s : Scenario) (given : Ident → Bool) (ps qs : List Plain) (p : Plain) (l : Ledger) (g : Ghost) (m t : ℕ) (c : List ℕ) (u : Luw) (last : ℕ) (ms : List Message) (x : Landed) (reply : Reply) → landed c ms p ≡ Ok x
-    → IsNext t p (do_part (received_part c u last x p) p) ps qs → IsReceipt s given ps p l g m t c u ms → Inv (world_of s given ps) g (book_of l)
-    → (taken_of (landed c ms p) ≡ ms)
-    × Receipt s given qs (do_part (received_part c u last x p) p) l (post_call t calls.Turn reply ms (received_part c u last x p).delta (take_all_gone t (received_part c u last x p).delta l)) g m t c u
-receives s given ps qs p l g m t c u last ms x reply e n r h = (
-  ap taken_of e ∙ y.taken,
-  record {
-    lands = y.lands;
-    inv = subst (λ (k : Ledger). Inv (world_of s given qs) (ghost_receive g m c u t (tag_idents (g.sent m c u)) y.lands) (book_of k)) (sym posted) inv;
-    fresh = λ i f. r.fresh i (sym (ap (unborn_at i) (done_is c u last x p) ∙ (λ j. unborn_by (y.aside.given j) (y.aside.numbers j) i)) ∙ f);
-    told = subst (λ (k : Ledger). IsTold t done k) (sym posted) (subst (λ (z : Plain). IsTold t z k) (sym (done_is c u last x p)) told_q);
-    timed = record { users = r.timed.users; used = ap (λ us. slice_get us t) users ∙ r.timed.used; moment = r.timed.moment ∙ sym (ap (λ (z : Plain). z.moment) (done_is c u last x p) ∙ y.aside.moment) };
-    others = λ a z f told. subst (λ (k : Ledger). IsTold a z k) (sym posted) (receipt_told t a z c ms ds l told);
-    users = users;
-  },
-)
+pub awaited_at : (s : Scenario) (given : Ident → Bool) (ps : List Plain) (p : Plain) (l : Ledger) (g : Ghost) (m t : ℕ) (c : List ℕ) (u : Luw) (ms : List Message) → IsReceipt s given ps p l g m t c u ms → IsAwaitedAt s given ps p l g m t c u ms
+awaited_at s given ps p l g m t c u ms r = record { commits = r.commits; sent = r.sent; cabled = r.cabled; fresh = r.fresh; told = r.told; timed = r.timed; shelved = r.shelved }
+
+-- the unit's messages land at the manager, as it is now
+pub lands_now : (s : Scenario) (given : Ident → Bool) (ps : List Plain) (p : Plain) (l : Ledger) (g : Ghost) (m t : ℕ) (c : List ℕ) (u : Luw) (ms : List Message) (x : Landed) → landed c ms p ≡ Ok x → slice_get ps t ≡ Some p
+    → IsReceipt s given ps p l g m t c u ms → Inv (world_of s given ps) g (book_of l) → Lands t c p ms x
+lands_now s given ps p l g m t c u ms x e at r h =
+    batch_lands t c ms p x e r.sound.facts r.sound.named (λ d. subst (λ (o : Option Plain). LanesRise (rows_of d o)) at (h.sorted t d))
+    (subst AreDistinct (sym (ap tag_idents r.sent) ∙ idents_tagged ms) r.commits.once) (comes_in s given ps p l g m t c u ms at r h)
+
+-- or as it was when its turn was stopped, at what is left of it
+pub lands_then : (s : Scenario) (given : Ident → Bool) (ps : List Plain) (b p : Plain) (l : Ledger) (g : Ghost) (m t : ℕ) (c : List ℕ) (u : Luw) (ms : List Message) (x : Landed) → landed c ms b ≡ Ok x → IsSound b → IsShadow b p → ((y : Message) → Mem y ms → Comes b y)
+    → slice_get ps t ≡ Some p → IsAwaitedAt s given ps p l g m t c u ms → Inv (world_of s given ps) g (book_of l) → Lands t c p ms x
+lands_then s given ps b p l g m t c u ms x e sound shadow comes at r h =
+    batch_lands_by t c ms b p x e sound.facts sound.named shadow (λ d. subst (λ (o : Option Plain). LanesRise (rows_of d o)) at (h.sorted t d))
+    (subst AreDistinct (sym (ap tag_idents r.sent) ∙ idents_tagged ms) r.commits.once) comes
+
+pub receives_by : (s : Scenario) (given : Ident → Bool) (ps qs : List Plain) (p : Plain) (l : Ledger) (g : Ghost) (m t : ℕ) (c : List ℕ) (u : Luw) (last : ℕ) (ms : List Message) (x : Landed) (reply : Reply) → Lands t c p ms x
+    → IsNext t p (do_part (received_part c u last x p) p) ps qs → IsAwaitedAt s given ps p l g m t c u ms → Inv (world_of s given ps) g (book_of l)
+    → Receipt s given qs (do_part (received_part c u last x p) p) l (post_call t calls.Turn reply ms (received_part c u last x p).delta (take_all_gone t (received_part c u last x p).delta l)) g m t c u
+receives_by s given ps qs p l g m t c u last ms x reply y n r h = record {
+  lands = y.lands;
+  inv = subst (λ (k : Ledger). Inv (world_of s given qs) (ghost_receive g m c u t (tag_idents (g.sent m c u)) y.lands) (book_of k)) (sym posted) inv;
+  fresh = λ i f. r.fresh i (sym (ap (unborn_at i) (done_is c u last x p) ∙ (λ j. unborn_by (y.aside.given j) (y.aside.numbers j) i)) ∙ f);
+  told = subst (λ (k : Ledger). IsTold t done k) (sym posted) (subst (λ (z : Plain). IsTold t z k) (sym (done_is c u last x p)) told_q);
+  timed = record { users = r.timed.users; used = ap (λ us. slice_get us t) users ∙ r.timed.used; moment = r.timed.moment ∙ sym (ap (λ (z : Plain). z.moment) (done_is c u last x p) ∙ y.aside.moment) };
+  others = λ a z f told. subst (λ (k : Ledger). IsTold a z k) (sym posted) (receipt_told t a z c ms ds l told);
+  users = users;
+}
   where
     done : Plain
     done = do_part (received_part c u last x p) p
@@ -314,10 +339,6 @@ receives s given ps qs p l g m t c u last ms x reply e n r h = (
 
     ids : tag_idents (g.sent m c u) ≡ idents_of ms
     ids = sym (ap tag_idents r.sent) ∙ idents_tagged ms
-
-    y : Lands t c p ms x
-    y = batch_lands t c ms p x e r.sound.facts r.sound.named (λ d. subst (λ (o : Option Plain). LanesRise (rows_of d o)) n.at (h.sorted t d)) (subst AreDistinct ids r.commits.once)
-        (comes_in s given ps p l g m t c u ms n.at r h)
 
     posted : post_call t calls.Turn reply ms ds (take_all_gone t ds l) ≡ k
     posted = posts t c u reply ms x.delta l y.still
@@ -361,19 +382,34 @@ receives s given ps qs p l g m t c u last ms x reply e n r h = (
           connections = z.connections ∙ ap connections_told (sym y.aside.connections);
         }
 
+pub found_receives : (s : Scenario) (given : Ident → Bool) (ps qs : List Plain) (b p : Plain) (l : Ledger) (g : Ghost) (m t : ℕ) (c : List ℕ) (u : Luw) (last : ℕ) (ms : List Message) (x : Landed) (reply : Reply) → landed c ms b ≡ Ok x → IsSound b → IsShadow b p → ((y : Message) → Mem y ms → Comes b y)
+    → IsNext t p (do_part (received_part c u last x p) p) ps qs → IsAwaitedAt s given ps p l g m t c u ms → Inv (world_of s given ps) g (book_of l)
+    → Receipt s given qs (do_part (received_part c u last x p) p) l (post_call t calls.Turn reply ms (received_part c u last x p).delta (take_all_gone t (received_part c u last x p).delta l)) g m t c u
+found_receives s given ps qs b p l g m t c u last ms x reply e sound shadow comes n r h = receives_by s given ps qs p l g m t c u last ms x reply (lands_then s given ps b p l g m t c u ms x e sound shadow comes n.at r h) n r h
+
+pub receives : (s : Scenario) (given : Ident → Bool) (ps qs : List Plain) (p : Plain) (l : Ledger) (g : Ghost) (m t : ℕ) (c : List ℕ) (u : Luw) (last : ℕ) (ms : List Message) (x : Landed) (reply : Reply) → landed c ms p ≡ Ok x
+    → IsNext t p (do_part (received_part c u last x p) p) ps qs → IsReceipt s given ps p l g m t c u ms → Inv (world_of s given ps) g (book_of l)
+    → (taken_of (landed c ms p) ≡ ms)
+    × Receipt s given qs (do_part (received_part c u last x p) p) l (post_call t calls.Turn reply ms (received_part c u last x p).delta (take_all_gone t (received_part c u last x p).delta l)) g m t c u
+receives s given ps qs p l g m t c u last ms x reply e n r h =
+    let y : Lands t c p ms x = lands_now s given ps p l g m t c u ms x e n.at r h in
+    (ap taken_of e ∙ y.taken, receives_by s given ps qs p l g m t c u last ms x reply y n (awaited_at s given ps p l g m t c u ms r) h)
+
 -- What a network shows of batches and units behind it
 pub record SeenAfter (w v : World) (m : ℕ) (c : List ℕ) (u : Luw) : Type 0 where
   pub holds : (a : ℕ) (d : List ℕ) → v.holds a d ≡ w.holds a d
   pub doubt : (a : ℕ) (d : List ℕ) → v.doubt a d ≡ w.doubt a d
   pub last : (a : ℕ) (d : List ℕ) → v.last a d ≡ put_at w.last m c u a d
 
+pub seen_by : (s : Scenario) (given : Ident → Bool) (ps qs : List Plain) (p : Plain) (l : Ledger) (g : Ghost) (m t : ℕ) (c : List ℕ) (u : Luw) (last : ℕ) (ms : List Message) (x : Landed) → Lands t c p ms x
+    → IsNext t p (do_part (received_part c u last x p) p) ps qs → IsAwaitedAt s given ps p l g m t c u ms → SeenAfter (world_of s given ps) (world_of s given qs) m c u
+seen_by s given ps qs p l g m t c u last ms x y n r =
+    let next : IsNext t p (behind_it c u last x p) ps qs = record { at = n.at; to = n.to ∙ ap (λ (z : Plain). Some z) (done_is c u last x p); others = n.others } in
+    let world = received_world s given ps qs p m t c u last ms x y next r.commits.apart r.cabled in
+    record { holds = λ a d. ap (λ (v : World). v.holds a d) world; doubt = λ a d. ap (λ (v : World). v.doubt a d) world; last = λ a d. ap (λ (v : World). v.last a d) world }
+
 pub seen_after : (s : Scenario) (given : Ident → Bool) (ps qs : List Plain) (p : Plain) (l : Ledger) (g : Ghost) (m t : ℕ) (c : List ℕ) (u : Luw) (last : ℕ) (ms : List Message) (x : Landed) → landed c ms p ≡ Ok x
     → IsNext t p (do_part (received_part c u last x p) p) ps qs → IsReceipt s given ps p l g m t c u ms → Inv (world_of s given ps) g (book_of l)
     → SeenAfter (world_of s given ps) (world_of s given qs) m c u
 seen_after s given ps qs p l g m t c u last ms x e n r h =
-    let next : IsNext t p (behind_it c u last x p) ps qs = record { at = n.at; to = n.to ∙ ap (λ (z : Plain). Some z) (done_is c u last x p); others = n.others } in
-    let ids : tag_idents (g.sent m c u) ≡ idents_of ms = sym (ap tag_idents r.sent) ∙ idents_tagged ms in
-    let y : Lands t c p ms x = batch_lands t c ms p x e r.sound.facts r.sound.named (λ d. subst (λ (o : Option Plain). LanesRise (rows_of d o)) n.at (h.sorted t d)) (subst AreDistinct ids r.commits.once)
-    (comes_in s given ps p l g m t c u ms n.at r h) in
-    let world = received_world s given ps qs p m t c u last ms x y next r.commits.apart r.cabled in
-    record { holds = λ a d. ap (λ (v : World). v.holds a d) world; doubt = λ a d. ap (λ (v : World). v.doubt a d) world; last = λ a d. ap (λ (v : World). v.last a d) world }
+    seen_by s given ps qs p l g m t c u last ms x (lands_now s given ps p l g m t c u ms x e n.at r h) n (awaited_at s given ps p l g m t c u ms r)

@@ -1,15 +1,19 @@
 -- A receiver's commit as a change of the network: what it rests on, and what stands behind it.
-use Rattle.std.specs.Prelude.{ℕ, Bool, false, ◌≡◌, ◌≤◌, ◌+◌, ◌==◌, List, [], ◌∷◌, map, Some, slice_get}
+use Rattle.std.specs.Prelude.{ℕ, Bool, false, ◌≡◌, ◌≤◌, ◌+◌, ◌==◌, List, [], ◌∷◌, map, None, Some, slice_get}
 use Rattle.mq_message.specs.declared.message.Ident.{Ident}
 use Rattle.mq_message.specs.declared.message.Message.{Message}
 use Rattle.mq_sync.specs.declared.unit.Unit.{Unit as Luw}
+use Rattle.mq_message.specs.declared.place.Holder.TheVariants as holders
+use Rattle.mq_queue.specs.declared.row.Row.{Row}
 use Rattle.mq_calls.specs.declared.state.Connection.{Connection}
 use Rattle.mq_history.specs.declared.scenario.CableLine.{CableLine}
 use Rattle.mq_history.specs.declared.scenario.Scenario.{Scenario}
 use Rattle.mq_history.specs.declared.story.ManagerPlaces.{ManagerPlaces}
 use Rattle.mq_spec_state.specs.State.{Change, Plain}
 use Rattle.mq_spec_state.specs.State.Change.{Connect}
+use Rattle.mq_spec_state.specs.Reads.{batch_of, is_persistent, stored}
 use Rattle.mq_spec_state.specs.Changes.{apply}
+use Rattle.mq_spec_agents.specs.Words.{is_pending, is_unborn}
 use Rattle.mq_spec_network.specs.Ledger.{Ledger}
 use Rattle.mq_spec_network.specs.Standing.{cable_from}
 use Rattle.mq_spec_network.specs.Story.{Chain, Mem}
@@ -33,6 +37,22 @@ pub record IsCabled (s : Scenario) (ps : List Plain) (m t : ℕ) (c : List ℕ) 
   pub to : cable.receiver ≡ t
   pub alone : (a : ℕ) (x : Plain) (y : CableLine) → slice_get ps a ≡ Some x → cable_from x.given.number c s.cables ≡ Some y → y.receiver ≡ t → a ≡ m
 
+-- no row of its ident is there but of a unit in doubt, as persistent as it is; no uncommitted put has it; it was given
+pub record Comes (p : Plain) (x : Message) : Type 0 where
+  pub rows : (q : List ℕ) (h : Row) → Mem h (stored q p).rows → h.message.ident ≡ x.ident
+      → (c : List ℕ) × (h.by ≡ Some (holders.Batch c)) × (batch_of c p.channels.batches ≡ None) × (is_persistent h.message ≡ is_persistent x)
+  pub pending : is_pending x.ident p ≡ false
+  pub unborn : is_unborn x.ident p ≡ false
+
+-- The manager by which a batch lands, and one that has lost rows of it since: the same but for rows, of which it has none that the other
+-- has not, by their idents
+pub record IsShadow (b p : Plain) : Type 0 where
+  pub given : p.given ≡ b.given
+  pub definitions : p.definitions ≡ b.definitions
+  pub connections : p.connections ≡ b.connections
+  pub moment : p.moment ≡ b.moment
+  pub rows : (d : List ℕ) (h : Row) → Mem h (stored d p).rows → (k : Row) × Mem k (stored d b).rows × (k.message.ident ≡ h.message.ident)
+
 -- What the commit of unit u, which has these messages, rests on at its receiver p.
 pub record IsReceipt (s : Scenario) (given : Ident → Bool) (ps : List Plain) (p : Plain) (l : Ledger) (g : Ghost) (m t : ℕ) (c : List ℕ) (u : Luw) (ms : List Message) : Type 0 where
   pub commits : Commits (world_of s given ps) g m c u t
@@ -40,6 +60,16 @@ pub record IsReceipt (s : Scenario) (given : Ident → Bool) (ps : List Plain) (
   pub cabled : IsCabled s ps m t c
   pub sound : IsSound p
   pub numbered : AreNumbered p.connections
+  pub fresh : IsFresh given p
+  pub told : IsTold t p l
+  pub timed : IsTimed t p l
+  pub shelved : (a : ℕ) (x : ManagerPlaces) → slice_get l.places a ≡ Some x → AreShelved x.queues
+
+-- but for the facts of the manager itself: of one that is down they are those that held as its turn was stopped
+pub record IsAwaitedAt (s : Scenario) (given : Ident → Bool) (ps : List Plain) (p : Plain) (l : Ledger) (g : Ghost) (m t : ℕ) (c : List ℕ) (u : Luw) (ms : List Message) : Type 0 where
+  pub commits : Commits (world_of s given ps) g m c u t
+  pub sent : map tag_of ms ≡ g.sent m c u
+  pub cabled : IsCabled s ps m t c
   pub fresh : IsFresh given p
   pub told : IsTold t p l
   pub timed : IsTimed t p l

@@ -167,12 +167,12 @@ acts s hs p x t actor call o up none free can same =
     record { deed = r.deed; is = r.is; run = record { up = up; is = same ∙ (λ i. choice_event (r.alone i) (r.is i) n); can = r.can } }
 
 -- histories of a cable's managers
-some_at : {A : Type 0} (xs : List A) (i : ℕ) → i < length xs → (x : A) × (slice_get xs i ≡ Some x)
+pub some_at : {A : Type 0} (xs : List A) (i : ℕ) → i < length xs → (x : A) × (slice_get xs i ≡ Some x)
 some_at [] i e = absurd (omega (arith, e))
 some_at (x ∷ xs) zero e = (x, refl)
 some_at (x ∷ xs) (suc i) e = some_at xs i (omega (arith, e))
 
-cable_is : (s : Scenario) (ks : List CableLine) (k : CableLine) → All (IsCable s) ks → Mem k ks → IsCable s k
+pub cable_is : (s : Scenario) (ks : List CableLine) (k : CableLine) → All (IsCable s) ks → Mem k ks → IsCable s k
 cable_is s [] k h n = absurd n
 cable_is s (x ∷ ks) k h (inl e) = subst (IsCable s) (sym e) (All-head (IsCable s) x ks h)
 cable_is s (x ∷ ks) k h (inr n) = cable_is s ks k (All-tail (IsCable s) x ks h) n
@@ -254,7 +254,7 @@ receiver_acts s hs wide p rest es x z t j premises story peace split actor call 
         bool_case (is_stopped_call x.entry.chance) (λ b. is_stopped_call x.entry.chance ≡ b → Moves s hs p x t.h z)
         (λ b some.
         let v : Stops_ o x.entry.chance n = stops o x.entry.chance n can_here some in
-        receiver_halts s hs p x z t j k v.deed v.by v.part v.left premises.scenario e q call up (same_here ∙ (λ i. choice_event (v.alone i) (v.is i) n)) v.can v.is see)
+        receiver_halts s hs p x z t j k v.deed v.by v.part v.left g.0 g.1 premises.scenario e q call up (same_here ∙ (λ i. choice_event (v.alone i) (v.is i) n)) v.can v.is see)
         (λ b none.
         let a : Acts s p x t.h o = acts s hs p x t (actors.Receiver j) calls.Turn o up none (receiver_free x.entry.stamp own x.entry.effect.popped _ n) can_here same_here in
         receivers s hs wide p es x t.h g.0 t.stamp z j k a.deed premises.scenario peace split t.is t.tells t.own e q g.1 actor call a.run a.is see) refl

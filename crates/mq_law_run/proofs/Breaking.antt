@@ -85,7 +85,7 @@ use Rattle.mq_law_stopped.proofs.Leaving.{hardened_calm, settled_lasts, word_las
 use Rattle.mq_law_one.proofs.Running.{Told_}
 use Rattle.mq_law_run.specs.Run.{Moves, Stand, far_at, is_stopped_call, near_at}
 use Rattle.mq_law_run.proofs.Commanding.{up_so}
-use Rattle.mq_law_run.proofs.Cutting.{SaysFar, SaysNear, each_first, far_cut, near_cut, none_written}
+use Rattle.mq_law_run.proofs.Cutting.{SaysFar, SaysNear, SaysWord, each_first, far_cut, near_cut, none_written}
 use Rattle.mq_law_run.proofs.Lining.{else_channel, else_index}
 use Rattle.mq_law_run.proofs.Obeying.{obey_acts, of_receiver, of_sender, remembers, slice_at}
 use Rattle.mq_law_run.proofs.Receiving.{channel_else}
@@ -111,7 +111,7 @@ record BreaksFar (w : Where) (n : Node) (c : Channel) (d : Deed) : Type 0 where
   plain : (o : ReceiverTurn) → step ≡ FarStep.Turn o → ⊥
   took : Took w n d c.back (far_does step c)
   single : Single d.parts d.pushed
-  says : EachFirst (SaysFar w.channel n.manager c step) d.parts
+  says : EachFirst (SaysWord w.channel n.manager c step) d.parts
   near : (v : Where) → (w.cable == v.cable) ≡ false → EachApart v n (Some d)
   others : (v : Where) → parts_for_others v.channel d.parts ≡ true
   far : (v : Where) → (w.cable == v.cable) ≡ false → bytes_eq v.channel w.channel ≡ false → EachFarApart v n (Some d)
@@ -231,9 +231,9 @@ closing e p b = if b then parts_of (harden e.channel (notes.Closed (receiver_or 
 close_single : (e : ReceiverEnd) (p : Plain) → Single (close_open e p) None
 close_single e p = bool_case (is_open (receiver_data e.channel p)) (λ b. Single (closing e p b) None) (λ z. (refl, refl, λ y. refl)) (λ z. (refl, refl, λ y. refl))
 
-close_says : (w : Where) (n : Node) (c : Channel) → EachFirst (SaysFar w.channel n.manager c FarStep.Stop) (close_open (receiver_of w c.receiver c.kept) n.manager)
-close_says w n c = bool_case (is_open (receiver_data w.channel n.manager)) (λ b. EachFirst (SaysFar w.channel n.manager c FarStep.Stop) (closing (receiver_of w c.receiver c.kept) n.manager b))
-    (λ z r f. inl ((notes.Closed (receiver_or (receiver_data w.channel n.manager)).session, tt, refl), closed_unit (channels.is_open c.receives) c.receives, λ t u e g i. stop_plain t e))
+close_says : (w : Where) (n : Node) (c : Channel) → EachFirst (SaysWord w.channel n.manager c FarStep.Stop) (close_open (receiver_of w c.receiver c.kept) n.manager)
+close_says w n c = bool_case (is_open (receiver_data w.channel n.manager)) (λ b. EachFirst (SaysWord w.channel n.manager c FarStep.Stop) (closing (receiver_of w c.receiver c.kept) n.manager b))
+    (λ z r f. ((notes.Closed (receiver_or (receiver_data w.channel n.manager)).session, tt, refl), closed_unit (channels.is_open c.receives) c.receives, λ t u e g i. stop_plain t e))
     (λ z r f. absurd cc)
 
 stops_broken : (w : Where) (n : Node) (c : Channel) → TakesAs w n c → is_up n.manager.running ≡ true → BreaksTaking w n c (stop_end (Some (Receives (receiver_of w c.receiver c.kept))) n)
@@ -272,7 +272,7 @@ taking_numbers w n c seqnum h up = bool_case (receivers.is_bound c.receiver.stat
           (ap (λ (d : ReceiverData). record d { last = seqnum - 1 }) h.data_ ∙ found_receiver w.channel (record (receives_at w.channel n.manager) { last = seqnum - 1 }) (receiver_data w.channel n.manager))
           refl;
       single = (refl, refl, λ z. refl);
-      says = λ r f. inl ((notes.SeqSet end_kinds.Receiver (seqnum - 1), tt, refl), refl, λ t u a b i. number_plain (seqnum - 1) t a);
+      says = λ r f. ((notes.SeqSet end_kinds.Receiver (seqnum - 1), tt, refl), refl, λ t u a b i. number_plain (seqnum - 1) t a);
       near = λ v a. (set_receiving v (receiver_of w (receivers.numbered (seqnum - 1) c.receiver) c.kept) n a, refl);
       others = λ v. refl;
       far = λ v a f. (set_taking v (receiver_of w (receivers.numbered (seqnum - 1) c.receiver) c.kept) n a, ap (λ (b : Bool). (not b && true) && true) f);
@@ -315,8 +315,9 @@ far_broken s hs p x z t i k op by_ n_ left scenario e q o (inr v) =
     let sound : IsSound n.manager = sound_at s hs p x z t o.up in
     let keeps : AllKeep IsSound d.parts n.manager = operates op n sound in
     let after = behind d.parts n.manager sound keeps in
-    far_cut s hs p x z t i k d by_ n_ left v.step scenario e q o.up o.is o.can (subst IsOfEnd (sym o.call) tt) sound keeps v.single v.may v.took
-    (λ a u at out place. absurd (v.plain a at)) v.says
+    far_cut s hs p x z t i k d by_ n_ left v.step scenario e q o.up o.is o.can (subst IsOfEnd (sym o.call) tt) (inl v.plain) sound keeps v.single v.may v.took
+    (λ a u at out place. absurd (v.plain a at))
+    (each_first (SaysWord k.channel n.manager (z.xs k.sender k.channel) v.step) (SaysFar (deeds p) k.sender d.received k.channel n.manager (z.xs k.sender k.channel) v.step) d.parts (λ part r h. inl h) v.says)
     (λ j h f out a.
     let u : Where = near_at s j h in
     let g : EachApart u n (Some d) = v.near u (else_index s i j k h e f out) in

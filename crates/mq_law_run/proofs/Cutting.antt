@@ -1,6 +1,7 @@
 -- A write of a channel's end that is stopped, as a move of the network: the channel stays as it was, and the write is noted.
-use Rattle.std.proofs.Common.{ℕ, zero, suc, ◌≡◌, ◌≤◌, ◌⊎◌, true, false, List, [], ◌∷◌, ◌++◌, refl, ap, sym, subst, ◌∙◌, inl, inr, arith}
+use Rattle.std.proofs.Common.{ℕ, zero, suc, ◌≡◌, ◌≤◌, ◌⊎◌, true, false, List, [], ◌∷◌, ◌++◌, refl, ap, sym, subst, ◌∙◌, inl, inr, arith, map}
 use Rattle.std.specs.Prelude.{Option, Some, None, is_none, is_some, slice_get}
+use Rattle.mq_message.specs.declared.message.Message.{Message}
 use Rattle.mq_sync.specs.declared.unit.Unit.{Unit as Luw}
 use Rattle.mq_sync.specs.declared.data.ReceiverData.{ReceiverData}
 use Rattle.mq_sync.specs.declared.data.SenderData.{SenderData}
@@ -10,8 +11,11 @@ use Rattle.mq_receiver.specs.declared.turns.ReceiverOut.TheVariants as outs
 use Rattle.mq_frame.specs.declared.frame.Frame.{Frame}
 use Rattle.mq_disk.specs.declared.cutter.Stop.{Stop}
 use Rattle.mq_calls.specs.declared.choices.Choice.TheVariants.{Stopped}
+use Rattle.mq_calls.specs.declared.agents.Note.TheVariants as notes
 use Rattle.mq_calls.specs.declared.deltas.Did.{Did}
+use Rattle.mq_calls.specs.declared.deltas.Did.TheVariants as did
 use Rattle.mq_calls.specs.declared.records.LogRecord.{LogRecord}
+use Rattle.mq_history.specs.declared.calls.Call.TheVariants as calls
 use Rattle.mq_history.specs.declared.calls.Entry.{Entry}
 use Rattle.mq_history.specs.declared.calls.Reply.{Reply}
 use Rattle.mq_history.specs.declared.calls.Reply.TheVariants as replies
@@ -19,7 +23,7 @@ use Rattle.mq_history.specs.declared.history.History.{History}
 use Rattle.mq_history.specs.declared.scenario.CableLine.{CableLine}
 use Rattle.mq_history.specs.declared.scenario.Scenario.{Scenario}
 use Rattle.mq_history.specs.Scenarios.{IsScenario}
-use Rattle.mq_spec_state.specs.State.{Plain}
+use Rattle.mq_spec_state.specs.State.{Noted, Plain}
 use Rattle.mq_spec_state.specs.State.Running.{Up}
 use Rattle.mq_spec_state.specs.Reads.{receiver_data, sender_data}
 use Rattle.mq_spec_agents.specs.Words.{harden_part}
@@ -28,12 +32,12 @@ use Rattle.mq_spec_state.specs.Steps.Step.{Do}
 use Rattle.mq_spec_node.specs.Node.{Node}
 use Rattle.mq_spec_node.specs.Deeds.{CanCome, Deed, Done, done, node_of}
 use Rattle.mq_spec_node.specs.Replays.{done_by}
-use Rattle.mq_spec_network.specs.Conflict.{deeds, deeds_in}
+use Rattle.mq_spec_network.specs.Conflict.{Deed as ToldDeed, deeds, deeds_in}
 use Rattle.mq_spec_network.specs.Ledger as ledgers
 use Rattle.mq_spec_network.specs.Ledger.{Ledger, Users, ledger, posted}
 use Rattle.mq_spec_network.specs.Order.{unit_received}
 use Rattle.mq_spec_network.specs.Standing.{managers_at, node_after, opening_ledger, opening_managers}
-use Rattle.mq_spec_network.specs.Story.{Line}
+use Rattle.mq_spec_network.specs.Story.{Line, Mem}
 use Rattle.mq_law_channel.specs.Channel.{Channel, Past}
 use Rattle.mq_law_channel.specs.Turns.{ReceiverTurn, receiver_does}
 use Rattle.mq_law_channel.proofs.Told.{and_both}
@@ -42,7 +46,7 @@ use Rattle.mq_law_manager.specs.Kept.{AllKeep}
 use Rattle.mq_law_manager.proofs.Ending.{ends}
 use Rattle.mq_law_node.specs.Beside.{AsideFar, AsideNear}
 use Rattle.mq_law_node.specs.Data.{receiver_by_all, receiver_in_parts, sender_by_all, sender_in_parts}
-use Rattle.mq_law_node.specs.Ends.{SendsAs, Sent, Taken as Took, TakesAs, Where, offering, told_receives, told_sends}
+use Rattle.mq_law_node.specs.Ends.{SendsAs, Sent, Taken as Took, TakesAs, Where, offering, stamped, told_receives, told_sends}
 use Rattle.mq_law_node.specs.Moves.{FarStep, NearMay, NearStep, far_does, near_does}
 use Rattle.mq_law_node.specs.Nodes.{FarMayLater, Single, first_delta, has_received, unforced}
 use Rattle.mq_law_node.proofs.DataLaws.{receiver_done_all, sender_done_all}
@@ -59,10 +63,12 @@ use Rattle.mq_law_turns.specs.Agreed.{IsToldOf}
 use Rattle.mq_law_turns.proofs.Agreeing.{grows}
 use Rattle.mq_law_deeds.specs.Numbers.{AreCountedAt}
 use Rattle.mq_law_deeds.proofs.Counting.{cut_kept}
-use Rattle.mq_law_stopped.specs.Noted.{EachFirst, EndNote, IsOfEnd, IsWordOf, SaysSender, Stays_, all_calm, noted_of}
+use Rattle.mq_law_receipts.specs.Receipts.{Comes}
+use Rattle.mq_law_stopped.specs.Noted.{EachFirst, EndNote, IsCommitting, IsOfEnd, IsWordOf, SaysSender, Stays_, all_calm, noted_of, told_at}
 use Rattle.mq_law_stopped.specs.Noted.EndNote.{Commits, Far, Near}
 use Rattle.mq_law_stopped.proofs.FarRedoing.{word_frozen}
-use Rattle.mq_law_stopped.proofs.Leaving.{calm_quiet, hardened_calm, leaves, word_lasts}
+use Rattle.mq_law_stopped.proofs.Committing.{commit_lasts}
+use Rattle.mq_law_stopped.proofs.Leaving.{calm_quiet, hardened_calm, leaves, one_left, sound_of, word_lasts}
 use Rattle.mq_law_one.specs.Alone.{Became, as_left}
 use Rattle.mq_law_one.proofs.Happening.{became_marked, mark, state_down}
 use Rattle.mq_law_one.proofs.Running.{Told_}
@@ -105,7 +111,7 @@ pub cut_moves : (s : Scenario) (hs : List History) (p : List Line) (x : Line) (z
     → IsCut s hs p x z t k d by_ left part r
     → IsMoved s x.manager (done d (Stopped by_ zero left) (node_after s x.manager p t.h)).next i k (z.xs k.sender k.channel) (z.xs k.sender k.channel) (z.ys k.sender k.channel)
     → IsNoted x.manager (stopped_entry x.entry (node_after s x.manager p t.h).manager) (noted_of part r) (cut_as part r left (node_after s x.manager p t.h).manager)
-    ⊎ EndNote s z.xs x.manager (stopped_entry x.entry (node_after s x.manager p t.h).manager) (noted_of part r) (as_left (cut_as part r left (node_after s x.manager p t.h).manager)) → Moves s hs p x t.h z
+    ⊎ EndNote s (deeds p) z.xs x.manager (stopped_entry x.entry (node_after s x.manager p t.h).manager) (noted_of part r) (as_left (cut_as part r left (node_after s x.manager p t.h).manager)) → Moves s hs p x t.h z
 cut_moves s hs p x z t i k d by_ left part r scenario at_k v mine noted =
     let m : ℕ = x.manager in
     let e : Entry = x.entry in
@@ -130,7 +136,7 @@ cut_moves s hs p x z t i k d by_ left part r scenario at_k v mine noted =
     let moment : follow.told.users.moment ≡ b.moment = (follow.kept a.timed.users follow.told.users a.timed.used follow.told.used).moment ∙ a.timed.moment in
     let cut_ : (ledgers.users_at m k1).cut ≡ Some (stopped_entry e b) = ap (λ o. (ledgers.users_or o).cut) (here_changed m (mark e) lost.users follow.told.users follow.told.used) ∙ ap (λ (u : ℕ). Some (record { entry = e; moment = u })) moment in
     let frozen : IsFrozen q = subst IsFrozen stops (ends {F = Unit {0}} (Do (tt {0}) d.parts) (Stopped by_ zero left) b v.before v.keeps) in
-    let became : Became (EndNote s z.xs m) m z.given n l next k1 = became_marked m z.given n l next lost (mark e) (λ u. refl) (λ u. refl) a follow (state_down (Some (noted_of part r)) 0 q refl frozen) (stopped_entry e b, cut_, noted) in
+    let became : Became (EndNote s (deeds p) z.xs m) m z.given n l next k1 = became_marked m z.given n l next lost (mark e) (λ u. refl) (λ u. refl) a follow (state_down (Some (noted_of part r)) 0 q refl frozen) (stopped_entry e b, cut_, noted) in
     let j = leads_on s z.given became.now m b q (managers_at s p hs) (managers_at s (p ++ x ∷ []) hs) l k1 z.ghost s.cables z.xs z.ys (subst (λ (w : Done). IsNext m b w.next.manager (managers_at s p hs) (managers_at s (p ++ x ∷ []) hs)) so (next_managers s hs p x t)) a.told became.leads became.same became.at.told became.other z.joint in
     let ends_at : (done d (Stopped by_ zero left) n).next ≡ next = λ o. node_of (stops o) n.own in
     move_to s hs p x t.h z d1 k1 so whole (record {
@@ -269,18 +275,33 @@ near_cut s hs p x z t i k d by_ n_ left step scenario at_k q up is can of_end be
     ])
 
 -- A RECEIVER'S END: a word, or a commit
-abbrev pub SaysFar : (c : List ℕ) (b : Plain) (x : Channel) (step : FarStep) → Part → LogRecord → Type 0
-SaysFar c b x step part r = (IsWordOf c b part × ((far_does step x).receives.unit ≡ x.receives.unit) × ((t : ReceiverTurn) (u : Luw) → step ≡ FarStep.Turn t → t.outcome ≡ outs.Done → receiver_does t x ≡ takes.Place u → ⊥)) ⊎ ((v : List ℕ × Luw) × (unit_received part.delta ≡ Some v))
+abbrev pub SaysWord : (c : List ℕ) (b : Plain) (x : Channel) (step : FarStep) → Part → LogRecord → Type 0
+SaysWord c b x step part r = IsWordOf c b part × ((far_does step x).receives.unit ≡ x.receives.unit) × ((t : ReceiverTurn) (u : Luw) → step ≡ FarStep.Turn t → t.outcome ≡ outs.Done → receiver_does t x ≡ takes.Place u → ⊥)
+
+-- no turn of it
+abbrev pub NoTurn : FarStep → Type 0
+NoTurn step = (t : ReceiverTurn) → step ≡ FarStep.Turn t → ⊥
+
+-- (this was told, and these messages the entry has)
+pub record SaysCommit (ds : List ToldDeed) (sender : ℕ) (ms : List Message) (c : List ℕ) (b : Plain) (x : Channel) (step : FarStep) (part : Part) (r : LogRecord) : Type 0 where
+  pub turn : ReceiverTurn
+  pub is : step ≡ FarStep.Turn turn
+  pub commits : IsCommitting c b x turn part r
+  pub received : ms ≡ commits.land.taken
+  pub agrees : Mem (told_at sender (did.Hardened c (notes.Resolved commits.unit false true))) ds ⊎ ((m : Message) → Mem m (map stamped x.kept) → Comes b m)
+
+abbrev pub SaysFar : (ds : List ToldDeed) (sender : ℕ) (ms : List Message) (c : List ℕ) (b : Plain) (x : Channel) (step : FarStep) → Part → LogRecord → Type 0
+SaysFar ds sender ms c b x step part r = SaysWord c b x step part r ⊎ SaysCommit ds sender ms c b x step part r
 
 pub far_cut : (s : Scenario) (hs : List History) (p : List Line) (x : Line) (z : Stand s hs p) (t : Told_ s hs p x) (i : ℕ) (k : CableLine) (d : Deed) (by_ : Stop) (n_ left : ℕ) (step : FarStep) → IsScenario s → slice_get s.cables i ≡ Some k → k.receiver ≡ x.manager
-    → (node_after s x.manager p t.h).manager.running ≡ Up → done_by x.entry (node_after s x.manager p t.h) ≡ done d (Stopped by_ n_ left) (node_after s x.manager p t.h) → CanCome d (Stopped by_ n_ left) (node_after s x.manager p t.h) → IsOfEnd x.entry.call
+    → (node_after s x.manager p t.h).manager.running ≡ Up → done_by x.entry (node_after s x.manager p t.h) ≡ done d (Stopped by_ n_ left) (node_after s x.manager p t.h) → CanCome d (Stopped by_ n_ left) (node_after s x.manager p t.h) → IsOfEnd x.entry.call → (NoTurn step ⊎ (x.entry.call ≡ calls.Turn))
     → IsSound (node_after s x.manager p t.h).manager → AllKeep IsSound d.parts (node_after s x.manager p t.h).manager → Single d.parts d.pushed → FarMayLater step (z.xs k.sender k.channel)
     → Took (far_at s i k) (node_after s x.manager p t.h) d (z.xs k.sender k.channel).back (far_does step (z.xs k.sender k.channel))
     → ((o : ReceiverTurn) (u : Luw) → step ≡ FarStep.Turn o → o.outcome ≡ outs.Done → receiver_does o (z.xs k.sender k.channel) ≡ takes.Place u → has_received k.channel u (first_delta d.parts) ≡ true)
-    → EachFirst (SaysFar k.channel (node_after s x.manager p t.h).manager (z.xs k.sender k.channel) step) d.parts
+    → EachFirst (SaysFar (deeds p) k.sender d.received k.channel (node_after s x.manager p t.h).manager (z.xs k.sender k.channel) step) d.parts
     → ((j : ℕ) (h : CableLine) → slice_get s.cables j ≡ Some h → here k h ≡ false → h.sender ≡ x.manager → AsideNear (near_at s j h) (node_after s x.manager p t.h) d)
     → ((j : ℕ) (h : CableLine) → slice_get s.cables j ≡ Some h → here k h ≡ false → h.receiver ≡ x.manager → AsideFar (far_at s j h) (node_after s x.manager p t.h) d) → Moves s hs p x t.h z
-far_cut s hs p x z t i k d by_ n_ left step scenario at_k q up is can of_end before keeps single may took told says near far =
+far_cut s hs p x z t i k d by_ n_ left step scenario at_k q up is can of_end by_turn before keeps single may took told says near far =
     let m : ℕ = x.manager in
     let n : Node = node_after s m p t.h in
     let b : Plain = n.manager in
@@ -305,8 +326,32 @@ far_cut s hs p x z t i k d by_ n_ left step scenario at_k q up is can of_end bef
         λ g h. h,
       );
       else = λ a o. refl;
-    }) (inr (elim (subst (EachFirst (SaysFar k.channel b c step)) f.parts says r f.forced) [
-      | inr v ↦ Commits v.0 v.1
+    }) (inr (elim (subst (EachFirst (SaysFar (deeds p) k.sender d.received k.channel b c step)) f.parts says r f.forced) [
+      | inr v ↦
+          let o = v.commits in
+          let note : Noted = noted_of part r in
+          let stays_ : Stays_ b part = subst (Stays_ b) (sym o.part_) (commit_lasts k.channel o.unit o.last (map stamped c.kept) o.land b o.lands before) in
+          Commits i k at_k q (record {
+            was = b;
+            turn = v.turn;
+            part = part;
+            force = r;
+            commits = o;
+            is = refl;
+            may = subst (λ (w : FarStep). FarMayLater w c) v.is may;
+            data_ = subst (λ (w : FarStep). told_receives (far_does w c).receives ≡ told_receives (receiver_or (receiver_by_all k.channel part.changes (receiver_data k.channel b)))) v.is
+                (data_all ∙ ap (λ (ps : List Part). told_receives (receiver_or (receiver_in_parts k.channel ps (receiver_data k.channel b)))) f.parts
+                ∙ ap (λ (o : Option ReceiverData). told_receives (receiver_or o)) (receiver_parts_quiet k.channel f.rest (receiver_by_all k.channel part.changes (receiver_data k.channel b)) single0.1));
+            back = subst (λ (w : FarStep). (far_does w c).back ≡ c.back) v.is (sym took.offers ∙ ap (λ (o : Option Frame). offering o c.back) (single0.2 (ap (λ (o : Option LogRecord). is_some o) f.forced)));
+            left = refl;
+            whole = before;
+            call = elim by_turn [ inl w ↦ absurd (w v.turn v.is) | inr w ↦ w ];
+            received = t.tells.received ∙ ap (λ (o : Done). o.received) is0 ∙ v.received;
+            moment = refl;
+            sound = sound_of b part r left keeps0.0 stays_;
+            one = one_left b part r left keeps0.0;
+            agrees = v.agrees;
+          })
       | inl v ↦
           let word = v.0.0 in
           let is_word = v.0.1 in

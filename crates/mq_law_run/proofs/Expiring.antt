@@ -214,7 +214,7 @@ expiry_moves s hs p x z t i k d scenario e q actor call r is offered gone =
         number = ap (λ (g : Given). g.number) follow.same.given ∙ a.number;
         timed = record { users = follow.told.users; used = follow.told.used; moment = (follow.kept a.timed.users follow.told.users a.timed.used follow.told.used).moment ∙ a.timed.moment ∙ sym follow.steady };
         state = state_up q1 up r.after;
-        noted = noted_up (EndNote s (put_at z.xs k.sender k.channel c1) m) m q1 l1 up;
+        noted = noted_up (EndNote s (deeds p) (put_at z.xs k.sender k.channel c1) m) m q1 l1 up;
       };
       known = follow.known;
       others = λ o v f h. others_told m o v l l1 f follow.other h;

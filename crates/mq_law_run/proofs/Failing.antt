@@ -67,8 +67,8 @@ failing_moves s hs p x h stamp z noted starts more g is tells own down same none
     let next : Node = failed_node noted more g n in
     let ps : List Plain = managers_at s p hs in
     let qs : List Plain = managers_at s (p ++ x ∷ []) hs in
-    let a : IsAt (EndNote s z.xs m) m z.given n l = z.at m h is in
-    let b : Became (EndNote s z.xs m) m z.given n l next l = aside_happens m z.given n l n.own (Down noted more) g a (ap is_up down) (more_noted (EndNote s z.xs m) m noted starts more n.manager l (subst (λ (r : Running). IsNotedAt (EndNote s z.xs m) m r n.manager l) down a.noted)) in
+    let a : IsAt (EndNote s (deeds p) z.xs m) m z.given n l = z.at m h is in
+    let b : Became (EndNote s (deeds p) z.xs m) m z.given n l next l = aside_happens m z.given n l n.own (Down noted more) g a (ap is_up down) (more_noted (EndNote s (deeds p) z.xs m) m noted starts more n.manager l (subst (λ (r : Running). IsNotedAt (EndNote s (deeds p) z.xs m) m r n.manager l) down a.noted)) in
     let on : IsNext m n.manager next.manager ps qs = subst (λ (w : Node). IsNext m n.manager w.manager ps qs) same (next_managers s hs p x t) in
     let j = leads_on s z.given b.now m n.manager next.manager ps qs l l z.ghost s.cables z.xs z.ys on a.told b.leads b.same b.at.told b.other z.joint in
     let delta : x.entry.effect.delta ≡ [] = tells.delta ∙ none in
@@ -104,7 +104,7 @@ failing_moves s hs p x h stamp z noted starts more g is tells own down same none
       not_yet = λ a_ c u f. still_not s (opening_managers s hs) p x c u (none_committed c u m x.entry.effect.delta received) (z.not_yet a_ c u ((λ i. sym j.1 i a_ c u) ∙ f));
       risen = λ k w. risen_still s (opening_managers s hs) p x k.channel (z.xs k.sender k.channel).receives.unit (z.xs k.sender k.channel).receives.unit received refl (z.risen k w);
       owned = λ a_ c u f. z.owned a_ c u ((λ i. sym j.1 i a_ c u) ∙ f);
-      at = subst (λ (w : Node). IsAt (EndNote s z.xs m) m b.now w l) (sym same) b.at;
+      at = subst (λ (w : Node). IsAt (EndNote s (deeds p) z.xs m) m b.now w l) (sym same) b.at;
       known = b.known;
       others = λ c r ne o. o;
       users = λ c ne. refl;

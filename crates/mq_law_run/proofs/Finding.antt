@@ -25,7 +25,7 @@ use Rattle.mq_history.specs.declared.history.History.{History}
 use Rattle.mq_history.specs.declared.scenario.CableLine.{CableLine}
 use Rattle.mq_history.specs.declared.scenario.Scenario.{Scenario}
 use Rattle.mq_history.specs.Scenarios.{IsScenario}
-use Rattle.mq_spec_state.specs.State.{Change, Given, Noted, Plain, Running}
+use Rattle.mq_spec_state.specs.State.{Change, Noted, Plain, Running}
 use Rattle.mq_spec_state.specs.State.Running.{Down}
 use Rattle.mq_spec_state.specs.Reads.{receiver_data, sender_data}
 use Rattle.mq_spec_state.specs.Steps.{stands_in}
@@ -54,7 +54,7 @@ use Rattle.mq_law_node.proofs.NearEvents.{redone_data}
 use Rattle.mq_law_rows.specs.Families.{put_at}
 use Rattle.mq_law_rows.proofs.Lists.{bool_case, eqb_self, here_yes, is_false, true_false}
 use Rattle.mq_law_seen.specs.Seen.{book_of, world_of}
-use Rattle.mq_law_events.specs.Tied.{IsNext, connections_told}
+use Rattle.mq_law_events.specs.Tied.{IsNext}
 use Rattle.mq_law_events.proofs.Telling.{else_changed, here_changed}
 use Rattle.mq_law_batches.specs.Releases.{IsWord, settled_changes}
 use Rattle.mq_law_turns.specs.Agreed.{IsToldOf}
@@ -72,12 +72,13 @@ use Rattle.mq_law_stopped.proofs.FarRedoing.{far_redone}
 use Rattle.mq_law_stopped.proofs.Leaving.{one_redone}
 use Rattle.mq_law_stopped.proofs.Redoing.{near_redone}
 use Rattle.mq_law_stopped.proofs.Sparing.{sender_leaves, sender_spares, word_leaves, word_spares}
-use Rattle.mq_law_run.specs.Run.{Moves, Stand, back_done, far_at, near_at}
-use Rattle.mq_law_run.proofs.Beside.{IsBeside, all_add_none, all_beside, all_of_end, beside_fresh}
+use Rattle.mq_law_run.specs.Run.{HaveSenders, Moves, Stand, back_done, far_at, near_at}
+use Rattle.mq_law_run.proofs.Beside.{IsBeside, all_add_none, all_beside, all_of_end, beside_fresh, beside_told}
 use Rattle.mq_law_run.proofs.Cabled.{all_cabled, same_batches}
 use Rattle.mq_law_run.proofs.Lining.{else_channel, else_index, here, index_of, mem_at, same_cable, same_index, units_put}
 use Rattle.mq_law_run.proofs.Owning.{next_managers}
 use Rattle.mq_law_run.proofs.Receiving.{channel_else, operated_old}
+use Rattle.mq_law_run.proofs.Recommitting.{commit_returns}
 use Rattle.mq_law_run.proofs.Redoing.{FarPart, NearPart, end_returns, mid_of}
 use Rattle.mq_law_run.proofs.Resolving.{real_unit}
 use Rattle.mq_law_run.proofs.Returning.{call_returns, filter_quiet}
@@ -165,12 +166,14 @@ near_returns s hs wide p es x z t noted starts started st i k scenario peace spl
     (λ f. near_keeps note.step c y (z.lines i k at_k).facts note.may)
     (λ f. let j = index_of s.cables h o in (z.lines j.0 h j.1).facts) in
     let before = operated_before zz (world_of s z.given mid) c1 y1 r.turned in
-    end_returns s hs p x z t noted starts started st z.given r.turned.ghost xs ys l scenario down call chance is cut (left.posts b l) (left.sound started b.running b.moment b.log) (record {
+    end_returns s hs p x z t noted starts started st z.given r.turned.ghost xs ys g l l scenario down call chance is cut (left.posts b l) (left.sound started b.running b.moment b.log) refl (record {
       joint = joint;
       facts = facts;
-      told = record { places = a.told.places; placed = a.told.placed; shelved = a.told.shelved; name = a.told.name ∙ ap (λ (o : Given). o.name) (sym beside.given); definitions = a.told.definitions ∙ sym beside.definitions; users = a.told.users; used = a.told.used; connections = a.told.connections ∙ ap (λ cs. connections_told cs) (sym beside.connections) };
+      told = beside_told m b g l beside a.told;
       fresh = beside_fresh z.given b g beside a.fresh;
-      moment = ap (λ o. (ledgers.users_or o).moment) (sym a.told.used ∙ a.timed.used) ∙ a.timed.moment;
+      now = beside_told m b g l beside a.told;
+      books = refl;
+      moment = ap (λ o. (ledgers.users_or o).moment) (sym (beside_told m b g l beside a.told).used ∙ a.timed.used) ∙ a.timed.moment;
       same = beside.given;
       steady = beside.moment;
       free = unprepared_still s z.given mid r.turned.ghost (book_of l) s.cables xs ys m g n1.to (one_redone noted b left.one) (all_cabled s.cables m noted.changes (record b { log = stands_in noted.written b.log }) of_end.1 (same_batches s.cables m b (record b { log = stands_in noted.written b.log }) refl (z.cabled m t.h t.is))) facts joint;
@@ -293,12 +296,14 @@ far_returns s hs p x z t noted starts started st i k scenario at_k q left note c
     (λ f. far_keeps note.step c y (z.lines i k at_k).facts (may_now note.step c y note.may note.calm))
     (λ f. let j = index_of s.cables h o in (z.lines j.0 h j.1).facts) in
     let old = operated_old zz (world_of s z.given mid) (book_of l) c1 y r in
-    end_returns s hs p x z t noted starts started st z.given r.ghost xs ys l scenario down call chance is cut (left.posts b l) (left.sound started b.running b.moment b.log) (record {
+    end_returns s hs p x z t noted starts started st z.given r.ghost xs ys g l l scenario down call chance is cut (left.posts b l) (left.sound started b.running b.moment b.log) refl (record {
       joint = joint;
       facts = facts;
-      told = record { places = a.told.places; placed = a.told.placed; shelved = a.told.shelved; name = a.told.name ∙ ap (λ (o : Given). o.name) (sym beside.given); definitions = a.told.definitions ∙ sym beside.definitions; users = a.told.users; used = a.told.used; connections = a.told.connections ∙ ap (λ cs. connections_told cs) (sym beside.connections) };
+      told = beside_told m b g l beside a.told;
       fresh = beside_fresh z.given b g beside a.fresh;
-      moment = ap (λ o. (ledgers.users_or o).moment) (sym a.told.used ∙ a.timed.used) ∙ a.timed.moment;
+      now = beside_told m b g l beside a.told;
+      books = refl;
+      moment = ap (λ o. (ledgers.users_or o).moment) (sym (beside_told m b g l beside a.told).used ∙ a.timed.used) ∙ a.timed.moment;
       same = beside.given;
       steady = beside.moment;
       free = unprepared_still s z.given mid r.ghost (book_of l) s.cables xs ys m g n1.to (one_redone noted b left.one) (all_cabled s.cables m noted.changes (record b { log = stands_in noted.written b.log }) of_end.1 (same_batches s.cables m b (record b { log = stands_in noted.written b.log }) refl (z.cabled m t.h t.is))) facts joint;
@@ -359,31 +364,17 @@ far_returns s hs p x z t noted starts started st i k scenario at_k q left note c
         )) refl
 
 -- EACH
-committed_lasts : (r : LogRecord) (b : Plain) (u : List ℕ × Luw) (ds : List Did) → unit_received ds ≡ Some u → unit_received (filter (lasts r b) ds) ≡ Some u
-committed_lasts r b u [] e = absurd cc
-committed_lasts r b u (did.Received c v ∷ ds) e = e
-committed_lasts r b u (did.Placed q i dead ∷ ds) e = bool_case (lasts r b (did.Placed q i dead)) (λ t. unit_received (if t then did.Placed q i dead ∷ filter (lasts r b) ds else filter (lasts r b) ds) ≡ Some u) (λ z. committed_lasts r b u ds e) (λ z. committed_lasts r b u ds e)
-committed_lasts r b u (did.Removed q i why ∷ ds) e = bool_case (lasts r b (did.Removed q i why)) (λ t. unit_received (if t then did.Removed q i why ∷ filter (lasts r b) ds else filter (lasts r b) ds) ≡ Some u) (λ z. committed_lasts r b u ds e) (λ z. committed_lasts r b u ds e)
-committed_lasts r b u (did.Moved q i to target bare ∷ ds) e = committed_lasts r b u ds e
-committed_lasts r b u (did.Held q i by_ ∷ ds) e = bool_case (lasts r b (did.Held q i by_)) (λ t. unit_received (if t then did.Held q i by_ ∷ filter (lasts r b) ds else filter (lasts r b) ds) ≡ Some u) (λ z. committed_lasts r b u ds e) (λ z. committed_lasts r b u ds e)
-committed_lasts r b u (did.Released q i ∷ ds) e = bool_case (lasts r b (did.Released q i)) (λ t. unit_received (if t then did.Released q i ∷ filter (lasts r b) ds else filter (lasts r b) ds) ≡ Some u) (λ z. committed_lasts r b u ds e) (λ z. committed_lasts r b u ds e)
-committed_lasts r b u (did.Hardened c w ∷ ds) e = committed_lasts r b u ds e
-committed_lasts r b u (did.Prepared c v ∷ ds) e = committed_lasts r b u ds e
-
 pub return_moves : (s : Scenario) (hs : List History) (wide p : List Line) (es : List ToldDeed) (x : Line) (z : Stand s hs p) (t : Told_ s hs p x) (noted : Noted) (starts started : ℕ) → IsScenario s → NoConflict s hs wide → deeds wide ≡ deeds (p ++ x ∷ []) ++ es
-    → unit_received x.entry.effect.delta ≡ None → (node_after s x.manager p t.h).manager.running ≡ Down (Some noted) starts → x.entry.call ≡ calls.Act acts.Restart
+    → HaveSenders s hs → (node_after s x.manager p t.h).manager.running ≡ Down (Some noted) starts → x.entry.call ≡ calls.Act acts.Restart
     → x.entry.chance ≡ chances.Restart (Comes true started) → done_by x.entry (node_after s x.manager p t.h) ≡ back_done started noted (node_after s x.manager p t.h) → Moves s hs p x t.h z
-return_moves s hs wide p es x z t noted starts started scenario peace split calm down call chance is =
-    let h = subst (λ (r : Running). IsNotedAt (EndNote s z.xs x.manager) x.manager r (node_after s x.manager p t.h).manager (ledger (opening_ledger s hs) p)) down (z.at x.manager t.h t.is).noted in
+return_moves s hs wide p es x z t noted starts started scenario peace split have down call chance is =
+    let h = subst (λ (r : Running). IsNotedAt (EndNote s (deeds p) z.xs x.manager) x.manager r (node_after s x.manager p t.h).manager (ledger (opening_ledger s hs) p)) down (z.at x.manager t.h t.is).noted in
     elim h.2 [
       | inl o ↦ call_returns s hs p x z t noted starts started scenario (h.0, h.1, o) down call chance is
       | inr o ↦ by_end h.0 h.1 o
     ]
   where
-    by_end : (st : ledgers.Stopped) → (ledgers.users_at x.manager (ledger (opening_ledger s hs) p)).cut ≡ Some st → EndNote s z.xs x.manager st noted (as_left (node_after s x.manager p t.h).manager) → Moves s hs p x t.h z
+    by_end : (st : ledgers.Stopped) → (ledgers.users_at x.manager (ledger (opening_ledger s hs) p)).cut ≡ Some st → EndNote s (deeds p) z.xs x.manager st noted (as_left (node_after s x.manager p t.h).manager) → Moves s hs p x t.h z
     by_end st cut (Near i k at q left note) = near_returns s hs wide p es x z t noted starts started st i k scenario peace split at q left note cut down call chance is
     by_end st cut (Far i k at q left note) = far_returns s hs p x z t noted starts started st i k scenario at q left note cut down call chance is
-    by_end st cut (Commits u e) = absurd (none_some u (sym calm ∙ ap unit_received (t.tells.delta ∙ ap (λ (o : Done). o.delta) is) ∙ committed_lasts noted.written (node_after s x.manager p t.h).manager u noted.delta e))
-      where
-        none_some : (v : List ℕ × Luw) → None ≡ Some v → ⊥
-        none_some v f = cc
+    by_end st cut (Commits i k at q note) = commit_returns s hs wide p es x z t noted starts started st i k scenario peace split have at q note cut down call chance is

@@ -1,6 +1,10 @@
 -- The stopped write of an end's turn, as a move of the network.
-use Rattle.std.proofs.Common.{ℕ, ◌≡◌, List, [], ◌∷◌, ◌++◌, refl, ap, sym, subst, ◌∙◌, inl, inr}
-use Rattle.std.specs.Prelude.{Option, Some, None, slice_get}
+use Rattle.std.proofs.Common.{ℕ, ◌≡◌, ◌⊎◌, List, [], ◌∷◌, ◌++◌, refl, ap, sym, subst, ◌∙◌, inl, inr, map}
+use Rattle.std.specs.Prelude.{Option, Some, None, Ok, true, false, slice_get}
+use Rattle.mq_codes.specs.declared.reason.Reason.{Reason}
+use Rattle.mq_message.specs.declared.message.Message.{Message}
+use Rattle.mq_sync.specs.declared.unit.Unit.{Unit as Luw}
+use Rattle.mq_sync.specs.Units.{no_unit}
 use Rattle.mq_disk.specs.declared.cutter.Stop.{Stop}
 use Rattle.mq_frame.specs.declared.frame.Seen.{Seen}
 use Rattle.mq_queue.specs.declared.row.Row.{Row}
@@ -11,7 +15,10 @@ use Rattle.mq_receiver.specs.declared.turns.ReceiverDoes.{ReceiverDoes}
 use Rattle.mq_receiver.specs.declared.turns.ReceiverDoes.TheVariants as takes
 use Rattle.mq_receiver.specs.declared.turns.ReceiverOut.{ReceiverOut}
 use Rattle.mq_receiver.specs.declared.turns.ReceiverOut.TheVariants as outs
+use Rattle.mq_receiver.specs.After.{last_by}
 use Rattle.mq_receiver.specs.Table.{receiver_next}
+use Rattle.mq_calls.specs.declared.agents.Note.TheVariants as notes
+use Rattle.mq_calls.specs.declared.deltas.Did.TheVariants as did
 use Rattle.mq_calls.specs.declared.choices.Choice.TheVariants.{Stopped}
 use Rattle.mq_calls.specs.declared.deltas.Why.TheVariants as whys
 use Rattle.mq_calls.specs.declared.records.LogRecord.{LogRecord}
@@ -30,22 +37,24 @@ use Rattle.mq_calls.specs.declared.agents.PrepareFault.{PrepareFault}
 use Rattle.mq_spec_state.specs.Steps.{Part, Step}
 use Rattle.mq_spec_state.specs.Steps.Step.{Do, Refuse}
 use Rattle.mq_spec_manager.specs.Get.{expired_parts, removal_part}
-use Rattle.mq_spec_agents.specs.Words.{expired_rows, queue_of_sender, stock}
+use Rattle.mq_spec_agents.specs.Words.{Landed, expired_rows, landed, queue_of_sender, receive, stock, taken_of}
 use Rattle.mq_spec_network.specs.Ledger as ledgers
-use Rattle.mq_spec_network.specs.Ledger.{Ledger, move_all, receive_if, received_on}
-use Rattle.mq_spec_network.specs.Standing.{node_after}
-use Rattle.mq_spec_network.specs.Story.{Line}
+use Rattle.mq_spec_network.specs.Conflict.{deeds}
+use Rattle.mq_spec_network.specs.Ledger.{Ledger, ledger, move_all, receive_if, received_on}
+use Rattle.mq_spec_network.specs.Standing.{managers_at, node_after, opening_ledger}
+use Rattle.mq_spec_network.specs.Story.{Line, Mem}
 use Rattle.mq_spec_node.specs.Node.{Node, ReceiverEnd, SenderEnd}
 use Rattle.mq_spec_node.specs.Deeds.{CanCome, Deed, Done, done}
-use Rattle.mq_spec_node.specs.Receivers.{is_receiver_defined, receiver_deed}
+use Rattle.mq_spec_node.specs.Receivers.{is_receiver_defined, place_deed, receiver_deed, receiver_deed_by}
 use Rattle.mq_spec_node.specs.Replays.{done_by}
 use Rattle.mq_spec_node.specs.Senders.{leave_if_stopped, prepare_deed, sender_deed, sender_deed_by}
 use Rattle.mq_law_channel.specs.Channel.{Channel, Facts, Past}
-use Rattle.mq_law_channel.specs.Turns.{ReceiverTurn, SeenIn, SenderTurn, receiver_does, receiver_turn, sender_turn}
+use Rattle.mq_law_channel.specs.Turns.{ReceiverMay, ReceiverTurn, SeenIn, SenderTurn, receiver_does, receiver_turn, sender_turn}
+use Rattle.mq_law_channel.proofs.Following as following
 use Rattle.mq_law_manager.specs.Facts.{IsSound, ident_of}
 use Rattle.mq_law_manager.specs.Kept.{AllKeep}
 use Rattle.mq_law_manager.proofs.Removals.{differ_filter, mem_filter}
-use Rattle.mq_law_node.specs.Ends.{EachSent, EachTaken as EachTook, SendsAs, TakesAs, Where, receiver_of, sender_of, taking_turn, turn_of}
+use Rattle.mq_law_node.specs.Ends.{EachSent, EachTaken as EachTook, SendsAs, TakesAs, Where, place_out, receiver_of, receiver_out, sender_of, stamped, taking_turn, turn_of}
 use Rattle.mq_law_node.specs.Moves.{FarStep, NearStep}
 use Rattle.mq_law_node.specs.Nodes.{EachSingle}
 use Rattle.mq_law_node.proofs.FarSingles.{EachTold, commits_told, taking_singles}
@@ -57,21 +66,26 @@ use Rattle.mq_law_events.proofs.Taking.{removed_all}
 use Rattle.mq_law_found.specs.Finds.{IsNoted, stopped_call}
 use Rattle.mq_law_found.proofs.Finding.{frozen_noted}
 use Rattle.mq_law_found.proofs.Going.{IsGoing, PostsNone, removal_noted}
-use Rattle.mq_law_turns.specs.Turns.{EachSound, is_expiry}
+use Rattle.mq_law_seen.specs.Seen.{book_of, world_of}
+use Rattle.mq_law_receipts.specs.Receipts.{Comes}
+use Rattle.mq_law_turns.specs.Turns.{EachSound, IsAtFar, Scene, is_expiry}
 use Rattle.mq_law_turns.proofs.Sending.{free_by}
 use Rattle.mq_law_turns.proofs.Sounds.{receivers_sound, senders_sound}
+use Rattle.mq_law_turns.proofs.Taking.{all_come}
+use Rattle.mq_law_cables.proofs.Keeping.{joint_of}
 use Rattle.mq_law_deeds.proofs.Sounding.{behind}
-use Rattle.mq_law_stopped.specs.Noted.{EachFirst, EachWrites, IsOfEnd, SaysReceiver, SaysSender, noted_of}
+use Rattle.mq_law_stopped.specs.Noted.{EachFirst, EachWrites, IsCommitting, IsOfEnd, SaysReceiver, SaysSender, noted_of, told_at}
 use Rattle.mq_law_stopped.proofs.Noting.{leaving_first, receiver_says, sender_says}
 use Rattle.mq_law_one.proofs.Running.{Told_}
 use Rattle.mq_law_run.specs.Run.{Moves, Stand, far_at, near_at}
 use Rattle.mq_law_run.proofs.Beside.{distinct_of}
-use Rattle.mq_law_run.proofs.Cutting.{SaysFar, SaysNear, cut_as, each_first, far_cut, near_cut, stopped_entry}
+use Rattle.mq_law_run.proofs.Cutting.{SaysCommit, SaysFar, SaysNear, cut_as, each_first, far_cut, near_cut, stopped_entry}
 use Rattle.mq_law_run.proofs.Expiring.{expires_so}
-use Rattle.mq_law_run.proofs.Lining.{else_channel, else_index}
+use Rattle.mq_law_run.proofs.Lining.{else_channel, else_index, mem_at}
+use Rattle.mq_law_run.proofs.Owning.{next_managers}
 use Rattle.mq_law_run.proofs.Receiving as receiving
 use Rattle.mq_law_run.proofs.Receiving.{channel_else}
-use Rattle.mq_law_run.proofs.Running.{sends_here, sound_at, takes_here}
+use Rattle.mq_law_run.proofs.Running.{scene, sends_here, sound_at, takes_here}
 use Rattle.mq_law_run.proofs.Sending as sending
 
 -- EXPIRED ROWS
@@ -189,10 +203,70 @@ abbrev turn_does : Channel → FarStep → ReceiverDoes
 turn_does c (FarStep.Turn t) = receiver_does t c
 turn_does c _ = takes.Still
 
-pub receiver_halts : (s : Scenario) (hs : List History) (p : List Line) (x : Line) (z : Stand s hs p) (t : Told_ s hs p x) (i : ℕ) (k : CableLine) (d : Deed) (by_ : Stop) (n_ left : ℕ) → IsScenario s → slice_get s.cables i ≡ Some k → k.receiver ≡ x.manager → x.entry.call ≡ calls.Turn
+-- the messages of a commit are those that its entry has
+received_so : (e : ReceiverEnd) (seen : Seen) (n : Node) (u : Luw) (d : Deed) (ld : Landed) (so : Step Reason (Unit {0})) → place_deed e u seen so n ≡ d → place_out so ≡ outs.Done → landed e.channel e.kept n.manager ≡ Ok ld → d.received ≡ ld.taken
+received_so e seen n u d ld (Refuse reason) f o lands = absurd cc
+received_so e seen n u d ld (Do reply parts) f o lands = ap (λ (v : Deed). v.received) (sym f) ∙ ap taken_of lands
+
+abbrev unit_in : ReceiverDoes → Luw
+unit_in (takes.Place u) = u
+unit_in _ = no_unit
+
+commit_so : (s : Scenario) (hs : List History) (p : List Line) (x : Line) (z : Stand s hs p) (t : Told_ s hs p x) (i : ℕ) (k : CableLine) (d : Deed) (g : History) (part : Part) (r : LogRecord) → IsScenario s → slice_get s.cables i ≡ Some k → k.receiver ≡ x.manager → slice_get hs k.sender ≡ Some g
+    → (node_after s x.manager p t.h).manager.running ≡ Up → receiver_deed x.entry.stamp (receiver_of (far_at s i k) (z.xs k.sender k.channel).receiver (z.xs k.sender k.channel).kept) x.entry.effect.popped (node_after s x.manager p t.h) ≡ Some d
+    → SeenIn x.entry.effect.popped (z.xs k.sender k.channel).out
+    → IsCommitting k.channel (node_after s x.manager p t.h).manager (z.xs k.sender k.channel) (taking_turn (far_at s i k) x.entry.stamp x.entry.effect.popped (z.xs k.sender k.channel).receiver (z.xs k.sender k.channel).kept (node_after s x.manager p t.h).manager) part r
+    → SaysCommit (deeds p) k.sender d.received k.channel (node_after s x.manager p t.h).manager (z.xs k.sender k.channel)
+    (FarStep.Turn (taking_turn (far_at s i k) x.entry.stamp x.entry.effect.popped (z.xs k.sender k.channel).receiver (z.xs k.sender k.channel).kept (node_after s x.manager p t.h).manager)) part r
+commit_so s hs p x z t i k d g part r scenario e q from up is offered o =
+    let m : ℕ = x.manager in
+    let n : Node = node_after s m p t.h in
+    let b : Plain = n.manager in
+    let l : Ledger = ledger (opening_ledger s hs) p in
+    let w : Where = far_at s i k in
+    let c : Channel = z.xs k.sender k.channel in
+    let y : Past = z.ys k.sender k.channel in
+    let u : Luw = o.unit in
+    let seen : Seen = x.entry.effect.popped in
+    let stamp : ℕ = x.entry.stamp in
+    let end : ReceiverEnd = receiver_of w c.receiver c.kept in
+    let turn : ReceiverTurn = taking_turn w stamp seen c.receiver c.kept b in
+    let zz : Scene = scene s hs p z k w in
+    let there : Mem k s.cables = mem_at s.cables i k e in
+    let facts : Facts c y = (z.lines i k e).facts in
+    let come : Step Reason (Unit {0}) = receive k.channel u (last_by seen c.receiver.last) (map stamped c.kept) b in
+    let deed : place_deed end u seen come n ≡ d = some_deed (place_deed end u seen come n) (ap (λ (v : ReceiverDoes). receiver_deed_by stamp end seen v n) (sym o.does) ∙ is) in
+    let out : place_out come ≡ outs.Done = ap (λ (v : ReceiverDoes). receiver_out v w seen c.receiver c.kept b) (sym o.does) ∙ o.ran in
+    record {
+      turn = turn;
+      is = refl;
+      commits = o;
+      received = received_so end seen n u d o.land come deed out o.lands;
+      agrees = bool_case (y.near.undone u) (λ v. y.near.undone u ≡ v → Mem (told_at k.sender (did.Hardened k.channel (notes.Resolved u false true))) (deeds p) ⊎ ((a : Message) → Mem a (map stamped c.kept) → Comes b a))
+          (λ v f. inl ((z.told k there).undone u f))
+          (λ v f.
+          let may : ReceiverMay turn c y = record {
+            offered = offered;
+            refused = λ reason f_. refused_places (receiver_next c.receiver seen (is_receiver_defined k.channel b.definitions)) w seen c.receiver c.kept b reason f_;
+            agreed = λ a ran does_. ap (λ (h : Luw). y.near.undone h) (ap unit_in (sym does_ ∙ o.does)) ∙ f;
+          } in
+          let far : IsAtFar zz n c y l = record {
+            at = subst (λ a. slice_get (managers_at s p hs) a ≡ Some b) (sym q) (next_managers s hs p x t).at;
+            takes_ = takes_here s hs p x z t i k e q up;
+            facts = facts;
+            joint = joint_of (world_of s z.given (managers_at s p hs)) z.ghost (book_of l) s.cables z.xs z.ys k there z.joint;
+            book = refl;
+          } in
+          inr (all_come zz n c y l u far (following.placed turn c y u facts may o.does) (following.awaited turn c y u facts may o.does f) (receiving.ready s hs p x z t k w scenario there q refl g from (sound_at s hs p x z t up)))) refl;
+    }
+  where
+    some_deed : (v : Deed) → Some v ≡ Some d → v ≡ d
+    some_deed v f = cc
+
+pub receiver_halts : (s : Scenario) (hs : List History) (p : List Line) (x : Line) (z : Stand s hs p) (t : Told_ s hs p x) (i : ℕ) (k : CableLine) (d : Deed) (by_ : Stop) (n_ left : ℕ) (g : History) → slice_get hs k.sender ≡ Some g → IsScenario s → slice_get s.cables i ≡ Some k → k.receiver ≡ x.manager → x.entry.call ≡ calls.Turn
     → (node_after s x.manager p t.h).manager.running ≡ Up → done_by x.entry (node_after s x.manager p t.h) ≡ done d (Stopped by_ n_ left) (node_after s x.manager p t.h) → CanCome d (Stopped by_ n_ left) (node_after s x.manager p t.h)
     → receiver_deed x.entry.stamp (receiver_of (far_at s i k) (z.xs k.sender k.channel).receiver (z.xs k.sender k.channel).kept) x.entry.effect.popped (node_after s x.manager p t.h) ≡ Some d → SeenIn x.entry.effect.popped (z.xs k.sender k.channel).out → Moves s hs p x t.h z
-receiver_halts s hs p x z t i k d by_ n_ left scenario e q call up same can is offered =
+receiver_halts s hs p x z t i k d by_ n_ left g from scenario e q call up same can is offered =
     let m : ℕ = x.manager in
     let n : Node = node_after s m p t.h in
     let b : Plain = n.manager in
@@ -207,15 +281,15 @@ receiver_halts s hs p x z t i k d by_ n_ left scenario e q call up same can is o
     let sound : IsSound b = sound_at s hs p x z t up in
     let keeps : AllKeep IsSound d.parts b = subst (EachSound b) is (receivers_sound stamp end seen n sound) in
     let after = behind d.parts b sound keeps in
-    far_cut s hs p x z t i k d by_ n_ left (FarStep.Turn turn) scenario e q up same can (subst IsOfEnd (sym call) tt) sound keeps
+    far_cut s hs p x z t i k d by_ n_ left (FarStep.Turn turn) scenario e q up same can (subst IsOfEnd (sym call) tt) (inr call) sound keeps
     (subst EachSingle is (taking_singles stamp end seen n))
     (offered, λ reason f. refused_places does_ w seen c.receiver c.kept b reason f)
     (subst (λ (o : Option Deed). EachTook w n o c.back (receiver_turn turn c)) is (takes_as w stamp seen n c takes_ (ap is_up up)))
     (λ o u at out place. subst (EachTold w u) is (commits_told w stamp seen n c.receiver c.kept does_ u (ap (turn_does c) at ∙ place) (ap turn_out at ∙ out)))
-    (each_first (SaysReceiver k.channel b c turn) (SaysFar k.channel b c (FarStep.Turn turn)) d.parts
+    (each_first (SaysReceiver k.channel b c turn) (SaysFar (deeds p) k.sender d.received k.channel b c (FarStep.Turn turn)) d.parts
     (λ part r h. elim h [
       | inl v ↦ inl (v.0, v.1, λ o u at out place. v.2 u (ap turn_out at ∙ out) (ap (turn_does c) at ∙ place))
-      | inr v ↦ inr v
+      | inr v ↦ inr (commit_so s hs p x z t i k d g part r scenario e q from up is offered v)
     ])
     (subst (EachWrites (SaysReceiver k.channel b c turn)) is (receiver_says w stamp seen n c does_ refl)))
     (λ j h f out a. receiving.near_else (near_at s j h) stamp end seen n d is (else_index s i j k h e f out) sound after)

@@ -20,7 +20,7 @@ use Rattle.mq_law_run.specs.Run.{Housed}
 same : (l : Ledger) → Housed l l
 same l a y e = (y, e)
 
-chain : (l k j : Ledger) → Housed l k → Housed k j → Housed l j
+pub chain : (l k j : Ledger) → Housed l k → Housed k j → Housed l j
 chain l k j f g a y e = let w = g a y e in f a w.0 w.1
 
 changed : (m : ℕ) (f : ManagerPlaces → ManagerPlaces) (xs : List ManagerPlaces) (a : ℕ) (y : ManagerPlaces) → slice_get (ledgers.change_at m f xs) a ≡ Some y → (w : ManagerPlaces) × (slice_get xs a ≡ Some w)

@@ -37,3 +37,4 @@ pub mod Obeying
 pub mod Breaking
 pub mod Whole
 pub mod Beginning
+pub mod Recommitting

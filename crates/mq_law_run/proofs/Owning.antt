@@ -90,7 +90,7 @@ own_moves s hs p x z t is =
     let k : Ledger = posted m e e.reply l in
     let whole : k ≡ ledger (opening_ledger s hs) (p ++ x ∷ []) = sym (ledger_step (opening_ledger s hs) p x) in
     let a = z.at m t.h t.is in
-    let b : Became (EndNote s z.xs m) m z.given n l next k = subst (λ y. Became (EndNote s z.xs m) m z.given n l next y) (λ i. posted m (entry_of e e.call e.chance (sym t.tells.reply i) (sym t.tells.delta i) (sym t.tells.received i)) (sym t.tells.reply i) l)
+    let b : Became (EndNote s (deeds p) z.xs m) m z.given n l next k = subst (λ y. Became (EndNote s (deeds p) z.xs m) m z.given n l next y) (λ i. posted m (entry_of e e.call e.chance (sym t.tells.reply i) (sym t.tells.delta i) (sym t.tells.received i)) (sym t.tells.reply i) l)
     (ordinary_happens m z.given n l e e.stamp e.actor e.call e.chance e.effect.popped a is t.tells.event t.own) in
     let j = leads_on s z.given b.now m n.manager next.manager (managers_at s p hs) (managers_at s (p ++ x ∷ []) hs) l k z.ghost s.cables z.xs z.ys (next_managers s hs p x t) a.told b.leads b.same b.at.told b.other z.joint in
     let quiet : unit_received e.effect.delta ≡ None = ap unit_received t.tells.delta ∙ own_quiet n e.stamp e.actor e.call e.chance e.effect.popped is t.tells.event t.own in
@@ -129,7 +129,7 @@ own_moves s hs p x z t is =
       not_yet = λ a_ c u f. still_not s (opening_managers s hs) p x c u (none_committed c u m e.effect.delta quiet) (z.not_yet a_ c u ((λ i. sym j.1 i a_ c u) ∙ f));
       risen = λ k w. risen_still s (opening_managers s hs) p x k.channel (z.xs k.sender k.channel).receives.unit (z.xs k.sender k.channel).receives.unit quiet refl (z.risen k w);
       owned = λ a_ c u f. z.owned a_ c u ((λ i. sym j.1 i a_ c u) ∙ f);
-      at = subst (λ (y : Ledger). IsAt (EndNote s z.xs m) m b.now next y) whole b.at;
+      at = subst (λ (y : Ledger). IsAt (EndNote s (deeds p) z.xs m) m b.now next y) whole b.at;
       known = b.known;
       others = λ c r_ ne o. subst (IsTold c r_) whole (others_told m c r_ l k ne b.other o);
       users = λ c ne. ap (λ (y : Ledger). slice_get y.users c) (sym whole) ∙ b.other.users c ne;

@@ -109,12 +109,12 @@ shelved_of s hs p z a w e =
     some_is x y q = cc
 
 -- where it may commit
-ready : (s : Scenario) (hs : List History) (p : List Line) (x : Line) (z : Stand s hs p) (t : Told_ s hs p x) (k : CableLine) (w : Where) → IsScenario s → Mem k s.cables → k.receiver ≡ x.manager → w.channel ≡ k.channel → (g : History) → slice_get hs k.sender ≡ Some g
+pub ready : (s : Scenario) (hs : List History) (p : List Line) (x : Line) (z : Stand s hs p) (t : Told_ s hs p x) (k : CableLine) (w : Where) → IsScenario s → Mem k s.cables → k.receiver ≡ x.manager → w.channel ≡ k.channel → (g : History) → slice_get hs k.sender ≡ Some g
     → IsSound (node_after s x.manager p t.h).manager → IsReady (scene s hs p z k w) (node_after s x.manager p t.h).manager (ledger (opening_ledger s hs) p)
 ready s hs p x z t k w scenario there q channel g from sound =
     let n : Node = node_after s x.manager p t.h in
     let l : Ledger = ledger (opening_ledger s hs) p in
-    let a : IsAt (EndNote s z.xs x.manager) k.receiver z.given n l = subst (λ m. IsAt (EndNote s z.xs x.manager) m z.given n l) (sym q) (z.at x.manager t.h t.is) in
+    let a : IsAt (EndNote s (deeds p) z.xs x.manager) k.receiver z.given n l = subst (λ m. IsAt (EndNote s (deeds p) z.xs x.manager) m z.given n l) (sym q) (z.at x.manager t.h t.is) in
     let c = subst (λ m. AreCountedAt n.manager.numbers.connections m l) (sym q) (z.counted x.manager t.h t.is) in
     record {
       cabled = subst (λ d. IsCabled s (managers_at s p hs) k.sender k.receiver d) (sym channel)
@@ -207,7 +207,7 @@ operated_old z v b c y r a d u e = bool_case (is_here z.sender z.place.channel a
     (λ w f. sym (r.operated a d u f) ∙ e) refl
 
 -- the unit that is committed is no more one that an operator has committed
-committed_apart : (z : Scene) (v : World) (b : Book) (c : Channel) (y : Past) (turn : ReceiverTurn) (u w : Luw) → (r : Taken z v b (receiver_turn turn c) y) → (world_in z).last z.sender z.place.channel ≡ c.receives.unit → receiver_does turn c ≡ takes.Place u → turn.outcome ≡ ends.Done
+pub committed_apart : (z : Scene) (v : World) (b : Book) (c : Channel) (y : Past) (turn : ReceiverTurn) (u w : Luw) → (r : Taken z v b (receiver_turn turn c) y) → (world_in z).last z.sender z.place.channel ≡ c.receives.unit → receiver_does turn c ≡ takes.Place u → turn.outcome ≡ ends.Done
     → Below c.receives.unit u → w ≡ u → r.ghost.operated z.sender z.place.channel w ≡ true → ⊥
 committed_apart z v b c y turn u w r last does out rises same f =
     let now : (receiver_turn turn c).receives.unit ≡ u = (λ i. (receiver_turned (out i) (does i) turn c).receives.unit) in
@@ -216,11 +216,11 @@ committed_apart z v b c y turn u w r last does out rises same f =
       | inr e ↦ below_not u (subst (λ (o : Luw). Below o u) (sym last ∙ sym e ∙ r.joint.tied.last ∙ now) rises)
     ]
 
-both_left : (a b : Bool) → (a && b) ≡ true → a ≡ true
+pub both_left : (a b : Bool) → (a && b) ≡ true → a ≡ true
 both_left true b e = refl
 both_left false b e = absurd cc
 
-both_right : (a b : Bool) → (a && b) ≡ true → b ≡ true
+pub both_right : (a b : Bool) → (a && b) ≡ true → b ≡ true
 both_right true b e = e
 both_right false b e = absurd cc
 
@@ -231,10 +231,10 @@ upto_self u = inr (refl, same u.n)
     same : (n : ℕ) → n ≤ n
     same n = omega arith
 
-upto_on : (u v w : Luw) → Upto u v → Upto v w → Upto u w
+pub upto_on : (u v w : Luw) → Upto u v → Upto v w → Upto u w
 upto_on u v w e f = grind (arith, e, f)
 
-upto_below : (u v : Luw) → Below u v → Upto u v
+pub upto_below : (u v : Luw) → Below u v → Upto u v
 upto_below u v e = grind (arith, e)
 
 unit_rises : (o : ReceiverOut) (d : ReceiverDoes) (t : ReceiverTurn) (c : Channel) → ((u : Luw) → d ≡ takes.Place u → o ≡ ends.Done → Below c.receives.unit u) → Upto c.receives.unit (receiver_turned o d t c).receives.unit
@@ -287,7 +287,7 @@ receiver_moves s hs whole p es x z t i k d g scenario none split e q from actor 
     let l1 : Ledger = post_of k.receiver l d in
     let took : Taken zz (world_of s z.given ms) (book_of l1) c1 y =
     (subst (λ (o : Option Deed). EachTaken zz n.manager l o c1 y) is (taking.turns zz n c y l stamp seen next.at takes_ facts joint refl offered given)) ms next in
-    let before : IsAt (EndNote s z.xs m) k.receiver z.given n l = subst (λ a. IsAt (EndNote s z.xs m) a z.given n l) (sym q) (z.at m t.h t.is) in
+    let before : IsAt (EndNote s (deeds p) z.xs m) k.receiver z.given n l = subst (λ a. IsAt (EndNote s (deeds p) z.xs m) a z.given n l) (sym q) (z.at m t.h t.is) in
     let kept0 : IsKept k.receiver z.given (do_all d.parts n.manager) l l1 =
     (subst (λ (o : Option Deed). EachKept zz n.manager l o) is (kept_by zz n c y l stamp seen does far (taking.committing zz n c y l stamp seen does refl facts offered given) (record { fresh = before.fresh; told = before.told; timed = before.timed }))) ms next in
     let kept : IsKept m z.given (do_all d.parts n.manager) l l1 = subst (λ a. IsKept a z.given (do_all d.parts n.manager) l l1) q kept0 in
@@ -356,7 +356,7 @@ receiver_moves s hs whole p es x z t i k d g scenario none split e q from actor 
         number = ap (λ (o : Given). o.number) beside.given ∙ (z.at m t.h t.is).number;
         timed = kept.timed;
         state = state_up (do_all d.parts n.manager) up r.after;
-        noted = noted_up (EndNote s (put_at z.xs k.sender k.channel c1) m) m (do_all d.parts n.manager) l1 up;
+        noted = noted_up (EndNote s (deeds p) (put_at z.xs k.sender k.channel c1) m) m (do_all d.parts n.manager) l1 up;
       };
       known = λ i_ f. refl;
       others = kept.others;

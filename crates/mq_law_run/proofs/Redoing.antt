@@ -7,9 +7,9 @@ use Rattle.mq_history.specs.declared.history.History.{History}
 use Rattle.mq_history.specs.declared.scenario.CableLine.{CableLine}
 use Rattle.mq_history.specs.declared.scenario.Scenario.{Scenario}
 use Rattle.mq_history.specs.Scenarios.{IsScenario}
-use Rattle.mq_spec_state.specs.State.{Plain}
+use Rattle.mq_spec_state.specs.State.{LogState, Plain}
 use Rattle.mq_spec_state.specs.State.Running.{Down}
-use Rattle.mq_spec_state.specs.Reads.{receiver_data}
+use Rattle.mq_spec_state.specs.Reads.{is_persistent, receiver_data, receiver_in, sender_in}
 use Rattle.mq_spec_network.specs.Story.{Line, Mem}
 use Rattle.mq_law_run.proofs.Lining.{mem_at}
 use Rattle.mq_history.specs.declared.acts.Act.TheVariants as acts
@@ -34,7 +34,7 @@ use Rattle.mq_law_story.proofs.Weaving.{ledger_step}
 use Rattle.mq_law_turns.specs.Agreed.{IsToldOf}
 use Rattle.mq_law_cables.proofs.Keeping.{rests}
 use Rattle.mq_law_one.proofs.Running.{Told_}
-use Rattle.mq_law_events.proofs.Telling.{else_changed, else_places, else_then, else_users, here_changed}
+use Rattle.mq_law_events.proofs.Telling.{else_changed, else_places, else_then, else_users, here_changed, left_shelved}
 use Rattle.mq_law_run.proofs.Owning.{housed_else, next_managers, others_told}
 use Rattle.mq_law_run.proofs.Running.{far_here, move_to, near_here}
 use Rattle.mq_law_events.proofs.Locals.{stays_leads}
@@ -51,7 +51,9 @@ use Rattle.mq_calls.specs.declared.deltas.Did.{Did}
 use Rattle.mq_law_node.specs.Nodes.{FarAt, NearAt}
 use Rattle.mq_law_run.proofs.Tying.{leads_on}
 use Rattle.mq_spec_state.specs.State.{Given}
-use Rattle.mq_spec_state.specs.Images.{begun, lasting, raised}
+use Rattle.mq_queue.specs.declared.row.Row.{Row}
+use Rattle.mq_sync.specs.Settlement.{receiver_or, sender_or}
+use Rattle.mq_spec_state.specs.Images.{Image, begun, lasting, raised}
 use Rattle.mq_spec_network.specs.Ledger.{change_at}
 use Rattle.mq_law_node.specs.Ends.{told_receives, told_sends}
 use Rattle.mq_message.specs.declared.message.Ident.{Ident}
@@ -65,7 +67,7 @@ use Rattle.mq_spec_network.specs.Conflict.{Deed as ToldDeed, deeds, is_committed
 use Rattle.mq_law_channel.specs.Channel.{Channel, Facts, Past}
 use Rattle.mq_law_channel.specs.Turns.{receiver_rests, released, sender_rests}
 use Rattle.mq_law_channel.proofs.Operating.{receiver_inactive, sender_inactive}
-use Rattle.mq_law_rows.specs.World.{Ghost}
+use Rattle.mq_law_rows.specs.World.{Book, Ghost}
 use Rattle.mq_law_rows.proofs.Lists.{eqb_self}
 use Rattle.mq_law_seen.specs.Seen.{book_of, world_of}
 use Rattle.mq_law_manager.specs.Facts.{IsSound}
@@ -92,12 +94,15 @@ NearPart c d ch g = SameFar c d × Among c.out d.out × (told_sends d.sends ≡ 
 abbrev pub FarPart : Channel → Channel → List ℕ → Plain → Type 0
 FarPart c d ch g = SameNear c d × Among c.back d.back × (told_receives d.receives ≡ told_receives (receives_at ch g))
 
-pub record IsRedone (s : Scenario) (hs : List History) (p : List Line) (x : Line) (h : History) (z : Stand s hs p) (g : Plain) (given : Ident → Bool) (ghost : Ghost) (xs : ℕ → List ℕ → Channel) (ys : ℕ → List ℕ → Past) (k : Ledger) : Type 0 where
+-- (what is posted may tell less than what was done, as long as both come to one when the manager is up again)
+pub record IsRedone (s : Scenario) (hs : List History) (p : List Line) (x : Line) (h : History) (z : Stand s hs p) (g : Plain) (given : Ident → Bool) (ghost : Ghost) (xs : ℕ → List ℕ → Channel) (ys : ℕ → List ℕ → Past) (k n : Ledger) : Type 0 where
   pub joint : AreJoint (world_of s given (mid_of s hs p x g)) ghost (book_of k) s.cables xs ys
   pub facts : (c : CableLine) → Mem c s.cables → Facts (xs c.sender c.channel) (ys c.sender c.channel)
   pub told : IsTold x.manager g k
   pub fresh : IsFresh given g
-  pub moment : told.users.moment ≡ (base_of s p x h).moment
+  pub now : IsTold x.manager g n
+  pub moment : now.users.moment ≡ (base_of s p x h).moment
+  pub books : book_of (ledgers.up_again x.manager k) ≡ book_of (ledgers.up_again x.manager n)
   pub same : g.given ≡ (base_of s p x h).given
   pub steady : g.moment ≡ (base_of s p x h).moment
   pub free : AreUnprepared s (mid_of s hs p x g) g
@@ -105,9 +110,9 @@ pub record IsRedone (s : Scenario) (hs : List History) (p : List Line) (x : Line
   pub far : (i : ℕ) (c : CableLine) → slice_get s.cables i ≡ Some c → c.receiver ≡ x.manager → FarPart (z.xs c.sender c.channel) (xs c.sender c.channel) c.channel g
   pub aside : (c : CableLine) → Mem c s.cables → (c.sender == x.manager) ≡ false → (c.receiver == x.manager) ≡ false → xs c.sender c.channel ≡ z.xs c.sender c.channel
   pub known : (i : Ident) → (i.manager == (base_of s p x h).given.number) ≡ false → given i ≡ z.given i
-  pub others : (a : ℕ) (r : Plain) → (a == x.manager) ≡ false → IsTold a r (ledger (opening_ledger s hs) p) → IsTold a r k
-  pub users : (a : ℕ) → (a == x.manager) ≡ false → slice_get k.users a ≡ slice_get (ledger (opening_ledger s hs) p).users a
-  pub housed : Housed (ledger (opening_ledger s hs) p) k
+  pub others : (a : ℕ) (r : Plain) → (a == x.manager) ≡ false → IsTold a r (ledger (opening_ledger s hs) p) → IsTold a r n
+  pub users : (a : ℕ) → (a == x.manager) ≡ false → slice_get n.users a ≡ slice_get (ledger (opening_ledger s hs) p).users a
+  pub housed : Housed (ledger (opening_ledger s hs) p) n
   pub tells : (c : CableLine) → Mem c s.cables → IsToldOf s (opening_managers s hs) (deeds (p ++ x ∷ [])) c.sender c.channel (xs c.sender c.channel) (ys c.sender c.channel)
   pub resolved : (a : ℕ) (c : List ℕ) (u : Luw) → ghost.operated a c u ≡ true → Mem (record { manager = a; did = did.Hardened c (notes.Resolved u true true) }) (deeds (p ++ x ∷ []))
   pub not_yet : (a : ℕ) (c : List ℕ) (u : Luw) → ghost.operated a c u ≡ true → is_committed s (opening_managers s hs) (deeds (p ++ x ∷ [])) c u ≡ false
@@ -151,11 +156,11 @@ sender_back k m a w x q e = ap (λ t. at_rest_far receiver_rests t (near_back (k
 receiver_back : (k : CableLine) (m : ℕ) (b : Bool) (w : Sender) (x : Channel) → k.receiver ≡ m → b ≡ false → at_rest_far receiver_rests (k.receiver == m) (near_back b w x) ≡ receiver_rests x
 receiver_back k m b w x q e = ap (λ t. at_rest_far receiver_rests (k.receiver == m) (near_back t w x)) e ∙ ap (λ t. at_rest_far receiver_rests t x) (ap (λ o. o == m) q ∙ eqb_self m)
 
-pub end_returns : (s : Scenario) (hs : List History) (p : List Line) (x : Line) (z : Stand s hs p) (t : Told_ s hs p x) (noted : Noted) (starts started : ℕ) (st : ledgers.Stopped) (given : Ident → Bool) (ghost : Ghost) (xs : ℕ → List ℕ → Channel) (ys : ℕ → List ℕ → Past) (k1 : Ledger) → IsScenario s
+pub end_returns : (s : Scenario) (hs : List History) (p : List Line) (x : Line) (z : Stand s hs p) (t : Told_ s hs p x) (noted : Noted) (starts started : ℕ) (st : ledgers.Stopped) (given : Ident → Bool) (ghost : Ghost) (xs : ℕ → List ℕ → Channel) (ys : ℕ → List ℕ → Past) (g : Plain) (k1 kn : Ledger) → IsScenario s
     → (node_after s x.manager p t.h).manager.running ≡ Down (Some noted) starts → x.entry.call ≡ calls.Act acts.Restart → x.entry.chance ≡ chances.Restart (Comes true started) → done_by x.entry (node_after s x.manager p t.h) ≡ back_done started noted (node_after s x.manager p t.h)
-    → (ledgers.users_at x.manager (ledger (opening_ledger s hs) p)).cut ≡ Some st → posted_again x.manager st (redone_delta true (Some noted) (node_after s x.manager p t.h).manager) (ledger (opening_ledger s hs) p) ≡ k1
-    → IsSound (restarted true started (Some noted) (node_after s x.manager p t.h).manager) → IsRedone s hs p x t.h z (redone noted (node_after s x.manager p t.h).manager) given ghost xs ys k1 → Moves s hs p x t.h z
-end_returns s hs p x z t noted starts started st given ghost xs ys k1 scenario down call chance is cut posts sound r1 =
+    → (ledgers.users_at x.manager (ledger (opening_ledger s hs) p)).cut ≡ Some st → posted_again x.manager st (redone_delta true (Some noted) (node_after s x.manager p t.h).manager) (ledger (opening_ledger s hs) p) ≡ kn
+    → IsSound (restarted true started (Some noted) (node_after s x.manager p t.h).manager) → lasting g ≡ lasting (redone noted (node_after s x.manager p t.h).manager) → IsRedone s hs p x t.h z g given ghost xs ys k1 kn → Moves s hs p x t.h z
+end_returns s hs p x z t noted starts started st given ghost xs ys g k1 kn scenario down call chance is cut posts sound last r1 =
     let m : ℕ = x.manager in
     let n : Node = node_after s m p t.h in
     let b : Plain = n.manager in
@@ -163,10 +168,11 @@ end_returns s hs p x z t noted starts started st given ghost xs ys k1 scenario d
     let e : Entry = x.entry in
     let ds : List Did = redone_delta true (Some noted) b in
     let a = z.at m t.h t.is in
-    let g : Plain = redone noted b in
+    let grow : LogState = grown started (redone noted b) in
     let q : Plain = restarted true started (Some noted) b in
     let l0 : Ledger = ledgers.with_users m clear k1 in
-    let l1 : Ledger = ledgers.up_again m k1 in
+    let ln : Ledger = ledgers.with_users m clear kn in
+    let l1 : Ledger = ledgers.up_again m kn in
     let ps : List Plain = managers_at s p hs in
     let mid : List Plain = mid_of s hs p x g in
     let ms : List Plain = managers_at s (p ++ x ∷ []) hs in
@@ -177,9 +183,9 @@ end_returns s hs p x z t noted starts started st given ghost xs ys k1 scenario d
     let t0 : IsTold m g l0 = record { places = r1.told.places; placed = r1.told.placed; shelved = r1.told.shelved; name = r1.told.name; definitions = r1.told.definitions; users = clear r1.told.users; used = used0; connections = r1.told.connections } in
     let stay : IsNext m g g mid mid = record { at = n1.to; to = n1.to; others = λ c f. refl } in
     let j0 = leads_on s given given m g g mid mid k1 l0 ghost s.cables xs ys stay r1.told (stays_leads m (side_of g given) (sheet_of m k1)) (record { given = refl; senders = refl; receivers = refl; batches = refl }) t0 (else_users m clear k1) r1.joint in
-    let same : begun g.given (raised started (lasting g)) (grown started g) g.moment ≡ q = λ i. begun (r1.same i) (raised started (lasting g)) (grown started g) (r1.steady i) in
+    let same : begun g.given (raised started (lasting g)) grow g.moment ≡ q = λ i. begun (r1.same i) (raised started (last i)) grow (r1.steady i) in
     let r : Rested s given m g q ms j0.0.ghost l0 = subst (λ (o : Plain). IsNext m g o mid ms → Rested s given m g o ms j0.0.ghost l0) same
-    (λ on. batches.restarts s given m started g (grown started g) mid ms l0 j0.0.ghost on t0 (restart_fresh given g started (grown started g) r1.fresh) r1.free j0.0.joint.inv) n2 in
+    (λ on. batches.restarts s given m started g grow mid ms l0 j0.0.ghost on t0 (restart_fresh given g started grow r1.fresh) r1.free j0.0.joint.inv) n2 in
     let zs : ℕ → List ℕ → Channel = all_back s.cables m z.xs xs in
     let reply : e.reply ≡ replies.Acted acted.Done = t.tells.reply ∙ ap (λ (o : Done). o.reply) is in
     let delta : e.effect.delta ≡ ds = t.tells.delta ∙ ap (λ (o : Done). o.delta) is in
@@ -188,16 +194,19 @@ end_returns s hs p x z t noted starts started st given ghost xs ys k1 scenario d
     let whole : ledger (opening_ledger s hs) (p ++ x ∷ []) ≡ l1 = ledger_step (opening_ledger s hs) p x ∙ ap (λ (o : Reply). posted m e o l) reply
     ∙ (λ i. ledgers.come_up m (chance i) (delta i) (ledgers.post_call m (call i) (reply i) e.effect.received (delta i) (ledgers.take_all_gone m (delta i) l)))
     ∙ ap (λ o. ledgers.up_again m (ledgers.found m o ds (ledgers.take_all_gone m ds l))) cut_ ∙ ap (ledgers.up_again m) posts in
-    let other1 : IsElse m k1 l1 = else_then m k1 l0 l1 (else_users m clear k1) (else_then m l0 (ledgers.with_users m alone l0) l1 (else_users m alone l0) (else_places m _ (ledgers.with_users m alone l0))) in
+    let other1 : IsElse m kn l1 = else_then m kn ln l1 (else_users m clear kn) (else_then m ln (ledgers.with_users m alone ln) l1 (else_users m alone ln) (else_places m _ (ledgers.with_users m alone ln))) in
+    let used_n : slice_get ln.users m ≡ Some (clear r1.now.users) = here_changed m clear kn.users r1.now.users r1.now.used in
+    let used_1 : slice_get l1.users m ≡ Some (alone (clear r1.now.users)) = here_changed m alone ln.users (clear r1.now.users) used_n in
     let operated : (c : ℕ) (d : List ℕ) (u : Luw) → r.stands.ghost.operated c d u ≡ true → ghost.operated c d u ≡ true = λ c d u f. (λ i. sym j0.1 i c d u) ∙ (λ i. sym r.stands.operated i c d u) ∙ f in
     move_to s hs p x t.h z (back_done started noted n) l1 is whole (record {
       given = r.now;
       ghost = r.stands.ghost;
       xs = zs;
       ys = rested m ys;
-      joint = rests s given r.now m g q mid ms j0.0.ghost r.stands.ghost (book_of l0) (book_of l1) s.cables xs zs ys n2
-          (record { given = sym r1.same; senders = refl; receivers = refl; batches = refl }) r.stands.sent r.stands.operated r.stands.inv r1.facts
-          (λ k w. ap (λ (o : Channel). o.receives) (back_at s m k z.xs xs scenario w) ∙ back_receives (k.receiver == m) (k.sender == m) (z.xs k.sender k.channel).sender (xs k.sender k.channel)) j0.0.joint;
+      joint = subst (λ (o : Book). AreJoint (world_of s r.now ms) r.stands.ghost o s.cables zs (rested m ys)) r1.books
+          (rests s given r.now m g q mid ms j0.0.ghost r.stands.ghost (book_of l0) (book_of (ledgers.up_again m k1)) s.cables xs zs ys n2
+          (record { given = sym r1.same; senders = ap (λ (o : Image). o.senders) (sym last); receivers = ap (λ (o : Image). o.receivers) (sym last); batches = refl }) r.stands.sent r.stands.operated r.stands.inv r1.facts
+          (λ k w. ap (λ (o : Channel). o.receives) (back_at s m k z.xs xs scenario w) ∙ back_receives (k.receiver == m) (k.sender == m) (z.xs k.sender k.channel).sender (xs k.sender k.channel)) j0.0.joint);
       moved = λ i k f.
           let there : Mem k s.cables = mem_at s.cables i k f in
           let c : Channel = z.xs k.sender k.channel in
@@ -212,7 +221,7 @@ end_returns s hs p x z t noted starts started st given ghost xs ys k1 scenario d
                 subst (λ (y : Channel). NearNode (near_at s i k) (back_done started noted n).next y × SameFar c y × Among c.out y.out) (sym o) (
                   record {
                     here = begun_here i q n.own.ends (near_at s i k) c.sender v0.here;
-                    data_ = d0.2;
+                    data_ = d0.2 ∙ (λ a_. told_sends (sender_or (sender_in k.channel (last a_).senders)));
                     batched = λ y. absurd cc;
                     unbatched = λ y. refl;
                   },
@@ -222,7 +231,7 @@ end_returns s hs p x z t noted starts started st given ghost xs ys k1 scenario d
             far = λ w.
                 let v0 : TakesDown (far_at s i k) n (Some noted) c = subst (FarAt (far_at s i k) n c) down (far_here s hs p x z t i k f w) in
                 let d0 = r1.far i k f w in
-                let data_now : told_receives d.receives ≡ told_receives (receives_at k.channel q) = d0.2 in
+                let data_now : told_receives d.receives ≡ told_receives (receives_at k.channel q) = d0.2 ∙ (λ a_. told_receives (receiver_or (receiver_in k.channel (last a_).receivers))) in
                 let o = receiver_back k m (k.sender == m) c.sender d w (eqb_no k.sender m (λ y. (z.joint.tied k there).apart (w ∙ sym y))) in
                 subst (λ (y : Channel). FarNode (far_at s i k) (back_done started noted n).next y × SameNear c y × Among c.back y.back) (sym o) (
                   record {
@@ -245,19 +254,28 @@ end_returns s hs p x z t noted starts started st given ghost xs ys k1 scenario d
           ∙ ap (λ (o : ReceiverData). o.unit) (back_receives (k.receiver == m) (k.sender == m) (z.xs k.sender k.channel).sender (xs k.sender k.channel)))) (r1.risen k w u f);
       owned = λ c d u f. r1.owned c d u (operated c d u f);
       at = record {
-        told = r.told;
+        told = record {
+          places = record r1.now.places { queues = ledgers.leave_queues (λ (row : Row). is_persistent row.message) r1.now.places.queues };
+          placed = here_changed m (λ o. record o { queues = ledgers.leave_queues (λ (row : Row). is_persistent row.message) o.queues }) kn.places r1.now.places r1.now.placed;
+          name = r1.now.name ∙ ap (λ (o : Given). o.name) r1.same;
+          definitions = r1.now.definitions ∙ ap (λ (o : Image). o.definitions) last;
+          shelved = left_shelved (λ (row : Row). is_persistent row.message) r1.now.places.queues r1.now.shelved;
+          users = alone (clear r1.now.users);
+          used = used_1;
+          connections = refl;
+        };
         fresh = r.fresh;
         number = a.number;
-        timed = record { users = alone (clear r1.told.users); used = here_changed m alone l0.users (clear r1.told.users) used0; moment = r1.moment };
+        timed = record { users = alone (clear r1.now.users); used = used_1; moment = r1.moment };
         state = sound;
         noted = tt;
       };
       known = λ i w. r.known i (ap (λ (o : Given). i.manager == o.number) r1.same ∙ w) ∙ r1.known i w;
-      others = λ c o ne h. others_told m c o k1 l1 ne other1 (r1.others c o ne h);
+      others = λ c o ne h. others_told m c o kn l1 ne other1 (r1.others c o ne h);
       users = λ c ne. other1.users c ne ∙ r1.users c ne;
-      counted = record { users = alone (clear r1.told.users); used = here_changed m alone l0.users (clear r1.told.users) used0; counted = none_counted q.numbers.connections };
+      counted = record { users = alone (clear r1.now.users); used = used_1; counted = none_counted q.numbers.connections };
       cabled = record { once = λ c w. absurd w; line = λ c w. absurd w };
-      housed = λ c w f. let v = housed_else m k1 l1 r1.told.places r1.told.placed other1 c w f in r1.housed c v.0 v.1;
+      housed = λ c w f. let v = housed_else m kn l1 r1.now.places r1.now.placed other1 c w f in r1.housed c v.0 v.1;
     })
   where
     no_frame : (f : Frame) → None ≡ Some f → ⊥

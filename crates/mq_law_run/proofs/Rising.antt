@@ -33,14 +33,13 @@ use Rattle.mq_spec_network.specs.Standing.{node_after, opening_ledger}
 use Rattle.mq_spec_network.specs.Story.{Line}
 use Rattle.mq_law_story.proofs.Weaving.{ledger_step}
 use Rattle.mq_law_one.proofs.Running.{Told_}
-use Rattle.mq_law_run.specs.Run.{Moves, Stand, failed_node}
+use Rattle.mq_law_run.specs.Run.{HaveSenders, Moves, Stand, failed_node}
 use Rattle.mq_law_run.proofs.Failing.{failing_moves}
 use Rattle.mq_law_run.proofs.Halves.{runs_alone}
 use Rattle.mq_law_run.proofs.Idling.{idle_moves}
 use Rattle.mq_law_run.proofs.Restarting.{rise_moves}
 use Rattle.mq_law_run.proofs.Finding.{return_moves}
 use Rattle.mq_spec_network.specs.Conflict.{Deed as ToldDeed, NoConflict, deeds}
-use Rattle.mq_spec_network.specs.Order.{unit_received}
 use Rattle.mq_law_run.proofs.Stopping.{stop_moves}
 
 -- nothing is posted of one that isn't done
@@ -80,36 +79,36 @@ refused_moves s hs p x z t noted starts more g fault d call down same reply next
     failing_moves s hs p x t.h t.stamp z noted starts more g t.is t.tells t.own down (ap (λ (o : Done). o.next) same ∙ next) (ap (λ (o : Done). o.delta) same ∙ delta) (ap (λ (o : Done). o.pushed) same ∙ pushed)
     (none_posted s hs p x (calls.Act acts.Restart) (acted.Start fault) call (t.tells.reply ∙ ap (λ (o : Done). o.reply) same ∙ reply) (t.tells.delta ∙ ap (λ (o : Done). o.delta) same ∙ delta) (λ c l. refl))
 
-down_moves : (s : Scenario) (hs : List History) (wide p : List Line) (es : List ToldDeed) (x : Line) (z : Stand s hs p) (t : Told_ s hs p x) (noted : Option Noted) (starts : ℕ) (choice : Return) → IsScenario s → NoConflict s hs wide → deeds wide ≡ deeds (p ++ x ∷ []) ++ es → unit_received x.entry.effect.delta ≡ None → x.entry.call ≡ calls.Act acts.Restart → (node_after s x.manager p t.h).manager.running ≡ Down noted starts
+down_moves : (s : Scenario) (hs : List History) (wide p : List Line) (es : List ToldDeed) (x : Line) (z : Stand s hs p) (t : Told_ s hs p x) (noted : Option Noted) (starts : ℕ) (choice : Return) → IsScenario s → NoConflict s hs wide → deeds wide ≡ deeds (p ++ x ∷ []) ++ es → HaveSenders s hs → x.entry.call ≡ calls.Act acts.Restart → (node_after s x.manager p t.h).manager.running ≡ Down noted starts
     → x.entry.chance ≡ chances.Restart choice → IsReturn (chances.Restart choice) (Down noted starts) (node_after s x.manager p t.h).manager
     → done_by x.entry (node_after s x.manager p t.h) ≡ node_restarted (restart_at (Down noted starts) choice (node_after s x.manager p t.h).manager) (node_after s x.manager p t.h) → Moves s hs p x t.h z
-down_moves s hs wide p es x z t None starts (Comes true started) scenario peace split calm call down chance can same = absurd can.0.0
-down_moves s hs wide p es x z t (Some noted) starts (Comes true started) scenario peace split calm call down chance can same = return_moves s hs wide p es x z t noted starts started scenario peace split calm down call chance same
-down_moves s hs wide p es x z t noted starts (Comes false started) scenario peace split calm call down chance can same = rise_moves s hs p x z t noted starts started scenario down call chance same
-down_moves s hs wide p es x z t noted starts (Fails faults.Up in_write left) scenario peace split calm call down chance can same = absurd can.0
-down_moves s hs wide p es x z t noted starts (Fails faults.NoMemory in_write left) scenario peace split calm call down chance can same = absurd can.1
-down_moves s hs wide p es x z t noted starts (Fails faults.Disk true left) scenario peace split calm call down chance can same = refused_moves s hs p x z t noted starts (starts + 1) (record (node_after s x.manager p t.h).manager.log { armed = left }) faults.Disk _ call down same refl refl refl refl
-down_moves s hs wide p es x z t noted starts (Fails faults.Disk false left) scenario peace split calm call down chance can same = refused_moves s hs p x z t noted starts starts (record (node_after s x.manager p t.h).manager.log { armed = left }) faults.Disk _ call down same refl
+down_moves s hs wide p es x z t None starts (Comes true started) scenario peace split have call down chance can same = absurd can.0.0
+down_moves s hs wide p es x z t (Some noted) starts (Comes true started) scenario peace split have call down chance can same = return_moves s hs wide p es x z t noted starts started scenario peace split have down call chance same
+down_moves s hs wide p es x z t noted starts (Comes false started) scenario peace split have call down chance can same = rise_moves s hs p x z t noted starts started scenario down call chance same
+down_moves s hs wide p es x z t noted starts (Fails faults.Up in_write left) scenario peace split have call down chance can same = absurd can.0
+down_moves s hs wide p es x z t noted starts (Fails faults.NoMemory in_write left) scenario peace split have call down chance can same = absurd can.1
+down_moves s hs wide p es x z t noted starts (Fails faults.Disk true left) scenario peace split have call down chance can same = refused_moves s hs p x z t noted starts (starts + 1) (record (node_after s x.manager p t.h).manager.log { armed = left }) faults.Disk _ call down same refl refl refl refl
+down_moves s hs wide p es x z t noted starts (Fails faults.Disk false left) scenario peace split have call down chance can same = refused_moves s hs p x z t noted starts starts (record (node_after s x.manager p t.h).manager.log { armed = left }) faults.Disk _ call down same refl
     (λ i. record (node_after s x.manager p t.h) { manager = record (node_after s x.manager p t.h).manager { running = down i; log = record (node_after s x.manager p t.h).manager.log { armed = left } } }) refl refl
-down_moves s hs wide p es x z t noted starts (Fails faults.Cut true left) scenario peace split calm call down chance can same = refused_moves s hs p x z t noted starts (starts + 1) (record (node_after s x.manager p t.h).manager.log { armed = left }) faults.Cut _ call down same refl refl refl refl
-down_moves s hs wide p es x z t noted starts (Fails faults.Cut false left) scenario peace split calm call down chance can same = refused_moves s hs p x z t noted starts starts (record (node_after s x.manager p t.h).manager.log { armed = left }) faults.Cut _ call down same refl
+down_moves s hs wide p es x z t noted starts (Fails faults.Cut true left) scenario peace split have call down chance can same = refused_moves s hs p x z t noted starts (starts + 1) (record (node_after s x.manager p t.h).manager.log { armed = left }) faults.Cut _ call down same refl refl refl refl
+down_moves s hs wide p es x z t noted starts (Fails faults.Cut false left) scenario peace split have call down chance can same = refused_moves s hs p x z t noted starts starts (record (node_after s x.manager p t.h).manager.log { armed = left }) faults.Cut _ call down same refl
     (λ i. record (node_after s x.manager p t.h) { manager = record (node_after s x.manager p t.h).manager { running = down i; log = record (node_after s x.manager p t.h).manager.log { armed = left } } }) refl refl
-down_moves s hs wide p es x z t noted starts (Fails (faults.BadLog place) true left) scenario peace split calm call down chance can same = absurd can.0
-down_moves s hs wide p es x z t noted starts (Fails (faults.BadLog place) false left) scenario peace split calm call down chance can same = refused_moves s hs p x z t noted starts starts (record (node_after s x.manager p t.h).manager.log { armed = left }) (faults.BadLog place) _ call down same refl
+down_moves s hs wide p es x z t noted starts (Fails (faults.BadLog place) true left) scenario peace split have call down chance can same = absurd can.0
+down_moves s hs wide p es x z t noted starts (Fails (faults.BadLog place) false left) scenario peace split have call down chance can same = refused_moves s hs p x z t noted starts starts (record (node_after s x.manager p t.h).manager.log { armed = left }) (faults.BadLog place) _ call down same refl
     (λ i. record (node_after s x.manager p t.h) { manager = record (node_after s x.manager p t.h).manager { running = down i; log = record (node_after s x.manager p t.h).manager.log { armed = left } } }) refl refl
 
-return_moves_by : (s : Scenario) (hs : List History) (wide p : List Line) (es : List ToldDeed) (x : Line) (z : Stand s hs p) (t : Told_ s hs p x) (r : Running) (choice : Return) → IsScenario s → NoConflict s hs wide → deeds wide ≡ deeds (p ++ x ∷ []) ++ es → unit_received x.entry.effect.delta ≡ None → x.entry.call ≡ calls.Act acts.Restart → (node_after s x.manager p t.h).manager.running ≡ r → x.entry.chance ≡ chances.Restart choice
+return_moves_by : (s : Scenario) (hs : List History) (wide p : List Line) (es : List ToldDeed) (x : Line) (z : Stand s hs p) (t : Told_ s hs p x) (r : Running) (choice : Return) → IsScenario s → NoConflict s hs wide → deeds wide ≡ deeds (p ++ x ∷ []) ++ es → HaveSenders s hs → x.entry.call ≡ calls.Act acts.Restart → (node_after s x.manager p t.h).manager.running ≡ r → x.entry.chance ≡ chances.Restart choice
     → IsReturn (chances.Restart choice) r (node_after s x.manager p t.h).manager
     → done_by x.entry (node_after s x.manager p t.h) ≡ node_restarted (restart_at r choice (node_after s x.manager p t.h).manager) (node_after s x.manager p t.h) → Moves s hs p x t.h z
-return_moves_by s hs wide p es x z t Up choice scenario peace split calm call up chance can same =
+return_moves_by s hs wide p es x z t Up choice scenario peace split have call up chance can same =
     let reply : x.entry.reply ≡ replies.Acted (acted.Start faults.Up) = t.tells.reply ∙ ap (λ (d : Done). d.reply) same in
     let delta : x.entry.effect.delta ≡ [] = t.tells.delta ∙ ap (λ (d : Done). d.delta) same in
     idle_moves s hs p x t.h t.stamp z t.is t.tells t.own (ap (λ (d : Done). d.next) same) (ap (λ (d : Done). d.delta) same) (ap (λ (d : Done). d.pushed) same)
     (none_posted s hs p x (calls.Act acts.Restart) (acted.Start faults.Up) call reply delta (λ c l. refl))
-return_moves_by s hs wide p es x z t (Down noted starts) choice scenario peace split calm call down chance can same = down_moves s hs wide p es x z t noted starts choice scenario peace split calm call down chance can same
+return_moves_by s hs wide p es x z t (Down noted starts) choice scenario peace split have call down chance can same = down_moves s hs wide p es x z t noted starts choice scenario peace split have call down chance can same
 
-pub restart_moves : (s : Scenario) (hs : List History) (wide p : List Line) (es : List ToldDeed) (x : Line) (z : Stand s hs p) (t : Told_ s hs p x) → IsScenario s → NoConflict s hs wide → deeds wide ≡ deeds (p ++ x ∷ []) ++ es → unit_received x.entry.effect.delta ≡ None → x.entry.call ≡ calls.Act acts.Restart → Moves s hs p x t.h z
-restart_moves s hs wide p es x z t scenario peace split calm call = go x.entry.chance refl
+pub restart_moves : (s : Scenario) (hs : List History) (wide p : List Line) (es : List ToldDeed) (x : Line) (z : Stand s hs p) (t : Told_ s hs p x) → IsScenario s → NoConflict s hs wide → deeds wide ≡ deeds (p ++ x ∷ []) ++ es → HaveSenders s hs → x.entry.call ≡ calls.Act acts.Restart → Moves s hs p x t.h z
+restart_moves s hs wide p es x z t scenario peace split have call = go x.entry.chance refl
   where
     can : (c : Chance) → x.entry.chance ≡ c → IsReturn c (node_after s x.manager p t.h).manager.running (node_after s x.manager p t.h).manager
     can c e = subst (λ (v : Chance). IsEvent x.entry.stamp x.entry.actor (calls.Act acts.Restart) v x.entry.effect.popped (node_after s x.manager p t.h)) e
@@ -117,6 +116,6 @@ restart_moves s hs wide p es x z t scenario peace split calm call = go x.entry.c
 
     go : (c : Chance) → x.entry.chance ≡ c → Moves s hs p x t.h z
     go (chances.Call choice) e = absurd (can (chances.Call choice) e)
-    go (chances.Restart choice) e = return_moves_by s hs wide p es x z t (node_after s x.manager p t.h).manager.running choice scenario peace split calm call refl e (can (chances.Restart choice) e)
+    go (chances.Restart choice) e = return_moves_by s hs wide p es x z t (node_after s x.manager p t.h).manager.running choice scenario peace split have call refl e (can (chances.Restart choice) e)
         (λ i. event x.entry.stamp x.entry.actor (call i) (e i) x.entry.effect.popped (node_after s x.manager p t.h))
     go (chances.Foreign image length left) e = absurd (subst IsOwn e t.own)

@@ -12,7 +12,7 @@ use Rattle.mq_spec_state.specs.Steps.{do_all}
 use Rattle.mq_spec_node.specs.Node.{Node}
 use Rattle.mq_spec_node.specs.Deeds.{CanCome, Deed, Done, done}
 use Rattle.mq_spec_node.specs.Replays.{done_by}
-use Rattle.mq_spec_network.specs.Conflict.{Deed as ToldDeed}
+use Rattle.mq_spec_network.specs.Conflict.{Deed as ToldDeed, deeds}
 use Rattle.mq_spec_network.specs.Ledger as ledgers
 use Rattle.mq_spec_network.specs.Ledger.{Ledger, ledger}
 use Rattle.mq_spec_network.specs.Standing.{managers_at, node_after, opening_ledger}
@@ -81,7 +81,7 @@ pub beside_at : {E : ledgers.Stopped → Noted → Plain → Type 0} (s : Scenar
 beside_at {E} s hs p x z t d l r e b =
     let n : Node = node_after s x.manager p t.h in
     let q : Plain = do_all d.parts n.manager in
-    let a = subst (λ (k : Ledger). IsAt (EndNote s z.xs x.manager) x.manager z.given n k) (sym e) (z.at x.manager t.h t.is) in
+    let a = subst (λ (k : Ledger). IsAt (EndNote s (deeds p) z.xs x.manager) x.manager z.given n k) (sym e) (z.at x.manager t.h t.is) in
     let up : q.running ≡ Up = b.running ∙ r.up in
     record {
       told = beside_told x.manager n.manager q l b a.told;

@@ -11,6 +11,7 @@ use Rattle.mq_spec_node.specs.Node.{Node}
 use Rattle.mq_spec_node.specs.Replays.{done_by}
 use Rattle.mq_spec_network.specs.Ledger.{Ledger, ledger, users_or}
 use Rattle.mq_spec_network.specs.Standing.{node_after, opening_ledger}
+use Rattle.mq_spec_network.specs.Conflict.{deeds}
 use Rattle.mq_spec_network.specs.Story.{Line, Mem}
 use Rattle.mq_law_channel.specs.Channel.{Channel}
 use Rattle.mq_law_node.specs.Nodes.{FarNode, NearNode}
@@ -29,6 +30,7 @@ use Rattle.mq_law_stopped.proofs.Staying.{notes_stay}
 use Rattle.mq_law_one.specs.Alone.{IsAt, IsNotedAt, as_left}
 use Rattle.mq_law_one.proofs.Ordinary.{elsewhere_noted}
 use Rattle.mq_law_run.specs.Run.{Among, IsMoved, Moves, Stand, far_at, near_at}
+use Rattle.mq_law_run.proofs.Telling.{told_before}
 
 -- the node of the entry's manager, and the others
 pub here_node : (s : Scenario) (p : List Line) (x : Line) (h : History) (m : ℕ) → m ≡ x.manager → node_after s m (p ++ x ∷ []) h ≡ (done_by x.entry (node_after s x.manager p h)).next
@@ -118,12 +120,12 @@ keeps_on s hs p x h z is v = record {
   not_yet = v.not_yet;
   risen = v.risen;
   owned = v.owned;
-  at = λ m k e. bool_case (m == x.manager) (λ t. (m == x.manager) ≡ t → IsAt (EndNote s v.xs m) m v.given (node_after s m (p ++ x ∷ []) k) (ledger (opening_ledger s hs) (p ++ x ∷ [])))
+  at = λ m k e. bool_case (m == x.manager) (λ t. (m == x.manager) ≡ t → IsAt (EndNote s (deeds (p ++ x ∷ [])) v.xs m) m v.given (node_after s m (p ++ x ∷ []) k) (ledger (opening_ledger s hs) (p ++ x ∷ [])))
       (λ q f. let y : m ≡ x.manager = eqb_yes m x.manager f in
-      subst (λ (n : Node). IsAt (EndNote s v.xs m) m v.given n (ledger (opening_ledger s hs) (p ++ x ∷ []))) (sym (here_node s p x k m y ∙ ap (λ (g : History). (done_by x.entry (node_after s x.manager p g)).next) (one_history hs x.manager m h k y is e)))
-      (subst (λ (w : ℕ). IsAt (EndNote s v.xs w) w v.given (done_by x.entry (node_after s x.manager p h)).next (ledger (opening_ledger s hs) (p ++ x ∷ []))) (sym y) v.at))
-      (λ q f. subst (λ (n : Node). IsAt (EndNote s v.xs m) m v.given n (ledger (opening_ledger s hs) (p ++ x ∷ []))) (sym (else_node s p x k m f))
-      (else_at (EndNote s z.xs m) (EndNote s v.xs m) m x.manager (node_after s x.manager p h).manager.given.number z.given v.given (node_after s m p k) (ledger (opening_ledger s hs) p) (ledger (opening_ledger s hs) (p ++ x ∷ [])) (λ st n b o. notes_on m f st n b o) f (z.at m k e) (z.at x.manager h is).number v.known (v.others m (node_after s m p k).manager f (z.at m k e).told) (v.users m f))) refl;
+      subst (λ (n : Node). IsAt (EndNote s (deeds (p ++ x ∷ [])) v.xs m) m v.given n (ledger (opening_ledger s hs) (p ++ x ∷ []))) (sym (here_node s p x k m y ∙ ap (λ (g : History). (done_by x.entry (node_after s x.manager p g)).next) (one_history hs x.manager m h k y is e)))
+      (subst (λ (w : ℕ). IsAt (EndNote s (deeds (p ++ x ∷ [])) v.xs w) w v.given (done_by x.entry (node_after s x.manager p h)).next (ledger (opening_ledger s hs) (p ++ x ∷ []))) (sym y) here_at))
+      (λ q f. subst (λ (n : Node). IsAt (EndNote s (deeds (p ++ x ∷ [])) v.xs m) m v.given n (ledger (opening_ledger s hs) (p ++ x ∷ []))) (sym (else_node s p x k m f))
+      (else_at (EndNote s (deeds p) z.xs m) (EndNote s (deeds (p ++ x ∷ [])) v.xs m) m x.manager (node_after s x.manager p h).manager.given.number z.given v.given (node_after s m p k) (ledger (opening_ledger s hs) p) (ledger (opening_ledger s hs) (p ++ x ∷ [])) (λ st n b o. notes_on m f st n b o) f (z.at m k e) (z.at x.manager h is).number v.known (v.others m (node_after s m p k).manager f (z.at m k e).told) (v.users m f))) refl;
   counted = λ m k e. bool_case (m == x.manager) (λ t. (m == x.manager) ≡ t → AreCountedAt (node_after s m (p ++ x ∷ []) k).manager.numbers.connections m (ledger (opening_ledger s hs) (p ++ x ∷ [])))
       (λ q f. let y : m ≡ x.manager = eqb_yes m x.manager f in
       subst (λ (n : Node). AreCountedAt n.manager.numbers.connections m (ledger (opening_ledger s hs) (p ++ x ∷ []))) (sym (here_node s p x k m y ∙ ap (λ (g : History). (done_by x.entry (node_after s x.manager p g)).next) (one_history hs x.manager m h k y is e)))
@@ -177,8 +179,23 @@ keeps_on s hs p x h z is v = record {
         (λ a f. let r = w.near (mine k.sender f) in λ g n. subst (λ (l : List Frame). Mem g l) (sym r.1.back) n)
         (λ a f g n. subst (λ (c : Channel). Mem g c.back) (sym (w.else f e)) n) refl) refl
 
-    -- what is noted at another manager
-    notes_on : (a : ℕ) → (a == x.manager) ≡ false → (st : ledgers.Stopped) (n : Noted) (b : Plain) → EndNote s z.xs a st n b → EndNote s v.xs a st n b
-    notes_on a f st n b o = notes_stay s z.xs v.xs a st n b
+    -- what is noted at this manager, and at another
+    here_at : IsAt (EndNote s (deeds (p ++ x ∷ [])) v.xs x.manager) x.manager v.given (done_by x.entry (node_after s x.manager p h)).next (ledger (opening_ledger s hs) (p ++ x ∷ []))
+    here_at =
+        let n : Node = (done_by x.entry (node_after s x.manager p h)).next in
+        record {
+          told = v.at.told;
+          fresh = v.at.fresh;
+          number = v.at.number;
+          timed = v.at.timed;
+          state = v.at.state;
+          noted = noted_on (EndNote s (deeds p) v.xs x.manager) (EndNote s (deeds (p ++ x ∷ [])) v.xs x.manager) x.manager n.manager.running n.manager (ledger (opening_ledger s hs) (p ++ x ∷ []))
+              (λ st o b y. notes_stay s (deeds p) (deeds (p ++ x ∷ [])) v.xs v.xs x.manager st o b
+              (λ i k e q. (record { sends = refl; sender = refl; batch = refl; out = refl }, (λ f w. w)))
+              (λ i k e q. (record { receives = refl; receiver = refl; kept = refl; back = refl }, (λ f w. w))) (told_before p x) y) v.at.noted;
+        }
+
+    notes_on : (a : ℕ) → (a == x.manager) ≡ false → (st : ledgers.Stopped) (n : Noted) (b : Plain) → EndNote s (deeds p) z.xs a st n b → EndNote s (deeds (p ++ x ∷ [])) v.xs a st n b
+    notes_on a f st n b o = notes_stay s (deeds p) (deeds (p ++ x ∷ [])) z.xs v.xs a st n b
         (λ i k e q. let w = v.moved i k e in (same_near i k w (ap (λ c. c == x.manager) q ∙ f), back_among i k w))
-        (λ i k e q. let w = v.moved i k e in (same_far i k w (ap (λ c. c == x.manager) q ∙ f), out_among i k w)) o
+        (λ i k e q. let w = v.moved i k e in (same_far i k w (ap (λ c. c == x.manager) q ∙ f), out_among i k w)) (told_before p x) o

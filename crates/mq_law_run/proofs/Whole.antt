@@ -1,5 +1,5 @@
 -- Each entry of a story is a move; so each prefix is as promised, where no restart finds the write of a receiver's commit.
-use Rattle.std.proofs.Common.{ℕ, ◌≡◌, List, [], ◌∷◌, ◌++◌, refl, ap, sym, subst, ◌∙◌, inl, inr}
+use Rattle.std.proofs.Common.{ℕ, ◌≡◌, ◌<◌, List, [], ◌∷◌, ◌++◌, refl, ap, sym, subst, ◌∙◌}
 use Rattle.std.specs.Prelude.{Option, Some, None, slice_get}
 use Rattle.std.specs.Option.{option_map}
 use Rattle.mq_sc_parse.specs.declared.command.Command.TheVariants as lines
@@ -14,7 +14,6 @@ use Rattle.mq_spec_state.specs.State.{Plain, Running}
 use Rattle.mq_spec_state.specs.State.Running.{Up, Down}
 use Rattle.mq_spec_network.specs.Conflict.{Deed as ToldDeed, NoConflict, deeds, deeds_in}
 use Rattle.mq_spec_network.specs.Ledger.{ledger}
-use Rattle.mq_spec_network.specs.Order.{unit_received}
 use Rattle.mq_spec_network.specs.Promised.{Premises}
 use Rattle.mq_spec_network.specs.Standing.{managers_at, node_after, opening_ledger}
 use Rattle.mq_spec_network.specs.Story.{IsStory, Line}
@@ -25,18 +24,21 @@ use Rattle.mq_law_story.proofs.Promising.{once_promised, rows_promised}
 use Rattle.mq_law_story.proofs.Weaving.{manager_at}
 use Rattle.mq_law_one.specs.Alone.{IsOwnCall, IsState}
 use Rattle.mq_law_one.proofs.Running.{Told_, none_more, one_more, told_of}
-use Rattle.mq_law_run.specs.Run.{HoldsRows, Moves, NoCommitFound, Stand}
-use Rattle.mq_law_run.proofs.Acting.{receiver_acts, sender_acts, timeout_acts}
+use Rattle.mq_law_run.specs.Run.{HaveSenders, HoldsRows, Moves, Stand}
+use Rattle.mq_law_run.proofs.Acting.{cable_is, receiver_acts, sender_acts, some_at, timeout_acts}
 use Rattle.mq_law_run.proofs.Beginning.{begins}
 use Rattle.mq_law_run.proofs.Breaking.{obeys_all}
 use Rattle.mq_law_run.proofs.Owning.{own_moves}
 use Rattle.mq_law_run.proofs.Rising.{crash_moves, restart_moves}
 use Rattle.mq_law_run.proofs.Standing.{keeps_on}
 
+have_senders : (s : Scenario) (hs : List History) → Premises s hs → HaveSenders s hs
+have_senders s hs premises k there = some_at hs k.sender (subst (λ (l : ℕ). k.sender < l) (sym premises.joined.all) (cable_is s s.cables k premises.scenario.cables there).sender)
+
 -- EACH ENTRY
 entry_moves : (s : Scenario) (hs : List History) (wide p rest : List Line) (es : List ToldDeed) (x : Line) (z : Stand s hs p) (t : Told_ s hs p x) → Premises s hs → IsStory hs (p ++ x ∷ rest) → NoConflict s hs wide → deeds wide ≡ deeds (p ++ x ∷ []) ++ es
-    → (x.entry.call ≡ calls.Act acts.Restart → unit_received x.entry.effect.delta ≡ None) → Moves s hs p x t.h z
-entry_moves s hs wide p rest es x z t premises story peace split calm = go x.entry.actor x.entry.call refl refl
+    → Moves s hs p x t.h z
+entry_moves s hs wide p rest es x z t premises story peace split = go x.entry.actor x.entry.call refl refl
   where
     own : (a : Actor) (c : Call) → x.entry.actor ≡ a → x.entry.call ≡ c → IsOwnCall a c → Moves s hs p x t.h z
     own a c f g is = own_moves s hs p x z t (subst (λ (b : Actor). IsOwnCall b x.entry.call) (sym f) (subst (λ (d : Call). IsOwnCall a d) (sym g) is))
@@ -44,7 +46,7 @@ entry_moves s hs wide p rest es x z t premises story peace split calm = go x.ent
     go : (a : Actor) (c : Call) → x.entry.actor ≡ a → x.entry.call ≡ c → Moves s hs p x t.h z
     go a (calls.Act (acts.Obey (lines.Operate op))) f g = obeys_all s hs wide p es x z t op premises peace split g
     go a (calls.Act acts.Crash) f g = crash_moves s hs p x z t premises.scenario g
-    go a (calls.Act acts.Restart) f g = restart_moves s hs wide p es x z t premises.scenario peace split (calm g) g
+    go a (calls.Act acts.Restart) f g = restart_moves s hs wide p es x z t premises.scenario peace split (have_senders s hs premises) g
     go (actors.Sender k) calls.Turn f g = sender_acts s hs p rest x z t k premises story f g
     go (actors.Receiver k) calls.Turn f g = receiver_acts s hs wide p rest es x z t k premises story peace split f g
     go a calls.Timeout f g = timeout_acts s hs p x z t premises g
@@ -77,23 +79,23 @@ deeds_both : (xs ys : List Line) → deeds (xs ++ ys) ≡ deeds xs ++ deeds ys
 deeds_both [] ys = refl
 deeds_both (x ∷ xs) ys = ap (λ ds. deeds_in x.manager x.entry.effect.delta ++ ds) (deeds_both xs ys) ∙ sym (behind (deeds_in x.manager x.entry.effect.delta) (deeds xs) (deeds ys))
 
-stands : (s : Scenario) (hs : List History) (wide before p rest : List Line) → Premises s hs → IsStory hs (before ++ (p ++ rest)) → NoConflict s hs wide → wide ≡ before ++ p → NoCommitFound p → Stand s hs before → Stand s hs (before ++ p)
-stands s hs wide before [] rest premises story peace same calm z = subst (Stand s hs) (sym (none_more before)) z
-stands s hs wide before (x ∷ p) rest premises story peace same calm z =
+stands : (s : Scenario) (hs : List History) (wide before p rest : List Line) → Premises s hs → IsStory hs (before ++ (p ++ rest)) → NoConflict s hs wide → wide ≡ before ++ p → Stand s hs before → Stand s hs (before ++ p)
+stands s hs wide before [] rest premises story peace same z = subst (Stand s hs) (sym (none_more before)) z
+stands s hs wide before (x ∷ p) rest premises story peace same z =
     let t = told_of s hs before x (p ++ rest) premises story in
     let on : wide ≡ (before ++ x ∷ []) ++ p = same ∙ sym (one_more before x p) in
-    let v = entry_moves s hs wide before (p ++ rest) (deeds p) x z t premises story peace (ap deeds on ∙ deeds_both (before ++ x ∷ []) p) (calm x (inl refl)) in
+    let v = entry_moves s hs wide before (p ++ rest) (deeds p) x z t premises story peace (ap deeds on ∙ deeds_both (before ++ x ∷ []) p) in
     subst (Stand s hs) (one_more before x p)
-    (stands s hs wide (before ++ x ∷ []) p rest premises (subst (IsStory hs) (sym (one_more before x (p ++ rest))) story) peace on (λ y n. calm y (inr n)) (keeps_on s hs before x t.h z t.is v))
+    (stands s hs wide (before ++ x ∷ []) p rest premises (subst (IsStory hs) (sym (one_more before x (p ++ rest))) story) peace on (keeps_on s hs before x t.h z t.is v))
 
 named : (r : Running) (p : Plain) → IsState r p → AreNamed p.queues
 named Up p h = h.named
 named (Down noted starts) p h = h.named
 
-pub promised : (s : Scenario) (hs : List History) → Premises s hs → (story p rest : List Line) → IsStory hs story → story ≡ p ++ rest → NoConflict s hs p → NoCommitFound p → HoldsRows s hs p
-promised s hs premises story p rest is_story split peace calm =
+pub promised : (s : Scenario) (hs : List History) → Premises s hs → (story p rest : List Line) → IsStory hs story → story ≡ p ++ rest → NoConflict s hs p → HoldsRows s hs p
+promised s hs premises story p rest is_story split peace =
     let whole : IsStory hs (p ++ rest) = subst (IsStory hs) split is_story in
-    let z : Stand s hs p = stands s hs p [] p rest premises whole peace refl calm (begins s hs premises) in
+    let z : Stand s hs p = stands s hs p [] p rest premises whole peace refl (begins s hs premises) in
     let operated : IsOperated s hs p z.ghost = record { resolved = z.resolved; not_yet = z.not_yet } in
     record {
       rows = rows_promised s hs p z.given z.ghost z.joint.inv peace operated;

@@ -1,5 +1,5 @@
 -- A network after a prefix of a story, with all its channels: what is kept along a run.
-use Rattle.std.specs.Prelude.{ℕ, Bool, ◌≡◌, ◌==◌, true, false, List, [], ◌∷◌, ◌++◌, Option, Some, None, slice_get}
+use Rattle.std.specs.Prelude.{ℕ, Bool, ◌≡◌, ◌==◌, true, false, List, [], ◌∷◌, ◌++◌, Option, Some, slice_get}
 use Rattle.mq_message.specs.declared.message.Ident.{Ident}
 use Rattle.mq_frame.specs.declared.frame.Frame.{Frame}
 use Rattle.mq_sync.specs.declared.unit.Unit.{Unit as Luw}
@@ -15,8 +15,6 @@ use Rattle.mq_history.specs.declared.scenario.Scenario.{Scenario}
 use Rattle.mq_spec_state.specs.State.{Plain}
 use Rattle.mq_spec_node.specs.Node.{Node}
 use Rattle.mq_calls.specs.declared.choices.Choice.TheVariants.{Runs, Stopped}
-use Rattle.mq_history.specs.declared.acts.Act.TheVariants as acts
-use Rattle.mq_history.specs.declared.calls.Call.TheVariants as calls
 use Rattle.mq_history.specs.declared.calls.Chance.{Chance}
 use Rattle.mq_history.specs.declared.calls.Chance.TheVariants as chances
 use Rattle.mq_history.specs.declared.acts.Acted.TheVariants as acted
@@ -30,7 +28,6 @@ use Rattle.mq_spec_node.specs.Replays.{done_by}
 use Rattle.mq_spec_network.specs.Conflict.{deeds, is_committed}
 use Rattle.mq_spec_network.specs.Given.{name_at}
 use Rattle.mq_spec_network.specs.Ledger.{Ledger, ledger, ledger_rows}
-use Rattle.mq_spec_network.specs.Order.{unit_received}
 use Rattle.mq_spec_network.specs.Promised.{AreDistinct, all_standing}
 use Rattle.mq_spec_network.specs.Standing.{managers_at, node_after, opening_ledger, opening_managers, rows_told, standing}
 use Rattle.mq_spec_network.specs.Story.{Line, Mem}
@@ -86,7 +83,7 @@ pub record Stand (s : Scenario) (hs : List History) (p : List Line) : Type 0 whe
   pub not_yet : (m : ℕ) (c : List ℕ) (u : Luw) → ghost.operated m c u ≡ true → is_committed s (opening_managers s hs) (deeds p) c u ≡ false
   pub risen : (k : CableLine) → Mem k s.cables → (u : Luw) → is_committed s (opening_managers s hs) (deeds p) k.channel u ≡ true → Upto u (xs k.sender k.channel).receives.unit
   pub owned : (m : ℕ) (c : List ℕ) (u : Luw) → ghost.operated m c u ≡ true → (i : ℕ) × (k : CableLine) × (slice_get s.cables i ≡ Some k) × (k.sender ≡ m) × (k.channel ≡ c)
-  pub at : (m : ℕ) (h : History) → slice_get hs m ≡ Some h → IsAt (EndNote s xs m) m given (node_after s m p h) (ledger (opening_ledger s hs) p)
+  pub at : (m : ℕ) (h : History) → slice_get hs m ≡ Some h → IsAt (EndNote s (deeds p) xs m) m given (node_after s m p h) (ledger (opening_ledger s hs) p)
   pub counted : (m : ℕ) (h : History) → slice_get hs m ≡ Some h → AreCountedAt (node_after s m p h).manager.numbers.connections m (ledger (opening_ledger s hs) p)
   pub cabled : (m : ℕ) (h : History) → slice_get hs m ≡ Some h → AreCabled s.cables m (node_after s m p h).manager
   pub housed : (a : ℕ) (y : ManagerPlaces) → slice_get (ledger (opening_ledger s hs) p).places a ≡ Some y → (h : History) × (slice_get hs a ≡ Some h)
@@ -113,7 +110,7 @@ pub record MovesTo (s : Scenario) (hs : List History) (p : List Line) (x : Line)
   pub not_yet : (m : ℕ) (c : List ℕ) (u : Luw) → ghost.operated m c u ≡ true → is_committed s (opening_managers s hs) (deeds (p ++ x ∷ [])) c u ≡ false
   pub risen : (k : CableLine) → Mem k s.cables → (u : Luw) → is_committed s (opening_managers s hs) (deeds (p ++ x ∷ [])) k.channel u ≡ true → Upto u (xs k.sender k.channel).receives.unit
   pub owned : (m : ℕ) (c : List ℕ) (u : Luw) → ghost.operated m c u ≡ true → (i : ℕ) × (k : CableLine) × (slice_get s.cables i ≡ Some k) × (k.sender ≡ m) × (k.channel ≡ c)
-  pub at : IsAt (EndNote s xs x.manager) x.manager given d.next l
+  pub at : IsAt (EndNote s (deeds p) xs x.manager) x.manager given d.next l
   pub known : (i : Ident) → (i.manager == (node_after s x.manager p h).manager.given.number) ≡ false → given i ≡ z.given i
   pub others : (a : ℕ) (r : Plain) → (a == x.manager) ≡ false → IsTold a r (ledger (opening_ledger s hs) p) → IsTold a r l
   pub users : (a : ℕ) → (a == x.manager) ≡ false → slice_get l.users a ≡ slice_get (ledger (opening_ledger s hs) p).users a
@@ -151,9 +148,9 @@ abbrev pub is_stopped_call : Chance → Bool
 is_stopped_call (chances.Call (Stopped by part left)) = true
 is_stopped_call _ = false
 
--- no restart finds the stopped write of a receiver's commit
-abbrev pub NoCommitFound : List Line → Type 0
-NoCommitFound p = (x : Line) → Mem x p → x.entry.call ≡ calls.Act acts.Restart → unit_received x.entry.effect.delta ≡ None
+-- each cable's sender has a history
+abbrev pub HaveSenders : Scenario → List History → Type 0
+HaveSenders s hs = (k : CableLine) → Mem k s.cables → (g : History) × (slice_get hs k.sender ≡ Some g)
 
 -- The rows of a prefix are as promised: the standing rows of each queue are the ledger's, list for list; each ident stands once, and is in at
 -- most one committed get. (`Holds` has beside that each receiver's commit kept the order.)

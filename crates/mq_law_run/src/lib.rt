@@ -29,7 +29,6 @@ ghost use Rattle.mq_spec_node.specs.Replays.{IsOwn, Tells, done_by};
 ghost use Rattle.mq_spec_node.specs.Senders.{sender_deed, timeout_deed};
 ghost use Rattle.mq_spec_network.specs.Conflict.{Deed as ToldDeed, NoConflict, deeds};
 ghost use Rattle.mq_spec_network.specs.Ledger.{ledger};
-ghost use Rattle.mq_spec_network.specs.Order.{unit_received};
 ghost use Rattle.mq_spec_network.specs.Promised.{Premises};
 ghost use Rattle.mq_spec_network.specs.Standing.{node_after, opening_ledger};
 ghost use Rattle.mq_spec_network.specs.Lawful.{IsLawful};
@@ -37,7 +36,7 @@ ghost use Rattle.mq_spec_network.specs.Story.{IsStory, Line, Mem, entries_at};
 ghost use Rattle.mq_law_channel.specs.Turns.{SeenIn};
 ghost use Rattle.mq_law_node.specs.Ends.{receiver_of, sender_of};
 ghost use Rattle.mq_law_one.specs.Alone.{IsOwnCall};
-ghost use Rattle.mq_law_run.specs.Run.{HoldsRows, IsRunning, Moves, NoCommitFound, Stand, back_done, failed_node, far_at, near_at, risen_done, stopped_done};
+ghost use Rattle.mq_law_run.specs.Run.{HaveSenders, HoldsRows, IsRunning, Moves, Stand, back_done, failed_node, far_at, near_at, risen_done, stopped_done};
 
 /// A network with channels begins so.
 pub fn a_network_begins_so()
@@ -143,11 +142,11 @@ pub fn what_is_committed_is_a_move()
         → IsRunning s p x h (operate (ops.Resolve name settles.Commit) (node_after s x.manager p h)) → sender_named name (node_after s x.manager p h).own.ends ≡ Some (sender_of (near_at s i k) (z.xs k.sender k.channel).sender) → Moves s hs p x h z }
 {}
 
-/// And a restart that finds the write of a call, or of a channel's end that is no receiver's commit: it does what the note says, and then
+/// And a restart that finds the write of a call, or of a channel's end, a receiver's commit among them: it does what the note says, and then
 /// the manager comes up. It is in a prefix of one without conflict.
 pub fn restarts_that_find_a_write_are_moves()
     ensures { (s : Scenario) (hs : List History) (whole p : List Line) (es : List ToldDeed) (x : Line) (h : History) (stamp : ℕ) (z : Stand s hs p) (noted : Noted) (starts started : ℕ) → IsScenario s → NoConflict s hs whole
-        → deeds whole ≡ deeds (p ++ x ∷ []) ++ es → unit_received x.entry.effect.delta ≡ None → slice_get hs x.manager ≡ Some h → Tells (node_after s x.manager p h) stamp x.entry → IsOwn x.entry.chance → (node_after s x.manager p h).manager.running ≡ Down (Some noted) starts → x.entry.call ≡ calls.Act acts.Restart → x.entry.chance ≡ chances.Restart (Comes true started)
+        → deeds whole ≡ deeds (p ++ x ∷ []) ++ es → HaveSenders s hs → slice_get hs x.manager ≡ Some h → Tells (node_after s x.manager p h) stamp x.entry → IsOwn x.entry.chance → (node_after s x.manager p h).manager.running ≡ Down (Some noted) starts → x.entry.call ≡ calls.Act acts.Restart → x.entry.chance ≡ chances.Restart (Comes true started)
         → done_by x.entry (node_after s x.manager p h) ≡ back_done started noted (node_after s x.manager p h) → Moves s hs p x h z }
 {}
 
@@ -156,12 +155,12 @@ pub fn offers_have_their_entries_stamps()
     ensures { (s : Scenario) (hs : List History) → Premises s hs → (m : ℕ) (o : Entry) (f : Frame) → Mem o (entries_at hs m) → o.effect.pushed ≡ Some f → o.stamp ≡ f.stamp }
 {}
 
-/// So each stop and each restart is a move, whether it is refused, fails, or finds a write that is no receiver's commit.
+/// So each stop and each restart is a move, whether it is refused, fails, or finds a write or none.
 pub fn each_stop_and_each_restart_is_a_move()
     ensures stops { (s : Scenario) (hs : List History) (p : List Line) (x : Line) (h : History) (stamp : ℕ) (z : Stand s hs p) → IsScenario s → slice_get hs x.manager ≡ Some h → Tells (node_after s x.manager p h) stamp x.entry → IsOwn x.entry.chance
         → x.entry.call ≡ calls.Act acts.Crash → Moves s hs p x h z }
     ensures restarts { (s : Scenario) (hs : List History) (whole p : List Line) (es : List ToldDeed) (x : Line) (h : History) (stamp : ℕ) (z : Stand s hs p) → IsScenario s → NoConflict s hs whole → deeds whole ≡ deeds (p ++ x ∷ []) ++ es
-        → unit_received x.entry.effect.delta ≡ None → slice_get hs x.manager ≡ Some h → Tells (node_after s x.manager p h) stamp x.entry → IsOwn x.entry.chance → x.entry.call ≡ calls.Act acts.Restart → Moves s hs p x h z }
+        → HaveSenders s hs → slice_get hs x.manager ≡ Some h → Tells (node_after s x.manager p h) stamp x.entry → IsOwn x.entry.chance → x.entry.call ≡ calls.Act acts.Restart → Moves s hs p x h z }
 {}
 
 /// Each turn of an end of a channel, and each timeout, is a move, whether its write is stopped or not: the end is of a cable of the scenario,
@@ -182,10 +181,9 @@ pub fn each_command_on_an_end_is_a_move()
         → slice_get hs x.manager ≡ Some h → Tells (node_after s x.manager p h) stamp x.entry → IsOwn x.entry.chance → x.entry.call ≡ calls.Act (acts.Obey (lines.Operate op)) → Moves s hs p x h z }
 {}
 
-/// After each prefix of a lawful story in which no operator's settlement is at odds with its receiver, and no restart finds the stopped write
-/// of a receiver's commit (`NoCommitFound`; writes may be stopped, and restarts may find all others): the standing rows of each queue are the
-/// ledger's, list for list, and each ident stands once, and is in at most one committed get. The other premises are those of `Promised`; it
-/// says nothing of the order of receivers' commits.
-pub fn networks_are_as_promised_where_no_stopped_commit_is_found()
-    ensures { (s : Scenario) (hs : List History) → Premises s hs → (story p rest : List Line) → IsStory hs story → story ≡ p ++ rest → NoConflict s hs p → NoCommitFound p → HoldsRows s hs p }
+/// After each prefix of a lawful story in which no operator's settlement is at odds with its receiver (writes may be stopped, and restarts
+/// may find them, or don't): the standing rows of each queue are the ledger's, list for list, and each ident stands once, and is in at most
+/// one committed get. The premises are those of `Promised`; it says nothing of the order of receivers' commits.
+pub fn networks_are_as_promised()
+    ensures { (s : Scenario) (hs : List History) → Premises s hs → (story p rest : List Line) → IsStory hs story → story ≡ p ++ rest → NoConflict s hs p → HoldsRows s hs p }
 {}

@@ -172,16 +172,19 @@ nothing_posted m st note is e p l =
     ∙ moments_back m st.moment l
 
 -- ALL OF IT
-one_on : (p q : Plain) → p.channels ≡ q.channels → IsOne_ p → IsOne_ q
+pub one_on : (p q : Plain) → p.channels ≡ q.channels → IsOne_ p → IsOne_ q
 one_on p q e h d t f = (λ i. in_doubt_of (sender_in d (sym e i).senders)) ∙ h d t ((λ i. batch_of d (e i).batches) ∙ f)
 
 pub one_redone : (note : Noted) (p : Plain) → IsOne_ (apply_all note.changes (left_as p)) → IsOne_ (redone note p)
 one_redone note p h = one_on (apply_all note.changes (left_as p)) (redone note p) (all_after note.changes (left_as p) (record p { log = stands_in note.written p.log }) refl) h
 
-pub leaves : (m : ℕ) (st : ledgers.Stopped) (p : Plain) (part : Part) (r : LogRecord) (left : ℕ) → IsOfEnd st.entry.call → all_calm part.delta ≡ true → IsSound (do_part part p) → Stays_ p part
-    → IsLeft m st (noted_of part r) (left_as (freeze (Some (noted_of part r)) left p))
-leaves m st p part r left is calm sound same = record { sound = sound_of p part r left sound same; posts = nothing_posted m st (noted_of part r) is calm; one = one_on (do_part part p) (apply_all part.changes (left_as (freeze (Some (noted_of part r)) left p))) (all_after part.changes (logged part.forced p) (left_as (freeze (Some (noted_of part r)) left p)) (kept part.forced)) sound.facts.batched.one }
+pub one_left : (p : Plain) (part : Part) (r : LogRecord) (left : ℕ) → IsSound (do_part part p) → IsOne_ (apply_all part.changes (left_as (freeze (Some (noted_of part r)) left p)))
+one_left p part r left sound = one_on (do_part part p) (apply_all part.changes (left_as (freeze (Some (noted_of part r)) left p))) (all_after part.changes (logged part.forced p) (left_as (freeze (Some (noted_of part r)) left p)) (kept part.forced)) sound.facts.batched.one
   where
     kept : (o : Option LogRecord) → (logged o p).channels ≡ p.channels
     kept None = refl
     kept (Some s) = refl
+
+pub leaves : (m : ℕ) (st : ledgers.Stopped) (p : Plain) (part : Part) (r : LogRecord) (left : ℕ) → IsOfEnd st.entry.call → all_calm part.delta ≡ true → IsSound (do_part part p) → Stays_ p part
+    → IsLeft m st (noted_of part r) (left_as (freeze (Some (noted_of part r)) left p))
+leaves m st p part r left is calm sound same = record { sound = sound_of p part r left sound same; posts = nothing_posted m st (noted_of part r) is calm; one = one_left p part r left sound }

@@ -5,3 +5,4 @@ pub mod Channels
 pub mod Leaving
 pub mod Sparing
 pub mod Noting
+pub mod Committing

@@ -1,5 +1,5 @@
 -- What each turn of an end notes where its write is stopped.
-use Rattle.std.proofs.Common.{ℕ, ◌≡◌, ◌⊎◌, Bool, true, false, List, [], ◌∷◌, ◌++◌, refl, ap, sym, subst, ◌∙◌, inl, inr, map}
+use Rattle.std.proofs.Common.{ℕ, ◌≡◌, ◌⊎◌, Bool, true, false, List, [], ◌++◌, refl, ap, sym, subst, ◌∙◌, inl, inr, map}
 use Rattle.std.specs.Prelude.{Option, Some, None, Result, Ok, Err, if◌then◌else◌}
 use Rattle.std.specs.Option.{option_map}
 use Rattle.mq_codes.specs.declared.reason.Reason.{Reason}
@@ -20,8 +20,6 @@ use Rattle.mq_receiver.specs.declared.turns.ReceiverOut.TheVariants as ends
 use Rattle.mq_receiver.specs.After.{bound_by, last_by}
 use Rattle.mq_receiver.specs.Table.{receiver_next}
 use Rattle.mq_calls.specs.declared.agents.Note.TheVariants as notes
-use Rattle.mq_calls.specs.declared.deltas.Did.{Did}
-use Rattle.mq_calls.specs.declared.deltas.Did.TheVariants as did
 use Rattle.mq_calls.specs.declared.records.LogRecord.{LogRecord}
 use Rattle.mq_calls.specs.declared.state.Batch.{Batch}
 use Rattle.mq_spec_state.specs.State.{Plain}
@@ -29,7 +27,6 @@ use Rattle.mq_spec_state.specs.Reads.{batch_of, in_doubt_of, is_full, sender_dat
 use Rattle.mq_spec_state.specs.Sizes.{need}
 use Rattle.mq_spec_state.specs.Steps.{Part}
 use Rattle.mq_spec_agents.specs.Words.{Landed, harden_part, landed, leave, prepare_of, prepared_record, receive_landed, received_record, release_of, stock, unit_of}
-use Rattle.mq_spec_network.specs.Order.{unit_received}
 use Rattle.mq_spec_node.specs.Node.{Node}
 use Rattle.mq_spec_node.specs.Deeds.{parts_of}
 use Rattle.mq_spec_node.specs.Receivers.{is_receiver_defined, place_deed, receiver_deed_by}
@@ -130,17 +127,6 @@ placed_not : (u : Luw) (d : ReceiverDoes) → d ≡ takes.Place u → d ≡ take
 placed_not u d e (inl f) = cc
 placed_not u d e (inr f) = cc
 
-first_received : (c : List ℕ) (u : Luw) (ds : List Did) → (v : List ℕ × Luw) × (unit_received (ds ++ did.Received c u ∷ []) ≡ Some v)
-first_received c u [] = ((c, u), refl)
-first_received c u (did.Received d v ∷ ds) = ((d, v), refl)
-first_received c u (did.Placed q i dead ∷ ds) = first_received c u ds
-first_received c u (did.Removed q i why ∷ ds) = first_received c u ds
-first_received c u (did.Moved q i to target bare ∷ ds) = first_received c u ds
-first_received c u (did.Held q i by_ ∷ ds) = first_received c u ds
-first_received c u (did.Released q i ∷ ds) = first_received c u ds
-first_received c u (did.Hardened d w ∷ ds) = first_received c u ds
-first_received c u (did.Prepared d v ∷ ds) = first_received c u ds
-
 abbrev Takes_ : Where → ℕ → Seen → Node → Channel → Part → LogRecord → Type 0
 Takes_ w stamp seen n c = SaysReceiver w.channel n.manager c (taking_turn w stamp seen c.receiver c.kept n.manager)
 
@@ -162,7 +148,19 @@ place_says w stamp seen n c u (Ok ld) e lands =
     bool_case (is_full (need (received_record w.channel u last ld)) n.manager)
     (λ f. is_full (need (received_record w.channel u last ld)) n.manager ≡ f → EachWrites (Takes_ w stamp seen n c) (Some (place_deed (receiver_of w c.receiver c.kept) u seen (placed_by w u last ld n.manager f) n)))
     (λ z f r g. closes_says w stamp seen n c u _ r e (ap (λ (v : Result Landed Reason). place_out (receive_landed w.channel u last v n.manager)) lands ∙ ap (λ t. place_out (placed_by w u last ld n.manager t)) f))
-    (λ z f r g. inr (first_received w.channel u ld.delta)) refl
+    (λ z f r g. inr (record {
+      unit = u;
+      last = last;
+      land = ld;
+      ran = ap (λ (d : ReceiverDoes). receiver_out d w seen c.receiver c.kept n.manager) e ∙ ap (λ (v : Result Landed Reason). place_out (receive_landed w.channel u last v n.manager)) lands ∙ ap (λ t. place_out (placed_by w u last ld n.manager t)) f;
+      does = e;
+      lands = lands;
+      part_ = refl;
+      record_ = some_is r (received_record w.channel u last ld) (sym g);
+    })) refl
+  where
+    some_is : (a b : LogRecord) → Some a ≡ Some b → a ≡ b
+    some_is a b q = cc
 
 pub receiver_says : (w : Where) (stamp : ℕ) (seen : Seen) (n : Node) (c : Channel) (d : ReceiverDoes) → receiver_next c.receiver seen (is_receiver_defined w.channel n.manager.definitions) ≡ d
     → EachWrites (Takes_ w stamp seen n c) (receiver_deed_by stamp (receiver_of w c.receiver c.kept) seen d n)

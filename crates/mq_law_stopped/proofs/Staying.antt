@@ -1,5 +1,5 @@
 -- What is noted of an end stays noted, whatever the other end of its channel does.
-use Rattle.std.proofs.Common.{ℕ, ◌≡◌, List, ap, subst, ◌∙◌}
+use Rattle.std.proofs.Common.{ℕ, ◌≡◌, List, ap, subst, ◌∙◌, inl, inr}
 use Rattle.std.specs.Prelude.{Some, slice_get}
 use Rattle.mq_frame.specs.declared.frame.Frame.{Frame}
 use Rattle.mq_sync.specs.declared.data.ReceiverData.{ReceiverData}
@@ -9,15 +9,16 @@ use Rattle.mq_receiver.specs.declared.state.Receiver.{Receiver}
 use Rattle.mq_history.specs.declared.scenario.CableLine.{CableLine}
 use Rattle.mq_history.specs.declared.scenario.Scenario.{Scenario}
 use Rattle.mq_spec_state.specs.State.{Noted, Plain}
+use Rattle.mq_spec_network.specs.Conflict.{Deed as ToldDeed}
 use Rattle.mq_spec_network.specs.Ledger as ledgers
 use Rattle.mq_spec_network.specs.Story.{Mem}
 use Rattle.mq_law_channel.specs.Facts.{Letter}
 use Rattle.mq_law_channel.specs.Channel.{Channel}
 use Rattle.mq_law_node.specs.Ends.{told_receives, told_sends}
-use Rattle.mq_law_node.specs.Moves.{NearStep}
+use Rattle.mq_law_node.specs.Moves.{FarStep, NearStep}
 use Rattle.mq_law_node.specs.Nodes.{SameFar, SameNear}
 use Rattle.mq_law_node.proofs.Pairs.{far_may_same, far_step_same, near_may_same, near_step_same, same_far_is, same_near_is}
-use Rattle.mq_law_stopped.specs.Noted.{EndNote, ReceiverNote, SenderKind, SenderNote}
+use Rattle.mq_law_stopped.specs.Noted.{CommitNote, EndNote, ReceiverNote, SenderKind, SenderNote}
 use Rattle.mq_law_stopped.specs.Noted.SenderKind.{Begins, Numbers, Prepares, Resolves, Settles}
 use Rattle.mq_law_stopped.specs.Noted.EndNote.{Commits, Far, Near}
 
@@ -59,10 +60,31 @@ receiver_stays c b note x d same among h = subst (λ (z : Channel). ReceiverNote
   quiet = h.quiet;
 })
 
-pub notes_stay : (s : Scenario) (xs zs : ℕ → List ℕ → Channel) (m : ℕ) (st : ledgers.Stopped) (note : Noted) (b : Plain)
+commit_stays : (ds es : List ToldDeed) (m : ℕ) (c : List ℕ) (st : ledgers.Stopped) (b : Plain) (note : Noted) (x d : Channel) → SameFar x d → ((f : Frame) → Mem f x.out → Mem f d.out) → ((o : ToldDeed) → Mem o ds → Mem o es) → CommitNote ds m c st note b x → CommitNote es m c st note b d
+commit_stays ds es m c st b note x d same among told h = subst (λ (z : Channel). CommitNote es m c st note b z) (same_far_is x d same) (record {
+  was = h.was;
+  turn = h.turn;
+  part = h.part;
+  force = h.force;
+  commits = record { unit = h.commits.unit; last = h.commits.last; land = h.commits.land; ran = h.commits.ran; does = h.commits.does; lands = h.commits.lands; part_ = h.commits.part_; record_ = h.commits.record_ };
+  is = h.is;
+  may = far_may_same (FarStep.Turn h.turn) d.sends d.sender d.batch d.out x among h.may;
+  data_ = ap told_receives (far_step_same (FarStep.Turn h.turn) d.sends d.sender d.batch d.out x).0 ∙ h.data_;
+  back = (far_step_same (FarStep.Turn h.turn) d.sends d.sender d.batch d.out x).1 ∙ h.back;
+  left = h.left;
+  whole = h.whole;
+  call = h.call;
+  received = h.received;
+  moment = h.moment;
+  sound = h.sound;
+  one = h.one;
+  agrees = elim h.agrees [ inl n ↦ inl (told _ n) | inr f ↦ inr f ];
+})
+
+pub notes_stay : (s : Scenario) (ds es : List ToldDeed) (xs zs : ℕ → List ℕ → Channel) (m : ℕ) (st : ledgers.Stopped) (note : Noted) (b : Plain)
     → ((i : ℕ) (k : CableLine) → slice_get s.cables i ≡ Some k → k.sender ≡ m → SameNear (xs k.sender k.channel) (zs k.sender k.channel) × ((f : Frame) → Mem f (xs k.sender k.channel).back → Mem f (zs k.sender k.channel).back))
     → ((i : ℕ) (k : CableLine) → slice_get s.cables i ≡ Some k → k.receiver ≡ m → SameFar (xs k.sender k.channel) (zs k.sender k.channel) × ((f : Frame) → Mem f (xs k.sender k.channel).out → Mem f (zs k.sender k.channel).out))
-    → EndNote s xs m st note b → EndNote s zs m st note b
-notes_stay s xs zs m st note b near far (Near i k at q left h) = let v = near i k at q in Near i k at q left (sender_stays k.channel b note (xs k.sender k.channel) (zs k.sender k.channel) v.0 v.1 h)
-notes_stay s xs zs m st note b near far (Far i k at q left h) = let v = far i k at q in Far i k at q left (receiver_stays k.channel b note (xs k.sender k.channel) (zs k.sender k.channel) v.0 v.1 h)
-notes_stay s xs zs m st note b near far (Commits u h) = Commits u h
+    → ((o : ToldDeed) → Mem o ds → Mem o es) → EndNote s ds xs m st note b → EndNote s es zs m st note b
+notes_stay s ds es xs zs m st note b near far told (Near i k at q left h) = let v = near i k at q in Near i k at q left (sender_stays k.channel b note (xs k.sender k.channel) (zs k.sender k.channel) v.0 v.1 h)
+notes_stay s ds es xs zs m st note b near far told (Far i k at q left h) = let v = far i k at q in Far i k at q left (receiver_stays k.channel b note (xs k.sender k.channel) (zs k.sender k.channel) v.0 v.1 h)
+notes_stay s ds es xs zs m st note b near far told (Commits i k at q h) = let v = far i k at q in Commits i k at q (commit_stays ds es k.sender k.channel st b note (xs k.sender k.channel) (zs k.sender k.channel) v.0 v.1 told h)

@@ -1,5 +1,6 @@
 -- What the stopped write of a channel's end leaves: a step of its channel, and the change of the network that a restart may still do.
-use Rattle.std.specs.Prelude.{ℕ, Bool, true, false, not, ◌&&◌, ◌≡◌, ◌⊎◌, List, [], ◌∷◌, Option, Some, None, slice_get}
+use Rattle.std.specs.Prelude.{ℕ, Bool, true, false, not, ◌&&◌, ◌≡◌, ◌==◌, ◌⊎◌, List, [], ◌∷◌, Ok, Option, Some, None, map, slice_get}
+use Rattle.mq_message.specs.declared.message.Message.{Message}
 use Rattle.mq_sync.specs.declared.unit.Unit.{Unit as Luw}
 use Rattle.mq_sync.specs.declared.unit.Settle.{Settle}
 use Rattle.mq_sync.specs.declared.unit.Settle.TheVariants as settles
@@ -30,8 +31,8 @@ use Rattle.mq_sc_parse.specs.declared.command.Command.TheVariants as lines
 use Rattle.mq_history.specs.declared.acts.Act.TheVariants as acts
 use Rattle.mq_history.specs.declared.calls.Call.{Call}
 use Rattle.mq_history.specs.declared.calls.Call.TheVariants as calls
-use Rattle.mq_spec_manager.specs.Stops.{redone_delta, restarted}
-use Rattle.mq_spec_agents.specs.Words.{harden_part, prepared_changes}
+use Rattle.mq_spec_manager.specs.Stops.{redone, redone_delta, restarted}
+use Rattle.mq_spec_agents.specs.Words.{Landed, harden_part, landed, prepared_changes, received_part, received_record}
 use Rattle.mq_spec_network.specs.Conflict.{Deed as ToldDeed}
 use Rattle.mq_spec_network.specs.Ledger as ledgers
 use Rattle.mq_spec_network.specs.Ledger.{Ledger}
@@ -44,14 +45,16 @@ use Rattle.mq_spec_node.specs.Deeds.{Deed}
 use Rattle.mq_law_channel.specs.Turns.{ReceiverTurn, SenderTurn, receiver_does, receiver_turn, sender_does}
 use Rattle.mq_law_manager.specs.Facts.{IsSound}
 use Rattle.mq_law_node.specs.Data.{receiver_by_all, sender_by_all, sends_at}
-use Rattle.mq_law_node.specs.Ends.{sender_of, told_receives, told_sends}
+use Rattle.mq_law_node.specs.Ends.{sender_of, stamped, told_receives, told_sends}
 use Rattle.mq_law_node.specs.Moves.{FarStep, NearMay, NearStep, far_does, near_does, near_past}
 use Rattle.mq_law_node.specs.Nodes.{FarMayLater}
 use Rattle.mq_law_found.specs.Finds.{posted_again, since}
 use Rattle.mq_law_batches.specs.Releases.{IsWord, settled_changes}
+use Rattle.mq_law_receipts.specs.Receipts.{Comes}
 use Rattle.mq_law_turns.specs.Agreed.{IsToldOf}
-use Rattle.mq_law_turns.specs.Turns.{IsJoint, Scene, TurnedBy, world_in}
-use Rattle.mq_law_seen.specs.Seen.{world_of}
+use Rattle.mq_law_turns.specs.Turns.{IsJoint, Scene, Taken, TurnedBy, world_in}
+use Rattle.mq_law_events.specs.Tied.{IsFresh, IsNext, IsTold}
+use Rattle.mq_law_seen.specs.Seen.{book_of, world_of}
 
 -- a turn of a sender that came to this
 pub record IsTurn (t : SenderTurn) (d : SenderDoes) (x : Channel) : Type 0 where
@@ -107,16 +110,56 @@ pub record IsLeft (m : ℕ) (st : ledgers.Stopped) (note : Noted) (b : Plain) : 
   pub posts : (p : Plain) (l : Ledger) → posted_again m st (redone_delta true (Some note) p) l ≡ l
   pub one : IsOne_ (apply_all note.changes b)
 
--- The noted write of an end of manager m, which is left as b, among these channels: of a sender's end, of a receiver's, or a receiver's
--- commit.
-pub data EndNote (s : Scenario) (xs : ℕ → List ℕ → Channel) (m : ℕ) (st : ledgers.Stopped) (note : Noted) (b : Plain) : Type 0 where
-  Near : (i : ℕ) → (k : CableLine) → slice_get s.cables i ≡ Some k → k.sender ≡ m → IsLeft m st note b → SenderNote k.channel b note (xs k.sender k.channel) → EndNote s xs m st note b
-  Far : (i : ℕ) → (k : CableLine) → slice_get s.cables i ≡ Some k → k.receiver ≡ m → IsLeft m st note b → ReceiverNote k.channel b note (xs k.sender k.channel) → EndNote s xs m st note b
-  Commits : (u : List ℕ × Luw) → unit_received note.delta ≡ Some u → EndNote s xs m st note b
-
 -- told of a manager
 abbrev pub told_at : ℕ → Did → ToldDeed
 told_at m d = record { manager = m; did = d }
+
+-- a manager as its stopped write has left it
+abbrev pub left_as : Plain → Plain
+left_as p = record p { running = Up; moment = 0; log = record { length = 0; armed = 0 } }
+
+-- the note of a part whose record is stopped
+abbrev pub noted_of : Part → LogRecord → Noted
+noted_of part r = record { written = r; changes = part.changes; delta = part.delta }
+
+-- What a receiver's turn is that comes to a commit, with what its messages land by.
+pub record IsCommitting (c : List ℕ) (b : Plain) (x : Channel) (turn : ReceiverTurn) (part : Part) (r : LogRecord) : Type 0 where
+  pub unit : Luw
+  pub last : ℕ
+  pub land : Landed
+  pub ran : turn.outcome ≡ done.Done
+  pub does : receiver_does turn x ≡ takes.Place unit
+  pub lands : landed c (map stamped x.kept) b ≡ Ok land
+  pub part_ : part ≡ received_part c unit last land b
+  pub record_ : r ≡ received_record c unit last land
+
+-- The noted write of a receiver's commit: the manager as it was when its turn was stopped, and the turn. Each message of the unit stood nowhere
+-- there then, or in a row of a unit in doubt; or an operator had backed the unit out at its sender, which is told.
+pub record CommitNote (ds : List ToldDeed) (sender : ℕ) (c : List ℕ) (st : ledgers.Stopped) (note : Noted) (b : Plain) (x : Channel) : Type 0 where
+  pub was : Plain
+  pub turn : ReceiverTurn
+  pub part : Part
+  pub force : LogRecord
+  pub commits : IsCommitting c was x turn part force
+  pub is : note ≡ noted_of part force
+  pub may : FarMayLater (FarStep.Turn turn) x
+  pub data_ : told_receives (far_does (FarStep.Turn turn) x).receives ≡ told_receives (receiver_or (receiver_by_all c note.changes (receiver_data c b)))
+  pub back : (far_does (FarStep.Turn turn) x).back ≡ x.back
+  pub left : b ≡ left_as (volatile_gone was)
+  pub whole : IsSound was
+  pub call : st.entry.call ≡ calls.Turn
+  pub received : st.entry.effect.received ≡ commits.land.taken
+  pub moment : st.moment ≡ was.moment
+  pub sound : (started : ℕ) (running : Running) (moment : ℕ) (log : LogState) → IsSound (restarted true started (Some note) (since b running moment log))
+  pub one : IsOne_ (apply_all note.changes b)
+  pub agrees : Mem (told_at sender (did.Hardened c (notes.Resolved commits.unit false true))) ds ⊎ ((m : Message) → Mem m (map stamped x.kept) → Comes was m)
+
+-- The noted write of an end of manager m, which is left as b, among these channels, where this is told: of a sender's end, of a receiver's, or
+-- a receiver's commit.
+pub data EndNote (s : Scenario) (ds : List ToldDeed) (xs : ℕ → List ℕ → Channel) (m : ℕ) (st : ledgers.Stopped) (note : Noted) (b : Plain) : Type 0 where
+  Near : (i : ℕ) → (k : CableLine) → slice_get s.cables i ≡ Some k → k.sender ≡ m → IsLeft m st note b → SenderNote k.channel b note (xs k.sender k.channel) → EndNote s ds xs m st note b
+  Far : (i : ℕ) → (k : CableLine) → slice_get s.cables i ≡ Some k → k.receiver ≡ m → IsLeft m st note b → ReceiverNote k.channel b note (xs k.sender k.channel) → EndNote s ds xs m st note b
+  Commits : (i : ℕ) → (k : CableLine) → slice_get s.cables i ≡ Some k → k.receiver ≡ m → CommitNote ds k.sender k.channel st note b (xs k.sender k.channel) → EndNote s ds xs m st note b
 
 -- What a found write of a sender comes to, with this channel and this past: as a turn that ran.
 pub record RedoneTo (z : Scene) (note : Noted) (x : Channel) (y : Past) (k : Channel) (l : Past) (rs : List Plain) : Type 0 where
@@ -128,10 +171,6 @@ pub record RedoneTo (z : Scene) (note : Noted) (x : Channel) (y : Past) (k : Cha
 abbrev pub Redone : (z : Scene) (note : Noted) (x : Channel) (y : Past) (step : NearStep) (rs : List Plain) → Type 0
 Redone z note x y step rs = RedoneTo z note x y (near_does step x) (near_past step x y) rs
 
--- a manager as its stopped write has left it
-abbrev pub left_as : Plain → Plain
-left_as p = record p { running = Up; moment = 0; log = record { length = 0; armed = 0 } }
-
 -- where the end stands at a manager that is down, and what is left of its facts
 pub record IsDown (z : Scene) (n : Node) (x : Channel) (y : Past) : Type 0 where
   pub at : slice_get z.managers z.sender ≡ Some n.manager
@@ -139,10 +178,6 @@ pub record IsDown (z : Scene) (n : Node) (x : Channel) (y : Past) : Type 0 where
   pub data_ : told_sends x.sends ≡ told_sends (sends_at z.place.channel n.manager)
   pub facts : Facts x y
   pub joint : IsJoint (world_in z) z.ghost z.book z.sender z.receiver z.place.channel x y
-
--- the note of a part whose record is stopped
-abbrev pub noted_of : Part → LogRecord → Noted
-noted_of part r = record { written = r; changes = part.changes; delta = part.delta }
 
 -- what lasts of a part does not go by rows that do not last, nor by the moment and the log
 abbrev pub Stays_ : Plain → Part → Type 0
@@ -185,4 +220,22 @@ IsWordOf c b part = (w : Note) × IsWord w × (part ≡ harden_part c w b)
 
 -- a receiver's turn: such a word, and nothing is committed; or a commit
 abbrev pub SaysReceiver : (c : List ℕ) (b : Plain) (x : Channel) (t : ReceiverTurn) → Part → LogRecord → Type 0
-SaysReceiver c b x t part r = (IsWordOf c b part × ((receiver_turn t x).receives.unit ≡ x.receives.unit) × ((u : Luw) → t.outcome ≡ done.Done → receiver_does t x ≡ takes.Place u → ⊥)) ⊎ ((v : List ℕ × Luw) × (unit_received part.delta ≡ Some v))
+SaysReceiver c b x t part r = (IsWordOf c b part × ((receiver_turn t x).receives.unit ≡ x.receives.unit) × ((u : Luw) → t.outcome ≡ done.Done → receiver_does t x ≡ takes.Place u → ⊥)) ⊎ IsCommitting c b x t part r
+
+-- What a found commit comes to: a manager g of which the same lasts as of what the restart makes of the note, with what is posted of the
+-- commit, and with what is posted of the restart, which tells less; when the manager is up again they are one.
+pub record CommitFound (z : Scene) (p : Plain) (l : Ledger) (note : Noted) (st : ledgers.Stopped) (k : Channel) (y : Past) : Type 0 where
+  pub behind : Plain
+  pub posted : Ledger
+  pub given : behind.given ≡ p.given
+  pub moment : behind.moment ≡ p.moment
+  pub channels : behind.channels ≡ (redone note p).channels
+  pub lasts_ : lasting behind ≡ lasting (redone note p)
+  pub taken : (rs : List Plain) → IsNext z.receiver p behind z.managers rs → Taken z (world_of z.scenario z.given rs) (book_of posted) k y
+  pub fresh : IsFresh z.given behind
+  pub told : IsTold z.receiver behind posted
+  pub users : posted.users ≡ l.users
+  pub now : IsTold z.receiver behind (posted_again z.receiver st (redone_delta true (Some note) p) l)
+  pub now_users : (posted_again z.receiver st (redone_delta true (Some note) p) l).users ≡ l.users
+  pub others : (a : ℕ) (r : Plain) → (a == z.receiver) ≡ false → IsTold a r l → IsTold a r (posted_again z.receiver st (redone_delta true (Some note) p) l)
+  pub books : book_of (ledgers.up_again z.receiver posted) ≡ book_of (ledgers.up_again z.receiver (posted_again z.receiver st (redone_delta true (Some note) p) l))

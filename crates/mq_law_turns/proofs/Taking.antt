@@ -16,6 +16,7 @@ use Rattle.mq_calls.specs.declared.agents.Note.{Note}
 use Rattle.mq_calls.specs.declared.agents.Note.TheVariants as notes
 use Rattle.mq_calls.specs.declared.deltas.Did.{Did}
 use Rattle.mq_history.specs.declared.calls.Call.TheVariants as calls
+use Rattle.mq_history.specs.declared.calls.Reply.{Reply}
 use Rattle.mq_history.specs.declared.calls.Reply.TheVariants as replies
 use Rattle.mq_spec_state.specs.State.{Plain}
 use Rattle.mq_spec_state.specs.Reads.{is_full}
@@ -24,6 +25,8 @@ use Rattle.mq_spec_state.specs.Changes.{apply_all}
 use Rattle.mq_spec_state.specs.Steps.{do_all, do_part}
 use Rattle.mq_spec_agents.specs.Words.{Landed, harden, harden_part, landed, receive_landed, received_part, received_record, set_bound, taken_of}
 use Rattle.mq_spec_network.specs.Ledger.{Ledger, change_at, post_call, take_all_gone}
+use Rattle.mq_spec_network.specs.Story.{Mem}
+use Rattle.mq_law_manager.specs.Facts.{IsSound}
 use Rattle.mq_spec_node.specs.Node.{Node}
 use Rattle.mq_spec_node.specs.Deeds.{parts_of}
 use Rattle.mq_spec_node.specs.Receivers.{is_receiver_defined, place_deed, receiver_deed, receiver_deed_by}
@@ -43,11 +46,13 @@ use Rattle.mq_law_batches.specs.Releases.{IsWord}
 use Rattle.mq_law_batches.proofs.Wording.{Stays, stays, words}
 use Rattle.mq_law_node.specs.Ends.{TakesAs, place_out, receiver_of, receiver_out, stamped, taking_turn}
 use Rattle.mq_law_node.proofs.ReceiverTurns.{placed_by, refused_places}
-use Rattle.mq_law_receipts.specs.Receipts.{IsReceipt, Receipt}
+use Rattle.mq_law_receipts.specs.Receipts.{Comes, IsAwaitedAt, IsReceipt, IsShadow, Receipt}
+use Rattle.mq_law_receipts.proofs.Knowing.{comes_in}
+use Rattle.mq_law_receipts.proofs.Landing.{Lands}
 use Rattle.mq_law_receipts.proofs.Receiving as receiving
 use Rattle.mq_law_story.specs.Needs.{letter_tag}
 use Rattle.mq_law_story.proofs.Tying.{commit_tied}
-use Rattle.mq_law_turns.specs.Turns.{EachTaken, IsAtFar, IsJoint, IsReady, Scene, Taken, world_in}
+use Rattle.mq_law_turns.specs.Turns.{EachTaken, Found, IsAtFar, IsHome, IsJoint, IsReady, Scene, Taken, world_in}
 use Rattle.mq_law_turns.proofs.Parts.{next_mid, part_stays, stays_none, stays_then, world_behind}
 
 -- NOTHING OF ROWS
@@ -116,11 +121,11 @@ less_operated true f e = absurd (true_false (sym e))
 less_operated false f e = e
 
 -- what the facts of the network and of the channel are after it
-receipt_taken : (z : Scene) (n : Node) (x k : Channel) (y : Past) (l j : Ledger) (u : Luw) (qs : List Plain) (q : Plain) → IsAtFar z n x y l → Awaited x y u → k.receives.unit ≡ u → IsNext z.receiver n.manager q z.managers qs
+pub receipt_taken : (z : Scene) (x k : Channel) (y : Past) (l j : Ledger) (u : Luw) (qs : List Plain) (q : Plain) → IsJoint (world_in z) z.ghost z.book z.sender z.receiver z.place.channel x y → Awaited x y u → k.receives.unit ≡ u
     → ((a : ℕ) (d : List ℕ) → (world_of z.scenario z.given qs).holds a d ≡ (world_in z).holds a d) → ((a : ℕ) (d : List ℕ) → (world_of z.scenario z.given qs).doubt a d ≡ (world_in z).doubt a d)
     → ((a : ℕ) (d : List ℕ) → (world_of z.scenario z.given qs).last a d ≡ put_at (world_in z).last z.sender z.place.channel u a d)
     → Receipt z.scenario z.given qs q l j z.ghost z.sender z.receiver z.place.channel u → Taken z (world_of z.scenario z.given qs) (book_of j) k y
-receipt_taken z n x k y l j u qs q a waits far h holds doubt last r =
+receipt_taken z x k y l j u qs q joint waits far holds doubt last r =
     let m : ℕ = z.sender in
     let c : List ℕ = z.place.channel in
     let g : Ghost = ghost_receive z.ghost m c u z.receiver (tag_idents (z.ghost.sent m c u)) r.lands in
@@ -129,14 +134,14 @@ receipt_taken z n x k y l j u qs q a waits far h holds doubt last r =
       joint = record {
         inv = r.inv;
         tied = record {
-          apart = a.joint.tied.apart;
+          apart = joint.tied.apart;
           last = last m c ∙ ap (λ t. if t then u else (world_in z).last m c) (here_self m c) ∙ sym far;
-          held = λ f. let o = a.joint.tied.held f in (holds m c ∙ o.0, doubt m c ∙ o.1);
-          idle = λ f. holds m c ∙ a.joint.tied.idle f;
+          held = λ f. let o = joint.tied.held f in (holds m c ∙ o.0, doubt m c ∙ o.1);
+          idle = λ f. holds m c ∙ joint.tied.idle f;
           forced = λ v f e no_. absurd (no_ (far ∙ ap (unit_or u) (sym waits.held ∙ e)));
-          content = a.joint.tied.content;
+          content = joint.tied.content;
         };
-        begun = λ v e. a.joint.begun v (less_operated (unit_at m c u m c v) (z.ghost.operated m c v) e);
+        begun = λ v e. joint.begun v (less_operated (unit_at m c u m c v) (z.ghost.operated m c v) e);
       };
       sent = refl;
       loose = refl;
@@ -194,10 +199,55 @@ commits z n x k y l u last ld rs a placed waits ready lands far h =
     } in
     let o = receiving.receives z.scenario z.given z.managers rs p l z.ghost z.sender z.receiver c u last ms ld replies.Changed lands h receipt inv in
     let seen = receiving.seen_after z.scenario z.given z.managers rs p l z.ghost z.sender z.receiver c u last ms ld lands h receipt inv in
-    let t = receipt_taken z n x k y l _ u rs q a waits far h seen.holds seen.doubt seen.last o.1 in
+    let t = receipt_taken z x k y l _ u rs q a.joint waits far seen.holds seen.doubt seen.last o.1 in
     (λ (b : Taken z (world_of z.scenario z.given rs) (book_of (post_call z.receiver calls.Turn replies.Changed ms ds (take_all_gone z.receiver ds l))) k y).
     subst (λ (v : List Message). Taken z (world_of z.scenario z.given rs) (book_of (post_call z.receiver calls.Turn replies.Changed v (ds ++ []) (take_all_gone z.receiver (ds ++ []) l))) k y) (sym o.0)
     (subst (λ (v : List Did). Taken z (world_of z.scenario z.given rs) (book_of (post_call z.receiver calls.Turn replies.Changed ms v (take_all_gone z.receiver v l))) k y) (sym (append-nil ds)) b)) t
+
+-- COMMITS THAT ARE FOUND. What holds of each message where a commit comes, of the manager as it is then.
+pub all_come : (z : Scene) (n : Node) (x : Channel) (y : Past) (l : Ledger) (u : Luw) → IsAtFar z n x y l → Placed x y u → Awaited x y u → IsReady z n.manager l → (m : Message) → Mem m (map stamped x.kept) → Comes n.manager m
+all_come z n x y l u a placed waits ready m there =
+    let c : List ℕ = z.place.channel in
+    let tied = commit_tied (world_in z) z.ghost z.book z.sender z.receiver c x y u a.joint.inv a.joint.tied placed waits in
+    comes_in z.scenario z.given z.managers n.manager l z.ghost z.sender z.receiver c u (map stamped x.kept) a.at (record {
+      commits = tied.0;
+      sent = tags_stamped x.kept ∙ tied.1;
+      cabled = ready.cabled;
+      sound = ready.sound;
+      numbered = ready.numbered;
+      fresh = ready.fresh;
+      told = ready.told;
+      timed = ready.timed;
+      shelved = ready.shelved;
+    }) (subst (λ (b : Book). Inv (world_in z) z.ghost b) a.book a.joint.inv) m there
+
+-- the commit by that manager, at one that has lost rows since
+pub found_at : (z : Scene) (p : Plain) (x : Channel) (y : Past) (l : Ledger) (u : Luw) → IsJoint (world_in z) z.ghost z.book z.sender z.receiver z.place.channel x y → Placed x y u → Awaited x y u → IsHome z p l
+    → IsAwaitedAt z.scenario z.given z.managers p l z.ghost z.sender z.receiver z.place.channel u (map stamped x.kept)
+found_at z p x y l u joint placed waits home =
+    let tied = commit_tied (world_in z) z.ghost z.book z.sender z.receiver z.place.channel x y u joint.inv joint.tied placed waits in
+    record { commits = tied.0; sent = tags_stamped x.kept ∙ tied.1; cabled = home.cabled; fresh = home.fresh; told = home.told; timed = home.timed; shelved = home.shelved }
+
+pub found_commits : (z : Scene) (p : Plain) (x k : Channel) (y : Past) (l : Ledger) (u : Luw) (last : ℕ) (ld : Landed) (reply : Reply) (rs : List Plain) → IsJoint (world_in z) z.ghost z.book z.sender z.receiver z.place.channel x y → z.book ≡ book_of l
+    → Placed x y u → Awaited x y u → IsHome z p l → Lands z.receiver z.place.channel p (map stamped x.kept) ld → k.receives.unit ≡ u → IsNext z.receiver p (do_part (received_part z.place.channel u last ld p) p) z.managers rs
+    → Found z p l u last (map stamped x.kept) ld reply k y rs
+found_commits z p x k y l u last ld reply rs joint book placed waits home lands far h =
+    let c : List ℕ = z.place.channel in
+    let ms : List Message = map stamped x.kept in
+    let q : Plain = do_part (received_part c u last ld p) p in
+    let r = found_at z p x y l u joint placed waits home in
+    let inv : Inv (world_in z) z.ghost (book_of l) = subst (λ (b : Book). Inv (world_in z) z.ghost b) book joint.inv in
+    let o = receiving.receives_by z.scenario z.given z.managers rs p l z.ghost z.sender z.receiver c u last ms ld reply lands h r inv in
+    let seen = receiving.seen_by z.scenario z.given z.managers rs p l z.ghost z.sender z.receiver c u last ms ld lands h r in
+    record { receipt = o; taken = receipt_taken z x k y l _ u rs q joint waits far seen.holds seen.doubt seen.last o }
+
+pub found_taken : (z : Scene) (b p : Plain) (x k : Channel) (y : Past) (l : Ledger) (u : Luw) (last : ℕ) (ld : Landed) (reply : Reply) (rs : List Plain) → IsJoint (world_in z) z.ghost z.book z.sender z.receiver z.place.channel x y → z.book ≡ book_of l
+    → Placed x y u → Awaited x y u → IsHome z p l → landed z.place.channel (map stamped x.kept) b ≡ Ok ld → IsSound b → IsShadow b p → ((m : Message) → Mem m (map stamped x.kept) → Comes b m) → k.receives.unit ≡ u
+    → IsNext z.receiver p (do_part (received_part z.place.channel u last ld p) p) z.managers rs → Found z p l u last (map stamped x.kept) ld reply k y rs
+found_taken z b p x k y l u last ld reply rs joint book placed waits home e sound shadow comes far h =
+    let inv : Inv (world_in z) z.ghost (book_of l) = subst (λ (o : Book). Inv (world_in z) z.ghost o) book joint.inv in
+    found_commits z p x k y l u last ld reply rs joint book placed waits home
+    (receiving.lands_then z.scenario z.given z.managers b p l z.ghost z.sender z.receiver z.place.channel u (map stamped x.kept) ld e sound shadow comes h.at (found_at z p x y l u joint placed waits home) inv) far h
 
 -- a unit that is placed, or refused
 places : (z : Scene) (n : Node) (x : Channel) (y : Past) (l : Ledger) (stamp : ℕ) (seen : Seen) (u : Luw) (o : Result Landed Reason) → IsAtFar z n x y l → (place_out (receive_landed z.place.channel u (last_by seen x.receiver.last) o n.manager) ≡ ends.Done → Placed x y u × Awaited x y u × IsReady z n.manager l) → landed z.place.channel (map stamped x.kept) n.manager ≡ o

@@ -10,9 +10,9 @@ use Rattle.mq_sender.specs.declared.turns.SenderDoes.{SenderDoes}
 use Rattle.mq_sender.specs.declared.turns.SenderDoes.TheVariants as does
 use Rattle.mq_history.specs.declared.scenario.Scenario.{Scenario}
 use Rattle.mq_spec_state.specs.State.{Change, Plain}
-use Rattle.mq_spec_state.specs.Steps.{Part, do_all}
+use Rattle.mq_spec_state.specs.Steps.{Part, do_all, do_part}
 use Rattle.mq_spec_state.specs.Reads.{has_held}
-use Rattle.mq_spec_agents.specs.Words.{queue_of_sender}
+use Rattle.mq_spec_agents.specs.Words.{Landed, queue_of_sender, received_part}
 use Rattle.mq_spec_node.specs.Deeds.{Deed}
 use Rattle.mq_spec_node.specs.Node.{Node}
 use Rattle.mq_history.specs.declared.calls.Reply.{Reply}
@@ -35,7 +35,7 @@ use Rattle.mq_law_manager.specs.Kept.{AllKeep}
 use Rattle.mq_law_events.specs.Posting.{IsTimed}
 use Rattle.mq_law_events.specs.Tied.{AreShelved, Follow, IsFresh, IsTold}
 use Rattle.mq_law_seen.specs.Seen.{book_of}
-use Rattle.mq_law_receipts.specs.Receipts.{AreNumbered, IsCabled}
+use Rattle.mq_law_receipts.specs.Receipts.{AreNumbered, IsCabled, Receipt}
 
 -- a network and its ledger, with what the proof follows beside them, and one channel: its sender's and its receiver's manager, and
 -- where its end stands
@@ -118,6 +118,14 @@ pub record IsReady (z : Scene) (p : Plain) (l : Ledger) : Type 0 where
   pub timed : IsTimed z.receiver p l
   pub shelved : (a : ℕ) (x : ManagerPlaces) → slice_get l.places a ≡ Some x → AreShelved x.queues
 
+-- and where a restart finds a commit of it
+pub record IsHome (z : Scene) (p : Plain) (l : Ledger) : Type 0 where
+  pub cabled : IsCabled z.scenario z.managers z.sender z.receiver z.place.channel
+  pub fresh : IsFresh z.given p
+  pub told : IsTold z.receiver p l
+  pub timed : IsTimed z.receiver p l
+  pub shelved : (a : ℕ) (x : ManagerPlaces) → slice_get l.places a ≡ Some x → AreShelved x.queues
+
 -- After a turn of the receiver's end, with this book.
 pub record Taken (z : Scene) (v : World) (b : Book) (x : Channel) (y : Past) : Type 0 where
   pub ghost : Ghost
@@ -129,6 +137,11 @@ pub record Taken (z : Scene) (v : World) (b : Book) (x : Channel) (y : Past) : T
   pub holds : (a : ℕ) (d : List ℕ) → v.holds a d ≡ (world_in z).holds a d
   pub doubt : (a : ℕ) (d : List ℕ) → v.doubt a d ≡ (world_in z).doubt a d
   pub last : (a : ℕ) (d : List ℕ) → is_here z.sender z.place.channel a d ≡ false → v.last a d ≡ (world_in z).last a d
+
+-- behind a commit that is found, and posted
+pub record Found (z : Scene) (p : Plain) (l : Ledger) (u : Luw) (last : ℕ) (ms : List Message) (x : Landed) (reply : Reply) (k : Channel) (y : Past) (rs : List Plain) : Type 0 where
+  pub receipt : Receipt z.scenario z.given rs (do_part (received_part z.place.channel u last x p) p) l (post_call z.receiver calls.Turn reply ms (received_part z.place.channel u last x p).delta (take_all_gone z.receiver (received_part z.place.channel u last x p).delta l)) z.ghost z.sender z.receiver z.place.channel u
+  pub taken : Taken z (world_of z.scenario z.given rs) (book_of (post_call z.receiver calls.Turn reply ms (received_part z.place.channel u last x p).delta (take_all_gone z.receiver (received_part z.place.channel u last x p).delta l))) k y
 
 -- a deed of the receiver's end that ran, and was posted
 abbrev pub EachTaken : Scene → Plain → Ledger → Option Deed → Channel → Past → Type 0

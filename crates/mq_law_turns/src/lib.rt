@@ -2,8 +2,9 @@
 //! ledger's are kept, and the channel is of one mind with the network again.
 #![tactic(auto)]
 
-ghost use Rattle.std.specs.Prelude.{◌≡◌, ◌≢◌, ◌++◌, ◌==◌, ℕ, Bool, true, false, List, [], Option, Some, if◌then◌else◌, slice_get};
+ghost use Rattle.std.specs.Prelude.{◌≡◌, ◌≢◌, ◌++◌, ◌==◌, ℕ, Bool, true, false, List, [], Ok, Option, Some, if◌then◌else◌, map, slice_get};
 ghost use Rattle.mq_message.specs.declared.message.Ident.{Ident};
+ghost use Rattle.mq_message.specs.declared.message.Message.{Message};
 ghost use Rattle.mq_frame.specs.declared.frame.Seen.{Seen};
 ghost use Rattle.mq_sync.specs.declared.unit.Unit.{Unit as Luw};
 ghost use Rattle.mq_sync.specs.declared.unit.Settle.TheVariants as settles;
@@ -18,6 +19,7 @@ ghost use Rattle.mq_sender.specs.Table.{is_idle, is_sending, sender_next};
 ghost use Rattle.mq_receiver.specs.declared.turns.ReceiverDoes.TheVariants.{Place};
 ghost use Rattle.mq_receiver.specs.declared.turns.ReceiverOut.TheVariants.{Done};
 ghost use Rattle.mq_calls.specs.declared.agents.Note.TheVariants as notes;
+ghost use Rattle.mq_history.specs.declared.calls.Reply.{Reply};
 ghost use Rattle.mq_history.specs.declared.scenario.CableLine.{CableLine};
 ghost use Rattle.mq_history.specs.declared.scenario.Scenario.{Scenario};
 ghost use Rattle.mq_history.specs.Scenarios.{IsScenario};
@@ -29,6 +31,7 @@ ghost use Rattle.mq_spec_state.specs.Reads.{batch_of, receiver_data};
 ghost use Rattle.std.specs.Str.{bytes_eq};
 ghost use Rattle.mq_spec_agents.specs.Batches.{release_batch};
 ghost use Rattle.mq_spec_agents.specs.Hardening.{harden_part};
+ghost use Rattle.mq_spec_agents.specs.Receiving.{Landed, landed, received_part};
 ghost use Rattle.mq_spec_agents.specs.Seizing.{leave, stock};
 ghost use Rattle.mq_spec_node.specs.Deeds.{parts_of};
 ghost use Rattle.mq_spec_node.specs.Node.{Node, ReceiverEnd, SenderEnd};
@@ -39,6 +42,7 @@ ghost use Rattle.mq_spec_node.specs.Receivers.{receiver_deed, receiver_deed_by};
 ghost use Rattle.mq_spec_node.specs.Senders.{leave_if_stopped, sender_deed, sender_deed_by};
 ghost use Rattle.mq_spec_network.specs.Ledger.{Ledger};
 ghost use Rattle.mq_law_channel.specs.Channel.{Channel, Facts, Past};
+ghost use Rattle.mq_law_channel.specs.Following.{Awaited, Placed};
 ghost use Rattle.mq_law_channel.specs.Turns.{SeenIn, past_resolved, receiver_does, receiver_numbered, receiver_started, receiver_stopped, receiver_turn, released, resolved, sender_numbered, sender_past, sender_started, sender_stopped, sender_timed_out, sender_turn};
 ghost use Rattle.mq_law_rows.specs.Families.{is_here};
 ghost use Rattle.mq_law_rows.specs.World.{Book, Ghost, World};
@@ -47,7 +51,8 @@ ghost use Rattle.mq_law_manager.specs.Facts.{IsSound};
 ghost use Rattle.mq_law_events.specs.Local.{Moved, with_owner};
 ghost use Rattle.mq_law_events.specs.Tied.{Follow, IsFresh, IsNext, IsTold};
 ghost use Rattle.mq_law_channel.specs.Facts.{Letter};
-ghost use Rattle.mq_law_node.specs.Ends.{Reads, SendsAs, TakesAs, Where, receiver_of, sender_of, taking_turn, turn_of};
+ghost use Rattle.mq_law_node.specs.Ends.{Reads, SendsAs, TakesAs, Where, receiver_of, sender_of, stamped, taking_turn, turn_of};
+ghost use Rattle.mq_law_receipts.specs.Receipts.{Comes, IsShadow};
 ghost use Rattle.mq_sync.specs.Units.{no_unit, same_unit};
 ghost use Rattle.mq_calls.specs.declared.deltas.Did.TheVariants as did;
 ghost use Rattle.mq_history.specs.declared.history.History.{History};
@@ -56,7 +61,7 @@ ghost use Rattle.mq_spec_network.specs.Standing.{last_unit_of, opening_managers}
 ghost use Rattle.mq_spec_network.specs.Story.{Line, Mem};
 ghost use Rattle.mq_law_channel.specs.Turns.{ReceiverTurn, SenderTurn};
 ghost use Rattle.mq_law_turns.specs.Agreed.{IsToldOf, TellsCommit};
-ghost use Rattle.mq_law_turns.specs.Turns.{EachFollowed, EachForOthers, EachPosted, EachSound, EachTaken, EachTurned, IsAt, IsAtFar, IsAtRest, IsJoint, IsReady, Scene, Taken, Turned, TurnedBy, is_expiry, parts_for_others, world_in};
+ghost use Rattle.mq_law_turns.specs.Turns.{EachFollowed, EachForOthers, EachPosted, EachSound, EachTaken, EachTurned, Found, IsAt, IsAtFar, IsAtRest, IsHome, IsJoint, IsReady, Scene, Taken, Turned, TurnedBy, is_expiry, parts_for_others, world_in};
 
 /// Each turn of a sender's end, but for one that removes expired rows, asks its manager for such changes as keep the facts of the whole
 /// network: and the channel after it is of one mind with the network again.
@@ -73,6 +78,15 @@ pub fn a_receivers_turn_keeps_the_facts()
         → IsJoint (world_in z) z.ghost z.book z.sender z.receiver z.place.channel x y → z.book ≡ book_of l → SeenIn seen x.out
         → ((u : Luw) → receiver_does (taking_turn z.place stamp seen x.receiver x.kept n.manager) x ≡ Place u → (taking_turn z.place stamp seen x.receiver x.kept n.manager).outcome ≡ Done → (y.near.undone u ≡ false) × IsReady z n.manager l)
         → EachTaken z n.manager l (receiver_deed stamp (receiver_of z.place x.receiver x.kept) seen n) (receiver_turn (taking_turn z.place stamp seen x.receiver x.kept n.manager) x) y }
+{}
+
+/// So does a commit whose write was stopped, where a restart finds it: by the manager as it was when its turn was stopped, at what is left of
+/// that one, with the network as it is now. And as the turn was stopped, each of its messages stood nowhere there, or in a row of a unit in doubt.
+pub fn a_found_commit_of_a_receiver_keeps_the_facts()
+    ensures found { (z : Scene) (b p : Plain) (x k : Channel) (y : Past) (l : Ledger) (u : Luw) (last : ℕ) (ld : Landed) (reply : Reply) (rs : List Plain) → IsJoint (world_in z) z.ghost z.book z.sender z.receiver z.place.channel x y → z.book ≡ book_of l
+        → Placed x y u → Awaited x y u → IsHome z p l → landed z.place.channel (map stamped x.kept) b ≡ Ok ld → IsSound b → IsShadow b p → ((m : Message) → Mem m (map stamped x.kept) → Comes b m) → k.receives.unit ≡ u
+        → IsNext z.receiver p (do_part (received_part z.place.channel u last ld p) p) z.managers rs → Found z p l u last (map stamped x.kept) ld reply k y rs }
+    ensures come { (z : Scene) (n : Node) (x : Channel) (y : Past) (l : Ledger) (u : Luw) → IsAtFar z n x y l → Placed x y u → Awaited x y u → IsReady z n.manager l → (m : Message) → Mem m (map stamped x.kept) → Comes n.manager m }
 {}
 
 /// A turn of a sender posts nothing to the ledger, or the expired rows that it removes.

@@ -1,6 +1,13 @@
 pub mod PartLaws
+pub mod AgentLaws
+pub mod RunLaws
 pub mod TurnLaws
 pub mod DueLaws
 pub mod TimeLaws
+pub mod TableLaws
+pub mod SendLaws
+pub mod SettleLaws
+pub mod PushLaws
+pub mod WireLaws
 pub mod QuietLaws
 pub mod CountLaws

@@ -1,2 +1,5 @@
 pub mod Turns
 pub mod Told
+pub mod Sends
+pub mod Wired
+pub mod Acting

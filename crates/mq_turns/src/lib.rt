@@ -1,10 +1,20 @@
-//! Timeouts of a channel's sender end, each as one event of a node.
+//! What a channel's sender end does of its own accord, each time as one event of a node.
 #![tactic(auto)]
 
+mod answering;
+mod asking;
 mod parting;
+mod passing;
+mod pushing;
+mod settling;
 mod telling;
 mod timing;
+mod working;
 
-pub use parting::nothing_done;
+pub use answering::answering_turn;
+pub use parting::{expired, hardened, has_run, leave_if, leave_in, nothing_done, ran, released, stopped};
+pub use passing::{has_spelling, next_stamp, pass};
+pub use pushing::{bind_turn, end_turn, message_turn};
+pub use settling::settling_turn;
 pub use telling::{Passed, Turn, close_turn};
 pub use timing::timeout;

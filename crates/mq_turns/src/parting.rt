@@ -1,16 +1,42 @@
 //! Calls of a manager as parts of a turn: what each came to.
 ghost use Rattle.std.specs.Prelude.{◌≡◌, []};
 ghost use Rattle.mq_calls.specs.declared.choices.Choice.TheVariants as choices;
-ghost use Rattle.mq_spec_agents.specs.Words.{IsUp};
-ghost use Rattle.mq_turns.specs.Turns.{IsBehind, has_run as has_run_by, left_parts};
+ghost use Rattle.mq_spec_node.specs.Words.{parts_of};
+ghost use Rattle.mq_spec_agents.specs.Words.{CanHarden, HasBatch, HasSeized, IsUp, expire, harden, release_batch};
+ghost use Rattle.mq_turns.specs.Turns.{IsBehind, MadeOr, has_run as has_run_by, left_parts};
 
-use mq_base::Items;
-use mq_calls::Choice;
-use mq_disk::Disk;
+use mq_base::{Items, NoMemory};
+use mq_calls::{AgentStop, Choice, Note};
+use mq_disk::{Disk, Stop};
 use mq_events::{NodeParts, Told};
 use mq_manager::Manager;
 use mq_name::ChName;
 use std::alloc::Global;
+
+/// What a manager tells of a call that ran.
+pub fn ran<D: Disk>(manager: &mut Manager<D>) -> Told
+    ensures choice { result.choice ≡ choices.Runs }
+    ensures delta { result.delta ≡ manager.old.delta }
+    ensures left { manager.new ≡ record manager.old { delta = [] } }
+{
+    Told {
+        choice: Choice::Runs,
+        delta: manager.take_delta(),
+    }
+}
+
+/// What it tells of a call of one part whose write was stopped.
+pub fn stopped<D: Disk>(manager: &mut Manager<D>, by: Stop) -> Told
+    ensures choice { result.choice ≡ choices.Stopped by 0 manager.old.plain.log.armed }
+    ensures delta { result.delta ≡ manager.old.delta }
+    ensures left { manager.new ≡ record manager.old { delta = [] } }
+{
+    let left = manager.armed();
+    Told {
+        choice: Choice::Stopped { by, part: 0, left },
+        delta: manager.take_delta(),
+    }
+}
 
 /// Nothing is done at the manager.
 pub fn nothing_done(alloc: Global) -> Told
@@ -23,8 +49,64 @@ pub fn nothing_done(alloc: Global) -> Told
     }
 }
 
+/// A record of a channel's end is hardened.
+///
+/// # Errors
+///
+/// No memory; nothing has changed.
+pub fn hardened<D: Disk>(
+    manager: &mut Manager<D>,
+    channel: &ChName,
+    note: &Note,
+) -> Result<Told, NoMemory>
+    requires up { IsUp manager.old.plain }
+    requires can { CanHarden channel.now note.now manager.old.plain }
+    ensures { MadeOr (parts_of (harden channel.now note.now manager.old.plain)) result manager.old manager.new }
+{
+    match manager.harden(channel, note) {
+        Ok(()) => Ok(ran(manager)),
+        Err(AgentStop::NoMemory) => Err(NoMemory),
+        Err(AgentStop::Disk) => Ok(stopped(manager, Stop::Disk)),
+        Err(AgentStop::Cut) => Ok(stopped(manager, Stop::Cut)),
+    }
+}
+
+/// The expired rows of a sender's queue go.
+///
+/// # Errors
+///
+/// No memory; nothing has changed.
+pub fn expired<D: Disk>(manager: &mut Manager<D>, channel: &ChName) -> Result<Told, NoMemory>
+    requires up { IsUp manager.old.plain }
+    requires seized { HasSeized channel.now manager.old.plain }
+    ensures { MadeOr (parts_of (expire channel.now manager.old.plain)) result manager.old manager.new }
+{
+    match manager.expire(channel) {
+        Ok(()) => Ok(ran(manager)),
+        Err(AgentStop::NoMemory) => Err(NoMemory),
+        Err(AgentStop::Disk) => Ok(stopped(manager, Stop::Disk)),
+        Err(AgentStop::Cut) => Ok(stopped(manager, Stop::Cut)),
+    }
+}
+
+/// A batch that is not prepared is released.
+///
+/// # Errors
+///
+/// No memory; nothing has changed.
+pub fn released<D: Disk>(manager: &mut Manager<D>, channel: &ChName) -> Result<Told, NoMemory>
+    requires up { IsUp manager.old.plain }
+    requires batch { HasBatch channel.now manager.old.plain }
+    ensures { MadeOr (parts_of (release_batch channel.now manager.old.plain)) result manager.old manager.new }
+{
+    match manager.release_batch(channel) {
+        Ok(()) => Ok(ran(manager)),
+        Err(NoMemory) => Err(NoMemory),
+    }
+}
+
 /// Whether all was done.
-pub(crate) fn has_run(told: &Told) -> bool
+pub fn has_run(told: &Told) -> bool
     ensures { result ≡ has_run_by told.now.choice }
 {
     match told.choice {

@@ -1,5 +1,0 @@
-use Rattle.mq_law_run.proofs.Whole as whole
-use Rattle.mq_law_run.proofs.networks_are_as_promised_where_no_stopped_commit_is_found.Goals as goal
-
-pub returns : goal.returns
-returns c = whole.promised

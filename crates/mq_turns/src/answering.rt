@@ -1,0 +1,146 @@
+//! A sender's turn where an item waits.
+ghost use Rattle.std.specs.Prelude.{◌≡◌, ◌<◌, ◌≤◌, ◌^◌, true, IfSome};
+ghost use Rattle.mq_cable.specs.Offers.{Offering};
+ghost use Rattle.mq_frame.specs.Sight.{waits};
+ghost use Rattle.mq_frame.specs.declared.frame.Seen.TheVariants as items;
+ghost use Rattle.mq_sender.specs.Table.{sender_next};
+ghost use Rattle.mq_sender.specs.declared.turns.SenderDoes.TheVariants as does_what;
+ghost use Rattle.mq_spec_agents.specs.Words.{stock};
+ghost use Rattle.mq_wires.specs.Wires.{Sees};
+ghost use Rattle.mq_turns.specs.Acting.{Acts, SendsTurn};
+ghost use Rattle.mq_turns.specs.Sends.{is_ignore, unseen};
+
+use crate::parting::nothing_done;
+use crate::passing::{next_stamp, pass};
+use crate::settling::settling_turn;
+use crate::telling::{Passed, Turn, close_turn};
+use mq_base::NoMemory;
+use mq_cable::Wire;
+use mq_calls::Messages;
+use mq_disk::Disk;
+use mq_events::NodeParts;
+use mq_history::{Actor, Call};
+use mq_own::{ChannelEnd, EndKind, SenderEnd};
+use mq_frame::Seen;
+use mq_sender::{Sender, SenderDoes};
+use mq_sync::Stock;
+use mq_wires::Sight;
+
+/// The last number of 64 bits.
+const LAST: u64 = u64::MAX;
+
+fn is_ignore(does: &SenderDoes) -> bool
+    ensures { result ≡ is_ignore does.now }
+{
+    match does {
+        SenderDoes::Ignore => true,
+        SenderDoes::Still => false,
+        SenderDoes::HardenSession(_) => false,
+        SenderDoes::PushBind => false,
+        SenderDoes::Expire => false,
+        SenderDoes::Begin { .. } => false,
+        SenderDoes::PushMsg(_) => false,
+        SenderDoes::Prepare => false,
+        SenderDoes::PushEnd => false,
+        SenderDoes::Bound { .. } => false,
+        SenderDoes::Commit => false,
+        SenderDoes::Backout(_) => false,
+    }
+}
+
+/// The item is taken, and nothing else is done.
+#[tactic(auto, using(crate::proofs::SendLaws::acts_low))]
+fn ignoring_turn<D: Disk, W: Wire>(
+    parts: &mut NodeParts<D>,
+    wire: &mut W,
+    end: SenderEnd,
+    sight: Sight,
+) -> Result<Turn, NoMemory>
+    requires room { 0 < parts.old.room }
+    requires acts { Acts end parts.old }
+    requires next { does_what.Ignore ≡ sender_next end.machine sight.seen (stock end.channel parts.old.manager.plain) }
+    requires sees { Sees (W.front_of wire.old) (Unit {0}) sight.seen sight.stamp }
+    requires low { sight.stamp ≤ 2 ^ 60 }
+    ensures { (o : Offering) → SendsTurn end.cable (λ xs. W.reads wire.old xs wire.new) (λ xs. W.writes wire.old xs wire.new) (sight.seen ≡ items.Nothing) ⊥ o o parts.old result parts.new }
+{
+    let stamp = next_stamp(parts.stamp, sight.stamp);
+    let cable = end.cable;
+    let told = nothing_done(parts.alloc);
+    pass(wire, &sight);
+    let passed = Passed {
+        stamp,
+        pushed: None,
+        extras: 0,
+        popped: sight.seen,
+    };
+    let received = Messages::new(parts.alloc);
+    let kind = EndKind::Sends(end);
+    close_turn(
+        parts,
+        Actor::Sender(cable),
+        Call::Turn,
+        told,
+        ChannelEnd { kind },
+        passed,
+        received,
+    );
+    Ok(Turn::Changed)
+}
+
+/// The next line of a sender's table; none where its session or its unit can't be counted on, which never comes.
+pub fn next_line(machine: &Sender, seen: &Seen, stock: &Stock) -> Option<SenderDoes>
+    ensures { IfSome result (λ d. d ≡ sender_next machine.now seen.now stock.now) }
+{
+    if machine.kept.session >= LAST || machine.begun >= LAST {
+        return None;
+    }
+    Some(machine.next(seen, stock))
+}
+
+/// The turn of what a line answers to an item.
+#[tactic(auto, using(crate::proofs::TableLaws::answers_works, crate::proofs::TableLaws::answers_next, crate::proofs::TableLaws::ignores_next))]
+fn answer_turn<D: Disk, W: Wire>(
+    parts: &mut NodeParts<D>,
+    wire: &mut W,
+    end: SenderEnd,
+    does: SenderDoes,
+    sight: Sight,
+) -> Result<Turn, NoMemory>
+    requires room { 0 < parts.old.room }
+    requires acts { Acts end parts.old }
+    requires waits { waits sight.seen ≡ true }
+    requires next { does ≡ sender_next end.machine sight.seen unseen }
+    requires sees { Sees (W.front_of wire.old) (Unit {0}) sight.seen sight.stamp }
+    requires low { sight.stamp ≤ 2 ^ 60 }
+    ensures { (o : Offering) → SendsTurn end.cable (λ xs. W.reads wire.old xs wire.new) (λ xs. W.writes wire.old xs wire.new) (sight.seen ≡ items.Nothing) ⊥ o o parts.old result parts.new }
+{
+    if is_ignore(&does) {
+        return ignoring_turn(parts, wire, end, sight);
+    }
+    settling_turn(parts, wire, end, does, sight)
+}
+
+/// The turn where an item waits: it is taken, with what its line does at the manager. What is seen of the queue makes no difference.
+pub fn answering_turn<D: Disk, W: Wire>(
+    parts: &mut NodeParts<D>,
+    wire: &mut W,
+    end: SenderEnd,
+    sight: Sight,
+) -> Result<Turn, NoMemory>
+    requires room { 0 < parts.old.room }
+    requires acts { Acts end parts.old }
+    requires waits { waits sight.seen ≡ true }
+    requires sees { Sees (W.front_of wire.old) (Unit {0}) sight.seen sight.stamp }
+    requires low { sight.stamp ≤ 2 ^ 60 }
+    ensures { (o : Offering) → SendsTurn end.cable (λ xs. W.reads wire.old xs wire.new) (λ xs. W.writes wire.old xs wire.new) (sight.seen ≡ items.Nothing) ⊥ o o parts.old result parts.new }
+{
+    let unseen = Stock {
+        enabled: false,
+        expired: false,
+        free: 0,
+    };
+    match next_line(&end.machine, &sight.seen, &unseen) {
+        None => Err(NoMemory),
+        Some(does) => answer_turn(parts, wire, end, does, sight),
+    }
+}

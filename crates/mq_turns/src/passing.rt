@@ -1,0 +1,50 @@
+//! What passes on a wire in a turn.
+ghost use Rattle.std.specs.Prelude.{◌≡◌, ◌+◌, ◌<◌, ◌≤◌, ◌^◌, ℕ, [], max, true};
+ghost use Rattle.mq_frame.specs.Frames.{HasSpelling};
+ghost use Rattle.mq_frame.specs.declared.frame.Seen.TheVariants as items;
+ghost use Rattle.mq_wires.specs.Wires.{Sees};
+ghost use Rattle.mq_turns.specs.Wired.{Popped};
+
+use mq_cable::Wire;
+use mq_frame::{FrameKind, Seen};
+use mq_unit::can_be_kept;
+use mq_wires::{Sight, take};
+
+/// The stamp of an entry, by the last one and by the item that it pops, if it pops one.
+pub fn next_stamp(last: u64, item: u64) -> u64
+    requires last { last < 2 ^ 60 }
+    requires item { item ≤ 2 ^ 60 }
+    ensures { result ≡ max last item + 1 }
+{
+    if last < item { item + 1 } else { last + 1 }
+}
+
+/// Takes the item that was seen, if one waits. It takes no memory.
+pub fn pass<W: Wire>(wire: &mut W, sight: &Sight)
+    requires sees { Sees (W.front_of wire.old) (Unit {0}) sight.now.seen sight.now.stamp }
+    ensures read { (last : ℕ) → Popped (λ xs. W.reads wire.old xs wire.new) (sight.now.seen ≡ items.Nothing) last sight.now.seen (max last sight.now.stamp + 1) }
+    ensures written { W.writes wire.old [] wire.new }
+    ensures low { W.low wire.old → W.low wire.new }
+{
+    match &sight.seen {
+        Seen::Nothing => {}
+        Seen::Spoiled => take(wire),
+        Seen::Frame(_) => take(wire),
+    }
+}
+
+/// The bytes of a frame of that kind show it again.
+pub fn has_spelling(kind: &FrameKind) -> bool
+    ensures { result ≡ true → HasSpelling kind.now }
+{
+    match kind {
+        FrameKind::Bind { .. } => true,
+        FrameKind::Status { .. } => true,
+        FrameKind::Msg { index, message, .. } => {
+            *index > 0 && can_be_kept(message) && message.route.is_none()
+        }
+        FrameKind::End { count, .. } => *count > 0,
+        FrameKind::Ack { .. } => true,
+        FrameKind::Err { .. } => true,
+    }
+}

@@ -1,0 +1,83 @@
+//! A sender's turn that hardens a record or removes expired rows: it offers nothing, and pops what was seen, if anything was.
+ghost use Rattle.std.specs.Prelude.{◌≡◌, ◌<◌, ◌≤◌, ◌^◌};
+ghost use Rattle.mq_cable.specs.Offers.{Offering};
+ghost use Rattle.mq_frame.specs.declared.frame.Seen.TheVariants as items;
+ghost use Rattle.mq_sender.specs.Table.{sender_next};
+ghost use Rattle.mq_sender.specs.After.{done_after};
+ghost use Rattle.mq_spec_agents.specs.Words.{stock};
+ghost use Rattle.mq_wires.specs.Wires.{Sees};
+ghost use Rattle.mq_turns.specs.Acting.{Acts, SendsTurn};
+ghost use Rattle.mq_turns.specs.Sends.{Works};
+
+use crate::passing::{next_stamp, pass};
+use crate::telling::{Passed, Turn, close_turn};
+use crate::working::work_in;
+use mq_base::NoMemory;
+use mq_cable::Wire;
+use mq_calls::Messages;
+use mq_disk::Disk;
+use mq_events::NodeParts;
+use mq_history::{Actor, Call};
+use mq_own::{ChannelEnd, EndKind, SenderEnd};
+use mq_sender::{SenderDoes, SenderOut};
+use mq_wires::Sight;
+
+/// The end after a line of its table.
+pub fn end_after(end: &SenderEnd, does: &SenderDoes) -> SenderEnd
+    ensures { result ≡ record end.now { machine = done_after end.now.machine does.now } }
+{
+    let mut machine = end.machine;
+    machine.done(does, &SenderOut::Done);
+    SenderEnd {
+        cable: end.cable,
+        channel: end.channel,
+        partner: end.partner,
+        machine,
+    }
+}
+
+/// The turn of a line that works at the manager.
+#[tactic(auto, using(crate::proofs::SendLaws::acts_low))]
+pub fn settling_turn<D: Disk, W: Wire>(
+    parts: &mut NodeParts<D>,
+    wire: &mut W,
+    end: SenderEnd,
+    does: SenderDoes,
+    sight: Sight,
+) -> Result<Turn, NoMemory>
+    requires room { 0 < parts.old.room }
+    requires acts { Acts end parts.old }
+    requires next { does ≡ sender_next end.machine sight.seen (stock end.channel parts.old.manager.plain) }
+    requires works { Works does }
+    requires sees { Sees (W.front_of wire.old) (Unit {0}) sight.seen sight.stamp }
+    requires low { sight.stamp ≤ 2 ^ 60 }
+    ensures { (o : Offering) → SendsTurn end.cable (λ xs. W.reads wire.old xs wire.new) (λ xs. W.writes wire.old xs wire.new) (sight.seen ≡ items.Nothing) ⊥ o o parts.old result parts.new }
+{
+    let stamp = next_stamp(parts.stamp, sight.stamp);
+    let after = end_after(&end, &does);
+    let running = after.machine.is_running();
+    match work_in(parts, &end, &does, running) {
+        Err(NoMemory) => Err(NoMemory),
+        Ok(told) => {
+            pass(wire, &sight);
+            let passed = Passed {
+                stamp,
+                pushed: None,
+                extras: 0,
+                popped: sight.seen,
+            };
+            let kind = EndKind::Sends(after);
+            let received = Messages::new(parts.alloc);
+            close_turn(
+                parts,
+                Actor::Sender(end.cable),
+                Call::Turn,
+                told,
+                ChannelEnd { kind },
+                passed,
+                received,
+            );
+            Ok(Turn::Changed)
+        }
+    }
+}

@@ -1,0 +1,5 @@
+pub mod LookLaws
+pub mod BeginLaws
+pub mod MonitorLaws
+pub mod WatchLaws
+pub mod TrimLemmas

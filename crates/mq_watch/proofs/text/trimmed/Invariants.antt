@@ -1,0 +1,12 @@
+use Rattle.std.proofs.Common.{◌≡◌, ◌≤◌, length, take}
+use Rattle.mq_name.specs.Name.{trimmed}
+use Rattle.mq_watch.proofs.text.trimmed.Given as goal
+
+abbrev pub invariant-trimming : goal.invariant-trimming
+invariant-trimming l = record {
+  within : l.len ≤ length l.field;
+  same : trimmed l.field ≡ trimmed (take l.len l.field);
+}
+
+abbrev pub decreases-trimming : goal.decreases-trimming
+decreases-trimming l = l.len

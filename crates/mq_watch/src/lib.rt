@@ -1,0 +1,11 @@
+//! Turns of trigger monitors, as events of a node; and how a monitor connects and opens its initiation queue.
+#![tactic(auto)]
+
+mod beginning;
+mod getting;
+mod looking;
+mod text;
+mod watching;
+
+pub use getting::{Monitored, monitor_turn};
+pub use watching::{connect, is_watching, open};

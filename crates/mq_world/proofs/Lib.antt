@@ -1,0 +1,14 @@
+pub mod ListLaws
+pub mod SeenLaws
+pub mod KeepLaws
+pub mod LiftLaws
+pub mod ScriptLaws
+pub mod TurnLaws
+pub mod WatchLaws
+pub mod MarkLaws
+pub mod RestLaws
+pub mod StartLaws
+pub mod CableLaws
+pub mod NodeLaws
+pub mod ClockLaws
+pub mod HandlerLaws

@@ -1,0 +1,175 @@
+-- A node of which nothing has happened is its manager's, and may act.
+use Rattle.std.proofs.Common.{◌≡◌, ℕ, zero, suc, ◌+◌, ◌≤◌, ◌^◌, ◌||◌, nat_le, Bool, true, false, List, [], ◌∷◌, ◌++◌, length, drop, refl, sym, ap, subst, ◌∙◌, arith}
+use Rattle.std.specs.Prelude.{if◌then◌else◌, All, map, nat_lt, reverse, Option, Some, None, option_map, slice_get}
+use Rattle.std.proofs.lemmas.List.{reverse-append}
+use Rattle.std.specs.Str.{bytes_eq}
+use Rattle.mq_calls.specs.declared.image.Shelf.{Shelf}
+use Rattle.mq_history.specs.declared.history.History.{History}
+use Rattle.mq_history.specs.declared.scenario.ManagerLine.{ManagerLine}
+use Rattle.mq_history.specs.declared.scenario.Scenario.{Scenario}
+use Rattle.mq_objects.specs.declared.object.LocalQueue.{LocalQueue}
+use Rattle.mq_objects.specs.Names.{locals_of}
+use Rattle.mq_spec_state.specs.Reads.{queue_in}
+use Rattle.mq_spec_state.specs.State.{Plain, Queue}
+use Rattle.mq_spec_state.specs.Images.{queue_on}
+use Rattle.mq_spec_state.specs.Words.{stored}
+use Rattle.mq_spec_manager.specs.Words.{first_due}
+use Rattle.mq_spec_node.specs.Terms.{Entry}
+use Rattle.mq_spec_node.specs.Words.{Own, Surroundings, after, node_of, opening_node, trigger_deed, trigger_deed_of}
+use Rattle.mq_spec_network.specs.Given.{log_max_or, own_at, surroundings}
+use Rattle.mq_core.specs.Values.{CoreValue}
+use Rattle.mq_events.specs.States.{NodeState}
+use Rattle.mq_events.proofs.MarkLaws.{begun_kept}
+use Rattle.mq_world_begin.specs.Rested.{IsRestedAt}
+use Rattle.mq_history.specs.Scenarios.{IsScenario}
+use Rattle.mq_history.specs.declared.scenario.MonitorLine.{MonitorLine}
+use Rattle.mq_history.specs.declared.scenario.RulesPart.{RulesPart}
+use Rattle.mq_spec_network.specs.Lawful.{marks_at}
+use Rattle.mq_spec_network.specs.Story.{entries_at, entries_or}
+use Rattle.mq_events.specs.Texts.{IsTextCommand}
+use Rattle.mq_nodes.specs.Texts.{AllFit}
+use Rattle.mq_course.specs.Courses.{absent, marks_or_absent}
+use Rattle.mq_progress.specs.Course as progress
+use Rattle.mq_steps.proofs.PartLaws.{at_it}
+use Rattle.mq_owned.specs.Owned.{HasNoCables}
+use Rattle.mq_world.specs.Starting.{Starts, StartsAt, around, begun_script, begun_state}
+use Rattle.mq_world.specs.Worlds.{IsNetwork, IsScriptAt, history_in, until_of}
+use Rattle.mq_world.proofs.ListLaws.{get_map, some_is}
+use Rattle.mq_world.proofs.SeenLaws.{AreAt, done_there, history_there, ready_all}
+
+-- what the scenario gives it is what its history and its own say
+around_is : (s : Scenario) (m : ℕ) (l : ManagerLine) (v : CoreValue) (own : Own) (h : History) → slice_get s.managers m ≡ Some l → IsRestedAt s m v own h → own ≡ own_at s m → around l.log_max own h ≡ surroundings s m
+around_is s m l v own h is r owned = λ i. record {
+  given = record { number = r.replays.number i; name = r.replays.name i; log_max = ap log_max_or (sym is) i };
+  own = owned i;
+}
+
+-- so it is as its history opens
+pub opens_so : (s : Scenario) (m : ℕ) (l : ManagerLine) (v : CoreValue) (own : Own) (h : History) → slice_get s.managers m ≡ Some l → IsRestedAt s m v own h → own ≡ own_at s m → h.entries ≡ [] → node_of v.plain own ≡ opening_node (around l.log_max own h) h
+opens_so s m l v own h is r owned none =
+    r.node
+    ∙ ap (λ (es : List Entry). after (opening_node (surroundings s m) h) es) none
+    ∙ ap (λ (g : Surroundings). opening_node g h) (sym (around_is s m l v own h is r owned))
+
+-- No trigger is due of a manager that has just begun.
+none_stored : (name : List ℕ) (ss : List Shelf) (p : Plain) → p.queues ≡ map queue_on ss → (stored name p).due ≡ 0
+none_stored name ss p e = ap (λ (qs : List Queue). (queue_in name qs).due) e ∙ none_in ss
+  where
+    none_in : (ts : List Shelf) → (queue_in name (map queue_on ts)).due ≡ 0
+    none_in [] = refl
+    none_in (t ∷ ts) = by_name (bytes_eq name t.name)
+      where
+        by_name : (b : Bool) → (if b then queue_on t else queue_in name (map queue_on ts)).due ≡ 0
+        by_name true = refl
+        by_name false = none_in ts
+
+none_due_in : (qs : List LocalQueue) (ss : List Shelf) (p : Plain) → p.queues ≡ map queue_on ss → first_due qs p ≡ None
+none_due_in [] ss p e = refl
+none_due_in (q ∷ qs) ss p e =
+    ap (λ (n : ℕ). if nat_lt 0 n then Some q else first_due qs p) (none_stored q.name ss p e)
+    ∙ none_due_in qs ss p e
+
+opening_served : (g : Surroundings) (h : History) → trigger_deed (opening_node g h) ≡ None
+opening_served g h = ap (λ (o : Option LocalQueue). trigger_deed_of o (opening_node g h)) (none_due_in (locals_of h.opening.definitions) h.opening.shelves (opening_node g h).manager refl)
+
+-- A node starts so.
+pub starts_at : (s : Scenario) (m : ℕ) (l : ManagerLine) (v : CoreValue) (own : Own) (h : History) (room marks : ℕ) (few : Bool) → (hs : List History) → slice_get hs m ≡ Some h → slice_get s.managers m ≡ Some l → IsRestedAt s m v own h → own ≡ own_at s m → h.entries ≡ [] → h.marks ≡ [] → length s.steps ≤ marks
+    → StartsAt s hs m (begun_state l.log_max v own h room marks few)
+starts_at s m l v own h room marks few hs found is r owned none unmarked enough =
+    let n : NodeState = begun_state l.log_max v own h room marks few in
+    let given : around l.log_max own h ≡ surroundings s m = around_is s m l v own h is r owned in
+    let opens : node_of v.plain own ≡ opening_node (around l.log_max own h) h = opens_so s m l v own h is r owned none in
+    record {
+      at = record { image = r.image; known = r.known; given = given; keeps = begun_kept n none refl refl refl opens; room = omega (arith, enough) };
+      served = ap trigger_deed opens ∙ opening_served (around l.log_max own h) h;
+      may = ap (λ (es : List Entry). nat_le (2 ^ 48) (length es) || nat_le (2 ^ 60) 0) none;
+      history = found;
+      undone = none;
+      unmarked = unmarked;
+    }
+
+-- The next of lists that are taken from their ends, reversed.
+drop_first : {A : Type 0} (all : List A) (i : ℕ) (x : A) (ys : List A) → x ∷ ys ≡ drop i all → (slice_get all i ≡ Some x) × (ys ≡ drop (i + 1) all)
+drop_first [] zero x ys e = absurd cc
+drop_first [] (suc i) x ys e = absurd cc
+drop_first (a ∷ as_) zero x ys e = (first a x ys as_ e, rest a x ys as_ e)
+  where
+    first : {A : Type 0} (b y : A) (zs bs : List A) → y ∷ zs ≡ b ∷ bs → Some b ≡ Some y
+    first b y zs bs k = cc
+
+    rest : {A : Type 0} (b y : A) (zs bs : List A) → y ∷ zs ≡ b ∷ bs → zs ≡ bs
+    rest b y zs bs k = cc
+drop_first (a ∷ as_) (suc i) x ys e = drop_first as_ i x ys e
+
+pub next_of : {A : Type 0} (all left rest : List A) (i : ℕ) (x : A) → reverse left ≡ drop i all → left ≡ rest ++ x ∷ [] → (slice_get all i ≡ Some x) × (reverse rest ≡ drop (i + 1) all)
+next_of all left rest i x so_far popped = drop_first all i x (reverse rest) (sym (ap reverse popped ∙ reverse-append rest (x ∷ [])) ∙ so_far)
+
+-- What the type of a network keeps, at its start; and what is seen of it.
+map_is : {A B : Type 0} (f : A → B) (xs : List A) (ys : List B) → length xs ≡ length ys → ((m : ℕ) (x : A) → slice_get xs m ≡ Some x → slice_get ys m ≡ Some (f x)) → map f xs ≡ ys
+map_is f [] [] e each = refl
+map_is f [] (y ∷ ys) e each = absurd cc
+map_is f (x ∷ xs) [] e each = absurd cc
+map_is f (x ∷ xs) (y ∷ ys) e each = both (f x) y (map f xs) ys (some_is y (f x) (each 0 x refl)) (map_is f xs ys (down (length xs) (length ys) e) (λ m z at. each (suc m) z at))
+  where
+    down : (a b : ℕ) → suc a ≡ suc b → a ≡ b
+    down a b k = omega (arith, k)
+
+    both : {B : Type 0} (a b : B) (as_ bs : List B) → b ≡ a → as_ ≡ bs → a ∷ as_ ≡ b ∷ bs
+    both a b as_ bs k l = ap (λ (z : _). z ∷ as_) (sym k) ∙ ap (λ (zs : List _). b ∷ zs) l
+
+-- one of those that all have done nothing
+all_begun : (cs : List progress.Course) (k : ℕ) (c : progress.Course) → All (λ (x : progress.Course). x ≡ begun_script) cs → slice_get cs k ≡ Some c → c ≡ begun_script
+all_begun cs k c all is = at_it (λ (x : progress.Course). x ≡ begun_script) cs k c all is
+
+none_done : (ns : List NodeState) (q : ℕ) → ((m : ℕ) (n : NodeState) → slice_get ns m ≡ Some n → n.history.entries ≡ []) → entries_at (map history_in ns) q ≡ []
+none_done ns q each = by_node (slice_get ns q) refl
+  where
+    by_node : (o : Option NodeState) → slice_get ns q ≡ o → entries_at (map history_in ns) q ≡ []
+    by_node None e = ap entries_or (get_map history_in ns q ∙ ap (option_map history_in) e)
+    by_node (Some n) e = done_there ns q n e ∙ each q n e
+
+first_marks : (ns : List NodeState) → ((m : ℕ) (n : NodeState) → slice_get ns m ≡ Some n → n.history.marks ≡ []) → marks_at (map history_in ns) 0 ≡ []
+first_marks [] each = refl
+first_marks (n ∷ ns) each = each 0 n refl
+
+pub started : (s : Scenario) (hs : List History) (ns : List NodeState) (cs : List progress.Course) (handlers : List ℕ) (lines : List MonitorLine) → HasNoCables s → IsScenario s → AllFit IsTextCommand s → length ns ≡ length s.managers
+    → ((m : ℕ) (n : NodeState) → slice_get ns m ≡ Some n → StartsAt s hs m n) → length cs ≡ length s.scripts → All (λ (x : progress.Course). x ≡ begun_script) cs → handlers ≡ map (λ (r : RulesPart). r.manager) s.rules → lines ≡ s.monitors
+    → IsNetwork (record { scenario = s; nodes = ns; scripts = cs; handlers = handlers; monitors = lines })
+started s hs ns cs handlers lines apart scenario texts all each many begun of_rules of_monitors = record {
+  apart = apart;
+  scenario = scenario;
+  texts = texts;
+  all = all;
+  nodes = λ m n known. (each m n known).at;
+  each = many;
+  scripts = λ k p c part is. subst (IsScriptAt k p (entries_at (map history_in ns) p.manager)) (sym (all_begun cs k c begun is))
+      (subst (λ (es : List Entry). IsScriptAt k p es begun_script) (sym (none_done ns p.manager (λ m n known. (each m n known).undone)))
+      (record { stands = record { memory = refl; done = refl }; few = low (length p.lines); waits = λ l there. tt }));
+  handlers = of_rules;
+  monitors = of_monitors;
+} where
+  low : (n : ℕ) → 0 ≤ n
+  low n = omega arith
+
+pub starts : (s : Scenario) (hs : List History) (ns : List NodeState) (cs : List progress.Course) (handlers : List ℕ) (lines : List MonitorLine) (vs : List CoreValue) (owns : List Own) → length ns ≡ length hs → AreAt s ns → ((m : ℕ) (n : NodeState) → slice_get ns m ≡ Some n → StartsAt s hs m n)
+    → All (λ (x : progress.Course). x ≡ begun_script) cs → Starts (record { scenario = s; managers = vs; owns = owns; histories = hs }) (record { scenario = s; nodes = ns; scripts = cs; handlers = handlers; monitors = lines })
+starts s hs ns cs handlers lines vs owns long at each begun = record {
+  scenario = refl;
+  histories = map_is history_in ns hs long (λ m n known. (each m n known).history);
+  ready = ready_all s ns at (λ m n known. record { served = (each m n known).served; may = (each m n known).may });
+  rests = λ k. none_waits k;
+  unmarked = λ m. no_marks m;
+} where
+  none_waits : (k : ℕ) → until_of (slice_get cs k) ≡ None
+  none_waits k = by_script (slice_get cs k) refl
+    where
+      by_script : (x : Option progress.Course) → slice_get cs k ≡ x → until_of (slice_get cs k) ≡ None
+      by_script None is = ap until_of is
+      by_script (Some c) is = ap until_of is ∙ ap (λ (y : progress.Course). y.until) (all_begun cs k c begun is)
+
+  no_marks : (m : ℕ) → marks_or_absent (marks_at (map history_in ns) 0) (slice_get (map history_in ns) m) ≡ []
+  no_marks m = by_node (slice_get ns m) refl
+    where
+      by_node : (o : Option NodeState) → slice_get ns m ≡ o → marks_or_absent (marks_at (map history_in ns) 0) (slice_get (map history_in ns) m) ≡ []
+      by_node None e = ap (marks_or_absent (marks_at (map history_in ns) 0)) (get_map history_in ns m ∙ ap (option_map history_in) e) ∙ ap (map absent) (first_marks ns (λ k n known. (each k n known).unmarked))
+      by_node (Some n) e = ap (marks_or_absent (marks_at (map history_in ns) 0)) (history_there ns m n e) ∙ (each m n e).unmarked

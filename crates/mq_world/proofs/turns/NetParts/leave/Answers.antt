@@ -1,0 +1,28 @@
+use Rattle.std.specs.Prelude.{◌≡◌, Bool, Option, []}
+use Rattle.std.proofs.Common.{arith, refl}
+use Rattle.mq_history.specs.declared.calls.Actor.TheVariants as actors
+use Rattle.mq_history.specs.declared.calls.Call.TheVariants as calls
+use Rattle.mq_spec_node.specs.Terms.{Entry, Hconn}
+use Rattle.mq_spec_node.specs.Words.{is_opened, script_appl, shared}
+use Rattle.mq_spec_network.specs.Steps.{Is}
+use Rattle.mq_watch.specs.Turns.{connection_of}
+use Rattle.mq_world.specs.Settling.{IsOf}
+use Rattle.mq_world.proofs.LiftLaws.{asked_ready, monitor_fits, of_monitor, does_kept, does_told}
+use Rattle.mq_world.proofs.turns.NetParts.leave.Goals as goal
+
+pub at_mut-requires : goal.at_mut-requires
+at_mut-requires g c = omega (arith, c.requires.kept.all, c.requires.there, c.from.ensures)
+
+pub leave_on-requires-clause-served : goal.leave_on-requires-clause-served
+leave_on-requires-clause-served g c = (asked_ready c.args.self.now c.from.result c.args.manager c.at_mut.result.now (record { kept = c.requires.kept; ready = c.requires.ready; place = c.from.ensures; known = c.at_mut.ensures.value })).served
+
+pub leave_on-requires-clause-may : goal.leave_on-requires-clause-may
+leave_on-requires-clause-may g c = (asked_ready c.args.self.now c.from.result c.args.manager c.at_mut.result.now (record { kept = c.requires.kept; ready = c.requires.ready; place = c.from.ensures; known = c.at_mut.ensures.value })).may
+
+pub returns-clause-kept : goal.returns-clause-kept
+returns-clause-kept g c =
+    does_kept c.args.self.now _ c.from.result c.args.manager (IsOf (actors.Monitor c.args.monitor) (calls.Mqdisc c.args.connection)) c.leave_on.result c.at_mut.result.now c.leave_on.new.node (record { kept = c.requires.kept; ready = c.requires.ready; place = c.from.ensures; known = c.at_mut.ensures.value }) refl (of_monitor c.args.monitor (calls.Mqdisc c.args.connection)) c.leave_on.ensures
+
+pub returns-clause-told : goal.returns-clause-told
+returns-clause-told g c =
+    does_told c.args.self.now _ c.from.result c.args.manager (IsOf (actors.Monitor c.args.monitor) (calls.Mqdisc c.args.connection)) (Is c.args.manager (actors.Monitor c.args.monitor) (calls.Mqdisc c.args.connection)) c.leave_on.result c.at_mut.result.now c.leave_on.new.node (record { kept = c.requires.kept; ready = c.requires.ready; place = c.from.ensures; known = c.at_mut.ensures.value }) refl (of_monitor c.args.monitor (calls.Mqdisc c.args.connection)) (monitor_fits c.args.manager c.args.monitor (calls.Mqdisc c.args.connection)) c.leave_on.ensures

@@ -1,0 +1,6 @@
+pub mod Worlds
+pub mod Resting
+pub mod Starting
+pub mod Settling
+pub mod Lines
+pub mod Turning

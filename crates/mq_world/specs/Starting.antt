@@ -1,0 +1,55 @@
+-- A node of which nothing has happened, in a network that starts.
+use Rattle.std.specs.Prelude.{◌≡◌, ◌+◌, ◌≤◌, ℕ, Bool, List, [], None, Some, slice_get, vec_len, vec_capacity}
+use Rattle.std.proofs.Common.{Global, Vec}
+use Rattle.mq_history.specs.declared.history.History.{History}
+use Rattle.mq_history.specs.declared.scenario.Scenario.{Scenario}
+use Rattle.mq_spec_node.specs.Words.{Own, Surroundings, node_of, opening_node}
+use Rattle.mq_spec_network.specs.Given.{own_at}
+use Rattle.mq_core.specs.Values.{CoreValue}
+use Rattle.mq_events.specs.States.{NodeState, IsServed}
+use Rattle.mq_events.specs.Events.{MayAct}
+use Rattle.mq_history.specs.declared.history.Mark.{Mark}
+use Rattle.mq_spec_node.specs.Words.{fresh}
+use Rattle.mq_progress.specs.Course as progress
+use Rattle.mq_nodes.specs.Course.{Ready, Rests}
+use Rattle.mq_nodes.specs.Runs.{Unmarked}
+use Rattle.mq_world.specs.Worlds.{IsNodeAt, NetState, course_in, histories_in}
+use Rattle.mq_world_begin.specs.Rested.{RestState}
+
+-- what a manager is given, as its history and its own say
+abbrev pub around : ℕ → Own → History → Surroundings
+around log_max own h = record { given = record { number = h.number; name = h.name; log_max = log_max }; own = own }
+
+abbrev pub begun_state : ℕ → CoreValue → Own → History → ℕ → ℕ → Bool → NodeState
+begun_state log_max v own h room marks few = record { given = around log_max own h; history = h; manager = v; own = own; stamp = 0; few = few; room = room; marks = marks }
+
+-- Nothing was done yet at any manager, and each has its own as the scenario gives it.
+pub record IsFresh (w : RestState) : Type 0 where
+  pub undone : (m : ℕ) (h : History) → slice_get w.histories m ≡ Some h → h.entries ≡ []
+  pub unmarked : (m : ℕ) (h : History) → slice_get w.histories m ≡ Some h → h.marks ≡ []
+  pub owned : (m : ℕ) (own : Own) → slice_get w.owns m ≡ Some own → own ≡ own_at w.scenario m
+
+-- a node of its manager, with its history, which may do its first event
+pub record StartsAt (s : Scenario) (hs : List History) (m : ℕ) (n : NodeState) : Type 0 where
+  pub at : IsNodeAt s m n
+  pub served : IsServed n
+  pub may : MayAct n
+  pub history : slice_get hs m ≡ Some n.history
+  pub undone : n.history.entries ≡ []
+  pub unmarked : n.history.marks ≡ []
+
+-- room for so many marks
+abbrev pub IsRoom : ℕ → Vec Mark Global → Type 0
+IsRoom steps r = (r.items ≡ []) × (steps + vec_len r ≤ vec_capacity r)
+
+-- a script that has done nothing
+abbrev pub begun_script : progress.Course
+begun_script = record { memory = fresh; room = 0; done = 0; until = None }
+
+-- A network that starts from managers at rest: it has their histories, and may do its first event; no get waits, and no step has ended.
+pub record Starts (r : RestState) (w : NetState) : Type 0 where
+  pub scenario : w.scenario ≡ r.scenario
+  pub histories : histories_in w ≡ r.histories
+  pub ready : Ready (course_in w).net
+  pub rests : Rests (course_in w)
+  pub unmarked : Unmarked (course_in w)

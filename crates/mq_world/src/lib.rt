@@ -1,0 +1,15 @@
+//! A network whose nodes are real: managers over disks, each with its history, as the steps of a scenario run over them.
+#![tactic(auto)]
+
+mod acting;
+mod lines;
+mod marks;
+mod network;
+mod parts;
+mod resting;
+mod settling;
+mod starting;
+mod turning;
+mod turns;
+
+pub use network::Network;

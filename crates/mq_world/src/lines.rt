@@ -1,0 +1,38 @@
+//! A script's next line at its node, with the trigger turns behind it.
+ghost use Rattle.std.specs.Prelude.{◌<◌, ◌^◌, IfSome, slice_get};
+ghost use Rattle.mq_events.specs.States.{IsServed};
+ghost use Rattle.mq_events.specs.Events.{MayAct};
+ghost use Rattle.mq_acts.specs.Advances.{IsTextLine, Keeps};
+ghost use Rattle.mq_world.specs.Lines.{LineOn};
+
+use crate::settling::settle;
+use mq_base::NoMemory;
+use mq_disk::Disk;
+use mq_events::Node;
+use mq_history::ScriptPart;
+use mq_nodes::{Advanced, Stop};
+use mq_progress::Progress;
+
+/// Does a script's next line at the node of a manager, unless its get is to wait, or no line is left.
+#[tactic(auto, using(crate::proofs::NodeLaws::line_then))]
+pub fn advance_on<D: Disk>(
+    node: &mut Node<D>,
+    manager: u16,
+    script: u16,
+    part: &ScriptPart,
+    progress: &mut Progress,
+) -> Result<Advanced, Stop>
+    requires served { IsServed node.old }
+    requires may { MayAct node.old }
+    requires text { IfSome (slice_get part.now.lines progress.old.done) IsTextLine }
+    requires keeps { IfSome (slice_get part.now.lines progress.old.done) (Keeps progress.old.until) }
+    requires more { progress.old.done < 2 ^ 32 }
+    ensures { LineOn script part.now manager progress.old node.old result progress.new node.new }
+{
+    match mq_acts::advance(node, script, part, progress) {
+        Err(NoMemory) => Err(Stop::NoMemory),
+        Ok(mq_acts::Advanced::Ended) => Ok(Advanced::Ended),
+        Ok(mq_acts::Advanced::Waiting(until)) => Ok(Advanced::Waiting(until)),
+        Ok(mq_acts::Advanced::Done) => settle(node, manager, Advanced::Done),
+    }
+}

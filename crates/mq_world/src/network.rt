@@ -1,0 +1,203 @@
+//! A network: real nodes, over which the steps of their scenario run.
+ghost use Rattle.std.specs.Prelude.{◌≡◌, MatchResult};
+ghost use Rattle.mq_events.specs.Texts.{IsTextCommand};
+ghost use Rattle.mq_nodes.specs.Texts.{AllFit};
+ghost use Rattle.mq_world.specs.Resting.{rest_of};
+ghost use Rattle.mq_world.specs.Starting.{IsFresh, Starts};
+
+use crate::parts::NetParts;
+use crate::resting::RestRoom;
+use crate::starting::{StartRoom, nodes_of, start_room};
+use mq_base::{Items, NoMemory};
+use mq_disk::Disk;
+use mq_history::{Scenario, ScriptPart};
+use mq_nodes::{Advanced, Monitored, Nodes, Stop};
+use mq_sc_parse::Command;
+use mq_world_begin::Rested;
+use std::alloc::Global;
+use std::marker::Model;
+
+/// The nodes of a scenario's managers, each with its history, and how far its scripts are.
+#[derive(Drop)]
+pub struct Network<D: Disk> {
+    parts: NetParts<D>,
+    room: RestRoom<D>,
+}
+
+impl<D: Disk> Model for Network<D> {
+    ghost use Rattle.std.specs.Prelude.{◌≤◌, length};
+    ghost use Rattle.mq_world.specs.Worlds.{IsNetwork, NetState};
+
+    ghost Value = { NetState };
+
+    ghost view = { λ n. n.parts };
+
+    ghost invariant = { λ n. IsNetwork n.parts × (length n.parts.nodes ≤ n.room) };
+}
+
+impl<D: Disk> Network<D> {
+    /// A network starts from managers at rest of which nothing has happened.
+    ///
+    /// # Errors
+    ///
+    /// No memory: the managers as they were.
+    pub fn start(
+        alloc: Global,
+        scenario: &Scenario,
+        rested: Rested<D>,
+    ) -> Result<Network<D>, Rested<D>>
+        requires same { rested.scenario ≡ scenario.now }
+        requires fresh { IsFresh rested }
+        requires texts { AllFit IsTextCommand scenario.now }
+        ensures { MatchResult result (λ n. Starts rested n) (λ back. back ≡ rested) }
+    {
+        let StartRoom {
+            nodes,
+            rooms,
+            scripts,
+            handlers,
+            monitors,
+        } = match start_room(alloc, scenario, rested.managers.len()) {
+            Ok(room) => room,
+            Err(NoMemory) => return Err(rested),
+        };
+        let Rested {
+            scenario: whole,
+            managers,
+            owns,
+            histories,
+            disks,
+        } = rested;
+        let room = match RestRoom::take(alloc, managers.len(), disks) {
+            Ok(room) => room,
+            Err(disks) => {
+                return Err(Rested {
+                    scenario: whole,
+                    managers,
+                    owns,
+                    histories,
+                    disks,
+                });
+            }
+        };
+        let nodes = nodes_of(alloc, scenario, managers, owns, histories, rooms, nodes);
+        Ok(Network {
+            parts: NetParts {
+                alloc,
+                scenario: whole,
+                nodes: Items::from_vec(nodes),
+                scripts,
+                handlers,
+                monitors,
+            },
+            room,
+        })
+    }
+
+    /// The nodes come to rest. It takes no memory.
+    pub fn rest(self) -> Rested<D>
+        ensures { result ≡ rest_of self.scenario self.nodes }
+    {
+        let Network { parts, room } = self;
+        let NetParts {
+            alloc: _,
+            scenario,
+            nodes,
+            scripts: _,
+            handlers: _,
+            monitors: _,
+        } = parts;
+        room.fill(scenario, nodes)
+    }
+}
+
+impl<D: Disk> Nodes for Network<D> {
+    ghost use Rattle.mq_events.specs.Texts.{IsTextCommand};
+    ghost use Rattle.mq_world.specs.Worlds.{course_in};
+
+    ghost course = { course_in };
+
+    ghost may_obey = { IsTextCommand };
+
+    fn managers(&self) -> u16 {
+        self.parts.managers()
+    }
+
+    fn moment(&self, manager: u16) -> u64 {
+        self.parts.moment(manager)
+    }
+
+    fn obey(&mut self, manager: u16, command: &Command) -> Result<(), Stop> {
+        self.parts.obey(manager, command)
+    }
+
+    fn advance_clock(&mut self, manager: u16, ms: u64) -> Result<(), Stop> {
+        self.parts.advance_clock(manager, ms)
+    }
+
+    fn advance(&mut self, script: u16, part: &ScriptPart) -> Result<Advanced, Stop> {
+        self.parts.advance(script, part)
+    }
+
+    #[tactic(auto, using(crate::proofs::CableLaws::none_long))]
+    fn cables(&self) -> u16 {
+        0
+    }
+
+    // (there is no cable: none of the next three is asked)
+    #[tactic(auto, using(crate::proofs::CableLaws::turn_none))]
+    fn sender_turn(&mut self, cable: u16) -> Result<bool, Stop> {
+        Ok(false)
+    }
+
+    #[tactic(auto, using(crate::proofs::CableLaws::turn_none))]
+    fn receiver_turn(&mut self, cable: u16) -> Result<bool, Stop> {
+        Ok(false)
+    }
+
+    #[tactic(auto, using(crate::proofs::CableLaws::turn_none))]
+    fn timeout(&mut self, cable: u16) -> Result<bool, Stop> {
+        Ok(false)
+    }
+
+    #[tactic(auto, using(crate::proofs::CableLaws::idle_none, crate::proofs::CableLaws::idle_law))]
+    fn is_idle(&self) -> bool {
+        true
+    }
+
+    fn handler_turn(&mut self, rules: u16) -> Result<bool, Stop> {
+        self.parts.handler_turn(rules)
+    }
+
+    fn handler_idle(&self, rules: u16) -> bool {
+        self.parts.handler_idle(rules)
+    }
+
+    fn monitor_turn(&mut self, monitor: u16) -> Result<Monitored, Stop> {
+        self.parts.monitor_turn(monitor)
+    }
+
+    fn watch(&mut self, monitor: u16) -> Result<(), Stop> {
+        self.parts.watch(monitor)
+    }
+
+    fn is_up(&self, manager: u16) -> bool {
+        self.parts.is_up(manager)
+    }
+
+    fn crash(&mut self, manager: u16) -> Result<(), Stop> {
+        self.parts.crash(manager)
+    }
+
+    fn restart(&mut self, manager: u16) -> Result<bool, Stop> {
+        self.parts.restart(manager)
+    }
+
+    fn cut(&mut self, manager: u16, device_calls: u32) -> Result<(), Stop> {
+        self.parts.cut(manager, device_calls)
+    }
+
+    fn mark(&mut self, idle: bool) {
+        self.parts.mark(idle);
+    }
+}
