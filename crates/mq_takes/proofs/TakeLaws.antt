@@ -33,7 +33,7 @@ use Rattle.mq_turns.specs.Told.{Closes, IsBefore, IsTold}
 use Rattle.mq_turns.proofs.PartLaws.{none_made}
 use Rattle.mq_turns.proofs.TurnLaws.{receiver_turns}
 use Rattle.mq_turns.proofs.DueLaws.{may_low, up_is}
-use Rattle.mq_takes.specs.Wired.{Popped, Refuses}
+use Rattle.mq_turns.specs.Wired.{Popped, Refuses}
 use Rattle.mq_takes.specs.Takes.{IsQuietLine, Leaves, MayTake, ReceivesTurn, end_after, paid, whole}
 
 pub take_low : (s : NodeState) (e : ReceiverEnd) → MayTake e (whole e s) → s.stamp < 2 ^ 60

@@ -1,21 +1,24 @@
 -- A receiver's turn: what is known before it, and what it comes to.
-use Rattle.std.specs.Prelude.{◌≡◌, ◌+◌, ℕ, List, [], Option, Some, None, Result}
+use Rattle.std.specs.Prelude.{◌≡◌, ◌+◌, ℕ, Bool, List, [], Option, Some, None, Result}
 use Rattle.mq_base.specs.declared.want.NoMemory.{NoMemory as Want}
 use Rattle.mq_cable.specs.declared.item.Item.{Item}
 use Rattle.mq_cable.specs.Offers.{Offering}
 use Rattle.mq_frame.specs.declared.frame.Seen.TheVariants as items
 use Rattle.mq_history.specs.declared.calls.Actor.TheVariants as actors
 use Rattle.mq_history.specs.declared.calls.Call.TheVariants as calls
-use Rattle.mq_receiver.specs.After.{done_after}
+use Rattle.mq_calls.specs.declared.choices.Choice.{Choice}
+use Rattle.mq_calls.specs.declared.choices.Choice.TheVariants.{Runs, NoMemory, Stopped}
+use Rattle.mq_receiver.specs.After.{done_after, receiver_after}
 use Rattle.mq_receiver.specs.declared.turns.ReceiverDoes.TheVariants as does
-use Rattle.mq_spec_agents.specs.Words.{IsUp}
-use Rattle.mq_spec_node.specs.Terms.{Message, ReceiverDoes, Seen}
-use Rattle.mq_spec_node.specs.Words.{Deed, Own, ReceiverEnd, deed_of, kept_seen, receiver_end, turned, with_end}
+use Rattle.mq_spec_agents.specs.Words.{IsUp, set_bound}
+use Rattle.mq_spec_node.specs.Terms.{Did, Message, Part, Plain, ReceiverDoes, ReceiverOut, Seen}
+use Rattle.mq_spec_node.specs.Words.{Deed, Own, ReceiverEnd, deed_of, kept_seen, parts_of, receiver_end, turned, with_end}
 use Rattle.mq_spec_node.specs.Node.ChannelEnd.{Receives}
 use Rattle.mq_events.specs.States.{IsKept, IsServed, NodeState, node_in}
 use Rattle.mq_events.specs.Events.{MayAct}
 use Rattle.mq_turns.specs.declared.telling.Turn.{Turn}
-use Rattle.mq_takes.specs.Wired.{TurnIs}
+use Rattle.mq_turns.specs.Turns.{Made}
+use Rattle.mq_turns.specs.Wired.{TurnIs}
 
 -- a node whose receiver end was lifted out of its place, with that end in it
 abbrev pub whole : ReceiverEnd → NodeState → NodeState
@@ -59,3 +62,22 @@ pub record Leaves (e last : ReceiverEnd) (stamp : ℕ) (seen : Seen) (s : NodeSt
   pub may : MayTake e s
   pub cable_is : last.cable ≡ e.cable
   pub deed : deed_of stamp (actors.Receiver e.cable) calls.Turn seen (node_in s) ≡ Some (turned [] None (with_end (Receives last) s.own))
+
+-- A turn of an end that leaves this one behind it where all was done: it takes the item that was seen, and these parts were done at
+-- the manager, or a write of theirs was stopped.
+pub record Works (e last : ReceiverEnd) (parts : List Part) (received : List Message) (seen : Seen) (stamp : ℕ) (choice : Choice) (delta : List Did) (old mid : NodeState) : Type 0 where
+  pub may : MayTake e old
+  pub cable_is : last.cable ≡ e.cable
+  pub deed : deed_of stamp (actors.Receiver e.cable) calls.Turn seen (node_in old) ≡ Some (record (turned parts None (with_end (Receives last) old.own)) { received = received })
+  pub made : Made parts choice delta old.manager mid.manager
+  pub before : mid ≡ record old { manager = mid.manager }
+
+-- the end after a line, with no message kept
+abbrev pub emptied : ReceiverEnd → ReceiverDoes → Seen → ReceiverOut → ReceiverEnd
+emptied e d seen out = record e { machine = receiver_after e.machine d seen out; kept = [] }
+
+-- an end is bound, or not, behind what was done
+abbrev pub bound_if : Choice → List ℕ → Bool → Plain → List Part
+bound_if Runs channel bound p = parts_of (set_bound channel bound p)
+bound_if NoMemory channel bound p = []
+bound_if (Stopped by n left) channel bound p = []

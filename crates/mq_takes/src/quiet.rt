@@ -9,7 +9,6 @@ ghost use Rattle.mq_wires.specs.Wires.{Sees};
 ghost use Rattle.mq_takes.specs.Takes.{IsQuietLine, Leaves, MayTake, ReceivesTurn, end_after, kept_after, whole};
 
 use crate::lifting::{cable_of, put_back};
-use crate::passing::{next_stamp, pass};
 use mq_base::NoMemory;
 use mq_cable::Wire;
 use mq_calls::Messages;
@@ -20,7 +19,7 @@ use mq_history::{Actor, Call};
 use mq_message::{Bytes, Dest, Message};
 use mq_own::{ChannelEnd, EndKind, ReceiverEnd};
 use mq_receiver::{ReceiverDoes, ReceiverOut};
-use mq_turns::{Passed, Turn, close_turn, nothing_done};
+use mq_turns::{Passed, Turn, close_turn, next_stamp, nothing_done, pass};
 use mq_wires::Sight;
 use std::alloc::Global;
 
