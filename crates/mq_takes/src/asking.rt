@@ -1,8 +1,10 @@
 //! What a receiver's end asks of its manager before it acts there.
-ghost use Rattle.std.specs.Prelude.{◌≡◌, ◌<◌, ℕ, List, true};
+ghost use Rattle.std.specs.Prelude.{◌≡◌, ◌<◌, true};
 ghost use Rattle.mq_calls.specs.declared.agents.Note.TheVariants as notes;
 ghost use Rattle.mq_core.specs.Views.{plain_of};
 ghost use Rattle.mq_spec_agents.specs.Words.{CanHarden};
+ghost use Rattle.mq_spec_state.specs.Words.{receiver_data};
+ghost use Rattle.mq_sync.specs.Settlement.{receiver_or};
 
 use mq_core::Parts;
 use mq_disk::Disk;
@@ -20,7 +22,7 @@ fn is_open<D: Disk>(parts: &Parts<D>, channel: &ChName, session: u64) -> bool
 
 /// The session is above the one that is hardened.
 fn is_new<D: Disk>(parts: &Parts<D>, channel: &ChName, session: u64) -> bool
-    ensures { result ≡ true → (partner : List ℕ) (last : ℕ) → CanHarden channel.now (notes.Bound partner session last) (plain_of parts.now) }
+    ensures { result ≡ true → (receiver_or (receiver_data channel.now (plain_of parts.now))).session < session }
 {
     let hardened = receiver_data(&parts.ends.receivers, channel);
     hardened.session < session
@@ -35,7 +37,7 @@ pub(crate) fn may_close<D: Disk>(manager: &Manager<D>, channel: &ChName, session
 
 /// The session may be bound at a manager.
 pub(crate) fn may_bind<D: Disk>(manager: &Manager<D>, channel: &ChName, session: u64) -> bool
-    ensures { result ≡ true → (partner : List ℕ) (last : ℕ) → CanHarden channel.now (notes.Bound partner session last) manager.now.plain }
+    ensures { result ≡ true → (receiver_or (receiver_data channel.now manager.now.plain)).session < session }
 {
     is_new(&manager.core.parts, channel, session)
 }
