@@ -27,7 +27,7 @@ use mq_events::{NodeParts, Told};
 use mq_manager::Manager;
 use mq_name::{ChName, QName};
 use mq_own::ReceiverEnd;
-use mq_receiver::{Receiver, ReceiverDoes, ReceiverOut};
+use mq_receiver::{ReceiverDoes, ReceiverOut};
 use mq_sides::set_side;
 use mq_turns::{Turn, hardened, has_run};
 use mq_wires::Sight;
@@ -159,25 +159,31 @@ fn bind_named<D: Disk>(
 fn bind_session<D: Disk>(
     manager: &mut Manager<D>,
     end: &ReceiverEnd,
-    next: &Receiver,
+    last: &ReceiverEnd,
 ) -> Result<Told, NoMemory>
     requires up { IsUp manager.old.plain }
-    ensures { MadeOr (bind_parts end.now next.now manager.old.plain) result manager.old manager.new }
+    ensures { MadeOr (bind_parts end.now last.now.machine manager.old.plain) result manager.old manager.new }
 {
-    bind_named(manager, &end.channel, end.partner, next.session, next.last)
+    bind_named(
+        manager,
+        &end.channel,
+        end.partner,
+        last.machine.session,
+        last.machine.last,
+    )
 }
 
 /// So at a node.
 fn bind_at<D: Disk>(
     parts: &mut NodeParts<D>,
     end: &ReceiverEnd,
-    next: &Receiver,
+    last: &ReceiverEnd,
 ) -> Result<Told, NoMemory>
     requires up { IsUp parts.old.manager.plain }
     ensures same { parts.new ≡ record parts.old { manager = parts.new.manager } }
-    ensures told { MadeOr (bind_parts end.now next.now parts.old.manager.plain) result parts.old.manager parts.new.manager }
+    ensures told { MadeOr (bind_parts end.now last.now.machine parts.old.manager.plain) result parts.old.manager parts.new.manager }
 {
-    bind_session(&mut parts.manager, end, next)
+    bind_session(&mut parts.manager, end, last)
 }
 
 /// The turn in which BIND binds its session.
@@ -201,7 +207,7 @@ pub(crate) fn binding_turn<D: Disk, W: Wire>(
         &sight.seen,
         &ReceiverOut::Done,
     );
-    match bind_at(parts, &end, &last.machine) {
+    match bind_at(parts, &end, &last) {
         Err(NoMemory) => {
             put_back(parts, end);
             Err(NoMemory)
