@@ -1,5 +1,5 @@
 -- A sender's turn that offers a frame and does nothing at the manager.
-use Rattle.std.proofs.Common.{◌≡◌, ℕ, ◌+◌, refl, sym, ap, subst, ◌∙◌, List, [], arith}
+use Rattle.std.proofs.Common.{◌≡◌, ℕ, ◌+◌, refl, sym, subst, ◌∙◌, List, [], arith}
 use Rattle.std.specs.Prelude.{Option, Some, None, Ok, Err}
 use Rattle.mq_base.specs.declared.want.NoMemory.{NoMemory as Want}
 use Rattle.mq_calls.specs.declared.choices.Choice.{Choice}
@@ -12,7 +12,7 @@ use Rattle.mq_history.specs.declared.calls.Actor.TheVariants as actors
 use Rattle.mq_history.specs.declared.calls.Call.TheVariants as calls
 use Rattle.mq_sender.specs.Table.{sender_next}
 use Rattle.mq_spec_agents.specs.Words.{stock}
-use Rattle.mq_spec_node.specs.Terms.{Did, Frame, Message, Seen, SenderDoes}
+use Rattle.mq_spec_node.specs.Terms.{Did, Frame, Message, SenderDoes}
 use Rattle.mq_spec_node.specs.Words.{SenderEnd, deed_of, item_of, sender_deed_by, with_end}
 use Rattle.mq_spec_node.specs.Node.ChannelEnd.{Sends}
 use Rattle.mq_wires.specs.Wires.{HasPushed, IsFull, OfferTold, OffersNone}

@@ -10,7 +10,7 @@ use Rattle.mq_sync.specs.declared.unit.Settle.{Settle}
 use Rattle.mq_sender.specs.declared.state.Sender.{Sender}
 use Rattle.mq_sender.specs.declared.turns.SenderDoes.{SenderDoes}
 use Rattle.mq_sender.specs.declared.turns.SenderDoes.TheVariants as does
-use Rattle.mq_sender.specs.Table.{err_reason, is_ack, is_binding, is_err, is_hailing, is_idle, is_ready, is_sending, is_starting, is_status, is_waiting, messages_sent, sender_lines, sender_next, settled_by, status_last, status_unit}
+use Rattle.mq_sender.specs.Table.{err_reason, is_ack, is_binding, is_err, is_hailing, is_idle, is_ready, is_sending, is_starting, is_status, is_waiting, messages_sent, sender_next, settled_by, status_last, status_unit}
 use Rattle.mq_turns.specs.Sends.{Answers, IsOwn, Works, is_ignore}
 
 -- the lines of what waits, and the others

@@ -1,6 +1,6 @@
 -- The entry of a turn or of a timeout: the history with it replays, and leads to the node behind it.
-use Rattle.std.proofs.Common.{◌≡◌, ℕ, refl, sym, ap, subst, ◌∙◌, List, []}
-use Rattle.std.specs.Prelude.{Option, Some, None}
+use Rattle.std.proofs.Common.{◌≡◌, ℕ, refl, sym, ap, subst, ◌∙◌, List}
+use Rattle.std.specs.Prelude.{Option}
 use Rattle.mq_calls.specs.declared.choices.Choice.{Choice}
 use Rattle.mq_calls.specs.declared.choices.Choice.TheVariants.{Runs, NoMemory, Stopped}
 use Rattle.mq_history.specs.declared.calls.Actor.TheVariants as actors
@@ -8,13 +8,13 @@ use Rattle.mq_history.specs.declared.calls.Call.TheVariants as calls
 use Rattle.mq_history.specs.declared.calls.Chance.TheVariants as chances
 use Rattle.mq_history.specs.declared.calls.Reply.TheVariants as replies
 use Rattle.mq_spec_node.specs.Terms.{Message, Did, Actor, Call, Entry, Plain, Possible}
-use Rattle.mq_spec_node.specs.Words.{Node, Own, Deed, Done, done, done_or, deed_of, done_by, event, remembering, remembered, IsDeed, CanCome, Tells, node_of}
+use Rattle.mq_spec_node.specs.Words.{Node, Own, Deed, Done, done, done_or, done_by, remembering, IsDeed, CanCome, Tells, node_of}
 use Rattle.mq_core.specs.Values.{CoreValue}
-use Rattle.mq_events.specs.States.{NodeState, node_in, value_of, IsKept, IsServed, with_entry}
+use Rattle.mq_events.specs.States.{NodeState, node_in, IsKept, IsServed, with_entry}
 use Rattle.mq_events.specs.Events.{Adds}
 use Rattle.mq_events.proofs.EntryLaws.{entry_kept}
 use Rattle.mq_turns.specs.declared.telling.Passed.{Passed}
-use Rattle.mq_turns.specs.Turns.{Made, delta_by, plain_by, IsMade, own_by, pushed_by, reply_for, turn_entry}
+use Rattle.mq_turns.specs.Turns.{delta_by, plain_by, IsMade, own_by, pushed_by, reply_for, turn_entry}
 use Rattle.mq_turns.specs.Told.{ActsHere, Closed, IsBefore, IsTold}
 
 pub sender_turns : (cable : ℕ) → ActsHere (actors.Sender cable) calls.Turn

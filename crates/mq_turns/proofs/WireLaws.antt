@@ -1,5 +1,5 @@
 -- What a turn comes to over a wire, seen from before its first look.
-use Rattle.std.proofs.Common.{◌≡◌, ℕ, refl, sym, ap, subst, ◌∙◌, List, []}
+use Rattle.std.proofs.Common.{◌≡◌, ℕ, List, []}
 use Rattle.std.specs.Prelude.{Option, Some, None, Result, Ok, Err}
 use Rattle.mq_base.specs.declared.want.NoMemory.{NoMemory as Want}
 use Rattle.mq_cable.specs.declared.item.Item.{Item}
@@ -8,12 +8,12 @@ use Rattle.mq_frame.specs.declared.frame.Seen.{Seen}
 use Rattle.mq_frame.specs.declared.frame.Seen.TheVariants as items
 use Rattle.mq_spec_node.specs.Terms.{Actor, Frame}
 use Rattle.mq_spec_node.specs.Words.{Deed}
-use Rattle.mq_wires.specs.Wires.{HasOffered, HasPushed, IsFull, OffersNone, Sees}
+use Rattle.mq_wires.specs.Wires.{OffersNone, Sees}
 use Rattle.mq_events.specs.States.{NodeState}
 use Rattle.mq_turns.specs.declared.telling.Turn.{Turn}
 use Rattle.mq_turns.specs.declared.telling.Turn.TheVariants as turns
 use Rattle.mq_history.specs.declared.calls.Actor.TheVariants as actors
-use Rattle.mq_turns.specs.Wired.{Idles, IsStill, Offered, Popped, PopsItem, Refuses, TurnIs, Untaken}
+use Rattle.mq_turns.specs.Wired.{Idles, IsStill, Offered, Popped, Refuses, TurnIs, Untaken}
 use Rattle.mq_turns.specs.Acting.{SendsTurn}
 
 -- what is seen, whatever is known where nothing is
@@ -38,16 +38,19 @@ module _ (reads writes rs ws : List Item → Type 0) (none full no fu : Type 0) 
 
   wide_offered : (o n : Offering) (g : Option Frame) (extras : ℕ) → Offered writes full o g extras n → Offered ws fu o g extras n
   wide_offered o n None extras x = wide_none o n x
-  wide_offered o n (Some g) extras x = (record {
-    offered = record {
-      pushed = λ offered h. w _ (x.0.offered.pushed offered h);
-      taken = x.0.offered.taken;
-      most = x.0.offered.most;
-      fewer = λ offered h l. f (x.0.offered.fewer offered h l);
-      faults = x.0.offered.faults;
-    };
-    shows = x.0.shows;
-  }, x.1)
+  wide_offered o n (Some g) extras x = (
+    record {
+      offered = record {
+        pushed = λ offered h. w _ (x.0.offered.pushed offered h);
+        taken = x.0.offered.taken;
+        most = x.0.offered.most;
+        fewer = λ offered h l. f (x.0.offered.fewer offered h l);
+        faults = x.0.offered.faults;
+      };
+      shows = x.0.shows;
+    },
+    x.1,
+  )
 
   wide_still : (o : Offering) (d : Option Deed) → reads [] → IsStill none full o d → IsStill no fu o d
   wide_still o d read (Idles n e) = Idles (k read n) e

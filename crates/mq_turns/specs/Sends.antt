@@ -1,5 +1,5 @@
 -- What each line of the sender's table does at the manager.
-use Rattle.std.specs.Prelude.{◌≡◌, ℕ, Bool, true, false, List, [], ◌++◌, Some}
+use Rattle.std.specs.Prelude.{Bool, true, false, List, [], ◌++◌, Some}
 use Rattle.mq_calls.specs.declared.agents.Note.TheVariants as notes
 use Rattle.mq_sender.specs.declared.turns.SenderDoes.TheVariants as does
 use Rattle.mq_sync.specs.declared.data.Stock.{Stock}

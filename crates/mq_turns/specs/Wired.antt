@@ -1,5 +1,5 @@
 -- What a turn over a wire comes to: an event, with what it popped and what it offered; or nothing, and why.
-use Rattle.std.specs.Prelude.{◌≡◌, ◌+◌, ℕ, max, false, List, [], ◌∷◌, Option, Some, None, Result, Ok, Err}
+use Rattle.std.specs.Prelude.{◌≡◌, ◌+◌, ℕ, max, List, [], ◌∷◌, Option, Some, None, Result, Ok, Err}
 use Rattle.mq_base.specs.declared.want.NoMemory.{NoMemory as Want}
 use Rattle.mq_cable.specs.declared.item.Item.{Item}
 use Rattle.mq_cable.specs.Offers.{Offering}

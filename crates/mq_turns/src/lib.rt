@@ -12,7 +12,9 @@ mod timing;
 mod working;
 
 pub use answering::answering_turn;
-pub use parting::{expired, hardened, has_run, leave_if, leave_in, nothing_done, ran, released, stopped};
+pub use parting::{
+    expired, hardened, has_run, leave_if, leave_in, nothing_done, ran, released, stopped,
+};
 pub use passing::{has_spelling, next_stamp, pass};
 pub use pushing::{bind_turn, end_turn, message_turn};
 pub use settling::settling_turn;

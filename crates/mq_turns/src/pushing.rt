@@ -218,7 +218,14 @@ pub fn message_turn<D: Disk, W: Wire>(
     ensures { SendsTurn end.cable (λ xs. W.reads wire.old xs wire.new) (λ xs. W.writes wire.old xs wire.new) (Unit {0}) (W.was_full wire.old wire.new) offers.old offers.new parts.old result parts.new }
 {
     let stamp = parts.stamp + 1;
-    match batch_frame(parts.alloc, &parts.manager, &end, stamp, end.machine.begun, index) {
+    match batch_frame(
+        parts.alloc,
+        &parts.manager,
+        &end,
+        stamp,
+        end.machine.begun,
+        index,
+    ) {
         Err(NoMemory) => Err(NoMemory),
         Ok(frame) => spelling_turn(parts, offers, wire, end, SenderDoes::PushMsg(index), frame),
     }

@@ -18,6 +18,6 @@ returns-in-Ok-None g c = refused_as c.args.parts.now c.args.end c.args.does c.ar
 pub returns-in-Ok-Some : goal.returns-in-Ok-Some
 returns-in-Ok-Some g c =
     let Z : SenderEnd → Type 0 = λ x. Closes (actors.Sender x.cable) calls.Turn c.nothing_done-told.result.choice c.nothing_done-told.result.delta (with_end (Sends c.end_after-after.result) c.args.parts.now.own)
-        (record { stamp = c.args.frame.stamp; pushed = Some c.args.frame; extras = c.in-Ok-Some.extras; popped = items.Nothing }) c.new-received.result c.args.parts.now c.close_turn.new.parts in
+    (record { stamp = c.args.frame.stamp; pushed = Some c.args.frame; extras = c.in-Ok-Some.extras; popped = items.Nothing }) c.new-received.result c.args.parts.now c.close_turn.new.parts in
     pushed_as c.args.parts.now c.close_turn.new.parts c.args.end c.end_after-after.result c.nothing_done-told.result.choice c.nothing_done-told.result.delta c.args.does c.args.frame c.in-Ok-Some.extras c.new-received.result _ _ _ _ _ _ c.in-Ok-Some.field-0-is c.in-Ok-Some.ensures.told
     c.end_after-after.ensures c.new-received.ensures c.requires.acts c.requires.next c.requires.deed c.requires.stamp c.nothing_done-told.ensures.choice c.nothing_done-told.ensures.delta (subst Z c.end.view_is c.close_turn.ensures) c.offer.ensures.read.0 c.requires.spells

@@ -17,7 +17,7 @@ returns-in-Err g c = λ o.
 pub returns-in-Ok : goal.returns-in-Ok
 returns-in-Ok g c = λ o.
     let Z : SenderEnd → Type 0 = λ x. Closes (actors.Sender x.cable) calls.Turn c.in-Ok.told.choice c.in-Ok.told.delta (with_end (Sends c.end_after-after.result) c.work_in.new.parts.own)
-        (record { stamp = c.next_stamp-stamp.result; pushed = None; extras = 0; popped = c.args.sight.seen }) c.new-received.result c.work_in.new.parts c.close_turn.new.parts in
+    (record { stamp = c.next_stamp-stamp.result; pushed = None; extras = 0; popped = c.args.sight.seen }) c.new-received.result c.work_in.new.parts c.close_turn.new.parts in
     settled_so c.args.parts.now c.work_in.new.parts c.close_turn.new.parts c.args.end c.end_after-after.result c.args.does c.args.sight.seen _ c.args.sight.stamp c.is_running-running.result c.next_stamp-stamp.result c.new-received.result c.in-Ok.told.choice c.in-Ok.told.delta _ _ o
     c.end_after-after.ensures (c.is_running-running.ensures ∙ ap (λ (x : SenderEnd). is_running x.machine.state) c.after.view_is) (c.next_stamp-stamp.ensures ∙ ap (λ (x : NodeState). max x.stamp c.args.sight.stamp + 1) c.parts.view_is) c.new-received.ensures c.requires.acts c.requires.next c.requires.works c.requires.sees
     c.in-Ok.ensures.told c.work_in.ensures.same (subst Z c.end.view_is c.close_turn.ensures) (c.pass.ensures.read c.args.parts.now.stamp) c.pass.ensures.written
