@@ -8,7 +8,7 @@ use mq_events::NodeParts;
 use mq_own::{ChannelEnd, EndKind, ReceiverEnd};
 
 /// An end that was lifted stands in its place again. It takes no memory.
-pub(crate) fn put_back<D: Disk>(parts: &mut NodeParts<D>, end: ReceiverEnd)
+pub fn put_back<D: Disk>(parts: &mut NodeParts<D>, end: ReceiverEnd)
     ensures { parts.new ≡ whole end parts.old }
 {
     let kind = EndKind::Receives(end);

@@ -23,9 +23,14 @@ fn pay(end: &mut ReceiverEnd)
         .done(&ReceiverDoes::PushOwed, &Seen::Nothing, &ReceiverOut::Done);
 }
 
-/// The turn that offers the frame which is owed. Still where the cable refuses it; nothing has changed then.
+/// The turn of a receiver's end that was lifted out of its place, in room that is there: the frame which it owes is offered, whatever
+/// waits. Still where the cable refuses it; nothing has changed then. The end stands in its place behind it.
+///
+/// # Errors
+///
+/// No memory; nothing has changed, and the end stands in its place.
 #[tactic(auto, using(crate::proofs::TakeLaws::take_low))]
-pub(crate) fn owed_turn<D: Disk, W: Wire>(
+pub fn owed_turn<D: Disk, W: Wire>(
     parts: &mut NodeParts<D>,
     offers: &mut Offers,
     wire: &mut W,
