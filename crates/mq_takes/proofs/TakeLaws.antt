@@ -11,21 +11,18 @@ use Rattle.mq_frame.specs.Frames.{HasSpelling}
 use Rattle.mq_frame.specs.declared.frame.Seen.TheVariants as items
 use Rattle.mq_history.specs.declared.calls.Actor.TheVariants as actors
 use Rattle.mq_history.specs.declared.calls.Call.TheVariants as calls
-use Rattle.mq_history.specs.declared.calls.Reply.TheVariants as replies
 use Rattle.mq_receiver.specs.Table.{receiver_next}
 use Rattle.mq_receiver.specs.declared.state.Owed.{Owed}
 use Rattle.mq_receiver.specs.declared.state.Owed.TheVariants as owings
 use Rattle.mq_receiver.specs.declared.state.Receiver.{Receiver}
 use Rattle.mq_receiver.specs.declared.turns.ReceiverDoes.TheVariants as does
 use Rattle.mq_spec_state.specs.Reads.{is_up}
-use Rattle.mq_spec_node.specs.Terms.{Did, Frame, Message, Part, Plain, ReceiverDoes, Seen, owed_frame}
+use Rattle.mq_spec_node.specs.Terms.{Did, Frame, Message, Part, ReceiverDoes, Seen, owed_frame}
 use Rattle.mq_spec_node.specs.Words.{ChannelEnd, Deed, IsPop, IsStamp, Node, Own, ReceiverEnd, as_receiver, deed_of, end_in, forgotten_rows, is_receiver_defined, receiver_deed_by, receiver_end, receiver_turn, turned, with_end}
 use Rattle.mq_spec_node.specs.Node.ChannelEnd.{Receives, Sends}
 use Rattle.mq_wires.specs.Wires.{HasPushed, OfferTold, OffersNone, Sees}
 use Rattle.mq_cabled.proofs.EndLaws.{set_same, set_twice}
-use Rattle.mq_core.specs.Values.{CoreValue}
-use Rattle.mq_events.specs.States.{IsKept, NodeState, node_in}
-use Rattle.mq_events.specs.Events.{Stays}
+use Rattle.mq_events.specs.States.{NodeState, node_in}
 use Rattle.mq_turns.specs.declared.telling.Passed.{Passed}
 use Rattle.mq_turns.specs.declared.telling.Turn.TheVariants as turns
 use Rattle.mq_turns.specs.Turns.{Made, own_by, pushed_by, turn_entry}
@@ -197,8 +194,10 @@ refused_so p t e owed f reads writes full o n may h is at read told =
     subst T (sym at) (record {
       kept = may.kept;
       few = refl;
-      turn = (record { stays = record { same = refl; marks = refl; faults = le_self p.manager.faults }; read = read; offers = told.0 },
-        Refuses (turned [] (Some f) (with_end (Receives (paid e)) (whole e p).own)) f tt (owed_deed (p.stamp + 1) e owed f items.Nothing (whole e p) may h is) refl told.1);
+      turn = (
+        record { stays = record { same = refl; marks = refl; faults = le_self p.manager.faults }; read = read; offers = told.0 },
+        Refuses (turned [] (Some f) (with_end (Receives (paid e)) (whole e p).own)) f tt (owed_deed (p.stamp + 1) e owed f items.Nothing (whole e p) may h is) refl told.1,
+      );
     })
   where
     le_self : (n : ℕ) → n ≤ n

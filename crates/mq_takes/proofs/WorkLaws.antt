@@ -1,5 +1,5 @@
 -- A receiver's turns that work at its manager.
-use Rattle.std.proofs.Common.{◌≡◌, ℕ, ◌+◌, ◌<◌, ◌≤◌, ◌^◌, max, refl, sym, ap, subst, ◌∙◌, List, [], ◌∷◌, ◌++◌, true, false, arith}
+use Rattle.std.proofs.Common.{◌≡◌, ℕ, ◌+◌, max, refl, sym, ap, subst, ◌∙◌, List, [], ◌++◌, true, false}
 use Rattle.std.specs.Prelude.{Bool, Option, Some, None, Ok, Err}
 use Rattle.mq_base.specs.declared.want.NoMemory.{NoMemory as Want}
 use Rattle.mq_cable.specs.declared.item.Item.{Item}
@@ -16,13 +16,12 @@ use Rattle.mq_receiver.specs.declared.turns.ReceiverOut.TheVariants as outs
 use Rattle.mq_spec_state.specs.Words.{MeetsOrWants, set_named}
 use Rattle.mq_spec_state.specs.Meeting.Wants.{Anywhere}
 use Rattle.mq_spec_agents.specs.Words.{IsUp, harden, set_bound}
-use Rattle.mq_spec_node.specs.Terms.{Did, Message, Part, Plain, ReceiverDoes, Seen, do_all}
+use Rattle.mq_spec_node.specs.Terms.{Did, Message, Part, Plain, Seen}
 use Rattle.mq_spec_node.specs.Words.{Own, ReceiverEnd, bind_parts, close_parts, deed_of, is_receiver_defined, parts_of, turned, with_end}
 use Rattle.mq_spec_node.specs.Node.ChannelEnd.{Receives}
 use Rattle.mq_wires.specs.Wires.{Sees}
 use Rattle.mq_core.specs.Values.{CoreValue, manager_of}
 use Rattle.mq_events.specs.States.{IsKept, NodeState, node_in, value_of}
-use Rattle.mq_events.specs.Events.{Stays}
 use Rattle.mq_turns.specs.declared.telling.Turn.TheVariants as turns
 use Rattle.mq_turns.specs.Turns.{IsAsWas, IsBehind, Made, has_run, own_by}
 use Rattle.mq_turns.specs.Told.{Closes}

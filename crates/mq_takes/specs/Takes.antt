@@ -1,5 +1,5 @@
 -- A receiver's turn: what is known before it, and what it comes to.
-use Rattle.std.specs.Prelude.{◌≡◌, ◌+◌, ℕ, Bool, List, [], Option, Some, None, Result}
+use Rattle.std.specs.Prelude.{◌≡◌, ◌+◌, ℕ, Bool, List, [], Some, None, Result}
 use Rattle.mq_base.specs.declared.want.NoMemory.{NoMemory as Want}
 use Rattle.mq_cable.specs.declared.item.Item.{Item}
 use Rattle.mq_cable.specs.Offers.{Offering}
@@ -12,7 +12,7 @@ use Rattle.mq_receiver.specs.After.{done_after, receiver_after}
 use Rattle.mq_receiver.specs.declared.turns.ReceiverDoes.TheVariants as does
 use Rattle.mq_spec_agents.specs.Words.{IsUp, set_bound}
 use Rattle.mq_spec_node.specs.Terms.{Did, Message, Part, Plain, ReceiverDoes, ReceiverOut, Seen}
-use Rattle.mq_spec_node.specs.Words.{Deed, Own, ReceiverEnd, deed_of, kept_seen, parts_of, receiver_end, turned, with_end}
+use Rattle.mq_spec_node.specs.Words.{ReceiverEnd, deed_of, kept_seen, parts_of, receiver_end, turned, with_end}
 use Rattle.mq_spec_node.specs.Node.ChannelEnd.{Receives}
 use Rattle.mq_events.specs.States.{IsKept, IsServed, NodeState, node_in}
 use Rattle.mq_events.specs.Events.{MayAct}

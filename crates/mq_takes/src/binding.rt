@@ -51,10 +51,7 @@ fn with_channel(
     }
 }
 
-fn list_at<D: Disk>(
-    manager: &Manager<D>,
-    channel: &ChName,
-) -> Result<Items<ChName>, NoMemory>
+fn list_at<D: Disk>(manager: &Manager<D>, channel: &ChName) -> Result<Items<ChName>, NoMemory>
     ensures { IfOk result (λ xs. xs ≡ set_named (λ (name : List ℕ). name) channel.now manager.now.plain.channels.bound) }
 {
     let parts = &manager.core.parts;
@@ -88,12 +85,7 @@ fn bind<D: Disk>(manager: &mut Manager<D>, channel: &ChName, bound: Items<ChName
 
 /// So where all before was done.
 #[tactic(auto, using(crate::proofs::WorkLaws::bound_done, crate::proofs::WorkLaws::bound_undone, crate::proofs::WorkLaws::up_ran, crate::proofs::WorkLaws::list_ran))]
-fn bind_if<D: Disk>(
-    manager: &mut Manager<D>,
-    channel: &ChName,
-    told: &Told,
-    bound: Items<ChName>,
-)
+fn bind_if<D: Disk>(manager: &mut Manager<D>, channel: &ChName, told: &Told, bound: Items<ChName>)
     requires up { told.now.choice ≡ choices.Runs → IsUp manager.old.plain }
     requires bound { told.now.choice ≡ choices.Runs → bound ≡ set_named (λ (name : List ℕ). name) channel.now manager.old.plain.channels.bound }
     ensures { IsBehind (bound_if told.now.choice channel.now true manager.old.plain) manager.old manager.new }

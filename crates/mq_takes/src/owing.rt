@@ -19,8 +19,7 @@ use mq_wires::offer;
 fn pay(end: &mut ReceiverEnd)
     ensures { end.new ≡ paid end.old }
 {
-    end.machine
-        .done(&ReceiverDoes::PushOwed, &Seen::Nothing, &ReceiverOut::Done);
+    end.machine.done(&ReceiverDoes::PushOwed, &Seen::Nothing, &ReceiverOut::Done);
 }
 
 /// The turn of a receiver's end that was lifted out of its place, in room that is there: the frame which it owes is offered, whatever

@@ -144,12 +144,7 @@ fn step(
 }
 
 /// The item that was seen is taken, and this end stands in its place. It takes no memory.
-fn leave<D: Disk, W: Wire>(
-    parts: &mut NodeParts<D>,
-    wire: &mut W,
-    last: ReceiverEnd,
-    sight: Sight,
-)
+fn leave<D: Disk, W: Wire>(parts: &mut NodeParts<D>, wire: &mut W, last: ReceiverEnd, sight: Sight)
     requires room { 0 < parts.old.room }
     requires stamp { parts.old.stamp < 2 ^ 60 }
     requires sees { Sees (W.front_of wire.old) (Unit {0}) sight.seen sight.stamp }

@@ -1,4 +1,4 @@
-use Rattle.std.proofs.Common.{◌≡◌, ◌+◌, ℕ, refl, ap, subst, ◌∙◌}
+use Rattle.std.proofs.Common.{◌+◌, ℕ, refl, ap, subst, ◌∙◌}
 use Rattle.std.specs.Prelude.{Option, Ok}
 use Rattle.mq_events.specs.States.{NodeState}
 use Rattle.mq_spec_node.specs.Terms.{owed_frame}
