@@ -1,7 +1,7 @@
 -- The messages that a commit places are those whose idents stand nowhere else, and are of no earlier one of the batch.
-use Rattle.std.proofs.Common.{◌≡◌, ℕ, refl, sym, ap, subst, ◌∙◌, List, [], ◌∷◌, ◌++◌, true, false}
+use Rattle.std.proofs.Common.{◌≡◌, ℕ, ◌+◌, ◌<◌, length, get_or, drop, refl, sym, ap, subst, ◌∙◌, List, [], ◌∷◌, ◌++◌, true, false}
 use Rattle.std.specs.Prelude.{Bool, ◌||◌, Option, Some, None, Result, Ok, Err, if◌then◌else◌}
-use Rattle.std.specs.List.{list_any}
+use Rattle.std.proofs.lemmas.List.{append_assoc}
 use Rattle.mq_spec_state.specs.Words.{Ident, Message, Plain, Reason, apply_all, same_ident}
 use Rattle.mq_spec_agents.specs.Words.{Absent, InDoubtAt, Landed, Landing, Present, Standing, before, is_present, land, land_changes, landed, landed_by, landed_unless, messages_taken, standing_at, taken_of}
 use Rattle.mq_law_manager.specs.Facts.{AreNamed, Sound}
@@ -10,7 +10,7 @@ use Rattle.mq_core.specs.Writes.{arrival_changes, landing_of, standing_of}
 use Rattle.mq_receive.specs.Planned.{IsPlan}
 use Rattle.mq_receive.specs.Standings.{behind_all, has_landed, standing_among}
 use Rattle.mq_receive.proofs.LeadLaws.{state_more}
-use Rattle.mq_receive.proofs.PlanLaws.{plan_first, plan_more, plan_over}
+use Rattle.mq_receive.proofs.PlanLaws.{plan_first, plan_left, plan_more, plan_over}
 use Rattle.mq_law_manager.proofs.Receiving.{IsLanding, land_is}
 use Rattle.mq_takes.specs.Taken.{has_ident_of, is_among, is_out, taken_behind}
 
@@ -113,3 +113,18 @@ taken_is whole channel as done (m ∷ ms) p l plan agree e = at (is_present (sta
 -- so of a whole batch that lands
 pub taken_whole : (channel : List ℕ) (batch : List Message) (p : Plain) (l : Landed) → Sound p → AreNamed p.queues → landed channel batch p ≡ Ok l → messages_taken channel batch p ≡ taken_behind [] batch p
 taken_whole channel batch p l sound named e = ap taken_of e ∙ taken_is (landed channel batch p) channel [] [] batch p l (plan_first channel batch p sound named) (λ i. refl) e
+
+-- A loop that takes them.
+abbrev next_taken : List Message → Message → Plain → List Message
+next_taken done m p = if is_out done m p then done else done ++ m ∷ []
+
+more_behind : (b : Bool) (done rest : List Message) (m : Message) (p : Plain)
+    → (if b then done else done ++ m ∷ []) ++ taken_behind (if b then done else done ++ m ∷ []) rest p ≡ done ++ (if b then taken_behind done rest p else m ∷ taken_behind (done ++ m ∷ []) rest p)
+more_behind true done rest m p = refl
+more_behind false done rest m p = append_assoc done (m ∷ []) (taken_behind (done ++ m ∷ []) rest p)
+
+pub taken_step : (done now batch : List Message) (i : ℕ) (m : Message) (p : Plain) → i < length batch → m ≡ get_or batch i m → now ≡ next_taken done m p → now ++ taken_behind now (drop (i + 1) batch) p ≡ done ++ taken_behind done (drop i batch) p
+taken_step done now batch i m p lt is e =
+    ap (λ (xs : List Message). xs ++ taken_behind xs (drop (i + 1) batch) p) e
+    ∙ more_behind (is_out done m p) done (drop (i + 1) batch) m p
+    ∙ ap (λ (ms : List Message). done ++ taken_behind done ms p) (sym (plan_left batch i m lt is))
