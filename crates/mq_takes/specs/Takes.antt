@@ -45,6 +45,15 @@ IsQuietLine does.Keep = Unit {0}
 IsQuietLine does.Again = Unit {0}
 IsQuietLine _ = ⊥
 
+-- lines that take the item, but for a unit's commit
+abbrev pub IsItemLine : ReceiverDoes → Type 0
+IsItemLine does.Ignore = Unit {0}
+IsItemLine does.Bind = Unit {0}
+IsItemLine does.Keep = Unit {0}
+IsItemLine does.Again = Unit {0}
+IsItemLine does.Close = Unit {0}
+IsItemLine _ = ⊥
+
 -- the end after a quiet line
 abbrev pub kept_after : ReceiverDoes → Seen → List Message → List Message
 kept_after does.Keep seen kept = kept_seen seen kept

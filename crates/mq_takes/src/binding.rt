@@ -178,14 +178,8 @@ fn bind_at<D: Disk>(
     bind_session(&mut parts.manager, end, last)
 }
 
-/// The turn of a receiver's end that was lifted out of its place, in room that is there, in which BIND is taken and binds its session. The
-/// end stands in its place behind it.
-///
-/// # Errors
-///
-/// No memory; nothing has changed, and the end stands in its place. So it is too where the manager has hardened another session than
-/// the end knows of, which never comes.
-pub fn binding_turn<D: Disk, W: Wire>(
+/// The turn in which BIND binds its session.
+pub(crate) fn binding_turn<D: Disk, W: Wire>(
     parts: &mut NodeParts<D>,
     wire: &mut W,
     end: ReceiverEnd,

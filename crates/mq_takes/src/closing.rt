@@ -127,14 +127,8 @@ pub(crate) fn end_emptied(
     }
 }
 
-/// The turn of a receiver's end that was lifted out of its place, in room that is there, in which a spoiled frame is taken and closes the
-/// session. The end stands in its place behind it.
-///
-/// # Errors
-///
-/// No memory; nothing has changed, and the end stands in its place. So it is too where the manager has hardened another session than
-/// the end knows of, which never comes.
-pub fn closing_turn<D: Disk, W: Wire>(
+/// The turn in which a spoiled frame closes the session.
+pub(crate) fn closing_turn<D: Disk, W: Wire>(
     parts: &mut NodeParts<D>,
     wire: &mut W,
     end: ReceiverEnd,

@@ -5,12 +5,11 @@ mod asking;
 mod binding;
 mod closing;
 mod lifting;
+mod lines;
 mod owing;
 mod quiet;
 mod working;
 
-pub use binding::binding_turn;
-pub use closing::closing_turn;
 pub use lifting::put_back;
+pub use lines::{item_turn, next_line};
 pub use owing::owed_turn;
-pub use quiet::quiet_turn;

@@ -174,14 +174,8 @@ fn leave<D: Disk, W: Wire>(parts: &mut NodeParts<D>, wire: &mut W, last: Receive
     );
 }
 
-/// The turn of a receiver's end that was lifted out of its place, in room that is there, by a line that takes the item and changes no more
-/// than the end: a message is kept, END of the last unit is acknowledged again, or the item is ignored. The end stands in its place
-/// behind it.
-///
-/// # Errors
-///
-/// No memory; nothing has changed, and the end stands in its place.
-pub fn quiet_turn<D: Disk, W: Wire>(
+/// The turn of a line that changes no more than the end.
+pub(crate) fn quiet_turn<D: Disk, W: Wire>(
     parts: &mut NodeParts<D>,
     wire: &mut W,
     end: ReceiverEnd,
