@@ -19,7 +19,7 @@ use Rattle.mq_spec_state.specs.Words.{is_full, need, tested, when}
 use Rattle.mq_spec_agents.specs.Words.{Landed, landed, messages_taken, receive, receive_landed, received_part, received_record}
 use Rattle.mq_law_manager.specs.Facts.{IsSound}
 use Rattle.mq_spec_node.specs.Terms.{Did, Message, Part, Plain, Reason, Refuse, Do, Seen, Step, number}
-use Rattle.mq_spec_node.specs.Words.{Deed, Node, ReceiverEnd, close_parts, deed_of, is_receiver_defined, parts_of, place_deed, turned, with_end}
+use Rattle.mq_spec_node.specs.Words.{Node, ReceiverEnd, close_parts, deed_of, is_receiver_defined, parts_of, place_deed, turned, with_end}
 use Rattle.mq_spec_node.specs.Node.ChannelEnd.{Receives}
 use Rattle.mq_core.specs.Values.{CoreValue, manager_of}
 use Rattle.mq_events.proofs.NumberLaws.{StepIsShort}
@@ -32,7 +32,7 @@ use Rattle.mq_spec_agents.specs.Words.{IsUp}
 use Rattle.mq_takes.specs.Placing.{ReceivedAs}
 use Rattle.mq_takes.specs.Takes.{MayTake, Works, emptied, whole}
 use Rattle.mq_takes.specs.Taken.{IsDone, TakesAll, taken_behind}
-use Rattle.mq_takes.specs.declared.receiving.Received.TheVariants as came
+use Rattle.mq_takes.specs.declared.receiving.BatchTold.TheVariants as came
 use Rattle.mq_takes.proofs.TakeLaws.{turn_is}
 use Rattle.mq_takes.proofs.TakenLaws.{taken_whole}
 use Rattle.mq_takes.proofs.WorkLaws.{works_so}

@@ -6,13 +6,13 @@ use Rattle.mq_spec_state.specs.Words.{Ident, Message, Plain, Reason, apply_all, 
 use Rattle.mq_spec_agents.specs.Words.{Absent, InDoubtAt, Landed, Landing, Present, Standing, before, is_present, land, land_changes, landed, landed_by, landed_unless, messages_taken, standing_at, taken_of}
 use Rattle.mq_law_manager.specs.Facts.{AreNamed, Sound}
 use Rattle.mq_core.specs.declared.parts.Arrival.{Arrival}
-use Rattle.mq_core.specs.Writes.{arrival_changes, landing_of, standing_of}
+use Rattle.mq_core.specs.Writes.{arrival_changes, standing_of}
 use Rattle.mq_receive.specs.Planned.{IsPlan}
 use Rattle.mq_receive.specs.Standings.{behind_all, has_landed, standing_among}
 use Rattle.mq_receive.proofs.LeadLaws.{state_more}
 use Rattle.mq_receive.proofs.PlanLaws.{plan_first, plan_left, plan_more, plan_over}
 use Rattle.mq_law_manager.proofs.Receiving.{IsLanding, land_is}
-use Rattle.mq_takes.specs.Taken.{has_ident_of, is_among, is_out, taken_behind}
+use Rattle.mq_takes.specs.Taken.{is_among, is_out, taken_behind}
 
 -- a standing that isn't present is that of an arrival
 dropped_of : Standing → Option (List ℕ)

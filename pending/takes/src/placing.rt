@@ -14,7 +14,7 @@ ghost use Rattle.mq_takes.specs.Taken.{TakesAll};
 
 use crate::closing::end_emptied;
 use crate::lifting::put_back;
-use crate::receiving::{Commit, commit_in};
+use crate::receiving::{CommitTold, commit_in};
 use crate::taking::taken;
 use crate::working::work_done;
 use mq_base::NoMemory;
@@ -80,14 +80,14 @@ fn commit_turn<D: Disk, W: Wire>(
             put_back(parts, end);
             Err(NoMemory)
         }
-        Ok(Commit::Placed(told)) => {
+        Ok(CommitTold::Placed(told)) => {
             let does = ReceiverDoes::Place(unit);
             let last = end_emptied(parts.alloc, &end, &does, &sight.seen, &ReceiverOut::Done);
             put_back(parts, end);
             work_done(parts, wire, last, told, received, sight);
             Ok(Turn::Changed)
         }
-        Ok(Commit::Refused(reason, told)) => {
+        Ok(CommitTold::Refused(reason, told)) => {
             let does = ReceiverDoes::Place(unit);
             let out = ReceiverOut::Refused(reason.number());
             let last = end_emptied(parts.alloc, &end, &does, &sight.seen, &out);

@@ -25,7 +25,7 @@ use mq_turns::{ran, stopped};
 
 /// What a unit's commit came to.
 #[derive(Drop)]
-pub(crate) enum Received {
+pub(crate) enum BatchTold {
     /// Done, or its write was stopped.
     Told(Told),
     /// Refused, for this reason; nothing has changed.
@@ -34,7 +34,7 @@ pub(crate) enum Received {
 
 /// What a unit's turn came to at its manager.
 #[derive(Drop)]
-pub(crate) enum Commit {
+pub(crate) enum CommitTold {
     /// The messages were placed, or the write was stopped.
     Placed(Told),
     /// They were refused, for this reason, and the session closed, or that write was stopped.
@@ -78,18 +78,18 @@ fn received<D: Disk>(
     unit: &Unit,
     last: u32,
     batch: &[Message],
-) -> Result<Received, NoMemory>
+) -> Result<BatchTold, NoMemory>
     requires up { IsUp manager.old.plain }
     requires low { MayCount manager.old.plain }
     requires can { CanReceive channel.now unit.now manager.old.plain }
     ensures { ReceivedAs (receive channel.now unit.now last batch.now manager.old.plain) result manager.old manager.new }
 {
     match manager.receive(channel, unit, last, batch) {
-        Ok(()) => Ok(Received::Told(ran(manager))),
-        Err(PlaceFault::Refused(reason)) => Ok(Received::Refused(reason)),
+        Ok(()) => Ok(BatchTold::Told(ran(manager))),
+        Err(PlaceFault::Refused(reason)) => Ok(BatchTold::Refused(reason)),
         Err(PlaceFault::Stop(AgentStop::NoMemory)) => Err(NoMemory),
-        Err(PlaceFault::Stop(AgentStop::Disk)) => Ok(Received::Told(stopped(manager, Stop::Disk))),
-        Err(PlaceFault::Stop(AgentStop::Cut)) => Ok(Received::Told(stopped(manager, Stop::Cut))),
+        Err(PlaceFault::Stop(AgentStop::Disk)) => Ok(BatchTold::Told(stopped(manager, Stop::Disk))),
+        Err(PlaceFault::Stop(AgentStop::Cut)) => Ok(BatchTold::Told(stopped(manager, Stop::Cut))),
     }
 }
 
@@ -101,7 +101,7 @@ fn received_if<D: Disk>(
     unit: &Unit,
     last: u32,
     batch: &[Message],
-) -> Result<Received, NoMemory>
+) -> Result<BatchTold, NoMemory>
     requires up { IsUp manager.old.plain }
     requires low { MayCount manager.old.plain }
     ensures { ReceivedAs (receive channel.now unit.now last batch.now manager.old.plain) result manager.old manager.new }
@@ -113,22 +113,23 @@ fn received_if<D: Disk>(
 }
 
 /// A unit's commit; its session is closed where it is refused.
+#[tactic(auto, using(crate::proofs::PlaceLaws::closed_from, crate::proofs::PlaceLaws::was_twice))]
 fn commit<D: Disk>(
     manager: &mut Manager<D>,
     end: &ReceiverEnd,
     unit: &Unit,
     last: u32,
-) -> Result<Commit, NoMemory>
+) -> Result<CommitTold, NoMemory>
     requires up { IsUp manager.old.plain }
     requires low { MayCount manager.old.plain }
     ensures { CommitAs end.now (receive end.now.channel unit.now last end.now.kept manager.old.plain) result manager.old manager.new }
 {
     match received_if(manager, &end.channel, unit, last, end.kept.as_slice()) {
         Err(NoMemory) => Err(NoMemory),
-        Ok(Received::Told(told)) => Ok(Commit::Placed(told)),
-        Ok(Received::Refused(reason)) => match close(manager, end) {
+        Ok(BatchTold::Told(told)) => Ok(CommitTold::Placed(told)),
+        Ok(BatchTold::Refused(reason)) => match close(manager, end) {
             Err(NoMemory) => Err(NoMemory),
-            Ok(told) => Ok(Commit::Refused(reason, told)),
+            Ok(told) => Ok(CommitTold::Refused(reason, told)),
         },
     }
 }
@@ -139,7 +140,7 @@ pub(crate) fn commit_in<D: Disk>(
     end: &ReceiverEnd,
     unit: &Unit,
     last: u32,
-) -> Result<Commit, NoMemory>
+) -> Result<CommitTold, NoMemory>
     requires up { IsUp parts.old.manager.plain }
     requires low { IsLow parts.old }
     ensures same { parts.new ≡ record parts.old { manager = parts.new.manager } }

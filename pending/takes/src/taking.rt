@@ -1,5 +1,5 @@
 //! The messages of a batch that a commit places, before it.
-ghost use Rattle.std.specs.Prelude.{◌≡◌, ◌&&◌, ◌||◌, [], ◌∷◌, ◌++◌, if◌then◌else◌, Some, None, option_copied, IfOk, OnOk, OnErr};
+ghost use Rattle.std.specs.Prelude.{◌≡◌, ◌&&◌, ◌||◌, [], ◌∷◌, ◌++◌, if◌then◌else◌, Some, None, option_copied, IfOk, OnOk};
 ghost use Rattle.std.specs.List.{list_any};
 ghost use Rattle.mq_spec_state.specs.Words.{in_doubt_of, is_persistent, same_ident};
 ghost use Rattle.mq_spec_agents.specs.Words.{IsUp, doubts, is_doubted_by, is_present, is_unborn, same_flag, standing_at, standing_by};
