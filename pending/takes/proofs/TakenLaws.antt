@@ -61,10 +61,10 @@ lands_ident : (channel : List ℕ) (m : Message) (x : Landing) (p : Plain) → l
 lands_ident channel m x p e = (subst (IsLanding m p) e (land_is channel m p)).0
 
 abbrev Agree : List Arrival → List Message → Type 0
-Agree as done = (i : Ident) → has_landed i as ≡ is_among i done
+Agree arrived done = (i : Ident) → has_landed i arrived ≡ is_among i done
 
-agree_more : (as : List Arrival) (done : List Message) (a : Arrival) (m : Message) → a.message.ident ≡ m.ident → Agree as done → Agree (as ++ a ∷ []) (done ++ m ∷ [])
-agree_more as done a m e h i = any_more i as a ∙ ap (λ (k : Ident). same_ident i k || has_landed i as) e ∙ ap (λ (b : Bool). same_ident i m.ident || b) (h i) ∙ sym (among_more i done m)
+agree_more : (arrived : List Arrival) (done : List Message) (a : Arrival) (m : Message) → a.message.ident ≡ m.ident → Agree arrived done → Agree (arrived ++ a ∷ []) (done ++ m ∷ [])
+agree_more arrived done a m e h i = any_more i arrived a ∙ ap (λ (k : Ident). same_ident i k || has_landed i arrived) e ∙ ap (λ (b : Bool). same_ident i m.ident || b) (h i) ∙ sym (among_more i done m)
 
 -- a landing that lets the rest land
 record Lets (m : Message) (o : Result Landing Reason) (s : Standing) (p : Plain) (rest : Plain → Result Landed Reason) (l : Landed) : Type 0 where
@@ -82,32 +82,32 @@ lets : (m : Message) (o : Result Landing Reason) (s : Standing) (p : Plain) (res
 lets m (Ok x) s p rest l h = lets_before m x s p rest (rest (apply_all (land_changes x s) p)) l refl h
 lets m (Err reason) s p rest l h = absurd cc
 
-taken_is : (whole : Result Landed Reason) (channel : List ℕ) (as : List Arrival) (done rest : List Message) (p : Plain) (l : Landed) → IsPlan whole channel as rest p → Agree as done → landed channel rest (behind_all as p) ≡ Ok l → l.taken ≡ taken_behind done rest p
-taken_is whole channel as done [] p l plan agree e = sym (ap taken_of e)
-taken_is whole channel as done (m ∷ ms) p l plan agree e = at (is_present (standing_at m q)) refl
+taken_is : (whole : Result Landed Reason) (channel : List ℕ) (arrived : List Arrival) (done rest : List Message) (p : Plain) (l : Landed) → IsPlan whole channel arrived rest p → Agree arrived done → landed channel rest (behind_all arrived p) ≡ Ok l → l.taken ≡ taken_behind done rest p
+taken_is whole channel arrived done [] p l plan agree e = sym (ap taken_of e)
+taken_is whole channel arrived done (m ∷ ms) p l plan agree e = at (is_present (standing_at m q)) refl
   where
     abbrev q : Plain
-    q = behind_all as p
+    q = behind_all arrived p
 
     same : is_present (standing_at m q) ≡ is_out done m p
-    same = ap is_present (plan.stands m) ∙ out_is (has_landed m.ident as) m p ∙ ap (λ (b : Bool). b || is_present (standing_at m p)) (agree m.ident)
+    same = ap is_present (plan.stands m) ∙ out_is (has_landed m.ident arrived) m p ∙ ap (λ (b : Bool). b || is_present (standing_at m p)) (agree m.ident)
 
     at : (b : Bool) → is_present (standing_at m q) ≡ b → l.taken ≡ taken_behind done (m ∷ ms) p
     at true h =
         let gone : landed channel ms q ≡ Ok l = subst (λ (b : Bool). landed_unless b channel m (standing_at m q) q (λ y. landed channel ms y) ≡ Ok l) h e in
-        let out : standing_among as m p ≡ Present = present_is (standing_among as m p) (sym (ap is_present (plan.stands m)) ∙ h) in
-        taken_is whole channel as done ms p l (plan_over whole channel as m ms p out plan) agree gone
+        let out : standing_among arrived m p ≡ Present = present_is (standing_among arrived m p) (sym (ap is_present (plan.stands m)) ∙ h) in
+        taken_is whole channel arrived done ms p l (plan_over whole channel arrived m ms p out plan) agree gone
         ∙ ap (λ (b : Bool). if b then taken_behind done ms p else m ∷ taken_behind (done ++ m ∷ []) ms p) (sym (sym same ∙ h))
     at false h =
         let on : landed_by (land channel m q) m (standing_at m q) q (λ y. landed channel ms y) ≡ Ok l = subst (λ (b : Bool). landed_unless b channel m (standing_at m q) q (λ y. landed channel ms y) ≡ Ok l) h e in
         let k : Lets m (land channel m q) (standing_at m q) q (λ y. landed channel ms y) l = lets m (land channel m q) (standing_at m q) q (λ y. landed channel ms y) l on in
         let a : Arrival = record { queue = k.x.queue; message = k.x.message; dead = k.x.dead; dropped = dropped_of (standing_at m q) } in
         let s : standing_at m q ≡ standing_of a.dropped = stands_so (standing_at m q) h in
-        let among : standing_among as m p ≡ standing_of a.dropped = sym (plan.stands m) ∙ s in
-        let goes : landed channel ms (behind_all (as ++ a ∷ []) p) ≡ Ok k.left =
-            ap (landed channel ms) (behind_more as a p ∙ ap (λ (z : Standing). apply_all (land_changes k.x z) q) (sym s)) ∙ k.goes in
+        let among : standing_among arrived m p ≡ standing_of a.dropped = sym (plan.stands m) ∙ s in
+        let goes : landed channel ms (behind_all (arrived ++ a ∷ []) p) ≡ Ok k.left =
+            ap (landed channel ms) (behind_more arrived a p ∙ ap (λ (z : Standing). apply_all (land_changes k.x z) q) (sym s)) ∙ k.goes in
         k.taken
-        ∙ ap (λ (xs : List Message). m ∷ xs) (taken_is whole channel (as ++ a ∷ []) (done ++ m ∷ []) ms p k.left (plan_more whole channel as m ms p a among k.is plan) (agree_more as done a m (lands_ident channel m k.x q k.is) agree) goes)
+        ∙ ap (λ (xs : List Message). m ∷ xs) (taken_is whole channel (arrived ++ a ∷ []) (done ++ m ∷ []) ms p k.left (plan_more whole channel arrived m ms p a among k.is plan) (agree_more arrived done a m (lands_ident channel m k.x q k.is) agree) goes)
         ∙ ap (λ (b : Bool). if b then taken_behind done ms p else m ∷ taken_behind (done ++ m ∷ []) ms p) (sym (sym same ∙ h))
 
 -- so of a whole batch that lands

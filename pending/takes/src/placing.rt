@@ -25,7 +25,7 @@ use mq_events::NodeParts;
 use mq_frame::{FrameKind, Seen};
 use mq_own::ReceiverEnd;
 use mq_receiver::{ReceiverDoes, ReceiverOut};
-use mq_sync::Unit;
+use mq_sync::Unit as Luw;
 use mq_turns::Turn;
 use mq_wires::Sight;
 
@@ -61,7 +61,7 @@ fn commit_turn<D: Disk, W: Wire>(
     parts: &mut NodeParts<D>,
     wire: &mut W,
     end: ReceiverEnd,
-    unit: Unit,
+    unit: Luw,
     received: Messages,
     sight: Sight,
 ) -> Result<Turn, NoMemory>
@@ -105,7 +105,7 @@ pub fn placing_turn<D: Disk, W: Wire>(
     parts: &mut NodeParts<D>,
     wire: &mut W,
     end: ReceiverEnd,
-    unit: Unit,
+    unit: Luw,
     sight: Sight,
 ) -> Result<Turn, NoMemory>
     requires room { 0 < parts.old.room }
