@@ -40,18 +40,18 @@ use Rattle.mq_takes.proofs.WorkLaws.{works_so}
 -- what is told of the call
 pub received_ran : (step : Step Reason (Unit {0})) (t : Told) (old mid new : CoreValue) → MeetsAs Anywhere (manager_of old) step (Ok tt) (manager_of mid) → t.choice ≡ Runs → t.delta ≡ mid.delta → new ≡ record mid { delta = [] } → ReceivedAs step (Ok (came.Told t)) old new
 received_ran (Refuse reason) t old mid new m c d e = absurd m
-received_ran (Do reply parts) t old mid new m c d e = (tt, agent_ran (Do reply parts) tt t old mid new m c d e)
+received_ran (Do reply parts) t old mid new m c d e = (tt, agent_ran {F = Reason} {T = Unit {0}} (Do reply parts) tt t old mid new m c d e)
 
 pub received_stopped : (step : Step Reason (Unit {0})) (by : Stop) (t : Told) (old mid new : CoreValue) → StepIsShort step → MeetsAs Anywhere (manager_of old) step (Err (halts.Stopped by)) (manager_of mid) → t.choice ≡ Stopped by 0 mid.plain.log.armed → t.delta ≡ mid.delta
     → new ≡ record mid { delta = [] } → ReceivedAs step (Ok (came.Told t)) old new
 received_stopped (Refuse reason) by t old mid new short m c d e = absurd m
-received_stopped (Do reply parts) by t old mid new short m c d e = (tt, agent_stopped (Do reply parts) by t old mid new short m c d e)
+received_stopped (Do reply parts) by t old mid new short m c d e = (tt, agent_stopped {F = Reason} {T = Unit {0}} (Do reply parts) by t old mid new short m c d e)
 
 pub received_refused : (step : Step Reason (Unit {0})) (reason : Reason) (old new : CoreValue) → MeetsAs Anywhere (manager_of old) step (Err (halts.Refused reason)) (manager_of new) → ReceivedAs step (Ok (came.Refused reason)) old new
 received_refused (Refuse other) reason old new m = (ap Refuse (sym m.0), record { plain = ap (λ (v : ManagerValue). v.plain) m.1; later = omega (arith, ap (λ (v : ManagerValue). v.faults) m.1) })
 received_refused (Do reply parts) reason old new m = absurd m
 
-short_if : (b : Bool) (part : Part) → StepIsShort (tested (when b reasons.ResourceProblem ∷ []) (Do tt (part ∷ [])))
+short_if : (b : Bool) (part : Part) → StepIsShort {F = Reason} {T = Unit {0}} (tested (when b reasons.ResourceProblem ∷ []) (Do tt (part ∷ [])))
 short_if true part = tt
 short_if false part = tt
 

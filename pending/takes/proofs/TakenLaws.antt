@@ -15,7 +15,7 @@ use Rattle.mq_law_manager.proofs.Receiving.{IsLanding, land_is}
 use Rattle.mq_takes.specs.Taken.{is_among, is_out, taken_behind}
 
 -- a standing that isn't present is that of an arrival
-dropped_of : Standing → Option (List ℕ)
+abbrev dropped_of : Standing → Option (List ℕ)
 dropped_of Absent = None
 dropped_of (InDoubtAt queue) = Some queue
 dropped_of Present = None
@@ -82,37 +82,37 @@ lets : (m : Message) (o : Result Landing Reason) (s : Standing) (p : Plain) (res
 lets m (Ok x) s p rest l h = lets_before m x s p rest (rest (apply_all (land_changes x s) p)) l refl h
 lets m (Err reason) s p rest l h = absurd cc
 
-taken_is : (whole : Result Landed Reason) (channel : List ℕ) (arrived : List Arrival) (done rest : List Message) (p : Plain) (l : Landed) → IsPlan whole channel arrived rest p → Agree arrived done → landed channel rest (behind_all arrived p) ≡ Ok l → l.taken ≡ taken_behind done rest p
-taken_is whole channel arrived done [] p l plan agree e = sym (ap taken_of e)
-taken_is whole channel arrived done (m ∷ ms) p l plan agree e = at (is_present (standing_at m q)) refl
-  where
-    abbrev q : Plain
-    q = behind_all arrived p
+-- by what is known of the rest of the batch
+abbrev Rest : Result Landed Reason → List ℕ → List Message → Plain → Type 0
+Rest whole channel ms p = (arrived : List Arrival) (done : List Message) (l : Landed) → IsPlan whole channel arrived ms p → Agree arrived done → landed channel ms (behind_all arrived p) ≡ Ok l → l.taken ≡ taken_behind done ms p
 
-    same : is_present (standing_at m q) ≡ is_out done m p
-    same = ap is_present (plan.stands m) ∙ out_is (has_landed m.ident arrived) m p ∙ ap (λ (b : Bool). b || is_present (standing_at m p)) (agree m.ident)
+taken_next : (whole : Result Landed Reason) (channel : List ℕ) (arrived : List Arrival) (done : List Message) (m : Message) (ms : List Message) (p : Plain) (l : Landed) → Rest whole channel ms p → IsPlan whole channel arrived (m ∷ ms) p → Agree arrived done
+    → (b : Bool) → is_present (standing_at m (behind_all arrived p)) ≡ b → landed_unless b channel m (standing_at m (behind_all arrived p)) (behind_all arrived p) (λ y. landed channel ms y) ≡ Ok l
+    → l.taken ≡ (if b then taken_behind done ms p else m ∷ taken_behind (done ++ m ∷ []) ms p)
+taken_next whole channel arrived done m ms p l rest plan agree true h e =
+    rest arrived done l (plan_over whole channel arrived m ms p (present_is (standing_among arrived m p) (sym (ap is_present (plan.stands m)) ∙ h)) plan) agree e
+taken_next whole channel arrived done m ms p l rest plan agree false h e =
+    let q : Plain = behind_all arrived p in
+    let k : Lets m (land channel m q) (standing_at m q) q (λ y. landed channel ms y) l = lets m (land channel m q) (standing_at m q) q (λ y. landed channel ms y) l e in
+    let a : Arrival = record { queue = k.x.queue; message = k.x.message; dead = k.x.dead; dropped = dropped_of (standing_at m q) } in
+    let s : standing_at m q ≡ standing_of a.dropped = stands_so (standing_at m q) h in
+    let goes : landed channel ms (behind_all (arrived ++ a ∷ []) p) ≡ Ok k.left =
+        ap (landed channel ms) (behind_more arrived a p ∙ ap (λ (z : Standing). apply_all (land_changes k.x z) q) (sym s)) ∙ k.goes in
+    k.taken
+    ∙ ap (λ (xs : List Message). m ∷ xs)
+    (rest (arrived ++ a ∷ []) (done ++ m ∷ []) k.left (plan_more whole channel arrived m ms p a (sym (plan.stands m) ∙ s) k.is plan) (agree_more arrived done a m (lands_ident channel m k.x q k.is) agree) goes)
 
-    at : (b : Bool) → is_present (standing_at m q) ≡ b → l.taken ≡ taken_behind done (m ∷ ms) p
-    at true h =
-        let gone : landed channel ms q ≡ Ok l = subst (λ (b : Bool). landed_unless b channel m (standing_at m q) q (λ y. landed channel ms y) ≡ Ok l) h e in
-        let out : standing_among arrived m p ≡ Present = present_is (standing_among arrived m p) (sym (ap is_present (plan.stands m)) ∙ h) in
-        taken_is whole channel arrived done ms p l (plan_over whole channel arrived m ms p out plan) agree gone
-        ∙ ap (λ (b : Bool). if b then taken_behind done ms p else m ∷ taken_behind (done ++ m ∷ []) ms p) (sym (sym same ∙ h))
-    at false h =
-        let on : landed_by (land channel m q) m (standing_at m q) q (λ y. landed channel ms y) ≡ Ok l = subst (λ (b : Bool). landed_unless b channel m (standing_at m q) q (λ y. landed channel ms y) ≡ Ok l) h e in
-        let k : Lets m (land channel m q) (standing_at m q) q (λ y. landed channel ms y) l = lets m (land channel m q) (standing_at m q) q (λ y. landed channel ms y) l on in
-        let a : Arrival = record { queue = k.x.queue; message = k.x.message; dead = k.x.dead; dropped = dropped_of (standing_at m q) } in
-        let s : standing_at m q ≡ standing_of a.dropped = stands_so (standing_at m q) h in
-        let among : standing_among arrived m p ≡ standing_of a.dropped = sym (plan.stands m) ∙ s in
-        let goes : landed channel ms (behind_all (arrived ++ a ∷ []) p) ≡ Ok k.left =
-            ap (landed channel ms) (behind_more arrived a p ∙ ap (λ (z : Standing). apply_all (land_changes k.x z) q) (sym s)) ∙ k.goes in
-        k.taken
-        ∙ ap (λ (xs : List Message). m ∷ xs) (taken_is whole channel (arrived ++ a ∷ []) (done ++ m ∷ []) ms p k.left (plan_more whole channel arrived m ms p a among k.is plan) (agree_more arrived done a m (lands_ident channel m k.x q k.is) agree) goes)
-        ∙ ap (λ (b : Bool). if b then taken_behind done ms p else m ∷ taken_behind (done ++ m ∷ []) ms p) (sym (sym same ∙ h))
+taken_is : (whole : Result Landed Reason) (channel : List ℕ) (rest : List Message) (p : Plain) → Rest whole channel rest p
+taken_is whole channel [] p arrived done l plan agree e = sym (ap taken_of e)
+taken_is whole channel (m ∷ ms) p arrived done l plan agree e =
+    let same : is_present (standing_at m (behind_all arrived p)) ≡ is_out done m p =
+        ap is_present (plan.stands m) ∙ out_is (has_landed m.ident arrived) m p ∙ ap (λ (b : Bool). b || is_present (standing_at m p)) (agree m.ident) in
+    taken_next whole channel arrived done m ms p l (taken_is whole channel ms p) plan agree (is_present (standing_at m (behind_all arrived p))) refl e
+    ∙ ap (λ (b : Bool). if b then taken_behind done ms p else m ∷ taken_behind (done ++ m ∷ []) ms p) same
 
 -- so of a whole batch that lands
 pub taken_whole : (channel : List ℕ) (batch : List Message) (p : Plain) (l : Landed) → Sound p → AreNamed p.queues → landed channel batch p ≡ Ok l → messages_taken channel batch p ≡ taken_behind [] batch p
-taken_whole channel batch p l sound named e = ap taken_of e ∙ taken_is (landed channel batch p) channel [] [] batch p l (plan_first channel batch p sound named) (λ i. refl) e
+taken_whole channel batch p l sound named e = ap taken_of e ∙ taken_is (landed channel batch p) channel batch p [] [] l (plan_first channel batch p sound named) (λ i. refl) e
 
 -- A loop that takes them.
 abbrev next_taken : List Message → Message → Plain → List Message
