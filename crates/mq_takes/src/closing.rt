@@ -1,0 +1,163 @@
+//! A receiver's session that is closed at its manager.
+ghost use Rattle.std.specs.Prelude.{◌≡◌, ◌<◌, ◌≤◌, ◌^◌, ◌++◌, Ok, false};
+ghost use Rattle.mq_calls.specs.declared.agents.Note.TheVariants as notes;
+ghost use Rattle.mq_cable.specs.Offers.{Offering};
+ghost use Rattle.mq_calls.specs.declared.choices.Choice.TheVariants as choices;
+ghost use Rattle.mq_core.specs.Values.{WritesLog, manager_of};
+ghost use Rattle.mq_frame.specs.declared.frame.Seen.TheVariants as items;
+ghost use Rattle.mq_receiver.specs.Table.{receiver_next};
+ghost use Rattle.mq_receiver.specs.declared.turns.ReceiverDoes.TheVariants as does_what;
+ghost use Rattle.mq_spec_agents.specs.Words.{IsUp, harden, set_bound};
+ghost use Rattle.mq_spec_state.specs.Words.{MeetsOrWants};
+ghost use Rattle.mq_spec_node.specs.Words.{close_parts, is_receiver_defined, parts_of};
+ghost use Rattle.mq_wires.specs.Wires.{Sees};
+ghost use Rattle.mq_turns.specs.Turns.{IsBehind, MadeOr};
+ghost use Rattle.mq_takes.specs.Takes.{MayTake, ReceivesTurn, bound_if, emptied, whole};
+
+use crate::asking::may_close;
+use crate::lifting::put_back;
+use crate::working::work_done;
+use mq_base::NoMemory;
+use mq_cable::Wire;
+use mq_calls::{Messages, Note};
+use mq_core::Core;
+use mq_disk::Disk;
+use mq_events::{NodeParts, Told};
+use mq_frame::Seen;
+use mq_manager::Manager;
+use mq_name::ChName;
+use mq_own::ReceiverEnd;
+use mq_receiver::{ReceiverDoes, ReceiverOut};
+use mq_sides::drop_side;
+use mq_turns::{Turn, hardened, has_run};
+use mq_wires::Sight;
+use std::alloc::Global;
+
+fn unbind_in<D: Disk>(core: &mut Core<D>, channel: &ChName)
+    requires up { IsUp core.old.plain }
+    ensures meets { MeetsOrWants (manager_of core.old) (set_bound channel.now false core.old.plain) (Ok tt) (manager_of core.new) }
+    ensures told { WritesLog core.old (set_bound channel.now false core.old.plain) (Ok tt) core.new }
+{
+    core.begin_call();
+    drop_side(core.parts.alloc, &mut core.parts.ends.bound, channel);
+}
+
+/// A receiver isn't bound from now on. It takes no memory.
+fn unbind<D: Disk>(manager: &mut Manager<D>, channel: &ChName)
+    requires up { IsUp manager.old.plain }
+    ensures { MeetsOrWants (manager_of manager.old) (set_bound channel.now false manager.old.plain) (Ok tt) (manager_of manager.new) }
+{
+    unbind_in(&mut manager.core, channel);
+}
+
+/// So where all before was done.
+#[tactic(auto, using(crate::proofs::WorkLaws::bound_done, crate::proofs::WorkLaws::bound_undone, crate::proofs::WorkLaws::up_ran))]
+pub(crate) fn unbind_if<D: Disk>(manager: &mut Manager<D>, channel: &ChName, told: &Told)
+    requires up { told.now.choice ≡ choices.Runs → IsUp manager.old.plain }
+    ensures { IsBehind (bound_if told.now.choice channel.now false manager.old.plain) manager.old manager.new }
+{
+    if has_run(told) {
+        unbind(manager, channel);
+    }
+}
+
+/// The session of a channel's receiver is hardened as closed, and the end unbound.
+///
+/// # Errors
+///
+/// No memory; nothing has changed. So it is too where the manager has not what the end knows of it, which never comes.
+#[tactic(auto, using(mq_turns::proofs::RunLaws::stays_up, mq_turns::proofs::AgentLaws::as_was))]
+fn close_named<D: Disk>(
+    manager: &mut Manager<D>,
+    channel: &ChName,
+    session: u64,
+) -> Result<Told, NoMemory>
+    requires up { IsUp manager.old.plain }
+    ensures { MadeOr (parts_of (harden channel.now (notes.Closed session) manager.old.plain) ++ parts_of (set_bound channel.now false manager.old.plain)) result manager.old manager.new }
+{
+    if !may_close(manager, channel, session) {
+        return Err(NoMemory);
+    }
+    match hardened(manager, channel, &Note::Closed { session }) {
+        Err(NoMemory) => Err(NoMemory),
+        Ok(told) => {
+            unbind_if(manager, channel, &told);
+            Ok(told)
+        }
+    }
+}
+
+fn close<D: Disk>(manager: &mut Manager<D>, end: &ReceiverEnd) -> Result<Told, NoMemory>
+    requires up { IsUp manager.old.plain }
+    ensures { MadeOr (close_parts end.now manager.old.plain) result manager.old manager.new }
+{
+    close_named(manager, &end.channel, end.machine.session)
+}
+
+/// So at a node.
+pub(crate) fn close_in<D: Disk>(
+    parts: &mut NodeParts<D>,
+    end: &ReceiverEnd,
+) -> Result<Told, NoMemory>
+    requires up { IsUp parts.old.manager.plain }
+    ensures same { parts.new ≡ record parts.old { manager = parts.new.manager } }
+    ensures told { MadeOr (close_parts end.now parts.old.manager.plain) result parts.old.manager parts.new.manager }
+{
+    close(&mut parts.manager, end)
+}
+
+/// The end after a line, with no message kept.
+pub(crate) fn end_emptied(
+    alloc: Global,
+    end: &ReceiverEnd,
+    does: &ReceiverDoes,
+    seen: &Seen,
+    out: &ReceiverOut,
+) -> ReceiverEnd
+    ensures { result ≡ emptied end.now does.now seen.now out.now }
+{
+    let mut machine = end.machine;
+    machine.done(does, seen, out);
+    ReceiverEnd {
+        cable: end.cable,
+        channel: end.channel,
+        partner: end.partner,
+        machine,
+        kept: Messages::new(alloc),
+    }
+}
+
+/// The turn in which a spoiled frame closes the session.
+pub(crate) fn closing_turn<D: Disk, W: Wire>(
+    parts: &mut NodeParts<D>,
+    wire: &mut W,
+    end: ReceiverEnd,
+    sight: Sight,
+) -> Result<Turn, NoMemory>
+    requires room { 0 < parts.old.room }
+    requires may { MayTake end (whole end parts.old) }
+    requires next { does_what.Close ≡ receiver_next end.machine sight.seen (is_receiver_defined end.channel parts.old.manager.plain.definitions) }
+    requires sees { Sees (W.front_of wire.old) (Unit {0}) sight.seen sight.stamp }
+    requires low { sight.stamp ≤ 2 ^ 60 }
+    ensures { (o : Offering) → ReceivesTurn end.cable (λ xs. W.reads wire.old xs wire.new) (λ xs. W.writes wire.old xs wire.new) (sight.seen ≡ items.Nothing) ⊥ o o (whole end parts.old) result parts.new }
+{
+    match close_in(parts, &end) {
+        Err(NoMemory) => {
+            put_back(parts, end);
+            Err(NoMemory)
+        }
+        Ok(told) => {
+            let last = end_emptied(
+                parts.alloc,
+                &end,
+                &ReceiverDoes::Close,
+                &sight.seen,
+                &ReceiverOut::Done,
+            );
+            put_back(parts, end);
+            let received = Messages::new(parts.alloc);
+            work_done(parts, wire, last, told, received, sight);
+            Ok(Turn::Changed)
+        }
+    }
+}
