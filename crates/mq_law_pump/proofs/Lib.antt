@@ -1,1 +1,5 @@
 pub mod Rounds
+pub mod Ways
+pub mod Histories
+pub mod Counting
+pub mod Sending

@@ -1,1 +1,5 @@
 pub mod Steady
+pub mod Ways
+pub mod Fit
+pub mod Rows
+pub mod Deeds
