@@ -3,3 +3,8 @@ pub mod Ways
 pub mod Histories
 pub mod Counting
 pub mod Sending
+pub mod Taking
+pub mod TimingOut
+pub mod Others
+pub mod OtherDeeds
+pub mod Landing

@@ -14,7 +14,7 @@ use Rattle.mq_spec_network.specs.Steps.Goes.{stays, moves, serves, passes}
 use Rattle.mq_law_idle.specs.Roads.{Quiet}
 use Rattle.mq_law_idle.specs.Lanes.{Aside, AllAside, Begins, Lane, OneMoves, Pumps, bound}
 use Rattle.mq_law_idle.proofs.Pumping.{pumps_below}
-use Rattle.mq_law_pump.specs.Steady.{IsOf, IsSteady, IsStill, Moved, SeesAll, IsPumped, TimeoutFits}
+use Rattle.mq_law_pump.specs.Steady.{ArePumps, IsOf, IsSteady, IsStill, Moved, SeesAll, IsPumped, TimeoutFits}
 
 -- LISTS OF LANES
 abbrev pub AllQuiet : List Lane → Type 0
@@ -297,10 +297,6 @@ passes_at Good Sees st w ls g s served n k t ts next (pumps_on left slot cable a
 passes_at Good Sees st w ls g s served n k t ts next (is_over is served_too at) p = absurd cc
 
 -- THE WHOLE
--- what a PUMP asks is its own tasks
-abbrev pub ArePumps : List Task → Type 0
-ArePumps ts = (ts ≡ []) ⊎ ((left : ℕ) × (slot : Slot) × (cable : ℕ) × (any : Bool) × (ts ≡ Pump left slot cable any ∷ []))
-
 pumps_left : (left : ℕ) (slot : Slot) (cable : ℕ) → ArePumps (pump_on left slot cable true ++ [])
 pumps_left left Sends cable = inr (left, Receives, cable, true, refl)
 pumps_left left Receives cable = inr (left, Sends, suc cable, true, refl)
@@ -341,6 +337,9 @@ are_pumps w0 n stays = inr (n, Sends, 0, false, refl)
 are_pumps w0 n (moves w t ts m e go mv) = moved_tasks w t ts (are_pumps w0 n go) m e mv
 are_pumps w0 n (serves w ts m e go call) = are_pumps w0 n go
 are_pumps w0 n (passes w t next ts go served p) = passed_tasks w t ts next (are_pumps w0 n go) p
+
+pub pump_tasks : (w v : Network) (n : ℕ) (ts : List Task) → Goes w (Pump n Sends 0 false ∷ []) v ts → ArePumps ts
+pump_tasks w v n ts go = are_pumps w n go
 
 -- so each of its entries is a turn, a timeout or a trigger turn
 turned_call : (w : Network) (slot : Slot) (k : ℕ) (c : CableLine) (m : ℕ) (e : Entry) → TakesTurn (turn_in w slot k c) m e → IsPumped e.call

@@ -54,7 +54,7 @@ use Rattle.mq_law_channel.proofs.Told.{and_both, by_lines}
 use Rattle.mq_law_node.specs.Ends.{Where, letter_of, letters_of}
 use Rattle.mq_law_node.proofs.Named.{end_set}
 use Rattle.mq_law_node.proofs.SenderTable.{begun_reads}
-use Rattle.mq_law_pump.specs.Deeds.{TurnsLane}
+use Rattle.mq_law_pump.specs.Deeds.{HasSender, TurnsLane}
 use Rattle.mq_law_pump.specs.Fit.{FitsSender}
 use Rattle.mq_law_pump.specs.Rows.{AreWithin, rows_of}
 use Rattle.mq_law_pump.proofs.Counting.{expire_less, free_length, holds_so, leaves_less, releases_same}
@@ -165,9 +165,6 @@ same_after e n d st parts w is same within runs =
     (subst (λ (rs : List Row). free_in rs ≤ w.free) (sym rows) within.free, subst (λ (rs : List Row). held_in rs ≤ w.held) (sym rows) within.held)
 
 -- THE LINES
-abbrev pub Given : SenderEnd → Node → Road → Type 0
-Given e n w = (w.sender ≡ e.machine) × (end_in e.cable n.own.ends ≡ Some (Sends e)) × (is_running e.machine.state ≡ true → AreWithin (rows_of e.channel n.manager) w)
-
 abbrev EachTurns : SenderEnd → Node → Road → Option Deed → Type 0
 EachTurns e n w None = Unit {0}
 EachTurns e n w (Some d) = TurnsLane e n d w
@@ -180,15 +177,15 @@ abbrev no_message : Message
 no_message = record { ident = no_ident; md = own_md no_ident [] (pos 0) (pos 0) [] []; route = None; deadline = None; body = [] }
 
 -- lines that leave the rows as they are
-same_lane : (e : SenderEnd) (n : Node) (w : Road) (x : SenderDoes) (stamp : ℕ) (dest : Dest) (message : Message) (parts : List Part) (pushed : Option Frame) → Given e n w → sender_next e.machine (waiting w.back) (stock e.channel n.manager) ≡ x → (x ≡ does.Still → ⊥)
+same_lane : (e : SenderEnd) (n : Node) (w : Road) (x : SenderDoes) (stamp : ℕ) (dest : Dest) (message : Message) (parts : List Part) (pushed : Option Frame) → HasSender e n w → sender_next e.machine (waiting w.back) (stock e.channel n.manager) ≡ x → (x ≡ does.Still → ⊥)
     → RowsMove x (turn_of stamp dest message (stock e.channel n.manager) w.free w.held) w → pushed ≡ pushed_by stamp dest message e.machine x → Same e.channel n.manager parts → is_running e.machine.state ≡ true
     → TurnsLane e n (sent e x parts pushed n) w
 same_lane e n w x stamp dest message parts pushed g is changed moves pushes same runs =
-    done_lane e n (sent e x parts pushed n) w x stamp dest message w.free w.held g.0 is changed moves (set_so e n x g.1) pushes
-    (same_after e n (sent e x parts pushed n) (sender_after e.machine x outs.Done).state parts w refl same (g.2 runs))
+    done_lane e n (sent e x parts pushed n) w x stamp dest message w.free w.held g.machine is changed moves (set_so e n x g.here) pushes
+    (same_after e n (sent e x parts pushed n) (sender_after e.machine x outs.Done).state parts w refl same (g.rows runs))
 
-ignores : (e : SenderEnd) (n : Node) (w : Road) (stamp : ℕ) → Given e n w → sender_next e.machine (waiting w.back) (stock e.channel n.manager) ≡ does.Ignore → TurnsLane e n (turned [] None n.own) w
-ignores e n w stamp g is = done_lane e n (turned [] None n.own) w does.Ignore stamp (names_of None) no_message w.free w.held g.0 is (λ x. absurd cc) (refl, refl) g.1 refl (λ runs. ((g.2 runs).free, (g.2 runs).held))
+ignores : (e : SenderEnd) (n : Node) (w : Road) (stamp : ℕ) → HasSender e n w → sender_next e.machine (waiting w.back) (stock e.channel n.manager) ≡ does.Ignore → TurnsLane e n (turned [] None n.own) w
+ignores e n w stamp g is = done_lane e n (turned [] None n.own) w does.Ignore stamp (names_of None) no_message w.free w.held g.machine is (λ x. absurd cc) (refl, refl) g.here refl (λ runs. ((g.rows runs).free, (g.rows runs).held))
 
 -- EXPIRE
 expired_so : (channel : List ℕ) (p : Plain) (xs : List Row) → expired_rows (queue_of_sender channel p) p ≡ xs → nat_lt 0 (length xs) ≡ true
@@ -202,13 +199,13 @@ expired_so channel p (x ∷ xs) is some = one (removal_record (queue_of_sender c
     one None = (expire_less q (is_expired p) x xs p is, (leaves_less q (Among q (idents_of (x ∷ xs))) p).1)
     one (Some r) = (expire_less q (is_expired p) x xs (logged (Some r) p) is, (leaves_less q (Among q (idents_of (x ∷ xs))) (logged (Some r) p)).1)
 
-expires : (e : SenderEnd) (n : Node) (w : Road) (stamp : ℕ) → Given e n w → sender_next e.machine (waiting w.back) (stock e.channel n.manager) ≡ does.Expire → Says e.machine (stock e.channel n.manager) does.Expire
+expires : (e : SenderEnd) (n : Node) (w : Road) (stamp : ℕ) → HasSender e n w → sender_next e.machine (waiting w.back) (stock e.channel n.manager) ≡ does.Expire → Says e.machine (stock e.channel n.manager) does.Expire
     → TurnsLane e n (sent e does.Expire (parts_of (expire e.channel n.manager)) None n) w
 expires e n w stamp g is s =
     let parts : List Part = parts_of (expire e.channel n.manager) in
     let h = expired_so e.channel n.manager (expired_rows (queue_of_sender e.channel n.manager) n.manager) refl s.1 in
-    let within = g.2 s.0 in
-    done_lane e n (sent e does.Expire parts None n) w does.Expire stamp (names_of None) no_message (w.free - 1) w.held g.0 is (λ x. absurd cc) (omega (arith, h.0, within.free), refl) (set_so e n does.Expire g.1) refl
+    let within = g.rows s.0 in
+    done_lane e n (sent e does.Expire parts None n) w does.Expire stamp (names_of None) no_message (w.free - 1) w.held g.machine is (λ x. absurd cc) (omega (arith, h.0, within.free), refl) (set_so e n does.Expire g.here) refl
     (λ runs. let rows = ap (rows_of e.channel) (stays e.channel e.machine.state parts n.manager n.manager runs) in
       (omega (arith, ap free_in rows, h.0, within.free), omega (arith, ap held_in rows, h.1, within.held)))
 
@@ -218,7 +215,7 @@ first_taken zero rows h a b = omega (arith, a)
 first_taken (suc k) [] h a b = omega (arith, b)
 first_taken (suc k) (r ∷ rs) h a b = absurd cc
 
-begins : (e : SenderEnd) (n : Node) (w : Road) (stamp k count : ℕ) → Given e n w → AreDistinct (rows_of e.channel n.manager) → 1 ≤ e.machine.limits.batch_size
+begins : (e : SenderEnd) (n : Node) (w : Road) (stamp k count : ℕ) → HasSender e n w → AreDistinct (rows_of e.channel n.manager) → 1 ≤ e.machine.limits.batch_size
     → sender_next e.machine (waiting w.back) (stock e.channel n.manager) ≡ does.Begin k count → Says e.machine (stock e.channel n.manager) (does.Begin k count)
     → TurnsLane e n (begin_deed stamp e k count (parts_of (hold_batch e.channel (unit_named e.machine.kept.session k) count n.manager)) n) w
 begins e n w stamp k count g distinct batch is s = with_row (batch_row e.channel 1 (do_all parts n.manager)) refl
@@ -241,9 +238,9 @@ begins e n w stamp k count g distinct batch is s = with_row (batch_row e.channel
     with_row None none = absurd (first_taken count (free_rows q n.manager) (sym (begun_reads end e.machine k count n.manager distinct 0) ∙ ap (option_map letter_of) none) some there)
     with_row (Some m) row =
         let h = holds_so q count (holders.Batch e.channel) n.manager distinct few in
-        let within = g.2 s.0 in
-        done_lane e n (begin_deed stamp e k count parts n) w (does.Begin k count) stamp (names_of m.route) (record m { route = None }) (w.free - count) (w.held + count) g.0 is (λ x. absurd cc)
-        (some, omega (arith, few, within.free), refl) (set_so e n (does.Begin k count) g.1) (ap (option_map (carried stamp e k 1)) row)
+        let within = g.rows s.0 in
+        done_lane e n (begin_deed stamp e k count parts n) w (does.Begin k count) stamp (names_of m.route) (record m { route = None }) (w.free - count) (w.held + count) g.machine is (λ x. absurd cc)
+        (some, omega (arith, few, within.free), refl) (set_so e n (does.Begin k count) g.here) (ap (option_map (carried stamp e k 1)) row)
         (λ runs. let rows = ap (rows_of e.channel) (stays e.channel (sender_after e.machine (does.Begin k count) outs.Done).state parts n.manager n.manager refl) in
           (omega (arith, ap free_in rows, h.0, within.free, few), omega (arith, ap held_in rows, h.1, within.held)))
 
@@ -256,12 +253,12 @@ some_at (suc i) (x ∷ xs) h less = some_at i xs h (omega (arith, less))
 same_machine : (a b : Sender) (e : SenderEnd) → Some (Sends (record e { machine = a })) ≡ Some (Sends (record e { machine = b })) → a ≡ b
 same_machine a b e h = cc
 
-sends_message : (e : SenderEnd) (n : Node) (w : Road) (stamp index : ℕ) → Given e n w → FitsSender e.cable e n → sender_next e.machine (waiting w.back) (stock e.channel n.manager) ≡ does.PushMsg index → Says e.machine (stock e.channel n.manager) (does.PushMsg index)
+sends_message : (e : SenderEnd) (n : Node) (w : Road) (stamp index : ℕ) → HasSender e n w → FitsSender e.cable e n → sender_next e.machine (waiting w.back) (stock e.channel n.manager) ≡ does.PushMsg index → Says e.machine (stock e.channel n.manager) (does.PushMsg index)
     → TurnsLane e n (sent e (does.PushMsg index) [] (option_map (carried stamp e e.machine.begun index) (batch_row e.channel index n.manager)) n) w
 sends_message e n w stamp index g f is s = with_row (batch_row e.channel index n.manager) refl
   where
     machine : f.channel.sender ≡ e.machine
-    machine = same_machine f.channel.sender e.machine e (sym f.sends.here ∙ g.1)
+    machine = same_machine f.channel.sender e.machine e (sym f.sends.here ∙ g.here)
     sent_so_far : ℕ
     sent_so_far = messages_sent e.machine.state
     row_read : option_map letter_of (batch_row e.channel index n.manager) ≡ slice_get f.channel.batch sent_so_far
@@ -291,15 +288,15 @@ prepare_same channel last (Some b) p = refused_same channel p (if is_full (need 
   delta = did.Prepared channel b.unit ∷ [];
 } ∷ [])) refl
 
-no_room : (e : SenderEnd) (n : Node) (w : Road) (parts : List Part) → Given e n w → sender_next e.machine (waiting w.back) (stock e.channel n.manager) ≡ does.Prepare
+no_room : (e : SenderEnd) (n : Node) (w : Road) (parts : List Part) → HasSender e n w → sender_next e.machine (waiting w.back) (stock e.channel n.manager) ≡ does.Prepare
     → TurnsLane e n (turned parts None (sender_end_after e does.Prepare outs.NoRoom n.own)) w
 no_room e n w parts g is =
     let t : SenderTurn = record { stamp = 0; dest = names_of None; message = no_message; stock = stock e.channel n.manager; outcome = outs.NoRoom; free = w.free; held = w.held } in
-    let does_so : sender_does t w ≡ does.Prepare = ap (λ (m : Sender). sender_next m (waiting w.back) (stock e.channel n.manager)) g.0 ∙ is in
+    let does_so : sender_does t w ≡ does.Prepare = ap (λ (m : Sender). sender_next m (waiting w.back) (stock e.channel n.manager)) g.machine ∙ is in
     record {
       turn = t;
       may = record { changed = (λ still. absurd (apart (sym does_so ∙ still)), λ full. absurd (not_full full)); no_room = λ none. does_so; rows = subst (λ (x : SenderDoes). RowsMove x t w) (sym does_so) (refl, refl) };
-      ends = end_set (Sends (record e { machine = sender_after e.machine does.Prepare outs.NoRoom })) (Sends e) n.own.ends g.1 ∙ ap (λ (m : Sender). Some (Sends (record e { machine = sender_after m does.Prepare outs.NoRoom }))) (sym g.0);
+      ends = end_set (Sends (record e { machine = sender_after e.machine does.Prepare outs.NoRoom })) (Sends e) n.own.ends g.here ∙ ap (λ (m : Sender). Some (Sends (record e { machine = sender_after m does.Prepare outs.NoRoom }))) (sym g.machine);
       out = refl;
       back = ap (λ (x : SenderDoes). taken_from x w.back) (sym does_so);
       receiver = refl;
@@ -311,7 +308,7 @@ no_room e n w parts g is =
     not_full : outs.NoRoom ≡ outs.Full → ⊥
     not_full x = absurd cc
 
-prepares : (e : SenderEnd) (n : Node) (w : Road) (stamp : ℕ) (s : Step PrepareFault (Unit {0})) → Given e n w → sender_next e.machine (waiting w.back) (stock e.channel n.manager) ≡ does.Prepare → is_running e.machine.state ≡ true → StepSame e.channel n.manager s
+prepares : (e : SenderEnd) (n : Node) (w : Road) (stamp : ℕ) (s : Step PrepareFault (Unit {0})) → HasSender e n w → sender_next e.machine (waiting w.back) (stock e.channel n.manager) ≡ does.Prepare → is_running e.machine.state ≡ true → StepSame e.channel n.manager s
     → TurnsLane e n (prepare_deed e s n) w
 prepares e n w stamp (Refuse fault) g is runs same = no_room e n w (parts_of (release_batch e.channel n.manager) ++ parts_of (leave e.channel n.manager)) g is
 prepares e n w stamp (Do reply parts) g is runs same = same_lane e n w does.Prepare stamp (names_of None) no_message parts None g is (λ x. absurd cc) (refl, refl) refl same runs
@@ -329,15 +326,15 @@ settled_sum e (Some settles.Commit) p = let h = settled_less e p in omega (arith
 settled_sum e (Some settles.Backout) p = omega (arith, releases_same (queue_of_sender e.channel p) (HeldBy (holders.Batch e.channel)) false (resolved_at e false p))
 
 -- with the rows that are there behind it
-settling : (e : SenderEnd) (n : Node) (w : Road) (x : SenderDoes) (stamp : ℕ) (parts : List Part) → Given e n w → sender_next e.machine (waiting w.back) (stock e.channel n.manager) ≡ x → (x ≡ does.Still → ⊥)
+settling : (e : SenderEnd) (n : Node) (w : Road) (x : SenderDoes) (stamp : ℕ) (parts : List Part) → HasSender e n w → sender_next e.machine (waiting w.back) (stock e.channel n.manager) ≡ x → (x ≡ does.Still → ⊥)
     → RowsMove x (turn_of stamp (names_of None) no_message (stock e.channel n.manager) (free_in (rows_of e.channel (do_all parts n.manager))) (held_in (rows_of e.channel (do_all parts n.manager)))) w
     → None ≡ pushed_by stamp (names_of None) no_message e.machine x → TurnsLane e n (sent e x parts None n) w
 settling e n w x stamp parts g is changed moves pushes =
-    done_lane e n (sent e x parts None n) w x stamp (names_of None) no_message (free_in (rows_of e.channel (do_all parts n.manager))) (held_in (rows_of e.channel (do_all parts n.manager))) g.0 is changed moves (set_so e n x g.1) pushes
+    done_lane e n (sent e x parts None n) w x stamp (names_of None) no_message (free_in (rows_of e.channel (do_all parts n.manager))) (held_in (rows_of e.channel (do_all parts n.manager))) g.machine is changed moves (set_so e n x g.here) pushes
     (λ runs. let rows = ap (rows_of e.channel) (stays e.channel (sender_after e.machine x outs.Done).state parts n.manager n.manager runs) in (omega (arith, ap free_in rows), omega (arith, ap held_in rows)))
 
 -- THE TABLE
-turns_by : (e : SenderEnd) (n : Node) (w : Road) (stamp : ℕ) (x : SenderDoes) → Given e n w → FitsSender e.cable e n → AreDistinct (rows_of e.channel n.manager)
+turns_by : (e : SenderEnd) (n : Node) (w : Road) (stamp : ℕ) (x : SenderDoes) → HasSender e n w → FitsSender e.cable e n → AreDistinct (rows_of e.channel n.manager)
     → sender_next e.machine (waiting w.back) (stock e.channel n.manager) ≡ x → Says e.machine (stock e.channel n.manager) x → EachTurns e n w (sender_deed_by stamp e x n)
 turns_by e n w stamp does.Still g f distinct is s = tt
 turns_by e n w stamp does.Ignore g f distinct is s = ignores e n w stamp g is
@@ -350,14 +347,14 @@ turns_by e n w stamp does.Prepare g f distinct is s =
     prepares e n w stamp (prepare e.channel (number_sent e.machine.state e.machine.kept.last) n.manager) g is s (prepare_same e.channel (number_sent e.machine.state e.machine.kept.last) (batch_of e.channel n.manager.channels.batches) n.manager)
 turns_by e n w stamp does.PushEnd g f distinct is s = same_lane e n w does.PushEnd stamp (names_of None) no_message [] (Some (end_frame stamp e.machine)) g is (λ x. absurd cc) (refl, refl) refl refl s
 turns_by e n w stamp (does.Bound settle partner) g f distinct is s =
-    let within = g.2 s in
+    let within = g.rows s in
     settling e n w (does.Bound settle partner) stamp (settle_parts_if e settle n.manager) g is (λ x. absurd cc) (omega (arith, settled_sum e settle n.manager, within.free, within.held)) refl
 turns_by e n w stamp does.Commit g f distinct is s =
-    let within = g.2 s in
+    let within = g.rows s in
     let h = settled_less e n.manager in
     settling e n w does.Commit stamp (settle_parts e true n.manager) g is (λ x. absurd cc) (omega (arith, h.0, within.free), omega (arith, h.1, within.held)) refl
 turns_by e n w stamp (does.Backout reason) g f distinct is s =
-    let within = g.2 s in
+    let within = g.rows s in
     settling e n w (does.Backout reason) stamp (settle_parts e false n.manager) g is (λ x. absurd cc) (omega (arith, settled_sum e (Some settles.Backout) n.manager, within.free, within.held)) refl
 
 turned_lane : (e : SenderEnd) (n : Node) (w : Road) (o : Option Deed) (d : Deed) → EachTurns e n w o → o ≡ Some d → TurnsLane e n d w
@@ -367,7 +364,7 @@ turned_lane e n w (Some x) d h is = subst (λ (y : Deed). TurnsLane e n y w) (so
     some_same : (a b : Deed) → Some a ≡ Some b → a ≡ b
     some_same a b eq = cc
 
-pub sender_turns : (e : SenderEnd) (n : Node) (w : Road) (stamp : ℕ) (d : Deed) → Given e n w → FitsSender e.cable e n → AreDistinct (rows_of e.channel n.manager) → sender_deed stamp e (waiting w.back) n ≡ Some d → TurnsLane e n d w
+pub sender_turns : (e : SenderEnd) (n : Node) (w : Road) (stamp : ℕ) (d : Deed) → HasSender e n w → FitsSender e.cable e n → AreDistinct (rows_of e.channel n.manager) → sender_deed stamp e (waiting w.back) n ≡ Some d → TurnsLane e n d w
 sender_turns e n w stamp d g f distinct is =
     turned_lane e n w (sender_deed stamp e (waiting w.back) n) d
     (turns_by e n w stamp (sender_next e.machine (waiting w.back) (stock e.channel n.manager)) g f distinct refl (says e.machine (waiting w.back) (stock e.channel n.manager))) is

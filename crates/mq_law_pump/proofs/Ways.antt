@@ -11,7 +11,7 @@ use Rattle.mq_spec_node.specs.Doers.{by}
 use Rattle.mq_spec_network.specs.Cables.{Lying, is_popped, lying, made, offered_by, offered_if, pops_of, spoiled, whole}
 use Rattle.mq_spec_network.specs.Turns.{Direction, extras_of, is_full as is_full_way, push_refused, put_now, waiting as first_lying}
 use Rattle.mq_law_idle.specs.Roads.{behind, is_full, laid, waiting}
-use Rattle.mq_law_pump.specs.Ways.{seen_of}
+use Rattle.mq_law_pump.specs.Ways.{IsWithin, behind_if, seen_of}
 
 -- NO FAULTS
 none_due : (n k : ℕ) (xs : List Lying) → due_from [] n k xs ≡ []
@@ -115,7 +115,7 @@ pub refused_as : (pushes : List Entry) (xs : List Lying) (f : Frame) → push_re
 refused_as pushes xs f = full_as xs
 
 -- THE CABLE
-pub laid_last : (pushes pops : List Entry) (e : Entry) (o : Option Frame) → length (pops_of pops) ≤ length (frames_of pushes) → e.effect.pushed ≡ o → seen_of (lying [] (pushes ++ e ∷ []) pops) ≡ laid o (seen_of (lying [] pushes pops))
+pub laid_last : (pushes pops : List Entry) (e : Entry) (o : Option Frame) → IsWithin pushes pops → e.effect.pushed ≡ o → seen_of (lying [] (pushes ++ e ∷ []) pops) ≡ laid o (seen_of (lying [] pushes pops))
 laid_last pushes pops e o within is =
     ap seen_of (lies (pushes ++ e ∷ []) pops)
     ∙ ap (λ (xs : List Lying). seen_of (drop (length (pops_of pops)) xs)) (frames_more pushes e)
@@ -128,10 +128,6 @@ laid_last pushes pops e o within is =
     last : (o : Option Frame) (xs : List Lying) → seen_of xs ++ seen_of (offer_if o) ≡ laid o (seen_of xs)
     last None xs = append-nil (seen_of xs)
     last (Some f) xs = refl
-
-abbrev pub behind_if : Bool → List Seen → List Seen
-behind_if true xs = behind xs
-behind_if false xs = xs
 
 pub taken_first : (pushes pops : List Entry) (e : Entry) → seen_of (lying [] pushes (pops ++ e ∷ [])) ≡ behind_if (is_popped e) (seen_of (lying [] pushes pops))
 taken_first pushes pops e =

@@ -3,3 +3,4 @@ pub mod Ways
 pub mod Fit
 pub mod Rows
 pub mod Deeds
+pub mod Others

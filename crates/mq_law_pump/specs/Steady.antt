@@ -1,11 +1,12 @@
 -- What is asked of a network so that a PUMP of it moves the lanes of the measure, one at each turn that counts.
-use Rattle.std.specs.Prelude.{◌≡◌, ◌⊎◌, ℕ, suc, false, List, [], ◌∷◌, Some, slice_get}
+use Rattle.std.specs.Prelude.{◌≡◌, ◌⊎◌, ℕ, suc, Bool, false, List, [], ◌∷◌, Some, slice_get}
 use Rattle.mq_history.specs.declared.calls.Call.{Call}
 use Rattle.mq_history.specs.declared.calls.Call.TheVariants as calls
 use Rattle.mq_history.specs.declared.calls.Entry.{Entry}
 use Rattle.mq_history.specs.declared.scenario.CableLine.{CableLine}
 use Rattle.mq_spec_network.specs.Turns.{Network, changes, does, node_at}
-use Rattle.mq_spec_network.specs.Tasks.{Slot}
+use Rattle.mq_spec_network.specs.Tasks.{Slot, Task}
+use Rattle.mq_spec_network.specs.Tasks.Task.{Pump}
 use Rattle.mq_spec_network.specs.Tasks.Slot.{Sends, Receives, TimesOut}
 use Rattle.mq_spec_network.specs.Steps.{TakesTurn, none_due, turn_in}
 use Rattle.mq_law_idle.specs.Roads.{Quiet}
@@ -39,6 +40,10 @@ pub record Moved (Sees : Network → ℕ → CableLine → Lane → Type 0) (w :
 -- the calls of a PUMP
 abbrev pub IsPumped : Call → Type 0
 IsPumped call = (call ≡ calls.Turn) ⊎ ((call ≡ calls.Timeout) ⊎ (call ≡ calls.Trigger))
+
+-- what a PUMP asks is its own tasks
+abbrev pub ArePumps : List Task → Type 0
+ArePumps ts = (ts ≡ []) ⊎ ((left : ℕ) × (slot : Slot) × (cable : ℕ) × (any : Bool) × (ts ≡ Pump left slot cable any ∷ []))
 
 -- `Good` is what is known of a network from what follows, `Sees` how a lane shows a cable. A turn moves its cable's lane and leaves
 -- the others as they are; a trigger turn leaves all; where both ends of a cable have nothing to do, its lane is quiet.

@@ -1,9 +1,54 @@
-//! A PUMP of a network comes to rest: what its rounds do moves the lanes of a measure.
+//! What a PUMP does at the nodes of a network and on its cables, as the moves of lanes of a measure that each of them makes less.
 #![tactic(auto)]
 
-ghost use Rattle.std.specs.Prelude.{◌≡◌, ℕ};
+ghost use Rattle.std.specs.Prelude.{◌≡◌, ◌∷◌, ◌++◌, ◌⊎◌, ◌≤◌, ℕ, false, true, List, [], length, Option, Some, is_some};
+ghost use Rattle.mq_frame.specs.declared.frame.Frame.{Frame};
+ghost use Rattle.mq_frame.specs.declared.frame.Seen.{Seen};
+ghost use Rattle.mq_history.specs.declared.calls.Call.TheVariants as calls;
+ghost use Rattle.mq_history.specs.declared.calls.Entry.{Entry};
+ghost use Rattle.mq_queue.specs.Queues.{AreDistinct};
+ghost use Rattle.mq_spec_state.specs.State.Running.{Up};
+ghost use Rattle.mq_spec_node.specs.Node.{Node, ReceiverEnd, SenderEnd};
+ghost use Rattle.mq_spec_node.specs.Deeds.{Deed};
+ghost use Rattle.mq_spec_node.specs.Receivers.{receiver_deed};
+ghost use Rattle.mq_spec_node.specs.Replays.{done_by};
+ghost use Rattle.mq_spec_node.specs.Senders.{sender_deed, timeout_deed};
+ghost use Rattle.mq_spec_network.specs.Cables.{Lying, is_popped, lying};
+ghost use Rattle.mq_spec_network.specs.Steps.{Goes, none_due};
+ghost use Rattle.mq_spec_network.specs.Tasks.{Task};
+ghost use Rattle.mq_spec_network.specs.Tasks.Slot.{Sends};
+ghost use Rattle.mq_spec_network.specs.Tasks.Task.{Pump};
+ghost use Rattle.mq_spec_network.specs.Turns.{Network, does, node_at, push_refused};
+ghost use Rattle.mq_law_idle.specs.Roads.{Road, is_full, laid, waiting};
+ghost use Rattle.mq_law_pump.specs.Deeds.{HasReceiver, HasSender, TakesLane, TimesOutLane, TurnsLane};
+ghost use Rattle.mq_law_pump.specs.Fit.{FitsSender, Good};
+ghost use Rattle.mq_law_pump.specs.Rows.{rows_of};
+ghost use Rattle.mq_law_pump.specs.Steady.{ArePumps, IsPumped};
+ghost use Rattle.mq_law_pump.specs.Ways.{IsWithin, behind_if, seen_of};
 
-/// Nothing yet.
-pub fn a_pump_comes_to_rest()
-    ensures { (n : ℕ) → n ≡ n }
+/// A cable without faults: a frame that is offered lies there last, a pop takes the first, and a push is refused where the cable is full.
+pub fn a_cable_without_faults_keeps_order()
+    ensures offers { (pushes pops : List Entry) (e : Entry) (o : Option Frame) → IsWithin pushes pops → e.effect.pushed ≡ o → seen_of (lying [] (pushes ++ e ∷ []) pops) ≡ laid o (seen_of (lying [] pushes pops)) }
+    ensures pops { (pushes pops : List Entry) (e : Entry) → seen_of (lying [] pushes (pops ++ e ∷ [])) ≡ behind_if (is_popped e) (seen_of (lying [] pushes pops)) }
+    ensures refuses { (pushes : List Entry) (xs : List Lying) (f : Frame) → push_refused (record { faults = []; pushes = pushes; items = xs }) (Some f) ≡ is_full (seen_of xs) }
+{}
+
+/// What a PUMP leaves to be done is its own rounds. Each of its entries is a turn, a timeout or a trigger turn: none of them brings a manager up, so what
+/// is known of the histories behind one, with all managers up, was known before it; and a trigger turn comes only where one is due.
+pub fn a_pump_brings_no_manager_up()
+    ensures rounds { (w v : Network) (n : ℕ) (ts : List Task) → Goes w (Pump n Sends 0 false ∷ []) v ts → ArePumps ts }
+    ensures up { (e : Entry) (n : Node) → IsPumped e.call → (done_by e n).next.manager.running ≡ Up → n.manager.running ≡ Up }
+    ensures earlier { (w : Network) (m : ℕ) (e : Entry) → IsPumped e.call → Good (does m (e ∷ []) w) → Good w }
+    ensures due { (w : Network) (m : ℕ) (e : Entry) → Good (does m (e ∷ []) w) → e.call ≡ calls.Trigger → none_due (node_at w m) ≡ false }
+{}
+
+/// Each turn of a sender's end, and each timeout, is one of its lane: it counts, and where the sender runs on, the rows of its queue are within the lane's.
+pub fn turns_of_senders_are_turns_of_lanes()
+    ensures turns { (e : SenderEnd) (n : Node) (w : Road) (stamp : ℕ) (d : Deed) → HasSender e n w → FitsSender e.cable e n → AreDistinct (rows_of e.channel n.manager) → sender_deed stamp e (waiting w.back) n ≡ Some d → TurnsLane e n d w }
+    ensures timeouts { (e : SenderEnd) (n : Node) (w : Road) (d : Deed) → HasSender e n w → timeout_deed e n ≡ Some d → TimesOutLane e n d w }
+{}
+
+/// Each turn of a receiver's end is one of its lane. A turn that pushes what is owed pops nothing, so it is taken as if nothing waited.
+pub fn turns_of_receivers_are_turns_of_lanes()
+    ensures { (e : ReceiverEnd) (n : Node) (w : Road) (stamp : ℕ) (seen : Seen) (d : Deed) → HasReceiver e n w → (seen ≡ waiting w.out) ⊎ (is_some e.machine.owes ≡ true) → receiver_deed stamp e seen n ≡ Some d → TakesLane e n d w }
 {}
