@@ -1,8 +1,7 @@
 -- What a sender's own changes make of the rows of its queue, in numbers.
 use Rattle.std.proofs.Common.{ℕ, zero, suc, ◌≡◌, ◌≤◌, ◌<◌, ◌+◌, Bool, true, false, List, [], ◌∷◌, length, refl, ap, sym, subst, arith, inl, inr, ◌∙◌}
-use Rattle.std.specs.Prelude.{Option, Some, None, ◌&&◌, ◌||◌, filter, if◌then◌else◌, map, not, take}
+use Rattle.std.specs.Prelude.{if◌then◌else◌, Some, ◌&&◌, ◌||◌, filter, not, take}
 use Rattle.std.specs.List.{list_any}
-use Rattle.std.specs.Str.{bytes_eq}
 use Rattle.mq_message.specs.declared.message.Ident.{Ident}
 use Rattle.mq_message.specs.declared.place.Holder.{Holder}
 use Rattle.mq_queue.specs.declared.row.Row.{Row}
@@ -12,12 +11,12 @@ use Rattle.mq_spec_state.specs.State.{Plain, Which}
 use Rattle.mq_spec_state.specs.State.Change.{Hold, Leave, Release}
 use Rattle.mq_spec_state.specs.State.Which.{Among}
 use Rattle.mq_spec_state.specs.Changes.{apply, release_if, retag_if, selects}
-use Rattle.mq_spec_state.specs.Reads.{free_rows, stored}
+use Rattle.mq_spec_state.specs.Reads.{free_rows}
 use Rattle.mq_spec_manager.specs.Get.{idents_of}
 use Rattle.mq_base.specs.Members.{Mem}
 use Rattle.mq_law_idle.specs.Counts.{Distinct, NoneHas, first_free, free_in, held_in, hold_if, held_one}
-use Rattle.mq_law_idle.proofs.Counted.{HoldsSo, holds_first, kept_rows, retagged_rows, same_self}
-use Rattle.mq_law_node.specs.Rows.{rows_at, row_kind, rows_do}
+use Rattle.mq_law_idle.proofs.Counted.{HoldsSo, holds_first, kept_rows, retagged_rows}
+use Rattle.mq_law_node.specs.Rows.{rows_at}
 use Rattle.mq_law_node.proofs.Named.{bool_case, name_self}
 use Rattle.mq_law_node.proofs.RowLaws.{rows_applied}
 use Rattle.mq_law_node.proofs.Batches.{filter_mem, ident_self}

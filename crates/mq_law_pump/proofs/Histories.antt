@@ -1,7 +1,6 @@
 -- Histories one entry longer: what is known of them holds of them before; and what an event of a PUMP leaves where its manager stays up.
-use Rattle.std.proofs.Common.{◌≡◌, ◌⊎◌, ℕ, zero, suc, Bool, true, false, List, [], ◌∷◌, ◌++◌, refl, sym, ap, subst, ◌∙◌, append_assoc, append-nil, arith, inl, inr}
-use Rattle.std.specs.Prelude.{Option, None, Some, if◌then◌else◌, ◌==◌, is_some, not}
-use Rattle.mq_calls.specs.declared.choices.Choice.{Choice}
+use Rattle.std.proofs.Common.{◌≡◌, ◌⊎◌, ℕ, zero, suc, Bool, true, false, List, [], ◌∷◌, ◌++◌, refl, sym, ap, subst, ◌∙◌, append_assoc, arith, inl, inr}
+use Rattle.std.specs.Prelude.{if◌then◌else◌, Option, None, Some, ◌==◌, is_some, not}
 use Rattle.mq_calls.specs.declared.choices.Choice.TheVariants.{NoMemory, Runs, Stopped}
 use Rattle.mq_frame.specs.declared.frame.Seen.{Seen}
 use Rattle.mq_history.specs.declared.calls.Actor.{Actor}
@@ -11,16 +10,16 @@ use Rattle.mq_history.specs.declared.calls.Chance.{Chance}
 use Rattle.mq_history.specs.declared.calls.Chance.TheVariants as chances
 use Rattle.mq_history.specs.declared.calls.Entry.{Entry}
 use Rattle.mq_history.specs.declared.calls.Reply.{Reply}
-use Rattle.mq_spec_state.specs.State.{Noted, Plain, Running}
+use Rattle.mq_spec_state.specs.State.{Plain, Running}
 use Rattle.mq_spec_state.specs.State.Running.{Down, Up}
 use Rattle.mq_spec_state.specs.Steps.{IsWrite, Part, do_all, do_part, stopped_at}
 use Rattle.mq_spec_node.specs.Node.{Node}
 use Rattle.mq_spec_node.specs.Deeds.{CanWant, Deed, Done, done}
 use Rattle.mq_spec_node.specs.Happens.{IsDeed, IsEvent, choice_event, deed_of, event, remembering, trigger_deed}
 use Rattle.mq_spec_node.specs.Replays.{Follows, Tells, after, done_by}
-use Rattle.mq_spec_network.specs.Turns.{Network, does, more_at, node_at, node_of}
+use Rattle.mq_spec_network.specs.Turns.{Network, does, node_at, node_of}
 use Rattle.mq_spec_network.specs.Steps.{none_due}
-use Rattle.mq_law_node.proofs.Named.{bool_case, nat_self, nat_yes}
+use Rattle.mq_law_node.proofs.Named.{bool_case, nat_self}
 use Rattle.mq_law_node.proofs.NearTotal.{remembered_ends}
 use Rattle.mq_law_pump.specs.Fit.{Good, IsFit}
 use Rattle.mq_law_pump.specs.Steady.{IsPumped}

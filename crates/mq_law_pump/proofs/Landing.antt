@@ -1,8 +1,7 @@
 -- Receivers' turns whose messages go elsewhere, and trigger turns, add no row to a transmission queue that a sender has open.
-use Rattle.std.proofs.Common.{ℕ, ◌≡◌, Bool, true, false, List, [], ◌∷◌, ◌++◌, refl, ap, sym, subst, ◌∙◌}
-use Rattle.std.specs.Prelude.{Option, Some, None, Result, Ok, Err, ◌&&◌, if◌then◌else◌, length, nat_le, nat_lt, not}
+use Rattle.std.proofs.Common.{ℕ, ◌≡◌, Bool, true, false, List, [], ◌∷◌, ◌++◌, refl, ap, sym, subst, arith, ◌∙◌}
+use Rattle.std.specs.Prelude.{if◌then◌else◌, Option, Some, None, Result, Ok, Err, ◌&&◌, length, nat_lt, not}
 use Rattle.std.specs.Str.{bytes_eq}
-use Rattle.mq_calls.specs.declared.deltas.Did.TheVariants as did
 use Rattle.mq_codes.specs.declared.reason.Reason.{Reason}
 use Rattle.mq_codes.specs.declared.reason.Reason.TheVariants as reasons
 use Rattle.mq_frame.specs.declared.frame.Seen.{Seen}
@@ -20,11 +19,10 @@ use Rattle.mq_receiver.specs.After.{last_by}
 use Rattle.mq_receiver.specs.declared.turns.ReceiverDoes.{ReceiverDoes}
 use Rattle.mq_receiver.specs.declared.turns.ReceiverDoes.TheVariants as takes
 use Rattle.mq_receiver.specs.Table.{receiver_next}
-use Rattle.mq_spec_state.specs.State.{Change, Given, Plain, Running}
+use Rattle.mq_spec_state.specs.State.{Given, Plain, Running}
 use Rattle.mq_spec_state.specs.State.Change.{SetReceiver}
 use Rattle.mq_spec_state.specs.State.Running.{Down, Up}
 use Rattle.mq_spec_state.specs.Changes.{apply_all, try_if}
-use Rattle.mq_spec_state.specs.Condition.{condition}
 use Rattle.mq_spec_state.specs.Reads.{depth, is_full, is_persistent, is_up, receiver_data}
 use Rattle.mq_spec_state.specs.Sizes.{need}
 use Rattle.mq_spec_state.specs.Steps.{Step, refusal}
@@ -39,10 +37,8 @@ use Rattle.mq_spec_node.specs.Node.{Node, ReceiverEnd}
 use Rattle.mq_spec_node.specs.Deeds.{Deed, parts_of}
 use Rattle.mq_spec_node.specs.Calls.{trigger_deed, trigger_deed_of, where_up}
 use Rattle.mq_spec_node.specs.Receivers.{is_receiver_defined, place_deed, receiver_deed, receiver_deed_by}
-use Rattle.mq_law_channel.proofs.Told.{and_both}
 use Rattle.mq_law_manager.proofs.Stocks.{local_named}
-use Rattle.mq_law_node.proofs.Aside.{not_true}
-use Rattle.mq_law_node.proofs.Named.{bool_case, name_is}
+use Rattle.mq_law_node.proofs.Named.{name_is}
 use Rattle.mq_law_pump.specs.Others.{AllGoElsewhere, EachAddsNone, GoesElsewhere, all_add_none, parts_add_none}
 use Rattle.mq_law_pump.proofs.OtherDeeds.{StepAddsNone, changes_behind, refused_none}
 

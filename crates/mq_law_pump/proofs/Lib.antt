@@ -8,3 +8,4 @@ pub mod TimingOut
 pub mod Others
 pub mod OtherDeeds
 pub mod Landing
+pub mod Popping

@@ -1,51 +1,37 @@
 -- Which deeds of a manager add no row to a queue that one of its senders has open: turns and timeouts of other senders, turns of receivers
 -- whose messages go elsewhere, and trigger turns.
-use Rattle.std.proofs.Common.{ℕ, ◌≡◌, Bool, true, false, List, [], ◌∷◌, ◌++◌, refl, ap, sym, subst, ◌∙◌}
-use Rattle.std.specs.Prelude.{Option, Some, None, Result, Ok, Err, ◌&&◌, if◌then◌else◌, not}
+use Rattle.std.proofs.Common.{ℕ, ◌≡◌, Bool, true, false, List, [], ◌∷◌, ◌++◌, refl, ap, ◌∙◌}
+use Rattle.std.specs.Prelude.{if◌then◌else◌, Option, Some, None, ◌&&◌, not}
 use Rattle.std.specs.Str.{bytes_eq}
-use Rattle.mq_calls.specs.declared.agents.Note.TheVariants as notes
 use Rattle.mq_calls.specs.declared.agents.PrepareFault.{PrepareFault}
 use Rattle.mq_calls.specs.declared.agents.PrepareFault.TheVariants as prepare_faults
 use Rattle.mq_calls.specs.declared.deltas.Did.TheVariants as did
-use Rattle.mq_codes.specs.declared.reason.Reason.{Reason}
-use Rattle.mq_codes.specs.declared.reason.Reason.TheVariants as reasons
+use Rattle.mq_frame.specs.declared.frame.Frame.{Frame}
 use Rattle.mq_frame.specs.declared.frame.Seen.{Seen}
-use Rattle.mq_message.specs.declared.message.Ident.{Ident}
-use Rattle.mq_message.specs.declared.message.Message.{Message}
-use Rattle.mq_objects.specs.Names.{is_transmission, local_of}
-use Rattle.mq_objects.specs.declared.object.Definitions.{Definitions}
-use Rattle.mq_objects.specs.declared.object.LocalQueue.{LocalQueue}
 use Rattle.mq_queue.specs.declared.row.Row.{Row}
-use Rattle.mq_resolve.specs.Resolved.{resolve}
-use Rattle.mq_resolve.specs.declared.route.Route.{Route}
-use Rattle.mq_sync.specs.Settlement.{receiver_or, sender_or}
+use Rattle.mq_sync.specs.Settlement.{sender_or}
 use Rattle.mq_sync.specs.declared.unit.Settle.{Settle}
 use Rattle.mq_sync.specs.declared.unit.Settle.TheVariants as settles
-use Rattle.mq_sync.specs.declared.unit.Unit.{Unit as Luw}
 use Rattle.mq_sender.specs.declared.state.SenderState.{SenderState}
 use Rattle.mq_sender.specs.declared.turns.SenderDoes.{SenderDoes}
 use Rattle.mq_sender.specs.declared.turns.SenderDoes.TheVariants as does
-use Rattle.mq_sender.specs.After.{number_sent}
+use Rattle.mq_sender.specs.declared.turns.SenderOut.TheVariants as outs
+use Rattle.mq_sender.specs.After.{number_sent, sender_after}
 use Rattle.mq_sender.specs.States.{awaits, is_running, timed_out}
 use Rattle.mq_sender.specs.Table.{sender_next}
-use Rattle.mq_receiver.specs.After.{last_by}
-use Rattle.mq_receiver.specs.declared.turns.ReceiverDoes.{ReceiverDoes}
-use Rattle.mq_receiver.specs.declared.turns.ReceiverDoes.TheVariants as takes
-use Rattle.mq_receiver.specs.Table.{receiver_next}
-use Rattle.mq_spec_state.specs.State.{Batch, Change, Given, Plain}
-use Rattle.mq_spec_state.specs.State.Change.{SetReceiver}
-use Rattle.mq_spec_state.specs.Reads.{batch_of, is_full, receiver_data, sender_data}
+use Rattle.mq_spec_state.specs.State.{Batch, Change, Plain}
+use Rattle.mq_spec_state.specs.Reads.{batch_of, is_full, sender_data}
 use Rattle.mq_spec_state.specs.Sizes.{need}
 use Rattle.mq_spec_state.specs.Steps.{Part, Step, refused_or}
 use Rattle.mq_spec_state.specs.Steps.Step.{Do, Refuse}
 use Rattle.mq_spec_manager.specs.Get.{expired_parts}
 use Rattle.mq_spec_agents.specs.Words.{expired_rows, leave, prepare, prepare_of, prepared_changes, prepared_record, queue_of_sender, release_of, stock}
 use Rattle.mq_spec_node.specs.Node.{Node, SenderEnd}
-use Rattle.mq_spec_node.specs.Deeds.{Deed, parts_of}
-use Rattle.mq_spec_node.specs.Senders.{after_timeout, leave_if_stopped, prepare_deed, sender_deed, sender_deed_by, settle_parts_if, timeout_deed}
+use Rattle.mq_spec_node.specs.Deeds.{parts_of}
+use Rattle.mq_spec_node.specs.Senders.{after_timeout, leave_if_stopped, prepare_deed, sender_deed, sender_deed_by, sent, settle_parts_if, timeout_deed}
 use Rattle.mq_law_channel.proofs.Told.{and_both}
 use Rattle.mq_law_node.proofs.Named.{bool_case}
-use Rattle.mq_law_pump.specs.Others.{EachAddsNone, all_add_none, parts_add_none}
+use Rattle.mq_law_pump.specs.Others.{EachAddsNone, adds_none, all_add_none, parts_add_none}
 
 -- PARTS BEHIND PARTS
 both : (a b : Bool) → a ≡ true → b ≡ true → (a && b) ≡ true
@@ -60,10 +46,9 @@ parts_behind channel q (x ∷ xs) ys h g =
 
 pub changes_behind : (channel q : List ℕ) (xs ys : List Change) → all_add_none channel q xs ≡ true → all_add_none channel q ys ≡ true → all_add_none channel q (xs ++ ys) ≡ true
 changes_behind channel q [] ys h g = g
-changes_behind channel q (x ∷ xs) ys h g = behind (and_both _ (all_add_none channel q xs) h)
-  where
-    behind : _ → all_add_none channel q (x ∷ xs ++ ys) ≡ true
-    behind b = both _ (all_add_none channel q (xs ++ ys)) b.0 (changes_behind channel q xs ys b.1 g)
+changes_behind channel q (x ∷ xs) ys h g =
+    let b = and_both (adds_none channel q x) (all_add_none channel q xs) h in
+    both (adds_none channel q x) (all_add_none channel q (xs ++ ys)) b.0 (changes_behind channel q xs ys b.1 g)
 
 -- TURNS OF OTHER SENDERS
 leaving : (channel q ch : List ℕ) (st : SenderState) (p : Plain) → parts_add_none channel q (leave_if_stopped ch st p) ≡ true
@@ -102,9 +87,12 @@ preparing channel q ch last (Some b) p = refused_none channel q (if is_full (nee
   delta = did.Prepared ch b.unit ∷ [];
 } ∷ [])) refl
 
+sent_none : (channel q : List ℕ) (e : SenderEnd) (x : SenderDoes) (parts : List Part) (pushed : Option Frame) (n : Node) → parts_add_none channel q parts ≡ true → EachAddsNone channel q (Some (sent e x parts pushed n))
+sent_none channel q e x parts pushed n h = parts_behind channel q parts (leave_if_stopped e.channel (sender_after e.machine x outs.Done).state n.manager) h (leaving channel q e.channel (sender_after e.machine x outs.Done).state n.manager)
+
 prepared : (channel q : List ℕ) (e : SenderEnd) (s : Step PrepareFault (Unit {0})) (n : Node) → bytes_eq channel e.channel ≡ false → StepAddsNone channel q s → EachAddsNone channel q (Some (prepare_deed e s n))
 prepared channel q e (Refuse fault) n apart h = releasing channel q e.channel (batch_of e.channel n.manager.channels.batches) n.manager apart
-prepared channel q e (Do reply parts) n apart h = parts_behind channel q parts (leave_if_stopped e.channel _ n.manager) h (leaving channel q e.channel _ n.manager)
+prepared channel q e (Do reply parts) n apart h = sent_none channel q e does.Prepare parts None n h
 
 senders_by : (channel q : List ℕ) (stamp : ℕ) (e : SenderEnd) (x : SenderDoes) (n : Node) → bytes_eq channel e.channel ≡ false → bytes_eq q (queue_of_sender e.channel n.manager) ≡ false → EachAddsNone channel q (sender_deed_by stamp e x n)
 senders_by channel q stamp e does.Still n apart other = tt
@@ -112,15 +100,15 @@ senders_by channel q stamp e does.Ignore n apart other = refl
 senders_by channel q stamp e (does.HardenSession session) n apart other = refl
 senders_by channel q stamp e does.PushBind n apart other = refl
 senders_by channel q stamp e does.Expire n apart other =
-    parts_behind channel q (expired_parts (queue_of_sender e.channel n.manager) (expired_rows (queue_of_sender e.channel n.manager) n.manager)) _ (expiring channel q (queue_of_sender e.channel n.manager) (expired_rows (queue_of_sender e.channel n.manager) n.manager)) (leaving channel q e.channel e.machine.state n.manager)
+    sent_none channel q e does.Expire (expired_parts (queue_of_sender e.channel n.manager) (expired_rows (queue_of_sender e.channel n.manager) n.manager)) None n (expiring channel q (queue_of_sender e.channel n.manager) (expired_rows (queue_of_sender e.channel n.manager) n.manager))
 senders_by channel q stamp e (does.Begin k count) n apart other = ap (λ (b : Bool). (not b && true) && true) other
 senders_by channel q stamp e (does.PushMsg index) n apart other = refl
 senders_by channel q stamp e does.Prepare n apart other =
     prepared channel q e (prepare e.channel (number_sent e.machine.state e.machine.kept.last) n.manager) n apart (preparing channel q e.channel (number_sent e.machine.state e.machine.kept.last) (batch_of e.channel n.manager.channels.batches) n.manager)
 senders_by channel q stamp e does.PushEnd n apart other = refl
-senders_by channel q stamp e (does.Bound settle partner) n apart other = parts_behind channel q (settle_parts_if e settle n.manager) _ (settling channel q e settle n.manager apart) (leaving channel q e.channel _ n.manager)
-senders_by channel q stamp e does.Commit n apart other = parts_behind channel q (settle_parts_if e (Some settles.Commit) n.manager) _ (settling channel q e (Some settles.Commit) n.manager apart) (leaving channel q e.channel _ n.manager)
-senders_by channel q stamp e (does.Backout reason) n apart other = parts_behind channel q (settle_parts_if e (Some settles.Backout) n.manager) _ (settling channel q e (Some settles.Backout) n.manager apart) (leaving channel q e.channel _ n.manager)
+senders_by channel q stamp e (does.Bound settle partner) n apart other = sent_none channel q e (does.Bound settle partner) (settle_parts_if e settle n.manager) None n (settling channel q e settle n.manager apart)
+senders_by channel q stamp e does.Commit n apart other = sent_none channel q e does.Commit (settle_parts_if e (Some settles.Commit) n.manager) None n (settling channel q e (Some settles.Commit) n.manager apart)
+senders_by channel q stamp e (does.Backout reason) n apart other = sent_none channel q e (does.Backout reason) (settle_parts_if e (Some settles.Backout) n.manager) None n (settling channel q e (Some settles.Backout) n.manager apart)
 
 pub senders_add_none : (channel q : List ℕ) (stamp : ℕ) (e : SenderEnd) (seen : Seen) (n : Node) → bytes_eq channel e.channel ≡ false → bytes_eq q (queue_of_sender e.channel n.manager) ≡ false → EachAddsNone channel q (sender_deed stamp e seen n)
 senders_add_none channel q stamp e seen n apart other = senders_by channel q stamp e (sender_next e.machine seen (stock e.channel n.manager)) n apart other

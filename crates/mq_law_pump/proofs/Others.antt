@@ -1,6 +1,6 @@
 -- What adds no row to a queue leaves no more rows free, and held, than there were.
 use Rattle.std.proofs.Common.{ℕ, ◌≡◌, ◌≤◌, Bool, true, false, List, [], ◌∷◌, refl, ap, sym, subst, arith, ◌∙◌}
-use Rattle.std.specs.Prelude.{Option, Some, None, ◌&&◌, ◌||◌, if◌then◌else◌, not}
+use Rattle.std.specs.Prelude.{if◌then◌else◌, Option, Some, None, ◌&&◌, ◌||◌, not}
 use Rattle.std.specs.List.{list_any}
 use Rattle.std.specs.Str.{bytes_eq}
 use Rattle.mq_calls.specs.declared.records.LogRecord.{LogRecord}
@@ -9,7 +9,7 @@ use Rattle.mq_message.specs.declared.place.Holder.TheVariants as holders
 use Rattle.mq_objects.specs.Names.{local_of}
 use Rattle.mq_queue.specs.declared.row.Row.{Row}
 use Rattle.mq_queue.specs.Rows.{held_by, is_free, keep, retag, same_ident}
-use Rattle.mq_spec_state.specs.State.{Change, Plain, Which}
+use Rattle.mq_spec_state.specs.State.{Change, Plain}
 use Rattle.mq_spec_state.specs.State.Change.{DropQueue, Hold, Leave, Place, Release, Renew}
 use Rattle.mq_spec_state.specs.State.Which.{Among, HeldBy, HeldByUnits, Nonpersistent}
 use Rattle.mq_spec_state.specs.Changes.{apply, apply_all, lane_of, release_if, retag_if, selects}

@@ -9,7 +9,7 @@ use Rattle.mq_spec_network.specs.Turns.{Network, does, is_idle, idle_from, node_
 use Rattle.mq_spec_network.specs.Tasks.{Slot, Task}
 use Rattle.mq_spec_network.specs.Tasks.Slot.{Sends, Receives, TimesOut}
 use Rattle.mq_spec_network.specs.Tasks.Task.{Pump}
-use Rattle.mq_spec_network.specs.Steps.{Goes, Moves as TaskMoves, Passes, PumpSkips, PumpTakes, Served, TakesTurn, left_by, next_round, none_due, pump_on, turn_in}
+use Rattle.mq_spec_network.specs.Steps.{Goes, Moves as TaskMoves, Passes, PumpSkips, PumpTakes, Served, TakesTurn, left_by, none_due, pump_on, turn_in}
 use Rattle.mq_spec_network.specs.Steps.Goes.{stays, moves, serves, passes}
 use Rattle.mq_law_idle.specs.Roads.{Quiet}
 use Rattle.mq_law_idle.specs.Lanes.{Aside, AllAside, Begins, Lane, OneMoves, Pumps, bound}

@@ -1,6 +1,6 @@
 -- Each turn of a sender's end at a node is the turn of its lane.
 use Rattle.std.proofs.Common.{ℕ, zero, suc, ◌≡◌, ◌≤◌, ◌<◌, ◌+◌, ◌-◌, Bool, true, false, List, [], ◌∷◌, ◌++◌, length, refl, ap, sym, subst, arith, ◌∙◌, append-nil}
-use Rattle.std.specs.Prelude.{Option, Some, None, ◌&&◌, if◌then◌else◌, min, nat_lt, pos, slice_get, take}
+use Rattle.std.specs.Prelude.{if◌then◌else◌, Option, Some, None, ◌&&◌, min, nat_lt, pos, slice_get, take}
 use Rattle.std.specs.Option.{option_map}
 use Rattle.mq_calls.specs.declared.agents.Note.TheVariants as notes
 use Rattle.mq_calls.specs.declared.agents.PrepareFault.{PrepareFault}
@@ -42,8 +42,8 @@ use Rattle.mq_spec_state.specs.Steps.Step.{Do, Refuse}
 use Rattle.mq_spec_manager.specs.Get.{expired_parts, idents_of, persistent_rows, removal_record}
 use Rattle.mq_spec_manager.specs.Heads.{own_md}
 use Rattle.mq_spec_agents.specs.Words.{batch_row, expire, expired_rows, harden, hold_batch, leave, names_of, prepare, prepare_of, prepared_changes, prepared_record, queue_of_sender, release_batch, stock}
-use Rattle.mq_spec_node.specs.Node.{Node, SenderEnd, end_in}
-use Rattle.mq_spec_node.specs.Node.ChannelEnd.{Sends}
+use Rattle.mq_spec_node.specs.Node.{ChannelEnd, Node, SenderEnd, end_in}
+use Rattle.mq_spec_node.specs.Node.ChannelEnd.{Receives, Sends}
 use Rattle.mq_spec_node.specs.Deeds.{Deed, parts_of, turned}
 use Rattle.mq_spec_node.specs.Senders.{begin_deed, carried, doubted, leave_if_stopped, prepare_deed, sender_deed, sender_deed_by, sender_end_after, sent, settle_parts, settle_parts_if}
 use Rattle.mq_law_idle.specs.Counts.{free_in, held_in}
@@ -151,7 +151,7 @@ stays : (channel : List ℕ) (st : SenderState) (parts : List Part) (p q : Plain
 stays channel st parts p q runs = ap (λ (b : Bool). do_all (parts ++ (if b then [] else leave_parts)) q) runs ∙ ap (λ (xs : List Part). do_all xs q) (append-nil parts)
   where
     leave_parts : List Part
-    leave_parts = leave_if_stopped channel st p
+    leave_parts = parts_of (leave channel p)
 
 -- the rows behind parts are the same, or so many
 abbrev Same : List ℕ → Plain → List Part → Type 0
@@ -250,8 +250,13 @@ some_at i [] h less = omega (arith, less)
 some_at zero (x ∷ xs) h less = absurd cc
 some_at (suc i) (x ∷ xs) h less = some_at i xs h (omega (arith, less))
 
+abbrev machine_in : Option ChannelEnd → Sender → Sender
+machine_in None m = m
+machine_in (Some (Sends e)) m = e.machine
+machine_in (Some (Receives e)) m = m
+
 same_machine : (a b : Sender) (e : SenderEnd) → Some (Sends (record e { machine = a })) ≡ Some (Sends (record e { machine = b })) → a ≡ b
-same_machine a b e h = cc
+same_machine a b e h = ap (λ (o : Option ChannelEnd). machine_in o a) h
 
 sends_message : (e : SenderEnd) (n : Node) (w : Road) (stamp index : ℕ) → HasSender e n w → FitsSender e.cable e n → sender_next e.machine (waiting w.back) (stock e.channel n.manager) ≡ does.PushMsg index → Says e.machine (stock e.channel n.manager) (does.PushMsg index)
     → TurnsLane e n (sent e (does.PushMsg index) [] (option_map (carried stamp e e.machine.begun index) (batch_row e.channel index n.manager)) n) w

@@ -1,6 +1,6 @@
 -- Each turn of a receiver's end at a node is the turn of its lane.
-use Rattle.std.proofs.Common.{ℕ, ◌≡◌, ◌⊎◌, Bool, true, false, List, [], ◌∷◌, ◌++◌, refl, ap, sym, subst, ◌∙◌, inl, inr}
-use Rattle.std.specs.Prelude.{Option, Some, None, if◌then◌else◌, is_some}
+use Rattle.std.proofs.Common.{ℕ, ◌≡◌, ◌⊎◌, Bool, true, List, [], ◌∷◌, ◌++◌, refl, ap, sym, subst, ◌∙◌, inl, inr}
+use Rattle.std.specs.Prelude.{if◌then◌else◌, Option, Some, None, is_some}
 use Rattle.std.specs.Option.{option_map}
 use Rattle.mq_codes.specs.declared.reason.Reason.{Reason}
 use Rattle.mq_codes.specs.Numbers.{number}
@@ -25,7 +25,7 @@ use Rattle.mq_spec_node.specs.Node.{Node, ReceiverEnd, end_in, with_end}
 use Rattle.mq_spec_node.specs.Node.ChannelEnd.{Receives}
 use Rattle.mq_spec_node.specs.Deeds.{Deed, turned}
 use Rattle.mq_spec_node.specs.Receivers.{is_receiver_defined, kept_seen, place_deed, receiver_deed, receiver_deed_by, receiver_end_after}
-use Rattle.mq_law_idle.specs.Roads.{ReceiverTurn, Road, answered, answers, laid, receiver_does, taken_by, waiting}
+use Rattle.mq_law_idle.specs.Roads.{ReceiverTurn, Road, answered, answers, laid, receiver_does, waiting}
 use Rattle.mq_law_node.proofs.Named.{end_set}
 use Rattle.mq_law_pump.specs.Deeds.{HasReceiver, TakesLane}
 

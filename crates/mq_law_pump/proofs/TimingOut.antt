@@ -1,13 +1,12 @@
 -- A timeout of a sender's end at a node is the timeout of its lane.
 use Rattle.std.proofs.Common.{◌≡◌, Bool, true, false, List, [], refl, ap, sym, subst, ◌∙◌}
-use Rattle.std.specs.Prelude.{Option, Some, None, if◌then◌else◌}
-use Rattle.mq_queue.specs.declared.row.Row.{Row}
+use Rattle.std.specs.Prelude.{if◌then◌else◌, Some, None}
 use Rattle.mq_sender.specs.declared.state.Sender.{Sender}
 use Rattle.mq_sender.specs.declared.state.SenderState.{SenderState}
 use Rattle.mq_sender.specs.declared.state.SenderState.TheVariants.{Binding, Waiting}
 use Rattle.mq_sender.specs.States.{awaits, is_running, timed_out}
 use Rattle.mq_spec_state.specs.Steps.{Part, do_all}
-use Rattle.mq_spec_node.specs.Node.{Node, SenderEnd, end_in, with_end}
+use Rattle.mq_spec_node.specs.Node.{Node, SenderEnd}
 use Rattle.mq_spec_node.specs.Node.ChannelEnd.{Sends}
 use Rattle.mq_spec_node.specs.Deeds.{Deed, parts_of}
 use Rattle.mq_spec_node.specs.Senders.{after_timeout, timeout_deed}

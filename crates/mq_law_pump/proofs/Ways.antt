@@ -1,15 +1,14 @@
 -- A cable without faults: a frame that is offered lies there last, and a pop takes the first.
-use Rattle.std.proofs.Common.{◌≡◌, ◌≤◌, ◌+◌, ℕ, zero, suc, Bool, true, false, List, [], ◌∷◌, ◌++◌, length, refl, sym, ap, subst, ◌∙◌, append_assoc, append-nil, arith}
-use Rattle.std.specs.Prelude.{Option, None, Some, take, drop, filter, flat_map, nat_le, not, ◌==◌}
-use Rattle.mq_cable.specs.Faults.{Offer, due_after, due_from, made_after, made_of, offered_of, now_of}
+use Rattle.std.proofs.Common.{◌≡◌, ◌≤◌, ◌+◌, ℕ, zero, suc, Bool, true, false, List, [], ◌∷◌, ◌++◌, length, refl, sym, ap, ◌∙◌, append_assoc, append-nil, arith}
+use Rattle.std.specs.Prelude.{Option, None, Some, take, drop, filter, nat_le, ◌==◌}
+use Rattle.mq_cable.specs.Faults.{Offer, due_after, due_from, made_after, offered_of}
 use Rattle.mq_frame.specs.declared.frame.Frame.{Frame}
 use Rattle.mq_frame.specs.declared.frame.Seen.{Seen}
-use Rattle.mq_frame.specs.declared.frame.Seen.TheVariants as items
 use Rattle.mq_history.specs.declared.calls.Actor.{Actor}
 use Rattle.mq_history.specs.declared.calls.Entry.{Entry}
 use Rattle.mq_spec_node.specs.Doers.{by}
 use Rattle.mq_spec_network.specs.Cables.{Lying, is_popped, lying, made, offered_by, offered_if, pops_of, spoiled, whole}
-use Rattle.mq_spec_network.specs.Turns.{Direction, extras_of, is_full as is_full_way, push_refused, put_now, waiting as first_lying}
+use Rattle.mq_spec_network.specs.Turns.{is_full as is_full_way, push_refused, waiting as first_lying}
 use Rattle.mq_law_idle.specs.Roads.{behind, is_full, laid, waiting}
 use Rattle.mq_law_pump.specs.Ways.{IsWithin, behind_if, seen_of}
 

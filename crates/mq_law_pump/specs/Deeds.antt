@@ -1,5 +1,5 @@
 -- Turns of ends at a node, as turns of their lanes.
-use Rattle.std.specs.Prelude.{◌≡◌, true, List, None, Some}
+use Rattle.std.specs.Prelude.{◌≡◌, true, List, None, Option, Some}
 use Rattle.mq_message.specs.declared.message.Message.{Message}
 use Rattle.mq_sender.specs.States.{awaits, is_running}
 use Rattle.mq_spec_state.specs.Steps.{do_all}
@@ -51,3 +51,8 @@ pub record HasSender (e : SenderEnd) (n : Node) (w : Road) : Type 0 where
 pub record HasReceiver (e : ReceiverEnd) (n : Node) (w : Road) : Type 0 where
   pub machine : w.receiver ≡ e.machine
   pub here : end_in e.cable n.own.ends ≡ Some (Receives e)
+
+-- A deed that takes memory of its own accord: where none is left, it is no event.
+abbrev pub EachWantsNone : Option Deed → Type 0
+EachWantsNone None = Unit {0}
+EachWantsNone (Some d) = d.wanting ≡ None

@@ -6,22 +6,32 @@ ghost use Rattle.mq_frame.specs.declared.frame.Frame.{Frame};
 ghost use Rattle.mq_frame.specs.declared.frame.Seen.{Seen};
 ghost use Rattle.mq_history.specs.declared.calls.Call.TheVariants as calls;
 ghost use Rattle.mq_history.specs.declared.calls.Entry.{Entry};
+ghost use Rattle.mq_objects.specs.Names.{local_of};
 ghost use Rattle.mq_queue.specs.Queues.{AreDistinct};
+ghost use Rattle.mq_spec_agents.specs.Words.{queue_of_sender};
+ghost use Rattle.mq_spec_manager.specs.Handles.{is_transmission_queue};
+ghost use Rattle.mq_spec_state.specs.Reads.{has_held_by_other};
+ghost use Rattle.mq_spec_state.specs.State.{Plain};
+ghost use Rattle.mq_spec_state.specs.Steps.{Part, do_all};
+ghost use Rattle.std.specs.Str.{bytes_eq};
 ghost use Rattle.mq_spec_state.specs.State.Running.{Up};
+ghost use Rattle.mq_spec_node.specs.Calls.{trigger_deed};
 ghost use Rattle.mq_spec_node.specs.Node.{Node, ReceiverEnd, SenderEnd};
 ghost use Rattle.mq_spec_node.specs.Deeds.{Deed};
 ghost use Rattle.mq_spec_node.specs.Receivers.{receiver_deed};
 ghost use Rattle.mq_spec_node.specs.Replays.{done_by};
 ghost use Rattle.mq_spec_node.specs.Senders.{sender_deed, timeout_deed};
 ghost use Rattle.mq_spec_network.specs.Cables.{Lying, is_popped, lying};
-ghost use Rattle.mq_spec_network.specs.Steps.{Goes, none_due};
+ghost use Rattle.mq_spec_network.specs.Steps.{Goes, none_due, popped_by, pushed_of};
 ghost use Rattle.mq_spec_network.specs.Tasks.{Task};
 ghost use Rattle.mq_spec_network.specs.Tasks.Slot.{Sends};
 ghost use Rattle.mq_spec_network.specs.Tasks.Task.{Pump};
 ghost use Rattle.mq_spec_network.specs.Turns.{Network, does, node_at, push_refused};
 ghost use Rattle.mq_law_idle.specs.Roads.{Road, is_full, laid, waiting};
-ghost use Rattle.mq_law_pump.specs.Deeds.{HasReceiver, HasSender, TakesLane, TimesOutLane, TurnsLane};
+ghost use Rattle.mq_law_node.specs.Rows.{rows_at};
+ghost use Rattle.mq_law_pump.specs.Deeds.{EachWantsNone, HasReceiver, HasSender, TakesLane, TimesOutLane, TurnsLane};
 ghost use Rattle.mq_law_pump.specs.Fit.{FitsSender, Good};
+ghost use Rattle.mq_law_pump.specs.Others.{AllGoElsewhere, EachAddsNone, NoMore, parts_add_none};
 ghost use Rattle.mq_law_pump.specs.Rows.{rows_of};
 ghost use Rattle.mq_law_pump.specs.Steady.{ArePumps, IsPumped};
 ghost use Rattle.mq_law_pump.specs.Ways.{IsWithin, behind_if, seen_of};
@@ -51,4 +61,25 @@ pub fn turns_of_senders_are_turns_of_lanes()
 /// Each turn of a receiver's end is one of its lane. A turn that pushes what is owed pops nothing, so it is taken as if nothing waited.
 pub fn turns_of_receivers_are_turns_of_lanes()
     ensures { (e : ReceiverEnd) (n : Node) (w : Road) (stamp : ℕ) (seen : Seen) (d : Deed) → HasReceiver e n w → (seen ≡ waiting w.out) ⊎ (is_some e.machine.owes ≡ true) → receiver_deed stamp e seen n ≡ Some d → TakesLane e n d w }
+{}
+
+/// What others do to a queue that one channel's sender has open leaves no more of its rows free, and held, than there were: turns and timeouts of other
+/// senders, turns of receivers whose messages go elsewhere, and trigger turns.
+pub fn others_add_no_row_to_a_senders_queue()
+    ensures parts { (channel queue : List ℕ) (parts : List Part) (p : Plain) → parts_add_none channel queue parts ≡ true → has_held_by_other channel queue p ≡ false → NoMore (rows_at queue (do_all parts p)) (rows_at queue p) }
+    ensures senders { (channel queue : List ℕ) (stamp : ℕ) (e : SenderEnd) (seen : Seen) (n : Node) → bytes_eq channel e.channel ≡ false → bytes_eq queue (queue_of_sender e.channel n.manager) ≡ false → EachAddsNone channel queue (sender_deed stamp e seen n) }
+    ensures timeouts { (channel queue : List ℕ) (e : SenderEnd) (n : Node) → EachAddsNone channel queue (timeout_deed e n) }
+    ensures receivers { (channel queue : List ℕ) (stamp : ℕ) (e : ReceiverEnd) (seen : Seen) (n : Node) → is_transmission_queue (local_of queue n.manager.definitions) ≡ true → AllGoElsewhere queue n.manager.definitions n.manager.given e.kept
+        → EachAddsNone channel queue (receiver_deed stamp e seen n) }
+    ensures triggers { (channel queue : List ℕ) (n : Node) → is_transmission_queue (local_of queue n.manager.definitions) ≡ true → EachAddsNone channel queue (trigger_deed n) }
+{}
+
+/// What an entry of a PUMP pops is what its end saw: a sender that pushes saw nothing, and a receiver that pushes what is owed looks at nothing. And turns of
+/// ends take memory of their own accord, so that where none is left they are no events.
+pub fn ends_pop_what_they_see()
+    ensures senders { (stamp : ℕ) (e : SenderEnd) (seen : Seen) (n : Node) → popped_by seen (pushed_of (sender_deed stamp e seen n)) ≡ seen }
+    ensures receivers { (stamp : ℕ) (e : ReceiverEnd) (seen : Seen) (n : Node) → (popped_by seen (pushed_of (receiver_deed stamp e seen n)) ≡ seen) ⊎ (is_some e.machine.owes ≡ true) }
+    ensures senders_want { (stamp : ℕ) (e : SenderEnd) (seen : Seen) (n : Node) → EachWantsNone (sender_deed stamp e seen n) }
+    ensures timeouts_want { (e : SenderEnd) (n : Node) → EachWantsNone (timeout_deed e n) }
+    ensures receivers_want { (stamp : ℕ) (e : ReceiverEnd) (seen : Seen) (n : Node) → EachWantsNone (receiver_deed stamp e seen n) }
 {}
