@@ -77,7 +77,7 @@ holds_so q k by_ p d few =
     let h : HoldsSo k by_ (rows_at q p) = holds_first k by_ (rows_at q p) (distinct_so (rows_at q p) d) in
     let n : length (first_free k (rows_at q p)) ≡ k = first_length k (rows_at q p) few in
     let rows : rows_at q (apply (Hold (Among q (idents_of (take k (free_rows q p)))) by_) p) ≡ retag (held_one (first_free k (rows_at q p)) by_) (rows_at q p) =
-      rows_held q (idents_of (take k (free_rows q p))) by_ p ∙ ap (λ (is : List Ident). retag (held_one is by_) (rows_at q p)) (first_so k (rows_at q p)) in
+    rows_held q (idents_of (take k (free_rows q p))) by_ p ∙ ap (λ (is : List Ident). retag (held_one is by_) (rows_at q p)) (first_so k (rows_at q p)) in
     (omega (arith, ap free_in rows, h.0, n), omega (arith, ap held_in rows, h.1, n))
 
 -- rows that leave

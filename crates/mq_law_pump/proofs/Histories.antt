@@ -98,10 +98,12 @@ earlier w m e p g = record {
   where
     behind : (j : ℕ) → (j == m) ≡ true → (does m (e ∷ []) w).done j ≡ w.done j ++ e ∷ []
     behind j is = ap (λ (b : Bool). if b then w.done j ++ e ∷ [] else w.done j) is
+
     nothing : (xs : List Entry) (b : Bool) → (if b then xs ++ e ∷ [] else xs) ≡ [] → xs ≡ []
     nothing [] b h = refl
     nothing (x ∷ xs) true h = absurd cc
     nothing (x ∷ xs) false h = absurd cc
+
     empty : (j : ℕ) → (does m (e ∷ []) w).done j ≡ [] → w.done j ≡ []
     empty j h = nothing (w.done j) (j == m) h
 
@@ -158,7 +160,7 @@ chosen e n d (chances.Foreign image length left) p silent can up is = absurd can
 pub ran : (e : Entry) (n : Node) (d : Deed) (stamp : ℕ) → IsPumped e.call → deed_of e.stamp e.actor e.call e.effect.popped n ≡ Some d → d.wanting ≡ None → Tells n stamp e → (done_by e n).next.manager.running ≡ Up → Ran e n d
 ran e n d stamp p is silent told up =
     let as_is : done_by e n ≡ remembering e.actor e.call (choice_event e.chance (Some d) n) =
-      event_is e.stamp e.actor e.call e.chance e.effect.popped n p ∙ ap (λ (o : Option Deed). remembering e.actor e.call (choice_event e.chance o n)) is in
+    event_is e.stamp e.actor e.call e.chance e.effect.popped n p ∙ ap (λ (o : Option Deed). remembering e.actor e.call (choice_event e.chance o n)) is in
     chosen e n d e.chance p silent
     (subst (λ (o : Option Deed). IsDeed o e.chance n) is (subst (λ (T : Type 0). T) (asked_is e.stamp e.actor e.call e.chance e.effect.popped n p) told.event))
     (ap (λ (x : Done). x.next.manager.running) (sym as_is) ∙ up) as_is

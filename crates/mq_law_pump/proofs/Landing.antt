@@ -68,6 +68,7 @@ dead_by q ch reason m p (Some l) true xmit is = one (is_transmission l.usage) re
   where
     rest : Bool
     rest = l.put_enabled && nat_lt (depth l.name p) l.max_depth
+
     one : (b : Bool) → is_transmission l.usage ≡ b → LandsElsewhere q (dead_or (true && can_take_dead (Some l) (length m.body) p) ch reason m p)
     one true t = subst (λ (b : Bool). LandsElsewhere q (dead_or b ch reason m p)) (sym (taken_not t)) tt
       where

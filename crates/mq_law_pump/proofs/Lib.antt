@@ -9,3 +9,5 @@ pub mod Others
 pub mod OtherDeeds
 pub mod Landing
 pub mod Popping
+pub mod Stillness
+pub mod Openings

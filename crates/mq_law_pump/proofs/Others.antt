@@ -1,5 +1,5 @@
 -- What adds no row to a queue leaves no more rows free, and held, than there were.
-use Rattle.std.proofs.Common.{ℕ, ◌≡◌, ◌≤◌, Bool, true, false, List, [], ◌∷◌, refl, ap, sym, subst, arith, ◌∙◌}
+use Rattle.std.proofs.Common.{ℕ, ◌≡◌, Bool, true, false, List, [], ◌∷◌, refl, ap, sym, subst, arith, ◌∙◌}
 use Rattle.std.specs.Prelude.{if◌then◌else◌, Option, Some, None, ◌&&◌, ◌||◌, not}
 use Rattle.std.specs.List.{list_any}
 use Rattle.std.specs.Str.{bytes_eq}
@@ -41,9 +41,11 @@ any_kept f test (r ∷ rs) h = one (test r) refl (any_kept f test rs (tail_none 
     tail_none : (b : Bool) → (b || list_any f rs) ≡ false → list_any f rs ≡ false
     tail_none true x = absurd cc
     tail_none false x = x
+
     head_none : (b : Bool) → (b || list_any f rs) ≡ false → b ≡ false
     head_none true x = absurd cc
     head_none false x = refl
+
     one : (b : Bool) → test r ≡ b → list_any f (keep test rs) ≡ false → list_any f (keep test (r ∷ rs)) ≡ false
     one true is x = ap (λ (b : Bool). list_any f (if b then r ∷ keep test rs else keep test rs)) is ∙ ap (λ (b : Bool). b || list_any f (keep test rs)) (head_none (f r) h) ∙ x
     one false is x = ap (λ (b : Bool). list_any f (if b then r ∷ keep test rs else keep test rs)) is ∙ x
@@ -66,6 +68,7 @@ retag_none f test (r ∷ rs) none h = λ i. h r (head_none (test r) none) i ∷ 
     tail_none : (b : Bool) → (b || list_any test rs) ≡ false → list_any test rs ≡ false
     tail_none true x = absurd cc
     tail_none false x = x
+
     head_none : (b : Bool) → (b || list_any test rs) ≡ false → b ≡ false
     head_none true x = absurd cc
     head_none false x = refl
@@ -91,8 +94,10 @@ held_not channel other (Some (holders.Batch c)) h apart = one (bytes_eq other c)
     not_false : (b : Bool) → not b ≡ false → b ≡ true
     not_false true x = refl
     not_false false x = absurd cc
+
     clash : (b : Bool) → b ≡ true → b ≡ false → ⊥
     clash b x y = absurd cc
+
     one : (b : Bool) → bytes_eq other c ≡ b → bytes_eq channel c ≡ true → held_by (holders.Batch other) (Some (holders.Batch c)) ≡ false
     one true is mine = absurd (clash (bytes_eq channel other) (ap (bytes_eq channel) (name_is other c is) ∙ mine) apart)
     one false is mine = is

@@ -1,6 +1,6 @@
 -- What an entry of a PUMP pops is what its end saw: a sender that pushes saw nothing, and a receiver that pushes looks at nothing. And turns of ends take
 -- memory of their own accord.
-use Rattle.std.proofs.Common.{ℕ, ◌≡◌, ◌⊎◌, Bool, true, false, [], ◌∷◌, refl, ap, sym, ◌∙◌, inl, inr}
+use Rattle.std.proofs.Common.{ℕ, ◌≡◌, ◌⊎◌, Bool, true, false, refl, ap, sym, inl, inr}
 use Rattle.std.specs.Prelude.{if◌then◌else◌, Option, Some, None, is_some}
 use Rattle.std.specs.Option.{option_map}
 use Rattle.mq_calls.specs.declared.agents.PrepareFault.{PrepareFault}
@@ -43,8 +43,23 @@ SeesNone seen _ = Unit {0}
 
 sees_none : (m : Sender) (seen : Seen) (st : Stock) → SeesNone seen (sender_next m seen st)
 sees_none m seen st = by_lines (SeesNone seen) does.Still (sender_lines m seen st) (
-  (λ e. tt), λ x1. ((λ e. tt), λ x2. ((λ e. tt), λ x3. ((λ e. tt), λ x4. ((λ e. tt), λ x5. ((λ e. x4),
-  λ x6. ((λ e. tt), λ x7. ((λ e. x4), λ x8. ((λ e. x4), λ x9. ((λ e. tt), λ x10. ((λ e. x4), λ x11. tt)))))))))),
+  (λ e. tt),
+  λ x1. (
+    (λ e. tt),
+    λ x2. (
+      (λ e. tt),
+      λ x3. (
+        (λ e. tt),
+        λ x4. (
+          (λ e. tt),
+          λ x5. (
+            (λ e. x4),
+            λ x6. ((λ e. tt), λ x7. ((λ e. x4), λ x8. ((λ e. x4), λ x9. ((λ e. tt), λ x10. ((λ e. x4), λ x11. tt))))),
+          ),
+        ),
+      ),
+    ),
+  ),
 )
 
 is_nothing : (seen : Seen) → waits seen ≡ false → seen ≡ items.Nothing

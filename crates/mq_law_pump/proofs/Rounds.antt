@@ -95,9 +95,10 @@ from_start all i = ap (slice_get all) (nothing_more i)
 others : (Good : Network → Type 0) (Sees : Network → ℕ → CableLine → Lane → Type 0) → IsSteady Good Sees → (w : Network) (t : ℕ) (c : CableLine) (m : ℕ) (e : Entry) → Good (does m (e ∷ []) w)
     → slice_get w.scenario.cables t ≡ Some c → IsOf w t c m e → (k : ℕ) (cs : List CableLine) (ls : List Lane) → AreFrom w.scenario.cables k cs → t < k → SeesAll Sees w k cs ls → SeesAll Sees (does m (e ∷ []) w) k cs ls
 others Good Sees st w t c m e g there of k [] [] a less s = tt
-others Good Sees st w t c m e g there of k (d ∷ ds) (l ∷ ls) a less s =
-    (st.other w t c m e k d l g there (from_head w.scenario.cables k d ds a) s.0 of (λ same. omega (arith, same, less)),
-    others Good Sees st w t c m e g there of (suc k) ds ls (from_tail w.scenario.cables k d ds a) (omega (arith, less)) s.1)
+others Good Sees st w t c m e g there of k (d ∷ ds) (l ∷ ls) a less s = (
+  st.other w t c m e k d l g there (from_head w.scenario.cables k d ds a) s.0 of (λ same. omega (arith, same, less)),
+  others Good Sees st w t c m e g there of (suc k) ds ls (from_tail w.scenario.cables k d ds a) (omega (arith, less)) s.1,
+)
 others Good Sees st w t c m e g there of k [] (l ∷ ls) a less s = absurd s
 others Good Sees st w t c m e g there of k (d ∷ ds) [] a less s = absurd s
 
@@ -111,8 +112,10 @@ turns_one Good Sees st w slot t c m e g there turn k zero (d ∷ ds) (l ∷ ls) 
     record {
       lanes = moved.lane ∷ ls;
       one = inl (moved.moves, asides_self ls);
-      sees = (subst (λ (j : ℕ). Sees (does m (e ∷ []) w) j d moved.lane) same (subst (λ (x : CableLine). Sees (does m (e ∷ []) w) t x moved.lane) (sym line) moved.sees),
-      others Good Sees st w t c m e g there (slot, turn) (suc k) ds ls (from_tail w.scenario.cables k d ds a) (omega (arith, same)) s.1);
+      sees = (
+        subst (λ (j : ℕ). Sees (does m (e ∷ []) w) j d moved.lane) same (subst (λ (x : CableLine). Sees (does m (e ∷ []) w) t x moved.lane) (sym line) moved.sees),
+        others Good Sees st w t c m e g there (slot, turn) (suc k) ds ls (from_tail w.scenario.cables k d ds a) (omega (arith, same)) s.1,
+      );
       tail = λ q. q;
     }
   where
@@ -201,7 +204,7 @@ turn_stands : (Good : Network → Type 0) (Sees : Network → ℕ → CableLine 
 turn_stands Good Sees st w0 start n w ts z left slot cable any sum so m e g None there takes = absurd takes
 turn_stands Good Sees st w0 start n w ts z left slot cable any sum so m e g (Some c) there takes =
     let one : After Sees (does m (e ∷ []) w) 0 cable w.scenario.cables z.lanes =
-      turns_one Good Sees st w slot cable c m e g there takes 0 cable w.scenario.cables z.lanes (from_start w.scenario.cables) (sym (nothing_more cable)) there (fits_so w slot cable any z.lanes so) z.sees in
+    turns_one Good Sees st w slot cable c m e g there takes 0 cable w.scenario.cables z.lanes (from_start w.scenario.cables) (sym (nothing_more cable)) there (fits_so w slot cable any z.lanes so) z.sees in
     record {
       lanes = one.lanes;
       taken = suc z.taken;
@@ -362,7 +365,11 @@ moved_call w t ts (inr (left, slot, cable, any, is)) m e mv = pump_call w left s
 pub goes_stands : (Good : Network → Type 0) (Sees : Network → ℕ → CableLine → Lane → Type 0) → IsSteady Good Sees → (w0 : Network) (start : List Lane) (n : ℕ) → SeesAll Sees w0 0 w0.scenario.cables start
     → {w : Network} {ts : List Task} → Goes w0 (Pump n Sends 0 false ∷ []) w ts → Good w → Standing Sees w0 start n w ts
 goes_stands Good Sees st w0 start n z stays g = record {
-  lanes = start; taken = 0; pumps = refl; sees = z; scenario = refl;
+  lanes = start;
+  taken = 0;
+  pumps = refl;
+  sees = z;
+  scenario = refl;
   at = pumps_on n Sends 0 false refl (nothing_more n) tt;
 }
 goes_stands Good Sees st w0 start n z (moves w t ts m e go mv) g =
@@ -372,7 +379,8 @@ goes_stands Good Sees st w0 start n z (serves w ts m e go call) g =
     let y : Standing Sees w0 start n w ts = goes_stands Good Sees st w0 start n z go (st.earlier w m e (inr (inr call)) g) in
     record {
       lanes = y.lanes;
-      taken = y.taken; pumps = y.pumps;
+      taken = y.taken;
+      pumps = y.pumps;
       sees = serves_all Good Sees st w m e g call 0 w.scenario.cables y.lanes (from_start w.scenario.cables) y.sees;
       scenario = y.scenario;
       at = at_served n y.taken w (does m (e ∷ []) w) y.lanes ts (unserved Good Sees st w m e g call) y.at;
@@ -381,7 +389,10 @@ goes_stands Good Sees st w0 start n z (passes w t next ts go served p) g =
     let y : Standing Sees w0 start n w (t ∷ ts) = goes_stands Good Sees st w0 start n z go g in
     record {
       lanes = y.lanes;
-      taken = y.taken; pumps = y.pumps; sees = y.sees; scenario = y.scenario;
+      taken = y.taken;
+      pumps = y.pumps;
+      sees = y.sees;
+      scenario = y.scenario;
       at = passes_at Good Sees st w y.lanes g y.sees served n y.taken t ts next y.at p;
     }
 

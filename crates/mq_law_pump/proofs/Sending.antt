@@ -99,13 +99,31 @@ waiting_runs st e = absurd cc
 says : (m : Sender) (seen : Seen) (st : Stock) → Says m st (sender_next m seen st)
 says m seen st = by_lines (Says m st) does.Still (sender_lines m seen st) (
   (λ e. binding_runs m.state (and_both (is_binding m.state) (is_status m.kept.session seen) e).0),
-  λ x1. ((λ e. waiting_runs m.state (and_both (is_waiting m.state) (is_ack m.kept.doubt seen) e).0),
-  λ x2. ((λ e. waiting_runs m.state (and_both (is_waiting m.state) (is_err m.kept.doubt seen) e).0),
-  λ x3. ((λ e. tt), λ x4. ((λ e. starting_runs m.state e), λ x5. ((λ e. hailing_runs m.state e),
-  λ x6. ((λ e. let a = and_both (is_idle m.state && st.enabled) st.expired e in (idle_runs m.state (and_both (is_idle m.state) st.enabled a.0).0, a.1)),
-  λ x7. ((λ e. let a = and_both (is_idle m.state && st.enabled) (nat_lt 0 st.free) e in (idle_runs m.state (and_both (is_idle m.state) st.enabled a.0).0, refl, a.1)),
-  λ x8. ((λ e. let a = and_both (is_sending m.state) (nat_lt (messages_sent m.state) m.count) e in (a.0, refl, a.1)),
-  λ x9. ((λ e. sending_runs m.state e), λ x10. ((λ e. ready_runs m.state e), λ x11. tt)))))))))),
+  λ x1. (
+    (λ e. waiting_runs m.state (and_both (is_waiting m.state) (is_ack m.kept.doubt seen) e).0),
+    λ x2. (
+      (λ e. waiting_runs m.state (and_both (is_waiting m.state) (is_err m.kept.doubt seen) e).0),
+      λ x3. (
+        (λ e. tt),
+        λ x4. (
+          (λ e. starting_runs m.state e),
+          λ x5. (
+            (λ e. hailing_runs m.state e),
+            λ x6. (
+              (λ e. let a = and_both (is_idle m.state && st.enabled) st.expired e in (idle_runs m.state (and_both (is_idle m.state) st.enabled a.0).0, a.1)),
+              λ x7. (
+                (λ e. let a = and_both (is_idle m.state && st.enabled) (nat_lt 0 st.free) e in (idle_runs m.state (and_both (is_idle m.state) st.enabled a.0).0, refl, a.1)),
+                λ x8. (
+                  (λ e. let a = and_both (is_sending m.state) (nat_lt (messages_sent m.state) m.count) e in (a.0, refl, a.1)),
+                  λ x9. ((λ e. sending_runs m.state e), λ x10. ((λ e. ready_runs m.state e), λ x11. tt)),
+                ),
+              ),
+            ),
+          ),
+        ),
+      ),
+    ),
+  ),
 )
 
 -- A TURN THAT IS DONE
@@ -139,6 +157,7 @@ done_lane e n d w does_ stamp dest message free held machine is changed moves ow
   where
     not_full : outs.Done ≡ outs.Full → ⊥
     not_full x = absurd cc
+
     has_room : outs.Done ≡ outs.NoRoom → ⊥
     has_room x = absurd cc
 
@@ -161,7 +180,7 @@ same_after : (e : SenderEnd) (n : Node) (d : Deed) (st : SenderState) (parts : L
     → AreWithin (rows_of e.channel n.manager) w → RowsAfter e n d st w.free w.held
 same_after e n d st parts w is same within runs =
     let rows : rows_of e.channel (do_all d.parts n.manager) ≡ rows_of e.channel n.manager =
-      ap (λ (ps : List Part). rows_of e.channel (do_all ps n.manager)) is ∙ ap (rows_of e.channel) (stays e.channel st parts n.manager n.manager runs) ∙ same in
+    ap (λ (ps : List Part). rows_of e.channel (do_all ps n.manager)) is ∙ ap (rows_of e.channel) (stays e.channel st parts n.manager n.manager runs) ∙ same in
     (subst (λ (rs : List Row). free_in rs ≤ w.free) (sym rows) within.free, subst (λ (rs : List Row). held_in rs ≤ w.held) (sym rows) within.held)
 
 -- THE LINES
@@ -173,7 +192,7 @@ EachTurns e n w (Some d) = TurnsLane e n d w
 abbrev no_ident : Ident
 no_ident = record { manager = 0; incarnation = 0; number = 0 }
 
-abbrev no_message : Message
+abbrev pub no_message : Message
 no_message = record { ident = no_ident; md = own_md no_ident [] (pos 0) (pos 0) [] []; route = None; deadline = None; body = [] }
 
 -- lines that leave the rows as they are
@@ -195,6 +214,7 @@ expired_so channel p (x ∷ xs) is some = one (removal_record (queue_of_sender c
   where
     q : List ℕ
     q = queue_of_sender channel p
+
     one : (o : Option LogRecord) → (free_in (rows_of channel (apply (Leave (Among q (idents_of (x ∷ xs)))) (logged o p))) < free_in (rows_of channel p)) × (held_in (rows_of channel (apply (Leave (Among q (idents_of (x ∷ xs)))) (logged o p))) ≤ held_in (rows_of channel p))
     one None = (expire_less q (is_expired p) x xs p is, (leaves_less q (Among q (idents_of (x ∷ xs))) p).1)
     one (Some r) = (expire_less q (is_expired p) x xs (logged (Some r) p) is, (leaves_less q (Among q (idents_of (x ∷ xs))) (logged (Some r) p)).1)
@@ -207,7 +227,7 @@ expires e n w stamp g is s =
     let within = g.rows s.0 in
     done_lane e n (sent e does.Expire parts None n) w does.Expire stamp (names_of None) no_message (w.free - 1) w.held g.machine is (λ x. absurd cc) (omega (arith, h.0, within.free), refl) (set_so e n does.Expire g.here) refl
     (λ runs. let rows = ap (rows_of e.channel) (stays e.channel e.machine.state parts n.manager n.manager runs) in
-      (omega (arith, ap free_in rows, h.0, within.free), omega (arith, ap held_in rows, h.1, within.held)))
+    (omega (arith, ap free_in rows, h.0, within.free), omega (arith, ap held_in rows, h.1, within.held)))
 
 -- BEGIN
 first_taken : (k : ℕ) (rows : List Row) → slice_get (letters_of (take k rows)) 0 ≡ None → 1 ≤ k → 1 ≤ length rows → ⊥
@@ -222,18 +242,25 @@ begins e n w stamp k count g distinct batch is s = with_row (batch_row e.channel
   where
     q : List ℕ
     q = queue_of_sender e.channel n.manager
+
     parts : List Part
     parts = parts_of (hold_batch e.channel (unit_named e.machine.kept.session k) count n.manager)
+
     end : Where
     end = record { cable = e.cable; channel = e.channel; partner = e.partner }
+
     frees : (stock e.channel n.manager).free ≡ free_in (rows_of e.channel n.manager)
     frees = free_length (rows_of e.channel n.manager)
+
     some : 1 ≤ count
     some = omega (arith, s.1, batch, lt_yes 0 (stock e.channel n.manager).free s.2)
+
     few : count ≤ free_in (rows_of e.channel n.manager)
     few = omega (arith, s.1, frees)
+
     there : 1 ≤ length (free_rows q n.manager)
     there = lt_yes 0 (stock e.channel n.manager).free s.2
+
     with_row : (o : Option Message) → batch_row e.channel 1 (do_all parts n.manager) ≡ o → TurnsLane e n (begin_deed stamp e k count parts n) w
     with_row None none = absurd (first_taken count (free_rows q n.manager) (sym (begun_reads end e.machine k count n.manager distinct 0) ∙ ap (option_map letter_of) none) some there)
     with_row (Some m) row =
@@ -242,7 +269,7 @@ begins e n w stamp k count g distinct batch is s = with_row (batch_row e.channel
         done_lane e n (begin_deed stamp e k count parts n) w (does.Begin k count) stamp (names_of m.route) (record m { route = None }) (w.free - count) (w.held + count) g.machine is (λ x. absurd cc)
         (some, omega (arith, few, within.free), refl) (set_so e n (does.Begin k count) g.here) (ap (option_map (carried stamp e k 1)) row)
         (λ runs. let rows = ap (rows_of e.channel) (stays e.channel (sender_after e.machine (does.Begin k count) outs.Done).state parts n.manager n.manager refl) in
-          (omega (arith, ap free_in rows, h.0, within.free, few), omega (arith, ap held_in rows, h.1, within.held)))
+        (omega (arith, ap free_in rows, h.0, within.free, few), omega (arith, ap held_in rows, h.1, within.held)))
 
 -- MSG
 some_at : (i : ℕ) (xs : List Letter) → slice_get xs i ≡ None → i < length xs → ⊥
@@ -264,13 +291,16 @@ sends_message e n w stamp index g f is s = with_row (batch_row e.channel index n
   where
     machine : f.channel.sender ≡ e.machine
     machine = same_machine f.channel.sender e.machine e (sym f.sends.here ∙ g.here)
+
     sent_so_far : ℕ
     sent_so_far = messages_sent e.machine.state
+
     row_read : option_map letter_of (batch_row e.channel index n.manager) ≡ slice_get f.channel.batch sent_so_far
     row_read = ap (λ (i : ℕ). option_map letter_of (batch_row e.channel i n.manager)) (s.1 ∙ one_on sent_so_far) ∙ (f.sends.batched (ap (λ (m : Sender). is_sending m.state) machine ∙ s.0)).reads sent_so_far
       where
         one_on : (i : ℕ) → i + 1 ≡ suc i
         one_on i = omega arith
+
     with_row : (o : Option Message) → batch_row e.channel index n.manager ≡ o → TurnsLane e n (sent e (does.PushMsg index) [] (option_map (carried stamp e e.machine.begun index) (batch_row e.channel index n.manager)) n) w
     with_row None none = absurd (some_at sent_so_far f.channel.batch (sym row_read ∙ ap (option_map letter_of) none) (omega (arith, lt_yes sent_so_far e.machine.count s.2, f.counted s.0)))
     with_row (Some m) row = same_lane e n w (does.PushMsg index) stamp (names_of m.route) (record m { route = None }) [] (option_map (carried stamp e e.machine.begun index) (batch_row e.channel index n.manager)) g is (λ x. absurd cc) (refl, refl)
@@ -310,6 +340,7 @@ no_room e n w parts g is =
   where
     apart : does.Prepare ≡ does.Still → ⊥
     apart x = absurd cc
+
     not_full : outs.NoRoom ≡ outs.Full → ⊥
     not_full x = absurd cc
 

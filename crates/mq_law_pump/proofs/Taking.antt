@@ -1,5 +1,5 @@
 -- Each turn of a receiver's end at a node is the turn of its lane.
-use Rattle.std.proofs.Common.{ℕ, ◌≡◌, ◌⊎◌, Bool, true, List, [], ◌∷◌, ◌++◌, refl, ap, sym, subst, ◌∙◌, inl, inr}
+use Rattle.std.proofs.Common.{ℕ, ◌≡◌, ◌⊎◌, Bool, true, List, [], ◌∷◌, refl, ap, sym, subst, ◌∙◌, inl, inr}
 use Rattle.std.specs.Prelude.{if◌then◌else◌, Option, Some, None, is_some}
 use Rattle.std.specs.Option.{option_map}
 use Rattle.mq_codes.specs.declared.reason.Reason.{Reason}
@@ -65,6 +65,7 @@ done_takes e n w stamp d x kept g is changed own pushes =
   where
     not_full : ends.Done ≡ ends.Full → ⊥
     not_full z = absurd cc
+
     not_refused : (reason : ℕ) → ends.Done ≡ ends.Refused reason → ⊥
     not_refused reason z = absurd cc
 
@@ -90,6 +91,7 @@ refused_takes e n w stamp d unit reason g is own silent =
   where
     not_still : takes.Place unit ≡ takes.Still → ⊥
     not_still z = absurd cc
+
     not_full : ends.Refused reason ≡ ends.Full → ⊥
     not_full z = absurd cc
 

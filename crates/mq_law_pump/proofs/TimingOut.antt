@@ -37,6 +37,7 @@ sender_times_out e n w d g is = one (awaits e.machine.state) refl
   where
     some_same : (a b : Deed) → Some a ≡ Some b → a ≡ b
     some_same a b eq = cc
+
     one : (b : Bool) → awaits e.machine.state ≡ b → TimesOutLane e n d w
     one true waits = subst (λ (x : Deed). TimesOutLane e n x w) (some_same (after_timeout e (timed_out e.machine) n) d (sym (ap (λ (b : Bool). if b then Some (after_timeout e (timed_out e.machine) n) else None) waits) ∙ is)) (timed_lane e n w g waits)
     one false waits = absurd (none_is (sym (ap (λ (b : Bool). if b then Some (after_timeout e (timed_out e.machine) n) else None) waits) ∙ is))

@@ -1,6 +1,6 @@
 -- A cable without faults: a frame that is offered lies there last, and a pop takes the first.
-use Rattle.std.proofs.Common.{◌≡◌, ◌≤◌, ◌+◌, ℕ, zero, suc, Bool, true, false, List, [], ◌∷◌, ◌++◌, length, refl, sym, ap, ◌∙◌, append_assoc, append-nil, arith}
-use Rattle.std.specs.Prelude.{Option, None, Some, take, drop, filter, nat_le, ◌==◌}
+use Rattle.std.proofs.Common.{◌≡◌, ◌≤◌, ℕ, zero, suc, Bool, true, false, List, [], ◌∷◌, ◌++◌, length, refl, sym, ap, ◌∙◌, append_assoc, append-nil, arith}
+use Rattle.std.specs.Prelude.{Option, None, Some, take, drop, filter, nat_le}
 use Rattle.mq_cable.specs.Faults.{Offer, due_after, due_from, made_after, offered_of}
 use Rattle.mq_frame.specs.declared.frame.Frame.{Frame}
 use Rattle.mq_frame.specs.declared.frame.Seen.{Seen}
@@ -138,6 +138,7 @@ taken_first pushes pops e =
     longer : (xs : List Entry) → length (xs ++ e ∷ []) ≡ suc (length xs)
     longer [] = refl
     longer (x ∷ xs) = ap suc (longer xs)
+
     one : (b : Bool) → seen_of (drop (length (pops_of pops ++ kept_if b e)) (frames_of pushes)) ≡ behind_if b (seen_of (drop (length (pops_of pops)) (frames_of pushes)))
     one true = ap (λ (n : ℕ). seen_of (drop n (frames_of pushes))) (longer (pops_of pops)) ∙ drop_one (length (pops_of pops)) (frames_of pushes)
     one false = ap (λ (xs : List Entry). seen_of (drop (length xs) (frames_of pushes))) (append-nil (pops_of pops))

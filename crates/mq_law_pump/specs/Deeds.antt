@@ -1,5 +1,6 @@
 -- Turns of ends at a node, as turns of their lanes.
-use Rattle.std.specs.Prelude.{◌≡◌, true, List, None, Option, Some}
+use Rattle.std.specs.Prelude.{◌≡◌, ◌⊎◌, true, List, None, Option, Some, is_some}
+use Rattle.mq_frame.specs.declared.frame.Seen.{Seen}
 use Rattle.mq_message.specs.declared.message.Message.{Message}
 use Rattle.mq_sender.specs.States.{awaits, is_running}
 use Rattle.mq_spec_state.specs.Steps.{do_all}
@@ -7,7 +8,8 @@ use Rattle.mq_spec_node.specs.Node.{Node, ReceiverEnd, SenderEnd, end_in}
 use Rattle.mq_spec_node.specs.Node.ChannelEnd.{Receives, Sends}
 use Rattle.mq_spec_node.specs.Deeds.{Deed}
 use Rattle.mq_spec_node.specs.Receivers.{is_receiver_defined}
-use Rattle.mq_law_idle.specs.Roads.{ReceiverMay, ReceiverTurn, Road, SenderMay, SenderTurn, laid, receiver_does, receiver_turn, sender_does, sender_timed_out, sender_turn, taken_by, taken_from}
+use Rattle.mq_spec_network.specs.Steps.{pushed_of}
+use Rattle.mq_law_idle.specs.Roads.{is_full, ReceiverMay, ReceiverTurn, Road, SenderMay, SenderTurn, laid, receiver_does, receiver_turn, sender_does, sender_timed_out, sender_turn, taken_by, taken_from}
 use Rattle.mq_law_pump.specs.Rows.{AreWithin, rows_of}
 
 -- The lane takes a turn that counts; its machine is the end's, what it pushes is the deed's frame, it takes what the deed pops,
@@ -56,3 +58,7 @@ pub record HasReceiver (e : ReceiverEnd) (n : Node) (w : Road) : Type 0 where
 abbrev pub EachWantsNone : Option Deed → Type 0
 EachWantsNone None = Unit {0}
 EachWantsNone (Some d) = d.wanting ≡ None
+
+-- An end that changes nothing: it has nothing to do, or its push is refused by a full cable.
+abbrev pub IsStillEnd : Option Deed → List Seen → Type 0
+IsStillEnd o way = (o ≡ None) ⊎ ((is_some (pushed_of o) ≡ true) × (is_full way ≡ true))

@@ -1,5 +1,5 @@
 -- What is known of a network whose histories replay, and whose managers are up.
-use Rattle.std.specs.Prelude.{◌≡◌, ◌≤◌, ◌⊎◌, ℕ, true, List, [], ◌∷◌, ◌++◌, Option, Some, None, length}
+use Rattle.std.specs.Prelude.{◌≡◌, ◌≤◌, ℕ, true, List, [], ◌++◌, Some, None, length}
 use Rattle.mq_history.specs.declared.calls.Entry.{Entry}
 use Rattle.mq_queue.specs.Queues.{AreDistinct}
 use Rattle.mq_sender.specs.Table.{is_sending}

@@ -8,7 +8,7 @@ use Rattle.mq_objects.specs.declared.object.Definitions.{Definitions}
 use Rattle.mq_resolve.specs.Resolved.{resolve}
 use Rattle.mq_resolve.specs.declared.route.Route.{Route}
 use Rattle.mq_spec_state.specs.State.{Change, Given}
-use Rattle.mq_spec_state.specs.State.Change.{Hold, Place, Release}
+use Rattle.mq_spec_state.specs.State.Change.{ForgetAll, Hold, Place, Release, Seize, Unseize}
 use Rattle.mq_spec_state.specs.State.Which.{Among, HeldBy}
 use Rattle.mq_spec_state.specs.Steps.{Part}
 use Rattle.mq_spec_manager.specs.Put.{queue_at}
@@ -16,13 +16,16 @@ use Rattle.mq_spec_agents.specs.Words.{names_of}
 use Rattle.mq_spec_node.specs.Deeds.{Deed}
 use Rattle.mq_law_idle.specs.Counts.{free_in, held_in}
 
--- a change that adds no row to the queue, and holds and frees none of it, where only this channel's batch has rows there
+-- a change that adds no row to the queue, and holds and frees none of it, where only this channel's batch has rows there; and leaves it open
 abbrev pub adds_none : (channel queue : List ℕ) → Change → Bool
 adds_none channel queue (Place other m) = not (bytes_eq queue other)
 adds_none channel queue (Hold (Among other idents) by_) = not (bytes_eq queue other)
 adds_none channel queue (Hold which by_) = false
 adds_none channel queue (Release (HeldBy (holders.Batch other)) counted) = not (bytes_eq channel other)
 adds_none channel queue (Release which counted) = false
+adds_none channel queue (Seize s) = false
+adds_none channel queue (Unseize other) = not (bytes_eq channel other)
+adds_none channel queue ForgetAll = false
 adds_none channel queue _ = true
 
 abbrev pub all_add_none : (channel queue : List ℕ) → List Change → Bool

@@ -8,6 +8,7 @@ ghost use Rattle.mq_history.specs.declared.calls.Call.TheVariants as calls;
 ghost use Rattle.mq_history.specs.declared.calls.Entry.{Entry};
 ghost use Rattle.mq_objects.specs.Names.{local_of};
 ghost use Rattle.mq_queue.specs.Queues.{AreDistinct};
+ghost use Rattle.mq_sender.specs.States.{is_running};
 ghost use Rattle.mq_spec_agents.specs.Words.{queue_of_sender};
 ghost use Rattle.mq_spec_manager.specs.Handles.{is_transmission_queue};
 ghost use Rattle.mq_spec_state.specs.Reads.{has_held_by_other};
@@ -16,7 +17,7 @@ ghost use Rattle.mq_spec_state.specs.Steps.{Part, do_all};
 ghost use Rattle.std.specs.Str.{bytes_eq};
 ghost use Rattle.mq_spec_state.specs.State.Running.{Up};
 ghost use Rattle.mq_spec_node.specs.Calls.{trigger_deed};
-ghost use Rattle.mq_spec_node.specs.Node.{Node, ReceiverEnd, SenderEnd};
+ghost use Rattle.mq_spec_node.specs.Node.{Node, ReceiverEnd, SenderEnd, end_in};
 ghost use Rattle.mq_spec_node.specs.Deeds.{Deed};
 ghost use Rattle.mq_spec_node.specs.Receivers.{receiver_deed};
 ghost use Rattle.mq_spec_node.specs.Replays.{done_by};
@@ -26,10 +27,10 @@ ghost use Rattle.mq_spec_network.specs.Steps.{Goes, none_due, popped_by, pushed_
 ghost use Rattle.mq_spec_network.specs.Tasks.{Task};
 ghost use Rattle.mq_spec_network.specs.Tasks.Slot.{Sends};
 ghost use Rattle.mq_spec_network.specs.Tasks.Task.{Pump};
-ghost use Rattle.mq_spec_network.specs.Turns.{Network, does, node_at, push_refused};
-ghost use Rattle.mq_law_idle.specs.Roads.{Road, is_full, laid, waiting};
+ghost use Rattle.mq_spec_network.specs.Turns.{Network, changes, does, node_at, push_refused};
+ghost use Rattle.mq_law_idle.specs.Roads.{Items, Quiet, Road, is_full, laid, waiting};
 ghost use Rattle.mq_law_node.specs.Rows.{rows_at};
-ghost use Rattle.mq_law_pump.specs.Deeds.{EachWantsNone, HasReceiver, HasSender, TakesLane, TimesOutLane, TurnsLane};
+ghost use Rattle.mq_law_pump.specs.Deeds.{EachWantsNone, HasReceiver, HasSender, IsStillEnd, TakesLane, TimesOutLane, TurnsLane};
 ghost use Rattle.mq_law_pump.specs.Fit.{FitsSender, Good};
 ghost use Rattle.mq_law_pump.specs.Others.{AllGoElsewhere, EachAddsNone, NoMore, parts_add_none};
 ghost use Rattle.mq_law_pump.specs.Rows.{rows_of};
@@ -67,8 +68,11 @@ pub fn turns_of_receivers_are_turns_of_lanes()
 /// senders, turns of receivers whose messages go elsewhere, and trigger turns.
 pub fn others_add_no_row_to_a_senders_queue()
     ensures parts { (channel queue : List ℕ) (parts : List Part) (p : Plain) → parts_add_none channel queue parts ≡ true → has_held_by_other channel queue p ≡ false → NoMore (rows_at queue (do_all parts p)) (rows_at queue p) }
+    ensures open { (channel queue : List ℕ) (parts : List Part) (p : Plain) → parts_add_none channel queue parts ≡ true → queue_of_sender channel (do_all parts p) ≡ queue_of_sender channel p }
+    ensures lanes { (e : SenderEnd) (n m : Node) (d : Deed) (w : Road) → HasSender e n w → end_in e.cable m.own.ends ≡ end_in e.cable n.own.ends → m.manager ≡ do_all d.parts n.manager
+        → (is_running e.machine.state ≡ true → (parts_add_none e.channel (queue_of_sender e.channel n.manager) d.parts ≡ true) × (has_held_by_other e.channel (queue_of_sender e.channel n.manager) n.manager ≡ false)) → HasSender e m w }
     ensures senders { (channel queue : List ℕ) (stamp : ℕ) (e : SenderEnd) (seen : Seen) (n : Node) → bytes_eq channel e.channel ≡ false → bytes_eq queue (queue_of_sender e.channel n.manager) ≡ false → EachAddsNone channel queue (sender_deed stamp e seen n) }
-    ensures timeouts { (channel queue : List ℕ) (e : SenderEnd) (n : Node) → EachAddsNone channel queue (timeout_deed e n) }
+    ensures timeouts { (channel queue : List ℕ) (e : SenderEnd) (n : Node) → bytes_eq channel e.channel ≡ false → EachAddsNone channel queue (timeout_deed e n) }
     ensures receivers { (channel queue : List ℕ) (stamp : ℕ) (e : ReceiverEnd) (seen : Seen) (n : Node) → is_transmission_queue (local_of queue n.manager.definitions) ≡ true → AllGoElsewhere queue n.manager.definitions n.manager.given e.kept
         → EachAddsNone channel queue (receiver_deed stamp e seen n) }
     ensures triggers { (channel queue : List ℕ) (n : Node) → is_transmission_queue (local_of queue n.manager.definitions) ≡ true → EachAddsNone channel queue (trigger_deed n) }
@@ -82,4 +86,12 @@ pub fn ends_pop_what_they_see()
     ensures senders_want { (stamp : ℕ) (e : SenderEnd) (seen : Seen) (n : Node) → EachWantsNone (sender_deed stamp e seen n) }
     ensures timeouts_want { (e : SenderEnd) (n : Node) → EachWantsNone (timeout_deed e n) }
     ensures receivers_want { (stamp : ℕ) (e : ReceiverEnd) (seen : Seen) (n : Node) → EachWantsNone (receiver_deed stamp e seen n) }
+{}
+
+/// Where neither end of a cable without faults changes a thing, its lane is quiet: nothing lies there, and nothing is owed.
+pub fn still_ends_leave_a_lane_quiet()
+    ensures still { (pushes : List Entry) (xs : List Lying) (o : Option Deed) → changes (record { faults = []; pushes = pushes; items = xs }) o ≡ false → IsStillEnd o (seen_of xs) }
+    ensures items { (pushes pops : List Entry) → Items (seen_of (lying [] pushes pops)) }
+    ensures quiet { (stamp : ℕ) (e : SenderEnd) (r : ReceiverEnd) (n v : Node) (w : Road) → HasSender e n w → HasReceiver r v w → Items w.out → Items w.back → IsStillEnd (sender_deed stamp e (waiting w.back) n) w.out
+        → IsStillEnd (receiver_deed stamp r (waiting w.out) v) w.back → Quiet w }
 {}

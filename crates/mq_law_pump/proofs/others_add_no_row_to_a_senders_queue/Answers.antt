@@ -1,5 +1,6 @@
 use Rattle.mq_law_pump.proofs.Landing.{receivers_add_none, triggers_add_none}
 use Rattle.mq_law_pump.proofs.OtherDeeds.{senders_add_none, timeouts_add_none}
+use Rattle.mq_law_pump.proofs.Openings.{lane_stays, parts_open}
 use Rattle.mq_law_pump.proofs.Others.{parts_no_more}
 use Rattle.mq_law_pump.proofs.others_add_no_row_to_a_senders_queue.Goals as goal
 
@@ -17,3 +18,9 @@ returns-clause-receivers c = receivers_add_none
 
 pub returns-clause-triggers : goal.returns-clause-triggers
 returns-clause-triggers c = triggers_add_none
+
+pub returns-clause-open : goal.returns-clause-open
+returns-clause-open c = parts_open
+
+pub returns-clause-lanes : goal.returns-clause-lanes
+returns-clause-lanes c = lane_stays
