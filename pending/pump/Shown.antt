@@ -1,5 +1,29 @@
 -- DRAFT, not checked: a cable of a network as a lane, with what a PUMP needs of it; and the papers' conditions. It is meant as specs/Shown.antt.
-use Rattle.std.specs.Prelude.{◌≡◌, ◌≤◌, ◌⊎◌, ◌+◌, ◌*◌, ℕ, suc, Bool, true, false, List, [], ◌∷◌, Option, Some, None, length}
+use Rattle.std.specs.Prelude.{◌≡◌, ◌≤◌, ◌⊎◌, ◌+◌, ◌*◌, ℕ, suc, Bool, true, false, List, [], ◌∷◌, ◌++◌, Option, Some, None, length, map}
+use Rattle.mq_frame.specs.declared.frame.FrameKind.{FrameKind}
+use Rattle.mq_frame.specs.declared.frame.FrameKind.TheVariants.{Msg}
+use Rattle.mq_frame.specs.declared.frame.Seen.{Seen}
+use Rattle.mq_frame.specs.declared.frame.Seen.TheVariants as items
+use Rattle.mq_history.specs.declared.scenario.CableLine.{CableLine}
+use Rattle.mq_message.specs.declared.message.Message.{Message}
+use Rattle.mq_queue.specs.declared.row.Row.{Row}
+use Rattle.mq_sender.specs.States.{is_running}
+use Rattle.mq_receiver.specs.States.{is_stopped}
+use Rattle.mq_receiver.specs.Table.{kind_is_bind}
+use Rattle.mq_spec_agents.specs.Words.{queue_of_sender}
+use Rattle.mq_spec_node.specs.Doers.{by, is_receiver, is_sender}
+use Rattle.mq_spec_node.specs.Node.{Node, ReceiverEnd, SenderEnd, end_in, sender_end}
+use Rattle.mq_spec_node.specs.Node.ChannelEnd.{Sends}
+use Rattle.mq_spec_node.specs.Receivers.{is_receiver_defined}
+use Rattle.mq_spec_node.specs.Replays.{after}
+use Rattle.mq_spec_network.specs.Turns.{Network, back_of, node_at, out_of, where_there}
+use Rattle.mq_law_idle.specs.Lanes.{Begins, Lane, bound}
+use Rattle.mq_law_idle.specs.Roads.{Road}
+use Rattle.mq_law_pump.specs.Deeds.{HasReceiver, HasSender}
+use Rattle.mq_law_pump.specs.Others.{AllGoElsewhere}
+use Rattle.mq_law_pump.specs.Rows.{rows_of}
+use Rattle.mq_law_pump.specs.Steady.{SeesAll}
+use Rattle.mq_law_pump.specs.Ways.{IsWithin, seen_of}
 
 -- of a running sender, or of one that was timed out in this PUMP: its receiver is defined, and not stopped
 abbrev pub Wants : SenderEnd → Lane → Type 0
