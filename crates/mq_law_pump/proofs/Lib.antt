@@ -1,0 +1,13 @@
+pub mod Rounds
+pub mod Ways
+pub mod Histories
+pub mod Counting
+pub mod Sending
+pub mod Taking
+pub mod TimingOut
+pub mod Others
+pub mod OtherDeeds
+pub mod Landing
+pub mod Popping
+pub mod Stillness
+pub mod Openings

@@ -1,0 +1,97 @@
+//! What a PUMP does at the nodes of a network and on its cables, as the moves of lanes of a measure that each of them makes less.
+#![tactic(auto)]
+
+ghost use Rattle.std.specs.Prelude.{◌≡◌, ◌∷◌, ◌++◌, ◌⊎◌, ◌≤◌, ℕ, false, true, List, [], length, Option, Some, is_some};
+ghost use Rattle.mq_frame.specs.declared.frame.Frame.{Frame};
+ghost use Rattle.mq_frame.specs.declared.frame.Seen.{Seen};
+ghost use Rattle.mq_history.specs.declared.calls.Call.TheVariants as calls;
+ghost use Rattle.mq_history.specs.declared.calls.Entry.{Entry};
+ghost use Rattle.mq_objects.specs.Names.{local_of};
+ghost use Rattle.mq_queue.specs.Queues.{AreDistinct};
+ghost use Rattle.mq_sender.specs.States.{is_running};
+ghost use Rattle.mq_spec_agents.specs.Words.{queue_of_sender};
+ghost use Rattle.mq_spec_manager.specs.Handles.{is_transmission_queue};
+ghost use Rattle.mq_spec_state.specs.Reads.{has_held_by_other};
+ghost use Rattle.mq_spec_state.specs.State.{Plain};
+ghost use Rattle.mq_spec_state.specs.Steps.{Part, do_all};
+ghost use Rattle.std.specs.Str.{bytes_eq};
+ghost use Rattle.mq_spec_state.specs.State.Running.{Up};
+ghost use Rattle.mq_spec_node.specs.Calls.{trigger_deed};
+ghost use Rattle.mq_spec_node.specs.Node.{Node, ReceiverEnd, SenderEnd, end_in};
+ghost use Rattle.mq_spec_node.specs.Deeds.{Deed};
+ghost use Rattle.mq_spec_node.specs.Receivers.{receiver_deed};
+ghost use Rattle.mq_spec_node.specs.Replays.{done_by};
+ghost use Rattle.mq_spec_node.specs.Senders.{sender_deed, timeout_deed};
+ghost use Rattle.mq_spec_network.specs.Cables.{Lying, is_popped, lying};
+ghost use Rattle.mq_spec_network.specs.Steps.{Goes, none_due, popped_by, pushed_of};
+ghost use Rattle.mq_spec_network.specs.Tasks.{Task};
+ghost use Rattle.mq_spec_network.specs.Tasks.Slot.{Sends};
+ghost use Rattle.mq_spec_network.specs.Tasks.Task.{Pump};
+ghost use Rattle.mq_spec_network.specs.Turns.{Network, changes, does, node_at, push_refused};
+ghost use Rattle.mq_law_idle.specs.Roads.{Items, Quiet, Road, is_full, laid, waiting};
+ghost use Rattle.mq_law_node.specs.Rows.{rows_at};
+ghost use Rattle.mq_law_pump.specs.Deeds.{EachWantsNone, HasReceiver, HasSender, IsStillEnd, TakesLane, TimesOutLane, TurnsLane};
+ghost use Rattle.mq_law_pump.specs.Fit.{FitsSender, Good};
+ghost use Rattle.mq_law_pump.specs.Others.{AllGoElsewhere, EachAddsNone, NoMore, parts_add_none};
+ghost use Rattle.mq_law_pump.specs.Rows.{rows_of};
+ghost use Rattle.mq_law_pump.specs.Steady.{ArePumps, IsPumped};
+ghost use Rattle.mq_law_pump.specs.Ways.{IsWithin, behind_if, seen_of};
+
+/// A cable without faults: a frame that is offered lies there last, a pop takes the first, and a push is refused where the cable is full.
+pub fn a_cable_without_faults_keeps_order()
+    ensures offers { (pushes pops : List Entry) (e : Entry) (o : Option Frame) → IsWithin pushes pops → e.effect.pushed ≡ o → seen_of (lying [] (pushes ++ e ∷ []) pops) ≡ laid o (seen_of (lying [] pushes pops)) }
+    ensures pops { (pushes pops : List Entry) (e : Entry) → seen_of (lying [] pushes (pops ++ e ∷ [])) ≡ behind_if (is_popped e) (seen_of (lying [] pushes pops)) }
+    ensures refuses { (pushes : List Entry) (xs : List Lying) (f : Frame) → push_refused (record { faults = []; pushes = pushes; items = xs }) (Some f) ≡ is_full (seen_of xs) }
+{}
+
+/// What a PUMP leaves to be done is its own rounds. Each of its entries is a turn, a timeout or a trigger turn: none of them brings a manager up, so what
+/// is known of the histories behind one, with all managers up, was known before it; and a trigger turn comes only where one is due.
+pub fn a_pump_brings_no_manager_up()
+    ensures rounds { (w v : Network) (n : ℕ) (ts : List Task) → Goes w (Pump n Sends 0 false ∷ []) v ts → ArePumps ts }
+    ensures up { (e : Entry) (n : Node) → IsPumped e.call → (done_by e n).next.manager.running ≡ Up → n.manager.running ≡ Up }
+    ensures earlier { (w : Network) (m : ℕ) (e : Entry) → IsPumped e.call → Good (does m (e ∷ []) w) → Good w }
+    ensures due { (w : Network) (m : ℕ) (e : Entry) → Good (does m (e ∷ []) w) → e.call ≡ calls.Trigger → none_due (node_at w m) ≡ false }
+{}
+
+/// Each turn of a sender's end, and each timeout, is one of its lane: it counts, and where the sender runs on, the rows of its queue are within the lane's.
+pub fn turns_of_senders_are_turns_of_lanes()
+    ensures turns { (e : SenderEnd) (n : Node) (w : Road) (stamp : ℕ) (d : Deed) → HasSender e n w → FitsSender e.cable e n → AreDistinct (rows_of e.channel n.manager) → sender_deed stamp e (waiting w.back) n ≡ Some d → TurnsLane e n d w }
+    ensures timeouts { (e : SenderEnd) (n : Node) (w : Road) (d : Deed) → HasSender e n w → timeout_deed e n ≡ Some d → TimesOutLane e n d w }
+{}
+
+/// Each turn of a receiver's end is one of its lane. A turn that pushes what is owed pops nothing, so it is taken as if nothing waited.
+pub fn turns_of_receivers_are_turns_of_lanes()
+    ensures { (e : ReceiverEnd) (n : Node) (w : Road) (stamp : ℕ) (seen : Seen) (d : Deed) → HasReceiver e n w → (seen ≡ waiting w.out) ⊎ (is_some e.machine.owes ≡ true) → receiver_deed stamp e seen n ≡ Some d → TakesLane e n d w }
+{}
+
+/// What others do to a queue that one channel's sender has open leaves no more of its rows free, and held, than there were: turns and timeouts of other
+/// senders, turns of receivers whose messages go elsewhere, and trigger turns.
+pub fn others_add_no_row_to_a_senders_queue()
+    ensures parts { (channel queue : List ℕ) (parts : List Part) (p : Plain) → parts_add_none channel queue parts ≡ true → has_held_by_other channel queue p ≡ false → NoMore (rows_at queue (do_all parts p)) (rows_at queue p) }
+    ensures open { (channel queue : List ℕ) (parts : List Part) (p : Plain) → parts_add_none channel queue parts ≡ true → queue_of_sender channel (do_all parts p) ≡ queue_of_sender channel p }
+    ensures lanes { (e : SenderEnd) (n m : Node) (d : Deed) (w : Road) → HasSender e n w → end_in e.cable m.own.ends ≡ end_in e.cable n.own.ends → m.manager ≡ do_all d.parts n.manager
+        → (is_running e.machine.state ≡ true → (parts_add_none e.channel (queue_of_sender e.channel n.manager) d.parts ≡ true) × (has_held_by_other e.channel (queue_of_sender e.channel n.manager) n.manager ≡ false)) → HasSender e m w }
+    ensures senders { (channel queue : List ℕ) (stamp : ℕ) (e : SenderEnd) (seen : Seen) (n : Node) → bytes_eq channel e.channel ≡ false → bytes_eq queue (queue_of_sender e.channel n.manager) ≡ false → EachAddsNone channel queue (sender_deed stamp e seen n) }
+    ensures timeouts { (channel queue : List ℕ) (e : SenderEnd) (n : Node) → bytes_eq channel e.channel ≡ false → EachAddsNone channel queue (timeout_deed e n) }
+    ensures receivers { (channel queue : List ℕ) (stamp : ℕ) (e : ReceiverEnd) (seen : Seen) (n : Node) → is_transmission_queue (local_of queue n.manager.definitions) ≡ true → AllGoElsewhere queue n.manager.definitions n.manager.given e.kept
+        → EachAddsNone channel queue (receiver_deed stamp e seen n) }
+    ensures triggers { (channel queue : List ℕ) (n : Node) → is_transmission_queue (local_of queue n.manager.definitions) ≡ true → EachAddsNone channel queue (trigger_deed n) }
+{}
+
+/// What an entry of a PUMP pops is what its end saw: a sender that pushes saw nothing, and a receiver that pushes what is owed looks at nothing. And turns of
+/// ends take memory of their own accord, so that where none is left they are no events.
+pub fn ends_pop_what_they_see()
+    ensures senders { (stamp : ℕ) (e : SenderEnd) (seen : Seen) (n : Node) → popped_by seen (pushed_of (sender_deed stamp e seen n)) ≡ seen }
+    ensures receivers { (stamp : ℕ) (e : ReceiverEnd) (seen : Seen) (n : Node) → (popped_by seen (pushed_of (receiver_deed stamp e seen n)) ≡ seen) ⊎ (is_some e.machine.owes ≡ true) }
+    ensures senders_want { (stamp : ℕ) (e : SenderEnd) (seen : Seen) (n : Node) → EachWantsNone (sender_deed stamp e seen n) }
+    ensures timeouts_want { (e : SenderEnd) (n : Node) → EachWantsNone (timeout_deed e n) }
+    ensures receivers_want { (stamp : ℕ) (e : ReceiverEnd) (seen : Seen) (n : Node) → EachWantsNone (receiver_deed stamp e seen n) }
+{}
+
+/// Where neither end of a cable without faults changes a thing, its lane is quiet: nothing lies there, and nothing is owed.
+pub fn still_ends_leave_a_lane_quiet()
+    ensures still { (pushes : List Entry) (xs : List Lying) (o : Option Deed) → changes (record { faults = []; pushes = pushes; items = xs }) o ≡ false → IsStillEnd o (seen_of xs) }
+    ensures items { (pushes pops : List Entry) → Items (seen_of (lying [] pushes pops)) }
+    ensures quiet { (stamp : ℕ) (e : SenderEnd) (r : ReceiverEnd) (n v : Node) (w : Road) → HasSender e n w → HasReceiver r v w → Items w.out → Items w.back → IsStillEnd (sender_deed stamp e (waiting w.back) n) w.out
+        → IsStillEnd (receiver_deed stamp r (waiting w.out) v) w.back → Quiet w }
+{}
