@@ -1,4 +1,4 @@
--- DRAFT, not checked: a cable of a network as a lane, with what a PUMP needs of it; and the papers' conditions. It is meant as specs/Shown.antt.
+-- DRAFT: these definitions are read by the checker, but nothing is proved over them yet. A cable of a network as a lane, with what a PUMP needs of it; and the bound. It is meant as specs/Shown.antt.
 use Rattle.std.specs.Prelude.{◌≡◌, ◌≤◌, ◌⊎◌, ◌+◌, ◌*◌, ℕ, suc, Bool, true, false, List, [], ◌∷◌, ◌++◌, Option, Some, None, length, map}
 use Rattle.mq_frame.specs.declared.frame.FrameKind.{FrameKind}
 use Rattle.mq_frame.specs.declared.frame.FrameKind.TheVariants.{Msg}
