@@ -12,7 +12,7 @@ use Rattle.mq_history.specs.declared.calls.Entry.{Entry}
 use Rattle.mq_history.specs.declared.calls.Reply.{Reply}
 use Rattle.mq_spec_state.specs.State.{Plain, Running}
 use Rattle.mq_spec_state.specs.State.Running.{Down, Up}
-use Rattle.mq_spec_state.specs.Steps.{IsWrite, Part, do_all, do_part, stopped_at}
+use Rattle.mq_spec_state.specs.Steps.{IsWrite, Part, do_part, stopped_at}
 use Rattle.mq_spec_node.specs.Node.{Node}
 use Rattle.mq_spec_node.specs.Deeds.{CanWant, Deed, Done, done}
 use Rattle.mq_spec_node.specs.Happens.{IsDeed, IsEvent, choice_event, deed_of, event, remembering, trigger_deed}
@@ -21,6 +21,7 @@ use Rattle.mq_spec_network.specs.Turns.{Network, does, node_at, node_of}
 use Rattle.mq_spec_network.specs.Steps.{none_due}
 use Rattle.mq_law_node.proofs.Named.{bool_case, nat_self}
 use Rattle.mq_law_node.proofs.NearTotal.{remembered_ends}
+use Rattle.mq_law_pump.specs.Entries.{Ran}
 use Rattle.mq_law_pump.specs.Fit.{Good, IsFit}
 use Rattle.mq_law_pump.specs.Steady.{IsPumped}
 
@@ -64,7 +65,7 @@ event_is stamp actor call chance seen n (inl e) = absurd cc
 event_is stamp actor call chance seen n (inr (inl e)) = absurd cc
 event_is stamp actor call chance seen n (inr (inr e)) = absurd cc
 
-asked_is : (stamp : ℕ) (actor : Actor) (call : Call) (chance : Chance) (seen : Seen) (n : Node) → IsPumped call → IsEvent stamp actor call chance seen n ≡ IsDeed (deed_of stamp actor call seen n) chance n
+pub asked_is : (stamp : ℕ) (actor : Actor) (call : Call) (chance : Chance) (seen : Seen) (n : Node) → IsPumped call → IsEvent stamp actor call chance seen n ≡ IsDeed (deed_of stamp actor call seen n) chance n
 asked_is stamp actor calls.Turn chance seen n p = refl
 asked_is stamp actor calls.Timeout chance seen n p = refl
 asked_is stamp actor calls.Trigger chance seen n p = refl
@@ -131,11 +132,6 @@ due w m e g call = at (w.first m) refl
 
 -- WHAT RAN
 -- a deed that takes memory of its own accord, and whose manager is up behind it, ran
-pub record Ran (e : Entry) (n : Node) (d : Deed) : Type 0 where
-  pub manager : (done_by e n).next.manager ≡ do_all d.parts n.manager
-  pub ends : (done_by e n).next.own.ends ≡ d.own.ends
-  pub pushed : (done_by e n).pushed ≡ d.pushed
-
 stopped_down : (k : ℕ) (parts : List Part) (left : ℕ) (p : Plain) → IsWrite k parts → (stopped_at k parts left p).running ≡ Up → ⊥
 stopped_down k [] left p h up = absurd h
 stopped_down zero (part ∷ parts) left p h up = absurd cc

@@ -11,3 +11,4 @@ pub mod Landing
 pub mod Popping
 pub mod Stillness
 pub mod Openings
+pub mod Entries

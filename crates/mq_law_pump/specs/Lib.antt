@@ -4,3 +4,4 @@ pub mod Fit
 pub mod Rows
 pub mod Deeds
 pub mod Others
+pub mod Entries

@@ -4,6 +4,7 @@
 ghost use Rattle.std.specs.Prelude.{◌≡◌, ◌∷◌, ◌++◌, ◌⊎◌, ◌≤◌, ℕ, false, true, List, [], length, Option, Some, is_some};
 ghost use Rattle.mq_frame.specs.declared.frame.Frame.{Frame};
 ghost use Rattle.mq_frame.specs.declared.frame.Seen.{Seen};
+ghost use Rattle.mq_history.specs.declared.calls.Actor.TheVariants as actors;
 ghost use Rattle.mq_history.specs.declared.calls.Call.TheVariants as calls;
 ghost use Rattle.mq_history.specs.declared.calls.Entry.{Entry};
 ghost use Rattle.mq_objects.specs.Names.{local_of};
@@ -17,10 +18,11 @@ ghost use Rattle.mq_spec_state.specs.Steps.{Part, do_all};
 ghost use Rattle.std.specs.Str.{bytes_eq};
 ghost use Rattle.mq_spec_state.specs.State.Running.{Up};
 ghost use Rattle.mq_spec_node.specs.Calls.{trigger_deed};
-ghost use Rattle.mq_spec_node.specs.Node.{Node, ReceiverEnd, SenderEnd, end_in};
+ghost use Rattle.mq_spec_node.specs.Node.{ChannelEnd, Node, ReceiverEnd, SenderEnd, end_in};
 ghost use Rattle.mq_spec_node.specs.Deeds.{Deed};
+ghost use Rattle.mq_spec_node.specs.Happens.{deed_of};
 ghost use Rattle.mq_spec_node.specs.Receivers.{receiver_deed};
-ghost use Rattle.mq_spec_node.specs.Replays.{done_by};
+ghost use Rattle.mq_spec_node.specs.Replays.{after, done_by};
 ghost use Rattle.mq_spec_node.specs.Senders.{sender_deed, timeout_deed};
 ghost use Rattle.mq_spec_network.specs.Cables.{Lying, is_popped, lying};
 ghost use Rattle.mq_spec_network.specs.Steps.{Goes, none_due, popped_by, pushed_of};
@@ -31,6 +33,7 @@ ghost use Rattle.mq_spec_network.specs.Turns.{Network, changes, does, node_at, p
 ghost use Rattle.mq_law_idle.specs.Roads.{Items, Quiet, Road, is_full, laid, waiting};
 ghost use Rattle.mq_law_node.specs.Rows.{rows_at};
 ghost use Rattle.mq_law_pump.specs.Deeds.{EachWantsNone, HasReceiver, HasSender, IsStillEnd, TakesLane, TimesOutLane, TurnsLane};
+ghost use Rattle.mq_law_pump.specs.Entries.{RanDeed};
 ghost use Rattle.mq_law_pump.specs.Fit.{FitsSender, Good};
 ghost use Rattle.mq_law_pump.specs.Others.{AllGoElsewhere, EachAddsNone, NoMore, parts_add_none};
 ghost use Rattle.mq_law_pump.specs.Rows.{rows_of};
@@ -94,4 +97,13 @@ pub fn still_ends_leave_a_lane_quiet()
     ensures items { (pushes pops : List Entry) → Items (seen_of (lying [] pushes pops)) }
     ensures quiet { (stamp : ℕ) (e : SenderEnd) (r : ReceiverEnd) (n v : Node) (w : Road) → HasSender e n w → HasReceiver r v w → Items w.out → Items w.back → IsStillEnd (sender_deed stamp e (waiting w.back) n) w.out
         → IsStillEnd (receiver_deed stamp r (waiting w.out) v) w.back → Quiet w }
+{}
+
+/// Each entry of a PUMP has a deed, which ran where it takes memory of its own accord: that of the end whose turn it is, or of the trigger.
+pub fn each_entry_of_a_pump_ran()
+    ensures ran { (w : Network) (m : ℕ) (e : Entry) (n : Node) → Good (does m (e ∷ []) w) → w.first m ≡ Some n → IsPumped e.call → RanDeed e (after n (w.done m)) }
+    ensures turns { (k stamp : ℕ) (e : SenderEnd) (n : Node) (seen : Seen) → n.manager.running ≡ Up → end_in k n.own.ends ≡ Some (ChannelEnd.Sends e) → deed_of stamp (actors.Sender k) calls.Turn seen n ≡ sender_deed stamp e seen n }
+    ensures takings { (k stamp : ℕ) (e : ReceiverEnd) (n : Node) (seen : Seen) → n.manager.running ≡ Up → end_in k n.own.ends ≡ Some (ChannelEnd.Receives e) → deed_of stamp (actors.Receiver k) calls.Turn seen n ≡ receiver_deed stamp e seen n }
+    ensures timeouts { (k stamp : ℕ) (e : SenderEnd) (n : Node) (seen : Seen) → n.manager.running ≡ Up → end_in k n.own.ends ≡ Some (ChannelEnd.Sends e) → deed_of stamp (actors.Sender k) calls.Timeout seen n ≡ timeout_deed e n }
+    ensures triggers_want { (n : Node) → EachWantsNone (trigger_deed n) }
 {}
