@@ -1,7 +1,7 @@
 -- The queues with a trigger due stay noted, whatever is done to the queues.
-use Rattle.std.proofs.Common.{◌≡◌, ℕ, ◌+◌, ◌-◌, ◌<◌, ◌≤◌, Bool, true, false, cond, List, [], ◌∷◌, ◌++◌, refl, sym, ap, subst, ◌∙◌, arith, Bor}
-use Rattle.std.specs.Prelude.{Option, Some, None, map, filter, not, nat_lt, ◌&&◌, ◌||◌, slice_get, slice_index_or, length, option_copied}
-use Rattle.std.specs.List.{AllByRecursion, list_any}
+use Rattle.std.proofs.Common.{◌≡◌, ℕ, ◌+◌, ◌-◌, ◌≤◌, Bool, true, false, cond, List, [], ◌∷◌, ◌++◌, refl, sym, ap, subst, ◌∙◌, arith}
+use Rattle.std.specs.Prelude.{Some, None, filter, not, nat_lt, ◌||◌, slice_get, slice_index_or, length}
+use Rattle.std.specs.List.{list_any}
 use Rattle.std.specs.Str.{bytes_eq}
 use Rattle.std.proofs.lemmas.List.Folds.{list_any-append}
 use Rattle.std.proofs.lemmas.Map.Views.{any-filter_same}
@@ -9,8 +9,8 @@ use Rattle.std.proofs.lemmas.Bool.Decides.{nat_tests}
 use Rattle.mq_spec_state.specs.State.{Queue}
 use Rattle.mq_spec_state.specs.Reads.{queue_in}
 use Rattle.mq_spec_state.specs.Changes.{made_due, forgotten}
-use Rattle.mq_place.specs.States.{QueueState, queues_of, has_name, has_due, state_in, state_or, or_fresh, change_state, on_queue, on_queues, without_state, fresh_state, served, AreApart, IsUnnamed}
-use Rattle.mq_place.specs.Due.{Noted, is_noted, IsListed, AreListed, AreAt, IsDueAt}
+use Rattle.mq_place.specs.States.{QueueState, queues_of, has_name, state_in, state_or, or_fresh, change_state, on_queue, on_queues, without_state, fresh_state, served, AreApart, IsUnnamed}
+use Rattle.mq_place.specs.Due.{DueSet, is_noted, IsListed, AreListed, AreAt, IsDueAt}
 use Rattle.mq_place.specs.declared.due.DueAt.{DueAt}
 use Rattle.mq_place.specs.declared.due.DueAt.TheVariants as due_at
 use Rattle.mq_place.proofs.NameLaws.{name_is, name_self}
@@ -44,14 +44,14 @@ one_name (y ∷ []) x there e few = ap (λ (n : List ℕ). n ∷ []) (sym e)
 one_name (y ∷ z ∷ xs) x there e few = absurd (omega (arith, few))
 
 -- no name, or one
-pub none_noted : (d : Noted) → d.all ≡ false → slice_get d.names 0 ≡ None → (name : List ℕ) → is_noted d name ≡ false
+pub none_noted : (d : DueSet) → d.all ≡ false → slice_get d.names 0 ≡ None → (name : List ℕ) → is_noted d name ≡ false
 none_noted d none empty name = (λ i. none i || list_any (bytes_eq name) (d.names)) ∙ at d.names empty
   where
     at : (xs : List (List ℕ)) → slice_get xs 0 ≡ None → list_any (bytes_eq name) xs ≡ false
     at [] e = refl
     at (x ∷ xs) e = absurd cc
 
-pub one_noted : (d : Noted) (xs : List (List ℕ)) (one : List ℕ) → d.all ≡ false → d.names ≡ xs → true ≡ nat_lt 0 (length xs) → one ≡ slice_index_or xs 0 one → length xs ≤ 1 → (name : List ℕ) → is_noted d name ≡ true → name ≡ one
+pub one_noted : (d : DueSet) (xs : List (List ℕ)) (one : List ℕ) → d.all ≡ false → d.names ≡ xs → true ≡ nat_lt 0 (length xs) → one ≡ slice_index_or xs 0 one → length xs ≤ 1 → (name : List ℕ) → is_noted d name ≡ true → name ≡ one
 one_noted d xs one none is there first few name h =
     let names = is ∙ one_name xs one there first few in
     name_is name one (sym ((λ i. none i || list_any (bytes_eq name) (names i)) ∙ or_none (bytes_eq name one)) ∙ h)
@@ -121,8 +121,8 @@ module _ (old new : List ℕ → Bool) where
   listed_forgotten (s ∷ ss) = ((λ d. absurd cc), listed_forgotten ss)
 
 -- room was made
-pub listed_reserved : (old new : Noted) (states next : List QueueState) → new ≡ old → next ≡ states → AreListed (is_noted old) states → AreListed (is_noted new) next
-listed_reserved old new states next d is all = subst (λ (x : Noted). AreListed (is_noted x) next) (sym d) (subst (AreListed (is_noted old)) (sym is) all)
+pub listed_reserved : (old new : DueSet) (states next : List QueueState) → new ≡ old → next ≡ states → AreListed (is_noted old) states → AreListed (is_noted new) next
+listed_reserved old new states next d is all = subst (λ (x : DueSet). AreListed (is_noted x) next) (sym d) (subst (AreListed (is_noted old)) (sym is) all)
 
 -- a trigger that is served leaves less due
 pub served_listed : (noted : List ℕ → Bool) (s : QueueState) → IsListed noted s → IsListed noted (on_queue served s)

@@ -8,11 +8,11 @@ use Rattle.mq_place.specs.declared.due.DueAt.TheVariants as due_at
 use Rattle.mq_place.specs.States.{QueueState, queues_of, has_due}
 
 -- the names that were noted; any name counts as noted where one found no room
-pub record Noted : Type 0 where
+pub record DueSet : Type 0 where
   pub names : List (List ℕ)
   pub all : Bool
 
-abbrev pub is_noted : Noted → List ℕ → Bool
+abbrev pub is_noted : DueSet → List ℕ → Bool
 is_noted d name = d.all || list_any (bytes_eq name) d.names
 
 -- a queue with a trigger due is noted

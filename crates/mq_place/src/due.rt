@@ -32,9 +32,9 @@ pub struct DueNames {
 
 impl Model for DueNames {
     ghost use Rattle.std.specs.Prelude.{◌+◌, ◌≤◌, vec_len, vec_capacity};
-    ghost use Rattle.mq_place.specs.Due.{Noted};
+    ghost use Rattle.mq_place.specs.Due.{DueSet};
 
-    ghost Value = { Noted };
+    ghost Value = { DueSet };
 
     ghost view = { λ d. record { names = d.names.items; all = d.all } };
 

@@ -234,7 +234,11 @@ impl<Q: Queue + Drop> Queues<Q> {
         ensures room { OnOk result (0 < self.new.room) }
         ensures kept { self.old.room ≤ self.new.room }
     {
-        if self.due.reserve(self.named.len().saturating_add(1)).is_err() {
+        if self
+            .due
+            .reserve(self.named.len().saturating_add(1))
+            .is_err()
+        {
             return Err(NoMemory);
         }
         self.named.reserve_queue()

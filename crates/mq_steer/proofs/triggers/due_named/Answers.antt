@@ -1,4 +1,4 @@
-use Rattle.std.proofs.Common.{◌≡◌, ℕ, List, [], ◌∷◌, sym, ap, ◌∙◌, filter}
+use Rattle.std.proofs.Common.{ℕ, List, [], ◌∷◌, sym, ap, ◌∙◌, filter}
 use Rattle.mq_objects.specs.Names.{is_object}
 use Rattle.mq_objects.specs.Names.Space.{Queues}
 use Rattle.mq_steer.proofs.DueLaws.{one_due}

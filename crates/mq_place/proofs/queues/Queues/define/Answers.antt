@@ -8,9 +8,8 @@ use Rattle.mq_place.proofs.queues.Queues.define.Goals as goal
 
 pub invariant_of-self : goal.invariant_of-self
 invariant_of-self g c =
-    let states = c.self.inside.named.states in
-    (
+    let states = c.self.inside.named.states in (
       noted (home_of c.self.inside.homes) states (states ++ fresh_state c.args.name.now c.args.prioritized ∷ []) _ _ _ c.self.invariant.0 c.define.ensures.states (pushed_home (home_of c.self.inside.homes) c.args.name.now c.args.prioritized states c.self.invariant.0.0)
-    (omega (arith, pending_pushed c.args.name.now c.args.prioritized states)),
+          (omega (arith, pending_pushed c.args.name.now c.args.prioritized states)),
       subst (AreListed (is_noted c.self.inside.due)) (sym c.define.ensures.states) (listed_pushed (is_noted c.self.inside.due) c.args.name.now c.args.prioritized states c.self.invariant.1),
     )

@@ -10,6 +10,6 @@ use Rattle.mq_place.proofs.queues.Queues.drop_volatile.Goals as goal
 
 pub invariant_of-self : goal.invariant_of-self
 invariant_of-self g c = (
-      noted_all (home_of c.self.inside.homes) (kept_in Nonpersistent) _ _ _ _ c.self.invariant.0 (ap (λ (v : QueueStates). v.states) c.drop_volatile.ensures) (kept_home (home_of c.self.inside.homes) Nonpersistent _ c.self.invariant.0.0),
-      subst (AreListed (is_noted c.self.inside.due)) (sym (ap (λ (v : QueueStates). v.states) c.drop_volatile.ensures)) (listed_map (is_noted c.self.inside.due) (kept_in Nonpersistent) (λ s h. h) _ c.self.invariant.1),
-    )
+  noted_all (home_of c.self.inside.homes) (kept_in Nonpersistent) _ _ _ _ c.self.invariant.0 (ap (λ (v : QueueStates). v.states) c.drop_volatile.ensures) (kept_home (home_of c.self.inside.homes) Nonpersistent _ c.self.invariant.0.0),
+  subst (AreListed (is_noted c.self.inside.due)) (sym (ap (λ (v : QueueStates). v.states) c.drop_volatile.ensures)) (listed_map (is_noted c.self.inside.due) (kept_in Nonpersistent) (λ s h. h) _ c.self.invariant.1),
+)

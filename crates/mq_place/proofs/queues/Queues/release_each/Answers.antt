@@ -10,6 +10,6 @@ use Rattle.mq_place.proofs.queues.Queues.release_each.Goals as goal
 
 pub invariant_of-self : goal.invariant_of-self
 invariant_of-self g c = (
-      noted_all (home_of c.self.inside.homes) (released_in (Among c.args.name.now c.args.idents.now) false) _ _ _ _ c.self.invariant.0 (ap (λ (v : QueueStates). v.states) c.release_each.ensures) (released_home (home_of c.self.inside.homes) (Among c.args.name.now c.args.idents.now) false _ c.self.invariant.0.0),
-      subst (AreListed (is_noted c.self.inside.due)) (sym (ap (λ (v : QueueStates). v.states) c.release_each.ensures)) (listed_map (is_noted c.self.inside.due) (released_in (Among c.args.name.now c.args.idents.now) false) (λ s h. h) _ c.self.invariant.1),
-    )
+  noted_all (home_of c.self.inside.homes) (released_in (Among c.args.name.now c.args.idents.now) false) _ _ _ _ c.self.invariant.0 (ap (λ (v : QueueStates). v.states) c.release_each.ensures) (released_home (home_of c.self.inside.homes) (Among c.args.name.now c.args.idents.now) false _ c.self.invariant.0.0),
+  subst (AreListed (is_noted c.self.inside.due)) (sym (ap (λ (v : QueueStates). v.states) c.release_each.ensures)) (listed_map (is_noted c.self.inside.due) (released_in (Among c.args.name.now c.args.idents.now) false) (λ s h. h) _ c.self.invariant.1),
+)

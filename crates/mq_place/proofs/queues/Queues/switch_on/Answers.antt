@@ -8,6 +8,6 @@ use Rattle.mq_place.proofs.queues.Queues.switch_on.Goals as goal
 
 pub invariant_of-self : goal.invariant_of-self
 invariant_of-self g c = (
-      noted_one (home_of c.self.inside.homes) c.args.name.now (on_queue switched_on) (λ s h. h) (λ s. omega arith) _ _ _ _ c.self.invariant.0 (ap (λ (v : QueueStates). v.states) c.switch_on.ensures),
-      subst (AreListed (is_noted c.self.inside.due)) (sym (ap (λ (v : QueueStates). v.states) c.switch_on.ensures)) (listed_one (is_noted c.self.inside.due) c.args.name.now (on_queue switched_on) (λ s h. h) _ c.self.invariant.1),
-    )
+  noted_one (home_of c.self.inside.homes) c.args.name.now (on_queue switched_on) (λ s h. h) (λ s. omega arith) _ _ _ _ c.self.invariant.0 (ap (λ (v : QueueStates). v.states) c.switch_on.ensures),
+  subst (AreListed (is_noted c.self.inside.due)) (sym (ap (λ (v : QueueStates). v.states) c.switch_on.ensures)) (listed_one (is_noted c.self.inside.due) c.args.name.now (on_queue switched_on) (λ s h. h) _ c.self.invariant.1),
+)
