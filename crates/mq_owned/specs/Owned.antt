@@ -1,7 +1,7 @@
--- What a scenario without cables gives a node as its own.
-use Rattle.std.specs.Prelude.{◌≡◌, ℕ, []}
+-- What holds of a scenario that is run for now.
+use Rattle.std.specs.Prelude.{◌≡◌, []}
 use Rattle.mq_history.specs.declared.scenario.Scenario.{Scenario}
 
--- For now no channel joins managers.
+-- No channel joins managers.
 abbrev pub HasNoCables : Scenario → Type 0
 HasNoCables s = s.cables ≡ []

@@ -1,8 +1,9 @@
 //! What a scenario gives a node as its own.
-ghost use Rattle.std.specs.Prelude.{◌≡◌, ◌≤◌, [], None, IfOk, length};
+ghost use Rattle.std.specs.Prelude.{◌≡◌, ◌≤◌, [], All, None, IfOk, length};
+ghost use Rattle.mq_history.specs.Scenarios.{IsCable};
 ghost use Rattle.mq_spec_network.specs.Given.{handlers_from, monitors_from, own_at, scripts_from};
-ghost use Rattle.mq_owned.specs.Owned.{HasNoCables};
 
+use crate::ends::ends_of;
 use crate::lines::copy_part;
 use crate::tables::copy_table;
 use mq_base::{Items, NoMemory};
@@ -79,7 +80,7 @@ fn scripts_of(alloc: Global, manager: u16, parts: &[ScriptPart]) -> Result<Items
     Ok(scripts)
 }
 
-/// All that a scenario without cables gives the node of a manager, a place in the scenario, as its own.
+/// All that a scenario gives the node of a manager, a place in the scenario, as its own.
 ///
 /// # Errors
 ///
@@ -89,14 +90,16 @@ pub fn own_of(alloc: Global, scenario: &Scenario, manager: u16) -> Result<Own, N
     requires rules { length scenario.now.rules ≤ 64 }
     requires scripts { length scenario.now.scripts ≤ 64 }
     requires monitors { length scenario.now.monitors ≤ 64 }
-    requires apart { HasNoCables scenario.now }
+    requires few { length scenario.now.cables ≤ 32 }
+    requires cables { All (IsCable scenario.now) scenario.now.cables }
     ensures { IfOk result (λ own. own ≡ own_at scenario.now manager) }
 {
+    let ends = ends_of(alloc, scenario, manager)?;
     let handlers = handlers_of(alloc, manager, scenario.rules.as_slice())?;
     let monitors = monitors_of(alloc, manager, scenario.monitors.as_slice())?;
     let scripts = scripts_of(alloc, manager, scenario.scripts.as_slice())?;
     Ok(Own {
-        ends: Items::new(alloc),
+        ends,
         handlers,
         monitors,
         scripts,

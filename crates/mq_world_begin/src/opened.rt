@@ -1,11 +1,11 @@
 //! With what the histories of managers open that have just begun, and what is their own.
-ghost use Rattle.std.specs.Prelude.{◌≡◌, ◌≤◌, ◌<◌, ◌+◌, ◌++◌, ◌∷◌, [], ℕ, IfOk, Some, length, slice_get, vec_len, vec_capacity};
+ghost use Rattle.std.specs.Prelude.{◌≡◌, ◌≤◌, ◌<◌, ◌+◌, ◌++◌, ◌∷◌, [], ℕ, All, IfOk, Some, length, slice_get, vec_len, vec_capacity};
 ghost use Rattle.mq_core.specs.Values.{CoreValue};
+ghost use Rattle.mq_history.specs.Scenarios.{IsCable};
 ghost use Rattle.mq_history.specs.declared.history.History as histories;
 ghost use Rattle.mq_spec_node.specs.Node as nodes;
 ghost use Rattle.mq_spec_network.specs.Given.{own_at};
 ghost use Rattle.mq_opening.specs.Opened.{JustBegun};
-ghost use Rattle.mq_owned.specs.Owned.{HasNoCables};
 ghost use Rattle.mq_world_begin.specs.Rested.{OpensWith};
 
 use mq_base::{Items, NoMemory};
@@ -109,7 +109,8 @@ pub fn owns_of(alloc: Global, scenario: &Scenario, count: u16) -> Result<Vec<Own
     requires rules { length scenario.now.rules ≤ 64 }
     requires scripts { length scenario.now.scripts ≤ 64 }
     requires monitors { length scenario.now.monitors ≤ 64 }
-    requires apart { HasNoCables scenario.now }
+    requires few { length scenario.now.cables ≤ 32 }
+    requires cables { All (IsCable scenario.now) scenario.now.cables }
     ensures all { IfOk result (λ owns. length owns.items ≡ count) }
     ensures each { IfOk result (λ owns. (m : ℕ) (own : nodes.Own) → slice_get owns.items m ≡ Some own → own ≡ own_at scenario.now m) }
 {
