@@ -1,0 +1,67 @@
+-- The two directions of a cable in one thread: what lies on them, and what was offered, as the entries of its two ends tell.
+use Rattle.std.specs.Prelude.{◌≡◌, ◌≤◌, ◌^◌, ℕ, List, [], ◌∷◌, Option, Some, None, length, drop}
+use Rattle.std.specs.List.{AllByRecursion}
+use Rattle.mq_cable.specs.declared.fault.Fault.{Fault}
+use Rattle.mq_cable.specs.declared.item.Item.{Item}
+use Rattle.mq_cable.specs.Faults.{made, offered_of, spoil}
+use Rattle.mq_cable.specs.Offers.{HasTaken, Offering}
+use Rattle.mq_frame.specs.declared.frame.Frame.{Frame}
+use Rattle.mq_frame.specs.declared.frame.Seen.TheVariants as items
+use Rattle.mq_frame.specs.Frames.{frame_bytes}
+use Rattle.mq_frame.specs.Sight.{Shows}
+use Rattle.mq_wires.specs.Wires.{HasStamp}
+use Rattle.mq_spec_node.specs.Terms.{Entry}
+use Rattle.mq_spec_node.specs.Words.{by, is_receiver, is_sender, items_of}
+use Rattle.mq_history.specs.declared.scenario.CableLine.{CableLine}
+use Rattle.mq_spec_network.specs.Cables.{Lying, pops_of}
+use Rattle.mq_spec_network.specs.Turns.{Network}
+
+-- a direction: its items, the oldest first, and what was offered on it
+pub record WayState : Type 0 where
+  pub items : List Item
+  pub offers : Offering
+
+-- the sender's direction, and the receiver's
+pub record CableState : Type 0 where
+  pub out : WayState
+  pub back : WayState
+
+-- Nothing was offered yet.
+pub record IsNew (fs : List Fault) (w : WayState) : Type 0 where
+  pub none : w.items ≡ []
+  pub taken : HasTaken w.offers []
+  pub faults : w.offers.faults ≡ fs
+
+-- These entries of the writer offered what was offered; what lies there is what the faults make of it, but for what these entries of
+-- the reader popped.
+pub record IsWay (fs : List Fault) (pushes pops : List Entry) (w : WayState) : Type 0 where
+  pub taken : HasTaken w.offers (offered_of (items_of pushes))
+  pub faults : w.offers.faults ≡ fs
+  pub lies : w.items ≡ drop (length (pops_of pops)) (made fs (items_of pushes))
+  pub few : length (pops_of pops) ≤ length (made fs (items_of pushes))
+  pub low : AllByRecursion (λ (x : Item). x.stamp ≤ 2 ^ 60) (offered_of (items_of pushes))
+
+-- both directions of a cable, by the entries of its ends
+pub record IsCableAt (w : Network) (cable : ℕ) (l : CableLine) (c : CableState) : Type 0 where
+  pub out : IsWay l.out (by (is_sender cable) (w.done l.sender)) (by (is_receiver cable) (w.done l.receiver)) c.out
+  pub back : IsWay l.back (by (is_receiver cable) (w.done l.receiver)) (by (is_sender cable) (w.done l.sender)) c.back
+
+-- What a reader sees of an item of bytes.
+pub record IsSeen (x : Item) (y : Lying) : Type 0 where
+  pub stamp : x.stamp ≡ y.stamp
+  pub shows : Shows x.bytes y.seen
+  pub has : HasStamp x.stamp y.seen
+
+abbrev pub AreSeen : List Item → List Lying → Type 0
+AreSeen [] [] = Unit {0}
+AreSeen [] (y ∷ ys) = ⊥
+AreSeen (x ∷ xs) [] = ⊥
+AreSeen (x ∷ xs) (y ∷ ys) = IsSeen x y × AreSeen xs ys
+
+-- A frame's bytes show it, and show none where they were spoiled.
+abbrev pub IsShown : Option Frame → Type 0
+IsShown None = Unit {0}
+IsShown (Some f) = Shows (frame_bytes f) (items.Frame f) × Shows (spoil (frame_bytes f)) items.Spoiled
+
+abbrev pub AreShown : List Entry → Type 0
+AreShown es = AllByRecursion (λ (e : Entry). IsShown e.effect.pushed) es

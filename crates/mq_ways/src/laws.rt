@@ -1,0 +1,30 @@
+//! What the histories of a cable's ends say of what lies on it.
+ghost use Rattle.std.specs.Prelude.{◌≡◌, ℕ, List, []};
+ghost use Rattle.mq_cable.specs.declared.fault.Fault.{Fault};
+ghost use Rattle.mq_cable.specs.declared.item.Item.{Item};
+ghost use Rattle.mq_cable.specs.Lists.{first_of};
+ghost use Rattle.mq_frame.specs.declared.frame.Seen.{Seen};
+ghost use Rattle.mq_spec_node.specs.Terms.{Entry};
+ghost use Rattle.mq_spec_node.specs.Words.{items_of};
+ghost use Rattle.mq_spec_network.specs.Cables.{Lying, lying, pops_of};
+ghost use Rattle.mq_spec_network.specs.Turns.{waiting};
+ghost use Rattle.mq_wires.specs.Wires.{Sees};
+ghost use Rattle.mq_ways.specs.Ways.{AreSeen, AreShown, IsNew, IsWay, WayState};
+
+/// Where no end has offered or popped, a new direction is as the histories say.
+#[tactic(auto, using(crate::proofs::WayLaws::way_begins))]
+pub fn nothing_lies_on_a_new_direction()
+    ensures { (fs : List Fault) (pushes pops : List Entry) (w : WayState) → items_of pushes ≡ [] → pops_of pops ≡ [] → IsNew fs w → IsWay fs pushes pops w }
+{}
+
+/// What lies on a direction, as its reader sees it, is what the faults make of the frames that were offered.
+#[tactic(auto, using(crate::proofs::SightLaws::way_seen))]
+pub fn what_lies_there_is_what_the_faults_make()
+    ensures { (fs : List Fault) (ps qs : List Entry) (w : WayState) → AreShown ps → IsWay fs ps qs w → AreSeen w.items (lying fs ps qs) }
+{}
+
+/// What an end sees on its wire is the item that waits.
+#[tactic(auto, using(crate::proofs::SightLaws::waits_here))]
+pub fn an_item_that_waits_is_seen()
+    ensures { (xs : List Item) (ys : List Lying) (seen : Seen) (stamp : ℕ) → AreSeen xs ys → Sees (first_of xs) (xs ≡ []) seen stamp → waiting ys ≡ seen }
+{}
