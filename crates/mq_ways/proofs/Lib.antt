@@ -1,2 +1,4 @@
 pub mod WayLaws
+pub mod SpoilLaws
 pub mod SightLaws
+pub mod OpeningLaws

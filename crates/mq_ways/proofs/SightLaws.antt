@@ -17,6 +17,7 @@ use Rattle.mq_spec_node.specs.Words.{item_if, item_of, items_of}
 use Rattle.mq_spec_network.specs.Cables.{Lying, lying, made, offered_by, offered_if, pops_of, spoiled, whole}
 use Rattle.mq_spec_network.specs.Turns.{waiting}
 use Rattle.mq_wires.specs.Wires.{Sees, ShowsItem}
+use Rattle.mq_ways.proofs.SpoilLaws.{spoiled_shows}
 use Rattle.mq_ways.specs.Ways.{AreSeen, AreShown, IsSeen, IsShown, IsWay, WayState}
 
 pub seen_long : (xs : List Item) (ys : List Lying) → AreSeen xs ys → length xs ≡ length ys
@@ -108,7 +109,7 @@ offers_append (p ∷ ps) as_ (q ∷ qs) bs h k = (h.0, h.1, h.2, offers_append p
 
 offers_if : (o : Option Frame) (n : ℕ) → IsShown o → AreOffers (item_if o n) (offered_if o n)
 offers_if None n h = tt
-offers_if (Some f) n h = (record { stamp = refl; shows = h.0; has = refl }, record { stamp = refl; shows = h.1; has = tt }, refl, tt)
+offers_if (Some f) n h = (record { stamp = refl; shows = (h, refl); has = refl }, record { stamp = refl; shows = spoiled_shows f h; has = tt }, refl, tt)
 
 offers_by : (es : List Entry) → AreShown es → AreOffers (items_of es) (offered_by es)
 offers_by [] h = tt

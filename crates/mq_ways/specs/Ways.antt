@@ -3,11 +3,10 @@ use Rattle.std.specs.Prelude.{◌≡◌, ◌≤◌, ◌^◌, ℕ, List, [], ◌�
 use Rattle.std.specs.List.{AllByRecursion}
 use Rattle.mq_cable.specs.declared.fault.Fault.{Fault}
 use Rattle.mq_cable.specs.declared.item.Item.{Item}
-use Rattle.mq_cable.specs.Faults.{made, offered_of, spoil}
+use Rattle.mq_cable.specs.Faults.{made, offered_of}
 use Rattle.mq_cable.specs.Offers.{HasTaken, Offering}
 use Rattle.mq_frame.specs.declared.frame.Frame.{Frame}
-use Rattle.mq_frame.specs.declared.frame.Seen.TheVariants as items
-use Rattle.mq_frame.specs.Frames.{frame_bytes}
+use Rattle.mq_frame.specs.Frames.{IsFrame}
 use Rattle.mq_frame.specs.Sight.{Shows}
 use Rattle.mq_wires.specs.Wires.{HasStamp}
 use Rattle.mq_spec_node.specs.Terms.{Entry}
@@ -31,6 +30,13 @@ pub record IsNew (fs : List Fault) (w : WayState) : Type 0 where
   pub none : w.items ≡ []
   pub taken : HasTaken w.offers []
   pub faults : w.offers.faults ≡ fs
+
+-- a cable for each line
+abbrev pub AreNew : List CableLine → List CableState → Type 0
+AreNew [] [] = Unit {0}
+AreNew [] (c ∷ cs) = ⊥
+AreNew (l ∷ ls) [] = ⊥
+AreNew (l ∷ ls) (c ∷ cs) = IsNew l.out c.out × IsNew l.back c.back × AreNew ls cs
 
 -- These entries of the writer offered what was offered; what lies there is what the faults make of it, but for what these entries of
 -- the reader popped.
@@ -58,10 +64,10 @@ AreSeen [] (y ∷ ys) = ⊥
 AreSeen (x ∷ xs) [] = ⊥
 AreSeen (x ∷ xs) (y ∷ ys) = IsSeen x y × AreSeen xs ys
 
--- A frame's bytes show it, and show none where they were spoiled.
+-- Each frame that was offered has a spelling.
 abbrev pub IsShown : Option Frame → Type 0
 IsShown None = Unit {0}
-IsShown (Some f) = Shows (frame_bytes f) (items.Frame f) × Shows (spoil (frame_bytes f)) items.Spoiled
+IsShown (Some f) = IsFrame f
 
 abbrev pub AreShown : List Entry → Type 0
 AreShown es = AllByRecursion (λ (e : Entry). IsShown e.effect.pushed) es

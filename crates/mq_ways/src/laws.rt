@@ -2,8 +2,13 @@
 ghost use Rattle.std.specs.Prelude.{◌≡◌, ℕ, List, []};
 ghost use Rattle.mq_cable.specs.declared.fault.Fault.{Fault};
 ghost use Rattle.mq_cable.specs.declared.item.Item.{Item};
+ghost use Rattle.mq_cable.specs.Faults.{spoil};
 ghost use Rattle.mq_cable.specs.Lists.{first_of};
+ghost use Rattle.mq_frame.specs.declared.frame.Frame.{Frame};
 ghost use Rattle.mq_frame.specs.declared.frame.Seen.{Seen};
+ghost use Rattle.mq_frame.specs.declared.frame.Seen.TheVariants as items;
+ghost use Rattle.mq_frame.specs.Frames.{IsFrame, frame_bytes};
+ghost use Rattle.mq_frame.specs.Sight.{Shows};
 ghost use Rattle.mq_spec_node.specs.Terms.{Entry};
 ghost use Rattle.mq_spec_node.specs.Words.{items_of};
 ghost use Rattle.mq_spec_network.specs.Cables.{Lying, lying, pops_of};
@@ -15,6 +20,12 @@ ghost use Rattle.mq_ways.specs.Ways.{AreSeen, AreShown, IsNew, IsWay, WayState};
 #[tactic(auto, using(crate::proofs::WayLaws::way_begins))]
 pub fn nothing_lies_on_a_new_direction()
     ensures { (fs : List Fault) (pushes pops : List Entry) (w : WayState) → items_of pushes ≡ [] → pops_of pops ≡ [] → IsNew fs w → IsWay fs pushes pops w }
+{}
+
+/// A frame whose first byte was spoiled is none.
+#[tactic(auto, using(crate::proofs::SpoilLaws::spoiled_shows))]
+pub fn a_spoiled_frame_is_none()
+    ensures { (f : Frame) → IsFrame f → Shows (spoil (frame_bytes f)) items.Spoiled }
 {}
 
 /// What lies on a direction, as its reader sees it, is what the faults make of the frames that were offered.
