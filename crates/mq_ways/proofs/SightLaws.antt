@@ -1,5 +1,5 @@
 -- What the faults make of bytes is what they make of what a reader sees of them.
-use Rattle.std.proofs.Common.{◌≡◌, ℕ, zero, suc, ◌+◌, Bool, true, false, List, [], ◌∷◌, ◌++◌, length, take, drop, refl, sym, ap, subst, ◌∙◌, arith}
+use Rattle.std.proofs.Common.{◌≡◌, ℕ, zero, suc, Bool, true, false, List, [], ◌∷◌, ◌++◌, length, take, drop, refl, sym, ap, subst}
 use Rattle.std.specs.Prelude.{◌==◌, if◌then◌else◌, Option, Some, None}
 use Rattle.mq_cable.specs.declared.fault.Fault.{Fault}
 use Rattle.mq_cable.specs.declared.fault.Fault.TheVariants as faults
@@ -13,8 +13,8 @@ use Rattle.mq_frame.specs.declared.frame.Seen.TheVariants as items
 use Rattle.mq_frame.specs.Sight.{Shows}
 use Rattle.mq_frame.proofs.Streams.{one_sight}
 use Rattle.mq_spec_node.specs.Terms.{Entry}
-use Rattle.mq_spec_node.specs.Words.{item_if, item_of, items_of}
-use Rattle.mq_spec_network.specs.Cables.{Lying, lying, made, offered_by, offered_if, pops_of, spoiled, whole}
+use Rattle.mq_spec_node.specs.Words.{item_if, items_of}
+use Rattle.mq_spec_network.specs.Cables.{Lying, lying, made, offered_by, offered_if, pops_of, spoiled}
 use Rattle.mq_spec_network.specs.Turns.{waiting}
 use Rattle.mq_wires.specs.Wires.{Sees, ShowsItem}
 use Rattle.mq_ways.proofs.SpoilLaws.{spoiled_shows}
