@@ -2,3 +2,4 @@ pub mod WayLaws
 pub mod SpoilLaws
 pub mod SightLaws
 pub mod OpeningLaws
+pub mod QuietLaws

@@ -1,5 +1,5 @@
 -- The two directions of a cable in one thread: what lies on them, and what was offered, as the entries of its two ends tell.
-use Rattle.std.specs.Prelude.{◌≡◌, ◌≤◌, ◌^◌, ℕ, List, [], ◌∷◌, Option, Some, None, length, drop}
+use Rattle.std.specs.Prelude.{◌≡◌, ◌⊎◌, Bool, false, ◌≤◌, ◌^◌, ℕ, List, [], ◌∷◌, Option, Some, None, length, drop}
 use Rattle.std.specs.List.{AllByRecursion}
 use Rattle.mq_cable.specs.declared.fault.Fault.{Fault}
 use Rattle.mq_cable.specs.declared.item.Item.{Item}
@@ -9,10 +9,10 @@ use Rattle.mq_frame.specs.declared.frame.Frame.{Frame}
 use Rattle.mq_frame.specs.Frames.{IsFrame}
 use Rattle.mq_frame.specs.Sight.{Shows}
 use Rattle.mq_wires.specs.Wires.{HasStamp}
-use Rattle.mq_spec_node.specs.Terms.{Entry}
+use Rattle.mq_spec_node.specs.Terms.{Actor, Entry}
 use Rattle.mq_spec_node.specs.Words.{by, is_receiver, is_sender, items_of}
 use Rattle.mq_history.specs.declared.scenario.CableLine.{CableLine}
-use Rattle.mq_spec_network.specs.Cables.{Lying, pops_of}
+use Rattle.mq_spec_network.specs.Cables.{Lying, is_popped, pops_of}
 use Rattle.mq_spec_network.specs.Turns.{Network}
 
 -- a direction: its items, the oldest first, and what was offered on it
@@ -51,6 +51,14 @@ pub record IsWay (fs : List Fault) (pushes pops : List Entry) (w : WayState) : T
 pub record IsCableAt (w : Network) (cable : ℕ) (l : CableLine) (c : CableState) : Type 0 where
   pub out : IsWay l.out (by (is_sender cable) (w.done l.sender)) (by (is_receiver cable) (w.done l.receiver)) c.out
   pub back : IsWay l.back (by (is_receiver cable) (w.done l.receiver)) (by (is_sender cable) (w.done l.sender)) c.back
+
+-- An entry of another than this end, or one that neither offers nor pops; and entries more, of which none does as this end.
+abbrev pub IsQuietEntry : (Actor → Bool) → Entry → Type 0
+IsQuietEntry test e = (test e.actor ≡ false) ⊎ ((e.effect.pushed ≡ None) × (is_popped e ≡ false))
+
+pub record IsQuiet (test : Actor → Bool) (es more : List Entry) : Type 0 where
+  pub offers : items_of (by test more) ≡ items_of (by test es)
+  pub pops : length (pops_of (by test more)) ≡ length (pops_of (by test es))
 
 -- What a reader sees of an item of bytes.
 pub record IsSeen (x : Item) (y : Lying) : Type 0 where

@@ -1,5 +1,6 @@
 //! What the histories of a cable's ends say of what lies on it.
-ghost use Rattle.std.specs.Prelude.{◌≡◌, ℕ, List, []};
+ghost use Rattle.std.specs.Prelude.{◌≡◌, ℕ, List, [], Some, slice_get};
+ghost use Rattle.std.specs.List.{AllByRecursion};
 ghost use Rattle.mq_cable.specs.declared.fault.Fault.{Fault};
 ghost use Rattle.mq_cable.specs.declared.item.Item.{Item};
 ghost use Rattle.mq_cable.specs.Faults.{spoil};
@@ -10,11 +11,12 @@ ghost use Rattle.mq_frame.specs.declared.frame.Seen.TheVariants as items;
 ghost use Rattle.mq_frame.specs.Frames.{IsFrame, frame_bytes};
 ghost use Rattle.mq_frame.specs.Sight.{Shows};
 ghost use Rattle.mq_spec_node.specs.Terms.{Entry};
-ghost use Rattle.mq_spec_node.specs.Words.{items_of};
+ghost use Rattle.mq_spec_node.specs.Words.{is_receiver, is_sender, items_of};
 ghost use Rattle.mq_spec_network.specs.Cables.{Lying, lying, pops_of};
-ghost use Rattle.mq_spec_network.specs.Turns.{waiting};
+ghost use Rattle.mq_spec_network.specs.Turns.{Network, does, waiting};
 ghost use Rattle.mq_wires.specs.Wires.{Sees};
-ghost use Rattle.mq_ways.specs.Ways.{AreSeen, AreShown, IsNew, IsWay, WayState};
+ghost use Rattle.mq_ways.specs.Ways.{AreNew, AreSeen, AreShown, CableState, IsCableAt, IsNew, IsQuietEntry, IsWay, WayState};
+ghost use Rattle.mq_history.specs.declared.scenario.CableLine.{CableLine};
 
 /// Where no end has offered or popped, a new direction is as the histories say.
 #[tactic(auto, using(crate::proofs::WayLaws::way_begins))]
@@ -38,4 +40,14 @@ pub fn what_lies_there_is_what_the_faults_make()
 #[tactic(auto, using(crate::proofs::SightLaws::waits_here))]
 pub fn an_item_that_waits_is_seen()
     ensures { (xs : List Item) (ys : List Lying) (seen : Seen) (stamp : ℕ) → AreSeen xs ys → Sees (first_of xs) (xs ≡ []) seen stamp → waiting ys ≡ seen }
+{}
+
+/// Where nothing was done yet, each line's new cable is as the histories say.
+pub fn new_cables_are_as_their_ends_say()
+    ensures { (w : Network) (cs : List CableState) (k : ℕ) (l : CableLine) (c : CableState) → ((m : ℕ) → w.done m ≡ []) → AreNew w.scenario.cables cs → slice_get w.scenario.cables k ≡ Some l → slice_get cs k ≡ Some c → IsCableAt w k l c }
+{}
+
+/// Entries of which none offers or pops as an end of a cable leave it as it is.
+pub fn a_cable_stays_where_its_ends_are_quiet()
+    ensures { (w : Network) (m k : ℕ) (l : CableLine) (es : List Entry) (c : CableState) → AllByRecursion (IsQuietEntry (is_sender k)) es → AllByRecursion (IsQuietEntry (is_receiver k)) es → IsCableAt w k l c → IsCableAt (does m es w) k l c }
 {}
