@@ -1,0 +1,4 @@
+pub mod PlaceLaws
+pub mod TellLaws
+pub mod SenderLaws
+pub mod StartLaws

@@ -1,0 +1,116 @@
+//! Commands on the ends of channels, as events.
+ghost use Rattle.std.specs.Prelude.{◌≡◌, ◌<◌};
+ghost use Rattle.mq_spec_agents.specs.Words.{IsUp};
+ghost use Rattle.mq_spec_node.specs.Words.{operate, operate_up, resolve_end, sender_named};
+ghost use Rattle.mq_events.specs.States.{IsServed, node_in};
+ghost use Rattle.mq_events.specs.Counts.{IsNode};
+ghost use Rattle.mq_events.specs.Events.{ActsAs, MayAct};
+ghost use Rattle.mq_operate.specs.Works.{Works, call_of};
+
+use crate::places::sender_named;
+use crate::senders::resolve_sender;
+use crate::working::{Worked, answer_by, refused, tell_worked};
+use mq_base::NoMemory;
+use mq_disk::Disk;
+use mq_events::{Node, NodeParts};
+use mq_history::{Acted, Actor, OpRefusal};
+use mq_name::ChName;
+use mq_sc_parse::Op;
+use mq_sync::Settle;
+
+/// RESOLVE, at the sender's end of a cable, defined or not.
+#[tactic(auto, using(crate::proofs::SenderLaws::resolve_absent, crate::proofs::SenderLaws::resolve_there))]
+fn resolve<D: Disk>(
+    parts: &mut NodeParts<D>,
+    channel: &ChName,
+    settle: Settle,
+) -> Result<Worked, NoMemory>
+    requires up { IsUp parts.old.manager.plain }
+    ensures { Works (resolve_end settle (sender_named channel.now parts.old.own.ends) (node_in parts.old)) parts.old result parts.new }
+{
+    match sender_named(&parts.own.ends, channel) {
+        None => Ok(refused(parts.alloc, OpRefusal::NotFound)),
+        Some(end) => resolve_sender(parts, &end, settle),
+    }
+}
+
+/// A command at a manager that is up.
+fn work_up<D: Disk>(parts: &mut NodeParts<D>, op: &Op) -> Result<Worked, NoMemory>
+    requires up { IsUp parts.old.manager.plain }
+    ensures { Works (operate_up op.now (node_in parts.old)) parts.old result parts.new }
+{
+    match op {
+        Op::Start(_) => Err(NoMemory),
+        Op::Stop(_) => Err(NoMemory),
+        Op::Reset(_, _) => Err(NoMemory),
+        Op::Resolve(channel, settle) => resolve(parts, channel, *settle),
+    }
+}
+
+/// A command, before its entry.
+#[tactic(auto, using(crate::proofs::SenderLaws::down_refused, crate::proofs::SenderLaws::up_works))]
+fn work<D: Disk>(parts: &mut NodeParts<D>, op: &Op) -> Result<Worked, NoMemory>
+    ensures { Works (operate op.now (node_in parts.old)) parts.old result parts.new }
+{
+    if !parts.manager.is_up() {
+        return Ok(refused(parts.alloc, OpRefusal::Down));
+    }
+    work_up(parts, op)
+}
+
+/// A command, with its entry, in room that is there.
+#[tactic(auto, using(crate::proofs::TellLaws::told_node, crate::proofs::TellLaws::told_did, crate::proofs::TellLaws::unworked_node, crate::proofs::TellLaws::unworked_stays, crate::proofs::TellLaws::worked_room, crate::proofs::TellLaws::worked_low))]
+fn operate_in<D: Disk>(
+    parts: &mut NodeParts<D>,
+    actor: Actor,
+    op: Op,
+) -> Result<Acted, NoMemory>
+    requires room { 0 < parts.old.room }
+    requires node { IsNode parts.old }
+    requires served { IsServed parts.old }
+    requires may { MayAct parts.old }
+    ensures node { IsNode parts.new }
+    ensures did { ActsAs actor (call_of op) parts.old result parts.new }
+{
+    match work(parts, &op) {
+        Err(NoMemory) => Err(NoMemory),
+        Ok(worked) => {
+            let answer = answer_by(&worked.told.choice, worked.refusal);
+            tell_worked(parts, actor, op, worked);
+            Ok(answer)
+        }
+    }
+}
+
+/// So, where its entry's room can be had.
+#[tactic(auto, using(crate::proofs::TellLaws::roomed_node, crate::proofs::TellLaws::roomed_stays, crate::proofs::TellLaws::roomed_did, mq_turns::proofs::DueLaws::room_served, mq_turns::proofs::DueLaws::room_may))]
+fn operate_if<D: Disk>(
+    parts: &mut NodeParts<D>,
+    actor: Actor,
+    op: Op,
+) -> Result<Acted, NoMemory>
+    requires node { IsNode parts.old }
+    requires served { IsServed parts.old }
+    requires may { MayAct parts.old }
+    ensures node { IsNode parts.new }
+    ensures did { ActsAs actor (call_of op) parts.old result parts.new }
+{
+    if parts.reserve(1).is_err() {
+        return Err(NoMemory);
+    }
+    operate_in(parts, actor, op)
+}
+
+/// START, STOP, RESET or RESOLVE CHANNEL (MQSC reference), as one event of the node. It is refused with the first that applies of
+/// `Down`, `NotFound`, and what the command itself asks; a write that was stopped is answered `Disk` or `Cut`, and its entry says so.
+///
+/// # Errors
+///
+/// No memory; nothing has changed.
+pub fn operate<D: Disk>(node: &mut Node<D>, actor: Actor, op: Op) -> Result<Acted, NoMemory>
+    requires served { IsServed node.old }
+    requires may { MayAct node.old }
+    ensures { ActsAs actor (call_of op) node.old result node.new }
+{
+    operate_if(&mut node.parts, actor, op)
+}
