@@ -2,3 +2,4 @@ pub mod PlaceLaws
 pub mod TellLaws
 pub mod SenderLaws
 pub mod StartLaws
+pub mod PlacedLaws

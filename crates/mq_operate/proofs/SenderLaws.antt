@@ -20,9 +20,8 @@ use Rattle.mq_spec_state.specs.Meeting.Wants.{Anywhere}
 use Rattle.mq_spec_state.specs.Words.{batch_of, in_doubt_of, sender_data}
 use Rattle.mq_spec_agents.specs.Words.{HasNoBatch, HasNoDoubt, IsUp, harden, leave, release_batch, seize, unit_of}
 use Rattle.mq_spec_node.specs.Terms.{Did, Op, OpRefusal, Part, Plain, SeizeFault, Step, Refuse, Do, is_up}
-use Rattle.mq_spec_node.specs.Words.{ChannelEnd, Deed, Handler, Node, Own, SenderEnd, cable_of, forgotten_rows, is_bad_number, is_in_doubt, limits_here, operate, operate_up, operated, parts_of, refused, refused_or, reset_end, resolve_doubt, resolve_end, seize_refusal, sender_named, set_end, start_end, start_seized, still_tried, stop_end, with_end}
+use Rattle.mq_spec_node.specs.Words.{Tried, ChannelEnd, Deed, Handler, Node, Own, SenderEnd, cable_of, forgotten_rows, is_bad_number, is_in_doubt, limits_here, operate, operate_up, operated, parts_of, refused, refused_or, reset_end, resolve_doubt, resolve_end, seize_refusal, sender_named, set_end, start_end, start_seized, still_tried, stop_end, with_end}
 use Rattle.mq_spec_node.specs.Node.ChannelEnd.{Sends, Receives}
-use Rattle.mq_spec_node.specs.Node.Tried.{Tried}
 use Rattle.mq_core.specs.Values.{CoreValue, manager_of}
 use Rattle.mq_events.specs.Counts.{kept_in, kept_total}
 use Rattle.mq_events.specs.States.{NodeState, node_in}
@@ -138,7 +137,7 @@ doubt_running settle e None u n is run = absurd cc
 doubt_running settle e (Some d) u n is run = running_is (senders.is_running e.machine.state) n.own (operated (parts_of (harden e.channel (notes.Resolved d.unit (is_commit settle) true) n.manager)) n.own) run
 
 unit_is : (d : InDoubt) (u : Luw) → Some u ≡ Some (unit_of d) → u ≡ unit_of d
-unit_is d u refl = refl
+unit_is d u e = cc
 
 doubt_still : (settle : Settle) (e : SenderEnd) (o : Option InDoubt) (u : Luw) (n : Node) → Some u ≡ option_map unit_of o → senders.is_running e.machine.state ≡ false
     → resolve_doubt e settle o n ≡ operated (parts_of (harden e.channel (notes.Resolved u (is_commit settle) true) n.manager)) n.own

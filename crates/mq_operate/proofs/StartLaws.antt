@@ -17,10 +17,13 @@ use Rattle.mq_sync.specs.declared.data.End.TheVariants as end_kinds
 use Rattle.mq_sync.specs.declared.data.InDoubt.{InDoubt}
 use Rattle.mq_objects.specs.Names.{channel_of}
 use Rattle.mq_agents.specs.Ends.{by_seize, seize_halt}
+use Rattle.mq_spec_state.specs.Steps.{refused_or as step_or, refusal as first_refusal, silent, when}
+use Rattle.mq_spec_state.specs.State.Change.{Seize}
 use Rattle.mq_spec_state.specs.Meeting.{MeetsAs, ManagerValue}
 use Rattle.mq_spec_state.specs.Meeting.Wants.{Anywhere}
-use Rattle.mq_spec_state.specs.Words.{batch_of, in_doubt_of, sender_data}
-use Rattle.mq_spec_agents.specs.Words.{HasNoBatch, HasNoDoubt, IsUp, channel_queue, harden, leave, release_batch, release_of, seize, seize_queue}
+use Rattle.mq_spec_state.specs.Words.{batch_of, has_held_by_other, in_doubt_of, is_open_for_input, local_of, sender_data}
+use Rattle.mq_spec_manager.specs.Words.{is_transmission_queue}
+use Rattle.mq_spec_agents.specs.Words.{HasNoBatch, HasNoDoubt, IsUp, channel_queue, harden, leave, release_batch, release_of, seize}
 use Rattle.mq_spec_node.specs.Terms.{Did, OpRefusal, Part, Plain, SeizeFault, Step, Refuse, Do}
 use Rattle.mq_spec_node.specs.Words.{ChannelEnd, Deed, Node, Own, SenderEnd, cable_of, is_bad_number, is_in_doubt, limits_here, operated, parts_of, refused, refused_or, reset_end, seize_refusal, sender_started, set_end, start_end, start_seized, stop_end, with_end}
 use Rattle.mq_spec_node.specs.Node.ChannelEnd.{Sends, Receives}
@@ -48,6 +51,9 @@ less_if e (Receives x) ys false h = omega (arith, h)
 sends_less : (e : SenderEnd) (es : List ChannelEnd) → kept_in (set_end (Sends e) es) ≤ kept_in es
 sends_less e [] = le_self 0
 sends_less e (y ∷ ys) = less_if e y ys (cable_of y == e.cable) (sends_less e ys)
+
+zero_one : 0 + 0 ≤ 0
+zero_one = omega arith
 
 -- ---- START
 
@@ -91,14 +97,17 @@ own_some None reason choice delta e own r = absurd cc
 own_some (Some x) reason choice delta e own r = refl
 
 -- parts that open a queue bring nothing
+tested_brings : (o : Option SeizeFault) (parts : List Part) → BringNone parts → BringNone (parts_of (step_or o (Do tt parts)))
+tested_brings None parts b = b
+tested_brings (Some fault) parts b = tt
+
 seize_brings : (channel : List ℕ) (p : Plain) → BringNone (parts_of (seize channel p))
-seize_brings channel p = by_tests (seize channel p) channel p refl
-  where
-    by_tests : (step : Step SeizeFault (Unit {0})) (channel : List ℕ) (p : Plain) → seize channel p ≡ step → BringNone (parts_of step)
-    by_tests step channel p e = subst (λ (x : Step SeizeFault (Unit {0})). BringNone (parts_of x)) e (brings channel (channel_queue (channel_of channel p.definitions)) p)
-      where
-        brings : (channel queue : List ℕ) (p : Plain) → BringNone (parts_of (seize_queue channel queue p))
-        brings channel queue p = grind (arith)
+seize_brings channel p =
+    let queue : List ℕ = channel_queue (channel_of channel p.definitions) in
+    tested_brings (first_refusal (
+    when (not (is_transmission_queue (local_of queue p.definitions))) faults.BadQueue
+    ∷ when (is_open_for_input queue p || has_held_by_other channel queue p) faults.QueueInUse
+    ∷ [])) (silent (Seize (record { channel = channel; queue = queue }) ∷ []) ∷ []) (zero_one, tt)
 
 started_by : (step : Step SeizeFault (Unit {0})) (e last : SenderEnd) (w : Worked) (s b a : NodeState) → BringNone (parts_of step) → Sought step w s.manager b.manager → b ≡ record s { manager = b.manager } → with_end (Sends last) s.own ≡ sender_started e (node_in s)
     → a ≡ record b { own = own_if w.refusal w.told.choice w.told.delta (Sends last) b.own } → Works (start_seized e step (node_in s)) s (Ok w) a
@@ -136,9 +145,6 @@ pub none_released : (channel : List ℕ) (t : Told) (v : CoreValue) → HasNoBat
 none_released channel t v none c d =
     let M : Option Batch → Type 0 = λ o. MadeOr (parts_of (release_of channel o)) (Ok t) v v in
     subst M (sym none) (nothing_made t v c d)
-
-zero_one : 0 + 0 ≤ 0
-zero_one = omega arith
 
 zero_two : 0 + (0 + 0) ≤ 0
 zero_two = omega arith
@@ -180,9 +186,12 @@ no_doubt_if : (o : Option InDoubt) → is_some o ≡ false → o ≡ None
 no_doubt_if None e = refl
 no_doubt_if (Some d) e = absurd cc
 
+reason_is : (r x : OpRefusal) → Some r ≡ Some x → r ≡ x
+reason_is r x e = cc
+
 reset_is : (o : Option OpRefusal) (reason : OpRefusal) (own : Own) (d : Deed) → Some reason ≡ o → refused_or o own d ≡ refused reason own
 reset_is None reason own d e = absurd cc
-reset_is (Some x) reason own d refl = refl
+reset_is (Some x) reason own d e = ap (λ (y : OpRefusal). refused y own) (sym (reason_is reason x e))
 
 done_is : (o : Option OpRefusal) (own : Own) (d : Deed) → None ≡ o → refused_or o own d ≡ d
 done_is None own d e = refl

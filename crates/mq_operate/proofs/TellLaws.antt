@@ -13,8 +13,7 @@ use Rattle.mq_history.specs.declared.acts.Acted.TheVariants as acted
 use Rattle.mq_law_counts.specs.Counts.{Climbs}
 use Rattle.mq_law_counts.proofs.Climbing.{stay}
 use Rattle.mq_spec_node.specs.Terms.{Acted, Actor, Call, Did, Entry, Message, Op, OpRefusal, Part, Plain, Possible, Reply}
-use Rattle.mq_spec_node.specs.Words.{CanCome, ChannelEnd, Deed, Done, Handler, Monitor, Node, Own, Tells, answer_of, change_monitor, done, done_by, forgotten_rows, node_of, operate, remembered, still_tried, op_stopped}
-use Rattle.mq_spec_node.specs.Node.Tried.{Tried}
+use Rattle.mq_spec_node.specs.Words.{Tried, CanCome, ChannelEnd, Deed, Done, Handler, Monitor, Node, Own, Tells, answer_of, change_monitor, done, done_by, forgotten_rows, node_of, operate, remembered, still_tried, op_stopped}
 use Rattle.mq_core.specs.Values.{CoreValue}
 use Rattle.mq_events.specs.Counts.{IsNode, kept_total}
 use Rattle.mq_events.specs.Events.{ActsAs, Adds, MayAct, Stays}
@@ -144,10 +143,10 @@ module _ (s a t : NodeState) (actor : Actor) (op : Op) (w : Worked) (k : IsWorke
 
   next : node_in behind ≡ (done_by it (node_in s)).next
   next = sym (
-    ap (λ (o : Own). node_of (done d choice (node_in s)).next.manager o) (done_quiet actor op d w.refusal choice (node_in s) (done d choice (node_in s)).next.own k.made.made k.reply)
-    ∙ next_is d choice (node_in s) k.made.made
-    ∙ ap (λ (p : Plain). node_of p (own_by choice (delta_by choice d.parts) d.own s.own)) (sym k.made.plain)
-    ∙ ap (λ (x : List Did). node_of a.manager.plain (own_by choice x d.own s.own)) (sym k.made.told))
+      ap (λ (o : Own). node_of (done d choice (node_in s)).next.manager o) (done_quiet actor op d w.refusal choice (node_in s) (done d choice (node_in s)).next.own k.made.made k.reply)
+      ∙ next_is d choice (node_in s) k.made.made
+      ∙ ap (λ (p : Plain). node_of p (own_by choice (delta_by choice d.parts) d.own s.own)) (sym k.made.plain)
+      ∙ ap (λ (x : List Did). node_of a.manager.plain (own_by choice x d.own s.own)) (sym k.made.told))
 
   behind_kept : IsKept s → IsServed s → IsKept behind
   behind_kept kept served = entry_kept s behind it kept served tells refl next
@@ -156,8 +155,8 @@ module _ (s a t : NodeState) (actor : Actor) (op : Op) (w : Worked) (k : IsWorke
   told_node n served = subst IsNode (sym t_is) (record {
     kept = behind_kept n.kept served;
     counted = climbs_counted 0 s behind n.counted refl (long_more s.history.entries it)
-    (subst (λ (p : Plain). Climbs 0 s.manager.plain p) (sym k.made.plain) (climbs_by d.parts choice s.manager.plain k.made.made k.brings))
-    (climbs_on (kept_total own) (kept_total s.own) (total_by choice w.told.delta d.own s.own k.total));
+        (subst (λ (p : Plain). Climbs 0 s.manager.plain p) (sym k.made.plain) (climbs_by d.parts choice s.manager.plain k.made.made k.brings))
+        (climbs_on (kept_total own) (kept_total s.own) (total_by choice w.told.delta d.own s.own k.total));
   })
 
   pub told_did : (b : Acted) → b ≡ answer_by choice w.refusal → ActsAs actor (call_of op) s (Ok b) t

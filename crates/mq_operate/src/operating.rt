@@ -1,14 +1,14 @@
 //! Commands on the ends of channels, as events.
 ghost use Rattle.std.specs.Prelude.{◌≡◌, ◌<◌};
 ghost use Rattle.mq_spec_agents.specs.Words.{IsUp};
-ghost use Rattle.mq_spec_node.specs.Words.{operate, operate_up, resolve_end, sender_named};
+ghost use Rattle.mq_spec_node.specs.Words.{end_here, operate, operate_up, reset_end, resolve_end, sender_named, start_end, stop_end};
 ghost use Rattle.mq_events.specs.States.{IsServed, node_in};
 ghost use Rattle.mq_events.specs.Counts.{IsNode};
 ghost use Rattle.mq_events.specs.Events.{ActsAs, MayAct};
 ghost use Rattle.mq_operate.specs.Works.{Works, call_of};
 
-use crate::places::sender_named;
-use crate::senders::resolve_sender;
+use crate::places::{Place, limits_here, place_here, sender_named};
+use crate::senders::{reset_sender, resolve_sender, start_sender, stop_sender};
 use crate::working::{Worked, answer_by, refused, tell_worked};
 use mq_base::NoMemory;
 use mq_disk::Disk;
@@ -34,15 +34,60 @@ fn resolve<D: Disk>(
     }
 }
 
+/// START.
+#[tactic(auto, using(crate::proofs::PlacedLaws::start_absent, crate::proofs::PlacedLaws::start_there, crate::proofs::PlacedLaws::defined_so, crate::proofs::PlacedLaws::limits_so, crate::proofs::SenderLaws::as_it_was))]
+fn start<D: Disk>(parts: &mut NodeParts<D>, channel: &ChName) -> Result<Worked, NoMemory>
+    requires up { IsUp parts.old.manager.plain }
+    ensures { Works (start_end (end_here channel.now (node_in parts.old)) (node_in parts.old)) parts.old result parts.new }
+{
+    let limits = limits_here(&parts.manager, channel);
+    match place_here(parts, channel) {
+        Place::Absent => Ok(refused(parts.alloc, OpRefusal::NotFound)),
+        Place::Sends(end) => start_sender(parts, &end, limits),
+        Place::Receives => Err(NoMemory),
+    }
+}
+
+/// STOP.
+#[tactic(auto, using(crate::proofs::PlacedLaws::stop_absent, crate::proofs::PlacedLaws::stop_there, crate::proofs::SenderLaws::as_it_was))]
+fn stop<D: Disk>(parts: &mut NodeParts<D>, channel: &ChName) -> Result<Worked, NoMemory>
+    requires up { IsUp parts.old.manager.plain }
+    ensures { Works (stop_end (end_here channel.now (node_in parts.old)) (node_in parts.old)) parts.old result parts.new }
+{
+    match place_here(parts, channel) {
+        Place::Absent => Ok(refused(parts.alloc, OpRefusal::NotFound)),
+        Place::Sends(end) => stop_sender(parts, &end),
+        Place::Receives => Err(NoMemory),
+    }
+}
+
+/// RESET.
+#[tactic(auto, using(crate::proofs::PlacedLaws::reset_absent, crate::proofs::PlacedLaws::reset_there, crate::proofs::PlacedLaws::limits_so, crate::proofs::SenderLaws::as_it_was))]
+fn reset<D: Disk>(
+    parts: &mut NodeParts<D>,
+    channel: &ChName,
+    number: u32,
+) -> Result<Worked, NoMemory>
+    requires up { IsUp parts.old.manager.plain }
+    ensures { Works (reset_end number (end_here channel.now (node_in parts.old)) (node_in parts.old)) parts.old result parts.new }
+{
+    let limits = limits_here(&parts.manager, channel);
+    match place_here(parts, channel) {
+        Place::Absent => Ok(refused(parts.alloc, OpRefusal::NotFound)),
+        Place::Sends(end) => reset_sender(parts, &end, number, &limits),
+        Place::Receives => Err(NoMemory),
+    }
+}
+
 /// A command at a manager that is up.
 fn work_up<D: Disk>(parts: &mut NodeParts<D>, op: &Op) -> Result<Worked, NoMemory>
     requires up { IsUp parts.old.manager.plain }
     ensures { Works (operate_up op.now (node_in parts.old)) parts.old result parts.new }
 {
     match op {
-        Op::Start(_) => Err(NoMemory),
-        Op::Stop(_) => Err(NoMemory),
-        Op::Reset(_, _) => Err(NoMemory),
+        Op::Start(channel) => start(parts, channel),
+        Op::Stop(channel) => stop(parts, channel),
+        Op::Reset(channel, number) => reset(parts, channel, *number),
         Op::Resolve(channel, settle) => resolve(parts, channel, *settle),
     }
 }
@@ -60,11 +105,7 @@ fn work<D: Disk>(parts: &mut NodeParts<D>, op: &Op) -> Result<Worked, NoMemory>
 
 /// A command, with its entry, in room that is there.
 #[tactic(auto, using(crate::proofs::TellLaws::told_node, crate::proofs::TellLaws::told_did, crate::proofs::TellLaws::unworked_node, crate::proofs::TellLaws::unworked_stays, crate::proofs::TellLaws::worked_room, crate::proofs::TellLaws::worked_low))]
-fn operate_in<D: Disk>(
-    parts: &mut NodeParts<D>,
-    actor: Actor,
-    op: Op,
-) -> Result<Acted, NoMemory>
+fn operate_in<D: Disk>(parts: &mut NodeParts<D>, actor: Actor, op: Op) -> Result<Acted, NoMemory>
     requires room { 0 < parts.old.room }
     requires node { IsNode parts.old }
     requires served { IsServed parts.old }
@@ -84,11 +125,7 @@ fn operate_in<D: Disk>(
 
 /// So, where its entry's room can be had.
 #[tactic(auto, using(crate::proofs::TellLaws::roomed_node, crate::proofs::TellLaws::roomed_stays, crate::proofs::TellLaws::roomed_did, mq_turns::proofs::DueLaws::room_served, mq_turns::proofs::DueLaws::room_may))]
-fn operate_if<D: Disk>(
-    parts: &mut NodeParts<D>,
-    actor: Actor,
-    op: Op,
-) -> Result<Acted, NoMemory>
+fn operate_if<D: Disk>(parts: &mut NodeParts<D>, actor: Actor, op: Op) -> Result<Acted, NoMemory>
     requires node { IsNode parts.old }
     requires served { IsServed parts.old }
     requires may { MayAct parts.old }

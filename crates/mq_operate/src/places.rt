@@ -1,8 +1,8 @@
 //! The end that a command speaks of.
-ghost use Rattle.std.specs.Prelude.{◌≡◌, ◌==◌, position, option_copied, IfSome};
+ghost use Rattle.std.specs.Prelude.{◌≡◌, Some, true, false, position, option_copied};
 ghost use Rattle.mq_objects.specs.Names.{channel_of};
 ghost use Rattle.mq_spec_node.specs.Node as nodes;
-ghost use Rattle.mq_spec_node.specs.Node.{cable_of};
+ghost use Rattle.mq_spec_agents.specs.Words.{is_sending_kind};
 ghost use Rattle.mq_spec_node.specs.Words.{limits_of, sender_named};
 ghost use Rattle.mq_events.specs.States.{node_in};
 ghost use Rattle.mq_operate.specs.Places.{IsPlace, defined_sends, receives_for, sends_for};
@@ -13,24 +13,16 @@ use mq_events::NodeParts;
 use mq_manager::Manager;
 use mq_name::ChName;
 use mq_objects::{Channel, ChannelKind};
-use mq_own::{ChannelEnd, EndKind, Own, SenderEnd};
-use mq_receiver::Receiver;
+use mq_own::{ChannelEnd, EndKind, SenderEnd};
 use mq_sender::Limits;
 
-/// A receiver's end, by its place among the ends of its node.
-pub struct Seat {
-    /// From 0.
-    pub at: usize,
-    pub channel: ChName,
-    pub machine: Receiver,
-}
-
 /// The end that a channel's definition here speaks of.
+#[derive(Drop)]
 pub enum Place {
     /// There is none.
     Absent,
     Sends(SenderEnd),
-    Receives(Seat),
+    Receives,
 }
 
 fn sends_for(channel: &ChName, end: &ChannelEnd) -> bool
@@ -51,15 +43,6 @@ fn receives_for(channel: &ChName, end: &ChannelEnd) -> bool
     }
 }
 
-fn cable_of(end: &ChannelEnd) -> u16
-    ensures { result ≡ cable_of end.now }
-{
-    match &end.kind {
-        EndKind::Sends(end) => end.cable,
-        EndKind::Receives(end) => end.cable,
-    }
-}
-
 fn sender_place(ends: &[ChannelEnd], channel: &ChName) -> Option<usize>
     ensures { result ≡ position (sends_for channel.now) ends.now }
 {
@@ -70,12 +53,6 @@ fn receiver_place(ends: &[ChannelEnd], channel: &ChName) -> Option<usize>
     ensures { result ≡ position (receives_for channel.now) ends.now }
 {
     ends.iter().position(|end| receives_for(channel, end))
-}
-
-fn cable_place(ends: &[ChannelEnd], cable: u16) -> Option<usize>
-    ensures { result ≡ position (λ (e : nodes.ChannelEnd). cable_of e == cable) ends.now }
-{
-    ends.iter().position(|end| cable_of(end) == cable)
 }
 
 fn as_sender(end: &ChannelEnd) -> Option<SenderEnd>
@@ -135,4 +112,65 @@ pub fn limits_here<D: Disk>(manager: &Manager<D>, channel: &ChName) -> Limits
     ensures { result ≡ limits_of (channel_of channel.now manager.now.plain.definitions) }
 {
     limits_of(manager.core.parts.defs.channel(channel))
+}
+
+fn kind_sends(kind: &ChannelKind) -> bool
+    ensures { result ≡ is_sending_kind kind.now }
+{
+    match kind {
+        ChannelKind::Sender(_, _, _) => true,
+        ChannelKind::Receiver(_) => false,
+    }
+}
+
+fn defined_sends(channel: Option<&Channel>) -> Option<bool>
+    ensures { result ≡ defined_sends (option_copied channel.entry) }
+{
+    match channel {
+        None => None,
+        Some(channel) => Some(kind_sends(&channel.kind)),
+    }
+}
+
+/// Which kind of end a channel's definition here speaks of.
+fn sends_here<D: Disk>(manager: &Manager<D>, channel: &ChName) -> Option<bool>
+    ensures { result ≡ defined_sends (channel_of channel.now manager.now.plain.definitions) }
+{
+    defined_sends(manager.core.parts.defs.channel(channel))
+}
+
+/// The end of a sender that is defined here.
+#[tactic(auto, using(crate::proofs::PlaceLaws::sender_here, crate::proofs::PlaceLaws::no_sender_here))]
+fn sender_here<D: Disk>(parts: &NodeParts<D>, channel: &ChName) -> Place
+    requires defined { defined_sends (channel_of channel.now parts.now.manager.plain.definitions) ≡ Some true }
+    ensures { IsPlace channel.now result (node_in parts.now) }
+{
+    match sender_named(&parts.own.ends, channel) {
+        None => Place::Absent,
+        Some(end) => Place::Sends(end),
+    }
+}
+
+/// The end of a receiver that is defined here.
+#[tactic(auto, using(crate::proofs::PlaceLaws::no_receiver_here))]
+fn receiver_here<D: Disk>(parts: &NodeParts<D>, channel: &ChName) -> Place
+    requires defined { defined_sends (channel_of channel.now parts.now.manager.plain.definitions) ≡ Some false }
+    ensures { IsPlace channel.now result (node_in parts.now) }
+{
+    match receiver_place(parts.own.ends.as_slice(), channel) {
+        None => Place::Absent,
+        Some(_) => Place::Receives,
+    }
+}
+
+/// The end that a channel's definition here speaks of.
+#[tactic(auto, using(crate::proofs::PlaceLaws::undefined_here))]
+pub fn place_here<D: Disk>(parts: &NodeParts<D>, channel: &ChName) -> Place
+    ensures { IsPlace channel.now result (node_in parts.now) }
+{
+    match sends_here(&parts.manager, channel) {
+        None => Place::Absent,
+        Some(true) => sender_here(parts, channel),
+        Some(false) => receiver_here(parts, channel),
+    }
 }

@@ -187,10 +187,7 @@ fn stopped(end: &SenderEnd) -> SenderEnd
 
 /// STOP of a sender's end: a batch that is not prepared is released, one in doubt stays.
 #[tactic(auto, using(mq_turns::proofs::RunLaws::stays_up))]
-pub fn stop_sender<D: Disk>(
-    parts: &mut NodeParts<D>,
-    end: &SenderEnd,
-) -> Result<Worked, NoMemory>
+pub fn stop_sender<D: Disk>(parts: &mut NodeParts<D>, end: &SenderEnd) -> Result<Worked, NoMemory>
     requires up { IsUp parts.old.manager.plain }
     ensures { Works (stop_end (Some (Sends end.now)) (node_in parts.old)) parts.old result parts.new }
 {

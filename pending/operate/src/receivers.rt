@@ -116,3 +116,89 @@ fn unbind_if<D: Disk>(manager: &mut Manager<D>, channel: &ChName, told: &Told)
         unbind(manager, channel);
     }
 }
+
+/// What STOP closes at a manager: the session, where it is open, and the bond.
+fn closed<D: Disk>(manager: &mut Manager<D>, channel: &ChName) -> Result<Told, NoMemory>
+    requires up { IsUp manager.old.plain }
+    ensures { MadeOr (close_parts_of channel.now manager.old.plain) result manager.old manager.new }
+{
+    match open_session(manager, channel) {
+        None => Ok(unbound_alone(manager, channel)),
+        Some(session) => match hardened(manager, channel, &Note::Closed { session }) {
+            Err(NoMemory) => Err(NoMemory),
+            Ok(told) => {
+                unbind_if(manager, channel, &told);
+                Ok(told)
+            }
+        },
+    }
+}
+
+/// The bond alone goes. It takes no memory.
+fn unbound_alone<D: Disk>(manager: &mut Manager<D>, channel: &ChName) -> Told
+    requires up { IsUp manager.old.plain }
+    ensures { MadeOr (parts_of (set_bound channel.now false manager.old.plain)) (Ok result) manager.old manager.new }
+{
+    unbind(manager, channel);
+    ran(manager)
+}
+
+/// So at a node.
+fn closed_in<D: Disk>(parts: &mut NodeParts<D>, seat: &Seat) -> Result<Told, NoMemory>
+    requires up { IsUp parts.old.manager.plain }
+    ensures same { parts.new ≡ record parts.old { manager = parts.new.manager } }
+    ensures told { MadeOr (close_parts_of seat.now.channel parts.old.manager.plain) result parts.old.manager parts.new.manager }
+{
+    closed(&mut parts.manager, &seat.channel)
+}
+
+/// STOP of a receiver's end: its session is closed, and what it has kept goes.
+pub fn stop_receiver<D: Disk>(parts: &mut NodeParts<D>, seat: &Seat) -> Result<Worked, NoMemory>
+    requires up { IsUp parts.old.manager.plain }
+    requires within { seat.now.at < length parts.old.own.ends }
+    ensures { (e : nodes.ReceiverEnd) → IsSeat seat.now e parts.old.own → Works (stop_end (Some (Receives e)) (node_in parts.old)) parts.old result parts.new }
+{
+    let mut machine = seat.machine;
+    machine.stop();
+    match closed_in(parts, seat) {
+        Err(NoMemory) => Err(NoMemory),
+        Ok(told) => {
+            keep_seat(parts, &told, seat.at, machine, true);
+            Ok(Worked {
+                told,
+                refusal: None,
+            })
+        }
+    }
+}
+
+/// The first refusal of RESET of a receiver's end.
+fn unset(seat: &Seat, number: u32, limits: &Limits) -> Option<OpRefusal>
+    ensures { result ≡ seat_unset seat.now number limits.now }
+{
+    if seat.machine.is_bound() {
+        return Some(OpRefusal::Running);
+    }
+    if is_bad_number(number, limits) {
+        return Some(OpRefusal::BadNumber);
+    }
+    None
+}
+
+/// RESET of a receiver's end: the last number becomes the given one less 1.
+pub fn reset_receiver<D: Disk>(
+    parts: &mut NodeParts<D>,
+    seat: &Seat,
+    number: u32,
+    limits: &Limits,
+) -> Result<Worked, NoMemory>
+    requires up { IsUp parts.old.manager.plain }
+    requires within { seat.now.at < length parts.old.own.ends }
+    requires limits { limits.now ≡ limits_here seat.now.channel (node_in parts.old) }
+    ensures { (e : nodes.ReceiverEnd) → IsSeat seat.now e parts.old.own → Works (reset_end number (Some (Receives e)) (node_in parts.old)) parts.old result parts.new }
+{
+    match unset(seat, number, limits) {
+        Some(reason) => Ok(refused(parts.alloc, reason)),
+        None => set_number(parts, seat, number - 1),
+    }
+}
