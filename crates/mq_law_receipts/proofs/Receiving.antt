@@ -31,8 +31,8 @@ use Rattle.mq_spec_network.specs.Promised.{AreDistinct}
 use Rattle.mq_spec_network.specs.Standing.{cable_from, last_unit, last_unit_at, last_unit_of}
 use Rattle.mq_spec_network.specs.Story.{Mem}
 use Rattle.mq_law_rows.specs.Families.{is_here, put_at}
-use Rattle.mq_law_rows.specs.World.{Book, Ghost, Inv, LanesRise, World, tag_idents, tag_mark}
-use Rattle.mq_law_rows.specs.Kinds.{Landing, among, book_receive, ghost_receive, landing_told, place_all}
+use Rattle.mq_law_rows.specs.World.{Book, Ghost, Inv, LanesRise, Mark, World, mark_of, tag_idents, tag_mark}
+use Rattle.mq_law_rows.specs.Kinds.{Landing, among, book_receive, ghost_receive, landing_mark, landing_told, place_all}
 use Rattle.mq_law_rows.specs.Kinds as kinds
 use Rattle.mq_law_rows.proofs.Lists.{bool_case, eqb_self, eqb_yes, here_yes, is_false, keep_all, name_self, name_yes, true_false}
 use Rattle.mq_law_rows.proofs.Receiving as receiving
@@ -284,6 +284,24 @@ received_book t c ms ds p l told =
       got = k.got i;
     }
 
+-- what was placed has the unit's idents, in its order
+landing_idents_told : (ks : List Landing) → map (λ (l : Landing). l.row.message.ident) (map landing_told ks) ≡ map (λ (l : Landing). l.row.message.ident) ks
+landing_idents_told [] = refl
+landing_idents_told (k ∷ ks) = ap (λ is. k.row.message.ident ∷ is) (landing_idents_told ks)
+
+landing_idents_marked : (ks : List Landing) → map (λ (x : Mark). x.ident) (map landing_mark ks) ≡ map (λ (l : Landing). l.row.message.ident) ks
+landing_idents_marked [] = refl
+landing_idents_marked (k ∷ ks) = ap (λ is. k.row.message.ident ∷ is) (landing_idents_marked ks)
+
+idents_marked : (ms : List Message) → map (λ (x : Mark). x.ident) (map mark_of ms) ≡ idents_of ms
+idents_marked [] = refl
+idents_marked (m ∷ ms) = ap (λ is. m.ident ∷ is) (idents_marked ms)
+
+idents_placed : (ks ls : List Landing) (ms : List Message) → map landing_told ks ≡ map landing_told ls → map landing_mark ls ≡ map mark_of ms → map (λ (l : Landing). l.row.message.ident) ks ≡ idents_of ms
+idents_placed ks ls ms told marks =
+    sym (landing_idents_told ks) ∙ ap (map (λ (l : Landing). l.row.message.ident)) told ∙ landing_idents_told ls ∙ sym (landing_idents_marked ls)
+    ∙ ap (map (λ (x : Mark). x.ident)) marks ∙ idents_marked ms
+
 -- All of it
 
 abbrev unborn_at : Ident → Plain → Bool
@@ -317,6 +335,10 @@ receives_by s given ps qs p l g m t c u last ms x reply y n r h = record {
   timed = record { users = r.timed.users; used = ap (λ us. slice_get us t) users ∙ r.timed.used; moment = r.timed.moment ∙ sym (ap (λ (z : Plain). z.moment) (done_is c u last x p) ∙ y.aside.moment) };
   others = λ a z f told. subst (λ (k : Ledger). IsTold a z k) (sym posted) (receipt_told t a z c ms ds l told);
   users = users;
+  placings = landings t c ds l first ms;
+  named = idents_placed (landings t c ds l first ms) y.lands ms ks_told y.marks ∙ sym ids;
+  rows = λ a d. ap (ledgers.ledger_rows a d) posted ∙ receipt_rows t c ms ds l r.told.places a d r.told.placed
+      ∙ ap (λ is. place_all t (landings t c ds l first ms) a d (keep (λ (x : Row). not (among is x.message.ident)) (ledgers.ledger_rows a d l))) (sym ids);
 }
   where
     done : Plain

@@ -1,10 +1,11 @@
 -- A receiver's commit as a change of the network: what it rests on, and what stands behind it.
-use Rattle.std.specs.Prelude.{ℕ, Bool, false, ◌≡◌, ◌≤◌, ◌+◌, ◌==◌, List, [], ◌∷◌, map, None, Some, slice_get}
+use Rattle.std.specs.Prelude.{ℕ, Bool, false, not, ◌≡◌, ◌≤◌, ◌+◌, ◌==◌, List, [], ◌∷◌, map, None, Some, slice_get}
 use Rattle.mq_message.specs.declared.message.Ident.{Ident}
 use Rattle.mq_message.specs.declared.message.Message.{Message}
 use Rattle.mq_sync.specs.declared.unit.Unit.{Unit as Luw}
 use Rattle.mq_message.specs.declared.place.Holder.TheVariants as holders
 use Rattle.mq_queue.specs.declared.row.Row.{Row}
+use Rattle.mq_queue.specs.Rows.{keep}
 use Rattle.mq_calls.specs.declared.state.Connection.{Connection}
 use Rattle.mq_history.specs.declared.scenario.CableLine.{CableLine}
 use Rattle.mq_history.specs.declared.scenario.Scenario.{Scenario}
@@ -14,11 +15,11 @@ use Rattle.mq_spec_state.specs.State.Change.{Connect}
 use Rattle.mq_spec_state.specs.Reads.{batch_of, is_persistent, stored}
 use Rattle.mq_spec_state.specs.Changes.{apply}
 use Rattle.mq_spec_agents.specs.Words.{is_pending, is_unborn}
-use Rattle.mq_spec_network.specs.Ledger.{Ledger}
+use Rattle.mq_spec_network.specs.Ledger.{Ledger, ledger_rows}
 use Rattle.mq_spec_network.specs.Standing.{cable_from}
 use Rattle.mq_spec_network.specs.Story.{Chain, Mem}
 use Rattle.mq_law_rows.specs.World.{Ghost, Inv, tag_idents, tag_of}
-use Rattle.mq_law_rows.specs.Kinds.{Commits, Landing, ghost_receive}
+use Rattle.mq_law_rows.specs.Kinds.{Commits, Landing, among, ghost_receive, place_all}
 use Rattle.mq_law_seen.specs.Seen.{book_of, world_of}
 use Rattle.mq_law_manager.specs.Facts.{IsSound}
 use Rattle.mq_law_events.specs.Posting.{IsTimed}
@@ -75,7 +76,8 @@ pub record IsAwaitedAt (s : Scenario) (given : Ident → Bool) (ps : List Plain)
   pub timed : IsTimed t p l
   pub shelved : (a : ℕ) (x : ManagerPlaces) → slice_get l.places a ≡ Some x → AreShelved x.queues
 
--- Behind it the network has the facts, the unit's messages belong where they landed, and the ledger tells each manager again.
+-- Behind it the network has the facts, the unit's messages belong where they landed, and the ledger tells each manager again. In the ledger they
+-- have left wherever they were, and stand where they were placed.
 pub record Receipt (s : Scenario) (given : Ident → Bool) (qs : List Plain) (q : Plain) (l k : Ledger) (g : Ghost) (m t : ℕ) (c : List ℕ) (u : Luw) : Type 0 where
   pub lands : List Landing
   pub inv : Inv (world_of s given qs) (ghost_receive g m c u t (tag_idents (g.sent m c u)) lands) (book_of k)
@@ -84,6 +86,9 @@ pub record Receipt (s : Scenario) (given : Ident → Bool) (qs : List Plain) (q 
   pub timed : IsTimed t q k
   pub others : (a : ℕ) (r : Plain) → (a == t) ≡ false → IsTold a r l → IsTold a r k
   pub users : k.users ≡ l.users
+  pub placings : List Landing
+  pub named : map (λ (x : Landing). x.row.message.ident) placings ≡ tag_idents (g.sent m c u)
+  pub rows : (a : ℕ) (d : List ℕ) → ledger_rows a d k ≡ place_all t placings a d (keep (λ (x : Row). not (among (tag_idents (g.sent m c u)) x.message.ident)) (ledger_rows a d l))
 
 -- and none above the last that was given
 pub record AreNumberedUpto (p : Plain) : Type 0 where

@@ -1,5 +1,5 @@
 -- With what a network with channels begins.
-use Rattle.std.proofs.Common.{ℕ, zero, suc, ◌≡◌, ◌≢◌, ◌<◌, Bool, true, false, List, [], ◌∷◌, ◌++◌, refl, ap, sym, subst, ◌∙◌, inl, inr, arith}
+use Rattle.std.proofs.Common.{ℕ, zero, suc, ◌≡◌, ◌≢◌, ◌<◌, ◌≤◌, Bool, true, false, List, [], ◌∷◌, ◌++◌, refl, ap, sym, subst, ◌∙◌, inl, inr, arith}
 use Rattle.std.specs.Prelude.{Option, Some, None, ◌==◌, ◌+◌, ◌||◌, ◌&&◌, not, if◌then◌else◌, nat_lt, is_some, length, map, slice_get, All}
 use Rattle.std.specs.Option.{option_map}
 use Rattle.std.proofs.lemmas.Bool.Decides.{nat_tests}
@@ -24,7 +24,7 @@ use Rattle.mq_history.specs.declared.scenario.CableLine.{CableLine}
 use Rattle.mq_history.specs.declared.scenario.Scenario.{Scenario}
 use Rattle.mq_history.specs.Scenarios.{IsCable}
 use Rattle.mq_spec_state.specs.State.{Plain}
-use Rattle.mq_spec_state.specs.Reads.{receiver_data, receiver_in, sender_data, sender_in}
+use Rattle.mq_spec_state.specs.Reads.{in_doubt_of, receiver_data, receiver_in, sender_data, sender_in}
 use Rattle.mq_spec_node.specs.Node.{ChannelEnd, end_in}
 use Rattle.mq_spec_node.specs.Node.ChannelEnd.{Receives, Sends}
 use Rattle.mq_spec_network.specs.Apart.{case, cable_apart, cable_cases, cables_apart, doubt_case, first_of, idents_apart, is_above, is_other, or_else, receiver_at, row_idents, sender_at, standing_idents}
@@ -47,7 +47,7 @@ use Rattle.mq_law_rows.specs.Beginning.{first_owner}
 use Rattle.mq_law_rows.specs.World.{Ghost, is_last, tag_of}
 use Rattle.mq_law_rows.proofs.Lists.{bool_case, eqb_self, true_false}
 use Rattle.mq_law_seen.specs.Given.{is_given, sent_at, source_at, spots_of}
-use Rattle.mq_law_seen.specs.Seen.{book_of, rows_of, world_of}
+use Rattle.mq_law_seen.specs.Seen.{book_of, held_unit, holds_of, rows_of, world_of}
 use Rattle.mq_law_receipts.proofs.Cabling.{cabled}
 use Rattle.mq_law_story.specs.Needs.{letter_tag}
 use Rattle.mq_law_story.proofs.Beginning.{images_have_the_facts}
@@ -57,7 +57,7 @@ use Rattle.mq_law_unshared.proofs.Events as happening
 use Rattle.mq_law_turns.proofs.Beginning as telling
 use Rattle.mq_law_cables.proofs.Beginning as beginning
 use Rattle.mq_law_one.proofs.Running.{first_at}
-use Rattle.mq_law_run.specs.Run.{Stand, far_at, near_at}
+use Rattle.mq_law_run.specs.Run.{IsAnew, Stand, WasInDoubt, far_at, near_at}
 use Rattle.mq_law_run.proofs.Lining.{mem_at}
 use Rattle.mq_law_run.proofs.Receiving.{upto_self}
 use Rattle.mq_law_run.proofs.Stopping.{eqb_no}
@@ -233,6 +233,8 @@ begins s hs premises = record {
   };
   cabled = λ m h is. record { once = λ b n. absurd n; line = λ b n. absurd n };
   unshared = λ m h is on. happening.begins (surroundings s m) h;
+  anew = λ k n u e. anew_at k n u e;
+  listed = λ m c u e. absurd (true_false (sym e));
   housed = λ a y e. house a y (slice_get hs a) refl (sym (mapped (places_of s ps) ps a ∙ ap (option_map (places_of s ps)) (manager_at s [] hs a)) ∙ e);
 }
   where
@@ -299,3 +301,21 @@ begins s hs premises = record {
         subst (λ (o : SenderData). Belong o (receiver_at c (slice_get ps k.receiver))) (sym x) (subst (λ (o : ReceiverData). Belong a o) (sym y)
         (images_belong c g.0.opening h.0.opening (premises.openings k.sender g.0 g.1) (premises.openings k.receiver h.0 h.1)
         ((λ i. nat_lt (sym x i).session (sym y i).session) ∙ f.0) (λ d e. (λ i. is_above (sym y i).unit d.unit) ∙ f.1 d (ap (λ (o : SenderData). o.in_doubt) x ∙ e))))
+
+    -- a unit in doubt is of a session that was hardened, and nothing is offered yet
+    anew_at : (k : CableLine) → Mem k s.cables → (u : Luw) → WasInDoubt s hs k.sender k.channel u → IsAnew u (first_channel s ps k.sender k.channel)
+    anew_at k n u e =
+        let g = near_history k n in
+        let c : List ℕ = k.channel in
+        let p : Plain = (node_after s k.sender [] g.0).manager in
+        let d = doubted_there (in_doubt_of (sender_data c p)) u (sym (ap (λ (o : Option Plain). is_last (holds_of c o) u) (stands k.sender g.0 g.1)) ∙ e) in
+        let at : (sender_at c (slice_get ps k.sender)).in_doubt ≡ Some d.0 = ap (λ (o : Option Plain). (sender_at c o).in_doubt) (stands k.sender g.0 g.1) ∙ sym (doubt_there (sender_data c p)) ∙ d.1 in
+        record {
+          session = subst (λ (v : Luw). v.session ≤ (sender_at c (slice_get ps k.sender)).session) d.2 ((belong k n).unit d.0 at).1;
+          hailed = λ b. absurd cc;
+          out = λ f b. absurd b;
+        }
+      where
+        doubted_there : (o : Option InDoubt) (u : Luw) → is_last (held_unit o None) u ≡ true → (d : InDoubt) × (o ≡ Some d) × (d.unit ≡ u)
+        doubted_there None u e = absurd (true_false (sym e))
+        doubted_there (Some d) u e = (d, refl, unit_yes d.unit u e)

@@ -47,6 +47,7 @@ use Rattle.mq_spec_agents.specs.Words.{channel_queue, harden, held_rows, leave, 
 use Rattle.mq_spec_network.specs.Conflict.{Deed as ToldDeed, NoConflict, deeds}
 use Rattle.mq_spec_network.specs.Promised.{Premises}
 use Rattle.mq_spec_network.specs.Standing.{node_after}
+use Rattle.mq_spec_network.specs.Order.{sent_idents}
 use Rattle.mq_spec_network.specs.Story.{Line, Mem}
 use Rattle.mq_spec_node.specs.Node.{ChannelEnd, Node, Own, ReceiverEnd, SenderEnd, sender_named, with_end}
 use Rattle.mq_spec_node.specs.Node.ChannelEnd.{Receives, Sends}
@@ -86,7 +87,9 @@ use Rattle.mq_law_one.proofs.Running.{Told_}
 use Rattle.mq_law_run.specs.Run.{Moves, Stand, far_at, is_stopped_call, near_at}
 use Rattle.mq_law_run.proofs.Commanding.{up_so}
 use Rattle.mq_law_run.proofs.Cutting.{SaysFar, SaysNear, SaysWord, each_first, far_cut, near_cut, none_written}
+use Rattle.mq_law_found.proofs.Going.{left_row}
 use Rattle.mq_law_run.proofs.Lining.{else_channel, else_index}
+use Rattle.mq_law_run.proofs.Listing.{batch_told}
 use Rattle.mq_law_run.proofs.Obeying.{obey_acts, of_receiver, of_sender, remembers, slice_at}
 use Rattle.mq_law_run.proofs.Receiving.{channel_else}
 use Rattle.mq_law_run.proofs.Running.{sends_here, sound_at, takes_here}
@@ -209,7 +212,9 @@ resolves_broken w n c left settle (Some d) h up so =
       says = λ r g. (
         Resolves settle own.data_ refl (h.unbatched (resting_apart c.sender.state off)) refl
             (subst (λ (u : Luw). Mem (did.Hardened w.channel (notes.Resolved u commit true)) (told ++ did.Hardened w.channel (notes.Resolved d.unit commit true) ∷ [])) (sym own.unit)
-            (mem_right (did.Hardened w.channel (notes.Resolved d.unit commit true)) told (did.Hardened w.channel (notes.Resolved d.unit commit true) ∷ []) (inl refl))),
+            (mem_right (did.Hardened w.channel (notes.Resolved d.unit commit true)) told (did.Hardened w.channel (notes.Resolved d.unit commit true) ∷ []) (inl refl)))
+            (λ f q x k e. subst (λ (t : Bool). Mem x.message.ident (sent_idents (map (settle_did t) (held_rows (holders.Batch w.channel) n.manager) ++ did.Hardened w.channel (notes.Resolved d.unit t true) ∷ []))) (sym f)
+            (batch_told w.channel n.manager (did.Hardened w.channel (notes.Resolved d.unit true true) ∷ []) q x (left_row n.manager q x k) e)),
         settled_lasts w.channel d.unit commit true n.manager (ap (option_map unit_of) so) (h.unbatched (resting_apart c.sender.state off)),
         hardened_calm w.channel (notes.Resolved d.unit commit true) n.manager,
       );

@@ -73,7 +73,7 @@ use Rattle.mq_law_seen.specs.Seen.{book_of, world_of}
 use Rattle.mq_law_events.specs.Tied.{IsNext}
 use Rattle.mq_law_story.proofs.Weaving.{ledger_step}
 use Rattle.mq_law_turns.specs.Agreed.{IsToldOf}
-use Rattle.mq_law_turns.specs.Turns.{IsAt, Scene, TurnedBy, parts_for_others}
+use Rattle.mq_law_turns.specs.Turns.{IsAt, Scene, TurnedBy, parts_for_others, world_in}
 use Rattle.mq_law_turns.proofs.Agreeing.{released_tells}
 use Rattle.mq_law_turns.proofs.Operating.{numbers, starts, still, stops}
 use Rattle.mq_law_turns.proofs.OperatorSounds.{operates}
@@ -87,7 +87,8 @@ use Rattle.mq_law_run.proofs.Beside.{parts_add_none, parts_beside, parts_of_end,
 use Rattle.mq_law_run.proofs.Cabled.{parts_cabled}
 use Rattle.mq_law_run.proofs.Lining.{else_channel, else_index, mem_at}
 use Rattle.mq_law_run.proofs.Running.{IsRun, run_next, scene, sends_here, sound_at}
-use Rattle.mq_law_run.proofs.Sending.{step_moves}
+use Rattle.mq_law_stopped.specs.Noted.{IsForcing}
+use Rattle.mq_law_run.proofs.Sending.{none_forced_now, step_moves}
 use Rattle.mq_law_run.proofs.Telling.{mem_right, risen_still, told_now}
 
 -- WHAT IS POSTED
@@ -178,6 +179,7 @@ pub record IsCommand (o : Option Luw) (z : Scene) (n : Node) (c : Channel) (y : 
   pub pushed : d.pushed ≡ None
   pub tells : (ps : List Plain) (ds : List ToldDeed) → ((e : Did) → Mem e (delta_of d.parts) → Mem (told_of z.sender e) ds) → IsToldOf z.scenario ps ds z.sender z.place.channel c y → IsToldOf z.scenario ps ds z.sender z.place.channel (near_does step c) (near_past step c y)
   pub commits : (u : Luw) → o ≡ Some u → Mem (did.Hardened z.place.channel (notes.Resolved u true true)) (delta_of d.parts) × (Upto u c.receives.unit → ⊥)
+  pub forces : (u : Luw) → o ≡ Some u → IsForcing (world_in z) z.sender z.place.channel u (delta_of d.parts)
   pub near : (v : Where) → (z.place.cable == v.cable) ≡ false → bytes_eq v.channel z.place.channel ≡ false → EachApart v n (Some d)
   pub others : (v : Where) → bytes_eq v.channel z.place.channel ≡ false → parts_for_others v.channel d.parts ≡ true
   pub far : (v : Where) → (z.place.cable == v.cable) ≡ false → EachFarApart v n (Some d)
@@ -210,6 +212,7 @@ refuses z n c y reason a up = (
     pushed = refl;
     tells = λ ps ds f h. h;
     commits = none_commits c z.place.channel (delta_of (refused reason n.own).parts);
+    forces = none_forced_now (world_in z) z.sender z.place.channel (delta_of (refused reason n.own).parts);
     near = λ v e f. (refl, refl);
     others = λ v f. refl;
     far = λ v e. (refl, refl);
@@ -244,6 +247,7 @@ seizes z n c y s None a up off =
         pushed = refl;
         tells = λ ps ds f i. record { undone = i.undone; last = i.last };
         commits = none_commits c w.channel (delta_of (start_seized (sender_of w c.sender) (Do tt parts) n).parts);
+        forces = none_forced_now (world_in z) z.sender w.channel (delta_of (start_seized (sender_of w c.sender) (Do tt parts) n).parts);
         near = λ v e f. (set_apart v _ n e, refl);
         others = λ v f. refl;
         far = λ v e. (set_far v _ n e, refl);
@@ -287,6 +291,7 @@ stops_so z n c y a up =
         pushed = refl;
         tells = λ ps ds f i. released_tells z.scenario ps ds z.sender w.channel c (sender_stopped c) y refl i;
         commits = none_commits c w.channel (delta_of (stop_end (Some (Sends (sender_of w c.sender))) n).parts);
+        forces = none_forced_now (world_in z) z.sender w.channel (delta_of (stop_end (Some (Sends (sender_of w c.sender))) n).parts);
         near = λ v e f. (set_apart v _ n e, release_apart v.channel w.channel o n.manager f);
         others = λ v f. parts_behind v.channel (parts_of (release_batch w.channel n.manager)) (parts_of (leave w.channel n.manager)) (released_others v.channel w.channel o) refl;
         far = λ v e. (set_far v _ n e, release_far v.channel w.channel o n.manager);
@@ -317,6 +322,7 @@ numbered z n c y seqnum a up off =
         pushed = refl;
         tells = λ ps ds f i. record { undone = i.undone; last = i.last };
         commits = none_commits c w.channel (delta_of (reset_deed w seqnum n).parts);
+        forces = none_forced_now (world_in z) z.sender w.channel (delta_of (reset_deed w seqnum n).parts);
         near = λ v e f. (refl, ap (λ (b : Bool). (not b && true) && true) f);
         others = λ v f. refl;
         far = λ v e. (refl, refl);
@@ -370,6 +376,7 @@ command_moves s hs p x z t i k d op o step scenario e q call chance r v =
           far_asides u n d g.0 g.1;
       offers = λ j f by_ push. absurd (no_frame f (sym v.pushed ∙ push));
       answers = λ j f by_ push. no_frame f (sym v.pushed ∙ push);
+      forces = λ u f. subst (λ (o : List Did). IsForcing (world_of s z.given (managers_at s p hs)) k.sender k.channel u o) (sym delta) (v.forces u f);
       committed = λ u f.
           let b = v.commits u f in
           let w : Luw = (z.xs k.sender k.channel).receives.unit in (

@@ -78,7 +78,11 @@ use Rattle.mq_law_run.proofs.Lining.{here, left_aside, mem_at, same_cable, same_
 use Rattle.mq_law_run.proofs.Owning.{housed_else, next_managers, others_told}
 use Rattle.mq_law_run.proofs.Running.{move_to, sends_here, takes_here}
 use Rattle.mq_law_run.proofs.Telling.{deeds_more, none_committed, risen_still, still_not, told_before}
-use Rattle.mq_law_run.proofs.Tying.{leads_on}
+use Rattle.mq_law_run.proofs.Tying.{leads_on, forced_kept}
+use Rattle.mq_law_run.specs.Ordered.{forced_over}
+use Rattle.mq_law_run.proofs.Later.{later_self}
+use Rattle.mq_law_run.proofs.Listing.{quiet_order}
+use Rattle.mq_law_seen.specs.Seen.{book_of}
 
 -- the call that is stopped, as the ledger has it
 abbrev pub stopped_entry : Entry → Plain → ledgers.Stopped
@@ -162,6 +166,8 @@ cut_moves s hs p x z t i k d by_ left part r scenario at_k v mine noted =
       counted = subst (AreCountedAt b.numbers.connections m) (ap (λ (ds : List Did). ledgers.lose m (ledgers.with_users m (mark e) (ledgers.take_all_gone m ds l))) delta) (cut_kept b.numbers.connections b.numbers.connections m e l (same_or_less b.numbers.connections) (z.counted m t.h t.is));
       cabled = same_batches s.cables m b q refl (z.cabled m t.h t.is);
       housed = housed_else m l k1 a.told.places a.told.placed became.other;
+      listed = forced_kept z.ghost j.0.ghost e.effect.delta (book_of l).rows (book_of k1).rows j.3;
+      order = quiet_order (forced_over [] p) x l k1 quiet;
     })
   where
     no_frame : (f : Frame) → None ≡ Some f → ⊥
@@ -261,6 +267,7 @@ near_cut s hs p x z t i k d by_ n_ left step scenario at_k q up is can of_end be
         λ g h. h,
       );
       far = λ a. absurd ((z.joint.tied k (mem_at s.cables i k at_k)).apart (a ∙ sym q));
+      later = λ a. later_self (z.xs k.sender k.channel);
       else = λ a o. refl;
     }) (elim say [
       | inr v ↦ inl v
@@ -326,6 +333,7 @@ far_cut s hs p x z t i k d by_ n_ left step scenario at_k q up is can of_end by_
         record { sends = refl; sender = refl; batch = refl; out = refl },
         λ g h. h,
       );
+      later = λ a. later_self (z.xs k.sender k.channel);
       else = λ a o. refl;
     }) (inr (elim (subst (EachFirst (SaysFar (deeds p) k.sender d.received k.channel b c step)) f.parts says r f.forced) [
       | inr v ↦

@@ -54,7 +54,10 @@ use Rattle.mq_law_turns.proofs.Agreeing.{grows, sender_tells}
 use Rattle.mq_law_turns.proofs.Posting.{expires}
 use Rattle.mq_law_cables.specs.Joints.{AreJoint}
 use Rattle.mq_law_one.proofs.Running.{Told_}
+use Rattle.mq_law_run.specs.Ordered.{forced_over}
 use Rattle.mq_law_run.specs.Run.{IsMoved, Moves, Stand, far_at, near_at}
+use Rattle.mq_law_run.proofs.Later.{near_later}
+use Rattle.mq_law_run.proofs.Listing.{quiet_order}
 use Rattle.mq_law_run.proofs.Beside.{distinct_of}
 use Rattle.mq_law_run.proofs.Lining.{all_moved, else_channel, else_index, here, left_aside, mem_at, same_cable, units_put}
 use Rattle.mq_law_run.proofs.Running.{IsRun, move_to, run_next, sends_here, takes_here, told_all}
@@ -73,7 +76,7 @@ use Rattle.mq_law_stopped.specs.Noted.{EndNote}
 use Rattle.mq_law_one.proofs.Happening.{noted_up, state_up}
 use Rattle.mq_law_run.proofs.Owning.{housed_else, others_told}
 use Rattle.mq_law_run.proofs.Sending.{EachCabled, cabled_by, far_else, free_of, near_else, none_number, same_number, sender_number}
-use Rattle.mq_law_run.proofs.Tying.{leads_on}
+use Rattle.mq_law_run.proofs.Tying.{forced_kept, leads_on}
 
 -- A CHANNEL with the same of its receiver is tied the same
 same_tied : (w : World) (g : Ghost) (m t : ℕ) (c : List ℕ) (x a : Channel) (y b : Past) → a.receives ≡ x.receives → b ≡ y → IsTied w g m t c x y → IsTied w g m t c a b
@@ -181,6 +184,7 @@ expiry_moves s hs p x z t i k d scenario e q actor call r is offered gone =
         λ f g. subst (λ (fs : List Frame). Mem f fs) sent.offers (offering_among d.pushed c.out f g),
       );
       far = λ o. absurd ((z.joint.tied k there).apart (o ∙ sym q));
+      later = λ o. near_later (NearStep.Turn turn) c y (z.lines i k e).facts;
       else = λ o v. absurd (true_false (sym (ap (λ u. u == m) q ∙ eqb_self m) ∙ o));
     } in
     let operated : (o : ℕ) (v : List ℕ) (u : Luw) → j.0.ghost.operated o v u ≡ true → z.ghost.operated o v u ≡ true = λ o v u f. (λ g. sym j.1 g o v u) ∙ f in
@@ -224,6 +228,8 @@ expiry_moves s hs p x z t i k d scenario e q actor call r is offered gone =
       cabled = subst (EachCabled s.cables m b) is
           (cabled_by s.cables m stamp end does_ n (free_of w n c (stock k.channel b) does_ sends (guarded c.sender seen (stock k.channel b))) (k, there, q, refl) (z.cabled m t.h t.is));
       housed = housed_else m l l1 a.told.places a.told.placed follow.other;
+      listed = forced_kept z.ghost j.0.ghost x.entry.effect.delta (book_of l).rows (book_of l1).rows j.3;
+      order = quiet_order (forced_over [] p) x l l1 quiet;
     })
   where
     put_here : (c1 : Channel) → put_at z.xs k.sender k.channel c1 k.sender k.channel ≡ c1

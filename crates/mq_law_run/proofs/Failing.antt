@@ -32,7 +32,11 @@ use Rattle.mq_law_run.proofs.Cabled.{same_batches}
 use Rattle.mq_law_run.proofs.Owning.{next_managers}
 use Rattle.mq_law_run.proofs.Running.{far_here, move_to, near_here}
 use Rattle.mq_law_run.proofs.Telling.{deeds_more, none_committed, risen_still, still_not, told_before}
-use Rattle.mq_law_run.proofs.Tying.{leads_on}
+use Rattle.mq_law_run.proofs.Tying.{leads_on, forced_kept}
+use Rattle.mq_law_run.specs.Ordered.{forced_over}
+use Rattle.mq_law_run.proofs.Later.{later_self}
+use Rattle.mq_law_run.proofs.Listing.{quiet_order}
+use Rattle.mq_law_seen.specs.Seen.{book_of}
 
 more_noted : (E : ledgers.Stopped → Noted → Plain → Type 0) (m : ℕ) (noted : Option Noted) (starts more : ℕ) (p : Plain) (l : Ledger) → IsNotedAt E m (Down noted starts) p l → IsNotedAt E m (Down noted more) p l
 more_noted E m None starts more p l h = tt
@@ -94,6 +98,7 @@ failing_moves s hs p x h stamp z noted starts more g is tells own down same none
               record { sends = refl; sender = refl; batch = refl; out = refl },
               (λ f w. w),
             );
+            later = λ q. later_self c;
             else = λ q w. refl;
           };
       out = λ i k f e q actor push. absurd (no_frame f (sym pushed ∙ push));
@@ -112,6 +117,8 @@ failing_moves s hs p x h stamp z noted starts more g is tells own down same none
       counted = subst (λ (w : Node). AreCountedAt w.manager.numbers.connections m l) (sym same) (z.counted m h is);
       cabled = subst (λ (w : Node). AreCabled s.cables m w.manager) (sym same) (same_batches s.cables m n.manager next.manager refl (z.cabled m h is));
       housed = λ c w f. (w, f);
+      listed = forced_kept z.ghost j.0.ghost x.entry.effect.delta (book_of l).rows (book_of l).rows j.3;
+      order = quiet_order (forced_over [] p) x l l received;
     })
   where
     no_frame : (f : Frame) → None ≡ Some f → ⊥

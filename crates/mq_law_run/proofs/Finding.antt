@@ -53,7 +53,7 @@ use Rattle.mq_law_node.proofs.Moving.{far_keeps, near_keeps}
 use Rattle.mq_law_node.proofs.NearEvents.{redone_data}
 use Rattle.mq_law_rows.specs.Families.{put_at}
 use Rattle.mq_law_rows.proofs.Lists.{bool_case, eqb_self, here_yes, is_false, true_false}
-use Rattle.mq_law_seen.specs.Seen.{book_of, world_of}
+use Rattle.mq_law_seen.specs.Seen.{book_of, world_of, rows_of}
 use Rattle.mq_law_events.specs.Tied.{IsNext}
 use Rattle.mq_law_events.proofs.Telling.{else_changed, here_changed}
 use Rattle.mq_law_batches.specs.Releases.{IsWord, settled_changes}
@@ -65,7 +65,7 @@ use Rattle.mq_law_cables.proofs.Keeping.{joint_of, taken_joint, turned_joint}
 use Rattle.mq_law_cables.proofs.Unprepared.{unprepared_still}
 use Rattle.mq_law_one.specs.Alone.{IsNotedAt, as_left}
 use Rattle.mq_law_one.proofs.Running.{Told_}
-use Rattle.mq_law_stopped.specs.Noted.{EndNote, IsDown, IsLeft, ReceiverNote, Redone, SenderKind, SenderNote}
+use Rattle.mq_law_stopped.specs.Noted.{EndNote, IsDown, IsLeft, ReceiverNote, Redone, SenderKind, SenderNote, IsForcing}
 use Rattle.mq_law_stopped.specs.Noted.EndNote.{Commits, Far, Near}
 use Rattle.mq_law_stopped.specs.Noted.SenderKind.{Begins, Numbers, Prepares, Resolves, Settles}
 use Rattle.mq_law_stopped.proofs.FarRedoing.{far_redone}
@@ -82,9 +82,12 @@ use Rattle.mq_law_run.proofs.Recommitting.{commit_returns}
 use Rattle.mq_law_run.proofs.Redoing.{FarPart, NearPart, end_returns, mid_of}
 use Rattle.mq_law_run.proofs.Resolving.{real_unit}
 use Rattle.mq_law_run.proofs.Returning.{call_returns, filter_quiet}
-use Rattle.mq_law_run.proofs.Running.{far_here, near_here, operated_before, scene, told_all}
+use Rattle.mq_law_run.proofs.Running.{far_here, near_here, operated_before, scene, told_all, sent_kept}
 use Rattle.mq_law_run.proofs.Telling.{deeds_more, mem_left, mem_right, none_committed, risen_still, still_not, told_before, told_now}
 use Rattle.mq_law_run.proofs.Commanding.{told_here, told_of}
+use Rattle.mq_law_run.specs.Ordered.{IsForcedNow, forced_over}
+use Rattle.mq_law_run.proofs.Later.{later_self, near_later}
+use Rattle.mq_law_run.proofs.Listing.{forced_still, forcing_lasts, forcing_told, quiet_order}
 
 -- WHAT IS TOLD OF IT: each word that was hardened
 hardened_lasts : (r : LogRecord) (b : Plain) (c : List ℕ) (w : Note) (ds : List Did) → Mem (did.Hardened c w) ds → Mem (did.Hardened c w) (filter (lasts r b) ds)
@@ -104,7 +107,7 @@ sender_of_end : (c : List ℕ) (b : Plain) (note : Noted) (x : Channel) (way : N
 sender_of_end c b note x way (Begins t partner session is turn says) = subst AreOfEnd (sym says) (refl, refl)
 sender_of_end c b note x way (Prepares t batch last is turn found says) = subst AreOfEnd (sym says) (refl, refl)
 sender_of_end c b note x way (Settles t d commit is turn so free says) = subst AreOfEnd (sym says) (settled_of_end commit c (sender_or (sender_data c b)))
-sender_of_end c b note x way (Resolves settle d is free says told) = subst AreOfEnd (sym says) (settled_of_end (is_commit settle) c (sender_or (sender_data c b)))
+sender_of_end c b note x way (Resolves settle d is free says told rows) = subst AreOfEnd (sym says) (settled_of_end (is_commit settle) c (sender_or (sender_data c b)))
 sender_of_end c b note x way (Numbers last is says) = subst AreOfEnd (sym says) (refl, refl)
 
 word_of_end : (c : List ℕ) (w : Note) (p : Plain) → IsWord w → AreOfEnd (harden_part c w p).changes
@@ -204,6 +207,14 @@ near_returns s hs wide p es x z t noted starts started st i k scenario peace spl
         | inr new ↦ (i, k, at_k, sym new.1, sym new.2)
       ];
       loose = λ d e u f. r.turned.loose d e u f;
+      listed = λ d e u f. elim (before d e u f) [
+        | inl old ↦ inl (record { operated = old; sent = sent_kept zz (world_of s z.given mid) c1 y1 r.turned d e u f; rows = λ i_ n_ no_ o. no_ o })
+        | inr new ↦ inr (subst (λ v. IsForcedNow r.turned.ghost x.entry.effect.delta (book_of l).rows v e u) (sym new.1) (subst (λ v. IsForcedNow r.turned.ghost x.entry.effect.delta (book_of l).rows k.sender v u) (sym new.2)
+            (forcing_told (world_of s z.given ps) z.ghost r.turned.ghost (book_of l) k.sender k.channel u x.entry.effect.delta z.joint.inv
+            (subst (λ v. IsForcing (world_of s z.given ps) k.sender k.channel u v) (sym delta) (forcing_lasts (world_of s z.given ps) k.sender k.channel u noted.written b noted.delta (λ q_ o n_. subst (λ v. Mem o (rows_of q_ v)) nk.at n_) (r.forces u new.0)))
+            (r.turned.kept u (subst (λ v. r.turned.ghost.operated k.sender v u ≡ true) new.2 (subst (λ v. r.turned.ghost.operated v e u ≡ true) new.1 f))))))
+      ];
+      order = quiet_order (forced_over [] p) x l (ledgers.up_again m l) quiet;
     })
   where
     resolved_here : (a : ℕ) (d : List ℕ) (u : Luw) → Mem (record { manager = k.sender; did = did.Hardened k.channel (notes.Resolved u true true) }) (deeds (p ++ x ∷ [])) → a ≡ k.sender → d ≡ k.channel
@@ -223,12 +234,14 @@ near_returns s hs wide p es x z t noted starts started st i k scenario peace spl
           near_far note.step c,
           (λ fr n. subst (λ (fs : List Frame). Mem fr fs) (sym note.out) n),
           note.data_ ∙ ap (λ (e : Option SenderData). told_sends (sender_or e)) (sym (redone_data k.channel noted b)),
+          near_later note.step (z.xs k.sender k.channel) (z.ys k.sender k.channel) (z.lines i k at_k).facts,
         )))
         (λ d v.
         let v1 : SendsDown (near_at s j h) (node_after s x.manager p t.h) (Some noted) (z.xs h.sender h.channel) = subst (NearAt (near_at s j h) (node_after s x.manager p t.h) (z.xs h.sender h.channel)) down (near_here s hs p x z t j h f o) in (
           record { receives = refl; receiver = refl; kept = refl; back = refl },
           (λ fr n. n),
           v1.data_ ∙ ap (λ (e : Option SenderData). told_sends (sender_or e)) (sym (redone_data h.channel noted b ∙ sender_spares k.channel (as_left b) noted c note.step h.channel (sender_data h.channel b) note.kind (else_channel k h (o ∙ sym q) v))),
+          later_self (z.xs h.sender h.channel),
         )) refl
 
     far_part : (j : ℕ) (h : CableLine) → slice_get s.cables j ≡ Some h → h.receiver ≡ x.manager
@@ -325,6 +338,8 @@ far_returns s hs p x z t noted starts started st i k scenario at_k q left note c
       risen = λ h o. risen_still s (opening_managers s hs) p x h.channel (z.xs h.sender h.channel).receives.unit (xs h.sender h.channel).receives.unit quiet (units_put z.xs k h c1 note.unit) (z.risen h o);
       owned = λ d e u f. z.owned d e u (old d e u f);
       loose = λ d e u f. (λ v. sym r.loose v d e u) ∙ f;
+      listed = forced_still z.ghost r.ghost x.entry.effect.delta (book_of l).rows (book_of l).rows (λ d e u f. (old d e u f, λ v. r.sent v d e u)) (λ i_ g_. g_);
+      order = quiet_order (forced_over [] p) x l (ledgers.up_again m l) quiet;
     })
   where
     near_part : (j : ℕ) (h : CableLine) → slice_get s.cables j ≡ Some h → h.sender ≡ x.manager
@@ -341,6 +356,7 @@ far_returns s hs p x z t noted starts started st i k scenario at_k q left note c
           (λ fr n. n),
           v1.data_ ∙ ap (λ (e : Option SenderData). told_sends (sender_or e)) (sym (redone_data h.channel noted b
               ∙ ap (λ (cs : List Change). sender_by_all h.channel cs (sender_data h.channel b)) note.says ∙ word_spares k.channel note.word (as_left b) h.channel (sender_data h.channel b) note.is other)),
+          later_self (z.xs h.sender h.channel),
         )) refl
 
     far_part : (j : ℕ) (h : CableLine) → slice_get s.cables j ≡ Some h → h.receiver ≡ x.manager

@@ -31,6 +31,9 @@ use Rattle.mq_law_run.specs.Run.{Moves, Stand, far_at, near_at}
 use Rattle.mq_law_run.proofs.Owning.{next_managers}
 use Rattle.mq_law_run.proofs.Running.{far_here, move_to, near_here}
 use Rattle.mq_law_run.proofs.Telling.{deeds_more, none_committed, risen_still, still_not, told_before}
+use Rattle.mq_law_run.specs.Ordered.{forced_over}
+use Rattle.mq_law_run.proofs.Later.{later_self}
+use Rattle.mq_law_run.proofs.Listing.{forced_still, quiet_order}
 
 pub idle_moves : (s : Scenario) (hs : List History) (p : List Line) (x : Line) (h : History) (stamp : ℕ) (z : Stand s hs p) → slice_get hs x.manager ≡ Some h → Tells (node_after s x.manager p h) stamp x.entry → IsOwn x.entry.chance
     → (done_by x.entry (node_after s x.manager p h)).next ≡ node_after s x.manager p h → (done_by x.entry (node_after s x.manager p h)).delta ≡ [] → (done_by x.entry (node_after s x.manager p h)).pushed ≡ None
@@ -60,6 +63,7 @@ idle_moves s hs p x h stamp z is tells own same none quiet whole =
             facts = (z.lines i k e).facts;
             near = λ q. (subst (λ (w : Node). NearNode (near_at s i k) w c) (sym same) (near_here s hs p x z t i k e q), record { receives = refl; receiver = refl; kept = refl; back = refl }, (λ g w. w));
             far = λ q. (subst (λ (w : Node). FarNode (far_at s i k) w c) (sym same) (far_here s hs p x z t i k e q), record { sends = refl; sender = refl; batch = refl; out = refl }, (λ g w. w));
+            later = λ q. later_self c;
             else = λ q w. refl;
           };
       out = λ i k f e q actor push. absurd (no_frame f (sym pushed ∙ push));
@@ -78,6 +82,8 @@ idle_moves s hs p x h stamp z is tells own same none quiet whole =
       counted = subst (λ (w : Node). AreCountedAt w.manager.numbers.connections m l) (sym same) (z.counted m h is);
       cabled = subst (λ (w : Node). AreCabled s.cables m w.manager) (sym same) (z.cabled m h is);
       housed = λ a w f. (w, f);
+      listed = forced_still z.ghost z.ghost x.entry.effect.delta (book_of l).rows (book_of l).rows (λ a c u f. (f, refl)) (λ i r. r);
+      order = quiet_order (forced_over [] p) x l l received;
     })
   where
     no_frame : (f : Frame) → None ≡ Some f → ⊥

@@ -2,6 +2,10 @@ pub mod Standing
 pub mod Halves
 pub mod Telling
 pub mod Numbering
+pub mod Dropping
+pub mod Listing
+pub mod Later
+pub mod Receipting
 pub mod Tying
 pub mod Beside
 pub mod Cabled

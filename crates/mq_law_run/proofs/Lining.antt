@@ -19,6 +19,7 @@ use Rattle.mq_law_rows.proofs.Lists.{bool_case, eqb_self, here_self, here_yes, m
 use Rattle.mq_law_seen.proofs.Images.{pairs_chain}
 use Rattle.mq_law_run.specs.Run.{IsMoved, far_at, near_at}
 use Rattle.mq_law_run.proofs.Halves.{far_aside, near_aside}
+use Rattle.mq_law_run.proofs.Later.{later_self}
 
 pub mem_at : {A : Type 0} (xs : List A) (i : ℕ) (x : A) → slice_get xs i ≡ Some x → Mem x xs
 mem_at [] i x e = absurd cc
@@ -108,5 +109,6 @@ left_aside s m n j h c p d choice up facts can near far = record {
   facts = facts;
   near = λ q. let a = near q in (near_aside (near_at s j h) n c p d choice up a.0 facts a.1 can, record { receives = refl; receiver = refl; kept = refl; back = refl }, (λ f w. w));
   far = λ q. let a = far q in (far_aside (far_at s j h) n c p d choice up a.0 facts a.1 can, record { sends = refl; sender = refl; batch = refl; out = refl }, (λ f w. w));
+  later = λ q. later_self c;
   else = λ q w. refl;
 }

@@ -13,8 +13,8 @@ use Rattle.mq_queue.specs.Rows.{same_ident}
 use Rattle.mq_law_manager.proofs.Named.{name_is}
 use Rattle.mq_law_channel.proofs.Told.{unit_yes}
 use Rattle.mq_law_rows.specs.World.{At, Book, Forced, Ghost, Gone, HeldBy, InBatch, InHand, InUnit, Inv, IsOthers, Owner, Unborn, World, is_forced, tag_idents}
-use Rattle.mq_law_rows.specs.Kinds.{Commits}
-use Rattle.mq_law_rows.proofs.Lists.{and_left, and_right, bool_case, ident_self, true_false}
+use Rattle.mq_law_rows.specs.Kinds.{Commits, among}
+use Rattle.mq_law_rows.proofs.Lists.{and_left, and_right, bool_case, true_false}
 use Rattle.mq_law_rows.proofs.Ordering.{commit_keeps}
 use Rattle.mq_law_run.specs.Ordered.{AreListed, IsListed, IsOnly}
 
@@ -61,8 +61,8 @@ not_others w g b m c u fs h listed only at queue x stands free o = go (g.owner x
         o.1 (e ∙ (λ i. Forced (from i) (name i) (unit i))))
         (λ t no_.
         let stays : Mem l.entry (others c u fs) = still_in (λ (f : order.Forced). not (bytes_eq c f.channel && same_unit u f.unit)) l.entry fs l.there (ap not no_) in
-        let forced : order.is_forced (others c u fs) x.message.ident ≡ true = any_at (λ (f : order.Forced). list_any (same_ident x.message.ident) f.idents) l.entry (others c u fs) stays
-        (any_at (same_ident x.message.ident) x.message.ident l.entry.idents (l.idents at queue x stands there) (ident_self x.message.ident)) in
+        let mine : among l.entry.idents x.message.ident ≡ true = bool_case (among l.entry.idents x.message.ident) (λ o. among l.entry.idents x.message.ident ≡ o → o ≡ true) (λ o k. refl) (λ o k. absurd (l.idents x.message.ident there k (at, queue, x, stands, refl))) refl in
+        let forced : order.is_forced (others c u fs) x.message.ident ≡ true = any_at (λ (f : order.Forced). list_any (same_ident x.message.ident) f.idents) l.entry (others c u fs) stays mine in
         true_false (sym free ∙ ap not forced)) refl
 
     go : (p : Owner) → g.owner x.message.ident ≡ p → is_forced (g.owner x.message.ident) ≡ true → ⊥

@@ -39,12 +39,15 @@ use Rattle.mq_law_one.proofs.Ordinary.{ordinary_happens}
 use Rattle.mq_law_one.proofs.Running.{Told_}
 use Rattle.mq_history.specs.declared.story.ManagerPlaces.{ManagerPlaces}
 use Rattle.mq_law_rows.proofs.Lists.{bool_case, eqb_yes}
+use Rattle.mq_law_run.specs.Ordered.{forced_over}
 use Rattle.mq_law_run.specs.Run.{Housed, Moves, Stand, far_at, near_at}
+use Rattle.mq_law_run.proofs.Later.{later_self}
+use Rattle.mq_law_run.proofs.Listing.{quiet_order}
 use Rattle.mq_law_run.proofs.Cabled.{same_batches}
 use Rattle.mq_law_run.proofs.Halves.{deed_quiet, far_own, near_own, own_elim}
 use Rattle.mq_law_run.proofs.Numbering.{IsRaised, own_raised}
 use Rattle.mq_law_run.proofs.Telling.{counted_on, deeds_more, none_committed, risen_still, still_not, told_before}
-use Rattle.mq_law_run.proofs.Tying.{leads_on}
+use Rattle.mq_law_run.proofs.Tying.{KeepsForced, forced_kept, leads_on}
 
 -- it offers nothing
 done_silent : (choice : Choice) (d : Deed) (n : Node) → d.pushed ≡ None → (done d choice n).pushed ≡ None
@@ -119,6 +122,7 @@ own_moves s hs p x z t is =
               record { sends = refl; sender = refl; batch = refl; out = refl },
               (λ g w. w),
             );
+            later = λ q. later_self ch;
             else = λ q w. refl;
           };
       out = λ i c f at q actor pushed. absurd (none_frame e.effect.pushed f silent pushed);
@@ -138,4 +142,7 @@ own_moves s hs p x z t is =
           (counted_on n.manager.numbers.connections next.manager.numbers.connections m e r.choice l r.is (subst (λ w. IsNextNumber e.call w n.manager.numbers.connections next.manager.numbers.connections) (sym t.tells.reply) r.next) r.rises (z.counted m t.h t.is));
       cabled = same_batches s.cables m n.manager next.manager b.same.batches (z.cabled m t.h t.is);
       housed = subst (Housed l) whole (housed_else m l k a.told.places a.told.placed b.other);
+      listed = forced_kept z.ghost j.0.ghost e.effect.delta (book_of l).rows (book_of (ledger (opening_ledger s hs) (p ++ x ∷ []))).rows
+          (subst (λ (y : Ledger). KeepsForced z.ghost j.0.ghost (book_of l).rows (book_of y).rows) whole j.3);
+      order = quiet_order (forced_over [] p) x l (ledger (opening_ledger s hs) (p ++ x ∷ [])) quiet;
     }

@@ -1,5 +1,5 @@
 -- A turn of a receiver's end that runs, as a move of the network.
-use Rattle.std.proofs.Common.{ℕ, ◌≡◌, ◌<◌, ◌≤◌, Bool, true, false, List, [], ◌∷◌, ◌++◌, refl, ap, sym, subst, ◌∙◌, inl, inr, arith}
+use Rattle.std.proofs.Common.{ℕ, ◌≡◌, ◌<◌, ◌≤◌, ◌⊎◌, Bool, true, false, List, [], ◌∷◌, ◌++◌, refl, ap, sym, subst, ◌∙◌, inl, inr, arith}
 use Rattle.std.specs.Prelude.{Option, Some, None, ◌==◌, ◌+◌, ◌&&◌, if◌then◌else◌, slice_get}
 use Rattle.std.specs.Option.{option_map}
 use Rattle.std.specs.Str.{bytes_eq}
@@ -34,7 +34,8 @@ use Rattle.mq_spec_node.specs.Deeds.{Deed, Done, done}
 use Rattle.mq_spec_node.specs.Receivers.{is_receiver_defined, receiver_deed}
 use Rattle.mq_spec_network.specs.Conflict.{Deed as ToldDeed, NoConflict, committed_in, deeds, deeds_in, is_committed}
 use Rattle.mq_spec_network.specs.Ledger as ledgers
-use Rattle.mq_spec_network.specs.Ledger.{Ledger, Users, ledger, posted, take_all_gone}
+use Rattle.mq_spec_network.specs.Ledger.{Ledger, Users, idents_of, ledger, ledger_rows, posted, take_all_gone}
+use Rattle.mq_spec_network.specs.Order.{KeepsOrder, OrderAt, committed_messages, messages_found, others as others_of, unit_received}
 use Rattle.mq_spec_network.specs.Standing.{managers_at, node_after, opening_ledger, opening_managers}
 use Rattle.mq_spec_network.specs.Story.{Line, Mem}
 use Rattle.mq_law_channel.specs.Channel.{Channel, Facts, Past}
@@ -57,7 +58,7 @@ use Rattle.mq_law_node.proofs.ReceiverTurns.{refused_places, takes_as}
 use Rattle.mq_law_node.proofs.Standing.{running_done_all}
 use Rattle.mq_law_rows.specs.Families.{is_here, put_at}
 use Rattle.mq_law_rows.specs.World.{Book, World}
-use Rattle.mq_law_rows.proofs.Lists.{bool_case, eqb_self, here_self, here_yes, true_false}
+use Rattle.mq_law_rows.proofs.Lists.{bool_case, eqb_self, here_self, here_yes, keep_all, true_false}
 use Rattle.mq_law_seen.specs.Seen.{book_of, world_of}
 use Rattle.mq_law_events.specs.Tied.{AreShelved}
 use Rattle.mq_law_story.proofs.Weaving.{ledger_step, manager_at}
@@ -81,11 +82,15 @@ use Rattle.mq_law_stopped.specs.Noted.{EndNote}
 use Rattle.mq_law_one.specs.Alone.{IsAt}
 use Rattle.mq_law_one.proofs.Happening.{noted_up, state_up}
 use Rattle.mq_law_one.proofs.Running.{Told_}
+use Rattle.mq_law_run.specs.Ordered.{HasRow, IsOnly, forced_over}
 use Rattle.mq_law_run.specs.Run.{IsMoved, Moves, Stand, far_at, near_at}
 use Rattle.mq_law_run.proofs.Beside.{IsBeside, parts_beside}
 use Rattle.mq_law_run.proofs.Cabled.{parts_cabled}
 use Rattle.mq_law_run.proofs.Housing as housing
 use Rattle.mq_law_run.proofs.Keeping.{EachKept, EachTaking, EachTells, IsCommit, IsKept, kept_by, post_of, takes_so, tells_by}
+use Rattle.mq_law_run.proofs.Later.{places_anew}
+use Rattle.mq_law_run.proofs.Listing.{forced_still, quiet_order}
+use Rattle.mq_law_run.proofs.Receipting.{EachCommits, IsCommitOf, commits_by, landed_listed, landed_order}
 use Rattle.mq_law_run.proofs.Lining.{index_of, all_moved, else_index, left_aside, mem_at, same_cable, same_index, here}
 use Rattle.mq_law_run.proofs.Running.{IsRun, move_to, run_next, scene, sends_here, sound_at, takes_here, told_all}
 use Rattle.mq_law_run.proofs.Telling.{deeds_more, mem_left, mem_right, risen_told, still_not, told_before, told_now}
@@ -249,6 +254,19 @@ unit_rises ends.Done takes.Close t c f = upto_self c.receives.unit
 unit_rises ends.Full d t c f = upto_self c.receives.unit
 unit_rises (ends.Refused reason) d t c f = upto_self c.receives.unit
 
+-- its unit was not in doubt at the opening, and so its batch was the front of its queue
+pub not_loose : (s : Scenario) (hs : List History) (p : List Line) (z : Stand s hs p) (k : CableLine) → Mem k s.cables → (turn : ReceiverTurn) (y : Past) (u : Luw) → Facts (z.xs k.sender k.channel) y → ReceiverMay turn (z.xs k.sender k.channel) y
+    → receiver_does turn (z.xs k.sender k.channel) ≡ takes.Place u → z.ghost.loose k.sender k.channel u ≡ false
+not_loose s hs p z k there turn y u facts may is = bool_case (z.ghost.loose k.sender k.channel u) (λ t. z.ghost.loose k.sender k.channel u ≡ t → t ≡ false)
+    (λ t e. absurd (places_anew turn (z.xs k.sender k.channel) y u facts may is (z.anew k there u (z.loose k.sender k.channel u e)))) (λ t e. refl) refl
+
+-- a channel's name has one sender
+pub only_one : (s : Scenario) (hs : List History) (p : List Line) (z : Stand s hs p) (i : ℕ) (k : CableLine) → IsScenario s → slice_get s.cables i ≡ Some k → IsOnly z.ghost k.sender k.channel
+only_one s hs p z i k scenario e a d u on name =
+    let o = z.owned a d u on in
+    let same : o.1 ≡ k = same_cable s o.0 i o.1 k o.2 e (same_index s o.0 i o.1 k scenario o.2 e (o.4 ∙ name)) in
+    sym o.3 ∙ ap (λ (h : CableLine). h.sender) same
+
 -- THE TURN
 pub receiver_moves : (s : Scenario) (hs : List History) (whole p : List Line) (es : List ToldDeed) (x : Line) (z : Stand s hs p) (t : Told_ s hs p x) (i : ℕ) (k : CableLine) (d : Deed) (g : History) → IsScenario s → NoConflict s hs whole → deeds whole ≡ deeds (p ++ x ∷ []) ++ es
     → slice_get s.cables i ≡ Some k → k.receiver ≡ x.manager → slice_get hs k.sender ≡ Some g → x.entry.actor ≡ actors.Receiver i → x.entry.call ≡ calls.Turn → IsRun s hs p x t d
@@ -291,6 +309,8 @@ receiver_moves s hs whole p es x z t i k d g scenario none split e q from actor 
     let kept0 : IsKept k.receiver z.given (do_all d.parts n.manager) l l1 =
     (subst (λ (o : Option Deed). EachKept zz n.manager l o) is (kept_by zz n c y l stamp seen does far (taking.committing zz n c y l stamp seen does refl facts offered given) (record { fresh = before.fresh; told = before.told; timed = before.timed }))) ms next in
     let kept : IsKept m z.given (do_all d.parts n.manager) l l1 = subst (λ a. IsKept a z.given (do_all d.parts n.manager) l l1) q kept0 in
+    let facts_of : ((unit_received (delta_of d.parts) ≡ None) × (l1 ≡ l)) ⊎ IsCommitOf zz n c l seen does d =
+    (subst (λ (o : Option Deed). EachCommits zz n c l seen does o) is (commits_by zz n c y l stamp seen does far (taking.committing zz n c y l stamp seen does refl facts offered given))) ms next in
     let beside : IsBeside n.manager (do_all d.parts n.manager) = parts_beside d.parts n.manager taking_.0 in
     let up : (do_all d.parts n.manager).running ≡ Up = beside.running ∙ r.up in
     let counted = z.counted m t.h t.is in
@@ -303,6 +323,7 @@ receiver_moves s hs whole p es x z t i k d g scenario none split e q from actor 
         far_near (FarStep.Turn turn) c,
         λ f j. subst (λ (fs : List Frame). Mem f fs) took_.offers (offering_among d.pushed c.back f j),
       );
+      later = λ a. absurd ((z.joint.tied k there).apart (q ∙ sym a));
       else = λ a b. absurd (true_false (sym (ap (λ o. o == m) q ∙ eqb_self m) ∙ b));
     } in
     move_to s hs p x t.h z (done d Runs n) l1 r.is (ledger_step (opening_ledger s hs) p x ∙ posted_as m k.receiver x.entry l d q call reply taking_.2 received delta) (record {
@@ -365,8 +386,36 @@ receiver_moves s hs whole p es x z t i k d g scenario none split e q from actor 
       counted = subst (λ (v : Numbers). AreCountedAt v.connections m l1) (sym beside.numbers) (record { users = counted.users; used = ap (λ (us : List Users). slice_get us m) kept.users ∙ counted.used; counted = counted.counted });
       cabled = parts_cabled s.cables m d.parts n.manager taking_.1 (z.cabled m t.h t.is);
       housed = housing.turned k.receiver d.reply d.received (delta_of d.parts) l;
+      listed = elim facts_of [
+        | inl o ↦ forced_still z.ghost took.ghost x.entry.effect.delta (book_of l).rows (book_of l1).rows (λ a b u f. (operated_old zz (world_of s z.given ms) (book_of l1) c1 y took a b u f, λ v. took.sent v a b u))
+            (λ i_ g_. subst (λ (v : Ledger). HasRow i_ (book_of v).rows) o.1 g_)
+        | inr o ↦ landed_listed (world_of s z.given (managers_at s p hs)) z.ghost took.ghost l l1 k.sender k.receiver k.channel o.unit x.entry.effect.delta z.joint.inv o.commits o.landed (λ a b u f. (
+          operated_old zz (world_of s z.given ms) (book_of l1) c1 y took a b u f,
+          (λ v. took.sent v a b u),
+          λ from name unit. committed_apart zz (world_of s z.given ms) (book_of l1) c y turn o.unit u took joint.tied.last o.is (ran o.unit o.is o.ran) (following.placed turn c y o.unit facts may o.is).rises unit
+              (subst (λ v. took.ghost.operated k.sender v u ≡ true) name (subst (λ v. took.ghost.operated v b u ≡ true) from f)),
+        ))
+      ];
+      order = elim facts_of [
+        | inl o ↦ quiet_order (forced_over [] p) x l l1 (ap unit_received delta ∙ o.0)
+        | inr o ↦ ordered l1 o.unit (ap unit_received delta ∙ o.told) (landed_order (world_of s z.given (managers_at s p hs)) z.ghost l l1 l1 k.sender k.receiver k.channel o.unit (forced_over [] p) x.entry.effect.delta (committed_messages l x) (λ w_. true)
+            z.joint.inv o.commits (not_loose s hs p z k there turn y o.unit facts may o.is) z.listed (only_one s hs p z i k scenario e) o.landed
+            (ap idents_of ((λ v. messages_found ((reply ∙ taking_.2) v) x.entry.chance x.entry.effect.received (ledgers.users_at m l).cut) ∙ received) ∙ o.ids)
+            (λ w_. sym (keep_all (λ v_. true) (ledger_rows k.receiver w_ l1) (λ v_ n_. refl))))
+      ];
     })
   where
+    ran : (u : Luw) → receiver_next (z.xs k.sender k.channel).receiver x.entry.effect.popped (is_receiver_defined k.channel (node_after s x.manager p t.h).manager.definitions) ≡ takes.Place u
+        → receiver_out (takes.Place u) (far_at s i k) x.entry.effect.popped (z.xs k.sender k.channel).receiver (z.xs k.sender k.channel).kept (node_after s x.manager p t.h).manager ≡ ends.Done
+        → (taking_turn (far_at s i k) x.entry.stamp x.entry.effect.popped (z.xs k.sender k.channel).receiver (z.xs k.sender k.channel).kept (node_after s x.manager p t.h).manager).outcome ≡ ends.Done
+    ran u is_ done_ = ap (λ (dd : ReceiverDoes). receiver_out dd (far_at s i k) x.entry.effect.popped (z.xs k.sender k.channel).receiver (z.xs k.sender k.channel).kept (node_after s x.manager p t.h).manager) is_ ∙ done_
+
+    ordered : (after : Ledger) (u : Luw) → unit_received x.entry.effect.delta ≡ Some (k.channel, u)
+        → KeepsOrder (others_of k.channel u (forced_over [] p)) k.receiver x.entry.effect.delta (committed_messages (ledger (opening_ledger s hs) p) x) (ledger (opening_ledger s hs) p) after
+        → OrderAt (unit_received x.entry.effect.delta) (forced_over [] p) x (ledger (opening_ledger s hs) p) after
+    ordered after u told keeps = subst (λ o. OrderAt o (forced_over [] p) x (ledger (opening_ledger s hs) p) after) (sym told)
+        (subst (λ (a : ℕ). KeepsOrder (others_of k.channel u (forced_over [] p)) a x.entry.effect.delta (committed_messages (ledger (opening_ledger s hs) p) x) (ledger (opening_ledger s hs) p) after) q keeps)
+
     put_here : (c1 : Channel) → put_at z.xs k.sender k.channel c1 k.sender k.channel ≡ c1
     put_here c1 = ap (λ b. if b then c1 else z.xs k.sender k.channel) (here_self k.sender k.channel)
 

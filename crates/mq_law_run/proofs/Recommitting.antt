@@ -1,11 +1,13 @@
 -- A restart that finds the stopped write of a receiver's commit, as a move of the network: the unit is committed there by now, with what the
 -- network has become since; and then the manager comes up.
 use Rattle.std.proofs.Common.{ℕ, ◌≡◌, Bool, true, false, List, [], ◌∷◌, ◌++◌, refl, ap, sym, subst, ◌∙◌, inl, inr, map}
-use Rattle.std.specs.Prelude.{Option, Some, Result, Ok, Err, ◌==◌, ◌&&◌, ◌||◌, filter, if◌then◌else◌, slice_get}
+use Rattle.std.specs.Prelude.{Option, Some, None, Result, Ok, Err, ◌==◌, ◌&&◌, ◌||◌, filter, if◌then◌else◌, not, slice_get}
 use Rattle.std.specs.Option.{option_map}
 use Rattle.std.specs.Str.{bytes_eq}
 use Rattle.mq_codes.specs.declared.reason.Reason.{Reason}
 use Rattle.mq_message.specs.declared.message.Message.{Message}
+use Rattle.mq_queue.specs.declared.row.Row.{Row}
+use Rattle.mq_queue.specs.Rows.{keep}
 use Rattle.mq_frame.specs.declared.frame.Frame.{Frame}
 use Rattle.mq_sync.specs.declared.unit.Unit.{Unit as Luw}
 use Rattle.mq_sync.specs.declared.data.ReceiverData.{ReceiverData}
@@ -22,6 +24,8 @@ use Rattle.mq_calls.specs.declared.deltas.Did.TheVariants as did
 use Rattle.mq_calls.specs.declared.deltas.Why.TheVariants as whys
 use Rattle.mq_calls.specs.declared.records.LogRecord.{LogRecord}
 use Rattle.mq_history.specs.declared.acts.Act.TheVariants as acts
+use Rattle.mq_history.specs.declared.acts.Acted.TheVariants as acted
+use Rattle.mq_history.specs.declared.calls.Reply.TheVariants as replies
 use Rattle.mq_history.specs.declared.calls.Call.{Call}
 use Rattle.mq_history.specs.declared.calls.Call.TheVariants as calls
 use Rattle.mq_history.specs.declared.calls.Chance.TheVariants as chances
@@ -44,6 +48,7 @@ use Rattle.mq_spec_node.specs.Replays.{done_by}
 use Rattle.mq_spec_network.specs.Conflict.{Deed as ToldDeed, NoConflict, committed_in, deeds, deeds_in, is_committed}
 use Rattle.mq_spec_network.specs.Ledger as ledgers
 use Rattle.mq_spec_network.specs.Ledger.{Ledger, Users, change_at, ledger, users_or}
+use Rattle.mq_spec_network.specs.Order.{KeepsOrder, OrderAt, committed_messages, messages_found, others as others_of, unit_received}
 use Rattle.mq_spec_network.specs.Standing.{managers_at, node_after, opening_ledger, opening_managers}
 use Rattle.mq_spec_network.specs.Story.{Line, Mem}
 use Rattle.mq_law_channel.specs.Channel.{Channel, Facts, Past}
@@ -63,20 +68,24 @@ use Rattle.mq_law_node.proofs.Moving.{far_keeps}
 use Rattle.mq_law_node.proofs.NearEvents.{redone_data}
 use Rattle.mq_law_manager.proofs.Named.{name_is}
 use Rattle.mq_law_rows.specs.Families.{put_at}
+use Rattle.mq_law_rows.specs.Kinds.{among, is_lost, place_all}
+use Rattle.mq_law_rows.specs.World.{Book, tag_idents}
 use Rattle.mq_law_rows.proofs.Lists.{bool_case, eqb_self, here_yes, true_false}
 use Rattle.mq_law_seen.specs.Seen.{book_of, world_of}
+use Rattle.mq_law_seen.proofs.Bridges.{loses_rows}
 use Rattle.mq_law_events.specs.Posting.{IsTimed}
 use Rattle.mq_law_events.specs.Tied.{IsNext, IsTold}
 use Rattle.mq_law_events.proofs.Telling.{else_changed, here_changed}
 use Rattle.mq_law_story.proofs.Agreeing.{backout_borne}
 use Rattle.mq_law_story.proofs.Weaving.{manager_at}
 use Rattle.mq_law_found.specs.Finds.{posted_again}
-use Rattle.mq_law_receipts.specs.Receipts.{Comes as ComesIn, IsCabled}
+use Rattle.mq_law_receipts.specs.Receipts.{Comes as ComesIn, IsAwaitedAt, IsCabled}
 use Rattle.mq_law_receipts.proofs.Cabling.{cabled}
 use Rattle.mq_law_receipts.proofs.Landing.{all_landed, is_landed, plain_one}
 use Rattle.mq_law_turns.specs.Agreed.{IsToldOf, TellsCommit}
 use Rattle.mq_law_turns.specs.Turns.{IsHome, IsJoint, Scene, Taken, world_in}
 use Rattle.mq_law_turns.proofs.Agreeing.{agreed, grows, received_told, receiver_tells}
+use Rattle.mq_law_turns.proofs.Taking.{found_at}
 use Rattle.mq_law_cables.proofs.Differing.{leads}
 use Rattle.mq_law_cables.proofs.Keeping.{joint_of, taken_joint}
 use Rattle.mq_law_cables.proofs.Unprepared.{unprepared_still}
@@ -85,7 +94,11 @@ use Rattle.mq_law_one.proofs.Running.{Told_}
 use Rattle.mq_law_stopped.specs.Noted.{CommitFound, CommitNote, noted_of}
 use Rattle.mq_law_stopped.proofs.Committing.{commit_found}
 use Rattle.mq_law_stopped.proofs.Leaving.{one_on, one_redone}
+use Rattle.mq_law_run.specs.Ordered.{forced_over}
 use Rattle.mq_law_run.specs.Run.{HaveSenders, Housed, Moves, Stand, back_done, far_at, near_at}
+use Rattle.mq_law_run.proofs.Later.{later_self}
+use Rattle.mq_law_run.proofs.Receipting.{IsLanded, landed_listed, landed_order}
+use Rattle.mq_law_run.proofs.Returning.{alone, clear}
 use Rattle.mq_law_run.proofs.Beside.{adds_none, all_add_none}
 use Rattle.mq_law_run.proofs.Cabled.{all_cabled, same_batches}
 use Rattle.mq_law_run.proofs.Commanding.{told_here, told_of}
@@ -93,7 +106,7 @@ use Rattle.mq_law_run.proofs.Housing as housing
 use Rattle.mq_law_run.proofs.Landing.{EachBoth, landed_both}
 use Rattle.mq_law_run.proofs.Lining.{else_index, here, index_of, mem_at, same_cable, same_index}
 use Rattle.mq_law_run.proofs.Owning.{next_managers}
-use Rattle.mq_law_run.proofs.Receiving.{both_left, both_right, channel_else, committed_apart, numbers_of, operated_old, shelved_of, upto_below, upto_on, upto_self}
+use Rattle.mq_law_run.proofs.Receiving.{both_left, both_right, channel_else, committed_apart, not_loose, numbers_of, only_one, operated_old, shelved_of, upto_below, upto_on, upto_self}
 use Rattle.mq_law_run.proofs.Redoing.{FarPart, NearPart, end_returns, mid_of}
 use Rattle.mq_law_run.proofs.Running.{far_here, near_here, scene, told_all}
 use Rattle.mq_law_run.proofs.Telling.{deeds_more, mem_left, mem_right, risen_told, still_not, told_before, told_now}
@@ -102,6 +115,21 @@ use Rattle.mq_law_run.proofs.Telling.{deeds_more, mem_left, mem_right, risen_tol
 received_lasts : (r : LogRecord) (b : Plain) (c : List ℕ) (u : Luw) (ds : List Did) → Mem (did.Received c u) (filter (lasts r b) (ds ++ did.Received c u ∷ []))
 received_lasts r b c u [] = inl refl
 received_lasts r b c u (d ∷ ds) = bool_case (lasts r b d) (λ t. Mem (did.Received c u) (if t then d ∷ filter (lasts r b) (ds ++ did.Received c u ∷ []) else filter (lasts r b) (ds ++ did.Received c u ∷ []))) (λ z. inr (received_lasts r b c u ds)) (λ z. received_lasts r b c u ds)
+
+first_received : (r : LogRecord) (q : Plain) (c : List ℕ) (u : Luw) (ds : List Did) → unit_received ds ≡ None → unit_received (filter (lasts r q) (ds ++ did.Received c u ∷ [])) ≡ Some (c, u)
+first_received r q c u [] e = refl
+first_received r q c u (did.Received d v ∷ ds) e = absurd cc
+first_received r q c u (did.Placed a i dead ∷ ds) e = bool_case (lasts r q (did.Placed a i dead)) (λ t. unit_received (if t then did.Placed a i dead ∷ filter (lasts r q) (ds ++ did.Received c u ∷ []) else filter (lasts r q) (ds ++ did.Received c u ∷ [])) ≡ Some (c, u))
+    (λ t. first_received r q c u ds e) (λ t. first_received r q c u ds e)
+first_received r q c u (did.Removed a i why ∷ ds) e = bool_case (lasts r q (did.Removed a i why)) (λ t. unit_received (if t then did.Removed a i why ∷ filter (lasts r q) (ds ++ did.Received c u ∷ []) else filter (lasts r q) (ds ++ did.Received c u ∷ [])) ≡ Some (c, u))
+    (λ t. first_received r q c u ds e) (λ t. first_received r q c u ds e)
+first_received r q c u (did.Moved a i to target bare ∷ ds) e = first_received r q c u ds e
+first_received r q c u (did.Held a i by_ ∷ ds) e = bool_case (lasts r q (did.Held a i by_)) (λ t. unit_received (if t then did.Held a i by_ ∷ filter (lasts r q) (ds ++ did.Received c u ∷ []) else filter (lasts r q) (ds ++ did.Received c u ∷ [])) ≡ Some (c, u))
+    (λ t. first_received r q c u ds e) (λ t. first_received r q c u ds e)
+first_received r q c u (did.Released a i ∷ ds) e = bool_case (lasts r q (did.Released a i)) (λ t. unit_received (if t then did.Released a i ∷ filter (lasts r q) (ds ++ did.Received c u ∷ []) else filter (lasts r q) (ds ++ did.Received c u ∷ [])) ≡ Some (c, u))
+    (λ t. first_received r q c u ds e) (λ t. first_received r q c u ds e)
+first_received r q c u (did.Hardened d note ∷ ds) e = first_received r q c u ds e
+first_received r q c u (did.Prepared d v ∷ ds) e = first_received r q c u ds e
 
 none_in_landed : (m : ℕ) (b : List ℕ) (v : Luw) (d : Did) (ds : List ToldDeed) → is_landed d ≡ true → committed_in b v (told_of m d ∷ ds) ≡ committed_in b v ds
 none_in_landed m b v (did.Placed q i dead) ds e = refl
@@ -236,6 +264,15 @@ commit_returns s hs wide p es x z t noted starts started st i k scenario peace s
     let now_m : IsTold m g kn = subst (λ v. IsTold v g (to v)) q found.now in
     let users_m : kn.users ≡ l.users = subst (λ v. (to v).users ≡ l.users) q found.now_users in
     let c1_unit : c1.receives.unit ≡ u = λ e. (receiver_turned (note.commits.ran e) (note.commits.does e) turn c).receives.unit in
+    let waiting : IsAwaitedAt s z.given ps b l z.ghost k.sender k.receiver ch u (map stamped c.kept) = found_at zz b c y l u joint0 placed waits home in
+    let landed_ : IsLanded z.ghost l found.posted k.sender k.receiver ch u = record {
+      placings = found.placings;
+      named = found.named ∙ ap (λ (v : Luw). tag_idents (z.ghost.sent k.sender ch v)) c1_unit;
+      rows = λ d e. found.rows d e ∙ ap (λ (v : Luw). place_all k.receiver found.placings d e (keep (λ (o : Row). not (among (tag_idents (z.ghost.sent k.sender ch v)) o.message.ident)) (ledgers.ledger_rows d e l))) c1_unit;
+    } in
+    let told_unit : unit_received x.entry.effect.delta ≡ Some (ch, u) = ap unit_received (delta ∙ delta_is) ∙ first_received r0 b ch u ld.delta both.1 in
+    let answered : x.entry.reply ≡ replies.Acted acted.Done = t.tells.reply ∙ ap (λ (o : Done). o.reply) is in
+    let came : committed_messages l x ≡ st.entry.effect.received = λ e. messages_found (answered e) (chance e) x.entry.effect.received (cut e) in
     end_returns s hs p x z t noted starts started st z.given r.ghost xs ys g found.posted kn scenario down call chance is cut refl (note.sound started b.running b.moment b.log) found.lasts_ (record {
       joint = joint;
       facts = all_facts;
@@ -278,6 +315,18 @@ commit_returns s hs wide p es x z t noted starts started st i k scenario peace s
           (λ e no_. risen_told s os p x h.channel (z.xs h.sender h.channel).receives.unit (z.risen h o) v (only h.channel v ∙ or_false (bytes_eq h.channel ch && same_unit v u) (ap (λ b_. b_ && same_unit v u) (else_name h o no_))) f) refl;
       owned = λ d e v f. z.owned d e v (old d e v f);
       loose = λ d e v f. (λ o. sym r.loose o d e v) ∙ f;
+      listed = landed_listed (world_of s z.given ps) z.ghost r.ghost l found.posted k.sender k.receiver ch u x.entry.effect.delta z.joint.inv waiting.commits landed_ (λ d e v f. (
+        old d e v f,
+        (λ o. r.sent o d e v),
+        λ from_ name unit_. committed_apart zz (world_of s z.given mid) (book_of found.posted) c y turn u v r joint0.tied.last note.commits.does note.commits.ran placed.rises unit_
+            (subst (λ o. r.ghost.operated k.sender o v ≡ true) name (subst (λ o. r.ghost.operated o e v ≡ true) from_ f)),
+      ));
+      order = subst (λ o. OrderAt o (forced_over [] p) x l (ledgers.up_again m kn)) (sym told_unit)
+          (subst (λ (o : ℕ). KeepsOrder (others_of ch u (forced_over [] p)) o x.entry.effect.delta (committed_messages l x) l (ledgers.up_again o (to o))) q
+          (landed_order (world_of s z.given ps) z.ghost l found.posted (ledgers.up_again k.receiver (to k.receiver)) k.sender k.receiver ch u (forced_over [] p) x.entry.effect.delta (committed_messages l x) (λ (o : Row). not (is_lost k.receiver k.receiver o))
+          z.joint.inv waiting.commits (not_loose s hs p z k there turn y u facts may note.commits.does) z.listed (only_one s hs p z i k scenario at_k) landed_
+          (ap ledgers.idents_of came ∙ found.messages ∙ ap (λ (v : Luw). tag_idents (z.ghost.sent k.sender ch v)) c1_unit)
+          (λ d. sym (ap (λ (o : Book). o.rows k.receiver d) found.books) ∙ loses_rows k.receiver k.receiver d (ledgers.with_users k.receiver alone (ledgers.with_users k.receiver clear found.posted)))));
     })
   where
     one_here : (h : CableLine) → Mem h s.cables → here k h ≡ true → h ≡ k
@@ -329,6 +378,7 @@ commit_returns s hs wide p es x z t noted starts started st i k scenario peace s
               ∙ ap (λ (e : Noted). told_sends (sender_or (sender_by_all h.channel e.changes (sender_data h.channel b)))) (note.is ∙ (λ e. noted_of (note.commits.part_ e) (note.commits.record_ e)))
               ∙ ap (λ (e : Option SenderData). told_sends (sender_or e)) (sender_changes h.channel ld.changes (SetReceiver k.channel (record (receiver_or (receiver_data k.channel note.was)) { unit = note.commits.unit; last = note.commits.last }) ∷ []) (sender_data h.channel b))
               ∙ told (sender_data h.channel b)),
+          later_self (z.xs h.sender h.channel),
         )) refl
 
     far_part : (g : Plain) → g.channels ≡ (redone noted (node_after s x.manager p t.h).manager).channels → (j : ℕ) (h : CableLine) → slice_get s.cables j ≡ Some h → h.receiver ≡ x.manager

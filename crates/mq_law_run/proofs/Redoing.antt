@@ -49,7 +49,7 @@ use Rattle.mq_spec_state.specs.State.{Noted}
 use Rattle.mq_spec_manager.specs.Stops.{grown, redone, redone_delta, restarted}
 use Rattle.mq_calls.specs.declared.deltas.Did.{Did}
 use Rattle.mq_law_node.specs.Nodes.{FarAt, NearAt}
-use Rattle.mq_law_run.proofs.Tying.{leads_on}
+use Rattle.mq_law_run.proofs.Tying.{leads_on, forced_then, keeps_less, keeps_then, stop_less}
 use Rattle.mq_spec_state.specs.State.{Given}
 use Rattle.mq_queue.specs.declared.row.Row.{Row}
 use Rattle.mq_sync.specs.Settlement.{receiver_or, sender_or}
@@ -76,9 +76,12 @@ use Rattle.mq_law_cables.specs.Joints.{AreJoint, rested}
 use Rattle.mq_law_events.specs.Tied.{IsElse, IsFresh, IsNext, IsTold}
 use Rattle.mq_law_found.specs.Finds.{posted_again}
 use Rattle.mq_law_turns.proofs.Agreeing.{released_tells}
-use Rattle.mq_law_run.specs.Run.{Among, Housed, IsMoved, Moves, Stand, back_done, far_at, near_at}
+use Rattle.mq_law_run.specs.Run.{Among, Housed, IsMoved, Moves, Stand, back_done, far_at, near_at, IsLater}
 use Rattle.mq_law_run.proofs.Stopping.{at_rest_far, eqb_no, receives_so, receives_on}
 use Rattle.mq_calls.specs.declared.deltas.Did.TheVariants as did
+use Rattle.mq_law_run.specs.Ordered.{AreForced, HasRow, forced_over}
+use Rattle.mq_law_run.proofs.Later.{later_rests}
+use Rattle.mq_spec_network.specs.Order.{OrderAt, unit_received}
 
 -- WHAT THE WRITE DOES: the network as the manager would have it, its channels and what is told, from what was kept before
 abbrev pub base_of : (s : Scenario) (p : List Line) (x : Line) → History → Plain
@@ -89,7 +92,7 @@ mid_of s hs p x g = change_at x.manager (λ (o : Plain). g) (managers_at s p hs)
 
 -- a cable's channel at its sender's manager, and at its receiver's
 abbrev pub NearPart : Channel → Channel → List ℕ → Plain → Type 0
-NearPart c d ch g = SameFar c d × Among c.out d.out × (told_sends d.sends ≡ told_sends (sends_at ch g))
+NearPart c d ch g = SameFar c d × Among c.out d.out × (told_sends d.sends ≡ told_sends (sends_at ch g)) × IsLater c d
 
 abbrev pub FarPart : Channel → Channel → List ℕ → Plain → Type 0
 FarPart c d ch g = SameNear c d × Among c.back d.back × (told_receives d.receives ≡ told_receives (receives_at ch g))
@@ -119,6 +122,8 @@ pub record IsRedone (s : Scenario) (hs : List History) (p : List Line) (x : Line
   pub risen : (c : CableLine) → Mem c s.cables → (u : Luw) → is_committed s (opening_managers s hs) (deeds (p ++ x ∷ [])) c.channel u ≡ true → Upto u (xs c.sender c.channel).receives.unit
   pub owned : (a : ℕ) (c : List ℕ) (u : Luw) → ghost.operated a c u ≡ true → (i : ℕ) × (k : CableLine) × (slice_get s.cables i ≡ Some k) × (k.sender ≡ a) × (k.channel ≡ c)
   pub loose : (a : ℕ) (c : List ℕ) (u : Luw) → ghost.loose a c u ≡ true → z.ghost.loose a c u ≡ true
+  pub listed : AreForced z.ghost ghost x.entry.effect.delta (book_of (ledger (opening_ledger s hs) p)).rows (book_of k).rows
+  pub order : OrderAt (unit_received x.entry.effect.delta) (forced_over [] p) x (ledger (opening_ledger s hs) p) (ledgers.up_again x.manager n)
 
 -- AND THEN THE START: ends begin with what is hardened, with the machines that they had
 abbrev near_back : Bool → Sender → Channel → Channel
@@ -243,6 +248,8 @@ end_returns s hs p x z t noted starts started st given ghost xs ys g k1 kn scena
                   record { sends = d0.0.sends; sender = d0.0.sender; batch = d0.0.batch; out = d0.0.out },
                   d0.1,
                 );
+            later = λ w. subst (λ (y : Channel). IsLater c y) (sym (sender_back k m (k.receiver == m) c.sender d w (eqb_no k.receiver m (λ y. (z.joint.tied k there).apart (y ∙ sym w)))))
+                (later_rests (senders.halted c.sender) c d refl (r1.near i k f w).3);
             else = λ w y. ap (λ o. at_rest_far receiver_rests (k.receiver == m) (near_back o c.sender d)) w ∙ ap (λ o. at_rest_far receiver_rests o d) y ∙ r1.aside k there w y;
           });
       out = λ i k f g w actor push. absurd (no_frame f (sym pushed ∙ push));
@@ -277,6 +284,10 @@ end_returns s hs p x z t noted starts started st given ghost xs ys g k1 kn scena
       users = λ c ne. other1.users c ne ∙ r1.users c ne;
       counted = record { users = alone (clear r1.now.users); used = used_1; counted = none_counted q.numbers.connections };
       cabled = record { once = λ c w. absurd w; line = λ c w. absurd w };
+      listed = forced_then z.ghost ghost r.stands.ghost e.effect.delta (book_of l).rows (book_of k1).rows (book_of l1).rows r1.listed
+          (keeps_then ghost j0.0.ghost r.stands.ghost (book_of k1).rows (book_of l0).rows (book_of l1).rows j0.3
+          (keeps_less j0.0.ghost r.stands.ghost (book_of l0).rows (book_of l1).rows r.stands.operated r.stands.sent (λ i_ g. stop_less m l0 i_ (subst (λ (o : Book). HasRow i_ o.rows) (sym r1.books) g))));
+      order = r1.order;
       housed = λ c w f. let v = housed_else m kn l1 r1.now.places r1.now.placed other1 c w f in r1.housed c v.0 v.1;
     })
   where

@@ -1,8 +1,10 @@
 -- RESOLVE, as a move of the network.
 use Rattle.std.proofs.Common.{ℕ, ◌≡◌, ◌≢◌, ◌≤◌, Bool, true, false, List, [], ◌∷◌, ◌++◌, refl, ap, sym, subst, ◌∙◌, inl, arith}
+use Rattle.std.proofs.lemmas.List.{append-nil}
 use Rattle.std.specs.Prelude.{Option, Some, None, ◌==◌, ◌&&◌, not, if◌then◌else◌, map, slice_get}
 use Rattle.std.proofs.lemmas.Bool.Decides.{nat_tests}
 use Rattle.mq_message.specs.declared.place.Holder.TheVariants as holders
+use Rattle.mq_queue.specs.declared.row.Row.{Row}
 use Rattle.mq_sync.specs.declared.unit.Unit.{Unit as Luw}
 use Rattle.mq_sync.specs.declared.unit.Settle.TheVariants as settles
 use Rattle.mq_sync.specs.declared.data.InDoubt.{InDoubt}
@@ -26,7 +28,7 @@ use Rattle.mq_history.specs.declared.history.History.{History}
 use Rattle.mq_history.specs.declared.scenario.CableLine.{CableLine}
 use Rattle.mq_history.specs.declared.scenario.Scenario.{Scenario}
 use Rattle.mq_history.specs.Scenarios.{IsScenario}
-use Rattle.mq_spec_state.specs.Reads.{in_doubt_of, is_up, sender_data}
+use Rattle.mq_spec_state.specs.Reads.{in_doubt_of, is_up, sender_data, stored}
 use Rattle.mq_spec_state.specs.State.{Plain}
 use Rattle.mq_spec_state.specs.Steps.{delta_of, do_part}
 use Rattle.mq_spec_agents.specs.Words.{harden_part, held_rows, settle_did}
@@ -35,6 +37,7 @@ use Rattle.mq_spec_node.specs.Deeds.{Deed, Done}
 use Rattle.mq_spec_node.specs.Operators.{operate, refused_or, resolve_doubt, resolve_end}
 use Rattle.mq_spec_node.specs.Replays.{IsOwn, Tells}
 use Rattle.mq_spec_network.specs.Conflict.{Deed as ToldDeed, NoConflict, deeds, deeds_in}
+use Rattle.mq_spec_network.specs.Order.{sent_idents}
 use Rattle.mq_spec_network.specs.Standing.{node_after, opening_managers}
 use Rattle.mq_spec_network.specs.Story.{Line, Mem}
 use Rattle.mq_law_channel.specs.Channel.{Channel, Past}
@@ -46,16 +49,19 @@ use Rattle.mq_law_node.specs.Moves.{NearStep}
 use Rattle.mq_law_node.proofs.Named.{bool_case}
 use Rattle.mq_law_node.proofs.Operators.{doubt_there, resolve_deed, resolves_batch, resolves_data, resting_apart}
 use Rattle.mq_law_node.proofs.SenderTurns.{leaves}
-use Rattle.mq_law_seen.specs.Seen.{world_of}
+use Rattle.mq_law_seen.specs.Seen.{rows_of, world_of}
 use Rattle.mq_law_events.specs.Tied.{IsNext}
 use Rattle.mq_law_turns.specs.Agreed.{IsToldOf}
-use Rattle.mq_law_turns.specs.Turns.{IsAt, Scene, TurnedBy}
+use Rattle.mq_law_turns.specs.Turns.{IsAt, Scene, TurnedBy, world_in}
 use Rattle.mq_law_turns.proofs.Agreeing.{backout_tells, backs_out_rightly, commit_tells, grows}
 use Rattle.mq_law_turns.proofs.Operating.{resolves_backout, resolves_commit, resolves_committed}
 use Rattle.mq_law_run.specs.Run.{IsRunning, Moves, Stand, near_at}
 use Rattle.mq_law_run.proofs.Commanding.{Commands, all_leave, commanded, leave_behind, none_commits, refuses, told_here, told_of, up_so}
+use Rattle.mq_law_stopped.specs.Noted.{IsForcing}
 use Rattle.mq_law_run.proofs.Lining.{mem_at}
+use Rattle.mq_law_run.proofs.Listing.{batch_told}
 use Rattle.mq_law_run.proofs.Running.{scene}
+use Rattle.mq_law_run.proofs.Sending.{none_forced_now}
 use Rattle.mq_law_run.proofs.Telling.{deeds_more, mem_left, mem_right, told_now}
 
 settle_leave : (rs : List Remove) → all_leave (map (settle_did false) rs) ≡ true
@@ -104,6 +110,7 @@ backs_out z n c y d a up off so right =
         tells = λ ps ds f i. backout_tells z.scenario ps ds z.sender w.channel c y own.data_
             (subst (λ (u : Luw). Mem (told_of z.sender (backed_out w.channel u)) ds) (sym own.unit) (f (backed_out w.channel d.unit) (tells_it w d n))) i;
         commits = none_commits c w.channel (delta_of (resolve_deed w settles.Backout d n).parts);
+        forces = none_forced_now (world_in z) z.sender w.channel (delta_of (resolve_deed w settles.Backout d n).parts);
         near = λ v e f. (refl, ap (λ (b : Bool). (not b && true) && true) f);
         others = λ v f. refl;
         far = λ v e. (refl, refl);
@@ -137,8 +144,9 @@ upto_both u v e f = unit_eq u v (grind (arith, e, f)) (grind (arith, e, f))
 
 commits_by : (o : Option Luw) (z : Scene) (n : Node) (c : Channel) (y : Past) (d e : InDoubt) → IsAt z n c y → is_up n.manager.running ≡ true → senders.is_running c.sender.state ≡ false → c.sends.in_doubt ≡ Some e → e.unit ≡ d.unit
     → ((rs : List Plain) → IsNext z.sender n.manager (do_part (harden_part z.place.channel (notes.Resolved d.unit true true) n.manager) n.manager) z.managers rs → TurnedBy o z (world_of z.scenario z.given rs) (resolved settles.Commit c) (past_resolved settles.Commit e y))
-    → ((u : Luw) → o ≡ Some u → (u ≡ d.unit) × (Upto u c.receives.unit → ⊥)) → Commands z n c y (resolve_deed z.place settles.Commit d n)
-commits_by o z n c y d e a up off is same turned past =
+    → ((u : Luw) → o ≡ Some u → (u ≡ d.unit) × (Upto u c.receives.unit → ⊥)) → ((u : Luw) → o ≡ Some u → IsForcing (world_in z) z.sender z.place.channel u (delta_of (resolve_deed z.place settles.Commit d n).parts))
+    → Commands z n c y (resolve_deed z.place settles.Commit d n)
+commits_by o z n c y d e a up off is same turned past forcing =
     let w : Where = z.place in
     let h : SendsAs w n c = a.sends in (
       o,
@@ -163,6 +171,7 @@ commits_by o z n c y d e a up off is same turned past =
         commits = λ u f.
             let b = past u f in
             (subst (λ (v : Luw). Mem (committed_did w.channel v) (delta_of (resolve_deed w settles.Commit d n).parts)) (sym b.0) (commits_it w d n), b.1);
+        forces = forcing;
         near = λ v b f. (refl, ap (λ (t : Bool). (not t && true) && true) f);
         others = λ v f. refl;
         far = λ v b. (refl, refl);
@@ -180,10 +189,21 @@ commits_deed z n c y d a up off so =
     let above : Upto c.receives.unit own.data_.unit = (a.facts.sound.held own.data_.unit held.0).2 in
     bool_case (same_unit c.receives.unit own.data_.unit) (λ t. Commands z n c y (resolve_deed w settles.Commit d n))
     (λ f. commits_by None z n c y d own.data_ a up off own.is own.unit (λ rs g. resolves_committed z n c y own.data_ d.unit rs a own.is (resting_apart c.sender.state off) (unit_yes c.receives.unit own.data_.unit f) g)
-    (λ u g. absurd (no_one u g)))
+    (λ u g. absurd (no_one u g)) (λ u g. absurd (no_one u g)))
     (λ f. commits_by (Some own.data_.unit) z n c y d own.data_ a up off own.is own.unit (λ rs g. resolves_commit z n c y own.data_ d.unit rs a own.is (resting_apart c.sender.state off) g)
-    (λ u g. (some_unit own.data_.unit u g ∙ own.unit, λ b. unit_no c.receives.unit own.data_.unit f (upto_both c.receives.unit own.data_.unit above (subst (λ (v : Luw). Upto v c.receives.unit) (some_unit own.data_.unit u g) b)))))
+    (λ u g. (some_unit own.data_.unit u g ∙ own.unit, λ b. unit_no c.receives.unit own.data_.unit f (upto_both c.receives.unit own.data_.unit above (subst (λ (v : Luw). Upto v c.receives.unit) (some_unit own.data_.unit u g) b))))
+    (λ u g. subst (λ (v : Luw). IsForcing (world_in z) z.sender w.channel v (delta_of (resolve_deed w settles.Commit d n).parts)) (sym (some_unit own.data_.unit u g)) (record {
+      holds = (a.joint.tied.held held.2).0 ∙ held.0;
+      new = λ b. unit_no c.receives.unit own.data_.unit f (sym a.joint.tied.last ∙ b);
+      told = subst (λ (v : Luw). Mem (committed_did w.channel v) (delta_of (resolve_deed w settles.Commit d n).parts)) (sym own.unit) (commits_it w d n);
+      rows = λ q r k by_. told_all_rows q r (subst (λ (o : Option Plain). Mem r (rows_of q o)) a.at k) by_;
+    })))
   where
+    told_all_rows : (q : List ℕ) (r : Row) → Mem r (stored q n.manager).rows → r.by ≡ Some (holders.Batch z.place.channel) → Mem r.message.ident (sent_idents (delta_of (resolve_deed z.place settles.Commit d n).parts))
+    told_all_rows q r k by_ =
+        let ds : List Did = map (settle_did true) (held_rows (holders.Batch z.place.channel) n.manager) ++ committed_did z.place.channel d.unit ∷ [] in
+        subst (λ (es : List Did). Mem r.message.ident (sent_idents es)) (sym (append-nil ds)) (batch_told z.place.channel n.manager (committed_did z.place.channel d.unit ∷ []) q r k by_)
+
     no_one : (u : Luw) → None ≡ Some u → ⊥
     no_one u e = cc
 

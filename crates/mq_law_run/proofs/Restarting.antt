@@ -48,7 +48,7 @@ use Rattle.mq_law_cables.proofs.Keeping.{rests}
 use Rattle.mq_law_deeds.proofs.Counting.{stopped}
 use Rattle.mq_law_one.specs.Alone.{IsState}
 use Rattle.mq_law_one.proofs.Running.{Told_}
-use Rattle.mq_law_run.specs.Run.{Among, IsMoved, Moves, Stand, far_at, near_at, risen_done}
+use Rattle.mq_law_run.specs.Run.{Among, IsMoved, Moves, Stand, far_at, near_at, risen_done, IsLater}
 use Rattle.mq_law_run.proofs.Owning.{housed_else, next_managers, others_told}
 use Rattle.mq_law_run.proofs.Running.{far_here, move_to, near_here}
 use Rattle.mq_law_events.proofs.Locals.{stays_leads}
@@ -65,8 +65,12 @@ use Rattle.mq_spec_manager.specs.Stops.{grown, restarted}
 use Rattle.mq_law_node.specs.Nodes.{FarAt, NearAt}
 use Rattle.mq_law_cables.proofs.Unprepared.{unprepared_still}
 use Rattle.mq_law_run.proofs.Stopping.{all_at_rest, at_rest_far, at_rest_near, eqb_no, receiver_at_rest, resting, rest_facts, rest_told, same_receives, sender_at_rest}
-use Rattle.mq_law_run.proofs.Tying.{leads_on}
+use Rattle.mq_law_run.proofs.Tying.{leads_on, forced_kept, keeps_less, keeps_then, stop_less}
 use Rattle.mq_law_run.proofs.Telling.{deeds_more, none_committed, risen_still, still_not, told_before}
+use Rattle.mq_law_run.specs.Ordered.{forced_over}
+use Rattle.mq_law_run.proofs.Later.{later_rests, later_self}
+use Rattle.mq_law_run.proofs.Listing.{quiet_order}
+use Rattle.mq_sender.specs.States as senders
 
 abbrev clear : Users → Users
 clear u = record u { cut = None }
@@ -145,6 +149,8 @@ rise_moves s hs p x z t noted starts started scenario down call chance is =
                   record { sends = refl; sender = refl; batch = refl; out = refl },
                   λ h y. y,
                 );
+            later = λ w. subst (λ (y : Channel). IsLater c y) (sym (sender_at_rest receiver_rests k m (k.receiver == m) c w (eqb_no k.receiver m (λ y. (z.joint.tied k there).apart (y ∙ sym w)))))
+                (later_rests (senders.halted c.sender) c c refl (later_self c));
             else = λ w y. ap (λ o. at_rest_far receiver_rests (k.receiver == m) (at_rest_near o c)) w ∙ ap (λ o. at_rest_far receiver_rests o c) y;
           });
       out = λ i k f g w actor push. absurd (no_frame f (sym pushed ∙ push));
@@ -173,6 +179,10 @@ rise_moves s hs p x z t noted starts started scenario down call chance is =
       counted = stopped b.numbers.connections q.numbers.connections m l0 (record { users = clear counted.users; used = here_changed m clear l.users counted.users counted.used; counted = counted.counted });
       cabled = record { once = λ c w. absurd w; line = λ c w. absurd w };
       housed = housed_else m l l1 a.told.places a.told.placed other;
+      listed = forced_kept z.ghost r.stands.ghost e.effect.delta (book_of l).rows (book_of l1).rows
+          (keeps_then z.ghost j.0.ghost r.stands.ghost (book_of l).rows (book_of l0).rows (book_of l1).rows j.3
+          (keeps_less j.0.ghost r.stands.ghost (book_of l0).rows (book_of l1).rows r.stands.operated r.stands.sent (λ i_ g. stop_less m l0 i_ g)));
+      order = quiet_order (forced_over [] p) x l l1 (ap unit_received delta);
     })
   where
     no_frame : (f : Frame) → None ≡ Some f → ⊥

@@ -47,7 +47,7 @@ use Rattle.mq_law_cables.specs.Joints.{rested}
 use Rattle.mq_law_cables.proofs.Keeping.{rests}
 use Rattle.mq_law_one.specs.Alone.{IsState}
 use Rattle.mq_law_one.proofs.Running.{Told_}
-use Rattle.mq_law_run.specs.Run.{Among, IsMoved, Moves, Stand, back_done, far_at, near_at}
+use Rattle.mq_law_run.specs.Run.{Among, IsMoved, Moves, Stand, back_done, far_at, near_at, IsLater}
 use Rattle.mq_law_run.proofs.Owning.{housed_else, next_managers, others_told}
 use Rattle.mq_law_run.proofs.Running.{far_here, move_to, near_here}
 use Rattle.mq_law_events.proofs.Locals.{stays_leads}
@@ -64,7 +64,7 @@ use Rattle.mq_calls.specs.declared.deltas.Did.{Did}
 use Rattle.mq_law_node.specs.Nodes.{FarAt, NearAt}
 use Rattle.mq_law_cables.proofs.Unprepared.{unprepared_still}
 use Rattle.mq_law_run.proofs.Stopping.{all_at_rest, at_rest_far, at_rest_near, eqb_no, receiver_at_rest, resting, rest_facts, rest_told, same_receives, sender_at_rest}
-use Rattle.mq_law_run.proofs.Tying.{leads_on}
+use Rattle.mq_law_run.proofs.Tying.{leads_on, forced_kept, keeps_less, keeps_then, stop_less}
 use Rattle.mq_sync.specs.declared.data.SenderData.{SenderData}
 use Rattle.mq_sync.specs.Settlement.{receiver_or, sender_or}
 use Rattle.mq_spec_state.specs.State.{Given}
@@ -84,6 +84,10 @@ use Rattle.mq_calls.specs.declared.deltas.Did.TheVariants as did
 use Rattle.mq_law_rows.proofs.Lists.{bool_case}
 use Rattle.mq_law_run.proofs.Cabled.{same_batches}
 use Rattle.mq_law_run.proofs.Telling.{deeds_more, none_committed, risen_still, still_not, told_before}
+use Rattle.mq_law_run.specs.Ordered.{forced_over}
+use Rattle.mq_law_run.proofs.Later.{later_rests, later_self}
+use Rattle.mq_law_run.proofs.Listing.{quiet_order}
+use Rattle.mq_sender.specs.States as senders
 
 abbrev pub clear : Users → Users
 clear u = record u { cut = None }
@@ -219,6 +223,8 @@ call_returns s hs p x z t noted starts started scenario found down call chance i
                   record { sends = refl; sender = refl; batch = refl; out = refl },
                   λ h y. y,
                 );
+            later = λ w. subst (λ (y : Channel). IsLater c y) (sym (sender_at_rest receiver_rests k m (k.receiver == m) c w (eqb_no k.receiver m (λ y. (z.joint.tied k there).apart (y ∙ sym w)))))
+                (later_rests (senders.halted c.sender) c c refl (later_self c));
             else = λ w y. ap (λ o. at_rest_far receiver_rests (k.receiver == m) (at_rest_near o c)) w ∙ ap (λ o. at_rest_far receiver_rests o c) y;
           });
       out = λ i k f g w actor push. absurd (no_frame f (sym pushed ∙ push));
@@ -247,6 +253,11 @@ call_returns s hs p x z t noted starts started scenario found down call chance i
       counted = record { users = alone (clear f1.told.users); used = here_changed m alone l0.users (clear f1.told.users) used0; counted = none_counted q.numbers.connections };
       cabled = record { once = λ c w. absurd w; line = λ c w. absurd w };
       housed = housed_else m l l1 a.told.places a.told.placed other;
+      listed = forced_kept z.ghost r.stands.ghost e.effect.delta (book_of l).rows (book_of l1).rows
+          (keeps_then z.ghost j.0.ghost r.stands.ghost (book_of l).rows (book_of k1).rows (book_of l1).rows j.3
+          (keeps_then j.0.ghost j0.0.ghost r.stands.ghost (book_of k1).rows (book_of l0).rows (book_of l1).rows j0.3
+          (keeps_less j0.0.ghost r.stands.ghost (book_of l0).rows (book_of l1).rows r.stands.operated r.stands.sent (λ i_ g. stop_less m l0 i_ g))));
+      order = quiet_order (forced_over [] p) x l l1 received;
     })
   where
     no_frame : (f : Frame) → None ≡ Some f → ⊥

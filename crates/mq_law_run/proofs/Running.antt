@@ -109,6 +109,15 @@ told_all s ps old new k c y xs ys mine others h n = bool_case (here k h) (λ t. 
     (λ z f. let w = here_yes k.sender k.channel h.sender h.channel f in subst (λ m. IsToldOf s ps (old ++ new) m h.channel c y) (sym w.0) (subst (λ d. IsToldOf s ps (old ++ new) k.sender d c y) (sym w.1) mine))
     (λ z f. grows s ps old new h.sender h.channel (xs h.sender h.channel) (ys h.sender h.channel) (others h n)) refl
 
+-- what a unit has that an operator has committed
+pub sent_kept : {o : Option Luw} (z : Scene) (v : World) (c : Channel) (y : Past) (r : TurnedBy o z v c y) (a : ℕ) (d : List ℕ) (u : Luw) → r.ghost.operated a d u ≡ true → r.ghost.sent a d u ≡ z.ghost.sent a d u
+sent_kept {o} z v c y r a d u e = bool_case (is_here z.sender z.place.channel a d) (λ t. is_here z.sender z.place.channel a d ≡ t → r.ghost.sent a d u ≡ z.ghost.sent a d u)
+    (λ w f.
+    let q = here_yes z.sender z.place.channel a d f in
+    subst (λ m. r.ghost.sent m d u ≡ z.ghost.sent m d u) (sym q.0) (subst (λ b. r.ghost.sent z.sender b u ≡ z.ghost.sent z.sender b u) (sym q.1)
+    (r.kept u (subst (λ b. r.ghost.operated z.sender b u ≡ true) q.1 (subst (λ m. r.ghost.operated m d u ≡ true) q.0 e)))))
+    (λ w f. r.sent a d u f) refl
+
 -- what an operator had committed, and what he commits with it
 pub operated_before : {o : Option Luw} (z : Scene) (v : World) (c : Channel) (y : Past) (r : TurnedBy o z v c y) (a : ℕ) (d : List ℕ) (u : Luw) → r.ghost.operated a d u ≡ true → (z.ghost.operated a d u ≡ true) ⊎ ((o ≡ Some u) × (a ≡ z.sender) × (d ≡ z.place.channel))
 operated_before {o} z v c y r a d u e = bool_case (is_here z.sender z.place.channel a d) (λ t. is_here z.sender z.place.channel a d ≡ t → (z.ghost.operated a d u ≡ true) ⊎ ((o ≡ Some u) × (a ≡ z.sender) × (d ≡ z.place.channel)))

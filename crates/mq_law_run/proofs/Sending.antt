@@ -85,12 +85,17 @@ use Rattle.mq_law_cables.proofs.Keeping.{joint_of, turned_joint}
 use Rattle.mq_law_deeds.proofs.Resting.{apart_batch}
 use Rattle.mq_law_deeds.proofs.Sounding.{behind}
 use Rattle.mq_law_one.proofs.Running.{Told_}
+use Rattle.mq_law_stopped.specs.Noted.{IsForcing}
+use Rattle.mq_law_run.specs.Ordered.{IsForcedNow, forced_over}
 use Rattle.mq_law_run.specs.Run.{IsMoved, Moves, Stand, far_at, near_at}
 use Rattle.mq_law_run.proofs.Beside.{EachAddsNone, EachOfEnd, IsBeside, distinct_of, leave_adds, parts_beside, senders_add, senders_of_end}
 use Rattle.mq_law_run.proofs.Cabled.{add_cabled, parts_cabled, same_batches}
+use Rattle.mq_law_run.proofs.Later.{near_later}
+use Rattle.mq_law_run.proofs.Listing.{forcing_told, quiet_order}
 use Rattle.mq_law_run.proofs.Lining.{all_moved, else_channel, else_index, here, left_aside, mem_at, same_cable, units_put}
-use Rattle.mq_law_run.proofs.Running.{IsRun, beside_at, beside_counted, move_to, operated_before, run_next, scene, sends_here, sound_at, takes_here, told_all}
+use Rattle.mq_law_run.proofs.Running.{IsRun, beside_at, beside_counted, move_to, operated_before, run_next, scene, sends_here, sent_kept, sound_at, takes_here, told_all}
 use Rattle.mq_law_run.proofs.Telling.{deeds_more, none_committed, risen_still, still_not, told_before}
+use Rattle.mq_law_rows.specs.World.{World}
 
 -- BATCHES
 idle_not : (st : SenderState) → is_idle st ≡ true → is_sending st ≡ false
@@ -192,6 +197,7 @@ pub record IsStep (s : Scenario) (hs : List History) (p : List Line) (x : Line) 
   pub far : (j : ℕ) (h : CableLine) → slice_get s.cables j ≡ Some h → here k h ≡ false → h.receiver ≡ x.manager → AsideFar (far_at s j h) (node_after s x.manager p t.h) d
   pub offers : (j : ℕ) (f : Frame) → x.entry.actor ≡ actors.Sender j → d.pushed ≡ Some f → j ≡ i
   pub answers : (j : ℕ) (f : Frame) → x.entry.actor ≡ actors.Receiver j → d.pushed ≡ Some f → ⊥
+  pub forces : (u : Luw) → o ≡ Some u → IsForcing (world_of s z.given (managers_at s p hs)) k.sender k.channel u x.entry.effect.delta
   pub committed : (u : Luw) → o ≡ Some u → Mem (record { manager = k.sender; did = did.Hardened k.channel (notes.Resolved u true true) }) (deeds (p ++ x ∷ [])) × (is_committed s (opening_managers s hs) (deeds (p ++ x ∷ [])) k.channel u ≡ false)
 
 pub step_moves : (s : Scenario) (hs : List History) (p : List Line) (x : Line) (z : Stand s hs p) (t : Told_ s hs p x) (i : ℕ) (k : CableLine) (d : Deed) (o : Option Luw) (step : NearStep) → IsScenario s → slice_get s.cables i ≡ Some k → k.sender ≡ x.manager
@@ -218,6 +224,7 @@ step_moves s hs p x z t i k d o step scenario e q v =
         λ f j. subst (λ (fs : List Frame). Mem f fs) v.sent.offers (offering_among d.pushed c.out f j),
       );
       far = λ a. absurd ((z.joint.tied k there).apart (a ∙ sym q));
+      later = λ a. near_later step c y (z.lines i k e).facts;
       else = λ a b. absurd (true_false (sym (ap (λ b. b == m) q ∙ eqb_self m) ∙ a));
     } in
     move_to s hs p x t.h z (done d Runs n) l r.is v.whole (record {
@@ -260,6 +267,13 @@ step_moves s hs p x z t i k d o step scenario e q v =
       counted = beside_counted s hs p x z t d l refl v.beside;
       cabled = v.cabled;
       housed = λ a w f. (w, f);
+      listed = λ a b u f. elim (operated_before zz (world_of s z.given ms) c1 y1 v.turned a b u f) [
+        | inl old ↦ inl (record { operated = old; sent = sent_kept zz (world_of s z.given ms) c1 y1 v.turned a b u f; rows = λ i_ n no_ g. no_ g })
+        | inr new ↦ inr (subst (λ w. IsForcedNow v.turned.ghost x.entry.effect.delta (book_of l).rows w b u) (sym new.1) (subst (λ w. IsForcedNow v.turned.ghost x.entry.effect.delta (book_of l).rows k.sender w u) (sym new.2)
+            (forcing_told (world_of s z.given (managers_at s p hs)) z.ghost v.turned.ghost (book_of l) k.sender k.channel u x.entry.effect.delta z.joint.inv (v.forces u new.0)
+            (v.turned.kept u (subst (λ w. v.turned.ghost.operated k.sender w u ≡ true) new.2 (subst (λ w. v.turned.ghost.operated w b u ≡ true) new.1 f))))))
+      ];
+      order = quiet_order (forced_over [] p) x l l v.quiet;
     })
   where
     put_here : (c1 : Channel) → put_at z.xs k.sender k.channel c1 k.sender k.channel ≡ c1
@@ -271,6 +285,12 @@ step_moves s hs p x z t i k d o step scenario e q v =
         (subst (λ c. Mem (record { manager = k.sender; did = did.Hardened c (notes.Resolved u true true) }) (deeds (p ++ x ∷ []))) (sym g) mem)
 
 -- THE TURN
+pub none_forced_now : (w : World) (m : ℕ) (c : List ℕ) (ds : List Did) (u : Luw) → None ≡ Some u → IsForcing w m c u ds
+none_forced_now w m c ds u e = absurd (none_unit u e)
+  where
+    none_unit : (u : Luw) → None ≡ Some u → ⊥
+    none_unit u e = cc
+
 pub none_committed_now : (s : Scenario) (hs : List History) (p : List Line) (x : Line) (k : CableLine) (u : Luw) → None ≡ Some u
     → Mem (record { manager = k.sender; did = did.Hardened k.channel (notes.Resolved u true true) }) (deeds (p ++ x ∷ [])) × (is_committed s (opening_managers s hs) (deeds (p ++ x ∷ [])) k.channel u ≡ false)
 none_committed_now s hs p x k u e = absurd (none_unit u e)
@@ -321,5 +341,6 @@ sender_moves s hs p x z t i k d scenario e q actor call r is offered plain =
       far = λ j h f out a. far_else (far_at s j h) stamp (sender_of w c.sender) seen n d is (else_index s i j k h e f out);
       offers = λ j f by_ push. same_number j i (ap sender_number (sym by_ ∙ actor));
       answers = λ j f by_ push. none_number i (ap sender_number (sym by_ ∙ actor));
+      forces = none_forced_now (world_of s z.given (managers_at s p hs)) k.sender k.channel x.entry.effect.delta;
       committed = none_committed_now s hs p x k;
     })

@@ -83,6 +83,8 @@ use Rattle.mq_law_run.proofs.Lining.{all_moved, else_index, left_aside, mem_at, 
 use Rattle.mq_law_run.proofs.Receiving.{channel_else, operated_old}
 use Rattle.mq_law_run.proofs.Running.{IsRun, beside_at, beside_counted, move_to, run_next, scene, sends_here, sound_at, takes_here, told_all}
 use Rattle.mq_law_run.proofs.Telling.{deeds_more, none_committed, risen_still, still_not, told_before}
+use Rattle.mq_law_run.specs.Ordered.{forced_over}
+use Rattle.mq_law_run.proofs.Listing.{forced_still, quiet_order}
 
 -- WHAT A COMMAND ON A RECEIVER'S END COMES TO
 record IsServed (z : Scene) (n : Node) (c : Channel) (y : Past) (l : Ledger) (d : Deed) (step : FarStep) : Type 0 where
@@ -276,6 +278,7 @@ served_moves s hs p x z t i k d op step scenario e q call chance r v =
         far_near step c,
         λ f j. subst (λ (fs : List Frame). Mem f fs) v.took.offers (offering_among d.pushed c.back f j),
       );
+      later = λ a. absurd ((z.joint.tied k there).apart (q ∙ sym a));
       else = λ a b. absurd (true_false (sym (ap (λ o. o == m) q ∙ eqb_self m) ∙ b));
     } in
     move_to s hs p x t.h z (done d Runs n) l r.is (ledger_step (opening_ledger s hs) p x ∙ operated_post m x.entry op v.answer l call chance reply v.is silent) (record {
@@ -310,6 +313,8 @@ served_moves s hs p x z t i k d op step scenario e q call chance r v =
       counted = beside_counted s hs p x z t d l refl (parts_beside d.parts n.manager v.ends);
       cabled = parts_cabled s.cables m d.parts n.manager v.adds (z.cabled m t.h t.is);
       housed = λ a b f. (b, f);
+      listed = forced_still z.ghost took.ghost x.entry.effect.delta (book_of l).rows (book_of l).rows (λ a b u f. (operated_old zz (world_of s z.given ms) (book_of l) c1 y took a b u f, λ j. took.sent j a b u)) (λ i_ g. g);
+      order = quiet_order (forced_over [] p) x l l (none_received x.entry.effect.delta silent);
     })
   where
     no_frame : (f : Frame) → None ≡ Some f → ⊥

@@ -4,6 +4,7 @@ use Rattle.std.specs.Prelude.{None, Some, ◌==◌, ◌+◌, ◌&&◌, ◌||◌,
 use Rattle.std.proofs.lemmas.Bool.Decides.{nat_tests}
 use Rattle.mq_message.specs.declared.message.Ident.{Ident}
 use Rattle.mq_frame.specs.declared.frame.Frame.{Frame}
+use Rattle.mq_sync.specs.declared.unit.Unit.{Unit as Luw}
 use Rattle.mq_history.specs.declared.history.History.{History}
 use Rattle.mq_history.specs.declared.scenario.CableLine.{CableLine}
 use Rattle.mq_history.specs.declared.scenario.Scenario.{Scenario}
@@ -11,7 +12,7 @@ use Rattle.mq_history.specs.Scenarios.{IsScenario}
 use Rattle.mq_spec_node.specs.Node.{Node}
 use Rattle.mq_spec_node.specs.Replays.{IsOwn, Tells, done_by}
 use Rattle.mq_spec_network.specs.Ledger.{Ledger, ledger, users_or}
-use Rattle.mq_spec_network.specs.Standing.{node_after, opening_ledger}
+use Rattle.mq_spec_network.specs.Standing.{node_after, opening_ledger, opening_managers}
 use Rattle.mq_spec_network.specs.Conflict.{deeds}
 use Rattle.mq_spec_network.specs.Story.{Line, Mem, part}
 use Rattle.mq_law_keys.proofs.Starting.{run_keyed}
@@ -22,6 +23,7 @@ use Rattle.mq_law_node.specs.Nodes.{FarNode, NearNode}
 use Rattle.mq_law_node.proofs.Pairs.{far_stays, near_stays}
 use Rattle.mq_law_rows.proofs.Lists.{bool_case, eqb_yes}
 use Rattle.mq_law_events.specs.Tied.{IsTold}
+use Rattle.mq_law_seen.specs.Seen.{book_of}
 use Rattle.mq_law_story.proofs.Weaving.{node_step}
 use Rattle.mq_law_deeds.specs.Numbers.{AreCountedAt}
 use Rattle.mq_law_cables.specs.Joints.{AreCabled}
@@ -33,8 +35,12 @@ use Rattle.mq_law_stopped.specs.Noted.{EndNote}
 use Rattle.mq_law_stopped.proofs.Staying.{notes_stay}
 use Rattle.mq_law_one.specs.Alone.{IsAt, IsNotedAt, IsState, as_left}
 use Rattle.mq_law_one.proofs.Ordinary.{elsewhere_noted}
-use Rattle.mq_law_run.specs.Run.{Among, IsMoved, Moves, Stand, far_at, near_at}
-use Rattle.mq_law_run.proofs.Telling.{told_before}
+use Rattle.mq_law_run.specs.Ordered.{AreListed, forced_over}
+use Rattle.mq_law_run.specs.Run.{Among, IsAnew, IsMoved, Moves, Stand, far_at, near_at}
+use Rattle.mq_law_run.proofs.Later.{anew_on, later_same}
+use Rattle.mq_law_run.proofs.Lining.{index_of}
+use Rattle.mq_law_run.proofs.Listing.{listed_more, listed_on}
+use Rattle.mq_law_run.proofs.Telling.{not_now, told_before}
 
 -- the node of the entry's manager, and the others
 pub here_node : (s : Scenario) (p : List Line) (x : Line) (h : History) (m : ℕ) → m ≡ x.manager → node_after s m (p ++ x ∷ []) h ≡ (done_by x.entry (node_after s x.manager p h)).next
@@ -148,6 +154,10 @@ keeps_on s hs p x h stamp z scenario is tells own v = record {
       (λ q f. let y : m ≡ x.manager = eqb_yes m x.manager f in
       subst (λ (n : Node). WhereUp n) (sym (here_node s p x k m y ∙ ap (λ (g : History). (done_by x.entry (node_after s x.manager p g)).next) (one_history hs x.manager m h k y is e))) here_open)
       (λ q f. subst (λ (n : Node). WhereUp n) (sym (else_node s p x k m f)) (z.unshared m k e)) refl;
+  anew = λ k n u f. let i = index_of s.cables k n in anew_moved i.0 k (v.moved i.0 k i.1) u (z.anew k n u f);
+  listed = subst (λ fs. AreListed v.ghost (book_of (ledger (opening_ledger s hs) (p ++ x ∷ []))).rows fs) (sym (listed_more [] p x))
+      (listed_on z.ghost v.ghost x.manager x.entry.effect.delta (book_of (ledger (opening_ledger s hs) p)).rows (book_of (ledger (opening_ledger s hs) (p ++ x ∷ []))).rows (forced_over [] p) z.listed v.listed
+      (λ a c u on. not_now s (opening_managers s hs) p x c u (v.not_yet a c u on)));
 }
   where
     here_open : WhereUp (done_by x.entry (node_after s x.manager p h)).next
@@ -173,6 +183,11 @@ keeps_on s hs p x h stamp z scenario is tells own v = record {
     same_near i k w f = bool_case (k.receiver == x.manager) (λ t. (k.receiver == x.manager) ≡ t → SameNear (z.xs k.sender k.channel) (v.xs k.sender k.channel))
         (λ q e. (w.far (mine k.receiver e)).1)
         (λ q e. subst (λ (c : Channel). SameNear (z.xs k.sender k.channel) c) (sym (w.else f e)) (record { sends = refl; sender = refl; batch = refl; out = refl })) refl
+
+    anew_moved : (i : ℕ) (k : CableLine) (w : IsMoved s x.manager (done_by x.entry (node_after s x.manager p h)).next i k (z.xs k.sender k.channel) (v.xs k.sender k.channel) (v.ys k.sender k.channel)) (u : Luw) → IsAnew u (z.xs k.sender k.channel) → IsAnew u (v.xs k.sender k.channel)
+    anew_moved i k w u a = bool_case (k.sender == x.manager) (λ t. (k.sender == x.manager) ≡ t → IsAnew u (v.xs k.sender k.channel))
+        (λ q e. anew_on u (z.xs k.sender k.channel) (v.xs k.sender k.channel) (w.later (mine k.sender e)) a)
+        (λ q e. let o = same_near i k w e in anew_on u (z.xs k.sender k.channel) (v.xs k.sender k.channel) (later_same (z.xs k.sender k.channel) (v.xs k.sender k.channel) o.sends o.sender o.out) a) refl
 
     same_far : (i : ℕ) (k : CableLine) (w : IsMoved s x.manager (done_by x.entry (node_after s x.manager p h)).next i k (z.xs k.sender k.channel) (v.xs k.sender k.channel) (v.ys k.sender k.channel)) → (k.receiver == x.manager) ≡ false → SameFar (z.xs k.sender k.channel) (v.xs k.sender k.channel)
     same_far i k w f = bool_case (k.sender == x.manager) (λ t. (k.sender == x.manager) ≡ t → SameFar (z.xs k.sender k.channel) (v.xs k.sender k.channel))

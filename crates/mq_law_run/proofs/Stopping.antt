@@ -62,10 +62,14 @@ use Rattle.mq_law_cables.proofs.Keeping.{rests}
 use Rattle.mq_law_cables.proofs.Unprepared.{unprepared}
 use Rattle.mq_law_deeds.proofs.Counting.{stopped}
 use Rattle.mq_law_one.proofs.Running.{Told_}
-use Rattle.mq_law_run.specs.Run.{Among, IsMoved, Moves, Stand, far_at, near_at, stopped_done}
+use Rattle.mq_law_run.specs.Run.{Among, IsMoved, Moves, Stand, far_at, near_at, stopped_done, IsLater}
 use Rattle.mq_law_run.proofs.Owning.{housed_else, next_managers, others_told}
 use Rattle.mq_law_run.proofs.Running.{move_to, sends_here, sound_at, takes_here}
 use Rattle.mq_law_run.proofs.Telling.{deeds_more, none_committed, risen_still, still_not, told_before}
+use Rattle.mq_law_run.specs.Ordered.{forced_over}
+use Rattle.mq_law_run.proofs.Later.{later_rests, later_self}
+use Rattle.mq_law_run.proofs.Listing.{quiet_order}
+use Rattle.mq_law_run.proofs.Tying.{forced_kept, keeps_less, stop_less}
 
 -- CHANNELS AT REST
 -- the manager receives on this channel of that sender
@@ -210,6 +214,8 @@ stop_moves s hs p x z t scenario up call chance is =
                   record { sends = refl; sender = refl; batch = refl; out = refl },
                   λ h j. j,
                 );
+            later = λ w. subst (λ (y : Channel). IsLater c y) (sym (sender_at_rest receiver_halted k m (k.receiver == m) c w (eqb_no k.receiver m (λ y. (z.joint.tied k there).apart (y ∙ sym w)))))
+                (later_rests (senders.halted c.sender) c c refl (later_self c));
             else = λ w y. ap (λ o. at_rest_far receiver_halted (k.receiver == m) (at_rest_near o c)) w ∙ ap (λ o. at_rest_far receiver_halted o c) y;
           });
       out = λ i k f g w actor push. absurd (no_frame f (sym pushed ∙ push));
@@ -238,6 +244,9 @@ stop_moves s hs p x z t scenario up call chance is =
       counted = stopped b.numbers.connections q.numbers.connections m l (z.counted m t.h t.is);
       cabled = record { once = λ c w. absurd (no_batch c w); line = λ c w. absurd (no_batch c w) };
       housed = housed_else m l l1 a.told.places a.told.placed other;
+      listed = forced_kept z.ghost r.stands.ghost e.effect.delta (book_of l).rows (book_of l1).rows
+          (keeps_less z.ghost r.stands.ghost (book_of l).rows (book_of l1).rows r.stands.operated r.stands.sent (λ i_ g. stop_less m l i_ g));
+      order = quiet_order (forced_over [] p) x l l1 (ap unit_received delta);
     })
   where
     no_frame : (f : Frame) → None ≡ Some f → ⊥

@@ -79,6 +79,15 @@ none_committed c u m (did.Released q i ∷ ds) e = none_committed c u m ds e
 none_committed c u m (did.Hardened d note ∷ ds) e = none_committed c u m ds e
 none_committed c u m (did.Prepared d v ∷ ds) e = none_committed c u m ds e
 
+any_behind : {A : Type 0} (f : A → Bool) (xs ys : List A) → list_any f (xs ++ ys) ≡ false → list_any f ys ≡ false
+any_behind f [] ys e = e
+any_behind f (x ∷ xs) ys e = any_behind f xs ys (or_right (f x) (list_any f (xs ++ ys)) e)
+
+-- what an entry tells is among what is told behind it
+pub not_now : (s : Scenario) (ps : List Plain) (p : List Line) (x : Line) (c : List ℕ) (u : Luw) → is_committed s ps (deeds (p ++ x ∷ [])) c u ≡ false → committed_in c u (deeds_in x.manager x.entry.effect.delta) ≡ false
+not_now s ps p x c u e = any_behind (λ (d : Deed). commits c u d.did) (deeds p) (deeds_in x.manager x.entry.effect.delta)
+    (sym (ap (committed_in c u) (deeds_more p x)) ∙ or_right (was_last s ps c u) (committed_in c u (deeds (p ++ x ∷ []))) e)
+
 -- a unit that wasn't committed is not, where the entry commits it not
 pub still_not : (s : Scenario) (ps : List Plain) (p : List Line) (x : Line) (c : List ℕ) (u : Luw) → committed_in c u (deeds_in x.manager x.entry.effect.delta) ≡ false → is_committed s ps (deeds p) c u ≡ false → is_committed s ps (deeds (p ++ x ∷ [])) c u ≡ false
 still_not s ps p x c u none e =

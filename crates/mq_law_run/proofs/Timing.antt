@@ -53,7 +53,7 @@ use Rattle.mq_law_run.proofs.Beside.{EachAddsNone, EachOfEnd, parts_beside, time
 use Rattle.mq_law_run.proofs.Cabled.{parts_cabled}
 use Rattle.mq_law_run.proofs.Lining.{else_index, mem_at}
 use Rattle.mq_law_run.proofs.Running.{IsRun, run_next, scene, sends_here, sound_at}
-use Rattle.mq_law_run.proofs.Sending.{none_committed_now, step_moves}
+use Rattle.mq_law_run.proofs.Sending.{none_committed_now, none_forced_now, step_moves}
 
 abbrev EachOut : Scene → Plain → Option Deed → Channel → Past → Type 0
 EachOut z p None x y = Unit {0}
@@ -133,6 +133,7 @@ timeout_moves s hs p x z t i k d scenario e q call r is =
       far = λ j h f out a. far_else (far_at s j h) (sender_of w c.sender) n d is (else_index s i j k h e f out);
       offers = λ j f by_ push. absurd (no_frame f (sym silent.1 ∙ push));
       answers = λ j f by_ push. no_frame f (sym silent.1 ∙ push);
+      forces = none_forced_now (world_of s z.given (managers_at s p hs)) k.sender k.channel x.entry.effect.delta;
       committed = none_committed_now s hs p x k;
     })
   where

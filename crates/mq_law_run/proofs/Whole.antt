@@ -13,21 +13,24 @@ use Rattle.mq_history.specs.declared.scenario.Scenario.{Scenario}
 use Rattle.mq_spec_state.specs.State.{Plain, Running}
 use Rattle.mq_spec_state.specs.State.Running.{Up, Down}
 use Rattle.mq_spec_network.specs.Conflict.{Deed as ToldDeed, NoConflict, deeds, deeds_in}
-use Rattle.mq_spec_network.specs.Ledger.{ledger}
-use Rattle.mq_spec_network.specs.Promised.{Premises}
+use Rattle.mq_spec_network.specs.Ledger.{Ledger, ledger, posted}
+use Rattle.mq_spec_network.specs.Order.{AllInOrderFrom, OrderAt, unit_received}
+use Rattle.mq_spec_network.specs.Promised.{Holds, Premises}
 use Rattle.mq_spec_network.specs.Standing.{managers_at, node_after, opening_ledger}
 use Rattle.mq_spec_network.specs.Story.{IsStory, Line}
 use Rattle.mq_law_manager.specs.Facts.{AreNamed}
 use Rattle.mq_law_seen.specs.Seen.{book_of}
 use Rattle.mq_law_story.specs.Told.{IsTold as IsOperated}
 use Rattle.mq_law_story.proofs.Promising.{once_promised, rows_promised}
-use Rattle.mq_law_story.proofs.Weaving.{manager_at}
+use Rattle.mq_law_story.proofs.Weaving.{ledger_step, manager_at}
 use Rattle.mq_law_one.specs.Alone.{IsOwnCall, IsState}
 use Rattle.mq_law_one.proofs.Running.{Told_, none_more, one_more, told_of}
+use Rattle.mq_law_run.specs.Ordered.{forced_over}
 use Rattle.mq_law_run.specs.Run.{HaveSenders, HoldsRows, Moves, Stand}
 use Rattle.mq_law_run.proofs.Acting.{cable_is, receiver_acts, sender_acts, some_at, timeout_acts}
 use Rattle.mq_law_run.proofs.Beginning.{begins}
 use Rattle.mq_law_run.proofs.Breaking.{obeys_all}
+use Rattle.mq_law_run.proofs.Listing.{listed_more}
 use Rattle.mq_law_run.proofs.Owning.{own_moves}
 use Rattle.mq_law_run.proofs.Rising.{crash_moves, restart_moves}
 use Rattle.mq_law_run.proofs.Standing.{keeps_on}
@@ -88,6 +91,21 @@ stands s hs wide before (x ∷ p) rest premises story peace same z =
     subst (Stand s hs) (one_more before x p)
     (stands s hs wide (before ++ x ∷ []) p rest premises (subst (IsStory hs) (sym (one_more before x (p ++ rest))) story) peace on (keeps_on s hs before x t.h t.stamp z premises.scenario t.is t.tells t.own v))
 
+-- and each entry keeps the order
+orders : (s : Scenario) (hs : List History) (wide before p rest : List Line) → Premises s hs → IsStory hs (before ++ (p ++ rest)) → NoConflict s hs wide → wide ≡ before ++ p → Stand s hs before
+    → AllInOrderFrom (forced_over [] before) (ledger (opening_ledger s hs) before) p
+orders s hs wide before [] rest premises story peace same z = tt
+orders s hs wide before (x ∷ p) rest premises story peace same z =
+    let t = told_of s hs before x (p ++ rest) premises story in
+    let on : wide ≡ (before ++ x ∷ []) ++ p = same ∙ sym (one_more before x p) in
+    let v = entry_moves s hs wide before (p ++ rest) (deeds p) x z t premises story peace (ap deeds on ∙ deeds_both (before ++ x ∷ []) p) in
+    let next : ledger (opening_ledger s hs) (before ++ x ∷ []) ≡ posted x.manager x.entry x.entry.reply (ledger (opening_ledger s hs) before) = ledger_step (opening_ledger s hs) before x in
+    let rest_ = orders s hs wide (before ++ x ∷ []) p rest premises (subst (IsStory hs) (sym (one_more before x (p ++ rest))) story) peace on (keeps_on s hs before x t.h t.stamp z premises.scenario t.is t.tells t.own v) in (
+      subst (λ (k : Ledger). OrderAt (unit_received x.entry.effect.delta) (forced_over [] before) x (ledger (opening_ledger s hs) before) k) next v.order,
+      subst (λ fs. AllInOrderFrom fs (posted x.manager x.entry x.entry.reply (ledger (opening_ledger s hs) before)) p) (listed_more [] before x)
+          (subst (λ (k : Ledger). AllInOrderFrom (forced_over [] (before ++ x ∷ [])) k p) next rest_),
+    )
+
 named : (r : Running) (p : Plain) → IsState r p → AreNamed p.queues
 named Up p h = h.named
 named (Down noted starts) p h = h.named
@@ -106,3 +124,14 @@ promised s hs premises story p rest is_story split peace =
     at_manager : Stand s hs p → (m : ℕ) (q : Plain) (o : Option History) → slice_get hs m ≡ o → option_map (λ (h : History). (node_after s m p h).manager) o ≡ Some q → AreNamed q.queues
     at_manager z m q None e w = absurd cc
     at_manager z m q (Some h) e w = let same : (node_after s m p h).manager ≡ q = cc in subst (λ (x : Plain). AreNamed x.queues) same (named (node_after s m p h).manager.running (node_after s m p h).manager (z.at m h e).state)
+
+-- with the order
+pub promised_in_order : (s : Scenario) (hs : List History) → Premises s hs → (story p rest : List Line) → IsStory hs story → story ≡ p ++ rest → NoConflict s hs p → Holds s hs p
+promised_in_order s hs premises story p rest is_story split peace =
+    let h : HoldsRows s hs p = promised s hs premises story p rest is_story split peace in
+    record {
+      rows = h.rows;
+      once = h.once;
+      got_once = h.got_once;
+      order = orders s hs p [] p rest premises (subst (IsStory hs) split is_story) peace refl (begins s hs premises);
+    }

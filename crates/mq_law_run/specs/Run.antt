@@ -1,9 +1,11 @@
 -- A network after a prefix of a story, with all its channels: what is kept along a run.
-use Rattle.std.specs.Prelude.{ℕ, Bool, ◌≡◌, ◌==◌, true, false, List, [], ◌∷◌, ◌++◌, Option, Some, slice_get}
+use Rattle.std.specs.Prelude.{ℕ, Bool, ◌≡◌, ◌<◌, ◌≤◌, ◌⊎◌, ◌==◌, true, false, List, [], ◌∷◌, ◌++◌, Option, Some, slice_get}
 use Rattle.mq_message.specs.declared.message.Ident.{Ident}
 use Rattle.mq_frame.specs.declared.frame.Frame.{Frame}
 use Rattle.mq_sync.specs.declared.unit.Unit.{Unit as Luw}
 use Rattle.mq_sync.specs.Units.{Upto}
+use Rattle.mq_sender.specs.declared.state.SenderState.{SenderState}
+use Rattle.mq_sender.specs.declared.state.SenderState.TheVariants as sender_states
 use Rattle.mq_calls.specs.declared.agents.Note.TheVariants as notes
 use Rattle.mq_calls.specs.declared.deltas.Did.TheVariants as did
 use Rattle.mq_history.specs.declared.calls.Actor.TheVariants as actors
@@ -28,6 +30,7 @@ use Rattle.mq_spec_node.specs.Replays.{done_by}
 use Rattle.mq_spec_network.specs.Conflict.{deeds, is_committed}
 use Rattle.mq_spec_network.specs.Given.{name_at}
 use Rattle.mq_spec_network.specs.Ledger.{Ledger, ledger, ledger_rows}
+use Rattle.mq_spec_network.specs.Order.{OrderAt, unit_received}
 use Rattle.mq_spec_network.specs.Promised.{AreDistinct, all_standing}
 use Rattle.mq_spec_network.specs.Standing.{managers_at, node_after, opening_ledger, opening_managers, rows_told, standing}
 use Rattle.mq_spec_network.specs.Story.{Line, Mem}
@@ -43,6 +46,7 @@ use Rattle.mq_law_cables.specs.Joints.{AreCabled, AreJoint}
 use Rattle.mq_law_deeds.specs.Numbers.{AreCountedAt}
 use Rattle.mq_law_stopped.specs.Noted.{EndNote}
 use Rattle.mq_law_one.specs.Alone.{IsAt}
+use Rattle.mq_law_run.specs.Ordered.{AreForced, AreListed, forced_over}
 
 -- a ledger has places where it had some
 abbrev pub Housed : Ledger → Ledger → Type 0
@@ -74,6 +78,30 @@ pub record AreOffered (p : List Line) (i : ℕ) (k : CableLine) (x : Channel) : 
 abbrev pub WasInDoubt : Scenario → List History → ℕ → List ℕ → Luw → Type 0
 WasInDoubt s hs m c u = is_last (holds_of c (slice_get (opening_managers s hs) m)) u ≡ true
 
+-- a sender's end that has hardened the session in which it offers
+abbrev pub is_hailed : SenderState → Bool
+is_hailed sender_states.Inactive = false
+is_hailed (sender_states.Stopped cause) = false
+is_hailed sender_states.Starting = false
+is_hailed sender_states.Hailing = true
+is_hailed sender_states.Binding = true
+is_hailed sender_states.Running = true
+is_hailed (sender_states.Sending sent number) = true
+is_hailed sender_states.Ready = true
+is_hailed sender_states.Waiting = true
+
+-- What a step of a sender's end leaves: its hardened session never falls; it has hailed since it hardened one more; and it offers in that alone.
+pub record IsLater (x z : Channel) : Type 0 where
+  pub session : x.sends.session ≤ z.sends.session
+  pub hailed : is_hailed z.sender.state ≡ true → (is_hailed x.sender.state ≡ true) ⊎ (x.sends.session < z.sends.session)
+  pub out : (f : Frame) → Mem f z.out → Mem f x.out ⊎ ((is_hailed x.sender.state ≡ true) × (f.session ≡ x.sends.session))
+
+-- A unit of an earlier session: the sender's is not below its, and is above it where the end has hailed, as are those of all that it has offered.
+pub record IsAnew (u : Luw) (x : Channel) : Type 0 where
+  pub session : u.session ≤ x.sends.session
+  pub hailed : is_hailed x.sender.state ≡ true → u.session < x.sends.session
+  pub out : (f : Frame) → Mem f x.out → u.session < f.session
+
 -- What is kept along a run: the network's facts and all channels'; what each manager has, and what is told of it.
 pub record Stand (s : Scenario) (hs : List History) (p : List Line) : Type 0 where
   pub given : Ident → Bool
@@ -94,12 +122,15 @@ pub record Stand (s : Scenario) (hs : List History) (p : List Line) : Type 0 whe
   pub cabled : (m : ℕ) (h : History) → slice_get hs m ≡ Some h → AreCabled s.cables m (node_after s m p h).manager
   pub housed : (a : ℕ) (y : ManagerPlaces) → slice_get (ledger (opening_ledger s hs) p).places a ≡ Some y → (h : History) × (slice_get hs a ≡ Some h)
   pub unshared : (m : ℕ) (h : History) → slice_get hs m ≡ Some h → WhereUp (node_after s m p h)
+  pub anew : (k : CableLine) → Mem k s.cables → (u : Luw) → WasInDoubt s hs k.sender k.channel u → IsAnew u (xs k.sender k.channel)
+  pub listed : AreListed ghost (book_of (ledger (opening_ledger s hs) p)).rows (forced_over [] p)
 
 -- A cable's channel and its past after an event of manager m, whose node is then this one.
 pub record IsMoved (s : Scenario) (m : ℕ) (next : Node) (i : ℕ) (k : CableLine) (x : Channel) (z : Channel) (q : Past) : Type 0 where
   pub facts : Facts z q
   pub near : k.sender ≡ m → NearNode (near_at s i k) next z × SameFar x z × Among x.out z.out
   pub far : k.receiver ≡ m → FarNode (far_at s i k) next z × SameNear x z × Among x.back z.back
+  pub later : k.sender ≡ m → IsLater x z
   pub else : (k.sender == m) ≡ false → (k.receiver == m) ≡ false → z ≡ x
 
 -- What an event of the story comes to, the entry x more, from what was kept before it: with this done, and this ledger.
@@ -125,6 +156,8 @@ pub record MovesTo (s : Scenario) (hs : List History) (p : List Line) (x : Line)
   pub counted : AreCountedAt d.next.manager.numbers.connections x.manager l
   pub cabled : AreCabled s.cables x.manager d.next.manager
   pub housed : Housed (ledger (opening_ledger s hs) p) l
+  pub listed : AreForced z.ghost ghost x.entry.effect.delta (book_of (ledger (opening_ledger s hs) p)).rows (book_of l).rows
+  pub order : OrderAt (unit_received x.entry.effect.delta) (forced_over [] p) x (ledger (opening_ledger s hs) p) l
 
 -- with what the entry's event does, and what is posted of it
 abbrev pub Moves : (s : Scenario) (hs : List History) (p : List Line) → Line → History → Stand s hs p → Type 0

@@ -31,7 +31,7 @@ ghost use Rattle.mq_sync.specs.declared.unit.Unit.{Unit as Luw};
 ghost use Rattle.mq_spec_network.specs.Order.{Forced, KeepsQueue, others, unforced};
 ghost use Rattle.mq_spec_network.specs.Conflict.{Deed as ToldDeed, NoConflict, deeds};
 ghost use Rattle.mq_spec_network.specs.Ledger.{ledger};
-ghost use Rattle.mq_spec_network.specs.Promised.{Premises};
+ghost use Rattle.mq_spec_network.specs.Promised.{Premises, Promised};
 ghost use Rattle.mq_spec_network.specs.Standing.{node_after, opening_ledger};
 ghost use Rattle.mq_spec_network.specs.Lawful.{IsLawful};
 ghost use Rattle.mq_spec_network.specs.Story.{IsStory, Line, Mem, entries_at};
@@ -194,9 +194,15 @@ pub fn a_commit_keeps_its_queue()
         → (a : ℕ) (q : List ℕ) → KeepsQueue (tag_idents (g.sent m c u)) (unforced (others c u fs) (b.rows a q)) }
 {}
 
+/// So after each prefix of a lawful story in which no operator's settlement is at odds with its receiver all holds that is promised, the order of
+/// receivers' commits too.
+pub fn networks_keep_all_that_is_promised()
+    ensures { (s : Scenario) (hs : List History) → Promised s hs }
+{}
+
 /// After each prefix of a lawful story in which no operator's settlement is at odds with its receiver (writes may be stopped, and restarts
 /// may find them, or don't): the standing rows of each queue are the ledger's, list for list, and each ident stands once, and is in at most
-/// one committed get. The premises are those of `Promised`; it says nothing of the order of receivers' commits.
+/// one committed get. The premises are those of `Promised`.
 pub fn networks_are_as_promised()
     ensures { (s : Scenario) (hs : List History) → Premises s hs → (story p rest : List Line) → IsStory hs story → story ≡ p ++ rest → NoConflict s hs p → HoldsRows s hs p }
 {}

@@ -1,9 +1,11 @@
 -- A receiver's commit whose write was stopped, where a restart finds it: the manager that the restart makes of it, and what is posted.
 use Rattle.std.proofs.Common.{ℕ, zero, suc, ◌≡◌, ◌≢◌, Bool, true, false, List, [], ◌∷◌, ◌++◌, refl, ap, sym, subst, ◌∙◌, inl, inr, map}
-use Rattle.std.specs.Prelude.{Option, Some, Result, Ok, Err, ◌==◌, filter, slice_get}
+use Rattle.std.specs.Prelude.{Option, Some, Result, Ok, Err, ◌==◌, filter, not, slice_get}
 use Rattle.mq_message.specs.declared.message.Ident.{Ident}
 use Rattle.mq_message.specs.declared.message.Message.{Message}
 use Rattle.mq_codes.specs.declared.reason.Reason.{Reason}
+use Rattle.mq_queue.specs.declared.row.Row.{Row}
+use Rattle.mq_queue.specs.Rows.{keep}
 use Rattle.mq_sync.specs.declared.unit.Unit.{Unit as Luw}
 use Rattle.mq_sync.specs.declared.data.ReceiverData.{ReceiverData}
 use Rattle.mq_sync.specs.Settlement.{receiver_or}
@@ -30,7 +32,8 @@ use Rattle.mq_spec_network.specs.Story.{Mem}
 use Rattle.mq_law_channel.specs.Channel.{Channel, Past}
 use Rattle.mq_law_channel.specs.Following.{Awaited, Placed}
 use Rattle.mq_law_channel.specs.Turns.{receiver_turn, receiver_turned}
-use Rattle.mq_law_rows.specs.World.{Book, Inv, World}
+use Rattle.mq_law_rows.specs.Kinds.{among, place_all}
+use Rattle.mq_law_rows.specs.World.{Book, Inv, World, tag_idents}
 use Rattle.mq_law_rows.proofs.Lists.{bool_case, eqb_yes, is_false}
 use Rattle.mq_law_seen.specs.Seen.{book_of, world_of}
 use Rattle.mq_law_manager.specs.Facts.{IsSound, has_queue}
@@ -46,6 +49,7 @@ use Rattle.mq_law_events.proofs.Telling.{else_changed, here_changed}
 use Rattle.mq_law_batches.proofs.Wording.{stays}
 use Rattle.mq_law_node.specs.Ends.{stamped}
 use Rattle.mq_law_receipts.specs.Receipts.{Comes, IsAwaitedAt, IsCabled, IsShadow}
+use Rattle.mq_law_receipts.proofs.Knowing.{idents_tagged}
 use Rattle.mq_law_receipts.proofs.Landing.{Lands}
 use Rattle.mq_law_receipts.proofs.Losing.{posts_alike, posts_found}
 use Rattle.mq_law_receipts.proofs.Receiving.{IsDone, done_beside, lands_then, posts, receipt_keeps, receipt_told}
@@ -223,6 +227,10 @@ commit_found z p x y l note st ds sender h at joint book placed waits home comes
     ap (λ (xs : List Change). lasting (apply_all xs (logged part.forced p1))) same_changes
     ∙ ap (λ (o : Plain). lasting (apply_all cs (since o p.running was.moment (logged part.forced p1).log))) h.left
     ∙ lasting_was p.running was.moment (logged part.forced p1).log in
+    let unit_idents : tag_idents (z.ghost.sent z.sender c u) ≡ tag_idents (z.ghost.sent z.sender c k.receives.unit) = ap (λ (v : Luw). tag_idents (z.ghost.sent z.sender c v)) (sym far) in
+    let received_idents : ledgers.idents_of st.entry.effect.received ≡ tag_idents (z.ghost.sent z.sender c u) = ap ledgers.idents_of (h.received ∙ lands.taken) ∙ sym (idents_tagged ms) ∙ ap tag_idents awaited.sent in
+    let received_rows : (a : ℕ) (d : List ℕ) → ledgers.ledger_rows a d j ≡ place_all t f.receipt.placings a d (keep (λ (o : Row). not (among (tag_idents (z.ghost.sent z.sender c u)) o.message.ident)) (ledgers.ledger_rows a d l)) =
+    λ a d. ap (ledgers.ledger_rows a d) (sym posted) ∙ f.receipt.rows a d in
     let lasting_n : lasting (redone note p) ≡ image =
     ap (λ (o : Noted). lasting (redone o p)) note_is
     ∙ ap (λ (o : Plain). lasting (apply_all cs (since o p.running p.moment (stands_in (received_record c u last ld) p.log)))) h.left
@@ -259,5 +267,10 @@ commit_found z p x y l note st ds sender h at joint book placed waits home comes
       now = subst (λ (o : Ledger). IsTold t g o) (sym actual) told_i;
       now_users = ap (λ (o : Ledger). o.users) actual ∙ ap (change_at t (set_moment now)) users_i ∙ back;
       others = λ a r ne o. subst (λ (v : Ledger). IsTold a r v) (sym actual) (told_else t now a r i_ ne (receipt_told t a r c ms less l1 (told_else t was.moment a r l ne o)));
+      messages = received_idents ∙ unit_idents;
+      placings = f.receipt.placings;
+      named = f.receipt.named ∙ unit_idents;
+      rows = λ a d. received_rows a d
+          ∙ ap (λ (v : Luw). place_all t f.receipt.placings a d (keep (λ (o : Row). not (among (tag_idents (z.ghost.sent z.sender c v)) o.message.ident)) (ledgers.ledger_rows a d l))) (sym far);
       books = posts_alike z.scenario z.given ps1 p1 p l1 z.ghost z.sender t now c u last ms ld lands awaited inv1 ∙ ap (λ (o : Ledger). book_of (up_again t o)) (sym actual);
     }

@@ -1,7 +1,9 @@
 -- A found write of a sender's end, as what it is of the network: the manager is as its stopped write has left it.
 use Rattle.std.proofs.Common.{ℕ, ◌≡◌, ◌≢◌, Bool, true, false, List, refl, ap, sym, subst, ◌∙◌, inl, inr, arith}
-use Rattle.std.specs.Prelude.{Some, None, ◌+◌, ◌≤◌, ◌≢◌, if◌then◌else◌}
+use Rattle.std.specs.Prelude.{Option, Some, None, ◌+◌, ◌≤◌, ◌≢◌, if◌then◌else◌}
 use Rattle.std.specs.Str.{bytes_eq}
+use Rattle.mq_message.specs.declared.place.Holder.TheVariants as holders
+use Rattle.mq_queue.specs.declared.row.Row.{Row}
 use Rattle.mq_sync.specs.declared.unit.Unit.{Unit as Luw}
 use Rattle.mq_sync.specs.declared.unit.Settle.{Settle}
 use Rattle.mq_sync.specs.declared.unit.Settle.TheVariants as settles
@@ -20,12 +22,13 @@ use Rattle.mq_calls.specs.declared.agents.Note.TheVariants as notes
 use Rattle.mq_calls.specs.declared.deltas.Did.TheVariants as did
 use Rattle.mq_calls.specs.declared.state.Batch.{Batch}
 use Rattle.mq_spec_state.specs.State.{Change, Noted, Plain}
-use Rattle.mq_spec_state.specs.Reads.{batch_of, in_doubt_of, sender_data}
+use Rattle.mq_spec_state.specs.Reads.{batch_of, in_doubt_of, sender_data, stored}
 use Rattle.mq_spec_state.specs.Changes.{apply_all}
 use Rattle.mq_spec_state.specs.Steps.{Part, do_part, stands_in}
 use Rattle.mq_spec_manager.specs.Stops.{redone}
 use Rattle.mq_spec_agents.specs.Words.{harden_part, prepared_changes}
 use Rattle.mq_spec_network.specs.Ledger.{change_at}
+use Rattle.mq_spec_network.specs.Order.{sent_idents}
 use Rattle.mq_spec_network.specs.Story.{Mem}
 use Rattle.mq_spec_node.specs.Node.{Node}
 use Rattle.mq_law_channel.specs.Facts.{now}
@@ -38,7 +41,7 @@ use Rattle.mq_law_channel.proofs.Sending.{binding_is, fits_at, fits_sending, not
 use Rattle.mq_law_channel.proofs.Told.{ack_told, doubt_is, err_told, unit_no, unit_yes}
 use Rattle.mq_law_rows.specs.Kinds.{after, freed}
 use Rattle.mq_law_rows.proofs.Lists.{bool_case, name_self, true_false}
-use Rattle.mq_law_seen.specs.Seen.{doubt_of, held_unit, holds_of, last_of, world_of}
+use Rattle.mq_law_seen.specs.Seen.{doubt_of, held_unit, holds_of, last_of, rows_of, world_of}
 use Rattle.mq_law_manager.proofs.Receiving.{log_aside}
 use Rattle.mq_law_events.specs.Tied.{IsNext}
 use Rattle.mq_law_batches.specs.Releases.{IsWord, settled_changes}
@@ -55,7 +58,7 @@ use Rattle.mq_law_turns.proofs.Agreeing.{backout_tells, commit_tells, sender_tel
 use Rattle.mq_law_turns.proofs.Operating.{resolves_backout, resolves_commit, resolves_committed}
 use Rattle.mq_law_turns.proofs.Parts.{changed, doubt_held, here_holds, next_mid, not_doubted, part_stays, same_turned, turned_on, world_behind}
 use Rattle.mq_law_turns.proofs.Sending.{IsSending, Settling, settled_left, settled_only, settled_some, settles_so}
-use Rattle.mq_law_stopped.specs.Noted.{IsDown, IsSettling, IsTurn, Redone, SenderKind, SenderNote, left_as}
+use Rattle.mq_law_stopped.specs.Noted.{IsDown, IsForcing, IsSettling, IsTurn, Redone, SenderKind, SenderNote, left_as}
 use Rattle.mq_law_stopped.specs.Noted.SenderKind.{Begins, Numbers, Prepares, Resolves, Settles}
 
 -- what is noted is done, and its record stands in the log
@@ -126,6 +129,7 @@ prepared z n x k y b last rs a s is far h =
       sent = λ o e v f. refl;
       operated = λ o e v f. refl;
       own = λ v e. inl e;
+      kept = λ v e. refl;
       loose = λ o e v f. f;
     })
 
@@ -186,6 +190,9 @@ settled z n x k y false note rs a o free was not_ far says h =
 none_commits : (z : Scene) (note : Noted) (x : Channel) (u : Luw) → None ≡ Some u → Mem (did.Hardened z.place.channel (notes.Resolved u true true)) note.delta × (Upto u x.receives.unit → ⊥)
 none_commits z note x u e = absurd cc
 
+none_forces : (z : Scene) (note : Noted) (u : Luw) → None ≡ Some u → IsForcing (world_in z) z.sender z.place.channel u note.delta
+none_forces z note u e = absurd cc
+
 turn_on : (z : Scene) (note : Noted) (x : Channel) (y : Past) (t : SenderTurn) (d : SenderDoes) (rs : List Plain) → IsTurn t d x → Turned z (world_of z.scenario z.given rs) (sender_done d t x) (past_done d t y) → Redone z note x y (NearStep.Turn t) rs
 turn_on z note x y t d rs is v = record {
   by = None;
@@ -193,6 +200,7 @@ turn_on z note x y t d rs is v = record {
       (subst (λ (l : Past). TurnedBy None z (world_of z.scenario z.given rs) (sender_done d t x) l) (λ i. past_turned (sym is.done i) (sym is.does i) t y) v);
   tells = λ ps ds f h. sender_tells z.scenario ps ds z.sender z.place.channel x y t h;
   commits = λ u e. none_commits z note x u e;
+  forces = λ u e. none_forces z note u e;
 }
 
 begins : (z : Scene) (n : Node) (x : Channel) (y : Past) (note : Noted) (t : SenderTurn) (partner : List ℕ) (session : ℕ) (rs : List Plain) → IsDown z n x y → IsTurn t (does.HardenSession session) x
@@ -278,6 +286,7 @@ numbers z n x y note last rs a says h = record {
   turned = worded z n x (sender_numbered last x) y y note (notes.SeqSet ends.Sender last) rs a tt says refl refl refl refl (λ u. refl) (λ u k. k) h;
   tells = λ ps ds f i. record { undone = i.undone; last = i.last };
   commits = λ u e. none_commits z note x u e;
+  forces = λ u e. none_forces z note u e;
 }
 
 -- what an operator's write does to the manager, as if it had run
@@ -294,9 +303,10 @@ upto_both u v e f = unit_eq u v (grind (arith, e, f)) (grind (arith, e, f))
 
 resolves : (z : Scene) (n : Node) (x : Channel) (y : Past) (note : Noted) (settle : Settle) (d : InDoubt) (rs : List Plain) → IsDown z n x y → is_running x.sender.state ≡ false → x.sends.in_doubt ≡ Some d → batch_of z.place.channel n.manager.channels.batches ≡ None
     → note.changes ≡ settled_changes (is_commit settle) z.place.channel (sender_or (sender_data z.place.channel n.manager)) → Mem (did.Hardened z.place.channel (notes.Resolved d.unit (is_commit settle) true)) note.delta
+    → (is_commit settle ≡ true → (q : List ℕ) (r : Row) → Mem r (stored q n.manager).rows → r.by ≡ Some (holders.Batch z.place.channel) → Mem r.message.ident (sent_idents note.delta))
     → (Mem (did.Hardened z.place.channel (notes.Resolved d.unit false true)) note.delta → 1 ≤ d.unit.n → x.receives.unit ≢ d.unit)
     → IsNext z.sender n.manager (redone note n.manager) z.managers rs → Redone z note x y (NearStep.Resolve settle d) rs
-resolves z n x y note settles.Commit d rs a still is free says told right h =
+resolves z n x y note settles.Commit d rs a still is free says told rows right h =
     let c : List ℕ = z.place.channel in
     let p : Plain = n.manager in
     let off : is_sending x.sender.state ≡ false = resting_apart x.sender.state still in
@@ -313,6 +323,7 @@ resolves z n x y note settles.Commit d rs a still is free says told right h =
       turned = turned_on z _ (world_of z.scenario z.given rs) _ _ world (resolves_committed z n x y d d.unit ran at is off (unit_yes x.receives.unit d.unit f) next);
       tells = λ ps ds g i. commit_tells z.scenario ps ds z.sender c x y d i;
       commits = λ u e. none_commits z note x u e;
+      forces = λ u e. none_forces z note u e;
     })
     (λ t f. record {
       by = Some d.unit;
@@ -323,11 +334,19 @@ resolves z n x y note settles.Commit d rs a still is free says told right h =
             subst (λ (v : Luw). Mem (did.Hardened c (notes.Resolved v true true)) note.delta) same told,
             λ b. unit_no x.receives.unit d.unit f (upto_both x.receives.unit d.unit above (subst (λ (v : Luw). Upto v x.receives.unit) (sym same) b)),
           );
+      forces = λ u e.
+          let same : d.unit ≡ u = some_unit d.unit u e in
+          subst (λ (v : Luw). IsForcing (world_in z) z.sender c v note.delta) same (record {
+            holds = (a.joint.tied.held held.2).0 ∙ held.0;
+            new = λ b. unit_no x.receives.unit d.unit f (sym a.joint.tied.last ∙ b);
+            told = told;
+            rows = λ q r k by_. rows refl q r (subst (λ (o : Option Plain). Mem r (rows_of q o)) a.at k) by_;
+          });
     }) refl
   where
     some_unit : (v u : Luw) → Some v ≡ Some u → v ≡ u
     some_unit v u e = cc
-resolves z n x y note settles.Backout d rs a still is free says told right h =
+resolves z n x y note settles.Backout d rs a still is free says told rows right h =
     let c : List ℕ = z.place.channel in
     let p : Plain = n.manager in
     let off : is_sending x.sender.state ≡ false = resting_apart x.sender.state still in
@@ -342,6 +361,7 @@ resolves z n x y note settles.Backout d rs a still is free says told right h =
       turned = turned_on z _ (world_of z.scenario z.given rs) _ _ world (resolves_backout z n x y d d.unit ran at is off (right told (a.facts.sound.held d.unit held.0).0) next);
       tells = λ ps ds g i. backout_tells z.scenario ps ds z.sender c x y d (g (notes.Resolved d.unit false true) told) i;
       commits = λ u e. none_commits z note x u e;
+      forces = λ u e. none_forces z note u e;
     }
 
 -- EACH
@@ -351,9 +371,9 @@ near_by z n x y note way rs a may (Begins t partner session is turn says) right 
 near_by z n x y note way rs a may (Prepares t batch last is turn found says) right h = subst (λ (w : NearStep). Redone z note x y w rs) (sym is) (prepares z n x y note t batch last rs a turn found says h)
 near_by z n x y note way rs a may (Settles t d commit is turn so free says) right h = subst (λ (w : NearStep). Redone z note x y w rs) (sym is)
     (settles_ z n x y note t d commit rs a (subst (λ (w : NearStep). NearMay w x) is may) turn so free says h)
-near_by z n x y note way rs a may (Resolves settle d is free says told) right h =
+near_by z n x y note way rs a may (Resolves settle d is free says told rows) right h =
     let m : NearMay (NearStep.Resolve settle d) x = subst (λ (w : NearStep). NearMay w x) is may in
-    subst (λ (w : NearStep). Redone z note x y w rs) (sym is) (resolves z n x y note settle d rs a m.0 m.1 free says told (right d) h)
+    subst (λ (w : NearStep). Redone z note x y w rs) (sym is) (resolves z n x y note settle d rs a m.0 m.1 free says told rows (right d) h)
 near_by z n x y note way rs a may (Numbers last is says) right h = subst (λ (w : NearStep). Redone z note x y w rs) (sym is) (numbers z n x y note last rs a says h)
 
 pub near_redone : (z : Scene) (n : Node) (x : Channel) (y : Past) (note : Noted) (k : SenderNote z.place.channel (left_as n.manager) note x) (rs : List Plain) → IsDown z n x y

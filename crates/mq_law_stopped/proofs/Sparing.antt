@@ -43,14 +43,14 @@ pub sender_spares : (c : List ℕ) (b : Plain) (note : Noted) (x : Channel) (way
 sender_spares c b note x way other old (Begins t partner session is turn says) e = subst (SparesSender other old) (sym says) (one_set (bytes_eq other c) _ old e)
 sender_spares c b note x way other old (Prepares t batch last is turn found says) e = subst (SparesSender other old) (sym says) (one_set (bytes_eq other c) _ old e)
 sender_spares c b note x way other old (Settles t d commit is turn so free says) e = subst (SparesSender other old) (sym says) (settled_sender commit c other (sender_or (sender_data c b)) old e)
-sender_spares c b note x way other old (Resolves settle d is free says told) e = subst (SparesSender other old) (sym says) (settled_sender (is_commit settle) c other (sender_or (sender_data c b)) old e)
+sender_spares c b note x way other old (Resolves settle d is free says told rows) e = subst (SparesSender other old) (sym says) (settled_sender (is_commit settle) c other (sender_or (sender_data c b)) old e)
 sender_spares c b note x way other old (Numbers last is says) e = subst (SparesSender other old) (sym says) (one_set (bytes_eq other c) _ old e)
 
 pub sender_leaves : (c : List ℕ) (b : Plain) (note : Noted) (x : Channel) (way : NearStep) (other : List ℕ) (old : Option ReceiverData) → SenderKind c b note x way → SparesReceiver other old note.changes
 sender_leaves c b note x way other old (Begins t partner session is turn says) = subst (SparesReceiver other old) (sym says) refl
 sender_leaves c b note x way other old (Prepares t batch last is turn found says) = subst (SparesReceiver other old) (sym says) refl
 sender_leaves c b note x way other old (Settles t d commit is turn so free says) = subst (SparesReceiver other old) (sym says) (settled_receiver commit c other (sender_or (sender_data c b)) old)
-sender_leaves c b note x way other old (Resolves settle d is free says told) = subst (SparesReceiver other old) (sym says) (settled_receiver (is_commit settle) c other (sender_or (sender_data c b)) old)
+sender_leaves c b note x way other old (Resolves settle d is free says told rows) = subst (SparesReceiver other old) (sym says) (settled_receiver (is_commit settle) c other (sender_or (sender_data c b)) old)
 sender_leaves c b note x way other old (Numbers last is says) = subst (SparesReceiver other old) (sym says) refl
 
 pub word_spares : (c : List ℕ) (w : Note) (p : Plain) (other : List ℕ) (old : Option SenderData) → IsWord w → bytes_eq other c ≡ false → SparesSender other old (harden_part c w p).changes

@@ -33,7 +33,7 @@ kind_stays : (c : List ℕ) (b : Plain) (note : Noted) (step : NearStep) (a : Re
 kind_stays c b note way a r k o x (Begins t partner session is turn says) = Begins t partner session is (record { done = turn.done; does = turn.does }) says
 kind_stays c b note way a r k o x (Prepares t batch last is turn found says) = Prepares t batch last is (record { done = turn.done; does = turn.does }) found says
 kind_stays c b note way a r k o x (Settles t d commit is turn so free says) = Settles t d commit is (record { done = turn.done; does = turn.does }) so free says
-kind_stays c b note way a r k o x (Resolves settle d is free says told) = Resolves settle d is free says told
+kind_stays c b note way a r k o x (Resolves settle d is free says told rows) = Resolves settle d is free says told rows
 kind_stays c b note way a r k o x (Numbers last is says) = Numbers last is says
 
 sender_stays : (c : List ℕ) (b : Plain) (note : Noted) (x d : Channel) → SameNear x d → ((f : Frame) → Mem f x.back → Mem f d.back) → SenderNote c b note x → SenderNote c b note d

@@ -1,6 +1,9 @@
 -- What the stopped write of a channel's end leaves: a step of its channel, and the change of the network that a restart may still do.
-use Rattle.std.specs.Prelude.{ℕ, Bool, true, false, not, ◌&&◌, ◌≡◌, ◌==◌, ◌⊎◌, List, [], ◌∷◌, Ok, Option, Some, None, map, slice_get}
+use Rattle.std.specs.Prelude.{ℕ, Bool, true, false, not, ◌&&◌, ◌≡◌, ◌≢◌, ◌==◌, ◌⊎◌, List, [], ◌∷◌, Ok, Option, Some, None, map, slice_get}
 use Rattle.mq_message.specs.declared.message.Message.{Message}
+use Rattle.mq_message.specs.declared.place.Holder.TheVariants as holders
+use Rattle.mq_queue.specs.declared.row.Row.{Row}
+use Rattle.mq_queue.specs.Rows.{keep}
 use Rattle.mq_sync.specs.declared.unit.Unit.{Unit as Luw}
 use Rattle.mq_sync.specs.declared.unit.Settle.{Settle}
 use Rattle.mq_sync.specs.declared.unit.Settle.TheVariants as settles
@@ -22,7 +25,7 @@ use Rattle.mq_history.specs.declared.scenario.CableLine.{CableLine}
 use Rattle.mq_history.specs.declared.scenario.Scenario.{Scenario}
 use Rattle.mq_spec_state.specs.State.{LogState, Noted, Plain, Running}
 use Rattle.mq_spec_state.specs.State.Running.{Up}
-use Rattle.mq_spec_state.specs.Reads.{batch_of, in_doubt_of, receiver_data, sender_data}
+use Rattle.mq_spec_state.specs.Reads.{batch_of, in_doubt_of, receiver_data, sender_data, stored}
 use Rattle.mq_spec_state.specs.Changes.{apply_all}
 use Rattle.mq_spec_state.specs.Images.{lasting}
 use Rattle.mq_spec_state.specs.Steps.{Part, do_part, freeze, volatile_gone}
@@ -36,7 +39,7 @@ use Rattle.mq_spec_agents.specs.Words.{Landed, harden_part, landed, prepared_cha
 use Rattle.mq_spec_network.specs.Conflict.{Deed as ToldDeed}
 use Rattle.mq_spec_network.specs.Ledger as ledgers
 use Rattle.mq_spec_network.specs.Ledger.{Ledger}
-use Rattle.mq_spec_network.specs.Order.{unit_received}
+use Rattle.mq_spec_network.specs.Order.{sent_idents, unit_received}
 use Rattle.mq_spec_network.specs.Story.{Mem}
 use Rattle.mq_spec_node.specs.Node.{Node, end_in}
 use Rattle.mq_spec_node.specs.Node.ChannelEnd.{Sends}
@@ -54,6 +57,8 @@ use Rattle.mq_law_receipts.specs.Receipts.{Comes}
 use Rattle.mq_law_turns.specs.Agreed.{IsToldOf}
 use Rattle.mq_law_turns.specs.Turns.{IsJoint, Scene, Taken, TurnedBy, world_in}
 use Rattle.mq_law_events.specs.Tied.{IsFresh, IsNext, IsTold}
+use Rattle.mq_law_rows.specs.Kinds.{Landing, among, place_all}
+use Rattle.mq_law_rows.specs.World.{World, tag_idents}
 use Rattle.mq_law_seen.specs.Seen.{book_of, world_of}
 
 -- a turn of a sender that came to this
@@ -69,13 +74,22 @@ IsSettling does.Commit commit = commit ≡ true
 IsSettling (does.Backout reason) commit = commit ≡ false
 IsSettling _ commit = ⊥
 
+-- What an operator's commit rests on, and tells: the sender holds the unit, its receiver has not committed it, and of each row that the batch holds
+-- it is told that it was sent.
+pub record IsForcing (w : World) (m : ℕ) (c : List ℕ) (u : Luw) (ds : List Did) : Type 0 where
+  pub holds : w.holds m c ≡ Some u
+  pub new : w.last m c ≢ u
+  pub told : Mem (did.Hardened c (notes.Resolved u true true)) ds
+  pub rows : (q : List ℕ) (r : Row) → Mem r (w.rows m q) → r.by ≡ Some (holders.Batch c) → Mem r.message.ident (sent_idents ds)
+
 -- What a sender's write is: by its turn a session that is hardened, a batch that is prepared, a unit that is settled; by an operator a
 -- unit that is settled, or the last number.
 pub data SenderKind (c : List ℕ) (b : Plain) (note : Noted) (x : Channel) (step : NearStep) : Type 0 where
   Begins : (t : SenderTurn) → (partner : List ℕ) → (session : ℕ) → step ≡ NearStep.Turn t → IsTurn t (does.HardenSession session) x → note.changes ≡ (harden_part c (notes.Session partner session) b).changes → SenderKind c b note x step
   Prepares : (t : SenderTurn) → (batch : Batch) → (last : ℕ) → step ≡ NearStep.Turn t → IsTurn t does.Prepare x → batch_of c b.channels.batches ≡ Some batch → note.changes ≡ prepared_changes c last batch (sender_or (sender_data c b)) → SenderKind c b note x step
   Settles : (t : SenderTurn) → (d : SenderDoes) → (commit : Bool) → step ≡ NearStep.Turn t → IsTurn t d x → IsSettling d commit → batch_of c b.channels.batches ≡ None → note.changes ≡ settled_changes commit c (sender_or (sender_data c b)) → SenderKind c b note x step
-  Resolves : (settle : Settle) → (d : InDoubt) → step ≡ NearStep.Resolve settle d → batch_of c b.channels.batches ≡ None → note.changes ≡ settled_changes (is_commit settle) c (sender_or (sender_data c b)) → Mem (did.Hardened c (notes.Resolved d.unit (is_commit settle) true)) note.delta → SenderKind c b note x step
+  Resolves : (settle : Settle) → (d : InDoubt) → step ≡ NearStep.Resolve settle d → batch_of c b.channels.batches ≡ None → note.changes ≡ settled_changes (is_commit settle) c (sender_or (sender_data c b)) → Mem (did.Hardened c (notes.Resolved d.unit (is_commit settle) true)) note.delta
+      → (is_commit settle ≡ true → (q : List ℕ) (r : Row) → Mem r (stored q b).rows → r.by ≡ Some (holders.Batch c) → Mem r.message.ident (sent_idents note.delta)) → SenderKind c b note x step
   Numbers : (last : ℕ) → step ≡ NearStep.Number last → note.changes ≡ (harden_part c (notes.SeqSet ends.Sender last) b).changes → SenderKind c b note x step
 
 -- A sender's noted write: a step that its channel may take, which offers nothing, and what it is.
@@ -167,6 +181,7 @@ pub record RedoneTo (z : Scene) (note : Noted) (x : Channel) (y : Past) (k : Cha
   pub turned : TurnedBy by z (world_of z.scenario z.given rs) k l
   pub tells : (ps : List Plain) (ds : List ToldDeed) → ((w : Note) → Mem (did.Hardened z.place.channel w) note.delta → Mem (told_at z.sender (did.Hardened z.place.channel w)) ds) → IsToldOf z.scenario ps ds z.sender z.place.channel x y → IsToldOf z.scenario ps ds z.sender z.place.channel k l
   pub commits : (u : Luw) → by ≡ Some u → Mem (did.Hardened z.place.channel (notes.Resolved u true true)) note.delta × (Upto u x.receives.unit → ⊥)
+  pub forces : (u : Luw) → by ≡ Some u → IsForcing (world_in z) z.sender z.place.channel u note.delta
 
 abbrev pub Redone : (z : Scene) (note : Noted) (x : Channel) (y : Past) (step : NearStep) (rs : List Plain) → Type 0
 Redone z note x y step rs = RedoneTo z note x y (near_does step x) (near_past step x y) rs
@@ -238,4 +253,9 @@ pub record CommitFound (z : Scene) (p : Plain) (l : Ledger) (note : Noted) (st :
   pub now : IsTold z.receiver behind (posted_again z.receiver st (redone_delta true (Some note) p) l)
   pub now_users : (posted_again z.receiver st (redone_delta true (Some note) p) l).users ≡ l.users
   pub others : (a : ℕ) (r : Plain) → (a == z.receiver) ≡ false → IsTold a r l → IsTold a r (posted_again z.receiver st (redone_delta true (Some note) p) l)
+  pub messages : ledgers.idents_of st.entry.effect.received ≡ tag_idents (z.ghost.sent z.sender z.place.channel k.receives.unit)
+  pub placings : List Landing
+  pub named : map (λ (o : Landing). o.row.message.ident) placings ≡ tag_idents (z.ghost.sent z.sender z.place.channel k.receives.unit)
+  pub rows : (a : ℕ) (d : List ℕ) → ledgers.ledger_rows a d posted
+      ≡ place_all z.receiver placings a d (keep (λ (o : Row). not (among (tag_idents (z.ghost.sent z.sender z.place.channel k.receives.unit)) o.message.ident)) (ledgers.ledger_rows a d l))
   pub books : book_of (ledgers.up_again z.receiver posted) ≡ book_of (ledgers.up_again z.receiver (posted_again z.receiver st (redone_delta true (Some note) p) l))

@@ -150,6 +150,7 @@ committed_there by_ z n x y d rs a o free so h =
       sent = λ q e v f. refl;
       operated = λ q e v f. refl;
       own = λ v e. inl e;
+      kept = λ v e. refl;
       loose = λ q e v f. f;
     })
 
@@ -178,6 +179,7 @@ forced_there z n x y d rs a o free not_so h =
       operated = λ q e v f. ap (λ t. if t && same_unit v o.doubt.unit then true else z.ghost.operated q e v) f;
       own = λ v e. bool_case (is_here z.sender c z.sender c && same_unit v o.doubt.unit) (λ t. (is_here z.sender c z.sender c && same_unit v o.doubt.unit) ≡ t → (if t then true else z.ghost.operated z.sender c v) ≡ true → (z.ghost.operated z.sender c v ≡ true) ⊎ (Some d.unit ≡ Some v))
           (λ t f k. inr (ap (λ (u : Luw). Some u) (sym o.unit ∙ sym (unit_is v o.doubt.unit f)))) (λ t f k. inl k) refl e;
+      kept = λ v e. refl;
       loose = λ q e v f. f;
     })
   where
@@ -203,6 +205,7 @@ undone_there z n x y d rs a o free not_so h =
       sent = λ q e v f. refl;
       operated = λ q e v f. refl;
       own = λ v e. inl e;
+      kept = λ v e. refl;
       loose = λ q e v f. f;
     })
 

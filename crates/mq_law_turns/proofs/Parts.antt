@@ -114,6 +114,7 @@ same_turned z x k y l j far holds doubt forced content rises = record {
   sent = λ a d u e. refl;
   operated = λ a d u e. refl;
   own = λ u e. inl e;
+  kept = λ u e. refl;
   loose = λ a d u e. e;
   holds = λ a d e. refl;
   doubt = λ a d e. refl;
@@ -134,6 +135,7 @@ pub record IsLeft (o : Option Luw) (z : Scene) (q : Plain) (g : Ghost) (x k : Ch
   pub sent : (a : ℕ) (d : List ℕ) (u : Luw) → is_here z.sender z.place.channel a d ≡ false → g.sent a d u ≡ z.ghost.sent a d u
   pub operated : (a : ℕ) (d : List ℕ) (u : Luw) → is_here z.sender z.place.channel a d ≡ false → g.operated a d u ≡ z.ghost.operated a d u
   pub own : (u : Luw) → g.operated z.sender z.place.channel u ≡ true → (z.ghost.operated z.sender z.place.channel u ≡ true) ⊎ (o ≡ Some u)
+  pub kept : (u : Luw) → g.operated z.sender z.place.channel u ≡ true → g.sent z.sender z.place.channel u ≡ z.ghost.sent z.sender z.place.channel u
   pub loose : (a : ℕ) (d : List ℕ) (u : Luw) → g.loose a d u ≡ true → z.ghost.loose a d u ≡ true
 
 pub changed : {o : Option Luw} (z : Scene) (p q : Plain) (qs : List Plain) (g : Ghost) (x k : Channel) (y l : Past) → IsJoint (world_in z) z.ghost z.book z.sender z.receiver z.place.channel x y → IsNext z.sender p q z.managers qs → IsOnly z.place.channel p q
@@ -157,6 +159,7 @@ changed z p q qs g x k y l j n only inv left =
       sent = left.sent;
       operated = left.operated;
       own = left.own;
+      kept = left.kept;
       loose = left.loose;
       holds = λ a d e. else_holds z.sender p q z.managers qs z.place.channel a d n only e;
       doubt = λ a d e. else_doubt z.sender p q z.managers qs z.place.channel a d n only e;

@@ -47,7 +47,7 @@ use Rattle.mq_law_channel.specs.Following.{Said, WasCommitted, WasNot}
 use Rattle.mq_law_channel.specs.Turns.{SenderTurn, SeenIn, begun_unit, emptied, past_turned, sender_done, sender_past, sender_turn, sender_turned}
 use Rattle.mq_law_channel.proofs.Following.{said}
 use Rattle.mq_law_channel.proofs.Sending.{binding_is, fits_at, fits_sending, idle_is, kept_session, not_forced, waiting_is}
-use Rattle.mq_law_channel.proofs.Told.{ack_told, and_both, by_lines, doubt_is, err_told, given_self, no_doubt, unit_self}
+use Rattle.mq_law_channel.proofs.Told.{ack_told, and_both, by_lines, doubt_is, err_told, given_self, no_doubt, unit_self, unit_yes}
 use Rattle.mq_law_rows.specs.Families.{is_here}
 use Rattle.mq_law_rows.specs.World.{Ghost, Inv, Tag, World, away, idents_in, row_stands, standing, stands, tag_idents, tag_of}
 use Rattle.mq_law_rows.specs.Kinds.{Chosen, after, freed, ghost_take, unit_at}
@@ -279,6 +279,8 @@ begun_turned z n x k y u count rs a idle alone far is h =
       sent = λ o d v e. sent_else z.ghost z.sender q c u ts front o d v e;
       operated = λ o d v e. refl;
       own = λ v e. inl e;
+      kept = λ v e. bool_case (unit_at z.sender c u z.sender c v) (λ t. unit_at z.sender c u z.sender c v ≡ t → (if t then ts else z.ghost.sent z.sender c v) ≡ z.ghost.sent z.sender c v)
+          (λ t f. absurd (true_false (sym e ∙ ap (z.ghost.operated z.sender c) (unit_yes v u (sym (ap (λ b. b && same_unit v u) (here_self z.sender c)) ∙ f)) ∙ fresh))) (λ t f. refl) refl;
       loose = λ o d v e. bool_case (unit_at z.sender c u o d v) (λ t. (if t then not front else z.ghost.loose o d v) ≡ true → z.ghost.loose o d v ≡ true)
           (λ t f. absurd (true_false (sym (twice (has_held q p) f) ∙ clear_queue z n x y a idle alone))) (λ t f. f) e;
     })
@@ -342,6 +344,7 @@ prepared_turned z n x k y b last rs a s is far h =
       sent = λ o e v f. refl;
       operated = λ o e v f. refl;
       own = λ v e. inl e;
+      kept = λ v e. refl;
       loose = λ o e v f. f;
     })
 
@@ -368,6 +371,7 @@ released_turned z n x k y b rs a s is far h =
       sent = λ o e v f. refl;
       operated = λ o e v f. refl;
       own = λ v e. inl e;
+      kept = λ v e. refl;
       loose = λ o e v f. f;
     })
   where
@@ -433,6 +437,7 @@ settled_left z n commit x k y g a free far ops loose sent =
       sent = λ o e v f i. sent i o e v;
       operated = λ o e v f i. ops i o e v;
       own = λ v e. inl (sym (λ i. ops i z.sender c v) ∙ e);
+      kept = λ v e i. sent i z.sender c v;
       loose = λ o e v f. sym (λ i. loose i o e v) ∙ f;
     }
 
@@ -532,6 +537,7 @@ status_none z n x k y st rs a binds none far h =
       sent = λ o d v f. refl;
       operated = λ o d v f. refl;
       own = λ v e. inl e;
+      kept = λ v e. refl;
       loose = λ o e v f. f;
     }))
 

@@ -82,13 +82,15 @@ pub record IsAtFar (z : Scene) (n : Node) (x : Channel) (y : Past) (l : Ledger) 
 abbrev pub IsAlone : Scene → Node → Channel → Type 0
 IsAlone z n x = is_running x.sender.state ≡ true → has_held_by_other z.place.channel (queue_of_sender z.place.channel n.manager) n.manager ≡ false
 
--- So it is again; and what any other channel is tied to stays as it was. An operator may have committed a unit with it.
+-- So it is again; and what any other channel is tied to stays as it was, and what a unit has that an operator has committed. He may have committed
+-- one with it.
 pub record TurnedBy (o : Option Luw) (z : Scene) (v : World) (x : Channel) (y : Past) : Type 0 where
   pub ghost : Ghost
   pub joint : IsJoint v ghost z.book z.sender z.receiver z.place.channel x y
   pub sent : (a : ℕ) (d : List ℕ) (u : Luw) → is_here z.sender z.place.channel a d ≡ false → ghost.sent a d u ≡ z.ghost.sent a d u
   pub operated : (a : ℕ) (d : List ℕ) (u : Luw) → is_here z.sender z.place.channel a d ≡ false → ghost.operated a d u ≡ z.ghost.operated a d u
   pub own : (u : Luw) → ghost.operated z.sender z.place.channel u ≡ true → (z.ghost.operated z.sender z.place.channel u ≡ true) ⊎ (o ≡ Some u)
+  pub kept : (u : Luw) → ghost.operated z.sender z.place.channel u ≡ true → ghost.sent z.sender z.place.channel u ≡ z.ghost.sent z.sender z.place.channel u
   pub loose : (a : ℕ) (d : List ℕ) (u : Luw) → ghost.loose a d u ≡ true → z.ghost.loose a d u ≡ true
   pub holds : (a : ℕ) (d : List ℕ) → is_here z.sender z.place.channel a d ≡ false → v.holds a d ≡ (world_in z).holds a d
   pub doubt : (a : ℕ) (d : List ℕ) → is_here z.sender z.place.channel a d ≡ false → v.doubt a d ≡ (world_in z).doubt a d

@@ -1,4 +1,4 @@
-pub mod RowLaws
-pub mod CallerLaws
 pub mod BookLaws
+pub mod CallerLaws
 pub mod ObjectLaws
+pub mod PlacedLaws

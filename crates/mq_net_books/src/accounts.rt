@@ -13,10 +13,10 @@ ghost use Rattle.mq_fill.specs.Drafts.{message_of};
 ghost use Rattle.mq_spec_state.specs.Changes.{lane_of};
 ghost use Rattle.mq_objects.specs.Names.{local_of, process_of, is_object, space_of, name_of};
 ghost use Rattle.mq_spec_network.specs.Ledger.{place_at, leave_queues, is_one_of, is_placed_at, row_in, nobody};
+ghost use Rattle.mq_net_rows.specs.Stored.{AreSorted};
 ghost use Rattle.mq_net_books.specs.Openings.{AreNewFrom, IsSettled};
 
 use crate::no_use::NoUse;
-use crate::rows::{is_on, leave_ident, leave_idents, leave_lasting, put_in, row_in};
 use mq_base::{Items, NoMemory};
 use mq_calls::{Appl, ScRefusal, Shelf, Shown};
 use mq_codes::Reason;
@@ -24,6 +24,7 @@ use mq_fill::{Draft, make_draft};
 use mq_history::ManagerPlaces;
 use mq_message::{Bytes, Ident, Md, Message};
 use mq_name::QName;
+use mq_net_rows::Shelves;
 use mq_objects::{Command, Definitions, Defs, Delivery, LocalQueue, Object, Process};
 use mq_queue::{Row, lane_at};
 use mq_resolve::{PathStep, Route, RouteEnd, resolve};
@@ -36,7 +37,7 @@ use std::marker::Model;
 pub struct Account {
     name: QName,
     defs: Defs,
-    queues: Items<Shelf>,
+    queues: Shelves,
 }
 
 impl Model for Account {
@@ -151,10 +152,12 @@ impl Account {
         definitions: &Definitions,
         queues: Items<Shelf>,
     ) -> Result<Account, NoMemory>
-        requires { AreNewFrom [] definitions.now.objects }
+        requires fresh { AreNewFrom [] definitions.now.objects }
+        requires sorted { AreSorted queues }
         ensures { IfOk result (λ a. a ≡ record { name = name; definitions = definitions.now; queues = queues }) }
     {
         let defs = defs_of(alloc, definitions)?;
+        let queues = Shelves::from_shelves(alloc, queues)?;
         Ok(Account { name, defs, queues })
     }
 
@@ -165,7 +168,7 @@ impl Account {
         Account {
             name: QName::blank(),
             defs: Defs::new(alloc),
-            queues: Items::new(alloc),
+            queues: Shelves::new(alloc),
         }
     }
 
@@ -174,55 +177,56 @@ impl Account {
         ensures { IfOk result (λ p. p ≡ self) }
     {
         let definitions = copy_definitions(alloc, &self.defs)?;
+        let queues = self.queues.to_shelves()?;
         Ok(ManagerPlaces {
             name: self.name,
             definitions,
-            queues: self.queues,
+            queues,
         })
     }
 
     /// A message is placed on the queue of a name.
-    pub fn place(&mut self, alloc: Global, name: &QName, message: Message) -> Result<(), NoMemory>
+    pub fn place(&mut self, name: &QName, message: Message) -> Result<(), NoMemory>
         ensures { OnOk result (self.new ≡ place_at name.now message self.old) }
     {
         let lane = lane_of(self.defs.local(name), message.md.priority);
-        put_in(alloc, &mut self.queues, name, lane, message)
+        self.queues.put_in(name, lane, message)
     }
 
     /// Whether a row of an ident stands here.
-    #[tactic(auto, using(crate::proofs::RowLaws::placed))]
+    #[tactic(auto, using(crate::proofs::PlacedLaws::placed))]
     pub fn has(&self, ident: &Ident) -> bool
         ensures { result ≡ is_placed_at ident.now self.now }
     {
-        is_on(&self.queues, ident)
+        self.queues.has(ident)
     }
 
     /// The first row of an ident.
     pub fn row(&self, ident: &Ident) -> Option<&Row>
         ensures { option_copied result ≡ row_in ident.now self.now.queues }
     {
-        row_in(self.queues.as_slice(), ident)
+        self.queues.row(ident)
     }
 
     /// No row of an ident stays.
-    pub fn take(&mut self, alloc: Global, ident: &Ident)
+    pub fn take(&mut self, ident: &Ident)
         ensures { self.new ≡ record self.old { queues = leave_queues (λ (row : Row). not (has_ident ident.now row)) self.old.queues } }
     {
-        leave_ident(alloc, &mut self.queues, ident);
+        self.queues.leave(ident);
     }
 
     /// No row of these idents stays.
-    pub fn take_all(&mut self, alloc: Global, idents: &[Ident])
+    pub fn take_all(&mut self, idents: &[Ident])
         ensures { self.new ≡ record self.old { queues = leave_queues (λ (row : Row). not (is_one_of idents.now row)) self.old.queues } }
     {
-        leave_idents(alloc, &mut self.queues, idents);
+        self.queues.leave_all(idents);
     }
 
     /// Only persistent rows stay.
-    pub fn lose(&mut self, alloc: Global)
+    pub fn lose(&mut self)
         ensures { self.new ≡ record self.old { queues = leave_queues (λ (row : Row). is_persistent row.message) self.old.queues } }
     {
-        leave_lasting(alloc, &mut self.queues);
+        self.queues.lose();
     }
 
     /// Where a queue's name at a manager's name leads.

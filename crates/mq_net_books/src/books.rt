@@ -259,17 +259,11 @@ impl<'a> Books<'a> {
 
     /// A message is placed on a queue of a manager.
     #[tactic(auto, using(crate::proofs::BookLaws::changed, crate::proofs::BookLaws::get_far))]
-    pub fn place(
-        &mut self,
-        alloc: Global,
-        m: usize,
-        name: &QName,
-        message: Message,
-    ) -> Result<(), NoMemory>
+    pub fn place(&mut self, m: usize, name: &QName, message: Message) -> Result<(), NoMemory>
         ensures { OnOk result (self.new ≡ place m name.now message self.old) }
     {
         if m < self.accounts.len() {
-            self.accounts.at_mut(m).place(alloc, name, message)
+            self.accounts.at_mut(m).place(name, message)
         } else {
             Ok(())
         }
@@ -277,11 +271,11 @@ impl<'a> Books<'a> {
 
     /// No row of an ident stays at a manager.
     #[tactic(auto, using(crate::proofs::BookLaws::changed, crate::proofs::BookLaws::get_far))]
-    pub fn take_from(&mut self, alloc: Global, m: usize, ident: &Ident)
+    pub fn take_from(&mut self, m: usize, ident: &Ident)
         ensures { self.new ≡ take_from m ident.now self.old }
     {
         if m < self.accounts.len() {
-            self.accounts.at_mut(m).take(alloc, ident);
+            self.accounts.at_mut(m).take(ident);
         }
     }
 
@@ -297,11 +291,11 @@ impl<'a> Books<'a> {
 
     /// An ident is taken away where its place is at a manager.
     #[tactic(auto, using(crate::proofs::BookLaws::reverse_more))]
-    pub fn take(&mut self, alloc: Global, m: usize, ident: &Ident) -> Result<(), NoMemory>
+    pub fn take(&mut self, m: usize, ident: &Ident) -> Result<(), NoMemory>
         ensures { OnOk result (self.new ≡ take m ident.now self.old) }
     {
         if self.is_placed(m, ident) {
-            self.take_from(alloc, m, ident);
+            self.take_from(m, ident);
             self.gone.push(*ident)?;
         }
         Ok(())
@@ -316,20 +310,20 @@ impl<'a> Books<'a> {
     }
 
     /// A committed get took an ident.
-    pub fn take_got(&mut self, alloc: Global, m: usize, ident: &Ident) -> Result<(), NoMemory>
+    pub fn take_got(&mut self, m: usize, ident: &Ident) -> Result<(), NoMemory>
         ensures { OnOk result (self.new ≡ take_got m ident.now self.old) }
     {
         self.note_got(ident)?;
-        self.take(alloc, m, ident)
+        self.take(m, ident)
     }
 
     /// Nonpersistent rows of a manager go.
     #[tactic(auto, using(crate::proofs::BookLaws::changed, crate::proofs::BookLaws::get_far))]
-    pub fn lose(&mut self, alloc: Global, m: usize)
+    pub fn lose(&mut self, m: usize)
         ensures { self.new ≡ lose m self.old }
     {
         if m < self.accounts.len() {
-            self.accounts.at_mut(m).lose(alloc);
+            self.accounts.at_mut(m).lose();
         }
     }
 
@@ -421,10 +415,10 @@ impl<'a> Books<'a> {
     }
 
     /// Idents are taken from the places that they have, at whatever manager.
-    pub fn take_everywhere(&mut self, alloc: Global, idents: &[Ident])
+    pub fn take_everywhere(&mut self, idents: &[Ident])
         ensures { self.new ≡ take_everywhere idents.now self.old }
     {
-        take_everywhere(alloc, &mut self.accounts, idents);
+        take_everywhere(&mut self.accounts, idents);
     }
 
     /// Connections of a manager.
@@ -607,10 +601,10 @@ fn is_among(idents: &[Ident], ident: &Ident) -> bool
     idents.iter().any(|other| *ident == *other)
 }
 
-fn take_everywhere(alloc: Global, accounts: &mut Items<Account>, idents: &[Ident])
+fn take_everywhere(accounts: &mut Items<Account>, idents: &[Ident])
     ensures { accounts.new ≡ map (λ (p : ManagerPlaces). record p { queues = leave_queues (λ (row : Row). not (is_one_of idents.now row)) p.queues }) accounts.old }
 {
     for at in 0..accounts.len() {
-        accounts.at_mut(at).take_all(alloc, idents);
+        accounts.at_mut(at).take_all(idents);
     }
 }

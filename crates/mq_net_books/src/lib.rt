@@ -6,7 +6,6 @@ mod accounts;
 mod books;
 mod callers;
 mod no_use;
-mod rows;
 
 pub use accounts::Account;
 pub use books::{Books, Halted, User};

@@ -1,8 +1,9 @@
 -- The ledger begins with the rows of the logs that count where they stand.
-use Rattle.std.proofs.Common.{ℕ, suc, ◌≡◌, ◌+◌, Bool, true, false, List, [], ◌∷◌, ◌++◌, Option, None, Some, refl, ap, sym, ◌∙◌, arith}
-use Rattle.std.specs.Prelude.{map, not, ◌&&◌, if◌then◌else◌}
+use Rattle.std.proofs.Common.{ℕ, suc, ◌≡◌, ◌+◌, ◌≤◌, Bool, true, false, List, [], ◌∷◌, ◌++◌, Option, None, Some, refl, ap, sym, ◌∙◌, arith}
+use Rattle.std.specs.Prelude.{AllPairs, map, not, ◌&&◌, if◌then◌else◌}
 use Rattle.std.specs.List.{list_any, AllByRecursion}
 use Rattle.std.specs.Str.{bytes_eq}
+use Rattle.std.proofs.lemmas.List.Elements.{recursion_from_All}
 use Rattle.std.specs.Cmp.Lexicographic.{bytes_decides}
 use Rattle.mq_message.specs.declared.place.Holder.{Holder}
 use Rattle.mq_message.specs.declared.place.Holder.TheVariants as holders
@@ -15,10 +16,12 @@ use Rattle.mq_history.specs.declared.history.History.{History}
 use Rattle.mq_history.specs.declared.scenario.Scenario.{Scenario}
 use Rattle.mq_history.specs.declared.story.ManagerPlaces.{ManagerPlaces}
 use Rattle.mq_spec_state.specs.State.{Plain}
+use Rattle.mq_spec_state.specs.Recovery.{IsShelf}
 use Rattle.mq_spec_state.specs.Images.{numbered, queue_on}
 use Rattle.mq_spec_network.specs.Ledger.{Ledger, Users}
 use Rattle.mq_spec_network.specs.Standing.{node_after, managers_from, opening_managers, is_held_there, standing_in, stored_standing, places_of, opening_ledger}
 use Rattle.mq_net_apart.specs.Opened.{opened_held}
+use Rattle.mq_net_rows.specs.Stored.{AreFrom, AreInLanes, AreSorted}
 use Rattle.mq_net_books.specs.Openings.{AreNewFrom}
 use Rattle.mq_net_ledger.specs.Opened.{row_if, opened_rows, opened_shelf, opened_place, opened_places, opened_user, IsOpened}
 use Rattle.mq_rebuild.proofs.FrontLaws.{Fronts, fronts}
@@ -65,6 +68,36 @@ new_from before (x ∷ xs) h = (none_before x before h.0, new_from (before ++ x 
 
 pub are_new : (h : History) → IsOpened h → AreNewFrom [] h.opening.definitions.objects
 are_new h o = new_from [] h.opening.definitions.objects (fronts Differ h.opening.definitions.objects o.image.once)
+
+-- They stand in order of their lanes.
+abbrev LaneOrder : Row → Row → Type 0
+LaneOrder x y = x.place.lane ≤ y.place.lane
+
+from_rows : (s : Scenario) (ps : List Plain) (m : ℕ) (h : History) (lane n : ℕ) (rows : List Row) → AllByRecursion (λ (y : Row). lane ≤ y.place.lane) rows → AreFrom lane (opened_rows s ps m h n rows)
+from_rows s ps m h lane n [] a = tt
+from_rows s ps m h lane n (row ∷ rows) a = by (opened_held s ps m h row.by) (from_rows s ps m h lane (n + 1) rows a.1)
+  where
+    by : (held : Bool) → AreFrom lane (opened_rows s ps m h (n + 1) rows) → AreFrom lane (row_if held n row ++ opened_rows s ps m h (n + 1) rows)
+    by true rest = rest
+    by false rest = (a.0, rest)
+
+sorted_rows : (s : Scenario) (ps : List Plain) (m : ℕ) (h : History) (n : ℕ) (rows : List Row) → AllPairs LaneOrder rows → AreInLanes (opened_rows s ps m h n rows)
+sorted_rows s ps m h n [] a = tt
+sorted_rows s ps m h n (row ∷ rows) a = by (opened_held s ps m h row.by) (sorted_rows s ps m h (n + 1) rows (λ i j d lt within. a (suc i) (suc j) d (omega (arith, lt)) (omega (arith, within))))
+  where
+    behind : AllByRecursion (λ (y : Row). row.place.lane ≤ y.place.lane) rows
+    behind = recursion_from_All (LaneOrder row) rows (λ k d lt. a 0 (suc k) d (omega arith) (omega (arith, lt)))
+
+    by : (held : Bool) → AreInLanes (opened_rows s ps m h (n + 1) rows) → AreInLanes (row_if held n row ++ opened_rows s ps m h (n + 1) rows)
+    by true rest = rest
+    by false rest = (from_rows s ps m h row.place.lane (n + 1) rows behind, rest)
+
+sorted_shelves : (s : Scenario) (ps : List Plain) (m : ℕ) (h : History) (shelves : List Shelf) → AllByRecursion (IsShelf h.opening) shelves → AreSorted (map (opened_shelf s ps m h) shelves)
+sorted_shelves s ps m h [] a = tt
+sorted_shelves s ps m h (x ∷ xs) a = (sorted_rows s ps m h 0 x.rows a.0.sorted, sorted_shelves s ps m h xs a.1)
+
+pub are_sorted : (s : Scenario) (ps : List Plain) (m : ℕ) (h : History) → IsOpened h → AreSorted (map (opened_shelf s ps m h) h.opening.shelves)
+are_sorted s ps m h o = sorted_shelves s ps m h h.opening.shelves (recursion_from_All (IsShelf h.opening) h.opening.shelves o.image.rows)
 
 -- The rows of a queue that count.
 abbrev plain_at : Scenario → ℕ → History → Plain

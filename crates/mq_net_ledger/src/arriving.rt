@@ -6,13 +6,14 @@ ghost use Rattle.mq_net_ledger.specs.Posts.{place_posted};
 ghost use Rattle.mq_net_ledger.specs.Arrivals.{arrival_of, arrivals_of, arrivals, place_arrivals};
 
 use crate::answers::{dead_reason, received_on};
-use crate::messages::{copy_message, copy_with_route};
+use crate::messages::copy_with_route;
 use crate::posts::{Arrival, Posted, received_of};
 use mq_base::{Items, NoMemory};
 use mq_calls::{Did, Messages};
 use mq_message::{Ident, Message};
 use mq_name::ChName;
 use mq_net_books::Books;
+use mq_net_rows::copy_message;
 use std::alloc::Global;
 
 /// The content that the ledger has of a message that came, with the names that came; else what came.
@@ -98,7 +99,6 @@ fn idents_of(alloc: Global, messages: &[Message]) -> Result<Items<Ident>, NoMemo
 /// What was read before is placed.
 pub fn place_posted<'a>(
     books: &mut Books<'a>,
-    alloc: Global,
     m: usize,
     posted: Option<Posted>,
 ) -> Result<(), NoMemory>
@@ -106,7 +106,7 @@ pub fn place_posted<'a>(
 {
     match posted {
         None => Ok(()),
-        Some(Posted { queue, message }) => books.place(alloc, m, &queue, message),
+        Some(Posted { queue, message }) => books.place(m, &queue, message),
     }
 }
 
@@ -123,7 +123,7 @@ fn place_received<'a>(
 {
     let Arrival { message, dead } = arrival;
     let posted = received_of(books, alloc, m, channel, message, dead)?;
-    place_posted(books, alloc, m, posted)
+    place_posted(books, m, posted)
 }
 
 fn place_arrivals<'a>(
@@ -157,7 +157,7 @@ fn receive<'a>(
 {
     let arrivals = arrivals(books, alloc, delta, messages)?;
     let idents = idents_of(alloc, messages)?;
-    books.take_everywhere(alloc, idents.as_slice());
+    books.take_everywhere(idents.as_slice());
     place_arrivals(books, alloc, m, channel, arrivals)
 }
 

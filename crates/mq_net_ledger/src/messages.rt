@@ -12,21 +12,8 @@ use mq_codes::Reason;
 use mq_heads::{Dlh, dlh_of, dlh_to_bytes};
 use mq_message::{Bytes, Dest, Md, Message};
 use mq_name::{ChName, QName};
+use mq_net_rows::copy_message;
 use std::alloc::Global;
-
-/// A copy of a message.
-pub fn copy_message(alloc: Global, message: &Message) -> Result<Message, NoMemory>
-    ensures { IfOk result (λ m. m ≡ message.now) }
-{
-    let body = Bytes::from_slice(alloc, message.body.as_slice())?;
-    Ok(Message {
-        ident: message.ident,
-        md: message.md,
-        route: message.route,
-        deadline: message.deadline,
-        body,
-    })
-}
 
 /// A copy of a message with this route.
 pub fn copy_with_route(

@@ -4,7 +4,6 @@ ghost use Rattle.mq_spec_network.specs.Given.{name_at};
 ghost use Rattle.mq_spec_network.specs.Standing.{opening_managers, opening_ledger};
 ghost use Rattle.mq_net_ledger.specs.Opened.{row_if, opened_rows, opened_shelf, opened_place, opened_places, opened_user, IsOpened, AreOpened};
 
-use crate::messages::copy_message;
 use mq_base::{Items, NoMemory};
 use mq_calls::Shelf;
 use mq_history::{History, Scenario};
@@ -12,6 +11,7 @@ use mq_message::Place;
 use mq_name::QName;
 use mq_net_apart::is_held_there;
 use mq_net_books::{Account, Books, User};
+use mq_net_rows::copy_message;
 use mq_queue::Row;
 use std::alloc::Global;
 
@@ -139,7 +139,7 @@ fn name_at(scenario: &Scenario, at: usize) -> QName
 }
 
 /// A manager's account as it begins.
-#[tactic(auto, using(crate::proofs::OpenLaws::are_new))]
+#[tactic(auto, using(crate::proofs::OpenLaws::are_new, crate::proofs::OpenLaws::are_sorted))]
 fn account(
     alloc: Global,
     scenario: &Scenario,

@@ -22,13 +22,13 @@ use mq_sc_parse::Command;
 use std::alloc::Global;
 
 /// An expired row, or one that a rule discarded, is taken.
-fn take_gone<'a>(books: &mut Books<'a>, alloc: Global, m: usize, did: &Did) -> Result<(), NoMemory>
+fn take_gone<'a>(books: &mut Books<'a>, m: usize, did: &Did) -> Result<(), NoMemory>
     ensures { OnOk result (books.new ≡ take_gone m did.now books.old) }
 {
     match did {
         Did::Removed { ident, why, .. } => {
             if is_taken(*why) {
-                books.take(alloc, m, ident)
+                books.take(m, ident)
             } else {
                 Ok(())
             }
@@ -37,16 +37,11 @@ fn take_gone<'a>(books: &mut Books<'a>, alloc: Global, m: usize, did: &Did) -> R
     }
 }
 
-fn take_all_gone<'a>(
-    books: &mut Books<'a>,
-    alloc: Global,
-    m: usize,
-    delta: &[Did],
-) -> Result<(), NoMemory>
+fn take_all_gone<'a>(books: &mut Books<'a>, m: usize, delta: &[Did]) -> Result<(), NoMemory>
     ensures { OnOk result (books.new ≡ take_all_gone m delta.now books.old) }
 {
     for did in delta {
-        take_gone(books, alloc, m, did)?;
+        take_gone(books, m, did)?;
     }
     Ok(())
 }
@@ -54,7 +49,6 @@ fn take_all_gone<'a>(
 /// A message leaves its place, and is placed on a queue.
 fn move_to<'a>(
     books: &mut Books<'a>,
-    alloc: Global,
     m: usize,
     queue: &QName,
     message: Message,
@@ -62,21 +56,16 @@ fn move_to<'a>(
     ensures { OnOk result (books.new ≡ place m queue.now message (take_from m message.ident books.old)) }
 {
     let ident = message.ident;
-    books.take_from(alloc, m, &ident);
-    books.place(alloc, m, queue, message)
+    books.take_from(m, &ident);
+    books.place(m, queue, message)
 }
 
-fn move_posted<'a>(
-    books: &mut Books<'a>,
-    alloc: Global,
-    m: usize,
-    posted: Option<Posted>,
-) -> Result<(), NoMemory>
+fn move_posted<'a>(books: &mut Books<'a>, m: usize, posted: Option<Posted>) -> Result<(), NoMemory>
     ensures { OnOk result (books.new ≡ move_posted m posted books.old) }
 {
     match posted {
         None => Ok(()),
-        Some(Posted { queue, message }) => move_to(books, alloc, m, &queue, message),
+        Some(Posted { queue, message }) => move_to(books, m, &queue, message),
     }
 }
 
@@ -93,7 +82,7 @@ fn move_row<'a>(
     ensures { OnOk result (books.new ≡ move_row m to.now bare (row_in ident.now (places_at m books.old).queues) books.old) }
 {
     let posted = moved_of(books, alloc, m, to, bare, ident)?;
-    move_posted(books, alloc, m, posted)
+    move_posted(books, m, posted)
 }
 
 fn move_one<'a>(books: &mut Books<'a>, alloc: Global, m: usize, did: &Did) -> Result<(), NoMemory>
@@ -150,7 +139,7 @@ fn trigger_for<'a>(
     ensures { OnOk result (books.new ≡ trigger_for m ident.now (local_of queue.now (places_at m books.old).definitions) books.old) }
 {
     let posted = trigger_of(books, alloc, m, ident, queue)?;
-    place_posted(books, alloc, m, posted)
+    place_posted(books, m, posted)
 }
 
 /// A trigger turn.
@@ -201,19 +190,19 @@ fn obey_if<'a>(
 }
 
 /// A manager stops: connections and units are gone, and the nonpersistent rows.
-fn stop<'a>(books: &mut Books<'a>, alloc: Global, m: usize)
+fn stop<'a>(books: &mut Books<'a>, m: usize)
     ensures { books.new ≡ stop m books.old }
 {
     books.leave_connections(m);
-    books.lose(alloc, m);
+    books.lose(m);
 }
 
 #[tactic(auto, using(crate::proofs::AnswerLaws::stop_done))]
-fn stop_if<'a>(books: &mut Books<'a>, alloc: Global, m: usize, reply: &Reply)
+fn stop_if<'a>(books: &mut Books<'a>, m: usize, reply: &Reply)
     ensures { books.new ≡ stop_if reply.now m books.old }
 {
     if is_done(reply) {
-        stop(books, alloc, m);
+        stop(books, m);
     }
 }
 
@@ -232,7 +221,7 @@ fn act<'a>(
     match act {
         Act::Obey(command) => obey_if(books, alloc, m, command, reply),
         Act::Crash => {
-            stop_if(books, alloc, m, reply);
+            stop_if(books, m, reply);
             Ok(())
         }
         Act::Restart => Ok(()),
@@ -363,7 +352,7 @@ fn post_call<'a>(
         }
         Call::Mqget { hc, get: how, .. } => {
             let ident = got_ident(reply, delta);
-            get(books, alloc, how, m, hc, &ident)
+            get(books, how, m, hc, &ident)
         }
         Call::Mqcmit { hc } => commit_if(books, alloc, m, hc, reply),
         Call::Mqback { hc } => {
@@ -387,7 +376,7 @@ fn post<'a>(
 ) -> Result<(), NoMemory>
     ensures { OnOk result (books.new ≡ post m entry.now delta.now books.old) }
 {
-    take_all_gone(books, alloc, m, delta)?;
+    take_all_gone(books, m, delta)?;
     post_call(
         books,
         alloc,
@@ -400,12 +389,12 @@ fn post<'a>(
 }
 
 /// A call whose write was stopped: it counts at the restart that finds it.
-fn cut<'a>(books: &mut Books<'a>, alloc: Global, m: usize, entry: &'a Entry) -> Result<(), NoMemory>
+fn cut<'a>(books: &mut Books<'a>, m: usize, entry: &'a Entry) -> Result<(), NoMemory>
     ensures { OnOk result (books.new ≡ cut m entry.now books.old) }
 {
-    take_all_gone(books, alloc, m, entry.effect.delta.as_slice())?;
+    take_all_gone(books, m, entry.effect.delta.as_slice())?;
     books.halt(m, entry);
-    books.lose(alloc, m);
+    books.lose(m);
     Ok(())
 }
 
@@ -438,11 +427,11 @@ fn found<'a>(books: &mut Books<'a>, alloc: Global, m: usize, delta: &[Did]) -> R
     }
 }
 
-fn up_again<'a>(books: &mut Books<'a>, alloc: Global, m: usize)
+fn up_again<'a>(books: &mut Books<'a>, m: usize)
     ensures { books.new ≡ up_again m books.old }
 {
     books.forget_halted(m);
-    stop(books, alloc, m);
+    stop(books, m);
 }
 
 fn come_up_as<'a>(
@@ -458,11 +447,11 @@ fn come_up_as<'a>(
         None => Ok(()),
         Some(true) => {
             found(books, alloc, m, delta)?;
-            up_again(books, alloc, m);
+            up_again(books, m);
             Ok(())
         }
         Some(false) => {
-            up_again(books, alloc, m);
+            up_again(books, m);
             Ok(())
         }
     }
@@ -524,7 +513,7 @@ pub fn posted<'a>(
     ensures { OnOk result (books.new ≡ posted m entry.now entry.now.reply books.old) }
 {
     if is_stopped(&entry.reply) {
-        cut(books, alloc, m, entry)
+        cut(books, m, entry)
     } else {
         answered(books, alloc, m, entry)
     }

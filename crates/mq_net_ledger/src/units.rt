@@ -17,7 +17,6 @@ use std::alloc::Global;
 /// A row is put: inside a unit it is pending, else it is placed.
 fn put_row<'a>(
     books: &mut Books<'a>,
-    alloc: Global,
     sync: bool,
     m: usize,
     hc: &Hconn,
@@ -33,14 +32,13 @@ fn put_row<'a>(
         };
         books.pend(m, hc, item)
     } else {
-        books.place(alloc, m, queue, message)
+        books.place(m, queue, message)
     }
 }
 
 /// What a put comes to.
 fn put_posted<'a>(
     books: &mut Books<'a>,
-    alloc: Global,
     sync: bool,
     m: usize,
     hc: &Hconn,
@@ -50,7 +48,7 @@ fn put_posted<'a>(
 {
     match posted {
         None => Ok(()),
-        Some(Posted { queue, message }) => put_row(books, alloc, sync, m, hc, &queue, message),
+        Some(Posted { queue, message }) => put_row(books, sync, m, hc, &queue, message),
     }
 }
 
@@ -70,7 +68,7 @@ pub fn put<'a>(
     ensures { OnOk result (books.new ≡ put sync m hc.now ho.now (connection_of m hc.now books.old) ident.now md.now body.now books.old) }
 {
     let posted = put_of(books, alloc, m, hc, ho, ident, md, body)?;
-    put_posted(books, alloc, sync, m, hc, posted)
+    put_posted(books, sync, m, hc, posted)
 }
 
 /// An MQPUT1 with this ident: where its name leads now.
@@ -90,7 +88,7 @@ pub fn put1<'a>(
     ensures { OnOk result (books.new ≡ put1 sync m hc.now name.now qmgr.now (connection_of m hc.now books.old) ident.now md.now body.now books.old) }
 {
     let posted = put1_of(books, alloc, m, hc, name, qmgr, ident, md, body)?;
-    put_posted(books, alloc, sync, m, hc, posted)
+    put_posted(books, sync, m, hc, posted)
 }
 
 /// Whether a get takes a row away.
@@ -109,7 +107,6 @@ fn is_destructive(take: Take) -> bool
 /// A row is got: inside a unit it is pending, else the ident is taken.
 fn get_row<'a>(
     books: &mut Books<'a>,
-    alloc: Global,
     sync: bool,
     m: usize,
     hc: &Hconn,
@@ -125,14 +122,13 @@ fn get_row<'a>(
         };
         books.pend(m, hc, item)
     } else {
-        books.take_got(alloc, m, ident)
+        books.take_got(m, ident)
     }
 }
 
 /// An MQGET that took this ident. A browse is no get.
 pub fn get<'a>(
     books: &mut Books<'a>,
-    alloc: Global,
     get: &Get,
     m: usize,
     hc: &Hconn,
@@ -144,72 +140,52 @@ pub fn get<'a>(
         return Ok(());
     };
     if is_destructive(get.take) {
-        get_row(books, alloc, get.sync, m, hc, ident)
+        get_row(books, get.sync, m, hc, ident)
     } else {
         Ok(())
     }
 }
 
 /// A get of a unit.
-fn take_item<'a>(
-    books: &mut Books<'a>,
-    alloc: Global,
-    m: usize,
-    item: &Item,
-) -> Result<(), NoMemory>
+fn take_item<'a>(books: &mut Books<'a>, m: usize, item: &Item) -> Result<(), NoMemory>
     ensures { OnOk result (books.new ≡ take_item m item.now books.old) }
 {
     match item {
         Item::Put { .. } => Ok(()),
-        Item::Take { ident, .. } => books.take_got(alloc, m, ident),
+        Item::Take { ident, .. } => books.take_got(m, ident),
     }
 }
 
 /// The gets of a unit are taken.
 #[tactic(auto, using(crate::proofs::UnitLaws::take_next))]
-fn take_items<'a>(
-    books: &mut Books<'a>,
-    alloc: Global,
-    m: usize,
-    items: &[Item],
-) -> Result<(), NoMemory>
+fn take_items<'a>(books: &mut Books<'a>, m: usize, items: &[Item]) -> Result<(), NoMemory>
     ensures { OnOk result (books.new ≡ take_items m items.now books.old) }
 {
     for item in items {
-        take_item(books, alloc, m, item)?;
+        take_item(books, m, item)?;
     }
     Ok(())
 }
 
 /// A put of a unit.
-fn place_item<'a>(
-    books: &mut Books<'a>,
-    alloc: Global,
-    m: usize,
-    item: Item,
-) -> Result<(), NoMemory>
+fn place_item<'a>(books: &mut Books<'a>, m: usize, item: Item) -> Result<(), NoMemory>
     ensures { OnOk result (books.new ≡ place_item m item books.old) }
 {
     match item {
-        Item::Put { queue, message } => books.place(alloc, m, &queue, message),
+        Item::Put { queue, message } => books.place(m, &queue, message),
         Item::Take { .. } => Ok(()),
     }
 }
 
 /// The puts of a unit are placed, in put order.
 #[tactic(auto, using(crate::proofs::UnitLaws::place_next))]
-fn place_items<'a>(
-    books: &mut Books<'a>,
-    alloc: Global,
-    m: usize,
-    items: Items<Item>,
-) -> Result<(), NoMemory>
+fn place_items<'a>(books: &mut Books<'a>, m: usize, items: Items<Item>) -> Result<(), NoMemory>
     ensures { OnOk result (books.new ≡ place_items m items books.old) }
 {
     let mut left = items.into_vec();
     left.reverse();
     'placing: while let Some(item) = left.pop() {
-        place_item(books, alloc, m, item)?;
+        place_item(books, m, item)?;
     }
     Ok(())
 }
@@ -220,8 +196,8 @@ fn commit<'a>(books: &mut Books<'a>, alloc: Global, m: usize, hc: &Hconn) -> Res
     ensures { OnOk result (books.new ≡ commit m hc.now books.old) }
 {
     let items = books.end_unit(alloc, m, hc);
-    take_items(books, alloc, m, items.as_slice())?;
-    place_items(books, alloc, m, items)
+    take_items(books, m, items.as_slice())?;
+    place_items(books, m, items)
 }
 
 /// MQCMIT.

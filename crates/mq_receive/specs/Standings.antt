@@ -5,8 +5,8 @@ use Rattle.mq_spec_state.specs.Words.{Ident, Message, Plain, same_ident, local_o
 use Rattle.mq_spec_agents.specs.Words.{Standing, Absent, InDoubtAt, Present, standing_at}
 use Rattle.mq_law_manager.specs.Facts.{AreNamed}
 use Rattle.mq_core.specs.declared.parts.Arrival.{Arrival}
-use Rattle.mq_receive.specs.declared.standing.Found.{Found}
-use Rattle.mq_receive.specs.declared.standing.Found.TheVariants as found
+use Rattle.mq_receive.specs.declared.idents.Found.{Found}
+use Rattle.mq_receive.specs.declared.idents.Found.TheVariants as found
 use Rattle.mq_core.specs.Writes.{standing_of, arrival_changes}
 
 abbrev pub standing_as : Found → Standing

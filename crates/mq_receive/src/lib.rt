@@ -5,14 +5,15 @@ mod arriving;
 mod committing;
 mod doubts;
 mod filling;
+mod idents;
 mod letters;
 mod placing;
 mod planning;
 mod receiving;
 mod rooms;
-mod standing;
 
 pub use arriving::land;
 pub use filling::put_received;
+pub use idents::{Found, standing};
 pub use planning::plan;
 pub use receiving::receive;

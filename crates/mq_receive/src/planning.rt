@@ -11,7 +11,7 @@ ghost use Rattle.mq_core.specs.Writes.{standing_of};
 ghost use Rattle.mq_receive.specs.Planned.{Goes, IsPlan, Plans};
 
 use crate::arriving::land;
-use crate::standing::{Found, standing};
+use crate::idents::{Found, standing};
 use mq_base::Items;
 use mq_calls::{AgentStop, PlaceFault};
 use mq_core::{Arrival, Parts};

@@ -37,7 +37,7 @@ pub take_low : (s : NodeState) (e : ReceiverEnd) → MayTake e (whole e s) → s
 take_low s e m = may_low (whole e s) m.may
 
 -- An end that is set again, and one that is set over another.
-receiver_is : (o : Option ChannelEnd) (e : ReceiverEnd) → as_receiver o ≡ Some e → o ≡ Some (Receives e)
+pub receiver_is : (o : Option ChannelEnd) (e : ReceiverEnd) → as_receiver o ≡ Some e → o ≡ Some (Receives e)
 receiver_is None e h = absurd cc
 receiver_is (Some (Receives x)) e h = cc
 receiver_is (Some (Sends x)) e h = absurd cc
@@ -170,7 +170,7 @@ first_of false x other e = absurd cc
 owes_first : (r : Receiver) (owed : Owed) (seen : Seen) (defined : Bool) → r.owes ≡ Some owed → does.PushOwed ≡ receiver_next r seen defined
 owes_first r owed seen defined h = first_of (is_some r.owes) does.PushOwed _ (ap is_some h)
 
-owed_deed : (stamp : ℕ) (e : ReceiverEnd) (owed : Owed) (f : Frame) (seen : Seen) (s : NodeState) → MayTake e s → e.machine.owes ≡ Some owed → f ≡ owed_frame stamp owed
+pub owed_deed : (stamp : ℕ) (e : ReceiverEnd) (owed : Owed) (f : Frame) (seen : Seen) (s : NodeState) → MayTake e s → e.machine.owes ≡ Some owed → f ≡ owed_frame stamp owed
     → deed_of stamp (actors.Receiver e.cable) calls.Turn seen (node_in s) ≡ Some (turned [] (Some f) (with_end (Receives (paid e)) s.own))
 owed_deed stamp e owed f seen s may h is =
     turn_is stamp e.cable e does.PushOwed seen (node_in s) may.up may.there (owes_first e.machine owed seen (is_receiver_defined e.channel s.manager.plain.definitions) h)

@@ -1,1 +1,5 @@
 pub mod Takes
+pub mod Taken
+pub mod Placing
+pub mod Turning
+pub mod Words

@@ -1,18 +1,10 @@
 //! A session that is bound at its manager.
 ghost use Rattle.std.specs.Prelude.{◌≡◌, ◌<◌, ◌≤◌, ◌^◌, ◌++◌, ℕ, List, Ok, IfOk, true};
 ghost use Rattle.mq_calls.specs.declared.agents.Note.TheVariants as notes;
-ghost use Rattle.mq_cable.specs.Offers.{Offering};
+ghost use Rattle.mq_takes.specs.Words as words;
 ghost use Rattle.mq_calls.specs.declared.choices.Choice.TheVariants as choices;
-ghost use Rattle.mq_core.specs.Values.{WritesLog, manager_of};
 ghost use Rattle.mq_frame.specs.declared.frame.Seen.TheVariants as items;
-ghost use Rattle.mq_receiver.specs.Table.{receiver_next};
 ghost use Rattle.mq_receiver.specs.declared.turns.ReceiverDoes.TheVariants as does_what;
-ghost use Rattle.mq_spec_agents.specs.Words.{IsUp, harden, set_bound};
-ghost use Rattle.mq_spec_state.specs.Words.{MeetsOrWants, set_named};
-ghost use Rattle.mq_spec_node.specs.Words.{bind_parts, is_receiver_defined, parts_of};
-ghost use Rattle.mq_wires.specs.Wires.{Sees};
-ghost use Rattle.mq_turns.specs.Turns.{IsBehind, MadeOr};
-ghost use Rattle.mq_takes.specs.Takes.{MayTake, ReceivesTurn, bound_if, whole};
 
 use crate::asking::may_bind;
 use crate::closing::end_emptied;
@@ -39,7 +31,7 @@ fn with_channel(
     bound: &Items<ChName>,
     channel: &ChName,
 ) -> Result<Items<ChName>, NoMemory>
-    ensures { IfOk result (λ xs. xs ≡ set_named (λ (name : List ℕ). name) channel.now bound.now) }
+    ensures { IfOk result (λ xs. xs ≡ words.set_named (λ (name : List ℕ). name) channel.now bound.now) }
 {
     let mut all = match Items::from_slice(alloc, bound.as_slice()) {
         Ok(all) => all,
@@ -52,7 +44,7 @@ fn with_channel(
 }
 
 fn list_at<D: Disk>(manager: &Manager<D>, channel: &ChName) -> Result<Items<ChName>, NoMemory>
-    ensures { IfOk result (λ xs. xs ≡ set_named (λ (name : List ℕ). name) channel.now manager.now.plain.channels.bound) }
+    ensures { IfOk result (λ xs. xs ≡ words.set_named (λ (name : List ℕ). name) channel.now manager.now.plain.channels.bound) }
 {
     let parts = &manager.core.parts;
     with_channel(parts.alloc, &parts.ends.bound, channel)
@@ -65,10 +57,10 @@ fn put_list<D: Disk>(parts: &mut Parts<D>, bound: Items<ChName>)
 }
 
 fn bind_in<D: Disk>(core: &mut Core<D>, channel: &ChName, bound: Items<ChName>)
-    requires up { IsUp core.old.plain }
-    requires bound { bound ≡ set_named (λ (name : List ℕ). name) channel.now core.old.plain.channels.bound }
-    ensures meets { MeetsOrWants (manager_of core.old) (set_bound channel.now true core.old.plain) (Ok tt) (manager_of core.new) }
-    ensures told { WritesLog core.old (set_bound channel.now true core.old.plain) (Ok tt) core.new }
+    requires up { words.IsUp core.old.plain }
+    requires bound { bound ≡ words.set_named (λ (name : List ℕ). name) channel.now core.old.plain.channels.bound }
+    ensures meets { words.MeetsOrWants (words.manager_of core.old) (words.set_bound channel.now true core.old.plain) (Ok tt) (words.manager_of core.new) }
+    ensures told { words.WritesLog core.old (words.set_bound channel.now true core.old.plain) (Ok tt) core.new }
 {
     core.begin_call();
     put_list(&mut core.parts, bound);
@@ -76,9 +68,9 @@ fn bind_in<D: Disk>(core: &mut Core<D>, channel: &ChName, bound: Items<ChName>)
 
 /// A receiver is bound from now on; the list is the bound ones with it. It takes no memory.
 fn bind<D: Disk>(manager: &mut Manager<D>, channel: &ChName, bound: Items<ChName>)
-    requires up { IsUp manager.old.plain }
-    requires bound { bound ≡ set_named (λ (name : List ℕ). name) channel.now manager.old.plain.channels.bound }
-    ensures { MeetsOrWants (manager_of manager.old) (set_bound channel.now true manager.old.plain) (Ok tt) (manager_of manager.new) }
+    requires up { words.IsUp manager.old.plain }
+    requires bound { bound ≡ words.set_named (λ (name : List ℕ). name) channel.now manager.old.plain.channels.bound }
+    ensures { words.MeetsOrWants (words.manager_of manager.old) (words.set_bound channel.now true manager.old.plain) (Ok tt) (words.manager_of manager.new) }
 {
     bind_in(&mut manager.core, channel, bound);
 }
@@ -86,9 +78,9 @@ fn bind<D: Disk>(manager: &mut Manager<D>, channel: &ChName, bound: Items<ChName
 /// So where all before was done.
 #[tactic(auto, using(crate::proofs::WorkLaws::bound_done, crate::proofs::WorkLaws::bound_undone, crate::proofs::WorkLaws::up_ran, crate::proofs::WorkLaws::list_ran))]
 fn bind_if<D: Disk>(manager: &mut Manager<D>, channel: &ChName, told: &Told, bound: Items<ChName>)
-    requires up { told.now.choice ≡ choices.Runs → IsUp manager.old.plain }
-    requires bound { told.now.choice ≡ choices.Runs → bound ≡ set_named (λ (name : List ℕ). name) channel.now manager.old.plain.channels.bound }
-    ensures { IsBehind (bound_if told.now.choice channel.now true manager.old.plain) manager.old manager.new }
+    requires up { told.now.choice ≡ choices.Runs → words.IsUp manager.old.plain }
+    requires bound { told.now.choice ≡ choices.Runs → bound ≡ words.set_named (λ (name : List ℕ). name) channel.now manager.old.plain.channels.bound }
+    ensures { words.IsBehind (words.bound_if told.now.choice channel.now true manager.old.plain) manager.old manager.new }
 {
     if has_run(told) {
         bind(manager, channel, bound);
@@ -105,9 +97,9 @@ fn harden_bound<D: Disk>(
     last: u32,
     bound: Items<ChName>,
 ) -> Result<Told, NoMemory>
-    requires up { IsUp manager.old.plain }
-    requires bound { bound ≡ set_named (λ (name : List ℕ). name) channel.now manager.old.plain.channels.bound }
-    ensures { MadeOr (parts_of (harden channel.now (notes.Bound partner session last) manager.old.plain) ++ parts_of (set_bound channel.now true manager.old.plain)) result manager.old manager.new }
+    requires up { words.IsUp manager.old.plain }
+    requires bound { bound ≡ words.set_named (λ (name : List ℕ). name) channel.now manager.old.plain.channels.bound }
+    ensures { words.MadeOr (words.parts_of (words.harden channel.now (notes.Bound partner session last) manager.old.plain) ++ words.parts_of (words.set_bound channel.now true manager.old.plain)) result manager.old manager.new }
 {
     if !may_bind(manager, channel, session) {
         return Err(NoMemory);
@@ -139,8 +131,8 @@ fn bind_named<D: Disk>(
     session: u64,
     last: u32,
 ) -> Result<Told, NoMemory>
-    requires up { IsUp manager.old.plain }
-    ensures { MadeOr (parts_of (harden channel.now (notes.Bound partner session last) manager.old.plain) ++ parts_of (set_bound channel.now true manager.old.plain)) result manager.old manager.new }
+    requires up { words.IsUp manager.old.plain }
+    ensures { words.MadeOr (words.parts_of (words.harden channel.now (notes.Bound partner session last) manager.old.plain) ++ words.parts_of (words.set_bound channel.now true manager.old.plain)) result manager.old manager.new }
 {
     match list_at(manager, channel) {
         Err(NoMemory) => Err(NoMemory),
@@ -153,8 +145,8 @@ fn bind_session<D: Disk>(
     end: &ReceiverEnd,
     last: &ReceiverEnd,
 ) -> Result<Told, NoMemory>
-    requires up { IsUp manager.old.plain }
-    ensures { MadeOr (bind_parts end.now last.now.machine manager.old.plain) result manager.old manager.new }
+    requires up { words.IsUp manager.old.plain }
+    ensures { words.MadeOr (words.bind_parts end.now last.now.machine manager.old.plain) result manager.old manager.new }
 {
     bind_named(
         manager,
@@ -171,9 +163,9 @@ fn bind_at<D: Disk>(
     end: &ReceiverEnd,
     last: &ReceiverEnd,
 ) -> Result<Told, NoMemory>
-    requires up { IsUp parts.old.manager.plain }
+    requires up { words.IsUp parts.old.manager.plain }
     ensures same { parts.new ≡ record parts.old { manager = parts.new.manager } }
-    ensures told { MadeOr (bind_parts end.now last.now.machine parts.old.manager.plain) result parts.old.manager parts.new.manager }
+    ensures told { words.MadeOr (words.bind_parts end.now last.now.machine parts.old.manager.plain) result parts.old.manager parts.new.manager }
 {
     bind_session(&mut parts.manager, end, last)
 }
@@ -186,11 +178,11 @@ pub(crate) fn binding_turn<D: Disk, W: Wire>(
     sight: Sight,
 ) -> Result<Turn, NoMemory>
     requires room { 0 < parts.old.room }
-    requires may { MayTake end (whole end parts.old) }
-    requires next { does_what.Bind ≡ receiver_next end.machine sight.seen (is_receiver_defined end.channel parts.old.manager.plain.definitions) }
-    requires sees { Sees (W.front_of wire.old) (Unit {0}) sight.seen sight.stamp }
+    requires may { words.MayTake end (words.whole end parts.old) }
+    requires next { does_what.Bind ≡ words.receiver_next end.machine sight.seen (words.is_receiver_defined end.channel parts.old.manager.plain.definitions) }
+    requires sees { words.Sees (W.front_of wire.old) (Unit {0}) sight.seen sight.stamp }
     requires low { sight.stamp ≤ 2 ^ 60 }
-    ensures { (o : Offering) → ReceivesTurn end.cable (λ xs. W.reads wire.old xs wire.new) (λ xs. W.writes wire.old xs wire.new) (sight.seen ≡ items.Nothing) ⊥ o o (whole end parts.old) result parts.new }
+    ensures { (o : words.Offering) → words.ReceivesTurn end.cable (λ xs. W.reads wire.old xs wire.new) (λ xs. W.writes wire.old xs wire.new) (sight.seen ≡ items.Nothing) ⊥ o o (words.whole end parts.old) result parts.new }
 {
     let last = end_emptied(
         parts.alloc,

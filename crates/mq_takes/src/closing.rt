@@ -1,18 +1,10 @@
 //! A receiver's session that is closed at its manager.
 ghost use Rattle.std.specs.Prelude.{◌≡◌, ◌<◌, ◌≤◌, ◌^◌, ◌++◌, Ok, false};
 ghost use Rattle.mq_calls.specs.declared.agents.Note.TheVariants as notes;
-ghost use Rattle.mq_cable.specs.Offers.{Offering};
+ghost use Rattle.mq_takes.specs.Words as words;
 ghost use Rattle.mq_calls.specs.declared.choices.Choice.TheVariants as choices;
-ghost use Rattle.mq_core.specs.Values.{WritesLog, manager_of};
 ghost use Rattle.mq_frame.specs.declared.frame.Seen.TheVariants as items;
-ghost use Rattle.mq_receiver.specs.Table.{receiver_next};
 ghost use Rattle.mq_receiver.specs.declared.turns.ReceiverDoes.TheVariants as does_what;
-ghost use Rattle.mq_spec_agents.specs.Words.{IsUp, harden, set_bound};
-ghost use Rattle.mq_spec_state.specs.Words.{MeetsOrWants};
-ghost use Rattle.mq_spec_node.specs.Words.{close_parts, is_receiver_defined, parts_of};
-ghost use Rattle.mq_wires.specs.Wires.{Sees};
-ghost use Rattle.mq_turns.specs.Turns.{IsBehind, MadeOr};
-ghost use Rattle.mq_takes.specs.Takes.{MayTake, ReceivesTurn, bound_if, emptied, whole};
 
 use crate::asking::may_close;
 use crate::lifting::put_back;
@@ -34,9 +26,9 @@ use mq_wires::Sight;
 use std::alloc::Global;
 
 fn unbind_in<D: Disk>(core: &mut Core<D>, channel: &ChName)
-    requires up { IsUp core.old.plain }
-    ensures meets { MeetsOrWants (manager_of core.old) (set_bound channel.now false core.old.plain) (Ok tt) (manager_of core.new) }
-    ensures told { WritesLog core.old (set_bound channel.now false core.old.plain) (Ok tt) core.new }
+    requires up { words.IsUp core.old.plain }
+    ensures meets { words.MeetsOrWants (words.manager_of core.old) (words.set_bound channel.now false core.old.plain) (Ok tt) (words.manager_of core.new) }
+    ensures told { words.WritesLog core.old (words.set_bound channel.now false core.old.plain) (Ok tt) core.new }
 {
     core.begin_call();
     drop_side(core.parts.alloc, &mut core.parts.ends.bound, channel);
@@ -44,8 +36,8 @@ fn unbind_in<D: Disk>(core: &mut Core<D>, channel: &ChName)
 
 /// A receiver isn't bound from now on. It takes no memory.
 fn unbind<D: Disk>(manager: &mut Manager<D>, channel: &ChName)
-    requires up { IsUp manager.old.plain }
-    ensures { MeetsOrWants (manager_of manager.old) (set_bound channel.now false manager.old.plain) (Ok tt) (manager_of manager.new) }
+    requires up { words.IsUp manager.old.plain }
+    ensures { words.MeetsOrWants (words.manager_of manager.old) (words.set_bound channel.now false manager.old.plain) (Ok tt) (words.manager_of manager.new) }
 {
     unbind_in(&mut manager.core, channel);
 }
@@ -53,8 +45,8 @@ fn unbind<D: Disk>(manager: &mut Manager<D>, channel: &ChName)
 /// So where all before was done.
 #[tactic(auto, using(crate::proofs::WorkLaws::bound_done, crate::proofs::WorkLaws::bound_undone, crate::proofs::WorkLaws::up_ran))]
 pub(crate) fn unbind_if<D: Disk>(manager: &mut Manager<D>, channel: &ChName, told: &Told)
-    requires up { told.now.choice ≡ choices.Runs → IsUp manager.old.plain }
-    ensures { IsBehind (bound_if told.now.choice channel.now false manager.old.plain) manager.old manager.new }
+    requires up { told.now.choice ≡ choices.Runs → words.IsUp manager.old.plain }
+    ensures { words.IsBehind (words.bound_if told.now.choice channel.now false manager.old.plain) manager.old manager.new }
 {
     if has_run(told) {
         unbind(manager, channel);
@@ -72,8 +64,8 @@ fn close_named<D: Disk>(
     channel: &ChName,
     session: u64,
 ) -> Result<Told, NoMemory>
-    requires up { IsUp manager.old.plain }
-    ensures { MadeOr (parts_of (harden channel.now (notes.Closed session) manager.old.plain) ++ parts_of (set_bound channel.now false manager.old.plain)) result manager.old manager.new }
+    requires up { words.IsUp manager.old.plain }
+    ensures { words.MadeOr (words.parts_of (words.harden channel.now (notes.Closed session) manager.old.plain) ++ words.parts_of (words.set_bound channel.now false manager.old.plain)) result manager.old manager.new }
 {
     if !may_close(manager, channel, session) {
         return Err(NoMemory);
@@ -87,9 +79,10 @@ fn close_named<D: Disk>(
     }
 }
 
-fn close<D: Disk>(manager: &mut Manager<D>, end: &ReceiverEnd) -> Result<Told, NoMemory>
-    requires up { IsUp manager.old.plain }
-    ensures { MadeOr (close_parts end.now manager.old.plain) result manager.old manager.new }
+/// So for an end.
+pub(crate) fn close<D: Disk>(manager: &mut Manager<D>, end: &ReceiverEnd) -> Result<Told, NoMemory>
+    requires up { words.IsUp manager.old.plain }
+    ensures { words.MadeOr (words.close_parts end.now manager.old.plain) result manager.old manager.new }
 {
     close_named(manager, &end.channel, end.machine.session)
 }
@@ -99,9 +92,9 @@ pub(crate) fn close_in<D: Disk>(
     parts: &mut NodeParts<D>,
     end: &ReceiverEnd,
 ) -> Result<Told, NoMemory>
-    requires up { IsUp parts.old.manager.plain }
+    requires up { words.IsUp parts.old.manager.plain }
     ensures same { parts.new ≡ record parts.old { manager = parts.new.manager } }
-    ensures told { MadeOr (close_parts end.now parts.old.manager.plain) result parts.old.manager parts.new.manager }
+    ensures told { words.MadeOr (words.close_parts end.now parts.old.manager.plain) result parts.old.manager parts.new.manager }
 {
     close(&mut parts.manager, end)
 }
@@ -114,7 +107,7 @@ pub(crate) fn end_emptied(
     seen: &Seen,
     out: &ReceiverOut,
 ) -> ReceiverEnd
-    ensures { result ≡ emptied end.now does.now seen.now out.now }
+    ensures { result ≡ words.emptied end.now does.now seen.now out.now }
 {
     let mut machine = end.machine;
     machine.done(does, seen, out);
@@ -135,11 +128,11 @@ pub(crate) fn closing_turn<D: Disk, W: Wire>(
     sight: Sight,
 ) -> Result<Turn, NoMemory>
     requires room { 0 < parts.old.room }
-    requires may { MayTake end (whole end parts.old) }
-    requires next { does_what.Close ≡ receiver_next end.machine sight.seen (is_receiver_defined end.channel parts.old.manager.plain.definitions) }
-    requires sees { Sees (W.front_of wire.old) (Unit {0}) sight.seen sight.stamp }
+    requires may { words.MayTake end (words.whole end parts.old) }
+    requires next { does_what.Close ≡ words.receiver_next end.machine sight.seen (words.is_receiver_defined end.channel parts.old.manager.plain.definitions) }
+    requires sees { words.Sees (W.front_of wire.old) (Unit {0}) sight.seen sight.stamp }
     requires low { sight.stamp ≤ 2 ^ 60 }
-    ensures { (o : Offering) → ReceivesTurn end.cable (λ xs. W.reads wire.old xs wire.new) (λ xs. W.writes wire.old xs wire.new) (sight.seen ≡ items.Nothing) ⊥ o o (whole end parts.old) result parts.new }
+    ensures { (o : words.Offering) → words.ReceivesTurn end.cable (λ xs. W.reads wire.old xs wire.new) (λ xs. W.writes wire.old xs wire.new) (sight.seen ≡ items.Nothing) ⊥ o o (words.whole end parts.old) result parts.new }
 {
     match close_in(parts, &end) {
         Err(NoMemory) => {

@@ -7,9 +7,11 @@ mod closing;
 mod lifting;
 mod lines;
 mod owing;
+mod placing;
 mod quiet;
+mod receiving;
+mod taking;
+mod turning;
 mod working;
 
-pub use lifting::put_back;
-pub use lines::{item_turn, next_line};
-pub use owing::owed_turn;
+pub use turning::receiver_turn;

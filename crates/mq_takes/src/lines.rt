@@ -1,12 +1,7 @@
 //! The lines of a receiver's turn table that take an item.
 ghost use Rattle.std.specs.Prelude.{◌≡◌, ◌<◌, ◌≤◌, ◌^◌};
-ghost use Rattle.mq_cable.specs.Offers.{Offering};
-ghost use Rattle.mq_core.specs.Views.{plain_of};
+ghost use Rattle.mq_takes.specs.Words as words;
 ghost use Rattle.mq_frame.specs.declared.frame.Seen.TheVariants as items;
-ghost use Rattle.mq_receiver.specs.Table.{receiver_next};
-ghost use Rattle.mq_spec_node.specs.Words.{is_receiver_defined};
-ghost use Rattle.mq_wires.specs.Wires.{Sees};
-ghost use Rattle.mq_takes.specs.Takes.{IsItemLine, MayTake, ReceivesTurn, whole};
 
 use crate::binding::binding_turn;
 use crate::closing::closing_turn;
@@ -26,7 +21,7 @@ use mq_turns::Turn;
 use mq_wires::Sight;
 
 fn is_defined<D: Disk>(parts: &Parts<D>, channel: &ChName) -> bool
-    ensures { result ≡ is_receiver_defined channel.now (plain_of parts.now).definitions }
+    ensures { result ≡ words.is_receiver_defined channel.now (words.plain_of parts.now).definitions }
 {
     match parts.defs.channel(channel) {
         None => false,
@@ -38,15 +33,19 @@ fn is_defined<D: Disk>(parts: &Parts<D>, channel: &ChName) -> bool
 }
 
 /// The definition of a receiver is there.
-fn is_defined_at<D: Disk>(manager: &Manager<D>, channel: &ChName) -> bool
-    ensures { result ≡ is_receiver_defined channel.now manager.now.plain.definitions }
+pub(crate) fn is_defined_at<D: Disk>(manager: &Manager<D>, channel: &ChName) -> bool
+    ensures { result ≡ words.is_receiver_defined channel.now manager.now.plain.definitions }
 {
     is_defined(&manager.core.parts, channel)
 }
 
 /// The next line of a receiver's table, by what was seen. It takes no memory.
-pub fn next_line<D: Disk>(manager: &Manager<D>, end: &ReceiverEnd, seen: &Seen) -> ReceiverDoes
-    ensures { result ≡ receiver_next end.now.machine seen.now (is_receiver_defined end.now.channel manager.now.plain.definitions) }
+pub(crate) fn next_line<D: Disk>(
+    manager: &Manager<D>,
+    end: &ReceiverEnd,
+    seen: &Seen,
+) -> ReceiverDoes
+    ensures { result ≡ words.receiver_next end.now.machine seen.now (words.is_receiver_defined end.now.channel manager.now.plain.definitions) }
 {
     let defined = is_defined_at(manager, &end.channel);
     end.machine.next(seen, defined)
@@ -59,7 +58,7 @@ pub fn next_line<D: Disk>(manager: &Manager<D>, end: &ReceiverEnd, seen: &Seen) 
 ///
 /// No memory; nothing has changed, and the end stands in its place. So it is too where the manager has hardened another session than
 /// the end knows of, which never comes.
-pub fn item_turn<D: Disk, W: Wire>(
+pub(crate) fn item_turn<D: Disk, W: Wire>(
     parts: &mut NodeParts<D>,
     wire: &mut W,
     end: ReceiverEnd,
@@ -67,12 +66,12 @@ pub fn item_turn<D: Disk, W: Wire>(
     sight: Sight,
 ) -> Result<Turn, NoMemory>
     requires room { 0 < parts.old.room }
-    requires may { MayTake end (whole end parts.old) }
-    requires takes { IsItemLine does }
-    requires next { does ≡ receiver_next end.machine sight.seen (is_receiver_defined end.channel parts.old.manager.plain.definitions) }
-    requires sees { Sees (W.front_of wire.old) (Unit {0}) sight.seen sight.stamp }
+    requires may { words.MayTake end (words.whole end parts.old) }
+    requires takes { words.IsItemLine does }
+    requires next { does ≡ words.receiver_next end.machine sight.seen (words.is_receiver_defined end.channel parts.old.manager.plain.definitions) }
+    requires sees { words.Sees (W.front_of wire.old) (Unit {0}) sight.seen sight.stamp }
     requires low { sight.stamp ≤ 2 ^ 60 }
-    ensures { (o : Offering) → ReceivesTurn end.cable (λ xs. W.reads wire.old xs wire.new) (λ xs. W.writes wire.old xs wire.new) (sight.seen ≡ items.Nothing) ⊥ o o (whole end parts.old) result parts.new }
+    ensures { (o : words.Offering) → words.ReceivesTurn end.cable (λ xs. W.reads wire.old xs wire.new) (λ xs. W.writes wire.old xs wire.new) (sight.seen ≡ items.Nothing) ⊥ o o (words.whole end parts.old) result parts.new }
 {
     match does {
         ReceiverDoes::Bind => binding_turn(parts, wire, end, sight),

@@ -1,6 +1,6 @@
 //! A receiver's turn that offers the frame which it owes.
 ghost use Rattle.std.specs.Prelude.{◌≡◌, ◌+◌, ◌<◌, ◌^◌, Some};
-ghost use Rattle.mq_takes.specs.Takes.{MayTake, ReceivesTurn, paid, whole};
+ghost use Rattle.mq_takes.specs.Words as words;
 
 use crate::lifting::{cable_of, put_back};
 use mq_base::NoMemory;
@@ -17,7 +17,7 @@ use mq_wires::offer;
 
 /// The frame that was owed is offered.
 fn pay(end: &mut ReceiverEnd)
-    ensures { end.new ≡ paid end.old }
+    ensures { end.new ≡ words.paid end.old }
 {
     end.machine.done(&ReceiverDoes::PushOwed, &Seen::Nothing, &ReceiverOut::Done);
 }
@@ -29,7 +29,7 @@ fn pay(end: &mut ReceiverEnd)
 ///
 /// No memory; nothing has changed, and the end stands in its place.
 #[tactic(auto, using(crate::proofs::TakeLaws::take_low))]
-pub fn owed_turn<D: Disk, W: Wire>(
+pub(crate) fn owed_turn<D: Disk, W: Wire>(
     parts: &mut NodeParts<D>,
     offers: &mut Offers,
     wire: &mut W,
@@ -37,10 +37,10 @@ pub fn owed_turn<D: Disk, W: Wire>(
     owed: Owed,
 ) -> Result<Turn, NoMemory>
     requires room { 0 < parts.old.room }
-    requires may { MayTake end (whole end parts.old) }
+    requires may { words.MayTake end (words.whole end parts.old) }
     requires owes { end.machine.owes ≡ Some owed }
     requires count { offers.old.number < 2 ^ 48 }
-    ensures { ReceivesTurn end.cable (λ xs. W.reads wire.old xs wire.new) (λ xs. W.writes wire.old xs wire.new) (Unit {0}) (W.was_full wire.old wire.new) offers.old offers.new (whole end parts.old) result parts.new }
+    ensures { words.ReceivesTurn end.cable (λ xs. W.reads wire.old xs wire.new) (λ xs. W.writes wire.old xs wire.new) (Unit {0}) (W.was_full wire.old wire.new) offers.old offers.new (words.whole end parts.old) result parts.new }
 {
     let frame = owed.frame(parts.stamp + 1);
     let mut last = end;

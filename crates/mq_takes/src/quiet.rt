@@ -1,12 +1,9 @@
 //! A receiver's turn that takes an item and changes no more than the end.
 ghost use Rattle.std.specs.Prelude.{◌≡◌, ◌==◌, ◌+◌, ◌<◌, ◌≤◌, ◌^◌, [], ◌∷◌, ◌++◌, if◌then◌else◌, max, Ok, Some, IfOk, OnOk, OnErr};
-ghost use Rattle.mq_cable.specs.Offers.{Offering};
+ghost use Rattle.mq_takes.specs.Words as words;
 ghost use Rattle.mq_frame.specs.declared.frame.Seen.TheVariants as items;
-ghost use Rattle.mq_receiver.specs.Table.{receiver_next};
-ghost use Rattle.mq_spec_node.specs.Words.{ReceiverEnd as End, is_receiver_defined, kept_seen, kept_kind};
+ghost use Rattle.mq_spec_node.specs.Words.{ReceiverEnd as End};
 ghost use Rattle.mq_turns.specs.declared.telling.Turn.TheVariants as turns;
-ghost use Rattle.mq_wires.specs.Wires.{Sees};
-ghost use Rattle.mq_takes.specs.Takes.{IsQuietLine, Leaves, MayTake, ReceivesTurn, end_after, kept_after, whole};
 
 use crate::lifting::{cable_of, put_back};
 use mq_base::NoMemory;
@@ -69,7 +66,7 @@ fn keep_message(
 }
 
 fn keep_kind(alloc: Global, kept: &mut Messages, kind: &FrameKind) -> Result<(), NoMemory>
-    ensures ok { OnOk result (kept.new ≡ kept_kind kind.now kept.old) }
+    ensures ok { OnOk result (kept.new ≡ words.kept_kind kind.now kept.old) }
     ensures err { OnErr result (kept.new ≡ kept.old) }
 {
     match kind {
@@ -92,7 +89,7 @@ fn keep_kind(alloc: Global, kept: &mut Messages, kind: &FrameKind) -> Result<(),
 
 /// The message that was seen is kept.
 fn keep_seen(alloc: Global, kept: &mut Messages, seen: &Seen) -> Result<(), NoMemory>
-    ensures ok { OnOk result (kept.new ≡ kept_seen seen.now kept.old) }
+    ensures ok { OnOk result (kept.new ≡ words.kept_seen seen.now kept.old) }
     ensures err { OnErr result (kept.new ≡ kept.old) }
 {
     match seen {
@@ -109,7 +106,7 @@ fn keep_by(
     does: &ReceiverDoes,
     seen: &Seen,
 ) -> Result<(), NoMemory>
-    ensures ok { OnOk result (kept.new ≡ kept_after does.now seen.now kept.old) }
+    ensures ok { OnOk result (kept.new ≡ words.kept_after does.now seen.now kept.old) }
     ensures err { OnErr result (kept.new ≡ kept.old) }
 {
     match does {
@@ -131,7 +128,7 @@ fn step(
     does: &ReceiverDoes,
     seen: &Seen,
 ) -> Result<(), NoMemory>
-    ensures ok { OnOk result (end.new ≡ end_after end.old does.now seen.now) }
+    ensures ok { OnOk result (end.new ≡ words.end_after end.old does.now seen.now) }
     ensures err { OnErr result (end.new ≡ end.old) }
 {
     match keep_by(alloc, &mut end.kept, does, seen) {
@@ -147,9 +144,9 @@ fn step(
 fn leave<D: Disk, W: Wire>(parts: &mut NodeParts<D>, wire: &mut W, last: ReceiverEnd, sight: Sight)
     requires room { 0 < parts.old.room }
     requires stamp { parts.old.stamp < 2 ^ 60 }
-    requires sees { Sees (W.front_of wire.old) (Unit {0}) sight.seen sight.stamp }
+    requires sees { words.Sees (W.front_of wire.old) (Unit {0}) sight.seen sight.stamp }
     requires low { sight.stamp ≤ 2 ^ 60 }
-    ensures { (o : Offering) (e : End) → Leaves e last (max parts.old.stamp sight.stamp + 1) sight.seen (whole e parts.old) → ReceivesTurn e.cable (λ xs. W.reads wire.old xs wire.new) (λ xs. W.writes wire.old xs wire.new) (sight.seen ≡ items.Nothing) ⊥ o o (whole e parts.old) (Ok turns.Changed) parts.new }
+    ensures { (o : words.Offering) (e : End) → words.Leaves e last (max parts.old.stamp sight.stamp + 1) sight.seen (words.whole e parts.old) → words.ReceivesTurn e.cable (λ xs. W.reads wire.old xs wire.new) (λ xs. W.writes wire.old xs wire.new) (sight.seen ≡ items.Nothing) ⊥ o o (words.whole e parts.old) (Ok turns.Changed) parts.new }
 {
     let stamp = next_stamp(parts.stamp, sight.stamp);
     let cable = cable_of(&last);
@@ -183,12 +180,12 @@ pub(crate) fn quiet_turn<D: Disk, W: Wire>(
     sight: Sight,
 ) -> Result<Turn, NoMemory>
     requires room { 0 < parts.old.room }
-    requires may { MayTake end (whole end parts.old) }
-    requires quiet { IsQuietLine does }
-    requires next { does ≡ receiver_next end.machine sight.seen (is_receiver_defined end.channel parts.old.manager.plain.definitions) }
-    requires sees { Sees (W.front_of wire.old) (Unit {0}) sight.seen sight.stamp }
+    requires may { words.MayTake end (words.whole end parts.old) }
+    requires quiet { words.IsQuietLine does }
+    requires next { does ≡ words.receiver_next end.machine sight.seen (words.is_receiver_defined end.channel parts.old.manager.plain.definitions) }
+    requires sees { words.Sees (W.front_of wire.old) (Unit {0}) sight.seen sight.stamp }
     requires low { sight.stamp ≤ 2 ^ 60 }
-    ensures { (o : Offering) → ReceivesTurn end.cable (λ xs. W.reads wire.old xs wire.new) (λ xs. W.writes wire.old xs wire.new) (sight.seen ≡ items.Nothing) ⊥ o o (whole end parts.old) result parts.new }
+    ensures { (o : words.Offering) → words.ReceivesTurn end.cable (λ xs. W.reads wire.old xs wire.new) (λ xs. W.writes wire.old xs wire.new) (sight.seen ≡ items.Nothing) ⊥ o o (words.whole end parts.old) result parts.new }
 {
     let mut last = end;
     match step(parts.alloc, &mut last, &does, &sight.seen) {

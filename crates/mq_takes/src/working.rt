@@ -1,13 +1,9 @@
 //! The end of a receiver's turn that works at its manager.
 ghost use Rattle.std.specs.Prelude.{◌≡◌, ◌+◌, ◌<◌, ◌≤◌, ◌^◌, List, max, Ok};
-ghost use Rattle.mq_cable.specs.Offers.{Offering};
+ghost use Rattle.mq_takes.specs.Words as words;
 ghost use Rattle.mq_frame.specs.declared.frame.Seen.TheVariants as items;
-ghost use Rattle.mq_spec_node.specs.Terms.{Part};
 ghost use Rattle.mq_spec_node.specs.Words.{ReceiverEnd as End};
-ghost use Rattle.mq_events.specs.States.{NodeState};
 ghost use Rattle.mq_turns.specs.declared.telling.Turn.TheVariants as turns;
-ghost use Rattle.mq_wires.specs.Wires.{Sees};
-ghost use Rattle.mq_takes.specs.Takes.{ReceivesTurn, Works};
 
 use crate::lifting::cable_of;
 use mq_cable::Wire;
@@ -31,9 +27,9 @@ pub(crate) fn work_done<D: Disk, W: Wire>(
 )
     requires room { 0 < parts.old.room }
     requires stamp { parts.old.stamp < 2 ^ 60 }
-    requires sees { Sees (W.front_of wire.old) (Unit {0}) sight.seen sight.stamp }
+    requires sees { words.Sees (W.front_of wire.old) (Unit {0}) sight.seen sight.stamp }
     requires low { sight.stamp ≤ 2 ^ 60 }
-    ensures { (o : Offering) (e : End) (s : NodeState) (ps : List Part) → Works e last ps received sight.seen (max s.stamp sight.stamp + 1) told.choice told.delta s parts.old → ReceivesTurn e.cable (λ xs. W.reads wire.old xs wire.new) (λ xs. W.writes wire.old xs wire.new) (sight.seen ≡ items.Nothing) ⊥ o o s (Ok turns.Changed) parts.new }
+    ensures { (o : words.Offering) (e : End) (s : words.NodeState) (ps : List words.Part) → words.Works e last ps received sight.seen (max s.stamp sight.stamp + 1) told.choice told.delta s parts.old → words.ReceivesTurn e.cable (λ xs. W.reads wire.old xs wire.new) (λ xs. W.writes wire.old xs wire.new) (sight.seen ≡ items.Nothing) ⊥ o o s (Ok turns.Changed) parts.new }
 {
     let stamp = next_stamp(parts.stamp, sight.stamp);
     let cable = cable_of(&last);

@@ -27,7 +27,7 @@ pub down_is : (r : Running) (d : Option Deed) → is_up r ≡ false → where_up
 down_is Up d e = absurd cc
 down_is (Down noted starts) d e = refl
 
-none_is : (r : Running) (d : Option Deed) → d ≡ None → where_up r d ≡ None
+pub none_is : (r : Running) (d : Option Deed) → d ≡ None → where_up r d ≡ None
 none_is Up d e = e
 none_is (Down noted starts) d e = refl
 

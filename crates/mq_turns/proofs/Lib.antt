@@ -8,6 +8,13 @@ pub mod TableLaws
 pub mod SendLaws
 pub mod SettleLaws
 pub mod PushLaws
+pub mod HoldLaws
+pub mod GiveLaws
+pub mod BeginLaws
 pub mod WireLaws
+pub mod LineLaws
+pub mod PrepareLaws
+pub mod PreparedLaws
 pub mod QuietLaws
 pub mod CountLaws
+pub mod NodeLaws

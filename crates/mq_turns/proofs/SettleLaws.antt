@@ -126,3 +126,7 @@ want_same s cable x reads writes none full o k read written = want_turn s s cabl
   where
     le_self : (n : ℕ) → n ≤ n
     le_self n = omega arith
+
+-- so where the offering is named by its two states
+pub want_push : (s a : NodeState) (cable : ℕ) (x : Want) (reads writes : List Item → Type 0) (full : Type 0) (o : Offering) → a ≡ record s { manager = a.manager } → IsAsWas s.manager a.manager → IsKept s → reads [] → writes [] → SendsTurn cable reads writes (Unit {0}) full o o s (Err x) a
+want_push s a cable x reads writes full o g w k read written = want_turn s a cable x reads writes (Unit {0}) full o g w k read written

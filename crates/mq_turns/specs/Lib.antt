@@ -3,3 +3,7 @@ pub mod Told
 pub mod Sends
 pub mod Wired
 pub mod Acting
+pub mod Unseen
+pub mod Begins
+pub mod Turning
+pub mod Prepares

@@ -3,7 +3,7 @@ ghost use Rattle.std.specs.Prelude.{◌≡◌, ◌<◌, Some, true, option_map};
 ghost use Rattle.mq_core.specs.Views.{plain_of};
 ghost use Rattle.mq_spec_state.specs.Words.{in_doubt_of, sender_data};
 ghost use Rattle.mq_sync.specs.Settlement.{sender_or};
-ghost use Rattle.mq_spec_agents.specs.Words.{HasNoBatch, HasNoDoubt, HasSeized, unit_of};
+ghost use Rattle.mq_spec_agents.specs.Words.{HasNoBatch, HasSeized, unit_of};
 
 use mq_core::Parts;
 use mq_disk::Disk;
@@ -23,7 +23,7 @@ fn is_seized<D: Disk>(parts: &Parts<D>, channel: &ChName) -> bool
 }
 
 /// It holds no batch.
-fn has_no_batch<D: Disk>(parts: &Parts<D>, channel: &ChName) -> bool
+pub(crate) fn has_no_batch<D: Disk>(parts: &Parts<D>, channel: &ChName) -> bool
     ensures { result ≡ true → HasNoBatch channel.now (plain_of parts.now) }
 {
     match batch_of(&parts.ends.batches, channel) {

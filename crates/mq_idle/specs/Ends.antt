@@ -1,0 +1,25 @@
+-- Which ends of which cables a node has.
+use Rattle.std.specs.Prelude.{◌≡◌, ℕ, Bool, true, false, List, map, Option, Some}
+use Rattle.mq_history.specs.declared.scenario.CableLine.{CableLine}
+use Rattle.mq_spec_node.specs.Node.{ChannelEnd, Node, ReceiverEnd, SenderEnd, cable_of, receiver_end, sender_end}
+use Rattle.mq_spec_node.specs.Node.ChannelEnd.{Receives, Sends}
+use Rattle.mq_spec_network.specs.Turns.{Network, node_at}
+
+pub record Role : Type 0 where
+  pub cable : ℕ
+  pub sends : Bool
+
+abbrev pub sends_of : ChannelEnd → Bool
+sends_of (Sends e) = true
+sends_of (Receives e) = false
+
+abbrev pub role_of : ChannelEnd → Role
+role_of e = record { cable = cable_of e; sends = sends_of e }
+
+abbrev pub roles : List ChannelEnd → List Role
+roles es = map role_of es
+
+-- each end of a cable is at its manager
+pub record HasEnds (w : Network) (k : ℕ) (l : CableLine) : Type 0 where
+  pub sender : (n : Node) → node_at w l.sender ≡ Some n → (e : SenderEnd) × (sender_end k n.own ≡ Some e)
+  pub receiver : (n : Node) → node_at w l.receiver ≡ Some n → (e : ReceiverEnd) × (receiver_end k n.own ≡ Some e)

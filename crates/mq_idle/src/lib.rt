@@ -1,0 +1,10 @@
+//! Whether a cable is idle, asked of its two ends and of what lies on it, without a turn.
+#![tactic(auto)]
+
+mod cables;
+mod full;
+mod receiving;
+mod rows;
+mod sending;
+
+pub use cables::cable_idle;

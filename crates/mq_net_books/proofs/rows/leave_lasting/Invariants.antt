@@ -1,9 +1,0 @@
-use Rattle.std.proofs.Common.{◌≡◌, ◌++◌, take, drop}
-use Rattle.std.specs.Prelude.{map}
-use Rattle.mq_queue.specs.declared.row.Row.{Row}
-use Rattle.mq_calls.specs.declared.image.Shelf.{Shelf}
-use Rattle.mq_queue.specs.Rows.{is_persistent, keep}
-use Rattle.mq_net_books.proofs.rows.leave_lasting.Given as goal
-
-abbrev pub invariant-loop-at : goal.invariant-loop-at
-invariant-loop-at l = l.shelves ≡ map (λ (s : Shelf). record s { rows = keep (λ (row : Row). is_persistent row.message) s.rows }) (take l.at l.fn.shelves) ++ drop l.at l.fn.shelves

@@ -1,0 +1,5 @@
+mod KeyLaws
+mod LaneLaws
+mod QueueLaws
+mod SeatLaws
+mod StoreLaws

@@ -1,0 +1,246 @@
+-- Slots: a row more, rows that stay, and which slot holds a row.
+use Rattle.std.proofs.Common.{ℕ, zero, suc, ◌≡◌, ◌+◌, ◌<◌, ◌≤◌, Bool, true, false, eqb, cond, List, [], ◌∷◌, ◌++◌, Option, Some, None, refl, ap, sym, ◌∙◌, arith, length, take, drop}
+use Rattle.std.specs.Prelude.{nat_lt, map, not, slice_get, slice_set, ◌&&◌}
+use Rattle.std.proofs.lemmas.Bool.Decides.{nat_tests}
+use Rattle.mq_message.specs.declared.message.Ident.{Ident}
+use Rattle.mq_queue.specs.declared.row.Row.{Row}
+use Rattle.mq_queue.specs.Rows.{keep, same_ident, has_ident, is_persistent}
+use Rattle.mq_net_rows.specs.Stored.{slot_or, row_at, row_list, rows_of, kept_slot, kept_if, kept_at as kept_there, holds}
+
+-- Idents.
+pub ident_is : (a b : Ident) → same_ident a b ≡ true → a ≡ b
+ident_is a b e =
+    let manager : a.manager ≡ b.manager = by0 a.manager b.manager a.incarnation b.incarnation a.number b.number e in
+    let incarnation : a.incarnation ≡ b.incarnation = by1 a.manager b.manager a.incarnation b.incarnation a.number b.number e in
+    let number : a.number ≡ b.number = by2 a.manager b.manager a.incarnation b.incarnation a.number b.number e in
+    λ i. record { manager = manager i; incarnation = incarnation i; number = number i }
+  where
+    by0 : (m1 m2 i1 i2 n1 n2 : ℕ) → ((eqb m1 m2 && eqb i1 i2) && eqb n1 n2) ≡ true → m1 ≡ m2
+    by0 m1 m2 i1 i2 n1 n2 e = grind (arith, nat_tests)
+
+    by1 : (m1 m2 i1 i2 n1 n2 : ℕ) → ((eqb m1 m2 && eqb i1 i2) && eqb n1 n2) ≡ true → i1 ≡ i2
+    by1 m1 m2 i1 i2 n1 n2 e = grind (arith, nat_tests)
+
+    by2 : (m1 m2 i1 i2 n1 n2 : ℕ) → ((eqb m1 m2 && eqb i1 i2) && eqb n1 n2) ≡ true → n1 ≡ n2
+    by2 m1 m2 i1 i2 n1 n2 e = grind (arith, nat_tests)
+
+pub ident_self : (a : Ident) → same_ident a a ≡ true
+ident_self a = by a.manager a.incarnation a.number
+  where
+    by : (m i n : ℕ) → ((eqb m m && eqb i i) && eqb n n) ≡ true
+    by m i n = grind (arith, nat_tests)
+
+-- A slot more.
+pub row_before : (store : List (Option Row)) (x : Option Row) (k : ℕ) → k < length store → row_at (store ++ x ∷ []) k ≡ row_at store k
+row_before [] x k lt = absurd (omega (arith, lt))
+row_before (s ∷ ss) x zero lt = refl
+row_before (s ∷ ss) x (suc k) lt = row_before ss x k (omega (arith, lt))
+
+pub row_last : (store : List (Option Row)) (x : Option Row) → row_at (store ++ x ∷ []) (length store) ≡ x
+row_last [] x = refl
+row_last (s ∷ ss) x = row_last ss x
+
+pub row_beyond : (store : List (Option Row)) (k : ℕ) → length store ≤ k → row_at store k ≡ None
+row_beyond [] k le = refl
+row_beyond (s ∷ ss) zero le = absurd (omega (arith, le))
+row_beyond (s ∷ ss) (suc k) le = row_beyond ss k (omega (arith, le))
+
+pub set_last : (store : List (Option Row)) (x y : Option Row) → slice_set (store ++ x ∷ []) (length store) y ≡ store ++ y ∷ []
+set_last [] x y = refl
+set_last (s ∷ ss) x y = ap (λ (l : List (Option Row)). s ∷ l) (set_last ss x y)
+
+pub longer : (store : List (Option Row)) (x : Option Row) → length (store ++ x ∷ []) ≡ length store + 1
+longer [] x = refl
+longer (s ∷ ss) x = let h = longer ss x in omega (arith, h)
+
+-- a row of the longer store is one of before, or the new one
+pub row_either : {A : Type 0} (store : List (Option Row)) (x : Option Row) (k : ℕ) (row : Row) → row_at (store ++ x ∷ []) k ≡ Some row → (k < length store → row_at store k ≡ Some row → A) → (k ≡ length store → x ≡ Some row → A) → A
+row_either {A} store x k row e old new = by (nat_lt k (length store)) refl
+  where
+    last : (n : ℕ) → length store ≡ n → k ≡ n → x ≡ Some row
+    last n is same = sym (row_last store x) ∙ ap (row_at (store ++ x ∷ [])) (is ∙ sym same) ∙ e
+
+    beyond : length store < k → A
+    beyond lt = absurd (let t : None ≡ Some row = sym (row_beyond (store ++ x ∷ []) k (omega (arith, longer store x, lt))) ∙ e in cc)
+
+    at : (b : Bool) → nat_lt (length store) k ≡ b → nat_lt k (length store) ≡ false → A
+    at true h g = beyond (grind (arith, nat_tests, h))
+    at false h g = let same : k ≡ length store = grind (arith, nat_tests, h, g) in new same (last (length store) refl same)
+
+    by : (b : Bool) → nat_lt k (length store) ≡ b → A
+    by true h = let lt : k < length store = grind (arith, nat_tests, h) in old lt (sym (row_before store x k lt) ∙ e)
+    by false h = at (nat_lt (length store) k) refl h
+
+-- Rows that stay.
+module _ (stays : Row → Bool) where
+  pub kept_long : (store : List (Option Row)) → length (map (kept_slot stays) store) ≡ length store
+  kept_long [] = refl
+  kept_long (s ∷ ss) = ap (λ n. suc n) (kept_long ss)
+
+  pub kept_at : (store : List (Option Row)) (k : ℕ) → row_at (map (kept_slot stays) store) k ≡ kept_slot stays (row_at store k)
+  kept_at [] k = refl
+  kept_at (s ∷ ss) zero = refl
+  kept_at (s ∷ ss) (suc k) = kept_at ss k
+
+  kept_was : (o : Option Row) (row : Row) → kept_slot stays o ≡ Some row → o ≡ Some row
+  kept_was None row e = e
+  kept_was (Some x) row e = by (stays x) e
+    where
+      by : (b : Bool) → cond b (Some x) None ≡ Some row → Some x ≡ Some row
+      by true e = e
+      by false e = absurd cc
+
+  kept_stays : (o : Option Row) (row : Row) → kept_slot stays o ≡ Some row → stays row ≡ true
+  kept_stays None row e = absurd cc
+  kept_stays (Some x) row e = by (stays x) refl e
+    where
+      some_is : (a b : Row) → Some a ≡ Some b → a ≡ b
+      some_is a b e = grind (arith, e)
+
+      by : (b : Bool) → stays x ≡ b → cond b (Some x) None ≡ Some row → stays row ≡ true
+      by true h e = ap stays (sym (some_is x row e)) ∙ h
+      by false h e = absurd cc
+
+  -- a row that stands was there, and passed
+  pub row_was : (store : List (Option Row)) (k : ℕ) (row : Row) → row_at (map (kept_slot stays) store) k ≡ Some row → row_at store k ≡ Some row
+  row_was store k row e = kept_was (row_at store k) row (sym (kept_at store k) ∙ e)
+
+  pub row_stays : (store : List (Option Row)) (k : ℕ) (row : Row) → row_at (map (kept_slot stays) store) k ≡ Some row → stays row ≡ true
+  row_stays store k row e = kept_stays (row_at store k) row (sym (kept_at store k) ∙ e)
+
+  pub keep_both : (xs ys : List Row) → keep stays (xs ++ ys) ≡ keep stays xs ++ keep stays ys
+  keep_both [] ys = refl
+  keep_both (x ∷ xs) ys = by (stays x) (keep_both xs ys)
+    where
+      by : (b : Bool) → keep stays (xs ++ ys) ≡ keep stays xs ++ keep stays ys → cond b (x ∷ keep stays (xs ++ ys)) (keep stays (xs ++ ys)) ≡ cond b (x ∷ keep stays xs) (keep stays xs) ++ keep stays ys
+      by true e = ap (λ (l : List Row). x ∷ l) e
+      by false e = e
+
+  kept_list : (o : Option Row) → row_list (kept_slot stays o) ≡ keep stays (row_list o)
+  kept_list None = refl
+  kept_list (Some x) = by (stays x)
+    where
+      by : (b : Bool) → row_list (cond b (Some x) None) ≡ cond b (x ∷ []) []
+      by true = refl
+      by false = refl
+
+  pub kept_rows : (store : List (Option Row)) (ks : List ℕ) → rows_of (map (kept_slot stays) store) ks ≡ keep stays (rows_of store ks)
+  kept_rows store [] = refl
+  kept_rows store (k ∷ ks) =
+      ap (λ (o : Option Row). row_list o ++ rows_of (map (kept_slot stays) store) ks) (kept_at store k)
+      ∙ ap (λ (l : List Row). l ++ rows_of (map (kept_slot stays) store) ks) (kept_list (row_at store k))
+      ∙ ap (λ (l : List Row). keep stays (row_list (row_at store k)) ++ l) (kept_rows store ks)
+      ∙ sym (keep_both (row_list (row_at store k)) (rows_of store ks))
+
+-- A slot is emptied, or left.
+pub emptied : (ident : Ident) (slot : Option Row) → holds (has_ident ident) slot ≡ true → None ≡ kept_slot (λ (row : Row). not (has_ident ident row)) slot
+emptied ident None e = refl
+emptied ident (Some row) e = by (has_ident ident row) e
+  where
+    by : (b : Bool) → b ≡ true → None ≡ cond (not b) (Some row) None
+    by true e = refl
+    by false e = absurd cc
+
+pub left : (ident : Ident) (slot : Option Row) → holds (has_ident ident) slot ≡ false → slot ≡ kept_slot (λ (row : Row). not (has_ident ident row)) slot
+left ident None e = refl
+left ident (Some row) e = by (has_ident ident row) e
+  where
+    by : (b : Bool) → b ≡ false → Some row ≡ cond (not b) (Some row) None
+    by true e = absurd cc
+    by false e = refl
+
+pub lost : (slot : Option Row) → holds (λ (row : Row). not (is_persistent row.message)) slot ≡ true → None ≡ kept_slot (λ (row : Row). is_persistent row.message) slot
+lost None e = refl
+lost (Some row) e = by (is_persistent row.message) e
+  where
+    by : (b : Bool) → not b ≡ true → None ≡ cond b (Some row) None
+    by true e = absurd cc
+    by false e = refl
+
+pub lasting : (slot : Option Row) → holds (λ (row : Row). not (is_persistent row.message)) slot ≡ false → slot ≡ kept_slot (λ (row : Row). is_persistent row.message) slot
+lasting None e = refl
+lasting (Some row) e = by (is_persistent row.message) e
+  where
+    by : (b : Bool) → not b ≡ false → Some row ≡ cond b (Some row) None
+    by true e = refl
+    by false e = absurd cc
+
+-- One slot is looked at, where no other holds such a row.
+module _ (stays : Row → Bool) where
+  same_slot : (s : Option Row) → ((row : Row) → s ≡ Some row → stays row ≡ false → ⊥) → s ≡ kept_slot stays s
+  same_slot None n = refl
+  same_slot (Some row) n = by (stays row) refl
+    where
+      by : (b : Bool) → stays row ≡ b → Some row ≡ cond b (Some row) None
+      by true h = refl
+      by false h = absurd (n row refl h)
+
+  none_more : (ss : List (Option Row)) → ((k : ℕ) (row : Row) → row_at ss k ≡ Some row → stays row ≡ false → ⊥) → ss ≡ map (kept_slot stays) ss
+  none_more [] n = refl
+  none_more (s ∷ ss) n =
+      ap (λ (x : Option Row). x ∷ ss) (same_slot s (λ row e h. n zero row e h))
+      ∙ ap (λ (l : List (Option Row)). kept_slot stays s ∷ l) (none_more ss (λ k row e h. n (suc k) row e h))
+
+  here : (store : List (Option Row)) (at : ℕ) (slot : Option Row) → slice_get store at ≡ Some slot → ((k : ℕ) (row : Row) → row_at store k ≡ Some row → stays row ≡ false → k ≡ at)
+      → slice_set store at (kept_slot stays slot) ≡ map (kept_slot stays) store
+  here [] at slot g n = absurd cc
+  here (s ∷ ss) zero slot g n =
+      ap (λ (x : Option Row). kept_slot stays x ∷ ss) (sym (slot_is s slot g))
+      ∙ ap (λ (l : List (Option Row)). kept_slot stays s ∷ l) (none_more ss (λ k row e h. absurd (let t = n (suc k) row e h in omega (arith, t))))
+    where
+      slot_is : (a b : Option Row) → Some a ≡ Some b → a ≡ b
+      slot_is a b e = grind (arith, e)
+  here (s ∷ ss) (suc at) slot g n =
+      ap (λ (l : List (Option Row)). s ∷ l) (here ss at slot g (λ k row e h. let t = n (suc k) row e h in omega (arith, t)))
+      ∙ ap (λ (x : Option Row). x ∷ map (kept_slot stays) ss) (same_slot s (λ row e h. absurd (let t = n zero row e h in omega (arith, t))))
+
+  -- no slot holds one
+  pub none_one : (store : List (Option Row)) → ((k : ℕ) (row : Row) → row_at store k ≡ Some row → stays row ≡ false → ⊥) → store ≡ map (kept_slot stays) store
+  none_one store n = none_more store n
+
+  pub only_one : (store : List (Option Row)) (at : ℕ) → ((k : ℕ) (row : Row) → row_at store k ≡ Some row → stays row ≡ false → k ≡ at) → kept_there stays at store ≡ map (kept_slot stays) store
+  only_one store at n = by (slice_get store at) refl
+    where
+      past : slice_get store at ≡ None → (k : ℕ) (row : Row) → row_at store k ≡ Some row → stays row ≡ false → ⊥
+      past g k row e h = absurd (let t : None ≡ Some row = sym (ap slot_or g) ∙ ap (row_at store) (sym (n k row e h)) ∙ e in cc)
+
+      by : (o : Option (Option Row)) → slice_get store at ≡ o → kept_if stays o at store ≡ map (kept_slot stays) store
+      by None g = none_one store (past g)
+      by (Some slot) g = here store at slot g n
+
+-- What a look-up changes, and the loop over all slots.
+pub kept_far : (stays : Row → Bool) (store : List (Option Row)) (at : ℕ) → length store ≤ at → store ≡ kept_there stays at store
+kept_far stays store at le = by (slice_get store at) (far store at le)
+  where
+    far : (xs : List (Option Row)) (n : ℕ) → length xs ≤ n → slice_get xs n ≡ None
+    far [] n l = refl
+    far (x ∷ xs) zero l = absurd (omega (arith, l))
+    far (x ∷ xs) (suc n) l = far xs n (omega (arith, l))
+
+    by : (o : Option (Option Row)) → o ≡ None → store ≡ kept_if stays o at store
+    by None e = refl
+    by (Some slot) e = absurd cc
+
+mapped_suc : {X : Type 0} (f : X → X) (xs : List X) (i : ℕ) (old : X) → i < length xs → slice_get (map f (take i xs) ++ drop i xs) i ≡ Some old → slice_set (map f (take i xs) ++ drop i xs) i (f old) ≡ map f (take (suc i) xs) ++ drop (suc i) xs
+mapped_suc f [] i old lt e = absurd (omega (arith, lt))
+mapped_suc f (x ∷ xs) zero old lt e = grind (arith)
+mapped_suc f (x ∷ xs) (suc i) old lt e = grind (arith, mapped_suc f xs i old)
+
+add_one : (i : ℕ) → suc i ≡ i + 1
+add_one i = omega arith
+
+pub mapped_next : {X : Type 0} (f : X → X) (xs ys : List X) (i : ℕ) (old new : X) → ys ≡ map f (take i xs) ++ drop i xs → i < length xs → slice_get ys i ≡ Some old → new ≡ f old → slice_set ys i new ≡ map f (take (i + 1) xs) ++ drop (i + 1) xs
+mapped_next {X} f xs ys i old new so_far lt e is =
+    ap (slice_set ys i) is ∙ ap (λ (l : List X). slice_set l i (f old)) so_far
+    ∙ mapped_suc f xs i old lt (ap (λ (l : List X). slice_get l i) (sym so_far) ∙ e)
+    ∙ ap (λ (n : ℕ). map f (take n xs) ++ drop n xs) (add_one i)
+
+pub mapped_all : {X : Type 0} (f : X → X) (xs : List X) → map f (take (length xs) xs) ++ drop (length xs) xs ≡ map f xs
+mapped_all f [] = refl
+mapped_all {X} f (x ∷ xs) = ap (λ (l : List X). f x ∷ l) (mapped_all f xs)
+
+pub mapped_long : {X : Type 0} (f : X → X) (xs : List X) (i : ℕ) → length (map f (take i xs) ++ drop i xs) ≡ length xs
+mapped_long f [] zero = refl
+mapped_long f [] (suc i) = refl
+mapped_long f (x ∷ xs) zero = refl
+mapped_long f (x ∷ xs) (suc i) = ap (λ (n : ℕ). suc n) (mapped_long f xs i)

@@ -1,0 +1,9 @@
+use Rattle.std.proofs.Common.{◌≡◌, ◌++◌, take, drop}
+use Rattle.std.specs.Prelude.{map, not}
+use Rattle.mq_queue.specs.declared.row.Row.{Row}
+use Rattle.mq_queue.specs.Rows.{has_ident}
+use Rattle.mq_net_rows.specs.Stored.{kept_slot}
+use Rattle.mq_net_rows.proofs.store.clear_each.Given as goal
+
+abbrev pub invariant-loop-at : goal.invariant-loop-at
+invariant-loop-at l = l.store ≡ map (kept_slot (λ (row : Row). not (has_ident l.ident row))) (take l.at l.fn.store) ++ drop l.at l.fn.store

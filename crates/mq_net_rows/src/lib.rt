@@ -1,0 +1,11 @@
+//! Rows of one manager, queue by queue, as a ledger keeps them: placed last in a lane, and taken by their idents.
+#![tactic(auto)]
+
+mod copies;
+mod homes;
+mod lanes;
+mod shelves;
+mod store;
+
+pub use copies::copy_message;
+pub use shelves::Shelves;

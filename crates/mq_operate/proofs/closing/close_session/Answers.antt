@@ -1,0 +1,9 @@
+use Rattle.mq_calls.specs.declared.agents.Note.TheVariants as notes
+use Rattle.mq_spec_agents.specs.Words.{harden}
+use Rattle.mq_spec_node.specs.Words.{parts_of}
+use Rattle.mq_operate.proofs.CloseLaws.{made_unbound}
+use Rattle.mq_operate.proofs.closing.close_session.Goals as goal
+
+pub returns-in-Ok : goal.returns-in-Ok
+returns-in-Ok g c =
+    made_unbound (parts_of (harden c.args.channel.now (notes.Closed c.args.session) c.args.manager.now.plain)) c.args.channel.now c.in-Ok.told.choice c.in-Ok.told.delta c.args.manager.now c.hardened.new.manager c.unbind_if.new.manager c.in-Ok.ensures c.unbind_if.ensures
