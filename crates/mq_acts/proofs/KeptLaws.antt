@@ -1,8 +1,8 @@
 -- What is kept of a channel, end by end.
 use Rattle.std.proofs.Common.{◌≡◌, refl, ap}
 use Rattle.std.specs.Prelude.{Option, Some, None}
-use Rattle.mq_spec_state.specs.Words.{ChannelData, ReceiverData, SenderData}
-use Rattle.mq_spec_agents.specs.Seizing.{kept_by}
+use Rattle.mq_calls.specs.Words.{ChannelData, ReceiverData, SenderData}
+use Rattle.mq_spec_manager.specs.Seizing.{kept_by}
 
 some_is : {A : Type 0} (a b : A) → Some a ≡ Some b → a ≡ b
 some_is a b e = cc

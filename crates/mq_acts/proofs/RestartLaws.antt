@@ -6,7 +6,7 @@ use Rattle.mq_calls.specs.declared.commands.RestartFault.{RestartFault}
 use Rattle.mq_history.specs.declared.acts.Act.TheVariants as acts
 use Rattle.mq_history.specs.declared.acts.Acted.{Acted}
 use Rattle.mq_history.specs.declared.calls.Call.TheVariants as calls
-use Rattle.mq_spec_state.specs.Images.{raised}
+use Rattle.mq_calls.specs.Images.{raised}
 use Rattle.mq_core.specs.Values.{CoreValue}
 use Rattle.mq_restart.specs.Returned.{IsOfImage}
 use Rattle.mq_spec_node.specs.Terms.{Actor, Call, Entry, Plain}

@@ -11,10 +11,10 @@ use Rattle.mq_calls.specs.declared.image.Image.{Image}
 use Rattle.mq_history.specs.declared.acts.Acted.TheVariants as acted
 use Rattle.mq_history.specs.declared.calls.Chance.TheVariants as chances
 use Rattle.mq_history.specs.declared.calls.Reply.TheVariants as replies
-use Rattle.mq_spec_state.specs.State.{LogState, Noted, Running}
-use Rattle.mq_spec_state.specs.State.Running.{Up, Down}
-use Rattle.mq_spec_state.specs.Images.{begun, raised}
-use Rattle.mq_spec_state.specs.Words.{Plain, is_up}
+use Rattle.mq_calls.specs.State.{LogState, Noted, Running}
+use Rattle.mq_calls.specs.State.Running.{Up, Down}
+use Rattle.mq_calls.specs.Images.{begun, raised}
+use Rattle.mq_calls.specs.Words.{Plain, is_up}
 use Rattle.mq_spec_manager.specs.Stops.{CanReturn, failed, restart, restart_at}
 use Rattle.mq_law_manager.specs.Facts.{IsSound}
 use Rattle.mq_law_manager.proofs.Beginning.{image_rests}

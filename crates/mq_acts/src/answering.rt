@@ -4,7 +4,7 @@ ghost use Rattle.std.specs.Prelude.{◌≡◌, ◌+◌, ◌<◌, ◌^◌, ◌↔
 ghost use Rattle.mq_history.specs.declared.acts.Act.TheVariants as acts;
 ghost use Rattle.mq_history.specs.declared.calls.Call.TheVariants as calls;
 ghost use Rattle.mq_sc_parse.specs.declared.command.Command.TheVariants as commands;
-ghost use Rattle.mq_spec_state.specs.Words.{is_up};
+ghost use Rattle.mq_calls.specs.Words.{is_up};
 ghost use Rattle.mq_acts.specs.Shows.{shown_as};
 ghost use Rattle.mq_events.specs.States.{IsServed, finished, quietly};
 ghost use Rattle.mq_events.specs.Events.{ActsAs, MayAct};
@@ -12,13 +12,12 @@ ghost use Rattle.mq_events.specs.Counts.{IsNode};
 ghost use Rattle.mq_acts.specs.Answers.{absent};
 
 use crate::showing::show_status;
-use mq_base::{Items, NoMemory};
+use mq_base::{ChName, Items, NoMemory};
 use mq_calls::Choice;
 use mq_disk::Disk;
 use mq_events::{Node, NodeParts, Outcome};
 use mq_history::{Act, Acted, Actor, Call, OpRefusal, Reply};
 use mq_manager::Manager;
-use mq_name::ChName;
 use mq_sc_parse::{Command, Op};
 
 /// The entry of a command that is answered so and nothing else, in room that is there.

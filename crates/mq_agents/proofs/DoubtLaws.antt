@@ -1,11 +1,11 @@
 -- A batch that becomes the unit in doubt.
 use Rattle.std.proofs.Common.{◌≡◌, ℕ, ◌+◌, ◌<◌, ◌≤◌, Bool, true, false, cond, List, [], ◌∷◌, length, refl, ap, arith, sym, subst, ◌∙◌}
 use Rattle.std.specs.Prelude.{Option, Some, None}
-use Rattle.mq_spec_state.specs.Words.{Batch, InDoubt, SenderData, PrepareFault, Plain, Part, Change, Noted, LogRecord, Step, Do, Refuse, sender_or, sender_data, data_prepared, batch_of, is_full, need, when, refused_or, apply}
-use Rattle.mq_spec_state.specs.State.Change.{SetSender, DropBatch}
+use Rattle.mq_calls.specs.Words.{Batch, InDoubt, SenderData, PrepareFault, Plain, Part, Change, Noted, LogRecord, Step, Do, Refuse, sender_or, sender_data, data_prepared, batch_of, is_full, need, when, refused_or, apply}
+use Rattle.mq_calls.specs.State.Change.{SetSender, DropBatch}
 use Rattle.mq_calls.specs.declared.agents.PrepareFault.TheVariants as prepare_faults
 use Rattle.mq_calls.specs.declared.deltas.Did.TheVariants as did
-use Rattle.mq_spec_agents.specs.Words.{prepare, prepare_of, prepared_doubt, prepared_record}
+use Rattle.mq_spec_manager.specs.Agents.{prepare, prepare_of, prepared_doubt, prepared_record}
 use Rattle.mq_core.specs.declared.parts.StoppedWrite.TheVariants as writes
 use Rattle.mq_core.specs.Views.{PartsValue, plain_of, frozen_of, noted, noted_batch}
 use Rattle.mq_core.specs.Ties.{Tied, mode_is_up}

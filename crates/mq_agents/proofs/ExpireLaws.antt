@@ -8,13 +8,13 @@ use Rattle.mq_queue.specs.Queues.{AreInOrder}
 use Rattle.mq_calls.specs.declared.commands.Halt.TheVariants as halts
 use Rattle.mq_disk.specs.declared.cutter.Stop.TheVariants as stops
 use Rattle.mq_calls.specs.declared.deltas.Why.TheVariants as whys
-use Rattle.mq_spec_state.specs.Words.{Halt, Reason, Part, ManagerValue, Remove, MeetsOrWants, Do}
+use Rattle.mq_calls.specs.Words.{Halt, Reason, Part, ManagerValue, Remove, MeetsOrWants, Do}
 use Rattle.mq_spec_manager.specs.Words.{Never}
 use Rattle.mq_scan.specs.declared.scanning.Met.{Met}
 use Rattle.mq_scan.specs.Scans.{met_of}
 use Rattle.mq_base.specs.declared.want.NoMemory.{NoMemory}
-use Rattle.mq_spec_state.specs.State.{Queue as StateQueue}
-use Rattle.mq_spec_agents.specs.Words.{expired_rows}
+use Rattle.mq_calls.specs.State.{Queue as StateQueue}
+use Rattle.mq_spec_manager.specs.Agents.{expired_rows}
 use Rattle.mq_place.specs.States.{QueueState, state_in, rows_after, is_free_after}
 use Rattle.mq_core.proofs.PlaceLaws.{queue_in_state}
 use Rattle.mq_place.proofs.AfterLaws.{free_next, free_none, rows_from_front}

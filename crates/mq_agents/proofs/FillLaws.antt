@@ -8,7 +8,7 @@ use Rattle.mq_message.specs.declared.message.Ident.{Ident}
 use Rattle.mq_frame.specs.Frames.{ident_bytes, IsIdent}
 use Rattle.mq_record.specs.Room.{Buffered, with_piece}
 use Rattle.mq_record.proofs.SizeLaws.{ident_whole}
-use Rattle.mq_spec_state.specs.Words.{is_full}
+use Rattle.mq_calls.specs.Words.{is_full}
 use Rattle.mq_core.specs.Views.{PartsValue, plain_of}
 use Rattle.mq_agents.specs.Removing.{ident_put}
 use Rattle.mq_core.specs.Ties.{Tied}

@@ -11,11 +11,11 @@ use Rattle.mq_record.specs.Room.{Buffered, with_piece}
 use Rattle.mq_record.specs.Records.{record_bytes, unit_front, remove_bytes, IsRemove, IsRecord}
 use Rattle.mq_record.proofs.SizeLaws.{remove_whole}
 use Rattle.mq_queue.proofs.Edits.{same_is}
-use Rattle.mq_spec_state.specs.State.{Queue as StateQueue}
-use Rattle.mq_spec_state.specs.Words.{Ident, Message, Remove, Row, Plain, Part, Among, Step, Do, has_ident, is_persistent, stored, queue_in, kept_in, selects, keep, apply}
-use Rattle.mq_spec_state.specs.State.Change.{Leave}
+use Rattle.mq_calls.specs.State.{Queue as StateQueue}
+use Rattle.mq_calls.specs.Words.{Ident, Message, Remove, Row, Plain, Part, Among, Step, Do, has_ident, is_persistent, stored, queue_in, kept_in, selects, keep, apply}
+use Rattle.mq_calls.specs.State.Change.{Leave}
 use Rattle.mq_spec_manager.specs.Words.{Never, removal_part, removal_record}
-use Rattle.mq_spec_agents.specs.Words.{HasFreeRow, row_with, discard, discard_rows}
+use Rattle.mq_spec_manager.specs.Agents.{HasFreeRow, row_with, discard, discard_rows}
 use Rattle.mq_place.specs.States.{queues_of}
 use Rattle.mq_core.specs.Views.{PartsValue, plain_of}
 use Rattle.mq_core.specs.Ties.{Tied, mode_is_up, one_if, times_in_rows, times_in_queues}

@@ -5,11 +5,11 @@ use Rattle.mq_message.specs.declared.place.Holder.{Holder}
 use Rattle.mq_message.specs.declared.place.Holder.TheVariants as holders
 use Rattle.mq_calls.specs.declared.agents.Note.TheVariants as notes
 use Rattle.mq_calls.specs.declared.records.LogRecord.TheVariants as records
-use Rattle.mq_spec_state.specs.State.{Queue as StateQueue}
-use Rattle.mq_spec_state.specs.Words.{Ident, Row, Remove, Luw, Plain, Part, Step, Do, SenderData, HeldBy, kept_in, selects, sender_or, sender_data, apply, apply_all}
-use Rattle.mq_spec_state.specs.State.Change.{SetSender}
+use Rattle.mq_calls.specs.State.{Queue as StateQueue}
+use Rattle.mq_calls.specs.Words.{Ident, Row, Remove, Luw, Plain, Part, Step, Do, SenderData, HeldBy, kept_in, selects, sender_or, sender_data, apply, apply_all}
+use Rattle.mq_calls.specs.State.Change.{SetSender}
 use Rattle.mq_spec_manager.specs.Words.{Never}
-use Rattle.mq_spec_agents.specs.Words.{harden, held_rows, settle_change}
+use Rattle.mq_spec_manager.specs.Agents.{harden, held_rows, settle_change}
 use Rattle.mq_core.specs.declared.parts.StoppedWrite.TheVariants as writes
 use Rattle.mq_core.specs.Views.{PartsValue, plain_of, frozen_of, noted}
 use Rattle.mq_core.specs.Ties.{Tied, mode_is_up, times_in_rows}

@@ -8,8 +8,8 @@ use Rattle.mq_message.specs.declared.message.Ident.{Ident}
 use Rattle.mq_queue.specs.declared.row.Row.{Row}
 use Rattle.mq_queue.specs.Rows.{is_free, has_priority}
 use Rattle.mq_queue.specs.Queues.{count_waiting}
-use Rattle.mq_spec_state.specs.Reads.{is_past}
-use Rattle.mq_spec_agents.specs.Words.{at_number}
+use Rattle.mq_calls.specs.Reads.{is_past}
+use Rattle.mq_spec_manager.specs.Agents.{at_number}
 use Rattle.mq_agents.specs.Ends.{is_free_past}
 
 pub any_found : (test : Row → Bool) (rows : List Row) → is_some (find test rows) ≡ list_any test rows

@@ -9,14 +9,14 @@ use Rattle.mq_sync.specs.declared.data.End.TheVariants as sync_ends
 use Rattle.mq_log.specs.State.{LogState, Appended}
 use Rattle.mq_log.specs.Force.{Stops}
 use Rattle.mq_record.specs.Records.{record_bytes}
-use Rattle.mq_spec_state.specs.Words.{Plain, Part, Change, Did, Note, LogRecord, ManagerValue, Wants, MeetsDone, MeetsOrWants, Do, Halt, AgentStop, Noted, record_size, need, logged, apply, apply_all, freeze, note_of}
+use Rattle.mq_calls.specs.Words.{Plain, Part, Change, Did, Note, LogRecord, ManagerValue, Wants, MeetsDone, MeetsOrWants, Do, Halt, AgentStop, Noted, record_size, need, logged, apply, apply_all, freeze, note_of}
 use Rattle.mq_calls.specs.declared.agents.Note.TheVariants as notes
 use Rattle.mq_calls.specs.declared.agents.AgentStop.TheVariants as agent_stops
 use Rattle.mq_calls.specs.declared.commands.Halt.TheVariants as halts
 use Rattle.mq_calls.specs.declared.deltas.Did.TheVariants as did
-use Rattle.mq_spec_state.specs.Meeting.Wants.{Anywhere}
+use Rattle.mq_calls.specs.Meeting.Wants.{Anywhere}
 use Rattle.mq_spec_manager.specs.Words.{Never}
-use Rattle.mq_spec_agents.specs.Words.{harden, harden_part}
+use Rattle.mq_spec_manager.specs.Agents.{harden, harden_part}
 use Rattle.mq_core.specs.declared.parts.ChannelEnds.{ChannelEnds}
 use Rattle.mq_core.specs.declared.parts.StoppedWrite.{StoppedWrite}
 use Rattle.mq_core.specs.declared.parts.StoppedWrite.TheVariants as writes
@@ -34,8 +34,8 @@ use Rattle.mq_agents.specs.Written.{IsWhole, IsWritten, IsDowned, Writes, agent_
 use Rattle.mq_agents.specs.declared.hardening.Unwritten.{Unwritten}
 use Rattle.mq_agents.specs.declared.hardening.Unwritten.TheVariants as unwritten
 use Rattle.mq_agents.specs.Ends.{by_agent}
-use Rattle.mq_spec_state.specs.Words.{SenderSide, ReceiverSide, set_sender, set_receiver}
-use Rattle.mq_spec_state.specs.State.Change.{SetSender, SetReceiver}
+use Rattle.mq_calls.specs.Words.{SenderSide, ReceiverSide, set_sender, set_receiver}
+use Rattle.mq_calls.specs.State.Change.{SetSender, SetReceiver}
 use Rattle.mq_agents.proofs.EndLaws.{with_ends, ends_view}
 
 with_log : LogState → PartsValue → PartsValue

@@ -3,8 +3,8 @@ use Rattle.std.specs.Prelude.{◌≡◌, ℕ, Bool, true, false, ◌&&◌, List,
 use Rattle.mq_base.specs.declared.want.NoMemory.{NoMemory}
 use Rattle.mq_disk.specs.declared.cutter.Stop.{Stop}
 use Rattle.mq_disk.specs.declared.cutter.Stop.TheVariants as stops
-use Rattle.mq_spec_state.specs.Words.{Ident, Holder, Did, Reason, Halt, Message, Place, Row, SenderData, ReceiverData, ChannelData, AgentStop, SeizeFault, PrepareFault, PlaceFault, Plain, Refuse, Do, silent, is_free, is_past}
-use Rattle.mq_spec_state.specs.State.Change.{Seize}
+use Rattle.mq_calls.specs.Words.{Ident, Holder, Did, Reason, Halt, Message, Place, Row, SenderData, ReceiverData, ChannelData, AgentStop, SeizeFault, PrepareFault, PlaceFault, Plain, Refuse, Do, silent, is_free, is_past}
+use Rattle.mq_calls.specs.State.Change.{Seize}
 use Rattle.mq_calls.specs.declared.agents.AgentStop.TheVariants as agent_stops
 use Rattle.mq_calls.specs.declared.agents.SeizeFault.TheVariants as seize_faults
 use Rattle.mq_calls.specs.declared.agents.PrepareFault.TheVariants as prepare_faults
@@ -12,7 +12,7 @@ use Rattle.mq_calls.specs.declared.agents.PlaceFault.TheVariants as place_faults
 use Rattle.mq_calls.specs.declared.commands.Halt.TheVariants as halts
 use Rattle.mq_calls.specs.declared.deltas.Did.TheVariants as did
 use Rattle.mq_spec_manager.specs.Words.{Never}
-use Rattle.mq_spec_agents.specs.Words.{kept_by, seize}
+use Rattle.mq_spec_manager.specs.Agents.{kept_by, seize}
 
 -- how a call ends that is not refused
 abbrev pub halt_of : {F : Type 0} → AgentStop → Halt F

@@ -3,12 +3,12 @@ use Rattle.std.specs.Prelude.{◌≡◌, ℕ, ◌+◌, ◌≤◌, Bool, false, L
 use Rattle.std.specs.Str.{bytes_eq}
 use Rattle.mq_message.specs.declared.place.Holder.TheVariants as holders
 use Rattle.mq_core.specs.declared.parts.ChannelEnds.{ChannelEnds}
-use Rattle.mq_spec_state.specs.Words.{held_in, set_named, Plain, PrepareFault, Refuse, say, batch_of, is_full, Ident, InDoubt, Batch, LogRecord, need, record_size, Message, Among, kept_in, is_persistent}
+use Rattle.mq_calls.specs.Words.{held_in, set_named, Plain, PrepareFault, Refuse, say, batch_of, is_full, Ident, InDoubt, Batch, LogRecord, need, record_size, Message, Among, kept_in, is_persistent}
 use Rattle.mq_calls.specs.declared.records.LogRecord.TheVariants as records
 use Rattle.mq_frame.specs.Frames.{ident_bytes}
 use Rattle.mq_record.specs.Room.{Buffered, with_piece}
 use Rattle.mq_record.specs.Records.{record_bytes}
-use Rattle.mq_spec_agents.specs.Words.{prepared_doubt, prepare}
+use Rattle.mq_spec_manager.specs.Agents.{prepared_doubt, prepare}
 use Rattle.mq_calls.specs.declared.agents.PrepareFault.TheVariants as prepare_faults
 use Rattle.mq_calls.specs.declared.agents.AgentStop.TheVariants as agent_stops
 use Rattle.mq_place.specs.States.{on_queues}

@@ -3,12 +3,12 @@ use Rattle.std.specs.Prelude.{◌≡◌, ℕ, ◌+◌, ◌≤◌, List, [], ◌�
 use Rattle.mq_base.specs.Outside.{Rose}
 use Rattle.mq_disk.specs.declared.cutter.Stop.{Stop}
 use Rattle.mq_disk.specs.declared.cutter.Stop.TheVariants as stops
-use Rattle.mq_spec_state.specs.Words.{AgentStop, SenderSide, ReceiverSide, LogRecord, Note, Part, Change, Plain, record_size}
-use Rattle.mq_spec_state.specs.State.Change.{SetSender, SetReceiver}
+use Rattle.mq_calls.specs.Words.{AgentStop, SenderSide, ReceiverSide, LogRecord, Note, Part, Change, Plain, record_size}
+use Rattle.mq_calls.specs.State.Change.{SetSender, SetReceiver}
 use Rattle.mq_calls.specs.declared.agents.Note.TheVariants as notes
 use Rattle.mq_calls.specs.declared.deltas.Did.TheVariants as did
 use Rattle.mq_calls.specs.declared.records.LogRecord.TheVariants as records
-use Rattle.mq_spec_agents.specs.Words.{harden_part}
+use Rattle.mq_spec_manager.specs.Agents.{harden_part}
 use Rattle.mq_log.specs.State.{Appended}
 use Rattle.mq_log.specs.Force.{Stops}
 use Rattle.mq_core.specs.declared.parts.ChannelEnds.{ChannelEnds}

@@ -1,8 +1,8 @@
 //! A sender's batch: rows are held.
 ghost use Rattle.std.specs.Prelude.{◌≡◌, ◌<◌, ◌≤◌, map, take, length, IfOk, OnOk, OnErr};
-ghost use Rattle.mq_spec_state.specs.Words.{MeetsOrWants, free_rows};
+ghost use Rattle.mq_calls.specs.Words.{MeetsOrWants, free_rows};
 ghost use Rattle.mq_spec_manager.specs.Words.{idents_of};
-ghost use Rattle.mq_spec_agents.specs.Words.{IsUp, CanHold, hold_batch};
+ghost use Rattle.mq_spec_manager.specs.Agents.{IsUp, CanHold, hold_batch};
 ghost use Rattle.mq_unit.specs.Told.{told, told_all};
 ghost use Rattle.mq_core.specs.Views.{plain_of};
 ghost use Rattle.mq_agents.specs.Ends.{by_memory, held_did};
@@ -10,12 +10,11 @@ ghost use Rattle.mq_agents.specs.Removing.{batch_held};
 ghost use Rattle.mq_core.specs.Values.{manager_of, WritesLog};
 
 use crate::reading::queue_of_sender;
-use mq_base::{Items, NoMemory};
+use mq_base::{ChName, Items, NoMemory, QName};
 use mq_calls::{Batch, Did};
 use mq_core::{Core, Parts};
 use mq_disk::Disk;
 use mq_message::{Holder, Ident};
-use mq_name::{ChName, QName};
 use mq_sides::set_side;
 use mq_sync::Unit;
 use mq_unit::Effects;

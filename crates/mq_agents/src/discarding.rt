@@ -5,8 +5,8 @@ ghost use Rattle.mq_calls.specs.declared.deltas.Why.TheVariants as whys;
 ghost use Rattle.mq_core.specs.declared.parts.StoppedWrite.TheVariants as writes;
 ghost use Rattle.mq_unit.specs.Told.{told};
 ghost use Rattle.mq_calls.specs.declared.records.LogRecord.TheVariants as records;
-ghost use Rattle.mq_spec_state.specs.Words.{MeetsOrWants, stored};
-ghost use Rattle.mq_spec_agents.specs.Words.{IsUp, HasFreeRow, row_with, discard};
+ghost use Rattle.mq_calls.specs.Words.{MeetsOrWants, stored};
+ghost use Rattle.mq_spec_manager.specs.Agents.{IsUp, HasFreeRow, row_with, discard};
 ghost use Rattle.mq_core.specs.Views.{plain_of};
 ghost use Rattle.mq_core.specs.Forced.{IsForced, HasMoreRoom};
 ghost use Rattle.mq_agents.specs.Ends.{by_agent};
@@ -14,12 +14,11 @@ ghost use Rattle.mq_agents.specs.Removing.{IsRoomy, lasts, removed_one};
 ghost use Rattle.mq_core.specs.Values.{manager_of, WritesLog};
 
 use crate::hardening::{agent_stop, go_down};
-use mq_base::{Items, NoMemory};
+use mq_base::{Items, NoMemory, QName};
 use mq_calls::{AgentStop, Did, Remove, Why};
 use mq_core::{Core, Parts, StoppedWrite};
 use mq_disk::{Disk, Stop};
 use mq_message::Ident;
-use mq_name::QName;
 use mq_record::unit_front;
 use mq_unit::Effects;
 

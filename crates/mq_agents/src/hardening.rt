@@ -1,7 +1,7 @@
 //! What channel ends harden beside their messages.
 ghost use Rattle.std.specs.Prelude.{◌≡◌, ◌<◌, ◌^◌, true, length, IfOk};
-ghost use Rattle.mq_spec_state.specs.Words.{MeetsOrWants, set_sender, set_receiver, sender_or, sender_data, receiver_or, receiver_data};
-ghost use Rattle.mq_spec_agents.specs.Words.{IsUp, harden};
+ghost use Rattle.mq_calls.specs.Words.{MeetsOrWants, set_sender, set_receiver, sender_or, sender_data, receiver_or, receiver_data};
+ghost use Rattle.mq_spec_manager.specs.Agents.{IsUp, harden};
 ghost use Rattle.mq_calls.specs.declared.agents.Note.TheVariants as notes;
 ghost use Rattle.mq_sync.specs.declared.data.End.TheVariants as sync_ends;
 ghost use Rattle.mq_record.specs.Records.{record_bytes};
@@ -12,11 +12,10 @@ ghost use Rattle.mq_agents.specs.Ends.{by_agent, stopped_agent};
 ghost use Rattle.mq_agents.specs.Written.{IsWhole, Writes, agent_of, stop_of, with_senders, with_receivers, note_record, IsSenderNote, IsReceiverNote};
 ghost use Rattle.mq_core.specs.Values.{manager_of, WritesLog};
 
-use mq_base::NoMemory;
+use mq_base::{ChName, NoMemory, QName};
 use mq_calls::{AgentStop, Did, Note, ReceiverSide, SenderSide};
 use mq_core::{Core, Mode, Parts, StoppedWrite};
 use mq_disk::{Disk, Stop};
-use mq_name::{ChName, QName};
 use mq_record::{bound_bytes, closed_bytes, seq_set_bytes, session_bytes};
 use mq_sides::{receiver_data, sender_data, swap_side, undo_side};
 use mq_sync::{End, ReceiverData, SenderData};

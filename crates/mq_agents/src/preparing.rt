@@ -2,8 +2,8 @@
 ghost use Rattle.std.specs.Prelude.{◌≡◌, ◌+◌, ◌*◌, ◌<◌, ◌≤◌, ◌^◌, ℕ, List, Some, true, false, length, option_copied, IfOk, OnOk, OnErr};
 ghost use Rattle.std.specs.List.{flat_map, AllByRecursion};
 ghost use Rattle.mq_frame.specs.Frames.{ident_bytes, IsIdent};
-ghost use Rattle.mq_spec_state.specs.Words.{MeetsOrWants, batch_of, is_full, need, set_sender};
-ghost use Rattle.mq_spec_agents.specs.Words.{IsUp, CanPrepare, prepare, prepared_doubt, prepared_record};
+ghost use Rattle.mq_calls.specs.Words.{MeetsOrWants, batch_of, is_full, need, set_sender};
+ghost use Rattle.mq_spec_manager.specs.Agents.{IsUp, CanPrepare, prepare, prepared_doubt, prepared_record};
 ghost use Rattle.mq_record.specs.Room.{with_piece};
 ghost use Rattle.mq_core.specs.declared.parts.StoppedWrite.TheVariants as writes;
 ghost use Rattle.mq_core.specs.Views.{plain_of};
@@ -16,12 +16,11 @@ ghost use Rattle.mq_core.specs.Values.{manager_of, WritesLog};
 
 use crate::discarding::make_record_room;
 use crate::hardening::{Unwritten, agent_of, go_down, sender_now, stop_of};
-use mq_base::{Items, NoMemory};
+use mq_base::{ChName, Items, NoMemory};
 use mq_calls::{AgentStop, Batch, Did, PrepareFault, SenderSide};
 use mq_core::{Core, Parts, StoppedWrite};
 use mq_disk::Disk;
 use mq_message::Ident;
-use mq_name::ChName;
 use mq_record::{Buffer, prepared_front};
 use mq_sides::{batch_of, drop_side, swap_side, undo_side};
 use mq_sync::{InDoubt, SenderData};

@@ -1,17 +1,17 @@
 //! What a manager tells channel ends and the handler, without a change.
 ghost use Rattle.std.specs.Prelude.{◌≡◌, ℕ, Some, None, option_copied, option_map, not, filter, nat_lt, length};
-ghost use Rattle.mq_spec_state.specs.Words.{is_up, free_rows, is_expired, local_of};
-ghost use Rattle.mq_spec_agents.specs.Words.{IsUp, HasSeized, kept, next_row, batch_row, at_number, stock, queue_of_sender, is_enabled, expired_rows};
+ghost use Rattle.mq_calls.specs.Words.{is_up, free_rows, is_expired, local_of};
+ghost use Rattle.mq_spec_manager.specs.Agents.{IsUp, HasSeized, kept, next_row, batch_row, at_number, stock, queue_of_sender, is_enabled, expired_rows};
 ghost use Rattle.mq_queue.specs.declared.row.Row.{Row};
 ghost use Rattle.mq_message.specs.declared.message.Message.{Message};
 ghost use Rattle.mq_core.specs.Views.{plain_of};
 ghost use Rattle.mq_agents.specs.Ends.{kept_of, place_and_message};
 
 use crate::walking::has_past;
+use mq_base::{ChName, QName};
 use mq_core::{Core, Parts};
 use mq_disk::Disk;
 use mq_message::{Ident, Message, Place};
-use mq_name::{ChName, QName};
 use mq_objects::Defs;
 use mq_sides::{batch_of, receiver_of, seizure_of, sender_of};
 use mq_sync::{ReceiverData, SenderData, Stock};

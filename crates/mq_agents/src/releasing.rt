@@ -1,19 +1,18 @@
 //! A sender's batch that is not prepared is released.
 ghost use Rattle.std.specs.Prelude.{◌≡◌, ◌<◌, ◌≤◌, map, length};
-ghost use Rattle.mq_spec_state.specs.Words.{MeetsOrWants};
-ghost use Rattle.mq_spec_agents.specs.Words.{IsUp, HasBatch, release_batch};
+ghost use Rattle.mq_calls.specs.Words.{MeetsOrWants};
+ghost use Rattle.mq_spec_manager.specs.Agents.{IsUp, HasBatch, release_batch};
 ghost use Rattle.mq_unit.specs.Told.{told, told_all};
 ghost use Rattle.mq_agents.specs.Ends.{by_memory};
 ghost use Rattle.mq_agents.specs.Releasing.{batch_freed, released_did};
 ghost use Rattle.mq_core.specs.Values.{manager_of, WritesLog};
 
 use crate::preparing::batch_now;
-use mq_base::NoMemory;
+use mq_base::{ChName, NoMemory, QName};
 use mq_calls::Did;
 use mq_core::{Core, Parts};
 use mq_disk::Disk;
 use mq_message::{Holder, Ident};
-use mq_name::{ChName, QName};
 use mq_sides::drop_side;
 use mq_unit::Effects;
 

@@ -1,18 +1,17 @@
 //! A sender opens its transmission queue and leaves it; a receiver is bound or not.
 ghost use Rattle.std.specs.Prelude.{◌≡◌, Ok, OnOk, OnErr, true, false, not, ◌||◌};
-ghost use Rattle.mq_spec_state.specs.Words.{MeetsInRoom, MeetsOrWants, channel_of, has_held_by_other, is_open_for_input};
-ghost use Rattle.mq_spec_agents.specs.Words.{IsUp, IsSenderHere, channel_queue, leave, seize, set_bound};
+ghost use Rattle.mq_calls.specs.Words.{MeetsInRoom, MeetsOrWants, channel_of, has_held_by_other, is_open_for_input};
+ghost use Rattle.mq_spec_manager.specs.Agents.{IsUp, IsSenderHere, channel_queue, leave, seize, set_bound};
 ghost use Rattle.mq_core.specs.Views.{plain_of};
 ghost use Rattle.mq_agents.specs.Ends.{Seizes, by_memory, by_seize};
 ghost use Rattle.mq_agents.specs.Removing.{receiver_bound};
 ghost use Rattle.mq_core.specs.Values.{manager_of, WritesLog};
 
 use crate::walking::has_held_by_other;
-use mq_base::NoMemory;
+use mq_base::{ChName, NoMemory, QName};
 use mq_calls::{SeizeFault, Seizure};
 use mq_core::{Core, Parts};
 use mq_disk::Disk;
-use mq_name::{ChName, QName};
 use mq_objects::ChannelKind;
 use mq_sides::{drop_side, set_side};
 

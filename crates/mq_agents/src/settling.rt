@@ -1,7 +1,7 @@
 //! A unit in doubt is settled: its rows go, or are free again.
 ghost use Rattle.std.specs.Prelude.{◌≡◌, ◌<◌, ◌≤◌, ◌^◌, Some, true, map, length, IfOk};
-ghost use Rattle.mq_spec_state.specs.Words.{MeetsOrWants, set_sender, data_settled, settle_by};
-ghost use Rattle.mq_spec_agents.specs.Words.{IsUp, harden, held_rows, settle_did};
+ghost use Rattle.mq_calls.specs.Words.{MeetsOrWants, set_sender, data_settled, settle_by};
+ghost use Rattle.mq_spec_manager.specs.Agents.{IsUp, harden, held_rows, settle_did};
 ghost use Rattle.mq_calls.specs.declared.agents.Note.TheVariants as notes;
 ghost use Rattle.mq_calls.specs.declared.records.LogRecord.TheVariants as records;
 ghost use Rattle.mq_record.specs.Records.{record_bytes};
@@ -14,12 +14,11 @@ ghost use Rattle.mq_agents.specs.Settling.{WritesRows, rows_settled};
 ghost use Rattle.mq_core.specs.Values.{manager_of, WritesLog};
 
 use crate::hardening::{Unwritten, agent_of, go_down, sender_now, stop_of};
-use mq_base::{Items, NoMemory};
+use mq_base::{ChName, Items, NoMemory};
 use mq_calls::{AgentStop, Did, Note, Remove, SenderSide, Why};
 use mq_core::{Core, Parts, StoppedWrite};
 use mq_disk::Disk;
 use mq_message::Holder;
-use mq_name::ChName;
 use mq_record::resolved_bytes;
 use mq_sides::{swap_side, undo_side};
 use mq_sync::{SenderData, Unit};

@@ -3,11 +3,11 @@ ghost use Rattle.std.specs.Prelude.{◌≡◌, ◌&&◌, find, nat_lt, length, f
 ghost use Rattle.std.specs.List.{list_any};
 ghost use Rattle.mq_queue.specs.declared.row.Row.{Row};
 ghost use Rattle.mq_queue.specs.Rows.{is_free};
-ghost use Rattle.mq_spec_state.specs.Reads.{is_by_other, is_past};
+ghost use Rattle.mq_calls.specs.Reads.{is_by_other, is_past};
 ghost use Rattle.mq_agents.specs.Ends.{is_free_past};
 
+use mq_base::ChName;
 use mq_message::Holder;
-use mq_name::ChName;
 use mq_place::LocalRows;
 use mq_queue::{Queue, Row};
 

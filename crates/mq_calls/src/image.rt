@@ -1,8 +1,7 @@
 //! What a log keeps of a manager.
 
 use crate::state::{ReceiverSide, SenderSide};
-use mq_base::Items;
-use mq_name::QName;
+use mq_base::{Items, QName};
 use mq_objects::Definitions;
 use mq_queue::Row;
 

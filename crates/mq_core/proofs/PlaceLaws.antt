@@ -7,9 +7,9 @@ use Rattle.std.specs.Cmp.Lexicographic.{bytes_decides}
 use Rattle.std.proofs.lemmas.Bool.Decides.{nat_tests}
 use Rattle.mq_queue.specs.Queues.{Lacks}
 use Rattle.mq_queue.specs.Lanes.{lane_at}
-use Rattle.mq_spec_state.specs.Words.{Ident, Message, Row, LocalQueue, Item, Plain, has_ident, same_ident, is_by_priority, local_of, insert_row, set_queue, placed_in, place, lane_of, queue_in, try_if, try_trigger, made_due, depth_type, condition, puts_to}
+use Rattle.mq_calls.specs.Words.{Ident, Message, Row, LocalQueue, Item, Plain, has_ident, same_ident, is_by_priority, local_of, insert_row, set_queue, placed_in, place, lane_of, queue_in, try_if, try_trigger, made_due, depth_type, condition, puts_to}
 use Rattle.mq_calls.specs.declared.state.Item.TheVariants.{Put, Take}
-use Rattle.mq_spec_state.specs.State.{Queue as StateQueue}
+use Rattle.mq_calls.specs.State.{Queue as StateQueue}
 use Rattle.mq_place.specs.States.{QueueState, queues_of, state_in, change_state, on_queue, state_or, or_fresh, arrived, IsNowhere}
 use Rattle.mq_core.specs.Views.{PartsValue, plain_of}
 use Rattle.mq_core.specs.Ties.{TiedBut, IsReady, HasCounts, AreCounted, state_lanes, local_lanes, pending_at, times_in_rows, times_in_queues, waits, one_if}

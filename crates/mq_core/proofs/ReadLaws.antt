@@ -3,8 +3,8 @@ use Rattle.std.proofs.Common.{◌≡◌, ℕ, ◌+◌, ◌<◌, ◌≤◌, Bool,
 use Rattle.std.specs.Prelude.{ℤ, pos, negsuc, Option, Some, None, count_by, not, nat_lt, IsTrue, ◌↔◌, ◌&&◌}
 use Rattle.std.specs.Str.{bytes_eq}
 use Rattle.std.proofs.lemmas.Bool.Decides.{nat_tests}
-use Rattle.mq_spec_state.specs.State.{fresh_queue}
-use Rattle.mq_spec_state.specs.Words.{Row, Queue, is_free, has_priority, depth, queue_in}
+use Rattle.mq_calls.specs.State.{fresh_queue}
+use Rattle.mq_calls.specs.Words.{Row, Queue, is_free, has_priority, depth, queue_in}
 use Rattle.mq_queue.specs.Queues.{count_waiting}
 use Rattle.mq_place.specs.States.{QueueState, queues_of, state_in, state_or, or_fresh, depth_of}
 use Rattle.mq_core.specs.Views.{PartsValue, plain_of}

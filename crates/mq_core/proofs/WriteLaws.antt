@@ -3,8 +3,8 @@
 use Rattle.std.proofs.Common.{◌≡◌, ℕ, Bool, true, false, List, [], ◌∷◌, refl, ap, sym, subst, ◌∙◌}
 use Rattle.std.specs.Prelude.{Option, Some, None, Result, Ok, Err, if◌then◌else◌}
 use Rattle.mq_disk.specs.declared.cutter.Stop.{Stop}
-use Rattle.mq_spec_state.specs.Words.{Reason, Message, LogRecord, Connection, Plain, Part, Step, Sent, Answer, Halt, Noted, Do, connection_at, is_persistent, freeze, note_of, local_of, condition}
-use Rattle.mq_spec_state.specs.State.Change.{CountIdent}
+use Rattle.mq_calls.specs.Words.{Reason, Message, LogRecord, Connection, Plain, Part, Step, Sent, Answer, Halt, Noted, Do, connection_at, is_persistent, freeze, note_of, local_of, condition}
+use Rattle.mq_calls.specs.State.Change.{CountIdent}
 use Rattle.mq_calls.specs.declared.deltas.Did.TheVariants as did
 use Rattle.mq_calls.specs.declared.commands.Halt.TheVariants as halts
 use Rattle.mq_spec_manager.specs.Words.{placed, sent_answer, for_connection, live_or}

@@ -1,6 +1,6 @@
 -- The plain manager that a manager's parts stand for.
 use Rattle.std.specs.Prelude.{ℕ, Bool, List, [], Option, Some, None}
-use Rattle.mq_spec_state.specs.Words.{Batch, Connection, Plain, Channels, Part, Noted, Running, Up, Down, connection_at, batch_of, note_of}
+use Rattle.mq_calls.specs.Words.{Batch, Connection, Plain, Channels, Part, Noted, Running, Up, Down, connection_at, batch_of, note_of}
 use Rattle.mq_spec_manager.specs.Words.{object_part}
 use Rattle.mq_objects.specs.Held.{Held}
 use Rattle.mq_log.specs.State.{LogState, log_length}
@@ -13,7 +13,7 @@ use Rattle.mq_core.specs.declared.parts.ReadLog.{ReadLog}
 use Rattle.mq_core.specs.declared.parts.Mode.{Mode}
 use Rattle.mq_core.specs.declared.parts.Mode.TheVariants as modes
 use Rattle.mq_core.specs.declared.parts.ChannelEnds.{ChannelEnds}
-use Rattle.mq_spec_agents.specs.Words.{harden_part, move_part, received_part}
+use Rattle.mq_spec_manager.specs.Agents.{harden_part, move_part, received_part}
 use Rattle.mq_core.specs.Writes.{now_part, ended_part, gone_part, settled_part, batch_part, all_landed}
 
 -- the parts, with the room that was taken

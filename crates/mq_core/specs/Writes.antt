@@ -1,13 +1,13 @@
 -- The parts of calls that are written to the log.
 use Rattle.std.specs.Prelude.{ℕ, ◌<◌, Bool, true, false, List, [], ◌∷◌, ◌++◌, length, map, flat_map, Option, Some, None}
-use Rattle.mq_spec_state.specs.Words.{Add, Did, Ident, Message, Connection, Part, Change, LogRecord, Remove, Luw, Among, Batch, Plain, sender_or, sender_data, data_settled, settle_by}
+use Rattle.mq_calls.specs.Words.{Add, Did, Ident, Message, Connection, Part, Change, LogRecord, Remove, Luw, Among, Batch, Plain, sender_or, sender_data, data_settled, settle_by}
 use Rattle.mq_calls.specs.declared.deltas.Did.TheVariants as did
 use Rattle.mq_calls.specs.declared.records.LogRecord.TheVariants as records
 use Rattle.mq_calls.specs.declared.deltas.Why.{Why}
-use Rattle.mq_spec_state.specs.State.Change.{Disconnect, CountIdent, Leave, SetSender}
+use Rattle.mq_calls.specs.State.Change.{Disconnect, CountIdent, Leave, SetSender}
 use Rattle.mq_spec_manager.specs.Words.{placed, unit_record, commit_part}
 use Rattle.mq_calls.specs.declared.agents.Note.TheVariants as notes
-use Rattle.mq_spec_agents.specs.Words.{prepared_record, prepared_changes, settle_change, settle_did, Landing, Landed, Standing, Absent, InDoubtAt, add_of, land_changes, drop_did}
+use Rattle.mq_spec_manager.specs.Agents.{prepared_record, prepared_changes, settle_change, settle_did, Landing, Landed, Standing, Absent, InDoubtAt, add_of, land_changes, drop_did}
 use Rattle.mq_record.specs.Records.{IsRecord}
 use Rattle.mq_core.specs.declared.parts.Arrival.{Arrival}
 

@@ -1,18 +1,18 @@
 //! What calls read of a manager's parts: the connection check, and who uses a queue.
 ghost use Rattle.std.specs.Prelude.{◌≡◌, ◌+◌, ◌^◌, ◌<◌, Ok, Err, not, MatchResult, ◌||◌, ◌&&◌, nat_le, length, true};
-ghost use Rattle.mq_spec_state.specs.Words.{is_input, is_up, read_by_sender, has_held, local_of, depth, is_full};
+ghost use Rattle.mq_calls.specs.Words.{is_input, is_up, read_by_sender, has_held, local_of, depth, is_full};
 ghost use Rattle.mq_spec_manager.specs.Words.{is_other, is_present, is_other_name, is_shut, is_sending, is_transmission_queue, next_ident};
 ghost use Rattle.mq_core.specs.Views.{plain_of};
 ghost use Rattle.mq_core.specs.Ties.{Tied};
 ghost use Rattle.mq_core.specs.Calls.{Reaches, Goes};
 
 use crate::parts::{Mode, Parts};
+use mq_base::QName;
 use mq_calls::{Hconn, Input};
 use mq_codes::Reason;
 use mq_disk::Disk;
 use mq_handles::Seat;
 use mq_message::Ident;
-use mq_name::QName;
 use mq_objects::Usage;
 
 /// Whether an MQOPEN asks for input.

@@ -1,6 +1,6 @@
 //! What is forced into the log, and what stands when a write was stopped.
 ghost use Rattle.std.specs.Prelude.{◌≡◌, ◌+◌, ◌-◌, ◌<◌, ◌≤◌, ◌^◌, true, length, OnOk, OnErr, IfSome, IsSome};
-ghost use Rattle.mq_spec_state.specs.Words.{LogRecord, need, put_bytes, record_size};
+ghost use Rattle.mq_calls.specs.Words.{LogRecord, need, put_bytes, record_size};
 ghost use Rattle.mq_record.specs.Records.{CanBeKept, record_bytes};
 ghost use Rattle.mq_core.specs.Writes.{FitsRecord, added};
 ghost use Rattle.mq_core.specs.Ties.{IsReady};
@@ -8,10 +8,9 @@ ghost use Rattle.mq_core.specs.Placing.{put_in_place};
 ghost use Rattle.mq_core.specs.Forced.{IsForced, IsExpected, HasMoreRoom, downed_put, counted_put};
 
 use crate::parts::{Mode, Parts, StoppedWrite};
-use mq_base::NoMemory;
+use mq_base::{NoMemory, QName};
 use mq_disk::{Disk, Stop};
 use mq_message::Message;
-use mq_name::QName;
 use mq_record::unit_front;
 
 /// What a persistent message takes in a record, in bytes.

@@ -1,6 +1,6 @@
 //! One queue manager as its calls work on it.
 ghost use Rattle.std.specs.Prelude.{◌≡◌};
-ghost use Rattle.mq_spec_state.specs.Reads.{is_up};
+ghost use Rattle.mq_calls.specs.Reads.{is_up};
 ghost use Rattle.mq_core.specs.Values.{begun_call};
 
 use crate::parts::Parts;

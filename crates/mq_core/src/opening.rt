@@ -1,6 +1,6 @@
 //! Connections and handles of a manager's parts.
 ghost use Rattle.std.specs.Prelude.{◌≡◌, ◌==◌, ◌+◌, ◌++◌, ◌∷◌, [], ◌^◌, ◌<◌, OnOk, OnErr, IfOk, IfSome, IsSome, ◌||◌, ◌&&◌, nat_le, length, Ok, Err};
-ghost use Rattle.mq_spec_state.specs.Words.{connection_at, change_connection};
+ghost use Rattle.mq_calls.specs.Words.{connection_at, change_connection};
 ghost use Rattle.mq_spec_manager.specs.Words.{new_hconn, new_connection, new_handle, is_unfit, is_in_use, is_nothing, reads};
 ghost use Rattle.mq_handles.specs.Seats.{opened, closed};
 ghost use Rattle.mq_core.specs.Views.{plain_of};
@@ -9,12 +9,11 @@ ghost use Rattle.mq_core.specs.Calls.{Opens, Closes};
 
 use crate::checks::is_input;
 use crate::parts::Parts;
-use mq_base::NoMemory;
+use mq_base::{NoMemory, QName};
 use mq_calls::{Appl, Hconn, Hobj, Open};
 use mq_codes::Reason;
 use mq_disk::Disk;
 use mq_handles::Seat;
-use mq_name::QName;
 use mq_resolve::{Route, RouteEnd, resolve};
 
 fn is_nothing(how: &Open) -> bool

@@ -1,12 +1,11 @@
 //! The parts of a queue manager, as its code keeps them.
-use mq_base::Items;
+use mq_base::{ChName, Items, QName};
 use mq_calls::{Batch, Note, ReceiverSide, Remove, Seizure, SenderSide, Why};
 use mq_codes::Reason;
 use mq_disk::Disk;
 use mq_handles::Live;
 use mq_log::Log;
 use mq_message::{Dest, Ident, Message};
-use mq_name::{ChName, QName};
 use mq_objects::Defs;
 use mq_place::Queues;
 use mq_queue::PlainQueue;

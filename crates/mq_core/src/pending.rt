@@ -1,16 +1,15 @@
 //! Puts that wait in units.
 ghost use Rattle.std.specs.Prelude.{◌≡◌, ◌+◌, ◌++◌, ◌∷◌, [], ◌^◌, ◌<◌, ◌≤◌, true, false, length, OnOk, OnErr, IfSome, IsSome};
-ghost use Rattle.mq_spec_state.specs.Words.{connection_at, unit_need, more_need, put_bytes, is_persistent};
+ghost use Rattle.mq_calls.specs.Words.{connection_at, unit_need, more_need, put_bytes, is_persistent};
 ghost use Rattle.mq_calls.specs.declared.state.Item.TheVariants.{Put};
 ghost use Rattle.mq_core.specs.Forced.{IsPended, IsReserved, HasMoreRoom, returned};
 
 use crate::forcing::put_bytes;
 use crate::parts::Parts;
-use mq_base::NoMemory;
+use mq_base::{NoMemory, QName};
 use mq_calls::Item;
 use mq_disk::Disk;
 use mq_message::Message;
-use mq_name::QName;
 
 impl<D: Disk> Parts<D> {
     /// Reserves bytes of the log, and takes their memory.

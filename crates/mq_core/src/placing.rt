@@ -1,15 +1,15 @@
 //! Rows that are placed, and their triggers.
 ghost use Rattle.std.specs.Prelude.{◌≡◌, ◌+◌, ◌<◌, ◌^◌};
-ghost use Rattle.mq_spec_state.specs.Words.{local_of, stored, condition, is_triggered, depth_type};
+ghost use Rattle.mq_calls.specs.Words.{local_of, stored, condition, is_triggered, depth_type};
 ghost use Rattle.mq_core.specs.Views.{plain_of};
 ghost use Rattle.mq_core.specs.Ties.{IsReady};
 ghost use Rattle.mq_core.specs.Placing.{tried_at, put_in_place};
 ghost use Rattle.mq_place.specs.States.{state_or};
 
 use crate::parts::Parts;
+use mq_base::QName;
 use mq_disk::Disk;
 use mq_message::Message;
-use mq_name::QName;
 use mq_objects::{LocalQueue, TriggerType};
 use mq_trigger::{Tried, is_triggered};
 

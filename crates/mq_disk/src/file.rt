@@ -4,8 +4,7 @@ ghost use Rattle.mq_disk.specs.Files.{file_name_of};
 
 use crate::counted::fault;
 use crate::{Disk, Shelf, Side, TakeFault};
-use mq_base::Failed;
-use mq_name::QName;
+use mq_base::{Failed, QName};
 use std::alloc::{AllocError, Global};
 use std::fs::{File, OpenOptions};
 use std::io;

@@ -7,8 +7,7 @@ ghost use Rattle.mq_disk.specs.Shelves.{IsOf, FirstAt, Stands};
 
 use crate::counted::{fault, is_failing};
 use crate::{Disk, Shelf, Side, TakeFault};
-use mq_base::NoMemory;
-use mq_name::QName;
+use mq_base::{NoMemory, QName};
 use std::alloc::Global;
 use std::marker::Model;
 

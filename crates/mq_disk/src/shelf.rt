@@ -4,7 +4,7 @@ ghost use Rattle.mq_base.specs.Outside.{Rose};
 ghost use Rattle.mq_disk.specs.declared.shelf.Side.{Side};
 
 use crate::Disk;
-use mq_name::QName;
+use mq_base::QName;
 
 /// A manager has two disks for its log. Side A is the first.
 #[derive(Clone, Copy, Debug, PartialEq, Eq)]

@@ -6,9 +6,9 @@ use Rattle.std.specs.Str.{bytes_eq}
 use Rattle.std.proofs.lemmas.List.Sums.{sum_by-cons}
 use Rattle.std.proofs.lemmas.List.Recursion.{is_count_by}
 use Rattle.std.proofs.lemmas.Bool.Decides.{nat_tests}
-use Rattle.mq_spec_state.specs.Words.{Ident, Message, Row, Connection, Item, LogRecord, Among, retag, kept_in, released_in, release_if, selects, need, puts_to, unit_need, connection_at, change_connection, logged, has_ident}
+use Rattle.mq_calls.specs.Words.{Ident, Message, Row, Connection, Item, LogRecord, Among, retag, kept_in, released_in, release_if, selects, need, puts_to, unit_need, connection_at, change_connection, logged, has_ident}
 use Rattle.mq_core.specs.Counting.{CanCount}
-use Rattle.mq_spec_state.specs.Reads.{is_put_to}
+use Rattle.mq_calls.specs.Reads.{is_put_to}
 use Rattle.mq_calls.specs.declared.state.Item.TheVariants.{Put, Take}
 use Rattle.mq_log.specs.State.{LogState}
 use Rattle.mq_spec_manager.specs.Units.{adds_of, removes_of, record_of}

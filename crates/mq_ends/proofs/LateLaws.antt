@@ -3,10 +3,10 @@ use Rattle.std.proofs.Common.{◌≡◌, ℕ, Bool, true, false, cond, List, [],
 use Rattle.std.specs.Prelude.{ℤ, Option, Some, None, nat_le, not, ◌||◌, ◌&&◌, ◌==◌, is_some, map}
 use Rattle.std.specs.List.{flat_map, list_any}
 use Rattle.mq_objects.specs.declared.object.TriggerType.TheVariants as triggers
-use Rattle.mq_spec_state.specs.Condition.{by_type, is_served, waiting, is_long_ago}
-use Rattle.mq_spec_state.specs.Words.{Connection, Handle, Item, Plain, Change, Among, LocalQueue, kept_in, released_in, change_connection, apply, apply_all, condition, try_if, try_trigger, place, any_handle, local_of, stored, has_priority, is_input, leads_to, read_by_sender, process_of, is_transmission, TriggerType}
-use Rattle.mq_spec_state.specs.State.{Queue as StateQueue}
-use Rattle.mq_spec_state.specs.State.Change.{EndUnit}
+use Rattle.mq_calls.specs.Condition.{by_type, is_served, waiting, is_long_ago}
+use Rattle.mq_calls.specs.Words.{Connection, Handle, Item, Plain, Change, Among, LocalQueue, kept_in, released_in, change_connection, apply, apply_all, condition, try_if, try_trigger, place, any_handle, local_of, stored, has_priority, is_input, leads_to, read_by_sender, process_of, is_transmission, TriggerType}
+use Rattle.mq_calls.specs.State.{Queue as StateQueue}
+use Rattle.mq_calls.specs.State.Change.{EndUnit}
 use Rattle.mq_calls.specs.declared.state.Item.TheVariants.{Put, Take}
 use Rattle.mq_spec_manager.specs.Words.{taken_item, placed_item, freed_item, commit_changes}
 use Rattle.mq_handles.specs.Seats.{emptied}

@@ -1,6 +1,6 @@
 //! MQCMIT, MQBACK, MQDISC.
 ghost use Rattle.std.specs.Prelude.{◌≡◌, true, IsSome};
-ghost use Rattle.mq_spec_state.specs.Words.{MeetsInRoom, is_up, connection_at};
+ghost use Rattle.mq_calls.specs.Words.{MeetsInRoom, is_up, connection_at};
 ghost use Rattle.mq_core.specs.Counting.{CanCount};
 ghost use Rattle.mq_spec_manager.specs.Words.{mqcmit, mqback, mqdisc};
 ghost use Rattle.mq_ends.specs.Ends.{commit_at, back_at};

@@ -7,9 +7,9 @@ use Rattle.mq_calls.specs.declared.choices.Choice.{Choice}
 use Rattle.mq_calls.specs.declared.choices.Choice.TheVariants.{Stopped}
 use Rattle.mq_disk.specs.declared.cutter.Stop.{Stop}
 use Rattle.mq_spec_node.specs.Terms.{Reason, Answer, Did, Reply, Part, Step, Refuse, Do, Possible, Runs, stopped_at, delta_before, do_all}
-use Rattle.mq_spec_state.specs.Steps.{IsWrite}
-use Rattle.mq_spec_state.specs.Meeting.{ManagerValue, untouched, Wants, MeetsAs, StoppedIn}
-use Rattle.mq_spec_state.specs.Meeting.Wants.{Nowhere, Behind, Anywhere}
+use Rattle.mq_calls.specs.Steps.{IsWrite}
+use Rattle.mq_calls.specs.Meeting.{ManagerValue, untouched, Wants, MeetsAs, StoppedIn}
+use Rattle.mq_calls.specs.Meeting.Wants.{Nowhere, Behind, Anywhere}
 use Rattle.mq_spec_node.specs.Words.{Node, Own, Deed, node_of, mqi_deed, ended_deed, CanCome}
 use Rattle.mq_events.specs.declared.outcome.Outcome.{Outcome}
 use Rattle.mq_message.specs.declared.message.Md.{Md}

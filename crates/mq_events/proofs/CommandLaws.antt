@@ -16,9 +16,9 @@ use Rattle.mq_history.specs.declared.acts.Acted.{Acted}
 use Rattle.mq_history.specs.declared.acts.Acted.TheVariants as acted
 use Rattle.mq_history.specs.declared.calls.Call.TheVariants as calls
 use Rattle.mq_history.specs.declared.calls.Reply.TheVariants as replies
-use Rattle.mq_spec_state.specs.Meeting.{ManagerValue, MeetsAs}
-use Rattle.mq_spec_state.specs.Meeting.Wants.{Anywhere}
-use Rattle.mq_spec_state.specs.Steps.{when, refusal, refused_or}
+use Rattle.mq_calls.specs.Meeting.{ManagerValue, MeetsAs}
+use Rattle.mq_calls.specs.Meeting.Wants.{Anywhere}
+use Rattle.mq_calls.specs.Steps.{when, refusal, refused_or}
 use Rattle.mq_spec_node.specs.Terms.{Did, Reply, Plain, Part, Step, Refuse, Do, Shown, ScRefusal, do_all, command, is_up}
 use Rattle.mq_spec_node.specs.Words.{Own, node_of, command_deed, answer_of}
 use Rattle.mq_spec_manager.specs.Commands.{planned_step, uses_of}

@@ -7,11 +7,11 @@ use Rattle.std.specs.Str.{bytes_eq}
 use Rattle.mq_base.specs.declared.want.NoMemory.{NoMemory as Want}
 use Rattle.mq_calls.specs.declared.image.Shelf.{Shelf}
 use Rattle.mq_history.specs.declared.calls.Call.TheVariants as calls
-use Rattle.mq_spec_state.specs.State.{Given, LogState, Queue}
+use Rattle.mq_calls.specs.State.{Given, LogState, Queue}
 use Rattle.mq_queue.specs.declared.row.Row.{Row}
-use Rattle.mq_spec_state.specs.Counts.{IsCounted}
-use Rattle.mq_spec_state.specs.Reads.{queue_in, stored, puts_to}
-use Rattle.mq_spec_state.specs.Images.{Image, begun, numbered, queue_on, raised}
+use Rattle.mq_calls.specs.Counts.{IsCounted}
+use Rattle.mq_calls.specs.Reads.{queue_in, stored, puts_to}
+use Rattle.mq_calls.specs.Images.{Image, begun, numbered, queue_on, raised}
 use Rattle.mq_spec_node.specs.Terms.{Acted, Actor, Call, Entry, History, Plain, started_need}
 use Rattle.mq_spec_node.specs.Words.{Deed, Node, Surroundings, opening_node, after, done_by}
 use Rattle.mq_law_manager.specs.Facts.{Mem, AreNamed}

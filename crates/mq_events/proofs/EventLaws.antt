@@ -5,9 +5,9 @@ use Rattle.std.specs.Str.{bytes_eq}
 use Rattle.mq_calls.specs.declared.image.Shelf.{Shelf}
 use Rattle.mq_objects.specs.Names.{locals_of}
 use Rattle.mq_objects.specs.declared.object.LocalQueue.{LocalQueue}
-use Rattle.mq_spec_state.specs.State.{Queue}
-use Rattle.mq_spec_state.specs.Reads.{queue_in, stored}
-use Rattle.mq_spec_state.specs.Images.{queue_on}
+use Rattle.mq_calls.specs.State.{Queue}
+use Rattle.mq_calls.specs.Reads.{queue_in, stored}
+use Rattle.mq_calls.specs.Images.{queue_on}
 use Rattle.mq_spec_manager.specs.Triggers.{first_due}
 use Rattle.mq_calls.specs.declared.choices.Choice.{Choice}
 use Rattle.mq_calls.specs.declared.choices.Choice.TheVariants.{Runs, NoMemory, Stopped}

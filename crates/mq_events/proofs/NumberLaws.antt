@@ -25,10 +25,10 @@ use Rattle.mq_calls.specs.declared.answers.Open.{Open}
 use Rattle.mq_calls.specs.declared.commands.ScRefusal.{ScRefusal}
 use Rattle.mq_calls.specs.declared.state.Connection.{Connection}
 use Rattle.mq_calls.specs.declared.state.Handle.{Handle}
-use Rattle.mq_spec_state.specs.State.{Plain}
-use Rattle.mq_spec_state.specs.Reads.{is_up, handle_at}
-use Rattle.mq_spec_state.specs.Steps.{none_of, when, Step, Part, Test, tested, refusal, refused_or, going_on}
-use Rattle.mq_spec_state.specs.Steps.Step.{Refuse, Do}
+use Rattle.mq_calls.specs.State.{Plain}
+use Rattle.mq_calls.specs.Reads.{is_up, handle_at}
+use Rattle.mq_calls.specs.Steps.{none_of, when, Step, Part, Test, tested, refusal, refused_or, going_on}
+use Rattle.mq_calls.specs.Steps.Step.{Refuse, Do}
 use Rattle.mq_spec_manager.specs.Handles.{is_unfit, option_tests, open_tests, open_step, connected, for_connection, for_handle, mqconn, mqopen, mqclose, conn_tests, close_up, close_handle}
 use Rattle.mq_spec_manager.specs.Put.{output_only, mqput, mqput1, put_up, put_handle, put_route, put_tests, put1_resolved, output_tests, handle_route, new_message}
 use Rattle.mq_spec_manager.specs.Get.{found_part, mqget, get_up, get_handle, get_tests, room_tests, get_found, scanned, expired_parts, is_under, is_waiting, is_left, with_row, without_row}

@@ -7,8 +7,8 @@ use Rattle.mq_objects.specs.declared.object.LocalQueue.{LocalQueue}
 use Rattle.mq_objects.specs.declared.object.Object.{Object}
 use Rattle.mq_objects.specs.declared.object.Object.TheVariants as objects
 use Rattle.mq_objects.specs.Names.{Queues, as_local, local_of, locals_in, locals_of, object_in}
-use Rattle.mq_spec_state.specs.Words.{Queue}
-use Rattle.mq_spec_state.specs.Reads.{queue_in}
+use Rattle.mq_calls.specs.Words.{Queue}
+use Rattle.mq_calls.specs.Reads.{queue_in}
 use Rattle.mq_law_manager.proofs.Lists.{bool_case, name_yes}
 use Rattle.mq_place.specs.States.{QueueState, queues_of, state_in}
 use Rattle.mq_core.specs.Ties.{Tied, local_lanes, state_lanes}

@@ -11,8 +11,8 @@ use Rattle.mq_objects.specs.Names.{locals_of}
 use Rattle.mq_history.specs.declared.calls.Call.TheVariants as calls
 use Rattle.mq_history.specs.declared.calls.Reply.{Reply}
 use Rattle.mq_history.specs.declared.calls.Reply.TheVariants as replies
-use Rattle.mq_spec_state.specs.Meeting.{ManagerValue, Wants, MeetsAs, done_all}
-use Rattle.mq_spec_state.specs.Meeting.Wants.{Behind}
+use Rattle.mq_calls.specs.Meeting.{ManagerValue, Wants, MeetsAs, done_all}
+use Rattle.mq_calls.specs.Meeting.Wants.{Behind}
 use Rattle.mq_spec_node.specs.Terms.{Did, Plain, Running, Up, Down, Step, Refuse, Do, Possible, is_up}
 use Rattle.mq_spec_node.specs.Words.{Node, Own, Deed, node_of, parts_of, told, trigger_deed, trigger_deed_of, where_up}
 use Rattle.mq_steer.specs.Due.{name_if, due_where}

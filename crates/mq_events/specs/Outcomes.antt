@@ -16,7 +16,7 @@ use Rattle.mq_history.specs.declared.calls.Call.TheVariants as calls
 use Rattle.mq_history.specs.declared.calls.Reply.TheVariants as replies
 use Rattle.mq_frame.specs.declared.frame.Seen.TheVariants as items
 use Rattle.mq_spec_node.specs.Terms.{Acted, ScRefusal, Shown, Reason, Answer, Choice, Runs, NoMemory, Stopped, Did, Actor, Call, Reply, Plain, Part, Step, Refuse, Do, delta_before}
-use Rattle.mq_spec_state.specs.Steps.{IsWrite}
+use Rattle.mq_calls.specs.Steps.{IsWrite}
 use Rattle.mq_spec_node.specs.Words.{Node, Own, Deed, done, node_of, CanCome, deed_of, answer_of, sc_stopped}
 use Rattle.mq_core.specs.Values.{CoreValue}
 pub use Rattle.mq_steer.specs.Due.{next_due}

@@ -7,7 +7,7 @@ ghost use Rattle.mq_events.specs.Outcomes.{part_by, choice_by, reply_by, is_want
 ghost use Rattle.mq_spec_manager.specs.Get.{is_waiting};
 
 use crate::outcome::{Outcome, Told};
-use mq_base::NoMemory;
+use mq_base::{NoMemory, QName};
 use mq_calls::{
     Answer, Appl, Choice, Delta, Did, Get, GetAnswer, Got, Halt, Hconn, Hobj, Open, Sent,
 };
@@ -16,7 +16,6 @@ use mq_disk::Disk;
 use mq_history::Reply;
 use mq_manager::Manager;
 use mq_message::Md;
-use mq_name::QName;
 
 /// Which part of a call a stopped write belongs to, by what was told before it.
 fn part_by(delta: &[Did]) -> u32

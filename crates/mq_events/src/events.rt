@@ -13,11 +13,10 @@ use crate::calling::{
 };
 use crate::outcome::Outcome;
 use crate::state::NodeParts;
-use mq_base::NoMemory;
+use mq_base::{NoMemory, QName};
 use mq_disk::Disk;
 use mq_history::{Actor, Call, Entry};
 use mq_manager::Manager;
-use mq_name::QName;
 
 /// An MQI call at the manager. None where it is a get that may wait still.
 ///

@@ -5,7 +5,7 @@ ghost use Rattle.mq_history.specs.declared.acts.Act.TheVariants as acts;
 ghost use Rattle.mq_history.specs.declared.calls.Call.TheVariants as calls;
 ghost use Rattle.mq_law_image.specs.Values.{IsCommandText};
 ghost use Rattle.mq_sc_parse.specs.declared.command.Command.TheVariants as commands;
-ghost use Rattle.mq_spec_state.specs.Words.{is_up};
+ghost use Rattle.mq_calls.specs.Words.{is_up};
 ghost use Rattle.mq_spec_node.specs.Words.{deed_of, is_spent, opening_node};
 ghost use Rattle.mq_events.specs.States.{IsKept, IsServed, marked, node_in, value_of};
 ghost use Rattle.mq_events.specs.Counts.{IsNode};

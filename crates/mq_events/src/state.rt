@@ -7,13 +7,12 @@ ghost use Rattle.mq_history.specs.declared.calls.Call.TheVariants as calls;
 
 use crate::counting::has_few_rows;
 use crate::outcome::Outcome;
-use mq_base::{Items, NoMemory};
+use mq_base::{Items, NoMemory, QName};
 use mq_calls::{Choice, Did, Image};
 use mq_disk::Disk;
 use mq_frame::Seen;
 use mq_history::{Act, Acted, Actor, Call, Chance, Effect, Entry, Mark, Reply};
 use mq_manager::Manager;
-use mq_name::QName;
 use mq_own::Own;
 use std::alloc::Global;
 use std::marker::Model;

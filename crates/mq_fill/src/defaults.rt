@@ -2,7 +2,7 @@
 ghost use Rattle.std.specs.Prelude.{◌≡◌, ◌<◌, drop, option_copied};
 ghost use Rattle.mq_spec_manager.specs.Words.{first_on, default_priority, default_persistent, priority_or, persistence_or};
 
-use mq_name::QName;
+use mq_base::QName;
 use mq_objects::Object;
 use mq_resolve::PathStep;
 

@@ -9,10 +9,10 @@ use crate::defaults::{
     default_persistent, default_priority, first_on, persistence_or, priority_or,
 };
 use crate::replies::{Replies, replies_to};
+use mq_base::QName;
 use mq_calls::Appl;
 use mq_clock::put_stamp;
 use mq_message::{Dest, Ident, Md, made_msg_id};
-use mq_name::QName;
 use mq_objects::Defs;
 use mq_resolve::{PathStep, RouteEnd};
 

@@ -1,10 +1,10 @@
 //! Where replies go (IBM MQ reference, "MQMD", ReplyToQ and ReplyToQMgr).
 ghost use Rattle.std.specs.Prelude.{◌≡◌, option_copied};
-ghost use Rattle.mq_name.specs.Name.{name_of, padded, trimmed};
+ghost use Rattle.mq_base.specs.Name.{name_of, padded, trimmed};
 ghost use Rattle.mq_spec_manager.specs.Words.{is_blank, replies_by, replies_to, named_by};
 
 use crate::text::trimmed;
-use mq_name::QName;
+use mq_base::QName;
 use mq_objects::{Defs, Object};
 
 /// The fields ReplyToQ and ReplyToQMgr, padded with blanks.

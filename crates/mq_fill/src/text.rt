@@ -1,6 +1,6 @@
 //! Texts of fields.
 ghost use Rattle.std.specs.Prelude.{◌≡◌, ◌≤◌, length};
-ghost use Rattle.mq_name.specs.Name.{trimmed};
+ghost use Rattle.mq_base.specs.Name.{trimmed};
 
 /// A field's text without the blanks at its end.
 pub fn trimmed(field: &[u8]) -> &[u8]

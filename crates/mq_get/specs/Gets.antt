@@ -1,12 +1,12 @@
 -- What a get comes to where no refusal applies.
 use Rattle.std.specs.Prelude.{◌≡◌, ℕ, ◌<◌, ◌^◌, Bool, true, false, not, ◌&&◌, List, [], ◌∷◌, ◌++◌, map, if◌then◌else◌, Option, Some, None, Result, Ok, Err, IsSome}
 use Rattle.std.specs.Option.{option_map}
-use Rattle.mq_spec_state.specs.Words.{Reason, Get, Handle, Row, Connection, Plain, Step, Part, Refuse, Do, GetAnswer, stored, silent, connection_at, is_up}
+use Rattle.mq_calls.specs.Words.{Reason, Get, Handle, Row, Connection, Plain, Step, Part, Refuse, Do, GetAnswer, stored, silent, connection_at, is_up}
 use Rattle.mq_codes.specs.declared.reason.Reason.TheVariants as reasons
 use Rattle.mq_calls.specs.declared.answers.Answer.TheVariants as answers
 use Rattle.mq_calls.specs.declared.answers.GetAnswer.TheVariants.{Done}
 use Rattle.mq_calls.specs.declared.deltas.Why.TheVariants as whys
-use Rattle.mq_spec_state.specs.State.Change.{SetCursor}
+use Rattle.mq_calls.specs.State.Change.{SetCursor}
 use Rattle.mq_spec_manager.specs.Words.{Scan, queue_at, is_destructive, is_under, is_too_long, got, got_answer, is_waiting, without_row, persistent_rows, expired_need, get_handle}
 use Rattle.mq_scan.specs.declared.scanning.Met.{Met}
 use Rattle.mq_scan.specs.Scans.{scan_of, met_of}

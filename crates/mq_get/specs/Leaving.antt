@@ -1,12 +1,12 @@
 -- Rows that leave a queue, some of them in a record of their own; and a row that a unit holds.
 use Rattle.std.specs.Prelude.{ℕ, List, [], ◌∷◌, map, Option, Some, None, if◌then◌else◌}
-use Rattle.mq_spec_state.specs.Words.{Ident, Remove, LogRecord, Part, Among, need}
+use Rattle.mq_calls.specs.Words.{Ident, Remove, LogRecord, Part, Among, need}
 use Rattle.mq_message.specs.declared.place.Holder.TheVariants as holders
 use Rattle.mq_calls.specs.declared.deltas.Did.TheVariants as did
 use Rattle.mq_calls.specs.declared.deltas.Why.{Why}
 use Rattle.mq_calls.specs.declared.records.LogRecord.TheVariants as records
 use Rattle.mq_calls.specs.declared.state.Item.TheVariants.{Take as Taken}
-use Rattle.mq_spec_state.specs.State.Change.{Leave, Hold, Pend}
+use Rattle.mq_calls.specs.State.Change.{Leave, Hold, Pend}
 use Rattle.mq_scan.specs.declared.scanning.Met.{Met}
 use Rattle.mq_get.specs.declared.leaving.Leaving.{Leaving}
 

@@ -1,7 +1,7 @@
 //! All that a get finds, with the memory for what its answer holds.
 ghost use Rattle.std.specs.Prelude.{◌≡◌, ◌++◌, map, IfOk, OnOk};
 ghost use Rattle.std.specs.Option.{option_map};
-ghost use Rattle.mq_spec_state.specs.State.{Plain};
+ghost use Rattle.mq_calls.specs.State.{Plain};
 ghost use Rattle.mq_scan.specs.Scans.{scan_of, met_of};
 ghost use Rattle.mq_core.specs.Views.{plain_of};
 ghost use Rattle.mq_get.specs.Gets.{hit_of, IsPlan};

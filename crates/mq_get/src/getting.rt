@@ -1,9 +1,9 @@
 //! MQGET.
 ghost use Rattle.std.specs.Prelude.{◌≡◌, ◌+◌, ◌∷◌, ◌++◌, ◌&&◌, [], ◌<◌, ◌≤◌, ◌^◌, true, false, not, None, IsSome, length};
-ghost use Rattle.mq_spec_state.specs.State.{Plain};
+ghost use Rattle.mq_calls.specs.State.{Plain};
 ghost use Rattle.mq_calls.specs.declared.deltas.Why.TheVariants as whys;
-ghost use Rattle.mq_spec_state.specs.State.Change.{SetCursor};
-ghost use Rattle.mq_spec_state.specs.Words.{Meets, Do, connection_at, change_connection, is_up, silent};
+ghost use Rattle.mq_calls.specs.State.Change.{SetCursor};
+ghost use Rattle.mq_calls.specs.Words.{Meets, Do, connection_at, change_connection, is_up, silent};
 ghost use Rattle.mq_handles.specs.Seats.{cursor_set};
 ghost use Rattle.mq_spec_manager.specs.Words.{mqget, got_answer, is_under, is_waiting, without_row, persistent_rows, expired_need};
 ghost use Rattle.mq_core.specs.Views.{plain_of};
@@ -18,13 +18,12 @@ use crate::holding::get_held;
 use crate::leaving::{Leaving, drop_rows, give_back, leaving_need, leaving_of, make_room};
 use crate::refusals::{Aim, can_get};
 use crate::takes::{is_destructive, is_under};
-use mq_base::NoMemory;
+use mq_base::{NoMemory, QName};
 use mq_calls::{Answer, Get, GetAnswer, Got, Halt, Hconn, Hobj, Why};
 use mq_codes::Reason;
 use mq_core::{Core, Parts};
 use mq_disk::{Disk, Stop};
 use mq_message::Place;
-use mq_name::QName;
 use mq_scan::Met;
 use mq_unit::Effects;
 

@@ -2,7 +2,7 @@
 ghost use Rattle.std.specs.Prelude.{◌≡◌, ◌+◌, ◌∷◌, ◌++◌, [], ◌<◌, ◌≤◌, ◌^◌, true, false, None, IsSome, IfSome, OnOk, OnErr, length};
 ghost use Rattle.mq_calls.specs.declared.deltas.Why.TheVariants as whys;
 ghost use Rattle.mq_calls.specs.declared.state.Item.TheVariants.{Take};
-ghost use Rattle.mq_spec_state.specs.Words.{Do, connection_at, more_need, unit_need};
+ghost use Rattle.mq_calls.specs.Words.{Do, connection_at, more_need, unit_need};
 ghost use Rattle.mq_message.specs.declared.place.Holder.TheVariants as holders;
 ghost use Rattle.mq_calls.specs.declared.deltas.Did.TheVariants as did;
 ghost use Rattle.mq_unit.specs.Told.{told};
@@ -17,13 +17,12 @@ use crate::leaving::{
     Leaving, force_leaving, give_back, go_down_leaving, leaving_need, leaving_of, make_room,
     take_out,
 };
-use mq_base::NoMemory;
+use mq_base::{NoMemory, QName};
 use mq_calls::{Did, GetAnswer, Halt, Item, Why};
 use mq_codes::Reason;
 use mq_core::Parts;
 use mq_disk::{Disk, Stop};
 use mq_message::Holder;
-use mq_name::QName;
 use mq_scan::Met;
 use mq_unit::Effects;
 

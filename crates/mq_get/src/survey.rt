@@ -1,8 +1,8 @@
 //! What a get's scan will meet and find, counted before any memory is taken.
 ghost use Rattle.std.specs.Prelude.{◌≡◌, ◌+◌, ◌<◌, ◌^◌, [], ◌∷◌, length, filter, option_to_list, option_copied};
 ghost use Rattle.mq_queue.specs.Rows.{is_free};
-ghost use Rattle.mq_spec_state.specs.State.{Plain};
-ghost use Rattle.mq_spec_state.specs.Reads.{is_past};
+ghost use Rattle.mq_calls.specs.State.{Plain};
+ghost use Rattle.mq_calls.specs.Reads.{is_past};
 ghost use Rattle.mq_spec_manager.specs.Get.{any_id, is_at, persistent_rows};
 ghost use Rattle.mq_place.specs.States.{rows_after};
 ghost use Rattle.mq_scan.specs.Scans.{scan_of, scanned_at, start_of};

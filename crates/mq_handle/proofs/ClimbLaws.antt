@@ -16,12 +16,12 @@ use Rattle.mq_resolve.specs.Resolved.{resolve}
 use Rattle.mq_rules.specs.declared.rule.Action.{Action}
 use Rattle.mq_rules.specs.declared.rule.Action.TheVariants as actions
 use Rattle.mq_objects.specs.Names.{local_of}
-use Rattle.mq_spec_state.specs.Steps.{when, logged}
-use Rattle.mq_spec_state.specs.Words.{stored}
+use Rattle.mq_calls.specs.Steps.{when, logged}
+use Rattle.mq_calls.specs.Words.{stored}
 use Rattle.mq_spec_manager.specs.Words.{removal_part, removal_parts}
-use Rattle.mq_spec_agents.specs.Landing.{landing, route_tests}
-use Rattle.mq_spec_agents.specs.Moves.{bare_if, move_part, move_full, move_resolved, move_found, move_row}
-use Rattle.mq_spec_agents.specs.Words.{row_with}
+use Rattle.mq_spec_manager.specs.Landing.{landing, route_tests}
+use Rattle.mq_spec_manager.specs.Moves.{bare_if, move_part, move_full, move_resolved, move_found, move_row}
+use Rattle.mq_spec_manager.specs.Agents.{row_with}
 use Rattle.mq_spec_node.specs.Terms.{Actor, Call, Choice, Runs, NoMemory, Stopped, Dest, Entry, Ident, Message, Part, Plain, Reason, Rule, Running, Up, Down, Step, Refuse, Do}
 use Rattle.mq_spec_node.specs.Words.{Deed, Handler, Node, Own, acted, done, event, choice_event, forward_to, handler_in, handler_on, handler_row, handler_turn, in_force, input_queue, is_readable, moved, next_letter, retry_to, rule_in_force, ruled, failed_of, tries_of, where_up, done_by}
 use Rattle.mq_law_image.specs.Bounds.{all_growth}

@@ -11,9 +11,9 @@ use Rattle.mq_place.specs.States.{rows_after, is_free_after}
 use Rattle.mq_place.proofs.AfterLaws.{behind, find_after, free_is_after, next_after, rows_from_front, shorter}
 use Rattle.mq_objects.specs.declared.object.LocalQueue.{LocalQueue}
 use Rattle.mq_objects.specs.Names.{is_transmission, local_of}
-use Rattle.mq_spec_state.specs.Words.{Plain, stored, is_up}
+use Rattle.mq_calls.specs.Words.{Plain, stored, is_up}
 use Rattle.mq_spec_manager.specs.Words.{is_dead}
-use Rattle.mq_spec_agents.specs.Words.{CanMove, IsUp, is_ordinary, next_row}
+use Rattle.mq_spec_manager.specs.Agents.{CanMove, IsUp, is_ordinary, next_row}
 use Rattle.mq_spec_node.specs.Words.{Handler, input_queue, is_readable, is_due, is_handled, is_letter, next_letter, tries_of}
 use Rattle.mq_law_manager.specs.Facts.{Differ, IsSound, Mem, ident_of}
 use Rattle.mq_law_manager.proofs.Lists.{bool_case, ident_self, ident_yes}

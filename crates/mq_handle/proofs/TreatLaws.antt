@@ -15,14 +15,14 @@ use Rattle.mq_queue.specs.declared.row.Row.{Row}
 use Rattle.mq_queue.specs.Rows.{has_ident}
 use Rattle.mq_resolve.specs.declared.route.Route.{Route}
 use Rattle.mq_resolve.specs.Resolved.{resolve}
-use Rattle.mq_spec_state.specs.Steps.{IsWrite, when}
-use Rattle.mq_spec_state.specs.Meeting.{ManagerValue, MeetsAs, StoppedIn, done_all, Ran}
-use Rattle.mq_spec_state.specs.Meeting.Wants.{Anywhere}
-use Rattle.mq_spec_state.specs.Words.{stored}
+use Rattle.mq_calls.specs.Steps.{IsWrite, when}
+use Rattle.mq_calls.specs.Meeting.{ManagerValue, MeetsAs, StoppedIn, done_all, Ran}
+use Rattle.mq_calls.specs.Meeting.Wants.{Anywhere}
+use Rattle.mq_calls.specs.Words.{stored}
 use Rattle.mq_spec_manager.specs.Words.{removal_parts}
-use Rattle.mq_spec_agents.specs.Landing.{landing, route_tests}
-use Rattle.mq_spec_agents.specs.Moves.{bare_if, move_part, move_full, move_resolved, move_found, move_row, discard}
-use Rattle.mq_spec_agents.specs.Words.{row_with}
+use Rattle.mq_spec_manager.specs.Landing.{landing, route_tests}
+use Rattle.mq_spec_manager.specs.Moves.{bare_if, move_part, move_full, move_resolved, move_found, move_row, discard}
+use Rattle.mq_spec_manager.specs.Agents.{row_with}
 use Rattle.mq_spec_node.specs.Terms.{Choice, Runs, Stopped, Dest, Did, Ident, Message, Part, Plain, Reason, Reply, Step, Refuse, Do, Stop, Table, delta_before, stopped_at}
 use Rattle.mq_spec_node.specs.Words.{Handler, Own, Tried, CanCome, is_tried, node_of, tried_as}
 use Rattle.mq_core.specs.Values.{CoreValue, manager_of}

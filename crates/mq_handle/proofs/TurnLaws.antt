@@ -14,8 +14,8 @@ use Rattle.mq_rules.specs.declared.rule.Action.{Action}
 use Rattle.mq_rules.specs.declared.rule.Action.TheVariants as actions
 use Rattle.mq_queue.specs.declared.row.Row.{Row}
 use Rattle.mq_objects.specs.Names.{local_of}
-use Rattle.mq_spec_state.specs.Words.{is_up}
-use Rattle.mq_spec_agents.specs.Words.{CanMove, IsUp, discard, move_row}
+use Rattle.mq_calls.specs.Words.{is_up}
+use Rattle.mq_spec_manager.specs.Agents.{CanMove, IsUp, discard, move_row}
 use Rattle.mq_spec_node.specs.Terms.{Choice, Runs, NoMemory, Stopped, Did, Dest, Entry, Message, Part, Plain, Reason, Rule, Running, Up, Down, Step, Refuse, Do}
 use Rattle.mq_spec_node.specs.Words.{CanCome, Deed, Done, Handler, Node, Own, Tells, Tried, IsDeed, done, done_by, done_or, failed_of, forgotten_rows, forward_to, handler_deed, handler_in, handler_on, handler_row, handler_turn, in_force, input_queue, is_none, is_readable, letter_deed, moved, next_letter, node_of, parts_of, remembering, retry_to, rule_in_force, ruled, acted, told, tried_as, tries_of, where_up, with_handler, IsReplayed}
 use Rattle.mq_core.specs.Values.{CoreValue}

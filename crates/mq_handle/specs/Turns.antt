@@ -6,7 +6,7 @@ use Rattle.mq_history.specs.declared.calls.Actor.TheVariants as actors
 use Rattle.mq_history.specs.declared.calls.Call.TheVariants as calls
 use Rattle.mq_spec_node.specs.Terms.{Entry}
 use Rattle.mq_spec_node.specs.Words.{Deed, Handler, Node, deed_of, is_none}
-use Rattle.mq_spec_agents.specs.Words.{CanMove, IsUp}
+use Rattle.mq_spec_manager.specs.Agents.{CanMove, IsUp}
 use Rattle.mq_events.specs.States.{NodeState, node_in}
 use Rattle.mq_events.specs.Events.{Adds, Stays}
 use Rattle.mq_handle.specs.declared.finding.DueLetter.{DueLetter}

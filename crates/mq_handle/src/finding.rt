@@ -1,20 +1,20 @@
 //! The dead letter that a handler takes next.
 ghost use Rattle.std.specs.Prelude.{◌≡◌, ◌&&◌, option_copied, option_map};
-ghost use Rattle.mq_spec_state.specs.State.{Plain};
+ghost use Rattle.mq_calls.specs.State.{Plain};
 ghost use Rattle.mq_spec_node.specs.Words.{input_queue, is_readable, is_due, tries_of, next_letter, failed_of};
 ghost use Rattle.mq_spec_node.specs.Terms.{local_of};
-ghost use Rattle.mq_spec_agents.specs.Words.{IsUp};
+ghost use Rattle.mq_spec_manager.specs.Agents.{IsUp};
 ghost use Rattle.mq_manager.specs.Facts.{IsWell};
 ghost use Rattle.mq_handle.specs.Letters.{is_dead_letter, takes, letter_by};
 
 use crate::choosing::{Ruling, rule_on};
 use crate::tries::{is_due, tries_of};
 use mq_agents::{moment, next_row};
+use mq_base::QName;
 use mq_core::Core;
 use mq_disk::Disk;
 use mq_heads::dlh_of;
 use mq_message::{Ident, Message};
-use mq_name::QName;
 use mq_objects::{Defs, LocalQueue, Usage};
 use mq_own::{Handler, Tried};
 use mq_rules::Table;

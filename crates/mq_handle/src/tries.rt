@@ -5,9 +5,8 @@ ghost use Rattle.mq_spec_node.specs.Words.{is_tried, tries_of, is_due, tried_as}
 ghost use Rattle.mq_handle.specs.Treatments.{ignoring, later};
 
 use crate::choosing::Dispatch;
-use mq_base::NoMemory;
+use mq_base::{NoMemory, QName};
 use mq_message::Ident;
-use mq_name::QName;
 use mq_own::{Handler, Tried};
 
 fn is_tried(queue: &QName, ident: &Ident, tried: &Tried) -> bool

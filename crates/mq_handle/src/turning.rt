@@ -1,6 +1,6 @@
 //! A handler's turn as an event of its node.
 ghost use Rattle.std.specs.Prelude.{◌≡◌, ◌==◌, ◌<◌, ◌&&◌, Bool, true, IfSome, length, position, count_by, option_copied, slice_get};
-ghost use Rattle.mq_spec_agents.specs.Words.{CanMove, IsUp};
+ghost use Rattle.mq_spec_manager.specs.Agents.{CanMove, IsUp};
 ghost use Rattle.mq_spec_node.specs.Words.{is_none};
 ghost use Rattle.mq_events.specs.Counts.{IsNode, KeepsCounts};
 ghost use Rattle.mq_events.specs.Events.{MayAct};

@@ -5,7 +5,7 @@ use Rattle.std.specs.HashMap.{get}
 use Rattle.mq_calls.specs.declared.answers.Input.TheVariants as inputs
 use Rattle.mq_resolve.specs.declared.route.PathStep.TheVariants as steps
 use Rattle.mq_resolve.specs.declared.route.RouteEnd.TheVariants as ends
-use Rattle.mq_spec_state.specs.Words.{RouteEnd, PathStep, Input, Open, Handle, Connection, is_input, is_exclusive, leads_to}
+use Rattle.mq_calls.specs.Words.{RouteEnd, PathStep, Input, Open, Handle, Connection, is_input, is_exclusive, leads_to}
 use Rattle.mq_handles.specs.declared.users.Count.{Count}
 use Rattle.mq_handles.specs.declared.users.Users.{Users}
 

@@ -1,7 +1,7 @@
 //! The live connections of a manager.
 ghost use Rattle.std.specs.Prelude.{◌≡◌, ◌==◌, ◌+◌, ◌^◌, ◌<◌, ◌++◌, ◌∷◌, [], not, filter, position, map as mapped, option_copied, OnOk, OnErr, IfOk, IfSome, IsSome};
 ghost use Rattle.std.specs.List.{list_any};
-ghost use Rattle.mq_spec_state.specs.Words.{Connection, connection_at, any_handle, has_step, change_connection, made_stale, unit_need};
+ghost use Rattle.mq_calls.specs.Words.{Connection, connection_at, any_handle, has_step, change_connection, made_stale, unit_need};
 ghost use Rattle.mq_spec_manager.specs.Handles.{new_handle};
 ghost use Rattle.mq_unit.specs.Forced.{IsEnded};
 ghost use Rattle.mq_handles.specs.Rising.{AreRising, connection_number, has_number};
@@ -11,10 +11,9 @@ ghost use Rattle.mq_handles.specs.Users.{reads_from, reads_alone_from};
 use crate::numbers::place_of_connection;
 use crate::seat::Seat;
 use crate::users::Users;
-use mq_base::{Items, NoMemory};
+use mq_base::{Items, NoMemory, QName};
 use mq_calls::{Appl, Item, Open};
 use mq_message::{Ident, Place};
-use mq_name::QName;
 use mq_resolve::{PathStep, Route};
 use mq_unit::Ended;
 use std::alloc::Global;

@@ -1,8 +1,8 @@
 //! The word of a line at which its fault is.
 
 use crate::usage::{Slot, Usage};
+use mq_base::QName;
 use mq_history::Scenario;
-use mq_name::QName;
 use mq_scn_heading::cable_faults;
 use mq_scn_lines::{
     LineFault, OPEN_OPTIONS, are_options, bracketed, channel_in, label_in, name_in,

@@ -1,9 +1,8 @@
 //! What a story shows: an operator's settlement at odds with its receiver, logs that don't belong together, and
 //! where rows stand.
-use mq_base::Items;
+use mq_base::{ChName, Items, QName};
 use mq_calls::Shelf;
 use mq_message::Ident;
-use mq_name::{ChName, QName};
 use mq_objects::Definitions;
 use mq_sync::Unit;
 

@@ -14,10 +14,10 @@ use Rattle.mq_history.specs.declared.calls.Call.TheVariants as calls
 use Rattle.mq_history.specs.declared.calls.Entry.{Entry}
 use Rattle.mq_history.specs.declared.scenario.CableLine.{CableLine}
 use Rattle.mq_receiver.specs.declared.state.Owed.{Owed}
-use Rattle.mq_spec_state.specs.Reads.{is_up}
-use Rattle.mq_spec_state.specs.State.{Running}
-use Rattle.mq_spec_state.specs.State.Running.{Up, Down}
-use Rattle.mq_spec_agents.specs.Words.{stock}
+use Rattle.mq_calls.specs.Reads.{is_up}
+use Rattle.mq_calls.specs.State.{Running}
+use Rattle.mq_calls.specs.State.Running.{Up, Down}
+use Rattle.mq_spec_manager.specs.Agents.{stock}
 use Rattle.mq_spec_node.specs.Words.{Deed, Node, ReceiverEnd, SenderEnd, by, is_receiver, is_sender, item_if, items_of, receiver_end, sender_end}
 use Rattle.mq_spec_node.specs.Calls.{receiver_turn, sender_turn, turn_up, where_up}
 use Rattle.mq_spec_node.specs.Receivers.{receiver_deed}

@@ -34,14 +34,14 @@ use Rattle.mq_sender.specs.Table.{sender_lines, sender_next}
 use Rattle.mq_sync.specs.declared.data.Stock.{Stock}
 use Rattle.mq_sync.specs.declared.unit.Unit.{Unit as Luw}
 use Rattle.mq_sync.specs.Units.{unit_named}
-use Rattle.mq_spec_state.specs.State.{Plain, Queue}
-use Rattle.mq_spec_state.specs.State.Which.{Among}
-use Rattle.mq_spec_state.specs.Changes.{held_in, retag_if, selects, set_named}
-use Rattle.mq_spec_state.specs.Reads.{batch_of, free_rows, queue_in, stored}
-use Rattle.mq_spec_state.specs.Steps.{Step, do_all}
-use Rattle.mq_spec_state.specs.Steps.Step.{Do, Refuse}
+use Rattle.mq_calls.specs.State.{Plain, Queue}
+use Rattle.mq_calls.specs.State.Which.{Among}
+use Rattle.mq_calls.specs.Changes.{held_in, retag_if, selects, set_named}
+use Rattle.mq_calls.specs.Reads.{batch_of, free_rows, queue_in, stored}
+use Rattle.mq_calls.specs.Steps.{Step, do_all}
+use Rattle.mq_calls.specs.Steps.Step.{Do, Refuse}
 use Rattle.mq_spec_manager.specs.Words.{idents_of}
-use Rattle.mq_spec_agents.specs.Words.{at_number, batch_idents, batch_queue, batch_row, hold_batch, prepare, queue_of_sender, receive, row_with, stock}
+use Rattle.mq_spec_manager.specs.Agents.{at_number, batch_idents, batch_queue, batch_row, hold_batch, prepare, queue_of_sender, receive, row_with, stock}
 use Rattle.mq_spec_node.specs.Words.{Deed, Node, ReceiverEnd, SenderEnd, carried, parts_of}
 use Rattle.mq_spec_node.specs.Receivers.{is_receiver_defined, place_deed, receiver_deed, receiver_deed_by}
 use Rattle.mq_spec_node.specs.Senders.{begin_deed, prepare_deed, sender_deed, sender_deed_by}

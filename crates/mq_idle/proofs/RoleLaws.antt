@@ -29,8 +29,8 @@ use Rattle.mq_sender.specs.States as sent_states
 use Rattle.mq_receiver.specs.declared.turns.ReceiverDoes.TheVariants as takes
 use Rattle.mq_receiver.specs.declared.turns.ReceiverOut.TheVariants as taken_outs
 use Rattle.mq_receiver.specs.States as taken_states
-use Rattle.mq_spec_state.specs.State.Running.{Up, Down}
-use Rattle.mq_spec_state.specs.Steps.Outcome.{Answered, Refused, Wanting, Broken}
+use Rattle.mq_calls.specs.State.Running.{Up, Down}
+use Rattle.mq_calls.specs.Steps.Outcome.{Answered, Refused, Wanting, Broken}
 use Rattle.mq_spec_manager.specs.Stops.{restart, stop}
 use Rattle.mq_spec_node.specs.Terms.{After, awaits, Do, harden, in_doubt_of, InDoubt, is_commit, is_up, Kept, last_by, number, number_sent, Op, OpRefusal, Outcome, Plain, prepare, PrepareFault, Reason, receive, Receiver, receiver_after, receiver_next, ReceiverDoes, ReceiverOut, refusal, Refuse, RestartFault, Running, seize, SeizeFault, Sender, sender_after, sender_data, sender_next, SenderDoes, SenderOut, Settle, Step, stock, Test, timed_out, when}
 use Rattle.mq_spec_node.specs.Terms.{Luw}

@@ -12,10 +12,10 @@ use Rattle.mq_history.specs.declared.history.History.{History}
 use Rattle.mq_history.specs.declared.scenario.CableLine.{CableLine}
 use Rattle.mq_history.specs.Scenarios.{IsScenario}
 use Rattle.mq_sender.specs.States.{awaits, timed_out}
-use Rattle.mq_spec_state.specs.Reads.{is_up}
-use Rattle.mq_spec_state.specs.State.{Running}
-use Rattle.mq_spec_state.specs.State.Running.{Up, Down}
-use Rattle.mq_spec_agents.specs.Words.{stock}
+use Rattle.mq_calls.specs.Reads.{is_up}
+use Rattle.mq_calls.specs.State.{Running}
+use Rattle.mq_calls.specs.State.Running.{Up, Down}
+use Rattle.mq_spec_manager.specs.Agents.{stock}
 use Rattle.mq_spec_node.specs.Words.{Deed, Node, ReceiverEnd, SenderEnd, by, is_receiver, is_sender, receiver_end, sender_end}
 use Rattle.mq_spec_node.specs.Calls.{receiver_turn, sender_turn, timeout_by, timeout_of, turn_up, where_up}
 use Rattle.mq_spec_node.specs.Receivers.{receiver_deed}

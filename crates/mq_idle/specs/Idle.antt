@@ -9,9 +9,9 @@ use Rattle.mq_receiver.specs.declared.state.Owed.{Owed}
 use Rattle.mq_sender.specs.declared.state.SenderState.{SenderState}
 use Rattle.mq_sender.specs.declared.state.SenderState.TheVariants as states
 use Rattle.mq_sync.specs.declared.data.Stock.{Stock}
-use Rattle.mq_spec_state.specs.State.{Plain}
-use Rattle.mq_spec_state.specs.Reads.{is_up}
-use Rattle.mq_spec_agents.specs.Words.{batch_row, stock}
+use Rattle.mq_calls.specs.State.{Plain}
+use Rattle.mq_calls.specs.Reads.{is_up}
+use Rattle.mq_spec_manager.specs.Agents.{batch_row, stock}
 use Rattle.mq_spec_node.specs.Words.{Node, ReceiverEnd, SenderEnd, by, is_receiver, is_sender, receiver_end, sender_end}
 use Rattle.mq_spec_network.specs.Turns.{Network, node_at, rests}
 use Rattle.mq_ways.specs.Ways.{AreShown, CableState, IsCableAt, WayState}

@@ -4,7 +4,7 @@ ghost use Rattle.mq_events.specs.States.{node_in};
 ghost use Rattle.mq_idle.specs.Idle.{looks_idle, none_lies, receiver_looks_idle, refuses, sender_looks_idle};
 ghost use Rattle.mq_idle.specs.Sights.{IsSightOf};
 ghost use Rattle.mq_spec_network.specs.Turns.{Network, cable_idle};
-ghost use Rattle.mq_spec_state.specs.Reads.{is_up};
+ghost use Rattle.mq_calls.specs.Reads.{is_up};
 
 use crate::full::{none_lies, refuses};
 use crate::receiving::receiver_looks_idle;

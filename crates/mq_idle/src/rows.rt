@@ -4,13 +4,13 @@ ghost use Rattle.mq_agents.specs.Ends.{is_free_past};
 ghost use Rattle.mq_core.specs.Views.{plain_of};
 ghost use Rattle.mq_queue.specs.Rows.{is_free};
 ghost use Rattle.mq_queue.specs.declared.row.Row.{Row as QueueRow};
-ghost use Rattle.mq_spec_agents.specs.Words.{expired_rows, is_enabled, queue_of_sender, stock};
-ghost use Rattle.mq_spec_state.specs.Reads.{is_past};
-ghost use Rattle.mq_spec_state.specs.Words.{free_rows, local_of};
+ghost use Rattle.mq_spec_manager.specs.Agents.{expired_rows, is_enabled, queue_of_sender, stock};
+ghost use Rattle.mq_calls.specs.Reads.{is_past};
+ghost use Rattle.mq_calls.specs.Words.{free_rows, local_of};
 
+use mq_base::{ChName, QName};
 use mq_core::{Core, Parts};
 use mq_disk::Disk;
-use mq_name::{ChName, QName};
 use mq_place::LocalRows;
 use mq_queue::{Queue, Row};
 use mq_sides::seizure_of;

@@ -2,17 +2,17 @@
 ghost use Rattle.std.specs.Prelude.{◌≡◌, Some, is_some};
 ghost use Rattle.mq_idle.specs.Idle.{begins_unit, pushes, sender_looks_idle, sender_settles};
 ghost use Rattle.mq_events.specs.States.{node_in};
-ghost use Rattle.mq_spec_agents.specs.Words.{batch_row, stock};
+ghost use Rattle.mq_spec_manager.specs.Agents.{batch_row, stock};
 ghost use Rattle.mq_spec_network.specs.Turns.{rests};
 ghost use Rattle.mq_spec_node.specs.Words.{sender_end};
 
 use crate::rows::stock;
 use mq_agents::batch_row;
+use mq_base::ChName;
 use mq_cabled::sender_of;
 use mq_core::Core;
 use mq_disk::Disk;
 use mq_events::Node;
-use mq_name::ChName;
 use mq_own::SenderEnd;
 use mq_sender::SenderState;
 use mq_sync::Stock;

@@ -9,11 +9,11 @@ use Rattle.mq_queue.specs.declared.row.Row.{Row}
 use Rattle.mq_queue.specs.Rows.{is_free, retag}
 use Rattle.mq_sync.specs.declared.unit.Unit.{Unit as Luw}
 use Rattle.mq_history.specs.declared.scenario.Scenario.{Scenario}
-use Rattle.mq_spec_state.specs.State.{Batch, Plain}
-use Rattle.mq_spec_state.specs.State.Which.{Among}
-use Rattle.mq_spec_state.specs.State.Change.{Hold}
-use Rattle.mq_spec_state.specs.Reads.{batch_of, in_doubt_of, sender_data, stored}
-use Rattle.mq_spec_state.specs.Changes.{apply_all, retag_if}
+use Rattle.mq_calls.specs.State.{Batch, Plain}
+use Rattle.mq_calls.specs.State.Which.{Among}
+use Rattle.mq_calls.specs.State.Change.{Hold}
+use Rattle.mq_calls.specs.Reads.{batch_of, in_doubt_of, sender_data, stored}
+use Rattle.mq_calls.specs.Changes.{apply_all, retag_if}
 use Rattle.mq_spec_network.specs.Promised.{AreDistinct}
 use Rattle.mq_spec_network.specs.Story.{Mem}
 use Rattle.mq_law_rows.specs.Families.{put_at}

@@ -10,11 +10,11 @@ use Rattle.mq_queue.specs.Rows.{held_by, is_free, retag}
 use Rattle.mq_sync.specs.declared.unit.Unit.{Unit as Luw}
 use Rattle.mq_history.specs.declared.scenario.CableLine.{CableLine}
 use Rattle.mq_history.specs.declared.scenario.Scenario.{Scenario}
-use Rattle.mq_spec_state.specs.State.{Batch, Given, Plain}
-use Rattle.mq_spec_state.specs.State.Which.{HeldBy}
-use Rattle.mq_spec_state.specs.State.Change.{Release}
-use Rattle.mq_spec_state.specs.Reads.{batch_of, in_doubt_of, receiver_in, sender_data, stored}
-use Rattle.mq_spec_state.specs.Changes.{apply_all, release_if}
+use Rattle.mq_calls.specs.State.{Batch, Given, Plain}
+use Rattle.mq_calls.specs.State.Which.{HeldBy}
+use Rattle.mq_calls.specs.State.Change.{Release}
+use Rattle.mq_calls.specs.Reads.{batch_of, in_doubt_of, receiver_in, sender_data, stored}
+use Rattle.mq_calls.specs.Changes.{apply_all, release_if}
 use Rattle.mq_spec_network.specs.Standing.{cable_from, last_unit, last_unit_at, last_unit_of}
 use Rattle.mq_law_rows.specs.World.{Book, Ghost, Inv, World}
 use Rattle.mq_law_rows.specs.Kinds.{after, freed}

@@ -12,12 +12,12 @@ use Rattle.mq_sync.specs.declared.data.InDoubt.{InDoubt}
 use Rattle.mq_sync.specs.declared.data.SenderData.{SenderData}
 use Rattle.mq_sync.specs.Settlement.{data_prepared, data_settled, settle_by}
 use Rattle.mq_history.specs.declared.scenario.Scenario.{Scenario}
-use Rattle.mq_spec_state.specs.State.{Batch, Plain}
-use Rattle.mq_spec_state.specs.State.Which.{HeldBy}
-use Rattle.mq_spec_state.specs.State.Change.{Leave}
-use Rattle.mq_spec_state.specs.Reads.{batch_of, connection_at, in_doubt_of, sender_data, sender_in, stored}
-use Rattle.mq_spec_state.specs.Changes.{apply_all, release_if}
-use Rattle.mq_spec_agents.specs.Batches.{prepared_changes, prepared_doubt}
+use Rattle.mq_calls.specs.State.{Batch, Plain}
+use Rattle.mq_calls.specs.State.Which.{HeldBy}
+use Rattle.mq_calls.specs.State.Change.{Leave}
+use Rattle.mq_calls.specs.Reads.{batch_of, connection_at, in_doubt_of, sender_data, sender_in, stored}
+use Rattle.mq_calls.specs.Changes.{apply_all, release_if}
+use Rattle.mq_spec_manager.specs.Batches.{prepared_changes, prepared_doubt}
 use Rattle.mq_spec_network.specs.Ledger.{unit_of}
 use Rattle.mq_law_rows.specs.Families.{put_at}
 use Rattle.mq_law_rows.specs.World.{Book, Ghost, Inv, World, is_last}

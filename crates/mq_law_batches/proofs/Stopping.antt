@@ -8,12 +8,12 @@ use Rattle.mq_message.specs.declared.place.Holder.TheVariants as holders
 use Rattle.mq_queue.specs.declared.row.Row.{Row}
 use Rattle.mq_queue.specs.Rows.{held_by, is_by_unit, is_free, is_persistent, keep, retag}
 use Rattle.mq_history.specs.declared.scenario.Scenario.{Scenario}
-use Rattle.mq_spec_state.specs.State.{Batch, Given, LogState, Numbers, Plain, Running}
-use Rattle.mq_spec_state.specs.State.Which.{HeldBy, HeldByUnits, Nonpersistent}
-use Rattle.mq_spec_state.specs.State.Change.{ForgetAll, Leave, Release}
-use Rattle.mq_spec_state.specs.Reads.{batch_of, in_doubt_of, sender_data, stored}
-use Rattle.mq_spec_state.specs.Changes.{apply, apply_all, release_if}
-use Rattle.mq_spec_state.specs.Images.{begun, has_batch, lasting, lasting_row, lasting_rows, numbered, raised}
+use Rattle.mq_calls.specs.State.{Batch, Given, LogState, Numbers, Plain, Running}
+use Rattle.mq_calls.specs.State.Which.{HeldBy, HeldByUnits, Nonpersistent}
+use Rattle.mq_calls.specs.State.Change.{ForgetAll, Leave, Release}
+use Rattle.mq_calls.specs.Reads.{batch_of, in_doubt_of, sender_data, stored}
+use Rattle.mq_calls.specs.Changes.{apply, apply_all, release_if}
+use Rattle.mq_calls.specs.Images.{begun, has_batch, lasting, lasting_row, lasting_rows, numbered, raised}
 use Rattle.mq_spec_manager.specs.Stops.{at_rest, release_batch}
 use Rattle.mq_spec_network.specs.Ledger as ledgers
 use Rattle.mq_spec_network.specs.Ledger.{Ledger, change_at}

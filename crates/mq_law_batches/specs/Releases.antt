@@ -8,12 +8,12 @@ use Rattle.mq_sync.specs.Settlement.{data_settled, settle_by}
 use Rattle.mq_calls.specs.declared.agents.Note.{Note}
 use Rattle.mq_calls.specs.declared.agents.Note.TheVariants as notes
 use Rattle.mq_history.specs.declared.scenario.Scenario.{Scenario}
-use Rattle.mq_spec_state.specs.State.{Batch, Change, Plain}
-use Rattle.mq_spec_state.specs.State.Which.{Among, HeldBy}
-use Rattle.mq_spec_state.specs.State.Change.{AddBatch, DropBatch, Hold, Release, SetSender}
-use Rattle.mq_spec_state.specs.Reads.{batch_of, in_doubt_of, sender_data}
-use Rattle.mq_spec_state.specs.Changes.{apply_all}
-use Rattle.mq_spec_agents.specs.Hardening.{settle_change}
+use Rattle.mq_calls.specs.State.{Batch, Change, Plain}
+use Rattle.mq_calls.specs.State.Which.{Among, HeldBy}
+use Rattle.mq_calls.specs.State.Change.{AddBatch, DropBatch, Hold, Release, SetSender}
+use Rattle.mq_calls.specs.Reads.{batch_of, in_doubt_of, sender_data}
+use Rattle.mq_calls.specs.Changes.{apply_all}
+use Rattle.mq_spec_manager.specs.Hardening.{settle_change}
 use Rattle.mq_spec_network.specs.Story.{Mem}
 use Rattle.mq_law_rows.specs.World.{Book, Ghost, Inv}
 use Rattle.mq_spec_network.specs.Ledger.{Ledger, stop}

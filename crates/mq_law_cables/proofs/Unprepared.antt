@@ -8,8 +8,8 @@ use Rattle.mq_sync.specs.declared.data.InDoubt.{InDoubt}
 use Rattle.mq_calls.specs.declared.state.Batch.{Batch}
 use Rattle.mq_history.specs.declared.scenario.CableLine.{CableLine}
 use Rattle.mq_history.specs.declared.scenario.Scenario.{Scenario}
-use Rattle.mq_spec_state.specs.State.{Plain}
-use Rattle.mq_spec_state.specs.Reads.{batch_of, in_doubt_of, sender_data}
+use Rattle.mq_calls.specs.State.{Plain}
+use Rattle.mq_calls.specs.Reads.{batch_of, in_doubt_of, sender_data}
 use Rattle.mq_spec_network.specs.Story.{Mem}
 use Rattle.mq_law_manager.specs.Facts.{IsSound}
 use Rattle.mq_law_manager.proofs.Lists.{name_yes}

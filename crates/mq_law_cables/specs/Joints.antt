@@ -4,8 +4,8 @@ use Rattle.std.specs.Option.{option_map}
 use Rattle.mq_sync.specs.declared.unit.Unit.{Unit as Luw}
 use Rattle.mq_calls.specs.declared.state.Batch.{Batch}
 use Rattle.mq_history.specs.declared.scenario.CableLine.{CableLine}
-use Rattle.mq_spec_state.specs.State.{Plain}
-use Rattle.mq_spec_state.specs.Reads.{batch_of, in_doubt_of, receiver_data, sender_data}
+use Rattle.mq_calls.specs.State.{Plain}
+use Rattle.mq_calls.specs.Reads.{batch_of, in_doubt_of, receiver_data, sender_data}
 use Rattle.mq_spec_network.specs.Standing.{last_unit_of}
 use Rattle.mq_law_channel.specs.Channel.{Channel, Past}
 use Rattle.mq_law_channel.specs.Opening.{doubt_unit}

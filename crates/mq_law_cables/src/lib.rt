@@ -7,7 +7,7 @@ ghost use Rattle.mq_message.specs.declared.message.Ident.{Ident};
 ghost use Rattle.mq_history.specs.declared.scenario.CableLine.{CableLine};
 ghost use Rattle.mq_history.specs.declared.scenario.Scenario.{Scenario};
 ghost use Rattle.mq_history.specs.Scenarios.{IsScenario};
-ghost use Rattle.mq_spec_state.specs.State.{Plain};
+ghost use Rattle.mq_calls.specs.State.{Plain};
 ghost use Rattle.mq_spec_network.specs.Ledger.{Ledger};
 ghost use Rattle.mq_spec_network.specs.Story.{Mem};
 ghost use Rattle.mq_law_channel.specs.Channel.{Channel, Facts, Past};

@@ -23,11 +23,11 @@ use Rattle.mq_resolve.specs.declared.route.Route.{Route}
 use Rattle.mq_resolve.specs.Resolved.{resolve}
 use Rattle.mq_sc_apply.specs.declared.answers.Plan.{Plan}
 use Rattle.mq_sc_apply.specs.declared.answers.Plan.TheVariants as plans
-use Rattle.mq_spec_state.specs.State.{Plain}
-use Rattle.mq_spec_state.specs.State.Change.{CloseHandle, Connect, Disconnect, OpenHandle}
-use Rattle.mq_spec_state.specs.Reads.{handle_at, is_up}
-use Rattle.mq_spec_state.specs.Steps.{◌>>=◌, going_on, none_of, Step, Part, Test, refused_or, refusal, tested, silent, when}
-use Rattle.mq_spec_state.specs.Steps.Step.{Do, Refuse}
+use Rattle.mq_calls.specs.State.{Plain}
+use Rattle.mq_calls.specs.State.Change.{CloseHandle, Connect, Disconnect, OpenHandle}
+use Rattle.mq_calls.specs.Reads.{handle_at, is_up}
+use Rattle.mq_calls.specs.Steps.{◌>>=◌, going_on, none_of, Step, Part, Test, refused_or, refusal, tested, silent, when}
+use Rattle.mq_calls.specs.Steps.Step.{Do, Refuse}
 use Rattle.mq_spec_manager.specs.Handles.{connected, for_connection, for_handle, mqconn, mqopen, mqclose, close_up, close_handle, new_connection, new_handle, new_hconn, conn_tests, open_tests, open_step, option_tests, is_unfit}
 use Rattle.mq_spec_manager.specs.Put.{mqput, mqput1, put_up, put_handle, put_route, put1_resolved, new_message, put_tests, put_step, put_part, queue_at, output_tests, handle_route, output_only}
 use Rattle.mq_spec_manager.specs.Get.{mqget, get_up, get_handle, get_scanned, get_found, with_row, without_row, found_part, expired_parts, removal_parts, scanned, is_left, is_waiting, is_under, room_tests, get_tests}
@@ -43,20 +43,20 @@ use Rattle.mq_calls.specs.declared.records.LogRecord.{LogRecord}
 use Rattle.mq_objects.specs.declared.object.Object.TheVariants as objects
 use Rattle.mq_objects.specs.declared.object.Process.{Process}
 use Rattle.mq_objects.specs.declared.object.LocalQueue.{LocalQueue}
-use Rattle.mq_spec_state.specs.Words.{ObjectChange, Message, Subject, Object, Among, is_persistent, do_part}
+use Rattle.mq_calls.specs.Words.{ObjectChange, Message, Subject, Object, Among, is_persistent, do_part}
 use Rattle.mq_objects.specs.declared.change.ObjectChange.TheVariants as changes
 use Rattle.mq_objects.specs.declared.command.Subject.TheVariants as subjects
 use Rattle.mq_objects.specs.Names.{local_of, locals_of, process_of, name_of, is_transmission}
 use Rattle.mq_sc_apply.specs.declared.answers.Planned.{Planned}
 use Rattle.mq_resolve.specs.declared.route.PathStep.{PathStep}
-use Rattle.mq_spec_state.specs.State.{Batch, Change, Running}
-use Rattle.mq_spec_state.specs.State.Running.{Up, Down}
-use Rattle.mq_spec_state.specs.State.Which.{Nonpersistent}
-use Rattle.mq_spec_state.specs.State.Change.{Leave, Hold, Pend, EndUnit, CountIdent, SetCursor, ForgetAll}
-use Rattle.mq_spec_state.specs.Reads.{connection_at}
-use Rattle.mq_spec_state.specs.Counts.{starts_of}
-use Rattle.mq_spec_state.specs.Changes.{apply, apply_all}
-use Rattle.mq_spec_state.specs.Steps.{logged}
+use Rattle.mq_calls.specs.State.{Batch, Change, Running}
+use Rattle.mq_calls.specs.State.Running.{Up, Down}
+use Rattle.mq_calls.specs.State.Which.{Nonpersistent}
+use Rattle.mq_calls.specs.State.Change.{Leave, Hold, Pend, EndUnit, CountIdent, SetCursor, ForgetAll}
+use Rattle.mq_calls.specs.Reads.{connection_at}
+use Rattle.mq_calls.specs.Counts.{starts_of}
+use Rattle.mq_calls.specs.Changes.{apply, apply_all}
+use Rattle.mq_calls.specs.Steps.{logged}
 use Rattle.mq_spec_manager.specs.Handles.{live_or, is_other, is_present}
 use Rattle.mq_spec_manager.specs.Get.{removal_part, taking_part, is_destructive}
 use Rattle.mq_spec_manager.specs.Units.{freed_item}

@@ -4,13 +4,13 @@ use Rattle.std.specs.Prelude.{Option, Some, None, if◌then◌else◌, ◌==◌,
 use Rattle.std.specs.List.{AllByRecursion}
 use Rattle.std.proofs.lemmas.List.Sums.{sum_by_push}
 use Rattle.mq_calls.specs.declared.records.LogRecord.{LogRecord}
-use Rattle.mq_spec_state.specs.State.{Plain, Connection, Item, Change, Noted}
-use Rattle.mq_spec_state.specs.State.Change.{Pend}
-use Rattle.mq_spec_state.specs.Reads.{stored, puts_to, is_put_to}
-use Rattle.mq_spec_state.specs.State.Which.{Nonpersistent}
-use Rattle.mq_spec_state.specs.Changes.{apply, apply_all, change_connection, kept_in}
-use Rattle.mq_spec_state.specs.Counts.{starts_of}
-use Rattle.mq_spec_state.specs.Steps.{Part, do_part, do_all, logged, freeze, note_of, stopped_at}
+use Rattle.mq_calls.specs.State.{Plain, Connection, Item, Change, Noted}
+use Rattle.mq_calls.specs.State.Change.{Pend}
+use Rattle.mq_calls.specs.Reads.{stored, puts_to, is_put_to}
+use Rattle.mq_calls.specs.State.Which.{Nonpersistent}
+use Rattle.mq_calls.specs.Changes.{apply, apply_all, change_connection, kept_in}
+use Rattle.mq_calls.specs.Counts.{starts_of}
+use Rattle.mq_calls.specs.Steps.{Part, do_part, do_all, logged, freeze, note_of, stopped_at}
 use Rattle.mq_law_manager.proofs.Lists.{bool_case}
 use Rattle.mq_law_image.specs.Bounds.{all_growth}
 use Rattle.mq_law_image.proofs.Growing.{Rises, all_rise, changed_sum, le_self, handles_more, mapped_rise, still_rises}

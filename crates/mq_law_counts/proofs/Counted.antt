@@ -3,9 +3,9 @@ use Rattle.std.proofs.Common.{ℕ, ◌≡◌, ◌+◌, ◌≤◌, Bool, List, []
 use Rattle.std.specs.Prelude.{if◌then◌else◌}
 use Rattle.std.specs.Str.{bytes_eq}
 use Rattle.std.specs.List.{AllByRecursion}
-use Rattle.mq_spec_state.specs.State.{Plain, Queue}
-use Rattle.mq_spec_state.specs.Reads.{queue_in, puts_to}
-use Rattle.mq_spec_state.specs.Counts.{IsCounted}
+use Rattle.mq_calls.specs.State.{Plain, Queue}
+use Rattle.mq_calls.specs.Reads.{queue_in, puts_to}
+use Rattle.mq_calls.specs.Counts.{IsCounted}
 use Rattle.mq_law_manager.specs.Facts.{Mem, AreNamed}
 use Rattle.mq_law_manager.proofs.Named.{name_self, name_turned}
 use Rattle.mq_law_log.proofs.Bridge.{all_of}

@@ -9,13 +9,13 @@ use Rattle.mq_message.specs.declared.message.Ident.{Ident}
 use Rattle.mq_message.specs.declared.message.Message.{Message}
 use Rattle.mq_objects.specs.Names.{local_of}
 use Rattle.mq_calls.specs.declared.state.Item.TheVariants.{Put, Take}
-use Rattle.mq_spec_state.specs.State.{Plain, Queue, Connection, Item, Change, Numbers, Running}
-use Rattle.mq_spec_state.specs.State.Change.{Place as Places, Try, Leave, EndUnit}
-use Rattle.mq_spec_state.specs.State.Which.{Among}
-use Rattle.mq_spec_state.specs.Condition.{condition}
-use Rattle.mq_spec_state.specs.Reads.{stored, queue_in, puts_to, is_put_to, connection_at}
-use Rattle.mq_spec_state.specs.Changes.{apply, apply_all, set_queue, placed_in, lane_of, made_due, depth_type, try_if, change_connection}
-use Rattle.mq_spec_state.specs.Counts.{starts_of}
+use Rattle.mq_calls.specs.State.{Plain, Queue, Connection, Item, Change, Numbers, Running}
+use Rattle.mq_calls.specs.State.Change.{Place as Places, Try, Leave, EndUnit}
+use Rattle.mq_calls.specs.State.Which.{Among}
+use Rattle.mq_calls.specs.Condition.{condition}
+use Rattle.mq_calls.specs.Reads.{stored, queue_in, puts_to, is_put_to, connection_at}
+use Rattle.mq_calls.specs.Changes.{apply, apply_all, set_queue, placed_in, lane_of, made_due, depth_type, try_if, change_connection}
+use Rattle.mq_calls.specs.Counts.{starts_of}
 use Rattle.mq_spec_manager.specs.Units.{placed_item, taken_item, commit_changes}
 use Rattle.mq_law_manager.proofs.Lists.{bool_case}
 use Rattle.mq_law_manager.proofs.Named.{name_is, queue_set, found_name}

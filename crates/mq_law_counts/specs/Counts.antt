@@ -5,11 +5,11 @@ use Rattle.mq_sc_parse.specs.declared.command.Command.TheVariants as commands
 use Rattle.mq_history.specs.declared.acts.Act.TheVariants as acts
 use Rattle.mq_history.specs.declared.calls.Call.TheVariants as calls
 use Rattle.mq_spec_node.specs.Terms.{Act, Call, Command}
-use Rattle.mq_spec_state.specs.State.{Plain, Connection}
-use Rattle.mq_spec_state.specs.Reads.{stored, puts_to}
-use Rattle.mq_spec_state.specs.Counts.{starts_of}
-use Rattle.mq_spec_state.specs.Steps.{Part, Step, do_all, stopped_at}
-use Rattle.mq_spec_state.specs.Steps.Step.{Refuse, Do}
+use Rattle.mq_calls.specs.State.{Plain, Connection}
+use Rattle.mq_calls.specs.Reads.{stored, puts_to}
+use Rattle.mq_calls.specs.Counts.{starts_of}
+use Rattle.mq_calls.specs.Steps.{Part, Step, do_all, stopped_at}
+use Rattle.mq_calls.specs.Steps.Step.{Refuse, Do}
 
 -- No counter of the second manager is more than so much above the first's. An uncommitted put of a queue may arrive, and bring a
 -- trigger.

@@ -9,7 +9,7 @@ ghost use Rattle.mq_spec_node.specs.Terms.{Actor, Call, Chance, Given, Plain};
 ghost use Rattle.mq_spec_node.specs.Words.{Node, event};
 ghost use Rattle.mq_spec_manager.specs.Stops.{first_start};
 ghost use Rattle.std.specs.List.{AllByRecursion};
-ghost use Rattle.mq_spec_state.specs.Counts.{IsCounted};
+ghost use Rattle.mq_calls.specs.Counts.{IsCounted};
 ghost use Rattle.mq_law_manager.specs.Facts.{Mem, AreNamed};
 ghost use Rattle.mq_law_counts.specs.Counts.{Climbs, AreWithin, IsCountedCall};
 

@@ -35,9 +35,9 @@ use Rattle.mq_history.specs.declared.calls.Call.TheVariants as calls
 use Rattle.mq_history.specs.declared.calls.Entry.{Entry}
 use Rattle.mq_history.specs.declared.calls.Reply.{Reply}
 use Rattle.mq_history.specs.declared.calls.Reply.TheVariants as replies
-use Rattle.mq_spec_agents.specs.Moves.{bare_if}
-use Rattle.mq_spec_state.specs.State.{Plain}
-use Rattle.mq_spec_state.specs.Changes.{change_connection}
+use Rattle.mq_spec_manager.specs.Moves.{bare_if}
+use Rattle.mq_calls.specs.State.{Plain}
+use Rattle.mq_calls.specs.Changes.{change_connection}
 use Rattle.mq_spec_network.specs.Terms.{names_of, handle_at, handle_route, is_destructive}
 use Rattle.mq_spec_network.specs.Ledger as ledgers
 use Rattle.mq_spec_network.specs.Ledger.{Ledger, Users}

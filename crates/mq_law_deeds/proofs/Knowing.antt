@@ -25,14 +25,14 @@ use Rattle.mq_sender.specs.States as senders
 use Rattle.mq_sender.specs.Table.{sender_next}
 use Rattle.mq_receiver.specs.States as receivers
 use Rattle.mq_receiver.specs.Table.{receiver_next}
-use Rattle.mq_spec_state.specs.State.{Plain, Running}
-use Rattle.mq_spec_state.specs.State.Running.{Up, Down}
-use Rattle.mq_spec_state.specs.State.Change.{Seize}
-use Rattle.mq_spec_state.specs.Reads.{batch_of, has_held_by_other, in_doubt_of, is_open_for_input, is_up, receiver_data, sender_data}
-use Rattle.mq_spec_state.specs.Steps.{Step, Test, refusal, silent, when, refused_or as steps_refused_or}
-use Rattle.mq_spec_state.specs.Steps.Step.{Refuse, Do}
+use Rattle.mq_calls.specs.State.{Plain, Running}
+use Rattle.mq_calls.specs.State.Running.{Up, Down}
+use Rattle.mq_calls.specs.State.Change.{Seize}
+use Rattle.mq_calls.specs.Reads.{batch_of, has_held_by_other, in_doubt_of, is_open_for_input, is_up, receiver_data, sender_data}
+use Rattle.mq_calls.specs.Steps.{Step, Test, refusal, silent, when, refused_or as steps_refused_or}
+use Rattle.mq_calls.specs.Steps.Step.{Refuse, Do}
 use Rattle.mq_spec_manager.specs.Handles.{is_transmission_queue}
-use Rattle.mq_spec_agents.specs.Words.{channel_queue, harden, leave, release_of, seize, set_bound, stock}
+use Rattle.mq_spec_manager.specs.Agents.{channel_queue, harden, leave, release_of, seize, set_bound, stock}
 use Rattle.mq_spec_node.specs.Node.{Node, ReceiverEnd, SenderEnd, receiver_end, sender_end, sender_named}
 use Rattle.mq_spec_node.specs.Node.ChannelEnd.{Sends, Receives}
 use Rattle.mq_spec_node.specs.Deeds.{Deed, parts_of}

@@ -10,12 +10,12 @@ use Rattle.mq_receiver.specs.declared.turns.ReceiverDoes.TheVariants as takes
 use Rattle.mq_receiver.specs.After.{last_by}
 use Rattle.mq_sync.specs.Settlement.{receiver_or}
 use Rattle.mq_calls.specs.declared.deltas.Did.TheVariants as did
-use Rattle.mq_spec_state.specs.State.{Change, Plain}
-use Rattle.mq_spec_state.specs.State.Change.{Hold, SetReceiver}
-use Rattle.mq_spec_state.specs.Reads.{batch_of, is_full, receiver_data}
-use Rattle.mq_spec_state.specs.Sizes.{need}
-use Rattle.mq_spec_state.specs.Steps.{Part, do_all}
-use Rattle.mq_spec_agents.specs.Words.{Landed, landed, receive_landed, received_record}
+use Rattle.mq_calls.specs.State.{Change, Plain}
+use Rattle.mq_calls.specs.State.Change.{Hold, SetReceiver}
+use Rattle.mq_calls.specs.Reads.{batch_of, is_full, receiver_data}
+use Rattle.mq_calls.specs.Sizes.{need}
+use Rattle.mq_calls.specs.Steps.{Part, do_all}
+use Rattle.mq_spec_manager.specs.Agents.{Landed, landed, receive_landed, received_record}
 use Rattle.mq_spec_node.specs.Node.{Node, ReceiverEnd}
 use Rattle.mq_spec_node.specs.Deeds.{Deed}
 use Rattle.mq_spec_node.specs.Receivers.{place_deed, receiver_deed_by}

@@ -12,12 +12,12 @@ use Rattle.mq_history.specs.declared.calls.Call.{Call}
 use Rattle.mq_history.specs.declared.calls.Call.TheVariants as calls
 use Rattle.mq_history.specs.declared.calls.Reply.{Reply}
 use Rattle.mq_history.specs.declared.calls.Reply.TheVariants as replies
-use Rattle.mq_spec_state.specs.State.{Change, Plain}
-use Rattle.mq_spec_state.specs.State.Change.{Try, Connect, SetBound}
-use Rattle.mq_spec_state.specs.Changes.{apply, apply_all, try_if}
-use Rattle.mq_spec_state.specs.Condition.{condition}
-use Rattle.mq_spec_state.specs.Steps.{Part, do_all, do_part, logged, refusal, refused_or, silent}
-use Rattle.mq_spec_state.specs.Steps.Step.{Do}
+use Rattle.mq_calls.specs.State.{Change, Plain}
+use Rattle.mq_calls.specs.State.Change.{Try, Connect, SetBound}
+use Rattle.mq_calls.specs.Changes.{apply, apply_all, try_if}
+use Rattle.mq_calls.specs.Condition.{condition}
+use Rattle.mq_calls.specs.Steps.{Part, do_all, do_part, logged, refusal, refused_or, silent}
+use Rattle.mq_calls.specs.Steps.Step.{Do}
 use Rattle.mq_spec_manager.specs.Handles.{conn_tests, new_connection, new_hconn}
 use Rattle.mq_spec_node.specs.Node.{Node, Own}
 use Rattle.mq_spec_node.specs.Deeds.{Deed, mqi_deed}

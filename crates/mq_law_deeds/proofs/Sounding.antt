@@ -31,15 +31,15 @@ use Rattle.mq_history.specs.declared.calls.Call.{Call}
 use Rattle.mq_history.specs.declared.calls.Call.TheVariants as calls
 use Rattle.mq_history.specs.declared.calls.Reply.{Reply}
 use Rattle.mq_history.specs.declared.calls.Reply.TheVariants as replies
-use Rattle.mq_spec_state.specs.State.{Plain, Running}
-use Rattle.mq_spec_state.specs.State.Running.{Up, Down}
-use Rattle.mq_spec_state.specs.Reads.{is_up, stored}
-use Rattle.mq_spec_state.specs.Steps.{Part, Step, do_all, do_part}
-use Rattle.mq_spec_state.specs.Steps.Step.{Refuse, Do}
+use Rattle.mq_calls.specs.State.{Plain, Running}
+use Rattle.mq_calls.specs.State.Running.{Up, Down}
+use Rattle.mq_calls.specs.Reads.{is_up, stored}
+use Rattle.mq_calls.specs.Steps.{Part, Step, do_all, do_part}
+use Rattle.mq_calls.specs.Steps.Step.{Refuse, Do}
 use Rattle.mq_spec_manager.specs.Words.{mqconn, mqopen, mqclose, mqput, mqput1, mqget, mqcmit, mqback, mqdisc, command, trigger_turn}
 use Rattle.mq_spec_manager.specs.Triggers.{first_due}
-use Rattle.mq_spec_agents.specs.Conditions.{CanMove, is_ordinary}
-use Rattle.mq_spec_agents.specs.Words.{discard, leave, move_row}
+use Rattle.mq_spec_manager.specs.Conditions.{CanMove, is_ordinary}
+use Rattle.mq_spec_manager.specs.Agents.{discard, leave, move_row}
 use Rattle.mq_spec_node.specs.Node.{Handler, Node, Own, SenderEnd, handler_in}
 use Rattle.mq_spec_node.specs.Deeds.{Deed, ended_deed, mqi_deed, parts_of, told}
 use Rattle.mq_spec_node.specs.Handlers as handlers

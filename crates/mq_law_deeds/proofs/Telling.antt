@@ -16,14 +16,14 @@ use Rattle.mq_receiver.specs.declared.turns.ReceiverDoes.{ReceiverDoes}
 use Rattle.mq_receiver.specs.declared.turns.ReceiverDoes.TheVariants as takes
 use Rattle.mq_receiver.specs.After.{last_by}
 use Rattle.mq_sender.specs.States as senders
-use Rattle.mq_spec_state.specs.Reads.{is_full}
-use Rattle.mq_spec_state.specs.Sizes.{need}
-use Rattle.mq_spec_state.specs.Steps.{delta_of}
+use Rattle.mq_calls.specs.Reads.{is_full}
+use Rattle.mq_calls.specs.Sizes.{need}
+use Rattle.mq_calls.specs.Steps.{delta_of}
 use Rattle.mq_sync.specs.Settlement.{is_commit}
-use Rattle.mq_spec_agents.specs.Hardening.{held_rows, settle_did}
-use Rattle.mq_spec_agents.specs.Words.{Landed, landed, receive_landed, received_record}
+use Rattle.mq_spec_manager.specs.Hardening.{held_rows, settle_did}
+use Rattle.mq_spec_manager.specs.Agents.{Landed, landed, receive_landed, received_record}
 use Rattle.mq_spec_node.specs.Node.{Node, ReceiverEnd, SenderEnd}
-use Rattle.mq_spec_agents.specs.Words.{harden}
+use Rattle.mq_spec_manager.specs.Agents.{harden}
 use Rattle.mq_spec_node.specs.Deeds.{parts_of}
 use Rattle.mq_spec_node.specs.Operators.{operated, refused_or, resolve_doubt}
 use Rattle.mq_spec_node.specs.Receivers.{place_deed, receiver_deed_by}

@@ -1,7 +1,7 @@
 -- What a deed of a manager is for one of its senders' channels, where the manager's facts hold before and behind it.
 use Rattle.std.specs.Prelude.{List, [], Option, Some, None}
 use Rattle.mq_calls.specs.declared.deltas.Did.{Did}
-use Rattle.mq_spec_state.specs.Steps.{delta_of, do_all}
+use Rattle.mq_calls.specs.Steps.{delta_of, do_all}
 use Rattle.mq_spec_node.specs.Deeds.{Deed}
 use Rattle.mq_spec_node.specs.Node.{Node}
 use Rattle.mq_law_channel.specs.Channel.{Channel}

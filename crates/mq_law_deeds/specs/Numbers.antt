@@ -7,8 +7,8 @@ use Rattle.mq_history.specs.declared.calls.Call.{Call}
 use Rattle.mq_history.specs.declared.calls.Call.TheVariants as calls
 use Rattle.mq_history.specs.declared.calls.Reply.{Reply}
 use Rattle.mq_history.specs.declared.calls.Reply.TheVariants as replies
-use Rattle.mq_spec_state.specs.State.{Plain}
-use Rattle.mq_spec_state.specs.Steps.{do_all}
+use Rattle.mq_calls.specs.State.{Plain}
+use Rattle.mq_calls.specs.Steps.{do_all}
 use Rattle.mq_spec_node.specs.Deeds.{Deed}
 use Rattle.mq_spec_network.specs.Ledger.{Ledger, Users}
 

@@ -35,10 +35,10 @@ use Rattle.mq_calls.specs.declared.answers.Open.{Open}
 use Rattle.mq_calls.specs.declared.state.Connection.{Connection}
 use Rattle.mq_calls.specs.declared.state.Handle.{Handle}
 use Rattle.mq_history.specs.declared.story.ManagerPlaces.{ManagerPlaces}
-use Rattle.mq_spec_state.specs.State.{Plain, Given, Change, Channels, Numbers}
-use Rattle.mq_spec_state.specs.State.Change.{Connect, OpenHandle, CloseHandle, SetCursor, MakeStale, ChangeObjects, Renew, DropQueue, SwitchOn, Serve}
-use Rattle.mq_spec_state.specs.Reads.{stored, connection_at, has_step}
-use Rattle.mq_spec_state.specs.Changes.{apply, apply_all, change_connection, change_handle, made_stale, stale_if as stale_handle}
+use Rattle.mq_calls.specs.State.{Plain, Given, Change, Channels, Numbers}
+use Rattle.mq_calls.specs.State.Change.{Connect, OpenHandle, CloseHandle, SetCursor, MakeStale, ChangeObjects, Renew, DropQueue, SwitchOn, Serve}
+use Rattle.mq_calls.specs.Reads.{stored, connection_at, has_step}
+use Rattle.mq_calls.specs.Changes.{apply, apply_all, change_connection, change_handle, made_stale, stale_if as stale_handle}
 use Rattle.mq_spec_manager.specs.Handles.{new_connection, new_hconn, new_handle}
 use Rattle.mq_spec_manager.specs.Commands.{follows, renewed, renewed_if, stale_if, switched_if, dropped, uses_of, definitions_after}
 use Rattle.mq_spec_manager.proofs.Accepted.{accepted, displayed}

@@ -11,11 +11,11 @@ use Rattle.mq_calls.specs.declared.answers.Hconn.{Hconn}
 use Rattle.mq_calls.specs.declared.state.Connection.{Connection}
 use Rattle.mq_calls.specs.declared.state.Item.{Item}
 use Rattle.mq_calls.specs.declared.state.Item.TheVariants.{Put, Take}
-use Rattle.mq_spec_state.specs.State.{Plain}
-use Rattle.mq_spec_state.specs.State.Change.{Leave, Release, EndUnit}
-use Rattle.mq_spec_state.specs.State.Which.{Among}
-use Rattle.mq_spec_state.specs.Reads.{stored, connection_at}
-use Rattle.mq_spec_state.specs.Changes.{apply, apply_all, release_if, change_connection, lane_of, new_row}
+use Rattle.mq_calls.specs.State.{Plain}
+use Rattle.mq_calls.specs.State.Change.{Leave, Release, EndUnit}
+use Rattle.mq_calls.specs.State.Which.{Among}
+use Rattle.mq_calls.specs.Reads.{stored, connection_at}
+use Rattle.mq_calls.specs.Changes.{apply, apply_all, release_if, change_connection, lane_of, new_row}
 use Rattle.mq_spec_manager.specs.Put.{placed}
 use Rattle.mq_spec_manager.specs.Units.{taken_item, placed_item, freed_item}
 use Rattle.mq_spec_network.specs.Ledger as ledgers

@@ -22,13 +22,13 @@ use Rattle.mq_calls.specs.declared.state.Handle.{Handle}
 use Rattle.mq_calls.specs.declared.state.Item.{Item}
 use Rattle.mq_calls.specs.declared.state.Item.TheVariants.{Put, Take}
 use Rattle.mq_history.specs.declared.calls.Reply.TheVariants as replies
-use Rattle.mq_spec_state.specs.State.{Plain, Change}
-use Rattle.mq_spec_state.specs.State.Change.{CountIdent, Connect, OpenHandle, CloseHandle, Pend, EndUnit}
-use Rattle.mq_spec_state.specs.Reads.{connection_at, handle_at}
-use Rattle.mq_spec_state.specs.Changes.{apply, apply_all}
-use Rattle.mq_spec_state.specs.Steps.{none_of, Step, Part, Test, tested, refusal, refused_or, going_on, silent, logged, do_part, delta_of}
-use Rattle.mq_spec_state.specs.Steps.{when as when_test}
-use Rattle.mq_spec_state.specs.Steps.Step.{Do}
+use Rattle.mq_calls.specs.State.{Plain, Change}
+use Rattle.mq_calls.specs.State.Change.{CountIdent, Connect, OpenHandle, CloseHandle, Pend, EndUnit}
+use Rattle.mq_calls.specs.Reads.{connection_at, handle_at}
+use Rattle.mq_calls.specs.Changes.{apply, apply_all}
+use Rattle.mq_calls.specs.Steps.{none_of, Step, Part, Test, tested, refusal, refused_or, going_on, silent, logged, do_part, delta_of}
+use Rattle.mq_calls.specs.Steps.{when as when_test}
+use Rattle.mq_calls.specs.Steps.Step.{Do}
 use Rattle.mq_spec_manager.specs.Handles.{is_unfit, connected, for_connection, for_handle, live_or, is_other, is_present, mqconn, mqopen, mqclose, open_tests, open_step, option_tests, conn_tests, close_up, close_handle, new_connection, new_hconn, new_handle}
 use Rattle.mq_spec_manager.specs.Put.{output_only, here, unit_record, mqput, mqput1, put_up, put_handle, put_route, put_part, put1_resolved, handle_route, output_tests, put_tests, placed, queue_at, message_put, new_message, next_ident, is_high, sent_answer}
 use Rattle.mq_spec_manager.specs.Units.{released_did, commit_changes, commit_delta, mqcmit, mqback, commit_part, backout_part, removed_item, placed_did, taken_item, placed_item, freed_item}

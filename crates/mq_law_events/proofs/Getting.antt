@@ -22,12 +22,12 @@ use Rattle.mq_calls.specs.declared.state.Connection.{Connection}
 use Rattle.mq_calls.specs.declared.state.Handle.{Handle}
 use Rattle.mq_calls.specs.declared.state.Item.TheVariants.{Take as Taken}
 use Rattle.mq_history.specs.declared.calls.Reply.TheVariants as replies
-use Rattle.mq_spec_state.specs.State.{Plain, Given}
-use Rattle.mq_spec_state.specs.State.Change.{Leave, SetCursor, Hold, Pend}
-use Rattle.mq_spec_state.specs.State.Which.{Among}
-use Rattle.mq_spec_state.specs.Reads.{connection_at, handle_at, stored, is_persistent, is_expired}
-use Rattle.mq_spec_state.specs.Changes.{apply}
-use Rattle.mq_spec_state.specs.Steps.{Part, silent, logged, do_part, do_all, delta_of}
+use Rattle.mq_calls.specs.State.{Plain, Given}
+use Rattle.mq_calls.specs.State.Change.{Leave, SetCursor, Hold, Pend}
+use Rattle.mq_calls.specs.State.Which.{Among}
+use Rattle.mq_calls.specs.Reads.{connection_at, handle_at, stored, is_persistent, is_expired}
+use Rattle.mq_calls.specs.Changes.{apply}
+use Rattle.mq_calls.specs.Steps.{Part, silent, logged, do_part, do_all, delta_of}
 use Rattle.mq_spec_manager.specs.Handles.{connected}
 use Rattle.mq_spec_manager.specs.Put.{queue_at}
 use Rattle.mq_spec_manager.specs.Get.{scan_row, scan, scanned, asked, is_at, looked_at, is_destructive, is_left, is_too_long, is_under, is_waiting, got, got_answer, removal_record, expired_parts, persistent_rows, idents_of, taking_part, found_part, with_row, without_row, get_found, get_handle, get_up, get_tests, room_tests, mqget}

@@ -9,12 +9,12 @@ use Rattle.mq_calls.specs.declared.records.LogRecord.{LogRecord}
 use Rattle.mq_calls.specs.declared.state.Connection.{Connection}
 use Rattle.mq_calls.specs.declared.answers.Answer.TheVariants as answers
 use Rattle.mq_history.specs.declared.calls.Reply.TheVariants as replies
-use Rattle.mq_spec_state.specs.State.{Plain, Change}
-use Rattle.mq_spec_state.specs.State.Change.{Disconnect}
-use Rattle.mq_spec_state.specs.Reads.{connection_at, stored}
-use Rattle.mq_spec_state.specs.Changes.{apply, change_connection}
-use Rattle.mq_spec_state.specs.Steps.{Part, logged, do_part, note_of}
-use Rattle.mq_spec_state.specs.Steps.Step.{Do}
+use Rattle.mq_calls.specs.State.{Plain, Change}
+use Rattle.mq_calls.specs.State.Change.{Disconnect}
+use Rattle.mq_calls.specs.Reads.{connection_at, stored}
+use Rattle.mq_calls.specs.Changes.{apply, change_connection}
+use Rattle.mq_calls.specs.Steps.{Part, logged, do_part, note_of}
+use Rattle.mq_calls.specs.Steps.Step.{Do}
 use Rattle.mq_spec_manager.specs.Handles.{connected}
 use Rattle.mq_spec_manager.specs.Units.{mqdisc, commit_part}
 use Rattle.mq_spec_network.specs.Ledger as ledgers

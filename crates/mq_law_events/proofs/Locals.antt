@@ -9,8 +9,8 @@ use Rattle.mq_queue.specs.declared.row.Row.{Row}
 use Rattle.mq_queue.specs.Rows.{same_ident, insert_row, keep, retag, held_by}
 use Rattle.mq_calls.specs.declared.state.Item.{Item}
 use Rattle.mq_calls.specs.declared.state.Item.TheVariants.{Put, Take}
-use Rattle.mq_spec_state.specs.Reads.{is_persistent}
-use Rattle.mq_spec_state.specs.Changes.{retag_if, release_if}
+use Rattle.mq_calls.specs.Reads.{is_persistent}
+use Rattle.mq_calls.specs.Changes.{retag_if, release_if}
 use Rattle.mq_spec_network.specs.Story.{Mem}
 use Rattle.mq_spec_network.specs.Standing.{row_told}
 use Rattle.mq_law_rows.specs.Families.{is_here}

@@ -17,13 +17,13 @@ use Rattle.mq_resolve.specs.declared.route.Route.{Route}
 use Rattle.mq_resolve.specs.Resolved.{resolve}
 use Rattle.mq_calls.specs.declared.image.Shelf.{Shelf}
 use Rattle.mq_history.specs.declared.story.ManagerPlaces.{ManagerPlaces}
-use Rattle.mq_spec_state.specs.State.{Plain}
-use Rattle.mq_spec_state.specs.State.Change.{Leave}
-use Rattle.mq_spec_state.specs.State.Which.{Among}
-use Rattle.mq_spec_state.specs.Reads.{stored, connection_at, is_persistent}
-use Rattle.mq_spec_state.specs.Changes.{apply, apply_all, lane_of, new_row}
+use Rattle.mq_calls.specs.State.{Plain}
+use Rattle.mq_calls.specs.State.Change.{Leave}
+use Rattle.mq_calls.specs.State.Which.{Among}
+use Rattle.mq_calls.specs.Reads.{stored, connection_at, is_persistent}
+use Rattle.mq_calls.specs.Changes.{apply, apply_all, lane_of, new_row}
 use Rattle.mq_spec_manager.specs.Put.{placed, queue_at, dest_at}
-use Rattle.mq_spec_agents.specs.Moves.{bare_if}
+use Rattle.mq_spec_manager.specs.Moves.{bare_if}
 use Rattle.mq_spec_network.specs.Ledger as ledgers
 use Rattle.mq_spec_network.specs.Ledger.{Ledger, places_or, places_at, place_at, row_in, rows_in, take_from, leave_queues, move_row, moved_to, resolved_at, ledger_rows, unit_of}
 use Rattle.mq_spec_network.specs.Standing.{row_told}

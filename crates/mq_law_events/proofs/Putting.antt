@@ -14,13 +14,13 @@ use Rattle.mq_calls.specs.declared.state.Connection.{Connection}
 use Rattle.mq_calls.specs.declared.state.Item.{Item}
 use Rattle.mq_calls.specs.declared.state.Item.TheVariants.{Put}
 use Rattle.mq_history.specs.declared.story.ManagerPlaces.{ManagerPlaces}
-use Rattle.mq_spec_state.specs.State.{Plain, Given, Numbers, Change}
-use Rattle.mq_spec_state.specs.State.Change.{CountIdent, Pend, Try}
-use Rattle.mq_spec_state.specs.State.Change.{Place as Places}
-use Rattle.mq_spec_state.specs.Reads.{stored, connection_at}
-use Rattle.mq_spec_state.specs.Changes.{apply, apply_all, lane_of, new_row, try_if, change_connection}
-use Rattle.mq_spec_state.specs.Condition.{condition}
-use Rattle.mq_spec_agents.specs.Standing.{is_unborn}
+use Rattle.mq_calls.specs.State.{Plain, Given, Numbers, Change}
+use Rattle.mq_calls.specs.State.Change.{CountIdent, Pend, Try}
+use Rattle.mq_calls.specs.State.Change.{Place as Places}
+use Rattle.mq_calls.specs.Reads.{stored, connection_at}
+use Rattle.mq_calls.specs.Changes.{apply, apply_all, lane_of, new_row, try_if, change_connection}
+use Rattle.mq_calls.specs.Condition.{condition}
+use Rattle.mq_spec_manager.specs.Standing.{is_unborn}
 use Rattle.mq_spec_manager.specs.Put.{placed, next_ident}
 use Rattle.mq_spec_network.specs.Ledger as ledgers
 use Rattle.mq_spec_network.specs.Ledger.{Ledger, Users, place_at, ledger_rows, unit_of}

@@ -12,12 +12,12 @@ use Rattle.mq_objects.specs.Names.{local_of, process_of, is_transmission}
 use Rattle.mq_calls.specs.declared.deltas.Did.{Did}
 use Rattle.mq_calls.specs.declared.deltas.Why.TheVariants as whys
 use Rattle.mq_calls.specs.declared.records.LogRecord.{LogRecord}
-use Rattle.mq_spec_state.specs.State.{Plain}
-use Rattle.mq_spec_state.specs.State.Change.{Serve, CountIdent}
-use Rattle.mq_spec_state.specs.State.Change.{Place as Places}
-use Rattle.mq_spec_state.specs.Reads.{stored}
-use Rattle.mq_spec_state.specs.Changes.{apply, apply_all}
-use Rattle.mq_spec_state.specs.Steps.{logged, do_part, do_all, delta_of}
+use Rattle.mq_calls.specs.State.{Plain}
+use Rattle.mq_calls.specs.State.Change.{Serve, CountIdent}
+use Rattle.mq_calls.specs.State.Change.{Place as Places}
+use Rattle.mq_calls.specs.Reads.{stored}
+use Rattle.mq_calls.specs.Changes.{apply, apply_all}
+use Rattle.mq_calls.specs.Steps.{logged, do_part, do_all, delta_of}
 use Rattle.mq_spec_manager.specs.Get.{removal_record, removal_parts, persistent_rows}
 use Rattle.mq_spec_manager.specs.Put.{next_ident}
 use Rattle.mq_spec_manager.specs.Triggers.{trigger_message, put_trigger, serve_into, serve_by, takes_it}

@@ -9,9 +9,9 @@ use Rattle.mq_queue.specs.Rows.{same_ident, is_persistent}
 use Rattle.mq_calls.specs.declared.state.Connection.{Connection}
 use Rattle.mq_calls.specs.declared.state.Item.{Item}
 use Rattle.mq_calls.specs.declared.state.Item.TheVariants.{Put, Take}
-use Rattle.mq_spec_state.specs.State.{Plain, LogState}
-use Rattle.mq_spec_state.specs.Reads.{connection_at}
-use Rattle.mq_spec_state.specs.Images.{begun, lasting, raised}
+use Rattle.mq_calls.specs.State.{Plain, LogState}
+use Rattle.mq_calls.specs.Reads.{connection_at}
+use Rattle.mq_calls.specs.Images.{begun, lasting, raised}
 use Rattle.mq_spec_network.specs.Ledger.{unit_of}
 use Rattle.mq_spec_network.specs.Story.{Mem}
 use Rattle.mq_law_rows.proofs.Lists.{name_self, ident_self}

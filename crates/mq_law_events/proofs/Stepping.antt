@@ -5,8 +5,8 @@ use Rattle.mq_message.specs.declared.message.Ident.{Ident}
 use Rattle.mq_queue.specs.declared.row.Row.{Row}
 use Rattle.mq_history.specs.declared.scenario.CableLine.{CableLine}
 use Rattle.mq_history.specs.declared.scenario.Scenario.{Scenario}
-use Rattle.mq_spec_state.specs.State.{Plain}
-use Rattle.mq_spec_state.specs.Reads.{stored, sender_in, receiver_in, connection_at, in_doubt_of, batch_of}
+use Rattle.mq_calls.specs.State.{Plain}
+use Rattle.mq_calls.specs.Reads.{stored, sender_in, receiver_in, connection_at, in_doubt_of, batch_of}
 use Rattle.mq_history.specs.declared.story.ManagerPlaces.{ManagerPlaces}
 use Rattle.mq_spec_network.specs.Ledger.{Ledger, users_or, users_at, places_or, rows_in, ledger_rows, unit_of}
 use Rattle.mq_spec_network.specs.Standing.{last_unit, last_unit_at, last_unit_of, cable_from}

@@ -7,13 +7,13 @@ use Rattle.mq_message.specs.declared.place.Holder.TheVariants as holders
 use Rattle.mq_queue.specs.declared.row.Row.{Row}
 use Rattle.mq_queue.specs.Rows.{keep, retag, is_free, is_by_unit}
 use Rattle.mq_calls.specs.declared.state.Batch.{Batch}
-use Rattle.mq_spec_state.specs.State.{Plain, Given, LogState, Running, Noted}
-use Rattle.mq_spec_state.specs.State.Change.{Leave, Release, ForgetAll}
-use Rattle.mq_spec_state.specs.State.Which.{HeldByUnits, Nonpersistent}
-use Rattle.mq_spec_state.specs.Reads.{stored, connection_at, is_persistent}
-use Rattle.mq_spec_state.specs.Changes.{apply, apply_all, release_if}
-use Rattle.mq_spec_state.specs.Images.{begun, raised, rests_by, lasting, lasting_row, lasting_rows, numbered, uncounted_message}
-use Rattle.mq_spec_state.specs.Steps.{freeze}
+use Rattle.mq_calls.specs.State.{Plain, Given, LogState, Running, Noted}
+use Rattle.mq_calls.specs.State.Change.{Leave, Release, ForgetAll}
+use Rattle.mq_calls.specs.State.Which.{HeldByUnits, Nonpersistent}
+use Rattle.mq_calls.specs.Reads.{stored, connection_at, is_persistent}
+use Rattle.mq_calls.specs.Changes.{apply, apply_all, release_if}
+use Rattle.mq_calls.specs.Images.{begun, raised, rests_by, lasting, lasting_row, lasting_rows, numbered, uncounted_message}
+use Rattle.mq_calls.specs.Steps.{freeze}
 use Rattle.mq_spec_manager.specs.Stops.{at_rest, release_batch}
 use Rattle.mq_spec_network.specs.Ledger as ledgers
 use Rattle.mq_spec_network.specs.Ledger.{Ledger, Users, ledger_rows, leave_queues, unit_of}

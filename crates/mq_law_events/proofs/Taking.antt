@@ -14,11 +14,11 @@ use Rattle.mq_calls.specs.declared.state.Connection.{Connection}
 use Rattle.mq_calls.specs.declared.state.Item.{Item}
 use Rattle.mq_calls.specs.declared.state.Item.TheVariants.{Take}
 use Rattle.mq_history.specs.declared.story.ManagerPlaces.{ManagerPlaces}
-use Rattle.mq_spec_state.specs.State.{Plain, Given}
-use Rattle.mq_spec_state.specs.State.Change.{Leave, Hold, Pend}
-use Rattle.mq_spec_state.specs.State.Which.{Among}
-use Rattle.mq_spec_state.specs.Reads.{stored, connection_at}
-use Rattle.mq_spec_state.specs.Changes.{apply, apply_all, retag_if, selects}
+use Rattle.mq_calls.specs.State.{Plain, Given}
+use Rattle.mq_calls.specs.State.Change.{Leave, Hold, Pend}
+use Rattle.mq_calls.specs.State.Which.{Among}
+use Rattle.mq_calls.specs.Reads.{stored, connection_at}
+use Rattle.mq_calls.specs.Changes.{apply, apply_all, retag_if, selects}
 use Rattle.mq_spec_manager.specs.Get.{idents_of}
 use Rattle.mq_spec_network.specs.Ledger as ledgers
 use Rattle.mq_spec_network.specs.Ledger.{Ledger, places_at, is_placed_at, take, take_if, take_got, take_all_gone, is_taken, leave_queues, ledger_rows, unit_of}

@@ -12,8 +12,8 @@ use Rattle.mq_queue.specs.declared.row.Row.{Row}
 use Rattle.mq_queue.specs.Rows.{keep}
 use Rattle.mq_calls.specs.declared.image.Shelf.{Shelf}
 use Rattle.mq_spec_network.specs.Story.{Mem}
-use Rattle.mq_spec_state.specs.Reads.{connection_at, handle_at}
-use Rattle.mq_spec_state.specs.Changes.{change_connection}
+use Rattle.mq_calls.specs.Reads.{connection_at, handle_at}
+use Rattle.mq_calls.specs.Changes.{change_connection}
 use Rattle.mq_spec_network.specs.Ledger.{Ledger, Users, change_at, with_places, with_users, unit_of, put_in, put_on, leave_queues}
 use Rattle.mq_law_rows.specs.World.{items_told}
 use Rattle.mq_law_rows.proofs.Lists.{bool_case, is_false, true_false, eqb_self, eqb_yes, name_yes, name_self, map_mem}

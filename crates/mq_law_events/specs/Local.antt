@@ -3,8 +3,8 @@ use Rattle.std.specs.Prelude.{ℕ, ◌==◌, Bool, List, if◌then◌else◌}
 use Rattle.mq_message.specs.declared.message.Ident.{Ident}
 use Rattle.mq_queue.specs.declared.row.Row.{Row}
 use Rattle.mq_calls.specs.declared.state.Item.{Item}
-use Rattle.mq_spec_state.specs.State.{Plain}
-use Rattle.mq_spec_state.specs.Reads.{stored, connection_at}
+use Rattle.mq_calls.specs.State.{Plain}
+use Rattle.mq_calls.specs.Reads.{stored, connection_at}
 use Rattle.mq_spec_network.specs.Ledger.{Ledger, ledger_rows, unit_of}
 use Rattle.mq_law_rows.specs.World.{World, Book, Ghost, Owner, Inv, items_told}
 

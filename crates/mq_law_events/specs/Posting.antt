@@ -3,9 +3,9 @@ use Rattle.std.specs.Prelude.{ℕ, Bool, true, false, List, [], ◌∷◌, ◌�
 use Rattle.std.specs.Str.{bytes_eq}
 use Rattle.mq_message.specs.declared.message.Ident.{Ident}
 use Rattle.mq_calls.specs.declared.deltas.Did.{Did}
-use Rattle.mq_spec_state.specs.State.{Plain}
-use Rattle.mq_spec_state.specs.Steps.{Step, do_all, delta_of, delta_before, stopped_at, IsWrite}
-use Rattle.mq_spec_state.specs.Steps.Step.{Refuse, Do}
+use Rattle.mq_calls.specs.State.{Plain}
+use Rattle.mq_calls.specs.Steps.{Step, do_all, delta_of, delta_before, stopped_at, IsWrite}
+use Rattle.mq_calls.specs.Steps.Step.{Refuse, Do}
 use Rattle.mq_message.specs.declared.place.Holder.TheVariants as holders
 use Rattle.mq_queue.specs.declared.row.Row.{Row}
 use Rattle.mq_queue.specs.Rows.{same_ident}
@@ -16,7 +16,7 @@ use Rattle.mq_calls.specs.declared.answers.Hconn.{Hconn}
 use Rattle.mq_calls.specs.declared.state.Item.{Item}
 use Rattle.mq_calls.specs.declared.state.Item.TheVariants.{Put, Take}
 use Rattle.mq_history.specs.declared.calls.Reply.TheVariants as replies
-use Rattle.mq_spec_state.specs.Reads.{stored, connection_at}
+use Rattle.mq_calls.specs.Reads.{stored, connection_at}
 use Rattle.mq_spec_network.specs.Ledger.{Ledger, Users, take_all_gone, lose, got_ident, get_by, unit_of}
 use Rattle.mq_spec_network.specs.Story.{Mem}
 use Rattle.mq_law_events.specs.Tied.{Follow}

@@ -3,7 +3,7 @@ use Rattle.std.specs.Prelude.{ℕ, ◌==◌, ◌&&◌, Bool, [], if◌then◌els
 use Rattle.mq_message.specs.declared.message.Ident.{Ident}
 use Rattle.mq_queue.specs.declared.row.Row.{Row}
 use Rattle.mq_queue.specs.Rows.{retag, is_by_unit}
-use Rattle.mq_spec_state.specs.Changes.{release_if}
+use Rattle.mq_calls.specs.Changes.{release_if}
 use Rattle.mq_law_rows.specs.World.{World, Book, Owner, Unborn, At, HeldBy, InBatch, Forced, InUnit, InHand, Gone}
 
 -- some unit of the manager holds the row

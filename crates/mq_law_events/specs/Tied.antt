@@ -7,8 +7,8 @@ use Rattle.mq_calls.specs.declared.image.Shelf.{Shelf}
 use Rattle.mq_calls.specs.declared.state.Connection.{Connection}
 use Rattle.mq_calls.specs.declared.state.Handle.{Handle}
 use Rattle.mq_history.specs.declared.story.ManagerPlaces.{ManagerPlaces}
-use Rattle.mq_spec_state.specs.State.{Plain}
-use Rattle.mq_spec_agents.specs.Standing.{is_unborn}
+use Rattle.mq_calls.specs.State.{Plain}
+use Rattle.mq_spec_manager.specs.Standing.{is_unborn}
 use Rattle.mq_spec_network.specs.Ledger.{Ledger, Users}
 use Rattle.mq_law_rows.specs.World.{items_told}
 use Rattle.mq_law_events.specs.Local.{Leads, side_of, sheet_of}

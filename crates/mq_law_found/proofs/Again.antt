@@ -5,13 +5,13 @@ use Rattle.mq_queue.specs.declared.row.Row.{Row}
 use Rattle.std.specs.Prelude.{not}
 use Rattle.mq_calls.specs.declared.records.LogRecord.{LogRecord}
 use Rattle.mq_objects.specs.Names.{local_of}
-use Rattle.mq_spec_state.specs.State.{Plain, Queue, Running, LogState, Noted, Change, Given}
-use Rattle.mq_spec_state.specs.State.Change.{Try, SetBound}
-use Rattle.mq_spec_state.specs.State.Which.{Nonpersistent}
-use Rattle.mq_spec_state.specs.Condition.{condition}
-use Rattle.mq_spec_state.specs.Changes.{apply, apply_all, try_if, kept_in, selects}
-use Rattle.mq_spec_state.specs.Images.{Image, lasting, raised}
-use Rattle.mq_spec_state.specs.Steps.{Part, logged, do_part, volatile_gone, stands_in}
+use Rattle.mq_calls.specs.State.{Plain, Queue, Running, LogState, Noted, Change, Given}
+use Rattle.mq_calls.specs.State.Change.{Try, SetBound}
+use Rattle.mq_calls.specs.State.Which.{Nonpersistent}
+use Rattle.mq_calls.specs.Condition.{condition}
+use Rattle.mq_calls.specs.Changes.{apply, apply_all, try_if, kept_in, selects}
+use Rattle.mq_calls.specs.Images.{Image, lasting, raised}
+use Rattle.mq_calls.specs.Steps.{Part, logged, do_part, volatile_gone, stands_in}
 use Rattle.mq_spec_manager.specs.Stops.{redone, restarted, grown}
 use Rattle.mq_law_manager.specs.Facts.{IsSound}
 use Rattle.mq_law_manager.proofs.Numbered.{ImageRests}

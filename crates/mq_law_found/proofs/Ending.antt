@@ -16,16 +16,16 @@ use Rattle.mq_calls.specs.declared.state.Item.TheVariants.{Put, Take}
 use Rattle.mq_history.specs.declared.calls.Call.{Call}
 use Rattle.mq_history.specs.declared.calls.Call.TheVariants as calls
 use Rattle.mq_history.specs.declared.calls.Reply.TheVariants as replies
-use Rattle.mq_spec_state.specs.State.{Plain, Change, Noted}
-use Rattle.mq_spec_state.specs.State.Change.{Place as Places, Leave, EndUnit, Disconnect}
-use Rattle.mq_spec_state.specs.State.Which.{Among}
-use Rattle.mq_spec_state.specs.Reads.{connection_at}
-use Rattle.mq_spec_state.specs.Changes.{apply, apply_all, try_if, made_due, depth_type, placed_in, lane_of}
-use Rattle.mq_spec_state.specs.Reads.{stored}
-use Rattle.mq_spec_state.specs.Condition.{condition}
-use Rattle.mq_spec_state.specs.Images.{lasting}
-use Rattle.mq_spec_state.specs.Steps.{Part, do_part, logged, volatile_gone, stands_in}
-use Rattle.mq_spec_state.specs.Steps.Step.{Do}
+use Rattle.mq_calls.specs.State.{Plain, Change, Noted}
+use Rattle.mq_calls.specs.State.Change.{Place as Places, Leave, EndUnit, Disconnect}
+use Rattle.mq_calls.specs.State.Which.{Among}
+use Rattle.mq_calls.specs.Reads.{connection_at}
+use Rattle.mq_calls.specs.Changes.{apply, apply_all, try_if, made_due, depth_type, placed_in, lane_of}
+use Rattle.mq_calls.specs.Reads.{stored}
+use Rattle.mq_calls.specs.Condition.{condition}
+use Rattle.mq_calls.specs.Images.{lasting}
+use Rattle.mq_calls.specs.Steps.{Part, do_part, logged, volatile_gone, stands_in}
+use Rattle.mq_calls.specs.Steps.Step.{Do}
 use Rattle.mq_spec_manager.specs.Handles.{connected}
 use Rattle.mq_spec_manager.specs.Put.{placed}
 use Rattle.mq_spec_manager.specs.Units.{mqcmit, mqdisc, commit_part, commit_changes, taken_item, placed_item, removed_item, placed_did}

@@ -11,9 +11,9 @@ use Rattle.mq_calls.specs.declared.state.Handle.{Handle}
 use Rattle.mq_history.specs.declared.calls.Call.{Call}
 use Rattle.mq_history.specs.declared.calls.Chance.{Chance}
 use Rattle.mq_history.specs.declared.calls.Entry.{Entry}
-use Rattle.mq_spec_state.specs.State.{Plain, Running, LogState, Noted}
-use Rattle.mq_spec_state.specs.Steps.{Step, Part, Test, tested, refusal, refused_or, freeze, note_of, volatile_gone}
-use Rattle.mq_spec_state.specs.Steps.Step.{Refuse, Do}
+use Rattle.mq_calls.specs.State.{Plain, Running, LogState, Noted}
+use Rattle.mq_calls.specs.Steps.{Step, Part, Test, tested, refusal, refused_or, freeze, note_of, volatile_gone}
+use Rattle.mq_calls.specs.Steps.Step.{Refuse, Do}
 use Rattle.mq_spec_manager.specs.Handles.{for_connection, for_handle}
 use Rattle.mq_spec_network.specs.Ledger as ledgers
 use Rattle.mq_spec_network.specs.Ledger.{Ledger, Users, users_or, users_at, at_moment, change_at}

@@ -19,11 +19,11 @@ use Rattle.mq_disk.specs.declared.cutter.Stop.{Stop}
 use Rattle.mq_history.specs.declared.calls.Call.{Call}
 use Rattle.mq_history.specs.declared.calls.Call.TheVariants as calls
 use Rattle.mq_history.specs.declared.calls.Reply.TheVariants as replies
-use Rattle.mq_spec_state.specs.State.{Plain}
-use Rattle.mq_spec_state.specs.State.Change.{SetCursor}
-use Rattle.mq_spec_state.specs.Reads.{connection_at, handle_at}
-use Rattle.mq_spec_state.specs.Steps.{Step, Part, silent, do_part, do_all}
-use Rattle.mq_spec_state.specs.Steps.Step.{Do}
+use Rattle.mq_calls.specs.State.{Plain}
+use Rattle.mq_calls.specs.State.Change.{SetCursor}
+use Rattle.mq_calls.specs.Reads.{connection_at, handle_at}
+use Rattle.mq_calls.specs.Steps.{Step, Part, silent, do_part, do_all}
+use Rattle.mq_calls.specs.Steps.Step.{Do}
 use Rattle.mq_spec_manager.specs.Handles.{connected}
 use Rattle.mq_spec_manager.specs.Put.{queue_at}
 use Rattle.mq_spec_manager.specs.Get.{scanned, asked, looked_at, is_destructive, is_left, is_too_long, is_under, is_waiting, got, got_answer, expired_parts, removal_part, removal_parts, taking_part, found_part, with_row, without_row, get_found, get_handle, get_up, get_tests, get_scanned, room_tests, mqget}

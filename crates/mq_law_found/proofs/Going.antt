@@ -16,12 +16,12 @@ use Rattle.mq_calls.specs.declared.records.LogRecord.{LogRecord}
 use Rattle.mq_history.specs.declared.calls.Call.{Call}
 use Rattle.mq_history.specs.declared.calls.Reply.TheVariants as replies
 use Rattle.mq_history.specs.declared.story.ManagerPlaces.{ManagerPlaces}
-use Rattle.mq_spec_state.specs.State.{Plain, Queue, Noted}
-use Rattle.mq_spec_state.specs.State.Change.{Leave}
-use Rattle.mq_spec_state.specs.State.Which.{Among, Nonpersistent}
-use Rattle.mq_spec_state.specs.Reads.{stored, queue_in, stands, is_persistent}
-use Rattle.mq_spec_state.specs.Changes.{apply, kept_in}
-use Rattle.mq_spec_state.specs.Steps.{Part, do_part, volatile_gone, stands_in}
+use Rattle.mq_calls.specs.State.{Plain, Queue, Noted}
+use Rattle.mq_calls.specs.State.Change.{Leave}
+use Rattle.mq_calls.specs.State.Which.{Among, Nonpersistent}
+use Rattle.mq_calls.specs.Reads.{stored, queue_in, stands, is_persistent}
+use Rattle.mq_calls.specs.Changes.{apply, kept_in}
+use Rattle.mq_calls.specs.Steps.{Part, do_part, volatile_gone, stands_in}
 use Rattle.mq_spec_manager.specs.Get.{idents_of, persistent_rows, removal_part, removal_record}
 use Rattle.mq_spec_manager.specs.Stops.{redone, lasts}
 use Rattle.mq_spec_network.specs.Ledger as ledgers

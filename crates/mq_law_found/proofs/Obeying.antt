@@ -22,14 +22,14 @@ use Rattle.mq_calls.specs.declared.records.LogRecord.{LogRecord}
 use Rattle.mq_calls.specs.declared.records.LogRecord.TheVariants as records
 use Rattle.mq_history.specs.declared.acts.Act.TheVariants as acts
 use Rattle.mq_history.specs.declared.calls.Call.TheVariants as calls
-use Rattle.mq_spec_state.specs.State.{Plain, Change, Running, LogState, Noted}
-use Rattle.mq_spec_state.specs.State.Change.{Try, SetBound}
-use Rattle.mq_spec_state.specs.State.Running.{Down}
-use Rattle.mq_spec_state.specs.Condition.{by_type, condition, is_served}
-use Rattle.mq_spec_state.specs.Reads.{has_priority, is_up, stored}
-use Rattle.mq_spec_state.specs.Changes.{apply, apply_all, try_if}
-use Rattle.mq_spec_state.specs.Images.{begun, lasting, raised}
-use Rattle.mq_spec_state.specs.Steps.{Step, Part, when, freeze, note_of, volatile_gone, stands_in}
+use Rattle.mq_calls.specs.State.{Plain, Change, Running, LogState, Noted}
+use Rattle.mq_calls.specs.State.Change.{Try, SetBound}
+use Rattle.mq_calls.specs.State.Running.{Down}
+use Rattle.mq_calls.specs.Condition.{by_type, condition, is_served}
+use Rattle.mq_calls.specs.Reads.{has_priority, is_up, stored}
+use Rattle.mq_calls.specs.Changes.{apply, apply_all, try_if}
+use Rattle.mq_calls.specs.Images.{begun, lasting, raised}
+use Rattle.mq_calls.specs.Steps.{Step, Part, when, freeze, note_of, volatile_gone, stands_in}
 use Rattle.mq_spec_manager.specs.Commands.{command, planned_step, object_part, uses_of}
 use Rattle.mq_spec_manager.specs.Stops.{redone, restarted, grown}
 use Rattle.mq_spec_network.specs.Ledger as ledgers

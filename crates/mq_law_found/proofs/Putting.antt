@@ -19,9 +19,9 @@ use Rattle.mq_calls.specs.declared.state.Connection.{Connection}
 use Rattle.mq_history.specs.declared.calls.Call.{Call}
 use Rattle.mq_history.specs.declared.calls.Call.TheVariants as calls
 use Rattle.mq_history.specs.declared.calls.Reply.TheVariants as replies
-use Rattle.mq_spec_state.specs.State.{Plain, Noted}
-use Rattle.mq_spec_state.specs.Reads.{connection_at, handle_at, is_persistent}
-use Rattle.mq_spec_state.specs.Steps.{Part, when, do_part, volatile_gone, stands_in}
+use Rattle.mq_calls.specs.State.{Plain, Noted}
+use Rattle.mq_calls.specs.Reads.{connection_at, handle_at, is_persistent}
+use Rattle.mq_calls.specs.Steps.{Part, when, do_part, volatile_gone, stands_in}
 use Rattle.mq_spec_manager.specs.Handles.{connected, is_unfit}
 use Rattle.mq_spec_manager.specs.Put.{mqput, mqput1, put_up, put_handle, put_route, put_part, put_step, put_tests, put1_resolved, handle_route, output_tests, output_only, queue_at, new_message, next_ident, sent_answer, is_high}
 use Rattle.mq_spec_manager.specs.Stops.{redone, is_added}

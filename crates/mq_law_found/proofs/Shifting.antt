@@ -9,16 +9,16 @@ use Rattle.mq_resolve.specs.declared.route.Route.{Route}
 use Rattle.mq_resolve.specs.Resolved.{resolve}
 use Rattle.mq_calls.specs.declared.records.LogRecord.{LogRecord}
 use Rattle.mq_history.specs.declared.calls.Call.TheVariants as calls
-use Rattle.mq_spec_state.specs.State.{Plain, Noted}
-use Rattle.mq_spec_state.specs.State.Change.{Leave}
-use Rattle.mq_spec_state.specs.State.Which.{Among}
-use Rattle.mq_spec_state.specs.Reads.{stored, is_persistent}
-use Rattle.mq_spec_state.specs.Changes.{apply}
-use Rattle.mq_spec_state.specs.Steps.{Part, do_part, volatile_gone, stands_in}
+use Rattle.mq_calls.specs.State.{Plain, Noted}
+use Rattle.mq_calls.specs.State.Change.{Leave}
+use Rattle.mq_calls.specs.State.Which.{Among}
+use Rattle.mq_calls.specs.Reads.{stored, is_persistent}
+use Rattle.mq_calls.specs.Changes.{apply}
+use Rattle.mq_calls.specs.Steps.{Part, do_part, volatile_gone, stands_in}
 use Rattle.mq_spec_manager.specs.Put.{queue_at}
 use Rattle.mq_spec_manager.specs.Stops.{redone}
-use Rattle.mq_spec_agents.specs.Landing.{Landing, landing}
-use Rattle.mq_spec_agents.specs.Moves.{bare_if, move_part, moved_forced, moved_record}
+use Rattle.mq_spec_manager.specs.Landing.{Landing, landing}
+use Rattle.mq_spec_manager.specs.Moves.{bare_if, move_part, moved_forced, moved_record}
 use Rattle.mq_spec_network.specs.Ledger as ledgers
 use Rattle.mq_spec_network.specs.Ledger.{Ledger, at_moment, places_at, row_in}
 use Rattle.mq_spec_network.specs.Story.{Mem}

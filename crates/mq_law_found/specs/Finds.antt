@@ -9,9 +9,9 @@ use Rattle.mq_history.specs.declared.calls.Chance.{Chance}
 use Rattle.mq_history.specs.declared.calls.Entry.{Entry}
 use Rattle.mq_history.specs.declared.calls.Reply.TheVariants as replies
 use Rattle.mq_calls.specs.declared.records.LogRecord.{LogRecord}
-use Rattle.mq_spec_state.specs.State.{Plain, Running, LogState, Noted}
-use Rattle.mq_spec_state.specs.Steps.{Step, Part, IsWrite, stopped_at, volatile_gone}
-use Rattle.mq_spec_state.specs.Steps.Step.{Refuse, Do}
+use Rattle.mq_calls.specs.State.{Plain, Running, LogState, Noted}
+use Rattle.mq_calls.specs.Steps.{Step, Part, IsWrite, stopped_at, volatile_gone}
+use Rattle.mq_calls.specs.Steps.Step.{Refuse, Do}
 use Rattle.mq_spec_manager.specs.Stops.{redone, redone_delta, restarted}
 use Rattle.mq_spec_network.specs.Ledger as ledgers
 use Rattle.mq_spec_network.specs.Ledger.{Ledger, take_all_gone}

@@ -4,8 +4,8 @@ use Rattle.std.specs.Prelude.{Some, None, Ok, Err, if◌then◌else◌, ◌==◌
 use Rattle.std.specs.List.{list_all, position_or_len}
 use Rattle.std.specs.Option.{option_map}
 use Rattle.std.proofs.lemmas.Bool.Decides.{nat_tests}
-use Rattle.mq_name.specs.declared.fault.NameFault.TheVariants.{TooLong}
-use Rattle.mq_name.specs.Name.{IsName, is_name_byte, name_of, name_or_bad}
+use Rattle.mq_base.specs.declared.fault.NameFault.TheVariants.{TooLong}
+use Rattle.mq_base.specs.Name.{IsName, is_name_byte, name_of, name_or_bad}
 use Rattle.mq_text.specs.Quoting as quoting
 use Rattle.mq_objects.specs.Attributes as attributes
 use Rattle.mq_objects.specs.declared.change.ObjectChange.TheVariants as changes

@@ -10,9 +10,9 @@ use Rattle.mq_queue.specs.declared.row.Row.{Row}
 use Rattle.mq_queue.specs.Rows.{same_ident, is_free, held_by}
 use Rattle.mq_sync.specs.declared.unit.Unit.{Unit as Luw}
 use Rattle.mq_sync.specs.declared.data.InDoubt.{InDoubt}
-use Rattle.mq_spec_state.specs.State.Which.{Among}
-use Rattle.mq_spec_state.specs.Changes.{selects, retag_if, less_ident}
-use Rattle.mq_spec_state.specs.Recovery.{IsListed, listed}
+use Rattle.mq_calls.specs.State.Which.{Among}
+use Rattle.mq_calls.specs.Changes.{selects, retag_if, less_ident}
+use Rattle.mq_calls.specs.Recovery.{IsListed, listed}
 use Rattle.mq_spec_log.specs.Applies.{is_held_among}
 use Rattle.mq_spec_log.specs.Shelves.{freed_row}
 use Rattle.mq_law_manager.proofs.Lists.{bool_case}

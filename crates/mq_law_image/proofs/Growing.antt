@@ -6,12 +6,12 @@ use Rattle.std.specs.List.{AllByRecursion}
 use Rattle.std.proofs.lemmas.Bool.Decides.{nat_tests}
 use Rattle.std.proofs.lemmas.List.Sums.{sum_by-cons, sum_by_push}
 use Rattle.mq_objects.specs.Names.{local_of}
-use Rattle.mq_spec_state.specs.State.{Plain, Queue, Connection, Item, Change, fresh_queue}
-use Rattle.mq_spec_state.specs.State.Change.{Place as Places, Try, Leave, Hold, Release, Connect, Disconnect, OpenHandle, CloseHandle, SetCursor, Pend, EndUnit, MakeStale, CountIdent, Renew, DropQueue, SwitchOn, Serve, SetBound, ForgetAll}
-use Rattle.mq_spec_state.specs.Condition.{condition}
-use Rattle.mq_spec_state.specs.Reads.{stored, queue_in, puts_to, is_put_to, reserved, unit_need, with_head, item_bytes}
-use Rattle.mq_spec_state.specs.Changes.{apply, apply_all, set_queue, placed_in, lane_of, kept_in, held_in, released_in, made_due, depth_type, try_if, forgotten, change_connection, change_handle, made_stale, set_bound}
-use Rattle.mq_spec_state.specs.Counts.{starts_of}
+use Rattle.mq_calls.specs.State.{Plain, Queue, Connection, Item, Change, fresh_queue}
+use Rattle.mq_calls.specs.State.Change.{Place as Places, Try, Leave, Hold, Release, Connect, Disconnect, OpenHandle, CloseHandle, SetCursor, Pend, EndUnit, MakeStale, CountIdent, Renew, DropQueue, SwitchOn, Serve, SetBound, ForgetAll}
+use Rattle.mq_calls.specs.Condition.{condition}
+use Rattle.mq_calls.specs.Reads.{stored, queue_in, puts_to, is_put_to, reserved, unit_need, with_head, item_bytes}
+use Rattle.mq_calls.specs.Changes.{apply, apply_all, set_queue, placed_in, lane_of, kept_in, held_in, released_in, made_due, depth_type, try_if, forgotten, change_connection, change_handle, made_stale, set_bound}
+use Rattle.mq_calls.specs.Counts.{starts_of}
 use Rattle.mq_law_manager.proofs.Lists.{bool_case}
 use Rattle.mq_law_manager.proofs.Named.{name_is, queue_set, queue_mapped, queue_dropped, found_name}
 use Rattle.mq_law_image.specs.Bounds.{IsBounded, growth, all_growth}

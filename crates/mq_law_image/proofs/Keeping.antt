@@ -5,7 +5,7 @@ use Rattle.std.specs.List.{list_any, AllByRecursion}
 use Rattle.std.specs.Str.{bytes_eq}
 use Rattle.std.proofs.lemmas.List.Elements.{filter-append}
 use Rattle.std.proofs.lemmas.List.Recursion.{is_count_by}
-use Rattle.mq_name.specs.Name.{IsName}
+use Rattle.mq_base.specs.Name.{IsName}
 use Rattle.mq_text.specs.Quoting as quoting
 use Rattle.mq_objects.specs.Attributes as texts
 use Rattle.mq_objects.specs.declared.object.KeptAttribute.{KeptAttribute}

@@ -6,7 +6,7 @@ use Rattle.std.specs.Option.{option_map}
 use Rattle.std.specs.Str.{str_to_ascii_uppercase}
 use Rattle.std.specs.Char.{to_ascii_uppercase}
 use Rattle.std.proofs.lemmas.Bool.Decides.{nat_tests}
-use Rattle.mq_name.specs.Name.{name_of}
+use Rattle.mq_base.specs.Name.{name_of}
 use Rattle.mq_text.specs.Lines.{lines_of}
 use Rattle.mq_text.specs.Quoting.{doubled}
 use Rattle.mq_objects.specs.declared.setting.Setting.{Setting}

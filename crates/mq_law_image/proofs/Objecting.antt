@@ -5,7 +5,7 @@ use Rattle.std.specs.List.{list_all}
 use Rattle.std.specs.Option.{option_map}
 use Rattle.std.specs.Str.{bytes_eq}
 use Rattle.std.specs.Fmt.{decimal}
-use Rattle.mq_name.specs.Name.{IsName}
+use Rattle.mq_base.specs.Name.{IsName}
 use Rattle.mq_text.specs.Quoting as quoting
 use Rattle.mq_objects.specs.Attributes as texts
 use Rattle.mq_objects.specs.declared.object.Delivery.{Delivery}
@@ -32,7 +32,7 @@ use Rattle.mq_objects.specs.Settings.{set_all_manager}
 use Rattle.mq_objects.specs.declared.setting.Setting.TheVariants as settings
 use Rattle.mq_objects.specs.declared.command.Subject.TheVariants as subjects
 use Rattle.mq_objects.specs.declared.change.ObjectChange.TheVariants as changes
-use Rattle.mq_spec_state.specs.Sizes.{change_text}
+use Rattle.mq_calls.specs.Sizes.{change_text}
 use Rattle.mq_sc_keys.specs.declared.keys.Key.TheVariants as keys
 use Rattle.mq_sc_keys.specs.declared.verbs.Verb.TheVariants as verbs
 use Rattle.mq_sc_keys.specs.declared.verbs.Noun.TheVariants as nouns

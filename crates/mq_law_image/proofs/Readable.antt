@@ -7,7 +7,7 @@ use Rattle.mq_objects.specs.declared.change.ObjectChange.TheVariants as changes
 use Rattle.mq_calls.specs.declared.records.LogRecord.{LogRecord}
 use Rattle.mq_calls.specs.declared.records.LogRecord.TheVariants as records
 use Rattle.mq_record.specs.Records.{record_bytes, operation_of}
-use Rattle.mq_spec_state.specs.Sizes.{change_text}
+use Rattle.mq_calls.specs.Sizes.{change_text}
 use Rattle.mq_spec_log.specs.Texts.{change_in}
 use Rattle.mq_spec_log.specs.Bodies.{record_of}
 use Rattle.mq_spec_log.proofs.BodyLaws.{record_back}

@@ -8,7 +8,7 @@ use Rattle.mq_record.specs.declared.record.WrittenRecord.TheVariants as written
 use Rattle.mq_record.specs.Records.{record_bytes, operation_of}
 use Rattle.mq_record.specs.Reading.{record_at}
 use Rattle.mq_record.proofs.KindLaws.{record_again}
-use Rattle.mq_spec_state.specs.Sizes.{change_text}
+use Rattle.mq_calls.specs.Sizes.{change_text}
 use Rattle.mq_spec_log.specs.Texts.{change_in}
 use Rattle.mq_spec_log.specs.Bodies.{changing, meaning_of, record_of}
 

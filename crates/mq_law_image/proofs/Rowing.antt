@@ -8,10 +8,10 @@ use Rattle.mq_queue.specs.Rows.{same_ident, keep, retag}
 use Rattle.mq_objects.specs.declared.object.LocalQueue.{LocalQueue}
 use Rattle.mq_objects.specs.declared.object.Definitions.{Definitions}
 use Rattle.mq_objects.specs.Names.{local_of, is_transmission}
-use Rattle.mq_spec_state.specs.Reads.{is_persistent}
-use Rattle.mq_spec_state.specs.Changes.{lane_of, new_row}
-use Rattle.mq_spec_state.specs.Images.{Shelf, uncounted_message}
-use Rattle.mq_spec_state.specs.Recovery.{listed, routes, IsKnown}
+use Rattle.mq_calls.specs.Reads.{is_persistent}
+use Rattle.mq_calls.specs.Changes.{lane_of, new_row}
+use Rattle.mq_calls.specs.Images.{Shelf, uncounted_message}
+use Rattle.mq_calls.specs.Recovery.{listed, routes, IsKnown}
 use Rattle.mq_spec_log.specs.Shelves.{shelf_in, set_shelf, on_all, shelved_in}
 use Rattle.mq_spec_log.specs.Applies.{agrees, fits, fits_local}
 use Rattle.mq_law_manager.specs.Facts.{Mem, Differ, ident_of, AreLaned}

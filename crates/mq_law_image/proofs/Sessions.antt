@@ -8,18 +8,18 @@ use Rattle.mq_sync.specs.declared.unit.Settle.TheVariants.{Commit, Backout}
 use Rattle.mq_sync.specs.declared.data.SenderData.{SenderData}
 use Rattle.mq_sync.specs.declared.data.End.TheVariants as ends
 use Rattle.mq_sync.specs.Settlement.{sender_or, data_prepared, data_settled}
-use Rattle.mq_spec_state.specs.Reads.{sender_data}
+use Rattle.mq_calls.specs.Reads.{sender_data}
 use Rattle.mq_message.specs.declared.message.Ident.{Ident}
 use Rattle.mq_calls.specs.declared.records.Add.{Add}
 use Rattle.mq_calls.specs.declared.records.Remove.{Remove}
 use Rattle.mq_calls.specs.declared.records.LogRecord.{LogRecord}
 use Rattle.mq_calls.specs.declared.records.LogRecord.TheVariants as records
 use Rattle.mq_log.specs.Bodies.{frame}
-use Rattle.mq_spec_state.specs.State.{Plain, Given, SenderSide}
-use Rattle.mq_spec_state.specs.State.Running.{Down}
-use Rattle.mq_spec_state.specs.Changes.{off_list, off_lists}
-use Rattle.mq_spec_state.specs.Images.{Image, lasting}
-use Rattle.mq_spec_state.specs.Steps.{Part, do_part, freeze, note_of, stands_in}
+use Rattle.mq_calls.specs.State.{Plain, Given, SenderSide}
+use Rattle.mq_calls.specs.State.Running.{Down}
+use Rattle.mq_calls.specs.Changes.{off_list, off_lists}
+use Rattle.mq_calls.specs.Images.{Image, lasting}
+use Rattle.mq_calls.specs.Steps.{Part, do_part, freeze, note_of, stands_in}
 use Rattle.mq_spec_manager.specs.Stops.{redone_if}
 use Rattle.mq_spec_log.specs.Applies.{applies, suits, was_given, idents_in, is_in_bounds}
 use Rattle.mq_spec_log.specs.Applies.Start.{First, Later}

@@ -4,10 +4,10 @@ use Rattle.std.specs.Prelude.{Option, Some, None, Result, Ok, Err, if◌then◌e
 use Rattle.std.specs.List.{list_all, list_any, AllByRecursion}
 use Rattle.std.specs.Str.{bytes_eq}
 use Rattle.std.proofs.lemmas.Bool.Decides.{nat_tests}
-use Rattle.mq_name.specs.declared.fault.NameFault.{NameFault}
-use Rattle.mq_name.specs.declared.fault.NameFault.TheVariants.{TooLong}
-use Rattle.mq_name.specs.Name.{IsName, is_name_byte, name_of, name_or_bad}
-use Rattle.mq_name.proofs.Fields.{no_bad}
+use Rattle.mq_base.specs.declared.fault.NameFault.{NameFault}
+use Rattle.mq_base.specs.declared.fault.NameFault.TheVariants.{TooLong}
+use Rattle.mq_base.specs.Name.{IsName, is_name_byte, name_of, name_or_bad}
+use Rattle.mq_base.proofs.Fields.{no_bad}
 use Rattle.mq_text.specs.declared.numbers.NumberFault.{NumberFault}
 use Rattle.mq_text.specs.declared.numbers.NumberFault.TheVariants.{NoNumber, OutOfRange}
 use Rattle.mq_text.specs.Numbers.{is_number, is_negative, value_of as number_of_text, within, number_in}

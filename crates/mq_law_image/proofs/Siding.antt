@@ -21,10 +21,10 @@ use Rattle.mq_sync.specs.declared.data.InDoubt.{InDoubt}
 use Rattle.mq_sync.specs.declared.data.SenderData.{SenderData}
 use Rattle.mq_sync.specs.declared.data.ReceiverData.{ReceiverData}
 use Rattle.mq_sync.specs.Settlement.{sender_or}
-use Rattle.mq_spec_state.specs.State.{SenderSide, ReceiverSide}
-use Rattle.mq_spec_state.specs.Reads.{sender_in, in_doubt_of}
-use Rattle.mq_spec_state.specs.Changes.{comes_before, set_named, set_sender, set_receiver, less_ident, off_list, off_lists}
-use Rattle.mq_spec_state.specs.Recovery.{IsListed, listed, IsNumbered, IsDoubtOf, IsReceiverSide, IsKnown, IsDoubtKnown}
+use Rattle.mq_calls.specs.State.{SenderSide, ReceiverSide}
+use Rattle.mq_calls.specs.Reads.{sender_in, in_doubt_of}
+use Rattle.mq_calls.specs.Changes.{comes_before, set_named, set_sender, set_receiver, less_ident, off_list, off_lists}
+use Rattle.mq_calls.specs.Recovery.{IsListed, listed, IsNumbered, IsDoubtOf, IsReceiverSide, IsKnown, IsDoubtKnown}
 use Rattle.mq_spec_log.specs.Applies.{are_distinct, is_unit}
 use Rattle.mq_law_manager.specs.Facts.{Mem, Chain, AreSorted}
 use Rattle.mq_law_manager.proofs.Lists.{bool_case, any_mem, mem_any, ident_no}

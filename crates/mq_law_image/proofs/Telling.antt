@@ -4,7 +4,7 @@ use Rattle.std.specs.Prelude.{Option, Some, None, Result, Ok, Err, if◌then◌e
 use Rattle.std.specs.Str.{bytes_eq}
 use Rattle.std.specs.List.{list_all}
 use Rattle.std.proofs.lemmas.Bool.Decides.{nat_tests}
-use Rattle.mq_name.specs.Name.{IsName}
+use Rattle.mq_base.specs.Name.{IsName}
 use Rattle.mq_calls.specs.declared.records.LogRecord.{LogRecord}
 use Rattle.mq_calls.specs.declared.records.LogRecord.TheVariants as records
 use Rattle.mq_calls.specs.declared.commands.RestartFault.{RestartFault}
@@ -12,13 +12,13 @@ use Rattle.mq_calls.specs.declared.commands.RestartFault.TheVariants as faults
 use Rattle.mq_objects.specs.Names.{local_of}
 use Rattle.mq_record.specs.Records.{record_bytes}
 use Rattle.mq_log.specs.Bodies.{frame}
-use Rattle.mq_spec_state.specs.State.{Plain, Change, Given, Noted, Running, LogState}
-use Rattle.mq_spec_state.specs.State.Running.{Up}
-use Rattle.mq_spec_state.specs.State.Change.{Try, SetBound}
-use Rattle.mq_spec_state.specs.Condition.{condition}
-use Rattle.mq_spec_state.specs.Changes.{apply, apply_all, try_if}
-use Rattle.mq_spec_state.specs.Images.{Image, lasting, begun, raised}
-use Rattle.mq_spec_state.specs.Steps.{Part, freeze, note_of, do_part, stands_in}
+use Rattle.mq_calls.specs.State.{Plain, Change, Given, Noted, Running, LogState}
+use Rattle.mq_calls.specs.State.Running.{Up}
+use Rattle.mq_calls.specs.State.Change.{Try, SetBound}
+use Rattle.mq_calls.specs.Condition.{condition}
+use Rattle.mq_calls.specs.Changes.{apply, apply_all, try_if}
+use Rattle.mq_calls.specs.Images.{Image, lasting, begun, raised}
+use Rattle.mq_calls.specs.Steps.{Part, freeze, note_of, do_part, stands_in}
 use Rattle.mq_spec_manager.specs.Stops.{failed, stop, stop_at, stop_changes, redone_if, restarted, next_started, started_record, grown}
 use Rattle.mq_spec_log.specs.Applies.Start.{First, Later}
 use Rattle.mq_spec_log.specs.Applies.{Start, applies, suits, was_given, idents_in, is_in_bounds}

@@ -8,7 +8,7 @@ use Rattle.std.specs.Fmt.{decimal}
 use Rattle.std.proofs.lemmas.Bool.Decides.{nat_tests}
 use Rattle.std.proofs.lemmas.Fmt.{digits_decimal, digits_value-decimal, decimal_nonempty}
 use Rattle.std.proofs.lemmas.Str.Parse.{IsDigitsTest, FoldsDigits, IsNumeralModel, numerals_by_fold}
-use Rattle.mq_name.specs.Name.{IsName, name_of}
+use Rattle.mq_base.specs.Name.{IsName, name_of}
 use Rattle.mq_text.specs.declared.numbers.NumberFault.TheVariants.{NoNumber, OutOfRange}
 use Rattle.mq_text.specs.Numbers.{is_digit, is_number, is_negative, value_of as number_of_text, within, number_in}
 use Rattle.mq_text.specs.Pieces.{is_break}

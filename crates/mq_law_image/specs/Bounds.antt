@@ -3,13 +3,13 @@ use Rattle.std.specs.Prelude.{ℕ, ◌+◌, ◌*◌, ◌≤◌, Bool, true, fals
 use Rattle.std.specs.List.{AllByRecursion}
 use Rattle.mq_calls.specs.declared.records.LogRecord.{LogRecord}
 use Rattle.mq_calls.specs.declared.records.LogRecord.TheVariants as records
-use Rattle.mq_spec_state.specs.State.{Plain, Connection, Change, Noted, SenderSide}
-use Rattle.mq_spec_state.specs.State.Change.{Place as Places, Try, Connect, OpenHandle, Pend, CountIdent}
-use Rattle.mq_spec_state.specs.Reads.{stored, puts_to, reserved, unit_need, item_bytes}
-use Rattle.mq_spec_state.specs.Counts.{starts_of}
-use Rattle.mq_spec_state.specs.Sizes.{need}
-use Rattle.mq_spec_state.specs.Steps.{Part, Step}
-use Rattle.mq_spec_state.specs.Steps.Step.{Refuse, Do}
+use Rattle.mq_calls.specs.State.{Plain, Connection, Change, Noted, SenderSide}
+use Rattle.mq_calls.specs.State.Change.{Place as Places, Try, Connect, OpenHandle, Pend, CountIdent}
+use Rattle.mq_calls.specs.Reads.{stored, puts_to, reserved, unit_need, item_bytes}
+use Rattle.mq_calls.specs.Counts.{starts_of}
+use Rattle.mq_calls.specs.Sizes.{need}
+use Rattle.mq_calls.specs.Steps.{Part, Step}
+use Rattle.mq_calls.specs.Steps.Step.{Refuse, Do}
 use Rattle.mq_spec_manager.specs.Stops.{started_need}
 use Rattle.mq_law_manager.specs.Facts.{Mem}
 

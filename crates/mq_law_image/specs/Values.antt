@@ -1,7 +1,7 @@
 -- Values that commands give: of settings, of objects, of what is kept without effect. The text of what has such values is read.
 use Rattle.std.specs.Prelude.{◌≡◌, ℕ, ◌<◌, ◌≤◌, ◌^◌, Bool, true, false, List, [], ◌∷◌, length, map, Option, Some, None}
 use Rattle.std.specs.List.{list_all, AllByRecursion}
-use Rattle.mq_name.specs.Name.{IsName}
+use Rattle.mq_base.specs.Name.{IsName}
 use Rattle.mq_objects.specs.declared.object.Object.{Object}
 use Rattle.mq_objects.specs.declared.object.Object.TheVariants as objects
 use Rattle.mq_objects.specs.declared.object.Definitions.{Definitions}
@@ -31,9 +31,9 @@ use Rattle.mq_sc_keys.specs.Keys.{key_text, group_of}
 use Rattle.mq_calls.specs.declared.records.LogRecord.{LogRecord}
 use Rattle.mq_calls.specs.declared.records.LogRecord.TheVariants as records
 use Rattle.mq_record.specs.Records.{IsRecord}
-use Rattle.mq_spec_state.specs.Sizes.{change_text}
-use Rattle.mq_spec_state.specs.Steps.{Part, Step}
-use Rattle.mq_spec_state.specs.Steps.Step.{Refuse, Do}
+use Rattle.mq_calls.specs.Sizes.{change_text}
+use Rattle.mq_calls.specs.Steps.{Part, Step}
+use Rattle.mq_calls.specs.Steps.Step.{Refuse, Do}
 use Rattle.mq_law_manager.specs.Facts.{Mem}
 use Rattle.mq_law_image.specs.Laid.{IsSubject, is_no_end}
 

@@ -24,12 +24,12 @@ use Rattle.mq_history.specs.declared.calls.Call.{Call}
 use Rattle.mq_history.specs.declared.calls.Call.TheVariants as calls
 use Rattle.mq_sender.specs.States as senders
 use Rattle.mq_receiver.specs.States as receivers
-use Rattle.mq_spec_state.specs.State.{Running}
-use Rattle.mq_spec_state.specs.State.Running.{Up, Down}
-use Rattle.mq_spec_state.specs.Reads.{batch_of, in_doubt_of, is_up, receiver_data, sender_data}
-use Rattle.mq_spec_state.specs.Steps.{Step}
-use Rattle.mq_spec_state.specs.Steps.Step.{Refuse, Do}
-use Rattle.mq_spec_agents.specs.Words.{harden, seize, set_bound}
+use Rattle.mq_calls.specs.State.{Running}
+use Rattle.mq_calls.specs.State.Running.{Up, Down}
+use Rattle.mq_calls.specs.Reads.{batch_of, in_doubt_of, is_up, receiver_data, sender_data}
+use Rattle.mq_calls.specs.Steps.{Step}
+use Rattle.mq_calls.specs.Steps.Step.{Refuse, Do}
+use Rattle.mq_spec_manager.specs.Agents.{harden, seize, set_bound}
 use Rattle.mq_spec_node.specs.Node.{Node, ReceiverEnd, SenderEnd, receiver_end, receiver_named, sender_end, sender_named, with_end}
 use Rattle.mq_spec_node.specs.Node.ChannelEnd.{Receives, Sends}
 use Rattle.mq_spec_node.specs.Deeds.{Deed, parts_of}

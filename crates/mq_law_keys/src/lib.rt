@@ -11,7 +11,7 @@ ghost use Rattle.mq_history.specs.declared.calls.Entry.{Entry};
 ghost use Rattle.mq_history.specs.declared.history.History.{History};
 ghost use Rattle.mq_history.specs.declared.scenario.Scenario.{Scenario};
 ghost use Rattle.mq_history.specs.Scenarios.{IsScenario};
-ghost use Rattle.mq_spec_state.specs.Reads.{is_up};
+ghost use Rattle.mq_calls.specs.Reads.{is_up};
 ghost use Rattle.mq_spec_node.specs.Node.{Node, SenderEnd, end_in};
 ghost use Rattle.mq_spec_node.specs.Node.ChannelEnd.{Sends};
 ghost use Rattle.mq_spec_node.specs.Happens.{deed_of, event};

@@ -19,18 +19,18 @@ use Rattle.mq_calls.specs.declared.agents.PrepareFault.TheVariants as prepare_fa
 use Rattle.mq_calls.specs.declared.agents.SeizeFault.TheVariants as seize_faults
 use Rattle.mq_calls.specs.declared.deltas.Did.TheVariants as did
 use Rattle.mq_calls.specs.declared.deltas.Why.TheVariants as whys
-use Rattle.mq_spec_state.specs.State.{Plain, Batch, Queue}
-use Rattle.mq_spec_state.specs.State.Change.{Place as Places, Serve, CountIdent, Seize, Unseize, SetBound}
-use Rattle.mq_spec_state.specs.Reads.{stored, queue_in, is_persistent, free_rows, batch_of, sender_data, is_up, is_full, is_open_for_input, has_held_by_other, is_expired}
-use Rattle.mq_spec_state.specs.Changes.{apply}
-use Rattle.mq_spec_state.specs.Sizes.{need}
-use Rattle.mq_spec_state.specs.Steps.{when}
-use Rattle.mq_spec_state.specs.Images.{Shelf, has_batch, rests_by, lasting, lasting_row, lasting_rows, shelves_of}
+use Rattle.mq_calls.specs.State.{Plain, Batch, Queue}
+use Rattle.mq_calls.specs.State.Change.{Place as Places, Serve, CountIdent, Seize, Unseize, SetBound}
+use Rattle.mq_calls.specs.Reads.{stored, queue_in, is_persistent, free_rows, batch_of, sender_data, is_up, is_full, is_open_for_input, has_held_by_other, is_expired}
+use Rattle.mq_calls.specs.Changes.{apply}
+use Rattle.mq_calls.specs.Sizes.{need}
+use Rattle.mq_calls.specs.Steps.{when}
+use Rattle.mq_calls.specs.Images.{Shelf, has_batch, rests_by, lasting, lasting_row, lasting_rows, shelves_of}
 use Rattle.mq_spec_manager.specs.Handles.{is_transmission_queue}
 use Rattle.mq_spec_manager.specs.Put.{next_ident}
 use Rattle.mq_spec_manager.specs.Get.{idents_of}
 use Rattle.mq_spec_manager.specs.Triggers.{trigger_turn, trigger_at, serve, serve_by, serve_into, put_trigger, takes_it, first_due, route_to, trigger_message}
-use Rattle.mq_spec_agents.specs.Words.{CanHarden, CanHold, CanPrepare, IsPreparable, HasFreeRow, NoneInDoubt, is_row_in_doubt, seize, leave, set_bound, channel_queue, expire, expired_rows, queue_of_sender, hold_batch, release_batch, release_of, prepare, prepare_of, prepared_record, prepared_changes, harden, discard}
+use Rattle.mq_spec_manager.specs.Agents.{CanHarden, CanHold, CanPrepare, IsPreparable, HasFreeRow, NoneInDoubt, is_row_in_doubt, seize, leave, set_bound, channel_queue, expire, expired_rows, queue_of_sender, hold_batch, release_batch, release_of, prepare, prepare_of, prepared_record, prepared_changes, harden, discard}
 use Rattle.mq_spec_log.specs.Applies.{can_prepare, are_distinct, is_held_among, is_elsewhere}
 use Rattle.mq_law_manager.specs.View.{view}
 use Rattle.mq_law_manager.specs.Facts.{Mem, Chain, ident_of, IsSound}

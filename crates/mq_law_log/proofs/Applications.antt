@@ -21,14 +21,14 @@ use Rattle.mq_calls.specs.declared.answers.Get.{Get}
 use Rattle.mq_calls.specs.declared.deltas.Did.{Did}
 use Rattle.mq_calls.specs.declared.deltas.Why.{Why}
 use Rattle.mq_calls.specs.declared.deltas.Why.TheVariants as whys
-use Rattle.mq_spec_state.specs.State.{Plain, Change, Connection, Handle}
-use Rattle.mq_spec_state.specs.State.Change.{Connect, OpenHandle, CloseHandle, SetCursor, Pend, CountIdent, Disconnect}
+use Rattle.mq_calls.specs.State.{Plain, Change, Connection, Handle}
+use Rattle.mq_calls.specs.State.Change.{Connect, OpenHandle, CloseHandle, SetCursor, Pend, CountIdent, Disconnect}
 use Rattle.mq_calls.specs.declared.state.Item.TheVariants.{Put}
-use Rattle.mq_spec_state.specs.Reads.{connection_at, handle_at, is_expired}
-use Rattle.mq_spec_state.specs.Changes.{apply_all}
-use Rattle.mq_spec_state.specs.Recovery.{routes}
-use Rattle.mq_spec_state.specs.Steps.{Step, Part, Test, when, tested, refused_or, refusal, going_on, none_of, silent, do_part, do_all}
-use Rattle.mq_spec_state.specs.Images.{lasting}
+use Rattle.mq_calls.specs.Reads.{connection_at, handle_at, is_expired}
+use Rattle.mq_calls.specs.Changes.{apply_all}
+use Rattle.mq_calls.specs.Recovery.{routes}
+use Rattle.mq_calls.specs.Steps.{Step, Part, Test, when, tested, refused_or, refusal, going_on, none_of, silent, do_part, do_all}
+use Rattle.mq_calls.specs.Images.{lasting}
 use Rattle.mq_spec_manager.specs.Handles.{new_connection, new_handle, connected, for_connection, for_handle, mqconn, mqopen, mqclose, close_up, close_handle, conn_tests, open_tests, open_step, option_tests, is_unfit}
 use Rattle.mq_spec_manager.specs.Put.{mqput, mqput1, put_up, put_handle, put_route, put_part, put1_resolved, new_message, put_tests, put_step, queue_at, dest_at, next_ident, output_tests, handle_route, output_only}
 use Rattle.mq_spec_manager.specs.Get.{mqget, get_up, get_handle, get_scanned, get_found, get_tests, room_tests, scanned, scan, scan_row, asked, looked_at, with_row, without_row, is_waiting, is_under, is_left, is_destructive, found_part, taking_part, removal_parts, persistent_rows, expired_parts}

@@ -4,8 +4,8 @@ use Rattle.std.proofs.Common.{ℕ, ◌+◌, Bool, true, false}
 use Rattle.std.specs.Prelude.{Option}
 use Rattle.mq_calls.specs.declared.commands.RestartFault.{RestartFault}
 use Rattle.mq_calls.specs.declared.commands.RestartFault.TheVariants as faults
-use Rattle.mq_spec_state.specs.State.{Plain, Running, LogState, Noted}
-use Rattle.mq_spec_state.specs.State.Running.{Down}
+use Rattle.mq_calls.specs.State.{Plain, Running, LogState, Noted}
+use Rattle.mq_calls.specs.State.Running.{Down}
 use Rattle.mq_spec_manager.specs.Stops.{advance_clock, cut, failed}
 use Rattle.mq_law_manager.specs.Facts.{IsSound, IsFrozen, IsStocked}
 

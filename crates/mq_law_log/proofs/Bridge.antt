@@ -13,15 +13,15 @@ use Rattle.mq_queue.specs.Queues.{Lacks, AreDistinct, AllBehind, AreInOrder}
 use Rattle.mq_calls.specs.declared.records.Add.{Add}
 use Rattle.mq_calls.specs.declared.state.Item.{Item}
 use Rattle.mq_calls.specs.declared.state.Item.TheVariants.{Put, Take}
-use Rattle.mq_spec_state.specs.State.{Plain, Queue, Connection, Handle, SenderSide, Batch}
-use Rattle.mq_spec_state.specs.State.Which.{Among}
-use Rattle.mq_spec_state.specs.Reads.{queue_in, connection_at, batch_of, is_by_unit}
-use Rattle.mq_spec_state.specs.Changes.{selects}
+use Rattle.mq_calls.specs.State.{Plain, Queue, Connection, Handle, SenderSide, Batch}
+use Rattle.mq_calls.specs.State.Which.{Among}
+use Rattle.mq_calls.specs.Reads.{queue_in, connection_at, batch_of, is_by_unit}
+use Rattle.mq_calls.specs.Changes.{selects}
 use Rattle.mq_message.specs.declared.message.Message.{Message}
 use Rattle.mq_objects.specs.declared.object.LocalQueue.{LocalQueue}
 use Rattle.mq_objects.specs.Names.{local_of, is_transmission}
 use Rattle.mq_sync.specs.declared.data.InDoubt.{InDoubt}
-use Rattle.mq_spec_agents.specs.Words.{doubts}
+use Rattle.mq_spec_manager.specs.Agents.{doubts}
 use Rattle.mq_spec_log.specs.Applies.{agrees, fits_local}
 use Rattle.mq_spec_manager.specs.Put.{next_ident, queue_at}
 use Rattle.mq_law_manager.specs.View.{Taken, view, puts_in, takes_in, items_of}

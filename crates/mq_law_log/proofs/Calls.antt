@@ -4,19 +4,19 @@ use Rattle.std.specs.Prelude.{Option, Some, None, Result, Ok, Err, ◌==◌, not
 use Rattle.std.specs.List.{AllByRecursion}
 use Rattle.mq_codes.specs.declared.reason.Reason.{Reason}
 use Rattle.mq_calls.specs.declared.answers.Hconn.{Hconn}
-use Rattle.mq_spec_state.specs.State.{Plain, Connection, Handle}
-use Rattle.mq_spec_state.specs.State.Change.{Disconnect}
-use Rattle.mq_spec_state.specs.Reads.{connection_at}
+use Rattle.mq_calls.specs.State.{Plain, Connection, Handle}
+use Rattle.mq_calls.specs.State.Change.{Disconnect}
+use Rattle.mq_calls.specs.Reads.{connection_at}
 use Rattle.mq_spec_manager.specs.Handles.{connected, is_other, is_present, live_or, for_connection, for_handle}
 use Rattle.mq_codes.specs.declared.reason.Reason.TheVariants as reasons
 use Rattle.mq_calls.specs.declared.answers.Answer.TheVariants as answers
-use Rattle.mq_spec_state.specs.Steps.Step.{Do}
-use Rattle.mq_spec_state.specs.Steps.{Step, Test, when, refusal, refused_or, tested}
+use Rattle.mq_calls.specs.Steps.Step.{Do}
+use Rattle.mq_calls.specs.Steps.{Step, Test, when, refusal, refused_or, tested}
 use Rattle.mq_message.specs.declared.message.Message.{Message}
 use Rattle.mq_message.specs.declared.message.Md.{Md}
 use Rattle.mq_resolve.specs.declared.route.Route.{Route}
 use Rattle.mq_calls.specs.declared.answers.Hobj.{Hobj}
-use Rattle.mq_spec_state.specs.Reads.{handle_at}
+use Rattle.mq_calls.specs.Reads.{handle_at}
 use Rattle.mq_spec_manager.specs.Put.{queue_at, put_part, put_tests, put_step, new_message, put_route, put_handle, put_up, handle_route, mqput}
 use Rattle.mq_spec_log.specs.Applies.{fits}
 use Rattle.mq_spec_manager.specs.Units.{mqcmit, mqdisc, commit_part}

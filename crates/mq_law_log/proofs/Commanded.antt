@@ -31,12 +31,12 @@ use Rattle.mq_sc_apply.specs.declared.answers.Plan.TheVariants as plans
 use Rattle.mq_sc_apply.specs.Commands.{plan, to_change, to_show}
 use Rattle.mq_sc_apply.specs.Displayed.{display}
 use Rattle.mq_sc_apply.specs.Planned.{is_type_setting, define, define_at, defined_object, changed, is_used, same_usage, same_delivery, changes_rows, is_filled, alter, alter_at, alter_good, bad_in, switches_on, alter_manager, default_changes, delete, delete_at, is_on_path, is_sent_from, is_busy}
-use Rattle.mq_spec_state.specs.State.{Plain}
-use Rattle.mq_spec_state.specs.State.Change.{ChangeObjects}
-use Rattle.mq_spec_state.specs.Reads.{is_up, stored, has_rows, puts_to}
-use Rattle.mq_spec_state.specs.Changes.{apply, apply_all}
-use Rattle.mq_spec_state.specs.Steps.{when}
-use Rattle.mq_spec_state.specs.Images.{Shelf, lasting, lasting_rows}
+use Rattle.mq_calls.specs.State.{Plain}
+use Rattle.mq_calls.specs.State.Change.{ChangeObjects}
+use Rattle.mq_calls.specs.Reads.{is_up, stored, has_rows, puts_to}
+use Rattle.mq_calls.specs.Changes.{apply, apply_all}
+use Rattle.mq_calls.specs.Steps.{when}
+use Rattle.mq_calls.specs.Images.{Shelf, lasting, lasting_rows}
 use Rattle.mq_spec_manager.specs.Commands.{command, planned_step, object_part, uses_of, follows, renewed, renewed_if, stale_if, switched_if, dropped}
 use Rattle.mq_spec_log.specs.Applies.{agrees, has_rows_on, same_form, can_replace, can_set, is_empty_local, can_delete, can_change}
 use Rattle.mq_law_manager.specs.Facts.{IsSound}

@@ -1,6 +1,6 @@
 -- A manager that begins on an empty log is sound.
 use Rattle.std.proofs.Common.{ℕ}
-use Rattle.mq_spec_state.specs.State.{Given, LogState}
+use Rattle.mq_calls.specs.State.{Given, LogState}
 use Rattle.mq_spec_log.specs.Bodies.{empty_image}
 use Rattle.mq_law_log.specs.Restarts.{begun}
 use Rattle.mq_law_log.specs.Sound.{IsLogSound}

@@ -3,12 +3,12 @@ use Rattle.std.proofs.Common.{ℕ, ◌≡◌, Bool, true, false, List, [], ◌�
 use Rattle.std.specs.Prelude.{Option, Some, None}
 use Rattle.mq_calls.specs.declared.records.LogRecord.{LogRecord}
 use Rattle.mq_objects.specs.Names.{local_of}
-use Rattle.mq_spec_state.specs.State.{Plain, Change, Given, Noted}
-use Rattle.mq_spec_state.specs.State.Change.{Try, SetBound}
-use Rattle.mq_spec_state.specs.Condition.{condition}
-use Rattle.mq_spec_state.specs.Changes.{apply, apply_all, try_if}
-use Rattle.mq_spec_state.specs.Images.{Image, lasting, raised}
-use Rattle.mq_spec_state.specs.Steps.{Part, logged, do_part, freeze, note_of}
+use Rattle.mq_calls.specs.State.{Plain, Change, Given, Noted}
+use Rattle.mq_calls.specs.State.Change.{Try, SetBound}
+use Rattle.mq_calls.specs.Condition.{condition}
+use Rattle.mq_calls.specs.Changes.{apply, apply_all, try_if}
+use Rattle.mq_calls.specs.Images.{Image, lasting, raised}
+use Rattle.mq_calls.specs.Steps.{Part, logged, do_part, freeze, note_of}
 use Rattle.mq_spec_manager.specs.Stops.{redone_if, restarted, grown}
 use Rattle.mq_law_manager.specs.Facts.{IsSound}
 use Rattle.mq_law_manager.proofs.Numbered.{ImageRests}

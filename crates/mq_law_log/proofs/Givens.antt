@@ -13,13 +13,13 @@ use Rattle.mq_calls.specs.declared.records.Remove.{Remove}
 use Rattle.mq_calls.specs.declared.records.LogRecord.TheVariants as records
 use Rattle.mq_calls.specs.declared.state.Item.{Item}
 use Rattle.mq_calls.specs.declared.state.Item.TheVariants.{Put, Take}
-use Rattle.mq_spec_state.specs.State.{Plain, Connection, Batch}
-use Rattle.mq_spec_state.specs.Reads.{connection_at, is_persistent, batch_of}
-use Rattle.mq_spec_state.specs.Images.{lasting}
+use Rattle.mq_calls.specs.State.{Plain, Connection, Batch}
+use Rattle.mq_calls.specs.Reads.{connection_at, is_persistent, batch_of}
+use Rattle.mq_calls.specs.Images.{lasting}
 use Rattle.mq_spec_manager.specs.Put.{next_ident, unit_record}
 use Rattle.mq_spec_manager.specs.Get.{removal_record}
 use Rattle.mq_spec_manager.specs.Units.{adds_of, removes_of, record_of}
-use Rattle.mq_spec_agents.specs.Words.{is_unborn, harden_part}
+use Rattle.mq_spec_manager.specs.Agents.{is_unborn, harden_part}
 use Rattle.mq_spec_log.specs.Applies.{was_given}
 use Rattle.mq_law_manager.specs.View.{puts_in, items_of}
 use Rattle.mq_law_manager.specs.Facts.{Mem, IsSound}

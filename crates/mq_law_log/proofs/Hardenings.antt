@@ -11,11 +11,11 @@ use Rattle.mq_sync.specs.Settlement.{sender_or, receiver_or}
 use Rattle.mq_calls.specs.declared.agents.Note.{Note}
 use Rattle.mq_calls.specs.declared.agents.Note.TheVariants as notes
 use Rattle.mq_sync.specs.declared.data.End.TheVariants as ends
-use Rattle.mq_spec_state.specs.State.{Plain, Batch}
-use Rattle.mq_spec_state.specs.Reads.{batch_of, in_doubt_of, sender_data, receiver_data}
-use Rattle.mq_spec_state.specs.Images.{has_batch}
+use Rattle.mq_calls.specs.State.{Plain, Batch}
+use Rattle.mq_calls.specs.Reads.{batch_of, in_doubt_of, sender_data, receiver_data}
+use Rattle.mq_calls.specs.Images.{has_batch}
 use Rattle.mq_spec_log.specs.Applies.{is_unit_in_doubt}
-use Rattle.mq_spec_agents.specs.Words.{harden_part, unit_of, CanHarden}
+use Rattle.mq_spec_manager.specs.Agents.{harden_part, unit_of, CanHarden}
 use Rattle.mq_law_log.specs.Restarts.{IsHarmless}
 use Rattle.mq_law_log.proofs.Rows.{bool_case}
 use Rattle.mq_law_log.proofs.Harmless.{session_harmless, resolved_harmless, bound_harmless, closed_harmless, number_harmless, harmless}

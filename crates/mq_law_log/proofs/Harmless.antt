@@ -12,18 +12,18 @@ use Rattle.mq_queue.specs.Rows.{held_by}
 use Rattle.mq_calls.specs.declared.agents.Note.TheVariants as notes
 use Rattle.mq_calls.specs.declared.deltas.Why.{Why}
 use Rattle.mq_calls.specs.declared.records.LogRecord.{LogRecord}
-use Rattle.mq_spec_state.specs.State.{Plain, Connection, Batch, Change, Running, LogState}
-use Rattle.mq_spec_state.specs.State.Which.{Among, Nonpersistent}
-use Rattle.mq_spec_state.specs.State.Running.{Down}
-use Rattle.mq_spec_state.specs.Reads.{is_persistent, sender_data, receiver_data, in_doubt_of}
-use Rattle.mq_spec_state.specs.Changes.{apply_all, kept_in, selects}
-use Rattle.mq_spec_state.specs.Steps.{Part, logged, volatile_gone, stands_in, note_of}
+use Rattle.mq_calls.specs.State.{Plain, Connection, Batch, Change, Running, LogState}
+use Rattle.mq_calls.specs.State.Which.{Among, Nonpersistent}
+use Rattle.mq_calls.specs.State.Running.{Down}
+use Rattle.mq_calls.specs.Reads.{is_persistent, sender_data, receiver_data, in_doubt_of}
+use Rattle.mq_calls.specs.Changes.{apply_all, kept_in, selects}
+use Rattle.mq_calls.specs.Steps.{Part, logged, volatile_gone, stands_in, note_of}
 use Rattle.mq_spec_manager.specs.Put.{put_part}
 use Rattle.mq_spec_manager.specs.Get.{removal_part}
 use Rattle.mq_spec_manager.specs.Units.{commit_part, taken_item}
-use Rattle.mq_spec_agents.specs.Words.{harden_part}
+use Rattle.mq_spec_manager.specs.Agents.{harden_part}
 use Rattle.mq_sync.specs.Settlement.{sender_or, receiver_or}
-use Rattle.mq_spec_state.specs.Images.{Image, lasting, has_batch}
+use Rattle.mq_calls.specs.Images.{Image, lasting, has_batch}
 use Rattle.mq_spec_log.specs.Applies.{fits, is_unit_in_doubt, can_prepare}
 use Rattle.mq_law_log.specs.Keeps.{Does, HoldsJust, IsNew, AreGone, AreTakeable}
 use Rattle.mq_law_log.specs.Sound.{IsLogSound, IsUnit, AreFree}

@@ -12,16 +12,16 @@ use Rattle.mq_queue.specs.Queues.{Lacks}
 use Rattle.mq_objects.specs.Names.{local_of}
 use Rattle.mq_resolve.specs.declared.route.Route.{Route}
 use Rattle.mq_resolve.specs.Resolved.{resolve}
-use Rattle.mq_spec_state.specs.State.{Plain, Queue}
-use Rattle.mq_spec_state.specs.State.Which.{Among}
-use Rattle.mq_spec_state.specs.State.Change.{Leave}
-use Rattle.mq_spec_state.specs.Reads.{stored, is_persistent}
-use Rattle.mq_spec_state.specs.Changes.{apply, kept_in, selects}
-use Rattle.mq_spec_state.specs.Steps.{when}
-use Rattle.mq_spec_state.specs.Images.{lasting}
+use Rattle.mq_calls.specs.State.{Plain, Queue}
+use Rattle.mq_calls.specs.State.Which.{Among}
+use Rattle.mq_calls.specs.State.Change.{Leave}
+use Rattle.mq_calls.specs.Reads.{stored, is_persistent}
+use Rattle.mq_calls.specs.Changes.{apply, kept_in, selects}
+use Rattle.mq_calls.specs.Steps.{when}
+use Rattle.mq_calls.specs.Images.{lasting}
 use Rattle.mq_spec_manager.specs.Handles.{is_unfit}
 use Rattle.mq_spec_manager.specs.Put.{output_only, placing_tests}
-use Rattle.mq_spec_agents.specs.Words.{CanMove, Landing, landing, route_tests, bare_if, move_full, moved_record, moved_forced, is_unborn, move_part, move_resolved, move_found, move_row}
+use Rattle.mq_spec_manager.specs.Agents.{CanMove, Landing, landing, route_tests, bare_if, move_full, moved_record, moved_forced, is_unborn, move_part, move_resolved, move_found, move_row}
 use Rattle.mq_law_manager.specs.View.{view}
 use Rattle.mq_law_manager.specs.Facts.{Mem, IsSound, IsFit, IsUnlisted}
 use Rattle.mq_law_manager.proofs.Apart.{IsNew}

@@ -13,12 +13,12 @@ use Rattle.mq_objects.specs.declared.object.LocalQueue.{LocalQueue}
 use Rattle.mq_objects.specs.Names.{local_of}
 use Rattle.mq_calls.specs.declared.state.Item.{Item}
 use Rattle.mq_calls.specs.declared.state.Item.TheVariants.{Put, Take}
-use Rattle.mq_spec_state.specs.State.{Plain, Queue, Which, Running, LogState}
-use Rattle.mq_spec_state.specs.State.Which.{Among}
-use Rattle.mq_spec_state.specs.State.Change.{Place as Places, Try, Leave}
-use Rattle.mq_spec_state.specs.Reads.{stored, queue_in}
-use Rattle.mq_spec_state.specs.Condition.{condition}
-use Rattle.mq_spec_state.specs.Changes.{apply, apply_all, set_queue, placed_in, lane_of, new_row, kept_in, selects, try_if, made_due, depth_type}
+use Rattle.mq_calls.specs.State.{Plain, Queue, Which, Running, LogState}
+use Rattle.mq_calls.specs.State.Which.{Among}
+use Rattle.mq_calls.specs.State.Change.{Place as Places, Try, Leave}
+use Rattle.mq_calls.specs.Reads.{stored, queue_in}
+use Rattle.mq_calls.specs.Condition.{condition}
+use Rattle.mq_calls.specs.Changes.{apply, apply_all, set_queue, placed_in, lane_of, new_row, kept_in, selects, try_if, made_due, depth_type}
 use Rattle.mq_spec_manager.specs.Put.{placed}
 use Rattle.mq_spec_manager.specs.Units.{taken_item}
 use Rattle.mq_spec_log.specs.Applies.{fits, fits_local}

@@ -7,13 +7,13 @@ use Rattle.mq_message.specs.declared.message.Ident.{Ident}
 use Rattle.mq_queue.specs.declared.row.Row.{Row}
 use Rattle.mq_queue.specs.Rows.{same_ident, keep}
 use Rattle.mq_calls.specs.declared.deltas.Why.{Why}
-use Rattle.mq_spec_state.specs.State.{Plain}
-use Rattle.mq_spec_state.specs.State.Which.{Among}
-use Rattle.mq_spec_state.specs.State.Change.{Leave}
-use Rattle.mq_spec_state.specs.Reads.{is_persistent}
-use Rattle.mq_spec_state.specs.Changes.{apply, selects}
+use Rattle.mq_calls.specs.State.{Plain}
+use Rattle.mq_calls.specs.State.Which.{Among}
+use Rattle.mq_calls.specs.State.Change.{Leave}
+use Rattle.mq_calls.specs.Reads.{is_persistent}
+use Rattle.mq_calls.specs.Changes.{apply, selects}
 use Rattle.mq_spec_manager.specs.Get.{removal_part, removal_record, removes_of, idents_of, persistent_rows}
-use Rattle.mq_spec_state.specs.Images.{Shelf, Image, lasting}
+use Rattle.mq_calls.specs.Images.{Shelf, Image, lasting}
 use Rattle.mq_spec_log.specs.Shelves.{left, less_rows, on_all, removed, removed_all}
 use Rattle.mq_spec_log.specs.Applies.{can_remove_all}
 use Rattle.mq_law_log.specs.Keeps.{Told, Does, AreGone, IsTakeable, less_item}

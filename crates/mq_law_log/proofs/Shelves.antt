@@ -8,14 +8,14 @@ use Rattle.mq_sync.specs.declared.data.InDoubt.{InDoubt}
 use Rattle.mq_queue.specs.declared.row.Row.{Row}
 use Rattle.mq_queue.specs.Rows.{same_ident, is_free}
 use Rattle.mq_queue.specs.Queues.{Lacks}
-use Rattle.mq_spec_state.specs.State.{Queue, Batch, SenderSide}
-use Rattle.mq_spec_state.specs.Reads.{queue_in}
-use Rattle.mq_spec_state.specs.Changes.{set_queue}
-use Rattle.mq_spec_agents.specs.Words.{doubts}
-use Rattle.mq_spec_state.specs.Changes.{less_ident}
-use Rattle.mq_spec_state.specs.Images.{Shelf, shelf_of, shelves_of, lasting_rows}
+use Rattle.mq_calls.specs.State.{Queue, Batch, SenderSide}
+use Rattle.mq_calls.specs.Reads.{queue_in}
+use Rattle.mq_calls.specs.Changes.{set_queue}
+use Rattle.mq_spec_manager.specs.Agents.{doubts}
+use Rattle.mq_calls.specs.Changes.{less_ident}
+use Rattle.mq_calls.specs.Images.{Shelf, shelf_of, shelves_of, lasting_rows}
 use Rattle.mq_spec_log.specs.Shelves.{shelf_in, set_shelf, on_all, without_ident}
-use Rattle.mq_spec_state.specs.Changes.{off_lists}
+use Rattle.mq_calls.specs.Changes.{off_lists}
 use Rattle.mq_spec_log.specs.Applies.{stands_on, is_free_at}
 use Rattle.mq_law_log.specs.Keeps.{has_queue}
 use Rattle.mq_law_log.proofs.Rows.{bool_case, name_is, name_self, none_kept_out, lacks_last}

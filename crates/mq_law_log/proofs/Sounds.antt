@@ -4,12 +4,12 @@ use Rattle.std.specs.Prelude.{flat_map}
 use Rattle.mq_message.specs.declared.message.Message.{Message}
 use Rattle.mq_queue.specs.declared.row.Row.{Row}
 use Rattle.mq_calls.specs.declared.deltas.Why.{Why}
-use Rattle.mq_spec_state.specs.State.{Plain, Connection, Change}
-use Rattle.mq_spec_state.specs.Changes.{apply_all}
+use Rattle.mq_calls.specs.State.{Plain, Connection, Change}
+use Rattle.mq_calls.specs.Changes.{apply_all}
 use Rattle.mq_spec_manager.specs.Put.{put_part}
 use Rattle.mq_spec_manager.specs.Get.{removal_part}
 use Rattle.mq_spec_manager.specs.Units.{commit_part, taken_item}
-use Rattle.mq_spec_state.specs.Images.{lasting}
+use Rattle.mq_calls.specs.Images.{lasting}
 use Rattle.mq_spec_log.specs.Applies.{fits}
 use Rattle.mq_law_log.specs.Keeps.{Does, IsNew}
 use Rattle.mq_law_log.specs.Sound.{IsLogSound, IsUnit, AreFree}

@@ -9,14 +9,14 @@ use Rattle.mq_objects.specs.declared.command.Subject.TheVariants as subjects
 use Rattle.mq_objects.specs.Changed.{changed}
 use Rattle.mq_objects.specs.Names.{local_of}
 use Rattle.mq_calls.specs.declared.records.LogRecord.{LogRecord}
-use Rattle.mq_spec_state.specs.State.{Plain, Given, Change, Queue, fresh_queue}
-use Rattle.mq_spec_state.specs.State.Which.{Among, HeldBy, HeldByUnits, Nonpersistent}
-use Rattle.mq_spec_state.specs.State.Change.{Place as Places, Try, Leave, CountIdent, ChangeObjects, Renew, DropQueue, MakeStale, SwitchOn, SetSender, SetReceiver, Undoubt}
-use Rattle.mq_spec_state.specs.Reads.{stored, is_persistent}
-use Rattle.mq_spec_state.specs.Condition.{condition}
-use Rattle.mq_spec_state.specs.Changes.{apply, apply_all, off_lists, set_sender, set_receiver, lane_of, placed_in, new_row, kept_in, selects, made_due, depth_type, try_if}
-use Rattle.mq_spec_state.specs.Steps.{Part, volatile_gone}
-use Rattle.mq_spec_state.specs.Images.{Shelf, Image, lasting}
+use Rattle.mq_calls.specs.State.{Plain, Given, Change, Queue, fresh_queue}
+use Rattle.mq_calls.specs.State.Which.{Among, HeldBy, HeldByUnits, Nonpersistent}
+use Rattle.mq_calls.specs.State.Change.{Place as Places, Try, Leave, CountIdent, ChangeObjects, Renew, DropQueue, MakeStale, SwitchOn, SetSender, SetReceiver, Undoubt}
+use Rattle.mq_calls.specs.Reads.{stored, is_persistent}
+use Rattle.mq_calls.specs.Condition.{condition}
+use Rattle.mq_calls.specs.Changes.{apply, apply_all, off_lists, set_sender, set_receiver, lane_of, placed_in, new_row, kept_in, selects, made_due, depth_type, try_if}
+use Rattle.mq_calls.specs.Steps.{Part, volatile_gone}
+use Rattle.mq_calls.specs.Images.{Shelf, Image, lasting}
 use Rattle.mq_spec_log.specs.Applies.{suits}
 use Rattle.mq_spec_log.specs.Records.{doing, shelf_if}
 use Rattle.mq_spec_log.specs.Shelves.{left, shelved}

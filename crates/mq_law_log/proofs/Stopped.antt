@@ -1,7 +1,7 @@
 -- Behind a call of which a write was stopped a restart gives a sound manager, found or not.
 use Rattle.std.proofs.Common.{ℕ, zero, suc, Bool, true, false, List, [], ◌∷◌}
-use Rattle.mq_spec_state.specs.State.{Plain}
-use Rattle.mq_spec_state.specs.Steps.{Part, IsWrite, do_part, note_of, stopped_at}
+use Rattle.mq_calls.specs.State.{Plain}
+use Rattle.mq_calls.specs.Steps.{Part, IsWrite, do_part, note_of, stopped_at}
 use Rattle.mq_spec_manager.specs.Stops.{restarted}
 use Rattle.mq_law_manager.specs.Facts.{IsSound}
 use Rattle.mq_law_manager.specs.Kept.{AllKeep}

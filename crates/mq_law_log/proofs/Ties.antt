@@ -4,10 +4,10 @@ use Rattle.std.specs.Prelude.{Option, Some, None, Ok, is_some, ◌++◌, ◌&&�
 use Rattle.std.specs.List.{list_all}
 use Rattle.std.proofs.lemmas.Bool.Decides.{nat_tests}
 use Rattle.mq_calls.specs.declared.records.LogRecord.{LogRecord}
-use Rattle.mq_spec_state.specs.State.{Plain, Noted}
-use Rattle.mq_spec_state.specs.Steps.{Part, do_part, IsWrite}
+use Rattle.mq_calls.specs.State.{Plain, Noted}
+use Rattle.mq_calls.specs.Steps.{Part, do_part, IsWrite}
 use Rattle.mq_spec_manager.specs.Stops.{redone_if}
-use Rattle.mq_spec_state.specs.Images.{Image, lasting}
+use Rattle.mq_calls.specs.Images.{Image, lasting}
 use Rattle.mq_spec_log.specs.Records.{doing}
 use Rattle.mq_spec_log.specs.Applies.{Start, applies, was_given, idents_in, is_in_bounds}
 use Rattle.mq_spec_log.specs.Bodies.{record_of, image}

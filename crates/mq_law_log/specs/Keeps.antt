@@ -8,15 +8,15 @@ use Rattle.mq_queue.specs.Rows.{held_by}
 use Rattle.mq_message.specs.declared.place.Holder.TheVariants as holders
 use Rattle.mq_queue.specs.Queues.{Lacks}
 use Rattle.mq_calls.specs.declared.records.LogRecord.{LogRecord}
-use Rattle.mq_spec_state.specs.State.{Plain, Queue, Batch, SenderSide, Change}
-use Rattle.mq_spec_state.specs.State.Which.{Among}
+use Rattle.mq_calls.specs.State.{Plain, Queue, Batch, SenderSide, Change}
+use Rattle.mq_calls.specs.State.Which.{Among}
 use Rattle.mq_message.specs.declared.message.Message.{Message}
 use Rattle.mq_calls.specs.declared.state.Item.{Item}
 use Rattle.mq_calls.specs.declared.state.Item.TheVariants.{Put, Take}
-use Rattle.mq_spec_state.specs.Reads.{stored, is_persistent}
-use Rattle.mq_spec_state.specs.Changes.{apply_all, selects}
-use Rattle.mq_spec_state.specs.Steps.{Part, Step, do_part}
-use Rattle.mq_spec_state.specs.Steps.Step.{Refuse, Do}
+use Rattle.mq_calls.specs.Reads.{stored, is_persistent}
+use Rattle.mq_calls.specs.Changes.{apply_all, selects}
+use Rattle.mq_calls.specs.Steps.{Part, Step, do_part}
+use Rattle.mq_calls.specs.Steps.Step.{Refuse, Do}
 use Rattle.mq_spec_manager.specs.Put.{placed}
 use Rattle.mq_objects.specs.declared.object.Definitions.{Definitions}
 use Rattle.mq_objects.specs.declared.change.ObjectChange.{ObjectChange}
@@ -24,11 +24,11 @@ use Rattle.mq_objects.specs.declared.change.ObjectChange.TheVariants as changes
 use Rattle.mq_objects.specs.Names.{name_of}
 use Rattle.mq_sc_apply.specs.declared.answers.Planned.{Planned}
 use Rattle.mq_spec_manager.specs.Commands.{renewed}
-use Rattle.mq_spec_state.specs.State.Change.{Connect, Disconnect, OpenHandle, CloseHandle, SetCursor, Pend, EndUnit, MakeStale, CountIdent, Seize, Unseize, SetBound, SetMoment}
-use Rattle.mq_spec_agents.specs.Words.{doubts, Landing, Standing, standing_at, is_present, land, land_changes}
-pub use Rattle.mq_spec_agents.specs.Receiving.{received_part}
+use Rattle.mq_calls.specs.State.Change.{Connect, Disconnect, OpenHandle, CloseHandle, SetCursor, Pend, EndUnit, MakeStale, CountIdent, Seize, Unseize, SetBound, SetMoment}
+use Rattle.mq_spec_manager.specs.Agents.{doubts, Landing, Standing, standing_at, is_present, land, land_changes}
+pub use Rattle.mq_spec_manager.specs.Receiving.{received_part}
 pub use Rattle.mq_law_manager.specs.Facts.{has_queue}
-use Rattle.mq_spec_state.specs.Images.{Image, Shelf, lasting}
+use Rattle.mq_calls.specs.Images.{Image, Shelf, lasting}
 use Rattle.mq_spec_log.specs.Applies.{suits, fits, stands_on, can_add, can_remove}
 use Rattle.mq_spec_log.specs.Records.{doing}
 use Rattle.mq_spec_log.specs.Shelves.{added, removed}

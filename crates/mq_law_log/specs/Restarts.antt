@@ -2,17 +2,17 @@
 use Rattle.std.specs.Prelude.{◌≡◌, ℕ, zero, suc, true, false, List, [], ◌∷◌, Option, None, Some}
 use Rattle.std.specs.List.{list_all}
 use Rattle.mq_calls.specs.declared.records.LogRecord.{LogRecord}
-use Rattle.mq_spec_state.specs.State.{Plain, Batch, Noted, Running, LogState}
-use Rattle.mq_spec_state.specs.Changes.{apply_all}
-use Rattle.mq_spec_state.specs.Steps.{Part, Step, do_part, freeze, note_of, stopped_at, volatile_gone}
-use Rattle.mq_spec_state.specs.Steps.Step.{Refuse, Do}
+use Rattle.mq_calls.specs.State.{Plain, Batch, Noted, Running, LogState}
+use Rattle.mq_calls.specs.Changes.{apply_all}
+use Rattle.mq_calls.specs.Steps.{Part, Step, do_part, freeze, note_of, stopped_at, volatile_gone}
+use Rattle.mq_calls.specs.Steps.Step.{Refuse, Do}
 pub use Rattle.mq_spec_manager.specs.Stops.{restarted, next_started}
-use Rattle.mq_spec_state.specs.Reads.{sender_data}
+use Rattle.mq_calls.specs.Reads.{sender_data}
 use Rattle.mq_calls.specs.declared.deltas.Did.TheVariants as did
-use Rattle.mq_spec_agents.specs.Words.{prepared_record, prepared_changes}
+use Rattle.mq_spec_manager.specs.Agents.{prepared_record, prepared_changes}
 use Rattle.mq_sync.specs.Settlement.{sender_or}
-pub use Rattle.mq_spec_state.specs.Images.{begun, raised}
-use Rattle.mq_spec_state.specs.Images.{lasting}
+pub use Rattle.mq_calls.specs.Images.{begun, raised}
+use Rattle.mq_calls.specs.Images.{lasting}
 use Rattle.mq_spec_log.specs.Applies.{suits, was_given, idents_in}
 use Rattle.mq_spec_log.specs.Records.{doing}
 use Rattle.mq_law_log.specs.Keeps.{Keeps}

@@ -10,8 +10,8 @@ use Rattle.mq_queue.specs.Queues.{AreDistinct}
 use Rattle.mq_objects.specs.Names.{local_of}
 use Rattle.mq_calls.specs.declared.state.Item.{Item}
 use Rattle.mq_calls.specs.declared.state.Item.TheVariants.{Put, Take}
-use Rattle.mq_spec_state.specs.State.{Plain, Queue, Connection, Handle, Batch}
-use Rattle.mq_spec_state.specs.Reads.{stored, connection_at, batch_of, is_persistent, is_by_unit}
+use Rattle.mq_calls.specs.State.{Plain, Queue, Connection, Handle, Batch}
+use Rattle.mq_calls.specs.Reads.{stored, connection_at, batch_of, is_persistent, is_by_unit}
 use Rattle.mq_spec_manager.specs.Put.{next_ident, dest_at, queue_at}
 use Rattle.mq_spec_log.specs.Applies.{fits}
 use Rattle.mq_law_log.specs.Keeps.{AreLaned, has_queue, IsNew, HoldsJust}

@@ -12,17 +12,17 @@ use Rattle.mq_sync.specs.declared.data.End.TheVariants as ends
 use Rattle.mq_calls.specs.declared.agents.Note.{Note}
 use Rattle.mq_calls.specs.declared.agents.Note.TheVariants as notes
 use Rattle.mq_calls.specs.declared.agents.PrepareFault.TheVariants as prepare_faults
-use Rattle.mq_spec_state.specs.State.{Plain, Batch, Which}
-use Rattle.mq_spec_state.specs.State.Which.{HeldBy}
-use Rattle.mq_spec_state.specs.State.Change.{Leave, Release, SetSender, DropBatch}
-use Rattle.mq_spec_state.specs.Reads.{sender_data, batch_of, in_doubt_of, is_full}
-use Rattle.mq_spec_state.specs.Changes.{apply, apply_all, release_if}
-use Rattle.mq_spec_state.specs.Sizes.{need}
-use Rattle.mq_spec_state.specs.Steps.{when, logged, do_part}
-use Rattle.mq_spec_state.specs.Steps.Step.{Do}
+use Rattle.mq_calls.specs.State.{Plain, Batch, Which}
+use Rattle.mq_calls.specs.State.Which.{HeldBy}
+use Rattle.mq_calls.specs.State.Change.{Leave, Release, SetSender, DropBatch}
+use Rattle.mq_calls.specs.Reads.{sender_data, batch_of, in_doubt_of, is_full}
+use Rattle.mq_calls.specs.Changes.{apply, apply_all, release_if}
+use Rattle.mq_calls.specs.Sizes.{need}
+use Rattle.mq_calls.specs.Steps.{when, logged, do_part}
+use Rattle.mq_calls.specs.Steps.Step.{Do}
 use Rattle.mq_calls.specs.declared.deltas.Did.TheVariants as did
 use Rattle.mq_sync.specs.Settlement.{sender_or, settle_by, data_prepared, data_settled}
-use Rattle.mq_spec_agents.specs.Words.{release_batch, release_of, prepare, prepare_of, prepared_record, prepared_doubt, prepared_changes, harden, harden_part, settle_change, CanHarden}
+use Rattle.mq_spec_manager.specs.Agents.{release_batch, release_of, prepare, prepare_of, prepared_record, prepared_doubt, prepared_changes, harden, harden_part, settle_change, CanHarden}
 use Rattle.mq_law_manager.specs.View.{View, view, at_name, kept_all, retagged_all}
 use Rattle.mq_law_manager.specs.Facts.{ident_of, Sound, Holds}
 use Rattle.mq_law_manager.specs.Seen.{goes_if, freed_if, drop_in, doubt_in}

@@ -9,10 +9,10 @@ use Rattle.mq_message.specs.declared.place.Holder.TheVariants as holders
 use Rattle.mq_queue.specs.declared.row.Row.{Row}
 use Rattle.mq_queue.specs.Rows.{same_ident}
 use Rattle.mq_sync.specs.declared.data.InDoubt.{InDoubt}
-use Rattle.mq_spec_state.specs.State.{Given}
-use Rattle.mq_spec_state.specs.Reads.{sender_in, in_doubt_of}
-use Rattle.mq_spec_state.specs.Images.{Image, Shelf, raised}
-use Rattle.mq_spec_state.specs.Recovery.{IsImage, IsShelf, IsLasting, IsHeldWell, IsListed, AreApart, IsKnown, AreKnown}
+use Rattle.mq_calls.specs.State.{Given}
+use Rattle.mq_calls.specs.Reads.{sender_in, in_doubt_of}
+use Rattle.mq_calls.specs.Images.{Image, Shelf, raised}
+use Rattle.mq_calls.specs.Recovery.{IsImage, IsShelf, IsLasting, IsHeldWell, IsListed, AreApart, IsKnown, AreKnown}
 use Rattle.mq_law_manager.specs.Facts.{Mem, Chain, Differ, ident_of, IsOf, AreLaned}
 use Rattle.mq_law_manager.proofs.Lists.{bool_case, any_mem, ident_self, name_yes}
 use Rattle.mq_law_manager.proofs.Numbered.{ImageRests, rows_on}

@@ -30,11 +30,11 @@ use Rattle.mq_sc_apply.specs.Commands.{plan, to_change, to_show}
 use Rattle.mq_sc_apply.specs.Displayed.{display}
 use Rattle.mq_sc_apply.specs.Planned.{define, define_at, defined_object, changed, is_used, changes_rows, is_filled, alter, alter_at, alter_good, bad_in, switches_on, alter_manager, default_changes, delete, delete_at, is_on_path, is_sent_from, is_busy}
 use Rattle.mq_calls.specs.declared.commands.Shown.{Shown}
-use Rattle.mq_spec_state.specs.State.{Plain}
-use Rattle.mq_spec_state.specs.State.Change.{ChangeObjects, Renew, DropQueue, SwitchOn, MakeStale}
-use Rattle.mq_spec_state.specs.Reads.{puts_to, is_up}
-use Rattle.mq_spec_state.specs.Changes.{apply, apply_all}
-use Rattle.mq_spec_state.specs.Steps.{when, logged}
+use Rattle.mq_calls.specs.State.{Plain}
+use Rattle.mq_calls.specs.State.Change.{ChangeObjects, Renew, DropQueue, SwitchOn, MakeStale}
+use Rattle.mq_calls.specs.Reads.{puts_to, is_up}
+use Rattle.mq_calls.specs.Changes.{apply, apply_all}
+use Rattle.mq_calls.specs.Steps.{when, logged}
 use Rattle.mq_spec_manager.specs.Commands.{command, planned_step, uses_of, follows, renewed, renewed_if, stale_if, switched_if, dropped}
 use Rattle.mq_law_manager.specs.View.{View, view}
 use Rattle.mq_law_manager.specs.Facts.{Mem, Sound, Holds, AreDefined}

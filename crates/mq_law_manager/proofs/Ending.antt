@@ -5,15 +5,15 @@ use Rattle.mq_queue.specs.declared.row.Row.{Row}
 use Rattle.mq_calls.specs.declared.choices.Choice.{Choice}
 use Rattle.mq_calls.specs.declared.choices.Choice.TheVariants.{Runs, NoMemory, Stopped}
 use Rattle.mq_calls.specs.declared.records.LogRecord.{LogRecord}
-use Rattle.mq_spec_state.specs.State.{Plain, Noted, Given, LogState, Queue, Running}
-use Rattle.mq_spec_state.specs.State.Running.{Up, Down}
-use Rattle.mq_spec_state.specs.State.Which.{Nonpersistent}
-use Rattle.mq_spec_state.specs.State.Change.{Leave}
-use Rattle.mq_spec_state.specs.Changes.{apply, kept_in}
-use Rattle.mq_spec_state.specs.Images.{Image, begun, lasting, raised}
-use Rattle.mq_spec_state.specs.Recovery.{IsImage, AreKnown}
-use Rattle.mq_spec_state.specs.Steps.{Step, Part, logged, do_part, do_all, freeze, note_of, stopped_at, chosen, after}
-use Rattle.mq_spec_state.specs.Steps.Step.{Refuse, Do}
+use Rattle.mq_calls.specs.State.{Plain, Noted, Given, LogState, Queue, Running}
+use Rattle.mq_calls.specs.State.Running.{Up, Down}
+use Rattle.mq_calls.specs.State.Which.{Nonpersistent}
+use Rattle.mq_calls.specs.State.Change.{Leave}
+use Rattle.mq_calls.specs.Changes.{apply, kept_in}
+use Rattle.mq_calls.specs.Images.{Image, begun, lasting, raised}
+use Rattle.mq_calls.specs.Recovery.{IsImage, AreKnown}
+use Rattle.mq_calls.specs.Steps.{Step, Part, logged, do_part, do_all, freeze, note_of, stopped_at, chosen, after}
+use Rattle.mq_calls.specs.Steps.Step.{Refuse, Do}
 use Rattle.mq_spec_manager.specs.Stops.{stop, stop_at, stop_changes, restarted, grown, first_start, started_need}
 use Rattle.mq_law_manager.specs.View.{View, view, kept_all}
 use Rattle.mq_law_manager.specs.Facts.{Holds, AreStill, AreNamed, IsStocked, IsSound, IsFrozen}

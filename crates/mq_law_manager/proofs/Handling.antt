@@ -15,18 +15,18 @@ use Rattle.mq_resolve.specs.declared.route.Route.{Route}
 use Rattle.mq_resolve.specs.Resolved.{resolve}
 use Rattle.mq_calls.specs.declared.deltas.Why.TheVariants as whys
 use Rattle.mq_calls.specs.declared.records.LogRecord.{LogRecord}
-use Rattle.mq_spec_state.specs.State.{Plain}
-use Rattle.mq_spec_state.specs.State.Which.{Among}
-use Rattle.mq_spec_state.specs.State.Change.{Place as Places, Leave, Serve, CountIdent, Seize}
-use Rattle.mq_spec_state.specs.Reads.{stored, is_up, is_expired, free_rows, is_open_for_input, has_held_by_other}
-use Rattle.mq_spec_state.specs.Changes.{apply, apply_all}
-use Rattle.mq_spec_state.specs.Steps.{when, silent, logged, do_part}
-use Rattle.mq_spec_state.specs.Steps.Step.{Do}
+use Rattle.mq_calls.specs.State.{Plain}
+use Rattle.mq_calls.specs.State.Which.{Among}
+use Rattle.mq_calls.specs.State.Change.{Place as Places, Leave, Serve, CountIdent, Seize}
+use Rattle.mq_calls.specs.Reads.{stored, is_up, is_expired, free_rows, is_open_for_input, has_held_by_other}
+use Rattle.mq_calls.specs.Changes.{apply, apply_all}
+use Rattle.mq_calls.specs.Steps.{when, silent, logged, do_part}
+use Rattle.mq_calls.specs.Steps.Step.{Do}
 use Rattle.mq_spec_manager.specs.Handles.{is_transmission_queue}
 use Rattle.mq_calls.specs.declared.agents.SeizeFault.TheVariants as seize_faults
 use Rattle.mq_spec_manager.specs.Put.{placed, next_ident}
 use Rattle.mq_spec_manager.specs.Triggers.{trigger_turn, trigger_at, serve, serve_by, serve_into, put_trigger, takes_it, first_due, trigger_message}
-use Rattle.mq_spec_agents.specs.Words.{seize, leave, set_bound, channel_queue, expire, queue_of_sender, expired_rows, discard, move_row, move_found, move_resolved, move_part, moved_forced, Landing, landing, bare_if, route_tests, move_full, HasFreeRow, CanMove}
+use Rattle.mq_spec_manager.specs.Agents.{seize, leave, set_bound, channel_queue, expire, queue_of_sender, expired_rows, discard, move_row, move_found, move_resolved, move_part, moved_forced, Landing, landing, bare_if, route_tests, move_full, HasFreeRow, CanMove}
 use Rattle.mq_objects.specs.Names.{channel_of}
 use Rattle.mq_law_manager.specs.View.{View, view}
 use Rattle.mq_law_manager.specs.Facts.{Mem, Sound, Holds}

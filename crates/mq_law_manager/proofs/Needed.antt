@@ -5,8 +5,8 @@ use Rattle.mq_message.specs.declared.place.Holder.TheVariants as holders
 use Rattle.mq_queue.specs.declared.row.Row.{Row}
 use Rattle.mq_queue.specs.Queues.{Lacks}
 use Rattle.mq_calls.specs.declared.records.Add.{Add}
-use Rattle.mq_spec_state.specs.State.{Plain}
-use Rattle.mq_spec_state.specs.Reads.{stored, is_persistent}
+use Rattle.mq_calls.specs.State.{Plain}
+use Rattle.mq_calls.specs.Reads.{stored, is_persistent}
 use Rattle.mq_spec_manager.specs.Put.{next_ident}
 use Rattle.mq_law_manager.specs.View.{Taken, view}
 use Rattle.mq_law_manager.specs.Facts.{Mem, Sound, IsHeld}

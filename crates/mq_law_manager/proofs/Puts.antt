@@ -14,15 +14,15 @@ use Rattle.mq_calls.specs.declared.answers.Hobj.{Hobj}
 use Rattle.mq_calls.specs.declared.answers.Open.{Open}
 use Rattle.mq_calls.specs.declared.answers.Appl.{Appl}
 use Rattle.mq_calls.specs.declared.records.LogRecord.{LogRecord}
-use Rattle.mq_spec_state.specs.State.{Plain, Connection, Handle}
+use Rattle.mq_calls.specs.State.{Plain, Connection, Handle}
 use Rattle.mq_calls.specs.declared.state.Item.TheVariants.{Put}
-use Rattle.mq_spec_state.specs.State.Change.{CountIdent, Pend, OpenHandle, CloseHandle}
-use Rattle.mq_spec_state.specs.Reads.{connection_at, handle_at}
-use Rattle.mq_spec_state.specs.Changes.{apply, apply_all}
-use Rattle.mq_spec_state.specs.Steps.{Step, when, logged, do_part, going_on, none_of}
+use Rattle.mq_calls.specs.State.Change.{CountIdent, Pend, OpenHandle, CloseHandle}
+use Rattle.mq_calls.specs.Reads.{connection_at, handle_at}
+use Rattle.mq_calls.specs.Changes.{apply, apply_all}
+use Rattle.mq_calls.specs.Steps.{Step, when, logged, do_part, going_on, none_of}
 use Rattle.mq_spec_manager.specs.Handles.{connected, for_handle, mqconn, mqopen, mqclose, close_up, close_handle, new_connection, conn_tests, open_tests, open_step, option_tests, new_handle, is_unfit}
 use Rattle.mq_spec_manager.specs.Put.{mqput, mqput1, put_up, put_handle, put_route, put_part, put1_resolved, new_message, put_tests, put_step, queue_at, output_tests, handle_route, output_only, next_ident, placed, unit_record}
-use Rattle.mq_spec_agents.specs.Words.{is_unborn}
+use Rattle.mq_spec_manager.specs.Agents.{is_unborn}
 use Rattle.mq_law_manager.specs.View.{view}
 use Rattle.mq_law_manager.specs.Facts.{Sound, Holds}
 use Rattle.mq_law_manager.specs.Kept.{Keeps}

@@ -14,7 +14,7 @@ use Rattle.mq_queue.specs.declared.row.Row.{Row}
 use Rattle.mq_queue.specs.Rows.{same_ident, has_ident}
 use Rattle.mq_objects.specs.declared.object.LocalQueue.{LocalQueue}
 use Rattle.mq_objects.specs.Names.{local_of, channel_of, process_of, is_transmission}
-use Rattle.mq_spec_state.specs.Recovery.{routes}
+use Rattle.mq_calls.specs.Recovery.{routes}
 use Rattle.mq_resolve.specs.declared.route.Route.{Route}
 use Rattle.mq_resolve.specs.Resolved.{resolve}
 use Rattle.mq_sync.specs.declared.unit.Unit.{Unit as Luw}
@@ -22,22 +22,22 @@ use Rattle.mq_sync.specs.declared.data.InDoubt.{InDoubt}
 use Rattle.mq_sync.specs.declared.data.ReceiverData.{ReceiverData}
 use Rattle.mq_calls.specs.declared.records.Add.{Add}
 use Rattle.mq_calls.specs.declared.records.LogRecord.{LogRecord}
-use Rattle.mq_spec_state.specs.State.{Plain, Change, Connection, Item, Batch, LogState, Queue}
+use Rattle.mq_calls.specs.State.{Plain, Change, Connection, Item, Batch, LogState, Queue}
 use Rattle.mq_calls.specs.declared.state.Item.TheVariants.{Put, Take}
-use Rattle.mq_spec_state.specs.State.Which.{Among}
-use Rattle.mq_spec_state.specs.State.Change.{Try, Leave, SetReceiver, Undoubt, SetBound}
-use Rattle.mq_spec_state.specs.Reads.{stored, queue_in, connection_at, receiver_data, is_persistent, is_full, depth, has_priority}
-use Rattle.mq_spec_state.specs.Condition.{condition, by_type, is_served}
+use Rattle.mq_calls.specs.State.Which.{Among}
+use Rattle.mq_calls.specs.State.Change.{Try, Leave, SetReceiver, Undoubt, SetBound}
+use Rattle.mq_calls.specs.Reads.{stored, queue_in, connection_at, receiver_data, is_persistent, is_full, depth, has_priority}
+use Rattle.mq_calls.specs.Condition.{condition, by_type, is_served}
 use Rattle.mq_objects.specs.declared.object.TriggerType.{TriggerType}
 use Rattle.mq_objects.specs.declared.object.TriggerType.TheVariants as triggers
-use Rattle.mq_spec_state.specs.Changes.{apply, apply_all, try_if, less_ident}
-use Rattle.mq_spec_state.specs.Sizes.{need}
-use Rattle.mq_spec_state.specs.Steps.{Test, when, refusal, logged, written}
-use Rattle.mq_spec_state.specs.Steps.Step.{Do}
+use Rattle.mq_calls.specs.Changes.{apply, apply_all, try_if, less_ident}
+use Rattle.mq_calls.specs.Sizes.{need}
+use Rattle.mq_calls.specs.Steps.{Test, when, refusal, logged, written}
+use Rattle.mq_calls.specs.Steps.Step.{Do}
 use Rattle.mq_spec_manager.specs.Put.{placed, queue_at, max_depth, full_tests, placing_tests, inhibited_tests, length_tests, output_only}
 use Rattle.mq_spec_manager.specs.Handles.{is_unfit}
 use Rattle.mq_sync.specs.Settlement.{receiver_or}
-use Rattle.mq_spec_agents.specs.Words.{RowAt, row_found, row_of, doubts, is_doubted_by, Standing, Absent, InDoubtAt, Present, same_flag, standing_by, has_put, is_pending, is_unborn, standing_at, is_present, undoubted, drop_changes, Landing, route_tests, can_take_dead, dead_or, dead_letter, uses_dead, landing, land, land_resolved, land_tested, names_of, Landed, before, landed_by, landed_unless, landed, land_changes, received_record, received_part, receive, receive_landed}
+use Rattle.mq_spec_manager.specs.Agents.{RowAt, row_found, row_of, doubts, is_doubted_by, Standing, Absent, InDoubtAt, Present, same_flag, standing_by, has_put, is_pending, is_unborn, standing_at, is_present, undoubted, drop_changes, Landing, route_tests, can_take_dead, dead_or, dead_letter, uses_dead, landing, land, land_resolved, land_tested, names_of, Landed, before, landed_by, landed_unless, landed, land_changes, received_record, received_part, receive, receive_landed}
 use Rattle.mq_law_manager.specs.View.{View, view, puts_in, items_of}
 use Rattle.mq_law_manager.specs.Facts.{Mem, ident_of, IsOf, Sound, Holds, AreNamed, IsFit}
 use Rattle.mq_law_manager.specs.Seen.{goes_if}

@@ -17,13 +17,13 @@ use Rattle.mq_calls.specs.declared.answers.Take.TheVariants as takes
 use Rattle.mq_calls.specs.declared.deltas.Why.{Why}
 use Rattle.mq_calls.specs.declared.deltas.Why.TheVariants as whys
 use Rattle.mq_calls.specs.declared.records.LogRecord.{LogRecord}
-use Rattle.mq_spec_state.specs.State.{Plain, Change, Connection, Handle}
+use Rattle.mq_calls.specs.State.{Plain, Change, Connection, Handle}
 use Rattle.mq_calls.specs.declared.state.Item.TheVariants.{Take as Taken}
-use Rattle.mq_spec_state.specs.State.Which.{Among}
-use Rattle.mq_spec_state.specs.State.Change.{Leave, Hold, Pend, SetCursor}
-use Rattle.mq_spec_state.specs.Reads.{connection_at, handle_at, is_persistent, is_expired}
-use Rattle.mq_spec_state.specs.Changes.{apply, apply_all, selects}
-use Rattle.mq_spec_state.specs.Steps.{Part, logged, do_part, do_all, silent}
+use Rattle.mq_calls.specs.State.Which.{Among}
+use Rattle.mq_calls.specs.State.Change.{Leave, Hold, Pend, SetCursor}
+use Rattle.mq_calls.specs.Reads.{connection_at, handle_at, is_persistent, is_expired}
+use Rattle.mq_calls.specs.Changes.{apply, apply_all, selects}
+use Rattle.mq_calls.specs.Steps.{Part, logged, do_part, do_all, silent}
 use Rattle.mq_spec_manager.specs.Handles.{connected}
 use Rattle.mq_spec_manager.specs.Put.{queue_at}
 use Rattle.mq_spec_manager.specs.Get.{mqget, get_up, get_handle, get_scanned, get_found, get_tests, with_row, without_row, found_part, taking_part, removal_part, removal_parts, removal_record, persistent_rows, expired_parts, idents_of, is_destructive, scanned, scan, scan_row, Scan, looked_at, is_left, is_waiting, is_under, room_tests, asked, is_at}

@@ -23,12 +23,12 @@ use Rattle.mq_resolve.specs.declared.route.PathStep.{PathStep}
 use Rattle.mq_sync.specs.declared.data.InDoubt.{InDoubt}
 use Rattle.mq_calls.specs.declared.records.Add.{Add}
 use Rattle.mq_calls.specs.declared.state.Item.TheVariants.{Put, Take}
-use Rattle.mq_spec_state.specs.State.{Plain, Change, Connection, Handle, SenderSide}
-use Rattle.mq_spec_state.specs.State.Change.{Place as Places, Try, Leave, Hold, Release, Connect, Disconnect, OpenHandle, CloseHandle, SetCursor, Pend, EndUnit, MakeStale, CountIdent, Renew, DropQueue, SetSender, Undoubt, SetBound, ForgetAll}
-use Rattle.mq_spec_state.specs.Condition.{condition}
-use Rattle.mq_spec_state.specs.Reads.{has_step, is_persistent, sender_in}
-use Rattle.mq_spec_state.specs.Changes.{apply, try_if, selects, retag_if, release_if, set_named, set_sender, less_ident, off_list, off_lists, change_connection, change_handle, stale_if, made_stale, comes_before}
-use Rattle.mq_spec_agents.specs.Words.{is_unborn}
+use Rattle.mq_calls.specs.State.{Plain, Change, Connection, Handle, SenderSide}
+use Rattle.mq_calls.specs.State.Change.{Place as Places, Try, Leave, Hold, Release, Connect, Disconnect, OpenHandle, CloseHandle, SetCursor, Pend, EndUnit, MakeStale, CountIdent, Renew, DropQueue, SetSender, Undoubt, SetBound, ForgetAll}
+use Rattle.mq_calls.specs.Condition.{condition}
+use Rattle.mq_calls.specs.Reads.{has_step, is_persistent, sender_in}
+use Rattle.mq_calls.specs.Changes.{apply, try_if, selects, retag_if, release_if, set_named, set_sender, less_ident, off_list, off_lists, change_connection, change_handle, stale_if, made_stale, comes_before}
+use Rattle.mq_spec_manager.specs.Agents.{is_unborn}
 use Rattle.mq_law_manager.specs.View.{View, view, at_name, at_number}
 use Rattle.mq_law_manager.specs.Facts.{Mem, IsRoutedOn, IsFormed, IsLed, listed, IsUnlisted, AreSorted, IsRouted}
 use Rattle.mq_law_manager.specs.Seen.{seen, goes_if, held_if, freed_if, row_for}

@@ -8,12 +8,12 @@ use Rattle.mq_queue.specs.Rows.{keep, retag}
 use Rattle.mq_objects.specs.Names.{local_of}
 use Rattle.mq_calls.specs.declared.records.Add.{Add}
 use Rattle.mq_sync.specs.declared.data.SenderData.{SenderData}
-use Rattle.mq_spec_state.specs.State.{Plain, Change, Queue, Connection, Item, fresh_queue}
+use Rattle.mq_calls.specs.State.{Plain, Change, Queue, Connection, Item, fresh_queue}
 use Rattle.mq_calls.specs.declared.state.Item.TheVariants.{Put, Take}
-use Rattle.mq_spec_state.specs.State.Change.{Place as Places, Try, Leave, Hold, Release, Connect, Disconnect, OpenHandle, CloseHandle, SetCursor, Pend, EndUnit, MakeStale, CountIdent, ChangeObjects, Renew, DropQueue, SwitchOn, Serve, SetSender, SetReceiver, Undoubt, Seize, Unseize, AddBatch, DropBatch, SetBound, SetMoment, ForgetAll}
-use Rattle.mq_spec_state.specs.Reads.{stored, queue_in, connection_at, sender_in, in_doubt_of}
-use Rattle.mq_spec_state.specs.Condition.{condition}
-use Rattle.mq_spec_state.specs.Changes.{apply, with_queue, placed_in, lane_of, kept_in, held_in, released_in, made_due, depth_type, try_if, forgotten, change_connection, with_connection, made_stale}
+use Rattle.mq_calls.specs.State.Change.{Place as Places, Try, Leave, Hold, Release, Connect, Disconnect, OpenHandle, CloseHandle, SetCursor, Pend, EndUnit, MakeStale, CountIdent, ChangeObjects, Renew, DropQueue, SwitchOn, Serve, SetSender, SetReceiver, Undoubt, Seize, Unseize, AddBatch, DropBatch, SetBound, SetMoment, ForgetAll}
+use Rattle.mq_calls.specs.Reads.{stored, queue_in, connection_at, sender_in, in_doubt_of}
+use Rattle.mq_calls.specs.Condition.{condition}
+use Rattle.mq_calls.specs.Changes.{apply, with_queue, placed_in, lane_of, kept_in, held_in, released_in, made_due, depth_type, try_if, forgotten, change_connection, with_connection, made_stale}
 use Rattle.mq_law_manager.specs.View.{View, Taken, view, at_name, at_number, puts_in, takes_in, items_of}
 use Rattle.mq_law_manager.specs.Seen.{AsksNothing, seen, goes_if, held_if, freed_if}
 use Rattle.mq_law_manager.proofs.Lists.{bool_case, eqb_yes}

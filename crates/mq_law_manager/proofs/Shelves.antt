@@ -6,14 +6,14 @@ use Rattle.mq_queue.specs.declared.row.Row.{Row}
 use Rattle.mq_objects.specs.declared.object.Definitions.{Definitions}
 use Rattle.mq_objects.specs.Names.{local_of}
 use Rattle.mq_calls.specs.declared.records.Add.{Add}
-use Rattle.mq_spec_state.specs.State.{Plain, Change, Queue, fresh_queue}
-use Rattle.mq_spec_state.specs.Steps.{Part, do_part, logged}
+use Rattle.mq_calls.specs.State.{Plain, Change, Queue, fresh_queue}
+use Rattle.mq_calls.specs.Steps.{Part, do_part, logged}
 use Rattle.mq_calls.specs.declared.records.LogRecord.{LogRecord}
 use Rattle.mq_calls.specs.declared.state.Item.TheVariants.{Put, Take}
-use Rattle.mq_spec_state.specs.State.Change.{Place as Places, Try, Leave, Hold, Release, SwitchOn, Serve, Connect, Pend, ChangeObjects, Renew, DropQueue, SetBound, ForgetAll}
-use Rattle.mq_spec_state.specs.Condition.{condition}
-use Rattle.mq_spec_state.specs.Reads.{stored}
-use Rattle.mq_spec_state.specs.Changes.{apply, apply_all, try_if, set_queue, placed_in, lane_of, made_due, depth_type, kept_in, held_in, released_in, forgotten}
+use Rattle.mq_calls.specs.State.Change.{Place as Places, Try, Leave, Hold, Release, SwitchOn, Serve, Connect, Pend, ChangeObjects, Renew, DropQueue, SetBound, ForgetAll}
+use Rattle.mq_calls.specs.Condition.{condition}
+use Rattle.mq_calls.specs.Reads.{stored}
+use Rattle.mq_calls.specs.Changes.{apply, apply_all, try_if, set_queue, placed_in, lane_of, made_due, depth_type, kept_in, held_in, released_in, forgotten}
 use Rattle.mq_law_manager.specs.View.{View, view, at_name}
 use Rattle.mq_law_manager.specs.Facts.{Mem, AreOnce, IsStocked, has_queue}
 use Rattle.mq_law_manager.specs.Seen.{seen, goes_if, held_if, freed_if, row_for}

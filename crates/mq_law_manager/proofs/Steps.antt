@@ -10,11 +10,11 @@ use Rattle.mq_queue.specs.declared.row.Row.{Row}
 use Rattle.mq_queue.specs.Rows.{is_free, same_ident}
 use Rattle.mq_queue.proofs.QueueLaws.{KeepsPlaces}
 use Rattle.mq_calls.specs.declared.records.Add.{Add}
-use Rattle.mq_spec_state.specs.State.{Which, Batch}
+use Rattle.mq_calls.specs.State.{Which, Batch}
 use Rattle.mq_calls.specs.declared.state.Item.TheVariants.{Put, Take}
-use Rattle.mq_spec_state.specs.State.Which.{Among}
-use Rattle.mq_spec_state.specs.Reads.{is_persistent}
-use Rattle.mq_spec_state.specs.Changes.{selects, retag_if, release_if}
+use Rattle.mq_calls.specs.State.Which.{Among}
+use Rattle.mq_calls.specs.Reads.{is_persistent}
+use Rattle.mq_calls.specs.Changes.{selects, retag_if, release_if}
 use Rattle.mq_law_manager.specs.View.{View, Taken, at_name, at_number, kept_all, retagged_all}
 use Rattle.mq_law_manager.specs.Facts.{Mem, Differ, put_ident, Holds, AreTaken, AreApart, AreBatched}
 use Rattle.mq_law_manager.specs.Seen.{goes_if, held_if, freed_if, with_rows, place_in, empty_in, pend_in, with_unit}

@@ -44,13 +44,13 @@ use Rattle.mq_queue.specs.declared.row.Row.{Row}
 use Rattle.mq_queue.specs.Lanes.{lane_at}
 use Rattle.mq_objects.specs.declared.object.Usage.{Usage}
 use Rattle.mq_objects.specs.declared.object.Delivery.{Delivery}
-use Rattle.mq_spec_state.specs.State.{Plain, Connection, Handle, Queue, LogState, fresh_queue}
-use Rattle.mq_spec_state.specs.State.Change.{MakeStale, ChangeObjects, Renew, DropQueue}
-use Rattle.mq_spec_state.specs.Reads.{connection_at, is_up, has_rows, puts_to, is_put_to, has_step, any_handle, on_path}
-use Rattle.mq_spec_state.specs.Changes.{apply, apply_all, set_queue, made_stale, stale_if as handle_stale}
-use Rattle.mq_spec_state.specs.Recovery.{routes}
+use Rattle.mq_calls.specs.State.{Plain, Connection, Handle, Queue, LogState, fresh_queue}
+use Rattle.mq_calls.specs.State.Change.{MakeStale, ChangeObjects, Renew, DropQueue}
+use Rattle.mq_calls.specs.Reads.{connection_at, is_up, has_rows, puts_to, is_put_to, has_step, any_handle, on_path}
+use Rattle.mq_calls.specs.Changes.{apply, apply_all, set_queue, made_stale, stale_if as handle_stale}
+use Rattle.mq_calls.specs.Recovery.{routes}
 use Rattle.mq_spec_manager.specs.Put.{queue_at, dest_at}
-use Rattle.mq_spec_state.specs.Steps.{when, written}
+use Rattle.mq_calls.specs.Steps.{when, written}
 use Rattle.mq_spec_manager.specs.Commands.{command, planned_step, uses_of, follows, renewed, renewed_if, stale_if, switched_if, dropped}
 use Rattle.mq_law_manager.specs.View.{View, view, puts_in, items_of}
 use Rattle.mq_law_manager.specs.Facts.{Mem, IsStocked, AreOnce, is_local, has_queue, IsRoutedOn, IsFormed, IsLed, IsRouted}

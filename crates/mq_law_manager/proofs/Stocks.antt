@@ -38,28 +38,28 @@ use Rattle.mq_calls.specs.declared.records.Add.{Add}
 use Rattle.mq_calls.specs.declared.records.LogRecord.{LogRecord}
 use Rattle.mq_calls.specs.declared.state.Item.{Item}
 use Rattle.mq_calls.specs.declared.state.Item.TheVariants.{Put, Take}
-use Rattle.mq_spec_state.specs.State.{Plain, Change, Connection, Handle, Batch, SenderSide, Running, LogState}
-use Rattle.mq_spec_state.specs.State.Running.{Up, Down}
-use Rattle.mq_spec_state.specs.State.Change.{Place as Places, Connect, OpenHandle, CloseHandle, SetCursor, Undoubt, EndUnit, Disconnect, Hold, Leave, Release, SetSender, SetReceiver, Seize, Unseize, SetBound, AddBatch, DropBatch, ForgetAll}
-use Rattle.mq_spec_state.specs.State.Which.{Among, HeldBy, HeldByUnits, Nonpersistent}
+use Rattle.mq_calls.specs.State.{Plain, Change, Connection, Handle, Batch, SenderSide, Running, LogState}
+use Rattle.mq_calls.specs.State.Running.{Up, Down}
+use Rattle.mq_calls.specs.State.Change.{Place as Places, Connect, OpenHandle, CloseHandle, SetCursor, Undoubt, EndUnit, Disconnect, Hold, Leave, Release, SetSender, SetReceiver, Seize, Unseize, SetBound, AddBatch, DropBatch, ForgetAll}
+use Rattle.mq_calls.specs.State.Which.{Among, HeldBy, HeldByUnits, Nonpersistent}
 use Rattle.mq_message.specs.declared.place.Holder.TheVariants as holders
 use Rattle.mq_sync.specs.declared.data.SenderData.{SenderData}
-use Rattle.mq_spec_state.specs.Reads.{free_rows, sender_in, sender_data, connection_at, handle_at, stored, depth, is_int, is_up, is_full, is_open_for_input, has_held_by_other, batch_of, in_doubt_of, receiver_data, is_persistent, is_by_unit}
-use Rattle.mq_spec_state.specs.Condition.{condition}
-use Rattle.mq_spec_state.specs.Changes.{apply, apply_all, selects, release_if, less_ident, off_list, off_lists}
-use Rattle.mq_spec_state.specs.Sizes.{need}
-use Rattle.mq_spec_state.specs.Steps.{Step, Part, Test, when, tested, refused_or, refusal, going_on, passed, none_of, silent, logged, written, do_part, do_all}
-use Rattle.mq_spec_state.specs.Steps.Step.{Do}
+use Rattle.mq_calls.specs.Reads.{free_rows, sender_in, sender_data, connection_at, handle_at, stored, depth, is_int, is_up, is_full, is_open_for_input, has_held_by_other, batch_of, in_doubt_of, receiver_data, is_persistent, is_by_unit}
+use Rattle.mq_calls.specs.Condition.{condition}
+use Rattle.mq_calls.specs.Changes.{apply, apply_all, selects, release_if, less_ident, off_list, off_lists}
+use Rattle.mq_calls.specs.Sizes.{need}
+use Rattle.mq_calls.specs.Steps.{Step, Part, Test, when, tested, refused_or, refusal, going_on, passed, none_of, silent, logged, written, do_part, do_all}
+use Rattle.mq_calls.specs.Steps.Step.{Do}
 use Rattle.mq_spec_manager.specs.Handles.{new_connection, new_handle, connected, for_connection, for_handle, mqconn, mqopen, mqclose, close_up, close_handle, conn_tests, open_tests, open_step, option_tests, is_unfit, is_in_use, is_transmission_queue}
 use Rattle.mq_spec_manager.specs.Put.{mqput, mqput1, put_up, put_handle, put_route, put_part, put1_resolved, new_message, put_tests, put_step, queue_at, dest_at, next_ident, output_tests, handle_route, output_only, placed, unit_record, inhibited_tests, length_tests, full_tests, placing_tests, sync_full, log_full, is_bad_expiry, is_blank}
 use Rattle.mq_spec_manager.specs.Get.{idents_of, mqget, get_up, get_handle, get_scanned, get_found, get_tests, room_tests, scanned, with_row, without_row, is_waiting, is_under, is_left, is_destructive, found_part, taking_part, removal_part, removal_parts, expired_parts}
 use Rattle.mq_spec_manager.specs.Units.{taken_item, freed_item, placed_item, commit_changes, commit_part, backout_part, mqcmit, mqback, mqdisc}
 use Rattle.mq_spec_manager.specs.Triggers.{trigger_turn, trigger_at, serve, serve_by, serve_into, put_trigger, takes_it, first_due, route_to}
 use Rattle.mq_spec_manager.specs.Stops.{stop, stop_at, stop_changes, release_batch as batch_release}
-use Rattle.mq_spec_agents.specs.Words.{seize, leave, set_bound, channel_queue, expire, expired_rows, queue_of_sender, hold_batch, release_batch, release_of, prepare, prepare_of, prepared_record, prepared_doubt, harden, harden_part, discard, move_row, move_found, move_resolved, move_part, moved_forced, Landing, landing, bare_if, route_tests, move_full, Standing, Absent, InDoubtAt, Present, standing_at, is_present, drop_changes, undoubted, is_unborn, CanMove, land, land_changes, Landed, before, landed_by, landed_unless, landed, received_record, received_part, receive, receive_landed}
+use Rattle.mq_spec_manager.specs.Agents.{seize, leave, set_bound, channel_queue, expire, expired_rows, queue_of_sender, hold_batch, release_batch, release_of, prepare, prepare_of, prepared_record, prepared_doubt, harden, harden_part, discard, move_row, move_found, move_resolved, move_part, moved_forced, Landing, landing, bare_if, route_tests, move_full, Standing, Absent, InDoubtAt, Present, standing_at, is_present, drop_changes, undoubted, is_unborn, CanMove, land, land_changes, Landed, before, landed_by, landed_unless, landed, received_record, received_part, receive, receive_landed}
 use Rattle.mq_law_manager.specs.View.{View, Taken, view, puts_in, takes_in, items_of}
 use Rattle.mq_law_manager.specs.Seen.{freed_if}
-use Rattle.mq_spec_state.specs.Recovery.{routes}
+use Rattle.mq_calls.specs.Recovery.{routes}
 use Rattle.std.specs.Str.{bytes_eq}
 use Rattle.mq_law_manager.specs.Facts.{Mem, Sound, IsStocked, IsFit, IsUnlisted, AreSorted, listed}
 use Rattle.mq_law_manager.specs.Kept.{Releases, IsListable, AllAsk, PartsAsk, StepKeeps}

@@ -10,15 +10,15 @@ use Rattle.mq_queue.specs.declared.row.Row.{Row}
 use Rattle.mq_queue.specs.Rows.{same_ident, is_free}
 use Rattle.mq_sync.specs.declared.unit.Unit.{Unit as Luw}
 use Rattle.mq_calls.specs.declared.records.Add.{Add}
-use Rattle.mq_spec_state.specs.State.{Plain, Change, Batch, Which, Running}
-use Rattle.mq_spec_state.specs.State.Which.{Among, HeldBy, HeldByUnits, Nonpersistent}
-use Rattle.mq_spec_state.specs.State.Change.{Hold, Leave, Release, AddBatch, ForgetAll}
-use Rattle.mq_spec_state.specs.State.Running.{Up, Down}
-use Rattle.mq_spec_state.specs.Reads.{batch_of, free_rows, is_by_unit}
-use Rattle.mq_spec_state.specs.Changes.{apply, apply_all, selects, retag_if, release_if}
+use Rattle.mq_calls.specs.State.{Plain, Change, Batch, Which, Running}
+use Rattle.mq_calls.specs.State.Which.{Among, HeldBy, HeldByUnits, Nonpersistent}
+use Rattle.mq_calls.specs.State.Change.{Hold, Leave, Release, AddBatch, ForgetAll}
+use Rattle.mq_calls.specs.State.Running.{Up, Down}
+use Rattle.mq_calls.specs.Reads.{batch_of, free_rows, is_by_unit}
+use Rattle.mq_calls.specs.Changes.{apply, apply_all, selects, retag_if, release_if}
 use Rattle.mq_spec_manager.specs.Get.{idents_of}
 use Rattle.mq_spec_manager.specs.Stops.{at_rest, stop, stop_at, release_batch}
-use Rattle.mq_spec_agents.specs.Words.{hold_batch, queue_of_sender, CanHold}
+use Rattle.mq_spec_manager.specs.Agents.{hold_batch, queue_of_sender, CanHold}
 use Rattle.mq_law_manager.specs.View.{View, Taken, view, at_name, retagged_all}
 use Rattle.mq_law_manager.specs.Facts.{Mem, Sound, Holds}
 use Rattle.mq_law_manager.specs.Seen.{goes_if, held_if, freed_if, add_in}

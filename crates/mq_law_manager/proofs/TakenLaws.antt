@@ -6,7 +6,7 @@ use Rattle.mq_message.specs.declared.place.Holder.{Holder}
 use Rattle.mq_message.specs.declared.place.Holder.TheVariants as holders
 use Rattle.mq_queue.specs.declared.row.Row.{Row}
 use Rattle.mq_calls.specs.declared.records.Add.{Add}
-use Rattle.mq_spec_state.specs.Reads.{is_persistent}
+use Rattle.mq_calls.specs.Reads.{is_persistent}
 use Rattle.mq_law_manager.specs.View.{Taken, at_number, inserted, kept_all, retagged_all}
 use Rattle.mq_law_manager.specs.Facts.{Mem, Differ, ident_of, taken_ident, AreApart, AreTaken}
 use Rattle.mq_law_manager.proofs.Lists.{bool_case, eqb_yes, eqb_self, mem_keep, mem_kept, mem_retag, mem_retagged, mem_append, mem_before, mem_behind, mem_inserted_at, mem_inserted_old, differ_push, one_row, is_it, it_is, not_it}

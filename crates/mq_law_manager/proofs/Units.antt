@@ -6,13 +6,13 @@ use Rattle.mq_message.specs.declared.message.Message.{Message}
 use Rattle.mq_calls.specs.declared.answers.Hconn.{Hconn}
 use Rattle.mq_calls.specs.declared.records.Add.{Add}
 use Rattle.mq_calls.specs.declared.records.LogRecord.{LogRecord}
-use Rattle.mq_spec_state.specs.State.{Plain, Change, Connection, Item}
+use Rattle.mq_calls.specs.State.{Plain, Change, Connection, Item}
 use Rattle.mq_calls.specs.declared.state.Item.TheVariants.{Put, Take}
-use Rattle.mq_spec_state.specs.State.Which.{Among}
-use Rattle.mq_spec_state.specs.State.Change.{Place as Places, Try, Leave, Release, EndUnit, Disconnect}
-use Rattle.mq_spec_state.specs.Reads.{connection_at}
-use Rattle.mq_spec_state.specs.Changes.{apply, apply_all}
-use Rattle.mq_spec_state.specs.Steps.{Step, Test, tested, refusal, refused_or, logged, do_part}
+use Rattle.mq_calls.specs.State.Which.{Among}
+use Rattle.mq_calls.specs.State.Change.{Place as Places, Try, Leave, Release, EndUnit, Disconnect}
+use Rattle.mq_calls.specs.Reads.{connection_at}
+use Rattle.mq_calls.specs.Changes.{apply, apply_all}
+use Rattle.mq_calls.specs.Steps.{Step, Test, tested, refusal, refused_or, logged, do_part}
 use Rattle.mq_spec_manager.specs.Handles.{connected, for_connection, live_or, is_other, is_present}
 use Rattle.mq_codes.specs.declared.reason.Reason.TheVariants as reasons
 use Rattle.mq_spec_manager.specs.Put.{placed}

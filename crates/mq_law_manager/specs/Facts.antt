@@ -16,10 +16,10 @@ use Rattle.mq_message.specs.declared.message.Message.{Message}
 use Rattle.mq_objects.specs.declared.object.LocalQueue.{LocalQueue}
 use Rattle.mq_objects.specs.declared.object.Definitions.{Definitions}
 use Rattle.mq_resolve.specs.declared.route.PathStep.TheVariants as steps
-use Rattle.mq_spec_state.specs.State.{Plain, Batch, Queue, Connection, Handle, SenderSide}
-use Rattle.mq_spec_state.specs.Reads.{is_persistent, has_step}
-use Rattle.mq_spec_state.specs.Changes.{lane_of, comes_before}
-pub use Rattle.mq_spec_state.specs.Recovery.{routes, listed}
+use Rattle.mq_calls.specs.State.{Plain, Batch, Queue, Connection, Handle, SenderSide}
+use Rattle.mq_calls.specs.Reads.{is_persistent, has_step}
+use Rattle.mq_calls.specs.Changes.{lane_of, comes_before}
+pub use Rattle.mq_calls.specs.Recovery.{routes, listed}
 use Rattle.mq_spec_manager.specs.Put.{queue_at, dest_at}
 use Rattle.mq_law_manager.specs.View.{View, Taken, view}
 

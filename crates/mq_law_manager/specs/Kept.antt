@@ -1,16 +1,16 @@
 -- A call keeps what holds of a manager's rows: behind each of its parts. (So it holds where a later write is stopped, too.)
 use Rattle.std.specs.Prelude.{ℕ, ◌≡◌, ◌≢◌, true, false, List, [], ◌∷◌, Some}
 use Rattle.mq_objects.specs.Names.{local_of}
-use Rattle.mq_spec_state.specs.State.{Plain, Change, Connection, Which, SenderSide}
+use Rattle.mq_calls.specs.State.{Plain, Change, Connection, Which, SenderSide}
 use Rattle.mq_message.specs.declared.message.Ident.{Ident}
 use Rattle.mq_message.specs.declared.place.Holder.TheVariants as holders
 use Rattle.mq_queue.specs.declared.row.Row.{Row}
-use Rattle.mq_spec_state.specs.State.Change.{Place as Places, Release, Pend, Connect, OpenHandle, ChangeObjects, DropQueue, SetSender}
-use Rattle.mq_spec_state.specs.Reads.{connection_at, is_persistent}
-use Rattle.mq_spec_state.specs.Changes.{apply, selects}
+use Rattle.mq_calls.specs.State.Change.{Place as Places, Release, Pend, Connect, OpenHandle, ChangeObjects, DropQueue, SetSender}
+use Rattle.mq_calls.specs.Reads.{connection_at, is_persistent}
+use Rattle.mq_calls.specs.Changes.{apply, selects}
 use Rattle.mq_calls.specs.declared.state.Item.TheVariants.{Put, Take}
-use Rattle.mq_spec_state.specs.Steps.{Step, Part, do_part, logged}
-use Rattle.mq_spec_state.specs.Steps.Step.{Refuse, Do}
+use Rattle.mq_calls.specs.Steps.{Step, Part, do_part, logged}
+use Rattle.mq_calls.specs.Steps.Step.{Refuse, Do}
 use Rattle.mq_calls.specs.declared.records.Add.{Add}
 use Rattle.mq_law_manager.specs.View.{view}
 use Rattle.mq_law_manager.specs.Facts.{Mem, Sound, IsSound, IsFrozen, IsFit, IsLed, IsUnlisted, listed}

@@ -27,19 +27,19 @@ use Rattle.mq_history.specs.declared.calls.Call.TheVariants as calls
 use Rattle.mq_history.specs.declared.calls.Reply.{Reply}
 use Rattle.mq_history.specs.declared.calls.Reply.TheVariants as replies
 use Rattle.mq_history.specs.declared.acts.Acted.TheVariants as acted
-use Rattle.mq_spec_state.specs.State.{Plain, Running}
-use Rattle.mq_spec_state.specs.State.Running.{Up, Down}
-use Rattle.mq_spec_state.specs.Reads.{is_up}
-use Rattle.mq_spec_state.specs.Steps.{Step, Part, when}
-use Rattle.mq_spec_state.specs.Steps.Step.{Refuse, Do}
+use Rattle.mq_calls.specs.State.{Plain, Running}
+use Rattle.mq_calls.specs.State.Running.{Up, Down}
+use Rattle.mq_calls.specs.Reads.{is_up}
+use Rattle.mq_calls.specs.Steps.{Step, Part, when}
+use Rattle.mq_calls.specs.Steps.Step.{Refuse, Do}
 use Rattle.mq_spec_manager.specs.Handles.{mqconn, mqopen, mqclose}
 use Rattle.mq_spec_manager.specs.Put.{mqput, mqput1}
 use Rattle.mq_spec_manager.specs.Get.{mqget}
 use Rattle.mq_spec_manager.specs.Units.{mqcmit, mqback, mqdisc}
 use Rattle.mq_spec_manager.specs.Commands.{command, planned_step, uses_of}
 use Rattle.mq_spec_manager.specs.Triggers.{first_due, trigger_turn}
-use Rattle.mq_spec_agents.specs.Words.{move_row, row_with, discard}
-use Rattle.mq_spec_state.specs.Reads.{stored}
+use Rattle.mq_spec_manager.specs.Agents.{move_row, row_with, discard}
+use Rattle.mq_calls.specs.Reads.{stored}
 use Rattle.mq_spec_node.specs.Node.{Node, Own, Handler, handler_in}
 use Rattle.mq_spec_node.specs.Deeds.{Deed, told, parts_of, mqi_deed, ended_deed}
 use Rattle.mq_spec_node.specs.Handlers as handlers
@@ -52,8 +52,8 @@ use Rattle.mq_frame.specs.declared.frame.Frame.{Frame}
 use Rattle.mq_sync.specs.declared.data.SenderData.{SenderData}
 use Rattle.mq_sync.specs.declared.data.ReceiverData.{ReceiverData}
 use Rattle.mq_sender.specs.Table.{is_sending}
-use Rattle.mq_spec_state.specs.Reads.{sender_data, receiver_data}
-use Rattle.mq_spec_state.specs.Steps.{do_all}
+use Rattle.mq_calls.specs.Reads.{sender_data, receiver_data}
+use Rattle.mq_calls.specs.Steps.{do_all}
 use Rattle.mq_sync.specs.Settlement.{sender_or, receiver_or}
 use Rattle.mq_spec_node.specs.Node.{end_in}
 use Rattle.mq_law_channel.specs.Channel.{Channel, Past}

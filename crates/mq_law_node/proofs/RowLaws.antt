@@ -5,11 +5,11 @@ use Rattle.std.specs.Str.{bytes_eq}
 use Rattle.mq_queue.specs.declared.row.Row.{Row}
 use Rattle.mq_queue.specs.Rows.{keep, retag, is_free}
 use Rattle.mq_objects.specs.Names.{local_of}
-use Rattle.mq_spec_state.specs.State.{Plain, Queue, Change, fresh_queue}
-use Rattle.mq_spec_state.specs.State.Change.{Place as Places, Try, Leave, Hold, Release, Renew, DropQueue, SwitchOn, Serve, SetBound, ForgetAll}
-use Rattle.mq_spec_state.specs.Reads.{queue_in, stored}
-use Rattle.mq_spec_state.specs.Condition.{condition}
-use Rattle.mq_spec_state.specs.Changes.{apply, set_queue, lane_of, placed_in, kept_in, held_in, released_in, selects, retag_if, release_if, try_if, made_due, depth_type, forgotten}
+use Rattle.mq_calls.specs.State.{Plain, Queue, Change, fresh_queue}
+use Rattle.mq_calls.specs.State.Change.{Place as Places, Try, Leave, Hold, Release, Renew, DropQueue, SwitchOn, Serve, SetBound, ForgetAll}
+use Rattle.mq_calls.specs.Reads.{queue_in, stored}
+use Rattle.mq_calls.specs.Condition.{condition}
+use Rattle.mq_calls.specs.Changes.{apply, set_queue, lane_of, placed_in, kept_in, held_in, released_in, selects, retag_if, release_if, try_if, made_due, depth_type, forgotten}
 use Rattle.mq_law_node.specs.Rows.{RowKind, Same, Placed, Emptied, row_kind, rows_do, rows_at}
 use Rattle.mq_law_node.proofs.Named.{bool_case, name_is, set_here, set_behind, queue_set}
 use Rattle.mq_law_node.proofs.Batches.{queue_mapped}

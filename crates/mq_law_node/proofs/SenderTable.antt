@@ -22,15 +22,15 @@ use Rattle.mq_sender.specs.declared.turns.SenderOut.TheVariants as outs
 use Rattle.mq_sender.specs.States.{unit_begun}
 use Rattle.mq_sender.specs.Table.{is_sending, messages_sent, sender_next}
 use Rattle.mq_sender.specs.After.{sender_after, number_sent}
-use Rattle.mq_spec_state.specs.State.{Plain, Queue, Batch}
-use Rattle.mq_spec_state.specs.State.Which.{Among}
-use Rattle.mq_spec_state.specs.Reads.{is_up, stored, free_rows, batch_of, sender_data, is_full}
-use Rattle.mq_spec_state.specs.Changes.{retag_if, selects}
-use Rattle.mq_spec_state.specs.Sizes.{need}
-use Rattle.mq_spec_state.specs.Steps.{Step, do_all}
+use Rattle.mq_calls.specs.State.{Plain, Queue, Batch}
+use Rattle.mq_calls.specs.State.Which.{Among}
+use Rattle.mq_calls.specs.Reads.{is_up, stored, free_rows, batch_of, sender_data, is_full}
+use Rattle.mq_calls.specs.Changes.{retag_if, selects}
+use Rattle.mq_calls.specs.Sizes.{need}
+use Rattle.mq_calls.specs.Steps.{Step, do_all}
 use Rattle.mq_spec_manager.specs.Get.{idents_of}
 use Rattle.mq_sync.specs.Settlement.{sender_or}
-use Rattle.mq_spec_agents.specs.Words.{queue_of_sender, hold_batch, batch_row, batch_idents, batch_queue, row_with, stock, prepare_of, prepared_record, release_of, leave}
+use Rattle.mq_spec_manager.specs.Agents.{queue_of_sender, hold_batch, batch_row, batch_idents, batch_queue, row_with, stock, prepare_of, prepared_record, release_of, leave}
 use Rattle.mq_spec_node.specs.Node.{Node}
 use Rattle.mq_spec_node.specs.Deeds.{parts_of}
 use Rattle.mq_spec_node.specs.Senders.{sender_deed_by, sender_deed, prepare_deed}
@@ -39,10 +39,10 @@ use Rattle.mq_law_channel.specs.Channel.{Channel}
 use Rattle.mq_law_channel.specs.Turns.{SenderTurn, SenderMay, SeenIn, sender_done, sender_turned, sender_turn, letter_offered}
 use Rattle.mq_law_node.specs.Data.{sends_at, sender_in_parts, batch_in_parts}
 use Rattle.mq_calls.specs.declared.agents.PrepareFault.TheVariants as prepare_faults
-use Rattle.mq_spec_state.specs.Steps.{refused_or}
-use Rattle.mq_spec_state.specs.Steps.Step.{Do}
+use Rattle.mq_calls.specs.Steps.{refused_or}
+use Rattle.mq_calls.specs.Steps.Step.{Do}
 use Rattle.mq_calls.specs.declared.deltas.Did.TheVariants as did
-use Rattle.mq_spec_agents.specs.Words.{prepared_changes}
+use Rattle.mq_spec_manager.specs.Agents.{prepared_changes}
 use Rattle.mq_calls.specs.declared.agents.PrepareFault.{PrepareFault}
 use Rattle.mq_law_node.specs.Ends.{prepare_out, Where, sender_of, told_sends, letter_of, letters_of, Reads, SendsAs, EachSent, Guard, turn_of, batch_letters, out_of}
 use Rattle.mq_law_node.proofs.Named.{bool_case, name_self}

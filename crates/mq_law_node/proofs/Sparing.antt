@@ -9,11 +9,11 @@ use Rattle.mq_message.specs.declared.place.Holder.{Holder}
 use Rattle.mq_message.specs.declared.place.Holder.TheVariants.{Unit as ByUnit, Batch as ByBatch}
 use Rattle.mq_queue.specs.declared.row.Row.{Row}
 use Rattle.mq_queue.specs.Rows.{same_ident, has_ident, insert_row, keep, retag, held_by, is_free}
-use Rattle.mq_spec_state.specs.State.{Plain, Change, Which}
-use Rattle.mq_spec_state.specs.State.Which.{Among, HeldBy, HeldByUnits, Nonpersistent}
-use Rattle.mq_spec_state.specs.State.Change.{Place as Places, Leave, Hold, Release, Renew, DropQueue}
-use Rattle.mq_spec_state.specs.Reads.{stored, is_by_unit}
-use Rattle.mq_spec_state.specs.Changes.{apply, apply_all, lane_of, new_row, selects, retag_if, release_if}
+use Rattle.mq_calls.specs.State.{Plain, Change, Which}
+use Rattle.mq_calls.specs.State.Which.{Among, HeldBy, HeldByUnits, Nonpersistent}
+use Rattle.mq_calls.specs.State.Change.{Place as Places, Leave, Hold, Release, Renew, DropQueue}
+use Rattle.mq_calls.specs.Reads.{stored, is_by_unit}
+use Rattle.mq_calls.specs.Changes.{apply, apply_all, lane_of, new_row, selects, retag_if, release_if}
 use Rattle.mq_objects.specs.Names.{local_of}
 use Rattle.mq_law_channel.proofs.Told.{and_both}
 use Rattle.mq_law_node.specs.Rows.{RowKind, Same, Placed, Kept, Retagged, Emptied, row_kind, rows_do, rows_at, Spares, SparesAll, spared_which, is_gentle, all_gentle}

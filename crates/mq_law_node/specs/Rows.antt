@@ -9,11 +9,11 @@ use Rattle.mq_message.specs.declared.message.Message.{Message}
 use Rattle.mq_queue.specs.declared.row.Row.{Row}
 use Rattle.mq_queue.specs.Rows.{insert_row, keep, retag, same_ident, is_free}
 use Rattle.mq_objects.specs.Names.{local_of}
-use Rattle.mq_spec_state.specs.State.{Plain, Change, Which}
-use Rattle.mq_spec_state.specs.State.Change.{Place, Leave, Hold, Release, Renew, DropQueue}
-use Rattle.mq_spec_state.specs.State.Which.{Among, HeldBy, HeldByUnits, Nonpersistent}
-use Rattle.mq_spec_state.specs.Reads.{stored}
-use Rattle.mq_spec_state.specs.Changes.{apply, lane_of, new_row, selects, retag_if, release_if}
+use Rattle.mq_calls.specs.State.{Plain, Change, Which}
+use Rattle.mq_calls.specs.State.Change.{Place, Leave, Hold, Release, Renew, DropQueue}
+use Rattle.mq_calls.specs.State.Which.{Among, HeldBy, HeldByUnits, Nonpersistent}
+use Rattle.mq_calls.specs.Reads.{stored}
+use Rattle.mq_calls.specs.Changes.{apply, lane_of, new_row, selects, retag_if, release_if}
 
 pub data RowKind : Type 0 where
   Same : RowKind

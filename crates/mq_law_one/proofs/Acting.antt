@@ -41,12 +41,12 @@ use Rattle.mq_history.specs.declared.calls.Chance.TheVariants as chances
 use Rattle.mq_history.specs.declared.calls.Entry.{Entry}
 use Rattle.mq_history.specs.declared.calls.Reply.{Reply}
 use Rattle.mq_history.specs.declared.calls.Reply.TheVariants as replies
-use Rattle.mq_spec_state.specs.State.{Plain, Given, Running, Noted, LogState}
-use Rattle.mq_spec_state.specs.State.Running.{Up, Down}
-use Rattle.mq_spec_state.specs.Reads.{is_up, stored}
-use Rattle.mq_spec_state.specs.Images.{begun, lasting, raised}
-use Rattle.mq_spec_state.specs.Steps.{delta_of, Step, Part, when, refusal, refused_or, logged, do_part}
-use Rattle.mq_spec_state.specs.Steps.Step.{Refuse, Do}
+use Rattle.mq_calls.specs.State.{Plain, Given, Running, Noted, LogState}
+use Rattle.mq_calls.specs.State.Running.{Up, Down}
+use Rattle.mq_calls.specs.Reads.{is_up, stored}
+use Rattle.mq_calls.specs.Images.{begun, lasting, raised}
+use Rattle.mq_calls.specs.Steps.{delta_of, Step, Part, when, refusal, refused_or, logged, do_part}
+use Rattle.mq_calls.specs.Steps.Step.{Refuse, Do}
 use Rattle.mq_spec_manager.specs.Commands.{command, planned_step, object_part, uses_of}
 use Rattle.mq_spec_manager.specs.Stops.{stop_at, restart_at, restarted, redone, redone_delta, grown, last_moment}
 use Rattle.mq_spec_manager.specs.Triggers.{Never, first_due, trigger_turn, trigger_at, serve, serve_by, serve_into, put_trigger, takes_it}

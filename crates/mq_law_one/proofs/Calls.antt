@@ -25,11 +25,11 @@ use Rattle.mq_history.specs.declared.calls.Chance.TheVariants as chances
 use Rattle.mq_history.specs.declared.calls.Entry.{Entry}
 use Rattle.mq_history.specs.declared.calls.Reply.{Reply}
 use Rattle.mq_history.specs.declared.calls.Reply.TheVariants as replies
-use Rattle.mq_spec_state.specs.State.{Plain, Noted}
-use Rattle.mq_spec_state.specs.State.Change.{Connect, Disconnect}
-use Rattle.mq_spec_state.specs.Reads.{is_up}
-use Rattle.mq_spec_state.specs.Steps.{none_of, going_on, silent, Step, when, refusal, refused_or}
-use Rattle.mq_spec_state.specs.Steps.Step.{Refuse, Do}
+use Rattle.mq_calls.specs.State.{Plain, Noted}
+use Rattle.mq_calls.specs.State.Change.{Connect, Disconnect}
+use Rattle.mq_calls.specs.Reads.{is_up}
+use Rattle.mq_calls.specs.Steps.{none_of, going_on, silent, Step, when, refusal, refused_or}
+use Rattle.mq_calls.specs.Steps.Step.{Refuse, Do}
 use Rattle.mq_spec_manager.specs.Handles.{close_up, option_tests, open_tests, open_step, is_other_name, new_connection, new_hconn, mqconn, mqopen, mqclose}
 use Rattle.mq_resolve.specs.Resolved.{resolve}
 use Rattle.mq_spec_manager.specs.Put.{put_up, put1_resolved, mqput, mqput1}

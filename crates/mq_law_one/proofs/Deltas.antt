@@ -51,12 +51,12 @@ use Rattle.mq_history.specs.declared.calls.Reply.{Reply}
 use Rattle.mq_history.specs.declared.calls.Reply.TheVariants as replies
 use Rattle.mq_history.specs.declared.acts.Acted.TheVariants as acted
 use Rattle.mq_calls.specs.declared.commands.ScRefusal.TheVariants as refusals
-use Rattle.mq_spec_state.specs.State.{Plain, Running}
-use Rattle.mq_spec_state.specs.State.Running.{Up, Down}
-use Rattle.mq_spec_state.specs.Reads.{handle_at, is_up, stored}
-use Rattle.mq_spec_state.specs.Steps.{none_of, when, going_on, silent, Step, Part, delta_of, delta_before}
-use Rattle.mq_spec_state.specs.State.Change.{SetCursor, Connect}
-use Rattle.mq_spec_state.specs.Steps.Step.{Refuse, Do}
+use Rattle.mq_calls.specs.State.{Plain, Running}
+use Rattle.mq_calls.specs.State.Running.{Up, Down}
+use Rattle.mq_calls.specs.Reads.{handle_at, is_up, stored}
+use Rattle.mq_calls.specs.Steps.{none_of, when, going_on, silent, Step, Part, delta_of, delta_before}
+use Rattle.mq_calls.specs.State.Change.{SetCursor, Connect}
+use Rattle.mq_calls.specs.Steps.Step.{Refuse, Do}
 use Rattle.mq_spec_manager.specs.Handles.{is_unfit, option_tests, open_tests, open_step, new_hconn, new_connection, connected, mqconn, mqopen, mqclose, conn_tests, close_up, close_handle}
 use Rattle.mq_spec_manager.specs.Put.{output_only, mqput, mqput1, put_up, put_handle, put_route, put_part, put_tests, put1_resolved, output_tests, handle_route, new_message, queue_at}
 use Rattle.mq_spec_manager.specs.Get.{mqget, get_up, get_handle, get_tests, room_tests, get_found, scanned, expired_parts, removal_parts, taking_part, found_part, is_destructive, is_under, is_waiting, is_left, with_row, without_row}
@@ -71,9 +71,9 @@ use Rattle.mq_queue.specs.Rows.{has_ident}
 use Rattle.mq_rules.specs.declared.rule.Rule.{Rule}
 use Rattle.mq_rules.specs.declared.rule.Action.{Action}
 use Rattle.mq_rules.specs.declared.rule.Action.TheVariants as actions
-use Rattle.mq_spec_agents.specs.Batches.{row_with}
-use Rattle.mq_spec_agents.specs.Landing.{landing, route_tests}
-use Rattle.mq_spec_agents.specs.Moves.{bare_if, move_full, move_part, move_resolved, move_found, move_row}
+use Rattle.mq_spec_manager.specs.Batches.{row_with}
+use Rattle.mq_spec_manager.specs.Landing.{landing, route_tests}
+use Rattle.mq_spec_manager.specs.Moves.{bare_if, move_full, move_part, move_resolved, move_found, move_row}
 use Rattle.mq_spec_node.specs.Handlers as handlers
 use Rattle.mq_spec_node.specs.Node.{Node, Own, Handler, handler_in}
 use Rattle.mq_spec_node.specs.Deeds.{Deed, told, parts_of, done, mqi_deed, ended_deed}

@@ -27,16 +27,16 @@ use Rattle.mq_history.specs.declared.calls.Call.TheVariants as calls
 use Rattle.mq_history.specs.declared.calls.Chance.TheVariants as chances
 use Rattle.mq_history.specs.declared.calls.Entry.{Entry}
 use Rattle.mq_history.specs.declared.calls.Reply.TheVariants as replies
-use Rattle.mq_spec_state.specs.State.{Plain, Running, Noted}
-use Rattle.mq_spec_state.specs.State.Running.{Up, Down}
-use Rattle.mq_spec_state.specs.Reads.{stored}
-use Rattle.mq_spec_state.specs.Steps.{Step, Part, when, delta_of, do_part, do_all, logged}
-use Rattle.mq_spec_state.specs.Steps.Step.{Refuse, Do}
+use Rattle.mq_calls.specs.State.{Plain, Running, Noted}
+use Rattle.mq_calls.specs.State.Running.{Up, Down}
+use Rattle.mq_calls.specs.Reads.{stored}
+use Rattle.mq_calls.specs.Steps.{Step, Part, when, delta_of, do_part, do_all, logged}
+use Rattle.mq_calls.specs.Steps.Step.{Refuse, Do}
 use Rattle.mq_spec_manager.specs.Get.{removal_parts}
 use Rattle.mq_spec_manager.specs.Triggers.{Never}
-use Rattle.mq_spec_agents.specs.Conditions.{is_ordinary, HasFreeRow}
-use Rattle.mq_spec_agents.specs.Landing.{Landing, landing, route_tests}
-use Rattle.mq_spec_agents.specs.Moves.{bare_if, move_part, move_full, moved_forced, move_resolved, move_found, move_row, discard}
+use Rattle.mq_spec_manager.specs.Conditions.{is_ordinary, HasFreeRow}
+use Rattle.mq_spec_manager.specs.Landing.{Landing, landing, route_tests}
+use Rattle.mq_spec_manager.specs.Moves.{bare_if, move_part, move_full, moved_forced, move_resolved, move_found, move_row, discard}
 use Rattle.mq_spec_manager.specs.Heads.{is_dead}
 use Rattle.mq_spec_node.specs.Node.{Node, Own, Handler, with_handler}
 use Rattle.mq_spec_node.specs.Deeds.{Deed, told, parts_of, CanCome, forgotten_rows}

@@ -22,14 +22,14 @@ use Rattle.mq_history.specs.declared.calls.Reply.{Reply}
 use Rattle.mq_history.specs.declared.calls.Reply.TheVariants as replies
 use Rattle.mq_calls.specs.declared.records.LogRecord.{LogRecord}
 use Rattle.mq_objects.specs.Names.{local_of}
-use Rattle.mq_spec_state.specs.State.{Plain, Given, Running, Noted, Change}
-use Rattle.mq_spec_state.specs.State.Running.{Up, Down}
-use Rattle.mq_spec_state.specs.State.Change.{Place, Try, Leave, Hold, Release, Connect, Disconnect, OpenHandle, CloseHandle, SetCursor, Pend, EndUnit, MakeStale, CountIdent, ChangeObjects, Renew, DropQueue, SwitchOn, Serve, SetSender, SetReceiver, Undoubt, Seize, Unseize, AddBatch, DropBatch, SetBound, SetMoment, ForgetAll}
-use Rattle.mq_spec_state.specs.Reads.{is_up, connection_at}
-use Rattle.mq_spec_state.specs.Changes.{apply, apply_all, try_if}
-use Rattle.mq_spec_state.specs.Condition.{condition}
-use Rattle.mq_spec_state.specs.Steps.{Step, Part, logged, do_part, do_all, delta_of, delta_before, stopped_at, IsWrite}
-use Rattle.mq_spec_state.specs.Steps.Step.{Refuse, Do}
+use Rattle.mq_calls.specs.State.{Plain, Given, Running, Noted, Change}
+use Rattle.mq_calls.specs.State.Running.{Up, Down}
+use Rattle.mq_calls.specs.State.Change.{Place, Try, Leave, Hold, Release, Connect, Disconnect, OpenHandle, CloseHandle, SetCursor, Pend, EndUnit, MakeStale, CountIdent, ChangeObjects, Renew, DropQueue, SwitchOn, Serve, SetSender, SetReceiver, Undoubt, Seize, Unseize, AddBatch, DropBatch, SetBound, SetMoment, ForgetAll}
+use Rattle.mq_calls.specs.Reads.{is_up, connection_at}
+use Rattle.mq_calls.specs.Changes.{apply, apply_all, try_if}
+use Rattle.mq_calls.specs.Condition.{condition}
+use Rattle.mq_calls.specs.Steps.{Step, Part, logged, do_part, do_all, delta_of, delta_before, stopped_at, IsWrite}
+use Rattle.mq_calls.specs.Steps.Step.{Refuse, Do}
 use Rattle.mq_spec_manager.specs.Handles.{connected, live_or, for_connection, is_other, is_present}
 use Rattle.mq_spec_node.specs.Node.{Node, Own}
 use Rattle.mq_spec_node.specs.Deeds.{Deed, told, mqi_deed, ended_deed, done, CanCome, forgotten_rows, node_of}

@@ -8,10 +8,10 @@ use Rattle.mq_message.specs.declared.message.Message.{Message}
 use Rattle.mq_queue.specs.declared.row.Row.{Row}
 use Rattle.mq_history.specs.declared.history.History.{History}
 use Rattle.mq_history.specs.declared.scenario.Scenario.{Scenario}
-use Rattle.mq_spec_state.specs.State.{Plain}
-use Rattle.mq_spec_state.specs.Reads.{stored, queue_in}
-use Rattle.mq_spec_state.specs.Images.{Shelf, numbered, queue_on}
-use Rattle.mq_spec_state.specs.Recovery.{IsKnown}
+use Rattle.mq_calls.specs.State.{Plain}
+use Rattle.mq_calls.specs.Reads.{stored, queue_in}
+use Rattle.mq_calls.specs.Images.{Shelf, numbered, queue_on}
+use Rattle.mq_calls.specs.Recovery.{IsKnown}
 use Rattle.mq_spec_manager.specs.Stops.{first_start}
 use Rattle.mq_spec_network.specs.Given.{surroundings}
 use Rattle.mq_spec_network.specs.Apart.{apart_of}

@@ -15,11 +15,11 @@ use Rattle.mq_calls.specs.declared.answers.Open.{Open}
 use Rattle.mq_calls.specs.declared.state.Connection.{Connection}
 use Rattle.mq_history.specs.declared.calls.Call.{Call}
 use Rattle.mq_history.specs.declared.calls.Call.TheVariants as calls
-use Rattle.mq_spec_state.specs.State.{Plain}
-use Rattle.mq_spec_state.specs.State.Change.{Connect, CloseHandle, OpenHandle}
-use Rattle.mq_spec_state.specs.Reads.{handle_at}
-use Rattle.mq_spec_state.specs.Steps.{Step, Part, silent, going_on, none_of}
-use Rattle.mq_spec_state.specs.Steps.Step.{Do}
+use Rattle.mq_calls.specs.State.{Plain}
+use Rattle.mq_calls.specs.State.Change.{Connect, CloseHandle, OpenHandle}
+use Rattle.mq_calls.specs.Reads.{handle_at}
+use Rattle.mq_calls.specs.Steps.{Step, Part, silent, going_on, none_of}
+use Rattle.mq_calls.specs.Steps.Step.{Do}
 use Rattle.mq_spec_manager.specs.Handles.{connected, conn_tests, close_up, close_handle, option_tests, open_tests, open_step, new_connection, new_handle, new_hconn, mqconn, mqopen, mqclose}
 use Rattle.mq_spec_manager.specs.Units.{mqback, backout_part}
 use Rattle.mq_spec_manager.specs.Triggers.{Never, serve_by, serve_into, put_trigger, takes_it}

@@ -14,8 +14,8 @@ use Rattle.mq_history.specs.declared.calls.Chance.{Chance}
 use Rattle.mq_history.specs.declared.calls.Chance.TheVariants as chances
 use Rattle.mq_history.specs.declared.calls.Entry.{Entry}
 use Rattle.mq_sc_parse.specs.declared.command.Command.TheVariants as lines
-use Rattle.mq_spec_state.specs.State.{Plain, Running, Noted}
-use Rattle.mq_spec_state.specs.State.Running.{Up, Down}
+use Rattle.mq_calls.specs.State.{Plain, Running, Noted}
+use Rattle.mq_calls.specs.State.Running.{Up, Down}
 use Rattle.mq_spec_manager.specs.Get.{mqget}
 use Rattle.mq_spec_node.specs.Node.{Node, handler_in}
 use Rattle.mq_spec_node.specs.Deeds.{Deed}

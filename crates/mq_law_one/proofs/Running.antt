@@ -20,8 +20,8 @@ use Rattle.mq_history.specs.declared.calls.Entry.{Entry}
 use Rattle.mq_history.specs.declared.history.History.{History}
 use Rattle.mq_history.specs.declared.scenario.Scenario.{Scenario}
 use Rattle.mq_sc_parse.specs.declared.command.Command.TheVariants as lines
-use Rattle.mq_spec_state.specs.State.{Plain, Queue, Running}
-use Rattle.mq_spec_state.specs.State.Running.{Up, Down}
+use Rattle.mq_calls.specs.State.{Plain, Queue, Running}
+use Rattle.mq_calls.specs.State.Running.{Up, Down}
 use Rattle.mq_spec_node.specs.Node.{Node}
 use Rattle.mq_spec_manager.specs.Stops.{failed, restart_at, restarted, stop_at}
 use Rattle.mq_calls.specs.declared.choices.Choice.{Choice}
@@ -29,7 +29,7 @@ use Rattle.mq_calls.specs.declared.choices.Choice.TheVariants.{Runs, NoMemory, S
 use Rattle.mq_calls.specs.declared.choices.Return.TheVariants.{Comes, Fails}
 use Rattle.mq_calls.specs.declared.commands.RestartFault.TheVariants as faults
 use Rattle.mq_history.specs.declared.calls.Reply.{Reply}
-use Rattle.mq_spec_state.specs.State.Running.{Up, Down}
+use Rattle.mq_calls.specs.State.Running.{Up, Down}
 use Rattle.mq_spec_node.specs.Node.{Own}
 use Rattle.mq_spec_node.specs.Deeds.{Deed, done, end_at_rest, end_begun}
 use Rattle.mq_spec_node.specs.Happens.{IsEvent, choice_event, crashed, deed_of, event, remembered, remembering, timeout_by, turn_up, where_up}

@@ -9,8 +9,8 @@ use Rattle.mq_history.specs.declared.calls.Actor.TheVariants as actors
 use Rattle.mq_history.specs.declared.calls.Call.{Call}
 use Rattle.mq_history.specs.declared.calls.Call.TheVariants as calls
 use Rattle.mq_history.specs.declared.scenario.Scenario.{Scenario}
-use Rattle.mq_spec_state.specs.State.{Plain, Running, Noted}
-use Rattle.mq_spec_state.specs.State.Running.{Up, Down}
+use Rattle.mq_calls.specs.State.{Plain, Running, Noted}
+use Rattle.mq_calls.specs.State.Running.{Up, Down}
 use Rattle.mq_spec_node.specs.Node.{Node}
 use Rattle.mq_spec_network.specs.Ledger as ledgers
 use Rattle.mq_spec_network.specs.Ledger.{Ledger, users_at}

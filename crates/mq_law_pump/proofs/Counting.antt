@@ -7,11 +7,11 @@ use Rattle.mq_message.specs.declared.place.Holder.{Holder}
 use Rattle.mq_queue.specs.declared.row.Row.{Row}
 use Rattle.mq_queue.specs.Queues.{AreDistinct, Lacks}
 use Rattle.mq_queue.specs.Rows.{is_free, keep, retag, same_ident}
-use Rattle.mq_spec_state.specs.State.{Plain, Which}
-use Rattle.mq_spec_state.specs.State.Change.{Hold, Leave, Release}
-use Rattle.mq_spec_state.specs.State.Which.{Among}
-use Rattle.mq_spec_state.specs.Changes.{apply, release_if, retag_if, selects}
-use Rattle.mq_spec_state.specs.Reads.{free_rows}
+use Rattle.mq_calls.specs.State.{Plain, Which}
+use Rattle.mq_calls.specs.State.Change.{Hold, Leave, Release}
+use Rattle.mq_calls.specs.State.Which.{Among}
+use Rattle.mq_calls.specs.Changes.{apply, release_if, retag_if, selects}
+use Rattle.mq_calls.specs.Reads.{free_rows}
 use Rattle.mq_spec_manager.specs.Get.{idents_of}
 use Rattle.mq_base.specs.Members.{Mem}
 use Rattle.mq_law_idle.specs.Counts.{Distinct, NoneHas, first_free, free_in, held_in, hold_if, held_one}

@@ -11,8 +11,8 @@ use Rattle.mq_history.specs.declared.calls.Entry.{Entry}
 use Rattle.mq_objects.specs.Names.{locals_of}
 use Rattle.mq_objects.specs.declared.object.LocalQueue.{LocalQueue}
 use Rattle.mq_spec_manager.specs.Triggers.{first_due}
-use Rattle.mq_spec_state.specs.State.{Running}
-use Rattle.mq_spec_state.specs.State.Running.{Down, Up}
+use Rattle.mq_calls.specs.State.{Running}
+use Rattle.mq_calls.specs.State.Running.{Down, Up}
 use Rattle.mq_spec_node.specs.Node.{ChannelEnd, Node, ReceiverEnd, SenderEnd, as_receiver, as_sender, end_in, sender_end}
 use Rattle.mq_spec_node.specs.Node.ChannelEnd.{Receives, Sends}
 use Rattle.mq_spec_node.specs.Deeds.{Deed}

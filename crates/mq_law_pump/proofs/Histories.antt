@@ -10,9 +10,9 @@ use Rattle.mq_history.specs.declared.calls.Chance.{Chance}
 use Rattle.mq_history.specs.declared.calls.Chance.TheVariants as chances
 use Rattle.mq_history.specs.declared.calls.Entry.{Entry}
 use Rattle.mq_history.specs.declared.calls.Reply.{Reply}
-use Rattle.mq_spec_state.specs.State.{Plain, Running}
-use Rattle.mq_spec_state.specs.State.Running.{Down, Up}
-use Rattle.mq_spec_state.specs.Steps.{IsWrite, Part, do_part, stopped_at}
+use Rattle.mq_calls.specs.State.{Plain, Running}
+use Rattle.mq_calls.specs.State.Running.{Down, Up}
+use Rattle.mq_calls.specs.Steps.{IsWrite, Part, do_part, stopped_at}
 use Rattle.mq_spec_node.specs.Node.{Node}
 use Rattle.mq_spec_node.specs.Deeds.{CanWant, Deed, Done, done}
 use Rattle.mq_spec_node.specs.Happens.{IsDeed, IsEvent, choice_event, deed_of, event, remembering, trigger_deed}

@@ -19,20 +19,20 @@ use Rattle.mq_receiver.specs.After.{last_by}
 use Rattle.mq_receiver.specs.declared.turns.ReceiverDoes.{ReceiverDoes}
 use Rattle.mq_receiver.specs.declared.turns.ReceiverDoes.TheVariants as takes
 use Rattle.mq_receiver.specs.Table.{receiver_next}
-use Rattle.mq_spec_state.specs.State.{Given, Plain, Running}
-use Rattle.mq_spec_state.specs.State.Change.{SetReceiver}
-use Rattle.mq_spec_state.specs.State.Running.{Down, Up}
-use Rattle.mq_spec_state.specs.Changes.{apply_all, try_if}
-use Rattle.mq_spec_state.specs.Reads.{depth, is_full, is_persistent, is_up, receiver_data}
-use Rattle.mq_spec_state.specs.Sizes.{need}
-use Rattle.mq_spec_state.specs.Steps.{Step, refusal}
-use Rattle.mq_spec_state.specs.Steps.Step.{Do, Refuse}
+use Rattle.mq_calls.specs.State.{Given, Plain, Running}
+use Rattle.mq_calls.specs.State.Change.{SetReceiver}
+use Rattle.mq_calls.specs.State.Running.{Down, Up}
+use Rattle.mq_calls.specs.Changes.{apply_all, try_if}
+use Rattle.mq_calls.specs.Reads.{depth, is_full, is_persistent, is_up, receiver_data}
+use Rattle.mq_calls.specs.Sizes.{need}
+use Rattle.mq_calls.specs.Steps.{Step, refusal}
+use Rattle.mq_calls.specs.Steps.Step.{Do, Refuse}
 use Rattle.mq_spec_manager.specs.Handles.{is_transmission_queue}
 use Rattle.mq_spec_manager.specs.Put.{placed, queue_at}
 use Rattle.mq_spec_manager.specs.Triggers.{first_due, put_trigger, serve, serve_by, serve_into, takes_it, trigger_at, trigger_turn}
 use Rattle.mq_objects.specs.Names.{channel_of}
-use Rattle.mq_spec_agents.specs.Words.{Landed, Landing, Standing, before, can_take_dead, dead_letter, dead_or, drop_row, is_present, land, land_changes, land_resolved, land_tested, landed, landed_by, landed_unless, names_of, receive, receive_landed, received_part, received_record, route_tests, standing_at, undoubted, uses_dead}
-use Rattle.mq_spec_agents.specs.Standing.Standing.{Absent, InDoubtAt, Present}
+use Rattle.mq_spec_manager.specs.Agents.{Landed, Landing, Standing, before, can_take_dead, dead_letter, dead_or, drop_row, is_present, land, land_changes, land_resolved, land_tested, landed, landed_by, landed_unless, names_of, receive, receive_landed, received_part, received_record, route_tests, standing_at, undoubted, uses_dead}
+use Rattle.mq_spec_manager.specs.Standing.Standing.{Absent, InDoubtAt, Present}
 use Rattle.mq_spec_node.specs.Node.{Node, ReceiverEnd}
 use Rattle.mq_spec_node.specs.Deeds.{Deed, parts_of}
 use Rattle.mq_spec_node.specs.Calls.{trigger_deed, trigger_deed_of, where_up}

@@ -4,14 +4,14 @@ use Rattle.std.specs.Prelude.{Option, Some, None, filter, if◌then◌else◌, n
 use Rattle.std.specs.Str.{bytes_eq}
 use Rattle.mq_calls.specs.declared.records.LogRecord.{LogRecord}
 use Rattle.mq_sender.specs.States.{is_running}
-use Rattle.mq_spec_state.specs.Changes.{apply, apply_all, try_if}
-use Rattle.mq_spec_state.specs.Condition.{condition}
+use Rattle.mq_calls.specs.Changes.{apply, apply_all, try_if}
+use Rattle.mq_calls.specs.Condition.{condition}
 use Rattle.mq_objects.specs.Names.{local_of}
-use Rattle.mq_spec_state.specs.Reads.{has_held_by_other, seizure_of}
-use Rattle.mq_spec_state.specs.State.{Change, Plain, Seizure}
-use Rattle.mq_spec_state.specs.State.Change.{ForgetAll, Seize, SetBound, Try, Unseize}
-use Rattle.mq_spec_state.specs.Steps.{Part, do_all, logged}
-use Rattle.mq_spec_agents.specs.Words.{queue_of_sender, seized_queue}
+use Rattle.mq_calls.specs.Reads.{has_held_by_other, seizure_of}
+use Rattle.mq_calls.specs.State.{Change, Plain, Seizure}
+use Rattle.mq_calls.specs.State.Change.{ForgetAll, Seize, SetBound, Try, Unseize}
+use Rattle.mq_calls.specs.Steps.{Part, do_all, logged}
+use Rattle.mq_spec_manager.specs.Agents.{queue_of_sender, seized_queue}
 use Rattle.mq_spec_node.specs.Deeds.{Deed}
 use Rattle.mq_spec_node.specs.Node.{Node, SenderEnd, end_in}
 use Rattle.mq_law_channel.proofs.Told.{and_both}

@@ -20,13 +20,13 @@ use Rattle.mq_sender.specs.declared.turns.SenderOut.TheVariants as outs
 use Rattle.mq_sender.specs.After.{number_sent, sender_after}
 use Rattle.mq_sender.specs.States.{awaits, is_running, timed_out}
 use Rattle.mq_sender.specs.Table.{sender_next}
-use Rattle.mq_spec_state.specs.State.{Batch, Change, Plain}
-use Rattle.mq_spec_state.specs.Reads.{batch_of, is_full, sender_data}
-use Rattle.mq_spec_state.specs.Sizes.{need}
-use Rattle.mq_spec_state.specs.Steps.{Part, Step, refused_or}
-use Rattle.mq_spec_state.specs.Steps.Step.{Do, Refuse}
+use Rattle.mq_calls.specs.State.{Batch, Change, Plain}
+use Rattle.mq_calls.specs.Reads.{batch_of, is_full, sender_data}
+use Rattle.mq_calls.specs.Sizes.{need}
+use Rattle.mq_calls.specs.Steps.{Part, Step, refused_or}
+use Rattle.mq_calls.specs.Steps.Step.{Do, Refuse}
 use Rattle.mq_spec_manager.specs.Get.{expired_parts}
-use Rattle.mq_spec_agents.specs.Words.{expired_rows, leave, prepare, prepare_of, prepared_changes, prepared_record, queue_of_sender, release_of, stock, harden, hold_batch}
+use Rattle.mq_spec_manager.specs.Agents.{expired_rows, leave, prepare, prepare_of, prepared_changes, prepared_record, queue_of_sender, release_of, stock, harden, hold_batch}
 use Rattle.mq_spec_node.specs.Node.{Node, SenderEnd}
 use Rattle.mq_spec_node.specs.Deeds.{parts_of}
 use Rattle.mq_spec_node.specs.Senders.{after_timeout, leave_if_stopped, prepare_deed, sender_deed, sender_deed_by, sent, settle_parts_if, timeout_deed}

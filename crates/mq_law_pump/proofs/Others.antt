@@ -9,12 +9,12 @@ use Rattle.mq_message.specs.declared.place.Holder.TheVariants as holders
 use Rattle.mq_objects.specs.Names.{local_of}
 use Rattle.mq_queue.specs.declared.row.Row.{Row}
 use Rattle.mq_queue.specs.Rows.{held_by, is_free, keep, retag, same_ident}
-use Rattle.mq_spec_state.specs.State.{Change, Plain}
-use Rattle.mq_spec_state.specs.State.Change.{DropQueue, Hold, Leave, Place, Release, Renew}
-use Rattle.mq_spec_state.specs.State.Which.{Among, HeldBy, HeldByUnits, Nonpersistent}
-use Rattle.mq_spec_state.specs.Changes.{apply, apply_all, lane_of, release_if, retag_if, selects}
-use Rattle.mq_spec_state.specs.Reads.{has_held_by_other, is_by_other, stored}
-use Rattle.mq_spec_state.specs.Steps.{Part, do_all, logged}
+use Rattle.mq_calls.specs.State.{Change, Plain}
+use Rattle.mq_calls.specs.State.Change.{DropQueue, Hold, Leave, Place, Release, Renew}
+use Rattle.mq_calls.specs.State.Which.{Among, HeldBy, HeldByUnits, Nonpersistent}
+use Rattle.mq_calls.specs.Changes.{apply, apply_all, lane_of, release_if, retag_if, selects}
+use Rattle.mq_calls.specs.Reads.{has_held_by_other, is_by_other, stored}
+use Rattle.mq_calls.specs.Steps.{Part, do_all, logged}
 use Rattle.mq_law_idle.specs.Counts.{free_in, held_in}
 use Rattle.mq_law_idle.proofs.Counted.{kept_rows}
 use Rattle.mq_law_channel.proofs.Told.{and_both}

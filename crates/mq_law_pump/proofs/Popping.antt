@@ -22,9 +22,9 @@ use Rattle.mq_receiver.specs.declared.state.Owed.{Owed}
 use Rattle.mq_receiver.specs.declared.turns.ReceiverDoes.{ReceiverDoes}
 use Rattle.mq_receiver.specs.declared.turns.ReceiverDoes.TheVariants as takes
 use Rattle.mq_receiver.specs.Table.{receiver_next}
-use Rattle.mq_spec_state.specs.Steps.{Step}
-use Rattle.mq_spec_state.specs.Steps.Step.{Do, Refuse}
-use Rattle.mq_spec_agents.specs.Words.{prepare, receive, stock}
+use Rattle.mq_calls.specs.Steps.{Step}
+use Rattle.mq_calls.specs.Steps.Step.{Do, Refuse}
+use Rattle.mq_spec_manager.specs.Agents.{prepare, receive, stock}
 use Rattle.mq_spec_node.specs.Node.{Node, ReceiverEnd, SenderEnd}
 use Rattle.mq_spec_node.specs.Receivers.{is_receiver_defined, place_deed, receiver_deed, receiver_deed_by}
 use Rattle.mq_spec_node.specs.Senders.{after_timeout, prepare_deed, sender_deed, sender_deed_by, timeout_deed}

@@ -31,17 +31,17 @@ use Rattle.mq_sender.specs.States.{is_running}
 use Rattle.mq_sender.specs.After.{number_sent, sender_after}
 use Rattle.mq_sender.specs.Frames.{bind_frame, end_frame, pushed_by}
 use Rattle.mq_sender.specs.Table.{is_ack, is_binding, is_err, is_hailing, is_idle, is_ready, is_sending, is_starting, is_status, is_waiting, messages_sent, sender_lines, sender_next}
-use Rattle.mq_spec_state.specs.State.{Batch, Plain}
-use Rattle.mq_spec_state.specs.State.Which.{Among, HeldBy}
-use Rattle.mq_spec_state.specs.State.Change.{Leave}
-use Rattle.mq_spec_state.specs.Changes.{apply}
-use Rattle.mq_spec_state.specs.Reads.{batch_of, free_rows, is_expired, is_full, sender_data}
-use Rattle.mq_spec_state.specs.Sizes.{need}
-use Rattle.mq_spec_state.specs.Steps.{Part, Step, do_all, logged, refused_or}
-use Rattle.mq_spec_state.specs.Steps.Step.{Do, Refuse}
+use Rattle.mq_calls.specs.State.{Batch, Plain}
+use Rattle.mq_calls.specs.State.Which.{Among, HeldBy}
+use Rattle.mq_calls.specs.State.Change.{Leave}
+use Rattle.mq_calls.specs.Changes.{apply}
+use Rattle.mq_calls.specs.Reads.{batch_of, free_rows, is_expired, is_full, sender_data}
+use Rattle.mq_calls.specs.Sizes.{need}
+use Rattle.mq_calls.specs.Steps.{Part, Step, do_all, logged, refused_or}
+use Rattle.mq_calls.specs.Steps.Step.{Do, Refuse}
 use Rattle.mq_spec_manager.specs.Get.{expired_parts, idents_of, persistent_rows, removal_record}
 use Rattle.mq_spec_manager.specs.Heads.{own_md}
-use Rattle.mq_spec_agents.specs.Words.{batch_row, expire, expired_rows, harden, hold_batch, leave, names_of, prepare, prepare_of, prepared_changes, prepared_record, queue_of_sender, release_batch, stock}
+use Rattle.mq_spec_manager.specs.Agents.{batch_row, expire, expired_rows, harden, hold_batch, leave, names_of, prepare, prepare_of, prepared_changes, prepared_record, queue_of_sender, release_batch, stock}
 use Rattle.mq_spec_node.specs.Node.{ChannelEnd, Node, SenderEnd, end_in}
 use Rattle.mq_spec_node.specs.Node.ChannelEnd.{Receives, Sends}
 use Rattle.mq_spec_node.specs.Deeds.{Deed, parts_of, turned}

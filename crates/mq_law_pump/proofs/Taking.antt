@@ -18,9 +18,9 @@ use Rattle.mq_receiver.specs.declared.turns.ReceiverOut.TheVariants as ends
 use Rattle.mq_receiver.specs.States.{owed_frame}
 use Rattle.mq_receiver.specs.Table.{receiver_lines, receiver_next}
 use Rattle.mq_receiver.specs.After.{last_by, receiver_after}
-use Rattle.mq_spec_state.specs.Steps.{Step}
-use Rattle.mq_spec_state.specs.Steps.Step.{Do, Refuse}
-use Rattle.mq_spec_agents.specs.Words.{receive}
+use Rattle.mq_calls.specs.Steps.{Step}
+use Rattle.mq_calls.specs.Steps.Step.{Do, Refuse}
+use Rattle.mq_spec_manager.specs.Agents.{receive}
 use Rattle.mq_spec_node.specs.Node.{Node, ReceiverEnd, end_in, with_end}
 use Rattle.mq_spec_node.specs.Node.ChannelEnd.{Receives}
 use Rattle.mq_spec_node.specs.Deeds.{Deed, turned}

@@ -5,12 +5,12 @@ use Rattle.mq_sender.specs.declared.state.Sender.{Sender}
 use Rattle.mq_sender.specs.declared.state.SenderState.{SenderState}
 use Rattle.mq_sender.specs.declared.state.SenderState.TheVariants.{Binding, Waiting}
 use Rattle.mq_sender.specs.States.{awaits, is_running, timed_out}
-use Rattle.mq_spec_state.specs.Steps.{Part, do_all}
+use Rattle.mq_calls.specs.Steps.{Part, do_all}
 use Rattle.mq_spec_node.specs.Node.{Node, SenderEnd}
 use Rattle.mq_spec_node.specs.Node.ChannelEnd.{Sends}
 use Rattle.mq_spec_node.specs.Deeds.{Deed, parts_of}
 use Rattle.mq_spec_node.specs.Senders.{after_timeout, timeout_deed}
-use Rattle.mq_spec_agents.specs.Words.{leave}
+use Rattle.mq_spec_manager.specs.Agents.{leave}
 use Rattle.mq_law_idle.specs.Roads.{Road}
 use Rattle.mq_law_node.proofs.Named.{end_set}
 use Rattle.mq_law_pump.specs.Deeds.{HasSender, TimesOutLane}

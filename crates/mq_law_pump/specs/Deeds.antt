@@ -3,7 +3,7 @@ use Rattle.std.specs.Prelude.{◌≡◌, ◌⊎◌, true, List, None, Option, So
 use Rattle.mq_frame.specs.declared.frame.Seen.{Seen}
 use Rattle.mq_message.specs.declared.message.Message.{Message}
 use Rattle.mq_sender.specs.States.{awaits, is_running}
-use Rattle.mq_spec_state.specs.Steps.{do_all}
+use Rattle.mq_calls.specs.Steps.{do_all}
 use Rattle.mq_spec_node.specs.Node.{Node, ReceiverEnd, SenderEnd, end_in}
 use Rattle.mq_spec_node.specs.Node.ChannelEnd.{Receives, Sends}
 use Rattle.mq_spec_node.specs.Deeds.{Deed}

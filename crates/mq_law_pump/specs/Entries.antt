@@ -1,7 +1,7 @@
 -- What an entry of a PUMP is, at a manager that is up behind it.
 use Rattle.std.specs.Prelude.{◌≡◌, None, Some}
 use Rattle.mq_history.specs.declared.calls.Entry.{Entry}
-use Rattle.mq_spec_state.specs.Steps.{do_all}
+use Rattle.mq_calls.specs.Steps.{do_all}
 use Rattle.mq_spec_node.specs.Node.{Node}
 use Rattle.mq_spec_node.specs.Deeds.{Deed}
 use Rattle.mq_spec_node.specs.Happens.{deed_of}

@@ -4,9 +4,9 @@ use Rattle.mq_history.specs.declared.calls.Entry.{Entry}
 use Rattle.mq_queue.specs.Queues.{AreDistinct}
 use Rattle.mq_sender.specs.Table.{is_sending}
 use Rattle.mq_sender.specs.States.{is_running}
-use Rattle.mq_spec_agents.specs.Words.{HasSeized}
-use Rattle.mq_spec_state.specs.Reads.{stored}
-use Rattle.mq_spec_state.specs.State.Running.{Up}
+use Rattle.mq_spec_manager.specs.Agents.{HasSeized}
+use Rattle.mq_calls.specs.Reads.{stored}
+use Rattle.mq_calls.specs.State.Running.{Up}
 use Rattle.mq_spec_node.specs.Node.{Node, ReceiverEnd, SenderEnd, end_in}
 use Rattle.mq_spec_node.specs.Node.ChannelEnd.{Receives, Sends}
 use Rattle.mq_spec_node.specs.Replays.{Follows, after}

@@ -7,12 +7,12 @@ use Rattle.mq_queue.specs.declared.row.Row.{Row}
 use Rattle.mq_objects.specs.declared.object.Definitions.{Definitions}
 use Rattle.mq_resolve.specs.Resolved.{resolve}
 use Rattle.mq_resolve.specs.declared.route.Route.{Route}
-use Rattle.mq_spec_state.specs.State.{Change, Given}
-use Rattle.mq_spec_state.specs.State.Change.{ForgetAll, Hold, Place, Release, Seize, Unseize}
-use Rattle.mq_spec_state.specs.State.Which.{Among, HeldBy}
-use Rattle.mq_spec_state.specs.Steps.{Part}
+use Rattle.mq_calls.specs.State.{Change, Given}
+use Rattle.mq_calls.specs.State.Change.{ForgetAll, Hold, Place, Release, Seize, Unseize}
+use Rattle.mq_calls.specs.State.Which.{Among, HeldBy}
+use Rattle.mq_calls.specs.Steps.{Part}
 use Rattle.mq_spec_manager.specs.Put.{queue_at}
-use Rattle.mq_spec_agents.specs.Words.{names_of}
+use Rattle.mq_spec_manager.specs.Agents.{names_of}
 use Rattle.mq_spec_node.specs.Deeds.{Deed}
 use Rattle.mq_law_idle.specs.Counts.{free_in, held_in}
 

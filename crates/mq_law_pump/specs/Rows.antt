@@ -1,8 +1,8 @@
 -- The rows of the transmission queue that a sender has open, as its lane counts them.
 use Rattle.std.specs.Prelude.{◌≤◌, ℕ, List}
 use Rattle.mq_queue.specs.declared.row.Row.{Row}
-use Rattle.mq_spec_state.specs.State.{Plain}
-use Rattle.mq_spec_agents.specs.Words.{queue_of_sender}
+use Rattle.mq_calls.specs.State.{Plain}
+use Rattle.mq_spec_manager.specs.Agents.{queue_of_sender}
 use Rattle.mq_law_idle.specs.Counts.{free_in, held_in}
 use Rattle.mq_law_idle.specs.Roads.{Road}
 use Rattle.mq_law_node.specs.Rows.{rows_at}

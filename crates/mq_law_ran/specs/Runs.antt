@@ -5,8 +5,8 @@ use Rattle.mq_history.specs.declared.scenario.ManagerLine.{ManagerLine}
 use Rattle.mq_history.specs.declared.scenario.Scenario.{Scenario}
 use Rattle.mq_log.specs.Bodies.{IsLog}
 use Rattle.mq_log.specs.State.{log_length}
-use Rattle.mq_spec_state.specs.Images.{Image}
-use Rattle.mq_spec_state.specs.Recovery.{IsImage, AreKnown}
+use Rattle.mq_calls.specs.Images.{Image}
+use Rattle.mq_calls.specs.Recovery.{IsImage, AreKnown}
 use Rattle.mq_spec_log.specs.Applies.Start.{First}
 use Rattle.mq_spec_log.specs.Bodies.{image}
 use Rattle.mq_spec_node.specs.Node.{Node}

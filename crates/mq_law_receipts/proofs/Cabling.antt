@@ -5,7 +5,7 @@ use Rattle.std.specs.Str.{bytes_eq}
 use Rattle.mq_history.specs.declared.scenario.CableLine.{CableLine}
 use Rattle.mq_history.specs.declared.scenario.Scenario.{Scenario}
 use Rattle.mq_history.specs.Scenarios.{IsScenario}
-use Rattle.mq_spec_state.specs.State.{Plain}
+use Rattle.mq_calls.specs.State.{Plain}
 use Rattle.mq_spec_network.specs.Standing.{cable_from}
 use Rattle.mq_spec_network.specs.Story.{Chain, Mem}
 use Rattle.mq_law_rows.proofs.Lists.{and_left, and_right, bool_case, eqb_self, eqb_yes, is_false, mem_map, name_self, name_yes}

@@ -10,12 +10,12 @@ use Rattle.mq_queue.specs.Rows.{same_ident, keep}
 use Rattle.mq_sync.specs.declared.data.InDoubt.{InDoubt}
 use Rattle.mq_sync.specs.declared.unit.Unit.{Unit as Luw}
 use Rattle.mq_calls.specs.declared.state.Connection.{Connection}
-use Rattle.mq_spec_state.specs.State.{Batch, Plain}
-use Rattle.mq_spec_state.specs.State.Which.{Among}
-use Rattle.mq_spec_state.specs.State.Change.{Leave, Undoubt}
-use Rattle.mq_spec_state.specs.Reads.{batch_of, in_doubt_of, is_persistent, sender_data, sender_in, stored}
-use Rattle.mq_spec_state.specs.Changes.{apply, apply_all, less_ident}
-use Rattle.mq_spec_agents.specs.Words.{RowAt, row_of, doubts, is_doubted_by, Standing, Absent, InDoubtAt, Present, same_flag, standing_by, has_put, standing_at, is_present, undoubted, drop_changes}
+use Rattle.mq_calls.specs.State.{Batch, Plain}
+use Rattle.mq_calls.specs.State.Which.{Among}
+use Rattle.mq_calls.specs.State.Change.{Leave, Undoubt}
+use Rattle.mq_calls.specs.Reads.{batch_of, in_doubt_of, is_persistent, sender_data, sender_in, stored}
+use Rattle.mq_calls.specs.Changes.{apply, apply_all, less_ident}
+use Rattle.mq_spec_manager.specs.Agents.{RowAt, row_of, doubts, is_doubted_by, Standing, Absent, InDoubtAt, Present, same_flag, standing_by, has_put, standing_at, is_present, undoubted, drop_changes}
 use Rattle.mq_spec_network.specs.Story.{Mem}
 use Rattle.mq_law_rows.specs.Kinds.{among}
 use Rattle.mq_law_rows.proofs.Lists.{bool_case, is_false, ident_yes, name_self, and_false, keep_same, keep_all, true_false}

@@ -15,9 +15,9 @@ use Rattle.mq_calls.specs.declared.state.Item.{Item}
 use Rattle.mq_calls.specs.declared.state.Item.TheVariants.{Put, Take}
 use Rattle.mq_history.specs.declared.scenario.Scenario.{Scenario}
 use Rattle.mq_history.specs.declared.story.ManagerPlaces.{ManagerPlaces}
-use Rattle.mq_spec_state.specs.State.{Batch, Plain}
-use Rattle.mq_spec_state.specs.Reads.{batch_of, connection_at, in_doubt_of, is_persistent, sender_data}
-use Rattle.mq_spec_agents.specs.Words.{has_put, is_pending, is_unborn}
+use Rattle.mq_calls.specs.State.{Batch, Plain}
+use Rattle.mq_calls.specs.Reads.{batch_of, connection_at, in_doubt_of, is_persistent, sender_data}
+use Rattle.mq_spec_manager.specs.Agents.{has_put, is_pending, is_unborn}
 use Rattle.mq_spec_network.specs.Ledger.{Ledger, idents_of, ledger_rows, own_or, places_or, row_at, row_in, rows_in, unit_of}
 use Rattle.mq_spec_network.specs.Story.{Mem}
 use Rattle.mq_law_rows.specs.World.{Gone, Ghost, InBatch, InUnit, Inv, IsPlaced, Forced, Tag, Unborn, World, away, is_last, mark_of, put_idents, stands, tag_idents, tag_mark, tag_of}

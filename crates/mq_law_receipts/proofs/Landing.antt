@@ -17,13 +17,13 @@ use Rattle.mq_calls.specs.declared.deltas.Did.TheVariants as did
 use Rattle.mq_calls.specs.declared.deltas.Why.TheVariants as whys
 use Rattle.mq_calls.specs.declared.records.Add.{Add}
 use Rattle.mq_sync.specs.declared.unit.Unit.{Unit as Luw}
-use Rattle.mq_spec_state.specs.State.{Given, Plain}
-use Rattle.mq_spec_state.specs.Reads.{is_persistent, stored}
-use Rattle.mq_spec_state.specs.Changes.{apply_all, lane_of, new_row}
-use Rattle.mq_spec_state.specs.Steps.{refusal}
+use Rattle.mq_calls.specs.State.{Given, Plain}
+use Rattle.mq_calls.specs.Reads.{is_persistent, stored}
+use Rattle.mq_calls.specs.Changes.{apply_all, lane_of, new_row}
+use Rattle.mq_calls.specs.Steps.{refusal}
 use Rattle.mq_spec_manager.specs.Put.{placed}
-use Rattle.mq_spec_agents.specs.Words.{Standing, Absent, InDoubtAt, Present, standing_at, is_present, drop_changes, drop_did, can_take_dead, dead_or, dead_letter, dead_message, uses_dead, land, land_resolved, land_tested, landing, names_of, route_tests, Landed, nothing_landed, add_of, before, landed_by, landed_unless, landed, land_changes}
-use Rattle.mq_spec_agents.specs.Landing.{Landing as Arrival}
+use Rattle.mq_spec_manager.specs.Agents.{Standing, Absent, InDoubtAt, Present, standing_at, is_present, drop_changes, drop_did, can_take_dead, dead_or, dead_letter, dead_message, uses_dead, land, land_resolved, land_tested, landing, names_of, route_tests, Landed, nothing_landed, add_of, before, landed_by, landed_unless, landed, land_changes}
+use Rattle.mq_spec_manager.specs.Landing.{Landing as Arrival}
 use Rattle.mq_spec_network.specs.Ledger as ledgers
 use Rattle.mq_spec_network.specs.Ledger.{Ledger, dead_reason, idents_of, is_admitted, move_all, own_row, place_received, places_at, places_or, received_on, take_all_gone, users_at, users_or, when}
 use Rattle.mq_spec_network.specs.Promised.{AreDistinct}

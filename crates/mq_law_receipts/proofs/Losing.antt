@@ -21,11 +21,11 @@ use Rattle.mq_calls.specs.declared.records.LogRecord.{LogRecord}
 use Rattle.mq_history.specs.declared.calls.Call.TheVariants as calls
 use Rattle.mq_history.specs.declared.scenario.Scenario.{Scenario}
 use Rattle.mq_history.specs.declared.story.ManagerPlaces.{ManagerPlaces}
-use Rattle.mq_spec_state.specs.State.{Plain}
-use Rattle.mq_spec_state.specs.Reads.{connection_at, is_persistent}
-use Rattle.mq_spec_state.specs.Changes.{lane_of, new_row}
+use Rattle.mq_calls.specs.State.{Plain}
+use Rattle.mq_calls.specs.Reads.{connection_at, is_persistent}
+use Rattle.mq_calls.specs.Changes.{lane_of, new_row}
 use Rattle.mq_spec_manager.specs.Stops.{is_added, lasts}
-use Rattle.mq_spec_agents.specs.Words.{Landed, dead_message, landed, names_of, received_record}
+use Rattle.mq_spec_manager.specs.Agents.{Landed, dead_message, landed, names_of, received_record}
 use Rattle.mq_spec_network.specs.Ledger as ledgers
 use Rattle.mq_spec_network.specs.Ledger.{Ledger, Users, at_moment, change_at, dead_reason, idents_of, is_admitted, ledger_rows, lose, move_all, own_row, place_at, place_received, places_at, places_or, received_on, take_all_gone, take_everywhere, unit_of, up_again, users_at, users_or, when}
 use Rattle.mq_spec_network.specs.Story.{Mem}

@@ -19,12 +19,12 @@ use Rattle.mq_history.specs.declared.calls.Reply.{Reply}
 use Rattle.mq_history.specs.declared.scenario.CableLine.{CableLine}
 use Rattle.mq_history.specs.declared.scenario.Scenario.{Scenario}
 use Rattle.mq_history.specs.declared.story.ManagerPlaces.{ManagerPlaces}
-use Rattle.mq_spec_state.specs.State.{Given, LogState, Plain}
-use Rattle.mq_spec_state.specs.State.Change.{SetReceiver}
-use Rattle.mq_spec_state.specs.Reads.{batch_of, connection_at, in_doubt_of, receiver_data, receiver_in, sender_data}
-use Rattle.mq_spec_state.specs.Changes.{apply, apply_all}
-use Rattle.mq_spec_state.specs.Steps.{do_part, written}
-use Rattle.mq_spec_agents.specs.Words.{Landed, landed, received_part, received_record, taken_of}
+use Rattle.mq_calls.specs.State.{Given, LogState, Plain}
+use Rattle.mq_calls.specs.State.Change.{SetReceiver}
+use Rattle.mq_calls.specs.Reads.{batch_of, connection_at, in_doubt_of, receiver_data, receiver_in, sender_data}
+use Rattle.mq_calls.specs.Changes.{apply, apply_all}
+use Rattle.mq_calls.specs.Steps.{do_part, written}
+use Rattle.mq_spec_manager.specs.Agents.{Landed, landed, received_part, received_record, taken_of}
 use Rattle.mq_spec_network.specs.Ledger as ledgers
 use Rattle.mq_spec_network.specs.Ledger.{Ledger, dead_reason, idents_of, is_admitted, is_one_of, leave_queues, move_all, own_row, place_list, place_received, post_call, receive_if, take_all_gone, take_everywhere, unit_of, when}
 use Rattle.mq_spec_network.specs.Promised.{AreDistinct}

@@ -10,11 +10,11 @@ use Rattle.mq_calls.specs.declared.state.Connection.{Connection}
 use Rattle.mq_history.specs.declared.scenario.CableLine.{CableLine}
 use Rattle.mq_history.specs.declared.scenario.Scenario.{Scenario}
 use Rattle.mq_history.specs.declared.story.ManagerPlaces.{ManagerPlaces}
-use Rattle.mq_spec_state.specs.State.{Change, Plain}
-use Rattle.mq_spec_state.specs.State.Change.{Connect}
-use Rattle.mq_spec_state.specs.Reads.{batch_of, is_persistent, stored}
-use Rattle.mq_spec_state.specs.Changes.{apply}
-use Rattle.mq_spec_agents.specs.Words.{is_pending, is_unborn}
+use Rattle.mq_calls.specs.State.{Change, Plain}
+use Rattle.mq_calls.specs.State.Change.{Connect}
+use Rattle.mq_calls.specs.Reads.{batch_of, is_persistent, stored}
+use Rattle.mq_calls.specs.Changes.{apply}
+use Rattle.mq_spec_manager.specs.Agents.{is_pending, is_unborn}
 use Rattle.mq_spec_network.specs.Ledger.{Ledger, ledger_rows}
 use Rattle.mq_spec_network.specs.Standing.{cable_from}
 use Rattle.mq_spec_network.specs.Story.{Chain, Mem}

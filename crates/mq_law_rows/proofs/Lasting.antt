@@ -10,7 +10,7 @@ use Rattle.mq_queue.specs.Rows.{same_ident}
 use Rattle.mq_sync.specs.declared.unit.Unit.{Unit as Luw}
 use Rattle.mq_calls.specs.declared.state.Item.{Item}
 use Rattle.mq_calls.specs.declared.state.Item.TheVariants.{Put, Take}
-use Rattle.mq_spec_state.specs.Reads.{is_persistent}
+use Rattle.mq_calls.specs.Reads.{is_persistent}
 use Rattle.mq_spec_network.specs.Story.{Mem}
 use Rattle.mq_law_rows.specs.World.{World, Book, Ghost, Tag, Unborn, tag_of, claim, put_idents, IsElsewhere, Lasting, Inv}
 use Rattle.mq_law_rows.specs.Kinds.{puts_of}

@@ -14,7 +14,7 @@ use Rattle.mq_law_rows.specs.Families.{is_here, put_at}
 use Rattle.mq_law_rows.specs.World.{World, Book, Ghost, Tag, Owner, Unborn, At, HeldBy, InBatch, Forced, InUnit, InHand, Gone, ident_of, idents_in, away, stands, row_stands, standing, is_forced, is_counted, counted, is_young, claim, IsHeldBy, IsElsewhere, LanesRise, items_told, put_idents, got_idents, Lasting, Inv}
 use Rattle.mq_law_rows.specs.Kinds.{after, owned, give, place_row, book_place, lift_row, book_lift, book_bury, is_row, is_told_row}
 use Rattle.mq_law_rows.proofs.Lists.{true_false, and_none, and_false, and_right, and_swap, eqb_self, bool_case, is_false, ident_yes, here_yes, here_self, mem_keep, mem_kept, sorted_insert, sorted_keep, distinct_insert, distinct_keep, keep_insert, keep_same, keep_swap, told_insert, told_keep}
-use Rattle.mq_spec_state.specs.Reads.{is_persistent}
+use Rattle.mq_calls.specs.Reads.{is_persistent}
 use Rattle.mq_law_rows.proofs.Young.{order_keep, order_place, order_owned, not_young}
 use Rattle.mq_law_rows.proofs.Lasting.{flagged, flag_is, flag_new, lasts, put_in}
 use Rattle.mq_law_rows.proofs.Owners.{mem_put, mem_put_old, hand_no_claim, absent, told_ident, owned_other, owned_self, held_owned, away_owned, forced_owned, owned_forced}

@@ -13,7 +13,7 @@ use Rattle.mq_sync.specs.Units.{same_unit}
 use Rattle.mq_spec_network.specs.Story.{Mem}
 use Rattle.mq_spec_network.specs.Promised.{AreDistinct}
 use Rattle.mq_spec_network.specs.Standing.{row_told, rows_told}
-use Rattle.mq_spec_state.specs.Reads.{is_persistent}
+use Rattle.mq_calls.specs.Reads.{is_persistent}
 use Rattle.mq_law_rows.specs.Families.{is_here, put_at}
 use Rattle.mq_law_rows.specs.World.{World, Book, Ghost, Mark, Tag, Owner, Unborn, At, InBatch, Forced, InUnit, Gone, tag_of, tag_mark, tag_idents, ident_of, idents_in, is_last, away, stands, row_stands, standing, is_forced, is_counted, counted, is_young, claim, IsHeldBy, IsElsewhere, LanesRise, Inv}
 use Rattle.mq_law_rows.specs.Kinds.{among, Landing, landing_told, landing_mark, place_all, lands_on, unit_at, receive, book_receive, received, ghost_receive, awaits, Commits}

@@ -5,12 +5,12 @@ use Rattle.mq_message.specs.declared.message.Ident.{Ident}
 use Rattle.mq_message.specs.declared.place.Holder.TheVariants as holders
 use Rattle.mq_queue.specs.declared.row.Row.{Row}
 use Rattle.mq_queue.specs.Rows.{same_ident, insert_row, keep, retag, held_by}
-use Rattle.mq_spec_state.specs.Changes.{retag_if, release_if}
+use Rattle.mq_calls.specs.Changes.{retag_if, release_if}
 use Rattle.mq_sync.specs.declared.unit.Unit.{Unit as Luw}
 use Rattle.mq_sync.specs.Units.{same_unit}
 use Rattle.mq_calls.specs.declared.state.Item.{Item}
 use Rattle.mq_calls.specs.declared.state.Item.TheVariants.{Put, Take}
-use Rattle.mq_spec_state.specs.Reads.{is_persistent}
+use Rattle.mq_calls.specs.Reads.{is_persistent}
 use Rattle.mq_law_rows.specs.Families.{is_here, put_at, is_at, put_by}
 use Rattle.mq_law_rows.specs.World.{World, Book, Ghost, Mark, Tag, Owner, Unborn, At, HeldBy, InBatch, Forced, InUnit, InHand, Gone, mark_of, tag_of, tag_idents, is_last, away}
 use Rattle.mq_spec_network.specs.Story.{Mem}

@@ -22,7 +22,7 @@ ghost use Rattle.mq_law_rows.specs.Beginning.{Opens, Spot, first_owner};
 ghost use Rattle.mq_law_rows.specs.Ordered.{IsFront, with_young};
 ghost use Rattle.mq_law_rows.specs.Families.{put_at};
 ghost use Rattle.mq_spec_network.specs.Order.{Before, KeepsQueue};
-ghost use Rattle.mq_spec_state.specs.Reads.{is_persistent};
+ghost use Rattle.mq_calls.specs.Reads.{is_persistent};
 ghost use Rattle.mq_spec_node.specs.Doers.{by};
 ghost use Rattle.mq_spec_network.specs.Ledger.{ledger};
 

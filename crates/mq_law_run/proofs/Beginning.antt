@@ -23,8 +23,8 @@ use Rattle.mq_history.specs.declared.story.ManagerPlaces.{ManagerPlaces}
 use Rattle.mq_history.specs.declared.scenario.CableLine.{CableLine}
 use Rattle.mq_history.specs.declared.scenario.Scenario.{Scenario}
 use Rattle.mq_history.specs.Scenarios.{IsCable}
-use Rattle.mq_spec_state.specs.State.{Plain}
-use Rattle.mq_spec_state.specs.Reads.{in_doubt_of, receiver_data, receiver_in, sender_data, sender_in}
+use Rattle.mq_calls.specs.State.{Plain}
+use Rattle.mq_calls.specs.Reads.{in_doubt_of, receiver_data, receiver_in, sender_data, sender_in}
 use Rattle.mq_spec_node.specs.Node.{ChannelEnd, end_in}
 use Rattle.mq_spec_node.specs.Node.ChannelEnd.{Receives, Sends}
 use Rattle.mq_spec_network.specs.Apart.{case, cable_apart, cable_cases, cables_apart, doubt_case, first_of, idents_apart, is_above, is_other, or_else, receiver_at, row_idents, sender_at, standing_idents}

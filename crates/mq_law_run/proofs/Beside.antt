@@ -16,16 +16,16 @@ use Rattle.mq_receiver.specs.declared.turns.ReceiverDoes.{ReceiverDoes}
 use Rattle.mq_receiver.specs.declared.turns.ReceiverDoes.TheVariants as takes
 use Rattle.mq_calls.specs.declared.records.LogRecord.{LogRecord}
 use Rattle.mq_history.specs.declared.calls.Reply.TheVariants as replies
-use Rattle.mq_spec_state.specs.State.{Batch, Change, Given, Numbers, Plain}
-use Rattle.mq_spec_state.specs.State.Change.{Place, Try, Undoubt, Hold, Leave, Release, SetSender, SetReceiver, Seize, Unseize, AddBatch, DropBatch, SetBound}
-use Rattle.mq_spec_state.specs.Reads.{batch_of, is_full}
-use Rattle.mq_spec_state.specs.Sizes.{need}
+use Rattle.mq_calls.specs.State.{Batch, Change, Given, Numbers, Plain}
+use Rattle.mq_calls.specs.State.Change.{Place, Try, Undoubt, Hold, Leave, Release, SetSender, SetReceiver, Seize, Unseize, AddBatch, DropBatch, SetBound}
+use Rattle.mq_calls.specs.Reads.{batch_of, is_full}
+use Rattle.mq_calls.specs.Sizes.{need}
 use Rattle.mq_objects.specs.Names.{local_of}
-use Rattle.mq_spec_state.specs.Condition.{condition}
-use Rattle.mq_spec_state.specs.Changes.{apply, apply_all, try_if}
-use Rattle.mq_spec_state.specs.Steps.{Part, do_all, do_part, logged}
+use Rattle.mq_calls.specs.Condition.{condition}
+use Rattle.mq_calls.specs.Changes.{apply, apply_all, try_if}
+use Rattle.mq_calls.specs.Steps.{Part, do_all, do_part, logged}
 use Rattle.mq_spec_manager.specs.Get.{expired_parts}
-use Rattle.mq_spec_agents.specs.Words.{expired_rows, leave, prepare_of, prepared_record, queue_of_sender, release_of}
+use Rattle.mq_spec_manager.specs.Agents.{expired_rows, leave, prepare_of, prepared_record, queue_of_sender, release_of}
 use Rattle.mq_spec_node.specs.Node.{Node, ReceiverEnd, SenderEnd}
 use Rattle.mq_spec_node.specs.Deeds.{Deed, parts_of}
 use Rattle.mq_spec_node.specs.Receivers.{receiver_deed_by}

@@ -36,14 +36,14 @@ use Rattle.mq_history.specs.declared.history.History.{History}
 use Rattle.mq_history.specs.declared.scenario.CableLine.{CableLine}
 use Rattle.mq_history.specs.declared.scenario.Scenario.{Scenario}
 use Rattle.mq_history.specs.Scenarios.{IsScenario}
-use Rattle.mq_spec_state.specs.State.{Batch, Plain, Running, Seizure}
-use Rattle.mq_spec_state.specs.State.Change.{Seize}
-use Rattle.mq_spec_state.specs.State.Running.{Down, Up}
-use Rattle.mq_spec_state.specs.Reads.{batch_of, has_held_by_other, in_doubt_of, is_open_for_input, is_up, receiver_data, sender_data}
-use Rattle.mq_spec_state.specs.Steps.{IsWrite, Part, refusal, refused_or as step_or, silent, when}
-use Rattle.mq_spec_state.specs.Steps.Step.{Do}
+use Rattle.mq_calls.specs.State.{Batch, Plain, Running, Seizure}
+use Rattle.mq_calls.specs.State.Change.{Seize}
+use Rattle.mq_calls.specs.State.Running.{Down, Up}
+use Rattle.mq_calls.specs.Reads.{batch_of, has_held_by_other, in_doubt_of, is_open_for_input, is_up, receiver_data, sender_data}
+use Rattle.mq_calls.specs.Steps.{IsWrite, Part, refusal, refused_or as step_or, silent, when}
+use Rattle.mq_calls.specs.Steps.Step.{Do}
 use Rattle.mq_spec_manager.specs.Handles.{is_transmission_queue}
-use Rattle.mq_spec_agents.specs.Words.{channel_queue, harden, held_rows, leave, release_of, seize, set_bound, settle_did, unit_of}
+use Rattle.mq_spec_manager.specs.Agents.{channel_queue, harden, held_rows, leave, release_of, seize, set_bound, settle_did, unit_of}
 use Rattle.mq_spec_network.specs.Conflict.{Deed as ToldDeed, NoConflict, deeds}
 use Rattle.mq_spec_network.specs.Promised.{Premises}
 use Rattle.mq_spec_network.specs.Standing.{node_after}

@@ -6,12 +6,12 @@ use Rattle.mq_calls.specs.declared.records.LogRecord.{LogRecord}
 use Rattle.mq_calls.specs.declared.state.Batch.{Batch}
 use Rattle.mq_history.specs.declared.scenario.CableLine.{CableLine}
 use Rattle.mq_objects.specs.Names.{local_of}
-use Rattle.mq_spec_state.specs.State.{Change, Plain}
-use Rattle.mq_spec_state.specs.State.Change.{AddBatch, DropBatch, ForgetAll, SetBound, Try}
-use Rattle.mq_spec_state.specs.Reads.{batch_of}
-use Rattle.mq_spec_state.specs.Condition.{condition}
-use Rattle.mq_spec_state.specs.Changes.{apply, apply_all, comes_before, set_named, try_if}
-use Rattle.mq_spec_state.specs.Steps.{Part, do_all, do_part, logged}
+use Rattle.mq_calls.specs.State.{Change, Plain}
+use Rattle.mq_calls.specs.State.Change.{AddBatch, DropBatch, ForgetAll, SetBound, Try}
+use Rattle.mq_calls.specs.Reads.{batch_of}
+use Rattle.mq_calls.specs.Condition.{condition}
+use Rattle.mq_calls.specs.Changes.{apply, apply_all, comes_before, set_named, try_if}
+use Rattle.mq_calls.specs.Steps.{Part, do_all, do_part, logged}
 use Rattle.mq_spec_network.specs.Story.{Mem}
 use Rattle.mq_law_channel.proofs.Told.{and_both}
 use Rattle.mq_law_manager.proofs.Named.{batch_dropped, batch_set, name_is, name_self, name_turned}

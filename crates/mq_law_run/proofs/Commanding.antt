@@ -35,13 +35,13 @@ use Rattle.mq_history.specs.declared.history.History.{History}
 use Rattle.mq_history.specs.declared.scenario.CableLine.{CableLine}
 use Rattle.mq_history.specs.declared.scenario.Scenario.{Scenario}
 use Rattle.mq_history.specs.Scenarios.{IsScenario}
-use Rattle.mq_spec_state.specs.State.{Batch, Plain, Seizure}
-use Rattle.mq_spec_state.specs.State.Change.{Seize}
-use Rattle.mq_spec_state.specs.Reads.{batch_of, has_held_by_other, is_open_for_input, is_up, sender_data}
-use Rattle.mq_spec_state.specs.Steps.{Part, delta_of, do_all, refusal, refused_or as step_or, silent, when}
-use Rattle.mq_spec_state.specs.Steps.Step.{Do}
+use Rattle.mq_calls.specs.State.{Batch, Plain, Seizure}
+use Rattle.mq_calls.specs.State.Change.{Seize}
+use Rattle.mq_calls.specs.Reads.{batch_of, has_held_by_other, is_open_for_input, is_up, sender_data}
+use Rattle.mq_calls.specs.Steps.{Part, delta_of, do_all, refusal, refused_or as step_or, silent, when}
+use Rattle.mq_calls.specs.Steps.Step.{Do}
 use Rattle.mq_spec_manager.specs.Handles.{is_transmission_queue}
-use Rattle.mq_spec_agents.specs.Words.{channel_queue, leave, release_batch, release_of, seize}
+use Rattle.mq_spec_manager.specs.Agents.{channel_queue, leave, release_batch, release_of, seize}
 use Rattle.mq_spec_node.specs.Node.{Node}
 use Rattle.mq_spec_node.specs.Node.ChannelEnd.{Sends}
 use Rattle.mq_spec_node.specs.Deeds.{Deed, Done, parts_of}

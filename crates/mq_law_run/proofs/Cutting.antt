@@ -23,12 +23,12 @@ use Rattle.mq_history.specs.declared.history.History.{History}
 use Rattle.mq_history.specs.declared.scenario.CableLine.{CableLine}
 use Rattle.mq_history.specs.declared.scenario.Scenario.{Scenario}
 use Rattle.mq_history.specs.Scenarios.{IsScenario}
-use Rattle.mq_spec_state.specs.State.{Noted, Plain}
-use Rattle.mq_spec_state.specs.State.Running.{Up}
-use Rattle.mq_spec_state.specs.Reads.{receiver_data, sender_data}
-use Rattle.mq_spec_agents.specs.Words.{harden_part}
-use Rattle.mq_spec_state.specs.Steps.{IsWrite, Part, delta_before, freeze, note_of, stopped_at}
-use Rattle.mq_spec_state.specs.Steps.Step.{Do}
+use Rattle.mq_calls.specs.State.{Noted, Plain}
+use Rattle.mq_calls.specs.State.Running.{Up}
+use Rattle.mq_calls.specs.Reads.{receiver_data, sender_data}
+use Rattle.mq_spec_manager.specs.Agents.{harden_part}
+use Rattle.mq_calls.specs.Steps.{IsWrite, Part, delta_before, freeze, note_of, stopped_at}
+use Rattle.mq_calls.specs.Steps.Step.{Do}
 use Rattle.mq_spec_node.specs.Node.{Node}
 use Rattle.mq_spec_node.specs.Deeds.{CanCome, Deed, Done, done, node_of}
 use Rattle.mq_spec_node.specs.Replays.{done_by}

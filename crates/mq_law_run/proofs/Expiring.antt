@@ -19,11 +19,11 @@ use Rattle.mq_history.specs.declared.history.History.{History}
 use Rattle.mq_history.specs.declared.scenario.CableLine.{CableLine}
 use Rattle.mq_history.specs.declared.scenario.Scenario.{Scenario}
 use Rattle.mq_history.specs.Scenarios.{IsScenario}
-use Rattle.mq_spec_state.specs.State.{Plain, Running, Given}
-use Rattle.mq_spec_state.specs.State.Running.{Up}
-use Rattle.mq_spec_state.specs.Reads.{is_up, stored}
-use Rattle.mq_spec_state.specs.Steps.{Part, delta_of, do_all}
-use Rattle.mq_spec_agents.specs.Words.{queue_of_sender, stock, expired_rows, leave}
+use Rattle.mq_calls.specs.State.{Plain, Running, Given}
+use Rattle.mq_calls.specs.State.Running.{Up}
+use Rattle.mq_calls.specs.Reads.{is_up, stored}
+use Rattle.mq_calls.specs.Steps.{Part, delta_of, do_all}
+use Rattle.mq_spec_manager.specs.Agents.{queue_of_sender, stock, expired_rows, leave}
 use Rattle.mq_spec_node.specs.Node.{Node, SenderEnd}
 use Rattle.mq_spec_node.specs.Deeds.{Deed, Done, done, parts_of}
 use Rattle.mq_spec_node.specs.Senders.{leave_if_stopped, sender_deed, sender_deed_by}

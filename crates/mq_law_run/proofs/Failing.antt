@@ -4,9 +4,9 @@ use Rattle.std.specs.Prelude.{Option, Some, None, slice_get}
 use Rattle.mq_frame.specs.declared.frame.Frame.{Frame}
 use Rattle.mq_history.specs.declared.history.History.{History}
 use Rattle.mq_history.specs.declared.scenario.Scenario.{Scenario}
-use Rattle.mq_spec_state.specs.State.{LogState, Noted, Plain, Running}
-use Rattle.mq_spec_state.specs.State.Running.{Down}
-use Rattle.mq_spec_state.specs.Reads.{is_up}
+use Rattle.mq_calls.specs.State.{LogState, Noted, Plain, Running}
+use Rattle.mq_calls.specs.State.Running.{Down}
+use Rattle.mq_calls.specs.Reads.{is_up}
 use Rattle.mq_spec_node.specs.Node.{Node}
 use Rattle.mq_spec_node.specs.Replays.{IsOwn, Tells, done_by}
 use Rattle.mq_spec_network.specs.Conflict.{deeds, deeds_in}

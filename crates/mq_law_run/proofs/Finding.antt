@@ -25,12 +25,12 @@ use Rattle.mq_history.specs.declared.history.History.{History}
 use Rattle.mq_history.specs.declared.scenario.CableLine.{CableLine}
 use Rattle.mq_history.specs.declared.scenario.Scenario.{Scenario}
 use Rattle.mq_history.specs.Scenarios.{IsScenario}
-use Rattle.mq_spec_state.specs.State.{Change, Noted, Plain, Running}
-use Rattle.mq_spec_state.specs.State.Running.{Down}
-use Rattle.mq_spec_state.specs.Reads.{receiver_data, sender_data}
-use Rattle.mq_spec_state.specs.Steps.{stands_in}
+use Rattle.mq_calls.specs.State.{Change, Noted, Plain, Running}
+use Rattle.mq_calls.specs.State.Running.{Down}
+use Rattle.mq_calls.specs.Reads.{receiver_data, sender_data}
+use Rattle.mq_calls.specs.Steps.{stands_in}
 use Rattle.mq_spec_manager.specs.Stops.{lasts, redone, redone_delta}
-use Rattle.mq_spec_agents.specs.Words.{harden_part}
+use Rattle.mq_spec_manager.specs.Agents.{harden_part}
 use Rattle.mq_spec_node.specs.Node.{Node}
 use Rattle.mq_spec_node.specs.Deeds.{Done}
 use Rattle.mq_spec_node.specs.Replays.{done_by}

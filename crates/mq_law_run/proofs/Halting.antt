@@ -29,15 +29,15 @@ use Rattle.mq_history.specs.declared.history.History.{History}
 use Rattle.mq_history.specs.declared.scenario.CableLine.{CableLine}
 use Rattle.mq_history.specs.declared.scenario.Scenario.{Scenario}
 use Rattle.mq_history.specs.Scenarios.{IsScenario}
-use Rattle.mq_spec_state.specs.State.{Plain}
-use Rattle.mq_spec_state.specs.State.Running.{Up}
+use Rattle.mq_calls.specs.State.{Plain}
+use Rattle.mq_calls.specs.State.Running.{Up}
 use Rattle.mq_queue.specs.Rows.{is_free}
-use Rattle.mq_spec_state.specs.Reads.{free_rows, is_expired, is_up, stored}
+use Rattle.mq_calls.specs.Reads.{free_rows, is_expired, is_up, stored}
 use Rattle.mq_calls.specs.declared.agents.PrepareFault.{PrepareFault}
-use Rattle.mq_spec_state.specs.Steps.{Part, Step}
-use Rattle.mq_spec_state.specs.Steps.Step.{Do, Refuse}
+use Rattle.mq_calls.specs.Steps.{Part, Step}
+use Rattle.mq_calls.specs.Steps.Step.{Do, Refuse}
 use Rattle.mq_spec_manager.specs.Get.{expired_parts, removal_part}
-use Rattle.mq_spec_agents.specs.Words.{Landed, expired_rows, landed, queue_of_sender, receive, stock, taken_of}
+use Rattle.mq_spec_manager.specs.Agents.{Landed, expired_rows, landed, queue_of_sender, receive, stock, taken_of}
 use Rattle.mq_spec_network.specs.Ledger as ledgers
 use Rattle.mq_spec_network.specs.Conflict.{deeds}
 use Rattle.mq_spec_network.specs.Ledger.{Ledger, ledger, move_all, receive_if, received_on}

@@ -15,11 +15,11 @@ use Rattle.mq_history.specs.declared.calls.Call.TheVariants as calls
 use Rattle.mq_history.specs.declared.calls.Chance.{Chance}
 use Rattle.mq_history.specs.declared.calls.Chance.TheVariants as chances
 use Rattle.mq_history.specs.declared.calls.Reply.TheVariants as replies
-use Rattle.mq_spec_state.specs.State.{Noted, Running}
-use Rattle.mq_spec_state.specs.State.Running.{Up, Down}
+use Rattle.mq_calls.specs.State.{Noted, Running}
+use Rattle.mq_calls.specs.State.Running.{Up, Down}
 use Rattle.mq_spec_manager.specs.Stops.{advance_clock, cut}
-use Rattle.mq_spec_state.specs.Reads.{receiver_data, sender_data}
-use Rattle.mq_spec_state.specs.Steps.{delta_of, do_all, stopped_at}
+use Rattle.mq_calls.specs.Reads.{receiver_data, sender_data}
+use Rattle.mq_calls.specs.Steps.{delta_of, do_all, stopped_at}
 use Rattle.mq_sync.specs.declared.data.ReceiverData.{ReceiverData}
 use Rattle.mq_sync.specs.declared.data.SenderData.{SenderData}
 use Rattle.mq_sync.specs.Settlement.{receiver_or, sender_or}

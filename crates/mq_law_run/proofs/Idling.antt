@@ -4,7 +4,7 @@ use Rattle.std.specs.Prelude.{Some, None, slice_get}
 use Rattle.mq_frame.specs.declared.frame.Frame.{Frame}
 use Rattle.mq_history.specs.declared.history.History.{History}
 use Rattle.mq_history.specs.declared.scenario.Scenario.{Scenario}
-use Rattle.mq_spec_state.specs.State.{Plain}
+use Rattle.mq_calls.specs.State.{Plain}
 use Rattle.mq_spec_node.specs.Node.{Node}
 use Rattle.mq_spec_node.specs.Deeds.{Done}
 use Rattle.mq_spec_node.specs.Replays.{IsOwn, Tells, done_by}

@@ -9,14 +9,14 @@ use Rattle.mq_calls.specs.declared.deltas.Did.{Did}
 use Rattle.mq_calls.specs.declared.deltas.Did.TheVariants as did
 use Rattle.mq_sync.specs.Settlement.{receiver_or}
 use Rattle.mq_spec_network.specs.Order.{unit_received}
-use Rattle.mq_spec_state.specs.State.{Change, Plain}
-use Rattle.mq_spec_state.specs.State.Change.{SetReceiver}
-use Rattle.mq_spec_state.specs.Reads.{is_persistent, receiver_data}
-use Rattle.mq_spec_state.specs.Changes.{apply_all}
+use Rattle.mq_calls.specs.State.{Change, Plain}
+use Rattle.mq_calls.specs.State.Change.{SetReceiver}
+use Rattle.mq_calls.specs.Reads.{is_persistent, receiver_data}
+use Rattle.mq_calls.specs.Changes.{apply_all}
 use Rattle.mq_spec_manager.specs.Put.{placed}
-use Rattle.mq_spec_agents.specs.Landing.{Landing, land}
-use Rattle.mq_spec_agents.specs.Receiving.{Landed, before, land_changes, landed, landed_by, landed_unless, received_part}
-use Rattle.mq_spec_agents.specs.Standing.{Absent, InDoubtAt, Present, Standing, drop_changes, drop_did, drop_row, is_present, standing_at, undoubted}
+use Rattle.mq_spec_manager.specs.Landing.{Landing, land}
+use Rattle.mq_spec_manager.specs.Receiving.{Landed, before, land_changes, landed, landed_by, landed_unless, received_part}
+use Rattle.mq_spec_manager.specs.Standing.{Absent, InDoubtAt, Present, Standing, drop_changes, drop_did, drop_row, is_present, standing_at, undoubted}
 use Rattle.mq_law_channel.proofs.Told.{and_both}
 use Rattle.mq_law_run.proofs.Beside.{adds_none, all_add_none, all_of_end, is_of_end, parts_add_none, parts_of_end}
 

@@ -7,7 +7,7 @@ use Rattle.mq_history.specs.declared.scenario.CableLine.{CableLine}
 use Rattle.mq_history.specs.declared.scenario.Scenario.{Scenario}
 use Rattle.mq_calls.specs.declared.choices.Choice.{Choice}
 use Rattle.mq_history.specs.Scenarios.{IsScenario}
-use Rattle.mq_spec_state.specs.State.Running.{Up}
+use Rattle.mq_calls.specs.State.Running.{Up}
 use Rattle.mq_spec_node.specs.Node.{Node}
 use Rattle.mq_spec_node.specs.Deeds.{CanCome, Deed, done}
 use Rattle.mq_spec_network.specs.Story.{Chain, Mem}

@@ -17,10 +17,10 @@ use Rattle.mq_calls.specs.declared.deltas.Did.TheVariants as did
 use Rattle.mq_calls.specs.declared.deltas.Why.TheVariants as whys
 use Rattle.mq_calls.specs.declared.records.LogRecord.{LogRecord}
 use Rattle.mq_calls.specs.declared.records.Remove.{Remove}
-use Rattle.mq_spec_state.specs.State.{Plain, Queue}
-use Rattle.mq_spec_state.specs.Reads.{queue_in, stands, stored}
+use Rattle.mq_calls.specs.State.{Plain, Queue}
+use Rattle.mq_calls.specs.Reads.{queue_in, stands, stored}
 use Rattle.mq_spec_manager.specs.Stops.{lasts}
-use Rattle.mq_spec_agents.specs.Words.{held_on, held_rows, settle_did}
+use Rattle.mq_spec_manager.specs.Agents.{held_on, held_rows, settle_did}
 use Rattle.mq_spec_network.specs.Conflict.{committed_in, deeds_in}
 use Rattle.mq_spec_network.specs.Ledger.{Ledger}
 use Rattle.mq_spec_network.specs.Order.{Forced, OrderAt, forced_after, forced_by, forced_in, sent_idents, unit_received}

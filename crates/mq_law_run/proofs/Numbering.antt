@@ -16,10 +16,10 @@ use Rattle.mq_history.specs.declared.calls.Chance.{Chance}
 use Rattle.mq_history.specs.declared.calls.Chance.TheVariants as chances
 use Rattle.mq_history.specs.declared.calls.Reply.{Reply}
 use Rattle.mq_history.specs.declared.calls.Reply.TheVariants as replies
-use Rattle.mq_spec_state.specs.State.{Plain}
-use Rattle.mq_spec_state.specs.State.Change.{Connect}
-use Rattle.mq_spec_state.specs.Steps.{Part, do_part, refusal, refused_or, silent, stopped_at}
-use Rattle.mq_spec_state.specs.Steps.Step.{Do}
+use Rattle.mq_calls.specs.State.{Plain}
+use Rattle.mq_calls.specs.State.Change.{Connect}
+use Rattle.mq_calls.specs.Steps.{Part, do_part, refusal, refused_or, silent, stopped_at}
+use Rattle.mq_calls.specs.Steps.Step.{Do}
 use Rattle.mq_spec_manager.specs.Handles.{conn_tests, new_connection, new_hconn}
 use Rattle.mq_spec_node.specs.Node.{Node, Own}
 use Rattle.mq_spec_node.specs.Deeds.{CanCome, CanWant, Deed, Done, done, mqi_deed, wanted}

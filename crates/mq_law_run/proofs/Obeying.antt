@@ -25,12 +25,12 @@ use Rattle.mq_history.specs.declared.calls.Reply.TheVariants as replies
 use Rattle.mq_history.specs.declared.history.History.{History}
 use Rattle.mq_history.specs.declared.scenario.CableLine.{CableLine}
 use Rattle.mq_history.specs.declared.scenario.Scenario.{Scenario}
-use Rattle.mq_spec_state.specs.State.{Running}
-use Rattle.mq_spec_state.specs.State.Running.{Up, Down}
+use Rattle.mq_calls.specs.State.{Running}
+use Rattle.mq_calls.specs.State.Running.{Up, Down}
 use Rattle.mq_objects.specs.Names.{channel_of}
-use Rattle.mq_spec_state.specs.Reads.{is_up}
-use Rattle.mq_spec_state.specs.Steps.{Step, refusal, when}
-use Rattle.mq_spec_state.specs.Steps.Step.{Refuse, Do}
+use Rattle.mq_calls.specs.Reads.{is_up}
+use Rattle.mq_calls.specs.Steps.{Step, refusal, when}
+use Rattle.mq_calls.specs.Steps.Step.{Refuse, Do}
 use Rattle.mq_spec_node.specs.Node.{ChannelEnd, Handler, Monitor, Node, Own, ReceiverEnd, SenderEnd, Tried, cable_of, end_in, sender_named}
 use Rattle.mq_spec_node.specs.Node.ChannelEnd.{Sends, Receives}
 use Rattle.mq_spec_node.specs.Deeds.{CanCome, Deed, Done, done, still_tried}

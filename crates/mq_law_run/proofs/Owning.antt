@@ -12,7 +12,7 @@ use Rattle.mq_history.specs.declared.calls.Chance.{Chance}
 use Rattle.mq_history.specs.declared.calls.Entry.{Entry}
 use Rattle.mq_history.specs.declared.history.History.{History}
 use Rattle.mq_history.specs.declared.scenario.Scenario.{Scenario}
-use Rattle.mq_spec_state.specs.State.{Plain}
+use Rattle.mq_calls.specs.State.{Plain}
 use Rattle.mq_spec_node.specs.Node.{Node}
 use Rattle.mq_spec_node.specs.Deeds.{Deed, Done, done}
 use Rattle.mq_spec_node.specs.Happens.{IsEvent, event}

@@ -17,11 +17,11 @@ use Rattle.mq_calls.specs.declared.deltas.Did.{Did}
 use Rattle.mq_calls.specs.declared.deltas.Did.TheVariants as did
 use Rattle.mq_history.specs.declared.calls.Call.TheVariants as calls
 use Rattle.mq_history.specs.declared.calls.Reply.TheVariants as replies
-use Rattle.mq_spec_state.specs.State.{Plain}
-use Rattle.mq_spec_state.specs.Reads.{is_full}
-use Rattle.mq_spec_state.specs.Sizes.{need}
-use Rattle.mq_spec_state.specs.Steps.{delta_of, do_all, do_part}
-use Rattle.mq_spec_agents.specs.Receiving.{Landed, landed, receive_landed, received_part, received_record}
+use Rattle.mq_calls.specs.State.{Plain}
+use Rattle.mq_calls.specs.Reads.{is_full}
+use Rattle.mq_calls.specs.Sizes.{need}
+use Rattle.mq_calls.specs.Steps.{delta_of, do_all, do_part}
+use Rattle.mq_spec_manager.specs.Receiving.{Landed, landed, receive_landed, received_part, received_record}
 use Rattle.mq_spec_node.specs.Node.{Node}
 use Rattle.mq_spec_node.specs.Deeds.{Deed}
 use Rattle.mq_spec_node.specs.Receivers.{place_deed, receiver_deed_by}

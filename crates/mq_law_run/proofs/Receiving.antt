@@ -25,10 +25,10 @@ use Rattle.mq_history.specs.declared.story.ManagerPlaces.{ManagerPlaces}
 use Rattle.mq_history.specs.declared.scenario.CableLine.{CableLine}
 use Rattle.mq_history.specs.declared.scenario.Scenario.{Scenario}
 use Rattle.mq_history.specs.Scenarios.{IsScenario}
-use Rattle.mq_spec_state.specs.State.{Given, Numbers, Plain, Running}
-use Rattle.mq_spec_state.specs.State.Running.{Up}
-use Rattle.mq_spec_state.specs.Reads.{is_up}
-use Rattle.mq_spec_state.specs.Steps.{delta_of, do_all}
+use Rattle.mq_calls.specs.State.{Given, Numbers, Plain, Running}
+use Rattle.mq_calls.specs.State.Running.{Up}
+use Rattle.mq_calls.specs.Reads.{is_up}
+use Rattle.mq_calls.specs.Steps.{delta_of, do_all}
 use Rattle.mq_spec_node.specs.Node.{Node, ReceiverEnd}
 use Rattle.mq_spec_node.specs.Deeds.{Deed, Done, done}
 use Rattle.mq_spec_node.specs.Receivers.{is_receiver_defined, receiver_deed}

@@ -33,15 +33,15 @@ use Rattle.mq_history.specs.declared.history.History.{History}
 use Rattle.mq_history.specs.declared.scenario.CableLine.{CableLine}
 use Rattle.mq_history.specs.declared.scenario.Scenario.{Scenario}
 use Rattle.mq_history.specs.Scenarios.{IsScenario}
-use Rattle.mq_spec_state.specs.State.{Change, Channels, Noted, Plain}
-use Rattle.mq_spec_state.specs.State.Change.{SetReceiver}
-use Rattle.mq_spec_state.specs.State.Running.{Down}
-use Rattle.mq_spec_state.specs.Reads.{receiver_data, receiver_in, sender_data, sender_in}
-use Rattle.mq_spec_state.specs.Steps.{stands_in}
+use Rattle.mq_calls.specs.State.{Change, Channels, Noted, Plain}
+use Rattle.mq_calls.specs.State.Change.{SetReceiver}
+use Rattle.mq_calls.specs.State.Running.{Down}
+use Rattle.mq_calls.specs.Reads.{receiver_data, receiver_in, sender_data, sender_in}
+use Rattle.mq_calls.specs.Steps.{stands_in}
 use Rattle.mq_spec_manager.specs.Stops.{lasts, redone, redone_delta}
-use Rattle.mq_spec_state.specs.Changes.{apply_all}
-use Rattle.mq_spec_agents.specs.Landing.{Landing, land}
-use Rattle.mq_spec_agents.specs.Words.{Landed, Standing, before, is_present, land_changes, landed, landed_by, landed_unless, received_part, received_record, standing_at}
+use Rattle.mq_calls.specs.Changes.{apply_all}
+use Rattle.mq_spec_manager.specs.Landing.{Landing, land}
+use Rattle.mq_spec_manager.specs.Agents.{Landed, Standing, before, is_present, land_changes, landed, landed_by, landed_unless, received_part, received_record, standing_at}
 use Rattle.mq_spec_node.specs.Node.{Node}
 use Rattle.mq_spec_node.specs.Deeds.{Done}
 use Rattle.mq_spec_node.specs.Replays.{done_by}

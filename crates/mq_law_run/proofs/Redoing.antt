@@ -7,9 +7,9 @@ use Rattle.mq_history.specs.declared.history.History.{History}
 use Rattle.mq_history.specs.declared.scenario.CableLine.{CableLine}
 use Rattle.mq_history.specs.declared.scenario.Scenario.{Scenario}
 use Rattle.mq_history.specs.Scenarios.{IsScenario}
-use Rattle.mq_spec_state.specs.State.{LogState, Plain}
-use Rattle.mq_spec_state.specs.State.Running.{Down}
-use Rattle.mq_spec_state.specs.Reads.{is_persistent, receiver_data, receiver_in, sender_in}
+use Rattle.mq_calls.specs.State.{LogState, Plain}
+use Rattle.mq_calls.specs.State.Running.{Down}
+use Rattle.mq_calls.specs.Reads.{is_persistent, receiver_data, receiver_in, sender_in}
 use Rattle.mq_spec_network.specs.Story.{Line, Mem}
 use Rattle.mq_law_run.proofs.Lining.{mem_at}
 use Rattle.mq_history.specs.declared.acts.Act.TheVariants as acts
@@ -45,15 +45,15 @@ use Rattle.mq_law_node.proofs.NearEvents.{begun_here}
 use Rattle.mq_calls.specs.declared.choices.Return.TheVariants.{Comes}
 use Rattle.mq_receiver.specs.declared.state.Receiver.{Receiver}
 use Rattle.mq_receiver.specs.States as receivers
-use Rattle.mq_spec_state.specs.State.{Noted}
+use Rattle.mq_calls.specs.State.{Noted}
 use Rattle.mq_spec_manager.specs.Stops.{grown, redone, redone_delta, restarted}
 use Rattle.mq_calls.specs.declared.deltas.Did.{Did}
 use Rattle.mq_law_node.specs.Nodes.{FarAt, NearAt}
 use Rattle.mq_law_run.proofs.Tying.{leads_on, forced_then, keeps_less, keeps_then, stop_less}
-use Rattle.mq_spec_state.specs.State.{Given}
+use Rattle.mq_calls.specs.State.{Given}
 use Rattle.mq_queue.specs.declared.row.Row.{Row}
 use Rattle.mq_sync.specs.Settlement.{receiver_or, sender_or}
-use Rattle.mq_spec_state.specs.Images.{Image, begun, lasting, raised}
+use Rattle.mq_calls.specs.Images.{Image, begun, lasting, raised}
 use Rattle.mq_spec_network.specs.Ledger.{change_at}
 use Rattle.mq_law_node.specs.Ends.{told_receives, told_sends}
 use Rattle.mq_message.specs.declared.message.Ident.{Ident}

@@ -28,10 +28,10 @@ use Rattle.mq_history.specs.declared.history.History.{History}
 use Rattle.mq_history.specs.declared.scenario.CableLine.{CableLine}
 use Rattle.mq_history.specs.declared.scenario.Scenario.{Scenario}
 use Rattle.mq_history.specs.Scenarios.{IsScenario}
-use Rattle.mq_spec_state.specs.Reads.{in_doubt_of, is_up, sender_data, stored}
-use Rattle.mq_spec_state.specs.State.{Plain}
-use Rattle.mq_spec_state.specs.Steps.{delta_of, do_part}
-use Rattle.mq_spec_agents.specs.Words.{harden_part, held_rows, settle_did}
+use Rattle.mq_calls.specs.Reads.{in_doubt_of, is_up, sender_data, stored}
+use Rattle.mq_calls.specs.State.{Plain}
+use Rattle.mq_calls.specs.Steps.{delta_of, do_part}
+use Rattle.mq_spec_manager.specs.Agents.{harden_part, held_rows, settle_did}
 use Rattle.mq_spec_node.specs.Node.{Node, SenderEnd, sender_named}
 use Rattle.mq_spec_node.specs.Deeds.{Deed, Done}
 use Rattle.mq_spec_node.specs.Operators.{operate, refused_or, resolve_doubt, resolve_end}

@@ -8,9 +8,9 @@ use Rattle.mq_history.specs.declared.history.History.{History}
 use Rattle.mq_history.specs.declared.scenario.CableLine.{CableLine}
 use Rattle.mq_history.specs.declared.scenario.Scenario.{Scenario}
 use Rattle.mq_history.specs.Scenarios.{IsScenario}
-use Rattle.mq_spec_state.specs.State.{Plain, Running}
-use Rattle.mq_spec_state.specs.State.Running.{Down}
-use Rattle.mq_spec_state.specs.Reads.{receiver_data}
+use Rattle.mq_calls.specs.State.{Plain, Running}
+use Rattle.mq_calls.specs.State.Running.{Down}
+use Rattle.mq_calls.specs.Reads.{receiver_data}
 use Rattle.mq_spec_network.specs.Story.{Line, Mem}
 use Rattle.mq_law_channel.specs.Channel.{Channel, Facts}
 use Rattle.mq_law_channel.specs.Turns.{receiver_rests}
@@ -60,7 +60,7 @@ use Rattle.mq_law_node.proofs.NearEvents.{begun_here}
 use Rattle.mq_calls.specs.declared.choices.Return.TheVariants.{Comes}
 use Rattle.mq_receiver.specs.declared.state.Receiver.{Receiver}
 use Rattle.mq_receiver.specs.States as receivers
-use Rattle.mq_spec_state.specs.State.{Noted}
+use Rattle.mq_calls.specs.State.{Noted}
 use Rattle.mq_spec_manager.specs.Stops.{grown, restarted}
 use Rattle.mq_law_node.specs.Nodes.{FarAt, NearAt}
 use Rattle.mq_law_cables.proofs.Unprepared.{unprepared_still}

@@ -8,9 +8,9 @@ use Rattle.mq_history.specs.declared.history.History.{History}
 use Rattle.mq_history.specs.declared.scenario.CableLine.{CableLine}
 use Rattle.mq_history.specs.declared.scenario.Scenario.{Scenario}
 use Rattle.mq_history.specs.Scenarios.{IsScenario}
-use Rattle.mq_spec_state.specs.State.{Plain, Running}
-use Rattle.mq_spec_state.specs.State.Running.{Down}
-use Rattle.mq_spec_state.specs.Reads.{receiver_data}
+use Rattle.mq_calls.specs.State.{Plain, Running}
+use Rattle.mq_calls.specs.State.Running.{Down}
+use Rattle.mq_calls.specs.Reads.{receiver_data}
 use Rattle.mq_spec_network.specs.Story.{Line, Mem}
 use Rattle.mq_law_channel.specs.Channel.{Channel, Facts}
 use Rattle.mq_law_channel.specs.Turns.{receiver_rests}
@@ -58,7 +58,7 @@ use Rattle.mq_law_node.proofs.NearEvents.{begun_here}
 use Rattle.mq_calls.specs.declared.choices.Return.TheVariants.{Comes}
 use Rattle.mq_receiver.specs.declared.state.Receiver.{Receiver}
 use Rattle.mq_receiver.specs.States as receivers
-use Rattle.mq_spec_state.specs.State.{Noted}
+use Rattle.mq_calls.specs.State.{Noted}
 use Rattle.mq_spec_manager.specs.Stops.{grown, lasts, redone, redone_delta, restarted}
 use Rattle.mq_calls.specs.declared.deltas.Did.{Did}
 use Rattle.mq_law_node.specs.Nodes.{FarAt, NearAt}
@@ -67,9 +67,9 @@ use Rattle.mq_law_run.proofs.Stopping.{all_at_rest, at_rest_far, at_rest_near, e
 use Rattle.mq_law_run.proofs.Tying.{leads_on, forced_kept, keeps_less, keeps_then, stop_less}
 use Rattle.mq_sync.specs.declared.data.SenderData.{SenderData}
 use Rattle.mq_sync.specs.Settlement.{receiver_or, sender_or}
-use Rattle.mq_spec_state.specs.State.{Given}
-use Rattle.mq_spec_state.specs.Reads.{batch_of, in_doubt_of, receiver_in, sender_in}
-use Rattle.mq_spec_state.specs.Images.{begun, lasting, raised}
+use Rattle.mq_calls.specs.State.{Given}
+use Rattle.mq_calls.specs.Reads.{batch_of, in_doubt_of, receiver_in, sender_in}
+use Rattle.mq_calls.specs.Images.{begun, lasting, raised}
 use Rattle.mq_spec_network.specs.Ledger.{change_at}
 use Rattle.mq_law_node.specs.Data.{receives_at}
 use Rattle.mq_law_node.specs.Ends.{told_receives, told_sends}

@@ -6,9 +6,9 @@ use Rattle.mq_calls.specs.declared.choices.Choice.TheVariants.{Runs}
 use Rattle.mq_history.specs.declared.history.History.{History}
 use Rattle.mq_history.specs.declared.scenario.CableLine.{CableLine}
 use Rattle.mq_history.specs.declared.scenario.Scenario.{Scenario}
-use Rattle.mq_spec_state.specs.State.{Given, Noted, Numbers, Plain, Running}
-use Rattle.mq_spec_state.specs.State.Running.{Up}
-use Rattle.mq_spec_state.specs.Steps.{do_all}
+use Rattle.mq_calls.specs.State.{Given, Noted, Numbers, Plain, Running}
+use Rattle.mq_calls.specs.State.Running.{Up}
+use Rattle.mq_calls.specs.Steps.{do_all}
 use Rattle.mq_spec_node.specs.Node.{Node}
 use Rattle.mq_spec_node.specs.Deeds.{CanCome, Deed, Done, done}
 use Rattle.mq_spec_node.specs.Replays.{done_by}

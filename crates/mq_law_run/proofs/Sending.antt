@@ -32,15 +32,15 @@ use Rattle.mq_history.specs.declared.history.History.{History}
 use Rattle.mq_history.specs.declared.scenario.CableLine.{CableLine}
 use Rattle.mq_history.specs.declared.scenario.Scenario.{Scenario}
 use Rattle.mq_history.specs.Scenarios.{IsScenario}
-use Rattle.mq_spec_state.specs.State.{Plain, Running}
-use Rattle.mq_spec_state.specs.State.Running.{Up}
-use Rattle.mq_spec_state.specs.State.Which.{Among as Named}
-use Rattle.mq_spec_state.specs.State.Change.{Hold}
-use Rattle.mq_spec_state.specs.Reads.{batch_of, free_rows, is_up, stored}
-use Rattle.mq_spec_state.specs.Changes.{apply}
-use Rattle.mq_spec_state.specs.Steps.{delta_of, do_all}
+use Rattle.mq_calls.specs.State.{Plain, Running}
+use Rattle.mq_calls.specs.State.Running.{Up}
+use Rattle.mq_calls.specs.State.Which.{Among as Named}
+use Rattle.mq_calls.specs.State.Change.{Hold}
+use Rattle.mq_calls.specs.Reads.{batch_of, free_rows, is_up, stored}
+use Rattle.mq_calls.specs.Changes.{apply}
+use Rattle.mq_calls.specs.Steps.{delta_of, do_all}
 use Rattle.mq_spec_manager.specs.Get.{idents_of}
-use Rattle.mq_spec_agents.specs.Words.{hold_batch, queue_of_sender, stock}
+use Rattle.mq_spec_manager.specs.Agents.{hold_batch, queue_of_sender, stock}
 use Rattle.mq_spec_node.specs.Node.{Node, SenderEnd}
 use Rattle.mq_spec_node.specs.Deeds.{Deed, Done, done, parts_of}
 use Rattle.mq_spec_node.specs.Senders.{leave_if_stopped, sender_deed, sender_deed_by}

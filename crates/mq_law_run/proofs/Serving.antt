@@ -26,10 +26,10 @@ use Rattle.mq_history.specs.declared.history.History.{History}
 use Rattle.mq_history.specs.declared.scenario.CableLine.{CableLine}
 use Rattle.mq_history.specs.declared.scenario.Scenario.{Scenario}
 use Rattle.mq_history.specs.Scenarios.{IsScenario}
-use Rattle.mq_spec_state.specs.State.{Plain, Running}
-use Rattle.mq_spec_state.specs.Reads.{is_up, receiver_data}
-use Rattle.mq_spec_state.specs.Steps.{delta_of, do_all}
-use Rattle.mq_spec_agents.specs.Words.{harden, set_bound}
+use Rattle.mq_calls.specs.State.{Plain, Running}
+use Rattle.mq_calls.specs.Reads.{is_up, receiver_data}
+use Rattle.mq_calls.specs.Steps.{delta_of, do_all}
+use Rattle.mq_spec_manager.specs.Agents.{harden, set_bound}
 use Rattle.mq_spec_node.specs.Node.{Node, ReceiverEnd, with_end}
 use Rattle.mq_spec_node.specs.Node.ChannelEnd.{Receives}
 use Rattle.mq_spec_node.specs.Deeds.{Deed, Done, done, parts_of}

@@ -37,10 +37,10 @@ use Rattle.mq_receiver.specs.declared.state.Owed.TheVariants as owed
 use Rattle.mq_receiver.specs.declared.turns.ReceiverDoes.{ReceiverDoes}
 use Rattle.mq_receiver.specs.declared.turns.ReceiverDoes.TheVariants as takes
 use Rattle.mq_receiver.specs.States.{owed_frame}
-use Rattle.mq_spec_state.specs.State.{Running}
-use Rattle.mq_spec_state.specs.State.Running.{Up, Down}
-use Rattle.mq_spec_state.specs.Steps.{Step}
-use Rattle.mq_spec_state.specs.Steps.Step.{Refuse, Do}
+use Rattle.mq_calls.specs.State.{Running}
+use Rattle.mq_calls.specs.State.Running.{Up, Down}
+use Rattle.mq_calls.specs.Steps.{Step}
+use Rattle.mq_calls.specs.Steps.Step.{Refuse, Do}
 use Rattle.mq_spec_manager.specs.Stops.{restart_at}
 use Rattle.mq_spec_node.specs.Node.{ChannelEnd, Node, Own, ReceiverEnd, SenderEnd, receiver_end, sender_end, sender_named}
 use Rattle.mq_spec_node.specs.Node.ChannelEnd.{Sends, Receives}

@@ -27,8 +27,8 @@ use Rattle.mq_law_seen.specs.Seen.{book_of}
 use Rattle.mq_law_story.proofs.Weaving.{node_step}
 use Rattle.mq_law_deeds.specs.Numbers.{AreCountedAt}
 use Rattle.mq_law_cables.specs.Joints.{AreCabled}
-use Rattle.mq_spec_state.specs.State.{Noted, Plain, Running}
-use Rattle.mq_spec_state.specs.State.Running.{Down, Up}
+use Rattle.mq_calls.specs.State.{Noted, Plain, Running}
+use Rattle.mq_calls.specs.State.Running.{Down, Up}
 use Rattle.mq_spec_network.specs.Ledger as ledgers
 use Rattle.mq_law_node.specs.Nodes.{SameFar, SameNear}
 use Rattle.mq_law_stopped.specs.Noted.{EndNote}

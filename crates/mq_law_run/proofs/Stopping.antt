@@ -11,8 +11,8 @@ use Rattle.mq_history.specs.declared.history.History.{History}
 use Rattle.mq_history.specs.declared.scenario.CableLine.{CableLine}
 use Rattle.mq_history.specs.declared.scenario.Scenario.{Scenario}
 use Rattle.mq_history.specs.Scenarios.{IsScenario}
-use Rattle.mq_spec_state.specs.State.{Plain, Running}
-use Rattle.mq_spec_state.specs.State.Running.{Up, Down}
+use Rattle.mq_calls.specs.State.{Plain, Running}
+use Rattle.mq_calls.specs.State.Running.{Up, Down}
 use Rattle.mq_spec_network.specs.Story.{Line, Mem}
 use Rattle.mq_law_channel.specs.Channel.{Channel, Facts, Past}
 use Rattle.mq_law_channel.specs.Turns.{receiver_halted, released, sender_rests}
@@ -29,7 +29,7 @@ use Rattle.mq_history.specs.declared.calls.Entry.{Entry}
 use Rattle.mq_history.specs.declared.calls.Reply.{Reply}
 use Rattle.mq_history.specs.declared.calls.Reply.TheVariants as replies
 use Rattle.mq_calls.specs.declared.state.Batch.{Batch}
-use Rattle.mq_spec_state.specs.State.{Given}
+use Rattle.mq_calls.specs.State.{Given}
 use Rattle.mq_spec_manager.specs.Stops.{at_rest, stop_at}
 use Rattle.mq_spec_node.specs.Node.{Node}
 use Rattle.mq_spec_node.specs.Node.ChannelEnd.{Receives, Sends}

@@ -15,7 +15,7 @@ use Rattle.mq_history.specs.declared.calls.Entry.{Entry}
 use Rattle.mq_history.specs.declared.calls.Reply.{Reply}
 use Rattle.mq_history.specs.declared.calls.Reply.TheVariants as replies
 use Rattle.mq_history.specs.declared.scenario.Scenario.{Scenario}
-use Rattle.mq_spec_state.specs.State.{Plain}
+use Rattle.mq_calls.specs.State.{Plain}
 use Rattle.mq_spec_network.specs.Conflict.{Deed, committed_in, commits, deeds, deeds_in, is_committed, was_last}
 use Rattle.mq_spec_network.specs.Ledger as ledgers
 use Rattle.mq_spec_network.specs.Ledger.{Ledger, posted}

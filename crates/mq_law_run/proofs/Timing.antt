@@ -14,11 +14,11 @@ use Rattle.mq_history.specs.declared.history.History.{History}
 use Rattle.mq_history.specs.declared.scenario.CableLine.{CableLine}
 use Rattle.mq_history.specs.declared.scenario.Scenario.{Scenario}
 use Rattle.mq_history.specs.Scenarios.{IsScenario}
-use Rattle.mq_spec_state.specs.State.{Plain}
-use Rattle.mq_spec_state.specs.State.Running.{Up}
-use Rattle.mq_spec_state.specs.Reads.{is_up, sender_data}
-use Rattle.mq_spec_state.specs.Steps.{delta_of, do_all}
-use Rattle.mq_spec_agents.specs.Words.{leave}
+use Rattle.mq_calls.specs.State.{Plain}
+use Rattle.mq_calls.specs.State.Running.{Up}
+use Rattle.mq_calls.specs.Reads.{is_up, sender_data}
+use Rattle.mq_calls.specs.Steps.{delta_of, do_all}
+use Rattle.mq_spec_manager.specs.Agents.{leave}
 use Rattle.mq_spec_node.specs.Node.{Node, SenderEnd}
 use Rattle.mq_spec_node.specs.Deeds.{Deed, Done, parts_of}
 use Rattle.mq_spec_node.specs.Senders.{after_timeout, timeout_deed}

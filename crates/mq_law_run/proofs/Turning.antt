@@ -8,7 +8,7 @@ use Rattle.mq_history.specs.declared.history.History.{History}
 use Rattle.mq_history.specs.declared.scenario.CableLine.{CableLine}
 use Rattle.mq_history.specs.declared.scenario.Scenario.{Scenario}
 use Rattle.mq_history.specs.Scenarios.{IsScenario}
-use Rattle.mq_spec_agents.specs.Words.{stock}
+use Rattle.mq_spec_manager.specs.Agents.{stock}
 use Rattle.mq_spec_node.specs.Deeds.{Deed}
 use Rattle.mq_spec_node.specs.Receivers.{receiver_deed}
 use Rattle.mq_spec_node.specs.Replays.{IsOwn, Tells}

@@ -7,8 +7,8 @@ use Rattle.mq_sync.specs.declared.unit.Unit.{Unit as Luw}
 use Rattle.mq_calls.specs.declared.deltas.Did.{Did}
 use Rattle.mq_history.specs.declared.scenario.CableLine.{CableLine}
 use Rattle.mq_history.specs.declared.scenario.Scenario.{Scenario}
-use Rattle.mq_spec_state.specs.State.{Plain}
-use Rattle.mq_spec_state.specs.Reads.{batch_of, in_doubt_of, receiver_in, sender_in}
+use Rattle.mq_calls.specs.State.{Plain}
+use Rattle.mq_calls.specs.Reads.{batch_of, in_doubt_of, receiver_in, sender_in}
 use Rattle.mq_spec_network.specs.Ledger.{Ledger, Users, ledger_rows, stop, with_users}
 use Rattle.mq_spec_network.specs.Standing.{last_unit_of}
 use Rattle.mq_spec_network.specs.Story.{Mem}

@@ -10,8 +10,8 @@ use Rattle.mq_history.specs.declared.calls.Call.{Call}
 use Rattle.mq_history.specs.declared.calls.Call.TheVariants as calls
 use Rattle.mq_history.specs.declared.history.History.{History}
 use Rattle.mq_history.specs.declared.scenario.Scenario.{Scenario}
-use Rattle.mq_spec_state.specs.State.{Plain, Running}
-use Rattle.mq_spec_state.specs.State.Running.{Up, Down}
+use Rattle.mq_calls.specs.State.{Plain, Running}
+use Rattle.mq_calls.specs.State.Running.{Up, Down}
 use Rattle.mq_spec_network.specs.Conflict.{Deed as ToldDeed, NoConflict, deeds, deeds_in}
 use Rattle.mq_spec_network.specs.Ledger.{Ledger, ledger, posted}
 use Rattle.mq_spec_network.specs.Order.{AllInOrderFrom, OrderAt, unit_received}

@@ -14,15 +14,15 @@ use Rattle.mq_history.specs.declared.history.History.{History}
 use Rattle.mq_history.specs.declared.story.ManagerPlaces.{ManagerPlaces}
 use Rattle.mq_history.specs.declared.scenario.CableLine.{CableLine}
 use Rattle.mq_history.specs.declared.scenario.Scenario.{Scenario}
-use Rattle.mq_spec_state.specs.State.{Plain}
+use Rattle.mq_calls.specs.State.{Plain}
 use Rattle.mq_spec_node.specs.Node.{Node}
 use Rattle.mq_calls.specs.declared.choices.Choice.TheVariants.{Runs, Stopped}
 use Rattle.mq_history.specs.declared.calls.Chance.{Chance}
 use Rattle.mq_history.specs.declared.calls.Chance.TheVariants as chances
 use Rattle.mq_history.specs.declared.acts.Acted.TheVariants as acted
 use Rattle.mq_history.specs.declared.calls.Reply.TheVariants as replies
-use Rattle.mq_spec_state.specs.State.{LogState, Noted}
-use Rattle.mq_spec_state.specs.State.Running.{Down, Up}
+use Rattle.mq_calls.specs.State.{LogState, Noted}
+use Rattle.mq_calls.specs.State.Running.{Down, Up}
 use Rattle.mq_spec_manager.specs.Stops.{redone_delta, restarted, stop_at}
 use Rattle.mq_spec_node.specs.Deeds.{CanCome, Deed, Done, begun_anew, done, quiet}
 use Rattle.mq_spec_node.specs.Happens.{crashed}

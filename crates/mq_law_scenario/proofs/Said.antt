@@ -3,8 +3,8 @@ use Rattle.std.proofs.Common.{◌≡◌, ◌≢◌, ℕ, ◌<◌, ◌≤◌, Boo
 use Rattle.std.specs.Prelude.{◌||◌, ◌&&◌, ◌==◌, nat_le, nat_lt, codes, Option, Some, None}
 use Rattle.std.specs.Str.{bytes_eq, str_to_ascii_uppercase}
 use Rattle.std.proofs.lemmas.Bool.Decides.{nat_tests}
-use Rattle.mq_name.specs.declared.fault.NameFault.{NameFault}
-use Rattle.mq_name.specs.Name.{name_of, name_or_bad}
+use Rattle.mq_base.specs.declared.fault.NameFault.{NameFault}
+use Rattle.mq_base.specs.Name.{name_of, name_or_bad}
 use Rattle.mq_text.specs.declared.numbers.NumberFault.{NumberFault}
 use Rattle.mq_text.specs.declared.numbers.NumberFault.TheVariants.{NoNumber, OutOfRange}
 use Rattle.mq_text.specs.Numbers.{number_in, is_number, is_negative, value_of, within}

@@ -16,8 +16,8 @@ use Rattle.mq_sync.specs.declared.unit.Unit.{Unit as Luw}
 use Rattle.mq_sync.specs.declared.data.InDoubt.{InDoubt}
 use Rattle.mq_history.specs.declared.story.Apart.{Apart}
 use Rattle.mq_history.specs.declared.scenario.Scenario.{Scenario}
-use Rattle.mq_spec_state.specs.State.{Plain, Queue}
-use Rattle.mq_spec_state.specs.Reads.{stored, queue_in, connection_at, sender_data, in_doubt_of, batch_of}
+use Rattle.mq_calls.specs.State.{Plain, Queue}
+use Rattle.mq_calls.specs.Reads.{stored, queue_in, connection_at, sender_data, in_doubt_of, batch_of}
 use Rattle.mq_spec_network.specs.Story.{Mem}
 use Rattle.mq_spec_network.specs.Promised.{AreDistinct}
 use Rattle.mq_spec_network.specs.Ledger.{Users, places_or, users_or, unit_of, rows_in, ledger_rows}

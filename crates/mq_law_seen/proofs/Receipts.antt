@@ -13,10 +13,10 @@ use Rattle.mq_resolve.specs.declared.route.Route.{Route}
 use Rattle.mq_calls.specs.declared.deltas.Did.{Did}
 use Rattle.mq_calls.specs.declared.image.Shelf.{Shelf}
 use Rattle.mq_history.specs.declared.story.ManagerPlaces.{ManagerPlaces}
-use Rattle.mq_spec_state.specs.Reads.{is_persistent}
-use Rattle.mq_spec_state.specs.Changes.{lane_of, new_row}
+use Rattle.mq_calls.specs.Reads.{is_persistent}
+use Rattle.mq_calls.specs.Changes.{lane_of, new_row}
 use Rattle.mq_spec_manager.specs.Put.{queue_at, dest_at}
-use Rattle.mq_spec_agents.specs.Words.{names_of, dead_message}
+use Rattle.mq_spec_manager.specs.Agents.{names_of, dead_message}
 use Rattle.mq_spec_network.specs.Story.{Mem}
 use Rattle.mq_spec_network.specs.Ledger as ledgers
 use Rattle.mq_spec_network.specs.Ledger.{Ledger, places_or, places_at, users_at, is_one_of, leave_queues, take_everywhere, idents_of, idents_at, placed_idents, is_admitted, own_row, dead_reason, resolved_at, place_received, place_list, when, rows_in, ledger_rows}

@@ -9,12 +9,12 @@ ghost use Rattle.mq_law_seen.specs.Seen.{world_of, book_of};
 ghost use Rattle.mq_law_seen.specs.Given.{AreOpenings, is_given, sent_at, source_at, spots_of};
 ghost use Rattle.mq_spec_network.specs.Apart.{apart_of};
 ghost use Rattle.mq_history.specs.declared.scenario.Scenario.{Scenario};
-ghost use Rattle.mq_spec_state.specs.State.{Plain};
+ghost use Rattle.mq_calls.specs.State.{Plain};
 ghost use Rattle.mq_spec_network.specs.Ledger.{ledger};
 ghost use Rattle.mq_spec_network.specs.Standing.{opening_ledger_of};
-ghost use Rattle.mq_spec_state.specs.State.{Given, LogState};
-ghost use Rattle.mq_spec_state.specs.Images.{Image, begun, raised};
-ghost use Rattle.mq_spec_state.specs.Recovery.{IsImage};
+ghost use Rattle.mq_calls.specs.State.{Given, LogState};
+ghost use Rattle.mq_calls.specs.Images.{Image, begun, raised};
+ghost use Rattle.mq_calls.specs.Recovery.{IsImage};
 ghost use Rattle.mq_law_seen.specs.Opening.{IsOpening};
 
 /// Managers at their first starts that belong together have the facts, with the ledger that has their standing rows; and an image

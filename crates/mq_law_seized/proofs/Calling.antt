@@ -24,12 +24,12 @@ use Rattle.mq_calls.specs.declared.state.Item.TheVariants.{Take as Taken}
 use Rattle.mq_calls.specs.declared.state.Connection.{Connection}
 use Rattle.mq_calls.specs.declared.state.Handle.{Handle}
 use Rattle.mq_calls.specs.declared.state.Seizure.{Seizure}
-use Rattle.mq_spec_state.specs.State.{Plain}
-use Rattle.mq_spec_state.specs.State.Change.{Hold, OpenHandle, Pend, SetCursor}
-use Rattle.mq_spec_state.specs.State.Which.{Among}
-use Rattle.mq_spec_state.specs.Changes.{apply, retag_if, selects}
-use Rattle.mq_spec_state.specs.Reads.{connection_at, handle_at, has_held, is_by_other, is_input, is_persistent, leads_to, read_by_sender, stored}
-use Rattle.mq_spec_state.specs.Steps.{◌>>=◌, Part, Step, Test, do_part, going_on, none_of, logged, passed, refusal, refused_or, silent, tested}
+use Rattle.mq_calls.specs.State.{Plain}
+use Rattle.mq_calls.specs.State.Change.{Hold, OpenHandle, Pend, SetCursor}
+use Rattle.mq_calls.specs.State.Which.{Among}
+use Rattle.mq_calls.specs.Changes.{apply, retag_if, selects}
+use Rattle.mq_calls.specs.Reads.{connection_at, handle_at, has_held, is_by_other, is_input, is_persistent, leads_to, read_by_sender, stored}
+use Rattle.mq_calls.specs.Steps.{◌>>=◌, Part, Step, Test, do_part, going_on, none_of, logged, passed, refusal, refused_or, silent, tested}
 use Rattle.mq_spec_manager.specs.Get.{expired_parts, found_part, get_found, get_handle, get_scanned, get_tests, get_up, is_destructive, is_left, is_under, is_waiting, mqget, removal_part, room_tests, scanned, taking_part, with_row, without_row}
 use Rattle.mq_spec_manager.specs.Handles.{connected, for_connection, for_handle, is_in_use, is_sending, is_shut, is_transmission_queue, is_unfit, mqopen, new_handle, open_step, open_tests, option_tests}
 use Rattle.mq_spec_manager.specs.Put.{queue_at}

@@ -32,11 +32,11 @@ use Rattle.mq_sc_apply.specs.declared.answers.Plan.TheVariants as plans
 use Rattle.mq_sc_apply.specs.Commands.{plan, to_change, to_show}
 use Rattle.mq_sc_apply.specs.Displayed.{display}
 use Rattle.mq_sc_apply.specs.Planned.{alter, alter_at, alter_good, alter_manager, bad_in, changed, changes_rows, changes_usage, default_changes, define, define_at, defined_object, delete, delete_at, is_busy, is_filled, is_on_path, is_sent_from, is_used, leads_elsewhere, same_usage, switches_on}
-use Rattle.mq_spec_state.specs.State.{Plain}
-use Rattle.mq_spec_state.specs.State.Change.{ChangeObjects}
-use Rattle.mq_spec_state.specs.Changes.{apply}
-use Rattle.mq_spec_state.specs.Reads.{is_up, read_by_sender}
-use Rattle.mq_spec_state.specs.Steps.{when}
+use Rattle.mq_calls.specs.State.{Plain}
+use Rattle.mq_calls.specs.State.Change.{ChangeObjects}
+use Rattle.mq_calls.specs.Changes.{apply}
+use Rattle.mq_calls.specs.Reads.{is_up, read_by_sender}
+use Rattle.mq_calls.specs.Steps.{when}
 use Rattle.mq_spec_manager.specs.Commands.{command, dropped, follows, planned_step, renewed, renewed_if, stale_if, switched_if, uses_of}
 use Rattle.mq_spec_manager.specs.Handles.{is_transmission_queue}
 use Rattle.mq_law_manager.specs.Facts.{AreOnce, IsSound, Mem, is_local}

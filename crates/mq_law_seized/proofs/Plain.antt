@@ -23,18 +23,18 @@ use Rattle.mq_calls.specs.declared.state.Item.{Item}
 use Rattle.mq_calls.specs.declared.state.Item.TheVariants.{Put, Take}
 use Rattle.mq_calls.specs.declared.state.Handle.{Handle}
 use Rattle.mq_calls.specs.declared.state.Connection.{Connection}
-use Rattle.mq_spec_state.specs.State.{Plain, Change}
-use Rattle.mq_spec_state.specs.State.Change.{Disconnect, EndUnit, Connect}
-use Rattle.mq_spec_state.specs.Reads.{handle_at, stored}
-use Rattle.mq_spec_state.specs.Steps.{Step, Part, Test, refused_or, refusal, tested, silent, when}
-use Rattle.mq_spec_state.specs.Steps.Step.{Do}
+use Rattle.mq_calls.specs.State.{Plain, Change}
+use Rattle.mq_calls.specs.State.Change.{Disconnect, EndUnit, Connect}
+use Rattle.mq_calls.specs.Reads.{handle_at, stored}
+use Rattle.mq_calls.specs.Steps.{Step, Part, Test, refused_or, refusal, tested, silent, when}
+use Rattle.mq_calls.specs.Steps.Step.{Do}
 use Rattle.mq_spec_manager.specs.Handles.{connected, for_connection, for_handle, mqconn, mqclose, close_up, close_handle, new_connection, new_hconn, conn_tests, is_unfit}
 use Rattle.mq_spec_manager.specs.Put.{mqput, mqput1, put_up, put_handle, put_route, put_part, put1_resolved, new_message, put_tests, put_step, queue_at, output_tests, handle_route, output_only}
 use Rattle.mq_spec_manager.specs.Get.{removal_parts}
 use Rattle.mq_calls.specs.declared.deltas.Why.TheVariants as whys
 use Rattle.mq_spec_manager.specs.Units.{mqcmit, mqback, mqdisc, commit_part, commit_changes, taken_item, freed_item, placed_item, backout_part}
 use Rattle.mq_spec_manager.specs.Triggers.{trigger_at, serve, serve_by, serve_into, put_trigger, takes_it, first_due}
-use Rattle.mq_spec_agents.specs.Words.{move_found, move_resolved, landing, route_tests, move_full, move_part, discard}
+use Rattle.mq_spec_manager.specs.Agents.{move_found, move_resolved, landing, route_tests, move_full, move_part, discard}
 use Rattle.mq_law_seized.specs.Seized.{all_plain, is_plain, parts_plain, step_plain}
 use Rattle.mq_law_seized.proofs.Changing.{both_true}
 

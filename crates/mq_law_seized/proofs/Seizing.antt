@@ -19,18 +19,18 @@ use Rattle.mq_calls.specs.declared.agents.SeizeFault.TheVariants as seize_faults
 use Rattle.mq_calls.specs.declared.deltas.Did.TheVariants as did
 use Rattle.mq_calls.specs.declared.deltas.Why.TheVariants as whys
 use Rattle.mq_calls.specs.declared.state.Seizure.{Seizure}
-use Rattle.mq_spec_state.specs.State.{Batch, Plain}
-use Rattle.mq_spec_state.specs.State.Change.{AddBatch, Seize}
-use Rattle.mq_spec_state.specs.Changes.{apply, comes_before, set_named}
-use Rattle.mq_spec_state.specs.Reads.{batch_of, free_rows, has_held_by_other, is_full, is_open_for_input, read_by_handle, read_by_sender, seizure_of, sender_data}
-use Rattle.mq_spec_state.specs.Sizes.{need}
-use Rattle.mq_spec_state.specs.Steps.{Test, silent, when}
-use Rattle.mq_spec_state.specs.Steps.Step.{Do}
+use Rattle.mq_calls.specs.State.{Batch, Plain}
+use Rattle.mq_calls.specs.State.Change.{AddBatch, Seize}
+use Rattle.mq_calls.specs.Changes.{apply, comes_before, set_named}
+use Rattle.mq_calls.specs.Reads.{batch_of, free_rows, has_held_by_other, is_full, is_open_for_input, read_by_handle, read_by_sender, seizure_of, sender_data}
+use Rattle.mq_calls.specs.Sizes.{need}
+use Rattle.mq_calls.specs.Steps.{Test, silent, when}
+use Rattle.mq_calls.specs.Steps.Step.{Do}
 use Rattle.mq_spec_manager.specs.Get.{idents_of}
 use Rattle.mq_spec_manager.specs.Handles.{is_transmission_queue}
-use Rattle.mq_spec_agents.specs.Words.{CanHold, HasSeized, Landed, Landing, Standing, before, channel_queue, drop_changes, expire, harden, harden_part, hold_batch, is_present, land, land_changes, landed, landed_by, landed_unless, leave, prepare, prepare_of, prepared_changes, prepared_record, queue_of_sender, receive, receive_landed, received_record, release_batch, release_of, seize, seized_queue, set_bound, standing_at, undoubted, expired_rows}
-use Rattle.mq_spec_agents.specs.Standing.Standing.{Absent, InDoubtAt, Present}
-use Rattle.mq_spec_state.specs.Reads.{is_persistent}
+use Rattle.mq_spec_manager.specs.Agents.{CanHold, HasSeized, Landed, Landing, Standing, before, channel_queue, drop_changes, expire, harden, harden_part, hold_batch, is_present, land, land_changes, landed, landed_by, landed_unless, leave, prepare, prepare_of, prepared_changes, prepared_record, queue_of_sender, receive, receive_landed, received_record, release_batch, release_of, seize, seized_queue, set_bound, standing_at, undoubted, expired_rows}
+use Rattle.mq_spec_manager.specs.Standing.Standing.{Absent, InDoubtAt, Present}
+use Rattle.mq_calls.specs.Reads.{is_persistent}
 use Rattle.mq_law_manager.specs.Facts.{Mem}
 use Rattle.mq_law_manager.specs.Kept.{StepKeeps}
 use Rattle.mq_law_manager.proofs.Lists.{bool_case, name_self, name_yes}

@@ -13,17 +13,17 @@ use Rattle.mq_calls.specs.declared.deltas.Did.{Did}
 use Rattle.mq_calls.specs.declared.deltas.Did.TheVariants as did
 use Rattle.mq_history.specs.declared.calls.Call.TheVariants as calls
 use Rattle.mq_history.specs.declared.scenario.Scenario.{Scenario}
-use Rattle.mq_spec_state.specs.State.{Change, Given, Noted, Plain}
-use Rattle.mq_spec_state.specs.State.Change.{Leave, SetReceiver}
-use Rattle.mq_spec_state.specs.State.Which.{Among}
-use Rattle.mq_spec_state.specs.Reads.{connection_at, is_persistent, receiver_data, stored}
-use Rattle.mq_spec_state.specs.Changes.{apply, apply_all}
-use Rattle.mq_spec_state.specs.Images.{Image, lasting}
-use Rattle.mq_spec_state.specs.Steps.{Part, do_part, logged, stands_in, volatile_gone}
+use Rattle.mq_calls.specs.State.{Change, Given, Noted, Plain}
+use Rattle.mq_calls.specs.State.Change.{Leave, SetReceiver}
+use Rattle.mq_calls.specs.State.Which.{Among}
+use Rattle.mq_calls.specs.Reads.{connection_at, is_persistent, receiver_data, stored}
+use Rattle.mq_calls.specs.Changes.{apply, apply_all}
+use Rattle.mq_calls.specs.Images.{Image, lasting}
+use Rattle.mq_calls.specs.Steps.{Part, do_part, logged, stands_in, volatile_gone}
 use Rattle.mq_spec_manager.specs.Stops.{lasts, redone, redone_delta}
 use Rattle.mq_spec_manager.specs.Put.{placed}
-use Rattle.mq_spec_agents.specs.Words.{Absent, InDoubtAt, Landed, Present, Standing, before, is_present, land, land_changes, landed, landed_by, landed_unless, received_part, received_record, standing_at, undoubted}
-use Rattle.mq_spec_agents.specs.Landing.{Landing as Arrival}
+use Rattle.mq_spec_manager.specs.Agents.{Absent, InDoubtAt, Landed, Present, Standing, before, is_present, land, land_changes, landed, landed_by, landed_unless, received_part, received_record, standing_at, undoubted}
+use Rattle.mq_spec_manager.specs.Landing.{Landing as Arrival}
 use Rattle.mq_spec_network.specs.Conflict.{Deed as ToldDeed}
 use Rattle.mq_spec_network.specs.Ledger as ledgers
 use Rattle.mq_spec_network.specs.Ledger.{Ledger, Users, at_moment, change_at, post_call, take_all_gone, unit_of, up_again, users_at, users_or}

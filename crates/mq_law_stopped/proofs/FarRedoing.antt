@@ -4,11 +4,11 @@ use Rattle.std.specs.Prelude.{Option, Some, slice_get}
 use Rattle.mq_sync.specs.declared.data.End.TheVariants as ends
 use Rattle.mq_calls.specs.declared.agents.Note.{Note}
 use Rattle.mq_calls.specs.declared.agents.Note.TheVariants as notes
-use Rattle.mq_spec_state.specs.State.{Change, Noted, Plain}
-use Rattle.mq_spec_state.specs.Changes.{apply_all}
-use Rattle.mq_spec_state.specs.Steps.{freeze}
+use Rattle.mq_calls.specs.State.{Change, Noted, Plain}
+use Rattle.mq_calls.specs.Changes.{apply_all}
+use Rattle.mq_calls.specs.Steps.{freeze}
 use Rattle.mq_spec_manager.specs.Stops.{redone}
-use Rattle.mq_spec_agents.specs.Words.{harden_part}
+use Rattle.mq_spec_manager.specs.Agents.{harden_part}
 use Rattle.mq_spec_network.specs.Ledger.{change_at}
 use Rattle.mq_law_channel.specs.Channel.{Channel, Past}
 use Rattle.mq_law_rows.specs.World.{World}

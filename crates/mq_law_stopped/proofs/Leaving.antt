@@ -19,12 +19,12 @@ use Rattle.mq_history.specs.declared.calls.Call.{Call}
 use Rattle.mq_history.specs.declared.calls.Call.TheVariants as calls
 use Rattle.mq_history.specs.declared.calls.Reply.{Reply}
 use Rattle.mq_message.specs.declared.place.Holder.TheVariants as holders
-use Rattle.mq_spec_state.specs.State.{LogState, Noted, Plain, Running}
-use Rattle.mq_spec_state.specs.Reads.{batch_of, in_doubt_of, sender_data, sender_in}
-use Rattle.mq_spec_state.specs.Changes.{apply_all}
-use Rattle.mq_spec_state.specs.Steps.{Part, do_part, freeze, logged, stands_in}
+use Rattle.mq_calls.specs.State.{LogState, Noted, Plain, Running}
+use Rattle.mq_calls.specs.Reads.{batch_of, in_doubt_of, sender_data, sender_in}
+use Rattle.mq_calls.specs.Changes.{apply_all}
+use Rattle.mq_calls.specs.Steps.{Part, do_part, freeze, logged, stands_in}
 use Rattle.mq_spec_manager.specs.Stops.{lasts, redone, redone_delta, restarted}
-use Rattle.mq_spec_agents.specs.Words.{harden_part, held_rows, prepared_changes, prepared_record, settle_did, unit_of}
+use Rattle.mq_spec_manager.specs.Agents.{harden_part, held_rows, prepared_changes, prepared_record, settle_did, unit_of}
 use Rattle.mq_spec_network.specs.Ledger as ledgers
 use Rattle.mq_spec_network.specs.Ledger.{Ledger}
 use Rattle.mq_spec_network.specs.Order.{unit_received}

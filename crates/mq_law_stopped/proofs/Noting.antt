@@ -22,11 +22,11 @@ use Rattle.mq_receiver.specs.Table.{receiver_next}
 use Rattle.mq_calls.specs.declared.agents.Note.TheVariants as notes
 use Rattle.mq_calls.specs.declared.records.LogRecord.{LogRecord}
 use Rattle.mq_calls.specs.declared.state.Batch.{Batch}
-use Rattle.mq_spec_state.specs.State.{Plain}
-use Rattle.mq_spec_state.specs.Reads.{batch_of, in_doubt_of, is_full, sender_data}
-use Rattle.mq_spec_state.specs.Sizes.{need}
-use Rattle.mq_spec_state.specs.Steps.{Part}
-use Rattle.mq_spec_agents.specs.Words.{Landed, harden_part, landed, leave, prepare_of, prepared_record, receive_landed, received_record, release_of, stock, unit_of}
+use Rattle.mq_calls.specs.State.{Plain}
+use Rattle.mq_calls.specs.Reads.{batch_of, in_doubt_of, is_full, sender_data}
+use Rattle.mq_calls.specs.Sizes.{need}
+use Rattle.mq_calls.specs.Steps.{Part}
+use Rattle.mq_spec_manager.specs.Agents.{Landed, harden_part, landed, leave, prepare_of, prepared_record, receive_landed, received_record, release_of, stock, unit_of}
 use Rattle.mq_spec_node.specs.Node.{Node}
 use Rattle.mq_spec_node.specs.Deeds.{parts_of}
 use Rattle.mq_spec_node.specs.Receivers.{is_receiver_defined, place_deed, receiver_deed_by}

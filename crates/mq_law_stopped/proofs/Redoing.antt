@@ -21,12 +21,12 @@ use Rattle.mq_calls.specs.declared.agents.Note.{Note}
 use Rattle.mq_calls.specs.declared.agents.Note.TheVariants as notes
 use Rattle.mq_calls.specs.declared.deltas.Did.TheVariants as did
 use Rattle.mq_calls.specs.declared.state.Batch.{Batch}
-use Rattle.mq_spec_state.specs.State.{Change, Noted, Plain}
-use Rattle.mq_spec_state.specs.Reads.{batch_of, in_doubt_of, sender_data, stored}
-use Rattle.mq_spec_state.specs.Changes.{apply_all}
-use Rattle.mq_spec_state.specs.Steps.{Part, do_part, stands_in}
+use Rattle.mq_calls.specs.State.{Change, Noted, Plain}
+use Rattle.mq_calls.specs.Reads.{batch_of, in_doubt_of, sender_data, stored}
+use Rattle.mq_calls.specs.Changes.{apply_all}
+use Rattle.mq_calls.specs.Steps.{Part, do_part, stands_in}
 use Rattle.mq_spec_manager.specs.Stops.{redone}
-use Rattle.mq_spec_agents.specs.Words.{harden_part, prepared_changes}
+use Rattle.mq_spec_manager.specs.Agents.{harden_part, prepared_changes}
 use Rattle.mq_spec_network.specs.Ledger.{change_at}
 use Rattle.mq_spec_network.specs.Order.{sent_idents}
 use Rattle.mq_spec_network.specs.Story.{Mem}

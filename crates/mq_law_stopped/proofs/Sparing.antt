@@ -6,11 +6,11 @@ use Rattle.mq_sync.specs.declared.data.End.TheVariants as ends
 use Rattle.mq_sync.specs.declared.data.ReceiverData.{ReceiverData}
 use Rattle.mq_sync.specs.declared.data.SenderData.{SenderData}
 use Rattle.mq_sync.specs.Settlement.{is_commit, sender_or}
-use Rattle.mq_spec_state.specs.Reads.{sender_data}
+use Rattle.mq_calls.specs.Reads.{sender_data}
 use Rattle.mq_calls.specs.declared.agents.Note.{Note}
 use Rattle.mq_calls.specs.declared.agents.Note.TheVariants as notes
-use Rattle.mq_spec_state.specs.State.{Change, Noted, Plain}
-use Rattle.mq_spec_agents.specs.Words.{harden_part}
+use Rattle.mq_calls.specs.State.{Change, Noted, Plain}
+use Rattle.mq_spec_manager.specs.Agents.{harden_part}
 use Rattle.mq_law_channel.specs.Channel.{Channel}
 use Rattle.mq_law_batches.specs.Releases.{IsWord, settled_changes}
 use Rattle.mq_law_node.specs.Data.{receiver_by_all, sender_by_all}

@@ -8,7 +8,7 @@ use Rattle.mq_sender.specs.declared.state.Sender.{Sender}
 use Rattle.mq_receiver.specs.declared.state.Receiver.{Receiver}
 use Rattle.mq_history.specs.declared.scenario.CableLine.{CableLine}
 use Rattle.mq_history.specs.declared.scenario.Scenario.{Scenario}
-use Rattle.mq_spec_state.specs.State.{Noted, Plain}
+use Rattle.mq_calls.specs.State.{Noted, Plain}
 use Rattle.mq_spec_network.specs.Conflict.{Deed as ToldDeed}
 use Rattle.mq_spec_network.specs.Ledger as ledgers
 use Rattle.mq_spec_network.specs.Story.{Mem}

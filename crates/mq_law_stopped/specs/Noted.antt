@@ -23,19 +23,19 @@ use Rattle.mq_calls.specs.declared.deltas.Did.TheVariants as did
 use Rattle.mq_calls.specs.declared.state.Batch.{Batch}
 use Rattle.mq_history.specs.declared.scenario.CableLine.{CableLine}
 use Rattle.mq_history.specs.declared.scenario.Scenario.{Scenario}
-use Rattle.mq_spec_state.specs.State.{LogState, Noted, Plain, Running}
-use Rattle.mq_spec_state.specs.State.Running.{Up}
-use Rattle.mq_spec_state.specs.Reads.{batch_of, in_doubt_of, receiver_data, sender_data, stored}
-use Rattle.mq_spec_state.specs.Changes.{apply_all}
-use Rattle.mq_spec_state.specs.Images.{lasting}
-use Rattle.mq_spec_state.specs.Steps.{Part, do_part, freeze, volatile_gone}
+use Rattle.mq_calls.specs.State.{LogState, Noted, Plain, Running}
+use Rattle.mq_calls.specs.State.Running.{Up}
+use Rattle.mq_calls.specs.Reads.{batch_of, in_doubt_of, receiver_data, sender_data, stored}
+use Rattle.mq_calls.specs.Changes.{apply_all}
+use Rattle.mq_calls.specs.Images.{lasting}
+use Rattle.mq_calls.specs.Steps.{Part, do_part, freeze, volatile_gone}
 use Rattle.mq_calls.specs.declared.records.LogRecord.{LogRecord}
 use Rattle.mq_sc_parse.specs.declared.command.Command.TheVariants as lines
 use Rattle.mq_history.specs.declared.acts.Act.TheVariants as acts
 use Rattle.mq_history.specs.declared.calls.Call.{Call}
 use Rattle.mq_history.specs.declared.calls.Call.TheVariants as calls
 use Rattle.mq_spec_manager.specs.Stops.{redone, redone_delta, restarted}
-use Rattle.mq_spec_agents.specs.Words.{Landed, harden_part, landed, prepared_changes, received_part, received_record}
+use Rattle.mq_spec_manager.specs.Agents.{Landed, harden_part, landed, prepared_changes, received_part, received_record}
 use Rattle.mq_spec_network.specs.Conflict.{Deed as ToldDeed}
 use Rattle.mq_spec_network.specs.Ledger as ledgers
 use Rattle.mq_spec_network.specs.Ledger.{Ledger}

@@ -8,7 +8,7 @@ use Rattle.mq_calls.specs.declared.deltas.Did.TheVariants as did
 use Rattle.mq_history.specs.declared.history.History.{History}
 use Rattle.mq_history.specs.declared.story.Conflict.{Conflict}
 use Rattle.mq_history.specs.declared.scenario.Scenario.{Scenario}
-use Rattle.mq_spec_state.specs.State.{Plain}
+use Rattle.mq_calls.specs.State.{Plain}
 use Rattle.mq_spec_network.specs.Story.{Line, Mem}
 use Rattle.mq_spec_network.specs.Standing.{opening_managers}
 use Rattle.mq_spec_network.specs.Conflict.{Deed, deeds, is_committed, agrees, conflict_of, conflict_in, or_else, first_conflict, NoConflict}

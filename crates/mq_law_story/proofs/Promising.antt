@@ -6,8 +6,8 @@ use Rattle.std.specs.Str.{bytes_eq}
 use Rattle.mq_message.specs.declared.message.Ident.{Ident}
 use Rattle.mq_history.specs.declared.history.History.{History}
 use Rattle.mq_history.specs.declared.scenario.Scenario.{Scenario}
-use Rattle.mq_spec_state.specs.State.{Plain, Queue}
-use Rattle.mq_spec_state.specs.Reads.{queue_in}
+use Rattle.mq_calls.specs.State.{Plain, Queue}
+use Rattle.mq_calls.specs.Reads.{queue_in}
 use Rattle.mq_spec_network.specs.Story.{Line, Mem, Chain}
 use Rattle.mq_spec_network.specs.Promised.{AreDistinct, standing_on, all_standing}
 use Rattle.mq_spec_network.specs.Conflict.{NoConflict}

@@ -13,7 +13,7 @@ use Rattle.mq_history.specs.declared.calls.Actor.{Actor}
 use Rattle.mq_history.specs.declared.calls.Entry.{Entry}
 use Rattle.mq_history.specs.declared.history.History.{History}
 use Rattle.mq_history.specs.declared.scenario.Scenario.{Scenario}
-use Rattle.mq_spec_state.specs.State.{Plain}
+use Rattle.mq_calls.specs.State.{Plain}
 use Rattle.mq_spec_node.specs.Node.{Node}
 use Rattle.mq_spec_node.specs.Replays.{after, done_by, opening_node, Tells, Follows}
 use Rattle.mq_spec_network.specs.Story.{Line, Mem, Earlier, Ranked, part, entries_or, entries_at, IsStory}

@@ -26,7 +26,7 @@ ghost use Rattle.mq_history.specs.declared.scenario.Scenario.{Scenario};
 ghost use Rattle.mq_cable.specs.declared.fault.Fault.{Fault};
 ghost use Rattle.mq_frame.specs.declared.frame.Frame.{Frame};
 ghost use Rattle.mq_frame.specs.declared.frame.Seen.TheVariants as items;
-ghost use Rattle.mq_spec_state.specs.State.{Plain};
+ghost use Rattle.mq_calls.specs.State.{Plain};
 ghost use Rattle.mq_spec_node.specs.Replays.{Follows, Tells, done_by, opening_node};
 ghost use Rattle.mq_spec_network.specs.Cables.{Carries, pops_item};
 ghost use Rattle.mq_spec_node.specs.Doers.{by};

@@ -18,7 +18,7 @@ use Rattle.mq_calls.specs.declared.agents.Note.TheVariants as notes
 use Rattle.mq_calls.specs.declared.deltas.Did.TheVariants as did
 use Rattle.mq_history.specs.declared.history.History.{History}
 use Rattle.mq_history.specs.declared.scenario.Scenario.{Scenario}
-use Rattle.mq_spec_state.specs.State.{Plain}
+use Rattle.mq_calls.specs.State.{Plain}
 use Rattle.mq_spec_network.specs.Conflict.{Deed, NoConflict, commits, committed_in, deeds, is_committed, was_last}
 use Rattle.mq_spec_network.specs.Standing.{opening_managers}
 use Rattle.mq_spec_network.specs.Story.{Line, Mem}

@@ -7,8 +7,8 @@ use Rattle.mq_sync.specs.Units.{same_unit}
 use Rattle.mq_history.specs.declared.scenario.CableLine.{CableLine}
 use Rattle.mq_history.specs.declared.scenario.Scenario.{Scenario}
 use Rattle.mq_history.specs.Scenarios.{IsScenario}
-use Rattle.mq_spec_state.specs.State.{Plain}
-use Rattle.mq_spec_state.specs.Reads.{receiver_data}
+use Rattle.mq_calls.specs.State.{Plain}
+use Rattle.mq_calls.specs.Reads.{receiver_data}
 use Rattle.mq_spec_network.specs.Conflict.{committed_in}
 use Rattle.mq_spec_network.specs.Standing.{cable_named, last_unit, last_unit_at, last_unit_of}
 use Rattle.mq_spec_network.specs.Story.{Chain, Mem}

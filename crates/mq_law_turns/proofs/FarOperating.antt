@@ -4,11 +4,11 @@ use Rattle.std.specs.Prelude.{if◌then◌else◌}
 use Rattle.mq_sync.specs.declared.data.End.TheVariants as ends
 use Rattle.mq_sync.specs.declared.data.ReceiverData.{ReceiverData}
 use Rattle.mq_calls.specs.declared.agents.Note.TheVariants as notes
-use Rattle.mq_spec_state.specs.State.{Plain}
-use Rattle.mq_spec_state.specs.Reads.{receiver_data}
-use Rattle.mq_spec_state.specs.Changes.{apply_all}
-use Rattle.mq_spec_state.specs.Steps.{do_all, do_part}
-use Rattle.mq_spec_agents.specs.Words.{harden, harden_part, set_bound}
+use Rattle.mq_calls.specs.State.{Plain}
+use Rattle.mq_calls.specs.Reads.{receiver_data}
+use Rattle.mq_calls.specs.Changes.{apply_all}
+use Rattle.mq_calls.specs.Steps.{do_all, do_part}
+use Rattle.mq_spec_manager.specs.Agents.{harden, harden_part, set_bound}
 use Rattle.mq_spec_network.specs.Ledger.{Ledger, change_at}
 use Rattle.mq_spec_node.specs.Node.{Node}
 use Rattle.mq_spec_node.specs.Deeds.{parts_of}

@@ -13,12 +13,12 @@ use Rattle.mq_sender.specs.declared.state.Sender.{Sender}
 use Rattle.mq_sender.specs.Table.{is_sending}
 use Rattle.mq_calls.specs.declared.agents.Note.TheVariants as notes
 use Rattle.mq_sender.specs.declared.state.Limits.{Limits}
-use Rattle.mq_spec_state.specs.State.{Plain, Seizure}
-use Rattle.mq_spec_state.specs.State.Change.{Seize}
-use Rattle.mq_spec_state.specs.Reads.{batch_of, in_doubt_of, sender_data}
-use Rattle.mq_spec_state.specs.Changes.{apply, apply_all}
-use Rattle.mq_spec_state.specs.Steps.{do_all, do_part}
-use Rattle.mq_spec_agents.specs.Words.{harden_part, leave, release_batch, release_of}
+use Rattle.mq_calls.specs.State.{Plain, Seizure}
+use Rattle.mq_calls.specs.State.Change.{Seize}
+use Rattle.mq_calls.specs.Reads.{batch_of, in_doubt_of, sender_data}
+use Rattle.mq_calls.specs.Changes.{apply, apply_all}
+use Rattle.mq_calls.specs.Steps.{do_all, do_part}
+use Rattle.mq_spec_manager.specs.Agents.{harden_part, leave, release_batch, release_of}
 use Rattle.mq_spec_network.specs.Ledger.{change_at}
 use Rattle.mq_spec_node.specs.Node.{Node}
 use Rattle.mq_spec_node.specs.Deeds.{parts_of}

@@ -15,12 +15,12 @@ use Rattle.mq_history.specs.declared.acts.OpRefusal.TheVariants as reasons
 use Rattle.mq_calls.specs.declared.agents.Note.TheVariants as notes
 use Rattle.mq_calls.specs.declared.agents.SeizeFault.{SeizeFault}
 use Rattle.mq_calls.specs.declared.state.Batch.{Batch}
-use Rattle.mq_spec_state.specs.State.{Plain}
-use Rattle.mq_spec_state.specs.Reads.{batch_of, in_doubt_of, is_up, receiver_data, sender_data}
-use Rattle.mq_spec_state.specs.Steps.{Step, do_all, refusal, when}
-use Rattle.mq_spec_state.specs.Steps.Step.{Refuse, Do}
-use Rattle.mq_spec_agents.specs.Conditions.{unit_of}
-use Rattle.mq_spec_agents.specs.Words.{harden, leave, release_batch, seize, set_bound}
+use Rattle.mq_calls.specs.State.{Plain}
+use Rattle.mq_calls.specs.Reads.{batch_of, in_doubt_of, is_up, receiver_data, sender_data}
+use Rattle.mq_calls.specs.Steps.{Step, do_all, refusal, when}
+use Rattle.mq_calls.specs.Steps.Step.{Refuse, Do}
+use Rattle.mq_spec_manager.specs.Conditions.{unit_of}
+use Rattle.mq_spec_manager.specs.Agents.{harden, leave, release_batch, seize, set_bound}
 use Rattle.mq_spec_node.specs.Node.{ChannelEnd, Node, ReceiverEnd, SenderEnd, sender_named, with_end}
 use Rattle.mq_spec_node.specs.Node.ChannelEnd.{Receives, Sends}
 use Rattle.mq_spec_node.specs.Deeds.{Deed, parts_of}

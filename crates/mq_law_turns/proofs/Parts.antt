@@ -11,10 +11,10 @@ use Rattle.mq_sender.specs.States.{is_running}
 use Rattle.mq_calls.specs.declared.records.LogRecord.{LogRecord}
 use Rattle.mq_calls.specs.declared.state.Batch.{Batch}
 use Rattle.mq_history.specs.declared.scenario.Scenario.{Scenario}
-use Rattle.mq_spec_state.specs.State.{Plain}
-use Rattle.mq_spec_state.specs.Changes.{apply_all}
-use Rattle.mq_spec_state.specs.Steps.{Part, do_all, do_part, logged, written}
-use Rattle.mq_spec_agents.specs.Words.{leave}
+use Rattle.mq_calls.specs.State.{Plain}
+use Rattle.mq_calls.specs.Changes.{apply_all}
+use Rattle.mq_calls.specs.Steps.{Part, do_all, do_part, logged, written}
+use Rattle.mq_spec_manager.specs.Agents.{leave}
 use Rattle.mq_spec_network.specs.Ledger.{change_at}
 use Rattle.mq_spec_node.specs.Deeds.{parts_of}
 use Rattle.mq_spec_node.specs.Senders.{leave_if_stopped}

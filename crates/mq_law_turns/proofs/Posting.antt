@@ -24,14 +24,14 @@ use Rattle.mq_calls.specs.declared.records.Remove.{Remove}
 use Rattle.mq_calls.specs.declared.state.Batch.{Batch}
 use Rattle.mq_history.specs.declared.calls.Call.TheVariants as calls
 use Rattle.mq_history.specs.declared.calls.Reply.{Reply}
-use Rattle.mq_spec_state.specs.State.{Plain}
-use Rattle.mq_spec_state.specs.Reads.{batch_of, free_rows, is_expired, is_full, sender_data, stored}
+use Rattle.mq_calls.specs.State.{Plain}
+use Rattle.mq_calls.specs.Reads.{batch_of, free_rows, is_expired, is_full, sender_data, stored}
 use Rattle.mq_sync.specs.Settlement.{sender_or}
-use Rattle.mq_spec_state.specs.Sizes.{need}
-use Rattle.mq_spec_state.specs.Steps.{Part, delta_of, do_all, refused_or}
-use Rattle.mq_spec_state.specs.Steps.Step.{Do}
-use Rattle.mq_spec_agents.specs.Hardening.{settle_did}
-use Rattle.mq_spec_agents.specs.Words.{expired_rows, harden, harden_part, held_rows, hold_batch, leave, prepare_of, prepared_changes, prepared_record, queue_of_sender, release_batch, release_of, stock}
+use Rattle.mq_calls.specs.Sizes.{need}
+use Rattle.mq_calls.specs.Steps.{Part, delta_of, do_all, refused_or}
+use Rattle.mq_calls.specs.Steps.Step.{Do}
+use Rattle.mq_spec_manager.specs.Hardening.{settle_did}
+use Rattle.mq_spec_manager.specs.Agents.{expired_rows, harden, harden_part, held_rows, hold_batch, leave, prepare_of, prepared_changes, prepared_record, queue_of_sender, release_batch, release_of, stock}
 use Rattle.mq_spec_network.specs.Ledger.{Ledger, is_taken, move_all, post_call, receive_if, received_on, take_all_gone, when}
 use Rattle.mq_spec_network.specs.Ledger as ledgers
 use Rattle.mq_spec_node.specs.Node.{Node, SenderEnd}

@@ -30,18 +30,18 @@ use Rattle.mq_receiver.specs.After.{last_by}
 use Rattle.mq_calls.specs.declared.agents.PrepareFault.TheVariants as faults
 use Rattle.mq_calls.specs.declared.deltas.Did.TheVariants as did
 use Rattle.mq_calls.specs.declared.records.LogRecord.{LogRecord}
-use Rattle.mq_spec_state.specs.State.{Batch, Change, Plain}
-use Rattle.mq_spec_state.specs.State.Change.{Place as Places, Hold, Release, Renew, DropQueue, SetReceiver}
-use Rattle.mq_spec_state.specs.Reads.{batch_of, is_full, is_persistent, receiver_data, sender_data, stored}
+use Rattle.mq_calls.specs.State.{Batch, Change, Plain}
+use Rattle.mq_calls.specs.State.Change.{Place as Places, Hold, Release, Renew, DropQueue, SetReceiver}
+use Rattle.mq_calls.specs.Reads.{batch_of, is_full, is_persistent, receiver_data, sender_data, stored}
 use Rattle.mq_sync.specs.Settlement.{receiver_or, sender_or}
-use Rattle.mq_spec_state.specs.Sizes.{need}
-use Rattle.mq_spec_state.specs.Changes.{apply, apply_all, lane_of, new_row, release_if, retag_if, selects}
-use Rattle.mq_spec_state.specs.Steps.{Part, do_all, do_part, logged, refused_or}
-use Rattle.mq_spec_state.specs.Steps.Step.{Do}
+use Rattle.mq_calls.specs.Sizes.{need}
+use Rattle.mq_calls.specs.Changes.{apply, apply_all, lane_of, new_row, release_if, retag_if, selects}
+use Rattle.mq_calls.specs.Steps.{Part, do_all, do_part, logged, refused_or}
+use Rattle.mq_calls.specs.Steps.Step.{Do}
 use Rattle.mq_spec_manager.specs.Get.{expired_parts}
 use Rattle.mq_spec_manager.specs.Put.{placed}
-use Rattle.mq_spec_agents.specs.Words.{Standing, Absent, InDoubtAt, Present, harden, hold_batch, batch_idents, batch_queue, before, drop_changes, expired_rows, is_present, land, land_changes, Landed, landed, landed_by, landed_unless, leave, prepare_of, prepared_changes, prepared_record, queue_of_sender, receive_landed, received_record, release_of, row_with, standing_at, undoubted}
-use Rattle.mq_spec_agents.specs.Landing.{Landing}
+use Rattle.mq_spec_manager.specs.Agents.{Standing, Absent, InDoubtAt, Present, harden, hold_batch, batch_idents, batch_queue, before, drop_changes, expired_rows, is_present, land, land_changes, Landed, landed, landed_by, landed_unless, leave, prepare_of, prepared_changes, prepared_record, queue_of_sender, receive_landed, received_record, release_of, row_with, standing_at, undoubted}
+use Rattle.mq_spec_manager.specs.Landing.{Landing}
 use Rattle.mq_spec_node.specs.Node.{Node, ReceiverEnd, SenderEnd}
 use Rattle.mq_spec_node.specs.Deeds.{parts_of}
 use Rattle.mq_spec_node.specs.Receivers.{place_deed, receiver_deed_by}

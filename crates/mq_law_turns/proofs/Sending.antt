@@ -28,13 +28,13 @@ use Rattle.mq_sender.specs.After.{number_sent, sender_after}
 use Rattle.mq_sender.specs.Table.{is_ack, is_binding, is_err, is_idle, is_sending, is_status, is_waiting, sender_lines, sender_next, settled_by, status_unit}
 use Rattle.mq_calls.specs.declared.agents.Note.TheVariants as notes
 use Rattle.mq_calls.specs.declared.state.Batch.{Batch}
-use Rattle.mq_spec_state.specs.State.{Plain}
-use Rattle.mq_spec_state.specs.Reads.{batch_of, free_rows, has_held, in_doubt_of, is_by_other, is_full, sender_data, stored}
-use Rattle.mq_spec_state.specs.Sizes.{need}
-use Rattle.mq_spec_state.specs.Changes.{apply_all}
-use Rattle.mq_spec_state.specs.Steps.{do_all, do_part}
+use Rattle.mq_calls.specs.State.{Plain}
+use Rattle.mq_calls.specs.Reads.{batch_of, free_rows, has_held, in_doubt_of, is_by_other, is_full, sender_data, stored}
+use Rattle.mq_calls.specs.Sizes.{need}
+use Rattle.mq_calls.specs.Changes.{apply_all}
+use Rattle.mq_calls.specs.Steps.{do_all, do_part}
 use Rattle.mq_spec_manager.specs.Get.{idents_of}
-use Rattle.mq_spec_agents.specs.Words.{harden_part, leave, prepare_of, prepared_changes, prepared_record, queue_of_sender, release_of, stock}
+use Rattle.mq_spec_manager.specs.Agents.{harden_part, leave, prepare_of, prepared_changes, prepared_record, queue_of_sender, release_of, stock}
 use Rattle.mq_spec_network.specs.Ledger.{change_at}
 use Rattle.mq_spec_network.specs.Promised.{AreDistinct}
 use Rattle.mq_spec_network.specs.Story.{Mem}

@@ -26,12 +26,12 @@ use Rattle.mq_receiver.specs.After.{bound_by, last_by}
 use Rattle.mq_calls.specs.declared.agents.Note.{Note}
 use Rattle.mq_calls.specs.declared.agents.Note.TheVariants as notes
 use Rattle.mq_calls.specs.declared.agents.PrepareFault.{PrepareFault}
-use Rattle.mq_spec_state.specs.State.{Plain}
-use Rattle.mq_spec_state.specs.Reads.{batch_of, free_rows, in_doubt_of, sender_data, stored}
-use Rattle.mq_spec_state.specs.Steps.{Part, Step, do_all, do_part}
-use Rattle.mq_spec_state.specs.Steps.Step.{Refuse, Do}
-use Rattle.mq_spec_agents.specs.Words.{harden, hold_batch, leave, prepare, queue_of_sender, receive, release_batch, set_bound, stock}
-use Rattle.mq_spec_agents.specs.Conditions.{unit_of}
+use Rattle.mq_calls.specs.State.{Plain}
+use Rattle.mq_calls.specs.Reads.{batch_of, free_rows, in_doubt_of, sender_data, stored}
+use Rattle.mq_calls.specs.Steps.{Part, Step, do_all, do_part}
+use Rattle.mq_calls.specs.Steps.Step.{Refuse, Do}
+use Rattle.mq_spec_manager.specs.Agents.{harden, hold_batch, leave, prepare, queue_of_sender, receive, release_batch, set_bound, stock}
+use Rattle.mq_spec_manager.specs.Conditions.{unit_of}
 use Rattle.mq_spec_node.specs.Node.{Node, ReceiverEnd, SenderEnd}
 use Rattle.mq_spec_node.specs.Deeds.{parts_of}
 use Rattle.mq_spec_node.specs.Receivers.{close_parts, is_receiver_defined, place_deed, receiver_deed, receiver_deed_by}
@@ -58,7 +58,7 @@ use Rattle.mq_law_node.proofs.SenderTurns.{binding_apart, guarded, idle_apart, w
 use Rattle.mq_law_node.specs.Ends.{Where}
 use Rattle.mq_law_turns.specs.Turns.{EachSound}
 use Rattle.mq_law_turns.proofs.Sending.{Settling, settled_some, settles_so}
-use Rattle.mq_spec_agents.specs.Words.{expire}
+use Rattle.mq_spec_manager.specs.Agents.{expire}
 use Rattle.mq_queue.specs.Rows.{is_free}
 
 -- Parts behind parts

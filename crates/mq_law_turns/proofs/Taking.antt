@@ -18,12 +18,12 @@ use Rattle.mq_calls.specs.declared.deltas.Did.{Did}
 use Rattle.mq_history.specs.declared.calls.Call.TheVariants as calls
 use Rattle.mq_history.specs.declared.calls.Reply.{Reply}
 use Rattle.mq_history.specs.declared.calls.Reply.TheVariants as replies
-use Rattle.mq_spec_state.specs.State.{Plain}
-use Rattle.mq_spec_state.specs.Reads.{is_full}
-use Rattle.mq_spec_state.specs.Sizes.{need}
-use Rattle.mq_spec_state.specs.Changes.{apply_all}
-use Rattle.mq_spec_state.specs.Steps.{do_all, do_part}
-use Rattle.mq_spec_agents.specs.Words.{Landed, harden, harden_part, landed, receive_landed, received_part, received_record, set_bound, taken_of}
+use Rattle.mq_calls.specs.State.{Plain}
+use Rattle.mq_calls.specs.Reads.{is_full}
+use Rattle.mq_calls.specs.Sizes.{need}
+use Rattle.mq_calls.specs.Changes.{apply_all}
+use Rattle.mq_calls.specs.Steps.{do_all, do_part}
+use Rattle.mq_spec_manager.specs.Agents.{Landed, harden, harden_part, landed, receive_landed, received_part, received_record, set_bound, taken_of}
 use Rattle.mq_spec_network.specs.Ledger.{Ledger, change_at, post_call, take_all_gone}
 use Rattle.mq_spec_network.specs.Story.{Mem}
 use Rattle.mq_law_manager.specs.Facts.{IsSound}

@@ -9,7 +9,7 @@ use Rattle.mq_receiver.specs.declared.turns.ReceiverDoes.TheVariants as takes
 use Rattle.mq_receiver.specs.declared.turns.ReceiverOut.{ReceiverOut}
 use Rattle.mq_receiver.specs.declared.turns.ReceiverOut.TheVariants as ends
 use Rattle.mq_history.specs.declared.scenario.Scenario.{Scenario}
-use Rattle.mq_spec_state.specs.State.{Plain}
+use Rattle.mq_calls.specs.State.{Plain}
 use Rattle.mq_spec_network.specs.Conflict.{Deed, is_committed}
 use Rattle.mq_spec_network.specs.Story.{Mem}
 use Rattle.mq_law_channel.specs.Channel.{Channel, Past}

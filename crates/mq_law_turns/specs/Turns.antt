@@ -2,18 +2,18 @@
 use Rattle.std.specs.Prelude.{ℕ, Bool, true, false, not, ◌&&◌, ◌≡◌, ◌≢◌, ◌⊎◌, List, [], ◌∷◌, Option, Some, None}
 use Rattle.std.specs.Str.{bytes_eq}
 use Rattle.mq_message.specs.declared.place.Holder.TheVariants as holders
-use Rattle.mq_spec_state.specs.State.Change.{Hold}
+use Rattle.mq_calls.specs.State.Change.{Hold}
 use Rattle.mq_message.specs.declared.message.Ident.{Ident}
 use Rattle.mq_sync.specs.declared.unit.Unit.{Unit as Luw}
 use Rattle.mq_sync.specs.Units.{Upto}
 use Rattle.mq_sender.specs.declared.turns.SenderDoes.{SenderDoes}
 use Rattle.mq_sender.specs.declared.turns.SenderDoes.TheVariants as does
 use Rattle.mq_history.specs.declared.scenario.Scenario.{Scenario}
-use Rattle.mq_spec_state.specs.State.{Change, Plain}
-use Rattle.mq_spec_state.specs.Steps.{Part, do_all, do_part}
-use Rattle.mq_spec_state.specs.Reads.{has_held_by_other}
+use Rattle.mq_calls.specs.State.{Change, Plain}
+use Rattle.mq_calls.specs.Steps.{Part, do_all, do_part}
+use Rattle.mq_calls.specs.Reads.{has_held_by_other}
 use Rattle.mq_sender.specs.States.{is_running}
-use Rattle.mq_spec_agents.specs.Words.{Landed, queue_of_sender, received_part}
+use Rattle.mq_spec_manager.specs.Agents.{Landed, queue_of_sender, received_part}
 use Rattle.mq_spec_node.specs.Deeds.{Deed}
 use Rattle.mq_spec_node.specs.Node.{Node}
 use Rattle.mq_history.specs.declared.calls.Reply.{Reply}
@@ -29,7 +29,7 @@ use Rattle.std.specs.Prelude.{slice_get}
 use Rattle.mq_history.specs.declared.calls.Call.TheVariants as calls
 use Rattle.mq_history.specs.declared.story.ManagerPlaces.{ManagerPlaces}
 use Rattle.mq_message.specs.declared.message.Message.{Message}
-use Rattle.mq_spec_state.specs.Steps.{delta_of}
+use Rattle.mq_calls.specs.Steps.{delta_of}
 use Rattle.mq_spec_network.specs.Ledger.{Ledger, post_call, take_all_gone}
 use Rattle.mq_law_manager.specs.Facts.{IsSound}
 use Rattle.mq_law_manager.specs.Kept.{AllKeep}

@@ -27,20 +27,20 @@ use Rattle.mq_history.specs.declared.calls.Call.{Call}
 use Rattle.mq_history.specs.declared.calls.Call.TheVariants as calls
 use Rattle.mq_history.specs.declared.calls.Reply.{Reply}
 use Rattle.mq_history.specs.declared.calls.Reply.TheVariants as replies
-use Rattle.mq_spec_state.specs.State.{Plain, Running}
-use Rattle.mq_spec_state.specs.State.Running.{Up, Down}
-use Rattle.mq_spec_state.specs.Reads.{is_up, stored}
-use Rattle.mq_spec_state.specs.Steps.{Part, Step}
-use Rattle.mq_spec_state.specs.Steps.Step.{Refuse, Do}
+use Rattle.mq_calls.specs.State.{Plain, Running}
+use Rattle.mq_calls.specs.State.Running.{Up, Down}
+use Rattle.mq_calls.specs.Reads.{is_up, stored}
+use Rattle.mq_calls.specs.Steps.{Part, Step}
+use Rattle.mq_calls.specs.Steps.Step.{Refuse, Do}
 use Rattle.mq_spec_manager.specs.Words.{mqconn, mqopen, mqclose, mqput, mqput1, mqget, mqcmit, mqback, mqdisc, command, trigger_turn}
 use Rattle.mq_spec_manager.specs.Triggers.{first_due}
-use Rattle.mq_spec_agents.specs.Words.{discard, move_row}
+use Rattle.mq_spec_manager.specs.Agents.{discard, move_row}
 use Rattle.mq_spec_node.specs.Node.{Handler, Node, Own, handler_in}
 use Rattle.mq_spec_node.specs.Deeds.{Deed, ended_deed, mqi_deed, parts_of, told}
 use Rattle.mq_spec_node.specs.Handlers as handlers
 use Rattle.mq_spec_node.specs.Status.{is_asked, shown, status_line}
 use Rattle.mq_spec_node.specs.Happens.{command_deed, deed_of, get_deed, get_done, got_deed, handler_turn, obey_deed, trigger_deed_of, turn_up, where_up}
-use Rattle.mq_spec_agents.specs.Words.{row_with}
+use Rattle.mq_spec_manager.specs.Agents.{row_with}
 use Rattle.mq_law_manager.specs.Facts.{IsSound}
 use Rattle.mq_law_manager.specs.Kept.{AllKeep, StepKeeps}
 use Rattle.mq_law_manager.proofs.Lists.{bool_case}

@@ -30,12 +30,12 @@ use Rattle.mq_sc_parse.specs.declared.command.Op.{Op}
 use Rattle.mq_sc_parse.specs.declared.command.Op.TheVariants as ops
 use Rattle.mq_history.specs.declared.acts.OpRefusal.{OpRefusal}
 use Rattle.mq_history.specs.declared.acts.OpRefusal.TheVariants as reasons
-use Rattle.mq_spec_state.specs.State.{Plain}
-use Rattle.mq_spec_state.specs.Reads.{batch_of, in_doubt_of, is_up, receiver_data, sender_data}
-use Rattle.mq_spec_state.specs.Steps.{Part, Step, do_all, do_part, refusal, when}
-use Rattle.mq_spec_state.specs.Steps.Step.{Refuse, Do}
+use Rattle.mq_calls.specs.State.{Plain}
+use Rattle.mq_calls.specs.Reads.{batch_of, in_doubt_of, is_up, receiver_data, sender_data}
+use Rattle.mq_calls.specs.Steps.{Part, Step, do_all, do_part, refusal, when}
+use Rattle.mq_calls.specs.Steps.Step.{Refuse, Do}
 use Rattle.mq_spec_manager.specs.Get.{expired_parts}
-use Rattle.mq_spec_agents.specs.Words.{HasSeized, expired_rows, harden, hold_batch, leave, prepare, queue_of_sender, receive, release_of, seize, set_bound, stock}
+use Rattle.mq_spec_manager.specs.Agents.{HasSeized, expired_rows, harden, hold_batch, leave, prepare, queue_of_sender, receive, release_of, seize, set_bound, stock}
 use Rattle.mq_spec_node.specs.Node.{ChannelEnd, Node, ReceiverEnd, SenderEnd, sender_named, with_end}
 use Rattle.mq_spec_node.specs.Node.ChannelEnd.{Receives, Sends}
 use Rattle.mq_spec_node.specs.Deeds.{Deed, parts_of}

@@ -18,9 +18,9 @@ use Rattle.mq_history.specs.declared.calls.Chance.{Chance}
 use Rattle.mq_history.specs.declared.calls.Chance.TheVariants as chances
 use Rattle.mq_sender.specs.declared.turns.SenderDoes.{SenderDoes}
 use Rattle.mq_sender.specs.States as senders
-use Rattle.mq_spec_state.specs.State.{Noted, Plain, Running}
-use Rattle.mq_spec_state.specs.State.Running.{Up, Down}
-use Rattle.mq_spec_state.specs.Steps.{IsWrite, Part, do_all, do_part, stopped_at}
+use Rattle.mq_calls.specs.State.{Noted, Plain, Running}
+use Rattle.mq_calls.specs.State.Running.{Up, Down}
+use Rattle.mq_calls.specs.Steps.{IsWrite, Part, do_all, do_part, stopped_at}
 use Rattle.mq_spec_manager.specs.Stops.{advance_clock, cut, restart_at, restart_down, restarted, stop_at}
 use Rattle.mq_spec_node.specs.Terms.{stock}
 use Rattle.mq_spec_node.specs.Node.{ChannelEnd, Node, ReceiverEnd, SenderEnd, receiver_end, sender_end}

@@ -41,14 +41,14 @@ use Rattle.mq_sc_parse.specs.declared.command.Op.{Op}
 use Rattle.mq_sc_parse.specs.declared.command.Op.TheVariants as ops
 use Rattle.mq_history.specs.declared.acts.OpRefusal.{OpRefusal}
 use Rattle.mq_history.specs.declared.acts.OpRefusal.TheVariants as reasons
-use Rattle.mq_spec_state.specs.State.{Plain, Seizure}
-use Rattle.mq_spec_state.specs.State.Change.{Seize}
-use Rattle.mq_spec_state.specs.Reads.{batch_of, has_held_by_other, in_doubt_of, is_open_for_input, is_up, receiver_data, sender_data}
-use Rattle.mq_spec_state.specs.Steps.{Part, Step, do_all, refusal, refused_or as step_or, silent, when}
-use Rattle.mq_spec_state.specs.Steps.Step.{Do, Refuse}
+use Rattle.mq_calls.specs.State.{Plain, Seizure}
+use Rattle.mq_calls.specs.State.Change.{Seize}
+use Rattle.mq_calls.specs.Reads.{batch_of, has_held_by_other, in_doubt_of, is_open_for_input, is_up, receiver_data, sender_data}
+use Rattle.mq_calls.specs.Steps.{Part, Step, do_all, refusal, refused_or as step_or, silent, when}
+use Rattle.mq_calls.specs.Steps.Step.{Do, Refuse}
 use Rattle.mq_spec_manager.specs.Get.{expired_parts}
 use Rattle.mq_spec_manager.specs.Handles.{is_transmission_queue}
-use Rattle.mq_spec_agents.specs.Words.{HasSeized, channel_queue, expired_rows, harden, hold_batch, landed, leave, prepare, queue_of_sender, receive, release_of, seize, set_bound, stock}
+use Rattle.mq_spec_manager.specs.Agents.{HasSeized, channel_queue, expired_rows, harden, hold_batch, landed, leave, prepare, queue_of_sender, receive, release_of, seize, set_bound, stock}
 use Rattle.mq_spec_node.specs.Node.{ChannelEnd, Node, ReceiverEnd, SenderEnd, cable_of, receiver_named, sender_named, set_end, with_end}
 use Rattle.mq_spec_node.specs.Node.ChannelEnd.{Receives, Sends}
 use Rattle.mq_spec_node.specs.Deeds.{Deed, parts_of}

@@ -16,16 +16,16 @@ use Rattle.mq_calls.specs.declared.agents.PrepareFault.TheVariants as prepare_fa
 use Rattle.mq_calls.specs.declared.deltas.Did.TheVariants as did
 use Rattle.mq_calls.specs.declared.records.LogRecord.{LogRecord}
 use Rattle.mq_calls.specs.declared.state.Batch.{Batch}
-use Rattle.mq_spec_state.specs.State.{Change, Plain, Seizure}
-use Rattle.mq_spec_state.specs.State.Change.{ForgetAll, Seize, SetBound, Try, Unseize}
-use Rattle.mq_spec_state.specs.Reads.{is_full, is_persistent, seizure_of, sender_data}
-use Rattle.mq_spec_state.specs.Changes.{apply, apply_all, comes_before, set_named, try_if}
-use Rattle.mq_spec_state.specs.Condition.{condition}
-use Rattle.mq_spec_state.specs.Sizes.{need}
-use Rattle.mq_spec_state.specs.Steps.{Part, Step, Test, do_all, do_part, logged, refusal, refused_or, tested, when}
-use Rattle.mq_spec_state.specs.Steps.Step.{Do, Refuse}
-use Rattle.mq_spec_agents.specs.Landing.{Landing, land}
-use Rattle.mq_spec_agents.specs.Words.{Absent, HasSeized, InDoubtAt, Landed, Present, Standing, before, drop_changes, harden_part, is_present, land_changes, landed, landed_by, landed_unless, prepare_of, prepared_changes, prepared_record, receive_landed, received_record, release_of, standing_at, undoubted}
+use Rattle.mq_calls.specs.State.{Change, Plain, Seizure}
+use Rattle.mq_calls.specs.State.Change.{ForgetAll, Seize, SetBound, Try, Unseize}
+use Rattle.mq_calls.specs.Reads.{is_full, is_persistent, seizure_of, sender_data}
+use Rattle.mq_calls.specs.Changes.{apply, apply_all, comes_before, set_named, try_if}
+use Rattle.mq_calls.specs.Condition.{condition}
+use Rattle.mq_calls.specs.Sizes.{need}
+use Rattle.mq_calls.specs.Steps.{Part, Step, Test, do_all, do_part, logged, refusal, refused_or, tested, when}
+use Rattle.mq_calls.specs.Steps.Step.{Do, Refuse}
+use Rattle.mq_spec_manager.specs.Landing.{Landing, land}
+use Rattle.mq_spec_manager.specs.Agents.{Absent, HasSeized, InDoubtAt, Landed, Present, Standing, before, drop_changes, harden_part, is_present, land_changes, landed, landed_by, landed_unless, prepare_of, prepared_changes, prepared_record, receive_landed, received_record, release_of, standing_at, undoubted}
 use Rattle.mq_spec_node.specs.Deeds.{parts_of}
 use Rattle.mq_law_manager.proofs.Lists.{bool_case, name_self, name_yes}
 use Rattle.mq_law_seized.proofs.Changing.{both_true}

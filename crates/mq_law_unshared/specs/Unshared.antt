@@ -3,12 +3,12 @@ use Rattle.std.specs.Prelude.{◌≡◌, Bool, true, false, not, ◌&&◌, List,
 use Rattle.std.specs.Str.{bytes_eq}
 use Rattle.std.specs.Prelude.{ℕ}
 use Rattle.mq_sender.specs.States.{is_running}
-use Rattle.mq_spec_state.specs.State.{Change, Plain}
-use Rattle.mq_spec_state.specs.State.Change.{ForgetAll, Unseize}
-use Rattle.mq_spec_state.specs.State.Running.{Up}
-use Rattle.mq_spec_state.specs.Steps.{Part, Step}
-use Rattle.mq_spec_state.specs.Steps.Step.{Do, Refuse}
-use Rattle.mq_spec_agents.specs.Words.{HasSeized}
+use Rattle.mq_calls.specs.State.{Change, Plain}
+use Rattle.mq_calls.specs.State.Change.{ForgetAll, Unseize}
+use Rattle.mq_calls.specs.State.Running.{Up}
+use Rattle.mq_calls.specs.Steps.{Part, Step}
+use Rattle.mq_calls.specs.Steps.Step.{Do, Refuse}
+use Rattle.mq_spec_manager.specs.Agents.{HasSeized}
 use Rattle.mq_spec_node.specs.Node.{ChannelEnd, Node, Own, SenderEnd}
 use Rattle.mq_spec_node.specs.Node.ChannelEnd.{Sends}
 use Rattle.mq_spec_node.specs.Deeds.{Deed}

@@ -9,10 +9,9 @@ use crate::letters::{body_bytes, id_or, put_md, reply_correl};
 use crate::memory::Memory;
 use crate::targets::reply_target;
 use crate::texts::appl_name;
-use mq_base::NoMemory;
+use mq_base::{Label, NoMemory, QName};
 use mq_calls::{Appl, Get};
 use mq_history::{Act, Body, Call, GetOptions, PutOptions, ScriptLine};
-use mq_name::{Label, QName};
 use std::alloc::Global;
 
 /// The last moment, in milliseconds since 1970: the last millisecond of the year 9999 in GMT.

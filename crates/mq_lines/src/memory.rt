@@ -3,11 +3,10 @@ ghost use Rattle.std.specs.Prelude.{◌≡◌, ◌<◌, ◌≤◌, [], ◌∷◌
 ghost use Rattle.std.specs.Str.{bytes_eq};
 ghost use Rattle.mq_spec_node.specs.Scripts.{fresh, hconn_or, hobj, hobj_in, connected, unbound, bound, closed, got, remembers};
 
-use mq_base::NoMemory;
+use mq_base::{Label, NoMemory};
 use mq_calls::{Answer, Hconn, Hobj};
 use mq_history::{Reply, ScriptLine};
 use mq_message::Md;
-use mq_name::Label;
 use std::alloc::Global;
 use std::marker::Model;
 

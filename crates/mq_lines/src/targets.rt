@@ -4,8 +4,8 @@ ghost use Rattle.mq_spec_node.specs.Scripts as scripts;
 ghost use Rattle.mq_spec_node.specs.Scripts.{nowhere, manager_target, queue_target, reply_target};
 
 use crate::texts::trimmed;
+use mq_base::QName;
 use mq_message::Md;
-use mq_name::QName;
 use std::marker::Model;
 
 /// A queue and a manager by name; both are blank where there is none.

@@ -8,9 +8,9 @@ mod measure;
 
 use counting::Calls;
 use measure::{Measured, measure};
+use mq_base::QName;
 use mq_disk::{Disk, FileShelf, Image, MemDisk, Shelf, Side};
 use mq_log::StartFault;
-use mq_name::QName;
 use std::{env, io};
 
 /// How many bodies are appended in memory.

@@ -11,17 +11,17 @@ use Rattle.mq_message.specs.declared.message.Ident.{Ident}
 use Rattle.mq_sync.specs.declared.data.End.TheVariants as ends
 use Rattle.mq_codes.specs.declared.reason.Reason.TheVariants as reasons
 use Rattle.mq_resolve.specs.Resolved.{resolve}
-use Rattle.mq_spec_state.specs.Words.{Reason, Dest, Message, Route, ReceiverData, Batch, Luw, Halt, Plain, Step, ManagerValue, Wants, MeetsAs, MeetsOrWants, MeetsInRoom, SeizeFault, PrepareFault, Do, silent, when, local_of, channel_of, batch_of, sender_data, sender_or, is_full, need, is_persistent, apply_all, receiver_data, receiver_or, is_open_for_input, has_held_by_other, has_ident, stored}
-use Rattle.mq_spec_state.specs.Meeting.Wants.{Nowhere, Anywhere}
-use Rattle.mq_spec_state.specs.State.Change.{Seize, SetBound, SetReceiver}
+use Rattle.mq_calls.specs.Words.{Reason, Dest, Message, Route, ReceiverData, Batch, Luw, Halt, Plain, Step, ManagerValue, Wants, MeetsAs, MeetsOrWants, MeetsInRoom, SeizeFault, PrepareFault, Do, silent, when, local_of, channel_of, batch_of, sender_data, sender_or, is_full, need, is_persistent, apply_all, receiver_data, receiver_or, is_open_for_input, has_held_by_other, has_ident, stored}
+use Rattle.mq_calls.specs.Meeting.Wants.{Nowhere, Anywhere}
+use Rattle.mq_calls.specs.State.Change.{Seize, SetBound, SetReceiver}
 use Rattle.mq_spec_manager.specs.Words.{Never, is_transmission_queue, placed}
-use Rattle.mq_spec_agents.specs.Standing.{Standing, standing_at, is_present, drop_row, undoubted, drop_changes}
-use Rattle.mq_spec_agents.specs.Standing.Standing.{Absent, InDoubtAt, Present}
-use Rattle.mq_spec_agents.specs.Landing.{Landing, landing, land, route_tests}
-use Rattle.mq_spec_agents.specs.Receiving.{Landed, land_changes, before, landed_by, landed_unless, landed, received_record, received_part, receive_landed, receive}
-use Rattle.mq_spec_agents.specs.Moves.{bare_if, move_full, move_part, move_resolved, move_found, move_row}
-use Rattle.mq_spec_agents.specs.Batches.{row_with}
-use Rattle.mq_spec_agents.specs.Words.{IsUp, CanHold, CanHarden, CanMove, HasFreeRow, seize, leave, set_bound, expire, queue_of_sender, expired_rows, channel_queue, hold_batch, release_of, release_batch, prepared_record, prepared_changes, prepare_of, prepare, harden, discard}
+use Rattle.mq_spec_manager.specs.Standing.{Standing, standing_at, is_present, drop_row, undoubted, drop_changes}
+use Rattle.mq_spec_manager.specs.Standing.Standing.{Absent, InDoubtAt, Present}
+use Rattle.mq_spec_manager.specs.Landing.{Landing, landing, land, route_tests}
+use Rattle.mq_spec_manager.specs.Receiving.{Landed, land_changes, before, landed_by, landed_unless, landed, received_record, received_part, receive_landed, receive}
+use Rattle.mq_spec_manager.specs.Moves.{bare_if, move_full, move_part, move_resolved, move_found, move_row}
+use Rattle.mq_spec_manager.specs.Batches.{row_with}
+use Rattle.mq_spec_manager.specs.Agents.{IsUp, CanHold, CanHarden, CanMove, HasFreeRow, seize, leave, set_bound, expire, queue_of_sender, expired_rows, channel_queue, hold_batch, release_of, release_batch, prepared_record, prepared_changes, prepare_of, prepare, harden, discard}
 use Rattle.mq_law_manager.specs.Facts.{IsSound}
 use Rattle.mq_law_manager.specs.Kept.{StepKeeps}
 use Rattle.mq_law_manager.proofs.Ending.{joined}

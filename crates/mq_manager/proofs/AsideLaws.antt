@@ -1,9 +1,9 @@
 -- Time, a cut that is armed, a delta that is taken and a stop keep what holds of a manager and of its log.
 use Rattle.std.proofs.Common.{◌≡◌, ℕ, [], refl, sym, subst}
 use Rattle.std.specs.Prelude.{None}
-use Rattle.mq_spec_state.specs.State.{Running}
-use Rattle.mq_spec_state.specs.State.Running.{Up, Down}
-use Rattle.mq_spec_state.specs.Words.{Plain}
+use Rattle.mq_calls.specs.State.{Running}
+use Rattle.mq_calls.specs.State.Running.{Up, Down}
+use Rattle.mq_calls.specs.Words.{Plain}
 use Rattle.mq_spec_manager.specs.Stops.{advance_clock, cut, stop, stop_at}
 use Rattle.mq_law_image.specs.Values.{AreObjectTexts}
 use Rattle.mq_core.specs.Values.{CoreValue, LogBodies}

@@ -4,7 +4,7 @@ use Rattle.std.specs.Prelude.{Option, Some, None, nat_lt}
 use Rattle.std.proofs.lemmas.Bool.Decides.{nat_tests}
 use Rattle.mq_calls.specs.declared.records.LogRecord.{LogRecord}
 use Rattle.mq_calls.specs.declared.records.LogRecord.TheVariants as records
-use Rattle.mq_spec_state.specs.Words.{Part, need}
+use Rattle.mq_calls.specs.Words.{Part, need}
 use Rattle.mq_record.specs.Records.{IsRecord, record_bytes}
 use Rattle.mq_record.proofs.SizeLaws.{record_whole}
 use Rattle.mq_spec_log.specs.Applies.{is_in_bounds}

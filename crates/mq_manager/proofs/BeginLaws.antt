@@ -2,8 +2,8 @@
 use Rattle.std.proofs.Common.{◌+◌, ◌<◌, ℕ, List, [], ◌∷◌, ◌++◌, length, ap, sym, subst, arith}
 use Rattle.std.proofs.lemmas.List.{length-append}
 use Rattle.mq_log.specs.State.{log_length}
-use Rattle.mq_spec_state.specs.State.{Given, Running}
-use Rattle.mq_spec_state.specs.Words.{Plain}
+use Rattle.mq_calls.specs.State.{Given, Running}
+use Rattle.mq_calls.specs.Words.{Plain}
 use Rattle.mq_spec_manager.specs.Stops.{first_start, started_record}
 use Rattle.mq_record.specs.Records.{record_bytes}
 use Rattle.mq_spec_log.specs.Applies.Start.{First}
@@ -12,7 +12,7 @@ use Rattle.mq_law_manager.proofs.Ending.{sound_still, first_sound}
 use Rattle.mq_law_image.specs.Values.{AreObjectTexts}
 use Rattle.mq_law_image.proofs.Logged.{image_text}
 use Rattle.mq_core.specs.Values.{CoreValue, LogBodies}
-use Rattle.mq_start.specs.Begun.{HasBegun}
+use Rattle.mq_restart.specs.Begun.{HasBegun}
 use Rattle.mq_restart.specs.declared.reading.LogRead.TheVariants as reads
 use Rattle.mq_restart.specs.Stands.{StandsUp, LogStandsAt}
 use Rattle.mq_manager.specs.Facts.{IsWell}

@@ -7,12 +7,12 @@ use Rattle.mq_calls.specs.declared.agents.Note.TheVariants as notes
 use Rattle.mq_message.specs.declared.message.Ident.{Ident}
 use Rattle.mq_objects.specs.declared.command.Command.{Command}
 use Rattle.mq_calls.specs.declared.commands.ScRefusal.{ScRefusal}
-use Rattle.mq_spec_state.specs.Words.{Reason, Dest, Message, Luw, Answer, Get, GetAnswer, Sent, Md, Hconn, Hobj, Appl, Open, Shown, Step, Halt, SeizeFault, PrepareFault, Wants, MeetsAs, Meets, MeetsInRoom, MeetsOrWants, is_up}
-use Rattle.mq_spec_state.specs.Meeting.Wants.{Nowhere, Behind, Anywhere}
+use Rattle.mq_calls.specs.Words.{Reason, Dest, Message, Luw, Answer, Get, GetAnswer, Sent, Md, Hconn, Hobj, Appl, Open, Shown, Step, Halt, SeizeFault, PrepareFault, Wants, MeetsAs, Meets, MeetsInRoom, MeetsOrWants, is_up}
+use Rattle.mq_calls.specs.Meeting.Wants.{Nowhere, Behind, Anywhere}
 use Rattle.mq_spec_manager.specs.Words.{Never, mqconn, mqopen, mqclose, mqput, mqput1, mqget, mqcmit, mqback, mqdisc}
 use Rattle.mq_spec_manager.specs.Triggers.{trigger_turn}
 use Rattle.mq_spec_manager.specs.Commands.{command}
-use Rattle.mq_spec_agents.specs.Words.{IsUp, CanHold, CanPrepare, CanHarden, CanMove, CanReceive, HasFreeRow, seize, leave, set_bound, expire, hold_batch, release_batch, prepare, harden, receive, move_row, discard}
+use Rattle.mq_spec_manager.specs.Agents.{IsUp, CanHold, CanPrepare, CanHarden, CanMove, CanReceive, HasFreeRow, seize, leave, set_bound, expire, hold_batch, release_batch, prepare, harden, receive, move_row, discard}
 use Rattle.mq_law_manager.specs.Facts.{IsSound}
 use Rattle.mq_law_log.specs.Restarts.{StepHarmless}
 use Rattle.mq_law_log.proofs.Applications.{conn_harmless, open_harmless, close_harmless, put_harmless_whole, put1_harmless, get_harmless, cmit_harmless, back_harmless, disc_harmless}

@@ -1,5 +1,5 @@
 -- Counters of a manager whose facts hold.
-use Rattle.mq_spec_state.specs.Words.{Plain}
+use Rattle.mq_calls.specs.Words.{Plain}
 use Rattle.mq_core.specs.Counting.{CanCount}
 use Rattle.mq_manager.specs.Facts.{IsWell, MayCount}
 

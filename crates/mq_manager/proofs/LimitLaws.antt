@@ -2,8 +2,8 @@
 use Rattle.std.proofs.Common.{◌≡◌, ◌≤◌, ℕ, Bool, true, false, List, [], ◌∷◌, ◌++◌, refl, sym, subst, ◌∙◌}
 use Rattle.std.specs.Prelude.{Option, Some, None, Result, Ok, Err, map}
 use Rattle.std.specs.List.{flat_map}
-use Rattle.mq_spec_state.specs.Words.{Batch, LocalQueue, Process, Nonpersistent, is_up, is_transmission, locals_of, process_of, Reason, Md, Message, Hconn, Hobj, Appl, Open, Route, Connection, Item, Plain, Part, Change, Definitions, apply, apply_all, logged, do_part, condition, local_of, when, handle_at}
-use Rattle.mq_spec_state.specs.State.Change.{Try, ChangeObjects, SetBound, EndUnit, Disconnect, Leave, ForgetAll}
+use Rattle.mq_calls.specs.Words.{Batch, LocalQueue, Process, Nonpersistent, is_up, is_transmission, locals_of, process_of, Reason, Md, Message, Hconn, Hobj, Appl, Open, Route, Connection, Item, Plain, Part, Change, Definitions, apply, apply_all, logged, do_part, condition, local_of, when, handle_at}
+use Rattle.mq_calls.specs.State.Change.{Try, ChangeObjects, SetBound, EndUnit, Disconnect, Leave, ForgetAll}
 use Rattle.mq_calls.specs.declared.state.Item.TheVariants.{Put, Take}
 use Rattle.mq_codes.specs.declared.reason.Reason.TheVariants as reasons
 use Rattle.mq_resolve.specs.Resolved.{resolve}
@@ -12,7 +12,7 @@ use Rattle.mq_spec_manager.specs.Put.{output_only, queue_at, put_part, put_step,
 use Rattle.mq_spec_manager.specs.Units.{taken_item, placed_item, freed_item, commit_changes, commit_part, backout_part, mqcmit, mqback, mqdisc}
 use Rattle.mq_spec_manager.specs.Triggers.{put_trigger, takes_it, serve_into, serve_by, serve, first_due, trigger_at, trigger_turn}
 use Rattle.mq_spec_manager.specs.Stops.{release_batch, stop_changes, at_rest}
-use Rattle.mq_spec_state.specs.Steps.{none_of}
+use Rattle.mq_calls.specs.Steps.{none_of}
 use Rattle.mq_law_manager.specs.Kept.{StepKeeps}
 use Rattle.mq_law_manager.proofs.Shelves.{tried_definitions, logged_definitions}
 use Rattle.mq_law_manager.proofs.Stocks.{live_on, open_on, tested_on, going}

@@ -29,17 +29,17 @@ use Rattle.mq_calls.specs.declared.deltas.Why.TheVariants as whys
 use Rattle.mq_calls.specs.declared.records.LogRecord.TheVariants as records
 use Rattle.mq_calls.specs.declared.records.Add.{Add}
 use Rattle.mq_calls.specs.declared.records.Remove.{Remove}
-use Rattle.mq_spec_state.specs.State.{Plain, Connection, Handle, Batch}
-use Rattle.mq_spec_state.specs.State.Change.{SetCursor}
-use Rattle.mq_spec_state.specs.Reads.{handle_at, is_persistent, is_up, is_open_for_input, is_full, has_held_by_other, stored, batch_of}
-use Rattle.mq_spec_state.specs.Sizes.{need}
-use Rattle.mq_spec_state.specs.Steps.{Step, Part, Test, refused_or, when, tested, refusal, going_on, none_of, silent}
+use Rattle.mq_calls.specs.State.{Plain, Connection, Handle, Batch}
+use Rattle.mq_calls.specs.State.Change.{SetCursor}
+use Rattle.mq_calls.specs.Reads.{handle_at, is_persistent, is_up, is_open_for_input, is_full, has_held_by_other, stored, batch_of}
+use Rattle.mq_calls.specs.Sizes.{need}
+use Rattle.mq_calls.specs.Steps.{Step, Part, Test, refused_or, when, tested, refusal, going_on, none_of, silent}
 use Rattle.mq_spec_manager.specs.Handles.{connected, for_connection, for_handle, mqconn, mqopen, mqclose, close_up, close_handle, conn_tests, open_tests, open_step, option_tests, is_unfit, is_transmission_queue}
 use Rattle.mq_spec_manager.specs.Put.{mqput, mqput1, put_up, put_handle, put_route, put_part, put1_resolved, new_message, put_tests, put_step, queue_at, output_tests, handle_route, output_only, unit_record}
 use Rattle.mq_spec_manager.specs.Get.{mqget, get_up, get_handle, get_scanned, get_found, get_tests, room_tests, scanned, with_row, without_row, is_waiting, is_under, is_left, is_destructive, found_part, taking_part, removal_record, removal_parts, persistent_rows, expired_parts}
 use Rattle.mq_spec_manager.specs.Units.{mqcmit, mqback, mqdisc, adds_of, removes_of, record_of}
 use Rattle.mq_spec_manager.specs.Triggers.{trigger_turn, trigger_at, serve, serve_by, serve_into, put_trigger, takes_it, first_due}
-use Rattle.mq_spec_agents.specs.Words.{seize, leave, set_bound, channel_queue, expire, expired_rows, queue_of_sender, hold_batch, release_batch, release_of, prepare, prepare_of, prepared_record, harden_part, harden, discard, Landing, landing, route_tests, move_full, moved_record, moved_forced, bare_if, move_resolved, move_found, move_row, row_with, Landed, landed, received_record, receive_landed, receive}
+use Rattle.mq_spec_manager.specs.Agents.{seize, leave, set_bound, channel_queue, expire, expired_rows, queue_of_sender, hold_batch, release_batch, release_of, prepare, prepare_of, prepared_record, harden_part, harden, discard, Landing, landing, route_tests, move_full, moved_record, moved_forced, bare_if, move_resolved, move_found, move_row, row_with, Landed, landed, received_record, receive_landed, receive}
 use Rattle.mq_objects.specs.declared.command.Command.{Command}
 use Rattle.mq_calls.specs.declared.commands.ScRefusal.{ScRefusal}
 use Rattle.mq_calls.specs.declared.commands.ScRefusal.TheVariants as sc_refusals

@@ -4,10 +4,10 @@ use Rattle.std.specs.Prelude.{Option, Result, Ok, Err, MatchResult}
 use Rattle.mq_calls.specs.declared.choices.Return.TheVariants.{Fails}
 use Rattle.mq_calls.specs.declared.commands.RestartFault.{RestartFault}
 use Rattle.mq_calls.specs.declared.commands.RestartFault.TheVariants as faults
-use Rattle.mq_spec_state.specs.State.{LogState, Noted, Running}
-use Rattle.mq_spec_state.specs.State.Running.{Up, Down}
-use Rattle.mq_spec_state.specs.Images.{begun, raised}
-use Rattle.mq_spec_state.specs.Words.{Plain, is_up}
+use Rattle.mq_calls.specs.State.{LogState, Noted, Running}
+use Rattle.mq_calls.specs.State.Running.{Up, Down}
+use Rattle.mq_calls.specs.Images.{begun, raised}
+use Rattle.mq_calls.specs.Words.{Plain, is_up}
 use Rattle.mq_spec_manager.specs.Stops.{failed, restart, restart_at}
 use Rattle.mq_law_manager.specs.Facts.{IsSound, IsStocked}
 use Rattle.mq_law_manager.proofs.Beginning.{image_rests}

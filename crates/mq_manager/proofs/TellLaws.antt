@@ -3,9 +3,9 @@
 use Rattle.std.proofs.Common.{◌≡◌, ℕ, zero, suc, Bool, true, false, List, [], ◌∷◌, ◌++◌, refl, ap, arith, sym, subst, ◌∙◌}
 use Rattle.std.specs.Prelude.{Option, Some, None, Result, Ok, Err, is_some}
 use Rattle.mq_calls.specs.declared.commands.Halt.TheVariants as halts
-use Rattle.mq_spec_state.specs.State.{Given}
-use Rattle.mq_spec_state.specs.State.Change.{Try, SetBound}
-use Rattle.mq_spec_state.specs.Words.{Plain, Part, Step, Change, LogRecord, Noted, Halt, Image, Refuse, Do, ManagerValue, Wants, MeetsAs, MeetsDone, IsWrite, apply, apply_all, logged, do_part, do_all, stopped_at, freeze, note_of, try_if, condition, local_of, lasting, raised}
+use Rattle.mq_calls.specs.State.{Given}
+use Rattle.mq_calls.specs.State.Change.{Try, SetBound}
+use Rattle.mq_calls.specs.Words.{Plain, Part, Step, Change, LogRecord, Noted, Halt, Image, Refuse, Do, ManagerValue, Wants, MeetsAs, MeetsDone, IsWrite, apply, apply_all, logged, do_part, do_all, stopped_at, freeze, note_of, try_if, condition, local_of, lasting, raised}
 use Rattle.mq_spec_manager.specs.Stops.{redone, restarted}
 use Rattle.mq_record.specs.Records.{record_bytes}
 use Rattle.mq_spec_log.specs.Applies.Start.{Later}
@@ -17,7 +17,7 @@ use Rattle.mq_law_log.proofs.Ties.{written_tied, told}
 use Rattle.mq_law_log.proofs.Stops.{frozen_lasts, restart_recovers}
 use Rattle.mq_core.specs.Values.{CoreValue, LogBodies, WritesLog, manager_of, behind_record, pending_record, wrote_all, broke_at}
 use Rattle.mq_manager.specs.Tells.{Tells, IsRead, AreRead, StepRead, TellsBroken, TellsAfter}
-use Rattle.mq_spec_state.specs.Meeting.Wants.{Nowhere, Behind, Anywhere}
+use Rattle.mq_calls.specs.Meeting.Wants.{Nowhere, Behind, Anywhere}
 
 -- no change gives a manager another number, name or length of log
 given_if : (b : Bool) (name : List ℕ) (p : Plain) → (try_if b name p).given ≡ p.given

@@ -6,8 +6,8 @@ use Rattle.mq_calls.specs.declared.agents.AgentStop.TheVariants as agent_stops
 use Rattle.mq_calls.specs.declared.agents.PrepareFault.TheVariants as prepare_faults
 use Rattle.mq_calls.specs.declared.agents.PlaceFault.TheVariants as place_faults
 use Rattle.mq_calls.specs.declared.commands.Halt.TheVariants as halts
-use Rattle.mq_spec_state.specs.Words.{Message, Luw, Step, Refuse, Do, MeetsOrWants}
-use Rattle.mq_spec_agents.specs.Words.{harden, prepare, receive}
+use Rattle.mq_calls.specs.Words.{Message, Luw, Step, Refuse, Do, MeetsOrWants}
+use Rattle.mq_spec_manager.specs.Agents.{harden, prepare, receive}
 use Rattle.mq_agents.specs.Ends.{by_agent, by_place, by_prepare}
 use Rattle.mq_core.specs.Values.{CoreValue, WritesLog, begun_call, manager_of}
 

@@ -2,15 +2,15 @@
 use Rattle.std.proofs.Common.{◌≡◌, ◌≤◌, ◌+◌, ◌<◌, ◌^◌, ℕ, zero, suc, Bool, true, false, cond, List, [], ◌∷◌, refl, ap, sym, subst, arith}
 use Rattle.std.specs.Prelude.{Option, Some, None, Result, Ok, Err, not, ◌&&◌, ◌==◌, if◌then◌else◌, IfSome}
 use Rattle.std.specs.List.{AllByRecursion}
-use Rattle.mq_spec_state.specs.Words.{Reason, Answer, Get, GetAnswer, Sent, Md, Hconn, Hobj, Appl, Open, Connection, Plain, Part, Step, Refuse, Do, ManagerValue, Wants, MeetsAs, MeetsDone, Meets, MeetsInRoom, Halt, is_up, connection_at, do_part, do_all, stopped_at, IsWrite, note_of, silent}
-use Rattle.mq_spec_state.specs.Steps.{refused_or, going_on}
-use Rattle.mq_spec_state.specs.Meeting.Wants.{Nowhere, Behind, Anywhere}
+use Rattle.mq_calls.specs.Words.{Reason, Answer, Get, GetAnswer, Sent, Md, Hconn, Hobj, Appl, Open, Connection, Plain, Part, Step, Refuse, Do, ManagerValue, Wants, MeetsAs, MeetsDone, Meets, MeetsInRoom, Halt, is_up, connection_at, do_part, do_all, stopped_at, IsWrite, note_of, silent}
+use Rattle.mq_calls.specs.Steps.{refused_or, going_on}
+use Rattle.mq_calls.specs.Meeting.Wants.{Nowhere, Behind, Anywhere}
 use Rattle.mq_codes.specs.declared.reason.Reason.TheVariants as reasons
 use Rattle.mq_calls.specs.declared.commands.Halt.TheVariants as halts
 use Rattle.mq_calls.specs.declared.answers.Answer.TheVariants as answers
-use Rattle.mq_spec_state.specs.State.Change.{Connect}
-use Rattle.mq_spec_state.specs.State.{LogState, Running}
-use Rattle.mq_spec_state.specs.State.Running.{Up, Down}
+use Rattle.mq_calls.specs.State.Change.{Connect}
+use Rattle.mq_calls.specs.State.{LogState, Running}
+use Rattle.mq_calls.specs.State.Running.{Up, Down}
 use Rattle.mq_spec_manager.specs.Handles.{is_other, is_present, live_or, connected, for_connection, is_other_name, new_connection, new_hconn, mqconn, mqopen, mqclose}
 use Rattle.mq_spec_manager.specs.Put.{mqput, mqput1}
 use Rattle.mq_spec_manager.specs.Get.{mqget}

@@ -1,5 +1,5 @@
 -- What a manager's log tells of it between its calls, beside its facts.
-use Rattle.mq_spec_state.specs.Words.{Plain}
+use Rattle.mq_calls.specs.Words.{Plain}
 use Rattle.mq_law_image.specs.Values.{AreObjectTexts}
 use Rattle.mq_core.specs.Values.{CoreValue, LogBodies}
 use Rattle.mq_restart.specs.declared.reading.LogRead.{LogRead}

@@ -6,7 +6,7 @@ use Rattle.mq_calls.specs.declared.records.LogRecord.{LogRecord}
 use Rattle.mq_calls.specs.declared.records.LogRecord.TheVariants as records
 use Rattle.mq_calls.specs.declared.agents.Note.{Note}
 use Rattle.mq_calls.specs.declared.agents.Note.TheVariants as notes
-use Rattle.mq_spec_state.specs.Words.{Part, Step, Refuse, Do}
+use Rattle.mq_calls.specs.Words.{Part, Step, Refuse, Do}
 use Rattle.mq_law_image.specs.Values.{IsChangeText}
 
 abbrev pub CanBeRead : LogRecord → Type 0

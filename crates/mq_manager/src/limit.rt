@@ -1,7 +1,7 @@
 //! The limit of MAXMSGL of the manager.
 ghost use Rattle.std.specs.Prelude.{◌≡◌, true, false};
 ghost use Rattle.std.specs.List.{list_all};
-ghost use Rattle.mq_spec_state.specs.Words.{MeetsOrWants};
+ghost use Rattle.mq_calls.specs.Words.{MeetsOrWants};
 ghost use Rattle.mq_spec_manager.specs.Commands.{command};
 ghost use Rattle.mq_law_manager.specs.Facts.{AreOnce};
 ghost use Rattle.mq_core.specs.Values.{WritesLog, begun_call, manager_of};

@@ -1,16 +1,16 @@
 //! The queue manager and its calls.
 ghost use Rattle.std.specs.Prelude.{◌≡◌, ◌≤◌, [], false, Ok, MatchResult, option_copied, option_map};
-ghost use Rattle.mq_spec_state.specs.Words.{Meets, MeetsInRoom, is_up};
+ghost use Rattle.mq_calls.specs.Words.{Meets, MeetsInRoom, is_up};
 ghost use Rattle.mq_core.specs.Values.{WritesLog, manager_of};
-ghost use Rattle.mq_spec_state.specs.Words.{MeetsOrWants};
+ghost use Rattle.mq_calls.specs.Words.{MeetsOrWants};
 ghost use Rattle.mq_spec_manager.specs.Commands.{command};
 ghost use Rattle.mq_spec_manager.specs.Stops.{advance_clock, cut, stop};
 ghost use Rattle.mq_spec_manager.specs.Triggers.{trigger_turn};
-ghost use Rattle.mq_spec_agents.specs.Words.{IsUp, IsSenderHere, HasSeized, HasBatch, CanHold, CanPrepare, CanHarden, HasFreeRow, kept, stock, batch_row, next_row, seize, leave, set_bound, expire, hold_batch, release_batch, prepare, harden, discard, CanMove, CanReceive, move_row, receive};
+ghost use Rattle.mq_spec_manager.specs.Agents.{IsUp, IsSenderHere, HasSeized, HasBatch, CanHold, CanPrepare, CanHarden, HasFreeRow, kept, stock, batch_row, next_row, seize, leave, set_bound, expire, hold_batch, release_batch, prepare, harden, discard, CanMove, CanReceive, move_row, receive};
 ghost use Rattle.mq_agents.specs.Ends.{by_agent, by_memory, by_seize, by_prepare, by_place, kept_of, place_and_message};
 ghost use Rattle.mq_steer.specs.Quiet.{quietly, Comes};
 ghost use Rattle.mq_spec_manager.specs.Words.{last_moment};
-ghost use Rattle.mq_start.specs.Begun.{given_by, HasBegun, HasNotBegun};
+ghost use Rattle.mq_restart.specs.Begun.{given_by, HasBegun, HasNotBegun};
 ghost use Rattle.mq_law_image.specs.Values.{IsCommandText};
 ghost use Rattle.mq_restart.specs.Returned.{CameUp, Passes, Stayed};
 ghost use Rattle.mq_restart.specs.Stands.{CanStart};
@@ -22,7 +22,7 @@ ghost use Rattle.mq_spec_manager.specs.Words.{mqconn, mqopen, mqclose, mqput, mq
 use crate::limit::command_that_fits;
 use crate::notes::{harden_note, prepare_named, receive_named};
 use mq_agents::Hardened;
-use mq_base::NoMemory;
+use mq_base::{ChName, NoMemory, QName};
 use mq_calls::{
     AgentStop, Answer, Appl, Delta, Get, GetAnswer, Halt, Hconn, Hobj, Note, Open, PlaceFault,
     PrepareFault, ScRefusal, SeizeFault, Sent, Shown,
@@ -31,10 +31,8 @@ use mq_codes::Reason;
 use mq_core::Core;
 use mq_disk::{Cutter, Disk};
 use mq_message::{Dest, Ident, Md, Message, Place};
-use mq_name::{ChName, QName};
 use mq_objects::{Command, Defs};
-use mq_restart::{LogRead, Returned, Unreturned};
-use mq_start::Unbegun;
+use mq_restart::{LogRead, Returned, Unbegun, Unreturned};
 use mq_sync::{Stock, Unit};
 use std::alloc::Global;
 use std::marker::Model;
@@ -85,7 +83,7 @@ impl<D: Disk> Manager<D> {
         requires passes { disk.stopped ≡ false }
         ensures { MatchResult result (λ m. HasBegun D.tells (D.seen disk.inner) (D.faults disk.inner) (given_by number name.now max) moment m) (λ e. HasNotBegun D.tells (D.seen disk.inner) (given_by number name.now max) (D.faults disk.inner) e.fault (D.faults e.disk.inner)) }
     {
-        match mq_start::begin(alloc, number, name, disk, max, moment) {
+        match mq_restart::begin(alloc, number, name, disk, max, moment) {
             Ok(core) => Ok(Manager {
                 core,
                 read: LogRead::Unread,

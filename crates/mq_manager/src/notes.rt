@@ -1,18 +1,18 @@
 //! What channel ends write, of channels whose names are not blank and with sessions that a restart reads.
-ghost use Rattle.mq_spec_state.specs.Words.{MeetsOrWants};
+ghost use Rattle.mq_calls.specs.Words.{MeetsOrWants};
 ghost use Rattle.std.specs.Prelude.{◌≡◌, false};
-ghost use Rattle.mq_spec_agents.specs.Words.{IsUp, CanPrepare, harden, prepare, receive};
+ghost use Rattle.mq_spec_manager.specs.Agents.{IsUp, CanPrepare, harden, prepare, receive};
 ghost use Rattle.mq_agents.specs.Ends.{by_agent, by_place, by_prepare};
 ghost use Rattle.mq_law_manager.specs.Facts.{Sound, AreNamed};
 ghost use Rattle.mq_core.specs.Counting.{CanCount};
 ghost use Rattle.mq_core.specs.Values.{WritesLog, begun_call, manager_of};
 ghost use Rattle.mq_manager.specs.Reads.{has_name, is_low, can_harden};
 
+use mq_base::ChName;
 use mq_calls::{AgentStop, Note, PlaceFault, PrepareFault};
 use mq_core::Core;
 use mq_disk::Disk;
 use mq_message::Message;
-use mq_name::ChName;
 use mq_sync::{End, Unit};
 
 /// The first session that no restart would read.

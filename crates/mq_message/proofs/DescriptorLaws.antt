@@ -2,7 +2,7 @@
 use Rattle.std.proofs.Common.{◌≡◌, ℕ, ◌≤◌, ◌++◌, List, [], length, take, refl, sym, ap, ◌∙◌, arith, codes, Bool, true, false, pos, length-append}
 use Rattle.std.specs.Prelude.{Option, Some, None, Ok, IfOk, nat_lt}
 use Rattle.std.proofs.lemmas.Bool.{ltb-false}
-use Rattle.mq_name.proofs.Numbers.{AreBytes}
+use Rattle.mq_base.proofs.Numbers.{AreBytes}
 use Rattle.mq_message.specs.declared.message.Md.{Md}
 use Rattle.mq_message.specs.declared.head.HeadFault.{HeadFault}
 use Rattle.mq_message.specs.Layout.{long_bytes, long_of, written, values_in, AllFit, Values}

@@ -9,7 +9,7 @@ use Rattle.std.proofs.lemmas.Bool.{eqb-true}
 use Rattle.std.proofs.lemmas.List.{append_assoc, append-nil, length-append, length-take-le, length-drop, take_at, drop_at, drop-drop, get_or-take, get_or-drop}
 use Rattle.byteorder.specs.Endian.{big_number, big_bytes}
 use Rattle.byteorder.specs.Numbers.{big_number-reads_back, length-bytes_high_first}
-use Rattle.mq_name.proofs.Numbers.{AreBytes, big_number_gives_back, big_signed_gives_back}
+use Rattle.mq_base.proofs.Numbers.{AreBytes, big_number_gives_back, big_signed_gives_back}
 use Rattle.mq_message.specs.Layout.{Kind, Long, Unsigned, Characters, Raw, Field, Holds, Values, long_bytes, long_of, unsigned_bytes, unsigned_of, value_bytes, value_in, part, written, values_in, has_width, stand_from, size, Fits, AllFit}
 
 both : (a b : Bool) → (a && b) ≡ true → (a ≡ true) × (b ≡ true)

@@ -5,8 +5,8 @@ use Rattle.std.proofs.lemmas.Bool.Decides.{nat_tests}
 use Rattle.mq_codes.specs.declared.reason.Reason.TheVariants as reasons
 use Rattle.mq_resolve.specs.Resolved.{resolve}
 use Rattle.mq_resolve.specs.declared.route.RouteEnd.{RouteEnd}
-use Rattle.mq_spec_state.specs.Words.{Reason, Message, Dest, Ident, Route, LocalQueue, Plain, Test, Step, Refuse, refusal, when, local_of, depth, stored, Row, has_ident, is_full, need, put_bytes}
-use Rattle.mq_spec_state.specs.Steps.{refused_or}
+use Rattle.mq_calls.specs.Words.{Reason, Message, Dest, Ident, Route, LocalQueue, Plain, Test, Step, Refuse, refusal, when, local_of, depth, stored, Row, has_ident, is_full, need, put_bytes}
+use Rattle.mq_calls.specs.Steps.{refused_or}
 use Rattle.mq_spec_manager.specs.Words.{queue_at, max_depth, is_dead}
 use Rattle.mq_message.specs.declared.head.HeadFault.{HeadFault}
 use Rattle.mq_message.specs.Descriptor.{id_fault, or_short, unless}
@@ -16,7 +16,7 @@ use Rattle.std.specs.Option.{option_map}
 use Rattle.mq_calls.specs.declared.records.LogRecord.TheVariants as records
 use Rattle.mq_agents.proofs.RemoveLaws.{ident_of_row}
 use Rattle.mq_moves.proofs.MoveLaws.{need_moved}
-use Rattle.mq_spec_agents.specs.Words.{CanMove, bare_if, row_with, route_tests, move_full, move_found, move_resolved, move_landing, move_row}
+use Rattle.mq_spec_manager.specs.Agents.{CanMove, bare_if, row_with, route_tests, move_full, move_found, move_resolved, move_landing, move_row}
 use Rattle.mq_moves.specs.Moving.{moved_step}
 use Rattle.mq_moves.specs.Landed.{at_end, message_moved}
 

@@ -4,10 +4,10 @@ use Rattle.std.specs.Prelude.{Option, Some, None, Ok, Err, IsSome, is_some, find
 use Rattle.std.specs.List.{list_any}
 use Rattle.std.specs.Str.{bytes_eq}
 use Rattle.mq_queue.proofs.Edits.{same_is}
-use Rattle.mq_spec_state.specs.State.{Queue as StateQueue}
-use Rattle.mq_spec_state.specs.Words.{Ident, Message, Row, Among, Plain, has_ident, same_ident, keep, kept_in, selects, queue_in, local_of, apply, place, try_trigger}
+use Rattle.mq_calls.specs.State.{Queue as StateQueue}
+use Rattle.mq_calls.specs.Words.{Ident, Message, Row, Among, Plain, has_ident, same_ident, keep, kept_in, selects, queue_in, local_of, apply, place, try_trigger}
 use Rattle.mq_core.specs.Counting.{CanCount}
-use Rattle.mq_spec_state.specs.State.Change.{Leave}
+use Rattle.mq_calls.specs.State.Change.{Leave}
 use Rattle.mq_calls.specs.declared.state.Item.TheVariants.{Put}
 use Rattle.mq_log.specs.State.{LogState}
 use Rattle.mq_place.specs.States.{QueueState, queues_of, state_in, change_state, on_queues, expecting, unpended}
@@ -18,8 +18,8 @@ use Rattle.mq_core.proofs.PlaceLaws.{name_is, same_name, ready, tied_placed, pla
 use Rattle.mq_core.proofs.ForceLaws.{seen_on, times_on, times_keep}
 use Rattle.mq_core.proofs.PutLaws.{queues_same, kept_queue, waits_more, counts_low}
 use Rattle.mq_record.specs.Room.{Buffered}
-use Rattle.mq_spec_state.specs.Words.{LogRecord, Noted, Part, note_of, Step, Do, Reason, Dest, ManagerValue, MeetsOrWants, apply_all, is_persistent, need}
-use Rattle.mq_spec_state.specs.Meeting.Wants.{Anywhere}
+use Rattle.mq_calls.specs.Words.{LogRecord, Noted, Part, note_of, Step, Do, Reason, Dest, ManagerValue, MeetsOrWants, apply_all, is_persistent, need}
+use Rattle.mq_calls.specs.Meeting.Wants.{Anywhere}
 use Rattle.mq_spec_manager.specs.Words.{placed}
 use Rattle.mq_calls.specs.declared.records.LogRecord.TheVariants as records
 use Rattle.mq_calls.specs.declared.deltas.Did.TheVariants as did
@@ -34,7 +34,7 @@ use Rattle.mq_calls.specs.declared.commands.Halt.TheVariants as halts
 use Rattle.mq_record.specs.Room.{with_piece}
 use Rattle.mq_record.specs.Records.{CanBeKept, record_bytes, moved_front}
 use Rattle.mq_frame.specs.Frames.{message_bytes}
-use Rattle.mq_spec_state.specs.Words.{Halt, freeze, logged, put_bytes, is_int, route_size}
+use Rattle.mq_calls.specs.Words.{Halt, freeze, logged, put_bytes, is_int, route_size}
 use Rattle.mq_core.specs.declared.parts.StoppedWrite.TheVariants as writes
 use Rattle.mq_core.specs.Views.{frozen_of, noted}
 use Rattle.mq_core.proofs.ForceLaws.{forced_view, frozen_view, tied_downed}

@@ -1,7 +1,7 @@
 -- A row that moves from one queue to another.
 use Rattle.std.specs.Prelude.{ℕ, ◌+◌, ◌-◌, Bool, List, [], ◌∷◌, None, length}
-use Rattle.mq_spec_state.specs.Words.{Dest, Message, Reason, Step, Do}
-use Rattle.mq_spec_agents.specs.Words.{move_part}
+use Rattle.mq_calls.specs.Words.{Dest, Message, Reason, Step, Do}
+use Rattle.mq_spec_manager.specs.Agents.{move_part}
 use Rattle.mq_place.specs.States.{change_state, unpended}
 use Rattle.mq_core.specs.declared.parts.StoppedWrite.TheVariants as writes
 use Rattle.mq_core.specs.Views.{PartsValue}

@@ -1,18 +1,18 @@
 //! Where a message is put by a route: what refuses it at the end of the route, and how it stands there.
 ghost use Rattle.std.specs.Prelude.{◌≡◌, ◌+◌, ◌<◌, ◌^◌, None, nat_le};
-ghost use Rattle.mq_spec_state.specs.Words.{depth, refusal};
+ghost use Rattle.mq_calls.specs.Words.{depth, refusal};
 ghost use Rattle.mq_spec_manager.specs.Words.{dest_at, is_unfit, output_only, queue_at};
-ghost use Rattle.mq_spec_agents.specs.Words.{route_tests};
+ghost use Rattle.mq_spec_manager.specs.Agents.{route_tests};
 ghost use Rattle.mq_core.specs.Views.{plain_of};
 ghost use Rattle.mq_core.specs.Ties.{Tied};
 ghost use Rattle.mq_moves.specs.Landed.{route_by, tests_at};
 
+use mq_base::QName;
 use mq_codes::Reason;
 use mq_core::Parts;
 use mq_disk::Disk;
 use mq_fill::{is_inhibited, max_depth, max_length};
 use mq_message::Dest;
-use mq_name::QName;
 use mq_resolve::{PathStep, RouteEnd};
 
 /// The local queue on which a message stands at the end of a route.

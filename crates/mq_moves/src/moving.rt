@@ -1,9 +1,9 @@
 //! A rule of the dead-letter handler moves a row: it goes from one queue and stands on another by one forced write.
 ghost use Rattle.std.specs.Prelude.{◌≡◌, ◌+◌, ◌<◌, ◌≤◌, ◌^◌, true, false, length, IsSome, OnOk, OnErr};
 ghost use Rattle.mq_calls.specs.declared.records.LogRecord.TheVariants as records;
-ghost use Rattle.mq_spec_state.specs.Words.{MeetsOrWants, is_persistent, local_of, need, record_size};
+ghost use Rattle.mq_calls.specs.Words.{MeetsOrWants, is_persistent, local_of, need, record_size};
 ghost use Rattle.mq_core.specs.Counting.{CanCount};
-ghost use Rattle.mq_spec_agents.specs.Words.{IsUp, HasFreeRow};
+ghost use Rattle.mq_spec_manager.specs.Agents.{IsUp, HasFreeRow};
 ghost use Rattle.mq_record.specs.Records.{CanBeKept};
 ghost use Rattle.mq_core.specs.Ties.{IsReady};
 ghost use Rattle.mq_core.specs.Forced.{IsExpected, IsForced, HasMoreRoom};
@@ -14,12 +14,11 @@ ghost use Rattle.mq_moves.specs.Moving.{downed_move, given_back, moved_step};
 ghost use Rattle.mq_core.specs.Values.{manager_of, WritesLog};
 
 use mq_agents::{agent_stop, go_down};
-use mq_base::NoMemory;
+use mq_base::{NoMemory, QName};
 use mq_calls::{AgentStop, Did, PlaceFault};
 use mq_core::{Core, Parts, StoppedWrite, put_bytes};
 use mq_disk::{Disk, Stop};
 use mq_message::{Dest, Ident, Message};
-use mq_name::QName;
 use mq_record::moved_front;
 use mq_unit::{Effects, can_be_kept};
 

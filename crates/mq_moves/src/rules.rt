@@ -1,9 +1,9 @@
 //! A row goes to the end of a rule's route: what refuses it, in order, and the message as it stands there.
 ghost use Rattle.std.specs.Prelude.{◌≡◌, ◌<◌, ◌^◌, ℕ, List, true, Some, None, drop, length, IfOk};
-ghost use Rattle.mq_spec_state.specs.Words.{MeetsOrWants, stored};
+ghost use Rattle.mq_calls.specs.Words.{MeetsOrWants, stored};
 ghost use Rattle.mq_core.specs.Counting.{CanCount};
 ghost use Rattle.mq_spec_manager.specs.Words.{is_dead};
-ghost use Rattle.mq_spec_agents.specs.Words.{IsUp, CanMove, bare_if, row_with, move_full, move_row};
+ghost use Rattle.mq_spec_manager.specs.Agents.{IsUp, CanMove, bare_if, row_with, move_full, move_row};
 ghost use Rattle.mq_core.specs.Views.{plain_of};
 ghost use Rattle.mq_core.specs.Ties.{Tied};
 ghost use Rattle.mq_agents.specs.Ends.{by_place};
@@ -12,14 +12,13 @@ ghost use Rattle.mq_core.specs.Values.{manager_of, WritesLog};
 
 use crate::landing::{dest_at, queue_at, refused_at};
 use crate::moving::move_message;
-use mq_base::{Items, NoMemory};
+use mq_base::{Items, NoMemory, QName};
 use mq_calls::{AgentStop, PlaceFault};
 use mq_codes::Reason;
 use mq_core::{Core, Parts, put_bytes};
 use mq_disk::Disk;
 use mq_heads::dlh_of;
 use mq_message::{Bytes, Dest, Ident, Md, Message};
-use mq_name::QName;
 use mq_resolve::{RouteEnd, resolve};
 use std::alloc::Global;
 

@@ -1,6 +1,6 @@
 -- What a put comes to where no refusal applies.
 use Rattle.std.specs.Prelude.{◌≡◌, ℕ, ◌-◌, ◌^◌, ◌<◌, ◌≤◌, ◌&&◌, ◌++◌, Bool, true, false, List, [], ◌∷◌, length, Result, Ok, Err, IsSome, IfSome}
-use Rattle.mq_spec_state.specs.Words.{Reason, Message, Md, Answer, Sent, Route, PathStep, Connection, Plain, Step, Test, Refuse, Do, when, is_int, connection_at, is_up, local_of}
+use Rattle.mq_calls.specs.Words.{Reason, Message, Md, Answer, Sent, Route, PathStep, Connection, Plain, Step, Test, Refuse, Do, when, is_int, connection_at, is_up, local_of}
 use Rattle.mq_spec_manager.specs.Words.{sent_answer, put_part, put_route, next_ident, log_full, is_high, is_bad_expiry, is_blank, inhibited_tests, length_tests, full_tests, sync_full}
 use Rattle.mq_codes.specs.declared.reason.Reason.TheVariants as reasons
 use Rattle.mq_fill.specs.Drafts.{message_of}

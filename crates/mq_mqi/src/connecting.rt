@@ -1,15 +1,15 @@
 //! MQCONN, MQOPEN, MQCLOSE.
 ghost use Rattle.std.specs.Prelude.{◌≡◌, ◌+◌, ◌^◌, ◌<◌, IsSome, IfSome, true};
-ghost use Rattle.mq_spec_state.specs.Words.{Meets, MeetsInRoom, is_up, connection_at, handle_at};
+ghost use Rattle.mq_calls.specs.Words.{Meets, MeetsInRoom, is_up, connection_at, handle_at};
 ghost use Rattle.mq_spec_manager.specs.Words.{mqconn, mqopen, mqclose};
 ghost use Rattle.mq_core.specs.Calls.{open_at, close_at, HasHandle};
 ghost use Rattle.mq_core.specs.Values.{manager_of, WritesLog};
 
+use mq_base::QName;
 use mq_calls::{Answer, Appl, Halt, Hconn, Hobj, Open};
 use mq_codes::Reason;
 use mq_core::Core;
 use mq_disk::Disk;
-use mq_name::QName;
 use mq_resolve::Route;
 
 /// MQCONN: a new connection, without handles (MQI reference, MQCONN).

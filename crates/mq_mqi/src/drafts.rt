@@ -1,12 +1,13 @@
 //! The refusals of MQPUT and MQPUT1 in their order.
 ghost use Rattle.std.specs.Prelude.{◌≡◌, ◌+◌, ◌<◌, ◌≤◌, ◌^◌, ℕ, List, None, length, IfSome, ◌-◌, true};
-ghost use Rattle.mq_spec_state.specs.Words.{Message, depth, is_full, is_up, put_bytes, refusal, route_size};
+ghost use Rattle.mq_calls.specs.Words.{Message, depth, is_full, is_up, put_bytes, refusal, route_size};
 ghost use Rattle.mq_spec_manager.specs.Words.{is_bad_expiry, sync_full, put_need, log_full, next_ident, new_message, output_only, is_unfit, mqput, mqput1, is_high, queue_at};
 ghost use Rattle.mq_fill.specs.Drafts.{message_of};
 ghost use Rattle.mq_core.specs.Views.{plain_of};
 ghost use Rattle.mq_core.specs.Ties.{Tied};
 ghost use Rattle.mq_mqi.specs.Puts.{Posts, Puts, options_tests, definitions_tests, counts_tests};
 
+use mq_base::QName;
 use mq_calls::{Hconn, Hobj};
 use mq_codes::Reason;
 use mq_core::Parts;
@@ -14,7 +15,6 @@ use mq_disk::Disk;
 use mq_fill::{Draft, is_blank, is_inhibited, make_draft, max_depth, max_length};
 use mq_handles::Seat;
 use mq_message::{Dest, Ident, Md};
-use mq_name::QName;
 use mq_resolve::{PathStep, RouteEnd, resolve};
 
 /// A message on its way to a queue, all but its body.

@@ -1,6 +1,6 @@
 //! MQPUT and MQPUT1.
 ghost use Rattle.std.specs.Prelude.{◌≡◌, ◌≤◌, ◌<◌, ◌^◌, length, true, false, IsSome, IfSome, IfOk, OnOk, OnErr};
-ghost use Rattle.mq_spec_state.specs.Words.{Meets, connection_at, is_up, is_persistent, local_of, put_bytes};
+ghost use Rattle.mq_calls.specs.Words.{Meets, connection_at, is_up, is_persistent, local_of, put_bytes};
 ghost use Rattle.mq_core.specs.Counting.{CanCount};
 ghost use Rattle.mq_spec_manager.specs.Words.{next_ident, sent_answer, is_high, mqput, mqput1};
 ghost use Rattle.mq_record.specs.Records.{CanBeKept};
@@ -10,13 +10,12 @@ ghost use Rattle.mq_mqi.specs.Puts.{letter_at, letter_message, CanPost};
 ghost use Rattle.mq_core.specs.Values.{manager_of, WritesLog};
 
 use crate::drafts::{Letter, can_put, can_put1};
-use mq_base::{Items, NoMemory};
+use mq_base::{Items, NoMemory, QName};
 use mq_calls::{Answer, Did, Halt, Hconn, Hobj, Sent};
 use mq_codes::Reason;
 use mq_core::{Core, Parts, put_bytes};
 use mq_disk::Disk;
 use mq_message::{Md, Message};
-use mq_name::QName;
 use mq_unit::Effects;
 use std::alloc::Global;
 

@@ -16,9 +16,9 @@ use Rattle.mq_objects.specs.Names.{locals_in}
 use Rattle.mq_calls.specs.declared.image.Shelf.{Shelf}
 use Rattle.mq_history.specs.declared.history.History.{History}
 use Rattle.mq_history.specs.declared.scenario.Scenario.{Scenario}
-use Rattle.mq_spec_state.specs.State.{Plain}
-use Rattle.mq_spec_state.specs.Reads.{queue_in, stored}
-use Rattle.mq_spec_state.specs.Images.{numbered, queue_on}
+use Rattle.mq_calls.specs.State.{Plain}
+use Rattle.mq_calls.specs.Reads.{queue_in, stored}
+use Rattle.mq_calls.specs.Images.{numbered, queue_on}
 use Rattle.mq_spec_network.specs.Ledger.{rows_in}
 use Rattle.mq_spec_network.specs.Standing.{node_after, managers_from, opening_managers, is_held_there, standing_in}
 use Rattle.mq_spec_network.specs.Apart.{idents_in, row_idents, standing_idents}

@@ -12,8 +12,8 @@ use Rattle.mq_history.specs.declared.history.History.{History}
 use Rattle.mq_history.specs.declared.scenario.CableLine.{CableLine}
 use Rattle.mq_history.specs.declared.scenario.Scenario.{Scenario}
 use Rattle.mq_sync.specs.declared.data.SenderData.{SenderData}
-use Rattle.mq_spec_state.specs.State.{Plain}
-use Rattle.mq_spec_state.specs.Reads.{sender_in, in_doubt_of}
+use Rattle.mq_calls.specs.State.{Plain}
+use Rattle.mq_calls.specs.Reads.{sender_in, in_doubt_of}
 use Rattle.mq_spec_network.specs.Ledger.{rows_in}
 use Rattle.mq_spec_network.specs.Standing.{cable_from, last_unit, is_doubted}
 

@@ -9,8 +9,8 @@ use crate::hardened::{
     doubt_of, opened_sender, receiver_partner, receiver_session, receiver_unit, sender_partner,
     sender_session,
 };
+use mq_base::QName;
 use mq_history::{Apart, CableLine, History, Scenario};
-use mq_name::QName;
 use mq_net_conflict::opened_receiver;
 use mq_sync::{InDoubt, ReceiverData, SenderData, Unit};
 

@@ -1,12 +1,12 @@
 //! What the two ends of a channel had hardened at the first starts.
 ghost use Rattle.std.specs.Prelude.{◌≡◌, option_copied, slice_get};
-ghost use Rattle.mq_spec_state.specs.Reads.{sender_in};
+ghost use Rattle.mq_calls.specs.Reads.{sender_in};
 ghost use Rattle.mq_sync.specs.Settlement.{sender_or, receiver_or};
 ghost use Rattle.mq_net_apart.specs.Opened.{opened_sender};
 
+use mq_base::{ChName, QName};
 use mq_calls::SenderSide;
 use mq_history::History;
-use mq_name::{ChName, QName};
 use mq_sync::{InDoubt, ReceiverData, SenderData, Unit};
 
 /// What a sender has hardened.

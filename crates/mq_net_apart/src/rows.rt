@@ -6,11 +6,10 @@ ghost use Rattle.mq_spec_network.specs.Standing.{cable_from, last_unit, opening_
 ghost use Rattle.mq_net_apart.specs.Opened.{opened_counts, opened_held, opened_standing, ident_of, all_object, standing_object, all_of, standing_of, standing_if, is_cable};
 
 use crate::hardened::sender_in;
-use mq_base::{Items, NoMemory};
+use mq_base::{ChName, Items, NoMemory, QName};
 use mq_calls::Shelf;
 use mq_history::{CableLine, History, Scenario};
 use mq_message::{Holder, Ident};
-use mq_name::{ChName, QName};
 use mq_net_conflict::opened_receiver;
 use mq_objects::Object;
 use mq_queue::Row;

@@ -9,7 +9,7 @@ use Rattle.mq_queue.specs.declared.row.Row.{Row}
 use Rattle.mq_queue.specs.Rows.{same_ident}
 use Rattle.mq_history.specs.declared.story.ManagerPlaces.{ManagerPlaces}
 use Rattle.mq_spec_network.specs.Ledger.{Users, users_or, change_at, unit_of, row_in, row_at, idents_at}
-use Rattle.mq_spec_state.specs.Reads.{connection_at}
+use Rattle.mq_calls.specs.Reads.{connection_at}
 use Rattle.mq_net_books.proofs.PlacedLaws.{placed}
 
 pub changed_at : {A : Type 0} (m : ℕ) (f : A → A) (xs : List A) (x : A) → slice_get xs m ≡ Some x → slice_set xs m (f x) ≡ change_at m f xs

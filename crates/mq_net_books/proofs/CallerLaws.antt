@@ -5,8 +5,8 @@ use Rattle.std.proofs.lemmas.Bool.Decides.{nat_tests}
 use Rattle.std.specs.Prelude.{Option}
 use Rattle.mq_net_books.proofs.BookLaws.{set_at}
 use Rattle.mq_calls.specs.declared.state.Connection.{Connection}
-use Rattle.mq_spec_state.specs.Reads.{connection_at}
-use Rattle.mq_spec_state.specs.Changes.{change_connection}
+use Rattle.mq_calls.specs.Reads.{connection_at}
+use Rattle.mq_calls.specs.Changes.{change_connection}
 
 pub at_none : (n : ℕ) (cs : List Connection) → position (λ (c : Connection). c.number == n) cs ≡ None → connection_at n cs ≡ None
 at_none n [] e = refl

@@ -7,8 +7,8 @@ ghost use Rattle.mq_history.specs.declared.calls.Entry.{Entry};
 ghost use Rattle.mq_spec_manager.specs.Stops.{last_moment};
 ghost use Rattle.mq_spec_manager.specs.Put.{message_put};
 ghost use Rattle.mq_spec_manager.specs.Commands.{definitions_after};
-ghost use Rattle.mq_spec_state.specs.Reads.{connection_at};
-ghost use Rattle.mq_spec_state.specs.Changes.{change_connection};
+ghost use Rattle.mq_calls.specs.Reads.{connection_at};
+ghost use Rattle.mq_calls.specs.Changes.{change_connection};
 ghost use Rattle.mq_queue.specs.declared.row.Row.{Row};
 ghost use Rattle.mq_history.specs.declared.story.ManagerPlaces.{ManagerPlaces};
 ghost use Rattle.mq_objects.specs.Names.{local_of, process_of};
@@ -16,12 +16,11 @@ ghost use Rattle.mq_spec_network.specs.Ledger.{Users, row_in, place, take_from, 
 
 use crate::accounts::Account;
 use crate::callers;
-use mq_base::{Items, NoMemory};
+use mq_base::{Items, NoMemory, QName};
 use mq_calls::{Appl, Connection, Hconn, Hobj, Item, Open};
 use mq_codes::Reason;
 use mq_history::Entry;
 use mq_message::{Bytes, Ident, Md, Message};
-use mq_name::QName;
 use mq_objects::{Command, LocalQueue, Process};
 use mq_queue::Row;
 use mq_resolve::{PathStep, Route, RouteEnd};

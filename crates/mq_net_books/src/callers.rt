@@ -2,8 +2,8 @@
 ghost use Rattle.std.specs.Prelude.{◌≡◌, ◌==◌, ◌+◌, ◌++◌, ◌∷◌, [], ◌<◌, OnOk, option_copied, not, false, None, Some, filter, position};
 ghost use Rattle.mq_calls.specs.declared.state.Connection.{Connection};
 ghost use Rattle.mq_calls.specs.declared.state.Handle.{Handle};
-ghost use Rattle.mq_spec_state.specs.Reads.{connection_at, handle_at};
-ghost use Rattle.mq_spec_state.specs.Changes.{change_connection};
+ghost use Rattle.mq_calls.specs.Reads.{connection_at, handle_at};
+ghost use Rattle.mq_calls.specs.Changes.{change_connection};
 ghost use Rattle.mq_spec_network.specs.Ledger.{opened_by, close, unit_of};
 
 use mq_base::{Items, NoMemory};

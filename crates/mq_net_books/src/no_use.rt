@@ -1,7 +1,7 @@
 //! Objects that nothing uses.
 ghost use Rattle.mq_sc_apply.specs.Uses.{nothing_used};
 
-use mq_name::{ChName, QName};
+use mq_base::{ChName, QName};
 use mq_sc_apply::InUse;
 
 /// A manager whose objects nothing uses: what a command that was accepted makes is asked of it.

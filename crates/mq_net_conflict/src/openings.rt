@@ -1,15 +1,15 @@
 //! What the receivers had hardened at the first starts.
 ghost use Rattle.std.specs.Prelude.{◌≡◌, option_copied, slice_get};
-ghost use Rattle.mq_spec_state.specs.Reads.{receiver_in};
+ghost use Rattle.mq_calls.specs.Reads.{receiver_in};
 ghost use Rattle.mq_spec_network.specs.Standing.{cable_named, last_unit, opening_managers};
 ghost use Rattle.mq_spec_network.specs.Conflict.{first_told};
 ghost use Rattle.mq_net_conflict.specs.Openings.{opened_receiver, told_data};
 ghost use Rattle.mq_net_conflict.specs.Told.{as_told};
 
 use crate::told::ReceiverTold;
+use mq_base::ChName;
 use mq_calls::ReceiverSide;
 use mq_history::{CableLine, History, Scenario};
-use mq_name::ChName;
 use mq_sync::{ReceiverData, Unit};
 
 /// The cable of a channel.

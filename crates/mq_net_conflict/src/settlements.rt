@@ -7,9 +7,9 @@ ghost use Rattle.mq_net_conflict.specs.Told.{as_told, conflict_noted, first_in, 
 
 use crate::openings::{first_told, last_unit};
 use crate::told::{ReceiverTold, committed_in, same_unit, told_after};
+use mq_base::ChName;
 use mq_calls::{Did, Note};
 use mq_history::{Conflict, History, Scenario};
-use mq_name::ChName;
 use mq_story::{Spot, entry_at};
 use mq_sync::Unit;
 

@@ -6,9 +6,9 @@ ghost use Rattle.mq_spec_network.specs.Conflict.{told_by, told_after, commits, c
 ghost use Rattle.mq_story.specs.Spots.{line_at, lines_of};
 ghost use Rattle.mq_net_conflict.specs.Told.{as_told, told_noted, told_dids, told_spots, committed_at};
 
+use mq_base::ChName;
 use mq_calls::{Did, Note};
 use mq_history::History;
-use mq_name::ChName;
 use mq_story::{Spot, entry_at};
 use mq_sync::Unit;
 

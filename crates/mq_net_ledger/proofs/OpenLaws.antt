@@ -15,9 +15,9 @@ use Rattle.mq_calls.specs.declared.image.Shelf.{Shelf}
 use Rattle.mq_history.specs.declared.history.History.{History}
 use Rattle.mq_history.specs.declared.scenario.Scenario.{Scenario}
 use Rattle.mq_history.specs.declared.story.ManagerPlaces.{ManagerPlaces}
-use Rattle.mq_spec_state.specs.State.{Plain}
-use Rattle.mq_spec_state.specs.Recovery.{IsShelf}
-use Rattle.mq_spec_state.specs.Images.{numbered, queue_on}
+use Rattle.mq_calls.specs.State.{Plain}
+use Rattle.mq_calls.specs.Recovery.{IsShelf}
+use Rattle.mq_calls.specs.Images.{numbered, queue_on}
 use Rattle.mq_spec_network.specs.Ledger.{Ledger, Users}
 use Rattle.mq_spec_network.specs.Standing.{node_after, managers_from, opening_managers, is_held_there, standing_in, stored_standing, places_of, opening_ledger}
 use Rattle.mq_net_apart.specs.Opened.{opened_held}

@@ -14,10 +14,10 @@ use Rattle.mq_calls.specs.declared.answers.Hconn.{Hconn}
 use Rattle.mq_calls.specs.declared.answers.Hobj.{Hobj}
 use Rattle.mq_calls.specs.declared.state.Handle.{Handle}
 use Rattle.mq_calls.specs.declared.state.Connection.{Connection}
-use Rattle.mq_spec_state.specs.Reads.{handle_at}
+use Rattle.mq_calls.specs.Reads.{handle_at}
 use Rattle.mq_objects.specs.Names.{local_of, process_of}
-use Rattle.mq_spec_agents.specs.Landing.{names_of}
-use Rattle.mq_spec_agents.specs.Moves.{bare_if}
+use Rattle.mq_spec_manager.specs.Landing.{names_of}
+use Rattle.mq_spec_manager.specs.Moves.{bare_if}
 use Rattle.mq_spec_network.specs.Ledger.{Ledger, put, put_through, put1, put1_by, resolved_at, places_at, moved_to, move_row, place_routed, place_received, trigger_by, trigger_for}
 use Rattle.mq_net_ledger.specs.Posts.{put_posted, place_posted, move_posted, through_of, put_of, put1_by_of, put1_of, routed, moved_of, received_of, trigger_by_of, trigger_of}
 

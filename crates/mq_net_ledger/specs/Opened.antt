@@ -5,8 +5,8 @@ use Rattle.mq_calls.specs.declared.image.Shelf.{Shelf}
 use Rattle.mq_history.specs.declared.history.History.{History}
 use Rattle.mq_history.specs.declared.scenario.Scenario.{Scenario}
 use Rattle.mq_history.specs.declared.story.ManagerPlaces.{ManagerPlaces}
-use Rattle.mq_spec_state.specs.State.{Plain}
-use Rattle.mq_spec_state.specs.Recovery.{IsImage}
+use Rattle.mq_calls.specs.State.{Plain}
+use Rattle.mq_calls.specs.Recovery.{IsImage}
 use Rattle.mq_spec_manager.specs.Stops.{last_moment}
 use Rattle.mq_spec_network.specs.Given.{name_at}
 use Rattle.mq_spec_network.specs.Ledger.{Users}

@@ -15,11 +15,11 @@ use Rattle.mq_calls.specs.declared.answers.Hobj.{Hobj}
 use Rattle.mq_calls.specs.declared.state.Handle.{Handle}
 use Rattle.mq_calls.specs.declared.state.Connection.{Connection}
 use Rattle.mq_calls.specs.declared.state.Item.{Item}
-use Rattle.mq_spec_state.specs.Reads.{handle_at}
+use Rattle.mq_calls.specs.Reads.{handle_at}
 use Rattle.mq_spec_manager.specs.Put.{queue_at, dest_at, message_put, handle_route}
 use Rattle.mq_spec_manager.specs.Triggers.{trigger_message}
-use Rattle.mq_spec_agents.specs.Landing.{names_of, dead_message}
-use Rattle.mq_spec_agents.specs.Moves.{bare_if}
+use Rattle.mq_spec_manager.specs.Landing.{names_of, dead_message}
+use Rattle.mq_spec_manager.specs.Moves.{bare_if}
 use Rattle.mq_spec_network.specs.Ledger.{Ledger, place, put_row, take_from, here_at, places_at, users_at, resolved_at, take_items, place_items}
 use Rattle.mq_net_ledger.specs.declared.posts.Posted.{Posted}
 

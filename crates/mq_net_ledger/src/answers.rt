@@ -3,11 +3,11 @@ ghost use Rattle.std.specs.Prelude.{◌≡◌};
 ghost use Rattle.mq_spec_network.specs.Ledger.{first_placed, first_got, sent_ident, got_unless_left, got_ident, is_ended, is_obeyed, is_taken, dead_reason, received_on};
 ghost use Rattle.mq_net_ledger.specs.Answers.{is_stopped, is_done, kept_of};
 
+use mq_base::ChName;
 use mq_calls::{Answer, Did, Got, Return, Why};
 use mq_codes::Reason;
 use mq_history::{Acted, Chance, Reply};
 use mq_message::Ident;
-use mq_name::ChName;
 
 /// The first ident that a delta tells as placed.
 pub fn first_placed(delta: &[Did]) -> Option<Ident>

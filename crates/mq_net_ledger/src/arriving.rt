@@ -8,10 +8,9 @@ ghost use Rattle.mq_net_ledger.specs.Arrivals.{arrival_of, arrivals_of, arrivals
 use crate::answers::{dead_reason, received_on};
 use crate::messages::copy_with_route;
 use crate::posts::{Arrival, Posted, received_of};
-use mq_base::{Items, NoMemory};
+use mq_base::{ChName, Items, NoMemory};
 use mq_calls::{Did, Messages};
 use mq_message::{Ident, Message};
-use mq_name::ChName;
 use mq_net_books::Books;
 use mq_net_rows::copy_message;
 use std::alloc::Global;

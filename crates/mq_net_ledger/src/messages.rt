@@ -1,17 +1,16 @@
 //! Messages as the ledger makes them: copies, behind the header of a dead letter, or without one (IBM MQ reference, MQDLH).
 ghost use Rattle.std.specs.Prelude.{◌≡◌, ◌≤◌, ◌++◌, pos, length, drop, IfOk};
 ghost use Rattle.mq_codes.specs.Numbers.{number};
-ghost use Rattle.mq_name.specs.Name.{padded};
+ghost use Rattle.mq_base.specs.Name.{padded};
 ghost use Rattle.mq_heads.specs.Headers.{dlh_bytes};
-ghost use Rattle.mq_spec_agents.specs.Landing.{names_of, dead_md, dead_head, dead_message};
-ghost use Rattle.mq_spec_agents.specs.Moves.{bare_message, bare_if};
+ghost use Rattle.mq_spec_manager.specs.Landing.{names_of, dead_md, dead_head, dead_message};
+ghost use Rattle.mq_spec_manager.specs.Moves.{bare_message, bare_if};
 
-use mq_base::NoMemory;
+use mq_base::{ChName, NoMemory, QName};
 use mq_clock::put_stamp;
 use mq_codes::Reason;
 use mq_heads::{Dlh, dlh_of, dlh_to_bytes};
 use mq_message::{Bytes, Dest, Md, Message};
-use mq_name::{ChName, QName};
 use mq_net_rows::copy_message;
 use std::alloc::Global;
 

@@ -4,11 +4,10 @@ ghost use Rattle.mq_spec_network.specs.Given.{name_at};
 ghost use Rattle.mq_spec_network.specs.Standing.{opening_managers, opening_ledger};
 ghost use Rattle.mq_net_ledger.specs.Opened.{row_if, opened_rows, opened_shelf, opened_place, opened_places, opened_user, IsOpened, AreOpened};
 
-use mq_base::{Items, NoMemory};
+use mq_base::{Items, NoMemory, QName};
 use mq_calls::Shelf;
 use mq_history::{History, Scenario};
 use mq_message::Place;
-use mq_name::QName;
 use mq_net_apart::is_held_there;
 use mq_net_books::{Account, Books, User};
 use mq_net_rows::copy_message;

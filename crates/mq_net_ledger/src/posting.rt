@@ -12,11 +12,10 @@ use crate::answers::{
 use crate::arriving::{place_posted, receive_if};
 use crate::posts::{Posted, moved_of, trigger_of};
 use crate::units::{back_out_if, commit_if, disconnect_if, get, put, put1};
-use mq_base::NoMemory;
+use mq_base::{NoMemory, QName};
 use mq_calls::{Answer, Appl, Did, Hconn, Hobj, Messages, Open};
 use mq_history::{Act, Call, Chance, Entry, Reply};
 use mq_message::{Dest, Ident, Message};
-use mq_name::QName;
 use mq_net_books::Books;
 use mq_sc_parse::Command;
 use std::alloc::Global;

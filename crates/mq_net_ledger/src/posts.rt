@@ -1,18 +1,17 @@
 //! What a call places, read from the ledger before anything changes.
 ghost use Rattle.std.specs.Prelude.{◌≡◌, IfOk, Some};
 ghost use Rattle.mq_spec_manager.specs.Put.{queue_at, dest_at};
-ghost use Rattle.mq_spec_agents.specs.Landing.{names_of};
-ghost use Rattle.mq_spec_agents.specs.Moves.{bare_if};
+ghost use Rattle.mq_spec_manager.specs.Landing.{names_of};
+ghost use Rattle.mq_spec_manager.specs.Moves.{bare_if};
 ghost use Rattle.mq_spec_network.specs.Ledger.{connection_of, resolved_at, row_in, places_at};
 ghost use Rattle.mq_objects.specs.Names.{local_of};
 ghost use Rattle.mq_net_ledger.specs.Posts.{put_by_of, put_of, put1_by_of, put1_of, routed, moved_of, received_of, trigger_of};
 
 use crate::messages::{bare_if, dead_message, names_of};
-use mq_base::NoMemory;
+use mq_base::{ChName, NoMemory, QName};
 use mq_calls::{Connection, Hconn, Hobj};
 use mq_codes::Reason;
 use mq_message::{Bytes, Dest, Ident, Md, Message};
-use mq_name::{ChName, QName};
 use mq_net_books::{Books, handle_at};
 use mq_objects::LocalQueue;
 use mq_resolve::{PathStep, RouteEnd};

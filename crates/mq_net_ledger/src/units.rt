@@ -6,11 +6,10 @@ ghost use Rattle.mq_net_ledger.specs.Posts.{put_posted, take_item, place_item};
 
 use crate::answers::is_ended;
 use crate::posts::{Posted, put_of, put1_of};
-use mq_base::{Items, NoMemory};
+use mq_base::{Items, NoMemory, QName};
 use mq_calls::{Get, Hconn, Hobj, Item, Take};
 use mq_history::Reply;
 use mq_message::{Bytes, Ident, Md, Message};
-use mq_name::QName;
 use mq_net_books::Books;
 use std::alloc::Global;
 

@@ -4,7 +4,7 @@ use Rattle.std.specs.List.{flat_map}
 use Rattle.std.specs.Fmt.{decimal}
 use Rattle.std.specs.Str.{bytes_eq}
 use Rattle.mq_codes.specs.Numbers.{number}
-use Rattle.mq_name.specs.Name.{trimmed}
+use Rattle.mq_base.specs.Name.{trimmed}
 use Rattle.mq_heads.specs.Headers.{tm_read}
 use Rattle.mq_heads.specs.declared.headers.Tm.{Tm}
 use Rattle.mq_message.specs.declared.head.HeadFault.{HeadFault}

@@ -1,7 +1,7 @@
 //! The scripts that a monitor began.
 ghost use Rattle.std.specs.Prelude.{◌≡◌, ◌==◌, ◌&&◌, ◌++◌, ◌+◌, if◌then◌else◌, IfOk, IfSome, ◌≤◌, length};
 ghost use Rattle.std.specs.Str.{bytes_eq};
-ghost use Rattle.mq_name.specs.Name.{trimmed};
+ghost use Rattle.mq_base.specs.Name.{trimmed};
 ghost use Rattle.mq_heads.specs.Headers.{tm_read};
 ghost use Rattle.mq_net_report.specs.Steps.{got_body, script_at, is_fresh, begins, is_start, starts_in};
 

@@ -10,7 +10,7 @@ use Rattle.mq_queue.specs.declared.row.Row.{Row}
 use Rattle.mq_queue.specs.Rows.{insert_row, keep, same_ident, has_ident}
 use Rattle.mq_calls.specs.declared.image.Shelf.{Shelf}
 use Rattle.mq_message.specs.declared.message.Message.{Message}
-use Rattle.mq_spec_state.specs.Changes.{new_row}
+use Rattle.mq_calls.specs.Changes.{new_row}
 use Rattle.mq_spec_network.specs.Ledger.{leave_queues, row_in, change_at, put_in, is_one_of}
 use Rattle.mq_net_rows.specs.declared.lanes.Lane.{Lane}
 use Rattle.mq_net_rows.specs.declared.lanes.Named.{Named}

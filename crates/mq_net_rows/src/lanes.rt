@@ -4,9 +4,8 @@ ghost use Rattle.mq_queue.specs.Rows.{has_ident};
 ghost use Rattle.mq_net_rows.specs.Stored.{fresh_lane, with_slot, put_slot, is_lane, rows_of, lanes_find};
 
 use crate::store::{of_ident, row_at};
-use mq_base::{Items, NoMemory};
+use mq_base::{Items, NoMemory, QName};
 use mq_message::Ident;
-use mq_name::QName;
 use mq_queue::Row;
 use std::alloc::Global;
 

@@ -1,6 +1,5 @@
 //! How managers, queues and channels stand at a run's end, as plain data.
-use mq_base::Items;
-use mq_name::{ChName, QName};
+use mq_base::{ChName, Items, QName};
 use mq_queue::Row;
 use mq_receiver::ReceiverState;
 use mq_sender::SenderState;

@@ -7,11 +7,10 @@ use crate::standing::{
     CableStanding, ManagerStanding, QueueStanding, ReceiverStanding, SenderStanding,
 };
 use crate::writing::{Text, put, put_ident, put_number, put_unit, put_word};
-use mq_base::NoMemory;
+use mq_base::{ChName, NoMemory, QName};
 use mq_calls::Shelf;
 use mq_history::ManagerPlaces;
 use mq_message::Holder;
-use mq_name::{ChName, QName};
 use mq_objects::Object;
 use mq_queue::Row;
 use mq_receiver::ReceiverState;

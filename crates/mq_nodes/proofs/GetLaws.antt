@@ -8,9 +8,9 @@ use Rattle.mq_calls.specs.declared.state.Connection.{Connection}
 use Rattle.mq_calls.specs.declared.state.Handle.{Handle}
 use Rattle.mq_codes.specs.declared.reason.Reason.{Reason}
 use Rattle.mq_queue.specs.declared.row.Row.{Row}
-use Rattle.mq_spec_state.specs.State.{Plain}
-use Rattle.mq_spec_state.specs.Steps.{Step, Part, refused_or, refusal}
-use Rattle.mq_spec_state.specs.Reads.{handle_at}
+use Rattle.mq_calls.specs.State.{Plain}
+use Rattle.mq_calls.specs.Steps.{Step, Part, refused_or, refusal}
+use Rattle.mq_calls.specs.Reads.{handle_at}
 use Rattle.mq_spec_manager.specs.Handles.{for_connection, for_handle, connected}
 use Rattle.mq_spec_manager.specs.Get.{get_up, get_handle, get_scanned, get_found, get_tests, room_tests, with_row, without_row, is_under, is_left, expired_parts, scanned, mqget}
 use Rattle.mq_spec_manager.specs.Put.{queue_at}

@@ -7,8 +7,7 @@ use crate::object::{
     AliasQueue, Channel, ChannelKind, Delivery, LocalQueue, ManagerAttributes, Object, Process,
     RemoteQueue, TriggerType, Usage,
 };
-use mq_base::Items;
-use mq_name::{ChName, QName};
+use mq_base::{ChName, Items, QName};
 use std::alloc::Global;
 
 impl LocalQueue {

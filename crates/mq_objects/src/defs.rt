@@ -13,7 +13,7 @@ use crate::command::Subject;
 use crate::key::{NameIn, NameSpace, ObjectKey};
 use crate::object::{Channel, LocalQueue, ManagerAttributes, Object, Process};
 use indexmap::IndexMap;
-use mq_name::{ChName, QName};
+use mq_base::{ChName, QName};
 use std::alloc::{AllocError, Global};
 use std::marker::Model;
 

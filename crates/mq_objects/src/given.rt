@@ -9,8 +9,7 @@ use crate::object::{
     Process, RemoteQueue,
 };
 use crate::setting::{ChannelType, Setting};
-use mq_base::Items;
-use mq_name::QName;
+use mq_base::{Items, QName};
 use std::alloc::{AllocError, Global};
 
 /// The place of the attribute that is kept under a keyword.

@@ -6,7 +6,7 @@ ghost use Rattle.std.specs.Cmp.Rules.{comparing, hashing};
 use crate::command::Subject;
 use crate::object::Object;
 use indexmap::Equivalent;
-use mq_name::{ChName, QName};
+use mq_base::{ChName, QName};
 use std::hash::{Hash, Hasher};
 
 /// The name spaces of objects: queues of all kinds share one, channels and processes have their own

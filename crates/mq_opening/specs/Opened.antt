@@ -1,10 +1,10 @@
 -- A manager that has just begun, and what its first start read.
 use Rattle.std.specs.Prelude.{◌≡◌, ◌-◌, ℕ, List}
-use Rattle.mq_spec_state.specs.State.{Given}
-use Rattle.mq_spec_state.specs.Images.{Image}
+use Rattle.mq_calls.specs.State.{Given}
+use Rattle.mq_calls.specs.Images.{Image}
 use Rattle.mq_log.specs.State.{log_length}
 use Rattle.mq_core.specs.Values.{CoreValue}
-use Rattle.mq_start.specs.Begun.{HasBegun}
+use Rattle.mq_restart.specs.Begun.{HasBegun}
 
 -- of these bytes, with this given
 pub record JustBegun (tells : Type 0) (core : CoreValue) : Type 0 where

@@ -7,9 +7,9 @@ use Rattle.mq_calls.specs.declared.choices.Choice.{Choice}
 use Rattle.mq_calls.specs.declared.choices.Choice.TheVariants.{Runs, NoMemory, Stopped}
 use Rattle.mq_sync.specs.declared.data.ReceiverData.{ReceiverData}
 use Rattle.mq_sync.specs.Settlement.{receiver_or}
-use Rattle.mq_spec_state.specs.Words.{MeetsOrWants, receiver_data}
-use Rattle.mq_spec_state.specs.Meeting.Wants.{Anywhere}
-use Rattle.mq_spec_agents.specs.Words.{CanHarden, IsUp, harden, set_bound}
+use Rattle.mq_calls.specs.Words.{MeetsOrWants, receiver_data}
+use Rattle.mq_calls.specs.Meeting.Wants.{Anywhere}
+use Rattle.mq_spec_manager.specs.Agents.{CanHarden, IsUp, harden, set_bound}
 use Rattle.mq_spec_node.specs.Terms.{Did, Part, Plain}
 use Rattle.mq_spec_node.specs.Words.{is_open, parts_of}
 use Rattle.mq_core.specs.Values.{CoreValue, manager_of}

@@ -7,7 +7,7 @@ use Rattle.mq_objects.specs.Names.{channel_of}
 use Rattle.mq_objects.specs.declared.object.Channel.{Channel}
 use Rattle.mq_objects.specs.declared.object.ChannelKind.{ChannelKind}
 use Rattle.mq_objects.specs.declared.object.ChannelKind.TheVariants as kinds
-use Rattle.mq_spec_agents.specs.Words.{is_sender, is_sending_kind}
+use Rattle.mq_spec_manager.specs.Agents.{is_sender, is_sending_kind}
 use Rattle.mq_spec_node.specs.Words.{ChannelEnd, Node, ReceiverEnd, SenderEnd, as_sender, end_defined, end_here, end_of_kind, receiver_named, sender_named}
 use Rattle.mq_spec_node.specs.Node.ChannelEnd.{Sends, Receives}
 use Rattle.mq_operate.specs.Places.{SendsHere, defined_sends, receives_for, sends_for}

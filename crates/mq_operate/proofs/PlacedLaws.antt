@@ -6,7 +6,7 @@ use Rattle.mq_calls.specs.declared.choices.Choice.TheVariants.{Runs}
 use Rattle.mq_history.specs.declared.acts.OpRefusal.TheVariants as reasons
 use Rattle.mq_objects.specs.Names.{channel_of}
 use Rattle.mq_sender.specs.declared.state.Limits.{Limits}
-use Rattle.mq_spec_agents.specs.Words.{IsSenderHere}
+use Rattle.mq_spec_manager.specs.Agents.{IsSenderHere}
 use Rattle.mq_spec_node.specs.Words.{ChannelEnd, ReceiverEnd, SenderEnd, end_here, limits_here, limits_of, reset_end, start_end, stop_end}
 use Rattle.mq_spec_node.specs.Node.ChannelEnd.{Sends, Receives}
 use Rattle.mq_events.specs.States.{NodeState, node_in}

@@ -9,7 +9,7 @@ use Rattle.mq_receiver.specs.States as receivers
 use Rattle.mq_receiver.specs.declared.state.Receiver.{Receiver}
 use Rattle.mq_sender.specs.declared.state.Limits.{Limits}
 use Rattle.mq_sync.specs.declared.data.End.TheVariants as end_kinds
-use Rattle.mq_spec_agents.specs.Words.{harden}
+use Rattle.mq_spec_manager.specs.Agents.{harden}
 use Rattle.mq_spec_node.specs.Terms.{OpRefusal, Part}
 use Rattle.mq_spec_node.specs.Words.{Deed, Own, ReceiverEnd, is_bad_number, limits_here, operated, parts_of, receiver_end, refused, refused_or, reset_end, start_end, stop_end, with_end}
 use Rattle.mq_spec_node.specs.Node.ChannelEnd.{Receives}

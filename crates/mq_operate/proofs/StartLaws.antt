@@ -15,13 +15,13 @@ use Rattle.mq_sender.specs.declared.state.Limits.{Limits}
 use Rattle.mq_sync.specs.declared.data.End.TheVariants as end_kinds
 use Rattle.mq_sync.specs.declared.data.InDoubt.{InDoubt}
 use Rattle.mq_objects.specs.Names.{channel_of}
-use Rattle.mq_spec_state.specs.Steps.{refused_or as step_or, refusal as first_refusal, silent, when}
-use Rattle.mq_spec_state.specs.State.Change.{Seize}
-use Rattle.mq_spec_state.specs.Meeting.{MeetsAs, ManagerValue}
-use Rattle.mq_spec_state.specs.Meeting.Wants.{Anywhere}
-use Rattle.mq_spec_state.specs.Words.{batch_of, has_held_by_other, in_doubt_of, is_open_for_input, local_of, sender_data}
+use Rattle.mq_calls.specs.Steps.{refused_or as step_or, refusal as first_refusal, silent, when}
+use Rattle.mq_calls.specs.State.Change.{Seize}
+use Rattle.mq_calls.specs.Meeting.{MeetsAs, ManagerValue}
+use Rattle.mq_calls.specs.Meeting.Wants.{Anywhere}
+use Rattle.mq_calls.specs.Words.{batch_of, has_held_by_other, in_doubt_of, is_open_for_input, local_of, sender_data}
 use Rattle.mq_spec_manager.specs.Words.{is_transmission_queue}
-use Rattle.mq_spec_agents.specs.Words.{HasNoBatch, HasNoDoubt, channel_queue, harden, leave, release_batch, release_of, seize}
+use Rattle.mq_spec_manager.specs.Agents.{HasNoBatch, HasNoDoubt, channel_queue, harden, leave, release_batch, release_of, seize}
 use Rattle.mq_spec_node.specs.Terms.{Did, OpRefusal, Part, Plain, SeizeFault, Step, Refuse, Do}
 use Rattle.mq_spec_node.specs.Words.{ChannelEnd, Deed, Own, SenderEnd, cable_of, is_bad_number, is_in_doubt, limits_here, operated, parts_of, refused, refused_or, reset_end, seize_refusal, sender_started, set_end, start_end, start_seized, stop_end, with_end}
 use Rattle.mq_spec_node.specs.Node.ChannelEnd.{Sends, Receives}

@@ -2,7 +2,7 @@
 use Rattle.std.specs.Prelude.{◌≡◌, ◌==◌, ℕ, Bool, false, List, Option, Some, None, position, slice_get}
 use Rattle.std.specs.Str.{bytes_eq}
 use Rattle.mq_objects.specs.declared.object.Channel.{Channel}
-use Rattle.mq_spec_agents.specs.Words.{IsSenderHere, is_sending_kind}
+use Rattle.mq_spec_manager.specs.Agents.{IsSenderHere, is_sending_kind}
 use Rattle.mq_spec_node.specs.Words.{ChannelEnd, Node, Own, ReceiverEnd, SenderEnd, cable_of, end_here, receiver_end}
 use Rattle.mq_spec_node.specs.Node.ChannelEnd.{Sends, Receives}
 use Rattle.mq_operate.specs.declared.places.Place.{Place}

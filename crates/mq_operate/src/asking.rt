@@ -2,13 +2,13 @@
 ghost use Rattle.std.specs.Prelude.{◌≡◌, Some, None, true, false, option_map, is_some};
 ghost use Rattle.mq_core.specs.Views.{plain_of};
 ghost use Rattle.mq_sender.specs.States.{kept_of};
-ghost use Rattle.mq_spec_state.specs.Words.{in_doubt_of, sender_data};
-ghost use Rattle.mq_spec_agents.specs.Words.{HasBatch, HasNoBatch, unit_of};
+ghost use Rattle.mq_calls.specs.Words.{in_doubt_of, sender_data};
+ghost use Rattle.mq_spec_manager.specs.Agents.{HasBatch, HasNoBatch, unit_of};
 
+use mq_base::ChName;
 use mq_core::Parts;
 use mq_disk::Disk;
 use mq_manager::Manager;
-use mq_name::ChName;
 use mq_sender::Kept;
 use mq_sides::{batch_of, sender_of};
 use mq_sync::{SenderData, Unit};

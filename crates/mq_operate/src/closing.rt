@@ -5,19 +5,18 @@ ghost use Rattle.mq_calls.specs.declared.choices.Choice.TheVariants as choices;
 ghost use Rattle.mq_core.specs.Values.{WritesLog, manager_of};
 ghost use Rattle.mq_core.specs.Views.{plain_of};
 ghost use Rattle.mq_sync.specs.Settlement.{receiver_or};
-ghost use Rattle.mq_spec_state.specs.Words.{MeetsOrWants, receiver_data};
-ghost use Rattle.mq_spec_agents.specs.Words.{CanHarden, IsUp, harden, set_bound};
+ghost use Rattle.mq_calls.specs.Words.{MeetsOrWants, receiver_data};
+ghost use Rattle.mq_spec_manager.specs.Agents.{CanHarden, IsUp, harden, set_bound};
 ghost use Rattle.mq_spec_node.specs.Words.{is_open, parts_of};
 ghost use Rattle.mq_turns.specs.Turns.{IsBehind, MadeOr};
 ghost use Rattle.mq_operate.specs.Receivers.{close_named, unbound_if};
 
-use mq_base::NoMemory;
+use mq_base::{ChName, NoMemory};
 use mq_calls::Note;
 use mq_core::{Core, Parts};
 use mq_disk::Disk;
 use mq_events::Told;
 use mq_manager::Manager;
-use mq_name::ChName;
 use mq_sides::{drop_side, receiver_data};
 use mq_turns::{hardened, has_run, ran};
 

@@ -1,7 +1,7 @@
 //! Commands on the ends of channels, as events.
 ghost use Rattle.std.specs.Prelude.{◌≡◌, ◌<◌};
-ghost use Rattle.mq_spec_state.specs.Words.{is_up};
-ghost use Rattle.mq_spec_agents.specs.Words.{IsUp};
+ghost use Rattle.mq_calls.specs.Words.{is_up};
+ghost use Rattle.mq_spec_manager.specs.Agents.{IsUp};
 ghost use Rattle.mq_objects.specs.Names.{channel_of};
 ghost use Rattle.mq_spec_node.specs.Words.{end_here, limits_of, operate, operate_up, reset_end, resolve_end, sender_named, start_end, stop_end};
 ghost use Rattle.mq_events.specs.States.{IsServed, node_in};
@@ -14,11 +14,10 @@ use crate::places::{Place, limits_here, place_here, sender_in};
 use crate::receivers::{reset_receiver, start_receiver, stop_receiver};
 use crate::senders::{reset_sender, resolve_sender, start_sender, stop_sender};
 use crate::working::{Worked, answer_by, refused, tell_worked};
-use mq_base::NoMemory;
+use mq_base::{ChName, NoMemory};
 use mq_disk::Disk;
 use mq_events::{Node, NodeParts};
 use mq_history::{Acted, Actor, OpRefusal};
-use mq_name::ChName;
 use mq_sc_parse::Op;
 use mq_sender::Limits;
 use mq_sync::Settle;

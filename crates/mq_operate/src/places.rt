@@ -2,16 +2,15 @@
 ghost use Rattle.std.specs.Prelude.{◌≡◌, ◌==◌, Some, true, false, position, option_copied, IfOk, IfSome};
 ghost use Rattle.mq_objects.specs.Names.{channel_of};
 ghost use Rattle.mq_spec_node.specs.Node as nodes;
-ghost use Rattle.mq_spec_agents.specs.Words.{is_sending_kind};
+ghost use Rattle.mq_spec_manager.specs.Agents.{is_sending_kind};
 ghost use Rattle.mq_spec_node.specs.Words.{cable_of, limits_of, sender_named};
 ghost use Rattle.mq_events.specs.States.{node_in};
 ghost use Rattle.mq_operate.specs.Places.{IsPlace, IsSeatAt, defined_sends, receives_for, seat_in, sends_for};
 
-use mq_base::{Items, NoMemory};
+use mq_base::{ChName, Items, NoMemory};
 use mq_disk::Disk;
 use mq_events::NodeParts;
 use mq_manager::Manager;
-use mq_name::ChName;
 use mq_objects::{Channel, ChannelKind};
 use mq_own::{ChannelEnd, EndKind, Own, SenderEnd};
 use mq_receiver::Receiver;

@@ -3,7 +3,7 @@ ghost use Rattle.std.specs.Prelude.{◌≡◌, Some, None, true, false};
 ghost use Rattle.mq_calls.specs.declared.agents.Note.TheVariants as notes;
 ghost use Rattle.mq_receiver.specs.States.{is_bound, numbered as numbered_machine, started as started_machine, stopped as stopped_machine};
 ghost use Rattle.mq_sync.specs.declared.data.End.TheVariants as end_kinds;
-ghost use Rattle.mq_spec_agents.specs.Words.{IsUp, harden};
+ghost use Rattle.mq_spec_manager.specs.Agents.{IsUp, harden};
 ghost use Rattle.mq_spec_node.specs.Node as nodes;
 ghost use Rattle.mq_spec_node.specs.Words.{limits_here, operated, parts_of, receiver_end, reset_end, start_end, stop_end, with_end};
 ghost use Rattle.mq_spec_node.specs.Node.ChannelEnd.{Receives};

@@ -2,8 +2,8 @@
 ghost use Rattle.std.specs.Prelude.{◌≡◌};
 ghost use Rattle.mq_spec_node.specs.Deeds.{end_at_rest};
 
+use mq_base::{ChName, QName};
 use mq_calls::Messages;
-use mq_name::{ChName, QName};
 use mq_receiver::Receiver;
 use mq_sender::Sender;
 use std::marker::Model;

@@ -4,9 +4,9 @@ ghost use Rattle.std.specs.List.{list_any};
 ghost use Rattle.mq_spec_node.specs.Deeds.{went, still_tried};
 ghost use Rattle.mq_own.specs.Views.{forgetting, forgetting_all};
 
+use mq_base::QName;
 use mq_calls::Did;
 use mq_message::Ident;
-use mq_name::QName;
 use mq_rules::Table;
 use std::marker::Model;
 

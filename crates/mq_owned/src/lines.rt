@@ -2,10 +2,9 @@
 ghost use Rattle.std.specs.Prelude.{◌≡◌, IfOk};
 ghost use Rattle.mq_history.specs.declared.scripts.ScriptLine.TheVariants as lines;
 
-use mq_base::{Items, NoMemory};
+use mq_base::{Items, Label, NoMemory, QName};
 use mq_history::{Body, PutOptions, ScriptLine, ScriptPart};
 use mq_lines::copy_command;
-use mq_name::{Label, QName};
 use mq_sc_parse::Command;
 use std::alloc::Global;
 

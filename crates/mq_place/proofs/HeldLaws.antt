@@ -10,8 +10,8 @@ use Rattle.mq_calls.specs.declared.records.Remove.{Remove}
 use Rattle.mq_queue.specs.Rows.{same_ident, has_ident, held_by, is_free, is_after, keep, retag}
 use Rattle.mq_queue.specs.Queues.{Lacks, AreDistinct, AreInOrder, freed, release_row, has_other_ident}
 use Rattle.mq_queue.proofs.QueueLaws.{length_kept}
-use Rattle.mq_spec_state.specs.State.{Queue}
-use Rattle.mq_spec_state.specs.Changes.{release_if}
+use Rattle.mq_calls.specs.State.{Queue}
+use Rattle.mq_calls.specs.Changes.{release_if}
 use Rattle.mq_place.specs.States.{QueueState, holds, let_go, is_other_row, has_held_ident, held_on, held_rows, named_row, rows_after}
 use Rattle.mq_place.specs.Slots.{present, slot_at}
 use Rattle.mq_place.specs.Held.{held_left, held_at_slot, held_from}

@@ -11,9 +11,9 @@ use Rattle.mq_queue.specs.declared.row.Row.{Row}
 use Rattle.mq_queue.specs.Rows.{same_ident, has_ident, is_free, keep}
 use Rattle.mq_queue.specs.Queues.{Lacks, lane_of, freed, message_of}
 use Rattle.mq_queue.proofs.QueueLaws.{all_insert, all_keep, all_retag, all_imply}
-use Rattle.mq_spec_state.specs.State.{Queue, Which}
-use Rattle.mq_spec_state.specs.State.Which.{Among}
-use Rattle.mq_spec_state.specs.Changes.{selects, retag_if, release_if, kept_in, held_in, released_in, new_row}
+use Rattle.mq_calls.specs.State.{Queue, Which}
+use Rattle.mq_calls.specs.State.Which.{Among}
+use Rattle.mq_calls.specs.Changes.{selects, retag_if, release_if, kept_in, held_in, released_in, new_row}
 use Rattle.mq_place.specs.States.{QueueState, has_name, state_in, change_state, on_queue, on_queues, without_state, expecting, unpended, arrived, fresh_state, or_fresh, state_or, IsNowhere, CanPlace, IsUnnamed, AreApart, Located, row_found, row_at}
 use Rattle.mq_place.specs.Slots.{rows_of_slot}
 use Rattle.mq_place.specs.Homes.{is_home, IsHome, AreHome, all_pending}

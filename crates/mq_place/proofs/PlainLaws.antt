@@ -4,9 +4,9 @@ use Rattle.std.specs.Prelude.{Option, Some, None, map, not, filter}
 use Rattle.std.specs.Str.{bytes_eq}
 use Rattle.mq_message.specs.declared.message.Message.{Message}
 use Rattle.mq_queue.specs.Queues.{lane_of}
-use Rattle.mq_spec_state.specs.State.{Queue, fresh_queue}
-use Rattle.mq_spec_state.specs.Reads.{queue_in}
-use Rattle.mq_spec_state.specs.Changes.{set_queue, placed_in}
+use Rattle.mq_calls.specs.State.{Queue, fresh_queue}
+use Rattle.mq_calls.specs.Reads.{queue_in}
+use Rattle.mq_calls.specs.Changes.{set_queue, placed_in}
 use Rattle.mq_place.specs.States.{QueueState, has_name, state_in, or_fresh, change_state, on_queue, on_queues, queues_of, fresh_state, without_state, expecting, unpended, arrived}
 use Rattle.mq_place.proofs.NameLaws.{name_is}
 use Rattle.mq_place.proofs.StateLaws.{queue_of_state_in}

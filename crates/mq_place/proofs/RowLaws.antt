@@ -10,8 +10,8 @@ use Rattle.mq_queue.specs.declared.row.Row.{Row}
 use Rattle.mq_queue.specs.Rows.{same_ident, is_free, is_persistent, keep, retag}
 use Rattle.mq_queue.specs.Queues.{hold_row, release_row, freed, has_other_ident, is_lasting, unit_freed}
 use Rattle.mq_queue.proofs.QueueLaws.{keep_same, retag_same}
-use Rattle.mq_spec_state.specs.State.Which.{Among, HeldByUnits, Nonpersistent}
-use Rattle.mq_spec_state.specs.Changes.{selects, retag_if, release_if}
+use Rattle.mq_calls.specs.State.Which.{Among, HeldByUnits, Nonpersistent}
+use Rattle.mq_calls.specs.Changes.{selects, retag_if, release_if}
 use Rattle.mq_place.specs.States.{hold_each, release_each, remove_each}
 use Rattle.mq_place.proofs.NameLaws.{name_self}
 

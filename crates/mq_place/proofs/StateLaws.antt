@@ -8,10 +8,10 @@ use Rattle.mq_message.specs.declared.place.Holder.{Holder}
 use Rattle.mq_queue.specs.declared.row.Row.{Row}
 use Rattle.mq_queue.specs.Rows.{keep, retag, same_ident}
 use Rattle.mq_queue.specs.Queues.{is_lasting, unit_freed}
-use Rattle.mq_spec_state.specs.State.{Queue}
-use Rattle.mq_spec_state.specs.State.Which.{Among, HeldByUnits, Nonpersistent}
-use Rattle.mq_spec_state.specs.Reads.{queue_in}
-use Rattle.mq_spec_state.specs.Changes.{selects, kept_in, held_in, released_in}
+use Rattle.mq_calls.specs.State.{Queue}
+use Rattle.mq_calls.specs.State.Which.{Among, HeldByUnits, Nonpersistent}
+use Rattle.mq_calls.specs.Reads.{queue_in}
+use Rattle.mq_calls.specs.Changes.{selects, kept_in, held_in, released_in}
 use Rattle.mq_place.specs.States.{QueueState, QueueStates, rows_removed, has_name, state_in, or_fresh, state_or, change_state, on_queue, on_queues, on_rows, queues_of, rows_in, hold_each, release_each, remove_each, IsUnnamed, AreApart}
 use Rattle.mq_place.specs.Slots.{present, AreNamed, rows_of_slot}
 use Rattle.mq_place.proofs.NameLaws.{name_is, name_swap}

@@ -4,7 +4,7 @@ use Rattle.mq_message.specs.declared.place.Place.{Place}
 use Rattle.mq_message.specs.declared.place.Holder.{Holder}
 use Rattle.mq_queue.specs.declared.row.Row.{Row}
 use Rattle.mq_calls.specs.declared.records.Remove.{Remove}
-use Rattle.mq_spec_state.specs.State.{Queue}
+use Rattle.mq_calls.specs.State.{Queue}
 use Rattle.mq_place.specs.States.{QueueState, holds, held_on, held_rows, named_row, rows_after}
 use Rattle.mq_place.specs.Slots.{present}
 

@@ -10,10 +10,10 @@ use Rattle.mq_message.specs.declared.place.Place.{Place}
 use Rattle.mq_message.specs.declared.place.Holder.{Holder}
 use Rattle.mq_queue.specs.Rows.{keep, retag, held_by, is_free, is_after, has_ident}
 use Rattle.mq_queue.specs.Queues.{Lacks, lane_of, count_waiting, hold_row, release_row, has_other_ident}
-use Rattle.mq_spec_state.specs.State.{Queue, fresh_queue}
-use Rattle.mq_spec_state.specs.Reads.{queue_in}
-use Rattle.mq_spec_state.specs.State.Which.{Among}
-use Rattle.mq_spec_state.specs.Changes.{placed_in, kept_in, release_if}
+use Rattle.mq_calls.specs.State.{Queue, fresh_queue}
+use Rattle.mq_calls.specs.Reads.{queue_in}
+use Rattle.mq_calls.specs.State.Which.{Among}
+use Rattle.mq_calls.specs.Changes.{placed_in, kept_in, release_if}
 use Rattle.mq_calls.specs.declared.records.Remove.{Remove}
 
 pub record QueueState : Type 0 where

@@ -5,9 +5,8 @@ ghost use Rattle.mq_queue.specs.Rows.{same_ident};
 ghost use Rattle.mq_place.specs.Homes.{key_of, home_of, is_home};
 
 use indexmap::IndexMap;
-use mq_base::NoMemory;
+use mq_base::{NoMemory, QName};
 use mq_message::Ident;
-use mq_name::QName;
 
 /// An ident as a key of a map.
 #[derive(Clone, Copy, PartialEq, Eq, Hash)]

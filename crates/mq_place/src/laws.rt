@@ -3,9 +3,9 @@ ghost use Rattle.std.specs.Prelude.{◌≡◌, ℕ, ◌++◌, ◌∷◌, [], Lis
 ghost use Rattle.std.specs.Str.{bytes_eq};
 ghost use Rattle.mq_message.specs.declared.message.Message.{Message};
 ghost use Rattle.mq_queue.specs.Queues.{lane_of};
-ghost use Rattle.mq_spec_state.specs.State.{Queue, fresh_queue};
-ghost use Rattle.mq_spec_state.specs.Reads.{queue_in};
-ghost use Rattle.mq_spec_state.specs.Changes.{set_queue, placed_in};
+ghost use Rattle.mq_calls.specs.State.{Queue, fresh_queue};
+ghost use Rattle.mq_calls.specs.Reads.{queue_in};
+ghost use Rattle.mq_calls.specs.Changes.{set_queue, placed_in};
 ghost use Rattle.mq_place.specs.States.{QueueState, state_in, change_state, on_queue, on_queues, queues_of, fresh_state, without_state, expecting, unpended, arrived};
 
 /// What the calls do to the local queues is what the plain manager's changes do: to all of them, to one that takes the place

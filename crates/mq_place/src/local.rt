@@ -3,12 +3,11 @@ ghost use Rattle.std.specs.Prelude.{◌≡◌, ◌++◌, ◌+◌, ◌^◌, ◌<�
 ghost use Rattle.std.specs.List.{list_any};
 ghost use Rattle.mq_queue.specs.Rows.{is_after, is_free, has_ident, keep, retag};
 ghost use Rattle.mq_queue.specs.Queues.{IsQueue, count_waiting, message_of, is_takable, is_at, is_free_one, is_held_one, hold_row, release_row, has_other_ident, is_lasting, unit_freed};
-ghost use Rattle.mq_spec_state.specs.Changes.{made_due, forgotten};
+ghost use Rattle.mq_calls.specs.Changes.{made_due, forgotten};
 ghost use Rattle.mq_place.specs.States.{is_free_after, free_idents, on_queue, on_rows, hold_each, release_each, served, switched_on, fresh_state, expecting, unpended, arrived, with_lanes, depth_of, size_of, CanPlace, IsCounted};
 
-use mq_base::{Items, NoMemory};
+use mq_base::{Items, NoMemory, QName};
 use mq_message::{Holder, Ident, Message, Place, Want};
-use mq_name::QName;
 use mq_queue::{Queue, Row};
 use std::alloc::Global;
 use std::marker::Model;

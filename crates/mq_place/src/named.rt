@@ -1,8 +1,8 @@
 //! Local queues in order of definition, found by name.
 ghost use Rattle.std.specs.Prelude.{◌≡◌, ◌+◌, ◌++◌, ◌∷◌, [], ◌^◌, ◌<◌, ◌≤◌, OnOk, OnErr, IfSome, None, Some, false, true, length, option_copied};
 ghost use Rattle.mq_queue.specs.Queues.{message_of};
-ghost use Rattle.mq_spec_state.specs.Changes.{kept_in, held_in, released_in, made_due, forgotten};
-ghost use Rattle.mq_spec_state.specs.State.Which.{Among, HeldBy, HeldByUnits, Nonpersistent};
+ghost use Rattle.mq_calls.specs.Changes.{kept_in, held_in, released_in, made_due, forgotten};
+ghost use Rattle.mq_calls.specs.State.Which.{Among, HeldBy, HeldByUnits, Nonpersistent};
 ghost use Rattle.mq_place.specs.States.{held_rows, state_in, state_or, change_state, on_queue, on_queues, served, switched_on, fresh_state, without_state, expecting, unpended, arrived, with_lanes, rows_in, CanPlace, AreApart};
 
 use crate::held::{free_held, held_rows, remove_held};
@@ -13,10 +13,9 @@ use crate::slots::{
     unpend_at,
 };
 use indexmap::IndexMap;
-use mq_base::{Items, NoMemory};
+use mq_base::{Items, NoMemory, QName};
 use mq_calls::Remove;
 use mq_message::{Holder, Ident, Message};
-use mq_name::QName;
 use mq_queue::Queue;
 use std::alloc::Global;
 use std::marker::Model;

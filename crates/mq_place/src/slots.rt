@@ -4,15 +4,14 @@ ghost use Rattle.indexmap.specs.IndexMap.{get, spare, index_map_len};
 ghost use Rattle.std.specs.Str.{bytes_eq};
 ghost use Rattle.mq_queue.specs.Rows.{keep, retag};
 ghost use Rattle.mq_queue.specs.Queues.{message_of, hold_row, release_row, has_other_ident, is_lasting, unit_freed};
-ghost use Rattle.mq_spec_state.specs.Changes.{made_due, forgotten};
+ghost use Rattle.mq_calls.specs.Changes.{made_due, forgotten};
 ghost use Rattle.mq_place.specs.States.{on_queue, on_rows, hold_each, release_each, served, switched_on, expecting, unpended, arrived, with_lanes, CanPlace, CanBeDue};
 ghost use Rattle.mq_place.specs.Slots.{present, AreNamed, IsFiled, slot_at, slot_changed, slots_changed, rows_at};
 
 use crate::local::LocalRows;
 use indexmap::IndexMap;
-use mq_base::NoMemory;
+use mq_base::{NoMemory, QName};
 use mq_message::{Holder, Ident, Message};
-use mq_name::QName;
 use mq_queue::Queue;
 
 /// Changes the lanes of a queue that has no row.

@@ -1,6 +1,6 @@
 -- What an image is, as those ask it who build from it.
-use Rattle.mq_spec_state.specs.Images.{Image}
-use Rattle.mq_spec_state.specs.Recovery.{IsImage}
+use Rattle.mq_calls.specs.Images.{Image}
+use Rattle.mq_calls.specs.Recovery.{IsImage}
 use Rattle.mq_rebuild.specs.Rebuilt.{AreOnce, IsRead}
 
 pub objects_are : (i : Image) → IsImage i → AreOnce i.definitions.objects

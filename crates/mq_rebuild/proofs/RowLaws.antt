@@ -11,10 +11,10 @@ use Rattle.mq_message.specs.declared.place.Holder.{Holder}
 use Rattle.mq_queue.specs.declared.row.Row.{Row}
 use Rattle.mq_queue.specs.Rows.{same_ident, insert_row, retag, is_free}
 use Rattle.mq_queue.specs.Queues.{Lacks, lane_of}
-use Rattle.mq_spec_state.specs.State.{Queue as StateQueue}
-use Rattle.mq_spec_state.specs.State.Which.{Among}
-use Rattle.mq_spec_state.specs.Changes.{held_in, retag_if, selects}
-use Rattle.mq_spec_state.specs.Images.{numbered}
+use Rattle.mq_calls.specs.State.{Queue as StateQueue}
+use Rattle.mq_calls.specs.State.Which.{Among}
+use Rattle.mq_calls.specs.Changes.{held_in, retag_if, selects}
+use Rattle.mq_calls.specs.Images.{numbered}
 use Rattle.mq_place.specs.States.{QueueState, state_in, change_state, on_queue, on_queues, expecting, arrived, CanPlace, IsNowhere}
 use Rattle.mq_rebuild.specs.Rebuilt.{held_as, row_added, rows_added, CanAdd, CanAddAll}
 use Rattle.mq_rebuild.proofs.FrontLaws.{Fronts}

@@ -11,9 +11,9 @@ use Rattle.mq_queue.specs.Queues.{Lacks, lane_of as queue_lane}
 use Rattle.mq_objects.specs.declared.object.LocalQueue.{LocalQueue}
 use Rattle.mq_objects.specs.declared.object.Definitions.{Definitions}
 use Rattle.mq_objects.specs.Names.{local_of}
-use Rattle.mq_spec_state.specs.Changes.{lane_of}
-use Rattle.mq_spec_state.specs.Images.{Shelf, numbered}
-use Rattle.mq_spec_state.specs.Recovery.{AreApart}
+use Rattle.mq_calls.specs.Changes.{lane_of}
+use Rattle.mq_calls.specs.Images.{Shelf, numbered}
+use Rattle.mq_calls.specs.Recovery.{AreApart}
 use Rattle.mq_place.specs.States.{QueueState, IsNowhere}
 use Rattle.mq_rebuild.specs.Rebuilt.{is_laned, state_on, shelf_added, shelves_added, CanAddShelves, IsRead}
 use Rattle.mq_rebuild.proofs.FrontLaws.{Fronts, fronts}

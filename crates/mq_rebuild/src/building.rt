@@ -1,6 +1,6 @@
 //! What a manager is built of from an image.
 ghost use Rattle.std.specs.Prelude.{IfOk};
-ghost use Rattle.mq_spec_state.specs.Recovery.{IsImage};
+ghost use Rattle.mq_calls.specs.Recovery.{IsImage};
 ghost use Rattle.mq_rebuild.specs.Rebuilt.{IsBuilt};
 
 use crate::objects::defs_of;

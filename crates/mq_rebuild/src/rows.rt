@@ -2,9 +2,8 @@
 ghost use Rattle.std.specs.Prelude.{◌≡◌, OnOk};
 ghost use Rattle.mq_rebuild.specs.Rebuilt.{held_as, row_added, rows_added, CanAdd, CanAddAll};
 
-use mq_base::{Items, NoMemory};
+use mq_base::{Items, NoMemory, QName};
 use mq_message::{Holder, Ident};
-use mq_name::QName;
 use mq_place::Queues;
 use mq_queue::{PlainQueue, Row};
 

@@ -5,9 +5,8 @@ ghost use Rattle.mq_place.specs.States.{state_in};
 ghost use Rattle.mq_rebuild.specs.Rebuilt.{is_laned, state_on, shelf_added, shelves_added, CanAddShelf, CanAddShelves, IsRead};
 
 use crate::rows::add_rows;
-use mq_base::{Items, NoMemory};
+use mq_base::{Items, NoMemory, QName};
 use mq_calls::Shelf;
-use mq_name::QName;
 use mq_objects::{Defs, Delivery};
 use mq_place::Queues;
 use mq_queue::PlainQueue;

@@ -4,15 +4,15 @@ use Rattle.std.specs.Prelude.{Option, Some, None, Result, Ok, Err, not, ◌&&◌
 use Rattle.std.specs.Str.{bytes_eq}
 use Rattle.mq_queue.specs.Rows.{insert_row, keep, is_free}
 use Rattle.mq_message.specs.declared.place.Holder.TheVariants as holders
-use Rattle.mq_spec_state.specs.State.{Queue}
-use Rattle.mq_spec_state.specs.Words.{Holder, Ident, LocalQueue, Message, Test, when, refusal, channel_of, PathStep, PlaceFault, Reason, Route, Row, Plain, set_queue, Among, depth, stored, queue_in, is_persistent, puts_to, selects, kept_in, placed_in, place, lane_of, new_row, local_of, made_due, depth_type, condition, try_if, apply, apply_all}
-use Rattle.mq_spec_state.specs.State.Change.{Leave}
+use Rattle.mq_calls.specs.State.{Queue}
+use Rattle.mq_calls.specs.Words.{Holder, Ident, LocalQueue, Message, Test, when, refusal, channel_of, PathStep, PlaceFault, Reason, Route, Row, Plain, set_queue, Among, depth, stored, queue_in, is_persistent, puts_to, selects, kept_in, placed_in, place, lane_of, new_row, local_of, made_due, depth_type, condition, try_if, apply, apply_all}
+use Rattle.mq_calls.specs.State.Change.{Leave}
 use Rattle.std.proofs.lemmas.List.Sums.{sum_by-cons, sum_by_push}
 use Rattle.mq_codes.specs.declared.reason.Reason.TheVariants as reasons
 use Rattle.mq_resolve.specs.Resolved.{resolve}
 use Rattle.mq_resolve.specs.declared.route.RouteEnd.TheVariants as ends
 use Rattle.mq_spec_manager.specs.Words.{placed, inhibited_tests, is_unfit, length_tests, max_depth, output_only, queue_at}
-use Rattle.mq_spec_agents.specs.Words.{Landing, dead_or, land, land_resolved, land_tested, dead_letter, can_take_dead, route_tests, names_of, uses_dead, Standing, Absent, InDoubtAt, Present, drop_row, undoubted, drop_changes, land_changes}
+use Rattle.mq_spec_manager.specs.Agents.{Landing, dead_or, land, land_resolved, land_tested, dead_letter, can_take_dead, route_tests, names_of, uses_dead, Standing, Absent, InDoubtAt, Present, drop_row, undoubted, drop_changes, land_changes}
 use Rattle.mq_law_manager.specs.Facts.{Mem, Sound}
 use Rattle.mq_law_manager.proofs.Lists.{bool_case, any_mem, one_row}
 use Rattle.mq_law_manager.proofs.Named.{name_is, found_name, queue_set, queue_mapped}

@@ -6,8 +6,8 @@ use Rattle.std.specs.Str.{bytes_eq}
 use Rattle.mq_objects.specs.declared.object.Definitions.{Definitions}
 use Rattle.mq_log.specs.State.{LogState}
 use Rattle.mq_record.specs.Room.{Buffered}
-use Rattle.mq_spec_state.specs.State.{Queue as StateQueue}
-use Rattle.mq_spec_state.specs.Words.{Plain, local_of, apply_all}
+use Rattle.mq_calls.specs.State.{Queue as StateQueue}
+use Rattle.mq_calls.specs.Words.{Plain, local_of, apply_all}
 use Rattle.mq_place.specs.States.{QueueState, QueueStates, queues_of, state_in, change_state, expecting}
 use Rattle.mq_core.specs.declared.parts.Arrival.{Arrival}
 use Rattle.mq_core.specs.Views.{PartsValue, plain_of}

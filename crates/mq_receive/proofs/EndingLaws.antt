@@ -7,9 +7,9 @@ use Rattle.mq_log.specs.Force.{Stops}
 use Rattle.mq_codes.specs.declared.reason.Reason.TheVariants as reasons
 use Rattle.mq_calls.specs.declared.agents.AgentStop.TheVariants as agent_stops
 use Rattle.mq_calls.specs.declared.agents.PlaceFault.TheVariants as place_faults
-use Rattle.mq_spec_state.specs.Meeting.Wants.{Anywhere}
-use Rattle.mq_spec_state.specs.Words.{AgentStop, Did, LogRecord, Luw, MeetsOrWants, Message, Part, PlaceFault, Plain, Reason, Step, Refuse, Do, untouched, apply_all, freeze, is_full, logged, need, note_of, refused_or}
-use Rattle.mq_spec_agents.specs.Words.{landed, receive, receive_landed}
+use Rattle.mq_calls.specs.Meeting.Wants.{Anywhere}
+use Rattle.mq_calls.specs.Words.{AgentStop, Did, LogRecord, Luw, MeetsOrWants, Message, Part, PlaceFault, Plain, Reason, Step, Refuse, Do, untouched, apply_all, freeze, is_full, logged, need, note_of, refused_or}
+use Rattle.mq_spec_manager.specs.Agents.{landed, receive, receive_landed}
 use Rattle.mq_core.specs.declared.parts.Arrival.{Arrival}
 use Rattle.mq_core.specs.Views.{PartsValue, plain_of}
 use Rattle.mq_core.specs.Ties.{Tied}

@@ -2,9 +2,9 @@
 use Rattle.std.specs.Prelude.{◌≡◌, ℕ, ◌+◌, nat_lt, nat_le, Bool, false, not, ◌&&◌, List, Option, Some, None, Result, Ok, Err, length, count_by}
 use Rattle.std.specs.Str.{bytes_eq}
 use Rattle.mq_resolve.specs.Resolved.{resolve}
-use Rattle.mq_spec_state.specs.Words.{Reason, Message, LocalQueue, Plain, Route, depth, refusal, local_of, channel_of, is_transmission}
+use Rattle.mq_calls.specs.Words.{Reason, Message, LocalQueue, Plain, Route, depth, refusal, local_of, channel_of, is_transmission}
 use Rattle.mq_spec_manager.specs.Words.{queue_at}
-use Rattle.mq_spec_agents.specs.Words.{Landing, landing, dead_or, uses_dead, names_of}
+use Rattle.mq_spec_manager.specs.Agents.{Landing, landing, dead_or, uses_dead, names_of}
 use Rattle.mq_core.specs.declared.parts.Arrival.{Arrival}
 use Rattle.mq_moves.specs.Landed.{tests_at}
 

@@ -1,6 +1,6 @@
 -- The record of a receiver's commit.
 use Rattle.std.specs.Prelude.{◌≡◌, ℕ, Bool, true, List, flat_map, sum_by}
-use Rattle.mq_spec_state.specs.Words.{is_persistent, add_size}
+use Rattle.mq_calls.specs.Words.{is_persistent, add_size}
 use Rattle.mq_record.specs.Records.{CanBeKept, add_bytes}
 use Rattle.mq_core.specs.declared.parts.Arrival.{Arrival}
 use Rattle.mq_core.specs.Writes.{arrival_adds}

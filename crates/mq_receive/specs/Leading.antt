@@ -1,7 +1,7 @@
 -- A batch of which some messages have landed.
 use Rattle.std.specs.Prelude.{◌≡◌, List, ◌++◌, Result, Ok, Err}
-use Rattle.mq_spec_state.specs.Words.{Reason}
-use Rattle.mq_spec_agents.specs.Words.{Landed}
+use Rattle.mq_calls.specs.Words.{Reason}
+use Rattle.mq_spec_manager.specs.Agents.{Landed}
 use Rattle.mq_core.specs.declared.parts.Arrival.{Arrival}
 use Rattle.mq_core.specs.Writes.{all_landed}
 

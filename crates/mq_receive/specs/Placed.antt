@@ -1,6 +1,6 @@
 -- A batch whose messages are placed: the manager's parts, message by message.
 use Rattle.std.specs.Prelude.{◌≡◌, ℕ, ◌+◌, ◌<◌, ◌≤◌, ◌^◌, Bool, true, false, List, [], ◌∷◌, Option, Some, None, length}
-use Rattle.mq_spec_state.specs.Words.{Ident, is_persistent, off_lists}
+use Rattle.mq_calls.specs.Words.{Ident, is_persistent, off_lists}
 use Rattle.mq_calls.specs.declared.state.Item.{Item}
 use Rattle.mq_calls.specs.declared.state.Item.TheVariants.{Put}
 use Rattle.mq_place.specs.States.{QueueState, QueueStates, change_state, expecting, unpended}

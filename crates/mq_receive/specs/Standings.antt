@@ -1,8 +1,8 @@
 -- How idents stand, as the code has it, and behind the messages of a batch that have landed.
 use Rattle.std.specs.Prelude.{◌≡◌, Bool, List, [], ◌∷◌, if◌then◌else◌, flat_map, IsSome}
 use Rattle.std.specs.List.{list_any}
-use Rattle.mq_spec_state.specs.Words.{Ident, Message, Plain, same_ident, local_of, apply_all}
-use Rattle.mq_spec_agents.specs.Words.{Standing, Absent, InDoubtAt, Present, standing_at}
+use Rattle.mq_calls.specs.Words.{Ident, Message, Plain, same_ident, local_of, apply_all}
+use Rattle.mq_spec_manager.specs.Agents.{Standing, Absent, InDoubtAt, Present, standing_at}
 use Rattle.mq_law_manager.specs.Facts.{AreNamed}
 use Rattle.mq_core.specs.declared.parts.Arrival.{Arrival}
 use Rattle.mq_receive.specs.declared.idents.Found.{Found}

@@ -1,7 +1,7 @@
 //! Where a message that a channel brings is put: by its route, or as a dead letter, or not at all.
 ghost use Rattle.std.specs.Prelude.{◌≡◌, ◌+◌, List, true, Some, Ok, nat_le, nat_lt, option_copied, IfOk};
-ghost use Rattle.mq_spec_state.specs.Words.{PathStep as Step, Plain, local_of};
-ghost use Rattle.mq_spec_agents.specs.Words.{dead_or, land, landing, uses_dead};
+ghost use Rattle.mq_calls.specs.Words.{PathStep as Step, Plain, local_of};
+ghost use Rattle.mq_spec_manager.specs.Agents.{dead_or, land, landing, uses_dead};
 ghost use Rattle.mq_core.specs.Views.{plain_of};
 ghost use Rattle.mq_core.specs.Ties.{Tied};
 ghost use Rattle.mq_moves.specs.Landed.{at_end, route_by};
@@ -9,14 +9,13 @@ ghost use Rattle.mq_receive.specs.Ahead.{is_on, times_on, depth_ahead, can_take_
 ghost use Rattle.mq_receive.specs.Arriving.{Lands};
 
 use crate::letters::{dead_message, names_of};
-use mq_base::NoMemory;
+use mq_base::{ChName, NoMemory, QName};
 use mq_calls::{AgentStop, PlaceFault};
 use mq_codes::Reason;
 use mq_core::{Arrival, Parts};
 use mq_disk::Disk;
 use mq_message::{Bytes, Message};
 use mq_moves::{dest_at, queue_at, refused_by};
-use mq_name::{ChName, QName};
 use mq_objects::{Channel, ChannelKind, LocalQueue, Usage};
 use mq_resolve::{PathStep, RouteEnd, resolve};
 use std::alloc::Global;

@@ -1,7 +1,7 @@
 //! A receiver's commit of messages that have landed: one forced record, and then they take their places.
 ghost use Rattle.std.specs.List.{AllByRecursion};
 ghost use Rattle.std.specs.Prelude.{◌≡◌, ◌+◌, ◌*◌, ◌<◌, ◌≤◌, ◌^◌, ◌∷◌, ◌++◌, [], true, length, flat_map};
-ghost use Rattle.mq_spec_state.specs.Words.{need};
+ghost use Rattle.mq_calls.specs.Words.{need};
 ghost use Rattle.mq_core.specs.Counting.{CanCount};
 ghost use Rattle.mq_moves.specs.Moving.{given_back};
 ghost use Rattle.mq_core.specs.Forced.{IsForced};
@@ -17,11 +17,10 @@ use crate::filling::put_received;
 use crate::placing::{place_all, tell_landed, unexpect_all};
 use crate::rooms::make_room;
 use mq_agents::{Unwritten, agent_stop, go_down};
-use mq_base::{Items, NoMemory};
+use mq_base::{ChName, Items, NoMemory};
 use mq_calls::{AgentStop, Did, PlaceFault, ReceiverSide};
 use mq_core::{Arrival, Core, Parts, StoppedWrite};
 use mq_disk::{Disk, Stop};
-use mq_name::ChName;
 use mq_sides::{receiver_data, swap_side, undo_side};
 use mq_sync::{ReceiverData, Unit};
 use mq_unit::Effects;

@@ -1,7 +1,7 @@
 //! An ident leaves the lists of all units in doubt.
 ghost use Rattle.std.specs.Prelude.{◌≡◌, not, filter};
 ghost use Rattle.mq_message.specs.declared.message.Ident.{Ident};
-ghost use Rattle.mq_spec_state.specs.Words.{same_ident, less_ident, off_list, off_lists};
+ghost use Rattle.mq_calls.specs.Words.{same_ident, less_ident, off_list, off_lists};
 
 use mq_base::Items;
 use mq_calls::SenderSide;

@@ -1,16 +1,16 @@
 //! The record of a receiver's commit: its messages that last, in order.
 ghost use Rattle.std.specs.Prelude.{◌≡◌, ◌+◌, ◌<◌, ◌≤◌, ◌^◌, [], ◌∷◌, flat_map, length};
 ghost use Rattle.std.specs.List.{AllByRecursion};
-ghost use Rattle.mq_spec_state.specs.Words.{is_persistent, record_size};
-ghost use Rattle.mq_spec_agents.specs.Words.{received_record};
+ghost use Rattle.mq_calls.specs.Words.{is_persistent, record_size};
+ghost use Rattle.mq_spec_manager.specs.Agents.{received_record};
 ghost use Rattle.mq_record.specs.Records.{record_bytes, IsAdd, IsRecord};
 ghost use Rattle.mq_record.specs.Room.{with_piece};
 ghost use Rattle.mq_core.specs.Writes.{arrival_adds, all_landed};
 ghost use Rattle.mq_receive.specs.Filling.{CanStand, is_lasting, adds_size, adds_bytes};
 
+use mq_base::ChName;
 use mq_core::Arrival;
 use mq_message::Message;
-use mq_name::ChName;
 use mq_record::{Buffer, received_front};
 use mq_sync::Unit;
 

@@ -1,16 +1,16 @@
 //! How the ident of a message that a channel brings stands at the manager already.
 ghost use Rattle.std.specs.Prelude.{◌≡◌, ◌&&◌, ◌||◌, None, Some, option_copied};
 ghost use Rattle.std.specs.List.{list_any};
-ghost use Rattle.mq_spec_state.specs.Words.{in_doubt_of, same_ident};
-ghost use Rattle.mq_spec_agents.specs.Words.{doubts, is_doubted_by, is_unborn, same_flag, standing_at, standing_by};
+ghost use Rattle.mq_calls.specs.Words.{in_doubt_of, same_ident};
+ghost use Rattle.mq_spec_manager.specs.Agents.{doubts, is_doubted_by, is_unborn, same_flag, standing_at, standing_by};
 ghost use Rattle.mq_core.specs.Views.{plain_of};
 ghost use Rattle.mq_receive.specs.Standings.{standing_as};
 
 use crate::filling::lasts;
+use mq_base::{ChName, QName};
 use mq_core::Parts;
 use mq_disk::Disk;
 use mq_message::{Holder, Ident, Message};
-use mq_name::{ChName, QName};
 use mq_queue::Row;
 use mq_sides::sender_of;
 use mq_sync::{InDoubt, SenderData};

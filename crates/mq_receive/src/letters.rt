@@ -1,16 +1,15 @@
 //! A message as a dead letter: behind a header with the reason and the names that it came with (IBM MQ reference, MQDLH).
 ghost use Rattle.std.specs.Prelude.{◌≡◌, ◌≤◌, ◌++◌, pos, length, IfOk};
 ghost use Rattle.mq_codes.specs.Numbers.{number};
-ghost use Rattle.mq_name.specs.Name.{padded};
+ghost use Rattle.mq_base.specs.Name.{padded};
 ghost use Rattle.mq_heads.specs.Headers.{dlh_bytes};
-ghost use Rattle.mq_spec_agents.specs.Words.{names_of, dead_md, dead_head, dead_message};
+ghost use Rattle.mq_spec_manager.specs.Agents.{names_of, dead_md, dead_head, dead_message};
 
-use mq_base::NoMemory;
+use mq_base::{ChName, NoMemory, QName};
 use mq_clock::put_stamp;
 use mq_codes::Reason;
 use mq_heads::{Dlh, dlh_to_bytes};
 use mq_message::{Bytes, Dest, Md, Message};
-use mq_name::{ChName, QName};
 use std::alloc::Global;
 
 /// The names that came with a message; blank where none did.

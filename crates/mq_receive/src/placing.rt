@@ -6,12 +6,11 @@ ghost use Rattle.mq_receive.specs.Placed.{dropped_at, undoubted_at, cleared_for,
 
 use crate::doubts::strike_all;
 use crate::filling::lasts;
-use mq_base::Items;
+use mq_base::{Items, QName};
 use mq_calls::{Did, Why};
 use mq_core::{Arrival, Parts};
 use mq_disk::Disk;
 use mq_message::Ident;
-use mq_name::QName;
 use mq_place::Queues;
 use mq_queue::PlainQueue;
 use mq_unit::Effects;

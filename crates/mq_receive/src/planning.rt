@@ -1,8 +1,8 @@
 //! The plan of a receiver's commit: where each message of the batch lands, with those before it on their queues.
 ghost use Rattle.std.specs.Prelude.{◌≡◌, ◌∷◌, List, Option, Some};
-ghost use Rattle.mq_spec_state.specs.Words.{Message as PlainMessage, Reason as PlainReason};
+ghost use Rattle.mq_calls.specs.Words.{Message as PlainMessage, Reason as PlainReason};
 ghost use Rattle.std.specs.Prelude.{Result as AnyResult};
-ghost use Rattle.mq_spec_agents.specs.Words.{Landed};
+ghost use Rattle.mq_spec_manager.specs.Agents.{Landed};
 ghost use Rattle.mq_core.specs.Views.{plain_of};
 ghost use Rattle.mq_core.specs.Ties.{Tied};
 ghost use Rattle.mq_law_manager.specs.Facts.{Sound, AreNamed};
@@ -12,12 +12,11 @@ ghost use Rattle.mq_receive.specs.Planned.{Goes, IsPlan, Plans};
 
 use crate::arriving::land;
 use crate::idents::{Found, standing};
-use mq_base::Items;
+use mq_base::{ChName, Items, QName};
 use mq_calls::{AgentStop, PlaceFault};
 use mq_core::{Arrival, Parts};
 use mq_disk::Disk;
 use mq_message::{Ident, Message};
-use mq_name::{ChName, QName};
 
 fn is_landed(arrival: &Arrival, ident: &Ident) -> bool
     ensures { result ≡ is_landed ident.now arrival.now }

@@ -2,9 +2,9 @@
 ghost use Rattle.std.specs.List.{AllByRecursion};
 ghost use Rattle.std.specs.Prelude.{◌≡◌, ◌<◌, ◌^◌, ◌∷◌, [], ℕ, List, Ok, true};
 ghost use Rattle.mq_sync.specs.declared.unit.Unit.{Unit as Luw};
-ghost use Rattle.mq_spec_state.specs.Words.{MeetsOrWants, need};
+ghost use Rattle.mq_calls.specs.Words.{MeetsOrWants, need};
 ghost use Rattle.mq_core.specs.Counting.{CanCount};
-ghost use Rattle.mq_spec_agents.specs.Words.{IsUp, receive, receive_landed};
+ghost use Rattle.mq_spec_manager.specs.Agents.{IsUp, receive, receive_landed};
 ghost use Rattle.mq_law_manager.specs.Facts.{Sound, AreNamed};
 ghost use Rattle.mq_agents.specs.Ends.{by_place};
 ghost use Rattle.mq_agents.specs.Written.{agent_of, stop_of};
@@ -20,13 +20,12 @@ use crate::committing::commit;
 use crate::filling::lasts;
 use crate::planning::plan;
 use mq_agents::{Unwritten, agent_stop};
-use mq_base::Items;
+use mq_base::{ChName, Items};
 use mq_calls::{AgentStop, PlaceFault};
 use mq_codes::Reason;
 use mq_core::{Arrival, Core, Parts, put_bytes};
 use mq_disk::{Disk, Stop};
 use mq_message::Message;
-use mq_name::ChName;
 use mq_sync::Unit;
 use mq_unit::can_be_kept;
 

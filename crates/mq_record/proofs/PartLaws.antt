@@ -8,10 +8,10 @@ use Rattle.std.proofs.lemmas.Slice.Eq.{bytes_eq-Decides}
 use Rattle.std.proofs.lemmas.Bool.{cond-true, cond-false, ltb-false, le-ltb, leb-true}
 use Rattle.std.proofs.lemmas.List.{append-nil, length-append, length-replicate}
 use Rattle.byteorder.specs.Endian.{big_bytes}
-use Rattle.mq_name.specs.Name.{is_name_byte, padded, IsName, name_of, name_or_bad}
-use Rattle.mq_name.specs.declared.fault.NameFault.{NameFault}
-use Rattle.mq_name.specs.declared.fault.NameFault.TheVariants.{TooLong}
-use Rattle.mq_name.proofs.Fields.{no_bad}
+use Rattle.mq_base.specs.Name.{is_name_byte, padded, IsName, name_of, name_or_bad}
+use Rattle.mq_base.specs.declared.fault.NameFault.{NameFault}
+use Rattle.mq_base.specs.declared.fault.NameFault.TheVariants.{TooLong}
+use Rattle.mq_base.proofs.Fields.{no_bad}
 use Rattle.mq_message.specs.declared.message.Ident.{Ident}
 use Rattle.mq_message.specs.declared.message.Dest.{Dest}
 use Rattle.mq_message.specs.declared.message.Md.{Md}

@@ -5,7 +5,7 @@ use Rattle.std.specs.List.{flat_map, AllByRecursion}
 use Rattle.std.proofs.lemmas.List.{length-append, length-replicate}
 use Rattle.std.proofs.lemmas.List.Sums.{sum_by-cons}
 use Rattle.byteorder.specs.Endian.{big_bytes}
-use Rattle.mq_name.specs.Name.{padded, IsName}
+use Rattle.mq_base.specs.Name.{padded, IsName}
 use Rattle.mq_message.specs.declared.message.Ident.{Ident}
 use Rattle.mq_message.specs.declared.message.Dest.{Dest}
 use Rattle.mq_message.specs.declared.message.Message.{Message}
@@ -16,7 +16,7 @@ use Rattle.mq_calls.specs.declared.records.Add.{Add}
 use Rattle.mq_calls.specs.declared.records.Remove.{Remove}
 use Rattle.mq_calls.specs.declared.records.LogRecord.{LogRecord}
 use Rattle.mq_calls.specs.declared.records.LogRecord.TheVariants as records
-use Rattle.mq_spec_state.specs.Sizes.{route_size, message_size, add_size, record_size}
+use Rattle.mq_calls.specs.Sizes.{route_size, message_size, add_size, record_size}
 use Rattle.mq_record.specs.Records.{add_bytes, remove_bytes, end_number, prepared_front, received_front, moved_front, record_bytes, IsAdd, IsRemove, IsRecord}
 
 padded_whole : (width : ℕ) (name : List ℕ) → IsName width name → length (padded width name) ≡ width

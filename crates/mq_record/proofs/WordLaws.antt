@@ -7,7 +7,7 @@ use Rattle.std.proofs.lemmas.List.Sums.{fails_before_first}
 use Rattle.std.proofs.lemmas.List.Quantifiers.{position-Some}
 use Rattle.std.proofs.lemmas.Bool.{cond-true, cond-false, and_parts}
 use Rattle.std.proofs.lemmas.Bool.Decides.{nat_tests}
-use Rattle.mq_name.specs.Name.{is_name_byte}
+use Rattle.mq_base.specs.Name.{is_name_byte}
 use Rattle.mq_record.specs.Reading.{word_of}
 
 abbrev is_blank : ℕ → Bool

@@ -2,8 +2,8 @@
 use Rattle.std.specs.Prelude.{ℕ, zero, suc, pos, Bool, List, [], ◌∷◌, Option, Some, None, Result, Ok, Err, length, nat_le, ◌==◌, if◌then◌else◌}
 use Rattle.std.specs.Ordering.{int_eq}
 use Rattle.std.specs.Str.{bytes_eq}
-use Rattle.mq_name.specs.Name.{padded, name_of}
-use Rattle.mq_name.specs.declared.fault.NameFault.{NameFault}
+use Rattle.mq_base.specs.Name.{padded, name_of}
+use Rattle.mq_base.specs.declared.fault.NameFault.{NameFault}
 use Rattle.mq_message.specs.declared.message.Ident.{Ident}
 use Rattle.mq_message.specs.declared.message.Dest.{Dest}
 use Rattle.mq_message.specs.declared.message.Md.{Md}

@@ -2,7 +2,7 @@
 use Rattle.std.specs.Prelude.{◌≡◌, ℕ, pos, ◌<◌, ◌^◌, List, [], ◌∷◌, ◌++◌, length}
 use Rattle.std.specs.List.{concat, flat_map, AllByRecursion}
 use Rattle.byteorder.specs.Endian.{big_bytes}
-use Rattle.mq_name.specs.Name.{padded, IsName}
+use Rattle.mq_base.specs.Name.{padded, IsName}
 use Rattle.mq_message.specs.declared.message.Ident.{Ident}
 use Rattle.mq_message.specs.declared.message.Message.{Message}
 use Rattle.mq_frame.specs.Frames.{ident_bytes, message_bytes, flag, IsIdent, IsMessage, HasWords}
@@ -15,7 +15,7 @@ use Rattle.mq_calls.specs.declared.records.Add.{Add}
 use Rattle.mq_calls.specs.declared.records.Remove.{Remove}
 use Rattle.mq_calls.specs.declared.records.LogRecord.{LogRecord}
 use Rattle.mq_calls.specs.declared.records.LogRecord.TheVariants as records
-use Rattle.mq_spec_state.specs.Sizes.{change_text}
+use Rattle.mq_calls.specs.Sizes.{change_text}
 use Rattle.mq_record.specs.declared.record.Operation.{Operation}
 use Rattle.mq_record.specs.declared.record.Operation.TheVariants.{Set, Delete}
 use Rattle.mq_record.specs.declared.record.WrittenRecord.{WrittenRecord}

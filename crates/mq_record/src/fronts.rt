@@ -9,9 +9,9 @@ ghost use Rattle.mq_calls.specs.declared.records.LogRecord.TheVariants as record
 ghost use Rattle.mq_record.specs.Records.{record_bytes, operation_number, end_number, objects_front, unit_front, prepared_front, received_front, moved_front, AreCounted, IsAdd, IsKept, IsRecord};
 
 use crate::record::Operation;
+use mq_base::{ChName, QName};
 use mq_message::Ident;
 use mq_message::fields::{put_array, put_u8, put_u32, put_u64};
-use mq_name::{ChName, QName};
 use mq_sync::{End, Unit};
 
 fn flag(set: bool) -> u8

@@ -3,15 +3,15 @@
 ghost use Rattle.std.specs.Prelude.{◌≡◌, ◌≤◌, ◌+◌, length, IfSome};
 ghost use Rattle.byteorder.specs.Endian.{big_bytes};
 ghost use Rattle.mq_frame.specs.Frames.{ident_bytes, deadline_bytes, route_bytes, message_bytes, IsIdent, IsDest};
-ghost use Rattle.mq_spec_state.specs.Sizes.{message_size, route_size};
+ghost use Rattle.mq_calls.specs.Sizes.{message_size, route_size};
 ghost use Rattle.mq_record.specs.Records.{add_bytes, remove_bytes, CanBeKept, IsAdd, IsKept, IsRemove};
 ghost use Rattle.mq_record.specs.Room.{with_piece};
 
 use crate::buffer::Buffer;
 use crate::fronts::ident_array;
 use byteorder::{BigEndian, ByteOrder};
+use mq_base::QName;
 use mq_message::{Dest, Ident, Message, md_to_bytes};
-use mq_name::QName;
 
 impl Buffer {
     /// Puts an ident behind the bytes: 17 bytes.

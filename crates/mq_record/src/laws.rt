@@ -2,7 +2,7 @@
 
 ghost use Rattle.std.specs.Prelude.{◌≡◌, ◌++◌, ℕ, List, length, Ok};
 ghost use Rattle.mq_calls.specs.declared.records.LogRecord.{LogRecord};
-ghost use Rattle.mq_spec_state.specs.Sizes.{record_size};
+ghost use Rattle.mq_calls.specs.Sizes.{record_size};
 ghost use Rattle.mq_record.specs.declared.record.WrittenRecord.{WrittenRecord};
 ghost use Rattle.mq_record.specs.Records.{IsRecord, IsWritten, IsBodyOf, record_bytes, body_bytes};
 ghost use Rattle.mq_record.specs.Reading.{record_at};

@@ -5,9 +5,9 @@ ghost use Rattle.mq_frame.specs.Reading.{Same};
 ghost use Rattle.mq_record.specs.Reading.{word_of, channel_in, channel_at, unit_at, flag_at, operation_at, end_at, text_at};
 
 use crate::record::Operation;
+use mq_base::ChName;
 use mq_frame::Miss;
 use mq_frame::reading::{byte_at, piece_at, u32_at, u64_at};
-use mq_name::ChName;
 use mq_sync::{End, Unit};
 
 /// The place of the first blank.

@@ -17,8 +17,8 @@ use Rattle.mq_sync.specs.declared.data.ReceiverData.{ReceiverData}
 use Rattle.mq_sync.specs.Settlement.{sender_or}
 use Rattle.mq_calls.specs.declared.state.SenderSide.{SenderSide}
 use Rattle.mq_calls.specs.declared.state.ReceiverSide.{ReceiverSide}
-use Rattle.mq_spec_state.specs.Reads.{sender_in, receiver_in}
-use Rattle.mq_spec_state.specs.Changes.{set_named, set_sender, set_receiver}
+use Rattle.mq_calls.specs.Reads.{sender_in, receiver_in}
+use Rattle.mq_calls.specs.Changes.{set_named, set_sender, set_receiver}
 use Rattle.mq_recover.specs.declared.named.ByName.{ByName}
 use Rattle.mq_recover.specs.declared.kept.Kept.{Kept}
 use Rattle.mq_recover.specs.Kept.{name_cmp, key_named, blank_kept, hardened_of, sender_side, sender_sides, receiver_side, receiver_sides, HasSet}

@@ -14,7 +14,7 @@ use Rattle.mq_sync.specs.declared.data.InDoubt.{InDoubt}
 use Rattle.mq_sync.specs.declared.data.SenderData.{SenderData}
 use Rattle.mq_sync.specs.Settlement.{data_prepared, data_settled, settle_by, doubt_of, doubt_last}
 use Rattle.mq_calls.specs.declared.state.SenderSide.{SenderSide}
-use Rattle.mq_spec_state.specs.Changes.{less_ident, off_list, off_lists}
+use Rattle.mq_calls.specs.Changes.{less_ident, off_list, off_lists}
 use Rattle.mq_shelves.proofs.DistinctLaws.{left_at}
 use Rattle.mq_recover.specs.declared.named.ByName.{ByName}
 use Rattle.mq_recover.specs.declared.kept.Kept.{Kept}

@@ -9,8 +9,8 @@ use Rattle.mq_calls.specs.declared.records.LogRecord.TheVariants as records
 use Rattle.mq_log.specs.Bodies.{frame, frames, AllFit}
 use Rattle.mq_log.specs.Walk.{Walks}
 use Rattle.mq_log.specs.declared.bodies.Split.{Split}
-use Rattle.mq_spec_state.specs.State.{Given}
-use Rattle.mq_spec_state.specs.Images.{Image}
+use Rattle.mq_calls.specs.State.{Given}
+use Rattle.mq_calls.specs.Images.{Image}
 use Rattle.mq_spec_log.specs.Applies.{Start, suits, applies, was_given, idents_in, is_in_bounds}
 use Rattle.mq_spec_log.specs.Records.{doing}
 use Rattle.mq_spec_log.specs.Bodies.{record_of, behind, or_place, image_from, empty_image, begins, image}

@@ -6,8 +6,8 @@ use Rattle.mq_recover.specs.declared.recovery.RecoverFault.{RecoverFault}
 use Rattle.mq_recover.specs.declared.recovery.RecoverFault.TheVariants.{BadRecord, NoMemory}
 use Rattle.mq_recover.specs.declared.recovering.Recovering.{Recovering}
 use Rattle.mq_recover.specs.Recovering.{seen}
-use Rattle.mq_spec_state.specs.State.{Given}
-use Rattle.mq_spec_state.specs.Images.{Image}
+use Rattle.mq_calls.specs.State.{Given}
+use Rattle.mq_calls.specs.Images.{Image}
 use Rattle.mq_spec_log.specs.Applies.{Start}
 use Rattle.mq_spec_log.specs.Applies.Start.{First, Later}
 

@@ -10,8 +10,8 @@ use Rattle.mq_sync.specs.declared.data.InDoubt.{InDoubt}
 use Rattle.mq_sync.specs.declared.data.SenderData.{SenderData}
 use Rattle.mq_sync.specs.declared.data.ReceiverData.{ReceiverData}
 use Rattle.mq_sync.specs.Settlement.{sender_or}
-use Rattle.mq_spec_state.specs.Reads.{sender_in}
-use Rattle.mq_spec_state.specs.Changes.{set_sender}
+use Rattle.mq_calls.specs.Reads.{sender_in}
+use Rattle.mq_calls.specs.Changes.{set_sender}
 use Rattle.mq_calls.specs.declared.state.SenderSide.{SenderSide}
 use Rattle.mq_calls.specs.declared.state.ReceiverSide.{ReceiverSide}
 use Rattle.mq_shelves.specs.declared.spots.IdentKey.{IdentKey}

@@ -2,13 +2,12 @@
 ghost use Rattle.std.specs.Prelude.{◌≡◌, OnOk, IfOk};
 ghost use Rattle.mq_objects.specs.Names.{space_in, space_of, name_of, is_kind, is_transmission, is_by_priority, local_of, object_in, named};
 ghost use Rattle.mq_objects.specs.Slots.{present};
-ghost use Rattle.mq_spec_state.specs.Changes.{lane_of};
+ghost use Rattle.mq_calls.specs.Changes.{lane_of};
 ghost use Rattle.mq_spec_log.specs.Applies.{agrees, fits, same_form, can_replace, can_set, is_empty_local, can_delete, can_change};
 ghost use Rattle.mq_spec_log.specs.Records.{shelf_if, shelves_after};
 
-use mq_base::{Items, NoMemory};
+use mq_base::{Items, NoMemory, QName};
 use mq_message::Message;
-use mq_name::QName;
 use mq_objects::{
     Definitions, Defs, Delivery, LocalQueue, NameSpace, Object, ObjectChange, Subject, Usage,
 };

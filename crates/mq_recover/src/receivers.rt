@@ -1,13 +1,12 @@
 //! What the receivers of channels have hardened.
 ghost use Rattle.std.specs.Prelude.{◌≡◌, [], None, OnOk, IfOk};
-ghost use Rattle.mq_spec_state.specs.Reads.{receiver_in};
-ghost use Rattle.mq_spec_state.specs.Changes.{set_receiver};
+ghost use Rattle.mq_calls.specs.Reads.{receiver_in};
+ghost use Rattle.mq_calls.specs.Changes.{set_receiver};
 ghost use Rattle.mq_sync.specs.Settlement.{receiver_or};
 
 use crate::named::ByName;
-use mq_base::{Items, NoMemory};
+use mq_base::{ChName, Items, NoMemory, QName};
 use mq_calls::ReceiverSide;
-use mq_name::{ChName, QName};
 use mq_sync::{ReceiverData, Unit};
 use std::alloc::Global;
 use std::collections::BTreeMap;

@@ -2,17 +2,16 @@
 ghost use Rattle.std.specs.Prelude.{◌≡◌, ◌+◌, ◌<◌, ℕ, Bool, true, false, List, IfOk, IfSome, length};
 ghost use Rattle.mq_log.specs.Bodies.{frames, AllFit};
 ghost use Rattle.mq_log.specs.Walk.{Walks};
-ghost use Rattle.mq_spec_state.specs.State.{Given};
+ghost use Rattle.mq_calls.specs.State.{Given};
 ghost use Rattle.mq_spec_log.specs.Bodies.{begins, image, image_from, empty_image, is_started};
 ghost use Rattle.mq_recover.specs.declared.recovery.RecoverFault.TheVariants as faults;
 ghost use Rattle.mq_recover.specs.Found.{start_in, given_as, Recovers, Told};
 
 use crate::recovering::Recovering;
 use crate::start::Start;
-use mq_base::NoMemory;
+use mq_base::{NoMemory, QName};
 use mq_calls::{Image, LogRecord};
 use mq_log::{Bodies, Split, next_body};
-use mq_name::QName;
 use mq_recover_read::log_record;
 use std::alloc::Global;
 

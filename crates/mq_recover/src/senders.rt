@@ -2,8 +2,8 @@
 ghost use Rattle.std.specs.Prelude.{◌≡◌, [], true, Some, is_some, OnOk, IfOk};
 ghost use Rattle.mq_sync.specs.declared.data.SenderData.{SenderData};
 ghost use Rattle.mq_sync.specs.Settlement.{sender_or, data_prepared, data_settled, settle_by};
-ghost use Rattle.mq_spec_state.specs.Reads.{sender_in};
-ghost use Rattle.mq_spec_state.specs.Changes.{set_sender, off_lists};
+ghost use Rattle.mq_calls.specs.Reads.{sender_in};
+ghost use Rattle.mq_calls.specs.Changes.{set_sender, off_lists};
 ghost use Rattle.mq_spec_log.specs.Applies.{is_unit_in_doubt};
 ghost use Rattle.mq_recover.specs.Kept.{struck_at, sender_sides};
 
@@ -12,10 +12,9 @@ use crate::named::ByName;
 use crate::sides;
 use crate::strikes::{is_known, know_each, left_of, strike};
 use indexmap::IndexMap;
-use mq_base::{Items, NoMemory};
+use mq_base::{ChName, Items, NoMemory, QName};
 use mq_calls::SenderSide;
 use mq_message::Ident;
-use mq_name::{ChName, QName};
 use mq_shelves::IdentKey;
 use mq_sync::{InDoubt, SenderData, Unit};
 use std::alloc::Global;

@@ -2,7 +2,7 @@
 ghost use Rattle.std.specs.Prelude.{◌≡◌, ℕ, ◌≤◌, Bool, true, Some, option_copied, option_map, is_some, OnOk, OnErr, IfOk};
 ghost use Rattle.std.specs.BTreeMap.{insert_entry};
 ghost use Rattle.mq_message.specs.declared.message.Ident.{Ident};
-ghost use Rattle.mq_spec_state.specs.Reads.{sender_in};
+ghost use Rattle.mq_calls.specs.Reads.{sender_in};
 ghost use Rattle.mq_spec_log.specs.Applies.{is_unit_in_doubt};
 ghost use Rattle.mq_sync.specs.declared.data.SenderData.{SenderData};
 ghost use Rattle.mq_sync.specs.Settlement.{sender_or, data_prepared, data_settled, settle_by};
@@ -10,8 +10,7 @@ ghost use Rattle.mq_recover.specs.Kept.{name_cmp, key_named, blank_kept, hardene
 
 use crate::kept::Kept;
 use crate::named::ByName;
-use mq_base::NoMemory;
-use mq_name::{ChName, QName};
+use mq_base::{ChName, NoMemory, QName};
 use mq_sync::{InDoubt, SenderData, Unit};
 use std::collections::BTreeMap;
 

@@ -4,9 +4,8 @@
 mod logs;
 
 use logs::{channels_log, doubt_log, log_of, queues_log};
-use mq_base::NoMemory;
+use mq_base::{NoMemory, QName};
 use mq_log::Bodies;
-use mq_name::QName;
 use mq_recover::{Start, image};
 use std::alloc::Global;
 use std::io;

@@ -13,9 +13,9 @@ use Rattle.mq_calls.specs.declared.deltas.Why.TheVariants as whys
 use Rattle.mq_calls.specs.declared.records.Add.{Add}
 use Rattle.mq_calls.specs.declared.records.LogRecord.{LogRecord}
 use Rattle.mq_calls.specs.declared.records.LogRecord.TheVariants as records
-use Rattle.mq_spec_state.specs.Words.{Plain, is_persistent}
+use Rattle.mq_calls.specs.Words.{Plain, is_persistent}
 use Rattle.mq_spec_manager.specs.Stops.{lasts}
-use Rattle.mq_spec_agents.specs.Words.{received_part, drop_did}
+use Rattle.mq_spec_manager.specs.Agents.{received_part, drop_did}
 use Rattle.mq_core.specs.declared.parts.Arrival.{Arrival}
 use Rattle.mq_core.specs.Writes.{all_landed, arrival_adds, arrival_dids, standing_of}
 use Rattle.mq_unit.specs.Told.{Telling}

@@ -12,12 +12,12 @@ use Rattle.mq_calls.specs.declared.records.Remove.{Remove}
 use Rattle.mq_message.specs.declared.message.Ident.{Ident}
 use Rattle.mq_message.specs.declared.message.Message.{Message}
 use Rattle.mq_queue.specs.Rows.{same_ident}
-use Rattle.mq_spec_state.specs.State.{Noted, Plain, Running}
-use Rattle.mq_spec_state.specs.State.Running.{Up, Down}
-use Rattle.mq_spec_state.specs.Reads.{is_persistent, stands}
-use Rattle.mq_spec_state.specs.Steps.{Part, note_of}
+use Rattle.mq_calls.specs.State.{Noted, Plain, Running}
+use Rattle.mq_calls.specs.State.Running.{Up, Down}
+use Rattle.mq_calls.specs.Reads.{is_persistent, stands}
+use Rattle.mq_calls.specs.Steps.{Part, note_of}
 use Rattle.mq_spec_manager.specs.Stops.{redone_delta}
-use Rattle.mq_spec_agents.specs.Words.{settle_did}
+use Rattle.mq_spec_manager.specs.Agents.{settle_did}
 use Rattle.mq_core.specs.declared.parts.Arrival.{Arrival}
 
 -- the note of the write that was stopped, if any was

@@ -1,18 +1,18 @@
 //! What lasts of a batch of messages whose receiver's commit was stopped.
 ghost use Rattle.std.specs.Prelude.{◌≡◌, ◌+◌, ◌<◌, ◌≤◌, ◌++◌, length};
 ghost use Rattle.std.specs.List.{flat_map, list_any};
-ghost use Rattle.mq_spec_state.specs.Words.{Add};
+ghost use Rattle.mq_calls.specs.Words.{Add};
 ghost use Rattle.mq_queue.specs.Rows.{same_ident};
 ghost use Rattle.mq_core.specs.Views.{plain_of};
 ghost use Rattle.mq_core.specs.Writes.{arrival_adds};
 ghost use Rattle.mq_redo.specs.Redone.{adds_ident, is_in, dropped_of, arrived_of};
 
 use crate::telling::{is_persistent, tell_if, tell_removed};
+use mq_base::QName;
 use mq_calls::{Did, Why};
 use mq_core::{Arrival, Parts};
 use mq_disk::Disk;
 use mq_message::{Ident, Message};
-use mq_name::QName;
 use mq_unit::Effects;
 
 fn adds_ident(arrival: &Arrival, ident: &Ident) -> bool

@@ -1,9 +1,9 @@
 //! What lasts of each kind of write that was stopped.
 ghost use Rattle.std.specs.Prelude.{◌≡◌, ◌++◌, ◌∷◌, [], true, None, Some, OnOk};
 ghost use Rattle.std.specs.List.{flat_map};
-ghost use Rattle.mq_spec_state.specs.Words.{batch_of, connection_at};
+ghost use Rattle.mq_calls.specs.Words.{batch_of, connection_at};
 ghost use Rattle.mq_spec_manager.specs.Stops.{redone_delta};
-ghost use Rattle.mq_spec_agents.specs.Words.{harden_part, move_part, received_part};
+ghost use Rattle.mq_spec_manager.specs.Agents.{harden_part, move_part, received_part};
 ghost use Rattle.mq_core.specs.Ties.{Tied};
 ghost use Rattle.mq_core.specs.Views.{plain_of, frozen_of, noted, noted_commit, noted_batch, channels_of};
 ghost use Rattle.mq_core.specs.Writes.{all_landed, now_part, gone_part, settled_part};
@@ -13,13 +13,12 @@ use crate::arrivals::tell_all_arrived;
 use crate::telling::{
     is_persistent, tell_all_placed, tell_all_removed, tell_all_settled, tell_all_taken,
 };
-use mq_base::NoMemory;
+use mq_base::{ChName, NoMemory, QName};
 use mq_calls::{Did, Note, Remove, Why};
 use mq_core::{Arrival, Mode, Parts, StoppedWrite};
 use mq_disk::Disk;
 use mq_handles::Seat;
 use mq_message::{Dest, Ident, Message};
-use mq_name::{ChName, QName};
 use mq_sides::batch_of;
 use mq_sync::Unit;
 use mq_unit::Effects;

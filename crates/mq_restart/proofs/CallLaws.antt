@@ -4,9 +4,9 @@ use Rattle.mq_base.specs.Outside.{Rose}
 use Rattle.mq_calls.specs.declared.choices.Return.TheVariants.{Fails}
 use Rattle.mq_calls.specs.declared.commands.RestartFault.{RestartFault}
 use Rattle.mq_calls.specs.declared.commands.RestartFault.TheVariants as faults
-use Rattle.mq_spec_state.specs.State.{Plain, Running}
-use Rattle.mq_spec_state.specs.State.Running.{Up, Down}
-use Rattle.mq_spec_state.specs.Words.{is_up}
+use Rattle.mq_calls.specs.State.{Plain, Running}
+use Rattle.mq_calls.specs.State.Running.{Up, Down}
+use Rattle.mq_calls.specs.Words.{is_up}
 use Rattle.mq_spec_manager.specs.Stops.{restart_at}
 use Rattle.mq_core.specs.Values.{CoreValue, LogBodies}
 use Rattle.mq_restart.specs.declared.reading.LogRead.{LogRead}

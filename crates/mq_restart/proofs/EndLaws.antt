@@ -11,18 +11,18 @@ use Rattle.mq_log.specs.declared.open.StartFault.TheVariants as starts_
 use Rattle.mq_log.specs.declared.images.Found.{Found}
 use Rattle.mq_log.specs.Force.{Stops}
 use Rattle.mq_log.specs.Open.{EndsByOneOrThree, RestartEnds}
-use Rattle.mq_spec_state.specs.State.{Given, Noted}
-use Rattle.mq_spec_state.specs.Images.{Image}
+use Rattle.mq_calls.specs.State.{Given, Noted}
+use Rattle.mq_calls.specs.Images.{Image}
 use Rattle.mq_spec_manager.specs.Stops.{CanReturn}
 use Rattle.mq_spec_log.specs.Applies.Start.{Later}
 use Rattle.mq_spec_log.specs.Bodies.{image, empty_image}
 use Rattle.mq_recover.specs.declared.recovery.RecoverFault.TheVariants.{BadRecord, NoMemory}
 use Rattle.mq_core.specs.Views.{PartsValue}
-use Rattle.mq_start.specs.declared.raising.Unraised.{Unraised}
-use Rattle.mq_start.specs.Raised.{given_of, with_log, HasHalted, Fell, start_fault, stop_fault, fails_as}
-use Rattle.mq_start.specs.Raised.Fell.{Unopened, Unread, Unstarted}
-use Rattle.mq_start.specs.Raised.HasHalted.{Wanting, Halted}
-use Rattle.mq_start.proofs.FallLaws.{spent_of}
+use Rattle.mq_restart.specs.declared.raising.Unraised.{Unraised}
+use Rattle.mq_restart.specs.Raised.{given_of, with_log, HasHalted, Fell, start_fault, stop_fault, fails_as}
+use Rattle.mq_restart.specs.Raised.Fell.{Unopened, Unread, Unstarted}
+use Rattle.mq_restart.specs.Raised.HasHalted.{Wanting, Halted}
+use Rattle.mq_restart.proofs.FallLaws.{spent_of}
 
 -- whatever the disk tells, at most three calls are made before the Started record
 opened_within : (noted : Option Noted) (starts armed left n : ℕ) (fault : StartFault) → n ≤ 3 → RestartEnds {T = Found} n armed (Err fault) left → CanReturn (Fails (start_fault fault) false left) noted starts armed

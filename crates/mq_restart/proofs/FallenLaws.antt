@@ -7,9 +7,9 @@ use Rattle.mq_calls.specs.declared.commands.RestartFault.{RestartFault}
 use Rattle.mq_calls.specs.declared.commands.RestartFault.TheVariants as faults
 use Rattle.mq_log.specs.declared.images.Found.{Found}
 use Rattle.mq_log.specs.State.{LogState, log_length}
-use Rattle.mq_spec_state.specs.State.{Plain, Noted, Running}
-use Rattle.mq_spec_state.specs.State.Running.{Down}
-use Rattle.mq_spec_state.specs.Words.{is_up}
+use Rattle.mq_calls.specs.State.{Plain, Noted, Running}
+use Rattle.mq_calls.specs.State.Running.{Down}
+use Rattle.mq_calls.specs.Words.{is_up}
 use Rattle.mq_spec_manager.specs.Stops.{failed}
 use Rattle.mq_core.specs.declared.parts.ReadLog.{ReadLog}
 use Rattle.mq_core.specs.declared.parts.Mode.{Mode}
@@ -19,10 +19,10 @@ use Rattle.mq_core.specs.Ties.{Tied, mode_is_up}
 use Rattle.mq_core.specs.Views.{PartsValue, plain_of, frozen_of, noted, running_of, length_of, read_length, channels_of}
 use Rattle.mq_place.specs.States.{queues_of}
 use Rattle.mq_rebuild.specs.declared.building.Built.{Built}
-use Rattle.mq_start.specs.declared.raising.Unraised.{Unraised}
-use Rattle.mq_start.specs.Raised.{with_log, given_of, HasHalted, Fell, starts_after, stop_fault}
-use Rattle.mq_start.specs.Raised.Fell.{Unopened, Unread, Unstarted}
-use Rattle.mq_start.specs.Raised.HasHalted.{Wanting, Halted}
+use Rattle.mq_restart.specs.declared.raising.Unraised.{Unraised}
+use Rattle.mq_restart.specs.Raised.{with_log, given_of, HasHalted, Fell, starts_after, stop_fault}
+use Rattle.mq_restart.specs.Raised.Fell.{Unopened, Unread, Unstarted}
+use Rattle.mq_restart.specs.Raised.HasHalted.{Wanting, Halted}
 use Rattle.mq_restart.specs.declared.reading.LogRead.{LogRead}
 use Rattle.mq_restart.specs.Falls.{or_read, fallen_mode, read_noted, left_by, fallen}
 

@@ -6,3 +6,13 @@ pub mod StayLaws
 pub mod StandLaws
 pub mod CallLaws
 pub mod ReturnLaws
+pub mod ReadLaws
+pub mod LowLaws
+pub mod SeenLaws
+pub mod TieLaws
+pub mod OpenLaws
+pub mod BeginLaws
+pub mod RestartLaws
+pub mod RaiseLaws
+pub mod FallLaws
+pub mod AgainLaws

@@ -8,16 +8,16 @@ use Rattle.mq_log.specs.Force.{Stops}
 use Rattle.mq_log.specs.Open.{EndsByOneOrThree}
 use Rattle.mq_log.specs.State.{log_length}
 use Rattle.mq_calls.specs.declared.choices.Return.TheVariants.{Comes}
-use Rattle.mq_spec_state.specs.State.{Plain, Noted, Running}
-use Rattle.mq_spec_state.specs.State.Running.{Up, Down}
-use Rattle.mq_spec_state.specs.Images.{begun, raised}
+use Rattle.mq_calls.specs.State.{Plain, Noted, Running}
+use Rattle.mq_calls.specs.State.Running.{Up, Down}
+use Rattle.mq_calls.specs.Images.{begun, raised}
 use Rattle.mq_spec_manager.specs.Stops.{restart_at, redone_delta, started_need, calls_of_restart, Spent}
 use Rattle.mq_core.specs.Ties.{Tied}
 use Rattle.mq_core.specs.Values.{CoreValue, bodies_in}
 use Rattle.mq_core.specs.Views.{PartsValue, plain_of, frozen_of, noted}
-use Rattle.mq_start.specs.Begun.{given_by}
-use Rattle.mq_start.specs.Raised.{Raises, ComesUp, given_of}
-use Rattle.mq_start.proofs.RaiseLaws.{comes_up, most_kept}
+use Rattle.mq_restart.specs.Begun.{given_by}
+use Rattle.mq_restart.specs.Raised.{Raises, ComesUp, given_of}
+use Rattle.mq_restart.proofs.RaiseLaws.{comes_up, most_kept}
 use Rattle.mq_redo.specs.Redone.{redone_of, noted_in}
 use Rattle.mq_restart.specs.declared.reading.LogRead.{LogRead}
 use Rattle.mq_restart.specs.declared.reading.LogRead.TheVariants.{Unread, Known, Foreign}

@@ -4,13 +4,13 @@ use Rattle.std.specs.Prelude.{Option, if◌then◌else◌}
 use Rattle.mq_disk.specs.declared.cutter.Stop.{Stop}
 use Rattle.mq_calls.specs.declared.deltas.Did.{Did}
 use Rattle.mq_log.specs.declared.images.Found.{Found}
-use Rattle.mq_spec_state.specs.State.{Running}
-use Rattle.mq_spec_state.specs.Words.{is_up}
+use Rattle.mq_calls.specs.State.{Running}
+use Rattle.mq_calls.specs.Words.{is_up}
 use Rattle.mq_core.specs.Ties.{Tied}
 use Rattle.mq_core.specs.Values.{CoreValue, bodies_in}
 use Rattle.mq_core.specs.Views.{PartsValue, plain_of, frozen_of}
-use Rattle.mq_start.specs.declared.raising.Unraised.{Unraised}
-use Rattle.mq_start.specs.Raised.{Raises, Fell}
+use Rattle.mq_restart.specs.declared.raising.Unraised.{Unraised}
+use Rattle.mq_restart.specs.Raised.{Raises, Fell}
 use Rattle.mq_redo.specs.Redone.{redone_of}
 use Rattle.mq_restart.specs.declared.reading.LogRead.{LogRead}
 use Rattle.mq_restart.specs.declared.reading.Returned.{Returned}

@@ -6,9 +6,9 @@ use Rattle.std.proofs.lemmas.List.{length-append}
 use Rattle.mq_log.specs.declared.images.Found.{Found}
 use Rattle.mq_log.specs.State.{log_length}
 use Rattle.mq_record.specs.Records.{record_bytes, IsRecord}
-use Rattle.mq_spec_state.specs.State.{Given, Plain, LogState as PlainLog}
-use Rattle.mq_spec_state.specs.State.Running.{Up}
-use Rattle.mq_spec_state.specs.Images.{begun, raised}
+use Rattle.mq_calls.specs.State.{Given, Plain, LogState as PlainLog}
+use Rattle.mq_calls.specs.State.Running.{Up}
+use Rattle.mq_calls.specs.Images.{begun, raised}
 use Rattle.mq_spec_manager.specs.Stops.{started_record}
 use Rattle.mq_spec_log.specs.Applies.{is_in_bounds}
 use Rattle.mq_spec_log.specs.Applies.Start.{Later}
@@ -20,11 +20,11 @@ use Rattle.mq_law_image.proofs.Starting.{first_told}
 use Rattle.mq_core.specs.Ties.{Tied}
 use Rattle.mq_core.specs.Values.{bodies_in}
 use Rattle.mq_core.specs.Views.{PartsValue, plain_of}
-use Rattle.mq_start.specs.Begun.{given_by, begun_parts, IsFresh}
-use Rattle.mq_start.specs.Raised.{Raises, given_of}
-use Rattle.mq_start.proofs.RaiseLaws.{most_kept, tied_body}
-use Rattle.mq_start.proofs.SeenLaws.{begun_seen}
-use Rattle.mq_start.proofs.TieLaws.{begun_tied}
+use Rattle.mq_restart.specs.Begun.{given_by, begun_parts, IsFresh}
+use Rattle.mq_restart.specs.Raised.{Raises, given_of}
+use Rattle.mq_restart.proofs.RaiseLaws.{most_kept, tied_body}
+use Rattle.mq_restart.proofs.SeenLaws.{begun_seen}
+use Rattle.mq_restart.proofs.TieLaws.{begun_tied}
 use Rattle.mq_restart.specs.Stands.{StandsUp}
 use Rattle.mq_restart.specs.Returned.{IsOfImage}
 

@@ -4,10 +4,10 @@ use Rattle.std.specs.Prelude.{Option, Some, None, min}
 use Rattle.mq_log.proofs.Logs.{log_length-push}
 use Rattle.mq_calls.specs.declared.records.LogRecord.{LogRecord}
 use Rattle.mq_record.specs.Records.{record_bytes}
-use Rattle.mq_spec_state.specs.Sizes.{need}
-use Rattle.mq_spec_state.specs.State.{Plain, Noted, Running, LogState as PlainLog}
-use Rattle.mq_spec_state.specs.State.Running.{Up, Down}
-use Rattle.mq_spec_state.specs.Steps.{Part, freeze, note_of, stands_in}
+use Rattle.mq_calls.specs.Sizes.{need}
+use Rattle.mq_calls.specs.State.{Plain, Noted, Running, LogState as PlainLog}
+use Rattle.mq_calls.specs.State.Running.{Up, Down}
+use Rattle.mq_calls.specs.Steps.{Part, freeze, note_of, stands_in}
 use Rattle.mq_spec_manager.specs.Stops.{advance_clock, cut, stop, stop_at, stop_changes, last_moment, redone_if, CanBeKept}
 use Rattle.mq_spec_log.specs.Applies.{is_in_bounds}
 use Rattle.mq_spec_log.specs.Applies.Start.{Later}
@@ -16,8 +16,8 @@ use Rattle.mq_law_log.specs.Restarts.{IsGivenIn, IsHarmless}
 use Rattle.mq_law_image.specs.Tells.{TellsDown}
 use Rattle.mq_law_image.proofs.Telling.{lost_told, found_told, stop_told}
 use Rattle.mq_core.specs.Values.{LogBodies}
-use Rattle.mq_start.specs.Tells.{Stood, StoodWith}
-use Rattle.mq_start.proofs.RestartLaws.{logs_kept}
+use Rattle.mq_restart.specs.Tells.{Stood, StoodWith}
+use Rattle.mq_restart.proofs.RestartLaws.{logs_kept}
 use Rattle.mq_restart.specs.declared.reading.LogRead.{LogRead}
 use Rattle.mq_restart.specs.declared.reading.LogRead.TheVariants as reads
 use Rattle.mq_restart.specs.Stands.{LogStandsAt, LogStands, StandsUp}

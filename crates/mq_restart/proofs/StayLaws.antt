@@ -13,22 +13,22 @@ use Rattle.mq_log.specs.declared.open.StartFault.{StartFault}
 use Rattle.mq_log.specs.declared.open.StartFault.TheVariants as opens
 use Rattle.mq_log.specs.Open.{IsNotBad as IsNoBadStart}
 use Rattle.mq_log.specs.State.{LogState}
-use Rattle.mq_spec_state.specs.State.{Plain, Noted, Running, LogState as PlainLog}
-use Rattle.mq_spec_state.specs.State.Running.{Down}
-use Rattle.mq_spec_state.specs.Steps.{stands_in}
+use Rattle.mq_calls.specs.State.{Plain, Noted, Running, LogState as PlainLog}
+use Rattle.mq_calls.specs.State.Running.{Down}
+use Rattle.mq_calls.specs.Steps.{stands_in}
 use Rattle.mq_spec_manager.specs.Stops.{redone_if, restart_at, started_need, CanReturn, CanReturnTold}
 use Rattle.mq_recover.specs.declared.recovery.RecoverFault.TheVariants.{BadRecord, NoMemory}
 use Rattle.mq_core.specs.declared.parts.ReadLog.{ReadLog}
 use Rattle.mq_core.specs.Values.{CoreValue, LogBodies, bodies_in}
 use Rattle.mq_core.specs.Views.{PartsValue, plain_of, frozen_of, noted}
-use Rattle.mq_start.specs.declared.raising.Unraised.{Unraised}
-use Rattle.mq_start.specs.Tells.{LogStood, Stood, StoodWith, kept_of}
-use Rattle.mq_start.specs.Raised.{given_of, with_log, HasHalted, Fell, starts_after, read_after, start_fault, stop_fault, fails_as}
-use Rattle.mq_start.specs.Raised.Fell.{Unopened, Unread, Unstarted}
-use Rattle.mq_start.specs.Raised.HasHalted.{Wanting, Halted}
-use Rattle.mq_start.proofs.RestartLaws.{logs_kept}
-use Rattle.mq_start.proofs.RaiseLaws.{found_stood}
-use Rattle.mq_start.proofs.FallLaws.{fell_known, falls_known, never_unread, can_return}
+use Rattle.mq_restart.specs.declared.raising.Unraised.{Unraised}
+use Rattle.mq_restart.specs.Tells.{LogStood, Stood, StoodWith, kept_of}
+use Rattle.mq_restart.specs.Raised.{given_of, with_log, HasHalted, Fell, starts_after, read_after, start_fault, stop_fault, fails_as}
+use Rattle.mq_restart.specs.Raised.Fell.{Unopened, Unread, Unstarted}
+use Rattle.mq_restart.specs.Raised.HasHalted.{Wanting, Halted}
+use Rattle.mq_restart.proofs.RestartLaws.{logs_kept}
+use Rattle.mq_restart.proofs.RaiseLaws.{found_stood}
+use Rattle.mq_restart.proofs.FallLaws.{fell_known, falls_known, never_unread, can_return}
 use Rattle.mq_restart.specs.declared.reading.LogRead.{LogRead}
 use Rattle.mq_restart.specs.declared.reading.LogRead.TheVariants as reads
 use Rattle.mq_restart.specs.Stands.{read_fallen, LogStandsAt, LogStands, CanStart, CanStartAt}

@@ -1,3 +1,6 @@
 pub mod Stands
 pub mod Falls
 pub mod Returned
+pub mod Begun
+pub mod Tells
+pub mod Raised

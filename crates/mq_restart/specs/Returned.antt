@@ -7,10 +7,10 @@ use Rattle.mq_calls.specs.declared.commands.RestartFault.{RestartFault}
 use Rattle.mq_calls.specs.declared.commands.RestartFault.TheVariants as causes
 use Rattle.mq_log.specs.State.{log_length}
 use Rattle.mq_record.specs.Records.{record_bytes}
-use Rattle.mq_spec_state.specs.State.{LogState, Plain, Running}
-use Rattle.mq_spec_state.specs.State.Running.{Up, Down}
-use Rattle.mq_spec_state.specs.Images.{Image, begun, raised}
-use Rattle.mq_spec_state.specs.Recovery.{IsImage, AreKnown}
+use Rattle.mq_calls.specs.State.{LogState, Plain, Running}
+use Rattle.mq_calls.specs.State.Running.{Up, Down}
+use Rattle.mq_calls.specs.Images.{Image, begun, raised}
+use Rattle.mq_calls.specs.Recovery.{IsImage, AreKnown}
 use Rattle.mq_spec_manager.specs.Stops.{restart, started_record, started_need, calls_of_restart, CanReturn, CanReturnTold, Spent}
 use Rattle.mq_spec_log.specs.Applies.Start.{Later}
 use Rattle.mq_spec_log.specs.Bodies.{image}

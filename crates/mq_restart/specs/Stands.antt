@@ -3,12 +3,12 @@ use Rattle.std.specs.Prelude.{◌≡◌, ℕ, ◌+◌, ◌<◌, ◌^◌, Bool, t
 use Rattle.mq_log.specs.declared.images.Found.{Found}
 use Rattle.mq_log.specs.declared.images.Found.TheVariants.{Before, After, Other}
 use Rattle.mq_log.specs.State.{log_length}
-use Rattle.mq_spec_state.specs.State.{Plain, Running}
-use Rattle.mq_spec_state.specs.State.Running.{Up, Down}
+use Rattle.mq_calls.specs.State.{Plain, Running}
+use Rattle.mq_calls.specs.State.Running.{Up, Down}
 use Rattle.mq_spec_log.specs.Applies.Start.{Later}
 use Rattle.mq_law_image.specs.Tells.{Tells}
 use Rattle.mq_core.specs.Values.{LogBodies}
-use Rattle.mq_start.specs.Tells.{LogStood}
+use Rattle.mq_restart.specs.Tells.{LogStood}
 use Rattle.mq_restart.specs.declared.reading.LogRead.{LogRead}
 use Rattle.mq_restart.specs.declared.reading.LogRead.TheVariants.{Unread, Known, Foreign}
 

@@ -1,15 +1,15 @@
 //! What a restart that is refused leaves.
 ghost use Rattle.std.specs.Prelude.{◌≡◌, ◌+◌, ◌^◌, ◌<◌, false};
-ghost use Rattle.mq_spec_state.specs.Words.{is_up};
+ghost use Rattle.mq_calls.specs.Words.{is_up};
 ghost use Rattle.mq_core.specs.Views.{plain_of};
 ghost use Rattle.mq_restart.specs.Falls.{fallen_mode, read_noted, left_by, fallen, starts_of};
 
+use crate::raising::Unraised;
 use crate::reading::{LogRead, is_kept, read_found};
 use mq_calls::RestartFault;
 use mq_core::{Mode, Parts, ReadLog};
 use mq_disk::Disk;
 use mq_log::Found;
-use mq_start::Unraised;
 
 /// The length that the log of a manager that is down had at the stop, in bytes.
 pub(crate) fn length_at_stop<D: Disk>(parts: &Parts<D>) -> u64

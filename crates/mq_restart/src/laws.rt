@@ -2,10 +2,10 @@
 ghost use Rattle.std.specs.Prelude.{◌≡◌, ℕ, ◌+◌, true, List, ◌∷◌, Option, Some, None, length};
 ghost use Rattle.mq_calls.specs.declared.records.LogRecord.{LogRecord};
 ghost use Rattle.mq_record.specs.Records.{record_bytes};
-ghost use Rattle.mq_spec_state.specs.Sizes.{need};
-ghost use Rattle.mq_spec_state.specs.State.{Plain};
-ghost use Rattle.mq_spec_state.specs.State.Running.{Up};
-ghost use Rattle.mq_spec_state.specs.Steps.{Part, freeze, note_of};
+ghost use Rattle.mq_calls.specs.Sizes.{need};
+ghost use Rattle.mq_calls.specs.State.{Plain};
+ghost use Rattle.mq_calls.specs.State.Running.{Up};
+ghost use Rattle.mq_calls.specs.Steps.{Part, freeze, note_of};
 ghost use Rattle.mq_spec_manager.specs.Stops.{advance_clock, cut, stop};
 ghost use Rattle.mq_spec_log.specs.Applies.{is_in_bounds};
 ghost use Rattle.mq_spec_log.specs.Applies.Start.{Later};

@@ -1,11 +1,12 @@
 //! A manager that is down comes up from its log, or stays down.
 ghost use Rattle.std.specs.Prelude.{◌≡◌, [], None, false, if◌then◌else◌, MatchResult};
-ghost use Rattle.mq_spec_state.specs.Words.{is_up};
+ghost use Rattle.mq_calls.specs.Words.{is_up};
 ghost use Rattle.mq_redo.specs.Redone.{redone_of};
 ghost use Rattle.mq_restart.specs.Stands.{LogStands, CanStart};
 ghost use Rattle.mq_restart.specs.Returned.{CameUp, Stayed, Passes};
 
 use crate::falling::{cut_left, fall, incarnation, length_at_stop};
+use crate::raising::raise;
 use crate::reading::{
     LogRead, Returned, Unreturned, is_kept, read_fallen, read_found, read_up, returned_as,
 };
@@ -13,7 +14,6 @@ use mq_calls::RestartFault;
 use mq_core::Core;
 use mq_disk::Disk;
 use mq_redo::tell_redone;
-use mq_start::raise;
 use mq_unit::Effects;
 
 fn keep_if(effects: &mut Effects, kept: bool)

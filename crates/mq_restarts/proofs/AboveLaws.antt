@@ -6,9 +6,9 @@ use Rattle.std.proofs.lemmas.Bool.Decides.{nat_tests}
 use Rattle.mq_calls.specs.declared.records.LogRecord.{LogRecord}
 use Rattle.mq_frame.specs.Reading.{IsBytes}
 use Rattle.mq_record.specs.Records.{record_bytes, IsRecord}
-use Rattle.mq_spec_state.specs.State.{Given, LogState}
-use Rattle.mq_spec_state.specs.Images.{Image, Shelf, lasting, begun, raised}
-use Rattle.mq_spec_state.specs.Recovery.{IsImage, AreKnown}
+use Rattle.mq_calls.specs.State.{Given, LogState}
+use Rattle.mq_calls.specs.Images.{Image, Shelf, lasting, begun, raised}
+use Rattle.mq_calls.specs.Recovery.{IsImage, AreKnown}
 use Rattle.mq_spec_manager.specs.Stops.{first_start, started_record}
 use Rattle.mq_spec_log.specs.Applies.{applies, is_in_bounds}
 use Rattle.mq_spec_log.specs.Applies.Start.{Later}

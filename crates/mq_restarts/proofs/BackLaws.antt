@@ -6,16 +6,16 @@ use Rattle.mq_calls.specs.declared.deltas.Did.{Did}
 use Rattle.mq_calls.specs.declared.choices.Return.TheVariants.{Comes}
 use Rattle.mq_log.specs.declared.images.Found.{Found}
 use Rattle.mq_log.specs.declared.images.Found.TheVariants.{Before, After, Other}
-use Rattle.mq_spec_state.specs.State.{Plain, Running}
-use Rattle.mq_spec_state.specs.State.Running.{Up, Down}
-use Rattle.mq_spec_state.specs.Images.{Image}
-use Rattle.mq_spec_state.specs.Counts.{starts_of as starts_in}
-use Rattle.mq_spec_state.specs.Words.{is_up}
+use Rattle.mq_calls.specs.State.{Plain, Running}
+use Rattle.mq_calls.specs.State.Running.{Up, Down}
+use Rattle.mq_calls.specs.Images.{Image}
+use Rattle.mq_calls.specs.Counts.{starts_of as starts_in}
+use Rattle.mq_calls.specs.Words.{is_up}
 use Rattle.mq_core.specs.Ties.{Tied}
 use Rattle.mq_core.specs.Values.{CoreValue, bodies_in}
 use Rattle.mq_core.specs.Views.{PartsValue, plain_of, frozen_of}
-use Rattle.mq_start.specs.declared.raising.Unraised.{Unraised}
-use Rattle.mq_start.specs.Raised.{Raises}
+use Rattle.mq_restart.specs.declared.raising.Unraised.{Unraised}
+use Rattle.mq_restart.specs.Raised.{Raises}
 use Rattle.mq_redo.specs.Redone.{redone_of}
 use Rattle.mq_restart.specs.declared.reading.LogRead.{LogRead}
 use Rattle.mq_restart.specs.declared.reading.LogRead.TheVariants as reads

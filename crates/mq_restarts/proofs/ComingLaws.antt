@@ -5,16 +5,16 @@ use Rattle.mq_calls.specs.declared.commands.RestartFault.TheVariants as faults
 use Rattle.mq_log.specs.declared.images.Found.{Found}
 use Rattle.mq_log.specs.State.{LogState}
 use Rattle.mq_spec_log.specs.Applies.Start.{Later}
-use Rattle.mq_spec_state.specs.Images.{Image}
+use Rattle.mq_calls.specs.Images.{Image}
 use Rattle.mq_recover.specs.declared.recovery.RecoverFault.TheVariants as recovers
 use Rattle.mq_rebuild.specs.declared.building.Built.{Built}
 use Rattle.mq_rebuild.specs.Rebuilt.{IsBuilt}
 use Rattle.mq_core.specs.Views.{PartsValue}
-use Rattle.mq_start.specs.declared.raising.Unraised.{Unraised}
-use Rattle.mq_start.specs.Begun.{given_by, IsReadFrom, IsUnread, IsFresh}
-use Rattle.mq_start.specs.Raised.{given_of, with_log, HasRead, Raises, Fell}
-use Rattle.mq_start.specs.Raised.Fell.{Unread, Unstarted as WasUnstarted}
-use Rattle.mq_start.specs.Raised.HasHalted.{Halted}
+use Rattle.mq_restart.specs.declared.raising.Unraised.{Unraised}
+use Rattle.mq_restart.specs.Begun.{given_by, IsReadFrom, IsUnread, IsFresh}
+use Rattle.mq_restart.specs.Raised.{given_of, with_log, HasRead, Raises, Fell}
+use Rattle.mq_restart.specs.Raised.Fell.{Unread, Unstarted as WasUnstarted}
+use Rattle.mq_restart.specs.Raised.HasHalted.{Halted}
 use Rattle.mq_restart.specs.declared.reading.LogRead.{LogRead}
 use Rattle.mq_restart.specs.Stands.{read_found}
 use Rattle.mq_restarts.specs.Comings.{is_foreign, IsToldBy, IsStopped, Halts, Wants, Breaks, IsUnmade, Unmade, Unstarted, ComesOwn, StaysOwn, StaysFar, StaysAs, StaysBack, Unopened, Reread, above}

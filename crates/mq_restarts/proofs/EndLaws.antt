@@ -11,16 +11,16 @@ use Rattle.mq_log.specs.declared.images.Found.{Found}
 use Rattle.mq_log.specs.Force.{Stops}
 use Rattle.mq_log.specs.Open.{EndsByOneOrThree}
 use Rattle.mq_log.specs.State.{LogState, log_length}
-use Rattle.mq_spec_state.specs.State.{Plain, Noted, Running}
-use Rattle.mq_spec_state.specs.State.Running.{Up, Down}
+use Rattle.mq_calls.specs.State.{Plain, Noted, Running}
+use Rattle.mq_calls.specs.State.Running.{Up, Down}
 use Rattle.mq_spec_manager.specs.Stops.{CanReturn, failed, restart_at}
 use Rattle.mq_core.specs.declared.parts.Mode.{Mode}
 use Rattle.mq_core.specs.Ties.{Tied, mode_is_up}
 use Rattle.mq_core.specs.Values.{CoreValue, LogBodies}
 use Rattle.mq_core.specs.Views.{PartsValue, plain_of, frozen_of, noted, read_length}
-use Rattle.mq_start.specs.declared.raising.Unraised.{Unraised}
-use Rattle.mq_start.specs.Raised.{with_log, starts_after, stop_fault}
-use Rattle.mq_start.proofs.FallLaws.{spent_of}
+use Rattle.mq_restart.specs.declared.raising.Unraised.{Unraised}
+use Rattle.mq_restart.specs.Raised.{with_log, starts_after, stop_fault}
+use Rattle.mq_restart.proofs.FallLaws.{spent_of}
 use Rattle.mq_restart.specs.declared.reading.LogRead.{LogRead}
 use Rattle.mq_restart.specs.declared.reading.LogRead.TheVariants as reads
 use Rattle.mq_restart.specs.Stands.{read_found, read_fallen, LogStandsAt, LogStands}

@@ -10,10 +10,10 @@ use Rattle.mq_log.specs.Open.{EndsByOneOrThree}
 use Rattle.mq_log.specs.State.{LogState, log_length}
 use Rattle.mq_history.specs.declared.calls.Chance.TheVariants as chances
 use Rattle.mq_record.specs.Records.{record_bytes, IsRecord}
-use Rattle.mq_spec_state.specs.State.{Plain, Noted, Running, LogState as PlainLog}
-use Rattle.mq_spec_state.specs.State.Running.{Up, Down}
-use Rattle.mq_spec_state.specs.Images.{Image, begun, raised}
-use Rattle.mq_spec_state.specs.Counts.{starts_of}
+use Rattle.mq_calls.specs.State.{Plain, Noted, Running, LogState as PlainLog}
+use Rattle.mq_calls.specs.State.Running.{Up, Down}
+use Rattle.mq_calls.specs.Images.{Image, begun, raised}
+use Rattle.mq_calls.specs.Counts.{starts_of}
 use Rattle.mq_spec_manager.specs.Stops.{started_record, started_need, calls_of_restart, Spent}
 use Rattle.mq_spec_log.specs.Applies.Start.{Later}
 use Rattle.mq_spec_log.specs.Bodies.{image}
@@ -22,12 +22,12 @@ use Rattle.mq_law_image.specs.Tells.{Tells}
 use Rattle.mq_core.specs.Ties.{Tied}
 use Rattle.mq_core.specs.Values.{CoreValue, LogBodies, bodies_in}
 use Rattle.mq_core.specs.Views.{PartsValue, plain_of, frozen_of, noted}
-use Rattle.mq_start.specs.Begun.{given_by, begun_parts, IsFresh, IsStarted}
-use Rattle.mq_start.specs.Raised.{given_of, with_log, HasRead}
-use Rattle.mq_start.proofs.RaiseLaws.{tied_body}
-use Rattle.mq_start.proofs.RestartLaws.{redone_incarnation}
-use Rattle.mq_start.proofs.SeenLaws.{begun_seen}
-use Rattle.mq_start.proofs.TieLaws.{begun_tied}
+use Rattle.mq_restart.specs.Begun.{given_by, begun_parts, IsFresh, IsStarted}
+use Rattle.mq_restart.specs.Raised.{given_of, with_log, HasRead}
+use Rattle.mq_restart.proofs.RaiseLaws.{tied_body}
+use Rattle.mq_restart.proofs.RestartLaws.{redone_incarnation}
+use Rattle.mq_restart.proofs.SeenLaws.{begun_seen}
+use Rattle.mq_restart.proofs.TieLaws.{begun_tied}
 use Rattle.mq_restart.specs.declared.reading.LogRead.{LogRead}
 use Rattle.mq_restart.specs.declared.reading.LogRead.TheVariants as reads
 use Rattle.mq_restart.specs.Stands.{read_found, read_up, unread_if, LogStandsAt, LogStands, StandsUp}

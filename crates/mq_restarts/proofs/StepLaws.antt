@@ -6,8 +6,8 @@ use Rattle.mq_calls.specs.declared.commands.RestartFault.TheVariants as faults
 use Rattle.mq_frame.specs.Reading.{IsBytes}
 use Rattle.mq_log.specs.declared.images.Found.{Found}
 use Rattle.mq_log.specs.State.{LogState, log_length}
-use Rattle.mq_spec_state.specs.Images.{Image}
-use Rattle.mq_spec_state.specs.Recovery.{IsImage}
+use Rattle.mq_calls.specs.Images.{Image}
+use Rattle.mq_calls.specs.Recovery.{IsImage}
 use Rattle.mq_spec_log.specs.Applies.Start.{Later}
 use Rattle.mq_spec_log.specs.Bodies.{image}
 use Rattle.mq_recover.specs.declared.recovery.RecoverFault.{RecoverFault}
@@ -16,12 +16,12 @@ use Rattle.mq_rebuild.specs.declared.building.Built.{Built}
 use Rattle.mq_rebuild.specs.Rebuilt.{IsBuilt}
 use Rattle.mq_law_image.proofs.Recovered.{recovered}
 use Rattle.mq_core.specs.Views.{PartsValue}
-use Rattle.mq_start.specs.declared.raising.Unraised.{Unraised}
-use Rattle.mq_start.specs.Begun.{given_by, IsFresh, IsUnread}
-use Rattle.mq_start.specs.Raised.{given_of, with_log, read_fault, HasRead, HasHalted, IsRaised, IsUnraised, Fell}
-use Rattle.mq_start.specs.Raised.HasHalted.{Wanting, Halted}
-use Rattle.mq_start.proofs.LowLaws.{image_low}
-use Rattle.mq_start.proofs.ReadLaws.{is_unread}
+use Rattle.mq_restart.specs.declared.raising.Unraised.{Unraised}
+use Rattle.mq_restart.specs.Begun.{given_by, IsFresh, IsUnread}
+use Rattle.mq_restart.specs.Raised.{given_of, with_log, read_fault, HasRead, HasHalted, IsRaised, IsUnraised, Fell}
+use Rattle.mq_restart.specs.Raised.HasHalted.{Wanting, Halted}
+use Rattle.mq_restart.proofs.LowLaws.{image_low}
+use Rattle.mq_restart.proofs.ReadLaws.{is_unread}
 use Rattle.mq_restart.specs.declared.reading.LogRead.{LogRead}
 use Rattle.mq_restart.specs.Stands.{read_found}
 use Rattle.mq_restarts.specs.declared.coming.Coming.{Coming}

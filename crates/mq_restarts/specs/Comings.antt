@@ -6,19 +6,19 @@ use Rattle.mq_calls.specs.declared.commands.RestartFault.TheVariants as faults
 use Rattle.mq_frame.specs.Reading.{IsBytes}
 use Rattle.mq_log.specs.declared.images.Found.{Found}
 use Rattle.mq_log.specs.State.{LogState, log_length}
-use Rattle.mq_spec_state.specs.State.{Plain}
-use Rattle.mq_spec_state.specs.Counts.{starts_of}
-use Rattle.mq_spec_state.specs.Images.{Image}
-use Rattle.mq_spec_state.specs.Recovery.{IsImage, AreKnown}
+use Rattle.mq_calls.specs.State.{Plain}
+use Rattle.mq_calls.specs.Counts.{starts_of}
+use Rattle.mq_calls.specs.Images.{Image}
+use Rattle.mq_calls.specs.Recovery.{IsImage, AreKnown}
 use Rattle.mq_spec_log.specs.Applies.Start.{Later}
 use Rattle.mq_spec_log.specs.Bodies.{image}
 use Rattle.mq_recover.specs.declared.recovery.RecoverFault.{RecoverFault}
 use Rattle.mq_rebuild.specs.declared.building.Built.{Built}
 use Rattle.mq_rebuild.specs.Rebuilt.{IsBuilt}
 use Rattle.mq_core.specs.Views.{PartsValue}
-use Rattle.mq_start.specs.declared.raising.Unraised.{Unraised}
-use Rattle.mq_start.specs.Begun.{IsUnread}
-use Rattle.mq_start.specs.Raised.{given_of, with_log, read_fault, stop_fault, HasRead, IsHalted, IsRaised, Fell}
+use Rattle.mq_restart.specs.declared.raising.Unraised.{Unraised}
+use Rattle.mq_restart.specs.Begun.{IsUnread}
+use Rattle.mq_restart.specs.Raised.{given_of, with_log, read_fault, stop_fault, HasRead, IsHalted, IsRaised, Fell}
 use Rattle.mq_restart.specs.declared.reading.LogRead.{LogRead}
 use Rattle.mq_restart.specs.declared.reading.LogRead.TheVariants.{Unread, Known, Foreign}
 use Rattle.mq_restart.specs.Stands.{read_found}

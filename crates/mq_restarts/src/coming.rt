@@ -1,7 +1,7 @@
 //! A manager that is down comes up from what its log tells, whatever that is.
 ghost use Rattle.std.specs.Prelude.{◌≡◌, ◌+◌, ◌^◌, ◌<◌, false, Some, MatchResult};
-ghost use Rattle.mq_start.specs.Begun.{IsFresh};
-ghost use Rattle.mq_start.specs.Raised.{read_fault};
+ghost use Rattle.mq_restart.specs.Begun.{IsFresh};
+ghost use Rattle.mq_restart.specs.Raised.{read_fault};
 ghost use Rattle.mq_restarts.specs.Comings.{ComesOwn, ComesFar, StaysOwn, StaysFar, ComesBack, StaysBack};
 
 use crate::images::{above, image_of};
@@ -12,8 +12,7 @@ use mq_core::Parts;
 use mq_disk::Disk;
 use mq_log::Found;
 use mq_recover::RecoverFault;
-use mq_restart::LogRead;
-use mq_start::Unraised;
+use mq_restart::{LogRead, Unraised};
 
 /// What a restart found that came up, and the image of a log that was changed from outside.
 #[derive(Drop)]

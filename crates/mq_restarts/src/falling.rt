@@ -7,8 +7,7 @@ use mq_calls::RestartFault;
 use mq_core::{Mode, Parts, ReadLog};
 use mq_disk::Disk;
 use mq_log::Found;
-use mq_restart::LogRead;
-use mq_start::Unraised;
+use mq_restart::{LogRead, Unraised};
 
 fn fallen_mode(mode: Mode, read: Option<ReadLog>, in_write: bool) -> Mode
     requires few { starts_of mode + 1 < 2 ^ 64 }

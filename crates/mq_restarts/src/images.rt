@@ -5,15 +5,15 @@ ghost use Rattle.mq_frame.specs.Reading.{IsBytes};
 ghost use Rattle.mq_spec_log.specs.Applies.Start.{Later};
 ghost use Rattle.mq_spec_log.specs.Bodies.{image};
 ghost use Rattle.mq_recover.specs.Found.{Recovers};
-ghost use Rattle.mq_start.specs.Begun.{given_by, IsUnread};
-ghost use Rattle.mq_start.specs.Raised.{given_of};
+ghost use Rattle.mq_restart.specs.Begun.{given_by, IsUnread};
+ghost use Rattle.mq_restart.specs.Raised.{given_of};
 ghost use Rattle.mq_restarts.specs.Comings.{above, IsToldBy};
 
+use mq_base::QName;
 use mq_calls::Image;
 use mq_core::Parts;
 use mq_disk::Disk;
 use mq_log::Log;
-use mq_name::QName;
 use mq_recover::{RecoverFault, Start, image};
 use std::alloc::Global;
 

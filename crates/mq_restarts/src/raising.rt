@@ -1,8 +1,8 @@
 //! A manager that is down reads its log again, and its Started record is forced behind what was built.
 ghost use Rattle.std.specs.Prelude.{◌≡◌, ◌+◌, ◌^◌, ◌<◌, Some, MatchResult};
-ghost use Rattle.mq_start.specs.Begun.{IsFresh};
-ghost use Rattle.mq_start.specs.Raised.{raised_parts, start_fault, stop_fault, Fell, IsRaised, IsUnraised};
-ghost use Rattle.mq_spec_state.specs.Recovery.{IsImage};
+ghost use Rattle.mq_restart.specs.Begun.{IsFresh};
+ghost use Rattle.mq_restart.specs.Raised.{raised_parts, start_fault, stop_fault, Fell, IsRaised, IsUnraised};
+ghost use Rattle.mq_calls.specs.Recovery.{IsImage};
 ghost use Rattle.mq_restarts.specs.Comings.{IsReread, Rises, Halts};
 
 use mq_base::Items;
@@ -13,7 +13,7 @@ use mq_handles::Live;
 use mq_log::{Found, StartFault};
 use mq_rebuild::{Built, build};
 use mq_record::started_bytes;
-use mq_start::Unraised;
+use mq_restart::Unraised;
 
 fn start_fault(fault: StartFault) -> RestartFault
     ensures { result ≡ start_fault fault }

@@ -2,7 +2,7 @@
 ghost use Rattle.std.specs.Prelude.{◌≡◌, IfSome};
 ghost use Rattle.mq_core.specs.Views.{plain_of};
 ghost use Rattle.mq_restart.specs.Stands.{is_kept, read_found, read_up, read_fallen};
-ghost use Rattle.mq_spec_state.specs.Counts.{starts_of};
+ghost use Rattle.mq_calls.specs.Counts.{starts_of};
 ghost use Rattle.mq_restarts.specs.Comings.{is_foreign, IsFirstAbove};
 
 use mq_core::{Mode, Parts};

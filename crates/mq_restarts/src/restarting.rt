@@ -1,6 +1,6 @@
 //! The call `restart` of a queue manager.
 ghost use Rattle.std.specs.Prelude.{◌≡◌, ◌-◌, [], None, false, if◌then◌else◌, MatchResult};
-ghost use Rattle.mq_spec_state.specs.Words.{is_up};
+ghost use Rattle.mq_calls.specs.Words.{is_up};
 ghost use Rattle.mq_redo.specs.Redone.{redone_of};
 ghost use Rattle.mq_restart.specs.Stands.{LogStands};
 ghost use Rattle.mq_restart.specs.Returned.{Stayed, Passes};

@@ -1,7 +1,6 @@
 //! What a rules table says. Source: IBM MQ, "The dead-letter queue handler rules table".
 
-use mq_base::Items;
-use mq_name::QName;
+use mq_base::{Items, QName};
 
 /// A text that a rule tests.
 #[derive(Clone, Copy, Debug, PartialEq, Eq)]

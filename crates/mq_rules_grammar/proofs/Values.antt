@@ -2,8 +2,8 @@
 use Rattle.std.proofs.Common.{◌≡◌, ℕ, ℤ, Bool, true, false, cond, List, [], Result, Ok, Err, refl, sym, ◌∙◌}
 use Rattle.std.specs.Prelude.{Option, Some, None, codes}
 use Rattle.std.specs.Str.{bytes_eq}
-use Rattle.mq_name.specs.declared.fault.NameFault.{NameFault}
-use Rattle.mq_name.specs.Name.{name_of}
+use Rattle.mq_base.specs.declared.fault.NameFault.{NameFault}
+use Rattle.mq_base.specs.Name.{name_of}
 use Rattle.mq_text.specs.declared.numbers.NumberFault.{NumberFault}
 use Rattle.mq_text.specs.Numbers.{number_in, signed_of}
 use Rattle.mq_rules.specs.declared.rule.NumberField.{NumberField}

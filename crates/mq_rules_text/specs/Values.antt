@@ -2,8 +2,8 @@
 use Rattle.std.specs.Prelude.{ℕ, ℤ, pos, ◌==◌, Bool, true, false, List, [], codes, if◌then◌else◌, Option, Some, None, Result, Ok, Err}
 use Rattle.std.specs.List.{list_all}
 use Rattle.std.specs.Str.{bytes_eq}
-use Rattle.mq_name.specs.declared.fault.NameFault.{NameFault}
-use Rattle.mq_name.specs.Name.{name_of}
+use Rattle.mq_base.specs.declared.fault.NameFault.{NameFault}
+use Rattle.mq_base.specs.Name.{name_of}
 use Rattle.mq_codes.specs.declared.reason.Reason.{Reason}
 use Rattle.mq_codes.specs.Numbers.{number, of_name}
 use Rattle.mq_text.specs.declared.numbers.NumberFault.{NumberFault}

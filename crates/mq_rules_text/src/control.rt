@@ -8,7 +8,7 @@ use crate::fault::Flaw;
 use crate::keyword::Keyword;
 use crate::pairs::{Pair, all_allowed, distinct};
 use crate::values::{name_or_blank, ranged, wait_of};
-use mq_name::QName;
+use mq_base::QName;
 use mq_rules::Wait;
 
 /// What the control entry says.

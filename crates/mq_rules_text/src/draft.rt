@@ -8,8 +8,7 @@ use crate::fault::Flaw;
 use crate::keyword::Keyword;
 use crate::pairs::{Pair, all_allowed, distinct};
 use crate::values::{Verb, manager_target, number_value, queue_target, ranged, verb_of, yes_or_no};
-use mq_base::Items;
-use mq_name::QName;
+use mq_base::{Items, QName};
 use mq_rules::{Action, Condition, Forward, NumberField, Rule, Target};
 use std::alloc::Global;
 

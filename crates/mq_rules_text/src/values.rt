@@ -5,8 +5,8 @@ ghost use Rattle.mq_codes.specs.Numbers.{number};
 ghost use Rattle.mq_rules_text.specs.Values.{name_value, name_or_blank, is_blank, field_target, queue_target, manager_target, symbol_of, number_value, ranged, yes_or_no, verb_of, wait_of};
 
 use crate::fault::Flaw;
+use mq_base::QName;
 use mq_codes::Reason;
-use mq_name::QName;
 use mq_rules::{NumberField, Target, Wait};
 use mq_text::{number, signed};
 

@@ -6,8 +6,8 @@ use Rattle.mq_history.specs.declared.history.History.{History}
 use Rattle.mq_history.specs.declared.scenario.ManagerLine.{ManagerLine}
 use Rattle.mq_history.specs.declared.scenario.Scenario.{Scenario}
 use Rattle.mq_log.specs.State.{log_length}
-use Rattle.mq_spec_state.specs.State.{Given}
-use Rattle.mq_spec_state.specs.Recovery.{AreKnown, IsImage}
+use Rattle.mq_calls.specs.State.{Given}
+use Rattle.mq_calls.specs.Recovery.{AreKnown, IsImage}
 use Rattle.mq_spec_log.specs.Bodies.{image}
 use Rattle.mq_spec_node.specs.Node.{Own}
 use Rattle.mq_spec_node.specs.Openings.{first_node}
@@ -23,7 +23,7 @@ use Rattle.mq_law_ran.proofs.Lawfuls as lawfuls
 use Rattle.mq_spec_network.specs.Given.{surroundings}
 use Rattle.mq_spec_node.specs.Node.{Node}
 use Rattle.mq_spec_node.specs.Replays.{state_of}
-use Rattle.mq_spec_state.specs.State.{Plain}
+use Rattle.mq_calls.specs.State.{Plain}
 use Rattle.mq_standing.specs.Stands.{cables_standing, manager_standing}
 use Rattle.mq_world.specs.Starting.{IsFresh}
 use Rattle.mq_run.specs.Ends.{RanOn}

@@ -2,7 +2,7 @@
 use Rattle.std.specs.Prelude.{◌≡◌, ◌≤◌, ◌+◌, ℕ, List, [], Some, map, slice_get}
 use Rattle.mq_core.specs.Values.{CoreValue}
 use Rattle.mq_history.specs.declared.history.History.{History}
-use Rattle.mq_spec_state.specs.Recovery.{AreKnown, IsImage}
+use Rattle.mq_calls.specs.Recovery.{AreKnown, IsImage}
 use Rattle.mq_spec_manager.specs.Stops.{last_moment}
 use Rattle.mq_net_stands.specs.declared.standing.ManagerStanding.{ManagerStanding}
 use Rattle.mq_net_stands.specs.declared.standing.Standing.{Standing}

@@ -6,9 +6,8 @@ ghost use Rattle.mq_sc_apply.specs.Displayed.{is_meant, searched_space, has_name
 ghost use Rattle.mq_sc_apply.specs.Commands.{Gives};
 
 use crate::in_use::InUse;
-use mq_base::Items;
+use mq_base::{Items, QName};
 use mq_calls::{ScRefusal, Shown};
-use mq_name::QName;
 use mq_objects::{
     Defs, Display, How, Keyword, LocalQueue, ManagerAttributes, NameSpace, Object, Style, Subjects,
     write_number,

@@ -2,7 +2,7 @@
 ghost use Rattle.std.specs.Prelude.{◌≡◌};
 ghost use Rattle.mq_sc_apply.specs.Uses.{Uses};
 
-use mq_name::{ChName, QName};
+use mq_base::{ChName, QName};
 
 /// What the rest of a manager knows of the use of its objects.
 pub trait InUse {

@@ -1,7 +1,7 @@
 -- The command of a line.
 use Rattle.std.specs.Prelude.{ℕ, ◌-◌, ◌==◌, Bool, true, false, min, List, [], ◌∷◌, length, take, drop, slice_get, is_some, if◌then◌else◌, Option, Some, None, Result, Ok, Err, codes}
 use Rattle.std.specs.Option.{option_map}
-use Rattle.mq_name.specs.Name.{name_of}
+use Rattle.mq_base.specs.Name.{name_of}
 use Rattle.mq_sync.specs.declared.unit.Settle.{Settle}
 use Rattle.mq_sync.specs.declared.unit.Settle.TheVariants as settles
 use Rattle.mq_objects.specs.declared.setting.Keyword.{Keyword}

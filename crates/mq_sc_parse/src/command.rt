@@ -1,6 +1,6 @@
 //! What a command is.
 
-use mq_name::ChName;
+use mq_base::ChName;
 use mq_sync::Settle;
 
 /// A command on a channel's end. Source: MQSC reference, START, STOP, RESET and RESOLVE CHANNEL.

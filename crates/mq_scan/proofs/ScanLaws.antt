@@ -7,8 +7,8 @@ use Rattle.mq_message.specs.declared.place.Want.{Want}
 use Rattle.mq_queue.specs.declared.row.Row.{Row}
 use Rattle.mq_queue.specs.Rows.{is_free, is_wanted, is_before, is_after, same_place}
 use Rattle.mq_queue.specs.Queues.{AllBehind, AreInOrder, is_fitting, is_takable, is_at}
-use Rattle.mq_spec_state.specs.State.{Plain}
-use Rattle.mq_spec_state.specs.Reads.{is_past, is_expired}
+use Rattle.mq_calls.specs.State.{Plain}
+use Rattle.mq_calls.specs.Reads.{is_past, is_expired}
 use Rattle.mq_queue.proofs.StopLaws.{keep_filter}
 use Rattle.mq_calls.specs.declared.answers.Get.{Get}
 use Rattle.mq_calls.specs.declared.answers.Take.{Take}

@@ -1,8 +1,8 @@
 //! The scan of a get over the rows of one queue.
 ghost use Rattle.std.specs.Prelude.{◌≡◌, ◌++◌, ◌∷◌, [], map, filter, option_to_list, option_copied, IfOk, OnOk};
 ghost use Rattle.mq_queue.specs.Rows.{is_free, is_persistent};
-ghost use Rattle.mq_spec_state.specs.State.{Plain};
-ghost use Rattle.mq_spec_state.specs.Reads.{is_past};
+ghost use Rattle.mq_calls.specs.State.{Plain};
+ghost use Rattle.mq_calls.specs.Reads.{is_past};
 ghost use Rattle.mq_spec_manager.specs.Get.{any_id, is_at, is_under};
 ghost use Rattle.mq_place.specs.States.{rows_after};
 ghost use Rattle.mq_scan.specs.Scans.{scan_of, scanned_at, start_of, met_of};

@@ -7,9 +7,9 @@ use Rattle.std.proofs.Math.Seq.{take-length}
 use Rattle.std.proofs.lemmas.Bool.{and_parts, and_from, cond-true, cond-false}
 use Rattle.std.proofs.lemmas.Bool.Decides.{eqb_tells, leb_tells}
 use Rattle.std.proofs.lemmas.List.{length-append}
-use Rattle.mq_name.specs.declared.fault.NameFault.{NameFault}
-use Rattle.mq_name.specs.declared.fault.NameFault.TheVariants.{TooLong}
-use Rattle.mq_name.specs.Name.{is_name_byte, is_label_byte, IsName, IsLabel, name_or_bad, name_of, label_of}
+use Rattle.mq_base.specs.declared.fault.NameFault.{NameFault}
+use Rattle.mq_base.specs.declared.fault.NameFault.TheVariants.{TooLong}
+use Rattle.mq_base.specs.Name.{is_name_byte, is_label_byte, IsName, IsLabel, name_or_bad, name_of, label_of}
 use Rattle.mq_text.specs.Lines.{behind}
 use Rattle.mq_text.specs.Quoting.{doubled, quoted, quoted_len, undoubled, unquoted}
 use Rattle.mq_sc_grammar.proofs.Fronts.{quoted_ends, quoted_reads, quoted_front}

@@ -1,7 +1,7 @@
 -- Words with a value in brackets, labels, names, texts in quotes and numbers.
 use Rattle.std.specs.Prelude.{◌≡◌, ◌⊎◌, ℕ, ℤ, pos, ◌≤◌, ◌<◌, ◌^◌, true, List, [], ◌∷◌, ◌++◌, length}
 use Rattle.std.specs.Str.{str_to_ascii_uppercase}
-use Rattle.mq_name.specs.Name.{IsName, IsLabel}
+use Rattle.mq_base.specs.Name.{IsName, IsLabel}
 use Rattle.mq_text.specs.Quoting.{quoted}
 use Rattle.mq_text.specs.Numbers.{is_number, is_negative, value_of, after_sign, negated}
 use Rattle.mq_scn_lines.specs.declared.fault.LineFault.{LineFault}

@@ -10,9 +10,9 @@ ghost use Rattle.mq_scn_heading.specs.declared.heading.PartLine.TheVariants.{Net
 use crate::cables::cable_faults;
 use crate::lookup::{manager_at, manager_place, new_label};
 use crate::parts::{PartWord, Stage, allowed};
+use mq_base::{ChName, Label, QName};
 use mq_cable::Faults;
 use mq_history::{CableLine, ManagerLine, MonitorLine, Scenario};
-use mq_name::{ChName, Label, QName};
 use mq_scn_lines::{
     Limit, LineFault, both, bracketed, channel_in, is_open, name_in, ranged, words_of,
 };

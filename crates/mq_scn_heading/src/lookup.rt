@@ -3,8 +3,8 @@
 ghost use Rattle.std.specs.Prelude.{◌≡◌, ◌||◌};
 ghost use Rattle.mq_scn_heading.specs.Lookup.{known, manager_place, section_place, rules_place, script_place, monitor_place, manager_at, section_at, rules_at, script_at, monitor_at, is_declared, new_label, own_name};
 
+use mq_base::{Label, QName};
 use mq_history::{ManagerLine, MonitorLine, RulesPart, Scenario, ScriptPart, Section};
-use mq_name::{Label, QName};
 use mq_scn_lines::{LineFault, label_in, name_in};
 
 /// A place that was found.

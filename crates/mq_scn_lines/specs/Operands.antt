@@ -2,8 +2,8 @@
 use Rattle.std.specs.Prelude.{ℕ, ◌==◌, Bool, false, List, [], ◌∷◌, if◌then◌else◌, Option, Some, None, Result, Ok, Err}
 use Rattle.std.specs.List.{list_all}
 use Rattle.std.specs.Str.{str_to_ascii_uppercase}
-use Rattle.mq_name.specs.declared.fault.NameFault.{NameFault}
-use Rattle.mq_name.specs.Name.{name_of, label_of}
+use Rattle.mq_base.specs.declared.fault.NameFault.{NameFault}
+use Rattle.mq_base.specs.Name.{name_of, label_of}
 use Rattle.mq_text.specs.Lines.{behind}
 use Rattle.mq_scn_lines.specs.declared.fault.LineFault.{LineFault}
 use Rattle.mq_scn_lines.specs.declared.fault.LineFault.TheVariants as faults

@@ -6,7 +6,7 @@ ghost use Rattle.std.specs.Str.{str_to_ascii_uppercase};
 ghost use Rattle.mq_scn_lines.specs.Operands.{before_last, in_quotes, bracketed, label_in, name_in, is_blank, name_or_blank_in, folded_name};
 
 use crate::fault::LineFault;
-use mq_name::{ChName, Label, NameFault, QName};
+use mq_base::{ChName, Label, NameFault, QName};
 use mq_text::behind;
 
 /// The text without its last byte, where that is the byte given.

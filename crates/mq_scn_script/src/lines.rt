@@ -11,9 +11,9 @@ use crate::bodies::body_in;
 use crate::commands::command_in;
 use crate::options::{get_options, open_options, put_options};
 use crate::verbs::{ScriptVerb, verb_of};
+use mq_base::{Label, QName};
 use mq_calls::Open;
 use mq_history::{Body, PutOptions, ScriptLine};
-use mq_name::{Label, QName};
 use mq_scn_lines::{
     LineFault, both, bracketed, first_word, is_open, label_in, name_or_blank_in, ranged, words_of,
 };

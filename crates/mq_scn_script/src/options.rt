@@ -5,10 +5,10 @@ ghost use Rattle.mq_scn_lines.specs.Words.{texts_of};
 ghost use Rattle.mq_scn_lines.specs.Faults.{Reads};
 ghost use Rattle.mq_scn_script.specs.Options.{input_of, open_options, number_option, name_option, put_names, put_numbers, field_option, field_or, put_texts, persistence_of, put_options, take_of, room_of, wait_of, want_of, get_options};
 
+use mq_base::QName;
 use mq_calls::{Input, Open, Take};
 use mq_history::{GetOptions, PutOptions};
 use mq_message::Want;
-use mq_name::QName;
 use mq_scn_lines::{
     GET_OPTIONS, Limit, LineFault, LineOption, OPEN_OPTIONS, PUT_OPTIONS, are_options, both,
     field_in, name_or_blank_in, ranged, says, signed_number, value_of,

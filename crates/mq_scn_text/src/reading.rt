@@ -9,11 +9,10 @@ ghost use Rattle.mq_scn_text.specs.Reading.{nothing_read, is_only, is_comment, i
 use crate::fault::{Cause, ScenarioFault, fault_at};
 use crate::scripts::{Script, new_script, put_len, script_added, script_read};
 use crate::sections::{Opened, line_in, mqsc_cut, mqsc_ended, rules_cut, rules_ended, text_added};
-use mq_base::Items;
+use mq_base::{Items, Label};
 use mq_history::{
     CableLine, ManagerLine, MonitorLine, RulesPart, Scenario, ScriptLine, Section, Step,
 };
-use mq_name::Label;
 use mq_scn_heading::{PartLine, Stage, own_name, part_read, part_word_of, step_line};
 use mq_scn_lines::{Limit, LineFault, both, first_word};
 use mq_text::next_line;

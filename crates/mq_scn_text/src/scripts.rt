@@ -4,9 +4,8 @@ ghost use Rattle.std.specs.Prelude.{◌≡◌, IfOk};
 ghost use Rattle.mq_scn_lines.specs.Faults.{Reads};
 ghost use Rattle.mq_scn_text.specs.Scripts.{new_script, put_len, connects, connected_after, room, in_order, script_read, script_added};
 
-use mq_base::Items;
+use mq_base::{Items, Label};
 use mq_history::{ScriptLine, ScriptPart};
-use mq_name::Label;
 use mq_scn_lines::{Limit, LineFault, both};
 use mq_scn_script::{body_len, script_line};
 use std::alloc::{AllocError, Global};

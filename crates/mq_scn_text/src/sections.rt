@@ -5,9 +5,8 @@ ghost use Rattle.mq_scn_text.specs.Faults.{Gives};
 ghost use Rattle.mq_scn_text.specs.Sections.{line_in, command_fault, text_fault, rules_fault, command_at, commands_from, line_read, joined_from, section_read, mqsc_ended, rules_ended, mqsc_cut, rules_cut, text_added, last_in, goes_on_from, before_last};
 
 use crate::fault::{Cause, ScenarioFault};
-use mq_base::Items;
+use mq_base::{Items, Label, QName};
 use mq_history::{RulesPart, Section};
-use mq_name::{Label, QName};
 use mq_rules_text::{RulesFault, table};
 use mq_sc_lex::{Joined, LexFault, Line, Mark, join_lines, line_commands};
 use mq_sc_parse::{Command, ScFault, parse};

@@ -10,9 +10,9 @@ use Rattle.mq_queue.specs.declared.row.Row.{Row}
 use Rattle.mq_queue.specs.Rows.{same_ident, is_free, held_by, keep, retag}
 use Rattle.mq_queue.proofs.QueueLaws.{all_insert, all_keep, all_retag}
 use Rattle.mq_calls.specs.declared.image.Shelf.{Shelf}
-use Rattle.mq_spec_state.specs.State.Which.{Among, HeldBy}
-use Rattle.mq_spec_state.specs.Changes.{retag_if, new_row}
-use Rattle.mq_spec_state.specs.Images.{uncounted_message}
+use Rattle.mq_calls.specs.State.Which.{Among, HeldBy}
+use Rattle.mq_calls.specs.Changes.{retag_if, new_row}
+use Rattle.mq_calls.specs.Images.{uncounted_message}
 use Rattle.mq_spec_log.specs.Shelves.{shelf_in, set_shelf, on_all, shelved_in, less_rows, freed_row, freed_rows, held_rows}
 use Rattle.mq_shelves.specs.Holds.{removed_each, freed_each, or_no_idents, IsNoted, AreNoted}
 use Rattle.mq_shelves.proofs.StandLaws.{name_is, name_same}

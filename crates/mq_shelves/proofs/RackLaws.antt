@@ -18,8 +18,8 @@ use Rattle.mq_queue.specs.declared.row.Row.{Row}
 use Rattle.mq_queue.specs.Rows.{same_ident, has_ident}
 use Rattle.mq_queue.proofs.Edits.{same_is}
 use Rattle.mq_calls.specs.declared.image.Shelf.{Shelf}
-use Rattle.mq_spec_state.specs.Changes.{new_row}
-use Rattle.mq_spec_state.specs.Images.{uncounted_message}
+use Rattle.mq_calls.specs.Changes.{new_row}
+use Rattle.mq_calls.specs.Images.{uncounted_message}
 use Rattle.mq_spec_log.specs.Shelves.{shelf_in, set_shelf, shelved_in}
 use Rattle.mq_shelves.specs.declared.rack.Stand.{Stand}
 use Rattle.mq_shelves.specs.declared.spots.Spot.{Spot}

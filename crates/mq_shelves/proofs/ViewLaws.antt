@@ -8,8 +8,8 @@ use Rattle.mq_message.specs.declared.place.Holder.{Holder}
 use Rattle.mq_queue.specs.declared.row.Row.{Row}
 use Rattle.mq_queue.specs.Rows.{same_ident, has_ident, is_free, held_by, keep, retag}
 use Rattle.mq_calls.specs.declared.image.Shelf.{Shelf}
-use Rattle.mq_spec_state.specs.State.Which.{Among}
-use Rattle.mq_spec_state.specs.Changes.{retag_if}
+use Rattle.mq_calls.specs.State.Which.{Among}
+use Rattle.mq_calls.specs.Changes.{retag_if}
 use Rattle.mq_spec_log.specs.Shelves.{on_all, without_ident, less_rows, held_rows}
 use Rattle.mq_shelves.specs.Racks.{any_row, tagged, less_held, freed_held}
 

@@ -9,7 +9,7 @@ use Rattle.mq_message.specs.declared.place.Holder.TheVariants as holders
 use Rattle.mq_queue.specs.declared.row.Row.{Row}
 use Rattle.mq_queue.specs.Rows.{same_ident, held_by}
 use Rattle.mq_calls.specs.declared.image.Shelf.{Shelf}
-use Rattle.mq_spec_state.specs.State.Which.{Among}
+use Rattle.mq_calls.specs.State.Which.{Among}
 use Rattle.mq_spec_log.specs.Shelves.{on_all, held_rows}
 use Rattle.mq_shelves.specs.Racks.{less_held, freed_held}
 

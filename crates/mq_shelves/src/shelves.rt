@@ -6,7 +6,7 @@ ghost use Rattle.mq_message.specs.declared.place.Holder.TheVariants as holders;
 ghost use Rattle.mq_message.specs.declared.message.Ident.{Ident};
 ghost use Rattle.mq_queue.specs.Rows.{is_free};
 ghost use Rattle.mq_calls.specs.declared.image.Shelf.{Shelf};
-ghost use Rattle.mq_spec_state.specs.State.Which.{Among, HeldBy};
+ghost use Rattle.mq_calls.specs.State.Which.{Among, HeldBy};
 ghost use Rattle.mq_spec_log.specs.Applies.{is_free_at, is_held_among, is_elsewhere, stands_on, has_rows_on};
 ghost use Rattle.mq_spec_log.specs.Shelves.{shelf_in, set_shelf, on_all, shelved_in, less_rows, freed_rows, held_rows, without_ident};
 ghost use Rattle.mq_shelves.specs.Racks.{any_row};
@@ -14,10 +14,9 @@ ghost use Rattle.mq_shelves.specs.Holds.{held_each, removed_each, freed_each, or
 
 use crate::rows::Rows;
 use indexmap::IndexMap;
-use mq_base::{Items, NoMemory};
+use mq_base::{ChName, Items, NoMemory, QName};
 use mq_calls::Shelf;
 use mq_message::{Ident, Message};
-use mq_name::{ChName, QName};
 use std::alloc::Global;
 use std::marker::Model;
 

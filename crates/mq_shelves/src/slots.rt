@@ -15,9 +15,8 @@ ghost use Rattle.mq_shelves.specs.Slots.{born_of, place_of, slot_entries};
 
 use crate::rack::{Rack, Stand};
 use indexmap::IndexMap;
-use mq_base::NoMemory;
+use mq_base::{NoMemory, QName};
 use mq_message::Holder;
-use mq_name::QName;
 use mq_queue::Row;
 use std::alloc::Global;
 use std::collections::BTreeMap;

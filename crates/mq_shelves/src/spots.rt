@@ -6,9 +6,8 @@ ghost use Rattle.mq_shelves.specs.Spots.{key_of, spot_of};
 
 use crate::rack::Stand;
 use indexmap::IndexMap;
-use mq_base::NoMemory;
+use mq_base::{NoMemory, QName};
 use mq_message::Ident;
-use mq_name::QName;
 
 /// An ident as a key of a map.
 #[derive(Clone, Copy, PartialEq, Eq, Hash)]

@@ -2,7 +2,7 @@
 use Rattle.std.specs.Prelude.{◌≡◌, ℕ, ◌<◌, suc, length, slice_set, Bool, false, ◌||◌, Option, Some, None, List, [], ◌∷◌, if◌then◌else◌}
 use Rattle.std.specs.List.{remove}
 use Rattle.std.specs.Str.{bytes_eq}
-use Rattle.mq_spec_state.specs.Words.{comes_before}
+use Rattle.mq_calls.specs.Words.{comes_before}
 
 -- it has the name, or stands behind it
 abbrev pub is_there : {A : Type 0} → (A → List ℕ) → List ℕ → A → Bool

@@ -1,11 +1,10 @@
 //! What is kept for a channel, list by list.
 ghost use Rattle.std.specs.Prelude.{◌≡◌, option_copied, IfOk};
-ghost use Rattle.mq_spec_state.specs.Words.{batch_of, receiver_in, receiver_or, sender_or, seizure_of, sender_in};
+ghost use Rattle.mq_calls.specs.Words.{batch_of, receiver_in, receiver_or, sender_or, seizure_of, sender_in};
 
 use crate::sides::side_of;
-use mq_base::{Items, NoMemory};
+use mq_base::{ChName, Items, NoMemory, QName};
 use mq_calls::{Batch, ReceiverSide, Seizure, SenderSide};
-use mq_name::{ChName, QName};
 use mq_sync::{InDoubt, ReceiverData, SenderData, Unit};
 use std::alloc::Global;
 

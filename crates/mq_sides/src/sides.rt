@@ -1,12 +1,11 @@
 //! Lists by channel: found, set and dropped by the channel's name.
 ghost use Rattle.std.specs.Prelude.{◌≡◌, ℕ, List, find, filter, not, option_copied, slice_get, length, ◌<◌, ◌≤◌, IfOk, OnOk, OnErr};
 ghost use Rattle.std.specs.Str.{bytes_eq};
-ghost use Rattle.mq_spec_state.specs.Words.{comes_before, set_named};
+ghost use Rattle.mq_calls.specs.Words.{comes_before, set_named};
 ghost use Rattle.mq_sides.specs.Places.{is_of, is_there, place_in, CanUndo, undone};
 
-use mq_base::{Items, NoMemory};
+use mq_base::{ChName, Items, NoMemory};
 use mq_calls::{Batch, ReceiverSide, Seizure, SenderSide};
-use mq_name::ChName;
 use std::alloc::Global;
 
 /// What is kept for one channel.

@@ -9,8 +9,8 @@ use Rattle.mq_record.specs.Records.{IsRecord, IsOther, record_bytes}
 use Rattle.mq_record.specs.Reading.{record_at}
 use Rattle.mq_record.proofs.KindLaws.{record_again}
 use Rattle.mq_log.specs.Bodies.{frame}
-use Rattle.mq_spec_state.specs.State.{Given}
-use Rattle.mq_spec_state.specs.Images.{Image}
+use Rattle.mq_calls.specs.State.{Given}
+use Rattle.mq_calls.specs.Images.{Image}
 use Rattle.mq_spec_log.specs.Applies.{Start, applies}
 use Rattle.mq_spec_log.specs.Records.{doing}
 use Rattle.mq_spec_log.specs.Bodies.{meaning_of, record_of, behind, or_place, image_from, begins, empty_image, image}

@@ -9,8 +9,8 @@ use Rattle.mq_record.specs.declared.record.WrittenRecord.{WrittenRecord}
 use Rattle.mq_record.specs.declared.record.WrittenRecord.TheVariants as written
 use Rattle.mq_record.specs.Reading.{record_at}
 use Rattle.mq_log.specs.Bodies.{frame}
-use Rattle.mq_spec_state.specs.State.{Given}
-use Rattle.mq_spec_state.specs.Images.{Image}
+use Rattle.mq_calls.specs.State.{Given}
+use Rattle.mq_calls.specs.Images.{Image}
 use Rattle.mq_spec_log.specs.Records.{doing}
 use Rattle.mq_spec_log.specs.Applies.{Start, applies}
 use Rattle.mq_spec_log.specs.Texts.{change_in}

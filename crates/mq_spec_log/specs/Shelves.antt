@@ -12,11 +12,11 @@ use Rattle.mq_sync.specs.declared.data.ReceiverData.{ReceiverData}
 use Rattle.mq_sync.specs.Settlement.{sender_or, receiver_or}
 use Rattle.mq_calls.specs.declared.records.Add.{Add}
 use Rattle.mq_calls.specs.declared.records.Remove.{Remove}
-use Rattle.mq_spec_state.specs.State.{Which}
-use Rattle.mq_spec_state.specs.State.Which.{Among}
-use Rattle.mq_spec_state.specs.Reads.{sender_in, receiver_in}
-use Rattle.mq_spec_state.specs.Changes.{selects, lane_of, new_row, retag_if, off_lists, set_sender, set_receiver}
-use Rattle.mq_spec_state.specs.Images.{Shelf, Image, uncounted_message}
+use Rattle.mq_calls.specs.State.{Which}
+use Rattle.mq_calls.specs.State.Which.{Among}
+use Rattle.mq_calls.specs.Reads.{sender_in, receiver_in}
+use Rattle.mq_calls.specs.Changes.{selects, lane_of, new_row, retag_if, off_lists, set_sender, set_receiver}
+use Rattle.mq_calls.specs.Images.{Shelf, Image, uncounted_message}
 
 -- ---- shelves by name
 abbrev pub shelf_in : List ℕ → List Shelf → Shelf

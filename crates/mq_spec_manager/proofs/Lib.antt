@@ -7,3 +7,5 @@ mod RowsMeetings
 mod Laws
 mod LostWrites
 pub mod Accepted
+mod RowsChannels
+mod RowsStanding

@@ -1,6 +1,6 @@
 -- Worked rows, computed from the definitions.
 use Rattle.std.specs.Prelude.{◌≡◌, ℕ, pos, true, false, List, [], ◌∷◌, Some, None, Result, Ok, Err, replicate, codes, refl}
-use Rattle.mq_spec_state.specs.Words.{Reason, Md, Definitions, Route, Got, Answer, GetAnswer, Plain, depth, Step, next, Refuse, Do}
+use Rattle.mq_calls.specs.Words.{Reason, Md, Definitions, Route, Got, Answer, GetAnswer, Plain, depth, Step, next, Refuse, Do}
 use Rattle.mq_codes.specs.declared.reason.Reason.TheVariants as reasons
 use Rattle.mq_objects.specs.declared.object.Usage.TheVariants as usages
 use Rattle.mq_objects.specs.declared.setting.Setting.TheVariants as settings

@@ -2,7 +2,7 @@
 -- restart there are, by the device calls before an armed cut.
 use Rattle.std.specs.Prelude.{◌≡◌, ℕ, Bool, true, false, List, [], ◌∷◌, Some, None, map, codes, refl}
 use Rattle.std.proofs.Common.{arith, inl, inr}
-use Rattle.mq_spec_state.specs.Words.{Row, Plain, stored, with_queue, lasting, next}
+use Rattle.mq_calls.specs.Words.{Row, Plain, stored, with_queue, lasting, next}
 use Rattle.mq_calls.specs.declared.choices.Return.TheVariants.{Comes, Fails}
 use Rattle.mq_calls.specs.declared.commands.RestartFault.TheVariants as faults
 use Rattle.mq_spec_manager.specs.Put.{mqput}

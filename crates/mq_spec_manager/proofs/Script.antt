@@ -1,6 +1,6 @@
 -- Calls of a script, and what its report would show, for worked rows.
 use Rattle.std.specs.Prelude.{ℕ, ℤ, pos, negsuc, Bool, true, false, List, [], ◌∷◌, None, map, replicate, codes}
-use Rattle.mq_spec_state.specs.Words.{Reason, Ident, Md, Hconn, Hobj, Appl, Open, Answer, Sent, Got, Get, Take, GetAnswer, Image, Shelf, Object, LocalQueue, Definitions, Plain, stored, Step, next, Refuse, Do, Row, locals_of}
+use Rattle.mq_calls.specs.Words.{Reason, Ident, Md, Hconn, Hobj, Appl, Open, Answer, Sent, Got, Get, Take, GetAnswer, Image, Shelf, Object, LocalQueue, Definitions, Plain, stored, Step, next, Refuse, Do, Row, locals_of}
 use Rattle.mq_codes.specs.Numbers.{number}
 use Rattle.mq_objects.specs.Defaults.{nothing_defined}
 use Rattle.mq_objects.specs.declared.setting.Setting.{Setting}

@@ -1,7 +1,7 @@
 -- MQGET.
 use Rattle.std.specs.Prelude.{ℕ, pos, ◌+◌, ◌*◌, nat_lt, Bool, true, false, not, ◌&&◌, List, [], ◌∷◌, ◌++◌, if◌then◌else◌, Option, Some, None, length, map, filter, take, codes}
 use Rattle.std.specs.List.{list_any}
-use Rattle.mq_spec_state.specs.Words.{Reason, Ident, Dest, Md, Message, Place, Want, Object, Definitions, PathStep, Hconn, Hobj, Answer, Take, Get, Got, GetAnswer, Why, Remove, LogRecord, Connection, Handle, Plain, Among, stored, is_persistent, is_input, handle_at, is_expired, more_need, is_full, Step, Part, Test, when, tested, silent, say, Do, Row, is_free, is_wanted, is_after, same_place, queue_of}
+use Rattle.mq_calls.specs.Words.{Reason, Ident, Dest, Md, Message, Place, Want, Object, Definitions, PathStep, Hconn, Hobj, Answer, Take, Get, Got, GetAnswer, Why, Remove, LogRecord, Connection, Handle, Plain, Among, stored, is_persistent, is_input, handle_at, is_expired, more_need, is_full, Step, Part, Test, when, tested, silent, say, Do, Row, is_free, is_wanted, is_after, same_place, queue_of}
 use Rattle.mq_codes.specs.declared.reason.Reason.TheVariants as reasons
 use Rattle.mq_message.specs.declared.place.Holder.TheVariants as holders
 use Rattle.mq_objects.specs.declared.object.Object.TheVariants as objects
@@ -13,7 +13,7 @@ use Rattle.mq_calls.specs.declared.deltas.Did.TheVariants as did
 use Rattle.mq_calls.specs.declared.deltas.Why.TheVariants as reasons_gone
 use Rattle.mq_calls.specs.declared.records.LogRecord.TheVariants as records
 use Rattle.mq_calls.specs.declared.state.Item.TheVariants.{Take as Taken}
-use Rattle.mq_spec_state.specs.State.Change.{Leave, Hold, SetCursor, Pend}
+use Rattle.mq_calls.specs.State.Change.{Leave, Hold, SetCursor, Pend}
 use Rattle.mq_heads.specs.Headers.{xqh_bytes}
 use Rattle.mq_spec_manager.specs.Heads.{xqh_of}
 use Rattle.mq_spec_manager.specs.Handles.{connected, for_connection, for_handle}

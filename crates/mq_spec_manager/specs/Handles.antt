@@ -1,14 +1,14 @@
 -- Connections and handles: the connection check, MQCONN, MQOPEN, MQCLOSE.
 use Rattle.std.specs.Prelude.{ℕ, ◌+◌, ◌==◌, nat_le, Bool, false, not, ◌&&◌, ◌||◌, List, [], ◌∷◌, if◌then◌else◌, Option, Some, None, Result, Ok, Err, length}
 use Rattle.std.specs.Str.{bytes_eq}
-use Rattle.mq_spec_state.specs.Steps.{◌>>=◌}
-use Rattle.mq_spec_state.specs.Words.{none_of, Reason, LocalQueue, RouteEnd, Route, Hconn, Hobj, Appl, Answer, Input, Open, Connection, Handle, Plain, is_up, connection_at, handle_at, is_input, is_open_for_input, exclusive_handle, read_by_sender, has_held, Step, Test, when, tested, silent, Refuse, Do, local_of, is_transmission}
+use Rattle.mq_calls.specs.Steps.{◌>>=◌}
+use Rattle.mq_calls.specs.Words.{none_of, Reason, LocalQueue, RouteEnd, Route, Hconn, Hobj, Appl, Answer, Input, Open, Connection, Handle, Plain, is_up, connection_at, handle_at, is_input, is_open_for_input, exclusive_handle, read_by_sender, has_held, Step, Test, when, tested, silent, Refuse, Do, local_of, is_transmission}
 use Rattle.mq_codes.specs.declared.reason.Reason.TheVariants as reasons
 use Rattle.mq_resolve.specs.declared.route.RouteEnd.TheVariants.{Local, Via}
 use Rattle.mq_resolve.specs.Resolved.{resolve}
 use Rattle.mq_calls.specs.declared.answers.Answer.TheVariants as answers
 use Rattle.mq_calls.specs.declared.answers.Input.TheVariants as inputs
-use Rattle.mq_spec_state.specs.State.Change.{Connect, OpenHandle, CloseHandle}
+use Rattle.mq_calls.specs.State.Change.{Connect, OpenHandle, CloseHandle}
 
 -- The connection check. None, or another manager's; or of this incarnation while it runs, and no such connection lives.
 abbrev pub is_other : Hconn → Plain → Bool

@@ -8,3 +8,12 @@ pub mod Triggers
 pub mod Stops
 pub mod Words
 pub mod Waiting
+pub mod Seizing
+pub mod Batches
+pub mod Hardening
+pub mod Standing
+pub mod Landing
+pub mod Receiving
+pub mod Moves
+pub mod Conditions
+pub mod Agents

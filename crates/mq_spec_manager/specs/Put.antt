@@ -1,9 +1,9 @@
 -- MQPUT and MQPUT1.
 use Rattle.std.specs.Prelude.{ℕ, ℤ, pos, negsuc, ◌+◌, ◌*◌, ◌==◌, nat_lt, nat_le, Bool, true, false, not, ◌&&◌, List, [], ◌∷◌, ◌++◌, if◌then◌else◌, Option, Some, None, Result, Ok, Err, length}
 use Rattle.std.specs.List.{list_any, list_all}
-use Rattle.mq_name.specs.Name.{padded, name_of}
-use Rattle.mq_name.specs.declared.fault.NameFault.{NameFault}
-use Rattle.mq_spec_state.specs.Words.{Reason, Ident, Dest, Md, Message, LocalQueue, Object, Definitions, RouteEnd, PathStep, Route, Hconn, Hobj, Appl, Answer, Sent, Open, LogRecord, Connection, Handle, Plain, Change, is_int, is_persistent, handle_at, depth, put_bytes, more_need, is_full, Step, Part, Test, when, tested, Refuse, Do, queue_of, local_of}
+use Rattle.mq_base.specs.Name.{padded, name_of}
+use Rattle.mq_base.specs.declared.fault.NameFault.{NameFault}
+use Rattle.mq_calls.specs.Words.{Reason, Ident, Dest, Md, Message, LocalQueue, Object, Definitions, RouteEnd, PathStep, Route, Hconn, Hobj, Appl, Answer, Sent, Open, LogRecord, Connection, Handle, Plain, Change, is_int, is_persistent, handle_at, depth, put_bytes, more_need, is_full, Step, Part, Test, when, tested, Refuse, Do, queue_of, local_of}
 use Rattle.mq_codes.specs.declared.reason.Reason.TheVariants as reasons
 use Rattle.mq_objects.specs.declared.object.Object.TheVariants as objects
 use Rattle.mq_resolve.specs.declared.route.RouteEnd.TheVariants.{Local, Via}
@@ -14,7 +14,7 @@ use Rattle.mq_calls.specs.declared.answers.Input.TheVariants as inputs
 use Rattle.mq_calls.specs.declared.deltas.Did.TheVariants as did
 use Rattle.mq_calls.specs.declared.records.LogRecord.TheVariants as records
 use Rattle.mq_calls.specs.declared.state.Item.TheVariants.{Put}
-use Rattle.mq_spec_state.specs.State.Change.{Place, Try, Pend, CountIdent}
+use Rattle.mq_calls.specs.State.Change.{Place, Try, Pend, CountIdent}
 use Rattle.mq_clock.specs.Stamps.{put_date, put_time}
 use Rattle.mq_message.specs.Descriptor.{made_id}
 use Rattle.mq_spec_manager.specs.Heads.{trimmed}

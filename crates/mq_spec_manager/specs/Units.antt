@@ -1,12 +1,12 @@
 -- The ends of units: MQCMIT, MQBACK, MQDISC.
 use Rattle.std.specs.Prelude.{true, List, [], ◌∷◌, ◌++◌, if◌then◌else◌, Option, Some, None, flat_map}
-use Rattle.mq_spec_state.specs.Words.{Reason, Hconn, Answer, Did, Add, Remove, LogRecord, Connection, Item, Plain, Change, Among, is_persistent, Step, Part, Do}
+use Rattle.mq_calls.specs.Words.{Reason, Hconn, Answer, Did, Add, Remove, LogRecord, Connection, Item, Plain, Change, Among, is_persistent, Step, Part, Do}
 use Rattle.mq_calls.specs.declared.answers.Answer.TheVariants as answers
 use Rattle.mq_calls.specs.declared.deltas.Did.TheVariants as did
 use Rattle.mq_calls.specs.declared.deltas.Why.TheVariants as reasons_gone
 use Rattle.mq_calls.specs.declared.records.LogRecord.TheVariants as records
 use Rattle.mq_calls.specs.declared.state.Item.TheVariants.{Put, Take}
-use Rattle.mq_spec_state.specs.State.Change.{Leave, Release, EndUnit, Disconnect}
+use Rattle.mq_calls.specs.State.Change.{Leave, Release, EndUnit, Disconnect}
 use Rattle.mq_spec_manager.specs.Handles.{connected, for_connection}
 use Rattle.mq_spec_manager.specs.Put.{placed}
 

@@ -14,7 +14,7 @@ use Rattle.mq_history.specs.declared.calls.Call.TheVariants as calls
 use Rattle.mq_history.specs.declared.history.History.{History}
 use Rattle.mq_history.specs.declared.scenario.Scenario.{Scenario}
 use Rattle.mq_history.specs.declared.story.Conflict.{Conflict}
-use Rattle.mq_spec_state.specs.Reads.{stored, depth}
+use Rattle.mq_calls.specs.Reads.{stored, depth}
 use Rattle.mq_spec_manager.proofs.Script.{connection, handle, script_appl, persistent_md, ident_numbers}
 use Rattle.mq_spec_node.proofs.Pair.{Pair, pair, london, paris, at_london, at_paris, image, channel, at_sender, runs, rounds, turns, operate, start, stop_channel}
 use Rattle.mq_spec_network.specs.Story.{Line, weave}

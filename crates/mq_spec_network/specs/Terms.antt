@@ -55,7 +55,7 @@ pub use Rattle.mq_resolve.specs.declared.route.Route.{Route}
 pub use Rattle.mq_sc_parse.specs.declared.command.Command.{Command}
 pub use Rattle.mq_sender.specs.States.{new_sender}
 pub use Rattle.mq_sender.specs.declared.state.SenderState.{SenderState}
-pub use Rattle.mq_spec_agents.specs.Words.{bare_if, dead_message, names_of, stock}
+pub use Rattle.mq_spec_manager.specs.Agents.{bare_if, dead_message, names_of, stock}
 pub use Rattle.mq_spec_manager.specs.Commands.{definitions_after}
 pub use Rattle.mq_spec_manager.specs.Get.{is_destructive}
 pub use Rattle.mq_spec_manager.specs.Put.{Here, dest_at, handle_route, message_put, queue_at}
@@ -69,10 +69,10 @@ pub use Rattle.mq_spec_node.specs.Node.{ChannelEnd, Handler, Monitor, Node, Own,
 pub use Rattle.mq_spec_node.specs.Node.ChannelEnd.{Receives, Sends}
 pub use Rattle.mq_spec_node.specs.Replays.{NoneForeign, Replays, Surroundings, TriggersStand, after, opening_node}
 pub use Rattle.mq_spec_node.specs.Scripts.{AreLines, deadline, fresh, script_appl, until_of, wait_of}
-pub use Rattle.mq_spec_state.specs.Changes.{change_connection, lane_of, new_row}
-pub use Rattle.mq_spec_state.specs.Reads.{connection_at, handle_at, in_doubt_of, is_persistent, is_up, receiver_data, sender_data, stored}
-pub use Rattle.mq_spec_state.specs.Recovery.{IsImage}
-pub use Rattle.mq_spec_state.specs.State.{Given, Plain, Queue}
+pub use Rattle.mq_calls.specs.Changes.{change_connection, lane_of, new_row}
+pub use Rattle.mq_calls.specs.Reads.{connection_at, handle_at, in_doubt_of, is_persistent, is_up, receiver_data, sender_data, stored}
+pub use Rattle.mq_calls.specs.Recovery.{IsImage}
+pub use Rattle.mq_calls.specs.State.{Given, Plain, Queue}
 pub use Rattle.mq_sync.specs.Settlement.{receiver_or, sender_or}
 pub use Rattle.mq_sync.specs.Units.{no_unit, same_unit}
 pub use Rattle.mq_sync.specs.declared.data.InDoubt.{InDoubt}

@@ -21,10 +21,10 @@ use Rattle.mq_rules.specs.declared.rule.Condition.TheVariants as conditions
 use Rattle.mq_rules.specs.declared.rule.NumberField.TheVariants as numbers
 use Rattle.mq_rules.specs.declared.rule.Target.TheVariants as targets
 use Rattle.mq_rules.specs.declared.rule.Wait.TheVariants as waits
-use Rattle.mq_spec_state.specs.Reads.{stored}
+use Rattle.mq_calls.specs.Reads.{stored}
 use Rattle.mq_spec_manager.specs.Commands.{defined_object}
 use Rattle.mq_spec_manager.proofs.Script.{script_md, ident_numbers}
-use Rattle.mq_spec_agents.specs.Words.{dead_message}
+use Rattle.mq_spec_manager.specs.Agents.{dead_message}
 use Rattle.mq_spec_node.specs.Node.{Node}
 use Rattle.mq_spec_node.specs.Deeds.{Deed}
 use Rattle.mq_spec_node.specs.Happens.{event, deed_of}

@@ -5,9 +5,9 @@ use Rattle.mq_frame.specs.declared.frame.Seen.TheVariants as items
 use Rattle.mq_queue.specs.declared.row.Row.{Row}
 use Rattle.mq_receiver.specs.States.{receiver_of}
 use Rattle.mq_sync.specs.Units.{unit_named}
-use Rattle.mq_spec_state.specs.Reads.{stored}
-use Rattle.mq_spec_state.specs.Steps.{do_all}
-use Rattle.mq_spec_agents.specs.Words.{receive}
+use Rattle.mq_calls.specs.Reads.{stored}
+use Rattle.mq_calls.specs.Steps.{do_all}
+use Rattle.mq_spec_manager.specs.Agents.{receive}
 use Rattle.mq_spec_manager.proofs.Script.{script_md, ident_numbers}
 use Rattle.mq_spec_node.specs.Node.{Node, ReceiverEnd}
 use Rattle.mq_spec_node.specs.Deeds.{Deed}

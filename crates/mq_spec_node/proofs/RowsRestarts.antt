@@ -15,9 +15,9 @@ use Rattle.mq_history.specs.declared.calls.Chance.TheVariants as chances
 use Rattle.mq_history.specs.declared.calls.Reply.TheVariants as replies
 use Rattle.mq_history.specs.declared.calls.Call.{Call}
 use Rattle.mq_spec_manager.proofs.Script.{script_appl, connection, handle, plain_md, persistent_md, ident_numbers}
-use Rattle.mq_spec_state.specs.State.{Queue}
-use Rattle.mq_spec_state.specs.Reads.{stored}
-use Rattle.mq_spec_state.specs.Images.{lasting}
+use Rattle.mq_calls.specs.State.{Queue}
+use Rattle.mq_calls.specs.Reads.{stored}
+use Rattle.mq_calls.specs.Images.{lasting}
 use Rattle.mq_queue.specs.declared.row.Row.{Row}
 use Rattle.mq_message.specs.declared.message.Md.{Md}
 use Rattle.mq_calls.specs.declared.answers.Hconn.{Hconn}

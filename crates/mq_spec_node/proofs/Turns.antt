@@ -8,7 +8,7 @@ use Rattle.mq_history.specs.declared.calls.Call.{Call}
 use Rattle.mq_history.specs.declared.calls.Call.TheVariants as calls
 use Rattle.mq_sync.specs.declared.data.SenderData.{SenderData}
 use Rattle.mq_sync.specs.declared.data.ReceiverData.{ReceiverData}
-use Rattle.mq_spec_state.specs.Reads.{stored, sender_data, receiver_data}
+use Rattle.mq_calls.specs.Reads.{stored, sender_data, receiver_data}
 use Rattle.mq_spec_manager.proofs.Script.{connection, handle, script_appl, plain_md, ident_numbers}
 use Rattle.mq_spec_node.specs.Node.{Node}
 use Rattle.mq_spec_node.proofs.Pair.{Pair, pair, london, paris, at_paris, channel, at_sender, runs, rounds, turns, operate, start}

@@ -6,7 +6,7 @@ use Rattle.mq_frame.specs.declared.frame.Seen.TheVariants as items
 use Rattle.mq_calls.specs.declared.agents.Note.TheVariants as notes
 use Rattle.mq_receiver.specs.declared.turns.ReceiverDoes.TheVariants as does
 use Rattle.mq_receiver.specs.declared.turns.ReceiverOut.TheVariants as outs
-use Rattle.mq_spec_agents.specs.Words.{is_receiver}
+use Rattle.mq_spec_manager.specs.Agents.{is_receiver}
 use Rattle.mq_spec_node.specs.Node.{Node, Own, ReceiverEnd, with_end}
 use Rattle.mq_spec_node.specs.Node.ChannelEnd.{Receives}
 use Rattle.mq_spec_node.specs.Deeds.{Deed, parts_of, turned}

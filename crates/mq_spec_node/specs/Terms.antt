@@ -47,7 +47,7 @@ pub use Rattle.mq_message.specs.declared.message.Dest.{Dest}
 pub use Rattle.mq_message.specs.declared.message.Ident.{Ident}
 pub use Rattle.mq_message.specs.declared.message.Md.{Md}
 pub use Rattle.mq_message.specs.declared.message.Message.{Message}
-pub use Rattle.mq_name.specs.Name.{name_of, padded}
+pub use Rattle.mq_base.specs.Name.{name_of, padded}
 pub use Rattle.mq_objects.specs.Names.{channel_of, is_transmission, local_of, locals_of}
 pub use Rattle.mq_objects.specs.declared.object.Channel.{Channel}
 pub use Rattle.mq_objects.specs.declared.object.ChannelKind.{ChannelKind}
@@ -78,7 +78,7 @@ pub use Rattle.mq_sender.specs.declared.state.Sender.{Sender}
 pub use Rattle.mq_sender.specs.declared.state.SenderState.{SenderState}
 pub use Rattle.mq_sender.specs.declared.turns.SenderDoes.{SenderDoes}
 pub use Rattle.mq_sender.specs.declared.turns.SenderOut.{SenderOut}
-pub use Rattle.mq_spec_agents.specs.Words.{batch_row, discard, expire, harden, hold_batch, leave, messages_taken, move_row, names_of, prepare, receive, release_batch, seize, set_bound, stock}
+pub use Rattle.mq_spec_manager.specs.Agents.{batch_row, discard, expire, harden, hold_batch, leave, messages_taken, move_row, names_of, prepare, receive, release_batch, seize, set_bound, stock}
 pub use Rattle.mq_spec_manager.specs.Commands.{command}
 pub use Rattle.mq_spec_manager.specs.Get.{mqget}
 pub use Rattle.mq_spec_manager.specs.Handles.{connected as handles_connected, mqclose, mqconn, mqopen}
@@ -87,13 +87,13 @@ pub use Rattle.mq_spec_manager.specs.Put.{mqput, mqput1}
 pub use Rattle.mq_spec_manager.specs.Stops.{CanBeKept, CanReturn, Spent, advance_clock, calls_of_empty_start, calls_of_restart, cut, first_start, grown, last_moment, redone_if, restart, started_need, stop}
 pub use Rattle.mq_spec_manager.specs.Triggers.{first_due, trigger_turn}
 pub use Rattle.mq_spec_manager.specs.Units.{mqback, mqcmit, mqdisc}
-pub use Rattle.mq_spec_state.specs.Images.{begun, lasting, raised}
-pub use Rattle.mq_spec_state.specs.Reads.{in_doubt_of, is_up, receiver_data, sender_data, stored}
-pub use Rattle.mq_spec_state.specs.State.{Given, Noted, Plain, Running}
-pub use Rattle.mq_spec_state.specs.State.Running.{Down, Up}
-pub use Rattle.mq_spec_state.specs.Steps.{After, Outcome, Part, Possible, Step, Test, calls_of_write, delta_before, delta_of, do_all, refusal, stopped_at, when}
-pub use Rattle.mq_spec_state.specs.Steps.Outcome.{Answered, Broken, Refused, Wanting}
-pub use Rattle.mq_spec_state.specs.Steps.Step.{Do, Refuse}
+pub use Rattle.mq_calls.specs.Images.{begun, lasting, raised}
+pub use Rattle.mq_calls.specs.Reads.{in_doubt_of, is_up, receiver_data, sender_data, stored}
+pub use Rattle.mq_calls.specs.State.{Given, Noted, Plain, Running}
+pub use Rattle.mq_calls.specs.State.Running.{Down, Up}
+pub use Rattle.mq_calls.specs.Steps.{After, Outcome, Part, Possible, Step, Test, calls_of_write, delta_before, delta_of, do_all, refusal, stopped_at, when}
+pub use Rattle.mq_calls.specs.Steps.Outcome.{Answered, Broken, Refused, Wanting}
+pub use Rattle.mq_calls.specs.Steps.Step.{Do, Refuse}
 pub use Rattle.mq_sync.specs.Settlement.{is_commit, receiver_or, sender_or}
 pub use Rattle.mq_sync.specs.Units.{no_unit, unit_named, unit_text}
 pub use Rattle.mq_sync.specs.declared.data.Doubt.{Doubt}

@@ -9,8 +9,8 @@ use Rattle.mq_sync.specs.declared.unit.Unit.{Unit as Luw}
 use Rattle.mq_sync.specs.Settlement.{sender_or, receiver_or}
 use Rattle.mq_history.specs.declared.scenario.CableLine.{CableLine}
 use Rattle.mq_history.specs.declared.scenario.Scenario.{Scenario}
-use Rattle.mq_spec_state.specs.State.{Plain}
-use Rattle.mq_spec_state.specs.Reads.{depth, is_up, receiver_data, sender_data, stored}
+use Rattle.mq_calls.specs.State.{Plain}
+use Rattle.mq_calls.specs.Reads.{depth, is_up, receiver_data, sender_data, stored}
 use Rattle.mq_spec_node.specs.Node.{Node, ReceiverEnd, SenderEnd, receiver_end, sender_end}
 use Rattle.mq_net_stands.specs.declared.standing.CableStanding.{CableStanding}
 use Rattle.mq_net_stands.specs.declared.standing.ManagerStanding.{ManagerStanding}

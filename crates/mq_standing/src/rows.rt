@@ -1,11 +1,10 @@
 //! The rows of a queue, copied in order of place.
 ghost use Rattle.std.specs.Prelude.{◌≡◌, ◌++◌, ◌∷◌, [], IfOk, OnOk};
-ghost use Rattle.mq_spec_state.specs.Reads.{queue_in};
+ghost use Rattle.mq_calls.specs.Reads.{queue_in};
 ghost use Rattle.mq_place.specs.States.{queues_of};
 
-use mq_base::{Items, NoMemory};
+use mq_base::{Items, NoMemory, QName};
 use mq_message::{Bytes, Message};
-use mq_name::QName;
 use mq_place::{LocalRows, Queues};
 use mq_queue::{Queue, Row};
 use std::alloc::Global;

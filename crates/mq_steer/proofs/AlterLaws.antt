@@ -13,9 +13,9 @@ use Rattle.mq_objects.specs.Changed.{changed}
 use Rattle.mq_resolve.specs.declared.route.PathStep.TheVariants as steps
 use Rattle.mq_sc_apply.specs.declared.answers.Planned.{Planned}
 use Rattle.mq_sc_apply.specs.Planned.{same_delivery, same_usage}
-use Rattle.mq_spec_state.specs.State.{Queue as StateQueue, fresh_queue}
-use Rattle.mq_spec_state.specs.State.Change.{ChangeObjects}
-use Rattle.mq_spec_state.specs.Words.{Plain, Running, apply, apply_all, set_queue, queue_in, puts_to}
+use Rattle.mq_calls.specs.State.{Queue as StateQueue, fresh_queue}
+use Rattle.mq_calls.specs.State.Change.{ChangeObjects}
+use Rattle.mq_calls.specs.Words.{Plain, Running, apply, apply_all, set_queue, queue_in, puts_to}
 use Rattle.mq_spec_manager.specs.Commands.{object_part, follows, renewed_if, stale_if, switched_if}
 use Rattle.mq_law_manager.proofs.Commanding.{no_length}
 use Rattle.mq_handles.specs.Desks.{Desk}

@@ -13,8 +13,8 @@ use Rattle.mq_calls.specs.declared.commands.Halt.TheVariants as halts
 use Rattle.mq_calls.specs.declared.records.LogRecord.{LogRecord}
 use Rattle.mq_calls.specs.declared.records.LogRecord.TheVariants as records
 use Rattle.mq_sc_apply.specs.declared.answers.Planned.{Planned}
-use Rattle.mq_spec_state.specs.State.{LogState as PlainLog}
-use Rattle.mq_spec_state.specs.Words.{Plain, ManagerValue, MeetsOrWants, need, freeze, note_of, logged, apply_all}
+use Rattle.mq_calls.specs.State.{LogState as PlainLog}
+use Rattle.mq_calls.specs.Words.{Plain, ManagerValue, MeetsOrWants, need, freeze, note_of, logged, apply_all}
 use Rattle.mq_spec_manager.specs.Commands.{object_part}
 use Rattle.mq_law_manager.specs.Facts.{AreOnce}
 use Rattle.mq_log.specs.Force.{Stops}

@@ -2,7 +2,7 @@
 use Rattle.std.proofs.Common.{◌≡◌, ℕ, ◌+◌, Bool, true, false, cond, List, [], ◌∷◌, length, refl, ap, arith}
 use Rattle.std.specs.Prelude.{Option, Some, None, nat_lt}
 use Rattle.std.specs.Str.{bytes_eq}
-use Rattle.mq_spec_state.specs.Words.{Queue, has_rows, queue_in, puts_to}
+use Rattle.mq_calls.specs.Words.{Queue, has_rows, queue_in, puts_to}
 use Rattle.mq_place.specs.States.{QueueState, queues_of, state_in, state_or, or_fresh, size_of}
 use Rattle.mq_core.specs.Views.{PartsValue, plain_of}
 use Rattle.mq_core.specs.Ties.{Tied, pending_at}

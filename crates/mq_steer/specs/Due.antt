@@ -1,6 +1,6 @@
 -- The queue whose trigger is served next.
 use Rattle.std.specs.Prelude.{ℕ, Bool, true, false, List, Option, Some, None}
-use Rattle.mq_spec_state.specs.Words.{LocalQueue, Plain, is_up, locals_of}
+use Rattle.mq_calls.specs.Words.{LocalQueue, Plain, is_up, locals_of}
 use Rattle.mq_spec_manager.specs.Triggers.{first_due}
 
 -- by its name

@@ -1,7 +1,7 @@
 -- Calls that write nothing: what is seen of a manager after them. Its log tells what it told.
 use Rattle.std.specs.Prelude.{◌≡◌, [], None}
-use Rattle.mq_spec_state.specs.Words.{Plain, After}
-use Rattle.mq_spec_state.specs.Steps.Outcome.{Answered}
+use Rattle.mq_calls.specs.Words.{Plain, After}
+use Rattle.mq_calls.specs.Steps.Outcome.{Answered}
 use Rattle.mq_core.specs.Values.{CoreValue}
 
 -- a call that changes the plain manager so, and of which nothing is told

@@ -8,7 +8,7 @@ ghost use Rattle.mq_calls.specs.declared.records.LogRecord.TheVariants as record
 ghost use Rattle.mq_record.specs.Records.{operation_of};
 ghost use Rattle.mq_law_manager.specs.Facts.{AreOnce};
 ghost use Rattle.mq_sc_apply.specs.Planned.{same_delivery};
-ghost use Rattle.mq_spec_state.specs.Words.{MeetsOrWants, is_up, change_text};
+ghost use Rattle.mq_calls.specs.Words.{MeetsOrWants, is_up, change_text};
 ghost use Rattle.mq_spec_manager.specs.Commands.{command};
 ghost use Rattle.mq_core.specs.declared.parts.StoppedWrite.TheVariants as writes;
 ghost use Rattle.mq_core.specs.Ties.{Tied};
@@ -19,11 +19,10 @@ ghost use Rattle.mq_steer.specs.Altered.{CanChange, CanSet, Plans, change_step, 
 ghost use Rattle.mq_core.specs.Values.{manager_of, WritesLog};
 
 use crate::uses::ObjectUse;
-use mq_base::{Items, NoMemory};
+use mq_base::{Items, NoMemory, QName};
 use mq_calls::{Halt, ScRefusal, Shown};
 use mq_core::{Core, Mode, Parts, StoppedWrite};
 use mq_disk::{Disk, Stop};
-use mq_name::QName;
 use mq_objects::{
     Command, Delivery, LocalQueue, Object, ObjectChange, Subject, define_text, delete_text,
     manager_text,

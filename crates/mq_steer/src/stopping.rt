@@ -1,6 +1,6 @@
 //! A stop.
 ghost use Rattle.std.specs.Prelude.{◌≡◌, true, ◌∷◌, []};
-ghost use Rattle.mq_spec_state.specs.Words.{is_up};
+ghost use Rattle.mq_calls.specs.Words.{is_up};
 ghost use Rattle.mq_spec_manager.specs.Stops.{stop};
 ghost use Rattle.mq_objects.specs.Slots.{present};
 ghost use Rattle.mq_place.specs.States.{change_state, state_in};
@@ -8,10 +8,10 @@ ghost use Rattle.mq_core.specs.Ties.{pending_at};
 ghost use Rattle.mq_steer.specs.Quiet.{Comes};
 ghost use Rattle.mq_steer.specs.Rests.{AreHeld, batches_released, unawaited, objects_unawaited, rested, parts_rested};
 
+use mq_base::QName;
 use mq_calls::Batch;
 use mq_core::{Core, Mode, Parts};
 use mq_disk::Disk;
-use mq_name::QName;
 use mq_objects::Object;
 use mq_place::Queues;
 use mq_queue::PlainQueue;

@@ -1,8 +1,8 @@
 //! Trigger turns.
 ghost use Rattle.std.specs.Prelude.{◌≡◌, [], ◌∷◌, None, ◌+◌, ◌<◌, ◌^◌, ◌≤◌, is_some, nat_lt, option_copied, true, Some, OnOk, OnErr};
-ghost use Rattle.mq_spec_state.specs.Words.{Meets, Do, apply, stored, local_of, locals_of, process_of, is_transmission, is_up};
+ghost use Rattle.mq_calls.specs.Words.{Meets, Do, apply, stored, local_of, locals_of, process_of, is_transmission, is_up};
 ghost use Rattle.mq_core.specs.Counting.{CanCount};
-ghost use Rattle.mq_spec_state.specs.State.Change.{Serve};
+ghost use Rattle.mq_calls.specs.State.Change.{Serve};
 ghost use Rattle.mq_spec_manager.specs.Triggers.{first_due, takes_it, serve_into, serve_by, trigger_turn};
 ghost use Rattle.mq_core.specs.Views.{plain_of};
 ghost use Rattle.mq_core.specs.Ties.{Tied, IsReady};
@@ -12,13 +12,12 @@ ghost use Rattle.mq_steer.specs.Due.{next_due};
 ghost use Rattle.mq_steer.specs.Turns.{Serves, IsTurn, IsServed, IsServedOr, IsDue, CanSend, sent_part, served_at, numbered, halted};
 ghost use Rattle.mq_core.specs.Values.{manager_of, WritesLog};
 
-use mq_base::NoMemory;
+use mq_base::{NoMemory, QName};
 use mq_calls::Did;
 use mq_core::{Core, Parts};
 use mq_disk::Disk;
 use mq_fill::{is_inhibited, max_depth, max_length};
 use mq_message::Message;
-use mq_name::QName;
 use mq_objects::{LocalQueue, Object, Process, Usage};
 use mq_resolve::PathStep;
 use mq_trigger::trigger_message;

@@ -2,15 +2,15 @@
 ghost use Rattle.std.specs.Prelude.{◌≡◌, ◌||◌, is_some, true};
 ghost use Rattle.std.specs.List.{list_any};
 ghost use Rattle.std.specs.Str.{bytes_eq};
-ghost use Rattle.mq_spec_state.specs.Words.{has_rows, stored, seizure_of, in_doubt_of, sender_in};
+ghost use Rattle.mq_calls.specs.Words.{has_rows, stored, seizure_of, in_doubt_of, sender_in};
 ghost use Rattle.mq_spec_manager.specs.Commands.{uses_of};
 ghost use Rattle.mq_core.specs.Views.{plain_of};
 ghost use Rattle.mq_core.specs.Ties.{Tied};
 
+use mq_base::{ChName, QName};
 use mq_calls::{Seizure, SenderSide};
 use mq_core::{ChannelEnds, Core, Parts};
 use mq_disk::Disk;
-use mq_name::{ChName, QName};
 use mq_resolve::PathStep;
 use mq_sc_apply::InUse;
 

@@ -1,9 +1,8 @@
 //! What the two ends of a channel harden, and what a sender sees of its transmission queue.
 
 use crate::unit::Unit;
-use mq_base::Items;
+use mq_base::{Items, QName};
 use mq_message::Ident;
-use mq_name::QName;
 
 /// An end of a channel.
 #[derive(Clone, Copy, Debug, PartialEq, Eq)]

@@ -2,16 +2,16 @@
 use Rattle.std.proofs.Common.{◌≡◌, ℕ, suc, ◌+◌, ◌≤◌, refl, sym, ap, subst, ◌∙◌, List, [], ◌∷◌, ◌++◌, length, Bool, true, false, arith}
 use Rattle.std.specs.Prelude.{Result, Ok, Err}
 use Rattle.mq_sync.specs.declared.unit.Unit.{Unit as Luw}
-use Rattle.mq_spec_state.specs.State.{Change, Plain, Queue}
-use Rattle.mq_spec_state.specs.State.Change.{SetReceiver}
-use Rattle.mq_spec_state.specs.Changes.{apply_all, lane_of, made_due, depth_type, placed_in, set_queue, try_if, with_queue}
-use Rattle.mq_spec_state.specs.Condition.{condition}
-use Rattle.mq_spec_state.specs.Counts.{starts_of}
-use Rattle.mq_spec_state.specs.Reads.{puts_to, queue_in, stored}
-use Rattle.mq_spec_state.specs.Steps.{Part, logged}
-use Rattle.mq_spec_state.specs.Words.{Ident, Message, Reason, is_persistent, local_of, receiver_data, receiver_or}
+use Rattle.mq_calls.specs.State.{Change, Plain, Queue}
+use Rattle.mq_calls.specs.State.Change.{SetReceiver}
+use Rattle.mq_calls.specs.Changes.{apply_all, lane_of, made_due, depth_type, placed_in, set_queue, try_if, with_queue}
+use Rattle.mq_calls.specs.Condition.{condition}
+use Rattle.mq_calls.specs.Counts.{starts_of}
+use Rattle.mq_calls.specs.Reads.{puts_to, queue_in, stored}
+use Rattle.mq_calls.specs.Steps.{Part, logged}
+use Rattle.mq_calls.specs.Words.{Ident, Message, Reason, is_persistent, local_of, receiver_data, receiver_or}
 use Rattle.mq_spec_manager.specs.Words.{placed}
-use Rattle.mq_spec_agents.specs.Words.{Absent, InDoubtAt, Landed, Landing, Present, Standing, before, drop_changes, drop_row, is_present, land, land_changes, landed, landed_by, landed_unless, received_part, standing_at, undoubted}
+use Rattle.mq_spec_manager.specs.Agents.{Absent, InDoubtAt, Landed, Landing, Present, Standing, before, drop_changes, drop_row, is_present, land, land_changes, landed, landed_by, landed_unless, received_part, standing_at, undoubted}
 use Rattle.mq_law_manager.proofs.Named.{found_name}
 use Rattle.mq_law_manager.proofs.Units.{behind}
 use Rattle.mq_law_counts.specs.Counts.{Climbs, PartsClimb}

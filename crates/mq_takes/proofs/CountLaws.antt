@@ -22,11 +22,11 @@ use Rattle.mq_receiver.specs.declared.turns.ReceiverOut.TheVariants as outs
 use Rattle.mq_sync.specs.declared.unit.Unit.{Unit as Luw}
 use Rattle.mq_law_counts.specs.Counts.{Climbs}
 use Rattle.mq_law_counts.proofs.Climbing.{freeze_climbs, stay}
-use Rattle.mq_spec_state.specs.Changes.{apply_all}
-use Rattle.mq_spec_state.specs.Steps.{IsWrite, Part, do_all, note_of, stopped_at, tested, when}
-use Rattle.mq_spec_state.specs.Steps.Step.{Do, Refuse}
-use Rattle.mq_spec_state.specs.Words.{is_full, need}
-use Rattle.mq_spec_agents.specs.Words.{Landed, landed, receive_landed, received_part, received_record}
+use Rattle.mq_calls.specs.Changes.{apply_all}
+use Rattle.mq_calls.specs.Steps.{IsWrite, Part, do_all, note_of, stopped_at, tested, when}
+use Rattle.mq_calls.specs.Steps.Step.{Do, Refuse}
+use Rattle.mq_calls.specs.Words.{is_full, need}
+use Rattle.mq_spec_manager.specs.Agents.{Landed, landed, receive_landed, received_part, received_record}
 use Rattle.mq_spec_node.specs.Terms.{Actor, Call, Down, Entry, Message, Plain, Reason, History, ReceiverDoes, Running, Seen, Up, number, owed_frame}
 use Rattle.mq_spec_node.specs.Words.{ChannelEnd, Deed, Done, Node, Own, ReceiverEnd, Surroundings, Tells, Follows, IsDeed, IsEvent, CanCome, after, as_receiver, bind_parts, cable_of, choice_event, close_parts, deed_of, done, done_by, end_in, event, is_receiver_defined, kept_kind, kept_seen, more_entries, opening_node, place_deed, receiver_deed_by, receiver_end, receiver_turn, set_end, stamp_after, turned, where_up, with_end}
 use Rattle.std.specs.Option.{option_map}

@@ -7,7 +7,7 @@ use Rattle.mq_cable.specs.Offers.{Offering}
 use Rattle.mq_frame.specs.declared.frame.Seen.TheVariants as items
 use Rattle.mq_history.specs.declared.calls.Actor.TheVariants as actors
 use Rattle.mq_history.specs.declared.calls.Call.TheVariants as calls
-use Rattle.mq_spec_state.specs.Reads.{is_up}
+use Rattle.mq_calls.specs.Reads.{is_up}
 use Rattle.mq_spec_node.specs.Terms.{Down, Entry, Running, Seen, Up}
 use Rattle.mq_spec_node.specs.Words.{ChannelEnd, Deed, Own, ReceiverEnd, as_receiver, cable_of, end_in, receiver_end, receiver_turn, where_up}
 use Rattle.mq_spec_node.specs.Node.ChannelEnd.{Receives, Sends}
@@ -15,7 +15,7 @@ use Rattle.mq_cabled.specs.Lifted.{lifted, lifted_ends, with_lifted}
 use Rattle.mq_cabled.proofs.EndLaws.{found_cable, set_lifted, set_same}
 use Rattle.mq_events.specs.States.{IsKept, IsLow, IsServed, NodeState, node_in}
 use Rattle.mq_events.specs.Events.{Adds, MayAct, Stays}
-use Rattle.mq_spec_agents.specs.Words.{IsUp}
+use Rattle.mq_spec_manager.specs.Agents.{IsUp}
 use Rattle.mq_turns.specs.declared.telling.Turn.{Turn}
 use Rattle.mq_turns.specs.declared.telling.Turn.TheVariants as turns
 use Rattle.mq_turns.specs.Unseen.{EndTurn, Rests, turn_deed}

@@ -13,10 +13,10 @@ use Rattle.mq_receiver.specs.Table.{receiver_next}
 use Rattle.mq_receiver.specs.declared.turns.ReceiverDoes.TheVariants as does
 use Rattle.mq_receiver.specs.declared.turns.ReceiverOut.TheVariants as outs
 use Rattle.mq_sync.specs.declared.unit.Unit.{Unit as Luw}
-use Rattle.mq_spec_state.specs.Meeting.{ManagerValue, MeetsAs}
-use Rattle.mq_spec_state.specs.Meeting.Wants.{Anywhere}
-use Rattle.mq_spec_state.specs.Words.{is_full, need, tested, when}
-use Rattle.mq_spec_agents.specs.Words.{Landed, landed, messages_taken, receive, receive_landed, received_part, received_record}
+use Rattle.mq_calls.specs.Meeting.{ManagerValue, MeetsAs}
+use Rattle.mq_calls.specs.Meeting.Wants.{Anywhere}
+use Rattle.mq_calls.specs.Words.{is_full, need, tested, when}
+use Rattle.mq_spec_manager.specs.Agents.{Landed, landed, messages_taken, receive, receive_landed, received_part, received_record}
 use Rattle.mq_law_manager.specs.Facts.{IsSound}
 use Rattle.mq_spec_node.specs.Terms.{Did, Message, Part, Plain, Reason, Refuse, Do, Seen, Step, number}
 use Rattle.mq_spec_node.specs.Words.{Node, ReceiverEnd, close_parts, deed_of, is_receiver_defined, parts_of, place_deed, turned, with_end}
@@ -28,7 +28,7 @@ use Rattle.mq_events.specs.declared.outcome.Told.{Told}
 use Rattle.mq_turns.specs.Turns.{IsAsWas, Made}
 use Rattle.mq_turns.proofs.AgentLaws.{agent_ran, agent_stopped}
 use Rattle.mq_manager.specs.Facts.{IsWell}
-use Rattle.mq_spec_agents.specs.Words.{IsUp}
+use Rattle.mq_spec_manager.specs.Agents.{IsUp}
 use Rattle.mq_takes.specs.Placing.{ReceivedAs}
 use Rattle.mq_takes.specs.Takes.{MayTake, Works, emptied, whole}
 use Rattle.mq_takes.specs.Taken.{IsDone, TakesAll, taken_behind}

@@ -16,7 +16,7 @@ use Rattle.mq_receiver.specs.declared.state.Owed.{Owed}
 use Rattle.mq_receiver.specs.declared.state.Owed.TheVariants as owings
 use Rattle.mq_receiver.specs.declared.state.Receiver.{Receiver}
 use Rattle.mq_receiver.specs.declared.turns.ReceiverDoes.TheVariants as does
-use Rattle.mq_spec_state.specs.Reads.{is_up}
+use Rattle.mq_calls.specs.Reads.{is_up}
 use Rattle.mq_spec_node.specs.Terms.{Did, Frame, Message, Part, ReceiverDoes, Seen, owed_frame}
 use Rattle.mq_spec_node.specs.Words.{ChannelEnd, Deed, IsPop, IsStamp, Node, Own, ReceiverEnd, as_receiver, deed_of, end_in, forgotten_rows, is_receiver_defined, receiver_deed_by, receiver_end, receiver_turn, turned, with_end}
 use Rattle.mq_spec_node.specs.Node.ChannelEnd.{Receives, Sends}

@@ -2,8 +2,8 @@
 use Rattle.std.proofs.Common.{◌≡◌, ℕ, ◌+◌, ◌<◌, length, get_or, drop, refl, sym, ap, subst, ◌∙◌, List, [], ◌∷◌, ◌++◌, true, false}
 use Rattle.std.specs.Prelude.{Bool, ◌||◌, Option, Some, None, Result, Ok, Err, if◌then◌else◌}
 use Rattle.std.proofs.lemmas.List.{append_assoc}
-use Rattle.mq_spec_state.specs.Words.{Ident, Message, Plain, Reason, apply_all, same_ident}
-use Rattle.mq_spec_agents.specs.Words.{Absent, InDoubtAt, Landed, Landing, Present, Standing, before, is_present, land, land_changes, landed, landed_by, landed_unless, messages_taken, standing_at, taken_of}
+use Rattle.mq_calls.specs.Words.{Ident, Message, Plain, Reason, apply_all, same_ident}
+use Rattle.mq_spec_manager.specs.Agents.{Absent, InDoubtAt, Landed, Landing, Present, Standing, before, is_present, land, land_changes, landed, landed_by, landed_unless, messages_taken, standing_at, taken_of}
 use Rattle.mq_law_manager.specs.Facts.{AreNamed, Sound}
 use Rattle.mq_core.specs.declared.parts.Arrival.{Arrival}
 use Rattle.mq_core.specs.Writes.{arrival_changes, standing_of}

@@ -13,9 +13,9 @@ use Rattle.mq_history.specs.declared.calls.Call.TheVariants as calls
 use Rattle.mq_receiver.specs.Table.{receiver_next}
 use Rattle.mq_receiver.specs.declared.turns.ReceiverDoes.TheVariants as does
 use Rattle.mq_receiver.specs.declared.turns.ReceiverOut.TheVariants as outs
-use Rattle.mq_spec_state.specs.Words.{MeetsOrWants, set_named}
-use Rattle.mq_spec_state.specs.Meeting.Wants.{Anywhere}
-use Rattle.mq_spec_agents.specs.Words.{IsUp, harden, set_bound}
+use Rattle.mq_calls.specs.Words.{MeetsOrWants, set_named}
+use Rattle.mq_calls.specs.Meeting.Wants.{Anywhere}
+use Rattle.mq_spec_manager.specs.Agents.{IsUp, harden, set_bound}
 use Rattle.mq_spec_node.specs.Terms.{Did, Message, Part, Plain, Seen}
 use Rattle.mq_spec_node.specs.Words.{Own, ReceiverEnd, bind_parts, close_parts, deed_of, is_receiver_defined, parts_of, turned, with_end}
 use Rattle.mq_spec_node.specs.Node.ChannelEnd.{Receives}

@@ -2,8 +2,8 @@
 use Rattle.std.specs.Prelude.{◌≡◌, ℕ, Bool, ◌||◌, List, [], ◌∷◌, ◌++◌, if◌then◌else◌}
 use Rattle.std.specs.List.{list_any}
 use Rattle.mq_sync.specs.declared.unit.Unit.{Unit as Luw}
-use Rattle.mq_spec_state.specs.Words.{Ident, Message, Plain, Reason, Step, Refuse, Do, same_ident}
-use Rattle.mq_spec_agents.specs.Words.{is_present, messages_taken, receive, standing_at}
+use Rattle.mq_calls.specs.Words.{Ident, Message, Plain, Reason, Step, Refuse, Do, same_ident}
+use Rattle.mq_spec_manager.specs.Agents.{is_present, messages_taken, receive, standing_at}
 
 -- one of these has the ident
 abbrev pub has_ident_of : Ident → Message → Bool

@@ -10,7 +10,7 @@ use Rattle.mq_calls.specs.declared.choices.Choice.{Choice}
 use Rattle.mq_calls.specs.declared.choices.Choice.TheVariants.{Runs, NoMemory, Stopped}
 use Rattle.mq_receiver.specs.After.{done_after, receiver_after}
 use Rattle.mq_receiver.specs.declared.turns.ReceiverDoes.TheVariants as does
-use Rattle.mq_spec_agents.specs.Words.{IsUp, set_bound}
+use Rattle.mq_spec_manager.specs.Agents.{IsUp, set_bound}
 use Rattle.mq_spec_node.specs.Terms.{Did, Message, Part, Plain, ReceiverDoes, ReceiverOut, Seen}
 use Rattle.mq_spec_node.specs.Words.{ReceiverEnd, deed_of, kept_seen, parts_of, receiver_end, turned, with_end}
 use Rattle.mq_spec_node.specs.Node.ChannelEnd.{Receives}

@@ -3,10 +3,10 @@ ghost use Rattle.std.specs.Prelude.{◌≡◌, ◌<◌, true};
 ghost use Rattle.mq_calls.specs.declared.agents.Note.TheVariants as notes;
 ghost use Rattle.mq_takes.specs.Words as words;
 
+use mq_base::ChName;
 use mq_core::Parts;
 use mq_disk::Disk;
 use mq_manager::Manager;
-use mq_name::ChName;
 use mq_sides::receiver_data;
 
 /// The session is the one that is hardened, and it is open.

@@ -9,7 +9,7 @@ ghost use Rattle.mq_receiver.specs.declared.turns.ReceiverDoes.TheVariants as do
 use crate::asking::may_close;
 use crate::lifting::put_back;
 use crate::working::work_done;
-use mq_base::NoMemory;
+use mq_base::{ChName, NoMemory};
 use mq_cable::Wire;
 use mq_calls::{Messages, Note};
 use mq_core::Core;
@@ -17,7 +17,6 @@ use mq_disk::Disk;
 use mq_events::{NodeParts, Told};
 use mq_frame::Seen;
 use mq_manager::Manager;
-use mq_name::ChName;
 use mq_own::ReceiverEnd;
 use mq_receiver::{ReceiverDoes, ReceiverOut};
 use mq_sides::drop_side;

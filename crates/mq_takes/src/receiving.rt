@@ -5,7 +5,7 @@ ghost use Rattle.mq_spec_node.specs.Terms.{Reason as PlainReason};
 
 use crate::closing::close;
 use crate::lines::is_defined_at;
-use mq_base::NoMemory;
+use mq_base::{ChName, NoMemory};
 use mq_calls::{AgentStop, PlaceFault};
 use mq_codes::Reason;
 use mq_core::Parts;
@@ -13,7 +13,6 @@ use mq_disk::{Disk, Stop};
 use mq_events::{NodeParts, Told};
 use mq_manager::Manager;
 use mq_message::Message;
-use mq_name::ChName;
 use mq_own::ReceiverEnd;
 use mq_sides::receiver_data;
 use mq_sync::Unit as Luw;

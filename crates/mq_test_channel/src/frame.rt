@@ -1,10 +1,9 @@
 //! mq_frame: frames as bytes, in any cut of the stream.
 
 use crate::fixture::descriptor;
-use mq_base::NoMemory;
+use mq_base::{NoMemory, QName};
 use mq_frame::{Decoder, Frame, FrameFault, FrameKind, encode};
 use mq_message::{Bytes, Dest, Ident, Message};
-use mq_name::QName;
 use std::alloc::Global;
 use std::process::Abort;
 use std::test::*;

@@ -1,10 +1,9 @@
 //! mq_receiver: runs of the receiver end by hand.
 
 use crate::fixture::descriptor;
-use mq_base::Items;
+use mq_base::{Items, QName};
 use mq_frame::{Frame, FrameKind, Seen};
 use mq_message::{Dest, Ident, Message};
-use mq_name::QName;
 use mq_receiver::{Owed, Receiver, ReceiverDoes, ReceiverOut};
 use mq_sync::Unit;
 use std::alloc::Global;

@@ -1,6 +1,6 @@
 //! What several tests begin with.
 
-use mq_name::QName;
+use mq_base::QName;
 
 /// The name of a queue or a manager; blank where the text is no name.
 pub fn name_of(text: &str) -> QName {

@@ -1,9 +1,8 @@
 //! mq_rules: patterns, fields and the first rule that matches.
 
-use mq_base::Items;
+use mq_base::{Items, QName};
 use mq_heads::Dlh;
 use mq_message::Md;
-use mq_name::QName;
 use mq_rules::{Action, Condition, NumberField, Rule, Table, Target, TextField, Wait, decide};
 use std::alloc::{AllocError, Global};
 use std::test::Fail;

@@ -4,9 +4,8 @@ ghost use Rattle.std.specs.Prelude.{false, ◌≡◌};
 ghost use Rattle.mq_sc_apply.specs.Uses.{Uses};
 
 use crate::fixture::name_of;
-use mq_base::Items;
+use mq_base::{ChName, Items, QName};
 use mq_calls::{ScRefusal, Shown};
-use mq_name::{ChName, QName};
 use mq_objects::{
     Alter, Command, Define, Defs, Delete, Display, Keyword, Setting, Subject, Subjects, Usage,
 };

@@ -1,9 +1,9 @@
 //! mq_disk: disks in memory and as files, fuses, cuts and shelves.
 
+use mq_base::QName;
 use mq_disk::{
     Cutter, Disk, Failed, FileShelf, Fuse, Image, MemDisk, MemShelf, Shelf, Side, Stop, TakeFault,
 };
-use mq_name::QName;
 use std::alloc::Global;
 use std::test::*;
 

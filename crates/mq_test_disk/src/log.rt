@@ -2,9 +2,9 @@
 
 ghost use Rattle.std.specs.Prelude.{◌≡◌, true, IfOk};
 
+use mq_base::QName;
 use mq_disk::{Cutter, FileShelf, Image, MemDisk, Shelf, Side, Stop};
 use mq_log::{Bodies, Log, LogFull, StartFault, next_body};
-use mq_name::QName;
 use std::alloc::Global;
 use std::test::*;
 

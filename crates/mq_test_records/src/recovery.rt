@@ -2,9 +2,9 @@
 
 use crate::logs::Log;
 use crate::samples::each_kind;
+use mq_base::QName;
 use mq_calls::Image;
 use mq_log::Bodies;
-use mq_name::QName;
 use mq_recover::{RecoverFault, Start, image};
 use std::alloc::Global;
 use std::test::*;

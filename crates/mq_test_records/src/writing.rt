@@ -1,8 +1,8 @@
 //! What is written, against the format's table.
 
 use crate::samples::each_kind;
+use mq_base::{ChName, QName};
 use mq_message::Ident;
-use mq_name::{ChName, QName};
 use mq_record::{
     Buffer, Operation, bound_bytes, closed_bytes, moved_front, objects_front, prepared_front,
     received_front, resolved_bytes, seq_set_bytes, session_bytes, started_bytes, unit_front,

@@ -1,7 +1,7 @@
 //! What several tests begin with.
 
+use mq_base::QName;
 use mq_message::Md;
-use mq_name::QName;
 
 /// A descriptor with blanks and zeros in the fields that no test looks at.
 pub fn descriptor() -> Md {

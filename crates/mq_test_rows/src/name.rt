@@ -1,6 +1,6 @@
 //! mq_name: names of queues and channels, and labels.
 
-use mq_name::{ChName, Label, NameFault, QName};
+use mq_base::{ChName, Label, NameFault, QName};
 use std::test::*;
 
 #[test]

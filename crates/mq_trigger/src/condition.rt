@@ -2,12 +2,12 @@
 ghost use Rattle.std.specs.Prelude.{◌≡◌};
 ghost use Rattle.mq_queue.specs.Rows.{has_priority};
 ghost use Rattle.mq_objects.specs.Names.{local_of};
-ghost use Rattle.mq_spec_state.specs.Words.{Plain, is_triggered, is_long_ago, is_depth};
+ghost use Rattle.mq_calls.specs.Words.{Plain, is_triggered, is_long_ago, is_depth};
 ghost use Rattle.mq_trigger.specs.Seen.{IsSeen, is_sent_from, is_open, due_by_type, served_in, is_due};
 
+use mq_base::QName;
 use mq_calls::Seizure;
 use mq_handles::Live;
-use mq_name::QName;
 use mq_objects::{Defs, LocalQueue, TriggerType, Usage};
 
 /// What is tried of a local queue: the message's priority, and how the queue stands behind it.

@@ -1,6 +1,6 @@
 //! The message that a trigger sends to its initiation queue.
 ghost use Rattle.std.specs.Prelude.{◌≡◌, ◌≤◌, pos, codes, IfOk, IfSome};
-ghost use Rattle.mq_name.specs.Name.{padded};
+ghost use Rattle.mq_base.specs.Name.{padded};
 ghost use Rattle.mq_clock.specs.Stamps.{put_date, put_time};
 ghost use Rattle.mq_spec_manager.specs.Heads.{own_md, tm_of};
 ghost use Rattle.mq_spec_manager.specs.Triggers.{trigger_message};

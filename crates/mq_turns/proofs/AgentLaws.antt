@@ -6,10 +6,10 @@ use Rattle.mq_calls.specs.declared.choices.Choice.TheVariants.{Runs, Stopped}
 use Rattle.mq_calls.specs.declared.commands.Halt.TheVariants as halts
 use Rattle.mq_disk.specs.declared.cutter.Stop.{Stop}
 use Rattle.mq_queue.specs.declared.row.Row.{Row}
-use Rattle.mq_spec_state.specs.Meeting.{MeetsAs}
-use Rattle.mq_spec_state.specs.Meeting.Wants.{Anywhere}
+use Rattle.mq_calls.specs.Meeting.{MeetsAs}
+use Rattle.mq_calls.specs.Meeting.Wants.{Anywhere}
 use Rattle.mq_spec_manager.specs.Words.{expired_parts}
-use Rattle.mq_spec_agents.specs.Words.{expire, expired_rows, queue_of_sender}
+use Rattle.mq_spec_manager.specs.Agents.{expire, expired_rows, queue_of_sender}
 use Rattle.mq_spec_node.specs.Terms.{Plain, Step}
 use Rattle.mq_spec_node.specs.Words.{parts_of}
 use Rattle.mq_core.specs.Values.{CoreValue, manager_of}

@@ -15,8 +15,8 @@ use Rattle.mq_history.specs.declared.calls.Actor.TheVariants as actors
 use Rattle.mq_history.specs.declared.calls.Call.TheVariants as calls
 use Rattle.mq_sender.specs.Table.{sender_next}
 use Rattle.mq_sender.specs.declared.turns.SenderDoes.TheVariants as lines
-use Rattle.mq_spec_state.specs.Steps.{do_all}
-use Rattle.mq_spec_agents.specs.Words.{CanHold, HasBatch, IsUp, batch_row, release_batch, stock}
+use Rattle.mq_calls.specs.Steps.{do_all}
+use Rattle.mq_spec_manager.specs.Agents.{CanHold, HasBatch, IsUp, batch_row, release_batch, stock}
 use Rattle.mq_spec_node.specs.Terms.{Did, Frame, Message, Plain, SenderDoes}
 use Rattle.mq_spec_node.specs.Words.{Deed, Own, SenderEnd, carried, deed_of, item_of, parts_of, turned, with_end}
 use Rattle.mq_spec_node.specs.Node.ChannelEnd.{Sends}

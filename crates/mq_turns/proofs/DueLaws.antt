@@ -7,7 +7,7 @@ use Rattle.mq_frame.specs.declared.frame.Seen.TheVariants as items
 use Rattle.mq_history.specs.declared.calls.Actor.TheVariants as actors
 use Rattle.mq_history.specs.declared.calls.Call.TheVariants as calls
 use Rattle.mq_sender.specs.States.{awaits, timed_out}
-use Rattle.mq_spec_state.specs.Reads.{is_up}
+use Rattle.mq_calls.specs.Reads.{is_up}
 use Rattle.mq_spec_node.specs.Terms.{Running, Up, Down}
 use Rattle.mq_spec_node.specs.Words.{ChannelEnd, Deed, Node, Own, SenderEnd, after_timeout, as_sender, deed_of, end_in, sender_end, timeout_of, where_up}
 use Rattle.mq_spec_node.specs.Node.ChannelEnd.{Receives, Sends}

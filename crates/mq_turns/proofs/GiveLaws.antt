@@ -3,14 +3,14 @@ use Rattle.std.proofs.Common.{◌≡◌, ℕ, refl, ap, subst, List, [], ◌∷�
 use Rattle.std.specs.Prelude.{Option, Some, None, Ok, IsSome}
 use Rattle.mq_message.specs.declared.place.Holder.TheVariants as holders
 use Rattle.mq_calls.specs.declared.state.Batch.{Batch}
-use Rattle.mq_spec_state.specs.State.{Plain, Change}
-use Rattle.mq_spec_state.specs.State.Which.{HeldBy}
-use Rattle.mq_spec_state.specs.State.Change.{DropBatch, Release}
-use Rattle.mq_spec_state.specs.Reads.{batch_of}
-use Rattle.mq_spec_state.specs.Changes.{apply_all}
-use Rattle.mq_spec_state.specs.Steps.{delta_of, do_all}
-use Rattle.mq_spec_state.specs.Meeting.{MeetsOrWants}
-use Rattle.mq_spec_agents.specs.Words.{HasBatch, IsUp, release_batch, release_of}
+use Rattle.mq_calls.specs.State.{Plain, Change}
+use Rattle.mq_calls.specs.State.Which.{HeldBy}
+use Rattle.mq_calls.specs.State.Change.{DropBatch, Release}
+use Rattle.mq_calls.specs.Reads.{batch_of}
+use Rattle.mq_calls.specs.Changes.{apply_all}
+use Rattle.mq_calls.specs.Steps.{delta_of, do_all}
+use Rattle.mq_calls.specs.Meeting.{MeetsOrWants}
+use Rattle.mq_spec_manager.specs.Agents.{HasBatch, IsUp, release_batch, release_of}
 use Rattle.mq_spec_node.specs.Words.{parts_of}
 use Rattle.mq_core.specs.Values.{CoreValue, WritesLog, manager_of}
 use Rattle.mq_turns.specs.Turns.{IsBehind}

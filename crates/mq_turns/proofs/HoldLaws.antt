@@ -10,13 +10,13 @@ use Rattle.mq_queue.specs.declared.row.Row.{Row}
 use Rattle.mq_queue.specs.Rows.{held_by, is_free, retag}
 use Rattle.mq_sync.specs.declared.unit.Unit.{Unit as Luw}
 use Rattle.mq_calls.specs.declared.state.Batch.{Batch}
-use Rattle.mq_spec_state.specs.State.{Plain, Queue}
-use Rattle.mq_spec_state.specs.State.Which.{Among, HeldBy}
-use Rattle.mq_spec_state.specs.Reads.{batch_of, free_rows}
-use Rattle.mq_spec_state.specs.Changes.{comes_before, held_in, release_if, released_in, retag_if, selects, set_named, without_batch}
-use Rattle.mq_spec_state.specs.Steps.{do_all}
+use Rattle.mq_calls.specs.State.{Plain, Queue}
+use Rattle.mq_calls.specs.State.Which.{Among, HeldBy}
+use Rattle.mq_calls.specs.Reads.{batch_of, free_rows}
+use Rattle.mq_calls.specs.Changes.{comes_before, held_in, release_if, released_in, retag_if, selects, set_named, without_batch}
+use Rattle.mq_calls.specs.Steps.{do_all}
 use Rattle.mq_spec_manager.specs.Words.{idents_of}
-use Rattle.mq_spec_agents.specs.Words.{CanHold, HasNoBatch, HasNoDoubt, HasSeized, HoldsNone, IsUp, hold_batch, queue_of_sender, release_batch, release_of}
+use Rattle.mq_spec_manager.specs.Agents.{CanHold, HasNoBatch, HasNoDoubt, HasSeized, HoldsNone, IsUp, hold_batch, queue_of_sender, release_batch, release_of}
 use Rattle.mq_spec_node.specs.Words.{parts_of}
 use Rattle.mq_law_manager.specs.Facts.{IsOf, IsSound}
 use Rattle.mq_law_manager.specs.View.{view}

@@ -12,7 +12,7 @@ use Rattle.mq_sender.specs.declared.state.Sender.{Sender}
 use Rattle.mq_sender.specs.declared.turns.SenderDoes.{SenderDoes}
 use Rattle.mq_sender.specs.declared.turns.SenderDoes.TheVariants as does
 use Rattle.mq_sender.specs.Table.{sender_next}
-use Rattle.mq_spec_agents.specs.Words.{stock}
+use Rattle.mq_spec_manager.specs.Agents.{stock}
 use Rattle.mq_spec_node.specs.Words.{SenderEnd}
 use Rattle.mq_events.specs.States.{NodeState, node_in}
 use Rattle.mq_turns.specs.declared.telling.Turn.{Turn}

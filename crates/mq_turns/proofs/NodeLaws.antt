@@ -8,7 +8,7 @@ use Rattle.mq_frame.specs.declared.frame.Seen.TheVariants as items
 use Rattle.mq_history.specs.declared.calls.Actor.{Actor}
 use Rattle.mq_history.specs.declared.calls.Actor.TheVariants as actors
 use Rattle.mq_history.specs.declared.calls.Call.TheVariants as calls
-use Rattle.mq_spec_state.specs.Reads.{is_up}
+use Rattle.mq_calls.specs.Reads.{is_up}
 use Rattle.mq_spec_node.specs.Words.{Deed, SenderEnd, sender_end, sender_turn}
 use Rattle.mq_events.specs.States.{IsKept, IsServed, NodeState, node_in}
 use Rattle.mq_events.specs.Counts.{IsNode}

@@ -5,11 +5,11 @@ use Rattle.mq_calls.specs.declared.choices.Choice.{Choice}
 use Rattle.mq_calls.specs.declared.choices.Choice.TheVariants.{Runs, NoMemory, Stopped}
 use Rattle.mq_calls.specs.declared.commands.Halt.TheVariants as halts
 use Rattle.mq_disk.specs.declared.cutter.Stop.{Stop}
-use Rattle.mq_spec_state.specs.Steps.{IsWrite, calls_at, calls_before, calls_of, forced_calls, write_calls, StopsAt}
-use Rattle.mq_spec_state.specs.Meeting.{ManagerValue, MeetsAs, MeetsInRoom, StoppedIn, Wants}
-use Rattle.mq_spec_state.specs.Meeting.Wants.{Nowhere, Anywhere}
+use Rattle.mq_calls.specs.Steps.{IsWrite, calls_at, calls_before, calls_of, forced_calls, write_calls, StopsAt}
+use Rattle.mq_calls.specs.Meeting.{ManagerValue, MeetsAs, MeetsInRoom, StoppedIn, Wants}
+use Rattle.mq_calls.specs.Meeting.Wants.{Nowhere, Anywhere}
 use Rattle.mq_spec_node.specs.Terms.{Did, Plain, Part, Step, Refuse, Do, do_all, delta_of, delta_before, stopped_at}
-use Rattle.mq_spec_agents.specs.Words.{leave}
+use Rattle.mq_spec_manager.specs.Agents.{leave}
 use Rattle.mq_spec_node.specs.Words.{parts_of}
 use Rattle.mq_core.specs.Values.{CoreValue, manager_of}
 use Rattle.mq_events.proofs.NumberLaws.{IsShort, StepIsShort}

@@ -11,11 +11,11 @@ use Rattle.mq_message.specs.declared.place.Holder.{Holder}
 use Rattle.mq_message.specs.declared.place.Holder.TheVariants as holders
 use Rattle.mq_queue.specs.declared.row.Row.{Row}
 use Rattle.mq_calls.specs.declared.state.Batch.{Batch}
-use Rattle.mq_spec_state.specs.State.{Plain}
-use Rattle.mq_spec_state.specs.Reads.{batch_of}
-use Rattle.mq_spec_state.specs.Recovery.{IsNumbered}
-use Rattle.mq_spec_state.specs.Words.{has_batch, rests_by, same_ident, sender_data, sender_or}
-use Rattle.mq_spec_agents.specs.Words.{CanPrepare, IsUp, NoneInDoubt, is_row_in_doubt}
+use Rattle.mq_calls.specs.State.{Plain}
+use Rattle.mq_calls.specs.Reads.{batch_of}
+use Rattle.mq_calls.specs.Recovery.{IsNumbered}
+use Rattle.mq_calls.specs.Words.{has_batch, rests_by, same_ident, sender_data, sender_or}
+use Rattle.mq_spec_manager.specs.Agents.{CanPrepare, IsUp, NoneInDoubt, is_row_in_doubt}
 use Rattle.mq_law_manager.specs.Facts.{IsBatched, IsSound, Mem}
 use Rattle.mq_law_manager.specs.View.{view}
 use Rattle.mq_law_manager.proofs.Lists.{any_mem, one_row}

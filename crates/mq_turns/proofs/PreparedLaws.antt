@@ -19,12 +19,12 @@ use Rattle.mq_sender.specs.Table.{sender_next}
 use Rattle.mq_sender.specs.declared.turns.SenderDoes.TheVariants as lines
 use Rattle.mq_sender.specs.declared.turns.SenderOut.{SenderOut}
 use Rattle.mq_sender.specs.declared.turns.SenderOut.TheVariants as outs
-use Rattle.mq_spec_state.specs.Meeting.{ManagerValue, MeetsAs}
-use Rattle.mq_spec_state.specs.Meeting.Wants.{Anywhere}
-use Rattle.mq_spec_state.specs.Reads.{batch_of}
-use Rattle.mq_spec_state.specs.Steps.{Possible, Test, when}
-use Rattle.mq_spec_state.specs.Words.{is_full, need, sender_data, sender_or}
-use Rattle.mq_spec_agents.specs.Words.{HasBatch, IsUp, prepare, prepare_of, prepared_changes, prepared_record, stock}
+use Rattle.mq_calls.specs.Meeting.{ManagerValue, MeetsAs}
+use Rattle.mq_calls.specs.Meeting.Wants.{Anywhere}
+use Rattle.mq_calls.specs.Reads.{batch_of}
+use Rattle.mq_calls.specs.Steps.{Possible, Test, when}
+use Rattle.mq_calls.specs.Words.{is_full, need, sender_data, sender_or}
+use Rattle.mq_spec_manager.specs.Agents.{HasBatch, IsUp, prepare, prepare_of, prepared_changes, prepared_record, stock}
 use Rattle.mq_spec_node.specs.Terms.{Did, Message, Part, Plain, PrepareFault, Step, Refuse, Do}
 use Rattle.mq_spec_node.specs.Words.{Deed, Node, SenderEnd, parts_of, prepare_deed, turned, with_end}
 use Rattle.mq_spec_node.specs.Node.ChannelEnd.{Sends}

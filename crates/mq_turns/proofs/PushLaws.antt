@@ -11,7 +11,7 @@ use Rattle.mq_frame.specs.declared.frame.Seen.TheVariants as items
 use Rattle.mq_history.specs.declared.calls.Actor.TheVariants as actors
 use Rattle.mq_history.specs.declared.calls.Call.TheVariants as calls
 use Rattle.mq_sender.specs.Table.{sender_next}
-use Rattle.mq_spec_agents.specs.Words.{stock}
+use Rattle.mq_spec_manager.specs.Agents.{stock}
 use Rattle.mq_spec_node.specs.Terms.{Did, Frame, Message, SenderDoes}
 use Rattle.mq_spec_node.specs.Words.{SenderEnd, deed_of, item_of, sender_deed_by, with_end}
 use Rattle.mq_spec_node.specs.Node.ChannelEnd.{Sends}

@@ -22,12 +22,12 @@ use Rattle.mq_queue.specs.declared.row.Row.{Row}
 use Rattle.mq_law_counts.specs.Counts.{PartsClimb}
 use Rattle.mq_law_image.specs.Bounds.{all_growth}
 use Rattle.mq_law_counts.proofs.Climbing.{grown, stay, two_climb}
-use Rattle.mq_spec_state.specs.Words.{batch_of, is_full, need, sender_data, sender_or}
+use Rattle.mq_calls.specs.Words.{batch_of, is_full, need, sender_data, sender_or}
 use Rattle.mq_calls.specs.declared.deltas.Did.TheVariants as did
-use Rattle.mq_spec_state.specs.Steps.{Part, Step, do_all, do_part, logged, tested, when}
-use Rattle.mq_spec_state.specs.Steps.Step.{Do, Refuse}
+use Rattle.mq_calls.specs.Steps.{Part, Step, do_all, do_part, logged, tested, when}
+use Rattle.mq_calls.specs.Steps.Step.{Do, Refuse}
 use Rattle.mq_spec_manager.specs.Words.{expired_parts}
-use Rattle.mq_spec_agents.specs.Words.{batch_row, expire, expired_rows, harden, hold_batch, leave, prepare, prepare_of, prepared_changes, prepared_record, queue_of_sender, release_batch, release_of, stock}
+use Rattle.mq_spec_manager.specs.Agents.{batch_row, expire, expired_rows, harden, hold_batch, leave, prepare, prepare_of, prepared_changes, prepared_record, queue_of_sender, release_batch, release_of, stock}
 use Rattle.mq_spec_node.specs.Terms.{Frame, Plain, PrepareFault, Running, Up, Down, Seen, SenderDoes}
 use Rattle.mq_spec_node.specs.Words.{ChannelEnd, Deed, Node, Own, SenderEnd, after_timeout, as_sender, cable_of, carried, doubted, end_in, leave_if_stopped, parts_of, prepare_deed, sender_deed_by, sender_end, sender_turn, sent, set_end, settle_parts, settle_parts_if, timeout_of, where_up, with_end}
 use Rattle.mq_spec_node.specs.Node.ChannelEnd.{Receives, Sends}

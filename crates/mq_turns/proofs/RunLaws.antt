@@ -5,12 +5,12 @@ use Rattle.mq_calls.specs.declared.records.LogRecord.{LogRecord}
 use Rattle.mq_calls.specs.declared.choices.Choice.{Choice}
 use Rattle.mq_calls.specs.declared.deltas.Did.{Did}
 use Rattle.mq_calls.specs.declared.choices.Choice.TheVariants.{Runs, NoMemory, Stopped}
-use Rattle.mq_spec_state.specs.State.{Change, Plain}
-use Rattle.mq_spec_state.specs.State.Change.{Place, Try, Leave, Hold, Release, Connect, Disconnect, OpenHandle, CloseHandle, SetCursor, Pend, EndUnit, MakeStale, CountIdent, ChangeObjects, Renew, DropQueue, SwitchOn, Serve, SetSender, SetReceiver, Undoubt, Seize, Unseize, AddBatch, DropBatch, SetBound, SetMoment, ForgetAll}
-use Rattle.mq_spec_state.specs.Changes.{apply, apply_all, try_if}
-use Rattle.mq_spec_state.specs.Reads.{is_up}
-use Rattle.mq_spec_state.specs.Steps.{Part, do_all, do_part, logged}
-use Rattle.mq_spec_agents.specs.Words.{IsUp}
+use Rattle.mq_calls.specs.State.{Change, Plain}
+use Rattle.mq_calls.specs.State.Change.{Place, Try, Leave, Hold, Release, Connect, Disconnect, OpenHandle, CloseHandle, SetCursor, Pend, EndUnit, MakeStale, CountIdent, ChangeObjects, Renew, DropQueue, SwitchOn, Serve, SetSender, SetReceiver, Undoubt, Seize, Unseize, AddBatch, DropBatch, SetBound, SetMoment, ForgetAll}
+use Rattle.mq_calls.specs.Changes.{apply, apply_all, try_if}
+use Rattle.mq_calls.specs.Reads.{is_up}
+use Rattle.mq_calls.specs.Steps.{Part, do_all, do_part, logged}
+use Rattle.mq_spec_manager.specs.Agents.{IsUp}
 use Rattle.mq_core.specs.Values.{CoreValue}
 use Rattle.mq_turns.specs.Turns.{Made}
 

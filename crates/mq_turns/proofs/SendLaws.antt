@@ -11,10 +11,10 @@ use Rattle.mq_sender.specs.States.{is_running}
 use Rattle.mq_sender.specs.Table.{sender_next}
 use Rattle.mq_sender.specs.After.{done_after}
 use Rattle.mq_sender.specs.declared.turns.SenderDoes.TheVariants as does
-use Rattle.mq_spec_state.specs.Reads.{is_up}
+use Rattle.mq_calls.specs.Reads.{is_up}
 use Rattle.std.specs.Option.{option_map}
 use Rattle.mq_sender.specs.Frames.{bind_frame, end_frame}
-use Rattle.mq_spec_agents.specs.Words.{batch_row, stock}
+use Rattle.mq_spec_manager.specs.Agents.{batch_row, stock}
 use Rattle.mq_spec_node.specs.Terms.{Frame, Message, Plain, Part, Seen, SenderDoes}
 use Rattle.mq_spec_node.specs.Words.{Deed, IsPop, IsStamp, Node, SenderEnd, carried, deed_of, sender_deed_by, sender_end, sender_turn, turned, with_end}
 use Rattle.mq_spec_node.specs.Node.ChannelEnd.{Sends}

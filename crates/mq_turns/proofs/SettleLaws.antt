@@ -16,7 +16,7 @@ use Rattle.mq_calls.specs.declared.choices.Choice.TheVariants.{Runs}
 use Rattle.mq_cabled.proofs.EndLaws.{set_same}
 use Rattle.mq_turns.proofs.DueLaws.{sender_is}
 use Rattle.mq_turns.proofs.PartLaws.{none_made}
-use Rattle.mq_spec_agents.specs.Words.{stock}
+use Rattle.mq_spec_manager.specs.Agents.{stock}
 use Rattle.mq_spec_node.specs.Terms.{Did, Message, Part, Plain, Seen, SenderDoes}
 use Rattle.mq_spec_node.specs.Words.{ChannelEnd, Deed, Own, SenderEnd, deed_of, end_in, sender_end, turned, with_end}
 use Rattle.mq_spec_node.specs.Node.ChannelEnd.{Sends}

@@ -6,7 +6,7 @@ use Rattle.mq_cable.specs.Offers.{Offering}
 use Rattle.mq_frame.specs.declared.frame.Seen.TheVariants as items
 use Rattle.mq_history.specs.declared.calls.Actor.TheVariants as actors
 use Rattle.mq_history.specs.declared.calls.Call.TheVariants as calls
-use Rattle.mq_spec_agents.specs.Words.{IsUp}
+use Rattle.mq_spec_manager.specs.Agents.{IsUp}
 use Rattle.mq_spec_node.specs.Words.{SenderEnd, deed_of, sender_end}
 use Rattle.mq_events.specs.States.{IsKept, IsServed, NodeState, node_in}
 use Rattle.mq_events.specs.Events.{MayAct}

@@ -9,7 +9,7 @@ use Rattle.mq_sender.specs.declared.turns.SenderDoes.TheVariants as lines
 use Rattle.mq_sync.specs.Units.{unit_named}
 use Rattle.mq_calls.specs.declared.choices.Choice.{Choice}
 use Rattle.mq_calls.specs.declared.choices.Choice.TheVariants.{Runs}
-use Rattle.mq_spec_agents.specs.Words.{CanHold, hold_batch, stock}
+use Rattle.mq_spec_manager.specs.Agents.{CanHold, hold_batch, stock}
 use Rattle.mq_spec_node.specs.Terms.{Did, Frame, Part, Plain}
 use Rattle.mq_spec_node.specs.Words.{SenderEnd, item_of, parts_of}
 use Rattle.mq_wires.specs.Wires.{HasPushed, IsFull, OffersNone}

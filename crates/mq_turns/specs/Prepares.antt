@@ -10,9 +10,9 @@ use Rattle.mq_sender.specs.After.{number_sent, sender_after}
 use Rattle.mq_sender.specs.declared.turns.SenderDoes.TheVariants as lines
 use Rattle.mq_sender.specs.declared.turns.SenderOut.{SenderOut}
 use Rattle.mq_sender.specs.declared.turns.SenderOut.TheVariants as outs
-use Rattle.mq_spec_state.specs.Recovery.{IsNumbered}
-use Rattle.mq_spec_state.specs.Words.{batch_of, same_ident, sender_data, sender_or}
-use Rattle.mq_spec_agents.specs.Words.{leave, prepare, release_batch}
+use Rattle.mq_calls.specs.Recovery.{IsNumbered}
+use Rattle.mq_calls.specs.Words.{batch_of, same_ident, sender_data, sender_or}
+use Rattle.mq_spec_manager.specs.Agents.{leave, prepare, release_batch}
 use Rattle.mq_base.specs.declared.want.NoMemory.{NoMemory as Want}
 use Rattle.mq_spec_node.specs.Terms.{Did, Part, Plain, PrepareFault, Step, Refuse, Do}
 use Rattle.mq_spec_node.specs.Words.{SenderEnd, parts_of}

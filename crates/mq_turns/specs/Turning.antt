@@ -4,7 +4,7 @@ use Rattle.mq_base.specs.declared.want.NoMemory.{NoMemory as Want}
 use Rattle.mq_cable.specs.declared.item.Item.{Item}
 use Rattle.mq_cable.specs.Offers.{Offering}
 use Rattle.mq_history.specs.declared.calls.Actor.TheVariants as actors
-use Rattle.mq_spec_agents.specs.Words.{IsUp}
+use Rattle.mq_spec_manager.specs.Agents.{IsUp}
 use Rattle.mq_spec_node.specs.Terms.{Seen}
 use Rattle.mq_spec_node.specs.Words.{SenderEnd, sender_end}
 use Rattle.mq_events.specs.States.{NodeState}

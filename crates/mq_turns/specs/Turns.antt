@@ -10,7 +10,7 @@ use Rattle.mq_history.specs.declared.calls.Reply.TheVariants as replies
 use Rattle.mq_spec_node.specs.Terms.{Message, Frame, Did, Actor, Call, Entry, Reply, Plain, Part, Possible, do_all, delta_of, delta_before, stopped_at, leave}
 use Rattle.mq_frame.specs.declared.frame.Seen.TheVariants as items
 use Rattle.mq_sender.specs.States.{awaits}
-use Rattle.mq_spec_agents.specs.Words.{IsUp}
+use Rattle.mq_spec_manager.specs.Agents.{IsUp}
 use Rattle.mq_spec_node.specs.Words.{Own, Deed, SenderEnd, deed_of, parts_of, forgotten_rows, sender_end}
 use Rattle.mq_core.specs.Values.{CoreValue}
 use Rattle.mq_events.specs.declared.outcome.Told.{Told}

@@ -1,14 +1,14 @@
 //! What a sender's end asks of its manager before it acts there.
 ghost use Rattle.std.specs.Prelude.{◌≡◌, ◌<◌, Some, true, option_map};
 ghost use Rattle.mq_core.specs.Views.{plain_of};
-ghost use Rattle.mq_spec_state.specs.Words.{in_doubt_of, sender_data};
+ghost use Rattle.mq_calls.specs.Words.{in_doubt_of, sender_data};
 ghost use Rattle.mq_sync.specs.Settlement.{sender_or};
-ghost use Rattle.mq_spec_agents.specs.Words.{HasNoBatch, HasSeized, unit_of};
+ghost use Rattle.mq_spec_manager.specs.Agents.{HasNoBatch, HasSeized, unit_of};
 
+use mq_base::ChName;
 use mq_core::Parts;
 use mq_disk::Disk;
 use mq_manager::Manager;
-use mq_name::ChName;
 use mq_sides::{batch_of, seizure_of, sender_of};
 use mq_sync::{SenderData, Unit};
 

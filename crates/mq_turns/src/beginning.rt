@@ -4,7 +4,7 @@ ghost use Rattle.std.specs.Option.{option_map};
 ghost use Rattle.mq_frame.specs.declared.frame.Seen.TheVariants as items;
 ghost use Rattle.mq_sender.specs.Table.{sender_next};
 ghost use Rattle.mq_sender.specs.declared.turns.SenderDoes.TheVariants as does_what;
-ghost use Rattle.mq_spec_agents.specs.Words.{HasBatch, IsUp, batch_row, stock};
+ghost use Rattle.mq_spec_manager.specs.Agents.{HasBatch, IsUp, batch_row, stock};
 ghost use Rattle.mq_spec_node.specs.Words.{carried};
 ghost use Rattle.mq_turns.specs.Acting.{Acts, SendsTurn};
 ghost use Rattle.mq_turns.specs.Begins.{Begins, FirstTold};

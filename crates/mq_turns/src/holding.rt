@@ -2,21 +2,20 @@
 ghost use Rattle.std.specs.Prelude.{◌≡◌, true, IfOk};
 ghost use Rattle.mq_calls.specs.declared.choices.Choice.TheVariants as choices;
 ghost use Rattle.mq_core.specs.Views.{plain_of};
-ghost use Rattle.mq_spec_state.specs.Words.{do_all};
-ghost use Rattle.mq_spec_agents.specs.Words.{CanHold, HasBatch, HasNoDoubt, IsUp, hold_batch, release_batch};
+ghost use Rattle.mq_calls.specs.Words.{do_all};
+ghost use Rattle.mq_spec_manager.specs.Agents.{CanHold, HasBatch, HasNoDoubt, IsUp, hold_batch, release_batch};
 ghost use Rattle.mq_spec_node.specs.Words.{parts_of};
 ghost use Rattle.mq_agents.specs.Releasing.{batch_freed};
 ghost use Rattle.mq_turns.specs.Turns.{IsBehind, MadeOr};
 
 use crate::asking::{has_no_batch, has_seized};
 use crate::parting::ran;
-use mq_base::NoMemory;
+use mq_base::{ChName, NoMemory};
 use mq_core::{Core, Parts};
 use mq_disk::Disk;
 use mq_events::{NodeParts, Told};
 use mq_manager::Manager;
 use mq_message::Holder;
-use mq_name::ChName;
 use mq_sides::{drop_side, sender_of};
 use mq_sync::Unit;
 

@@ -2,15 +2,14 @@
 ghost use Rattle.std.specs.Prelude.{◌≡◌, []};
 ghost use Rattle.mq_calls.specs.declared.choices.Choice.TheVariants as choices;
 ghost use Rattle.mq_spec_node.specs.Words.{parts_of};
-ghost use Rattle.mq_spec_agents.specs.Words.{CanHarden, HasBatch, HasSeized, IsUp, expire, harden, release_batch};
+ghost use Rattle.mq_spec_manager.specs.Agents.{CanHarden, HasBatch, HasSeized, IsUp, expire, harden, release_batch};
 ghost use Rattle.mq_turns.specs.Turns.{IsBehind, MadeOr, has_run as has_run_by, left_parts};
 
-use mq_base::{Items, NoMemory};
+use mq_base::{ChName, Items, NoMemory};
 use mq_calls::{AgentStop, Choice, Note};
 use mq_disk::{Disk, Stop};
 use mq_events::{NodeParts, Told};
 use mq_manager::Manager;
-use mq_name::ChName;
 use std::alloc::Global;
 
 /// What a manager tells of a call that ran.

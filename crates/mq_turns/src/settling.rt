@@ -4,7 +4,7 @@ ghost use Rattle.mq_cable.specs.Offers.{Offering};
 ghost use Rattle.mq_frame.specs.declared.frame.Seen.TheVariants as items;
 ghost use Rattle.mq_sender.specs.Table.{sender_next};
 ghost use Rattle.mq_sender.specs.After.{done_after};
-ghost use Rattle.mq_spec_agents.specs.Words.{stock};
+ghost use Rattle.mq_spec_manager.specs.Agents.{stock};
 ghost use Rattle.mq_wires.specs.Wires.{Sees};
 ghost use Rattle.mq_turns.specs.Acting.{Acts, SendsTurn};
 ghost use Rattle.mq_turns.specs.Sends.{Works};

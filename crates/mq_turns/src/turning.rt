@@ -4,7 +4,7 @@ ghost use Rattle.mq_frame.specs.Sight.{waits};
 ghost use Rattle.mq_frame.specs.declared.frame.Seen.TheVariants as items;
 ghost use Rattle.mq_history.specs.declared.calls.Actor.TheVariants as actors;
 ghost use Rattle.mq_sender.specs.Table.{is_idle, sender_next};
-ghost use Rattle.mq_spec_agents.specs.Words.{IsUp, stock};
+ghost use Rattle.mq_spec_manager.specs.Agents.{IsUp, stock};
 ghost use Rattle.mq_wires.specs.Wires.{Sees};
 ghost use Rattle.mq_events.specs.Events.{MayAct};
 ghost use Rattle.mq_events.specs.States.{IsKept, IsServed};

@@ -1,6 +1,6 @@
 //! What a line of the sender's table does at the manager, but for batches.
 ghost use Rattle.std.specs.Prelude.{◌≡◌};
-ghost use Rattle.mq_spec_agents.specs.Words.{IsUp};
+ghost use Rattle.mq_spec_manager.specs.Agents.{IsUp};
 ghost use Rattle.mq_spec_node.specs.Words.{doubted, settle_parts, settle_parts_if};
 ghost use Rattle.mq_sync.specs.Settlement.{is_commit};
 ghost use Rattle.mq_turns.specs.Turns.{MadeOr};

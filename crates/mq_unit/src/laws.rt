@@ -2,7 +2,7 @@
 
 ghost use Rattle.std.specs.Prelude.{◌≡◌, List};
 ghost use Rattle.mq_calls.specs.declared.state.Item.{Item};
-ghost use Rattle.mq_spec_state.specs.Words.{unit_need};
+ghost use Rattle.mq_calls.specs.Words.{unit_need};
 ghost use Rattle.mq_spec_manager.specs.Units.{adds_of, removes_of, record_of};
 ghost use Rattle.mq_unit.specs.Forced.{need_of};
 

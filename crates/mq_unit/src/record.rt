@@ -4,7 +4,7 @@ ghost use Rattle.std.specs.Prelude.{◌≡◌, ◌-◌, ◌<◌, ◌≤◌, ◌^
 ghost use Rattle.std.specs.List.{AllByRecursion};
 ghost use Rattle.mq_queue.specs.Rows.{is_persistent};
 ghost use Rattle.mq_frame.specs.Frames.{HasWords};
-ghost use Rattle.mq_spec_state.specs.Words.{item_bytes, put_bytes, record_size};
+ghost use Rattle.mq_calls.specs.Words.{item_bytes, put_bytes, record_size};
 ghost use Rattle.mq_spec_manager.specs.Units.{adds_of, removes_of};
 ghost use Rattle.mq_record.specs.Records.{record_bytes, IsAdd, IsRemove, IsRecord};
 ghost use Rattle.mq_record.specs.Room.{with_piece};

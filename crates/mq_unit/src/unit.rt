@@ -1,7 +1,7 @@
 //! The items of a unit of work.
 
 ghost use Rattle.std.specs.Prelude.{◌≡◌, ◌+◌, ◌-◌, ◌<◌, ◌≤◌, ◌^◌, ◌↔◌, IsTrue, [], ◌∷◌, ◌++◌, length, take, is_some, OnOk, OnErr};
-ghost use Rattle.mq_spec_state.specs.Words.{unit_need, more_need, record_size};
+ghost use Rattle.mq_calls.specs.Words.{unit_need, more_need, record_size};
 ghost use Rattle.mq_spec_manager.specs.Units.{adds_of, removes_of, record_of};
 ghost use Rattle.mq_record.specs.Records.{record_bytes, IsRecord};
 ghost use Rattle.mq_record.specs.Room.{with_piece};

@@ -1,19 +1,19 @@
 //! Whether a monitor's get would find a message that fits, seen without a change.
 ghost use Rattle.std.specs.Prelude.{◌≡◌, find, length, option_copied};
 ghost use Rattle.mq_heads.specs.Headers.{xqh_bytes};
-ghost use Rattle.mq_spec_state.specs.Reads.{is_past};
+ghost use Rattle.mq_calls.specs.Reads.{is_past};
 ghost use Rattle.mq_spec_manager.specs.Heads.{xqh_of};
 ghost use Rattle.mq_spec_manager.specs.Words.{length_of, queue_at};
 ghost use Rattle.mq_core.specs.Views.{plain_of};
 ghost use Rattle.mq_watch.specs.Looks.{fits, handle_fits, is_fresh, queue_fits, row_fits, seat_fits};
 
+use mq_base::QName;
 use mq_calls::{Handle, Hconn, Hobj};
 use mq_core::{Core, Parts};
 use mq_disk::Disk;
 use mq_handles::Seat;
 use mq_heads::{Xqh, xqh_to_bytes};
 use mq_message::{Dest, Md, Message};
-use mq_name::QName;
 use mq_place::LocalRows;
 use mq_queue::{Queue, Row};
 use mq_resolve::RouteEnd;

@@ -1,8 +1,8 @@
 //! Texts of fields.
 ghost use Rattle.std.specs.Prelude.{◌≡◌, ◌≤◌, length};
-ghost use Rattle.mq_name.specs.Name.{padded, trimmed};
+ghost use Rattle.mq_base.specs.Name.{padded, trimmed};
 
-use mq_name::Label;
+use mq_base::Label;
 
 /// A field's text without the blanks at its end.
 pub(crate) fn trimmed(field: &[u8]) -> &[u8]

@@ -10,7 +10,7 @@ use Rattle.mq_history.specs.declared.scenario.Scenario.{Scenario}
 use Rattle.mq_history.specs.declared.scenario.ScriptPart.{ScriptPart}
 use Rattle.mq_history.specs.declared.scripts.ScriptLine.{ScriptLine}
 use Rattle.mq_history.specs.declared.scripts.ScriptLine.TheVariants as lines
-use Rattle.mq_spec_state.specs.Recovery.{AreKnown, IsImage}
+use Rattle.mq_calls.specs.Recovery.{AreKnown, IsImage}
 use Rattle.mq_spec_node.specs.Terms.{Entry}
 use Rattle.mq_spec_node.specs.Words.{IsReplayed, Memory, NodeValue, deadline_kept, is_script, is_trigger, line_call, next_if, wait_of}
 use Rattle.std.proofs.lemmas.Bool.Decides.{nat_tests}

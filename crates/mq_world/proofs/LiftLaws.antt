@@ -13,7 +13,7 @@ use Rattle.mq_spec_network.specs.Lawful.{node_begun}
 use Rattle.mq_spec_network.specs.Story.{entries_at, entries_or}
 use Rattle.mq_spec_network.specs.Tasks.{moment_of}
 use Rattle.mq_spec_network.specs.Turns.{is_up_at, node_at, node_of}
-use Rattle.mq_spec_state.specs.Words.{is_up}
+use Rattle.mq_calls.specs.Words.{is_up}
 use Rattle.mq_spec_network.specs.Steps.{Is}
 use Rattle.mq_events.specs.States.{NodeState, IsKept, IsServed, node_in, value_of}
 use Rattle.mq_events.specs.Events.{MayAct}

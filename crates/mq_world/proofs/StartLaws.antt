@@ -12,10 +12,10 @@ use Rattle.mq_history.specs.declared.scenario.ManagerLine.{ManagerLine}
 use Rattle.mq_history.specs.declared.scenario.Scenario.{Scenario}
 use Rattle.mq_objects.specs.declared.object.LocalQueue.{LocalQueue}
 use Rattle.mq_objects.specs.Names.{locals_of}
-use Rattle.mq_spec_state.specs.Reads.{queue_in}
-use Rattle.mq_spec_state.specs.State.{Plain, Queue}
-use Rattle.mq_spec_state.specs.Images.{queue_on}
-use Rattle.mq_spec_state.specs.Words.{stored}
+use Rattle.mq_calls.specs.Reads.{queue_in}
+use Rattle.mq_calls.specs.State.{Plain, Queue}
+use Rattle.mq_calls.specs.Images.{queue_on}
+use Rattle.mq_calls.specs.Words.{stored}
 use Rattle.mq_spec_manager.specs.Words.{first_due}
 use Rattle.mq_spec_node.specs.Terms.{Entry}
 use Rattle.mq_spec_node.specs.Words.{Own, Surroundings, after, node_of, opening_node, trigger_deed, trigger_deed_of}

@@ -8,8 +8,8 @@ use Rattle.mq_history.specs.declared.scenario.ManagerLine.{ManagerLine}
 use Rattle.mq_history.specs.declared.scenario.RulesPart.{RulesPart}
 use Rattle.mq_history.specs.declared.scenario.Scenario.{Scenario}
 use Rattle.mq_calls.specs.declared.image.Image.{Image}
-use Rattle.mq_spec_state.specs.Recovery.{AreKnown, IsImage}
-use Rattle.mq_spec_state.specs.State.{Given, Plain}
+use Rattle.mq_calls.specs.Recovery.{AreKnown, IsImage}
+use Rattle.mq_calls.specs.State.{Given, Plain}
 use Rattle.mq_spec_manager.specs.Stops.{first_start}
 use Rattle.mq_spec_node.specs.Terms.{Entry}
 use Rattle.mq_spec_node.specs.Words.{Follows, Handler, Own, TriggersStand, after, begun_anew, node_of, opening_node}

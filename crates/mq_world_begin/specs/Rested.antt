@@ -3,7 +3,7 @@ use Rattle.std.specs.Prelude.{◌≡◌, ◌+◌, ℕ, List, [], None, Some, len
 use Rattle.mq_history.specs.Scenarios.{IsScenario}
 use Rattle.mq_history.specs.declared.history.History.{History}
 use Rattle.mq_history.specs.declared.scenario.Scenario.{Scenario}
-use Rattle.mq_spec_state.specs.Recovery.{AreKnown, IsImage}
+use Rattle.mq_calls.specs.Recovery.{AreKnown, IsImage}
 use Rattle.mq_spec_node.specs.Words.{Own, Replays, TriggersStand, node_of, opening_node, state_of}
 use Rattle.mq_spec_network.specs.Given.{own_at, surroundings}
 use Rattle.mq_core.specs.Values.{CoreValue}

@@ -8,12 +8,11 @@ ghost use Rattle.mq_opening.specs.Opened.{JustBegun};
 ghost use Rattle.mq_owned.specs.Owned.{HasNoCables};
 ghost use Rattle.mq_world_begin.specs.Rested.{OpensWith};
 
-use mq_base::{Items, NoMemory};
+use mq_base::{Items, NoMemory, QName};
 use mq_core::{Core, Parts};
 use mq_disk::Disk;
 use mq_history::{History, Scenario};
 use mq_manager::Manager;
-use mq_name::QName;
 use mq_opening::{opening_length, opening_of};
 use mq_own::Own;
 use mq_owned::own_of;

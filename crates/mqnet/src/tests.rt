@@ -1,9 +1,8 @@
 //! The top call: each status by its cause, and what is told of it.
 
 use crate::top::mqnet;
-use mq_base::{MemSink, MemSource};
+use mq_base::{MemSink, MemSource, QName};
 use mq_disk::{Image, MemDisk, MemShelf, Side};
-use mq_name::QName;
 use std::alloc::{AllocError, Global};
 use std::test::*;
 

@@ -1,5 +1,5 @@
 use Rattle.mq_spec_manager.specs.Words.{trigger_turn}
-use Rattle.mq_spec_agents.specs.Words.{seize, leave, set_bound, expire, release_batch, prepare, hold_batch, harden, move_row, discard}
+use Rattle.mq_spec_manager.specs.Agents.{seize, leave, set_bound, expire, release_batch, prepare, hold_batch, harden, move_row, discard}
 use Rattle.mq_law_manager.proofs.Handling.{trigger_turn_keeps, seize_keeps, leave_keeps, set_bound_keeps, expire_keeps, move_row_keeps, discard_keeps}
 use Rattle.mq_law_manager.proofs.Batches.{release_batch_keeps, prepare_keeps, harden_keeps}
 use Rattle.mq_law_manager.proofs.Stopping.{hold_batch_keeps}

@@ -1,4 +1,4 @@
-use Rattle.mq_spec_state.specs.Reads.{stored}
+use Rattle.mq_calls.specs.Reads.{stored}
 use Rattle.mq_law_manager.proofs.Lists.{distinct_of}
 use Rattle.mq_law_manager.proofs.queues_are_queues.Goals as goal
 

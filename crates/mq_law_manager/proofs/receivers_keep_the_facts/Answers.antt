@@ -1,4 +1,4 @@
-use Rattle.mq_spec_agents.specs.Words.{receive}
+use Rattle.mq_spec_manager.specs.Agents.{receive}
 use Rattle.mq_law_manager.proofs.Receiving.{receive_keeps}
 use Rattle.mq_law_manager.proofs.Stocks.{receive_stocked}
 use Rattle.mq_law_manager.proofs.Ending.{joined}

@@ -1,7 +1,7 @@
-use Rattle.mq_spec_state.specs.Reads.{is_up, stored}
+use Rattle.mq_calls.specs.Reads.{is_up, stored}
 use Rattle.std.specs.Prelude.{Some}
 use Rattle.mq_spec_manager.specs.Triggers.{trigger_turn}
-use Rattle.mq_spec_agents.specs.Words.{discard, move_row, row_with}
+use Rattle.mq_spec_manager.specs.Agents.{discard, move_row, row_with}
 use Rattle.mq_law_seized.proofs.Changing.{step_leaves}
 use Rattle.mq_law_seized.proofs.Plain.{discard_plain, move_plain, trigger_plain}
 use Rattle.mq_law_seized.proofs.Seizing as seizing

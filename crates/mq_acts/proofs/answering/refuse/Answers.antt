@@ -1,5 +1,5 @@
 use Rattle.std.proofs.Common.{ap, ◌∙◌}
-use Rattle.mq_spec_state.specs.Words.{is_up}
+use Rattle.mq_calls.specs.Words.{is_up}
 use Rattle.mq_events.specs.States.{NodeState}
 use Rattle.mq_acts.specs.Answers.{absent}
 use Rattle.mq_acts.proofs.AnswerLaws.{refused_node}

@@ -1,11 +1,11 @@
 use Rattle.std.proofs.Common.{◌≡◌, ◌∙◌, sym, ap, subst, refl, arith}
 use Rattle.std.specs.Prelude.{ℕ, List, [], ◌∷◌, ◌++◌, length, map, take, Ok, ◌≤◌}
 use Rattle.mq_message.specs.declared.place.Holder.TheVariants as holders
-use Rattle.mq_spec_state.specs.Words.{Ident, Holder, Batch, Did, Plain, Step, ManagerValue, MeetsOrWants, Among, is_up, held_in, set_named, free_rows, apply_all}
-use Rattle.mq_spec_state.specs.State.Change.{Hold, AddBatch}
-use Rattle.mq_spec_state.specs.Meeting.Wants.{Anywhere}
+use Rattle.mq_calls.specs.Words.{Ident, Holder, Batch, Did, Plain, Step, ManagerValue, MeetsOrWants, Among, is_up, held_in, set_named, free_rows, apply_all}
+use Rattle.mq_calls.specs.State.Change.{Hold, AddBatch}
+use Rattle.mq_calls.specs.Meeting.Wants.{Anywhere}
 use Rattle.mq_spec_manager.specs.Words.{Never, idents_of}
-use Rattle.mq_spec_agents.specs.Words.{hold_batch, hold_rows, queue_of_sender}
+use Rattle.mq_spec_manager.specs.Agents.{hold_batch, hold_rows, queue_of_sender}
 use Rattle.mq_unit.specs.Told.{Telling}
 use Rattle.mq_core.specs.declared.parts.ChannelEnds.{ChannelEnds}
 use Rattle.mq_core.specs.Views.{PartsValue, plain_of, frozen_of}

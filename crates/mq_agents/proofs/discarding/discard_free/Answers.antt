@@ -6,11 +6,11 @@ use Rattle.mq_log.specs.Force.{Stops}
 use Rattle.mq_calls.specs.declared.deltas.Did.TheVariants as did
 use Rattle.mq_calls.specs.declared.deltas.Why.TheVariants as whys
 use Rattle.mq_calls.specs.declared.records.LogRecord.TheVariants as records
-use Rattle.mq_spec_state.specs.Words.{ManagerValue, Plain, Did, LogRecord, Noted, Step, Halt, MeetsOrWants, Do, Among, is_up, stored, freeze, logged, apply, apply_all}
-use Rattle.mq_spec_state.specs.State.Change.{Leave}
-use Rattle.mq_spec_state.specs.Meeting.Wants.{Anywhere}
+use Rattle.mq_calls.specs.Words.{ManagerValue, Plain, Did, LogRecord, Noted, Step, Halt, MeetsOrWants, Do, Among, is_up, stored, freeze, logged, apply, apply_all}
+use Rattle.mq_calls.specs.State.Change.{Leave}
+use Rattle.mq_calls.specs.Meeting.Wants.{Anywhere}
 use Rattle.mq_spec_manager.specs.Words.{Never}
-use Rattle.mq_spec_agents.specs.Words.{HasFreeRow, row_with, discard}
+use Rattle.mq_spec_manager.specs.Agents.{HasFreeRow, row_with, discard}
 use Rattle.mq_unit.specs.Told.{Telling}
 use Rattle.mq_core.specs.declared.parts.StoppedWrite.{StoppedWrite}
 use Rattle.mq_core.specs.Views.{PartsValue, plain_of, frozen_of, noted}

@@ -2,9 +2,9 @@ use Rattle.std.proofs.Common.{◌≡◌, ◌∙◌, List, [], length, sym, ap, s
 use Rattle.std.specs.Prelude.{Option, None, Ok, Err, Result, map}
 use Rattle.mq_disk.specs.declared.cutter.Stop.{Stop}
 use Rattle.mq_calls.specs.declared.deltas.Why.TheVariants as whys
-use Rattle.mq_spec_state.specs.Words.{AgentStop, Part, Plain, Step, ManagerValue, MeetsOrWants, Do}
+use Rattle.mq_calls.specs.Words.{AgentStop, Part, Plain, Step, ManagerValue, MeetsOrWants, Do}
 use Rattle.mq_spec_manager.specs.Words.{Never, expired_parts}
-use Rattle.mq_spec_agents.specs.Words.{expire, expired_rows, queue_of_sender}
+use Rattle.mq_spec_manager.specs.Agents.{expire, expired_rows, queue_of_sender}
 use Rattle.mq_scan.specs.declared.scanning.Met.{Met}
 use Rattle.mq_core.specs.Values.{CoreValue, manager_of, begun_call, bodies_in, WritesLog}
 use Rattle.mq_core.specs.Views.{PartsValue, plain_of}

@@ -1,7 +1,7 @@
 use Rattle.std.proofs.Common.{◌≡◌, ◌∙◌, true, false, sym, ap, refl}
 use Rattle.mq_sync.specs.declared.data.End.TheVariants as sync_ends
-use Rattle.mq_spec_state.specs.Words.{ReceiverData, receiver_or, receiver_data}
-use Rattle.mq_spec_state.specs.State.Change.{SetReceiver}
+use Rattle.mq_calls.specs.Words.{ReceiverData, receiver_or, receiver_data}
+use Rattle.mq_calls.specs.State.Change.{SetReceiver}
 use Rattle.mq_calls.specs.declared.agents.Note.TheVariants as notes
 use Rattle.mq_agents.specs.Written.{noted_change}
 use Rattle.mq_core.specs.Values.{CoreValue}

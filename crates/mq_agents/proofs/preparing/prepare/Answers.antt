@@ -1,5 +1,5 @@
 use Rattle.std.proofs.Common.{ap, ◌∙◌}
-use Rattle.mq_spec_state.specs.Words.{is_up}
+use Rattle.mq_calls.specs.Words.{is_up}
 use Rattle.mq_core.specs.Values.{CoreValue}
 use Rattle.mq_agents.proofs.preparing.prepare.Goals as goal
 

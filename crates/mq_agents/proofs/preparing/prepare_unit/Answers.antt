@@ -1,10 +1,10 @@
 use Rattle.std.proofs.Common.{◌≡◌, ℕ, ◌+◌, ◌≤◌, ◌<◌, ◌∙◌, true, false, sym, ap, subst, refl, arith}
 use Rattle.std.specs.Prelude.{List, [], ◌∷◌, ◌++◌, length, Some, Ok, Err}
-use Rattle.mq_spec_state.specs.Words.{ManagerValue, Plain, Did, InDoubt, SenderData, SenderSide, PrepareFault, LogRecord, Noted, Step, MeetsOrWants, Do, is_up, is_full, need, batch_of, sender_or, sender_data, data_prepared, set_sender, apply, apply_all}
-use Rattle.mq_spec_state.specs.State.Change.{DropBatch}
-use Rattle.mq_spec_state.specs.Meeting.Wants.{Anywhere}
+use Rattle.mq_calls.specs.Words.{ManagerValue, Plain, Did, InDoubt, SenderData, SenderSide, PrepareFault, LogRecord, Noted, Step, MeetsOrWants, Do, is_up, is_full, need, batch_of, sender_or, sender_data, data_prepared, set_sender, apply, apply_all}
+use Rattle.mq_calls.specs.State.Change.{DropBatch}
+use Rattle.mq_calls.specs.Meeting.Wants.{Anywhere}
 use Rattle.mq_calls.specs.declared.deltas.Did.TheVariants as did
-use Rattle.mq_spec_agents.specs.Words.{prepare}
+use Rattle.mq_spec_manager.specs.Agents.{prepare}
 use Rattle.mq_unit.specs.Told.{Telling}
 use Rattle.mq_core.specs.declared.parts.ChannelEnds.{ChannelEnds}
 use Rattle.mq_core.specs.declared.parts.StoppedWrite.TheVariants as writes

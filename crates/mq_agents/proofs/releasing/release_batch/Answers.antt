@@ -1,11 +1,11 @@
 use Rattle.std.proofs.Common.{◌≡◌, ◌∙◌, false, sym, ap, subst, refl, arith}
 use Rattle.std.specs.Prelude.{ℕ, List, [], ◌∷◌, ◌++◌, map, Some, Ok}
 use Rattle.mq_message.specs.declared.place.Holder.TheVariants as holders
-use Rattle.mq_spec_state.specs.Words.{Ident, Holder, Batch, Did, Plain, Step, ManagerValue, MeetsOrWants, HeldBy, is_up, released_in, batch_of, apply_all}
-use Rattle.mq_spec_state.specs.State.Change.{Release, DropBatch}
-use Rattle.mq_spec_state.specs.Meeting.Wants.{Anywhere}
+use Rattle.mq_calls.specs.Words.{Ident, Holder, Batch, Did, Plain, Step, ManagerValue, MeetsOrWants, HeldBy, is_up, released_in, batch_of, apply_all}
+use Rattle.mq_calls.specs.State.Change.{Release, DropBatch}
+use Rattle.mq_calls.specs.Meeting.Wants.{Anywhere}
 use Rattle.mq_spec_manager.specs.Words.{Never}
-use Rattle.mq_spec_agents.specs.Words.{release_batch, release_of}
+use Rattle.mq_spec_manager.specs.Agents.{release_batch, release_of}
 use Rattle.mq_unit.specs.Told.{Telling}
 use Rattle.mq_core.specs.declared.parts.ChannelEnds.{ChannelEnds}
 use Rattle.mq_core.specs.Views.{PartsValue, plain_of, frozen_of}

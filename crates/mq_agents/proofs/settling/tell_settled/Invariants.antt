@@ -1,4 +1,4 @@
-use Rattle.mq_spec_agents.specs.Words.{settle_did}
+use Rattle.mq_spec_manager.specs.Agents.{settle_did}
 use Rattle.mq_agents.proofs.TellLaws.{TellsLeft}
 use Rattle.mq_agents.proofs.settling.tell_settled.Given as goal
 

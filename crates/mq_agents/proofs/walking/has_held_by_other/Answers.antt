@@ -1,7 +1,7 @@
 use Rattle.std.proofs.Common.{◌≡◌, ap, ◌∙◌}
 use Rattle.std.specs.Prelude.{is_some}
 use Rattle.mq_queue.specs.declared.row.Row.{Row}
-use Rattle.mq_spec_state.specs.Reads.{is_by_other}
+use Rattle.mq_calls.specs.Reads.{is_by_other}
 use Rattle.mq_agents.proofs.WalkLaws.{any_found}
 use Rattle.mq_agents.proofs.walking.has_held_by_other.Goals as goal
 

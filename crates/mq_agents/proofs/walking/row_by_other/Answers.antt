@@ -1,7 +1,7 @@
 use Rattle.std.proofs.Common.{sym, ap, length, ◌∙◌, arith}
 use Rattle.std.specs.Prelude.{find}
 use Rattle.mq_queue.specs.declared.row.Row.{Row}
-use Rattle.mq_spec_state.specs.Reads.{is_by_other}
+use Rattle.mq_calls.specs.Reads.{is_by_other}
 use Rattle.mq_place.proofs.AfterLaws.{rows_from_front, row_here, row_next, row_fewer, row_none}
 use Rattle.mq_agents.proofs.walking.row_by_other.Goals as goal
 

@@ -2,7 +2,7 @@ use Rattle.std.proofs.Common.{◌≡◌, ◌+◌, ◌≤◌, length}
 use Rattle.std.specs.Prelude.{find}
 use Rattle.mq_place.specs.States.{rows_after}
 use Rattle.mq_queue.specs.declared.row.Row.{Row}
-use Rattle.mq_spec_state.specs.Reads.{is_by_other}
+use Rattle.mq_calls.specs.Reads.{is_by_other}
 use Rattle.mq_agents.proofs.walking.row_by_other.Given as goal
 
 abbrev pub invariant-loop-seen : goal.invariant-loop-seen

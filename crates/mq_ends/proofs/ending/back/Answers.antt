@@ -1,5 +1,5 @@
 use Rattle.std.proofs.Common.{◌≡◌, [], ◌∷◌, sym, ap, subst, ◌∙◌}
-use Rattle.mq_spec_state.specs.Words.{Do, Plain, Connection, connection_at, is_up, apply_all}
+use Rattle.mq_calls.specs.Words.{Do, Plain, Connection, connection_at, is_up, apply_all}
 use Rattle.mq_spec_manager.specs.Units.{backout_part}
 use Rattle.mq_log.specs.State.{LogState}
 use Rattle.mq_core.specs.Views.{PartsValue, plain_of, frozen_of}

@@ -1,5 +1,5 @@
 use Rattle.std.proofs.Common.{◌≡◌, ◌≢◌, ◌≤◌, ◌<◌, ◌+◌, ◌-◌, ℕ, List, refl, length, take, get_or, sym, ap, ◌∙◌, arith}
-use Rattle.mq_name.specs.Name.{trimmed}
+use Rattle.mq_base.specs.Name.{trimmed}
 use Rattle.mq_fill.proofs.TrimLemmas.{trimmed-take_blank, trimmed-take_other}
 use Rattle.mq_fill.proofs.text.trimmed.Goals as goal
 use Rattle.mq_fill.proofs.text.trimmed.Goals.{then-trimming-test+else-field-len-eq32, else-trimming-test}

@@ -1,8 +1,8 @@
 use Rattle.std.proofs.Common.{[], ◌∷◌, ◌++◌, refl, ap, ◌∙◌}
 use Rattle.std.specs.Prelude.{None}
 use Rattle.mq_calls.specs.declared.deltas.Why.TheVariants as whys
-use Rattle.mq_spec_state.specs.State.Change.{SetCursor}
-use Rattle.mq_spec_state.specs.Words.{silent, connection_at}
+use Rattle.mq_calls.specs.State.Change.{SetCursor}
+use Rattle.mq_calls.specs.Words.{silent, connection_at}
 use Rattle.mq_handles.specs.Desks.{Desk}
 use Rattle.mq_core.specs.Views.{PartsValue}
 use Rattle.mq_core.specs.Ties.{mode_is_up}

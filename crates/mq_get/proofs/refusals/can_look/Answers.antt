@@ -1,6 +1,6 @@
 use Rattle.std.proofs.Common.{sym, ap, subst, ◌∙◌}
 use Rattle.std.specs.Prelude.{Ok}
-use Rattle.mq_spec_state.specs.Words.{is_full}
+use Rattle.mq_calls.specs.Words.{is_full}
 use Rattle.mq_spec_manager.specs.Words.{scan_need}
 use Rattle.mq_core.specs.Views.{plain_of}
 use Rattle.mq_get.specs.declared.refusals.Aim.{Aim}

@@ -1,6 +1,6 @@
 use Rattle.std.proofs.Common.{◌≡◌, length}
 use Rattle.mq_place.specs.States.{rows_after}
-use Rattle.mq_spec_state.specs.Words.{stored}
+use Rattle.mq_calls.specs.Words.{stored}
 use Rattle.mq_spec_node.specs.Words.{next_letter}
 use Rattle.mq_handle.proofs.LetterLaws.{left}
 use Rattle.mq_handle.proofs.finding.next_letter.Given as goal

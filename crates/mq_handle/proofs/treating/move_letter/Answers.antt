@@ -1,6 +1,6 @@
 use Rattle.std.proofs.Common.{ℕ, ◌+◌, ap, ◌∙◌}
 use Rattle.mq_spec_node.specs.Words.{Handler}
-use Rattle.mq_spec_agents.specs.Words.{move_row}
+use Rattle.mq_spec_manager.specs.Agents.{move_row}
 use Rattle.mq_handle.specs.Treatments.{later, moving}
 use Rattle.mq_handle.proofs.TreatLaws.{move_refused, move_cut, move_short, remembered_is, reserved_is, treated_like}
 use Rattle.mq_handle.proofs.treating.move_letter.Goals as goal

@@ -1,7 +1,7 @@
 use Rattle.std.proofs.Common.{Bool, subst}
 use Rattle.std.specs.Prelude.{IfSome}
 use Rattle.mq_core.specs.Values.{CoreValue}
-use Rattle.mq_spec_agents.specs.Words.{CanMove, IsUp}
+use Rattle.mq_spec_manager.specs.Agents.{CanMove, IsUp}
 use Rattle.mq_handle.specs.declared.finding.DueLetter.{DueLetter}
 use Rattle.mq_handle.proofs.TurnLaws.{can_of}
 use Rattle.mq_handle.proofs.turning.letter_at.Goals as goal

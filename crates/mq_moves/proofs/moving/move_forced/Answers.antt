@@ -5,9 +5,9 @@ use Rattle.mq_disk.specs.declared.cutter.Stop.{Stop}
 use Rattle.mq_log.specs.Force.{Stops}
 use Rattle.mq_calls.specs.declared.deltas.Did.TheVariants as did
 use Rattle.mq_calls.specs.declared.records.LogRecord.TheVariants as records
-use Rattle.mq_spec_state.specs.Words.{ManagerValue, Plain, Did, Ident, Reason, AgentStop, LogRecord, local_of, is_up, need, freeze, logged}
+use Rattle.mq_calls.specs.Words.{ManagerValue, Plain, Did, Ident, Reason, AgentStop, LogRecord, local_of, is_up, need, freeze, logged}
 use Rattle.mq_core.specs.Counting.{CanCount}
-use Rattle.mq_spec_agents.specs.Words.{HasFreeRow}
+use Rattle.mq_spec_manager.specs.Agents.{HasFreeRow}
 use Rattle.mq_unit.specs.Told.{Telling}
 use Rattle.mq_core.specs.Views.{PartsValue, plain_of, frozen_of}
 use Rattle.mq_core.specs.Ties.{Tied, IsReady, mode_is_up}

@@ -1,9 +1,9 @@
 use Rattle.std.proofs.Common.{◌≡◌, ◌∙◌, sym, ap, subst, refl, true}
 use Rattle.std.specs.Prelude.{List, [], ◌∷◌, ◌++◌, IsSome}
 use Rattle.mq_calls.specs.declared.deltas.Did.TheVariants as did
-use Rattle.mq_spec_state.specs.Words.{ManagerValue, Plain, Did, Ident, local_of, is_up}
+use Rattle.mq_calls.specs.Words.{ManagerValue, Plain, Did, Ident, local_of, is_up}
 use Rattle.mq_core.specs.Counting.{CanCount}
-use Rattle.mq_spec_agents.specs.Words.{HasFreeRow}
+use Rattle.mq_spec_manager.specs.Agents.{HasFreeRow}
 use Rattle.mq_unit.specs.Told.{Telling}
 use Rattle.mq_core.specs.Views.{PartsValue, plain_of, frozen_of}
 use Rattle.mq_core.specs.Ties.{Tied, mode_is_up}

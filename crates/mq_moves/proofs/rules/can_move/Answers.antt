@@ -1,9 +1,9 @@
 use Rattle.std.proofs.Common.{ℕ, true, false, ap, sym, subst, arith, ◌∙◌}
 use Rattle.std.specs.Prelude.{List, length, IsSome}
 use Rattle.mq_resolve.specs.Resolved.{resolve}
-use Rattle.mq_spec_state.specs.Words.{Message, PathStep, Route, refusal, local_of}
+use Rattle.mq_calls.specs.Words.{Message, PathStep, Route, refusal, local_of}
 use Rattle.mq_spec_manager.specs.Words.{queue_at}
-use Rattle.mq_spec_agents.specs.Words.{route_tests}
+use Rattle.mq_spec_manager.specs.Agents.{route_tests}
 use Rattle.mq_core.specs.Views.{PartsValue, plain_of}
 use Rattle.mq_moves.specs.Moving.{moved_step}
 use Rattle.mq_moves.specs.Landed.{route_by}

@@ -1,6 +1,6 @@
 use Rattle.std.proofs.Common.{ap, sym, subst, ◌∙◌}
-use Rattle.mq_spec_state.specs.Words.{is_up}
-use Rattle.mq_spec_agents.specs.Words.{CanMove}
+use Rattle.mq_calls.specs.Words.{is_up}
+use Rattle.mq_spec_manager.specs.Agents.{CanMove}
 use Rattle.mq_core.specs.Values.{CoreValue}
 use Rattle.mq_moves.proofs.rules.move_row.Goals as goal
 

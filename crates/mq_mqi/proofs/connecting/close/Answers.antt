@@ -1,8 +1,8 @@
 use Rattle.std.proofs.Common.{ap, ◌∙◌, sym, subst}
 use Rattle.std.specs.Prelude.{[], ◌∷◌, Ok}
-use Rattle.mq_spec_state.specs.Words.{Plain, is_up, connection_at, Reason, Answer, Step}
-use Rattle.mq_spec_state.specs.Meeting.Wants.{Nowhere}
-use Rattle.mq_spec_state.specs.State.Change.{CloseHandle}
+use Rattle.mq_calls.specs.Words.{Plain, is_up, connection_at, Reason, Answer, Step}
+use Rattle.mq_calls.specs.Meeting.Wants.{Nowhere}
+use Rattle.mq_calls.specs.State.Change.{CloseHandle}
 use Rattle.mq_spec_manager.specs.Words.{close_up}
 use Rattle.mq_calls.specs.declared.answers.Answer.TheVariants as answers
 use Rattle.mq_handles.specs.Seats.{closed}

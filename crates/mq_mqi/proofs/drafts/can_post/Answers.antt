@@ -1,6 +1,6 @@
 use Rattle.std.proofs.Common.{sym, ap, refl, ◌∙◌}
 use Rattle.std.specs.Prelude.{List, ℕ, true, length}
-use Rattle.mq_spec_state.specs.Words.{Message, refusal}
+use Rattle.mq_calls.specs.Words.{Message, refusal}
 use Rattle.mq_spec_manager.specs.Words.{log_full}
 use Rattle.mq_mqi.specs.Puts.{definitions_tests, counts_tests}
 use Rattle.mq_core.specs.Views.{plain_of}

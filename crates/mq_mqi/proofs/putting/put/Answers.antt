@@ -1,5 +1,5 @@
 use Rattle.std.proofs.Common.{sym, subst}
-use Rattle.mq_spec_state.specs.Words.{Reason, Answer, Sent, Step, Meets}
+use Rattle.mq_calls.specs.Words.{Reason, Answer, Sent, Step, Meets}
 use Rattle.mq_core.proofs.MeetLaws.{some_is}
 use Rattle.mq_mqi.proofs.LetterLaws.{letter_now, letter_unit}
 use Rattle.mq_core.specs.Values.{manager_of, WritesLog}

@@ -1,8 +1,8 @@
 use Rattle.std.proofs.Common.{◌≡◌, ◌∙◌, sym, ap, subst, arith}
 use Rattle.std.specs.Prelude.{List, [], ◌∷◌, ◌++◌, Ok, None, IsSome}
-use Rattle.mq_spec_state.specs.Words.{ManagerValue, Plain, Did, Answer, Sent, Meets, local_of, apply_all}
+use Rattle.mq_calls.specs.Words.{ManagerValue, Plain, Did, Answer, Sent, Meets, local_of, apply_all}
 use Rattle.mq_core.specs.Counting.{CanCount}
-use Rattle.mq_spec_state.specs.State.Change.{CountIdent}
+use Rattle.mq_calls.specs.State.Change.{CountIdent}
 use Rattle.mq_spec_manager.specs.Words.{next_ident, placed}
 use Rattle.mq_calls.specs.declared.deltas.Did.TheVariants as did
 use Rattle.mq_unit.specs.Told.{Telling}

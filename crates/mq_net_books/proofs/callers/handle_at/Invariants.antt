@@ -1,5 +1,5 @@
 use Rattle.std.proofs.Common.{◌≡◌, drop}
-use Rattle.mq_spec_state.specs.Reads.{handle_at}
+use Rattle.mq_calls.specs.Reads.{handle_at}
 use Rattle.mq_net_books.proofs.callers.handle_at.Given as goal
 
 abbrev pub invariant-loop-handle : goal.invariant-loop-handle

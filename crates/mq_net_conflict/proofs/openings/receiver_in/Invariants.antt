@@ -1,5 +1,5 @@
 use Rattle.std.proofs.Common.{◌≡◌, drop}
-use Rattle.mq_spec_state.specs.Reads.{receiver_in}
+use Rattle.mq_calls.specs.Reads.{receiver_in}
 use Rattle.mq_net_conflict.proofs.openings.receiver_in.Given as goal
 
 abbrev pub invariant-loop-side : goal.invariant-loop-side

@@ -4,7 +4,7 @@ use Rattle.std.proofs.lemmas.Result.{IfOk-weaker}
 use Rattle.mq_message.specs.declared.message.Message.{Message}
 use Rattle.mq_heads.specs.Headers.{dlh_read}
 use Rattle.mq_heads.specs.declared.headers.Dlh.{Dlh}
-use Rattle.mq_spec_agents.specs.Moves.{bare_message}
+use Rattle.mq_spec_manager.specs.Moves.{bare_message}
 use Rattle.mq_net_ledger.proofs.HeadLaws.{head_long, head_is}
 use Rattle.mq_net_ledger.proofs.messages.bare_message.Goals as goal
 

@@ -1,5 +1,5 @@
 use Rattle.std.proofs.Common.{◌≡◌, ◌≤◌, length, take}
-use Rattle.mq_name.specs.Name.{trimmed}
+use Rattle.mq_base.specs.Name.{trimmed}
 use Rattle.mq_net_report.proofs.starts.trimmed.Given as goal
 
 abbrev pub invariant-trimming : goal.invariant-trimming

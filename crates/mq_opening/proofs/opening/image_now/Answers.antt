@@ -1,5 +1,5 @@
 use Rattle.std.specs.Prelude.{refl}
-use Rattle.mq_start.specs.Begun.{given_by}
+use Rattle.mq_restart.specs.Begun.{given_by}
 use Rattle.mq_opening.proofs.opening.image_now.Goals as goal
 
 pub returns : goal.returns

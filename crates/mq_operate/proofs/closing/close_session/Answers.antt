@@ -1,5 +1,5 @@
 use Rattle.mq_calls.specs.declared.agents.Note.TheVariants as notes
-use Rattle.mq_spec_agents.specs.Words.{harden}
+use Rattle.mq_spec_manager.specs.Agents.{harden}
 use Rattle.mq_spec_node.specs.Words.{parts_of}
 use Rattle.mq_operate.proofs.CloseLaws.{made_unbound}
 use Rattle.mq_operate.proofs.closing.close_session.Goals as goal

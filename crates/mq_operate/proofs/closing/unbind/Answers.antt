@@ -1,6 +1,6 @@
 use Rattle.std.proofs.Common.{sym, subst, false}
 use Rattle.std.specs.Prelude.{Ok}
-use Rattle.mq_spec_agents.specs.Words.{IsUp}
+use Rattle.mq_spec_manager.specs.Agents.{IsUp}
 use Rattle.mq_core.specs.Values.{CoreValue}
 use Rattle.mq_manager.proofs.CallLaws.{kept_bound}
 use Rattle.mq_operate.proofs.closing.unbind.Goals as goal

@@ -1,5 +1,5 @@
 use Rattle.std.proofs.Common.{subst}
-use Rattle.mq_spec_agents.specs.Words.{seize}
+use Rattle.mq_spec_manager.specs.Agents.{seize}
 use Rattle.mq_spec_node.specs.Words.{SenderEnd}
 use Rattle.mq_events.specs.States.{NodeState}
 use Rattle.mq_operate.specs.Senders.{SoughtOr}

@@ -1,5 +1,5 @@
 use Rattle.std.proofs.Common.{refl, sym, ◌∙◌, arith}
-use Rattle.mq_spec_state.specs.Changes.{forgotten}
+use Rattle.mq_calls.specs.Changes.{forgotten}
 use Rattle.mq_place.specs.States.{on_queue}
 use Rattle.mq_place.proofs.EveryLaws.{changed_none, changed_next, changed_end}
 use Rattle.mq_place.proofs.slots.forget.Goals as goal

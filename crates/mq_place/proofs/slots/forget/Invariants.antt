@@ -1,6 +1,6 @@
 use Rattle.std.proofs.Common.{◌≡◌}
 use Rattle.std.specs.Prelude.{vec_len, vec_capacity}
-use Rattle.mq_spec_state.specs.Changes.{forgotten}
+use Rattle.mq_calls.specs.Changes.{forgotten}
 use Rattle.mq_place.specs.States.{on_queue}
 use Rattle.mq_place.proofs.EveryLaws.{changed_first}
 use Rattle.mq_place.proofs.slots.forget.Given as goal

@@ -1,7 +1,7 @@
 use Rattle.std.proofs.Common.{sym, subst}
 use Rattle.std.specs.Prelude.{Result}
-use Rattle.mq_spec_state.specs.Words.{Reason}
-use Rattle.mq_spec_agents.specs.Words.{Landing}
+use Rattle.mq_calls.specs.Words.{Reason}
+use Rattle.mq_spec_manager.specs.Agents.{Landing}
 use Rattle.mq_core.specs.Views.{plain_of}
 use Rattle.mq_receive.specs.Arriving.{Lands}
 use Rattle.mq_receive.proofs.AheadLaws.{land_ahead}

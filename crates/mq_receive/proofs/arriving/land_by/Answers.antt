@@ -1,7 +1,7 @@
 use Rattle.std.proofs.Common.{ap, subst, ◌∙◌}
 use Rattle.std.specs.Prelude.{List, Result}
 use Rattle.mq_resolve.specs.Resolved.{resolve}
-use Rattle.mq_spec_state.specs.Words.{Dest, PathStep, Reason, Route}
+use Rattle.mq_calls.specs.Words.{Dest, PathStep, Reason, Route}
 use Rattle.mq_core.specs.Views.{PartsValue, plain_of}
 use Rattle.mq_receive.specs.Ahead.{depth_ahead, resolved_at}
 use Rattle.mq_receive.specs.Arriving.{Lands}

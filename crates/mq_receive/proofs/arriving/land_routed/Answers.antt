@@ -1,6 +1,6 @@
 use Rattle.std.proofs.Common.{ℕ, ◌+◌, ap, sym, subst, ◌∙◌}
 use Rattle.std.specs.Prelude.{List, Option, length}
-use Rattle.mq_spec_state.specs.Words.{Reason, depth, refusal}
+use Rattle.mq_calls.specs.Words.{Reason, depth, refusal}
 use Rattle.mq_spec_manager.specs.Words.{queue_at}
 use Rattle.mq_core.specs.Views.{plain_of}
 use Rattle.mq_moves.specs.Landed.{route_by, tests_at}

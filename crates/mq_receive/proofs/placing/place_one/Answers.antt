@@ -1,5 +1,5 @@
 use Rattle.std.proofs.Common.{Bool, ap, sym, subst, ◌∙◌}
-use Rattle.mq_spec_state.specs.Words.{is_persistent}
+use Rattle.mq_calls.specs.Words.{is_persistent}
 use Rattle.mq_core.specs.Views.{PartsValue}
 use Rattle.mq_core.specs.Ties.{IsReady}
 use Rattle.mq_core.specs.Placing.{put_in_place}

@@ -1,7 +1,7 @@
 use Rattle.std.proofs.Common.{refl, subst}
 use Rattle.std.specs.Prelude.{List, Ok, Err}
-use Rattle.mq_spec_state.specs.Words.{Plain}
-use Rattle.mq_spec_agents.specs.Words.{land}
+use Rattle.mq_calls.specs.Words.{Plain}
+use Rattle.mq_spec_manager.specs.Agents.{land}
 use Rattle.mq_core.specs.declared.parts.Arrival.{Arrival}
 use Rattle.mq_core.specs.Views.{plain_of}
 use Rattle.mq_receive.specs.Ahead.{IsAhead}

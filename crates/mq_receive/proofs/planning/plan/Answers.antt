@@ -1,5 +1,5 @@
 use Rattle.std.proofs.Common.{◌+◌, drop}
-use Rattle.mq_spec_agents.specs.Words.{landed}
+use Rattle.mq_spec_manager.specs.Agents.{landed}
 use Rattle.mq_core.specs.Views.{plain_of}
 use Rattle.mq_receive.proofs.PlanLaws.{plan_at, plan_stops}
 use Rattle.mq_receive.proofs.planning.plan.Goals as goal

@@ -1,5 +1,5 @@
 use Rattle.std.proofs.Common.{ap, sym, subst, ◌∙◌}
-use Rattle.mq_spec_state.specs.Words.{is_up}
+use Rattle.mq_calls.specs.Words.{is_up}
 use Rattle.mq_core.specs.Counting.{CanCount}
 use Rattle.mq_core.specs.Values.{CoreValue}
 use Rattle.mq_core.specs.Views.{plain_of, frozen_of}

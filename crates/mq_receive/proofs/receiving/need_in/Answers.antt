@@ -1,5 +1,5 @@
 use Rattle.std.proofs.Common.{◌+◌, ℕ, ap, sym, ◌∙◌}
-use Rattle.mq_spec_state.specs.Words.{is_full}
+use Rattle.mq_calls.specs.Words.{is_full}
 use Rattle.mq_core.specs.Views.{plain_of}
 use Rattle.mq_receive.specs.Filling.{adds_size}
 use Rattle.mq_receive.proofs.NeedLaws.{need_is, full_of, has_need}

@@ -1,7 +1,7 @@
 use Rattle.std.proofs.Common.{ap, sym, subst}
 use Rattle.std.specs.Prelude.{[], Err}
-use Rattle.mq_spec_state.specs.Words.{MeetsOrWants, Reason, Step}
-use Rattle.mq_spec_agents.specs.Words.{landed}
+use Rattle.mq_calls.specs.Words.{MeetsOrWants, Reason, Step}
+use Rattle.mq_spec_manager.specs.Agents.{landed}
 use Rattle.mq_law_manager.specs.Facts.{Sound, AreNamed}
 use Rattle.mq_agents.specs.Ends.{by_place}
 use Rattle.mq_core.specs.Values.{CoreValue, WritesLog, manager_of}

@@ -2,8 +2,8 @@ use Rattle.std.proofs.Common.{◌≡◌, true, ap, sym, subst, ◌∙◌}
 use Rattle.std.specs.Prelude.{List, Ok}
 use Rattle.std.specs.List.{AllByRecursion}
 use Rattle.mq_codes.specs.declared.reason.Reason.TheVariants as reasons
-use Rattle.mq_spec_state.specs.Words.{MeetsOrWants, Reason, Step, is_full, is_up, need}
-use Rattle.mq_spec_agents.specs.Words.{receive_landed}
+use Rattle.mq_calls.specs.Words.{MeetsOrWants, Reason, Step, is_full, is_up, need}
+use Rattle.mq_spec_manager.specs.Agents.{receive_landed}
 use Rattle.mq_agents.specs.Ends.{by_place}
 use Rattle.mq_core.specs.declared.parts.Arrival.{Arrival}
 use Rattle.mq_core.specs.Values.{CoreValue, WritesLog, manager_of}

@@ -3,7 +3,7 @@ use Rattle.std.proofs.lemmas.List.{take_all, append-nil}
 use Rattle.byteorder.specs.Endian.{big_bytes}
 use Rattle.mq_message.specs.Layout.{unsigned_bytes}
 use Rattle.mq_message.proofs.LayoutLaws.{behind}
-use Rattle.mq_name.specs.Name.{padded}
+use Rattle.mq_base.specs.Name.{padded}
 use Rattle.mq_record.proofs.fronts.closed_bytes.Goals as goal
 
 pub returns-clause-bytes : goal.returns-clause-bytes

@@ -2,7 +2,7 @@ use Rattle.std.proofs.Common.{◌≡◌, ℕ, List, [], ◌∷◌, ◌++◌, tak
 use Rattle.std.proofs.lemmas.List.{take_all, append-nil}
 use Rattle.mq_message.specs.Layout.{unsigned_bytes}
 use Rattle.mq_message.proofs.LayoutLaws.{behind}
-use Rattle.mq_name.specs.Name.{padded}
+use Rattle.mq_base.specs.Name.{padded}
 use Rattle.mq_frame.specs.Frames.{ident_bytes}
 use Rattle.mq_record.proofs.fronts.moved_front.Goals as goal
 

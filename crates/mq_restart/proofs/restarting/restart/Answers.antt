@@ -1,7 +1,7 @@
 use Rattle.std.proofs.Common.{false, ap, arith, refl, sym, subst, ◌∙◌}
 use Rattle.std.specs.Prelude.{MatchResult}
 use Rattle.mq_calls.specs.declared.commands.RestartFault.TheVariants as faults
-use Rattle.mq_spec_state.specs.Words.{is_up}
+use Rattle.mq_calls.specs.Words.{is_up}
 use Rattle.mq_unit.specs.Told.{Telling}
 use Rattle.mq_core.specs.Values.{CoreValue, begun_call}
 use Rattle.mq_core.specs.Views.{PartsValue, plain_of}

@@ -1,7 +1,7 @@
 use Rattle.std.proofs.Common.{refl, subst}
 use Rattle.mq_frame.specs.Reading.{IsBytes}
-use Rattle.mq_start.specs.Begun.{given_by}
-use Rattle.mq_start.proofs.ReadLaws.{bodies_are}
+use Rattle.mq_restart.specs.Begun.{given_by}
+use Rattle.mq_restart.proofs.ReadLaws.{bodies_are}
 use Rattle.mq_restarts.proofs.images.told_by.Goals as goal
 
 pub returns-clause-recovers : goal.returns-clause-recovers

@@ -1,7 +1,7 @@
 use Rattle.std.proofs.Common.{ap, refl}
 use Rattle.std.specs.Prelude.{Err}
 use Rattle.mq_log.specs.declared.open.StartFault.{StartFault}
-use Rattle.mq_start.proofs.AgainLaws.{has_read, unopened}
+use Rattle.mq_restart.proofs.AgainLaws.{has_read, unopened}
 use Rattle.mq_restarts.proofs.StepLaws.{is_reread}
 use Rattle.mq_restarts.proofs.raising.reread.Goals as goal
 

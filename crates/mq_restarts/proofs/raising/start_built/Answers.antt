@@ -3,8 +3,8 @@ use Rattle.std.specs.Prelude.{Err}
 use Rattle.mq_disk.specs.declared.cutter.Stop.{Stop}
 use Rattle.mq_record.proofs.SizeLaws.{record_whole}
 use Rattle.mq_spec_manager.specs.Stops.{started_record}
-use Rattle.mq_start.specs.Begun.{given_by}
-use Rattle.mq_start.proofs.AgainLaws.{is_raised, is_unraised}
+use Rattle.mq_restart.specs.Begun.{given_by}
+use Rattle.mq_restart.proofs.AgainLaws.{is_raised, is_unraised}
 use Rattle.mq_restarts.proofs.raising.start_built.Goals as goal
 
 pub returns-in-Ok-append_forced-clause-raised : goal.returns-in-Ok-append_forced-clause-raised

@@ -4,7 +4,7 @@ use Rattle.mq_base.specs.Outside.{Rose}
 use Rattle.mq_disk.specs.declared.cutter.Stop.{Stop}
 use Rattle.mq_log.specs.Force.{Stops}
 use Rattle.mq_calls.specs.declared.records.LogRecord.TheVariants as records
-use Rattle.mq_spec_state.specs.Words.{ManagerValue, Plain, MeetsOrWants, is_up, need, freeze, logged, note_of, apply_all}
+use Rattle.mq_calls.specs.Words.{ManagerValue, Plain, MeetsOrWants, is_up, need, freeze, logged, note_of, apply_all}
 use Rattle.mq_spec_manager.specs.Commands.{object_part}
 use Rattle.mq_law_manager.specs.Facts.{AreOnce}
 use Rattle.mq_core.specs.Views.{PartsValue, plain_of, frozen_of}

@@ -1,6 +1,6 @@
 use Rattle.std.proofs.Common.{sym, ap, subst, ◌∙◌}
 use Rattle.std.specs.Prelude.{None}
-use Rattle.mq_spec_state.specs.Words.{Plain, Down, is_up}
+use Rattle.mq_calls.specs.Words.{Plain, Down, is_up}
 use Rattle.mq_spec_manager.specs.Stops.{at_rest}
 use Rattle.mq_core.specs.Views.{PartsValue, plain_of, frozen_of}
 use Rattle.mq_core.specs.Ties.{Tied}

@@ -1,7 +1,7 @@
 use Rattle.std.proofs.Common.{sym, ap, subst, ◌∙◌}
 use Rattle.std.specs.Prelude.{[]}
-use Rattle.mq_spec_state.specs.Words.{Plain, apply}
-use Rattle.mq_spec_state.specs.State.Change.{Serve}
+use Rattle.mq_calls.specs.Words.{Plain, apply}
+use Rattle.mq_calls.specs.State.Change.{Serve}
 use Rattle.mq_core.specs.Views.{PartsValue, plain_of}
 use Rattle.mq_core.specs.Ties.{Tied}
 use Rattle.mq_steer.specs.Turns.{IsDue}

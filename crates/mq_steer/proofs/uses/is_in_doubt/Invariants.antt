@@ -1,6 +1,6 @@
 use Rattle.std.proofs.Common.{◌≡◌, drop}
 use Rattle.std.specs.Prelude.{is_some}
-use Rattle.mq_spec_state.specs.Words.{in_doubt_of, sender_in}
+use Rattle.mq_calls.specs.Words.{in_doubt_of, sender_in}
 use Rattle.mq_steer.proofs.uses.is_in_doubt.Given as goal
 
 abbrev pub invariant-loop-side : goal.invariant-loop-side

@@ -1,6 +1,6 @@
 use Rattle.std.proofs.Common.{false}
 use Rattle.mq_calls.specs.declared.agents.Note.TheVariants as notes
-use Rattle.mq_spec_agents.specs.Words.{harden}
+use Rattle.mq_spec_manager.specs.Agents.{harden}
 use Rattle.mq_spec_node.specs.Words.{parts_of}
 use Rattle.mq_takes.proofs.WorkLaws.{made_bound}
 use Rattle.mq_takes.proofs.closing.close_named.Goals as goal

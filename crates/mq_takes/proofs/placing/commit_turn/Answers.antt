@@ -3,7 +3,7 @@ use Rattle.std.specs.Prelude.{Ok}
 use Rattle.mq_receiver.specs.After.{last_by}
 use Rattle.mq_receiver.specs.declared.turns.ReceiverDoes.TheVariants as does
 use Rattle.mq_receiver.specs.declared.turns.ReceiverOut.TheVariants as outs
-use Rattle.mq_spec_agents.specs.Words.{receive}
+use Rattle.mq_spec_manager.specs.Agents.{receive}
 use Rattle.mq_spec_node.specs.Words.{close_parts, parts_of}
 use Rattle.mq_takes.proofs.PlaceLaws.{placing_so, refusing_so}
 use Rattle.mq_takes.proofs.WorkLaws.{want_so}

@@ -1,6 +1,6 @@
 use Rattle.std.proofs.Common.{subst}
 use Rattle.std.specs.Prelude.{Ok}
-use Rattle.mq_spec_agents.specs.Words.{receive}
+use Rattle.mq_spec_manager.specs.Agents.{receive}
 use Rattle.mq_takes.specs.Placing.{ReceivedAs}
 use Rattle.mq_takes.specs.declared.receiving.BatchTold.{BatchTold}
 use Rattle.mq_takes.proofs.PlaceLaws.{up_was}

@@ -5,9 +5,9 @@ use Rattle.mq_calls.specs.declared.agents.PlaceFault.{PlaceFault}
 use Rattle.mq_calls.specs.declared.agents.PlaceFault.TheVariants as faults
 use Rattle.mq_core.specs.Values.{manager_of}
 use Rattle.mq_disk.specs.declared.cutter.Stop.TheVariants as stops
-use Rattle.mq_spec_state.specs.Meeting.{MeetsAs}
-use Rattle.mq_spec_state.specs.Meeting.Wants.{Anywhere}
-use Rattle.mq_spec_agents.specs.Words.{receive}
+use Rattle.mq_calls.specs.Meeting.{MeetsAs}
+use Rattle.mq_calls.specs.Meeting.Wants.{Anywhere}
+use Rattle.mq_spec_manager.specs.Agents.{receive}
 use Rattle.mq_turns.proofs.PartLaws.{want_made}
 use Rattle.mq_takes.proofs.PlaceLaws.{receive_short, received_ran, received_refused, received_stopped}
 use Rattle.mq_takes.proofs.receiving.received.Goals as goal

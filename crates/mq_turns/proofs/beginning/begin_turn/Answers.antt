@@ -1,5 +1,5 @@
 use Rattle.std.proofs.Common.{◌+◌, ap, subst}
-use Rattle.mq_spec_agents.specs.Words.{CanHold}
+use Rattle.mq_spec_manager.specs.Agents.{CanHold}
 use Rattle.mq_spec_node.specs.Words.{SenderEnd}
 use Rattle.mq_events.specs.States.{NodeState}
 use Rattle.mq_turns.specs.Turns.{Made}

@@ -3,7 +3,7 @@ use Rattle.std.specs.Prelude.{Some}
 use Rattle.mq_frame.specs.declared.frame.Seen.TheVariants as items
 use Rattle.mq_history.specs.declared.calls.Actor.TheVariants as actors
 use Rattle.mq_history.specs.declared.calls.Call.TheVariants as calls
-use Rattle.mq_spec_agents.specs.Words.{release_batch}
+use Rattle.mq_spec_manager.specs.Agents.{release_batch}
 use Rattle.mq_spec_node.specs.Words.{SenderEnd, parts_of, with_end}
 use Rattle.mq_spec_node.specs.Node.ChannelEnd.{Sends}
 use Rattle.mq_turns.specs.Turns.{IsBehind}

@@ -1,6 +1,6 @@
 use Rattle.std.proofs.Common.{sym, subst}
 use Rattle.mq_core.specs.Values.{CoreValue}
-use Rattle.mq_spec_agents.specs.Words.{HasBatch, IsUp}
+use Rattle.mq_spec_manager.specs.Agents.{HasBatch, IsUp}
 use Rattle.mq_turns.proofs.GiveLaws.{give_behind, given_kept}
 use Rattle.mq_turns.proofs.holding.give_up.Goals as goal
 

@@ -1,6 +1,6 @@
 use Rattle.std.proofs.Common.{◌∙◌, false, sym, ap, subst, refl, arith}
 use Rattle.mq_message.specs.declared.place.Holder.TheVariants as holders
-use Rattle.mq_spec_state.specs.Words.{HeldBy, Plain, apply_all, is_up, released_in}
+use Rattle.mq_calls.specs.Words.{HeldBy, Plain, apply_all, is_up, released_in}
 use Rattle.mq_core.specs.Views.{PartsValue, frozen_of, plain_of}
 use Rattle.mq_core.specs.Ties.{Tied}
 use Rattle.mq_core.specs.Values.{CoreValue, bodies_in}

@@ -1,4 +1,4 @@
-use Rattle.mq_spec_agents.specs.Words.{hold_batch}
+use Rattle.mq_spec_manager.specs.Agents.{hold_batch}
 use Rattle.mq_turns.proofs.AgentLaws.{agent_ran}
 use Rattle.mq_turns.proofs.PartLaws.{want_made}
 use Rattle.mq_turns.proofs.holding.held.Goals as goal

@@ -4,9 +4,9 @@ use Rattle.mq_calls.specs.declared.agents.AgentStop.{AgentStop}
 use Rattle.mq_disk.specs.declared.cutter.Stop.TheVariants as stops
 use Rattle.mq_agents.specs.Ends.{by_agent}
 use Rattle.mq_core.specs.Values.{manager_of}
-use Rattle.mq_spec_state.specs.Meeting.{MeetsAs}
-use Rattle.mq_spec_state.specs.Meeting.Wants.{Anywhere}
-use Rattle.mq_spec_agents.specs.Words.{harden}
+use Rattle.mq_calls.specs.Meeting.{MeetsAs}
+use Rattle.mq_calls.specs.Meeting.Wants.{Anywhere}
+use Rattle.mq_spec_manager.specs.Agents.{harden}
 use Rattle.mq_turns.proofs.AgentLaws.{agent_ran, agent_stopped}
 use Rattle.mq_turns.proofs.PartLaws.{want_made}
 use Rattle.mq_turns.proofs.parting.hardened.Goals as goal

@@ -1,4 +1,4 @@
-use Rattle.mq_spec_agents.specs.Words.{prepare}
+use Rattle.mq_spec_manager.specs.Agents.{prepare}
 use Rattle.mq_turns.proofs.PreparedLaws.{prepare_full, prepare_ran, prepare_short, prepare_stopped, prepare_wants}
 use Rattle.mq_turns.proofs.preparing.prepared.Goals as goal
 

@@ -1,6 +1,6 @@
 use Rattle.std.proofs.Common.{subst}
 use Rattle.std.specs.Prelude.{Option, Ok}
-use Rattle.mq_spec_agents.specs.Words.{prepare}
+use Rattle.mq_spec_manager.specs.Agents.{prepare}
 use Rattle.mq_events.specs.declared.outcome.Told.{Told}
 use Rattle.mq_turns.specs.Prepares.{Prepared}
 use Rattle.mq_turns.proofs.PreparedLaws.{as_twice, still_held, still_up, tried_full}

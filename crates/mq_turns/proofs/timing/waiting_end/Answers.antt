@@ -1,7 +1,7 @@
 use Rattle.std.proofs.Common.{rules, ◌≡◌, true}
 use Rattle.std.specs.Prelude.{Some}
 use Rattle.mq_sender.specs.States.{awaits}
-use Rattle.mq_spec_state.specs.Reads.{is_up}
+use Rattle.mq_calls.specs.Reads.{is_up}
 use Rattle.mq_spec_node.specs.Words.{sender_end}
 use Rattle.mq_turns.proofs.DueLaws.{due_end}
 use Rattle.mq_turns.proofs.timing.waiting_end.Goals as goal

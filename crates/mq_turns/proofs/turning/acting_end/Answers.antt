@@ -1,6 +1,6 @@
 use Rattle.std.proofs.Common.{rules, ◌≡◌, true}
 use Rattle.std.specs.Prelude.{Some}
-use Rattle.mq_spec_state.specs.Reads.{is_up}
+use Rattle.mq_calls.specs.Reads.{is_up}
 use Rattle.mq_spec_node.specs.Words.{sender_end}
 use Rattle.mq_turns.proofs.NodeLaws.{here_end}
 use Rattle.mq_turns.proofs.turning.acting_end.Goals as goal

@@ -1,6 +1,6 @@
 use Rattle.std.proofs.Common.{sym, ap, subst, refl, ◌∙◌}
 use Rattle.std.specs.Prelude.{List}
-use Rattle.mq_spec_state.specs.Words.{Connection, change_connection}
+use Rattle.mq_calls.specs.Words.{Connection, change_connection}
 use Rattle.mq_handles.specs.Seats.{closed}
 use Rattle.mq_core.specs.Views.{PartsValue}
 use Rattle.mq_core.specs.Ties.{SameUnits}

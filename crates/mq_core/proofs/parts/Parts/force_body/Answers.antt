@@ -1,6 +1,6 @@
 use Rattle.std.proofs.Common.{◌≡◌, ℕ, ◌+◌, ◌≤◌, subst}
 use Rattle.std.specs.Prelude.{List, length, OnOk}
-use Rattle.mq_spec_state.specs.Words.{LogRecord, record_size}
+use Rattle.mq_calls.specs.Words.{LogRecord, record_size}
 use Rattle.mq_log.specs.State.{LogState, Appended}
 use Rattle.mq_record.specs.Records.{record_bytes}
 use Rattle.mq_core.specs.Writes.{FitsRecord}

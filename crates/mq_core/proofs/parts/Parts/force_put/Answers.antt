@@ -2,7 +2,7 @@ use Rattle.std.proofs.Common.{◌≡◌, ℕ, ◌+◌, ◌≤◌, ◌∙◌, ap,
 use Rattle.std.specs.Prelude.{List, length, OnOk}
 use Rattle.std.proofs.lemmas.List.{length-append}
 use Rattle.mq_base.specs.Outside.{Rose}
-use Rattle.mq_spec_state.specs.Words.{need}
+use Rattle.mq_calls.specs.Words.{need}
 use Rattle.mq_log.specs.State.{LogState, Appended}
 use Rattle.mq_log.specs.Force.{Stops}
 use Rattle.mq_record.specs.Records.{record_bytes, add_bytes}

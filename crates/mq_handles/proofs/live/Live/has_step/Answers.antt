@@ -1,7 +1,7 @@
 use Rattle.std.proofs.Common.{◌∙◌, sym, ap}
 use Rattle.std.specs.Prelude.{nat_lt}
-use Rattle.mq_spec_state.specs.Words.{any_handle}
-use Rattle.mq_spec_state.specs.Words.{has_step}
+use Rattle.mq_calls.specs.Words.{any_handle}
+use Rattle.mq_calls.specs.Words.{has_step}
 use Rattle.mq_handles.specs.Users.Key.{OnPath}
 use Rattle.mq_handles.specs.Desks.{Desk}
 use Rattle.mq_handles.proofs.WeightLaws.{is_over}

@@ -1,6 +1,6 @@
 use Rattle.std.proofs.Common.{◌∙◌, sym, ap}
 use Rattle.std.specs.Prelude.{nat_lt}
-use Rattle.mq_spec_state.specs.Words.{any_handle}
+use Rattle.mq_calls.specs.Words.{any_handle}
 use Rattle.mq_handles.specs.Users.{reads_alone_from}
 use Rattle.mq_handles.specs.Users.Key.{Alone}
 use Rattle.mq_handles.specs.Desks.{Desk}

@@ -1,10 +1,10 @@
 use Rattle.std.proofs.Common.{◌∙◌, sym, ap, subst}
 use Rattle.std.specs.Prelude.{List, IfSome, position, slice_get, slice_set}
-use Rattle.mq_spec_state.specs.Words.{Connection, change_connection}
+use Rattle.mq_calls.specs.Words.{Connection, change_connection}
 use Rattle.mq_handles.specs.Rising.{has_number}
 use Rattle.mq_handles.specs.Seats.{pended}
 use Rattle.std.specs.Prelude.{◌+◌, ◌<◌, ◌++◌, ◌∷◌, []}
-use Rattle.mq_spec_state.specs.Words.{unit_need}
+use Rattle.mq_calls.specs.Words.{unit_need}
 use Rattle.mq_handles.specs.Users.{tally, handle_weight, weight_of}
 use Rattle.mq_handles.specs.Desks.{Desk}
 use Rattle.mq_handles.proofs.OutcomeLaws.{on_ok, on_err, either_way}

@@ -1,5 +1,5 @@
 use Rattle.std.proofs.Common.{ap, arith}
-use Rattle.mq_spec_state.specs.Words.{PathStep}
+use Rattle.mq_calls.specs.Words.{PathStep}
 use Rattle.mq_handles.specs.Users.{key_weight}
 use Rattle.mq_handles.proofs.CountLaws.{path_on}
 use Rattle.mq_handles.proofs.users.Users.add_path.Goals as goal

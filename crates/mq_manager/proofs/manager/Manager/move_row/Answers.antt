@@ -1,5 +1,5 @@
 use Rattle.std.proofs.Common.{sym, subst}
-use Rattle.mq_spec_agents.specs.Words.{IsUp, CanMove}
+use Rattle.mq_spec_manager.specs.Agents.{IsUp, CanMove}
 use Rattle.mq_core.specs.Values.{CoreValue}
 use Rattle.mq_agents.specs.Ends.{by_place}
 use Rattle.mq_manager.proofs.CallLaws.{kept_move}

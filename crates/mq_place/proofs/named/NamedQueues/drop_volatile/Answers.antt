@@ -4,8 +4,8 @@ use Rattle.std.specs.Str.{bytes_eq}
 use Rattle.indexmap.specs.IndexMap.{get, spare, index_map_len}
 use Rattle.mq_queue.specs.Rows.{keep}
 use Rattle.mq_queue.specs.Queues.{is_lasting}
-use Rattle.mq_spec_state.specs.State.Which.{Nonpersistent}
-use Rattle.mq_spec_state.specs.Changes.{kept_in}
+use Rattle.mq_calls.specs.State.Which.{Nonpersistent}
+use Rattle.mq_calls.specs.Changes.{kept_in}
 use Rattle.mq_place.specs.States.{QueueState, on_rows, on_queues}
 use Rattle.mq_place.proofs.StateLaws.{all_lasting}
 use Rattle.mq_place.specs.Slots.{present, IsFiled}

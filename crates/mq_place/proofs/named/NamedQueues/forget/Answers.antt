@@ -2,7 +2,7 @@ use Rattle.std.proofs.Common.{◌-◌, List, Option, refl, sym, ap, subst, ◌�
 use Rattle.std.specs.Prelude.{min}
 use Rattle.std.specs.Str.{bytes_eq}
 use Rattle.indexmap.specs.IndexMap.{get, spare, index_map_len}
-use Rattle.mq_spec_state.specs.Changes.{forgotten}
+use Rattle.mq_calls.specs.Changes.{forgotten}
 use Rattle.mq_place.specs.States.{QueueState, on_queue, on_queues}
 use Rattle.mq_place.specs.Slots.{present, IsFiled}
 use Rattle.mq_place.proofs.SlotLaws.{present-changes}

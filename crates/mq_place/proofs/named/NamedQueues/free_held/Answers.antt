@@ -3,8 +3,8 @@ use Rattle.std.specs.Prelude.{min}
 use Rattle.std.specs.Str.{bytes_eq}
 use Rattle.indexmap.specs.IndexMap.{get, spare, index_map_len}
 use Rattle.mq_queue.specs.Rows.{retag}
-use Rattle.mq_spec_state.specs.State.Which.{HeldBy}
-use Rattle.mq_spec_state.specs.Changes.{released_in}
+use Rattle.mq_calls.specs.State.Which.{HeldBy}
+use Rattle.mq_calls.specs.Changes.{released_in}
 use Rattle.mq_place.specs.States.{QueueState, let_go, on_rows, on_queues}
 use Rattle.mq_place.specs.Slots.{present, IsFiled}
 use Rattle.mq_place.proofs.SlotLaws.{present-changes}

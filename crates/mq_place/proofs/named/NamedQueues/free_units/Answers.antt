@@ -4,8 +4,8 @@ use Rattle.std.specs.Str.{bytes_eq}
 use Rattle.indexmap.specs.IndexMap.{get, spare, index_map_len}
 use Rattle.mq_queue.specs.Rows.{retag}
 use Rattle.mq_queue.specs.Queues.{unit_freed}
-use Rattle.mq_spec_state.specs.State.Which.{HeldByUnits}
-use Rattle.mq_spec_state.specs.Changes.{released_in}
+use Rattle.mq_calls.specs.State.Which.{HeldByUnits}
+use Rattle.mq_calls.specs.Changes.{released_in}
 use Rattle.mq_place.specs.States.{QueueState, on_rows, on_queues}
 use Rattle.mq_place.proofs.StateLaws.{all_units_freed}
 use Rattle.mq_place.specs.Slots.{present, IsFiled}

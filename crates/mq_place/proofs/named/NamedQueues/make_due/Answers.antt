@@ -3,7 +3,7 @@ use Rattle.std.specs.Prelude.{min, IfSome}
 use Rattle.std.specs.Str.{bytes_eq}
 use Rattle.indexmap.specs.IndexMap.{get, spare, index_map_len}
 use Rattle.std.proofs.Common.{◌+◌, ◌<◌, ◌^◌}
-use Rattle.mq_spec_state.specs.Changes.{made_due}
+use Rattle.mq_calls.specs.Changes.{made_due}
 use Rattle.mq_place.specs.States.{QueueState, QueueStates, change_state, on_queue, state_or, CanBeDue}
 use Rattle.mq_place.specs.Slots.{present, IsFiled}
 use Rattle.mq_place.proofs.FiledLaws.{found_within, state_found, filed_change, present_change, present_same}

@@ -2,8 +2,8 @@ use Rattle.std.proofs.Common.{◌∷◌, ◌-◌, List, [], Option, refl, sym, a
 use Rattle.std.specs.Prelude.{min}
 use Rattle.std.specs.Str.{bytes_eq}
 use Rattle.indexmap.specs.IndexMap.{get, spare, index_map_len}
-use Rattle.mq_spec_state.specs.State.Which.{Among}
-use Rattle.mq_spec_state.specs.Changes.{released_in}
+use Rattle.mq_calls.specs.State.Which.{Among}
+use Rattle.mq_calls.specs.Changes.{released_in}
 use Rattle.mq_place.specs.States.{QueueState, on_rows, on_queues, release_each}
 use Rattle.mq_place.specs.Slots.{present, IsFiled}
 use Rattle.mq_place.proofs.FiledLaws.{found_within, filed_change, present_change, present_same}

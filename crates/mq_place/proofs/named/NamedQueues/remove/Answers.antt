@@ -2,8 +2,8 @@ use Rattle.std.proofs.Common.{◌∷◌, ◌-◌, List, [], Option, refl, sym, a
 use Rattle.std.specs.Prelude.{min}
 use Rattle.std.specs.Str.{bytes_eq}
 use Rattle.indexmap.specs.IndexMap.{get, spare, index_map_len}
-use Rattle.mq_spec_state.specs.State.Which.{Among}
-use Rattle.mq_spec_state.specs.Changes.{kept_in}
+use Rattle.mq_calls.specs.State.Which.{Among}
+use Rattle.mq_calls.specs.Changes.{kept_in}
 use Rattle.mq_queue.specs.Queues.{message_of}
 use Rattle.mq_place.specs.States.{QueueState, QueueStates, on_rows, on_queues, remove_each, rows_in}
 use Rattle.mq_place.specs.Slots.{present, IsFiled, rows_of_slot}

@@ -1,5 +1,5 @@
 use Rattle.std.proofs.Common.{ap}
-use Rattle.mq_spec_state.specs.Changes.{forgotten}
+use Rattle.mq_calls.specs.Changes.{forgotten}
 use Rattle.mq_place.specs.States.{QueueStates, on_queue}
 use Rattle.mq_place.specs.Homes.{home_of}
 use Rattle.mq_place.proofs.HomeLaws.{noted_all, home_map}

@@ -1,6 +1,6 @@
 use Rattle.std.proofs.Common.{false, ap}
-use Rattle.mq_spec_state.specs.State.Which.{HeldBy}
-use Rattle.mq_spec_state.specs.Changes.{released_in}
+use Rattle.mq_calls.specs.State.Which.{HeldBy}
+use Rattle.mq_calls.specs.Changes.{released_in}
 use Rattle.mq_place.specs.States.{QueueStates}
 use Rattle.mq_place.specs.Homes.{home_of}
 use Rattle.mq_place.proofs.HomeLaws.{noted_all, released_home}

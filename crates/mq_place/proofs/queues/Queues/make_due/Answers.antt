@@ -1,5 +1,5 @@
 use Rattle.std.proofs.Common.{ap, arith}
-use Rattle.mq_spec_state.specs.Changes.{made_due}
+use Rattle.mq_calls.specs.Changes.{made_due}
 use Rattle.mq_place.specs.States.{QueueStates, on_queue}
 use Rattle.mq_place.specs.Homes.{home_of}
 use Rattle.mq_place.proofs.HomeLaws.{noted_one}

@@ -1,6 +1,6 @@
 use Rattle.std.proofs.Common.{[], ◌∷◌, refl, sym, ap, subst, arith}
-use Rattle.mq_spec_state.specs.State.Which.{Among}
-use Rattle.mq_spec_state.specs.Changes.{kept_in}
+use Rattle.mq_calls.specs.State.Which.{Among}
+use Rattle.mq_calls.specs.Changes.{kept_in}
 use Rattle.mq_place.specs.States.{QueueStates, on_queue}
 use Rattle.mq_place.specs.Homes.{home_of, AreHome, all_pending}
 use Rattle.mq_place.proofs.HomeLaws.{removed_home, pending_same}

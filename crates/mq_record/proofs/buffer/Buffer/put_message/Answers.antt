@@ -3,7 +3,7 @@ use Rattle.byteorder.specs.Endian.{big_bytes}
 use Rattle.mq_message.specs.Descriptor.{md_bytes}
 use Rattle.mq_frame.specs.Frames.{ident_bytes, deadline_bytes, route_bytes, message_bytes}
 use Rattle.mq_frame.proofs.Descriptor.{md_written}
-use Rattle.mq_spec_state.specs.Sizes.{route_size}
+use Rattle.mq_calls.specs.Sizes.{route_size}
 use Rattle.mq_record.specs.Room.{with_piece}
 use Rattle.mq_record.proofs.RoomLaws.{piece_one, piece_more, room_left}
 use Rattle.mq_record.proofs.SizeLaws.{ident_whole, deadline_whole}

@@ -1,6 +1,6 @@
 use Rattle.std.proofs.Common.{[], ◌∷◌, sym, ap, ◌∙◌}
 use Rattle.std.specs.Prelude.{Option, Some, None}
-use Rattle.mq_name.specs.Name.{padded}
+use Rattle.mq_base.specs.Name.{padded}
 use Rattle.mq_message.specs.declared.message.Dest.{Dest}
 use Rattle.mq_frame.specs.Frames.{route_bytes, dest_bytes}
 use Rattle.mq_record.specs.Room.{with_piece}

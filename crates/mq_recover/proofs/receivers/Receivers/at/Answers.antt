@@ -1,6 +1,6 @@
 use Rattle.std.proofs.Common.{sym, ap, ◌∙◌}
 use Rattle.mq_sync.specs.Settlement.{receiver_or}
-use Rattle.mq_spec_state.specs.Reads.{receiver_in}
+use Rattle.mq_calls.specs.Reads.{receiver_in}
 use Rattle.mq_recover.specs.Kept.{key_named}
 use Rattle.mq_recover.proofs.SideLaws.{receiver_found}
 use Rattle.mq_recover.proofs.receivers.Receivers.at.Goals as goal

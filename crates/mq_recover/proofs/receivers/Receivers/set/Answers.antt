@@ -1,5 +1,5 @@
 use Rattle.std.proofs.Common.{ap, ◌∙◌}
-use Rattle.mq_spec_state.specs.Changes.{set_receiver}
+use Rattle.mq_calls.specs.Changes.{set_receiver}
 use Rattle.mq_recover.proofs.SideLaws.{receivers_set}
 use Rattle.mq_recover.proofs.receivers.Receivers.set.Goals as goal
 

@@ -4,8 +4,8 @@ use Rattle.mq_message.specs.declared.message.Ident.{Ident}
 use Rattle.mq_queue.specs.Rows.{same_ident}
 use Rattle.mq_sync.specs.Settlement.{data_prepared, sender_or}
 use Rattle.mq_calls.specs.declared.state.SenderSide.{SenderSide}
-use Rattle.mq_spec_state.specs.Reads.{sender_in}
-use Rattle.mq_spec_state.specs.Changes.{set_sender}
+use Rattle.mq_calls.specs.Reads.{sender_in}
+use Rattle.mq_calls.specs.Changes.{set_sender}
 use Rattle.mq_recover.specs.Kept.{is_known, struck_at}
 use Rattle.mq_recover.proofs.StrikeLaws.{on_ok, low_same, each_later, each_listed, sides_same}
 use Rattle.mq_recover.proofs.senders.Senders.prepare.Goals as goal

@@ -2,7 +2,7 @@ use Rattle.std.proofs.Common.{◌≡◌, ℕ, ◌+◌, sym, ap, arith, ◌∙◌
 use Rattle.std.specs.Prelude.{if◌then◌else◌}
 use Rattle.mq_message.specs.declared.message.Ident.{Ident}
 use Rattle.mq_queue.specs.Rows.{same_ident}
-use Rattle.mq_spec_state.specs.Changes.{off_lists}
+use Rattle.mq_calls.specs.Changes.{off_lists}
 use Rattle.mq_recover.specs.Kept.{is_known, struck_at}
 use Rattle.mq_recover.proofs.StrikeLaws.{unlisted, low_same, each_later, struck_off, still_low, kept_more}
 use Rattle.mq_recover.proofs.senders.Senders.strike.Goals as goal

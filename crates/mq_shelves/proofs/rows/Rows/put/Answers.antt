@@ -1,7 +1,7 @@
 use Rattle.std.proofs.Common.{◌≡◌, List, true, false, ◌<◌, sym, ap, subst, ◌∙◌, arith}
 use Rattle.mq_calls.specs.declared.image.Shelf.{Shelf}
-use Rattle.mq_spec_state.specs.Changes.{new_row}
-use Rattle.mq_spec_state.specs.Images.{uncounted_message}
+use Rattle.mq_calls.specs.Changes.{new_row}
+use Rattle.mq_calls.specs.Images.{uncounted_message}
 use Rattle.mq_spec_log.specs.Shelves.{shelf_in, set_shelf, shelved_in}
 use Rattle.mq_shelves.specs.declared.rack.Stand.{Stand}
 use Rattle.mq_shelves.specs.Spots.{spot_of}

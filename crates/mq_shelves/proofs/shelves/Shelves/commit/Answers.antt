@@ -4,7 +4,7 @@ use Rattle.std.specs.Str.{bytes_eq}
 use Rattle.indexmap.specs.IndexMap.{get}
 use Rattle.mq_message.specs.declared.message.Ident.{Ident}
 use Rattle.mq_message.specs.declared.place.Holder.TheVariants as holders
-use Rattle.mq_spec_state.specs.State.Which.{HeldBy}
+use Rattle.mq_calls.specs.State.Which.{HeldBy}
 use Rattle.mq_spec_log.specs.Shelves.{on_all, less_rows}
 use Rattle.mq_shelves.specs.Holds.{removed_each, or_no_idents, noted_for, AreNoted}
 use Rattle.mq_shelves.proofs.NotedLaws.{batch_gone, noted_left}

@@ -1,7 +1,7 @@
 use Rattle.std.proofs.Common.{◌≡◌, true, false, [], ◌∷◌, sym, subst, arith}
 use Rattle.std.specs.Prelude.{not}
-use Rattle.mq_spec_state.specs.State.Which.{Among}
-use Rattle.mq_spec_state.specs.Changes.{selects}
+use Rattle.mq_calls.specs.State.Which.{Among}
+use Rattle.mq_calls.specs.Changes.{selects}
 use Rattle.mq_shelves.specs.Holds.{noted_for, AreNoted}
 use Rattle.mq_shelves.proofs.NotedLaws.{noted_kept}
 use Rattle.mq_shelves.proofs.shelves.Shelves.take.Goals as goal

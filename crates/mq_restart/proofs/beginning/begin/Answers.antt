@@ -1,0 +1,10 @@
+use Rattle.mq_restart.proofs.BeginLaws.{begun_whole, refused_whole}
+use Rattle.mq_restart.proofs.beginning.begin.Goals as goal
+
+pub returns-in-Ok-begin_built : goal.returns-in-Ok-begin_built
+returns-in-Ok-begin_built g c =
+    begun_whole g.D.Disk.tells (g.D.Disk.seen c.args.disk.inner) (g.D.Disk.faults c.args.disk.inner) c.args.max c.args.number c.args.name.now c.args.moment c.in-Ok.log c.in-Ok-begin_built.core c.in-Ok.ensures c.in-Ok-begin_built.ensures
+
+pub returns-in-Err-begin_built : goal.returns-in-Err-begin_built
+returns-in-Err-begin_built g c =
+    refused_whole g.D.Disk.tells (g.D.Disk.seen c.args.disk.inner) (g.D.Disk.faults c.args.disk.inner) c.args.max c.args.number c.args.name.now c.in-Ok.log c.in-Err-begin_built.unbegun.fault _ c.in-Ok.ensures (c.in-Err-begin_built.ensures (g.D.Disk.seen c.args.disk.inner))

@@ -1,2 +1,0 @@
-mod RowsChannels
-mod RowsStanding

@@ -1,9 +1,0 @@
-pub mod Seizing
-pub mod Batches
-pub mod Hardening
-pub mod Standing
-pub mod Landing
-pub mod Receiving
-pub mod Moves
-pub mod Conditions
-pub mod Words
