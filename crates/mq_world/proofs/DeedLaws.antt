@@ -1,5 +1,5 @@
 -- An end's turn at any stamp: whether there is one, and whether it offers a frame, doesn't depend on the stamp; one that offers a frame writes nothing, and the frame has the stamp.
-use Rattle.std.proofs.Common.{◌≡◌, ℕ, zero, suc, true, false, [], ◌∷◌, refl, sym, ap, subst, ◌∙◌, inl, inr}
+use Rattle.std.proofs.Common.{◌≡◌, ℕ, zero, suc, true, false, List, [], ◌∷◌, refl, sym, ap, subst, ◌∙◌, inl, inr}
 use Rattle.std.specs.Prelude.{◌⊎◌, Option, Some, None, is_some}
 use Rattle.std.specs.Option.{option_map}
 use Rattle.mq_codes.specs.declared.reason.Reason.{Reason}
@@ -8,7 +8,7 @@ use Rattle.mq_calls.specs.declared.choices.Choice.{Choice}
 use Rattle.mq_calls.specs.declared.choices.Choice.TheVariants.{Runs, NoMemory, Stopped}
 use Rattle.mq_calls.specs.State.{Running}
 use Rattle.mq_calls.specs.State.Running.{Up, Down}
-use Rattle.mq_calls.specs.Steps.{IsWrite, Part, Step}
+use Rattle.mq_calls.specs.Steps.{IsWrite, Part, Step, do_all, silent}
 use Rattle.mq_calls.specs.Steps.Step.{Do, Refuse}
 use Rattle.mq_frame.specs.declared.frame.Frame.{Frame}
 use Rattle.mq_frame.specs.declared.frame.Seen.{Seen}
@@ -19,20 +19,23 @@ use Rattle.mq_receiver.specs.declared.state.Owed.{Owed}
 use Rattle.mq_receiver.specs.declared.state.Owed.TheVariants as owed
 use Rattle.mq_receiver.specs.declared.turns.ReceiverDoes.{ReceiverDoes}
 use Rattle.mq_receiver.specs.declared.turns.ReceiverDoes.TheVariants as takes
+use Rattle.mq_receiver.specs.declared.turns.ReceiverOut.TheVariants as outs
 use Rattle.mq_receiver.specs.After.{last_by}
 use Rattle.mq_receiver.specs.States.{owed_frame}
 use Rattle.mq_receiver.specs.Table.{receiver_next}
 use Rattle.mq_sender.specs.declared.turns.SenderDoes.{SenderDoes}
 use Rattle.mq_sender.specs.declared.turns.SenderDoes.TheVariants as does
 use Rattle.mq_sender.specs.After.{number_sent}
+use Rattle.mq_sender.specs.Frames.{bind_frame, end_frame}
 use Rattle.mq_sender.specs.Table.{sender_next}
-use Rattle.mq_spec_manager.specs.Agents.{batch_row, prepare, receive, stock}
+use Rattle.mq_sync.specs.Units.{unit_named}
+use Rattle.mq_spec_manager.specs.Agents.{batch_row, hold_batch, prepare, receive, stock}
 use Rattle.mq_spec_node.specs.Words.{Deed, Node, ReceiverEnd, SenderEnd, CanCome, carried, deed_of, receiver_end, sender_end}
-use Rattle.mq_spec_node.specs.Deeds.{CanWant}
+use Rattle.mq_spec_node.specs.Deeds.{CanWant, parts_of, turned}
 use Rattle.mq_spec_node.specs.Terms.{Actor, Luw}
 use Rattle.mq_spec_node.specs.Calls.{receiver_turn, sender_turn, where_up}
-use Rattle.mq_spec_node.specs.Receivers.{is_receiver_defined, place_deed, receiver_deed, receiver_deed_by}
-use Rattle.mq_spec_node.specs.Senders.{prepare_deed, sender_deed, sender_deed_by}
+use Rattle.mq_spec_node.specs.Receivers.{is_receiver_defined, place_deed, receiver_deed_by, receiver_end_after}
+use Rattle.mq_spec_node.specs.Senders.{begin_deed, prepare_deed, sender_deed_by, sent}
 
 -- Two deeds of which both are there or none is, and both offer a frame or none does.
 abbrev pub Alike : Option Deed → Option Deed → Type 0
@@ -139,16 +142,31 @@ placed_silent : (e : ReceiverEnd) (unit : Luw) (seen : Seen) (s : Step Reason (U
 placed_silent e unit seen (Refuse reason) n = refl
 placed_silent e unit seen (Do reply parts) n = refl
 
+-- one without a write, of which every frame has the stamp
+pushing : (s : ℕ) (d : Deed) (n : Node) → d.wanting ≡ None → ((k : ℕ) → IsWrite k d.parts → ⊥) → ((f : Frame) → d.pushed ≡ Some f → f.stamp ≡ s) → PushesOr s (Some d) n
+pushing s d n none silent stamped = inr (record { runs = runs_alone d n none silent; stamped = stamped })
+
+abbrev first_part : List Part → Part
+first_part [] = silent []
+first_part (part ∷ parts) = part
+
+abbrev held_part : List ℕ → Luw → ℕ → Node → Part
+held_part channel unit count n = first_part (parts_of (hold_batch channel unit count n.manager))
+
 sender_pushes : (s : ℕ) (e : SenderEnd) (d : SenderDoes) (n : Node) → PushesOr s (sender_deed_by s e d n) n
 sender_pushes s e does.Still n = tt
 sender_pushes s e does.Ignore n = inl refl
 sender_pushes s e (does.HardenSession session) n = inl refl
-sender_pushes s e does.PushBind n = inr (record { runs = runs_alone _ n refl no_parts; stamped = λ f h. frame_stamp s _ f refl h })
+sender_pushes s e does.PushBind n = pushing s (sent e does.PushBind [] (Some (bind_frame s e.machine)) n) n refl no_parts (λ f h. frame_stamp s (bind_frame s e.machine) f refl h)
 sender_pushes s e does.Expire n = inl refl
-sender_pushes s e (does.Begin k count) n = inr (record { runs = runs_alone _ n refl (one_quiet _ refl); stamped = λ f h. carried_stamp s e k 1 _ f h })
-sender_pushes s e (does.PushMsg index) n = inr (record { runs = runs_alone _ n refl no_parts; stamped = λ f h. carried_stamp s e e.machine.begun index (batch_row e.channel index n.manager) f h })
+sender_pushes s e (does.Begin k count) n =
+    pushing s (begin_deed s e k count (parts_of (hold_batch e.channel (unit_named e.machine.kept.session k) count n.manager)) n) n refl
+    (one_quiet (held_part e.channel (unit_named e.machine.kept.session k) count n) refl) (λ f h. carried_stamp s e k 1 (batch_row e.channel 1 (do_all (parts_of (hold_batch e.channel (unit_named e.machine.kept.session k) count n.manager)) n.manager)) f h)
+sender_pushes s e (does.PushMsg index) n =
+    pushing s (sent e (does.PushMsg index) [] (option_map (carried s e e.machine.begun index) (batch_row e.channel index n.manager)) n) n refl no_parts
+    (λ f h. carried_stamp s e e.machine.begun index (batch_row e.channel index n.manager) f h)
 sender_pushes s e does.Prepare n = inl (prepared_silent e (prepare e.channel (number_sent e.machine.state e.machine.kept.last) n.manager) n)
-sender_pushes s e does.PushEnd n = inr (record { runs = runs_alone _ n refl no_parts; stamped = λ f h. frame_stamp s _ f refl h })
+sender_pushes s e does.PushEnd n = pushing s (sent e does.PushEnd [] (Some (end_frame s e.machine)) n) n refl no_parts (λ f h. frame_stamp s (end_frame s e.machine) f refl h)
 sender_pushes s e (does.Bound settle partner) n = inl refl
 sender_pushes s e does.Commit n = inl refl
 sender_pushes s e (does.Backout reason) n = inl refl
@@ -156,7 +174,8 @@ sender_pushes s e (does.Backout reason) n = inl refl
 receiver_pushes : (s : ℕ) (e : ReceiverEnd) (seen : Seen) (d : ReceiverDoes) (n : Node) → PushesOr s (receiver_deed_by s e seen d n) n
 receiver_pushes s e seen takes.Still n = tt
 receiver_pushes s e seen takes.Ignore n = inl refl
-receiver_pushes s e seen takes.PushOwed n = inr (record { runs = runs_alone _ n refl no_parts; stamped = λ f h. paid_stamp s e.machine.owes f h })
+receiver_pushes s e seen takes.PushOwed n =
+    pushing s (turned [] (option_map (owed_frame s) e.machine.owes) (receiver_end_after e takes.PushOwed seen outs.Done e.kept n.own)) n refl no_parts (λ f h. paid_stamp s e.machine.owes f h)
 receiver_pushes s e seen takes.Bind n = inl refl
 receiver_pushes s e seen takes.Keep n = inl refl
 receiver_pushes s e seen (takes.Place unit) n = inl (placed_silent e unit seen (receive e.channel unit (last_by seen e.machine.last) e.kept n.manager) n)
