@@ -12,3 +12,4 @@ pub mod StartLaws
 pub mod NodeLaws
 pub mod ClockLaws
 pub mod HandlerLaws
+pub mod IdleLaws
