@@ -1,5 +1,6 @@
 pub mod ListLaws
 pub mod SeenLaws
+pub mod QuietLaws
 pub mod KeepLaws
 pub mod LiftLaws
 pub mod ScriptLaws

@@ -1,3 +1,4 @@
+pub mod Facing
 pub mod Worlds
 pub mod Resting
 pub mod Starting

@@ -1,7 +1,6 @@
 -- What is seen of a network whose nodes are real, and what its type keeps.
-use Rattle.std.specs.Prelude.{◌≡◌, ◌+◌, ◌≤◌, ℕ, Bool, List, map, Option, Some, None, IsSome, length, slice_get, slice_set}
+use Rattle.std.specs.Prelude.{◌≡◌, ◌+◌, ◌≤◌, ℕ, List, map, Option, Some, None, IsSome, length, slice_get, slice_set}
 use Rattle.mq_history.specs.Scenarios.{IsScenario}
-use Rattle.mq_history.specs.declared.calls.Actor.{Actor}
 use Rattle.mq_history.specs.declared.history.History.{History}
 use Rattle.mq_history.specs.declared.scenario.CableLine.{CableLine}
 use Rattle.mq_history.specs.declared.scenario.MonitorLine.{MonitorLine}
@@ -10,11 +9,9 @@ use Rattle.mq_history.specs.declared.scenario.Scenario.{Scenario}
 use Rattle.mq_history.specs.declared.scenario.ScriptPart.{ScriptPart}
 use Rattle.mq_history.specs.declared.scripts.ScriptLine.{ScriptLine}
 use Rattle.mq_calls.specs.Recovery.{AreKnown, IsImage}
-use Rattle.mq_cable.specs.declared.fault.Fault.{Fault}
-use Rattle.mq_ways.specs.Ways.{AreShown, CableState, IsWay, WayState}
+use Rattle.mq_ways.specs.Ways.{CableState}
 use Rattle.mq_spec_node.specs.Terms.{Entry}
-use Rattle.mq_spec_node.specs.Words.{by, is_receiver, is_sender, wait_of}
-use Rattle.mq_spec_network.specs.Cables.{Carries}
+use Rattle.mq_spec_node.specs.Words.{wait_of}
 use Rattle.mq_spec_network.specs.Given.{surroundings}
 use Rattle.mq_spec_network.specs.Story.{entries_at}
 use Rattle.mq_nodes.specs.Course.{Course}
@@ -24,6 +21,7 @@ use Rattle.mq_progress.specs.Course as progress
 use Rattle.mq_progress.specs.Course.{Stands}
 use Rattle.mq_events.specs.States.{NodeState, IsKept}
 use Rattle.mq_events.specs.Texts.{IsTextCommand}
+pub use Rattle.mq_world.specs.Facing.{AreJoined, Facing, IsJoined}
 
 -- The scenario; each manager's node, each script's progress; the lines of cables, and what lies on each; the manager of each
 -- rules table; the monitors.
@@ -71,22 +69,6 @@ pub record IsNodeAt (s : Scenario) (m : ℕ) (n : NodeState) : Type 0 where
   pub given : n.given ≡ surroundings s m
   pub keeps : IsKept n
   pub room : length s.steps ≤ n.marks + length n.history.marks
-
--- One direction of a cable, by what the managers of its writer and of its reader did: what lies there is what they say, each
--- frame that was offered has a spelling, and what was popped was offered.
-pub record Facing (fs : List Fault) (writer reader : Actor → Bool) (written read : List Entry) (d : WayState) : Type 0 where
-  pub way : IsWay fs (by writer written) (by reader read) d
-  pub shown : AreShown (by writer written)
-  pub carries : Carries fs (by writer written) reader read
-
--- both directions of a cable
-pub record IsJoined (k : ℕ) (l : CableLine) (done : ℕ → List Entry) (c : CableState) : Type 0 where
-  pub out : Facing l.out (is_sender k) (is_receiver k) (done l.sender) (done l.receiver) c.out
-  pub back : Facing l.back (is_receiver k) (is_sender k) (done l.receiver) (done l.sender) c.back
-
--- of all cables
-abbrev pub AreJoined : List CableLine → (ℕ → List Entry) → List CableState → Type 0
-AreJoined ls done cs = (k : ℕ) (l : CableLine) (c : CableState) → slice_get ls k ≡ Some l → slice_get cs k ≡ Some c → IsJoined k l done c
 
 pub record IsNetwork (w : NetState) : Type 0 where
   pub scenario : IsScenario w.scenario
