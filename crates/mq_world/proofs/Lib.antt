@@ -9,7 +9,7 @@ pub mod WatchLaws
 pub mod MarkLaws
 pub mod RestLaws
 pub mod StartLaws
-pub mod CableLaws
 pub mod NodeLaws
 pub mod ClockLaws
 pub mod HandlerLaws
+pub mod IdleLaws

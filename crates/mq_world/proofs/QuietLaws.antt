@@ -31,9 +31,9 @@ use Rattle.mq_spec_node.specs.Terms.{Entry}
 use Rattle.mq_spec_network.specs.Cables.{Carries, Lying, Takes, is_popped, made, offered_by, offered_if, pops_item}
 use Rattle.mq_spec_network.specs.Steps.{AreTriggers}
 use Rattle.mq_spec_network.specs.Turns.{more_at}
-use Rattle.mq_ways.specs.Ways.{AreShown, CableState, IsQuietEntry, IsShown, IsWay, WayState}
+use Rattle.mq_ways.specs.Ways.{AreShown, CableState, IsNew, IsQuietEntry, IsShown, IsWay, WayState}
 use Rattle.mq_ways.proofs.QuietLaws.{quiet_more}
-use Rattle.mq_ways.proofs.WayLaws.{way_others}
+use Rattle.mq_ways.proofs.WayLaws.{way_begins, way_others}
 use Rattle.mq_world.specs.Facing.{AreJoined, Facing, IsJoined}
 
 -- WHAT A TRIGGER TURN DOES: it neither offers nor pops.
@@ -169,6 +169,17 @@ facing_read fs writer reader ws rs xs d q h = record {
     within = h.carries.within;
   };
 }
+
+-- where nothing was done yet
+pub facing_first : (fs : List Fault) (writer reader : Actor → Bool) (ws rs : List Entry) (d : WayState) → ws ≡ [] → rs ≡ [] → IsNew fs d → Facing fs writer reader ws rs d
+facing_first fs writer reader ws rs d no_ws no_rs new =
+    subst (λ (xs : List Entry). Facing fs writer reader xs rs d) (sym no_ws)
+    (subst (λ (xs : List Entry). Facing fs writer reader [] xs d) (sym no_rs)
+    (record {
+      way = way_begins fs [] [] d refl refl new;
+      shown = tt;
+      carries = record { taken = []; left = []; whole = refl; takes = refl; within = tt };
+    }))
 
 -- BOTH DIRECTIONS, where a manager did such
 facing_if : (fs : List Fault) (writer reader : Actor → Bool) (ws rs xs : List Entry) (d : WayState) (a b : Bool) → AllByRecursion (IsQuietEntry writer) xs → AllByRecursion (IsQuietEntry reader) xs → Facing fs writer reader ws rs d

@@ -5,4 +5,5 @@ pub mod Starting
 pub mod Settling
 pub mod Lines
 pub mod Turning
+pub mod Ends
 pub mod Words

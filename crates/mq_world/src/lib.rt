@@ -2,6 +2,8 @@
 #![tactic(auto)]
 
 mod acting;
+mod cabling;
+mod idling;
 mod lines;
 mod marks;
 mod network;

@@ -17,7 +17,7 @@ use mq_world_begin::Rested;
 use std::alloc::Global;
 use std::marker::Model;
 
-/// The nodes of a scenario's managers, each with its history, and how far its scripts are.
+/// The nodes of a scenario's managers, each with its history, how far its scripts are, and what lies on its cables.
 #[derive(Drop)]
 pub struct Network<D: Disk> {
     parts: NetParts<D>,
@@ -55,6 +55,8 @@ impl<D: Disk> Network<D> {
             nodes,
             rooms,
             scripts,
+            lines,
+            cables,
             handlers,
             monitors,
         } = match start_room(alloc, scenario, rested.managers.len()) {
@@ -87,6 +89,8 @@ impl<D: Disk> Network<D> {
                 scenario: whole,
                 nodes: Items::from_vec(nodes),
                 scripts,
+                lines,
+                cables,
                 handlers,
                 monitors,
             },
@@ -94,7 +98,7 @@ impl<D: Disk> Network<D> {
         })
     }
 
-    /// The nodes come to rest. It takes no memory.
+    /// The nodes come to rest; what lies on the cables is lost. It takes no memory.
     pub fn rest(self) -> Rested<D>
         ensures { result ≡ rest_of self.scenario self.nodes }
     {
@@ -104,6 +108,8 @@ impl<D: Disk> Network<D> {
             scenario,
             nodes,
             scripts: _,
+            lines: _,
+            cables: _,
             handlers: _,
             monitors: _,
         } = parts;
@@ -139,30 +145,24 @@ impl<D: Disk> Nodes for Network<D> {
         self.parts.advance(script, part)
     }
 
-    // (there is no cable, as its parts say: none of the next three is asked)
     fn cables(&self) -> u16 {
-        let _ = &self.parts;
-        0
+        self.parts.cables()
     }
 
     fn sender_turn(&mut self, cable: u16) -> Result<bool, Stop> {
-        let _ = &self.parts;
-        Ok(false)
+        self.parts.sender_turn(cable)
     }
 
     fn receiver_turn(&mut self, cable: u16) -> Result<bool, Stop> {
-        let _ = &self.parts;
-        Ok(false)
+        self.parts.receiver_turn(cable)
     }
 
     fn timeout(&mut self, cable: u16) -> Result<bool, Stop> {
-        let _ = &self.parts;
-        Ok(false)
+        self.parts.timeout(cable)
     }
 
     fn is_idle(&self) -> bool {
-        let _ = &self.parts;
-        true
+        self.parts.is_idle()
     }
 
     fn handler_turn(&mut self, rules: u16) -> Result<bool, Stop> {

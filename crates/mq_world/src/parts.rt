@@ -1,4 +1,4 @@
-//! The parts of a network, and what is asked of them.
+//! The parts of a network, and what is asked of them but for turns of channels' ends.
 ghost use Rattle.std.specs.Prelude.{◌≡◌, ◌<◌, ℕ, OnOk, Some, [], length, slice_get};
 ghost use Rattle.mq_history.specs.declared.acts.Act.TheVariants as acts;
 ghost use Rattle.mq_history.specs.declared.calls.Actor.TheVariants as actors;
@@ -17,15 +17,16 @@ use crate::marks::mark_all;
 use mq_base::Items;
 use mq_disk::Disk;
 use mq_events::Node;
-use mq_history::{Act, Actor, MonitorLine, Scenario, ScriptPart};
+use mq_history::{Act, Actor, CableLine, MonitorLine, Scenario, ScriptPart};
 use mq_nodes::{Advanced, Stop};
 use mq_progress::Progress;
 use mq_sc_parse::Command;
+use mq_ways::Cable;
 use std::alloc::Global;
 use std::marker::Model;
 use std::snapshot::Snapshot;
 
-/// The parts of a network: its scenario's nodes, and how far its scripts are.
+/// The parts of a network: its scenario's nodes, how far its scripts are, and what lies on its cables.
 #[derive(Drop)]
 pub struct NetParts<D: Disk> {
     pub alloc: Global,
@@ -34,6 +35,9 @@ pub struct NetParts<D: Disk> {
     pub nodes: Items<Node<D>>,
     /// One for each script, in the scenario's order.
     pub scripts: Items<Progress>,
+    /// The scenario's cables: their lines, and what lies on each.
+    pub lines: Items<CableLine>,
+    pub cables: Items<Cable>,
     /// The manager of each rules table, a place in the scenario.
     pub handlers: Items<u16>,
     /// The scenario's monitors.
@@ -45,7 +49,7 @@ impl<D: Disk> Model for NetParts<D> {
 
     ghost Value = { NetState };
 
-    ghost view = { λ n. record { scenario = n.scenario.value; nodes = n.nodes; scripts = n.scripts; handlers = n.handlers; monitors = n.monitors } };
+    ghost view = { λ n. record { scenario = n.scenario.value; nodes = n.nodes; scripts = n.scripts; lines = n.lines; cables = n.cables; handlers = n.handlers; monitors = n.monitors } };
 }
 
 impl<D: Disk> NetParts<D> {

@@ -3,16 +3,21 @@ ghost use Rattle.std.specs.Prelude.{◌≡◌, ◌-◌, ◌+◌, ◌<◌, ◌≤
 ghost use Rattle.mq_history.specs.declared.scenario.RulesPart as rules_parts;
 ghost use Rattle.mq_spec_node.specs.Words.{node_of, opening_node};
 ghost use Rattle.mq_events.specs.States as states;
-ghost use Rattle.mq_world_begin.specs.Rested.{IsRested};
-ghost use Rattle.mq_world.specs.Starting.{IsFresh, IsRoom, StartsAt, around, begun_script, begun_state};
+ghost use Rattle.mq_ways.specs.Ways.{AreNew};
+ghost use Rattle.mq_world_begin.specs.Rested.{IsRested, as_given};
+ghost use Rattle.mq_world.specs.Starting.{IsFresh, IsRoom, StartsAt, around, begun_script, begun_state, own_begun};
 
+use crate::cabling::{Cabling, cabling_of};
+use mq_acts::begin;
 use mq_base::{Items, NoMemory};
 use mq_disk::Disk;
 use mq_events::{Node, NodeParts, Opening};
-use mq_history::{History, Mark, MonitorLine, RulesPart, Scenario};
+use mq_history::{CableLine, History, Mark, MonitorLine, RulesPart, Scenario};
 use mq_manager::Manager;
 use mq_own::Own;
 use mq_progress::Progress;
+use mq_ways::Cable;
+use mq_world_begin::rewind;
 use std::alloc::Global;
 use std::snapshot::Snapshot;
 
@@ -39,20 +44,21 @@ fn with_one<T: Drop>(mut list: Vec<T>, value: T) -> Vec<T>
     list
 }
 
-/// A node of which nothing has happened, of a manager that has just begun. It takes no memory.
+/// A node of which nothing has happened, of a manager that has just begun: its channels' ends begin with what is hardened. It takes
+/// no memory.
 fn begun_node<D: Disk>(
     alloc: Global,
     log_max: u32,
     manager: Manager<D>,
-    own: Own,
+    mut own: Own,
     history: History,
     marks: Vec<Mark>,
 ) -> Node<D>
     requires entries { history.entries ≡ [] }
     requires marks { history.marks ≡ [] }
     requires none { marks.items ≡ [] }
-    requires opens { node_of manager.plain own ≡ opening_node (around log_max own history) history }
-    ensures same { result ≡ begun_state log_max manager own history result.room result.marks result.few }
+    requires opens { node_of manager.plain (own_begun manager own) ≡ opening_node (around log_max (as_given own) history) history }
+    ensures same { result ≡ begun_state log_max manager (as_given own) (own_begun manager own) history result.room result.marks result.few }
     ensures room { result.marks ≡ vec_capacity marks - vec_len marks }
 {
     let History {
@@ -64,7 +70,9 @@ fn begun_node<D: Disk>(
         entries: _,
         marks: _,
     } = history;
+    rewind(&mut own);
     let first = Snapshot::of(&own);
+    begin(&mut own, &manager);
     let entries = Vec::new(alloc);
     Node::new(NodeParts {
         alloc,
@@ -145,6 +153,8 @@ pub struct StartRoom<D: Disk> {
     pub nodes: Vec<Node<D>>,
     pub rooms: Vec<Vec<Mark>>,
     pub scripts: Items<Progress>,
+    pub lines: Items<CableLine>,
+    pub cables: Items<Cable>,
     pub handlers: Items<u16>,
     pub monitors: Items<MonitorLine>,
 }
@@ -158,6 +168,8 @@ pub fn start_room<D: Disk>(
     ensures nodes { IfOk result (λ r. (r.nodes.items ≡ []) × (vec_len r.nodes + count ≤ vec_capacity r.nodes)) }
     ensures rooms { IfOk result (λ r. (vec_len r.rooms ≡ count) × All (IsRoom (length scenario.now.steps)) r.rooms.items) }
     ensures scripts { IfOk result (λ r. (length r.scripts ≡ length scenario.now.scripts) × All (λ c. c ≡ begun_script) r.scripts) }
+    ensures lines { IfOk result (λ r. r.lines ≡ scenario.now.cables) }
+    ensures cables { IfOk result (λ r. AreNew scenario.now.cables r.cables) }
     ensures handlers { IfOk result (λ r. r.handlers ≡ map (λ (p : rules_parts.RulesPart). p.manager) scenario.now.rules) }
     ensures monitors { IfOk result (λ r. r.monitors ≡ scenario.now.monitors) }
 {
@@ -167,12 +179,15 @@ pub fn start_room<D: Disk>(
     };
     let rooms = rooms_of(alloc, count, scenario.steps.len())?;
     let scripts = scripts_of(alloc, scenario.scripts.len())?;
+    let Cabling { lines, cables } = cabling_of(alloc, scenario.cables.as_slice())?;
     let handlers = handlers_of(alloc, scenario.rules.as_slice())?;
     let monitors = monitors_of(alloc, scenario.monitors.as_slice())?;
     Ok(StartRoom {
         nodes,
         rooms,
         scripts,
+        lines,
+        cables,
         handlers,
         monitors,
     })
