@@ -13,3 +13,5 @@ pub mod NodeLaws
 pub mod ClockLaws
 pub mod HandlerLaws
 pub mod IdleLaws
+pub mod TimeLaws
+pub mod TimingLaws

@@ -11,6 +11,7 @@ mod parts;
 mod resting;
 mod settling;
 mod starting;
+mod timing;
 mod turning;
 mod turns;
 
