@@ -119,12 +119,12 @@ more_twice m e behind done q = by_test (q == m)
     by_test true = sym (append_assoc (done q) (e ∷ []) behind)
     by_test false = refl
 
-joined_behind : (m k : ℕ) (l : CableLine) (done : ℕ → List Entry) (e : Entry) (behind : List Entry) (d : CableState) → AllByRecursion (IsQuietEntry (is_sender k)) behind → AllByRecursion (IsQuietEntry (is_receiver k)) behind → IsJoined k l (more_at m (e ∷ []) done) d → IsJoined k l (more_at m (e ∷ behind) done) d
+pub joined_behind : (m k : ℕ) (l : CableLine) (done : ℕ → List Entry) (e : Entry) (behind : List Entry) (d : CableState) → AllByRecursion (IsQuietEntry (is_sender k)) behind → AllByRecursion (IsQuietEntry (is_receiver k)) behind → IsJoined k l (more_at m (e ∷ []) done) d → IsJoined k l (more_at m (e ∷ behind) done) d
 joined_behind m k l done e behind d p q h =
     joined_same k l (more_at m behind (more_at m (e ∷ []) done)) (more_at m (e ∷ behind) done) d (more_twice m e behind done) (joined_quiet k l (more_at m (e ∷ []) done) m behind d p q h)
 
 -- an end whose manager did one entry more, with the other end at another manager or at the same
-faced_at : (fr fw : List Fault) (mine theirs : Actor → Bool) (at other m : ℕ) (done : ℕ → List Entry) (e : Entry) (b : Sides) → at ≡ m → Faced fr fw mine theirs (done at ++ e ∷ []) (done other) b → Faced fr fw mine theirs (done at ++ e ∷ []) (done other ++ e ∷ []) b
+pub faced_at : (fr fw : List Fault) (mine theirs : Actor → Bool) (at other m : ℕ) (done : ℕ → List Entry) (e : Entry) (b : Sides) → at ≡ m → Faced fr fw mine theirs (done at ++ e ∷ []) (done other) b → Faced fr fw mine theirs (done at ++ e ∷ []) (done other ++ e ∷ []) b
     → Faced fr fw mine theirs (more_at m (e ∷ []) done at) (more_at m (e ∷ []) done other) b
 faced_at fr fw mine theirs at other m done e b here one both =
     subst (λ (t : Bool). Faced fr fw mine theirs (if t then done at ++ e ∷ [] else done at) (more_at m (e ∷ []) done other) b) (sym (ap (λ (x : ℕ). x == m) here ∙ itself m)) (by_other (other == m))
@@ -133,118 +133,8 @@ faced_at fr fw mine theirs at other m done e b here one both =
     by_other true = both
     by_other false = one
 
-near_faced : (k : ℕ) (l : CableLine) (done : ℕ → List Entry) (c : CableState) → IsJoined k l done c → Faced l.back l.out (is_sender k) (is_receiver k) (done l.sender) (done l.receiver) (near_sides c)
+pub near_faced : (k : ℕ) (l : CableLine) (done : ℕ → List Entry) (c : CableState) → IsJoined k l done c → Faced l.back l.out (is_sender k) (is_receiver k) (done l.sender) (done l.receiver) (near_sides c)
 near_faced k l done c h = record { read = h.back; write = h.out }
 
-far_faced : (k : ℕ) (l : CableLine) (done : ℕ → List Entry) (c : CableState) → IsJoined k l done c → Faced l.out l.back (is_receiver k) (is_sender k) (done l.receiver) (done l.sender) (far_sides c)
+pub far_faced : (k : ℕ) (l : CableLine) (done : ℕ → List Entry) (c : CableState) → IsJoined k l done c → Faced l.out l.back (is_receiver k) (is_sender k) (done l.receiver) (done l.sender) (far_sides c)
 far_faced k l done c h = record { read = h.out; write = h.back }
-
--- A SENDER'S
-module _ (w : NetState) (m k : ℕ) (n : NodeState) (h : IsNetwork w) (known : slice_get w.nodes m ≡ Some n) (may : MayAct n) (l : CableLine) (c d : CableState) (line : slice_get w.scenario.cables k ≡ Some l) (is : slice_get w.cables k ≡ Some c) (here : l.sender ≡ m) where
-  abbrev hs : ℕ → List Entry
-  hs = entries_at (map history_in w.nodes)
-
-  faced : Faced l.back l.out (is_sender k) (is_receiver k) (hs l.sender) (hs l.receiver) (near_sides c)
-  faced = near_faced k l hs c (h.ways k l c line is)
-
-  mine_last : n.stamp ≡ stamp_after 0 (hs l.sender)
-  mine_last = (h.nodes m n known).keeps.stamp ∙ ap (stamp_after 0) (sym (ap hs here ∙ done_there w.nodes m n known))
-
-  node_here : node_at (course_in w).net l.sender ≡ Some (node_in n)
-  node_here = ap (node_at (course_in w).net) here ∙ node_there w.scenario w.nodes m n known (h.nodes m n known)
-
-  mine_so : (e : Entry) → Passes (actors.Sender k) (near_sides c) (near_sides d) n e → is_sender k e.actor ≡ true
-  mine_so e x = ap (is_sender k) x.is.0 ∙ itself k
-
-  theirs_so : (e : Entry) → Passes (actors.Sender k) (near_sides c) (near_sides d) n e → is_receiver k e.actor ≡ false
-  theirs_so e x = ap (is_receiver k) x.is.0
-
-  abbrev who : Actor
-  who = actors.Sender k
-
-  joins : (e : Entry) (behind : List Entry) → Tells (node_in n) n.stamp e → Passes who (near_sides c) (near_sides d) n e → AllByRecursion (IsQuietEntry (is_sender k)) behind → AllByRecursion (IsQuietEntry (is_receiver k)) behind → IsJoined k l (more_at m (e ∷ behind) hs) d
-  joins e behind t x p q =
-      let one = faced_more who (a_sender k) l.back l.out (is_sender k) (is_receiver k) (hs l.sender) (hs l.receiver) (near_sides c) (near_sides d) n faced e t x (mine_so e x) (theirs_so e x) may mine_last in
-      let both = faced_both who (a_sender k) l.back l.out (is_sender k) (is_receiver k) (hs l.sender) (hs l.receiver) (near_sides c) (near_sides d) n faced e t x (mine_so e x) (theirs_so e x) may mine_last in
-      let f = faced_at l.back l.out (is_sender k) (is_receiver k) l.sender l.receiver m hs e (near_sides d) here one both in
-      joined_behind m k l hs e behind d p q (record { out = f.write; back = f.read })
-
-  same_cable : near_sides d ≡ near_sides c → d ≡ c
-  same_cable e = ap (λ (s : Sides). record { out = s.write; back = s.read }) e
-
-  pub sender_keeps : (r : Result Bool Stop) (new : NodeState) → EndOn who m (near_sides c) (near_sides d) n r new → IsNetwork (with_cable k d (with_node m new w))
-  sender_keeps r new x = end_keeps w m k n h known l c d line is who (inl refl) (near_sides c) (near_sides d) same_cable joins r new x
-
-  abbrev by_node : Option Node → Turn
-  by_node o = record { manager = l.sender; actor = who; call = calls.Turn; seen = waiting (back_of (course_in w).net k l); way = out_way (course_in w).net k l; deed = deed_at who calls.Turn (waiting (back_of (course_in w).net k l)) o }
-
-  pub sender_lifts : (r : Result Bool Stop) (new : NodeState) → Ready (course_in w).net → EndOn who m (near_sides c) (near_sides d) n r new → TurnIn Sends k r (course_in w) (course_in (with_cable k d (with_node m new w)))
-  sender_lifts r new ready x l2 line2 =
-      subst (λ (y : CableLine). DoesOrNot (TakesTurn (turn_in (course_in w).net Sends k y)) (changes (turn_in (course_in w).net Sends k y).way (turn_in (course_in w).net Sends k y).deed ≡ false) r (course_in w) (course_in (with_node m new w))) (some_is l l2 (sym line ∙ line2))
-      (end_lifts w m n h known who (turn_in (course_in w).net Sends k l) (near_sides c) (near_sides d) fits still r new (sender_keeps r new x).nodes ready x)
-    where
-      fits : (e : Entry) → Tells (node_in n) n.stamp e → Passes who (near_sides c) (near_sides d) n e → TakesTurn (turn_in (course_in w).net Sends k l) m e
-      fits e t y =
-          subst (λ (o : Option Node). TakesTurn (by_node o) m e) (sym node_here)
-          (subst (λ (q : ℕ). TakesTurn (record (by_node (Some (node_in n))) { manager = q }) m e) (sym here)
-          (takes_turn who (a_sender k) l.back l.out (is_sender k) (is_receiver k) (hs l.sender) (hs l.receiver) (near_sides c) (near_sides d) n faced e t y m))
-
-      still : near_sides d ≡ near_sides c → StaysStill who (near_sides c) (near_sides d) n → changes (turn_in (course_in w).net Sends k l).way (turn_in (course_in w).net Sends k l).deed ≡ false
-      still e s =
-          ap (λ (o : Option Node). changes (out_way (course_in w).net k l) (by_node o).deed) node_here
-          ∙ stays_still who (a_sender k) l.back l.out (is_sender k) (is_receiver k) (hs l.sender) (hs l.receiver) (near_sides c) (near_sides d) n faced e s
-
--- A RECEIVER'S
-module _ (w : NetState) (m k : ℕ) (n : NodeState) (h : IsNetwork w) (known : slice_get w.nodes m ≡ Some n) (may : MayAct n) (l : CableLine) (c d : CableState) (line : slice_get w.scenario.cables k ≡ Some l) (is : slice_get w.cables k ≡ Some c) (here : l.receiver ≡ m) where
-  abbrev hs : ℕ → List Entry
-  hs = entries_at (map history_in w.nodes)
-
-  faced : Faced l.out l.back (is_receiver k) (is_sender k) (hs l.receiver) (hs l.sender) (far_sides c)
-  faced = far_faced k l hs c (h.ways k l c line is)
-
-  mine_last : n.stamp ≡ stamp_after 0 (hs l.receiver)
-  mine_last = (h.nodes m n known).keeps.stamp ∙ ap (stamp_after 0) (sym (ap hs here ∙ done_there w.nodes m n known))
-
-  node_here : node_at (course_in w).net l.receiver ≡ Some (node_in n)
-  node_here = ap (node_at (course_in w).net) here ∙ node_there w.scenario w.nodes m n known (h.nodes m n known)
-
-  abbrev who : Actor
-  who = actors.Receiver k
-
-  mine_so : (e : Entry) → Passes who (far_sides c) (far_sides d) n e → is_receiver k e.actor ≡ true
-  mine_so e x = ap (is_receiver k) x.is.0 ∙ itself k
-
-  theirs_so : (e : Entry) → Passes who (far_sides c) (far_sides d) n e → is_sender k e.actor ≡ false
-  theirs_so e x = ap (is_sender k) x.is.0
-
-  joins : (e : Entry) (behind : List Entry) → Tells (node_in n) n.stamp e → Passes who (far_sides c) (far_sides d) n e → AllByRecursion (IsQuietEntry (is_sender k)) behind → AllByRecursion (IsQuietEntry (is_receiver k)) behind → IsJoined k l (more_at m (e ∷ behind) hs) d
-  joins e behind t x p q =
-      let one = faced_more who (a_receiver k) l.out l.back (is_receiver k) (is_sender k) (hs l.receiver) (hs l.sender) (far_sides c) (far_sides d) n faced e t x (mine_so e x) (theirs_so e x) may mine_last in
-      let both = faced_both who (a_receiver k) l.out l.back (is_receiver k) (is_sender k) (hs l.receiver) (hs l.sender) (far_sides c) (far_sides d) n faced e t x (mine_so e x) (theirs_so e x) may mine_last in
-      let f = faced_at l.out l.back (is_receiver k) (is_sender k) l.receiver l.sender m hs e (far_sides d) here one both in
-      joined_behind m k l hs e behind d p q (record { out = f.read; back = f.write })
-
-  same_cable : far_sides d ≡ far_sides c → d ≡ c
-  same_cable e = ap (λ (s : Sides). record { out = s.read; back = s.write }) e
-
-  pub receiver_keeps : (r : Result Bool Stop) (new : NodeState) → EndOn who m (far_sides c) (far_sides d) n r new → IsNetwork (with_cable k d (with_node m new w))
-  receiver_keeps r new x = end_keeps w m k n h known l c d line is who (inr refl) (far_sides c) (far_sides d) same_cable joins r new x
-
-  abbrev by_node : Option Node → Turn
-  by_node o = record { manager = l.receiver; actor = who; call = calls.Turn; seen = waiting (out_of (course_in w).net k l); way = back_way (course_in w).net k l; deed = deed_at who calls.Turn (waiting (out_of (course_in w).net k l)) o }
-
-  pub receiver_lifts : (r : Result Bool Stop) (new : NodeState) → Ready (course_in w).net → EndOn who m (far_sides c) (far_sides d) n r new → TurnIn Receives k r (course_in w) (course_in (with_cable k d (with_node m new w)))
-  receiver_lifts r new ready x l2 line2 =
-      subst (λ (y : CableLine). DoesOrNot (TakesTurn (turn_in (course_in w).net Receives k y)) (changes (turn_in (course_in w).net Receives k y).way (turn_in (course_in w).net Receives k y).deed ≡ false) r (course_in w) (course_in (with_node m new w))) (some_is l l2 (sym line ∙ line2))
-      (end_lifts w m n h known who (turn_in (course_in w).net Receives k l) (far_sides c) (far_sides d) fits still r new (receiver_keeps r new x).nodes ready x)
-    where
-      fits : (e : Entry) → Tells (node_in n) n.stamp e → Passes who (far_sides c) (far_sides d) n e → TakesTurn (turn_in (course_in w).net Receives k l) m e
-      fits e t y =
-          subst (λ (o : Option Node). TakesTurn (by_node o) m e) (sym node_here)
-          (subst (λ (q : ℕ). TakesTurn (record (by_node (Some (node_in n))) { manager = q }) m e) (sym here)
-          (takes_turn who (a_receiver k) l.out l.back (is_receiver k) (is_sender k) (hs l.receiver) (hs l.sender) (far_sides c) (far_sides d) n faced e t y m))
-
-      still : far_sides d ≡ far_sides c → StaysStill who (far_sides c) (far_sides d) n → changes (turn_in (course_in w).net Receives k l).way (turn_in (course_in w).net Receives k l).deed ≡ false
-      still e s =
-          ap (λ (o : Option Node). changes (back_way (course_in w).net k l) (by_node o).deed) node_here
-          ∙ stays_still who (a_receiver k) l.out l.back (is_receiver k) (is_sender k) (hs l.receiver) (hs l.sender) (far_sides c) (far_sides d) n faced e s
