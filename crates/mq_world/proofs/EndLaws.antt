@@ -1,6 +1,6 @@
 -- A turn of a cable's end at its node, with the trigger turns behind it.
-use Rattle.std.proofs.Common.{◌≡◌, ℕ, Bool, true, false, List, [], refl, sym, ap, ◌∙◌, append-nil, inl, inr}
-use Rattle.std.specs.Prelude.{Option, Some, None, Result, Ok, Err, IfOk}
+use Rattle.std.proofs.Common.{◌≡◌, ℕ, Bool, true, false, List, sym, ap, ◌∙◌, append-nil, inl, inr}
+use Rattle.std.specs.Prelude.{Option, Result, Ok, Err, IfOk}
 use Rattle.mq_base.specs.declared.want.NoMemory.{NoMemory as Want}
 use Rattle.mq_cable.specs.declared.item.Item.{Item}
 use Rattle.mq_cable.specs.Offers.{Offering}
@@ -14,11 +14,10 @@ use Rattle.mq_nodes.specs.declared.nodes.Stop.TheVariants as stops
 use Rattle.mq_turns.specs.declared.telling.Turn.{Turn}
 use Rattle.mq_turns.specs.declared.telling.Turn.TheVariants as turns
 use Rattle.mq_turns.specs.Unseen.{Empty, EndTurn, IsUnseen, Pushes, Rests, turn_deed}
-use Rattle.mq_turns.specs.Wired.{ChangedBy, Untaken}
+use Rattle.mq_turns.specs.Wired.{Untaken}
 use Rattle.mq_turns.proofs.WireLaws.{turn_widened}
-use Rattle.mq_ways.specs.Ways.{WayState}
 use Rattle.mq_world.specs.Ends.{EndOn, IsBare, IsFilled, Passes, Reads, SideTurn, Sides, Writes}
-use Rattle.mq_world.specs.Settling.{NodeDid, Settles}
+use Rattle.mq_world.specs.Settling.{Settles}
 use Rattle.mq_world.proofs.NodeLaws.{did_then, stays_so}
 
 -- Over the two directions, by what it is over a wire.

@@ -1,7 +1,6 @@
 -- How one direction of a cable goes on by an entry of its writer or of its reader: a frame was offered, an item was popped, or neither.
-use Rattle.std.proofs.Common.{◌≡◌, ℕ, zero, suc, ◌+◌, ◌≤◌, ◌^◌, Bool, true, false, List, [], ◌∷◌, ◌++◌, length, drop, refl, sym, ap, subst, ◌∙◌, arith, append_assoc, append-nil, inl, inr}
+use Rattle.std.proofs.Common.{◌≡◌, ℕ, suc, ◌+◌, ◌≤◌, ◌^◌, Bool, true, false, List, [], ◌∷◌, ◌++◌, length, drop, refl, sym, ap, subst, ◌∙◌, arith, append_assoc, append-nil, inl, inr}
 use Rattle.std.specs.Prelude.{◌⊎◌, ◌==◌, ◌&&◌, if◌then◌else◌, max, Option, Some, None}
-use Rattle.std.specs.List.{AllByRecursion}
 use Rattle.std.proofs.lemmas.Grind.{flat_map-append}
 use Rattle.std.proofs.lemmas.List.Elements.{filter-append}
 use Rattle.mq_cable.specs.declared.fault.Fault.{Fault}
@@ -11,14 +10,13 @@ use Rattle.mq_cable.specs.Faults.{pushed_of as bytes_pushed}
 use Rattle.mq_cable.specs.Offers.{HasTaken}
 use Rattle.mq_cable.proofs.MadeLaws.{one_more}
 use Rattle.mq_frame.specs.declared.frame.Frame.{Frame}
-use Rattle.mq_frame.specs.declared.frame.Seen.{Seen}
 use Rattle.mq_frame.specs.Frames.{IsFrame}
 use Rattle.mq_frame.specs.Sight.{Shows}
 use Rattle.mq_frame.proofs.Streams.{one_sight}
 use Rattle.mq_spec_node.specs.Terms.{Actor, Entry}
 use Rattle.mq_spec_node.specs.Words.{by, item_if, item_of, items_of, stamp_after}
 use Rattle.mq_spec_network.specs.Cables.{Carries, Lying, Takes, is_popped, lying, made, offered_by, offered_if, pops_item, pops_of, spoiled, whole}
-use Rattle.mq_ways.specs.Ways.{AreSeen, AreShown, IsSeen, IsShown, IsWay, WayState}
+use Rattle.mq_ways.specs.Ways.{AreSeen, AreShown, IsShown, IsWay, WayState}
 use Rattle.mq_ways.proofs.SightLaws.{way_seen}
 use Rattle.mq_ways.proofs.WayLaws.{way_offered, way_others, way_popped}
 use Rattle.mq_world.specs.Facing.{Facing}

@@ -1,5 +1,5 @@
 -- An end's turn over its cable is the turn that the network's histories tell, and what lies on the cable behind it is what they say.
-use Rattle.std.proofs.Common.{◌≡◌, ℕ, suc, ◌+◌, ◌≤◌, ◌<◌, ◌^◌, Bool, true, false, List, [], ◌∷◌, ◌++◌, length, refl, sym, ap, subst, ◌∙◌, arith, append-nil, inl, inr}
+use Rattle.std.proofs.Common.{◌≡◌, ℕ, ◌+◌, ◌≤◌, ◌<◌, ◌^◌, Bool, true, false, List, [], ◌∷◌, ◌++◌, length, refl, sym, ap, subst, ◌∙◌, arith, append-nil, inl, inr}
 use Rattle.std.specs.Prelude.{◌⊎◌, ◌&&◌, ◌||◌, nat_le, max, not, Option, Some, None, is_some}
 use Rattle.std.proofs.lemmas.Bool.Decides.{nat_tests}
 use Rattle.mq_cable.specs.declared.fault.Fault.{Fault}
@@ -21,22 +21,21 @@ use Rattle.mq_history.specs.declared.calls.Chance.TheVariants as chances
 use Rattle.mq_history.specs.declared.calls.Entry.{Entry}
 use Rattle.mq_spec_node.specs.Deeds.{CanCome, Deed, done}
 use Rattle.mq_spec_node.specs.Happens.{IsDeed, IsEvent, choice_event, event}
-use Rattle.mq_spec_node.specs.Replays.{AreExtras, IsPop, IsStamp, Tells, done_by}
+use Rattle.mq_spec_node.specs.Replays.{AreExtras, IsPop, IsStamp, Tells}
 use Rattle.mq_spec_node.specs.Node.{Node}
-use Rattle.mq_spec_node.specs.Words.{by, deed_of, is_spent, item_of, items_of, stamp_after}
+use Rattle.mq_spec_node.specs.Words.{by, deed_of, item_of, items_of, stamp_after}
 use Rattle.mq_spec_network.specs.Cables.{Lying, is_popped, lying}
 use Rattle.mq_spec_network.specs.Steps.{TakesTurn, Turn, popped_by, pushed_of}
 use Rattle.mq_spec_network.specs.Turns.{Direction, changes, extras_of, push_refused, waiting}
-use Rattle.mq_wires.specs.Wires.{OffersNone}
 use Rattle.mq_ways.specs.Ways.{AreSeen, WayState}
 use Rattle.mq_ways.proofs.SightLaws.{way_seen}
-use Rattle.mq_events.specs.States.{NodeState, node_in, value_of}
+use Rattle.mq_events.specs.States.{NodeState, node_in}
 use Rattle.mq_events.specs.Events.{MayAct}
 use Rattle.mq_turns.specs.Unseen.{Empty, IsUnseen, Pushes, Rests, turn_deed}
 use Rattle.mq_turns.specs.Wired.{Idles, IsStill, Offered, Popped, PopsItem, Refuses}
 use Rattle.mq_world.specs.Ends.{IsBare, IsFilled, Passes, Reads, Sides, StaysStill, Writes}
 use Rattle.mq_world.specs.Facing.{Facing}
-use Rattle.mq_world.proofs.DeedLaws.{Alike, IsEnd, Pushing, PushesOr}
+use Rattle.mq_world.proofs.DeedLaws.{Alike, IsEnd, PushesOr}
 use Rattle.mq_world.proofs.FacingLaws.{facing_offered, facing_popped, facing_unread, facing_unwritten}
 use Rattle.mq_world.proofs.RoomLaws.{direction, extras_found, not_refused_there, refused_there}
 

@@ -10,7 +10,7 @@ use Rattle.mq_cable.specs.Faults.{pushed_of as bytes_pushed}
 use Rattle.mq_cable.specs.Offers.{next_fault}
 use Rattle.mq_frame.specs.declared.frame.Frame.{Frame}
 use Rattle.mq_spec_node.specs.Terms.{Actor, Entry}
-use Rattle.mq_spec_node.specs.Words.{by, item_of, items_of}
+use Rattle.mq_spec_node.specs.Words.{by, items_of}
 use Rattle.mq_spec_network.specs.Cables.{Lying, lying, offered_by, whole}
 use Rattle.mq_spec_network.specs.Cables.{spoiled as spoiled_seen}
 use Rattle.mq_spec_network.specs.Turns.{Direction, due_of, extras_of, is_empty, is_full, push_refused, put_now}

@@ -1,42 +1,36 @@
 -- A turn of a cable's end at its place in the network.
-use Rattle.std.proofs.Common.{◌≡◌, ℕ, ◌+◌, ◌<◌, ◌≤◌, ◌^◌, Bool, true, false, List, [], ◌∷◌, ◌++◌, length, refl, sym, ap, subst, ◌∙◌, arith, inl, inr}
-use Rattle.std.specs.Prelude.{◌⊎◌, ◌==◌, if◌then◌else◌, map, Option, Some, None, Result, Ok, Err, slice_get, slice_set}
+use Rattle.std.proofs.Common.{◌≡◌, ℕ, ◌+◌, Bool, true, false, List, [], ◌∷◌, ◌++◌, refl, sym, ap, subst, ◌∙◌, inl, inr}
+use Rattle.std.specs.Prelude.{◌⊎◌, ◌==◌, if◌then◌else◌, map, Some, Result, Ok, Err, slice_get, slice_set}
 use Rattle.std.specs.List.{AllByRecursion}
 use Rattle.std.proofs.lemmas.List.{append_assoc}
 use Rattle.mq_cable.specs.declared.fault.Fault.{Fault}
 use Rattle.mq_history.specs.declared.calls.Actor.{Actor}
 use Rattle.mq_history.specs.declared.calls.Actor.TheVariants as actors
-use Rattle.mq_history.specs.declared.calls.Call.TheVariants as calls
 use Rattle.mq_history.specs.declared.calls.Entry.{Entry}
 use Rattle.mq_history.specs.declared.history.History.{History}
 use Rattle.mq_history.specs.declared.scenario.CableLine.{CableLine}
-use Rattle.mq_spec_node.specs.Deeds.{Deed}
 use Rattle.mq_spec_node.specs.Node.{Node}
 use Rattle.mq_spec_node.specs.Replays.{Follows, Tells, after, done_by, opening_node}
-use Rattle.mq_spec_node.specs.Words.{NodeValue, deed_of, is_receiver, is_sender, stamp_after}
-use Rattle.mq_spec_network.specs.Steps.{TakesTurn, Turn, turn_in}
+use Rattle.mq_spec_node.specs.Words.{is_receiver, is_sender, stamp_after}
+use Rattle.mq_spec_network.specs.Steps.{TakesTurn, Turn}
 use Rattle.mq_spec_network.specs.Story.{entries_at}
-use Rattle.mq_spec_network.specs.Tasks.Slot.{Sends, Receives}
-use Rattle.mq_spec_network.specs.Turns.{back_of, back_way, changes, deed_at, more_at, node_at, out_of, out_way, waiting}
+use Rattle.mq_spec_network.specs.Turns.{changes, more_at}
 use Rattle.mq_nodes.specs.Course.{Did, Ready}
-use Rattle.mq_nodes.specs.Pumps.{TurnIn}
-use Rattle.mq_nodes.specs.Told.{Broke, DoesOrNot}
+use Rattle.mq_nodes.specs.Told.{DoesOrNot}
 use Rattle.mq_nodes.specs.declared.nodes.Stop.{Stop}
 use Rattle.mq_nodes.specs.declared.nodes.Stop.TheVariants as stops
 use Rattle.mq_ways.specs.Ways.{CableState, IsQuietEntry}
-use Rattle.mq_events.specs.States.{NodeState, IsKept, IsServed, node_in, value_of}
-use Rattle.mq_events.specs.Events.{MayAct}
-use Rattle.mq_world.specs.Ends.{EndBroke, EndOn, Passes, Sides, StaysStill, far_sides, near_sides}
+use Rattle.mq_events.specs.States.{NodeState, IsKept, node_in}
+use Rattle.mq_world.specs.Ends.{EndOn, Passes, Sides, StaysStill, far_sides, near_sides}
 use Rattle.mq_world.specs.Facing.{IsJoined}
 use Rattle.mq_world.specs.Settling.{NodeDid, NodeStays}
-use Rattle.mq_world.specs.Worlds.{IsNetwork, NetState, course_in, histories_in, history_in, waits_in, with_cable, with_node}
-use Rattle.mq_world.proofs.DeedLaws.{a_receiver, a_sender}
+use Rattle.mq_world.specs.Worlds.{IsNetwork, NetState, course_in, history_in, with_cable, with_node}
 use Rattle.mq_world.proofs.KeepLaws.{cable_again, did_silent, network_stays, network_turned}
 use Rattle.mq_world.proofs.LiftLaws.{did_lifts, ready_set, spent_lifts, stays_lifts}
-use Rattle.mq_world.proofs.ListLaws.{itself, some_is}
-use Rattle.mq_world.proofs.PassLaws.{Faced, faced_both, faced_more, stays_still, takes_turn, turn_of}
+use Rattle.mq_world.proofs.ListLaws.{itself}
+use Rattle.mq_world.proofs.PassLaws.{Faced}
 use Rattle.mq_world.proofs.QuietLaws.{joined_quiet, joined_same, silent_quiet}
-use Rattle.mq_world.proofs.SeenLaws.{AreAt, done_there, node_there}
+use Rattle.mq_world.proofs.SeenLaws.{AreAt}
 
 -- WHAT ITS ENTRY TELLS, at the node as it was
 tells_among : (n : Node) (last : ℕ) (xs ys : List Entry) (e : Entry) → Follows n last (xs ++ e ∷ ys) → Tells (after n xs) (stamp_after last xs) e

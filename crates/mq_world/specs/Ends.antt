@@ -1,5 +1,5 @@
 -- A turn of a cable's end at its node, with the trigger turns behind it: what it read and wrote of the two directions.
-use Rattle.std.specs.Prelude.{◌≡◌, ◌⊎◌, ◌+◌, ◌≤◌, ℕ, Bool, true, false, List, [], ◌++◌, Option, Some, None, Result, Ok, Err, length}
+use Rattle.std.specs.Prelude.{◌≡◌, ◌⊎◌, ◌+◌, ◌≤◌, ℕ, Bool, true, false, List, [], ◌++◌, None, Result, Ok, Err, length}
 use Rattle.mq_base.specs.declared.want.NoMemory.{NoMemory as Want}
 use Rattle.mq_cable.specs.declared.item.Item.{Item}
 use Rattle.mq_frame.specs.declared.frame.Seen.TheVariants as items
