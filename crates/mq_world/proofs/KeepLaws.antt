@@ -264,7 +264,7 @@ pub network_script : (w : NetState) (k : ℕ) (p : ScriptPart) (c d : progress.C
 network_script w k p c d h part is memory done waits =
     let old : IsScriptAt k p (entries_at (map history_in w.nodes) p.manager) c = h.scripts k p c part is in
     record {
-          scenario = h.scenario;
+      scenario = h.scenario;
       texts = h.texts;
       all = h.all;
       nodes = h.nodes;
@@ -294,7 +294,7 @@ network_line w m k p l c d P n new h known part is here line x actor main f =
     let old : List Entry = entries_at (map history_in w.nodes) p.manager in
     let there : IsScriptAt k p (old ++ x.entry ∷ x.behind) d = line_more k p old x.behind x.entry l c d (h.scripts k p c part is) line actor main f x.triggers in
     record {
-          scenario = h.scenario;
+      scenario = h.scenario;
       texts = h.texts;
       all = set_long w.nodes m new ∙ h.all;
       nodes = are_at_set w.scenario w.nodes m n new h.nodes known (at_did w.scenario m P n new (h.nodes m n known) x);

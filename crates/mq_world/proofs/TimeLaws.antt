@@ -102,8 +102,8 @@ pub record IsTimeout (k : ℕ) (n : Node) (e : Entry) : Type 0 where
 pub timeout_told : (k last : ℕ) (n : Node) (e : Entry) → Tells n last e → e.actor ≡ actors.Sender k → e.call ≡ calls.Timeout → IsTimeout k n e
 timeout_told k last n e t actor call =
     let pushed : e.effect.pushed ≡ None =
-        t.pushed ∙ ap (λ (a : Actor). (event e.stamp a e.call e.chance e.effect.popped n).pushed) actor
-        ∙ ap (λ (c : Call). (event e.stamp (actors.Sender k) c e.chance e.effect.popped n).pushed) call ∙ event_offers k e.stamp e.chance e.effect.popped n in
+    t.pushed ∙ ap (λ (a : Actor). (event e.stamp a e.call e.chance e.effect.popped n).pushed) actor
+    ∙ ap (λ (c : Call). (event e.stamp (actors.Sender k) c e.chance e.effect.popped n).pushed) call ∙ event_offers k e.stamp e.chance e.effect.popped n in
     record {
       actor = actor;
       call = call;
@@ -126,4 +126,3 @@ none_is (Some d) e = absurd cc
 -- none is taken where there is none
 pub timeout_still : (way : Direction) (k : ℕ) (n : Node) → timeout_here k n ≡ None → changes way (timeout_here k n) ≡ false
 timeout_still way k n e = timeout_changes way k n ∙ none_is (timeout_here k n) e
-

@@ -71,9 +71,9 @@ timed_then k m old mid new (Err stop) h s is =
 pub did_tells : (P : Entry → Type 0) (n new : NodeState) → IsKept n → (d : NodeDid P n new) → Tells (node_in n) n.stamp d.entry
 did_tells P n new kept d =
     let f : Follows (opening_node new.given new.history) 0 (n.history.entries ++ d.entry ∷ d.behind) =
-        subst (λ (es : List Entry). Follows (opening_node new.given new.history) 0 es) (ap (λ (h : History). h.entries) d.grows.history) d.keeps.replays.follows in
+    subst (λ (es : List Entry). Follows (opening_node new.given new.history) 0 es) (ap (λ (h : History). h.entries) d.grows.history) d.keeps.replays.follows in
     let opens : opening_node new.given new.history ≡ opening_node n.given n.history =
-        ap (λ (g : Surroundings). opening_node g new.history) d.grows.given ∙ ap (λ (h : History). opening_node n.given h) d.grows.history in
+    ap (λ (g : Surroundings). opening_node g new.history) d.grows.given ∙ ap (λ (h : History). opening_node n.given h) d.grows.history in
     subst (λ (x : Node). Tells x n.stamp d.entry) (sym kept.node)
     (subst (λ (s : ℕ). Tells (after (opening_node n.given n.history) n.history.entries) s d.entry) (sym kept.stamp)
     (subst (λ (x : Node). Tells (after x n.history.entries) (stamp_after 0 n.history.entries) d.entry) opens
