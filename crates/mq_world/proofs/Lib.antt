@@ -15,3 +15,12 @@ pub mod HandlerLaws
 pub mod IdleLaws
 pub mod TimeLaws
 pub mod TimingLaws
+pub mod FacingLaws
+pub mod DeedLaws
+pub mod RoomLaws
+pub mod PassLaws
+pub mod EndLaws
+pub mod TurnedLaws
+pub mod PlaceLaws
+pub mod NearLaws
+pub mod FarLaws

@@ -15,7 +15,7 @@ returns-clause-told g c =
     (record { read = record { items = c.turn_round-2.new.wire.write; offers = c.ways.inside.out }; write = record { items = c.turn_round-2.new.wire.read; offers = c.receiver_turn-turn.new.offers } }) _ _ _ _ c.args.node.now c.receiver_turn-turn.result c.receiver_turn-turn.new.node
     (λ xs t. sym c.begin.ensures.write ∙ sym c.turn_round.ensures.read ∙ t.whole ∙ ap (λ (zs : List Item). xs ++ zs) (sym c.turn_round-2.ensures.write))
     (λ xs t. record {
-        whole = c.turn_round-2.ensures.read ∙ t.whole ∙ ap (λ (zs : List Item). zs ++ xs) (c.turn_round.ensures.write ∙ c.begin.ensures.read);
-        room = subst (λ (zs : List Item). (xs ≡ []) ⊎ (length zs ≤ 64)) (sym c.turn_round-2.ensures.read) t.room;
-      })
+      whole = c.turn_round-2.ensures.read ∙ t.whole ∙ ap (λ (zs : List Item). zs ++ xs) (c.turn_round.ensures.write ∙ c.begin.ensures.read);
+      room = subst (λ (zs : List Item). (xs ≡ []) ⊎ (length zs ≤ 64)) (sym c.turn_round-2.ensures.read) t.room;
+    })
     (λ p. c.turn_round-2.ensures.write ∙ sym p.2.whole ∙ p.1.none) (λ p. subst (λ (zs : List Item). 64 ≤ length zs) (sym c.turn_round-2.ensures.read) p.most) c.receiver_turn-turn.ensures)
