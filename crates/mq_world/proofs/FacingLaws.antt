@@ -21,7 +21,7 @@ use Rattle.mq_spec_network.specs.Cables.{Carries, Lying, Takes, is_popped, lying
 use Rattle.mq_ways.specs.Ways.{AreSeen, AreShown, IsSeen, IsShown, IsWay, WayState}
 use Rattle.mq_ways.proofs.SightLaws.{way_seen}
 use Rattle.mq_ways.proofs.WayLaws.{way_offered, way_others, way_popped}
-use Rattle.mq_world.specs.Worlds.{Facing}
+use Rattle.mq_world.specs.Facing.{Facing}
 
 -- What one entry more is among those of an end.
 pub by_more : (test : Actor → Bool) (es : List Entry) (e : Entry) (b : Bool) → test e.actor ≡ b → by test (es ++ e ∷ []) ≡ by test es ++ (if b then e ∷ [] else [])

@@ -48,15 +48,12 @@ far_sides c = record { read = c.out; write = c.back }
 abbrev pub SideTurn : Actor → Sides → Sides → NodeState → Result Turn Want → NodeState → Type 0
 SideTurn who a b old r new = EndTurn who (Reads a.read b.read) (Writes a.write b.write) (IsBare b.read) (IsFilled b.write) a.write.offers b.write.offers old r new
 
--- the entry of such a turn: what it popped, and what it offered
+-- the entry of such a turn: what it popped, and what it offered; what was offered of the direction that is read is its writer's
 pub record Passes (who : Actor) (a b : Sides) (old : NodeState) (e : Entry) : Type 0 where
   pub is : IsOf who calls.Turn e
+  pub leaves : b.read.offers ≡ a.read.offers
   pub popped : Popped (Reads a.read b.read) (IsUnseen (IsBare b.read) (turn_deed who old)) old.stamp e.effect.popped e.stamp
   pub offered : Offered (Writes a.write b.write) (IsFilled b.write) a.write.offers e.effect.pushed e.effect.extras b.write.offers
-
--- what was offered of the direction that is read is its writer's
-abbrev pub LeavesReads : Sides → Sides → Type 0
-LeavesReads a b = b.read.offers ≡ a.read.offers
 
 -- why there is no turn
 abbrev pub StaysStill : Actor → Sides → Sides → NodeState → Type 0
