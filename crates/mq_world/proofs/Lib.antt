@@ -15,3 +15,12 @@ pub mod HandlerLaws
 pub mod IdleLaws
 pub mod TimeLaws
 pub mod TimingLaws
+pub mod FacingLaws
+pub mod RoomLaws
+pub mod DeedLaws
+pub mod EndLaws
+pub mod PassLaws
+pub mod PlaceLaws
+pub mod TurnedLaws
+pub mod NearLaws
+pub mod FarLaws

@@ -48,7 +48,7 @@ tells_here P n new kept d =
     let first : Node = opening_node n.given n.history in
     let opens : opening_node new.given new.history ≡ first = ap (λ (h : History). opening_node new.given h) d.grows.history ∙ ap (λ g. opening_node g n.history) d.grows.given in
     let f : Follows first 0 (n.history.entries ++ d.entry ∷ d.behind) =
-        subst (λ (x : Node). Follows x 0 (n.history.entries ++ d.entry ∷ d.behind)) opens (subst (Follows (opening_node new.given new.history) 0) (ap (λ (h : History). h.entries) d.grows.history) d.keeps.replays.follows) in
+    subst (λ (x : Node). Follows x 0 (n.history.entries ++ d.entry ∷ d.behind)) opens (subst (Follows (opening_node new.given new.history) 0) (ap (λ (h : History). h.entries) d.grows.history) d.keeps.replays.follows) in
     subst (λ (x : Node). Tells x n.stamp d.entry) (sym kept.node)
     (subst (λ (s : ℕ). Tells (after first n.history.entries) s d.entry) (sym kept.stamp) (tells_among first 0 n.history.entries d.behind d.entry f))
 
@@ -65,7 +65,7 @@ told_so P n new kept d = record {
 
 -- WHAT THE COURSE TELLS of it
 module _ (w : NetState) (m : ℕ) (n : NodeState) (h : IsNetwork w) (known : slice_get w.nodes m ≡ Some n) (who : Actor) (t : Turn) (a b : Sides)
-  (fits : (e : Entry) → Tells (node_in n) n.stamp e → Passes who a b n e → TakesTurn t m e) (still : b ≡ a → StaysStill who a b n → changes t.way t.deed ≡ false) where
+    (fits : (e : Entry) → Tells (node_in n) n.stamp e → Passes who a b n e → TakesTurn t m e) (still : b ≡ a → StaysStill who a b n → changes t.way t.deed ≡ false) where
   kept : IsKept n
   kept = (h.nodes m n known).keeps
 

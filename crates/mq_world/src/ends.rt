@@ -40,11 +40,7 @@ fn turn_round(wire: &mut Near)
 }
 
 /// The turn of a cable's sender at its node.
-fn near_turn<D: Disk>(
-    node: &mut Node<D>,
-    ways: &mut Cable,
-    cable: u16,
-) -> Result<Turn, NoMemory>
+fn near_turn<D: Disk>(node: &mut Node<D>, ways: &mut Cable, cable: u16) -> Result<Turn, NoMemory>
     requires served { IsServed node.old }
     requires may { MayAct node.old }
     requires low { AllLow ways.old.back.items }
@@ -57,11 +53,7 @@ fn near_turn<D: Disk>(
 }
 
 /// The turn of its receiver.
-fn far_turn<D: Disk>(
-    node: &mut Node<D>,
-    ways: &mut Cable,
-    cable: u16,
-) -> Result<Turn, NoMemory>
+fn far_turn<D: Disk>(node: &mut Node<D>, ways: &mut Cable, cable: u16) -> Result<Turn, NoMemory>
     requires served { IsServed node.old }
     requires may { MayAct node.old }
     requires low { AllLow ways.old.out.items }

@@ -3,6 +3,7 @@
 
 mod acting;
 mod cabling;
+mod ends;
 mod idling;
 mod lines;
 mod marks;
