@@ -1,4 +1,4 @@
-use Rattle.std.specs.Prelude.{length, slice_get}
+use Rattle.std.specs.Prelude.{slice_get}
 use Rattle.std.proofs.Common.{ap, refl, sym, ◌∙◌}
 use Rattle.mq_world.specs.Worlds.{NetState, with_cable, with_node}
 use Rattle.mq_world.proofs.LiftLaws.{asked, asked_ready}
