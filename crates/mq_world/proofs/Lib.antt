@@ -16,20 +16,11 @@ pub mod IdleLaws
 pub mod TimeLaws
 pub mod TimingLaws
 pub mod FacingLaws
-<<<<<<< HEAD
 pub mod DeedLaws
 pub mod RoomLaws
 pub mod PassLaws
 pub mod EndLaws
 pub mod TurnedLaws
 pub mod PlaceLaws
-=======
-pub mod RoomLaws
-pub mod DeedLaws
-pub mod EndLaws
-pub mod PassLaws
-pub mod PlaceLaws
-pub mod TurnedLaws
->>>>>>> origin/net-next
 pub mod NearLaws
 pub mod FarLaws
