@@ -10,7 +10,7 @@ use Rattle.mq_history.specs.declared.calls.Call.TheVariants as calls
 use Rattle.mq_history.specs.declared.history.History.{History}
 use Rattle.mq_history.specs.declared.scenario.CableLine.{CableLine}
 use Rattle.mq_spec_node.specs.Terms.{Entry}
-use Rattle.mq_spec_node.specs.Words.{Deed, Node, Surroundings, is_receiver, is_sender, opening_node, stamp_after}
+use Rattle.mq_spec_node.specs.Words.{Deed, Node, Surroundings, deed_of, is_receiver, is_sender, opening_node, stamp_after}
 use Rattle.mq_spec_node.specs.Replays.{Follows, Tells, after}
 use Rattle.mq_spec_network.specs.Steps.{TakesTurn, popped_by, pushed_of, turn_in}
 use Rattle.mq_spec_network.specs.Story.{entries_at}
@@ -45,7 +45,7 @@ none_by k None old new e h = h
 none_by k (Some d) old new e h = h
 
 pub none_timed : (k m : ℕ) (old new : NodeState) (e : Want) → TimesOut k old (Err e) new → TimeoutOn k m old (Err stops.NoMemory) new
-none_timed k m old new e h = inl (stays_so old new (none_by k _ old new e h))
+none_timed k m old new e h = inl (stays_so old new (none_by k (deed_of (old.stamp + 1) (actors.Sender k) calls.Timeout items.Nothing (node_in old)) old new e h))
 
 still_by : (k : ℕ) (d : Option Deed) (old new : NodeState) → TimeoutIs k d old (Ok turns.Still) new → Stays old new × (d ≡ None)
 still_by k None old new h = (h, refl)
