@@ -24,7 +24,7 @@ use Rattle.mq_spec_network.specs.Turns.{more_at}
 use Rattle.mq_ways.specs.Ways.{CableState}
 use Rattle.mq_nodes.specs.Course.{Course}
 use Rattle.mq_progress.specs.Course as progress
-use Rattle.mq_progress.specs.Course.{Finished, Stands}
+use Rattle.mq_progress.specs.Course.{Finished}
 use Rattle.mq_progress.proofs.CourseLaws.{stands_further, stands_others}
 use Rattle.mq_events.specs.States.{NodeState, IsKept, value_of}
 use Rattle.mq_world.specs.Settling.{NodeDid, NodeStays}

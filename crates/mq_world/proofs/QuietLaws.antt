@@ -1,9 +1,9 @@
 -- Entries that neither offer nor pop, and entries of others, leave what lies on the cables as their ends say.
-use Rattle.std.proofs.Common.{◌≡◌, ℕ, Bool, true, false, List, [], ◌∷◌, ◌++◌, length, refl, sym, ap, subst, ◌∙◌, inl, inr}
-use Rattle.std.specs.Prelude.{◌⊎◌, ◌==◌, ◌&&◌, if◌then◌else◌, Option, None, Some, slice_get}
+use Rattle.std.proofs.Common.{◌≡◌, ℕ, Bool, true, false, List, [], ◌∷◌, ◌++◌, refl, sym, ap, subst, ◌∙◌, inl, inr}
+use Rattle.std.specs.Prelude.{◌==◌, ◌&&◌, if◌then◌else◌, Option, None, Some}
 use Rattle.std.specs.List.{AllByRecursion}
 use Rattle.std.proofs.lemmas.Grind.{flat_map-append}
-use Rattle.std.proofs.lemmas.List.{append-nil, append_assoc}
+use Rattle.std.proofs.lemmas.List.{append-nil}
 use Rattle.std.proofs.lemmas.List.Elements.{filter-append}
 use Rattle.mq_cable.specs.declared.fault.Fault.{Fault}
 use Rattle.mq_cable.specs.Faults.{Offer, Within}
@@ -28,10 +28,10 @@ use Rattle.mq_spec_node.specs.Replays.{Follows, IsPop, Tells, done_by}
 use Rattle.mq_spec_node.specs.Happens.{choice_event, done_or, event}
 use Rattle.mq_spec_node.specs.Words.{by, is_receiver, is_sender, trigger_deed, trigger_deed_of, where_up}
 use Rattle.mq_spec_node.specs.Terms.{Entry}
-use Rattle.mq_spec_network.specs.Cables.{Carries, Lying, Takes, is_popped, made, offered_by, offered_if, pops_item}
+use Rattle.mq_spec_network.specs.Cables.{Lying, Takes, is_popped, made, offered_by, offered_if, pops_item}
 use Rattle.mq_spec_network.specs.Steps.{AreTriggers}
 use Rattle.mq_spec_network.specs.Turns.{more_at}
-use Rattle.mq_ways.specs.Ways.{AreShown, CableState, IsNew, IsQuietEntry, IsShown, IsWay, WayState}
+use Rattle.mq_ways.specs.Ways.{AreShown, CableState, IsNew, IsQuietEntry, IsShown, WayState}
 use Rattle.mq_ways.proofs.QuietLaws.{quiet_more}
 use Rattle.mq_ways.proofs.WayLaws.{way_begins, way_others}
 use Rattle.mq_world.specs.Facing.{AreJoined, Facing, IsJoined}

@@ -1,5 +1,5 @@
 -- A timeout's entry: it offers nothing and takes nothing, and its deed was there.
-use Rattle.std.proofs.Common.{◌≡◌, ℕ, Bool, true, false, List, [], ◌∷◌, ◌++◌, refl, sym, ap, subst, ◌∙◌}
+use Rattle.std.proofs.Common.{◌≡◌, ℕ, Bool, true, false, List, [], ◌∷◌, ◌++◌, refl, ap, subst, ◌∙◌}
 use Rattle.std.specs.Prelude.{if◌then◌else◌, Option, Some, None, is_some}
 use Rattle.mq_calls.specs.declared.choices.Choice.{Choice}
 use Rattle.mq_calls.specs.declared.choices.Choice.TheVariants.{Runs, NoMemory, Stopped}
@@ -18,7 +18,7 @@ use Rattle.mq_sender.specs.States.{awaits, timed_out}
 use Rattle.mq_spec_node.specs.Terms.{Entry}
 use Rattle.mq_spec_node.specs.Words.{Deed, Node, SenderEnd, deed_of, sender_end, stamp_after}
 use Rattle.mq_spec_node.specs.Calls.{timeout_of, where_up}
-use Rattle.mq_spec_node.specs.Happens.{IsDeed, IsEvent, choice_event, done_or, event}
+use Rattle.mq_spec_node.specs.Happens.{IsDeed, IsEvent, done_or, event}
 use Rattle.mq_spec_node.specs.Replays.{AreExtras, Follows, IsPop, Tells, after, done_by}
 use Rattle.mq_spec_node.specs.Senders.{after_timeout}
 use Rattle.mq_spec_network.specs.Cables.{is_popped}

@@ -1,4 +1,4 @@
-use Rattle.std.specs.Prelude.{◌≡◌, ◌-◌, vec_len, vec_capacity}
+use Rattle.std.specs.Prelude.{◌-◌, vec_len, vec_capacity}
 use Rattle.std.proofs.Common.{ap, sym, ◌∙◌}
 use Rattle.mq_spec_node.specs.Words.{Own, begun_anew, node_of, opening_node}
 use Rattle.mq_events.specs.States.{NodeState}
