@@ -1,6 +1,6 @@
 //! The cables of a network that starts, with a copy of their lines.
 ghost use Rattle.std.specs.Prelude.{◌≡◌, IfOk};
-ghost use Rattle.mq_ways.specs.Ways.{AreNew};
+ghost use Rattle.mq_world.specs.Words as words;
 
 use mq_base::{Items, NoMemory};
 use mq_cable::Faults;
@@ -54,7 +54,7 @@ pub struct Cabling {
 /// Cables on which nothing was offered, with a copy of their lines.
 pub fn cabling_of(alloc: Global, lines: &[CableLine]) -> Result<Cabling, NoMemory>
     ensures lines { IfOk result (λ r. r.lines ≡ lines.now) }
-    ensures cables { IfOk result (λ r. AreNew lines.now r.cables) }
+    ensures cables { IfOk result (λ r. words.AreNew lines.now r.cables) }
 {
     let copy = lines_of(alloc, lines)?;
     let cables = cables_of(alloc, lines)?;

@@ -1,14 +1,7 @@
 //! Turns of a cable's two ends: at their node, with the trigger turns behind them, and in the network.
 ghost use Rattle.std.specs.Prelude.{◌≡◌, ◌<◌, ◌^◌, length};
-ghost use Rattle.mq_cable.specs.Lists.{AllLow};
+ghost use Rattle.mq_world.specs.Words as words;
 ghost use Rattle.mq_history.specs.declared.calls.Actor.TheVariants as actors;
-ghost use Rattle.mq_spec_network.specs.Tasks.Slot.{Receives, Sends};
-ghost use Rattle.mq_events.specs.States.{IsServed};
-ghost use Rattle.mq_events.specs.Events.{MayAct};
-ghost use Rattle.mq_nodes.specs.Course.{Ready};
-ghost use Rattle.mq_nodes.specs.Pumps.{TurnIn};
-ghost use Rattle.mq_world.specs.Ends.{EndOn, SideTurn, far_sides, near_sides};
-ghost use Rattle.mq_world.specs.Worlds.{IsNetwork, course_in};
 
 use crate::idling::line_at;
 use crate::parts::NetParts;
@@ -41,11 +34,11 @@ fn turn_round(wire: &mut Near)
 
 /// The turn of a cable's sender at its node.
 fn near_turn<D: Disk>(node: &mut Node<D>, ways: &mut Cable, cable: u16) -> Result<Turn, NoMemory>
-    requires served { IsServed node.old }
-    requires may { MayAct node.old }
-    requires low { AllLow ways.old.back.items }
+    requires served { words.IsServed node.old }
+    requires may { words.MayAct node.old }
+    requires low { words.AllLow ways.old.back.items }
     requires count { ways.old.out.offers.number < 2 ^ 48 }
-    ensures told { SideTurn (actors.Sender cable) (near_sides ways.old) (near_sides ways.new) node.old result node.new }
+    ensures told { words.SideTurn (actors.Sender cable) (words.near_sides ways.old) (words.near_sides ways.new) node.old result node.new }
     ensures leaves { ways.new.back.offers ≡ ways.old.back.offers }
 {
     begin(&mut ways.wire);
@@ -54,11 +47,11 @@ fn near_turn<D: Disk>(node: &mut Node<D>, ways: &mut Cable, cable: u16) -> Resul
 
 /// The turn of its receiver.
 fn far_turn<D: Disk>(node: &mut Node<D>, ways: &mut Cable, cable: u16) -> Result<Turn, NoMemory>
-    requires served { IsServed node.old }
-    requires may { MayAct node.old }
-    requires low { AllLow ways.old.out.items }
+    requires served { words.IsServed node.old }
+    requires may { words.MayAct node.old }
+    requires low { words.AllLow ways.old.out.items }
     requires count { ways.old.back.offers.number < 2 ^ 48 }
-    ensures told { SideTurn (actors.Receiver cable) (far_sides ways.old) (far_sides ways.new) node.old result node.new }
+    ensures told { words.SideTurn (actors.Receiver cable) (words.far_sides ways.old) (words.far_sides ways.new) node.old result node.new }
     ensures leaves { ways.new.out.offers ≡ ways.old.out.offers }
 {
     begin(&mut ways.wire);
@@ -76,11 +69,11 @@ fn sender_on<D: Disk>(
     ways: &mut Cable,
     cable: u16,
 ) -> Result<bool, Stop>
-    requires served { IsServed node.old }
-    requires may { MayAct node.old }
-    requires low { AllLow ways.old.back.items }
+    requires served { words.IsServed node.old }
+    requires may { words.MayAct node.old }
+    requires low { words.AllLow ways.old.back.items }
     requires count { ways.old.out.offers.number < 2 ^ 48 }
-    ensures { EndOn (actors.Sender cable) manager (near_sides ways.old) (near_sides ways.new) node.old result node.new }
+    ensures { words.EndOn (actors.Sender cable) manager (words.near_sides ways.old) (words.near_sides ways.new) node.old result node.new }
 {
     match near_turn(node, ways, cable) {
         Err(NoMemory) => Err(Stop::NoMemory),
@@ -97,11 +90,11 @@ fn receiver_on<D: Disk>(
     ways: &mut Cable,
     cable: u16,
 ) -> Result<bool, Stop>
-    requires served { IsServed node.old }
-    requires may { MayAct node.old }
-    requires low { AllLow ways.old.out.items }
+    requires served { words.IsServed node.old }
+    requires may { words.MayAct node.old }
+    requires low { words.AllLow ways.old.out.items }
     requires count { ways.old.back.offers.number < 2 ^ 48 }
-    ensures { EndOn (actors.Receiver cable) manager (far_sides ways.old) (far_sides ways.new) node.old result node.new }
+    ensures { words.EndOn (actors.Receiver cable) manager (words.far_sides ways.old) (words.far_sides ways.new) node.old result node.new }
 {
     match far_turn(node, ways, cable) {
         Err(NoMemory) => Err(Stop::NoMemory),
@@ -113,11 +106,11 @@ fn receiver_on<D: Disk>(
 impl<D: Disk> NetParts<D> {
     /// The sender of a cable takes a turn, if it changes something: whether it did.
     pub fn sender_turn(&mut self, cable: u16) -> Result<bool, Stop>
-        requires kept { IsNetwork self.old }
-        requires ready { Ready (course_in self.old).net }
+        requires kept { words.IsNetwork self.old }
+        requires ready { words.Ready (words.course_in self.old).net }
         requires there { cable < length self.old.scenario.cables }
-        ensures kept { IsNetwork self.new }
-        ensures told { TurnIn Sends cable result (course_in self.old) (course_in self.new) }
+        ensures kept { words.IsNetwork self.new }
+        ensures told { words.TurnIn words.Sends cable result (words.course_in self.old) (words.course_in self.new) }
         ensures long { length self.new.nodes ≡ length self.old.nodes }
     {
         let manager = line_at(&self.lines, cable).sender;
@@ -130,11 +123,11 @@ impl<D: Disk> NetParts<D> {
 
     /// The receiver of a cable, likewise.
     pub fn receiver_turn(&mut self, cable: u16) -> Result<bool, Stop>
-        requires kept { IsNetwork self.old }
-        requires ready { Ready (course_in self.old).net }
+        requires kept { words.IsNetwork self.old }
+        requires ready { words.Ready (words.course_in self.old).net }
         requires there { cable < length self.old.scenario.cables }
-        ensures kept { IsNetwork self.new }
-        ensures told { TurnIn Receives cable result (course_in self.old) (course_in self.new) }
+        ensures kept { words.IsNetwork self.new }
+        ensures told { words.TurnIn words.Receives cable result (words.course_in self.old) (words.course_in self.new) }
         ensures long { length self.new.nodes ≡ length self.old.nodes }
     {
         let manager = line_at(&self.lines, cable).receiver;

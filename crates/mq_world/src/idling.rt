@@ -1,9 +1,7 @@
 //! Whether nothing can change in a network: asked of each cable's two ends and of what lies on it, without a turn.
 ghost use Rattle.std.specs.Prelude.{◌≡◌, ◌<◌, Some, true, length, slice_get};
 ghost use Rattle.mq_history.specs.declared.scenario.CableLine as lines;
-ghost use Rattle.mq_spec_network.specs.Turns.{cable_idle, is_idle};
-ghost use Rattle.mq_nodes.specs.Pumps.{AllStill};
-ghost use Rattle.mq_world.specs.Worlds.{IsNetwork, course_in};
+ghost use Rattle.mq_world.specs.Words as words;
 
 use crate::parts::NetParts;
 use mq_base::Items;
@@ -49,7 +47,7 @@ fn cable_at(cables: &Items<Cable>, cable: u16) -> &Cable
 impl<D: Disk> NetParts<D> {
     /// How many cables there are.
     pub fn cables(&self) -> u16
-        requires kept { IsNetwork self.now }
+        requires kept { words.IsNetwork self.now }
         ensures { result ≡ length self.now.scenario.cables }
     {
         self.cables.len() as u16
@@ -57,9 +55,9 @@ impl<D: Disk> NetParts<D> {
 
     /// Whether nothing can change at a cable.
     fn idles_at(&self, cable: u16) -> bool
-        requires kept { IsNetwork self.now }
+        requires kept { words.IsNetwork self.now }
         requires there { cable < length self.now.scenario.cables }
-        ensures { (l : lines.CableLine) → slice_get self.now.scenario.cables cable ≡ Some l → result ≡ cable_idle (course_in self.now).net cable l }
+        ensures { (l : lines.CableLine) → slice_get self.now.scenario.cables cable ≡ Some l → result ≡ words.cable_idle (words.course_in self.now).net cable l }
     {
         let line = line_at(&self.lines, cable);
         let sender = node_of(&self.nodes, line.sender);
@@ -69,9 +67,9 @@ impl<D: Disk> NetParts<D> {
 
     /// Whether nothing can change. That is so where no turn and no timeout would change a thing. It takes no memory.
     pub fn is_idle(&self) -> bool
-        requires kept { IsNetwork self.now }
-        ensures value { result ≡ is_idle (course_in self.now).net }
-        ensures law { AllStill (course_in self.now).net → is_idle (course_in self.now).net ≡ true }
+        requires kept { words.IsNetwork self.now }
+        ensures value { result ≡ words.is_idle (words.course_in self.now).net }
+        ensures law { words.AllStill (words.course_in self.now).net → words.is_idle (words.course_in self.now).net ≡ true }
     {
         for cable in 0..self.cables() {
             if !self.idles_at(cable) {

@@ -1,9 +1,6 @@
 //! A network: real nodes, over which the steps of their scenario run.
 ghost use Rattle.std.specs.Prelude.{◌≡◌, MatchResult};
-ghost use Rattle.mq_events.specs.Texts.{IsTextCommand};
-ghost use Rattle.mq_nodes.specs.Texts.{AllFit};
-ghost use Rattle.mq_world.specs.Resting.{rest_of};
-ghost use Rattle.mq_world.specs.Starting.{IsFresh, Starts};
+ghost use Rattle.mq_world.specs.Words as words;
 
 use crate::parts::NetParts;
 use crate::resting::RestRoom;
@@ -26,13 +23,13 @@ pub struct Network<D: Disk> {
 
 impl<D: Disk> Model for Network<D> {
     ghost use Rattle.std.specs.Prelude.{◌≤◌, length};
-    ghost use Rattle.mq_world.specs.Worlds.{IsNetwork, NetState};
+    ghost use Rattle.mq_world.specs.Words as words;
 
-    ghost Value = { NetState };
+    ghost Value = { words.NetState };
 
     ghost view = { λ n. n.parts };
 
-    ghost invariant = { λ n. IsNetwork n.parts × (length n.parts.nodes ≤ n.room) };
+    ghost invariant = { λ n. words.IsNetwork n.parts × (length n.parts.nodes ≤ n.room) };
 }
 
 impl<D: Disk> Network<D> {
@@ -47,9 +44,9 @@ impl<D: Disk> Network<D> {
         rested: Rested<D>,
     ) -> Result<Network<D>, Rested<D>>
         requires same { rested.scenario ≡ scenario.now }
-        requires fresh { IsFresh rested }
-        requires texts { AllFit IsTextCommand scenario.now }
-        ensures { MatchResult result (λ n. Starts rested n) (λ back. back ≡ rested) }
+        requires fresh { words.IsFresh rested }
+        requires texts { words.AllFit words.IsTextCommand scenario.now }
+        ensures { MatchResult result (λ n. words.Starts rested n) (λ back. back ≡ rested) }
     {
         let StartRoom {
             nodes,
@@ -100,7 +97,7 @@ impl<D: Disk> Network<D> {
 
     /// The nodes come to rest; what lies on the cables is lost. It takes no memory.
     pub fn rest(self) -> Rested<D>
-        ensures { result ≡ rest_of self.scenario self.nodes }
+        ensures { result ≡ words.rest_of self.scenario self.nodes }
     {
         let Network { parts, room } = self;
         let NetParts {
@@ -118,12 +115,11 @@ impl<D: Disk> Network<D> {
 }
 
 impl<D: Disk> Nodes for Network<D> {
-    ghost use Rattle.mq_events.specs.Texts.{IsTextCommand};
-    ghost use Rattle.mq_world.specs.Worlds.{course_in};
+    ghost use Rattle.mq_world.specs.Words as words;
 
-    ghost course = { course_in };
+    ghost course = { words.course_in };
 
-    ghost may_obey = { IsTextCommand };
+    ghost may_obey = { words.IsTextCommand };
 
     fn managers(&self) -> u16 {
         self.parts.managers()
