@@ -1,6 +1,6 @@
 -- Whether nothing can change in a network, cable by cable.
 use Rattle.std.proofs.Common.{◌≡◌, ℕ, zero, suc, ◌+◌, ◌<◌, Bool, true, false, ◌&&◌, List, [], ◌∷◌, length, inl, inr, refl, sym, ap, subst, ◌∙◌, arith}
-use Rattle.std.specs.Prelude.{◌⊎◌, Some, slice_get}
+use Rattle.std.specs.Prelude.{◌⊎◌, None, Some, slice_get}
 use Rattle.std.proofs.lemmas.Option.{slice_get_within}
 use Rattle.mq_history.specs.declared.scenario.CableLine.{CableLine}
 use Rattle.mq_history.specs.Scenarios.{IsCable}
@@ -14,6 +14,12 @@ use Rattle.mq_idle.proofs.StillLaws.{still_is_idle}
 use Rattle.mq_world.specs.Worlds.{IsJoined, IsNetwork, NetState, course_in, histories_in}
 use Rattle.mq_world.proofs.ListLaws.{some_is, there}
 use Rattle.mq_world.proofs.SeenLaws.{node_there}
+
+-- a place that is there
+pub not_past : {A : Type 0} (xs : List A) (i m : ℕ) → m < length xs → i ≡ m → None ≡ slice_get xs i → ⊥
+not_past xs i m lt e none =
+    let t = there xs i (subst (λ (n : ℕ). n < length xs) (sym e) lt) in
+    let no : None ≡ Some t.0 = none ∙ t.1 in cc
 
 -- What is there of a cable: its line, what lies on it, and the nodes of its ends.
 pub line_there : (w : NetState) (k : ℕ) → IsNetwork w → k < length w.scenario.cables → k < length w.lines
