@@ -1,4 +1,5 @@
 pub mod EndLaws
 pub mod JoinLaws
+pub mod StandLaws
 pub mod RunLaws
 pub mod Promising
