@@ -1,6 +1,7 @@
 //! The end of a run: its report is written.
 ghost use Rattle.std.specs.Prelude.{◌≡◌, ◌<◌, ℕ, length};
 ghost use Rattle.mq_run.specs.Words as words;
+ghost use Rattle.mq_run.specs.declared.status.Status.TheVariants.{WriteFault};
 
 use crate::status::{Status, verdict_status};
 use mq_base::{Sink, write_all};
@@ -24,7 +25,7 @@ pub fn report_run<K: Sink>(
     requires stands { standing.now ≡ words.standing_left (words.left scenario.now histories.now) }
     requires did { words.DidAll (words.left scenario.now histories.now) }
     ensures ends { words.LeftEnds (K.held sink.old) (K.held sink.new) result (words.left scenario.now histories.now) }
-    ensures write_fault { (n : ℕ) → result ≡ words.WriteFault n → words.Rose (K.faults sink.old) (K.faults sink.new) }
+    ensures write_fault { (n : ℕ) → result ≡ WriteFault n → words.Rose (K.faults sink.old) (K.faults sink.new) }
 {
     let ending = match ending_of(alloc, scenario, histories, standing) {
         Ok(ending) => ending,

@@ -1,6 +1,7 @@
 //! A scenario's run over a shelf: its managers begin, its steps are done, its report is written.
 ghost use Rattle.std.specs.Prelude.{◌≡◌, ℕ, [], Some, None, option_map, map};
 ghost use Rattle.mq_run.specs.Words as words;
+ghost use Rattle.mq_run.specs.declared.status.Status.TheVariants.{WriteFault};
 ghost use Rattle.mq_disk.specs.declared.shelf.Side.TheVariants as sides;
 
 use crate::reporting::report_run;
@@ -103,7 +104,7 @@ fn report<K: Sink, D: Disk>(
     requires opened { words.AreOpened rested.now.histories }
     requires did { words.DidAll (words.left_of rested.now) }
     ensures ends { words.LeftEnds (K.held sink.old) (K.held sink.new) result (words.left_of rested.now) }
-    ensures write_fault { (n : ℕ) → result ≡ words.WriteFault n → words.Rose (K.faults sink.old) (K.faults sink.new) }
+    ensures write_fault { (n : ℕ) → result ≡ WriteFault n → words.Rose (K.faults sink.old) (K.faults sink.new) }
 {
     let standing = match standing_at_rest(alloc, scenario, rested) {
         Ok(standing) => standing,
@@ -129,7 +130,7 @@ fn run_whole<K: Sink, D: Disk>(
     requires together { words.apart scenario.now rested.histories ≡ None }
     ensures ends { words.WholeEnds (K.held sink.old) (K.held sink.new) scenario.now rested.histories result.status (option_map words.left_of result.network) }
     ensures none { result.disks.items ≡ [] }
-    ensures write_fault { (n : ℕ) → result.status ≡ words.WriteFault n → words.Rose (K.faults sink.old) (K.faults sink.new) }
+    ensures write_fault { (n : ℕ) → result.status ≡ WriteFault n → words.Rose (K.faults sink.old) (K.faults sink.new) }
 {
     let done = do_steps(alloc, scenario, rested);
     let Done { ran, rested } = done;
@@ -155,7 +156,7 @@ pub fn run_scenario<K: Sink, H: Shelf>(
     requires scenario { words.IsScenario scenario.now }
     requires texts { words.AllFit words.IsTextCommand scenario.now }
     ensures ends { words.RunEnds H.D.tells (λ n b. H.holds shelf.old n sides.A b) start scenario.now (H.faults shelf.old) (H.faults shelf.new) (K.held sink.old) (K.held sink.new) result.status (option_map words.left_of result.network) (map H.D.faults result.disks.items) }
-    ensures write_fault { (n : ℕ) → result.status ≡ words.WriteFault n → words.Rose (K.faults sink.old) (K.faults sink.new) }
+    ensures write_fault { (n : ℕ) → result.status ≡ WriteFault n → words.Rose (K.faults sink.old) (K.faults sink.new) }
 {
     let rested = match begin(alloc, scenario, shelf, start) {
         Ok(rested) => rested,
