@@ -1,8 +1,6 @@
 -- The ends of a cable at a manager that is up, and at one that is down.
 use Rattle.std.proofs.Common.{◌≡◌, ℕ, List, true, false, ap, sym}
 use Rattle.std.specs.Prelude.{Bool, Some, None}
-use Rattle.mq_sync.specs.declared.data.ReceiverData.{ReceiverData}
-use Rattle.mq_sync.specs.declared.data.SenderData.{SenderData}
 use Rattle.mq_sync.specs.Settlement.{sender_or, receiver_or}
 use Rattle.mq_calls.specs.State.{Plain}
 use Rattle.mq_calls.specs.Reads.{is_up, receiver_data, sender_data}
