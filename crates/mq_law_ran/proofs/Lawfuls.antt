@@ -1,6 +1,6 @@
 -- From what the calls of a run tell to a lawful story, and to what is promised of it.
 use Rattle.std.proofs.Common.{ℕ, zero, suc, ◌≡◌, ◌<◌, ◌≤◌, List, [], ◌∷◌, ◌++◌, refl, ap, sym, subst, inl, inr, arith, length}
-use Rattle.std.specs.Prelude.{All, IfSome, Option, Some, None, min, max, slice_get}
+use Rattle.std.specs.Prelude.{All, Bool, IfSome, Option, Some, None, min, max, slice_get}
 use Rattle.std.proofs.Math.Nat.{le-max_left, min-le_right}
 use Rattle.std.proofs.lemmas.List.Elements.{All-nil, All-cons}
 use Rattle.mq_base.specs.Members.{Mem, Chain}
