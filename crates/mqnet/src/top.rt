@@ -6,16 +6,16 @@ ghost use Rattle.mq_base.specs.Outside.{Rose, IsLonger};
 ghost use Rattle.mq_disk.specs.declared.shelf.Side.TheVariants as sides;
 ghost use Rattle.mq_scn_text.specs.Reading.{scenario_of};
 ghost use Rattle.mq_run.specs.declared.status.BadCause.{BadCause};
-ghost use Rattle.mq_run.specs.declared.status.Status.TheVariants.{BadWords, BadScenario, ReadFault, WriteFault, NoMemory, TooLong, NotBuilt};
+ghost use Rattle.mq_run.specs.declared.status.Status.TheVariants.{BadWords, BadScenario, ReadFault, WriteFault, NoMemory, TooLong};
 ghost use Rattle.mq_run.specs.Leaves.{left_of};
 ghost use Rattle.mq_run.specs.Words.{GotOnce, OrderKept, RowsAreLedgers, StandOnce};
 ghost use Rattle.mqnet.specs.Wanted.{word_task, task_of};
-ghost use Rattle.mqnet.specs.Headline.{Ends, WasRead, ReadNoScenario, ReadUnbuilt, Writes, RefusesBytes, Completes};
-ghost use Rattle.mqnet.specs.Work.{FitsWork, IsUnbuilt, IsWork, RefusesText, RefusesWork, WorkEnds};
+ghost use Rattle.mqnet.specs.Headline.{Ends, WasRead, ReadNoScenario, Writes, RefusesBytes, Completes};
+ghost use Rattle.mqnet.specs.Work.{FitsWork, IsWork, RefusesText, WorkEnds};
 
 use mq_base::{ReadStop, Sink, Source, read_all, write_all};
 use mq_disk::Shelf;
-use mq_hints::{cable_line, fault_text, unbuilt_text};
+use mq_hints::fault_text;
 use mq_history::Scenario;
 use mq_run::{BadCause, Ended, Status, ended_early, run_scenario};
 use mq_scn_text::{ScenarioFault, read_scenario};
@@ -101,22 +101,12 @@ fn scenario_in(alloc: Global, text: &[u8]) -> Result<Scenario, Status>
     }
 }
 
-/// That a scenario with cables doesn't run: the line of the first one.
-fn unbuilt(alloc: Global, text: &[u8]) -> Status
-    ensures { IsUnbuilt text.now result }
-{
-    match cable_line(alloc, text) {
-        Ok(line) => Status::NotBuilt(line),
-        Err(_) => Status::NoMemory,
-    }
-}
-
 /// What a text leaves to do.
 #[tactic(auto, using(crate::proofs::Ending::fits))]
 fn work_in(alloc: Global, task: Task, text: &[u8]) -> Result<Work, Status>
     ensures found { IfOk result (IsWork task text.now) }
     ensures fits { IfOk result FitsWork }
-    ensures refused { IfErr result (RefusesWork task text.now) }
+    ensures refused { IfErr result (RefusesText text.now) }
 {
     let scenario = match scenario_in(alloc, text) {
         Ok(scenario) => scenario,
@@ -124,13 +114,7 @@ fn work_in(alloc: Global, task: Task, text: &[u8]) -> Result<Work, Status>
     };
     match task {
         Task::Check => Ok(Work::Check),
-        Task::Run => {
-            if scenario.cables.is_empty() {
-                Ok(Work::Run(scenario))
-            } else {
-                Err(unbuilt(alloc, text))
-            }
-        }
+        Task::Run => Ok(Work::Run(scenario)),
     }
 }
 
@@ -143,7 +127,6 @@ fn told(alloc: Global, text: &[u8], status: &Status) -> Option<String> {
         Status::BadScenario(line, BadCause::Limit(limit)) => {
             fault_text(alloc, text, ScenarioFault::Limit(*line, *limit))
         }
-        Status::NotBuilt(line) => unbuilt_text(alloc, text, *line),
         _ => return None,
     };
     told.ok()
@@ -179,7 +162,6 @@ fn obey_words<S: Source, K: Sink, H: Shelf>(
 ) -> Ended<H::D>
     ensures ends { Ends (task_of (map string_bytes words.now)) (S.left source.old) H.D.tells (λ n b. H.holds shelf.old n sides.A b) start (H.faults shelf.old) (H.faults shelf.new) (K.held sink.old) (K.held sink.new) result.status (option_map left_of result.network) (map H.D.faults result.disks.items) }
     ensures bad_scenario { (line : ℕ) (cause : BadCause) → result.status ≡ BadScenario line cause → ReadNoScenario (S.left source.old) line cause }
-    ensures not_built { (line : ℕ) → result.status ≡ NotBuilt line → ReadUnbuilt (S.left source.old) line }
     ensures read_fault { result.status ≡ ReadFault → Rose (S.faults source.old) (S.faults source.new) }
     ensures write_fault { (n : ℕ) → result.status ≡ WriteFault n → Rose (K.faults sink.old) (K.faults sink.new) }
     ensures too_long { result.status ≡ TooLong → IsLonger (S.left source.old) 1048576 }
@@ -202,7 +184,7 @@ fn obey_words<S: Source, K: Sink, H: Shelf>(
 
 /// Runs the program: by the word `run`, the scenario that the source gives, over the shelf's disks, with its report to the sink; by
 /// the word `check` the scenario is read alone, and CHECK OK written. `start` is the moment of its beginning in milliseconds since
-/// 1970; a moment above 253,300,000,000,000 is taken as that number. A scenario with cables doesn't run yet.
+/// 1970; a moment above 253,300,000,000,000 is taken as that number.
 #[tactic(auto, using(crate::proofs::Ending::rows_of, crate::proofs::Ending::once_of, crate::proofs::Ending::got_once_of, crate::proofs::Ending::order_of, crate::proofs::Ending::bad_words, crate::proofs::Ending::completes))]
 pub fn mqnet<S: Source, K: Sink, H: Shelf>(
     alloc: Global,
@@ -227,12 +209,11 @@ pub fn mqnet<S: Source, K: Sink, H: Shelf>(
     ensures order { IfSome (option_map left_of result.network) OrderKept }
     ensures bad_words { result.status ≡ BadWords ↔ (task_of (map string_bytes words.now) ≡ None) }
     ensures bad_scenario { (line : ℕ) (cause : BadCause) → result.status ≡ BadScenario line cause → ReadNoScenario (S.left source.old) line cause }
-    ensures not_built { (line : ℕ) → result.status ≡ NotBuilt line → ReadUnbuilt (S.left source.old) line }
     ensures read_fault { result.status ≡ ReadFault → Rose (S.faults source.old) (S.faults source.new) }
     ensures write_fault { (n : ℕ) → result.status ≡ WriteFault n → Rose (K.faults sink.old) (K.faults sink.new) }
     ensures too_long { result.status ≡ TooLong → IsLonger (S.left source.old) 1048576 }
-    // Where neither source nor sink fails, a text that is no scenario, or has a cable, is told so, and of another the status is one of a
-    // run, or want of memory.
+    // Where neither source nor sink fails, a text that is no scenario is told so, and of another the status is one of a run, or of a check
+    // 0; or it is want of memory.
     ensures complete { Completes (task_of (map string_bytes words.now)) (S.left source.old) (S.faults source.old) (S.faults source.new) (K.faults sink.old) (K.faults sink.new) result.status }
 {
     obey_words(alloc, words, source, sink, shelf, start)
