@@ -1,0 +1,271 @@
+//! The worked turns of a channel's two ends, over disks in memory.
+
+use crate::top::mqnet;
+use mq_base::{MemSink, MemSource, QName};
+use mq_disk::{Image, MemDisk, MemShelf, Side};
+use std::alloc::{AllocError, Global};
+use std::test::*;
+
+const HEAD: &str = "NETWORK
+QMGR LONDON
+QMGR PARIS
+CABLE LON.PAR LONDON PARIS";
+
+/// The definitions of both managers.
+const DEFINITIONS: &str = "
+MQSC DL LONDON
+DEFINE QLOCAL(PARIS) USAGE(XMITQ)
+DEFINE QREMOTE(R1) RNAME(Q1) RQMNAME(PARIS)
+DEFINE CHANNEL(LON.PAR) CHLTYPE(SDR) XMITQ(PARIS) BATCHSZ(1)
+START CHANNEL(LON.PAR)
+ENDMQSC
+MQSC DP PARIS
+DEFINE QLOCAL(Q1)
+DEFINE CHANNEL(LON.PAR) CHLTYPE(RCVR)
+ENDMQSC
+SCRIPT A LONDON
+MQCONN
+MQOPEN H1 QUEUE(R1) OUTPUT
+";
+
+const PUT: &str = "MQPUT H1 TEXT('HELLO') PERSIST\n";
+
+const RUN: &str = "ENDSCRIPT
+STEPS
+OBEY DP
+OBEY DL
+RUN A
+";
+
+/// One message, or two: what the cable's faults are, the steps, what the report says of them, and how it ends.
+struct Case {
+    faults: &'static str,
+    puts: u32,
+    steps: &'static str,
+    did: &'static str,
+    ends: &'static str,
+}
+
+/// Where a message arrived in the first session.
+const ARRIVED: &str = "PARIS DEPTH 0
+QMGR PARIS UP
+Q1 DEPTH 1
+  1.1.1 PRTY 0 PERSIST YES LEN 5 FREE
+CHANNELS
+CH LON.PAR SENDER RUNNING SESSION 1 SEQ 1 INDOUBT -
+CH LON.PAR RECEIVER RUNNING SESSION 1 SEQ 1 LAST 1.1
+LEDGER
+PARIS Q1 1.1.1
+STATUS 0
+";
+
+/// Where its unit was committed, and the sender learned it in the second session.
+const LEARNED: &str = "PARIS DEPTH 0
+QMGR PARIS UP
+Q1 DEPTH 1
+  1.1.1 PRTY 0 PERSIST YES LEN 5 FREE
+CHANNELS
+CH LON.PAR SENDER RUNNING SESSION 2 SEQ 1 INDOUBT -
+CH LON.PAR RECEIVER RUNNING SESSION 2 SEQ 1 LAST 1.1
+LEDGER
+PARIS Q1 1.1.1
+STATUS 0
+";
+
+/// Where its unit was backed out, and it went anew in the second session.
+const ANEW: &str = "PARIS DEPTH 0
+QMGR PARIS UP
+Q1 DEPTH 1
+  1.1.1 PRTY 0 PERSIST YES LEN 5 FREE
+CHANNELS
+CH LON.PAR SENDER RUNNING SESSION 2 SEQ 1 INDOUBT -
+CH LON.PAR RECEIVER RUNNING SESSION 2 SEQ 1 LAST 2.1
+LEDGER
+PARIS Q1 1.1.1
+STATUS 0
+";
+
+const TWO: &str = "PARIS DEPTH 0
+QMGR PARIS UP
+Q1 DEPTH 2
+  1.1.1 PRTY 0 PERSIST YES LEN 5 FREE
+  1.1.2 PRTY 0 PERSIST YES LEN 5 FREE
+CHANNELS
+CH LON.PAR SENDER RUNNING SESSION 1 SEQ 2 INDOUBT -
+CH LON.PAR RECEIVER RUNNING SESSION 1 SEQ 2 LAST 1.2
+LEDGER
+PARIS Q1 1.1.1 1.1.2
+STATUS 0
+";
+
+/// Where the receiver has committed, and its ACK was not sent yet.
+const IN_DOUBT: &str = "PARIS DEPTH 1
+  1.1.1 PRTY 0 PERSIST YES LEN 5 BATCH
+QMGR PARIS UP
+Q1 DEPTH 1
+  1.1.1 PRTY 0 PERSIST YES LEN 5 FREE
+CHANNELS
+CH LON.PAR SENDER RUNNING SESSION 1 SEQ 0 INDOUBT 1.1
+CH LON.PAR RECEIVER RUNNING SESSION 1 SEQ 1 LAST 1.1
+LEDGER
+PARIS Q1 1.1.1
+STATUS 0
+";
+
+const CASES: [Case; 6] = [
+    Case {
+        faults: "",
+        puts: 1,
+        steps: "PUMP 100\n",
+        did: "0004 PUMP 100 TURNS 12 IDLE\n",
+        ends: ARRIVED,
+    },
+    Case {
+        faults: "",
+        puts: 2,
+        steps: "PUMP 100\n",
+        did: "0004 PUMP 100 TURNS 19 IDLE\n",
+        ends: TWO,
+    },
+    Case {
+        faults: "",
+        puts: 1,
+        steps: "PUMP 10\n",
+        did: "0004 PUMP 10 TURNS 10 LIMIT\n",
+        ends: IN_DOUBT,
+    },
+    Case {
+        faults: " BACK DROP(2)",
+        puts: 1,
+        steps: "PUMP 100\n",
+        did: "0004 PUMP 100 TURNS 17 IDLE\n",
+        ends: LEARNED,
+    },
+    Case {
+        faults: " OUT DROP(3)",
+        puts: 1,
+        steps: "PUMP 9\nCRASH LONDON\nRESTART LONDON\nDO LONDON START CHANNEL(LON.PAR)\nPUMP 100\n",
+        did: "0004 PUMP 9 TURNS 9 LIMIT\n0005 CRASH LONDON OK\n0006 RESTART LONDON OK\n0007 DO LONDON OK\n0008 PUMP 100 TURNS 12 IDLE\n",
+        ends: ANEW,
+    },
+    Case {
+        faults: " OUT COPY(2,4) LATE(3,4)",
+        puts: 1,
+        steps: "PUMP 100\n",
+        did: "0004 PUMP 100 TURNS 24 IDLE\n",
+        ends: ANEW,
+    },
+];
+
+/// A receiver's commit is stopped at a device call, over a disk that then reads as it was written, or not; and whether it is kept.
+struct Cut {
+    call: &'static str,
+    image: Image,
+    kept: bool,
+}
+
+const CUTS: [Cut; 5] = [
+    Cut {
+        call: "1",
+        image: Image::Kept,
+        kept: false,
+    },
+    Cut {
+        call: "2",
+        image: Image::Kept,
+        kept: false,
+    },
+    Cut {
+        call: "3",
+        image: Image::Kept,
+        kept: false,
+    },
+    Cut {
+        call: "4",
+        image: Image::Kept,
+        kept: true,
+    },
+    Cut {
+        call: "4",
+        image: Image::Lost,
+        kept: false,
+    },
+];
+
+/// A scenario of so many puts.
+fn scenario(alloc: Global, faults: &str, puts: u32) -> Result<String, AllocError> {
+    let mut text = String::from_str(alloc, HEAD)?;
+    text.push_str(faults)?;
+    text.push_str(DEFINITIONS)?;
+    for _ in 0..puts {
+        text.push_str(PUT)?;
+    }
+    text.push_str(RUN)?;
+    Ok(text)
+}
+
+fn put_disk(
+    alloc: Global,
+    shelf: &mut MemShelf<MemDisk>,
+    name: &[u8],
+    image: Image,
+) -> Result<(), AllocError> {
+    let Ok(name) = QName::of(name) else {
+        return Ok(());
+    };
+    let Ok(disk) = MemDisk::new(alloc, b"", 65_536, image, Vec::new(alloc)) else {
+        return Ok(());
+    };
+    let _put = shelf.put(name, Side::A, disk);
+    Ok(())
+}
+
+/// What a run of it writes, over empty disks.
+fn report(alloc: Global, text: String, image: Image) -> Result<String, Fail> {
+    let mut shelf = MemShelf::new(alloc, Vec::new(alloc));
+    put_disk(alloc, &mut shelf, b"LONDON", image)?;
+    put_disk(alloc, &mut shelf, b"PARIS", image)?;
+    let mut words = Vec::new(alloc);
+    words.push(String::from_str(alloc, "run")?)?;
+    let mut source = MemSource::new(text.into_bytes(), Vec::new(alloc));
+    let mut sink = MemSink::new(alloc, 4096, Vec::new(alloc))?;
+    let _ended = mqnet(alloc, &words, &mut source, &mut sink, &mut shelf, 0);
+    Ok(String::from_str(alloc, str::from_utf8(sink.held())?)?)
+}
+
+#[test]
+fn messages_take_the_worked_turns(rt: HostRuntime) -> Result<(), Fail> {
+    for case in &CASES {
+        let mut text = scenario(rt.alloc(), case.faults, case.puts)?;
+        text.push_str(case.steps)?;
+        text.push_str("ENDSTEPS\n")?;
+        let report = report(rt.alloc(), text, Image::Kept)?;
+        assert!(rt; report.as_str().contains(case.did));
+        assert!(rt; report.as_str().ends_with(case.ends));
+    }
+    Ok(())
+}
+
+#[test]
+fn a_commit_that_is_cut_is_kept_from_its_last_device_call_on(rt: HostRuntime) -> Result<(), Fail> {
+    for cut in &CUTS {
+        let mut text = scenario(rt.alloc(), "", 1)?;
+        text.push_str("PUMP 9\nCUT PARIS ")?;
+        text.push_str(cut.call)?;
+        text.push_str("\nPUMP 1\nRESTART PARIS\nPUMP 100\nENDSTEPS\n")?;
+        let report = report(rt.alloc(), text, cut.image)?;
+        assert!(rt;
+            report.as_str().contains(
+                "0004 PUMP 9 TURNS 9 LIMIT\n0005 CUT PARIS OK\n0006 PUMP 1 TURNS 1 LIMIT\n0007 RESTART PARIS OK\n"
+            )
+        );
+        let (did, ends) = if cut.kept {
+            ("0008 PUMP 100 TURNS 6 IDLE\n", LEARNED)
+        } else {
+            ("0008 PUMP 100 TURNS 13 IDLE\n", ANEW)
+        };
+        assert!(rt; report.as_str().contains(did));
+        assert!(rt; report.as_str().ends_with(ends));
+    }
+    Ok(())
+}
