@@ -100,7 +100,7 @@ STATUS 0
 ";
 
 /// Where the receiver has committed, and its ACK was not sent yet.
-const IN_DOUBT: &str = "PARIS DEPTH 1
+const IN_DOUBT: &str = "PARIS DEPTH 0
   1.1.1 PRTY 0 PERSIST YES LEN 5 BATCH
 QMGR PARIS UP
 Q1 DEPTH 1
