@@ -12,3 +12,6 @@ pub mod Popping
 pub mod Stillness
 pub mod Openings
 pub mod Entries
+pub mod Moving
+pub mod Below
+pub mod Staying

@@ -5,3 +5,5 @@ pub mod Rows
 pub mod Deeds
 pub mod Others
 pub mod Entries
+pub mod Shown
+pub mod Below

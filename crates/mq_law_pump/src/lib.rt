@@ -1,14 +1,16 @@
 //! What a PUMP does at the nodes of a network and on its cables, as the moves of lanes of a measure that each of them makes less.
 #![tactic(auto)]
 
-ghost use Rattle.std.specs.Prelude.{◌≡◌, ◌∷◌, ◌++◌, ◌⊎◌, ◌≤◌, ℕ, false, true, List, [], length, Option, Some, is_some};
+ghost use Rattle.std.specs.Prelude.{◌≡◌, ◌∷◌, ◌++◌, ◌⊎◌, ℕ, false, true, List, [], Option, Some, is_some};
 ghost use Rattle.mq_frame.specs.declared.frame.Frame.{Frame};
 ghost use Rattle.mq_frame.specs.declared.frame.Seen.{Seen};
 ghost use Rattle.mq_history.specs.declared.calls.Actor.TheVariants as actors;
 ghost use Rattle.mq_history.specs.declared.calls.Call.TheVariants as calls;
 ghost use Rattle.mq_history.specs.declared.calls.Entry.{Entry};
+ghost use Rattle.mq_history.specs.declared.scenario.CableLine.{CableLine};
 ghost use Rattle.mq_objects.specs.Names.{local_of};
 ghost use Rattle.mq_queue.specs.Queues.{AreDistinct};
+ghost use Rattle.mq_receiver.specs.States.{is_stopped};
 ghost use Rattle.mq_sender.specs.States.{is_running};
 ghost use Rattle.mq_spec_manager.specs.Agents.{queue_of_sender};
 ghost use Rattle.mq_spec_manager.specs.Handles.{is_transmission_queue};
@@ -25,18 +27,21 @@ ghost use Rattle.mq_spec_node.specs.Receivers.{receiver_deed};
 ghost use Rattle.mq_spec_node.specs.Replays.{after, done_by};
 ghost use Rattle.mq_spec_node.specs.Senders.{sender_deed, timeout_deed};
 ghost use Rattle.mq_spec_network.specs.Cables.{Lying, is_popped, lying};
-ghost use Rattle.mq_spec_network.specs.Steps.{Goes, none_due, popped_by, pushed_of};
+ghost use Rattle.mq_spec_network.specs.Steps.{Goes, TakesTurn, none_due, popped_by, pushed_of, turn_in};
 ghost use Rattle.mq_spec_network.specs.Tasks.{Task};
-ghost use Rattle.mq_spec_network.specs.Tasks.Slot.{Sends};
+ghost use Rattle.mq_spec_network.specs.Tasks.Slot.{Receives, Sends, TimesOut};
 ghost use Rattle.mq_spec_network.specs.Tasks.Task.{Pump};
 ghost use Rattle.mq_spec_network.specs.Turns.{Network, changes, does, node_at, push_refused};
-ghost use Rattle.mq_law_idle.specs.Roads.{Items, Quiet, Road, is_full, laid, waiting};
+ghost use Rattle.mq_law_idle.specs.Lanes.{Lane};
+ghost use Rattle.mq_law_idle.specs.Roads.{Items, Quiet, ReceiverTurn, Road, SenderTurn, is_full, laid, receiver_turn, sender_timed_out, sender_turn, waiting};
 ghost use Rattle.mq_law_node.specs.Rows.{rows_at};
+ghost use Rattle.mq_law_pump.specs.Below.{IsBelow};
 ghost use Rattle.mq_law_pump.specs.Deeds.{EachWantsNone, HasReceiver, HasSender, IsStillEnd, TakesLane, TimesOutLane, TurnsLane};
 ghost use Rattle.mq_law_pump.specs.Entries.{RanDeed};
 ghost use Rattle.mq_law_pump.specs.Fit.{FitsSender, Good};
 ghost use Rattle.mq_law_pump.specs.Others.{AllGoElsewhere, EachAddsNone, NoMore, parts_add_none};
 ghost use Rattle.mq_law_pump.specs.Rows.{rows_of};
+ghost use Rattle.mq_law_pump.specs.Shown.{ReceiverMoves, SenderMoves, SenderTimesOut, Shows};
 ghost use Rattle.mq_law_pump.specs.Steady.{ArePumps, IsPumped};
 ghost use Rattle.mq_law_pump.specs.Ways.{IsWithin, behind_if, seen_of};
 
@@ -106,4 +111,31 @@ pub fn each_entry_of_a_pump_ran()
     ensures takings { (k stamp : ℕ) (e : ReceiverEnd) (n : Node) (seen : Seen) → n.manager.running ≡ Up → end_in k n.own.ends ≡ Some (ChannelEnd.Receives e) → deed_of stamp (actors.Receiver k) calls.Turn seen n ≡ receiver_deed stamp e seen n }
     ensures timeouts { (k stamp : ℕ) (e : SenderEnd) (n : Node) (seen : Seen) → n.manager.running ≡ Up → end_in k n.own.ends ≡ Some (ChannelEnd.Sends e) → deed_of stamp (actors.Sender k) calls.Timeout seen n ≡ timeout_deed e n }
     ensures triggers_want { (n : Node) → EachWantsNone (trigger_deed n) }
+{}
+
+/// A turn of a cable's sender in a PUMP, or a timeout of it, moves that cable's lane: the machine of its end and what lies on both ways, and nothing of its receiver.
+pub fn a_senders_turn_moves_its_lane()
+    ensures turns { (w : Network) (k : ℕ) (c : CableLine) (near far : Node) (e : SenderEnd) (r : ReceiverEnd) (l : Lane) (m : ℕ) (x : Entry) → Good (does m (x ∷ []) w) → Shows w k c near far e r l
+        → TakesTurn (turn_in w Sends k c) m x → SenderMoves w k c near far e r l m x }
+    ensures timeouts { (w : Network) (k : ℕ) (c : CableLine) (near far : Node) (e : SenderEnd) (r : ReceiverEnd) (l : Lane) (m : ℕ) (x : Entry) → Good (does m (x ∷ []) w) → Shows w k c near far e r l
+        → TakesTurn (turn_in w TimesOut k c) m x → SenderTimesOut w k c near far e r l m x }
+{}
+
+/// So does a turn of its receiver: what it pops is what its machine takes, and what it pushes lies last on the way back.
+pub fn a_receivers_turn_moves_its_lane()
+    ensures { (w : Network) (k : ℕ) (c : CableLine) (near far : Node) (e : SenderEnd) (r : ReceiverEnd) (l : Lane) (m : ℕ) (x : Entry) → Good (does m (x ∷ []) w) → Shows w k c near far e r l
+        → TakesTurn (turn_in w Receives k c) m x → ReceiverMoves w k c near far e r l m x }
+{}
+
+/// A sender's session stays the highest on its lane: each BIND bears it, and its receiver takes over no other.
+pub fn a_senders_session_stays_the_highest_on_its_lane()
+    ensures sends { (t : SenderTurn) (w : Road) → IsBelow w → IsBelow (sender_turn t w) }
+    ensures timeouts { (w : Road) → IsBelow w → IsBelow (sender_timed_out w) }
+    ensures takes { (t : ReceiverTurn) (w : Road) → IsBelow w → IsBelow (receiver_turn t w) }
+{}
+
+/// No turn brings a sender to run that didn't, and no turn stops a receiver.
+pub fn turns_start_no_sender_and_stop_no_receiver()
+    ensures starts { (t : SenderTurn) (w : Road) → is_running (sender_turn t w).sender.state ≡ true → is_running w.sender.state ≡ true }
+    ensures stops { (t : ReceiverTurn) (w : Road) → is_stopped w.receiver.state ≡ false → is_stopped (receiver_turn t w).receiver.state ≡ false }
 {}

@@ -1,0 +1,48 @@
+-- A cable of a network as a lane: which nodes and ends it has, and what lies there.
+use Rattle.std.specs.Prelude.{◌≡◌, ℕ, [], Some}
+use Rattle.mq_history.specs.declared.calls.Entry.{Entry}
+use Rattle.mq_history.specs.declared.scenario.CableLine.{CableLine}
+use Rattle.mq_spec_node.specs.Doers.{by, is_receiver, is_sender}
+use Rattle.mq_spec_node.specs.Node.{Node, ReceiverEnd, SenderEnd}
+use Rattle.mq_spec_node.specs.Replays.{after}
+use Rattle.mq_spec_network.specs.Turns.{Network, back_of, does, out_of}
+use Rattle.mq_law_idle.specs.Lanes.{Lane, lane}
+use Rattle.mq_law_idle.specs.Roads.{ReceiverMay, ReceiverTurn, SenderMay, SenderTurn, receiver_turn, sender_timed_out, sender_turn}
+use Rattle.mq_message.specs.declared.message.Message.{Message}
+use Rattle.mq_sender.specs.States.{awaits}
+use Rattle.mq_spec_node.specs.Receivers.{is_receiver_defined}
+use Rattle.std.specs.Prelude.{true, ◌∷◌, List}
+use Rattle.mq_law_pump.specs.Deeds.{HasReceiver, HasSender}
+use Rattle.mq_law_pump.specs.Ways.{IsWithin, seen_of}
+
+-- The lane of a cable without faults. `near` and `far` are the nodes with which its two managers began, `e` and `r` its ends.
+pub record Shows (w : Network) (k : ℕ) (c : CableLine) (near far : Node) (e : SenderEnd) (r : ReceiverEnd) (l : Lane) : Type 0 where
+  pub faultless : (c.out ≡ []) × (c.back ≡ [])
+  pub near_is : w.first c.sender ≡ Some near
+  pub far_is : w.first c.receiver ≡ Some far
+  pub cables : (e.cable ≡ k) × (r.cable ≡ k)
+  pub sends : HasSender e (after near (w.done c.sender)) l.road
+  pub takes : HasReceiver r (after far (w.done c.receiver)) l.road
+  pub out : l.road.out ≡ seen_of (out_of w k c)
+  pub back : l.road.back ≡ seen_of (back_of w k c)
+  pub out_within : IsWithin (by (is_sender k) (w.done c.sender)) (by (is_receiver k) (w.done c.receiver))
+  pub back_within : IsWithin (by (is_receiver k) (w.done c.receiver)) (by (is_sender k) (w.done c.sender))
+
+-- what a turn of its sender makes of it
+pub record SenderMoves (w : Network) (k : ℕ) (c : CableLine) (near far : Node) (e : SenderEnd) (r : ReceiverEnd) (l : Lane) (m : ℕ) (x : Entry) : Type 0 where
+  pub turn : SenderTurn
+  pub may : SenderMay turn l.road
+  pub shows : Shows (does m (x ∷ []) w) k c near far (record e { machine = (sender_turn turn l.road).sender }) r (lane l.fresh (sender_turn turn l.road))
+
+-- a timeout of it
+pub record SenderTimesOut (w : Network) (k : ℕ) (c : CableLine) (near far : Node) (e : SenderEnd) (r : ReceiverEnd) (l : Lane) (m : ℕ) (x : Entry) : Type 0 where
+  pub waits : awaits l.road.sender.state ≡ true
+  pub shows : Shows (does m (x ∷ []) w) k c near far (record e { machine = (sender_timed_out l.road).sender }) r (lane true (sender_timed_out l.road))
+
+-- and a turn of its receiver
+pub record ReceiverMoves (w : Network) (k : ℕ) (c : CableLine) (near far : Node) (e : SenderEnd) (r : ReceiverEnd) (l : Lane) (m : ℕ) (x : Entry) : Type 0 where
+  pub turn : ReceiverTurn
+  pub defined : turn.defined ≡ is_receiver_defined r.channel (after far (w.done c.receiver)).manager.definitions
+  pub may : ReceiverMay turn l.road
+  pub kept : List Message
+  pub shows : Shows (does m (x ∷ []) w) k c near far e (record r { machine = (receiver_turn turn l.road).receiver; kept = kept }) (lane l.fresh (receiver_turn turn l.road))
