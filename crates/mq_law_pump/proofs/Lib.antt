@@ -15,3 +15,5 @@ pub mod Entries
 pub mod Moving
 pub mod Below
 pub mod Staying
+pub mod Defining
+pub mod Leaving

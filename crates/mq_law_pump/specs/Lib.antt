@@ -7,3 +7,5 @@ pub mod Others
 pub mod Entries
 pub mod Shown
 pub mod Below
+pub mod Away
+pub mod Leaves

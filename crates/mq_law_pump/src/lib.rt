@@ -35,10 +35,12 @@ ghost use Rattle.mq_spec_network.specs.Turns.{Network, changes, does, node_at, p
 ghost use Rattle.mq_law_idle.specs.Lanes.{Lane};
 ghost use Rattle.mq_law_idle.specs.Roads.{Items, Quiet, ReceiverTurn, Road, SenderTurn, is_full, laid, receiver_turn, sender_timed_out, sender_turn, waiting};
 ghost use Rattle.mq_law_node.specs.Rows.{rows_at};
+ghost use Rattle.mq_law_pump.specs.Away.{IsAsBegun, RowsAway};
 ghost use Rattle.mq_law_pump.specs.Below.{IsBelow};
 ghost use Rattle.mq_law_pump.specs.Deeds.{EachWantsNone, HasReceiver, HasSender, IsStillEnd, TakesLane, TimesOutLane, TurnsLane};
 ghost use Rattle.mq_law_pump.specs.Entries.{RanDeed};
 ghost use Rattle.mq_law_pump.specs.Fit.{FitsSender, Good};
+ghost use Rattle.mq_law_pump.specs.Leaves.{EachDefinesNone, EachLeavesOwn, parts_define_none, parts_leave};
 ghost use Rattle.mq_law_pump.specs.Others.{AllGoElsewhere, EachAddsNone, NoMore, parts_add_none};
 ghost use Rattle.mq_law_pump.specs.Rows.{rows_of};
 ghost use Rattle.mq_law_pump.specs.Shown.{ReceiverMoves, SenderMoves, SenderTimesOut, Shows};
@@ -138,4 +140,22 @@ pub fn a_senders_session_stays_the_highest_on_its_lane()
 pub fn turns_start_no_sender_and_stop_no_receiver()
     ensures starts { (t : SenderTurn) (w : Road) → is_running (sender_turn t w).sender.state ≡ true → is_running w.sender.state ≡ true }
     ensures stops { (t : ReceiverTurn) (w : Road) → is_stopped w.receiver.state ≡ false → is_stopped (receiver_turn t w).receiver.state ≡ false }
+{}
+
+/// No turn of an end, no timeout and no trigger turn defines anything; what defines nothing leaves the definitions, and what is given.
+pub fn a_pump_defines_nothing()
+    ensures same { (parts : List Part) (p : Plain) → parts_define_none parts ≡ true → IsAsBegun (do_all parts p) p }
+    ensures senders { (stamp : ℕ) (e : SenderEnd) (seen : Seen) (n : Node) → EachDefinesNone (sender_deed stamp e seen n) }
+    ensures timeouts { (e : SenderEnd) (n : Node) → EachDefinesNone (timeout_deed e n) }
+    ensures receivers { (stamp : ℕ) (e : ReceiverEnd) (seen : Seen) (n : Node) → EachDefinesNone (receiver_deed stamp e seen n) }
+    ensures triggers { (n : Node) → EachDefinesNone (trigger_deed n) }
+{}
+
+/// A sender that runs on keeps its queue, by its own turns as by what adds no row to it; and its rows go where they went.
+pub fn a_sender_that_runs_on_keeps_its_queue()
+    ensures open { (channel queue : List ℕ) (parts : List Part) (p : Plain) → parts_leave channel queue parts ≡ true → queue_of_sender channel (do_all parts p) ≡ queue_of_sender channel p }
+    ensures away { (n : Node) (channel queue : List ℕ) (parts : List Part) (p : Plain) → parts_leave channel queue parts ≡ true → RowsAway n (rows_at queue p) → RowsAway n (rows_at queue (do_all parts p)) }
+    ensures others { (channel queue : List ℕ) (parts : List Part) → parts_add_none channel queue parts ≡ true → parts_leave channel queue parts ≡ true }
+    ensures turns { (queue : List ℕ) (stamp : ℕ) (e : SenderEnd) (seen : Seen) (n : Node) → end_in e.cable n.own.ends ≡ Some (ChannelEnd.Sends e) → EachLeavesOwn queue e (sender_deed stamp e seen n) }
+    ensures timeouts { (queue : List ℕ) (e : SenderEnd) (n : Node) → end_in e.cable n.own.ends ≡ Some (ChannelEnd.Sends e) → EachLeavesOwn queue e (timeout_deed e n) }
 {}
