@@ -16,7 +16,8 @@ use Rattle.mq_calls.specs.declared.agents.PrepareFault.TheVariants as prepare_fa
 use Rattle.mq_calls.specs.declared.deltas.Did.TheVariants as did
 use Rattle.mq_calls.specs.declared.records.LogRecord.{LogRecord}
 use Rattle.mq_calls.specs.declared.state.Batch.{Batch}
-use Rattle.mq_calls.specs.State.{Change, Plain, Seizure}
+use Rattle.mq_calls.specs.State.{Change, Plain}
+use Rattle.mq_calls.specs.declared.state.Seizure.{Seizure}
 use Rattle.mq_calls.specs.State.Change.{ForgetAll, Seize, SetBound, Try, Unseize}
 use Rattle.mq_calls.specs.Reads.{is_full, is_persistent, seizure_of, sender_data}
 use Rattle.mq_calls.specs.Changes.{apply, apply_all, comes_before, set_named, try_if}
