@@ -17,3 +17,5 @@ pub mod Below
 pub mod Staying
 pub mod Defining
 pub mod Leaving
+pub mod Offering
+pub mod Aparting

@@ -243,6 +243,14 @@ sends_at w k c near far e r l x g h actor call popped =
     record {
       turn = t.turn;
       may = t.may;
+      deed = d;
+      at = refl;
+      is = is;
+      did = did;
+      next = next;
+      still = still;
+      ends = t.ends;
+      out = t.out;
       shows = record {
         faultless = h.faultless;
         near_is = h.near_is;
@@ -304,6 +312,13 @@ times_out_at w k c near far e r l x g h actor call popped =
     let way_out : seen_of (lying [] (by (is_sender k) (w.done m)) (by (is_receiver k) (w.done c.receiver))) ≡ l.road.out = sym (h.out ∙ ap (λ (fs : List Fault). seen_of (lying fs (by (is_sender k) (w.done m)) (by (is_receiver k) (w.done c.receiver)))) h.faultless.0) in
     record {
       waits = t.waits;
+      deed = d;
+      at = refl;
+      is = is;
+      did = did;
+      next = next;
+      still = still;
+      ends = t.ends;
       shows = record {
         faultless = h.faultless;
         near_is = h.near_is;
@@ -441,7 +456,15 @@ receives_at w k c near far e r l x g h actor call popped =
       turn = t.turn;
       defined = t.defined;
       may = t.may;
+      deed = d;
+      at = refl;
+      is = is;
+      did = did;
+      next = next;
+      still = still;
+      popped = seen_or seen0 (pushed_of (receiver_deed 0 r seen0 n)) (waiting l.road.out) x.effect.popped sees pops0;
       kept = t.kept;
+      ends = t.ends;
       shows = record {
         faultless = h.faultless;
         near_is = h.near_is;
@@ -470,6 +493,10 @@ receives_at w k c near far e r l x g h actor call popped =
       };
     }
   where
+    seen_or : (seen : Seen) (o : Option Frame) (first popped : Seen) → seen ≡ first → popped ≡ popped_by seen o → (popped ≡ first) ⊎ (popped ≡ items.Nothing)
+    seen_or seen None first popped a b = inl (b ∙ a)
+    seen_or seen (Some f) first popped a b = inr b
+
     or_owes : {A B C : Type 0} → A ⊎ C → (A → B) → B ⊎ C
     or_owes (inl a) f = inl (f a)
     or_owes (inr z) f = inr z

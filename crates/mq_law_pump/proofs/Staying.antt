@@ -54,12 +54,12 @@ waiting_runs : (st : SenderState) → is_waiting st ≡ true → is_running st �
 waiting_runs states.Waiting e = refl
 waiting_runs st e = absurd cc
 
-abbrev Runs : Sender → SenderDoes → Type 0
+abbrev pub Runs : Sender → SenderDoes → Type 0
 Runs s sends.Still = Unit {0}
 Runs s sends.Ignore = Unit {0}
 Runs s _ = is_running s.state ≡ true
 
-runs_by : (m : Sender) (seen : Seen) (st : Stock) → Runs m (sender_next m seen st)
+pub runs_by : (m : Sender) (seen : Seen) (st : Stock) → Runs m (sender_next m seen st)
 runs_by m seen st = by_lines (Runs m) sends.Still (sender_lines m seen st) (
   (λ e. binding_runs m.state (and_both (is_binding m.state) (is_status m.kept.session seen) e).0),
   λ x1. (

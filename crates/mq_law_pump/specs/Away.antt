@@ -1,6 +1,7 @@
 -- Messages that don't come to the queue of a sender that runs, at the manager to which their channel leads; and what stays of that manager.
-use Rattle.std.specs.Prelude.{◌≡◌, ℕ, true, false, List, [], ◌∷◌, Some, Ok}
+use Rattle.std.specs.Prelude.{◌≡◌, ℕ, true, false, List, [], ◌∷◌, Option, Some, None, Ok}
 use Rattle.std.specs.Str.{bytes_eq}
+use Rattle.mq_frame.specs.declared.frame.Frame.{Frame}
 use Rattle.mq_frame.specs.declared.frame.FrameKind.{FrameKind}
 use Rattle.mq_frame.specs.declared.frame.FrameKind.TheVariants.{Msg}
 use Rattle.mq_frame.specs.declared.frame.Seen.{Seen}
@@ -14,8 +15,9 @@ use Rattle.mq_sender.specs.States.{is_running}
 use Rattle.mq_calls.specs.State.{Plain}
 use Rattle.mq_spec_manager.specs.Agents.{names_of, queue_of_sender}
 use Rattle.mq_spec_manager.specs.Put.{queue_at}
-use Rattle.mq_spec_node.specs.Node.{Node, SenderEnd, end_in}
-use Rattle.mq_spec_node.specs.Node.ChannelEnd.{Sends}
+use Rattle.mq_spec_node.specs.Deeds.{Deed}
+use Rattle.mq_spec_node.specs.Node.{Node, ReceiverEnd, SenderEnd, end_in}
+use Rattle.mq_spec_node.specs.Node.ChannelEnd.{Receives, Sends}
 
 -- the queue of a sender that runs at this node
 pub record RunsOn (n : Node) (queue : List ℕ) : Type 0 where
@@ -49,6 +51,19 @@ SeenAway n _ = Unit {0}
 abbrev pub WayAway : Node → List Seen → Type 0
 WayAway n [] = Unit {0}
 WayAway n (x ∷ xs) = SeenAway n x × WayAway n xs
+
+-- what a deed offers, and what it leaves a receiver of the messages that it keeps
+abbrev pub FrameAway : Node → Option Frame → Type 0
+FrameAway n None = Unit {0}
+FrameAway n (Some f) = KindAway n f.kind
+
+abbrev pub EachPushesAway : Node → Option Deed → Type 0
+EachPushesAway n None = Unit {0}
+EachPushesAway n (Some d) = FrameAway n d.pushed
+
+abbrev pub EachKeepsAway : Node → ReceiverEnd → Option Deed → Type 0
+EachKeepsAway n e None = Unit {0}
+EachKeepsAway n e (Some d) = (r : ReceiverEnd) → end_in e.cable d.own.ends ≡ Some (Receives r) → AllAway n r.kept
 
 -- nothing was defined, and the manager is called as it was
 pub record IsAsBegun (now begun : Plain) : Type 0 where

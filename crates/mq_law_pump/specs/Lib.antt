@@ -9,3 +9,5 @@ pub mod Shown
 pub mod Below
 pub mod Away
 pub mod Leaves
+pub mod Sees
+pub mod Apart

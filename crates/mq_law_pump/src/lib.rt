@@ -1,7 +1,7 @@
 //! What a PUMP does at the nodes of a network and on its cables, as the moves of lanes of a measure that each of them makes less.
 #![tactic(auto)]
 
-ghost use Rattle.std.specs.Prelude.{◌≡◌, ◌∷◌, ◌++◌, ◌⊎◌, ℕ, false, true, List, [], Option, Some, is_some};
+ghost use Rattle.std.specs.Prelude.{◌≡◌, ◌∷◌, ◌++◌, ◌⊎◌, ℕ, false, true, List, [], Option, Some, is_some, ◌==◌};
 ghost use Rattle.mq_frame.specs.declared.frame.Frame.{Frame};
 ghost use Rattle.mq_frame.specs.declared.frame.Seen.{Seen};
 ghost use Rattle.mq_history.specs.declared.calls.Actor.TheVariants as actors;
@@ -12,9 +12,10 @@ ghost use Rattle.mq_objects.specs.Names.{local_of};
 ghost use Rattle.mq_queue.specs.Queues.{AreDistinct};
 ghost use Rattle.mq_receiver.specs.States.{is_stopped};
 ghost use Rattle.mq_sender.specs.States.{is_running};
-ghost use Rattle.mq_spec_manager.specs.Agents.{queue_of_sender};
+ghost use Rattle.mq_spec_manager.specs.Agents.{HasSeized, queue_of_sender};
 ghost use Rattle.mq_spec_manager.specs.Handles.{is_transmission_queue};
-ghost use Rattle.mq_calls.specs.Reads.{has_held_by_other};
+ghost use Rattle.mq_calls.specs.declared.state.Batch.{Batch};
+ghost use Rattle.mq_calls.specs.Reads.{batch_of, has_held_by_other};
 ghost use Rattle.mq_calls.specs.State.{Plain};
 ghost use Rattle.mq_calls.specs.Steps.{Part, do_all};
 ghost use Rattle.std.specs.Str.{bytes_eq};
@@ -34,8 +35,11 @@ ghost use Rattle.mq_spec_network.specs.Tasks.Task.{Pump};
 ghost use Rattle.mq_spec_network.specs.Turns.{Network, changes, does, node_at, push_refused};
 ghost use Rattle.mq_law_idle.specs.Lanes.{Lane};
 ghost use Rattle.mq_law_idle.specs.Roads.{Items, Quiet, ReceiverTurn, Road, SenderTurn, is_full, laid, receiver_turn, sender_timed_out, sender_turn, waiting};
+ghost use Rattle.mq_law_keys.specs.Keys.{IsKeyed};
 ghost use Rattle.mq_law_node.specs.Rows.{rows_at};
-ghost use Rattle.mq_law_pump.specs.Away.{IsAsBegun, RowsAway};
+ghost use Rattle.mq_law_pump.specs.Apart.{EachEndStays, EachIsSilent};
+ghost use Rattle.mq_law_seized.specs.Seized.{AreSeized};
+ghost use Rattle.mq_law_pump.specs.Away.{AllAway, EachKeepsAway, EachPushesAway, FrameAway, IsAsBegun, RowsAway, SeenAway, WayAway};
 ghost use Rattle.mq_law_pump.specs.Below.{IsBelow};
 ghost use Rattle.mq_law_pump.specs.Deeds.{EachWantsNone, HasReceiver, HasSender, IsStillEnd, TakesLane, TimesOutLane, TurnsLane};
 ghost use Rattle.mq_law_pump.specs.Entries.{RanDeed};
@@ -158,4 +162,28 @@ pub fn a_sender_that_runs_on_keeps_its_queue()
     ensures others { (channel queue : List ℕ) (parts : List Part) → parts_add_none channel queue parts ≡ true → parts_leave channel queue parts ≡ true }
     ensures turns { (queue : List ℕ) (stamp : ℕ) (e : SenderEnd) (seen : Seen) (n : Node) → end_in e.cable n.own.ends ≡ Some (ChannelEnd.Sends e) → EachLeavesOwn queue e (sender_deed stamp e seen n) }
     ensures timeouts { (queue : List ℕ) (e : SenderEnd) (n : Node) → end_in e.cable n.own.ends ≡ Some (ChannelEnd.Sends e) → EachLeavesOwn queue e (timeout_deed e n) }
+{}
+
+/// What a sender offers is a row of its queue, and what a receiver keeps came to it: they go where those went.
+pub fn messages_go_where_their_rows_went()
+    ensures sends { (n : Node) (stamp : ℕ) (e : SenderEnd) (seen : Seen) (x : Node) → (is_running e.machine.state ≡ true → RowsAway n (rows_of e.channel x.manager))
+        → (is_running e.machine.state ≡ true → (b : Batch) → batch_of e.channel x.manager.channels.batches ≡ Some b → b.queue ≡ queue_of_sender e.channel x.manager) → EachPushesAway n (sender_deed stamp e seen x) }
+    ensures lays { (n : Node) (o : Option Frame) (xs : List Seen) → FrameAway n o → WayAway n xs → WayAway n (laid o xs) }
+    ensures takes { (n : Node) (t : ReceiverTurn) (w : Road) → WayAway n w.out → WayAway n (receiver_turn t w).out }
+    ensures keeps { (n : Node) (stamp : ℕ) (e : ReceiverEnd) (seen : Seen) (x : Node) → end_in e.cable x.own.ends ≡ Some (ChannelEnd.Receives e) → AllAway n e.kept → SeenAway n seen → EachKeepsAway n e (receiver_deed stamp e seen x) }
+{}
+
+/// What an end does leaves the ends of other cables at its node, and adds no row to a queue that another sender there has open, alone and for its own batches.
+pub fn ends_of_other_cables_stay()
+    ensures senders { (j stamp : ℕ) (e : SenderEnd) (seen : Seen) (n : Node) → (e.cable == j) ≡ false → EachEndStays j n (sender_deed stamp e seen n) }
+    ensures timeouts { (j : ℕ) (e : SenderEnd) (n : Node) → (e.cable == j) ≡ false → EachEndStays j n (timeout_deed e n) }
+    ensures receivers { (j stamp : ℕ) (e : ReceiverEnd) (seen : Seen) (n : Node) → (e.cable == j) ≡ false → EachEndStays j n (receiver_deed stamp e seen n) }
+    ensures triggers { (j : ℕ) (n : Node) → EachEndStays j n (trigger_deed n) }
+    ensures silent { (n : Node) → EachIsSilent (trigger_deed n) }
+    ensures alone { (channel : List ℕ) (p : Plain) → HasSeized channel p → AreSeized p
+        → (is_transmission_queue (local_of (queue_of_sender channel p) p.definitions) ≡ true) × (has_held_by_other channel (queue_of_sender channel p) p ≡ false) }
+    ensures others { (n : Node) (j k stamp : ℕ) (e f : SenderEnd) (seen : Seen) → IsKeyed n → AreSeized n.manager → end_in j n.own.ends ≡ Some (ChannelEnd.Sends e) → end_in k n.own.ends ≡ Some (ChannelEnd.Sends f) → (j ≡ k → ⊥)
+        → HasSeized e.channel n.manager → (is_running f.machine.state ≡ true → HasSeized f.channel n.manager) → EachAddsNone e.channel (queue_of_sender e.channel n.manager) (sender_deed stamp f seen n) }
+    ensures timed { (n : Node) (j k : ℕ) (e f : SenderEnd) → IsKeyed n → end_in j n.own.ends ≡ Some (ChannelEnd.Sends e) → end_in k n.own.ends ≡ Some (ChannelEnd.Sends f) → (j ≡ k → ⊥)
+        → EachAddsNone e.channel (queue_of_sender e.channel n.manager) (timeout_deed f n) }
 {}
