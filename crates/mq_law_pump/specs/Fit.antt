@@ -4,24 +4,29 @@ use Rattle.mq_history.specs.declared.calls.Entry.{Entry}
 use Rattle.mq_queue.specs.Queues.{AreDistinct}
 use Rattle.mq_sender.specs.Table.{is_sending}
 use Rattle.mq_sender.specs.States.{is_running}
-use Rattle.mq_spec_manager.specs.Agents.{HasSeized}
-use Rattle.mq_calls.specs.Reads.{stored}
+use Rattle.mq_spec_manager.specs.Agents.{HasSeized, queue_of_sender}
+use Rattle.mq_calls.specs.declared.state.Batch.{Batch}
+use Rattle.mq_calls.specs.Reads.{batch_of, stored}
 use Rattle.mq_calls.specs.State.Running.{Up}
 use Rattle.mq_spec_node.specs.Node.{Node, ReceiverEnd, SenderEnd, end_in}
 use Rattle.mq_spec_node.specs.Node.ChannelEnd.{Receives, Sends}
 use Rattle.mq_spec_node.specs.Replays.{Follows, after}
 use Rattle.mq_spec_network.specs.Turns.{Network}
 use Rattle.mq_law_channel.specs.Channel.{Channel}
+use Rattle.mq_law_idle.specs.Counts.{held_in}
 use Rattle.mq_law_node.specs.Ends.{SendsAs, TakesAs}
 use Rattle.mq_law_keys.specs.Keys.{IsKeyed}
 use Rattle.mq_law_seized.specs.Seized.{AreSeized}
+use Rattle.mq_law_pump.specs.Rows.{rows_of}
 
--- A sender's end is the near half of a channel; a batch that is being sent has no fewer messages than the sender counts; one that
--- runs has its queue open, and sends batches of at least one message.
+-- A sender's end is the near half of a channel; a batch that is being sent has no fewer messages than the sender counts, which its queue holds,
+-- and is of that queue; one that runs has its queue open, and sends batches of at least one message.
 pub record FitsSender (k : ℕ) (e : SenderEnd) (n : Node) : Type 0 where
   pub channel : Channel
   pub sends : SendsAs (record { cable = k; channel = e.channel; partner = e.partner }) n channel
   pub counted : is_sending e.machine.state ≡ true → e.machine.count ≤ length channel.batch
+  pub held : is_sending e.machine.state ≡ true → e.machine.count ≤ held_in (rows_of e.channel n.manager)
+  pub queue : (b : Batch) → batch_of e.channel n.manager.channels.batches ≡ Some b → b.queue ≡ queue_of_sender e.channel n.manager
   pub open_ : is_running e.machine.state ≡ true → HasSeized e.channel n.manager
   pub some : is_running e.machine.state ≡ true → 1 ≤ e.machine.limits.batch_size
 

@@ -11,3 +11,4 @@ pub mod Away
 pub mod Leaves
 pub mod Sees
 pub mod Apart
+pub mod Restful
