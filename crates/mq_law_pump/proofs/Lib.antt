@@ -19,3 +19,7 @@ pub mod Defining
 pub mod Leaving
 pub mod Offering
 pub mod Aparting
+pub mod Seeing
+pub mod Besides
+pub mod Beginning
+pub mod AtRest

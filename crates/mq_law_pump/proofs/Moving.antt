@@ -68,7 +68,7 @@ fit_now w j n g first = g.fit j n (w.done j) [] first (sym (append-nil (w.done j
 pub next_node : (w : Network) (m : ℕ) (x : Entry) (n : Node) → after n ((does m (x ∷ []) w).done m) ≡ (done_by x (after n (w.done m))).next
 next_node w m x n = ap (after n) (here_done w m x) ∙ after_more n (w.done m) (x ∷ [])
 
-some_node : (a b : Node) → Some a ≡ Some b → a ≡ b
+pub some_node : (a b : Node) → Some a ≡ Some b → a ≡ b
 some_node a b e = cc
 
 both_ends : (o : Option ChannelEnd) (e : SenderEnd) (r : ReceiverEnd) → o ≡ Some (Sends e) → o ≡ Some (Receives r) → ⊥

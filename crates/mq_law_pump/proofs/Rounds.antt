@@ -370,7 +370,7 @@ pump_call : (w : Network) (left : ℕ) (slot : Slot) (cable : ℕ) (any : Bool) 
 pump_call w zero slot cable any m e mv = absurd mv
 pump_call w (suc left) slot cable any m e mv = taken_call w slot cable (slice_get w.scenario.cables cable) m e mv
 
-moved_call : (w : Network) (t : Task) (ts : List Task) → ArePumps (t ∷ ts) → (m : ℕ) (e : Entry) → TaskMoves w t m e → IsPumped e.call
+pub moved_call : (w : Network) (t : Task) (ts : List Task) → ArePumps (t ∷ ts) → (m : ℕ) (e : Entry) → TaskMoves w t m e → IsPumped e.call
 moved_call w t ts (inl is) m e mv = absurd cc
 moved_call w t ts (inr (left, slot, cable, any, is)) m e mv = pump_call w left slot cable any m e (subst (λ (u : Task). TaskMoves w u m e) (ap (first_of t) is) mv)
 

@@ -1,7 +1,7 @@
 //! What a PUMP does at the nodes of a network and on its cables, as the moves of lanes of a measure that each of them makes less.
 #![tactic(auto)]
 
-ghost use Rattle.std.specs.Prelude.{◌≡◌, ◌∷◌, ◌++◌, ◌⊎◌, ℕ, false, true, List, [], Option, Some, is_some, ◌==◌};
+ghost use Rattle.std.specs.Prelude.{◌≡◌, ◌∷◌, ◌++◌, ◌⊎◌, ◌≤◌, ℕ, false, true, List, [], Option, Some, is_some, ◌==◌, slice_get};
 ghost use Rattle.mq_frame.specs.declared.frame.Frame.{Frame};
 ghost use Rattle.mq_frame.specs.declared.frame.Seen.{Seen};
 ghost use Rattle.mq_history.specs.declared.calls.Actor.TheVariants as actors;
@@ -29,11 +29,11 @@ ghost use Rattle.mq_spec_node.specs.Replays.{after, done_by};
 ghost use Rattle.mq_spec_node.specs.Senders.{sender_deed, timeout_deed};
 ghost use Rattle.mq_spec_network.specs.Cables.{Lying, is_popped, lying};
 ghost use Rattle.mq_spec_network.specs.Steps.{Goes, TakesTurn, none_due, popped_by, pushed_of, turn_in};
-ghost use Rattle.mq_spec_network.specs.Tasks.{Task};
+ghost use Rattle.mq_spec_network.specs.Tasks.{Slot, Task};
 ghost use Rattle.mq_spec_network.specs.Tasks.Slot.{Receives, Sends, TimesOut};
 ghost use Rattle.mq_spec_network.specs.Tasks.Task.{Pump};
-ghost use Rattle.mq_spec_network.specs.Turns.{Network, changes, does, node_at, push_refused};
-ghost use Rattle.mq_law_idle.specs.Lanes.{Lane};
+ghost use Rattle.mq_spec_network.specs.Turns.{Network, changes, does, is_idle, node_at, push_refused};
+ghost use Rattle.mq_law_idle.specs.Lanes.{Begins, Lane, bound};
 ghost use Rattle.mq_law_idle.specs.Roads.{Items, Quiet, ReceiverTurn, Road, SenderTurn, is_full, laid, receiver_turn, sender_timed_out, sender_turn, waiting};
 ghost use Rattle.mq_law_keys.specs.Keys.{IsKeyed};
 ghost use Rattle.mq_law_node.specs.Rows.{rows_at};
@@ -46,9 +46,11 @@ ghost use Rattle.mq_law_pump.specs.Entries.{RanDeed};
 ghost use Rattle.mq_law_pump.specs.Fit.{FitsSender, Good};
 ghost use Rattle.mq_law_pump.specs.Leaves.{EachDefinesNone, EachLeavesOwn, parts_define_none, parts_leave};
 ghost use Rattle.mq_law_pump.specs.Others.{AllGoElsewhere, EachAddsNone, NoMore, parts_add_none};
+ghost use Rattle.mq_law_pump.specs.Restful.{Restful, most};
 ghost use Rattle.mq_law_pump.specs.Rows.{rows_of};
 ghost use Rattle.mq_law_pump.specs.Shown.{ReceiverMoves, SenderMoves, SenderTimesOut, Shows};
-ghost use Rattle.mq_law_pump.specs.Steady.{ArePumps, IsPumped};
+ghost use Rattle.mq_law_pump.specs.Sees.{Sees};
+ghost use Rattle.mq_law_pump.specs.Steady.{ArePumps, IsOf, IsPumped, IsSteady, Moved, SeesAll, TimeoutFits};
 ghost use Rattle.mq_law_pump.specs.Ways.{IsWithin, behind_if, seen_of};
 
 /// A cable without faults: a frame that is offered lies there last, a pop takes the first, and a push is refused where the cable is full.
@@ -186,4 +188,33 @@ pub fn ends_of_other_cables_stay()
         → HasSeized e.channel n.manager → (is_running f.machine.state ≡ true → HasSeized f.channel n.manager) → EachAddsNone e.channel (queue_of_sender e.channel n.manager) (sender_deed stamp f seen n) }
     ensures timed { (n : Node) (j k : ℕ) (e f : SenderEnd) → IsKeyed n → end_in j n.own.ends ≡ Some (ChannelEnd.Sends e) → end_in k n.own.ends ≡ Some (ChannelEnd.Sends f) → (j ≡ k → ⊥)
         → EachAddsNone e.channel (queue_of_sender e.channel n.manager) (timeout_deed f n) }
+{}
+
+/// A turn of a cable's end, or a timeout, moves the cable's lane, which shows the cable still, with what a PUMP needs of it.
+pub fn turns_move_what_a_lane_sees()
+    ensures { (w0 w : Network) (slot : Slot) (k : ℕ) (c : CableLine) (m : ℕ) (x : Entry) (l : Lane) → Good (does m (x ∷ []) w) → slice_get w.scenario.cables k ≡ Some c → Sees w0 w k c l → TimeoutFits slot l
+        → TakesTurn (turn_in w slot k c) m x → Moved (Sees w0) (does m (x ∷ []) w) k c l }
+{}
+
+/// An entry of another cable, and a trigger turn, leaves what a lane sees of its own cable.
+pub fn entries_of_others_leave_what_a_lane_sees()
+    ensures others { (w0 w : Network) (k : ℕ) (c : CableLine) (m : ℕ) (x : Entry) (j : ℕ) (d : CableLine) (l moving : Lane) → Good (does m (x ∷ []) w) → slice_get w.scenario.cables k ≡ Some c → slice_get w.scenario.cables j ≡ Some d → Sees w0 w j d l
+        → Sees w0 w k c moving → IsOf w k c m x → (j ≡ k → ⊥) → Sees w0 (does m (x ∷ []) w) j d l }
+    ensures triggers { (w0 w : Network) (m : ℕ) (x : Entry) (j : ℕ) (d : CableLine) (l : Lane) → Good (does m (x ∷ []) w) → slice_get w.scenario.cables j ≡ Some d → Sees w0 w j d l → x.call ≡ calls.Trigger → Sees w0 (does m (x ∷ []) w) j d l }
+{}
+
+/// At a network where receivers of running senders are there, no cable has faults, and no message goes to the queue of a running sender, each cable is
+/// a lane; and the bound of these lanes is 16 per row of a running sender's queue, 16 per channel and 3 per item on a cable.
+pub fn a_pump_begins_with_lanes()
+    ensures { (w : Network) → Good w → Restful w → (ls : List Lane) × SeesAll (Sees w w) w 0 w.scenario.cables ls × Begins ls × (bound ls ≡ most w) }
+{}
+
+/// What lanes see is steady: each turn and each timeout moves its lane, and nothing else moves any.
+pub fn what_lanes_see_is_steady()
+    ensures { (w0 : Network) → IsSteady Good (Sees w0) }
+{}
+
+/// **A PUMP comes to rest**: one of at least so many turns ends where nothing can change.
+pub fn a_pump_comes_to_rest()
+    ensures { (w v : Network) (n : ℕ) → Good v → Restful w → Goes w (Pump n Sends 0 false ∷ []) v [] → most w ≤ n → is_idle v ≡ true }
 {}
