@@ -23,3 +23,4 @@ pub mod Seeing
 pub mod Besides
 pub mod Beginning
 pub mod AtRest
+pub mod Pumped

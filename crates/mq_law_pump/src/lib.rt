@@ -1,14 +1,19 @@
 //! What a PUMP does at the nodes of a network and on its cables, as the moves of lanes of a measure that each of them makes less.
 #![tactic(auto)]
 
-ghost use Rattle.std.specs.Prelude.{◌≡◌, ◌∷◌, ◌++◌, ◌⊎◌, ◌≤◌, ℕ, false, true, List, [], Option, Some, is_some, ◌==◌, slice_get};
+ghost use Rattle.std.specs.Prelude.{◌≡◌, ◌∷◌, ◌++◌, ◌⊎◌, ◌≤◌, ℕ, false, true, List, [], Option, Some, is_some, ◌==◌, slice_get, IfOk, None, Result};
+ghost use Rattle.mq_base.specs.declared.want.NoMemory.{NoMemory};
 ghost use Rattle.mq_frame.specs.declared.frame.Frame.{Frame};
 ghost use Rattle.mq_frame.specs.declared.frame.Seen.{Seen};
 ghost use Rattle.mq_history.specs.declared.calls.Actor.TheVariants as actors;
 ghost use Rattle.mq_history.specs.declared.calls.Call.TheVariants as calls;
 ghost use Rattle.mq_history.specs.declared.calls.Entry.{Entry};
 ghost use Rattle.mq_history.specs.declared.scenario.CableLine.{CableLine};
+ghost use Rattle.mq_nodes.specs.Course.{Course};
+ghost use Rattle.mq_nodes.specs.Told.{Part as IsPart};
 ghost use Rattle.mq_objects.specs.Names.{local_of};
+ghost use Rattle.mq_steps.specs.Counts.{pumped_then};
+ghost use Rattle.mq_steps.specs.declared.pumping.Pumped.{Pumped};
 ghost use Rattle.mq_queue.specs.Queues.{AreDistinct};
 ghost use Rattle.mq_receiver.specs.States.{is_stopped};
 ghost use Rattle.mq_sender.specs.States.{is_running};
@@ -217,4 +222,11 @@ pub fn what_lanes_see_is_steady()
 /// **A PUMP comes to rest**: one of at least so many turns ends where nothing can change.
 pub fn a_pump_comes_to_rest()
     ensures { (w v : Network) (n : ℕ) → Good v → Restful w → Goes w (Pump n Sends 0 false ∷ []) v [] → most w ≤ n → is_idle v ≡ true }
+{}
+
+/// So is the answer of mq_steps' `pump`, over any nodes: where its steps are those of a PUMP of at least so many turns, and it says idle exactly where nothing
+/// can change, it says idle, or names a manager that made its last event, or wants memory.
+pub fn a_pump_that_ends_is_idle()
+    ensures { (result : Result Pumped NoMemory) (turns : ℕ) (c d : Course) → IsPart (Pump turns Sends 0 false ∷ []) (pumped_then result) c d → IfOk result (λ (p : Pumped). p.idle ≡ is_idle d.net)
+        → Good d.net → Restful c.net → most c.net ≤ turns → IfOk result (λ (p : Pumped). p.spent ≡ None → p.idle ≡ true) }
 {}
