@@ -59,9 +59,9 @@ stills_quiet w0 w k c l g known h x y =
     let still_back : changes (record { faults = []; pushes = by (is_receiver k) (w.done c.receiver); items = back_of w k c }) b ≡ false =
     (λ i. changes (record { faults = sym h.shows.faultless.1 i; pushes = by (is_receiver k) (w.done c.receiver); items = back_of w k c }) (sym takes_ i)) ∙ y in
     let all_out : Items l.road.out = subst Items (sym (out ∙ ap (λ (fs : List Fault). seen_of (lying fs (by (is_sender k) (w.done c.sender)) (by (is_receiver k) (w.done c.receiver)))) h.shows.faultless.0))
-        (items_lie (by (is_sender k) (w.done c.sender)) (by (is_receiver k) (w.done c.receiver))) in
+    (items_lie (by (is_sender k) (w.done c.sender)) (by (is_receiver k) (w.done c.receiver))) in
     let all_back : Items l.road.back = subst Items (sym (back ∙ ap (λ (fs : List Fault). seen_of (lying fs (by (is_receiver k) (w.done c.receiver)) (by (is_sender k) (w.done c.sender)))) h.shows.faultless.1))
-        (items_lie (by (is_receiver k) (w.done c.receiver)) (by (is_sender k) (w.done c.sender))) in
+    (items_lie (by (is_receiver k) (w.done c.receiver)) (by (is_sender k) (w.done c.sender))) in
     quiet_lane 0 h.sender h.receiver n v l.road h.shows.sends h.shows.takes all_out all_back
     (subst (IsStillEnd a) (sym out) (changes_none (by (is_sender k) (w.done c.sender)) (out_of w k c) a still_out))
     (subst (IsStillEnd b) (sym back) (changes_none (by (is_receiver k) (w.done c.receiver)) (back_of w k c) b still_back))

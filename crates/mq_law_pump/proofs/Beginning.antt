@@ -141,7 +141,7 @@ bound_one w k c h =
 
 -- ALL CABLES
 abbrev Begun : Network → ℕ → List CableLine → Type 0
-Begun w k cs = (ls : List Lane) × SeesAll (Sees w w) w k cs ls × Begins ls × (bound ls ≡ most_from w k cs)
+Begun w k cs = (ls : List Lane) × SeesAll (Sees w) w k cs ls × Begins ls × (bound ls ≡ most_from w k cs)
 
 both_same : (a b c d : ℕ) → a ≡ b → c ≡ d → a + c ≡ b + d
 both_same a b c d x y = omega (arith, x, y)
@@ -150,8 +150,7 @@ begins_from : (w : Network) (g : Good w) (k : ℕ) (cs : List CableLine) → ((i
 begins_from w g k [] h = ([], tt, tt, refl)
 begins_from w g k (c ∷ cs) h =
     let one : IsRestful w k c = subst (λ (i : ℕ). IsRestful w i c) (plus_none k) (h 0 c refl) in
-    let rest : Begun w (suc k) cs = begins_from w g (suc k) cs (λ i d is. subst (λ (j : ℕ). IsRestful w j d) (plus_one k i) (h (suc i) d is)) in
-    (
+    let rest : Begun w (suc k) cs = begins_from w g (suc k) cs (λ i d is. subst (λ (j : ℕ). IsRestful w j d) (plus_one k i) (h (suc i) d is)) in (
       lane_of w k c one ∷ rest.0,
       (sees w k c one, rest.1),
       (refl, holds w k c one g, rest.2),
@@ -164,7 +163,7 @@ begins_from w g k (c ∷ cs) h =
     plus_one : (a b : ℕ) → a + suc b ≡ suc a + b
     plus_one a b = omega arith
 
-pub begins : (w : Network) → Good w → Restful w → (ls : List Lane) × SeesAll (Sees w w) w 0 w.scenario.cables ls × Begins ls × (bound ls ≡ most w)
+pub begins : (w : Network) → Good w → Restful w → (ls : List Lane) × SeesAll (Sees w) w 0 w.scenario.cables ls × Begins ls × (bound ls ≡ most w)
 begins w g h = begins_from w g 0 w.scenario.cables (λ i c is. subst (λ (j : ℕ). IsRestful w j c) (nothing_more i) (h i c is))
   where
     nothing_more : (n : ℕ) → n ≡ 0 + n

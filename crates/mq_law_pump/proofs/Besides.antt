@@ -117,8 +117,7 @@ near_beside w m x i base e road near0 far0 has needs beside =
         let n : Node = after base (w.done i) in
         let n1 : Node = after base (w.done i ++ x ∷ []) in
         let step : n1 ≡ (done_by x n).next = after_more base (w.done i) (x ∷ []) in
-        let is : n1.manager ≡ do_all b.deed.parts n.manager = ap (λ (y : Node). y.manager) step ∙ b.ran.manager in
-        (
+        let is : n1.manager ≡ do_all b.deed.parts n.manager = ap (λ (y : Node). y.manager) step ∙ b.ran.manager in (
           lane_stays e n n1 b.deed road has (ap (λ (y : Node). end_in e.cable y.own.ends) step ∙ ap (end_in e.cable) b.ran.ends ∙ b.ends) is b.adds,
           near_on n n1 near0 far0 e e.machine b.deed needs is b.defines (λ on. on) (λ on. none_leaves e.channel (queue_of_sender e.channel n.manager) b.deed.parts (b.adds on).0),
         )
@@ -133,8 +132,7 @@ far_beside w m x i base r road far0 has needs beside =
     with_deed b =
         let n : Node = after base (w.done i) in
         let n1 : Node = after base (w.done i ++ x ∷ []) in
-        let step : n1 ≡ (done_by x n).next = after_more base (w.done i) (x ∷ []) in
-        (
+        let step : n1 ≡ (done_by x n).next = after_more base (w.done i) (x ∷ []) in (
           record { machine = has.machine; here = ap (λ (y : Node). end_in r.cable y.own.ends) step ∙ ap (end_in r.cable) b.ran.ends ∙ b.ends ∙ has.here },
           far_on n n1 far0 r r.machine r.kept b.deed needs (ap (λ (y : Node). y.manager) step ∙ b.ran.manager) b.defines needs.kept,
         )

@@ -188,7 +188,7 @@ same_least a b e = omega (arith, e)
 pub pops_within : (pushes pops : List Entry) (x : Entry) → IsWithin pushes pops → (is_popped x ≡ true → waits (waiting (seen_of (lying [] pushes pops))) ≡ true) → IsWithin pushes (pops ++ x ∷ [])
 pops_within pushes pops x h there = bool_case (is_popped x) (λ b. is_popped x ≡ b → IsWithin pushes (pops ++ x ∷ []))
     (λ z is. at_most (length (pops_of (pops ++ x ∷ []))) (length (pops_of pops)) (length (frames_of pushes)) (ap length (pops_more pops x ∙ ap (λ (b : Bool). pops_of pops ++ kept_if b x) is) ∙ longer (pops_of pops) x)
-        (drop_there (length (pops_of pops)) (frames_of pushes) (ap (λ (xs : List Lying). waits (waiting (seen_of xs))) (sym (lies pushes pops)) ∙ there is)))
+    (drop_there (length (pops_of pops)) (frames_of pushes) (ap (λ (xs : List Lying). waits (waiting (seen_of xs))) (sym (lies pushes pops)) ∙ there is)))
     (λ z is. as_much (length (pops_of (pops ++ x ∷ []))) (length (pops_of pops)) (length (frames_of pushes)) (ap length (pops_more pops x ∙ ap (λ (b : Bool). pops_of pops ++ kept_if b x) is) ∙ none_more (pops_of pops)) h) refl
 
 offers_more : (o : Option Frame) (xs : List Lying) → length xs ≤ length (xs ++ offer_if o)
@@ -400,16 +400,14 @@ takes_it : (r : ReceiverEnd) (n : Node) (x : Entry) (xs : List Seen) (seen : See
     → (receiver_next r.machine (waiting xs) (is_receiver_defined r.channel n.manager.definitions) ≡ takes.Still → ⊥) → TakesIt r.machine (is_receiver_defined r.channel n.manager.definitions) x xs
 takes_it r n x xs seen sees popped changed = bool_case (is_some r.machine.owes) (λ b. is_some r.machine.owes ≡ b → TakesIt r.machine (is_receiver_defined r.channel n.manager.definitions) x xs)
     (λ z owes.
-    let none : is_popped x ≡ false = pops_as x items.Nothing (popped ∙ ap (λ (y : ReceiverDoes). popped_by seen (pushed_of (receiver_deed_by 0 r seen y n))) (owed_first r.machine seen (is_receiver_defined r.channel n.manager.definitions) owes) ∙ owes_pushes 0 r.machine.owes seen owes) in
-    (
+    let none : is_popped x ≡ false = pops_as x items.Nothing (popped ∙ ap (λ (y : ReceiverDoes). popped_by seen (pushed_of (receiver_deed_by 0 r seen y n))) (owed_first r.machine seen (is_receiver_defined r.channel n.manager.definitions) owes) ∙ owes_pushes 0 r.machine.owes seen owes) in (
       ap (λ (y : ReceiverDoes). taken_by y xs) (owed_first r.machine (waiting xs) (is_receiver_defined r.channel n.manager.definitions) owes) ∙ ap (λ (b : Bool). behind_if b xs) (sym none),
       λ p. absurd (clash (sym p ∙ none)),
     ))
     (λ z free.
-    let all : x.effect.popped ≡ waiting xs = popped ∙ unowed (receivers_pop 0 r seen n) free ∙ sees in
-    (
+    let all : x.effect.popped ≡ waiting xs = popped ∙ unowed (receivers_pop 0 r seen n) free ∙ sees in (
       received_as (receiver_next r.machine (waiting xs) (is_receiver_defined r.channel n.manager.definitions)) xs (subst (λ (b : Bool). TakesWaiting b (waiting xs) (receiver_next r.machine (waiting xs) (is_receiver_defined r.channel n.manager.definitions))) free (takes_waiting r.machine (waiting xs) (is_receiver_defined r.channel n.manager.definitions))) changed
-      ∙ ap (λ (b : Bool). behind_if b xs) (sym (pops_as x (waiting xs) all)),
+          ∙ ap (λ (b : Bool). behind_if b xs) (sym (pops_as x (waiting xs) all)),
       λ p. sym (pops_as x (waiting xs) all) ∙ p,
     )) refl
   where

@@ -211,7 +211,7 @@ pub fn entries_of_others_leave_what_a_lane_sees()
 /// At a network where receivers of running senders are there, no cable has faults, and no message goes to the queue of a running sender, each cable is
 /// a lane; and the bound of these lanes is 16 per row of a running sender's queue, 16 per channel and 3 per item on a cable.
 pub fn a_pump_begins_with_lanes()
-    ensures { (w : Network) → Good w → Restful w → (ls : List Lane) × SeesAll (Sees w w) w 0 w.scenario.cables ls × Begins ls × (bound ls ≡ most w) }
+    ensures { (w : Network) → Good w → Restful w → (ls : List Lane) × SeesAll (Sees w) w 0 w.scenario.cables ls × Begins ls × (bound ls ≡ most w) }
 {}
 
 /// What lanes see is steady: each turn and each timeout moves its lane, and nothing else moves any.
