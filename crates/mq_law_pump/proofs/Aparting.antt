@@ -1,5 +1,5 @@
 -- What an end of a cable does leaves the ends of other cables at its node, and the rows of a queue that another sender there has open; trigger turns too.
-use Rattle.std.proofs.Common.{ℕ, ◌≡◌, Bool, true, false, List, [], ◌∷◌, refl, ap, sym, subst, ◌∙◌, inl, inr}
+use Rattle.std.proofs.Common.{ℕ, ◌≡◌, true, false, List, [], ◌∷◌, refl, ap, sym, subst, ◌∙◌, inl, inr}
 use Rattle.std.specs.Prelude.{if◌then◌else◌, Option, Some, None, ◌==◌, is_some}
 use Rattle.std.specs.Str.{bytes_eq}
 use Rattle.mq_calls.specs.declared.agents.PrepareFault.{PrepareFault}
@@ -35,7 +35,7 @@ use Rattle.mq_spec_manager.specs.Handles.{is_transmission_queue}
 use Rattle.mq_spec_manager.specs.Triggers.{first_due}
 use Rattle.mq_spec_node.specs.Calls.{trigger_deed, trigger_deed_of, where_up}
 use Rattle.mq_spec_node.specs.Deeds.{Deed}
-use Rattle.mq_spec_node.specs.Node.{ChannelEnd, Node, ReceiverEnd, SenderEnd, cable_of, end_in, with_end}
+use Rattle.mq_spec_node.specs.Node.{Node, ReceiverEnd, SenderEnd, cable_of, end_in, with_end}
 use Rattle.mq_spec_node.specs.Node.ChannelEnd.{Receives, Sends}
 use Rattle.mq_spec_node.specs.Receivers.{is_receiver_defined, kept_seen, place_deed, receiver_deed, receiver_deed_by}
 use Rattle.mq_spec_node.specs.Senders.{after_timeout, prepare_deed, sender_deed, sender_deed_by, timeout_deed}

@@ -1,5 +1,5 @@
 -- What a lane sees is steady, so a PUMP of at least the bound comes to rest.
-use Rattle.std.proofs.Common.{ℕ, ◌≡◌, ◌≤◌, ◌⊎◌, Bool, true, false, List, [], ◌∷◌, refl, ap, sym, subst, ◌∙◌, inl, inr}
+use Rattle.std.proofs.Common.{ℕ, ◌≡◌, ◌≤◌, true, false, List, [], ◌∷◌, ap, sym, subst, ◌∙◌, inr}
 use Rattle.std.specs.Prelude.{Option, Some, slice_get}
 use Rattle.mq_cable.specs.declared.fault.Fault.{Fault}
 use Rattle.mq_frame.specs.declared.frame.Seen.{Seen}
@@ -19,13 +19,13 @@ use Rattle.mq_spec_network.specs.Steps.Goes.{moves, passes, serves, stays}
 use Rattle.mq_spec_network.specs.Tasks.{Slot, Task}
 use Rattle.mq_spec_network.specs.Tasks.Task.{Pump}
 use Rattle.mq_spec_network.specs.Turns.{Network, back_of, changes, deed_at, is_idle, out_of, receiver_turn, sender_turn, waiting as first_lying}
-use Rattle.mq_law_idle.specs.Lanes.{Begins, Lane, bound}
+use Rattle.mq_law_idle.specs.Lanes.{Lane, bound}
 use Rattle.mq_law_idle.specs.Roads.{Items, Quiet, waiting}
 use Rattle.mq_law_pump.specs.Deeds.{IsStillEnd}
 use Rattle.mq_law_pump.specs.Fit.{Good}
 use Rattle.mq_law_pump.specs.Restful.{Restful, most}
 use Rattle.mq_law_pump.specs.Sees.{Sees}
-use Rattle.mq_law_pump.specs.Steady.{IsSteady, IsStill, SeesAll}
+use Rattle.mq_law_pump.specs.Steady.{IsSteady, IsStill}
 use Rattle.mq_law_pump.specs.Ways.{seen_of}
 use Rattle.mq_law_pump.proofs.Beginning.{begins}
 use Rattle.mq_law_pump.proofs.Besides.{others_stay, triggers_stay}

@@ -1,6 +1,6 @@
 -- Where a PUMP begins, each cable is a lane of so many turns.
-use Rattle.std.proofs.Common.{ℕ, zero, suc, ◌≡◌, ◌≤◌, ◌+◌, ◌*◌, Bool, true, false, List, [], ◌∷◌, length, refl, ap, sym, subst, ◌∙◌, arith, inl, inr}
-use Rattle.std.specs.Prelude.{if◌then◌else◌, Option, Some, None, slice_get, ◌⊎◌}
+use Rattle.std.proofs.Common.{ℕ, suc, ◌≡◌, ◌≤◌, ◌+◌, ◌*◌, Bool, true, false, List, [], ◌∷◌, length, refl, ap, sym, subst, ◌∙◌, arith, inl, inr}
+use Rattle.std.specs.Prelude.{if◌then◌else◌, Option, Some, slice_get}
 use Rattle.mq_history.specs.declared.scenario.CableLine.{CableLine}
 use Rattle.mq_queue.specs.declared.row.Row.{Row}
 use Rattle.mq_queue.specs.Rows.{is_free}
@@ -8,9 +8,8 @@ use Rattle.mq_sender.specs.States.{is_running}
 use Rattle.mq_sender.specs.Table.{is_sending}
 use Rattle.mq_sender.specs.declared.state.SenderState.{SenderState}
 use Rattle.mq_sender.specs.declared.state.SenderState.TheVariants as states
-use Rattle.mq_spec_manager.specs.Agents.{queue_of_sender}
 use Rattle.mq_spec_node.specs.Node.{ChannelEnd, Node, SenderEnd, as_sender, end_in, sender_end}
-use Rattle.mq_spec_node.specs.Node.ChannelEnd.{Receives, Sends}
+use Rattle.mq_spec_node.specs.Node.ChannelEnd.{Sends}
 use Rattle.mq_spec_node.specs.Replays.{after}
 use Rattle.mq_spec_network.specs.Turns.{Network, back_of, node_at, out_of, where_there}
 use Rattle.mq_law_idle.specs.Counts.{free_in, held_in}
@@ -18,10 +17,9 @@ use Rattle.mq_law_idle.specs.Lanes.{Begins, Lane, bound}
 use Rattle.mq_law_idle.specs.Measure.{HoldsBatch, batch_of, most_turns}
 use Rattle.mq_law_idle.specs.Roads.{Road}
 use Rattle.mq_law_node.proofs.Named.{bool_case}
-use Rattle.mq_law_pump.specs.Away.{RunsOn}
 use Rattle.mq_law_pump.specs.Fit.{FitsSender, Good, IsFit}
 use Rattle.mq_law_pump.specs.Restful.{IsRestful, Restful, most, most_from, most_of, rows_if, sender_rows}
-use Rattle.mq_law_pump.specs.Rows.{AreWithin, rows_of}
+use Rattle.mq_law_pump.specs.Rows.{rows_of}
 use Rattle.mq_law_pump.specs.Sees.{IsServed, Sees, Wants}
 use Rattle.mq_law_pump.specs.Steady.{SeesAll}
 use Rattle.mq_law_pump.specs.Ways.{seen_of}
@@ -118,7 +116,7 @@ holds : (w : Network) (k : ℕ) (c : CableLine) (h : IsRestful w k c) → Good w
 holds w k c h g =
     let n : Node = after h.near (w.done c.sender) in
     let fit : IsFit n = fit_now w c.sender h.near g h.near_is in
-    let fits : FitsSender k h.sender n = fit.senders k h.sender (ap (λ (i : ℕ). end_in i n.own.ends) (sym h.cables.0) ∙ h.here) in
+    let fits : FitsSender h.sender n = fit.senders k h.sender (ap (λ (i : ℕ). end_in i n.own.ends) (sym h.cables.0) ∙ h.here) in
     sending_holds h.sender.machine.state h.sender.machine.count (held_in (rows_of h.sender.channel n.manager)) (is_running h.sender.machine.state) refl fits.held
 
 -- and counts what the bound counts

@@ -1,5 +1,5 @@
 -- An entry of a PUMP that is of another cable, or a trigger turn, leaves what a lane sees.
-use Rattle.std.proofs.Common.{ℕ, ◌≡◌, ◌≤◌, Bool, true, false, List, [], ◌∷◌, ◌++◌, refl, ap, sym, subst, ◌∙◌, append-nil, inl, inr}
+use Rattle.std.proofs.Common.{ℕ, ◌≡◌, Bool, true, false, List, [], ◌∷◌, ◌++◌, refl, ap, sym, subst, ◌∙◌, append-nil, inl, inr}
 use Rattle.std.specs.Prelude.{if◌then◌else◌, Option, Some, None, ◌==◌, ◌&&◌, slice_get}
 use Rattle.mq_cable.specs.declared.fault.Fault.{Fault}
 use Rattle.mq_frame.specs.declared.frame.Frame.{Frame}
@@ -13,7 +13,6 @@ use Rattle.mq_history.specs.declared.calls.Entry.{Entry}
 use Rattle.mq_history.specs.declared.scenario.CableLine.{CableLine}
 use Rattle.mq_sender.specs.States.{is_running}
 use Rattle.mq_sender.specs.Table.{waits}
-use Rattle.mq_calls.specs.Reads.{has_held_by_other}
 use Rattle.mq_calls.specs.Steps.{do_all}
 use Rattle.mq_spec_manager.specs.Agents.{queue_of_sender}
 use Rattle.mq_spec_node.specs.Calls.{trigger_deed}
@@ -21,14 +20,14 @@ use Rattle.mq_spec_node.specs.Deeds.{Deed}
 use Rattle.mq_spec_node.specs.Doers.{by, is_receiver, is_sender}
 use Rattle.mq_spec_node.specs.Happens.{deed_of}
 use Rattle.mq_spec_node.specs.Node.{Node, ReceiverEnd, SenderEnd, end_in}
-use Rattle.mq_spec_node.specs.Node.ChannelEnd.{Receives, Sends}
+use Rattle.mq_spec_node.specs.Node.ChannelEnd.{Sends}
 use Rattle.mq_spec_node.specs.Receivers.{receiver_deed}
 use Rattle.mq_spec_node.specs.Replays.{IsPop, after, done_by}
 use Rattle.mq_spec_node.specs.Senders.{sender_deed, timeout_deed}
 use Rattle.mq_spec_network.specs.Cables.{is_popped, lying}
 use Rattle.mq_spec_network.specs.Steps.{TakesTurn, turn_in}
 use Rattle.mq_spec_network.specs.Tasks.{Slot}
-use Rattle.mq_spec_network.specs.Turns.{Network, does, node_at, node_of}
+use Rattle.mq_spec_network.specs.Turns.{Network, does, node_at}
 use Rattle.mq_law_channel.proofs.Told.{and_both}
 use Rattle.mq_law_idle.specs.Lanes.{Lane}
 use Rattle.mq_law_idle.specs.Roads.{Road, waiting}
@@ -38,7 +37,7 @@ use Rattle.mq_law_pump.specs.Apart.{EachEndStays, EachIsSilent}
 use Rattle.mq_law_pump.specs.Away.{AllAway, IsAsBegun, RunsOn}
 use Rattle.mq_law_pump.specs.Deeds.{EachWantsNone, HasReceiver, HasSender}
 use Rattle.mq_law_pump.specs.Entries.{Ran, RanDeed}
-use Rattle.mq_law_pump.specs.Fit.{FitsSender, Good, IsFit}
+use Rattle.mq_law_pump.specs.Fit.{Good, IsFit}
 use Rattle.mq_law_pump.specs.Leaves.{EachDefinesNone}
 use Rattle.mq_law_pump.specs.Others.{EachAddsNone}
 use Rattle.mq_law_pump.specs.Sees.{BesideFar, BesideNear, FarNeeds, NearNeeds, Sees}

@@ -1,5 +1,5 @@
 -- No turn of an end, no timeout and no trigger turn defines anything.
-use Rattle.std.proofs.Common.{ℕ, ◌≡◌, Bool, true, false, List, [], ◌∷◌, ◌++◌, refl, ap, sym, ◌∙◌}
+use Rattle.std.proofs.Common.{ℕ, ◌≡◌, Bool, true, false, List, [], ◌∷◌, ◌++◌, refl, ap, ◌∙◌}
 use Rattle.std.specs.Prelude.{if◌then◌else◌, Option, Some, None, Result, Ok, Err, ◌&&◌}
 use Rattle.mq_calls.specs.declared.agents.Note.TheVariants as notes
 use Rattle.mq_calls.specs.declared.agents.PrepareFault.{PrepareFault}

@@ -1,6 +1,6 @@
 -- A sender that runs on keeps its queue, and no row comes to it: by its own turns, and by what others do.
 use Rattle.std.proofs.Common.{ℕ, ◌≡◌, Bool, true, false, List, [], ◌∷◌, ◌++◌, refl, ap, sym, subst, ◌∙◌, append-nil}
-use Rattle.std.specs.Prelude.{if◌then◌else◌, Option, Some, None, ◌&&◌, filter, not}
+use Rattle.std.specs.Prelude.{if◌then◌else◌, Option, Some, None, ◌&&◌, not}
 use Rattle.std.specs.Str.{bytes_eq}
 use Rattle.mq_calls.specs.declared.agents.Note.TheVariants as notes
 use Rattle.mq_calls.specs.declared.agents.PrepareFault.{PrepareFault}
@@ -8,11 +8,9 @@ use Rattle.mq_calls.specs.declared.agents.PrepareFault.TheVariants as prepare_fa
 use Rattle.mq_calls.specs.declared.deltas.Did.TheVariants as did
 use Rattle.mq_calls.specs.declared.records.LogRecord.{LogRecord}
 use Rattle.mq_calls.specs.declared.state.Batch.{Batch}
-use Rattle.mq_calls.specs.declared.state.Seizure.{Seizure}
 use Rattle.mq_frame.specs.declared.frame.Frame.{Frame}
 use Rattle.mq_frame.specs.declared.frame.Seen.{Seen}
 use Rattle.mq_message.specs.declared.place.Holder.{Holder}
-use Rattle.mq_message.specs.declared.place.Holder.TheVariants as holders
 use Rattle.mq_objects.specs.Names.{local_of}
 use Rattle.mq_queue.specs.declared.row.Row.{Row}
 use Rattle.mq_queue.specs.Rows.{is_free, keep, retag}
@@ -32,23 +30,22 @@ use Rattle.mq_sync.specs.declared.unit.Settle.{Settle}
 use Rattle.mq_sync.specs.declared.unit.Settle.TheVariants as settles
 use Rattle.mq_calls.specs.Changes.{apply, apply_all, lane_of, release_if, retag_if, selects, try_if}
 use Rattle.mq_calls.specs.Condition.{condition}
-use Rattle.mq_calls.specs.Reads.{batch_of, is_full, seizure_of, sender_data, stored}
+use Rattle.mq_calls.specs.Reads.{batch_of, is_full, sender_data, stored}
 use Rattle.mq_calls.specs.Sizes.{need}
-use Rattle.mq_calls.specs.State.{Change, Plain, Which}
+use Rattle.mq_calls.specs.State.{Change, Plain}
 use Rattle.mq_calls.specs.State.Change.{DropQueue, ForgetAll, Hold, Leave, Place, Release, Renew, Seize, SetBound, Try, Unseize}
-use Rattle.mq_calls.specs.State.Which.{Among, HeldBy, HeldByUnits, Nonpersistent}
 use Rattle.mq_calls.specs.Steps.{Part, Step, do_all, logged, refused_or}
 use Rattle.mq_calls.specs.Steps.Step.{Do, Refuse}
 use Rattle.mq_spec_manager.specs.Agents.{expired_rows, harden, hold_batch, leave, names_of, prepare, prepare_of, prepared_changes, prepared_record, queue_of_sender, release_batch, seized_queue, stock}
 use Rattle.mq_spec_manager.specs.Get.{expired_parts}
-use Rattle.mq_spec_node.specs.Deeds.{Deed, parts_of}
-use Rattle.mq_spec_node.specs.Node.{ChannelEnd, Node, SenderEnd, end_in, with_end}
+use Rattle.mq_spec_node.specs.Deeds.{parts_of}
+use Rattle.mq_spec_node.specs.Node.{Node, SenderEnd, end_in, with_end}
 use Rattle.mq_spec_node.specs.Node.ChannelEnd.{Sends}
 use Rattle.mq_spec_node.specs.Senders.{after_timeout, leave_if_stopped, prepare_deed, sender_deed, sender_deed_by, sent, settle_parts_if, timeout_deed}
 use Rattle.mq_law_channel.proofs.Told.{and_both}
 use Rattle.mq_law_node.specs.Rows.{RowKind, row_kind, rows_at, rows_do}
 use Rattle.mq_law_node.proofs.Aside.{not_true}
-use Rattle.mq_law_node.proofs.Named.{bool_case, end_set, name_is}
+use Rattle.mq_law_node.proofs.Named.{bool_case, end_set}
 use Rattle.mq_law_node.proofs.RowLaws.{rows_applied}
 use Rattle.mq_law_pump.specs.Away.{IsAway, RowsAway}
 use Rattle.mq_law_pump.specs.Leaves.{EachLeavesOwn, all_leave, leaves, parts_leave}

@@ -22,7 +22,7 @@ use Rattle.mq_sender.specs.declared.state.Sender.{Sender}
 use Rattle.mq_sender.specs.declared.turns.SenderDoes.{SenderDoes}
 use Rattle.mq_sender.specs.declared.turns.SenderDoes.TheVariants as does_
 use Rattle.mq_sender.specs.Table.{is_ack, is_binding, is_err, is_status, is_waiting, sender_lines, sender_next, waits}
-use Rattle.mq_spec_manager.specs.Agents.{queue_of_sender, stock}
+use Rattle.mq_spec_manager.specs.Agents.{queue_of_sender}
 use Rattle.mq_calls.specs.State.{Plain}
 use Rattle.mq_calls.specs.State.Running.{Up}
 use Rattle.mq_spec_node.specs.Deeds.{Deed}
@@ -39,7 +39,7 @@ use Rattle.mq_spec_network.specs.Tasks.{Slot}
 use Rattle.mq_spec_network.specs.Turns.{Network, back_of, deed_at, does, node_at, node_of, out_of, waiting as first_lying}
 use Rattle.mq_law_channel.proofs.Told.{and_both, by_lines}
 use Rattle.mq_law_idle.specs.Counts.{free_in, held_in}
-use Rattle.mq_law_idle.specs.Lanes.{Lane, lane}
+use Rattle.mq_law_idle.specs.Lanes.{Lane}
 use Rattle.mq_law_idle.specs.Roads.{Road, laid, receiver_does, receiver_turn, sender_does, sender_timed_out, sender_turn, taken_by, taken_from, waiting}
 use Rattle.mq_law_idle.proofs.Less.{completes_waits, continues_waits, new_waits, repeats_waits, spoiled_waits, waits_same}
 use Rattle.mq_law_manager.proofs.Lists.{eqb_yes}
@@ -227,7 +227,7 @@ sends_at w k c near far e r l x g h actor call popped =
     let wants : d.wanting ≡ None = subst EachWantsNone is (senders_want x.stamp e (waiting l.road.back) n) in
     let did : Ran x n d = ran.ran wants in
     let fit : IsFit n = fit_now w m near g0 h.near_is in
-    let fits : FitsSender e.cable e n = subst (λ (i : ℕ). FitsSender i e n) (sym h.cables.0) (fit.senders k e here) in
+    let fits : FitsSender e n = fit.senders k e here in
     let t : TurnsLane e n d l.road = sender_turns e n l.road x.stamp d h.sends fits (fit.distinct (queue_of_sender e.channel n.manager)) is in
     let road : Road = sender_turn t.turn l.road in
     let next : after near (v.done m) ≡ (done_by x n).next = next_node w m x near in

@@ -1,5 +1,5 @@
 -- What a sender offers is of its rows, and what a receiver keeps came to it: so they go where those went.
-use Rattle.std.proofs.Common.{ℕ, zero, suc, ◌≡◌, ◌⊎◌, Bool, true, false, List, [], ◌∷◌, ◌++◌, refl, ap, sym, subst, ◌∙◌, inl, inr}
+use Rattle.std.proofs.Common.{ℕ, zero, suc, ◌≡◌, Bool, true, List, [], ◌∷◌, ◌++◌, refl, ap, sym, subst, ◌∙◌}
 use Rattle.std.specs.Prelude.{if◌then◌else◌, Option, Some, None, ◌==◌, find, take}
 use Rattle.std.specs.Option.{option_map}
 use Rattle.mq_calls.specs.declared.agents.PrepareFault.{PrepareFault}
@@ -15,7 +15,7 @@ use Rattle.mq_message.specs.declared.message.Dest.{Dest}
 use Rattle.mq_message.specs.declared.message.Ident.{Ident}
 use Rattle.mq_message.specs.declared.message.Message.{Message}
 use Rattle.mq_queue.specs.declared.row.Row.{Row}
-use Rattle.mq_receiver.specs.After.{bound_by, last_by, receiver_after}
+use Rattle.mq_receiver.specs.After.{last_by, receiver_after}
 use Rattle.mq_receiver.specs.Table.{receiver_next}
 use Rattle.mq_receiver.specs.declared.state.Receiver.{Receiver}
 use Rattle.mq_receiver.specs.declared.turns.ReceiverDoes.{ReceiverDoes}
@@ -35,8 +35,8 @@ use Rattle.mq_calls.specs.Steps.{Part, Step, do_all}
 use Rattle.mq_calls.specs.Steps.Step.{Do, Refuse}
 use Rattle.mq_spec_manager.specs.Agents.{at_number, batch_idents, batch_queue, batch_row, hold_batch, names_of, prepare, queue_of_sender, receive, row_with, stock}
 use Rattle.mq_spec_manager.specs.Get.{idents_of}
-use Rattle.mq_spec_node.specs.Deeds.{Deed, parts_of}
-use Rattle.mq_spec_node.specs.Node.{ChannelEnd, Node, ReceiverEnd, SenderEnd, end_in, with_end}
+use Rattle.mq_spec_node.specs.Deeds.{parts_of}
+use Rattle.mq_spec_node.specs.Node.{Node, ReceiverEnd, SenderEnd, end_in, with_end}
 use Rattle.mq_spec_node.specs.Node.ChannelEnd.{Receives}
 use Rattle.mq_spec_node.specs.Receivers.{is_receiver_defined, kept_kind, kept_seen, place_deed, receiver_deed, receiver_deed_by}
 use Rattle.mq_spec_node.specs.Senders.{carried, prepare_deed, sender_deed, sender_deed_by}

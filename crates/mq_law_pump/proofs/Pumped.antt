@@ -1,5 +1,5 @@
 -- So the loop of a PUMP that takes at least so many turns ends idle, or a manager made its last event.
-use Rattle.std.proofs.Common.{ℕ, ◌≡◌, ◌≤◌, Bool, true, false, List, [], ◌∷◌, subst, ◌∙◌}
+use Rattle.std.proofs.Common.{ℕ, ◌≡◌, ◌≤◌, true, false, List, [], ◌∷◌, subst, ◌∙◌}
 use Rattle.std.specs.Prelude.{IfOk, Option, None, Result, Ok, Err}
 use Rattle.mq_base.specs.declared.want.NoMemory.{NoMemory}
 use Rattle.mq_nodes.specs.Course.{Course}

@@ -1,12 +1,10 @@
 -- A turn of a cable's end moves its lane, and the lane shows the cable still.
-use Rattle.std.proofs.Common.{ℕ, ◌≡◌, ◌≤◌, ◌⊎◌, Bool, true, false, List, [], ◌∷◌, refl, ap, sym, subst, ◌∙◌, inl, inr}
+use Rattle.std.proofs.Common.{ℕ, ◌≡◌, ◌⊎◌, true, List, [], ◌∷◌, refl, ap, sym, subst, ◌∙◌, inl, inr}
 use Rattle.std.specs.Prelude.{Some, slice_get}
-use Rattle.mq_frame.specs.declared.frame.Seen.{Seen}
 use Rattle.mq_frame.specs.declared.frame.Seen.TheVariants as items
 use Rattle.mq_history.specs.declared.calls.Entry.{Entry}
 use Rattle.mq_history.specs.declared.scenario.CableLine.{CableLine}
 use Rattle.mq_message.specs.declared.message.Message.{Message}
-use Rattle.mq_queue.specs.declared.row.Row.{Row}
 use Rattle.mq_receiver.specs.States.{is_stopped}
 use Rattle.mq_receiver.specs.declared.state.Receiver.{Receiver}
 use Rattle.mq_sender.specs.States.{awaits, is_running}
@@ -19,7 +17,6 @@ use Rattle.mq_calls.specs.Steps.{do_all}
 use Rattle.mq_spec_manager.specs.Agents.{queue_of_sender}
 use Rattle.mq_spec_node.specs.Deeds.{Deed}
 use Rattle.mq_spec_node.specs.Node.{Node, ReceiverEnd, SenderEnd, end_in}
-use Rattle.mq_spec_node.specs.Node.ChannelEnd.{Receives, Sends}
 use Rattle.mq_spec_node.specs.Receivers.{is_receiver_defined}
 use Rattle.mq_spec_node.specs.Replays.{after}
 use Rattle.mq_spec_network.specs.Steps.{TakesTurn, turn_in}
@@ -32,7 +29,7 @@ use Rattle.mq_law_pump.specs.Away.{AllAway, EachKeepsAway, EachPushesAway, Frame
 use Rattle.mq_law_pump.specs.Fit.{FitsSender, Good, IsFit}
 use Rattle.mq_law_pump.specs.Leaves.{EachDefinesNone, EachLeavesOwn, parts_define_none, parts_leave}
 use Rattle.mq_law_pump.specs.Rows.{rows_of}
-use Rattle.mq_law_pump.specs.Sees.{FarNeeds, IsServed, LaneNeeds, NearNeeds, Sees, Wants}
+use Rattle.mq_law_pump.specs.Sees.{FarNeeds, IsServed, NearNeeds, Sees, Wants}
 use Rattle.mq_law_pump.specs.Shown.{ReceiverMoves, SenderMoves, SenderTimesOut}
 use Rattle.mq_law_pump.specs.Steady.{Moved, TimeoutFits}
 use Rattle.mq_law_pump.proofs.Below.{sends_below, takes_below, timed_below}
@@ -85,7 +82,7 @@ own_sends w0 w k c m x l g h t =
     let is : n1.manager ≡ do_all s.deed.parts n.manager = ap (λ (z : Node). z.manager) s.next ∙ s.did.manager in
     let before : is_running machine.state ≡ true → is_running h.sender.machine.state ≡ true = λ on. ap (λ (y : Sender). is_running y.state) (sym h.shows.sends.machine) ∙ runs_before s.turn l.road on in
     let fit : IsFit n = fit_now w c.sender h.near (earlier w m x (inl t.is.2) g) h.shows.near_is in
-    let fits : FitsSender k h.sender n = fit.senders k h.sender (ap (λ (i : ℕ). end_in i n.own.ends) (sym h.shows.cables.0) ∙ h.shows.sends.here) in
+    let fits : FitsSender h.sender n = fit.senders k h.sender (ap (λ (i : ℕ). end_in i n.own.ends) (sym h.shows.cables.0) ∙ h.shows.sends.here) in
     let pushes : FrameAway h.far0 s.deed.pushed = subst (EachPushesAway h.far0) s.is (senders_push_away h.far0 x.stamp h.sender (waiting l.road.back) n h.near_needs.rows (λ on. fits.queue)) in
     record {
       lane = lane l.fresh (sender_turn s.turn l.road);

@@ -76,7 +76,7 @@ pub fn a_pump_brings_no_manager_up()
 
 /// Each turn of a sender's end, and each timeout, is one of its lane: it counts, and where the sender runs on, the rows of its queue are within the lane's.
 pub fn turns_of_senders_are_turns_of_lanes()
-    ensures turns { (e : SenderEnd) (n : Node) (w : Road) (stamp : ℕ) (d : Deed) → HasSender e n w → FitsSender e.cable e n → AreDistinct (rows_of e.channel n.manager) → sender_deed stamp e (waiting w.back) n ≡ Some d → TurnsLane e n d w }
+    ensures turns { (e : SenderEnd) (n : Node) (w : Road) (stamp : ℕ) (d : Deed) → HasSender e n w → FitsSender e n → AreDistinct (rows_of e.channel n.manager) → sender_deed stamp e (waiting w.back) n ≡ Some d → TurnsLane e n d w }
     ensures timeouts { (e : SenderEnd) (n : Node) (w : Road) (d : Deed) → HasSender e n w → timeout_deed e n ≡ Some d → TimesOutLane e n d w }
 {}
 
