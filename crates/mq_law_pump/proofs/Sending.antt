@@ -43,14 +43,13 @@ use Rattle.mq_calls.specs.Steps.Step.{Do, Refuse}
 use Rattle.mq_spec_manager.specs.Get.{expired_parts, idents_of, persistent_rows, removal_record}
 use Rattle.mq_spec_manager.specs.Heads.{own_md}
 use Rattle.mq_spec_manager.specs.Agents.{batch_row, expire, expired_rows, harden, hold_batch, leave, names_of, prepare, prepare_of, prepared_changes, prepared_record, queue_of_sender, release_batch, stock}
-use Rattle.mq_spec_node.specs.Node.{ChannelEnd, Node, SenderEnd, end_in}
-use Rattle.mq_spec_node.specs.Node.ChannelEnd.{Receives, Sends}
+use Rattle.mq_spec_node.specs.Node.{Node, SenderEnd, end_in}
+use Rattle.mq_spec_node.specs.Node.ChannelEnd.{Sends}
 use Rattle.mq_spec_node.specs.Deeds.{Deed, parts_of, turned}
 use Rattle.mq_spec_node.specs.Senders.{begin_deed, carried, doubted, leave_if_stopped, prepare_deed, sender_deed, sender_deed_by, sender_end_after, sent, settle_parts, settle_parts_if}
 use Rattle.mq_law_idle.specs.Counts.{free_in, held_in}
 use Rattle.mq_law_idle.specs.Roads.{Road, RowsMove, SenderTurn, laid, sender_does, taken_from, waiting}
 use Rattle.mq_law_idle.proofs.Tests.{lt_yes}
-use Rattle.mq_law_channel.specs.Facts.{Letter}
 use Rattle.mq_law_channel.proofs.Told.{and_both, by_lines}
 use Rattle.mq_law_node.specs.Ends.{Where, letter_of, letters_of}
 use Rattle.mq_law_node.proofs.Named.{end_set}
