@@ -24,3 +24,4 @@ pub mod Besides
 pub mod Beginning
 pub mod AtRest
 pub mod Pumped
+pub mod Fitting

@@ -12,3 +12,4 @@ pub mod Leaves
 pub mod Sees
 pub mod Apart
 pub mod Restful
+pub mod Kept

@@ -48,7 +48,8 @@ ghost use Rattle.mq_law_pump.specs.Away.{AllAway, EachKeepsAway, EachPushesAway,
 ghost use Rattle.mq_law_pump.specs.Below.{IsBelow};
 ghost use Rattle.mq_law_pump.specs.Deeds.{EachWantsNone, HasReceiver, HasSender, IsStillEnd, TakesLane, TimesOutLane, TurnsLane};
 ghost use Rattle.mq_law_pump.specs.Entries.{RanDeed};
-ghost use Rattle.mq_law_pump.specs.Fit.{FitsSender, Good};
+ghost use Rattle.mq_law_pump.specs.Fit.{FitsSender, Good, IsFit};
+ghost use Rattle.mq_law_pump.specs.Kept.{IsKeptNode};
 ghost use Rattle.mq_law_pump.specs.Leaves.{EachDefinesNone, EachLeavesOwn, parts_define_none, parts_leave};
 ghost use Rattle.mq_law_pump.specs.Others.{AllGoElsewhere, EachAddsNone, NoMore, parts_add_none};
 ghost use Rattle.mq_law_pump.specs.Restful.{Restful, most};
@@ -229,4 +230,10 @@ pub fn a_pump_comes_to_rest()
 pub fn a_pump_that_ends_is_idle()
     ensures { (result : Result Pumped NoMemory) (turns : ℕ) (c d : Course) → IsPart (Pump turns Sends 0 false ∷ []) (pumped_then result) c d → IfOk result (λ (p : Pumped). p.idle ≡ is_idle d.net)
         → Good d.net → Restful c.net → most c.net ≤ turns → IfOk result (λ (p : Pumped). p.spent ≡ None → p.idle ≡ true) }
+{}
+
+/// A node fits where it has the facts that each history keeps: its ends are told apart, its senders have their queues open and alone, its rows and batches are
+/// sound, and a batch is of its sender's queue and lists the rows that its sender counts.
+pub fn nodes_with_their_facts_fit()
+    ensures { (n : Node) → IsKeptNode n → IsFit n }
 {}
