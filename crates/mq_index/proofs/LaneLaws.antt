@@ -1,6 +1,6 @@
 -- What comes in, what stays and what is found, lane by lane, is what the queue's definition says.
-use Rattle.std.proofs.Common.{◌≡◌, ℕ, zero, suc, ◌+◌, ◌<◌, ◌≤◌, nat_le, Bool, true, false, ◌&&◌, List, [], ◌∷◌, ◌++◌, refl, sym, ap, subst, ◌∙◌, arith}
-use Rattle.std.specs.Prelude.{◌==◌, if◌then◌else◌, Option, None, Some, find}
+use Rattle.std.proofs.Common.{◌≡◌, ℕ, zero, suc, ◌+◌, ◌<◌, ◌≤◌, nat_le, Bool, true, false, List, [], ◌∷◌, ◌++◌, refl, sym, ap, subst, ◌∙◌, arith}
+use Rattle.std.specs.Prelude.{◌==◌, if◌then◌else◌, Option, Some, find}
 use Rattle.std.specs.List.{AllByRecursion}
 use Rattle.std.proofs.lemmas.Bool.Decides.{nat_tests}
 use Rattle.mq_queue.specs.declared.row.Row.{Row}
@@ -127,7 +127,7 @@ lanes_insert zero lane row rows low high = absurd (no lane row.place.lane low hi
   where
     no : (a b : ℕ) → a ≤ b → b < a + 0 → ⊥
     no a b p q = omega (arith, p, q)
-lanes_insert (suc left) lane row rows low high = by (row.place.lane == lane) refl
+lanes_insert (suc left) lane row rows low high = by (row.place.lane == lane) refl (λ less far. lanes_insert left (suc lane) row rows less far)
   where
     are_same : (a b : ℕ) → (a == b) ≡ true → a ≡ b
     are_same a b e = grind (arith, nat_tests)
@@ -141,17 +141,18 @@ lanes_insert (suc left) lane row rows low high = by (row.place.lane == lane) ref
     passes : insert_row row (lanes_from (suc left) lane rows) ≡ keep (in_lane lane) rows ++ insert_row row (lanes_from left (suc lane) rows)
     passes = low_ones row (keep (in_lane lane) rows) (lanes_from left (suc lane) rows) (lane_all (λ (n : ℕ). nat_le n row.place.lane ≡ true) lane rows (at_most lane row.place.lane low))
 
-    by : (b : Bool) → (row.place.lane == lane) ≡ b → lanes_from (suc left) lane (rows ++ row ∷ []) ≡ insert_row row (lanes_from (suc left) lane rows)
-    by true e =
+    by : (b : Bool) → (row.place.lane == lane) ≡ b → (suc lane ≤ row.place.lane → row.place.lane < suc lane + left → lanes_from left (suc lane) (rows ++ row ∷ []) ≡ insert_row row (lanes_from left (suc lane) rows))
+        → lanes_from (suc left) lane (rows ++ row ∷ []) ≡ insert_row row (lanes_from (suc left) lane rows)
+    by true e later =
         let same : row.place.lane ≡ lane = are_same row.place.lane lane e in
         ap (λ (zs : List Row). zs ++ lanes_from left (suc lane) (rows ++ row ∷ [])) (lane_own lane row rows e)
         ∙ ap (λ (zs : List Row). (keep (in_lane lane) rows ++ row ∷ []) ++ zs) (lanes_past left (suc lane) row rows (omega (arith, same)))
         ∙ append_assoc (keep (in_lane lane) rows) (row ∷ []) (lanes_from left (suc lane) rows)
         ∙ ap (λ (zs : List Row). keep (in_lane lane) rows ++ zs) (sym (before_high row (lanes_from left (suc lane) rows) (past_all row.place.lane left (suc lane) rows (omega (arith, same)))))
         ∙ sym passes
-    by false e =
+    by false e later =
         ap (λ (zs : List Row). zs ++ lanes_from left (suc lane) (rows ++ row ∷ [])) (lane_other lane row rows e)
-        ∙ ap (λ (zs : List Row). keep (in_lane lane) rows ++ zs) (lanes_insert left (suc lane) row rows (less lane row.place.lane low e) (omega (arith, high)))
+        ∙ ap (λ (zs : List Row). keep (in_lane lane) rows ++ zs) (later (less lane row.place.lane low e) (omega (arith, high)))
         ∙ sym passes
 
 pub order_insert : (row : Row) (rows : List Row) → row.place.lane < 10 → in_order (rows ++ row ∷ []) ≡ insert_row row (in_order rows)

@@ -23,10 +23,10 @@ next_too a b keys at (Some n) e h = (h.0, stands_too a b n keys e h.1, none_too 
 clash : {P : Type 0} (b : Bool) → b ≡ true → b ≡ false → P
 clash b e f = absurd cc
 
-not_there : {P : Type 0} (key : Key) (at from to : ℕ) (keys : List Key) → StandsAt key at keys → NoneIn key from to keys → from ≤ at → at < to → P
+pub not_there : {P : Type 0} (key : Key) (at from to : ℕ) (keys : List Key) → StandsAt key at keys → NoneIn key from to keys → from ≤ at → at < to → P
 not_there key at from to keys s h le lt = clash (same_key key s.0) s.2 (h at s.0 le lt s.1)
 
-stands_within : (key : Key) (at : ℕ) (keys : List Key) → StandsAt key at keys → at < length keys
+pub stands_within : (key : Key) (at : ℕ) (keys : List Key) → StandsAt key at keys → at < length keys
 stands_within key at keys s = within keys s.0 at s.1
 
 moved : (key : Key) (a b : ℕ) (keys : List Key) → a ≡ b → StandsAt key b keys → StandsAt key a keys

@@ -1,5 +1,5 @@
 -- Rows that are kept in order of arrival, as a queue has them: lane by lane.
-use Rattle.std.specs.Prelude.{ℕ, suc, zero, ◌==◌, Bool, List, [], ◌++◌, if◌then◌else◌, Option, None, Some, find}
+use Rattle.std.specs.Prelude.{ℕ, suc, zero, ◌==◌, Bool, List, [], ◌++◌, Option, None, Some, find}
 use Rattle.mq_queue.specs.declared.row.Row.{Row}
 use Rattle.mq_queue.specs.Rows.{keep}
 

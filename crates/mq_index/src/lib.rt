@@ -4,6 +4,7 @@
 mod keys;
 mod laws;
 mod trail;
+mod walk;
 
 pub use keys::Key;
 pub use laws::{
@@ -11,3 +12,4 @@ pub use laws::{
     a_row_is_found_lane_by_lane, changed_rows_stay_in_their_lanes, rows_stay_in_their_lanes,
 };
 pub use trail::Trail;
+pub use walk::first_taken;

@@ -2,7 +2,7 @@
 ghost use Rattle.std.specs.Prelude.{◌≡◌, ◌<◌, ◌≤◌, ◌+◌, ◌-◌, ◌++◌, ◌∷◌, [], ℕ, IsSome, IfSome, OnErr, OnOk, None, Some, false, if◌then◌else◌, length, vec_len, vec_capacity};
 ghost use Rattle.mq_index.specs.declared.keys.Key as keys;
 ghost use Rattle.mq_index.specs.Keys.{same_key};
-ghost use Rattle.mq_index.specs.Trails.{Follows, NextIs, ends_behind, linked, start_of, start_or};
+ghost use Rattle.mq_index.specs.Trails.{Follows, NextIs, StandsAt, ends_behind, linked, start_of, start_or};
 
 use crate::keys::{Ends, Key, drop_ends, ends_of, move_first, note_ends, reserve_ends};
 use mq_base::NoMemory;
@@ -119,7 +119,8 @@ impl Trail {
 
     /// Where a key stands first; none where it isn't followed.
     pub fn first(&self, key: &Key) -> Option<usize>
-        ensures { result ≡ start_of self.now key.now }
+        ensures first { result ≡ start_of self.now key.now }
+        ensures stands { IfSome result (λ at. StandsAt key.now at self.now.keys) }
     {
         match ends_of(&self.ends, key) {
             None => None,
