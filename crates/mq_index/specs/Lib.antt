@@ -1,0 +1,4 @@
+pub mod Keys
+pub mod Lanes
+pub mod Trails
+pub mod Walks
