@@ -237,35 +237,46 @@ fn scenario(
     Ok(text)
 }
 
-/// So many empty disks.
-fn empty_disks(alloc: Global, image: Image, count: u32) -> Result<Vec<MemDisk>, AllocError> {
-    let mut disks = Vec::new(alloc);
-    for _ in 0..count {
-        if let Ok(disk) = MemDisk::new(alloc, b"", 65_536, image, Vec::new(alloc)) {
-            disks.push(disk)?;
-        }
-    }
-    Ok(disks)
+/// A disk with this log on a shelf, under a manager's name.
+fn put_disk(
+    alloc: Global,
+    shelf: &mut MemShelf<MemDisk>,
+    manager: &[u8],
+    image: Image,
+    log: &[u8],
+) {
+    let Ok(name) = QName::of(manager) else {
+        return;
+    };
+    let Ok(disk) = MemDisk::new(alloc, log, 65_536, image, Vec::new(alloc)) else {
+        return;
+    };
+    let _put = shelf.put(name, Side::A, disk);
 }
 
-/// The disks of LONDON and PARIS on a shelf.
-fn shelf_of(alloc: Global, disks: Vec<MemDisk>) -> MemShelf<MemDisk> {
-    let mut shelf = MemShelf::new(alloc, Vec::new(alloc));
-    let mut left = disks;
-    for name in [b"PARIS".as_slice(), b"LONDON".as_slice()] {
-        if let (Ok(name), Some(disk)) = (QName::of(name), left.pop()) {
-            let _put = shelf.put(name, Side::A, disk);
-        }
+/// The log on the disk at a place.
+fn log_at(disks: &[MemDisk], place: usize) -> &[u8] {
+    match disks.get(place) {
+        Some(disk) => disk.bytes(),
+        None => b"".as_slice(),
     }
-    shelf
 }
 
-fn run_over(alloc: Global, text: String, disks: Vec<MemDisk>) -> Result<Ran, Fail> {
+/// Runs a scenario over these logs of LONDON and PARIS.
+fn run_over(
+    alloc: Global,
+    text: String,
+    image: Image,
+    london: &[u8],
+    paris: &[u8],
+) -> Result<Ran, Fail> {
     let mut words = Vec::new(alloc);
     words.push(String::from_str(alloc, "run")?)?;
     let mut source = MemSource::new(text.into_bytes(), Vec::new(alloc));
     let mut sink = MemSink::new(alloc, 4096, Vec::new(alloc))?;
-    let mut shelf = shelf_of(alloc, disks);
+    let mut shelf = MemShelf::new(alloc, Vec::new(alloc));
+    put_disk(alloc, &mut shelf, b"LONDON", image, london);
+    put_disk(alloc, &mut shelf, b"PARIS", image, paris);
     let ended = mqnet(alloc, &words, &mut source, &mut sink, &mut shelf, 0);
     let Ended {
         status,
@@ -287,7 +298,7 @@ fn run_over(alloc: Global, text: String, disks: Vec<MemDisk>) -> Result<Ran, Fai
 fn messages_take_the_worked_turns(rt: HostRuntime) -> Result<(), Fail> {
     for case in &CASES {
         let text = scenario(rt.alloc(), case.faults, case.puts, FIRST, case.steps)?;
-        let ran = run_over(rt.alloc(), text, empty_disks(rt.alloc(), Image::Kept, 2)?)?;
+        let ran = run_over(rt.alloc(), text, Image::Kept, b"", b"")?;
         assert!(rt; ran.report.as_str().contains(case.did));
         assert!(rt; ran.report.as_str().ends_with(case.ends));
     }
@@ -301,7 +312,7 @@ fn a_commit_that_is_cut_is_kept_from_its_last_device_call_on(rt: HostRuntime) ->
         steps.push_str(cut.call)?;
         steps.push_str("\nPUMP 1\nRESTART PARIS\nPUMP 100\n")?;
         let text = scenario(rt.alloc(), "", 1, FIRST, steps.as_str())?;
-        let ran = run_over(rt.alloc(), text, empty_disks(rt.alloc(), cut.image, 2)?)?;
+        let ran = run_over(rt.alloc(), text, cut.image, b"", b"")?;
         assert!(rt;
             ran.report.as_str().contains(
                 "0004 PUMP 9 TURNS 9 LIMIT\n0005 CUT PARIS OK\n0006 PUMP 1 TURNS 1 LIMIT\n0007 RESTART PARIS OK\n"
@@ -336,7 +347,7 @@ const RESOLVED: [(&str, u8, &str); 2] = [
 fn a_resolve_that_is_not_borne_out_ends_with_8(rt: HostRuntime) -> Result<(), Fail> {
     for (steps, status, piece) in &RESOLVED {
         let text = scenario(rt.alloc(), " BACK DROP(2)", 1, FIRST, steps)?;
-        let ran = run_over(rt.alloc(), text, empty_disks(rt.alloc(), Image::Kept, 2)?)?;
+        let ran = run_over(rt.alloc(), text, Image::Kept, b"", b"")?;
         assert_eq!(rt; ran.status.number(), *status);
         assert!(rt; ran.report.as_str().contains(piece));
     }
@@ -346,10 +357,17 @@ fn a_resolve_that_is_not_borne_out_ends_with_8(rt: HostRuntime) -> Result<(), Fa
 #[test]
 fn channels_go_on_in_the_next_run(rt: HostRuntime) -> Result<(), Fail> {
     let text = scenario(rt.alloc(), "", 1, FIRST, "PUMP 100\n")?;
-    let first = run_over(rt.alloc(), text, empty_disks(rt.alloc(), Image::Kept, 2)?)?;
+    let first = run_over(rt.alloc(), text, Image::Kept, b"", b"")?;
     let steps = "DO LONDON START CHANNEL(LON.PAR)\nRUN A\nPUMP 100\n";
     let text = scenario(rt.alloc(), "", 1, steps, "")?;
-    let second = run_over(rt.alloc(), text, first.disks)?;
+    let logs = first.disks.as_slice();
+    let second = run_over(
+        rt.alloc(),
+        text,
+        Image::Kept,
+        log_at(logs, 0),
+        log_at(logs, 1),
+    )?;
     assert!(rt;
         second
             .report
@@ -363,14 +381,10 @@ fn channels_go_on_in_the_next_run(rt: HostRuntime) -> Result<(), Fail> {
 #[test]
 fn logs_that_do_not_belong_together_are_refused(rt: HostRuntime) -> Result<(), Fail> {
     let text = scenario(rt.alloc(), " BACK DROP(2)", 1, FIRST, "PUMP 100\n")?;
-    let first = run_over(rt.alloc(), text, empty_disks(rt.alloc(), Image::Kept, 2)?)?;
-    let mut kept = first.disks;
-    let mut disks = empty_disks(rt.alloc(), Image::Kept, 1)?;
-    if let Some(disk) = kept.pop() {
-        disks.push(disk)?;
-    }
+    let first = run_over(rt.alloc(), text, Image::Kept, b"", b"")?;
     let text = scenario(rt.alloc(), "", 1, "RUN A\n", "")?;
-    let second = run_over(rt.alloc(), text, disks)?;
+    let paris = log_at(first.disks.as_slice(), 1);
+    let second = run_over(rt.alloc(), text, Image::Kept, b"", paris)?;
     assert!(rt; matches!(second.status, Status::Apart(Apart::Session(0, 0, 2))));
     assert!(rt; second.report.as_str() == "");
     Ok(())
