@@ -16,11 +16,10 @@ use Rattle.mq_spec_node.specs.Happens.{deed_of}
 use Rattle.mq_law_manager.specs.Facts.{IsSound}
 use Rattle.mq_law_manager.specs.Kept.{AllKeep, StepKeeps}
 use Rattle.mq_law_node.specs.Quiet.{IsOrdinary}
-use Rattle.mq_law_seized.specs.Seized.{AreSeized, step_plain}
+use Rattle.mq_law_seized.specs.Seized.{AreSeized, step_bare}
+use Rattle.mq_law_seized.proofs.Bare.{bare_leaves, discard_bare, move_bare, mqback_bare, mqclose_bare, mqcmit_bare, mqconn_bare, mqdisc_bare, mqput1_bare, mqput_bare, trigger_bare}
 use Rattle.mq_law_seized.proofs.Calling.{gets, opens}
-use Rattle.mq_law_seized.proofs.Changing.{step_leaves}
 use Rattle.mq_law_seized.proofs.Commanding.{obeys}
-use Rattle.mq_law_seized.proofs.Plain.{discard_plain, move_plain, mqback_plain, mqclose_plain, mqcmit_plain, mqconn_plain, mqdisc_plain, mqput1_plain, mqput_plain, trigger_plain}
 use Rattle.mq_law_unshared.specs.Ordinary.{CallsHave}
 use Rattle.mq_law_unshared.specs.Unshared.{EachLeaves}
 use Rattle.mq_law_unshared.proofs.Ordinary.{ordinary_has}
@@ -33,25 +32,25 @@ parts_keep holds (Do reply parts) p k = k
 kept : {F T : Type 0} (s : Step F T) (p : Plain) → StepKeeps AreSeized s p → AllKeep AreSeized (parts_of s) p
 kept s p k = parts_keep AreSeized s p k
 
-plainly : {F T : Type 0} (s : Step F T) (p : Plain) → step_plain s ≡ true → AreSeized p → AllKeep AreSeized (parts_of s) p
-plainly s p e h = kept s p (step_leaves s p e h)
+barely : {F T : Type 0} (s : Step F T) (p : Plain) → step_bare s ≡ true → AreSeized p → AllKeep AreSeized (parts_of s) p
+barely s p e h = kept s p (bare_leaves s p e h)
 
 seized_calls : (p : Plain) → IsSound p → AreSeized p → CallsHave (λ parts. AllKeep AreSeized parts p) p
 seized_calls p sound h = record {
   none = tt;
-  connects = λ qmgr appl. plainly (mqconn qmgr appl p) p (mqconn_plain qmgr appl p) h;
+  connects = λ qmgr appl. barely (mqconn qmgr appl p) p (mqconn_bare qmgr appl p) h;
   opens = λ hc name qmgr how. kept (mqopen hc name qmgr how p) p (opens hc name qmgr how p h);
-  closes = λ hc ho. plainly (mqclose hc ho p) p (mqclose_plain hc ho p) h;
-  puts = λ hc ho md body sync. plainly (mqput hc ho md body sync p) p (mqput_plain hc ho md body sync p) h;
-  puts_once = λ hc name qmgr md body sync. plainly (mqput1 hc name qmgr md body sync p) p (mqput1_plain hc name qmgr md body sync p) h;
+  closes = λ hc ho. barely (mqclose hc ho p) p (mqclose_bare hc ho p) h;
+  puts = λ hc ho md body sync. barely (mqput hc ho md body sync p) p (mqput_bare hc ho md body sync p) h;
+  puts_once = λ hc name qmgr md body sync. barely (mqput1 hc name qmgr md body sync p) p (mqput1_bare hc name qmgr md body sync p) h;
   gets = λ hc ho get until. kept (mqget hc ho get until p) p (gets hc ho get until p h);
-  commits = λ hc. plainly (mqcmit hc p) p (mqcmit_plain hc p) h;
-  backs_out = λ hc. plainly (mqback hc p) p (mqback_plain hc p) h;
-  disconnects = λ hc. plainly (mqdisc hc p) p (mqdisc_plain hc p) h;
+  commits = λ hc. barely (mqcmit hc p) p (mqcmit_bare hc p) h;
+  backs_out = λ hc. barely (mqback hc p) p (mqback_bare hc p) h;
+  disconnects = λ hc. barely (mqdisc hc p) p (mqdisc_bare hc p) h;
   obeys = λ c. kept (command c p) p (obeys c p sound h);
-  triggers = plainly (trigger_turn p) p (trigger_plain (is_up p.running) p) h;
-  moves = λ q handler x to bare readable found. plainly (move_row q x.message.ident to bare p) p (move_plain q to bare (row_with (Some x.message.ident) (stored q p).rows) p) h;
-  discards = λ q handler x readable found. plainly (discard q x.message.ident p) p (discard_plain q x.message.ident p) h;
+  triggers = barely (trigger_turn p) p (trigger_bare (is_up p.running) p) h;
+  moves = λ q handler x to bare readable found. barely (move_row q x.message.ident to bare p) p (move_bare q to bare (row_with (Some x.message.ident) (stored q p).rows) p) h;
+  discards = λ q handler x readable found. barely (discard q x.message.ident p) p (discard_bare q x.message.ident p) h;
 }
 
 pub ordinary_leaves : (stamp : ℕ) (actor : Actor) (call : Call) (seen : Seen) (n : Node) → IsOrdinary actor call → IsSound n.manager → AreSeized n.manager → EachLeaves n.manager (deed_of stamp actor call seen n)
