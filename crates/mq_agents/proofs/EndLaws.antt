@@ -2,7 +2,8 @@
 use Rattle.std.proofs.Common.{◌≡◌, ℕ, ◌+◌, ◌≤◌, Bool, true, false, List, [], ◌∷◌, refl, ap, arith, sym, subst, ◌∙◌}
 use Rattle.std.specs.Prelude.{Option, Some, None, Ok, map, not, ◌&&◌}
 use Rattle.std.proofs.lemmas.List.{append-nil}
-use Rattle.mq_calls.specs.Words.{Ident, Holder, Row, Did, Which, held_in, released_in, retag_if, release_if, retag, selects, is_free, same_ident, Plain, Channels, Running, Change, ManagerValue, Wants, MeetsDone, silent, apply_all}
+use Rattle.mq_calls.specs.Words.{Ident, Holder, Row, Which, held_in, released_in, retag_if, release_if, retag, selects, is_free, same_ident, Plain, Channels, Running, Change, ManagerValue, Wants, MeetsDone, silent, apply_all}
+use Rattle.mq_calls.specs.declared.deltas.Did.{Did}
 use Rattle.mq_calls.specs.State.{Queue as StateQueue}
 use Rattle.mq_place.specs.States.{on_queues}
 use Rattle.mq_core.specs.declared.parts.ChannelEnds.{ChannelEnds}

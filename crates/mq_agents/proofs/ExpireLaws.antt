@@ -8,7 +8,9 @@ use Rattle.mq_queue.specs.Queues.{AreInOrder}
 use Rattle.mq_calls.specs.declared.commands.Halt.TheVariants as halts
 use Rattle.mq_disk.specs.declared.cutter.Stop.TheVariants as stops
 use Rattle.mq_calls.specs.declared.deltas.Why.TheVariants as whys
-use Rattle.mq_calls.specs.Words.{Halt, Reason, Part, ManagerValue, Remove, MeetsOrWants, Do}
+use Rattle.mq_calls.specs.Words.{Reason, Part, ManagerValue, MeetsOrWants, Do}
+use Rattle.mq_calls.specs.declared.commands.Halt.{Halt}
+use Rattle.mq_calls.specs.declared.records.Remove.{Remove}
 use Rattle.mq_spec_manager.specs.Words.{Never}
 use Rattle.mq_scan.specs.declared.scanning.Met.{Met}
 use Rattle.mq_scan.specs.Scans.{met_of}

@@ -12,7 +12,8 @@ use Rattle.mq_record.specs.Records.{record_bytes, unit_front, remove_bytes, IsRe
 use Rattle.mq_record.proofs.SizeLaws.{remove_whole}
 use Rattle.mq_queue.proofs.Edits.{same_is}
 use Rattle.mq_calls.specs.State.{Queue as StateQueue}
-use Rattle.mq_calls.specs.Words.{Ident, Message, Remove, Row, Plain, Part, Among, Step, Do, has_ident, is_persistent, stored, queue_in, kept_in, selects, keep, apply}
+use Rattle.mq_calls.specs.Words.{Ident, Message, Row, Plain, Part, Among, Step, Do, has_ident, is_persistent, stored, queue_in, kept_in, selects, keep, apply}
+use Rattle.mq_calls.specs.declared.records.Remove.{Remove}
 use Rattle.mq_calls.specs.State.Change.{Leave}
 use Rattle.mq_spec_manager.specs.Words.{Never, removal_part, removal_record}
 use Rattle.mq_spec_manager.specs.Agents.{HasFreeRow, row_with, discard, discard_rows}

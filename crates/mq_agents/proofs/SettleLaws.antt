@@ -6,7 +6,8 @@ use Rattle.mq_message.specs.declared.place.Holder.TheVariants as holders
 use Rattle.mq_calls.specs.declared.agents.Note.TheVariants as notes
 use Rattle.mq_calls.specs.declared.records.LogRecord.TheVariants as records
 use Rattle.mq_calls.specs.State.{Queue as StateQueue}
-use Rattle.mq_calls.specs.Words.{Ident, Row, Remove, Luw, Plain, Part, Step, Do, SenderData, HeldBy, kept_in, selects, sender_or, sender_data, apply, apply_all}
+use Rattle.mq_calls.specs.Words.{Ident, Row, Luw, Plain, Part, Step, Do, SenderData, HeldBy, kept_in, selects, sender_or, sender_data, apply, apply_all}
+use Rattle.mq_calls.specs.declared.records.Remove.{Remove}
 use Rattle.mq_calls.specs.State.Change.{SetSender}
 use Rattle.mq_spec_manager.specs.Words.{Never}
 use Rattle.mq_spec_manager.specs.Agents.{harden, held_rows, settle_change}

@@ -9,7 +9,12 @@ use Rattle.mq_sync.specs.declared.data.End.TheVariants as sync_ends
 use Rattle.mq_log.specs.State.{LogState, Appended}
 use Rattle.mq_log.specs.Force.{Stops}
 use Rattle.mq_record.specs.Records.{record_bytes}
-use Rattle.mq_calls.specs.Words.{Plain, Part, Change, Did, Note, LogRecord, ManagerValue, Wants, MeetsDone, MeetsOrWants, Do, Halt, AgentStop, Noted, record_size, need, logged, apply, apply_all, freeze, note_of}
+use Rattle.mq_calls.specs.Words.{Plain, Part, Change, ManagerValue, Wants, MeetsDone, MeetsOrWants, Do, Noted, record_size, need, logged, apply, apply_all, freeze, note_of}
+use Rattle.mq_calls.specs.declared.deltas.Did.{Did}
+use Rattle.mq_calls.specs.declared.agents.Note.{Note}
+use Rattle.mq_calls.specs.declared.records.LogRecord.{LogRecord}
+use Rattle.mq_calls.specs.declared.commands.Halt.{Halt}
+use Rattle.mq_calls.specs.declared.agents.AgentStop.{AgentStop}
 use Rattle.mq_calls.specs.declared.agents.Note.TheVariants as notes
 use Rattle.mq_calls.specs.declared.agents.AgentStop.TheVariants as agent_stops
 use Rattle.mq_calls.specs.declared.commands.Halt.TheVariants as halts
@@ -34,7 +39,9 @@ use Rattle.mq_agents.specs.Written.{IsWhole, IsWritten, IsDowned, Writes, agent_
 use Rattle.mq_agents.specs.declared.hardening.Unwritten.{Unwritten}
 use Rattle.mq_agents.specs.declared.hardening.Unwritten.TheVariants as unwritten
 use Rattle.mq_agents.specs.Ends.{by_agent}
-use Rattle.mq_calls.specs.Words.{SenderSide, ReceiverSide, set_sender, set_receiver}
+use Rattle.mq_calls.specs.Words.{set_sender, set_receiver}
+use Rattle.mq_calls.specs.declared.state.SenderSide.{SenderSide}
+use Rattle.mq_calls.specs.declared.state.ReceiverSide.{ReceiverSide}
 use Rattle.mq_calls.specs.State.Change.{SetSender, SetReceiver}
 use Rattle.mq_agents.proofs.EndLaws.{with_ends, ends_view}
 

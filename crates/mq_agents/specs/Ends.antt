@@ -3,7 +3,13 @@ use Rattle.std.specs.Prelude.{◌≡◌, ℕ, Bool, true, false, ◌&&◌, List,
 use Rattle.mq_base.specs.declared.want.NoMemory.{NoMemory}
 use Rattle.mq_disk.specs.declared.cutter.Stop.{Stop}
 use Rattle.mq_disk.specs.declared.cutter.Stop.TheVariants as stops
-use Rattle.mq_calls.specs.Words.{Ident, Holder, Did, Reason, Halt, Message, Place, Row, SenderData, ReceiverData, ChannelData, AgentStop, SeizeFault, PrepareFault, PlaceFault, Plain, Refuse, Do, silent, is_free, is_past}
+use Rattle.mq_calls.specs.Words.{Ident, Holder, Reason, Message, Place, Row, SenderData, ReceiverData, ChannelData, Plain, Refuse, Do, silent, is_free, is_past}
+use Rattle.mq_calls.specs.declared.deltas.Did.{Did}
+use Rattle.mq_calls.specs.declared.commands.Halt.{Halt}
+use Rattle.mq_calls.specs.declared.agents.AgentStop.{AgentStop}
+use Rattle.mq_calls.specs.declared.agents.SeizeFault.{SeizeFault}
+use Rattle.mq_calls.specs.declared.agents.PrepareFault.{PrepareFault}
+use Rattle.mq_calls.specs.declared.agents.PlaceFault.{PlaceFault}
 use Rattle.mq_calls.specs.State.Change.{Seize}
 use Rattle.mq_calls.specs.declared.agents.AgentStop.TheVariants as agent_stops
 use Rattle.mq_calls.specs.declared.agents.SeizeFault.TheVariants as seize_faults

@@ -3,7 +3,9 @@ use Rattle.std.specs.Prelude.{ℕ, Bool, Option, Some, None}
 use Rattle.mq_disk.specs.declared.cutter.Stop.{Stop}
 use Rattle.mq_calls.specs.declared.commands.Halt.TheVariants as halts
 use Rattle.mq_calls.specs.declared.agents.AgentStop.TheVariants as agent_stops
-use Rattle.mq_calls.specs.Words.{AgentStop, Halt, Reason, Row, is_past}
+use Rattle.mq_calls.specs.Words.{Reason, Row, is_past}
+use Rattle.mq_calls.specs.declared.agents.AgentStop.{AgentStop}
+use Rattle.mq_calls.specs.declared.commands.Halt.{Halt}
 use Rattle.mq_agents.specs.Ends.{stopped_agent}
 
 -- its deadline has come

@@ -2,7 +2,8 @@
 use Rattle.std.specs.Prelude.{ℕ, List, false}
 use Rattle.mq_message.specs.declared.place.Holder.TheVariants as holders
 use Rattle.mq_calls.specs.declared.deltas.Did.TheVariants as did
-use Rattle.mq_calls.specs.Words.{Ident, Did, HeldBy, released_in}
+use Rattle.mq_calls.specs.Words.{Ident, HeldBy, released_in}
+use Rattle.mq_calls.specs.declared.deltas.Did.{Did}
 use Rattle.mq_place.specs.States.{on_queues}
 use Rattle.mq_core.specs.Views.{PartsValue}
 use Rattle.mq_core.specs.Placing.{with_states}

@@ -3,7 +3,10 @@ use Rattle.std.specs.Prelude.{◌≡◌, ℕ, ◌+◌, ◌≤◌, Bool, false, L
 use Rattle.std.specs.Str.{bytes_eq}
 use Rattle.mq_message.specs.declared.place.Holder.TheVariants as holders
 use Rattle.mq_core.specs.declared.parts.ChannelEnds.{ChannelEnds}
-use Rattle.mq_calls.specs.Words.{held_in, set_named, Plain, PrepareFault, Refuse, say, batch_of, is_full, Ident, InDoubt, Batch, LogRecord, need, record_size, Message, Among, kept_in, is_persistent}
+use Rattle.mq_calls.specs.Words.{held_in, set_named, Plain, Refuse, say, batch_of, is_full, Ident, InDoubt, need, record_size, Message, Among, kept_in, is_persistent}
+use Rattle.mq_calls.specs.declared.agents.PrepareFault.{PrepareFault}
+use Rattle.mq_calls.specs.declared.state.Batch.{Batch}
+use Rattle.mq_calls.specs.declared.records.LogRecord.{LogRecord}
 use Rattle.mq_calls.specs.declared.records.LogRecord.TheVariants as records
 use Rattle.mq_frame.specs.Frames.{ident_bytes}
 use Rattle.mq_record.specs.Room.{Buffered, with_piece}

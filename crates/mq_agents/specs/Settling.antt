@@ -3,7 +3,9 @@ use Rattle.std.specs.Prelude.{◌≡◌, ℕ, Bool, true, false, List, [], ◌�
 use Rattle.mq_message.specs.declared.place.Holder.{Holder}
 use Rattle.mq_calls.specs.declared.agents.Note.TheVariants as notes
 use Rattle.mq_calls.specs.declared.deltas.Did.TheVariants as did
-use Rattle.mq_calls.specs.Words.{Remove, Luw, Did, Change, SenderData, HeldBy, kept_in, released_in, data_settled, settle_by}
+use Rattle.mq_calls.specs.Words.{Luw, Change, SenderData, HeldBy, kept_in, released_in, data_settled, settle_by}
+use Rattle.mq_calls.specs.declared.records.Remove.{Remove}
+use Rattle.mq_calls.specs.declared.deltas.Did.{Did}
 use Rattle.mq_calls.specs.State.{Queue}
 use Rattle.mq_calls.specs.State.Change.{SetSender}
 use Rattle.mq_spec_manager.specs.Agents.{settle_change, settle_did}

@@ -6,7 +6,9 @@ use Rattle.mq_base.specs.Outside.{Rose}
 use Rattle.mq_disk.specs.declared.cutter.Stop.{Stop}
 use Rattle.mq_disk.specs.declared.cutter.Stop.TheVariants as stops
 use Rattle.mq_calls.specs.State.{Queue as StateQueue, LogState as PlainLog}
-use Rattle.mq_calls.specs.Words.{Ident, Row, Item, LogRecord, Plain, Nonpersistent, keep, kept_in, need, record_size, freeze, logged, StopsAt, has_ident, selects}
+use Rattle.mq_calls.specs.Words.{Ident, Row, Plain, Nonpersistent, keep, kept_in, need, record_size, freeze, logged, StopsAt, has_ident, selects}
+use Rattle.mq_calls.specs.declared.state.Item.{Item}
+use Rattle.mq_calls.specs.declared.records.LogRecord.{LogRecord}
 use Rattle.mq_log.specs.State.{LogState, log_length, Appended}
 use Rattle.mq_log.specs.Force.{Stops}
 use Rattle.mq_log.proofs.Logs.{log_length-push}

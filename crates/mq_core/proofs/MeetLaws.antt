@@ -2,7 +2,12 @@
 use Rattle.std.proofs.Common.{◌≡◌, ℕ, ◌+◌, true, List, [], ◌∷◌, refl, ap, arith, sym, subst, ◌∙◌}
 use Rattle.std.specs.Prelude.{Option, Some, None, Ok, Err, IsSome, IfSome}
 use Rattle.std.proofs.lemmas.Bool.Decides.{nat_tests}
-use Rattle.mq_calls.specs.Words.{Reason, Answer, Hobj, Open, Route, Connection, Handle, Plain, Running, Change, Part, Step, Do, ManagerValue, Wants, MeetsAs, MeetsDone, Meets, untouched, is_up, silent, apply_all, connection_at, handle_at, change_connection, with_connection}
+use Rattle.mq_calls.specs.Words.{Reason, Route, Plain, Running, Change, Part, Step, Do, ManagerValue, Wants, MeetsAs, MeetsDone, Meets, untouched, is_up, silent, apply_all, connection_at, handle_at, change_connection, with_connection}
+use Rattle.mq_calls.specs.declared.answers.Answer.{Answer}
+use Rattle.mq_calls.specs.declared.answers.Hobj.{Hobj}
+use Rattle.mq_calls.specs.declared.answers.Open.{Open}
+use Rattle.mq_calls.specs.declared.state.Connection.{Connection}
+use Rattle.mq_calls.specs.declared.state.Handle.{Handle}
 use Rattle.mq_calls.specs.State.Change.{CloseHandle}
 use Rattle.mq_spec_manager.specs.Words.{for_connection, for_handle, live_or, close_handle, close_up, new_handle, open_step}
 use Rattle.mq_calls.specs.declared.answers.Answer.TheVariants as answers

@@ -6,7 +6,9 @@ use Rattle.std.specs.Str.{bytes_eq}
 use Rattle.std.proofs.lemmas.List.Sums.{sum_by_push, sum_by-cons}
 use Rattle.std.proofs.lemmas.List.Recursion.{is_count_by}
 use Rattle.std.proofs.lemmas.Bool.Decides.{nat_tests}
-use Rattle.mq_calls.specs.Words.{ManagerValue, Meets, Do, Ident, Message, Connection, Item, Plain, Running, LocalQueue, puts_to, unit_need, item_bytes, with_head, put_bytes, more_need, connection_at, change_connection, local_of, is_persistent, same_ident, apply_all}
+use Rattle.mq_calls.specs.Words.{ManagerValue, Meets, Do, Ident, Message, Plain, Running, LocalQueue, puts_to, unit_need, item_bytes, with_head, put_bytes, more_need, connection_at, change_connection, local_of, is_persistent, same_ident, apply_all}
+use Rattle.mq_calls.specs.declared.state.Connection.{Connection}
+use Rattle.mq_calls.specs.declared.state.Item.{Item}
 use Rattle.mq_calls.specs.Reads.{is_put_to}
 use Rattle.mq_calls.specs.State.{Queue as StateQueue}
 use Rattle.mq_calls.specs.State.Change.{CountIdent, Pend}

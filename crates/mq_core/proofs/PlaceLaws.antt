@@ -7,7 +7,8 @@ use Rattle.std.specs.Cmp.Lexicographic.{bytes_decides}
 use Rattle.std.proofs.lemmas.Bool.Decides.{nat_tests}
 use Rattle.mq_queue.specs.Queues.{Lacks}
 use Rattle.mq_queue.specs.Lanes.{lane_at}
-use Rattle.mq_calls.specs.Words.{Ident, Message, Row, LocalQueue, Item, Plain, has_ident, same_ident, is_by_priority, local_of, insert_row, set_queue, placed_in, place, lane_of, queue_in, try_if, try_trigger, made_due, depth_type, condition, puts_to}
+use Rattle.mq_calls.specs.Words.{Ident, Message, Row, LocalQueue, Plain, has_ident, same_ident, is_by_priority, local_of, insert_row, set_queue, placed_in, place, lane_of, queue_in, try_if, try_trigger, made_due, depth_type, condition, puts_to}
+use Rattle.mq_calls.specs.declared.state.Item.{Item}
 use Rattle.mq_calls.specs.declared.state.Item.TheVariants.{Put, Take}
 use Rattle.mq_calls.specs.State.{Queue as StateQueue}
 use Rattle.mq_place.specs.States.{QueueState, queues_of, state_in, change_state, on_queue, state_or, or_fresh, arrived, IsNowhere}

@@ -13,7 +13,10 @@ use Rattle.std.specs.List.{AllByRecursion}
 use Rattle.std.specs.Str.{bytes_eq}
 use Rattle.std.proofs.lemmas.Bool.Decides.{nat_tests}
 use Rattle.mq_calls.specs.State.{Queue as StateQueue}
-use Rattle.mq_calls.specs.Words.{Ident, Dest, Message, Reason, LocalQueue, Plain, Part, ManagerValue, Meets, IsCounted, Sent, Answer, need, is_persistent, local_of, logged, apply, apply_all, LogRecord, Noted, Step, freeze, note_of, is_int, same_ident, puts_to, place, try_trigger, condition, put_bytes, route_size, Do}
+use Rattle.mq_calls.specs.Words.{Ident, Dest, Message, Reason, LocalQueue, Plain, Part, ManagerValue, Meets, IsCounted, need, is_persistent, local_of, logged, apply, apply_all, Noted, Step, freeze, note_of, is_int, same_ident, puts_to, place, try_trigger, condition, put_bytes, route_size, Do}
+use Rattle.mq_calls.specs.declared.answers.Sent.{Sent}
+use Rattle.mq_calls.specs.declared.answers.Answer.{Answer}
+use Rattle.mq_calls.specs.declared.records.LogRecord.{LogRecord}
 use Rattle.mq_core.specs.Counting.{CanCount}
 use Rattle.mq_calls.specs.State.Change.{CountIdent}
 use Rattle.mq_calls.specs.declared.state.Item.TheVariants.{Put}

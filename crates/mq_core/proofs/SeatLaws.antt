@@ -3,7 +3,9 @@ use Rattle.std.proofs.Common.{◌≡◌, ℕ, ◌+◌, Bool, true, false, cond, 
 use Rattle.std.specs.Prelude.{Some, sum_by, count_by, ◌==◌}
 use Rattle.std.proofs.lemmas.List.Sums.{sum_by_push, sum_by-cons}
 use Rattle.std.proofs.lemmas.Bool.Decides.{nat_tests}
-use Rattle.mq_calls.specs.Words.{Ident, Connection, Item, puts_to, unit_need, connection_at, change_connection}
+use Rattle.mq_calls.specs.Words.{Ident, puts_to, unit_need, connection_at, change_connection}
+use Rattle.mq_calls.specs.declared.state.Connection.{Connection}
+use Rattle.mq_calls.specs.declared.state.Item.{Item}
 use Rattle.mq_calls.specs.Reads.{is_put_to}
 use Rattle.mq_unit.specs.Forced.{CanBeForced}
 use Rattle.mq_handles.specs.Desks.{Desk}

@@ -3,7 +3,12 @@
 use Rattle.std.proofs.Common.{◌≡◌, ℕ, Bool, true, false, List, [], ◌∷◌, refl, ap, sym, subst, ◌∙◌}
 use Rattle.std.specs.Prelude.{Option, Some, None, Result, Ok, Err, if◌then◌else◌}
 use Rattle.mq_disk.specs.declared.cutter.Stop.{Stop}
-use Rattle.mq_calls.specs.Words.{Reason, Message, LogRecord, Connection, Plain, Part, Step, Sent, Answer, Halt, Noted, Do, connection_at, is_persistent, freeze, note_of, local_of, condition}
+use Rattle.mq_calls.specs.Words.{Reason, Message, Plain, Part, Step, Noted, Do, connection_at, is_persistent, freeze, note_of, local_of, condition}
+use Rattle.mq_calls.specs.declared.records.LogRecord.{LogRecord}
+use Rattle.mq_calls.specs.declared.state.Connection.{Connection}
+use Rattle.mq_calls.specs.declared.answers.Sent.{Sent}
+use Rattle.mq_calls.specs.declared.answers.Answer.{Answer}
+use Rattle.mq_calls.specs.declared.commands.Halt.{Halt}
 use Rattle.mq_calls.specs.State.Change.{CountIdent}
 use Rattle.mq_calls.specs.declared.deltas.Did.TheVariants as did
 use Rattle.mq_calls.specs.declared.commands.Halt.TheVariants as halts

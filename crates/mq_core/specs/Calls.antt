@@ -1,6 +1,12 @@
 -- What the parts of a call answer: where no refusal applies, what the call then is.
 use Rattle.std.specs.Prelude.{◌≡◌, ℕ, Bool, true, List, [], ◌∷◌, Some, Result, Ok, Err, IsSome, IfSome}
-use Rattle.mq_calls.specs.Words.{Reason, Message, Route, Answer, Sent, Hconn, Hobj, Open, Connection, Plain, Step, Refuse, Do, connection_at, handle_at, is_up}
+use Rattle.mq_calls.specs.Words.{Reason, Message, Route, Plain, Step, Refuse, Do, connection_at, handle_at, is_up}
+use Rattle.mq_calls.specs.declared.answers.Answer.{Answer}
+use Rattle.mq_calls.specs.declared.answers.Sent.{Sent}
+use Rattle.mq_calls.specs.declared.answers.Hconn.{Hconn}
+use Rattle.mq_calls.specs.declared.answers.Hobj.{Hobj}
+use Rattle.mq_calls.specs.declared.answers.Open.{Open}
+use Rattle.mq_calls.specs.declared.state.Connection.{Connection}
 use Rattle.mq_spec_manager.specs.Words.{connected, for_connection, live_or, open_step, mqopen, close_up, mqclose, put_part, sent_answer}
 use Rattle.mq_core.specs.Writes.{now_part}
 

@@ -1,7 +1,8 @@
 -- What a call must still be able to count.
 use Rattle.std.specs.Prelude.{ℕ, ◌^◌, ◌≤◌}
 use Rattle.std.specs.List.{AllByRecursion}
-use Rattle.mq_calls.specs.Words.{Plain, Connection, IsCounted}
+use Rattle.mq_calls.specs.Words.{Plain, IsCounted}
+use Rattle.mq_calls.specs.declared.state.Connection.{Connection}
 
 -- idents, connections, handles, arrivals and triggers: none is near the end of its 64 bits, so there is room for many events more
 pub record CanCount (p : Plain) : Type 0 where

@@ -3,7 +3,8 @@ use Rattle.std.specs.Prelude.{◌≡◌, ℕ, ◌+◌, ◌-◌, ◌<◌, ◌≤�
 use Rattle.mq_base.specs.Outside.{Rose}
 use Rattle.mq_disk.specs.declared.cutter.Stop.{Stop}
 use Rattle.mq_disk.specs.declared.cutter.Stop.TheVariants as stops
-use Rattle.mq_calls.specs.Words.{LogRecord, Message, Nonpersistent, record_size, need, kept_in, change_connection}
+use Rattle.mq_calls.specs.Words.{Message, Nonpersistent, record_size, need, kept_in, change_connection}
+use Rattle.mq_calls.specs.declared.records.LogRecord.{LogRecord}
 use Rattle.mq_calls.specs.declared.state.Item.TheVariants.{Put}
 use Rattle.mq_handles.specs.Seats.{pended}
 use Rattle.mq_log.specs.State.{Appended}

@@ -1,6 +1,7 @@
 -- Rows that are placed: the parts are changed as the plain manager is.
 use Rattle.std.specs.Prelude.{ℕ, ℤ, Bool, true, false, List, [], ◌∷◌}
-use Rattle.mq_calls.specs.Words.{Ident, Message, Item, Among, local_of, depth_type, made_due, kept_in, condition}
+use Rattle.mq_calls.specs.Words.{Ident, Message, Among, local_of, depth_type, made_due, kept_in, condition}
+use Rattle.mq_calls.specs.declared.state.Item.{Item}
 use Rattle.mq_calls.specs.declared.state.Item.TheVariants.{Put, Take}
 use Rattle.mq_place.specs.States.{QueueState, change_state, arrived, on_queue, on_queues}
 use Rattle.mq_core.specs.Views.{PartsValue, plain_of}

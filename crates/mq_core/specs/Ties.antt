@@ -2,7 +2,9 @@
 use Rattle.std.specs.Prelude.{◌≡◌, ℕ, ◌+◌, ◌^◌, ◌<◌, ◌≤◌, Bool, true, false, List, [], ◌∷◌, Option, Some, None, length, sum_by}
 use Rattle.std.specs.List.{AllByRecursion}
 use Rattle.std.specs.Str.{bytes_eq}
-use Rattle.mq_calls.specs.Words.{Ident, Message, Row, has_ident, Queue, LocalQueue, Connection, Item, same_ident, local_of, is_by_priority, puts_to, unit_need}
+use Rattle.mq_calls.specs.Words.{Ident, Message, Row, has_ident, Queue, LocalQueue, same_ident, local_of, is_by_priority, puts_to, unit_need}
+use Rattle.mq_calls.specs.declared.state.Connection.{Connection}
+use Rattle.mq_calls.specs.declared.state.Item.{Item}
 use Rattle.mq_calls.specs.declared.state.Item.TheVariants.{Put, Take}
 use Rattle.mq_spec_manager.specs.Words.{last_moment}
 use Rattle.mq_unit.specs.Forced.{CanBeForced}

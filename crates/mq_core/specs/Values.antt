@@ -3,7 +3,10 @@
 use Rattle.std.specs.Prelude.{◌≡◌, ℕ, zero, suc, List, [], ◌∷◌, ◌++◌, Option, Some, None, Result, Ok, Err}
 use Rattle.mq_disk.specs.declared.cutter.Stop.{Stop}
 use Rattle.mq_calls.specs.declared.commands.Halt.TheVariants as halts
-use Rattle.mq_calls.specs.Words.{Did, Halt, LogRecord, ManagerValue, Part, Plain, Step, Refuse, Do, IsWrite, Meets, stopped_at}
+use Rattle.mq_calls.specs.Words.{ManagerValue, Part, Plain, Step, Refuse, Do, IsWrite, Meets, stopped_at}
+use Rattle.mq_calls.specs.declared.deltas.Did.{Did}
+use Rattle.mq_calls.specs.declared.commands.Halt.{Halt}
+use Rattle.mq_calls.specs.declared.records.LogRecord.{LogRecord}
 use Rattle.mq_log.specs.State.{LogState}
 use Rattle.mq_record.specs.Records.{record_bytes}
 use Rattle.mq_core.specs.Writes.{FitsRecord}

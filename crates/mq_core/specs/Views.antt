@@ -1,6 +1,8 @@
 -- The plain manager that a manager's parts stand for.
 use Rattle.std.specs.Prelude.{ℕ, Bool, List, [], Option, Some, None}
-use Rattle.mq_calls.specs.Words.{Batch, Connection, Plain, Channels, Part, Noted, Running, Up, Down, connection_at, batch_of, note_of}
+use Rattle.mq_calls.specs.Words.{Plain, Channels, Part, Noted, Running, Up, Down, connection_at, batch_of, note_of}
+use Rattle.mq_calls.specs.declared.state.Batch.{Batch}
+use Rattle.mq_calls.specs.declared.state.Connection.{Connection}
 use Rattle.mq_spec_manager.specs.Words.{object_part}
 use Rattle.mq_objects.specs.Held.{Held}
 use Rattle.mq_log.specs.State.{LogState, log_length}

@@ -1,6 +1,12 @@
 -- The parts of calls that are written to the log.
 use Rattle.std.specs.Prelude.{ℕ, ◌<◌, Bool, true, false, List, [], ◌∷◌, ◌++◌, length, map, flat_map, Option, Some, None}
-use Rattle.mq_calls.specs.Words.{Add, Did, Ident, Message, Connection, Part, Change, LogRecord, Remove, Luw, Among, Batch, Plain, sender_or, sender_data, data_settled, settle_by}
+use Rattle.mq_calls.specs.Words.{Ident, Message, Part, Change, Luw, Among, Plain, sender_or, sender_data, data_settled, settle_by}
+use Rattle.mq_calls.specs.declared.records.Add.{Add}
+use Rattle.mq_calls.specs.declared.deltas.Did.{Did}
+use Rattle.mq_calls.specs.declared.state.Connection.{Connection}
+use Rattle.mq_calls.specs.declared.records.LogRecord.{LogRecord}
+use Rattle.mq_calls.specs.declared.records.Remove.{Remove}
+use Rattle.mq_calls.specs.declared.state.Batch.{Batch}
 use Rattle.mq_calls.specs.declared.deltas.Did.TheVariants as did
 use Rattle.mq_calls.specs.declared.records.LogRecord.TheVariants as records
 use Rattle.mq_calls.specs.declared.deltas.Why.{Why}

@@ -1,6 +1,7 @@
 //! What is forced into the log, and what stands when a write was stopped.
 ghost use Rattle.std.specs.Prelude.{◌≡◌, ◌+◌, ◌-◌, ◌<◌, ◌≤◌, ◌^◌, true, length, OnOk, OnErr, IfSome, IsSome};
-ghost use Rattle.mq_calls.specs.Words.{LogRecord, need, put_bytes, record_size};
+ghost use Rattle.mq_calls.specs.Words.{need, put_bytes, record_size};
+ghost use Rattle.mq_calls.specs.declared.records.LogRecord.{LogRecord};
 ghost use Rattle.mq_record.specs.Records.{CanBeKept, record_bytes};
 ghost use Rattle.mq_core.specs.Writes.{FitsRecord, added};
 ghost use Rattle.mq_core.specs.Ties.{IsReady};

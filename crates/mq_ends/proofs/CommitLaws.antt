@@ -5,13 +5,17 @@ use Rattle.std.proofs.lemmas.List.{append-nil}
 use Rattle.mq_base.specs.Outside.{Rose}
 use Rattle.mq_disk.specs.declared.cutter.Stop.{Stop}
 use Rattle.mq_disk.specs.declared.cutter.Stop.TheVariants as stops
-use Rattle.mq_calls.specs.Words.{Reason, Hconn, Connection, LogRecord, Plain, Noted, Do, ManagerValue, MeetsInRoom, StopsAt, connection_at, unit_need, record_size, apply_all, logged, freeze, note_of, forced_calls}
+use Rattle.mq_calls.specs.Words.{Reason, Plain, Noted, Do, ManagerValue, MeetsInRoom, StopsAt, connection_at, unit_need, record_size, apply_all, logged, freeze, note_of, forced_calls}
+use Rattle.mq_calls.specs.declared.answers.Hconn.{Hconn}
+use Rattle.mq_calls.specs.declared.state.Connection.{Connection}
+use Rattle.mq_calls.specs.declared.records.LogRecord.{LogRecord}
 use Rattle.mq_calls.specs.declared.answers.Answer.TheVariants as answers
 use Rattle.mq_calls.specs.declared.commands.Halt.TheVariants as halts
 use Rattle.mq_calls.specs.declared.records.LogRecord.TheVariants as records
 use Rattle.mq_spec_manager.specs.Words.{for_connection, live_or, mqcmit, mqback, mqdisc}
 use Rattle.mq_spec_manager.specs.Units.{adds_of, removes_of, record_of, commit_delta, backout_part}
-use Rattle.mq_calls.specs.Words.{Add, Remove}
+use Rattle.mq_calls.specs.declared.records.Add.{Add}
+use Rattle.mq_calls.specs.declared.records.Remove.{Remove}
 use Rattle.mq_log.specs.Force.{Stops}
 use Rattle.mq_record.specs.Room.{Buffered, with_piece}
 use Rattle.mq_record.specs.Records.{record_bytes}

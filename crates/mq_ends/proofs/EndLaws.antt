@@ -6,7 +6,10 @@ use Rattle.std.specs.Str.{bytes_eq}
 use Rattle.std.proofs.lemmas.List.Sums.{sum_by-cons}
 use Rattle.std.proofs.lemmas.List.Recursion.{is_count_by}
 use Rattle.std.proofs.lemmas.Bool.Decides.{nat_tests}
-use Rattle.mq_calls.specs.Words.{Ident, Message, Row, Connection, Item, LogRecord, Among, retag, kept_in, released_in, release_if, selects, need, puts_to, unit_need, connection_at, change_connection, logged, has_ident}
+use Rattle.mq_calls.specs.Words.{Ident, Message, Row, Among, retag, kept_in, released_in, release_if, selects, need, puts_to, unit_need, connection_at, change_connection, logged, has_ident}
+use Rattle.mq_calls.specs.declared.state.Connection.{Connection}
+use Rattle.mq_calls.specs.declared.state.Item.{Item}
+use Rattle.mq_calls.specs.declared.records.LogRecord.{LogRecord}
 use Rattle.mq_core.specs.Counting.{CanCount}
 use Rattle.mq_calls.specs.Reads.{is_put_to}
 use Rattle.mq_calls.specs.declared.state.Item.TheVariants.{Put, Take}

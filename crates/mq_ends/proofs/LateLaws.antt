@@ -4,7 +4,10 @@ use Rattle.std.specs.Prelude.{ℤ, Option, Some, None, nat_le, not, ◌||◌, �
 use Rattle.std.specs.List.{flat_map, list_any}
 use Rattle.mq_objects.specs.declared.object.TriggerType.TheVariants as triggers
 use Rattle.mq_calls.specs.Condition.{by_type, is_served, waiting, is_long_ago}
-use Rattle.mq_calls.specs.Words.{Connection, Handle, Item, Plain, Change, Among, LocalQueue, kept_in, released_in, change_connection, apply, apply_all, condition, try_if, try_trigger, place, any_handle, local_of, stored, has_priority, is_input, leads_to, read_by_sender, process_of, is_transmission, TriggerType}
+use Rattle.mq_calls.specs.Words.{Plain, Change, Among, LocalQueue, kept_in, released_in, change_connection, apply, apply_all, condition, try_if, try_trigger, place, any_handle, local_of, stored, has_priority, is_input, leads_to, read_by_sender, process_of, is_transmission, TriggerType}
+use Rattle.mq_calls.specs.declared.state.Connection.{Connection}
+use Rattle.mq_calls.specs.declared.state.Handle.{Handle}
+use Rattle.mq_calls.specs.declared.state.Item.{Item}
 use Rattle.mq_calls.specs.State.{Queue as StateQueue}
 use Rattle.mq_calls.specs.State.Change.{EndUnit}
 use Rattle.mq_calls.specs.declared.state.Item.TheVariants.{Put, Take}

@@ -1,6 +1,7 @@
 //! What the end of a unit does to a manager's parts, item by item.
 ghost use Rattle.std.specs.Prelude.{◌≡◌, ◌+◌, ◌≤◌, ◌<◌, ◌^◌, ◌∷◌, [], true, length, IsSome, IfSome};
-ghost use Rattle.mq_calls.specs.Words.{Connection, connection_at, unit_need};
+ghost use Rattle.mq_calls.specs.Words.{connection_at, unit_need};
+ghost use Rattle.mq_calls.specs.declared.state.Connection.{Connection};
 ghost use Rattle.mq_spec_manager.specs.Units.{adds_of, removes_of, record_of, commit_delta, backout_part};
 ghost use Rattle.mq_unit.specs.Forced.{IsEnded};
 ghost use Rattle.mq_handles.specs.Rising.{AreRising, connection_number};

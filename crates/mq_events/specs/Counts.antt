@@ -2,7 +2,8 @@
 use Rattle.std.specs.Prelude.{◌≡◌, ℕ, ◌+◌, ◌*◌, ◌^◌, ◌≤◌, true, List, [], ◌∷◌, length}
 use Rattle.std.specs.List.{AllByRecursion}
 use Rattle.mq_objects.specs.declared.object.LocalQueue.{LocalQueue}
-use Rattle.mq_calls.specs.Words.{Connection, stored, puts_to}
+use Rattle.mq_calls.specs.Words.{stored, puts_to}
+use Rattle.mq_calls.specs.declared.state.Connection.{Connection}
 use Rattle.mq_spec_node.specs.Terms.{Plain}
 use Rattle.mq_spec_node.specs.Words.{ChannelEnd, Own, NodeValue}
 use Rattle.mq_spec_node.specs.Node.ChannelEnd.{Sends, Receives}

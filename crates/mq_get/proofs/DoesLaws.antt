@@ -5,7 +5,8 @@ use Rattle.mq_base.specs.Outside.{Rose}
 use Rattle.mq_disk.specs.declared.cutter.Stop.{Stop}
 use Rattle.mq_disk.specs.declared.cutter.Stop.TheVariants as stops
 use Rattle.mq_calls.specs.declared.commands.Halt.TheVariants as halts
-use Rattle.mq_calls.specs.Words.{Reason, Did, Part, Plain, Do, IsWrite, StopsAt, do_all, do_part, delta_of, delta_before, stopped_at, write_calls, calls_at, calls_before}
+use Rattle.mq_calls.specs.Words.{Reason, Part, Plain, Do, IsWrite, StopsAt, do_all, do_part, delta_of, delta_before, stopped_at, write_calls, calls_at, calls_before}
+use Rattle.mq_calls.specs.declared.deltas.Did.{Did}
 use Rattle.mq_core.specs.Values.{CoreValue, LogBodies, MeetsTold, AreRecords, AreRecordsTo, behind_record, wrote_all, broke_at}
 use Rattle.mq_get.specs.Does.{HasRun, HasBroken}
 

@@ -11,7 +11,15 @@ use Rattle.mq_calls.specs.declared.deltas.Why.{Why}
 use Rattle.mq_calls.specs.declared.deltas.Why.TheVariants as whys
 use Rattle.mq_calls.specs.declared.deltas.Did.TheVariants as did
 use Rattle.mq_calls.specs.State.Change.{Leave, SetCursor}
-use Rattle.mq_calls.specs.Words.{Reason, Ident, Did, Get, GetAnswer, Handle, Hconn, Hobj, Row, Remove, Connection, Plain, Step, Part, Among, Refuse, Do, refusal, refused_or, is_persistent, is_full, silent, handle_at}
+use Rattle.mq_calls.specs.Words.{Reason, Ident, Row, Plain, Step, Part, Among, Refuse, Do, refusal, refused_or, is_persistent, is_full, silent, handle_at}
+use Rattle.mq_calls.specs.declared.deltas.Did.{Did}
+use Rattle.mq_calls.specs.declared.answers.Get.{Get}
+use Rattle.mq_calls.specs.declared.answers.GetAnswer.{GetAnswer}
+use Rattle.mq_calls.specs.declared.state.Handle.{Handle}
+use Rattle.mq_calls.specs.declared.answers.Hconn.{Hconn}
+use Rattle.mq_calls.specs.declared.answers.Hobj.{Hobj}
+use Rattle.mq_calls.specs.declared.records.Remove.{Remove}
+use Rattle.mq_calls.specs.declared.state.Connection.{Connection}
 use Rattle.mq_spec_manager.specs.Get.{removes_of, idents_of}
 use Rattle.mq_spec_manager.specs.Words.{Scan, connected, for_connection, for_handle, live_or, queue_at, is_destructive, is_under, is_left, is_too_long, got, got_answer, is_waiting, without_row, with_row, found_part, taking_part, persistent_rows, expired_need, scan_need, get_tests, get_found, get_scanned, get_handle, get_up, mqget, removal_record, removal_part, removal_parts, expired_parts}
 use Rattle.mq_scan.specs.Scans.{met_of}

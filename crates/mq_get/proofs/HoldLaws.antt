@@ -4,7 +4,9 @@ use Rattle.std.proofs.lemmas.List.Sums.{sum_by_push}
 use Rattle.std.proofs.lemmas.Bool.Decides.{nat_tests}
 use Rattle.std.specs.Prelude.{Some, map, sum_by, count_by, ◌==◌, ◌&&◌}
 use Rattle.mq_calls.specs.State.{Queue as StateQueue}
-use Rattle.mq_calls.specs.Words.{Ident, Plain, Row, Item, Among, Connection, retag, held_in, retag_if, selects, is_free, has_ident, unit_need, more_need, item_bytes, with_head, connection_at, change_connection, same_ident, Running}
+use Rattle.mq_calls.specs.Words.{Ident, Plain, Row, Among, retag, held_in, retag_if, selects, is_free, has_ident, unit_need, more_need, item_bytes, with_head, connection_at, change_connection, same_ident, Running}
+use Rattle.mq_calls.specs.declared.state.Item.{Item}
+use Rattle.mq_calls.specs.declared.state.Connection.{Connection}
 use Rattle.mq_calls.specs.Reads.{is_put_to}
 use Rattle.mq_calls.specs.declared.state.Item.TheVariants.{Put, Take}
 use Rattle.mq_message.specs.declared.place.Holder.{Holder}

@@ -6,7 +6,8 @@ use Rattle.mq_calls.specs.declared.deltas.Did.{Did}
 use Rattle.mq_calls.specs.declared.deltas.Did.TheVariants as did
 use Rattle.mq_calls.specs.declared.deltas.Why.{Why}
 use Rattle.mq_calls.specs.declared.records.LogRecord.TheVariants as records
-use Rattle.mq_calls.specs.Words.{Ident, Remove}
+use Rattle.mq_calls.specs.Words.{Ident}
+use Rattle.mq_calls.specs.declared.records.Remove.{Remove}
 use Rattle.mq_scan.specs.declared.scanning.Met.{Met}
 use Rattle.mq_record.specs.Room.{Buffered, with_piece}
 use Rattle.mq_record.specs.Records.{record_bytes, unit_front, remove_bytes, IsRemove, IsRecord}

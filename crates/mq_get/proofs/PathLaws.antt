@@ -9,7 +9,10 @@ use Rattle.mq_calls.specs.declared.deltas.Why.{Why}
 use Rattle.mq_calls.specs.declared.deltas.Why.TheVariants as whys
 use Rattle.mq_message.specs.declared.place.Place.{Place}
 use Rattle.mq_calls.specs.State.Change.{SetCursor}
-use Rattle.mq_calls.specs.Words.{Reason, Remove, Did, Part, Do, Connection, silent, connection_at, change_connection, with_connection}
+use Rattle.mq_calls.specs.Words.{Reason, Part, Do, silent, connection_at, change_connection, with_connection}
+use Rattle.mq_calls.specs.declared.records.Remove.{Remove}
+use Rattle.mq_calls.specs.declared.deltas.Did.{Did}
+use Rattle.mq_calls.specs.declared.state.Connection.{Connection}
 use Rattle.mq_scan.specs.declared.scanning.Met.{Met}
 use Rattle.mq_record.specs.Room.{Buffered}
 use Rattle.mq_unit.specs.Told.{Telling}

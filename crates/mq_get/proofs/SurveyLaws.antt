@@ -6,7 +6,9 @@ use Rattle.mq_message.specs.declared.place.Place.{Place}
 use Rattle.mq_calls.specs.declared.answers.Take.{Take}
 use Rattle.mq_calls.specs.declared.answers.Take.TheVariants as takes
 use Rattle.mq_calls.specs.State.{Queue as StateQueue}
-use Rattle.mq_calls.specs.Words.{Row, Get, Plain, Connection, is_persistent, is_full}
+use Rattle.mq_calls.specs.Words.{Row, Plain, is_persistent, is_full}
+use Rattle.mq_calls.specs.declared.answers.Get.{Get}
+use Rattle.mq_calls.specs.declared.state.Connection.{Connection}
 use Rattle.mq_spec_manager.specs.Words.{Scan, looked_at, asked, scan, persistent_rows, expired_need, found_need, scan_need}
 use Rattle.mq_place.specs.States.{QueueState, state_in}
 use Rattle.mq_scan.specs.Scans.{scan_of}

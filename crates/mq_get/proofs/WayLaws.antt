@@ -10,7 +10,11 @@ use Rattle.mq_calls.specs.declared.deltas.Why.TheVariants as whys
 use Rattle.mq_codes.specs.declared.reason.Reason.TheVariants as reasons
 use Rattle.mq_calls.specs.declared.answers.Answer.TheVariants as answers
 use Rattle.mq_calls.specs.State.Change.{SetCursor}
-use Rattle.mq_calls.specs.Words.{Reason, Answer, Get, GetAnswer, Connection, Plain, Step, Part, Do, Refuse, ManagerValue, Meets, untouched, silent, connection_at}
+use Rattle.mq_calls.specs.Words.{Reason, Plain, Step, Part, Do, Refuse, ManagerValue, Meets, untouched, silent, connection_at}
+use Rattle.mq_calls.specs.declared.answers.Answer.{Answer}
+use Rattle.mq_calls.specs.declared.answers.Get.{Get}
+use Rattle.mq_calls.specs.declared.answers.GetAnswer.{GetAnswer}
+use Rattle.mq_calls.specs.declared.state.Connection.{Connection}
 use Rattle.mq_spec_manager.specs.Words.{got_answer, is_destructive, is_under, is_waiting, without_row, live_or, for_connection, persistent_rows, expired_need}
 use Rattle.mq_scan.specs.declared.scanning.Met.{Met}
 use Rattle.mq_scan.specs.Scans.{met_of}

@@ -5,7 +5,8 @@ use Rattle.mq_disk.specs.declared.cutter.Stop.{Stop}
 use Rattle.mq_disk.specs.declared.cutter.Stop.TheVariants as stops
 use Rattle.mq_calls.specs.declared.commands.Halt.{Halt}
 use Rattle.mq_calls.specs.declared.commands.Halt.TheVariants as halts
-use Rattle.mq_calls.specs.Words.{Reason, Did, Part, Ran, IsWrite, StopsAt, do_all, delta_of, delta_before, stopped_at, write_calls, calls_at, calls_before}
+use Rattle.mq_calls.specs.Words.{Reason, Part, Ran, IsWrite, StopsAt, do_all, delta_of, delta_before, stopped_at, write_calls, calls_at, calls_before}
+use Rattle.mq_calls.specs.declared.deltas.Did.{Did}
 use Rattle.mq_calls.specs.declared.deltas.Why.TheVariants as whys
 use Rattle.mq_scan.specs.declared.scanning.Met.{Met}
 use Rattle.mq_unit.specs.Told.{Telling}

@@ -1,7 +1,11 @@
 -- What a get comes to where no refusal applies.
 use Rattle.std.specs.Prelude.{◌≡◌, ℕ, ◌<◌, ◌^◌, Bool, true, false, not, ◌&&◌, List, [], ◌∷◌, ◌++◌, map, if◌then◌else◌, Option, Some, None, Result, Ok, Err, IsSome}
 use Rattle.std.specs.Option.{option_map}
-use Rattle.mq_calls.specs.Words.{Reason, Get, Handle, Row, Connection, Plain, Step, Part, Refuse, Do, GetAnswer, stored, silent, connection_at, is_up}
+use Rattle.mq_calls.specs.Words.{Reason, Row, Plain, Step, Part, Refuse, Do, stored, silent, connection_at, is_up}
+use Rattle.mq_calls.specs.declared.answers.Get.{Get}
+use Rattle.mq_calls.specs.declared.state.Handle.{Handle}
+use Rattle.mq_calls.specs.declared.state.Connection.{Connection}
+use Rattle.mq_calls.specs.declared.answers.GetAnswer.{GetAnswer}
 use Rattle.mq_codes.specs.declared.reason.Reason.TheVariants as reasons
 use Rattle.mq_calls.specs.declared.answers.Answer.TheVariants as answers
 use Rattle.mq_calls.specs.declared.answers.GetAnswer.TheVariants.{Done}

@@ -1,6 +1,8 @@
 -- Rows that leave a queue, some of them in a record of their own; and a row that a unit holds.
 use Rattle.std.specs.Prelude.{ℕ, List, [], ◌∷◌, map, Option, Some, None, if◌then◌else◌}
-use Rattle.mq_calls.specs.Words.{Ident, Remove, LogRecord, Part, Among, need}
+use Rattle.mq_calls.specs.Words.{Ident, Part, Among, need}
+use Rattle.mq_calls.specs.declared.records.Remove.{Remove}
+use Rattle.mq_calls.specs.declared.records.LogRecord.{LogRecord}
 use Rattle.mq_message.specs.declared.place.Holder.TheVariants as holders
 use Rattle.mq_calls.specs.declared.deltas.Did.TheVariants as did
 use Rattle.mq_calls.specs.declared.deltas.Why.{Why}

@@ -1,7 +1,9 @@
 -- The room that a get takes, and what it leaves of a manager's parts.
 use Rattle.std.specs.Prelude.{◌≡◌, ℕ, ◌+◌, ◌-◌, ◌<◌, ◌≤◌, List, [], ◌∷◌, map, length, Result, Ok, Err}
 use Rattle.mq_disk.specs.declared.cutter.Stop.{Stop}
-use Rattle.mq_calls.specs.Words.{Ident, Remove, Item, Among, kept_in, held_in, change_connection}
+use Rattle.mq_calls.specs.Words.{Ident, Among, kept_in, held_in, change_connection}
+use Rattle.mq_calls.specs.declared.records.Remove.{Remove}
+use Rattle.mq_calls.specs.declared.state.Item.{Item}
 use Rattle.mq_message.specs.declared.place.Holder.TheVariants as holders
 use Rattle.mq_calls.specs.declared.deltas.Why.{Why}
 use Rattle.mq_calls.specs.declared.records.LogRecord.TheVariants as records

@@ -4,7 +4,8 @@ use Rattle.std.specs.Prelude.{Some, map, slice_get, slice_set}
 use Rattle.std.specs.Str.{bytes_eq}
 use Rattle.std.specs.Cmp.Lexicographic.{nat_list_eq_equiv}
 use Rattle.mq_resolve.specs.declared.route.PathStep.TheVariants as steps
-use Rattle.mq_calls.specs.Words.{PathStep, Handle}
+use Rattle.mq_calls.specs.Words.{PathStep}
+use Rattle.mq_calls.specs.declared.state.Handle.{Handle}
 use Rattle.mq_handles.specs.declared.users.Count.{Count}
 use Rattle.mq_handles.specs.declared.users.Users.{Users}
 use Rattle.mq_handles.specs.Users.{Key, name_weight, key_weight, path_weight, handle_weight, weight_of, count_in, AreAmong, IsLess}

@@ -3,7 +3,10 @@ use Rattle.std.proofs.Common.{◌≡◌, ℕ, zero, suc, ◌+◌, ◌<◌, Bool,
 use Rattle.std.specs.Prelude.{position, Some, None, ◌==◌, not, ◌||◌, map, slice_get, slice_set}
 use Rattle.std.specs.List.{list_any, remove}
 use Rattle.std.proofs.lemmas.Bool.Decides.{nat_tests}
-use Rattle.mq_calls.specs.Words.{Appl, Place, PathStep, Connection, Handle, connection_at, change_connection, change_handle, any_handle, has_step, stale_if, made_stale}
+use Rattle.mq_calls.specs.Words.{Place, PathStep, connection_at, change_connection, change_handle, any_handle, has_step, stale_if, made_stale}
+use Rattle.mq_calls.specs.declared.answers.Appl.{Appl}
+use Rattle.mq_calls.specs.declared.state.Connection.{Connection}
+use Rattle.mq_calls.specs.declared.state.Handle.{Handle}
 use Rattle.mq_handles.specs.declared.users.Users.{Users}
 use Rattle.mq_handles.specs.Rising.{AreRising, AreBelow, has_number, connection_number}
 use Rattle.mq_handles.specs.Seats.{connection_of, at_place}

@@ -3,7 +3,8 @@ use Rattle.std.proofs.Common.{◌≡◌, ℕ, zero, suc, ◌+◌, ◌<◌, Bool,
 use Rattle.std.specs.Prelude.{position, Some, None, ◌==◌, not, filter, map, slice_get, slice_set}
 use Rattle.std.specs.List.{AllByRecursion, remove}
 use Rattle.std.proofs.lemmas.Bool.Decides.{nat_tests}
-use Rattle.mq_calls.specs.Words.{PathStep, Handle, handle_at, change_handle, stale_if, has_step}
+use Rattle.mq_calls.specs.Words.{PathStep, handle_at, change_handle, stale_if, has_step}
+use Rattle.mq_calls.specs.declared.state.Handle.{Handle}
 use Rattle.mq_handles.specs.Rising.{AreRising, AreBelow, handle_number, has_handle_number}
 use Rattle.mq_handles.specs.Seats.{HasHandles}
 

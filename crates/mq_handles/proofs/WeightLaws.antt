@@ -8,7 +8,10 @@ use Rattle.std.specs.Str.{bytes_eq}
 use Rattle.mq_calls.specs.declared.answers.Input.TheVariants as inputs
 use Rattle.mq_resolve.specs.declared.route.PathStep.TheVariants as steps
 use Rattle.mq_resolve.specs.declared.route.RouteEnd.TheVariants as ends
-use Rattle.mq_calls.specs.Words.{Handle, Connection, Input, RouteEnd, PathStep, any_handle, is_step, has_step, is_input, is_exclusive, leads_to}
+use Rattle.mq_calls.specs.Words.{RouteEnd, PathStep, any_handle, is_step, has_step, is_input, is_exclusive, leads_to}
+use Rattle.mq_calls.specs.declared.state.Handle.{Handle}
+use Rattle.mq_calls.specs.declared.state.Connection.{Connection}
+use Rattle.mq_calls.specs.declared.answers.Input.{Input}
 use Rattle.mq_handles.specs.Users.{reads_from, reads_alone_from, reader_weight, key_weight, path_weight, handle_weight, weight_of, weight_in}
 use Rattle.mq_handles.specs.Users.Key.{Reader, Alone, OnPath}
 

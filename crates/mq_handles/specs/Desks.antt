@@ -1,6 +1,6 @@
 -- The live connections of a manager.
 use Rattle.std.specs.Prelude.{ℕ, ◌+◌, List}
-use Rattle.mq_calls.specs.Words.{Connection}
+use Rattle.mq_calls.specs.declared.state.Connection.{Connection}
 use Rattle.mq_handles.specs.declared.users.Users.{Users}
 use Rattle.mq_handles.specs.Rising.{AreRising, AreBelow, connection_number}
 use Rattle.mq_handles.specs.Users.{AreCounted}

@@ -2,7 +2,11 @@
 use Rattle.std.specs.List.{list_any}
 use Rattle.mq_calls.specs.declared.state.Item.TheVariants.{Put, Take}
 use Rattle.std.specs.Prelude.{ℕ, Bool, false, ◌+◌, ◌-◌, ◌==◌, not, List, [], ◌∷◌, ◌++◌, length, take, filter, Some}
-use Rattle.mq_calls.specs.Words.{Place, Appl, Ident, Item, same_ident, Handle, Connection, change_handle}
+use Rattle.mq_calls.specs.Words.{Place, Ident, same_ident, change_handle}
+use Rattle.mq_calls.specs.declared.answers.Appl.{Appl}
+use Rattle.mq_calls.specs.declared.state.Item.{Item}
+use Rattle.mq_calls.specs.declared.state.Handle.{Handle}
+use Rattle.mq_calls.specs.declared.state.Connection.{Connection}
 use Rattle.mq_handles.specs.Rising.{AreRising, AreBelow, handle_number}
 
 -- the numbers of a connection's handles rise, up to the last one given

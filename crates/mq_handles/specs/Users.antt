@@ -5,7 +5,11 @@ use Rattle.std.specs.HashMap.{get}
 use Rattle.mq_calls.specs.declared.answers.Input.TheVariants as inputs
 use Rattle.mq_resolve.specs.declared.route.PathStep.TheVariants as steps
 use Rattle.mq_resolve.specs.declared.route.RouteEnd.TheVariants as ends
-use Rattle.mq_calls.specs.Words.{RouteEnd, PathStep, Input, Open, Handle, Connection, is_input, is_exclusive, leads_to}
+use Rattle.mq_calls.specs.Words.{RouteEnd, PathStep, is_input, is_exclusive, leads_to}
+use Rattle.mq_calls.specs.declared.answers.Input.{Input}
+use Rattle.mq_calls.specs.declared.answers.Open.{Open}
+use Rattle.mq_calls.specs.declared.state.Handle.{Handle}
+use Rattle.mq_calls.specs.declared.state.Connection.{Connection}
 use Rattle.mq_handles.specs.declared.users.Count.{Count}
 use Rattle.mq_handles.specs.declared.users.Users.{Users}
 

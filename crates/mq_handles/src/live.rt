@@ -1,7 +1,8 @@
 //! The live connections of a manager.
 ghost use Rattle.std.specs.Prelude.{◌≡◌, ◌==◌, ◌+◌, ◌^◌, ◌<◌, ◌++◌, ◌∷◌, [], not, filter, position, map as mapped, option_copied, OnOk, OnErr, IfOk, IfSome, IsSome};
 ghost use Rattle.std.specs.List.{list_any};
-ghost use Rattle.mq_calls.specs.Words.{Connection, connection_at, any_handle, has_step, change_connection, made_stale, unit_need};
+ghost use Rattle.mq_calls.specs.Words.{connection_at, any_handle, has_step, change_connection, made_stale, unit_need};
+ghost use Rattle.mq_calls.specs.declared.state.Connection.{Connection};
 ghost use Rattle.mq_spec_manager.specs.Handles.{new_handle};
 ghost use Rattle.mq_unit.specs.Forced.{IsEnded};
 ghost use Rattle.mq_handles.specs.Rising.{AreRising, connection_number, has_number};

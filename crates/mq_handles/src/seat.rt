@@ -1,6 +1,7 @@
 //! One live connection: its handles, found by their numbers, and its unit.
 ghost use Rattle.std.specs.Prelude.{◌≡◌, ◌+◌, ◌∷◌, ◌++◌, ◌<◌, ◌^◌, [], length, option_copied, position, map as mapped, OnOk, OnErr, IfOk};
-ghost use Rattle.mq_calls.specs.Words.{Handle, handle_at, made_stale, stale_if, is_step, has_step, unit_need};
+ghost use Rattle.mq_calls.specs.Words.{handle_at, made_stale, stale_if, is_step, has_step, unit_need};
+ghost use Rattle.mq_calls.specs.declared.state.Handle.{Handle};
 ghost use Rattle.mq_unit.specs.Forced.{IsEnded};
 ghost use Rattle.mq_spec_manager.specs.Handles.{new_handle};
 ghost use Rattle.mq_handles.specs.Rising.{has_handle_number};

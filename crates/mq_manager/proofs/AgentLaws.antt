@@ -11,7 +11,11 @@ use Rattle.mq_message.specs.declared.message.Ident.{Ident}
 use Rattle.mq_sync.specs.declared.data.End.TheVariants as ends
 use Rattle.mq_codes.specs.declared.reason.Reason.TheVariants as reasons
 use Rattle.mq_resolve.specs.Resolved.{resolve}
-use Rattle.mq_calls.specs.Words.{Reason, Dest, Message, Route, ReceiverData, Batch, Luw, Halt, Plain, Step, ManagerValue, Wants, MeetsAs, MeetsOrWants, MeetsInRoom, SeizeFault, PrepareFault, Do, silent, when, local_of, channel_of, batch_of, sender_data, sender_or, is_full, need, is_persistent, apply_all, receiver_data, receiver_or, is_open_for_input, has_held_by_other, has_ident, stored}
+use Rattle.mq_calls.specs.Words.{Reason, Dest, Message, Route, ReceiverData, Luw, Plain, Step, ManagerValue, Wants, MeetsAs, MeetsOrWants, MeetsInRoom, Do, silent, when, local_of, channel_of, batch_of, sender_data, sender_or, is_full, need, is_persistent, apply_all, receiver_data, receiver_or, is_open_for_input, has_held_by_other, has_ident, stored}
+use Rattle.mq_calls.specs.declared.state.Batch.{Batch}
+use Rattle.mq_calls.specs.declared.commands.Halt.{Halt}
+use Rattle.mq_calls.specs.declared.agents.SeizeFault.{SeizeFault}
+use Rattle.mq_calls.specs.declared.agents.PrepareFault.{PrepareFault}
 use Rattle.mq_calls.specs.Meeting.Wants.{Nowhere, Anywhere}
 use Rattle.mq_calls.specs.State.Change.{Seize, SetBound, SetReceiver}
 use Rattle.mq_spec_manager.specs.Words.{Never, is_transmission_queue, placed}

@@ -10,7 +10,9 @@ use Rattle.std.specs.Cmp.Lexicographic.{slice_cmp}
 use Rattle.std.proofs.lemmas.Cmp.{nat_list_cmp_total}
 use Rattle.std.proofs.lemmas.Map.Text.{is_eq-slice_cmp}
 use Rattle.mq_base.specs.Members.{Mem}
-use Rattle.mq_calls.specs.Words.{Batch, Plain, Part, Change, LogRecord, comes_before, set_named, batch_of, try_if, condition, local_of, apply, apply_all, logged, do_part}
+use Rattle.mq_calls.specs.Words.{Plain, Part, Change, comes_before, set_named, batch_of, try_if, condition, local_of, apply, apply_all, logged, do_part}
+use Rattle.mq_calls.specs.declared.state.Batch.{Batch}
+use Rattle.mq_calls.specs.declared.records.LogRecord.{LogRecord}
 use Rattle.std.specs.Prelude.{Option, None}
 use Rattle.mq_calls.specs.State.{Queue}
 use Rattle.mq_calls.specs.State.Change.{Try, AddBatch, DropBatch, SetBound, ForgetAll}

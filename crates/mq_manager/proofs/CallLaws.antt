@@ -7,7 +7,19 @@ use Rattle.mq_calls.specs.declared.agents.Note.TheVariants as notes
 use Rattle.mq_message.specs.declared.message.Ident.{Ident}
 use Rattle.mq_objects.specs.declared.command.Command.{Command}
 use Rattle.mq_calls.specs.declared.commands.ScRefusal.{ScRefusal}
-use Rattle.mq_calls.specs.Words.{Reason, Dest, Message, Luw, Answer, Get, GetAnswer, Sent, Md, Hconn, Hobj, Appl, Open, Shown, Step, Halt, SeizeFault, PrepareFault, Wants, MeetsAs, Meets, MeetsInRoom, MeetsOrWants, is_up}
+use Rattle.mq_calls.specs.Words.{Reason, Dest, Message, Luw, Md, Step, Wants, MeetsAs, Meets, MeetsInRoom, MeetsOrWants, is_up}
+use Rattle.mq_calls.specs.declared.answers.Answer.{Answer}
+use Rattle.mq_calls.specs.declared.answers.Get.{Get}
+use Rattle.mq_calls.specs.declared.answers.GetAnswer.{GetAnswer}
+use Rattle.mq_calls.specs.declared.answers.Sent.{Sent}
+use Rattle.mq_calls.specs.declared.answers.Hconn.{Hconn}
+use Rattle.mq_calls.specs.declared.answers.Hobj.{Hobj}
+use Rattle.mq_calls.specs.declared.answers.Appl.{Appl}
+use Rattle.mq_calls.specs.declared.answers.Open.{Open}
+use Rattle.mq_calls.specs.declared.commands.Shown.{Shown}
+use Rattle.mq_calls.specs.declared.commands.Halt.{Halt}
+use Rattle.mq_calls.specs.declared.agents.SeizeFault.{SeizeFault}
+use Rattle.mq_calls.specs.declared.agents.PrepareFault.{PrepareFault}
 use Rattle.mq_calls.specs.Meeting.Wants.{Nowhere, Behind, Anywhere}
 use Rattle.mq_spec_manager.specs.Words.{Never, mqconn, mqopen, mqclose, mqput, mqput1, mqget, mqcmit, mqback, mqdisc}
 use Rattle.mq_spec_manager.specs.Triggers.{trigger_turn}

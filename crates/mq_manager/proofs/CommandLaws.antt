@@ -36,7 +36,8 @@ use Rattle.mq_sc_apply.specs.declared.answers.Plan.TheVariants as plans
 use Rattle.mq_sc_apply.specs.Commands.{plan, to_change, to_show}
 use Rattle.mq_sc_apply.specs.Displayed.{display}
 use Rattle.mq_sc_apply.specs.Planned.{define, define_at, defined_object, changed, is_used, changes_rows, is_filled, alter, alter_at, alter_good, bad_in, switches_on, alter_manager, default_changes, delete, delete_at, is_on_path, is_sent_from, is_busy}
-use Rattle.mq_calls.specs.Words.{Halt, Plain, MeetsOrWants, LocalQueue, is_up, apply, logged, when, tested}
+use Rattle.mq_calls.specs.Words.{Plain, MeetsOrWants, LocalQueue, is_up, apply, logged, when, tested}
+use Rattle.mq_calls.specs.declared.commands.Halt.{Halt}
 use Rattle.mq_calls.specs.Meeting.Wants.{Anywhere}
 use Rattle.mq_calls.specs.State.Change.{ChangeObjects}
 use Rattle.mq_spec_manager.specs.Commands.{command, planned_step, uses_of, follows, renewed, renewed_if, stale_if, switched_if, dropped}

@@ -4,7 +4,12 @@ use Rattle.std.specs.Prelude.{Option, Some, None}
 use Rattle.mq_calls.specs.declared.deltas.Why.{Why}
 use Rattle.mq_calls.specs.declared.deltas.Why.TheVariants as whys
 use Rattle.mq_calls.specs.State.Change.{SetCursor}
-use Rattle.mq_calls.specs.Words.{Get, Hconn, Hobj, Row, Handle, Connection, Plain, Part, Definitions, do_part, do_all, handle_at, silent}
+use Rattle.mq_calls.specs.Words.{Row, Plain, Part, Definitions, do_part, do_all, handle_at, silent}
+use Rattle.mq_calls.specs.declared.answers.Get.{Get}
+use Rattle.mq_calls.specs.declared.answers.Hconn.{Hconn}
+use Rattle.mq_calls.specs.declared.answers.Hobj.{Hobj}
+use Rattle.mq_calls.specs.declared.state.Handle.{Handle}
+use Rattle.mq_calls.specs.declared.state.Connection.{Connection}
 use Rattle.mq_spec_manager.specs.Handles.{connected}
 use Rattle.mq_spec_manager.specs.Put.{queue_at}
 use Rattle.mq_spec_manager.specs.Get.{mqget, get_up, get_handle, get_scanned, get_found, get_tests, room_tests, scanned, with_row, without_row, is_waiting, is_under, is_left, is_destructive, found_part, taking_part, removal_part, removal_parts, expired_parts}

@@ -2,7 +2,14 @@
 use Rattle.std.proofs.Common.{◌≡◌, ◌≤◌, ℕ, Bool, true, false, List, [], ◌∷◌, ◌++◌, refl, sym, subst, ◌∙◌}
 use Rattle.std.specs.Prelude.{Option, Some, None, Result, Ok, Err, map}
 use Rattle.std.specs.List.{flat_map}
-use Rattle.mq_calls.specs.Words.{Batch, LocalQueue, Process, Nonpersistent, is_up, is_transmission, locals_of, process_of, Reason, Md, Message, Hconn, Hobj, Appl, Open, Route, Connection, Item, Plain, Part, Change, Definitions, apply, apply_all, logged, do_part, condition, local_of, when, handle_at}
+use Rattle.mq_calls.specs.Words.{LocalQueue, Process, Nonpersistent, is_up, is_transmission, locals_of, process_of, Reason, Md, Message, Route, Plain, Part, Change, Definitions, apply, apply_all, logged, do_part, condition, local_of, when, handle_at}
+use Rattle.mq_calls.specs.declared.state.Batch.{Batch}
+use Rattle.mq_calls.specs.declared.answers.Hconn.{Hconn}
+use Rattle.mq_calls.specs.declared.answers.Hobj.{Hobj}
+use Rattle.mq_calls.specs.declared.answers.Appl.{Appl}
+use Rattle.mq_calls.specs.declared.answers.Open.{Open}
+use Rattle.mq_calls.specs.declared.state.Connection.{Connection}
+use Rattle.mq_calls.specs.declared.state.Item.{Item}
 use Rattle.mq_calls.specs.State.Change.{Try, ChangeObjects, SetBound, EndUnit, Disconnect, Leave, ForgetAll}
 use Rattle.mq_calls.specs.declared.state.Item.TheVariants.{Put, Take}
 use Rattle.mq_codes.specs.declared.reason.Reason.TheVariants as reasons

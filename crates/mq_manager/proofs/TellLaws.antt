@@ -5,7 +5,10 @@ use Rattle.std.specs.Prelude.{Option, Some, None, Result, Ok, Err, is_some}
 use Rattle.mq_calls.specs.declared.commands.Halt.TheVariants as halts
 use Rattle.mq_calls.specs.State.{Given}
 use Rattle.mq_calls.specs.State.Change.{Try, SetBound}
-use Rattle.mq_calls.specs.Words.{Plain, Part, Step, Change, LogRecord, Noted, Halt, Image, Refuse, Do, ManagerValue, Wants, MeetsAs, MeetsDone, IsWrite, apply, apply_all, logged, do_part, do_all, stopped_at, freeze, note_of, try_if, condition, local_of, lasting, raised}
+use Rattle.mq_calls.specs.Words.{Plain, Part, Step, Change, Noted, Refuse, Do, ManagerValue, Wants, MeetsAs, MeetsDone, IsWrite, apply, apply_all, logged, do_part, do_all, stopped_at, freeze, note_of, try_if, condition, local_of, lasting, raised}
+use Rattle.mq_calls.specs.declared.records.LogRecord.{LogRecord}
+use Rattle.mq_calls.specs.declared.commands.Halt.{Halt}
+use Rattle.mq_calls.specs.declared.image.Image.{Image}
 use Rattle.mq_spec_manager.specs.Stops.{redone, restarted}
 use Rattle.mq_record.specs.Records.{record_bytes}
 use Rattle.mq_spec_log.specs.Applies.Start.{Later}

@@ -2,7 +2,17 @@
 use Rattle.std.proofs.Common.{◌≡◌, ◌≤◌, ◌+◌, ◌<◌, ◌^◌, ℕ, zero, suc, Bool, true, false, cond, List, [], ◌∷◌, refl, ap, sym, subst, arith}
 use Rattle.std.specs.Prelude.{Option, Some, None, Result, Ok, Err, not, ◌&&◌, ◌==◌, if◌then◌else◌, IfSome}
 use Rattle.std.specs.List.{AllByRecursion}
-use Rattle.mq_calls.specs.Words.{Reason, Answer, Get, GetAnswer, Sent, Md, Hconn, Hobj, Appl, Open, Connection, Plain, Part, Step, Refuse, Do, ManagerValue, Wants, MeetsAs, MeetsDone, Meets, MeetsInRoom, Halt, is_up, connection_at, do_part, do_all, stopped_at, IsWrite, note_of, silent}
+use Rattle.mq_calls.specs.Words.{Reason, Md, Plain, Part, Step, Refuse, Do, ManagerValue, Wants, MeetsAs, MeetsDone, Meets, MeetsInRoom, is_up, connection_at, do_part, do_all, stopped_at, IsWrite, note_of, silent}
+use Rattle.mq_calls.specs.declared.answers.Answer.{Answer}
+use Rattle.mq_calls.specs.declared.answers.Get.{Get}
+use Rattle.mq_calls.specs.declared.answers.GetAnswer.{GetAnswer}
+use Rattle.mq_calls.specs.declared.answers.Sent.{Sent}
+use Rattle.mq_calls.specs.declared.answers.Hconn.{Hconn}
+use Rattle.mq_calls.specs.declared.answers.Hobj.{Hobj}
+use Rattle.mq_calls.specs.declared.answers.Appl.{Appl}
+use Rattle.mq_calls.specs.declared.answers.Open.{Open}
+use Rattle.mq_calls.specs.declared.state.Connection.{Connection}
+use Rattle.mq_calls.specs.declared.commands.Halt.{Halt}
 use Rattle.mq_calls.specs.Steps.{refused_or, going_on}
 use Rattle.mq_calls.specs.Meeting.Wants.{Nowhere, Behind, Anywhere}
 use Rattle.mq_codes.specs.declared.reason.Reason.TheVariants as reasons

@@ -1,7 +1,8 @@
 -- What holds of a manager between its calls.
 use Rattle.std.specs.Prelude.{◌≡◌, ◌≤◌, true, List}
 use Rattle.mq_base.specs.Members.{Chain}
-use Rattle.mq_calls.specs.Words.{Batch, Plain, comes_before, is_up}
+use Rattle.mq_calls.specs.Words.{Plain, comes_before, is_up}
+use Rattle.mq_calls.specs.declared.state.Batch.{Batch}
 use Rattle.mq_core.specs.Counting.{CanCount}
 use Rattle.mq_law_manager.specs.Facts.{AreNamed, IsSound, IsFrozen}
 

@@ -1,7 +1,9 @@
 -- What the log of a manager tells of it between its calls, and what a call leaves of that.
 use Rattle.std.specs.Prelude.{◌≡◌, ℕ, true, List, [], ◌∷◌, ◌++◌, Option, Some, None, Result, Ok, Err}
 use Rattle.mq_calls.specs.declared.commands.Halt.TheVariants as halts
-use Rattle.mq_calls.specs.Words.{Halt, LogRecord, Noted, Part, Plain, Step, Refuse, Do, lasting}
+use Rattle.mq_calls.specs.Words.{Noted, Part, Plain, Step, Refuse, Do, lasting}
+use Rattle.mq_calls.specs.declared.commands.Halt.{Halt}
+use Rattle.mq_calls.specs.declared.records.LogRecord.{LogRecord}
 use Rattle.mq_spec_manager.specs.Stops.{redone}
 use Rattle.mq_record.specs.Records.{record_bytes}
 use Rattle.mq_spec_log.specs.Applies.{is_in_bounds}

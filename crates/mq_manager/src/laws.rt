@@ -1,6 +1,7 @@
 //! What a manager's log tells of it, call by call.
 ghost use Rattle.std.specs.Prelude.{◌≡◌, ℕ, List, ◌∷◌, Result};
-ghost use Rattle.mq_calls.specs.Words.{Halt, MeetsAs, Step, Wants};
+ghost use Rattle.mq_calls.specs.Words.{MeetsAs, Step, Wants};
+ghost use Rattle.mq_calls.specs.declared.commands.Halt.{Halt};
 ghost use Rattle.mq_law_log.specs.Restarts.{StepHarmless};
 ghost use Rattle.mq_core.specs.Values.{CoreValue, WritesLog, manager_of};
 ghost use Rattle.mq_manager.specs.Tells.{StepRead, Tells, TellsAfter};

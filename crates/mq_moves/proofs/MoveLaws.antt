@@ -18,7 +18,8 @@ use Rattle.mq_core.proofs.PlaceLaws.{name_is, same_name, ready, tied_placed, pla
 use Rattle.mq_core.proofs.ForceLaws.{seen_on, times_on, times_keep}
 use Rattle.mq_core.proofs.PutLaws.{queues_same, kept_queue, waits_more, counts_low}
 use Rattle.mq_record.specs.Room.{Buffered}
-use Rattle.mq_calls.specs.Words.{LogRecord, Noted, Part, note_of, Step, Do, Reason, Dest, ManagerValue, MeetsOrWants, apply_all, is_persistent, need}
+use Rattle.mq_calls.specs.Words.{Noted, Part, note_of, Step, Do, Reason, Dest, ManagerValue, MeetsOrWants, apply_all, is_persistent, need}
+use Rattle.mq_calls.specs.declared.records.LogRecord.{LogRecord}
 use Rattle.mq_calls.specs.Meeting.Wants.{Anywhere}
 use Rattle.mq_spec_manager.specs.Words.{placed}
 use Rattle.mq_calls.specs.declared.records.LogRecord.TheVariants as records
@@ -34,7 +35,8 @@ use Rattle.mq_calls.specs.declared.commands.Halt.TheVariants as halts
 use Rattle.mq_record.specs.Room.{with_piece}
 use Rattle.mq_record.specs.Records.{CanBeKept, record_bytes, moved_front}
 use Rattle.mq_frame.specs.Frames.{message_bytes}
-use Rattle.mq_calls.specs.Words.{Halt, freeze, logged, put_bytes, is_int, route_size}
+use Rattle.mq_calls.specs.Words.{freeze, logged, put_bytes, is_int, route_size}
+use Rattle.mq_calls.specs.declared.commands.Halt.{Halt}
 use Rattle.mq_core.specs.declared.parts.StoppedWrite.TheVariants as writes
 use Rattle.mq_core.specs.Views.{frozen_of, noted}
 use Rattle.mq_core.proofs.ForceLaws.{forced_view, frozen_view, tied_downed}

@@ -2,7 +2,8 @@
 use Rattle.std.specs.Prelude.{◌≡◌, ℕ, Bool, List, [], ◌∷◌, Option, Some, None, Result, Ok, Err, IsSome, ◌++◌, nat_le}
 use Rattle.mq_calls.specs.declared.agents.PlaceFault.TheVariants as place_faults
 use Rattle.mq_calls.specs.declared.agents.AgentStop.TheVariants as agent_stops
-use Rattle.mq_calls.specs.Words.{Dest, Ident, Message, PlaceFault, Plain, Reason, Route, PathStep, Refuse, Test, when, local_of}
+use Rattle.mq_calls.specs.Words.{Dest, Ident, Message, Plain, Reason, Route, PathStep, Refuse, Test, when, local_of}
+use Rattle.mq_calls.specs.declared.agents.PlaceFault.{PlaceFault}
 use Rattle.mq_codes.specs.declared.reason.Reason.TheVariants as reasons
 use Rattle.mq_resolve.specs.declared.route.RouteEnd.{RouteEnd}
 use Rattle.mq_spec_manager.specs.Words.{dest_at, inhibited_tests, is_unfit, length_tests, max_depth, output_only, queue_at}

@@ -2,7 +2,8 @@
 use Rattle.std.proofs.Common.{◌≡◌, ℕ, ◌-◌, ◌<◌, ◌≤◌, ◌^◌, Bool, true, false, List, length, ap, arith, sym, subst, ◌∙◌}
 use Rattle.std.specs.Prelude.{ℤ, pos, negsuc, Some, IfSome}
 use Rattle.std.proofs.lemmas.Bool.Decides.{nat_tests}
-use Rattle.mq_calls.specs.Words.{Message, Connection, Plain, connection_at, is_int, is_persistent}
+use Rattle.mq_calls.specs.Words.{Message, Plain, connection_at, is_int, is_persistent}
+use Rattle.mq_calls.specs.declared.state.Connection.{Connection}
 use Rattle.mq_spec_manager.specs.Words.{for_connection, live_or}
 use Rattle.mq_record.specs.Records.{CanBeKept}
 use Rattle.mq_mqi.specs.declared.drafts.Letter.{Letter}

@@ -2,7 +2,10 @@
 use Rattle.std.proofs.Common.{◌≡◌, ℕ, ◌≤◌, Bool, true, false, cond, List, [], ◌∷◌, ◌++◌, length, refl, ap, arith, sym, ◌∙◌}
 use Rattle.std.specs.Prelude.{Option, Some, None, IsSome, nat_le, nat_lt}
 use Rattle.std.proofs.lemmas.Bool.Decides.{nat_tests}
-use Rattle.mq_calls.specs.Words.{Reason, Md, Message, Route, PathStep, LocalQueue, Connection, Plain, Answer, Sent, Test, Step, Refuse, Do, refusal, when, local_of, depth}
+use Rattle.mq_calls.specs.Words.{Reason, Md, Message, Route, PathStep, LocalQueue, Plain, Test, Step, Refuse, Do, refusal, when, local_of, depth}
+use Rattle.mq_calls.specs.declared.state.Connection.{Connection}
+use Rattle.mq_calls.specs.declared.answers.Answer.{Answer}
+use Rattle.mq_calls.specs.declared.answers.Sent.{Sent}
 use Rattle.mq_calls.specs.Steps.{refused_or}
 use Rattle.mq_codes.specs.declared.reason.Reason.TheVariants as reasons
 use Rattle.mq_spec_manager.specs.Words.{put_route, put_step, new_message, log_full, queue_at, max_depth, put_part, sent_answer, is_high}

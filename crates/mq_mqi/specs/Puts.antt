@@ -1,6 +1,9 @@
 -- What a put comes to where no refusal applies.
 use Rattle.std.specs.Prelude.{◌≡◌, ℕ, ◌-◌, ◌^◌, ◌<◌, ◌≤◌, ◌&&◌, ◌++◌, Bool, true, false, List, [], ◌∷◌, length, Result, Ok, Err, IsSome, IfSome}
-use Rattle.mq_calls.specs.Words.{Reason, Message, Md, Answer, Sent, Route, PathStep, Connection, Plain, Step, Test, Refuse, Do, when, is_int, connection_at, is_up, local_of}
+use Rattle.mq_calls.specs.Words.{Reason, Message, Md, Route, PathStep, Plain, Step, Test, Refuse, Do, when, is_int, connection_at, is_up, local_of}
+use Rattle.mq_calls.specs.declared.answers.Answer.{Answer}
+use Rattle.mq_calls.specs.declared.answers.Sent.{Sent}
+use Rattle.mq_calls.specs.declared.state.Connection.{Connection}
 use Rattle.mq_spec_manager.specs.Words.{sent_answer, put_part, put_route, next_ident, log_full, is_high, is_bad_expiry, is_blank, inhibited_tests, length_tests, full_tests, sync_full}
 use Rattle.mq_codes.specs.declared.reason.Reason.TheVariants as reasons
 use Rattle.mq_fill.specs.Drafts.{message_of}

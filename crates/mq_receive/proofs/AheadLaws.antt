@@ -5,7 +5,8 @@ use Rattle.std.specs.Str.{bytes_eq}
 use Rattle.mq_queue.specs.Rows.{insert_row, keep, is_free}
 use Rattle.mq_message.specs.declared.place.Holder.TheVariants as holders
 use Rattle.mq_calls.specs.State.{Queue}
-use Rattle.mq_calls.specs.Words.{Holder, Ident, LocalQueue, Message, Test, when, refusal, channel_of, PathStep, PlaceFault, Reason, Route, Row, Plain, set_queue, Among, depth, stored, queue_in, is_persistent, puts_to, selects, kept_in, placed_in, place, lane_of, new_row, local_of, made_due, depth_type, condition, try_if, apply, apply_all}
+use Rattle.mq_calls.specs.Words.{Holder, Ident, LocalQueue, Message, Test, when, refusal, channel_of, PathStep, Reason, Route, Row, Plain, set_queue, Among, depth, stored, queue_in, is_persistent, puts_to, selects, kept_in, placed_in, place, lane_of, new_row, local_of, made_due, depth_type, condition, try_if, apply, apply_all}
+use Rattle.mq_calls.specs.declared.agents.PlaceFault.{PlaceFault}
 use Rattle.mq_calls.specs.State.Change.{Leave}
 use Rattle.std.proofs.lemmas.List.Sums.{sum_by-cons, sum_by_push}
 use Rattle.mq_codes.specs.declared.reason.Reason.TheVariants as reasons

@@ -8,7 +8,8 @@ use Rattle.mq_objects.specs.Names.{local_of, process_of}
 use Rattle.mq_calls.specs.State.{LogState}
 use Rattle.mq_calls.specs.State.Change.{SetReceiver}
 use Rattle.mq_calls.specs.Condition.{by_type, is_served}
-use Rattle.mq_calls.specs.Words.{Ident, Message, Holder, LocalQueue, ReceiverData, ReceiverSide, Plain, stored, has_priority, is_persistent, condition, try_if, place, set_receiver, apply, apply_all}
+use Rattle.mq_calls.specs.Words.{Ident, Message, Holder, LocalQueue, ReceiverData, Plain, stored, has_priority, is_persistent, condition, try_if, place, set_receiver, apply, apply_all}
+use Rattle.mq_calls.specs.declared.state.ReceiverSide.{ReceiverSide}
 use Rattle.mq_spec_manager.specs.Words.{placed}
 use Rattle.mq_spec_manager.specs.Agents.{RowAt, row_of, is_doubted_by, same_flag, Standing, Absent, InDoubtAt, Present, standing_by, drop_row, undoubted}
 use Rattle.mq_law_manager.proofs.Units.{behind}

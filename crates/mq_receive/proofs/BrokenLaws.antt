@@ -4,7 +4,10 @@ use Rattle.std.specs.Prelude.{Option, Some, Err}
 use Rattle.mq_base.specs.Outside.{Rose}
 use Rattle.mq_disk.specs.declared.cutter.Stop.{Stop}
 use Rattle.mq_log.specs.Force.{Stops}
-use Rattle.mq_calls.specs.Words.{Did, LogRecord, Luw, Noted, Plain, Part, ReceiverSide, freeze, note_of}
+use Rattle.mq_calls.specs.Words.{Luw, Noted, Plain, Part, freeze, note_of}
+use Rattle.mq_calls.specs.declared.deltas.Did.{Did}
+use Rattle.mq_calls.specs.declared.records.LogRecord.{LogRecord}
+use Rattle.mq_calls.specs.declared.state.ReceiverSide.{ReceiverSide}
 use Rattle.mq_core.specs.declared.parts.Arrival.{Arrival}
 use Rattle.mq_core.specs.declared.parts.StoppedWrite.{StoppedWrite}
 use Rattle.mq_core.specs.declared.parts.StoppedWrite.TheVariants as writes

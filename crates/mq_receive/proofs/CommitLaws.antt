@@ -4,7 +4,10 @@ use Rattle.std.specs.Prelude.{Some, Ok, flat_map}
 use Rattle.mq_log.specs.State.{LogState}
 use Rattle.mq_record.specs.Room.{Buffered}
 use Rattle.mq_calls.specs.State.Change.{SetReceiver}
-use Rattle.mq_calls.specs.Words.{Did, LogRecord, Luw, Plain, ReceiverSide, logged, need, set_receiver, written, apply, apply_all}
+use Rattle.mq_calls.specs.Words.{Luw, Plain, logged, need, set_receiver, written, apply, apply_all}
+use Rattle.mq_calls.specs.declared.deltas.Did.{Did}
+use Rattle.mq_calls.specs.declared.records.LogRecord.{LogRecord}
+use Rattle.mq_calls.specs.declared.state.ReceiverSide.{ReceiverSide}
 use Rattle.mq_core.specs.declared.parts.Arrival.{Arrival}
 use Rattle.mq_core.specs.declared.parts.ChannelEnds.{ChannelEnds}
 use Rattle.mq_core.specs.Views.{PartsValue, plain_of}

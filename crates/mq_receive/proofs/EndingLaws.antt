@@ -8,7 +8,11 @@ use Rattle.mq_codes.specs.declared.reason.Reason.TheVariants as reasons
 use Rattle.mq_calls.specs.declared.agents.AgentStop.TheVariants as agent_stops
 use Rattle.mq_calls.specs.declared.agents.PlaceFault.TheVariants as place_faults
 use Rattle.mq_calls.specs.Meeting.Wants.{Anywhere}
-use Rattle.mq_calls.specs.Words.{AgentStop, Did, LogRecord, Luw, MeetsOrWants, Message, Part, PlaceFault, Plain, Reason, Step, Refuse, Do, untouched, apply_all, freeze, is_full, logged, need, note_of, refused_or}
+use Rattle.mq_calls.specs.Words.{Luw, MeetsOrWants, Message, Part, Plain, Reason, Step, Refuse, Do, untouched, apply_all, freeze, is_full, logged, need, note_of, refused_or}
+use Rattle.mq_calls.specs.declared.agents.AgentStop.{AgentStop}
+use Rattle.mq_calls.specs.declared.deltas.Did.{Did}
+use Rattle.mq_calls.specs.declared.records.LogRecord.{LogRecord}
+use Rattle.mq_calls.specs.declared.agents.PlaceFault.{PlaceFault}
 use Rattle.mq_spec_manager.specs.Agents.{landed, receive, receive_landed}
 use Rattle.mq_core.specs.declared.parts.Arrival.{Arrival}
 use Rattle.mq_core.specs.Views.{PartsValue, plain_of}

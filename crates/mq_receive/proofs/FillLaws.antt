@@ -6,7 +6,8 @@ use Rattle.std.proofs.lemmas.List.{length-append}
 use Rattle.std.proofs.lemmas.List.Sums.{sum_by-cons}
 use Rattle.std.proofs.lemmas.Grind.{flat_map-append}
 use Rattle.std.proofs.lemmas.List.Recursion.{is_count_by}
-use Rattle.mq_calls.specs.Words.{Add, Luw, add_size, record_size}
+use Rattle.mq_calls.specs.Words.{Luw, add_size, record_size}
+use Rattle.mq_calls.specs.declared.records.Add.{Add}
 use Rattle.mq_spec_manager.specs.Agents.{received_record}
 use Rattle.mq_record.specs.Room.{Buffered, with_piece}
 use Rattle.mq_record.specs.Records.{add_bytes, IsAdd, record_bytes, received_front}

@@ -3,7 +3,8 @@ use Rattle.std.proofs.Common.{◌≡◌, ℕ, Bool, true, false, List, [], ◌�
 use Rattle.std.specs.Prelude.{Result, Ok, Err, flat_map}
 use Rattle.std.proofs.lemmas.Grind.{flat_map-append}
 use Rattle.std.proofs.lemmas.List.{append-nil, append_assoc}
-use Rattle.mq_calls.specs.Words.{Reason, Message, Plain, Change, Did, apply_all}
+use Rattle.mq_calls.specs.Words.{Reason, Message, Plain, Change, apply_all}
+use Rattle.mq_calls.specs.declared.deltas.Did.{Did}
 use Rattle.mq_calls.specs.declared.deltas.Did.TheVariants as did
 use Rattle.mq_spec_manager.specs.Agents.{Landing, Landed, Standing, land, landed, landed_by, landed_unless, before, nothing_landed, standing_at, is_present, drop_did}
 use Rattle.mq_law_manager.proofs.Units.{behind}

@@ -5,7 +5,8 @@ use Rattle.std.specs.List.{flat_map, AllByRecursion}
 use Rattle.std.proofs.lemmas.Bool.Decides.{nat_tests}
 use Rattle.std.proofs.lemmas.List.Sums.{sum_by-cons}
 use Rattle.std.proofs.lemmas.Grind.{flat_map-append}
-use Rattle.mq_calls.specs.Words.{Add, Dest, Luw, Plain, add_size, is_full, is_persistent, need, put_bytes, route_size}
+use Rattle.mq_calls.specs.Words.{Dest, Luw, Plain, add_size, is_full, is_persistent, need, put_bytes, route_size}
+use Rattle.mq_calls.specs.declared.records.Add.{Add}
 use Rattle.mq_core.specs.declared.parts.Arrival.{Arrival}
 use Rattle.mq_core.specs.Writes.{arrival_adds}
 use Rattle.mq_receive.specs.Filling.{CanStand, adds_size}

@@ -6,7 +6,9 @@ use Rattle.std.specs.Str.{bytes_eq}
 use Rattle.std.proofs.lemmas.Bool.Decides.{nat_tests}
 use Rattle.mq_calls.specs.declared.state.Item.TheVariants.{Put, Take}
 use Rattle.mq_calls.specs.State.{Queue as StateQueue}
-use Rattle.mq_calls.specs.Words.{Ident, Message, Row, Item, Connection, LocalQueue, Plain, Among, has_ident, same_ident, keep, kept_in, selects, queue_in, local_of, is_persistent, off_lists, puts_to, is_by_priority, condition, made_due, depth_type, apply_all}
+use Rattle.mq_calls.specs.Words.{Ident, Message, Row, LocalQueue, Plain, Among, has_ident, same_ident, keep, kept_in, selects, queue_in, local_of, is_persistent, off_lists, puts_to, is_by_priority, condition, made_due, depth_type, apply_all}
+use Rattle.mq_calls.specs.declared.state.Item.{Item}
+use Rattle.mq_calls.specs.declared.state.Connection.{Connection}
 use Rattle.mq_spec_manager.specs.Words.{placed}
 use Rattle.mq_spec_manager.specs.Agents.{RowAt, row_found, row_of, is_pending, is_unborn, has_put, is_doubted_by, same_flag, Standing, Absent, InDoubtAt, Present, standing_by, drop_row, undoubted}
 use Rattle.mq_queue.specs.Queues.{Lacks}

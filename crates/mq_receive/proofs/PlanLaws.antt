@@ -3,7 +3,10 @@ use Rattle.std.proofs.Common.{◌≡◌, ℕ, suc, ◌+◌, ◌<◌, length, get
 use Rattle.std.specs.Prelude.{Option, Some, None, Result, Ok, Err, ◌||◌, ◌&&◌, if◌then◌else◌, flat_map}
 use Rattle.std.proofs.lemmas.List.{append-nil}
 use Rattle.mq_calls.specs.declared.agents.PlaceFault.TheVariants as place_faults
-use Rattle.mq_calls.specs.Words.{PlaceFault, Add, Change, Did, Refuse, Ident, Message, Reason, Plain, Luw, Step, same_ident, is_persistent, apply_all}
+use Rattle.mq_calls.specs.Words.{Change, Refuse, Ident, Message, Reason, Plain, Luw, Step, same_ident, is_persistent, apply_all}
+use Rattle.mq_calls.specs.declared.agents.PlaceFault.{PlaceFault}
+use Rattle.mq_calls.specs.declared.records.Add.{Add}
+use Rattle.mq_calls.specs.declared.deltas.Did.{Did}
 use Rattle.mq_spec_manager.specs.Agents.{Landed, RowAt, Standing, Absent, InDoubtAt, Present, standing_by, standing_at, is_present, row_of, is_pending, is_unborn, is_doubted_by, same_flag, land, landed, receive, receive_landed}
 use Rattle.mq_law_manager.specs.Facts.{Sound, AreNamed}
 use Rattle.mq_law_manager.proofs.Lists.{ident_yes, ident_self}

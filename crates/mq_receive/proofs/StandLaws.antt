@@ -5,7 +5,8 @@ use Rattle.std.specs.List.{list_any}
 use Rattle.std.specs.Str.{bytes_eq}
 use Rattle.mq_message.specs.declared.place.Holder.TheVariants as holders
 use Rattle.mq_calls.specs.State.{Queue}
-use Rattle.mq_calls.specs.Words.{Ident, Message, Row, Holder, InDoubt, Plain, SenderSide, Among, has_ident, same_ident, keep, insert_row, set_queue, kept_in, selects, queue_in, stored, sender_in, in_doubt_of, is_persistent, off_lists, less_ident, local_of, lane_of, new_row, placed_in, place, try_if, made_due, depth_type, condition, apply_all}
+use Rattle.mq_calls.specs.Words.{Ident, Message, Row, Holder, InDoubt, Plain, Among, has_ident, same_ident, keep, insert_row, set_queue, kept_in, selects, queue_in, stored, sender_in, in_doubt_of, is_persistent, off_lists, less_ident, local_of, lane_of, new_row, placed_in, place, try_if, made_due, depth_type, condition, apply_all}
+use Rattle.mq_calls.specs.declared.state.SenderSide.{SenderSide}
 use Rattle.mq_spec_manager.specs.Words.{placed}
 use Rattle.mq_spec_manager.specs.Agents.{RowAt, row_found, row_of, doubts, is_doubted_by, is_pending, is_unborn, same_flag, Standing, Absent, InDoubtAt, Present, standing_by, standing_at, is_present, drop_row, undoubted, drop_changes}
 use Rattle.mq_law_manager.specs.Facts.{Mem, Sound, AreNamed}

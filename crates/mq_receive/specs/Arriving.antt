@@ -2,7 +2,8 @@
 use Rattle.std.specs.Prelude.{◌≡◌, ℕ, List, Option, Result, Ok, Err}
 use Rattle.mq_calls.specs.declared.agents.PlaceFault.TheVariants as place_faults
 use Rattle.mq_calls.specs.declared.agents.AgentStop.TheVariants as agent_stops
-use Rattle.mq_calls.specs.Words.{Reason, PlaceFault}
+use Rattle.mq_calls.specs.Words.{Reason}
+use Rattle.mq_calls.specs.declared.agents.PlaceFault.{PlaceFault}
 use Rattle.mq_spec_manager.specs.Agents.{Landing}
 use Rattle.mq_core.specs.declared.parts.Arrival.{Arrival}
 use Rattle.mq_core.specs.Writes.{landing_of}

@@ -4,7 +4,10 @@ use Rattle.mq_base.specs.Outside.{Rose}
 use Rattle.mq_disk.specs.declared.cutter.Stop.{Stop}
 use Rattle.mq_disk.specs.declared.cutter.Stop.TheVariants as stops
 use Rattle.mq_log.specs.Force.{Stops}
-use Rattle.mq_calls.specs.Words.{Did, LogRecord, Luw, Part, Plain, Reason, ReceiverSide, Step, Do, receiver_or, receiver_data, set_receiver, logged, freeze, is_full, need, note_of, apply_all}
+use Rattle.mq_calls.specs.Words.{Luw, Part, Plain, Reason, Step, Do, receiver_or, receiver_data, set_receiver, logged, freeze, is_full, need, note_of, apply_all}
+use Rattle.mq_calls.specs.declared.deltas.Did.{Did}
+use Rattle.mq_calls.specs.declared.records.LogRecord.{LogRecord}
+use Rattle.mq_calls.specs.declared.state.ReceiverSide.{ReceiverSide}
 use Rattle.mq_spec_manager.specs.Agents.{received_record, received_part}
 use Rattle.mq_core.specs.declared.parts.Arrival.{Arrival}
 use Rattle.mq_core.specs.declared.parts.StoppedWrite.TheVariants as writes

@@ -2,7 +2,8 @@
 use Rattle.std.specs.Prelude.{◌≡◌, ℕ, List, [], Result, Ok, Err}
 use Rattle.mq_calls.specs.declared.agents.PlaceFault.TheVariants as place_faults
 use Rattle.mq_calls.specs.declared.agents.AgentStop.TheVariants as agent_stops
-use Rattle.mq_calls.specs.Words.{Message, Reason, Plain, PlaceFault}
+use Rattle.mq_calls.specs.Words.{Message, Reason, Plain}
+use Rattle.mq_calls.specs.declared.agents.PlaceFault.{PlaceFault}
 use Rattle.mq_spec_manager.specs.Agents.{Landed, landed, standing_at}
 use Rattle.mq_law_manager.specs.Facts.{Sound, AreNamed}
 use Rattle.mq_core.specs.declared.parts.Arrival.{Arrival}

@@ -17,7 +17,8 @@ use Rattle.mq_calls.specs.declared.records.Add.{Add}
 use Rattle.mq_calls.specs.declared.records.Remove.{Remove}
 use Rattle.mq_calls.specs.declared.records.LogRecord.{LogRecord}
 use Rattle.mq_calls.specs.declared.records.LogRecord.TheVariants as records
-use Rattle.mq_calls.specs.Words.{Connection, Plain, connection_at, is_persistent}
+use Rattle.mq_calls.specs.Words.{Plain, connection_at, is_persistent}
+use Rattle.mq_calls.specs.declared.state.Connection.{Connection}
 use Rattle.mq_calls.specs.Steps.{note_of}
 use Rattle.mq_spec_manager.specs.Units.{adds_of, removes_of, record_of, removed_item, placed_did}
 use Rattle.mq_spec_manager.specs.Stops.{lasts, redone_delta}

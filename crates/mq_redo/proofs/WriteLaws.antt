@@ -13,7 +13,8 @@ use Rattle.mq_calls.specs.declared.deltas.Why.{Why}
 use Rattle.mq_calls.specs.declared.records.Remove.{Remove}
 use Rattle.mq_calls.specs.declared.records.LogRecord.{LogRecord}
 use Rattle.mq_calls.specs.declared.records.LogRecord.TheVariants as records
-use Rattle.mq_calls.specs.Words.{Plain, Batch, stands}
+use Rattle.mq_calls.specs.Words.{Plain, stands}
+use Rattle.mq_calls.specs.declared.state.Batch.{Batch}
 use Rattle.mq_spec_manager.specs.Stops.{lasts, redone_delta}
 use Rattle.mq_spec_manager.specs.Agents.{harden_part, settle_did}
 use Rattle.mq_core.specs.Views.{PartsValue, frozen_of, noted_batch}

@@ -1,7 +1,7 @@
 //! What lasts of a batch of messages whose receiver's commit was stopped.
 ghost use Rattle.std.specs.Prelude.{◌≡◌, ◌+◌, ◌<◌, ◌≤◌, ◌++◌, length};
 ghost use Rattle.std.specs.List.{flat_map, list_any};
-ghost use Rattle.mq_calls.specs.Words.{Add};
+ghost use Rattle.mq_calls.specs.declared.records.Add.{Add};
 ghost use Rattle.mq_queue.specs.Rows.{same_ident};
 ghost use Rattle.mq_core.specs.Views.{plain_of};
 ghost use Rattle.mq_core.specs.Writes.{arrival_adds};

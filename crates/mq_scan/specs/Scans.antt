@@ -1,6 +1,8 @@
 -- What a scan of a get finds, from a cursor on.
 use Rattle.std.specs.Prelude.{ℕ, ◌&&◌, List, [], ◌∷◌, Option, None}
-use Rattle.mq_calls.specs.Words.{Place, Want, Get, Take, Row, Plain, is_free, is_wanted, is_past, is_persistent}
+use Rattle.mq_calls.specs.Words.{Place, Want, Row, Plain, is_free, is_wanted, is_past, is_persistent}
+use Rattle.mq_calls.specs.declared.answers.Get.{Get}
+use Rattle.mq_calls.specs.declared.answers.Take.{Take}
 use Rattle.mq_calls.specs.declared.answers.Take.TheVariants as takes
 use Rattle.mq_spec_manager.specs.Get.{Scan, scan, scan_row, asked, looked_at}
 use Rattle.mq_scan.specs.declared.scanning.Met.{Met}

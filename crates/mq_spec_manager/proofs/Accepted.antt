@@ -1,7 +1,9 @@
 -- An accepted command changes the definitions as it would where nothing is in use: what is in use decides of refusals alone.
 use Rattle.std.specs.Prelude.{◌≡◌, ℕ, Bool, true, false, not, ◌&&◌, ◌||◌, List, [], ◌∷◌, Option, Some, None, Result, Ok, Err, refl}
 use Rattle.std.proofs.Common.{ap, ◌∙◌}
-use Rattle.mq_calls.specs.Words.{Object, ManagerAttributes, Definitions, Command, Shown, ScRefusal}
+use Rattle.mq_calls.specs.Words.{Object, ManagerAttributes, Definitions, Command}
+use Rattle.mq_calls.specs.declared.commands.Shown.{Shown}
+use Rattle.mq_calls.specs.declared.commands.ScRefusal.{ScRefusal}
 use Rattle.mq_objects.specs.declared.object.Object.TheVariants as objects
 use Rattle.mq_objects.specs.declared.setting.Keyword.{Keyword}
 use Rattle.mq_objects.specs.declared.command.Define.{Define}

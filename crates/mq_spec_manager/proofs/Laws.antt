@@ -2,7 +2,14 @@
 use Rattle.std.specs.Prelude.{◌≡◌, ℕ, Bool, true, false, List, Option, Some, None, Result, Ok, Err, refl}
 use Rattle.std.proofs.Common.{◌∙◌}
 use Rattle.mq_calls.specs.Steps.{◌>>=◌}
-use Rattle.mq_calls.specs.Words.{going_on, none_of, Answer, Md, Route, Reason, Hconn, Hobj, Open, Message, LogRecord, Connection, Handle, Plain, Step, Test, refusal, refused_or, tested, next, logged, do_part, handle_at, apply, apply_all, place, try_if}
+use Rattle.mq_calls.specs.Words.{going_on, none_of, Md, Route, Reason, Message, Plain, Step, Test, refusal, refused_or, tested, next, logged, do_part, handle_at, apply, apply_all, place, try_if}
+use Rattle.mq_calls.specs.declared.answers.Answer.{Answer}
+use Rattle.mq_calls.specs.declared.answers.Hconn.{Hconn}
+use Rattle.mq_calls.specs.declared.answers.Hobj.{Hobj}
+use Rattle.mq_calls.specs.declared.answers.Open.{Open}
+use Rattle.mq_calls.specs.declared.records.LogRecord.{LogRecord}
+use Rattle.mq_calls.specs.declared.state.Connection.{Connection}
+use Rattle.mq_calls.specs.declared.state.Handle.{Handle}
 use Rattle.mq_resolve.specs.Resolved.{resolve}
 use Rattle.mq_calls.specs.State.Change.{CountIdent}
 use Rattle.mq_spec_manager.specs.Handles.{connected, for_connection, for_handle, mqopen, option_tests, open_tests, open_step}

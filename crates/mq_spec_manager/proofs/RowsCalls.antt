@@ -1,6 +1,9 @@
 -- Worked rows, computed from the definitions.
 use Rattle.std.specs.Prelude.{◌≡◌, ℕ, pos, true, false, List, [], ◌∷◌, Some, None, Result, Ok, Err, replicate, codes, refl}
-use Rattle.mq_calls.specs.Words.{Reason, Md, Definitions, Route, Got, Answer, GetAnswer, Plain, depth, Step, next, Refuse, Do}
+use Rattle.mq_calls.specs.Words.{Reason, Md, Definitions, Route, Plain, depth, Step, next, Refuse, Do}
+use Rattle.mq_calls.specs.declared.answers.Got.{Got}
+use Rattle.mq_calls.specs.declared.answers.Answer.{Answer}
+use Rattle.mq_calls.specs.declared.answers.GetAnswer.{GetAnswer}
 use Rattle.mq_codes.specs.declared.reason.Reason.TheVariants as reasons
 use Rattle.mq_objects.specs.declared.object.Usage.TheVariants as usages
 use Rattle.mq_objects.specs.declared.setting.Setting.TheVariants as settings

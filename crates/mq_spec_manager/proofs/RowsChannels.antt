@@ -1,7 +1,10 @@
 -- Worked rows of channels, triggers, stops in a write, stale handles and moves, computed from the definitions.
 use Rattle.std.specs.Prelude.{◌≡◌, ℕ, pos, Bool, true, false, List, [], ◌∷◌, ◌++◌, Option, Some, None, length, codes, refl, take, drop, map, flat_map}
 use Rattle.std.specs.Option.{option_map}
-use Rattle.mq_calls.specs.Words.{Ident, Message, Object, ManagerAttributes, Command, Open, ScRefusal, Shown, Luw, InDoubt, Plain, stored, sender_data, depth, in_doubt_of, reserved, Step, next, after, Refuse, Row}
+use Rattle.mq_calls.specs.Words.{Ident, Message, Object, ManagerAttributes, Command, Luw, InDoubt, Plain, stored, sender_data, depth, in_doubt_of, reserved, Step, next, after, Refuse, Row}
+use Rattle.mq_calls.specs.declared.answers.Open.{Open}
+use Rattle.mq_calls.specs.declared.commands.ScRefusal.{ScRefusal}
+use Rattle.mq_calls.specs.declared.commands.Shown.{Shown}
 use Rattle.mq_objects.specs.Changed.{set}
 use Rattle.mq_objects.specs.Attributes.{Attribute, attributes, shown_attribute, define_text}
 use Rattle.mq_objects.specs.Names.{named}

@@ -3,7 +3,10 @@
 use Rattle.std.specs.Prelude.{◌≡◌, ℕ, false, List, [], ◌∷◌, None, Ok, Err, codes, refl}
 use Rattle.std.proofs.Common.{ap, arith, ◌∙◌, sym}
 use Rattle.mq_disk.specs.declared.cutter.Stop.TheVariants as stops
-use Rattle.mq_calls.specs.Words.{Reason, Answer, Sent, Did, Plain, Step, Part, write_calls, delta_of, Refuse, Do, ManagerValue, untouched, Meets, MeetsOrWants, MeetsInRoom, MeetsDone, StoppedIn}
+use Rattle.mq_calls.specs.Words.{Reason, Plain, Step, Part, write_calls, delta_of, Refuse, Do, ManagerValue, untouched, Meets, MeetsOrWants, MeetsInRoom, MeetsDone, StoppedIn}
+use Rattle.mq_calls.specs.declared.answers.Answer.{Answer}
+use Rattle.mq_calls.specs.declared.answers.Sent.{Sent}
+use Rattle.mq_calls.specs.declared.deltas.Did.{Did}
 use Rattle.mq_codes.specs.declared.reason.Reason.TheVariants as reasons
 use Rattle.mq_calls.specs.declared.commands.Halt.TheVariants as halts
 use Rattle.mq_calls.specs.declared.deltas.Did.TheVariants as did

@@ -1,7 +1,10 @@
 -- More refusals, a get that forces twice, and what DISPLAY shows, computed from the definitions.
 use Rattle.std.specs.Prelude.{◌≡◌, ℕ, pos, ◌+◌, Bool, true, false, List, [], ◌∷◌, None, codes, refl}
 use Rattle.std.specs.Fmt.{digits}
-use Rattle.mq_calls.specs.Words.{Md, Command, Open, Input, GetAnswer, Reason, Plain, Step, After, next, after, Refuse, Do}
+use Rattle.mq_calls.specs.Words.{Md, Command, Reason, Plain, Step, After, next, after, Refuse, Do}
+use Rattle.mq_calls.specs.declared.answers.Open.{Open}
+use Rattle.mq_calls.specs.declared.answers.Input.{Input}
+use Rattle.mq_calls.specs.declared.answers.GetAnswer.{GetAnswer}
 use Rattle.mq_objects.specs.declared.object.Usage.TheVariants as usages
 use Rattle.mq_objects.specs.declared.setting.Keyword.TheVariants as keywords
 use Rattle.mq_objects.specs.declared.setting.Setting.{Setting}

@@ -1,7 +1,8 @@
 -- Messages that come to a manager where their ident stands already: held by a unit in doubt, with the same persistence or the
 -- other; on that unit's list alone; pending, or of a number not given yet; twice in one batch.
 use Rattle.std.specs.Prelude.{◌≡◌, ℕ, pos, Bool, true, false, List, [], ◌∷◌, Option, Some, None, Result, Ok, Err, length, map, codes, refl}
-use Rattle.mq_calls.specs.Words.{Reason, Ident, Message, Object, SenderSide, Luw, InDoubt, Plain, sender_data, in_doubt_of, apply, next}
+use Rattle.mq_calls.specs.Words.{Reason, Ident, Message, Object, Luw, InDoubt, Plain, sender_data, in_doubt_of, apply, next}
+use Rattle.mq_calls.specs.declared.state.SenderSide.{SenderSide}
 use Rattle.mq_objects.specs.declared.object.Usage.TheVariants as usages
 use Rattle.mq_objects.specs.declared.setting.ChannelType.TheVariants as channel_types
 use Rattle.mq_objects.specs.declared.setting.Setting.TheVariants as settings

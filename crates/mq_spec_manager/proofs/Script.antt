@@ -1,6 +1,18 @@
 -- Calls of a script, and what its report would show, for worked rows.
 use Rattle.std.specs.Prelude.{ℕ, ℤ, pos, negsuc, Bool, true, false, List, [], ◌∷◌, None, map, replicate, codes}
-use Rattle.mq_calls.specs.Words.{Reason, Ident, Md, Hconn, Hobj, Appl, Open, Answer, Sent, Got, Get, Take, GetAnswer, Image, Shelf, Object, LocalQueue, Definitions, Plain, stored, Step, next, Refuse, Do, Row, locals_of}
+use Rattle.mq_calls.specs.Words.{Reason, Ident, Md, Object, LocalQueue, Definitions, Plain, stored, Step, next, Refuse, Do, Row, locals_of}
+use Rattle.mq_calls.specs.declared.answers.Hconn.{Hconn}
+use Rattle.mq_calls.specs.declared.answers.Hobj.{Hobj}
+use Rattle.mq_calls.specs.declared.answers.Appl.{Appl}
+use Rattle.mq_calls.specs.declared.answers.Open.{Open}
+use Rattle.mq_calls.specs.declared.answers.Answer.{Answer}
+use Rattle.mq_calls.specs.declared.answers.Sent.{Sent}
+use Rattle.mq_calls.specs.declared.answers.Got.{Got}
+use Rattle.mq_calls.specs.declared.answers.Get.{Get}
+use Rattle.mq_calls.specs.declared.answers.Take.{Take}
+use Rattle.mq_calls.specs.declared.answers.GetAnswer.{GetAnswer}
+use Rattle.mq_calls.specs.declared.image.Image.{Image}
+use Rattle.mq_calls.specs.declared.image.Shelf.{Shelf}
 use Rattle.mq_codes.specs.Numbers.{number}
 use Rattle.mq_objects.specs.Defaults.{nothing_defined}
 use Rattle.mq_objects.specs.declared.setting.Setting.{Setting}

@@ -1,7 +1,10 @@
 -- A sender's batch: rows are held, released, or prepared as the unit in doubt.
 use Rattle.std.specs.Option.{option_map}
 use Rattle.std.specs.Prelude.{ℕ, zero, suc, false, List, [], ◌∷◌, Option, Some, None, length, map, take, find, slice_get}
-use Rattle.mq_calls.specs.Words.{Ident, Message, sender_or, data_prepared, InDoubt, SenderData, Luw, PrepareFault, LogRecord, Batch, stored, sender_data, free_rows, batch_of, is_full, need, Plain, Change, Among, HeldBy, Step, when, tested, say, Do, has_ident, Row}
+use Rattle.mq_calls.specs.Words.{Ident, Message, sender_or, data_prepared, InDoubt, SenderData, Luw, stored, sender_data, free_rows, batch_of, is_full, need, Plain, Change, Among, HeldBy, Step, when, tested, say, Do, has_ident, Row}
+use Rattle.mq_calls.specs.declared.agents.PrepareFault.{PrepareFault}
+use Rattle.mq_calls.specs.declared.records.LogRecord.{LogRecord}
+use Rattle.mq_calls.specs.declared.state.Batch.{Batch}
 use Rattle.mq_message.specs.declared.place.Holder.TheVariants as holders
 use Rattle.mq_calls.specs.declared.agents.PrepareFault.TheVariants as prepare_faults
 use Rattle.mq_calls.specs.declared.deltas.Did.TheVariants as did

@@ -1,7 +1,9 @@
 -- Commands on objects at a plain manager: their answers and changes are those that are planned from the definitions and
 -- from what the manager says of the use of its objects.
 use Rattle.std.specs.Prelude.{ℕ, Bool, true, false, not, List, [], ◌∷◌, ◌++◌, Option, Some, None, Result, Ok, Err}
-use Rattle.mq_calls.specs.Words.{LocalQueue, Object, Definitions, Subject, Command, ObjectChange, PathStep, Shown, ScRefusal, Plain, Change, stored, is_up, depth, has_rows, read_by_sender, on_path, channel_busy, Step, Part, when, tested, say, Refuse, Do, local_of}
+use Rattle.mq_calls.specs.Words.{LocalQueue, Object, Definitions, Subject, Command, ObjectChange, PathStep, Plain, Change, stored, is_up, depth, has_rows, read_by_sender, on_path, channel_busy, Step, Part, when, tested, say, Refuse, Do, local_of}
+use Rattle.mq_calls.specs.declared.commands.Shown.{Shown}
+use Rattle.mq_calls.specs.declared.commands.ScRefusal.{ScRefusal}
 use Rattle.mq_objects.specs.declared.object.Object.TheVariants as objects
 use Rattle.mq_objects.specs.declared.command.Subject.TheVariants as subjects
 use Rattle.mq_objects.specs.declared.change.ObjectChange.TheVariants as changes

@@ -2,7 +2,9 @@
 use Rattle.std.specs.List.{list_any, AllByRecursion}
 use Rattle.std.specs.Option.{option_map}
 use Rattle.std.specs.Prelude.{AllPairs, ℕ, Bool, true, false, not, ◌&&◌, List, [], ◌∷◌, Option, Some, None, find, ◌≡◌, ◌<◌, ◌≤◌, IsSome, is_some}
-use Rattle.mq_calls.specs.Words.{Ident, LocalQueue, sender_or, receiver_or, Below, InDoubt, Luw, Note, Batch, rests_by, stored, sender_data, receiver_data, seizure_of, batch_of, in_doubt_of, is_up, Plain, Queue, same_ident, has_ident, held_by, Row, local_of, channel_of, is_transmission}
+use Rattle.mq_calls.specs.Words.{Ident, LocalQueue, sender_or, receiver_or, Below, InDoubt, Luw, rests_by, stored, sender_data, receiver_data, seizure_of, batch_of, in_doubt_of, is_up, Plain, Queue, same_ident, has_ident, held_by, Row, local_of, channel_of, is_transmission}
+use Rattle.mq_calls.specs.declared.agents.Note.{Note}
+use Rattle.mq_calls.specs.declared.state.Batch.{Batch}
 use Rattle.mq_calls.specs.Recovery.{IsNumbered}
 use Rattle.mq_message.specs.declared.place.Holder.TheVariants as holders
 use Rattle.mq_sync.specs.declared.data.End.TheVariants as ends

@@ -1,7 +1,19 @@
 -- MQGET.
 use Rattle.std.specs.Prelude.{ℕ, pos, ◌+◌, ◌*◌, nat_lt, Bool, true, false, not, ◌&&◌, List, [], ◌∷◌, ◌++◌, if◌then◌else◌, Option, Some, None, length, map, filter, take, codes}
 use Rattle.std.specs.List.{list_any}
-use Rattle.mq_calls.specs.Words.{Reason, Ident, Dest, Md, Message, Place, Want, Object, Definitions, PathStep, Hconn, Hobj, Answer, Take, Get, Got, GetAnswer, Why, Remove, LogRecord, Connection, Handle, Plain, Among, stored, is_persistent, is_input, handle_at, is_expired, more_need, is_full, Step, Part, Test, when, tested, silent, say, Do, Row, is_free, is_wanted, is_after, same_place, queue_of}
+use Rattle.mq_calls.specs.Words.{Reason, Ident, Dest, Md, Message, Place, Want, Object, Definitions, PathStep, Plain, Among, stored, is_persistent, is_input, handle_at, is_expired, more_need, is_full, Step, Part, Test, when, tested, silent, say, Do, Row, is_free, is_wanted, is_after, same_place, queue_of}
+use Rattle.mq_calls.specs.declared.answers.Hconn.{Hconn}
+use Rattle.mq_calls.specs.declared.answers.Hobj.{Hobj}
+use Rattle.mq_calls.specs.declared.answers.Answer.{Answer}
+use Rattle.mq_calls.specs.declared.answers.Take.{Take}
+use Rattle.mq_calls.specs.declared.answers.Get.{Get}
+use Rattle.mq_calls.specs.declared.answers.Got.{Got}
+use Rattle.mq_calls.specs.declared.answers.GetAnswer.{GetAnswer}
+use Rattle.mq_calls.specs.declared.deltas.Why.{Why}
+use Rattle.mq_calls.specs.declared.records.Remove.{Remove}
+use Rattle.mq_calls.specs.declared.records.LogRecord.{LogRecord}
+use Rattle.mq_calls.specs.declared.state.Connection.{Connection}
+use Rattle.mq_calls.specs.declared.state.Handle.{Handle}
 use Rattle.mq_codes.specs.declared.reason.Reason.TheVariants as reasons
 use Rattle.mq_message.specs.declared.place.Holder.TheVariants as holders
 use Rattle.mq_objects.specs.declared.object.Object.TheVariants as objects

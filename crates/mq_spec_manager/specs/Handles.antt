@@ -2,7 +2,15 @@
 use Rattle.std.specs.Prelude.{ℕ, ◌+◌, ◌==◌, nat_le, Bool, false, not, ◌&&◌, ◌||◌, List, [], ◌∷◌, if◌then◌else◌, Option, Some, None, Result, Ok, Err, length}
 use Rattle.std.specs.Str.{bytes_eq}
 use Rattle.mq_calls.specs.Steps.{◌>>=◌}
-use Rattle.mq_calls.specs.Words.{none_of, Reason, LocalQueue, RouteEnd, Route, Hconn, Hobj, Appl, Answer, Input, Open, Connection, Handle, Plain, is_up, connection_at, handle_at, is_input, is_open_for_input, exclusive_handle, read_by_sender, has_held, Step, Test, when, tested, silent, Refuse, Do, local_of, is_transmission}
+use Rattle.mq_calls.specs.Words.{none_of, Reason, LocalQueue, RouteEnd, Route, Plain, is_up, connection_at, handle_at, is_input, is_open_for_input, exclusive_handle, read_by_sender, has_held, Step, Test, when, tested, silent, Refuse, Do, local_of, is_transmission}
+use Rattle.mq_calls.specs.declared.answers.Hconn.{Hconn}
+use Rattle.mq_calls.specs.declared.answers.Hobj.{Hobj}
+use Rattle.mq_calls.specs.declared.answers.Appl.{Appl}
+use Rattle.mq_calls.specs.declared.answers.Answer.{Answer}
+use Rattle.mq_calls.specs.declared.answers.Input.{Input}
+use Rattle.mq_calls.specs.declared.answers.Open.{Open}
+use Rattle.mq_calls.specs.declared.state.Connection.{Connection}
+use Rattle.mq_calls.specs.declared.state.Handle.{Handle}
 use Rattle.mq_codes.specs.declared.reason.Reason.TheVariants as reasons
 use Rattle.mq_resolve.specs.declared.route.RouteEnd.TheVariants.{Local, Via}
 use Rattle.mq_resolve.specs.Resolved.{resolve}

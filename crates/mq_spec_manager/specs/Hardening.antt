@@ -1,6 +1,9 @@
 -- What channel ends harden beside their messages.
 use Rattle.std.specs.Prelude.{ℕ, Bool, true, false, List, [], ◌∷◌, ◌++◌, Some, map, filter, flat_map}
-use Rattle.mq_calls.specs.Words.{Holder, sender_or, receiver_or, data_settled, settle_by, End, Note, Did, Remove, sender_data, receiver_data, Plain, Change, Queue, HeldBy, Step, Part, Do, held_by, Row}
+use Rattle.mq_calls.specs.Words.{Holder, sender_or, receiver_or, data_settled, settle_by, End, sender_data, receiver_data, Plain, Change, Queue, HeldBy, Step, Part, Do, held_by, Row}
+use Rattle.mq_calls.specs.declared.agents.Note.{Note}
+use Rattle.mq_calls.specs.declared.deltas.Did.{Did}
+use Rattle.mq_calls.specs.declared.records.Remove.{Remove}
 use Rattle.mq_message.specs.declared.place.Holder.TheVariants as holders
 use Rattle.mq_sync.specs.declared.data.End.TheVariants as ends
 use Rattle.mq_calls.specs.declared.agents.Note.TheVariants as notes

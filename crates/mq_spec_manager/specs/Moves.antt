@@ -1,6 +1,7 @@
 -- The dead-letter handler's calls.
 use Rattle.std.specs.Prelude.{ℕ, Bool, true, false, ◌&&◌, List, [], ◌∷◌, ◌++◌, if◌then◌else◌, Option, Some, None, Result, Ok, Err, length, filter, drop, find}
-use Rattle.mq_calls.specs.Words.{Reason, Dest, Ident, Message, Place as RowPlace, Route, LogRecord, stored, is_persistent, is_full, need, Plain, Among, Step, Part, when, tested, say, Refuse, Do, has_ident, is_free, is_after, Row}
+use Rattle.mq_calls.specs.Words.{Reason, Dest, Ident, Message, Place as RowPlace, Route, stored, is_persistent, is_full, need, Plain, Among, Step, Part, when, tested, say, Refuse, Do, has_ident, is_free, is_after, Row}
+use Rattle.mq_calls.specs.declared.records.LogRecord.{LogRecord}
 use Rattle.mq_codes.specs.declared.reason.Reason.TheVariants as reasons
 use Rattle.mq_resolve.specs.Resolved.{resolve}
 use Rattle.mq_calls.specs.declared.deltas.Did.TheVariants as did

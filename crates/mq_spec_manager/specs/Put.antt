@@ -3,7 +3,16 @@ use Rattle.std.specs.Prelude.{ℕ, ℤ, pos, negsuc, ◌+◌, ◌*◌, ◌==◌,
 use Rattle.std.specs.List.{list_any, list_all}
 use Rattle.mq_base.specs.Name.{padded, name_of}
 use Rattle.mq_base.specs.declared.fault.NameFault.{NameFault}
-use Rattle.mq_calls.specs.Words.{Reason, Ident, Dest, Md, Message, LocalQueue, Object, Definitions, RouteEnd, PathStep, Route, Hconn, Hobj, Appl, Answer, Sent, Open, LogRecord, Connection, Handle, Plain, Change, is_int, is_persistent, handle_at, depth, put_bytes, more_need, is_full, Step, Part, Test, when, tested, Refuse, Do, queue_of, local_of}
+use Rattle.mq_calls.specs.Words.{Reason, Ident, Dest, Md, Message, LocalQueue, Object, Definitions, RouteEnd, PathStep, Route, Plain, Change, is_int, is_persistent, handle_at, depth, put_bytes, more_need, is_full, Step, Part, Test, when, tested, Refuse, Do, queue_of, local_of}
+use Rattle.mq_calls.specs.declared.answers.Hconn.{Hconn}
+use Rattle.mq_calls.specs.declared.answers.Hobj.{Hobj}
+use Rattle.mq_calls.specs.declared.answers.Appl.{Appl}
+use Rattle.mq_calls.specs.declared.answers.Answer.{Answer}
+use Rattle.mq_calls.specs.declared.answers.Sent.{Sent}
+use Rattle.mq_calls.specs.declared.answers.Open.{Open}
+use Rattle.mq_calls.specs.declared.records.LogRecord.{LogRecord}
+use Rattle.mq_calls.specs.declared.state.Connection.{Connection}
+use Rattle.mq_calls.specs.declared.state.Handle.{Handle}
 use Rattle.mq_codes.specs.declared.reason.Reason.TheVariants as reasons
 use Rattle.mq_objects.specs.declared.object.Object.TheVariants as objects
 use Rattle.mq_resolve.specs.declared.route.RouteEnd.TheVariants.{Local, Via}

@@ -1,6 +1,9 @@
 -- The commit of a receiver: a batch of messages is placed.
 use Rattle.std.specs.Prelude.{ℕ, Bool, true, false, List, [], ◌∷◌, ◌++◌, if◌then◌else◌, Some, Result, Ok, Err}
-use Rattle.mq_calls.specs.Words.{Reason, Message, receiver_or, Luw, Did, Add, LogRecord, apply_all, receiver_data, is_persistent, is_full, need, Plain, Change, Step, Part, when, tested, Refuse, Do}
+use Rattle.mq_calls.specs.Words.{Reason, Message, receiver_or, Luw, apply_all, receiver_data, is_persistent, is_full, need, Plain, Change, Step, Part, when, tested, Refuse, Do}
+use Rattle.mq_calls.specs.declared.deltas.Did.{Did}
+use Rattle.mq_calls.specs.declared.records.Add.{Add}
+use Rattle.mq_calls.specs.declared.records.LogRecord.{LogRecord}
 use Rattle.mq_codes.specs.declared.reason.Reason.TheVariants as reasons
 use Rattle.mq_calls.specs.declared.deltas.Did.TheVariants as did
 use Rattle.mq_calls.specs.declared.records.LogRecord.TheVariants as records

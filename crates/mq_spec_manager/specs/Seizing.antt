@@ -1,6 +1,8 @@
 -- A sender opens its transmission queue and leaves it; what is kept of a channel; what a sender sees of its queue.
 use Rattle.std.specs.Prelude.{ℕ, nat_lt, Bool, true, false, not, ◌||◌, List, [], ◌∷◌, Option, Some, None, length, filter}
-use Rattle.mq_calls.specs.Words.{Row, local_of, channel_of, Channel, ChannelKind, LocalQueue, ChannelData, ReceiverData, SenderData, Stock, SeizeFault, Seizure, sender_data, receiver_data, is_expired, free_rows, seizure_of, is_open_for_input, has_held_by_other, Plain, Step, when, tested, silent, Do}
+use Rattle.mq_calls.specs.Words.{Row, local_of, channel_of, Channel, ChannelKind, LocalQueue, ChannelData, ReceiverData, SenderData, Stock, sender_data, receiver_data, is_expired, free_rows, seizure_of, is_open_for_input, has_held_by_other, Plain, Step, when, tested, silent, Do}
+use Rattle.mq_calls.specs.declared.agents.SeizeFault.{SeizeFault}
+use Rattle.mq_calls.specs.declared.state.Seizure.{Seizure}
 use Rattle.mq_objects.specs.declared.object.ChannelKind.TheVariants as kinds
 use Rattle.mq_calls.specs.declared.agents.SeizeFault.TheVariants as seize_faults
 use Rattle.mq_calls.specs.State.Change.{Seize, Unseize, SetBound}

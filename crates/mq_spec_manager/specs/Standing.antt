@@ -1,7 +1,10 @@
 -- How the ident of a message that a channel brings stands at the manager already.
 use Rattle.std.specs.List.{list_any}
 use Rattle.std.specs.Prelude.{ℕ, nat_lt, Bool, true, false, not, ◌&&◌, ◌||◌, List, [], ◌∷◌, ◌++◌, if◌then◌else◌, Option, Some, None, find, ◌==◌}
-use Rattle.mq_calls.specs.Words.{Ident, Message, Holder, InDoubt, Did, Connection, Item, sender_data, is_persistent, in_doubt_of, Plain, Change, Queue, Among, same_ident, has_ident, Row}
+use Rattle.mq_calls.specs.Words.{Ident, Message, Holder, InDoubt, sender_data, is_persistent, in_doubt_of, Plain, Change, Queue, Among, same_ident, has_ident, Row}
+use Rattle.mq_calls.specs.declared.deltas.Did.{Did}
+use Rattle.mq_calls.specs.declared.state.Connection.{Connection}
+use Rattle.mq_calls.specs.declared.state.Item.{Item}
 use Rattle.mq_message.specs.declared.place.Holder.TheVariants as holders
 use Rattle.mq_calls.specs.declared.deltas.Did.TheVariants as did
 use Rattle.mq_calls.specs.declared.deltas.Why.TheVariants as whys

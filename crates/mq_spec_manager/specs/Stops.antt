@@ -1,7 +1,15 @@
 -- First start, stop, restart, cut, clock.
 use Rattle.std.specs.Prelude.{◌≡◌, ℕ, ◌+◌, ◌-◌, ◌*◌, ◌<◌, ◌≤◌, ◌⊎◌, min, filter, Bool, true, false, List, [], ◌∷◌, ◌++◌, Option, Some, None, map}
 use Rattle.mq_message.specs.declared.place.Holder.TheVariants as holders
-use Rattle.mq_calls.specs.Words.{Return, RestartFault, Kept, Ident, Did, Add, LogRecord, Batch, Image, Plain, Given, Change, Noted, Running, LogState, HeldBy, HeldByUnits, Nonpersistent, Up, Down, apply_all, lasting, begun, raised, stands, need, After, stands_in, calls_of_write, same_ident}
+use Rattle.mq_calls.specs.Words.{Ident, Plain, Given, Change, Noted, Running, LogState, HeldBy, HeldByUnits, Nonpersistent, Up, Down, apply_all, lasting, begun, raised, stands, need, After, stands_in, calls_of_write, same_ident}
+use Rattle.mq_calls.specs.declared.choices.Return.{Return}
+use Rattle.mq_calls.specs.declared.commands.RestartFault.{RestartFault}
+use Rattle.mq_calls.specs.declared.commands.Kept.{Kept}
+use Rattle.mq_calls.specs.declared.deltas.Did.{Did}
+use Rattle.mq_calls.specs.declared.records.Add.{Add}
+use Rattle.mq_calls.specs.declared.records.LogRecord.{LogRecord}
+use Rattle.mq_calls.specs.declared.state.Batch.{Batch}
+use Rattle.mq_calls.specs.declared.image.Image.{Image}
 use Rattle.mq_calls.specs.declared.choices.Return.TheVariants.{Comes, Fails}
 use Rattle.mq_calls.specs.declared.commands.RestartFault.TheVariants as faults
 use Rattle.std.specs.List.{list_any}

@@ -1,6 +1,14 @@
 -- The ends of units: MQCMIT, MQBACK, MQDISC.
 use Rattle.std.specs.Prelude.{true, List, [], ◌∷◌, ◌++◌, if◌then◌else◌, Option, Some, None, flat_map}
-use Rattle.mq_calls.specs.Words.{Reason, Hconn, Answer, Did, Add, Remove, LogRecord, Connection, Item, Plain, Change, Among, is_persistent, Step, Part, Do}
+use Rattle.mq_calls.specs.Words.{Reason, Plain, Change, Among, is_persistent, Step, Part, Do}
+use Rattle.mq_calls.specs.declared.answers.Hconn.{Hconn}
+use Rattle.mq_calls.specs.declared.answers.Answer.{Answer}
+use Rattle.mq_calls.specs.declared.deltas.Did.{Did}
+use Rattle.mq_calls.specs.declared.records.Add.{Add}
+use Rattle.mq_calls.specs.declared.records.Remove.{Remove}
+use Rattle.mq_calls.specs.declared.records.LogRecord.{LogRecord}
+use Rattle.mq_calls.specs.declared.state.Connection.{Connection}
+use Rattle.mq_calls.specs.declared.state.Item.{Item}
 use Rattle.mq_calls.specs.declared.answers.Answer.TheVariants as answers
 use Rattle.mq_calls.specs.declared.deltas.Did.TheVariants as did
 use Rattle.mq_calls.specs.declared.deltas.Why.TheVariants as reasons_gone

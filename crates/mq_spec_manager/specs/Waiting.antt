@@ -1,6 +1,7 @@
 -- How a body meets MQGET. One that may still wait takes no memory: want of it is no answer there, it waits.
 use Rattle.std.specs.Prelude.{Result}
-use Rattle.mq_calls.specs.Words.{Reason, GetAnswer, Plain, Step, Refuse, Do, ManagerValue, Wants, MeetsAs}
+use Rattle.mq_calls.specs.Words.{Reason, Plain, Step, Refuse, Do, ManagerValue, Wants, MeetsAs}
+use Rattle.mq_calls.specs.declared.answers.GetAnswer.{GetAnswer}
 use Rattle.mq_calls.specs.Meeting.Wants.{Nowhere, Behind}
 use Rattle.mq_calls.specs.declared.answers.GetAnswer.TheVariants.{NotYet, Done}
 use Rattle.mq_calls.specs.declared.commands.Halt.{Halt}

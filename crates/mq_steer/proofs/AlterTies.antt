@@ -18,7 +18,9 @@ use Rattle.mq_resolve.specs.declared.route.PathStep.TheVariants as steps
 use Rattle.mq_sc_apply.specs.declared.answers.Planned.{Planned}
 use Rattle.mq_sc_apply.specs.Planned.{is_filled}
 use Rattle.mq_spec_manager.specs.Commands.{uses_of}
-use Rattle.mq_calls.specs.Words.{Ident, Row, Item, Connection, queue_in, made_stale, puts_to, unit_need}
+use Rattle.mq_calls.specs.Words.{Ident, Row, queue_in, made_stale, puts_to, unit_need}
+use Rattle.mq_calls.specs.declared.state.Item.{Item}
+use Rattle.mq_calls.specs.declared.state.Connection.{Connection}
 use Rattle.mq_calls.specs.Reads.{is_put_to}
 use Rattle.mq_law_manager.specs.Facts.{AreOnce, is_local}
 use Rattle.mq_law_manager.proofs.Objects.{set_found, delete_found}

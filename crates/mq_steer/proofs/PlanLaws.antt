@@ -25,7 +25,8 @@ use Rattle.mq_sc_apply.specs.declared.answers.Plan.TheVariants as plans
 use Rattle.mq_sc_apply.specs.Commands.{plan, to_change, to_show, Gives}
 use Rattle.mq_sc_apply.specs.Displayed.{display}
 use Rattle.mq_sc_apply.specs.Planned.{define, define_at, defined_object, changed, is_used, leads_elsewhere, changes_rows, is_filled, alter, alter_at, alter_good, bad_in, switches_on, alter_manager, default_changes, delete, delete_at, is_on_path, is_sent_from, is_busy}
-use Rattle.mq_calls.specs.Words.{Halt, Plain, Step, Refuse, Do, say, MeetsOrWants, is_up, when, tested}
+use Rattle.mq_calls.specs.Words.{Plain, Step, Refuse, Do, say, MeetsOrWants, is_up, when, tested}
+use Rattle.mq_calls.specs.declared.commands.Halt.{Halt}
 use Rattle.mq_spec_manager.specs.Commands.{command, planned_step, uses_of}
 use Rattle.mq_law_manager.specs.Facts.{is_local}
 use Rattle.mq_law_manager.proofs.Lists.{bool_case}

@@ -10,7 +10,8 @@ use Rattle.mq_objects.specs.declared.object.Object.TheVariants as objects
 use Rattle.mq_objects.specs.Names.{object_in, as_local, is_object}
 use Rattle.mq_objects.specs.Names.Space.{Queues}
 use Rattle.mq_calls.specs.State.{Queue as StateQueue}
-use Rattle.mq_calls.specs.Words.{Running, Up, is_up, Ident, Row, Batch, Plain, Change, Which, LocalQueue, Among, HeldBy, HeldByUnits, Nonpersistent, Down, same_ident, is_free, is_by_unit, held_by, selects, retag, kept_in, released_in, release_if, forgotten, apply_all, has_ident, local_of}
+use Rattle.mq_calls.specs.Words.{Running, Up, is_up, Ident, Row, Plain, Change, Which, LocalQueue, Among, HeldBy, HeldByUnits, Nonpersistent, Down, same_ident, is_free, is_by_unit, held_by, selects, retag, kept_in, released_in, release_if, forgotten, apply_all, has_ident, local_of}
+use Rattle.mq_calls.specs.declared.state.Batch.{Batch}
 use Rattle.mq_queue.specs.Queues.{freed}
 use Rattle.mq_calls.specs.State.Change.{Leave, ForgetAll}
 use Rattle.mq_spec_manager.specs.Stops.{at_rest, stop, stop_at, release_batch}

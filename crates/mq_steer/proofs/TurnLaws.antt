@@ -8,7 +8,8 @@ use Rattle.mq_objects.specs.declared.object.Object.TheVariants as objects
 use Rattle.mq_objects.specs.Names.{object_in, as_local, is_object}
 use Rattle.mq_objects.specs.Names.Space.{Queues}
 use Rattle.mq_calls.specs.State.{Queue as StateQueue}
-use Rattle.mq_calls.specs.Words.{Part, say, stored, is_up, locals_of, process_of, Ident, Message, Item, LocalQueue, Plain, Do, Meets, local_of, place, apply, apply_all, set_queue, Definitions}
+use Rattle.mq_calls.specs.Words.{Part, say, stored, is_up, locals_of, process_of, Ident, Message, LocalQueue, Plain, Do, Meets, local_of, place, apply, apply_all, set_queue, Definitions}
+use Rattle.mq_calls.specs.declared.state.Item.{Item}
 use Rattle.mq_core.specs.Counting.{CanCount}
 use Rattle.mq_calls.specs.declared.state.Item.TheVariants.{Put}
 use Rattle.mq_calls.specs.declared.commands.Halt.TheVariants as halts

@@ -19,7 +19,8 @@ use Rattle.mq_sc_apply.specs.declared.answers.Planned.{Planned}
 use Rattle.mq_sc_apply.specs.declared.answers.Plan.{Plan}
 use Rattle.mq_sc_apply.specs.declared.answers.Plan.TheVariants as plans
 use Rattle.mq_sc_apply.specs.Planned.{changes_rows, is_filled, same_delivery}
-use Rattle.mq_calls.specs.Words.{Halt, PathStep, Plain, Step, Refuse, Do, say, made_stale}
+use Rattle.mq_calls.specs.Words.{PathStep, Plain, Step, Refuse, Do, say, made_stale}
+use Rattle.mq_calls.specs.declared.commands.Halt.{Halt}
 use Rattle.mq_resolve.specs.declared.route.PathStep.TheVariants as steps
 use Rattle.mq_spec_manager.specs.Commands.{uses_of, command, object_part}
 use Rattle.mq_law_manager.specs.Facts.{is_local}

@@ -5,7 +5,8 @@ use Rattle.std.specs.Str.{bytes_eq}
 use Rattle.mq_message.specs.declared.place.Holder.TheVariants as holders
 use Rattle.mq_objects.specs.declared.object.Object.{Object}
 use Rattle.mq_objects.specs.declared.object.Object.TheVariants as objects
-use Rattle.mq_calls.specs.Words.{Row, Queue, Batch, Plain, Among, HeldByUnits, Nonpersistent, held_by, selects, kept_in, released_in, forgotten}
+use Rattle.mq_calls.specs.Words.{Row, Queue, Plain, Among, HeldByUnits, Nonpersistent, held_by, selects, kept_in, released_in, forgotten}
+use Rattle.mq_calls.specs.declared.state.Batch.{Batch}
 use Rattle.mq_place.specs.States.{QueueState, change_state, on_queues}
 use Rattle.mq_core.specs.declared.parts.Mode.TheVariants as modes
 use Rattle.mq_core.specs.Views.{PartsValue}

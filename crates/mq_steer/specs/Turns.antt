@@ -3,7 +3,8 @@ use Rattle.std.specs.Prelude.{◌≡◌, ℕ, ◌+◌, true, false, List, [], �
 use Rattle.mq_base.specs.declared.want.NoMemory.{NoMemory}
 use Rattle.mq_calls.specs.declared.deltas.Did.TheVariants as did
 use Rattle.mq_calls.specs.declared.commands.Halt.TheVariants as halts
-use Rattle.mq_calls.specs.Words.{Message, Halt, Plain, Part, Do, say, silent, stored, local_of}
+use Rattle.mq_calls.specs.Words.{Message, Plain, Part, Do, say, silent, stored, local_of}
+use Rattle.mq_calls.specs.declared.commands.Halt.{Halt}
 use Rattle.mq_calls.specs.State.Change.{Place, CountIdent, Serve}
 use Rattle.mq_spec_manager.specs.Triggers.{Never, trigger_turn}
 use Rattle.mq_spec_manager.specs.Words.{next_ident}

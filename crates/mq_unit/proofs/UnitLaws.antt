@@ -9,7 +9,9 @@ use Rattle.std.proofs.lemmas.List.Recursion.{is_count_by}
 use Rattle.mq_calls.specs.declared.deltas.Did.{Did}
 use Rattle.mq_calls.specs.declared.state.Item.{Item}
 use Rattle.mq_calls.specs.declared.state.Item.TheVariants.{Put, Take}
-use Rattle.mq_calls.specs.Words.{Message, Dest, Add, Remove, is_persistent, item_bytes, put_bytes, add_size, route_size, unit_need, with_head}
+use Rattle.mq_calls.specs.Words.{Message, Dest, is_persistent, item_bytes, put_bytes, add_size, route_size, unit_need, with_head}
+use Rattle.mq_calls.specs.declared.records.Add.{Add}
+use Rattle.mq_calls.specs.declared.records.Remove.{Remove}
 use Rattle.mq_spec_manager.specs.Units.{adds_of, removes_of, record_of, removed_item, placed_did, released_did}
 use Rattle.mq_record.specs.Room.{Buffered, with_piece}
 use Rattle.mq_record.specs.Records.{unit_front, record_bytes, add_bytes, remove_bytes, IsAdd, IsRemove}

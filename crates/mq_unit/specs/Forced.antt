@@ -1,7 +1,9 @@
 -- What a unit forces into the log at its end.
 use Rattle.std.specs.Prelude.{◌≡◌, ℕ, ◌+◌, ◌<◌, ◌≤◌, ◌^◌, Bool, true, false, List, [], length, sum_by, Option, Some, None}
 use Rattle.std.specs.List.{AllByRecursion, flat_map}
-use Rattle.mq_calls.specs.Words.{Item, LogRecord, is_persistent, item_bytes, add_size, need}
+use Rattle.mq_calls.specs.Words.{is_persistent, item_bytes, add_size, need}
+use Rattle.mq_calls.specs.declared.state.Item.{Item}
+use Rattle.mq_calls.specs.declared.records.LogRecord.{LogRecord}
 use Rattle.mq_calls.specs.declared.records.LogRecord.TheVariants as records
 use Rattle.mq_calls.specs.declared.state.Item.TheVariants.{Put, Take}
 use Rattle.mq_spec_manager.specs.Units.{adds_of, removes_of}

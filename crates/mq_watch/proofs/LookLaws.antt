@@ -3,7 +3,8 @@ use Rattle.std.proofs.Common.{◌≡◌, refl, sym, ap, ◌∙◌, List, [], ◌
 use Rattle.std.specs.Prelude.{Some, find, not, ◌&&◌}
 use Rattle.mq_queue.specs.declared.row.Row.{Row}
 use Rattle.mq_queue.specs.Rows.{is_free}
-use Rattle.mq_calls.specs.Words.{Handle, Plain, is_expired, stored}
+use Rattle.mq_calls.specs.Words.{Plain, is_expired, stored}
+use Rattle.mq_calls.specs.declared.state.Handle.{Handle}
 use Rattle.mq_spec_manager.specs.Words.{Scan, queue_at, scan, scan_row, scanned}
 use Rattle.mq_spec_node.specs.Words.{monitor_get}
 use Rattle.mq_watch.specs.Looks.{is_fresh, row_fits, queue_fits, handle_fits}

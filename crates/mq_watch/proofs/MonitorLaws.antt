@@ -11,7 +11,9 @@ use Rattle.mq_history.specs.declared.calls.Actor.TheVariants as actors
 use Rattle.mq_history.specs.declared.calls.Call.TheVariants as calls
 use Rattle.mq_history.specs.declared.calls.Reply.TheVariants as replies
 use Rattle.mq_queue.specs.declared.row.Row.{Row}
-use Rattle.mq_calls.specs.Words.{Connection, Handle, handle_at}
+use Rattle.mq_calls.specs.Words.{handle_at}
+use Rattle.mq_calls.specs.declared.state.Connection.{Connection}
+use Rattle.mq_calls.specs.declared.state.Handle.{Handle}
 use Rattle.mq_spec_manager.specs.Words.{connected, for_connection, for_handle, get_found, get_handle, get_scanned, get_tests, get_up, got, got_answer, is_left, is_too_long, mqget, queue_at, room_tests, scanned, with_row, expired_parts}
 use Rattle.mq_spec_node.specs.Terms.{Call, Choice, Runs, NoMemory, Stopped, Entry, Got, Hconn, Hobj, Part, Plain, Reason, Reply, Step, Refuse, Do}
 use Rattle.mq_spec_node.specs.Words.{CanCome, IsReplayed, Monitor, Node, Own, begins, call_of, done, get_deed, gets_nothing, monitor_deed, monitor_call, monitor_get, monitor_idle, monitor_in, node_of, told}

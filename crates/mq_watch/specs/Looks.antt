@@ -1,6 +1,10 @@
 -- What a monitor's get would find.
 use Rattle.std.specs.Prelude.{ℕ, Bool, false, not, ◌&&◌, find, List, Option, Some, None, Result, Ok, Err}
-use Rattle.mq_calls.specs.Words.{Connection, Handle, Hconn, Hobj, Plain, Reason, Row, handle_at, is_free, is_past, stored}
+use Rattle.mq_calls.specs.Words.{Plain, Reason, Row, handle_at, is_free, is_past, stored}
+use Rattle.mq_calls.specs.declared.state.Connection.{Connection}
+use Rattle.mq_calls.specs.declared.state.Handle.{Handle}
+use Rattle.mq_calls.specs.declared.answers.Hconn.{Hconn}
+use Rattle.mq_calls.specs.declared.answers.Hobj.{Hobj}
 use Rattle.mq_spec_manager.specs.Words.{connected, is_left, scanned}
 use Rattle.mq_spec_node.specs.Words.{monitor_get}
 

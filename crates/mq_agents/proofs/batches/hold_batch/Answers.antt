@@ -1,7 +1,9 @@
 use Rattle.std.proofs.Common.{◌≡◌, ◌∙◌, sym, ap, subst, refl, arith}
 use Rattle.std.specs.Prelude.{ℕ, List, [], ◌∷◌, ◌++◌, length, map, take, Ok, ◌≤◌}
 use Rattle.mq_message.specs.declared.place.Holder.TheVariants as holders
-use Rattle.mq_calls.specs.Words.{Ident, Holder, Batch, Did, Plain, Step, ManagerValue, MeetsOrWants, Among, is_up, held_in, set_named, free_rows, apply_all}
+use Rattle.mq_calls.specs.Words.{Ident, Holder, Plain, Step, ManagerValue, MeetsOrWants, Among, is_up, held_in, set_named, free_rows, apply_all}
+use Rattle.mq_calls.specs.declared.state.Batch.{Batch}
+use Rattle.mq_calls.specs.declared.deltas.Did.{Did}
 use Rattle.mq_calls.specs.State.Change.{Hold, AddBatch}
 use Rattle.mq_calls.specs.Meeting.Wants.{Anywhere}
 use Rattle.mq_spec_manager.specs.Words.{Never, idents_of}

@@ -6,7 +6,10 @@ use Rattle.mq_log.specs.Force.{Stops}
 use Rattle.mq_calls.specs.declared.deltas.Did.TheVariants as did
 use Rattle.mq_calls.specs.declared.deltas.Why.TheVariants as whys
 use Rattle.mq_calls.specs.declared.records.LogRecord.TheVariants as records
-use Rattle.mq_calls.specs.Words.{ManagerValue, Plain, Did, LogRecord, Noted, Step, Halt, MeetsOrWants, Do, Among, is_up, stored, freeze, logged, apply, apply_all}
+use Rattle.mq_calls.specs.Words.{ManagerValue, Plain, Noted, Step, MeetsOrWants, Do, Among, is_up, stored, freeze, logged, apply, apply_all}
+use Rattle.mq_calls.specs.declared.deltas.Did.{Did}
+use Rattle.mq_calls.specs.declared.records.LogRecord.{LogRecord}
+use Rattle.mq_calls.specs.declared.commands.Halt.{Halt}
 use Rattle.mq_calls.specs.State.Change.{Leave}
 use Rattle.mq_calls.specs.Meeting.Wants.{Anywhere}
 use Rattle.mq_spec_manager.specs.Words.{Never}

@@ -1,6 +1,7 @@
 use Rattle.std.proofs.Common.{◌≡◌, ℕ, ◌+◌, ◌≤◌, ◌<◌, ◌∙◌, sym, ap, subst, refl, arith}
 use Rattle.std.specs.Prelude.{List, [], ◌∷◌, ◌++◌, length, Ok, Err, Some}
-use Rattle.mq_calls.specs.Words.{Plain, Did, is_up, set_receiver}
+use Rattle.mq_calls.specs.Words.{Plain, is_up, set_receiver}
+use Rattle.mq_calls.specs.declared.deltas.Did.{Did}
 use Rattle.mq_calls.specs.State.Change.{SetReceiver}
 use Rattle.mq_calls.specs.declared.deltas.Did.TheVariants as did
 use Rattle.mq_unit.specs.Told.{Telling}

@@ -1,6 +1,10 @@
 use Rattle.std.proofs.Common.{◌≡◌, ℕ, ◌+◌, ◌≤◌, ◌<◌, ◌∙◌, true, false, sym, ap, subst, refl, arith}
 use Rattle.std.specs.Prelude.{List, [], ◌∷◌, ◌++◌, length, Some, Ok, Err}
-use Rattle.mq_calls.specs.Words.{ManagerValue, Plain, Did, InDoubt, SenderData, SenderSide, PrepareFault, LogRecord, Noted, Step, MeetsOrWants, Do, is_up, is_full, need, batch_of, sender_or, sender_data, data_prepared, set_sender, apply, apply_all}
+use Rattle.mq_calls.specs.Words.{ManagerValue, Plain, InDoubt, SenderData, Noted, Step, MeetsOrWants, Do, is_up, is_full, need, batch_of, sender_or, sender_data, data_prepared, set_sender, apply, apply_all}
+use Rattle.mq_calls.specs.declared.deltas.Did.{Did}
+use Rattle.mq_calls.specs.declared.state.SenderSide.{SenderSide}
+use Rattle.mq_calls.specs.declared.agents.PrepareFault.{PrepareFault}
+use Rattle.mq_calls.specs.declared.records.LogRecord.{LogRecord}
 use Rattle.mq_calls.specs.State.Change.{DropBatch}
 use Rattle.mq_calls.specs.Meeting.Wants.{Anywhere}
 use Rattle.mq_calls.specs.declared.deltas.Did.TheVariants as did

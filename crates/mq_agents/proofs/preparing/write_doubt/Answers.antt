@@ -3,7 +3,8 @@ use Rattle.std.specs.Prelude.{List, length, Ok, Err}
 use Rattle.mq_base.specs.Outside.{Rose}
 use Rattle.mq_log.specs.State.{LogState, Appended}
 use Rattle.mq_log.specs.Force.{Stops}
-use Rattle.mq_calls.specs.Words.{SenderSide, set_sender}
+use Rattle.mq_calls.specs.Words.{set_sender}
+use Rattle.mq_calls.specs.declared.state.SenderSide.{SenderSide}
 use Rattle.mq_core.specs.declared.parts.ChannelEnds.{ChannelEnds}
 use Rattle.mq_core.specs.declared.parts.StoppedWrite.TheVariants as writes
 use Rattle.mq_core.specs.Views.{PartsValue}

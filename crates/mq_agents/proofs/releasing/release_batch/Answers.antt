@@ -1,7 +1,9 @@
 use Rattle.std.proofs.Common.{◌≡◌, ◌∙◌, false, sym, ap, subst, refl, arith}
 use Rattle.std.specs.Prelude.{ℕ, List, [], ◌∷◌, ◌++◌, map, Some, Ok}
 use Rattle.mq_message.specs.declared.place.Holder.TheVariants as holders
-use Rattle.mq_calls.specs.Words.{Ident, Holder, Batch, Did, Plain, Step, ManagerValue, MeetsOrWants, HeldBy, is_up, released_in, batch_of, apply_all}
+use Rattle.mq_calls.specs.Words.{Ident, Holder, Plain, Step, ManagerValue, MeetsOrWants, HeldBy, is_up, released_in, batch_of, apply_all}
+use Rattle.mq_calls.specs.declared.state.Batch.{Batch}
+use Rattle.mq_calls.specs.declared.deltas.Did.{Did}
 use Rattle.mq_calls.specs.State.Change.{Release, DropBatch}
 use Rattle.mq_calls.specs.Meeting.Wants.{Anywhere}
 use Rattle.mq_spec_manager.specs.Words.{Never}

@@ -5,7 +5,11 @@ use Rattle.mq_message.specs.declared.place.Holder.TheVariants as holders
 use Rattle.mq_calls.specs.declared.agents.Note.TheVariants as notes
 use Rattle.mq_calls.specs.declared.deltas.Did.TheVariants as did
 use Rattle.mq_calls.specs.declared.records.LogRecord.TheVariants as records
-use Rattle.mq_calls.specs.Words.{ManagerValue, Plain, Did, Remove, SenderData, SenderSide, LogRecord, Step, Do, MeetsOrWants, is_up, sender_or, sender_data, set_sender, data_settled, settle_by, logged, apply_all}
+use Rattle.mq_calls.specs.Words.{ManagerValue, Plain, SenderData, Step, Do, MeetsOrWants, is_up, sender_or, sender_data, set_sender, data_settled, settle_by, logged, apply_all}
+use Rattle.mq_calls.specs.declared.deltas.Did.{Did}
+use Rattle.mq_calls.specs.declared.records.Remove.{Remove}
+use Rattle.mq_calls.specs.declared.state.SenderSide.{SenderSide}
+use Rattle.mq_calls.specs.declared.records.LogRecord.{LogRecord}
 use Rattle.mq_calls.specs.State.Change.{SetSender}
 use Rattle.mq_calls.specs.Meeting.Wants.{Anywhere}
 use Rattle.mq_spec_manager.specs.Words.{Never}

@@ -1,5 +1,6 @@
 use Rattle.std.proofs.Common.{◌≡◌, [], ◌∷◌, sym, ap, subst, ◌∙◌}
-use Rattle.mq_calls.specs.Words.{Do, Plain, Connection, connection_at, is_up, apply_all}
+use Rattle.mq_calls.specs.Words.{Do, Plain, connection_at, is_up, apply_all}
+use Rattle.mq_calls.specs.declared.state.Connection.{Connection}
 use Rattle.mq_spec_manager.specs.Units.{backout_part}
 use Rattle.mq_log.specs.State.{LogState}
 use Rattle.mq_core.specs.Views.{PartsValue, plain_of, frozen_of}

@@ -1,6 +1,7 @@
 use Rattle.std.proofs.Common.{◌≡◌, ◌+◌, ◌<◌, ◌≤◌, ◌^◌, sym, ap, subst, refl, ◌∙◌, arith, length}
 use Rattle.std.specs.Prelude.{Ok, Err, ◌++◌}
-use Rattle.mq_calls.specs.Words.{Plain, Connection, connection_at, is_up, apply_all, logged, unit_need}
+use Rattle.mq_calls.specs.Words.{Plain, connection_at, is_up, apply_all, logged, unit_need}
+use Rattle.mq_calls.specs.declared.state.Connection.{Connection}
 use Rattle.mq_core.specs.Counting.{CanCount}
 use Rattle.mq_spec_manager.specs.Units.{adds_of, removes_of, record_of, commit_delta, commit_changes}
 use Rattle.mq_core.specs.Views.{PartsValue, plain_of, frozen_of}

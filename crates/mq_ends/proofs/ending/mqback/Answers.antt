@@ -1,5 +1,6 @@
 use Rattle.std.proofs.Common.{ap, subst}
-use Rattle.mq_calls.specs.Words.{Plain, Reason, Answer, Step, MeetsInRoom}
+use Rattle.mq_calls.specs.Words.{Plain, Reason, Step, MeetsInRoom}
+use Rattle.mq_calls.specs.declared.answers.Answer.{Answer}
 use Rattle.mq_core.specs.Calls.{CanGo}
 use Rattle.mq_ends.proofs.CommitLaws.{back_is}
 use Rattle.mq_core.specs.Values.{CoreValue, manager_of, WritesLog}

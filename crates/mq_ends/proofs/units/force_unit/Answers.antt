@@ -1,6 +1,9 @@
 use Rattle.std.proofs.Common.{◌+◌, ◌<◌, ◌≤◌, ◌^◌, ◌∙◌, sym, ap, subst, arith, length}
 use Rattle.std.specs.Prelude.{List, Some, is_some}
-use Rattle.mq_calls.specs.Words.{Connection, Item, LogRecord, connection_at, unit_need, record_size}
+use Rattle.mq_calls.specs.Words.{connection_at, unit_need, record_size}
+use Rattle.mq_calls.specs.declared.state.Connection.{Connection}
+use Rattle.mq_calls.specs.declared.state.Item.{Item}
+use Rattle.mq_calls.specs.declared.records.LogRecord.{LogRecord}
 use Rattle.mq_spec_manager.specs.Units.{adds_of, removes_of, record_of}
 use Rattle.mq_record.specs.Room.{Buffered}
 use Rattle.mq_record.proofs.SizeLaws.{record_whole}

@@ -1,6 +1,6 @@
 use Rattle.std.proofs.Common.{ap, ◌∙◌}
 use Rattle.std.specs.Prelude.{filter, not, ◌==◌}
-use Rattle.mq_calls.specs.Words.{Connection}
+use Rattle.mq_calls.specs.declared.state.Connection.{Connection}
 use Rattle.mq_core.specs.Views.{PartsValue}
 use Rattle.mq_core.proofs.SeatLaws.{with_desk}
 use Rattle.mq_ends.proofs.EndLaws.{left_true}

@@ -1,7 +1,8 @@
 use Rattle.std.proofs.Common.{◌≡◌, ◌<◌, [], sym, ap, subst, ◌∙◌}
 use Rattle.std.specs.Prelude.{Option, None, IsSome}
 use Rattle.mq_disk.specs.declared.cutter.Stop.{Stop}
-use Rattle.mq_calls.specs.Words.{Reason, GetAnswer, Plain, Step, connection_at, is_up}
+use Rattle.mq_calls.specs.Words.{Reason, Plain, Step, connection_at, is_up}
+use Rattle.mq_calls.specs.declared.answers.GetAnswer.{GetAnswer}
 use Rattle.mq_spec_manager.specs.Words.{persistent_rows, expired_need}
 use Rattle.mq_core.specs.Views.{PartsValue, plain_of, frozen_of}
 use Rattle.mq_core.specs.Values.{CoreValue, MeetsTold, begun_call}

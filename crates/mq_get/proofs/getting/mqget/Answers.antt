@@ -1,6 +1,7 @@
 use Rattle.std.proofs.Common.{sym, ap, subst}
 use Rattle.std.specs.Prelude.{Err}
-use Rattle.mq_calls.specs.Words.{Reason, GetAnswer, Plain, Step}
+use Rattle.mq_calls.specs.Words.{Reason, Plain, Step}
+use Rattle.mq_calls.specs.declared.answers.GetAnswer.{GetAnswer}
 use Rattle.mq_spec_manager.specs.Words.{mqget}
 use Rattle.mq_core.specs.Values.{CoreValue, MeetsTold}
 use Rattle.mq_get.specs.Gets.{CanGet, Gets}

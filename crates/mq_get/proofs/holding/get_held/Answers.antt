@@ -2,7 +2,8 @@ use Rattle.std.proofs.Common.{◌≡◌, ◌+◌, ◌<◌, [], ◌∷◌, ◌++�
 use Rattle.std.specs.Prelude.{None, Some, true}
 use Rattle.mq_calls.specs.declared.deltas.Why.TheVariants as whys
 use Rattle.mq_calls.specs.declared.state.Item.TheVariants.{Take}
-use Rattle.mq_calls.specs.Words.{Connection, connection_at, more_need, unit_need}
+use Rattle.mq_calls.specs.Words.{connection_at, more_need, unit_need}
+use Rattle.mq_calls.specs.declared.state.Connection.{Connection}
 use Rattle.mq_core.specs.Views.{PartsValue}
 use Rattle.mq_core.proofs.PutLaws.{tied_roomier}
 use Rattle.mq_core.proofs.MeetLaws.{some_is, if_some, some_of}

@@ -3,7 +3,8 @@ use Rattle.std.specs.Prelude.{List, [], length, OnOk}
 use Rattle.std.specs.List.{flat_map}
 use Rattle.std.proofs.lemmas.List.{length-append}
 use Rattle.mq_base.specs.Outside.{Rose}
-use Rattle.mq_calls.specs.Words.{LogRecord, need}
+use Rattle.mq_calls.specs.Words.{need}
+use Rattle.mq_calls.specs.declared.records.LogRecord.{LogRecord}
 use Rattle.mq_calls.specs.declared.records.LogRecord.TheVariants as records
 use Rattle.mq_log.specs.State.{LogState, Appended}
 use Rattle.mq_log.specs.Force.{Stops}

@@ -1,6 +1,7 @@
 use Rattle.std.proofs.Common.{◌≡◌, ◌<◌, ◌++◌, length, take, drop, ap, sym, ◌∙◌, arith}
 use Rattle.std.specs.Prelude.{map}
-use Rattle.mq_calls.specs.Words.{Handle, stale_if, has_step}
+use Rattle.mq_calls.specs.Words.{stale_if, has_step}
+use Rattle.mq_calls.specs.declared.state.Handle.{Handle}
 use Rattle.mq_handles.proofs.CountLaws.{got, mapped_next, mapped_all}
 use Rattle.mq_handles.proofs.seat.stale_all.Goals as goal
 

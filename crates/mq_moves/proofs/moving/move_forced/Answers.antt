@@ -5,7 +5,10 @@ use Rattle.mq_disk.specs.declared.cutter.Stop.{Stop}
 use Rattle.mq_log.specs.Force.{Stops}
 use Rattle.mq_calls.specs.declared.deltas.Did.TheVariants as did
 use Rattle.mq_calls.specs.declared.records.LogRecord.TheVariants as records
-use Rattle.mq_calls.specs.Words.{ManagerValue, Plain, Did, Ident, Reason, AgentStop, LogRecord, local_of, is_up, need, freeze, logged}
+use Rattle.mq_calls.specs.Words.{ManagerValue, Plain, Ident, Reason, local_of, is_up, need, freeze, logged}
+use Rattle.mq_calls.specs.declared.deltas.Did.{Did}
+use Rattle.mq_calls.specs.declared.agents.AgentStop.{AgentStop}
+use Rattle.mq_calls.specs.declared.records.LogRecord.{LogRecord}
 use Rattle.mq_core.specs.Counting.{CanCount}
 use Rattle.mq_spec_manager.specs.Agents.{HasFreeRow}
 use Rattle.mq_unit.specs.Told.{Telling}

@@ -1,7 +1,8 @@
 use Rattle.std.proofs.Common.{◌≡◌, ◌∙◌, sym, ap, subst, refl, true}
 use Rattle.std.specs.Prelude.{List, [], ◌∷◌, ◌++◌, IsSome}
 use Rattle.mq_calls.specs.declared.deltas.Did.TheVariants as did
-use Rattle.mq_calls.specs.Words.{ManagerValue, Plain, Did, Ident, local_of, is_up}
+use Rattle.mq_calls.specs.Words.{ManagerValue, Plain, Ident, local_of, is_up}
+use Rattle.mq_calls.specs.declared.deltas.Did.{Did}
 use Rattle.mq_core.specs.Counting.{CanCount}
 use Rattle.mq_spec_manager.specs.Agents.{HasFreeRow}
 use Rattle.mq_unit.specs.Told.{Telling}

@@ -1,6 +1,7 @@
 use Rattle.std.proofs.Common.{ap, ◌∙◌, sym, subst}
 use Rattle.std.specs.Prelude.{[], ◌∷◌, Ok}
-use Rattle.mq_calls.specs.Words.{Plain, is_up, connection_at, Reason, Answer, Step}
+use Rattle.mq_calls.specs.Words.{Plain, is_up, connection_at, Reason, Step}
+use Rattle.mq_calls.specs.declared.answers.Answer.{Answer}
 use Rattle.mq_calls.specs.Meeting.Wants.{Nowhere}
 use Rattle.mq_calls.specs.State.Change.{CloseHandle}
 use Rattle.mq_spec_manager.specs.Words.{close_up}

@@ -1,5 +1,6 @@
 use Rattle.std.proofs.Common.{◌≡◌, ◌+◌, ap, ◌∙◌}
-use Rattle.mq_calls.specs.Words.{Plain, Connection, is_up, connection_at, change_connection}
+use Rattle.mq_calls.specs.Words.{Plain, is_up, connection_at, change_connection}
+use Rattle.mq_calls.specs.declared.state.Connection.{Connection}
 use Rattle.mq_spec_manager.specs.Words.{new_handle, open_step}
 use Rattle.mq_handles.specs.Seats.{opened}
 use Rattle.mq_core.specs.Views.{PartsValue, plain_of, frozen_of}

@@ -1,6 +1,8 @@
 use Rattle.std.proofs.Common.{sym, ap, subst}
 use Rattle.std.specs.Prelude.{Bool}
-use Rattle.mq_calls.specs.Words.{Plain, Reason, Answer, Sent, Step, Meets}
+use Rattle.mq_calls.specs.Words.{Plain, Reason, Step, Meets}
+use Rattle.mq_calls.specs.declared.answers.Answer.{Answer}
+use Rattle.mq_calls.specs.declared.answers.Sent.{Sent}
 use Rattle.mq_spec_manager.specs.Words.{mqput1, is_high}
 use Rattle.mq_mqi.specs.Puts.{CanPut, letter_at}
 use Rattle.mq_core.specs.Values.{CoreValue, manager_of, WritesLog}

@@ -1,5 +1,7 @@
 use Rattle.std.proofs.Common.{sym, subst}
-use Rattle.mq_calls.specs.Words.{Reason, Answer, Sent, Step, Meets}
+use Rattle.mq_calls.specs.Words.{Reason, Step, Meets}
+use Rattle.mq_calls.specs.declared.answers.Answer.{Answer}
+use Rattle.mq_calls.specs.declared.answers.Sent.{Sent}
 use Rattle.mq_core.proofs.MeetLaws.{some_is}
 use Rattle.mq_mqi.proofs.LetterLaws.{letter_now, letter_unit}
 use Rattle.mq_core.specs.Values.{manager_of, WritesLog}

@@ -3,7 +3,10 @@ use Rattle.std.specs.Prelude.{ℕ, true, List, [], ◌∷◌, ◌++◌, Ok, Err,
 use Rattle.mq_base.specs.Outside.{Rose}
 use Rattle.mq_disk.specs.declared.cutter.Stop.{Stop}
 use Rattle.mq_log.specs.Force.{Stops}
-use Rattle.mq_calls.specs.Words.{ManagerValue, Plain, Did, Answer, Sent, Meets, local_of, is_up, freeze, apply_all, logged, note_of}
+use Rattle.mq_calls.specs.Words.{ManagerValue, Plain, Meets, local_of, is_up, freeze, apply_all, logged, note_of}
+use Rattle.mq_calls.specs.declared.deltas.Did.{Did}
+use Rattle.mq_calls.specs.declared.answers.Answer.{Answer}
+use Rattle.mq_calls.specs.declared.answers.Sent.{Sent}
 use Rattle.mq_core.specs.Counting.{CanCount}
 use Rattle.mq_calls.specs.State.Change.{CountIdent}
 use Rattle.mq_spec_manager.specs.Words.{next_ident, placed}

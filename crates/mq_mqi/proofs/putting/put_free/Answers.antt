@@ -1,6 +1,9 @@
 use Rattle.std.proofs.Common.{◌≡◌, ◌∙◌, sym, ap, subst, arith}
 use Rattle.std.specs.Prelude.{List, [], ◌∷◌, ◌++◌, Ok, None, IsSome}
-use Rattle.mq_calls.specs.Words.{ManagerValue, Plain, Did, Answer, Sent, Meets, local_of, apply_all}
+use Rattle.mq_calls.specs.Words.{ManagerValue, Plain, Meets, local_of, apply_all}
+use Rattle.mq_calls.specs.declared.deltas.Did.{Did}
+use Rattle.mq_calls.specs.declared.answers.Answer.{Answer}
+use Rattle.mq_calls.specs.declared.answers.Sent.{Sent}
 use Rattle.mq_core.specs.Counting.{CanCount}
 use Rattle.mq_calls.specs.State.Change.{CountIdent}
 use Rattle.mq_spec_manager.specs.Words.{next_ident, placed}

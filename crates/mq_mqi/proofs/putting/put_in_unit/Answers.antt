@@ -1,6 +1,8 @@
 use Rattle.std.proofs.Common.{◌≡◌, ◌<◌, ◌∙◌, sym, ap, subst, refl, arith}
 use Rattle.std.specs.Prelude.{[], ◌∷◌, ◌++◌, Ok, IsSome, true}
-use Rattle.mq_calls.specs.Words.{ManagerValue, Plain, Answer, Sent, Meets, local_of, is_up, apply_all}
+use Rattle.mq_calls.specs.Words.{ManagerValue, Plain, Meets, local_of, is_up, apply_all}
+use Rattle.mq_calls.specs.declared.answers.Answer.{Answer}
+use Rattle.mq_calls.specs.declared.answers.Sent.{Sent}
 use Rattle.mq_calls.specs.State.Change.{CountIdent, Pend}
 use Rattle.mq_spec_manager.specs.Words.{next_ident, sent_answer}
 use Rattle.mq_core.specs.Views.{PartsValue, plain_of, frozen_of}
@@ -8,7 +10,8 @@ use Rattle.mq_core.specs.Calls.{unit_step, unit_call}
 use Rattle.mq_mqi.specs.Puts.{}
 use Rattle.mq_core.proofs.MeetLaws.{mode_up}
 use Rattle.mq_core.proofs.PutLaws.{tied_roomier, roomier_view}
-use Rattle.mq_calls.specs.Words.{Connection, connection_at, is_persistent, unit_need, more_need, put_bytes}
+use Rattle.mq_calls.specs.Words.{connection_at, is_persistent, unit_need, more_need, put_bytes}
+use Rattle.mq_calls.specs.declared.state.Connection.{Connection}
 use Rattle.mq_calls.specs.declared.state.Item.TheVariants.{Put}
 use Rattle.mq_core.proofs.MeetLaws.{some_is, if_some, some_of, wanting_at}
 use Rattle.mq_core.proofs.PendLaws.{tied_pended, pended_view, pended_meets, need_push, need_small, unit_small}

@@ -2,7 +2,8 @@ use Rattle.std.proofs.Common.{◌++◌, ◌+◌, ◌*◌, ◌<◌, ◌^◌, ap, 
 use Rattle.std.specs.Prelude.{List, Ok, Err, flat_map, length, ◌∷◌, []}
 use Rattle.std.specs.List.{AllByRecursion}
 use Rattle.mq_calls.specs.declared.deltas.Did.TheVariants as did
-use Rattle.mq_calls.specs.Words.{Did, Plain, need}
+use Rattle.mq_calls.specs.Words.{Plain, need}
+use Rattle.mq_calls.specs.declared.deltas.Did.{Did}
 use Rattle.mq_core.specs.declared.parts.Arrival.{Arrival}
 use Rattle.mq_core.specs.Forced.{IsForced}
 use Rattle.mq_core.specs.Views.{PartsValue, plain_of}

@@ -1,6 +1,7 @@
 use Rattle.std.proofs.Common.{◌≡◌, ◌<◌, ◌++◌, List, length, take, drop, ap, ◌∙◌, arith}
 use Rattle.std.specs.Prelude.{map}
-use Rattle.mq_calls.specs.Words.{SenderSide, off_list}
+use Rattle.mq_calls.specs.Words.{off_list}
+use Rattle.mq_calls.specs.declared.state.SenderSide.{SenderSide}
 use Rattle.mq_handles.proofs.CountLaws.{mapped_next, mapped_all, mapped_long}
 use Rattle.mq_receive.proofs.doubts.strike_all.Goals as goal
 

@@ -1,7 +1,8 @@
 use Rattle.std.proofs.Common.{ap, sym, ◌∙◌, true, List}
 use Rattle.std.specs.Prelude.{Option, is_some}
 use Rattle.mq_calls.specs.declared.state.Item.{Item}
-use Rattle.mq_calls.specs.Words.{Connection, connection_at}
+use Rattle.mq_calls.specs.Words.{connection_at}
+use Rattle.mq_calls.specs.declared.state.Connection.{Connection}
 use Rattle.mq_spec_manager.specs.Units.{adds_of, removes_of, record_of}
 use Rattle.mq_spec_manager.specs.Stops.{redone_delta}
 use Rattle.mq_core.specs.Views.{PartsValue, plain_of, noted_commit}

@@ -1,6 +1,7 @@
 use Rattle.std.proofs.Common.{◌≡◌, ◌∙◌, sym, ap, subst, refl, arith}
 use Rattle.std.specs.Prelude.{List, [], ◌∷◌, ◌++◌, None}
-use Rattle.mq_calls.specs.Words.{Plain, Did, apply_all}
+use Rattle.mq_calls.specs.Words.{Plain, apply_all}
+use Rattle.mq_calls.specs.declared.deltas.Did.{Did}
 use Rattle.mq_core.specs.Counting.{CanCount}
 use Rattle.mq_calls.specs.declared.deltas.Did.TheVariants as did
 use Rattle.mq_unit.specs.Told.{Telling}

@@ -1,6 +1,6 @@
 use Rattle.std.proofs.Common.{sym, ap, subst, refl, ◌∙◌}
 use Rattle.std.specs.Prelude.{List, ◌++◌, ◌∷◌, [], ◌+◌}
-use Rattle.mq_calls.specs.Words.{Connection}
+use Rattle.mq_calls.specs.declared.state.Connection.{Connection}
 use Rattle.mq_handles.specs.Desks.{Desk}
 use Rattle.mq_handles.specs.Seats.{connection_of}
 use Rattle.mq_core.specs.Views.{PartsValue}

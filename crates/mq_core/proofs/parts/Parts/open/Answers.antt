@@ -1,6 +1,7 @@
 use Rattle.std.proofs.Common.{◌≡◌, sym, ap, subst, refl, ◌∙◌}
 use Rattle.std.specs.Prelude.{List}
-use Rattle.mq_calls.specs.Words.{Connection, connection_at, change_connection}
+use Rattle.mq_calls.specs.Words.{connection_at, change_connection}
+use Rattle.mq_calls.specs.declared.state.Connection.{Connection}
 use Rattle.mq_spec_manager.specs.Words.{new_handle}
 use Rattle.mq_handles.specs.Desks.{Desk}
 use Rattle.mq_handles.specs.Seats.{opened}

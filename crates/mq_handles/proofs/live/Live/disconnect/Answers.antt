@@ -1,6 +1,7 @@
 use Rattle.std.proofs.Common.{◌+◌, ◌∙◌, sym, ap, subst}
 use Rattle.std.specs.Prelude.{List, ◌==◌, not, filter, position}
-use Rattle.mq_calls.specs.Words.{Connection, Handle}
+use Rattle.mq_calls.specs.declared.state.Connection.{Connection}
+use Rattle.mq_calls.specs.declared.state.Handle.{Handle}
 use Rattle.mq_handles.specs.Rising.{connection_number, has_number}
 use Rattle.mq_handles.specs.Users.{tally, weight_of, handle_weight, IsPartOf}
 use Rattle.mq_handles.specs.Desks.{Desk, IsDesk}

@@ -1,6 +1,7 @@
 use Rattle.std.proofs.Common.{◌∙◌, sym, ap}
 use Rattle.std.specs.Prelude.{◌+◌, position, slice_set}
-use Rattle.mq_calls.specs.Words.{Connection, change_connection}
+use Rattle.mq_calls.specs.Words.{change_connection}
+use Rattle.mq_calls.specs.declared.state.Connection.{Connection}
 use Rattle.mq_handles.specs.Rising.{has_number}
 use Rattle.mq_handles.specs.Seats.{given_up}
 use Rattle.mq_handles.specs.Users.{tally, handle_weight, weight_of}

@@ -1,5 +1,5 @@
 use Rattle.std.proofs.Common.{List, ◌∙◌, sym, subst}
-use Rattle.mq_calls.specs.Words.{Connection}
+use Rattle.mq_calls.specs.declared.state.Connection.{Connection}
 use Rattle.mq_handles.specs.Desks.{IsDesk}
 use Rattle.mq_handles.proofs.DeskLaws.{desk_stale, none_stale}
 use Rattle.mq_handles.proofs.live.Live.make_stale.Goals as goal

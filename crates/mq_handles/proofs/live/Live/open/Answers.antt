@@ -1,6 +1,7 @@
 use Rattle.std.proofs.Common.{◌≡◌, ◌∙◌, sym, ap, subst}
 use Rattle.std.specs.Prelude.{List, IfSome, IsSome, position, slice_get, slice_set}
-use Rattle.mq_calls.specs.Words.{Connection, change_connection}
+use Rattle.mq_calls.specs.Words.{change_connection}
+use Rattle.mq_calls.specs.declared.state.Connection.{Connection}
 use Rattle.mq_handles.specs.Rising.{has_number}
 use Rattle.mq_handles.specs.Seats.{opened}
 use Rattle.std.specs.Prelude.{◌+◌, ◌<◌}

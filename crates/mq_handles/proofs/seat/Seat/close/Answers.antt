@@ -1,6 +1,7 @@
 use Rattle.std.proofs.Common.{◌∙◌, sym, ap, subst, arith}
 use Rattle.std.specs.Prelude.{List, ◌==◌, not, position}
-use Rattle.mq_calls.specs.Words.{Connection, Handle}
+use Rattle.mq_calls.specs.declared.state.Connection.{Connection}
+use Rattle.mq_calls.specs.declared.state.Handle.{Handle}
 use Rattle.mq_handles.specs.Rising.{handle_number, has_handle_number}
 use Rattle.mq_handles.specs.Seats.{HasHandles, closed}
 use Rattle.mq_handles.specs.Users.{handle_weight, weight_of}

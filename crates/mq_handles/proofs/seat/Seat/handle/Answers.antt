@@ -1,6 +1,8 @@
 use Rattle.std.proofs.Common.{◌∙◌, sym, ap}
 use Rattle.std.specs.Prelude.{Some, position}
-use Rattle.mq_calls.specs.Words.{Connection, Handle, handle_at}
+use Rattle.mq_calls.specs.Words.{handle_at}
+use Rattle.mq_calls.specs.declared.state.Connection.{Connection}
+use Rattle.mq_calls.specs.declared.state.Handle.{Handle}
 use Rattle.mq_handles.specs.Rising.{has_handle_number}
 use Rattle.mq_handles.proofs.SeatLaws.{handle_none, handle_some}
 use Rattle.mq_handles.proofs.seat.Seat.handle.Goals as goal

@@ -1,6 +1,7 @@
 use Rattle.std.proofs.Common.{◌≡◌, ◌++◌, ◌∙◌, length, take, drop, sym, ap, subst, arith}
 use Rattle.std.specs.Prelude.{List, map}
-use Rattle.mq_calls.specs.Words.{Handle, stale_if, has_step}
+use Rattle.mq_calls.specs.Words.{stale_if, has_step}
+use Rattle.mq_calls.specs.declared.state.Handle.{Handle}
 use Rattle.mq_handles.specs.Seats.{HasHandles}
 use Rattle.mq_handles.proofs.SeatLaws.{front_of, map_long, stale_number, handles_mapped}
 use Rattle.mq_handles.proofs.seat.Seat.make_stale.Goals as goal

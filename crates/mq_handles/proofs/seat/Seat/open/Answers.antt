@@ -1,6 +1,7 @@
 use Rattle.std.proofs.Common.{◌+◌, ◌∙◌, false, sym, ap, subst, refl}
 use Rattle.std.specs.Prelude.{List, None}
-use Rattle.mq_calls.specs.Words.{Connection, Handle}
+use Rattle.mq_calls.specs.declared.state.Connection.{Connection}
+use Rattle.mq_calls.specs.declared.state.Handle.{Handle}
 use Rattle.mq_handles.specs.Users.{IsMoved}
 use Rattle.mq_handles.proofs.OutcomeLaws.{ok_of}
 use Rattle.mq_handles.proofs.SeatLaws.{handles_opened}

@@ -1,6 +1,7 @@
 use Rattle.std.proofs.Common.{◌∙◌, sym, ap}
 use Rattle.std.specs.Prelude.{List, position, slice_set}
-use Rattle.mq_calls.specs.Words.{Connection, Handle}
+use Rattle.mq_calls.specs.declared.state.Connection.{Connection}
+use Rattle.mq_calls.specs.declared.state.Handle.{Handle}
 use Rattle.mq_handles.specs.Rising.{has_handle_number}
 use Rattle.mq_handles.specs.Seats.{at_place, cursor_set}
 use Rattle.mq_handles.proofs.CountLaws.{got}
