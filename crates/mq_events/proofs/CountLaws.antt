@@ -11,7 +11,8 @@ use Rattle.mq_calls.specs.State.{Given, LogState, Queue}
 use Rattle.mq_queue.specs.declared.row.Row.{Row}
 use Rattle.mq_calls.specs.Counts.{IsCounted}
 use Rattle.mq_calls.specs.Reads.{queue_in, stored, puts_to}
-use Rattle.mq_calls.specs.Images.{Image, begun, numbered, queue_on, raised}
+use Rattle.mq_calls.specs.Images.{begun, numbered, queue_on, raised}
+use Rattle.mq_calls.specs.declared.image.Image.{Image}
 use Rattle.mq_spec_node.specs.Terms.{Acted, Actor, Call, Entry, History, Plain, started_need}
 use Rattle.mq_spec_node.specs.Words.{Deed, Node, Surroundings, opening_node, after, done_by}
 use Rattle.mq_law_manager.specs.Facts.{Mem, AreNamed}

@@ -9,7 +9,8 @@ use Rattle.mq_queue.specs.declared.row.Row.{Row}
 use Rattle.mq_queue.specs.Rows.{is_free, retag}
 use Rattle.mq_sync.specs.declared.unit.Unit.{Unit as Luw}
 use Rattle.mq_history.specs.declared.scenario.Scenario.{Scenario}
-use Rattle.mq_calls.specs.State.{Batch, Plain}
+use Rattle.mq_calls.specs.State.{Plain}
+use Rattle.mq_calls.specs.declared.state.Batch.{Batch}
 use Rattle.mq_calls.specs.State.Which.{Among}
 use Rattle.mq_calls.specs.State.Change.{Hold}
 use Rattle.mq_calls.specs.Reads.{batch_of, in_doubt_of, sender_data, stored}

@@ -10,7 +10,8 @@ use Rattle.mq_queue.specs.Rows.{held_by, is_free, retag}
 use Rattle.mq_sync.specs.declared.unit.Unit.{Unit as Luw}
 use Rattle.mq_history.specs.declared.scenario.CableLine.{CableLine}
 use Rattle.mq_history.specs.declared.scenario.Scenario.{Scenario}
-use Rattle.mq_calls.specs.State.{Batch, Given, Plain}
+use Rattle.mq_calls.specs.State.{Given, Plain}
+use Rattle.mq_calls.specs.declared.state.Batch.{Batch}
 use Rattle.mq_calls.specs.State.Which.{HeldBy}
 use Rattle.mq_calls.specs.State.Change.{Release}
 use Rattle.mq_calls.specs.Reads.{batch_of, in_doubt_of, receiver_in, sender_data, stored}

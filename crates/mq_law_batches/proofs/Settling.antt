@@ -12,7 +12,8 @@ use Rattle.mq_sync.specs.declared.data.InDoubt.{InDoubt}
 use Rattle.mq_sync.specs.declared.data.SenderData.{SenderData}
 use Rattle.mq_sync.specs.Settlement.{data_prepared, data_settled, settle_by}
 use Rattle.mq_history.specs.declared.scenario.Scenario.{Scenario}
-use Rattle.mq_calls.specs.State.{Batch, Plain}
+use Rattle.mq_calls.specs.State.{Plain}
+use Rattle.mq_calls.specs.declared.state.Batch.{Batch}
 use Rattle.mq_calls.specs.State.Which.{HeldBy}
 use Rattle.mq_calls.specs.State.Change.{Leave}
 use Rattle.mq_calls.specs.Reads.{batch_of, connection_at, in_doubt_of, sender_data, sender_in, stored}

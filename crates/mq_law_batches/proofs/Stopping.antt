@@ -8,7 +8,8 @@ use Rattle.mq_message.specs.declared.place.Holder.TheVariants as holders
 use Rattle.mq_queue.specs.declared.row.Row.{Row}
 use Rattle.mq_queue.specs.Rows.{held_by, is_by_unit, is_free, is_persistent, keep, retag}
 use Rattle.mq_history.specs.declared.scenario.Scenario.{Scenario}
-use Rattle.mq_calls.specs.State.{Batch, Given, LogState, Numbers, Plain, Running}
+use Rattle.mq_calls.specs.State.{Given, LogState, Numbers, Plain, Running}
+use Rattle.mq_calls.specs.declared.state.Batch.{Batch}
 use Rattle.mq_calls.specs.State.Which.{HeldBy, HeldByUnits, Nonpersistent}
 use Rattle.mq_calls.specs.State.Change.{ForgetAll, Leave, Release}
 use Rattle.mq_calls.specs.Reads.{batch_of, in_doubt_of, sender_data, stored}

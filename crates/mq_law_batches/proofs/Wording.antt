@@ -10,7 +10,8 @@ use Rattle.mq_sync.specs.Settlement.{receiver_or, sender_or}
 use Rattle.mq_calls.specs.declared.agents.Note.{Note}
 use Rattle.mq_calls.specs.declared.agents.Note.TheVariants as notes
 use Rattle.mq_history.specs.declared.scenario.Scenario.{Scenario}
-use Rattle.mq_calls.specs.State.{Plain, Seizure}
+use Rattle.mq_calls.specs.State.{Plain}
+use Rattle.mq_calls.specs.declared.state.Seizure.{Seizure}
 use Rattle.mq_calls.specs.State.Change.{Seize, SetBound, SetReceiver, SetSender, Unseize}
 use Rattle.mq_calls.specs.Reads.{batch_of, in_doubt_of, queue_in, receiver_data, receiver_in, sender_data, sender_in}
 use Rattle.mq_calls.specs.Changes.{apply, apply_all}

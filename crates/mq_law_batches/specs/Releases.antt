@@ -8,7 +8,8 @@ use Rattle.mq_sync.specs.Settlement.{data_settled, settle_by}
 use Rattle.mq_calls.specs.declared.agents.Note.{Note}
 use Rattle.mq_calls.specs.declared.agents.Note.TheVariants as notes
 use Rattle.mq_history.specs.declared.scenario.Scenario.{Scenario}
-use Rattle.mq_calls.specs.State.{Batch, Change, Plain}
+use Rattle.mq_calls.specs.State.{Change, Plain}
+use Rattle.mq_calls.specs.declared.state.Batch.{Batch}
 use Rattle.mq_calls.specs.State.Which.{Among, HeldBy}
 use Rattle.mq_calls.specs.State.Change.{AddBatch, DropBatch, Hold, Release, SetSender}
 use Rattle.mq_calls.specs.Reads.{batch_of, in_doubt_of, sender_data}

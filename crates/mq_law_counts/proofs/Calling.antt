@@ -49,7 +49,8 @@ use Rattle.mq_objects.specs.declared.command.Subject.TheVariants as subjects
 use Rattle.mq_objects.specs.Names.{local_of, locals_of, process_of, name_of, is_transmission}
 use Rattle.mq_sc_apply.specs.declared.answers.Planned.{Planned}
 use Rattle.mq_resolve.specs.declared.route.PathStep.{PathStep}
-use Rattle.mq_calls.specs.State.{Batch, Change, Running}
+use Rattle.mq_calls.specs.State.{Change, Running}
+use Rattle.mq_calls.specs.declared.state.Batch.{Batch}
 use Rattle.mq_calls.specs.State.Running.{Up, Down}
 use Rattle.mq_calls.specs.State.Which.{Nonpersistent}
 use Rattle.mq_calls.specs.State.Change.{Leave, Hold, Pend, EndUnit, CountIdent, SetCursor, ForgetAll}

@@ -4,7 +4,9 @@ use Rattle.std.specs.Prelude.{Option, Some, None, if◌then◌else◌, ◌==◌,
 use Rattle.std.specs.List.{AllByRecursion}
 use Rattle.std.proofs.lemmas.List.Sums.{sum_by_push}
 use Rattle.mq_calls.specs.declared.records.LogRecord.{LogRecord}
-use Rattle.mq_calls.specs.State.{Plain, Connection, Item, Change, Noted}
+use Rattle.mq_calls.specs.State.{Plain, Change, Noted}
+use Rattle.mq_calls.specs.declared.state.Connection.{Connection}
+use Rattle.mq_calls.specs.declared.state.Item.{Item}
 use Rattle.mq_calls.specs.State.Change.{Pend}
 use Rattle.mq_calls.specs.Reads.{stored, puts_to, is_put_to}
 use Rattle.mq_calls.specs.State.Which.{Nonpersistent}

@@ -9,7 +9,9 @@ use Rattle.mq_message.specs.declared.message.Ident.{Ident}
 use Rattle.mq_message.specs.declared.message.Message.{Message}
 use Rattle.mq_objects.specs.Names.{local_of}
 use Rattle.mq_calls.specs.declared.state.Item.TheVariants.{Put, Take}
-use Rattle.mq_calls.specs.State.{Plain, Queue, Connection, Item, Change, Numbers, Running}
+use Rattle.mq_calls.specs.State.{Plain, Queue, Change, Numbers, Running}
+use Rattle.mq_calls.specs.declared.state.Connection.{Connection}
+use Rattle.mq_calls.specs.declared.state.Item.{Item}
 use Rattle.mq_calls.specs.State.Change.{Place as Places, Try, Leave, EndUnit}
 use Rattle.mq_calls.specs.State.Which.{Among}
 use Rattle.mq_calls.specs.Condition.{condition}

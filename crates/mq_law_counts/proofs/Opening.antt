@@ -4,7 +4,9 @@ use Rattle.std.specs.Prelude.{if◌then◌else◌}
 use Rattle.std.specs.Str.{bytes_eq}
 use Rattle.mq_calls.specs.State.{Given}
 use Rattle.mq_calls.specs.Reads.{queue_in}
-use Rattle.mq_calls.specs.Images.{Image, Shelf, queue_on}
+use Rattle.mq_calls.specs.Images.{queue_on}
+use Rattle.mq_calls.specs.declared.image.Image.{Image}
+use Rattle.mq_calls.specs.declared.image.Shelf.{Shelf}
 use Rattle.mq_spec_manager.specs.Stops.{first_start}
 use Rattle.mq_law_manager.specs.Facts.{Mem}
 use Rattle.mq_law_manager.proofs.Lists.{bool_case}

@@ -5,7 +5,8 @@ use Rattle.mq_sc_parse.specs.declared.command.Command.TheVariants as commands
 use Rattle.mq_history.specs.declared.acts.Act.TheVariants as acts
 use Rattle.mq_history.specs.declared.calls.Call.TheVariants as calls
 use Rattle.mq_spec_node.specs.Terms.{Act, Call, Command}
-use Rattle.mq_calls.specs.State.{Plain, Connection}
+use Rattle.mq_calls.specs.State.{Plain}
+use Rattle.mq_calls.specs.declared.state.Connection.{Connection}
 use Rattle.mq_calls.specs.Reads.{stored, puts_to}
 use Rattle.mq_calls.specs.Counts.{starts_of}
 use Rattle.mq_calls.specs.Steps.{Part, Step, do_all, stopped_at}

@@ -10,7 +10,8 @@ use Rattle.mq_calls.specs.State.Change.{Try, SetBound}
 use Rattle.mq_calls.specs.State.Which.{Nonpersistent}
 use Rattle.mq_calls.specs.Condition.{condition}
 use Rattle.mq_calls.specs.Changes.{apply, apply_all, try_if, kept_in, selects}
-use Rattle.mq_calls.specs.Images.{Image, lasting, raised}
+use Rattle.mq_calls.specs.Images.{lasting, raised}
+use Rattle.mq_calls.specs.declared.image.Image.{Image}
 use Rattle.mq_calls.specs.Steps.{Part, logged, do_part, volatile_gone, stands_in}
 use Rattle.mq_spec_manager.specs.Stops.{redone, restarted, grown}
 use Rattle.mq_law_manager.specs.Facts.{IsSound}

@@ -12,7 +12,8 @@ use Rattle.mq_calls.specs.declared.choices.Choice.{Choice}
 use Rattle.mq_calls.specs.declared.choices.Choice.TheVariants.{Runs, NoMemory, Stopped}
 use Rattle.mq_calls.specs.declared.commands.RestartFault.{RestartFault}
 use Rattle.mq_calls.specs.declared.commands.RestartFault.TheVariants as faults
-use Rattle.mq_calls.specs.State.{Plain, Given, Queue, Batch, Change, Noted, Running, fresh_queue}
+use Rattle.mq_calls.specs.State.{Plain, Given, Queue, Change, Noted, Running, fresh_queue}
+use Rattle.mq_calls.specs.declared.state.Batch.{Batch}
 use Rattle.mq_calls.specs.State.Running.{Up, Down}
 use Rattle.mq_calls.specs.State.Which.{Nonpersistent}
 use Rattle.mq_calls.specs.State.Change.{Place as Places, Try, Leave, Hold, Release, Renew, DropQueue, SwitchOn, Serve, SetBound, ForgetAll}
@@ -21,7 +22,9 @@ use Rattle.mq_calls.specs.Reads.{stored, queue_in, puts_to, reserved, is_persist
 use Rattle.mq_calls.specs.Changes.{apply, apply_all, set_queue, placed_in, lane_of, kept_in, held_in, released_in, made_due, depth_type, try_if, forgotten, new_row}
 use Rattle.mq_calls.specs.Counts.{starts_of, IsCounted, AreAtMost}
 use Rattle.mq_calls.specs.Sizes.{need}
-use Rattle.mq_calls.specs.Images.{Image, Shelf, lasting_rows, lasting_row, shelves_of, queue_on}
+use Rattle.mq_calls.specs.Images.{lasting_rows, lasting_row, shelves_of, queue_on}
+use Rattle.mq_calls.specs.declared.image.Image.{Image}
+use Rattle.mq_calls.specs.declared.image.Shelf.{Shelf}
 use Rattle.mq_calls.specs.Steps.{Part, Step, after, do_part, do_all, logged, stands_in, freeze, stopped_at, note_of, volatile_gone}
 use Rattle.mq_calls.specs.Steps.Step.{Refuse, Do}
 use Rattle.mq_spec_manager.specs.Stops.{advance_clock, cut, first_start, stop, stop_at, stop_changes, at_rest, release_batch, redone, redone_if, restarted, next_started, started_need, failed}

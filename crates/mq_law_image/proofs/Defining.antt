@@ -14,7 +14,8 @@ use Rattle.mq_objects.specs.declared.command.Subject.TheVariants as subjects
 use Rattle.mq_objects.specs.Names.{Space, Queues, Channels, Processes, same_space, space_of, name_of, is_object, object_in, as_local, local_of, is_transmission, is_by_priority}
 use Rattle.mq_objects.specs.Changed.{set, delete, changed}
 use Rattle.mq_calls.specs.Changes.{lane_of}
-use Rattle.mq_calls.specs.Images.{Image, Shelf}
+use Rattle.mq_calls.specs.declared.image.Image.{Image}
+use Rattle.mq_calls.specs.declared.image.Shelf.{Shelf}
 use Rattle.mq_calls.specs.Recovery.{routes}
 use Rattle.mq_calls.specs.declared.records.LogRecord.TheVariants as records
 use Rattle.mq_queue.specs.Lanes.{lane_at}

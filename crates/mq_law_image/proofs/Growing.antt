@@ -6,7 +6,9 @@ use Rattle.std.specs.List.{AllByRecursion}
 use Rattle.std.proofs.lemmas.Bool.Decides.{nat_tests}
 use Rattle.std.proofs.lemmas.List.Sums.{sum_by-cons, sum_by_push}
 use Rattle.mq_objects.specs.Names.{local_of}
-use Rattle.mq_calls.specs.State.{Plain, Queue, Connection, Item, Change, fresh_queue}
+use Rattle.mq_calls.specs.State.{Plain, Queue, Change, fresh_queue}
+use Rattle.mq_calls.specs.declared.state.Connection.{Connection}
+use Rattle.mq_calls.specs.declared.state.Item.{Item}
 use Rattle.mq_calls.specs.State.Change.{Place as Places, Try, Leave, Hold, Release, Connect, Disconnect, OpenHandle, CloseHandle, SetCursor, Pend, EndUnit, MakeStale, CountIdent, Renew, DropQueue, SwitchOn, Serve, SetBound, ForgetAll}
 use Rattle.mq_calls.specs.Condition.{condition}
 use Rattle.mq_calls.specs.Reads.{stored, queue_in, puts_to, is_put_to, reserved, unit_need, with_head, item_bytes}

@@ -37,7 +37,7 @@ use Rattle.mq_calls.specs.declared.records.LogRecord.{LogRecord}
 use Rattle.mq_calls.specs.declared.records.LogRecord.TheVariants as records
 use Rattle.mq_log.specs.Bodies.{frame}
 use Rattle.mq_calls.specs.State.{Given}
-use Rattle.mq_calls.specs.Images.{Image}
+use Rattle.mq_calls.specs.declared.image.Image.{Image}
 use Rattle.mq_spec_log.specs.Texts.{is_plain, gives_all, defined_if, altered_if, meant_by, meant_in, meant_of, change_in}
 use Rattle.mq_spec_log.specs.Applies.{Start, applies}
 use Rattle.mq_spec_log.specs.Shelves.{added, added_all, removed, removed_all}

@@ -17,7 +17,8 @@ use Rattle.mq_sc_parse.specs.Parsing.{parse_of}
 use Rattle.mq_record.specs.Records.{IsRecord, record_bytes}
 use Rattle.mq_calls.specs.State.{Plain}
 use Rattle.mq_calls.specs.Reads.{is_up}
-use Rattle.mq_calls.specs.Images.{Image, lasting}
+use Rattle.mq_calls.specs.Images.{lasting}
+use Rattle.mq_calls.specs.declared.image.Image.{Image}
 use Rattle.mq_calls.specs.Steps.{Part, Step, when, refused_or, refusal, do_part}
 use Rattle.mq_spec_manager.specs.Commands.{uses_of, planned_step, command}
 use Rattle.mq_spec_log.specs.Bodies.{record_of}

@@ -9,10 +9,11 @@ use Rattle.std.proofs.lemmas.Bool.Decides.{nat_tests}
 use Rattle.mq_queue.specs.declared.row.Row.{Row}
 use Rattle.mq_queue.specs.Rows.{insert_row, keep, retag}
 use Rattle.mq_sync.specs.Settlement.{sender_or, receiver_or}
-use Rattle.mq_calls.specs.State.{SenderSide, ReceiverSide}
+use Rattle.mq_calls.specs.declared.state.SenderSide.{SenderSide}
+use Rattle.mq_calls.specs.declared.state.ReceiverSide.{ReceiverSide}
 use Rattle.mq_calls.specs.Reads.{sender_in, receiver_in}
 use Rattle.mq_calls.specs.Changes.{set_named, comes_before}
-use Rattle.mq_calls.specs.Images.{Shelf}
+use Rattle.mq_calls.specs.declared.image.Shelf.{Shelf}
 use Rattle.mq_spec_log.specs.Shelves.{shelf_in, set_shelf, on_all}
 use Rattle.mq_law_manager.specs.Facts.{Mem, Chain, AreLaned}
 use Rattle.mq_law_manager.proofs.Lists.{bool_case, mem_insert, mem_keep, mem_retag}

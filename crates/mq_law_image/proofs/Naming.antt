@@ -8,7 +8,7 @@ use Rattle.mq_objects.specs.declared.object.Object.{Object}
 use Rattle.mq_objects.specs.declared.object.Object.TheVariants as objects
 use Rattle.mq_objects.specs.Names.{Space, Queues, space_of, name_of, is_object, object_in, as_local, locals_in}
 use Rattle.mq_objects.specs.Changed.{set_in, delete_in}
-use Rattle.mq_calls.specs.Images.{Shelf}
+use Rattle.mq_calls.specs.declared.image.Shelf.{Shelf}
 use Rattle.mq_spec_log.specs.Shelves.{shelf_in, set_shelf}
 use Rattle.mq_law_manager.specs.Facts.{Mem, Chain, AreOnce, is_local}
 use Rattle.mq_law_manager.proofs.Lists.{bool_case}

@@ -17,7 +17,8 @@ use Rattle.mq_calls.specs.State.{Given}
 use Rattle.mq_calls.specs.State.Which.{Among}
 use Rattle.mq_calls.specs.Reads.{is_persistent, sender_in, in_doubt_of}
 use Rattle.mq_calls.specs.Changes.{selects, less_ident, off_lists}
-use Rattle.mq_calls.specs.Images.{Image, Shelf}
+use Rattle.mq_calls.specs.declared.image.Image.{Image}
+use Rattle.mq_calls.specs.declared.image.Shelf.{Shelf}
 use Rattle.mq_calls.specs.Recovery.{listed, IsKnown}
 use Rattle.mq_spec_log.specs.Applies.{fits, fits_local, can_add_all, can_add, stands_on, was_given}
 use Rattle.mq_spec_log.specs.Shelves.{shelf_in, without_ident, cleared, added, added_all, removed, removed_all}

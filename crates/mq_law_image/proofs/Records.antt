@@ -17,11 +17,14 @@ use Rattle.mq_sync.specs.Settlement.{receiver_or, data_prepared, data_settled, s
 use Rattle.mq_calls.specs.declared.records.Add.{Add}
 use Rattle.mq_calls.specs.declared.records.LogRecord.{LogRecord}
 use Rattle.mq_calls.specs.declared.records.LogRecord.TheVariants as records
-use Rattle.mq_calls.specs.State.{Given, SenderSide, ReceiverSide}
+use Rattle.mq_calls.specs.State.{Given}
+use Rattle.mq_calls.specs.declared.state.SenderSide.{SenderSide}
+use Rattle.mq_calls.specs.declared.state.ReceiverSide.{ReceiverSide}
 use Rattle.mq_calls.specs.State.Which.{HeldBy}
 use Rattle.mq_calls.specs.Reads.{sender_in, receiver_in, in_doubt_of}
 use Rattle.mq_calls.specs.Changes.{selects, set_sender}
-use Rattle.mq_calls.specs.Images.{Image, Shelf}
+use Rattle.mq_calls.specs.declared.image.Image.{Image}
+use Rattle.mq_calls.specs.declared.image.Shelf.{Shelf}
 use Rattle.mq_calls.specs.Recovery.{IsReceiverSide, IsKnown, IsDoubtKnown}
 use Rattle.mq_spec_log.specs.Applies.{Start, applies, suits, was_given, idents_in, is_in_bounds, can_add, can_add_all, can_remove, can_remove_all, can_prepare, can_receive, is_unit, are_distinct, is_held_among, is_elsewhere, is_above, fits, stands_on}
 use Rattle.mq_spec_log.specs.Records.{doing, settled_rows}

@@ -22,10 +22,13 @@ use Rattle.mq_record.specs.Reading.{record_at}
 use Rattle.mq_record.specs.Records.{IsAdd, IsRecord, IsWritten}
 use Rattle.mq_record.proofs.KindLaws.{record_got}
 use Rattle.mq_log.specs.Bodies.{frame}
-use Rattle.mq_calls.specs.State.{Given, SenderSide, ReceiverSide}
+use Rattle.mq_calls.specs.State.{Given}
+use Rattle.mq_calls.specs.declared.state.SenderSide.{SenderSide}
+use Rattle.mq_calls.specs.declared.state.ReceiverSide.{ReceiverSide}
 use Rattle.mq_calls.specs.Reads.{is_persistent, sender_in, in_doubt_of}
 use Rattle.mq_calls.specs.Changes.{comes_before}
-use Rattle.mq_calls.specs.Images.{Image, Shelf}
+use Rattle.mq_calls.specs.declared.image.Image.{Image}
+use Rattle.mq_calls.specs.declared.image.Shelf.{Shelf}
 use Rattle.mq_calls.specs.Recovery.{IsImage, IsShelf, IsLasting, IsHeldWell, IsOfDoubt, AreApart, IsSenderSide, IsReceiverSide, IsKnown, IsDoubtKnown, AreKnown, listed}
 use Rattle.mq_spec_log.specs.Applies.{Start, applies}
 use Rattle.mq_spec_log.specs.Bodies.{changing, meaning, meaning_of, record_of, behind, or_place, image_from, begins, image, empty_image}

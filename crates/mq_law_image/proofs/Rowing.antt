@@ -10,7 +10,8 @@ use Rattle.mq_objects.specs.declared.object.Definitions.{Definitions}
 use Rattle.mq_objects.specs.Names.{local_of, is_transmission}
 use Rattle.mq_calls.specs.Reads.{is_persistent}
 use Rattle.mq_calls.specs.Changes.{lane_of, new_row}
-use Rattle.mq_calls.specs.Images.{Shelf, uncounted_message}
+use Rattle.mq_calls.specs.Images.{uncounted_message}
+use Rattle.mq_calls.specs.declared.image.Shelf.{Shelf}
 use Rattle.mq_calls.specs.Recovery.{listed, routes, IsKnown}
 use Rattle.mq_spec_log.specs.Shelves.{shelf_in, set_shelf, on_all, shelved_in}
 use Rattle.mq_spec_log.specs.Applies.{agrees, fits, fits_local}

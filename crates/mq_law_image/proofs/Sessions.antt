@@ -15,10 +15,12 @@ use Rattle.mq_calls.specs.declared.records.Remove.{Remove}
 use Rattle.mq_calls.specs.declared.records.LogRecord.{LogRecord}
 use Rattle.mq_calls.specs.declared.records.LogRecord.TheVariants as records
 use Rattle.mq_log.specs.Bodies.{frame}
-use Rattle.mq_calls.specs.State.{Plain, Given, SenderSide}
+use Rattle.mq_calls.specs.State.{Plain, Given}
+use Rattle.mq_calls.specs.declared.state.SenderSide.{SenderSide}
 use Rattle.mq_calls.specs.State.Running.{Down}
 use Rattle.mq_calls.specs.Changes.{off_list, off_lists}
-use Rattle.mq_calls.specs.Images.{Image, lasting}
+use Rattle.mq_calls.specs.Images.{lasting}
+use Rattle.mq_calls.specs.declared.image.Image.{Image}
 use Rattle.mq_calls.specs.Steps.{Part, do_part, freeze, note_of, stands_in}
 use Rattle.mq_spec_manager.specs.Stops.{redone_if}
 use Rattle.mq_spec_log.specs.Applies.{applies, suits, was_given, idents_in, is_in_bounds}

@@ -21,7 +21,8 @@ use Rattle.mq_sync.specs.declared.data.InDoubt.{InDoubt}
 use Rattle.mq_sync.specs.declared.data.SenderData.{SenderData}
 use Rattle.mq_sync.specs.declared.data.ReceiverData.{ReceiverData}
 use Rattle.mq_sync.specs.Settlement.{sender_or}
-use Rattle.mq_calls.specs.State.{SenderSide, ReceiverSide}
+use Rattle.mq_calls.specs.declared.state.SenderSide.{SenderSide}
+use Rattle.mq_calls.specs.declared.state.ReceiverSide.{ReceiverSide}
 use Rattle.mq_calls.specs.Reads.{sender_in, in_doubt_of}
 use Rattle.mq_calls.specs.Changes.{comes_before, set_named, set_sender, set_receiver, less_ident, off_list, off_lists}
 use Rattle.mq_calls.specs.Recovery.{IsListed, listed, IsNumbered, IsDoubtOf, IsReceiverSide, IsKnown, IsDoubtKnown}

@@ -11,7 +11,9 @@ use Rattle.mq_calls.specs.declared.records.LogRecord.{LogRecord}
 use Rattle.mq_frame.specs.Reading.{IsBytes}
 use Rattle.mq_calls.specs.State.{Given, LogState}
 use Rattle.mq_calls.specs.Reads.{is_persistent, sender_in, in_doubt_of}
-use Rattle.mq_calls.specs.Images.{Image, Shelf, lasting, lasting_row, lasting_rows, rests_by, shelves_of, numbered, queue_on, begun, raised, uncounted_message}
+use Rattle.mq_calls.specs.Images.{lasting, lasting_row, lasting_rows, rests_by, shelves_of, numbered, queue_on, begun, raised, uncounted_message}
+use Rattle.mq_calls.specs.declared.image.Image.{Image}
+use Rattle.mq_calls.specs.declared.image.Shelf.{Shelf}
 use Rattle.mq_spec_manager.specs.Stops.{first_start, started_record, started_need}
 use Rattle.mq_spec_log.specs.Applies.{Start, applies, is_in_bounds}
 use Rattle.mq_spec_log.specs.Records.{doing}

@@ -17,7 +17,8 @@ use Rattle.mq_calls.specs.State.Running.{Up}
 use Rattle.mq_calls.specs.State.Change.{Try, SetBound}
 use Rattle.mq_calls.specs.Condition.{condition}
 use Rattle.mq_calls.specs.Changes.{apply, apply_all, try_if}
-use Rattle.mq_calls.specs.Images.{Image, lasting, begun, raised}
+use Rattle.mq_calls.specs.Images.{lasting, begun, raised}
+use Rattle.mq_calls.specs.declared.image.Image.{Image}
 use Rattle.mq_calls.specs.Steps.{Part, freeze, note_of, do_part, stands_in}
 use Rattle.mq_spec_manager.specs.Stops.{failed, stop, stop_at, stop_changes, redone_if, restarted, next_started, started_record, grown}
 use Rattle.mq_spec_log.specs.Applies.Start.{First, Later}

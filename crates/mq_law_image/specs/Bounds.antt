@@ -3,7 +3,9 @@ use Rattle.std.specs.Prelude.{ℕ, ◌+◌, ◌*◌, ◌≤◌, Bool, true, fals
 use Rattle.std.specs.List.{AllByRecursion}
 use Rattle.mq_calls.specs.declared.records.LogRecord.{LogRecord}
 use Rattle.mq_calls.specs.declared.records.LogRecord.TheVariants as records
-use Rattle.mq_calls.specs.State.{Plain, Connection, Change, Noted, SenderSide}
+use Rattle.mq_calls.specs.State.{Plain, Change, Noted}
+use Rattle.mq_calls.specs.declared.state.Connection.{Connection}
+use Rattle.mq_calls.specs.declared.state.SenderSide.{SenderSide}
 use Rattle.mq_calls.specs.State.Change.{Place as Places, Try, Connect, OpenHandle, Pend, CountIdent}
 use Rattle.mq_calls.specs.Reads.{stored, puts_to, reserved, unit_need, item_bytes}
 use Rattle.mq_calls.specs.Counts.{starts_of}

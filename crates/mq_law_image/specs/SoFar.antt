@@ -13,10 +13,12 @@ use Rattle.mq_sync.specs.declared.data.InDoubt.{InDoubt}
 use Rattle.mq_calls.specs.declared.records.Add.{Add}
 use Rattle.mq_calls.specs.declared.records.LogRecord.{LogRecord}
 use Rattle.mq_calls.specs.declared.records.LogRecord.TheVariants as records
-use Rattle.mq_calls.specs.State.{SenderSide, ReceiverSide}
+use Rattle.mq_calls.specs.declared.state.SenderSide.{SenderSide}
+use Rattle.mq_calls.specs.declared.state.ReceiverSide.{ReceiverSide}
 use Rattle.mq_calls.specs.Reads.{is_persistent, sender_in, in_doubt_of}
 use Rattle.mq_calls.specs.Changes.{lane_of, comes_before}
-use Rattle.mq_calls.specs.Images.{Image, Shelf}
+use Rattle.mq_calls.specs.declared.image.Image.{Image}
+use Rattle.mq_calls.specs.declared.image.Shelf.{Shelf}
 use Rattle.mq_calls.specs.Recovery.{IsListed, listed, routes, IsKnown, IsDoubtKnown, IsSenderSide, IsReceiverSide}
 use Rattle.mq_law_manager.specs.Facts.{Mem, Chain, Differ, ident_of, AreOnce, AreLaned, AreSorted}
 

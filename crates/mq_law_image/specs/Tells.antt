@@ -1,7 +1,8 @@
 -- What the bodies of a log tell of their manager.
 use Rattle.std.specs.Prelude.{◌≡◌, ℕ, ◌+◌, Bool, List, Option, Ok}
 use Rattle.mq_calls.specs.State.{Plain, Noted, Running, LogState}
-use Rattle.mq_calls.specs.Images.{Image, lasting}
+use Rattle.mq_calls.specs.Images.{lasting}
+use Rattle.mq_calls.specs.declared.image.Image.{Image}
 use Rattle.mq_spec_log.specs.Applies.{Start}
 use Rattle.mq_spec_log.specs.Bodies.{image}
 use Rattle.mq_spec_manager.specs.Stops.{redone_if}

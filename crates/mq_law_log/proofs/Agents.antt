@@ -19,13 +19,15 @@ use Rattle.mq_calls.specs.declared.agents.PrepareFault.TheVariants as prepare_fa
 use Rattle.mq_calls.specs.declared.agents.SeizeFault.TheVariants as seize_faults
 use Rattle.mq_calls.specs.declared.deltas.Did.TheVariants as did
 use Rattle.mq_calls.specs.declared.deltas.Why.TheVariants as whys
-use Rattle.mq_calls.specs.State.{Plain, Batch, Queue}
+use Rattle.mq_calls.specs.State.{Plain, Queue}
+use Rattle.mq_calls.specs.declared.state.Batch.{Batch}
 use Rattle.mq_calls.specs.State.Change.{Place as Places, Serve, CountIdent, Seize, Unseize, SetBound}
 use Rattle.mq_calls.specs.Reads.{stored, queue_in, is_persistent, free_rows, batch_of, sender_data, is_up, is_full, is_open_for_input, has_held_by_other, is_expired}
 use Rattle.mq_calls.specs.Changes.{apply}
 use Rattle.mq_calls.specs.Sizes.{need}
 use Rattle.mq_calls.specs.Steps.{when}
-use Rattle.mq_calls.specs.Images.{Shelf, has_batch, rests_by, lasting, lasting_row, lasting_rows, shelves_of}
+use Rattle.mq_calls.specs.Images.{has_batch, rests_by, lasting, lasting_row, lasting_rows, shelves_of}
+use Rattle.mq_calls.specs.declared.image.Shelf.{Shelf}
 use Rattle.mq_spec_manager.specs.Handles.{is_transmission_queue}
 use Rattle.mq_spec_manager.specs.Put.{next_ident}
 use Rattle.mq_spec_manager.specs.Get.{idents_of}

@@ -9,12 +9,15 @@ use Rattle.mq_queue.specs.declared.row.Row.{Row}
 use Rattle.mq_queue.specs.Rows.{same_ident, is_free, retag}
 use Rattle.mq_calls.specs.declared.state.Item.{Item}
 use Rattle.mq_calls.specs.declared.state.Item.TheVariants.{Put, Take}
-use Rattle.mq_calls.specs.State.{Plain, Queue, Batch, Connection}
+use Rattle.mq_calls.specs.State.{Plain, Queue}
+use Rattle.mq_calls.specs.declared.state.Batch.{Batch}
+use Rattle.mq_calls.specs.declared.state.Connection.{Connection}
 use Rattle.mq_calls.specs.State.Which.{Among}
 use Rattle.mq_calls.specs.State.Change.{Release, EndUnit}
 use Rattle.mq_calls.specs.Reads.{connection_at, is_persistent}
 use Rattle.mq_calls.specs.Changes.{apply, apply_all, released_in, release_if, selects}
-use Rattle.mq_calls.specs.Images.{Shelf, lasting, lasting_row, rests_by, shelf_of}
+use Rattle.mq_calls.specs.Images.{lasting, lasting_row, rests_by, shelf_of}
+use Rattle.mq_calls.specs.declared.image.Shelf.{Shelf}
 use Rattle.mq_spec_manager.specs.Units.{freed_item}
 use Rattle.mq_law_manager.specs.View.{Taken, view, takes_in, items_of}
 use Rattle.mq_law_manager.specs.Facts.{Mem, Sound, AreNamed, IsSound}

@@ -7,14 +7,16 @@ use Rattle.mq_message.specs.declared.place.Holder.{Holder}
 use Rattle.mq_message.specs.declared.place.Holder.TheVariants as holders
 use Rattle.mq_queue.specs.declared.row.Row.{Row}
 use Rattle.mq_queue.specs.Rows.{retag, held_by, is_free}
-use Rattle.mq_calls.specs.State.{Plain, Queue, Batch}
+use Rattle.mq_calls.specs.State.{Plain, Queue}
+use Rattle.mq_calls.specs.declared.state.Batch.{Batch}
 use Rattle.mq_calls.specs.State.Which.{Among, HeldBy}
 use Rattle.mq_calls.specs.State.Change.{Hold, Release, AddBatch, DropBatch}
 use Rattle.mq_calls.specs.Reads.{is_persistent, sender_data}
 use Rattle.mq_calls.specs.Changes.{apply_all, selects, held_in, released_in, release_if, retag_if, set_named, comes_before}
 use Rattle.mq_spec_manager.specs.Agents.{prepared_record, prepared_changes}
 use Rattle.mq_sync.specs.Settlement.{sender_or}
-use Rattle.mq_calls.specs.Images.{Shelf, lasting, lasting_row, lasting_rows, shelf_of, shelves_of, has_batch}
+use Rattle.mq_calls.specs.Images.{lasting, lasting_row, lasting_rows, shelf_of, shelves_of, has_batch}
+use Rattle.mq_calls.specs.declared.image.Shelf.{Shelf}
 use Rattle.mq_spec_log.specs.Shelves.{on_all, held_rows, with_sender}
 use Rattle.mq_spec_log.specs.Applies.{can_prepare}
 use Rattle.mq_law_log.specs.Keeps.{Told, HoldsJust, HoldsNone}

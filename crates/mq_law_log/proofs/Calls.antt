@@ -4,7 +4,9 @@ use Rattle.std.specs.Prelude.{Option, Some, None, Result, Ok, Err, ◌==◌, not
 use Rattle.std.specs.List.{AllByRecursion}
 use Rattle.mq_codes.specs.declared.reason.Reason.{Reason}
 use Rattle.mq_calls.specs.declared.answers.Hconn.{Hconn}
-use Rattle.mq_calls.specs.State.{Plain, Connection, Handle}
+use Rattle.mq_calls.specs.State.{Plain}
+use Rattle.mq_calls.specs.declared.state.Connection.{Connection}
+use Rattle.mq_calls.specs.declared.state.Handle.{Handle}
 use Rattle.mq_calls.specs.State.Change.{Disconnect}
 use Rattle.mq_calls.specs.Reads.{connection_at}
 use Rattle.mq_spec_manager.specs.Handles.{connected, is_other, is_present, live_or, for_connection, for_handle}

@@ -8,13 +8,15 @@ use Rattle.mq_message.specs.declared.place.Holder.TheVariants as holders
 use Rattle.mq_queue.specs.declared.row.Row.{Row}
 use Rattle.mq_queue.specs.Rows.{is_free}
 use Rattle.mq_objects.specs.Names.{local_of}
-use Rattle.mq_calls.specs.State.{Plain, Queue, Batch, Change, Which}
+use Rattle.mq_calls.specs.State.{Plain, Queue, Change, Which}
+use Rattle.mq_calls.specs.declared.state.Batch.{Batch}
 use Rattle.mq_calls.specs.State.Which.{Among}
 use Rattle.mq_calls.specs.State.Change.{Place as Places, Try, Leave, Hold, Connect, Disconnect, OpenHandle, CloseHandle, SetCursor, Pend, EndUnit, MakeStale, CountIdent, Seize, Unseize, SetBound, SetMoment}
 use Rattle.mq_calls.specs.Reads.{stored, is_persistent}
 use Rattle.mq_calls.specs.Condition.{condition}
 use Rattle.mq_calls.specs.Changes.{apply, lane_of, placed_in, kept_in, held_in, selects, retag_if, try_if, made_due, depth_type, new_row}
-use Rattle.mq_calls.specs.Images.{Shelf, lasting, shelf_of, shelves_of, lasting_row}
+use Rattle.mq_calls.specs.Images.{lasting, shelf_of, shelves_of, lasting_row}
+use Rattle.mq_calls.specs.declared.image.Shelf.{Shelf}
 use Rattle.mq_spec_log.specs.Shelves.{left, shelved, set_shelf, less_rows, shelved_in, cleared}
 use Rattle.mq_law_log.specs.Keeps.{AreLaned, has_queue, IsNew, is_aside}
 use Rattle.mq_law_log.proofs.Rows.{bool_case, rows_kept, rows_alike, row_aside, row_placed}

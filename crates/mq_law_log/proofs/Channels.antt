@@ -12,13 +12,16 @@ use Rattle.mq_sync.specs.declared.data.SenderData.{SenderData}
 use Rattle.mq_sync.specs.declared.data.InDoubt.{InDoubt}
 use Rattle.mq_sync.specs.declared.data.End.TheVariants as ends
 use Rattle.mq_calls.specs.declared.agents.Note.TheVariants as notes
-use Rattle.mq_calls.specs.State.{Plain, Queue, Batch}
+use Rattle.mq_calls.specs.State.{Plain, Queue}
+use Rattle.mq_calls.specs.declared.state.Batch.{Batch}
 use Rattle.mq_calls.specs.State.Which.{HeldBy}
 use Rattle.mq_calls.specs.Reads.{is_persistent, sender_data, receiver_data, in_doubt_of}
 use Rattle.mq_calls.specs.Changes.{apply, kept_in, released_in, release_if}
 use Rattle.mq_spec_manager.specs.Agents.{harden_part, settle_change}
 use Rattle.mq_sync.specs.Settlement.{sender_or, receiver_or, data_settled, settle_by}
-use Rattle.mq_calls.specs.Images.{Shelf, Image, lasting, lasting_row, rests_by, shelf_of, has_batch}
+use Rattle.mq_calls.specs.Images.{lasting, lasting_row, rests_by, shelf_of, has_batch}
+use Rattle.mq_calls.specs.declared.image.Shelf.{Shelf}
+use Rattle.mq_calls.specs.declared.image.Image.{Image}
 use Rattle.mq_spec_log.specs.Shelves.{less_rows, freed_row, freed_rows, with_sender, with_receiver}
 use Rattle.mq_spec_log.specs.Records.{settled_rows}
 use Rattle.mq_spec_log.specs.Applies.{is_unit_in_doubt}

@@ -36,7 +36,8 @@ use Rattle.mq_calls.specs.State.Change.{ChangeObjects}
 use Rattle.mq_calls.specs.Reads.{is_up, stored, has_rows, puts_to}
 use Rattle.mq_calls.specs.Changes.{apply, apply_all}
 use Rattle.mq_calls.specs.Steps.{when}
-use Rattle.mq_calls.specs.Images.{Shelf, lasting, lasting_rows}
+use Rattle.mq_calls.specs.Images.{lasting, lasting_rows}
+use Rattle.mq_calls.specs.declared.image.Shelf.{Shelf}
 use Rattle.mq_spec_manager.specs.Commands.{command, planned_step, object_part, uses_of, follows, renewed, renewed_if, stale_if, switched_if, dropped}
 use Rattle.mq_spec_log.specs.Applies.{agrees, has_rows_on, same_form, can_replace, can_set, is_empty_local, can_delete, can_change}
 use Rattle.mq_law_manager.specs.Facts.{IsSound}

@@ -7,7 +7,8 @@ use Rattle.mq_calls.specs.State.{Plain, Change, Given, Noted}
 use Rattle.mq_calls.specs.State.Change.{Try, SetBound}
 use Rattle.mq_calls.specs.Condition.{condition}
 use Rattle.mq_calls.specs.Changes.{apply, apply_all, try_if}
-use Rattle.mq_calls.specs.Images.{Image, lasting, raised}
+use Rattle.mq_calls.specs.Images.{lasting, raised}
+use Rattle.mq_calls.specs.declared.image.Image.{Image}
 use Rattle.mq_calls.specs.Steps.{Part, logged, do_part, freeze, note_of}
 use Rattle.mq_spec_manager.specs.Stops.{redone_if, restarted, grown}
 use Rattle.mq_law_manager.specs.Facts.{IsSound}

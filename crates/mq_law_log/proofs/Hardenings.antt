@@ -11,7 +11,8 @@ use Rattle.mq_sync.specs.Settlement.{sender_or, receiver_or}
 use Rattle.mq_calls.specs.declared.agents.Note.{Note}
 use Rattle.mq_calls.specs.declared.agents.Note.TheVariants as notes
 use Rattle.mq_sync.specs.declared.data.End.TheVariants as ends
-use Rattle.mq_calls.specs.State.{Plain, Batch}
+use Rattle.mq_calls.specs.State.{Plain}
+use Rattle.mq_calls.specs.declared.state.Batch.{Batch}
 use Rattle.mq_calls.specs.Reads.{batch_of, in_doubt_of, sender_data, receiver_data}
 use Rattle.mq_calls.specs.Images.{has_batch}
 use Rattle.mq_spec_log.specs.Applies.{is_unit_in_doubt}

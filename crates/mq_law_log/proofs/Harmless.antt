@@ -12,7 +12,9 @@ use Rattle.mq_queue.specs.Rows.{held_by}
 use Rattle.mq_calls.specs.declared.agents.Note.TheVariants as notes
 use Rattle.mq_calls.specs.declared.deltas.Why.{Why}
 use Rattle.mq_calls.specs.declared.records.LogRecord.{LogRecord}
-use Rattle.mq_calls.specs.State.{Plain, Connection, Batch, Change, Running, LogState}
+use Rattle.mq_calls.specs.State.{Plain, Change, Running, LogState}
+use Rattle.mq_calls.specs.declared.state.Connection.{Connection}
+use Rattle.mq_calls.specs.declared.state.Batch.{Batch}
 use Rattle.mq_calls.specs.State.Which.{Among, Nonpersistent}
 use Rattle.mq_calls.specs.State.Running.{Down}
 use Rattle.mq_calls.specs.Reads.{is_persistent, sender_data, receiver_data, in_doubt_of}
@@ -23,7 +25,8 @@ use Rattle.mq_spec_manager.specs.Get.{removal_part}
 use Rattle.mq_spec_manager.specs.Units.{commit_part, taken_item}
 use Rattle.mq_spec_manager.specs.Agents.{harden_part}
 use Rattle.mq_sync.specs.Settlement.{sender_or, receiver_or}
-use Rattle.mq_calls.specs.Images.{Image, lasting, has_batch}
+use Rattle.mq_calls.specs.Images.{lasting, has_batch}
+use Rattle.mq_calls.specs.declared.image.Image.{Image}
 use Rattle.mq_spec_log.specs.Applies.{fits, is_unit_in_doubt, can_prepare}
 use Rattle.mq_law_log.specs.Keeps.{Does, HoldsJust, IsNew, AreGone, AreTakeable}
 use Rattle.mq_law_log.specs.Sound.{IsLogSound, IsUnit, AreFree}

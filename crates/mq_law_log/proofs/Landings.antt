@@ -19,7 +19,8 @@ use Rattle.mq_sync.specs.declared.unit.Unit.{Unit as Luw}
 use Rattle.mq_sync.specs.declared.data.ReceiverData.{ReceiverData}
 use Rattle.mq_sync.specs.Units.{Below}
 use Rattle.mq_sync.specs.Settlement.{receiver_or}
-use Rattle.mq_calls.specs.State.{Plain, Given, Numbers, Queue, Batch}
+use Rattle.mq_calls.specs.State.{Plain, Given, Numbers, Queue}
+use Rattle.mq_calls.specs.declared.state.Batch.{Batch}
 use Rattle.mq_calls.specs.State.Which.{Among}
 use Rattle.mq_calls.specs.State.Change.{Place as Places, Leave, Undoubt}
 use Rattle.mq_calls.specs.Reads.{is_persistent, is_full, receiver_data, batch_of}
@@ -27,7 +28,8 @@ use Rattle.mq_calls.specs.Condition.{condition}
 use Rattle.mq_calls.specs.Changes.{apply, apply_all, selects, try_if}
 use Rattle.mq_calls.specs.Sizes.{need}
 use Rattle.mq_calls.specs.Steps.{when}
-use Rattle.mq_calls.specs.Images.{Shelf, lasting, lasting_row, lasting_rows, shelf_of, shelves_of, rests_by, has_batch}
+use Rattle.mq_calls.specs.Images.{lasting, lasting_row, lasting_rows, shelf_of, shelves_of, rests_by, has_batch}
+use Rattle.mq_calls.specs.declared.image.Shelf.{Shelf}
 use Rattle.mq_spec_manager.specs.Put.{placed}
 use Rattle.mq_spec_manager.specs.Agents.{RowAt, row_of, doubts, is_doubted_by, is_pending, is_unborn, same_flag, standing_by, Standing, Absent, InDoubtAt, Present, standing_at, is_present, undoubted, Landing, land, Landed, before, landed_by, landed_unless, landed, land_changes, received_record, receive, receive_landed, CanReceive}
 use Rattle.mq_spec_log.specs.Applies.{was_given, can_receive, is_free_at, stands_on}

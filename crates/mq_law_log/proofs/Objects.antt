@@ -14,12 +14,14 @@ use Rattle.mq_objects.specs.Names.{local_of, name_of}
 use Rattle.mq_resolve.specs.declared.route.PathStep.{PathStep}
 use Rattle.mq_resolve.specs.declared.route.PathStep.TheVariants as steps
 use Rattle.mq_sc_apply.specs.declared.answers.Planned.{Planned}
-use Rattle.mq_calls.specs.State.{Plain, Queue, Batch, fresh_queue}
+use Rattle.mq_calls.specs.State.{Plain, Queue, fresh_queue}
+use Rattle.mq_calls.specs.declared.state.Batch.{Batch}
 use Rattle.mq_calls.specs.State.Change.{ChangeObjects}
 use Rattle.mq_calls.specs.Reads.{stored}
 use Rattle.mq_calls.specs.Changes.{apply, apply_all}
 use Rattle.mq_spec_manager.specs.Commands.{stale_if, switched_if, renewed_if, renewed, dropped, follows, object_part}
-use Rattle.mq_calls.specs.Images.{Shelf, lasting, shelf_of, shelves_of}
+use Rattle.mq_calls.specs.Images.{lasting, shelf_of, shelves_of}
+use Rattle.mq_calls.specs.declared.image.Shelf.{Shelf}
 use Rattle.mq_spec_log.specs.Records.{shelves_after, shelf_if}
 use Rattle.mq_spec_log.specs.Applies.{can_change}
 use Rattle.mq_law_log.specs.Keeps.{Does, has_queue, SwitchesAt}

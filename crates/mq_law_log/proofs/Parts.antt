@@ -14,7 +14,8 @@ use Rattle.mq_calls.specs.declared.records.LogRecord.{LogRecord}
 use Rattle.mq_calls.specs.declared.records.LogRecord.TheVariants as records
 use Rattle.mq_calls.specs.declared.state.Item.{Item}
 use Rattle.mq_calls.specs.declared.state.Item.TheVariants.{Put, Take}
-use Rattle.mq_calls.specs.State.{Plain, Connection, Change}
+use Rattle.mq_calls.specs.State.{Plain, Change}
+use Rattle.mq_calls.specs.declared.state.Connection.{Connection}
 use Rattle.mq_calls.specs.State.Which.{Among}
 use Rattle.mq_calls.specs.State.Change.{Place as Places, Leave, CountIdent, EndUnit}
 use Rattle.mq_calls.specs.Reads.{is_persistent}
@@ -24,7 +25,9 @@ use Rattle.mq_spec_manager.specs.Get.{taking_part}
 use Rattle.mq_spec_manager.specs.Units.{adds_of, removes_of, record_of, placed_item, taken_item, commit_part, commit_changes}
 use Rattle.mq_spec_manager.specs.Agents.{Landing, move_part, moved_record}
 use Rattle.mq_message.specs.declared.message.Dest.{Dest}
-use Rattle.mq_calls.specs.Images.{Shelf, Image, lasting}
+use Rattle.mq_calls.specs.Images.{lasting}
+use Rattle.mq_calls.specs.declared.image.Shelf.{Shelf}
+use Rattle.mq_calls.specs.declared.image.Image.{Image}
 use Rattle.mq_spec_log.specs.Shelves.{left, less_rows, on_all, shelved, added, added_all, removed, removed_all}
 use Rattle.mq_spec_log.specs.Applies.{can_add, can_add_all, can_remove, can_remove_all, stands_on}
 use Rattle.mq_law_log.specs.Keeps.{Told, Does, IsPlaceable, ArePlaceable, IsTakeable, AreTakeable, less_item}

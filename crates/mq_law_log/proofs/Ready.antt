@@ -12,11 +12,14 @@ use Rattle.mq_queue.specs.Rows.{same_ident, has_ident, keep, is_free}
 use Rattle.mq_queue.specs.Queues.{Lacks, AreDistinct}
 use Rattle.mq_calls.specs.declared.state.Item.{Item}
 use Rattle.mq_calls.specs.declared.state.Item.TheVariants.{Put, Take}
-use Rattle.mq_calls.specs.State.{Plain, Queue, Batch}
+use Rattle.mq_calls.specs.State.{Plain, Queue}
+use Rattle.mq_calls.specs.declared.state.Batch.{Batch}
 use Rattle.mq_calls.specs.State.Which.{Among}
 use Rattle.mq_calls.specs.Reads.{stored, queue_in, is_persistent, is_by_unit}
 use Rattle.mq_calls.specs.Changes.{selects}
-use Rattle.mq_calls.specs.Images.{Shelf, Image, lasting, lasting_row, lasting_rows, shelves_of}
+use Rattle.mq_calls.specs.Images.{lasting, lasting_row, lasting_rows, shelves_of}
+use Rattle.mq_calls.specs.declared.image.Shelf.{Shelf}
+use Rattle.mq_calls.specs.declared.image.Image.{Image}
 use Rattle.mq_spec_log.specs.Shelves.{shelf_in, on_all, less_rows}
 use Rattle.mq_spec_log.specs.Applies.{is_free_at}
 use Rattle.mq_law_log.specs.Keeps.{IsTakeable, AreTakeable, AreGone, less_item}

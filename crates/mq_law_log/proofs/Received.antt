@@ -14,14 +14,18 @@ use Rattle.mq_message.specs.declared.message.Message.{Message}
 use Rattle.mq_sync.specs.declared.unit.Unit.{Unit as Luw}
 use Rattle.mq_sync.specs.declared.data.ReceiverData.{ReceiverData}
 use Rattle.mq_calls.specs.declared.records.Add.{Add}
-use Rattle.mq_calls.specs.State.{Plain, Queue, SenderSide, ReceiverSide}
+use Rattle.mq_calls.specs.State.{Plain, Queue}
+use Rattle.mq_calls.specs.declared.state.SenderSide.{SenderSide}
+use Rattle.mq_calls.specs.declared.state.ReceiverSide.{ReceiverSide}
 use Rattle.mq_calls.specs.State.Change.{Place as Places, Leave, SetReceiver, Undoubt}
 use Rattle.mq_calls.specs.Reads.{is_persistent, receiver_data, receiver_in}
 use Rattle.mq_calls.specs.Changes.{apply, apply_all, kept_in, selects}
 use Rattle.mq_spec_manager.specs.Agents.{Landing, Landed, Standing, Absent, InDoubtAt, standing_at, is_present, land, landed, landed_by, landed_unless, before, land_changes, drop_changes, undoubted}
 use Rattle.mq_sync.specs.Settlement.{receiver_or}
 use Rattle.mq_calls.specs.Changes.{off_lists}
-use Rattle.mq_calls.specs.Images.{Shelf, Image, lasting}
+use Rattle.mq_calls.specs.Images.{lasting}
+use Rattle.mq_calls.specs.declared.image.Shelf.{Shelf}
+use Rattle.mq_calls.specs.declared.image.Image.{Image}
 use Rattle.mq_spec_log.specs.Shelves.{added, added_all, with_receiver, shelved, cleared, on_all, less_rows, without_ident}
 use Rattle.mq_spec_log.specs.Applies.{can_add_all, can_receive, stands_on}
 use Rattle.mq_law_log.specs.Keeps.{IsPlaceable, IsLandable, LandTold, AllLand, AreLaned, CameBack, Does, received_part}

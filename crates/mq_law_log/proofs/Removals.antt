@@ -13,7 +13,9 @@ use Rattle.mq_calls.specs.State.Change.{Leave}
 use Rattle.mq_calls.specs.Reads.{is_persistent}
 use Rattle.mq_calls.specs.Changes.{apply, selects}
 use Rattle.mq_spec_manager.specs.Get.{removal_part, removal_record, removes_of, idents_of, persistent_rows}
-use Rattle.mq_calls.specs.Images.{Shelf, Image, lasting}
+use Rattle.mq_calls.specs.Images.{lasting}
+use Rattle.mq_calls.specs.declared.image.Shelf.{Shelf}
+use Rattle.mq_calls.specs.declared.image.Image.{Image}
 use Rattle.mq_spec_log.specs.Shelves.{left, less_rows, on_all, removed, removed_all}
 use Rattle.mq_spec_log.specs.Applies.{can_remove_all}
 use Rattle.mq_law_log.specs.Keeps.{Told, Does, AreGone, IsTakeable, less_item}

@@ -9,7 +9,7 @@ use Rattle.mq_message.specs.declared.message.Ident.{Ident}
 use Rattle.mq_queue.specs.declared.row.Row.{Row}
 use Rattle.mq_queue.specs.Rows.{same_ident, has_ident, insert_row, keep, retag}
 use Rattle.mq_queue.specs.Queues.{Lacks}
-use Rattle.mq_calls.specs.State.{Batch}
+use Rattle.mq_calls.specs.declared.state.Batch.{Batch}
 use Rattle.mq_calls.specs.Reads.{is_persistent}
 use Rattle.mq_calls.specs.Images.{lasting_row, lasting_rows}
 use Rattle.mq_law_log.specs.Keeps.{AreLaned}

@@ -8,12 +8,15 @@ use Rattle.mq_sync.specs.declared.data.InDoubt.{InDoubt}
 use Rattle.mq_queue.specs.declared.row.Row.{Row}
 use Rattle.mq_queue.specs.Rows.{same_ident, is_free}
 use Rattle.mq_queue.specs.Queues.{Lacks}
-use Rattle.mq_calls.specs.State.{Queue, Batch, SenderSide}
+use Rattle.mq_calls.specs.State.{Queue}
+use Rattle.mq_calls.specs.declared.state.Batch.{Batch}
+use Rattle.mq_calls.specs.declared.state.SenderSide.{SenderSide}
 use Rattle.mq_calls.specs.Reads.{queue_in}
 use Rattle.mq_calls.specs.Changes.{set_queue}
 use Rattle.mq_spec_manager.specs.Agents.{doubts}
 use Rattle.mq_calls.specs.Changes.{less_ident}
-use Rattle.mq_calls.specs.Images.{Shelf, shelf_of, shelves_of, lasting_rows}
+use Rattle.mq_calls.specs.Images.{shelf_of, shelves_of, lasting_rows}
+use Rattle.mq_calls.specs.declared.image.Shelf.{Shelf}
 use Rattle.mq_spec_log.specs.Shelves.{shelf_in, set_shelf, on_all, without_ident}
 use Rattle.mq_calls.specs.Changes.{off_lists}
 use Rattle.mq_spec_log.specs.Applies.{stands_on, is_free_at}

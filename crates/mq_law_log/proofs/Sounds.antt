@@ -4,7 +4,8 @@ use Rattle.std.specs.Prelude.{flat_map}
 use Rattle.mq_message.specs.declared.message.Message.{Message}
 use Rattle.mq_queue.specs.declared.row.Row.{Row}
 use Rattle.mq_calls.specs.declared.deltas.Why.{Why}
-use Rattle.mq_calls.specs.State.{Plain, Connection, Change}
+use Rattle.mq_calls.specs.State.{Plain, Change}
+use Rattle.mq_calls.specs.declared.state.Connection.{Connection}
 use Rattle.mq_calls.specs.Changes.{apply_all}
 use Rattle.mq_spec_manager.specs.Put.{put_part}
 use Rattle.mq_spec_manager.specs.Get.{removal_part}

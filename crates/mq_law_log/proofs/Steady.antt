@@ -16,7 +16,9 @@ use Rattle.mq_calls.specs.Reads.{stored, is_persistent}
 use Rattle.mq_calls.specs.Condition.{condition}
 use Rattle.mq_calls.specs.Changes.{apply, apply_all, off_lists, set_sender, set_receiver, lane_of, placed_in, new_row, kept_in, selects, made_due, depth_type, try_if}
 use Rattle.mq_calls.specs.Steps.{Part, volatile_gone}
-use Rattle.mq_calls.specs.Images.{Shelf, Image, lasting}
+use Rattle.mq_calls.specs.Images.{lasting}
+use Rattle.mq_calls.specs.declared.image.Shelf.{Shelf}
+use Rattle.mq_calls.specs.declared.image.Image.{Image}
 use Rattle.mq_spec_log.specs.Applies.{suits}
 use Rattle.mq_spec_log.specs.Records.{doing, shelf_if}
 use Rattle.mq_spec_log.specs.Shelves.{left, shelved}

@@ -8,14 +8,17 @@ use Rattle.mq_message.specs.declared.place.Holder.TheVariants as holders
 use Rattle.mq_queue.specs.declared.row.Row.{Row}
 use Rattle.mq_queue.specs.Rows.{keep, held_by, is_free}
 use Rattle.mq_calls.specs.declared.records.LogRecord.{LogRecord}
-use Rattle.mq_calls.specs.State.{Plain, Queue, Batch, Noted}
+use Rattle.mq_calls.specs.State.{Plain, Queue, Noted}
+use Rattle.mq_calls.specs.declared.state.Batch.{Batch}
 use Rattle.mq_calls.specs.State.Which.{HeldBy, HeldByUnits, Nonpersistent}
 use Rattle.mq_calls.specs.State.Change.{Release, Leave, ForgetAll}
 use Rattle.mq_calls.specs.Reads.{is_persistent, is_by_unit}
 use Rattle.mq_calls.specs.Changes.{apply, apply_all, kept_in, released_in, release_if, forgotten}
 use Rattle.mq_calls.specs.Steps.{Part, do_part, logged, freeze, stands_in, note_of}
 use Rattle.mq_spec_manager.specs.Stops.{at_rest, release_batch, redone_if}
-use Rattle.mq_calls.specs.Images.{Shelf, Image, lasting, lasting_row, lasting_rows, rests_by, shelf_of, shelves_of, has_batch, numbered, queue_on}
+use Rattle.mq_calls.specs.Images.{lasting, lasting_row, lasting_rows, rests_by, shelf_of, shelves_of, has_batch, numbered, queue_on}
+use Rattle.mq_calls.specs.declared.image.Shelf.{Shelf}
+use Rattle.mq_calls.specs.declared.image.Image.{Image}
 use Rattle.mq_spec_log.specs.Records.{doing}
 use Rattle.mq_spec_log.specs.Applies.{suits}
 use Rattle.mq_law_log.specs.Keeps.{Told, Does, Keeps}

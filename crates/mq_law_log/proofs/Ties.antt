@@ -7,7 +7,8 @@ use Rattle.mq_calls.specs.declared.records.LogRecord.{LogRecord}
 use Rattle.mq_calls.specs.State.{Plain, Noted}
 use Rattle.mq_calls.specs.Steps.{Part, do_part, IsWrite}
 use Rattle.mq_spec_manager.specs.Stops.{redone_if}
-use Rattle.mq_calls.specs.Images.{Image, lasting}
+use Rattle.mq_calls.specs.Images.{lasting}
+use Rattle.mq_calls.specs.declared.image.Image.{Image}
 use Rattle.mq_spec_log.specs.Records.{doing}
 use Rattle.mq_spec_log.specs.Applies.{Start, applies, was_given, idents_in, is_in_bounds}
 use Rattle.mq_spec_log.specs.Bodies.{record_of, image}

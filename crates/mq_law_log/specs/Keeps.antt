@@ -8,7 +8,9 @@ use Rattle.mq_queue.specs.Rows.{held_by}
 use Rattle.mq_message.specs.declared.place.Holder.TheVariants as holders
 use Rattle.mq_queue.specs.Queues.{Lacks}
 use Rattle.mq_calls.specs.declared.records.LogRecord.{LogRecord}
-use Rattle.mq_calls.specs.State.{Plain, Queue, Batch, SenderSide, Change}
+use Rattle.mq_calls.specs.State.{Plain, Queue, Change}
+use Rattle.mq_calls.specs.declared.state.Batch.{Batch}
+use Rattle.mq_calls.specs.declared.state.SenderSide.{SenderSide}
 use Rattle.mq_calls.specs.State.Which.{Among}
 use Rattle.mq_message.specs.declared.message.Message.{Message}
 use Rattle.mq_calls.specs.declared.state.Item.{Item}
@@ -28,7 +30,9 @@ use Rattle.mq_calls.specs.State.Change.{Connect, Disconnect, OpenHandle, CloseHa
 use Rattle.mq_spec_manager.specs.Agents.{doubts, Landing, Standing, standing_at, is_present, land, land_changes}
 pub use Rattle.mq_spec_manager.specs.Receiving.{received_part}
 pub use Rattle.mq_law_manager.specs.Facts.{has_queue}
-use Rattle.mq_calls.specs.Images.{Image, Shelf, lasting}
+use Rattle.mq_calls.specs.Images.{lasting}
+use Rattle.mq_calls.specs.declared.image.Image.{Image}
+use Rattle.mq_calls.specs.declared.image.Shelf.{Shelf}
 use Rattle.mq_spec_log.specs.Applies.{suits, fits, stands_on, can_add, can_remove}
 use Rattle.mq_spec_log.specs.Records.{doing}
 use Rattle.mq_spec_log.specs.Shelves.{added, removed}

@@ -2,7 +2,8 @@
 use Rattle.std.specs.Prelude.{◌≡◌, ℕ, zero, suc, true, false, List, [], ◌∷◌, Option, None, Some}
 use Rattle.std.specs.List.{list_all}
 use Rattle.mq_calls.specs.declared.records.LogRecord.{LogRecord}
-use Rattle.mq_calls.specs.State.{Plain, Batch, Noted, Running, LogState}
+use Rattle.mq_calls.specs.State.{Plain, Noted, Running, LogState}
+use Rattle.mq_calls.specs.declared.state.Batch.{Batch}
 use Rattle.mq_calls.specs.Changes.{apply_all}
 use Rattle.mq_calls.specs.Steps.{Part, Step, do_part, freeze, note_of, stopped_at, volatile_gone}
 use Rattle.mq_calls.specs.Steps.Step.{Refuse, Do}

@@ -10,7 +10,10 @@ use Rattle.mq_queue.specs.Queues.{AreDistinct}
 use Rattle.mq_objects.specs.Names.{local_of}
 use Rattle.mq_calls.specs.declared.state.Item.{Item}
 use Rattle.mq_calls.specs.declared.state.Item.TheVariants.{Put, Take}
-use Rattle.mq_calls.specs.State.{Plain, Queue, Connection, Handle, Batch}
+use Rattle.mq_calls.specs.State.{Plain, Queue}
+use Rattle.mq_calls.specs.declared.state.Connection.{Connection}
+use Rattle.mq_calls.specs.declared.state.Handle.{Handle}
+use Rattle.mq_calls.specs.declared.state.Batch.{Batch}
 use Rattle.mq_calls.specs.Reads.{stored, connection_at, batch_of, is_persistent, is_by_unit}
 use Rattle.mq_spec_manager.specs.Put.{next_ident, dest_at, queue_at}
 use Rattle.mq_spec_log.specs.Applies.{fits}

@@ -7,7 +7,7 @@ use Rattle.mq_message.specs.declared.place.Holder.{Holder}
 use Rattle.mq_message.specs.declared.place.Holder.TheVariants as holders
 use Rattle.mq_queue.specs.declared.row.Row.{Row}
 use Rattle.mq_sync.specs.declared.data.InDoubt.{InDoubt}
-use Rattle.mq_calls.specs.State.{Batch}
+use Rattle.mq_calls.specs.declared.state.Batch.{Batch}
 use Rattle.mq_law_manager.specs.View.{at_name, inserted, kept_all, retagged_all}
 use Rattle.mq_law_manager.specs.Facts.{Mem, ident_of, IsOf, IsBatched, AreBatched}
 use Rattle.mq_law_manager.proofs.Lists.{bool_case, name_yes, name_self, mem_keep, mem_kept, mem_retag, mem_retagged, mem_inserted_at, mem_inserted_old}

@@ -12,7 +12,8 @@ use Rattle.mq_sync.specs.declared.data.End.TheVariants as ends
 use Rattle.mq_calls.specs.declared.agents.Note.{Note}
 use Rattle.mq_calls.specs.declared.agents.Note.TheVariants as notes
 use Rattle.mq_calls.specs.declared.agents.PrepareFault.TheVariants as prepare_faults
-use Rattle.mq_calls.specs.State.{Plain, Batch, Which}
+use Rattle.mq_calls.specs.State.{Plain, Which}
+use Rattle.mq_calls.specs.declared.state.Batch.{Batch}
 use Rattle.mq_calls.specs.State.Which.{HeldBy}
 use Rattle.mq_calls.specs.State.Change.{Leave, Release, SetSender, DropBatch}
 use Rattle.mq_calls.specs.Reads.{sender_data, batch_of, in_doubt_of, is_full}

@@ -11,7 +11,9 @@ use Rattle.mq_queue.specs.Rows.{same_ident}
 use Rattle.mq_sync.specs.declared.data.InDoubt.{InDoubt}
 use Rattle.mq_calls.specs.State.{Given}
 use Rattle.mq_calls.specs.Reads.{sender_in, in_doubt_of}
-use Rattle.mq_calls.specs.Images.{Image, Shelf, raised}
+use Rattle.mq_calls.specs.Images.{raised}
+use Rattle.mq_calls.specs.declared.image.Image.{Image}
+use Rattle.mq_calls.specs.declared.image.Shelf.{Shelf}
 use Rattle.mq_calls.specs.Recovery.{IsImage, IsShelf, IsLasting, IsHeldWell, IsListed, AreApart, IsKnown, AreKnown}
 use Rattle.mq_law_manager.specs.Facts.{Mem, Chain, Differ, ident_of, IsOf, AreLaned}
 use Rattle.mq_law_manager.proofs.Lists.{bool_case, any_mem, ident_self, name_yes}

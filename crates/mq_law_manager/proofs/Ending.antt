@@ -10,7 +10,8 @@ use Rattle.mq_calls.specs.State.Running.{Up, Down}
 use Rattle.mq_calls.specs.State.Which.{Nonpersistent}
 use Rattle.mq_calls.specs.State.Change.{Leave}
 use Rattle.mq_calls.specs.Changes.{apply, kept_in}
-use Rattle.mq_calls.specs.Images.{Image, begun, lasting, raised}
+use Rattle.mq_calls.specs.Images.{begun, lasting, raised}
+use Rattle.mq_calls.specs.declared.image.Image.{Image}
 use Rattle.mq_calls.specs.Recovery.{IsImage, AreKnown}
 use Rattle.mq_calls.specs.Steps.{Step, Part, logged, do_part, do_all, freeze, note_of, stopped_at, chosen, after}
 use Rattle.mq_calls.specs.Steps.Step.{Refuse, Do}

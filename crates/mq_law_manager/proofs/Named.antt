@@ -6,7 +6,10 @@ use Rattle.std.proofs.lemmas.Slice.Eq.{bytes_eq-Decides}
 use Rattle.mq_message.specs.declared.message.Ident.{Ident}
 use Rattle.mq_sync.specs.declared.data.SenderData.{SenderData}
 use Rattle.mq_sync.specs.declared.data.ReceiverData.{ReceiverData}
-use Rattle.mq_calls.specs.State.{SenderSide, ReceiverSide, Queue, Batch, fresh_queue}
+use Rattle.mq_calls.specs.State.{Queue, fresh_queue}
+use Rattle.mq_calls.specs.declared.state.SenderSide.{SenderSide}
+use Rattle.mq_calls.specs.declared.state.ReceiverSide.{ReceiverSide}
+use Rattle.mq_calls.specs.declared.state.Batch.{Batch}
 use Rattle.mq_calls.specs.Reads.{sender_in, receiver_in, queue_in, batch_of, in_doubt_of}
 use Rattle.mq_calls.specs.Changes.{set_sender, set_receiver, set_queue, set_named, comes_before, less_ident, off_list, off_lists}
 use Rattle.mq_law_manager.proofs.Lists.{bool_case}

@@ -12,7 +12,9 @@ use Rattle.mq_queue.specs.Queues.{AllBehind, AreInOrder, AreCounted}
 use Rattle.mq_sync.specs.declared.data.InDoubt.{InDoubt}
 use Rattle.mq_calls.specs.State.{Given, LogState}
 use Rattle.mq_calls.specs.Reads.{queue_in, sender_in, in_doubt_of}
-use Rattle.mq_calls.specs.Images.{Image, Shelf, numbered, queue_on, begun}
+use Rattle.mq_calls.specs.Images.{numbered, queue_on, begun}
+use Rattle.mq_calls.specs.declared.image.Image.{Image}
+use Rattle.mq_calls.specs.declared.image.Shelf.{Shelf}
 use Rattle.mq_law_manager.specs.View.{View, view}
 use Rattle.mq_law_manager.specs.Facts.{Mem, Differ, ident_of, IsOf, AreLaned, Sound, Holds}
 use Rattle.mq_law_manager.proofs.Lists.{bool_case}

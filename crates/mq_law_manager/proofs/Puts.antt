@@ -14,7 +14,9 @@ use Rattle.mq_calls.specs.declared.answers.Hobj.{Hobj}
 use Rattle.mq_calls.specs.declared.answers.Open.{Open}
 use Rattle.mq_calls.specs.declared.answers.Appl.{Appl}
 use Rattle.mq_calls.specs.declared.records.LogRecord.{LogRecord}
-use Rattle.mq_calls.specs.State.{Plain, Connection, Handle}
+use Rattle.mq_calls.specs.State.{Plain}
+use Rattle.mq_calls.specs.declared.state.Connection.{Connection}
+use Rattle.mq_calls.specs.declared.state.Handle.{Handle}
 use Rattle.mq_calls.specs.declared.state.Item.TheVariants.{Put}
 use Rattle.mq_calls.specs.State.Change.{CountIdent, Pend, OpenHandle, CloseHandle}
 use Rattle.mq_calls.specs.Reads.{connection_at, handle_at}

@@ -17,7 +17,9 @@ use Rattle.mq_calls.specs.declared.answers.Take.TheVariants as takes
 use Rattle.mq_calls.specs.declared.deltas.Why.{Why}
 use Rattle.mq_calls.specs.declared.deltas.Why.TheVariants as whys
 use Rattle.mq_calls.specs.declared.records.LogRecord.{LogRecord}
-use Rattle.mq_calls.specs.State.{Plain, Change, Connection, Handle}
+use Rattle.mq_calls.specs.State.{Plain, Change}
+use Rattle.mq_calls.specs.declared.state.Connection.{Connection}
+use Rattle.mq_calls.specs.declared.state.Handle.{Handle}
 use Rattle.mq_calls.specs.declared.state.Item.TheVariants.{Take as Taken}
 use Rattle.mq_calls.specs.State.Which.{Among}
 use Rattle.mq_calls.specs.State.Change.{Leave, Hold, Pend, SetCursor}

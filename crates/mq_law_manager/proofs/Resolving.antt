@@ -20,7 +20,8 @@ use Rattle.mq_resolve.specs.declared.way.Way.{Way}
 use Rattle.mq_resolve.specs.Resolved.{is_local, is_xmitq, is_transmission_queue, is_blank, remote_name, remote_manager, xmitq, target, transmission, way_steps, via, remote_rows, remote_table, by_definition, here, look_up_rows, look_up, whole_rows, resolve, end_stands}
 use Rattle.mq_resolve.proofs.Laws.{first_row-each, RouteStands, resolve-stands}
 use Rattle.mq_calls.specs.declared.answers.Open.{Open}
-use Rattle.mq_calls.specs.State.{Plain, Connection}
+use Rattle.mq_calls.specs.State.{Plain}
+use Rattle.mq_calls.specs.declared.state.Connection.{Connection}
 use Rattle.mq_calls.specs.Reads.{is_step}
 use Rattle.mq_calls.specs.Recovery.{routes}
 use Rattle.mq_spec_manager.specs.Handles.{is_unfit, is_transmission_queue as is_transmitting, new_handle}

@@ -9,7 +9,8 @@ use Rattle.mq_message.specs.declared.place.Holder.{Holder}
 use Rattle.mq_message.specs.declared.place.Holder.TheVariants as holders
 use Rattle.mq_queue.specs.declared.row.Row.{Row}
 use Rattle.mq_queue.specs.Queues.{AllBehind, AreInOrder}
-use Rattle.mq_calls.specs.State.{Plain, Batch, Queue}
+use Rattle.mq_calls.specs.State.{Plain, Queue}
+use Rattle.mq_calls.specs.declared.state.Batch.{Batch}
 use Rattle.mq_calls.specs.Reads.{queue_in, batch_of, is_persistent}
 use Rattle.mq_calls.specs.Images.{has_batch, rests_by, lasting_row, lasting_rows, shelves_of, lasting, raised}
 use Rattle.mq_law_manager.specs.View.{view}

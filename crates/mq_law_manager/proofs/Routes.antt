@@ -23,7 +23,10 @@ use Rattle.mq_resolve.specs.declared.route.PathStep.{PathStep}
 use Rattle.mq_sync.specs.declared.data.InDoubt.{InDoubt}
 use Rattle.mq_calls.specs.declared.records.Add.{Add}
 use Rattle.mq_calls.specs.declared.state.Item.TheVariants.{Put, Take}
-use Rattle.mq_calls.specs.State.{Plain, Change, Connection, Handle, SenderSide}
+use Rattle.mq_calls.specs.State.{Plain, Change}
+use Rattle.mq_calls.specs.declared.state.Connection.{Connection}
+use Rattle.mq_calls.specs.declared.state.Handle.{Handle}
+use Rattle.mq_calls.specs.declared.state.SenderSide.{SenderSide}
 use Rattle.mq_calls.specs.State.Change.{Place as Places, Try, Leave, Hold, Release, Connect, Disconnect, OpenHandle, CloseHandle, SetCursor, Pend, EndUnit, MakeStale, CountIdent, Renew, DropQueue, SetSender, Undoubt, SetBound, ForgetAll}
 use Rattle.mq_calls.specs.Condition.{condition}
 use Rattle.mq_calls.specs.Reads.{has_step, is_persistent, sender_in}

@@ -10,7 +10,8 @@ use Rattle.mq_queue.specs.declared.row.Row.{Row}
 use Rattle.mq_queue.specs.Rows.{is_free, same_ident}
 use Rattle.mq_queue.proofs.QueueLaws.{KeepsPlaces}
 use Rattle.mq_calls.specs.declared.records.Add.{Add}
-use Rattle.mq_calls.specs.State.{Which, Batch}
+use Rattle.mq_calls.specs.State.{Which}
+use Rattle.mq_calls.specs.declared.state.Batch.{Batch}
 use Rattle.mq_calls.specs.declared.state.Item.TheVariants.{Put, Take}
 use Rattle.mq_calls.specs.State.Which.{Among}
 use Rattle.mq_calls.specs.Reads.{is_persistent}

@@ -44,7 +44,9 @@ use Rattle.mq_queue.specs.declared.row.Row.{Row}
 use Rattle.mq_queue.specs.Lanes.{lane_at}
 use Rattle.mq_objects.specs.declared.object.Usage.{Usage}
 use Rattle.mq_objects.specs.declared.object.Delivery.{Delivery}
-use Rattle.mq_calls.specs.State.{Plain, Connection, Handle, Queue, LogState, fresh_queue}
+use Rattle.mq_calls.specs.State.{Plain, Queue, LogState, fresh_queue}
+use Rattle.mq_calls.specs.declared.state.Connection.{Connection}
+use Rattle.mq_calls.specs.declared.state.Handle.{Handle}
 use Rattle.mq_calls.specs.State.Change.{MakeStale, ChangeObjects, Renew, DropQueue}
 use Rattle.mq_calls.specs.Reads.{connection_at, is_up, has_rows, puts_to, is_put_to, has_step, any_handle, on_path}
 use Rattle.mq_calls.specs.Changes.{apply, apply_all, set_queue, made_stale, stale_if as handle_stale}

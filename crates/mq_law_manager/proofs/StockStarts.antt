@@ -13,10 +13,14 @@ use Rattle.mq_objects.specs.declared.object.LocalQueue.{LocalQueue}
 use Rattle.mq_objects.specs.declared.object.Object.{Object}
 use Rattle.mq_objects.specs.declared.object.Object.TheVariants as objects
 use Rattle.mq_objects.specs.Names.{Queues, as_local, local_of, locals_in, object_in, is_object, space_of, name_of}
-use Rattle.mq_calls.specs.State.{Plain, Given, LogState, Queue, Batch, SenderSide}
+use Rattle.mq_calls.specs.State.{Plain, Given, LogState, Queue}
+use Rattle.mq_calls.specs.declared.state.Batch.{Batch}
+use Rattle.mq_calls.specs.declared.state.SenderSide.{SenderSide}
 use Rattle.mq_calls.specs.Reads.{queue_in, batch_of, in_doubt_of, is_persistent}
 use Rattle.mq_calls.specs.Changes.{comes_before}
-use Rattle.mq_calls.specs.Images.{Image, Shelf, has_batch, rests_by, lasting_row, shelf_of, shelves_of, lasting, numbered, queue_on, begun, raised}
+use Rattle.mq_calls.specs.Images.{has_batch, rests_by, lasting_row, shelf_of, shelves_of, lasting, numbered, queue_on, begun, raised}
+use Rattle.mq_calls.specs.declared.image.Image.{Image}
+use Rattle.mq_calls.specs.declared.image.Shelf.{Shelf}
 use Rattle.mq_calls.specs.Recovery.{IsImage, IsShelf, IsLasting, IsOfDoubt, IsKnown, IsDoubtKnown, AreKnown}
 use Rattle.mq_law_manager.specs.Facts.{Mem, Chain, AreOnce, AreNamed, IsStocked, IsFormed, IsUnlisted, AreSorted, listed, has_queue}
 use Rattle.mq_law_manager.proofs.Lists.{bool_case, is_false, mem_any}

@@ -38,7 +38,11 @@ use Rattle.mq_calls.specs.declared.records.Add.{Add}
 use Rattle.mq_calls.specs.declared.records.LogRecord.{LogRecord}
 use Rattle.mq_calls.specs.declared.state.Item.{Item}
 use Rattle.mq_calls.specs.declared.state.Item.TheVariants.{Put, Take}
-use Rattle.mq_calls.specs.State.{Plain, Change, Connection, Handle, Batch, SenderSide, Running, LogState}
+use Rattle.mq_calls.specs.State.{Plain, Change, Running, LogState}
+use Rattle.mq_calls.specs.declared.state.Connection.{Connection}
+use Rattle.mq_calls.specs.declared.state.Handle.{Handle}
+use Rattle.mq_calls.specs.declared.state.Batch.{Batch}
+use Rattle.mq_calls.specs.declared.state.SenderSide.{SenderSide}
 use Rattle.mq_calls.specs.State.Running.{Up, Down}
 use Rattle.mq_calls.specs.State.Change.{Place as Places, Connect, OpenHandle, CloseHandle, SetCursor, Undoubt, EndUnit, Disconnect, Hold, Leave, Release, SetSender, SetReceiver, Seize, Unseize, SetBound, AddBatch, DropBatch, ForgetAll}
 use Rattle.mq_calls.specs.State.Which.{Among, HeldBy, HeldByUnits, Nonpersistent}

@@ -10,7 +10,8 @@ use Rattle.mq_queue.specs.declared.row.Row.{Row}
 use Rattle.mq_queue.specs.Rows.{same_ident, is_free}
 use Rattle.mq_sync.specs.declared.unit.Unit.{Unit as Luw}
 use Rattle.mq_calls.specs.declared.records.Add.{Add}
-use Rattle.mq_calls.specs.State.{Plain, Change, Batch, Which, Running}
+use Rattle.mq_calls.specs.State.{Plain, Change, Which, Running}
+use Rattle.mq_calls.specs.declared.state.Batch.{Batch}
 use Rattle.mq_calls.specs.State.Which.{Among, HeldBy, HeldByUnits, Nonpersistent}
 use Rattle.mq_calls.specs.State.Change.{Hold, Leave, Release, AddBatch, ForgetAll}
 use Rattle.mq_calls.specs.State.Running.{Up, Down}

@@ -16,7 +16,11 @@ use Rattle.mq_message.specs.declared.message.Message.{Message}
 use Rattle.mq_objects.specs.declared.object.LocalQueue.{LocalQueue}
 use Rattle.mq_objects.specs.declared.object.Definitions.{Definitions}
 use Rattle.mq_resolve.specs.declared.route.PathStep.TheVariants as steps
-use Rattle.mq_calls.specs.State.{Plain, Batch, Queue, Connection, Handle, SenderSide}
+use Rattle.mq_calls.specs.State.{Plain, Queue}
+use Rattle.mq_calls.specs.declared.state.Batch.{Batch}
+use Rattle.mq_calls.specs.declared.state.Connection.{Connection}
+use Rattle.mq_calls.specs.declared.state.Handle.{Handle}
+use Rattle.mq_calls.specs.declared.state.SenderSide.{SenderSide}
 use Rattle.mq_calls.specs.Reads.{is_persistent, has_step}
 use Rattle.mq_calls.specs.Changes.{lane_of, comes_before}
 pub use Rattle.mq_calls.specs.Recovery.{routes, listed}

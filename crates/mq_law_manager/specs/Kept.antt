@@ -1,7 +1,9 @@
 -- A call keeps what holds of a manager's rows: behind each of its parts. (So it holds where a later write is stopped, too.)
 use Rattle.std.specs.Prelude.{ℕ, ◌≡◌, ◌≢◌, true, false, List, [], ◌∷◌, Some}
 use Rattle.mq_objects.specs.Names.{local_of}
-use Rattle.mq_calls.specs.State.{Plain, Change, Connection, Which, SenderSide}
+use Rattle.mq_calls.specs.State.{Plain, Change, Which}
+use Rattle.mq_calls.specs.declared.state.Connection.{Connection}
+use Rattle.mq_calls.specs.declared.state.SenderSide.{SenderSide}
 use Rattle.mq_message.specs.declared.message.Ident.{Ident}
 use Rattle.mq_message.specs.declared.place.Holder.TheVariants as holders
 use Rattle.mq_queue.specs.declared.row.Row.{Row}

@@ -7,7 +7,9 @@ use Rattle.mq_queue.specs.declared.row.Row.{Row}
 use Rattle.mq_queue.specs.Rows.{is_free}
 use Rattle.mq_objects.specs.Names.{local_of}
 use Rattle.mq_sync.specs.declared.data.SenderData.{SenderData}
-use Rattle.mq_calls.specs.State.{Plain, Change, Which, Batch, Item}
+use Rattle.mq_calls.specs.State.{Plain, Change, Which}
+use Rattle.mq_calls.specs.declared.state.Batch.{Batch}
+use Rattle.mq_calls.specs.declared.state.Item.{Item}
 use Rattle.mq_calls.specs.State.Change.{Place as Places, Try, Leave, Hold, Release, Connect, Disconnect, OpenHandle, CloseHandle, SetCursor, Pend, EndUnit, MakeStale, CountIdent, ChangeObjects, Renew, DropQueue, SwitchOn, Serve, SetSender, SetReceiver, Undoubt, Seize, Unseize, AddBatch, DropBatch, SetBound, SetMoment, ForgetAll}
 use Rattle.mq_calls.specs.Changes.{apply, lane_of, new_row, selects, retag_if, release_if, less_ident}
 use Rattle.mq_spec_manager.specs.Agents.{is_unborn}

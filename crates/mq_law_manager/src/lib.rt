@@ -26,7 +26,7 @@ ghost use Rattle.mq_spec_manager.specs.Handles.{mqclose, mqconn, mqopen};
 ghost use Rattle.mq_spec_manager.specs.Put.{mqput, mqput1, next_ident};
 ghost use Rattle.mq_spec_manager.specs.Get.{mqget};
 ghost use Rattle.mq_spec_manager.specs.Units.{mqback, mqcmit, mqdisc};
-ghost use Rattle.mq_calls.specs.Images.{Image};
+ghost use Rattle.mq_calls.specs.declared.image.Image.{Image};
 ghost use Rattle.mq_calls.specs.Recovery.{AreKnown, IsImage};
 ghost use Rattle.mq_spec_manager.specs.Stops.{first_start, restarted, stop};
 ghost use Rattle.mq_spec_manager.specs.Commands.{command};

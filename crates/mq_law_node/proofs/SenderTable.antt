@@ -22,7 +22,8 @@ use Rattle.mq_sender.specs.declared.turns.SenderOut.TheVariants as outs
 use Rattle.mq_sender.specs.States.{unit_begun}
 use Rattle.mq_sender.specs.Table.{is_sending, messages_sent, sender_next}
 use Rattle.mq_sender.specs.After.{sender_after, number_sent}
-use Rattle.mq_calls.specs.State.{Plain, Queue, Batch}
+use Rattle.mq_calls.specs.State.{Plain, Queue}
+use Rattle.mq_calls.specs.declared.state.Batch.{Batch}
 use Rattle.mq_calls.specs.State.Which.{Among}
 use Rattle.mq_calls.specs.Reads.{is_up, stored, free_rows, batch_of, sender_data, is_full}
 use Rattle.mq_calls.specs.Changes.{retag_if, selects}

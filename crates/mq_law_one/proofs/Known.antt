@@ -10,7 +10,8 @@ use Rattle.mq_history.specs.declared.history.History.{History}
 use Rattle.mq_history.specs.declared.scenario.Scenario.{Scenario}
 use Rattle.mq_calls.specs.State.{Plain}
 use Rattle.mq_calls.specs.Reads.{stored, queue_in}
-use Rattle.mq_calls.specs.Images.{Shelf, numbered, queue_on}
+use Rattle.mq_calls.specs.Images.{numbered, queue_on}
+use Rattle.mq_calls.specs.declared.image.Shelf.{Shelf}
 use Rattle.mq_calls.specs.Recovery.{IsKnown}
 use Rattle.mq_spec_manager.specs.Stops.{first_start}
 use Rattle.mq_spec_network.specs.Given.{surroundings}

@@ -8,7 +8,8 @@ use Rattle.mq_calls.specs.Changes.{apply, apply_all, try_if}
 use Rattle.mq_calls.specs.Condition.{condition}
 use Rattle.mq_objects.specs.Names.{local_of}
 use Rattle.mq_calls.specs.Reads.{has_held_by_other, seizure_of}
-use Rattle.mq_calls.specs.State.{Change, Plain, Seizure}
+use Rattle.mq_calls.specs.State.{Change, Plain}
+use Rattle.mq_calls.specs.declared.state.Seizure.{Seizure}
 use Rattle.mq_calls.specs.State.Change.{ForgetAll, Seize, SetBound, Try, Unseize}
 use Rattle.mq_calls.specs.Steps.{Part, do_all, logged}
 use Rattle.mq_spec_manager.specs.Agents.{queue_of_sender, seized_queue}

@@ -31,7 +31,8 @@ use Rattle.mq_sender.specs.States.{is_running}
 use Rattle.mq_sender.specs.After.{number_sent, sender_after}
 use Rattle.mq_sender.specs.Frames.{bind_frame, end_frame, pushed_by}
 use Rattle.mq_sender.specs.Table.{is_ack, is_binding, is_err, is_hailing, is_idle, is_ready, is_sending, is_starting, is_status, is_waiting, messages_sent, sender_lines, sender_next}
-use Rattle.mq_calls.specs.State.{Batch, Plain}
+use Rattle.mq_calls.specs.State.{Plain}
+use Rattle.mq_calls.specs.declared.state.Batch.{Batch}
 use Rattle.mq_calls.specs.State.Which.{Among, HeldBy}
 use Rattle.mq_calls.specs.State.Change.{Leave}
 use Rattle.mq_calls.specs.Changes.{apply}

@@ -5,7 +5,7 @@ use Rattle.mq_history.specs.declared.scenario.ManagerLine.{ManagerLine}
 use Rattle.mq_history.specs.declared.scenario.Scenario.{Scenario}
 use Rattle.mq_log.specs.Bodies.{IsLog}
 use Rattle.mq_log.specs.State.{log_length}
-use Rattle.mq_calls.specs.Images.{Image}
+use Rattle.mq_calls.specs.declared.image.Image.{Image}
 use Rattle.mq_calls.specs.Recovery.{IsImage, AreKnown}
 use Rattle.mq_spec_log.specs.Applies.Start.{First}
 use Rattle.mq_spec_log.specs.Bodies.{image}

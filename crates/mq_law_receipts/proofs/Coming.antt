@@ -10,7 +10,8 @@ use Rattle.mq_queue.specs.Rows.{same_ident, keep}
 use Rattle.mq_sync.specs.declared.data.InDoubt.{InDoubt}
 use Rattle.mq_sync.specs.declared.unit.Unit.{Unit as Luw}
 use Rattle.mq_calls.specs.declared.state.Connection.{Connection}
-use Rattle.mq_calls.specs.State.{Batch, Plain}
+use Rattle.mq_calls.specs.State.{Plain}
+use Rattle.mq_calls.specs.declared.state.Batch.{Batch}
 use Rattle.mq_calls.specs.State.Which.{Among}
 use Rattle.mq_calls.specs.State.Change.{Leave, Undoubt}
 use Rattle.mq_calls.specs.Reads.{batch_of, in_doubt_of, is_persistent, sender_data, sender_in, stored}

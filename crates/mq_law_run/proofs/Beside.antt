@@ -16,7 +16,8 @@ use Rattle.mq_receiver.specs.declared.turns.ReceiverDoes.{ReceiverDoes}
 use Rattle.mq_receiver.specs.declared.turns.ReceiverDoes.TheVariants as takes
 use Rattle.mq_calls.specs.declared.records.LogRecord.{LogRecord}
 use Rattle.mq_history.specs.declared.calls.Reply.TheVariants as replies
-use Rattle.mq_calls.specs.State.{Batch, Change, Given, Numbers, Plain}
+use Rattle.mq_calls.specs.State.{Change, Given, Numbers, Plain}
+use Rattle.mq_calls.specs.declared.state.Batch.{Batch}
 use Rattle.mq_calls.specs.State.Change.{Place, Try, Undoubt, Hold, Leave, Release, SetSender, SetReceiver, Seize, Unseize, AddBatch, DropBatch, SetBound}
 use Rattle.mq_calls.specs.Reads.{batch_of, is_full}
 use Rattle.mq_calls.specs.Sizes.{need}

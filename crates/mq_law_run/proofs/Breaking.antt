@@ -36,7 +36,9 @@ use Rattle.mq_history.specs.declared.history.History.{History}
 use Rattle.mq_history.specs.declared.scenario.CableLine.{CableLine}
 use Rattle.mq_history.specs.declared.scenario.Scenario.{Scenario}
 use Rattle.mq_history.specs.Scenarios.{IsScenario}
-use Rattle.mq_calls.specs.State.{Batch, Plain, Running, Seizure}
+use Rattle.mq_calls.specs.State.{Plain, Running}
+use Rattle.mq_calls.specs.declared.state.Batch.{Batch}
+use Rattle.mq_calls.specs.declared.state.Seizure.{Seizure}
 use Rattle.mq_calls.specs.State.Change.{Seize}
 use Rattle.mq_calls.specs.State.Running.{Down, Up}
 use Rattle.mq_calls.specs.Reads.{batch_of, has_held_by_other, in_doubt_of, is_open_for_input, is_up, receiver_data, sender_data}

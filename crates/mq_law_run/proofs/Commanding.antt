@@ -35,7 +35,9 @@ use Rattle.mq_history.specs.declared.history.History.{History}
 use Rattle.mq_history.specs.declared.scenario.CableLine.{CableLine}
 use Rattle.mq_history.specs.declared.scenario.Scenario.{Scenario}
 use Rattle.mq_history.specs.Scenarios.{IsScenario}
-use Rattle.mq_calls.specs.State.{Batch, Plain, Seizure}
+use Rattle.mq_calls.specs.State.{Plain}
+use Rattle.mq_calls.specs.declared.state.Batch.{Batch}
+use Rattle.mq_calls.specs.declared.state.Seizure.{Seizure}
 use Rattle.mq_calls.specs.State.Change.{Seize}
 use Rattle.mq_calls.specs.Reads.{batch_of, has_held_by_other, is_open_for_input, is_up, sender_data}
 use Rattle.mq_calls.specs.Steps.{Part, delta_of, do_all, refusal, refused_or as step_or, silent, when}

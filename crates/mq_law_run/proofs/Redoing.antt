@@ -53,7 +53,8 @@ use Rattle.mq_law_run.proofs.Tying.{leads_on, forced_then, keeps_less, keeps_the
 use Rattle.mq_calls.specs.State.{Given}
 use Rattle.mq_queue.specs.declared.row.Row.{Row}
 use Rattle.mq_sync.specs.Settlement.{receiver_or, sender_or}
-use Rattle.mq_calls.specs.Images.{Image, begun, lasting, raised}
+use Rattle.mq_calls.specs.Images.{begun, lasting, raised}
+use Rattle.mq_calls.specs.declared.image.Image.{Image}
 use Rattle.mq_spec_network.specs.Ledger.{change_at}
 use Rattle.mq_law_node.specs.Ends.{told_receives, told_sends}
 use Rattle.mq_message.specs.declared.message.Ident.{Ident}

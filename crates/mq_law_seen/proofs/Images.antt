@@ -18,7 +18,9 @@ use Rattle.mq_history.specs.declared.history.History.{History}
 use Rattle.mq_history.specs.declared.scenario.Scenario.{Scenario}
 use Rattle.mq_calls.specs.State.{Plain, Given, Queue, LogState}
 use Rattle.mq_calls.specs.Reads.{queue_in, sender_in, in_doubt_of, is_persistent}
-use Rattle.mq_calls.specs.Images.{Image, Shelf, numbered, queue_on, begun, raised}
+use Rattle.mq_calls.specs.Images.{numbered, queue_on, begun, raised}
+use Rattle.mq_calls.specs.declared.image.Image.{Image}
+use Rattle.mq_calls.specs.declared.image.Shelf.{Shelf}
 use Rattle.mq_calls.specs.Recovery.{IsListed, IsHeldWell, IsLasting, IsShelf, AreApart, IsImage}
 use Rattle.mq_spec_network.specs.Story.{Mem, Chain}
 use Rattle.mq_spec_network.specs.Promised.{AreDistinct, AreImages}

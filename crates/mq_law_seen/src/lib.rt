@@ -13,7 +13,8 @@ ghost use Rattle.mq_calls.specs.State.{Plain};
 ghost use Rattle.mq_spec_network.specs.Ledger.{ledger};
 ghost use Rattle.mq_spec_network.specs.Standing.{opening_ledger_of};
 ghost use Rattle.mq_calls.specs.State.{Given, LogState};
-ghost use Rattle.mq_calls.specs.Images.{Image, begun, raised};
+ghost use Rattle.mq_calls.specs.Images.{begun, raised};
+ghost use Rattle.mq_calls.specs.declared.image.Image.{Image};
 ghost use Rattle.mq_calls.specs.Recovery.{IsImage};
 ghost use Rattle.mq_law_seen.specs.Opening.{IsOpening};
 

@@ -19,7 +19,8 @@ use Rattle.mq_calls.specs.declared.agents.SeizeFault.TheVariants as seize_faults
 use Rattle.mq_calls.specs.declared.deltas.Did.TheVariants as did
 use Rattle.mq_calls.specs.declared.deltas.Why.TheVariants as whys
 use Rattle.mq_calls.specs.declared.state.Seizure.{Seizure}
-use Rattle.mq_calls.specs.State.{Batch, Plain}
+use Rattle.mq_calls.specs.State.{Plain}
+use Rattle.mq_calls.specs.declared.state.Batch.{Batch}
 use Rattle.mq_calls.specs.State.Change.{AddBatch, Seize}
 use Rattle.mq_calls.specs.Changes.{apply, comes_before, set_named}
 use Rattle.mq_calls.specs.Reads.{batch_of, free_rows, has_held_by_other, is_full, is_open_for_input, read_by_handle, read_by_sender, seizure_of, sender_data}

@@ -4,7 +4,8 @@ use Rattle.std.specs.Prelude.{◌≡◌, Bool, true, false, not, ◌&&◌, List,
 use Rattle.mq_objects.specs.Names.{local_of}
 use Rattle.mq_calls.specs.declared.state.Handle.{Handle}
 use Rattle.mq_calls.specs.declared.state.Connection.{Connection}
-use Rattle.mq_calls.specs.State.{Change, Plain, Seizure}
+use Rattle.mq_calls.specs.State.{Change, Plain}
+use Rattle.mq_calls.specs.declared.state.Seizure.{Seizure}
 use Rattle.mq_calls.specs.State.Change.{Seize, Unseize, OpenHandle, Hold, Connect, ChangeObjects, ForgetAll}
 use Rattle.mq_calls.specs.Reads.{has_held_by_other, is_input, leads_to, read_by_handle}
 use Rattle.mq_calls.specs.Steps.{Part, Step}

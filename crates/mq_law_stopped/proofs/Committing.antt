@@ -18,7 +18,8 @@ use Rattle.mq_calls.specs.State.Change.{Leave, SetReceiver}
 use Rattle.mq_calls.specs.State.Which.{Among}
 use Rattle.mq_calls.specs.Reads.{connection_at, is_persistent, receiver_data, stored}
 use Rattle.mq_calls.specs.Changes.{apply, apply_all}
-use Rattle.mq_calls.specs.Images.{Image, lasting}
+use Rattle.mq_calls.specs.Images.{lasting}
+use Rattle.mq_calls.specs.declared.image.Image.{Image}
 use Rattle.mq_calls.specs.Steps.{Part, do_part, logged, stands_in, volatile_gone}
 use Rattle.mq_spec_manager.specs.Stops.{lasts, redone, redone_delta}
 use Rattle.mq_spec_manager.specs.Put.{placed}

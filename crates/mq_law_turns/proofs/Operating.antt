@@ -13,7 +13,8 @@ use Rattle.mq_sender.specs.declared.state.Sender.{Sender}
 use Rattle.mq_sender.specs.Table.{is_sending}
 use Rattle.mq_calls.specs.declared.agents.Note.TheVariants as notes
 use Rattle.mq_sender.specs.declared.state.Limits.{Limits}
-use Rattle.mq_calls.specs.State.{Plain, Seizure}
+use Rattle.mq_calls.specs.State.{Plain}
+use Rattle.mq_calls.specs.declared.state.Seizure.{Seizure}
 use Rattle.mq_calls.specs.State.Change.{Seize}
 use Rattle.mq_calls.specs.Reads.{batch_of, in_doubt_of, sender_data}
 use Rattle.mq_calls.specs.Changes.{apply, apply_all}

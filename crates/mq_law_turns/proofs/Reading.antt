@@ -30,7 +30,8 @@ use Rattle.mq_receiver.specs.After.{last_by}
 use Rattle.mq_calls.specs.declared.agents.PrepareFault.TheVariants as faults
 use Rattle.mq_calls.specs.declared.deltas.Did.TheVariants as did
 use Rattle.mq_calls.specs.declared.records.LogRecord.{LogRecord}
-use Rattle.mq_calls.specs.State.{Batch, Change, Plain}
+use Rattle.mq_calls.specs.State.{Change, Plain}
+use Rattle.mq_calls.specs.declared.state.Batch.{Batch}
 use Rattle.mq_calls.specs.State.Change.{Place as Places, Hold, Release, Renew, DropQueue, SetReceiver}
 use Rattle.mq_calls.specs.Reads.{batch_of, is_full, is_persistent, receiver_data, sender_data, stored}
 use Rattle.mq_sync.specs.Settlement.{receiver_or, sender_or}

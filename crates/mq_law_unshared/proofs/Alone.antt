@@ -2,7 +2,8 @@
 use Rattle.std.proofs.Common.{ℕ, ◌≡◌, true, false, List, [], ◌∷◌, refl, ap, sym, ◌∙◌, inl, inr}
 use Rattle.std.specs.Prelude.{Option, Some, None, if◌then◌else◌, is_some}
 use Rattle.std.specs.Str.{bytes_eq}
-use Rattle.mq_calls.specs.State.{Plain, Seizure}
+use Rattle.mq_calls.specs.State.{Plain}
+use Rattle.mq_calls.specs.declared.state.Seizure.{Seizure}
 use Rattle.mq_calls.specs.Reads.{has_held_by_other, seizure_of}
 use Rattle.mq_spec_manager.specs.Agents.{HasSeized, queue_of_sender}
 use Rattle.mq_spec_manager.specs.Seizing.{seized_queue}

@@ -4,7 +4,8 @@ use Rattle.std.specs.Prelude.{Option, Some, None, filter, if◌then◌else◌, i
 use Rattle.std.specs.Str.{bytes_eq}
 use Rattle.mq_objects.specs.Names.{local_of}
 use Rattle.mq_calls.specs.declared.records.LogRecord.{LogRecord}
-use Rattle.mq_calls.specs.State.{Change, Plain, Seizure}
+use Rattle.mq_calls.specs.State.{Change, Plain}
+use Rattle.mq_calls.specs.declared.state.Seizure.{Seizure}
 use Rattle.mq_calls.specs.State.Change.{ForgetAll, Seize, SetBound, Try, Unseize}
 use Rattle.mq_calls.specs.Reads.{seizure_of}
 use Rattle.mq_calls.specs.Changes.{apply, apply_all, comes_before, set_named, try_if}

@@ -29,7 +29,10 @@ use Rattle.mq_calls.specs.declared.deltas.Why.TheVariants as whys
 use Rattle.mq_calls.specs.declared.records.LogRecord.TheVariants as records
 use Rattle.mq_calls.specs.declared.records.Add.{Add}
 use Rattle.mq_calls.specs.declared.records.Remove.{Remove}
-use Rattle.mq_calls.specs.State.{Plain, Connection, Handle, Batch}
+use Rattle.mq_calls.specs.State.{Plain}
+use Rattle.mq_calls.specs.declared.state.Connection.{Connection}
+use Rattle.mq_calls.specs.declared.state.Handle.{Handle}
+use Rattle.mq_calls.specs.declared.state.Batch.{Batch}
 use Rattle.mq_calls.specs.State.Change.{SetCursor}
 use Rattle.mq_calls.specs.Reads.{handle_at, is_persistent, is_up, is_open_for_input, is_full, has_held_by_other, stored, batch_of}
 use Rattle.mq_calls.specs.Sizes.{need}

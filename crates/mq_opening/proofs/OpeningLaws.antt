@@ -8,7 +8,9 @@ use Rattle.mq_queue.specs.declared.row.Row.{Row}
 use Rattle.mq_sync.specs.declared.data.InDoubt.{InDoubt}
 use Rattle.mq_calls.specs.State.{Given, LogState, Plain}
 use Rattle.mq_calls.specs.Reads.{is_persistent, sender_in, in_doubt_of}
-use Rattle.mq_calls.specs.Images.{Image, Shelf, lasting, lasting_row, lasting_rows, rests_by, shelves_of, numbered, queue_on, begun, raised, uncounted_message}
+use Rattle.mq_calls.specs.Images.{lasting, lasting_row, lasting_rows, rests_by, shelves_of, numbered, queue_on, begun, raised, uncounted_message}
+use Rattle.mq_calls.specs.declared.image.Image.{Image}
+use Rattle.mq_calls.specs.declared.image.Shelf.{Shelf}
 use Rattle.mq_spec_manager.specs.Stops.{started_need}
 use Rattle.mq_spec_log.specs.Applies.Start.{First, Later}
 use Rattle.mq_spec_log.specs.Bodies.{image}

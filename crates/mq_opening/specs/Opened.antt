@@ -1,7 +1,7 @@
 -- A manager that has just begun, and what its first start read.
 use Rattle.std.specs.Prelude.{◌≡◌, ◌-◌, ℕ, List}
 use Rattle.mq_calls.specs.State.{Given}
-use Rattle.mq_calls.specs.Images.{Image}
+use Rattle.mq_calls.specs.declared.image.Image.{Image}
 use Rattle.mq_log.specs.State.{log_length}
 use Rattle.mq_core.specs.Values.{CoreValue}
 use Rattle.mq_restart.specs.Begun.{HasBegun}

@@ -1,5 +1,5 @@
 -- What an image is, as those ask it who build from it.
-use Rattle.mq_calls.specs.Images.{Image}
+use Rattle.mq_calls.specs.declared.image.Image.{Image}
 use Rattle.mq_calls.specs.Recovery.{IsImage}
 use Rattle.mq_rebuild.specs.Rebuilt.{AreOnce, IsRead}
 

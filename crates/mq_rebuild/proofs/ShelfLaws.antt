@@ -12,7 +12,8 @@ use Rattle.mq_objects.specs.declared.object.LocalQueue.{LocalQueue}
 use Rattle.mq_objects.specs.declared.object.Definitions.{Definitions}
 use Rattle.mq_objects.specs.Names.{local_of}
 use Rattle.mq_calls.specs.Changes.{lane_of}
-use Rattle.mq_calls.specs.Images.{Shelf, numbered}
+use Rattle.mq_calls.specs.Images.{numbered}
+use Rattle.mq_calls.specs.declared.image.Shelf.{Shelf}
 use Rattle.mq_calls.specs.Recovery.{AreApart}
 use Rattle.mq_place.specs.States.{QueueState, IsNowhere}
 use Rattle.mq_rebuild.specs.Rebuilt.{is_laned, state_on, shelf_added, shelves_added, CanAddShelves, IsRead}

@@ -12,7 +12,9 @@ use Rattle.mq_objects.specs.Names.{is_by_priority, local_of, is_object, space_of
 use Rattle.mq_objects.specs.Changed.{set}
 use Rattle.mq_calls.specs.State.Which.{Among}
 use Rattle.mq_calls.specs.Changes.{held_in, lane_of}
-use Rattle.mq_calls.specs.Images.{Image, Shelf, queue_on}
+use Rattle.mq_calls.specs.Images.{queue_on}
+use Rattle.mq_calls.specs.declared.image.Image.{Image}
+use Rattle.mq_calls.specs.declared.image.Shelf.{Shelf}
 use Rattle.mq_calls.specs.Recovery.{AreApart}
 use Rattle.mq_rebuild.specs.declared.building.Built.{Built}
 use Rattle.mq_place.specs.States.{QueueState, state_in, change_state, on_queues, fresh_state, expecting, arrived, CanPlace, IsNowhere}

@@ -10,7 +10,7 @@ use Rattle.mq_log.specs.Bodies.{frame, frames, AllFit}
 use Rattle.mq_log.specs.Walk.{Walks}
 use Rattle.mq_log.specs.declared.bodies.Split.{Split}
 use Rattle.mq_calls.specs.State.{Given}
-use Rattle.mq_calls.specs.Images.{Image}
+use Rattle.mq_calls.specs.declared.image.Image.{Image}
 use Rattle.mq_spec_log.specs.Applies.{Start, suits, applies, was_given, idents_in, is_in_bounds}
 use Rattle.mq_spec_log.specs.Records.{doing}
 use Rattle.mq_spec_log.specs.Bodies.{record_of, behind, or_place, image_from, empty_image, begins, image}

@@ -7,7 +7,7 @@ use Rattle.mq_recover.specs.declared.recovery.RecoverFault.TheVariants.{BadRecor
 use Rattle.mq_recover.specs.declared.recovering.Recovering.{Recovering}
 use Rattle.mq_recover.specs.Recovering.{seen}
 use Rattle.mq_calls.specs.State.{Given}
-use Rattle.mq_calls.specs.Images.{Image}
+use Rattle.mq_calls.specs.declared.image.Image.{Image}
 use Rattle.mq_spec_log.specs.Applies.{Start}
 use Rattle.mq_spec_log.specs.Applies.Start.{First, Later}
 

@@ -5,7 +5,7 @@ use Rattle.mq_recover.specs.declared.recovering.Recovering.{Recovering}
 use Rattle.std.specs.Str.{bytes_eq}
 use Rattle.mq_queue.specs.Rows.{same_ident}
 use Rattle.mq_calls.specs.declared.records.Add.{Add}
-use Rattle.mq_calls.specs.Images.{Image}
+use Rattle.mq_calls.specs.declared.image.Image.{Image}
 use Rattle.mq_calls.specs.Changes.{comes_before}
 use Rattle.mq_spec_log.specs.Shelves.{removed}
 use Rattle.mq_spec_log.specs.Applies.{can_add, can_remove}

@@ -14,7 +14,8 @@ use Rattle.mq_log.specs.Force.{Stops}
 use Rattle.mq_log.proofs.Logs.{log_length-push}
 use Rattle.mq_record.specs.Records.{record_bytes, IsRecord}
 use Rattle.mq_calls.specs.State.{Given}
-use Rattle.mq_calls.specs.Images.{Image, begun, raised}
+use Rattle.mq_calls.specs.Images.{begun, raised}
+use Rattle.mq_calls.specs.declared.image.Image.{Image}
 use Rattle.mq_spec_manager.specs.Stops.{first_start, started_record, started_need}
 use Rattle.mq_spec_manager.specs.Words.{last_moment}
 use Rattle.mq_frame.specs.Reading.{IsBytes}

@@ -12,7 +12,7 @@ use Rattle.mq_log.specs.declared.images.Found.{Found}
 use Rattle.mq_log.specs.Force.{Stops}
 use Rattle.mq_log.specs.Open.{EndsByOneOrThree, RestartEnds}
 use Rattle.mq_calls.specs.State.{Given, Noted}
-use Rattle.mq_calls.specs.Images.{Image}
+use Rattle.mq_calls.specs.declared.image.Image.{Image}
 use Rattle.mq_spec_manager.specs.Stops.{CanReturn}
 use Rattle.mq_spec_log.specs.Applies.Start.{Later}
 use Rattle.mq_spec_log.specs.Bodies.{image, empty_image}

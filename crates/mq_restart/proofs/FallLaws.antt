@@ -24,7 +24,7 @@ use Rattle.mq_spec_log.specs.Applies.Start.{Later}
 use Rattle.mq_spec_log.specs.Applies.{is_in_bounds}
 use Rattle.mq_spec_log.specs.Bodies.{record_of, image}
 use Rattle.mq_spec_log.proofs.BodyLaws.{record_back}
-use Rattle.mq_calls.specs.Images.{Image}
+use Rattle.mq_calls.specs.declared.image.Image.{Image}
 use Rattle.mq_law_image.specs.Tells.{TellsDown}
 use Rattle.mq_law_image.proofs.Telling.{begun_restarted, start_told}
 use Rattle.mq_recover.specs.declared.recovery.RecoverFault.TheVariants.{BadRecord, NoMemory}

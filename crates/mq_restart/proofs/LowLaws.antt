@@ -10,7 +10,7 @@ use Rattle.mq_calls.specs.declared.records.LogRecord.TheVariants as records
 use Rattle.mq_sync.specs.declared.data.End.TheVariants as ends
 use Rattle.mq_log.specs.Bodies.{frame}
 use Rattle.mq_calls.specs.State.{Given}
-use Rattle.mq_calls.specs.Images.{Image}
+use Rattle.mq_calls.specs.declared.image.Image.{Image}
 use Rattle.mq_spec_log.specs.Applies.{Start, suits, applies, is_in_bounds, was_given}
 use Rattle.mq_spec_log.specs.Applies.Start.{First, Later}
 use Rattle.mq_spec_log.specs.Shelves.{added, removed, added_all, removed_all}

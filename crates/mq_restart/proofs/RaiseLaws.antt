@@ -8,7 +8,8 @@ use Rattle.mq_log.specs.State.{LogState, log_length}
 use Rattle.mq_record.specs.Records.{record_bytes}
 use Rattle.mq_record.specs.Room.{Buffered}
 use Rattle.mq_calls.specs.State.{Plain, Noted}
-use Rattle.mq_calls.specs.Images.{Image, lasting}
+use Rattle.mq_calls.specs.Images.{lasting}
+use Rattle.mq_calls.specs.declared.image.Image.{Image}
 use Rattle.mq_spec_log.specs.Applies.Start.{Later}
 use Rattle.mq_spec_log.specs.Bodies.{image}
 use Rattle.mq_spec_manager.specs.Stops.{started_need, started_record, redone_if}

@@ -5,7 +5,7 @@ use Rattle.std.specs.List.{AllByRecursion}
 use Rattle.mq_frame.specs.Reading.{IsBytes}
 use Rattle.mq_log.specs.Bodies.{number_bytes, frame, frames}
 use Rattle.mq_calls.specs.State.{Given}
-use Rattle.mq_calls.specs.Images.{Image}
+use Rattle.mq_calls.specs.declared.image.Image.{Image}
 use Rattle.mq_calls.specs.Recovery.{IsImage}
 use Rattle.mq_spec_log.specs.Applies.{Start}
 use Rattle.mq_spec_log.specs.Bodies.{image}

@@ -2,9 +2,13 @@
 use Rattle.std.proofs.Common.{◌≡◌, ℕ, ◌+◌, List, [], ◌∷◌, refl, ap, arith, ◌∙◌}
 use Rattle.std.specs.Prelude.{map}
 use Rattle.mq_objects.specs.declared.object.Definitions.{Definitions}
-use Rattle.mq_calls.specs.State.{Plain, Queue, Given, SenderSide, ReceiverSide, LogState as PlainLog}
+use Rattle.mq_calls.specs.State.{Plain, Queue, Given, LogState as PlainLog}
+use Rattle.mq_calls.specs.declared.state.SenderSide.{SenderSide}
+use Rattle.mq_calls.specs.declared.state.ReceiverSide.{ReceiverSide}
 use Rattle.mq_calls.specs.State.Running.{Up}
-use Rattle.mq_calls.specs.Images.{Image, Shelf, queue_on, begun, raised}
+use Rattle.mq_calls.specs.Images.{queue_on, begun, raised}
+use Rattle.mq_calls.specs.declared.image.Image.{Image}
+use Rattle.mq_calls.specs.declared.image.Shelf.{Shelf}
 use Rattle.mq_log.specs.State.{LogState, log_length}
 use Rattle.mq_place.specs.States.{QueueState, queues_of}
 use Rattle.mq_rebuild.specs.declared.building.Built.{Built}

@@ -15,7 +15,9 @@ use Rattle.mq_objects.specs.declared.object.Object.TheVariants as objects
 use Rattle.mq_objects.specs.declared.object.Definitions.{Definitions}
 use Rattle.mq_objects.specs.Names.{local_of, object_in, as_local, is_object, space_of, name_of}
 use Rattle.mq_objects.specs.Names.Space.{Queues}
-use Rattle.mq_calls.specs.Images.{Image, Shelf, numbered}
+use Rattle.mq_calls.specs.Images.{numbered}
+use Rattle.mq_calls.specs.declared.image.Image.{Image}
+use Rattle.mq_calls.specs.declared.image.Shelf.{Shelf}
 use Rattle.mq_calls.specs.Recovery.{IsImage, AreApart, AreKnown, IsKnown}
 use Rattle.mq_spec_manager.specs.Words.{last_moment}
 use Rattle.mq_log.specs.State.{LogState}

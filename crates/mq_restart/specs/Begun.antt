@@ -10,7 +10,7 @@ use Rattle.mq_log.specs.declared.open.StartFault.TheVariants as starts
 use Rattle.mq_calls.specs.declared.commands.BeginFault.{BeginFault}
 use Rattle.mq_calls.specs.declared.commands.BeginFault.TheVariants as faults
 use Rattle.mq_calls.specs.State.{Given}
-use Rattle.mq_calls.specs.Images.{Image}
+use Rattle.mq_calls.specs.declared.image.Image.{Image}
 use Rattle.mq_calls.specs.Recovery.{IsImage, AreKnown}
 use Rattle.mq_spec_manager.specs.Stops.{first_start, started_record, started_need}
 use Rattle.mq_log.specs.Force.{Stops}

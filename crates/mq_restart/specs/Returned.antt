@@ -9,7 +9,8 @@ use Rattle.mq_log.specs.State.{log_length}
 use Rattle.mq_record.specs.Records.{record_bytes}
 use Rattle.mq_calls.specs.State.{LogState, Plain, Running}
 use Rattle.mq_calls.specs.State.Running.{Up, Down}
-use Rattle.mq_calls.specs.Images.{Image, begun, raised}
+use Rattle.mq_calls.specs.Images.{begun, raised}
+use Rattle.mq_calls.specs.declared.image.Image.{Image}
 use Rattle.mq_calls.specs.Recovery.{IsImage, AreKnown}
 use Rattle.mq_spec_manager.specs.Stops.{restart, started_record, started_need, calls_of_restart, CanReturn, CanReturnTold, Spent}
 use Rattle.mq_spec_log.specs.Applies.Start.{Later}

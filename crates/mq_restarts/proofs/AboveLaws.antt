@@ -7,7 +7,9 @@ use Rattle.mq_calls.specs.declared.records.LogRecord.{LogRecord}
 use Rattle.mq_frame.specs.Reading.{IsBytes}
 use Rattle.mq_record.specs.Records.{record_bytes, IsRecord}
 use Rattle.mq_calls.specs.State.{Given, LogState}
-use Rattle.mq_calls.specs.Images.{Image, Shelf, lasting, begun, raised}
+use Rattle.mq_calls.specs.Images.{lasting, begun, raised}
+use Rattle.mq_calls.specs.declared.image.Image.{Image}
+use Rattle.mq_calls.specs.declared.image.Shelf.{Shelf}
 use Rattle.mq_calls.specs.Recovery.{IsImage, AreKnown}
 use Rattle.mq_spec_manager.specs.Stops.{first_start, started_record}
 use Rattle.mq_spec_log.specs.Applies.{applies, is_in_bounds}

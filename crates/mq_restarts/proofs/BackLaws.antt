@@ -8,7 +8,7 @@ use Rattle.mq_log.specs.declared.images.Found.{Found}
 use Rattle.mq_log.specs.declared.images.Found.TheVariants.{Before, After, Other}
 use Rattle.mq_calls.specs.State.{Plain, Running}
 use Rattle.mq_calls.specs.State.Running.{Up, Down}
-use Rattle.mq_calls.specs.Images.{Image}
+use Rattle.mq_calls.specs.declared.image.Image.{Image}
 use Rattle.mq_calls.specs.Counts.{starts_of as starts_in}
 use Rattle.mq_calls.specs.Words.{is_up}
 use Rattle.mq_core.specs.Ties.{Tied}

@@ -5,7 +5,7 @@ use Rattle.mq_calls.specs.declared.commands.RestartFault.TheVariants as faults
 use Rattle.mq_log.specs.declared.images.Found.{Found}
 use Rattle.mq_log.specs.State.{LogState}
 use Rattle.mq_spec_log.specs.Applies.Start.{Later}
-use Rattle.mq_calls.specs.Images.{Image}
+use Rattle.mq_calls.specs.declared.image.Image.{Image}
 use Rattle.mq_recover.specs.declared.recovery.RecoverFault.TheVariants as recovers
 use Rattle.mq_rebuild.specs.declared.building.Built.{Built}
 use Rattle.mq_rebuild.specs.Rebuilt.{IsBuilt}

@@ -12,7 +12,8 @@ use Rattle.mq_history.specs.declared.calls.Chance.TheVariants as chances
 use Rattle.mq_record.specs.Records.{record_bytes, IsRecord}
 use Rattle.mq_calls.specs.State.{Plain, Noted, Running, LogState as PlainLog}
 use Rattle.mq_calls.specs.State.Running.{Up, Down}
-use Rattle.mq_calls.specs.Images.{Image, begun, raised}
+use Rattle.mq_calls.specs.Images.{begun, raised}
+use Rattle.mq_calls.specs.declared.image.Image.{Image}
 use Rattle.mq_calls.specs.Counts.{starts_of}
 use Rattle.mq_spec_manager.specs.Stops.{started_record, started_need, calls_of_restart, Spent}
 use Rattle.mq_spec_log.specs.Applies.Start.{Later}

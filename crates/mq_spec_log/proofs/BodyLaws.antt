@@ -10,7 +10,7 @@ use Rattle.mq_record.specs.Reading.{record_at}
 use Rattle.mq_record.proofs.KindLaws.{record_again}
 use Rattle.mq_log.specs.Bodies.{frame}
 use Rattle.mq_calls.specs.State.{Given}
-use Rattle.mq_calls.specs.Images.{Image}
+use Rattle.mq_calls.specs.declared.image.Image.{Image}
 use Rattle.mq_spec_log.specs.Applies.{Start, applies}
 use Rattle.mq_spec_log.specs.Records.{doing}
 use Rattle.mq_spec_log.specs.Bodies.{meaning_of, record_of, behind, or_place, image_from, begins, empty_image, image}

@@ -10,7 +10,7 @@ use Rattle.mq_record.specs.declared.record.WrittenRecord.TheVariants as written
 use Rattle.mq_record.specs.Reading.{record_at}
 use Rattle.mq_log.specs.Bodies.{frame}
 use Rattle.mq_calls.specs.State.{Given}
-use Rattle.mq_calls.specs.Images.{Image}
+use Rattle.mq_calls.specs.declared.image.Image.{Image}
 use Rattle.mq_spec_log.specs.Records.{doing}
 use Rattle.mq_spec_log.specs.Applies.{Start, applies}
 use Rattle.mq_spec_log.specs.Texts.{change_in}

@@ -16,7 +16,8 @@ use Rattle.mq_sync.specs.Settlement.{data_prepared, data_settled, settle_by}
 use Rattle.mq_calls.specs.declared.records.LogRecord.{LogRecord}
 use Rattle.mq_calls.specs.declared.records.LogRecord.TheVariants as records
 use Rattle.mq_calls.specs.State.Which.{Among, HeldBy}
-use Rattle.mq_calls.specs.Images.{Shelf, Image}
+use Rattle.mq_calls.specs.declared.image.Shelf.{Shelf}
+use Rattle.mq_calls.specs.declared.image.Image.{Image}
 use Rattle.mq_spec_log.specs.Shelves.{set_shelf, on_all, on_shelves, left, freed_rows, held_rows, added, removed, added_all, removed_all, sender_at, receiver_at, with_sender, with_receiver}
 
 -- a unit in doubt is settled: its rows go, or are free again

@@ -16,7 +16,9 @@ use Rattle.mq_calls.specs.State.{Which}
 use Rattle.mq_calls.specs.State.Which.{Among}
 use Rattle.mq_calls.specs.Reads.{sender_in, receiver_in}
 use Rattle.mq_calls.specs.Changes.{selects, lane_of, new_row, retag_if, off_lists, set_sender, set_receiver}
-use Rattle.mq_calls.specs.Images.{Shelf, Image, uncounted_message}
+use Rattle.mq_calls.specs.Images.{uncounted_message}
+use Rattle.mq_calls.specs.declared.image.Shelf.{Shelf}
+use Rattle.mq_calls.specs.declared.image.Image.{Image}
 
 -- ---- shelves by name
 abbrev pub shelf_in : List ℕ → List Shelf → Shelf

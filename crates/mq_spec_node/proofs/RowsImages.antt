@@ -11,7 +11,8 @@ use Rattle.mq_objects.specs.declared.setting.ChannelType.TheVariants as channel_
 use Rattle.mq_objects.specs.declared.setting.Setting.TheVariants as settings
 use Rattle.mq_objects.specs.declared.command.Subject.TheVariants as subjects
 use Rattle.mq_objects.specs.Names.{is_object, space_of, name_of}
-use Rattle.mq_calls.specs.Images.{Image, Shelf}
+use Rattle.mq_calls.specs.declared.image.Image.{Image}
+use Rattle.mq_calls.specs.declared.image.Shelf.{Shelf}
 use Rattle.mq_calls.specs.Recovery.{IsImage, IsShelf, IsLasting, IsOfDoubt, IsSenderSide, IsReceiverSide}
 use Rattle.mq_spec_manager.specs.Commands.{defined_object}
 use Rattle.mq_spec_node.proofs.Pair.{channel, at_paris, image}
