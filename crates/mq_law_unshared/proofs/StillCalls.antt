@@ -26,7 +26,7 @@ use Rattle.mq_calls.specs.declared.answers.Open.{Open}
 use Rattle.mq_calls.specs.declared.answers.Get.{Get}
 use Rattle.mq_calls.specs.declared.state.Handle.{Handle}
 use Rattle.mq_calls.specs.declared.state.Connection.{Connection}
-use Rattle.mq_calls.specs.State.{Plain, Change}
+use Rattle.mq_calls.specs.State.{Plain}
 use Rattle.mq_calls.specs.State.Change.{SetCursor}
 use Rattle.mq_calls.specs.Reads.{handle_at}
 use Rattle.mq_calls.specs.Steps.{◌>>=◌, going_on, none_of, Step, Part, Test, refused_or, refusal, tested, silent}
