@@ -1,35 +1,37 @@
 -- From what the calls of a run tell to a lawful story, and to what is promised of it.
 use Rattle.std.proofs.Common.{ℕ, zero, suc, ◌≡◌, ◌<◌, ◌≤◌, List, [], ◌∷◌, ◌++◌, refl, ap, sym, subst, inl, inr, arith, length}
-use Rattle.std.specs.Prelude.{All, IfSome, Option, Some, None, min, max, slice_get}
+use Rattle.std.specs.Prelude.{All, Bool, IfSome, Option, Some, None, min, max, slice_get}
 use Rattle.std.proofs.Math.Nat.{le-max_left, min-le_right}
 use Rattle.std.proofs.lemmas.List.Elements.{All-nil, All-cons}
 use Rattle.mq_base.specs.Members.{Mem, Chain}
 use Rattle.mq_frame.specs.declared.frame.Seen.{Seen}
 use Rattle.mq_frame.specs.declared.frame.Seen.TheVariants as items
+use Rattle.mq_cable.specs.declared.fault.Fault.{Fault}
+use Rattle.mq_history.specs.declared.calls.Actor.{Actor}
 use Rattle.mq_history.specs.declared.calls.Entry.{Entry}
 use Rattle.mq_history.specs.declared.history.History.{History}
-use Rattle.mq_history.specs.declared.scenario.CableLine.{CableLine}
 use Rattle.mq_history.specs.declared.scenario.ManagerLine.{ManagerLine}
 use Rattle.mq_history.specs.declared.scenario.Scenario.{Scenario}
 use Rattle.mq_history.specs.Scenarios.{IsScenario}
 use Rattle.mq_spec_manager.specs.Stops.{last_moment}
+use Rattle.mq_spec_node.specs.Doers.{by, is_receiver, is_sender}
 use Rattle.mq_spec_node.specs.Node.{Node}
 use Rattle.mq_spec_node.specs.Replays.{Follows, IsStamp, done_by, opening_node}
 use Rattle.mq_spec_network.specs.Story.{Line, IsStory, entries_at, entries_or}
 use Rattle.mq_spec_network.specs.Given.{first_moment, moment_or, surroundings}
 use Rattle.mq_spec_network.specs.Apart.{IsJoined}
+use Rattle.mq_spec_network.specs.Cables.{Carries}
 use Rattle.mq_spec_network.specs.Conflict.{NoConflict}
-use Rattle.mq_spec_network.specs.Lawful.{AreOwn, AreSteps, IsCarried, IsLawful, marks_at, network_begun}
+use Rattle.mq_spec_network.specs.Lawful.{AreOwn, AreSteps, IsLawful, marks_at, network_begun}
 use Rattle.mq_spec_network.specs.Lawful.Went.{begins}
 use Rattle.mq_spec_network.specs.Promised.{AreDoubtsKnown, AreImages, Holds}
 use Rattle.mq_spec_network.specs.Steps.Goes.{stays}
 use Rattle.mq_spec_network.specs.Tasks.{tasks_next}
 use Rattle.mq_story.specs.Spots.{AreRising, Sooner}
 use Rattle.mq_net_ledger.specs.Opened.{AreOpened, IsOpened}
-use Rattle.mq_law_one.specs.Alone.{IsAlone}
-use Rattle.mq_law_one.proofs.Running.{promised}
+use Rattle.mq_law_run.proofs.Whole.{promised_in_order}
 use Rattle.mq_law_scripts.proofs.Stepping.{scripts_are}
-use Rattle.mq_law_ran.specs.Runs.{AreHistories, AreOpenings, IsOpening, Left}
+use Rattle.mq_law_ran.specs.Runs.{AreCarried, AreHistories, AreOpenings, IsOpening, Left}
 use Rattle.mq_law_ran.specs.Promises.{GotOnce, OrderKept, RowsAreLedgers, StandOnce}
 
 -- ---- Stamps rise.
@@ -94,15 +96,21 @@ opened tells held start l s a o = each_there IsOpened l.histories (λ m h e.
 
 -- ---- A lawful story.
 
-none_at : (cs : List CableLine) (n : ℕ) (c : CableLine) → cs ≡ [] → slice_get cs n ≡ Some c → ⊥
-none_at [] n c none e = cc
-none_at (x ∷ cs) n c none e = cc
+pub lawful : (s : Scenario) (hs : List History) → AreHistories s hs → AreCarried s hs → AreSteps s hs → IsLawful s hs
+lawful s hs a carried steps = record { all = a.all; histories = a.each; cables = carried; scripts = scripts_are s hs steps; steps = steps }
 
-no_cable : (s : Scenario) (hs : List History) → IsAlone s → (n : ℕ) (c : CableLine) → slice_get s.cables n ≡ Some c → IsCarried n c hs
-no_cable s hs alone n c e = absurd (none_at s.cables n c alone e)
+-- where nothing was done, nothing was offered and nothing popped
+carries_none : (fs : List Fault) (pushes pops : Actor → Bool) → Carries fs (by pushes []) pops []
+carries_none fs pushes pops = record { taken = []; left = []; whole = refl; takes = refl; within = tt }
 
-pub lawful : (s : Scenario) (hs : List History) → IsAlone s → AreHistories s hs → AreSteps s hs → IsLawful s hs
-lawful s hs alone a steps = record { all = a.all; histories = a.each; cables = no_cable s hs alone; scripts = scripts_are s hs steps; steps = steps }
+carries_nothing : (fs : List Fault) (pushes pops : Actor → Bool) (es os : List Entry) → es ≡ [] → os ≡ [] → Carries fs (by pushes es) pops os
+carries_nothing fs pushes pops es os e o = subst (λ (xs : List Entry). Carries fs (by pushes xs) pops os) (sym e) (subst (λ (xs : List Entry). Carries fs (by pushes []) pops xs) (sym o) (carries_none fs pushes pops))
+
+pub carried_none : (s : Scenario) (hs : List History) → ((m : ℕ) → entries_at hs m ≡ []) → AreCarried s hs
+carried_none s hs none n c e = record {
+  out = carries_nothing c.out (is_sender n) (is_receiver n) (entries_at hs c.sender) (entries_at hs c.receiver) (none c.sender) (none c.receiver);
+  back = carries_nothing c.back (is_receiver n) (is_sender n) (entries_at hs c.receiver) (entries_at hs c.sender) (none c.receiver) (none c.sender);
+}
 
 pub begun : (s : Scenario) (hs : List History) → ((m : ℕ) → entries_at hs m ≡ []) → ((m : ℕ) → marks_at hs m ≡ []) → AreSteps s hs
 begun s hs none unmarked = record {
@@ -120,19 +128,19 @@ begun s hs none unmarked = record {
 
 -- ---- What is promised.
 
-holds : (l : Left) → IsScenario l.scenario → IsAlone l.scenario → AreImages l.histories → AreDoubtsKnown l.histories → IsLawful l.scenario l.histories → IsJoined l.scenario l.histories → AreOwn l.histories → (p rest : List Line)
+holds : (l : Left) → IsScenario l.scenario → AreImages l.histories → AreDoubtsKnown l.histories → IsLawful l.scenario l.histories → IsJoined l.scenario l.histories → AreOwn l.histories → (p rest : List Line)
     → IsStory l.histories (p ++ rest) → NoConflict l.scenario l.histories p → Holds l.scenario l.histories p
-holds l scenario alone openings doubts law joined own p rest story none =
-    promised l.scenario l.histories alone (record { scenario = scenario; openings = openings; known = doubts; joined = joined; lawful = law; own = own }) (p ++ rest) p rest story refl none
+holds l scenario openings doubts law joined own p rest story none =
+    promised_in_order l.scenario l.histories (record { scenario = scenario; openings = openings; known = doubts; joined = joined; lawful = law; own = own }) (p ++ rest) p rest story refl none
 
-pub rows_are : (l : Left) → IsScenario l.scenario → IsAlone l.scenario → AreImages l.histories → AreDoubtsKnown l.histories → IsLawful l.scenario l.histories → RowsAreLedgers l
-rows_are l s a i k law joined own p rest story none = (holds l s a i k law joined own p rest story none).rows
+pub rows_are : (l : Left) → IsScenario l.scenario → AreImages l.histories → AreDoubtsKnown l.histories → IsLawful l.scenario l.histories → RowsAreLedgers l
+rows_are l s i k law joined own p rest story none = (holds l s i k law joined own p rest story none).rows
 
-pub once : (l : Left) → IsScenario l.scenario → IsAlone l.scenario → AreImages l.histories → AreDoubtsKnown l.histories → IsLawful l.scenario l.histories → StandOnce l
-once l s a i k law joined own p rest story none = (holds l s a i k law joined own p rest story none).once
+pub once : (l : Left) → IsScenario l.scenario → AreImages l.histories → AreDoubtsKnown l.histories → IsLawful l.scenario l.histories → StandOnce l
+once l s i k law joined own p rest story none = (holds l s i k law joined own p rest story none).once
 
-pub got_once : (l : Left) → IsScenario l.scenario → IsAlone l.scenario → AreImages l.histories → AreDoubtsKnown l.histories → IsLawful l.scenario l.histories → GotOnce l
-got_once l s a i k law joined own p rest story none = (holds l s a i k law joined own p rest story none).got_once
+pub got_once : (l : Left) → IsScenario l.scenario → AreImages l.histories → AreDoubtsKnown l.histories → IsLawful l.scenario l.histories → GotOnce l
+got_once l s i k law joined own p rest story none = (holds l s i k law joined own p rest story none).got_once
 
-pub order : (l : Left) → IsScenario l.scenario → IsAlone l.scenario → AreImages l.histories → AreDoubtsKnown l.histories → IsLawful l.scenario l.histories → OrderKept l
-order l s a i k law joined own p rest story none = (holds l s a i k law joined own p rest story none).order
+pub order : (l : Left) → IsScenario l.scenario → AreImages l.histories → AreDoubtsKnown l.histories → IsLawful l.scenario l.histories → OrderKept l
+order l s i k law joined own p rest story none = (holds l s i k law joined own p rest story none).order

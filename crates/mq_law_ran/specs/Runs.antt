@@ -1,6 +1,7 @@
 -- What a run leaves of its managers: their histories, each from the log on its own disk.
 use Rattle.std.specs.Prelude.{◌≡◌, ℕ, suc, List, [], ◌∷◌, Some, Ok, length, slice_get}
 use Rattle.mq_history.specs.declared.history.History.{History}
+use Rattle.mq_history.specs.declared.scenario.CableLine.{CableLine}
 use Rattle.mq_history.specs.declared.scenario.ManagerLine.{ManagerLine}
 use Rattle.mq_history.specs.declared.scenario.Scenario.{Scenario}
 use Rattle.mq_log.specs.Bodies.{IsLog}
@@ -13,7 +14,7 @@ use Rattle.mq_spec_node.specs.Node.{Node}
 use Rattle.mq_spec_node.specs.Openings.{first_node}
 use Rattle.mq_spec_node.specs.Replays.{Surroundings, opening_node, state_of}
 use Rattle.mq_spec_network.specs.Given.{first_moment, surroundings}
-use Rattle.mq_spec_network.specs.Lawful.{IsHistory}
+use Rattle.mq_spec_network.specs.Lawful.{IsCarried, IsHistory}
 use Rattle.mq_net_stands.specs.declared.standing.Standing.{Standing}
 use Rattle.mq_standing.specs.Stands.{standing_of}
 
@@ -53,6 +54,10 @@ AreOpenings tells held start l =
 pub record AreHistories (s : Scenario) (hs : List History) : Type 0 where
   pub all : length hs ≡ length s.managers
   pub each : (m : ℕ) (h : History) → slice_get hs m ≡ Some h → IsHistory s m h
+
+-- and the ends of each cable popped what was offered, as its faults have it
+abbrev pub AreCarried : Scenario → List History → Type 0
+AreCarried s hs = (n : ℕ) (c : CableLine) → slice_get s.cables n ≡ Some c → IsCarried n c hs
 
 -- One that begins with the same node as another did.
 pub record BeginsAs (s : Scenario) (gs : List History) (m : ℕ) (h : History) : Type 0 where

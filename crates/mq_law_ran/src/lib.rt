@@ -11,11 +11,10 @@ ghost use Rattle.mq_spec_network.specs.Apart.{apart};
 ghost use Rattle.mq_spec_network.specs.Tasks.{Task};
 ghost use Rattle.mq_history.specs.Scenarios.{IsScenario};
 ghost use Rattle.mq_story.specs.Spots.{AreRising};
-ghost use Rattle.mq_law_one.specs.Alone.{IsAlone};
 ghost use Rattle.mq_spec_network.specs.Lawful.{AreSteps, IsLawful, Stands, marks_at};
 ghost use Rattle.mq_spec_network.specs.Promised.{AreDoubtsKnown, AreImages};
 ghost use Rattle.mq_spec_network.specs.Story.{entries_at};
-ghost use Rattle.mq_law_ran.specs.Runs.{AreHistories, BeginsAs, Left};
+ghost use Rattle.mq_law_ran.specs.Runs.{AreCarried, AreHistories, BeginsAs, Left};
 ghost use Rattle.mq_law_ran.specs.Promises.{GotOnce, OrderKept, RowsAreLedgers, StandOnce};
 
 /// The stamps of a history that replays rise.
@@ -23,10 +22,11 @@ pub fn histories_rise()
     ensures { (s : Scenario) (hs : List History) → AreHistories s hs → AreRising hs }
 {}
 
-/// Without cables, histories that replay and have the entries of the scenario's steps make a lawful story; so do those without
-/// entries and marks.
+/// Histories that replay, the ends of whose cables popped what was offered, and that have the entries of the scenario's steps, make a
+/// lawful story. So do those without entries and marks: nothing was popped, and no step was done.
 pub fn a_run_is_lawful()
-    ensures steps { (s : Scenario) (hs : List History) → IsAlone s → AreHistories s hs → AreSteps s hs → IsLawful s hs }
+    ensures steps { (s : Scenario) (hs : List History) → AreHistories s hs → AreCarried s hs → AreSteps s hs → IsLawful s hs }
+    ensures carried { (s : Scenario) (hs : List History) → ((m : ℕ) → entries_at hs m ≡ []) → AreCarried s hs }
     ensures begun { (s : Scenario) (hs : List History) → ((m : ℕ) → entries_at hs m ≡ []) → ((m : ℕ) → marks_at hs m ≡ []) → AreSteps s hs }
 {}
 
@@ -38,11 +38,11 @@ pub fn a_run_keeps_its_beginning()
         → length gs ≡ length hs → apart s gs ≡ apart s hs }
 {}
 
-/// Of a scenario without cables: after each prefix of its story the rows of each queue are the ledger's, list for list; each ident
-/// stands at most once, and is in at most one committed get; the order is kept.
+/// After each prefix of the story of a run the rows of each queue are the ledger's, list for list; each ident stands at most once, and
+/// is in at most one committed get; each receiver's commit keeps the order.
 pub fn a_run_is_as_promised()
-    ensures rows { (l : Left) → IsScenario l.scenario → IsAlone l.scenario → AreImages l.histories → AreDoubtsKnown l.histories → IsLawful l.scenario l.histories → RowsAreLedgers l }
-    ensures once { (l : Left) → IsScenario l.scenario → IsAlone l.scenario → AreImages l.histories → AreDoubtsKnown l.histories → IsLawful l.scenario l.histories → StandOnce l }
-    ensures got_once { (l : Left) → IsScenario l.scenario → IsAlone l.scenario → AreImages l.histories → AreDoubtsKnown l.histories → IsLawful l.scenario l.histories → GotOnce l }
-    ensures order { (l : Left) → IsScenario l.scenario → IsAlone l.scenario → AreImages l.histories → AreDoubtsKnown l.histories → IsLawful l.scenario l.histories → OrderKept l }
+    ensures rows { (l : Left) → IsScenario l.scenario → AreImages l.histories → AreDoubtsKnown l.histories → IsLawful l.scenario l.histories → RowsAreLedgers l }
+    ensures once { (l : Left) → IsScenario l.scenario → AreImages l.histories → AreDoubtsKnown l.histories → IsLawful l.scenario l.histories → StandOnce l }
+    ensures got_once { (l : Left) → IsScenario l.scenario → AreImages l.histories → AreDoubtsKnown l.histories → IsLawful l.scenario l.histories → GotOnce l }
+    ensures order { (l : Left) → IsScenario l.scenario → AreImages l.histories → AreDoubtsKnown l.histories → IsLawful l.scenario l.histories → OrderKept l }
 {}

@@ -3,6 +3,7 @@ use Rattle.std.proofs.Common.{ℕ, zero, suc, ◌≡◌, ◌+◌, List, [], ◌�
 use Rattle.std.specs.Prelude.{Option, Some, None, slice_get}
 use Rattle.mq_core.specs.Values.{CoreValue}
 use Rattle.mq_history.specs.declared.history.History.{History}
+use Rattle.mq_history.specs.declared.scenario.CableLine.{CableLine}
 use Rattle.mq_history.specs.declared.scenario.ManagerLine.{ManagerLine}
 use Rattle.mq_history.specs.declared.scenario.Scenario.{Scenario}
 use Rattle.mq_log.specs.State.{log_length}
@@ -24,10 +25,10 @@ use Rattle.mq_spec_network.specs.Given.{surroundings}
 use Rattle.mq_spec_node.specs.Node.{Node}
 use Rattle.mq_spec_node.specs.Replays.{state_of}
 use Rattle.mq_calls.specs.State.{Plain}
-use Rattle.mq_standing.specs.Stands.{cables_standing, manager_standing}
+use Rattle.mq_standing.specs.Stands.{cable_standing, cables_standing, manager_standing, receiver_standing, sender_standing}
 use Rattle.mq_world.specs.Starting.{IsFresh}
 use Rattle.mq_run.specs.Ends.{RanOn}
-use Rattle.mq_run.specs.Leaves.{AreKnownImages, left_of, manager_stands, stands_at_rest}
+use Rattle.mq_run.specs.Leaves.{AreKnownImages, cable_stands, cables_stand, left_of, manager_stands, node_at_rest, node_resting, stands_at_rest}
 
 there : {A B : Type 0} (xs : List A) (ys : List B) → length xs ≡ length ys → (m : ℕ) (x : A) → slice_get xs m ≡ Some x → (y : B) × (slice_get ys m ≡ Some y)
 there [] ys long m x e = absurd cc
@@ -110,7 +111,6 @@ pub fresh : (tells : Type 0) (held : Held) (s : Scenario) (moment : ℕ) (w : Re
 fresh tells held s moment w r b = record {
   undone = λ m h e. let (v, is) = there w.histories w.managers (r.histories ∙ sym r.managers) m h e in (b.opened m v h is e).entries;
   unmarked = λ m h e. let (v, is) = there w.histories w.managers (r.histories ∙ sym r.managers) m h e in (b.opened m v h is e).marks;
-  owned = λ m own e. b.owned m own e ∙ ap (λ (x : Scenario). givens.own_at x m) (sym b.scenario);
 }
 
 none_of : (w : RestState) → IsFresh w → (m : ℕ) (x : Option History) → slice_get w.histories m ≡ x → (entries_or x ≡ []) × (marks_or x ≡ [])
@@ -131,7 +131,7 @@ pub ran_none : (w : RestState) → IsRested w → IsFresh w → RanOn w.scenario
 ran_none w r f = record {
   scenario = refl;
   histories = histories w r;
-  lawful = lawfuls.lawful w.scenario w.histories r.apart (histories w r) (lawfuls.begun w.scenario w.histories (nothing_done w f) (nothing_noted w f));
+  lawful = lawfuls.lawful w.scenario w.histories (histories w r) r.carried (lawfuls.begun w.scenario w.histories (nothing_done w f) (nothing_noted w f));
   begins = λ m h e. record { before = h; is = e; begins = refl };
   known = knows w r;
   apart = refl;
@@ -152,8 +152,36 @@ stands_from s m (v ∷ vs) (own ∷ owns) (h ∷ hs) a b f =
     let rest = stands_from s (suc m) vs owns hs (omega (arith, a)) (omega (arith, b)) (λ k x o g p q r. subst (λ (n : ℕ). IsRestedAt s n x o g) (omega arith) (f (suc k) x o g p q r)) in
     λ i. manager_standing (head i) ∷ rest i
 
-pub standing : (w : RestState) → IsRested w → stands_at_rest w ≡ standing_left (left_of w)
+-- the node at a place, as its history leads to it
+node_from : (s : Scenario) (m : ℕ) (vs : List CoreValue) (owns : List Own) (hs : List History) → length vs ≡ length hs → length owns ≡ length hs
+    → ((k : ℕ) (v : CoreValue) (own : Own) (h : History) → slice_get vs k ≡ Some v → slice_get owns k ≡ Some own → slice_get hs k ≡ Some h → IsRestedAt s (m + k) v own h)
+    → (k : ℕ) → node_resting (slice_get vs k) (slice_get owns k) ≡ slice_get (nodes_from s m hs) k
+node_from s m [] owns [] a b f k = refl
+node_from s m (v ∷ vs) owns [] a b f k = absurd (omega (arith, a))
+node_from s m [] owns (h ∷ hs) a b f k = absurd (omega (arith, a))
+node_from s m (v ∷ vs) [] (h ∷ hs) a b f k = absurd (omega (arith, b))
+node_from s m (v ∷ vs) (own ∷ owns) (h ∷ hs) a b f zero =
+    let here : IsRestedAt s m v own h = subst (λ (n : ℕ). IsRestedAt s n v own h) (omega arith) (f 0 v own h refl refl refl) in
+    ap (λ (n : Node). Some n) here.node
+node_from s m (v ∷ vs) (own ∷ owns) (h ∷ hs) a b f (suc k) =
+    node_from s (suc m) vs owns hs (omega (arith, a)) (omega (arith, b)) (λ j x o g p q r. subst (λ (n : ℕ). IsRestedAt s n x o g) (omega arith) (f (suc j) x o g p q r)) k
+
+node_at : (w : RestState) → IsRested w → (m : ℕ) → node_at_rest w m ≡ slice_get (nodes_from w.scenario 0 w.histories) m
+node_at w r m = node_from w.scenario 0 w.managers w.owns w.histories (r.managers ∙ sym r.histories) (r.owns ∙ sym r.histories) (λ k v own h e f g. subst (λ (n : ℕ). IsRestedAt w.scenario n v own h) (omega arith) (r.each k v own h e f g)) m
+
+cable_at : (w : RestState) → IsRested w → (cable : ℕ) (c : CableLine) → cable_stands w cable c ≡ cable_standing (nodes_from w.scenario 0 w.histories) cable c
+cable_at w r cable c = λ i. record {
+  channel = c.channel;
+  sender = sender_standing cable c.channel (node_at w r c.sender i);
+  receiver = receiver_standing cable c.channel (node_at w r c.receiver i);
+}
+
+cables_from : (w : RestState) → IsRested w → (cable : ℕ) (cs : List CableLine) → cables_stand w cable cs ≡ cables_standing (nodes_from w.scenario 0 w.histories) cable cs
+cables_from w r cable [] = refl
+cables_from w r cable (c ∷ cs) = λ i. cable_at w r cable c i ∷ cables_from w r (suc cable) cs i
+
+pub standing : (w : RestState) → IsRested w → stands_at_rest w.scenario w ≡ standing_left (left_of w)
 standing w r =
     let managers = stands_from w.scenario 0 w.managers w.owns w.histories (r.managers ∙ sym r.histories) (r.owns ∙ sym r.histories) (λ k v own h e f g. subst (λ (n : ℕ). IsRestedAt w.scenario n v own h) (omega arith) (r.each k v own h e f g)) in
-    let cables : cables_standing (nodes_from w.scenario 0 w.histories) 0 w.scenario.cables ≡ [] = ap (cables_standing (nodes_from w.scenario 0 w.histories) 0) r.apart in
-    λ i. record { managers = sym managers i; cables = sym cables i }
+    let cables = cables_from w r 0 w.scenario.cables in
+    λ i. record { managers = sym managers i; cables = cables i }

@@ -4,7 +4,6 @@ use Rattle.std.specs.Prelude.{OnOk, Option, Some, None, Result, Ok, Err, option_
 use Rattle.std.specs.Io.KnownBytes.{Keeps}
 use Rattle.mq_history.specs.declared.history.History.{History}
 use Rattle.mq_history.specs.declared.history.Mark.{Mark}
-use Rattle.mq_history.specs.declared.scenario.CableLine.{CableLine}
 use Rattle.mq_history.specs.declared.scenario.Scenario.{Scenario}
 use Rattle.mq_history.specs.declared.scenario.Step.{Step}
 use Rattle.mq_spec_network.specs.Apart.{apart}
@@ -35,7 +34,7 @@ use Rattle.mq_world.specs.Words.{Began, IsRested, RestState}
 use Rattle.mq_begin.specs.Begun.{Held, NotBegan, moment_or}
 use Rattle.mq_begin.specs.declared.faults.NetFault.{NetFault}
 use Rattle.mq_begin.specs.declared.faults.NetFault.TheVariants as faults
-use Rattle.mq_law_ran.specs.Runs.{AreHistories, AreOpenings, Left, standing_left}
+use Rattle.mq_law_ran.specs.Runs.{AreCarried, AreHistories, AreOpenings, Left, standing_left}
 use Rattle.mq_law_ran.proofs.Keeping.{begins_as, same_apart, same_begun, same_scenario}
 use Rattle.mq_law_ran.proofs.Lawfuls as lawfuls
 use Rattle.mq_run.specs.Ends.{DidAll, LeftEnds, RanOn, NoneEnds, NoneLeft, RunEnds, RunLeaves, StepsEnd, WholeEnds, left}
@@ -44,7 +43,7 @@ use Rattle.mq_story.specs.Spots.{AreRising}
 
 -- The run, with the histories that it had and has.
 pub record Run (s : Scenario) (gs hs : List History) (w0 w1 : ℕ → Option ℕ) : Type 0 where
-  pub alone : s.cables ≡ []
+  pub carried : AreCarried s hs
   pub before : AreHistories s gs
   pub now : AreHistories s hs
   pub undone : (m : ℕ) → entries_at gs m ≡ []
@@ -65,7 +64,7 @@ ran_on s gs hs w0 w1 r =
     record {
       scenario = refl;
       histories = r.now;
-      lawful = lawfuls.lawful s hs r.alone r.now (r.steps hs (has s gs hs w0 w1 r));
+      lawful = lawfuls.lawful s hs r.now r.carried (r.steps hs (has s gs hs w0 w1 r));
       begins = begins_as s gs hs same;
       known = r.known;
       apart = sym (same_apart s gs hs (r.before.all ∙ sym r.now.all) same);
@@ -90,7 +89,7 @@ the_run : (r : Result (Unit {0}) Stop) (w w1 : RestState) (n0 n1 : NetState) →
 the_run r w w1 n0 n1 rested fresh rests same c begun d ended ran steps =
     let at : Ran r (course_of w.scenario w.histories (waits_in n0)) (course_of w.scenario w1.histories (waits_in n1)) = subst (λ (x : Course). Ran r x (course_of w.scenario w1.histories (waits_in n1))) begun (subst (Ran r c) ended ran) in
     record {
-      alone = rested.apart;
+      carried = subst (λ (s : Scenario). AreCarried s w1.histories) same rests.carried;
       before = joins.histories w rested;
       now = subst (λ (s : Scenario). AreHistories s w1.histories) same (joins.histories w1 rests);
       undone = joins.nothing_done w fresh;
@@ -171,8 +170,8 @@ few s w scenario same r = few_managers (length w.histories) (length s.managers) 
 pub rising : (w : RestState) → IsRested w → AreRising w.histories
 rising w r = lawfuls.rise w.scenario w.histories (joins.histories w r)
 
-pub stood : (s : Scenario) (w : RestState) → w.scenario ≡ s → IsRested w → stands_at_rest w ≡ standing_left (left s w.histories)
-stood s w same r = joins.standing w r ∙ ap (λ (x : Scenario). standing_left (left x w.histories)) same
+pub stood : (s : Scenario) (w : RestState) → w.scenario ≡ s → IsRested w → stands_at_rest s w ≡ standing_left (left s w.histories)
+stood s w same r = subst (λ (x : Scenario). stands_at_rest x w ≡ standing_left (left x w.histories)) same (joins.standing w r)
 
 pub did_at : (s : Scenario) (w : RestState) → w.scenario ≡ s → DidAll (left_of w) → DidAll (left s w.histories)
 did_at s w same did = subst (λ (x : Scenario). DidAll (left x w.histories)) same did
@@ -258,8 +257,8 @@ run_at tells held start s before now old new w st is net counts e f h =
     subst (λ (x : Status). RunEnds tells held start s before now old new x (option_map left_of net) counts) (sym e) (subst (λ (x : Option RestState). RunEnds tells held start s before now old new is (option_map left_of x) counts) (sym f) h)
 
 -- what the check of its logs asks
-pub no_cables : (s : Scenario) → s.cables ≡ [] → length s.cables ≤ 65536
-no_cables s e = subst (λ (cs : List CableLine). length cs ≤ 65536) (sym e) (omega arith)
+pub few_cables : (s : Scenario) → IsScenario s → length s.cables ≤ 65536
+few_cables s scenario = let few = scenario.few.cables in omega (arith, few)
 
 pub stop_no_write : {A : Type 0} (stop : Stop) (n : ℕ) → stop_status stop ≡ status.WriteFault n → A
 stop_no_write stops.NoMemory n e = absurd cc

@@ -22,7 +22,6 @@ status_number (status.Conflict found) = 8
 status_number (status.BadLog bad) = 9
 status_number (status.Apart found) = 10
 status_number (status.Spent m) = 11
-status_number (status.NotBuilt line) = 20
 
 abbrev pub verdict_status : Verdict → Status
 verdict_status verdicts.Whole = status.Ok

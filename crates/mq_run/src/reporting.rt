@@ -1,11 +1,7 @@
 //! The end of a run: its report is written.
 ghost use Rattle.std.specs.Prelude.{◌≡◌, ◌<◌, ℕ, length};
-ghost use Rattle.mq_base.specs.Outside.{Rose};
-ghost use Rattle.mq_story.specs.Spots.{AreRising};
-ghost use Rattle.mq_net_ledger.specs.Opened.{AreOpened};
-ghost use Rattle.mq_law_ran.specs.Runs.{standing_left};
+ghost use Rattle.mq_run.specs.Words as words;
 ghost use Rattle.mq_run.specs.declared.status.Status.TheVariants.{WriteFault};
-ghost use Rattle.mq_run.specs.Ends.{DidAll, LeftEnds, left};
 
 use crate::status::{Status, verdict_status};
 use mq_base::{Sink, write_all};
@@ -24,12 +20,12 @@ pub fn report_run<K: Sink>(
     sink: &mut K,
 ) -> Status
     requires few { length histories.now < 256 }
-    requires rising { AreRising histories.now }
-    requires opened { AreOpened histories.now }
-    requires stands { standing.now ≡ standing_left (left scenario.now histories.now) }
-    requires did { DidAll (left scenario.now histories.now) }
-    ensures ends { LeftEnds (K.held sink.old) (K.held sink.new) result (left scenario.now histories.now) }
-    ensures write_fault { (n : ℕ) → result ≡ WriteFault n → Rose (K.faults sink.old) (K.faults sink.new) }
+    requires rising { words.AreRising histories.now }
+    requires opened { words.AreOpened histories.now }
+    requires stands { standing.now ≡ words.standing_left (words.left scenario.now histories.now) }
+    requires did { words.DidAll (words.left scenario.now histories.now) }
+    ensures ends { words.LeftEnds (K.held sink.old) (K.held sink.new) result (words.left scenario.now histories.now) }
+    ensures write_fault { (n : ℕ) → result ≡ WriteFault n → words.Rose (K.faults sink.old) (K.faults sink.new) }
 {
     let ending = match ending_of(alloc, scenario, histories, standing) {
         Ok(ending) => ending,

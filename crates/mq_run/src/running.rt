@@ -1,18 +1,8 @@
 //! A scenario's run over a shelf: its managers begin, its steps are done, its report is written.
 ghost use Rattle.std.specs.Prelude.{◌≡◌, ℕ, [], Some, None, option_map, map};
-ghost use Rattle.mq_base.specs.Outside.{Rose};
-ghost use Rattle.mq_disk.specs.declared.shelf.Side.TheVariants as sides;
-ghost use Rattle.mq_history.specs.Scenarios.{IsScenario};
-ghost use Rattle.mq_nodes.specs.Texts.{AllFit};
-ghost use Rattle.mq_world.specs.Words.{IsTextCommand};
-ghost use Rattle.mq_owned.specs.Owned.{HasNoCables};
+ghost use Rattle.mq_run.specs.Words as words;
 ghost use Rattle.mq_run.specs.declared.status.Status.TheVariants.{WriteFault};
-ghost use Rattle.mq_net_ledger.specs.Opened.{AreOpened};
-ghost use Rattle.mq_spec_network.specs.Apart.{apart};
-ghost use Rattle.mq_world.specs.Starting.{IsFresh};
-ghost use Rattle.mq_world.specs.Words.{IsRested};
-ghost use Rattle.mq_run.specs.Ends.{DidAll, LeftEnds, RanOn, RunEnds, StepsEnd, WholeEnds};
-ghost use Rattle.mq_run.specs.Leaves.{AreTimed, left_of};
+ghost use Rattle.mq_disk.specs.declared.shelf.Side.TheVariants as sides;
 
 use crate::reporting::report_run;
 use crate::standing::standing_at_rest;
@@ -76,14 +66,14 @@ struct Done<D: Disk> {
 /// Does the steps of a scenario over its managers, and restarts last those that are down.
 #[tactic(auto, using(crate::proofs::JoinLaws::ran_none, crate::proofs::RunLaws::steps_ran, crate::proofs::RunLaws::steps_end))]
 fn do_steps<D: Disk>(alloc: Global, scenario: &Scenario, rested: Rested<D>) -> Done<D>
-    requires scenario { IsScenario scenario.now }
+    requires scenario { words.IsScenario scenario.now }
     requires same { rested.scenario ≡ scenario.now }
-    requires stands { IsRested rested }
-    requires fresh { IsFresh rested }
-    requires texts { AllFit IsTextCommand scenario.now }
-    ensures on { RanOn scenario.now rested.histories (left_of result.rested) }
-    ensures stands { IsRested result.rested }
-    ensures ends { StepsEnd result.ran (left_of result.rested) }
+    requires stands { words.IsRested rested }
+    requires fresh { words.IsFresh rested }
+    requires texts { words.AllFit words.IsTextCommand scenario.now }
+    ensures on { words.RanOn scenario.now rested.histories (words.left_of result.rested) }
+    ensures stands { words.IsRested result.rested }
+    ensures ends { words.StepsEnd result.ran (words.left_of result.rested) }
 {
     let mut network = match Network::start(alloc, scenario, rested) {
         Ok(network) => network,
@@ -101,22 +91,22 @@ fn do_steps<D: Disk>(alloc: Global, scenario: &Scenario, rested: Rested<D>) -> D
 }
 
 /// Writes the report of a run that was done whole.
-#[tactic(auto, using(crate::proofs::RunLaws::few, crate::proofs::RunLaws::rising, crate::proofs::RunLaws::stood, crate::proofs::RunLaws::did_at, crate::proofs::RunLaws::ends_at))]
+#[tactic(auto, using(crate::proofs::RunLaws::few, crate::proofs::RunLaws::few_cables, crate::proofs::RunLaws::rising, crate::proofs::RunLaws::stood, crate::proofs::RunLaws::did_at, crate::proofs::RunLaws::ends_at))]
 fn report<K: Sink, D: Disk>(
     alloc: Global,
     scenario: &Scenario,
     rested: &Rested<D>,
     sink: &mut K,
 ) -> Status
-    requires scenario { IsScenario scenario.now }
+    requires scenario { words.IsScenario scenario.now }
     requires same { rested.now.scenario ≡ scenario.now }
-    requires stands { IsRested rested.now }
-    requires opened { AreOpened rested.now.histories }
-    requires did { DidAll (left_of rested.now) }
-    ensures ends { LeftEnds (K.held sink.old) (K.held sink.new) result (left_of rested.now) }
-    ensures write_fault { (n : ℕ) → result ≡ WriteFault n → Rose (K.faults sink.old) (K.faults sink.new) }
+    requires stands { words.IsRested rested.now }
+    requires opened { words.AreOpened rested.now.histories }
+    requires did { words.DidAll (words.left_of rested.now) }
+    ensures ends { words.LeftEnds (K.held sink.old) (K.held sink.new) result (words.left_of rested.now) }
+    ensures write_fault { (n : ℕ) → result ≡ WriteFault n → words.Rose (K.faults sink.old) (K.faults sink.new) }
 {
-    let standing = match standing_at_rest(alloc, rested) {
+    let standing = match standing_at_rest(alloc, scenario, rested) {
         Ok(standing) => standing,
         Err(_) => return Status::NoMemory,
     };
@@ -131,16 +121,16 @@ fn run_whole<K: Sink, D: Disk>(
     rested: Rested<D>,
     sink: &mut K,
 ) -> Ended<D>
-    requires scenario { IsScenario scenario.now }
+    requires scenario { words.IsScenario scenario.now }
     requires same { rested.scenario ≡ scenario.now }
-    requires stands { IsRested rested }
-    requires fresh { IsFresh rested }
-    requires timed { AreTimed rested.histories }
-    requires texts { AllFit IsTextCommand scenario.now }
-    requires together { apart scenario.now rested.histories ≡ None }
-    ensures ends { WholeEnds (K.held sink.old) (K.held sink.new) scenario.now rested.histories result.status (option_map left_of result.network) }
+    requires stands { words.IsRested rested }
+    requires fresh { words.IsFresh rested }
+    requires timed { words.AreTimed rested.histories }
+    requires texts { words.AllFit words.IsTextCommand scenario.now }
+    requires together { words.apart scenario.now rested.histories ≡ None }
+    ensures ends { words.WholeEnds (K.held sink.old) (K.held sink.new) scenario.now rested.histories result.status (option_map words.left_of result.network) }
     ensures none { result.disks.items ≡ [] }
-    ensures write_fault { (n : ℕ) → result.status ≡ WriteFault n → Rose (K.faults sink.old) (K.faults sink.new) }
+    ensures write_fault { (n : ℕ) → result.status ≡ WriteFault n → words.Rose (K.faults sink.old) (K.faults sink.new) }
 {
     let done = do_steps(alloc, scenario, rested);
     let Done { ran, rested } = done;
@@ -153,9 +143,9 @@ fn run_whole<K: Sink, D: Disk>(
     }
 }
 
-/// Runs a scenario without cables over a shelf: its managers begin, their logs are checked to belong together, its steps are done,
+/// Runs a scenario over a shelf: its managers begin, their logs are checked to belong together, its steps are done,
 /// those that are down are restarted, and the report is written.
-#[tactic(auto, using(crate::proofs::JoinLaws::fresh, crate::proofs::RunLaws::begun_timed, crate::proofs::RunLaws::run_whole, crate::proofs::RunLaws::run_wants, crate::proofs::RunLaws::run_apart, crate::proofs::RunLaws::run_none, crate::proofs::RunLaws::net_no_write, crate::proofs::RunLaws::no_cables))]
+#[tactic(auto, using(crate::proofs::JoinLaws::fresh, crate::proofs::RunLaws::begun_timed, crate::proofs::RunLaws::run_whole, crate::proofs::RunLaws::run_wants, crate::proofs::RunLaws::run_apart, crate::proofs::RunLaws::run_none, crate::proofs::RunLaws::net_no_write, crate::proofs::RunLaws::few_cables))]
 pub fn run_scenario<K: Sink, H: Shelf>(
     alloc: Global,
     scenario: &Scenario,
@@ -163,11 +153,10 @@ pub fn run_scenario<K: Sink, H: Shelf>(
     start: u64,
     sink: &mut K,
 ) -> Ended<H::D>
-    requires scenario { IsScenario scenario.now }
-    requires alone { HasNoCables scenario.now }
-    requires texts { AllFit IsTextCommand scenario.now }
-    ensures ends { RunEnds H.D.tells (λ n b. H.holds shelf.old n sides.A b) start scenario.now (H.faults shelf.old) (H.faults shelf.new) (K.held sink.old) (K.held sink.new) result.status (option_map left_of result.network) (map H.D.faults result.disks.items) }
-    ensures write_fault { (n : ℕ) → result.status ≡ WriteFault n → Rose (K.faults sink.old) (K.faults sink.new) }
+    requires scenario { words.IsScenario scenario.now }
+    requires texts { words.AllFit words.IsTextCommand scenario.now }
+    ensures ends { words.RunEnds H.D.tells (λ n b. H.holds shelf.old n sides.A b) start scenario.now (H.faults shelf.old) (H.faults shelf.new) (K.held sink.old) (K.held sink.new) result.status (option_map words.left_of result.network) (map H.D.faults result.disks.items) }
+    ensures write_fault { (n : ℕ) → result.status ≡ WriteFault n → words.Rose (K.faults sink.old) (K.faults sink.new) }
 {
     let rested = match begin(alloc, scenario, shelf, start) {
         Ok(rested) => rested,

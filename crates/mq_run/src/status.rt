@@ -1,6 +1,6 @@
 //! How a call of the program ends.
 ghost use Rattle.std.specs.Prelude.{◌≡◌};
-ghost use Rattle.mq_run.specs.Statuses.{net_status, status_number, stop_status, verdict_status};
+ghost use Rattle.mq_run.specs.Words as terms;
 
 use mq_begin::NetFault;
 use mq_ending::{BadLog, Verdict};
@@ -45,14 +45,12 @@ pub enum Status {
     Apart(Apart),
     /// This manager, a place in the scenario from 0, made its last event.
     Spent(u16),
-    /// The bytes are a scenario that doesn't run yet, since it has a cable: the line of the first one, counted from 1.
-    NotBuilt(u32),
 }
 
 impl Status {
     /// The exit status of the program.
     pub fn number(&self) -> u8
-        ensures { result ≡ status_number self.now }
+        ensures { result ≡ terms.status_number self.now }
     {
         match self {
             Status::Ok => 0,
@@ -67,7 +65,6 @@ impl Status {
             Status::BadLog(_) => 9,
             Status::Apart(_) => 10,
             Status::Spent(_) => 11,
-            Status::NotBuilt(_) => 20,
         }
     }
 }
@@ -89,14 +86,13 @@ impl Status {
             Status::BadLog(_) => "the file of a manager is no log of it",
             Status::Apart(_) => "the logs of the managers don't belong together",
             Status::Spent(_) => "a manager has made all events that it can count",
-            Status::NotBuilt(_) => "a cable doesn't run yet",
         }
     }
 }
 
 /// How a run ends that was done whole, and whose report is written.
 pub fn verdict_status(verdict: &Verdict) -> Status
-    ensures { result ≡ verdict_status verdict.now }
+    ensures { result ≡ terms.verdict_status verdict.now }
 {
     match verdict {
         Verdict::Whole => Status::Ok,
@@ -108,7 +104,7 @@ pub fn verdict_status(verdict: &Verdict) -> Status
 
 /// How one ends whose managers were not begun.
 pub fn net_status(fault: NetFault) -> Status
-    ensures { result ≡ net_status fault }
+    ensures { result ≡ terms.net_status fault }
 {
     match fault {
         NetFault::DiskFault => Status::DiskFault,
@@ -119,7 +115,7 @@ pub fn net_status(fault: NetFault) -> Status
 
 /// How one ends that was broken off within its steps.
 pub fn stop_status(stop: Stop) -> Status
-    ensures { result ≡ stop_status stop }
+    ensures { result ≡ terms.stop_status stop }
 {
     match stop {
         Stop::NoMemory => Status::NoMemory,

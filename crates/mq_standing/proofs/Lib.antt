@@ -1,1 +1,2 @@
 pub mod StandLaws
+pub mod EndLaws

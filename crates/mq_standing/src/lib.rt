@@ -1,8 +1,10 @@
-//! How a manager stands at the end of a run: its definitions' local queues with their rows, as plain data.
+//! How a manager stands at the end of a run: its definitions' local queues with their rows, and the ends of its channels, as plain data.
 #![tactic(auto)]
 
+mod ends;
 mod queues;
 mod rows;
 
+pub use ends::{receiver_standing, sender_standing};
 pub use queues::manager_standing;
 pub use rows::{copy_row, put_rows};
