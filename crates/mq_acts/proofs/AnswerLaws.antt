@@ -1,21 +1,15 @@
 -- A command that is answered without anything done, as an event.
-use Rattle.std.proofs.Common.{◌≡◌, ℕ, ◌+◌, ◌≤◌, Bool, true, false, not, List, [], ◌∷◌, ◌++◌, length, refl, ap, sym, subst, ◌∙◌, arith}
-use Rattle.std.specs.Prelude.{Option, Some, None, Ok, if◌then◌else◌}
+use Rattle.std.proofs.Common.{◌≡◌, ℕ, ◌+◌, ◌≤◌, Bool, true, false, List, [], ◌∷◌, refl, ap, sym, subst, ◌∙◌, arith}
+use Rattle.std.specs.Prelude.{Some, Ok, if◌then◌else◌}
 use Rattle.mq_calls.specs.declared.commands.ScRefusal.TheVariants as refusals
-use Rattle.mq_objects.specs.declared.object.Channel.{Channel}
-use Rattle.mq_objects.specs.declared.object.ChannelKind.{ChannelKind}
-use Rattle.mq_objects.specs.declared.object.ChannelKind.TheVariants as kinds
 use Rattle.mq_history.specs.declared.acts.Act.TheVariants as acts
 use Rattle.mq_history.specs.declared.acts.Acted.{Acted}
 use Rattle.mq_history.specs.declared.acts.Acted.TheVariants as acted
-use Rattle.mq_history.specs.declared.acts.OpRefusal.{OpRefusal}
-use Rattle.mq_history.specs.declared.acts.OpRefusal.TheVariants as reasons
 use Rattle.mq_history.specs.declared.calls.Call.TheVariants as calls
 use Rattle.mq_history.specs.declared.calls.Reply.TheVariants as replies
 use Rattle.mq_sc_parse.specs.declared.command.Command.TheVariants as commands
-use Rattle.mq_sc_parse.specs.declared.command.Op.TheVariants as ops
-use Rattle.mq_spec_node.specs.Terms.{Actor, Call, Command, Op, Plain, channel_of, is_up}
-use Rattle.mq_spec_node.specs.Words.{ChannelEnd, Deed, Node, Own, obey_deed, operate, operate_up, refused_or, refused, end_defined, end_of_kind, start_end, stop_end, reset_end, resolve_end, sender_named, shown, show_status}
+use Rattle.mq_spec_node.specs.Terms.{Actor, Call, Command, is_up}
+use Rattle.mq_spec_node.specs.Words.{Deed, Own, obey_deed, shown}
 use Rattle.mq_spec_node.specs.Deeds.{told}
 use Rattle.mq_law_counts.proofs.Climbing.{stay}
 use Rattle.mq_acts.specs.Shows.{lines_of, shown_as, answered}
@@ -27,7 +21,6 @@ use Rattle.mq_events.proofs.CountLaws.{climbs_counted, long_more}
 use Rattle.mq_events.proofs.EventLaws.{came_kept, served_is}
 use Rattle.mq_events.proofs.KeepLaws.{finished_counts}
 use Rattle.mq_events.proofs.StepLaws.{roomed_stays}
-use Rattle.mq_acts.specs.Answers.{absent}
 
 -- ---- where memory lacks, all is as it was
 
@@ -36,9 +29,6 @@ roomed_node s r e n = let t : NodeState = record s { room = r.room } in let k : 
 
 pub room_stays : (s r : NodeState) → r ≡ record s { room = r.room } → Stays s r
 room_stays s r e = roomed_stays s r e
-
-pub still_stays : (s : NodeState) → Stays s s
-still_stays s = record { same = refl; marks = refl; faults = omega arith }
 
 climbs_on : (a b : ℕ) → a ≤ b → a + 0 ≤ b + 1024
 climbs_on a b le = omega (arith, le)
@@ -87,32 +77,6 @@ shown_by any_end true (line ∷ lines) own = refl
 pub shows : (s : NodeState) (name : List ℕ) (any_end : Bool) → obey_deed (commands.ShowStatus name any_end) (node_in s) ≡ told (replies.Acted (shown_as name any_end s.manager.plain s.own.ends)) s.own
 shows s name any_end = shown_by any_end (is_up s.manager.plain.running) (lines_of name any_end s.manager.plain s.own.ends) s.own
 
--- ---- commands on ends, where there are none
-
-kind_none : (channel : List ℕ) (k : ChannelKind) → end_of_kind channel k [] ≡ None
-kind_none channel (kinds.Sender batch retry xmitq) = refl
-kind_none channel (kinds.Receiver dead) = refl
-
-defined_none : (channel : List ℕ) (c : Option Channel) → end_defined channel c [] ≡ None
-defined_none channel None = refl
-defined_none channel (Some c) = kind_none channel c.kind
-
-none_here : (channel : List ℕ) (n : Node) → n.own.ends ≡ [] → end_defined channel (channel_of channel n.manager.definitions) n.own.ends ≡ None
-none_here channel n e = ap (end_defined channel (channel_of channel n.manager.definitions)) e ∙ defined_none channel (channel_of channel n.manager.definitions)
-
-up_refused : (op : Op) (n : Node) → n.own.ends ≡ [] → operate_up op n ≡ refused reasons.NotFound n.own
-up_refused (ops.Start channel) n e = ap (λ (x : Option ChannelEnd). start_end x n) (none_here channel n e)
-up_refused (ops.Stop channel) n e = ap (λ (x : Option ChannelEnd). stop_end x n) (none_here channel n e)
-up_refused (ops.Reset channel seqnum) n e = ap (λ (x : Option ChannelEnd). reset_end seqnum x n) (none_here channel n e)
-up_refused (ops.Resolve channel settle) n e = ap (λ (es : List ChannelEnd). resolve_end settle (sender_named channel es) n) e
-
-refused_by : (up : Bool) (own : Own) (d : Deed) → d ≡ refused reasons.NotFound own → refused_or (if not up then Some reasons.Down else None) own d ≡ told (replies.Acted (acted.Op (absent up))) own
-refused_by true own d e = e
-refused_by false own d e = refl
-
-pub refuses : (s : NodeState) (op : Op) → s.own.ends ≡ [] → obey_deed (commands.Operate op) (node_in s) ≡ told (replies.Acted (acted.Op (absent (is_up s.manager.plain.running)))) s.own
-refuses s op e = refused_by (is_up s.manager.plain.running) s.own (operate_up op (node_in s)) (up_refused op (node_in s) e)
-
 -- ---- step by step
 
 module _ (s r f : NodeState) (who : Actor) (name : List ℕ) (any_end : Bool) (copy : Acted) (e : r ≡ record s { room = r.room }) (is : copy ≡ shown_as name any_end r.manager.plain r.own.ends)
@@ -128,14 +92,3 @@ module _ (s r f : NodeState) (who : Actor) (name : List ℕ) (any_end : Bool) (c
 
   pub shown_did : (acted : Acted) → acted ≡ shown_as name any_end r.manager.plain r.own.ends → ActsAs who (calls.Act (acts.Obey (commands.ShowStatus name any_end))) s (Ok acted) f
   shown_did acted same = answered_as s r f who (commands.ShowStatus name any_end) copy e z deed acted (same ∙ sym is)
-
-module _ (s r f : NodeState) (who : Actor) (op : Op) (reason : OpRefusal) (e : r ≡ record s { room = r.room }) (is : reason ≡ absent (is_up r.manager.plain.running))
-    (z : f ≡ finished who (calls.Act (acts.Obey (commands.Operate op))) (quietly (acted.Op reason)) r) (bare : s.own.ends ≡ []) where
-  refused_deed : obey_deed (commands.Operate op) (node_in s) ≡ told (replies.Acted (acted.Op reason)) s.own
-  refused_deed = refuses s op bare ∙ ap (λ (o : OpRefusal). told (replies.Acted (acted.Op o)) s.own) (sym (is ∙ ap (λ (x : NodeState). absent (is_up x.manager.plain.running)) e))
-
-  pub refused_node : IsNode s → IsServed s → IsNode f
-  refused_node n served = answered_node s r f who (commands.Operate op) (acted.Op reason) e z refused_deed n served
-
-  pub refused_did : ActsAs who (calls.Act (acts.Obey (commands.Operate op))) s (Ok (acted.Op reason)) f
-  refused_did = answered_as s r f who (commands.Operate op) (acted.Op reason) e z refused_deed (acted.Op reason) refl

@@ -1,6 +1,5 @@
 pub mod Restarts
 pub mod Shows
-pub mod Answers
 pub mod Asks
 pub mod Serving
 pub mod Advances

@@ -6,12 +6,13 @@ ghost use Rattle.mq_events.specs.Events.{ActsAs, MayAct};
 ghost use Rattle.mq_events.specs.Texts.{IsTextAct};
 ghost use Rattle.mq_acts.specs.Restarts.{RestartIsOwn};
 
-use crate::answering::{operate, show};
+use crate::answering::show;
 use crate::restarting::restart;
 use mq_base::NoMemory;
 use mq_disk::Disk;
 use mq_events::Node;
 use mq_history::{Act, Acted, Actor};
+use mq_operate::operate;
 use mq_sc_parse::Command;
 
 /// A command, as an event.
@@ -28,8 +29,8 @@ fn obey<D: Disk>(node: &mut Node<D>, actor: Actor, asked: Command) -> Result<Act
     }
 }
 
-/// What a step or a script asks of a node beside MQI calls, as one event: a command, a stop, a restart, an armed cut, or a moment that
-/// advances. A command on objects has values such as a text of commands gives.
+/// What a step or a script asks of a node beside MQI calls, as one event: a command (on objects, on the ends of channels, DISPLAY CHSTATUS), a
+/// stop, a restart, an armed cut, or a moment that advances. A command on objects has values such as a text of commands gives.
 ///
 /// # Errors
 ///

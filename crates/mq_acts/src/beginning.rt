@@ -40,7 +40,7 @@ fn forget_all(handlers: &mut Items<Handler>)
 }
 
 /// The ends begin with what is hardened at the manager, and no row was tried. It takes no memory.
-pub(crate) fn begin<D: Disk>(own: &mut Own, manager: &Manager<D>)
+pub fn begin<D: Disk>(own: &mut Own, manager: &Manager<D>)
     ensures { own.new ≡ (begun_anew manager.now.plain own.old).own }
 {
     begin_ends(&mut own.ends, manager);

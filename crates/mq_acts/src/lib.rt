@@ -13,8 +13,9 @@ mod showing;
 
 pub use acting::act;
 pub use advancing::{Advanced, advance};
-pub use answering::{operate, show};
+pub use answering::show;
 pub use asking::ask;
+pub use beginning::begin;
 pub use playing::play;
 pub use restarting::restart;
 pub use serving::serve;

@@ -1,11 +1,15 @@
 //! What a scenario gives a node as its own.
-ghost use Rattle.std.specs.Prelude.{◌≡◌, ◌≤◌, [], None, IfOk, length};
+ghost use Rattle.std.specs.Prelude.{◌≡◌, ◌≤◌, [], All, None, IfOk, length};
+ghost use Rattle.mq_history.specs.Scenarios.{IsCable};
+ghost use Rattle.mq_spec_node.specs.Words.{begun_anew};
 ghost use Rattle.mq_spec_network.specs.Given.{handlers_from, monitors_from, own_at, scripts_from};
-ghost use Rattle.mq_owned.specs.Owned.{HasNoCables};
 
+use crate::ends::ends_of;
 use crate::lines::copy_part;
 use crate::tables::copy_table;
 use mq_base::{Items, NoMemory};
+use mq_core::Core;
+use mq_disk::Disk;
 use mq_history::{MonitorLine, RulesPart, Scenario, ScriptPart};
 use mq_own::{Handler, Monitor, Own, Script};
 use std::alloc::Global;
@@ -79,24 +83,32 @@ fn scripts_of(alloc: Global, manager: u16, parts: &[ScriptPart]) -> Result<Items
     Ok(scripts)
 }
 
-/// All that a scenario without cables gives the node of a manager, a place in the scenario, as its own.
+/// All that a scenario gives the node of a manager, a place in the scenario, as its own, as the manager begins: receivers have what
+/// it has hardened.
 ///
 /// # Errors
 ///
 /// No memory.
 #[tactic(auto, using(crate::proofs::OwnLaws::own_is))]
-pub fn own_of(alloc: Global, scenario: &Scenario, manager: u16) -> Result<Own, NoMemory>
+pub fn own_of<D: Disk>(
+    alloc: Global,
+    scenario: &Scenario,
+    manager: u16,
+    core: &Core<D>,
+) -> Result<Own, NoMemory>
     requires rules { length scenario.now.rules ≤ 64 }
     requires scripts { length scenario.now.scripts ≤ 64 }
     requires monitors { length scenario.now.monitors ≤ 64 }
-    requires apart { HasNoCables scenario.now }
-    ensures { IfOk result (λ own. own ≡ own_at scenario.now manager) }
+    requires few { length scenario.now.cables ≤ 32 }
+    requires cables { All (IsCable scenario.now) scenario.now.cables }
+    ensures { IfOk result (λ own. own ≡ (begun_anew core.now.plain (own_at scenario.now manager)).own) }
 {
+    let ends = ends_of(alloc, scenario, manager, core)?;
     let handlers = handlers_of(alloc, manager, scenario.rules.as_slice())?;
     let monitors = monitors_of(alloc, manager, scenario.monitors.as_slice())?;
     let scripts = scripts_of(alloc, manager, scenario.scripts.as_slice())?;
     Ok(Own {
-        ends: Items::new(alloc),
+        ends,
         handlers,
         monitors,
         scripts,

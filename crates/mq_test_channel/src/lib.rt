@@ -8,6 +8,8 @@ mod fixture;
 #[cfg(test)]
 mod frame;
 #[cfg(test)]
+mod pair;
+#[cfg(test)]
 mod receiver;
 #[cfg(test)]
 mod sender;

@@ -1,30 +1,37 @@
 -- What the type of a network keeps, behind an event of one of its nodes.
 use Rattle.std.proofs.Common.{◌≡◌, ℕ, ◌+◌, ◌<◌, ◌≤◌, Bool, true, false, List, [], ◌∷◌, ◌++◌, length, refl, sym, ap, subst, ◌∙◌, arith, inl, inr}
 use Rattle.std.specs.Prelude.{◌⊎◌, ◌==◌, if◌then◌else◌, map, Option, Some, None, IsSome, slice_get, slice_set}
+use Rattle.std.specs.List.{AllByRecursion}
 use Rattle.std.proofs.lemmas.List.{append-nil, append_assoc}
 use Rattle.std.proofs.lemmas.Option.{slice_get_within}
 use Rattle.mq_history.specs.declared.calls.Actor.TheVariants as actors
 use Rattle.mq_history.specs.declared.calls.Call.{Call}
 use Rattle.mq_history.specs.declared.history.History.{History}
+use Rattle.mq_history.specs.declared.scenario.CableLine.{CableLine}
 use Rattle.mq_history.specs.declared.scenario.Scenario.{Scenario}
 use Rattle.mq_history.specs.declared.scenario.ScriptPart.{ScriptPart}
 use Rattle.mq_history.specs.declared.scripts.ScriptLine.{ScriptLine}
 use Rattle.mq_history.specs.declared.scripts.ScriptLine.TheVariants as lines
 use Rattle.mq_calls.specs.Recovery.{AreKnown, IsImage}
 use Rattle.mq_spec_node.specs.Terms.{Entry}
-use Rattle.mq_spec_node.specs.Words.{IsReplayed, Memory, NodeValue, deadline_kept, is_script, is_trigger, line_call, next_if, wait_of}
+use Rattle.mq_spec_node.specs.Replays.{Follows, opening_node}
+use Rattle.mq_spec_node.specs.Words.{IsReplayed, Memory, NodeValue, deadline_kept, is_receiver, is_script, is_sender, is_trigger, line_call, next_if, wait_of}
 use Rattle.std.proofs.lemmas.Bool.Decides.{nat_tests}
 use Rattle.mq_spec_node.specs.Lines.Next.{Waits}
 use Rattle.mq_spec_network.specs.Steps.{AreTriggers}
 use Rattle.mq_spec_network.specs.Story.{entries_at}
+use Rattle.mq_spec_network.specs.Turns.{more_at}
+use Rattle.mq_ways.specs.Ways.{CableState}
 use Rattle.mq_nodes.specs.Course.{Course}
 use Rattle.mq_progress.specs.Course as progress
-use Rattle.mq_progress.specs.Course.{Finished, Stands}
+use Rattle.mq_progress.specs.Course.{Finished}
 use Rattle.mq_progress.proofs.CourseLaws.{stands_further, stands_others}
 use Rattle.mq_events.specs.States.{NodeState, IsKept, value_of}
 use Rattle.mq_world.specs.Settling.{NodeDid, NodeStays}
-use Rattle.mq_world.specs.Worlds.{IsNetwork, IsNodeAt, IsScriptAt, NetState, WaitsSo, history_in, with_node, with_script}
-use Rattle.mq_world.proofs.ListLaws.{itself, same_or_not, set_here, set_long, set_other, some_is}
+use Rattle.mq_world.specs.Facing.{AreJoined, IsJoined}
+use Rattle.mq_world.specs.Worlds.{IsNetwork, IsNodeAt, IsScriptAt, NetState, WaitsSo, history_in, with_cable, with_node, with_script}
+use Rattle.mq_world.proofs.ListLaws.{itself, same_or_not, set_again, set_here, set_long, set_other, some_is}
+use Rattle.mq_world.proofs.QuietLaws.{IsSilent, NoneActs, all_quiet, all_same, behind_silent, joined_quiet, quiet_behind}
 use Rattle.mq_world.proofs.SeenLaws.{AreAt, course_more, course_same}
 
 -- A node at its place.
@@ -107,9 +114,15 @@ at_more k p c q m old es here there = by_place (same_or_not q m)
     by_place (inl e) = subst (λ (b : Bool). IsScriptAt k p (if b then old ++ es else old) c) (sym (ap (λ (x : ℕ). x == m) e ∙ itself m)) (here e)
     by_place (inr e) = subst (λ (b : Bool). IsScriptAt k p (if b then old ++ es else old) c) (sym e) there
 
--- an entry of free script
+-- an entry of no script, of no channel's end, and of neither
 abbrev pub NoScript : Entry → Type 0
 NoScript e = (k : ℕ) → is_script k e.actor ≡ false
+
+abbrev pub NoEnd : Entry → Type 0
+NoEnd e = (k : ℕ) → (is_sender k e.actor ≡ false) × (is_receiver k e.actor ≡ false)
+
+abbrev pub OfNeither : Entry → Type 0
+OfNeither e = NoScript e × NoEnd e
 
 scripts_others : (s : Scenario) (ns : List NodeState) (cs : List progress.Course) (m : ℕ) (P : Entry → Type 0) (n new : NodeState) → ScriptsAt s ns cs → slice_get ns m ≡ Some n → (d : NodeDid P n new) → NoScript d.entry → ScriptsAt s (slice_set ns m new) cs
 scripts_others s ns cs m P n new h known d free k p c part is =
@@ -120,16 +133,76 @@ scripts_others s ns cs m P n new h known d free k p c part is =
 scripts_same : (s : Scenario) (ns : List NodeState) (cs : List progress.Course) (m : ℕ) (n new : NodeState) → ScriptsAt s ns cs → slice_get ns m ≡ Some n → new.history ≡ n.history → ScriptsAt s (slice_set ns m new) cs
 scripts_same s ns cs m n new h known same k p c part is = subst (λ (es : List Entry). IsScriptAt k p es c) (sym (entries_same s ns m n new p.manager known same)) (h k p c part is)
 
--- The network then: an event of free script,
-pub network_did : (w : NetState) (m : ℕ) (P : Entry → Type 0) (n new : NodeState) → IsNetwork w → slice_get w.nodes m ≡ Some n → (d : NodeDid P n new) → NoScript d.entry → IsNetwork (with_node m new w)
+-- What lies on the cables then: trigger turns neither offer nor pop,
+pub did_silent : (P : Entry → Type 0) (n new : NodeState) → (d : NodeDid P n new) → AllByRecursion IsSilent d.behind
+did_silent P n new d =
+    behind_silent (opening_node new.given new.history) 0 (n.history.entries ++ d.entry ∷ []) d.behind
+    (subst (λ (es : List Entry). Follows (opening_node new.given new.history) 0 es) (ap (λ (h : History). h.entries) d.grows.history ∙ sym (append_assoc n.history.entries (d.entry ∷ []) d.behind)) d.keeps.replays.follows) d.triggers
+
+-- nor does an event of no end,
+ways_did : (s : Scenario) (ns : List NodeState) (ls : List CableLine) (cs : List CableState) (m : ℕ) (P : Entry → Type 0) (n new : NodeState) → AreJoined ls (entries_at (map history_in ns)) cs → slice_get ns m ≡ Some n → (d : NodeDid P n new) → NoEnd d.entry
+    → AreJoined ls (entries_at (map history_in (slice_set ns m new))) cs
+ways_did s ns ls cs m P n new h known d other =
+    all_same ls (more_at m (d.entry ∷ d.behind) (entries_at (map history_in ns))) (entries_at (map history_in (slice_set ns m new))) cs (λ q. entries_set s ns m n new (d.entry ∷ d.behind) q known d.grows.history)
+    (all_quiet ls (entries_at (map history_in ns)) m (d.entry ∷ d.behind) cs none h)
+  where
+    none : NoneActs (d.entry ∷ d.behind)
+    none k = (quiet_behind (is_sender k) d.entry d.behind (inl (other k).0) (did_silent P n new d), quiet_behind (is_receiver k) d.entry d.behind (inl (other k).1) (did_silent P n new d))
+
+ways_same : (s : Scenario) (ns : List NodeState) (ls : List CableLine) (cs : List CableState) (m : ℕ) (n new : NodeState) → AreJoined ls (entries_at (map history_in ns)) cs → slice_get ns m ≡ Some n → new.history ≡ n.history → AreJoined ls (entries_at (map history_in (slice_set ns m new))) cs
+ways_same s ns ls cs m n new h known same = all_same ls (entries_at (map history_in ns)) (entries_at (map history_in (slice_set ns m new))) cs (λ q. entries_same s ns m n new q known same) h
+
+-- and an end's leaves the other cables.
+apart_ends : (j k : ℕ) → (k == j) ≡ false → (j == k) ≡ false
+apart_ends j k e = grind (arith, nat_tests)
+
+abbrev pub OfEnd : ℕ → Entry → Type 0
+OfEnd j e = (e.actor ≡ actors.Sender j) ⊎ (e.actor ≡ actors.Receiver j)
+
+other_end : (j k : ℕ) (e : Entry) → (k == j) ≡ false → OfEnd j e → (is_sender k e.actor ≡ false) × (is_receiver k e.actor ≡ false)
+other_end j k e other (inl is) = (ap (is_sender k) is ∙ apart_ends j k other, ap (is_receiver k) is)
+other_end j k e other (inr is) = (ap (is_sender k) is, ap (is_receiver k) is ∙ apart_ends j k other)
+
+end_no_script : (j : ℕ) (e : Entry) → OfEnd j e → NoScript e
+end_no_script j e (inl is) k = ap (is_script k) is
+end_no_script j e (inr is) k = ap (is_script k) is
+
+joined_set : (ls : List CableLine) (done : ℕ → List Entry) (cs : List CableState) (j : ℕ) (l : CableLine) (old c : CableState) → ((k : ℕ) (x : CableLine) (d : CableState) → (k == j) ≡ false → slice_get ls k ≡ Some x → slice_get cs k ≡ Some d → IsJoined k x done d)
+    → slice_get ls j ≡ Some l → slice_get cs j ≡ Some old → IsJoined j l done c → AreJoined ls done (slice_set cs j c)
+joined_set ls done cs j l old c others line is now k x d at found = by_place (same_or_not k j)
+  where
+    by_place : (k ≡ j) ⊎ ((k == j) ≡ false) → IsJoined k x done d
+    by_place (inl e) =
+        let same_line : x ≡ l = some_is x l (sym at ∙ ap (slice_get ls) e ∙ line) in
+        let same_cable : d ≡ c = some_is d c (sym found ∙ ap (slice_get (slice_set cs j c)) e ∙ set_here cs j old c is) in
+        subst (λ (i : ℕ). IsJoined i x done d) (sym e)
+        (subst (λ (y : CableLine). IsJoined j y done d) (sym same_line)
+        (subst (λ (y : CableState). IsJoined j l done y) (sym same_cable) now))
+    by_place (inr e) = others k x d e at (sym (set_other cs j k c e) ∙ found)
+
+ways_turned : (s : Scenario) (ns : List NodeState) (ls : List CableLine) (cs : List CableState) (m j : ℕ) (P : Entry → Type 0) (n new : NodeState) (l : CableLine) (old c : CableState) → AreJoined ls (entries_at (map history_in ns)) cs → slice_get ns m ≡ Some n → (d : NodeDid P n new) → OfEnd j d.entry
+    → slice_get ls j ≡ Some l → slice_get cs j ≡ Some old → IsJoined j l (more_at m (d.entry ∷ d.behind) (entries_at (map history_in ns))) c → AreJoined ls (entries_at (map history_in (slice_set ns m new))) (slice_set cs j c)
+ways_turned s ns ls cs m j P n new l old c h known d of_end line is now =
+    all_same ls (more_at m (d.entry ∷ d.behind) (entries_at (map history_in ns))) (entries_at (map history_in (slice_set ns m new))) (slice_set cs j c) (λ q. entries_set s ns m n new (d.entry ∷ d.behind) q known d.grows.history)
+    (joined_set ls (more_at m (d.entry ∷ d.behind) (entries_at (map history_in ns))) cs j l old c others line is now)
+  where
+    others : (k : ℕ) (x : CableLine) (y : CableState) → (k == j) ≡ false → slice_get ls k ≡ Some x → slice_get cs k ≡ Some y → IsJoined k x (more_at m (d.entry ∷ d.behind) (entries_at (map history_in ns))) y
+    others k x y other at found =
+        let free = other_end j k d.entry other of_end in
+        joined_quiet k x (entries_at (map history_in ns)) m (d.entry ∷ d.behind) y (quiet_behind (is_sender k) d.entry d.behind (inl free.0) (did_silent P n new d)) (quiet_behind (is_receiver k) d.entry d.behind (inl free.1) (did_silent P n new d)) (h k x y at found)
+
+-- The network then: an event of no script and of no end,
+pub network_did : (w : NetState) (m : ℕ) (P : Entry → Type 0) (n new : NodeState) → IsNetwork w → slice_get w.nodes m ≡ Some n → (d : NodeDid P n new) → OfNeither d.entry → IsNetwork (with_node m new w)
 network_did w m P n new h known d free = record {
-  apart = h.apart;
   scenario = h.scenario;
   texts = h.texts;
   all = set_long w.nodes m new ∙ h.all;
   nodes = are_at_set w.scenario w.nodes m n new h.nodes known (at_did w.scenario m P n new (h.nodes m n known) d);
   each = h.each;
-  scripts = scripts_others w.scenario w.nodes w.scripts m P n new h.scripts known d free;
+  scripts = scripts_others w.scenario w.nodes w.scripts m P n new h.scripts known d free.0;
+  lines = h.lines;
+  joined = h.joined;
+  ways = ways_did w.scenario w.nodes w.scenario.cables w.cables m P n new h.ways known d free.1;
   handlers = h.handlers;
   monitors = h.monitors;
 }
@@ -137,16 +210,39 @@ network_did w m P n new h known d free = record {
 -- none,
 pub network_stays : (w : NetState) (m : ℕ) (n new : NodeState) → IsNetwork w → slice_get w.nodes m ≡ Some n → NodeStays n new → IsNetwork (with_node m new w)
 network_stays w m n new h known d = record {
-  apart = h.apart;
   scenario = h.scenario;
   texts = h.texts;
   all = set_long w.nodes m new ∙ h.all;
   nodes = are_at_set w.scenario w.nodes m n new h.nodes known (at_stays w.scenario m n new (h.nodes m n known) d);
   each = h.each;
   scripts = scripts_same w.scenario w.nodes w.scripts m n new h.scripts known (ap (λ (v : NodeValue). v.history) d.same);
+  lines = h.lines;
+  joined = h.joined;
+  ways = ways_same w.scenario w.nodes w.scenario.cables w.cables m n new h.ways known (ap (λ (v : NodeValue). v.history) d.same);
   handlers = h.handlers;
   monitors = h.monitors;
 }
+
+-- a turn of an end, with what lies on its cable then,
+pub network_turned : (w : NetState) (m j : ℕ) (P : Entry → Type 0) (n new : NodeState) (l : CableLine) (old c : CableState) → IsNetwork w → slice_get w.nodes m ≡ Some n → (d : NodeDid P n new) → OfEnd j d.entry
+    → slice_get w.scenario.cables j ≡ Some l → slice_get w.cables j ≡ Some old → IsJoined j l (more_at m (d.entry ∷ d.behind) (entries_at (map history_in w.nodes))) c → IsNetwork (with_cable j c (with_node m new w))
+network_turned w m j P n new l old c h known d of_end line is now = record {
+  scenario = h.scenario;
+  texts = h.texts;
+  all = set_long w.nodes m new ∙ h.all;
+  nodes = are_at_set w.scenario w.nodes m n new h.nodes known (at_did w.scenario m P n new (h.nodes m n known) d);
+  each = h.each;
+  scripts = scripts_others w.scenario w.nodes w.scripts m P n new h.scripts known d (end_no_script j d.entry of_end);
+  lines = h.lines;
+  joined = set_long w.cables j c ∙ h.joined;
+  ways = ways_turned w.scenario w.nodes w.scenario.cables w.cables m j P n new l old c h.ways known d of_end line is now;
+  handlers = h.handlers;
+  monitors = h.monitors;
+}
+
+-- and a cable on which the same lies.
+pub cable_again : (w : NetState) (j : ℕ) (c : CableState) → slice_get w.cables j ≡ Some c → with_cable j c w ≡ w
+cable_again w j c is = ap (λ (cs : List CableState). record w { cables = cs }) (set_again w.cables j c is)
 
 -- A script's progress takes the place of the one before.
 set_script : (s : Scenario) (ns : List NodeState) (cs : List progress.Course) (k : ℕ) (p : ScriptPart) (c d : progress.Course) → ((j : ℕ) (q : ScriptPart) (x : progress.Course) → (j == k) ≡ false → slice_get s.scripts j ≡ Some q → slice_get cs j ≡ Some x → IsScriptAt j q (entries_at (map history_in ns) q.manager) x)
@@ -168,7 +264,6 @@ pub network_script : (w : NetState) (k : ℕ) (p : ScriptPart) (c d : progress.C
 network_script w k p c d h part is memory done waits =
     let old : IsScriptAt k p (entries_at (map history_in w.nodes) p.manager) c = h.scripts k p c part is in
     record {
-      apart = h.apart;
       scenario = h.scenario;
       texts = h.texts;
       all = h.all;
@@ -179,6 +274,9 @@ network_script w k p c d h part is memory done waits =
         few = subst (λ (n : ℕ). n ≤ length p.lines) (sym done) old.few;
         waits = λ l there. waits l (ap (slice_get p.lines) (sym done) ∙ there);
       });
+      lines = h.lines;
+      joined = h.joined;
+      ways = h.ways;
       handlers = h.handlers;
       monitors = h.monitors;
     }
@@ -196,7 +294,6 @@ network_line w m k p l c d P n new h known part is here line x actor main f =
     let old : List Entry = entries_at (map history_in w.nodes) p.manager in
     let there : IsScriptAt k p (old ++ x.entry ∷ x.behind) d = line_more k p old x.behind x.entry l c d (h.scripts k p c part is) line actor main f x.triggers in
     record {
-      apart = h.apart;
       scenario = h.scenario;
       texts = h.texts;
       all = set_long w.nodes m new ∙ h.all;
@@ -205,6 +302,9 @@ network_line w m k p l c d P n new h known part is here line x actor main f =
       scripts = set_script w.scenario (slice_set w.nodes m new) w.scripts k p c d others part is
           (subst (λ (es : List Entry). IsScriptAt k p es d) (sym (entries_set w.scenario w.nodes m n new (x.entry ∷ x.behind) p.manager known x.grows.history))
           (subst (λ (b : Bool). IsScriptAt k p (if b then old ++ x.entry ∷ x.behind else old) d) (sym (ap (λ (i : ℕ). i == m) here ∙ itself m)) there));
+      lines = h.lines;
+      joined = h.joined;
+      ways = ways_did w.scenario w.nodes w.scenario.cables w.cables m P n new h.ways known x (λ j. (ap (is_sender j) actor, ap (is_receiver j) actor));
       handlers = h.handlers;
       monitors = h.monitors;
     }

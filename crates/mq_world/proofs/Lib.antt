@@ -1,5 +1,6 @@
 pub mod ListLaws
 pub mod SeenLaws
+pub mod QuietLaws
 pub mod KeepLaws
 pub mod LiftLaws
 pub mod ScriptLaws
@@ -8,7 +9,18 @@ pub mod WatchLaws
 pub mod MarkLaws
 pub mod RestLaws
 pub mod StartLaws
-pub mod CableLaws
 pub mod NodeLaws
 pub mod ClockLaws
 pub mod HandlerLaws
+pub mod IdleLaws
+pub mod TimeLaws
+pub mod TimingLaws
+pub mod FacingLaws
+pub mod DeedLaws
+pub mod RoomLaws
+pub mod PassLaws
+pub mod EndLaws
+pub mod TurnedLaws
+pub mod PlaceLaws
+pub mod NearLaws
+pub mod FarLaws

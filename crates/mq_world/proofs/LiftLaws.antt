@@ -6,7 +6,7 @@ use Rattle.mq_history.specs.declared.calls.Call.{Call}
 use Rattle.mq_history.specs.declared.history.History.{History}
 use Rattle.mq_history.specs.declared.scenario.Scenario.{Scenario}
 use Rattle.mq_spec_node.specs.Terms.{Entry}
-use Rattle.mq_spec_node.specs.Words.{NodeValue, is_script}
+use Rattle.mq_spec_node.specs.Words.{NodeValue, is_receiver, is_script, is_sender}
 use Rattle.mq_spec_node.specs.Words.{is_spent as is_spent_node}
 use Rattle.mq_spec_network.specs.Given.{surroundings}
 use Rattle.mq_spec_network.specs.Lawful.{node_begun}
@@ -26,7 +26,7 @@ use Rattle.mq_world.specs.Settling.{IsOf, NodeBroke, NodeDid, NodeDoes, NodeSays
 use Rattle.mq_world.specs.Worlds.{IsNetwork, NetState, course_in, history_in, waits_in, with_node}
 use Rattle.mq_world.proofs.ListLaws.{get_map, same_or_not, set_here, set_other, some_is}
 use Rattle.mq_world.proofs.SeenLaws.{AreAt, IsReadyNode, course_more, course_same, done_there, node_there, ready_all, ready_at, spent_there}
-use Rattle.mq_world.proofs.KeepLaws.{NoScript, network_did, network_stays}
+use Rattle.mq_world.proofs.KeepLaws.{OfNeither, network_did, network_stays}
 
 -- A node may act, where the network is ready for it.
 pub ready_node : (w : NetState) (m : ℕ) (n : NodeState) → IsNetwork w → slice_get w.nodes m ≡ Some n → Ready (course_in w).net → IsReadyNode n
@@ -67,13 +67,13 @@ broke_lifts w m P Q stops.NoMemory n new known fits (inl s) = inl (stays_lifts w
 broke_lifts w m P Q stops.NoMemory n new known fits (inr d) = inr (did_lifts w m P Q n new known fits d)
 broke_lifts w m P Q (stops.Spent k) n new known fits (is, d, spent) = (did_lifts w m P Q n new known fits d, spent_lifts w.scenario w.nodes m k P n new known d is spent)
 
-pub broke_keeps : (w : NetState) (m : ℕ) (P : Entry → Type 0) (stop : Stop) (n new : NodeState) → IsNetwork w → slice_get w.nodes m ≡ Some n → ((e : Entry) → P e → NoScript e) → NodeBroke P m stop n new → IsNetwork (with_node m new w)
+pub broke_keeps : (w : NetState) (m : ℕ) (P : Entry → Type 0) (stop : Stop) (n new : NodeState) → IsNetwork w → slice_get w.nodes m ≡ Some n → ((e : Entry) → P e → OfNeither e) → NodeBroke P m stop n new → IsNetwork (with_node m new w)
 broke_keeps w m P stops.NoMemory n new h known free (inl s) = network_stays w m n new h known s
 broke_keeps w m P stops.NoMemory n new h known free (inr d) = network_did w m P n new h known d (free d.entry d.fits)
 broke_keeps w m P (stops.Spent k) n new h known free (is, d, spent) = network_did w m P n new h known d (free d.entry d.fits)
 
 -- A call that does one event.
-pub does_keeps : {T : Type 0} (w : NetState) (m : ℕ) (P : Entry → Type 0) (r : Result T Stop) (n new : NodeState) → IsNetwork w → slice_get w.nodes m ≡ Some n → ((e : Entry) → P e → NoScript e) → NodeDoes P m r n new → IsNetwork (with_node m new w)
+pub does_keeps : {T : Type 0} (w : NetState) (m : ℕ) (P : Entry → Type 0) (r : Result T Stop) (n new : NodeState) → IsNetwork w → slice_get w.nodes m ≡ Some n → ((e : Entry) → P e → OfNeither e) → NodeDoes P m r n new → IsNetwork (with_node m new w)
 does_keeps w m P (Ok x) n new h known free (d, served, may) = network_did w m P n new h known d (free d.entry d.fits)
 does_keeps w m P (Err stop) n new h known free b = broke_keeps w m P stop n new h known free b
 
@@ -83,7 +83,7 @@ does_lifts w m P Q (Ok x) n new h k r known fits (d, served, may) = (did_lifts w
 does_lifts w m P Q (Err stop) n new h k r known fits b = broke_lifts w m P Q stop n new known fits b
 
 -- one that says more of it
-pub says_keeps : {T : Type 0} (w : NetState) (m : ℕ) (P : Entry → Type 0) (S : T → Entry → Type 0) (r : Result T Stop) (n new : NodeState) → IsNetwork w → slice_get w.nodes m ≡ Some n → ((e : Entry) → P e → NoScript e) → NodeSays P S m r n new → IsNetwork (with_node m new w)
+pub says_keeps : {T : Type 0} (w : NetState) (m : ℕ) (P : Entry → Type 0) (S : T → Entry → Type 0) (r : Result T Stop) (n new : NodeState) → IsNetwork w → slice_get w.nodes m ≡ Some n → ((e : Entry) → P e → OfNeither e) → NodeSays P S m r n new → IsNetwork (with_node m new w)
 says_keeps w m P S (Ok x) n new h known free (d, served, may) = network_did w m (λ e. P e × S x e) n new h known d (free d.entry d.fits.0)
 says_keeps w m P S (Err stop) n new h known free b = broke_keeps w m P stop n new h known free b
 
@@ -93,21 +93,21 @@ says_lifts w m P S Q (Ok x) n new h k r known fits (d, served, may) =
     (did_lifts w m (λ e. P e × S x e) (λ j e. Q j e × S x e) n new known (λ e p. (fits e p.0, p.1)) d, ready_set w.scenario w.nodes m n new h.nodes k.nodes known r served may)
 says_lifts w m P S Q (Err stop) n new h k r known fits b = broke_lifts w m P Q stop n new known fits b
 
--- The operator and the clock are free scripts, nor are handlers and monitors.
+-- The operator and the clock are no scripts and no ends, nor are handlers and monitors.
 pub operator_fits : (m : ℕ) (call : Call) (e : Entry) → IsOf actors.Operator call e → Is m actors.Operator call m e
 operator_fits m call e h = (refl, h.0, h.1)
 
-pub of_operator : (call : Call) (e : Entry) → IsOf actors.Operator call e → NoScript e
-of_operator call e h k = ap (is_script k) h.0
+pub of_operator : (call : Call) (e : Entry) → IsOf actors.Operator call e → OfNeither e
+of_operator call e h = (λ k. ap (is_script k) h.0, λ k. (ap (is_sender k) h.0, ap (is_receiver k) h.0))
 
-pub of_clock : (call : Call) (e : Entry) → IsOf actors.Clock call e → NoScript e
-of_clock call e h k = ap (is_script k) h.0
+pub of_clock : (call : Call) (e : Entry) → IsOf actors.Clock call e → OfNeither e
+of_clock call e h = (λ k. ap (is_script k) h.0, λ k. (ap (is_sender k) h.0, ap (is_receiver k) h.0))
 
-pub of_handler : (r : ℕ) (call : Call) (e : Entry) → IsOf (actors.Handler r) call e → NoScript e
-of_handler r call e h k = ap (is_script k) h.0
+pub of_handler : (r : ℕ) (call : Call) (e : Entry) → IsOf (actors.Handler r) call e → OfNeither e
+of_handler r call e h = (λ k. ap (is_script k) h.0, λ k. (ap (is_sender k) h.0, ap (is_receiver k) h.0))
 
-pub of_monitor : (r : ℕ) (call : Call) (e : Entry) → IsOf (actors.Monitor r) call e → NoScript e
-of_monitor r call e h k = ap (is_script k) h.0
+pub of_monitor : (r : ℕ) (call : Call) (e : Entry) → IsOf (actors.Monitor r) call e → OfNeither e
+of_monitor r call e h = (λ k. ap (is_script k) h.0, λ k. (ap (is_sender k) h.0, ap (is_receiver k) h.0))
 
 -- As a call of the network's parts has them: the node at a place, which is a manager's.
 pub record Asked (w : NetState) (i m : ℕ) (n : NodeState) : Type 0 where
@@ -130,21 +130,21 @@ asked_ready w i m n a = ready_node w m n a.kept (asked_at w i m n a) a.ready
 pub asked_kept : (w : NetState) (i m : ℕ) (n : NodeState) → Asked w i m n → IsKept n
 asked_kept w i m n a = (a.kept.nodes m n (asked_at w i m n a)).keeps
 
-pub does_kept : {T : Type 0} (w v : NetState) (i m : ℕ) (P : Entry → Type 0) (r : Result T Stop) (n new : NodeState) → Asked w i m n → v ≡ with_node i new w → ((e : Entry) → P e → NoScript e) → NodeDoes P m r n new → IsNetwork v
+pub does_kept : {T : Type 0} (w v : NetState) (i m : ℕ) (P : Entry → Type 0) (r : Result T Stop) (n new : NodeState) → Asked w i m n → v ≡ with_node i new w → ((e : Entry) → P e → OfNeither e) → NodeDoes P m r n new → IsNetwork v
 does_kept w v i m P r n new a is free d =
     subst IsNetwork (sym (is ∙ ap (λ (j : ℕ). with_node j new w) a.place)) (does_keeps w m P r n new a.kept (asked_at w i m n a) free d)
 
-pub does_told : {T : Type 0} (w v : NetState) (i m : ℕ) (P : Entry → Type 0) (Q : ℕ → Entry → Type 0) (r : Result T Stop) (n new : NodeState) → Asked w i m n → v ≡ with_node i new w → ((e : Entry) → P e → NoScript e) → ((e : Entry) → P e → Q m e) → NodeDoes P m r n new
+pub does_told : {T : Type 0} (w v : NetState) (i m : ℕ) (P : Entry → Type 0) (Q : ℕ → Entry → Type 0) (r : Result T Stop) (n new : NodeState) → Asked w i m n → v ≡ with_node i new w → ((e : Entry) → P e → OfNeither e) → ((e : Entry) → P e → Q m e) → NodeDoes P m r n new
     → Does Q r (course_in w) (course_in v)
 does_told w v i m P Q r n new a is free fits d =
     subst (λ (x : NetState). Does Q r (course_in w) (course_in x)) (sym (is ∙ ap (λ (j : ℕ). with_node j new w) a.place))
     (does_lifts w m P Q r n new a.kept (does_keeps w m P r n new a.kept (asked_at w i m n a) free d) a.ready (asked_at w i m n a) fits d)
 
-pub says_kept : {T : Type 0} (w v : NetState) (i m : ℕ) (P : Entry → Type 0) (S : T → Entry → Type 0) (r : Result T Stop) (n new : NodeState) → Asked w i m n → v ≡ with_node i new w → ((e : Entry) → P e → NoScript e) → NodeSays P S m r n new → IsNetwork v
+pub says_kept : {T : Type 0} (w v : NetState) (i m : ℕ) (P : Entry → Type 0) (S : T → Entry → Type 0) (r : Result T Stop) (n new : NodeState) → Asked w i m n → v ≡ with_node i new w → ((e : Entry) → P e → OfNeither e) → NodeSays P S m r n new → IsNetwork v
 says_kept w v i m P S r n new a is free d =
     subst IsNetwork (sym (is ∙ ap (λ (j : ℕ). with_node j new w) a.place)) (says_keeps w m P S r n new a.kept (asked_at w i m n a) free d)
 
-pub says_told : {T : Type 0} (w v : NetState) (i m : ℕ) (P : Entry → Type 0) (S : T → Entry → Type 0) (Q : ℕ → Entry → Type 0) (r : Result T Stop) (n new : NodeState) → Asked w i m n → v ≡ with_node i new w → ((e : Entry) → P e → NoScript e) → ((e : Entry) → P e → Q m e) → NodeSays P S m r n new
+pub says_told : {T : Type 0} (w v : NetState) (i m : ℕ) (P : Entry → Type 0) (S : T → Entry → Type 0) (Q : ℕ → Entry → Type 0) (r : Result T Stop) (n new : NodeState) → Asked w i m n → v ≡ with_node i new w → ((e : Entry) → P e → OfNeither e) → ((e : Entry) → P e → Q m e) → NodeSays P S m r n new
     → Says Q S r (course_in w) (course_in v)
 says_told w v i m P S Q r n new a is free fits d =
     subst (λ (x : NetState). Says Q S r (course_in w) (course_in x)) (sym (is ∙ ap (λ (j : ℕ). with_node j new w) a.place))

@@ -14,6 +14,7 @@ use Rattle.mq_course.specs.Courses.{course_of, marks_or_absent, with_mark}
 use Rattle.mq_course.proofs.CourseLaws.{all_note}
 use Rattle.mq_world.specs.Worlds.{IsNetwork, IsNodeAt, IsScriptAt, NetState, course_in, history_in, waits_in}
 use Rattle.mq_world.proofs.ListLaws.{get_map, long_map, some_is}
+use Rattle.mq_world.proofs.QuietLaws.{all_same}
 use Rattle.mq_world.proofs.SeenLaws.{history_there}
 
 -- where so many of a list were changed, the next is as it was
@@ -74,13 +75,15 @@ entries_marked idle (n ∷ ns) (suc q) = entries_marked idle ns q
 
 pub marks_keep : (w : NetState) (idle : Bool) → IsNetwork w → ((k : ℕ) → length ((course_in w).marks k) < length w.scenario.steps) → IsNetwork (all_marked idle w)
 marks_keep w idle h room = record {
-  apart = h.apart;
   scenario = h.scenario;
   texts = h.texts;
   all = long_map (marked idle) w.nodes ∙ h.all;
   nodes = λ m n known. at_it m n (slice_get w.nodes m) refl (sym (get_map (marked idle) w.nodes m) ∙ known);
   each = h.each;
   scripts = λ k p c part is. subst (λ (es : List Entry). IsScriptAt k p es c) (sym (entries_marked idle w.nodes p.manager)) (h.scripts k p c part is);
+  lines = h.lines;
+  joined = h.joined;
+  ways = all_same w.scenario.cables (entries_at (map history_in w.nodes)) (entries_at (map history_in (map (marked idle) w.nodes))) w.cables (entries_marked idle w.nodes) h.ways;
   handlers = h.handlers;
   monitors = h.monitors;
 } where

@@ -1,15 +1,20 @@
 -- A network whose nodes rest.
-use Rattle.std.proofs.Common.{◌≡◌, ℕ, List, [], ◌∷◌, ◌++◌, refl, sym, ap, subst, ◌∙◌, append_assoc}
+use Rattle.std.proofs.Common.{◌≡◌, ℕ, ◌<◌, List, [], ◌∷◌, ◌++◌, refl, sym, ap, subst, ◌∙◌, append_assoc}
 use Rattle.std.specs.Prelude.{map, reverse, Option, Some, None, option_map, slice_get}
 use Rattle.std.proofs.lemmas.List.{reverse-append, reverse-reverse}
+use Rattle.std.proofs.lemmas.Option.{slice_get_within}
 use Rattle.mq_history.specs.declared.history.History.{History}
+use Rattle.mq_history.specs.declared.scenario.CableLine.{CableLine}
 use Rattle.mq_spec_node.specs.Words.{Own, Replays, Surroundings, TriggersStand, node_of, opening_node, state_of}
+use Rattle.mq_spec_network.specs.Lawful.{IsCarried}
+use Rattle.mq_spec_network.specs.Story.{entries_at}
 use Rattle.mq_core.specs.Values.{CoreValue}
 use Rattle.mq_events.specs.States.{NodeState}
 use Rattle.mq_world_begin.specs.Rested.{IsRested, IsRestedAt}
 use Rattle.mq_world.specs.Resting.{manager_in, own_in, rest_of}
-use Rattle.mq_world.specs.Worlds.{IsNetwork, IsNodeAt, NetState, history_in}
-use Rattle.mq_world.proofs.ListLaws.{get_map, long_map, some_is}
+use Rattle.mq_world.specs.Facing.{IsJoined}
+use Rattle.mq_world.specs.Worlds.{IsNetwork, IsNodeAt, NetState, histories_in, history_in}
+use Rattle.mq_world.proofs.ListLaws.{get_map, long_map, some_is, there}
 
 -- none yet
 pub first_moved : {A B : Type 0} (f : A → B) (xs : List B) (left all : List A) → xs ≡ [] → left ≡ reverse all → xs ++ map f (reverse left) ≡ map f all
@@ -56,9 +61,15 @@ node_rests w m n h = record {
   node = subst (λ (g : Surroundings). node_of n.manager.plain n.own ≡ state_of g n.history) h.given h.keeps.node;
 }
 
+-- Each frame that was popped was offered before.
+pub carried_in : (w : NetState) → IsNetwork w → (k : ℕ) (l : CableLine) → slice_get w.scenario.cables k ≡ Some l → IsCarried k l (histories_in w)
+carried_in w h k l at =
+    let c = there w.cables k (subst (λ (n : ℕ). k < n) (sym h.joined) (slice_get_within w.scenario.cables k l at)) in
+    let j : IsJoined k l (entries_at (histories_in w)) c.0 = h.ways k l c.0 at c.1 in
+    record { out = j.out.carries; back = j.back.carries }
+
 pub network_rests : (w : NetState) → IsNetwork w → IsRested (rest_of w.scenario w.nodes)
 network_rests w h = record {
-  apart = h.apart;
   scenario = h.scenario;
   managers = long_map manager_in w.nodes ∙ h.all;
   owns = long_map own_in w.nodes ∙ h.all;
@@ -73,4 +84,5 @@ network_rests w h = record {
       (subst (λ (x : Own). IsRestedAt w.scenario m a.node.manager x k) (sym (ap own_in same_own) ∙ b.is)
       (subst (λ (x : History). IsRestedAt w.scenario m a.node.manager a.node.own x) (sym (ap history_in same_history) ∙ c.is)
       (node_rests w m a.node (h.nodes m a.node a.known))));
+  carried = carried_in w h;
 }

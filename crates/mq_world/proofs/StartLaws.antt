@@ -8,6 +8,7 @@ use Rattle.std.specs.Str.{bytes_eq}
 use Rattle.mq_calls.specs.declared.image.Shelf.{Shelf}
 use Rattle.mq_history.specs.declared.history.History.{History}
 use Rattle.mq_history.specs.declared.history.Mark.{Mark}
+use Rattle.mq_history.specs.declared.scenario.CableLine.{CableLine}
 use Rattle.mq_history.specs.declared.scenario.ManagerLine.{ManagerLine}
 use Rattle.mq_history.specs.declared.scenario.Scenario.{Scenario}
 use Rattle.mq_objects.specs.declared.object.LocalQueue.{LocalQueue}
@@ -18,12 +19,13 @@ use Rattle.mq_calls.specs.Images.{queue_on}
 use Rattle.mq_calls.specs.Words.{stored}
 use Rattle.mq_spec_manager.specs.Words.{first_due}
 use Rattle.mq_spec_node.specs.Terms.{Entry}
-use Rattle.mq_spec_node.specs.Words.{Own, Surroundings, after, node_of, opening_node, trigger_deed, trigger_deed_of}
+use Rattle.mq_spec_node.specs.Words.{Node, Own, Surroundings, after, begun_anew, is_receiver, is_sender, node_of, opening_node, trigger_deed, trigger_deed_of}
 use Rattle.mq_spec_network.specs.Given.{log_max_or, own_at, surroundings}
 use Rattle.mq_core.specs.Values.{CoreValue}
 use Rattle.mq_events.specs.States.{NodeState}
 use Rattle.mq_events.proofs.MarkLaws.{begun_kept}
-use Rattle.mq_world_begin.specs.Rested.{IsRestedAt}
+use Rattle.mq_world_begin.specs.Rested.{IsRestedAt, as_given}
+use Rattle.mq_world_begin.proofs.GivenLaws.{given_again}
 use Rattle.mq_history.specs.Scenarios.{IsScenario}
 use Rattle.mq_history.specs.declared.scenario.MonitorLine.{MonitorLine}
 use Rattle.mq_history.specs.declared.scenario.RulesPart.{RulesPart}
@@ -35,25 +37,38 @@ use Rattle.mq_course.specs.Courses.{absent, marks_or_absent}
 use Rattle.mq_progress.specs.Course as progress
 use Rattle.mq_progress.proofs.CourseLaws.{stands_first}
 use Rattle.mq_steps.proofs.PartLaws.{at_it}
-use Rattle.mq_owned.specs.Owned.{HasNoCables}
-use Rattle.mq_world.specs.Starting.{Starts, StartsAt, around, begun_script, begun_state}
+use Rattle.mq_ways.specs.Ways.{AreNew, CableState, IsNew}
+use Rattle.mq_ways.proofs.QuietLaws.{new_at, new_long}
+use Rattle.mq_world.specs.Facing.{IsJoined}
+use Rattle.mq_world.specs.Starting.{Starts, StartsAt, around, begun_script, begun_state, own_begun}
 use Rattle.mq_world.specs.Worlds.{IsNetwork, IsScriptAt, history_in, until_of}
 use Rattle.mq_world.proofs.ListLaws.{get_map, some_is}
+use Rattle.mq_world.proofs.QuietLaws.{facing_first}
 use Rattle.mq_world.proofs.SeenLaws.{AreAt, done_there, history_there, ready_all}
 
+-- Its own is as the scenario gives it, and begun.
+own_first : (s : Scenario) (m : ℕ) (v : CoreValue) (own : Own) (h : History) → IsRestedAt s m v own h → h.entries ≡ [] → node_of v.plain own ≡ opening_node (surroundings s m) h
+own_first s m v own h r none = r.node ∙ ap (λ (es : List Entry). after (opening_node (surroundings s m) h) es) none
+
+as_first : (s : Scenario) (m : ℕ) (v : CoreValue) (own : Own) (h : History) → IsRestedAt s m v own h → h.entries ≡ [] → as_given own ≡ own_at s m
+as_first s m v own h r none =
+    ap (λ (n : Node). as_given n.own) (own_first s m v own h r none)
+    ∙ given_again s m (opening_node (surroundings s m) h).manager
+
 -- what the scenario gives it is what its history and its own say
-around_is : (s : Scenario) (m : ℕ) (l : ManagerLine) (v : CoreValue) (own : Own) (h : History) → slice_get s.managers m ≡ Some l → IsRestedAt s m v own h → own ≡ own_at s m → around l.log_max own h ≡ surroundings s m
-around_is s m l v own h is r owned = λ i. record {
+around_is : (s : Scenario) (m : ℕ) (l : ManagerLine) (v : CoreValue) (own first : Own) (h : History) → slice_get s.managers m ≡ Some l → IsRestedAt s m v own h → first ≡ own_at s m → around l.log_max first h ≡ surroundings s m
+around_is s m l v own first h is r owned = λ i. record {
   given = record { number = r.replays.number i; name = r.replays.name i; log_max = ap log_max_or (sym is) i };
   own = owned i;
 }
 
 -- so it is as its history opens
-pub opens_so : (s : Scenario) (m : ℕ) (l : ManagerLine) (v : CoreValue) (own : Own) (h : History) → slice_get s.managers m ≡ Some l → IsRestedAt s m v own h → own ≡ own_at s m → h.entries ≡ [] → node_of v.plain own ≡ opening_node (around l.log_max own h) h
-opens_so s m l v own h is r owned none =
-    r.node
-    ∙ ap (λ (es : List Entry). after (opening_node (surroundings s m) h) es) none
-    ∙ ap (λ (g : Surroundings). opening_node g h) (sym (around_is s m l v own h is r owned))
+pub opens_so : (s : Scenario) (m : ℕ) (l : ManagerLine) (v : CoreValue) (own : Own) (h : History) → slice_get s.managers m ≡ Some l → IsRestedAt s m v own h → h.entries ≡ [] → node_of v.plain (own_begun v own) ≡ opening_node (around l.log_max (as_given own) h) h
+opens_so s m l v own h is r none =
+    let first : as_given own ≡ own_at s m = as_first s m v own h r none in
+    ap (λ (p : Plain). node_of p (begun_anew p (as_given own)).own) (ap (λ (n : Node). n.manager) (own_first s m v own h r none))
+    ∙ ap (λ (o : Own). begun_anew (opening_node (surroundings s m) h).manager o) first
+    ∙ ap (λ (g : Surroundings). opening_node g h) (sym (around_is s m l v own (as_given own) h is r first))
 
 -- No trigger is due of a manager that has just begun.
 none_in : (name : List ℕ) (ss : List Shelf) → (queue_in name (map queue_on ss)).due ≡ 0
@@ -77,15 +92,16 @@ opening_served : (g : Surroundings) (h : History) → trigger_deed (opening_node
 opening_served g h = ap (λ (o : Option LocalQueue). trigger_deed_of o (opening_node g h)) (none_due_in (locals_of h.opening.definitions) h.opening.shelves (opening_node g h).manager refl)
 
 -- A node starts so.
-pub starts_at : (s : Scenario) (m : ℕ) (l : ManagerLine) (v : CoreValue) (own : Own) (h : History) (room marks : ℕ) (few : Bool) → (hs : List History) → slice_get hs m ≡ Some h → slice_get s.managers m ≡ Some l → IsRestedAt s m v own h → own ≡ own_at s m → h.entries ≡ [] → h.marks ≡ [] → length s.steps ≤ marks
-    → StartsAt s hs m (begun_state l.log_max v own h room marks few)
-starts_at s m l v own h room marks few hs found is r owned none unmarked enough =
-    let n : NodeState = begun_state l.log_max v own h room marks few in
-    let given : around l.log_max own h ≡ surroundings s m = around_is s m l v own h is r owned in
-    let opens : node_of v.plain own ≡ opening_node (around l.log_max own h) h = opens_so s m l v own h is r owned none in
+pub starts_at : (s : Scenario) (m : ℕ) (l : ManagerLine) (v : CoreValue) (own : Own) (h : History) (room marks : ℕ) (few : Bool) → (hs : List History) → slice_get hs m ≡ Some h → slice_get s.managers m ≡ Some l → IsRestedAt s m v own h → h.entries ≡ [] → h.marks ≡ [] → length s.steps ≤ marks
+    → StartsAt s hs m (begun_state l.log_max v (as_given own) (own_begun v own) h room marks few)
+starts_at s m l v own h room marks few hs found is r none unmarked enough =
+    let first : Own = as_given own in
+    let n : NodeState = begun_state l.log_max v first (own_begun v own) h room marks few in
+    let given : around l.log_max first h ≡ surroundings s m = around_is s m l v own first h is r (as_first s m v own h r none) in
+    let opens : node_of v.plain (own_begun v own) ≡ opening_node (around l.log_max first h) h = opens_so s m l v own h is r none in
     record {
       at = record { image = r.image; known = r.known; given = given; keeps = begun_kept n none refl refl refl opens; room = omega (arith, enough) };
-      served = ap trigger_deed opens ∙ opening_served (around l.log_max own h) h;
+      served = ap trigger_deed opens ∙ opening_served (around l.log_max first h) h;
       may = ap (λ (es : List Entry). nat_le (2 ^ 48) (length es) || nat_le (2 ^ 60) 0) none;
       history = found;
       undone = none;
@@ -141,15 +157,16 @@ made log_max v own first h entries marks room more few = record {
   marks = more;
 }
 
-pub made_so : (log_max : ℕ) (v : CoreValue) (own first : Own) (h : History) (entries : List Entry) (marks : List Mark) (room more : ℕ) (n : NodeState) → h.entries ≡ [] → h.marks ≡ [] → entries ≡ [] → marks ≡ [] → first ≡ own
-    → n ≡ made log_max v own first h entries marks room more n.few → n ≡ begun_state log_max v own h n.room n.marks n.few
-made_so log_max v own first h entries marks room more n undone unmarked none no_marks same is =
+pub made_so : (log_max : ℕ) (v : CoreValue) (own first begun given : Own) (h : History) (entries : List Entry) (marks : List Mark) (room more : ℕ) (n : NodeState) → h.entries ≡ [] → h.marks ≡ [] → entries ≡ [] → marks ≡ [] → own ≡ begun → first ≡ given
+    → n ≡ made log_max v own first h entries marks room more n.few → n ≡ begun_state log_max v given begun h n.room n.marks n.few
+made_so log_max v own first begun given h entries marks room more n undone unmarked none no_marks begins gives is =
     is
-    ∙ ap (λ (x : Own). made log_max v own x h entries marks room more n.few) same
-    ∙ ap (λ (xs : List Entry). made log_max v own own h xs marks room more n.few) (none ∙ sym undone)
-    ∙ ap (λ (xs : List Mark). made log_max v own own h h.entries xs room more n.few) (no_marks ∙ sym unmarked)
-    ∙ ap (λ (k : ℕ). begun_state log_max v own h k more n.few) (sym (ap (λ (x : NodeState). x.room) is))
-    ∙ ap (λ (k : ℕ). begun_state log_max v own h n.room k n.few) (sym (ap (λ (x : NodeState). x.marks) is))
+    ∙ ap (λ (x : Own). made log_max v x first h entries marks room more n.few) begins
+    ∙ ap (λ (x : Own). made log_max v begun x h entries marks room more n.few) gives
+    ∙ ap (λ (xs : List Entry). made log_max v begun given h xs marks room more n.few) (none ∙ sym undone)
+    ∙ ap (λ (xs : List Mark). made log_max v begun given h h.entries xs room more n.few) (no_marks ∙ sym unmarked)
+    ∙ ap (λ (k : ℕ). begun_state log_max v given begun h k more n.few) (sym (ap (λ (x : NodeState). x.room) is))
+    ∙ ap (λ (k : ℕ). begun_state log_max v given begun h n.room k n.few) (sym (ap (λ (x : NodeState). x.marks) is))
 
 -- What the type of a network keeps, at its start; and what is seen of it.
 map_is : {A B : Type 0} (f : A → B) (xs : List A) (ys : List B) → length xs ≡ length ys → ((m : ℕ) (x : A) → slice_get xs m ≡ Some x → slice_get ys m ≡ Some (f x)) → map f xs ≡ ys
@@ -179,11 +196,17 @@ first_marks : (ns : List NodeState) → ((m : ℕ) (n : NodeState) → slice_get
 first_marks [] each = refl
 first_marks (n ∷ ns) each = each 0 n refl
 
-pub started : (s : Scenario) (hs : List History) (ns : List NodeState) (cs : List progress.Course) (handlers : List ℕ) (lines : List MonitorLine) → HasNoCables s → IsScenario s → AllFit IsTextCommand s → length ns ≡ length s.managers
-    → ((m : ℕ) (n : NodeState) → slice_get ns m ≡ Some n → StartsAt s hs m n) → length cs ≡ length s.scripts → All (λ (x : progress.Course). x ≡ begun_script) cs → handlers ≡ map (λ (r : RulesPart). r.manager) s.rules → lines ≡ s.monitors
-    → IsNetwork (record { scenario = s; nodes = ns; scripts = cs; handlers = handlers; monitors = lines })
-started s hs ns cs handlers lines apart scenario texts all each many begun of_rules of_monitors = record {
-  apart = apart;
+-- each cable, where nothing was offered yet
+joined_first : (k : ℕ) (l : CableLine) (done : ℕ → List Entry) (c : CableState) → ((m : ℕ) → done m ≡ []) → IsNew l.out c.out → IsNew l.back c.back → IsJoined k l done c
+joined_first k l done c none out back = record {
+  out = facing_first l.out (is_sender k) (is_receiver k) (done l.sender) (done l.receiver) c.out (none l.sender) (none l.receiver) out;
+  back = facing_first l.back (is_receiver k) (is_sender k) (done l.receiver) (done l.sender) c.back (none l.receiver) (none l.sender) back;
+}
+
+pub started : (s : Scenario) (hs : List History) (ns : List NodeState) (cs : List progress.Course) (cables : List CableState) (handlers : List ℕ) (lines : List MonitorLine) (kept : List CableLine) → IsScenario s → AllFit IsTextCommand s → length ns ≡ length s.managers
+    → ((m : ℕ) (n : NodeState) → slice_get ns m ≡ Some n → StartsAt s hs m n) → length cs ≡ length s.scripts → All (λ (x : progress.Course). x ≡ begun_script) cs → kept ≡ s.cables → AreNew s.cables cables → handlers ≡ map (λ (r : RulesPart). r.manager) s.rules → lines ≡ s.monitors
+    → IsNetwork (record { scenario = s; nodes = ns; scripts = cs; lines = kept; cables = cables; handlers = handlers; monitors = lines })
+started s hs ns cs cables handlers lines kept scenario texts all each many begun of_cables new of_rules of_monitors = record {
   scenario = scenario;
   texts = texts;
   all = all;
@@ -192,15 +215,19 @@ started s hs ns cs handlers lines apart scenario texts all each many begun of_ru
   scripts = λ k p c part is. subst (IsScriptAt k p (entries_at (map history_in ns) p.manager)) (sym (all_begun cs k c begun is))
       (subst (λ (es : List Entry). IsScriptAt k p es begun_script) (sym (none_done ns p.manager (λ m n known. (each m n known).undone)))
       (record { stands = stands_first k p begun_script refl refl; few = low (length p.lines); waits = λ l there. tt }));
+  lines = of_cables;
+  joined = new_long s.cables cables new;
+  ways = λ k l c at found. let n = new_at s.cables cables k l c new at found in
+      joined_first k l (entries_at (map history_in ns)) c (λ q. none_done ns q (λ m n known. (each m n known).undone)) n.0 n.1;
   handlers = of_rules;
   monitors = of_monitors;
 } where
   low : (n : ℕ) → 0 ≤ n
   low n = omega arith
 
-pub starts : (s : Scenario) (hs : List History) (ns : List NodeState) (cs : List progress.Course) (handlers : List ℕ) (lines : List MonitorLine) (vs : List CoreValue) (owns : List Own) → length ns ≡ length hs → AreAt s ns → ((m : ℕ) (n : NodeState) → slice_get ns m ≡ Some n → StartsAt s hs m n)
-    → All (λ (x : progress.Course). x ≡ begun_script) cs → Starts (record { scenario = s; managers = vs; owns = owns; histories = hs }) (record { scenario = s; nodes = ns; scripts = cs; handlers = handlers; monitors = lines })
-starts s hs ns cs handlers lines vs owns long at each begun = record {
+pub starts : (s : Scenario) (hs : List History) (ns : List NodeState) (cs : List progress.Course) (cables : List CableState) (handlers : List ℕ) (lines : List MonitorLine) (kept : List CableLine) (vs : List CoreValue) (owns : List Own) → length ns ≡ length hs → AreAt s ns → ((m : ℕ) (n : NodeState) → slice_get ns m ≡ Some n → StartsAt s hs m n)
+    → All (λ (x : progress.Course). x ≡ begun_script) cs → Starts (record { scenario = s; managers = vs; owns = owns; histories = hs }) (record { scenario = s; nodes = ns; scripts = cs; lines = kept; cables = cables; handlers = handlers; monitors = lines })
+starts s hs ns cs cables handlers lines kept vs owns long at each begun = record {
   scenario = refl;
   histories = map_is history_in ns hs long (λ m n known. (each m n known).history);
   ready = ready_all s ns at (λ m n known. record { served = (each m n known).served; may = (each m n known).may });

@@ -7,7 +7,7 @@ use Rattle.mq_history.specs.declared.scenario.MonitorLine.{MonitorLine}
 use Rattle.mq_history.specs.declared.scenario.RulesPart.{RulesPart}
 use Rattle.mq_spec_node.specs.Node.{Node}
 use Rattle.mq_spec_node.specs.Terms.{Entry}
-use Rattle.mq_spec_node.specs.Words.{begins, is_none, is_script, monitor_live, monitor_next}
+use Rattle.mq_spec_node.specs.Words.{begins, is_none, is_receiver, is_script, is_sender, monitor_live, monitor_next}
 use Rattle.mq_spec_network.specs.Lawful.{handles_idle}
 use Rattle.mq_spec_network.specs.Steps.{Is, MonitorGets, handler_idle, is_watching, scripts_at, serves_nothing}
 use Rattle.mq_spec_network.specs.Turns.{node_at, where_there}
@@ -24,7 +24,7 @@ use Rattle.mq_world.specs.Turning.{HandlerOn, IsGet, IsGot, MonitorOn}
 use Rattle.mq_world.specs.Worlds.{IsNetwork, NetState, course_in, with_node}
 use Rattle.mq_world.proofs.ListLaws.{get_map, long_map, some_is}
 use Rattle.mq_world.proofs.SeenLaws.{done_there, node_there}
-use Rattle.mq_world.proofs.KeepLaws.{NoScript, network_did, network_stays}
+use Rattle.mq_world.proofs.KeepLaws.{OfNeither, network_did, network_stays}
 use Rattle.mq_world.proofs.LiftLaws.{Asked, asked_at, broke_keeps, broke_lifts, did_lifts, of_handler, ready_set, seen_at, stays_lifts}
 
 same_stays : (n new : NodeState) → new ≡ n → NodeStays n new
@@ -84,8 +84,8 @@ handler_told w v i m k r n new a is found x p part =
     (handler_lifts w m k p r n new a.kept (handler_keeps w m k r n new a.kept (asked_at w i m n a) x) a.ready (asked_at w i m n a) (rules_at w k m p a.kept found part) x)
 
 -- A monitor's turn.
-of_get : (k : ℕ) (n : NodeState) (e : Entry) → IsGet k n e → NoScript e
-of_get k n e h j = ap (is_script j) h.0
+of_get : (k : ℕ) (n : NodeState) (e : Entry) → IsGet k n e → OfNeither e
+of_get k n e h = (λ j. ap (is_script j) h.0, λ j. (ap (is_sender j) h.0, ap (is_receiver j) h.0))
 
 monitor_keeps : (w : NetState) (m k : ℕ) (r : Result Monitored Stop) (n new : NodeState) → IsNetwork w → slice_get w.nodes m ≡ Some n → MonitorOn k m n r new → IsNetwork (with_node m new w)
 monitor_keeps w m k (Ok monitors.Idle) n new h known (s, idle) = network_stays w m n new h known s

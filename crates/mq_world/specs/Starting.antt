@@ -3,8 +3,7 @@ use Rattle.std.specs.Prelude.{◌≡◌, ◌+◌, ◌≤◌, ℕ, Bool, List, []
 use Rattle.std.proofs.Common.{Global, Vec}
 use Rattle.mq_history.specs.declared.history.History.{History}
 use Rattle.mq_history.specs.declared.scenario.Scenario.{Scenario}
-use Rattle.mq_spec_node.specs.Words.{Own, Surroundings}
-use Rattle.mq_spec_network.specs.Given.{own_at}
+use Rattle.mq_spec_node.specs.Words.{Own, Surroundings, begun_anew}
 use Rattle.mq_core.specs.Values.{CoreValue}
 use Rattle.mq_events.specs.States.{NodeState, IsServed}
 use Rattle.mq_events.specs.Events.{MayAct}
@@ -14,20 +13,24 @@ use Rattle.mq_progress.specs.Course as progress
 use Rattle.mq_nodes.specs.Course.{Ready, Rests}
 use Rattle.mq_nodes.specs.Runs.{Unmarked}
 use Rattle.mq_world.specs.Worlds.{IsNodeAt, NetState, course_in, histories_in}
-use Rattle.mq_world_begin.specs.Rested.{RestState}
+use Rattle.mq_world_begin.specs.Rested.{RestState, as_given}
 
 -- what a manager is given, as its history and its own say
 abbrev pub around : ℕ → Own → History → Surroundings
 around log_max own h = record { given = record { number = h.number; name = h.name; log_max = log_max }; own = own }
 
-abbrev pub begun_state : ℕ → CoreValue → Own → History → ℕ → ℕ → Bool → NodeState
-begun_state log_max v own h room marks few = record { given = around log_max own h; history = h; manager = v; own = own; stamp = 0; few = few; room = room; marks = marks }
+-- what is its own, as the scenario gives it and as it begins
+abbrev pub begun_state : ℕ → CoreValue → (first own : Own) → History → ℕ → ℕ → Bool → NodeState
+begun_state log_max v first own h room marks few = record { given = around log_max first h; history = h; manager = v; own = own; stamp = 0; few = few; room = room; marks = marks }
 
--- Nothing was done yet at any manager, and each has its own as the scenario gives it.
+-- the channels' ends begin with what is hardened
+abbrev pub own_begun : CoreValue → Own → Own
+own_begun v own = (begun_anew v.plain (as_given own)).own
+
+-- Nothing was done yet at any manager.
 pub record IsFresh (w : RestState) : Type 0 where
   pub undone : (m : ℕ) (h : History) → slice_get w.histories m ≡ Some h → h.entries ≡ []
   pub unmarked : (m : ℕ) (h : History) → slice_get w.histories m ≡ Some h → h.marks ≡ []
-  pub owned : (m : ℕ) (own : Own) → slice_get w.owns m ≡ Some own → own ≡ own_at w.scenario m
 
 -- a node of its manager, with its history, which may do its first event
 pub record StartsAt (s : Scenario) (hs : List History) (m : ℕ) (n : NodeState) : Type 0 where

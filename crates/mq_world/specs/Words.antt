@@ -1,3 +1,28 @@
 -- What is said of a network before it starts and once it rests.
 pub use Rattle.mq_world_begin.specs.Rested.{Began, IsRested, IsRestedAt, OpensWith, RestState}
 pub use Rattle.mq_events.specs.Texts.{IsTextCommand}
+pub use Rattle.mq_acts.specs.Advances.{IsTextLine, Keeps, last_entry}
+pub use Rattle.mq_cable.specs.Lists.{AllLow}
+pub use Rattle.mq_events.specs.Events.{MayAct}
+pub use Rattle.mq_events.specs.States.{IsKept, IsServed, marked}
+pub use Rattle.mq_events.specs.Texts.{IsTextAct}
+pub use Rattle.mq_nodes.specs.Course.{Ready, noted}
+pub use Rattle.mq_nodes.specs.Pumps.{AllStill, TurnIn}
+pub use Rattle.mq_nodes.specs.Texts.{AllFit}
+pub use Rattle.mq_nodes.specs.Told.{Does, HandlerTold, LineTold, Part, Says, TurnTold, later}
+pub use Rattle.mq_spec_network.specs.Lawful.{handles_idle}
+pub use Rattle.mq_spec_network.specs.Steps.{Is, is_cut, is_watching}
+pub use Rattle.mq_spec_network.specs.Tasks.{moment_of, watch_by}
+pub use Rattle.mq_spec_network.specs.Tasks.Slot.{Receives, Sends, TimesOut}
+pub use Rattle.mq_spec_network.specs.Turns.{cable_idle, is_idle, is_up_at, node_at}
+pub use Rattle.mq_spec_node.specs.Words.{is_opened, node_of, opening_node, script_appl, shared}
+pub use Rattle.mq_watch.specs.Turns.{connection_of}
+pub use Rattle.mq_ways.specs.Ways.{AreNew}
+pub use Rattle.mq_world.specs.Ends.{EndOn, SideTurn, TimeoutOn, far_sides, near_sides}
+pub use Rattle.mq_world.specs.Lines.{LineOn}
+pub use Rattle.mq_world.specs.Resting.{manager_in, own_in, rest_of}
+pub use Rattle.mq_world.specs.Settling.{IsOf, NodeDoes, NodeSays, Settles, cut_or, ended}
+pub use Rattle.mq_world.specs.Starting.{IsFresh, IsRoom, Starts, StartsAt, around, begun_script, begun_state, own_begun}
+pub use Rattle.mq_world.specs.Turning.{HandlerOn, MonitorOn}
+pub use Rattle.mq_world.specs.Worlds.{IsNetwork, NetState, course_in, history_in}
+pub use Rattle.mq_world_begin.specs.Rested.{as_given}

@@ -2,12 +2,14 @@
 use Rattle.std.specs.Prelude.{◌≡◌, ◌+◌, ◌≤◌, ℕ, List, map, Option, Some, None, IsSome, length, slice_get, slice_set}
 use Rattle.mq_history.specs.Scenarios.{IsScenario}
 use Rattle.mq_history.specs.declared.history.History.{History}
+use Rattle.mq_history.specs.declared.scenario.CableLine.{CableLine}
 use Rattle.mq_history.specs.declared.scenario.MonitorLine.{MonitorLine}
 use Rattle.mq_history.specs.declared.scenario.RulesPart.{RulesPart}
 use Rattle.mq_history.specs.declared.scenario.Scenario.{Scenario}
 use Rattle.mq_history.specs.declared.scenario.ScriptPart.{ScriptPart}
 use Rattle.mq_history.specs.declared.scripts.ScriptLine.{ScriptLine}
 use Rattle.mq_calls.specs.Recovery.{AreKnown, IsImage}
+use Rattle.mq_ways.specs.Ways.{CableState}
 use Rattle.mq_spec_node.specs.Terms.{Entry}
 use Rattle.mq_spec_node.specs.Words.{wait_of}
 use Rattle.mq_spec_network.specs.Given.{surroundings}
@@ -19,13 +21,16 @@ use Rattle.mq_progress.specs.Course as progress
 use Rattle.mq_progress.specs.Course.{Stands}
 use Rattle.mq_events.specs.States.{NodeState, IsKept}
 use Rattle.mq_events.specs.Texts.{IsTextCommand}
-use Rattle.mq_owned.specs.Owned.{HasNoCables}
+pub use Rattle.mq_world.specs.Facing.{AreJoined, Facing, IsJoined}
 
--- The scenario; each manager's node, each script's progress; the manager of each rules table; the monitors.
+-- The scenario; each manager's node, each script's progress; the lines of cables, and what lies on each; the manager of each
+-- rules table; the monitors.
 pub record NetState : Type 0 where
   pub scenario : Scenario
   pub nodes : List NodeState
   pub scripts : List progress.Course
+  pub lines : List CableLine
+  pub cables : List CableState
   pub handlers : List ℕ
   pub monitors : List MonitorLine
 
@@ -66,13 +71,15 @@ pub record IsNodeAt (s : Scenario) (m : ℕ) (n : NodeState) : Type 0 where
   pub room : length s.steps ≤ n.marks + length n.history.marks
 
 pub record IsNetwork (w : NetState) : Type 0 where
-  pub apart : HasNoCables w.scenario
   pub scenario : IsScenario w.scenario
   pub texts : AllFit IsTextCommand w.scenario
   pub all : length w.nodes ≡ length w.scenario.managers
   pub nodes : (m : ℕ) (n : NodeState) → slice_get w.nodes m ≡ Some n → IsNodeAt w.scenario m n
   pub each : length w.scripts ≡ length w.scenario.scripts
   pub scripts : (k : ℕ) (p : ScriptPart) (c : progress.Course) → slice_get w.scenario.scripts k ≡ Some p → slice_get w.scripts k ≡ Some c → IsScriptAt k p (entries_at (histories_in w) p.manager) c
+  pub lines : w.lines ≡ w.scenario.cables
+  pub joined : length w.cables ≡ length w.scenario.cables
+  pub ways : AreJoined w.scenario.cables (entries_at (histories_in w)) w.cables
   pub handlers : w.handlers ≡ map (λ (r : RulesPart). r.manager) w.scenario.rules
   pub monitors : w.monitors ≡ w.scenario.monitors
 
@@ -83,3 +90,7 @@ with_node m n w = record w { nodes = slice_set w.nodes m n }
 -- and a script has come further
 abbrev pub with_script : ℕ → progress.Course → NetState → NetState
 with_script k c w = record w { scripts = slice_set w.scripts k c }
+
+-- and something else lies on a cable
+abbrev pub with_cable : ℕ → CableState → NetState → NetState
+with_cable k c w = record w { cables = slice_set w.cables k c }

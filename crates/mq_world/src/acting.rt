@@ -3,13 +3,7 @@ ghost use Rattle.std.specs.Prelude.{◌≡◌, OnOk, option_copied};
 ghost use Rattle.mq_history.specs.declared.acts.Act.TheVariants as acts;
 ghost use Rattle.mq_history.specs.declared.calls.Actor.TheVariants as actors;
 ghost use Rattle.mq_history.specs.declared.calls.Call.TheVariants as calls;
-ghost use Rattle.mq_acts.specs.Advances.{last_entry};
-ghost use Rattle.mq_spec_network.specs.Steps.{is_cut};
-ghost use Rattle.mq_events.specs.States.{IsKept, IsServed};
-ghost use Rattle.mq_events.specs.Events.{MayAct};
-ghost use Rattle.mq_events.specs.Texts.{IsTextAct, IsTextCommand};
-ghost use Rattle.mq_nodes.specs.Told.{later};
-ghost use Rattle.mq_world.specs.Settling.{IsOf, NodeDoes, NodeSays, cut_or};
+ghost use Rattle.mq_world.specs.Words as words;
 
 use crate::settling::{ended, settle};
 use mq_acts::ask;
@@ -31,10 +25,10 @@ pub fn act_on<D: Disk>(
     actor: Actor,
     asked: Act,
 ) -> Result<(), Stop>
-    requires served { IsServed node.old }
-    requires may { MayAct node.old }
-    requires text { IsTextAct asked }
-    ensures { NodeDoes (IsOf actor (calls.Act asked)) manager result node.old node.new }
+    requires served { words.IsServed node.old }
+    requires may { words.MayAct node.old }
+    requires text { words.IsTextAct asked }
+    ensures { words.NodeDoes (words.IsOf actor (calls.Act asked)) manager result node.old node.new }
 {
     match ask(node, actor, Call::Act(asked)) {
         Err(NoMemory) => Err(Stop::NoMemory),
@@ -50,10 +44,10 @@ pub fn obey_on<D: Disk>(
     manager: u16,
     command: &Command,
 ) -> Result<(), Stop>
-    requires served { IsServed node.old }
-    requires may { MayAct node.old }
-    requires text { IsTextCommand command.now }
-    ensures { NodeDoes (IsOf actors.Operator (calls.Act (acts.Obey command.now))) manager result node.old node.new }
+    requires served { words.IsServed node.old }
+    requires may { words.MayAct node.old }
+    requires text { words.IsTextCommand command.now }
+    ensures { words.NodeDoes (words.IsOf actors.Operator (calls.Act (acts.Obey command.now))) manager result node.old node.new }
 {
     match copy_command(alloc, command) {
         Err(NoMemory) => Err(Stop::NoMemory),
@@ -63,7 +57,7 @@ pub fn obey_on<D: Disk>(
 
 /// Whether a restart was stopped by a cut, as its reply tells.
 fn is_cut(reply: &Reply) -> bool
-    ensures { result ≡ is_cut reply.now }
+    ensures { result ≡ words.is_cut reply.now }
 {
     match reply {
         Reply::Acted(Acted::Start(RestartFault::Cut)) => true,
@@ -73,13 +67,13 @@ fn is_cut(reply: &Reply) -> bool
 
 #[tactic(auto, using(mq_acts::proofs::LineLaws::last_is))]
 fn last(entries: &[Entry]) -> Option<&Entry>
-    ensures { option_copied result ≡ last_entry entries.now }
+    ensures { option_copied result ≡ words.last_entry entries.now }
 {
     entries.last()
 }
 
 fn last_cut(entries: &[Entry]) -> bool
-    ensures { result ≡ cut_or (last_entry entries.now) }
+    ensures { result ≡ words.cut_or (words.last_entry entries.now) }
 {
     match last(entries) {
         Some(entry) => is_cut(&entry.reply),
@@ -90,9 +84,9 @@ fn last_cut(entries: &[Entry]) -> bool
 /// The operator restarts a manager: whether an armed cut stopped that.
 #[tactic(auto, using(crate::proofs::NodeLaws::none_done, crate::proofs::NodeLaws::restarts_then))]
 pub fn restart_on<D: Disk>(node: &mut Node<D>, manager: u16) -> Result<bool, Stop>
-    requires served { IsServed node.old }
-    requires may { MayAct node.old }
-    ensures { NodeSays (IsOf actors.Operator (calls.Act acts.Restart)) (λ cut e. is_cut e.reply ≡ cut) manager result node.old node.new }
+    requires served { words.IsServed node.old }
+    requires may { words.MayAct node.old }
+    ensures { words.NodeSays (words.IsOf actors.Operator (calls.Act acts.Restart)) (λ cut e. words.is_cut e.reply ≡ cut) manager result node.old node.new }
 {
     match ask(node, Actor::Operator, Call::Act(Act::Restart)) {
         Err(NoMemory) => Err(Stop::NoMemory),
@@ -111,9 +105,9 @@ pub fn leave_on<D: Disk>(
     monitor: u16,
     connection: Hconn,
 ) -> Result<(), Stop>
-    requires served { IsServed node.old }
-    requires may { MayAct node.old }
-    ensures { NodeDoes (IsOf (actors.Monitor monitor) (calls.Mqdisc connection)) manager result node.old node.new }
+    requires served { words.IsServed node.old }
+    requires may { words.MayAct node.old }
+    ensures { words.NodeDoes (words.IsOf (actors.Monitor monitor) (calls.Mqdisc connection)) manager result node.old node.new }
 {
     let asked = Call::Mqdisc { hc: connection };
     match ask(node, Actor::Monitor(monitor), asked) {
@@ -125,11 +119,11 @@ pub fn leave_on<D: Disk>(
 /// The moment of a manager advances. No trigger becomes due by that.
 #[tactic(auto, using(crate::proofs::ClockLaws::clock_told, crate::proofs::ClockLaws::clock_moment, crate::proofs::NodeLaws::none_done))]
 pub fn clock_on<D: Disk>(node: &mut Node<D>, manager: u16, ms: u64) -> Result<(), Stop>
-    requires kept { IsKept node.old }
-    requires served { IsServed node.old }
-    requires may { MayAct node.old }
-    ensures told { NodeDoes (IsOf actors.Clock (calls.Act (acts.Clock ms))) manager result node.old node.new }
-    ensures moment { OnOk result (node.new.manager.plain.moment ≡ later node.old.manager.plain.moment ms) }
+    requires kept { words.IsKept node.old }
+    requires served { words.IsServed node.old }
+    requires may { words.MayAct node.old }
+    ensures told { words.NodeDoes (words.IsOf actors.Clock (calls.Act (acts.Clock ms))) manager result node.old node.new }
+    ensures moment { OnOk result (node.new.manager.plain.moment ≡ words.later node.old.manager.plain.moment ms) }
 {
     match node.advance_clock(Actor::Clock, ms) {
         Err(NoMemory) => Err(Stop::NoMemory),

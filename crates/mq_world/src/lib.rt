@@ -2,6 +2,9 @@
 #![tactic(auto)]
 
 mod acting;
+mod cabling;
+mod ends;
+mod idling;
 mod lines;
 mod marks;
 mod network;
@@ -9,6 +12,7 @@ mod parts;
 mod resting;
 mod settling;
 mod starting;
+mod timing;
 mod turning;
 mod turns;
 

@@ -1,9 +1,6 @@
 //! A script's next line at its node, with the trigger turns behind it.
 ghost use Rattle.std.specs.Prelude.{◌<◌, ◌^◌, IfSome, slice_get};
-ghost use Rattle.mq_events.specs.States.{IsServed};
-ghost use Rattle.mq_events.specs.Events.{MayAct};
-ghost use Rattle.mq_acts.specs.Advances.{IsTextLine, Keeps};
-ghost use Rattle.mq_world.specs.Lines.{LineOn};
+ghost use Rattle.mq_world.specs.Words as words;
 
 use crate::settling::settle;
 use mq_base::NoMemory;
@@ -22,12 +19,12 @@ pub fn advance_on<D: Disk>(
     part: &ScriptPart,
     progress: &mut Progress,
 ) -> Result<Advanced, Stop>
-    requires served { IsServed node.old }
-    requires may { MayAct node.old }
-    requires text { IfSome (slice_get part.now.lines progress.old.done) IsTextLine }
-    requires keeps { IfSome (slice_get part.now.lines progress.old.done) (Keeps progress.old.until) }
+    requires served { words.IsServed node.old }
+    requires may { words.MayAct node.old }
+    requires text { IfSome (slice_get part.now.lines progress.old.done) words.IsTextLine }
+    requires keeps { IfSome (slice_get part.now.lines progress.old.done) (words.Keeps progress.old.until) }
     requires more { progress.old.done < 2 ^ 32 }
-    ensures { LineOn script part.now manager progress.old node.old result progress.new node.new }
+    ensures { words.LineOn script part.now manager progress.old node.old result progress.new node.new }
 {
     match mq_acts::advance(node, script, part, progress) {
         Err(NoMemory) => Err(Stop::NoMemory),

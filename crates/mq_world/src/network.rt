@@ -1,9 +1,6 @@
 //! A network: real nodes, over which the steps of their scenario run.
 ghost use Rattle.std.specs.Prelude.{◌≡◌, MatchResult};
-ghost use Rattle.mq_events.specs.Texts.{IsTextCommand};
-ghost use Rattle.mq_nodes.specs.Texts.{AllFit};
-ghost use Rattle.mq_world.specs.Resting.{rest_of};
-ghost use Rattle.mq_world.specs.Starting.{IsFresh, Starts};
+ghost use Rattle.mq_world.specs.Words as words;
 
 use crate::parts::NetParts;
 use crate::resting::RestRoom;
@@ -17,7 +14,7 @@ use mq_world_begin::Rested;
 use std::alloc::Global;
 use std::marker::Model;
 
-/// The nodes of a scenario's managers, each with its history, and how far its scripts are.
+/// The nodes of a scenario's managers, each with its history, how far its scripts are, and what lies on its cables.
 #[derive(Drop)]
 pub struct Network<D: Disk> {
     parts: NetParts<D>,
@@ -26,13 +23,13 @@ pub struct Network<D: Disk> {
 
 impl<D: Disk> Model for Network<D> {
     ghost use Rattle.std.specs.Prelude.{◌≤◌, length};
-    ghost use Rattle.mq_world.specs.Worlds.{IsNetwork, NetState};
+    ghost use Rattle.mq_world.specs.Words as words;
 
-    ghost Value = { NetState };
+    ghost Value = { words.NetState };
 
     ghost view = { λ n. n.parts };
 
-    ghost invariant = { λ n. IsNetwork n.parts × (length n.parts.nodes ≤ n.room) };
+    ghost invariant = { λ n. words.IsNetwork n.parts × (length n.parts.nodes ≤ n.room) };
 }
 
 impl<D: Disk> Network<D> {
@@ -47,14 +44,16 @@ impl<D: Disk> Network<D> {
         rested: Rested<D>,
     ) -> Result<Network<D>, Rested<D>>
         requires same { rested.scenario ≡ scenario.now }
-        requires fresh { IsFresh rested }
-        requires texts { AllFit IsTextCommand scenario.now }
-        ensures { MatchResult result (λ n. Starts rested n) (λ back. back ≡ rested) }
+        requires fresh { words.IsFresh rested }
+        requires texts { words.AllFit words.IsTextCommand scenario.now }
+        ensures { MatchResult result (λ n. words.Starts rested n) (λ back. back ≡ rested) }
     {
         let StartRoom {
             nodes,
             rooms,
             scripts,
+            lines,
+            cables,
             handlers,
             monitors,
         } = match start_room(alloc, scenario, rested.managers.len()) {
@@ -87,6 +86,8 @@ impl<D: Disk> Network<D> {
                 scenario: whole,
                 nodes: Items::from_vec(nodes),
                 scripts,
+                lines,
+                cables,
                 handlers,
                 monitors,
             },
@@ -94,9 +95,9 @@ impl<D: Disk> Network<D> {
         })
     }
 
-    /// The nodes come to rest. It takes no memory.
+    /// The nodes come to rest; what lies on the cables is lost. It takes no memory.
     pub fn rest(self) -> Rested<D>
-        ensures { result ≡ rest_of self.scenario self.nodes }
+        ensures { result ≡ words.rest_of self.scenario self.nodes }
     {
         let Network { parts, room } = self;
         let NetParts {
@@ -104,6 +105,8 @@ impl<D: Disk> Network<D> {
             scenario,
             nodes,
             scripts: _,
+            lines: _,
+            cables: _,
             handlers: _,
             monitors: _,
         } = parts;
@@ -112,12 +115,11 @@ impl<D: Disk> Network<D> {
 }
 
 impl<D: Disk> Nodes for Network<D> {
-    ghost use Rattle.mq_events.specs.Texts.{IsTextCommand};
-    ghost use Rattle.mq_world.specs.Worlds.{course_in};
+    ghost use Rattle.mq_world.specs.Words as words;
 
-    ghost course = { course_in };
+    ghost course = { words.course_in };
 
-    ghost may_obey = { IsTextCommand };
+    ghost may_obey = { words.IsTextCommand };
 
     fn managers(&self) -> u16 {
         self.parts.managers()
@@ -139,30 +141,24 @@ impl<D: Disk> Nodes for Network<D> {
         self.parts.advance(script, part)
     }
 
-    // (there is no cable, as its parts say: none of the next three is asked)
     fn cables(&self) -> u16 {
-        let _ = &self.parts;
-        0
+        self.parts.cables()
     }
 
     fn sender_turn(&mut self, cable: u16) -> Result<bool, Stop> {
-        let _ = &self.parts;
-        Ok(false)
+        self.parts.sender_turn(cable)
     }
 
     fn receiver_turn(&mut self, cable: u16) -> Result<bool, Stop> {
-        let _ = &self.parts;
-        Ok(false)
+        self.parts.receiver_turn(cable)
     }
 
     fn timeout(&mut self, cable: u16) -> Result<bool, Stop> {
-        let _ = &self.parts;
-        Ok(false)
+        self.parts.timeout(cable)
     }
 
     fn is_idle(&self) -> bool {
-        let _ = &self.parts;
-        true
+        self.parts.is_idle()
     }
 
     fn handler_turn(&mut self, rules: u16) -> Result<bool, Stop> {

@@ -1,8 +1,6 @@
 //! A network comes to rest: its nodes are taken apart into managers, what is their own, and histories.
 ghost use Rattle.std.specs.Prelude.{◌≡◌, ◌≤◌, ◌<◌, ◌+◌, [], MatchResult, length, vec_len, vec_capacity};
-ghost use Rattle.mq_world_begin.specs.Rested.{IsRested};
-ghost use Rattle.mq_world.specs.Resting.{manager_in, own_in, rest_of};
-ghost use Rattle.mq_world.specs.Worlds.{history_in};
+ghost use Rattle.mq_world.specs.Words as words;
 
 use mq_base::Items;
 use mq_disk::Disk;
@@ -45,9 +43,9 @@ struct NodeRest<D: Disk> {
 
 /// A node is taken apart. It takes no memory.
 fn rest_node<D: Disk>(node: Node<D>) -> NodeRest<D>
-    ensures manager { result.manager ≡ manager_in node }
-    ensures own { result.own ≡ own_in node }
-    ensures history { result.history ≡ history_in node }
+    ensures manager { result.manager ≡ words.manager_in node }
+    ensures own { result.own ≡ words.own_in node }
+    ensures history { result.history ≡ words.history_in node }
 {
     let Node { parts } = node;
     let NodeParts {
@@ -116,8 +114,8 @@ impl<D: Disk> RestRoom<D> {
     /// The nodes rest. It takes no memory.
     pub fn fill(self, scenario: Snapshot<Scenario>, nodes: Items<Node<D>>) -> Rested<D>
         requires room { length nodes ≤ self }
-        requires rested { IsRested (rest_of scenario.value nodes) }
-        ensures { result ≡ rest_of scenario.value nodes }
+        requires rested { words.IsRested (words.rest_of scenario.value nodes) }
+        ensures { result ≡ words.rest_of scenario.value nodes }
     {
         let RestRoom {
             mut managers,

@@ -1,6 +1,6 @@
 //! An event of one node, with the trigger turns behind it.
 ghost use Rattle.std.specs.Prelude.{◌≡◌, IfOk};
-ghost use Rattle.mq_world.specs.Settling.{Settles, ended};
+ghost use Rattle.mq_world.specs.Words as words;
 
 use mq_acts::serve;
 use mq_base::NoMemory;
@@ -15,7 +15,7 @@ pub fn ended<T: Drop>(
     served: Result<(), NoMemory>,
     spent: bool,
 ) -> Result<T, Stop>
-    ensures { result ≡ ended manager value served spent }
+    ensures { result ≡ words.ended manager value served spent }
 {
     match served {
         Err(NoMemory) => Err(Stop::NoMemory),
@@ -35,7 +35,7 @@ pub fn ended<T: Drop>(
 ///
 /// No memory: a trigger stays due. Or the node has made its last event.
 pub fn settle<D: Disk, T: Drop>(node: &mut Node<D>, manager: u16, value: T) -> Result<T, Stop>
-    ensures told { Settles manager node.old result node.new }
+    ensures told { words.Settles manager node.old result node.new }
     ensures value { IfOk result (λ x. x ≡ value) }
 {
     let served = serve(node);

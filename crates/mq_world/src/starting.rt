@@ -1,18 +1,20 @@
 //! A network starts: each manager at rest becomes a node of which nothing has happened.
 ghost use Rattle.std.specs.Prelude.{◌≡◌, ◌-◌, ◌+◌, ◌<◌, ◌≤◌, ◌++◌, ◌∷◌, [], ℕ, All, IfOk, Some, length, map, slice_get, vec_len, vec_capacity};
 ghost use Rattle.mq_history.specs.declared.scenario.RulesPart as rules_parts;
-ghost use Rattle.mq_spec_node.specs.Words.{node_of, opening_node};
+ghost use Rattle.mq_world.specs.Words as words;
 ghost use Rattle.mq_events.specs.States as states;
-ghost use Rattle.mq_world_begin.specs.Rested.{IsRested};
-ghost use Rattle.mq_world.specs.Starting.{IsFresh, IsRoom, StartsAt, around, begun_script, begun_state};
 
+use crate::cabling::{Cabling, cabling_of};
+use mq_acts::begin;
 use mq_base::{Items, NoMemory};
 use mq_disk::Disk;
 use mq_events::{Node, NodeParts, Opening};
-use mq_history::{History, Mark, MonitorLine, RulesPart, Scenario};
+use mq_history::{CableLine, History, Mark, MonitorLine, RulesPart, Scenario};
 use mq_manager::Manager;
 use mq_own::Own;
 use mq_progress::Progress;
+use mq_ways::Cable;
+use mq_world_begin::rewind;
 use std::alloc::Global;
 use std::snapshot::Snapshot;
 
@@ -39,20 +41,21 @@ fn with_one<T: Drop>(mut list: Vec<T>, value: T) -> Vec<T>
     list
 }
 
-/// A node of which nothing has happened, of a manager that has just begun. It takes no memory.
+/// A node of which nothing has happened, of a manager that has just begun: its channels' ends begin with what is hardened. It takes
+/// no memory.
 fn begun_node<D: Disk>(
     alloc: Global,
     log_max: u32,
     manager: Manager<D>,
-    own: Own,
+    mut own: Own,
     history: History,
     marks: Vec<Mark>,
 ) -> Node<D>
     requires entries { history.entries ≡ [] }
     requires marks { history.marks ≡ [] }
     requires none { marks.items ≡ [] }
-    requires opens { node_of manager.plain own ≡ opening_node (around log_max own history) history }
-    ensures same { result ≡ begun_state log_max manager own history result.room result.marks result.few }
+    requires opens { words.node_of manager.plain (words.own_begun manager own) ≡ words.opening_node (words.around log_max (words.as_given own) history) history }
+    ensures same { result ≡ words.begun_state log_max manager (words.as_given own) (words.own_begun manager own) history result.room result.marks result.few }
     ensures room { result.marks ≡ vec_capacity marks - vec_len marks }
 {
     let History {
@@ -64,7 +67,9 @@ fn begun_node<D: Disk>(
         entries: _,
         marks: _,
     } = history;
+    rewind(&mut own);
     let first = Snapshot::of(&own);
+    begin(&mut own, &manager);
     let entries = Vec::new(alloc);
     Node::new(NodeParts {
         alloc,
@@ -89,7 +94,7 @@ fn begun_node<D: Disk>(
 /// The room of all marks, at each node.
 fn rooms_of(alloc: Global, count: usize, steps: usize) -> Result<Vec<Vec<Mark>>, NoMemory>
     ensures all { IfOk result (λ rooms. vec_len rooms ≡ count) }
-    ensures each { IfOk result (λ rooms. All (IsRoom steps) rooms.items) }
+    ensures each { IfOk result (λ rooms. All (words.IsRoom steps) rooms.items) }
 {
     let mut rooms = Vec::new(alloc);
     for at in 0..count {
@@ -106,7 +111,7 @@ fn rooms_of(alloc: Global, count: usize, steps: usize) -> Result<Vec<Vec<Mark>>,
 /// Scripts that have done nothing.
 fn scripts_of(alloc: Global, count: usize) -> Result<Items<Progress>, NoMemory>
     ensures all { IfOk result (λ scripts. length scripts ≡ count) }
-    ensures each { IfOk result (λ scripts. All (λ c. c ≡ begun_script) scripts) }
+    ensures each { IfOk result (λ scripts. All (λ c. c ≡ words.begun_script) scripts) }
 {
     let mut scripts = Items::new(alloc);
     for at in 0..count {
@@ -145,6 +150,8 @@ pub struct StartRoom<D: Disk> {
     pub nodes: Vec<Node<D>>,
     pub rooms: Vec<Vec<Mark>>,
     pub scripts: Items<Progress>,
+    pub lines: Items<CableLine>,
+    pub cables: Items<Cable>,
     pub handlers: Items<u16>,
     pub monitors: Items<MonitorLine>,
 }
@@ -156,8 +163,10 @@ pub fn start_room<D: Disk>(
     count: usize,
 ) -> Result<StartRoom<D>, NoMemory>
     ensures nodes { IfOk result (λ r. (r.nodes.items ≡ []) × (vec_len r.nodes + count ≤ vec_capacity r.nodes)) }
-    ensures rooms { IfOk result (λ r. (vec_len r.rooms ≡ count) × All (IsRoom (length scenario.now.steps)) r.rooms.items) }
-    ensures scripts { IfOk result (λ r. (length r.scripts ≡ length scenario.now.scripts) × All (λ c. c ≡ begun_script) r.scripts) }
+    ensures rooms { IfOk result (λ r. (vec_len r.rooms ≡ count) × All (words.IsRoom (length scenario.now.steps)) r.rooms.items) }
+    ensures scripts { IfOk result (λ r. (length r.scripts ≡ length scenario.now.scripts) × All (λ c. c ≡ words.begun_script) r.scripts) }
+    ensures lines { IfOk result (λ r. r.lines ≡ scenario.now.cables) }
+    ensures cables { IfOk result (λ r. words.AreNew scenario.now.cables r.cables) }
     ensures handlers { IfOk result (λ r. r.handlers ≡ map (λ (p : rules_parts.RulesPart). p.manager) scenario.now.rules) }
     ensures monitors { IfOk result (λ r. r.monitors ≡ scenario.now.monitors) }
 {
@@ -167,12 +176,15 @@ pub fn start_room<D: Disk>(
     };
     let rooms = rooms_of(alloc, count, scenario.steps.len())?;
     let scripts = scripts_of(alloc, scenario.scripts.len())?;
+    let Cabling { lines, cables } = cabling_of(alloc, scenario.cables.as_slice())?;
     let handlers = handlers_of(alloc, scenario.rules.as_slice())?;
     let monitors = monitors_of(alloc, scenario.monitors.as_slice())?;
     Ok(StartRoom {
         nodes,
         rooms,
         scripts,
+        lines,
+        cables,
         handlers,
         monitors,
     })
@@ -188,14 +200,14 @@ pub fn nodes_of<D: Disk>(
     mut rooms: Vec<Vec<Mark>>,
     mut nodes: Vec<Node<D>>,
 ) -> Vec<Node<D>>
-    requires rested { IsRested (record { scenario = scenario.now; managers = managers.items; owns = owns.items; histories = histories.items }) }
-    requires fresh { IsFresh (record { scenario = scenario.now; managers = managers.items; owns = owns.items; histories = histories.items }) }
-    requires rooms { All (IsRoom (length scenario.now.steps)) rooms.items }
+    requires rested { words.IsRested (record { scenario = scenario.now; managers = managers.items; owns = owns.items; histories = histories.items }) }
+    requires fresh { words.IsFresh (record { scenario = scenario.now; managers = managers.items; owns = owns.items; histories = histories.items }) }
+    requires rooms { All (words.IsRoom (length scenario.now.steps)) rooms.items }
     requires as_many { vec_len rooms ≡ vec_len managers }
     requires none { nodes.items ≡ [] }
     requires room { vec_len nodes + vec_len managers ≤ vec_capacity nodes }
     ensures all { length result.items ≡ length scenario.now.managers }
-    ensures each { (m : ℕ) (n : states.NodeState) → slice_get result.items m ≡ Some n → StartsAt scenario.now histories.items m n }
+    ensures each { (m : ℕ) (n : states.NodeState) → slice_get result.items m ≡ Some n → words.StartsAt scenario.now histories.items m n }
 {
     managers.reverse();
     owns.reverse();

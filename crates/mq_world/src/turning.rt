@@ -2,12 +2,7 @@
 ghost use Rattle.std.specs.Prelude.{◌≡◌, []};
 ghost use Rattle.mq_history.specs.declared.calls.Actor.TheVariants as actors;
 ghost use Rattle.mq_history.specs.declared.calls.Call.TheVariants as calls;
-ghost use Rattle.mq_spec_node.specs.Words.{is_opened, script_appl, shared};
-ghost use Rattle.mq_events.specs.States.{IsServed};
-ghost use Rattle.mq_events.specs.Events.{MayAct};
-ghost use Rattle.mq_watch.specs.Turns.{connection_of};
-ghost use Rattle.mq_world.specs.Settling.{IsOf, NodeSays};
-ghost use Rattle.mq_world.specs.Turning.{HandlerOn, MonitorOn};
+ghost use Rattle.mq_world.specs.Words as words;
 
 use crate::settling::settle;
 use mq_base::NoMemory;
@@ -22,9 +17,9 @@ use mq_watch::{connect, monitor_turn, open};
 /// The handler of a rules table takes a turn at its node, if it isn't idle: whether it did.
 #[tactic(auto, using(crate::proofs::NodeLaws::none_done, crate::proofs::HandlerLaws::idles, crate::proofs::HandlerLaws::tries_then))]
 pub fn handler_on<D: Disk>(node: &mut Node<D>, manager: u16, rules: u16) -> Result<bool, Stop>
-    requires served { IsServed node.old }
-    requires may { MayAct node.old }
-    ensures { HandlerOn rules manager node.old result node.new }
+    requires served { words.IsServed node.old }
+    requires may { words.MayAct node.old }
+    ensures { words.HandlerOn rules manager node.old result node.new }
 {
     match handler_turn(node, rules) {
         Err(NoMemory) => Err(Stop::NoMemory),
@@ -40,9 +35,9 @@ pub fn monitor_on<D: Disk>(
     manager: u16,
     monitor: u16,
 ) -> Result<Monitored, Stop>
-    requires served { IsServed node.old }
-    requires may { MayAct node.old }
-    ensures { MonitorOn monitor manager node.old result node.new }
+    requires served { words.IsServed node.old }
+    requires may { words.MayAct node.old }
+    ensures { words.MonitorOn monitor manager node.old result node.new }
 {
     match monitor_turn(node, monitor) {
         Err(NoMemory) => Err(Stop::NoMemory),
@@ -62,9 +57,9 @@ pub fn connect_on<D: Disk>(
     monitor: u16,
     line: &MonitorLine,
 ) -> Result<Option<Hconn>, Stop>
-    requires served { IsServed node.old }
-    requires may { MayAct node.old }
-    ensures { NodeSays (IsOf (actors.Monitor monitor) (calls.Mqconn [] (script_appl line.now.label))) (λ given e. given ≡ connection_of e.reply) manager result node.old node.new }
+    requires served { words.IsServed node.old }
+    requires may { words.MayAct node.old }
+    ensures { words.NodeSays (words.IsOf (actors.Monitor monitor) (calls.Mqconn [] (words.script_appl line.now.label))) (λ given e. given ≡ words.connection_of e.reply) manager result node.old node.new }
 {
     match connect(node, monitor, line) {
         Err(NoMemory) => Err(Stop::NoMemory),
@@ -81,9 +76,9 @@ pub fn open_on<D: Disk>(
     line: &MonitorLine,
     connection: Hconn,
 ) -> Result<bool, Stop>
-    requires served { IsServed node.old }
-    requires may { MayAct node.old }
-    ensures { NodeSays (IsOf (actors.Monitor monitor) (calls.Mqopen connection line.now.queue [] shared)) (λ opened e. opened ≡ is_opened e.reply) manager result node.old node.new }
+    requires served { words.IsServed node.old }
+    requires may { words.MayAct node.old }
+    ensures { words.NodeSays (words.IsOf (actors.Monitor monitor) (calls.Mqopen connection line.now.queue [] words.shared)) (λ opened e. opened ≡ words.is_opened e.reply) manager result node.old node.new }
 {
     match open(node, monitor, line, connection) {
         Err(NoMemory) => Err(Stop::NoMemory),

@@ -2,15 +2,7 @@
 ghost use Rattle.std.specs.Prelude.{◌≡◌, ◌<◌, ℕ, Some, [], length, slice_get};
 ghost use Rattle.mq_history.specs.declared.calls.Actor.TheVariants as actors;
 ghost use Rattle.mq_history.specs.declared.calls.Call.TheVariants as calls;
-ghost use Rattle.mq_spec_node.specs.Words.{is_opened, script_appl, shared};
-ghost use Rattle.mq_spec_network.specs.Lawful.{handles_idle};
-ghost use Rattle.mq_spec_network.specs.Steps.{Is, is_watching};
-ghost use Rattle.mq_spec_network.specs.Tasks.{watch_by};
-ghost use Rattle.mq_spec_network.specs.Turns.{node_at};
-ghost use Rattle.mq_watch.specs.Turns.{connection_of};
-ghost use Rattle.mq_nodes.specs.Course.{Ready};
-ghost use Rattle.mq_nodes.specs.Told.{Does, HandlerTold, Part, Says, TurnTold};
-ghost use Rattle.mq_world.specs.Worlds.{IsNetwork, course_in};
+ghost use Rattle.mq_world.specs.Words as words;
 
 use crate::acting::leave_on;
 use crate::parts::NetParts;
@@ -48,11 +40,11 @@ fn line_of(monitors: &Items<MonitorLine>, monitor: u16) -> MonitorLine
 impl<D: Disk> NetParts<D> {
     /// The handler of a rules table takes a turn, if it isn't idle: whether it did.
     pub fn handler_turn(&mut self, rules: u16) -> Result<bool, Stop>
-        requires kept { IsNetwork self.old }
-        requires ready { Ready (course_in self.old).net }
+        requires kept { words.IsNetwork self.old }
+        requires ready { words.Ready (words.course_in self.old).net }
         requires there { rules < length self.old.scenario.rules }
-        ensures kept { IsNetwork self.new }
-        ensures told { HandlerTold rules result (course_in self.old) (course_in self.new) }
+        ensures kept { words.IsNetwork self.new }
+        ensures told { words.HandlerTold rules result (words.course_in self.old) (words.course_in self.new) }
         ensures long { length self.new.nodes ≡ length self.old.nodes }
     {
         let manager = manager_of(&self.handlers, rules);
@@ -62,9 +54,9 @@ impl<D: Disk> NetParts<D> {
     /// Whether the handler's next turn would be idle.
     #[tactic(auto, using(crate::proofs::TurnLaws::handles_none, crate::proofs::TurnLaws::handles_some))]
     pub fn handler_idle(&self, rules: u16) -> bool
-        requires kept { IsNetwork self.now }
+        requires kept { words.IsNetwork self.now }
         requires there { rules < length self.now.scenario.rules }
-        ensures { result ≡ handles_idle rules (slice_get self.now.scenario.rules rules) (course_in self.now).net }
+        ensures { result ≡ words.handles_idle rules (slice_get self.now.scenario.rules rules) (words.course_in self.now).net }
     {
         let manager = manager_of(&self.handlers, rules);
         match self.nodes.get(usize::from(manager)) {
@@ -75,11 +67,11 @@ impl<D: Disk> NetParts<D> {
 
     /// A monitor takes a turn, if there is a message to get.
     pub fn monitor_turn(&mut self, monitor: u16) -> Result<Monitored, Stop>
-        requires kept { IsNetwork self.old }
-        requires ready { Ready (course_in self.old).net }
+        requires kept { words.IsNetwork self.old }
+        requires ready { words.Ready (words.course_in self.old).net }
         requires there { monitor < length self.old.scenario.monitors }
-        ensures kept { IsNetwork self.new }
-        ensures told { TurnTold monitor result (course_in self.old) (course_in self.new) }
+        ensures kept { words.IsNetwork self.new }
+        ensures told { words.TurnTold monitor result (words.course_in self.old) (words.course_in self.new) }
         ensures long { length self.new.nodes ≡ length self.old.nodes }
     {
         let line = line_of(&self.monitors, monitor);
@@ -93,8 +85,8 @@ impl<D: Disk> NetParts<D> {
     /// Whether a monitor is connected at this manager.
     #[tactic(auto, using(crate::proofs::TurnLaws::watches_none, crate::proofs::TurnLaws::watches_some))]
     fn watches(&self, monitor: u16, manager: u16) -> bool
-        requires kept { IsNetwork self.now }
-        ensures { result ≡ is_watching monitor (node_at (course_in self.now).net manager) }
+        requires kept { words.IsNetwork self.now }
+        ensures { result ≡ words.is_watching monitor (words.node_at (words.course_in self.now).net manager) }
     {
         match self.nodes.get(usize::from(manager)) {
             None => false,
@@ -104,11 +96,11 @@ impl<D: Disk> NetParts<D> {
 
     /// A monitor connects: the connection that it was given, if any.
     fn connect(&mut self, monitor: u16, line: &MonitorLine) -> Result<Option<Hconn>, Stop>
-        requires kept { IsNetwork self.old }
-        requires ready { Ready (course_in self.old).net }
+        requires kept { words.IsNetwork self.old }
+        requires ready { words.Ready (words.course_in self.old).net }
         requires there { line.now.manager < length self.old.scenario.managers }
-        ensures kept { IsNetwork self.new }
-        ensures told { Says (Is line.now.manager (actors.Monitor monitor) (calls.Mqconn [] (script_appl line.now.label))) (λ given e. given ≡ connection_of e.reply) result (course_in self.old) (course_in self.new) }
+        ensures kept { words.IsNetwork self.new }
+        ensures told { words.Says (words.Is line.now.manager (actors.Monitor monitor) (calls.Mqconn [] (words.script_appl line.now.label))) (λ given e. given ≡ words.connection_of e.reply) result (words.course_in self.old) (words.course_in self.new) }
         ensures same { self.new.scenario ≡ self.old.scenario }
         ensures long { length self.new.nodes ≡ length self.old.nodes }
     {
@@ -122,11 +114,11 @@ impl<D: Disk> NetParts<D> {
 
     /// A monitor opens its queue: whether it is open.
     fn open(&mut self, monitor: u16, line: &MonitorLine, connection: Hconn) -> Result<bool, Stop>
-        requires kept { IsNetwork self.old }
-        requires ready { Ready (course_in self.old).net }
+        requires kept { words.IsNetwork self.old }
+        requires ready { words.Ready (words.course_in self.old).net }
         requires there { line.now.manager < length self.old.scenario.managers }
-        ensures kept { IsNetwork self.new }
-        ensures told { Says (Is line.now.manager (actors.Monitor monitor) (calls.Mqopen connection line.now.queue [] shared)) (λ opened e. opened ≡ is_opened e.reply) result (course_in self.old) (course_in self.new) }
+        ensures kept { words.IsNetwork self.new }
+        ensures told { words.Says (words.Is line.now.manager (actors.Monitor monitor) (calls.Mqopen connection line.now.queue [] words.shared)) (λ opened e. opened ≡ words.is_opened e.reply) result (words.course_in self.old) (words.course_in self.new) }
         ensures same { self.new.scenario ≡ self.old.scenario }
         ensures long { length self.new.nodes ≡ length self.old.nodes }
     {
@@ -141,11 +133,11 @@ impl<D: Disk> NetParts<D> {
 
     /// A monitor disconnects.
     fn leave(&mut self, monitor: u16, manager: u16, connection: Hconn) -> Result<(), Stop>
-        requires kept { IsNetwork self.old }
-        requires ready { Ready (course_in self.old).net }
+        requires kept { words.IsNetwork self.old }
+        requires ready { words.Ready (words.course_in self.old).net }
         requires there { manager < length self.old.scenario.managers }
-        ensures kept { IsNetwork self.new }
-        ensures told { Does (Is manager (actors.Monitor monitor) (calls.Mqdisc connection)) result (course_in self.old) (course_in self.new) }
+        ensures kept { words.IsNetwork self.new }
+        ensures told { words.Does (words.Is manager (actors.Monitor monitor) (calls.Mqdisc connection)) result (words.course_in self.old) (words.course_in self.new) }
         ensures long { length self.new.nodes ≡ length self.old.nodes }
     {
         leave_on(
@@ -158,11 +150,11 @@ impl<D: Disk> NetParts<D> {
 
     /// A monitor that isn't connected connects and opens its queue; where that fails, it disconnects.
     pub fn watch(&mut self, monitor: u16) -> Result<(), Stop>
-        requires kept { IsNetwork self.old }
-        requires ready { Ready (course_in self.old).net }
+        requires kept { words.IsNetwork self.old }
+        requires ready { words.Ready (words.course_in self.old).net }
         requires there { monitor < length self.old.scenario.monitors }
-        ensures kept { IsNetwork self.new }
-        ensures told { Part (watch_by monitor (slice_get self.old.scenario.monitors monitor)) result (course_in self.old) (course_in self.new) }
+        ensures kept { words.IsNetwork self.new }
+        ensures told { words.Part (words.watch_by monitor (slice_get self.old.scenario.monitors monitor)) result (words.course_in self.old) (words.course_in self.new) }
         ensures long { length self.new.nodes ≡ length self.old.nodes }
     {
         let line = line_of(&self.monitors, monitor);

@@ -47,3 +47,14 @@ long_more xs ys x i many more = ap length more ∙ one_more xs x ∙ ap (λ (n :
     one_more : {A : Type 0} (zs : List A) (z : A) → length (zs ++ z ∷ []) ≡ length zs + 1
     one_more [] z = refl
     one_more (w ∷ zs) z = let h = one_more zs z in omega (arith, h)
+
+-- lists of one length have something at the same places
+pub both_there : {A B : Type 0} (xs : List A) (ys : List B) (m : ℕ) (x : A) → length xs ≡ length ys → slice_get xs m ≡ Some x → slice_get ys m ≡ None → ⊥
+both_there [] ys zero x long e none = absurd cc
+both_there [] ys (suc m) x long e none = absurd cc
+both_there (a ∷ xs) [] m x long e none = omega (arith, long)
+both_there (a ∷ xs) (b ∷ ys) zero x long e none = absurd cc
+both_there (a ∷ xs) (b ∷ ys) (suc m) x long e none = both_there xs ys m x (down (length xs) (length ys) long) e none
+  where
+    down : (i j : ℕ) → suc i ≡ suc j → i ≡ j
+    down i j k = omega (arith, k)

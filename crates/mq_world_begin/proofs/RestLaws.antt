@@ -1,20 +1,24 @@
 -- Managers that have begun are at rest: each history leads to its manager.
-use Rattle.std.proofs.Common.{◌≡◌, ℕ, zero, suc, ◌+◌, ◌≤◌, Bool, true, false, List, [], ◌∷◌, length, take, refl, sym, ap, subst, ◌∙◌, arith, append-nil}
-use Rattle.std.specs.Prelude.{◌==◌, if◌then◌else◌, map, Option, None, Some, slice_get}
+use Rattle.std.proofs.Common.{◌≡◌, ℕ, zero, suc, ◌+◌, ◌≤◌, Bool, List, [], ◌∷◌, length, take, refl, sym, ap, subst, ◌∙◌, arith, append-nil}
+use Rattle.std.specs.Prelude.{map, Option, None, Some, slice_get}
+use Rattle.mq_cable.specs.declared.fault.Fault.{Fault}
 use Rattle.mq_history.specs.Scenarios.{IsScenario}
+use Rattle.mq_history.specs.declared.calls.Actor.{Actor}
 use Rattle.mq_history.specs.declared.history.History.{History}
 use Rattle.mq_history.specs.declared.scenario.CableLine.{CableLine}
 use Rattle.mq_history.specs.declared.scenario.ManagerLine.{ManagerLine}
-use Rattle.mq_history.specs.declared.scenario.RulesPart.{RulesPart}
 use Rattle.mq_history.specs.declared.scenario.Scenario.{Scenario}
 use Rattle.mq_calls.specs.declared.image.Image.{Image}
 use Rattle.mq_calls.specs.Recovery.{AreKnown, IsImage}
 use Rattle.mq_calls.specs.State.{Given, Plain}
 use Rattle.mq_spec_manager.specs.Stops.{first_start}
 use Rattle.mq_spec_node.specs.Terms.{Entry}
-use Rattle.mq_spec_node.specs.Words.{Follows, Handler, Own, TriggersStand, after, begun_anew, node_of, opening_node}
-use Rattle.mq_spec_network.specs.Given.{ends_from, handlers_from, log_max_or, name_or, own_at, surroundings}
+use Rattle.mq_spec_node.specs.Words.{Follows, Own, TriggersStand, after, begun_anew, by, is_receiver, is_sender, node_of, opening_node}
+use Rattle.mq_spec_network.specs.Cables.{Carries, made}
+use Rattle.mq_spec_network.specs.Given.{log_max_or, name_or, own_at, surroundings}
 use Rattle.mq_spec_network.specs.Given.{given_at as given_of}
+use Rattle.mq_spec_network.specs.Lawful.{IsCarried}
+use Rattle.mq_spec_network.specs.Story.{entries_at, entries_or}
 use Rattle.mq_log.specs.State.{log_length}
 use Rattle.mq_core.specs.Values.{CoreValue}
 use Rattle.mq_opening.specs.Opened.{JustBegun}
@@ -22,9 +26,8 @@ use Rattle.mq_begin.specs.declared.faults.NetFault.{NetFault}
 use Rattle.mq_begin.specs.declared.faults.NetFault.TheVariants as faults
 use Rattle.mq_begin.specs.Begun.{AllBegan, BeginsOn, Held, NotBegan, RefusesAt, given_at}
 use Rattle.mq_begin.proofs.BeganLaws.{as_many}
-use Rattle.mq_owned.specs.Owned.{HasNoCables}
 use Rattle.mq_world_begin.specs.Rested.{IsRested, IsRestedAt, OpensWith}
-use Rattle.mq_world_begin.proofs.PlaceLaws.{past_none}
+use Rattle.mq_world_begin.proofs.PlaceLaws.{both_there, past_none}
 
 -- The manager at a place began so.
 pub record BeganAt (tells : Type 0) (held : Held) (moment place : ℕ) (ls : List ManagerLine) (m : ℕ) (v : CoreValue) : Type 0 where
@@ -77,28 +80,32 @@ not_begun tells held moment ls vs old new counts fault h is counted le =
     want (faults.BadLog k gate) e = absurd cc
     want faults.NoMemory e = tt
 
--- What is a node's own is as it begins: no dead letter was tried, and no end is there.
-handlers_untried : (m n : ℕ) (rs : List RulesPart) → map (λ (h : Handler). record h { tried = [] }) (handlers_from m n rs) ≡ handlers_from m n rs
-handlers_untried m n [] = refl
-handlers_untried m n (r ∷ rs) = by_manager (r.manager == m) (handlers_untried m (suc n) rs)
-  where
-    by_manager : (b : Bool) → map (λ (h : Handler). record h { tried = [] }) (handlers_from m (suc n) rs) ≡ handlers_from m (suc n) rs
-        → map (λ (h : Handler). record h { tried = [] }) (if b then record { number = n; table = r.table; tried = [] } ∷ handlers_from m (suc n) rs else handlers_from m (suc n) rs) ≡ (if b then record { number = n; table = r.table; tried = [] } ∷ handlers_from m (suc n) rs else handlers_from m (suc n) rs)
-    by_manager true e = ap (λ (hs : List Handler). record { number = n; table = r.table; tried = [] } ∷ hs) e
-    by_manager false e = e
+-- Nothing lies on a cable, and nothing was popped.
+carries_none : (fs : List Fault) (pushes pops : Actor → Bool) → Carries fs (by pushes []) pops []
+carries_none fs pushes pops = record { taken = []; left = made fs []; whole = refl; takes = refl; within = tt }
 
-own_begun : (s : Scenario) (m : ℕ) (p : Plain) → HasNoCables s → begun_anew p (own_at s m) ≡ node_of p (own_at s m)
-own_begun s m p none =
-    ap (λ (cs : List CableLine). begun_anew p (record (own_at s m) { ends = ends_from s m 0 cs })) none
-    ∙ ap (λ (hs : List Handler). node_of p (record (own_at s m) { ends = []; handlers = hs })) (handlers_untried m 0 s.rules)
-    ∙ sym (ap (λ (cs : List CableLine). node_of p (record (own_at s m) { ends = ends_from s m 0 cs })) none)
+carries_nothing : (fs : List Fault) (pushes pops : Actor → Bool) (es os : List Entry) → es ≡ [] → os ≡ [] → Carries fs (by pushes es) pops os
+carries_nothing fs pushes pops es os e o = subst (λ (xs : List Entry). Carries fs (by pushes xs) pops os) (sym e) (subst (λ (xs : List Entry). Carries fs (by pushes []) pops xs) (sym o) (carries_none fs pushes pops))
+
+carried_none : (hs : List History) (n : ℕ) (c : CableLine) → ((m : ℕ) → entries_at hs m ≡ []) → IsCarried n c hs
+carried_none hs n c none = record {
+  out = carries_nothing c.out (is_sender n) (is_receiver n) (entries_at hs c.sender) (entries_at hs c.receiver) (none c.sender) (none c.receiver);
+  back = carries_nothing c.back (is_receiver n) (is_sender n) (entries_at hs c.receiver) (entries_at hs c.sender) (none c.receiver) (none c.sender);
+}
+
+none_done : (hs : List History) (m : ℕ) → ((k : ℕ) (h : History) → slice_get hs k ≡ Some h → h.entries ≡ []) → entries_at hs m ≡ []
+none_done hs m each = by_place (slice_get hs m) refl
+  where
+    by_place : (o : Option History) → slice_get hs m ≡ o → entries_at hs m ≡ []
+    by_place None e = ap entries_or e
+    by_place (Some h) e = ap entries_or e ∙ each m h e
 
 -- Each is at rest.
 given_there : (s : Scenario) (m : ℕ) (l : ManagerLine) → slice_get s.managers m ≡ Some l → given_at m l ≡ given_of s m
 given_there s m l is = sym (ap (λ (o : Option ManagerLine). record { number = m + 1; name = name_or o; log_max = log_max_or o }) is)
 
-pub rested_at : (tells : Type 0) (held : Held) (moment : ℕ) (s : Scenario) (m : ℕ) (v : CoreValue) (own : Own) (h : History) → HasNoCables s → BeganAt tells held moment m s.managers m v → OpensWith tells v h → own ≡ own_at s m → IsRestedAt s m v own h
-rested_at tells held moment s m v own h apart b o is =
+pub rested_at : (tells : Type 0) (held : Held) (moment : ℕ) (s : Scenario) (m : ℕ) (v : CoreValue) (own : Own) (h : History) → BeganAt tells held moment m s.managers m v → OpensWith tells v h → own ≡ (begun_anew v.plain (own_at s m)).own → IsRestedAt s m v own h
+rested_at tells held moment s m v own h b o is =
     let j : JustBegun tells v = just_begun tells held moment m s.managers m v b in
     let given : given_at m b.line ≡ given_of s m = given_there s m b.line b.is in
     let plain : v.plain ≡ first_start (given_of s m) h.opening h.length h.moment =
@@ -118,25 +125,24 @@ rested_at tells held moment s m v own h apart b o is =
       triggers = subst (λ (es : List Entry). TriggersStand None (opening_node (surroundings s m) h) es) (sym o.entries) tt;
       node =
           ap (λ (x : Own). node_of v.plain x) is
-          ∙ ap (λ (p : Plain). node_of p (own_at s m)) plain
-          ∙ sym (own_begun s m (first_start (given_of s m) h.opening h.length h.moment) apart)
+          ∙ ap (λ (p : Plain). begun_anew p (own_at s m)) plain
           ∙ sym (ap (after (opening_node (surroundings s m) h)) o.entries);
     }
 
 -- and all of them
-pub all_rested : (tells : Type 0) (held : Held) (moment : ℕ) (s : Scenario) (vs : List CoreValue) (owns : List Own) (hs : List History) → IsScenario s → HasNoCables s → AllBegan tells held moment 0 s.managers vs → length owns ≡ length vs → length hs ≡ length vs
-    → ((m : ℕ) (v : CoreValue) (h : History) → slice_get vs m ≡ Some v → slice_get hs m ≡ Some h → OpensWith tells v h) → ((m : ℕ) (own : Own) → slice_get owns m ≡ Some own → own ≡ own_at s m)
+pub all_rested : (tells : Type 0) (held : Held) (moment : ℕ) (s : Scenario) (vs : List CoreValue) (owns : List Own) (hs : List History) → IsScenario s → AllBegan tells held moment 0 s.managers vs → length owns ≡ length vs → length hs ≡ length vs
+    → ((m : ℕ) (v : CoreValue) (h : History) → slice_get vs m ≡ Some v → slice_get hs m ≡ Some h → OpensWith tells v h) → ((m : ℕ) (v : CoreValue) (own : Own) → slice_get vs m ≡ Some v → slice_get owns m ≡ Some own → own ≡ (begun_anew v.plain (own_at s m)).own)
     → IsRested (record { scenario = s; managers = vs; owns = owns; histories = hs })
-all_rested tells held moment s vs owns hs scenario apart h many long opened owned =
+all_rested tells held moment s vs owns hs scenario h many long opened owned =
     let all : length vs ≡ length s.managers = as_many tells held moment 0 s.managers vs h in
     record {
-      apart = apart;
       scenario = scenario;
       managers = all;
       owns = many ∙ all;
       histories = long ∙ all;
       each = λ m v own k at_v at_own at_h.
-          rested_at tells held moment s m v own k apart (place m v (began_at tells held moment 0 s.managers vs m v h at_v)) (opened m v k at_v at_h) (owned m own at_own);
+          rested_at tells held moment s m v own k (place m v (began_at tells held moment 0 s.managers vs m v h at_v)) (opened m v k at_v at_h) (owned m v own at_v at_own);
+      carried = λ n c there. carried_none hs n c (λ m. none_done hs m (λ k g at_g. undone k g at_g));
     }
   where
     place : (m : ℕ) (v : CoreValue) → BeganAt tells held moment (0 + m) s.managers m v → BeganAt tells held moment m s.managers m v
@@ -144,3 +150,10 @@ all_rested tells held moment s vs owns hs scenario apart h many long opened owne
       where
         zero_more : (n : ℕ) → 0 + n ≡ n
         zero_more n = omega arith
+
+    undone : (k : ℕ) (g : History) → slice_get hs k ≡ Some g → g.entries ≡ []
+    undone k g at_g = by_manager (slice_get vs k) refl
+      where
+        by_manager : (o : Option CoreValue) → slice_get vs k ≡ o → g.entries ≡ []
+        by_manager None e = absurd (both_there hs vs k g long at_g e)
+        by_manager (Some v) e = (opened k v g e at_g).entries

@@ -4,7 +4,6 @@ ghost use Rattle.mq_begin.specs.declared.faults.NetFault.TheVariants as faults;
 ghost use Rattle.mq_history.specs.Scenarios.{IsScenario};
 ghost use Rattle.mq_disk.specs.declared.shelf.Side.TheVariants as sides;
 ghost use Rattle.mq_begin.specs.Begun.{NotBegan, moment_or};
-ghost use Rattle.mq_owned.specs.Owned.{HasNoCables};
 ghost use Rattle.mq_world_begin.specs.Rested.{Began};
 
 use crate::opened::{histories_of, owns_of};
@@ -29,7 +28,8 @@ fn no_memory<D: Disk>(begun: Begun<D>) -> NoNet<D>
     }
 }
 
-/// The managers of a scenario begin over a shelf, in its order, each from the log on its own disk. None has done anything.
+/// The managers of a scenario begin over a shelf, in its order, each from the log on its own disk, with the ends of its channels. None has
+/// done anything.
 ///
 /// # Errors
 ///
@@ -42,7 +42,6 @@ pub fn begin<H: Shelf>(
     start: u64,
 ) -> Result<Rested<H::D>, NoNet<H::D>>
     requires scenario { IsScenario scenario.now }
-    requires apart { HasNoCables scenario.now }
     ensures { MatchResult result (λ rested. Began H.D.tells (λ n b. H.holds shelf.old n sides.A b) scenario.now (moment_or scenario.now.moment start) rested) (λ e. NotBegan H.D.tells (λ n b. H.holds shelf.old n sides.A b) (moment_or scenario.now.moment start) scenario.now.managers (H.faults shelf.old) (H.faults shelf.new) (map H.D.faults e.disks.items) e.fault) }
 {
     let begun = match begin_managers(alloc, scenario, shelf, start) {
@@ -53,7 +52,7 @@ pub fn begin<H: Shelf>(
         Ok(histories) => histories,
         Err(_) => return Err(no_memory(begun)),
     };
-    let owns = match owns_of(alloc, scenario, begun.managers.len() as u16) {
+    let owns = match owns_of(alloc, scenario, begun.managers.as_slice()) {
         Ok(owns) => owns,
         Err(_) => return Err(no_memory(begun)),
     };

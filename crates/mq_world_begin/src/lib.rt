@@ -4,6 +4,8 @@
 mod beginning;
 mod opened;
 mod rested;
+mod rewinding;
 
 pub use beginning::begin;
 pub use rested::Rested;
+pub use rewinding::rewind;

@@ -1,11 +1,11 @@
 //! With what the histories of managers open that have just begun, and what is their own.
 ghost use Rattle.std.specs.Prelude.{◌≡◌, ◌≤◌, ◌<◌, ◌+◌, ◌++◌, ◌∷◌, [], ℕ, IfOk, Some, length, slice_get, vec_len, vec_capacity};
 ghost use Rattle.mq_core.specs.Values.{CoreValue};
+ghost use Rattle.mq_history.specs.Scenarios.{IsScenario};
 ghost use Rattle.mq_history.specs.declared.history.History as histories;
-ghost use Rattle.mq_spec_node.specs.Node as nodes;
+ghost use Rattle.mq_spec_node.specs.Words as nodes;
 ghost use Rattle.mq_spec_network.specs.Given.{own_at};
 ghost use Rattle.mq_opening.specs.Opened.{JustBegun};
-ghost use Rattle.mq_owned.specs.Owned.{HasNoCables};
 ghost use Rattle.mq_world_begin.specs.Rested.{OpensWith};
 
 use mq_base::{Items, NoMemory, QName};
@@ -103,21 +103,36 @@ pub fn histories_of<D: Disk>(
     Ok(histories)
 }
 
-/// What is each manager's own.
-pub fn owns_of(alloc: Global, scenario: &Scenario, count: u16) -> Result<Vec<Own>, NoMemory>
-    requires rules { length scenario.now.rules ≤ 64 }
-    requires scripts { length scenario.now.scripts ≤ 64 }
-    requires monitors { length scenario.now.monitors ≤ 64 }
-    requires apart { HasNoCables scenario.now }
-    ensures all { IfOk result (λ owns. length owns.items ≡ count) }
-    ensures each { IfOk result (λ owns. (m : ℕ) (own : nodes.Own) → slice_get owns.items m ≡ Some own → own ≡ own_at scenario.now m) }
+/// What is a manager's own, as it begins.
+fn own_begun<D: Disk>(
+    alloc: Global,
+    scenario: &Scenario,
+    number: u16,
+    manager: &Manager<D>,
+) -> Result<Own, NoMemory>
+    requires scenario { IsScenario scenario.now }
+    ensures { IfOk result (λ own. own ≡ (nodes.begun_anew manager.now.plain (own_at scenario.now number)).own) }
 {
-    let mut owns = match Vec::with_capacity(alloc, usize::from(count)) {
+    own_of(alloc, scenario, number, &manager.core)
+}
+
+/// What is each manager's own, as it begins.
+pub fn owns_of<D: Disk>(
+    alloc: Global,
+    scenario: &Scenario,
+    managers: &[Manager<D>],
+) -> Result<Vec<Own>, NoMemory>
+    requires scenario { IsScenario scenario.now }
+    requires few { length managers.now ≤ 8 }
+    ensures all { IfOk result (λ owns. length owns.items ≡ length managers.now) }
+    ensures each { IfOk result (λ owns. (m : ℕ) (v : CoreValue) (own : nodes.Own) → slice_get managers.now m ≡ Some v → slice_get owns.items m ≡ Some own → own ≡ (nodes.begun_anew v.plain (own_at scenario.now m)).own) }
+{
+    let mut owns = match Vec::with_capacity(alloc, managers.len()) {
         Ok(owns) => owns,
         Err(_) => return Err(NoMemory),
     };
-    for manager in 0..count {
-        let own = own_of(alloc, scenario, manager)?;
+    for manager in managers {
+        let own = own_begun(alloc, scenario, owns.len() as u16, manager)?;
         owns = with_one(owns, own);
     }
     Ok(owns)

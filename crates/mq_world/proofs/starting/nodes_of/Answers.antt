@@ -59,7 +59,7 @@ begun_node-node-requires-clause-opens g c =
     sym (ap (λ (xs : List ManagerLine). slice_get xs c.loop-line.line-index) c.as_slice-line-items.ensures) ∙ slice_get_read _ _ _ _ refl c.loop-line-test.true c.line-item.is in
     opens_so c.args.scenario.now c.loop-line.line-index c.line-item.result c.taken-manager.result c.taken-own.result c.taken-history.result line
     (c.requires.rested.each c.loop-line.line-index c.taken-manager.result c.taken-own.result c.taken-history.result v.0 o.0 h.0)
-    (c.requires.fresh.owned c.loop-line.line-index c.taken-own.result o.0) (c.requires.fresh.undone c.loop-line.line-index c.taken-history.result h.0)
+    (c.requires.fresh.undone c.loop-line.line-index c.taken-history.result h.0)
 
 pub with_one-nodes-requires : goal.with_one-nodes-requires
 with_one-nodes-requires g c = record { room = omega (arith, c.loop-line.invariant.room, c.taken-manager.ensures.len) }
@@ -76,7 +76,7 @@ loop-line-preserved g c =
     subst (λ (n : NodeState). StartsAt c.args.scenario.now c.args.histories.items c.loop-line.line-index n) (sym c.begun_node-node.ensures.same)
     (starts_at c.args.scenario.now c.loop-line.line-index c.line-item.result c.taken-manager.result c.taken-own.result c.taken-history.result c.begun_node-node.result.room c.begun_node-node.result.marks c.begun_node-node.result.few c.args.histories.items h.0 line
     (c.requires.rested.each c.loop-line.line-index c.taken-manager.result c.taken-own.result c.taken-history.result v.0 o.0 h.0)
-    (c.requires.fresh.owned c.loop-line.line-index c.taken-own.result o.0) (c.requires.fresh.undone c.loop-line.line-index c.taken-history.result h.0) (c.requires.fresh.unmarked c.loop-line.line-index c.taken-history.result h.0)
+    (c.requires.fresh.undone c.loop-line.line-index c.taken-history.result h.0) (c.requires.fresh.unmarked c.loop-line.line-index c.taken-history.result h.0)
     (omega (arith, front.1.1, c.begun_node-node.ensures.room))) in
     record {
       managers = v.1;

@@ -1,9 +1,0 @@
-use Rattle.std.specs.Prelude.{Ok, false}
-use Rattle.std.proofs.Common.{subst}
-use Rattle.mq_spec_network.specs.Tasks.Slot.{TimesOut}
-use Rattle.mq_world.specs.Worlds.{IsNetwork}
-use Rattle.mq_world.proofs.CableLaws.{turn_none}
-use Rattle.mq_world.proofs.network.NetworkNodes.timeout.Goals as goal
-
-pub returns : goal.returns
-returns g c = turn_none c.args.self.now TimesOut c.args.cable (Ok false) (subst IsNetwork c.self.view_is c.self.invariant.0)

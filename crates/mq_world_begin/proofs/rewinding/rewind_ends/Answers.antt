@@ -1,0 +1,28 @@
+use Rattle.std.proofs.Common.{◌≡◌, ◌<◌, ◌++◌, List, length, take, drop, ap, ◌∙◌, arith}
+use Rattle.std.specs.Prelude.{map}
+use Rattle.mq_spec_node.specs.Node.{ChannelEnd}
+use Rattle.mq_own.proofs.MapLaws.{mapped_next, mapped_all, mapped_long}
+use Rattle.mq_world_begin.specs.Rested.{end_given}
+use Rattle.mq_world_begin.proofs.rewinding.rewind_ends.Goals as goal
+
+pub at_mut-requires : goal.at_mut-requires
+at_mut-requires c =
+    let long = ap (λ (xs : List ChannelEnd). length xs) c.loop-at.invariant ∙ mapped_long end_given c.args.ends.now c.loop-at.at in
+    let lt = c.loop-at-test.true in
+    let len = c.len-at-end.ensures in
+    omega (arith, long, lt, len)
+
+pub loop-at-preserved : goal.loop-at-preserved
+loop-at-preserved c =
+    let lt = c.loop-at-test.true in
+    let len = c.len-at-end.ensures in
+    let within : c.loop-at.at < length c.args.ends.now = omega (arith, lt, len) in
+    mapped_next end_given c.args.ends.now c.loop-at.ends c.loop-at.at c.at_mut.result.now c.rewind_end.new.end c.loop-at.invariant within c.at_mut.ensures.value c.rewind_end.ensures
+
+pub returns : goal.returns
+returns c =
+    let past = c.loop-at-test.false in
+    let within = c.loop-at.auto.at-end in
+    let len = c.len-at-end.ensures in
+    let end : c.loop-at.at ≡ length c.args.ends.now = omega (arith, past, within, len) in
+    c.loop-at.invariant ∙ ap (λ n. map end_given (take n c.args.ends.now) ++ drop n c.args.ends.now) end ∙ mapped_all end_given c.args.ends.now
