@@ -2,7 +2,6 @@
 //! itself.
 #![tactic(auto)]
 
-mod cables;
 mod commands;
 mod finding;
 mod hint;
@@ -11,6 +10,5 @@ mod spot;
 mod telling;
 mod usage;
 
-pub use cables::{cable_line, unbuilt_text};
 pub use hint::Hint;
 pub use telling::fault_text;

@@ -2,7 +2,7 @@
 
 ghost use Rattle.std.specs.Prelude.{◌≡◌, IfOk};
 ghost use Rattle.mq_scn_text.specs.Reading.{line_read};
-ghost use Rattle.mq_hints.specs.Cables.{read_on};
+ghost use Rattle.mq_hints.specs.Places.{read_on};
 
 use mq_scn_text::{Reading, ScenarioFault, line_read};
 use std::alloc::{AllocError, Global};

@@ -207,7 +207,6 @@ fn cause_hint(alloc: Global, text: &[u8], spot: &Spot, cause: Cause) -> Result<H
         Cause::Mqsc(fault) => mqsc_at(alloc, text, spot, fault),
         Cause::Rules(fault) => Ok(rules_hint(fault)),
         Cause::Ending => Ok(ending_hint(spot)),
-        Cause::NotBuilt => Ok(Hint::Line("it doesn't run yet")),
     }
 }
 

@@ -40,9 +40,6 @@ pub enum Cause {
     /// The bytes end before ENDSTEPS.
     #[error("Ending")]
     Ending,
-    /// What it asks for isn't built.
-    #[error("NotBuilt")]
-    NotBuilt,
 }
 
 /// Why a text is read as no scenario: the first line that can't stand in one, counted from 1.

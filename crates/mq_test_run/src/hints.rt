@@ -1,6 +1,6 @@
 //! mq_hints: a typo in each kind of line tells where it is and what may stand there.
 
-use mq_hints::{cable_line, fault_text, unbuilt_text};
+use mq_hints::fault_text;
 use mq_scn_text::read_scenario;
 use std::alloc::{AllocError, Global};
 use std::test::*;
@@ -251,18 +251,5 @@ fn a_typo_tells_its_line_its_word_and_what_may_stand_there(rt: HostRuntime) -> R
         let told = told(rt.alloc(), text.as_str())?;
         assert!(rt; told.starts_with(expected), "{told} is not {expected}");
     }
-    Ok(())
-}
-
-#[test]
-fn a_first_cable_is_told_by_its_line(rt: HostRuntime) -> Result<(), Fail> {
-    assert_eq!(rt; cable_line(rt.alloc(), TEXT.as_bytes())?, 4);
-    let none = with_line(rt.alloc(), "CABLE LON.PAR LONDON PARIS OUT DROP(2)", "")?;
-    assert_eq!(rt; cable_line(rt.alloc(), none.as_bytes())?, 0);
-    let told = unbuilt_text(rt.alloc(), TEXT.as_bytes(), 4)?;
-    assert_eq!(rt;
-        told.as_str(),
-        "line 4: NotBuilt: a cable doesn't run yet\nCABLE LON.PAR LONDON PARIS OUT DROP(2)\n"
-    );
     Ok(())
 }

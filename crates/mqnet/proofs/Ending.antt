@@ -4,7 +4,6 @@ use Rattle.std.proofs.lemmas.List.Elements.{All-weaker}
 use Rattle.std.specs.Prelude.{All, IfSome, Option, None, Some, Ok}
 use Rattle.mq_base.specs.Outside.{Rose, IsLonger}
 use Rattle.mq_history.specs.Scenarios.{IsScenario}
-use Rattle.mq_history.specs.declared.scenario.CableLine.{CableLine}
 use Rattle.mq_history.specs.declared.scenario.Scenario.{Scenario}
 use Rattle.mq_history.specs.declared.scenario.ScriptPart.{ScriptPart}
 use Rattle.mq_history.specs.declared.scenario.Section.{Section}
@@ -20,7 +19,6 @@ use Rattle.mq_law_scenario.proofs.Kept.{text_kept}
 use Rattle.mq_nodes.specs.Texts.{AllFit, LineFits, StepFits}
 use Rattle.mq_sc_parse.specs.declared.command.Command.{Command}
 use Rattle.mq_sc_parse.specs.declared.command.Command.TheVariants as commands
-use Rattle.mq_hints.specs.Cables.{cable_line}
 use Rattle.mq_scn_text.specs.Reading.{scenario_of}
 use Rattle.mq_run.specs.declared.status.BadCause.{BadCause}
 use Rattle.mq_run.specs.declared.status.Status.{Status}
@@ -32,9 +30,9 @@ use Rattle.mqnet.specs.declared.top.Task.{Task}
 use Rattle.mqnet.specs.declared.top.Task.TheVariants as tasks
 use Rattle.mqnet.specs.declared.top.Work.{Work}
 use Rattle.mqnet.specs.declared.top.Work.TheVariants as works
-use Rattle.mqnet.specs.Wanted.{built_status, task_of, text_status, wanted, word_task}
-use Rattle.mqnet.specs.Work.{FitsWork, IsWork, RefusesWork, WorkEnds}
-use Rattle.mqnet.specs.Headline.{Checked, Comes, Completes, Ends, IsEarly, IsOfRun, IsRead, Nothing, RanScenario, ReadNoScenario, ReadUnbuilt, RefusesBytes, WasRead, Writes, check_text}
+use Rattle.mqnet.specs.Wanted.{task_of, text_status, wanted, word_task}
+use Rattle.mqnet.specs.Work.{FitsWork, IsWork, RefusesText, WorkEnds}
+use Rattle.mqnet.specs.Headline.{Checked, Comes, ComesOf, Completes, Ends, IsEarly, IsOfRun, IsRead, Nothing, RanScenario, ReadNoScenario, RefusesBytes, WasRead, Writes, check_text}
 
 pub one_word : {A : Type 0} (f : A → List ℕ) (ws : List A) (w : A) → 1 ≤ length ws → length ws < 2 → w ≡ get_or ws 0 w → word_task (f w) ≡ task_of (map f ws)
 one_word f [] w le lt e = absurd (omega arith)
@@ -86,8 +84,8 @@ all_obey s h = record {
 }
 
 -- all commands of a scenario that is read
-pub fits : (bytes : List ℕ) (s : Scenario) → scenario_of bytes ≡ Ok s → s.cables ≡ [] → FitsWork (works.Run s)
-fits bytes s e none = (text_kept bytes s (text_found bytes s e), none, all_obey s (texts_written bytes s e))
+pub fits : (bytes : List ℕ) (s : Scenario) → scenario_of bytes ≡ Ok s → FitsWork (works.Run s)
+fits bytes s e = (text_kept bytes s (text_found bytes s e), all_obey s (texts_written bytes s e))
 
 -- ---- work that is done
 
@@ -107,49 +105,46 @@ checked left old new s (status.Conflict found) r h = absurd h
 checked left old new s (status.BadLog bad) r h = absurd h
 checked left old new s (status.Apart found) r h = absurd h
 checked left old new s (status.Spent m) r h = absurd h
-checked left old new s (status.NotBuilt line) r h = absurd h
 
 pub done_ends : (left : Option (List ℕ)) (bytes : List ℕ) (tells : Type 0) (held : List ℕ → List ℕ → Type 0) (start before now : ℕ) (old new : Option (List ℕ)) (task : Task) (w : Work) (st : Status) (net : Option Left) (counts : List ℕ)
     → WasRead left bytes → IsWork task bytes w → WorkEnds w tells held start before now old new st net counts → Ends (Some task) left tells held start before now old new st net counts
-done_ends left bytes tells held start before now old new tasks.Run (works.Run s) st net counts read is h = inr (record { scenario = s; read = read_by left bytes s read is.0; alone = is.1; ended = h })
+done_ends left bytes tells held start before now old new tasks.Run (works.Run s) st net counts read is h = inr (record { scenario = s; read = read_by left bytes s read is; ended = h })
 done_ends left bytes tells held start before now old new tasks.Run works.Check st net counts read is h = absurd is
 done_ends left bytes tells held start before now old new tasks.Check (works.Run s) st net counts read is h = absurd is
 done_ends left bytes tells held start before now old new tasks.Check works.Check st net counts read is h = inr (h.0, h.1, checked left old new is.0 st (read_by left bytes is.0 read is.1) h.2)
 
 -- ---- nothing is done
 
-early_bytes : (left : Option (List ℕ)) (b n : ℕ) (task : Task) (st : Status) → RefusesBytes left b n st → IsEarly task st
-early_bytes left b n task status.ReadFault h = tt
-early_bytes left b n task status.TooLong h = tt
-early_bytes left b n task status.NoMemory h = tt
-early_bytes left b n task status.Ok h = absurd h
-early_bytes left b n task status.BadWords h = absurd h
-early_bytes left b n task (status.BadScenario line cause) h = absurd h
-early_bytes left b n task (status.WriteFault m) h = absurd h
-early_bytes left b n task status.DiskFault h = absurd h
-early_bytes left b n task (status.Conflict found) h = absurd h
-early_bytes left b n task (status.BadLog bad) h = absurd h
-early_bytes left b n task (status.Apart found) h = absurd h
-early_bytes left b n task (status.Spent m) h = absurd h
-early_bytes left b n task (status.NotBuilt line) h = absurd h
+early_bytes : (left : Option (List ℕ)) (b n : ℕ) (st : Status) → RefusesBytes left b n st → IsEarly st
+early_bytes left b n status.ReadFault h = tt
+early_bytes left b n status.TooLong h = tt
+early_bytes left b n status.NoMemory h = tt
+early_bytes left b n status.Ok h = absurd h
+early_bytes left b n status.BadWords h = absurd h
+early_bytes left b n (status.BadScenario line cause) h = absurd h
+early_bytes left b n (status.WriteFault m) h = absurd h
+early_bytes left b n status.DiskFault h = absurd h
+early_bytes left b n (status.Conflict found) h = absurd h
+early_bytes left b n (status.BadLog bad) h = absurd h
+early_bytes left b n (status.Apart found) h = absurd h
+early_bytes left b n (status.Spent m) h = absurd h
 
-early_work : (bytes : List ℕ) (task : Task) (st : Status) → RefusesWork task bytes st → IsEarly task st
-early_work bytes task (status.BadScenario line cause) h = tt
-early_work bytes task (status.NotBuilt line) h = h.0
-early_work bytes task status.NoMemory h = tt
-early_work bytes task status.ReadFault h = absurd h
-early_work bytes task status.TooLong h = absurd h
-early_work bytes task status.Ok h = absurd h
-early_work bytes task status.BadWords h = absurd h
-early_work bytes task (status.WriteFault m) h = absurd h
-early_work bytes task status.DiskFault h = absurd h
-early_work bytes task (status.Conflict found) h = absurd h
-early_work bytes task (status.BadLog bad) h = absurd h
-early_work bytes task (status.Apart found) h = absurd h
-early_work bytes task (status.Spent m) h = absurd h
+early_text : (bytes : List ℕ) (st : Status) → RefusesText bytes st → IsEarly st
+early_text bytes (status.BadScenario line cause) h = tt
+early_text bytes status.NoMemory h = tt
+early_text bytes status.ReadFault h = absurd h
+early_text bytes status.TooLong h = absurd h
+early_text bytes status.Ok h = absurd h
+early_text bytes status.BadWords h = absurd h
+early_text bytes (status.WriteFault m) h = absurd h
+early_text bytes status.DiskFault h = absurd h
+early_text bytes (status.Conflict found) h = absurd h
+early_text bytes (status.BadLog bad) h = absurd h
+early_text bytes (status.Apart found) h = absurd h
+early_text bytes (status.Spent m) h = absurd h
 
 pub early_ends : (left : Option (List ℕ)) (tells : Type 0) (held : List ℕ → List ℕ → Type 0) (start before now : ℕ) (old new : Option (List ℕ)) (task : Task) (st : Status) (net : Option Left) (counts : List ℕ)
-    → IsEarly task st → Nothing old new net counts → Ends (Some task) left tells held start before now old new st net counts
+    → IsEarly st → Nothing old new net counts → Ends (Some task) left tells held start before now old new st net counts
 early_ends left tells held start before now old new tasks.Run st net counts early nothing = inl (early, nothing)
 early_ends left tells held start before now old new tasks.Check st net counts early nothing = inl (early, nothing)
 
@@ -159,12 +154,12 @@ none_of : (P : Left → Type 0) (net : Option Left) → net ≡ None → IfSome 
 none_of P net e = subst (λ (x : Option Left). IfSome x P) (sym e) tt
 
 ran_of : (P : Left → Type 0) (left : Option (List ℕ)) (tells : Type 0) (held : List ℕ → List ℕ → Type 0) (start before now : ℕ) (old new : Option (List ℕ)) (st : Status) (net : Option Left) (counts : List ℕ)
-    → ((l : Left) → (s : Scenario) → IsRead left s → s.cables ≡ [] → RunLeaves tells held start s counts l → P l) → RanScenario left tells held start before now old new st net counts → IfSome net P
+    → ((l : Left) → (s : Scenario) → IsRead left s → RunLeaves tells held start s counts l → P l) → RanScenario left tells held start before now old new st net counts → IfSome net P
 ran_of P left tells held start before now old new st None counts f r = tt
-ran_of P left tells held start before now old new st (Some l) counts f r = f l r.scenario r.read r.alone r.ended.0
+ran_of P left tells held start before now old new st (Some l) counts f r = f l r.scenario r.read r.ended.0
 
 promised_of : (P : Left → Type 0) (asked : Option Task) (left : Option (List ℕ)) (tells : Type 0) (held : List ℕ → List ℕ → Type 0) (start before now : ℕ) (old new : Option (List ℕ)) (st : Status) (net : Option Left) (counts : List ℕ)
-    → ((l : Left) → (s : Scenario) → IsRead left s → s.cables ≡ [] → RunLeaves tells held start s counts l → P l) → Ends asked left tells held start before now old new st net counts → IfSome net P
+    → ((l : Left) → (s : Scenario) → IsRead left s → RunLeaves tells held start s counts l → P l) → Ends asked left tells held start before now old new st net counts → IfSome net P
 promised_of P None left tells held start before now old new st net counts f e = none_of P net e.1.network
 promised_of P (Some tasks.Run) left tells held start before now old new st net counts f (inl e) = none_of P net e.1.network
 promised_of P (Some tasks.Run) left tells held start before now old new st net counts f (inr r) = ran_of P left tells held start before now old new st net counts f r
@@ -178,40 +173,43 @@ is_scenario left s r = text_kept r.bytes s (text_found r.bytes s r.text)
 pub rows_of : (asked : Option Task) (left : Option (List ℕ)) (tells : Type 0) (held : List ℕ → List ℕ → Type 0) (start before now : ℕ) (old new : Option (List ℕ)) (st : Status) (net : Option Left) (counts : List ℕ)
     → Ends asked left tells held start before now old new st net counts → IfSome net RowsAreLedgers
 rows_of asked left tells held start before now old new st net counts e = promised_of RowsAreLedgers asked left tells held start before now old new st net counts
-    (λ l s r none h. promising.rows tells held start s counts l (is_scenario left s r) none h) e
+    (λ l s r h. promising.rows tells held start s counts l (is_scenario left s r) h) e
 
 pub once_of : (asked : Option Task) (left : Option (List ℕ)) (tells : Type 0) (held : List ℕ → List ℕ → Type 0) (start before now : ℕ) (old new : Option (List ℕ)) (st : Status) (net : Option Left) (counts : List ℕ)
     → Ends asked left tells held start before now old new st net counts → IfSome net StandOnce
 once_of asked left tells held start before now old new st net counts e = promised_of StandOnce asked left tells held start before now old new st net counts
-    (λ l s r none h. promising.once tells held start s counts l (is_scenario left s r) none h) e
+    (λ l s r h. promising.once tells held start s counts l (is_scenario left s r) h) e
 
 pub got_once_of : (asked : Option Task) (left : Option (List ℕ)) (tells : Type 0) (held : List ℕ → List ℕ → Type 0) (start before now : ℕ) (old new : Option (List ℕ)) (st : Status) (net : Option Left) (counts : List ℕ)
     → Ends asked left tells held start before now old new st net counts → IfSome net GotOnce
 got_once_of asked left tells held start before now old new st net counts e = promised_of GotOnce asked left tells held start before now old new st net counts
-    (λ l s r none h. promising.got_once tells held start s counts l (is_scenario left s r) none h) e
+    (λ l s r h. promising.got_once tells held start s counts l (is_scenario left s r) h) e
 
 pub order_of : (asked : Option Task) (left : Option (List ℕ)) (tells : Type 0) (held : List ℕ → List ℕ → Type 0) (start before now : ℕ) (old new : Option (List ℕ)) (st : Status) (net : Option Left) (counts : List ℕ)
     → Ends asked left tells held start before now old new st net counts → IfSome net OrderKept
 order_of asked left tells held start before now old new st net counts e = promised_of OrderKept asked left tells held start before now old new st net counts
-    (λ l s r none h. promising.order tells held start s counts l (is_scenario left s r) none h) e
+    (λ l s r h. promising.order tells held start s counts l (is_scenario left s r) h) e
 
 -- ---- completeness
 
--- want of memory may come instead of each; one that is told is
-comes_memory : (x : Status) → Comes x status.NoMemory
-comes_memory status.Ok = tt
-comes_memory status.BadWords = inr refl
-comes_memory (status.BadScenario line cause) = inr refl
-comes_memory status.ReadFault = inr refl
-comes_memory (status.WriteFault n) = inr refl
-comes_memory status.DiskFault = inr refl
-comes_memory status.NoMemory = inr refl
-comes_memory status.TooLong = inr refl
-comes_memory (status.Conflict found) = inr refl
-comes_memory (status.BadLog bad) = inr refl
-comes_memory (status.Apart found) = inr refl
-comes_memory (status.Spent m) = inr refl
-comes_memory (status.NotBuilt line) = inr refl
+-- want of memory may come instead of each
+memory_of : (task : Task) → ComesOf task status.NoMemory
+memory_of tasks.Run = tt
+memory_of tasks.Check = inr refl
+
+comes_memory : (task : Task) (x : Status) → Comes task x status.NoMemory
+comes_memory task status.Ok = memory_of task
+comes_memory task status.BadWords = inr refl
+comes_memory task (status.BadScenario line cause) = inr refl
+comes_memory task status.ReadFault = inr refl
+comes_memory task (status.WriteFault n) = inr refl
+comes_memory task status.DiskFault = inr refl
+comes_memory task status.NoMemory = inr refl
+comes_memory task status.TooLong = inr refl
+comes_memory task (status.Conflict found) = inr refl
+comes_memory task (status.BadLog bad) = inr refl
+comes_memory task (status.Apart found) = inr refl
+comes_memory task (status.Spent m) = inr refl
 
 -- a run ends by no status of the bytes
 of_left : (old new : Option (List ℕ)) (st : Status) (l : Left) → LeftEnds old new st l → ((n : ℕ) → st ≡ status.WriteFault n → ⊥) → IsOfRun st
@@ -227,7 +225,6 @@ of_left old new (status.Conflict found) l h nw = tt
 of_left old new (status.BadLog bad) l h nw = tt
 of_left old new (status.Apart found) l h nw = tt
 of_left old new (status.Spent m) l h nw = tt
-of_left old new (status.NotBuilt line) l h nw = h
 
 of_none : (tells : Type 0) (held : List ℕ → List ℕ → Type 0) (start : ℕ) (s : Scenario) (before now : ℕ) (counts : List ℕ) (st : Status) → NoneEnds tells held start s before now counts st → IsOfRun st
 of_none tells held start s before now counts status.Ok h = absurd h
@@ -242,7 +239,6 @@ of_none tells held start s before now counts (status.Conflict found) h = absurd 
 of_none tells held start s before now counts (status.BadLog bad) h = tt
 of_none tells held start s before now counts (status.Apart found) h = absurd h
 of_none tells held start s before now counts (status.Spent m) h = absurd h
-of_none tells held start s before now counts (status.NotBuilt line) h = absurd h
 
 of_run : (tells : Type 0) (held : List ℕ → List ℕ → Type 0) (start : ℕ) (s : Scenario) (before now : ℕ) (old new : Option (List ℕ)) (st : Status) (net : Option Left) (counts : List ℕ) → RunEnds tells held start s before now old new st net counts
     → ((n : ℕ) → st ≡ status.WriteFault n → ⊥) → IsOfRun st
@@ -253,44 +249,30 @@ of_run tells held start s before now old new st (Some l) counts h nw = of_left o
 same_bytes : (bytes : List ℕ) (s : Scenario) → IsRead (Some bytes) s → scenario_of bytes ≡ Ok s
 same_bytes bytes s r = ap scenario_of r.read.0 ∙ r.text
 
-run_wanted : (bytes : List ℕ) (s : Scenario) → IsRead (Some bytes) s → s.cables ≡ [] → wanted tasks.Run bytes ≡ status.Ok
-run_wanted bytes s r none = ap (text_status tasks.Run bytes) (same_bytes bytes s r) ∙ ap (built_status bytes) none
+good_wanted : (bytes : List ℕ) (s : Scenario) → IsRead (Some bytes) s → wanted bytes ≡ status.Ok
+good_wanted bytes s r = ap text_status (same_bytes bytes s r)
 
-check_wanted : (bytes : List ℕ) (s : Scenario) → IsRead (Some bytes) s → wanted tasks.Check bytes ≡ status.Ok
-check_wanted bytes s r = ap (text_status tasks.Check bytes) (same_bytes bytes s r)
-
-fault_wanted : (task : Task) (bytes : List ℕ) (line : ℕ) (cause : BadCause) → ReadNoScenario (Some bytes) line cause → wanted task bytes ≡ status.BadScenario line cause
-fault_wanted task bytes line cause h = ap (text_status task bytes) (ap scenario_of h.read.0 ∙ h.text) ∙ h.told
-
-has_cable : (bytes : List ℕ) (cs : List CableLine) → cs ≢ [] → built_status bytes cs ≡ status.NotBuilt (cable_line bytes)
-has_cable bytes [] h = absurd (h refl)
-has_cable bytes (c ∷ cs) h = refl
-
-unbuilt_wanted : (bytes : List ℕ) (line : ℕ) → ReadUnbuilt (Some bytes) line → wanted tasks.Run bytes ≡ status.NotBuilt line
-unbuilt_wanted bytes line h =
-    ap (text_status tasks.Run bytes) (ap scenario_of h.read.0 ∙ h.text) ∙ has_cable bytes h.scenario.cables h.cables
-    ∙ ap (λ (n : ℕ). status.NotBuilt n) (sym (h.place ∙ ap cable_line (sym h.read.0)))
+fault_wanted : (bytes : List ℕ) (line : ℕ) (cause : BadCause) → ReadNoScenario (Some bytes) line cause → wanted bytes ≡ status.BadScenario line cause
+fault_wanted bytes line cause h = ap text_status (ap scenario_of h.read.0 ∙ h.text) ∙ h.told
 
 -- what was found out early is what the bytes ask for
-early_comes : (task : Task) (bytes : List ℕ) (r0 r1 : ℕ) (st : Status) → IsEarly task st → ((line : ℕ) (cause : BadCause) → st ≡ status.BadScenario line cause → ReadNoScenario (Some bytes) line cause)
-    → ((line : ℕ) → st ≡ status.NotBuilt line → ReadUnbuilt (Some bytes) line) → (st ≡ status.ReadFault → Rose r0 r1) → (st ≡ status.TooLong → IsLonger (Some bytes) 1048576) → length bytes ≤ 1048576 → ¬ Rose r0 r1 → Comes (wanted task bytes) st
-early_comes task bytes r0 r1 (status.BadScenario line cause) h bs nb rf tl few nr = subst (λ (x : Status). Comes x (status.BadScenario line cause)) (sym (fault_wanted task bytes line cause (bs line cause refl))) (inl refl)
-early_comes task bytes r0 r1 (status.NotBuilt line) h bs nb rf tl few nr =
-    subst (λ (t : Task). Comes (wanted t bytes) (status.NotBuilt line)) (sym h) (subst (λ (x : Status). Comes x (status.NotBuilt line)) (sym (unbuilt_wanted bytes line (nb line refl))) (inl refl))
-early_comes task bytes r0 r1 status.ReadFault h bs nb rf tl few nr = absurd (nr (rf refl))
-early_comes task bytes r0 r1 status.TooLong h bs nb rf tl few nr = let longer : IsLonger (Some bytes) 1048576 = tl refl in absurd (omega (arith, longer, few))
-early_comes task bytes r0 r1 status.NoMemory h bs nb rf tl few nr = comes_memory (wanted task bytes)
-early_comes task bytes r0 r1 status.Ok h bs nb rf tl few nr = absurd h
-early_comes task bytes r0 r1 status.BadWords h bs nb rf tl few nr = absurd h
-early_comes task bytes r0 r1 (status.WriteFault n) h bs nb rf tl few nr = absurd h
-early_comes task bytes r0 r1 status.DiskFault h bs nb rf tl few nr = absurd h
-early_comes task bytes r0 r1 (status.Conflict found) h bs nb rf tl few nr = absurd h
-early_comes task bytes r0 r1 (status.BadLog bad) h bs nb rf tl few nr = absurd h
-early_comes task bytes r0 r1 (status.Apart found) h bs nb rf tl few nr = absurd h
-early_comes task bytes r0 r1 (status.Spent m) h bs nb rf tl few nr = absurd h
+early_comes : (task : Task) (bytes : List ℕ) (r0 r1 : ℕ) (st : Status) → IsEarly st → ((line : ℕ) (cause : BadCause) → st ≡ status.BadScenario line cause → ReadNoScenario (Some bytes) line cause)
+    → (st ≡ status.ReadFault → Rose r0 r1) → (st ≡ status.TooLong → IsLonger (Some bytes) 1048576) → length bytes ≤ 1048576 → ¬ Rose r0 r1 → Comes task (wanted bytes) st
+early_comes task bytes r0 r1 (status.BadScenario line cause) h bs rf tl few nr = subst (λ (x : Status). Comes task x (status.BadScenario line cause)) (sym (fault_wanted bytes line cause (bs line cause refl))) (inl refl)
+early_comes task bytes r0 r1 status.ReadFault h bs rf tl few nr = absurd (nr (rf refl))
+early_comes task bytes r0 r1 status.TooLong h bs rf tl few nr = let longer : IsLonger (Some bytes) 1048576 = tl refl in absurd (omega (arith, longer, few))
+early_comes task bytes r0 r1 status.NoMemory h bs rf tl few nr = comes_memory task (wanted bytes)
+early_comes task bytes r0 r1 status.Ok h bs rf tl few nr = absurd h
+early_comes task bytes r0 r1 status.BadWords h bs rf tl few nr = absurd h
+early_comes task bytes r0 r1 (status.WriteFault n) h bs rf tl few nr = absurd h
+early_comes task bytes r0 r1 status.DiskFault h bs rf tl few nr = absurd h
+early_comes task bytes r0 r1 (status.Conflict found) h bs rf tl few nr = absurd h
+early_comes task bytes r0 r1 (status.BadLog bad) h bs rf tl few nr = absurd h
+early_comes task bytes r0 r1 (status.Apart found) h bs rf tl few nr = absurd h
+early_comes task bytes r0 r1 (status.Spent m) h bs rf tl few nr = absurd h
 
-checked_comes : (bytes : List ℕ) (old new : Option (List ℕ)) (st : Status) → Checked (Some bytes) old new st → ((n : ℕ) → st ≡ status.WriteFault n → ⊥) → Comes (wanted tasks.Check bytes) st
-checked_comes bytes old new status.Ok h nw = subst (λ (x : Status). Comes x status.Ok) (sym (check_wanted bytes h.0 h.1)) tt
+checked_comes : (bytes : List ℕ) (old new : Option (List ℕ)) (st : Status) → Checked (Some bytes) old new st → ((n : ℕ) → st ≡ status.WriteFault n → ⊥) → Comes tasks.Check (wanted bytes) st
+checked_comes bytes old new status.Ok h nw = subst (λ (x : Status). Comes tasks.Check x status.Ok) (sym (good_wanted bytes h.0 h.1)) (inl refl)
 checked_comes bytes old new (status.WriteFault n) h nw = absurd (nw n refl)
 checked_comes bytes old new status.BadWords h nw = absurd h
 checked_comes bytes old new (status.BadScenario line cause) h nw = absurd h
@@ -302,27 +284,25 @@ checked_comes bytes old new (status.Conflict found) h nw = absurd h
 checked_comes bytes old new (status.BadLog bad) h nw = absurd h
 checked_comes bytes old new (status.Apart found) h nw = absurd h
 checked_comes bytes old new (status.Spent m) h nw = absurd h
-checked_comes bytes old new (status.NotBuilt line) h nw = absurd h
 
 task_comes : (task : Task) (bytes : List ℕ) (tells : Type 0) (held : List ℕ → List ℕ → Type 0) (start before now : ℕ) (old new : Option (List ℕ)) (st : Status) (net : Option Left) (counts : List ℕ) (r0 r1 w0 w1 : ℕ)
     → Ends (Some task) (Some bytes) tells held start before now old new st net counts → ((line : ℕ) (cause : BadCause) → st ≡ status.BadScenario line cause → ReadNoScenario (Some bytes) line cause)
-    → ((line : ℕ) → st ≡ status.NotBuilt line → ReadUnbuilt (Some bytes) line) → (st ≡ status.ReadFault → Rose r0 r1) → ((n : ℕ) → st ≡ status.WriteFault n → Rose w0 w1) → (st ≡ status.TooLong → IsLonger (Some bytes) 1048576)
-    → length bytes ≤ 1048576 → ¬ Rose r0 r1 → ¬ Rose w0 w1 → Comes (wanted task bytes) st
-task_comes tasks.Run bytes tells held start before now old new st net counts r0 r1 w0 w1 (inl e) bs nb rf wf tl few nr nw = early_comes tasks.Run bytes r0 r1 st e.0 bs nb rf tl few nr
-task_comes tasks.Run bytes tells held start before now old new st net counts r0 r1 w0 w1 (inr r) bs nb rf wf tl few nr nw =
-    subst (λ (x : Status). Comes x st) (sym (run_wanted bytes r.scenario r.read r.alone)) (of_run tells held start r.scenario before now old new st net counts r.ended (λ n e. nw (wf n e)))
-task_comes tasks.Check bytes tells held start before now old new st net counts r0 r1 w0 w1 (inl e) bs nb rf wf tl few nr nw = early_comes tasks.Check bytes r0 r1 st e.0 bs nb rf tl few nr
-task_comes tasks.Check bytes tells held start before now old new st net counts r0 r1 w0 w1 (inr e) bs nb rf wf tl few nr nw = checked_comes bytes old new st e.2 (λ n e. nw (wf n e))
+    → (st ≡ status.ReadFault → Rose r0 r1) → ((n : ℕ) → st ≡ status.WriteFault n → Rose w0 w1) → (st ≡ status.TooLong → IsLonger (Some bytes) 1048576)
+    → length bytes ≤ 1048576 → ¬ Rose r0 r1 → ¬ Rose w0 w1 → Comes task (wanted bytes) st
+task_comes tasks.Run bytes tells held start before now old new st net counts r0 r1 w0 w1 (inl e) bs rf wf tl few nr nw = early_comes tasks.Run bytes r0 r1 st e.0 bs rf tl few nr
+task_comes tasks.Run bytes tells held start before now old new st net counts r0 r1 w0 w1 (inr r) bs rf wf tl few nr nw =
+    subst (λ (x : Status). Comes tasks.Run x st) (sym (good_wanted bytes r.scenario r.read)) (of_run tells held start r.scenario before now old new st net counts r.ended (λ n e. nw (wf n e)))
+task_comes tasks.Check bytes tells held start before now old new st net counts r0 r1 w0 w1 (inl e) bs rf wf tl few nr nw = early_comes tasks.Check bytes r0 r1 st e.0 bs rf tl few nr
+task_comes tasks.Check bytes tells held start before now old new st net counts r0 r1 w0 w1 (inr e) bs rf wf tl few nr nw = checked_comes bytes old new st e.2 (λ n e. nw (wf n e))
 
 pub completes : (asked : Option Task) (left : Option (List ℕ)) (tells : Type 0) (held : List ℕ → List ℕ → Type 0) (start before now : ℕ) (old new : Option (List ℕ)) (st : Status) (net : Option Left) (counts : List ℕ) (r0 r1 w0 w1 : ℕ)
     → Ends asked left tells held start before now old new st net counts → ((line : ℕ) (cause : BadCause) → st ≡ status.BadScenario line cause → ReadNoScenario left line cause)
-    → ((line : ℕ) → st ≡ status.NotBuilt line → ReadUnbuilt left line) → (st ≡ status.ReadFault → Rose r0 r1) → ((n : ℕ) → st ≡ status.WriteFault n → Rose w0 w1) → (st ≡ status.TooLong → IsLonger left 1048576)
+    → (st ≡ status.ReadFault → Rose r0 r1) → ((n : ℕ) → st ≡ status.WriteFault n → Rose w0 w1) → (st ≡ status.TooLong → IsLonger left 1048576)
     → Completes asked left r0 r1 w0 w1 st
-completes asked left tells held start before now old new st net counts r0 r1 w0 w1 ends bs nb rf wf tl = λ task bytes a l few nr nw.
+completes asked left tells held start before now old new st net counts r0 r1 w0 w1 ends bs rf wf tl = λ task bytes a l few nr nw.
     task_comes task bytes tells held start before now old new st net counts r0 r1 w0 w1
     (subst (λ (x : Option Task). Ends x (Some bytes) tells held start before now old new st net counts) a (subst (λ (x : Option (List ℕ)). Ends asked x tells held start before now old new st net counts) l ends))
     (λ line cause e. subst (λ (x : Option (List ℕ)). ReadNoScenario x line cause) l (bs line cause e))
-    (λ line e. subst (λ (x : Option (List ℕ)). ReadUnbuilt x line) l (nb line e))
     rf wf
     (λ e. subst (λ (x : Option (List ℕ)). IsLonger x 1048576) l (tl e))
     few nr nw
@@ -331,10 +311,10 @@ completes asked left tells held start before now old new st net counts r0 r1 w0 
 
 no_bad_words : (task : Task) (left : Option (List ℕ)) (tells : Type 0) (held : List ℕ → List ℕ → Type 0) (start before now : ℕ) (old new : Option (List ℕ)) (st : Status) (net : Option Left) (counts : List ℕ)
     → Ends (Some task) left tells held start before now old new st net counts → st ≡ status.BadWords → ⊥
-no_bad_words tasks.Run left tells held start before now old new st net counts (inl e) is = subst (λ (x : Status). IsEarly tasks.Run x) is e.0
+no_bad_words tasks.Run left tells held start before now old new st net counts (inl e) is = subst IsEarly is e.0
 no_bad_words tasks.Run left tells held start before now old new st net counts (inr r) is =
     of_run tells held start r.scenario before now old new status.BadWords net counts (subst (λ (x : Status). RunEnds tells held start r.scenario before now old new x net counts) is r.ended) (λ n e. absurd cc)
-no_bad_words tasks.Check left tells held start before now old new st net counts (inl e) is = subst (λ (x : Status). IsEarly tasks.Check x) is e.0
+no_bad_words tasks.Check left tells held start before now old new st net counts (inl e) is = subst IsEarly is e.0
 no_bad_words tasks.Check left tells held start before now old new st net counts (inr e) is = subst (Checked left old new) is e.2
 
 pub bad_words : (asked : Option Task) (left : Option (List ℕ)) (tells : Type 0) (held : List ℕ → List ℕ → Type 0) (start before now : ℕ) (old new : Option (List ℕ)) (st : Status) (net : Option Left) (counts : List ℕ)

@@ -1,11 +1,10 @@
 -- What a call of the program promises.
-use Rattle.std.specs.Prelude.{◌≡◌, ◌≢◌, ◌⊎◌, ℕ, ◌≤◌, List, [], length, Option, Some, None, Ok, Err, codes}
+use Rattle.std.specs.Prelude.{◌≡◌, ◌⊎◌, ℕ, ◌≤◌, List, [], length, Option, Some, None, Ok, Err, codes}
 use Rattle.std.specs.Io.KnownBytes.{Appends, Keeps}
 use Rattle.mq_base.specs.Outside.{Rose, Told, IsLonger}
 use Rattle.mq_history.specs.declared.scenario.Scenario.{Scenario}
 use Rattle.mq_scn_text.specs.declared.fault.ScenarioFault.{ScenarioFault}
 use Rattle.mq_scn_text.specs.Reading.{scenario_of}
-use Rattle.mq_hints.specs.Cables.{cable_line}
 use Rattle.mq_run.specs.declared.status.BadCause.{BadCause}
 use Rattle.mq_run.specs.declared.status.Status.{Status}
 use Rattle.mq_run.specs.declared.status.Status.TheVariants as status
@@ -33,38 +32,27 @@ pub record ReadNoScenario (left : Option (List ℕ)) (line : ℕ) (cause : BadCa
   pub text : scenario_of bytes ≡ Err fault
   pub told : fault_status fault ≡ status.BadScenario line cause
 
--- the text of a scenario was read that has a cable, the first in that line
-pub record ReadUnbuilt (left : Option (List ℕ)) (line : ℕ) : Type 0 where
-  pub bytes : List ℕ
-  pub read : WasRead left bytes
-  pub scenario : Scenario
-  pub text : scenario_of bytes ≡ Ok scenario
-  pub cables : scenario.cables ≢ []
-  pub place : line ≡ cable_line bytes
-
 -- what check writes
 abbrev pub check_text : List ℕ
 check_text = codes "CHECK OK\n"
 
 -- Nothing ran and nothing was written, for one of these.
-abbrev pub IsEarly : Task → Status → Type 0
-IsEarly task (status.BadScenario line cause) = Unit {0}
-IsEarly task (status.NotBuilt line) = task ≡ tasks.Run
-IsEarly task status.ReadFault = Unit {0}
-IsEarly task status.TooLong = Unit {0}
-IsEarly task status.NoMemory = Unit {0}
-IsEarly task st = ⊥
+abbrev pub IsEarly : Status → Type 0
+IsEarly (status.BadScenario line cause) = Unit {0}
+IsEarly status.ReadFault = Unit {0}
+IsEarly status.TooLong = Unit {0}
+IsEarly status.NoMemory = Unit {0}
+IsEarly st = ⊥
 
 pub record Nothing (old new : Option (List ℕ)) (net : Option Left) (counts : List ℕ) : Type 0 where
   pub network : net ≡ None
   pub disks : counts ≡ []
   pub kept : Keeps old new
 
--- A scenario without cables was read, and its run ended so.
+-- A scenario was read, and its run ended so.
 pub record RanScenario (left : Option (List ℕ)) (tells : Type 0) (held : List ℕ → List ℕ → Type 0) (start before now : ℕ) (old new : Option (List ℕ)) (st : Status) (net : Option Left) (counts : List ℕ) : Type 0 where
   pub scenario : Scenario
   pub read : IsRead left scenario
-  pub alone : scenario.cables ≡ []
   pub ended : RunEnds tells held start scenario before now old new st net counts
 
 -- Of check, by status.
@@ -76,27 +64,30 @@ Checked left old new st = ⊥
 -- By words.
 abbrev pub Ends : (asked : Option Task) (left : Option (List ℕ)) (tells : Type 0) (held : List ℕ → List ℕ → Type 0) (start before now : ℕ) (old new : Option (List ℕ)) → Status → Option Left → List ℕ → Type 0
 Ends None left tells held start before now old new st net counts = (st ≡ status.BadWords) × Nothing old new net counts
-Ends (Some tasks.Run) left tells held start before now old new st net counts = (IsEarly tasks.Run st × Nothing old new net counts) ⊎ RanScenario left tells held start before now old new st net counts
-Ends (Some tasks.Check) left tells held start before now old new st net counts = (IsEarly tasks.Check st × Nothing old new net counts) ⊎ ((net ≡ None) × (counts ≡ []) × Checked left old new st)
+Ends (Some tasks.Run) left tells held start before now old new st net counts = (IsEarly st × Nothing old new net counts) ⊎ RanScenario left tells held start before now old new st net counts
+Ends (Some tasks.Check) left tells held start before now old new st net counts = (IsEarly st × Nothing old new net counts) ⊎ ((net ≡ None) × (counts ≡ []) × Checked left old new st)
 
--- Where the source tells its bytes, and neither it nor the sink nor the shelf fails: a text that is none or doesn't run is told so,
--- and of another the status is one of a run, or want of memory.
+-- Where the source tells its bytes, and neither it nor the sink fails: a text that is no scenario is told so, and of another the
+-- status is one of a run, or of a check 0; or it is want of memory.
 abbrev pub IsOfRun : Status → Type 0
 IsOfRun status.BadWords = ⊥
 IsOfRun (status.BadScenario line cause) = ⊥
 IsOfRun status.ReadFault = ⊥
 IsOfRun (status.WriteFault n) = ⊥
 IsOfRun status.TooLong = ⊥
-IsOfRun (status.NotBuilt line) = ⊥
 IsOfRun st = Unit {0}
 
-abbrev pub Comes : Status → Status → Type 0
-Comes status.Ok st = IsOfRun st
-Comes other st = (st ≡ other) ⊎ (st ≡ status.NoMemory)
+abbrev pub ComesOf : Task → Status → Type 0
+ComesOf tasks.Run st = IsOfRun st
+ComesOf tasks.Check st = (st ≡ status.Ok) ⊎ (st ≡ status.NoMemory)
+
+abbrev pub Comes : Task → Status → Status → Type 0
+Comes task status.Ok st = ComesOf task st
+Comes task other st = (st ≡ other) ⊎ (st ≡ status.NoMemory)
 
 abbrev pub Completes : Option Task → Option (List ℕ) → ℕ → ℕ → ℕ → ℕ → Status → Type 0
 Completes asked left reads reads' writes writes' st =
-    (task : Task) (bytes : List ℕ) → asked ≡ Some task → left ≡ Some bytes → length bytes ≤ 1048576 → ¬ Rose reads reads' → ¬ Rose writes writes' → Comes (wanted task bytes) st
+    (task : Task) (bytes : List ℕ) → asked ≡ Some task → left ≡ Some bytes → length bytes ≤ 1048576 → ¬ Rose reads reads' → ¬ Rose writes writes' → Comes task (wanted bytes) st
 
 -- a text was written, all of it or its front
 abbrev pub Writes : Option (List ℕ) → Option (List ℕ) → List ℕ → Status → Type 0

@@ -1,3 +1,4 @@
 pub mod Wanted
 pub mod Headline
 pub mod Work
+pub mod Words

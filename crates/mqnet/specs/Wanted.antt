@@ -1,12 +1,10 @@
 -- What the words ask for, and what the bytes say of a scenario.
 use Rattle.std.specs.Prelude.{ℕ, List, [], ◌∷◌, if◌then◌else◌, Option, Some, None, Result, Ok, Err, codes}
 use Rattle.std.specs.Str.{bytes_eq}
-use Rattle.mq_history.specs.declared.scenario.CableLine.{CableLine}
 use Rattle.mq_history.specs.declared.scenario.Scenario.{Scenario}
 use Rattle.mq_scn_text.specs.declared.fault.ScenarioFault.{ScenarioFault}
 use Rattle.mq_scn_text.specs.declared.fault.ScenarioFault.TheVariants as faults
 use Rattle.mq_scn_text.specs.Reading.{scenario_of}
-use Rattle.mq_hints.specs.Cables.{cable_line}
 use Rattle.mq_run.specs.declared.status.BadCause.TheVariants as causes
 use Rattle.mq_run.specs.declared.status.Status.{Status}
 use Rattle.mq_run.specs.declared.status.Status.TheVariants as status
@@ -28,19 +26,10 @@ fault_status (faults.BadLine line cause) = status.BadScenario line (causes.Line 
 fault_status (faults.Limit line limit) = status.BadScenario line (causes.Limit limit)
 fault_status faults.NoMemory = status.NoMemory
 
--- a scenario runs that has no cable; of another the line of its first cable is told
-abbrev pub built_status : List ℕ → List CableLine → Status
-built_status bytes [] = status.Ok
-built_status bytes (c ∷ cs) = status.NotBuilt (cable_line bytes)
-
-abbrev pub scenario_status : Task → List ℕ → Scenario → Status
-scenario_status tasks.Run bytes s = built_status bytes s.cables
-scenario_status tasks.Check bytes s = status.Ok
-
-abbrev pub text_status : Task → List ℕ → Result Scenario ScenarioFault → Status
-text_status task bytes (Ok s) = scenario_status task bytes s
-text_status task bytes (Err fault) = fault_status fault
+abbrev pub text_status : Result Scenario ScenarioFault → Status
+text_status (Ok s) = status.Ok
+text_status (Err fault) = fault_status fault
 
 -- why these bytes are refused; Ok where they aren't
-abbrev pub wanted : Task → List ℕ → Status
-wanted task bytes = text_status task bytes (scenario_of bytes)
+abbrev pub wanted : List ℕ → Status
+wanted bytes = text_status (scenario_of bytes)

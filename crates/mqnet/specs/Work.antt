@@ -1,9 +1,8 @@
 -- What is left to do when the bytes were read, and why nothing is.
-use Rattle.std.specs.Prelude.{◌≡◌, ◌≢◌, ℕ, List, [], Option, None, Ok, Err}
+use Rattle.std.specs.Prelude.{◌≡◌, ℕ, List, [], Option, None, Ok, Err}
 use Rattle.mq_history.specs.declared.scenario.Scenario.{Scenario}
 use Rattle.mq_scn_text.specs.declared.fault.ScenarioFault.{ScenarioFault}
 use Rattle.mq_scn_text.specs.Reading.{scenario_of}
-use Rattle.mq_hints.specs.Cables.{cable_line}
 use Rattle.mq_history.specs.Scenarios.{IsScenario}
 use Rattle.mq_nodes.specs.Texts.{AllFit}
 use Rattle.mq_run.specs.Ends.{RunEnds}
@@ -17,9 +16,9 @@ use Rattle.mqnet.specs.declared.top.Work.TheVariants as works
 use Rattle.mqnet.specs.Wanted.{fault_status}
 use Rattle.mqnet.specs.Headline.{Writes, check_text}
 
--- to run their scenario, which has no cable, or no more than to tell that they have one
+-- to run their scenario, or no more than to tell that they have one
 abbrev pub IsWork : Task → List ℕ → Work → Type 0
-IsWork tasks.Run bytes (works.Run s) = (scenario_of bytes ≡ Ok s) × (s.cables ≡ [])
+IsWork tasks.Run bytes (works.Run s) = scenario_of bytes ≡ Ok s
 IsWork tasks.Run bytes works.Check = ⊥
 IsWork tasks.Check bytes (works.Run s) = ⊥
 IsWork tasks.Check bytes works.Check = (s : Scenario) × (scenario_of bytes ≡ Ok s)
@@ -30,23 +29,10 @@ RefusesText bytes (status.BadScenario line cause) = (fault : ScenarioFault) × (
 RefusesText bytes status.NoMemory = Unit {0}
 RefusesText bytes st = ⊥
 
--- why these bytes leave nothing to do
-abbrev pub RefusesWork : Task → List ℕ → Status → Type 0
-RefusesWork task bytes (status.BadScenario line cause) = RefusesText bytes (status.BadScenario line cause)
-RefusesWork task bytes (status.NotBuilt line) = (task ≡ tasks.Run) × (s : Scenario) × (scenario_of bytes ≡ Ok s) × (s.cables ≢ []) × (line ≡ cable_line bytes)
-RefusesWork task bytes status.NoMemory = Unit {0}
-RefusesWork task bytes st = ⊥
-
 -- what a run asks of its scenario
 abbrev pub FitsWork : Work → Type 0
-FitsWork (works.Run s) = IsScenario s × (s.cables ≡ []) × AllFit IsTextCommand s
+FitsWork (works.Run s) = IsScenario s × AllFit IsTextCommand s
 FitsWork works.Check = Unit {0}
-
--- that a scenario has a cable is told by the line of the first one
-abbrev pub IsUnbuilt : List ℕ → Status → Type 0
-IsUnbuilt bytes (status.NotBuilt line) = line ≡ cable_line bytes
-IsUnbuilt bytes status.NoMemory = Unit {0}
-IsUnbuilt bytes st = ⊥
 
 -- how what is left to do ends
 abbrev pub WorkEnds : Work → (tells : Type 0) (held : List ℕ → List ℕ → Type 0) (start before now : ℕ) (old new : Option (List ℕ)) → Status → Option Left → List ℕ → Type 0

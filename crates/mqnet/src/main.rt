@@ -12,6 +12,8 @@ use std::{env, io};
 use top::mqnet;
 
 #[cfg(test)]
+mod channels;
+#[cfg(test)]
 mod tests;
 
 /// The moment in milliseconds since 1970, or 0 where the clock tells none.

@@ -2,20 +2,12 @@
 
 ghost use Rattle.std.specs.Prelude.{◌≡◌, ◌↔◌, ℕ, Option, map, None, Some, IfOk, IfErr, IfSome, Ok, option_map};
 ghost use Rattle.std.specs.String.{string_bytes};
-ghost use Rattle.mq_base.specs.Outside.{Rose, IsLonger};
 ghost use Rattle.mq_disk.specs.declared.shelf.Side.TheVariants as sides;
-ghost use Rattle.mq_scn_text.specs.Reading.{scenario_of};
-ghost use Rattle.mq_run.specs.declared.status.BadCause.{BadCause};
-ghost use Rattle.mq_run.specs.declared.status.Status.TheVariants.{BadWords, BadScenario, ReadFault, WriteFault, NoMemory, TooLong, NotBuilt};
-ghost use Rattle.mq_run.specs.Leaves.{left_of};
-ghost use Rattle.mq_run.specs.Words.{GotOnce, OrderKept, RowsAreLedgers, StandOnce};
-ghost use Rattle.mqnet.specs.Wanted.{word_task, task_of};
-ghost use Rattle.mqnet.specs.Headline.{Ends, WasRead, ReadNoScenario, ReadUnbuilt, Writes, RefusesBytes, Completes};
-ghost use Rattle.mqnet.specs.Work.{FitsWork, IsUnbuilt, IsWork, RefusesText, RefusesWork, WorkEnds};
+ghost use Rattle.mqnet.specs.Words as terms;
 
 use mq_base::{ReadStop, Sink, Source, read_all, write_all};
 use mq_disk::Shelf;
-use mq_hints::{cable_line, fault_text, unbuilt_text};
+use mq_hints::fault_text;
 use mq_history::Scenario;
 use mq_run::{BadCause, Ended, Status, ended_early, run_scenario};
 use mq_scn_text::{ScenarioFault, read_scenario};
@@ -39,7 +31,7 @@ pub enum Work {
 
 /// What a word asks for.
 fn word_task(word: &str) -> Option<Task>
-    ensures { result ≡ word_task word.now }
+    ensures { result ≡ terms.word_task word.now }
 {
     if word == "run" {
         return Some(Task::Run);
@@ -52,7 +44,7 @@ fn word_task(word: &str) -> Option<Task>
 
 /// What the words ask for: they are one word.
 fn task_of(words: &[String]) -> Option<Task>
-    ensures { result ≡ task_of (map string_bytes words.now) }
+    ensures { result ≡ terms.task_of (map string_bytes words.now) }
 {
     match words {
         [word] => word_task(word.as_str()),
@@ -62,8 +54,8 @@ fn task_of(words: &[String]) -> Option<Task>
 
 /// Writes a text.
 fn write_text<K: Sink>(text: &[u8], sink: &mut K) -> Status
-    ensures writes { Writes (K.held sink.old) (K.held sink.new) text.now result }
-    ensures write_fault { (n : ℕ) → result ≡ WriteFault n → Rose (K.faults sink.old) (K.faults sink.new) }
+    ensures writes { terms.Writes (K.held sink.old) (K.held sink.new) text.now result }
+    ensures write_fault { (n : ℕ) → result ≡ terms.WriteFault n → terms.Rose (K.faults sink.old) (K.faults sink.new) }
 {
     match write_all(sink, text) {
         Ok(()) => Status::Ok,
@@ -73,8 +65,8 @@ fn write_text<K: Sink>(text: &[u8], sink: &mut K) -> Status
 
 /// Reads the source to its end.
 fn read_bytes<S: Source>(alloc: Global, source: &mut S) -> Result<Vec<u8>, Status>
-    ensures found { IfOk result (λ text. WasRead (S.left source.old) text.items) }
-    ensures refused { IfErr result (RefusesBytes (S.left source.old) (S.faults source.old) (S.faults source.new)) }
+    ensures found { IfOk result (λ text. terms.WasRead (S.left source.old) text.items) }
+    ensures refused { IfErr result (terms.RefusesBytes (S.left source.old) (S.faults source.old) (S.faults source.new)) }
 {
     match read_all(alloc, source, 1_048_576) {
         Ok(text) => Ok(text),
@@ -86,8 +78,8 @@ fn read_bytes<S: Source>(alloc: Global, source: &mut S) -> Result<Vec<u8>, Statu
 
 /// The scenario of a text.
 fn scenario_in(alloc: Global, text: &[u8]) -> Result<Scenario, Status>
-    ensures found { IfOk result (λ s. scenario_of text.now ≡ Ok s) }
-    ensures refused { IfErr result (RefusesText text.now) }
+    ensures found { IfOk result (λ s. terms.scenario_of text.now ≡ Ok s) }
+    ensures refused { IfErr result (terms.RefusesText text.now) }
 {
     match read_scenario(alloc, text) {
         Ok(scenario) => Ok(scenario),
@@ -101,22 +93,12 @@ fn scenario_in(alloc: Global, text: &[u8]) -> Result<Scenario, Status>
     }
 }
 
-/// That a scenario with cables doesn't run: the line of the first one.
-fn unbuilt(alloc: Global, text: &[u8]) -> Status
-    ensures { IsUnbuilt text.now result }
-{
-    match cable_line(alloc, text) {
-        Ok(line) => Status::NotBuilt(line),
-        Err(_) => Status::NoMemory,
-    }
-}
-
 /// What a text leaves to do.
 #[tactic(auto, using(crate::proofs::Ending::fits))]
 fn work_in(alloc: Global, task: Task, text: &[u8]) -> Result<Work, Status>
-    ensures found { IfOk result (IsWork task text.now) }
-    ensures fits { IfOk result FitsWork }
-    ensures refused { IfErr result (RefusesWork task text.now) }
+    ensures found { IfOk result (terms.IsWork task text.now) }
+    ensures fits { IfOk result terms.FitsWork }
+    ensures refused { IfErr result (terms.RefusesText text.now) }
 {
     let scenario = match scenario_in(alloc, text) {
         Ok(scenario) => scenario,
@@ -124,13 +106,7 @@ fn work_in(alloc: Global, task: Task, text: &[u8]) -> Result<Work, Status>
     };
     match task {
         Task::Check => Ok(Work::Check),
-        Task::Run => {
-            if scenario.cables.is_empty() {
-                Ok(Work::Run(scenario))
-            } else {
-                Err(unbuilt(alloc, text))
-            }
-        }
+        Task::Run => Ok(Work::Run(scenario)),
     }
 }
 
@@ -143,7 +119,6 @@ fn told(alloc: Global, text: &[u8], status: &Status) -> Option<String> {
         Status::BadScenario(line, BadCause::Limit(limit)) => {
             fault_text(alloc, text, ScenarioFault::Limit(*line, *limit))
         }
-        Status::NotBuilt(line) => unbuilt_text(alloc, text, *line),
         _ => return None,
     };
     told.ok()
@@ -157,9 +132,9 @@ fn do_work<K: Sink, H: Shelf>(
     start: u64,
     sink: &mut K,
 ) -> Ended<H::D>
-    requires { FitsWork left }
-    ensures ends { WorkEnds left H.D.tells (λ n b. H.holds shelf.old n sides.A b) start (H.faults shelf.old) (H.faults shelf.new) (K.held sink.old) (K.held sink.new) result.status (option_map left_of result.network) (map H.D.faults result.disks.items) }
-    ensures write_fault { (n : ℕ) → result.status ≡ WriteFault n → Rose (K.faults sink.old) (K.faults sink.new) }
+    requires { terms.FitsWork left }
+    ensures ends { terms.WorkEnds left H.D.tells (λ n b. H.holds shelf.old n sides.A b) start (H.faults shelf.old) (H.faults shelf.new) (K.held sink.old) (K.held sink.new) result.status (option_map terms.left_of result.network) (map H.D.faults result.disks.items) }
+    ensures write_fault { (n : ℕ) → result.status ≡ terms.WriteFault n → terms.Rose (K.faults sink.old) (K.faults sink.new) }
 {
     match left {
         Work::Run(scenario) => run_scenario(alloc, &scenario, shelf, start, sink),
@@ -177,12 +152,11 @@ fn obey_words<S: Source, K: Sink, H: Shelf>(
     shelf: &mut H,
     start: u64,
 ) -> Ended<H::D>
-    ensures ends { Ends (task_of (map string_bytes words.now)) (S.left source.old) H.D.tells (λ n b. H.holds shelf.old n sides.A b) start (H.faults shelf.old) (H.faults shelf.new) (K.held sink.old) (K.held sink.new) result.status (option_map left_of result.network) (map H.D.faults result.disks.items) }
-    ensures bad_scenario { (line : ℕ) (cause : BadCause) → result.status ≡ BadScenario line cause → ReadNoScenario (S.left source.old) line cause }
-    ensures not_built { (line : ℕ) → result.status ≡ NotBuilt line → ReadUnbuilt (S.left source.old) line }
-    ensures read_fault { result.status ≡ ReadFault → Rose (S.faults source.old) (S.faults source.new) }
-    ensures write_fault { (n : ℕ) → result.status ≡ WriteFault n → Rose (K.faults sink.old) (K.faults sink.new) }
-    ensures too_long { result.status ≡ TooLong → IsLonger (S.left source.old) 1048576 }
+    ensures ends { terms.Ends (terms.task_of (map string_bytes words.now)) (S.left source.old) H.D.tells (λ n b. H.holds shelf.old n sides.A b) start (H.faults shelf.old) (H.faults shelf.new) (K.held sink.old) (K.held sink.new) result.status (option_map terms.left_of result.network) (map H.D.faults result.disks.items) }
+    ensures bad_scenario { (line : ℕ) (cause : terms.BadCause) → result.status ≡ terms.BadScenario line cause → terms.ReadNoScenario (S.left source.old) line cause }
+    ensures read_fault { result.status ≡ terms.ReadFault → terms.Rose (S.faults source.old) (S.faults source.new) }
+    ensures write_fault { (n : ℕ) → result.status ≡ terms.WriteFault n → terms.Rose (K.faults sink.old) (K.faults sink.new) }
+    ensures too_long { result.status ≡ terms.TooLong → terms.IsLonger (S.left source.old) 1048576 }
 {
     let Some(task) = task_of(words) else {
         return ended_early(alloc, Status::BadWords, None);
@@ -202,7 +176,7 @@ fn obey_words<S: Source, K: Sink, H: Shelf>(
 
 /// Runs the program: by the word `run`, the scenario that the source gives, over the shelf's disks, with its report to the sink; by
 /// the word `check` the scenario is read alone, and CHECK OK written. `start` is the moment of its beginning in milliseconds since
-/// 1970; a moment above 253,300,000,000,000 is taken as that number. A scenario with cables doesn't run yet.
+/// 1970; a moment above 253,300,000,000,000 is taken as that number.
 #[tactic(auto, using(crate::proofs::Ending::rows_of, crate::proofs::Ending::once_of, crate::proofs::Ending::got_once_of, crate::proofs::Ending::order_of, crate::proofs::Ending::bad_words, crate::proofs::Ending::completes))]
 pub fn mqnet<S: Source, K: Sink, H: Shelf>(
     alloc: Global,
@@ -215,25 +189,24 @@ pub fn mqnet<S: Source, K: Sink, H: Shelf>(
     // By words and status: each history opens with what its disk told, and replays; all make a lawful story of the scenario of the
     // bytes read, with every step whole where the run was not broken off; the bytes written are the report of scenario, story,
     // standing and ledger, or its front, or none; the verdict is what the story says.
-    ensures ends { Ends (task_of (map string_bytes words.now)) (S.left source.old) H.D.tells (λ n b. H.holds shelf.old n sides.A b) start (H.faults shelf.old) (H.faults shelf.new) (K.held sink.old) (K.held sink.new) result.status (option_map left_of result.network) (map H.D.faults result.disks.items) }
+    ensures ends { terms.Ends (terms.task_of (map string_bytes words.now)) (S.left source.old) H.D.tells (λ n b. H.holds shelf.old n sides.A b) start (H.faults shelf.old) (H.faults shelf.new) (K.held sink.old) (K.held sink.new) result.status (option_map terms.left_of result.network) (map H.D.faults result.disks.items) }
     // After each prefix of the story without a conflict, where the logs belong together and no restart read a log that was changed
     // from outside: the standing rows of each queue are the ledger's, list for list,
-    ensures rows { IfSome (option_map left_of result.network) RowsAreLedgers }
+    ensures rows { IfSome (option_map terms.left_of result.network) terms.RowsAreLedgers }
     // each ident stands at most once in the network,
-    ensures once { IfSome (option_map left_of result.network) StandOnce }
+    ensures once { IfSome (option_map terms.left_of result.network) terms.StandOnce }
     // and is in at most one committed get,
-    ensures got_once { IfSome (option_map left_of result.network) GotOnce }
+    ensures got_once { IfSome (option_map terms.left_of result.network) terms.GotOnce }
     // and each receiver's commit keeps the order of its queue.
-    ensures order { IfSome (option_map left_of result.network) OrderKept }
-    ensures bad_words { result.status ≡ BadWords ↔ (task_of (map string_bytes words.now) ≡ None) }
-    ensures bad_scenario { (line : ℕ) (cause : BadCause) → result.status ≡ BadScenario line cause → ReadNoScenario (S.left source.old) line cause }
-    ensures not_built { (line : ℕ) → result.status ≡ NotBuilt line → ReadUnbuilt (S.left source.old) line }
-    ensures read_fault { result.status ≡ ReadFault → Rose (S.faults source.old) (S.faults source.new) }
-    ensures write_fault { (n : ℕ) → result.status ≡ WriteFault n → Rose (K.faults sink.old) (K.faults sink.new) }
-    ensures too_long { result.status ≡ TooLong → IsLonger (S.left source.old) 1048576 }
-    // Where neither source nor sink fails, a text that is no scenario, or has a cable, is told so, and of another the status is one of a
-    // run, or want of memory.
-    ensures complete { Completes (task_of (map string_bytes words.now)) (S.left source.old) (S.faults source.old) (S.faults source.new) (K.faults sink.old) (K.faults sink.new) result.status }
+    ensures order { IfSome (option_map terms.left_of result.network) terms.OrderKept }
+    ensures bad_words { result.status ≡ terms.BadWords ↔ (terms.task_of (map string_bytes words.now) ≡ None) }
+    ensures bad_scenario { (line : ℕ) (cause : terms.BadCause) → result.status ≡ terms.BadScenario line cause → terms.ReadNoScenario (S.left source.old) line cause }
+    ensures read_fault { result.status ≡ terms.ReadFault → terms.Rose (S.faults source.old) (S.faults source.new) }
+    ensures write_fault { (n : ℕ) → result.status ≡ terms.WriteFault n → terms.Rose (K.faults sink.old) (K.faults sink.new) }
+    ensures too_long { result.status ≡ terms.TooLong → terms.IsLonger (S.left source.old) 1048576 }
+    // Where neither source nor sink fails, a text that is no scenario is told so, and of another the status is one of a run, or of a check
+    // 0; or it is want of memory.
+    ensures complete { terms.Completes (terms.task_of (map string_bytes words.now)) (S.left source.old) (S.faults source.old) (S.faults source.new) (K.faults sink.old) (K.faults sink.new) result.status }
 {
     obey_words(alloc, words, source, sink, shelf, start)
 }
