@@ -112,7 +112,7 @@ earlier w m e p g = record {
 pub told_here : (w : Network) (m : ℕ) (e : Entry) (n : Node) → Good (does m (e ∷ []) w) → w.first m ≡ Some n → (stamp : ℕ) × Tells (after n (w.done m)) stamp e
 told_here w m e n g first = tells_last n 0 (w.done m) e (subst (Follows n 0) (here_done w m e) (g.replays m n first))
 
-never_empty : (xs : List Entry) (e : Entry) → xs ++ e ∷ [] ≡ [] → ⊥
+pub never_empty : (xs : List Entry) (e : Entry) → xs ++ e ∷ [] ≡ [] → ⊥
 never_empty [] e h = absurd cc
 never_empty (x ∷ xs) e h = absurd cc
 

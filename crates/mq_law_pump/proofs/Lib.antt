@@ -12,3 +12,15 @@ pub mod Popping
 pub mod Stillness
 pub mod Openings
 pub mod Entries
+pub mod Moving
+pub mod Below
+pub mod Staying
+pub mod Defining
+pub mod Leaving
+pub mod Offering
+pub mod Aparting
+pub mod Seeing
+pub mod Besides
+pub mod Beginning
+pub mod AtRest
+pub mod Pumped

@@ -27,7 +27,7 @@ use Rattle.mq_law_pump.specs.Rows.{AreWithin, rows_of}
 use Rattle.mq_law_pump.proofs.Others.{parts_no_more}
 
 -- another channel leaves its queue
-seizure_stays : (channel other : List ℕ) (ss : List Seizure) → bytes_eq channel other ≡ false → seizure_of channel (filter (λ (s : Seizure). not (bytes_eq other s.channel)) ss) ≡ seizure_of channel ss
+pub seizure_stays : (channel other : List ℕ) (ss : List Seizure) → bytes_eq channel other ≡ false → seizure_of channel (filter (λ (s : Seizure). not (bytes_eq other s.channel)) ss) ≡ seizure_of channel ss
 seizure_stays channel other [] apart = refl
 seizure_stays channel other (s ∷ ss) apart = one (bytes_eq other s.channel) refl (seizure_stays channel other ss apart)
   where
@@ -60,7 +60,7 @@ changes_open channel q (c ∷ cs) p h =
     let b = and_both (adds_none channel q c) (all_add_none channel q cs) h in
     changes_open channel q cs (apply c p) b.1 ∙ change_open channel q c p b.0
 
-logged_open : (channel : List ℕ) (o : Option LogRecord) (p : Plain) → queue_of_sender channel (logged o p) ≡ queue_of_sender channel p
+pub logged_open : (channel : List ℕ) (o : Option LogRecord) (p : Plain) → queue_of_sender channel (logged o p) ≡ queue_of_sender channel p
 logged_open channel None p = refl
 logged_open channel (Some r) p = refl
 

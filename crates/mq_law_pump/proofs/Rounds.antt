@@ -93,14 +93,24 @@ from_start all i = ap (slice_get all) (nothing_more i)
 
 -- the other lanes
 others : (Good : Network → Type 0) (Sees : Network → ℕ → CableLine → Lane → Type 0) → IsSteady Good Sees → (w : Network) (t : ℕ) (c : CableLine) (m : ℕ) (e : Entry) → Good (does m (e ∷ []) w)
-    → slice_get w.scenario.cables t ≡ Some c → IsOf w t c m e → (k : ℕ) (cs : List CableLine) (ls : List Lane) → AreFrom w.scenario.cables k cs → t < k → SeesAll Sees w k cs ls → SeesAll Sees (does m (e ∷ []) w) k cs ls
-others Good Sees st w t c m e g there of k [] [] a less s = tt
-others Good Sees st w t c m e g there of k (d ∷ ds) (l ∷ ls) a less s = (
-  st.other w t c m e k d l g there (from_head w.scenario.cables k d ds a) s.0 of (λ same. omega (arith, same, less)),
-  others Good Sees st w t c m e g there of (suc k) ds ls (from_tail w.scenario.cables k d ds a) (omega (arith, less)) s.1,
+    → slice_get w.scenario.cables t ≡ Some c → (moving : Lane) → Sees w t c moving → IsOf w t c m e → (k : ℕ) (cs : List CableLine) (ls : List Lane) → AreFrom w.scenario.cables k cs → t < k → SeesAll Sees w k cs ls → SeesAll Sees (does m (e ∷ []) w) k cs ls
+others Good Sees st w t c m e g there moving seen of k [] [] a less s = tt
+others Good Sees st w t c m e g there moving seen of k (d ∷ ds) (l ∷ ls) a less s = (
+  st.other w t c m e k d l moving g there (from_head w.scenario.cables k d ds a) s.0 seen of (λ same. omega (arith, same, less)),
+  others Good Sees st w t c m e g there moving seen of (suc k) ds ls (from_tail w.scenario.cables k d ds a) (omega (arith, less)) s.1,
 )
-others Good Sees st w t c m e g there of k [] (l ∷ ls) a less s = absurd s
-others Good Sees st w t c m e g there of k (d ∷ ds) [] a less s = absurd s
+others Good Sees st w t c m e g there moving seen of k [] (l ∷ ls) a less s = absurd s
+others Good Sees st w t c m e g there moving seen of k (d ∷ ds) [] a less s = absurd s
+
+-- the lane of one of the cables
+lane_at : (Sees : Network → ℕ → CableLine → Lane → Type 0) (w : Network) (k n : ℕ) (cs : List CableLine) (ls : List Lane) (t : ℕ) (c : CableLine) → t ≡ k + n → slice_get cs n ≡ Some c → SeesAll Sees w k cs ls → (l : Lane) × Sees w t c l
+lane_at Sees w k zero (d ∷ ds) (l ∷ ls) t c is here s = (l, subst (λ (z : CableLine). Sees w t z l) (some_same d c here) (subst (λ (j : ℕ). Sees w j d l) (omega (arith, is)) s.0))
+  where
+    some_same : (x y : CableLine) → Some x ≡ Some y → x ≡ y
+    some_same x y eq = cc
+lane_at Sees w k (suc n) (d ∷ ds) (l ∷ ls) t c is here s = lane_at Sees w (suc k) n ds ls t c (omega (arith, is)) here s.1
+lane_at Sees w k n [] ls t c is here s = absurd cc
+lane_at Sees w k n (d ∷ ds) [] t c is here s = absurd s
 
 turns_one : (Good : Network → Type 0) (Sees : Network → ℕ → CableLine → Lane → Type 0) → IsSteady Good Sees → (w : Network) (slot : Slot) (t : ℕ) (c : CableLine) (m : ℕ) (e : Entry) → Good (does m (e ∷ []) w)
     → slice_get w.scenario.cables t ≡ Some c → TakesTurn (turn_in w slot t c) m e → (k n : ℕ) (cs : List CableLine) (ls : List Lane) → AreFrom w.scenario.cables k cs → t ≡ k + n → slice_get cs n ≡ Some c → FitsFrom slot n ls
@@ -108,13 +118,14 @@ turns_one : (Good : Network → Type 0) (Sees : Network → ℕ → CableLine �
 turns_one Good Sees st w slot t c m e g there turn k zero (d ∷ ds) (l ∷ ls) a is here fits s =
     let same : t ≡ k = omega (arith, is) in
     let line : d ≡ c = some_same d c here in
-    let moved : Moved Sees (does m (e ∷ []) w) t c l = st.own w slot t c m e l g there (subst (λ (x : CableLine). Sees w t x l) line (subst (λ (j : ℕ). Sees w j d l) (sym same) s.0)) (fits_head slot l ls fits) turn in
+    let seen : Sees w t c l = subst (λ (x : CableLine). Sees w t x l) line (subst (λ (j : ℕ). Sees w j d l) (sym same) s.0) in
+    let moved : Moved Sees (does m (e ∷ []) w) t c l = st.own w slot t c m e l g there seen (fits_head slot l ls fits) turn in
     record {
       lanes = moved.lane ∷ ls;
       one = inl (moved.moves, asides_self ls);
       sees = (
         subst (λ (j : ℕ). Sees (does m (e ∷ []) w) j d moved.lane) same (subst (λ (x : CableLine). Sees (does m (e ∷ []) w) t x moved.lane) (sym line) moved.sees),
-        others Good Sees st w t c m e g there (slot, turn) (suc k) ds ls (from_tail w.scenario.cables k d ds a) (omega (arith, same)) s.1,
+        others Good Sees st w t c m e g there l seen (slot, turn) (suc k) ds ls (from_tail w.scenario.cables k d ds a) (omega (arith, same)) s.1,
       );
       tail = λ q. q;
     }
@@ -122,11 +133,12 @@ turns_one Good Sees st w slot t c m e g there turn k zero (d ∷ ds) (l ∷ ls) 
     some_same : (x y : CableLine) → Some x ≡ Some y → x ≡ y
     some_same x y eq = cc
 turns_one Good Sees st w slot t c m e g there turn k (suc n) (d ∷ ds) (l ∷ ls) a is here fits s =
+    let mine : (x : Lane) × Sees w t c x = lane_at Sees w (suc k) n ds ls t c (omega (arith, is)) here s.1 in
     let rest : After Sees (does m (e ∷ []) w) (suc k) n ds ls = turns_one Good Sees st w slot t c m e g there turn (suc k) n ds ls (from_tail w.scenario.cables k d ds a) (omega (arith, is)) here (fits_tail slot n l ls fits) s.1 in
     record {
       lanes = l ∷ rest.lanes;
       one = inr (aside_self l, rest.one);
-      sees = (st.other w t c m e k d l g there (from_head w.scenario.cables k d ds a) s.0 (slot, turn) (λ same. omega (arith, same, is)), rest.sees);
+      sees = (st.other w t c m e k d l mine.0 g there (from_head w.scenario.cables k d ds a) s.0 mine.1 (slot, turn) (λ same. omega (arith, same, is)), rest.sees);
       tail = rest.tail;
     }
 turns_one Good Sees st w slot t c m e g there turn k n [] ls a is here fits s = absurd cc
@@ -358,7 +370,7 @@ pump_call : (w : Network) (left : ℕ) (slot : Slot) (cable : ℕ) (any : Bool) 
 pump_call w zero slot cable any m e mv = absurd mv
 pump_call w (suc left) slot cable any m e mv = taken_call w slot cable (slice_get w.scenario.cables cable) m e mv
 
-moved_call : (w : Network) (t : Task) (ts : List Task) → ArePumps (t ∷ ts) → (m : ℕ) (e : Entry) → TaskMoves w t m e → IsPumped e.call
+pub moved_call : (w : Network) (t : Task) (ts : List Task) → ArePumps (t ∷ ts) → (m : ℕ) (e : Entry) → TaskMoves w t m e → IsPumped e.call
 moved_call w t ts (inl is) m e mv = absurd cc
 moved_call w t ts (inr (left, slot, cable, any, is)) m e mv = pump_call w left slot cable any m e (subst (λ (u : Task). TaskMoves w u m e) (ap (first_of t) is) mv)
 

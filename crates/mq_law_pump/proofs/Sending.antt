@@ -1,6 +1,6 @@
 -- Each turn of a sender's end at a node is the turn of its lane.
 use Rattle.std.proofs.Common.{ℕ, zero, suc, ◌≡◌, ◌≤◌, ◌<◌, ◌+◌, ◌-◌, Bool, true, false, List, [], ◌∷◌, ◌++◌, length, refl, ap, sym, subst, arith, ◌∙◌, append-nil}
-use Rattle.std.specs.Prelude.{if◌then◌else◌, Option, Some, None, ◌&&◌, min, nat_lt, pos, slice_get, take}
+use Rattle.std.specs.Prelude.{if◌then◌else◌, Option, Some, None, ◌&&◌, is_some, min, nat_lt, pos, slice_get, take}
 use Rattle.std.specs.Option.{option_map}
 use Rattle.mq_calls.specs.declared.agents.Note.TheVariants as notes
 use Rattle.mq_calls.specs.declared.agents.PrepareFault.{PrepareFault}
@@ -43,14 +43,13 @@ use Rattle.mq_calls.specs.Steps.Step.{Do, Refuse}
 use Rattle.mq_spec_manager.specs.Get.{expired_parts, idents_of, persistent_rows, removal_record}
 use Rattle.mq_spec_manager.specs.Heads.{own_md}
 use Rattle.mq_spec_manager.specs.Agents.{batch_row, expire, expired_rows, harden, hold_batch, leave, names_of, prepare, prepare_of, prepared_changes, prepared_record, queue_of_sender, release_batch, stock}
-use Rattle.mq_spec_node.specs.Node.{ChannelEnd, Node, SenderEnd, end_in}
-use Rattle.mq_spec_node.specs.Node.ChannelEnd.{Receives, Sends}
+use Rattle.mq_spec_node.specs.Node.{Node, SenderEnd, end_in}
+use Rattle.mq_spec_node.specs.Node.ChannelEnd.{Sends}
 use Rattle.mq_spec_node.specs.Deeds.{Deed, parts_of, turned}
 use Rattle.mq_spec_node.specs.Senders.{begin_deed, carried, doubted, leave_if_stopped, prepare_deed, sender_deed, sender_deed_by, sender_end_after, sent, settle_parts, settle_parts_if}
 use Rattle.mq_law_idle.specs.Counts.{free_in, held_in}
 use Rattle.mq_law_idle.specs.Roads.{Road, RowsMove, SenderTurn, laid, sender_does, taken_from, waiting}
 use Rattle.mq_law_idle.proofs.Tests.{lt_yes}
-use Rattle.mq_law_channel.specs.Facts.{Letter}
 use Rattle.mq_law_channel.proofs.Told.{and_both, by_lines}
 use Rattle.mq_law_node.specs.Ends.{Where, letter_of, letters_of}
 use Rattle.mq_law_node.proofs.Named.{end_set}
@@ -273,37 +272,24 @@ begins e n w stamp k count g distinct batch is s = with_row (batch_row e.channel
         (omega (arith, ap free_in rows, h.0, within.free, few), omega (arith, ap held_in rows, h.1, within.held)))
 
 -- MSG
-some_at : (i : ℕ) (xs : List Letter) → slice_get xs i ≡ None → i < length xs → ⊥
-some_at i [] h less = omega (arith, less)
-some_at zero (x ∷ xs) h less = absurd cc
-some_at (suc i) (x ∷ xs) h less = some_at i xs h (omega (arith, less))
-
-abbrev machine_in : Option ChannelEnd → Sender → Sender
-machine_in None m = m
-machine_in (Some (Sends e)) m = e.machine
-machine_in (Some (Receives e)) m = m
-
-same_machine : (a b : Sender) (e : SenderEnd) → Some (Sends (record e { machine = a })) ≡ Some (Sends (record e { machine = b })) → a ≡ b
-same_machine a b e h = ap (λ (o : Option ChannelEnd). machine_in o a) h
-
-sends_message : (e : SenderEnd) (n : Node) (w : Road) (stamp index : ℕ) → HasSender e n w → FitsSender e.cable e n → sender_next e.machine (waiting w.back) (stock e.channel n.manager) ≡ does.PushMsg index → Says e.machine (stock e.channel n.manager) (does.PushMsg index)
+sends_message : (e : SenderEnd) (n : Node) (w : Road) (stamp index : ℕ) → HasSender e n w → FitsSender e n → sender_next e.machine (waiting w.back) (stock e.channel n.manager) ≡ does.PushMsg index → Says e.machine (stock e.channel n.manager) (does.PushMsg index)
     → TurnsLane e n (sent e (does.PushMsg index) [] (option_map (carried stamp e e.machine.begun index) (batch_row e.channel index n.manager)) n) w
 sends_message e n w stamp index g f is s = with_row (batch_row e.channel index n.manager) refl
   where
-    machine : f.channel.sender ≡ e.machine
-    machine = same_machine f.channel.sender e.machine e (sym f.sends.here ∙ g.here)
-
     sent_so_far : ℕ
     sent_so_far = messages_sent e.machine.state
 
-    row_read : option_map letter_of (batch_row e.channel index n.manager) ≡ slice_get f.channel.batch sent_so_far
-    row_read = ap (λ (i : ℕ). option_map letter_of (batch_row e.channel i n.manager)) (s.1 ∙ one_on sent_so_far) ∙ (f.sends.batched (ap (λ (m : Sender). is_sending m.state) machine ∙ s.0)).reads sent_so_far
-      where
-        one_on : (i : ℕ) → i + 1 ≡ suc i
-        one_on i = omega arith
+    clash : true ≡ false → ⊥
+    clash z = absurd cc
+
+    one_on : (i : ℕ) → i + 1 ≡ suc i
+    one_on i = omega arith
+
+    there : is_some (batch_row e.channel index n.manager) ≡ true
+    there = ap (λ (i : ℕ). is_some (batch_row e.channel i n.manager)) (s.1 ∙ one_on sent_so_far) ∙ f.there s.0 sent_so_far (lt_yes sent_so_far e.machine.count s.2)
 
     with_row : (o : Option Message) → batch_row e.channel index n.manager ≡ o → TurnsLane e n (sent e (does.PushMsg index) [] (option_map (carried stamp e e.machine.begun index) (batch_row e.channel index n.manager)) n) w
-    with_row None none = absurd (some_at sent_so_far f.channel.batch (sym row_read ∙ ap (option_map letter_of) none) (omega (arith, lt_yes sent_so_far e.machine.count s.2, f.counted s.0)))
+    with_row None none = absurd (clash (sym there ∙ ap is_some none))
     with_row (Some m) row = same_lane e n w (does.PushMsg index) stamp (names_of m.route) (record m { route = None }) [] (option_map (carried stamp e e.machine.begun index) (batch_row e.channel index n.manager)) g is (λ x. absurd cc) (refl, refl)
         (ap (option_map (carried stamp e e.machine.begun index)) row) refl (sending_runs e.machine.state s.0)
 
@@ -371,7 +357,7 @@ settling e n w x stamp parts g is changed moves pushes =
     (λ runs. let rows = ap (rows_of e.channel) (stays e.channel (sender_after e.machine x outs.Done).state parts n.manager n.manager runs) in (omega (arith, ap free_in rows), omega (arith, ap held_in rows)))
 
 -- THE TABLE
-turns_by : (e : SenderEnd) (n : Node) (w : Road) (stamp : ℕ) (x : SenderDoes) → HasSender e n w → FitsSender e.cable e n → AreDistinct (rows_of e.channel n.manager)
+turns_by : (e : SenderEnd) (n : Node) (w : Road) (stamp : ℕ) (x : SenderDoes) → HasSender e n w → FitsSender e n → AreDistinct (rows_of e.channel n.manager)
     → sender_next e.machine (waiting w.back) (stock e.channel n.manager) ≡ x → Says e.machine (stock e.channel n.manager) x → EachTurns e n w (sender_deed_by stamp e x n)
 turns_by e n w stamp does.Still g f distinct is s = tt
 turns_by e n w stamp does.Ignore g f distinct is s = ignores e n w stamp g is
@@ -401,7 +387,7 @@ turned_lane e n w (Some x) d h is = subst (λ (y : Deed). TurnsLane e n y w) (so
     some_same : (a b : Deed) → Some a ≡ Some b → a ≡ b
     some_same a b eq = cc
 
-pub sender_turns : (e : SenderEnd) (n : Node) (w : Road) (stamp : ℕ) (d : Deed) → HasSender e n w → FitsSender e.cable e n → AreDistinct (rows_of e.channel n.manager) → sender_deed stamp e (waiting w.back) n ≡ Some d → TurnsLane e n d w
+pub sender_turns : (e : SenderEnd) (n : Node) (w : Road) (stamp : ℕ) (d : Deed) → HasSender e n w → FitsSender e n → AreDistinct (rows_of e.channel n.manager) → sender_deed stamp e (waiting w.back) n ≡ Some d → TurnsLane e n d w
 sender_turns e n w stamp d g f distinct is =
     turned_lane e n w (sender_deed stamp e (waiting w.back) n) d
     (turns_by e n w stamp (sender_next e.machine (waiting w.back) (stock e.channel n.manager)) g f distinct refl (says e.machine (waiting w.back) (stock e.channel n.manager))) is

@@ -108,7 +108,7 @@ owed_last stamp None xs = refl
 owed_last stamp (Some o) xs = refl
 
 -- what is owed is pushed, whatever waits
-owed_first : (r : Receiver) (seen : Seen) (defined : Bool) → is_some r.owes ≡ true → receiver_next r seen defined ≡ takes.PushOwed
+pub owed_first : (r : Receiver) (seen : Seen) (defined : Bool) → is_some r.owes ≡ true → receiver_next r seen defined ≡ takes.PushOwed
 owed_first r seen defined owes = ap (λ (b : Bool). if b then takes.PushOwed else first_line takes.Still (tail_of (receiver_lines r seen defined))) owes
   where
     tail_of : List (Line ReceiverDoes) → List (Line ReceiverDoes)

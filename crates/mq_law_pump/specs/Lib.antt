@@ -5,3 +5,10 @@ pub mod Rows
 pub mod Deeds
 pub mod Others
 pub mod Entries
+pub mod Shown
+pub mod Below
+pub mod Away
+pub mod Leaves
+pub mod Sees
+pub mod Apart
+pub mod Restful

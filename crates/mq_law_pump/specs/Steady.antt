@@ -52,7 +52,7 @@ pub record IsSteady (Good : Network → Type 0) (Sees : Network → ℕ → Cabl
   pub due : (w : Network) (m : ℕ) (e : Entry) → Good (does m (e ∷ []) w) → e.call ≡ calls.Trigger → none_due (node_at w m) ≡ false
   pub own : (w : Network) (slot : Slot) (k : ℕ) (c : CableLine) (m : ℕ) (e : Entry) (l : Lane) → Good (does m (e ∷ []) w) → slice_get w.scenario.cables k ≡ Some c → Sees w k c l → TimeoutFits slot l
       → TakesTurn (turn_in w slot k c) m e → Moved Sees (does m (e ∷ []) w) k c l
-  pub other : (w : Network) (k : ℕ) (c : CableLine) (m : ℕ) (e : Entry) (j : ℕ) (d : CableLine) (l : Lane) → Good (does m (e ∷ []) w) → slice_get w.scenario.cables k ≡ Some c → slice_get w.scenario.cables j ≡ Some d → Sees w j d l
-      → IsOf w k c m e → (j ≡ k → ⊥) → Sees (does m (e ∷ []) w) j d l
+  pub other : (w : Network) (k : ℕ) (c : CableLine) (m : ℕ) (e : Entry) (j : ℕ) (d : CableLine) (l moving : Lane) → Good (does m (e ∷ []) w) → slice_get w.scenario.cables k ≡ Some c → slice_get w.scenario.cables j ≡ Some d → Sees w j d l
+      → Sees w k c moving → IsOf w k c m e → (j ≡ k → ⊥) → Sees (does m (e ∷ []) w) j d l
   pub aside : (w : Network) (m : ℕ) (e : Entry) (j : ℕ) (d : CableLine) (l : Lane) → Good (does m (e ∷ []) w) → slice_get w.scenario.cables j ≡ Some d → Sees w j d l → e.call ≡ calls.Trigger → Sees (does m (e ∷ []) w) j d l
   pub quiet : (w : Network) (k : ℕ) (c : CableLine) (l : Lane) → Good w → slice_get w.scenario.cables k ≡ Some c → Sees w k c l → IsStill w Sends k c → IsStill w Receives k c → Quiet l.road
