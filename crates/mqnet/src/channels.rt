@@ -260,7 +260,7 @@ fn shelf_of(alloc: Global, disks: Vec<MemDisk>) -> MemShelf<MemDisk> {
     shelf
 }
 
-fn ran(alloc: Global, text: String, disks: Vec<MemDisk>) -> Result<Ran, Fail> {
+fn run_over(alloc: Global, text: String, disks: Vec<MemDisk>) -> Result<Ran, Fail> {
     let mut words = Vec::new(alloc);
     words.push(String::from_str(alloc, "run")?)?;
     let mut source = MemSource::new(text.into_bytes(), Vec::new(alloc));
@@ -287,7 +287,7 @@ fn ran(alloc: Global, text: String, disks: Vec<MemDisk>) -> Result<Ran, Fail> {
 fn messages_take_the_worked_turns(rt: HostRuntime) -> Result<(), Fail> {
     for case in &CASES {
         let text = scenario(rt.alloc(), case.faults, case.puts, FIRST, case.steps)?;
-        let ran = ran(rt.alloc(), text, empty_disks(rt.alloc(), Image::Kept, 2)?)?;
+        let ran = run_over(rt.alloc(), text, empty_disks(rt.alloc(), Image::Kept, 2)?)?;
         assert!(rt; ran.report.as_str().contains(case.did));
         assert!(rt; ran.report.as_str().ends_with(case.ends));
     }
@@ -301,7 +301,7 @@ fn a_commit_that_is_cut_is_kept_from_its_last_device_call_on(rt: HostRuntime) ->
         steps.push_str(cut.call)?;
         steps.push_str("\nPUMP 1\nRESTART PARIS\nPUMP 100\n")?;
         let text = scenario(rt.alloc(), "", 1, FIRST, steps.as_str())?;
-        let ran = ran(rt.alloc(), text, empty_disks(rt.alloc(), cut.image, 2)?)?;
+        let ran = run_over(rt.alloc(), text, empty_disks(rt.alloc(), cut.image, 2)?)?;
         assert!(rt;
             ran.report.as_str().contains(
                 "0004 PUMP 9 TURNS 9 LIMIT\n0005 CUT PARIS OK\n0006 PUMP 1 TURNS 1 LIMIT\n0007 RESTART PARIS OK\n"
@@ -336,7 +336,7 @@ const RESOLVED: [(&str, u8, &str); 2] = [
 fn a_resolve_that_is_not_borne_out_ends_with_8(rt: HostRuntime) -> Result<(), Fail> {
     for (steps, status, piece) in &RESOLVED {
         let text = scenario(rt.alloc(), " BACK DROP(2)", 1, FIRST, steps)?;
-        let ran = ran(rt.alloc(), text, empty_disks(rt.alloc(), Image::Kept, 2)?)?;
+        let ran = run_over(rt.alloc(), text, empty_disks(rt.alloc(), Image::Kept, 2)?)?;
         assert_eq!(rt; ran.status.number(), *status);
         assert!(rt; ran.report.as_str().contains(piece));
     }
@@ -346,10 +346,10 @@ fn a_resolve_that_is_not_borne_out_ends_with_8(rt: HostRuntime) -> Result<(), Fa
 #[test]
 fn channels_go_on_in_the_next_run(rt: HostRuntime) -> Result<(), Fail> {
     let text = scenario(rt.alloc(), "", 1, FIRST, "PUMP 100\n")?;
-    let first = ran(rt.alloc(), text, empty_disks(rt.alloc(), Image::Kept, 2)?)?;
+    let first = run_over(rt.alloc(), text, empty_disks(rt.alloc(), Image::Kept, 2)?)?;
     let steps = "DO LONDON START CHANNEL(LON.PAR)\nRUN A\nPUMP 100\n";
     let text = scenario(rt.alloc(), "", 1, steps, "")?;
-    let second = ran(rt.alloc(), text, first.disks)?;
+    let second = run_over(rt.alloc(), text, first.disks)?;
     assert!(rt;
         second
             .report
@@ -363,14 +363,14 @@ fn channels_go_on_in_the_next_run(rt: HostRuntime) -> Result<(), Fail> {
 #[test]
 fn logs_that_do_not_belong_together_are_refused(rt: HostRuntime) -> Result<(), Fail> {
     let text = scenario(rt.alloc(), " BACK DROP(2)", 1, FIRST, "PUMP 100\n")?;
-    let first = ran(rt.alloc(), text, empty_disks(rt.alloc(), Image::Kept, 2)?)?;
+    let first = run_over(rt.alloc(), text, empty_disks(rt.alloc(), Image::Kept, 2)?)?;
     let mut kept = first.disks;
     let mut disks = empty_disks(rt.alloc(), Image::Kept, 1)?;
     if let Some(disk) = kept.pop() {
         disks.push(disk)?;
     }
     let text = scenario(rt.alloc(), "", 1, "RUN A\n", "")?;
-    let second = ran(rt.alloc(), text, disks)?;
+    let second = run_over(rt.alloc(), text, disks)?;
     assert!(rt; matches!(second.status, Status::Apart(Apart::Session(0, 0, 2))));
     assert!(rt; second.report.as_str() == "");
     Ok(())
