@@ -1,5 +1,5 @@
 //! Plain data of calls: arguments, answers, free choices, what a call changed, records of the log,
-//! and the parts of a manager's state.
+//! and the parts of a manager's state; and, in definitions, what is meant by that state and by a call's step.
 //!
 //! All of it is data without behaviour: definitions and contracts speak of these very types. A
 //! publication's answer will stand beside `Sent`, with the idents of its copies.

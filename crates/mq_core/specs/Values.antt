@@ -16,7 +16,7 @@ pub record LogBodies : Type 0 where
   pub bodies : List (List ℕ)
   pub pending : Option (List ℕ)
 
--- a manager's value (`ManagerValue` of mq_spec_state), with its log's bodies
+-- a manager's value (`ManagerValue` of mq_calls), with its log's bodies
 pub record CoreValue : Type 0 where
   pub plain : Plain
   pub delta : List Did

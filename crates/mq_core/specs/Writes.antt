@@ -56,7 +56,7 @@ gone_part queue removes idents why = record {
   delta = map (λ (i : Ident). did.Removed queue i why) idents;
 }
 
--- a unit in doubt is settled, of whose batch these rows were held, as mq_spec_agents' `harden` with Resolved
+-- a unit in doubt is settled, of whose batch these rows were held, as mq_spec_manager's `harden` with Resolved
 abbrev pub settled_part : List ℕ → Luw → Bool → Bool → List Remove → Plain → Part
 settled_part channel unit commit operator rows p = record {
   forced = Some (records.Resolved channel unit commit operator);
@@ -64,7 +64,7 @@ settled_part channel unit commit operator rows p = record {
   delta = map (settle_did commit) rows ++ did.Hardened channel (notes.Resolved unit commit operator) ∷ [];
 }
 
--- a batch becomes the unit in doubt of its channel, as mq_spec_agents' `prepare`
+-- a batch becomes the unit in doubt of its channel, as mq_spec_manager's `prepare`
 abbrev pub batch_part : List ℕ → ℕ → Batch → Plain → Part
 batch_part channel last b p = record {
   forced = Some (prepared_record channel last b);
@@ -90,6 +90,6 @@ arrival_adds a = add_of (landing_of a)
 abbrev pub arrival_dids : Arrival → List Did
 arrival_dids a = drop_did a.message (standing_of a.dropped) ++ did.Placed a.queue a.message.ident a.dead ∷ []
 
--- the messages of a batch in order, as mq_spec_agents' `landed` without those that were taken
+-- the messages of a batch in order, as mq_spec_manager's `landed` without those that were taken
 abbrev pub all_landed : List Arrival → Landed
 all_landed landed = record { changes = flat_map arrival_changes landed; adds = flat_map arrival_adds landed; delta = flat_map arrival_dids landed; taken = [] }

@@ -119,7 +119,7 @@ pub fn a_restart_has_what_its_log_tells()
 {}
 
 /// Each counter of a manager rises by no more than what is done to it: so where a run is short enough, none comes near the end
-/// of its 64 bits (`AreLow` of mq_spec_state), and the Started record of each restart is within the bounds that a reader asks.
+/// of its 64 bits (`AreLow` of mq_calls), and the Started record of each restart is within the bounds that a reader asks.
 pub fn counters_rise_by_what_is_done()
     ensures begins { (most : ℕ) (given : Given) (image : Image) (long moment : ℕ) → image.incarnation + 1 ≤ most → long + started_need given ≤ most → ((s : Shelf) → Mem s image.shelves → length s.rows ≤ most) → IsBounded most (first_start given image long moment) }
     ensures parts { (most : ℕ) (part : Part) (p : Plain) → IsBounded most p → IsBounded (most + part_growth part) (do_part part p) }

@@ -41,7 +41,7 @@ use Rattle.mq_law_manager.proofs.SeenLaws.{applied}
 use Rattle.mq_law_manager.proofs.Units.{is_live}
 use Rattle.mq_law_seized.specs.Seized.{AreSeized, strays}
 use Rattle.mq_law_seized.proofs.Changing.{NoneBy, any_none, change_leaves, changed_none, none_any, none_reads, parts_leave, reads, reads_none}
-use Rattle.mq_law_seized.proofs.Plain.{removal_plain}
+use Rattle.mq_law_seized.proofs.Bare.{parts_bare_plain, removal_bare}
 
 true_false : true ≡ false → ⊥
 true_false e = cc
@@ -235,12 +235,12 @@ without_so false false before p k = k
 
 with_so : (left : Bool) (get : Get) (c : Connection) (x : Handle) (row : Row) (q : List ℕ) (rows : List Row) (p : Plain) → AreSeized p → Mem c p.connections → Mem x c.handles → (is_destructive get.take ≡ true → is_input x.how.input ≡ true)
     → StepKeeps AreSeized (with_row left get c x (queue_at x.leads) row (expired_parts q rows)) p
-with_so true get c x row q rows p h m n i = parts_leave (expired_parts q rows) p (removal_plain whys.Expired q rows) h
+with_so true get c x row q rows p h m n i = parts_leave (expired_parts q rows) p (parts_bare_plain (expired_parts q rows) (removal_bare whys.Expired q rows)) h
 with_so false get c x row q rows p h m n i = behind_so get c x row q rows p h m n i
 
 got_so : (get : Get) (until : Option ℕ) (c : Connection) (x : Handle) (rows : List Row) (o : Option Row) (p : Plain) → AreSeized p → Mem c p.connections → Mem x c.handles → (is_destructive get.take ≡ true → is_input x.how.input ≡ true)
     → StepKeeps AreSeized (get_found get until p c x (expired_parts (queue_at x.leads) rows) o) p
-got_so get until c x rows None p h m n i = without_so (is_under get.take) (is_waiting until p) (expired_parts (queue_at x.leads) rows) p (parts_leave (expired_parts (queue_at x.leads) rows) p (removal_plain whys.Expired (queue_at x.leads) rows) h)
+got_so get until c x rows None p h m n i = without_so (is_under get.take) (is_waiting until p) (expired_parts (queue_at x.leads) rows) p (parts_leave (expired_parts (queue_at x.leads) rows) p (parts_bare_plain (expired_parts (queue_at x.leads) rows) (removal_bare whys.Expired (queue_at x.leads) rows)) h)
 got_so get until c x rows (Some row) p h m n i = with_so (is_left get row.message) get c x row (queue_at x.leads) rows p h m n i
 
 asks_input : (d i : Bool) → (d && not i) ≡ false → d ≡ true → i ≡ true

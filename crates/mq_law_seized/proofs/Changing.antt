@@ -316,3 +316,12 @@ parts_leave (part ∷ parts) p e h =
 pub step_leaves : {F T : Type 0} (s : Step F T) (p : Plain) → step_plain s ≡ true → AreSeized p → StepKeeps AreSeized s p
 step_leaves (Refuse reason) p e h = tt
 step_leaves (Do reply parts) p e h = parts_leave parts p e h
+
+-- ONE BEHIND ANOTHER
+pub plain_behind : (xs ys : List Change) → all_plain xs ≡ true → all_plain ys ≡ true → all_plain (xs ++ ys) ≡ true
+plain_behind [] ys a b = b
+plain_behind (x ∷ xs) ys a b = let z = both_true (is_plain x) (all_plain xs) a in ap (λ (t : Bool). t && all_plain (xs ++ ys)) z.0 ∙ plain_behind xs ys z.1 b
+
+pub plain_parts_behind : (xs ys : List Part) → parts_plain xs ≡ true → parts_plain ys ≡ true → parts_plain (xs ++ ys) ≡ true
+plain_parts_behind [] ys a b = b
+plain_parts_behind (x ∷ xs) ys a b = let z = both_true (all_plain x.changes) (parts_plain xs) a in ap (λ (t : Bool). t && parts_plain (xs ++ ys)) z.0 ∙ plain_parts_behind xs ys z.1 b

@@ -47,8 +47,7 @@ use Rattle.mq_law_manager.proofs.Objects.{all_alike, defined_alike, delete_found
 use Rattle.mq_law_manager.proofs.StockCommands.{used_alike}
 use Rattle.mq_law_seized.specs.Seized.{AreSeized, all_plain}
 use Rattle.mq_law_seized.proofs.Calling.{tested_keeps}
-use Rattle.mq_law_seized.proofs.Changing.{both_true, changes_leave, logged_leaves, none_any}
-use Rattle.mq_law_seized.proofs.Plain.{plain_behind}
+use Rattle.mq_law_seized.proofs.Changing.{both_true, changes_leave, logged_leaves, none_any, plain_behind}
 
 true_false : true ≡ false → ⊥
 true_false e = cc

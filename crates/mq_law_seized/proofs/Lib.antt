@@ -1,5 +1,5 @@
 pub mod Changing
-pub mod Plain
+pub mod Bare
 pub mod Calling
 pub mod Seizing
 pub mod Commanding

@@ -35,10 +35,10 @@ use Rattle.mq_calls.specs.Reads.{is_persistent}
 use Rattle.mq_law_manager.specs.Facts.{Mem}
 use Rattle.mq_law_manager.specs.Kept.{StepKeeps}
 use Rattle.mq_law_manager.proofs.Lists.{bool_case, name_self, name_yes}
-use Rattle.mq_law_seized.specs.Seized.{AreSeized, all_plain, step_plain}
+use Rattle.mq_law_seized.specs.Seized.{AreSeized, all_bare, step_bare}
 use Rattle.mq_law_seized.proofs.Calling.{holds, tested_keeps, tests_none}
 use Rattle.mq_law_seized.proofs.Changing.{change_leaves, none_any, step_leaves}
-use Rattle.mq_law_seized.proofs.Plain.{plain_behind, removal_plain, tested_plain}
+use Rattle.mq_law_seized.proofs.Bare.{bare_behind, bare_leaves, removal_bare, tested_bare}
 
 true_false : true ≡ false → ⊥
 true_false e = cc
@@ -137,84 +137,87 @@ holds_seized channel unit most p seized h =
 pub holds_batch : (channel : List ℕ) (unit : Luw) (most : ℕ) (p : Plain) → CanHold channel p → AreSeized p → StepKeeps AreSeized (hold_batch channel unit most p) p
 holds_batch channel unit most p can h = holds_seized channel unit most p can.seized h
 
--- WHAT IS PLAIN
-prepare_plain : (channel : List ℕ) (last : ℕ) (o : Option Batch) (p : Plain) → step_plain (prepare_of channel last o p) ≡ true
-prepare_plain channel last None p = refl
-prepare_plain channel last (Some b) p = tested_plain (when (is_full (need (prepared_record channel last b)) p) prepare_faults.NoRoom ∷ []) (Do (tt {0}) (record {
+-- WHAT IS BARE
+pub prepare_bare : (channel : List ℕ) (last : ℕ) (o : Option Batch) (p : Plain) → step_bare (prepare_of channel last o p) ≡ true
+prepare_bare channel last None p = refl
+prepare_bare channel last (Some b) p = tested_bare (when (is_full (need (prepared_record channel last b)) p) prepare_faults.NoRoom ∷ []) (Do (tt {0}) (record {
   forced = Some (prepared_record channel last b);
   changes = prepared_changes channel last b (sender_or (sender_data channel p));
   delta = did.Prepared channel b.unit ∷ [];
 } ∷ [])) refl
 
-release_plain : (channel : List ℕ) (o : Option Batch) → step_plain (release_of channel o) ≡ true
-release_plain channel None = refl
-release_plain channel (Some b) = refl
+pub release_bare : (channel : List ℕ) (o : Option Batch) → step_bare (release_of channel o) ≡ true
+release_bare channel None = refl
+release_bare channel (Some b) = refl
 
-harden_plain : (channel : List ℕ) (note : Note) (p : Plain) → all_plain (harden_part channel note p).changes ≡ true
-harden_plain channel (notes.Session partner session) p = refl
-harden_plain channel (notes.Resolved unit true operator) p = refl
-harden_plain channel (notes.Resolved unit false operator) p = refl
-harden_plain channel (notes.Bound partner session last) p = refl
-harden_plain channel (notes.Closed session) p = refl
-harden_plain channel (notes.SeqSet ends.Sender last) p = refl
-harden_plain channel (notes.SeqSet ends.Receiver last) p = refl
+harden_bare : (channel : List ℕ) (note : Note) (p : Plain) → all_bare (harden_part channel note p).changes ≡ true
+harden_bare channel (notes.Session partner session) p = refl
+harden_bare channel (notes.Resolved unit true operator) p = refl
+harden_bare channel (notes.Resolved unit false operator) p = refl
+harden_bare channel (notes.Bound partner session last) p = refl
+harden_bare channel (notes.Closed session) p = refl
+harden_bare channel (notes.SeqSet ends.Sender last) p = refl
+harden_bare channel (notes.SeqSet ends.Receiver last) p = refl
 
-undoubted_plain : (b : Bool) (i : Ident) → all_plain (undoubted b i) ≡ true
-undoubted_plain true i = refl
-undoubted_plain false i = refl
+undoubted_bare : (b : Bool) (i : Ident) → all_bare (undoubted b i) ≡ true
+undoubted_bare true i = refl
+undoubted_bare false i = refl
 
-drop_plain : (m : Message) (s : Standing) → all_plain (drop_changes m s) ≡ true
-drop_plain m Absent = undoubted_plain (is_persistent m) m.ident
-drop_plain m Present = undoubted_plain (is_persistent m) m.ident
-drop_plain m (InDoubtAt queue) = undoubted_plain (is_persistent m) m.ident
+drop_bare : (m : Message) (s : Standing) → all_bare (drop_changes m s) ≡ true
+drop_bare m Absent = undoubted_bare (is_persistent m) m.ident
+drop_bare m Present = undoubted_bare (is_persistent m) m.ident
+drop_bare m (InDoubtAt queue) = undoubted_bare (is_persistent m) m.ident
 
-land_plain : (l : Landing) (s : Standing) → all_plain (land_changes l s) ≡ true
-land_plain l s = plain_behind (drop_changes l.message s) _ (drop_plain l.message s) refl
+land_bare : (l : Landing) (s : Standing) → all_bare (land_changes l s) ≡ true
+land_bare l s = bare_behind (drop_changes l.message s) _ (drop_bare l.message s) refl
 
-abbrev LandsPlain : Result Landed Reason → Type 0
-LandsPlain (Err reason) = Unit {0}
-LandsPlain (Ok l) = all_plain l.changes ≡ true
+abbrev LandsBare : Result Landed Reason → Type 0
+LandsBare (Err reason) = Unit {0}
+LandsBare (Ok l) = all_bare l.changes ≡ true
 
-before_plain : (m : Message) (l : Landing) (s : Standing) (r : Result Landed Reason) → LandsPlain r → LandsPlain (before m l s r)
-before_plain m l s (Err reason) h = tt
-before_plain m l s (Ok rest) h = plain_behind (land_changes l s) rest.changes (land_plain l s) h
+before_bare : (m : Message) (l : Landing) (s : Standing) (r : Result Landed Reason) → LandsBare r → LandsBare (before m l s r)
+before_bare m l s (Err reason) h = tt
+before_bare m l s (Ok rest) h = bare_behind (land_changes l s) rest.changes (land_bare l s) h
 
-by_plain : (o : Result Landing Reason) (m : Message) (s : Standing) (p : Plain) (rest : Plain → Result Landed Reason) → ((q : Plain) → LandsPlain (rest q)) → LandsPlain (landed_by o m s p rest)
-by_plain (Err reason) m s p rest h = tt
-by_plain (Ok l) m s p rest h = before_plain m l s _ (h _)
+by_bare : (o : Result Landing Reason) (m : Message) (s : Standing) (p : Plain) (rest : Plain → Result Landed Reason) → ((q : Plain) → LandsBare (rest q)) → LandsBare (landed_by o m s p rest)
+by_bare (Err reason) m s p rest h = tt
+by_bare (Ok l) m s p rest h = before_bare m l s _ (h _)
 
-unless_plain : (b : Bool) (channel : List ℕ) (m : Message) (s : Standing) (p : Plain) (rest : Plain → Result Landed Reason) → ((q : Plain) → LandsPlain (rest q)) → LandsPlain (landed_unless b channel m s p rest)
-unless_plain true channel m s p rest h = h p
-unless_plain false channel m s p rest h = by_plain (land channel m p) m s p rest h
+unless_bare : (b : Bool) (channel : List ℕ) (m : Message) (s : Standing) (p : Plain) (rest : Plain → Result Landed Reason) → ((q : Plain) → LandsBare (rest q)) → LandsBare (landed_unless b channel m s p rest)
+unless_bare true channel m s p rest h = h p
+unless_bare false channel m s p rest h = by_bare (land channel m p) m s p rest h
 
-landed_plain : (channel : List ℕ) (ms : List Message) (p : Plain) → LandsPlain (landed channel ms p)
-landed_plain channel [] p = refl
-landed_plain channel (m ∷ ms) p = unless_plain (is_present (standing_at m p)) channel m (standing_at m p) p (λ q. landed channel ms q) (λ q. landed_plain channel ms q)
+pub landed_bare : (channel : List ℕ) (ms : List Message) (p : Plain) → LandsBare (landed channel ms p)
+landed_bare channel [] p = refl
+landed_bare channel (m ∷ ms) p = unless_bare (is_present (standing_at m p)) channel m (standing_at m p) p (λ q. landed channel ms q) (λ q. landed_bare channel ms q)
 
-receive_plain : (channel : List ℕ) (unit : Luw) (last : ℕ) (o : Result Landed Reason) (p : Plain) → LandsPlain o → step_plain (receive_landed channel unit last o p) ≡ true
-receive_plain channel unit last (Err reason) p h = refl
-receive_plain channel unit last (Ok l) p h = tested_plain (when (is_full (need (received_record channel unit last l)) p) reasons.ResourceProblem ∷ []) _ (ap (λ (b : Bool). b && true) (plain_behind l.changes _ h refl))
+pub receive_bare : (channel : List ℕ) (unit : Luw) (last : ℕ) (o : Result Landed Reason) (p : Plain) → LandsBare o → step_bare (receive_landed channel unit last o p) ≡ true
+receive_bare channel unit last (Err reason) p h = refl
+receive_bare channel unit last (Ok l) p h = tested_bare (when (is_full (need (received_record channel unit last l)) p) reasons.ResourceProblem ∷ []) _ (ap (λ (b : Bool). b && true) (bare_behind l.changes _ h refl))
+
+pub hardens_bare : (channel : List ℕ) (note : Note) (p : Plain) → step_bare (harden channel note p) ≡ true
+hardens_bare channel note p = ap (λ (b : Bool). b && true) (harden_bare channel note p)
 
 pub receives : (channel : List ℕ) (unit : Luw) (last : ℕ) (batch : List Message) (p : Plain) → AreSeized p → StepKeeps AreSeized (receive channel unit last batch p) p
-receives channel unit last batch p h = step_leaves (receive channel unit last batch p) p (receive_plain channel unit last (landed channel batch p) p (landed_plain channel batch p)) h
+receives channel unit last batch p h = bare_leaves (receive channel unit last batch p) p (receive_bare channel unit last (landed channel batch p) p (landed_bare channel batch p)) h
 
 pub prepares : (channel : List ℕ) (last : ℕ) (p : Plain) → AreSeized p → StepKeeps AreSeized (prepare channel last p) p
-prepares channel last p h = step_leaves (prepare channel last p) p (prepare_plain channel last (batch_of channel p.channels.batches) p) h
+prepares channel last p h = bare_leaves (prepare channel last p) p (prepare_bare channel last (batch_of channel p.channels.batches) p) h
 
 pub releases : (channel : List ℕ) (p : Plain) → AreSeized p → StepKeeps AreSeized (release_batch channel p) p
-releases channel p h = step_leaves (release_batch channel p) p (release_plain channel (batch_of channel p.channels.batches)) h
+releases channel p h = bare_leaves (release_batch channel p) p (release_bare channel (batch_of channel p.channels.batches)) h
 
 pub hardens : (channel : List ℕ) (note : Note) (p : Plain) → AreSeized p → StepKeeps AreSeized (harden channel note p) p
-hardens channel note p h = step_leaves (harden channel note p) p (ap (λ (b : Bool). b && true) (harden_plain channel note p)) h
+hardens channel note p h = bare_leaves (harden channel note p) p (hardens_bare channel note p) h
 
 pub expires : (channel : List ℕ) (p : Plain) → AreSeized p → StepKeeps AreSeized (expire channel p) p
-expires channel p h = step_leaves (expire channel p) p (removal_plain whys.Expired (queue_of_sender channel p) (expired_rows (queue_of_sender channel p) p)) h
+expires channel p h = bare_leaves (expire channel p) p (removal_bare whys.Expired (queue_of_sender channel p) (expired_rows (queue_of_sender channel p) p)) h
 
 pub leaves : (channel : List ℕ) (p : Plain) → AreSeized p → StepKeeps AreSeized (leave channel p) p
 leaves channel p h = step_leaves (leave channel p) p refl h
 
 pub binds : (channel : List ℕ) (bound : Bool) (p : Plain) → AreSeized p → StepKeeps AreSeized (set_bound channel bound p) p
-binds channel bound p h = step_leaves (set_bound channel bound p) p refl h
+binds channel bound p h = bare_leaves (set_bound channel bound p) p refl h
 
 -- NONE
 pub none_seized : (p : Plain) → p.channels.seizures ≡ [] → p.connections ≡ [] → AreSeized p

@@ -6,7 +6,7 @@ use Rattle.mq_calls.specs.declared.state.Handle.{Handle}
 use Rattle.mq_calls.specs.declared.state.Connection.{Connection}
 use Rattle.mq_calls.specs.State.{Change, Plain}
 use Rattle.mq_calls.specs.declared.state.Seizure.{Seizure}
-use Rattle.mq_calls.specs.State.Change.{Seize, OpenHandle, Hold, Connect, ChangeObjects}
+use Rattle.mq_calls.specs.State.Change.{Seize, Unseize, OpenHandle, Hold, Connect, ChangeObjects, ForgetAll}
 use Rattle.mq_calls.specs.Reads.{has_held_by_other, is_input, leads_to, read_by_handle}
 use Rattle.mq_calls.specs.Steps.{Part, Step}
 use Rattle.mq_calls.specs.Steps.Step.{Do, Refuse}
@@ -49,3 +49,21 @@ parts_plain (part ∷ parts) = all_plain part.changes && parts_plain parts
 abbrev pub step_plain : {F T : Type 0} → Step F T → Bool
 step_plain (Refuse reason) = true
 step_plain (Do reply parts) = parts_plain parts
+
+-- and what lets no seized queue go, either
+abbrev pub is_bare : Change → Bool
+is_bare (Unseize channel) = false
+is_bare ForgetAll = false
+is_bare c = is_plain c
+
+abbrev pub all_bare : List Change → Bool
+all_bare [] = true
+all_bare (c ∷ cs) = is_bare c && all_bare cs
+
+abbrev pub parts_bare : List Part → Bool
+parts_bare [] = true
+parts_bare (part ∷ parts) = all_bare part.changes && parts_bare parts
+
+abbrev pub step_bare : {F T : Type 0} → Step F T → Bool
+step_bare (Refuse reason) = true
+step_bare (Do reply parts) = parts_bare parts

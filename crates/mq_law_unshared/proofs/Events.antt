@@ -29,17 +29,19 @@ use Rattle.mq_spec_node.specs.Deeds.{CanCome, Deed, Done, begun_anew, done, end_
 use Rattle.mq_spec_node.specs.Replays.{IsOwn, Surroundings, opening_node}
 use Rattle.mq_spec_node.specs.Senders.{sender_deed, sender_deed_by}
 use Rattle.mq_spec_node.specs.Happens as happens
-use Rattle.mq_spec_node.specs.Happens.{IsDeed, IsEvent, IsReturn, choice_event, crashed, deed_of, event, receiver_turn, remembered, remembering, sender_turn, timeout_by, timeout_of, turn_up, where_up}
+use Rattle.mq_spec_node.specs.Happens.{IsDeed, IsEvent, choice_event, crashed, deed_of, event, receiver_turn, remembering, sender_turn, timeout_by, timeout_of, turn_up, where_up}
 use Rattle.mq_history.specs.declared.history.History.{History}
 use Rattle.mq_law_manager.specs.Facts.{IsSound}
 use Rattle.mq_law_manager.proofs.Lists.{bool_case}
-use Rattle.mq_law_node.specs.Quiet.{IsOrdinary}
+use Rattle.mq_law_node.specs.Quiet.{EachQuiet, IsOrdinary}
 use Rattle.mq_law_node.proofs.NearTotal.{remembered_ends}
+use Rattle.mq_law_node.proofs.Ordinary.{ordinary_is_quiet}
 use Rattle.mq_law_node.proofs.Standing.{running_done_all}
 use Rattle.mq_law_seized.proofs.Seizing.{none_seized}
 use Rattle.mq_law_keys.specs.Keys.{IsKeyed}
 use Rattle.mq_law_keys.proofs.Telling.{sender_end_mem}
-use Rattle.mq_law_unshared.specs.Unshared.{AreOpen, EachLeaves, EachStill, IsUnshared, WhereUp}
+use Rattle.mq_law_unshared.specs.Ordinary.{EachHas}
+use Rattle.mq_law_unshared.specs.Unshared.{AreOpen, EachLeaves, IsUnshared, WhereUp, parts_still}
 use Rattle.mq_law_unshared.proofs.Deeds.{ordinary_leaves}
 use Rattle.mq_law_unshared.proofs.Ends.{behind, operates, receiver_leaves, sender_leaves, timeout_leaves}
 use Rattle.mq_law_unshared.proofs.StillDeeds.{ordinary_is_still}
@@ -50,12 +52,12 @@ abbrev EachBoth : Node → Option Deed → Type 0
 EachBoth n o = EachLeaves n.manager o × EachOpen n o
 
 -- one that leaves all ends as they are
-still_is_open : (n : Node) (o : Option Deed) → EachStill n.own o → AreOpen n.own.ends n.manager → EachOpen n o
-still_is_open n None k a = tt
-still_is_open n (Some d) k a = subst (λ (es : List ChannelEnd). AreOpen es (do_all d.parts n.manager)) (sym k.ends) (still_open n n.own.ends d.parts k.parts a)
+still_is_open : (n : Node) (o : Option Deed) → EachHas (λ parts. parts_still parts ≡ true) o → EachQuiet n.own o → AreOpen n.own.ends n.manager → EachOpen n o
+still_is_open n None still quiet a = tt
+still_is_open n (Some d) still quiet a = subst (λ (es : List ChannelEnd). AreOpen es (do_all d.parts n.manager)) (sym quiet.ends) (still_open n n.own.ends d.parts still a)
 
 ordinary : (stamp : ℕ) (actor : Actor) (call : Call) (seen : Seen) (n : Node) → IsOrdinary actor call → IsSound n.manager → IsUnshared n → EachBoth n (deed_of stamp actor call seen n)
-ordinary stamp actor call seen n o sound u = (ordinary_leaves stamp actor call seen n o sound u.seized, still_is_open n (deed_of stamp actor call seen n) (ordinary_is_still stamp actor call seen n o) u.open_)
+ordinary stamp actor call seen n o sound u = (ordinary_leaves stamp actor call seen n o sound u.seized, still_is_open n (deed_of stamp actor call seen n) (ordinary_is_still stamp actor call seen n o) (ordinary_is_quiet stamp actor call seen n o) u.open_)
 
 -- a sender's turn
 turn_leaves : (stamp : ℕ) (n : Node) (e : SenderEnd) (seen : Seen) → Mem (Sends e) n.own.ends → IsUnshared n → EachLeaves n.manager (sender_deed stamp e seen n)

@@ -1,4 +1,5 @@
 pub mod Ends
+pub mod Ordinary
 pub mod Deeds
 pub mod Stills
 pub mod StillCalls

@@ -31,6 +31,7 @@ use Rattle.mq_receiver.specs.declared.turns.ReceiverDoes.TheVariants as takes
 use Rattle.mq_receiver.specs.After.{bound_by, last_by}
 use Rattle.mq_receiver.specs.States as receivers
 use Rattle.mq_receiver.specs.Table.{receiver_next}
+use Rattle.mq_calls.specs.declared.agents.Note.{Note}
 use Rattle.mq_calls.specs.declared.agents.Note.TheVariants as notes
 use Rattle.mq_calls.specs.declared.agents.PrepareFault.{PrepareFault}
 use Rattle.mq_calls.specs.declared.agents.SeizeFault.{SeizeFault}
@@ -61,9 +62,10 @@ use Rattle.mq_law_manager.proofs.Lists.{bool_case, is_false, name_yes}
 use Rattle.mq_law_node.proofs.Named.{nat_self, nat_yes}
 use Rattle.mq_law_keys.specs.Keys.{AreKeyed, IsKeyed, key_of, keys}
 use Rattle.mq_law_keys.proofs.Telling.{one_channel, receiver_mem, sender_mem}
+use Rattle.mq_law_seized.proofs.Bare.{removal_bare}
+use Rattle.mq_law_seized.proofs.Seizing.{hardens_bare, landed_bare, prepare_bare, receive_bare, release_bare}
 use Rattle.mq_law_unshared.specs.Unshared.{AreOpen, parts_still, parts_still_for}
-use Rattle.mq_law_unshared.proofs.StillCalls.{removal_still}
-use Rattle.mq_law_unshared.proofs.Stills.{for_behind, for_parts, harden_still, landed_still, parts_have, prepare_still, receive_still, release_still, set_there, step_parts}
+use Rattle.mq_law_unshared.proofs.Stills.{bare_parts, bare_still_parts, for_behind, for_parts, parts_have, set_there}
 
 -- behind a deed
 abbrev pub EachOpen : Node → Option Deed → Type 0
@@ -151,7 +153,7 @@ sent_open n e d parts h there open_ runs still =
 let_go : (n : Node) (e : SenderEnd) (m : Sender) (o : Option Batch) → IsKeyed n → Mem (Sends e) n.own.ends → AreOpen n.own.ends n.manager → senders.is_running m.state ≡ false
     → AreOpen (with_end (Sends (record e { machine = m })) n.own).ends (do_all (parts_of (release_of e.channel o) ++ parts_of (leave e.channel n.manager)) n.manager)
 let_go n e m o h there open_ off = set_open n e m (parts_of (release_of e.channel o) ++ parts_of (leave e.channel n.manager)) h there open_
-    (λ c apart. for_behind c (parts_of (release_of e.channel o)) (parts_of (leave e.channel n.manager)) (for_parts c (parts_of (release_of e.channel o)) (step_parts (release_of e.channel o) (release_still e.channel o))) (leave_for c e.channel n.manager apart))
+    (λ c apart. for_behind c (parts_of (release_of e.channel o)) (parts_of (leave e.channel n.manager)) (for_parts c (parts_of (release_of e.channel o)) (bare_parts (release_of e.channel o) (release_bare e.channel o))) (leave_for c e.channel n.manager apart))
     (λ on. absurd (true_false (sym on ∙ off)))
 
 prepares_open : (n : Node) (e : SenderEnd) (s : Step PrepareFault (Unit {0})) → IsKeyed n → Mem (Sends e) n.own.ends → AreOpen n.own.ends n.manager → senders.is_running e.machine.state ≡ true → parts_still (parts_of s) ≡ true → EachOpen n (Some (prepare_deed e s n))
@@ -159,7 +161,9 @@ prepares_open n e (Refuse fault) h there open_ runs still = let_go n e (sender_a
 prepares_open n e (Do reply parts) h there open_ runs still = sent_open n e does.Prepare parts h there open_ runs still
 
 harden_parts : (e : SenderEnd) (commit : Bool) (p : Plain) → parts_still (parts_of (harden e.channel (notes.Resolved (doubted e.machine.kept.doubt) commit false) p)) ≡ true
-harden_parts e commit p = ap (λ b. b && true) (harden_still e.channel (notes.Resolved (doubted e.machine.kept.doubt) commit false) p)
+harden_parts e commit p =
+    let note : Note = notes.Resolved (doubted e.machine.kept.doubt) commit false in
+    bare_parts (harden e.channel note p) (hardens_bare e.channel note p)
 
 settle_still : (e : SenderEnd) (o : Option Settle) (p : Plain) → parts_still (settle_parts_if e o p) ≡ true
 settle_still e None p = refl
@@ -170,12 +174,12 @@ running_by stamp n e does.Still h there open_ runs = tt
 running_by stamp n e does.Ignore h there open_ runs = open_
 running_by stamp n e (does.HardenSession session) h there open_ runs = sent_open n e (does.HardenSession session) (parts_of (harden e.channel (notes.Session e.partner session) n.manager)) h there open_ runs refl
 running_by stamp n e does.PushBind h there open_ runs = sent_open n e does.PushBind [] h there open_ runs refl
-running_by stamp n e does.Expire h there open_ runs = sent_open n e does.Expire (expired_parts (queue_of_sender e.channel n.manager) (expired_rows (queue_of_sender e.channel n.manager) n.manager)) h there open_ runs (removal_still whys.Expired (queue_of_sender e.channel n.manager) (expired_rows (queue_of_sender e.channel n.manager) n.manager))
+running_by stamp n e does.Expire h there open_ runs = sent_open n e does.Expire (expired_parts (queue_of_sender e.channel n.manager) (expired_rows (queue_of_sender e.channel n.manager) n.manager)) h there open_ runs (bare_still_parts (expired_parts (queue_of_sender e.channel n.manager) (expired_rows (queue_of_sender e.channel n.manager) n.manager)) (removal_bare whys.Expired (queue_of_sender e.channel n.manager) (expired_rows (queue_of_sender e.channel n.manager) n.manager)))
 running_by stamp n e (does.Begin k count) h there open_ runs = sent_open n e (does.Begin k count) (parts_of (hold_batch e.channel (unit_named e.machine.kept.session k) count n.manager)) h there open_ runs refl
 running_by stamp n e (does.PushMsg index) h there open_ runs = sent_open n e (does.PushMsg index) [] h there open_ runs refl
 running_by stamp n e does.Prepare h there open_ runs =
     let s : Step PrepareFault (Unit {0}) = prepare e.channel (number_sent e.machine.state e.machine.kept.last) n.manager in
-    prepares_open n e s h there open_ runs (step_parts s (prepare_still e.channel (number_sent e.machine.state e.machine.kept.last) (batch_of e.channel n.manager.channels.batches) n.manager))
+    prepares_open n e s h there open_ runs (bare_parts s (prepare_bare e.channel (number_sent e.machine.state e.machine.kept.last) (batch_of e.channel n.manager.channels.batches) n.manager))
 running_by stamp n e does.PushEnd h there open_ runs = sent_open n e does.PushEnd [] h there open_ runs refl
 running_by stamp n e (does.Bound settle partner) h there open_ runs = sent_open n e (does.Bound settle partner) (settle_parts_if e settle n.manager) h there open_ runs (settle_still e settle n.manager)
 running_by stamp n e does.Commit h there open_ runs = sent_open n e does.Commit (settle_parts e true n.manager) h there open_ runs (harden_parts e true n.manager)
@@ -247,7 +251,7 @@ receiver_by stamp n e seen takes.Bind open_ = beside_open n _ (bind_parts e (bou
 receiver_by stamp n e seen takes.Keep open_ = beside_open n _ [] refl open_
 receiver_by stamp n e seen (takes.Place u) open_ =
     let s : Step Reason (Unit {0}) = receive e.channel u (last_by seen e.machine.last) e.kept n.manager in
-    places_open n e seen s (takes.Place u) u refl (step_parts s (receive_still e.channel u (last_by seen e.machine.last) (landed e.channel e.kept n.manager) n.manager (landed_still e.channel e.kept n.manager))) open_
+    places_open n e seen s (takes.Place u) u refl (bare_parts s (receive_bare e.channel u (last_by seen e.machine.last) (landed e.channel e.kept n.manager) n.manager (landed_bare e.channel e.kept n.manager))) open_
 receiver_by stamp n e seen takes.Again open_ = beside_open n _ [] refl open_
 receiver_by stamp n e seen takes.Close open_ = beside_open n _ (close_parts e n.manager) refl open_
 
@@ -334,7 +338,7 @@ resets seqnum n (Some (Receives e)) open_ = refused_open n (refusal (
 doubt_open : (n : Node) (e : SenderEnd) (settle : Settle) (o : Option InDoubt) → AreOpen n.own.ends n.manager → EachOpen n (Some (resolve_doubt e settle o n))
 doubt_open n e settle None open_ = open_
 doubt_open n e settle (Some d) open_ = refused_open n (refusal (when (senders.is_running e.machine.state) reasons.Running ∷ [])) (operated (parts_of (harden e.channel (notes.Resolved d.unit (is_commit settle) true) n.manager)) n.own) open_
-    (still_open n n.own.ends (parts_of (harden e.channel (notes.Resolved d.unit (is_commit settle) true) n.manager)) (ap (λ b. b && true) (harden_still e.channel (notes.Resolved d.unit (is_commit settle) true) n.manager)) open_)
+    (still_open n n.own.ends (parts_of (harden e.channel (notes.Resolved d.unit (is_commit settle) true) n.manager)) (bare_parts (harden e.channel (notes.Resolved d.unit (is_commit settle) true) n.manager) (hardens_bare e.channel (notes.Resolved d.unit (is_commit settle) true) n.manager)) open_)
 
 resolves : (settle : Settle) (n : Node) (o : Option SenderEnd) → AreOpen n.own.ends n.manager → EachOpen n (Some (resolve_end settle o n))
 resolves settle n None open_ = open_

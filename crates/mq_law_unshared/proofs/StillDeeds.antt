@@ -1,171 +1,45 @@
 -- Events that are no turn of a channel's end, no timeout and no operator's command leave all queues open that are.
-use Rattle.std.proofs.Common.{ℕ, ◌≡◌, Bool, true, false, List, [], ◌∷◌, refl}
-use Rattle.std.specs.Prelude.{Option, Some, None, if◌then◌else◌, map, filter, ◌+◌, not, slice_get}
-use Rattle.mq_codes.specs.declared.reason.Reason.{Reason}
-use Rattle.mq_message.specs.declared.message.Message.{Message}
-use Rattle.mq_queue.specs.declared.row.Row.{Row}
+use Rattle.std.proofs.Common.{ℕ, ◌≡◌, true, [], ◌∷◌, refl}
+use Rattle.std.specs.Prelude.{Some, not}
 use Rattle.mq_frame.specs.declared.frame.Seen.{Seen}
-use Rattle.mq_objects.specs.declared.object.LocalQueue.{LocalQueue}
-use Rattle.mq_objects.specs.Names.{locals_of}
-use Rattle.mq_rules.specs.declared.rule.Rule.{Rule}
-use Rattle.mq_rules.specs.declared.rule.Action.{Action}
-use Rattle.mq_rules.specs.declared.rule.Action.TheVariants as actions
-use Rattle.mq_calls.specs.declared.answers.Answer.{Answer}
-use Rattle.mq_calls.specs.declared.answers.Got.{Got}
-use Rattle.mq_calls.specs.declared.answers.GetAnswer.{GetAnswer}
-use Rattle.mq_calls.specs.declared.commands.ScRefusal.{ScRefusal}
 use Rattle.mq_calls.specs.declared.commands.ScRefusal.TheVariants as refusals
-use Rattle.mq_calls.specs.declared.commands.Shown.{Shown}
 use Rattle.mq_sc_apply.specs.Commands.{plan}
-use Rattle.mq_sc_parse.specs.declared.command.Command.{Command}
-use Rattle.mq_sc_parse.specs.declared.command.Command.TheVariants as commands
-use Rattle.mq_history.specs.declared.acts.Act.TheVariants as acts
 use Rattle.mq_history.specs.declared.calls.Actor.{Actor}
-use Rattle.mq_history.specs.declared.calls.Actor.TheVariants as actors
 use Rattle.mq_history.specs.declared.calls.Call.{Call}
-use Rattle.mq_history.specs.declared.calls.Call.TheVariants as calls
-use Rattle.mq_history.specs.declared.calls.Reply.{Reply}
-use Rattle.mq_history.specs.declared.calls.Reply.TheVariants as replies
-use Rattle.mq_history.specs.declared.acts.Acted.TheVariants as acted
-use Rattle.mq_calls.specs.State.{Plain, Running}
-use Rattle.mq_calls.specs.State.Running.{Up, Down}
-use Rattle.mq_calls.specs.Reads.{is_up}
-use Rattle.mq_calls.specs.Steps.{Step, Part, when}
-use Rattle.mq_calls.specs.Steps.Step.{Refuse, Do}
-use Rattle.mq_spec_manager.specs.Handles.{mqconn, mqopen, mqclose}
-use Rattle.mq_spec_manager.specs.Put.{mqput, mqput1}
-use Rattle.mq_spec_manager.specs.Get.{mqget}
-use Rattle.mq_spec_manager.specs.Units.{mqcmit, mqback, mqdisc}
-use Rattle.mq_spec_manager.specs.Commands.{command, planned_step, uses_of}
-use Rattle.mq_spec_manager.specs.Triggers.{first_due, trigger_turn}
-use Rattle.mq_spec_manager.specs.Agents.{move_row, row_with, discard}
-use Rattle.mq_calls.specs.Reads.{stored}
-use Rattle.mq_spec_node.specs.Node.{Node, Own, Handler, handler_in}
-use Rattle.mq_spec_node.specs.Deeds.{Deed, told, parts_of, mqi_deed, ended_deed}
-use Rattle.mq_spec_node.specs.Handlers as handlers
-use Rattle.mq_spec_node.specs.Status.{shown, status_line, is_asked}
-use Rattle.mq_spec_node.specs.Happens.{get_done, got_deed, get_deed, command_deed, obey_deed, trigger_deed_of, trigger_deed, handler_turn, turn_up, where_up, deed_of}
-use Rattle.mq_law_node.specs.Quiet.{IsCommandQuiet, IsTurnQuiet, IsOrdinary}
-use Rattle.mq_law_unshared.specs.Unshared.{EachStill, IsStillDeed, parts_still, step_still}
-use Rattle.mq_law_node.proofs.Named.{bool_case}
+use Rattle.mq_calls.specs.State.{Plain}
+use Rattle.mq_calls.specs.Reads.{is_up, stored}
+use Rattle.mq_calls.specs.Steps.{when}
+use Rattle.mq_spec_manager.specs.Words.{mqconn, mqopen, mqclose, mqput, mqput1, mqget, mqcmit, mqback, mqdisc, command, trigger_turn}
+use Rattle.mq_spec_manager.specs.Commands.{planned_step, uses_of}
+use Rattle.mq_spec_manager.specs.Agents.{discard, move_row, row_with}
+use Rattle.mq_spec_node.specs.Node.{Node}
+use Rattle.mq_spec_node.specs.Happens.{deed_of}
+use Rattle.mq_law_node.specs.Quiet.{IsOrdinary}
+use Rattle.mq_law_seized.proofs.Bare.{discard_bare, move_bare, mqback_bare, mqclose_bare, mqcmit_bare, mqconn_bare, mqdisc_bare, mqput1_bare, mqput_bare, trigger_bare}
+use Rattle.mq_law_unshared.specs.Ordinary.{CallsHave, EachHas}
+use Rattle.mq_law_unshared.specs.Unshared.{parts_still}
+use Rattle.mq_law_unshared.proofs.Ordinary.{ordinary_has}
 use Rattle.mq_law_unshared.proofs.StillCalls as still
+use Rattle.mq_law_unshared.proofs.Stills.{bare_parts, step_parts}
 
--- a deed of a step
-pub mqi_is_still : {T : Type 0} (f : Answer T → Reply) (own : Own) (s : Step Reason (Answer T)) → step_still s ≡ true → IsStillDeed own (mqi_deed f own s)
-mqi_is_still f own (Refuse reason) h = record { parts = refl; ends = refl }
-mqi_is_still f own (Do reply parts) h = record { parts = h; ends = refl }
+still_calls : (p : Plain) → CallsHave (λ parts. parts_still parts ≡ true) p
+still_calls p = record {
+  none = refl;
+  connects = λ qmgr appl. bare_parts (mqconn qmgr appl p) (mqconn_bare qmgr appl p);
+  opens = λ hc name qmgr how. step_parts (mqopen hc name qmgr how p) (still.mqopen_still hc name qmgr how p);
+  closes = λ hc ho. bare_parts (mqclose hc ho p) (mqclose_bare hc ho p);
+  puts = λ hc ho md body sync. bare_parts (mqput hc ho md body sync p) (mqput_bare hc ho md body sync p);
+  puts_once = λ hc name qmgr md body sync. bare_parts (mqput1 hc name qmgr md body sync p) (mqput1_bare hc name qmgr md body sync p);
+  gets = λ hc ho get until. step_parts (mqget hc ho get until p) (still.mqget_still hc ho get until p);
+  commits = λ hc. bare_parts (mqcmit hc p) (mqcmit_bare hc p);
+  backs_out = λ hc. bare_parts (mqback hc p) (mqback_bare hc p);
+  disconnects = λ hc. bare_parts (mqdisc hc p) (mqdisc_bare hc p);
+  obeys = λ c. step_parts (command c p) (still.tested_still (when (not (is_up p.running)) refusals.Down ∷ []) (planned_step (plan c p.given.name p.definitions (uses_of p)) p.definitions)
+      (still.planned_still (plan c p.given.name p.definitions (uses_of p)) p.definitions));
+  triggers = bare_parts (trigger_turn p) (trigger_bare (is_up p.running) p);
+  moves = λ q h x to bare readable found. bare_parts (move_row q x.message.ident to bare p) (move_bare q to bare (row_with (Some x.message.ident) (stored q p).rows) p);
+  discards = λ q h x readable found. bare_parts (discard q x.message.ident p) (discard_bare q x.message.ident p);
+}
 
-pub ended_is_still : {T : Type 0} (f : Answer T → Reply) (own : Own) (s : Step Reason (Answer T)) → step_still s ≡ true → IsStillDeed own (ended_deed f own s)
-ended_is_still f own (Refuse reason) h = record { parts = refl; ends = refl }
-ended_is_still f own (Do reply parts) h = record { parts = h; ends = refl }
-
-pub got_is_still : (o : Option (Answer Got)) (parts : List Part) (own : Own) → parts_still parts ≡ true → EachStill own (got_deed o parts own)
-got_is_still None parts own h = tt
-got_is_still (Some answer) parts own h = record { parts = h; ends = refl }
-
-pub get_is_still : (own : Own) (s : Step Reason GetAnswer) → step_still s ≡ true → EachStill own (get_deed own s)
-get_is_still own (Refuse reason) h = record { parts = refl; ends = refl }
-get_is_still own (Do reply parts) h = got_is_still (get_done reply) parts own h
-
-pub command_is_still : (own : Own) (s : Step ScRefusal Shown) → step_still s ≡ true → IsStillDeed own (command_deed own s)
-command_is_still own (Refuse reason) h = record { parts = refl; ends = refl }
-command_is_still own (Do reply parts) h = record { parts = h; ends = refl }
-
-pub told_is_still : (reply : Reply) (own : Own) → IsStillDeed own (told reply own)
-told_is_still reply own = record { parts = refl; ends = refl }
-
-pub parts_are_still : {F T : Type 0} (s : Step F T) → step_still s ≡ true → parts_still (parts_of s) ≡ true
-parts_are_still (Refuse reason) h = refl
-parts_are_still (Do reply parts) h = h
-
--- DISPLAY CHSTATUS
-pub shown_is_still : (own : Own) (any_end : Bool) (lines : List (List ℕ)) → IsStillDeed own (shown own any_end lines)
-shown_is_still own true [] = told_is_still _ own
-shown_is_still own false [] = told_is_still _ own
-shown_is_still own any_end (line ∷ lines) = told_is_still _ own
-
--- the handler
-pub failed_is_still : (queue : List ℕ) (m : Message) (k : ℕ) (rule : Rule) (tries : ℕ) (h : Handler) (p : Plain) (own : Own) → IsStillDeed own (handlers.failed queue m k rule tries h p own)
-failed_is_still queue m k rule tries h p own = record { parts = refl; ends = refl }
-
-pub moved_is_still : (queue : List ℕ) (m : Message) (k : ℕ) (rule : Rule) (tries : ℕ) (h : Handler) (p : Plain) (own : Own) (s : Step Reason (Unit {0})) → step_still s ≡ true → IsStillDeed own (handlers.moved queue m k rule tries h p own s)
-moved_is_still queue m k rule tries h p own (Refuse reason) q = failed_is_still queue m k rule (tries + 1) h p own
-moved_is_still queue m k rule tries h p own (Do reply parts) q = record { parts = q; ends = refl }
-
-pub acted_is_still : (queue : List ℕ) (m : Message) (k : ℕ) (rule : Rule) (action : Action) (tries : ℕ) (h : Handler) (p : Plain) (own : Own) → IsStillDeed own (handlers.acted queue m k rule action tries h p own)
-acted_is_still queue m k rule actions.Discard tries h p own = record { parts = parts_are_still (discard queue m.ident p) (still.discard_still queue m.ident p); ends = refl }
-acted_is_still queue m k rule actions.Ignore tries h p own = record { parts = refl; ends = refl }
-acted_is_still queue m k rule actions.Retry tries h p own = moved_is_still queue m k rule tries h p own (move_row queue m.ident (handlers.retry_to m) true p) (still.move_still queue (handlers.retry_to m) true (row_with (Some m.ident) (stored queue p).rows) p)
-acted_is_still queue m k rule (actions.Forward f) tries h p own = moved_is_still queue m k rule tries h p own (move_row queue m.ident (handlers.forward_to m f) (not f.header) p) (still.move_still queue (handlers.forward_to m f) (not f.header) (row_with (Some m.ident) (stored queue p).rows) p)
-
-pub ruled_is_still : (queue : List ℕ) (m : Message) (k : ℕ) (rule : Option Rule) (tries : ℕ) (h : Handler) (p : Plain) (own : Own) → IsStillDeed own (handlers.ruled queue m k rule tries h p own)
-ruled_is_still queue m k None tries h p own = record { parts = refl; ends = refl }
-ruled_is_still queue m k (Some rule) tries h p own = acted_is_still queue m k rule rule.action tries h p own
-
-pub in_force_is_still : (queue : List ℕ) (m : Message) (rule : Option ℕ) (tries : ℕ) (h : Handler) (p : Plain) (own : Own) → IsStillDeed own (handlers.in_force queue m rule tries h p own)
-in_force_is_still queue m None tries h p own = record { parts = refl; ends = refl }
-in_force_is_still queue m (Some k) tries h p own = ruled_is_still queue m k (slice_get h.table.rules k) tries h p own
-
-pub handler_row_still : (queue : List ℕ) (h : Handler) (row : Option Row) (n : Node) → EachStill n.own (handlers.handler_row queue h row n)
-handler_row_still queue h None n = tt
-handler_row_still queue h (Some row) n = in_force_is_still queue row.message _ _ h n.manager n.own
-
-pub handler_on_still : (on : Bool) (queue : List ℕ) (h : Handler) (n : Node) → EachStill n.own (handlers.handler_on on queue h n)
-handler_on_still false queue h n = tt
-handler_on_still true queue h n = handler_row_still queue h (handlers.next_letter queue h n.manager) n
-
-pub handler_is_still : (h : Option Handler) (n : Node) → EachStill n.own (handler_turn h n)
-handler_is_still None n = tt
-handler_is_still (Some h) n = handler_on_still _ (handlers.input_queue h.table n.manager) h n
-
--- triggers
-pub trigger_of_still : (q : Option LocalQueue) (n : Node) → EachStill n.own (trigger_deed_of q n)
-trigger_of_still None n = tt
-trigger_of_still (Some q) n = record { parts = parts_are_still (trigger_turn n.manager) (still.trigger_still (is_up n.manager.running) n.manager); ends = refl }
-
-pub running_case : (r : Running) (P : Running → Type 0) → P Up → ((noted : _) (starts : ℕ) → P (Down noted starts)) → P r
-running_case Up P a b = a
-running_case (Down noted starts) P a b = b noted starts
-
-pub obeyed_is_still : (c : Command) (n : Node) → IsCommandQuiet c → IsStillDeed n.own (obey_deed c n)
-obeyed_is_still (commands.Objects c) n o = command_is_still n.own (command c n.manager)
-    (still.tested_still (when (not (is_up n.manager.running)) refusals.Down ∷ []) (planned_step (plan c n.manager.given.name n.manager.definitions (uses_of n.manager)) n.manager.definitions)
-    (still.planned_still (plan c n.manager.given.name n.manager.definitions (uses_of n.manager)) n.manager.definitions))
-obeyed_is_still (commands.ShowStatus name any_end) n o = bool_case (is_up n.manager.running)
-    (λ b. IsStillDeed n.own (if b then shown n.own any_end (map (status_line n.manager) (filter (is_asked name any_end) n.own.ends)) else told (replies.Acted (acted.Sc refusals.Down)) n.own))
-    (λ e. shown_is_still n.own any_end (map (status_line n.manager) (filter (is_asked name any_end) n.own.ends)))
-    (λ e. told_is_still _ n.own)
-obeyed_is_still (commands.Operate op) n o = absurd o
-
-pub turn_is_still : (stamp : ℕ) (actor : Actor) (seen : Seen) (n : Node) → IsTurnQuiet actor → EachStill n.own (turn_up stamp actor seen n)
-turn_is_still stamp (actors.Sender cable) seen n o = absurd o
-turn_is_still stamp (actors.Receiver cable) seen n o = absurd o
-turn_is_still stamp (actors.Handler number) seen n o = handler_is_still (handler_in number n.own.handlers) n
-turn_is_still stamp actor seen n o = tt
-
-pub where_up_still : (r : Running) (own : Own) (d : Option Deed) → EachStill own d → EachStill own (where_up r d)
-where_up_still Up own d h = h
-where_up_still (Down noted starts) own d h = tt
-
-pub trigger_is_still : (n : Node) → EachStill n.own (trigger_deed n)
-trigger_is_still n = where_up_still n.manager.running n.own (trigger_deed_of (first_due (locals_of n.manager.definitions) n.manager) n) (trigger_of_still (first_due (locals_of n.manager.definitions) n.manager) n)
-
--- ALL ORDINARY EVENTS
-pub ordinary_is_still : (stamp : ℕ) (actor : Actor) (call : Call) (seen : Seen) (n : Node) → IsOrdinary actor call → EachStill n.own (deed_of stamp actor call seen n)
-ordinary_is_still stamp actor (calls.Mqconn qmgr appl) seen n o = mqi_is_still (λ a. replies.Connected a) n.own (mqconn qmgr appl n.manager) (still.mqconn_still qmgr appl n.manager)
-ordinary_is_still stamp actor (calls.Mqdisc hc) seen n o = ended_is_still (λ a. replies.Ended a) n.own (mqdisc hc n.manager) (still.mqdisc_still hc n.manager)
-ordinary_is_still stamp actor (calls.Mqopen hc name qmgr how) seen n o = mqi_is_still (λ a. replies.Opened a) n.own (mqopen hc name qmgr how n.manager) (still.mqopen_still hc name qmgr how n.manager)
-ordinary_is_still stamp actor (calls.Mqclose hc ho) seen n o = ended_is_still (λ a. replies.Ended a) n.own (mqclose hc ho n.manager) (still.mqclose_still hc ho n.manager)
-ordinary_is_still stamp actor (calls.Mqput hc ho md body sync) seen n o = mqi_is_still (λ a. replies.Put a) n.own (mqput hc ho md body sync n.manager) (still.mqput_still hc ho md body sync n.manager)
-ordinary_is_still stamp actor (calls.Mqput1 hc name qmgr md body sync) seen n o = mqi_is_still (λ a. replies.Put a) n.own (mqput1 hc name qmgr md body sync n.manager) (still.mqput1_still hc name qmgr md body sync n.manager)
-ordinary_is_still stamp actor (calls.Mqget hc ho get until) seen n o = get_is_still n.own (mqget hc ho get until n.manager) (still.mqget_still hc ho get until n.manager)
-ordinary_is_still stamp actor (calls.Mqcmit hc) seen n o = ended_is_still (λ a. replies.Ended a) n.own (mqcmit hc n.manager) (still.mqcmit_still hc n.manager)
-ordinary_is_still stamp actor (calls.Mqback hc) seen n o = ended_is_still (λ a. replies.Ended a) n.own (mqback hc n.manager) (still.mqback_still hc n.manager)
-ordinary_is_still stamp actor (calls.Act (acts.Obey c)) seen n o = obeyed_is_still c n o
-ordinary_is_still stamp actor (calls.Act acts.Crash) seen n o = tt
-ordinary_is_still stamp actor (calls.Act acts.Restart) seen n o = tt
-ordinary_is_still stamp actor (calls.Act (acts.Cut k)) seen n o = tt
-ordinary_is_still stamp actor (calls.Act (acts.Clock by)) seen n o = tt
-ordinary_is_still stamp actor calls.Turn seen n o = where_up_still n.manager.running n.own (turn_up stamp actor seen n) (turn_is_still stamp actor seen n o)
-ordinary_is_still stamp actor calls.Timeout seen n o = absurd o
-ordinary_is_still stamp actor calls.Trigger seen n o = trigger_is_still n
+pub ordinary_is_still : (stamp : ℕ) (actor : Actor) (call : Call) (seen : Seen) (n : Node) → IsOrdinary actor call → EachHas (λ parts. parts_still parts ≡ true) (deed_of stamp actor call seen n)
+ordinary_is_still stamp actor call seen n o = ordinary_has (λ parts. parts_still parts ≡ true) stamp actor call seen n o (still_calls n.manager)

@@ -1,35 +1,22 @@
--- What leaves queues open that senders have open: over lists of changes, over parts, and over what ends ask of their manager.
+-- What leaves queues open that senders have open: over lists of changes, over parts, and what is bare.
 use Rattle.std.proofs.Common.{ℕ, ◌≡◌, Bool, true, false, List, [], ◌∷◌, ◌++◌, refl, ap, sym, ◌∙◌}
-use Rattle.std.specs.Prelude.{Option, Some, None, Result, Ok, Err, filter, if◌then◌else◌, is_some, not, ◌&&◌}
+use Rattle.std.specs.Prelude.{Option, Some, None, filter, if◌then◌else◌, is_some, not, ◌&&◌}
 use Rattle.std.specs.Str.{bytes_eq}
-use Rattle.mq_codes.specs.declared.reason.Reason.{Reason}
-use Rattle.mq_codes.specs.declared.reason.Reason.TheVariants as reasons
-use Rattle.mq_message.specs.declared.message.Ident.{Ident}
-use Rattle.mq_message.specs.declared.message.Message.{Message}
 use Rattle.mq_objects.specs.Names.{local_of}
-use Rattle.mq_sync.specs.declared.data.End.TheVariants as ends
-use Rattle.mq_sync.specs.declared.unit.Unit.{Unit as Luw}
-use Rattle.mq_sync.specs.Settlement.{sender_or}
-use Rattle.mq_calls.specs.declared.agents.Note.{Note}
-use Rattle.mq_calls.specs.declared.agents.Note.TheVariants as notes
-use Rattle.mq_calls.specs.declared.agents.PrepareFault.TheVariants as prepare_faults
-use Rattle.mq_calls.specs.declared.deltas.Did.TheVariants as did
 use Rattle.mq_calls.specs.declared.records.LogRecord.{LogRecord}
-use Rattle.mq_calls.specs.declared.state.Batch.{Batch}
 use Rattle.mq_calls.specs.State.{Change, Plain}
 use Rattle.mq_calls.specs.declared.state.Seizure.{Seizure}
 use Rattle.mq_calls.specs.State.Change.{ForgetAll, Seize, SetBound, Try, Unseize}
-use Rattle.mq_calls.specs.Reads.{is_full, is_persistent, seizure_of, sender_data}
+use Rattle.mq_calls.specs.Reads.{seizure_of}
 use Rattle.mq_calls.specs.Changes.{apply, apply_all, comes_before, set_named, try_if}
 use Rattle.mq_calls.specs.Condition.{condition}
-use Rattle.mq_calls.specs.Sizes.{need}
-use Rattle.mq_calls.specs.Steps.{Part, Step, Test, do_all, do_part, logged, refusal, refused_or, tested, when}
+use Rattle.mq_calls.specs.Steps.{Part, Step, do_all, do_part, logged}
 use Rattle.mq_calls.specs.Steps.Step.{Do, Refuse}
-use Rattle.mq_spec_manager.specs.Landing.{Landing, land}
-use Rattle.mq_spec_manager.specs.Agents.{Absent, HasSeized, InDoubtAt, Landed, Present, Standing, before, drop_changes, harden_part, is_present, land_changes, landed, landed_by, landed_unless, prepare_of, prepared_changes, prepared_record, receive_landed, received_record, release_of, standing_at, undoubted}
+use Rattle.mq_spec_manager.specs.Agents.{HasSeized}
 use Rattle.mq_spec_node.specs.Deeds.{parts_of}
 use Rattle.mq_law_manager.proofs.Lists.{bool_case, name_self, name_yes}
 use Rattle.mq_law_seized.proofs.Changing.{both_true}
+use Rattle.mq_law_seized.specs.Seized.{all_bare, is_bare, parts_bare, step_bare}
 use Rattle.mq_law_unshared.specs.Unshared.{all_still, all_still_for, is_still, is_still_for, parts_still, parts_still_for, step_still}
 
 true_false : true ≡ false → ⊥
@@ -121,71 +108,24 @@ pub parts_have : (c : List ℕ) (parts : List Part) (p : Plain) → parts_still_
 parts_have c [] p e h = h
 parts_have c (part ∷ parts) p e h = let z = both_true (all_still_for c part.changes) (parts_still_for c parts) e in parts_have c parts (do_part part p) z.1 (changes_have c part.changes (logged part.forced p) z.0 (logged_has c part.forced p h))
 
--- WHAT ENDS ASK
+-- WHAT IS BARE: what ends ask, and all calls but MQOPEN, MQGET and commands
+bare_still : (c : Change) → is_bare c ≡ true → is_still c ≡ true
+bare_still (Unseize channel) e = absurd cc
+bare_still ForgetAll e = absurd cc
+bare_still c e = refl
+
+bare_all : (cs : List Change) → all_bare cs ≡ true → all_still cs ≡ true
+bare_all [] e = refl
+bare_all (c ∷ cs) e = let z = both_true (is_bare c) (all_bare cs) e in ap (λ (t : Bool). t && all_still cs) (bare_still c z.0) ∙ bare_all cs z.1
+
+pub bare_still_parts : (parts : List Part) → parts_bare parts ≡ true → parts_still parts ≡ true
+bare_still_parts [] e = refl
+bare_still_parts (part ∷ parts) e = let z = both_true (all_bare part.changes) (parts_bare parts) e in ap (λ (t : Bool). t && parts_still parts) (bare_all part.changes z.0) ∙ bare_still_parts parts z.1
+
+pub bare_parts : {F T : Type 0} (s : Step F T) → step_bare s ≡ true → parts_still (parts_of s) ≡ true
+bare_parts (Refuse reason) e = refl
+bare_parts (Do reply parts) e = bare_still_parts parts e
+
 pub step_parts : {F T : Type 0} (s : Step F T) → step_still s ≡ true → parts_still (parts_of s) ≡ true
 step_parts (Refuse reason) e = refl
 step_parts (Do reply parts) e = e
-
-refused_step : {F T : Type 0} (o : Option F) (s : Step F T) → step_still s ≡ true → step_still (refused_or o s) ≡ true
-refused_step None s h = h
-refused_step (Some reason) s h = refl
-
-tested_step : {F T : Type 0} (ts : List (Test F)) (s : Step F T) → step_still s ≡ true → step_still (tested ts s) ≡ true
-tested_step ts s h = refused_step (refusal ts) s h
-
-pub prepare_still : (channel : List ℕ) (last : ℕ) (o : Option Batch) (p : Plain) → step_still (prepare_of channel last o p) ≡ true
-prepare_still channel last None p = refl
-prepare_still channel last (Some b) p = tested_step (when (is_full (need (prepared_record channel last b)) p) prepare_faults.NoRoom ∷ []) (Do (tt {0}) (record {
-  forced = Some (prepared_record channel last b);
-  changes = prepared_changes channel last b (sender_or (sender_data channel p));
-  delta = did.Prepared channel b.unit ∷ [];
-} ∷ [])) refl
-
-pub release_still : (channel : List ℕ) (o : Option Batch) → step_still (release_of channel o) ≡ true
-release_still channel None = refl
-release_still channel (Some b) = refl
-
-pub harden_still : (channel : List ℕ) (note : Note) (p : Plain) → all_still (harden_part channel note p).changes ≡ true
-harden_still channel (notes.Session partner session) p = refl
-harden_still channel (notes.Resolved unit true operator) p = refl
-harden_still channel (notes.Resolved unit false operator) p = refl
-harden_still channel (notes.Bound partner session last) p = refl
-harden_still channel (notes.Closed session) p = refl
-harden_still channel (notes.SeqSet ends.Sender last) p = refl
-harden_still channel (notes.SeqSet ends.Receiver last) p = refl
-
-undoubted_still : (b : Bool) (i : Ident) → all_still (undoubted b i) ≡ true
-undoubted_still true i = refl
-undoubted_still false i = refl
-
-drop_still : (m : Message) (s : Standing) → all_still (drop_changes m s) ≡ true
-drop_still m Absent = undoubted_still (is_persistent m) m.ident
-drop_still m Present = undoubted_still (is_persistent m) m.ident
-drop_still m (InDoubtAt queue) = undoubted_still (is_persistent m) m.ident
-
-land_still : (l : Landing) (s : Standing) → all_still (land_changes l s) ≡ true
-land_still l s = still_behind (drop_changes l.message s) _ (drop_still l.message s) refl
-
-abbrev LandsStill : Result Landed Reason → Type 0
-LandsStill (Err reason) = Unit {0}
-LandsStill (Ok l) = all_still l.changes ≡ true
-
-before_still : (m : Message) (l : Landing) (s : Standing) (r : Result Landed Reason) → LandsStill r → LandsStill (before m l s r)
-before_still m l s (Err reason) h = tt
-before_still m l s (Ok rest) h = still_behind (land_changes l s) rest.changes (land_still l s) h
-
-by_still : (o : Result Landing Reason) (m : Message) (s : Standing) (p : Plain) (rest : Plain → Result Landed Reason) → ((q : Plain) → LandsStill (rest q)) → LandsStill (landed_by o m s p rest)
-by_still (Err reason) m s p rest h = tt
-by_still (Ok l) m s p rest h = before_still m l s _ (h _)
-
-unless_still : (b : Bool) (channel : List ℕ) (m : Message) (s : Standing) (p : Plain) (rest : Plain → Result Landed Reason) → ((q : Plain) → LandsStill (rest q)) → LandsStill (landed_unless b channel m s p rest)
-unless_still true channel m s p rest h = h p
-unless_still false channel m s p rest h = by_still (land channel m p) m s p rest h
-
-pub landed_still : (channel : List ℕ) (ms : List Message) (p : Plain) → LandsStill (landed channel ms p)
-landed_still channel [] p = refl
-landed_still channel (m ∷ ms) p = unless_still (is_present (standing_at m p)) channel m (standing_at m p) p (λ q. landed channel ms q) (λ q. landed_still channel ms q)
-
-pub receive_still : (channel : List ℕ) (unit : Luw) (last : ℕ) (o : Result Landed Reason) (p : Plain) → LandsStill o → step_still (receive_landed channel unit last o p) ≡ true
-receive_still channel unit last (Err reason) p h = refl
-receive_still channel unit last (Ok l) p h = tested_step (when (is_full (need (received_record channel unit last l)) p) reasons.ResourceProblem ∷ []) _ (ap (λ (b : Bool). b && true) (still_behind l.changes _ h refl))

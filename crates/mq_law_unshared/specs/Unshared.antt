@@ -1,5 +1,5 @@
 -- Behind each part of a deed, the queues that senders have open are theirs alone; and a sender that runs has its queue open.
-use Rattle.std.specs.Prelude.{◌≡◌, Bool, true, false, not, ◌&&◌, List, [], ◌∷◌, Option, Some, None}
+use Rattle.std.specs.Prelude.{◌≡◌, Bool, true, false, not, ◌&&◌, List, [], ◌∷◌, Option}
 use Rattle.std.specs.Str.{bytes_eq}
 use Rattle.std.specs.Prelude.{ℕ}
 use Rattle.mq_sender.specs.States.{is_running}
@@ -9,16 +9,16 @@ use Rattle.mq_calls.specs.State.Running.{Up}
 use Rattle.mq_calls.specs.Steps.{Part, Step}
 use Rattle.mq_calls.specs.Steps.Step.{Do, Refuse}
 use Rattle.mq_spec_manager.specs.Agents.{HasSeized}
-use Rattle.mq_spec_node.specs.Node.{ChannelEnd, Node, Own, SenderEnd}
+use Rattle.mq_spec_node.specs.Node.{ChannelEnd, Node, SenderEnd}
 use Rattle.mq_spec_node.specs.Node.ChannelEnd.{Sends}
 use Rattle.mq_spec_node.specs.Deeds.{Deed}
 use Rattle.mq_base.specs.Members.{Mem}
 use Rattle.mq_law_manager.specs.Kept.{AllKeep}
 use Rattle.mq_law_seized.specs.Seized.{AreSeized}
+use Rattle.mq_law_unshared.specs.Ordinary.{EachHas}
 
 abbrev pub EachLeaves : Plain → Option Deed → Type 0
-EachLeaves p None = Unit {0}
-EachLeaves p (Some d) = AllKeep AreSeized d.parts p
+EachLeaves p o = EachHas (λ parts. AllKeep AreSeized parts p) o
 
 -- what leaves all queues open that senders have open
 abbrev pub is_still : Change → Bool
@@ -51,15 +51,6 @@ all_still_for channel (c ∷ cs) = is_still_for channel c && all_still_for chann
 abbrev pub parts_still_for : List ℕ → List Part → Bool
 parts_still_for channel [] = true
 parts_still_for channel (part ∷ parts) = all_still_for channel part.changes && parts_still_for channel parts
-
--- a deed that leaves them so, and the ends of channels as they are
-pub record IsStillDeed (own : Own) (d : Deed) : Type 0 where
-  pub parts : parts_still d.parts ≡ true
-  pub ends : d.own.ends ≡ own.ends
-
-abbrev pub EachStill : Own → Option Deed → Type 0
-EachStill own None = Unit {0}
-EachStill own (Some d) = IsStillDeed own d
 
 -- each sender that runs has its queue open
 abbrev pub AreOpen : List ChannelEnd → Plain → Type 0

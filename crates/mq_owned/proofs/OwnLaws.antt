@@ -1,5 +1,5 @@
 -- What a scenario gives a manager, as it begins.
-use Rattle.std.proofs.Common.{◌≡◌, ℕ, ◌+◌, ◌==◌, Bool, true, false, List, [], ◌∷◌, ◌++◌, refl, ap, sym, ◌∙◌}
+use Rattle.std.proofs.Common.{◌≡◌, ℕ, ◌==◌, Bool, true, false, List, [], ◌∷◌, ◌++◌, refl, ap, sym, ◌∙◌}
 use Rattle.std.specs.Prelude.{if◌then◌else◌, map, suc}
 use Rattle.std.proofs.lemmas.List.{map-append}
 use Rattle.mq_history.specs.declared.scenario.CableLine.{CableLine}

@@ -50,7 +50,7 @@ pub record StandsUp (log : LogBodies) (p : Plain) : Type 0 where
   pub tells : Tells Later log.bodies p
   pub long : p.log.length ≡ log_length log.bodies
 
--- While it is down, what lasts with the stopped write or without it (LogStood of mq_start). Where a log was read that its history
+-- While it is down, what lasts with the stopped write or without it (LogStood of Tells). Where a log was read that its history
 -- doesn't allow, nothing is said; no disk that tells its bytes gives one.
 abbrev pub LogStandsAt : Type 0 → LogRead → Running → LogBodies → Plain → Type 0
 LogStandsAt tells Unread Up log p = StandsUp log p

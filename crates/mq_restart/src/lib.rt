@@ -1,4 +1,4 @@
-//! The call `restart` of a queue manager.
+//! How a queue manager comes up from its log: its first start, and the call `restart`.
 #![tactic(auto)]
 
 mod beginning;

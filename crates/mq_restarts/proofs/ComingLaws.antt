@@ -1,4 +1,4 @@
--- A manager that came up from its own log, or stayed down, did as mq_start says.
+-- A manager that came up from its own log, or stayed down, did as mq_restart says.
 use Rattle.std.proofs.Common.{◌≡◌, ℕ, Bool, true, false, refl, ap, sym, subst}
 use Rattle.std.specs.Prelude.{Some}
 use Rattle.mq_calls.specs.declared.commands.RestartFault.TheVariants as faults
@@ -80,7 +80,7 @@ pub stays_own : (tells : Type 0) (found : Found) (x y : PartsValue) (log : LogSt
 stays_own tells found x y log e r (Unmade u) = unread_is tells found x y log e r u
 stays_own tells found x y log e r (Unstarted i t was h) = halts_own tells found x y log i e r t was h
 
--- Of a log that was changed from outside: as mq_start says, or the write of its Started record was stopped.
+-- Of a log that was changed from outside: as mq_restart says, or the write of its Started record was stopped.
 pub record FellFar (tells : Type 0) (read : LogRead) (x : PartsValue) (e : Unraised) (y : PartsValue) : Type 0 where
   pub found : Found
   pub was : e.found ≡ Some found

@@ -1,4 +1,4 @@
-//! mq_name: names of queues and channels, and labels.
+//! mq_base: names of queues and channels, and labels.
 
 use mq_base::{ChName, Label, NameFault, QName};
 use std::test::*;

@@ -1,5 +1,5 @@
 -- What a call of the program comes to, from what its parts promise.
-use Rattle.std.proofs.Common.{◌≡◌, ◌≢◌, ◌≤◌, ℕ, List, [], ◌∷◌, refl, ap, sym, subst, ◌∙◌, inl, inr, arith, length, map, ◌<◌, get_or}
+use Rattle.std.proofs.Common.{◌≡◌, ◌≤◌, ℕ, List, [], ◌∷◌, refl, ap, sym, subst, ◌∙◌, inl, inr, arith, length, map, ◌<◌, get_or}
 use Rattle.std.proofs.lemmas.List.Elements.{All-weaker}
 use Rattle.std.specs.Prelude.{All, IfSome, Option, None, Some, Ok}
 use Rattle.mq_base.specs.Outside.{Rose, IsLonger}
@@ -31,8 +31,8 @@ use Rattle.mqnet.specs.declared.top.Task.TheVariants as tasks
 use Rattle.mqnet.specs.declared.top.Work.{Work}
 use Rattle.mqnet.specs.declared.top.Work.TheVariants as works
 use Rattle.mqnet.specs.Wanted.{task_of, text_status, wanted, word_task}
-use Rattle.mqnet.specs.Work.{FitsWork, IsWork, RefusesText, WorkEnds}
-use Rattle.mqnet.specs.Headline.{Checked, Comes, ComesOf, Completes, Ends, IsEarly, IsOfRun, IsRead, Nothing, RanScenario, ReadNoScenario, RefusesBytes, WasRead, Writes, check_text}
+use Rattle.mqnet.specs.Work.{FitsWork, IsWork, WorkEnds}
+use Rattle.mqnet.specs.Headline.{Checked, Comes, ComesOf, Completes, Ends, IsEarly, IsOfRun, IsRead, Nothing, RanScenario, ReadNoScenario, WasRead, Writes, check_text}
 
 pub one_word : {A : Type 0} (f : A → List ℕ) (ws : List A) (w : A) → 1 ≤ length ws → length ws < 2 → w ≡ get_or ws 0 w → word_task (f w) ≡ task_of (map f ws)
 one_word f [] w le lt e = absurd (omega arith)
@@ -114,34 +114,6 @@ done_ends left bytes tells held start before now old new tasks.Check (works.Run 
 done_ends left bytes tells held start before now old new tasks.Check works.Check st net counts read is h = inr (h.0, h.1, checked left old new is.0 st (read_by left bytes is.0 read is.1) h.2)
 
 -- ---- nothing is done
-
-early_bytes : (left : Option (List ℕ)) (b n : ℕ) (st : Status) → RefusesBytes left b n st → IsEarly st
-early_bytes left b n status.ReadFault h = tt
-early_bytes left b n status.TooLong h = tt
-early_bytes left b n status.NoMemory h = tt
-early_bytes left b n status.Ok h = absurd h
-early_bytes left b n status.BadWords h = absurd h
-early_bytes left b n (status.BadScenario line cause) h = absurd h
-early_bytes left b n (status.WriteFault m) h = absurd h
-early_bytes left b n status.DiskFault h = absurd h
-early_bytes left b n (status.Conflict found) h = absurd h
-early_bytes left b n (status.BadLog bad) h = absurd h
-early_bytes left b n (status.Apart found) h = absurd h
-early_bytes left b n (status.Spent m) h = absurd h
-
-early_text : (bytes : List ℕ) (st : Status) → RefusesText bytes st → IsEarly st
-early_text bytes (status.BadScenario line cause) h = tt
-early_text bytes status.NoMemory h = tt
-early_text bytes status.ReadFault h = absurd h
-early_text bytes status.TooLong h = absurd h
-early_text bytes status.Ok h = absurd h
-early_text bytes status.BadWords h = absurd h
-early_text bytes (status.WriteFault m) h = absurd h
-early_text bytes status.DiskFault h = absurd h
-early_text bytes (status.Conflict found) h = absurd h
-early_text bytes (status.BadLog bad) h = absurd h
-early_text bytes (status.Apart found) h = absurd h
-early_text bytes (status.Spent m) h = absurd h
 
 pub early_ends : (left : Option (List ℕ)) (tells : Type 0) (held : List ℕ → List ℕ → Type 0) (start before now : ℕ) (old new : Option (List ℕ)) (task : Task) (st : Status) (net : Option Left) (counts : List ℕ)
     → IsEarly st → Nothing old new net counts → Ends (Some task) left tells held start before now old new st net counts
