@@ -1,0 +1,4 @@
+pub mod Drawn
+pub mod Soak
+pub mod Line
+pub mod Words
