@@ -24,7 +24,7 @@ use Rattle.mq_run.specs.declared.status.BadCause.{BadCause}
 use Rattle.mq_run.specs.declared.status.Status.{Status}
 use Rattle.mq_run.specs.declared.status.Status.TheVariants as status
 use Rattle.mq_run.specs.Ends.{LeftEnds, NoneEnds, RunEnds, RunLeaves}
-use Rattle.mq_run.specs.Words.{GotOnce, IsTextCommand, Left, OrderKept, RowsAreLedgers, StandOnce}
+use Rattle.mq_run.specs.Words.{GotOnce, IsPromised, IsTextCommand, Left, OrderKept, RestartsAreOwn, RowsAreLedgers, StandOnce}
 use Rattle.mq_run.proofs.Promising as promising
 use Rattle.mqnet.specs.declared.top.Task.{Task}
 use Rattle.mqnet.specs.declared.top.Task.TheVariants as tasks
@@ -142,24 +142,28 @@ promised_of P (Some tasks.Check) left tells held start before now old new st net
 is_scenario : (left : Option (List ℕ)) (s : Scenario) → IsRead left s → IsScenario s
 is_scenario left s r = text_kept r.bytes s (text_found r.bytes s r.text)
 
+pub own_of : (asked : Option Task) (left : Option (List ℕ)) (tells : Type 0) (held : List ℕ → List ℕ → Type 0) (start before now : ℕ) (old new : Option (List ℕ)) (st : Status) (net : Option Left) (counts : List ℕ)
+    → Ends asked left tells held start before now old new st net counts → IfSome net (RestartsAreOwn tells)
+own_of asked left tells held start before now old new st net counts e = promised_of (RestartsAreOwn tells) asked left tells held start before now old new st net counts (λ l s r h. h.own) e
+
 pub rows_of : (asked : Option Task) (left : Option (List ℕ)) (tells : Type 0) (held : List ℕ → List ℕ → Type 0) (start before now : ℕ) (old new : Option (List ℕ)) (st : Status) (net : Option Left) (counts : List ℕ)
-    → Ends asked left tells held start before now old new st net counts → IfSome net RowsAreLedgers
-rows_of asked left tells held start before now old new st net counts e = promised_of RowsAreLedgers asked left tells held start before now old new st net counts
+    → Ends asked left tells held start before now old new st net counts → IfSome net (IsPromised tells RowsAreLedgers)
+rows_of asked left tells held start before now old new st net counts e = promised_of (IsPromised tells RowsAreLedgers) asked left tells held start before now old new st net counts
     (λ l s r h. promising.rows tells held start s counts l (is_scenario left s r) h) e
 
 pub once_of : (asked : Option Task) (left : Option (List ℕ)) (tells : Type 0) (held : List ℕ → List ℕ → Type 0) (start before now : ℕ) (old new : Option (List ℕ)) (st : Status) (net : Option Left) (counts : List ℕ)
-    → Ends asked left tells held start before now old new st net counts → IfSome net StandOnce
-once_of asked left tells held start before now old new st net counts e = promised_of StandOnce asked left tells held start before now old new st net counts
+    → Ends asked left tells held start before now old new st net counts → IfSome net (IsPromised tells StandOnce)
+once_of asked left tells held start before now old new st net counts e = promised_of (IsPromised tells StandOnce) asked left tells held start before now old new st net counts
     (λ l s r h. promising.once tells held start s counts l (is_scenario left s r) h) e
 
 pub got_once_of : (asked : Option Task) (left : Option (List ℕ)) (tells : Type 0) (held : List ℕ → List ℕ → Type 0) (start before now : ℕ) (old new : Option (List ℕ)) (st : Status) (net : Option Left) (counts : List ℕ)
-    → Ends asked left tells held start before now old new st net counts → IfSome net GotOnce
-got_once_of asked left tells held start before now old new st net counts e = promised_of GotOnce asked left tells held start before now old new st net counts
+    → Ends asked left tells held start before now old new st net counts → IfSome net (IsPromised tells GotOnce)
+got_once_of asked left tells held start before now old new st net counts e = promised_of (IsPromised tells GotOnce) asked left tells held start before now old new st net counts
     (λ l s r h. promising.got_once tells held start s counts l (is_scenario left s r) h) e
 
 pub order_of : (asked : Option Task) (left : Option (List ℕ)) (tells : Type 0) (held : List ℕ → List ℕ → Type 0) (start before now : ℕ) (old new : Option (List ℕ)) (st : Status) (net : Option Left) (counts : List ℕ)
-    → Ends asked left tells held start before now old new st net counts → IfSome net OrderKept
-order_of asked left tells held start before now old new st net counts e = promised_of OrderKept asked left tells held start before now old new st net counts
+    → Ends asked left tells held start before now old new st net counts → IfSome net (IsPromised tells OrderKept)
+order_of asked left tells held start before now old new st net counts e = promised_of (IsPromised tells OrderKept) asked left tells held start before now old new st net counts
     (λ l s r h. promising.order tells held start s counts l (is_scenario left s r) h) e
 
 -- ---- completeness
