@@ -11,7 +11,7 @@ use Rattle.mq_law_ran.proofs.Lawfuls as lawfuls
 is_scenario : (tells : Type 0) (held : List ℕ → List ℕ → Type 0) (start : ℕ) (s : Scenario) (counts : List ℕ) (l : Left) → IsScenario s → RunLeaves tells held start s counts l → IsScenario l.scenario
 is_scenario tells held start s counts l is h = subst IsScenario (sym h.scenario) is
 
-owned : (tells : Type 0) (l : Left) → RestartsAreOwn tells l → HasOwnLogs tells l → AreOwn l.histories
+pub owned : (tells : Type 0) (l : Left) → RestartsAreOwn tells l → HasOwnLogs tells l → AreOwn l.histories
 owned tells l restarts (inl is) = restarts is
 owned tells l restarts (inr own) = own
 

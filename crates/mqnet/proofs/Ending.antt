@@ -130,7 +130,7 @@ ran_of : (P : Left → Type 0) (left : Option (List ℕ)) (tells : Type 0) (held
 ran_of P left tells held start before now old new st None counts f r = tt
 ran_of P left tells held start before now old new st (Some l) counts f r = f l r.scenario r.read r.ended.0
 
-promised_of : (P : Left → Type 0) (asked : Option Task) (left : Option (List ℕ)) (tells : Type 0) (held : List ℕ → List ℕ → Type 0) (start before now : ℕ) (old new : Option (List ℕ)) (st : Status) (net : Option Left) (counts : List ℕ)
+pub promised_of : (P : Left → Type 0) (asked : Option Task) (left : Option (List ℕ)) (tells : Type 0) (held : List ℕ → List ℕ → Type 0) (start before now : ℕ) (old new : Option (List ℕ)) (st : Status) (net : Option Left) (counts : List ℕ)
     → ((l : Left) → (s : Scenario) → IsRead left s → RunLeaves tells held start s counts l → P l) → Ends asked left tells held start before now old new st net counts → IfSome net P
 promised_of P None left tells held start before now old new st net counts f e = none_of P net e.1.network
 promised_of P (Some tasks.Run) left tells held start before now old new st net counts f (inl e) = none_of P net e.1.network
