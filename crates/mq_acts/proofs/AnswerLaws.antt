@@ -16,7 +16,9 @@ use Rattle.mq_acts.specs.Shows.{lines_of, shown_as, answered}
 use Rattle.mq_events.specs.Outcomes.{Came}
 use Rattle.mq_events.specs.States.{NodeState, IsKept, IsServed, finished, node_in, quietly, entry_of}
 use Rattle.mq_events.specs.Counts.{IsNode, KeepsCounts, kept_total}
+use Rattle.mq_events.specs.Disks.{tells_disk}
 use Rattle.mq_events.specs.Events.{ActsAs, Stays}
+use Rattle.mq_events.proofs.CallLaws.{silent}
 use Rattle.mq_events.proofs.CountLaws.{climbs_counted, long_more}
 use Rattle.mq_events.proofs.EventLaws.{came_kept, served_is}
 use Rattle.mq_events.proofs.KeepLaws.{finished_counts}
@@ -59,11 +61,11 @@ module _ (s r f : NodeState) (who : Actor) (c : Command) (a : Acted) (e : r ≡ 
     counted = climbs_counted 0 s behind n.counted counts.few (long_more s.history.entries (entry_of (s.stamp + 1) who call (quietly a))) (stay 0 s.manager.plain) (climbs_on (kept_total behind.own) (kept_total s.own) counts.total);
   })
 
-  pub answered_as : (b : Acted) → b ≡ a → ActsAs who (calls.Act (acts.Obey c)) s (Ok b) f
-  answered_as b is =
+  pub answered_as : (b : Acted) → b ≡ a → tells_disk (replies.Acted a) ≡ false → ActsAs who (calls.Act (acts.Obey c)) s (Ok b) f
+  answered_as b is quiet =
       subst (λ (x : Acted). ActsAs who (calls.Act (acts.Obey c)) s (Ok x) f) (sym is)
       (subst (λ (t : NodeState). ActsAs who (calls.Act (acts.Obey c)) s (Ok a) t) (sym f_is)
-      (entry_of (s.stamp + 1) who call (quietly a), record { grows = record { given = refl; history = refl }; actor = refl; call = refl; marks = refl; faults = omega arith }, refl))
+      (entry_of (s.stamp + 1) who call (quietly a), record { grows = record { given = refl; history = refl }; actor = refl; call = refl; marks = refl; faults = omega arith; rose = silent (replies.Acted a) (replies.Acted a) s.manager.faults s.manager.faults refl quiet }, refl))
 
 -- ---- DISPLAY CHSTATUS
 
@@ -73,6 +75,12 @@ shown_by any_end false lines own = refl
 shown_by true true [] own = refl
 shown_by false true [] own = refl
 shown_by any_end true (line ∷ lines) own = refl
+
+quiet_by : (any_end up : Bool) (lines : List (List ℕ)) → tells_disk (replies.Acted (if up then answered any_end lines else acted.Sc refusals.Down)) ≡ false
+quiet_by any_end false lines = refl
+quiet_by true true [] = refl
+quiet_by false true [] = refl
+quiet_by any_end true (line ∷ lines) = refl
 
 pub shows : (s : NodeState) (name : List ℕ) (any_end : Bool) → obey_deed (commands.ShowStatus name any_end) (node_in s) ≡ told (replies.Acted (shown_as name any_end s.manager.plain s.own.ends)) s.own
 shows s name any_end = shown_by any_end (is_up s.manager.plain.running) (lines_of name any_end s.manager.plain s.own.ends) s.own
@@ -92,3 +100,4 @@ module _ (s r f : NodeState) (who : Actor) (name : List ℕ) (any_end : Bool) (c
 
   pub shown_did : (acted : Acted) → acted ≡ shown_as name any_end r.manager.plain r.own.ends → ActsAs who (calls.Act (acts.Obey (commands.ShowStatus name any_end))) s (Ok acted) f
   shown_did acted same = answered_as s r f who (commands.ShowStatus name any_end) copy e z deed acted (same ∙ sym is)
+      (ap (λ (a : Acted). tells_disk (replies.Acted a)) seen ∙ quiet_by any_end (is_up s.manager.plain.running) (lines_of name any_end s.manager.plain s.own.ends))

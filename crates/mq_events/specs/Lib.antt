@@ -3,3 +3,4 @@ pub mod Counts
 pub mod Events
 pub mod Texts
 pub mod Outcomes
+pub mod Disks

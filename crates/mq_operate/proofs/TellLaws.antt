@@ -13,6 +13,8 @@ use Rattle.mq_spec_node.specs.Words.{CanCome, Deed, Monitor, Node, Own, Tells, a
 use Rattle.mq_events.specs.Counts.{IsNode, kept_total}
 use Rattle.mq_events.specs.Events.{ActsAs, MayAct, Stays}
 use Rattle.mq_events.specs.States.{IsKept, IsServed, NodeState, entry_of, node_in, told, value_of}
+use Rattle.mq_events.specs.Disks.{RoseBy, RoseWhere}
+use Rattle.mq_events.proofs.CallLaws.{rose_by, silent}
 use Rattle.mq_events.proofs.CountLaws.{climbs_counted, long_more}
 use Rattle.mq_events.proofs.EntryLaws.{entry_kept}
 use Rattle.mq_turns.specs.Turns.{IsMade, delta_by, own_by, plain_by}
@@ -58,6 +60,13 @@ reply_is : (d : Deed) (refusal : Option OpRefusal) (choice : Choice) (n : Node) 
 reply_is d refusal Runs n m r = sym r
 reply_is d refusal NoMemory n m r = absurd m
 reply_is d refusal (Stopped by part left) n m r = refl
+
+answer_rose : (refusal : Option OpRefusal) (choice : Choice) (before now : ℕ) → RoseWhere choice before now → RoseBy (reply_by choice refusal) before now
+answer_rose None Runs before now rose = silent (replies.Acted (acted_by None)) (replies.Acted (acted_by None)) before now refl refl
+answer_rose (Some reason) Runs before now rose = silent (replies.Acted (acted_by (Some reason))) (replies.Acted (acted_by (Some reason))) before now refl refl
+answer_rose None NoMemory before now rose = silent (replies.Acted (acted_by None)) (replies.Acted (acted_by None)) before now refl refl
+answer_rose (Some reason) NoMemory before now rose = silent (replies.Acted (acted_by (Some reason))) (replies.Acted (acted_by (Some reason))) before now refl refl
+answer_rose refusal (Stopped by part left) before now rose = rose_by by before now rose
 
 delta_is : (d : Deed) (choice : Choice) (n : Node) → delta_by choice d.parts ≡ (done d choice n).delta
 delta_is d Runs n = refl
@@ -157,7 +166,7 @@ module _ (s a t : NodeState) (actor : Actor) (op : Op) (w : Worked) (k : IsWorke
   pub told_did : (b : Acted) → b ≡ answer_by choice w.refusal → ActsAs actor (call_of op) s (Ok b) t
   told_did b is =
       let A : NodeState → Type 0 = λ x. ActsAs actor (call_of op) s (Ok b) x in
-      subst A (sym t_is) (it, record { grows = record { given = refl; history = refl }; actor = refl; call = refl; marks = refl; faults = k.made.later }, answer_is op w.refusal choice ∙ ap (λ (x : Acted). replies.Acted x) (sym is))
+      subst A (sym t_is) (it, record { grows = record { given = refl; history = refl }; actor = refl; call = refl; marks = refl; faults = k.made.later; rose = answer_rose w.refusal choice s.manager.faults a.manager.faults k.made.rose }, answer_is op w.refusal choice ∙ ap (λ (x : Acted). replies.Acted x) (sym is))
 
 -- There was no memory.
 pub unworked_stays : (s a : NodeState) → IsUnworked s a → Stays s a
@@ -179,7 +188,7 @@ pub roomed_did : (s r t : NodeState) (actor : Actor) (call : Call) (result : Res
 roomed_did s r t actor call (Ok b) e h =
     let A : NodeState → Type 0 = λ x. ActsAs actor call x (Ok b) t in
     let k : ActsAs actor call (record s { room = r.room }) (Ok b) t = subst A e h in
-    (k.0, record { grows = record { given = k.1.grows.given; history = k.1.grows.history }; actor = k.1.actor; call = k.1.call; marks = k.1.marks; faults = k.1.faults }, k.2)
+    (k.0, record { grows = record { given = k.1.grows.given; history = k.1.grows.history }; actor = k.1.actor; call = k.1.call; marks = k.1.marks; faults = k.1.faults; rose = k.1.rose }, k.2)
 roomed_did s r t actor call (Err x) e h =
     let A : NodeState → Type 0 = λ y. Stays y t in
     let k : Stays (record s { room = r.room }) t = subst A e h in

@@ -226,7 +226,7 @@ module _ (k : ℕ) (s r a : NodeState) (w : Watched) (e : Roomed s r) (h : Asked
       record {
         entry = entry;
         call = get_of w;
-        adds = subst A (sym same) (record { grows = record { given = refl; history = refl }; actor = refl; call = refl; marks = refl; faults = (ends_at (Ok (Some o)) n).later });
+        adds = subst A (sym same) (record { grows = record { given = refl; history = refl }; actor = refl; call = refl; marks = refl; faults = (ends_at (Ok (Some o)) n).later; rose = (ends_at (Ok (Some o)) n).rose });
         next = sym (next_some (monitor_in k s.own.monitors) w seat);
         finds = idle_at k s w seat ∙ was_got s.own s.manager.plain a.manager.plain (step_of w s.manager.plain) o shape ((ends_at (Ok (Some o)) n).ends 0 (actors.Monitor k) s.own) is;
         script = sym (b ∙ ap (λ (x : NodeState). begins x.own.scripts x.history.entries o.reply) (roomed_asked s r a e h));
