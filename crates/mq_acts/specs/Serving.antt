@@ -1,13 +1,11 @@
 -- Trigger turns behind an event.
 use Rattle.std.specs.Prelude.{◌≡◌, ◌≤◌, ◌⊎◌, Bool, true, false, List, ◌∷◌, Result, Ok, Err}
 use Rattle.std.specs.List.{AllByRecursion}
-use Rattle.mq_base.specs.Outside.{Rose}
 use Rattle.mq_base.specs.declared.want.NoMemory.{NoMemory}
 use Rattle.mq_history.specs.declared.calls.Call.TheVariants as calls
 use Rattle.mq_spec_node.specs.Terms.{Actor, Call, Entry}
 use Rattle.mq_spec_node.specs.Words.{Grows, is_spent}
 use Rattle.mq_events.specs.States.{NodeState, IsServed, value_of}
-use Rattle.mq_events.specs.Disks.{any_disk}
 use Rattle.mq_events.specs.Events.{Stays}
 use Rattle.mq_acts.specs.Asks.{MayWait}
 
@@ -22,7 +20,6 @@ pub record Serves (old new : NodeState) : Type 0 where
   pub grows : Grows (value_of old) turns (value_of new)
   pub marks : new.marks ≡ old.marks
   pub faults : old.manager.faults ≤ new.manager.faults
-  pub rose : any_disk turns ≡ true → Rose old.manager.faults new.manager.faults
 
 -- no trigger is due, or the node has made all its events
 abbrev pub IsDone : NodeState → Type 0
@@ -38,7 +35,6 @@ pub record Plays (who : Actor) (what : Call) (old new : NodeState) : Type 0 wher
   pub grows : Grows (value_of old) (entry ∷ behind) (value_of new)
   pub marks : new.marks ≡ old.marks
   pub faults : old.manager.faults ≤ new.manager.faults
-  pub rose : any_disk (entry ∷ behind) ≡ true → Rose old.manager.faults new.manager.faults
 
 -- The event, with all trigger turns that are due behind it; a get that may wait still; where there was no memory, nothing, or the
 -- event with some of the turns behind it.

@@ -15,7 +15,7 @@ use Rattle.mq_core.specs.Values.{CoreValue}
 use Rattle.mq_events.specs.States.{NodeState, node_in, value_of, IsKept, IsServed, entry_of, told, quietly}
 use Rattle.mq_events.specs.Events.{ActsAs, acted_by, own_by}
 use Rattle.mq_events.proofs.ReplayLaws.{replayed_more, with_more}
-use Rattle.mq_events.specs.Disks.{tells_disk}
+use Rattle.mq_events.specs.Disks.{disk_failed}
 use Rattle.mq_events.proofs.CallLaws.{silent}
 use Rattle.mq_events.proofs.EventLaws.{served_is}
 
@@ -37,7 +37,7 @@ module _ (s : NodeState) (room : ℕ) (m : CoreValue) (own : Own) (actor : Actor
       let V : Node → Type 0 = λ n. IsReplayed (record (with_more it (value_of s)) { node = n }) in
       subst V next (replayed_more (value_of s) it k t (served_is s it served))
 
-  act_adds : s.manager.faults ≤ m.faults → tells_disk (replies.Acted a) ≡ false → ActsAs actor (calls.Act asked) s (Ok a) (told actor (calls.Act asked) (quietly a) (record s { manager = m; own = own; room = room }))
+  act_adds : s.manager.faults ≤ m.faults → disk_failed (replies.Acted a) ≡ false → ActsAs actor (calls.Act asked) s (Ok a) (told actor (calls.Act asked) (quietly a) (record s { manager = m; own = own; room = room }))
   act_adds f quiet = (it, record { grows = record { given = refl; history = refl }; actor = refl; call = refl; marks = refl; faults = f; rose = silent (replies.Acted a) (replies.Acted a) s.manager.faults m.faults refl quiet }, refl)
 
 same_faults : (a b : ℕ) → b ≡ a → a ≤ b
@@ -97,7 +97,7 @@ stop_kept up s room m actor kept served o e = act_kept s room m (own_by up s.own
     })
     (ap (λ (p : Plain). node_of p (own_crashed (stop s.manager.plain).outcome s.own)) (sym e) ∙ ap (node_of m.plain) (crash_own_is up (node_in s) s.manager.plain s.manager.plain.running o))
 
-no_start : (up : Bool) → tells_disk (replies.Acted (acted_by up)) ≡ false
+no_start : (up : Bool) → disk_failed (replies.Acted (acted_by up)) ≡ false
 no_start true = refl
 no_start false = refl
 

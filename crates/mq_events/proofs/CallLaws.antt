@@ -29,7 +29,7 @@ use Rattle.mq_spec_manager.specs.Words.{mqconn, mqopen, mqclose, mqput, mqput1, 
 use Rattle.mq_spec_manager.specs.Get.{is_waiting}
 use Rattle.mq_core.specs.Values.{CoreValue, manager_of}
 use Rattle.mq_events.proofs.NumberLaws.{numbered, conn_short, open_short, close_short, put_short, put1_short, commit_short, back_short, disc_short, get_numbered, WaitsOnly, get_waits}
-use Rattle.mq_events.specs.Disks.{RoseBy, RoseIn, RoseWhere, tells_disk}
+use Rattle.mq_events.specs.Disks.{RoseBy, RoseIn, RoseWhere, disk_failed}
 use Rattle.mq_events.specs.Outcomes.{part_by, IsNumbered, StepIsNumbered, choice_by, reply_by, is_wanting, outcome_of, Came, EndsAs, Ends, EndsSo}
 
 -- an outcome of these
@@ -142,10 +142,10 @@ later wants old new (Do reply parts) (Err (halts.Stopped by)) m = m.later
 no_disk : false ≡ true → ⊥
 no_disk e = absurd cc
 
-pub silent : (reply other : Reply) (before now : ℕ) → reply ≡ other → tells_disk other ≡ false → RoseBy reply before now
-silent reply other before now e quiet = λ tells. absurd (no_disk (sym quiet ∙ sym (ap tells_disk e) ∙ tells))
+pub silent : (reply other : Reply) (before now : ℕ) → reply ≡ other → disk_failed other ≡ false → RoseBy reply before now
+silent reply other before now e quiet = λ tells. absurd (no_disk (sym quiet ∙ sym (ap disk_failed e) ∙ tells))
 
-pub stopped_disk : (by : Stop) (parts : List Part) (old mid : ManagerValue) → StoppedIn by parts old mid → tells_disk (replies.Stopped by) ≡ true → Rose old.faults mid.faults
+pub stopped_disk : (by : Stop) (parts : List Part) (old mid : ManagerValue) → StoppedIn by parts old mid → disk_failed (replies.Stopped by) ≡ true → Rose old.faults mid.faults
 stopped_disk stops.Disk parts old mid m tells = m.rose refl
 stopped_disk stops.Cut parts old mid m tells = absurd (no_disk tells)
 
@@ -158,7 +158,7 @@ where_wider Runs a b c d le rose more = tt
 where_wider NoMemory a b c d le rose more = tt
 where_wider (Stopped by part left) a b c d le rose more = λ disk. rose_wider a b c d le (rose disk) more
 
-by_disk : (by : Stop) → tells_disk (replies.Stopped by) ≡ true → by ≡ stops.Disk
+by_disk : (by : Stop) → disk_failed (replies.Stopped by) ≡ true → by ≡ stops.Disk
 by_disk stops.Disk tells = refl
 by_disk stops.Cut tells = absurd (no_disk tells)
 
@@ -167,9 +167,9 @@ rose_by by before now rose = λ tells. rose (by_disk by tells)
 
 pub rose_then : (by : Stop) (parts : List Part) (old mid new : CoreValue) (reply : Reply) → reply ≡ replies.Stopped by → new ≡ record mid { delta = [] } → StoppedIn by parts (manager_of old) (manager_of mid) → RoseBy reply old.faults new.faults
 rose_then by parts old mid new reply r e m = λ tells.
-    subst (λ (n : ℕ). Rose old.faults n) (sym (ap (λ (v : CoreValue). v.faults) e)) (stopped_disk by parts (manager_of old) (manager_of mid) m (sym (ap tells_disk r) ∙ tells))
+    subst (λ (n : ℕ). Rose old.faults n) (sym (ap (λ (v : CoreValue). v.faults) e)) (stopped_disk by parts (manager_of old) (manager_of mid) m (sym (ap disk_failed r) ∙ tells))
 
-pub rose_so : (wants : Wants) {T : Type 0} (f : Answer T → Reply) (old mid new : CoreValue) (step : Step Reason (Answer T)) (ended : Result (Answer T) (Halt Reason)) (reply : Reply) → ((a : Answer T) → tells_disk (f a) ≡ false) → reply ≡ reply_by f ended → new ≡ record mid { delta = [] }
+pub rose_so : (wants : Wants) {T : Type 0} (f : Answer T → Reply) (old mid new : CoreValue) (step : Step Reason (Answer T)) (ended : Result (Answer T) (Halt Reason)) (reply : Reply) → ((a : Answer T) → disk_failed (f a) ≡ false) → reply ≡ reply_by f ended → new ≡ record mid { delta = [] }
     → MeetsAs wants (manager_of old) step ended (manager_of mid) → RoseBy reply old.faults new.faults
 rose_so wants f old mid new step (Ok value) reply quiet r e m = silent reply (f value) old.faults new.faults r (quiet value)
 rose_so wants f old mid new step (Err (halts.Refused reason)) reply quiet r e m = silent reply (f (answers.Failed reason)) old.faults new.faults r (quiet (answers.Failed reason))

@@ -1,5 +1,5 @@
 -- When an event tells that a disk failed: the disk's count of faults rose in that very call.
-use Rattle.std.specs.Prelude.{◌≡◌, ℕ, Bool, true, false, ◌||◌, List, [], ◌∷◌, Option, Some, None, Result, Ok, Err}
+use Rattle.std.specs.Prelude.{◌≡◌, ◌≤◌, ◌+◌, ◌-◌, ◌^◌, ℕ, min, Bool, true, false, if◌then◌else◌, List, [], ◌∷◌, Option, Some, None, Result, Ok, Err}
 use Rattle.mq_base.specs.Outside.{Rose}
 use Rattle.mq_base.specs.declared.want.NoMemory.{NoMemory as Want}
 use Rattle.mq_calls.specs.declared.commands.RestartFault.TheVariants as faults
@@ -10,13 +10,13 @@ use Rattle.mq_spec_node.specs.Terms.{Choice, Runs, NoMemory, Stopped, Entry, Rep
 use Rattle.mq_events.specs.declared.outcome.Outcome.{Outcome}
 
 -- A disk stopped its write, or a restart found none that works.
-abbrev pub tells_disk : Reply → Bool
-tells_disk (replies.Stopped stops.Disk) = true
-tells_disk (replies.Acted (acted.Start faults.Disk)) = true
-tells_disk _ = false
+abbrev pub disk_failed : Reply → Bool
+disk_failed (replies.Stopped stops.Disk) = true
+disk_failed (replies.Acted (acted.Start faults.Disk)) = true
+disk_failed _ = false
 
 abbrev pub RoseBy : Reply → (before now : ℕ) → Type 0
-RoseBy reply before now = tells_disk reply ≡ true → Rose before now
+RoseBy reply before now = disk_failed reply ≡ true → Rose before now
 
 -- so by what a call's parts came to
 abbrev pub RoseWhere : Choice → (before now : ℕ) → Type 0
@@ -30,7 +30,11 @@ RoseIn (Ok (Some o)) before now = RoseBy o.reply before now
 RoseIn (Ok None) before now = Unit {0}
 RoseIn (Err e) before now = Unit {0}
 
--- one of these entries tells so
-abbrev pub any_disk : List Entry → Bool
-any_disk [] = false
-any_disk (e ∷ es) = tells_disk e.reply || any_disk es
+-- how often entries tell so
+abbrev pub disk_failures : List Entry → ℕ
+disk_failures [] = 0
+disk_failures (e ∷ es) = (if disk_failed e.reply then 1 else 0) + disk_failures es
+
+-- A disk failed at least as often as these entries tell, or its count stands at its last value.
+abbrev pub HasRisen : List Entry → (count : ℕ) → Type 0
+HasRisen es count = min (disk_failures es) (2 ^ 64 - 1) ≤ count

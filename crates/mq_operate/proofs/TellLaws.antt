@@ -17,6 +17,7 @@ use Rattle.mq_events.specs.Disks.{RoseBy, RoseWhere}
 use Rattle.mq_events.proofs.CallLaws.{rose_by, silent}
 use Rattle.mq_events.proofs.CountLaws.{climbs_counted, long_more}
 use Rattle.mq_events.proofs.EntryLaws.{entry_kept}
+use Rattle.mq_events.proofs.RiseLaws.{risen_later, risen_with}
 use Rattle.mq_turns.specs.Turns.{IsMade, delta_by, own_by, plain_by}
 use Rattle.mq_turns.proofs.QuietLaws.{BringNone, none_climb}
 use Rattle.mq_turns.proofs.DueLaws.{may_low}
@@ -161,6 +162,7 @@ module _ (s a t : NodeState) (actor : Actor) (op : Op) (w : Worked) (k : IsWorke
     counted = climbs_counted 0 s behind n.counted refl (long_more s.history.entries it)
         (subst (λ (p : Plain). Climbs 0 s.manager.plain p) (sym k.made.plain) (climbs_by d.parts choice s.manager.plain k.made.made k.brings))
         (climbs_on (kept_total own) (kept_total s.own) (total_by choice w.told.delta d.own s.own k.total));
+    risen = risen_with s.history.entries it s.manager.faults a.manager.faults n.risen k.made.later (answer_rose w.refusal choice s.manager.faults a.manager.faults k.made.rose);
   })
 
   pub told_did : (b : Acted) → b ≡ answer_by choice w.refusal → ActsAs actor (call_of op) s (Ok b) t
@@ -177,12 +179,12 @@ unworked_stays s a u =
 pub unworked_node : (s a : NodeState) → IsUnworked s a → IsNode s → IsNode a
 unworked_node s a u n =
     let F : Plain → Type 0 = λ p. IsNode (record s { manager = record a.manager { plain = p } }) in
-    let k : F s.manager.plain = record { kept = n.kept; counted = n.counted } in
+    let k : F s.manager.plain = record { kept = n.kept; counted = n.counted; risen = risen_later s.history.entries s.manager.faults a.manager.faults n.risen u.was.later } in
     subst IsNode (sym u.state) (subst F (sym u.was.plain) k)
 
 -- Room was taken before.
 pub roomed_node : (s r : NodeState) → r ≡ record s { room = r.room } → IsNode s → IsNode r
-roomed_node s r e n = let k : IsNode (record s { room = r.room }) = record { kept = n.kept; counted = n.counted } in subst IsNode (sym e) k
+roomed_node s r e n = let k : IsNode (record s { room = r.room }) = record { kept = n.kept; counted = n.counted; risen = n.risen } in subst IsNode (sym e) k
 
 pub roomed_did : (s r t : NodeState) (actor : Actor) (call : Call) (result : Result Acted Want) → r ≡ record s { room = r.room } → ActsAs actor call r result t → ActsAs actor call s result t
 roomed_did s r t actor call (Ok b) e h =
