@@ -26,9 +26,12 @@ rose_on n a c was rose = grind (arith, was, rose)
 later_on : (n a c : ℕ) → min n (2 ^ 64 - 1) ≤ a → a ≤ c → min n (2 ^ 64 - 1) ≤ c
 later_on n a c was le = omega (arith, was, le)
 
+none_on : (n a c : ℕ) → min n (2 ^ 64 - 1) ≤ a → a ≤ c → min (n + 0) (2 ^ 64 - 1) ≤ c
+none_on n a c was le = omega (arith, was, le)
+
 rise_once : (b : Bool) (n a c : ℕ) → min n (2 ^ 64 - 1) ≤ a → a ≤ c → (b ≡ true → Rose a c) → min (n + (if b then 1 else 0)) (2 ^ 64 - 1) ≤ c
 rise_once true n a c was le rose = rose_on n a c was (rose refl)
-rise_once false n a c was le rose = later_on n a c was le
+rise_once false n a c was le rose = none_on n a c was le
 
 -- one entry more, or none
 pub risen_later : (es : List Entry) (before now : ℕ) → HasRisen es before → before ≤ now → HasRisen es now
