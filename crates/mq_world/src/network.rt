@@ -97,7 +97,9 @@ impl<D: Disk> Network<D> {
 
     /// The nodes come to rest; what lies on the cables is lost. It takes no memory.
     pub fn rest(self) -> Rested<D>
-        ensures { result ≡ words.rest_of self.scenario self.nodes }
+        ensures rests { result ≡ words.rest_of self.scenario self.nodes }
+        // Each disk failed at least as often as its manager's history tells.
+        ensures risen { words.IsRisen result }
     {
         let Network { parts, room } = self;
         let NetParts {
