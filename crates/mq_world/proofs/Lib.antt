@@ -25,3 +25,4 @@ pub mod TurnedLaws
 pub mod PlaceLaws
 pub mod NearLaws
 pub mod FarLaws
+pub mod OwnLaws

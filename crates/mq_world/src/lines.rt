@@ -11,7 +11,7 @@ use mq_nodes::{Advanced, Stop};
 use mq_progress::Progress;
 
 /// Does a script's next line at the node of a manager, unless its get is to wait, or no line is left.
-#[tactic(auto, using(crate::proofs::NodeLaws::line_then))]
+#[tactic(auto, using(crate::proofs::NodeLaws::line_then, crate::proofs::OwnLaws::line_settled))]
 pub fn advance_on<D: Disk>(
     node: &mut Node<D>,
     manager: u16,
@@ -24,7 +24,8 @@ pub fn advance_on<D: Disk>(
     requires text { IfSome (slice_get part.now.lines progress.old.done) words.IsTextLine }
     requires keeps { IfSome (slice_get part.now.lines progress.old.done) (words.Keeps progress.old.until) }
     requires more { progress.old.done < 2 ^ 32 }
-    ensures { words.LineOn script part.now manager progress.old node.old result progress.new node.new }
+    ensures told { words.LineOn script part.now manager progress.old node.old result progress.new node.new }
+    ensures own { D.tells → words.StaysOwn node.old.history.entries node.new.history.entries }
 {
     match mq_acts::advance(node, script, part, progress) {
         Err(NoMemory) => Err(Stop::NoMemory),
