@@ -2,9 +2,16 @@
 use Rattle.std.proofs.Common.{◌≡◌, ℕ, List}
 use Rattle.std.specs.Prelude.{Option}
 use Rattle.std.specs.Io.KnownBytes.{Appends, Keeps}
+use Rattle.mq_ending.specs.declared.ending.Ending.{Ending}
 use Rattle.mq_ending.specs.declared.verdict.Verdict.{Verdict}
 use Rattle.mq_ending.specs.declared.verdict.Verdict.TheVariants as verdicts
+use Rattle.mq_ending.specs.Ends.{IsEnding}
+use Rattle.mq_history.specs.declared.history.History.{History}
+use Rattle.mq_history.specs.declared.scenario.Scenario.{Scenario}
+use Rattle.mq_net_stands.specs.declared.standing.Standing.{Standing}
 use Rattle.mq_run.specs.declared.reporting.Form.{Form}
+use Rattle.mq_run.specs.declared.reporting.Form.TheVariants as forms
+use Rattle.mq_run.specs.Forms.{EndsBy}
 use Rattle.mq_run.specs.declared.status.Status.TheVariants as status
 use Rattle.mq_law_ran.specs.Runs.{Left}
 use Rattle.mq_run.specs.Ends.{DidAll, HasEnded, LeftEnds, Wrote, WroteFront}
@@ -31,3 +38,7 @@ no_fault verdicts.Whole n e = absurd cc
 no_fault (verdicts.Conflict found) n e = absurd cc
 no_fault verdicts.DiskFault n e = absurd cc
 no_fault (verdicts.BadLog bad) n e = absurd cc
+
+-- the end with its report
+pub by_report : (s : Scenario) (hs : List History) (standing : Standing) (e : Ending) → IsEnding s hs standing e → EndsBy forms.Report s hs standing e
+by_report s hs standing e h = record { story = h.story; is = h.is; verdict = h.verdict; text = h.report }

@@ -31,7 +31,7 @@ fn line_ending(
 ) -> Result<Ending, NoMemory>
     requires few { length histories.now < 256 }
     requires rising { words.AreRising histories.now }
-    ensures { IfOk result (words.IsLineEnding n scenario.now histories.now standing.now) }
+    ensures { IfOk result (words.EndsBy (words.Line n) scenario.now histories.now standing.now) }
 {
     let story = story_of(alloc, histories)?;
     let verdict = verdict_of(scenario, histories, story.as_slice());
@@ -41,6 +41,7 @@ fn line_ending(
 }
 
 /// The end of a run, with what is written of it.
+#[tactic(auto, using(crate::proofs::EndLaws::by_report))]
 fn ending_by(
     alloc: Global,
     form: Form,
@@ -54,7 +55,10 @@ fn ending_by(
     ensures { IfOk result (words.EndsBy form scenario.now histories.now standing.now) }
 {
     match form {
-        Form::Report => ending_of(alloc, scenario, histories, standing),
+        Form::Report => {
+            let ending = ending_of(alloc, scenario, histories, standing)?;
+            Ok(ending)
+        }
         Form::Line(n) => line_ending(alloc, n, scenario, histories, standing),
     }
 }

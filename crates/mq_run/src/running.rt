@@ -64,7 +64,7 @@ struct Done<D: Disk> {
 }
 
 /// Does the steps of a scenario over its managers, and restarts last those that are down.
-#[tactic(auto, using(crate::proofs::JoinLaws::ran_none, crate::proofs::RunLaws::steps_ran, crate::proofs::RunLaws::steps_end, crate::proofs::OwnLaws::fresh_own))]
+#[tactic(auto, using(crate::proofs::JoinLaws::ran_none, crate::proofs::RunLaws::steps_ran, crate::proofs::RunLaws::steps_end, crate::proofs::OwnLaws::fresh_own, crate::proofs::DiskLaws::fresh_risen))]
 fn do_steps<D: Disk>(alloc: Global, scenario: &Scenario, rested: Rested<D>) -> Done<D>
     requires scenario { words.IsScenario scenario.now }
     requires same { rested.scenario ≡ scenario.now }
@@ -75,6 +75,7 @@ fn do_steps<D: Disk>(alloc: Global, scenario: &Scenario, rested: Rested<D>) -> D
     ensures stands { words.IsRested result.rested }
     ensures ends { words.StepsEnd result.ran (words.left_of result.rested) }
     ensures own { D.tells → words.AreOwn result.rested.histories }
+    ensures risen { words.IsRisen result.rested }
 {
     let mut network = match Network::start(alloc, scenario, rested) {
         Ok(network) => network,
@@ -116,7 +117,7 @@ fn report<K: Sink, D: Disk>(
 }
 
 /// Does the steps of a scenario whose managers' logs belong together, and writes its report, or its line.
-#[tactic(auto, using(crate::proofs::RunLaws::opened_on, crate::proofs::RunLaws::did_all, crate::proofs::RunLaws::whole_did, crate::proofs::RunLaws::stays, crate::proofs::OwnLaws::ended_own))]
+#[tactic(auto, using(crate::proofs::RunLaws::opened_on, crate::proofs::RunLaws::did_all, crate::proofs::RunLaws::whole_did, crate::proofs::RunLaws::stays, crate::proofs::OwnLaws::ended_own, crate::proofs::DiskLaws::ended_risen))]
 fn run_whole<K: Sink, D: Disk>(
     alloc: Global,
     form: Form,
@@ -133,6 +134,7 @@ fn run_whole<K: Sink, D: Disk>(
     requires together { words.apart scenario.now rested.histories ≡ None }
     ensures ends { words.WholeEnds form (K.held sink.old) (K.held sink.new) scenario.now rested.histories result.status (option_map words.left_of result.network) }
     ensures own { IfSome (option_map words.left_of result.network) (words.RestartsAreOwn D.tells) }
+    ensures risen { IfSome result.network words.IsRisen }
     ensures none { result.disks.items ≡ [] }
     ensures write_fault { (n : ℕ) → result.status ≡ WriteFault n → words.Rose (K.faults sink.old) (K.faults sink.new) }
 {
@@ -149,7 +151,7 @@ fn run_whole<K: Sink, D: Disk>(
 
 /// Runs a scenario over a shelf: its managers begin, their logs are checked to belong together, its steps are done,
 /// those that are down are restarted, and the report is written, or the line of a large run.
-#[tactic(auto, using(crate::proofs::JoinLaws::fresh, crate::proofs::RunLaws::begun_timed, crate::proofs::RunLaws::run_whole, crate::proofs::RunLaws::run_wants, crate::proofs::RunLaws::run_apart, crate::proofs::RunLaws::run_none, crate::proofs::RunLaws::net_no_write, crate::proofs::RunLaws::few_cables))]
+#[tactic(auto, using(crate::proofs::JoinLaws::fresh, crate::proofs::RunLaws::begun_timed, crate::proofs::RunLaws::run_whole, crate::proofs::RunLaws::run_wants, crate::proofs::RunLaws::run_apart, crate::proofs::RunLaws::run_none, crate::proofs::RunLaws::net_no_write, crate::proofs::RunLaws::few_cables, crate::proofs::DiskLaws::begun_risen))]
 pub fn run_scenario<K: Sink, H: Shelf>(
     alloc: Global,
     form: Form,
@@ -161,6 +163,8 @@ pub fn run_scenario<K: Sink, H: Shelf>(
     requires scenario { words.IsScenario scenario.now }
     requires texts { words.AllFit words.IsTextCommand scenario.now }
     ensures ends { words.RunEnds form H.D.tells (λ n b. H.holds shelf.old n sides.A b) start scenario.now (H.faults shelf.old) (H.faults shelf.new) (K.held sink.old) (K.held sink.new) result.status (option_map words.left_of result.network) (map H.D.faults result.disks.items) }
+    // Each disk of the network failed at least as often as its manager's history tells.
+    ensures risen { IfSome result.network words.IsRisen }
     ensures write_fault { (n : ℕ) → result.status ≡ WriteFault n → words.Rose (K.faults sink.old) (K.faults sink.new) }
 {
     let rested = match begin(alloc, scenario, shelf, start) {

@@ -99,8 +99,10 @@ impl<D: Disk> Network<D> {
     /// changed from outside. It takes no memory.
     #[tactic(auto, using(crate::proofs::OwnLaws::rests_own))]
     pub fn rest(self) -> Rested<D>
-        ensures is { result ≡ words.rest_of self.scenario self.nodes }
+        ensures rests { result ≡ words.rest_of self.scenario self.nodes }
         ensures own { D.tells → words.AreOwn result.histories }
+        // Each disk failed at least as often as its manager's history tells.
+        ensures risen { words.IsRisen result }
     {
         let Network { parts, room } = self;
         let NetParts {

@@ -1,9 +1,9 @@
 -- Words of this crate and of the layers below that its clauses name.
 pub use Rattle.mq_base.specs.Outside.{IsLonger, Rose}
 pub use Rattle.mq_run.specs.Leaves.{left_of}
-pub use Rattle.mq_run.specs.Words.{GotOnce, IsPromised, OrderKept, RestartsAreOwn, RowsAreLedgers, StandOnce}
+pub use Rattle.mq_run.specs.Words.{DiskRose, GotOnce, IsRisen, counts_in, IsPromised, OrderKept, RestartsAreOwn, RowsAreLedgers, StandOnce}
 pub use Rattle.mq_run.specs.declared.status.BadCause.{BadCause}
-pub use Rattle.mq_run.specs.declared.status.Status.TheVariants.{BadScenario, BadWords, ReadFault, TooLong, WriteFault}
+pub use Rattle.mq_run.specs.declared.status.Status.TheVariants.{BadScenario, BadWords, DiskFault, ReadFault, TooLong, WriteFault}
 pub use Rattle.mq_scn_text.specs.Reading.{scenario_of}
 pub use Rattle.mqnet.specs.declared.top.Task.TheVariants.{Read}
 pub use Rattle.mqnet.specs.Headline.{Completes, Ends, IsUnread, ReadNoScenario, RefusesBytes, SoakEnds, WasRead, Writes}

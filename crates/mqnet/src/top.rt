@@ -176,6 +176,7 @@ fn do_work<K: Sink, H: Shelf>(
 ) -> Ended<H::D>
     requires { terms.FitsWork left }
     ensures ends { terms.WorkEnds left H.D.tells (λ n b. H.holds shelf.old n sides.A b) start (H.faults shelf.old) (H.faults shelf.new) (K.held sink.old) (K.held sink.new) result.status (option_map terms.left_of result.network) (map H.D.faults result.disks.items) }
+    ensures risen { IfSome result.network terms.IsRisen }
     ensures write_fault { (n : ℕ) → result.status ≡ terms.WriteFault n → terms.Rose (K.faults sink.old) (K.faults sink.new) }
 {
     match left {
@@ -195,6 +196,7 @@ fn run_soak<K: Sink, H: Shelf>(
 ) -> Ended<H::D>
     requires few { n ≤ 1000 }
     ensures ends { terms.SoakEnds n H.D.tells (λ n b. H.holds shelf.old n sides.A b) start (H.faults shelf.old) (H.faults shelf.new) (K.held sink.old) (K.held sink.new) result.status (option_map terms.left_of result.network) (map H.D.faults result.disks.items) }
+    ensures risen { IfSome result.network terms.IsRisen }
     ensures write_fault { (n : ℕ) → result.status ≡ terms.WriteFault n → terms.Rose (K.faults sink.old) (K.faults sink.new) }
 {
     match scenario(alloc, n) {
@@ -214,6 +216,7 @@ fn obey_text<S: Source, K: Sink, H: Shelf>(
     start: u64,
 ) -> Ended<H::D>
     ensures ends { terms.Ends (Some (terms.Read purpose)) (S.left source.old) H.D.tells (λ n b. H.holds shelf.old n sides.A b) start (H.faults shelf.old) (H.faults shelf.new) (K.held sink.old) (K.held sink.new) result.status (option_map terms.left_of result.network) (map H.D.faults result.disks.items) }
+    ensures risen { IfSome result.network terms.IsRisen }
     ensures bad_scenario { (line : ℕ) (cause : terms.BadCause) → result.status ≡ terms.BadScenario line cause → terms.ReadNoScenario (S.left source.old) line cause }
     ensures read_fault { result.status ≡ terms.ReadFault → terms.Rose (S.faults source.old) (S.faults source.new) }
     ensures write_fault { (n : ℕ) → result.status ≡ terms.WriteFault n → terms.Rose (K.faults sink.old) (K.faults sink.new) }
@@ -243,6 +246,7 @@ fn obey_words<S: Source, K: Sink, H: Shelf>(
     start: u64,
 ) -> Ended<H::D>
     ensures ends { terms.Ends (terms.task_of (map string_bytes words.now)) (S.left source.old) H.D.tells (λ n b. H.holds shelf.old n sides.A b) start (H.faults shelf.old) (H.faults shelf.new) (K.held sink.old) (K.held sink.new) result.status (option_map terms.left_of result.network) (map H.D.faults result.disks.items) }
+    ensures risen { IfSome result.network terms.IsRisen }
     ensures bad_scenario { (line : ℕ) (cause : terms.BadCause) → result.status ≡ terms.BadScenario line cause → terms.ReadNoScenario (S.left source.old) line cause }
     ensures read_fault { result.status ≡ terms.ReadFault → terms.Rose (S.faults source.old) (S.faults source.new) }
     ensures write_fault { (n : ℕ) → result.status ≡ terms.WriteFault n → terms.Rose (K.faults sink.old) (K.faults sink.new) }
@@ -260,7 +264,7 @@ fn obey_words<S: Source, K: Sink, H: Shelf>(
 /// the word `check` the scenario is read alone, and CHECK OK written; by the word `soak` and a number from 1 to 1000 the scenario of
 /// that number is run, which reads nothing and writes one line. `start` is the moment of its beginning in milliseconds since
 /// 1970; a moment above 253,300,000,000,000 is taken as that number.
-#[tactic(auto, using(crate::proofs::Ending::own_of, crate::proofs::Ending::rows_of, crate::proofs::Ending::once_of, crate::proofs::Ending::got_once_of, crate::proofs::Ending::order_of, crate::proofs::Ending::bad_words, crate::proofs::Ending::completes))]
+#[tactic(auto, using(crate::proofs::Ending::own_of, crate::proofs::Ending::rows_of, crate::proofs::Ending::once_of, crate::proofs::Ending::got_once_of, crate::proofs::Ending::order_of, crate::proofs::Ending::bad_words, crate::proofs::Ending::completes, crate::proofs::Disks::disk_of))]
 pub fn mqnet<S: Source, K: Sink, H: Shelf>(
     alloc: Global,
     words: &[String],
@@ -291,6 +295,10 @@ pub fn mqnet<S: Source, K: Sink, H: Shelf>(
     ensures too_long { result.status ≡ terms.TooLong → terms.IsLonger (S.left source.old) 1048576 }
     // Nothing is read by the word `soak`.
     ensures unread { terms.IsUnread (terms.task_of (map string_bytes words.now)) (S.left source.old) (S.left source.new) (S.faults source.old) (S.faults source.new) }
+    // Each disk of the network failed at least as often as entries of its manager's history tell: none tells so but where the count rose.
+    ensures risen { IfSome result.network terms.IsRisen }
+    // A disk is told to have failed only where the shelf's count rose or a disk's: one that is handed back, or else one of the network.
+    ensures disk_fault { result.status ≡ terms.DiskFault → terms.DiskRose (H.faults shelf.old) (H.faults shelf.new) (option_map terms.counts_in result.network) (map H.D.faults result.disks.items) }
     // Where neither source nor sink fails, a text that is no scenario is told so, and of another the status is one of a run, or of a check
     // 0; or it is want of memory. By `soak` the status is one of a run where the sink doesn't fail.
     ensures complete { terms.Completes (terms.task_of (map string_bytes words.now)) (S.left source.old) (S.faults source.old) (S.faults source.new) (K.faults sink.old) (K.faults sink.new) result.status }
