@@ -1,9 +1,5 @@
 //! What is so of each such scenario.
 ghost use Rattle.std.specs.Prelude.{ℕ, ◌≤◌};
-ghost use Rattle.mq_objects.specs.declared.command.Command.{Command as ObjectCommand};
-ghost use Rattle.mq_sc_parse.specs.declared.command.Command.{Command};
-ghost use Rattle.mq_sc_parse.specs.declared.command.Command.TheVariants.{Objects, Operate};
-ghost use Rattle.mq_sc_parse.specs.declared.command.Op.{Op};
 ghost use Rattle.mq_soak.specs.Words as words;
 
 /// It is a scenario: within all limits, each place in it is there, no name comes twice.
@@ -13,5 +9,5 @@ pub fn soaks_are_scenarios()
 
 /// Each command in it is one whose values a text of commands gives, as all are that are read.
 pub fn soaks_have_texts()
-    ensures { (T : Command → Type 0) → ((c : ObjectCommand) → words.IsCommandText c → T (Objects c)) → ((op : Op) → T (Operate op)) → (n : ℕ) → words.AllFit T (words.soak n) }
+    ensures { (n : ℕ) → words.AllFit words.IsText (words.soak n) }
 {}

@@ -32,23 +32,27 @@ fn lines_in(round: u32) -> u32
     if round == 1 { 22 } else { 21 }
 }
 
+fn push_two(out: &mut Items<Step>, first: Step, second: Step) -> Result<(), NoMemory>
+    ensures { OnOk result (out.new ≡ out.old ++ first ∷ second ∷ []) }
+{
+    out.push(first)?;
+    out.push(second)?;
+    Ok(())
+}
+
 /// The steps behind each tenth round.
 fn push_stop(out: &mut Items<Step>) -> Result<(), NoMemory>
     ensures { OnOk result (out.new ≡ out.old ++ words.stop) }
 {
-    out.push(Step::Crash(1))?;
-    out.push(Step::Restart(1))?;
-    out.push(Step::Do(1, start(name(b"M2.M3"))))?;
-    out.push(Step::Pump(1000))?;
-    Ok(())
+    push_two(out, Step::Crash(1), Step::Restart(1))?;
+    push_two(out, Step::Do(1, start(name(b"M2.M3"))), Step::Pump(1000))
 }
 
 /// A round at the end.
 fn push_round(out: &mut Items<Step>, round: u32) -> Result<(), NoMemory>
     ensures { OnOk result (out.new ≡ out.old ++ words.round round) }
 {
-    out.push(Step::Run(0, Some(lines_in(round))))?;
-    out.push(Step::Pump(1000))?;
+    push_two(out, Step::Run(0, Some(lines_in(round))), Step::Pump(1000))?;
     if round % 10 == 0 {
         push_stop(out)?;
     }
