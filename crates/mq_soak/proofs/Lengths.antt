@@ -1,5 +1,5 @@
 -- How many lines and steps such a scenario has.
-use Rattle.std.proofs.Common.{ℕ, zero, suc, ◌≡◌, ◌≢◌, ◌≤◌, ◌+◌, ◌*◌, List, [], ◌∷◌, ◌++◌, refl, arith, length}
+use Rattle.std.proofs.Common.{ℕ, zero, suc, ◌≡◌, ◌≢◌, ◌≤◌, ◌+◌, ◌*◌, [], ◌∷◌, refl, arith, length}
 use Rattle.std.proofs.lemmas.List.{length-append}
 use Rattle.std.proofs.lemmas.Bool.{eqb-true, eqb-false}
 use Rattle.std.specs.Prelude.{◌%◌, ◌==◌, Bool, true, false, if◌then◌else◌}
@@ -7,7 +7,7 @@ use Rattle.mq_history.specs.declared.scripts.ScriptLine.{ScriptLine}
 use Rattle.mq_history.specs.declared.scripts.ScriptLine.TheVariants as lines
 use Rattle.mq_history.specs.declared.scenario.Step.{Step}
 use Rattle.mq_soak.specs.Drawn.{drawn, upper}
-use Rattle.mq_soak.specs.Soak.{commit_after, lines_to, put, round, steps_to, stop, stop_after}
+use Rattle.mq_soak.specs.Soak.{commit_after, lines_to, put, round, steps_to, stop}
 
 -- a MQCMIT for every twenty puts
 commits : (k : ℕ) (b : Bool) → (suc k % 20 == 0) ≡ b → 20 * length {A = ScriptLine} (if b then lines.Mqcmit ∷ [] else []) + suc k % 20 ≡ k % 20 + 1

@@ -1,6 +1,6 @@
 -- Such a scenario is one, and its commands are such as texts give.
-use Rattle.std.proofs.Common.{ℕ, zero, suc, ◌≡◌, ◌≢◌, ◌≤◌, ◌<◌, ◌*◌, List, [], ◌∷◌, ◌++◌, refl, ap, sym, ◌∙◌, arith, length, get_or, map}
-use Rattle.std.specs.Prelude.{All, AllPairs, Bool, true, false, if◌then◌else◌, ◌==◌, ◌%◌, codes, Some}
+use Rattle.std.proofs.Common.{ℕ, zero, suc, ◌≡◌, ◌≢◌, ◌≤◌, ◌<◌, ◌*◌, List, [], ◌∷◌, refl, ap, sym, ◌∙◌, arith, length, get_or, map}
+use Rattle.std.specs.Prelude.{All, Bool, true, false, if◌then◌else◌, ◌==◌, ◌%◌, codes, Some}
 use Rattle.std.specs.List.{AllByRecursion}
 use Rattle.std.proofs.lemmas.List.Elements.{All-append, All-cons, All-from_recursion, All-nil}
 use Rattle.std.proofs.lemmas.List.Kept.{AllPairs-cons}
@@ -15,7 +15,6 @@ use Rattle.mq_sc_parse.specs.declared.command.Command.{Command}
 use Rattle.mq_sc_parse.specs.declared.command.Command.TheVariants as commands
 use Rattle.mq_sc_parse.specs.declared.command.Op.{Op}
 use Rattle.mq_sc_parse.specs.declared.command.Op.TheVariants as ops
-use Rattle.mq_history.specs.declared.scripts.ScriptLine.{ScriptLine}
 use Rattle.mq_history.specs.declared.scripts.ScriptLine.TheVariants as lines
 use Rattle.mq_history.specs.declared.scenario.CableLine.{CableLine}
 use Rattle.mq_history.specs.declared.scenario.ManagerLine.{ManagerLine}
@@ -23,13 +22,12 @@ use Rattle.mq_history.specs.declared.scenario.MonitorLine.{MonitorLine}
 use Rattle.mq_history.specs.declared.scenario.RulesPart.{RulesPart}
 use Rattle.mq_history.specs.declared.scenario.ScriptPart.{ScriptPart}
 use Rattle.mq_history.specs.declared.scenario.Section.{Section}
-use Rattle.mq_history.specs.declared.scenario.Step.{Step}
 use Rattle.mq_history.specs.declared.scenario.Step.TheVariants as steps
 use Rattle.mq_history.specs.Scenarios.{AllDiffer, IsCable, IsManager, IsScenario, IsStep, Within, labels}
 use Rattle.mq_law_image.specs.Values.{IsCommandText}
 use Rattle.mq_nodes.specs.Texts.{AllFit, LineFits, StepFits}
 use Rattle.mq_soak.specs.Drawn.{drawn, upper}
-use Rattle.mq_soak.specs.Soak.{begin, cables, commit_after, define_local, define_receiver, define_sender, define_transmission, first_commands, lines_in, lines_to, managers, put, round, script, second_commands, section, sections, send_by_default, soak, start, steps_to, stop, stop_after, third_commands}
+use Rattle.mq_soak.specs.Soak.{begin, cables, commit_after, define_local, define_receiver, define_sender, define_transmission, first_commands, lines_in, lines_to, managers, put, round, script, second_commands, sections, send_by_default, soak, steps_to, stop, stop_after, third_commands}
 use Rattle.mq_soak.specs.Texts.{IsText}
 use Rattle.mq_soak.proofs.Lengths.{few_lines, few_steps}
 
@@ -136,10 +134,13 @@ sections_fit T f =
     let t : IsName 48 (codes "T") = record { fits = omega arith; bytes = refl } in
     let near : IsName 20 (codes "M1.M2") = record { fits = omega arith; bytes = refl } in
     let far : IsName 20 (codes "M2.M3") = record { fits = omega arith; bytes = refl } in
-    All-from_recursion (λ (p : Section). All T p.commands) sections
-    (All-from_recursion T first_commands (transmission_fits T f (codes "M2") m2 (omega arith), (default_fits T f (codes "M2") m2, (sender_fits T f (codes "M1.M2") (codes "M2") near (omega arith) m2, tt))),
-    (All-from_recursion T second_commands (transmission_fits T f (codes "M3") m3 (omega arith), (receiver_fits T f (codes "M1.M2") near (omega arith), (sender_fits T f (codes "M2.M3") (codes "M3") far (omega arith) m3, tt))),
-    (All-from_recursion T third_commands (local_fits T f (codes "T") t (omega arith), (receiver_fits T f (codes "M2.M3") far (omega arith), tt)), tt)))
+    All-from_recursion (λ (p : Section). All T p.commands) sections (
+      All-from_recursion T first_commands (transmission_fits T f (codes "M2") m2 (omega arith), (default_fits T f (codes "M2") m2, (sender_fits T f (codes "M1.M2") (codes "M2") near (omega arith) m2, tt))),
+      (
+        All-from_recursion T second_commands (transmission_fits T f (codes "M3") m3 (omega arith), (receiver_fits T f (codes "M1.M2") near (omega arith), (sender_fits T f (codes "M2.M3") (codes "M3") far (omega arith) m3, tt))),
+        (All-from_recursion T third_commands (local_fits T f (codes "T") t (omega arith), (receiver_fits T f (codes "M2.M3") far (omega arith), tt)), tt),
+      ),
+    )
 
 commit_fits : (T : Command → Type 0) (b : Bool) → All (LineFits T) (if b then lines.Mqcmit ∷ [] else [])
 commit_fits T true = All-from_recursion (LineFits T) (lines.Mqcmit ∷ []) (tt, tt)

@@ -1,5 +1,5 @@
 -- The scenario of a number.
-use Rattle.std.specs.Prelude.{ℕ, ℤ, pos, negsuc, zero, suc, ◌+◌, ◌*◌, ◌%◌, ◌==◌, true, false, List, [], ◌∷◌, ◌++◌, replicate, if◌then◌else◌, Some, None, codes}
+use Rattle.std.specs.Prelude.{ℕ, pos, negsuc, zero, suc, ◌+◌, ◌*◌, ◌%◌, ◌==◌, true, false, List, [], ◌∷◌, ◌++◌, replicate, if◌then◌else◌, Some, None, codes}
 use Rattle.std.specs.Fmt.{decimal}
 use Rattle.mq_objects.specs.declared.object.Usage.TheVariants as usages
 use Rattle.mq_objects.specs.declared.setting.ChannelType.TheVariants as ends

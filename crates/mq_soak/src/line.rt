@@ -1,5 +1,5 @@
 //! The line that tells of the run.
-ghost use Rattle.std.specs.Prelude.{◌≡◌, ◌++◌, IfOk, OnOk, codes};
+ghost use Rattle.std.specs.Prelude.{◌≡◌, ◌++◌, IfOk, OnOk};
 ghost use Rattle.std.specs.List.{flat_map};
 ghost use Rattle.mq_soak.specs.Words as words;
 
@@ -55,11 +55,7 @@ fn rows_at(manager: &ManagerStanding) -> Result<u64, NoMemory>
     Ok(rows)
 }
 
-fn put_manager(
-    alloc: Global,
-    out: &mut Text,
-    manager: &ManagerStanding,
-) -> Result<(), NoMemory>
+fn put_manager(alloc: Global, out: &mut Text, manager: &ManagerStanding) -> Result<(), NoMemory>
     ensures { OnOk result (out.new ≡ out.old ++ words.manager_part manager.now) }
 {
     let rows = rows_at(manager)?;
@@ -69,11 +65,7 @@ fn put_manager(
     put_number(alloc, out, rows)
 }
 
-fn put_managers(
-    alloc: Global,
-    out: &mut Text,
-    managers: &[ManagerStanding],
-) -> Result<(), NoMemory>
+fn put_managers(alloc: Global, out: &mut Text, managers: &[ManagerStanding]) -> Result<(), NoMemory>
     ensures { OnOk result (out.new ≡ out.old ++ flat_map words.manager_part managers.now) }
 {
     for manager in managers {

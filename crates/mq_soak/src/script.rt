@@ -1,5 +1,5 @@
 //! The script: its puts, each with what its number draws.
-ghost use Rattle.std.specs.Prelude.{◌≡◌, ◌≤◌, ◌++◌, ◌∷◌, ◌+◌, ◌*◌, [], IfOk, OnOk};
+ghost use Rattle.std.specs.Prelude.{◌≡◌, ◌≤◌, ◌++◌, ◌∷◌, ◌+◌, ◌*◌, IfOk, OnOk};
 ghost use Rattle.std.specs.Fmt.{decimal};
 ghost use Rattle.mq_soak.specs.Words as words;
 
@@ -64,12 +64,7 @@ fn put(alloc: Global, k: u32, r: u32) -> Result<ScriptLine, NoMemory>
 }
 
 /// The put of that number at the end, and MQCMIT behind each twentieth.
-fn push_put(
-    alloc: Global,
-    out: &mut Items<ScriptLine>,
-    k: u32,
-    r: u32,
-) -> Result<(), NoMemory>
+fn push_put(alloc: Global, out: &mut Items<ScriptLine>, k: u32, r: u32) -> Result<(), NoMemory>
     ensures { OnOk result (out.new ≡ out.old ++ words.put k r ∷ words.commit_after k) }
 {
     let put = put(alloc, k, r)?;

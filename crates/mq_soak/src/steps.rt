@@ -40,12 +40,24 @@ fn push_two(out: &mut Items<Step>, first: Step, second: Step) -> Result<(), NoMe
     Ok(())
 }
 
-/// The steps behind each tenth round.
+/// A stop of the manager between, and what brings it back.
 fn push_stop(out: &mut Items<Step>) -> Result<(), NoMemory>
     ensures { OnOk result (out.new ≡ out.old ++ words.stop) }
 {
     push_two(out, Step::Crash(1), Step::Restart(1))?;
-    push_two(out, Step::Do(1, start(name(b"M2.M3"))), Step::Pump(1000))
+    push_two(out, Step::Do(1, start(name(b"M2.M3"))), Step::Pump(1000))?;
+    Ok(())
+}
+
+/// That behind each tenth round.
+fn push_stop_after(out: &mut Items<Step>, round: u32) -> Result<(), NoMemory>
+    ensures { OnOk result (out.new ≡ out.old ++ words.stop_after round) }
+{
+    if round % 10 != 0 {
+        return Ok(());
+    }
+    push_stop(out)?;
+    Ok(())
 }
 
 /// A round at the end.
@@ -53,9 +65,7 @@ fn push_round(out: &mut Items<Step>, round: u32) -> Result<(), NoMemory>
     ensures { OnOk result (out.new ≡ out.old ++ words.round round) }
 {
     push_two(out, Step::Run(0, Some(lines_in(round))), Step::Pump(1000))?;
-    if round % 10 == 0 {
-        push_stop(out)?;
-    }
+    push_stop_after(out, round)?;
     Ok(())
 }
 
