@@ -36,15 +36,9 @@ use Rattle.mqnet.specs.declared.top.Task.{Task}
 use Rattle.mqnet.specs.declared.top.Task.TheVariants as tasks
 use Rattle.mqnet.specs.declared.top.Work.{Work}
 use Rattle.mqnet.specs.declared.top.Work.TheVariants as works
-use Rattle.mqnet.specs.Wanted.{number_task, task_of, text_status, wanted, word_task}
+use Rattle.mqnet.specs.Wanted.{task_of, text_status, wanted, word_task}
 use Rattle.mqnet.specs.Work.{FitsWork, IsWork, WorkEnds}
 use Rattle.mqnet.specs.Headline.{Checked, Comes, ComesOf, Completes, Ends, IsEarly, IsOfRun, IsRead, Nothing, RanScenario, ReadNoScenario, SoakEnds, WasRead, Writes, check_text}
-
-pub two_words : {A : Type 0} (f : A → List ℕ) (ws : List A) (w x : A) → 2 ≤ length ws → length ws < 3 → w ≡ get_or ws 0 w → x ≡ get_or ws 1 x → number_task (f w) (f x) ≡ task_of (map f ws)
-two_words f [] w x le lt e d = absurd (omega arith)
-two_words f (y ∷ []) w x le lt e d = absurd (omega arith)
-two_words f (y ∷ z ∷ v ∷ us) w x le lt e d = absurd (omega arith)
-two_words f (y ∷ z ∷ []) w x le lt e d = λ i. number_task (f (e i)) (f (d i))
 
 pub one_word : {A : Type 0} (f : A → List ℕ) (ws : List A) (w : A) → 1 ≤ length ws → length ws < 2 → w ≡ get_or ws 0 w → word_task (f w) ≡ task_of (map f ws)
 one_word f [] w le lt e = absurd (omega arith)
