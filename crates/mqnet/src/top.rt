@@ -235,8 +235,32 @@ fn obey_text<S: Source, K: Sink, H: Shelf>(
     }
 }
 
-/// Does what the words say.
+/// Does what is asked.
 #[tactic(auto, using(crate::proofs::Soaking::no_bad_scenario, crate::proofs::Soaking::no_read_fault, crate::proofs::Soaking::not_too_long))]
+fn do_task<S: Source, K: Sink, H: Shelf>(
+    alloc: Global,
+    task: Task,
+    source: &mut S,
+    sink: &mut K,
+    shelf: &mut H,
+    start: u64,
+) -> Ended<H::D>
+    requires fits { terms.FitsTask task }
+    ensures ends { terms.Ends (Some task) (S.left source.old) H.D.tells (λ n b. H.holds shelf.old n sides.A b) start (H.faults shelf.old) (H.faults shelf.new) (K.held sink.old) (K.held sink.new) result.status (option_map terms.left_of result.network) (map H.D.faults result.disks.items) }
+    ensures risen { IfSome result.network terms.IsRisen }
+    ensures bad_scenario { (line : ℕ) (cause : terms.BadCause) → result.status ≡ terms.BadScenario line cause → terms.ReadNoScenario (S.left source.old) line cause }
+    ensures read_fault { result.status ≡ terms.ReadFault → terms.Rose (S.faults source.old) (S.faults source.new) }
+    ensures write_fault { (n : ℕ) → result.status ≡ terms.WriteFault n → terms.Rose (K.faults sink.old) (K.faults sink.new) }
+    ensures too_long { result.status ≡ terms.TooLong → terms.IsLonger (S.left source.old) 1048576 }
+    ensures unread { terms.IsUnread (Some task) (S.left source.old) (S.left source.new) (S.faults source.old) (S.faults source.new) }
+{
+    match task {
+        Task::Read(purpose) => obey_text(alloc, purpose, source, sink, shelf, start),
+        Task::Soak(n) => run_soak(alloc, n, shelf, start, sink),
+    }
+}
+
+/// Does what the words say.
 fn obey_words<S: Source, K: Sink, H: Shelf>(
     alloc: Global,
     words: &[String],
@@ -253,11 +277,10 @@ fn obey_words<S: Source, K: Sink, H: Shelf>(
     ensures too_long { result.status ≡ terms.TooLong → terms.IsLonger (S.left source.old) 1048576 }
     ensures unread { terms.IsUnread (terms.task_of (map string_bytes words.now)) (S.left source.old) (S.left source.new) (S.faults source.old) (S.faults source.new) }
 {
-    match task_of(words) {
-        None => ended_early(alloc, Status::BadWords, None),
-        Some(Task::Read(purpose)) => obey_text(alloc, purpose, source, sink, shelf, start),
-        Some(Task::Soak(n)) => run_soak(alloc, n, shelf, start, sink),
-    }
+    let Some(task) = task_of(words) else {
+        return ended_early(alloc, Status::BadWords, None);
+    };
+    do_task(alloc, task, source, sink, shelf, start)
 }
 
 /// Runs the program: by the word `run`, the scenario that the source gives, over the shelf's disks, with its report to the sink; by
