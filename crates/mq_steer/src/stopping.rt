@@ -15,13 +15,21 @@ use mq_disk::Disk;
 use mq_objects::Object;
 use mq_place::Queues;
 use mq_queue::PlainQueue;
+use mq_sides::KeptBatch;
+
+/// The rows of a batch are free again.
+fn release_one(queues: &mut Queues<PlainQueue>, batch: &Batch)
+    ensures { queues.new ≡ record queues.old { states = batches_released (batch.now ∷ []) queues.old.states } }
+{
+    queues.release_each(&batch.queue, batch.idents.as_slice());
+}
 
 /// The rows of batches are free again.
-fn release_batches(queues: &mut Queues<PlainQueue>, batches: &[Batch])
+fn release_batches(queues: &mut Queues<PlainQueue>, batches: &[KeptBatch])
     ensures { queues.new ≡ record queues.old { states = batches_released batches.now queues.old.states } }
 {
     for batch in batches {
-        queues.release_each(&batch.queue, batch.idents.as_slice());
+        release_one(queues, batch.batch());
     }
 }
 
@@ -61,7 +69,7 @@ fn unawait_slots(queues: &mut Queues<PlainQueue>, slots: &[Option<Object>])
 }
 
 /// Rows that units and batches hold are free again, nonpersistent rows go, no trigger is due.
-fn rest_queues(queues: &mut Queues<PlainQueue>, batches: &[Batch])
+fn rest_queues(queues: &mut Queues<PlainQueue>, batches: &[KeptBatch])
     ensures { queues.new ≡ record queues.old { states = rested batches.now queues.old.states } }
 {
     queues.free_units();

@@ -98,10 +98,8 @@ pub fn released<D: Disk>(manager: &mut Manager<D>, channel: &ChName) -> Result<T
     requires batch { HasBatch channel.now manager.old.plain }
     ensures { MadeOr (parts_of (release_batch channel.now manager.old.plain)) result manager.old manager.new }
 {
-    match manager.release_batch(channel) {
-        Ok(()) => Ok(ran(manager)),
-        Err(NoMemory) => Err(NoMemory),
-    }
+    manager.release_batch(channel);
+    Ok(ran(manager))
 }
 
 /// Whether all was done.
