@@ -420,11 +420,7 @@ impl<D: Disk> Manager<D> {
         mq_agents::hold_batch(&mut self.core, channel, unit, most)
     }
 
-    /// A batch that is not prepared is released: its rows are free again, at their places, with no backout counted.
-    ///
-    /// # Errors
-    ///
-    /// No memory; nothing has changed.
+    /// A batch that is not prepared is released: its rows are free again, at their places, with no backout counted. It takes no memory.
     pub fn release_batch(&mut self, channel: &ChName)
         requires up { IsUp self.old.plain }
         requires batch { HasBatch channel.now self.old.plain }
