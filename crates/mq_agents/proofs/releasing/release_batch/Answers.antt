@@ -36,16 +36,16 @@ returns-clause-meets g c =
     let x : PartsValue = c.core.inside.parts in
     let up = mode_up (frozen_of x) x.mode (ap (λ (p : Plain). is_up p.running) plain ∙ c.requires.up) in
     let channel = c.args.channel.now in
-    let b : Batch = c.into_parts.result.0 in
+    let b : Batch = c.into_parts-batch.result.0 in
     let f = released_in (HeldBy (holders.Batch channel)) false in
     let changes = Release (HeldBy (holders.Batch channel)) false ∷ DropBatch channel ∷ [] in
-    let there : Some b ≡ batch_of channel c.args.core.now.plain.channels.batches = ap (λ (k : Batch). Some k) c.into_parts.ensures.batch ∙ sym c.in-Some.is ∙ c.take_batch.ensures.batch ∙ ap (λ (p : Plain). batch_of channel p.channels.batches) plain in
+    let there : Some b ≡ batch_of channel c.args.core.now.plain.channels.batches = ap (λ (k : Batch). Some k) c.into_parts-batch.ensures.batch ∙ sym c.in-Some.is ∙ c.take_batch.ensures.batch ∙ ap (λ (p : Plain). batch_of channel p.channels.batches) plain in
     let step : release_of channel (Some b) ≡ release_batch channel c.args.core.now.plain = ap (release_of channel) there in
     let same = c.take_batch.ensures.freed in
     let done = ap plain_of same ∙ rows_view f (without_one channel x.ends) x up ∙ ap (λ (p : Plain). apply_all changes p) plain in
     let told =
     ap (λ (t : Telling). t.dids) c.tell_released.ensures
-    ∙ ap (λ (ds : List Did). ds ++ map (released_did b.queue) c.as_slice.result.now) c.into_parts.ensures.told
+    ∙ ap (λ (ds : List Did). ds ++ map (released_did b.queue) c.as_slice.result.now) c.into_parts-batch.ensures.told
     ∙ ap (λ (is : List Ident). map (released_did b.queue) is) c.as_slice.ensures
     in
     let faults = ap (λ (p : PartsValue). p.log.faults) same ∙ ap (λ (w : CoreValue). w.faults) v in
@@ -59,8 +59,8 @@ returns-clause-told g c =
     let v = c.core.view_is ∙ c.begin_call.ensures in
     let plain = ap (λ (w : CoreValue). w.plain) v in
     let channel = c.args.channel.now in
-    let b : Batch = c.into_parts.result.0 in
-    let there : Some b ≡ batch_of channel c.args.core.now.plain.channels.batches = ap (λ (k : Batch). Some k) c.into_parts.ensures.batch ∙ sym c.in-Some.is ∙ c.take_batch.ensures.batch ∙ ap (λ (p : Plain). batch_of channel p.channels.batches) plain in
+    let b : Batch = c.into_parts-batch.result.0 in
+    let there : Some b ≡ batch_of channel c.args.core.now.plain.channels.batches = ap (λ (k : Batch). Some k) c.into_parts-batch.ensures.batch ∙ sym c.in-Some.is ∙ c.take_batch.ensures.batch ∙ ap (λ (p : Plain). batch_of channel p.channels.batches) plain in
     let step : release_of channel (Some b) ≡ release_batch channel c.args.core.now.plain = ap (release_of channel) there in
     let nothing : Unit {0} = tt in
     writes_as c.args.core.now _ (release_batch channel c.args.core.now.plain) (release_of channel (Some b)) (Ok nothing) (sym step)
