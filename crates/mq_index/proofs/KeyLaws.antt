@@ -16,11 +16,11 @@ nat_turned n m = grind (arith, nat_tests)
 nat_chain : (n m k : ℕ) → (n == m) ≡ true → (n == k) ≡ (m == k)
 nat_chain n m k e = grind (arith, nat_tests)
 
-both_true : (a b : Bool) → (a && b) ≡ true → (a ≡ true) × (b ≡ true)
+pub both_true : (a b : Bool) → (a && b) ≡ true → (a ≡ true) × (b ≡ true)
 both_true true b e = (refl, e)
 both_true false b e = absurd cc
 
-nat_is : (n m : ℕ) → (n == m) ≡ true → n ≡ m
+pub nat_is : (n m : ℕ) → (n == m) ≡ true → n ≡ m
 nat_is n m e = grind (arith, nat_tests)
 
 bytes_turned : (xs ys : List ℕ) → bytes_eq xs ys ≡ bytes_eq ys xs
