@@ -7,3 +7,8 @@ pub mod MarkLaws
 pub mod WalkLaws
 pub mod SlotLaws
 pub mod OrderLaws
+pub mod FoundLaws
+pub mod RowLaws
+pub mod StoreLaws
+pub mod InsertLaws
+pub mod MoveLaws

@@ -3,6 +3,7 @@ use Rattle.std.proofs.Common.{◌≡◌, ℕ, zero, suc, ◌+◌, ◌<◌, ◌�
 use Rattle.std.specs.Prelude.{◌⊎◌, ◌==◌, ◌&&◌, ◌||◌, not, if◌then◌else◌, Option, None, Some, count_by, find, slice_get, slice_set}
 use Rattle.std.specs.List.{list_any}
 use Rattle.std.proofs.lemmas.Bool.Decides.{nat_tests}
+use Rattle.std.proofs.lemmas.List.{length-take}
 use Rattle.std.proofs.lemmas.List.Recursion.{is_count_by}
 use Rattle.mq_queue.specs.declared.row.Row.{Row}
 use Rattle.mq_queue.specs.Rows.{insert_row, keep, retag}
@@ -11,11 +12,12 @@ use Rattle.mq_queue.specs.Counts.{weight}
 use Rattle.mq_index.specs.Lanes.{found_from, in_lane, in_order, lanes_from}
 use Rattle.mq_index.specs.Slots.{AreLow, one, row_in, slot_weight, total}
 use Rattle.mq_index.specs.Walks.{NoneAtAll, stored}
+use Rattle.mq_index.proofs.SlotLaws.{small_weight, total_long}
 use Rattle.mq_index.proofs.LaneLaws.{find_kept, order_find, order_insert, order_keep, order_retag}
 use Rattle.mq_index.proofs.ListLaws.{some_is}
 
 -- SUMS
-abbrev sum : (Row → ℕ) → List Row → ℕ
+abbrev pub sum : (Row → ℕ) → List Row → ℕ
 sum w [] = 0
 sum w (x ∷ xs) = w x + sum w xs
 
@@ -94,7 +96,7 @@ order_count least slots low = sym (sum_order (weight least) slots low) ∙ talli
 -- by a walk over the slots
 sum_step : (least : ℕ) (slots : List (Option Row)) (at : ℕ) (slot : Option Row) → at < length slots → slot ≡ get_or slots at slot → total (weight least) (take (suc at) slots) ≡ total (weight least) (take at slots) + slot_weight least slot
 sum_step least [] at slot lt e = absurd (omega (arith, lt))
-sum_step least (None ∷ slots) zero slot lt e = ap (slot_weight least) (sym e)
+sum_step least (None ∷ slots) zero slot lt e = let h : slot_weight least slot ≡ 0 = ap (slot_weight least) e in omega (arith, h)
 sum_step least (Some x ∷ slots) zero slot lt e = let h : slot_weight least slot ≡ weight least x = ap (slot_weight least) e in omega (arith, h)
 sum_step least (None ∷ slots) (suc at) slot lt e = sum_step least slots at slot (omega (arith, lt)) e
 sum_step least (Some x ∷ slots) (suc at) slot lt e = let h = sum_step least slots at slot (omega (arith, lt)) e in omega (arith, h)
@@ -243,3 +245,9 @@ order_fixed change slots k all = ap in_order (sym (fixed change slots all)) ∙ 
 -- THE LANES
 pub found_start : (test : Row → Bool) (slots : List (Option Row)) → find test (in_order (stored slots)) ≡ found_from test 10 0 (stored slots)
 found_start test slots = order_find test (stored slots)
+
+pub sum_fits : (least : ℕ) (slots : List (Option Row)) (n : ℕ) → total (weight least) (take n slots) ≤ length slots
+sum_fits least slots n =
+    let t = total_long (weight least) (take n slots) (small_weight least) in
+    let l = length-take n slots in
+    omega (arith, t, l)

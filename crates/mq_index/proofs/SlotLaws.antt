@@ -1,6 +1,6 @@
 -- What rows in slots keep, as one comes, one goes and one changes at its slot.
 use Rattle.std.proofs.Common.{◌≡◌, ℕ, zero, suc, ◌+◌, ◌<◌, ◌≤◌, Bool, true, false, List, [], ◌∷◌, ◌++◌, length, inl, inr, refl, sym, ap, subst, ◌∙◌, arith}
-use Rattle.std.specs.Prelude.{◌⊎◌, ◌==◌, if◌then◌else◌, Option, None, Some, slice_get, slice_set, slice_index}
+use Rattle.std.specs.Prelude.{◌⊎◌, ◌==◌, ◌&&◌, if◌then◌else◌, Option, None, Some, replicate, slice_get, slice_set, slice_index}
 use Rattle.std.proofs.lemmas.Bool.Decides.{nat_tests}
 use Rattle.mq_message.specs.declared.message.Ident.{Ident}
 use Rattle.mq_message.specs.declared.place.Place.{Place}
@@ -13,7 +13,7 @@ use Rattle.mq_queue.proofs.Edits.{same_is}
 use Rattle.mq_index.specs.declared.keys.Kind.{Kind}
 use Rattle.mq_index.specs.declared.keys.Kind.TheVariants.{Lane, MsgId, CorrelId}
 use Rattle.mq_index.specs.Keys.{key_by}
-use Rattle.mq_index.specs.Slots.{AreCounted, AreHomes, AreMarked, IsAlike, IsHome, IsOnly, NoRow, one, total}
+use Rattle.mq_index.specs.Slots.{AreCounted, AreHomes, AreMarked, IsAlike, IsHome, IsOnly, IsSound, NoRow, one, total}
 use Rattle.mq_index.proofs.ListLaws.{get_end, get_more, got_more, long_more, same_or_not, set_here, set_long, set_other, some_is, within}
 
 clash : {P : Type 0} (b : Bool) → b ≡ true → b ≡ false → P
@@ -59,6 +59,7 @@ marked_more marks slots arrivals row m late low = record {
   long = long_more marks row.place.arrival ∙ ap (λ (n : ℕ). n + 1) m.long ∙ sym (long_more slots (Some row));
   rising = λ i j a b lt e f. up i j a b lt (got_more marks row.place.arrival a i e) (got_more marks row.place.arrival b j f);
   known = λ i a e. below i a (got_more marks row.place.arrival a i e);
+  over = λ i a e. above i a (got_more marks row.place.arrival a i e);
   mark = λ i r e. at_it i r (came slots row r i e);
   lane = λ i r e. in_it i r (came slots row r i e);
 } where
@@ -78,6 +79,10 @@ marked_more marks slots arrivals row m late low = record {
   below i a (inl e) = let le = m.known i a e in omega (arith, le, late)
   below i a (inr e) = omega (arith, e.1)
 
+  above : (i a : ℕ) → (slice_get marks i ≡ Some a) ⊎ ((i ≡ length marks) × (a ≡ row.place.arrival)) → 0 < a
+  above i a (inl e) = m.over i a e
+  above i a (inr e) = omega (arith, e.1, late)
+
   at_it : (i : ℕ) (r : Row) → (slice_get slots i ≡ Some (Some r)) ⊎ ((i ≡ length slots) × (r ≡ row)) → slice_get (marks ++ row.place.arrival ∷ []) i ≡ Some r.place.arrival
   at_it i r (inl e) = get_more marks row.place.arrival r.place.arrival i (m.mark i r e)
   at_it i r (inr e) = ap (slice_get (marks ++ row.place.arrival ∷ [])) (e.0 ∙ sym m.long) ∙ get_end marks row.place.arrival ∙ ap (λ (x : Row). Some x.place.arrival) (sym e.1)
@@ -91,6 +96,7 @@ marked_gone marks slots arrivals at m = record {
   long = m.long ∙ sym (set_long slots at None);
   rising = m.rising;
   known = m.known;
+  over = m.over;
   mark = λ i r e. m.mark i r (stayed slots at r i e).1;
   lane = λ i r e. m.lane i r (stayed slots at r i e).1;
 }
@@ -101,6 +107,7 @@ module _ (slots : List (Option Row)) (at : ℕ) (row new : Row) (there : slice_g
     long = m.long ∙ sym (set_long slots at (Some new));
     rising = m.rising;
     known = m.known;
+    over = m.over;
     mark = λ i r e. at_it i r (changed slots at new r i e);
     lane = λ i r e. in_it i r (changed slots at new r i e);
   } where
@@ -113,7 +120,7 @@ module _ (slots : List (Option Row)) (at : ℕ) (row new : Row) (there : slice_g
     in_it i r (inr e) = subst (λ (x : Row). x.place.lane < 10) (sym e.1) (subst (λ (p : Place). p.lane < 10) (sym like.place) (m.lane at row there))
 
   pub alike_key : (kind : Kind) → key_by kind new ≡ key_by kind row
-  alike_key Lane = ap (λ (p : Place). record { lane = p.lane; id = _ }) like.place
+  alike_key Lane = ap (λ (p : Place). record { lane = p.lane; id = replicate 24 0 }) like.place
   alike_key MsgId = ap (λ (p : Place). record { lane = p.lane; id = new.message.md.msg_id }) like.place ∙ ap (λ (xs : List ℕ). record { lane = row.place.lane; id = xs }) like.msg_id
   alike_key CorrelId = ap (λ (p : Place). record { lane = p.lane; id = new.message.md.correl_id }) like.place ∙ ap (λ (xs : List ℕ). record { lane = row.place.lane; id = xs }) like.correl_id
 
@@ -256,7 +263,7 @@ counted_freed slots at row new frees more there held h is least lt = let a = h l
 pub enough_there : (slots : List (Option Row)) (at : ℕ) (row : Row) (frees : List ℕ) → slice_get slots at ≡ Some (Some row) → AreCounted frees slots → AreEnough row frees
 enough_there slots at row frees there h least lt = let a = h least lt in let t = total_gone (weight least) slots at row there in omega (arith, a, t)
 
-small_weight : (least : ℕ) (row : Row) → weight least row ≤ 1
+pub small_weight : (least : ℕ) (row : Row) → weight least row ≤ 1
 small_weight least row = by _
   where
     by : (b : Bool) → (if b then 1 else 0) ≤ 1
@@ -273,3 +280,31 @@ held_alike by row = record { place = refl; ident = refl; msg_id = refl; correl_i
 pub freed_alike : (backed_out : Bool) (row : Row) → IsAlike row (freed backed_out row)
 freed_alike true row = record { place = refl; ident = refl; msg_id = refl; correl_id = refl }
 freed_alike false row = record { place = refl; ident = refl; msg_id = refl; correl_id = refl }
+
+-- what a store keeps, told of its slots alone
+pub sound_of : (marks : List ℕ) (slots : List (Option Row)) (arrivals : ℕ) (homes : Ident → Option ℕ) → AreMarked marks slots arrivals → AreHomes homes slots → IsSound slots arrivals
+sound_of marks slots arrivals homes m h = record {
+  sorted = λ i j a b lt e f. m.rising i j a.place.arrival b.place.arrival lt (m.mark i a e) (m.mark j b f);
+  arrived = λ i a e. (m.over i a.place.arrival (m.mark i a e), m.known i a.place.arrival (m.mark i a e));
+  low = m.lane;
+  apart = λ i j a b e f t. one_place i j a b e f t (homes a.message.ident) (h a.message.ident);
+} where
+  itself : (m i n : ℕ) → (((m == m) && (i == i)) && (n == n)) ≡ true
+  itself m i n = grind (arith, nat_tests)
+
+  one_place : (i j : ℕ) (a b : Row) → slice_get slots i ≡ Some (Some a) → slice_get slots j ≡ Some (Some b) → has_ident a.message.ident b ≡ true → (o : Option ℕ) → IsHome a.message.ident slots o → i ≡ j
+  one_place i j a b e f t None n = clash (has_ident a.message.ident b) t (n j b f)
+  one_place i j a b e f t (Some k) o = o.only i a e (itself a.message.ident.manager a.message.ident.incarnation a.message.ident.number) ∙ sym (o.only j b f t)
+
+pub marked_raised : (marks : List ℕ) (slots : List (Option Row)) (a b : ℕ) → a ≤ b → AreMarked marks slots a → AreMarked marks slots b
+marked_raised marks slots a b le m = record {
+  long = m.long;
+  rising = m.rising;
+  known = λ i x e. let h = m.known i x e in omega (arith, h, le);
+  over = m.over;
+  mark = m.mark;
+  lane = m.lane;
+}
+
+pub homes_same : (slots : List (Option Row)) (old new : Ident → Option ℕ) → ((ident : Ident) → new ident ≡ old ident) → AreHomes old slots → AreHomes new slots
+homes_same slots old new same h ident = subst (IsHome ident slots) (sym (same ident)) (h ident)

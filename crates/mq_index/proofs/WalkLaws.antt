@@ -189,3 +189,13 @@ none_in_lane test place kind key slots fits lt j row there =
     or_not (test row) (λ e. let h = fits row e in
     let lane = key_lane key kind row h.1 in
     later_no place.lane place.arrival row.place.lane row.place.arrival (omega (arith, lt, lane)) h.0)
+
+find_same : (p q : Row → Bool) → ((row : Row) → p row ≡ q row) → (rows : List Row) → find p rows ≡ find q rows
+find_same p q h [] = refl
+find_same p q h (x ∷ xs) = ap (λ (b : Bool). if b then Some x else find p xs) (h x) ∙ ap (λ (o : Option Row). if q x then Some x else o) (find_same p q h xs)
+
+pub find_takable : (want : Want) (after : Option Place) (rows : List Row) → find (is_asked false want after) rows ≡ find (is_takable want after) rows
+find_takable want after rows = find_same (is_asked false want after) (is_takable want after) (asked_free want after) rows
+
+pub find_after : (want : Want) (after : Option Place) (rows : List Row) → find (is_asked true want after) rows ≡ find (is_after after) rows
+find_after want after rows = find_same (is_asked true want after) (is_after after) (asked_any want after) rows

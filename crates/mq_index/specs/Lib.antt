@@ -4,3 +4,4 @@ pub mod Chains
 pub mod Walks
 pub mod Slots
 pub mod Stores
+pub mod Moves

@@ -1,11 +1,11 @@
 -- What rows in slots keep: when each came, where each ident stands, and how many there are.
-use Rattle.std.specs.Prelude.{◌≡◌, ◌+◌, ◌<◌, ◌≤◌, ◌==◌, ◌&&◌, ℕ, Bool, true, false, List, [], ◌∷◌, if◌then◌else◌, Option, None, Some, slice_get, slice_index, length}
+use Rattle.std.specs.Prelude.{◌≡◌, ◌+◌, ◌<◌, ◌≤◌, ◌==◌, ◌&&◌, ℕ, Bool, true, false, not, List, [], ◌∷◌, if◌then◌else◌, Option, None, Some, slice_get, slice_index, length}
 use Rattle.std.specs.HashMap.{HashMap, get}
 use Rattle.mq_message.specs.declared.message.Ident.{Ident}
 use Rattle.mq_message.specs.declared.place.Holder.{Holder}
 use Rattle.mq_queue.specs.declared.row.Row.{Row}
-use Rattle.mq_queue.specs.Rows.{has_ident, is_free}
-use Rattle.mq_queue.specs.Queues.{freed}
+use Rattle.mq_queue.specs.Rows.{has_ident, is_by_unit, is_free, is_persistent}
+use Rattle.mq_queue.specs.Queues.{freed, unit_freed}
 use Rattle.mq_queue.specs.Counts.{weight}
 use Rattle.mq_index.specs.declared.homes.IdentKey.{IdentKey}
 
@@ -23,6 +23,7 @@ pub record AreMarked (marks : List ℕ) (slots : List (Option Row)) (arrivals : 
   pub long : length marks ≡ length slots
   pub rising : AreRising marks
   pub known : (i a : ℕ) → slice_get marks i ≡ Some a → a ≤ arrivals
+  pub over : (i a : ℕ) → slice_get marks i ≡ Some a → 0 < a
   pub mark : (i : ℕ) (row : Row) → slice_get slots i ≡ Some (Some row) → slice_get marks i ≡ Some row.place.arrival
   pub lane : (i : ℕ) (row : Row) → slice_get slots i ≡ Some (Some row) → row.place.lane < 10
 
@@ -92,3 +93,27 @@ freed_so backed_out row = if is_free row then row else freed backed_out row
 -- the lanes of all rows are the ten
 abbrev pub AreLow : List (Option Row) → Type 0
 AreLow slots = (i : ℕ) (row : Row) → slice_get slots i ≡ Some (Some row) → row.place.lane < 10
+
+-- what a stop keeps of a slot: rows whose messages are persistent
+abbrev pub passes : Option Row → Bool
+passes None = false
+passes (Some row) = not (is_persistent row.message)
+
+abbrev pub kept_slot : Option Row → Option Row
+kept_slot slot = if passes slot then None else slot
+
+-- and a row that a unit holds is free again
+abbrev pub in_unit : Option Row → Bool
+in_unit None = false
+in_unit (Some row) = is_by_unit row.by
+
+abbrev pub freed_slot : Option Row → Option Row
+freed_slot None = None
+freed_slot (Some row) = Some (unit_freed row)
+
+-- What holds of the rows of slots: each came later than those before it, from 1 on, in one of ten lanes, and no ident stands twice.
+pub record IsSound (slots : List (Option Row)) (arrivals : ℕ) : Type 0 where
+  pub sorted : (i j : ℕ) (a b : Row) → i < j → slice_get slots i ≡ Some (Some a) → slice_get slots j ≡ Some (Some b) → a.place.arrival < b.place.arrival
+  pub arrived : (i : ℕ) (a : Row) → slice_get slots i ≡ Some (Some a) → (0 < a.place.arrival) × (a.place.arrival ≤ arrivals)
+  pub low : AreLow slots
+  pub apart : (i j : ℕ) (a b : Row) → slice_get slots i ≡ Some (Some a) → slice_get slots j ≡ Some (Some b) → has_ident a.message.ident b ≡ true → i ≡ j

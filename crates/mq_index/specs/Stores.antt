@@ -1,7 +1,5 @@
 -- Rows in slots with all that finds them.
-use Rattle.std.specs.Prelude.{◌≡◌, ◌+◌, ◌≤◌, ℕ, List, Option, vec_len, vec_capacity}
-use Rattle.std.specs.Vec.{Vec}
-use Rattle.std.specs.HashMap.{HashMap, spare}
+use Rattle.std.specs.Prelude.{◌≡◌, ◌+◌, ◌≤◌, ℕ, List, Option}
 use Rattle.mq_queue.specs.declared.row.Row.{Row}
 use Rattle.mq_index.specs.declared.index.Index.{Index}
 use Rattle.mq_index.specs.declared.keys.Kind.TheVariants.{Lane, MsgId, CorrelId}

@@ -1,17 +1,18 @@
 //! Rows in slots, in order of arrival, with all that finds them.
-ghost use Rattle.std.specs.Prelude.{◌≡◌, ◌+◌, ◌<◌, ◌≤◌, ◌++◌, ◌∷◌, [], ℕ, List, Option, None, Some, OnOk, OnErr, IfSome, find, length, not, option_copied, slice_get, slice_set, vec_len, vec_capacity};
+ghost use Rattle.std.specs.Prelude.{◌≡◌, ◌+◌, ◌<◌, ◌≤◌, ◌++◌, ◌∷◌, [], ℕ, List, Option, None, Some, OnOk, OnErr, IsSome, find, length, not, option_copied, slice_get, slice_set, vec_len, vec_capacity};
 ghost use Rattle.mq_queue.specs.declared.row.Row as rows;
 ghost use Rattle.mq_queue.specs.Rows.{is_free};
+ghost use Rattle.mq_queue.specs.Counts.{HaveRoom, IsOneMore};
 ghost use Rattle.mq_queue.specs.Queues.{count_waiting, freed, is_at};
 ghost use Rattle.mq_index.specs.Lanes.{in_order};
 ghost use Rattle.mq_index.specs.Walks.{is_asked, is_taken, stored};
-ghost use Rattle.mq_index.specs.Slots.{AreLow, AreMarked, IsHome, NoRow, freed_so, held_so, home_in, one, row_in, total};
-ghost use Rattle.mq_index.specs.Stores.{HaveRoom, IsIndex, StoreState};
+ghost use Rattle.mq_index.specs.Slots.{AreLow, IsHome, IsSound, NoRow, freed_so, held_so, one, row_in, total};
+ghost use Rattle.mq_index.specs.Stores.{StoreState};
 
 use crate::counts::{count_in, count_out, count_rows};
 use crate::homes::{IdentKey, drop_home, home_in, note_home, reserve_homes};
 use crate::index::Index;
-use crate::walk::{found_in, is_free, kind_for, slot_of};
+use crate::walk::{found_in, is_free, kind_for, placed, row_at};
 use mq_base::NoMemory;
 use mq_message::{Holder, Ident, Place, Want};
 use mq_queue::Row;
@@ -36,6 +37,8 @@ pub struct Store {
     arrivals: u64,
     /// For how many more rows `reserve` made room.
     room: usize,
+    /// Where memory comes from.
+    alloc: Global,
 }
 
 impl Model for Store {
@@ -52,10 +55,21 @@ impl Model for Store {
         × (vec_len s.slots + s.room ≤ vec_capacity s.slots) × (vec_len s.marks + s.room ≤ vec_capacity s.marks) × HaveRoom s.room s.index × (s.room ≤ spare s.homes) };
 }
 
+/// Empties a slot.
+fn take_slot(slots: &mut Vec<Option<Row>>, at: usize) -> Option<Row>
+    requires there { at < length slots.old.items }
+    ensures taken { result ≡ row_in (slice_get slots.old.items at) }
+    ensures slots { slots.new.items ≡ slice_set slots.old.items at None }
+    ensures len { vec_len slots.new ≡ vec_len slots.old }
+    ensures capacity { vec_capacity slots.new ≡ vec_capacity slots.old }
+{
+    slots[at].take()
+}
+
 /// A row is held.
 fn hold_slot(slots: &mut Vec<Option<Row>>, at: usize, by: &Holder)
     requires there { at < length slots.old.items }
-    ensures { (row : rows.Row) → slice_get slots.old.items at ≡ Some (Some row) → slots.new.items ≡ slice_set slots.old.items at (Some (record row { by = Some by.now })) }
+    ensures held { (row : rows.Row) → slice_get slots.old.items at ≡ Some (Some row) → slots.new.items ≡ slice_set slots.old.items at (Some (record row { by = Some by.now })) }
     ensures len { vec_len slots.new ≡ vec_len slots.old }
     ensures capacity { vec_capacity slots.new ≡ vec_capacity slots.old }
 {
@@ -78,13 +92,26 @@ fn free_row(row: &mut Row, backed_out: bool)
 
 fn free_slot(slots: &mut Vec<Option<Row>>, at: usize, backed_out: bool)
     requires there { at < length slots.old.items }
-    ensures { (row : rows.Row) → slice_get slots.old.items at ≡ Some (Some row) → slots.new.items ≡ slice_set slots.old.items at (Some (freed backed_out row)) }
+    ensures freed { (row : rows.Row) → slice_get slots.old.items at ≡ Some (Some row) → slots.new.items ≡ slice_set slots.old.items at (Some (freed backed_out row)) }
     ensures len { vec_len slots.new ≡ vec_len slots.old }
     ensures capacity { vec_capacity slots.new ≡ vec_capacity slots.old }
 {
     match &mut slots[at] {
         None => {}
         Some(row) => free_row(row, backed_out),
+    }
+}
+
+/// Counts the row of a slot in, if it is free.
+fn count_slot(frees: &mut [u64; 10], slots: &[Option<Row>], at: usize)
+    requires room { (row : rows.Row) → slice_get slots.now at ≡ Some (Some row) → HaveRoom row frees.old }
+    requires there { IsSome (row_in (slice_get slots.now at)) }
+    requires within { at < length slots.now }
+    ensures { (row : rows.Row) → slice_get slots.now at ≡ Some (Some row) → IsOneMore row frees.old frees.new }
+{
+    match row_at(slots, at) {
+        None => {}
+        Some(row) => count_in(frees, row),
     }
 }
 
@@ -104,6 +131,7 @@ impl Store {
             live: 0,
             arrivals: 0,
             room: 0,
+            alloc,
         }
     }
 
@@ -159,14 +187,14 @@ impl Store {
         ensures arrivals { self.new.arrivals ≡ self.old.arrivals }
         ensures room { self.new.room ≡ self.old.room }
     {
-        let Some(row) = &self.slots[at] else {
+        let Some(row) = row_at(&self.slots, at) else {
             return None;
         };
         self.index.unlink(&self.slots, at, row);
         drop_home(&mut self.homes, &row.message.ident);
         count_out(&mut self.frees, row);
         self.live -= 1;
-        self.slots[at].take()
+        take_slot(&mut self.slots, at)
     }
 
     /// A free row is held; false where it isn't free.
@@ -176,7 +204,7 @@ impl Store {
         ensures arrivals { self.new.arrivals ≡ self.old.arrivals }
         ensures room { self.new.room ≡ self.old.room }
     {
-        let Some(row) = &self.slots[at] else {
+        let Some(row) = row_at(&self.slots, at) else {
             return false;
         };
         if !is_free(row) {
@@ -194,23 +222,58 @@ impl Store {
         ensures arrivals { self.new.arrivals ≡ self.old.arrivals }
         ensures room { self.new.room ≡ self.old.room }
     {
-        let Some(row) = &self.slots[at] else {
+        let Some(row) = row_at(&self.slots, at) else {
             return false;
         };
         if is_free(row) {
             return false;
         }
         free_slot(&mut self.slots, at, backed_out);
-        let Some(row) = &self.slots[at] else {
-            return false;
-        };
-        count_in(&mut self.frees, row);
+        count_slot(&mut self.frees, &self.slots, at);
         true
+    }
+
+    /// The last arrival.
+    pub fn arrivals(&self) -> u64
+        ensures arrivals { result ≡ self.now.arrivals }
+        ensures lanes { AreLow self.now.slots }
+    {
+        self.arrivals
+    }
+
+    /// The last arrival is said to be a later one.
+    pub fn raise(&mut self, arrivals: u64)
+        requires later { self.old.arrivals ≤ arrivals }
+        ensures slots { self.new.slots ≡ self.old.slots }
+        ensures arrivals { self.new.arrivals ≡ arrivals }
+        ensures room { self.new.room ≡ self.old.room }
+    {
+        self.arrivals = arrivals;
+    }
+
+    /// Where its memory comes from.
+    pub fn alloc(&self) -> Global {
+        self.alloc
+    }
+
+    /// How many slots have a row.
+    pub fn rows(&self) -> usize
+        ensures { result ≡ total one self.now.slots }
+    {
+        self.live
+    }
+
+    /// For how many rows there is memory, with those that are there.
+    pub fn needs(&self) -> usize
+        ensures { result ≡ total one self.now.slots + self.now.room }
+    {
+        self.live + self.room
     }
 
     /// How many slots there are, with a row or empty.
     pub fn slots(&self) -> usize
-        ensures { result ≡ length self.now.slots }
+        ensures slots { result ≡ length self.now.slots }
+        ensures sound { IsSound self.now.slots self.now.arrivals }
     {
         self.slots.len()
     }
@@ -220,10 +283,7 @@ impl Store {
         requires there { at < length self.now.slots }
         ensures { option_copied result ≡ row_in (slice_get self.now.slots at) }
     {
-        match &self.slots[at] {
-            None => None,
-            Some(row) => Some(row),
-        }
+        row_at(&self.slots, at)
     }
 
     /// The slot of the row with an ident.
@@ -283,16 +343,6 @@ impl Store {
     pub fn at(&self, place: Place) -> Option<&Row>
         ensures { option_copied result ≡ find (is_at place) (in_order (stored self.now.slots)) }
     {
-        let at = slot_of(&self.marks, place.arrival)?;
-        match &self.slots[at] {
-            None => None,
-            Some(row) => {
-                if row.place.lane == place.lane {
-                    Some(row)
-                } else {
-                    None
-                }
-            }
-        }
+        placed(&self.slots, &self.marks, place)
     }
 }

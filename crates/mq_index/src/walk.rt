@@ -1,12 +1,13 @@
 //! The first row that is asked for in a lane, along the slots of its key.
-ghost use Rattle.std.specs.Prelude.{◌≡◌, ◌<◌, ◌+◌, ℕ, Bool, None, Some, IfSome, IfNone, find, length, option_copied, slice_get, true, false, nat_lt};
+ghost use Rattle.std.specs.Prelude.{◌≡◌, ◌<◌, ◌+◌, ℕ, Bool, None, Some, IfSome, IfNone, find, length, option_copied, slice_get, true, false, nat_lt, if◌then◌else◌};
 ghost use Rattle.std.specs.List.Sorted.{IsPartitionPoint};
 ghost use Rattle.mq_queue.specs.declared.row.Row as rows;
 ghost use Rattle.mq_queue.specs.Rows.{is_after, is_free, is_id, is_wanted};
-ghost use Rattle.mq_queue.specs.Queues.{is_fitting};
+ghost use Rattle.mq_queue.specs.Queues.{is_at, is_fitting};
 ghost use Rattle.mq_index.specs.Keys.{key_by, keyed, same_key};
 ghost use Rattle.mq_index.specs.Chains.{IsChainOf};
-ghost use Rattle.mq_index.specs.Slots.{AreMarked, AreRising};
+ghost use Rattle.mq_index.specs.Lanes.{in_lane, in_order};
+ghost use Rattle.mq_index.specs.Slots.{AreMarked, AreRising, row_in};
 ghost use Rattle.mq_index.specs.Walks.{AreKeyed, WalksAt, id_in, id_or, is_asked, is_taken, key_for, kind_for, kind_of, stored, taken_in};
 
 use crate::chain::Chain;
@@ -273,4 +274,40 @@ pub fn found_in<'a>(
     let key = key_for(lane, kind, want);
     let start = start_for(chain, slots, marks, kind, &key, after);
     walk(slots, chain, start, kind, &key, any, want, after)
+}
+
+/// The row of a slot.
+pub fn row_at(slots: &[Option<Row>], at: usize) -> Option<&Row>
+    requires there { at < length slots.now }
+    ensures { option_copied result ≡ row_in (slice_get slots.now at) }
+{
+    match &slots[at] {
+        None => None,
+        Some(row) => Some(row),
+    }
+}
+
+/// The row, if it is of this lane.
+fn in_lane(row: &Row, lane: u8) -> Option<&Row>
+    ensures { option_copied result ≡ (if in_lane lane row.now then Some row.now else None) }
+{
+    if row.place.lane == lane {
+        Some(row)
+    } else {
+        None
+    }
+}
+
+/// The row at a place.
+pub fn placed<'a>(slots: &'a [Option<Row>], marks: &[u64], place: Place) -> Option<&'a Row>
+    requires marked { (arrivals : ℕ) × AreMarked marks.now slots.now arrivals }
+    ensures { option_copied result ≡ find (is_at place) (in_order (stored slots.now)) }
+{
+    let Some(at) = slot_of(marks, place.arrival) else {
+        return None;
+    };
+    match row_at(slots, at) {
+        None => None,
+        Some(row) => in_lane(row, place.lane),
+    }
 }
