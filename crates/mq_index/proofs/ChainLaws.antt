@@ -6,7 +6,7 @@ use Rattle.mq_index.specs.declared.keys.Key.{Key}
 use Rattle.mq_index.specs.declared.keys.Ends.{Ends}
 use Rattle.mq_index.specs.Keys.{same_key}
 use Rattle.mq_index.specs.Chains.{IsChain, IsNext, IsPlace, NoneIn, Noted, StandsAt, ends_behind, ends_without, first_in, last_in, past, set_at, upto}
-use Rattle.mq_index.proofs.KeyLaws.{key_chain, key_same, key_turned}
+use Rattle.mq_index.proofs.KeyLaws.{key_chain, key_turned}
 use Rattle.mq_index.proofs.ListLaws.{get_end, get_more, got_more, long_more, same_or_not, set_here, set_long, set_other, some_is, within}
 
 -- PLACES

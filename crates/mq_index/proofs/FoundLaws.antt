@@ -1,15 +1,15 @@
 -- The first row that is asked for, lane by lane, and the row at a place.
-use Rattle.std.proofs.Common.{◌≡◌, ℕ, zero, suc, ◌+◌, ◌-◌, ◌<◌, ◌≤◌, Bool, true, false, List, [], ◌∷◌, inl, inr, refl, sym, ap, subst, ◌∙◌, arith}
+use Rattle.std.proofs.Common.{◌≡◌, ℕ, suc, ◌+◌, ◌-◌, ◌<◌, ◌≤◌, Bool, true, false, List, [], ◌∷◌, inl, inr, refl, sym, ap, ◌∙◌, arith}
 use Rattle.std.specs.Prelude.{◌⊎◌, ◌==◌, ◌&&◌, if◌then◌else◌, Option, None, Some, find, slice_get}
 use Rattle.std.proofs.lemmas.Bool.Decides.{nat_tests}
 use Rattle.mq_message.specs.declared.place.Place.{Place}
 use Rattle.mq_message.specs.declared.place.Want.{Want}
 use Rattle.mq_queue.specs.declared.row.Row.{Row}
-use Rattle.mq_queue.specs.Rows.{keep, same_place}
+use Rattle.mq_queue.specs.Rows.{keep}
 use Rattle.mq_queue.specs.Queues.{is_at}
 use Rattle.mq_index.specs.Lanes.{found_from, in_lane, in_order, or_later}
-use Rattle.mq_index.specs.Slots.{AreLow, AreMarked, row_in}
-use Rattle.mq_index.specs.Walks.{NoneAtAll, is_asked, is_taken, stored}
+use Rattle.mq_index.specs.Slots.{AreMarked}
+use Rattle.mq_index.specs.Walks.{is_asked, is_taken, stored}
 use Rattle.mq_index.proofs.KeyLaws.{both_true}
 use Rattle.mq_index.proofs.ListLaws.{some_is}
 use Rattle.mq_index.proofs.ChainLaws.{three}

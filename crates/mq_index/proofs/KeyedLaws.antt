@@ -1,12 +1,12 @@
 -- The keys of slots as slots come, go empty and change.
-use Rattle.std.proofs.Common.{◌≡◌, ℕ, zero, suc, List, [], ◌∷◌, ◌++◌, length, refl, sym, ap, subst, ◌∙◌, arith}
+use Rattle.std.proofs.Common.{◌≡◌, ℕ, zero, suc, List, [], ◌∷◌, ◌++◌, length, refl, sym, ap, subst, ◌∙◌}
 use Rattle.std.specs.Prelude.{Option, Some, None, slice_get, slice_set}
 use Rattle.mq_queue.specs.declared.row.Row.{Row}
 use Rattle.mq_index.specs.declared.keys.Key.{Key}
 use Rattle.mq_index.specs.declared.keys.Kind.{Kind}
 use Rattle.mq_index.specs.declared.keys.Ends.{Ends}
-use Rattle.mq_index.specs.Keys.{key_by, keyed, same_key}
-use Rattle.mq_index.specs.Chains.{IsChain, Noted, StandsAt, ends_behind, ends_without, first_in, last_in, set_at}
+use Rattle.mq_index.specs.Keys.{key_by, keyed}
+use Rattle.mq_index.specs.Chains.{IsChain, Noted, StandsAt, ends_behind, ends_without, last_in, set_at}
 use Rattle.mq_index.proofs.KeyLaws.{key_same}
 use Rattle.mq_index.proofs.ListLaws.{some_is}
 use Rattle.mq_index.proofs.ChainLaws.{pushed_chain, unlinked_chain}

@@ -1,5 +1,5 @@
 -- All rows of a store move into another one, in order.
-use Rattle.std.proofs.Common.{◌≡◌, ℕ, zero, suc, ◌+◌, ◌<◌, ◌≤◌, Bool, true, false, List, [], ◌∷◌, ◌++◌, length, take, inl, inr, refl, sym, ap, subst, ◌∙◌, arith}
+use Rattle.std.proofs.Common.{◌≡◌, ℕ, zero, suc, ◌+◌, ◌<◌, ◌≤◌, true, false, List, [], ◌∷◌, ◌++◌, length, take, inl, inr, refl, sym, ap, subst, ◌∙◌, arith}
 use Rattle.std.specs.Prelude.{◌⊎◌, ◌==◌, Option, None, Some, slice_get, slice_set}
 use Rattle.std.proofs.lemmas.Bool.Decides.{nat_tests}
 use Rattle.mq_queue.specs.declared.row.Row.{Row}
@@ -30,8 +30,8 @@ stored_take (Some x ∷ slots) (suc n) slot e = ap (λ (rs : List Row). x ∷ rs
 total_take : (slots : List (Option Row)) (n : ℕ) (slot : Option Row) → slice_get slots n ≡ Some slot → total one (take (suc n) slots) ≡ total one (take n slots) + weight_of slot
 total_take [] zero slot e = absurd cc
 total_take [] (suc n) slot e = absurd cc
-total_take (None ∷ slots) zero slot e = ap weight_of (some_is None slot e)
-total_take (Some x ∷ slots) zero slot e = ap weight_of (some_is (Some x) slot e)
+total_take (None ∷ slots) zero slot e = let h : 0 ≡ weight_of slot = ap weight_of (some_is None slot e) in omega (arith, h)
+total_take (Some x ∷ slots) zero slot e = let h : 1 ≡ weight_of slot = ap weight_of (some_is (Some x) slot e) in omega (arith, h)
 total_take (None ∷ slots) (suc n) slot e = total_take slots n slot e
 total_take (Some x ∷ slots) (suc n) slot e = let h = total_take slots n slot e in omega (arith, h)
 
@@ -51,13 +51,13 @@ append_none [] = refl
 append_none (x ∷ xs) = ap (λ (l : List Row). x ∷ l) (append_none xs)
 
 -- the rows of the first so many slots have moved
-pub record Moved (first : List (Option Row)) (arrivals room n : ℕ) (from to : StoreState) : Type 0 where
+pub record Moved (first : List (Option Row)) (arrivals most n : ℕ) (from to : StoreState) : Type 0 where
   pub rest : (j : ℕ) → n ≤ j → slice_get from.slots j ≡ slice_get first j
   pub long : length from.slots ≡ length first
   pub rows : stored to.slots ≡ stored (take n first)
   pub came : (j : ℕ) (r : Row) → slice_get to.slots j ≡ Some (Some r) → (i : ℕ) × (i < n) × (slice_get first i ≡ Some (Some r))
   pub late : (j : ℕ) (r : Row) → n ≤ j → slice_get first j ≡ Some (Some r) → to.arrivals < r.place.arrival
-  pub room : to.room + total one (take n first) ≡ room
+  pub room : to.room + total one (take n first) ≡ most
   pub low : to.arrivals ≤ arrivals
 
 pub moved_first : (from to : StoreState) → IsSound from.slots from.arrivals → to.slots ≡ [] → to.arrivals ≡ 0 → Moved from.slots from.arrivals to.room 0 from to

@@ -1,16 +1,16 @@
 -- What is done to one slot is done to the queue's rows: lane by lane, each in order of arrival.
-use Rattle.std.proofs.Common.{◌≡◌, ℕ, zero, suc, ◌+◌, ◌<◌, ◌≤◌, Bool, true, false, cond, List, [], ◌∷◌, ◌++◌, length, take, get_or, inl, inr, refl, sym, ap, subst, ◌∙◌, arith}
-use Rattle.std.specs.Prelude.{◌⊎◌, ◌==◌, ◌&&◌, ◌||◌, not, if◌then◌else◌, Option, None, Some, count_by, find, slice_get, slice_set}
+use Rattle.std.proofs.Common.{◌≡◌, ℕ, zero, suc, ◌+◌, ◌<◌, ◌≤◌, Bool, true, false, cond, List, [], ◌∷◌, ◌++◌, length, take, get_or, refl, sym, ap, ◌∙◌, arith}
+use Rattle.std.specs.Prelude.{◌==◌, ◌||◌, if◌then◌else◌, Option, None, Some, find, slice_get, slice_set}
 use Rattle.std.specs.List.{list_any}
 use Rattle.std.proofs.lemmas.Bool.Decides.{nat_tests}
 use Rattle.std.proofs.lemmas.List.{length-take}
 use Rattle.std.proofs.lemmas.List.Recursion.{is_count_by}
 use Rattle.mq_queue.specs.declared.row.Row.{Row}
-use Rattle.mq_queue.specs.Rows.{insert_row, keep, retag}
+use Rattle.mq_queue.specs.Rows.{keep, retag}
 use Rattle.mq_queue.specs.Queues.{count_waiting, is_waiting}
 use Rattle.mq_queue.specs.Counts.{weight}
 use Rattle.mq_index.specs.Lanes.{found_from, in_lane, in_order, lanes_from}
-use Rattle.mq_index.specs.Slots.{AreLow, one, row_in, slot_weight, total}
+use Rattle.mq_index.specs.Slots.{AreLow, one, slot_weight, total}
 use Rattle.mq_index.specs.Walks.{NoneAtAll, stored}
 use Rattle.mq_index.proofs.SlotLaws.{small_weight, total_long}
 use Rattle.mq_index.proofs.LaneLaws.{find_kept, order_find, order_insert, order_keep, order_retag}

@@ -1,7 +1,7 @@
 -- What is done to the row with an ident, and to all rows at a stop.
-use Rattle.std.proofs.Common.{◌≡◌, ℕ, zero, suc, ◌+◌, ◌<◌, ◌≤◌, Bool, true, false, List, [], ◌∷◌, ◌++◌, length, refl, sym, ap, subst, ◌∙◌, arith}
+use Rattle.std.proofs.Common.{◌≡◌, ℕ, zero, suc, ◌+◌, ◌<◌, Bool, true, false, List, [], ◌∷◌, ◌++◌, length, refl, sym, ap, ◌∙◌, arith}
 use Rattle.std.specs.Prelude.{◌==◌, ◌&&◌, not, if◌then◌else◌, Option, None, Some, find, slice_get, slice_set}
-use Rattle.std.specs.List.{AllByRecursion, list_any}
+use Rattle.std.specs.List.{list_any}
 use Rattle.std.proofs.lemmas.Bool.Decides.{nat_tests}
 use Rattle.mq_message.specs.declared.message.Ident.{Ident}
 use Rattle.mq_message.specs.declared.place.Holder.{Holder}
@@ -11,7 +11,7 @@ use Rattle.mq_queue.specs.Rows.{has_ident, insert_row, is_by_unit, is_free, is_p
 use Rattle.mq_queue.specs.Queues.{Lacks, freed, has_other_ident, hold_row, is_free_one, is_held_one, is_lasting, release_row, unit_freed}
 use Rattle.mq_queue.proofs.QueueLaws.{hold_keeps, release_keeps, unit_keeps}
 use Rattle.mq_index.specs.Lanes.{in_order}
-use Rattle.mq_index.specs.Slots.{AreLow, IsOnly, NoRow, freed_slot, freed_so, held_so, kept_slot, row_in, total}
+use Rattle.mq_index.specs.Slots.{AreLow, IsOnly, NoRow, freed_slot, freed_so, held_so, in_unit, kept_slot, passes, total}
 use Rattle.mq_index.specs.Walks.{stored}
 use Rattle.mq_index.proofs.LaneLaws.{order_insert, order_keep, order_retag}
 use Rattle.mq_index.proofs.ListLaws.{some_is}
@@ -100,9 +100,15 @@ module _ (ident : Ident) (slots : List (Option Row)) (low : AreLow slots) where
   one_goes at o = order_gone (has_other_ident ident) slots at o.row o.there (ap not o.is) (λ j r apart there. ap not (other_ident at o j r apart there))
 
 -- A ROW COMES
-none_of : (ident : Ident) (xs : List Row) → Lacks ident xs → sum (λ (r : Row). if has_ident ident r then 1 else 0) xs ≡ 0
+abbrev one_if : Bool → ℕ
+one_if b = if b then 1 else 0
+
+abbrev with_ident : Ident → Row → ℕ
+with_ident ident row = one_if (has_ident ident row)
+
+none_of : (ident : Ident) (xs : List Row) → Lacks ident xs → sum (with_ident ident) xs ≡ 0
 none_of ident [] lacks = refl
-none_of ident (x ∷ xs) lacks = let h = none_of ident xs lacks.1 in let z : (if has_ident ident x then 1 else 0) ≡ 0 = ap (λ (b : Bool). if b then 1 else 0) lacks.0 in omega (arith, h, z)
+none_of ident (x ∷ xs) lacks = let h = none_of ident xs lacks.1 in let z : with_ident ident x ≡ 0 = ap one_if lacks.0 in omega (arith, h, z)
 
 none_in : (w : Row → ℕ) (slots : List (Option Row)) (j : ℕ) (r : Row) → total w slots ≡ 0 → slice_get slots j ≡ Some (Some r) → w r ≡ 0
 none_in w [] zero r z e = absurd cc
@@ -115,12 +121,12 @@ none_in w (Some x ∷ slots) (suc j) r z e = none_in w slots j r (omega (arith, 
 -- where the queue lacks an ident no slot has it
 pub lacks_row : (ident : Ident) (slots : List (Option Row)) → AreLow slots → Lacks ident (in_order (stored slots)) → NoRow ident slots
 lacks_row ident slots low lacks j r there =
-    by (has_ident ident r) (none_in (λ (x : Row). if has_ident ident x then 1 else 0) slots j r (sym (sum_order (λ (x : Row). if has_ident ident x then 1 else 0) slots low) ∙ none_of ident (in_order (stored slots)) lacks) there)
+    by (has_ident ident r) (none_in (with_ident ident) slots j r (sym (sum_order (with_ident ident) slots low) ∙ none_of ident (in_order (stored slots)) lacks) there)
   where
-    by : (b : Bool) → (if b then 1 else 0) ≡ 0 → b ≡ false
+    by : (b : Bool) → one_if b ≡ 0 → b ≡ false
     by true e = absurd (one_zero e)
       where
-        one_zero : 1 ≡ 0 → ⊥
+        one_zero : one_if true ≡ 0 → ⊥
         one_zero f = omega (arith, f)
     by false e = refl
 
@@ -186,3 +192,31 @@ kept_end n first now end is = ap (λ (ss : List (Option Row)). in_order (stored 
 pub freed_end : (n : ℕ) (first now : List (Option Row)) → n ≡ length first → now ≡ map_first freed_slot n first → in_order (stored now) ≡ retag unit_freed (in_order (stored first))
 freed_end n first now end is =
     ap (λ (ss : List (Option Row)). in_order (stored ss)) (is ∙ ap (λ (k : ℕ). map_first freed_slot k first) end) ∙ ap in_order (freed_all first) ∙ order_retag unit_freed (stored first) (λ row. ap (λ (p : Place). p.lane) (unit_keeps row).0)
+
+-- ONE SLOT AT A STOP
+slot_same : (slots : List (Option Row)) (at : ℕ) (slot : Option Row) → slice_get slots at ≡ Some slot → slots ≡ slice_set slots at slot
+slot_same [] zero slot e = absurd cc
+slot_same [] (suc at) slot e = absurd cc
+slot_same (s ∷ ss) zero slot e = ap (λ (x : Option Row). x ∷ ss) (some_is s slot e)
+slot_same (s ∷ ss) (suc at) slot e = ap (λ (xs : List (Option Row)). s ∷ xs) (slot_same ss at slot e)
+
+pub not_kept : (slots : List (Option Row)) (at : ℕ) (slot : Option Row) → slice_get slots at ≡ Some slot → passes slot ≡ false → slots ≡ slice_set slots at (kept_slot slot)
+not_kept slots at slot there e = slot_same slots at slot there ∙ ap (λ (b : Bool). slice_set slots at (if b then None else slot)) (sym e)
+
+pub goes_now : (slots more : List (Option Row)) (at : ℕ) (slot : Option Row) → passes slot ≡ true → more ≡ slice_set slots at None → more ≡ slice_set slots at (kept_slot slot)
+goes_now slots more at slot e is = is ∙ ap (λ (b : Bool). slice_set slots at (if b then None else slot)) (sym e)
+
+held_by_unit : (o : Option Holder) → is_by_unit o ≡ true → (elim o as (λ h. Bool) [ None ↦ true | Some h ↦ false ]) ≡ false
+held_by_unit None e = absurd cc
+held_by_unit (Some h) e = refl
+
+pub unit_slot : (slots more : List (Option Row)) (at : ℕ) (slot : Option Row) (free : Row → Type 0) → slice_get slots at ≡ Some slot → in_unit slot ≡ true → ((row : Row) → slice_get slots at ≡ Some (Some row) → free row × (more ≡ slice_set slots at (Some (freed_so true row)))) → more ≡ slice_set slots at (freed_slot slot)
+unit_slot slots more at None free there e h = absurd cc
+unit_slot slots more at (Some row) free there e h =
+    (h row there).1
+    ∙ ap (λ (b : Bool). slice_set slots at (Some (if b then row else freed true row))) (held_by_unit row.by e)
+    ∙ ap (λ (b : Bool). slice_set slots at (Some (if b then freed true row else row))) (sym e)
+
+pub not_freed : (slots : List (Option Row)) (at : ℕ) (slot : Option Row) → slice_get slots at ≡ Some slot → in_unit slot ≡ false → slots ≡ slice_set slots at (freed_slot slot)
+not_freed slots at None there e = slot_same slots at None there
+not_freed slots at (Some row) there e = slot_same slots at (Some row) there ∙ ap (λ (b : Bool). slice_set slots at (Some (if b then freed true row else row))) (sym e)

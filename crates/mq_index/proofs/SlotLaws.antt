@@ -8,12 +8,12 @@ use Rattle.mq_message.specs.declared.place.Holder.{Holder}
 use Rattle.mq_queue.specs.declared.row.Row.{Row}
 use Rattle.mq_queue.specs.Rows.{has_ident, is_free, same_ident}
 use Rattle.mq_queue.specs.Queues.{freed}
-use Rattle.mq_queue.specs.Counts.{AreEnough, HaveRoom, IsOneMore, weight}
+use Rattle.mq_queue.specs.Counts.{AreEnough, IsOneMore, weight}
 use Rattle.mq_queue.proofs.Edits.{same_is}
 use Rattle.mq_index.specs.declared.keys.Kind.{Kind}
 use Rattle.mq_index.specs.declared.keys.Kind.TheVariants.{Lane, MsgId, CorrelId}
 use Rattle.mq_index.specs.Keys.{key_by}
-use Rattle.mq_index.specs.Slots.{AreCounted, AreHomes, AreMarked, IsAlike, IsHome, IsOnly, IsSound, NoRow, one, total}
+use Rattle.mq_index.specs.Slots.{AreCounted, AreHomes, AreMarked, IsAlike, IsHome, IsOnly, IsSound, NoRow, total}
 use Rattle.mq_index.proofs.ListLaws.{get_end, get_more, got_more, long_more, same_or_not, set_here, set_long, set_other, some_is, within}
 
 clash : {P : Type 0} (b : Bool) → b ≡ true → b ≡ false → P

@@ -1,5 +1,5 @@
 -- A store stays one, as a row comes, goes and changes at its slot.
-use Rattle.std.proofs.Common.{◌≡◌, ℕ, zero, suc, ◌+◌, ◌<◌, ◌≤◌, ◌^◌, Bool, true, false, List, [], ◌∷◌, ◌++◌, length, refl, sym, ap, subst, ◌∙◌, arith}
+use Rattle.std.proofs.Common.{◌≡◌, ℕ, zero, suc, ◌<◌, ◌≤◌, Bool, true, false, List, [], ◌∷◌, length, refl, sym, ap, subst, ◌∙◌, arith}
 use Rattle.std.specs.Prelude.{Option, None, Some, if◌then◌else◌, not, slice_get, slice_set}
 use Rattle.mq_message.specs.declared.place.Holder.{Holder}
 use Rattle.mq_queue.specs.declared.row.Row.{Row}
@@ -75,8 +75,7 @@ module _ (slots : List (Option Row)) (at : ℕ) where
 
   pub held_now : (by : Holder) (seen row : Row) (more : List (Option Row)) → slice_get slots at ≡ Some (Some seen) → slice_get slots at ≡ Some (Some row) → is_free seen ≡ true → more ≡ slice_set slots at (Some (record seen { by = Some by })) → (true ≡ is_free row) × (more ≡ slice_set slots at (Some (held_so by row)))
   held_now by seen row more e f free is =
-      let now : is_free row ≡ true = ap is_free (one_row seen row e f) ∙ free in
-      (
+      let now : is_free row ≡ true = ap is_free (one_row seen row e f) ∙ free in (
         sym now,
         is ∙ ap (λ (r : Row). slice_set slots at (Some (record r { by = Some by }))) (sym (one_row seen row e f)) ∙ ap (λ (b : Bool). slice_set slots at (Some (if b then record row { by = Some by } else row))) (sym now),
       )
@@ -88,8 +87,7 @@ module _ (slots : List (Option Row)) (at : ℕ) where
 
   pub freed_now : (backed_out : Bool) (seen row : Row) (more : List (Option Row)) → slice_get slots at ≡ Some (Some seen) → slice_get slots at ≡ Some (Some row) → is_free seen ≡ false → more ≡ slice_set slots at (Some (freed backed_out seen)) → (true ≡ not (is_free row)) × (more ≡ slice_set slots at (Some (freed_so backed_out row)))
   freed_now backed_out seen row more e f held is =
-      let now : is_free row ≡ false = ap is_free (one_row seen row e f) ∙ held in
-      (
+      let now : is_free row ≡ false = ap is_free (one_row seen row e f) ∙ held in (
         sym (ap not now),
         is ∙ ap (λ (r : Row). slice_set slots at (Some (freed backed_out r))) (sym (one_row seen row e f)) ∙ ap (λ (b : Bool). slice_set slots at (Some (if b then row else freed backed_out row))) (sym now),
       )

@@ -7,15 +7,15 @@ use Rattle.std.proofs.lemmas.Slice.Eq.{bytes_eq-Decides}
 use Rattle.mq_message.specs.declared.place.Place.{Place}
 use Rattle.mq_message.specs.declared.place.Want.{Want}
 use Rattle.mq_queue.specs.declared.row.Row.{Row}
-use Rattle.mq_queue.specs.Rows.{is_after, is_before, is_free, is_id, is_wanted}
-use Rattle.mq_queue.specs.Queues.{is_fitting, is_takable}
+use Rattle.mq_queue.specs.Rows.{is_after, is_free, is_id, is_wanted}
+use Rattle.mq_queue.specs.Queues.{is_takable}
 use Rattle.mq_index.specs.declared.keys.Key.{Key}
 use Rattle.mq_index.specs.declared.keys.Kind.{Kind}
 use Rattle.mq_index.specs.Keys.{id_by, key_by, keyed, same_key}
 use Rattle.mq_index.specs.Lanes.{in_lane}
-use Rattle.mq_index.specs.Chains.{IsNext, NoneIn, StandsAt, past, upto}
+use Rattle.mq_index.specs.Chains.{IsNext, StandsAt, past, upto}
 use Rattle.mq_index.specs.Slots.{AreMarked}
-use Rattle.mq_index.specs.Walks.{AreKeyed, NoneAtAll, NoneBefore, WalksAt, id_in, id_or, is_asked, is_taken, key_for, kind_for, kind_of, stored, taken_in}
+use Rattle.mq_index.specs.Walks.{AreKeyed, NoneAtAll, NoneBefore, WalksAt, id_in, is_asked, is_taken, key_for, kind_for, kind_of, stored, taken_in}
 use Rattle.mq_index.proofs.KeyLaws.{both_true, nat_is}
 use Rattle.mq_index.proofs.ListLaws.{some_is, within}
 use Rattle.mq_index.proofs.ChainLaws.{stands_within, three}

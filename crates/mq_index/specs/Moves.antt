@@ -1,5 +1,5 @@
 -- Rows that move into another store.
-use Rattle.std.specs.Prelude.{◌≡◌, ◌+◌, ◌<◌, ℕ, List, [], ◌∷◌, ◌++◌, Option, None, Some}
+use Rattle.std.specs.Prelude.{◌≡◌, ◌+◌, ◌<◌, [], ◌∷◌, ◌++◌, Option, None, Some}
 use Rattle.mq_queue.specs.declared.row.Row.{Row}
 use Rattle.mq_index.specs.Slots.{NoRow}
 use Rattle.mq_index.specs.Stores.{StoreState}

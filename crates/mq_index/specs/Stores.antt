@@ -1,5 +1,5 @@
 -- Rows in slots with all that finds them.
-use Rattle.std.specs.Prelude.{◌≡◌, ◌+◌, ◌≤◌, ℕ, List, Option}
+use Rattle.std.specs.Prelude.{ℕ, List, Option}
 use Rattle.mq_queue.specs.declared.row.Row.{Row}
 use Rattle.mq_index.specs.declared.index.Index.{Index}
 use Rattle.mq_index.specs.declared.keys.Kind.TheVariants.{Lane, MsgId, CorrelId}

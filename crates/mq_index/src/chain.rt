@@ -122,9 +122,14 @@ impl Chain {
     /// # Errors
     ///
     /// No memory.
-    pub fn reserve(&mut self, slots: &[Option<Row>], kind: Kind, more: usize) -> Result<(), NoMemory>
-        requires chain { IsChainOf (keyed kind slots.now) self.old }
-        ensures chain { IsChainOf (keyed kind slots.now) self.new }
+    pub fn reserve(
+        &mut self,
+        slots: &Vec<Option<Row>>,
+        kind: Kind,
+        more: usize,
+    ) -> Result<(), NoMemory>
+        requires chain { IsChainOf (keyed kind slots.now.items) self.old }
+        ensures chain { IsChainOf (keyed kind slots.now.items) self.new }
         ensures enough { OnOk result (HasRoom more self.new) }
         ensures room { (n : ℕ) → HasRoom n self.old → HasRoom n self.new }
     {
@@ -135,10 +140,10 @@ impl Chain {
     }
 
     /// A row's key comes at the end, in room that is there.
-    pub fn push(&mut self, slots: &[Option<Row>], kind: Kind, row: &Row)
-        requires chain { IsChainOf (keyed kind slots.now) self.old }
+    pub fn push(&mut self, slots: &Vec<Option<Row>>, kind: Kind, row: &Row)
+        requires chain { IsChainOf (keyed kind slots.now.items) self.old }
         requires room { HasRoom 1 self.old }
-        ensures chain { IsChainOf (keyed kind (slots.now ++ Some row.now ∷ [])) self.new }
+        ensures chain { IsChainOf (keyed kind (slots.now.items ++ Some row.now ∷ [])) self.new }
         ensures room { (n : ℕ) → HasRoom (n + 1) self.old → HasRoom n self.new }
     {
         let key = key_by(kind, row);
@@ -152,10 +157,10 @@ impl Chain {
     }
 
     /// A row's slot is unlinked: those before and behind it are linked to each other.
-    pub fn unlink(&mut self, slots: &[Option<Row>], kind: Kind, at: usize, row: &Row)
-        requires chain { IsChainOf (keyed kind slots.now) self.old }
-        requires there { slice_get slots.now at ≡ Some (Some row.now) }
-        ensures chain { IsChainOf (keyed kind (slice_set slots.now at None)) self.new }
+    pub fn unlink(&mut self, slots: &Vec<Option<Row>>, kind: Kind, at: usize, row: &Row)
+        requires chain { IsChainOf (keyed kind slots.now.items) self.old }
+        requires there { slice_get slots.now.items at ≡ Some (Some row.now) }
+        ensures chain { IsChainOf (keyed kind (slice_set slots.now.items at None)) self.new }
         ensures room { (n : ℕ) → HasRoom n self.old → HasRoom n self.new }
     {
         let key = key_by(kind, row);

@@ -37,9 +37,9 @@ impl Index {
     /// # Errors
     ///
     /// No memory.
-    pub fn reserve(&mut self, slots: &[Option<Row>], more: usize) -> Result<(), NoMemory>
-        requires index { IsIndex slots.now self.old }
-        ensures index { IsIndex slots.now self.new }
+    pub fn reserve(&mut self, slots: &Vec<Option<Row>>, more: usize) -> Result<(), NoMemory>
+        requires index { IsIndex slots.now.items self.old }
+        ensures index { IsIndex slots.now.items self.new }
         ensures enough { OnOk result (HaveRoom more self.new) }
         ensures room { (n : ℕ) → HaveRoom n self.old → HaveRoom n self.new }
     {
@@ -49,10 +49,10 @@ impl Index {
     }
 
     /// A row comes last, in room that is there.
-    pub fn push(&mut self, slots: &[Option<Row>], row: &Row)
-        requires index { IsIndex slots.now self.old }
+    pub fn push(&mut self, slots: &Vec<Option<Row>>, row: &Row)
+        requires index { IsIndex slots.now.items self.old }
         requires room { HaveRoom 1 self.old }
-        ensures index { IsIndex (slots.now ++ Some row.now ∷ []) self.new }
+        ensures index { IsIndex (slots.now.items ++ Some row.now ∷ []) self.new }
         ensures room { (n : ℕ) → HaveRoom (n + 1) self.old → HaveRoom n self.new }
     {
         self.lanes.push(slots, Kind::Lane, row);
@@ -61,10 +61,10 @@ impl Index {
     }
 
     /// The row of a slot goes.
-    pub fn unlink(&mut self, slots: &[Option<Row>], at: usize, row: &Row)
-        requires index { IsIndex slots.now self.old }
-        requires there { slice_get slots.now at ≡ Some (Some row.now) }
-        ensures index { IsIndex (slice_set slots.now at None) self.new }
+    pub fn unlink(&mut self, slots: &Vec<Option<Row>>, at: usize, row: &Row)
+        requires index { IsIndex slots.now.items self.old }
+        requires there { slice_get slots.now.items at ≡ Some (Some row.now) }
+        ensures index { IsIndex (slice_set slots.now.items at None) self.new }
         ensures room { (n : ℕ) → HaveRoom n self.old → HaveRoom n self.new }
     {
         self.lanes.unlink(slots, Kind::Lane, at, row);

@@ -1,4 +1,4 @@
-//! Where rows with an id stand in a queue, found without a walk over the others.
+//! A queue whose rows are found by their idents, their ids and their places with no walk over the others.
 #![tactic(auto)]
 
 mod chain;
@@ -13,12 +13,8 @@ mod rows;
 mod store;
 mod walk;
 
-pub use chain::Chain;
-pub use keys::{Key, Kind};
 pub use laws::{
     a_row_comes_last_in_its_lane, a_row_is_found_among_those_with_its_id,
     a_row_is_found_lane_by_lane, changed_rows_stay_in_their_lanes, rows_stay_in_their_lanes,
 };
 pub use queue::IndexedQueue;
-pub use store::Store;
-pub use walk::{found_in, is_free};

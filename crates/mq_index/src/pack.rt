@@ -46,11 +46,13 @@ pub fn pack(store: &mut Store)
         return;
     }
     let mut fresh = Store::new(store.alloc());
-    if fresh.reserve(store.needs()).is_err() {
-        return;
+    match fresh.reserve(store.needs()) {
+        Ok(()) => {
+            let arrivals = store.arrivals();
+            move_rows(store, &mut fresh);
+            fresh.raise(arrivals);
+            *store = fresh;
+        }
+        Err(_) => {}
     }
-    let arrivals = store.arrivals();
-    move_rows(store, &mut fresh);
-    fresh.raise(arrivals);
-    *store = fresh;
 }

@@ -3,7 +3,9 @@ ghost use Rattle.std.specs.Prelude.{◌≡◌};
 ghost use Rattle.mq_queue.specs.Queues.{lane_of};
 
 use crate::pack::pack;
-use crate::rows::{free_slots, hold_one, keep_slots, release_one, row_of, take_one};
+use crate::rows::{
+    first_after, first_takable, free_slots, hold_one, keep_slots, release_one, row_of, take_one,
+};
 use crate::store::Store;
 use mq_base::NoMemory;
 use mq_message::{Holder, Ident, Message, Place, Want};
@@ -86,20 +88,16 @@ impl Queue for IndexedQueue {
     }
 
     fn first(&self, want: &Want, after: Option<Place>) -> Option<(Place, Ident)> {
-        let row = self.store.found(false, want, after)?;
+        let row = first_takable(&self.store, want, after)?;
         Some((row.place, row.message.ident))
     }
 
     fn first_row(&self, want: &Want, after: Option<Place>) -> Option<&Row> {
-        self.store.found(false, want, after)
+        first_takable(&self.store, want, after)
     }
 
     fn next_row(&self, after: Option<Place>) -> Option<&Row> {
-        let want = Want {
-            msg_id: None,
-            correl_id: None,
-        };
-        self.store.found(true, &want, after)
+        first_after(&self.store, after)
     }
 
     fn at(&self, place: Place) -> Option<&Row> {

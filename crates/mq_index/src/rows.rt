@@ -2,14 +2,14 @@
 ghost use Rattle.std.specs.Prelude.{◌≡◌, ◌<◌, Option, Some, find, length, option_copied, slice_get, slice_set};
 ghost use Rattle.std.specs.List.{list_any};
 ghost use Rattle.mq_queue.specs.declared.row.Row as rows;
-ghost use Rattle.mq_queue.specs.Rows.{has_ident, is_persistent, is_by_unit, keep, retag};
-ghost use Rattle.mq_queue.specs.Queues.{has_other_ident, hold_row, is_free_one, is_held_one, is_lasting, release_row, unit_freed};
+ghost use Rattle.mq_queue.specs.Rows.{has_ident, is_after, is_persistent, is_by_unit, keep, retag};
+ghost use Rattle.mq_queue.specs.Queues.{has_other_ident, hold_row, is_free_one, is_held_one, is_lasting, is_takable, release_row, unit_freed};
 ghost use Rattle.mq_index.specs.Lanes.{in_order};
 ghost use Rattle.mq_index.specs.Walks.{stored};
 ghost use Rattle.mq_index.specs.Slots.{freed_slot, in_unit, kept_slot, passes};
 
 use crate::store::Store;
-use mq_message::{Holder, Ident, Message};
+use mq_message::{Holder, Ident, Message, Place, Want};
 use mq_queue::Row;
 
 fn is_persistent(message: &Message) -> bool
@@ -94,6 +94,24 @@ pub fn free_slots(store: &mut Store)
     for at in 0..store.slots() {
         free_slot(store, at);
     }
+}
+
+/// The first free row behind a place that has the ids asked for.
+pub fn first_takable<'a>(store: &'a Store, want: &Want, after: Option<Place>) -> Option<&'a Row>
+    ensures { option_copied result ≡ find (is_takable want.now after) (in_order (stored store.now.slots)) }
+{
+    store.found(false, want, after)
+}
+
+/// The first row behind a place.
+pub fn first_after(store: &Store, after: Option<Place>) -> Option<&Row>
+    ensures { option_copied result ≡ find (is_after after) (in_order (stored store.now.slots)) }
+{
+    let want = Want {
+        msg_id: None,
+        correl_id: None,
+    };
+    store.found(true, &want, after)
 }
 
 /// The row with an ident.

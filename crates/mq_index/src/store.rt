@@ -12,7 +12,7 @@ ghost use Rattle.mq_index.specs.Stores.{StoreState};
 use crate::counts::{count_in, count_out, count_rows};
 use crate::homes::{IdentKey, drop_home, home_in, note_home, reserve_homes};
 use crate::index::Index;
-use crate::walk::{found_in, is_free, kind_for, placed, row_at};
+use crate::walk::{found_in, is_free, kind_for, placed};
 use mq_base::NoMemory;
 use mq_message::{Holder, Ident, Place, Want};
 use mq_queue::Row;
@@ -53,6 +53,17 @@ impl Model for Store {
 
     ghost invariant = { λ s. AreMarked s.marks.items s.slots.items s.arrivals × IsIndex s.slots.items s.index × AreHomes (home_in s.homes) s.slots.items × AreCounted s.frees s.slots.items × (s.live ≡ total one s.slots.items)
         × (vec_len s.slots + s.room ≤ vec_capacity s.slots) × (vec_len s.marks + s.room ≤ vec_capacity s.marks) × HaveRoom s.room s.index × (s.room ≤ spare s.homes) };
+}
+
+/// The row of a slot.
+fn row_at(slots: &Vec<Option<Row>>, at: usize) -> Option<&Row>
+    requires there { at < length slots.now.items }
+    ensures { option_copied result ≡ row_in (slice_get slots.now.items at) }
+{
+    match &slots[at] {
+        None => None,
+        Some(row) => Some(row),
+    }
 }
 
 /// Empties a slot.
@@ -103,11 +114,11 @@ fn free_slot(slots: &mut Vec<Option<Row>>, at: usize, backed_out: bool)
 }
 
 /// Counts the row of a slot in, if it is free.
-fn count_slot(frees: &mut [u64; 10], slots: &[Option<Row>], at: usize)
-    requires room { (row : rows.Row) → slice_get slots.now at ≡ Some (Some row) → HaveRoom row frees.old }
-    requires there { IsSome (row_in (slice_get slots.now at)) }
-    requires within { at < length slots.now }
-    ensures { (row : rows.Row) → slice_get slots.now at ≡ Some (Some row) → IsOneMore row frees.old frees.new }
+fn count_slot(frees: &mut [u64; 10], slots: &Vec<Option<Row>>, at: usize)
+    requires room { (row : rows.Row) → slice_get slots.now.items at ≡ Some (Some row) → HaveRoom row frees.old }
+    requires there { IsSome (row_in (slice_get slots.now.items at)) }
+    requires within { at < length slots.now.items }
+    ensures { (row : rows.Row) → slice_get slots.now.items at ≡ Some (Some row) → IsOneMore row frees.old frees.new }
 {
     match row_at(slots, at) {
         None => {}

@@ -158,13 +158,7 @@ pub fn slot_of(marks: &[u64], arrival: u64) -> Option<usize>
     let at = start_at(marks, arrival);
     match marks.get(at) {
         None => None,
-        Some(mark) => {
-            if *mark == arrival {
-                Some(at)
-            } else {
-                None
-            }
-        }
+        Some(mark) => { if *mark == arrival { Some(at) } else { None } }
     }
 }
 
@@ -277,7 +271,7 @@ pub fn found_in<'a>(
 }
 
 /// The row of a slot.
-pub fn row_at(slots: &[Option<Row>], at: usize) -> Option<&Row>
+fn row_at(slots: &[Option<Row>], at: usize) -> Option<&Row>
     requires there { at < length slots.now }
     ensures { option_copied result ≡ row_in (slice_get slots.now at) }
 {

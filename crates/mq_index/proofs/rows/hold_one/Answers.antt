@@ -3,7 +3,6 @@ use Rattle.std.specs.Prelude.{List, Option}
 use Rattle.mq_queue.specs.declared.row.Row.{Row}
 use Rattle.mq_index.specs.Lanes.{in_order}
 use Rattle.mq_index.specs.Walks.{stored}
-use Rattle.mq_index.specs.Slots.{row_in}
 use Rattle.mq_index.proofs.ListLaws.{within}
 use Rattle.mq_index.proofs.RowLaws.{none_changed, none_held, one_changed, one_held}
 use Rattle.mq_index.proofs.rows.hold_one.Goals as goal

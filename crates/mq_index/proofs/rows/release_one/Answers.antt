@@ -3,7 +3,6 @@ use Rattle.std.specs.Prelude.{List, Option}
 use Rattle.mq_queue.specs.declared.row.Row.{Row}
 use Rattle.mq_index.specs.Lanes.{in_order}
 use Rattle.mq_index.specs.Walks.{stored}
-use Rattle.mq_index.specs.Slots.{row_in}
 use Rattle.mq_index.proofs.ListLaws.{within}
 use Rattle.mq_index.proofs.RowLaws.{none_freed, none_released, one_freed, one_released}
 use Rattle.mq_index.proofs.rows.release_one.Goals as goal

@@ -1,4 +1,4 @@
-use Rattle.std.proofs.Common.{arith, ap, sym, ◌∙◌}
+use Rattle.std.proofs.Common.{ap, sym, ◌∙◌}
 use Rattle.mq_index.specs.Slots.{row_in}
 use Rattle.mq_index.proofs.ListLaws.{within}
 use Rattle.mq_index.proofs.RowLaws.{none_found, one_found}

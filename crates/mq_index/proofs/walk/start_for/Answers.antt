@@ -1,6 +1,6 @@
 use Rattle.std.proofs.Common.{arith}
 use Rattle.std.specs.Prelude.{None}
-use Rattle.mq_index.proofs.WalkLaws.{none_in_lane, walks_from}
+use Rattle.mq_index.proofs.WalkLaws.{walks_from}
 use Rattle.mq_index.proofs.walk.start_for.Goals as goal
 
 pub returns-in-None : goal.returns-in-None

@@ -1,5 +1,5 @@
-use Rattle.std.proofs.Common.{arith, subst, sym, ◌∙◌}
-use Rattle.std.specs.Prelude.{IfSome, None, Some, ◌≡◌, ℕ, Option, slice_get}
+use Rattle.std.proofs.Common.{arith}
+use Rattle.std.specs.Prelude.{None, Some, ◌≡◌, slice_get}
 use Rattle.mq_index.specs.Keys.{key_by}
 use Rattle.mq_index.proofs.KeyedLaws.{keyed_there}
 use Rattle.mq_index.proofs.ListLaws.{within}

@@ -2,7 +2,6 @@ use Rattle.std.proofs.Common.{arith, refl}
 use Rattle.std.proofs.lemmas.Option.{slice_get_read}
 use Rattle.mq_index.specs.Keys.{keyed}
 use Rattle.mq_index.proofs.ChainLaws.{stands_within}
-use Rattle.mq_index.proofs.KeyedLaws.{pushed_so, unlinked_so}
 use Rattle.mq_index.proofs.chain.Chain.next.Goals as goal
 
 pub returns : goal.returns

@@ -1,4 +1,7 @@
-use Rattle.std.proofs.Common.{ap, arith, ◌+◌, ◌-◌, ◌^◌}
+use Rattle.std.proofs.Common.{ap, arith, ℕ, ◌+◌, ◌-◌, ◌^◌, ◌∙◌}
+use Rattle.std.specs.Prelude.{Some, if◌then◌else◌}
+use Rattle.mq_message.specs.declared.message.Ident.{Ident}
+use Rattle.mq_queue.specs.Rows.{same_ident}
 use Rattle.mq_index.specs.Slots.{home_in, one}
 use Rattle.mq_index.specs.Stores.{StoreState}
 use Rattle.mq_index.proofs.SlotLaws.{counted_more, homes_more, marked_more, room_there, total_long, total_more}
@@ -23,7 +26,7 @@ pub invariant_of-self : goal.invariant_of-self
 invariant_of-self c = (
   rw (c.push_reserved.ensures.items, c.push_reserved-2.ensures.items) (marked_more c.self.inside.marks.items c.self.inside.slots.items c.self.inside.arrivals c.args.row c.self.invariant.0 (rw (← c.self.view_is) at c.requires.later) c.requires.lane),
   rw c.push_reserved-2.ensures.items c.push.ensures.index,
-  rw c.push_reserved-2.ensures.items (homes_more c.self.inside.slots.items c.args.row (home_in c.self.inside.homes) (home_in c.note_home.new.homes) c.self.invariant.2 (rw (← c.self.view_is) at c.requires.fresh) ?),
+  rw c.push_reserved-2.ensures.items (homes_more c.self.inside.slots.items c.args.row (home_in c.self.inside.homes) (home_in c.note_home.new.homes) c.self.invariant.2 (rw (← c.self.view_is) at c.requires.fresh) (λ (other : Ident). c.note_home.ensures.noted other ∙ ap (λ (n : ℕ). if same_ident c.args.row.message.ident other then Some n else home_in c.self.inside.homes other) (c.len.ensures ∙ c.self.inside.slots.ok.0))),
   rw c.push_reserved-2.ensures.items (counted_more c.self.inside.slots.items c.args.row c.self.inside.frees c.count_in.new.frees c.self.invariant.3 c.count_in.ensures),
   rw c.push_reserved-2.ensures.items (omega (arith, c.self.invariant.4, total_more one c.self.inside.slots.items c.args.row)),
   omega (arith, c.self.invariant.5, c.push_reserved-2.ensures.len, c.push_reserved-2.ensures.capacity, c.requires.room, ap (λ (t : StoreState). t.room) c.self.view_is),

@@ -1,11 +1,11 @@
-use Rattle.std.proofs.Common.{ap, arith, refl, sym, ◌∙◌}
+use Rattle.std.proofs.Common.{arith}
 use Rattle.mq_index.specs.Slots.{home_in, one}
 use Rattle.mq_index.proofs.SlotLaws.{counted_gone, enough_there, homes_gone, marked_gone, total_gone}
 use Rattle.mq_index.proofs.StoreLaws.{empty_set, empty_so, there_so}
 use Rattle.mq_index.proofs.store.Store.take.Goals as goal
 
 pub returns-in_default-clause-slots : goal.returns-in_default-clause-slots
-returns-in_default-clause-slots c = ?
+returns-in_default-clause-slots c = rw (← c.self.view_is) (empty_set c.self.inside.slots.items c.args.at (empty_so c.self.inside.slots.items c.args.at (rw (← c.self.view_is) at c.requires.there) c.in_default.ensures))
 
 pub count_out-requires : goal.count_out-requires
 count_out-requires c = enough_there c.self.inside.slots.items c.args.at c.in-Some.row.now c.self.inside.frees (there_so _ c.in-Some.row.now c.in-Some.ensures) c.self.invariant.3
