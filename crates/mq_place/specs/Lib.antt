@@ -2,3 +2,5 @@ pub mod States
 pub mod Slots
 pub mod Homes
 pub mod Held
+pub mod Due
+pub mod Deadlines
