@@ -1,6 +1,6 @@
 -- The rows of one holder: gone through, freed or taken out one after another.
 use Rattle.std.proofs.Common.{◌≡◌, ℕ, zero, suc, ◌+◌, ◌≤◌, Bool, true, false, cond, List, [], ◌∷◌, ◌++◌, length, refl, sym, ap, subst, ◌∙◌, arith}
-use Rattle.std.specs.Prelude.{Option, Some, None, find, filter, map, drop, not, ◌&&◌, ◌||◌, option_copied, IfSome}
+use Rattle.std.specs.Prelude.{Option, Some, None, find, filter, map, not, ◌&&◌, ◌||◌, IfSome}
 use Rattle.std.specs.List.{AllByRecursion, list_any}
 use Rattle.mq_message.specs.declared.message.Ident.{Ident}
 use Rattle.mq_message.specs.declared.place.Place.{Place}

@@ -11,3 +11,4 @@ pub mod PlainLaws
 pub mod HomeLaws
 pub mod KeyLaws
 pub mod HeldLaws
+pub mod DueLaws

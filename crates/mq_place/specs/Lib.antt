@@ -2,3 +2,4 @@ pub mod States
 pub mod Slots
 pub mod Homes
 pub mod Held
+pub mod Due

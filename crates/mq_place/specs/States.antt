@@ -1,6 +1,6 @@
 -- Local queues as a manager keeps them: what the plain manager sees of each, its lanes, and how many uncommitted puts wait
 -- for it.
-use Rattle.std.specs.Prelude.{◌≡◌, ℕ, ◌+◌, ◌-◌, ◌<◌, ◌^◌, Bool, true, false, not, ◌&&◌, List, [], ◌∷◌, if◌then◌else◌, Option, Some, None, map, filter, flat_map, length, nat_lt, find, take}
+use Rattle.std.specs.Prelude.{◌≡◌, ℕ, ◌+◌, ◌-◌, ◌<◌, ◌^◌, Bool, false, not, ◌&&◌, List, [], ◌∷◌, if◌then◌else◌, Option, Some, None, map, filter, flat_map, length, nat_lt, find, take}
 use Rattle.std.specs.Str.{bytes_eq}
 use Rattle.std.specs.List.{AllByRecursion}
 use Rattle.mq_message.specs.declared.message.Ident.{Ident}

@@ -1,6 +1,7 @@
 //! The local queues of a manager, found by name, and the places of messages on them.
 #![tactic(auto)]
 
+mod due;
 mod held;
 mod homes;
 mod laws;
@@ -9,6 +10,7 @@ mod named;
 mod queues;
 mod slots;
 
+pub use due::DueAt;
 pub use laws::calls_are_changes;
 pub use local::LocalRows;
 pub use queues::Queues;

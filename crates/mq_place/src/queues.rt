@@ -6,8 +6,10 @@ ghost use Rattle.mq_queue.specs.Rows.{is_free, has_ident};
 ghost use Rattle.mq_queue.specs.Queues.{message_of, count_waiting};
 ghost use Rattle.mq_calls.specs.Changes.{kept_in, held_in, released_in, made_due, forgotten};
 ghost use Rattle.mq_calls.specs.State.Which.{Among, HeldBy, HeldByUnits, Nonpersistent};
+ghost use Rattle.mq_place.specs.Due.{IsDueAt};
 ghost use Rattle.mq_place.specs.States.{held_rows, state_in, state_or, change_state, on_queue, on_queues, served, switched_on, fresh_state, without_state, expecting, unpended, arrived, with_lanes, depth_of, size_of, rows_in, free_idents, is_free_after, row_at, rows_removed, CanPlace, IsNowhere, AreApart};
 
+use crate::due::{DueAt, DueNames};
 use crate::homes::{IdentKey, drop_home, home_of, note_home, reserve_homes};
 use crate::local::LocalRows;
 use crate::named::NamedQueues;
@@ -30,6 +32,8 @@ pub struct Queues<Q: Queue + Drop> {
     homes: IndexMap<IdentKey, QName>,
     // At least as many as uncommitted puts wait; there is room for so many idents.
     expected: u64,
+    // The queues that may have a trigger due.
+    due: DueNames,
 }
 
 impl<Q: Queue + Drop> Model for Queues<Q> {
@@ -37,12 +41,24 @@ impl<Q: Queue + Drop> Model for Queues<Q> {
     ghost use Rattle.indexmap.specs.IndexMap.{spare};
     ghost use Rattle.mq_place.specs.States.{QueueStates};
     ghost use Rattle.mq_place.specs.Homes.{home_of, AreHome, all_pending};
+    ghost use Rattle.mq_place.specs.Due.{is_noted, AreListed};
 
     ghost Value = { QueueStates };
 
     ghost view = { λ q. q.named };
 
-    ghost invariant = { λ q. AreHome (home_of q.homes) q.named.states × (all_pending q.named.states ≤ q.expected) × (q.expected ≤ spare q.homes) };
+    ghost invariant = { λ q. (AreHome (home_of q.homes) q.named.states × (all_pending q.named.states ≤ q.expected) × (q.expected ≤ spare q.homes)) × AreListed (is_noted q.due) q.named.states };
+}
+
+// Whether a trigger of a queue is due. No two queues have one name.
+fn has_due<Q: Queue + Drop>(named: &NamedQueues<Q>, name: &QName) -> bool
+    ensures value { result ≡ nat_lt 0 (state_or name.now named.now.states).queue.due }
+    ensures apart { AreApart named.now.states }
+{
+    match named.local(name) {
+        None => false,
+        Some(local) => local.due() > 0,
+    }
 }
 
 impl<Q: Queue + Drop> Queues<Q> {
@@ -54,6 +70,7 @@ impl<Q: Queue + Drop> Queues<Q> {
             named: NamedQueues::new(alloc),
             homes: IndexMap::new(alloc),
             expected: 0,
+            due: DueNames::new(alloc),
         }
     }
 
@@ -130,6 +147,13 @@ impl<Q: Queue + Drop> Queues<Q> {
             None => 0,
             Some(local) => local.due(),
         }
+    }
+
+    /// On which queues triggers may be due, without a walk over the queues.
+    pub fn due_at(&self) -> DueAt
+        ensures { IsDueAt result self.now.states }
+    {
+        self.due.which()
     }
 
     /// The message with an ident on a queue, free or held.
@@ -209,6 +233,13 @@ impl<Q: Queue + Drop> Queues<Q> {
         ensures room { OnOk result (0 < self.new.room) }
         ensures kept { self.old.room ≤ self.new.room }
     {
+        if self
+            .due
+            .reserve(self.named.len().saturating_add(1))
+            .is_err()
+        {
+            return Err(NoMemory);
+        }
         self.named.reserve_queue()
     }
 
@@ -229,6 +260,7 @@ impl<Q: Queue + Drop> Queues<Q> {
         ensures room { self.old.room ≤ self.new.room }
     {
         self.named.delete(name);
+        self.due.drop_name(name);
     }
 
     /// Changes the lanes of a queue that has no row.
@@ -378,6 +410,7 @@ impl<Q: Queue + Drop> Queues<Q> {
         ensures { self.new ≡ record self.old { states = on_queues forgotten self.old.states } }
     {
         self.named.forget();
+        self.due.clear();
     }
 
     /// A trigger of a queue becomes due at a moment; with TRIGTYPE(DEPTH) the queue counts as NOTRIGGER from now on.
@@ -385,6 +418,8 @@ impl<Q: Queue + Drop> Queues<Q> {
         requires { (state_or name.now self.old.states).queue.due + 1 < 2 ^ 64 }
         ensures { self.new ≡ record self.old { states = change_state name.now (on_queue (made_due depth moment)) self.old.states } }
     {
+        let known = has_due(&self.named, name);
+        self.due.add(name, known);
         self.named.make_due(name, depth, moment);
     }
 
@@ -393,6 +428,10 @@ impl<Q: Queue + Drop> Queues<Q> {
         ensures { self.new ≡ record self.old { states = change_state name.now (on_queue served) self.old.states } }
     {
         self.named.serve(name);
+        if has_due(&self.named, name) {
+            return;
+        }
+        self.due.drop_name(name);
     }
 
     /// A queue counts as TRIGGER again.

@@ -5,3 +5,4 @@ pub mod PlanLaws
 pub mod AlterLaws
 pub mod AlterTies
 pub mod ChangeLaws
+pub mod DueLaws

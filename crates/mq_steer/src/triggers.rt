@@ -1,6 +1,7 @@
 //! Trigger turns.
-ghost use Rattle.std.specs.Prelude.{◌≡◌, [], ◌∷◌, None, ◌+◌, ◌<◌, ◌^◌, ◌≤◌, is_some, nat_lt, option_copied, true, Some, OnOk, OnErr};
+ghost use Rattle.std.specs.Prelude.{◌≡◌, ℕ, List, [], ◌∷◌, None, ◌+◌, ◌<◌, ◌^◌, ◌≤◌, is_some, nat_lt, option_copied, true, Some, OnOk, OnErr};
 ghost use Rattle.mq_calls.specs.Words.{Meets, Do, apply, stored, local_of, locals_of, process_of, is_transmission, is_up};
+ghost use Rattle.mq_objects.specs.Names.{locals_in};
 ghost use Rattle.mq_core.specs.Counting.{CanCount};
 ghost use Rattle.mq_calls.specs.State.Change.{Serve};
 ghost use Rattle.mq_spec_manager.specs.Triggers.{first_due, takes_it, serve_into, serve_by, trigger_turn};
@@ -18,7 +19,8 @@ use mq_core::{Core, Parts};
 use mq_disk::Disk;
 use mq_fill::{is_inhibited, max_depth, max_length};
 use mq_message::Message;
-use mq_objects::{LocalQueue, Object, Process, Usage};
+use mq_objects::{LocalQueue, NameSpace, Object, Process, Usage};
+use mq_place::DueAt;
 use mq_resolve::PathStep;
 use mq_trigger::trigger_message;
 use mq_unit::Effects;
@@ -63,8 +65,32 @@ fn has_due<D: Disk>(parts: &Parts<D>, queue: &LocalQueue) -> bool
     }
 }
 
+/// A queue that may be the one with a trigger due: the object is a local queue, and a trigger of it is due.
+fn due_object<'a, D: Disk>(parts: &Parts<D>, object: &'a Object) -> Option<&'a LocalQueue>
+    ensures { option_copied result ≡ first_due (locals_in (object.now ∷ [])) (plain_of parts.now) }
+{
+    let Object::Local(queue) = object else {
+        return None;
+    };
+    if has_due(parts, queue) {
+        return Some(queue);
+    }
+    None
+}
+
+/// The queue of a name, where a trigger of it is due, and none of another.
+fn due_named<'a, D: Disk>(parts: &'a Parts<D>, name: &QName) -> Option<&'a LocalQueue>
+    requires only { (other : List ℕ) → nat_lt 0 (stored other (plain_of parts.now)).due ≡ true → other ≡ name.now }
+    ensures { option_copied result ≡ first_due (locals_of parts.now.defs.definitions) (plain_of parts.now) }
+{
+    match parts.defs.by_name(NameSpace::Queues, name.text()) {
+        None => None,
+        Some(object) => due_object(parts, object),
+    }
+}
+
 /// The first queue, in order of definition, with a trigger due. It walks there.
-fn first_due<D: Disk>(parts: &Parts<D>) -> Option<&LocalQueue>
+fn due_walked<D: Disk>(parts: &Parts<D>) -> Option<&LocalQueue>
     ensures { option_copied result ≡ first_due (locals_of parts.now.defs.definitions) (plain_of parts.now) }
 {
     for slot in parts.defs.slots() {
@@ -75,6 +101,18 @@ fn first_due<D: Disk>(parts: &Parts<D>) -> Option<&LocalQueue>
         }
     }
     None
+}
+
+/// The first queue, in order of definition, with a trigger due. It walks there only where several queues may have one.
+#[tactic(auto, using(crate::proofs::DueLaws::nowhere_due))]
+fn first_due<D: Disk>(parts: &Parts<D>) -> Option<&LocalQueue>
+    ensures { option_copied result ≡ first_due (locals_of parts.now.defs.definitions) (plain_of parts.now) }
+{
+    match parts.queues.due_at() {
+        DueAt::Nowhere => None,
+        DueAt::One(name) => due_named(parts, &name),
+        DueAt::Several => due_walked(parts),
+    }
 }
 
 /// The initiation queue refuses a trigger message.

@@ -1,7 +1,6 @@
-use Rattle.std.proofs.Common.{List, refl, sym, ap, subst, length, ◌∙◌, arith, false, ◌+◌, ◌≤◌}
+use Rattle.std.proofs.Common.{List, refl, sym, ap, length, ◌∙◌, arith}
 use Rattle.mq_queue.specs.declared.row.Row.{Row}
 use Rattle.mq_queue.specs.Rows.{retag}
-use Rattle.mq_queue.specs.Queues.{release_row}
 use Rattle.mq_place.specs.States.{QueueState, let_go, on_rows}
 use Rattle.mq_place.proofs.HeldLaws.{count_held, held_start, only, let_go_once, freed_less, none_go, none_counted}
 use Rattle.mq_place.proofs.local.LocalRows.free_held.Goals as goal

@@ -1,9 +1,8 @@
-use Rattle.std.proofs.Common.{refl, sym, ap, length, ◌∙◌, arith}
-use Rattle.std.specs.Prelude.{find}
+use Rattle.std.proofs.Common.{refl, sym, ◌∙◌, arith}
 use Rattle.mq_queue.specs.Rows.{is_after}
 use Rattle.mq_queue.proofs.QueueLaws.{length_kept}
 use Rattle.mq_place.specs.States.{holds}
-use Rattle.mq_place.proofs.AfterLaws.{row_here, row_next, row_fewer, row_none, row_end}
+use Rattle.mq_place.proofs.AfterLaws.{row_here, row_next, row_fewer, row_none}
 use Rattle.mq_place.proofs.local.LocalRows.held_after.Goals as goal
 
 pub loop-seen-init : goal.loop-seen-init

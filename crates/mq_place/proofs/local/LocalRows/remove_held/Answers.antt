@@ -1,7 +1,6 @@
-use Rattle.std.proofs.Common.{List, refl, sym, ap, subst, length, ◌∙◌, arith, false, ◌+◌, ◌≤◌}
+use Rattle.std.proofs.Common.{List, refl, sym, ap, length, ◌∙◌, arith}
 use Rattle.mq_queue.specs.declared.row.Row.{Row}
 use Rattle.mq_queue.specs.Rows.{keep}
-use Rattle.mq_queue.specs.Queues.{has_other_ident}
 use Rattle.mq_place.specs.States.{QueueState, is_other_row, on_rows}
 use Rattle.mq_place.proofs.HeldLaws.{count_held, held_start, only, other_once, kept_less, none_leave, none_counted}
 use Rattle.mq_place.proofs.local.LocalRows.remove_held.Goals as goal

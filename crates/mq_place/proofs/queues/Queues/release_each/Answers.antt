@@ -1,10 +1,15 @@
-use Rattle.std.proofs.Common.{false, ap}
+use Rattle.std.proofs.Common.{false, ap, sym, subst}
 use Rattle.mq_calls.specs.State.Which.{Among}
 use Rattle.mq_calls.specs.Changes.{released_in}
 use Rattle.mq_place.specs.States.{QueueStates}
 use Rattle.mq_place.specs.Homes.{home_of}
+use Rattle.mq_place.specs.Due.{is_noted, AreListed}
+use Rattle.mq_place.proofs.DueLaws.{listed_map}
 use Rattle.mq_place.proofs.HomeLaws.{noted_all, released_home}
 use Rattle.mq_place.proofs.queues.Queues.release_each.Goals as goal
 
 pub invariant_of-self : goal.invariant_of-self
-invariant_of-self g c = noted_all (home_of c.self.inside.homes) (released_in (Among c.args.name.now c.args.idents.now) false) _ _ _ _ c.self.invariant (ap (λ (v : QueueStates). v.states) c.release_each.ensures) (released_home (home_of c.self.inside.homes) (Among c.args.name.now c.args.idents.now) false _ c.self.invariant.0)
+invariant_of-self g c = (
+  noted_all (home_of c.self.inside.homes) (released_in (Among c.args.name.now c.args.idents.now) false) _ _ _ _ c.self.invariant.0 (ap (λ (v : QueueStates). v.states) c.release_each.ensures) (released_home (home_of c.self.inside.homes) (Among c.args.name.now c.args.idents.now) false _ c.self.invariant.0.0),
+  subst (AreListed (is_noted c.self.inside.due)) (sym (ap (λ (v : QueueStates). v.states) c.release_each.ensures)) (listed_map (is_noted c.self.inside.due) (released_in (Among c.args.name.now c.args.idents.now) false) (λ s h. h) _ c.self.invariant.1),
+)
