@@ -1,6 +1,6 @@
 -- Calm changes: over lists, over parts, and over what ends ask of their manager.
 use Rattle.std.proofs.Common.{ℕ, ◌≡◌, Bool, true, false, List, [], ◌∷◌, ◌++◌, refl, ap, sym, subst, ◌∙◌}
-use Rattle.std.specs.Prelude.{Option, Some, None, Result, Ok, Err, filter, if◌then◌else◌, is_some, not, ◌&&◌}
+use Rattle.std.specs.Prelude.{Option, Some, None, Result, Ok, Err, filter, if◌then◌else◌, not, ◌&&◌}
 use Rattle.std.specs.Str.{bytes_eq}
 use Rattle.mq_codes.specs.declared.reason.Reason.{Reason}
 use Rattle.mq_codes.specs.declared.reason.Reason.TheVariants as reasons
@@ -9,26 +9,23 @@ use Rattle.mq_message.specs.declared.message.Message.{Message}
 use Rattle.mq_objects.specs.Names.{local_of}
 use Rattle.mq_sync.specs.declared.data.End.TheVariants as ends
 use Rattle.mq_sync.specs.declared.unit.Unit.{Unit as Luw}
-use Rattle.mq_sync.specs.Settlement.{sender_or}
 use Rattle.mq_calls.specs.declared.agents.Note.{Note}
 use Rattle.mq_calls.specs.declared.agents.Note.TheVariants as notes
-use Rattle.mq_calls.specs.declared.agents.PrepareFault.TheVariants as prepare_faults
-use Rattle.mq_calls.specs.declared.deltas.Did.TheVariants as did
 use Rattle.mq_calls.specs.declared.records.LogRecord.{LogRecord}
 use Rattle.mq_calls.specs.declared.state.Batch.{Batch}
 use Rattle.mq_calls.specs.State.{Change, Plain}
 use Rattle.mq_calls.specs.declared.state.Seizure.{Seizure}
 use Rattle.mq_calls.specs.State.Change.{AddBatch, DropBatch, ForgetAll, Seize, SetBound, Try, Unseize}
-use Rattle.mq_calls.specs.Reads.{batch_of, is_full, is_persistent, seizure_of, sender_data}
-use Rattle.mq_calls.specs.Changes.{apply, apply_all, comes_before, set_named, try_if}
+use Rattle.mq_calls.specs.Reads.{batch_of, is_full, is_persistent, seizure_of}
+use Rattle.mq_calls.specs.Changes.{apply, apply_all, set_named, try_if}
 use Rattle.mq_calls.specs.Condition.{condition}
 use Rattle.mq_calls.specs.Sizes.{need}
 use Rattle.mq_calls.specs.Steps.{Part, Step, Test, do_all, do_part, logged, refusal, refused_or, tested, when}
 use Rattle.mq_calls.specs.Steps.Step.{Do, Refuse}
 use Rattle.mq_spec_manager.specs.Landing.{Landing, land}
-use Rattle.mq_spec_manager.specs.Agents.{Absent, HasSeized, InDoubtAt, Landed, Present, Standing, before, drop_changes, harden_part, is_present, land_changes, landed, landed_by, landed_unless, prepare_of, prepared_changes, prepared_record, receive_landed, received_record, release_of, standing_at, undoubted}
+use Rattle.mq_spec_manager.specs.Agents.{Absent, InDoubtAt, Landed, Present, Standing, before, drop_changes, harden_part, is_present, land_changes, landed, landed_by, landed_unless, receive_landed, received_record, standing_at, undoubted}
 use Rattle.mq_spec_node.specs.Deeds.{parts_of}
-use Rattle.mq_law_manager.proofs.Lists.{bool_case, name_self, name_yes}
+use Rattle.mq_law_manager.proofs.Lists.{bool_case, name_yes}
 use Rattle.mq_law_seized.proofs.Changing.{both_true}
 use Rattle.mq_law_queued.specs.Queued.{all_bare, all_calm, all_calm_for, is_bare, is_calm, is_calm_for, parts_bare, parts_calm, parts_calm_for, step_calm}
 use Rattle.mq_law_manager.proofs.Named.{batch_set, found_named, named_set}

@@ -1,9 +1,9 @@
 -- Turns and timeouts of ends, and commands on them: a sender's batch is of the queue that it has open and lists each row once, and where it sends
 -- none it has none; a sender that runs keeps its limits.
-use Rattle.std.proofs.Common.{ℕ, zero, suc, ◌≡◌, ◌≢◌, ◌≤◌, ◌⊎◌, ◌-◌, Bool, true, false, List, [], ◌∷◌, ◌++◌, refl, ap, sym, subst, ◌∙◌, inl, inr}
+use Rattle.std.proofs.Common.{ℕ, zero, suc, ◌≡◌, ◌≤◌, ◌⊎◌, ◌-◌, Bool, true, false, List, [], ◌∷◌, ◌++◌, refl, ap, sym, subst, ◌∙◌, inl, inr}
 use Rattle.std.specs.Prelude.{Option, Some, None, ◌+◌, nat_lt, ◌==◌, ◌||◌, ◌&&◌, if◌then◌else◌, not}
 use Rattle.std.specs.Str.{bytes_eq}
-use Rattle.mq_base.specs.Members.{AreDistinct, Chain, Mem}
+use Rattle.mq_base.specs.Members.{AreDistinct, Mem}
 use Rattle.mq_codes.specs.declared.reason.Reason.{Reason}
 use Rattle.mq_frame.specs.declared.frame.Seen.{Seen}
 use Rattle.mq_message.specs.declared.message.Ident.{Ident}
@@ -18,7 +18,6 @@ use Rattle.mq_sync.specs.declared.data.InDoubt.{InDoubt}
 use Rattle.mq_sync.specs.declared.data.Stock.{Stock}
 use Rattle.mq_sync.specs.declared.unit.Settle.{Settle}
 use Rattle.mq_sync.specs.Settlement.{is_commit, receiver_or}
-use Rattle.mq_sync.specs.Turns.{first_line}
 use Rattle.mq_sync.specs.Units.{unit_named}
 use Rattle.mq_sender.specs.declared.state.Limits.{Limits}
 use Rattle.mq_sender.specs.declared.state.Sender.{Sender}
@@ -30,7 +29,7 @@ use Rattle.mq_sender.specs.declared.turns.SenderDoes.TheVariants as does
 use Rattle.mq_sender.specs.declared.turns.SenderOut.TheVariants as outs
 use Rattle.mq_sender.specs.After.{number_sent, sender_after}
 use Rattle.mq_sender.specs.States as senders
-use Rattle.mq_sender.specs.Table.{sender_lines, sender_next, waits}
+use Rattle.mq_sender.specs.Table.{sender_lines, sender_next}
 use Rattle.mq_receiver.specs.declared.turns.ReceiverDoes.{ReceiverDoes}
 use Rattle.mq_receiver.specs.declared.turns.ReceiverDoes.TheVariants as takes
 use Rattle.mq_receiver.specs.After.{bound_by, last_by}
@@ -54,7 +53,7 @@ use Rattle.mq_calls.specs.Steps.{Part, Step, do_all, refusal, refused_or as step
 use Rattle.mq_calls.specs.Steps.Step.{Do, Refuse}
 use Rattle.mq_spec_manager.specs.Get.{expired_parts}
 use Rattle.mq_spec_manager.specs.Handles.{is_transmission_queue}
-use Rattle.mq_spec_manager.specs.Agents.{HasSeized, channel_queue, expired_rows, harden, hold_batch, landed, leave, prepare, queue_of_sender, receive, release_of, seize, set_bound, stock}
+use Rattle.mq_spec_manager.specs.Agents.{channel_queue, expired_rows, harden, hold_batch, landed, leave, prepare, queue_of_sender, receive, release_of, seize, set_bound, stock}
 use Rattle.mq_spec_node.specs.Node.{ChannelEnd, Node, ReceiverEnd, SenderEnd, cable_of, receiver_named, sender_named, set_end, with_end}
 use Rattle.mq_spec_node.specs.Node.ChannelEnd.{Receives, Sends}
 use Rattle.mq_spec_node.specs.Deeds.{Deed, parts_of}
@@ -67,7 +66,6 @@ use Rattle.mq_law_manager.proofs.Lists.{bool_case, is_false, name_yes}
 use Rattle.mq_law_node.proofs.Named.{nat_self, nat_yes}
 use Rattle.mq_law_keys.specs.Keys.{AreKeyed, IsKeyed, key_of, keys}
 use Rattle.mq_law_keys.proofs.Telling.{one_channel, receiver_mem, sender_mem}
-use Rattle.mq_codes.specs.declared.reason.Reason.TheVariants as codes
 use Rattle.mq_calls.specs.declared.agents.PrepareFault.TheVariants as prepare_faults
 use Rattle.mq_calls.specs.declared.deltas.Did.TheVariants as did
 use Rattle.mq_sync.specs.declared.unit.Unit.{Unit as Luw}
@@ -310,10 +308,10 @@ prepare_so : (e : List ℕ) (last : ℕ) (p : Plain) (o : Option Batch) → batc
 prepare_so e last p None is = (is, λ c apart. refl)
 prepare_so e last p (Some b) is =
     tested_prepares e p (refusal (when (is_full (need (prepared_record e last b)) p) prepare_faults.NoRoom ∷ [])) (Do tt (record {
-        forced = Some (prepared_record e last b);
-        changes = prepared_changes e last b (sender_or (sender_data e p));
-        delta = did.Prepared e b.unit ∷ [];
-      } ∷ [])) (batch_gone e p.channels.batches, λ c apart. ap (λ t. (not t && true) && true) apart)
+      forced = Some (prepared_record e last b);
+      changes = prepared_changes e last b (sender_or (sender_data e p));
+      delta = did.Prepared e b.unit ∷ [];
+    } ∷ [])) (batch_gone e p.channels.batches, λ c apart. ap (λ t. (not t && true) && true) apart)
 
 prepares_queued : (n : Node) (e : SenderEnd) (s : Step PrepareFault (Unit {0})) → IsKeyed n → Mem (Sends e) n.own.ends → AreQueued n.own.ends n.manager → 1 ≤ e.machine.limits.batch_size → Prepares e.channel n.manager s → EachQueued n (Some (prepare_deed e s n))
 prepares_queued n e (Refuse fault) h there q big k = let_go n e (sender_after e.machine does.Prepare outs.NoRoom) h there q refl

@@ -1,6 +1,6 @@
 -- Whatever happens at a node, each sender's batch is of the queue that it has open and lists each row once, and it has none where it sends none; and where
 -- it runs, its limits allow a batch of one message at least.
-use Rattle.std.proofs.Common.{ℕ, zero, suc, ◌≡◌, Bool, true, false, List, [], ◌∷◌, refl, ap, sym, subst, ◌∙◌, map, inl, inr, ◌+◌}
+use Rattle.std.proofs.Common.{ℕ, zero, suc, ◌≡◌, true, false, List, [], ◌∷◌, refl, ap, sym, subst, ◌∙◌, map, inl, inr, ◌+◌}
 use Rattle.std.specs.Prelude.{Option, Some, None}
 use Rattle.mq_base.specs.Members.{Mem}
 use Rattle.mq_frame.specs.declared.frame.Seen.{Seen}
@@ -17,23 +17,19 @@ use Rattle.mq_history.specs.declared.calls.Call.{Call}
 use Rattle.mq_history.specs.declared.calls.Call.TheVariants as calls
 use Rattle.mq_history.specs.declared.calls.Chance.{Chance}
 use Rattle.mq_history.specs.declared.calls.Chance.TheVariants as chances
-use Rattle.mq_sender.specs.declared.turns.SenderDoes.{SenderDoes}
 use Rattle.mq_sender.specs.States as senders
 use Rattle.mq_calls.specs.State.{Noted, Plain, Running}
 use Rattle.mq_calls.specs.State.Running.{Up, Down}
 use Rattle.mq_calls.specs.Steps.{IsWrite, Part, do_all, do_part, stopped_at}
 use Rattle.mq_spec_manager.specs.Stops.{advance_clock, cut, restart_at, restart_down, restarted, stop_at}
-use Rattle.mq_spec_node.specs.Terms.{stock}
 use Rattle.mq_spec_node.specs.Node.{ChannelEnd, Node, ReceiverEnd, SenderEnd, receiver_end, sender_end}
 use Rattle.mq_spec_node.specs.Node.ChannelEnd.{Sends, Receives}
 use Rattle.mq_spec_node.specs.Deeds.{CanCome, Deed, Done, begun_anew, done, end_begun}
 use Rattle.mq_spec_node.specs.Replays.{IsOwn, Surroundings, opening_node}
-use Rattle.mq_spec_node.specs.Senders.{sender_deed, sender_deed_by}
 use Rattle.mq_spec_node.specs.Happens as happens
-use Rattle.mq_spec_node.specs.Happens.{IsDeed, IsEvent, IsReturn, choice_event, crashed, deed_of, event, receiver_turn, remembered, remembering, sender_turn, timeout_by, timeout_of, turn_up, where_up}
+use Rattle.mq_spec_node.specs.Happens.{IsDeed, IsEvent, choice_event, crashed, deed_of, event, receiver_turn, remembering, sender_turn, timeout_by, timeout_of, turn_up, where_up}
 use Rattle.mq_history.specs.declared.history.History.{History}
 use Rattle.mq_law_manager.specs.Facts.{IsSound}
-use Rattle.mq_law_manager.proofs.Lists.{bool_case}
 use Rattle.mq_calls.specs.Reads.{batch_of, receiver_data, seizure_of}
 use Rattle.mq_receiver.specs.States as receivers
 use Rattle.mq_spec_manager.specs.Agents.{seized_queue}
