@@ -7,3 +7,4 @@ pub mod Standing
 pub mod Fitting
 pub mod Good
 pub mod Resting
+pub mod Turned

@@ -1,5 +1,5 @@
 -- Each step of a run: the network at which it began, and the one that it left; and the same networks by the marks of the histories.
-use Rattle.std.proofs.Common.{ℕ, zero, suc, ◌≡◌, ◌⊎◌, ◌+◌, List, [], ◌∷◌, ◌++◌, length, refl, ap, sym, subst, ◌∙◌, inl, inr, append_assoc, append-nil}
+use Rattle.std.proofs.Common.{ℕ, zero, suc, ◌≡◌, ◌⊎◌, List, [], ◌∷◌, ◌++◌, length, refl, ap, sym, subst, ◌∙◌, inl, inr, append_assoc, append-nil}
 use Rattle.std.specs.Prelude.{◌==◌, if◌then◌else◌, Option, Some, None, slice_get, take}
 use Rattle.std.specs.Option.{option_map}
 use Rattle.std.proofs.lemmas.Option.{slice_get-map}
@@ -33,10 +33,10 @@ pub record Grew (w0 w : Network) : Type 0 where
   pub more : ℕ → List Entry
   pub has : (m : ℕ) → w.done m ≡ w0.done m ++ more m
 
-grew_self : (w : Network) → Grew w w
+abbrev grew_self : (w : Network) → Grew w w
 grew_self w = record { scenario = refl; first = λ m. refl; more = λ m. []; has = λ m. sym (append-nil (w.done m)) }
 
-grew_one : (w0 w : Network) (m : ℕ) (e : Entry) → Grew w0 w → Grew w0 (does m (e ∷ []) w)
+abbrev grew_one : (w0 w : Network) (m : ℕ) (e : Entry) → Grew w0 w → Grew w0 (does m (e ∷ []) w)
 grew_one w0 w m e g = record {
   scenario = g.scenario;
   first = g.first;
@@ -53,7 +53,7 @@ grew_then a b c g h = record {
   has = λ m. h.has m ∙ ap (λ (xs : List Entry). xs ++ h.more m) (g.has m) ∙ append_assoc (a.done m) (g.more m) (h.more m);
 }
 
-pub goes_grew : (w0 : Network) (all : List Task) {w : Network} {ts : List Task} → Goes w0 all w ts → Grew w0 w
+abbrev pub goes_grew : (w0 : Network) (all : List Task) {w : Network} {ts : List Task} → Goes w0 all w ts → Grew w0 w
 goes_grew w0 all stays = grew_self w0
 goes_grew w0 all (moves w t ts m e go mv) = grew_one w0 w m e (goes_grew w0 all go)
 goes_grew w0 all (serves w ts m e go call) = grew_one w0 w m e (goes_grew w0 all go)
@@ -164,6 +164,11 @@ nil_front (x ∷ xs) ys e = absurd (empty e)
     empty : [] ≡ x ∷ (xs ++ ys) → ⊥
     empty e = cc
 
+-- so many entries had a manager there
+pub entries_at_mark : (s : Scenario) (hs : List History) (i : ℕ) (w : Network) → IsPlace s hs i w → (m : ℕ) (h : History) → slice_get hs m ≡ Some h → entries_until i h.marks ≡ length (w.done m)
+entries_at_mark s hs i w p m h is =
+    ap (λ (xs : List Mark). entries_until i xs) (p.noted m h is) ∙ ap (λ (k : ℕ). entries_until k (p.marks m ++ p.later m)) (sym p.many) ∙ until_entries (network_begun s hs) p.went (λ j. refl) m (p.later m)
+
 pub entries_place : (s : Scenario) (hs : List History) (i : ℕ) (w : Network) → IsPlace s hs i w → (m : ℕ) → entries_at (until i hs) m ≡ w.done m
 entries_place s hs i w p m = ap entries_or (until_at i hs m) ∙ at (slice_get hs m) refl
   where
@@ -171,9 +176,7 @@ entries_place s hs i w p m = ap entries_or (until_at i hs m) ∙ at (slice_get h
     at None is = nil_front (w.done m) (p.more m) (sym (ap entries_or is) ∙ p.has m)
     at (Some h) is =
         let all : h.entries ≡ w.done m ++ p.more m = sym (ap entries_or is) ∙ p.has m in
-        let many : entries_until i h.marks ≡ length (w.done m) =
-        ap (λ (xs : List Mark). entries_until i xs) (p.noted m h is) ∙ ap (λ (k : ℕ). entries_until k (p.marks m ++ p.later m)) (sym p.many) ∙ until_entries (network_begun s hs) p.went (λ j. refl) m (p.later m) in
-        ap (λ (k : ℕ). take k h.entries) many ∙ ap (λ (xs : List Entry). take (length (w.done m)) xs) all ∙ take-append_seam (w.done m) (p.more m)
+        ap (λ (k : ℕ). take k h.entries) (entries_at_mark s hs i w p m h is) ∙ ap (λ (xs : List Entry). take (length (w.done m)) xs) all ∙ take-append_seam (w.done m) (p.more m)
 
 pub net_same : (s : Scenario) (hs : List History) (i : ℕ) (w : Network) → IsPlace s hs i w → net_until s hs i ≡ w
 net_same s hs i w p =

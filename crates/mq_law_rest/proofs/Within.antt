@@ -1,5 +1,5 @@
 -- In a run without faults and without a PHASE no end pops more than was offered to it, at any network between two steps.
-use Rattle.std.proofs.Common.{ℕ, zero, suc, ◌≡◌, ◌<◌, ◌+◌, Bool, true, false, List, [], ◌∷◌, ◌++◌, length, refl, ap, sym, subst, ◌∙◌, inl, inr, append-nil, arith}
+use Rattle.std.proofs.Common.{ℕ, zero, suc, ◌≡◌, ◌<◌, Bool, true, false, List, [], ◌∷◌, ◌++◌, length, refl, ap, sym, subst, ◌∙◌, inl, inr, append-nil, arith}
 use Rattle.std.specs.Prelude.{◌==◌, ◌&&◌, if◌then◌else◌, Option, Some, None, drop, slice_get}
 use Rattle.std.proofs.lemmas.List.{length-append}
 use Rattle.mq_frame.specs.declared.frame.Frame.{Frame}

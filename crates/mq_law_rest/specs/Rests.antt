@@ -1,5 +1,5 @@
 -- When a PUMP of a run comes to rest.
-use Rattle.std.specs.Prelude.{◌≡◌, ◌≤◌, ℕ, suc, true, List, [], ◌++◌, Some, slice_get, take}
+use Rattle.std.specs.Prelude.{◌≡◌, ◌≤◌, ℕ, suc, true, false, List, [], ◌++◌, Some, slice_get, take}
 use Rattle.mq_history.specs.declared.calls.Entry.{Entry}
 use Rattle.mq_history.specs.declared.history.History.{History}
 use Rattle.mq_history.specs.declared.history.Mark.{Mark}
@@ -12,7 +12,8 @@ use Rattle.mq_spec_node.specs.Node.{Node, ReceiverEnd, SenderEnd, end_in}
 use Rattle.mq_spec_node.specs.Node.ChannelEnd.{Receives, Sends}
 use Rattle.mq_spec_node.specs.Replays.{after, opening_node}
 use Rattle.mq_spec_network.specs.Given.{surroundings}
-use Rattle.mq_spec_network.specs.Turns.{Network, node_at, out_of}
+use Rattle.mq_spec_network.specs.Turns.{Network, is_idle, node_at, out_of}
+use Rattle.mq_net_report.specs.Steps.{turns_in}
 use Rattle.mq_spec_network.specs.Story.{IsStory, Line}
 use Rattle.mq_spec_network.specs.Conflict.{NoConflict}
 use Rattle.mq_law_ran.specs.Runs.{Left}
@@ -72,3 +73,13 @@ pub record IsEnough (s : Scenario) (hs : List History) (i n : ℕ) : Type 0 wher
 -- Each such PUMP that was done whole ended idle, as each history's mark tells, and the report.
 abbrev pub PumpsRest : Left → Type 0
 PumpsRest l = (i n : ℕ) → IsEnough l.scenario l.histories i n → (m : ℕ) (h : History) (k : Mark) → slice_get l.histories m ≡ Some h → slice_get h.marks i ≡ Some k → k.idle ≡ true
+
+-- Of each PUMP that was done whole: it ended idle exactly where nothing can change behind it; it took no more turns and timeouts than it was given, as
+-- the report counts them, and just as many where it did not end idle.
+pub record IsToldPump (l : Left) (i n : ℕ) (k : Mark) : Type 0 where
+  pub idle : k.idle ≡ is_idle (net_until l.scenario l.histories (suc i))
+  pub few : turns_in i l.histories ≤ n
+  pub all : k.idle ≡ false → turns_in i l.histories ≡ n
+
+abbrev pub PumpsTell : Left → Type 0
+PumpsTell l = (i n : ℕ) → slice_get l.scenario.steps i ≡ Some (steps.Pump n) → (m : ℕ) (h : History) (k : Mark) → slice_get l.histories m ≡ Some h → slice_get h.marks i ≡ Some k → IsToldPump l i n k

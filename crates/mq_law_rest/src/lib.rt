@@ -24,7 +24,7 @@ ghost use Rattle.mq_spec_network.specs.Apart.{IsJoined};
 ghost use Rattle.mq_spec_network.specs.Lawful.{AreOwn, IsLawful};
 ghost use Rattle.mq_spec_network.specs.Promised.{AreDoubtsKnown, AreImages};
 ghost use Rattle.mq_law_ran.specs.Runs.{Left};
-ghost use Rattle.mq_law_rest.specs.Rests.{AllMayRest, AllUp, AreSome, IsPeaceful, PumpsRest};
+ghost use Rattle.mq_law_rest.specs.Rests.{AllMayRest, AllUp, AreSome, IsPeaceful, PumpsRest, PumpsTell};
 ghost use Rattle.mq_law_rest.specs.Aside.{AllPop, AllWithin, NoFaults, NonePhase};
 ghost use Rattle.mq_law_rest.specs.Until.{IsPlace, IsStep, net_until, until};
 
@@ -55,6 +55,12 @@ pub fn managers_of_a_run_fit()
 pub fn networks_of_a_run_are_fit_to_rest()
     ensures good { (s : Scenario) (hs : List History) → Premises s hs → IsPeaceful s hs → AreSome s hs → AllUp (net_of s hs) → Good (net_of s hs) }
     ensures restful { (s : Scenario) (hs : List History) → Premises s hs → IsPeaceful s hs → Good (net_of s hs) → AllWithin (net_of s hs) → AllMayRest (net_of s hs) → Restful (net_of s hs) }
+{}
+
+/// Each PUMP of a lawful story that was done whole ended idle exactly where nothing can change behind it; it took no more turns and timeouts than it was
+/// given, and just as many where it did not end idle.
+pub fn pumps_of_a_run_are_told()
+    ensures { (l : Left) → IsLawful l.scenario l.histories → PumpsTell l }
 {}
 
 /// **Each PUMP of a run that has enough turns comes to rest**: it ended idle, where it was done whole, so where no manager of it made its last event and memory was there.
