@@ -1,5 +1,0 @@
-pub mod Facing
-pub mod Took
-pub mod Held
-pub mod Events
-pub mod Joining
