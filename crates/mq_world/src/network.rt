@@ -99,7 +99,7 @@ impl<D: Disk> Network<D> {
     /// changed from outside. It takes no memory.
     #[tactic(auto, using(crate::proofs::OwnLaws::rests_own))]
     pub fn rest(self) -> Rested<D>
-        ensures is { result ≡ words.rest_of self.scenario self.nodes }
+        ensures rests { result ≡ words.rest_of self.scenario self.nodes }
         ensures own { D.tells → words.AreOwn result.histories }
     {
         let Network { parts, room } = self;
