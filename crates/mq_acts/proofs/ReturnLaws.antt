@@ -71,6 +71,12 @@ own_does kept started p new delta own (Down n starts) e down is told =
     ap (λ (q : Plain). quiet (replies.Acted acted.Done) (restart_at (Down n starts) (Comes kept started) p).delta (begun_anew q own)) (sym is)
     ∙ ap (λ (ds : List Did). quiet (replies.Acted acted.Done) ds (begun_anew new own)) (sym told)
 
+came_disk : None ≡ Some faults.Disk → ⊥
+came_disk e = absurd cc
+
+fault_is : (a b : RestartFault) → Some a ≡ Some b → a ≡ b
+fault_is a b e = cc
+
 pub came_up : (tells : Type 0) (old new : CoreValue) (b : Back) → IsBack tells old.plain b new → Passes old new → IsRestart tells old (came_as b new.delta) (record new { delta = [] })
 came_up tells old new (backs.Own kept started) b p =
     let ends : Ends tells (Comes kept started) old.plain new = b.ends in
@@ -81,6 +87,7 @@ came_up tells old new (backs.Own kept started) b p =
       own = λ t. tt;
       counts = b.image;
       later = p.later;
+      rose = λ disk. absurd (came_disk disk);
     }
 came_up tells old new (backs.Foreign image length left) b p =
     let from : IsBackFrom tells image length left old.plain new = b.ends in
@@ -92,6 +99,7 @@ came_up tells old new (backs.Foreign image length left) b p =
       own = λ t. absurd (from.untold t);
       counts = b.image;
       later = p.later;
+      rose = λ disk. absurd (came_disk disk);
     }
 
 pub came_told : (tells : Type 0) (old m new : CoreValue) (b : Back) (r : Restarted) (delta : List Did) → IsBack tells old.plain b m → Passes old m → r ≡ came_as b delta → delta ≡ m.delta → new ≡ record m { delta = [] } → IsRestart tells old r new
@@ -165,6 +173,7 @@ refused tells old new e w s p = record {
   own = λ t. tt;
   counts = λ most b. subst (AreBelow most) (sym s.ends.plain) (below_refused old.plain.running e.fault e.in_write e.left old.plain most b);
   later = p.later;
+  rose = λ disk. s.disk (fault_is e.fault faults.Disk disk);
 }
 
 -- there was no memory
