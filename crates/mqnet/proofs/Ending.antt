@@ -139,7 +139,7 @@ promised_of P (Some tasks.Check) left tells held start before now old new st net
 promised_of P (Some tasks.Check) left tells held start before now old new st net counts f (inr e) = none_of P net e.0
 
 -- a scenario that was read keeps to what is meant by one
-is_scenario : (left : Option (List ℕ)) (s : Scenario) → IsRead left s → IsScenario s
+pub is_scenario : (left : Option (List ℕ)) (s : Scenario) → IsRead left s → IsScenario s
 is_scenario left s r = text_kept r.bytes s (text_found r.bytes s r.text)
 
 pub own_of : (asked : Option Task) (left : Option (List ℕ)) (tells : Type 0) (held : List ℕ → List ℕ → Type 0) (start before now : ℕ) (old new : Option (List ℕ)) (st : Status) (net : Option Left) (counts : List ℕ)

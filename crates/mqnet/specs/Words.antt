@@ -8,3 +8,4 @@ pub use Rattle.mq_scn_text.specs.Reading.{scenario_of}
 pub use Rattle.mqnet.specs.Headline.{Completes, Ends, ReadNoScenario, RefusesBytes, WasRead, Writes}
 pub use Rattle.mqnet.specs.Wanted.{task_of, word_task}
 pub use Rattle.mqnet.specs.Work.{FitsWork, IsWork, RefusesText, WorkEnds}
+pub use Rattle.mq_law_rest.specs.Rests.{PumpsRest, PumpsTell}
