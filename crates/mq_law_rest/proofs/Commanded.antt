@@ -1,20 +1,17 @@
 -- A run gives its managers the scenario's commands, and no others.
-use Rattle.std.proofs.Common.{ℕ, zero, suc, ◌≡◌, ◌⊎◌, Bool, true, false, List, [], ◌∷◌, ◌++◌, refl, ap, sym, subst, ◌∙◌, inl, inr}
+use Rattle.std.proofs.Common.{ℕ, zero, suc, ◌≡◌, Bool, true, false, List, [], ◌∷◌, ◌++◌, refl, sym, subst, inl, inr}
 use Rattle.std.specs.Prelude.{◌==◌, All, drop, if◌then◌else◌, Option, Some, None, slice_get, take}
 use Rattle.std.proofs.lemmas.List.Elements.{All-head, All-tail}
-use Rattle.mq_base.specs.Members.{Mem}
 use Rattle.mq_calls.specs.declared.answers.Answer.TheVariants as answers
 use Rattle.mq_calls.specs.declared.answers.Hconn.{Hconn}
 use Rattle.mq_calls.specs.declared.answers.Hobj.{Hobj}
 use Rattle.mq_sc_parse.specs.declared.command.Command.{Command}
 use Rattle.mq_history.specs.declared.acts.Act.TheVariants as acts
-use Rattle.mq_history.specs.declared.calls.Actor.TheVariants as actors
 use Rattle.mq_history.specs.declared.calls.Call.{Call}
 use Rattle.mq_history.specs.declared.calls.Call.TheVariants as calls
 use Rattle.mq_history.specs.declared.calls.Entry.{Entry}
 use Rattle.mq_history.specs.declared.calls.Reply.{Reply}
 use Rattle.mq_history.specs.declared.calls.Reply.TheVariants as replies
-use Rattle.mq_history.specs.declared.history.History.{History}
 use Rattle.mq_history.specs.declared.history.Mark.{Mark}
 use Rattle.mq_history.specs.declared.scenario.CableLine.{CableLine}
 use Rattle.mq_history.specs.declared.scenario.ManagerLine.{ManagerLine}
@@ -39,13 +36,12 @@ use Rattle.mq_spec_network.specs.Tasks.Slot.{Receives, Sends, TimesOut}
 use Rattle.mq_spec_network.specs.Tasks.Task.{Ask, Script, Lines, Phase, Pump, Handle, Serve, Watch, Open, Restart}
 use Rattle.mq_spec_network.specs.Steps.{Goes, Moves, Passes, PumpSkips, PumpTakes, begun, gives_up, is_cut, left_by, next_round, once_more, opens, pump_on, scripts_at}
 use Rattle.mq_spec_network.specs.Steps.Goes.{stays, moves, serves, passes}
-use Rattle.mq_spec_network.specs.Story.{entries_at, entries_or}
 use Rattle.mq_spec_network.specs.Lawful.{Went}
 use Rattle.mq_spec_network.specs.Lawful.Went.{begins, ends}
 use Rattle.mq_law_node.proofs.Named.{bool_case}
 use Rattle.mq_law_rest.specs.Aside.{IsNoPhase, NonePhase}
 use Rattle.mq_law_rest.specs.Values.{AllCallTexts, AllLineTexts, AllTextTasks, IsTextCall, IsTextOf, IsTextTask}
-use Rattle.mq_law_rest.proofs.Steps.{Grew, goes_grew, some_is, none_some, went_grew}
+use Rattle.mq_law_rest.proofs.Steps.{goes_grew, some_is, none_some, went_grew}
 
 -- WHAT A SCENARIO HAS
 all_at : {A : Type 0} (P : A → Type 0) (xs : List A) (i : ℕ) (x : A) → All P xs → slice_get xs i ≡ Some x → P x

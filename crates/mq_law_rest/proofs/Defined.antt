@@ -1,8 +1,6 @@
 -- In a ledger definitions change by accepted commands alone, and so keep to values that commands give.
-use Rattle.std.proofs.Common.{ℕ, zero, suc, ◌≡◌, Bool, true, false, List, [], ◌∷◌, ◌++◌, map, refl, ap, sym, subst, ◌∙◌, inl, inr}
-use Rattle.std.specs.Prelude.{◌==◌, if◌then◌else◌, min, not, ◌&&◌, Option, Some, None, Result, Ok, Err, filter, slice_get}
-use Rattle.std.specs.List.{list_any}
-use Rattle.std.specs.Option.{option_map}
+use Rattle.std.proofs.Common.{ℕ, zero, suc, ◌≡◌, Bool, true, false, List, [], ◌∷◌, map, refl, ap, sym, subst, ◌∙◌, inl, inr}
+use Rattle.std.specs.Prelude.{if◌then◌else◌, Option, Some, None, Result, Ok, Err, slice_get}
 use Rattle.mq_base.specs.Members.{Mem}
 use Rattle.mq_codes.specs.declared.reason.Reason.{Reason}
 use Rattle.mq_message.specs.declared.message.Dest.{Dest}
@@ -10,16 +8,10 @@ use Rattle.mq_message.specs.declared.message.Ident.{Ident}
 use Rattle.mq_message.specs.declared.message.Md.{Md}
 use Rattle.mq_message.specs.declared.message.Message.{Message}
 use Rattle.mq_queue.specs.declared.row.Row.{Row}
-use Rattle.mq_objects.specs.declared.object.Channel.{Channel}
-use Rattle.mq_objects.specs.declared.object.ChannelKind.{ChannelKind}
-use Rattle.mq_objects.specs.declared.object.ChannelKind.TheVariants as kinds
 use Rattle.mq_objects.specs.declared.object.Definitions.{Definitions}
 use Rattle.mq_objects.specs.declared.object.LocalQueue.{LocalQueue}
-use Rattle.mq_objects.specs.declared.object.Object.{Object}
-use Rattle.mq_objects.specs.declared.object.Object.TheVariants as objects
 use Rattle.mq_objects.specs.declared.object.Process.{Process}
 use Rattle.mq_objects.specs.declared.command.Command.{Command as ObjectCommand}
-use Rattle.mq_objects.specs.Names.{channel_of, local_of, process_of}
 use Rattle.mq_resolve.specs.declared.route.Route.{Route}
 use Rattle.mq_sc_apply.specs.Commands.{after as planned_after, plan}
 use Rattle.mq_sc_apply.specs.Uses.{nothing_used}
@@ -57,9 +49,9 @@ use Rattle.mq_history.specs.declared.story.ManagerPlaces.{ManagerPlaces}
 use Rattle.mq_spec_network.specs.Ledger as ledgers
 use Rattle.mq_spec_network.specs.Ledger.{Ledger, Stopped, Users, change_at, with_places, with_users}
 use Rattle.mq_spec_network.specs.Story.{Line}
-use Rattle.mq_law_image.specs.Values.{AreObjectTexts, IsChannelText, IsCommandText, IsKindText, IsObjectText}
+use Rattle.mq_law_image.specs.Values.{AreObjectTexts, IsCommandText}
 use Rattle.mq_law_image.proofs.Valued.{changed_text, command_text}
-use Rattle.mq_law_rest.specs.Values.{AllCutTexts, AllTexts, IsCutText, IsTextCall, IsTextOf, IsTextual, LeavesTexts, cut_in, defined_in}
+use Rattle.mq_law_rest.specs.Values.{AllCutTexts, AllTexts, IsCutText, IsTextCall, IsTextOf, IsTextual, LeavesTexts}
 
 -- WHAT CHANGES NO DEFINITIONS
 leaves_self : (l : Ledger) → LeavesTexts l l

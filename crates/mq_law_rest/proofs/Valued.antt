@@ -1,5 +1,5 @@
 -- Along a run each channel that is defined as a sender's has BATCHSZ 1 at least: its definitions keep to values that commands give.
-use Rattle.std.proofs.Common.{ℕ, zero, suc, ◌≡◌, ◌+◌, List, [], ◌∷◌, ◌++◌, map, refl, ap, sym, subst, ◌∙◌, inl, inr, arith}
+use Rattle.std.proofs.Common.{ℕ, suc, ◌≡◌, ◌+◌, List, [], ◌∷◌, map, refl, sym, subst, inl, inr, arith}
 use Rattle.std.specs.Prelude.{All, if◌then◌else◌, Option, Some, None, slice_get}
 use Rattle.std.specs.List.{AllByRecursion}
 use Rattle.mq_base.specs.Members.{Mem}
@@ -17,13 +17,11 @@ use Rattle.mq_history.specs.declared.scenario.Scenario.{Scenario}
 use Rattle.mq_history.specs.declared.story.ManagerPlaces.{ManagerPlaces}
 use Rattle.mq_nodes.specs.Texts.{AllFit, StepFits}
 use Rattle.mq_calls.specs.State.{Plain}
-use Rattle.mq_spec_node.specs.Node.{Node}
 use Rattle.mq_spec_node.specs.Replays.{after, opening_node}
 use Rattle.mq_spec_network.specs.Given.{surroundings}
 use Rattle.mq_spec_network.specs.Ledger.{Ledger, Users, ledger}
 use Rattle.mq_spec_network.specs.Promised.{Premises}
 use Rattle.mq_spec_network.specs.Standing.{managers_from, node_after, opening_ledger, opening_managers, places_of}
-use Rattle.mq_spec_network.specs.Story.{Line, entries_at}
 use Rattle.mq_spec_network.specs.Turns.{Network}
 use Rattle.mq_spec_network.specs.Lawful.{network_begun}
 use Rattle.mq_law_events.specs.Tied.{IsTold}
