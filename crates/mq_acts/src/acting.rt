@@ -53,7 +53,6 @@ fn act_as<D: Disk>(node: &mut Node<D>, actor: Actor, asked: Act) -> Result<Acted
 /// # Errors
 ///
 /// No memory; nothing has changed.
-#[tactic(auto, using(crate::proofs::OwnLaws::own_acted))]
 pub fn act<D: Disk>(node: &mut Node<D>, actor: Actor, asked: Act) -> Result<Acted, NoMemory>
     requires served { IsServed node.old }
     requires may { MayAct node.old }

@@ -56,7 +56,7 @@ fn ask_act<D: Disk>(node: &mut Node<D>, actor: Actor, asked: Call) -> Result<boo
 /// # Errors
 ///
 /// No memory; nothing has changed.
-#[tactic(auto, using(crate::proofs::AskLaws::mqi_comes, crate::proofs::AskLaws::mqi_is, crate::proofs::AskLaws::mqi_own))]
+#[tactic(auto, using(crate::proofs::AskLaws::mqi_comes, crate::proofs::AskLaws::mqi_is))]
 fn ask_mqi<D: Disk>(node: &mut Node<D>, actor: Actor, asked: Call) -> Result<bool, NoMemory>
     requires served { IsServed node.old }
     requires may { MayAct node.old }

@@ -26,7 +26,6 @@ fn serve_all<D: Disk>(node: &mut Node<D>) -> Result<(), NoMemory>
 /// # Errors
 ///
 /// No memory; the turns before stand, and the trigger stays due.
-#[tactic(auto, using(crate::proofs::OwnLaws::own_served))]
 pub fn serve<D: Disk>(node: &mut Node<D>) -> Result<(), NoMemory>
     ensures turns { Serves node.old node.new }
     ensures done { OnOk result (IsDone node.new) }

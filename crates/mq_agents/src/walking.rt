@@ -1,12 +1,14 @@
 //! Walks over the rows of one queue.
-ghost use Rattle.std.specs.Prelude.{◌≡◌, ◌&&◌, find, nat_lt, length, filter, option_copied};
+ghost use Rattle.std.specs.Prelude.{◌≡◌, ◌++◌, ◌&&◌, find, nat_lt, length, filter, take, option_copied, OnOk};
 ghost use Rattle.std.specs.List.{list_any};
 ghost use Rattle.mq_queue.specs.declared.row.Row.{Row};
 ghost use Rattle.mq_queue.specs.Rows.{is_free};
 ghost use Rattle.mq_calls.specs.Reads.{is_by_other, is_past};
+ghost use Rattle.mq_place.specs.States.{held_on};
 ghost use Rattle.mq_agents.specs.Ends.{is_free_past};
 
-use mq_base::ChName;
+use mq_base::{ChName, Items, NoMemory};
+use mq_calls::Remove;
 use mq_message::Holder;
 use mq_place::LocalRows;
 use mq_queue::{Queue, Row};
@@ -69,6 +71,34 @@ pub(crate) fn has_held_by_other<Q: Queue + Drop>(local: &LocalRows<Q>, channel: 
     true
 }
 
+/// Adds the first rows that a holder has, at most so many, in order of place, and walks to the last of them. After a refusal some may be
+/// there.
+pub(crate) fn first_held<Q: Queue + Drop>(
+    local: &LocalRows<Q>,
+    by: &Holder,
+    most: usize,
+    rows: &mut Items<Remove>,
+) -> Result<(), NoMemory>
+    ensures { OnOk result (rows.new ≡ rows.old ++ take most (held_on by.now local.now.queue)) }
+{
+    let _len = local.len();
+    let mut after = None;
+    for seen in 0..most {
+        let Some(row) = local.held_after(by, after) else {
+            return Ok(());
+        };
+        let named = Remove {
+            queue: *local.name(),
+            ident: row.message.ident,
+        };
+        if rows.push(named).is_err() {
+            return Err(NoMemory);
+        }
+        after = Some(row.place);
+    }
+    Ok(())
+}
+
 /// The first free row that has expired.
 fn row_past<'a, Q: Queue + Drop>(local: &'a LocalRows<Q>, moment: u64) -> Option<&'a Row>
     ensures { option_copied result ≡ find (is_free_past moment) local.now.queue.rows }
@@ -86,10 +116,13 @@ fn row_past<'a, Q: Queue + Drop>(local: &'a LocalRows<Q>, moment: u64) -> Option
     None
 }
 
-/// Whether a free row has expired. It walks to the first.
+/// Whether a free row has expired. It walks to the first, where a message on the queue may have expired.
 pub(crate) fn has_past<Q: Queue + Drop>(local: &LocalRows<Q>, moment: u64) -> bool
     ensures { result ≡ nat_lt 0 (length (filter (λ (row : Row). is_past moment row.message.deadline) (filter is_free local.now.queue.rows))) }
 {
+    if !local.may_be_past(moment) {
+        return false;
+    }
     let Some(_row) = row_past(local, moment) else {
         return false;
     };

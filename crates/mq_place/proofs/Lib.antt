@@ -12,3 +12,4 @@ pub mod HomeLaws
 pub mod KeyLaws
 pub mod HeldLaws
 pub mod DueLaws
+pub mod DeadlineLaws

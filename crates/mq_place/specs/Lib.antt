@@ -3,3 +3,4 @@ pub mod Slots
 pub mod Homes
 pub mod Held
 pub mod Due
+pub mod Deadlines

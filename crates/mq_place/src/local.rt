@@ -1,9 +1,10 @@
 //! One local queue: its rows, how many uncommitted puts wait for it, its triggers due.
-ghost use Rattle.std.specs.Prelude.{◌≡◌, ◌++◌, ◌+◌, ◌^◌, ◌<◌, [], OnOk, OnErr, length, option_copied, find, Some, nat_lt, not};
+ghost use Rattle.std.specs.Prelude.{◌≡◌, ◌++◌, ◌+◌, ◌^◌, ◌<◌, [], OnOk, OnErr, length, option_copied, find, Some, nat_lt, not, false};
 ghost use Rattle.std.specs.List.{list_any};
 ghost use Rattle.mq_queue.specs.Rows.{is_after, is_free, has_ident, keep, retag};
 ghost use Rattle.mq_queue.specs.Queues.{IsQueue, count_waiting, message_of, is_takable, is_at, is_free_one, is_held_one, hold_row, release_row, has_other_ident, is_lasting, unit_freed};
 ghost use Rattle.mq_calls.specs.Changes.{made_due, forgotten};
+ghost use Rattle.mq_place.specs.Deadlines.{AreLater, NonePast, sooner};
 ghost use Rattle.mq_place.specs.States.{is_free_after, free_idents, on_queue, on_rows, hold_each, release_each, served, switched_on, fresh_state, expecting, unpended, arrived, with_lanes, depth_of, size_of, CanPlace, IsCounted};
 
 use mq_base::{Items, NoMemory, QName};
@@ -27,12 +28,15 @@ pub struct LocalRows<Q: Queue + Drop> {
     last_due: Option<u64>,
     /// Whether it counts as NOTRIGGER.
     switched_off: bool,
+    /// No message on it has a deadline before this one, in milliseconds; where there is none, no message has one.
+    soonest: Option<u64>,
 }
 
 impl<Q: Queue + Drop> Model for LocalRows<Q> {
     ghost use Rattle.std.specs.Prelude.{◌≤◌, ◌+◌, ◌<◌, ◌^◌, length};
     ghost use Rattle.mq_queue.specs.Queues.{IsQueue};
     ghost use Rattle.mq_place.specs.States.{QueueState};
+    ghost use Rattle.mq_place.specs.Deadlines.{AreLater};
 
     ghost Value = { QueueState };
 
@@ -42,7 +46,20 @@ impl<Q: Queue + Drop> Model for LocalRows<Q> {
       pending = l.pending;
     } };
 
-    ghost invariant = { λ l. IsQueue (Q.rows l.queue) (Q.arrivals l.queue) × (l.pending ≤ Q.room l.queue) × (length (Q.rows l.queue) + l.pending < 2 ^ 64) };
+    ghost invariant = { λ l. (IsQueue (Q.rows l.queue) (Q.arrivals l.queue) × (l.pending ≤ Q.room l.queue) × (length (Q.rows l.queue) + l.pending < 2 ^ 64)) × AreLater l.soonest (Q.rows l.queue) };
+}
+
+/// The soonest deadline, with one deadline more.
+fn sooner(soonest: Option<u64>, deadline: Option<u64>) -> Option<u64>
+    ensures { result ≡ sooner soonest deadline }
+{
+    let Some(moment) = deadline else {
+        return soonest;
+    };
+    match soonest {
+        None => Some(moment),
+        Some(least) => Some(least.min(moment)),
+    }
 }
 
 fn has_ident(row: &Row, ident: &Ident) -> bool
@@ -63,6 +80,7 @@ impl<Q: Queue + Drop> LocalRows<Q> {
             due: 0,
             last_due: None,
             switched_off: false,
+            soonest: None,
         }
     }
 
@@ -136,6 +154,26 @@ impl<Q: Queue + Drop> LocalRows<Q> {
         ensures { result ≡ self.now.queue.switched_off }
     {
         self.switched_off
+    }
+
+    /// Whether a message on it may have expired at a moment; none has where the answer is no. It looks at no row.
+    pub fn may_be_past(&self, moment: u64) -> bool
+        ensures { result ≡ false → NonePast moment self.now.queue.rows }
+    {
+        match self.soonest {
+            None => false,
+            Some(soonest) => soonest <= moment,
+        }
+    }
+
+    // No message has a sooner deadline; where no message stands, none has one.
+    fn soonest_now(&self) -> Option<u64>
+        ensures { AreLater result self.now.queue.rows }
+    {
+        if self.queue.len() == 0 {
+            return None;
+        }
+        self.soonest
     }
 
     /// The first free row above `after` that has the ids asked for.
@@ -242,6 +280,8 @@ impl<Q: Queue + Drop> LocalRows<Q> {
         requires { CanPlace message self.old }
         ensures { self.new ≡ arrived message self.old }
     {
+        let soonest = self.soonest_now();
+        self.soonest = sooner(soonest, message.deadline);
         self.pending -= 1;
         self.queue.insert(message);
     }

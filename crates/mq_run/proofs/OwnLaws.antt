@@ -1,11 +1,9 @@
 -- No restart of a run over disks that tell their bytes read a log that was changed from outside.
 use Rattle.std.proofs.Common.{◌≡◌, sym, subst}
 use Rattle.std.specs.Prelude.{IfSome, Option, Some, option_map}
-use Rattle.mq_history.specs.declared.history.History.{History}
 use Rattle.mq_spec_node.specs.Replays.{NoneForeign}
 use Rattle.mq_spec_network.specs.Lawful.{AreOwn}
 use Rattle.mq_law_ran.specs.Promises.{RestartsAreOwn}
-use Rattle.mq_law_ran.specs.Runs.{Left}
 use Rattle.mq_world.specs.Starting.{IsFresh}
 use Rattle.mq_world.specs.Words.{RestState}
 use Rattle.mq_run.specs.Leaves.{left_of}

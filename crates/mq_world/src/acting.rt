@@ -82,7 +82,7 @@ fn last_cut(entries: &[Entry]) -> bool
 }
 
 /// The operator restarts a manager: whether an armed cut stopped that.
-#[tactic(auto, using(crate::proofs::NodeLaws::none_done, crate::proofs::NodeLaws::restarts_then, crate::proofs::OwnLaws::restart_settled))]
+#[tactic(auto, using(crate::proofs::NodeLaws::none_done, crate::proofs::NodeLaws::restarts_then))]
 pub fn restart_on<D: Disk>(node: &mut Node<D>, manager: u16) -> Result<bool, Stop>
     requires served { words.IsServed node.old }
     requires may { words.MayAct node.old }

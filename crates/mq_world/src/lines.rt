@@ -11,7 +11,7 @@ use mq_nodes::{Advanced, Stop};
 use mq_progress::Progress;
 
 /// Does a script's next line at the node of a manager, unless its get is to wait, or no line is left.
-#[tactic(auto, using(crate::proofs::NodeLaws::line_then, crate::proofs::OwnLaws::line_settled))]
+#[tactic(auto, using(crate::proofs::NodeLaws::line_then))]
 pub fn advance_on<D: Disk>(
     node: &mut Node<D>,
     manager: u16,

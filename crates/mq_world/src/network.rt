@@ -97,7 +97,6 @@ impl<D: Disk> Network<D> {
 
     /// The nodes come to rest; what lies on the cables is lost. Over disks that tell their bytes, no restart read a log that was
     /// changed from outside. It takes no memory.
-    #[tactic(auto, using(crate::proofs::OwnLaws::rests_own))]
     pub fn rest(self) -> Rested<D>
         ensures rests { result ≡ words.rest_of self.scenario self.nodes }
         ensures own { D.tells → words.AreOwn result.histories }
