@@ -19,7 +19,6 @@ use Rattle.mq_calls.specs.declared.commands.ScRefusal.TheVariants as refusals
 use Rattle.mq_core.specs.Values.{CoreValue}
 use Rattle.mq_disk.specs.declared.cutter.Stop.TheVariants as stops
 use Rattle.mq_ending.specs.declared.verdict.BadLog.{BadLog}
-use Rattle.mq_ending.specs.declared.verdict.Verdict.{Verdict}
 use Rattle.mq_ending.specs.declared.verdict.Verdict.TheVariants as verdicts
 use Rattle.mq_ending.specs.Verdicts.{acted_disk, any_disk, by_conflict, by_disk, by_log, first_bad, op_disk, sc_disk, start_disk, tells_disk, verdict}
 use Rattle.mq_history.specs.declared.acts.Acted.{Acted}
@@ -40,7 +39,7 @@ use Rattle.mq_world.specs.Resting.{AreRisen, IsRisen, counts_in, faults_in}
 use Rattle.mq_world.specs.Starting.{IsFresh}
 use Rattle.mq_world.specs.Words.{Began, IsRested, RestState}
 use Rattle.mq_run.specs.declared.reporting.Form.{Form}
-use Rattle.mq_run.specs.Ends.{HasEnded, LeftEnds, NoneEnds, RunEnds}
+use Rattle.mq_run.specs.Ends.{LeftEnds, NoneEnds, RunEnds}
 use Rattle.mq_run.specs.Leaves.{DiskRose, OneRose, left_of}
 use Rattle.mq_run.specs.declared.status.Status.{Status}
 use Rattle.mq_run.specs.declared.status.Status.TheVariants as status
@@ -177,11 +176,11 @@ reply_told (replies.Stopped stops.Cut) s e = absurd cc
 -- a line of the story
 line_told : (story : List Line) → any_disk story ≡ true → (x : Line) × Mem x story × (tells_disk x.entry.reply ≡ true)
 line_told [] e = absurd cc
-line_told (x ∷ xs) e = first (tells_disk x.entry.reply) refl e
+line_told (x ∷ xs) e = first (tells_disk x.entry.reply) refl e (line_told xs)
   where
-    first : (b : Bool) → tells_disk x.entry.reply ≡ b → (b || any_disk xs) ≡ true → (y : Line) × Mem y (x ∷ xs) × (tells_disk y.entry.reply ≡ true)
-    first true is t = (x, inl refl, is)
-    first false is t = let k = line_told xs t in (k.0, inr k.1, k.2)
+    first : (b : Bool) → tells_disk x.entry.reply ≡ b → (b || any_disk xs) ≡ true → (any_disk xs ≡ true → (z : Line) × Mem z xs × (tells_disk z.entry.reply ≡ true)) → (y : Line) × Mem y (x ∷ xs) × (tells_disk y.entry.reply ≡ true)
+    first true is t rest = (x, inl refl, is)
+    first false is t rest = let k = rest t in (k.0, inr k.1, k.2)
 
 log_whole : (o : Option BadLog) → verdicts.DiskFault ≡ by_log o → ⊥
 log_whole None e = absurd cc

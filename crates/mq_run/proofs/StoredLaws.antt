@@ -1,7 +1,6 @@
 -- No reply that a history stores says that a command was refused for its disk: one whose write is stopped is told as stopped.
-use Rattle.std.proofs.Common.{◌≡◌, ◌-◌, ℕ, Bool, true, false, List, [], ◌∷◌, refl, sym, subst, inl, inr}
-use Rattle.std.specs.Prelude.{Option, Some, None, Result, Ok, Err, not, ◌&&◌, ◌||◌, if◌then◌else◌, slice_get}
-use Rattle.mq_disk.specs.declared.cutter.Stop.TheVariants as stops
+use Rattle.std.proofs.Common.{◌-◌, ℕ, Bool, true, false, List, [], ◌∷◌, sym, subst, inl, inr}
+use Rattle.std.specs.Prelude.{Option, Some, None, not, if◌then◌else◌, slice_get}
 use Rattle.mq_calls.specs.declared.choices.Choice.{Choice}
 use Rattle.mq_calls.specs.declared.choices.Choice.TheVariants.{Runs, NoMemory, Stopped}
 use Rattle.mq_calls.specs.declared.answers.Answer.{Answer}
@@ -44,7 +43,7 @@ use Rattle.mq_spec_node.specs.Terms.{Action, Actor, Answered, Broken, Call, Down
 use Rattle.mq_spec_node.specs.Node.{ChannelEnd, ReceiverEnd, SenderEnd, handler_in, receiver_end, sender_end, sender_named, with_end}
 use Rattle.mq_spec_node.specs.Node.ChannelEnd.{Receives, Sends}
 use Rattle.mq_spec_node.specs.Handlers as letters
-use Rattle.mq_spec_node.specs.Words.{Deed, Done, Handler, Node, Own, Tells, Follows, choice_event, command_deed, crash_reply, done, done_by, end_here, ended_deed, event, failed_of, get_deed, handler_on, handler_row, handler_turn, in_force, input_queue, is_bad_number, is_in_doubt, is_readable, limits_here, moved, mqi_deed, next_letter, obey_deed, operate, operate_up, operated, parts_of, place_deed, prepare_deed, receiver_deed_by, receiver_turn, reset_end, resolve_doubt, resolve_end, restart_event, restarted_as, rule_in_force, ruled, sender_deed_by, sender_turn, shown, start_end, start_seized, stop_end, tested, timeout_by, timeout_of, told, trigger_deed_of, tries_of, turn_up, wanted, where_up}
+use Rattle.mq_spec_node.specs.Words.{Deed, Handler, Node, Own, Tells, Follows, choice_event, command_deed, crash_reply, done, done_by, end_here, ended_deed, event, failed_of, get_deed, handler_on, handler_row, handler_turn, in_force, input_queue, is_bad_number, is_in_doubt, is_readable, limits_here, moved, mqi_deed, next_letter, obey_deed, operate, operate_up, operated, parts_of, place_deed, prepare_deed, receiver_deed_by, receiver_turn, reset_end, resolve_doubt, resolve_end, restart_event, restarted_as, rule_in_force, ruled, sender_deed_by, sender_turn, shown, start_end, start_seized, stop_end, tested, timeout_by, timeout_of, told, trigger_deed_of, tries_of, turn_up, wanted, where_up}
 use Rattle.mq_run.proofs.CommandLaws.{ScStored, StepStored, command_stored}
 
 abbrev OpStored : OpRefusal → Type 0

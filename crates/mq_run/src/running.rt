@@ -64,7 +64,7 @@ struct Done<D: Disk> {
 }
 
 /// Does the steps of a scenario over its managers, and restarts last those that are down.
-#[tactic(auto, using(crate::proofs::JoinLaws::ran_none, crate::proofs::RunLaws::steps_ran, crate::proofs::RunLaws::steps_end, crate::proofs::DiskLaws::fresh_risen))]
+#[tactic(auto, using(crate::proofs::JoinLaws::ran_none, crate::proofs::RunLaws::steps_ran, crate::proofs::RunLaws::steps_end))]
 fn do_steps<D: Disk>(alloc: Global, scenario: &Scenario, rested: Rested<D>) -> Done<D>
     requires scenario { words.IsScenario scenario.now }
     requires same { rested.scenario ≡ scenario.now }

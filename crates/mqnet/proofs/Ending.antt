@@ -27,7 +27,7 @@ use Rattle.mq_run.specs.Ends.{LeftEnds, NoneEnds, RunEnds, RunLeaves}
 use Rattle.mq_run.specs.Words.{GotOnce, IsPromised, IsTextCommand, Left, OrderKept, RestartsAreOwn, RowsAreLedgers, StandOnce}
 use Rattle.mq_run.proofs.Promising as promising
 use Rattle.mq_soak.specs.Soak.{soak}
-use Rattle.mq_soak.proofs.Soaks.{is_scenario as is_soak}
+use Rattle.mq_soak.proofs.Soaks as soaks
 use Rattle.mq_run.specs.declared.reporting.Form.{Form}
 use Rattle.mq_run.specs.declared.reporting.Form.TheVariants as forms
 use Rattle.mqnet.specs.declared.top.Purpose.{Purpose}
@@ -131,17 +131,17 @@ early_ends left tells held start before now old new purposes.Check st net counts
 none_of : (P : Left → Type 0) (net : Option Left) → net ≡ None → IfSome net P
 none_of P net e = subst (λ (x : Option Left). IfSome x P) (sym e) tt
 
--- a scenario that was read keeps to what is meant by one
-is_scenario : (left : Option (List ℕ)) (s : Scenario) → IsRead left s → IsScenario s
-is_scenario left s r = text_kept r.bytes s (text_found r.bytes s r.text)
+-- the commands of a large run
+soak_texts : (n : ℕ) → AllFit IsTextCommand (soak n)
+soak_texts n = soaks.all_fit IsTextCommand (λ c h. h) (λ op. tt) n
 
 ran_of : (P : Left → Type 0) (left : Option (List ℕ)) (tells : Type 0) (held : List ℕ → List ℕ → Type 0) (start before now : ℕ) (old new : Option (List ℕ)) (st : Status) (net : Option Left) (counts : List ℕ)
-    → ((l : Left) → (s : Scenario) → IsScenario s → RunLeaves tells held start s counts l → P l) → RanScenario left tells held start before now old new st net counts → IfSome net P
+    → ((l : Left) → (s : Scenario) → IsScenario s → AllFit IsTextCommand s → RunLeaves tells held start s counts l → P l) → RanScenario left tells held start before now old new st net counts → IfSome net P
 ran_of P left tells held start before now old new st None counts f r = tt
-ran_of P left tells held start before now old new st (Some l) counts f r = f l r.scenario (is_scenario left r.scenario r.read) r.ended.0
+ran_of P left tells held start before now old new st (Some l) counts f r = let here = fits r.read.bytes r.scenario r.read.text in f l r.scenario here.0 here.1 r.ended.0
 
 pub promised_of : (P : Left → Type 0) (asked : Option Task) (left : Option (List ℕ)) (tells : Type 0) (held : List ℕ → List ℕ → Type 0) (start before now : ℕ) (old new : Option (List ℕ)) (st : Status) (net : Option Left) (counts : List ℕ)
-    → ((l : Left) → (s : Scenario) → IsScenario s → RunLeaves tells held start s counts l → P l) → Ends asked left tells held start before now old new st net counts → IfSome net P
+    → ((l : Left) → (s : Scenario) → IsScenario s → AllFit IsTextCommand s → RunLeaves tells held start s counts l → P l) → Ends asked left tells held start before now old new st net counts → IfSome net P
 promised_of P None left tells held start before now old new st net counts f e = none_of P net e.1.network
 promised_of P (Some (tasks.Read purposes.Run)) left tells held start before now old new st net counts f (inl e) = none_of P net e.1.network
 promised_of P (Some (tasks.Read purposes.Run)) left tells held start before now old new st net counts f (inr r) = ran_of P left tells held start before now old new st net counts f r
@@ -149,31 +149,31 @@ promised_of P (Some (tasks.Read purposes.Check)) left tells held start before no
 promised_of P (Some (tasks.Read purposes.Check)) left tells held start before now old new st net counts f (inr e) = none_of P net e.0
 promised_of P (Some (tasks.Soak n)) left tells held start before now old new st net counts f (few, inl e) = none_of P net e.1.network
 promised_of P (Some (tasks.Soak n)) left tells held start before now old new st None counts f (few, inr e) = tt
-promised_of P (Some (tasks.Soak n)) left tells held start before now old new st (Some l) counts f (few, inr e) = f l (soak n) (is_soak n few) e.0
+promised_of P (Some (tasks.Soak n)) left tells held start before now old new st (Some l) counts f (few, inr e) = f l (soak n) (soaks.is_scenario n few) (soak_texts n) e.0
 
 pub own_of : (asked : Option Task) (left : Option (List ℕ)) (tells : Type 0) (held : List ℕ → List ℕ → Type 0) (start before now : ℕ) (old new : Option (List ℕ)) (st : Status) (net : Option Left) (counts : List ℕ)
     → Ends asked left tells held start before now old new st net counts → IfSome net (RestartsAreOwn tells)
-own_of asked left tells held start before now old new st net counts e = promised_of (RestartsAreOwn tells) asked left tells held start before now old new st net counts (λ l s r h. h.own) e
+own_of asked left tells held start before now old new st net counts e = promised_of (RestartsAreOwn tells) asked left tells held start before now old new st net counts (λ l s r k h. h.own) e
 
 pub rows_of : (asked : Option Task) (left : Option (List ℕ)) (tells : Type 0) (held : List ℕ → List ℕ → Type 0) (start before now : ℕ) (old new : Option (List ℕ)) (st : Status) (net : Option Left) (counts : List ℕ)
     → Ends asked left tells held start before now old new st net counts → IfSome net (IsPromised tells RowsAreLedgers)
 rows_of asked left tells held start before now old new st net counts e = promised_of (IsPromised tells RowsAreLedgers) asked left tells held start before now old new st net counts
-    (λ l s r h. promising.rows tells held start s counts l r h) e
+    (λ l s r k h. promising.rows tells held start s counts l r h) e
 
 pub once_of : (asked : Option Task) (left : Option (List ℕ)) (tells : Type 0) (held : List ℕ → List ℕ → Type 0) (start before now : ℕ) (old new : Option (List ℕ)) (st : Status) (net : Option Left) (counts : List ℕ)
     → Ends asked left tells held start before now old new st net counts → IfSome net (IsPromised tells StandOnce)
 once_of asked left tells held start before now old new st net counts e = promised_of (IsPromised tells StandOnce) asked left tells held start before now old new st net counts
-    (λ l s r h. promising.once tells held start s counts l r h) e
+    (λ l s r k h. promising.once tells held start s counts l r h) e
 
 pub got_once_of : (asked : Option Task) (left : Option (List ℕ)) (tells : Type 0) (held : List ℕ → List ℕ → Type 0) (start before now : ℕ) (old new : Option (List ℕ)) (st : Status) (net : Option Left) (counts : List ℕ)
     → Ends asked left tells held start before now old new st net counts → IfSome net (IsPromised tells GotOnce)
 got_once_of asked left tells held start before now old new st net counts e = promised_of (IsPromised tells GotOnce) asked left tells held start before now old new st net counts
-    (λ l s r h. promising.got_once tells held start s counts l r h) e
+    (λ l s r k h. promising.got_once tells held start s counts l r h) e
 
 pub order_of : (asked : Option Task) (left : Option (List ℕ)) (tells : Type 0) (held : List ℕ → List ℕ → Type 0) (start before now : ℕ) (old new : Option (List ℕ)) (st : Status) (net : Option Left) (counts : List ℕ)
     → Ends asked left tells held start before now old new st net counts → IfSome net (IsPromised tells OrderKept)
 order_of asked left tells held start before now old new st net counts e = promised_of (IsPromised tells OrderKept) asked left tells held start before now old new st net counts
-    (λ l s r h. promising.order tells held start s counts l r h) e
+    (λ l s r k h. promising.order tells held start s counts l r h) e
 
 -- ---- completeness
 

@@ -9,3 +9,4 @@ pub use Rattle.mqnet.specs.declared.top.Task.TheVariants.{Read}
 pub use Rattle.mqnet.specs.Headline.{Completes, Ends, IsUnread, ReadNoScenario, RefusesBytes, SoakEnds, WasRead, Writes}
 pub use Rattle.mqnet.specs.Wanted.{number_task, soak_number, task_of, word_task}
 pub use Rattle.mqnet.specs.Work.{FitsTask, FitsWork, IsWork, RefusesText, WorkEnds}
+pub use Rattle.mq_law_rest.specs.Rests.{PumpsRest, PumpsTell}

@@ -287,7 +287,7 @@ fn obey_words<S: Source, K: Sink, H: Shelf>(
 /// the word `check` the scenario is read alone, and CHECK OK written; by the word `soak` and a number from 1 to 1000 the scenario of
 /// that number is run, which reads nothing and writes one line. `start` is the moment of its beginning in milliseconds since
 /// 1970; a moment above 253,300,000,000,000 is taken as that number.
-#[tactic(auto, using(crate::proofs::Ending::own_of, crate::proofs::Ending::rows_of, crate::proofs::Ending::once_of, crate::proofs::Ending::got_once_of, crate::proofs::Ending::order_of, crate::proofs::Ending::bad_words, crate::proofs::Ending::completes, crate::proofs::Disks::disk_of))]
+#[tactic(auto, using(crate::proofs::Ending::own_of, crate::proofs::Ending::rows_of, crate::proofs::Ending::once_of, crate::proofs::Ending::got_once_of, crate::proofs::Ending::order_of, crate::proofs::Resting::told_of_pumps, crate::proofs::Resting::rest_of_pumps, crate::proofs::Ending::bad_words, crate::proofs::Ending::completes, crate::proofs::Disks::disk_of))]
 pub fn mqnet<S: Source, K: Sink, H: Shelf>(
     alloc: Global,
     words: &[String],
@@ -311,6 +311,12 @@ pub fn mqnet<S: Source, K: Sink, H: Shelf>(
     ensures got_once { IfSome (option_map terms.left_of result.network) (terms.IsPromised H.D.tells terms.GotOnce) }
     // and each receiver's commit keeps the order of its queue.
     ensures order { IfSome (option_map terms.left_of result.network) (terms.IsPromised H.D.tells terms.OrderKept) }
+    // Each PUMP that was done whole ended idle exactly where nothing can change behind it; it took no more turns and timeouts than it was given, and
+    // just as many where it did not end idle.
+    ensures pumps { IfSome (option_map terms.left_of result.network) terms.PumpsTell }
+    // Where the logs belong together and no restart read a log that was changed from outside: each PUMP that was done whole ended idle, if it had as
+    // many turns as 16 per row on the transmission queue of a running sender, 16 per channel and 3 per item on a cable (and what `IsEnough` asks).
+    ensures rest { IfSome (option_map terms.left_of result.network) (terms.IsPromised H.D.tells terms.PumpsRest) }
     ensures bad_words { result.status ≡ terms.BadWords ↔ (terms.task_of (map string_bytes words.now) ≡ None) }
     ensures bad_scenario { (line : ℕ) (cause : terms.BadCause) → result.status ≡ terms.BadScenario line cause → terms.ReadNoScenario (S.left source.old) line cause }
     ensures read_fault { result.status ≡ terms.ReadFault → terms.Rose (S.faults source.old) (S.faults source.new) }
