@@ -162,8 +162,8 @@ pub monitor_own : (w v : NetState) (k : ℕ) (r : Result Monitored Stop) → IsN
 monitor_own w v k r h lt told = let l = there w.scenario.monitors k lt in turned w v k l.0 r h (told l.0 l.1)
 
 -- A step's end.
-pub marked_own : (w v : NetState) (idle : Bool) → course_in v ≡ noted idle (course_in w) → StaysOwnIn w v
-marked_own w v idle e = stays_in w v (λ own m. subst NoneForeign (sym (ap (λ (c : Course). c.net.done m) e)) (own m))
+pub marked_own : (w v : NetState) (idle : Bool) → IsNetwork v → course_in v ≡ noted idle (course_in w) → StaysOwnIn w v
+marked_own w v idle k e = stays_in w v (λ own m. subst NoneForeign (sym (ap (λ (c : Course). c.net.done m) e)) (own m))
 
 -- A restart, or a script's line, says it of its own node.
 set_own : (hs : List History) (i : ℕ) (g new : History) → slice_get hs i ≡ Some g → StaysOwn g.entries new.entries → AreOwn hs → AreOwn (slice_set hs i new)

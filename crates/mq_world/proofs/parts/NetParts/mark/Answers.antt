@@ -26,4 +26,4 @@ returns-clause-long g c =
     ∙ long_map (marked c.args.idle) c.args.self.now.nodes
 
 pub returns-clause-own : goal.returns-clause-own
-returns-clause-own g c = λ is. marked_own c.args.self.now _ c.args.idle (returns-clause-noted g c)
+returns-clause-own g c = λ is. marked_own c.args.self.now _ c.args.idle (returns-clause-kept g c) (returns-clause-noted g c)
