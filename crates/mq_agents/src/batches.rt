@@ -15,7 +15,7 @@ use mq_calls::{Batch, Did};
 use mq_core::{Core, Parts};
 use mq_disk::Disk;
 use mq_message::{Holder, Ident};
-use mq_sides::set_side;
+use mq_sides::{KeptBatch, set_side};
 use mq_sync::Unit;
 use mq_unit::Effects;
 
@@ -68,14 +68,18 @@ fn copy_idents<D: Disk>(parts: &Parts<D>, idents: &[Ident]) -> Result<Items<Iden
     }
 }
 
-/// A batch holds these rows.
+/// A batch holds these rows, and has the room for its release.
 fn put_batch<D: Disk>(parts: &mut Parts<D>, batch: Batch, idents: &[Ident]) -> Result<(), NoMemory>
     ensures ok { OnOk result (parts.new ≡ batch_held batch idents.now parts.old) }
     ensures err { OnErr result (parts.new ≡ parts.old) }
 {
     let queue = batch.queue;
     let by = Holder::Batch(batch.channel);
-    match set_side(&mut parts.ends.batches, batch) {
+    let kept = match KeptBatch::new(parts.alloc, batch) {
+        Ok(kept) => kept,
+        Err(NoMemory) => return Err(NoMemory),
+    };
+    match set_side(&mut parts.ends.batches, kept) {
         Ok(()) => {}
         Err(NoMemory) => return Err(NoMemory),
     }

@@ -1,16 +1,17 @@
 //! The parts of a queue manager, as its code keeps them.
 use mq_base::{ChName, Items, QName};
-use mq_calls::{Batch, Note, ReceiverSide, Remove, Seizure, SenderSide, Why};
+use mq_calls::{Note, ReceiverSide, Remove, Seizure, SenderSide, Why};
 use mq_codes::Reason;
 use mq_disk::Disk;
 use mq_handles::Live;
+use mq_index::IndexedQueue;
 use mq_log::Log;
 use mq_message::{Dest, Ident, Message};
 use mq_objects::Defs;
 use mq_place::Queues;
-use mq_queue::PlainQueue;
 use mq_record::Buffer;
 use mq_sc_apply::Planned;
+use mq_sides::KeptBatch;
 use mq_sync::Unit;
 use std::alloc::Global;
 use std::marker::Model;
@@ -122,8 +123,8 @@ pub struct ChannelEnds {
     pub receivers: Items<ReceiverSide>,
     /// The sender channels that run, and the queue that each reads.
     pub seizures: Items<Seizure>,
-    /// The rows that a sender channel holds for a batch that is not prepared.
-    pub batches: Items<Batch>,
+    /// The rows that a sender channel holds for a batch that is not prepared, with room for its release.
+    pub batches: Items<KeptBatch>,
     /// The receiver channels that run.
     pub bound: Items<ChName>,
 }
@@ -143,7 +144,7 @@ pub struct Parts<D: Disk> {
     /// Its objects.
     pub defs: Defs,
     /// Its local queues by name, with the puts that wait for them.
-    pub queues: Queues<PlainQueue>,
+    pub queues: Queues<IndexedQueue>,
     /// Its live connections by number, and who uses a queue.
     pub live: Live,
     /// What channel ends have here.

@@ -165,9 +165,9 @@ module _ (v new : ManagerValue) (w : IsWell v.plain) (up : IsUp v.plain) where
   well_hold channel unit most result can m = let p : Plain = v.plain in
       well_at Anywhere v new (hold_batch channel unit most p) result m w up (λ h. joined (hold_batch channel unit most p) p h (hold_batch_keeps channel unit most p can h.facts) (hold_stocked channel unit most p h.stocked)) (w.limit, tt)
 
-  pub well_release : (channel : List ℕ) (result : Result (Unit {0}) (Halt Never)) → MeetsOrWants v (release_batch channel v.plain) result new → IsWell new.plain
+  pub well_release : (channel : List ℕ) (result : Result (Unit {0}) (Halt Never)) → MeetsInRoom v (release_batch channel v.plain) result new → IsWell new.plain
   well_release channel result m = let p : Plain = v.plain in
-      well_at Anywhere v new (release_batch channel p) result m w up (λ h. joined (release_batch channel p) p h (release_batch_keeps channel p h.facts) (release_stocked channel p h.facts h.stocked))
+      well_at Nowhere v new (release_batch channel p) result m w up (λ h. joined (release_batch channel p) p h (release_batch_keeps channel p h.facts) (release_stocked channel p h.facts h.stocked))
       (release_limit channel (batch_of channel p.channels.batches) p w.limit)
 
   pub well_prepare : (channel : List ℕ) (last : ℕ) (result : Result (Unit {0}) (Halt PrepareFault)) → MeetsOrWants v (prepare channel last v.plain) result new → IsWell new.plain

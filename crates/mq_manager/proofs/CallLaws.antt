@@ -114,8 +114,8 @@ module _ (tells : Type 0) (read : LogRead) (v new : CoreValue) (k : IsKept tells
   pub kept_hold : (channel : List ℕ) (unit : Luw) (most : ℕ) (result : Result ℕ (Halt Never)) → CanHold channel v.plain → MeetsOrWants (manager_of v) (hold_batch channel unit most v.plain) result (manager_of new) → WritesLog v (hold_batch channel unit most v.plain) result new → IsKept tells read new
   kept_hold channel unit most result can m w = kept_at Anywhere (hold_batch channel unit most v.plain) result m w (λ s. hold_harmless channel unit most v.plain can) (hold_can channel unit most v.plain) (well_hold (manager_of v) (manager_of new) k.well up channel unit most result can m)
 
-  pub kept_release : (channel : List ℕ) (result : Result (Unit {0}) (Halt Never)) → MeetsOrWants (manager_of v) (release_batch channel v.plain) result (manager_of new) → WritesLog v (release_batch channel v.plain) result new → IsKept tells read new
-  kept_release channel result m w = kept_at Anywhere (release_batch channel v.plain) result m w (λ s. release_harmless channel v.plain) (release_can channel v.plain) (well_release (manager_of v) (manager_of new) k.well up channel result m)
+  pub kept_release : (channel : List ℕ) (result : Result (Unit {0}) (Halt Never)) → MeetsInRoom (manager_of v) (release_batch channel v.plain) result (manager_of new) → WritesLog v (release_batch channel v.plain) result new → IsKept tells read new
+  kept_release channel result m w = kept_at Nowhere (release_batch channel v.plain) result m w (λ s. release_harmless channel v.plain) (release_can channel v.plain) (well_release (manager_of v) (manager_of new) k.well up channel result m)
 
   pub kept_prepare : (channel : List ℕ) (last : ℕ) (result : Result (Unit {0}) (Halt PrepareFault)) → CanPrepare channel v.plain → 0 < length channel → MeetsOrWants (manager_of v) (prepare channel last v.plain) result (manager_of new) → WritesLog v (prepare channel last v.plain) result new → IsKept tells read new
   kept_prepare channel last result can named m w = kept_at Anywhere (prepare channel last v.plain) result m w (λ s. prepare_harmless_whole channel last v.plain can s) (prepare_can channel last v.plain named) (well_prepare (manager_of v) (manager_of new) k.well up channel last result m)

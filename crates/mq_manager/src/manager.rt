@@ -420,18 +420,14 @@ impl<D: Disk> Manager<D> {
         mq_agents::hold_batch(&mut self.core, channel, unit, most)
     }
 
-    /// A batch that is not prepared is released: its rows are free again, at their places, with no backout counted.
-    ///
-    /// # Errors
-    ///
-    /// No memory; nothing has changed.
-    pub fn release_batch(&mut self, channel: &ChName) -> Result<(), NoMemory>
+    /// A batch that is not prepared is released: its rows are free again, at their places, with no backout counted. It takes no memory.
+    pub fn release_batch(&mut self, channel: &ChName)
         requires up { IsUp self.old.plain }
         requires batch { HasBatch channel.now self.old.plain }
-        ensures meets { MeetsOrWants (manager_of self.old) (release_batch channel.now self.old.plain) (by_memory result) (manager_of self.new) }
-        ensures told { WritesLog self.old (release_batch channel.now self.old.plain) (by_memory result) self.new }
+        ensures meets { MeetsInRoom (manager_of self.old) (release_batch channel.now self.old.plain) (Ok tt) (manager_of self.new) }
+        ensures told { WritesLog self.old (release_batch channel.now self.old.plain) (Ok tt) self.new }
     {
-        mq_agents::release_batch(&mut self.core, channel)
+        mq_agents::release_batch(&mut self.core, channel);
     }
 
     /// The batch of a channel becomes its unit in doubt, behind a forced record: `NoRoom` exactly where the log has no room for it.

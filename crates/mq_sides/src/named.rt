@@ -2,6 +2,7 @@
 ghost use Rattle.std.specs.Prelude.{◌≡◌, option_copied, IfOk};
 ghost use Rattle.mq_calls.specs.Words.{batch_of, receiver_in, receiver_or, sender_or, seizure_of, sender_in};
 
+use crate::kept::KeptBatch;
 use crate::sides::side_of;
 use mq_base::{ChName, Items, NoMemory, QName};
 use mq_calls::{Batch, ReceiverSide, Seizure, SenderSide};
@@ -40,10 +41,13 @@ pub fn seizure_of<'a>(seizures: &'a Items<Seizure>, channel: &ChName) -> Option<
 
 /// The batch of a channel that is not prepared.
 #[tactic(auto, using(crate::proofs::PlaceLaws::batch_found))]
-pub fn batch_of<'a>(batches: &'a Items<Batch>, channel: &ChName) -> Option<&'a Batch>
+pub fn batch_of<'a>(batches: &'a Items<KeptBatch>, channel: &ChName) -> Option<&'a Batch>
     ensures { option_copied result ≡ batch_of channel.now batches.now }
 {
-    side_of(batches, channel)
+    match side_of(batches, channel) {
+        None => None,
+        Some(kept) => Some(kept.batch()),
+    }
 }
 
 fn copy_doubt(alloc: Global, doubt: &Option<InDoubt>) -> Result<Option<InDoubt>, NoMemory>

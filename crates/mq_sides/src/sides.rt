@@ -1,11 +1,13 @@
 //! Lists by channel: found, set and dropped by the channel's name.
 ghost use Rattle.std.specs.Prelude.{◌≡◌, ℕ, List, find, filter, not, option_copied, slice_get, length, ◌<◌, ◌≤◌, IfOk, OnOk, OnErr};
+ghost use Rattle.std.specs.List.{position};
 ghost use Rattle.std.specs.Str.{bytes_eq};
 ghost use Rattle.mq_calls.specs.Words.{comes_before, set_named};
 ghost use Rattle.mq_sides.specs.Places.{is_of, is_there, place_in, CanUndo, undone};
 
+use crate::kept::KeptBatch;
 use mq_base::{ChName, Items, NoMemory};
-use mq_calls::{Batch, ReceiverSide, Seizure, SenderSide};
+use mq_calls::{ReceiverSide, Seizure, SenderSide};
 use std::alloc::Global;
 
 /// What is kept for one channel.
@@ -42,11 +44,11 @@ impl OfChannel for Seizure {
     }
 }
 
-impl OfChannel for Batch {
+impl OfChannel for KeptBatch {
     ghost channel_of = { λ s. s.channel };
 
     fn channel(&self) -> &ChName {
-        &self.channel
+        &self.batch().channel
     }
 }
 
@@ -193,4 +195,29 @@ pub fn drop_side<T: OfChannel + Drop>(alloc: Global, items: &mut Items<T>, chann
     let mut values = std::mem::replace(items, Items::new(alloc)).into_vec();
     keep_others(&mut values, channel);
     *items = Items::from_vec(values);
+}
+
+// The first place of a value of the channel.
+fn place_of<T: OfChannel>(items: &[T], channel: &ChName) -> Option<usize>
+    ensures { result ≡ position (λ (x : T). bytes_eq channel.now (T.channel_of x)) items.now }
+{
+    items.iter().position(|x| *channel == *x.channel())
+}
+
+/// What is kept for a channel is taken out; the values of other channels stay. It takes no memory.
+#[tactic(auto, using(crate::proofs::TakeLaws::found_none, crate::proofs::TakeLaws::found_some, crate::proofs::TakeLaws::left_none, crate::proofs::TakeLaws::left_some))]
+pub fn take_side<T: OfChannel + Drop>(
+    alloc: Global,
+    items: &mut Items<T>,
+    channel: &ChName,
+) -> Option<T>
+    ensures value { result ≡ find (λ (x : T). bytes_eq channel.now (T.channel_of x)) items.old }
+    ensures rest { items.new ≡ filter (λ (x : T). not (bytes_eq channel.now (T.channel_of x))) items.old }
+{
+    let Some(place) = place_of(items.as_slice(), channel) else {
+        return None;
+    };
+    let side = items.remove(place);
+    drop_side(alloc, items, channel);
+    Some(side)
 }
