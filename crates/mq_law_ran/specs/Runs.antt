@@ -1,5 +1,7 @@
 -- What a run leaves of its managers: their histories, each from the log on its own disk.
 use Rattle.std.specs.Prelude.{◌≡◌, ℕ, suc, List, [], ◌∷◌, Some, Ok, length, slice_get}
+use Rattle.std.specs.List.{AllByRecursion}
+use Rattle.mq_frame.specs.Reading.{IsBytes}
 use Rattle.mq_history.specs.declared.history.History.{History}
 use Rattle.mq_history.specs.declared.scenario.CableLine.{CableLine}
 use Rattle.mq_history.specs.declared.scenario.ManagerLine.{ManagerLine}
@@ -43,6 +45,7 @@ pub record IsOpening (tells : Type 0) (holds : List ℕ → Type 0) (given : Sur
   pub begins : opening_node given h ≡ first_node given.given given.own told (log_length bodies) moment
   pub well : IsImage h.opening
   pub known : AreKnown given.given.number h.opening
+  pub bytes : AllByRecursion IsBytes bodies
 
 -- each on its own, where the shelf holds these bytes for a name
 abbrev pub AreOpenings : Type 0 → (List ℕ → List ℕ → Type 0) → ℕ → Left → Type 0

@@ -8,3 +8,6 @@ pub mod Fitting
 pub mod Good
 pub mod Resting
 pub mod Turned
+pub mod Defined
+pub mod Commanded
+pub mod Valued

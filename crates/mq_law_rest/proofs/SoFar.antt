@@ -61,7 +61,7 @@ history_front s m i h p =
     }
 
 -- what holds of each so far
-each_until : (P : ℕ → History → Type 0) (i : ℕ) (hs : List History) → ((m : ℕ) (h : History) → slice_get hs m ≡ Some h → P m (history_until i h)) → (m : ℕ) (h : History) → slice_get (until i hs) m ≡ Some h → P m h
+pub each_until : (P : ℕ → History → Type 0) (i : ℕ) (hs : List History) → ((m : ℕ) (h : History) → slice_get hs m ≡ Some h → P m (history_until i h)) → (m : ℕ) (h : History) → slice_get (until i hs) m ≡ Some h → P m h
 each_until P i hs f m h is = at (slice_get hs m) refl
   where
     at : (o : Option History) → slice_get hs m ≡ o → P m h

@@ -1,5 +1,5 @@
 -- At each front of a manager's history the network's facts hold, where the story of the run has no conflict.
-use Rattle.std.proofs.Common.{ℕ, ◌≡◌, Bool, List, [], ◌∷◌, ◌++◌, refl, ap, sym, subst, ◌∙◌}
+use Rattle.std.proofs.Common.{ℕ, ◌≡◌, Bool, List, [], ◌∷◌, ◌++◌, refl, ap, sym, subst, ◌∙◌, inl, inr}
 use Rattle.std.specs.Prelude.{◌==◌, if◌then◌else◌, ◌<◌, Some, slice_get}
 use Rattle.mq_sc_parse.specs.declared.command.Command.TheVariants as lines
 use Rattle.mq_history.specs.declared.acts.Act.TheVariants as acts
@@ -12,8 +12,8 @@ use Rattle.mq_history.specs.declared.history.History.{History}
 use Rattle.mq_history.specs.declared.scenario.Scenario.{Scenario}
 use Rattle.mq_spec_network.specs.Conflict.{Deed as ToldDeed, NoConflict, deeds, deeds_in}
 use Rattle.mq_spec_network.specs.Promised.{Premises}
-use Rattle.mq_spec_network.specs.Story.{IsStory, Line, entries_or, part}
-use Rattle.mq_law_node.proofs.Named.{bool_case}
+use Rattle.mq_spec_network.specs.Story.{IsStory, Line, Mem, entries_at, entries_or, part}
+use Rattle.mq_law_node.proofs.Named.{bool_case, nat_self}
 use Rattle.mq_law_one.specs.Alone.{IsOwnCall}
 use Rattle.mq_law_one.proofs.Running.{Told_, none_more, one_more, told_of}
 use Rattle.mq_law_run.specs.Run.{HaveSenders, Moves, Stand}
@@ -127,6 +127,17 @@ pub record StandAt (s : Scenario) (hs : List History) (m : ℕ) (front : List En
   pub prefix : List Line
   pub stand : Stand s hs prefix
   pub did : part m prefix ≡ front
+  pub told : (x : Line) → Mem x prefix → Mem x.entry (entries_at hs x.manager)
+
+mem_front : (x : Line) (xs ys : List Line) → Mem x xs → Mem x (xs ++ ys)
+mem_front x [] ys m = absurd m
+mem_front x (y ∷ xs) ys (inl e) = inl e
+mem_front x (y ∷ xs) ys (inr m) = inr (mem_front x xs ys m)
+
+mem_part : (x : Line) (p : List Line) → Mem x p → Mem x.entry (part x.manager p)
+mem_part x [] m = absurd m
+mem_part x (y ∷ p) (inl e) = subst (λ (b : Bool). Mem x.entry (if b then y.entry ∷ part x.manager p else part x.manager p)) (sym (ap (λ (z : Line). x.manager == z.manager) (sym e) ∙ nat_self x.manager)) (inl (ap (λ (z : Line). z.entry) e))
+mem_part x (y ∷ p) (inr m) = bool_case (x.manager == y.manager) (λ b. Mem x.entry (if b then y.entry ∷ part x.manager p else part x.manager p)) (λ z. inr (mem_part x p m)) (λ z. mem_part x p m)
 
 pub stand_at : (s : Scenario) (hs : List History) → Premises s hs → IsPeaceful s hs → (m : ℕ) (h : History) (front back : List Entry) → slice_get hs m ≡ Some h → h.entries ≡ front ++ back → StandAt s hs m front
 stand_at s hs premises calm m h front back is split =
@@ -134,6 +145,7 @@ stand_at s hs premises calm m h front back is split =
       prefix = r.before;
       stand = stands s hs calm.story [] r.before r.rest premises calm.is calm.peace r.split (begins s hs premises);
       did = r.did;
+      told = λ x there. subst (λ (es : List Entry). Mem x.entry es) (calm.is.parts x.manager) (mem_part x calm.story (subst (Mem x) (sym r.split) (mem_front x r.before r.rest there)));
     }
 
 pub stand_whole : (s : Scenario) (hs : List History) → Premises s hs → (calm : IsPeaceful s hs) → Stand s hs calm.story

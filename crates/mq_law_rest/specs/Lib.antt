@@ -1,3 +1,4 @@
 pub mod Until
 pub mod Aside
 pub mod Rests
+pub mod Values

@@ -54,7 +54,7 @@ pub record IsPeaceful (s : Scenario) (hs : List History) : Type 0 where
   pub is : IsStory hs story
   pub peace : NoConflict s hs story
 
--- on the way each channel that is defined as a sender's has BATCHSZ 1 at least
+-- on the way each channel that is defined as a sender's has BATCHSZ 1 at least (as all that commands define)
 abbrev pub AreSome : Scenario → List History → Type 0
 AreSome s hs = (m : ℕ) (h : History) (front back : List Entry) → slice_get hs m ≡ Some h → h.entries ≡ front ++ back → HaveSome (after (opening_node (surroundings s m) h) front).manager.definitions
 
@@ -65,7 +65,6 @@ pub record IsEnough (s : Scenario) (hs : List History) (i n : ℕ) : Type 0 wher
   pub unphased : NonePhase (take i s.steps)
   pub peace : IsPeaceful s (until i hs)
   pub after : IsPeaceful s (until (suc i) hs)
-  pub some : AreSome s (until (suc i) hs)
   pub up : AllUp (net_until s hs (suc i))
   pub cables : AllMayRest (net_until s hs i)
   pub turns : most (net_until s hs i) ≤ n

@@ -26,6 +26,8 @@ ghost use Rattle.mq_spec_network.specs.Promised.{AreDoubtsKnown, AreImages};
 ghost use Rattle.mq_law_ran.specs.Runs.{Left};
 ghost use Rattle.mq_law_rest.specs.Rests.{AllMayRest, AllUp, AreSome, IsPeaceful, PumpsRest, PumpsTell};
 ghost use Rattle.mq_law_rest.specs.Aside.{AllPop, AllWithin, NoFaults, NonePhase};
+ghost use Rattle.mq_nodes.specs.Texts.{AllFit};
+ghost use Rattle.mq_law_rest.specs.Values.{AreTextCalls, IsTextOf, OpenTexts};
 ghost use Rattle.mq_law_rest.specs.Until.{IsPlace, IsStep, net_until, until};
 
 /// Each step of a run has its place there, and its networks are those that the marks of the histories tell.
@@ -51,6 +53,13 @@ pub fn managers_of_a_run_fit()
         → (after (opening_node (surroundings s m) h) front).manager.running ≡ Up → IsFit (after (opening_node (surroundings s m) h) front) }
 {}
 
+/// Along a run whose managers begin with definitions such as commands give, and whose commands have values such as a text gives, each channel that is
+/// defined as a sender's has BATCHSZ 1 at least; and a run gives no other commands than the scenario's.
+pub fn definitions_of_a_run_keep_their_values()
+    ensures values { (s : Scenario) (hs : List History) → Premises s hs → IsPeaceful s hs → OpenTexts s hs → AreTextCalls hs → AreSome s hs }
+    ensures calls { (s : Scenario) (hs : List History) (i : ℕ) (w : Network) → AllFit IsTextOf s → (p : IsPlace s hs i w) → NonePhase p.front → AreTextCalls (until i hs) }
+{}
+
 /// So the facts hold behind a PUMP at whose end all managers are up; and before it what is asked there, where each cable may rest.
 pub fn networks_of_a_run_are_fit_to_rest()
     ensures good { (s : Scenario) (hs : List History) → Premises s hs → IsPeaceful s hs → AreSome s hs → AllUp (net_of s hs) → Good (net_of s hs) }
@@ -65,5 +74,5 @@ pub fn pumps_of_a_run_are_told()
 
 /// **Each PUMP of a run that has enough turns comes to rest**: it ended idle, where it was done whole, so where no manager of it made its last event and memory was there.
 pub fn pumps_of_a_run_come_to_rest()
-    ensures { (l : Left) → IsScenario l.scenario → AreImages l.histories → AreDoubtsKnown l.histories → IsLawful l.scenario l.histories → IsJoined l.scenario l.histories → AreOwn l.histories → PumpsRest l }
+    ensures { (l : Left) → IsScenario l.scenario → AllFit IsTextOf l.scenario → OpenTexts l.scenario l.histories → AreImages l.histories → AreDoubtsKnown l.histories → IsLawful l.scenario l.histories → IsJoined l.scenario l.histories → AreOwn l.histories → PumpsRest l }
 {}

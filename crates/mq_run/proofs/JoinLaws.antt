@@ -85,6 +85,7 @@ opening_at tells holds g own moment v h b o =
       begins = λ i. first_node g own (opening i) (long i) (began i);
       well = subst IsImage (sym opening) b.begun.well;
       known = subst (AreKnown g.number) (sym opening) b.begun.known;
+      bytes = b.begun.bytes;
     }
 
 pub openings : (tells : Type 0) (held : Held) (s : Scenario) (start : ℕ) (w : RestState) → IsRested w → Began tells held s (moment_or s.moment start) w → AreOpenings tells held start (left_of w)
@@ -103,7 +104,7 @@ pub alike : (tells : Type 0) (held : Held) (start : ℕ) (s : Scenario) (gs hs :
 alike tells held start s gs hs same known o m h line e f =
     let x = same m h e in
     let y = o m x.before line x.is f in
-    record { seen = y.seen; is = y.is; bodies = y.bodies; of_disk = y.of_disk; told = y.told; read = y.read; begins = sym x.begins ∙ y.begins; well = (known m h e).0; known = (known m h e).1 }
+    record { seen = y.seen; is = y.is; bodies = y.bodies; of_disk = y.of_disk; told = y.told; read = y.read; begins = sym x.begins ∙ y.begins; well = (known m h e).0; known = (known m h e).1; bytes = y.bytes }
 
 -- ---- nothing was done yet
 

@@ -3,3 +3,6 @@ pub mod JoinLaws
 pub mod RunLaws
 pub mod Promising
 pub mod OwnLaws
+pub mod CommandLaws
+pub mod StoredLaws
+pub mod DiskLaws

@@ -39,6 +39,7 @@ use Rattle.mq_law_ran.specs.Promises.{RestartsAreOwn}
 use Rattle.mq_law_ran.specs.Runs.{AreCarried, AreHistories, AreOpenings, Left, standing_left}
 use Rattle.mq_law_ran.proofs.Keeping.{begins_as, same_apart, same_begun, same_scenario}
 use Rattle.mq_law_ran.proofs.Lawfuls as lawfuls
+use Rattle.mq_run.specs.declared.reporting.Form.{Form}
 use Rattle.mq_run.specs.Ends.{DidAll, LeftEnds, RanOn, NoneEnds, NoneLeft, RunEnds, RunLeaves, StepsEnd, WholeEnds, left}
 use Rattle.mq_run.specs.Leaves.{AreKnownImages, AreTimed, left_of, stands_at_rest}
 use Rattle.mq_story.specs.Spots.{AreRising}
@@ -178,8 +179,8 @@ stood s w same r = subst (λ (x : Scenario). stands_at_rest x w ≡ standing_lef
 pub did_at : (s : Scenario) (w : RestState) → w.scenario ≡ s → DidAll (left_of w) → DidAll (left s w.histories)
 did_at s w same did = subst (λ (x : Scenario). DidAll (left x w.histories)) same did
 
-pub ends_at : (old new : Option (List ℕ)) (st : Status) (s : Scenario) (w : RestState) → w.scenario ≡ s → LeftEnds old new st (left s w.histories) → LeftEnds old new st (left_of w)
-ends_at old new st s w same ends = subst (λ (x : Scenario). LeftEnds old new st (left x w.histories)) (sym same) ends
+pub ends_at : (form : Form) (old new : Option (List ℕ)) (st : Status) (s : Scenario) (w : RestState) → w.scenario ≡ s → LeftEnds form old new st (left s w.histories) → LeftEnds form old new st (left_of w)
+ends_at form old new st s w same ends = subst (λ (x : Scenario). LeftEnds form old new st (left x w.histories)) (sym same) ends
 
 -- what is left where the run was begun with these openings
 pub leaves : (tells : Type 0) (held : List ℕ → List ℕ → Type 0) (start : ℕ) (s : Scenario) (gs : List History) (counts : List ℕ) (l : Left) → AreOpenings tells held start (left s gs) → RanOn s gs l → counts ≡ [] → RestartsAreOwn tells l → RunLeaves tells held start s counts l
@@ -200,15 +201,15 @@ pub begun_timed : (tells : Type 0) (held : Held) (s : Scenario) (start : ℕ) (w
 begun_timed tells held s start w scenario r b = timed tells held start (left_of w) (subst IsScenario (sym b.scenario) scenario) (joins.histories w r) (joins.openings tells held s start w r b)
 
 -- by status
-spent_ends : (old new : Option (List ℕ)) (l : Left) (m : ℕ) → apart l.scenario l.histories ≡ None → is_spent (entries_at l.histories m) ≡ true → Keeps old new → LeftEnds old new (status.Spent m) l
-spent_ends old new l m together spent kept = (together, spent, kept)
+spent_ends : (form : Form) (old new : Option (List ℕ)) (l : Left) (m : ℕ) → apart l.scenario l.histories ≡ None → is_spent (entries_at l.histories m) ≡ true → Keeps old new → LeftEnds form old new (status.Spent m) l
+spent_ends form old new l m together spent kept = (together, spent, kept)
 
-pub whole_stopped : (old new : Option (List ℕ)) (s : Scenario) (gs : List History) (l : Left) (stop : Stop) → RanOn s gs l → apart s gs ≡ None → StepsEnd (Err stop) l → Keeps old new → WholeEnds old new s gs (stop_status stop) (Some l)
-whole_stopped old new s gs l stops.NoMemory r e spent kept = (r, kept)
-whole_stopped old new s gs l (stops.Spent m) r e spent kept = (r, spent_ends old new l m (r.apart ∙ e) spent kept)
+pub whole_stopped : (form : Form) (old new : Option (List ℕ)) (s : Scenario) (gs : List History) (l : Left) (stop : Stop) → RanOn s gs l → apart s gs ≡ None → StepsEnd (Err stop) l → Keeps old new → WholeEnds form old new s gs (stop_status stop) (Some l)
+whole_stopped form old new s gs l stops.NoMemory r e spent kept = (r, kept)
+whole_stopped form old new s gs l (stops.Spent m) r e spent kept = (r, spent_ends form old new l m (r.apart ∙ e) spent kept)
 
-pub whole_did : (old new : Option (List ℕ)) (s : Scenario) (gs : List History) (st : Status) (l : Left) → RanOn s gs l → LeftEnds old new st l → WholeEnds old new s gs st (Some l)
-whole_did old new s gs st l r ends = (r, ends)
+pub whole_did : (form : Form) (old new : Option (List ℕ)) (s : Scenario) (gs : List History) (st : Status) (l : Left) → RanOn s gs l → LeftEnds form old new st l → WholeEnds form old new s gs st (Some l)
+whole_did form old new s gs st l r ends = (r, ends)
 
 -- of a run over managers that have begun
 begun_leaves : (tells : Type 0) (held : Held) (start : ℕ) (s : Scenario) (w : RestState) (counts : List ℕ) (l : Left) → IsRested w → Began tells held s (moment_or s.moment start) w → counts ≡ [] → RanOn s w.histories l → RestartsAreOwn tells l → RunLeaves tells held start s counts l
@@ -217,18 +218,18 @@ begun_leaves tells held start s w counts l r b none ran own = leaves tells held 
 ran_none : (tells : Type 0) (held : Held) (moment : ℕ) (s : Scenario) (w : RestState) → IsRested w → Began tells held s moment w → RanOn s w.histories (left_of w)
 ran_none tells held moment s w r b = subst (λ (x : Scenario). RanOn x w.histories (left_of w)) b.scenario (joins.ran_none w r (joins.fresh tells held s moment w r b))
 
-pub run_whole : (tells : Type 0) (held : Held) (start : ℕ) (s : Scenario) (w : RestState) (before now : ℕ) (old new : Option (List ℕ)) (st : Status) (counts : List ℕ) (o : Option Left)
-    → IsRested w → Began tells held s (moment_or s.moment start) w → counts ≡ [] → WholeEnds old new s w.histories st o → IfSome o (RestartsAreOwn tells) → RunEnds tells held start s before now old new st o counts
-run_whole tells held start s w before now old new st counts None r b none ends own = absurd ends
-run_whole tells held start s w before now old new st counts (Some l) r b none ends own = (begun_leaves tells held start s w counts l r b none ends.0 own, ends.1)
+pub run_whole : (form : Form) (tells : Type 0) (held : Held) (start : ℕ) (s : Scenario) (w : RestState) (before now : ℕ) (old new : Option (List ℕ)) (st : Status) (counts : List ℕ) (o : Option Left)
+    → IsRested w → Began tells held s (moment_or s.moment start) w → counts ≡ [] → WholeEnds form old new s w.histories st o → IfSome o (RestartsAreOwn tells) → RunEnds form tells held start s before now old new st o counts
+run_whole form tells held start s w before now old new st counts None r b none ends own = absurd ends
+run_whole form tells held start s w before now old new st counts (Some l) r b none ends own = (begun_leaves tells held start s w counts l r b none ends.0 own, ends.1)
 
-pub run_wants : (tells : Type 0) (held : Held) (start : ℕ) (s : Scenario) (w : RestState) (before now : ℕ) (old new : Option (List ℕ)) (counts : List ℕ)
-    → IsRested w → Began tells held s (moment_or s.moment start) w → counts ≡ [] → Keeps old new → RunEnds tells held start s before now old new status.NoMemory (Some (left_of w)) counts
-run_wants tells held start s w before now old new counts r b none kept = (begun_leaves tells held start s w counts (left_of w) r b none (ran_none tells held (moment_or s.moment start) s w r b) (begun_own tells w (joins.fresh tells held s (moment_or s.moment start) w r b)), kept)
+pub run_wants : (form : Form) (tells : Type 0) (held : Held) (start : ℕ) (s : Scenario) (w : RestState) (before now : ℕ) (old new : Option (List ℕ)) (counts : List ℕ)
+    → IsRested w → Began tells held s (moment_or s.moment start) w → counts ≡ [] → Keeps old new → RunEnds form tells held start s before now old new status.NoMemory (Some (left_of w)) counts
+run_wants form tells held start s w before now old new counts r b none kept = (begun_leaves tells held start s w counts (left_of w) r b none (ran_none tells held (moment_or s.moment start) s w r b) (begun_own tells w (joins.fresh tells held s (moment_or s.moment start) w r b)), kept)
 
-pub run_apart : (tells : Type 0) (held : Held) (start : ℕ) (s : Scenario) (w : RestState) (before now : ℕ) (old new : Option (List ℕ)) (counts : List ℕ) (found : Apart)
-    → IsRested w → Began tells held s (moment_or s.moment start) w → counts ≡ [] → apart s w.histories ≡ Some found → Keeps old new → RunEnds tells held start s before now old new (status.Apart found) (Some (left_of w)) counts
-run_apart tells held start s w before now old new counts found r b none is kept =
+pub run_apart : (form : Form) (tells : Type 0) (held : Held) (start : ℕ) (s : Scenario) (w : RestState) (before now : ℕ) (old new : Option (List ℕ)) (counts : List ℕ) (found : Apart)
+    → IsRested w → Began tells held s (moment_or s.moment start) w → counts ≡ [] → apart s w.histories ≡ Some found → Keeps old new → RunEnds form tells held start s before now old new (status.Apart found) (Some (left_of w)) counts
+run_apart form tells held start s w before now old new counts found r b none is kept =
     let ran = ran_none tells held (moment_or s.moment start) s w r b in
     (begun_leaves tells held start s w counts (left_of w) r b none ran (begun_own tells w (joins.fresh tells held s (moment_or s.moment start) w r b)), (ran.apart ∙ is, joins.nothing_done w (joins.fresh tells held s (moment_or s.moment start) w r b), kept))
 
@@ -241,23 +242,23 @@ none_ends tells held start s before now counts (faults.BadLog m gate) h = none_l
 none_ends tells held start s before now counts faults.NoMemory h = none_left tells held start s before now counts faults.NoMemory h
 
 -- where none have
-pub run_none : (tells : Type 0) (held : Held) (start : ℕ) (s : Scenario) (before now : ℕ) (old new : Option (List ℕ)) (counts : List ℕ) (fault : NetFault)
-    → NotBegan tells held (moment_or s.moment start) s.managers before now counts fault → Keeps old new → RunEnds tells held start s before now old new (net_status fault) None counts
-run_none tells held start s before now old new counts fault h kept = (none_ends tells held start s before now counts fault h, kept)
+pub run_none : (form : Form) (tells : Type 0) (held : Held) (start : ℕ) (s : Scenario) (before now : ℕ) (old new : Option (List ℕ)) (counts : List ℕ) (fault : NetFault)
+    → NotBegan tells held (moment_or s.moment start) s.managers before now counts fault → Keeps old new → RunEnds form tells held start s before now old new (net_status fault) None counts
+run_none form tells held start s before now old new counts fault h kept = (none_ends tells held start s before now counts fault h, kept)
 
 -- as the code has them: a status, and the managers at rest
 pub stays : (old : Option (List ℕ)) → Keeps old old
 stays None = tt
 stays (Some xs) = refl
 
-pub whole_at : (old new : Option (List ℕ)) (s : Scenario) (gs : List History) (w : RestState) (st is : Status) (net : Option RestState) → st ≡ is → net ≡ Some w → WholeEnds old new s gs is (Some (left_of w)) → WholeEnds old new s gs st (option_map left_of net)
-whole_at old new s gs w st is net e f h =
-    subst (λ (x : Status). WholeEnds old new s gs x (option_map left_of net)) (sym e) (subst (λ (x : Option RestState). WholeEnds old new s gs is (option_map left_of x)) (sym f) h)
+pub whole_at : (form : Form) (old new : Option (List ℕ)) (s : Scenario) (gs : List History) (w : RestState) (st is : Status) (net : Option RestState) → st ≡ is → net ≡ Some w → WholeEnds form old new s gs is (Some (left_of w)) → WholeEnds form old new s gs st (option_map left_of net)
+whole_at form old new s gs w st is net e f h =
+    subst (λ (x : Status). WholeEnds form old new s gs x (option_map left_of net)) (sym e) (subst (λ (x : Option RestState). WholeEnds form old new s gs is (option_map left_of x)) (sym f) h)
 
-pub run_at : (tells : Type 0) (held : Held) (start : ℕ) (s : Scenario) (before now : ℕ) (old new : Option (List ℕ)) (w : RestState) (st is : Status) (net : Option RestState) (counts : List ℕ) → st ≡ is → net ≡ Some w
-    → RunEnds tells held start s before now old new is (Some (left_of w)) counts → RunEnds tells held start s before now old new st (option_map left_of net) counts
-run_at tells held start s before now old new w st is net counts e f h =
-    subst (λ (x : Status). RunEnds tells held start s before now old new x (option_map left_of net) counts) (sym e) (subst (λ (x : Option RestState). RunEnds tells held start s before now old new is (option_map left_of x) counts) (sym f) h)
+pub run_at : (form : Form) (tells : Type 0) (held : Held) (start : ℕ) (s : Scenario) (before now : ℕ) (old new : Option (List ℕ)) (w : RestState) (st is : Status) (net : Option RestState) (counts : List ℕ) → st ≡ is → net ≡ Some w
+    → RunEnds form tells held start s before now old new is (Some (left_of w)) counts → RunEnds form tells held start s before now old new st (option_map left_of net) counts
+run_at form tells held start s before now old new w st is net counts e f h =
+    subst (λ (x : Status). RunEnds form tells held start s before now old new x (option_map left_of net) counts) (sym e) (subst (λ (x : Option RestState). RunEnds form tells held start s before now old new is (option_map left_of x) counts) (sym f) h)
 
 -- what the check of its logs asks
 pub few_cables : (s : Scenario) → IsScenario s → length s.cables ≤ 65536

@@ -1,5 +1,6 @@
 -- What is seen of managers at rest, at a run's end.
-use Rattle.std.specs.Prelude.{◌≡◌, ◌≤◌, ◌+◌, ℕ, suc, List, [], ◌∷◌, Option, None, Some, map, slice_get}
+use Rattle.std.specs.Prelude.{◌≡◌, ◌⊎◌, ◌≤◌, ◌+◌, ℕ, suc, List, [], ◌∷◌, Option, None, Some, map, slice_get}
+use Rattle.mq_base.specs.Outside.{Rose}
 use Rattle.mq_core.specs.Values.{CoreValue}
 use Rattle.mq_history.specs.declared.history.History.{History}
 use Rattle.mq_history.specs.declared.scenario.CableLine.{CableLine}
@@ -54,3 +55,13 @@ AreKnownImages hs = (m : ℕ) (h : History) → slice_get hs m ≡ Some h → Is
 -- which open at moments that a clock shows
 abbrev pub AreTimed : List History → Type 0
 AreTimed hs = (m : ℕ) (h : History) → slice_get hs m ≡ Some h → h.moment ≤ last_moment
+
+-- One of these disks has failed: their counts of faults were 0 when they were taken.
+abbrev pub OneRose : List ℕ → Type 0
+OneRose [] = ⊥
+OneRose (c ∷ cs) = Rose 0 c ⊎ OneRose cs
+
+-- Why a run tells that a disk failed: the shelf did, or a disk that is handed back; where all managers began, one of their disks.
+abbrev pub DiskRose : (before now : ℕ) → Option (List ℕ) → (handed : List ℕ) → Type 0
+DiskRose before now None handed = Rose before now ⊎ OneRose handed
+DiskRose before now (Some counts) handed = OneRose counts

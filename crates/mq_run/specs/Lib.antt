@@ -1,4 +1,5 @@
 pub mod Words
 pub mod Statuses
+pub mod Forms
 pub mod Ends
 pub mod Leaves

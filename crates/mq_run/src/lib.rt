@@ -6,7 +6,7 @@ mod running;
 mod standing;
 mod status;
 
-pub use reporting::report_run;
+pub use reporting::{Form, report_run};
 pub use running::{Ended, ended_early, run_scenario};
 pub use standing::standing_at_rest;
 pub use status::{BadCause, Status, net_status, stop_status, verdict_status};

@@ -4,7 +4,7 @@ ghost use Rattle.mq_run.specs.Words as words;
 ghost use Rattle.mq_run.specs.declared.status.Status.TheVariants.{WriteFault};
 ghost use Rattle.mq_disk.specs.declared.shelf.Side.TheVariants as sides;
 
-use crate::reporting::report_run;
+use crate::reporting::{Form, report_run};
 use crate::standing::standing_at_rest;
 use crate::status::{Status, net_status, stop_status};
 use mq_base::Sink;
@@ -75,6 +75,7 @@ fn do_steps<D: Disk>(alloc: Global, scenario: &Scenario, rested: Rested<D>) -> D
     ensures stands { words.IsRested result.rested }
     ensures ends { words.StepsEnd result.ran (words.left_of result.rested) }
     ensures own { D.tells → words.AreOwn result.rested.histories }
+    ensures risen { words.IsRisen result.rested }
 {
     let mut network = match Network::start(alloc, scenario, rested) {
         Ok(network) => network,
@@ -91,10 +92,11 @@ fn do_steps<D: Disk>(alloc: Global, scenario: &Scenario, rested: Rested<D>) -> D
     Done { ran, rested }
 }
 
-/// Writes the report of a run that was done whole.
+/// Writes the report of a run that was done whole, or its line.
 #[tactic(auto, using(crate::proofs::RunLaws::few, crate::proofs::RunLaws::few_cables, crate::proofs::RunLaws::rising, crate::proofs::RunLaws::stood, crate::proofs::RunLaws::did_at, crate::proofs::RunLaws::ends_at))]
 fn report<K: Sink, D: Disk>(
     alloc: Global,
+    form: Form,
     scenario: &Scenario,
     rested: &Rested<D>,
     sink: &mut K,
@@ -104,20 +106,21 @@ fn report<K: Sink, D: Disk>(
     requires stands { words.IsRested rested.now }
     requires opened { words.AreOpened rested.now.histories }
     requires did { words.DidAll (words.left_of rested.now) }
-    ensures ends { words.LeftEnds (K.held sink.old) (K.held sink.new) result (words.left_of rested.now) }
+    ensures ends { words.LeftEnds form (K.held sink.old) (K.held sink.new) result (words.left_of rested.now) }
     ensures write_fault { (n : ℕ) → result ≡ WriteFault n → words.Rose (K.faults sink.old) (K.faults sink.new) }
 {
     let standing = match standing_at_rest(alloc, scenario, rested) {
         Ok(standing) => standing,
         Err(_) => return Status::NoMemory,
     };
-    report_run(alloc, scenario, rested.histories(), &standing, sink)
+    report_run(alloc, form, scenario, rested.histories(), &standing, sink)
 }
 
-/// Does the steps of a scenario whose managers' logs belong together, and writes its report.
-#[tactic(auto, using(crate::proofs::RunLaws::opened_on, crate::proofs::RunLaws::did_all, crate::proofs::RunLaws::whole_did, crate::proofs::RunLaws::stays, crate::proofs::OwnLaws::ended_own))]
+/// Does the steps of a scenario whose managers' logs belong together, and writes its report, or its line.
+#[tactic(auto, using(crate::proofs::RunLaws::opened_on, crate::proofs::RunLaws::did_all, crate::proofs::RunLaws::whole_did, crate::proofs::RunLaws::stays, crate::proofs::OwnLaws::ended_own, crate::proofs::DiskLaws::ended_risen))]
 fn run_whole<K: Sink, D: Disk>(
     alloc: Global,
+    form: Form,
     scenario: &Scenario,
     rested: Rested<D>,
     sink: &mut K,
@@ -129,8 +132,9 @@ fn run_whole<K: Sink, D: Disk>(
     requires timed { words.AreTimed rested.histories }
     requires texts { words.AllFit words.IsTextCommand scenario.now }
     requires together { words.apart scenario.now rested.histories ≡ None }
-    ensures ends { words.WholeEnds (K.held sink.old) (K.held sink.new) scenario.now rested.histories result.status (option_map words.left_of result.network) }
+    ensures ends { words.WholeEnds form (K.held sink.old) (K.held sink.new) scenario.now rested.histories result.status (option_map words.left_of result.network) }
     ensures own { IfSome (option_map words.left_of result.network) (words.RestartsAreOwn D.tells) }
+    ensures risen { IfSome result.network words.IsRisen }
     ensures none { result.disks.items ≡ [] }
     ensures write_fault { (n : ℕ) → result.status ≡ WriteFault n → words.Rose (K.faults sink.old) (K.faults sink.new) }
 {
@@ -138,7 +142,7 @@ fn run_whole<K: Sink, D: Disk>(
     let Done { ran, rested } = done;
     match ran {
         Ok(()) => {
-            let status = report(alloc, scenario, &rested, sink);
+            let status = report(alloc, form, scenario, &rested, sink);
             ended_with(alloc, status, rested)
         }
         Err(stop) => ended_with(alloc, stop_status(stop), rested),
@@ -146,10 +150,11 @@ fn run_whole<K: Sink, D: Disk>(
 }
 
 /// Runs a scenario over a shelf: its managers begin, their logs are checked to belong together, its steps are done,
-/// those that are down are restarted, and the report is written.
-#[tactic(auto, using(crate::proofs::JoinLaws::fresh, crate::proofs::RunLaws::begun_timed, crate::proofs::RunLaws::run_whole, crate::proofs::RunLaws::run_wants, crate::proofs::RunLaws::run_apart, crate::proofs::RunLaws::run_none, crate::proofs::RunLaws::net_no_write, crate::proofs::RunLaws::few_cables))]
+/// those that are down are restarted, and the report is written, or the line of a large run.
+#[tactic(auto, using(crate::proofs::JoinLaws::fresh, crate::proofs::RunLaws::begun_timed, crate::proofs::RunLaws::run_whole, crate::proofs::RunLaws::run_wants, crate::proofs::RunLaws::run_apart, crate::proofs::RunLaws::run_none, crate::proofs::RunLaws::net_no_write, crate::proofs::RunLaws::few_cables, crate::proofs::DiskLaws::begun_risen))]
 pub fn run_scenario<K: Sink, H: Shelf>(
     alloc: Global,
+    form: Form,
     scenario: &Scenario,
     shelf: &mut H,
     start: u64,
@@ -157,7 +162,9 @@ pub fn run_scenario<K: Sink, H: Shelf>(
 ) -> Ended<H::D>
     requires scenario { words.IsScenario scenario.now }
     requires texts { words.AllFit words.IsTextCommand scenario.now }
-    ensures ends { words.RunEnds H.D.tells (λ n b. H.holds shelf.old n sides.A b) start scenario.now (H.faults shelf.old) (H.faults shelf.new) (K.held sink.old) (K.held sink.new) result.status (option_map words.left_of result.network) (map H.D.faults result.disks.items) }
+    ensures ends { words.RunEnds form H.D.tells (λ n b. H.holds shelf.old n sides.A b) start scenario.now (H.faults shelf.old) (H.faults shelf.new) (K.held sink.old) (K.held sink.new) result.status (option_map words.left_of result.network) (map H.D.faults result.disks.items) }
+    // Each disk of the network failed at least as often as its manager's history tells.
+    ensures risen { IfSome result.network words.IsRisen }
     ensures write_fault { (n : ℕ) → result.status ≡ WriteFault n → words.Rose (K.faults sink.old) (K.faults sink.new) }
 {
     let rested = match begin(alloc, scenario, shelf, start) {
@@ -174,6 +181,6 @@ pub fn run_scenario<K: Sink, H: Shelf>(
     match apart(alloc, scenario, rested.histories()) {
         Err(_) => ended_with(alloc, Status::NoMemory, rested),
         Ok(Some(found)) => ended_with(alloc, Status::Apart(found), rested),
-        Ok(None) => run_whole(alloc, scenario, rested, sink),
+        Ok(None) => run_whole(alloc, form, scenario, rested, sink),
     }
 }

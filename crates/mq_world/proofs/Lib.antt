@@ -8,6 +8,7 @@ pub mod TurnLaws
 pub mod WatchLaws
 pub mod MarkLaws
 pub mod RestLaws
+pub mod RiseLaws
 pub mod StartLaws
 pub mod NodeLaws
 pub mod ClockLaws

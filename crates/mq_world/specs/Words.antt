@@ -21,7 +21,8 @@ pub use Rattle.mq_watch.specs.Turns.{connection_of}
 pub use Rattle.mq_ways.specs.Ways.{AreNew}
 pub use Rattle.mq_world.specs.Ends.{EndOn, SideTurn, TimeoutOn, far_sides, near_sides}
 pub use Rattle.mq_world.specs.Lines.{LineOn}
-pub use Rattle.mq_world.specs.Resting.{manager_in, own_in, rest_of}
+pub use Rattle.mq_events.specs.Disks.{HasRisen}
+pub use Rattle.mq_world.specs.Resting.{AreRisen, IsRisen, counts_in, manager_in, own_in, rest_of}
 pub use Rattle.mq_world.specs.Settling.{IsOf, NodeDoes, NodeSays, Settles, cut_or, ended}
 pub use Rattle.mq_world.specs.Starting.{IsFresh, IsRoom, Starts, StartsAt, around, begun_script, begun_state, own_begun}
 pub use Rattle.mq_world.specs.Turning.{HandlerOn, MonitorOn}

@@ -100,6 +100,8 @@ impl<D: Disk> Network<D> {
     pub fn rest(self) -> Rested<D>
         ensures rests { result ≡ words.rest_of self.scenario self.nodes }
         ensures own { D.tells → words.AreOwn result.histories }
+        // Each disk failed at least as often as its manager's history tells.
+        ensures risen { words.IsRisen result }
     {
         let Network { parts, room } = self;
         let NetParts {

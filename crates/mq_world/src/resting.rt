@@ -46,6 +46,7 @@ fn rest_node<D: Disk>(node: Node<D>) -> NodeRest<D>
     ensures manager { result.manager ≡ words.manager_in node }
     ensures own { result.own ≡ words.own_in node }
     ensures history { result.history ≡ words.history_in node }
+    ensures risen { words.HasRisen result.history.entries result.manager.faults }
 {
     let Node { parts } = node;
     let NodeParts {
@@ -115,7 +116,8 @@ impl<D: Disk> RestRoom<D> {
     pub fn fill(self, scenario: Snapshot<Scenario>, nodes: Items<Node<D>>) -> Rested<D>
         requires room { length nodes ≤ self }
         requires rested { words.IsRested (words.rest_of scenario.value nodes) }
-        ensures { result ≡ words.rest_of scenario.value nodes }
+        ensures rests { result ≡ words.rest_of scenario.value nodes }
+        ensures risen { words.IsRisen result }
     {
         let RestRoom {
             mut managers,

@@ -5,11 +5,15 @@ use Rattle.mq_base.specs.Outside.{Rose, Told, IsLonger}
 use Rattle.mq_history.specs.declared.scenario.Scenario.{Scenario}
 use Rattle.mq_scn_text.specs.declared.fault.ScenarioFault.{ScenarioFault}
 use Rattle.mq_scn_text.specs.Reading.{scenario_of}
+use Rattle.mq_soak.specs.Soak.{soak}
+use Rattle.mq_run.specs.declared.reporting.Form.TheVariants as forms
 use Rattle.mq_run.specs.declared.status.BadCause.{BadCause}
 use Rattle.mq_run.specs.declared.status.Status.{Status}
 use Rattle.mq_run.specs.declared.status.Status.TheVariants as status
 use Rattle.mq_run.specs.Ends.{RunEnds, WroteFront}
 use Rattle.mq_run.specs.Words.{Left}
+use Rattle.mqnet.specs.declared.top.Purpose.{Purpose}
+use Rattle.mqnet.specs.declared.top.Purpose.TheVariants as purposes
 use Rattle.mqnet.specs.declared.top.Task.{Task}
 use Rattle.mqnet.specs.declared.top.Task.TheVariants as tasks
 use Rattle.mqnet.specs.Wanted.{fault_status, wanted}
@@ -53,7 +57,7 @@ pub record Nothing (old new : Option (List ℕ)) (net : Option Left) (counts : L
 pub record RanScenario (left : Option (List ℕ)) (tells : Type 0) (held : List ℕ → List ℕ → Type 0) (start before now : ℕ) (old new : Option (List ℕ)) (st : Status) (net : Option Left) (counts : List ℕ) : Type 0 where
   pub scenario : Scenario
   pub read : IsRead left scenario
-  pub ended : RunEnds tells held start scenario before now old new st net counts
+  pub ended : RunEnds forms.Report tells held start scenario before now old new st net counts
 
 -- Of check, by status.
 abbrev pub Checked : Option (List ℕ) → Option (List ℕ) → Option (List ℕ) → Status → Type 0
@@ -61,14 +65,25 @@ Checked left old new status.Ok = (s : Scenario) × IsRead left s × Appends old 
 Checked left old new (status.WriteFault n) = (s : Scenario) × IsRead left s × WroteFront old new n check_text
 Checked left old new st = ⊥
 
+-- Of the large run of a number: there was no memory for its scenario, or that ran, and ended so.
+abbrev pub SoakEnds : ℕ → (tells : Type 0) (held : List ℕ → List ℕ → Type 0) (start before now : ℕ) (old new : Option (List ℕ)) → Status → Option Left → List ℕ → Type 0
+SoakEnds n tells held start before now old new st net counts =
+    (n ≤ 1000) × (((st ≡ status.NoMemory) × Nothing old new net counts) ⊎ RunEnds (forms.Line n) tells held start (soak n) before now old new st net counts)
+
 -- By words.
 abbrev pub Ends : (asked : Option Task) (left : Option (List ℕ)) (tells : Type 0) (held : List ℕ → List ℕ → Type 0) (start before now : ℕ) (old new : Option (List ℕ)) → Status → Option Left → List ℕ → Type 0
 Ends None left tells held start before now old new st net counts = (st ≡ status.BadWords) × Nothing old new net counts
-Ends (Some tasks.Run) left tells held start before now old new st net counts = (IsEarly st × Nothing old new net counts) ⊎ RanScenario left tells held start before now old new st net counts
-Ends (Some tasks.Check) left tells held start before now old new st net counts = (IsEarly st × Nothing old new net counts) ⊎ ((net ≡ None) × (counts ≡ []) × Checked left old new st)
+Ends (Some (tasks.Read purposes.Run)) left tells held start before now old new st net counts = (IsEarly st × Nothing old new net counts) ⊎ RanScenario left tells held start before now old new st net counts
+Ends (Some (tasks.Read purposes.Check)) left tells held start before now old new st net counts = (IsEarly st × Nothing old new net counts) ⊎ ((net ≡ None) × (counts ≡ []) × Checked left old new st)
+Ends (Some (tasks.Soak n)) left tells held start before now old new st net counts = SoakEnds n tells held start before now old new st net counts
+
+-- nothing is read for the large run of a number
+abbrev pub IsUnread : Option Task → Option (List ℕ) → Option (List ℕ) → ℕ → ℕ → Type 0
+IsUnread (Some (tasks.Soak n)) left left' reads reads' = (left' ≡ left) × (reads' ≡ reads)
+IsUnread _ left left' reads reads' = Unit {0}
 
 -- Where the source tells its bytes, and neither it nor the sink fails: a text that is no scenario is told so, and of another the
--- status is one of a run, or of a check 0; or it is want of memory.
+-- status is one of a run, or of a check 0; or it is want of memory. Of a large run it is one of a run where the sink doesn't fail.
 abbrev pub IsOfRun : Status → Type 0
 IsOfRun status.BadWords = ⊥
 IsOfRun (status.BadScenario line cause) = ⊥
@@ -77,17 +92,19 @@ IsOfRun (status.WriteFault n) = ⊥
 IsOfRun status.TooLong = ⊥
 IsOfRun st = Unit {0}
 
-abbrev pub ComesOf : Task → Status → Type 0
-ComesOf tasks.Run st = IsOfRun st
-ComesOf tasks.Check st = (st ≡ status.Ok) ⊎ (st ≡ status.NoMemory)
+abbrev pub ComesOf : Purpose → Status → Type 0
+ComesOf purposes.Run st = IsOfRun st
+ComesOf purposes.Check st = (st ≡ status.Ok) ⊎ (st ≡ status.NoMemory)
 
-abbrev pub Comes : Task → Status → Status → Type 0
-Comes task status.Ok st = ComesOf task st
-Comes task other st = (st ≡ other) ⊎ (st ≡ status.NoMemory)
+abbrev pub Comes : Purpose → Status → Status → Type 0
+Comes purpose status.Ok st = ComesOf purpose st
+Comes purpose other st = (st ≡ other) ⊎ (st ≡ status.NoMemory)
 
 abbrev pub Completes : Option Task → Option (List ℕ) → ℕ → ℕ → ℕ → ℕ → Status → Type 0
-Completes asked left reads reads' writes writes' st =
-    (task : Task) (bytes : List ℕ) → asked ≡ Some task → left ≡ Some bytes → length bytes ≤ 1048576 → ¬ Rose reads reads' → ¬ Rose writes writes' → Comes task (wanted bytes) st
+Completes None left reads reads' writes writes' st = Unit {0}
+Completes (Some (tasks.Read purpose)) left reads reads' writes writes' st =
+    (bytes : List ℕ) → left ≡ Some bytes → length bytes ≤ 1048576 → ¬ Rose reads reads' → ¬ Rose writes writes' → Comes purpose (wanted bytes) st
+Completes (Some (tasks.Soak n)) left reads reads' writes writes' st = ¬ Rose writes writes' → IsOfRun st
 
 -- a text was written, all of it or its front
 abbrev pub Writes : Option (List ℕ) → Option (List ℕ) → List ℕ → Status → Type 0

@@ -1,6 +1,6 @@
 //! The top call: reads the scenario, runs or checks it, writes what comes of it.
 
-ghost use Rattle.std.specs.Prelude.{◌≡◌, ◌↔◌, ℕ, Option, map, None, Some, IfOk, IfErr, IfSome, Ok, option_map};
+ghost use Rattle.std.specs.Prelude.{◌≡◌, ◌≤◌, ◌↔◌, ℕ, Option, map, None, Some, IfOk, IfErr, IfSome, Ok, option_map};
 ghost use Rattle.std.specs.String.{string_bytes};
 ghost use Rattle.mq_disk.specs.declared.shelf.Side.TheVariants as sides;
 ghost use Rattle.mqnet.specs.Words as terms;
@@ -9,17 +9,28 @@ use mq_base::{ReadStop, Sink, Source, read_all, write_all};
 use mq_disk::Shelf;
 use mq_hints::fault_text;
 use mq_history::Scenario;
-use mq_run::{BadCause, Ended, Status, ended_early, run_scenario};
+use mq_run::{BadCause, Ended, Form, Status, ended_early, run_scenario};
 use mq_scn_text::{ScenarioFault, read_scenario};
+use mq_soak::scenario;
+use mq_text::number;
 use std::alloc::Global;
+
+/// What a scenario is read for.
+#[derive(Clone, Copy, Debug, PartialEq, Eq)]
+pub enum Purpose {
+    /// It is run.
+    Run,
+    /// No more than to tell that it is one.
+    Check,
+}
 
 /// What the words ask for.
 #[derive(Clone, Copy, Debug, PartialEq, Eq)]
 pub enum Task {
-    /// A scenario is read and run.
-    Run,
     /// A scenario is read.
-    Check,
+    Read(Purpose),
+    /// The scenario of this number, 1 to 1000, is run.
+    Soak(u32),
 }
 
 /// What is left to do when the bytes were read.
@@ -31,23 +42,54 @@ pub enum Work {
 
 /// What a word asks for.
 fn word_task(word: &str) -> Option<Task>
-    ensures { result ≡ terms.word_task word.now }
+    ensures task { result ≡ terms.word_task word.now }
+    ensures fits { IfSome result terms.FitsTask }
 {
     if word == "run" {
-        return Some(Task::Run);
+        return Some(Task::Read(Purpose::Run));
     }
     if word == "check" {
-        return Some(Task::Check);
+        return Some(Task::Read(Purpose::Check));
     }
     None
 }
 
-/// What the words ask for: they are one word.
+/// The number of a large run: 1 to 1000 in decimal digits, without a zero in front.
+fn soak_number(text: &[u8]) -> Option<u32>
+    ensures number { result ≡ terms.soak_number text.now }
+    ensures few { IfSome result (λ n. n ≤ 1000) }
+{
+    if let [b'0', ..] = text {
+        return None;
+    }
+    match number(text, 1, 1000) {
+        Ok(n) => Some(n as u32),
+        Err(_) => None,
+    }
+}
+
+/// What a word and a number ask for.
+fn number_task(word: &str, text: &str) -> Option<Task>
+    ensures task { result ≡ terms.number_task word.now text.now }
+    ensures fits { IfSome result terms.FitsTask }
+{
+    if word != "soak" {
+        return None;
+    }
+    match soak_number(text.as_bytes()) {
+        Some(n) => Some(Task::Soak(n)),
+        None => None,
+    }
+}
+
+/// What the words ask for: they are one word, or a word and a number.
 fn task_of(words: &[String]) -> Option<Task>
-    ensures { result ≡ terms.task_of (map string_bytes words.now) }
+    ensures task { result ≡ terms.task_of (map string_bytes words.now) }
+    ensures fits { IfSome result terms.FitsTask }
 {
     match words {
         [word] => word_task(word.as_str()),
+        [word, text] => number_task(word.as_str(), text.as_str()),
         _ => None,
     }
 }
@@ -95,8 +137,8 @@ fn scenario_in(alloc: Global, text: &[u8]) -> Result<Scenario, Status>
 
 /// What a text leaves to do.
 #[tactic(auto, using(crate::proofs::Ending::fits))]
-fn work_in(alloc: Global, task: Task, text: &[u8]) -> Result<Work, Status>
-    ensures found { IfOk result (terms.IsWork task text.now) }
+fn work_in(alloc: Global, purpose: Purpose, text: &[u8]) -> Result<Work, Status>
+    ensures found { IfOk result (terms.IsWork purpose text.now) }
     ensures fits { IfOk result terms.FitsWork }
     ensures refused { IfErr result (terms.RefusesText text.now) }
 {
@@ -104,9 +146,9 @@ fn work_in(alloc: Global, task: Task, text: &[u8]) -> Result<Work, Status>
         Ok(scenario) => scenario,
         Err(status) => return Err(status),
     };
-    match task {
-        Task::Check => Ok(Work::Check),
-        Task::Run => Ok(Work::Run(scenario)),
+    match purpose {
+        Purpose::Check => Ok(Work::Check),
+        Purpose::Run => Ok(Work::Run(scenario)),
     }
 }
 
@@ -134,16 +176,91 @@ fn do_work<K: Sink, H: Shelf>(
 ) -> Ended<H::D>
     requires { terms.FitsWork left }
     ensures ends { terms.WorkEnds left H.D.tells (λ n b. H.holds shelf.old n sides.A b) start (H.faults shelf.old) (H.faults shelf.new) (K.held sink.old) (K.held sink.new) result.status (option_map terms.left_of result.network) (map H.D.faults result.disks.items) }
+    ensures risen { IfSome result.network terms.IsRisen }
     ensures write_fault { (n : ℕ) → result.status ≡ terms.WriteFault n → terms.Rose (K.faults sink.old) (K.faults sink.new) }
 {
     match left {
-        Work::Run(scenario) => run_scenario(alloc, &scenario, shelf, start, sink),
+        Work::Run(scenario) => run_scenario(alloc, Form::Report, &scenario, shelf, start, sink),
         Work::Check => ended_early(alloc, write_text(b"CHECK OK\n", sink), None),
     }
 }
 
-/// Does what the words say.
+/// Makes the scenario of a number and runs it, with its one line to the sink.
+#[tactic(auto, using(crate::proofs::Soaking::no_memory, crate::proofs::Soaking::ran))]
+fn run_soak<K: Sink, H: Shelf>(
+    alloc: Global,
+    n: u32,
+    shelf: &mut H,
+    start: u64,
+    sink: &mut K,
+) -> Ended<H::D>
+    requires few { n ≤ 1000 }
+    ensures ends { terms.SoakEnds n H.D.tells (λ n b. H.holds shelf.old n sides.A b) start (H.faults shelf.old) (H.faults shelf.new) (K.held sink.old) (K.held sink.new) result.status (option_map terms.left_of result.network) (map H.D.faults result.disks.items) }
+    ensures risen { IfSome result.network terms.IsRisen }
+    ensures write_fault { (n : ℕ) → result.status ≡ terms.WriteFault n → terms.Rose (K.faults sink.old) (K.faults sink.new) }
+{
+    match scenario(alloc, n) {
+        Ok(scenario) => run_scenario(alloc, Form::Line(n), &scenario, shelf, start, sink),
+        Err(_) => ended_early(alloc, Status::NoMemory, None),
+    }
+}
+
+/// Reads a scenario, and does with it what is asked.
 #[tactic(auto, using(crate::proofs::Ending::done_ends, crate::proofs::Ending::early_ends))]
+fn obey_text<S: Source, K: Sink, H: Shelf>(
+    alloc: Global,
+    purpose: Purpose,
+    source: &mut S,
+    sink: &mut K,
+    shelf: &mut H,
+    start: u64,
+) -> Ended<H::D>
+    ensures ends { terms.Ends (Some (terms.Read purpose)) (S.left source.old) H.D.tells (λ n b. H.holds shelf.old n sides.A b) start (H.faults shelf.old) (H.faults shelf.new) (K.held sink.old) (K.held sink.new) result.status (option_map terms.left_of result.network) (map H.D.faults result.disks.items) }
+    ensures risen { IfSome result.network terms.IsRisen }
+    ensures bad_scenario { (line : ℕ) (cause : terms.BadCause) → result.status ≡ terms.BadScenario line cause → terms.ReadNoScenario (S.left source.old) line cause }
+    ensures read_fault { result.status ≡ terms.ReadFault → terms.Rose (S.faults source.old) (S.faults source.new) }
+    ensures write_fault { (n : ℕ) → result.status ≡ terms.WriteFault n → terms.Rose (K.faults sink.old) (K.faults sink.new) }
+    ensures too_long { result.status ≡ terms.TooLong → terms.IsLonger (S.left source.old) 1048576 }
+{
+    let text = match read_bytes(alloc, source) {
+        Ok(text) => text,
+        Err(status) => return ended_early(alloc, status, None),
+    };
+    match work_in(alloc, purpose, text.as_slice()) {
+        Ok(left) => do_work(alloc, left, shelf, start, sink),
+        Err(status) => {
+            let told = told(alloc, text.as_slice(), &status);
+            ended_early(alloc, status, told)
+        }
+    }
+}
+
+/// Does what is asked.
+#[tactic(auto, using(crate::proofs::Soaking::no_bad_scenario, crate::proofs::Soaking::no_read_fault, crate::proofs::Soaking::not_too_long))]
+fn do_task<S: Source, K: Sink, H: Shelf>(
+    alloc: Global,
+    task: Task,
+    source: &mut S,
+    sink: &mut K,
+    shelf: &mut H,
+    start: u64,
+) -> Ended<H::D>
+    requires fits { terms.FitsTask task }
+    ensures ends { terms.Ends (Some task) (S.left source.old) H.D.tells (λ n b. H.holds shelf.old n sides.A b) start (H.faults shelf.old) (H.faults shelf.new) (K.held sink.old) (K.held sink.new) result.status (option_map terms.left_of result.network) (map H.D.faults result.disks.items) }
+    ensures risen { IfSome result.network terms.IsRisen }
+    ensures bad_scenario { (line : ℕ) (cause : terms.BadCause) → result.status ≡ terms.BadScenario line cause → terms.ReadNoScenario (S.left source.old) line cause }
+    ensures read_fault { result.status ≡ terms.ReadFault → terms.Rose (S.faults source.old) (S.faults source.new) }
+    ensures write_fault { (n : ℕ) → result.status ≡ terms.WriteFault n → terms.Rose (K.faults sink.old) (K.faults sink.new) }
+    ensures too_long { result.status ≡ terms.TooLong → terms.IsLonger (S.left source.old) 1048576 }
+    ensures unread { terms.IsUnread (Some task) (S.left source.old) (S.left source.new) (S.faults source.old) (S.faults source.new) }
+{
+    match task {
+        Task::Read(purpose) => obey_text(alloc, purpose, source, sink, shelf, start),
+        Task::Soak(n) => run_soak(alloc, n, shelf, start, sink),
+    }
+}
+
+/// Does what the words say.
 fn obey_words<S: Source, K: Sink, H: Shelf>(
     alloc: Global,
     words: &[String],
@@ -153,31 +270,24 @@ fn obey_words<S: Source, K: Sink, H: Shelf>(
     start: u64,
 ) -> Ended<H::D>
     ensures ends { terms.Ends (terms.task_of (map string_bytes words.now)) (S.left source.old) H.D.tells (λ n b. H.holds shelf.old n sides.A b) start (H.faults shelf.old) (H.faults shelf.new) (K.held sink.old) (K.held sink.new) result.status (option_map terms.left_of result.network) (map H.D.faults result.disks.items) }
+    ensures risen { IfSome result.network terms.IsRisen }
     ensures bad_scenario { (line : ℕ) (cause : terms.BadCause) → result.status ≡ terms.BadScenario line cause → terms.ReadNoScenario (S.left source.old) line cause }
     ensures read_fault { result.status ≡ terms.ReadFault → terms.Rose (S.faults source.old) (S.faults source.new) }
     ensures write_fault { (n : ℕ) → result.status ≡ terms.WriteFault n → terms.Rose (K.faults sink.old) (K.faults sink.new) }
     ensures too_long { result.status ≡ terms.TooLong → terms.IsLonger (S.left source.old) 1048576 }
+    ensures unread { terms.IsUnread (terms.task_of (map string_bytes words.now)) (S.left source.old) (S.left source.new) (S.faults source.old) (S.faults source.new) }
 {
     let Some(task) = task_of(words) else {
         return ended_early(alloc, Status::BadWords, None);
     };
-    let text = match read_bytes(alloc, source) {
-        Ok(text) => text,
-        Err(status) => return ended_early(alloc, status, None),
-    };
-    match work_in(alloc, task, text.as_slice()) {
-        Ok(left) => do_work(alloc, left, shelf, start, sink),
-        Err(status) => {
-            let told = told(alloc, text.as_slice(), &status);
-            ended_early(alloc, status, told)
-        }
-    }
+    do_task(alloc, task, source, sink, shelf, start)
 }
 
 /// Runs the program: by the word `run`, the scenario that the source gives, over the shelf's disks, with its report to the sink; by
-/// the word `check` the scenario is read alone, and CHECK OK written. `start` is the moment of its beginning in milliseconds since
+/// the word `check` the scenario is read alone, and CHECK OK written; by the word `soak` and a number from 1 to 1000 the scenario of
+/// that number is run, which reads nothing and writes one line. `start` is the moment of its beginning in milliseconds since
 /// 1970; a moment above 253,300,000,000,000 is taken as that number.
-#[tactic(auto, using(crate::proofs::Ending::own_of, crate::proofs::Ending::rows_of, crate::proofs::Ending::once_of, crate::proofs::Ending::got_once_of, crate::proofs::Ending::order_of, crate::proofs::Ending::bad_words, crate::proofs::Ending::completes))]
+#[tactic(auto, using(crate::proofs::Ending::own_of, crate::proofs::Ending::rows_of, crate::proofs::Ending::once_of, crate::proofs::Ending::got_once_of, crate::proofs::Ending::order_of, crate::proofs::Resting::told_of_pumps, crate::proofs::Resting::rest_of_pumps, crate::proofs::Ending::bad_words, crate::proofs::Ending::completes, crate::proofs::Disks::disk_of))]
 pub fn mqnet<S: Source, K: Sink, H: Shelf>(
     alloc: Global,
     words: &[String],
@@ -187,8 +297,8 @@ pub fn mqnet<S: Source, K: Sink, H: Shelf>(
     start: u64,
 ) -> Ended<H::D>
     // By words and status: each history opens with what its disk told, and replays; all make a lawful story of the scenario of the
-    // bytes read, with every step whole where the run was not broken off; the bytes written are the report of scenario, story,
-    // standing and ledger, or its front, or none; the verdict is what the story says.
+    // bytes read, or of the number, with every step whole where the run was not broken off; the bytes written are the report of
+    // scenario, story, standing and ledger, or the number's line, or its front, or none; the verdict is what the story says.
     ensures ends { terms.Ends (terms.task_of (map string_bytes words.now)) (S.left source.old) H.D.tells (λ n b. H.holds shelf.old n sides.A b) start (H.faults shelf.old) (H.faults shelf.new) (K.held sink.old) (K.held sink.new) result.status (option_map terms.left_of result.network) (map H.D.faults result.disks.items) }
     // Over disks that tell their bytes no restart read a log that was changed from outside.
     ensures own { IfSome (option_map terms.left_of result.network) (terms.RestartsAreOwn H.D.tells) }
@@ -201,13 +311,25 @@ pub fn mqnet<S: Source, K: Sink, H: Shelf>(
     ensures got_once { IfSome (option_map terms.left_of result.network) (terms.IsPromised H.D.tells terms.GotOnce) }
     // and each receiver's commit keeps the order of its queue.
     ensures order { IfSome (option_map terms.left_of result.network) (terms.IsPromised H.D.tells terms.OrderKept) }
+    // Each PUMP that was done whole ended idle exactly where nothing can change behind it; it took no more turns and timeouts than it was given, and
+    // just as many where it did not end idle.
+    ensures pumps { IfSome (option_map terms.left_of result.network) terms.PumpsTell }
+    // Where the logs belong together and no restart read a log that was changed from outside: each PUMP that was done whole ended idle, if it had as
+    // many turns as 16 per row on the transmission queue of a running sender, 16 per channel and 3 per item on a cable (and what `IsEnough` asks).
+    ensures rest { IfSome (option_map terms.left_of result.network) (terms.IsPromised H.D.tells terms.PumpsRest) }
     ensures bad_words { result.status ≡ terms.BadWords ↔ (terms.task_of (map string_bytes words.now) ≡ None) }
     ensures bad_scenario { (line : ℕ) (cause : terms.BadCause) → result.status ≡ terms.BadScenario line cause → terms.ReadNoScenario (S.left source.old) line cause }
     ensures read_fault { result.status ≡ terms.ReadFault → terms.Rose (S.faults source.old) (S.faults source.new) }
     ensures write_fault { (n : ℕ) → result.status ≡ terms.WriteFault n → terms.Rose (K.faults sink.old) (K.faults sink.new) }
     ensures too_long { result.status ≡ terms.TooLong → terms.IsLonger (S.left source.old) 1048576 }
+    // Nothing is read by the word `soak`.
+    ensures unread { terms.IsUnread (terms.task_of (map string_bytes words.now)) (S.left source.old) (S.left source.new) (S.faults source.old) (S.faults source.new) }
+    // Each disk of the network failed at least as often as entries of its manager's history tell: none tells so but where the count rose.
+    ensures risen { IfSome result.network terms.IsRisen }
+    // A disk is told to have failed only where the shelf's count rose or a disk's: one that is handed back, or else one of the network.
+    ensures disk_fault { result.status ≡ terms.DiskFault → terms.DiskRose (H.faults shelf.old) (H.faults shelf.new) (option_map terms.counts_in result.network) (map H.D.faults result.disks.items) }
     // Where neither source nor sink fails, a text that is no scenario is told so, and of another the status is one of a run, or of a check
-    // 0; or it is want of memory.
+    // 0; or it is want of memory. By `soak` the status is one of a run where the sink doesn't fail.
     ensures complete { terms.Completes (terms.task_of (map string_bytes words.now)) (S.left source.old) (S.faults source.old) (S.faults source.new) (K.faults sink.old) (K.faults sink.new) result.status }
 {
     obey_words(alloc, words, source, sink, shelf, start)

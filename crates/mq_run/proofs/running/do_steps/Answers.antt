@@ -1,4 +1,5 @@
 use Rattle.mq_run.proofs.OwnLaws.{fresh_own}
+use Rattle.mq_run.proofs.DiskLaws.{fresh_risen}
 use Rattle.mq_run.proofs.RunLaws.{steps_end, steps_ran}
 use Rattle.mq_run.proofs.running.do_steps.Goals as goal
 
@@ -14,3 +15,6 @@ returns-clause-ends g c =
 
 pub returns-in-Err-clause-own : goal.returns-in-Err-clause-own
 returns-in-Err-clause-own g c = fresh_own g.D.Disk.tells c.args.rested c.in-Err.rested c.in-Err.ensures c.requires.fresh
+
+pub returns-in-Err-clause-risen : goal.returns-in-Err-clause-risen
+returns-in-Err-clause-risen g c = fresh_risen c.args.rested c.in-Err.rested c.in-Err.ensures c.requires.stands c.requires.fresh

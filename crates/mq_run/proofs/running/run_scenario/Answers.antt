@@ -12,23 +12,23 @@ returns-in-Err-clause-ends g c =
     let held = g.K.Sink.held c.args.sink.now in
     let counts = map g.H.D.Disk.faults c.in-Err.none.disks.items in
     subst (λ st. NoneEnds g.H.D.Disk.tells (λ n b. g.H.Shelf.holds c.args.shelf.now n sides.A b) c.args.start c.args.scenario.now (g.H.Shelf.faults c.args.shelf.now) (g.H.Shelf.faults c.begin.new.shelf) counts st × Keeps held held) (sym c.net_status.ensures)
-    (run_none g.H.D.Disk.tells (λ n b. g.H.Shelf.holds c.args.shelf.now n sides.A b) c.args.start c.args.scenario.now (g.H.Shelf.faults c.args.shelf.now) (g.H.Shelf.faults c.begin.new.shelf) held held counts c.in-Err.none.fault c.in-Err.ensures (stays held))
+    (run_none c.args.form g.H.D.Disk.tells (λ n b. g.H.Shelf.holds c.args.shelf.now n sides.A b) c.args.start c.args.scenario.now (g.H.Shelf.faults c.args.shelf.now) (g.H.Shelf.faults c.begin.new.shelf) held held counts c.in-Err.none.fault c.in-Err.ensures (stays held))
 
 pub returns-in-Err-apart-clause-ends : goal.returns-in-Err-apart-clause-ends
 returns-in-Err-apart-clause-ends g c =
     let held = g.K.Sink.held c.args.sink.now in
     let counts = map g.H.D.Disk.faults c.ended_with.result.disks.items in
-    run_at g.H.D.Disk.tells (λ n b. g.H.Shelf.holds c.args.shelf.now n sides.A b) c.args.start c.args.scenario.now (g.H.Shelf.faults c.args.shelf.now) (g.H.Shelf.faults c.begin.new.shelf) held held c.in-Ok.rested c.ended_with.result.status status.NoMemory
+    run_at c.args.form g.H.D.Disk.tells (λ n b. g.H.Shelf.holds c.args.shelf.now n sides.A b) c.args.start c.args.scenario.now (g.H.Shelf.faults c.args.shelf.now) (g.H.Shelf.faults c.begin.new.shelf) held held c.in-Ok.rested c.ended_with.result.status status.NoMemory
     c.ended_with.result.network counts c.ended_with.ensures.status c.ended_with.ensures.network
-    (run_wants g.H.D.Disk.tells (λ n b. g.H.Shelf.holds c.args.shelf.now n sides.A b) c.args.start c.args.scenario.now c.in-Ok.rested (g.H.Shelf.faults c.args.shelf.now) (g.H.Shelf.faults c.begin.new.shelf) held held counts
+    (run_wants c.args.form g.H.D.Disk.tells (λ n b. g.H.Shelf.holds c.args.shelf.now n sides.A b) c.args.start c.args.scenario.now c.in-Ok.rested (g.H.Shelf.faults c.args.shelf.now) (g.H.Shelf.faults c.begin.new.shelf) held held counts
     c.histories.ensures.rested c.in-Ok.ensures (ap (map g.H.D.Disk.faults) c.ended_with.ensures.disks) (stays held))
 
 pub returns-in-Ok-Some-clause-ends : goal.returns-in-Ok-Some-clause-ends
 returns-in-Ok-Some-clause-ends g c =
     let held = g.K.Sink.held c.args.sink.now in
     let counts = map g.H.D.Disk.faults c.ended_with-in-Ok-Some.result.disks.items in
-    run_at g.H.D.Disk.tells (λ n b. g.H.Shelf.holds c.args.shelf.now n sides.A b) c.args.start c.args.scenario.now (g.H.Shelf.faults c.args.shelf.now) (g.H.Shelf.faults c.begin.new.shelf) held held c.in-Ok.rested c.ended_with-in-Ok-Some.result.status
+    run_at c.args.form g.H.D.Disk.tells (λ n b. g.H.Shelf.holds c.args.shelf.now n sides.A b) c.args.start c.args.scenario.now (g.H.Shelf.faults c.args.shelf.now) (g.H.Shelf.faults c.begin.new.shelf) held held c.in-Ok.rested c.ended_with-in-Ok-Some.result.status
     (status.Apart c.in-Ok-Some.found) c.ended_with-in-Ok-Some.result.network counts c.ended_with-in-Ok-Some.ensures.status c.ended_with-in-Ok-Some.ensures.network
-    (run_apart g.H.D.Disk.tells (λ n b. g.H.Shelf.holds c.args.shelf.now n sides.A b) c.args.start c.args.scenario.now c.in-Ok.rested (g.H.Shelf.faults c.args.shelf.now) (g.H.Shelf.faults c.begin.new.shelf) held held counts c.in-Ok-Some.found
+    (run_apart c.args.form g.H.D.Disk.tells (λ n b. g.H.Shelf.holds c.args.shelf.now n sides.A b) c.args.start c.args.scenario.now c.in-Ok.rested (g.H.Shelf.faults c.args.shelf.now) (g.H.Shelf.faults c.begin.new.shelf) held held counts c.in-Ok-Some.found
     c.histories.ensures.rested c.in-Ok.ensures (ap (map g.H.D.Disk.faults) c.ended_with-in-Ok-Some.ensures.disks)
     (ap (apart c.args.scenario.now) (sym c.histories.ensures.histories) ∙ sym c.in-Ok-Some.ensures ∙ c.in-Ok-Some.field-0-is) (stays held))

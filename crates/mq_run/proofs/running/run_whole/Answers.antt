@@ -12,8 +12,8 @@ pub returns-in-Err-clause-ends : goal.returns-in-Err-clause-ends
 returns-in-Err-clause-ends g c =
     let held = g.K.Sink.held c.args.sink.now in
     let l = left_of c.do_steps-done.result.rested in
-    whole_at held held c.args.scenario.now c.args.rested.histories c.do_steps-done.result.rested c.ended_with-in-Err.result.status (stop_status c.in-Err.stop) c.ended_with-in-Err.result.network (c.ended_with-in-Err.ensures.status ∙ c.stop_status.ensures) c.ended_with-in-Err.ensures.network
-    (whole_stopped held held c.args.scenario.now c.args.rested.histories l c.in-Err.stop c.do_steps-done.ensures.on c.requires.together (subst (λ r. StepsEnd r l) c.in-Err.is c.do_steps-done.ensures.ends) (stays held))
+    whole_at c.args.form held held c.args.scenario.now c.args.rested.histories c.do_steps-done.result.rested c.ended_with-in-Err.result.status (stop_status c.in-Err.stop) c.ended_with-in-Err.result.network (c.ended_with-in-Err.ensures.status ∙ c.stop_status.ensures) c.ended_with-in-Err.ensures.network
+    (whole_stopped c.args.form held held c.args.scenario.now c.args.rested.histories l c.in-Err.stop c.do_steps-done.ensures.on c.requires.together (subst (λ r. StepsEnd r l) c.in-Err.is c.do_steps-done.ensures.ends) (stays held))
 
 pub returns-in-Err-clause-write_fault : goal.returns-in-Err-clause-write_fault
 returns-in-Err-clause-write_fault g c = λ n e. stop_no_write c.in-Err.stop n (sym (c.ended_with-in-Err.ensures.status ∙ c.stop_status.ensures) ∙ e)

@@ -8,6 +8,7 @@ use Rattle.mq_world.specs.Resting.{manager_in, own_in}
 use Rattle.mq_world.specs.Worlds.{history_in}
 use Rattle.mq_world.proofs.ListLaws.{long_map, none_left}
 use Rattle.mq_world.proofs.RestLaws.{all_moved, first_moved, moved_on}
+use Rattle.mq_world.proofs.RiseLaws.{risen_first, risen_moved}
 use Rattle.mq_world.proofs.resting.RestRoom.fill.Goals as goal
 
 pub loop-node-init : goal.loop-node-init
@@ -17,6 +18,7 @@ loop-node-init g c =
       managers = first_moved manager_in c.self.inside.managers.items c.reverse.new.self.items c.args.nodes c.self.invariant.0 left;
       owns = first_moved own_in c.self.inside.owns.items c.reverse.new.self.items c.args.nodes c.self.invariant.2 left;
       histories = first_moved history_in c.self.inside.histories.items c.reverse.new.self.items c.args.nodes c.self.invariant.4 left;
+      risen = risen_first c.self.inside.managers.items c.self.inside.histories.items c.self.invariant.0 c.self.invariant.4;
       managers_room = omega (arith, c.self.invariant.1, c.reverse.ensures.len, c.into_vec-left.result.ok, ap length c.into_vec-left.ensures, c.requires.room, c.self.view_is);
       owns_room = omega (arith, c.self.invariant.3, c.reverse.ensures.len, c.into_vec-left.result.ok, ap length c.into_vec-left.ensures, c.requires.room, c.self.view_is);
       histories_room = omega (arith, c.self.invariant.5, c.reverse.ensures.len, c.into_vec-left.result.ok, ap length c.into_vec-left.ensures, c.requires.room, c.self.view_is);
@@ -27,6 +29,8 @@ loop-node-preserved g c = record {
   managers = moved_on manager_in c.loop-node.managers.items c.push_reserved.new.self.items c.loop-node.left.items c.pop.new.self.items c.in-Some.node c.rest_node-manager.result.manager _ c.push_reserved.ensures.items c.rest_node-manager.ensures.manager c.in-Some.ensures.items c.loop-node.invariant.managers;
   owns = moved_on own_in c.loop-node.owns.items c.push_reserved-in-Some.new.self.items c.loop-node.left.items c.pop.new.self.items c.in-Some.node c.rest_node-manager.result.own _ c.push_reserved-in-Some.ensures.items c.rest_node-manager.ensures.own c.in-Some.ensures.items c.loop-node.invariant.owns;
   histories = moved_on history_in c.loop-node.histories.items c.push_reserved-in-Some-2.new.self.items c.loop-node.left.items c.pop.new.self.items c.in-Some.node c.rest_node-manager.result.history _ c.push_reserved-in-Some-2.ensures.items c.rest_node-manager.ensures.history c.in-Some.ensures.items c.loop-node.invariant.histories;
+  risen = risen_moved c.loop-node.managers.items c.push_reserved.new.self.items c.loop-node.histories.items c.push_reserved-in-Some-2.new.self.items c.rest_node-manager.result.manager c.rest_node-manager.result.history c.push_reserved.ensures.items c.push_reserved-in-Some-2.ensures.items
+      c.loop-node.invariant.risen c.rest_node-manager.ensures.risen;
   managers_room = omega (arith, c.push_reserved.ensures.len, c.push_reserved.ensures.capacity, c.in-Some.ensures.cases, c.loop-node.invariant.managers_room);
   owns_room = omega (arith, c.push_reserved-in-Some.ensures.len, c.push_reserved-in-Some.ensures.capacity, c.in-Some.ensures.cases, c.loop-node.invariant.owns_room);
   histories_room = omega (arith, c.push_reserved-in-Some-2.ensures.len, c.push_reserved-in-Some-2.ensures.capacity, c.in-Some.ensures.cases, c.loop-node.invariant.histories_room);

@@ -1,0 +1,103 @@
+-- What the program tells of each PUMP of a run, and promises of one that has enough turns.
+use Rattle.std.proofs.Common.{ℕ, ◌≡◌, List, refl, ap, sym, subst, ◌∙◌}
+use Rattle.std.specs.Prelude.{All, IfSome, Option, Some, slice_get}
+use Rattle.std.proofs.lemmas.List.Elements.{All-weaker}
+use Rattle.mq_sc_parse.specs.declared.command.Command.{Command}
+use Rattle.mq_sc_parse.specs.declared.command.Command.TheVariants as commands
+use Rattle.mq_history.specs.Scenarios.{IsScenario}
+use Rattle.mq_history.specs.declared.history.History.{History}
+use Rattle.mq_history.specs.declared.scenario.Scenario.{Scenario}
+use Rattle.mq_history.specs.declared.scenario.ScriptPart.{ScriptPart}
+use Rattle.mq_history.specs.declared.scenario.Section.{Section}
+use Rattle.mq_history.specs.declared.scenario.Step.{Step}
+use Rattle.mq_history.specs.declared.scenario.Step.TheVariants as steps
+use Rattle.mq_history.specs.declared.scripts.ScriptLine.{ScriptLine}
+use Rattle.mq_history.specs.declared.scripts.ScriptLine.TheVariants as lines
+use Rattle.mq_nodes.specs.Texts.{AllFit, LineFits, StepFits}
+use Rattle.mq_spec_log.specs.Applies.Start.{First}
+use Rattle.mq_spec_node.specs.Node.{Node}
+use Rattle.mq_spec_node.specs.Replays.{opening_node}
+use Rattle.mq_spec_network.specs.Given.{surroundings}
+use Rattle.mq_law_image.specs.Values.{AreObjectTexts}
+use Rattle.mq_law_image.proofs.Logged.{image_text}
+use Rattle.mq_law_ran.specs.Runs.{AreHistories, AreOpenings}
+use Rattle.mq_law_ran.proofs.Lawfuls.{images, known, opening}
+use Rattle.mq_run.specs.Ends.{RunLeaves}
+use Rattle.mq_run.specs.Words.{IsPromised, IsTextCommand, Left}
+use Rattle.mq_run.specs.declared.status.Status.{Status}
+use Rattle.mq_run.proofs.Promising.{owned}
+use Rattle.mq_law_rest.specs.Rests.{PumpsRest, PumpsTell}
+use Rattle.mq_law_rest.specs.Values.{IsTextOf, OpenTexts}
+use Rattle.mq_law_rest.proofs.Resting.{pumps_rest}
+use Rattle.mq_law_rest.proofs.Turned.{pumps_tell}
+use Rattle.mqnet.specs.Headline.{Ends}
+use Rattle.mqnet.specs.declared.top.Task.{Task}
+use Rattle.mqnet.proofs.Ending.{promised_of}
+
+-- THE SCENARIO'S COMMANDS
+text_of : (c : Command) → IsTextCommand c → IsTextOf c
+text_of (commands.Objects o) h = h
+text_of (commands.Operate op) h = tt
+text_of (commands.ShowStatus name any_end) h = tt
+
+line_text_of : (l : ScriptLine) → LineFits IsTextCommand l → LineFits IsTextOf l
+line_text_of (lines.Mqsc c) h = text_of c h
+line_text_of (lines.Mqconn name) h = tt
+line_text_of lines.Mqdisc h = tt
+line_text_of lines.Mqcmit h = tt
+line_text_of lines.Mqback h = tt
+line_text_of (lines.Mqopen handle name qmgr how) h = tt
+line_text_of (lines.Mqclose handle) h = tt
+line_text_of (lines.Mqput handle body o) h = tt
+line_text_of (lines.Mqput1 name qmgr body o) h = tt
+line_text_of (lines.Reply body o) h = tt
+line_text_of (lines.Mqget handle o) h = tt
+line_text_of lines.Crash h = tt
+line_text_of lines.Restart h = tt
+line_text_of (lines.Cut k) h = tt
+
+step_text_of : (s : Step) → StepFits IsTextCommand s → StepFits IsTextOf s
+step_text_of (steps.Do m c) h = text_of c h
+step_text_of (steps.Obey k) h = tt
+step_text_of (steps.Run k n) h = tt
+step_text_of (steps.Phase ks) h = tt
+step_text_of (steps.Pump n) h = tt
+step_text_of (steps.Handle k n) h = tt
+step_text_of (steps.Watch k) h = tt
+step_text_of (steps.Serve k n) h = tt
+step_text_of (steps.Crash m) h = tt
+step_text_of (steps.Restart m) h = tt
+step_text_of (steps.Cut m k) h = tt
+step_text_of (steps.Clock ms) h = tt
+
+all_text_of : (s : Scenario) → AllFit IsTextCommand s → AllFit IsTextOf s
+all_text_of s h = record {
+  sections = All-weaker (λ (p : Section). All IsTextCommand p.commands) (λ (p : Section). All IsTextOf p.commands) (λ p a. All-weaker IsTextCommand IsTextOf text_of p.commands a) s.sections h.sections;
+  scripts = All-weaker (λ (p : ScriptPart). All (LineFits IsTextCommand) p.lines) (λ (p : ScriptPart). All (LineFits IsTextOf) p.lines) (λ p a. All-weaker (LineFits IsTextCommand) (LineFits IsTextOf) line_text_of p.lines a) s.scripts h.scripts;
+  steps = All-weaker (StepFits IsTextCommand) (StepFits IsTextOf) step_text_of s.steps h.steps;
+}
+
+-- THE DEFINITIONS WITH WHICH MANAGERS BEGIN
+open_texts : (tells : Type 0) (held : List ℕ → List ℕ → Type 0) (start : ℕ) (l : Left) → AreHistories l.scenario l.histories → AreOpenings tells held start l → OpenTexts l.scenario l.histories
+open_texts tells held start l a o m h is =
+    let at = opening tells held start l a o m h is in
+    subst (λ (n : Node). AreObjectTexts n.manager.definitions) (sym at.1.begins) (image_text (surroundings l.scenario m).given First at.1.bodies at.1.told at.1.read at.1.bytes)
+
+-- A RUN
+run_tells : (tells : Type 0) (held : List ℕ → List ℕ → Type 0) (start : ℕ) (s : Scenario) (counts : List ℕ) (l : Left) → RunLeaves tells held start s counts l → PumpsTell l
+run_tells tells held start s counts l h = pumps_tell l h.lawful
+
+run_rests : (tells : Type 0) (held : List ℕ → List ℕ → Type 0) (start : ℕ) (s : Scenario) (counts : List ℕ) (l : Left) → IsScenario s → AllFit IsTextCommand s → RunLeaves tells held start s counts l → IsPromised tells PumpsRest l
+run_rests tells held start s counts l is fit h joined own =
+    pumps_rest l (subst IsScenario (sym h.scenario) is) (subst (AllFit IsTextOf) (sym h.scenario) (all_text_of s fit)) (open_texts tells held start l h.histories h.openings)
+    (images tells held start l h.histories h.openings) (known tells held start l h.histories h.openings) h.lawful joined (owned tells l h.own own)
+
+pub told_of_pumps : (asked : Option Task) (left : Option (List ℕ)) (tells : Type 0) (held : List ℕ → List ℕ → Type 0) (start before now : ℕ) (old new : Option (List ℕ)) (st : Status) (net : Option Left) (counts : List ℕ)
+    → Ends asked left tells held start before now old new st net counts → IfSome net PumpsTell
+told_of_pumps asked left tells held start before now old new st net counts e = promised_of PumpsTell asked left tells held start before now old new st net counts
+    (λ l s r k h. run_tells tells held start s counts l h) e
+
+pub rest_of_pumps : (asked : Option Task) (left : Option (List ℕ)) (tells : Type 0) (held : List ℕ → List ℕ → Type 0) (start before now : ℕ) (old new : Option (List ℕ)) (st : Status) (net : Option Left) (counts : List ℕ)
+    → Ends asked left tells held start before now old new st net counts → IfSome net (IsPromised tells PumpsRest)
+rest_of_pumps asked left tells held start before now old new st net counts e = promised_of (IsPromised tells PumpsRest) asked left tells held start before now old new st net counts
+    (λ l s r k h. run_rests tells held start s counts l r k h) e
