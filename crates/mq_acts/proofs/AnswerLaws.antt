@@ -59,15 +59,15 @@ module _ (s r f : NodeState) (who : Actor) (c : Command) (a : Acted) (e : r ≡ 
   counts : KeepsCounts s behind
   counts = finished_counts s (record s { room = r.room }) (record s { room = r.room }) behind who call (quietly a) refl refl refl
 
+  told_none : disk_failed (replies.Acted a) ≡ false → RoseBy (replies.Acted a) s.manager.faults s.manager.faults
+  told_none quiet = silent (replies.Acted a) (replies.Acted a) s.manager.faults s.manager.faults refl quiet
+
   pub answered_node : disk_failed (replies.Acted a) ≡ false → IsNode s → IsServed s → IsNode f
   answered_node quiet n served = subst IsNode (sym f_is) (record {
     kept = behind_kept n.kept served;
     counted = climbs_counted 0 s behind n.counted counts.few (long_more s.history.entries (entry_of (s.stamp + 1) who call (quietly a))) (stay 0 s.manager.plain) (climbs_on (kept_total behind.own) (kept_total s.own) counts.total);
     risen = risen_with s.history.entries (entry_of (s.stamp + 1) who call (quietly a)) s.manager.faults s.manager.faults n.risen (le_self s.manager.faults) (told_none quiet);
   })
-
-  told_none : disk_failed (replies.Acted a) ≡ false → RoseBy (replies.Acted a) s.manager.faults s.manager.faults
-  told_none quiet = silent (replies.Acted a) (replies.Acted a) s.manager.faults s.manager.faults refl quiet
 
   pub answered_as : (b : Acted) → b ≡ a → disk_failed (replies.Acted a) ≡ false → ActsAs who (calls.Act (acts.Obey c)) s (Ok b) f
   answered_as b is quiet =

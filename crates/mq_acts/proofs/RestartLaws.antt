@@ -1,7 +1,6 @@
 -- A restart as an event: the history with its entry replays, and leads to the node behind it.
-use Rattle.std.proofs.Common.{◌≡◌, ℕ, ◌+◌, ◌*◌, ◌^◌, ◌≤◌, Bool, true, [], ◌∷◌, ◌++◌, length, refl, ap, sym, subst, ◌∙◌, arith}
-use Rattle.std.specs.Prelude.{Option, Some, None, Ok, Err}
-use Rattle.mq_base.specs.declared.want.NoMemory.{NoMemory as Want}
+use Rattle.std.proofs.Common.{◌≡◌, ℕ, ◌+◌, ◌*◌, ◌^◌, ◌≤◌, Bool, [], ◌∷◌, ◌++◌, length, refl, ap, sym, subst, ◌∙◌, arith}
+use Rattle.std.specs.Prelude.{Option, Some, None, Ok}
 use Rattle.mq_base.specs.Outside.{Rose}
 use Rattle.mq_calls.specs.declared.commands.RestartFault.{RestartFault}
 use Rattle.mq_calls.specs.declared.commands.RestartFault.TheVariants as faults
@@ -11,8 +10,7 @@ use Rattle.mq_history.specs.declared.acts.Acted.{Acted}
 use Rattle.mq_history.specs.declared.calls.Call.TheVariants as calls
 use Rattle.mq_calls.specs.Images.{raised}
 use Rattle.mq_core.specs.Values.{CoreValue}
-use Rattle.mq_restart.specs.Returned.{IsOfImage}
-use Rattle.mq_spec_node.specs.Terms.{Actor, Call, Entry, Plain}
+use Rattle.mq_spec_node.specs.Terms.{Actor, Entry, Plain}
 use Rattle.mq_history.specs.declared.calls.Reply.TheVariants as replies
 use Rattle.mq_spec_node.specs.Words.{begun_anew, Done, IsReplayed, Own, Tells, node_of, done_by, quiet}
 use Rattle.mq_events.specs.States.{NodeState, IsKept, IsServed, node_in, value_of, with_entry}
@@ -26,7 +24,7 @@ use Rattle.mq_events.proofs.KeepLaws.{begun_none}
 use Rattle.mq_events.proofs.RiseLaws.{risen_later, risen_with}
 use Rattle.mq_acts.proofs.AnswerLaws.{room_stays, roomed_node}
 use Rattle.mq_acts.specs.declared.restarting.Restarted.{Restarted}
-use Rattle.mq_acts.specs.Restarts.{own_behind, CountsBehind, acted_by, IsRestart, IsUnchanged, restart_entry, TellsActed, TellsAs, BeganFew}
+use Rattle.mq_acts.specs.Restarts.{own_behind, CountsBehind, acted_by, IsRestart, IsUnchanged, restart_entry, TellsAs, BeganFew}
 
 -- ---- where memory lacks, all is as it was
 

@@ -1,13 +1,11 @@
 -- A restart of a manager, as the history keeps it.
-use Rattle.std.proofs.Common.{◌≡◌, ℕ, ◌+◌, ◌≤◌, Bool, true, false, [], refl, ap, sym, subst, ◌∙◌}
+use Rattle.std.proofs.Common.{◌≡◌, ℕ, ◌+◌, Bool, true, false, [], refl, ap, sym, subst, ◌∙◌}
 use Rattle.std.specs.Prelude.{List, Option, Some, None, Result, Ok, Err, MatchResult}
 use Rattle.mq_base.specs.declared.want.NoMemory.{NoMemory as Want}
 use Rattle.mq_calls.specs.declared.choices.Return.{Return}
 use Rattle.mq_calls.specs.declared.choices.Return.TheVariants.{Comes, Fails}
-use Rattle.mq_calls.specs.declared.commands.Kept.{Kept}
 use Rattle.mq_calls.specs.declared.commands.RestartFault.{RestartFault}
 use Rattle.mq_calls.specs.declared.commands.RestartFault.TheVariants as faults
-use Rattle.mq_calls.specs.declared.image.Image.{Image}
 use Rattle.mq_history.specs.declared.acts.Acted.TheVariants as acted
 use Rattle.mq_history.specs.declared.calls.Chance.TheVariants as chances
 use Rattle.mq_history.specs.declared.calls.Reply.TheVariants as replies
@@ -15,7 +13,7 @@ use Rattle.mq_calls.specs.State.{LogState, Noted, Running}
 use Rattle.mq_calls.specs.State.Running.{Up, Down}
 use Rattle.mq_calls.specs.Images.{begun, raised}
 use Rattle.mq_calls.specs.Words.{Plain, is_up}
-use Rattle.mq_spec_manager.specs.Stops.{CanReturn, failed, restart, restart_at}
+use Rattle.mq_spec_manager.specs.Stops.{failed, restart_at}
 use Rattle.mq_law_manager.specs.Facts.{IsSound}
 use Rattle.mq_law_manager.proofs.Beginning.{image_rests}
 use Rattle.mq_law_manager.proofs.Ending.{sound_still, begun_sound}
@@ -28,15 +26,15 @@ use Rattle.mq_restart.specs.Returned.{CanEnd, Ends, IsOfImage, Passes, Stayed}
 use Rattle.mq_restart.specs.Stands.{LogStands}
 use Rattle.mq_restarts.specs.declared.restarting.Back.{Back}
 use Rattle.mq_restarts.specs.declared.restarting.Back.TheVariants as backs
-use Rattle.mq_restarts.specs.Backs.{IsBack, IsBackAs, IsBackFrom}
+use Rattle.mq_restarts.specs.Backs.{IsBack, IsBackFrom}
 use Rattle.mq_manager.specs.Facts.{IsWell}
 use Rattle.mq_manager.specs.Kept.{IsKept}
 use Rattle.mq_manager.proofs.RestartLaws.{kept_restart}
 use Rattle.mq_spec_node.specs.Terms.{Did}
-use Rattle.mq_spec_node.specs.Words.{Own, Node, Done, node_of, begun_anew, quiet, restart_event, restarted, IsReturn, IsToldReturn, IsOwn}
+use Rattle.mq_spec_node.specs.Words.{Own, Done, node_of, begun_anew, quiet, restarted, IsReturn, IsToldReturn}
 use Rattle.mq_events.specs.Counts.{AreBelow}
 use Rattle.mq_acts.specs.declared.restarting.Restarted.{Restarted}
-use Rattle.mq_acts.specs.Restarts.{own_behind, CountsBehind, acted_by, IsRestart, IsUnchanged, RestartsAs, came_as, is_wanting, refused_as, StayedAs}
+use Rattle.mq_acts.specs.Restarts.{IsRestart, RestartsAs, came_as, is_wanting, refused_as, StayedAs}
 
 -- ---- what holds of the manager between its calls
 

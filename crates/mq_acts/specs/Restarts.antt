@@ -108,3 +108,7 @@ BeganFew (Some fault) old new = new.few ≡ old.few
 abbrev pub RestartIsOwn : Act → List Entry → List Entry → Type 0
 RestartIsOwn acts.Restart old new = NoneForeign old → NoneForeign new
 RestartIsOwn _ old new = Unit {0}
+
+-- the same whatever was asked
+abbrev pub StaysOwn : List Entry → List Entry → Type 0
+StaysOwn old new = NoneForeign old → NoneForeign new

@@ -78,3 +78,6 @@ returns-in-Ok-false-clause-told g c =
     (leaves c.args.monitor c.line_of-line.result c.in-Ok-Some.connection c.leave.result (course_in c.args.self.now) (course_in c.open.new.self) (course_in c.leave.new.self)
     (subst (λ (is : Bool). Onward (Watch c.args.monitor c.line_of-line.result ∷ []) (gives_up c.args.monitor c.line_of-line.result c.in-Ok-Some.connection is) (course_in c.args.self.now) (course_in c.open.new.self)) c.in-Ok-false.field-0-test
     (opened c.args.monitor c.line_of-line.result c.in-Ok-Some.connection c.in-Ok-false.field-0 (course_in c.args.self.now) (course_in c.connect.new.self) (course_in c.open.new.self) on c.in-Ok-false.ensures.told)) c.leave.ensures.told)
+
+pub returns-in-Ok-false-clause-own : goal.returns-in-Ok-false-clause-own
+returns-in-Ok-false-clause-own g c = λ is own. c.leave.ensures.own is (c.in-Ok-false.ensures.own is (c.in-Ok-Some.ensures.own is own))

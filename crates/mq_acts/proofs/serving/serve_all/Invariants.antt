@@ -1,6 +1,6 @@
 use Rattle.std.proofs.Common.{◌-◌, ◌^◌, length}
 use Rattle.mq_acts.specs.Serving.{Serves}
-use Rattle.mq_acts.proofs.serving.serve.Given as goal
+use Rattle.mq_acts.proofs.serving.serve_all.Given as goal
 
 abbrev pub decreases-serving : goal.decreases-serving
 decreases-serving g l = 2 ^ 48 - length l.node.history.entries
