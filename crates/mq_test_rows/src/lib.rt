@@ -13,6 +13,8 @@ mod fixture;
 #[cfg(test)]
 mod heads;
 #[cfg(test)]
+mod indexed;
+#[cfg(test)]
 mod message;
 #[cfg(test)]
 mod name;

@@ -9,7 +9,7 @@ use Rattle.mq_calls.specs.State.Change.{DropBatch, Release}
 use Rattle.mq_calls.specs.Reads.{batch_of}
 use Rattle.mq_calls.specs.Changes.{apply_all}
 use Rattle.mq_calls.specs.Steps.{delta_of, do_all}
-use Rattle.mq_calls.specs.Meeting.{MeetsOrWants}
+use Rattle.mq_calls.specs.Meeting.{MeetsInRoom}
 use Rattle.mq_spec_manager.specs.Agents.{HasBatch, IsUp, release_batch, release_of}
 use Rattle.mq_spec_node.specs.Words.{parts_of}
 use Rattle.mq_core.specs.Values.{CoreValue, WritesLog, manager_of}
@@ -33,7 +33,7 @@ abbrev told : List ℕ → CoreValue → CoreValue → CoreValue
 told channel v new = record new { delta = delta_of (parts_of (release_batch channel v.plain)); stopped = None; faults = v.faults }
 
 meets_of : (channel : List ℕ) (o : Option Batch) (v : CoreValue) (q : Plain) → IsSome o → q ≡ do_all (parts_of (release_of channel o)) v.plain
-    → MeetsOrWants (manager_of v) (release_of channel o) (Ok tt) (record { plain = q; delta = delta_of (parts_of (release_of channel o)); stopped = None; faults = v.faults })
+    → MeetsInRoom (manager_of v) (release_of channel o) (Ok tt) (record { plain = q; delta = delta_of (parts_of (release_of channel o)); stopped = None; faults = v.faults })
 meets_of channel None v q h e = absurd cc
 meets_of channel (Some b) v q h e =
     (refl, (λ a. a), omega arith, ap (λ (p : Plain). record { plain = p; delta = delta_of (parts_of (release_of channel (Some b))); stopped = None; faults = v.faults }) e)
