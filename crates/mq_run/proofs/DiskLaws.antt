@@ -109,7 +109,6 @@ none_risen (c ∷ cs) [] long none = absurd cc
 none_risen (c ∷ cs) (h ∷ hs) long none =
     (subst (λ (es : List Entry). HasRisen es c) (sym (none zero h refl)) (zero_risen c), none_risen cs hs (omega (arith, long)) (λ m k at. none (suc m) k at))
 
-
 pub fresh_risen : (w v : RestState) → v ≡ w → IsRested w → IsFresh w → IsRisen v
 fresh_risen w v same r f = subst IsRisen (sym same) (none_risen (counts_in w) w.histories (length-map w.managers faults_in ∙ r.managers ∙ sym r.histories) f.undone)
 

@@ -74,7 +74,8 @@ impl Status {
     pub fn words(&self) -> &'static str {
         match self {
             Status::Ok => "all was done and written",
-            Status::BadWords => "usage: mqnet run < SCENARIO, or mqnet check < SCENARIO, or mqnet soak N with N from 1 to 1000",
+            Status::BadWords =>
+                "usage: mqnet run < SCENARIO, or mqnet check < SCENARIO, or mqnet soak N with N from 1 to 1000",
             Status::BadScenario(_, _) => "the input is no scenario",
             Status::ReadFault => "the input can't be read",
             Status::WriteFault(_) => "the output can't be written",

@@ -172,7 +172,12 @@ fn shelf(alloc: Global, case: &Case) -> Result<MemShelf<MemDisk>, Fail> {
 /// The large run of a number: the words, the status, and the line.
 const SOAKS: [(&str, &str, u8, &str); 9] = [
     ("soak", "1", 0, "SOAK 1 PUTS 20 M1 0 M2 0 M3 20 STATUS 0\n"),
-    ("soak", "20", 0, "SOAK 20 PUTS 400 M1 0 M2 0 M3 400 STATUS 0\n"),
+    (
+        "soak",
+        "20",
+        0,
+        "SOAK 20 PUTS 400 M1 0 M2 0 M3 400 STATUS 0\n",
+    ),
     ("soak", "0", 1, ""),
     ("soak", "1001", 1, ""),
     ("soak", "01", 1, ""),
