@@ -151,7 +151,7 @@ fn run_whole<K: Sink, D: Disk>(
 
 /// Runs a scenario over a shelf: its managers begin, their logs are checked to belong together, its steps are done,
 /// those that are down are restarted, and the report is written, or the line of a large run.
-#[tactic(auto, using(crate::proofs::JoinLaws::fresh, crate::proofs::RunLaws::begun_timed, crate::proofs::RunLaws::run_whole, crate::proofs::RunLaws::run_wants, crate::proofs::RunLaws::run_apart, crate::proofs::RunLaws::run_none, crate::proofs::RunLaws::net_no_write, crate::proofs::RunLaws::few_cables, crate::proofs::DiskLaws::begun_risen))]
+#[tactic(auto, using(crate::proofs::JoinLaws::fresh, crate::proofs::RunLaws::begun_timed, crate::proofs::RunLaws::run_whole, crate::proofs::RunLaws::run_wants, crate::proofs::RunLaws::run_apart, crate::proofs::RunLaws::run_none, crate::proofs::RunLaws::net_no_write, crate::proofs::RunLaws::few_cables))]
 pub fn run_scenario<K: Sink, H: Shelf>(
     alloc: Global,
     form: Form,
