@@ -1,11 +1,10 @@
 -- What the program tells of each PUMP of a run, and promises of one that has enough turns.
-use Rattle.std.proofs.Common.{ℕ, ◌≡◌, List, refl, ap, sym, subst, ◌∙◌}
-use Rattle.std.specs.Prelude.{All, IfSome, Option, Some, slice_get}
+use Rattle.std.proofs.Common.{ℕ, List, sym, subst}
+use Rattle.std.specs.Prelude.{All, IfSome, Option}
 use Rattle.std.proofs.lemmas.List.Elements.{All-weaker}
 use Rattle.mq_sc_parse.specs.declared.command.Command.{Command}
 use Rattle.mq_sc_parse.specs.declared.command.Command.TheVariants as commands
 use Rattle.mq_history.specs.Scenarios.{IsScenario}
-use Rattle.mq_history.specs.declared.history.History.{History}
 use Rattle.mq_history.specs.declared.scenario.Scenario.{Scenario}
 use Rattle.mq_history.specs.declared.scenario.ScriptPart.{ScriptPart}
 use Rattle.mq_history.specs.declared.scenario.Section.{Section}
@@ -16,7 +15,6 @@ use Rattle.mq_history.specs.declared.scripts.ScriptLine.TheVariants as lines
 use Rattle.mq_nodes.specs.Texts.{AllFit, LineFits, StepFits}
 use Rattle.mq_spec_log.specs.Applies.Start.{First}
 use Rattle.mq_spec_node.specs.Node.{Node}
-use Rattle.mq_spec_node.specs.Replays.{opening_node}
 use Rattle.mq_spec_network.specs.Given.{surroundings}
 use Rattle.mq_law_image.specs.Values.{AreObjectTexts}
 use Rattle.mq_law_image.proofs.Logged.{image_text}
