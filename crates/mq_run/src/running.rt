@@ -117,7 +117,7 @@ fn report<K: Sink, D: Disk>(
 }
 
 /// Does the steps of a scenario whose managers' logs belong together, and writes its report, or its line.
-#[tactic(auto, using(crate::proofs::RunLaws::opened_on, crate::proofs::RunLaws::did_all, crate::proofs::RunLaws::whole_did, crate::proofs::RunLaws::stays, crate::proofs::OwnLaws::ended_own, crate::proofs::DiskLaws::ended_risen))]
+#[tactic(auto, using(crate::proofs::RunLaws::opened_on, crate::proofs::RunLaws::did_all, crate::proofs::RunLaws::whole_did, crate::proofs::RunLaws::stays))]
 fn run_whole<K: Sink, D: Disk>(
     alloc: Global,
     form: Form,

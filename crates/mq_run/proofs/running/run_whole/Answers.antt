@@ -2,6 +2,8 @@ use Rattle.std.proofs.Common.{◌∙◌, subst, sym}
 use Rattle.mq_run.specs.Ends.{StepsEnd}
 use Rattle.mq_run.specs.Leaves.{left_of}
 use Rattle.mq_run.specs.Statuses.{stop_status}
+use Rattle.mq_run.proofs.DiskLaws.{ended_risen}
+use Rattle.mq_run.proofs.OwnLaws.{ended_own}
 use Rattle.mq_run.proofs.RunLaws.{opened_on, stays, stop_no_write, whole_at, whole_stopped}
 use Rattle.mq_run.proofs.running.run_whole.Goals as goal
 
@@ -17,3 +19,15 @@ returns-in-Err-clause-ends g c =
 
 pub returns-in-Err-clause-write_fault : goal.returns-in-Err-clause-write_fault
 returns-in-Err-clause-write_fault g c = λ n e. stop_no_write c.in-Err.stop n (sym (c.ended_with-in-Err.ensures.status ∙ c.stop_status.ensures) ∙ e)
+
+pub returns-in-Ok-clause-own : goal.returns-in-Ok-clause-own
+returns-in-Ok-clause-own g c = ended_own g.D.Disk.tells c.do_steps-done.result.rested c.ended_with.result.network c.ended_with.ensures.network c.do_steps-done.ensures.own
+
+pub returns-in-Err-clause-own : goal.returns-in-Err-clause-own
+returns-in-Err-clause-own g c = ended_own g.D.Disk.tells c.do_steps-done.result.rested c.ended_with-in-Err.result.network c.ended_with-in-Err.ensures.network c.do_steps-done.ensures.own
+
+pub returns-in-Ok-clause-risen : goal.returns-in-Ok-clause-risen
+returns-in-Ok-clause-risen g c = ended_risen c.do_steps-done.result.rested c.ended_with.result.network c.ended_with.ensures.network c.do_steps-done.ensures.risen
+
+pub returns-in-Err-clause-risen : goal.returns-in-Err-clause-risen
+returns-in-Err-clause-risen g c = ended_risen c.do_steps-done.result.rested c.ended_with-in-Err.result.network c.ended_with-in-Err.ensures.network c.do_steps-done.ensures.risen
