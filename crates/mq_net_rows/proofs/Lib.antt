@@ -3,4 +3,3 @@ mod LaneLaws
 mod QueueLaws
 mod SeatLaws
 mod StoreLaws
-pub mod RollLaws

@@ -1,3 +1,2 @@
 pub mod Homes
 pub mod Stored
-pub mod Rolls

@@ -4,7 +4,6 @@
 mod copies;
 mod homes;
 mod lanes;
-mod roll;
 mod shelves;
 mod store;
 
