@@ -287,7 +287,7 @@ fn obey_words<S: Source, K: Sink, H: Shelf>(
 /// the word `check` the scenario is read alone, and CHECK OK written; by the word `soak` and a number from 1 to 1000 the scenario of
 /// that number is run, which reads nothing and writes one line. `start` is the moment of its beginning in milliseconds since
 /// 1970; a moment above 253,300,000,000,000 is taken as that number.
-#[tactic(auto, using(crate::proofs::Ending::own_of, crate::proofs::Ending::rows_of, crate::proofs::Ending::once_of, crate::proofs::Ending::got_once_of, crate::proofs::Ending::order_of, crate::proofs::Resting::told_of_pumps, crate::proofs::Resting::rest_of_pumps, crate::proofs::Ending::bad_words, crate::proofs::Ending::completes, crate::proofs::Disks::disk_of))]
+#[tactic(auto, using(crate::proofs::Ending::own_of, crate::proofs::Ending::rows_of, crate::proofs::Ending::once_of, crate::proofs::Ending::got_once_of, crate::proofs::Ending::order_of, crate::proofs::Resting::told_of_pumps, crate::proofs::Resting::rest_of_pumps, crate::proofs::Ending::bad_words, crate::proofs::Ending::completes))]
 pub fn mqnet<S: Source, K: Sink, H: Shelf>(
     alloc: Global,
     words: &[String],
