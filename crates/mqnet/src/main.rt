@@ -15,6 +15,8 @@ use top::mqnet;
 #[cfg(test)]
 mod channels;
 #[cfg(test)]
+mod phases;
+#[cfg(test)]
 mod tests;
 
 /// The moment in milliseconds since 1970, or 0 where the clock tells none.
