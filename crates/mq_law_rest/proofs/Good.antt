@@ -43,7 +43,7 @@ use Rattle.mq_law_pump.proofs.Ways.{frames_of, lies, offer_if}
 use Rattle.mq_law_run.specs.Run.{Stand, far_at, near_at}
 use Rattle.mq_law_run.proofs.Acting.{cable_is, some_at}
 use Rattle.mq_law_run.proofs.Lining.{mem_at}
-use Rattle.mq_law_rest.specs.Aside.{AllWithin}
+use Rattle.mq_law_rest.specs.Within.{AllWithin}
 use Rattle.mq_law_rest.specs.Rests.{AllMayRest, AllUp, AreSome, EndsAre, IsPeaceful, MayRest}
 use Rattle.mq_law_rest.proofs.Fitting.{fit_at, sends_there, takes_there}
 use Rattle.mq_law_rest.proofs.Standing.{stand_whole}

@@ -1,7 +1,6 @@
 pub mod Steps
 pub mod Places
 pub mod Within
-pub mod Carried
 pub mod SoFar
 pub mod Standing
 pub mod Fitting

@@ -1,5 +1,5 @@
 -- When a PUMP of a run comes to rest.
-use Rattle.std.specs.Prelude.{◌≡◌, ◌≤◌, ℕ, suc, true, false, List, [], ◌++◌, Some, slice_get, take}
+use Rattle.std.specs.Prelude.{◌≡◌, ◌≤◌, ℕ, suc, true, false, List, [], ◌++◌, Some, slice_get}
 use Rattle.mq_history.specs.declared.calls.Entry.{Entry}
 use Rattle.mq_history.specs.declared.history.History.{History}
 use Rattle.mq_history.specs.declared.history.Mark.{Mark}
@@ -23,8 +23,8 @@ use Rattle.mq_law_pump.specs.Restful.{most}
 use Rattle.mq_law_pump.specs.Rows.{rows_of}
 use Rattle.mq_law_pump.specs.Sees.{IsServed}
 use Rattle.mq_law_pump.specs.Ways.{seen_of}
-use Rattle.mq_law_rest.specs.Aside.{NonePhase}
-use Rattle.mq_law_rest.specs.Until.{net_until, until}
+use Rattle.mq_nodes.specs.Carried.{until}
+use Rattle.mq_law_rest.specs.Until.{net_until}
 
 -- the two ends of a cable, at their managers
 pub record EndsAre (w : Network) (k : ℕ) (c : CableLine) (near far : Node) (e : SenderEnd) (r : ReceiverEnd) : Type 0 where
@@ -58,11 +58,10 @@ pub record IsPeaceful (s : Scenario) (hs : List History) : Type 0 where
 abbrev pub AreSome : Scenario → List History → Type 0
 AreSome s hs = (m : ℕ) (h : History) (front back : List Entry) → slice_get hs m ≡ Some h → h.entries ≡ front ++ back → HaveSome (after (opening_node (surroundings s m) h) front).manager.definitions
 
--- What is asked of a PUMP, a step of a run: the run had no PHASE before it; all managers are up at its end (and so all the time); each cable may rest
--- where it begins; and it has as many turns as 16 per row on the queue of a running sender, 16 per channel and 3 per item on a cable.
+-- What is asked of a PUMP, a step of a run: no operator's settlement is at odds with its receiver; all managers are up at its end (and so all the time);
+-- each cable may rest where it begins; and it has as many turns as 16 per row on the queue of a running sender, 16 per channel and 3 per item on a cable.
 pub record IsEnough (s : Scenario) (hs : List History) (i n : ℕ) : Type 0 where
   pub step : slice_get s.steps i ≡ Some (steps.Pump n)
-  pub unphased : NonePhase (take i s.steps)
   pub peace : IsPeaceful s (until i hs)
   pub after : IsPeaceful s (until (suc i) hs)
   pub up : AllUp (net_until s hs (suc i))

@@ -10,6 +10,7 @@ ghost use Rattle.mq_nodes.specs.Course.{Ready, Rests};
 ghost use Rattle.mq_nodes.specs.Told.{Part, Ran, Has};
 ghost use Rattle.mq_nodes.specs.Runs.{StepsTold, Unmarked, never_idle};
 ghost use Rattle.mq_nodes.specs.Texts.{AllFit, StepFits};
+ghost use Rattle.mq_nodes.specs.Carried.{AreCarriedSoFar, IsCarriedSoFar};
 ghost use Rattle.mq_history.specs.declared.scenario.Section.{Section};
 ghost use Rattle.mq_steps.specs.Counts.{idle_or_spent};
 
@@ -120,7 +121,8 @@ fn do_steps<N: Nodes>(nodes: &mut N, scenario: &Scenario) -> Result<(), Stop>
     requires same { (N.course nodes.old).net.scenario ≡ scenario.now }
     requires scenario { IsScenario scenario.now }
     requires may { AllFit N.may_obey scenario.now }
-    ensures { StepsTold result (N.course nodes.old) (N.course nodes.new) }
+    ensures told { StepsTold result (N.course nodes.old) (N.course nodes.new) }
+    ensures carried { IsCarriedSoFar (N.course nodes.new) }
 {
     for step in scenario.steps.as_slice() {
         let idle = do_step(nodes, scenario, step)?;
@@ -156,7 +158,7 @@ fn last_restarts<N: Nodes>(nodes: &mut N) -> Result<(), Stop>
 }
 
 /// Does the steps of a scenario over nodes that have done nothing yet, and restarts last the managers that are down. Where it
-/// ends early, what was done is a part of that.
+/// ends early, what was done is a part of that. At the end of each step the ends of cables have popped what was offered till then.
 pub fn run_steps<N: Nodes>(nodes: &mut N, scenario: &Scenario) -> Result<(), Stop>
     requires ready { Ready (N.course nodes.old).net }
     requires rests { Rests (N.course nodes.old) }
@@ -167,6 +169,7 @@ pub fn run_steps<N: Nodes>(nodes: &mut N, scenario: &Scenario) -> Result<(), Sto
     ensures ran { Ran result (N.course nodes.old) (N.course nodes.new) }
     ensures lawful { (hs : List histories.History) → Has scenario.now hs (N.course nodes.old) (N.course nodes.new) → AreSteps scenario.now hs }
     ensures all { OnOk result ((hs : List histories.History) → Has scenario.now hs (N.course nodes.old) (N.course nodes.new) → IsDone scenario.now hs) }
+    ensures carried { (hs : List histories.History) → Has scenario.now hs (N.course nodes.old) (N.course nodes.new) → AreCarriedSoFar scenario.now hs }
 {
     do_steps(nodes, scenario)?;
     last_restarts(nodes)
