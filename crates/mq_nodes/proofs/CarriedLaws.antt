@@ -194,3 +194,16 @@ went_same (ends whole marks before w step went goes served) = same_scenario goes
 
 pub carried_ran : {T : Type 0} (s : Scenario) (r : Result T Stop) (c d : Course) → c.net.scenario ≡ s → Ran r c d → IsCarriedSoFar d → (hs : List History) → Has s hs c d → AreCarriedSoFar s hs
 carried_ran s r c d same ran h hs has = carried_histories s hs c d has (same_scenario ran.stands.goes ∙ went_same ran.stands.went ∙ same) h
+
+-- where nothing was done
+pub carried_undone : (s : Scenario) (hs : List History) → ((m : ℕ) → entries_at hs m ≡ []) → AreCarriedSoFar s hs
+carried_undone s hs none i k l is = record {
+  out = carries_as l.out (is_sender k) (is_receiver k) [] [] (entries_at (until i hs) l.sender) (entries_at (until i hs) l.receiver) (nothing l.sender) (nothing l.receiver) (nothing_carried l.out (is_sender k) (is_receiver k));
+  back = carries_as l.back (is_receiver k) (is_sender k) [] [] (entries_at (until i hs) l.receiver) (entries_at (until i hs) l.sender) (nothing l.receiver) (nothing l.sender) (nothing_carried l.back (is_receiver k) (is_sender k));
+} where
+  nothing : (m : ℕ) → entries_at (until i hs) m ≡ []
+  nothing m = ap entries_or (slice_get-map (history_until i) hs m) ∙ at (slice_get hs m) refl
+    where
+      at : (o : Option History) → slice_get hs m ≡ o → entries_or (option_map (history_until i) o) ≡ []
+      at None e = refl
+      at (Some h) e = ap (take (entries_until i h.marks)) (sym (ap entries_or e) ∙ none m) ∙ take_none (entries_until i h.marks)
