@@ -24,6 +24,7 @@ use Rattle.mq_law_rest.specs.Rests.{AreSome, IsEnough, PumpsRest}
 use Rattle.mq_law_rest.specs.Until.{IsStep, net_until}
 use Rattle.mq_law_rest.specs.Values.{IsTextOf, OpenTexts}
 use Rattle.mq_law_rest.specs.Within.{NoFaults}
+use Rattle.mq_law_rest.proofs.Calm.{peaceful_before}
 use Rattle.mq_law_rest.proofs.Good.{good, restful}
 use Rattle.mq_law_rest.proofs.Places.{step_of}
 use Rattle.mq_law_rest.proofs.SoFar.{premises_until}
@@ -44,12 +45,12 @@ rested s hs i n premises open_ fit carried enough st =
     let first : net_until s hs i ≡ st.before = net_same s hs i st.before st.place in
     let last : net_until s hs (suc i) ≡ st.after = net_same s hs (suc i) st.after st.next in
     let so_far : Premises s (until (suc i) hs) = premises_until s hs (suc i) st.after premises carried st.next in
-    let some : AreSome s (until (suc i) hs) = values_of s (until (suc i) hs) so_far enough.after (opens_until s hs (suc i) open_) (calls_until s hs (suc i) st.after fit st.next) in
-    let behind : Good (net_until s hs (suc i)) = good s (until (suc i) hs) so_far enough.after some enough.up in
+    let some : AreSome s (until (suc i) hs) = values_of s (until (suc i) hs) so_far enough.peace (opens_until s hs (suc i) open_) (calls_until s hs (suc i) st.after fit st.next) in
+    let behind : Good (net_until s hs (suc i)) = good s (until (suc i) hs) so_far enough.peace some enough.up in
     let go : Goes (net_until s hs i) (Pump n Slot.Sends 0 false ∷ []) (net_until s hs (suc i)) [] =
     subst (λ (w : Network). Goes w (Pump n Slot.Sends 0 false ∷ []) (net_until s hs (suc i)) []) (sym first) (subst (λ (w : Network). Goes st.before (Pump n Slot.Sends 0 false ∷ []) w []) (sym last) st.goes) in
     let before : Good (net_until s hs i) = good_before (net_until s hs i) n go behind in
-    let rests : Restful (net_until s hs i) = restful s (until i hs) (premises_until s hs i st.before premises carried st.place) enough.peace before (within s hs i clean carried) enough.cables in
+    let rests : Restful (net_until s hs i) = restful s (until i hs) (premises_until s hs i st.before premises carried st.place) (peaceful_before s hs i n st enough.peace) before (within s hs i clean carried) enough.cables in
     ap is_idle (sym last) ∙ comes_to_rest (net_until s hs i) (net_until s hs (suc i)) n behind rests go enough.turns
 
 pub pumps_rest : (l : Left) → IsScenario l.scenario → AllFit IsTextOf l.scenario → OpenTexts l.scenario l.histories → AreImages l.histories → AreDoubtsKnown l.histories → IsLawful l.scenario l.histories → AreCarriedSoFar l.scenario l.histories → IsJoined l.scenario l.histories

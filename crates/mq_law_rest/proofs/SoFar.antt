@@ -1,5 +1,5 @@
 -- The histories of a run up to the end of one of its steps: they are lawful, and the premises hold of them.
-use Rattle.std.proofs.Common.{ℕ, zero, suc, ◌≡◌, ◌<◌, Bool, List, [], ◌∷◌, ◌++◌, length, refl, ap, sym, subst, ◌∙◌, arith}
+use Rattle.std.proofs.Common.{ℕ, zero, suc, ◌≡◌, ◌<◌, List, [], ◌∷◌, ◌++◌, length, refl, ap, sym, subst, ◌∙◌, arith}
 use Rattle.std.specs.Prelude.{◌+◌, All, Option, Some, None, drop, slice_get, take}
 use Rattle.std.specs.Option.{option_map}
 use Rattle.std.proofs.lemmas.List.{length-map, take-append-drop}
@@ -17,7 +17,6 @@ use Rattle.mq_spec_network.specs.Given.{surroundings}
 use Rattle.mq_spec_network.specs.Turns.{Network}
 use Rattle.mq_spec_network.specs.Tasks.{tasks_next}
 use Rattle.mq_spec_network.specs.Steps.Goes.{stays}
-use Rattle.mq_spec_network.specs.Story.{entries_at, entries_or}
 use Rattle.mq_spec_network.specs.Apart.{IsJoined}
 use Rattle.mq_spec_network.specs.Lawful.{AreOwn, AreSteps, IsHistory, IsLawful, Went, marks_or, network_begun}
 use Rattle.mq_spec_network.specs.Promised.{AreDoubtsKnown, AreImages, Premises}

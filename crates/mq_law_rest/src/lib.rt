@@ -21,6 +21,8 @@ ghost use Rattle.mq_law_pump.specs.Restful.{Restful};
 ghost use Rattle.mq_course.specs.Courses.{net_of};
 ghost use Rattle.mq_history.specs.Scenarios.{IsScenario};
 ghost use Rattle.mq_spec_network.specs.Apart.{IsJoined};
+ghost use Rattle.mq_spec_network.specs.Conflict.{NoConflict};
+ghost use Rattle.mq_spec_network.specs.Story.{IsStory, Line};
 ghost use Rattle.mq_spec_network.specs.Lawful.{AreOwn, IsLawful};
 ghost use Rattle.mq_spec_network.specs.Promised.{AreDoubtsKnown, AreImages};
 ghost use Rattle.mq_law_ran.specs.Runs.{Left};
@@ -46,6 +48,11 @@ pub fn ends_pop_no_more_than_was_offered()
 /// So the histories are lawful up to the end of each step, and all premises hold of them.
 pub fn a_run_is_lawful_so_far()
     ensures { (s : Scenario) (hs : List History) (i : ℕ) (w : Network) → Premises s hs → AreCarriedSoFar s hs → IsPlace s hs i w → Premises s (until i hs) }
+{}
+
+/// A run whose story has no conflict is peaceful up to the end of each step.
+pub fn a_run_without_conflict_is_peaceful()
+    ensures { (s : Scenario) (hs : List History) (i : ℕ) (story : List Line) → IsStory hs story → NoConflict s hs story → IsPeaceful s (until i hs) }
 {}
 
 /// Where the story of a run has no conflict, each manager fits after each of its entries with which it is up.

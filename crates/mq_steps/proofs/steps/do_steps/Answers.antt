@@ -4,9 +4,8 @@ use Rattle.std.proofs.lemmas.Option.{slice_get_read}
 use Rattle.mq_history.specs.declared.scenario.Scenario.{Scenario}
 use Rattle.mq_history.specs.declared.scenario.Step.{Step}
 use Rattle.mq_nodes.specs.Carried.{IsCarriedSoFar}
-use Rattle.mq_nodes.specs.Course.{Course, noted}
 use Rattle.mq_nodes.proofs.CarriedLaws.{carried_begins, carried_grows, carried_noted}
-use Rattle.mq_nodes.proofs.StepLaws.{room, step_breaks, steps_begin, steps_end, steps_go_on}
+use Rattle.mq_nodes.proofs.StepLaws.{room, step_breaks, steps_begin, steps_go_on}
 use Rattle.mq_steps.proofs.DoingLaws.{steps_broke}
 use Rattle.mq_steps.proofs.PartLaws.{scenario_stays}
 use Rattle.mq_steps.proofs.steps.do_steps.Goals as goal

@@ -1,4 +1,3 @@
-use Rattle.std.specs.Prelude.{◌×◌}
 use Rattle.mq_nodes.specs.Carried.{IsCarriedSoFar}
 use Rattle.mq_nodes.proofs.StepLaws.{Stepping}
 use Rattle.mq_steps.proofs.steps.do_steps.Given as goal

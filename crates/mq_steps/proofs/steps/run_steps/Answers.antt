@@ -1,4 +1,3 @@
-use Rattle.mq_nodes.specs.Told.{Part}
 use Rattle.mq_nodes.proofs.CarriedLaws.{carried_grows, carried_ran}
 use Rattle.mq_nodes.proofs.StepLaws.{are_steps, ran_all}
 use Rattle.mq_steps.proofs.DoingLaws.{done_all}
