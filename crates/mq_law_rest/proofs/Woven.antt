@@ -1,6 +1,6 @@
 -- Histories whose stamps rise have a story.
-use Rattle.std.proofs.Common.{ℕ, zero, suc, ◌≡◌, ◌≤◌, ◌<◌, ◌⊎◌, Bool, true, false, List, [], ◌∷◌, ◌++◌, length, refl, ap, sym, subst, ◌∙◌, inl, inr, append-nil, arith}
-use Rattle.std.specs.Prelude.{◌==◌, if◌then◌else◌, slice_get}
+use Rattle.std.proofs.Common.{ℕ, zero, suc, ◌≡◌, ◌≤◌, ◌<◌, ◌⊎◌, Bool, true, false, List, [], ◌∷◌, length, refl, ap, sym, subst, ◌∙◌, inl, inr, arith}
+use Rattle.std.specs.Prelude.{◌==◌, if◌then◌else◌}
 use Rattle.std.proofs.lemmas.Option.{slice_get_past}
 use Rattle.mq_base.specs.Members.{Chain, Mem}
 use Rattle.mq_history.specs.declared.calls.Entry.{Entry}
@@ -83,7 +83,7 @@ adds x [] ranked later = record {
   others = λ m e. part_other m x [] e;
   own = part_own x [];
 }
-adds x (y ∷ s) ranked later = at (ordered x y)
+adds x (y ∷ s) ranked later = at (adds x s ranked.1 (λ z m. later z (inr m))) (ordered x y)
   where
     first : Earlier x y → Added x (y ∷ s)
     first h = record {
@@ -94,9 +94,8 @@ adds x (y ∷ s) ranked later = at (ordered x y)
       own = part_own x (y ∷ s);
     }
 
-    behind : Earlier y x → Added x (y ∷ s)
-    behind h =
-        let r : Added x s = adds x s ranked.1 (λ z m. later z (inr m)) in
+    behind : Added x s → Earlier y x → Added x (y ∷ s)
+    behind r h =
         let apart : (x.manager == y.manager) ≡ false = bool_case (x.manager == y.manager) (λ b. (x.manager == y.manager) ≡ b → b ≡ false) (λ z on. absurd (never_later x y (later y (inl refl) (nat_yes x.manager y.manager on)) h)) (λ z off. refl) refl in record {
           story = y ∷ r.story;
           ranked = (λ z m. elim (r.only z m) [ inl e ↦ subst (Earlier y) (sym e) h | inr n ↦ ranked.0 z n ], r.ranked);
@@ -108,10 +107,10 @@ adds x (y ∷ s) ranked later = at (ordered x y)
     same : x.entry.stamp ≡ y.entry.stamp → x.manager ≡ y.manager → Added x (y ∷ s)
     same e f = let less = later y (inl refl) f in absurd (omega (arith, less, e))
 
-    at : Ordered x y → Added x (y ∷ s)
-    at (inl h) = first h
-    at (inr (inl h)) = behind h
-    at (inr (inr h)) = same h.0 h.1
+    at : Added x s → Ordered x y → Added x (y ∷ s)
+    at r (inl h) = first h
+    at r (inr (inl h)) = behind r h
+    at r (inr (inr h)) = same h.0 h.1
 
 -- ONE MANAGER'S LINES MORE
 record Poured (m : ℕ) (es : List Entry) (s : List Line) : Type 0 where
