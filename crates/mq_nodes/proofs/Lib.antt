@@ -8,3 +8,4 @@ pub mod PumpLaws
 pub mod TurnLaws
 pub mod StepLaws
 pub mod CarriedLaws
+pub mod PhasedLaws

@@ -1,0 +1,12 @@
+pub mod FacingLaws
+pub mod QuietLaws
+pub mod DeedLaws
+pub mod TookLaws
+pub mod EndLaws
+pub mod KeptLaws
+pub mod ScriptLaws
+pub mod StampLaws
+pub mod TriedLaws
+pub mod JoinLaws
+pub mod LineKept
+pub mod TurnKept

@@ -1,0 +1,158 @@
+-- What a try of a line, a turn and a timeout come to, by the calls that do them.
+use Rattle.std.proofs.Common.{◌≡◌, ℕ, Bool, true, false, List, [], ◌∷◌, refl, sym, ap, subst, ◌∙◌, inl, inr}
+use Rattle.std.specs.Prelude.{◌⊎◌, IfSome, Option, Some, None, slice_get}
+use Rattle.mq_base.specs.declared.want.NoMemory.{NoMemory as Want}
+use Rattle.mq_cable.specs.declared.item.Item.{Item}
+use Rattle.mq_history.specs.declared.calls.Actor.TheVariants as actors
+use Rattle.mq_history.specs.declared.calls.Call.{Call}
+use Rattle.mq_history.specs.declared.calls.Call.TheVariants as calls
+use Rattle.mq_spec_node.specs.Lines.Next.{Waits}
+use Rattle.mq_spec_node.specs.Terms.{Actor, Entry, ScriptLine}
+use Rattle.mq_spec_node.specs.Words.{Deed, deadline, deadline_kept, line_call, next_if, wait_of}
+use Rattle.mq_progress.specs.Course.{Course, call_in, next_in, until_in}
+use Rattle.mq_events.specs.States.{NodeState, node_in, value_of}
+use Rattle.mq_events.specs.Events.{Adds, Stays}
+use Rattle.mq_history.specs.declared.scripts.ScriptLine.TheVariants as lines
+use Rattle.mq_acts.specs.Advances.{Keeps, LineDone, LineWaits, NoLine}
+use Rattle.mq_acts.specs.Serving.{Serves}
+use Rattle.mq_turns.specs.declared.telling.Turn.TheVariants as turns
+use Rattle.mq_turns.specs.Turns.{TimeoutIs}
+use Rattle.mq_turns.specs.Wired.{ChangedBy, Untaken}
+use Rattle.mq_ruled.specs.Ends.{PipeTook, PipeWrote}
+use Rattle.mq_shared.specs.Took.{EndState}
+use Rattle.mq_shared.specs.Held.{ScriptState, end_actor}
+use Rattle.mq_shared.specs.Events.{LineMade, LineNot, Made, SameEnd, Stayed, TurnMade, TurnNot}
+use Rattle.mq_shared.proofs.KeptLaws.{grows_on}
+
+pub stays_so : (old new : NodeState) → Stays old new → Stayed old new
+stays_so old new s = record { same = s.same; marks = s.marks }
+
+-- an event, and the turns behind it
+abbrev pub made_then : (who : Actor) (what : Call) (e : Entry) (old mid new : NodeState) → Adds who what e old mid → Serves mid new → Made who what old new
+made_then who what e old mid new a v = record {
+  entry = e;
+  behind = v.turns;
+  actor = a.actor;
+  call = a.call;
+  turns = v.are;
+  went = record { grows = grows_on (value_of old) (value_of mid) (value_of new) (e ∷ []) v.turns a.grows v.grows; marks = v.marks ∙ a.marks };
+}
+
+-- A LINE: its deadline is that of the phase's first moment
+kept_until : (first moment : ℕ) (wait : Option ℕ) → deadline_kept (deadline first wait) moment wait ≡ deadline first wait
+kept_until first moment None = refl
+kept_until first moment (Some w) = refl
+
+some_same : (x y : ScriptLine) → Some x ≡ Some y → x ≡ y
+some_same x y e = cc
+
+next_waits : (b : Bool) (o : Option ℕ) (call : Call) (until : ℕ) → next_if b o call ≡ Waits until → o ≡ Some until
+next_waits true None call until e = absurd cc
+next_waits true (Some u) call until e = ap Some (same u until e)
+  where
+    same : (x y : ℕ) → Waits x ≡ Waits y → x ≡ y
+    same x y h = cc
+next_waits false o call until e = absurd cc
+
+abbrev pub tried : ScriptState → ScriptLine → Course
+tried s l = record s.course { until = deadline s.moment (wait_of l) }
+
+abbrev pub further : ScriptState → Course → ScriptState
+further s d = record { script = s.script; part = s.part; moment = s.moment; course = d }
+
+until_is : (s : ScriptState) (l k : ScriptLine) (moment : ℕ) → l ≡ k → until_in (tried s l) moment k ≡ deadline s.moment (wait_of k)
+until_is s l k moment same = ap (λ (x : ScriptLine). deadline_kept (deadline s.moment (wait_of x)) moment (wait_of k)) same ∙ kept_until s.moment moment (wait_of k)
+
+pub line_made : (s : ScriptState) (l : ScriptLine) (c d : Course) (old mid new : NodeState) → Some l ≡ slice_get s.part.lines s.course.done → c ≡ tried s l → LineDone s.script s.part c d old mid → Serves mid new → LineMade s (further s d) old new
+line_made s l c d old mid new is by h v = at_it (subst (λ (x : Course). LineDone s.script s.part x d old mid) by h)
+  where
+    at_it : LineDone s.script s.part (tried s l) d old mid → LineMade s (further s d) old new
+    at_it x =
+        let same : l ≡ x.line = some_same l x.line (is ∙ x.is) in
+        let made : Made (actors.Script s.script) (call_in s.part (tried s l) old.manager.plain.moment x.line) old new = made_then (actors.Script s.script) (call_in s.part (tried s l) old.manager.plain.moment x.line) x.entry old mid new x.adds v in
+        record {
+          line = x.line;
+          is = x.is;
+          made = record {
+            entry = x.entry;
+            behind = made.behind;
+            actor = made.actor;
+            call = made.call ∙ ap (λ (u : Option ℕ). line_call s.part.label s.course.memory u x.line) (until_is s l x.line old.manager.plain.moment same);
+            turns = made.turns;
+            went = made.went;
+          };
+          same = record { script = refl; part = refl; moment = refl };
+          finished = record { memory = x.finished.memory; done = x.finished.done; until = x.finished.until };
+        }
+
+pub line_waits : (s : ScriptState) (l : ScriptLine) (c d : Course) (until : ℕ) (old new : NodeState) → Some l ≡ slice_get s.part.lines s.course.done → c ≡ tried s l → LineWaits s.script s.part until c d old new → LineNot s (further s d) old new
+line_waits s l c d until old new is by h = at_it (subst (λ (x : Course). LineWaits s.script s.part until x d old new) by h)
+  where
+    at_it : LineWaits s.script s.part until (tried s l) d old new → LineNot s (further s d) old new
+    at_it x =
+        let same : l ≡ x.line = some_same l x.line (is ∙ x.is) in
+        let kept : until_in (tried s l) old.manager.plain.moment x.line ≡ Some until = next_waits _ (until_in (tried s l) old.manager.plain.moment x.line) _ until x.next in
+        record {
+          stayed = stays_so old new x.stays;
+          same = record { script = refl; part = refl; moment = refl };
+          memory = ap (λ (y : Course). y.memory) x.course;
+          done = ap (λ (y : Course). y.done) x.course;
+          until = inr (x.line, x.is, ap (λ (y : Course). y.until) x.course ∙ sym kept ∙ until_is s l x.line old.manager.plain.moment same);
+        }
+
+pub line_none : (s : ScriptState) (l : ScriptLine) (c d : Course) (old new : NodeState) → Some l ≡ slice_get s.part.lines s.course.done → c ≡ tried s l → NoLine c d old new → LineNot s (further s d) old new
+line_none s l c d old new is by h = record {
+  stayed = stays_so old new h.stays;
+  same = record { script = refl; part = refl; moment = refl };
+  memory = ap (λ (y : Course). y.memory) h.course ∙ ap (λ (y : Course). y.memory) by;
+  done = ap (λ (y : Course). y.done) h.course ∙ ap (λ (y : Course). y.done) by;
+  until = inr (l, sym is, ap (λ (y : Course). y.until) h.course ∙ ap (λ (y : Course). y.until) by);
+}
+
+-- it is kept of a get alone
+keeps_deadline : (moment : ℕ) (l : ScriptLine) → Keeps (deadline moment (wait_of l)) l
+keeps_deadline moment (lines.Mqconn name) = tt
+keeps_deadline moment lines.Mqdisc = tt
+keeps_deadline moment lines.Mqcmit = tt
+keeps_deadline moment lines.Mqback = tt
+keeps_deadline moment (lines.Mqopen handle name qmgr how) = tt
+keeps_deadline moment (lines.Mqclose handle) = tt
+keeps_deadline moment (lines.Mqput handle body o) = tt
+keeps_deadline moment (lines.Mqput1 name qmgr body o) = tt
+keeps_deadline moment (lines.Reply body o) = tt
+keeps_deadline moment (lines.Mqget handle o) = tt
+keeps_deadline moment (lines.Mqsc command) = tt
+keeps_deadline moment lines.Crash = refl
+keeps_deadline moment lines.Restart = refl
+keeps_deadline moment (lines.Cut k) = refl
+
+pub keeps_at : (ls : List ScriptLine) (n moment : ℕ) (l : ScriptLine) → Some l ≡ slice_get ls n → IfSome (slice_get ls n) (Keeps (deadline moment (wait_of l)))
+keeps_at ls n moment l is = subst (λ (o : Option ScriptLine). IfSome o (Keeps (deadline moment (wait_of l)))) is (keeps_deadline moment l)
+
+-- A TURN
+pub turn_made : (none full : Type 0) (a b : EndState) (old mid new : NodeState) → SameEnd a b → ChangedBy (end_actor a.cable a.sends) (λ (xs : List Item). PipeTook a.wire xs b.wire) (λ (xs : List Item). PipeWrote a.wire xs b.wire) none full a.offers b.offers old mid → Serves mid new → TurnMade none full a b old new
+turn_made none full a b old mid new same h v = record {
+  made = made_then (end_actor a.cable a.sends) calls.Turn h.entry old mid new h.adds v;
+  same = same;
+  popped = h.popped;
+  offered = h.offered;
+}
+
+pub turn_not : (a b : EndState) (old new : NodeState) → SameEnd a b → Untaken (λ (xs : List Item). PipeTook a.wire xs b.wire) (λ (xs : List Item). PipeWrote a.wire xs b.wire) a.offers b.offers old new → TurnNot a b old new
+turn_not a b old new same h = record { stayed = stays_so old new h.stays; same = same; read = h.read; offers = h.offers }
+
+-- A TIMEOUT
+pub time_made : (cable : ℕ) (d : Option Deed) (old mid new : NodeState) → TimeoutIs cable d old (Rattle.std.specs.Prelude.Ok turns.Changed) mid → Serves mid new → Made (actors.Sender cable) calls.Timeout old new
+time_made cable None old mid new h v = absurd h
+time_made cable (Some d) old mid new h v = made_then (actors.Sender cable) calls.Timeout h.0 old mid new h.1 v
+
+pub time_still : (cable : ℕ) (d : Option Deed) (old new : NodeState) → TimeoutIs cable d old (Rattle.std.specs.Prelude.Ok turns.Still) new → Stayed old new
+time_still cable None old new h = stays_so old new h
+time_still cable (Some d) old new h = absurd h
+
+pub time_none : (cable : ℕ) (d : Option Deed) (old new : NodeState) (e : Want) → TimeoutIs cable d old (Rattle.std.specs.Prelude.Err e) new → Stayed old new
+time_none cable d old new e h = stays_so old new (by_deed d h)
+  where
+    by_deed : (o : Option Deed) → TimeoutIs cable o old (Rattle.std.specs.Prelude.Err e) new → Stays old new
+    by_deed None x = x
+    by_deed (Some y) x = x

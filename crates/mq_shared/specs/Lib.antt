@@ -1,0 +1,5 @@
+pub mod Facing
+pub mod Took
+pub mod Held
+pub mod Events
+pub mod Joining

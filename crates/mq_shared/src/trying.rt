@@ -1,0 +1,126 @@
+//! A try of a script's line, a turn of an end and a timeout, at a node, with the trigger turns behind it.
+ghost use Rattle.std.specs.Prelude.{◌≡◌, ◌≤◌, ◌<◌, ◌^◌, ℕ, [], IfSome, length, slice_get};
+ghost use Rattle.mq_events.specs.States.{IsServed};
+ghost use Rattle.mq_events.specs.Events.{MayAct};
+ghost use Rattle.mq_acts.specs.Advances.{IsTextLine};
+ghost use Rattle.mq_turns.specs.Unseen.{EndTurn, IsUnseen, turn_deed};
+ghost use Rattle.mq_ruled.specs.Ends.{PipeEmpty, PipeEnds, PipeFull, PipeTook, PipeWrote};
+ghost use Rattle.mq_shared.specs.Events.{LineTried, SameEnd, TimeTried, TurnTried};
+ghost use Rattle.mq_shared.specs.Held.{end_actor};
+
+use crate::held::{HeldEnd, HeldScript};
+use mq_acts::{Advanced, advance, serve};
+use mq_base::NoMemory;
+use mq_disk::Disk;
+use mq_events::Node;
+use mq_lines::{deadline_of, wait_of};
+use mq_takes::receiver_turn;
+use mq_turns::{Turn, sender_turn, timeout};
+use std::sync::Wait;
+
+/// What a try of a script's next line came to.
+#[derive(Clone, Copy, Debug, PartialEq, Eq)]
+pub enum Tried {
+    /// The line is done.
+    Done,
+    /// Its get waits.
+    Waits,
+    /// No line is left, or the node may not act.
+    Ended,
+}
+
+/// Tries the next line of a script of a phase: a get has its deadline from the phase's first moment on.
+///
+/// # Errors
+///
+/// No memory: nothing was done, or the line was, and a trigger stays due.
+#[tactic(auto, using(crate::proofs::TriedLaws::keeps_at, crate::proofs::TriedLaws::line_made, crate::proofs::TriedLaws::line_waits, crate::proofs::TriedLaws::line_none))]
+pub fn try_line<D: Disk>(
+    node: &mut Node<D>,
+    script: &mut HeldScript<'_>,
+) -> Result<Tried, NoMemory>
+    requires served { IsServed node.old }
+    requires may { MayAct node.old }
+    requires texts { (n : ℕ) → IfSome (slice_get script.old.part.lines n) IsTextLine }
+    requires few { script.old.course.done ≤ length script.old.part.lines }
+    requires short { length script.old.part.lines < 2 ^ 32 }
+    ensures { LineTried script.old node.old result script.new node.new }
+{
+    let Some(line) = script.progress.line(script.part) else {
+        return Ok(Tried::Ended);
+    };
+    let until = deadline_of(script.moment, wait_of(line));
+    script.progress.wait(until);
+    match advance(node, script.script, script.part, &mut script.progress) {
+        Err(NoMemory) => Err(NoMemory),
+        Ok(Advanced::Ended) => Ok(Tried::Ended),
+        Ok(Advanced::Waiting(_)) => Ok(Tried::Waits),
+        Ok(Advanced::Done) => match serve(node) {
+            Err(NoMemory) => Err(NoMemory),
+            Ok(()) => Ok(Tried::Done),
+        },
+    }
+}
+
+/// A turn of an end at its node.
+fn turn_at<D: Disk, R: Wait>(
+    node: &mut Node<D>,
+    end: &mut HeldEnd<'_, R>,
+) -> Result<Turn, NoMemory>
+    requires served { IsServed node.old }
+    requires may { MayAct node.old }
+    requires count { end.old.offers.number < 2 ^ 48 }
+    ensures turn { EndTurn (end_actor end.old.cable end.old.sends) (λ xs. PipeTook end.old.wire xs end.new.wire) (λ xs. PipeWrote end.old.wire xs end.new.wire) ((m : PipeEnds) × PipeEmpty end.old.wire m × PipeTook m [] end.new.wire) (PipeFull end.old.wire end.new.wire) end.old.offers end.new.offers node.old result node.new }
+    ensures same { SameEnd end.old end.new }
+{
+    match end.sends {
+        true => sender_turn(node, &mut end.offers, &mut end.wire, end.cable),
+        false => receiver_turn(node, &mut end.offers, &mut end.wire, end.cable),
+    }
+}
+
+/// A turn of an end, with the trigger turns behind it. Still where it changes nothing.
+///
+/// # Errors
+///
+/// No memory: nothing was done, or the turn was, and a trigger stays due.
+#[tactic(auto, using(crate::proofs::TriedLaws::turn_made, crate::proofs::TriedLaws::turn_not))]
+pub fn try_turn<D: Disk, R: Wait>(
+    node: &mut Node<D>,
+    end: &mut HeldEnd<'_, R>,
+) -> Result<Turn, NoMemory>
+    requires served { IsServed node.old }
+    requires may { MayAct node.old }
+    requires count { end.old.offers.number < 2 ^ 48 }
+    ensures { TurnTried (IsUnseen ((m : PipeEnds) × PipeEmpty end.old.wire m × PipeTook m [] end.new.wire) (turn_deed (end_actor end.old.cable end.old.sends) node.old)) (PipeFull end.old.wire end.new.wire) end.old node.old result end.new node.new }
+{
+    match turn_at(node, end) {
+        Err(NoMemory) => Err(NoMemory),
+        Ok(Turn::Still) => Ok(Turn::Still),
+        Ok(Turn::Changed) => match serve(node) {
+            Err(NoMemory) => Err(NoMemory),
+            Ok(()) => Ok(Turn::Changed),
+        },
+    }
+}
+
+/// A timeout of the sender's end of a cable, with the trigger turns behind it. Still where it waits for no answer.
+///
+/// # Errors
+///
+/// No memory: nothing was done, or the timeout was, and a trigger stays due.
+#[tactic(auto, using(crate::proofs::TriedLaws::time_made, crate::proofs::TriedLaws::time_still, crate::proofs::TriedLaws::time_none))]
+pub fn try_timeout<D: Disk>(node: &mut Node<D>, cable: u16) -> Result<Turn, NoMemory>
+    requires served { IsServed node.old }
+    requires may { MayAct node.old }
+    ensures { TimeTried cable node.old result node.new }
+{
+    match timeout(node, cable) {
+        Err(NoMemory) => Err(NoMemory),
+        Ok(Turn::Still) => Ok(Turn::Still),
+        Ok(Turn::Changed) => match serve(node) {
+            Err(NoMemory) => Err(NoMemory),
+            Ok(()) => Ok(Turn::Changed),
+        },
+    }
+}
