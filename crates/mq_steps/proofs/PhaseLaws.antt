@@ -16,10 +16,10 @@ use Rattle.mq_spec_network.specs.Steps.{Goes, Moves, Passes, left_by}
 use Rattle.mq_spec_network.specs.Steps.Goes.{stays, moves, serves, passes}
 use Rattle.mq_nodes.specs.declared.nodes.Stop.{Stop}
 use Rattle.mq_nodes.specs.declared.nodes.Stop.TheVariants as stops
-use Rattle.mq_nodes.specs.Course.{Course, Ready}
+use Rattle.mq_nodes.specs.Course.{Course}
 use Rattle.mq_nodes.specs.Told.{Ended, Onward, Part}
 use Rattle.mq_nodes.proofs.Asking.{at_place, none_left, same_value}
-use Rattle.mq_nodes.proofs.Onward.{begin, behind, of_part, passed, stopped, whole}
+use Rattle.mq_nodes.proofs.Onward.{behind, of_part, stopped, whole}
 use Rattle.mq_steps.proofs.PartLaws.{at_it, err_is}
 
 -- What is left of a script whose first get may have been tried before, where that much is left of it with none tried.

@@ -283,7 +283,9 @@ ENDMQSC
 ",
     )?;
     for (script, first) in [("A", 1u32), ("B", 11)] {
-        let begin = format!(in alloc; "SCRIPT {script} LONDON\nMQCONN\nMQOPEN H1 QUEUE(R1) OUTPUT\n")?;
+        let begin = format!(in alloc;
+            "SCRIPT {script} LONDON\nMQCONN\nMQOPEN H1 QUEUE(R1) OUTPUT\n"
+        )?;
         text.push_str(begin.as_str())?;
         for len in first..first + 10 {
             let put = format!(in alloc; "MQPUT H1 FILL({len},'x') PERSIST\n")?;
