@@ -10,6 +10,7 @@ ghost use Rattle.mq_nodes.specs.Course.{Ready, Rests};
 ghost use Rattle.mq_nodes.specs.Told.{Part, PhaseTold, Ran, Has};
 ghost use Rattle.mq_nodes.specs.Runs.{StepsTold, Unmarked, never_idle};
 ghost use Rattle.mq_nodes.specs.Texts.{AllFit, StepFits};
+ghost use Rattle.mq_nodes.specs.Carried.{AreCarriedSoFar, IsCarriedSoFar};
 ghost use Rattle.mq_history.specs.declared.scenario.Section.{Section};
 ghost use Rattle.mq_steps.specs.Counts.{idle_or_spent};
 
@@ -133,7 +134,8 @@ fn do_steps<N: Nodes, F: Fn(&mut N, &[u16]) -> Result<(), Stop>>(
     requires may { AllFit N.may_obey scenario.now }
     requires phase_may { (n : _) (ks : _) → Ready (N.course n.now).net → Rests (N.course n.now) → (N.course n.now).net.scenario ≡ scenario.now → ArePhased scenario.now ks.now → F.pre go.now n ks }
     requires phase_told { (n : _) (ks : _) (r : _) (m : _) → F.post go.now n ks r m → PhaseTold ks.now r (N.course n.now) (N.course m.now) }
-    ensures { StepsTold result (N.course nodes.old) (N.course nodes.new) }
+    ensures told { StepsTold result (N.course nodes.old) (N.course nodes.new) }
+    ensures carried { IsCarriedSoFar (N.course nodes.new) }
 {
     for step in scenario.steps.as_slice() {
         let idle = do_step(nodes, scenario, step, go)?;
@@ -170,7 +172,8 @@ fn last_restarts<N: Nodes>(nodes: &mut N) -> Result<(), Stop>
 
 /// Does the steps of a scenario over nodes that have done nothing yet, and restarts last the managers that are down. Where it
 /// ends early, what was done is a part of that. In a PHASE its scripts and the ends of channels go on as `go` lets them, which may start
-/// threads: what each manager does then is said manager by manager.
+/// threads: what each manager does then is said manager by manager. At the end of each step the ends of cables have popped what
+/// was offered till then.
 pub fn run_steps<N: Nodes, F: Fn(&mut N, &[u16]) -> Result<(), Stop>>(
     nodes: &mut N,
     scenario: &Scenario,
@@ -187,6 +190,7 @@ pub fn run_steps<N: Nodes, F: Fn(&mut N, &[u16]) -> Result<(), Stop>>(
     ensures ran { Ran result (N.course nodes.old) (N.course nodes.new) }
     ensures lawful { (hs : List histories.History) → Has scenario.now hs (N.course nodes.old) (N.course nodes.new) → AreSteps scenario.now hs }
     ensures all { OnOk result ((hs : List histories.History) → Has scenario.now hs (N.course nodes.old) (N.course nodes.new) → IsDone scenario.now hs) }
+    ensures carried { (hs : List histories.History) → Has scenario.now hs (N.course nodes.old) (N.course nodes.new) → AreCarriedSoFar scenario.now hs }
 {
     do_steps(nodes, scenario, go)?;
     last_restarts(nodes)
