@@ -329,7 +329,7 @@ where
 /// that number is run, which reads nothing and writes one line. `start` is the moment of its beginning in milliseconds since
 /// 1970; a moment above 253,300,000,000,000 is taken as that number. The scripts of a PHASE run in threads of the runtime, and pass
 /// the gate before each try of a line.
-#[tactic(auto, using(crate::proofs::Ending::own_of, crate::proofs::Ending::rows_of, crate::proofs::Ending::once_of, crate::proofs::Ending::got_once_of, crate::proofs::Ending::order_of, crate::proofs::Resting::told_of_pumps, crate::proofs::Resting::rest_of_pumps, crate::proofs::Ending::bad_words, crate::proofs::Ending::completes, crate::proofs::Disks::disk_of))]
+#[tactic(auto, using(crate::proofs::Ending::own_of, crate::proofs::Ending::rows_of, crate::proofs::Ending::once_of, crate::proofs::Ending::got_once_of, crate::proofs::Ending::order_of, crate::proofs::Resting::told_of_pumps, crate::proofs::Resting::rest_of_pumps, crate::proofs::Ending::bad_words, crate::proofs::Ending::completes))]
 pub fn mqnet<S: Source, K: Sink, H: Shelf, R: Threads + Wait + Sync, G: Gate + Sync>(
     rt: &R,
     alloc: Global,
