@@ -7,6 +7,7 @@ pub use Rattle.mq_cable.specs.Lists.{AllLow}
 pub use Rattle.mq_events.specs.Events.{MayAct}
 pub use Rattle.mq_events.specs.States.{IsKept, IsServed, marked}
 pub use Rattle.mq_events.specs.Texts.{IsTextAct}
+pub use Rattle.mq_nodes.specs.Carried.{AllCarried}
 pub use Rattle.mq_nodes.specs.Course.{Ready, noted}
 pub use Rattle.mq_nodes.specs.Pumps.{AllStill, TurnIn}
 pub use Rattle.mq_nodes.specs.Texts.{AllFit}
