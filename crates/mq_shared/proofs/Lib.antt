@@ -8,5 +8,6 @@ pub mod ScriptLaws
 pub mod StampLaws
 pub mod TriedLaws
 pub mod JoinLaws
+pub mod OwnKept
 pub mod LineKept
 pub mod TurnKept

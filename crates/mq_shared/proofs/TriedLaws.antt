@@ -1,8 +1,9 @@
 -- What a try of a line, a turn and a timeout come to, by the calls that do them.
 use Rattle.std.proofs.Common.{◌≡◌, ℕ, Bool, true, false, List, [], ◌∷◌, refl, sym, ap, subst, ◌∙◌, inl, inr}
-use Rattle.std.specs.Prelude.{◌⊎◌, IfSome, Option, Some, None, slice_get}
+use Rattle.std.specs.Prelude.{◌⊎◌, IfSome, Option, Some, None, Result, slice_get}
 use Rattle.mq_base.specs.declared.want.NoMemory.{NoMemory as Want}
 use Rattle.mq_cable.specs.declared.item.Item.{Item}
+use Rattle.mq_cable.specs.Offers.{Offering}
 use Rattle.mq_history.specs.declared.calls.Actor.TheVariants as actors
 use Rattle.mq_history.specs.declared.calls.Call.{Call}
 use Rattle.mq_history.specs.declared.calls.Call.TheVariants as calls
@@ -15,8 +16,10 @@ use Rattle.mq_events.specs.Events.{Adds, Stays}
 use Rattle.mq_history.specs.declared.scripts.ScriptLine.TheVariants as lines
 use Rattle.mq_acts.specs.Advances.{Keeps, LineDone, LineWaits, NoLine}
 use Rattle.mq_acts.specs.Serving.{Serves}
+use Rattle.mq_turns.specs.declared.telling.Turn.{Turn}
 use Rattle.mq_turns.specs.declared.telling.Turn.TheVariants as turns
 use Rattle.mq_turns.specs.Turns.{TimeoutIs}
+use Rattle.mq_turns.specs.Unseen.{EndTurn}
 use Rattle.mq_turns.specs.Wired.{ChangedBy, Untaken}
 use Rattle.mq_ruled.specs.Ends.{PipeTook, PipeWrote}
 use Rattle.mq_shared.specs.Took.{EndState}
@@ -130,6 +133,17 @@ pub keeps_at : (ls : List ScriptLine) (n moment : ℕ) (l : ScriptLine) → Some
 keeps_at ls n moment l is = subst (λ (o : Option ScriptLine). IfSome o (Keeps (deadline moment (wait_of l)))) is (keeps_deadline moment l)
 
 -- A TURN
+-- by its side
+pub sender_as : (sends : Bool) (cable : ℕ) (reads writes : List Item → Type 0) (empty full : Type 0) (o n : Offering) (old new : NodeState) (result : Result Turn Want) → sends ≡ true → EndTurn (actors.Sender cable) reads writes empty full o n old result new
+    → EndTurn (end_actor cable sends) reads writes empty full o n old result new
+sender_as true cable reads writes empty full o n old new result is h = h
+sender_as false cable reads writes empty full o n old new result is h = absurd (let no : false ≡ true = is in cc)
+
+pub receiver_as : (sends : Bool) (cable : ℕ) (reads writes : List Item → Type 0) (empty full : Type 0) (o n : Offering) (old new : NodeState) (result : Result Turn Want) → sends ≡ false → EndTurn (actors.Receiver cable) reads writes empty full o n old result new
+    → EndTurn (end_actor cable sends) reads writes empty full o n old result new
+receiver_as false cable reads writes empty full o n old new result is h = h
+receiver_as true cable reads writes empty full o n old new result is h = absurd (let no : true ≡ false = is in cc)
+
 pub turn_made : (none full : Type 0) (a b : EndState) (old mid new : NodeState) → SameEnd a b → ChangedBy (end_actor a.cable a.sends) (λ (xs : List Item). PipeTook a.wire xs b.wire) (λ (xs : List Item). PipeWrote a.wire xs b.wire) none full a.offers b.offers old mid → Serves mid new → TurnMade none full a b old new
 turn_made none full a b old mid new same h v = record {
   made = made_then (end_actor a.cable a.sends) calls.Turn h.entry old mid new h.adds v;

@@ -1,7 +1,7 @@
 //! What lies under a lock of a phase: a node with its ends and its scripts, and what its type keeps of them.
 ghost use Rattle.std.specs.Prelude.{◌≡◌, ◌<◌, ◌^◌, IfSome, IsTrue, false, length, slice_get};
 ghost use Rattle.mq_events.specs.Events.{MayAct};
-ghost use Rattle.mq_shared.specs.Held.{Kept};
+ghost use Rattle.mq_shared.specs.Held.{Kept, KeptOwn};
 
 use crate::held::{HeldEnd, HeldScript};
 use crate::trying::{Tried, try_line, try_timeout, try_turn};
@@ -22,7 +22,7 @@ pub trait PhaseName {
 impl PhaseName for Brand {
     ghost use Rattle.std.specs.Prelude.{[]};
 
-    ghost begun = { record { nodes = []; lines = []; outs = []; backs = []; tries = [] } };
+    ghost begun = { record { nodes = []; lines = []; outs = []; backs = []; tries = []; ends = []; scripts = [] } };
 }
 
 /// A node under its lock, with the ends of its cables and its scripts of the phase. Each call is one event at most, with the trigger turns
@@ -38,13 +38,14 @@ pub struct Locked<'a, P: PhaseName, D: Disk, R: Wait> {
 }
 
 impl<'a, P: PhaseName, D: Disk, R: Wait> Model for Locked<'a, P, D, R> {
-    ghost use Rattle.mq_shared.specs.Held.{Held, Kept};
+    ghost use Rattle.mq_shared.specs.Held.{Held, Kept, KeptOwn};
 
     ghost Value = { Held };
 
     ghost view = { λ s. record { manager = s.manager; node = s.node; ends = s.ends; scripts = s.scripts; wants = s.wants } };
 
-    ghost invariant = { λ s. Kept P.begun (record { manager = s.manager; node = s.node; ends = s.ends; scripts = s.scripts; wants = s.wants }) };
+    ghost invariant = { λ s. Kept P.begun (record { manager = s.manager; node = s.node; ends = s.ends; scripts = s.scripts; wants = s.wants })
+        × KeptOwn D.tells P.begun (record { manager = s.manager; node = s.node; ends = s.ends; scripts = s.scripts; wants = s.wants }) };
 }
 
 /// The parts of what lay under a lock.
@@ -84,7 +85,8 @@ impl<'a, P: PhaseName, D: Disk, R: Wait> Locked<'a, P, D, R> {
         ends: Items<HeldEnd<'a, R>>,
         scripts: Items<HeldScript<'a>>,
     ) -> Locked<'a, P, D, R>
-        requires { Kept P.begun (record { manager = manager; node = node; ends = ends; scripts = scripts; wants = false }) }
+        requires kept { Kept P.begun (record { manager = manager; node = node; ends = ends; scripts = scripts; wants = false }) }
+        requires own { KeptOwn D.tells P.begun (record { manager = manager; node = node; ends = ends; scripts = scripts; wants = false }) }
         ensures { result ≡ record { manager = manager; node = node; ends = ends.entry; scripts = scripts.entry; wants = false } }
     {
         Locked {
@@ -142,6 +144,7 @@ impl<'a, P: PhaseName, D: Disk, R: Wait> Locked<'a, P, D, R> {
     /// The parts, and what is known of them.
     pub fn into_parts(self) -> Unlocked<'a, D, R>
         ensures kept { Kept P.begun self.entry }
+        ensures own { KeptOwn D.tells P.begun self.entry }
         ensures parts { self.entry ≡ record { manager = result.manager; node = result.node; ends = result.ends; scripts = result.scripts; wants = result.wants } }
     {
         let Locked {
