@@ -3,3 +3,4 @@ pub mod Took
 pub mod Held
 pub mod Events
 pub mod Joining
+pub mod Phasing
