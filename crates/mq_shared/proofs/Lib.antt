@@ -11,3 +11,4 @@ pub mod JoinLaws
 pub mod OwnKept
 pub mod LineKept
 pub mod TurnKept
+pub mod BegunLaws
