@@ -1,9 +1,15 @@
 use Rattle.std.proofs.Common.{rules, ◌≡◌, Bool, subst, sym}
 use Rattle.std.specs.Prelude.{slice_set}
 use Rattle.mq_shared.specs.Held.{Kept}
-use Rattle.mq_shared.proofs.KeptLaws.{served_at}
+use Rattle.mq_shared.proofs.KeptLaws.{few_at, served_at, short_at}
 use Rattle.mq_shared.proofs.LineKept.{line_kept}
 use Rattle.mq_shared.proofs.locked.Locked.advance.Goals as goal
+
+pub try_line-tried-requires-clause-few : goal.try_line-tried-requires-clause-few
+try_line-tried-requires-clause-few g c = few_at _ _ c.args.at _ c.self.invariant.0 c.at_mut.ensures.value
+
+pub try_line-tried-requires-clause-short : goal.try_line-tried-requires-clause-short
+try_line-tried-requires-clause-short g c = short_at _ _ c.args.at _ c.self.invariant.0 c.at_mut.ensures.value
 
 pub invariant_of-self : goal.invariant_of-self
 invariant_of-self g c = (
