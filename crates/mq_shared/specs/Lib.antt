@@ -2,4 +2,6 @@ pub mod Facing
 pub mod Took
 pub mod Held
 pub mod Events
+pub mod Opening
+pub mod Parting
 pub mod Joining
