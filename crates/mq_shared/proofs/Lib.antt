@@ -11,3 +11,6 @@ pub mod JoinLaws
 pub mod OwnKept
 pub mod LineKept
 pub mod TurnKept
+pub mod ShareLists
+pub mod BegunLaws
+pub mod OutLaws

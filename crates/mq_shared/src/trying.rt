@@ -35,7 +35,7 @@ pub enum Tried {
 }
 
 /// The next line of a script, with the trigger turns behind it.
-#[tactic(auto, using(crate::proofs::TriedLaws::keeps_at, crate::proofs::TriedLaws::line_made, crate::proofs::TriedLaws::line_waits, crate::proofs::TriedLaws::line_none, crate::proofs::OwnKept::own_same, crate::proofs::OwnKept::own_then))]
+#[tactic(auto, using(crate::proofs::TriedLaws::keeps_at, crate::proofs::OwnKept::own_same, crate::proofs::OwnKept::own_then))]
 fn line_at<D: Disk>(
     node: &mut Node<D>,
     script: u16,
@@ -138,7 +138,6 @@ fn turn_at<D: Disk, R: Wait>(
 /// # Errors
 ///
 /// No memory: nothing was done, or the turn was, and a trigger stays due.
-#[tactic(auto, using(crate::proofs::TriedLaws::turn_made, crate::proofs::TriedLaws::turn_not))]
 pub fn try_turn<D: Disk, R: Wait>(
     node: &mut Node<D>,
     end: &mut HeldEnd<'_, R>,
