@@ -1,12 +1,11 @@
 -- Lists by their places: one value more at the end, one value set.
 use Rattle.std.proofs.Common.{◌≡◌, ◌≢◌, ℕ, zero, suc, ◌+◌, ◌≤◌, ◌<◌, Bool, true, false, List, [], ◌∷◌, ◌++◌, length, map, drop, refl, sym, ap, subst, ◌∙◌, append_assoc, append-nil, inl, inr, ⊎_elim, arith}
 use Rattle.std.specs.Prelude.{◌⊎◌, ◌==◌, ◌&&◌, ◌||◌, Option, Some, None, slice_get, slice_set}
-use Rattle.std.specs.List.{list_any}
+use Rattle.std.specs.List.{All, list_any}
+use Rattle.std.proofs.lemmas.List.Elements.{All-get_or}
+use Rattle.std.proofs.lemmas.Option.{get_or_from_slice_get, slice_get_within}
 use Rattle.std.proofs.lemmas.Bool.Decides.{nat_tests}
 use Rattle.mq_base.specs.Members.{Mem}
-
-pub nothing : (n : ℕ) → n ≡ n
-nothing n = refl
 
 pub are_same : (a b : ℕ) → (a == b) ≡ true → a ≡ b
 are_same a b e = grind (arith, nat_tests)
@@ -146,3 +145,7 @@ mem_any (j ∷ js) k (inr h) = ⊎_elim
     (λ (t : (j == k) ≡ true). ap (λ (b : Bool). b || list_any (λ (i : ℕ). i == k) js) t)
     (λ (t : (j == k) ≡ false). ap (λ (b : Bool). b || list_any (λ (i : ℕ). i == k) js) t ∙ mem_any js k h)
     (true_or_false (j == k))
+
+-- what holds of each of a list, at a place of it
+pub at_it : {A : Type 0} (P : A → Type 0) (xs : List A) (k : ℕ) (x : A) → All P xs → slice_get xs k ≡ Some x → P x
+at_it P xs k x all is = subst P (get_or_from_slice_get xs k x x is) (All-get_or P xs k x (slice_get_within xs k x is) all)

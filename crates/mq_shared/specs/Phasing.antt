@@ -58,17 +58,17 @@ abbrev pub AreKept : List NodeState → Type 0
 AreKept ns = (m : ℕ) (n : NodeState) → slice_get ns m ≡ Some n → IsKept n
 
 -- A phase of these scripts may begin: nodes, courses of scripts and cables are the scenario's.
-pub record MayPhase (s : Scenario) (ks : List ℕ) (ns : List NodeState) (cs : List Course) (ways : List CableState) : Type 0 where
+pub record MayPhase (s : Scenario) (ks : List ℕ) (ns : List NodeState) (cs : List Course) (ws : List CableState) : Type 0 where
   pub scenario : IsScenario s
   pub phased : ArePhased s ks
   pub texts : AreTexts s
   pub managers : length ns ≡ length s.managers
   pub scripts : length cs ≡ length s.scripts
-  pub cables : length ways ≡ length s.cables
+  pub cables : length ws ≡ length s.cables
   pub kept : AreKept ns
   pub ready : AreReady ns
   pub courses : AreCourses s ns cs
-  pub ways : AreJoined s.cables (entries_in ns) ways
+  pub ways : AreJoined s.cables (entries_in ns) ws
 
 -- What a manager did in it.
 pub record NodeRan (ts : List Trying) (m : ℕ) (since : List Entry) (old new : NodeState) : Type 0 where
@@ -84,15 +84,15 @@ PhaseEnds (Err stops.NoMemory) ns = Unit {0}
 PhaseEnds (Err (stops.Spent m)) ns = (n : NodeState) × (slice_get ns m ≡ Some n) × (is_spent (value_of n) ≡ true)
 
 -- A phase ran: each manager did what a phase may have, and courses and cables are as the histories say.
-pub record PhaseRan (s : Scenario) (ks : List ℕ) (old : List NodeState) (r : Result (Unit {0}) Stop) (ns : List NodeState) (cs : List Course) (ways : List CableState) : Type 0 where
+pub record PhaseRan (s : Scenario) (ks : List ℕ) (old : List NodeState) (r : Result (Unit {0}) Stop) (ns : List NodeState) (cs : List Course) (ws : List CableState) : Type 0 where
   pub since : ℕ → List Entry
   pub others : (m : ℕ) → length old ≤ m → since m ≡ []
   pub managers : length ns ≡ length old
   pub nodes : (m : ℕ) (n new : NodeState) → slice_get old m ≡ Some n → slice_get ns m ≡ Some new → NodeRan (tries_in s old ks) m (since m) n new
   pub scripts : length cs ≡ length s.scripts
   pub courses : AreCourses s ns cs
-  pub cables : length ways ≡ length s.cables
-  pub ways : AreJoined s.cables (entries_in ns) ways
+  pub cables : length ws ≡ length s.cables
+  pub ways : AreJoined s.cables (entries_in ns) ws
   pub ends : PhaseEnds r ns
 
 -- no restart of it was from a log that was changed from outside
