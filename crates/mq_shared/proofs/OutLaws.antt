@@ -1,6 +1,6 @@
 -- What came out of the locks of a phase is what the phase tells.
-use Rattle.std.proofs.Common.{◌≡◌, ◌≢◌, ℕ, ◌<◌, ◌≤◌, Bool, true, false, List, [], ◌∷◌, ◌++◌, drop, length, refl, sym, ap, subst, ◌∙◌, append_assoc, append-nil, inl, inr, arith}
-use Rattle.std.specs.Prelude.{◌⊎◌, Option, Some, None, map, slice_get}
+use Rattle.std.proofs.Common.{◌≡◌, ◌≢◌, ℕ, ◌<◌, ◌≤◌, true, false, List, [], ◌∷◌, ◌++◌, drop, length, refl, sym, ap, subst, ◌∙◌, append_assoc, append-nil, inl, inr, arith}
+use Rattle.std.specs.Prelude.{◌⊎◌, Option, Some, map, slice_get}
 use Rattle.mq_base.specs.Members.{Mem}
 use Rattle.mq_history.specs.declared.calls.Actor.{Actor}
 use Rattle.mq_history.specs.declared.calls.Actor.TheVariants as actors
@@ -12,9 +12,9 @@ use Rattle.mq_spec_network.specs.Steps.{AllInPhase, InPhase, PhaseLine}
 use Rattle.mq_spec_network.specs.Tasks.{Trying}
 use Rattle.mq_progress.specs.Course.{Course, Stands}
 use Rattle.mq_progress.proofs.CourseLaws.{stands_others}
-use Rattle.mq_ways.specs.Ways.{CableState, WayState}
+use Rattle.mq_ways.specs.Ways.{CableState}
 use Rattle.mq_events.specs.States.{NodeState, value_of}
-use Rattle.mq_shared.specs.Facing.{AreJoined, Facing, IsJoined}
+use Rattle.mq_shared.specs.Facing.{AreJoined, Facing}
 use Rattle.mq_shared.specs.Took.{EndState}
 use Rattle.mq_shared.specs.Held.{Begun, IsEndAt, IsScriptIn, ScriptState, end_name, entries_begun, entries_or}
 use Rattle.mq_shared.specs.Parting.{AreEnds, AreEndsAt, IsAmong, ends_named}

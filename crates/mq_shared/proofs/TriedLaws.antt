@@ -1,6 +1,6 @@
 -- What a try of a line, a turn and a timeout come to, by the calls that do them.
 use Rattle.std.proofs.Common.{◌≡◌, ℕ, Bool, true, false, List, [], ◌∷◌, refl, sym, ap, subst, ◌∙◌, inl, inr}
-use Rattle.std.specs.Prelude.{◌⊎◌, IfSome, Option, Some, None, Result, Ok, Err, slice_get}
+use Rattle.std.specs.Prelude.{IfSome, Option, Some, None, Result, Ok, Err, slice_get}
 use Rattle.mq_base.specs.declared.want.NoMemory.{NoMemory as Want}
 use Rattle.mq_cable.specs.declared.item.Item.{Item}
 use Rattle.mq_cable.specs.Offers.{Offering}
@@ -10,8 +10,8 @@ use Rattle.mq_history.specs.declared.calls.Call.TheVariants as calls
 use Rattle.mq_spec_node.specs.Lines.Next.{Waits}
 use Rattle.mq_spec_node.specs.Terms.{Actor, Entry, ScriptLine}
 use Rattle.mq_spec_node.specs.Words.{Deed, deadline, deadline_kept, line_call, next_if, wait_of}
-use Rattle.mq_progress.specs.Course.{Course, call_in, next_in, until_in}
-use Rattle.mq_events.specs.States.{NodeState, node_in, value_of}
+use Rattle.mq_progress.specs.Course.{Course, call_in, until_in}
+use Rattle.mq_events.specs.States.{NodeState, value_of}
 use Rattle.mq_events.specs.Events.{Adds, Stays}
 use Rattle.mq_history.specs.declared.scripts.ScriptLine.TheVariants as lines
 use Rattle.mq_acts.specs.Advances.{Advances, Keeps, LineDone, LineWaits, NoLine}

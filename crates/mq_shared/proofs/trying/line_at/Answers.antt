@@ -1,4 +1,4 @@
-use Rattle.std.proofs.Common.{rules, inl, inr}
+use Rattle.std.proofs.Common.{inl, inr}
 use Rattle.mq_shared.proofs.TriedLaws.{line_ended, line_left, line_made, line_none, line_waits, waits_so}
 use Rattle.mq_shared.proofs.trying.line_at.Goals as goal
 

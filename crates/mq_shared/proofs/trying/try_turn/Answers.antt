@@ -1,4 +1,4 @@
-use Rattle.std.proofs.Common.{rules, inl, inr}
+use Rattle.std.proofs.Common.{inl, inr}
 use Rattle.mq_shared.proofs.TriedLaws.{turn_made, turn_none, turn_not}
 use Rattle.mq_shared.proofs.trying.try_turn.Goals as goal
 

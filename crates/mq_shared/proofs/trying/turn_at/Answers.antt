@@ -1,4 +1,4 @@
-use Rattle.std.proofs.Common.{rules, List, [], subst}
+use Rattle.std.proofs.Common.{List, [], subst}
 use Rattle.mq_cable.specs.declared.item.Item.{Item}
 use Rattle.mq_turns.specs.Unseen.{EndTurn}
 use Rattle.mq_ruled.specs.Ends.{PipeEmpty, PipeEnds, PipeFull, PipeTook, PipeWrote}
