@@ -66,12 +66,12 @@ pub record IsTried (s : Scenario) (ns : List NodeState) (ks : List ℕ) (t : Try
 
 pub tries_are : (s : Scenario) (ns : List NodeState) (ks : List ℕ) (t : Trying) → Mem t (tries_in s ns ks) → IsTried s ns ks t
 tries_are s ns [] t h = absurd h
-tries_are s ns (j ∷ js) t h = from (slice_get s.scripts j) refl h
+tries_are s ns (j ∷ js) t h = from (slice_get s.scripts j) refl (λ m. tries_are s ns js t m) h
   where
     later : IsTried s ns js t → IsTried s ns (j ∷ js) t
     later x = record { part = x.part; moment = x.moment; named = inr x.named }
 
-    from : (o : Option ScriptPart) → slice_get s.scripts j ≡ o → Mem t (tries_one ns j o ++ tries_in s ns js) → IsTried s ns (j ∷ js) t
-    from None at m = later (tries_are s ns js t m)
-    from (Some p) at (inl same) = subst (IsTried s ns (j ∷ js)) (sym same) (record { part = at; moment = refl; named = inl refl })
-    from (Some p) at (inr m) = later (tries_are s ns js t m)
+    from : (o : Option ScriptPart) → slice_get s.scripts j ≡ o → (Mem t (tries_in s ns js) → IsTried s ns js t) → Mem t (tries_one ns j o ++ tries_in s ns js) → IsTried s ns (j ∷ js) t
+    from None at rest m = later (rest m)
+    from (Some p) at rest (inl same) = subst (IsTried s ns (j ∷ js)) (sym same) (record { part = at; moment = refl; named = inl refl })
+    from (Some p) at rest (inr m) = later (rest m)

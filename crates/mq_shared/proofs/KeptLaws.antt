@@ -1,12 +1,12 @@
 -- What is kept under a lock is kept by entries more that a phase may have.
 use Rattle.std.proofs.Common.{◌≡◌, ◌≢◌, ℕ, zero, suc, ◌≤◌, ◌<◌, ◌^◌, Bool, true, false, List, [], ◌∷◌, ◌++◌, length, refl, sym, ap, subst, ◌∙◌, append_assoc, append-nil, inl, inr, ⊎_elim, arith}
-use Rattle.std.specs.Prelude.{◌⊎◌, IfSome, Option, Some, None, map, slice_get, slice_set}
+use Rattle.std.specs.Prelude.{◌⊎◌, IfSome, Some, None, map, slice_get, slice_set}
 use Rattle.std.specs.List.{AllByRecursion}
 use Rattle.mq_history.specs.declared.history.History.{History}
 use Rattle.mq_spec_node.specs.Node.{Node}
-use Rattle.mq_spec_node.specs.Replays.{Follows, Tells, after, done_by, opening_node, state_of}
+use Rattle.mq_spec_node.specs.Replays.{Follows, Tells, after, done_by, opening_node}
 use Rattle.mq_spec_node.specs.Terms.{Entry}
-use Rattle.mq_spec_node.specs.Words.{Grows, NodeValue, is_spent, more_entries, stamp_after}
+use Rattle.mq_spec_node.specs.Words.{Grows, NodeValue, more_entries, stamp_after}
 use Rattle.mq_spec_network.specs.Steps.{AllInPhase, AreTriggers, InPhase}
 use Rattle.mq_spec_network.specs.Tasks.{Trying}
 use Rattle.mq_events.specs.States.{NodeState, IsKept, IsServed, node_in, value_of}
@@ -15,7 +15,7 @@ use Rattle.mq_acts.specs.Advances.{IsTextLine}
 use Rattle.mq_acts.specs.Serving.{AreTurns, IsDone}
 use Rattle.mq_shared.specs.Took.{EndState}
 use Rattle.mq_shared.specs.Held.{Begun, EachIs, EndsApart, Held, IsEndAt, IsScriptIn, Kept, ScriptState, ScriptsApart, end_name, script_name}
-use Rattle.mq_shared.specs.Events.{Made, Stayed, Went}
+use Rattle.mq_shared.specs.Events.{Stayed, Went}
 use Rattle.mq_shared.proofs.QuietLaws.{IsSilent, behind_silent}
 
 -- LISTS: one of several changes.

@@ -1,6 +1,6 @@
 -- Cables whose items lie in their queues, one more and one less.
 use Rattle.std.proofs.Common.{◌≡◌, ◌≢◌, ◌<◌, ◌≤◌, ℕ, zero, suc, List, [], ◌∷◌, ◌++◌, length, refl, sym, ap, subst, ◌∙◌, inl, inr, ⊎_elim, arith}
-use Rattle.std.specs.Prelude.{◌⊎◌, Some, None, slice_get, slice_set}
+use Rattle.std.specs.Prelude.{◌⊎◌, Some, None, OnErr, Result, Ok, Err, slice_get, slice_set}
 use Rattle.mq_ways.specs.Ways.{CableState}
 use Rattle.mq_shared.specs.declared.opening.Passes.{Passes}
 use Rattle.mq_shared.specs.declared.opening.Pipes.{Pipes}
@@ -55,3 +55,19 @@ bare_less cs k c h j d lt e =
     (λ (q : (j ≡ k) × (c ≡ d)). let is = q.0 in absurd (omega (arith, lt, is)))
     (λ (q : (j ≢ k) × (slice_get cs j ≡ Some d)). h j d (omega (arith, lt)) q.1)
     (get_set cs k j c d e)
+
+-- a place where nothing changed
+pub err_same : {T E : Type 0} (r : Result T E) (xs : List CableState) (k : ℕ) (x y : CableState) → slice_get xs k ≡ Some x → OnErr r (y ≡ x) → OnErr r (slice_set xs k y ≡ xs)
+err_same (Ok v) xs k x y e h = tt
+err_same (Err f) xs k x y e h = ap (λ (z : CableState). slice_set xs k z) h ∙ set_same xs k x e
+
+-- one cable more that is as it is asked
+pub each_more : (P : CableState → Type 0) (cs : List CableState) (i : ℕ) (c : CableState) → slice_get cs i ≡ Some c → P c → ((k : ℕ) (d : CableState) → k < i → slice_get cs k ≡ Some d → P d) → (k : ℕ) (d : CableState) → k < suc i → slice_get cs k ≡ Some d → P d
+each_more P cs i c e p h k d lt f =
+    ⊎_elim
+    (λ (q : k < i). h k d q f)
+    (λ (q : k ≡ i). subst P (some_is c d (sym e ∙ ap (λ (n : ℕ). slice_get cs n) (sym q) ∙ f)) p)
+    (before k i lt)
+  where
+    before : (a b : ℕ) → a < suc b → (a < b) ⊎ (a ≡ b)
+    before a b l = omega (arith, l)

@@ -1,6 +1,6 @@
 -- What came out of the locks of a phase is what the phase tells.
-use Rattle.std.proofs.Common.{◌≡◌, ◌≢◌, ℕ, ◌<◌, ◌≤◌, Bool, true, false, List, [], ◌∷◌, ◌++◌, drop, length, refl, sym, ap, subst, ◌∙◌, append_assoc, append-nil, inl, inr, arith}
-use Rattle.std.specs.Prelude.{◌⊎◌, Option, Some, None, map, slice_get}
+use Rattle.std.proofs.Common.{◌≡◌, ◌≢◌, ℕ, ◌<◌, ◌≤◌, true, false, List, [], ◌∷◌, ◌++◌, drop, length, refl, sym, ap, subst, ◌∙◌, append_assoc, append-nil, inl, inr, arith}
+use Rattle.std.specs.Prelude.{◌⊎◌, Option, Some, map, slice_get}
 use Rattle.mq_base.specs.Members.{Mem}
 use Rattle.mq_history.specs.declared.calls.Actor.{Actor}
 use Rattle.mq_history.specs.declared.calls.Actor.TheVariants as actors
@@ -12,9 +12,9 @@ use Rattle.mq_spec_network.specs.Steps.{AllInPhase, InPhase, PhaseLine}
 use Rattle.mq_spec_network.specs.Tasks.{Trying}
 use Rattle.mq_progress.specs.Course.{Course, Stands}
 use Rattle.mq_progress.proofs.CourseLaws.{stands_others}
-use Rattle.mq_ways.specs.Ways.{CableState, WayState}
+use Rattle.mq_ways.specs.Ways.{CableState}
 use Rattle.mq_events.specs.States.{NodeState, value_of}
-use Rattle.mq_shared.specs.Facing.{AreJoined, Facing, IsJoined}
+use Rattle.mq_shared.specs.Facing.{AreJoined, Facing}
 use Rattle.mq_shared.specs.Took.{EndState}
 use Rattle.mq_shared.specs.Held.{Begun, IsEndAt, IsScriptIn, ScriptState, end_name, entries_begun, entries_or}
 use Rattle.mq_shared.specs.Parting.{AreEnds, AreEndsAt, IsAmong, ends_named}
@@ -95,22 +95,22 @@ line_script j t done [] m e h = absurd h
 line_script j t done (l ∷ ls) m e h = h.0
 
 not_script : (ts : List Trying) (m k : ℕ) (done : List Entry) (e : Entry) (a : Actor) → ((t : Trying) → Mem t ts → t.script ≢ k) → InPhase ts done m e a → is_script k a ≡ false
-not_script ts m k done e (actors.Script j) no h = other_script k j (λ (same : k ≡ j). no h.0 h.1 (line_script j h.0 done (left_after j h.0.part done) m e h.2 ∙ sym same))
-not_script ts m k done e (actors.Sender cable) no h = refl
-not_script ts m k done e (actors.Receiver cable) no h = refl
-not_script ts m k done e (actors.Handler j) no h = absurd h
-not_script ts m k done e (actors.Monitor j) no h = absurd h
-not_script ts m k done e actors.Operator no h = absurd h
-not_script ts m k done e actors.Clock no h = absurd h
+not_script ts m k done e (actors.Script j) others h = other_script k j (λ (same : k ≡ j). others h.0 h.1 (line_script j h.0 done (left_after j h.0.part done) m e h.2 ∙ sym same))
+not_script ts m k done e (actors.Sender cable) others h = refl
+not_script ts m k done e (actors.Receiver cable) others h = refl
+not_script ts m k done e (actors.Handler j) others h = absurd h
+not_script ts m k done e (actors.Monitor j) others h = absurd h
+not_script ts m k done e actors.Operator others h = absurd h
+not_script ts m k done e actors.Clock others h = absurd h
 
 none_stands : (ts : List Trying) (m k : ℕ) (p : ScriptPart) (c : Course) (done es : List Entry) → ((t : Trying) → Mem t ts → t.script ≢ k) → AllInPhase ts m done es → Stands k p done c → Stands k p (done ++ es) c
-none_stands ts m k p c done [] no h at = subst (λ (d : List Entry). Stands k p d c) (sym (append-nil done)) at
-none_stands ts m k p c done (e ∷ es) no h at =
-    subst (λ (d : List Entry). Stands k p d c) (append_assoc done (e ∷ []) es) (none_stands ts m k p c (done ++ e ∷ []) es no h.1 (stands_others k p done e c at (other h.0)))
+none_stands ts m k p c done [] others h at = subst (λ (d : List Entry). Stands k p d c) (sym (append-nil done)) at
+none_stands ts m k p c done (e ∷ es) others h at =
+    subst (λ (d : List Entry). Stands k p d c) (append_assoc done (e ∷ []) es) (none_stands ts m k p c (done ++ e ∷ []) es others h.1 (stands_others k p done e c at (other h.0)))
   where
     other : InPhase ts done m e e.actor ⊎ (e.call ≡ calls.Trigger) → (is_script k e.actor ≡ false) ⊎ (is_trigger e.call ≡ true)
-    other (inl i) = inl (not_script ts m k done e e.actor no i)
+    other (inl i) = inl (not_script ts m k done e e.actor others i)
     other (inr t) = inr (ap is_trigger t)
 
 pub course_stays : (ts : List Trying) (m k : ℕ) (p : ScriptPart) (es since : List Entry) (c : Course) → AllInPhase ts m es since → ((t : Trying) → Mem t ts → t.script ≢ k) → IsCourse k p es c → IsCourse k p (es ++ since) c
-course_stays ts m k p es since c h no is = record { stands = none_stands ts m k p c es since no h is.stands; few = is.few; rests = is.rests }
+course_stays ts m k p es since c h others is = record { stands = none_stands ts m k p c es since others h is.stands; few = is.few; rests = is.rests }

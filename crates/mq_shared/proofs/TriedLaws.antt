@@ -1,6 +1,6 @@
 -- What a try of a line, a turn and a timeout come to, by the calls that do them.
 use Rattle.std.proofs.Common.{◌≡◌, ℕ, Bool, true, false, List, [], ◌∷◌, refl, sym, ap, subst, ◌∙◌, inl, inr}
-use Rattle.std.specs.Prelude.{◌⊎◌, IfSome, Option, Some, None, Result, Ok, Err, slice_get}
+use Rattle.std.specs.Prelude.{IfSome, Option, Some, None, Result, Ok, Err, slice_get}
 use Rattle.mq_base.specs.declared.want.NoMemory.{NoMemory as Want}
 use Rattle.mq_cable.specs.declared.item.Item.{Item}
 use Rattle.mq_cable.specs.Offers.{Offering}
@@ -10,8 +10,8 @@ use Rattle.mq_history.specs.declared.calls.Call.TheVariants as calls
 use Rattle.mq_spec_node.specs.Lines.Next.{Waits}
 use Rattle.mq_spec_node.specs.Terms.{Actor, Entry, ScriptLine}
 use Rattle.mq_spec_node.specs.Words.{Deed, deadline, deadline_kept, line_call, next_if, wait_of}
-use Rattle.mq_progress.specs.Course.{Course, call_in, next_in, until_in}
-use Rattle.mq_events.specs.States.{NodeState, node_in, value_of}
+use Rattle.mq_progress.specs.Course.{Course, call_in, until_in}
+use Rattle.mq_events.specs.States.{NodeState, value_of}
 use Rattle.mq_events.specs.Events.{Adds, Stays}
 use Rattle.mq_history.specs.declared.scripts.ScriptLine.TheVariants as lines
 use Rattle.mq_acts.specs.Advances.{Advances, Keeps, LineDone, LineWaits, NoLine}
@@ -69,8 +69,8 @@ until_is : (s : ScriptState) (l k : ScriptLine) (moment : ℕ) → l ≡ k → u
 until_is s l k moment same = ap (λ (x : ScriptLine). deadline_kept (deadline s.moment (wait_of x)) moment (wait_of k)) same ∙ kept_until s.moment moment (wait_of k)
 
 -- the deadline that is set before it is tried
-pub waits_so : (s : ScriptState) (l : ScriptLine) (w u : Option ℕ) (c : Course) → w ≡ wait_of l → u ≡ deadline s.moment w → c ≡ record s.course { until = u } → c ≡ tried s l
-waits_so s l w u c wait until is = is ∙ ap (λ (x : Option ℕ). record s.course { until = x }) (until ∙ ap (deadline s.moment) wait)
+pub waits_so : (course : Course) (moment : ℕ) (l : ScriptLine) (w u : Option ℕ) (c : Course) → w ≡ wait_of l → u ≡ deadline moment w → c ≡ record course { until = u } → c ≡ record course { until = deadline moment (wait_of l) }
+waits_so course moment l w u c wait until is = is ∙ ap (λ (x : Option ℕ). record course { until = x }) (until ∙ ap (deadline moment) wait)
 
 done_so : (s : ScriptState) (l : ScriptLine) (d : Course) (old mid new : NodeState) → Some l ≡ slice_get s.part.lines s.course.done → LineDone s.script s.part (tried s l) d old mid → Serves mid new → LineMade s (further s d) old new
 done_so s l d old mid new is x v =
@@ -173,19 +173,15 @@ turn_made none full deed a b old mid new same r changed h v = from_it (subst (λ
       offered = x.offered;
     }
 
-not_taken : (a b : EndState) (old new : NodeState) → SameEnd a b → Untaken (λ (xs : List Item). PipeTook a.wire xs b.wire) (λ (xs : List Item). PipeWrote a.wire xs b.wire) a.offers b.offers old new → TurnNot a b old new
-not_taken a b old new same h = record { stayed = stays_so old new h.stays; same = same; read = h.read; offers = h.offers }
+pub turn_none : (a b : EndState) (old new : NodeState) → SameEnd a b → Untaken (λ (xs : List Item). PipeTook a.wire xs b.wire) (λ (xs : List Item). PipeWrote a.wire xs b.wire) a.offers b.offers old new → TurnNot a b old new
+turn_none a b old new same h = record { stayed = stays_so old new h.stays; same = same; read = h.read; offers = h.offers }
 
 pub turn_not : (none full : Type 0) (deed : Option Deed) (a b : EndState) (old new : NodeState) → SameEnd a b → (r : Turn) → r ≡ turns.Still
     → TurnIs (end_actor a.cable a.sends) (λ (xs : List Item). PipeTook a.wire xs b.wire) (λ (xs : List Item). PipeWrote a.wire xs b.wire) none full a.offers b.offers deed old (Ok r) new → TurnNot a b old new
 turn_not none full deed a b old new same r still h = from_it (subst (λ (x : Turn). TurnIs (end_actor a.cable a.sends) (λ (xs : List Item). PipeTook a.wire xs b.wire) (λ (xs : List Item). PipeWrote a.wire xs b.wire) none full a.offers b.offers deed old (Ok x) new) still h)
   where
     from_it : Untaken (λ (xs : List Item). PipeTook a.wire xs b.wire) (λ (xs : List Item). PipeWrote a.wire xs b.wire) a.offers b.offers old new × IsStill none full a.offers deed → TurnNot a b old new
-    from_it x = not_taken a b old new same x.0
-
-pub turn_want : (none full : Type 0) (deed : Option Deed) (a b : EndState) (old new : NodeState) (e : Want) → SameEnd a b
-    → TurnIs (end_actor a.cable a.sends) (λ (xs : List Item). PipeTook a.wire xs b.wire) (λ (xs : List Item). PipeWrote a.wire xs b.wire) none full a.offers b.offers deed old (Err e) new → TurnNot a b old new
-turn_want none full deed a b old new e same h = not_taken a b old new same h
+    from_it x = turn_none a b old new same x.0
 
 -- A TIMEOUT
 pub time_made : (cable : ℕ) (d : Option Deed) (old mid new : NodeState) → TimeoutIs cable d old (Ok turns.Changed) mid → Serves mid new → Made (actors.Sender cable) calls.Timeout old new

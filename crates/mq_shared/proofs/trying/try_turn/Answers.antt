@@ -1,9 +1,9 @@
-use Rattle.std.proofs.Common.{rules, inl, inr}
-use Rattle.mq_shared.proofs.TriedLaws.{turn_made, turn_not, turn_want}
+use Rattle.std.proofs.Common.{inl, inr}
+use Rattle.mq_shared.proofs.TriedLaws.{turn_made, turn_none, turn_not}
 use Rattle.mq_shared.proofs.trying.try_turn.Goals as goal
 
 pub returns-in-Err : goal.returns-in-Err
-returns-in-Err g c = inl (turn_want _ _ _ _ _ _ _ _ c.in-Err.ensures.same c.in-Err.ensures.turn)
+returns-in-Err g c = inl (turn_none _ _ _ _ c.in-Err.ensures.same c.in-Err.ensures.turn)
 
 pub returns-in-Ok-Still : goal.returns-in-Ok-Still
 returns-in-Ok-Still g c = turn_not _ _ _ _ _ _ _ c.in-Ok-Still.ensures.same _ c.in-Ok-Still.field-0-is c.in-Ok-Still.ensures.turn
