@@ -62,10 +62,10 @@ cables_among s ks ns cs ws n may count k l at =
     (omega (arith, near, count, may.managers), omega (arith, far, count, may.managers))
 
 module _ (s : Scenario) (ks : List ℕ) (old : List NodeState) (was : List CableState) (first : List Course) (outs backs : List TableId) (may : MayPhase s ks old first was) where
-  begun : Begun
+  abbrev begun : Begun
   begun = begun_with s ks old outs backs
 
-  asked : Asked
+  abbrev asked : Asked
   asked = record { scenario = s; scripts = ks }
 
   pub ends_out : (ns : List NodeState) (rows : List (List EndState)) → length ns ≡ length old → length rows ≡ length old → AreOut begun ns rows → AreEnds begun (since_of begun ns) (ends_named s.cables) rows

@@ -180,7 +180,7 @@ out_others ks m k ps p cs ds old is out others j q at elsewhere =
     clash : {b : Bool} → b ≡ true → b ≡ false → ⊥
     clash e f = absurd (let h = sym e ∙ f in cc)
 
-begins_tries : (a : Asked) (b : Begun) → Begins a b → b.tries ≡ tries_in a.scenario b.nodes a.scripts
+pub begins_tries : (a : Asked) (b : Begun) → Begins a b → b.tries ≡ tries_in a.scenario b.nodes a.scripts
 begins_tries a b h = ap (λ (x : Begun). x.tries) h.begun
 
 begins_short : (a : Asked) (b : Begun) (k : ℕ) (p : ScriptPart) → Begins a b → slice_get a.scenario.scripts k ≡ Some p → length p.lines < 2 ^ 32

@@ -17,6 +17,12 @@ pub true_or_false : (b : Bool) → (b ≡ true) ⊎ (b ≡ false)
 true_or_false true = inl refl
 true_or_false false = inr refl
 
+pub under_or_not : (i n : ℕ) → (i < n) ⊎ (n ≤ i)
+under_or_not zero zero = inr (omega arith)
+under_or_not zero (suc n) = inl (omega arith)
+under_or_not (suc i) zero = inr (omega arith)
+under_or_not (suc i) (suc n) = ⊎_elim (λ (h : i < n). inl (omega (arith, h))) (λ (h : n ≤ i). inr (omega (arith, h))) (under_or_not i n)
+
 pub some_is : {A : Type 0} (a b : A) → Some a ≡ Some b → a ≡ b
 some_is a b e = cc
 

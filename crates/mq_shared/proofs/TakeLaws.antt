@@ -16,7 +16,7 @@ use Rattle.mq_shared.specs.Sharing.{among, is_here, named, named_from, put_all, 
 use Rattle.mq_shared.specs.Taking.{AreBack, AreDone, AreOut, Asked, Begins, CoursesAt, CoursesBelow, IsOut, NodesWait, OthersStay, OwnOut}
 use Rattle.mq_shared.proofs.KeptLaws.{grown_entries}
 use Rattle.mq_shared.proofs.OutLaws.{course_back}
-use Rattle.mq_shared.proofs.ShareLists.{are_same, at_front, at_more, itself, last_at, less, long_more, mem_any, mem_at, past, so_both, some_is, there, true_or_false}
+use Rattle.mq_shared.proofs.ShareLists.{are_same, at_front, at_more, itself, last_at, less, long_more, mem_any, mem_at, past, so_both, some_is, there, true_or_false, under_or_not}
 use Rattle.mq_shared.proofs.ShareLaws.{begins_tries, by_at, mem_try, named_has, put_here, put_long, put_other}
 
 -- PLACES
@@ -58,11 +58,8 @@ pub others_on : (a : Asked) (m : ℕ) (first old new : List Course) → length o
 others_on a m first old new long_old long_new stay others k none = ⊎_elim
     (λ (lt : k < length a.scenario.scripts). let p = there a.scenario.scripts k lt in stay k p.0 p.1 (not_asked a.scripts m k p.0 none))
     (λ (ge : length a.scenario.scripts ≤ k). past new k (omega (arith, ge, long_new)) ∙ sym (past old k (omega (arith, ge, long_old))))
-    (either_way k (length a.scenario.scripts))
+    (under_or_not k (length a.scenario.scripts))
     ∙ others k none
-  where
-    either_way : (i n : ℕ) → (i < n) ⊎ (n ≤ i)
-    either_way i n = omega arith
 
 -- COMING OUT
 module _ (a : Asked) (b : Begun) (m : ℕ) (n : NodeState) (es : List EndState) (ss : List ScriptState) (wants : Bool) (begins : Begins a b) (kept : Kept b (record { manager = m; node = n; ends = es; scripts = ss; wants = wants })) where
@@ -136,10 +133,7 @@ module _ (a : Asked) (b : Begun) (m : ℕ) (n : NodeState) (es : List EndState) 
       clash i same e = absurd (let h = sym (ap (λ (j : ℕ). j == m) same ∙ itself m) ∙ e in cc)
 
       under : (i j l l' : ℕ) → i ≢ j → i < l' → l' ≡ l + 1 → l ≡ j → i < l
-      under i j l l' other h e f = ⊎_elim (λ (p : i < l). p) (λ (p : l ≤ i). absurd (other (omega (arith, h, e, f, p)))) (either_way i l)
-        where
-          either_way : (u v : ℕ) → (u < v) ⊎ (v ≤ u)
-          either_way u v = omega arith
+      under i j l l' other h e f = ⊎_elim (λ (p : i < l). p) (λ (p : l ≤ i). absurd (other (omega (arith, h, e, f, p)))) (under_or_not i l)
 
 -- one node more is out
 pub out_more : (b : Begun) (ns new_ns : List NodeState) (rows new_rows : List (List EndState)) (n : NodeState) (es : List EndState) → new_ns ≡ ns ++ n ∷ [] → new_rows ≡ rows ++ es ∷ [] → length ns ≡ length rows → IsOut b (length ns) n es → AreOut b ns rows → AreOut b new_ns new_rows

@@ -1,12 +1,12 @@
 //! A phase: each node goes under a lock with the ends of its cables and its scripts, workers run them in threads, and all comes back.
-ghost use Rattle.std.specs.Prelude.{◌≡◌, ◌≤◌, ◌+◌, ◌*◌, ◌<◌, ◌^◌, List, [], false, IfOk, length, vec_capacity, vec_len};
-ghost use Rattle.mq_ways.specs.Ways.{CableState};
-ghost use Rattle.mq_shared.specs.Held.{EachIs};
-ghost use Rattle.mq_shared.specs.Opening.{AreOpen, bared};
-ghost use Rattle.mq_shared.specs.Parting.{EndRowState, backs_of, outs_of};
+ghost use Rattle.std.specs.Prelude.{◌≡◌, ◌≤◌, ◌++◌, ◌*◌, ◌<◌, ◌^◌, ℕ, [], false, IfOk, length, vec_capacity, vec_len};
+ghost use Rattle.mq_shared.specs.Facing.{AreJoined};
+ghost use Rattle.mq_shared.specs.Held.{EachIs, entries_begun};
+ghost use Rattle.mq_shared.specs.Opening.{AreOpen, EachCable, IsBare, wholes};
+ghost use Rattle.mq_shared.specs.Parting.{AreEnds, EndRowState, IsAmong, IsBegunOver, Passed, backs_of, ends_named, outs_of};
 ghost use Rattle.mq_shared.specs.Phasing.{MayPhase, PhaseEnds, PhaseOwn, PhaseRan};
 ghost use Rattle.mq_shared.specs.Sharing.{begun_with};
-ghost use Rattle.mq_shared.specs.Taking.{AreDone, RowsWait};
+ghost use Rattle.mq_shared.specs.Taking.{AreDone, Asked, RowsWait, since_of};
 
 use crate::courses::{ScriptRow, room_for_scripts};
 use crate::held::HeldEnd;
@@ -20,7 +20,7 @@ use mq_base::{Items, NoMemory};
 use mq_disk::Disk;
 use mq_events::Node;
 use mq_gate::Gate;
-use mq_history::Scenario;
+use mq_history::{CableLine, Scenario};
 use mq_nodes::Stop;
 use mq_progress::Progress;
 use mq_ways::Cable;
@@ -98,6 +98,29 @@ fn phase_ends<D: Disk>(nodes: &Items<Node<D>>, wants: bool) -> Result<(), Stop>
     Ok(())
 }
 
+/// The cables are joined again by the ends that came out of the locks, as the nodes tell that came out with them.
+fn join_back<'x, D: Disk, R: Wait>(
+    rt: &R,
+    pipes: &[Pipes],
+    lines: &[CableLine],
+    nodes: &Items<Node<D>>,
+    mut rows: Items<Items<HeldEnd<'x, R>>>,
+    cables: &mut Items<Cable>,
+)
+    ghost p: { Passed }
+    requires since { p.since ≡ since_of p.begun nodes.now }
+    requires begun { IsBegunOver p.begun pipes.now lines.now }
+    requires all { (length pipes.now ≡ length lines.now) × (length cables.old ≡ length lines.now) }
+    requires managers { EachIs (IsAmong (length rows)) lines.now }
+    requires ends { AreEnds p.begun p.since (ends_named lines.now) rows }
+    requires bare { EachCable IsBare cables.old }
+    ensures joined { AreJoined lines.now (λ (m : ℕ). entries_begun p.begun m ++ since_of p.begun nodes.now m) cables.new }
+    ensures all { length cables.new ≡ length cables.old }
+{
+    let _ = nodes;
+    join_cables(rt, pipes, lines, &mut rows, cables);
+}
+
 /// Runs a phase over open directions, in memory that was taken.
 fn run_in<
     'x,
@@ -118,13 +141,14 @@ fn run_in<
     cables: &mut Items<Cable>,
     room: PhaseRoom<'x, P, D, R>,
 ) -> Result<(), Stop>
-    ghost was: { List CableState }
+    ghost q: { Asked }
+    requires asked { q ≡ record { scenario = scenario.now; scripts = scripts.now } }
     requires begun { P.begun ≡ begun_with scenario.now scripts.now nodes.old (outs_of pipes.now) (backs_of pipes.now) }
-    requires may { MayPhase scenario.now scripts.now nodes.old courses.old was }
-    requires open { AreOpen pipes.now passes.items was }
-    requires all { (length pipes.now ≡ length was) × (vec_len passes ≡ length was) }
-    requires bare { cables.old ≡ bared (length was) was }
-    requires ends { (length room.ends ≡ length nodes.old) × EachIs (λ (e : EndRowState). (e.ends ≡ []) × (2 * length was ≤ e.room)) room.ends }
+    requires may { MayPhase scenario.now scripts.now nodes.old courses.old (wholes passes.items cables.old) }
+    requires open { AreOpen pipes.now passes.items }
+    requires all { (length pipes.now ≡ length cables.old) × (vec_len passes ≡ length cables.old) }
+    requires bare { EachCable IsBare cables.old }
+    requires ends { (length room.ends ≡ length nodes.old) × EachIs (λ (e : EndRowState). (e.ends ≡ []) × (2 * length cables.old ≤ e.room)) room.ends }
     requires rows { (length room.rows ≡ length nodes.old) × RowsWait (length courses.old) room.rows }
     requires locks { (vec_len room.locks ≡ 0) × (length nodes.old ≤ vec_capacity room.locks) }
     requires nodes { (room.nodes.items ≡ []) × (length nodes.old ≤ vec_capacity room.nodes) }
@@ -148,9 +172,8 @@ fn run_in<
     );
     run_all(rt, gate, locks.as_slice(), jobs.as_mut_slice());
     let wants = take_all(rt, locks, &mut out, &mut back, courses);
-    let mut back = Items::from_vec(back);
-    join_cables(rt, pipes, lines, &mut back, cables);
     *nodes = Items::from_vec(out);
+    join_back(rt, pipes, lines, nodes, Items::from_vec(back), cables);
     phase_ends(nodes, wants)
 }
 
@@ -167,12 +190,11 @@ fn run<'x, P: PhaseName + Send + Sync, D: Disk + Send, R: Threads + Wait + Sync,
     courses: &mut Items<Progress>,
     cables: &mut Items<Cable>,
 ) -> Result<(), Stop>
-    ghost was: { List CableState }
     requires begun { P.begun ≡ begun_with scenario.now scripts.now nodes.old (outs_of pipes.now) (backs_of pipes.now) }
-    requires may { MayPhase scenario.now scripts.now nodes.old courses.old was }
-    requires open { AreOpen pipes.now passes.items was }
-    requires all { (length pipes.now ≡ length was) × (vec_len passes ≡ length was) }
-    requires bare { cables.old ≡ bared (length was) was }
+    requires may { MayPhase scenario.now scripts.now nodes.old courses.old (wholes passes.items cables.old) }
+    requires open { AreOpen pipes.now passes.items }
+    requires all { (length pipes.now ≡ length cables.old) × (vec_len passes ≡ length cables.old) }
+    requires bare { EachCable IsBare cables.old }
     ensures ran { PhaseRan scenario.now scripts.now nodes.old result nodes.new courses.new cables.new }
     ensures own { D.tells → PhaseOwn nodes.old nodes.new }
 {
