@@ -7,3 +7,4 @@ pub mod WaitLaws
 pub mod PumpLaws
 pub mod TurnLaws
 pub mod StepLaws
+pub mod PhasedLaws

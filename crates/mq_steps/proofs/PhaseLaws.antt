@@ -121,9 +121,6 @@ part_too k p t r c d h =
 abbrev pub Phasing : List ℕ → ℕ → Course → Course → Type 0
 Phasing ks i c d = Onward (tasks_of c.net (kinds.Phase ks)) (finish (try_all c.net (drop i ks))) c d
 
-pub phase_begins : (ks : List ℕ) (c : Course) → Ready c.net → Phasing ks 0 c c
-phase_begins ks c r = passed (tasks_of c.net (kinds.Phase ks)) _ [] (finish (try_all c.net ks)) c c (begin (tasks_of c.net (kinds.Phase ks)) c r) refl
-
 -- the next one
 next_tasks : (ks : List ℕ) (i k : ℕ) (w : Network) (p : ScriptPart) → slice_get ks i ≡ Some k → i < length ks → slice_get w.scenario.scripts k ≡ Some p
     → finish (try_all w (drop i ks)) ≡ Script k p (Some (moment_of (node_at w p.manager))) None ∷ finish (try_all w (drop (i + 1) ks))

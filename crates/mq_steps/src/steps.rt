@@ -19,9 +19,12 @@ use crate::phases::phase;
 use crate::pumping::{Pumped, pump};
 use crate::turns::{handle, serve};
 use mq_base::NoMemory;
+use mq_gate::Gate;
 use mq_history::{Scenario, Step};
 use mq_nodes::{Nodes, Stop};
 use mq_sc_parse::Command;
+use std::sync::Wait;
+use std::thread::Threads;
 
 /// Of a step that is never idle.
 fn not_idle(done: Result<(), Stop>) -> Result<bool, Stop>
@@ -85,7 +88,13 @@ fn cut_once<N: Nodes>(nodes: &mut N, manager: u16, device_calls: u32) -> Result<
 }
 
 /// Does a step: whether it was a PUMP or a HANDLE that ended idle.
-fn do_step<N: Nodes>(nodes: &mut N, scenario: &Scenario, step: &Step) -> Result<bool, Stop>
+fn do_step<N: Nodes, R: Threads + Wait + Sync, G: Gate + Sync>(
+    rt: &R,
+    gate: &G,
+    nodes: &mut N,
+    scenario: &Scenario,
+    step: &Step,
+) -> Result<bool, Stop>
     requires ready { Ready (N.course nodes.old).net }
     requires rests { Rests (N.course nodes.old) }
     requires same { (N.course nodes.old).net.scenario ≡ scenario.now }
@@ -100,7 +109,7 @@ fn do_step<N: Nodes>(nodes: &mut N, scenario: &Scenario, step: &Step) -> Result<
         Step::Obey(section) => not_idle(obey(nodes, scenario, *section)),
         Step::Do(manager, command) => not_idle(command_once(nodes, *manager, command)),
         Step::Run(script, most) => not_idle(run(nodes, scenario, *script, *most)),
-        Step::Phase(scripts) => not_idle(phase(nodes, scenario, scripts.as_slice())),
+        Step::Phase(scripts) => not_idle(phase(rt, gate, nodes, scenario, scripts.as_slice())),
         Step::Pump(turns) => pump_idle(pump(nodes, *turns)),
         Step::Handle(rules, turns) => handle(nodes, scenario, *rules, *turns),
         Step::Watch(monitor) => not_idle(nodes.watch(*monitor)),
@@ -113,7 +122,12 @@ fn do_step<N: Nodes>(nodes: &mut N, scenario: &Scenario, step: &Step) -> Result<
 }
 
 /// Does all steps, one after the other, each with its mark.
-fn do_steps<N: Nodes>(nodes: &mut N, scenario: &Scenario) -> Result<(), Stop>
+fn do_steps<N: Nodes, R: Threads + Wait + Sync, G: Gate + Sync>(
+    rt: &R,
+    gate: &G,
+    nodes: &mut N,
+    scenario: &Scenario,
+) -> Result<(), Stop>
     requires ready { Ready (N.course nodes.old).net }
     requires rests { Rests (N.course nodes.old) }
     requires unmarked { Unmarked (N.course nodes.old) }
@@ -123,7 +137,7 @@ fn do_steps<N: Nodes>(nodes: &mut N, scenario: &Scenario) -> Result<(), Stop>
     ensures { StepsTold result (N.course nodes.old) (N.course nodes.new) }
 {
     for step in scenario.steps.as_slice() {
-        let idle = do_step(nodes, scenario, step)?;
+        let idle = do_step(rt, gate, nodes, scenario, step)?;
         nodes.mark(idle);
     }
     Ok(())
@@ -156,8 +170,13 @@ fn last_restarts<N: Nodes>(nodes: &mut N) -> Result<(), Stop>
 }
 
 /// Does the steps of a scenario over nodes that have done nothing yet, and restarts last the managers that are down. Where it
-/// ends early, what was done is a part of that.
-pub fn run_steps<N: Nodes>(nodes: &mut N, scenario: &Scenario) -> Result<(), Stop>
+/// ends early, what was done is a part of that. A PHASE may start threads, whose scripts pass the gate before each try of a line.
+pub fn run_steps<N: Nodes, R: Threads + Wait + Sync, G: Gate + Sync>(
+    rt: &R,
+    gate: &G,
+    nodes: &mut N,
+    scenario: &Scenario,
+) -> Result<(), Stop>
     requires ready { Ready (N.course nodes.old).net }
     requires rests { Rests (N.course nodes.old) }
     requires unmarked { Unmarked (N.course nodes.old) }
@@ -168,6 +187,6 @@ pub fn run_steps<N: Nodes>(nodes: &mut N, scenario: &Scenario) -> Result<(), Sto
     ensures lawful { (hs : List histories.History) → Has scenario.now hs (N.course nodes.old) (N.course nodes.new) → AreSteps scenario.now hs }
     ensures all { OnOk result ((hs : List histories.History) → Has scenario.now hs (N.course nodes.old) (N.course nodes.new) → IsDone scenario.now hs) }
 {
-    do_steps(nodes, scenario)?;
+    do_steps(rt, gate, nodes, scenario)?;
     last_restarts(nodes)
 }

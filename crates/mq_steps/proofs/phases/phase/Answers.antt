@@ -1,10 +1,14 @@
 use Rattle.std.proofs.Common.{◌∙◌}
 use Rattle.mq_nodes.proofs.Onward.{same}
-use Rattle.mq_steps.proofs.PhaseLaws.{phase_begins, phase_off, phase_on, phase_over}
+use Rattle.mq_nodes.proofs.PhasedLaws.{phase_broke, phase_told}
+use Rattle.mq_steps.proofs.PhaseLaws.{phase_off, phase_on, phase_over}
 use Rattle.mq_steps.proofs.phases.phase.Goals as goal
 
+pub returns-in_err-phase : goal.returns-in_err-phase
+returns-in_err-phase g c = phase_broke c.args.scripts.now _ _ (g.N.Nodes.course c.args.nodes.now) (g.N.Nodes.course c.phase.new.self) c.from_residual.ensures.1 c.in_err-phase.ensures
+
 pub loop-script-init : goal.loop-script-init
-loop-script-init g c = phase_begins c.args.scripts.now (g.N.Nodes.course c.args.nodes.now) c.requires.ready
+loop-script-init g c = phase_told c.args.scripts.now (g.N.Nodes.course c.args.nodes.now) (g.N.Nodes.course c.phase.new.self) tt c.in_ok-phase.ensures
 
 pub run-requires-clause-rests : goal.run-requires-clause-rests
 run-requires-clause-rests g c = c.loop-script.invariant.rests c.requires.rests
