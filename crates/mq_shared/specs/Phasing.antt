@@ -1,5 +1,5 @@
 -- A phase as its caller sees it: what it asks of a network, and what the network is behind it.
-use Rattle.std.specs.Prelude.{◌≡◌, ℕ, true, IfSome, List, [], ◌∷◌, ◌++◌, Option, Some, None, Result, Ok, Err, length, slice_get, ◌×◌, ◌≤◌}
+use Rattle.std.specs.Prelude.{◌≡◌, ◌≤◌, ℕ, true, IfSome, List, [], ◌∷◌, ◌++◌, Option, Some, None, Result, Ok, Err, length, slice_get}
 use Rattle.mq_history.specs.Scenarios.{ArePhased, IsScenario}
 use Rattle.mq_history.specs.declared.scenario.Scenario.{Scenario}
 use Rattle.mq_spec_node.specs.Terms.{Entry, ScriptPart}
@@ -53,6 +53,10 @@ AreReady ns = (m : ℕ) (n : NodeState) → slice_get ns m ≡ Some n → IsServ
 abbrev pub AreTexts : Scenario → Type 0
 AreTexts s = (k : ℕ) (p : ScriptPart) → slice_get s.scripts k ≡ Some p → (n : ℕ) → IfSome (slice_get p.lines n) IsTextLine
 
+-- each history leads to its node
+abbrev pub AreKept : List NodeState → Type 0
+AreKept ns = (m : ℕ) (n : NodeState) → slice_get ns m ≡ Some n → IsKept n
+
 -- A phase of these scripts may begin: nodes, courses of scripts and cables are the scenario's.
 pub record MayPhase (s : Scenario) (ks : List ℕ) (ns : List NodeState) (cs : List Course) (ways : List CableState) : Type 0 where
   pub scenario : IsScenario s
@@ -61,6 +65,7 @@ pub record MayPhase (s : Scenario) (ks : List ℕ) (ns : List NodeState) (cs : L
   pub managers : length ns ≡ length s.managers
   pub scripts : length cs ≡ length s.scripts
   pub cables : length ways ≡ length s.cables
+  pub kept : AreKept ns
   pub ready : AreReady ns
   pub courses : AreCourses s ns cs
   pub ways : AreJoined s.cables (entries_in ns) ways
@@ -81,6 +86,7 @@ PhaseEnds (Err (stops.Spent m)) ns = (n : NodeState) × (slice_get ns m ≡ Some
 -- A phase ran: each manager did what a phase may have, and courses and cables are as the histories say.
 pub record PhaseRan (s : Scenario) (ks : List ℕ) (old : List NodeState) (r : Result (Unit {0}) Stop) (ns : List NodeState) (cs : List Course) (ways : List CableState) : Type 0 where
   pub since : ℕ → List Entry
+  pub others : (m : ℕ) → length old ≤ m → since m ≡ []
   pub managers : length ns ≡ length old
   pub nodes : (m : ℕ) (n new : NodeState) → slice_get old m ≡ Some n → slice_get ns m ≡ Some new → NodeRan (tries_in s old ks) m (since m) n new
   pub scripts : length cs ≡ length s.scripts
