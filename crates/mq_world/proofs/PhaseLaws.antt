@@ -253,3 +253,32 @@ module _ (w : NetState) (ks : List ℕ) (r : Result (Unit {0}) Stop) (ns : List 
           let b = before w.nodes ns m new x.managers z in
           subst (λ (y : History). NoneForeign y.entries) (some_is new.history k (sym (history_there ns m new z) ∙ e))
           (own m b.0 new b.1 z (none m b.0.history (history_there w.nodes m b.0 b.1)))
+
+-- As a call of the network's parts has it: by the parts that it sees, and the scenario that it is given.
+pub phase_asks : {inside w : NetState} {s : Scenario} (ks : List ℕ) → inside ≡ w → w.scenario ≡ s → IsNetwork w → Ready (course_in w).net → Rests (course_in w) → ArePhased s ks → MayPhase s ks inside.nodes inside.scripts inside.cables
+phase_asks {inside} {w} {s} ks view same h ready rests phased =
+    subst (λ (x : NetState). MayPhase s ks x.nodes x.scripts x.cables) (sym view)
+    (subst (λ (y : Scenario). MayPhase y ks w.nodes w.scripts w.cables) same
+    (may_phase w ks h ready rests (subst (λ (y : Scenario). ArePhased y ks) (sym same) phased)))
+
+ran_here : {inside w : NetState} {s : Scenario} (ks : List ℕ) (r : Result (Unit {0}) Stop) (ns : List NodeState) (cs : List progress.Course) (ways : List CableState) → inside ≡ w → w.scenario ≡ s → PhaseRan s ks inside.nodes r ns cs ways → PhaseRan w.scenario ks w.nodes r ns cs ways
+ran_here {inside} {w} {s} ks r ns cs ways view same x =
+    subst (λ (y : Scenario). PhaseRan y ks w.nodes r ns cs ways) (sym same) (subst (λ (z : NetState). PhaseRan s ks z.nodes r ns cs ways) view x)
+
+pub phase_keeps : {inside w : NetState} {s : Scenario} (ks : List ℕ) (r : Result (Unit {0}) Stop) (ns : List NodeState) (cs : List progress.Course) (ways : List CableState) → inside ≡ w → w.scenario ≡ s → IsNetwork w → PhaseRan s ks inside.nodes r ns cs ways → IsNetwork (phased_as ns cs ways inside)
+phase_keeps {inside} {w} {s} ks r ns cs ways view same h x =
+    subst (λ (z : NetState). IsNetwork (phased_as ns cs ways z)) (sym view) (network_ran w ks r ns cs ways h (ran_here ks r ns cs ways view same x))
+
+pub phase_tells : {inside w : NetState} {s : Scenario} (ks : List ℕ) (r : Result (Unit {0}) Stop) (ns : List NodeState) (cs : List progress.Course) (ways : List CableState) → inside ≡ w → w.scenario ≡ s → IsNetwork w → PhaseRan s ks inside.nodes r ns cs ways
+    → PhaseTold ks r (course_in w) (course_in (phased_as ns cs ways inside))
+phase_tells {inside} {w} {s} ks r ns cs ways view same h x =
+    subst (λ (z : NetState). PhaseTold ks r (course_in w) (course_in (phased_as ns cs ways z))) (sym view) (phase_told w ks r ns cs ways h (ran_here ks r ns cs ways view same x))
+
+pub phase_owns : {inside w : NetState} {s : Scenario} (ks : List ℕ) (r : Result (Unit {0}) Stop) (ns : List NodeState) (cs : List progress.Course) (ways : List CableState) → inside ≡ w → w.scenario ≡ s → IsNetwork w → PhaseRan s ks inside.nodes r ns cs ways → PhaseOwn inside.nodes ns
+    → StaysOwnIn w (phased_as ns cs ways inside)
+phase_owns {inside} {w} {s} ks r ns cs ways view same h x own =
+    subst (λ (z : NetState). StaysOwnIn w (phased_as ns cs ways z)) (sym view)
+    (phase_own w ks r ns cs ways h (ran_here ks r ns cs ways view same x) (subst (λ (z : NetState). PhaseOwn z.nodes ns) view own))
+
+pub phase_long : {inside w : NetState} {s : Scenario} (ks : List ℕ) (r : Result (Unit {0}) Stop) (ns : List NodeState) (cs : List progress.Course) (ways : List CableState) → inside ≡ w → PhaseRan s ks inside.nodes r ns cs ways → length ns ≡ length w.nodes
+phase_long ks r ns cs ways view x = x.managers ∙ ap (λ (z : NetState). length z.nodes) view
