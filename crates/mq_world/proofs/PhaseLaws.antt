@@ -29,7 +29,7 @@ use Rattle.mq_nodes.specs.Told.{Phased, PhaseTold}
 use Rattle.mq_course.specs.Courses.{marks_or_absent, net_of}
 use Rattle.mq_shared.specs.Held.{entries_or as entries_of_node}
 use Rattle.mq_shared.specs.Phasing.{MayPhase, NodeRan, PhaseEnds, PhaseOwn, PhaseRan, entries_in, moment_or, tries_in, tries_one}
-use Rattle.mq_world.specs.Worlds.{IsNetwork, IsNodeAt, NetState, StaysOwnIn, WaitsSo, course_in, histories_in, history_in, until_of, waits_in}
+use Rattle.mq_world.specs.Worlds.{IsNetwork, IsNodeAt, NetState, StaysOwnIn, WaitsSo, course_in, history_in, until_of, waits_in}
 use Rattle.mq_world.proofs.LiftLaws.{ready_node}
 use Rattle.mq_world.proofs.ListLaws.{get_map, long_map, some_is, there}
 use Rattle.mq_world.proofs.QuietLaws.{all_same}
