@@ -4,3 +4,5 @@ pub mod Held
 pub mod Events
 pub mod Joining
 pub mod Phasing
+pub mod Sharing
+pub mod Taking
