@@ -45,18 +45,18 @@ untouched : (n m : ℕ) (es : ℕ → List Entry) (w : Network) → n ≤ m → 
 untouched zero m es w le = refl
 untouched (suc n) m es w le = elsewhere n m (es n) (does_each n es w).done (above m n (omega arith)) ∙ untouched n m es w (omega arith)
 
+done_then : (n m : ℕ) (es : ℕ → List Entry) (w : Network) → m < suc n → (m < n → (does_each n es w).done m ≡ w.done m ++ es m) → (b : Bool) → nat_lt m n ≡ b → (does_each (suc n) es w).done m ≡ w.done m ++ es m
+done_then n m es w lt before true e = elsewhere n m (es n) (does_each n es w).done (differs m n e) ∙ before (is_below m n e)
+done_then n m es w lt before false e =
+    subst (λ (k : ℕ). (does_each (suc n) es w).done k ≡ w.done k ++ es k) (is_last m n lt e)
+    (here n (es n) (does_each n es w).done (itself n) ∙ ap (λ (ds : List Entry). ds ++ es n) (untouched n n es w (omega arith)))
+
+nothing : (k : ℕ) → k < 0 → ⊥
+nothing k h = omega arith
+
 each_done : (n m : ℕ) (es : ℕ → List Entry) (w : Network) → m < n → (does_each n es w).done m ≡ w.done m ++ es m
 each_done zero m es w lt = absurd (nothing m lt)
-  where
-    nothing : (k : ℕ) → k < 0 → ⊥
-    nothing k h = omega arith
-each_done (suc n) m es w lt = by_place (nat_lt m n) refl
-  where
-    by_place : (b : Bool) → nat_lt m n ≡ b → (does_each (suc n) es w).done m ≡ w.done m ++ es m
-    by_place true e = elsewhere n m (es n) (does_each n es w).done (differs m n e) ∙ each_done n m es w (is_below m n e)
-    by_place false e =
-        subst (λ (k : ℕ). (does_each (suc n) es w).done k ≡ w.done k ++ es k) (is_last m n lt e)
-        (here n (es n) (does_each n es w).done (itself n) ∙ ap (λ (ds : List Entry). ds ++ es n) (untouched n n es w (omega arith)))
+each_done (suc n) m es w lt = done_then n m es w lt (λ h. each_done n m es w h) (nat_lt m n) refl
 
 each_is : (n : ℕ) (es : ℕ → List Entry) (w : Network) → ((m : ℕ) → n ≤ m → es m ≡ []) → does_each n es w ≡ record w { done = λ m. w.done m ++ es m }
 each_is n es w none = same_network (does_each n es w) (record w { done = λ m. w.done m ++ es m }) (each_scenario n es w) (each_first n es w) (λ m. by_place m (nat_lt m n) refl)

@@ -1,9 +1,6 @@
 //! Nodes as the steps of a scenario see them: each call does one event with the trigger turns that are due after it.
-use mq_gate::Gate;
-use mq_history::{Scenario, ScriptPart};
+use mq_history::ScriptPart;
 use mq_sc_parse::Command;
-use std::sync::Wait;
-use std::thread::Threads;
 
 /// Why a run ends within a step.
 #[derive(Clone, Copy, Debug, PartialEq, Eq)]
@@ -39,19 +36,17 @@ pub enum Monitored {
 /// The nodes of a scenario's managers, with their cables. Managers, cables, scripts, rules tables and monitors are places in
 /// the scenario, from 0. A call answers that a node is spent exactly where its event was the last that the node makes.
 pub trait Nodes {
-    ghost use Rattle.std.specs.Prelude.{◌≡◌, ◌<◌, ℕ, true, Some, OnOk, All, length, slice_get};
-    ghost use Rattle.mq_history.specs.Scenarios.{ArePhased};
+    ghost use Rattle.std.specs.Prelude.{◌≡◌, ◌<◌, ℕ, true, Some, OnOk, length, slice_get};
     ghost use Rattle.mq_history.specs.declared.acts.Act.TheVariants as acts;
     ghost use Rattle.mq_history.specs.declared.calls.Actor.TheVariants as actors;
     ghost use Rattle.mq_history.specs.declared.calls.Call.TheVariants as calls;
-    ghost use Rattle.mq_history.specs.declared.scenario.ScriptPart as parts;
     ghost use Rattle.mq_spec_network.specs.Turns.{is_idle, is_up_at, node_at};
     ghost use Rattle.mq_spec_network.specs.Tasks.{moment_of, watch_by};
     ghost use Rattle.mq_spec_network.specs.Tasks.Slot.{Sends, Receives, TimesOut};
     ghost use Rattle.mq_spec_network.specs.Steps.{Is, is_cut};
     ghost use Rattle.mq_spec_network.specs.Lawful.{handles_idle};
-    ghost use Rattle.mq_nodes.specs.Course.{Course, Ready, Rests, noted};
-    ghost use Rattle.mq_nodes.specs.Told.{Does, HandlerTold, LineTold, Part, PhaseTold, Says, TurnTold, later};
+    ghost use Rattle.mq_nodes.specs.Course.{Course, Ready, noted};
+    ghost use Rattle.mq_nodes.specs.Told.{Does, HandlerTold, LineTold, Part, Says, TurnTold, later};
     ghost use Rattle.mq_nodes.specs.Pumps.{AllStill, TurnIn};
     ghost use Rattle.mq_sc_parse.specs.declared.command.Command.{Command};
 
@@ -90,23 +85,6 @@ pub trait Nodes {
         requires there { slice_get (course self.old).net.scenario.scripts script ≡ Some part.now }
         requires manager { part.now.manager < length (course self.old).net.scenario.managers }
         ensures { LineTold script part.now result (course self.old) (course self.new) };
-
-    /// Scripts and ends of channels go on, in any order: each manager does lines of these scripts, with turns and timeouts of its
-    /// channels' ends between them. No clock advances. Lines may be left, but no get waits any more. The gate is passed before
-    /// each try of a line.
-    fn phase<R: Threads + Wait + Sync, G: Gate + Sync>(
-        &mut self,
-        rt: &R,
-        gate: &G,
-        scenario: &Scenario,
-        scripts: &[u16],
-    ) -> Result<(), Stop>
-        requires ready { Ready (course self.old).net }
-        requires rests { Rests (course self.old) }
-        requires same { (course self.old).net.scenario ≡ scenario.now }
-        requires scripts { All (λ (p : parts.ScriptPart). p.manager < length scenario.now.managers) scenario.now.scripts }
-        requires phased { ArePhased scenario.now scripts.now }
-        ensures { PhaseTold scripts.now result (course self.old) (course self.new) };
 
     /// How many cables there are.
     fn cables(&self) -> u16

@@ -5,31 +5,29 @@ ghost use Rattle.mq_history.specs.declared.scenario.ScriptPart as parts;
 ghost use Rattle.mq_history.specs.declared.scenario.Step.TheVariants as kinds;
 ghost use Rattle.mq_spec_network.specs.Tasks.{tasks_of};
 ghost use Rattle.mq_nodes.specs.Course.{Ready, Rests};
-ghost use Rattle.mq_nodes.specs.Told.{Part};
+ghost use Rattle.mq_nodes.specs.Told.{Part, PhaseTold};
 
 use crate::lines::run;
-use mq_gate::Gate;
 use mq_history::Scenario;
 use mq_nodes::{Nodes, Stop};
-use std::sync::Wait;
-use std::thread::Threads;
 
-/// Its scripts and the ends of channels go on as the nodes let them; what is left of the scripts is then run, script by script.
-pub fn phase<N: Nodes, R: Threads + Wait + Sync, G: Gate + Sync>(
-    rt: &R,
-    gate: &G,
+/// A phase: its scripts and the ends of channels go on as `go` lets them; what is left of the scripts is then run, script by script.
+pub fn phase<N: Nodes, F: Fn(&mut N, &[u16]) -> Result<(), Stop>>(
     nodes: &mut N,
     scenario: &Scenario,
     scripts: &[u16],
+    go: &F,
 ) -> Result<(), Stop>
     requires ready { Ready (N.course nodes.old).net }
     requires rests { Rests (N.course nodes.old) }
     requires same { (N.course nodes.old).net.scenario ≡ scenario.now }
     requires scripts { All (λ (p : parts.ScriptPart). p.manager < length scenario.now.managers) scenario.now.scripts }
     requires phased { ArePhased scenario.now scripts.now }
+    requires phase_may { (n : _) (ks : _) → Ready (N.course n.now).net → Rests (N.course n.now) → (N.course n.now).net.scenario ≡ scenario.now → ArePhased scenario.now ks.now → F.pre go.now n ks }
+    requires phase_told { (n : _) (ks : _) (r : _) (m : _) → F.post go.now n ks r m → PhaseTold ks.now r (N.course n.now) (N.course m.now) }
     ensures { Part (tasks_of (N.course nodes.old).net (kinds.Phase scripts.now)) result (N.course nodes.old) (N.course nodes.new) }
 {
-    nodes.phase(rt, gate, scenario, scripts)?;
+    go(nodes, scripts)?;
     for script in scripts {
         run(nodes, scenario, *script, None)?;
     }

@@ -3,6 +3,7 @@
 use crate::top::mqnet;
 use mq_base::{MemSink, MemSource, QName};
 use mq_disk::{Image, MemDisk, MemShelf, Side};
+use mq_gate::OpenGate;
 use std::alloc::{AllocError, Global};
 use std::test::*;
 
@@ -166,7 +167,16 @@ fn each_status_comes_by_its_cause(rt: HostRuntime) -> Result<(), Fail> {
         let mut source = source(rt.alloc(), case)?;
         let mut sink = MemSink::new(rt.alloc(), 4096, calls(rt.alloc(), case.failing_write)?)?;
         let mut shelf = shelf(rt.alloc(), case)?;
-        let ended = mqnet(rt.alloc(), &words, &mut source, &mut sink, &mut shelf, 0);
+        let ended = mqnet(
+            &rt,
+            rt.alloc(),
+            &words,
+            &mut source,
+            &mut sink,
+            &mut shelf,
+            0,
+            &OpenGate,
+        );
         assert_eq!(rt; ended.status.number(), case.status);
         let output = str::from_utf8(sink.held())?;
         match case.piece {
