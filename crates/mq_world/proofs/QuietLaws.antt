@@ -1,6 +1,6 @@
 -- Entries that neither offer nor pop, and entries of others, leave what lies on all cables as their ends say.
 use Rattle.std.proofs.Common.{◌≡◌, ℕ, Bool, true, false, List, [], ◌++◌, refl, sym, subst}
-use Rattle.std.specs.Prelude.{◌==◌, if◌then◌else◌, Some, slice_get}
+use Rattle.std.specs.Prelude.{◌==◌, if◌then◌else◌}
 use Rattle.std.specs.List.{AllByRecursion}
 use Rattle.mq_cable.specs.declared.fault.Fault.{Fault}
 use Rattle.mq_history.specs.declared.calls.Actor.{Actor}
