@@ -8,4 +8,5 @@ mod shelves;
 mod store;
 
 pub use copies::copy_message;
+pub use homes::{IdentKey, home_of, note_home};
 pub use shelves::Shelves;
