@@ -4,6 +4,7 @@
 mod copies;
 mod homes;
 mod lanes;
+mod roll;
 mod shelves;
 mod store;
 
