@@ -6,6 +6,7 @@ mod homes;
 mod lanes;
 mod roll;
 mod shelves;
+mod slots;
 mod store;
 
 pub use copies::copy_message;

@@ -12,7 +12,8 @@ use crate::copies::copy_shelves;
 use crate::homes::{IdentKey, drop_home, home_of, note_home};
 use crate::lanes::{Named, lanes_row};
 use crate::roll::Roll;
-use crate::store::{clear_at, clear_each, clear_each_lost, fill, of_ident, row_at};
+use crate::slots::Slots;
+use crate::store::{of_ident, row_at};
 use indexmap::IndexMap;
 use mq_base::{Items, NoMemory, QName};
 use mq_calls::Shelf;
@@ -27,7 +28,7 @@ use std::marker::Model;
 pub struct Shelves {
     alloc: Global,
     // In order of arrival; empty where a row was taken.
-    store: Items<Option<Row>>,
+    store: Slots,
     // The slots of each queue.
     queues: Roll,
     // The slot of each row's ident.
@@ -85,7 +86,7 @@ impl Shelves {
     {
         Shelves {
             alloc,
-            store: Items::new(alloc),
+            store: Slots::new(alloc),
             queues: Roll::new(alloc),
             homes: IndexMap::new(alloc),
             doubled: false,
@@ -132,10 +133,10 @@ impl Shelves {
         let ident = row.message.ident;
         self.doubled = either(self.doubled, self.has(&ident));
         let slot = self.store.len();
-        self.store.push(None)?;
+        self.store.push()?;
         note_home(&mut self.homes, &ident, slot)?;
         self.queues.seat(self.alloc, at, row.place.lane, slot)?;
-        fill(&mut self.store, slot, row);
+        self.store.fill(slot, row);
         Ok(())
     }
 
@@ -211,9 +212,9 @@ impl Shelves {
         ensures { self.new ≡ leave_queues (λ (row : Row). not (has_ident ident.now row)) self.old }
     {
         if self.doubled {
-            clear_each(&mut self.store, ident);
+            self.store.clear_each(ident);
         } else if let Some(at) = home_of(&self.homes, ident) {
-            clear_at(&mut self.store, at, ident);
+            self.store.clear_at(at, ident);
             drop_home(&mut self.homes, ident);
         }
     }
@@ -240,6 +241,6 @@ impl Shelves {
     pub fn lose(&mut self)
         ensures { self.new ≡ leave_queues (λ (row : Row). is_persistent row.message) self.old }
     {
-        clear_each_lost(&mut self.store);
+        self.store.clear_lost();
     }
 }
