@@ -265,8 +265,9 @@ lasting_none = (omega arith, λ k row lt e. absurd (omega (arith, lt)))
 
 pub lasting_more : (n : ℕ) (store new : List (Option Row)) → AreLasting n store → new ≡ store ++ None ∷ [] → AreLasting n new
 lasting_more n store new l is = subst (AreLasting n) (sym is) (
-    (let long = longer store None in let le = l.0 in omega (arith, long, le)),
-    λ k row lt e. row_either store None k row e (λ within there. l.1 k row lt there) (λ last none. absurd cc))
+  (let long = longer store None in let le = l.0 in omega (arith, long, le)),
+  λ k row lt e. row_either store None k row e (λ within there. l.1 k row lt there) (λ last none. absurd cc),
+)
 
 pub lasting_same : (n : ℕ) (store new : List (Option Row)) → AreLasting n store → new ≡ store → AreLasting n new
 lasting_same n store new l is = subst (AreLasting n) (sym is) l
@@ -285,14 +286,16 @@ set_before (s ∷ ss) (suc at) (suc k) x lt = set_before ss at k x (omega (arith
 -- a slot is filled, and no row before the lower of both places changes
 pub lasting_filled : (n m at : ℕ) (store new : List (Option Row)) (x : Option Row) → AreLasting n store → m ≤ n → m ≤ at → new ≡ slice_set store at x → AreLasting m new
 lasting_filled n m at store new x l first second is = subst (AreLasting m) (sym is) (
-    (let long = set_long store at x in let le = l.0 in omega (arith, long, le, first)),
-    λ k row lt e. l.1 k row (omega (arith, lt, first)) (sym (set_before store at k x (omega (arith, lt, second))) ∙ e))
+  (let long = set_long store at x in let le = l.0 in omega (arith, long, le, first)),
+  λ k row lt e. l.1 k row (omega (arith, lt, first)) (sym (set_before store at k x (omega (arith, lt, second))) ∙ e),
+)
 
 -- what stays was there
 pub lasting_kept : (stays : Row → Bool) (n : ℕ) (store new : List (Option Row)) → AreLasting n store → new ≡ map (kept_slot stays) store → AreLasting n new
 lasting_kept stays n store new l is = subst (AreLasting n) (sym is) (
-    (let long = kept_long stays store in let le = l.0 in omega (arith, long, le)),
-    λ k row lt e. l.1 k row lt (row_was stays store k row e))
+  (let long = kept_long stays store in let le = l.0 in omega (arith, long, le)),
+  λ k row lt e. l.1 k row lt (row_was stays store k row e),
+)
 
 module _ (stays : Row → Bool) where
   kept_was_there : (o : Option Row) (row : Row) → kept_slot stays o ≡ Some row → o ≡ Some row
@@ -327,8 +330,9 @@ module _ (stays : Row → Bool) where
 
   pub lasting_there : (n at : ℕ) (store new : List (Option Row)) → AreLasting n store → new ≡ kept_there stays at store → AreLasting n new
   lasting_there n at store new l is = subst (AreLasting n) (sym is) (
-      (let long = there_long store at in let le = l.0 in omega (arith, long, le)),
-      λ k row lt e. l.1 k row lt (there_was store at k row e))
+    (let long = there_long store at in let le = l.0 in omega (arith, long, le)),
+    λ k row lt e. l.1 k row lt (there_was store at k row e),
+  )
 
 -- behind a stop each row is
 pub lasting_all : (n : ℕ) (store new : List (Option Row)) → new ≡ map (kept_slot persists) store → n ≡ length new → AreLasting n new
