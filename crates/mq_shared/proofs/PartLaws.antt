@@ -1,6 +1,7 @@
 -- The ends of cables at their managers: one more, one less, and their names.
-use Rattle.std.proofs.Common.{◌≡◌, ◌≢◌, ◌<◌, ◌≤◌, ◌+◌, ℕ, zero, suc, Bool, true, false, List, [], ◌∷◌, ◌++◌, length, drop, refl, sym, ap, subst, ◌∙◌, append-nil, inl, inr, ⊎_elim, arith}
-use Rattle.std.specs.Prelude.{◌⊎◌, ◌==◌, if◌then◌else◌, not, IfSome, Some, None, map, slice_get, slice_set}
+use Rattle.std.proofs.Common.{◌≡◌, ◌≢◌, ◌<◌, ◌≤◌, ◌+◌, ◌*◌, ℕ, zero, suc, Bool, true, false, List, [], ◌∷◌, ◌++◌, length, drop, refl, sym, ap, subst, ◌∙◌, append-nil, inl, inr, ⊎_elim, arith}
+use Rattle.std.specs.Prelude.{◌⊎◌, ◌==◌, if◌then◌else◌, not, IfSome, Option, Some, None, map, slice_get, slice_set}
+use Rattle.std.proofs.lemmas.Bool.Decides.{nat_tests}
 use Rattle.atomic_table.specs.Seated.{TableId}
 use Rattle.mq_cable.specs.declared.fault.Fault.{Fault}
 use Rattle.mq_history.specs.declared.calls.Actor.{Actor}
@@ -11,28 +12,24 @@ use Rattle.mq_ways.specs.Ways.{CableState}
 use Rattle.mq_shared.specs.declared.opening.Passes.{Passes}
 use Rattle.mq_shared.specs.declared.opening.Pipes.{Pipes}
 use Rattle.mq_shared.specs.Facing.{AreJoined, Facing, IsJoined}
-use Rattle.mq_shared.specs.Held.{Begun, EachIs, EndsApart, IsEndAt, end_name, entries_begun}
+use Rattle.mq_shared.specs.Held.{Begun, EachIs, EndsApart, IsEndAt, acts_as, end_name, entries_begun, faults_at, manager_at, queue_at}
 use Rattle.mq_shared.specs.Opening.{IsBare, bare, whole, wholes}
-use Rattle.mq_shared.specs.Parting.{AreEnds, AreEndsAt, AreRows, EndRowState, IsAdded, IsBegunOver, IsRow, IsTaken, Passed, back_queue, backs_of, done_in, ends_by, ends_named, named_at, names_from, none_since, out_queue, outs_of}
+use Rattle.mq_shared.specs.Parting.{AreEnds, AreEndsAt, AreRows, EndRowState, IsAdded, IsAmong, IsBegunOver, IsRow, IsTaken, Passed, back_queue, backs_of, done_in, ends_by, ends_named, named_at, names_from, none_since, out_queue, outs_of}
 use Rattle.mq_shared.specs.Took.{EndKept, EndState, Took, way}
 use Rattle.mq_shared.proofs.PlaceLaws.{at_end, drop_at, drop_past, get_first, get_last, get_map, get_set, long_snoc, map_snoc, set_long, set_mine, set_other, set_same, snoc_first, some_is}
 
 -- A NAME AT A MANAGER
 same_true : (m : ℕ) → (m == m) ≡ true
-same_true zero = refl
-same_true (suc m) = same_true m
+same_true m = grind (arith, nat_tests)
 
 other_false : (a b : ℕ) → b ≢ a → (a == b) ≡ false
-other_false zero zero no = absurd (no refl)
-other_false zero (suc b) no = refl
-other_false (suc a) zero no = refl
-other_false (suc a) (suc b) no = other_false a b (λ p. no (ap suc p))
+other_false a b apart = grind (arith, nat_tests, apart)
 
 pub named_here : (m k : ℕ) (side : Bool) → named_at m m k side ≡ (k, side) ∷ []
 named_here m k side = ap (λ (t : Bool). if t then (k, side) ∷ [] else []) (same_true m)
 
 pub named_not : (at m k : ℕ) (side : Bool) → m ≢ at → named_at at m k side ≡ []
-named_not at m k side no = ap (λ (t : Bool). if t then (k, side) ∷ [] else []) (other_false at m no)
+named_not at m k side apart = ap (λ (t : Bool). if t then (k, side) ∷ [] else []) (other_false at m apart)
 
 -- ONE END MORE
 pub each_end : (P : EndState → Type 0) (es : List EndState) (e : EndState) → EachIs P es → P e → EachIs P (es ++ e ∷ [])
@@ -49,9 +46,9 @@ row_more b names room m left r e h is end = record {
 }
 
 pub row_other : (b : Begun) (names : ℕ → List (ℕ × Bool)) (room at m : ℕ) (k : ℕ) (side : Bool) (r : EndRowState) → m ≢ at → IsRow b names (room + 1) m r → IsRow b (λ n. names n ++ named_at at n k side) room m r
-row_other b names room at m k side r no h = record {
+row_other b names room at m k side r apart h = record {
   ends = record {
-    names_are = h.ends.names_are ∙ sym (append-nil (names m)) ∙ ap (λ (xs : List (ℕ × Bool)). names m ++ xs) (sym (named_not at m k side no));
+    names_are = h.ends.names_are ∙ sym (append-nil (names m)) ∙ ap (λ (xs : List (ℕ × Bool)). names m ++ xs) (sym (named_not at m k side apart));
     each = h.ends.each;
   };
   room_is = let l = h.room_is in omega (arith, l);
@@ -75,6 +72,29 @@ added_long at e old new a = ap (λ (l : List EndRowState). length l) a.is ∙ se
 pub room_there : (b : Begun) (names : ℕ → List (ℕ × Bool)) (room : ℕ) (rows : List EndRowState) (at : ℕ) (r : EndRowState) → AreRows b names (room + 1) rows → slice_get rows at ≡ Some r → 0 < r.room
 room_there b names room rows at r h f = let l = (h at r f).room_is in omega (arith, l)
 
+pub room_at : (b : Begun) (names : ℕ → List (ℕ × Bool)) (room : ℕ) (rows : List EndRowState) (at : ℕ) → 0 < room → AreRows b names room rows → IfSome (slice_get rows at) (λ (r : EndRowState). 0 < r.room)
+room_at b names room rows at some h = by_row (slice_get rows at) refl
+  where
+    by_row : (o : Option EndRowState) → slice_get rows at ≡ o → IfSome o (λ (r : EndRowState). 0 < r.room)
+    by_row None is = tt
+    by_row (Some r) is = let l = (h at r is).room_is in omega (arith, l, some)
+
+-- both ends of a cable
+module _ (b : Begun) (names : ℕ → List (ℕ × Bool)) (room k r s : ℕ) (far near : EndState) (old mid new : List EndRowState) where
+  abbrev after_far : ℕ → List (ℕ × Bool)
+  after_far m = names m ++ named_at r m k false
+
+  pub rows_far : AreRows b names (room + 2) old → IsEndAt b r (entries_begun b r) [] far → far.cable ≡ k → far.sends ≡ false → IsAdded r far old mid → AreRows b after_far (room + 1) mid
+  rows_far h end cable side a =
+      subst (λ (t : Bool). AreRows b (λ m. names m ++ named_at r m k t) (room + 1) mid) side
+      (subst (λ (n : ℕ). AreRows b (λ m. names m ++ named_at r m n far.sends) (room + 1) mid) cable
+      (rows_more b names (room + 1) r far old mid (subst (λ (n : ℕ). AreRows b names n old) (let e : room + 2 ≡ room + 1 + 1 = omega arith in e) h) end a))
+
+  pub rows_near : AreRows b after_far (room + 1) mid → IsEndAt b s (entries_begun b s) [] near → near.cable ≡ k → near.sends ≡ true → IsAdded s near mid new → AreRows b (λ m. names m ++ named_at r m k false ++ named_at s m k true) room new
+  rows_near h end cable side a =
+      subst (λ (t : Bool). AreRows b (λ m. after_far m ++ named_at s m k t) room new) side
+      (subst (λ (n : ℕ). AreRows b (λ m. after_far m ++ named_at s m n near.sends) room new) cable (rows_more b after_far room s near mid new h end a))
+
 -- AN END AS A PHASE BEGINS
 -- of the sender
 pub near_begins : (b : Begun) (k : ℕ) (l : CableLine) (t u : TableId) (c : CableState) (e : EndState) → slice_get b.lines k ≡ Some l → slice_get b.outs k ≡ Some t → slice_get b.backs k ≡ Some u → IsJoined k l (entries_begun b) c
@@ -82,10 +102,10 @@ pub near_begins : (b : Begun) (k : ℕ) (l : CableLine) (t u : TableId) (c : Cab
 near_begins b k l t u c e line outs backs j cable sends offers out from sent taken = record {
   line = l;
   there = ap (λ (n : ℕ). slice_get b.lines n) cable ∙ line;
-  here = ap (λ (s : Bool). Rattle.mq_shared.specs.Held.manager_at l s) sends;
-  out = ap (λ (s : Bool). Rattle.mq_shared.specs.Held.queue_at b e.cable s) sends ∙ ap (λ (n : ℕ). slice_get b.outs n) cable ∙ outs ∙ ap Some (sym out);
-  from = ap (λ (s : Bool). Rattle.mq_shared.specs.Held.queue_at b e.cable (not s)) sends ∙ ap (λ (n : ℕ). slice_get b.backs n) cable ∙ backs ∙ ap Some (sym from);
-  kept = subst (λ (s : Bool). EndKept (Rattle.mq_shared.specs.Held.faults_at l s) (Rattle.mq_shared.specs.Held.acts_as e.cable s) (Rattle.mq_shared.specs.Held.acts_as e.cable (not s)) (entries_begun b l.sender) (entries_begun b (Rattle.mq_shared.specs.Held.manager_at l (not s))) [] e) (sym sends)
+  here = ap (λ (s : Bool). manager_at l s) sends;
+  out = ap (λ (s : Bool). queue_at b e.cable s) sends ∙ ap (λ (n : ℕ). slice_get b.outs n) cable ∙ outs ∙ ap Some (sym out);
+  from = ap (λ (s : Bool). queue_at b e.cable (not s)) sends ∙ ap (λ (n : ℕ). slice_get b.backs n) cable ∙ backs ∙ ap Some (sym from);
+  kept = subst (λ (s : Bool). EndKept (faults_at l s) (acts_as e.cable s) (acts_as e.cable (not s)) (entries_begun b l.sender) (entries_begun b (manager_at l (not s))) [] e) (sym sends)
       (subst (λ (n : ℕ). EndKept l.out (is_sender n) (is_receiver n) (entries_begun b l.sender) (entries_begun b l.receiver) [] e) (sym cable)
       (record {
         write = subst (λ (es : List Entry). Facing l.out (is_sender k) (is_receiver k) es (entries_begun b l.receiver) (way e.wire.sent e.offers)) (sym (append-nil (entries_begun b l.sender)))
@@ -101,10 +121,10 @@ pub far_begins : (b : Begun) (k : ℕ) (l : CableLine) (t u : TableId) (c : Cabl
 far_begins b k l t u c e line outs backs j cable sends offers out from sent taken = record {
   line = l;
   there = ap (λ (n : ℕ). slice_get b.lines n) cable ∙ line;
-  here = ap (λ (s : Bool). Rattle.mq_shared.specs.Held.manager_at l s) sends;
-  out = ap (λ (s : Bool). Rattle.mq_shared.specs.Held.queue_at b e.cable s) sends ∙ ap (λ (n : ℕ). slice_get b.backs n) cable ∙ backs ∙ ap Some (sym out);
-  from = ap (λ (s : Bool). Rattle.mq_shared.specs.Held.queue_at b e.cable (not s)) sends ∙ ap (λ (n : ℕ). slice_get b.outs n) cable ∙ outs ∙ ap Some (sym from);
-  kept = subst (λ (s : Bool). EndKept (Rattle.mq_shared.specs.Held.faults_at l s) (Rattle.mq_shared.specs.Held.acts_as e.cable s) (Rattle.mq_shared.specs.Held.acts_as e.cable (not s)) (entries_begun b l.receiver) (entries_begun b (Rattle.mq_shared.specs.Held.manager_at l (not s))) [] e) (sym sends)
+  here = ap (λ (s : Bool). manager_at l s) sends;
+  out = ap (λ (s : Bool). queue_at b e.cable s) sends ∙ ap (λ (n : ℕ). slice_get b.backs n) cable ∙ backs ∙ ap Some (sym out);
+  from = ap (λ (s : Bool). queue_at b e.cable (not s)) sends ∙ ap (λ (n : ℕ). slice_get b.outs n) cable ∙ outs ∙ ap Some (sym from);
+  kept = subst (λ (s : Bool). EndKept (faults_at l s) (acts_as e.cable s) (acts_as e.cable (not s)) (entries_begun b l.receiver) (entries_begun b (manager_at l (not s))) [] e) (sym sends)
       (subst (λ (n : ℕ). EndKept l.back (is_receiver n) (is_sender n) (entries_begun b l.receiver) (entries_begun b l.sender) [] e) (sym cable)
       (record {
         write = subst (λ (es : List Entry). Facing l.back (is_receiver k) (is_sender k) es (entries_begun b l.sender) (way e.wire.sent e.offers)) (sym (append-nil (entries_begun b l.receiver)))
@@ -193,7 +213,7 @@ apart_more xs k at m side apart new = by_test (at == m) refl
     by_test false is = subst (λ (b : Bool). AreApart (xs ++ (if b then (k, side) ∷ [] else []))) (sym is) (subst AreApart (sym (append-nil xs)) apart)
 
 pub names_apart : (k : ℕ) (ls : List CableLine) (m : ℕ) → AreApart (names_from k ls m)
-names_apart k [] m i j x f g = absurd (cc f)
+names_apart k [] m = λ i j x f g. absurd (cc f)
 names_apart k (l ∷ ls) m =
     apart_more (names_from (suc k) ls m ++ named_at l.receiver m k false) k l.sender m true
     (apart_more (names_from (suc k) ls m) k l.receiver m false (names_apart (suc k) ls m) (λ j f. let past = names_past (suc k) ls m j (k, false) f in absurd (omega (arith, past))))
@@ -235,3 +255,91 @@ ends_by_long ls m (suc n) = ap suc (ends_by_long ls (suc m) n)
 pub names_at_line : (b : Begun) (k m : ℕ) (l : CableLine) → slice_get b.lines k ≡ Some l
     → names_from k (drop k b.lines) m ≡ names_from (suc k) (drop (suc k) b.lines) m ++ named_at l.receiver m k false ++ named_at l.sender m k true
 names_at_line b k m l is = ap (λ (ls : List CableLine). names_from k ls m) (drop_at b.lines k l is)
+
+-- THE CABLES TAKEN APART, one at a time
+wholes_get : (ss : List Passes) (s : Passes) (cs : List CableState) (c : CableState) → slice_get cs (length ss) ≡ Some c → slice_get (wholes (ss ++ s ∷ []) cs) (length ss) ≡ Some (whole s c)
+wholes_get [] s [] c e = absurd (cc e)
+wholes_get [] s (d ∷ cs) c e = ap (λ (x : CableState). Some (whole s x)) (some_is d c e)
+wholes_get (t ∷ ss) s [] c e = absurd (cc e)
+wholes_get (t ∷ ss) s (d ∷ cs) c e = wholes_get ss s cs c e
+
+wholes_before : (ss : List Passes) (s : Passes) (cs : List CableState) (c : CableState) (j : ℕ) → j < length ss → slice_get (wholes ss (slice_set cs (length ss) c)) j ≡ slice_get (wholes (ss ++ s ∷ []) cs) j
+wholes_before [] s cs c j lt = absurd (omega (arith, lt))
+wholes_before (t ∷ ss) s [] c j lt = refl
+wholes_before (t ∷ ss) s (d ∷ cs) c zero lt = refl
+wholes_before (t ∷ ss) s (d ∷ cs) c (suc j) lt = wholes_before ss s cs c j (omega (arith, lt))
+
+-- the first cables are as the histories say, with the items that lie in their queues
+abbrev pub FirstJoined : ℕ → List CableLine → (ℕ → List Entry) → List CableState → Type 0
+FirstJoined n ls done ds = (j : ℕ) (l : CableLine) (c : CableState) → j < n → slice_get ls j ≡ Some l → slice_get ds j ≡ Some c → IsJoined j l done c
+
+pub rows_named : (b : Begun) (names names' : ℕ → List (ℕ × Bool)) (room : ℕ) (rows : List EndRowState) → ((m : ℕ) → names m ≡ names' m) → AreRows b names room rows → AreRows b names' room rows
+rows_named b names names' room rows same h m r f =
+    let x = h m r f in record { ends = record { names_are = x.ends.names_are ∙ same m; each = x.ends.each }; room_is = x.room_is }
+
+module _ (b : Begun) (ps : List Pipes) (ls : List CableLine) (begun : IsBegunOver b ps ls) (passes rest : List Passes) (s : Passes) (k : ℕ) (is : passes ≡ rest ++ s ∷ []) (at : k ≡ length rest) where
+  long : length passes ≡ suc k
+  long = ap (λ (l : List Passes). length l) is ∙ long_snoc rest s ∙ ap suc (sym at)
+
+  pub part_line : (l : CableLine) → slice_get ls k ≡ Some l → slice_get b.lines k ≡ Some l
+  part_line l found = ap (λ (xs : List CableLine). slice_get xs k) begun.lines ∙ found
+
+  pub part_out : (p : Pipes) → slice_get ps k ≡ Some p → slice_get b.outs k ≡ Some (out_queue p)
+  part_out p found = ap (λ (ts : List TableId). slice_get ts k) begun.outs ∙ get_map out_queue ps k p found
+
+  pub part_back : (p : Pipes) → slice_get ps k ≡ Some p → slice_get b.backs k ≡ Some (back_queue p)
+  part_back p found = ap (λ (ts : List TableId). slice_get ts k) begun.backs ∙ get_map back_queue ps k p found
+
+  pub part_joined : (done : ℕ → List Entry) (cs : List CableState) (l : CableLine) (c : CableState) → FirstJoined (length passes) ls done (wholes passes cs) → slice_get ls k ≡ Some l → slice_get cs k ≡ Some c → IsJoined k l done (whole s c)
+  part_joined done cs l c h line found =
+      let lt : k < length passes = omega (arith, long) in
+      h k l (whole s c) lt line
+      (subst (λ (n : ℕ). slice_get (wholes passes cs) n ≡ Some (whole s c)) (sym at)
+      (subst (λ (xs : List Passes). slice_get (wholes xs cs) (length rest) ≡ Some (whole s c)) (sym is)
+      (wholes_get rest s cs c (subst (λ (n : ℕ). slice_get cs n ≡ Some c) at found))))
+
+  pub part_rows : (rows : List EndRowState) → AreRows b (names_from (length passes) (drop (length passes) b.lines)) (2 * length passes) rows → AreRows b (names_from (suc k) (drop (suc k) b.lines)) (2 * k + 2) rows
+  part_rows rows h =
+      let more : 2 * suc k ≡ 2 * k + 2 = omega arith in
+      subst (λ (n : ℕ). AreRows b (names_from (suc k) (drop (suc k) b.lines)) n rows) more (subst (λ (n : ℕ). AreRows b (names_from n (drop n b.lines)) (2 * n) rows) long h)
+
+  -- behind it
+  pub rest_joined : (done : ℕ → List Entry) (cs : List CableState) (c : CableState) → FirstJoined (length passes) ls done (wholes passes cs) → FirstJoined (length rest) ls done (wholes rest (slice_set cs k c))
+  rest_joined done cs c h j l x lt line found =
+      h j l x (omega (arith, lt, long, at)) line
+      (subst (λ (xs : List Passes). slice_get (wholes xs cs) j ≡ Some x) (sym is)
+      (sym (wholes_before rest s cs c j lt) ∙ subst (λ (n : ℕ). slice_get (wholes rest (slice_set cs n c)) j ≡ Some x) at found))
+
+  pub rest_rows : (l : CableLine) (rows : List EndRowState) → slice_get ls k ≡ Some l
+      → AreRows b (λ m. names_from (suc k) (drop (suc k) b.lines) m ++ named_at l.receiver m k false ++ named_at l.sender m k true) (2 * k) rows
+      → AreRows b (names_from (length rest) (drop (length rest) b.lines)) (2 * length rest) rows
+  rest_rows l rows line h =
+      subst (λ (n : ℕ). AreRows b (names_from n (drop n b.lines)) (2 * n) rows) at
+      (rows_named b (λ m. names_from (suc k) (drop (suc k) b.lines) m ++ named_at l.receiver m k false ++ named_at l.sender m k true) (names_from k (drop k b.lines)) (2 * k) rows (λ m. sym (names_at_line b k m l (part_line l line))) h)
+
+-- before the first
+pub rows_begin : (b : Begun) (ps : List Pipes) (ls : List CableLine) (n : ℕ) (rows : List EndRowState) → IsBegunOver b ps ls → length ls ≡ n → EachIs (λ (r : EndRowState). (r.ends ≡ []) × (2 * n ≤ r.room)) rows
+    → AreRows b (names_from n (drop n b.lines)) (2 * n) rows
+rows_begin b ps ls n rows begun long h m r f =
+    let x = h m r f in
+    let past : drop n b.lines ≡ [] = drop_past b.lines n (let e = ap (λ (l : List CableLine). length l) begun.lines in omega (arith, long, e)) in
+    record {
+      ends = record {
+        names_are = ap (λ (es : List EndState). map end_name es) x.0 ∙ sym (ap (λ (l : List CableLine). names_from n l m) past);
+        each = λ i e g. absurd (let bad : None ≡ Some e = ap (λ (es : List EndState). slice_get es i) (sym x.0) ∙ g in cc bad);
+      };
+      room_is = x.1;
+    }
+
+-- behind the last
+pub rows_end : (b : Begun) (ps : List Pipes) (ls : List CableLine) (n room : ℕ) (rows : List EndRowState) → IsBegunOver b ps ls → n ≡ 0 → AreRows b (names_from n (drop n b.lines)) room rows
+    → (m : ℕ) (r : EndRowState) → slice_get rows m ≡ Some r → AreEndsAt b none_since (ends_named ls) m r.ends
+rows_end b ps ls n room rows begun none h m r f =
+    let x = h m r f in
+    record {
+      names_are = x.ends.names_are ∙ ap (λ (k : ℕ). names_from k (drop k b.lines) m) none ∙ ap (λ (l : List CableLine). names_from 0 l m) begun.lines;
+      each = x.ends.each;
+    }
+
+pub among_still : (ls : List CableLine) (m n : ℕ) → n ≡ m → EachIs (IsAmong m) ls → EachIs (IsAmong n) ls
+among_still ls m n same h = subst (λ (k : ℕ). EachIs (IsAmong k) ls) (sym same) h

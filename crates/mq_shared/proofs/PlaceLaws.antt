@@ -34,11 +34,11 @@ set_mine (z ∷ xs) zero x y e = refl
 set_mine (z ∷ xs) (suc k) x y e = set_mine xs k x y e
 
 pub set_other : {A : Type 0} (xs : List A) (k j : ℕ) (x : A) → j ≢ k → slice_get (slice_set xs k x) j ≡ slice_get xs j
-set_other [] k j x no = refl
-set_other (z ∷ xs) zero zero x no = absurd (no refl)
-set_other (z ∷ xs) zero (suc j) x no = refl
-set_other (z ∷ xs) (suc k) zero x no = refl
-set_other (z ∷ xs) (suc k) (suc j) x no = set_other xs k j x (λ p. no (ap suc p))
+set_other [] k j x apart = refl
+set_other (z ∷ xs) zero zero x apart = absurd (apart refl)
+set_other (z ∷ xs) zero (suc j) x apart = refl
+set_other (z ∷ xs) (suc k) zero x apart = refl
+set_other (z ∷ xs) (suc k) (suc j) x apart = set_other xs k j x (λ p. apart (ap suc p))
 
 pub set_same : {A : Type 0} (xs : List A) (k : ℕ) (x : A) → slice_get xs k ≡ Some x → slice_set xs k x ≡ xs
 set_same [] k x e = absurd (cc e)
@@ -95,6 +95,13 @@ drop_at (z ∷ xs) zero x e = ap (λ (y : _). y ∷ xs) (some_is z x e)
 drop_at (z ∷ xs) (suc k) x e = drop_at xs k x e
 
 pub drop_past : {A : Type 0} (xs : List A) (k : ℕ) → length xs ≤ k → drop k xs ≡ []
-drop_past [] k h = refl
+drop_past [] zero h = refl
+drop_past [] (suc k) h = refl
 drop_past (z ∷ xs) zero h = absurd (omega (arith, h))
 drop_past (z ∷ xs) (suc k) h = drop_past xs k (omega (arith, h))
+
+pub before : (a b : ℕ) → a < suc b → (a < b) ⊎ (a ≡ b)
+before zero zero l = inr refl
+before zero (suc b) l = inl (omega arith)
+before (suc a) zero l = absurd (omega (arith, l))
+before (suc a) (suc b) l = ⊎_elim (λ (p : a < b). inl (omega (arith, p))) (λ (p : a ≡ b). inr (ap suc p)) (before a b (omega (arith, l)))

@@ -136,12 +136,19 @@ fn close_at<R: Wait>(
     close_cable(rt, pipes, passes, cables.at_mut(at));
 }
 
+/// Whether at most 64 items lie on each direction of a cable.
+fn is_short(cable: &Cable) -> bool
+    ensures { IsTrue result → IsShort cable.now }
+{
+    cable.wire.write.len() <= MOST && cable.wire.read.len() <= MOST
+}
+
 /// Whether at most 64 items lie on each direction. Where an earlier phase left 65 there, none can be opened.
 pub fn are_short(cables: &Items<Cable>) -> bool
     ensures { IsTrue result → EachCable IsShort cables.now }
 {
     for cable in cables.as_slice() {
-        if cable.wire.write.len() > MOST || cable.wire.read.len() > MOST {
+        if !is_short(cable) {
             return false;
         }
     }

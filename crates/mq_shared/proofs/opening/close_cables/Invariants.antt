@@ -4,7 +4,7 @@ use Rattle.mq_shared.proofs.opening.close_cables.Given as goal
 
 abbrev pub invariant-loop-ends : goal.invariant-loop-ends
 invariant-loop-ends g l = record {
-  open : AreOpen l.pipes l.passes.items;
+  opened : AreOpen l.pipes l.passes.items;
   few : length l.passes.items ≤ length l.cables;
   bare : FirstBare (length l.passes.items) l.cables;
   whole : wholes l.passes.items l.cables ≡ wholes l.initial.passes.items l.initial.cables;

@@ -1,8 +1,8 @@
 use Rattle.std.proofs.Common.{◌≡◌, ◌≤◌, ◌*◌, suc, drop, length}
 use Rattle.mq_shared.specs.Opening.{AreOpen, EachCable, IsBare, wholes}
-use Rattle.mq_shared.specs.Facing.{AreJoined}
 use Rattle.mq_shared.specs.Held.{entries_begun}
 use Rattle.mq_shared.specs.Parting.{AreRows, names_from}
+use Rattle.mq_shared.proofs.PartLaws.{FirstJoined}
 use Rattle.mq_shared.proofs.parting.part_cables.Given as goal
 
 abbrev pub ghost-part_cable : goal.ghost-part_cable
@@ -15,7 +15,7 @@ invariant-loop-open g l = record {
   long : length l.cables ≡ length l.initial.cables;
   opened : AreOpen l.pipes l.passes.items;
   bare : EachCable IsBare l.cables;
-  joined : AreJoined l.lines (entries_begun g.b) (wholes l.passes.items l.cables);
+  joined : FirstJoined (length l.passes.items) l.lines (entries_begun g.b) (wholes l.passes.items l.cables);
   placed : AreRows g.b (names_from (length l.passes.items) (drop (length l.passes.items) g.b.lines)) (2 * length l.passes.items) l.ends;
 }
 
