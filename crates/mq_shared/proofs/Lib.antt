@@ -19,3 +19,4 @@ pub mod BegunLaws
 pub mod OutLaws
 pub mod TakeLaws
 pub mod RanLaws
+pub mod PartLaws
