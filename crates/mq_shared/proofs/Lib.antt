@@ -20,3 +20,4 @@ pub mod OutLaws
 pub mod TakeLaws
 pub mod RanLaws
 pub mod OverLaws
+pub mod PartLaws
