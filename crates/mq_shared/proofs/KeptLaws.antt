@@ -1,20 +1,21 @@
 -- What is kept under a lock is kept by entries more that a phase may have.
-use Rattle.std.proofs.Common.{◌≡◌, ◌≢◌, ℕ, zero, suc, ◌≤◌, Bool, true, false, List, [], ◌∷◌, ◌++◌, refl, sym, ap, subst, ◌∙◌, append_assoc, append-nil, inl, inr, ⊎_elim, arith}
-use Rattle.std.specs.Prelude.{◌⊎◌, Option, Some, None, map, slice_get, slice_set}
+use Rattle.std.proofs.Common.{◌≡◌, ◌≢◌, ℕ, zero, suc, ◌≤◌, ◌<◌, ◌^◌, Bool, true, false, List, [], ◌∷◌, ◌++◌, length, refl, sym, ap, subst, ◌∙◌, append_assoc, append-nil, inl, inr, ⊎_elim, arith}
+use Rattle.std.specs.Prelude.{◌⊎◌, IfSome, Some, None, map, slice_get, slice_set}
 use Rattle.std.specs.List.{AllByRecursion}
 use Rattle.mq_history.specs.declared.history.History.{History}
 use Rattle.mq_spec_node.specs.Node.{Node}
-use Rattle.mq_spec_node.specs.Replays.{Follows, Tells, after, done_by, opening_node, state_of}
+use Rattle.mq_spec_node.specs.Replays.{Follows, Tells, after, done_by, opening_node}
 use Rattle.mq_spec_node.specs.Terms.{Entry}
-use Rattle.mq_spec_node.specs.Words.{Grows, NodeValue, is_spent, more_entries, stamp_after}
+use Rattle.mq_spec_node.specs.Words.{Grows, NodeValue, more_entries, stamp_after}
 use Rattle.mq_spec_network.specs.Steps.{AllInPhase, AreTriggers, InPhase}
 use Rattle.mq_spec_network.specs.Tasks.{Trying}
 use Rattle.mq_events.specs.States.{NodeState, IsKept, IsServed, node_in, value_of}
 use Rattle.mq_events.specs.Events.{MayAct}
+use Rattle.mq_acts.specs.Advances.{IsTextLine}
 use Rattle.mq_acts.specs.Serving.{AreTurns, IsDone}
 use Rattle.mq_shared.specs.Took.{EndState}
 use Rattle.mq_shared.specs.Held.{Begun, EachIs, EndsApart, Held, IsEndAt, IsScriptIn, Kept, ScriptState, ScriptsApart, end_name, script_name}
-use Rattle.mq_shared.specs.Events.{Made, Stayed, Went}
+use Rattle.mq_shared.specs.Events.{Stayed, Went}
 use Rattle.mq_shared.proofs.QuietLaws.{IsSilent, behind_silent}
 
 -- LISTS: one of several changes.
@@ -113,8 +114,21 @@ pub served_of : (s : NodeState) → IsDone s → MayAct s → IsServed s
 served_of s (inl h) may = h
 served_of s (inr h) may = absurd (let no : true ≡ false = sym h ∙ may in cc)
 
+pub served_at : (b : Begun) (h : Held) → Kept b h → h.wants ≡ false → MayAct h.node → IsServed h.node
+served_at b h k wants may = served_of h.node (k.ready wants) may
+
 pub served_stays : (old new : NodeState) → Stayed old new → IsServed old → IsServed new
 served_stays old new s h = subst (λ (v : NodeValue). Rattle.mq_spec_node.specs.Words.trigger_deed v.node ≡ None) (sym s.same) h
+
+-- what its script may be tried with
+pub texts_at : (b : Begun) (h : Held) (at : ℕ) (s : ScriptState) → Kept b h → slice_get h.scripts at ≡ Some s → (n : ℕ) → IfSome (slice_get s.part.lines n) IsTextLine
+texts_at b h at s k is = (k.scripts at s is).texts
+
+pub few_at : (b : Begun) (h : Held) (at : ℕ) (s : ScriptState) → Kept b h → slice_get h.scripts at ≡ Some s → s.course.done ≤ length s.part.lines
+few_at b h at s k is = (k.scripts at s is).few
+
+pub short_at : (b : Begun) (h : Held) (at : ℕ) (s : ScriptState) → Kept b h → slice_get h.scripts at ≡ Some s → length s.part.lines < 2 ^ 32
+short_at b h at s k is = (k.scripts at s is).short
 
 -- so many entries more
 pub kept_on : (b : Begun) (h : Held) (k : Kept b h) (es : List Entry) (new : NodeState) (ends : List EndState) (scripts : List ScriptState) (wants : Bool) → Went h.node es new → AllInPhase b.tries h.manager h.node.history.entries es

@@ -11,3 +11,11 @@ pub mod JoinLaws
 pub mod OwnKept
 pub mod LineKept
 pub mod TurnKept
+pub mod ShareLists
+pub mod ShareLaws
+pub mod OpenLaws
+pub mod PlaceLaws
+pub mod BegunLaws
+pub mod OutLaws
+pub mod TakeLaws
+pub mod RanLaws

@@ -1,6 +1,6 @@
 -- A try of a script's line keeps what is kept under a lock.
-use Rattle.std.proofs.Common.{◌≡◌, ◌≢◌, ℕ, Bool, true, false, List, [], ◌∷◌, ◌++◌, refl, sym, ap, subst, ◌∙◌, append-nil, inl, inr, arith}
-use Rattle.std.specs.Prelude.{◌⊎◌, ◌==◌, not, Result, Ok, Err, Some, map, slice_get, slice_set}
+use Rattle.std.proofs.Common.{◌≡◌, ℕ, Bool, true, false, List, [], ◌∷◌, ◌++◌, refl, sym, ap, subst, ◌∙◌, append-nil, inl, inr, arith}
+use Rattle.std.specs.Prelude.{◌==◌, not, Result, Ok, Err, Some, map, slice_get, slice_set}
 use Rattle.std.specs.Result.{is_err}
 use Rattle.std.specs.List.{AllByRecursion}
 use Rattle.std.proofs.lemmas.Bool.Decides.{nat_tests}
@@ -15,8 +15,8 @@ use Rattle.mq_ways.specs.Ways.{IsQuietEntry}
 use Rattle.mq_shared.specs.declared.trying.Tried.{Tried}
 use Rattle.mq_shared.specs.declared.trying.Tried.TheVariants as tries
 use Rattle.mq_shared.specs.Took.{EndState}
-use Rattle.mq_shared.specs.Held.{Begun, EachIs, Held, IsEndAt, IsScriptIn, Kept, ScriptState, acts_as, entries_begun, faults_at, manager_at, script_name}
-use Rattle.mq_shared.specs.Events.{LineMade, LineNot, LineTried, SameScript, Stayed}
+use Rattle.mq_shared.specs.Held.{Begun, Held, IsEndAt, IsScriptIn, Kept, ScriptState, acts_as, entries_begun, faults_at, manager_at, script_name}
+use Rattle.mq_shared.specs.Events.{LineMade, LineNot, LineTried, SameScript}
 use Rattle.mq_shared.proofs.EndLaws.{end_quiet}
 use Rattle.mq_shared.proofs.KeptLaws.{each_set, grown_entries, kept_on, made_in, names_set, pairs_set, served_stays, silent_behind, stayed_went}
 use Rattle.mq_shared.proofs.QuietLaws.{quiet_behind}

@@ -1,12 +1,12 @@
 -- Over a disk that tells its bytes, no restart in a phase was from a log that was changed from outside.
-use Rattle.std.proofs.Common.{◌≡◌, ℕ, List, [], ◌∷◌, ap, subst, sym, inl, inr}
-use Rattle.std.specs.Prelude.{◌⊎◌, Result, Ok, Err, Some, slice_get}
+use Rattle.std.proofs.Common.{ℕ, List, [], ◌∷◌, ap, subst, sym, inl, inr}
+use Rattle.std.specs.Prelude.{Result, Ok, Err}
 use Rattle.mq_base.specs.declared.want.NoMemory.{NoMemory}
 use Rattle.mq_history.specs.declared.calls.Call.{Call}
 use Rattle.mq_history.specs.declared.calls.Call.TheVariants as calls
 use Rattle.mq_spec_node.specs.Terms.{Actor, Entry}
 use Rattle.mq_spec_node.specs.Words.{NodeValue, NoneForeign}
-use Rattle.mq_events.specs.States.{NodeState, IsKept, value_of}
+use Rattle.mq_events.specs.States.{NodeState, IsKept}
 use Rattle.mq_acts.specs.Restarts.{StaysOwn}
 use Rattle.mq_acts.specs.Serving.{AreTurns}
 use Rattle.mq_acts.proofs.OwnLaws.{IsNoRestart, NoRestarts, grows_own}

@@ -1,6 +1,6 @@
 -- A turn of an end, and a timeout, keep what is kept under a lock.
 use Rattle.std.proofs.Common.{◌≡◌, ℕ, ◌+◌, ◌≤◌, ◌^◌, Bool, true, false, List, [], ◌∷◌, ◌++◌, refl, sym, ap, subst, ◌∙◌, append-nil, inl, inr, arith}
-use Rattle.std.specs.Prelude.{◌⊎◌, ◌==◌, not, max, Option, Some, None, Result, Ok, Err, map, slice_get, slice_set}
+use Rattle.std.specs.Prelude.{◌==◌, not, Option, Some, None, Result, Ok, Err, map, slice_get, slice_set}
 use Rattle.std.specs.Result.{is_err}
 use Rattle.std.specs.List.{AllByRecursion}
 use Rattle.std.proofs.lemmas.Bool.Decides.{nat_tests}
@@ -8,14 +8,13 @@ use Rattle.mq_base.specs.declared.want.NoMemory.{NoMemory}
 use Rattle.mq_cable.specs.declared.fault.Fault.{Fault}
 use Rattle.mq_cable.specs.declared.item.Item.{Item}
 use Rattle.mq_cable.specs.Faults.{offered_of}
-use Rattle.mq_cable.specs.Offers.{HasTaken, Offering}
+use Rattle.mq_cable.specs.Offers.{Offering}
 use Rattle.mq_frame.specs.declared.frame.Frame.{Frame}
 use Rattle.mq_frame.specs.declared.frame.Seen.{Seen}
 use Rattle.mq_frame.specs.declared.frame.Seen.TheVariants as items
 use Rattle.mq_history.specs.declared.calls.Actor.{Actor}
 use Rattle.mq_history.specs.declared.calls.Actor.TheVariants as actors
 use Rattle.mq_history.specs.declared.calls.Call.TheVariants as calls
-use Rattle.mq_history.specs.declared.scenario.CableLine.{CableLine}
 use Rattle.mq_spec_node.specs.Replays.{Tells}
 use Rattle.mq_spec_node.specs.Terms.{Entry}
 use Rattle.mq_spec_node.specs.Words.{by, is_script, items_of, stamp_after}
@@ -27,16 +26,14 @@ use Rattle.mq_events.specs.Events.{MayAct}
 use Rattle.mq_acts.specs.Serving.{AreTurns, IsDone}
 use Rattle.mq_turns.specs.declared.telling.Turn.{Turn}
 use Rattle.mq_turns.specs.declared.telling.Turn.TheVariants as turns
-use Rattle.mq_turns.specs.Wired.{Offered, Popped, PopsItem}
-use Rattle.mq_ways.specs.Ways.{IsQuietEntry}
-use Rattle.mq_wires.specs.Wires.{HasOffered}
-use Rattle.mq_ruled.specs.Ends.{PipeEnds, PipeTook, PipeWrote}
+use Rattle.mq_turns.specs.Wired.{Offered, Popped}
+use Rattle.mq_ruled.specs.Ends.{PipeTook, PipeWrote}
 use Rattle.mq_shared.specs.Facing.{Facing}
-use Rattle.mq_shared.specs.Took.{EndKept, EndState, Took, way}
-use Rattle.mq_shared.specs.Held.{Begun, EachIs, EndsApart, Held, IsEndAt, IsScriptIn, Kept, ScriptState, acts_as, end_actor, end_name, entries_begun, faults_at, manager_at, queue_at}
-use Rattle.mq_shared.specs.Events.{Made, SameEnd, Stayed, TimeTried, TurnMade, TurnNot, TurnTried, Went}
+use Rattle.mq_shared.specs.Took.{EndState, Took, way}
+use Rattle.mq_shared.specs.Held.{Begun, EachIs, EndsApart, Held, IsEndAt, IsScriptIn, Kept, acts_as, end_actor, end_name, entries_begun, faults_at, manager_at}
+use Rattle.mq_shared.specs.Events.{Made, SameEnd, Stayed, TimeTried, TurnMade, TurnNot, TurnTried}
 use Rattle.mq_shared.proofs.DeedLaws.{IsEnd, a_receiver, a_sender}
-use Rattle.mq_shared.proofs.EndLaws.{EndOffers, EndPops, EndPuts, EndPutsNone, EndTakes, end_quiet, end_turned}
+use Rattle.mq_shared.proofs.EndLaws.{EndOffers, EndTakes, end_turned}
 use Rattle.mq_shared.proofs.KeptLaws.{each_set, grown_entries, kept_on, made_in, names_set, pairs_set, served_stays, silent_behind, stayed_went, tells_here}
 use Rattle.mq_shared.proofs.LineKept.{end_at_quiet}
 use Rattle.mq_shared.proofs.QuietLaws.{IsSilent, quiet_behind, silent_quiet}

@@ -6,7 +6,7 @@ use Rattle.mq_history.specs.declared.calls.Actor.{Actor}
 use Rattle.mq_history.specs.declared.calls.Actor.TheVariants as actors
 use Rattle.mq_history.specs.declared.scenario.CableLine.{CableLine}
 use Rattle.mq_spec_node.specs.Terms.{Entry, ScriptLine, ScriptPart}
-use Rattle.mq_spec_node.specs.Words.{Grows, deadline, is_receiver, is_sender, is_spent, wait_of}
+use Rattle.mq_spec_node.specs.Words.{Grows, deadline, is_receiver, is_sender, wait_of}
 use Rattle.mq_spec_network.specs.Story.{Mem}
 use Rattle.mq_spec_network.specs.Steps.{AllInPhase}
 use Rattle.mq_spec_network.specs.Tasks.{Trying}

@@ -5,3 +5,6 @@ pub mod Events
 pub mod Opening
 pub mod Parting
 pub mod Joining
+pub mod Phasing
+pub mod Sharing
+pub mod Taking

@@ -1,5 +1,6 @@
 //! What lies under a lock of a phase: a node with its ends and its scripts, and what its type keeps of them.
-ghost use Rattle.std.specs.Prelude.{◌≡◌, ◌<◌, ◌^◌, IfSome, IsTrue, false, length, slice_get};
+ghost use Rattle.std.specs.Prelude.{◌≡◌, ◌<◌, ◌^◌, IfSome, false, length, slice_get};
+ghost use Rattle.std.specs.Bool.{OnTrue};
 ghost use Rattle.mq_events.specs.Events.{MayAct};
 ghost use Rattle.mq_shared.specs.Held.{Kept, KeptOwn};
 
@@ -62,14 +63,14 @@ pub struct Unlocked<'a, D: Disk, R: Wait> {
 
 /// Whether an event more may happen: none found no memory, and the node has not made all its events.
 fn may_go<D: Disk>(wants: bool, node: &Node<D>) -> bool
-    ensures { IsTrue result → (wants ≡ false) × MayAct node.now }
+    ensures { OnTrue result ((wants ≡ false) × MayAct node.now) }
 {
     !wants && !node.is_spent()
 }
 
 /// An end by its place, where it may take a turn.
 fn may_turn<R: Wait>(ends: &Items<HeldEnd<'_, R>>, at: usize) -> bool
-    ensures { IsTrue result → (at < length ends.now) × IfSome (slice_get ends.now at) (λ e. e.offers.number < 2 ^ 48) }
+    ensures { OnTrue result ((at < length ends.now) × IfSome (slice_get ends.now at) (λ e. e.offers.number < 2 ^ 48)) }
 {
     match ends.get(at) {
         None => false,
@@ -99,6 +100,7 @@ impl<'a, P: PhaseName, D: Disk, R: Wait> Locked<'a, P, D, R> {
         }
     }
 
+    #[tactic(auto, using(crate::proofs::KeptLaws::served_at, crate::proofs::KeptLaws::texts_at))]
     /// Tries the next line of a script, by its place here. Ended as well where nothing more may happen.
     pub fn advance(&mut self, at: usize) -> Result<Tried, NoMemory> {
         if !may_go(self.wants, &self.node) {
@@ -114,6 +116,7 @@ impl<'a, P: PhaseName, D: Disk, R: Wait> Locked<'a, P, D, R> {
         tried
     }
 
+    #[tactic(auto, using(crate::proofs::KeptLaws::served_at))]
     /// A turn of an end, by its place here. Still as well where nothing more may happen.
     pub fn turn(&mut self, at: usize) -> Result<Turn, NoMemory> {
         if !may_go(self.wants, &self.node) {
@@ -129,6 +132,7 @@ impl<'a, P: PhaseName, D: Disk, R: Wait> Locked<'a, P, D, R> {
         turn
     }
 
+    #[tactic(auto, using(crate::proofs::KeptLaws::served_at))]
     /// A timeout of the sender's end of a cable. Still as well where nothing more may happen.
     pub fn time_out(&mut self, cable: u16) -> Result<Turn, NoMemory> {
         if !may_go(self.wants, &self.node) {

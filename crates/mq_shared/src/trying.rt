@@ -1,5 +1,5 @@
 //! A try of a script's line, a turn of an end and a timeout, at a node, with the trigger turns behind it.
-ghost use Rattle.std.specs.Prelude.{◌≡◌, ◌≤◌, ◌<◌, ◌^◌, ℕ, [], IfSome, length, slice_get};
+ghost use Rattle.std.specs.Prelude.{◌≤◌, ◌<◌, ◌^◌, ℕ, [], IfSome, length, slice_get};
 ghost use Rattle.mq_events.specs.States.{IsServed};
 ghost use Rattle.mq_events.specs.Events.{MayAct};
 ghost use Rattle.mq_acts.specs.Advances.{IsTextLine};
@@ -35,7 +35,7 @@ pub enum Tried {
 }
 
 /// The next line of a script, with the trigger turns behind it.
-#[tactic(auto, using(crate::proofs::TriedLaws::keeps_at, crate::proofs::TriedLaws::line_made, crate::proofs::TriedLaws::line_waits, crate::proofs::TriedLaws::line_none, crate::proofs::OwnKept::own_same, crate::proofs::OwnKept::own_then))]
+#[tactic(auto, using(crate::proofs::TriedLaws::keeps_at, crate::proofs::OwnKept::own_same, crate::proofs::OwnKept::own_then))]
 fn line_at<D: Disk>(
     node: &mut Node<D>,
     script: u16,
@@ -72,10 +72,7 @@ fn line_at<D: Disk>(
 /// # Errors
 ///
 /// No memory: nothing was done, or the line was, and a trigger stays due.
-pub fn try_line<D: Disk>(
-    node: &mut Node<D>,
-    script: &mut HeldScript<'_>,
-) -> Result<Tried, NoMemory>
+pub fn try_line<D: Disk>(node: &mut Node<D>, script: &mut HeldScript<'_>) -> Result<Tried, NoMemory>
     requires served { IsServed node.old }
     requires may { MayAct node.old }
     requires texts { (n : ℕ) → IfSome (slice_get script.old.part.lines n) IsTextLine }
@@ -114,23 +111,14 @@ fn turn_by<D: Disk, R: Wait>(
 }
 
 /// A turn of an end at its node.
-fn turn_at<D: Disk, R: Wait>(
-    node: &mut Node<D>,
-    end: &mut HeldEnd<'_, R>,
-) -> Result<Turn, NoMemory>
+fn turn_at<D: Disk, R: Wait>(node: &mut Node<D>, end: &mut HeldEnd<'_, R>) -> Result<Turn, NoMemory>
     requires served { IsServed node.old }
     requires may { MayAct node.old }
     requires count { end.old.offers.number < 2 ^ 48 }
     ensures turn { EndTurn (end_actor end.old.cable end.old.sends) (λ xs. PipeTook end.old.wire xs end.new.wire) (λ xs. PipeWrote end.old.wire xs end.new.wire) ((m : PipeEnds) × PipeEmpty end.old.wire m × PipeTook m [] end.new.wire) (PipeFull end.old.wire end.new.wire) end.old.offers end.new.offers node.old result node.new }
     ensures same { SameEnd end.old end.new }
 {
-    turn_by(
-        node,
-        &mut end.offers,
-        &mut end.wire,
-        end.cable,
-        end.sends,
-    )
+    turn_by(node, &mut end.offers, &mut end.wire, end.cable, end.sends)
 }
 
 /// A turn of an end, with the trigger turns behind it. Still where it changes nothing.
@@ -138,7 +126,6 @@ fn turn_at<D: Disk, R: Wait>(
 /// # Errors
 ///
 /// No memory: nothing was done, or the turn was, and a trigger stays due.
-#[tactic(auto, using(crate::proofs::TriedLaws::turn_made, crate::proofs::TriedLaws::turn_not))]
 pub fn try_turn<D: Disk, R: Wait>(
     node: &mut Node<D>,
     end: &mut HeldEnd<'_, R>,
