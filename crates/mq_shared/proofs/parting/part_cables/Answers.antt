@@ -1,8 +1,8 @@
-use Rattle.std.proofs.Common.{◌≡◌, ◌<◌, ◌≤◌, length, refl, sym, ap, ◌∙◌, arith, rules}
+use Rattle.std.proofs.Common.{◌≡◌, ◌<◌, ◌≤◌, ◌*◌, ℕ, drop, length, refl, sym, ap, subst, ◌∙◌, arith, rules}
 use Rattle.std.specs.Prelude.{slice_get, Some}
 use Rattle.std.proofs.lemmas.Option.{slice_get_read}
 use Rattle.mq_shared.specs.Held.{entries_begun}
-use Rattle.mq_shared.specs.Parting.{none_since}
+use Rattle.mq_shared.specs.Parting.{AreRows, names_from, none_since}
 use Rattle.mq_shared.proofs.OpenLaws.{bare_set, last_within, open_at_last, open_less_by}
 use Rattle.mq_shared.proofs.PlaceLaws.{set_long}
 use Rattle.mq_shared.proofs.PartLaws.{among_still, ends_are_apart, part_back, part_joined, part_line, part_out, part_rows, rest_joined, rest_rows, rows_begin, rows_end}
@@ -11,6 +11,7 @@ use Rattle.mq_shared.proofs.parting.part_cables.Goals as goal
 pub loop-open-init : goal.loop-open-init
 loop-open-init g c =
     let r = c.requires.1 in
+    let len : c.args.passes.len ≡ length c.args.passes.items = search rules in
     record {
       few = omega arith;
       rows = refl;
@@ -18,7 +19,7 @@ loop-open-init g c =
       opened = r.0;
       bare = r.1.0;
       joined = λ j l x lt line found. r.1.1.1.1.0 j l x line found;
-      placed = rows_begin g.b c.args.pipes.now c.args.lines.now (length c.args.passes.items) c.args.ends.now r.1.1.0 (let n = r.1.1.1.0.0 in search rules) r.1.1.1.1.1.1;
+      placed = subst (λ (n : ℕ). AreRows g.b (names_from n (drop n g.b.lines)) (2 * n) c.args.ends.now) len (rows_begin g.b c.args.pipes.now c.args.lines.now c.args.passes.len c.args.ends.now r.1.1.0 r.1.1.1.0.0 r.1.1.1.1.1.1);
     }
 
 pub bounds-pipes-at : goal.bounds-pipes-at
@@ -27,7 +28,7 @@ bounds-pipes-at g c =
     last_within c.args.pipes.now c.loop-open.passes.items c.pop.new.self.items c.in-Some.open c.len-at.result c.loop-open.invariant.opened c.in-Some.ensures.items at
 
 pub part_cable-requires : goal.part_cable-requires
-part_cable-requires g c =
+part_cable-requires g c κs longer =
     let at : c.len-at.result ≡ length c.pop.new.self.items = search rules in
     let r = c.requires.1 in
     let i = c.loop-open.invariant in
@@ -44,7 +45,7 @@ part_cable-requires g c =
     let line = slice_get_read ls _ k _ refl line_lt c.index-lines-at.is in
     let cable = c.at_mut.ensures.value in
     (
-      c.requires.0,
+      search rules,
       (
         open_at_last ps passes rest s k c.index-pipes-at.result i.opened more at pipe,
         (
