@@ -1,5 +1,5 @@
 use Rattle.std.proofs.Common.{◌≡◌, ◌<◌, ℕ, Bool, false, true, List, ◌++◌, length, refl, sym, ap, subst, ◌∙◌, arith, rules}
-use Rattle.std.specs.Prelude.{IfSome, Option, Some, slice_get}
+use Rattle.std.specs.Prelude.{IfSome, Option, Some, slice_get, slice_set}
 use Rattle.std.proofs.lemmas.Option.{slice_get_read}
 use Rattle.atomic_table.specs.Seated.{TableId}
 use Rattle.mq_history.specs.declared.scenario.CableLine.{CableLine}
@@ -97,7 +97,7 @@ returns-clause-joined g c =
     let u = c.take_end-far.ensures in
     let there = ap (λ (xs : List CableLine). slice_get xs k) r.1.0.lines ∙ line in
     let c2 = c.join_again.new.cable in
-    subst (λ (o : Option CableLine). IfSome o (λ (x : CableLine). IsJoinedAt P k x c.args.cables.now _)) (sym line)
+    subst (λ (o : Option CableLine). IfSome o (λ (x : CableLine). IsJoinedAt P k x c.args.cables.now (slice_set c.args.cables.now k c2))) (sym line)
     (joined_here P g.p.names k l near far old mid new h t c2 c.args.cables.now there c.join_again.ensures)
 
 pub returns-clause-ends : goal.returns-clause-ends
