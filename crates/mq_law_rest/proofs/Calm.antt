@@ -12,7 +12,6 @@ use Rattle.mq_history.specs.declared.calls.Entry.{Entry}
 use Rattle.mq_history.specs.declared.history.History.{History}
 use Rattle.mq_history.specs.declared.scenario.Scenario.{Scenario}
 use Rattle.mq_history.specs.declared.story.Conflict.{Conflict}
-use Rattle.mq_sync.specs.declared.unit.Unit.{Unit as Luw}
 use Rattle.mq_calls.specs.State.{Plain}
 use Rattle.mq_spec_node.specs.Replays.{opening_node}
 use Rattle.mq_spec_network.specs.Conflict.{Deed, NoConflict, Told, agrees, commits, conflict, conflict_did, conflict_in, conflict_of, deeds, deeds_in, first_conflict, first_told, is_committed, is_past, or_else, told_after, told_by, was_last}
@@ -144,10 +143,10 @@ told_more c [] ys t h = refl
 told_more c (x ∷ xs) ys t h = told_more c xs ys (told_by c x.did t) (λ d m. h d (inr m)) ∙ told_twice c x ys t (h x (inl refl))
 
 -- NO CONFLICT
-committed_more : (s : Scenario) (ps : List Plain) (xs ys : List Deed) (c : List ℕ) (u : Luw) → Among xs ys → is_committed s ps (xs ++ ys) c u ≡ is_committed s ps ys c u
+committed_more : (s : Scenario) (ps : List Plain) (xs ys : List Deed) (c : List ℕ) (u : _) → Among xs ys → is_committed s ps (xs ++ ys) c u ≡ is_committed s ps ys c u
 committed_more s ps xs ys c u h = ap (λ (b : Bool). was_last s ps c u || b) (any_more (λ (d : Deed). commits c u d.did) xs ys h)
 
-agrees_more : (s : Scenario) (ps : List Plain) (xs ys : List Deed) (c : List ℕ) (u : Luw) (commit : Bool) → Among xs ys → agrees s ps (xs ++ ys) c u commit ≡ agrees s ps ys c u commit
+agrees_more : (s : Scenario) (ps : List Plain) (xs ys : List Deed) (c : List ℕ) (u : _) (commit : Bool) → Among xs ys → agrees s ps (xs ++ ys) c u commit ≡ agrees s ps ys c u commit
 agrees_more s ps xs ys c u true h = committed_more s ps xs ys c u h
 agrees_more s ps xs ys c u false h = λ i. not (committed_more s ps xs ys c u h i) && is_past u (told_more c xs ys (first_told s c ps) h i)
 

@@ -1,6 +1,6 @@
 -- How an end goes on in a phase: by entries that are none of its turns, by one of its turns; and what both ends of a direction come to.
-use Rattle.std.proofs.Common.{◌≡◌, ℕ, ◌+◌, ◌≤◌, ◌^◌, Bool, true, false, List, [], ◌∷◌, ◌++◌, length, refl, sym, ap, subst, ◌∙◌, append_assoc, append-nil, inl, inr}
-use Rattle.std.specs.Prelude.{◌⊎◌, ◌&&◌, max, Option, Some, None}
+use Rattle.std.proofs.Common.{◌≡◌, ℕ, ◌+◌, ◌≤◌, ◌^◌, Bool, true, false, List, [], ◌∷◌, ◌++◌, length, sym, ap, subst, ◌∙◌, append_assoc, append-nil, inl, inr}
+use Rattle.std.specs.Prelude.{◌⊎◌, ◌&&◌, max, Some, None}
 use Rattle.std.specs.List.{AllByRecursion}
 use Rattle.mq_cable.specs.declared.fault.Fault.{Fault}
 use Rattle.mq_cable.specs.declared.item.Item.{Item}
@@ -16,7 +16,7 @@ use Rattle.mq_spec_node.specs.Words.{by, item_of, items_of, stamp_after}
 use Rattle.mq_spec_network.specs.Cables.{is_popped, pops_item}
 use Rattle.mq_wires.specs.Wires.{HasOffered}
 use Rattle.mq_ways.specs.Ways.{IsQuietEntry}
-use Rattle.mq_ruled.specs.Ends.{PipeEnds, PipeTook, PipeWrote}
+use Rattle.mq_ruled.specs.Ends.{PipeTook, PipeWrote}
 use Rattle.mq_shared.specs.Facing.{Facing}
 use Rattle.mq_shared.specs.Took.{EndKept, EndState, Took, way}
 use Rattle.mq_shared.proofs.FacingLaws.{facing_offered, facing_unwritten}

@@ -1,20 +1,21 @@
 -- What is kept under a lock is kept by entries more that a phase may have.
-use Rattle.std.proofs.Common.{◌≡◌, ◌≢◌, ℕ, zero, suc, ◌≤◌, Bool, true, false, List, [], ◌∷◌, ◌++◌, refl, sym, ap, subst, ◌∙◌, append_assoc, append-nil, inl, inr, ⊎_elim, arith}
-use Rattle.std.specs.Prelude.{◌⊎◌, Option, Some, None, slice_get, slice_set}
+use Rattle.std.proofs.Common.{◌≡◌, ◌≢◌, ℕ, zero, suc, ◌≤◌, ◌<◌, ◌^◌, Bool, true, false, List, [], ◌∷◌, ◌++◌, length, refl, sym, ap, subst, ◌∙◌, append_assoc, append-nil, inl, inr, ⊎_elim, arith}
+use Rattle.std.specs.Prelude.{◌⊎◌, IfSome, Some, None, map, slice_get, slice_set}
 use Rattle.std.specs.List.{AllByRecursion}
 use Rattle.mq_history.specs.declared.history.History.{History}
 use Rattle.mq_spec_node.specs.Node.{Node}
-use Rattle.mq_spec_node.specs.Replays.{Follows, Tells, after, done_by, opening_node, state_of}
+use Rattle.mq_spec_node.specs.Replays.{Follows, Tells, after, done_by, opening_node}
 use Rattle.mq_spec_node.specs.Terms.{Entry}
-use Rattle.mq_spec_node.specs.Words.{Grows, NodeValue, is_spent, more_entries, stamp_after}
+use Rattle.mq_spec_node.specs.Words.{Grows, NodeValue, more_entries, stamp_after}
 use Rattle.mq_spec_network.specs.Steps.{AllInPhase, AreTriggers, InPhase}
 use Rattle.mq_spec_network.specs.Tasks.{Trying}
 use Rattle.mq_events.specs.States.{NodeState, IsKept, IsServed, node_in, value_of}
 use Rattle.mq_events.specs.Events.{MayAct}
+use Rattle.mq_acts.specs.Advances.{IsTextLine}
 use Rattle.mq_acts.specs.Serving.{AreTurns, IsDone}
 use Rattle.mq_shared.specs.Took.{EndState}
-use Rattle.mq_shared.specs.Held.{Begun, EachIs, EndsApart, Held, IsEndAt, IsScriptIn, Kept, ScriptState, ScriptsApart}
-use Rattle.mq_shared.specs.Events.{Made, Stayed, Went}
+use Rattle.mq_shared.specs.Held.{Begun, EachIs, EndsApart, Held, IsEndAt, IsScriptIn, Kept, ScriptState, ScriptsApart, end_name, script_name}
+use Rattle.mq_shared.specs.Events.{Stayed, Went}
 use Rattle.mq_shared.proofs.QuietLaws.{IsSilent, behind_silent}
 
 -- LISTS: one of several changes.
@@ -41,6 +42,15 @@ pairs_set R xs k x x' at left right apart i j y z p q r =
     ⊎_elim (λ (b : (j ≡ k) × (x' ≡ z)). apart i k y x a.1 at (right y (subst (λ (u : _). R y u) (sym b.1) r)) ∙ sym b.0) (λ (b : (j ≢ k) × (slice_get xs j ≡ Some z)). apart i j y z a.1 b.1 r)
     (get_set xs k j x' z q))
     (get_set xs k i x' y p)
+
+-- what is told of each stays where it is told of the one that changed
+pub names_set : {A B : Type 0} (f : A → B) (xs : List A) (k : ℕ) (x y : A) → slice_get xs k ≡ Some x → f y ≡ f x → map f (slice_set xs k y) ≡ map f xs
+names_set f [] k x y at same = refl
+names_set f (w ∷ ws) zero x y at same = ap (λ z. z ∷ map f ws) (same ∙ sym (ap f (some_is w x at)))
+  where
+    some_is : {A : Type 0} (a b : A) → Some a ≡ Some b → a ≡ b
+    some_is a b h = cc
+names_set f (w ∷ ws) (suc k) x y at same = ap (λ zs. f w ∷ zs) (names_set f ws k x y at same)
 
 -- ENTRIES
 pub in_phase_on : (ts : List Trying) (m : ℕ) (done xs ys : List Entry) → AllInPhase ts m done xs → AllInPhase ts m (done ++ xs) ys → AllInPhase ts m done (xs ++ ys)
@@ -104,14 +114,27 @@ pub served_of : (s : NodeState) → IsDone s → MayAct s → IsServed s
 served_of s (inl h) may = h
 served_of s (inr h) may = absurd (let no : true ≡ false = sym h ∙ may in cc)
 
+pub served_at : (b : Begun) (h : Held) → Kept b h → h.wants ≡ false → MayAct h.node → IsServed h.node
+served_at b h k wants may = served_of h.node (k.ready wants) may
+
 pub served_stays : (old new : NodeState) → Stayed old new → IsServed old → IsServed new
 served_stays old new s h = subst (λ (v : NodeValue). Rattle.mq_spec_node.specs.Words.trigger_deed v.node ≡ None) (sym s.same) h
 
+-- what its script may be tried with
+pub texts_at : (b : Begun) (h : Held) (at : ℕ) (s : ScriptState) → Kept b h → slice_get h.scripts at ≡ Some s → (n : ℕ) → IfSome (slice_get s.part.lines n) IsTextLine
+texts_at b h at s k is = (k.scripts at s is).texts
+
+pub few_at : (b : Begun) (h : Held) (at : ℕ) (s : ScriptState) → Kept b h → slice_get h.scripts at ≡ Some s → s.course.done ≤ length s.part.lines
+few_at b h at s k is = (k.scripts at s is).few
+
+pub short_at : (b : Begun) (h : Held) (at : ℕ) (s : ScriptState) → Kept b h → slice_get h.scripts at ≡ Some s → length s.part.lines < 2 ^ 32
+short_at b h at s k is = (k.scripts at s is).short
+
 -- so many entries more
 pub kept_on : (b : Begun) (h : Held) (k : Kept b h) (es : List Entry) (new : NodeState) (ends : List EndState) (scripts : List ScriptState) (wants : Bool) → Went h.node es new → AllInPhase b.tries h.manager h.node.history.entries es
-    → EachIs (IsEndAt b h.manager k.first.history.entries (k.since ++ es)) ends → EndsApart ends → EachIs (IsScriptIn b h.manager (h.node.history.entries ++ es)) scripts → ScriptsApart scripts → (wants ≡ false → IsDone new)
+    → EachIs (IsEndAt b h.manager k.first.history.entries (k.since ++ es)) ends → EndsApart ends → map end_name ends ≡ map end_name h.ends → EachIs (IsScriptIn b h.manager (h.node.history.entries ++ es)) scripts → ScriptsApart scripts → map script_name scripts ≡ map script_name h.scripts → (wants ≡ false → IsDone new)
     → Kept b (record { manager = h.manager; node = new; ends = ends; scripts = scripts; wants = wants })
-kept_on b h k es new ends scripts wants w phased are apart tried single ready =
+kept_on b h k es new ends scripts wants w phased are apart ends_named tried single scripts_named ready =
     let first : List Entry = k.first.history.entries in
     let entries : h.node.history.entries ≡ first ++ k.since = grown_entries (value_of k.first) (value_of h.node) k.since k.grows in
     record {
@@ -123,7 +146,9 @@ kept_on b h k es new ends scripts wants w phased are apart tried single ready =
       phased = in_phase_on b.tries h.manager first k.since es k.phased (subst (λ (d : List Entry). AllInPhase b.tries h.manager d es) entries phased);
       ends = are;
       ends_apart = apart;
+      end_names = k.end_names ∙ ap Some (sym ends_named);
       scripts = λ i s at. subst (λ (d : List Entry). IsScriptIn b h.manager d s) (ap (λ (d : List Entry). d ++ es) entries ∙ append_assoc first k.since es) (tried i s at);
       scripts_apart = single;
+      script_names = k.script_names ∙ ap Some (sym scripts_named);
       ready = ready;
     }

@@ -8,5 +8,16 @@ pub mod ScriptLaws
 pub mod StampLaws
 pub mod TriedLaws
 pub mod JoinLaws
+pub mod OwnKept
 pub mod LineKept
 pub mod TurnKept
+pub mod ShareLists
+pub mod ShareLaws
+pub mod OpenLaws
+pub mod PlaceLaws
+pub mod BegunLaws
+pub mod OutLaws
+pub mod TakeLaws
+pub mod RanLaws
+pub mod OverLaws
+pub mod PartLaws

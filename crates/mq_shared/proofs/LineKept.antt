@@ -1,6 +1,6 @@
 -- A try of a script's line keeps what is kept under a lock.
-use Rattle.std.proofs.Common.{◌≡◌, ◌≢◌, ℕ, Bool, true, false, List, [], ◌∷◌, ◌++◌, refl, sym, ap, subst, ◌∙◌, append-nil, inl, inr, arith}
-use Rattle.std.specs.Prelude.{◌⊎◌, ◌==◌, not, Result, Ok, Err, Some, slice_get, slice_set}
+use Rattle.std.proofs.Common.{◌≡◌, ℕ, Bool, true, false, List, [], ◌∷◌, ◌++◌, refl, sym, ap, subst, ◌∙◌, append-nil, inl, inr, arith}
+use Rattle.std.specs.Prelude.{◌==◌, not, Result, Ok, Err, Some, map, slice_get, slice_set}
 use Rattle.std.specs.Result.{is_err}
 use Rattle.std.specs.List.{AllByRecursion}
 use Rattle.std.proofs.lemmas.Bool.Decides.{nat_tests}
@@ -15,10 +15,10 @@ use Rattle.mq_ways.specs.Ways.{IsQuietEntry}
 use Rattle.mq_shared.specs.declared.trying.Tried.{Tried}
 use Rattle.mq_shared.specs.declared.trying.Tried.TheVariants as tries
 use Rattle.mq_shared.specs.Took.{EndState}
-use Rattle.mq_shared.specs.Held.{Begun, EachIs, Held, IsEndAt, IsScriptIn, Kept, ScriptState, acts_as, entries_begun, faults_at, manager_at}
-use Rattle.mq_shared.specs.Events.{LineMade, LineNot, LineTried, SameScript, Stayed}
+use Rattle.mq_shared.specs.Held.{Begun, Held, IsEndAt, IsScriptIn, Kept, ScriptState, acts_as, entries_begun, faults_at, manager_at, script_name}
+use Rattle.mq_shared.specs.Events.{LineMade, LineNot, LineTried, SameScript}
 use Rattle.mq_shared.proofs.EndLaws.{end_quiet}
-use Rattle.mq_shared.proofs.KeptLaws.{each_set, grown_entries, kept_on, made_in, pairs_set, served_stays, silent_behind, stayed_went}
+use Rattle.mq_shared.proofs.KeptLaws.{each_set, grown_entries, kept_on, made_in, names_set, pairs_set, served_stays, silent_behind, stayed_went}
 use Rattle.mq_shared.proofs.QuietLaws.{quiet_behind}
 use Rattle.mq_shared.proofs.ScriptLaws.{line_in, script_done, script_others, script_waits}
 
@@ -60,18 +60,21 @@ module _ (b : Begun) (h : Held) (at : ℕ) (s t : ScriptState) (new : NodeState)
   single same =
       pairs_set (λ (x y : ScriptState). x.script ≡ y.script) h.scripts at s t is (λ y e. sym same.script ∙ e) (λ y e. e ∙ same.script) k.scripts_apart
 
+  named : (same : SameScript s t) → map script_name (slice_set h.scripts at t) ≡ map script_name h.scripts
+  named same = names_set script_name h.scripts at s t is same.script
+
   made_kept : (wants : Bool) → LineMade s t h.node new → (wants ≡ false → IsDone new) → Kept b (behind_it wants)
   made_kept wants x ready =
       kept_on b h k (e ∷ behind) new h.ends (slice_set h.scripts at t) wants x.made.went
       (made_in b.tries h.manager h.node.history.entries e behind (line_in b h.manager h.node.history.entries s x.line e mine x.is x.made.actor x.made.call) x.made.turns)
       (λ i d there. end_at_quiet b h.manager k.first.history.entries k.since (e ∷ behind) d (quiet_behind (acts_as d.cable d.sends) e behind (inl (ap (acts_as d.cable d.sends) x.made.actor ∙ no_end d.cable s.script d.sends)) (silent_behind h.node new e behind later x.made.went x.made.turns)) (k.ends i d there))
-      k.ends_apart
+      k.ends_apart refl
       (each_set (IsScriptIn b h.manager (h.node.history.entries ++ e ∷ behind)) h.scripts at t
       (script_done b h.manager h.node.history.entries behind e x.line s t x.same x.is x.made.actor x.made.call x.finished x.made.turns mine)
       (λ j u apart there. script_others b h.manager h.node.history.entries behind e u
       (ap (is_script u.script) x.made.actor ∙ other_script u.script s.script (λ same. apart (k.scripts_apart j at u s there is same))) x.made.turns
       (subst (λ (d : List Entry). IsScriptIn b h.manager d u) (sym entries) (k.scripts j u there))))
-      (single x.same) ready
+      (single x.same) (named x.same) ready
     where
       e : Entry
       e = x.made.entry
@@ -82,10 +85,10 @@ module _ (b : Begun) (h : Held) (at : ℕ) (s t : ScriptState) (new : NodeState)
   not_kept : (wants : Bool) → LineNot s t h.node new → (wants ≡ false → IsDone new) → Kept b (behind_it wants)
   not_kept wants x ready =
       kept_on b h k [] new h.ends (slice_set h.scripts at t) wants (stayed_went h.node new x.stayed) tt
-      (λ i d there. subst (λ (es : List Entry). IsEndAt b h.manager k.first.history.entries es d) (sym (append-nil k.since)) (k.ends i d there)) k.ends_apart
+      (λ i d there. subst (λ (es : List Entry). IsEndAt b h.manager k.first.history.entries es d) (sym (append-nil k.since)) (k.ends i d there)) k.ends_apart refl
       (each_set (IsScriptIn b h.manager (h.node.history.entries ++ [])) h.scripts at t (none_more t (script_waits b h.manager h.node.history.entries s t x.same x.memory x.done x.until mine))
       (λ j u apart there. none_more u (subst (λ (d : List Entry). IsScriptIn b h.manager d u) (sym entries) (k.scripts j u there))))
-      (single x.same) ready
+      (single x.same) (named x.same) ready
     where
       none_more : (u : ScriptState) → IsScriptIn b h.manager h.node.history.entries u → IsScriptIn b h.manager (h.node.history.entries ++ []) u
       none_more u y = subst (λ (d : List Entry). IsScriptIn b h.manager d u) (sym (append-nil h.node.history.entries)) y

@@ -1,6 +1,6 @@
 -- Entries that neither offer nor pop, and entries of others, leave what lies on the cables as their ends say.
 use Rattle.std.proofs.Common.{◌≡◌, ℕ, Bool, true, false, List, [], ◌∷◌, ◌++◌, refl, sym, ap, subst, ◌∙◌, inl, inr}
-use Rattle.std.specs.Prelude.{◌==◌, ◌&&◌, if◌then◌else◌, Option, None, Some}
+use Rattle.std.specs.Prelude.{◌&&◌, if◌then◌else◌, Option, None, Some}
 use Rattle.std.specs.List.{AllByRecursion}
 use Rattle.std.proofs.lemmas.Grind.{flat_map-append}
 use Rattle.std.proofs.lemmas.List.{append-nil}
@@ -19,22 +19,20 @@ use Rattle.mq_history.specs.declared.calls.Call.{Call}
 use Rattle.mq_history.specs.declared.calls.Call.TheVariants as calls
 use Rattle.mq_history.specs.declared.calls.Chance.{Chance}
 use Rattle.mq_history.specs.declared.calls.Chance.TheVariants as chances
-use Rattle.mq_history.specs.declared.scenario.CableLine.{CableLine}
 use Rattle.mq_objects.specs.declared.object.LocalQueue.{LocalQueue}
 use Rattle.mq_objects.specs.Names.{locals_of}
 use Rattle.mq_spec_manager.specs.Words.{first_due}
 use Rattle.mq_spec_node.specs.Node.{Node}
 use Rattle.mq_spec_node.specs.Replays.{Follows, IsPop, Tells, done_by}
 use Rattle.mq_spec_node.specs.Happens.{choice_event, done_or, event}
-use Rattle.mq_spec_node.specs.Words.{by, is_receiver, is_sender, trigger_deed, trigger_deed_of, where_up}
+use Rattle.mq_spec_node.specs.Words.{by, trigger_deed, trigger_deed_of, where_up}
 use Rattle.mq_spec_node.specs.Terms.{Entry}
 use Rattle.mq_spec_network.specs.Cables.{Lying, Takes, is_popped, made, offered_by, offered_if, pops_item}
 use Rattle.mq_spec_network.specs.Steps.{AreTriggers}
-use Rattle.mq_spec_network.specs.Turns.{more_at}
-use Rattle.mq_ways.specs.Ways.{AreShown, CableState, IsNew, IsQuietEntry, IsShown, WayState}
+use Rattle.mq_ways.specs.Ways.{AreShown, IsQuietEntry, IsShown, WayState}
 use Rattle.mq_ways.proofs.QuietLaws.{quiet_more}
-use Rattle.mq_ways.proofs.WayLaws.{way_begins, way_others}
-use Rattle.mq_shared.specs.Facing.{AreJoined, Facing, IsJoined}
+use Rattle.mq_ways.proofs.WayLaws.{way_others}
+use Rattle.mq_shared.specs.Facing.{Facing}
 
 -- WHAT A TRIGGER TURN DOES: it neither offers nor pops.
 abbrev pub IsSilent : Entry → Type 0

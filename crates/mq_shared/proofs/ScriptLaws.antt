@@ -1,13 +1,11 @@
 -- A script of a phase: its line is one that a phase may have, and how it goes on.
-use Rattle.std.proofs.Common.{◌≡◌, ℕ, zero, suc, ◌+◌, ◌≤◌, ◌<◌, Bool, true, false, List, [], ◌∷◌, ◌++◌, length, drop, refl, sym, ap, subst, ◌∙◌, append_assoc, inl, inr, arith}
-use Rattle.std.specs.Prelude.{◌⊎◌, ◌==◌, Option, Some, None, slice_get}
-use Rattle.std.proofs.lemmas.Bool.Decides.{nat_tests}
+use Rattle.std.proofs.Common.{◌≡◌, ℕ, zero, suc, ◌+◌, ◌≤◌, ◌<◌, Bool, false, List, [], ◌∷◌, ◌++◌, length, drop, refl, sym, ap, subst, ◌∙◌, append_assoc, inl, inr, arith}
+use Rattle.std.specs.Prelude.{◌⊎◌, Option, Some, slice_get}
 use Rattle.mq_history.specs.declared.calls.Actor.{Actor}
 use Rattle.mq_history.specs.declared.calls.Actor.TheVariants as actors
-use Rattle.mq_history.specs.declared.calls.Call.{Call}
 use Rattle.mq_history.specs.declared.scripts.ScriptLine.TheVariants as lines
 use Rattle.mq_spec_node.specs.Terms.{Entry, ScriptLine, ScriptPart}
-use Rattle.mq_spec_node.specs.Words.{Memory, call_after, deadline, is_script, is_trigger, left_after, line_call, lines_done, memory_by, wait_of}
+use Rattle.mq_spec_node.specs.Words.{Memory, call_after, deadline, is_script, is_trigger, left_after, line_call, wait_of}
 use Rattle.mq_spec_network.specs.Steps.{InPhase, PhaseLine}
 use Rattle.mq_spec_network.specs.Tasks.{Trying}
 use Rattle.mq_progress.specs.Course.{Course, Finished, Stands}

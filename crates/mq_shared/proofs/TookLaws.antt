@@ -1,6 +1,6 @@
 -- What an end took, over two stretches of entries; and across two locks: what it took is what lay there first.
 use Rattle.std.proofs.Common.{◌≡◌, ℕ, ◌+◌, Bool, true, false, List, [], ◌∷◌, ◌++◌, refl, sym, ap, subst, ◌∙◌, append_assoc, append-nil, inl, inr}
-use Rattle.std.specs.Prelude.{◌⊎◌, ◌&&◌, max}
+use Rattle.std.specs.Prelude.{◌&&◌, max}
 use Rattle.std.specs.List.{AllByRecursion}
 use Rattle.mq_cable.specs.declared.fault.Fault.{Fault}
 use Rattle.mq_cable.specs.declared.item.Item.{Item}

@@ -1,6 +1,6 @@
 -- A turn of an end, and a timeout, keep what is kept under a lock.
 use Rattle.std.proofs.Common.{◌≡◌, ℕ, ◌+◌, ◌≤◌, ◌^◌, Bool, true, false, List, [], ◌∷◌, ◌++◌, refl, sym, ap, subst, ◌∙◌, append-nil, inl, inr, arith}
-use Rattle.std.specs.Prelude.{◌⊎◌, ◌==◌, not, max, Option, Some, None, Result, Ok, Err, slice_get, slice_set}
+use Rattle.std.specs.Prelude.{◌==◌, not, Option, Some, None, Result, Ok, Err, map, slice_get, slice_set}
 use Rattle.std.specs.Result.{is_err}
 use Rattle.std.specs.List.{AllByRecursion}
 use Rattle.std.proofs.lemmas.Bool.Decides.{nat_tests}
@@ -8,14 +8,13 @@ use Rattle.mq_base.specs.declared.want.NoMemory.{NoMemory}
 use Rattle.mq_cable.specs.declared.fault.Fault.{Fault}
 use Rattle.mq_cable.specs.declared.item.Item.{Item}
 use Rattle.mq_cable.specs.Faults.{offered_of}
-use Rattle.mq_cable.specs.Offers.{HasTaken, Offering}
+use Rattle.mq_cable.specs.Offers.{Offering}
 use Rattle.mq_frame.specs.declared.frame.Frame.{Frame}
 use Rattle.mq_frame.specs.declared.frame.Seen.{Seen}
 use Rattle.mq_frame.specs.declared.frame.Seen.TheVariants as items
 use Rattle.mq_history.specs.declared.calls.Actor.{Actor}
 use Rattle.mq_history.specs.declared.calls.Actor.TheVariants as actors
 use Rattle.mq_history.specs.declared.calls.Call.TheVariants as calls
-use Rattle.mq_history.specs.declared.scenario.CableLine.{CableLine}
 use Rattle.mq_spec_node.specs.Replays.{Tells}
 use Rattle.mq_spec_node.specs.Terms.{Entry}
 use Rattle.mq_spec_node.specs.Words.{by, is_script, items_of, stamp_after}
@@ -27,17 +26,15 @@ use Rattle.mq_events.specs.Events.{MayAct}
 use Rattle.mq_acts.specs.Serving.{AreTurns, IsDone}
 use Rattle.mq_turns.specs.declared.telling.Turn.{Turn}
 use Rattle.mq_turns.specs.declared.telling.Turn.TheVariants as turns
-use Rattle.mq_turns.specs.Wired.{Offered, Popped, PopsItem}
-use Rattle.mq_ways.specs.Ways.{IsQuietEntry}
-use Rattle.mq_wires.specs.Wires.{HasOffered}
-use Rattle.mq_ruled.specs.Ends.{PipeEnds, PipeTook, PipeWrote}
+use Rattle.mq_turns.specs.Wired.{Offered, Popped}
+use Rattle.mq_ruled.specs.Ends.{PipeTook, PipeWrote}
 use Rattle.mq_shared.specs.Facing.{Facing}
-use Rattle.mq_shared.specs.Took.{EndKept, EndState, Took, way}
-use Rattle.mq_shared.specs.Held.{Begun, EachIs, EndsApart, Held, IsEndAt, IsScriptIn, Kept, ScriptState, acts_as, end_actor, entries_begun, faults_at, manager_at, queue_at}
-use Rattle.mq_shared.specs.Events.{Made, SameEnd, Stayed, TimeTried, TurnMade, TurnNot, TurnTried, Went}
+use Rattle.mq_shared.specs.Took.{EndState, Took, way}
+use Rattle.mq_shared.specs.Held.{Begun, EachIs, EndsApart, Held, IsEndAt, IsScriptIn, Kept, acts_as, end_actor, end_name, entries_begun, faults_at, manager_at}
+use Rattle.mq_shared.specs.Events.{Made, SameEnd, Stayed, TimeTried, TurnMade, TurnNot, TurnTried}
 use Rattle.mq_shared.proofs.DeedLaws.{IsEnd, a_receiver, a_sender}
-use Rattle.mq_shared.proofs.EndLaws.{EndOffers, EndPops, EndPuts, EndPutsNone, EndTakes, end_quiet, end_turned}
-use Rattle.mq_shared.proofs.KeptLaws.{each_set, grown_entries, kept_on, made_in, pairs_set, served_stays, silent_behind, stayed_went, tells_here}
+use Rattle.mq_shared.proofs.EndLaws.{EndOffers, EndTakes, end_turned}
+use Rattle.mq_shared.proofs.KeptLaws.{each_set, grown_entries, kept_on, made_in, names_set, pairs_set, served_stays, silent_behind, stayed_went, tells_here}
 use Rattle.mq_shared.proofs.LineKept.{end_at_quiet}
 use Rattle.mq_shared.proofs.QuietLaws.{IsSilent, quiet_behind, silent_quiet}
 use Rattle.mq_shared.proofs.ScriptLaws.{script_others}
@@ -203,14 +200,14 @@ module _ (b : Begun) (h : Held) (new : NodeState) (k : Kept b h) (kept : IsKept 
   time_made : (j : ℕ) (wants : Bool) → Made (actors.Sender j) calls.Timeout h.node new → (wants ≡ false → IsDone new) → Kept b (timed wants)
   time_made j wants x ready =
       kept_on b h k (x.entry ∷ x.behind) new h.ends h.scripts wants x.went (made_in b.tries h.manager h.node.history.entries x.entry x.behind (time_in b.tries h.node.history.entries h.manager j x.entry x.actor x.call) x.turns)
-      (λ i d at. end_at_quiet b h.manager first k.since (x.entry ∷ x.behind) d (quiet_behind (acts_as d.cable d.sends) x.entry x.behind (inr silent) (silent_behind h.node new x.entry x.behind later x.went x.turns)) (k.ends i d at)) k.ends_apart
-      (scripts_on x.entry x.behind j true x.actor x.turns) k.scripts_apart ready
+      (λ i d at. end_at_quiet b h.manager first k.since (x.entry ∷ x.behind) d (quiet_behind (acts_as d.cable d.sends) x.entry x.behind (inr silent) (silent_behind h.node new x.entry x.behind later x.went x.turns)) (k.ends i d at)) k.ends_apart refl
+      (scripts_on x.entry x.behind j true x.actor x.turns) k.scripts_apart refl ready
     where
       silent : (x.entry.effect.pushed ≡ None) × (is_popped x.entry ≡ false)
       silent = timeout_silent j h.node.stamp (node_in h.node) x.entry (tells_here h.node new x.entry x.behind kept later x.went) x.actor x.call
 
   time_not : (wants : Bool) → Stayed h.node new → (wants ≡ false → IsDone new) → Kept b (timed wants)
-  time_not wants x ready = kept_on b h k [] new h.ends h.scripts wants (stayed_went h.node new x) tt ends_still k.ends_apart scripts_still k.scripts_apart ready
+  time_not wants x ready = kept_on b h k [] new h.ends h.scripts wants (stayed_went h.node new x) tt ends_still k.ends_apart refl scripts_still k.scripts_apart refl ready
 
   pub time_kept : (j : ℕ) (r : Result Turn NoMemory) → IsServed h.node → TimeTried j h.node r new → Kept b (timed (is_err r))
   time_kept j (Ok turns.Changed) served (x, done) = time_made j false x (λ q. done)
@@ -228,13 +225,16 @@ module _ (b : Begun) (h : Held) (new : NodeState) (k : Kept b h) (kept : IsKept 
         pairs_set (λ (u v : EndState). (u.cable ≡ v.cable) × (u.sends ≡ v.sends)) h.ends at c d is (λ y2 e. (sym same.cable ∙ e.0, sym same.sends ∙ e.1)) (λ y2 e. (e.0 ∙ same.cable, e.1 ∙ same.sends))
         (λ i2 j2 y2 z2 p2 q2 e. k.ends_apart i2 j2 y2 z2 p2 q2 e.0 e.1) i j y z p q (cable, sends)
 
+    named_still : SameEnd c d → map end_name (slice_set h.ends at d) ≡ map end_name h.ends
+    named_still same = names_set end_name h.ends at c d is (λ i. (same.cable i, same.sends i))
+
     turn_made : (none full : Type 0) (wants : Bool) → TurnMade none full c d h.node new → (wants ≡ false → IsDone new) → Kept b (turned wants)
     turn_made none full wants x ready =
         kept_on b h k (e ∷ behind) new (slice_set h.ends at d) h.scripts wants x.made.went (made_in b.tries h.manager h.node.history.entries e behind (turn_in b.tries h.node.history.entries h.manager c.cable c.sends e x.made.actor x.made.call) x.made.turns)
         (each_set (IsEndAt b h.manager first (k.since ++ e ∷ behind)) h.ends at d (end_at_turned b h.manager first k.since behind e full c d x.same x.made.actor takes offers silent (k.ends at c is))
         (λ j u apart there. end_at_quiet b h.manager first k.since (e ∷ behind) u
         (quiet_behind (acts_as u.cable u.sends) e behind (inl (ap (acts_as u.cable u.sends) x.made.actor ∙ acts_not u.cable c.cable u.sends c.sends (λ p q. apart (k.ends_apart j at u c there is p q)))) silent) (k.ends j u there)))
-        (apart_still x.same) (scripts_on e behind c.cable c.sends x.made.actor x.made.turns) k.scripts_apart ready
+        (apart_still x.same) (named_still x.same) (scripts_on e behind c.cable c.sends x.made.actor x.made.turns) k.scripts_apart refl ready
       where
         e : Entry
         e = x.made.entry
@@ -257,8 +257,8 @@ module _ (b : Begun) (h : Held) (new : NodeState) (k : Kept b h) (kept : IsKept 
     turn_not : (wants : Bool) → TurnNot c d h.node new → (wants ≡ false → IsDone new) → Kept b (turned wants)
     turn_not wants x ready =
         kept_on b h k [] new (slice_set h.ends at d) h.scripts wants (stayed_went h.node new x.stayed) tt
-        (each_set (IsEndAt b h.manager first (k.since ++ [])) h.ends at d (end_at_still b h.manager first k.since c d x.same x.read x.offers.same x.offers.written (k.ends at c is)) (λ j u apart there. ends_still j u there)) (apart_still x.same) scripts_still
-        k.scripts_apart ready
+        (each_set (IsEndAt b h.manager first (k.since ++ [])) h.ends at d (end_at_still b h.manager first k.since c d x.same x.read x.offers.same x.offers.written (k.ends at c is)) (λ j u apart there. ends_still j u there)) (apart_still x.same) (named_still x.same) scripts_still
+        k.scripts_apart refl ready
 
     pub turn_kept : (none full : Type 0) (r : Result Turn NoMemory) → IsServed h.node → TurnTried none full c h.node r d new → Kept b (turned (is_err r))
     turn_kept none full (Ok turns.Changed) served (x, done) = turn_made none full false x (λ q. done)

@@ -1,5 +1,5 @@
 -- What a try of a script's line, a turn of an end and a timeout come to, with the trigger turns behind them.
-use Rattle.std.specs.Prelude.{◌≡◌, ◌⊎◌, ℕ, List, [], ◌∷◌, None, Some, Result, Ok, Err, slice_get}
+use Rattle.std.specs.Prelude.{◌≡◌, ◌⊎◌, ℕ, List, [], ◌∷◌, Some, Result, Ok, Err, slice_get}
 use Rattle.mq_base.specs.declared.want.NoMemory.{NoMemory}
 use Rattle.mq_cable.specs.declared.item.Item.{Item}
 use Rattle.mq_history.specs.declared.calls.Actor.TheVariants as actors

@@ -1,18 +1,19 @@
 -- What lies under a lock of a phase, and what its type keeps.
-use Rattle.std.specs.Prelude.{◌≡◌, ◌⊎◌, ◌≤◌, ◌<◌, ◌^◌, ℕ, Bool, true, false, not, IfSome, List, ◌++◌, [], Option, Some, None, length, slice_get}
+use Rattle.std.specs.Prelude.{◌≡◌, ◌⊎◌, ◌≤◌, ◌<◌, ◌^◌, ℕ, Bool, true, false, not, IfSome, List, ◌++◌, [], Option, Some, None, length, map, slice_get}
 use Rattle.atomic_table.specs.Seated.{TableId}
 use Rattle.mq_cable.specs.declared.fault.Fault.{Fault}
 use Rattle.mq_history.specs.declared.calls.Actor.{Actor}
 use Rattle.mq_history.specs.declared.calls.Actor.TheVariants as actors
 use Rattle.mq_history.specs.declared.scenario.CableLine.{CableLine}
 use Rattle.mq_spec_node.specs.Terms.{Entry, ScriptLine, ScriptPart}
-use Rattle.mq_spec_node.specs.Words.{Grows, deadline, is_receiver, is_sender, is_spent, wait_of}
+use Rattle.mq_spec_node.specs.Words.{Grows, deadline, is_receiver, is_sender, wait_of}
 use Rattle.mq_spec_network.specs.Story.{Mem}
 use Rattle.mq_spec_network.specs.Steps.{AllInPhase}
 use Rattle.mq_spec_network.specs.Tasks.{Trying}
 use Rattle.mq_progress.specs.Course.{Course, Stands}
 use Rattle.mq_events.specs.States.{NodeState, value_of}
 use Rattle.mq_acts.specs.Advances.{IsTextLine}
+use Rattle.mq_acts.specs.Restarts.{StaysOwn}
 use Rattle.mq_acts.specs.Serving.{IsDone}
 use Rattle.mq_shared.specs.Took.{EndKept, EndState}
 
@@ -23,6 +24,9 @@ pub record ScriptState : Type 0 where
   pub moment : ℕ
   pub course : Course
 
+abbrev pub script_with : ℕ → ScriptPart → ℕ → Course → ScriptState
+script_with script part moment course = record { script = script; part = part; moment = moment; course = course }
+
 -- The manager's place, its node, the ends of its cables, its scripts of the phase; whether an event found no memory.
 pub record Held : Type 0 where
   pub manager : ℕ
@@ -31,13 +35,23 @@ pub record Held : Type 0 where
   pub scripts : List ScriptState
   pub wants : Bool
 
--- With what a phase began: the nodes, the lines of the cables, the queue of each cable's two directions, the scripts.
+-- With what a phase began: the nodes, the lines of the cables, the queue of each cable's two directions, the scripts; and by manager, in
+-- their order under its lock, the ends of its cables and the numbers of its scripts.
 pub record Begun : Type 0 where
   pub nodes : List NodeState
   pub lines : List CableLine
   pub outs : List TableId
   pub backs : List TableId
   pub tries : List Trying
+  pub ends : List (List (ℕ × Bool))
+  pub scripts : List (List ℕ)
+
+-- an end's name: its cable, and whether it is the sender's; a script's
+abbrev pub end_name : EndState → ℕ × Bool
+end_name e = (e.cable, e.sends)
+
+abbrev pub script_name : ScriptState → ℕ
+script_name s = s.script
 
 abbrev pub entries_or : Option NodeState → List Entry
 entries_or None = []
@@ -101,7 +115,7 @@ abbrev pub ScriptsApart : List ScriptState → Type 0
 ScriptsApart ss = (i j : ℕ) (s t : ScriptState) → slice_get ss i ≡ Some s → slice_get ss j ≡ Some t → s.script ≡ t.script → i ≡ j
 
 -- What the type of a lock's value keeps: the history is the one from before the phase, and then what a phase may have; each end and
--- each script is as the history says; and where no event lacked memory, no trigger is due.
+-- each script is as the history says, in the places that they had; and where no event lacked memory, no trigger is due.
 pub record Kept (b : Begun) (h : Held) : Type 0 where
   pub first : NodeState
   pub there : slice_get b.nodes h.manager ≡ Some first
@@ -111,6 +125,12 @@ pub record Kept (b : Begun) (h : Held) : Type 0 where
   pub phased : AllInPhase b.tries h.manager first.history.entries since
   pub ends : EachIs (IsEndAt b h.manager first.history.entries since) h.ends
   pub ends_apart : EndsApart h.ends
+  pub end_names : slice_get b.ends h.manager ≡ Some (map end_name h.ends)
   pub scripts : EachIs (IsScriptIn b h.manager (first.history.entries ++ since)) h.scripts
   pub scripts_apart : ScriptsApart h.scripts
+  pub script_names : slice_get b.scripts h.manager ≡ Some (map script_name h.scripts)
   pub ready : h.wants ≡ false → IsDone h.node
+
+-- Over a disk that tells its bytes, no restart in the phase was from a log that was changed from outside.
+abbrev pub KeptOwn : Type 0 → Begun → Held → Type 0
+KeptOwn tells b h = tells → StaysOwn (entries_begun b h.manager) h.node.history.entries

@@ -1,14 +1,15 @@
 //! Nodes behind locks: the scripts and the channels' ends of a phase run in threads.
 #![tactic(auto)]
 
+mod courses;
 mod held;
 mod jobs;
 mod joining;
 mod locked;
+mod opening;
+mod parting;
+mod phasing;
+mod sharing;
 mod trying;
 
-pub use held::{HeldEnd, HeldScript};
-pub use joining::join_again;
-pub use jobs::{Job, Work, run_all};
-pub use locked::{Locked, PhaseName, Unlocked};
-pub use trying::{Tried, try_line, try_timeout, try_turn};
+pub use phasing::phase;

@@ -1,7 +1,8 @@
 //! What lies under a lock of a phase: a node with its ends and its scripts, and what its type keeps of them.
-ghost use Rattle.std.specs.Prelude.{◌≡◌, ◌<◌, ◌^◌, IfSome, IsTrue, false, length, slice_get};
+ghost use Rattle.std.specs.Prelude.{◌≡◌, ◌<◌, ◌^◌, IfSome, false, length, slice_get};
+ghost use Rattle.std.specs.Bool.{OnTrue};
 ghost use Rattle.mq_events.specs.Events.{MayAct};
-ghost use Rattle.mq_shared.specs.Held.{Kept};
+ghost use Rattle.mq_shared.specs.Held.{Kept, KeptOwn};
 
 use crate::held::{HeldEnd, HeldScript};
 use crate::trying::{Tried, try_line, try_timeout, try_turn};
@@ -22,7 +23,7 @@ pub trait PhaseName {
 impl PhaseName for Brand {
     ghost use Rattle.std.specs.Prelude.{[]};
 
-    ghost begun = { record { nodes = []; lines = []; outs = []; backs = []; tries = [] } };
+    ghost begun = { record { nodes = []; lines = []; outs = []; backs = []; tries = []; ends = []; scripts = [] } };
 }
 
 /// A node under its lock, with the ends of its cables and its scripts of the phase. Each call is one event at most, with the trigger turns
@@ -38,13 +39,14 @@ pub struct Locked<'a, P: PhaseName, D: Disk, R: Wait> {
 }
 
 impl<'a, P: PhaseName, D: Disk, R: Wait> Model for Locked<'a, P, D, R> {
-    ghost use Rattle.mq_shared.specs.Held.{Held, Kept};
+    ghost use Rattle.mq_shared.specs.Held.{Held, Kept, KeptOwn};
 
     ghost Value = { Held };
 
     ghost view = { λ s. record { manager = s.manager; node = s.node; ends = s.ends; scripts = s.scripts; wants = s.wants } };
 
-    ghost invariant = { λ s. Kept P.begun (record { manager = s.manager; node = s.node; ends = s.ends; scripts = s.scripts; wants = s.wants }) };
+    ghost invariant = { λ s. Kept P.begun (record { manager = s.manager; node = s.node; ends = s.ends; scripts = s.scripts; wants = s.wants })
+        × KeptOwn D.tells P.begun (record { manager = s.manager; node = s.node; ends = s.ends; scripts = s.scripts; wants = s.wants }) };
 }
 
 /// The parts of what lay under a lock.
@@ -61,14 +63,14 @@ pub struct Unlocked<'a, D: Disk, R: Wait> {
 
 /// Whether an event more may happen: none found no memory, and the node has not made all its events.
 fn may_go<D: Disk>(wants: bool, node: &Node<D>) -> bool
-    ensures { IsTrue result → (wants ≡ false) × MayAct node.now }
+    ensures { OnTrue result ((wants ≡ false) × MayAct node.now) }
 {
     !wants && !node.is_spent()
 }
 
 /// An end by its place, where it may take a turn.
 fn may_turn<R: Wait>(ends: &Items<HeldEnd<'_, R>>, at: usize) -> bool
-    ensures { IsTrue result → (at < length ends.now) × IfSome (slice_get ends.now at) (λ e. e.offers.number < 2 ^ 48) }
+    ensures { OnTrue result ((at < length ends.now) × IfSome (slice_get ends.now at) (λ e. e.offers.number < 2 ^ 48)) }
 {
     match ends.get(at) {
         None => false,
@@ -84,7 +86,8 @@ impl<'a, P: PhaseName, D: Disk, R: Wait> Locked<'a, P, D, R> {
         ends: Items<HeldEnd<'a, R>>,
         scripts: Items<HeldScript<'a>>,
     ) -> Locked<'a, P, D, R>
-        requires { Kept P.begun (record { manager = manager; node = node; ends = ends; scripts = scripts; wants = false }) }
+        requires kept { Kept P.begun (record { manager = manager; node = node; ends = ends; scripts = scripts; wants = false }) }
+        requires own { KeptOwn D.tells P.begun (record { manager = manager; node = node; ends = ends; scripts = scripts; wants = false }) }
         ensures { result ≡ record { manager = manager; node = node; ends = ends.entry; scripts = scripts.entry; wants = false } }
     {
         Locked {
@@ -97,6 +100,7 @@ impl<'a, P: PhaseName, D: Disk, R: Wait> Locked<'a, P, D, R> {
         }
     }
 
+    #[tactic(auto, using(crate::proofs::KeptLaws::served_at, crate::proofs::KeptLaws::texts_at))]
     /// Tries the next line of a script, by its place here. Ended as well where nothing more may happen.
     pub fn advance(&mut self, at: usize) -> Result<Tried, NoMemory> {
         if !may_go(self.wants, &self.node) {
@@ -112,6 +116,7 @@ impl<'a, P: PhaseName, D: Disk, R: Wait> Locked<'a, P, D, R> {
         tried
     }
 
+    #[tactic(auto, using(crate::proofs::KeptLaws::served_at))]
     /// A turn of an end, by its place here. Still as well where nothing more may happen.
     pub fn turn(&mut self, at: usize) -> Result<Turn, NoMemory> {
         if !may_go(self.wants, &self.node) {
@@ -127,6 +132,7 @@ impl<'a, P: PhaseName, D: Disk, R: Wait> Locked<'a, P, D, R> {
         turn
     }
 
+    #[tactic(auto, using(crate::proofs::KeptLaws::served_at))]
     /// A timeout of the sender's end of a cable. Still as well where nothing more may happen.
     pub fn time_out(&mut self, cable: u16) -> Result<Turn, NoMemory> {
         if !may_go(self.wants, &self.node) {
@@ -142,6 +148,7 @@ impl<'a, P: PhaseName, D: Disk, R: Wait> Locked<'a, P, D, R> {
     /// The parts, and what is known of them.
     pub fn into_parts(self) -> Unlocked<'a, D, R>
         ensures kept { Kept P.begun self.entry }
+        ensures own { KeptOwn D.tells P.begun self.entry }
         ensures parts { self.entry ≡ record { manager = result.manager; node = result.node; ends = result.ends; scripts = result.scripts; wants = result.wants } }
     {
         let Locked {

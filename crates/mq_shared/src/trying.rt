@@ -1,19 +1,24 @@
 //! A try of a script's line, a turn of an end and a timeout, at a node, with the trigger turns behind it.
-ghost use Rattle.std.specs.Prelude.{◌≡◌, ◌≤◌, ◌<◌, ◌^◌, ℕ, [], IfSome, length, slice_get};
+ghost use Rattle.std.specs.Prelude.{◌≤◌, ◌<◌, ◌^◌, ℕ, [], IfSome, length, slice_get};
 ghost use Rattle.mq_events.specs.States.{IsServed};
 ghost use Rattle.mq_events.specs.Events.{MayAct};
 ghost use Rattle.mq_acts.specs.Advances.{IsTextLine};
+ghost use Rattle.mq_acts.specs.Restarts.{StaysOwn};
 ghost use Rattle.mq_turns.specs.Unseen.{EndTurn, IsUnseen, turn_deed};
 ghost use Rattle.mq_ruled.specs.Ends.{PipeEmpty, PipeEnds, PipeFull, PipeTook, PipeWrote};
 ghost use Rattle.mq_shared.specs.Events.{LineTried, SameEnd, TimeTried, TurnTried};
-ghost use Rattle.mq_shared.specs.Held.{end_actor};
+ghost use Rattle.mq_shared.specs.Held.{end_actor, script_with};
 
 use crate::held::{HeldEnd, HeldScript};
 use mq_acts::{Advanced, advance, serve};
 use mq_base::NoMemory;
+use mq_cable::Offers;
 use mq_disk::Disk;
 use mq_events::Node;
+use mq_history::ScriptPart;
 use mq_lines::{deadline_of, wait_of};
+use mq_progress::Progress;
+use mq_ruled::Ruled;
 use mq_takes::receiver_turn;
 use mq_turns::{Turn, sender_turn, timeout};
 use std::sync::Wait;
@@ -29,29 +34,29 @@ pub enum Tried {
     Ended,
 }
 
-/// Tries the next line of a script of a phase: a get has its deadline from the phase's first moment on.
-///
-/// # Errors
-///
-/// No memory: nothing was done, or the line was, and a trigger stays due.
-#[tactic(auto, using(crate::proofs::TriedLaws::keeps_at, crate::proofs::TriedLaws::line_made, crate::proofs::TriedLaws::line_waits, crate::proofs::TriedLaws::line_none))]
-pub fn try_line<D: Disk>(
+/// The next line of a script, with the trigger turns behind it.
+#[tactic(auto, using(crate::proofs::TriedLaws::keeps_at, crate::proofs::OwnKept::own_same, crate::proofs::OwnKept::own_then))]
+fn line_at<D: Disk>(
     node: &mut Node<D>,
-    script: &mut HeldScript<'_>,
+    script: u16,
+    part: &ScriptPart,
+    moment: u64,
+    progress: &mut Progress,
 ) -> Result<Tried, NoMemory>
     requires served { IsServed node.old }
     requires may { MayAct node.old }
-    requires texts { (n : ℕ) → IfSome (slice_get script.old.part.lines n) IsTextLine }
-    requires few { script.old.course.done ≤ length script.old.part.lines }
-    requires short { length script.old.part.lines < 2 ^ 32 }
-    ensures { LineTried script.old node.old result script.new node.new }
+    requires texts { (n : ℕ) → IfSome (slice_get part.now.lines n) IsTextLine }
+    requires few { progress.old.done ≤ length part.now.lines }
+    requires short { length part.now.lines < 2 ^ 32 }
+    ensures tried { LineTried (script_with script part.now moment progress.old) node.old result (script_with script part.now moment progress.new) node.new }
+    ensures own { D.tells → StaysOwn node.old.history.entries node.new.history.entries }
 {
-    let Some(line) = script.progress.line(script.part) else {
+    let Some(line) = progress.line(part) else {
         return Ok(Tried::Ended);
     };
-    let until = deadline_of(script.moment, wait_of(line));
-    script.progress.wait(until);
-    match advance(node, script.script, script.part, &mut script.progress) {
+    let until = deadline_of(moment, wait_of(line));
+    progress.wait(until);
+    match advance(node, script, part, progress) {
         Err(NoMemory) => Err(NoMemory),
         Ok(Advanced::Ended) => Ok(Tried::Ended),
         Ok(Advanced::Waiting(_)) => Ok(Tried::Waits),
@@ -62,21 +67,58 @@ pub fn try_line<D: Disk>(
     }
 }
 
-/// A turn of an end at its node.
-fn turn_at<D: Disk, R: Wait>(
+/// Tries the next line of a script of a phase: a get has its deadline from the phase's first moment on.
+///
+/// # Errors
+///
+/// No memory: nothing was done, or the line was, and a trigger stays due.
+pub fn try_line<D: Disk>(node: &mut Node<D>, script: &mut HeldScript<'_>) -> Result<Tried, NoMemory>
+    requires served { IsServed node.old }
+    requires may { MayAct node.old }
+    requires texts { (n : ℕ) → IfSome (slice_get script.old.part.lines n) IsTextLine }
+    requires few { script.old.course.done ≤ length script.old.part.lines }
+    requires short { length script.old.part.lines < 2 ^ 32 }
+    ensures tried { LineTried script.old node.old result script.new node.new }
+    ensures own { D.tells → StaysOwn node.old.history.entries node.new.history.entries }
+{
+    line_at(
+        node,
+        script.script,
+        script.part,
+        script.moment,
+        &mut script.progress,
+    )
+}
+
+/// A turn of the sender's or the receiver's end of a cable at its node.
+#[tactic(auto, using(crate::proofs::TriedLaws::sender_as, crate::proofs::TriedLaws::receiver_as))]
+fn turn_by<D: Disk, R: Wait>(
     node: &mut Node<D>,
-    end: &mut HeldEnd<'_, R>,
+    offers: &mut Offers,
+    wire: &mut Ruled<'_, R>,
+    cable: u16,
+    sends: bool,
 ) -> Result<Turn, NoMemory>
+    requires served { IsServed node.old }
+    requires may { MayAct node.old }
+    requires count { offers.old.number < 2 ^ 48 }
+    ensures { EndTurn (end_actor cable sends) (λ xs. PipeTook wire.old xs wire.new) (λ xs. PipeWrote wire.old xs wire.new) ((m : PipeEnds) × PipeEmpty wire.old m × PipeTook m [] wire.new) (PipeFull wire.old wire.new) offers.old offers.new node.old result node.new }
+{
+    match sends {
+        true => sender_turn(node, offers, wire, cable),
+        false => receiver_turn(node, offers, wire, cable),
+    }
+}
+
+/// A turn of an end at its node.
+fn turn_at<D: Disk, R: Wait>(node: &mut Node<D>, end: &mut HeldEnd<'_, R>) -> Result<Turn, NoMemory>
     requires served { IsServed node.old }
     requires may { MayAct node.old }
     requires count { end.old.offers.number < 2 ^ 48 }
     ensures turn { EndTurn (end_actor end.old.cable end.old.sends) (λ xs. PipeTook end.old.wire xs end.new.wire) (λ xs. PipeWrote end.old.wire xs end.new.wire) ((m : PipeEnds) × PipeEmpty end.old.wire m × PipeTook m [] end.new.wire) (PipeFull end.old.wire end.new.wire) end.old.offers end.new.offers node.old result node.new }
     ensures same { SameEnd end.old end.new }
 {
-    match end.sends {
-        true => sender_turn(node, &mut end.offers, &mut end.wire, end.cable),
-        false => receiver_turn(node, &mut end.offers, &mut end.wire, end.cable),
-    }
+    turn_by(node, &mut end.offers, &mut end.wire, end.cable, end.sends)
 }
 
 /// A turn of an end, with the trigger turns behind it. Still where it changes nothing.
@@ -84,7 +126,6 @@ fn turn_at<D: Disk, R: Wait>(
 /// # Errors
 ///
 /// No memory: nothing was done, or the turn was, and a trigger stays due.
-#[tactic(auto, using(crate::proofs::TriedLaws::turn_made, crate::proofs::TriedLaws::turn_not))]
 pub fn try_turn<D: Disk, R: Wait>(
     node: &mut Node<D>,
     end: &mut HeldEnd<'_, R>,

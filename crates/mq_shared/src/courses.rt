@@ -1,0 +1,197 @@
+//! Courses of scripts: they go out of their places for a phase, and back.
+ghost use Rattle.std.specs.Prelude.{◌≡◌, ◌≤◌, ◌<◌, ◌+◌, ◌^◌, ◌++◌, ◌∷◌, ℕ, IfOk, [], Some, false, length, map, slice_get, slice_set};
+ghost use Rattle.mq_spec_node.specs.Terms as terms;
+ghost use Rattle.mq_progress.specs.Course as progress;
+ghost use Rattle.mq_shared.specs.Held.{Begun, EachIs, IsScriptIn, ScriptState, entries_begun, script_name};
+ghost use Rattle.mq_shared.specs.Phasing.{moment_or};
+ghost use Rattle.mq_shared.specs.Sharing.{among, is_here, last_if, named, out_if, put_all, rested, unbegun};
+ghost use Rattle.mq_shared.specs.Taking.{Begins, CoursesAt, RowsWait};
+
+use crate::held::HeldScript;
+use mq_base::{Items, NoMemory};
+use mq_history::{Scenario, ScriptPart};
+use mq_progress::Progress;
+use std::alloc::Global;
+use std::marker::Model;
+
+/// Whether a script is one of these.
+fn is_among(scripts: &[u16], script: u16) -> bool
+    ensures { result ≡ among scripts.now script }
+{
+    scripts.contains(&script)
+}
+
+/// Whether a script is this manager's, and one of these.
+fn goes_here(part: &ScriptPart, scripts: &[u16], script: u16, manager: u16) -> bool
+    ensures { result ≡ is_here scripts.now manager script part.now }
+{
+    part.manager == manager && is_among(scripts, script)
+}
+
+/// Takes a course out of its place, where one stays that has done nothing. It takes no memory.
+fn take_course(alloc: Global, courses: &mut Items<Progress>, at: usize) -> Progress
+    requires { at < length courses.old }
+    ensures there { slice_get courses.old at ≡ Some result }
+    ensures others { courses.new ≡ slice_set courses.old at unbegun }
+{
+    std::mem::replace(courses.at_mut(at), Progress::new(alloc))
+}
+
+/// Puts a course into its place; its get does not wait from now on.
+fn put_course(courses: &mut Items<Progress>, at: usize, mut course: Progress)
+    requires { at < length courses.old }
+    ensures { courses.new ≡ slice_set courses.old at (rested course) }
+{
+    course.wait(None);
+    *courses.at_mut(at) = course;
+}
+
+/// The scripts of a phase at a manager, with room for more.
+#[derive(Drop)]
+pub struct ScriptRow<'a> {
+    scripts: Vec<HeldScript<'a>>,
+}
+
+impl<'a> Model for ScriptRow<'a> {
+    ghost use Rattle.std.specs.Prelude.{◌-◌, vec_capacity, vec_len};
+    ghost use Rattle.mq_shared.specs.Taking.{ScriptRowState};
+
+    ghost Value = { ScriptRowState };
+
+    ghost view = { λ s. record { scripts = s.scripts.items; room = vec_capacity s.scripts - vec_len s.scripts } };
+}
+
+impl<'a> ScriptRow<'a> {
+    /// No script, with room for so many.
+    ///
+    /// # Errors
+    ///
+    /// No memory.
+    fn new(alloc: Global, room: usize) -> Result<ScriptRow<'a>, NoMemory>
+        ensures { IfOk result (λ row. (row.scripts ≡ []) × (room ≤ row.room)) }
+    {
+        match Vec::with_capacity(alloc, room) {
+            Ok(scripts) => Ok(ScriptRow { scripts }),
+            Err(_) => Err(NoMemory),
+        }
+    }
+
+    /// One script more, in room that is there.
+    fn add(&mut self, script: HeldScript<'a>)
+        requires room { 0 < self.old.room }
+        ensures scripts { self.new.scripts ≡ self.old.scripts ++ script.entry ∷ [] }
+        ensures room { self.new.room + 1 ≡ self.old.room }
+    {
+        self.scripts.push_reserved(script);
+    }
+
+    /// The scripts, in order.
+    fn into_items(self) -> Items<HeldScript<'a>>
+        ensures { result ≡ self.entry.scripts }
+    {
+        Items::from_vec(self.scripts)
+    }
+}
+
+/// Room for so many scripts, at each of so many managers.
+///
+/// # Errors
+///
+/// No memory.
+pub fn room_for_scripts<'a>(
+    alloc: Global,
+    managers: usize,
+    scripts: usize,
+) -> Result<Items<ScriptRow<'a>>, NoMemory>
+    ensures all { IfOk result (λ rows. length rows ≡ managers) }
+    ensures each { IfOk result (λ rows. RowsWait scripts rows) }
+{
+    let mut rows = Items::new(alloc);
+    for _ in 0..managers {
+        let row = ScriptRow::new(alloc, scripts)?;
+        match rows.push(row) {
+            Ok(()) => {}
+            Err(_) => return Err(NoMemory),
+        }
+    }
+    Ok(rows)
+}
+
+/// The script at a place goes behind those of a manager, where it goes here.
+fn hold_one<'x>(
+    alloc: Global,
+    scenario: &'x Scenario,
+    scripts: &[u16],
+    manager: u16,
+    moment: u64,
+    at: usize,
+    courses: &mut Items<Progress>,
+    row: &mut ScriptRow<'x>,
+)
+    requires there { at < length scenario.now.scripts }
+    requires course { at < length courses.old }
+    requires few { at < 2 ^ 16 }
+    requires room { 0 < row.old.room }
+    ensures held { (p : terms.ScriptPart) (c : progress.Course) → slice_get scenario.now.scripts at ≡ Some p → slice_get courses.old at ≡ Some c → row.new.scripts ≡ last_if (is_here scripts.now manager at p) (record { script = at; part = p; moment = moment; course = c }) row.old.scripts }
+    ensures out { (p : terms.ScriptPart) → slice_get scenario.now.scripts at ≡ Some p → courses.new ≡ out_if (is_here scripts.now manager at p) at courses.old }
+    ensures room { row.old.room ≤ row.new.room + 1 }
+{
+    let part = &scenario.scripts.as_slice()[at];
+    let script = at as u16;
+    if !goes_here(part, scripts, script, manager) {
+        return;
+    }
+    let progress = take_course(alloc, courses, at);
+    row.add(HeldScript {
+        script,
+        part,
+        moment,
+        progress,
+    });
+}
+
+/// The scripts of a phase that are a manager's go into its row, in their order. It takes no memory.
+pub fn hold_scripts<'x>(
+    alloc: Global,
+    scenario: &'x Scenario,
+    scripts: &[u16],
+    manager: u16,
+    moment: u64,
+    courses: &mut Items<Progress>,
+    mut row: ScriptRow<'x>,
+) -> Items<HeldScript<'x>>
+    ghost b: { Begun }
+    requires none { row.scripts ≡ [] }
+    requires room { length scenario.now.scripts ≤ row.room }
+    requires long { length courses.old ≡ length scenario.now.scripts }
+    requires begins { Begins (record { scenario = scenario.now; scripts = scripts.now }) b }
+    requires moment { moment ≡ moment_or (slice_get b.nodes manager) }
+    requires courses { CoursesAt (record { scenario = scenario.now; scripts = scripts.now }) b manager courses.old }
+    ensures named { map script_name result ≡ named scenario.now scripts.now manager }
+    ensures each { EachIs (IsScriptIn b manager (entries_begun b manager)) result }
+    ensures long { length courses.new ≡ length courses.old }
+    ensures others { (k : ℕ) (p : terms.ScriptPart) → slice_get scenario.now.scripts k ≡ Some p → is_here scripts.now manager k p ≡ false → slice_get courses.new k ≡ slice_get courses.old k }
+{
+    for at in 0..scenario.scripts.len() {
+        hold_one(
+            alloc, scenario, scripts, manager, moment, at, courses, &mut row,
+        );
+    }
+    row.into_items()
+}
+
+/// Courses of scripts go back into their places; no get waits then. It takes no memory.
+pub fn put_courses(mut held: Items<HeldScript<'_>>, courses: &mut Items<Progress>)
+    requires { (i : ℕ) (s : ScriptState) → slice_get held i ≡ Some s → s.script < length courses.old }
+    ensures { courses.new ≡ put_all held.entry courses.old }
+{
+    while let Some(script) = held.pop() {
+        let HeldScript {
+            script: at,
+            part: _,
+            moment: _,
+            progress,
+        } = script;
+        put_course(courses, usize::from(at), progress);
+    }
+}
