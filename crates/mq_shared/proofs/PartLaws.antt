@@ -442,3 +442,11 @@ joined_more p ls k long cs ds lt h x =
 
 pub joined_all : (p : Passed) (ls : List CableLine) (n long : ℕ) (cs : List CableState) → length ls ≤ n → SoFar p ls n long cs → AreJoined ls (done_in p) cs
 joined_all p ls n long cs past h k l c line found = let lt = within ls k l line in h.joined k l c (omega (arith, past, lt)) line found
+
+-- one row more, with its room
+pub rows_room : (room : ℕ) (rows : List EndRowState) (r : EndRowState) → EachIs (λ (x : EndRowState). (x.ends ≡ []) × (room ≤ x.room)) rows → (r.ends ≡ []) × (room ≤ r.room) → EachIs (λ (x : EndRowState). (x.ends ≡ []) × (room ≤ x.room)) (rows ++ r ∷ [])
+rows_room room rows r h p i x f =
+    ⊎_elim
+    (λ (q : slice_get rows i ≡ Some x). h i x q)
+    (λ (q : (i ≡ length rows) × (r ≡ x)). subst (λ (y : EndRowState). (y.ends ≡ []) × (room ≤ y.room)) q.1 p)
+    (at_end rows r x i f)
