@@ -10,6 +10,7 @@ mod opening;
 mod parting;
 mod phasing;
 mod sharing;
+mod sending;
 mod trying;
 
 pub use phasing::phase;

@@ -1,6 +1,7 @@
-use Rattle.std.proofs.Common.{◌≡◌, ◌≤◌, ◌*◌, ◌++◌, ◌∷◌, [], List, sym, subst, rules}
+use Rattle.std.proofs.Common.{◌≡◌, ◌≤◌, ◌*◌, ◌++◌, ◌∷◌, [], List, length, sym, ap, subst, arith, rules}
 use Rattle.mq_shared.specs.Held.{EachIs}
 use Rattle.mq_shared.specs.Parting.{EndRowState}
+use Rattle.mq_shared.proofs.PlaceLaws.{long_snoc}
 use Rattle.mq_shared.proofs.PartLaws.{rows_room}
 use Rattle.mq_shared.proofs.parting.room_for_ends.Goals as goal
 
@@ -11,6 +12,6 @@ loop-preserved g c =
     let none : row.ends ≡ [] = search rules in
     let wide : 2 * c.args.cables ≤ row.room = search rules in
     record {
-      long = search rules;
+      long = omega (arith, ap (λ (l : List EndRowState). length l) grown, long_snoc c.loop.rows row, c.loop.invariant.long);
       each = subst (λ (l : List EndRowState). EachIs (λ (x : EndRowState). (x.ends ≡ []) × (2 * c.args.cables ≤ x.room)) l) (sym grown) (rows_room (2 * c.args.cables) c.loop.rows row c.loop.invariant.each (none, wide));
     }
