@@ -10,7 +10,6 @@ mod opening;
 mod parting;
 mod phasing;
 mod sharing;
-mod sending;
 mod trying;
 
 pub use phasing::phase;
