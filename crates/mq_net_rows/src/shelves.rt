@@ -1,12 +1,12 @@
 //! The rows of one manager's queues, found by their idents.
-ghost use Rattle.std.specs.Prelude.{◌≡◌, ◌<◌, ◌∷◌, [], ◌++◌, ◌||◌, not, is_some, length, position, slice_get, option_copied, OnOk, OnErr, IfOk};
+ghost use Rattle.std.specs.Prelude.{◌≡◌, ◌<◌, ◌∷◌, [], ◌++◌, ◌||◌, not, is_some, length, position, slice_get, option_copied, OnOk, IfOk};
 ghost use Rattle.std.specs.Str.{bytes_eq};
 ghost use Rattle.mq_calls.specs.declared.image.Shelf.{Shelf};
 ghost use Rattle.mq_queue.specs.declared.row.Row.{Row};
 ghost use Rattle.mq_queue.specs.Rows.{has_ident, is_persistent};
 ghost use Rattle.mq_calls.specs.Changes.{new_row};
 ghost use Rattle.mq_spec_network.specs.Ledger.{put_in, row_in, is_one_of, leave_queues, change_at};
-ghost use Rattle.mq_net_rows.specs.Stored.{queues_find, leave_some, seat_on, put_row, put_rows, AreInLanes, AreSorted};
+ghost use Rattle.mq_net_rows.specs.Stored.{queues_find, leave_some, put_row, put_rows, AreInLanes, AreSorted};
 
 use crate::copies::copy_shelves;
 use crate::homes::{IdentKey, drop_home, home_of, note_home};

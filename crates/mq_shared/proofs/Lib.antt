@@ -19,3 +19,5 @@ pub mod BegunLaws
 pub mod OutLaws
 pub mod TakeLaws
 pub mod RanLaws
+pub mod OverLaws
+pub mod PartLaws

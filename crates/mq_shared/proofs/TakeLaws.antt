@@ -6,18 +6,20 @@ use Rattle.mq_spec_node.specs.Terms.{Entry, ScriptPart}
 use Rattle.mq_spec_node.specs.Words.{Grows}
 use Rattle.mq_spec_network.specs.Tasks.{Trying}
 use Rattle.mq_progress.specs.Course.{Course}
-use Rattle.mq_events.specs.States.{NodeState, value_of}
+use Rattle.mq_events.specs.States.{IsKept, NodeState, value_of}
 use Rattle.mq_acts.specs.Serving.{IsDone}
 use Rattle.mq_acts.specs.Restarts.{StaysOwn}
 use Rattle.mq_shared.specs.Took.{EndState}
-use Rattle.mq_shared.specs.Held.{Begun, Held, Kept, ScriptState, entries_begun, entries_or, script_name}
+use Rattle.mq_shared.specs.Held.{Begun, EachIs, EndsApart, Held, IsScriptIn, Kept, ScriptState, entries_begun, entries_or, script_name}
+use Rattle.mq_shared.specs.Parting.{AreEndsAt, ends_named, none_since}
 use Rattle.mq_shared.specs.Phasing.{IsCourse, entries_in, tries_in}
 use Rattle.mq_shared.specs.Sharing.{among, is_here, named, named_from, put_all, rested}
 use Rattle.mq_shared.specs.Taking.{AreBack, AreDone, AreOut, Asked, Begins, CoursesAt, CoursesBelow, IsOut, NodesWait, OthersStay, OwnOut}
 use Rattle.mq_shared.proofs.KeptLaws.{grown_entries}
+use Rattle.mq_shared.proofs.BegunLaws.{kept_begun}
 use Rattle.mq_shared.proofs.OutLaws.{course_back}
 use Rattle.mq_shared.proofs.ShareLists.{are_same, at_front, at_more, itself, last_at, less, long_more, mem_any, mem_at, past, so_both, some_is, there, true_or_false, under_or_not}
-use Rattle.mq_shared.proofs.ShareLaws.{begins_tries, by_at, mem_try, named_has, put_here, put_long, put_other}
+use Rattle.mq_shared.proofs.ShareLaws.{begins_tries, by_at, mem_try, named_has, put_here, put_long, put_other, scripts_apart}
 
 -- PLACES
 pub each_more : {A : Type 0} (P : ℕ → A → Type 0) (xs ys : List A) (x : A) → ys ≡ xs ++ x ∷ [] → P (length xs) x → ((m : ℕ) (y : A) → slice_get xs m ≡ Some y → P m y) → (m : ℕ) (y : A) → slice_get ys m ≡ Some y → P m y
@@ -151,3 +153,24 @@ own_more b ns new_ns n more one own = each_more (λ m x. StaysOwn (entries_begun
 
 pub done_more : (ns new_ns : List NodeState) (n : NodeState) → new_ns ≡ ns ++ n ∷ [] → IsDone n → AreDone ns → AreDone new_ns
 done_more ns new_ns n more one done = each_more (λ m x. IsDone x) ns new_ns n more one done
+
+-- a manager's node goes under its lock
+pub lock_kept : (a : Asked) (b : Begun) (m : ℕ) (n : NodeState) (es : List EndState) (ss : List ScriptState) → Begins a b → slice_get b.nodes m ≡ Some n → AreEndsAt b none_since (ends_named a.scenario.cables) m es → EndsApart es → map script_name ss ≡ named a.scenario a.scripts m
+    → EachIs (IsScriptIn b m (entries_begun b m)) ss → Kept b (record { manager = m; node = n; ends = es; scripts = ss; wants = false })
+lock_kept a b m n es ss begins at ends apart names each =
+    let lt : m < length a.scenario.managers = (let l = less b.nodes m n at in omega (arith, l, begins.all)) in
+    kept_begun b m n es ss at (begins.ready m n at).0 ends.each apart
+    (ap (λ (x : Begun). slice_get x.ends m) begins.begun ∙ by_at (ends_named a.scenario.cables) (length a.scenario.managers) m lt ∙ ap Some (sym ends.names_are))
+    each (scripts_apart a.scripts m a.scenario.scripts ss names)
+    (ap (λ (x : Begun). slice_get x.scripts m) begins.begun ∙ by_at (named a.scenario a.scripts) (length a.scenario.managers) m lt ∙ ap Some (sym names))
+
+-- one more is taken out
+pub taken_on : (a : Asked) (b : Begun) (place : ℕ) (ns new_ns : List NodeState) (rows new_rows : List (List EndState)) (cs new_cs first : List Course) (n : NodeState) (es : List EndState) (ss : List ScriptState) (wants : Bool) → Begins a b → place ≡ length ns
+    → Kept b (record { manager = place; node = n; ends = es; scripts = ss; wants = wants }) → IsKept n → new_ns ≡ ns ++ n ∷ [] → new_rows ≡ rows ++ es ∷ [] → length ns ≡ length rows → length cs ≡ length a.scenario.scripts → new_cs ≡ put_all ss cs
+    → AreOut b ns rows → OthersStay a first cs → AreBack a ns cs → AreOut b new_ns new_rows × OthersStay a first new_cs × AreBack a new_ns new_cs
+taken_on a b place ns new_ns rows new_rows cs new_cs first n es ss wants begins at kept history more more_rows same long put out others back =
+    let here : Kept b (record { manager = length ns; node = n; ends = es; scripts = ss; wants = wants }) = subst (λ (i : ℕ). Kept b (record { manager = i; node = n; ends = es; scripts = ss; wants = wants })) at kept in (
+      out_more b ns new_ns rows new_rows n es more more_rows same (record { scripts = ss; wants = wants; kept = here; history = history }) out,
+      others_out a b (length ns) n es ss wants begins here first cs new_cs put others,
+      back_out a b (length ns) n es ss wants begins here ns new_ns cs new_cs more refl long put back,
+    )
