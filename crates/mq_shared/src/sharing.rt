@@ -139,7 +139,7 @@ pub fn lock_all<'x, P: PhaseName, D: Disk, R: Wait>(
     requires long { length courses.old ≡ length scenario.now.scripts }
     requires courses { CoursesBelow (record { scenario = scenario.now; scripts = scripts.now }) P.begun (length nodes) courses.old }
     requires room { vec_len locks + length nodes ≤ vec_capacity locks }
-    ensures all { vec_len result ≡ vec_len locks + length nodes }
+    ensures all { vec_len result ≡ vec_len locks.entry + length nodes }
     ensures long { length courses.new ≡ length courses.old }
     ensures others { OthersStay (record { scenario = scenario.now; scripts = scripts.now }) courses.old courses.new }
 {
@@ -196,7 +196,7 @@ pub fn take_all<'x, P: PhaseName, D: Disk, R: Wait>(
     requires none { (nodes.old.items ≡ []) × (ends.old.items ≡ []) }
     requires room { (vec_len locks ≤ vec_capacity nodes.old) × (vec_len locks ≤ vec_capacity ends.old) }
     requires long { length courses.old ≡ length a.scenario.scripts }
-    ensures all { (length nodes.new.items ≡ vec_len locks) × (length ends.new.items ≡ vec_len locks) }
+    ensures all { (length nodes.new.items ≡ vec_len locks.entry) × (length ends.new.items ≡ vec_len locks.entry) }
     ensures out { AreOut P.begun nodes.new.items ends.new.items }
     ensures own { D.tells → OwnOut P.begun nodes.new.items }
     ensures done { (result ≡ false) → AreDone nodes.new.items }
