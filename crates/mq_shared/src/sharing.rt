@@ -158,7 +158,7 @@ pub fn lock_all<'x, P: PhaseName, D: Disk, R: Wait>(
 
 /// Takes a node out of its lock. Each lock has its own node; where one had another's, this would wait for ever.
 fn take_one<'x, P: PhaseName, D: Disk, R: Wait>(
-    rt: &R,
+    rt: &'x R,
     lock: Mutex<Locked<'x, P, D, R>>,
     place: usize,
 ) -> Unlocked<'x, D, R>
@@ -185,7 +185,7 @@ fn either(one: bool, other: bool) -> bool
 /// Takes all nodes out of their locks, the first one first, and puts the courses of scripts back: whether an event found no memory. It
 /// takes no memory.
 pub fn take_all<'x, P: PhaseName, D: Disk, R: Wait>(
-    rt: &R,
+    rt: &'x R,
     mut locks: Vec<Mutex<Locked<'x, P, D, R>>>,
     nodes: &mut Vec<Node<D>>,
     ends: &mut Vec<Items<HeldEnd<'x, R>>>,
