@@ -10,10 +10,10 @@ use Rattle.mq_shared.proofs.sharing.take_all.Goals as goal
 
 pub loop-lock-init : goal.loop-lock-init
 loop-lock-init g c =
-    let none = c.requires.1.0 in
+    let none = c.requires.1.1.1.1.0 in
     let empty = ap length none.0 in
     let empty_ends = ap length none.1 in
-    let room = c.requires.1.1.0 in
+    let room = c.requires.1.1.1.1.1.0 in
     record {
       count = omega (arith, empty);
       count_ends = omega (arith, empty_ends);
@@ -30,7 +30,7 @@ loop-lock-init g c =
 pub put_courses-requires : goal.put_courses-requires
 put_courses-requires g c =
     let r = c.take_one-node.result in
-    scripts_there g.a g.P.PhaseName.begun c.len.result r.node r.ends r.scripts r.wants c.requires.0 c.take_one-node.ensures.kept c.loop-lock.courses (c.loop-lock.invariant.long ∙ c.requires.1.1.1)
+    scripts_there g.a g.P.PhaseName.begun c.len.result r.node r.ends r.scripts r.wants c.requires.1.1.1.0 c.take_one-node.ensures.kept c.loop-lock.courses (c.loop-lock.invariant.long ∙ c.requires.1.1.1.1.1.1)
 
 pub loop-lock-preserved : goal.loop-lock-preserved
 loop-lock-preserved g c =
@@ -39,12 +39,12 @@ loop-lock-preserved g c =
     let r = c.take_one-node.result in
     let place : c.len.result ≡ length c.loop-lock.nodes.items = omega (arith, c.len.ensures, c.loop-lock.nodes.ok) in
     let same : length c.loop-lock.nodes.items ≡ length c.loop-lock.ends.items = omega (arith, h.count, h.count_ends) in
-    let long_old = h.long ∙ c.requires.1.1.1 in
+    let long_old = h.long ∙ c.requires.1.1.1.1.1.1 in
     let put = c.put_courses.ensures in
     let more = c.push_reserved.ensures.items in
     let more_ends = c.push_reserved-in-Some.ensures.items in
     let on = taken_on g.a b c.len.result c.loop-lock.nodes.items c.push_reserved.new.self.items c.loop-lock.ends.items c.push_reserved-in-Some.new.self.items c.loop-lock.courses c.put_courses.new.courses c.args.courses.now r.node r.ends r.scripts r.wants
-        c.requires.0 place c.take_one-node.ensures.kept c.take_one-node.ensures.history more more_ends same long_old put h.out h.others h.back in
+        c.requires.1.1.1.0 place c.take_one-node.ensures.kept c.take_one-node.ensures.history more more_ends same long_old put h.out h.others h.back in
     let one = longer c.loop-lock.nodes.items c.push_reserved.new.self.items r.node more in
     let one_end = longer c.loop-lock.ends.items c.push_reserved-in-Some.new.self.items r.ends more_ends in
     record {
@@ -59,3 +59,6 @@ loop-lock-preserved g c =
       others = on.1;
       back = on.2;
     }
+
+pub drop-locks-requires-lives-T-Destruct : goal.drop-locks-requires-lives-T-Destruct
+drop-locks-requires-lives-T-Destruct g c κs within = within
