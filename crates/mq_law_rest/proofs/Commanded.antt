@@ -7,6 +7,9 @@ use Rattle.mq_calls.specs.declared.answers.Hconn.{Hconn}
 use Rattle.mq_calls.specs.declared.answers.Hobj.{Hobj}
 use Rattle.mq_sc_parse.specs.declared.command.Command.{Command}
 use Rattle.mq_history.specs.declared.acts.Act.TheVariants as acts
+use Rattle.mq_base.specs.Members.{Mem}
+use Rattle.mq_history.specs.declared.calls.Actor.{Actor}
+use Rattle.mq_history.specs.declared.calls.Actor.TheVariants as actors
 use Rattle.mq_history.specs.declared.calls.Call.{Call}
 use Rattle.mq_history.specs.declared.calls.Call.TheVariants as calls
 use Rattle.mq_history.specs.declared.calls.Entry.{Entry}
@@ -26,21 +29,20 @@ use Rattle.mq_history.specs.declared.scripts.ScriptLine.{ScriptLine}
 use Rattle.mq_history.specs.declared.scripts.ScriptLine.TheVariants as lines
 use Rattle.mq_nodes.specs.Texts.{AllFit, LineFits, StepFits}
 use Rattle.mq_spec_node.specs.Monitors.{begins as script_begun, call_of, is_opened, monitor_call, monitor_next}
-use Rattle.mq_spec_node.specs.Lines.{memory_by}
+use Rattle.mq_spec_node.specs.Lines.{call_after, left_after, lines_done, memory_by}
 use Rattle.mq_spec_node.specs.Node.{Monitor, Node}
-use Rattle.mq_spec_node.specs.Scripts.{Memory, line_call, until_of}
+use Rattle.mq_spec_node.specs.Scripts.{Memory, deadline, line_call, until_of, wait_of}
 use Rattle.mq_spec_network.specs.ScriptLines.{at_most, call_next, lines_left}
 use Rattle.mq_spec_network.specs.Turns.{Network, does, node_at, where_there}
-use Rattle.mq_spec_network.specs.Tasks.{Slot, Task, clocks_from, handle_with, obey_all, obey_section, run_script, serve_by, tasks_of, watch_by}
+use Rattle.mq_spec_network.specs.Tasks.{Slot, Task, Trying, clocks_from, finish, handle_with, obey_all, obey_section, run_script, serve_by, tasks_of, try_all, try_one, watch_by}
 use Rattle.mq_spec_network.specs.Tasks.Slot.{Receives, Sends, TimesOut}
 use Rattle.mq_spec_network.specs.Tasks.Task.{Ask, Script, Lines, Phase, Pump, Handle, Serve, Watch, Open, Restart}
-use Rattle.mq_spec_network.specs.Steps.{Goes, Moves, Passes, PumpSkips, PumpTakes, begun, gives_up, is_cut, left_by, next_round, once_more, opens, pump_on, scripts_at}
+use Rattle.mq_spec_network.specs.Steps.{Goes, InPhase, Moves, Passes, PhaseLine, PumpSkips, PumpTakes, begun, gives_up, is_cut, left_by, next_round, once_more, opens, pump_on, scripts_at}
 use Rattle.mq_spec_network.specs.Steps.Goes.{stays, moves, serves, passes}
 use Rattle.mq_spec_network.specs.Lawful.{Went}
 use Rattle.mq_spec_network.specs.Lawful.Went.{begins, ends}
 use Rattle.mq_law_node.proofs.Named.{bool_case}
-use Rattle.mq_law_rest.specs.Aside.{IsNoPhase, NonePhase}
-use Rattle.mq_law_rest.specs.Values.{AllCallTexts, AllLineTexts, AllTextTasks, IsTextCall, IsTextOf, IsTextTask}
+use Rattle.mq_law_rest.specs.Values.{AllCallTexts, AllLineTexts, AllTextTasks, ArePartTexts, IsTextCall, IsTextOf, IsTextTask}
 use Rattle.mq_law_rest.proofs.Steps.{goes_grew, some_is, none_some, went_grew}
 
 -- WHAT A SCENARIO HAS
@@ -116,19 +118,35 @@ serve_texts : (k n : ℕ) (x : Option MonitorLine) → AllTextTasks (serve_by k 
 serve_texts k n None = tt
 serve_texts k n (Some l) = (tt, tt)
 
-step_texts : (w : Network) (step : Step) → AllFit IsTextOf w.scenario → IsNoPhase step → StepFits IsTextOf step → AllTextTasks (tasks_of w step)
-step_texts w (steps.Obey k) fit o h = section_texts w.scenario k (slice_get w.scenario.sections k) fit refl
-step_texts w (steps.Do m c) fit o h = (h, tt)
-step_texts w (steps.Run k n) fit o h = run_texts w.scenario k n (slice_get w.scenario.scripts k) fit refl
-step_texts w (steps.Phase ks) fit o h = absurd o
-step_texts w (steps.Pump n) fit o h = (tt, tt)
-step_texts w (steps.Handle k n) fit o h = handle_texts k n (slice_get w.scenario.rules k)
-step_texts w (steps.Watch k) fit o h = watch_texts k (slice_get w.scenario.monitors k)
-step_texts w (steps.Serve k n) fit o h = serve_texts k n (slice_get w.scenario.monitors k)
-step_texts w (steps.Crash m) fit o h = (tt, tt)
-step_texts w (steps.Restart m) fit o h = (tt, tt)
-step_texts w (steps.Cut m k) fit o h = (tt, tt)
-step_texts w (steps.Clock ms) fit o h = clocks_texts 0 ms w.scenario.managers
+parts_append : (ts us : List Trying) → ArePartTexts ts → ArePartTexts us → ArePartTexts (ts ++ us)
+parts_append [] us h g = g
+parts_append (t ∷ ts) us h g = (h.0, parts_append ts us h.1 g)
+
+try_texts : (w : Network) (k : ℕ) (x : Option ScriptPart) → AllFit IsTextOf w.scenario → slice_get w.scenario.scripts k ≡ x → ArePartTexts (try_one w k x)
+try_texts w k None fit e = tt
+try_texts w k (Some p) fit e = (line_texts p.lines (all_at (λ (q : ScriptPart). All (LineFits IsTextOf) q.lines) w.scenario.scripts k p fit.scripts e), tt)
+
+tries_texts : (w : Network) (ks : List ℕ) → AllFit IsTextOf w.scenario → ArePartTexts (try_all w ks)
+tries_texts w [] fit = tt
+tries_texts w (k ∷ ks) fit = parts_append (try_one w k (slice_get w.scenario.scripts k)) (try_all w ks) (try_texts w k (slice_get w.scenario.scripts k) fit refl) (tries_texts w ks fit)
+
+finish_texts : (ts : List Trying) → ArePartTexts ts → AllTextTasks (finish ts)
+finish_texts [] h = tt
+finish_texts (t ∷ ts) h = (h.0, finish_texts ts h.1)
+
+step_texts : (w : Network) (step : Step) → AllFit IsTextOf w.scenario → StepFits IsTextOf step → AllTextTasks (tasks_of w step)
+step_texts w (steps.Obey k) fit h = section_texts w.scenario k (slice_get w.scenario.sections k) fit refl
+step_texts w (steps.Do m c) fit h = (h, tt)
+step_texts w (steps.Run k n) fit h = run_texts w.scenario k n (slice_get w.scenario.scripts k) fit refl
+step_texts w (steps.Phase ks) fit h = (tries_texts w ks fit, finish_texts (try_all w ks) (tries_texts w ks fit))
+step_texts w (steps.Pump n) fit h = (tt, tt)
+step_texts w (steps.Handle k n) fit h = handle_texts k n (slice_get w.scenario.rules k)
+step_texts w (steps.Watch k) fit h = watch_texts k (slice_get w.scenario.monitors k)
+step_texts w (steps.Serve k n) fit h = serve_texts k n (slice_get w.scenario.monitors k)
+step_texts w (steps.Crash m) fit h = (tt, tt)
+step_texts w (steps.Restart m) fit h = (tt, tt)
+step_texts w (steps.Cut m k) fit h = (tt, tt)
+step_texts w (steps.Clock ms) fit h = clocks_texts 0 ms w.scenario.managers
 
 begun_texts : (s : Scenario) (x : Option ℕ) → AllFit IsTextOf s → AllTextTasks (begun s x)
 begun_texts s None fit = tt
@@ -172,7 +190,7 @@ left_texts w (Ask at actor call) m e fit a = tt
 left_texts w (Script k p tried most) m e fit a = tt
 left_texts w (Lines k p tried []) m e fit a = tt
 left_texts w (Lines k p tried (l ∷ ls)) m e fit a = (a.1, tt)
-left_texts w (Phase ts) m e fit a = absurd a
+left_texts w (Phase ts) m e fit a = (a, tt)
 left_texts w (Pump zero slot cable any) m e fit a = tt
 left_texts w (Pump (suc left) slot cable any) m e fit a = pump_texts left slot cable true
 left_texts w (Handle k at zero) m e fit a = tt
@@ -196,7 +214,7 @@ next_texts w (Ask at actor call) next a p = absurd p
 next_texts w (Script k part tried most) next a p = texts_are next _ p (lines_most most (lines_left w k part) (lines_drop _ part.lines a), tt)
 next_texts w (Lines k part tried []) next a p = texts_are next [] p tt
 next_texts w (Lines k part tried (l ∷ ls)) next a p = texts_are next _ p.behind (texts_append _ _ (clocks_texts 0 p.by w.scenario.managers) (called_text part.label (memory_by k part (w.done part.manager)) (Some p.until) l a.0, (a.1, tt)))
-next_texts w (Phase ts) next a p = absurd a
+next_texts w (Phase ts) next a p = texts_are next [] p tt
 next_texts w (Pump zero slot cable any) next a p = texts_are next [] p tt
 next_texts w (Pump (suc left) slot cable any) next a (inl p) = texts_are next [] p.1 tt
 next_texts w (Pump (suc left) slot cable any) next a (inr p) = skips_texts w (suc left) slot cable any (slice_get w.scenario.cables cable) next p
@@ -237,12 +255,32 @@ served_text : (e : Entry) (k : ℕ) (o : Option Node) → Some e.call ≡ where_
 served_text e k None is = absurd (no_call e.call is)
 served_text e k (Some n) is = monitored_text e _ is
 
+-- in a phase
+part_texts : (ts : List Trying) (t : Trying) → ArePartTexts ts → Mem t ts → AllLineTexts t.part.lines
+part_texts [] t h m = absurd m
+part_texts (x ∷ ts) t h (inl q) = subst (λ (y : Trying). AllLineTexts y.part.lines) (sym q) h.0
+part_texts (x ∷ ts) t h (inr n) = part_texts ts t h.1 n
+
+phase_line_text : (k : ℕ) (t : Trying) (done : List Entry) (ls : List ScriptLine) (m : ℕ) (e : Entry) → AllLineTexts ls → PhaseLine k t done ls m e → IsTextCall e.call
+phase_line_text k t done [] m e h mv = absurd mv
+phase_line_text k t done (l ∷ ls) m e h mv = of_call e (call_after k t.part done (deadline t.moment (wait_of l)) l) mv.1.2 (called_text t.part.label (memory_by k t.part done) (deadline t.moment (wait_of l)) l h.0)
+
+phased_text : (ts : List Trying) (done : List Entry) (m : ℕ) (e : Entry) (actor : Actor) → ArePartTexts ts → InPhase ts done m e actor → IsTextCall e.call
+phased_text ts done m e (actors.Script k) h mv = phase_line_text k mv.0 done (left_after k mv.0.part done) m e (lines_drop (lines_done k done) mv.0.part.lines (part_texts ts mv.0 h mv.1)) mv.2
+phased_text ts done m e (actors.Sender cable) h (inl is) = of_call e calls.Turn is tt
+phased_text ts done m e (actors.Sender cable) h (inr is) = of_call e calls.Timeout is tt
+phased_text ts done m e (actors.Receiver cable) h mv = of_call e calls.Turn mv tt
+phased_text ts done m e (actors.Handler k) h mv = absurd mv
+phased_text ts done m e (actors.Monitor k) h mv = absurd mv
+phased_text ts done m e actors.Operator h mv = absurd mv
+phased_text ts done m e actors.Clock h mv = absurd mv
+
 moved_text : (w : Network) (t : Task) (m : ℕ) (e : Entry) → IsTextTask t → Moves w t m e → IsTextCall e.call
 moved_text w (Ask at actor call) m e a mv = of_call e call mv.2 a
 moved_text w (Script k part tried most) m e a mv = absurd mv
 moved_text w (Lines k part tried []) m e a mv = absurd mv
 moved_text w (Lines k part tried (l ∷ ls)) m e a mv = of_call e (call_next w k part (until_of e.call) l) mv.is.2 (called_text part.label (memory_by k part (w.done part.manager)) (until_of e.call) l a.0)
-moved_text w (Phase ts) m e a mv = absurd a
+moved_text w (Phase ts) m e a mv = phased_text ts (w.done m) m e e.actor a mv
 moved_text w (Pump zero slot cable any) m e a mv = absurd mv
 moved_text w (Pump (suc left) slot cable any) m e a mv = taken_text w slot cable (slice_get w.scenario.cables cable) m e mv
 moved_text w (Handle k at zero) m e a mv = absurd mv
@@ -276,10 +314,6 @@ goes_texts w0 all fit (serves w ts m e go call) a h =
 goes_texts w0 all fit (passes w t next ts go served q) a h =
     let r = goes_texts w0 all fit go a h in (texts_append next ts (next_texts w t next r.0.0 q) r.0.1, r.1)
 
-none_front : (xs : List Step) (x : Step) → NonePhase (xs ++ x ∷ []) → NonePhase xs × IsNoPhase x
-none_front [] x h = (tt, h.0)
-none_front (y ∷ xs) x h = let r = none_front xs x h.1 in ((h.0, r.0), r.1)
-
 abbrev pub AllStepTexts : List Step → Type 0
 AllStepTexts [] = Unit {0}
 AllStepTexts (x ∷ xs) = StepFits IsTextOf x × AllStepTexts xs
@@ -292,10 +326,9 @@ pub all_steps : (xs ys : List Step) → All (StepFits IsTextOf) (xs ++ ys) → A
 all_steps [] ys h = tt
 all_steps (x ∷ xs) ys h = (All-head (StepFits IsTextOf) x (xs ++ ys) h, all_steps xs ys (All-tail (StepFits IsTextOf) x (xs ++ ys) h))
 
-pub went_texts : (w0 : Network) {whole : List Step} {marks : ℕ → List Mark} {w : Network} → AllFit IsTextOf w0.scenario → Went w0 whole marks w → NonePhase whole → AllStepTexts whole → TextCalls w0 → TextCalls w
-went_texts w0 fit begins none all h = h
-went_texts w0 fit (ends whole marks before w step went goes served) none all h =
-    let a = none_front whole step none in
+pub went_texts : (w0 : Network) {whole : List Step} {marks : ℕ → List Mark} {w : Network} → AllFit IsTextOf w0.scenario → Went w0 whole marks w → AllStepTexts whole → TextCalls w0 → TextCalls w
+went_texts w0 fit begins all h = h
+went_texts w0 fit (ends whole marks before w step went goes served) all h =
     let b = steps_front whole step all in
     (goes_texts before (tasks_of before step) (subst (AllFit IsTextOf) (sym (went_grew w0 went).scenario) fit) goes
-    (step_texts before step (subst (AllFit IsTextOf) (sym (went_grew w0 went).scenario) fit) a.1 b.1) (went_texts w0 fit went a.0 b.0 h)).1
+    (step_texts before step (subst (AllFit IsTextOf) (sym (went_grew w0 went).scenario) fit) b.1) (went_texts w0 fit went b.0 h)).1

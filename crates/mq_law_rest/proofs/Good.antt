@@ -43,8 +43,9 @@ use Rattle.mq_law_pump.proofs.Ways.{frames_of, lies, offer_if}
 use Rattle.mq_law_run.specs.Run.{Stand, far_at, near_at}
 use Rattle.mq_law_run.proofs.Acting.{cable_is, some_at}
 use Rattle.mq_law_run.proofs.Lining.{mem_at}
-use Rattle.mq_law_rest.specs.Aside.{AllWithin}
+use Rattle.mq_law_rest.specs.Within.{AllWithin}
 use Rattle.mq_law_rest.specs.Rests.{AllMayRest, AllUp, AreSome, EndsAre, IsPeaceful, MayRest}
+use Rattle.mq_law_rest.proofs.Calm.{IsCalm, calm_of}
 use Rattle.mq_law_rest.proofs.Fitting.{fit_at, sends_there, takes_there}
 use Rattle.mq_law_rest.proofs.Standing.{stand_whole}
 use Rattle.mq_law_rest.proofs.Steps.{none_some, some_is}
@@ -209,8 +210,11 @@ restful s hs premises calm g within rests k c is = record {
     there : Node
     there = after far (entries_at hs c.receiver)
 
-    z : Stand s hs calm.story
-    z = stand_whole s hs premises calm
+    c0 : IsCalm s hs
+    c0 = calm_of s hs premises calm
+
+    z : Stand s hs c0.story
+    z = stand_whole s hs premises c0
 
     x : Channel
     x = z.xs c.sender c.channel
@@ -218,19 +222,19 @@ restful s hs premises calm g within rests k c is = record {
     facts : Facts x (z.ys c.sender c.channel)
     facts = (z.lines k c is).facts
 
-    same_near : node_after s c.sender calm.story g1.0 ≡ here
-    same_near = ap (after near) (calm.is.parts c.sender)
+    same_near : node_after s c.sender c0.story g1.0 ≡ here
+    same_near = ap (after near) (c0.is.parts c.sender)
 
-    same_far : node_after s c.receiver calm.story g2.0 ≡ there
-    same_far = ap (after far) (calm.is.parts c.receiver)
+    same_far : node_after s c.receiver c0.story g2.0 ≡ there
+    same_far = ap (after far) (c0.is.parts c.receiver)
 
     sends : SendsAs (near_at s k c) here x
     sends = subst (λ (n : Node). SendsAs (near_at s k c) n x) same_near
-        (sends_there s hs calm.story c.sender g1.0 z k c is refl g1.1 (subst (λ (n : Node). n.manager.running ≡ Up) (sym same_near) (g.up c.sender near near_is)))
+        (sends_there s hs c0.story c.sender g1.0 z k c is refl g1.1 (subst (λ (n : Node). n.manager.running ≡ Up) (sym same_near) (g.up c.sender near near_is)))
 
     takes : TakesAs (far_at s k c) there x
     takes = subst (λ (n : Node). TakesAs (far_at s k c) n x) same_far
-        (takes_there s hs calm.story c.receiver g2.0 z k c is refl g2.1 (subst (λ (n : Node). n.manager.running ≡ Up) (sym same_far) (g.up c.receiver far far_is)))
+        (takes_there s hs c0.story c.receiver g2.0 z k c is refl g2.1 (subst (λ (n : Node). n.manager.running ≡ Up) (sym same_far) (g.up c.receiver far far_is)))
 
     sender : SenderEnd
     sender = sender_of (near_at s k c) x.sender
@@ -249,6 +253,6 @@ restful s hs premises calm g within rests k c is = record {
     below : (f : Frame) → Offers (by (is_sender k) (entries_at hs c.sender)) f → kind_is_bind f.kind ≡ true → is_running x.sender.state ≡ true → f.session ≤ x.sender.kept.session
     below f o bind on =
         let m = by_mem (is_sender k) (entries_at hs c.sender) o.0 o.1 in
-        let told_ : Mem (record { manager = c.sender; entry = o.0 }) calm.story = line_mem c.sender calm.story o.0 (subst (λ (es : List Entry). Mem o.0 es) (sym (calm.is.parts c.sender)) m.0) in
+        let told_ : Mem (record { manager = c.sender; entry = o.0 }) c0.story = line_mem c.sender c0.story o.0 (subst (λ (es : List Entry). Mem o.0 es) (sym (c0.is.parts c.sender)) m.0) in
         subst (λ (n : ℕ). f.session ≤ n) (running_session x (z.ys c.sender c.channel) facts on)
         (bind_below x (z.ys c.sender c.channel) facts f ((z.offered k c is).out o.0 f told_ (sender_is k o.0.actor m.1) o.2) bind)

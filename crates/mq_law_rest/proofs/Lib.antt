@@ -1,8 +1,9 @@
 pub mod Steps
 pub mod Places
 pub mod Within
-pub mod Carried
 pub mod SoFar
+pub mod Woven
+pub mod Calm
 pub mod Standing
 pub mod Fitting
 pub mod Good

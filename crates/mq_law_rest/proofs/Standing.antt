@@ -1,5 +1,5 @@
 -- At each front of a manager's history the network's facts hold, where the story of the run has no conflict.
-use Rattle.std.proofs.Common.{ℕ, ◌≡◌, Bool, List, [], ◌∷◌, ◌++◌, refl, ap, sym, subst, ◌∙◌, inl, inr}
+use Rattle.std.proofs.Common.{ℕ, ◌≡◌, Bool, List, [], ◌∷◌, ◌++◌, refl, ap, sym, subst, ◌∙◌, append_assoc}
 use Rattle.std.specs.Prelude.{◌==◌, if◌then◌else◌, ◌<◌, Some, slice_get}
 use Rattle.mq_sc_parse.specs.declared.command.Command.TheVariants as lines
 use Rattle.mq_history.specs.declared.acts.Act.TheVariants as acts
@@ -10,10 +10,10 @@ use Rattle.mq_history.specs.declared.calls.Call.TheVariants as calls
 use Rattle.mq_history.specs.declared.calls.Entry.{Entry}
 use Rattle.mq_history.specs.declared.history.History.{History}
 use Rattle.mq_history.specs.declared.scenario.Scenario.{Scenario}
-use Rattle.mq_spec_network.specs.Conflict.{Deed as ToldDeed, NoConflict, deeds, deeds_in}
+use Rattle.mq_spec_network.specs.Conflict.{Deed as ToldDeed, NoConflict, deeds}
 use Rattle.mq_spec_network.specs.Promised.{Premises}
 use Rattle.mq_spec_network.specs.Story.{IsStory, Line, Mem, entries_at, entries_or, part}
-use Rattle.mq_law_node.proofs.Named.{bool_case, nat_self}
+use Rattle.mq_law_node.proofs.Named.{bool_case}
 use Rattle.mq_law_one.specs.Alone.{IsOwnCall}
 use Rattle.mq_law_one.proofs.Running.{Told_, none_more, one_more, told_of}
 use Rattle.mq_law_run.specs.Run.{HaveSenders, Moves, Stand}
@@ -24,6 +24,7 @@ use Rattle.mq_law_run.proofs.Owning.{own_moves}
 use Rattle.mq_law_run.proofs.Rising.{crash_moves, restart_moves}
 use Rattle.mq_law_run.proofs.Standing.{keeps_on}
 use Rattle.mq_law_rest.specs.Rests.{IsPeaceful}
+use Rattle.mq_law_rest.proofs.Calm.{IsCalm, calm_of, deeds_both, mem_first, mem_of_part}
 
 pub have_senders : (s : Scenario) (hs : List History) → Premises s hs → HaveSenders s hs
 have_senders s hs premises k there = some_at hs k.sender (subst (λ (l : ℕ). k.sender < l) (sym premises.joined.all) (cable_is s s.cables k premises.scenario.cables there).sender)
@@ -64,23 +65,18 @@ entry_moves s hs wide p rest es x z t premises story peace split = go x.entry.ac
     go actors.Clock calls.Turn f g = own actors.Clock calls.Turn f g tt
 
 -- ALL PREFIXES
-behind : {A : Type 0} (xs ys zs : List A) → (xs ++ ys) ++ zs ≡ xs ++ (ys ++ zs)
-behind [] ys zs = refl
-behind (x ∷ xs) ys zs = ap (λ ws. x ∷ ws) (behind xs ys zs)
-
-deeds_both : (xs ys : List Line) → deeds (xs ++ ys) ≡ deeds xs ++ deeds ys
-deeds_both [] ys = refl
-deeds_both (x ∷ xs) ys = ap (λ ds. deeds_in x.manager x.entry.effect.delta ++ ds) (deeds_both xs ys) ∙ sym (behind (deeds_in x.manager x.entry.effect.delta) (deeds xs) (deeds ys))
-
-stands : (s : Scenario) (hs : List History) (story before p rest : List Line) → Premises s hs → IsStory hs story → NoConflict s hs story → story ≡ before ++ (p ++ rest) → Stand s hs before → Stand s hs (before ++ p)
-stands s hs story before [] rest premises is peace split z = subst (Stand s hs) (sym (none_more before)) z
-stands s hs story before (x ∷ p) rest premises is peace split z =
+stands : (s : Scenario) (hs : List History) (story wide : List Line) (later : List ToldDeed) (before p rest : List Line) → Premises s hs → IsStory hs story → NoConflict s hs wide → deeds wide ≡ deeds story ++ later → story ≡ before ++ (p ++ rest)
+    → Stand s hs before → Stand s hs (before ++ p)
+stands s hs story wide later before [] rest premises is peace all split z = subst (Stand s hs) (sym (none_more before)) z
+stands s hs story wide later before (x ∷ p) rest premises is peace all split z =
     let here : IsStory hs (before ++ x ∷ (p ++ rest)) = subst (IsStory hs) split is in
     let t = told_of s hs before x (p ++ rest) premises here in
     let on : story ≡ (before ++ x ∷ []) ++ (p ++ rest) = split ∙ sym (one_more before x (p ++ rest)) in
-    let v = entry_moves s hs story before (p ++ rest) (deeds (p ++ rest)) x z t premises here peace (ap deeds on ∙ deeds_both (before ++ x ∷ []) (p ++ rest)) in
+    let so : deeds wide ≡ deeds (before ++ x ∷ []) ++ (deeds (p ++ rest) ++ later) =
+    all ∙ ap (λ ds. ds ++ later) (ap deeds on ∙ deeds_both (before ++ x ∷ []) (p ++ rest)) ∙ append_assoc (deeds (before ++ x ∷ [])) (deeds (p ++ rest)) later in
+    let v = entry_moves s hs wide before (p ++ rest) (deeds (p ++ rest) ++ later) x z t premises here peace so in
     subst (Stand s hs) (one_more before x p)
-    (stands s hs story (before ++ x ∷ []) p rest premises is peace on (keeps_on s hs before x t.h t.stamp z premises.scenario t.is t.tells t.own v))
+    (stands s hs story wide later (before ++ x ∷ []) p rest premises is peace all on (keeps_on s hs before x t.h t.stamp z premises.scenario t.is t.tells t.own v))
 
 -- THE PREFIX AT WHICH A MANAGER DID SO MUCH
 record Front (m : ℕ) (story : List Line) (front : List Entry) : Type 0 where
@@ -129,24 +125,15 @@ pub record StandAt (s : Scenario) (hs : List History) (m : ℕ) (front : List En
   pub did : part m prefix ≡ front
   pub told : (x : Line) → Mem x prefix → Mem x.entry (entries_at hs x.manager)
 
-mem_front : (x : Line) (xs ys : List Line) → Mem x xs → Mem x (xs ++ ys)
-mem_front x [] ys m = absurd m
-mem_front x (y ∷ xs) ys (inl e) = inl e
-mem_front x (y ∷ xs) ys (inr m) = inr (mem_front x xs ys m)
-
-mem_part : (x : Line) (p : List Line) → Mem x p → Mem x.entry (part x.manager p)
-mem_part x [] m = absurd m
-mem_part x (y ∷ p) (inl e) = subst (λ (b : Bool). Mem x.entry (if b then y.entry ∷ part x.manager p else part x.manager p)) (sym (ap (λ (z : Line). x.manager == z.manager) (sym e) ∙ nat_self x.manager)) (inl (ap (λ (z : Line). z.entry) e))
-mem_part x (y ∷ p) (inr m) = bool_case (x.manager == y.manager) (λ b. Mem x.entry (if b then y.entry ∷ part x.manager p else part x.manager p)) (λ z. inr (mem_part x p m)) (λ z. mem_part x p m)
-
 pub stand_at : (s : Scenario) (hs : List History) → Premises s hs → IsPeaceful s hs → (m : ℕ) (h : History) (front back : List Entry) → slice_get hs m ≡ Some h → h.entries ≡ front ++ back → StandAt s hs m front
-stand_at s hs premises calm m h front back is split =
+stand_at s hs premises peaceful m h front back is split =
+    let calm : IsCalm s hs = calm_of s hs premises peaceful in
     let r : Front m calm.story front = front_in m calm.story front back (calm.is.parts m ∙ ap entries_or is ∙ split) in record {
       prefix = r.before;
-      stand = stands s hs calm.story [] r.before r.rest premises calm.is calm.peace r.split (begins s hs premises);
+      stand = stands s hs calm.story calm.wide calm.later [] r.before r.rest premises calm.is calm.peace calm.split r.split (begins s hs premises);
       did = r.did;
-      told = λ x there. subst (λ (es : List Entry). Mem x.entry es) (calm.is.parts x.manager) (mem_part x calm.story (subst (Mem x) (sym r.split) (mem_front x r.before r.rest there)));
+      told = λ x there. subst (λ (es : List Entry). Mem x.entry es) (calm.is.parts x.manager) (mem_of_part x calm.story (subst (Mem x) (sym r.split) (mem_first x r.before r.rest there)));
     }
 
-pub stand_whole : (s : Scenario) (hs : List History) → Premises s hs → (calm : IsPeaceful s hs) → Stand s hs calm.story
-stand_whole s hs premises calm = stands s hs calm.story [] calm.story [] premises calm.is calm.peace (sym (none_more calm.story)) (begins s hs premises)
+pub stand_whole : (s : Scenario) (hs : List History) → Premises s hs → (calm : IsCalm s hs) → Stand s hs calm.story
+stand_whole s hs premises calm = stands s hs calm.story calm.wide calm.later [] calm.story [] premises calm.is calm.peace calm.split (sym (none_more calm.story)) (begins s hs premises)

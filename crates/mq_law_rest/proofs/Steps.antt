@@ -18,7 +18,8 @@ use Rattle.mq_spec_network.specs.Story.{entries_at, entries_or}
 use Rattle.mq_spec_network.specs.Lawful.{Went, mark_of, network_begun, node_begun}
 use Rattle.mq_spec_network.specs.Lawful.Went.{begins, ends}
 use Rattle.mq_law_node.proofs.Named.{bool_case}
-use Rattle.mq_law_rest.specs.Until.{IsPlace, entries_noted, entries_until, history_until, net_until, until}
+use Rattle.mq_nodes.specs.Carried.{entries_noted, entries_until, history_until, until}
+use Rattle.mq_law_rest.specs.Until.{IsPlace, net_until}
 
 pub some_is : {A : Type 0} (a b : A) → Some a ≡ Some b → a ≡ b
 some_is a b e = cc

@@ -32,7 +32,8 @@ use Rattle.mq_net_report.specs.Steps.{begin_of, end_of, in_step, is_turn, turns_
 use Rattle.mq_law_node.proofs.Named.{bool_case, nat_self, nat_yes}
 use Rattle.mq_law_ran.specs.Runs.{Left}
 use Rattle.mq_law_rest.specs.Rests.{PumpsTell}
-use Rattle.mq_law_rest.specs.Until.{IsPlace, IsStep, entries_noted, entries_until}
+use Rattle.mq_nodes.specs.Carried.{entries_noted, entries_until}
+use Rattle.mq_law_rest.specs.Until.{IsPlace, IsStep}
 use Rattle.mq_law_rest.proofs.Places.{step_of}
 use Rattle.mq_law_rest.proofs.Steps.{Grew, entries_at_mark, goes_grew, net_same, went_grew}
 

@@ -28,9 +28,9 @@ use Rattle.mq_law_events.specs.Tied.{IsTold}
 use Rattle.mq_law_image.specs.Values.{AreObjectTexts, IsChannelText, IsKindText, IsObjectText}
 use Rattle.mq_law_node.proofs.Named.{bool_case}
 use Rattle.mq_law_queued.specs.Queued.{HaveSome, IsKindSome}
-use Rattle.mq_law_rest.specs.Aside.{NonePhase}
 use Rattle.mq_law_rest.specs.Rests.{AreSome, IsPeaceful}
-use Rattle.mq_law_rest.specs.Until.{IsPlace, until}
+use Rattle.mq_nodes.specs.Carried.{until}
+use Rattle.mq_law_rest.specs.Until.{IsPlace}
 use Rattle.mq_law_rest.specs.Values.{AllCallTexts, AllCutTexts, AllTexts, AreTextCalls, IsTextCall, IsTextOf, IsTextual, OpenTexts}
 use Rattle.mq_law_rest.proofs.Commanded.{all_steps, went_texts}
 use Rattle.mq_law_rest.proofs.Defined.{story_textual, texts_there}
@@ -105,9 +105,9 @@ calls_mem [] e h m = absurd m
 calls_mem (x ∷ es) e h (inl q) = subst (λ (y : Entry). IsTextCall y.call) (sym q) h.0
 calls_mem (x ∷ es) e h (inr n) = calls_mem es e h.1 n
 
-pub calls_until : (s : Scenario) (hs : List History) (i : ℕ) (w : Network) → AllFit IsTextOf s → (p : IsPlace s hs i w) → NonePhase p.front → AreTextCalls (until i hs)
-calls_until s hs i w fit p none m e there =
-    calls_mem (w.done m) e (went_texts (network_begun s hs) fit p.went none (all_steps p.front p.rest (subst (All (StepFits IsTextOf)) p.parts fit.steps)) (λ j. tt) m) (subst (λ (es : List Entry). Mem e es) (entries_place s hs i w p m) there)
+pub calls_until : (s : Scenario) (hs : List History) (i : ℕ) (w : Network) → AllFit IsTextOf s → IsPlace s hs i w → AreTextCalls (until i hs)
+calls_until s hs i w fit p m e there =
+    calls_mem (w.done m) e (went_texts (network_begun s hs) fit p.went (all_steps p.front p.rest (subst (All (StepFits IsTextOf)) p.parts fit.steps)) (λ j. tt) m) (subst (λ (es : List Entry). Mem e es) (entries_place s hs i w p m) there)
 
 pub opens_until : (s : Scenario) (hs : List History) (i : ℕ) → OpenTexts s hs → OpenTexts s (until i hs)
 opens_until s hs i open_ = each_until (λ m h. AreObjectTexts (opening_node (surroundings s m) h).manager.definitions) i hs open_

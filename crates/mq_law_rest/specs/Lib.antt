@@ -1,4 +1,4 @@
 pub mod Until
-pub mod Aside
+pub mod Within
 pub mod Rests
 pub mod Values

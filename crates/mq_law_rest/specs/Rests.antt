@@ -1,5 +1,5 @@
 -- When a PUMP of a run comes to rest.
-use Rattle.std.specs.Prelude.{◌≡◌, ◌≤◌, ℕ, suc, true, false, List, [], ◌++◌, Some, slice_get, take}
+use Rattle.std.specs.Prelude.{◌≡◌, ◌≤◌, ℕ, suc, true, false, List, [], ◌++◌, Some, slice_get}
 use Rattle.mq_history.specs.declared.calls.Entry.{Entry}
 use Rattle.mq_history.specs.declared.history.History.{History}
 use Rattle.mq_history.specs.declared.history.Mark.{Mark}
@@ -14,7 +14,7 @@ use Rattle.mq_spec_node.specs.Replays.{after, opening_node}
 use Rattle.mq_spec_network.specs.Given.{surroundings}
 use Rattle.mq_spec_network.specs.Turns.{Network, is_idle, node_at, out_of}
 use Rattle.mq_net_report.specs.Steps.{turns_in}
-use Rattle.mq_spec_network.specs.Story.{IsStory, Line}
+use Rattle.mq_spec_network.specs.Story.{Line, Mem, entries_at}
 use Rattle.mq_spec_network.specs.Conflict.{NoConflict}
 use Rattle.mq_law_ran.specs.Runs.{Left}
 use Rattle.mq_law_queued.specs.Queued.{HaveSome}
@@ -23,8 +23,8 @@ use Rattle.mq_law_pump.specs.Restful.{most}
 use Rattle.mq_law_pump.specs.Rows.{rows_of}
 use Rattle.mq_law_pump.specs.Sees.{IsServed}
 use Rattle.mq_law_pump.specs.Ways.{seen_of}
-use Rattle.mq_law_rest.specs.Aside.{NonePhase}
-use Rattle.mq_law_rest.specs.Until.{net_until, until}
+use Rattle.mq_nodes.specs.Carried.{until}
+use Rattle.mq_law_rest.specs.Until.{net_until}
 
 -- the two ends of a cable, at their managers
 pub record EndsAre (w : Network) (k : ℕ) (c : CableLine) (near far : Node) (e : SenderEnd) (r : ReceiverEnd) : Type 0 where
@@ -48,23 +48,21 @@ AllMayRest w = (k : ℕ) (c : CableLine) → slice_get w.scenario.cables k ≡ S
 abbrev pub AllUp : Network → Type 0
 AllUp w = (m : ℕ) (n : Node) → node_at w m ≡ Some n → n.manager.running ≡ Up
 
--- the story so far, without an operator's settlement that is at odds with its receiver
+-- No operator's settlement is at odds with its receiver, in a list of lines that has all that these managers did: in their story, or in one that goes on.
 pub record IsPeaceful (s : Scenario) (hs : List History) : Type 0 where
-  pub story : List Line
-  pub is : IsStory hs story
-  pub peace : NoConflict s hs story
+  pub lines : List Line
+  pub all : (x : Line) → Mem x.entry (entries_at hs x.manager) → Mem x lines
+  pub peace : NoConflict s hs lines
 
 -- on the way each channel that is defined as a sender's has BATCHSZ 1 at least (as all that commands define)
 abbrev pub AreSome : Scenario → List History → Type 0
 AreSome s hs = (m : ℕ) (h : History) (front back : List Entry) → slice_get hs m ≡ Some h → h.entries ≡ front ++ back → HaveSome (after (opening_node (surroundings s m) h) front).manager.definitions
 
--- What is asked of a PUMP, a step of a run: the run had no PHASE before it; all managers are up at its end (and so all the time); each cable may rest
--- where it begins; and it has as many turns as 16 per row on the queue of a running sender, 16 per channel and 3 per item on a cable.
+-- What is asked of a PUMP, a step of a run: no operator's settlement of the story up to its end, or further, is at odds with its receiver; all managers are up at its end (and so all the time);
+-- each cable may rest where it begins; and it has as many turns as 16 per row on the queue of a running sender, 16 per channel and 3 per item on a cable.
 pub record IsEnough (s : Scenario) (hs : List History) (i n : ℕ) : Type 0 where
   pub step : slice_get s.steps i ≡ Some (steps.Pump n)
-  pub unphased : NonePhase (take i s.steps)
-  pub peace : IsPeaceful s (until i hs)
-  pub after : IsPeaceful s (until (suc i) hs)
+  pub peace : IsPeaceful s (until (suc i) hs)
   pub up : AllUp (net_until s hs (suc i))
   pub cables : AllMayRest (net_until s hs i)
   pub turns : most (net_until s hs i) ≤ n

@@ -1,11 +1,12 @@
 -- A run up to the end of one of its steps.
-use Rattle.std.specs.Prelude.{◌≡◌, ℕ, false, zero, suc, List, [], ◌∷◌, ◌++◌, Option, Some, None, length, map, slice_get, take}
+use Rattle.std.specs.Prelude.{◌≡◌, ℕ, false, suc, List, [], ◌∷◌, ◌++◌, Some, length, slice_get}
 use Rattle.mq_history.specs.declared.calls.Entry.{Entry}
 use Rattle.mq_history.specs.declared.history.History.{History}
 use Rattle.mq_history.specs.declared.history.Mark.{Mark}
 use Rattle.mq_history.specs.declared.scenario.Scenario.{Scenario}
 use Rattle.mq_history.specs.declared.scenario.Step.{Step}
 use Rattle.mq_course.specs.Courses.{net_of}
+use Rattle.mq_nodes.specs.Carried.{until}
 use Rattle.mq_spec_network.specs.Turns.{Network, is_idle}
 use Rattle.mq_spec_network.specs.Tasks.Slot.{Sends}
 use Rattle.mq_spec_network.specs.Tasks.Task.{Pump}
@@ -13,23 +14,7 @@ use Rattle.mq_spec_network.specs.Steps.{Goes}
 use Rattle.mq_spec_network.specs.Story.{entries_at}
 use Rattle.mq_spec_network.specs.Lawful.{Went, network_begun}
 
--- so many entries had a manager when so many steps were done, as its marks tell
-abbrev pub entries_noted : Option Mark → ℕ
-entries_noted None = 0
-entries_noted (Some k) = k.entries
-
-abbrev pub entries_until : ℕ → List Mark → ℕ
-entries_until zero marks = 0
-entries_until (suc i) marks = entries_noted (slice_get marks i)
-
-abbrev pub history_until : ℕ → History → History
-history_until i h = record h { entries = take (entries_until i h.marks) h.entries; marks = take i h.marks }
-
--- the histories when so many steps were done
-abbrev pub until : ℕ → List History → List History
-until i hs = map (history_until i) hs
-
--- and the network
+-- the network when so many steps were done
 abbrev pub net_until : Scenario → List History → ℕ → Network
 net_until s hs i = net_of s (until i hs)
 

@@ -16,7 +16,7 @@ use Rattle.mq_spec_node.specs.Replays.{opening_node}
 use Rattle.mq_spec_network.specs.Given.{surroundings}
 use Rattle.mq_spec_network.specs.Ledger.{Ledger, Stopped, Users}
 use Rattle.mq_spec_network.specs.Story.{entries_at}
-use Rattle.mq_spec_network.specs.Tasks.{Task}
+use Rattle.mq_spec_network.specs.Tasks.{Task, Trying}
 use Rattle.mq_spec_network.specs.Tasks.Task.{Ask, Script, Lines, Phase}
 use Rattle.mq_nodes.specs.Texts.{LineFits}
 use Rattle.mq_law_image.specs.Values.{AreObjectTexts, IsCommandText}
@@ -65,16 +65,21 @@ pub record LeavesTexts (l k : Ledger) : Type 0 where
   pub texts : defined_in k ≡ defined_in l
   pub cuts : cut_in k ≡ cut_in l
 
--- tasks ask no other commands; a phase is none of these tasks
+-- tasks ask no other commands
 abbrev pub AllLineTexts : List ScriptLine → Type 0
 AllLineTexts [] = Unit {0}
 AllLineTexts (l ∷ ls) = LineFits IsTextOf l × AllLineTexts ls
+
+-- so have the scripts of a phase
+abbrev pub ArePartTexts : List Trying → Type 0
+ArePartTexts [] = Unit {0}
+ArePartTexts (t ∷ ts) = AllLineTexts t.part.lines × ArePartTexts ts
 
 abbrev pub IsTextTask : Task → Type 0
 IsTextTask (Ask m actor call) = IsTextCall call
 IsTextTask (Script k p tried most) = AllLineTexts p.lines
 IsTextTask (Lines k p tried ls) = AllLineTexts ls
-IsTextTask (Phase ts) = ⊥
+IsTextTask (Phase ts) = ArePartTexts ts
 IsTextTask _ = Unit {0}
 
 abbrev pub AllTextTasks : List Task → Type 0

@@ -2,3 +2,4 @@ pub mod BookLaws
 pub mod CallerLaws
 pub mod ObjectLaws
 pub mod PlacedLaws
+pub mod GoneLaws

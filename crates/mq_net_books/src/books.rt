@@ -16,6 +16,7 @@ ghost use Rattle.mq_spec_network.specs.Ledger.{Users, row_in, place, take_from, 
 
 use crate::accounts::Account;
 use crate::callers;
+use crate::gone::Gone;
 use mq_base::{Items, NoMemory, QName};
 use mq_calls::{Appl, Connection, Hconn, Hobj, Item, Open};
 use mq_codes::Reason;
@@ -163,7 +164,7 @@ pub struct Books<'a> {
     accounts: Items<Account>,
     users: Items<User<'a>>,
     // Each in the order in which they came.
-    gone: Items<Ident>,
+    gone: Gone,
     got: Items<Ident>,
 }
 
@@ -184,7 +185,7 @@ impl<'a> Books<'a> {
         Books {
             accounts,
             users,
-            gone: Items::new(alloc),
+            gone: Gone::new(alloc),
             got: Items::new(alloc),
         }
     }
@@ -295,7 +296,7 @@ impl<'a> Books<'a> {
     {
         if self.is_placed(m, ident) {
             self.take_from(m, ident);
-            self.gone.push(*ident)?;
+            self.gone.push(ident)?;
         }
         Ok(())
     }
@@ -403,7 +404,7 @@ impl<'a> Books<'a> {
     fn is_gone(&self, ident: &Ident) -> bool
         ensures { result ≡ list_any (same_ident ident.now) self.now.gone }
     {
-        is_among(self.gone.as_slice(), ident)
+        self.gone.has(ident)
     }
 
     /// Whether a message that came had a place, or is nonpersistent and was not taken.
@@ -592,12 +593,6 @@ fn is_lasting(message: &Message) -> bool
     ensures { result ≡ is_persistent message.now }
 {
     message.md.persistence == 1
-}
-
-fn is_among(idents: &[Ident], ident: &Ident) -> bool
-    ensures { result ≡ list_any (same_ident ident.now) idents.now }
-{
-    idents.iter().any(|other| *ident == *other)
 }
 
 fn take_everywhere(accounts: &mut Items<Account>, idents: &[Ident])

@@ -5,6 +5,7 @@
 mod accounts;
 mod books;
 mod callers;
+mod gone;
 mod no_use;
 
 pub use accounts::Account;

@@ -3,3 +3,4 @@ mod LaneLaws
 mod QueueLaws
 mod SeatLaws
 mod StoreLaws
+pub mod RollLaws

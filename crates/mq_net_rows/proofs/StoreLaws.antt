@@ -1,11 +1,11 @@
 -- Slots: a row more, rows that stay, and which slot holds a row.
-use Rattle.std.proofs.Common.{ℕ, zero, suc, ◌≡◌, ◌+◌, ◌<◌, ◌≤◌, Bool, true, false, eqb, cond, List, [], ◌∷◌, ◌++◌, Option, Some, None, refl, ap, sym, ◌∙◌, arith, length, take, drop}
+use Rattle.std.proofs.Common.{ℕ, zero, suc, ◌≡◌, ◌+◌, ◌<◌, ◌≤◌, Bool, true, false, eqb, cond, List, [], ◌∷◌, ◌++◌, Option, Some, None, refl, ap, sym, subst, ◌∙◌, arith, length, take, drop}
 use Rattle.std.specs.Prelude.{nat_lt, map, not, slice_get, slice_set, ◌&&◌}
 use Rattle.std.proofs.lemmas.Bool.Decides.{nat_tests}
 use Rattle.mq_message.specs.declared.message.Ident.{Ident}
 use Rattle.mq_queue.specs.declared.row.Row.{Row}
 use Rattle.mq_queue.specs.Rows.{keep, same_ident, has_ident, is_persistent}
-use Rattle.mq_net_rows.specs.Stored.{slot_or, row_at, row_list, rows_of, kept_slot, kept_if, kept_at as kept_there, holds}
+use Rattle.mq_net_rows.specs.Stored.{slot_or, row_at, row_list, rows_of, kept_slot, kept_if, kept_at as kept_there, holds, AreLasting}
 
 -- Idents.
 pub ident_is : (a b : Ident) → same_ident a b ≡ true → a ≡ b
@@ -244,3 +244,97 @@ mapped_long f [] zero = refl
 mapped_long f [] (suc i) = refl
 mapped_long f (x ∷ xs) zero = refl
 mapped_long f (x ∷ xs) (suc i) = ap (λ (n : ℕ). suc n) (mapped_long f xs i)
+
+-- Before a place each row is persistent.
+abbrev persists : Row → Bool
+persists row = is_persistent row.message
+
+pub lasting_start : (xs : List (Option Row)) (n : ℕ) → AreLasting n xs → xs ≡ map (kept_slot persists) (take n xs) ++ drop n xs
+lasting_start xs n l = by xs n l.1
+  where
+    by : (xs : List (Option Row)) (n : ℕ) → ((k : ℕ) (row : Row) → k < n → row_at xs k ≡ Some row → is_persistent row.message ≡ true) → xs ≡ map (kept_slot persists) (take n xs) ++ drop n xs
+    by [] zero each = refl
+    by [] (suc n) each = refl
+    by (x ∷ xs) zero each = refl
+    by (x ∷ xs) (suc n) each =
+        ap (λ (s : Option Row). s ∷ xs) (same_slot persists x (λ row e h. absurd (let t : true ≡ false = sym (each zero row (omega arith) e) ∙ h in cc)))
+        ∙ ap (λ (l : List (Option Row)). kept_slot persists x ∷ l) (by xs n (λ k row lt e. each (suc k) row (omega (arith, lt)) e))
+
+pub lasting_none : AreLasting 0 []
+lasting_none = (omega arith, λ k row lt e. absurd (omega (arith, lt)))
+
+pub lasting_more : (n : ℕ) (store new : List (Option Row)) → AreLasting n store → new ≡ store ++ None ∷ [] → AreLasting n new
+lasting_more n store new l is = subst (AreLasting n) (sym is) (
+  (let long = longer store None in let le = l.0 in omega (arith, long, le)),
+  λ k row lt e. row_either store None k row e (λ within there. l.1 k row lt there) (λ last none. absurd cc),
+)
+
+pub lasting_same : (n : ℕ) (store new : List (Option Row)) → AreLasting n store → new ≡ store → AreLasting n new
+lasting_same n store new l is = subst (AreLasting n) (sym is) l
+
+set_long : (store : List (Option Row)) (at : ℕ) (x : Option Row) → length (slice_set store at x) ≡ length store
+set_long [] at x = refl
+set_long (s ∷ ss) zero x = grind (arith)
+set_long (s ∷ ss) (suc at) x = grind (arith, set_long ss at x)
+
+set_before : (store : List (Option Row)) (at k : ℕ) (x : Option Row) → k < at → row_at (slice_set store at x) k ≡ row_at store k
+set_before [] at k x lt = refl
+set_before (s ∷ ss) zero k x lt = absurd (omega (arith, lt))
+set_before (s ∷ ss) (suc at) zero x lt = grind (arith)
+set_before (s ∷ ss) (suc at) (suc k) x lt = set_before ss at k x (omega (arith, lt))
+
+-- a slot is filled, and no row before the lower of both places changes
+pub lasting_filled : (n m at : ℕ) (store new : List (Option Row)) (x : Option Row) → AreLasting n store → m ≤ n → m ≤ at → new ≡ slice_set store at x → AreLasting m new
+lasting_filled n m at store new x l first second is = subst (AreLasting m) (sym is) (
+  (let long = set_long store at x in let le = l.0 in omega (arith, long, le, first)),
+  λ k row lt e. l.1 k row (omega (arith, lt, first)) (sym (set_before store at k x (omega (arith, lt, second))) ∙ e),
+)
+
+-- what stays was there
+pub lasting_kept : (stays : Row → Bool) (n : ℕ) (store new : List (Option Row)) → AreLasting n store → new ≡ map (kept_slot stays) store → AreLasting n new
+lasting_kept stays n store new l is = subst (AreLasting n) (sym is) (
+  (let long = kept_long stays store in let le = l.0 in omega (arith, long, le)),
+  λ k row lt e. l.1 k row lt (row_was stays store k row e),
+)
+
+module _ (stays : Row → Bool) where
+  kept_was_there : (o : Option Row) (row : Row) → kept_slot stays o ≡ Some row → o ≡ Some row
+  kept_was_there None row e = e
+  kept_was_there (Some x) row e = by (stays x) e
+    where
+      by : (b : Bool) → cond b (Some x) None ≡ Some row → Some x ≡ Some row
+      by true e = e
+      by false e = absurd cc
+
+  there_was : (store : List (Option Row)) (at k : ℕ) (row : Row) → row_at (kept_there stays at store) k ≡ Some row → row_at store k ≡ Some row
+  there_was [] at k row e = e
+  there_was (s ∷ ss) zero zero row e = kept_was_there s row e
+  there_was (s ∷ ss) zero (suc k) row e = e
+  there_was (s ∷ ss) (suc at) zero row e = by (slice_get ss at) e
+    where
+      by : (o : Option (Option Row)) → row_at (kept_if stays o (suc at) (s ∷ ss)) zero ≡ Some row → s ≡ Some row
+      by None e = e
+      by (Some slot) e = e
+  there_was (s ∷ ss) (suc at) (suc k) row e = there_was ss at k row (by (slice_get ss at) e)
+    where
+      by : (o : Option (Option Row)) → row_at (kept_if stays o (suc at) (s ∷ ss)) (suc k) ≡ Some row → row_at (kept_if stays o at ss) k ≡ Some row
+      by None e = e
+      by (Some slot) e = e
+
+  there_long : (store : List (Option Row)) (at : ℕ) → length (kept_there stays at store) ≡ length store
+  there_long store at = by (slice_get store at)
+    where
+      by : (o : Option (Option Row)) → length (kept_if stays o at store) ≡ length store
+      by None = refl
+      by (Some slot) = set_long store at (kept_slot stays slot)
+
+  pub lasting_there : (n at : ℕ) (store new : List (Option Row)) → AreLasting n store → new ≡ kept_there stays at store → AreLasting n new
+  lasting_there n at store new l is = subst (AreLasting n) (sym is) (
+    (let long = there_long store at in let le = l.0 in omega (arith, long, le)),
+    λ k row lt e. l.1 k row lt (there_was store at k row e),
+  )
+
+-- behind a stop each row is
+pub lasting_all : (n : ℕ) (store new : List (Option Row)) → new ≡ map (kept_slot persists) store → n ≡ length new → AreLasting n new
+lasting_all n store new is long =
+    ((let e = long in omega (arith, e)), λ k row lt e. row_stays persists store k row (sym (ap (λ (l : List (Option Row)). row_at l k) is) ∙ e))

@@ -3,7 +3,7 @@ use Rattle.std.specs.Prelude.{◌≡◌, ◌<◌, ◌≤◌, ℕ, ◌==◌, nat_
 use Rattle.std.specs.List.{list_any}
 use Rattle.mq_message.specs.declared.message.Ident.{Ident}
 use Rattle.mq_queue.specs.declared.row.Row.{Row}
-use Rattle.mq_queue.specs.Rows.{has_ident, insert_row}
+use Rattle.mq_queue.specs.Rows.{has_ident, insert_row, is_persistent}
 use Rattle.mq_calls.specs.declared.image.Shelf.{Shelf}
 use Rattle.mq_spec_network.specs.Ledger.{leave_queues}
 use Rattle.mq_net_rows.specs.declared.lanes.Lane.{Lane}
@@ -69,6 +69,10 @@ lanes_find ident store (l ∷ ls) = elim (find (has_ident ident) (rows_of store 
 abbrev pub queues_find : Ident → List (Option Row) → List Named → Option Row
 queues_find ident store [] = None
 queues_find ident store (q ∷ qs) = elim (lanes_find ident store q.lanes) as (λ r. Option Row) [ None ↦ queues_find ident store qs | Some row ↦ Some row ]
+
+-- Before a place each row is persistent.
+abbrev pub AreLasting : ℕ → List (Option Row) → Type 0
+AreLasting n store = (n ≤ length store) × ((k : ℕ) (row : Row) → k < n → row_at store k ≡ Some row → is_persistent row.message ≡ true)
 
 -- a lane has that number
 abbrev pub is_lane : ℕ → Option Lane → Bool

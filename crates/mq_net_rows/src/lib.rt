@@ -4,8 +4,11 @@
 mod copies;
 mod homes;
 mod lanes;
+mod roll;
 mod shelves;
+mod slots;
 mod store;
 
 pub use copies::copy_message;
+pub use homes::{IdentKey, home_of, note_home};
 pub use shelves::Shelves;

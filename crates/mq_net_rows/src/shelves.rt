@@ -1,17 +1,19 @@
 //! The rows of one manager's queues, found by their idents.
-ghost use Rattle.std.specs.Prelude.{◌≡◌, ◌<◌, ◌∷◌, [], ◌++◌, ◌||◌, not, is_some, length, position, slice_get, option_copied, OnOk, OnErr, IfOk};
+ghost use Rattle.std.specs.Prelude.{◌≡◌, ◌<◌, ◌∷◌, [], ◌++◌, ◌||◌, not, is_some, length, position, slice_get, option_copied, OnOk, IfOk};
 ghost use Rattle.std.specs.Str.{bytes_eq};
 ghost use Rattle.mq_calls.specs.declared.image.Shelf.{Shelf};
 ghost use Rattle.mq_queue.specs.declared.row.Row.{Row};
 ghost use Rattle.mq_queue.specs.Rows.{has_ident, is_persistent};
 ghost use Rattle.mq_calls.specs.Changes.{new_row};
 ghost use Rattle.mq_spec_network.specs.Ledger.{put_in, row_in, is_one_of, leave_queues, change_at};
-ghost use Rattle.mq_net_rows.specs.Stored.{queues_find, leave_some, seat_on, put_row, put_rows, AreInLanes, AreSorted};
+ghost use Rattle.mq_net_rows.specs.Stored.{queues_find, leave_some, put_row, put_rows, AreInLanes, AreSorted};
 
 use crate::copies::copy_shelves;
 use crate::homes::{IdentKey, drop_home, home_of, note_home};
-use crate::lanes::{Named, lanes_row, put_slot};
-use crate::store::{clear_at, clear_each, clear_each_lost, fill, of_ident, row_at};
+use crate::lanes::{Named, lanes_row};
+use crate::roll::Roll;
+use crate::slots::Slots;
+use crate::store::{of_ident, row_at};
 use indexmap::IndexMap;
 use mq_base::{Items, NoMemory, QName};
 use mq_calls::Shelf;
@@ -26,9 +28,9 @@ use std::marker::Model;
 pub struct Shelves {
     alloc: Global,
     // In order of arrival; empty where a row was taken.
-    store: Items<Option<Row>>,
+    store: Slots,
     // The slots of each queue.
-    queues: Items<Named>,
+    queues: Roll,
     // The slot of each row's ident.
     homes: IndexMap<IdentKey, usize>,
     // Whether an ident was placed where a row of its own stood.
@@ -65,29 +67,6 @@ fn either(a: bool, b: bool) -> bool
     a || b
 }
 
-/// The place of the queue of a name.
-fn queue_at(queues: &[Named], name: &QName) -> Option<usize>
-    ensures { result ≡ position (λ q. bytes_eq name.now q.name) queues.now }
-{
-    queues.iter().position(|queue| *name == queue.name)
-}
-
-/// A slot more stands last in its lane on the queue at a place.
-#[tactic(auto, using(crate::proofs::SeatLaws::set_same))]
-fn seat(
-    alloc: Global,
-    queues: &mut Items<Named>,
-    at: usize,
-    lane: u8,
-    slot: usize,
-) -> Result<(), NoMemory>
-    requires { at < length queues.old }
-    ensures seated { OnOk result (queues.new ≡ change_at at (seat_on lane slot) queues.old) }
-    ensures same { OnErr result (queues.new ≡ queues.old) }
-{
-    put_slot(alloc, &mut queues.at_mut(at).lanes, lane, slot)
-}
-
 /// The first row of an ident.
 fn queues_row<'a>(store: &'a [Option<Row>], queues: &[Named], ident: &Ident) -> Option<&'a Row>
     ensures { option_copied result ≡ queues_find ident.now store.now queues.now }
@@ -107,8 +86,8 @@ impl Shelves {
     {
         Shelves {
             alloc,
-            store: Items::new(alloc),
-            queues: Items::new(alloc),
+            store: Slots::new(alloc),
+            queues: Roll::new(alloc),
             homes: IndexMap::new(alloc),
             doubled: false,
         }
@@ -154,10 +133,10 @@ impl Shelves {
         let ident = row.message.ident;
         self.doubled = either(self.doubled, self.has(&ident));
         let slot = self.store.len();
-        self.store.push(None)?;
+        self.store.push()?;
         note_home(&mut self.homes, &ident, slot)?;
-        seat(self.alloc, &mut self.queues, at, row.place.lane, slot)?;
-        fill(&mut self.store, slot, row);
+        self.queues.seat(self.alloc, at, row.place.lane, slot)?;
+        self.store.fill(slot, row);
         Ok(())
     }
 
@@ -188,7 +167,7 @@ impl Shelves {
     fn place_of(&self, name: &QName) -> Option<usize>
         ensures value { result ≡ position (λ s. bytes_eq name.now s.name) self.now }
     {
-        queue_at(self.queues.as_slice(), name)
+        self.queues.place_of(name)
     }
 
     /// Places a message on the queue of a name, there or not: last in its lane.
@@ -233,9 +212,9 @@ impl Shelves {
         ensures { self.new ≡ leave_queues (λ (row : Row). not (has_ident ident.now row)) self.old }
     {
         if self.doubled {
-            clear_each(&mut self.store, ident);
+            self.store.clear_each(ident);
         } else if let Some(at) = home_of(&self.homes, ident) {
-            clear_at(&mut self.store, at, ident);
+            self.store.clear_at(at, ident);
             drop_home(&mut self.homes, ident);
         }
     }
@@ -262,6 +241,6 @@ impl Shelves {
     pub fn lose(&mut self)
         ensures { self.new ≡ leave_queues (λ (row : Row). is_persistent row.message) self.old }
     {
-        clear_each_lost(&mut self.store);
+        self.store.clear_lost();
     }
 }

@@ -2,7 +2,7 @@
 ghost use Rattle.std.specs.Prelude.{◌≡◌, ◌<◌, Some, not, map, length, slice_set, option_copied};
 ghost use Rattle.mq_queue.specs.declared.row.Row.{Row};
 ghost use Rattle.mq_queue.specs.Rows.{has_ident, is_persistent};
-ghost use Rattle.mq_net_rows.specs.Stored.{row_at, kept_slot, kept_at, holds, its_row};
+ghost use Rattle.mq_net_rows.specs.Stored.{row_at, kept_slot, kept_at, holds, its_row, AreLasting};
 
 use mq_base::Items;
 use mq_message::Ident;
@@ -97,11 +97,12 @@ pub fn clear_each(store: &mut Items<Option<Row>>, ident: &Ident)
     }
 }
 
-/// Empties each slot whose row is nonpersistent.
-pub fn clear_each_lost(store: &mut Items<Option<Row>>)
+/// Empties each slot whose row is nonpersistent, where none stands before a place.
+pub fn clear_lost_from(store: &mut Items<Option<Row>>, from: usize)
+    requires { AreLasting from store.old }
     ensures { store.new ≡ map (kept_slot (λ (row : Row). is_persistent row.message)) store.old }
 {
-    for at in 0..store.len() {
+    for at in from..store.len() {
         clear_lost(store.at_mut(at));
     }
 }

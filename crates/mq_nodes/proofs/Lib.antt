@@ -7,3 +7,5 @@ pub mod WaitLaws
 pub mod PumpLaws
 pub mod TurnLaws
 pub mod StepLaws
+pub mod CarriedLaws
+pub mod PhasedLaws

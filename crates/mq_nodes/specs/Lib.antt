@@ -3,3 +3,4 @@ pub mod Told
 pub mod Pumps
 pub mod Runs
 pub mod Texts
+pub mod Carried

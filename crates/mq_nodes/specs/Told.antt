@@ -1,5 +1,5 @@
 -- What calls on nodes tell: one event more, or none; and what a part of a step tells of a call that does it.
-use Rattle.std.specs.Prelude.{◌≡◌, ◌<◌, ◌≤◌, ◌+◌, ◌⊎◌, ℕ, suc, min, Bool, true, false, List, [], ◌∷◌, Option, Some, None, Result, Ok, Err, take, slice_get, length}
+use Rattle.std.specs.Prelude.{◌≡◌, ◌<◌, ◌≤◌, ◌+◌, ◌⊎◌, ℕ, suc, min, Bool, true, false, List, [], ◌∷◌, ◌++◌, Option, Some, None, Result, Ok, Err, take, slice_get, length}
 use Rattle.mq_history.specs.declared.calls.Actor.TheVariants as actors
 use Rattle.mq_history.specs.declared.calls.Entry.{Entry}
 use Rattle.mq_history.specs.declared.history.History.{History}
@@ -17,9 +17,9 @@ use Rattle.mq_spec_node.specs.Lines.Next.{Ends, Waits, Makes}
 use Rattle.mq_spec_network.specs.Story.{entries_at}
 use Rattle.mq_spec_network.specs.Turns.{Network, node_at}
 use Rattle.mq_spec_network.specs.ScriptLines.{lines_left}
-use Rattle.mq_spec_network.specs.Tasks.{Task, moment_of}
+use Rattle.mq_spec_network.specs.Tasks.{Task, moment_of, try_all}
 use Rattle.mq_spec_network.specs.Tasks.Task.{Lines}
-use Rattle.mq_spec_network.specs.Steps.{Goes, Is, MonitorGets, handler_idle, scripts_at, serves_nothing}
+use Rattle.mq_spec_network.specs.Steps.{AllInPhase, Goes, Is, MonitorGets, handler_idle, scripts_at, serves_nothing}
 use Rattle.mq_spec_network.specs.Lawful.{Stands, marks_at, network_begun}
 use Rattle.mq_nodes.specs.declared.nodes.Stop.{Stop}
 use Rattle.mq_nodes.specs.declared.nodes.Stop.TheVariants as stops
@@ -128,6 +128,21 @@ abbrev pub OneLine : ℕ → ScriptPart → Result Bool Stop → Course → Cour
 OneLine k p (Ok true) c d = (n : ℕ) → Onward (upto k p (suc n) c) (upto k p n d) c d
 OneLine k p (Ok false) c d = (d ≡ c) × (lines_left c.net k p ≡ [])
 OneLine k p (Err stop) c d = (n : ℕ) → Part {T = Bool} (upto k p (suc n) c) (Err stop) c d
+
+-- What each manager did in a phase of these scripts, each entry where it may stand, and in no order with what the others did;
+-- nothing was noted.
+pub record Phased (ks : List ℕ) (c d : Course) : Type 0 where
+  pub since : ℕ → List Entry
+  pub others : (m : ℕ) → length c.net.scenario.managers ≤ m → since m ≡ []
+  pub net : d.net ≡ record c.net { done = λ m. c.net.done m ++ since m }
+  pub phased : (m : ℕ) → m < length c.net.scenario.managers → AllInPhase (try_all c.net ks) m (c.net.done m) (since m)
+  pub marks : d.marks ≡ c.marks
+
+-- Behind it no get waits: what is left of its scripts is tried anew.
+abbrev pub PhaseTold : List ℕ → Result (Unit {0}) Stop → Course → Course → Type 0
+PhaseTold ks (Ok done) c d = Phased ks c d × Ready d.net × Rests d
+PhaseTold ks (Err stops.NoMemory) c d = Phased ks c d
+PhaseTold ks (Err (stops.Spent m)) c d = Phased ks c d × IsSpent m d.net
 
 -- A run of steps: some are whole and noted; where it answers OK, all are, and the last restarts too.
 abbrev pub AllDone : {T : Type 0} → Result T Stop → List Step → List Task → Course → Type 0

@@ -48,6 +48,7 @@ pub trait Nodes {
     ghost use Rattle.mq_nodes.specs.Course.{Course, Ready, noted};
     ghost use Rattle.mq_nodes.specs.Told.{Does, HandlerTold, LineTold, Part, Says, TurnTold, later};
     ghost use Rattle.mq_nodes.specs.Pumps.{AllStill, TurnIn};
+    ghost use Rattle.mq_nodes.specs.Carried.{AllCarried};
     ghost use Rattle.mq_sc_parse.specs.declared.command.Command.{Command};
 
     ghost course: { Self → Course };
@@ -159,8 +160,10 @@ pub trait Nodes {
         requires there { manager < length (course self.old).net.scenario.managers }
         ensures { Does (Is manager actors.Operator (calls.Act (acts.Cut device_calls))) result (course self.old) (course self.new) };
 
-    /// Ends a step: each manager notes how many events it did so far, and whether the step ended idle.
+    /// Ends a step: each manager notes how many events it did so far, and whether the step ended idle. Between steps each end
+    /// of a cable has popped what the other offered, and no more.
     fn mark(&mut self, idle: bool)
         requires room { (m : ℕ) → length ((course self.old).marks m) < length (course self.old).net.scenario.steps }
-        ensures { course self.new ≡ noted idle (course self.old) };
+        ensures noted { course self.new ≡ noted idle (course self.old) }
+        ensures carried { AllCarried (course self.old).net };
 }

@@ -15,6 +15,7 @@ use Rattle.mq_spec_node.specs.Openings.{first_node}
 use Rattle.mq_spec_network.specs.Given as givens
 use Rattle.mq_spec_network.specs.Lawful.{marks_at, marks_or}
 use Rattle.mq_spec_network.specs.Story.{entries_at, entries_or}
+use Rattle.mq_nodes.proofs.CarriedLaws.{carried_undone}
 use Rattle.mq_begin.specs.Begun.{AllBegan, BeginsOn, Held, moment_or}
 use Rattle.mq_begin.specs.Begun as begun
 use Rattle.mq_opening.specs.Opened.{JustBegun}
@@ -133,6 +134,7 @@ ran_none w r f = record {
   scenario = refl;
   histories = histories w r;
   lawful = lawfuls.lawful w.scenario w.histories (histories w r) r.carried (lawfuls.begun w.scenario w.histories (nothing_done w f) (nothing_noted w f));
+  carried = carried_undone w.scenario w.histories (nothing_done w f);
   begins = λ m h e. record { before = h; is = e; begins = refl };
   known = knows w r;
   apart = refl;

@@ -14,6 +14,7 @@ use Rattle.mq_course.specs.Courses.{course_of, net_of}
 use Rattle.mq_course.proofs.CourseLaws.{histories_have}
 use Rattle.mq_nodes.specs.declared.nodes.Stop.{Stop}
 use Rattle.mq_nodes.specs.declared.nodes.Stop.TheVariants as stops
+use Rattle.mq_nodes.specs.Carried.{AreCarriedSoFar}
 use Rattle.mq_nodes.specs.Course.{is_spent}
 use Rattle.mq_nodes.specs.Told.{Has, Ran}
 use Rattle.mq_history.specs.Scenarios.{IsScenario}
@@ -61,13 +62,14 @@ pub record Run (s : Scenario) (gs hs : List History) (w0 w1 : ℕ → Option ℕ
 has : (s : Scenario) (gs hs : List History) (w0 w1 : ℕ → Option ℕ) → Run s gs hs w0 w1 → Has s hs (course_of s gs w0) (course_of s hs w1)
 has s gs hs w0 w1 r = histories_have s gs hs w0 w1 (same_begun s gs hs r.whole r.rest r.marks r.tasks r.stands) r.undone
 
-pub ran_on : (s : Scenario) (gs hs : List History) (w0 w1 : ℕ → Option ℕ) → Run s gs hs w0 w1 → RanOn s gs (left s hs)
-ran_on s gs hs w0 w1 r =
+pub ran_on : (s : Scenario) (gs hs : List History) (w0 w1 : ℕ → Option ℕ) → Run s gs hs w0 w1 → ((xs : List History) → Has s xs (course_of s gs w0) (course_of s hs w1) → AreCarriedSoFar s xs) → RanOn s gs (left s hs)
+ran_on s gs hs w0 w1 r carried =
     let same = same_begun s gs hs r.whole r.rest r.marks r.tasks r.stands in
     record {
       scenario = refl;
       histories = r.now;
       lawful = lawfuls.lawful s hs r.now r.carried (r.steps hs (has s gs hs w0 w1 r));
+      carried = carried hs (has s gs hs w0 w1 r);
       begins = begins_as s gs hs same;
       known = r.known;
       apart = sym (same_apart s gs hs (r.before.all ∙ sym r.now.all) same);
@@ -108,18 +110,24 @@ the_run r w w1 n0 n1 rested fresh rests same c begun d ended ran steps =
 left_at : (s : Scenario) (w1 : RestState) → w1.scenario ≡ s → left s w1.histories ≡ left_of w1
 left_at s w1 same = λ i. record { scenario = sym same i; histories = w1.histories }
 
-at_scenario : (w : RestState) (s : Scenario) (c d : Course) → w.scenario ≡ s → ((xs : List History) → Has s xs c d → AreSteps s xs) → (xs : List History) → Has w.scenario xs c d → AreSteps w.scenario xs
-at_scenario w s c d same steps xs h = subst (λ (x : Scenario). AreSteps x xs) (sym same) (steps xs (subst (λ (x : Scenario). Has x xs c d) same h))
+at_scenario : (P : Scenario → List History → Type 0) (w : RestState) (s : Scenario) (c d : Course) → w.scenario ≡ s → ((xs : List History) → Has s xs c d → P s xs) → (xs : List History) → Has w.scenario xs c d → P w.scenario xs
+at_scenario P w s c d same steps xs h = subst (λ (x : Scenario). P x xs) (sym same) (steps xs (subst (λ (x : Scenario). Has x xs c d) same h))
+
+-- of histories that have what was done between these courses
+at_courses : (P : List History → Type 0) (s : Scenario) (c d c1 d1 : Course) → c ≡ c1 → d ≡ d1 → ((xs : List History) → Has s xs c d → P xs) → (xs : List History) → Has s xs c1 d1 → P xs
+at_courses P s c d c1 d1 begun ended f xs h = f xs (subst (λ (x : Course). Has s xs x d) (sym begun) (subst (Has s xs c1) (sym ended) h))
 
 -- what the steps did
 pub steps_ran : (r : Result (Unit {0}) Stop) (s : Scenario) (w w1 : RestState) (n0 n1 : NetState) → w.scenario ≡ s → IsRested w → IsFresh w → Starts w n0 → w1 ≡ rest_of n1.scenario n1.nodes → IsRested w1 → Ran r (course_in n0) (course_in n1)
-    → ((xs : List History) → Has s xs (course_in n0) (course_in n1) → AreSteps s xs) → RanOn s w.histories (left_of w1)
-steps_ran r s w w1 n0 n1 is rested fresh start rest rests ran steps =
+    → ((xs : List History) → Has s xs (course_in n0) (course_in n1) → AreSteps s xs) → ((xs : List History) → Has s xs (course_in n0) (course_in n1) → AreCarriedSoFar s xs) → RanOn s w.histories (left_of w1)
+steps_ran r s w w1 n0 n1 is rested fresh start rest rests ran steps carried =
     let same = same_run r w w1 n0 n1 start rest ran in
     subst (λ (x : Scenario). RanOn x w.histories (left_of w1)) is
     (subst (RanOn w.scenario w.histories) (left_at w.scenario w1 same)
     (ran_on w.scenario w.histories w1.histories (waits_in n0) (waits_in n1)
-    (the_run r w w1 n0 n1 rested fresh rests same (course_in n0) (first_course w n0 start) (course_in n1) (last_course w w1 n1 rest same) ran (at_scenario w s (course_in n0) (course_in n1) is steps))))
+    (the_run r w w1 n0 n1 rested fresh rests same (course_in n0) (first_course w n0 start) (course_in n1) (last_course w w1 n1 rest same) ran (at_scenario AreSteps w s (course_in n0) (course_in n1) is steps))
+    (at_courses (AreCarriedSoFar w.scenario) w.scenario (course_in n0) (course_in n1) (course_of w.scenario w.histories (waits_in n0)) (course_of w.scenario w1.histories (waits_in n1)) (first_course w n0 start) (last_course w w1 n1 rest same)
+    (at_scenario AreCarriedSoFar w s (course_in n0) (course_in n1) is carried))))
 
 steps_spent : (w1 : RestState) (n1 : NetState) → w1 ≡ rest_of n1.scenario n1.nodes → (m : ℕ) → is_spent (entries_at (histories_in n1) m) ≡ true → is_spent (entries_at w1.histories m) ≡ true
 steps_spent w1 n1 rest m e = ap (λ (x : RestState). is_spent (entries_at x.histories m)) rest ∙ e
@@ -140,7 +148,7 @@ pub steps_end : (r : Result (Unit {0}) Stop) (s : Scenario) (w w1 : RestState) (
     → ((xs : List History) → Has s xs (course_in n0) (course_in n1) → AreSteps s xs)
     → OnOk r ((xs : List History) → Has s xs (course_in n0) (course_in n1) → IsDone s xs) → StepsEnd r (left_of w1)
 steps_end (Ok done) s w w1 n0 n1 is rested fresh start rest rests ran steps all =
-    steps_done w w1 n0 n1 rested fresh start rest rests ran (at_scenario w s (course_in n0) (course_in n1) is steps)
+    steps_done w w1 n0 n1 rested fresh start rest rests ran (at_scenario AreSteps w s (course_in n0) (course_in n1) is steps)
     (λ xs h. subst (λ (x : Scenario). IsDone x xs) (sym is) (all xs (subst (λ (x : Scenario). Has x xs (course_in n0) (course_in n1)) is h)))
 steps_end (Err stops.NoMemory) s w w1 n0 n1 is rested fresh start rest rests ran steps all = tt
 steps_end (Err (stops.Spent m)) s w w1 n0 n1 is rested fresh start rest rests ran steps all = steps_spent w1 n1 rest m ran.ends
@@ -189,6 +197,7 @@ leaves tells held start s gs counts l o r none own = record {
   openings = alike tells held start l.scenario gs l.histories r.begins r.known (subst (λ (x : Scenario). AreOpenings tells held start (left x gs)) (sym r.scenario) o);
   histories = r.histories;
   lawful = r.lawful;
+  carried = r.carried;
   none = none;
   own = own;
 }

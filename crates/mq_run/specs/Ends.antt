@@ -12,6 +12,7 @@ use Rattle.mq_spec_network.specs.Apart.{apart}
 use Rattle.mq_spec_network.specs.Given.{first_moment}
 use Rattle.mq_spec_network.specs.Lawful.{IsLawful, IsDone}
 use Rattle.mq_spec_network.specs.Story.{entries_at}
+use Rattle.mq_nodes.specs.Carried.{AreCarriedSoFar}
 use Rattle.mq_nodes.specs.Course.{is_spent}
 use Rattle.mq_nodes.specs.declared.nodes.Stop.{Stop}
 use Rattle.mq_nodes.specs.declared.nodes.Stop.TheVariants as stops
@@ -72,6 +73,7 @@ pub record RanOn (s : Scenario) (gs : List History) (l : Left) : Type 0 where
   pub scenario : l.scenario ≡ s
   pub histories : AreHistories l.scenario l.histories
   pub lawful : IsLawful l.scenario l.histories
+  pub carried : AreCarriedSoFar l.scenario l.histories
   pub begins : (m : ℕ) (h : History) → slice_get l.histories m ≡ Some h → BeginsAs l.scenario gs m h
   pub known : AreKnownImages l.histories
   pub apart : apart l.scenario l.histories ≡ apart s gs
@@ -87,13 +89,14 @@ WholeEnds form old new s gs st None = ⊥
 WholeEnds form old new s gs st (Some l) = RanOn s gs l × LeftEnds form old new st l
 
 -- What is so whatever the status: each history opened with what its disk told, replays, and all make a lawful story of the
--- scenario; over disks that tell their bytes no restart read a log that was changed from outside; no disk is handed back, for the
+-- scenario; at the end of each step the ends of cables have popped what was offered till then; over disks that tell their bytes no restart read a log that was changed from outside; no disk is handed back, for the
 -- network has them.
 pub record RunLeaves (tells : Type 0) (held : List ℕ → List ℕ → Type 0) (start : ℕ) (s : Scenario) (counts : List ℕ) (l : Left) : Type 0 where
   pub scenario : l.scenario ≡ s
   pub openings : AreOpenings tells held start l
   pub histories : AreHistories l.scenario l.histories
   pub lawful : IsLawful l.scenario l.histories
+  pub carried : AreCarriedSoFar l.scenario l.histories
   pub none : counts ≡ []
   pub own : RestartsAreOwn tells l
 

@@ -3,10 +3,12 @@ pub use Rattle.mq_world.specs.Words.{IsTextCommand}
 pub use Rattle.mq_law_ran.specs.Runs.{Left}
 pub use Rattle.mq_law_ran.specs.Promises.{GotOnce, IsPromised, OrderKept, RestartsAreOwn, RowsAreLedgers, StandOnce}
 pub use Rattle.mq_base.specs.Outside.{Rose}
-pub use Rattle.mq_history.specs.Scenarios.{IsScenario}
+pub use Rattle.mq_history.specs.Scenarios.{ArePhased, IsScenario}
 pub use Rattle.mq_law_ran.specs.Runs.{standing_left}
 pub use Rattle.mq_net_ledger.specs.Opened.{AreOpened}
+pub use Rattle.mq_nodes.specs.Course.{Ready, Rests}
 pub use Rattle.mq_nodes.specs.Texts.{AllFit}
+pub use Rattle.mq_nodes.specs.Told.{PhaseTold}
 pub use Rattle.mq_run.specs.Ends.{DidAll, LeftEnds, RanOn, RunEnds, StepsEnd, WholeEnds, left}
 pub use Rattle.mq_run.specs.Forms.{EndsBy}
 pub use Rattle.mq_run.specs.declared.reporting.Form.TheVariants.{Line}
@@ -17,4 +19,4 @@ pub use Rattle.mq_spec_network.specs.Lawful.{AreOwn}
 pub use Rattle.mq_standing.specs.Stands.{receiver_standing, sender_standing}
 pub use Rattle.mq_story.specs.Spots.{AreRising}
 pub use Rattle.mq_world.specs.Starting.{IsFresh}
-pub use Rattle.mq_world.specs.Words.{IsRested, IsRisen, counts_in}
+pub use Rattle.mq_world.specs.Words.{IsRested, IsRisen, counts_in, course_in}

@@ -9,12 +9,15 @@ use crate::standing::standing_at_rest;
 use crate::status::{Status, net_status, stop_status};
 use mq_base::Sink;
 use mq_disk::{Disk, Shelf};
+use mq_gate::Gate;
 use mq_history::Scenario;
 use mq_net_apart::apart;
 use mq_nodes::Stop;
 use mq_steps::run_steps;
 use mq_world::{Network, Rested, begin};
 use std::alloc::Global;
+use std::sync::Wait;
+use std::thread::Threads;
 
 /// How a call of the program ended, and what it leaves.
 #[derive(Drop)]
@@ -65,7 +68,13 @@ struct Done<D: Disk> {
 
 /// Does the steps of a scenario over its managers, and restarts last those that are down.
 #[tactic(auto, using(crate::proofs::JoinLaws::ran_none, crate::proofs::RunLaws::steps_ran, crate::proofs::RunLaws::steps_end))]
-fn do_steps<D: Disk>(alloc: Global, scenario: &Scenario, rested: Rested<D>) -> Done<D>
+fn do_steps<D: Disk + Send, R: Threads + Wait + Sync, G: Gate + Sync>(
+    rt: &R,
+    alloc: Global,
+    scenario: &Scenario,
+    rested: Rested<D>,
+    gate: &G,
+) -> Done<D>
     requires scenario { words.IsScenario scenario.now }
     requires same { rested.scenario ≡ scenario.now }
     requires stands { words.IsRested rested }
@@ -86,7 +95,17 @@ fn do_steps<D: Disk>(alloc: Global, scenario: &Scenario, rested: Rested<D>) -> D
             };
         }
     };
-    let ran = run_steps(&mut network, scenario);
+    let ran = run_steps(
+        &mut network,
+        scenario,
+        &|network: &mut Network<D>, scripts: &[u16]| -> Result<(), Stop>
+            requires ready { words.Ready (words.course_in network.old).net }
+            requires rests { words.Rests (words.course_in network.old) }
+            requires same { (words.course_in network.old).net.scenario ≡ scenario.now }
+            requires phased { words.ArePhased scenario.now scripts.now }
+            ensures { words.PhaseTold scripts.now result (words.course_in network.old) (words.course_in network.new) }
+        { network.phase(rt, gate, scenario, scripts) },
+    );
     let rested = network.rest();
     let _ = rested.histories();
     Done { ran, rested }
@@ -118,12 +137,14 @@ fn report<K: Sink, D: Disk>(
 
 /// Does the steps of a scenario whose managers' logs belong together, and writes its report, or its line.
 #[tactic(auto, using(crate::proofs::RunLaws::opened_on, crate::proofs::RunLaws::did_all, crate::proofs::RunLaws::whole_did, crate::proofs::RunLaws::stays))]
-fn run_whole<K: Sink, D: Disk>(
+fn run_whole<K: Sink, D: Disk + Send, R: Threads + Wait + Sync, G: Gate + Sync>(
+    rt: &R,
     alloc: Global,
     form: Form,
     scenario: &Scenario,
     rested: Rested<D>,
     sink: &mut K,
+    gate: &G,
 ) -> Ended<D>
     requires scenario { words.IsScenario scenario.now }
     requires same { rested.scenario ≡ scenario.now }
@@ -138,7 +159,7 @@ fn run_whole<K: Sink, D: Disk>(
     ensures none { result.disks.items ≡ [] }
     ensures write_fault { (n : ℕ) → result.status ≡ WriteFault n → words.Rose (K.faults sink.old) (K.faults sink.new) }
 {
-    let done = do_steps(alloc, scenario, rested);
+    let done = do_steps(rt, alloc, scenario, rested, gate);
     let Done { ran, rested } = done;
     match ran {
         Ok(()) => {
@@ -150,16 +171,21 @@ fn run_whole<K: Sink, D: Disk>(
 }
 
 /// Runs a scenario over a shelf: its managers begin, their logs are checked to belong together, its steps are done,
-/// those that are down are restarted, and the report is written, or the line of a large run.
+/// those that are down are restarted, and the report is written, or the line of a large run. The scripts of a PHASE run in threads,
+/// and pass the gate before each try of a line.
 #[tactic(auto, using(crate::proofs::JoinLaws::fresh, crate::proofs::RunLaws::begun_timed, crate::proofs::RunLaws::run_whole, crate::proofs::RunLaws::run_wants, crate::proofs::RunLaws::run_apart, crate::proofs::RunLaws::run_none, crate::proofs::RunLaws::net_no_write, crate::proofs::RunLaws::few_cables))]
-pub fn run_scenario<K: Sink, H: Shelf>(
+pub fn run_scenario<K: Sink, H: Shelf, R: Threads + Wait + Sync, G: Gate + Sync>(
+    rt: &R,
     alloc: Global,
     form: Form,
     scenario: &Scenario,
     shelf: &mut H,
     start: u64,
     sink: &mut K,
+    gate: &G,
 ) -> Ended<H::D>
+where
+    H::D: Send,
     requires scenario { words.IsScenario scenario.now }
     requires texts { words.AllFit words.IsTextCommand scenario.now }
     ensures ends { words.RunEnds form H.D.tells (λ n b. H.holds shelf.old n sides.A b) start scenario.now (H.faults shelf.old) (H.faults shelf.new) (K.held sink.old) (K.held sink.new) result.status (option_map words.left_of result.network) (map H.D.faults result.disks.items) }
@@ -181,6 +207,6 @@ pub fn run_scenario<K: Sink, H: Shelf>(
     match apart(alloc, scenario, rested.histories()) {
         Err(_) => ended_with(alloc, Status::NoMemory, rested),
         Ok(Some(found)) => ended_with(alloc, Status::Apart(found), rested),
-        Ok(None) => run_whole(alloc, form, scenario, rested, sink),
+        Ok(None) => run_whole(rt, alloc, form, scenario, rested, sink, gate),
     }
 }

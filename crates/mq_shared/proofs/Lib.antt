@@ -21,3 +21,4 @@ pub mod TakeLaws
 pub mod RanLaws
 pub mod OverLaws
 pub mod PartLaws
+pub mod ReadyLaws

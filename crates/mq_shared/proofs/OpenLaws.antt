@@ -139,3 +139,11 @@ opened_step ps ss p s cs ds was k pipes passes lt h o x =
       bare_are = bare_more cs ds k s at.0 b h.bare_are;
       whole_is = wholes_more ss s cs ds was at.0 h.whole_is (ap (λ (n : ℕ). slice_get cs n) passes ∙ at.1) (subst (λ (n : ℕ). IsBaredAt s n at.0 cs ds) (sym passes) b);
     }
+
+pub last_within : (ps : List Pipes) (passes rest : List Passes) (s : Passes) (k : ℕ) → AreOpen ps passes → passes ≡ rest ++ s ∷ [] → k ≡ length rest → k < length ps
+last_within ps passes rest s k h is at =
+    let x = open_last ps rest s (subst (λ (l : List Passes). AreOpen ps l) is h) in
+    let lt = within ps (length rest) x.0 x.1 in omega (arith, lt, at)
+
+pub open_less_by : (ps : List Pipes) (passes rest : List Passes) (s : Passes) → AreOpen ps passes → passes ≡ rest ++ s ∷ [] → AreOpen ps rest
+open_less_by ps passes rest s h is = open_less ps rest s (subst (λ (l : List Passes). AreOpen ps l) is h)

@@ -13,10 +13,11 @@ use Rattle.mq_shared.specs.declared.opening.Passes.{Passes}
 use Rattle.mq_shared.specs.declared.opening.Pipes.{Pipes}
 use Rattle.mq_shared.specs.Facing.{AreJoined, Facing, IsJoined}
 use Rattle.mq_shared.specs.Held.{Begun, EachIs, EndsApart, IsEndAt, acts_as, end_name, entries_begun, faults_at, manager_at, queue_at}
+use Rattle.mq_shared.specs.Joining.{ArePair, JoinsAgain}
 use Rattle.mq_shared.specs.Opening.{IsBare, bare, whole, wholes}
-use Rattle.mq_shared.specs.Parting.{AreEnds, AreEndsAt, AreRows, EndRowState, IsAdded, IsAmong, IsBegunOver, IsRow, IsTaken, Passed, back_queue, backs_of, done_in, ends_by, ends_named, named_at, names_from, none_since, out_queue, outs_of}
+use Rattle.mq_shared.specs.Parting.{AreEnds, AreEndsAt, AreRows, EndRowState, IsAdded, IsAmong, IsBegunOver, IsJoinedAt, IsRow, IsTaken, Passed, back_queue, backs_of, done_in, ends_by, ends_named, named_at, names_from, none_since, out_queue, outs_of}
 use Rattle.mq_shared.specs.Took.{EndKept, EndState, Took, way}
-use Rattle.mq_shared.proofs.PlaceLaws.{at_end, drop_at, drop_past, get_first, get_last, get_map, get_set, long_snoc, map_snoc, set_long, set_mine, set_other, set_same, snoc_first, some_is}
+use Rattle.mq_shared.proofs.PlaceLaws.{at_end, drop_at, drop_past, get_first, get_last, get_map, get_set, long_snoc, map_snoc, set_long, set_mine, set_other, set_same, snoc_first, some_is, there, within}
 
 -- A NAME AT A MANAGER
 same_true : (m : ℕ) → (m == m) ≡ true
@@ -343,3 +344,109 @@ rows_end b ps ls n room rows begun none h m r f =
 
 pub among_still : (ls : List CableLine) (m n : ℕ) → n ≡ m → EachIs (IsAmong m) ls → EachIs (IsAmong n) ls
 among_still ls m n same h = subst (λ (k : ℕ). EachIs (IsAmong k) ls) (sym same) h
+
+-- A CABLE'S TWO ENDS ARE TAKEN, one at a time
+module _ (p : Passed) (names : ℕ → List (ℕ × Bool)) (k : ℕ) (l : CableLine) (near far : EndState) (old mid new : List (List EndState))
+    (h : AreEnds p.begun p.since (λ m. names m ++ named_at l.receiver m k false ++ named_at l.sender m k true) old) (t : IsTaken l.sender near old mid) where
+  abbrev without_near : ℕ → List (ℕ × Bool)
+  without_near m = names m ++ named_at l.receiver m k false
+
+  one : AreEnds p.begun p.since without_near mid × IsEndAt p.begun l.sender (entries_begun p.begun l.sender) (p.since l.sender) near × (near.cable ≡ k) × (near.sends ≡ true)
+  one = ends_less p.begun p.since without_near l.sender k true near old mid h t
+
+  pub near_some : slice_get old l.sender ≢ Some []
+  near_some = some_end p.begun p.since without_near l.sender k true old h
+
+  pub far_some : slice_get mid l.receiver ≢ Some []
+  far_some = some_end p.begun p.since names l.receiver k false mid one.0
+
+  pub near_is : near.cable ≡ k
+  near_is = one.2
+
+  two : IsTaken l.receiver far mid new → AreEnds p.begun p.since names new × IsEndAt p.begun l.receiver (entries_begun p.begun l.receiver) (p.since l.receiver) far × (far.cable ≡ k) × (far.sends ≡ false)
+  two u = ends_less p.begun p.since names l.receiver k false far mid new one.0 u
+
+  pub are_left : IsTaken l.receiver far mid new → AreEnds p.begun p.since names new
+  are_left u = (two u).0
+
+  pub are_pair : IsTaken l.receiver far mid new → slice_get p.begun.lines k ≡ Some l → ArePair p near far
+  are_pair u line = record {
+    line = l;
+    there = ap (λ (n : ℕ). slice_get p.begun.lines n) one.2 ∙ line;
+    cable = (two u).2 ∙ sym one.2;
+    sides = (one.3, (two u).3);
+    near_at = one.1;
+    far_at = (two u).1;
+  }
+
+  pub joined_here : (c : CableState) (cs : List CableState) → slice_get p.begun.lines k ≡ Some l → JoinsAgain p near c → IsJoinedAt p k l cs (slice_set cs k c)
+  joined_here c cs line j = record {
+    cable = c;
+    is = refl;
+    joined = subst (λ (n : ℕ). IsJoined n l (done_in p) c) one.2 (j l (ap (λ (n : ℕ). slice_get p.begun.lines n) one.2 ∙ line));
+  }
+
+-- ALL ARE JOINED AGAIN, one at a time
+pub ends_first : (b : Begun) (ps : List Pipes) (ls : List CableLine) (since : ℕ → List Entry) (rows : List (List EndState)) → IsBegunOver b ps ls → AreEnds b since (ends_named ls) rows → AreEnds b since (names_from 0 (drop 0 b.lines)) rows
+ends_first b ps ls since rows begun h = subst (λ (l : List CableLine). AreEnds b since (names_from 0 l) rows) (sym begun.lines) h
+
+ends_renamed : (b : Begun) (since : ℕ → List Entry) (names names' : ℕ → List (ℕ × Bool)) (rows : List (List EndState)) → ((m : ℕ) → names m ≡ names' m) → AreEnds b since names rows → AreEnds b since names' rows
+ends_renamed b since names names' rows same h m es f = let x = h m es f in record { names_are = x.names_are ∙ same m; each = x.each }
+
+pub ends_at_line : (b : Begun) (ps : List Pipes) (ls : List CableLine) (since : ℕ → List Entry) (k : ℕ) (rows : List (List EndState)) → IsBegunOver b ps ls → AreEnds b since (names_from k (drop k b.lines)) rows
+    → IfSome (slice_get ls k) (λ (l : CableLine). AreEnds b since (λ m. names_from (suc k) (drop (suc k) b.lines) m ++ named_at l.receiver m k false ++ named_at l.sender m k true) rows)
+ends_at_line b ps ls since k rows begun h = by_line (slice_get ls k) refl
+  where
+    by_line : (o : Option CableLine) → slice_get ls k ≡ o → IfSome o (λ (l : CableLine). AreEnds b since (λ m. names_from (suc k) (drop (suc k) b.lines) m ++ named_at l.receiver m k false ++ named_at l.sender m k true) rows)
+    by_line None is = tt
+    by_line (Some l) is =
+        ends_renamed b since (names_from k (drop k b.lines)) (λ m. names_from (suc k) (drop (suc k) b.lines) m ++ named_at l.receiver m k false ++ named_at l.sender m k true) rows
+        (λ m. names_at_line b k m l (ap (λ (xs : List CableLine). slice_get xs k) begun.lines ∙ is)) h
+
+pub ends_next : (b : Begun) (since : ℕ → List Entry) (k : ℕ) (rows : List (List EndState)) → AreEnds b since (names_from (suc k) (drop (suc k) b.lines)) rows → AreEnds b since (names_from (k + 1) (drop (k + 1) b.lines)) rows
+ends_next b since k rows h = subst (λ (n : ℕ). AreEnds b since (names_from n (drop n b.lines)) rows) (let e : suc k ≡ k + 1 = omega arith in e) h
+
+pub bare_at : (cs : List CableState) (k : ℕ) → ((j : ℕ) (c : CableState) → k ≤ j → slice_get cs j ≡ Some c → IsBare c) → IfSome (slice_get cs k) IsBare
+bare_at cs k h = by_cable (slice_get cs k) refl
+  where
+    by_cable : (o : Option CableState) → slice_get cs k ≡ o → IfSome o IsBare
+    by_cable None is = tt
+    by_cable (Some c) is = h k c (omega arith) is
+
+-- one cable more is joined
+pub record SoFar (p : Passed) (ls : List CableLine) (n long : ℕ) (cs : List CableState) : Type 0 where
+  pub all : length cs ≡ long
+  pub joined : (k : ℕ) (x : CableLine) (c : CableState) → k < n → slice_get ls k ≡ Some x → slice_get cs k ≡ Some c → IsJoined k x (done_in p) c
+  pub bare_are : (k : ℕ) (c : CableState) → n ≤ k → slice_get cs k ≡ Some c → IsBare c
+
+pub joined_more : (p : Passed) (ls : List CableLine) (k long : ℕ) (cs ds : List CableState) → k < length ls → SoFar p ls k long cs → IfSome (slice_get ls k) (λ (l : CableLine). IsJoinedAt p k l cs ds) → SoFar p ls (k + 1) long ds
+joined_more p ls k long cs ds lt h x =
+    let at = there ls k lt in
+    let j : IsJoinedAt p k at.0 cs ds = subst (λ (o : Option CableLine). IfSome o (λ (l : CableLine). IsJoinedAt p k l cs ds)) at.1 x in
+    record {
+      all = ap (λ (l : List CableState). length l) j.is ∙ set_long cs k j.cable ∙ h.all;
+      joined = λ i y c less line found.
+          ⊎_elim
+          (λ (q : (i ≡ k) × (j.cable ≡ c)).
+          let same : at.0 ≡ y = some_is at.0 y (sym at.1 ∙ ap (λ (n : ℕ). slice_get ls n) (sym q.0) ∙ line) in
+          subst (λ (n : ℕ). IsJoined n y (done_in p) c) (sym q.0)
+          (subst (λ (d : CableState). IsJoined k y (done_in p) d) q.1 (subst (λ (z : CableLine). IsJoined k z (done_in p) j.cable) same j.joined)))
+          (λ (q : (i ≢ k) × (slice_get cs i ≡ Some c)). let apart = q.0 in h.joined i y c (omega (arith, less, apart)) line q.1)
+          (get_set cs k i j.cable c (subst (λ (l : List CableState). slice_get l i ≡ Some c) j.is found));
+      bare_are = λ i c past found.
+          ⊎_elim
+          (λ (q : (i ≡ k) × (j.cable ≡ c)). let e = q.0 in absurd (omega (arith, past, e)))
+          (λ (q : (i ≢ k) × (slice_get cs i ≡ Some c)). h.bare_are i c (omega (arith, past)) q.1)
+          (get_set cs k i j.cable c (subst (λ (l : List CableState). slice_get l i ≡ Some c) j.is found));
+    }
+
+pub joined_all : (p : Passed) (ls : List CableLine) (n long : ℕ) (cs : List CableState) → length ls ≤ n → SoFar p ls n long cs → AreJoined ls (done_in p) cs
+joined_all p ls n long cs past h k l c line found = let lt = within ls k l line in h.joined k l c (omega (arith, past, lt)) line found
+
+-- one row more, with its room
+pub rows_room : (room : ℕ) (rows : List EndRowState) (r : EndRowState) → EachIs (λ (x : EndRowState). (x.ends ≡ []) × (room ≤ x.room)) rows → (r.ends ≡ []) × (room ≤ r.room) → EachIs (λ (x : EndRowState). (x.ends ≡ []) × (room ≤ x.room)) (rows ++ r ∷ [])
+rows_room room rows r h p i x f =
+    ⊎_elim
+    (λ (q : slice_get rows i ≡ Some x). h i x q)
+    (λ (q : (i ≡ length rows) × (r ≡ x)). subst (λ (y : EndRowState). (y.ends ≡ []) × (room ≤ y.room)) q.1 p)
+    (at_end rows r x i f)

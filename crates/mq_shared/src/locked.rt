@@ -100,7 +100,7 @@ impl<'a, P: PhaseName, D: Disk, R: Wait> Locked<'a, P, D, R> {
         }
     }
 
-    #[tactic(auto, using(crate::proofs::KeptLaws::served_at, crate::proofs::KeptLaws::texts_at))]
+    #[tactic(auto, using(crate::proofs::KeptLaws::served_at))]
     /// Tries the next line of a script, by its place here. Ended as well where nothing more may happen.
     pub fn advance(&mut self, at: usize) -> Result<Tried, NoMemory> {
         if !may_go(self.wants, &self.node) {

@@ -16,10 +16,10 @@ use Rattle.mq_spec_network.specs.Steps.{Goes, Moves, Passes, left_by}
 use Rattle.mq_spec_network.specs.Steps.Goes.{stays, moves, serves, passes}
 use Rattle.mq_nodes.specs.declared.nodes.Stop.{Stop}
 use Rattle.mq_nodes.specs.declared.nodes.Stop.TheVariants as stops
-use Rattle.mq_nodes.specs.Course.{Course, Ready}
+use Rattle.mq_nodes.specs.Course.{Course}
 use Rattle.mq_nodes.specs.Told.{Ended, Onward, Part}
 use Rattle.mq_nodes.proofs.Asking.{at_place, none_left, same_value}
-use Rattle.mq_nodes.proofs.Onward.{begin, behind, of_part, passed, stopped, whole}
+use Rattle.mq_nodes.proofs.Onward.{behind, of_part, stopped, whole}
 use Rattle.mq_steps.proofs.PartLaws.{at_it, err_is}
 
 -- What is left of a script whose first get may have been tried before, where that much is left of it with none tried.
@@ -120,9 +120,6 @@ part_too k p t r c d h =
 -- So many scripts are done.
 abbrev pub Phasing : List ℕ → ℕ → Course → Course → Type 0
 Phasing ks i c d = Onward (tasks_of c.net (kinds.Phase ks)) (finish (try_all c.net (drop i ks))) c d
-
-pub phase_begins : (ks : List ℕ) (c : Course) → Ready c.net → Phasing ks 0 c c
-phase_begins ks c r = passed (tasks_of c.net (kinds.Phase ks)) _ [] (finish (try_all c.net ks)) c c (begin (tasks_of c.net (kinds.Phase ks)) c r) refl
 
 -- the next one
 next_tasks : (ks : List ℕ) (i k : ℕ) (w : Network) (p : ScriptPart) → slice_get ks i ≡ Some k → i < length ks → slice_get w.scenario.scripts k ≡ Some p

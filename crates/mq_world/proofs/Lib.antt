@@ -16,8 +16,6 @@ pub mod HandlerLaws
 pub mod IdleLaws
 pub mod TimeLaws
 pub mod TimingLaws
-pub mod FacingLaws
-pub mod DeedLaws
 pub mod RoomLaws
 pub mod PassLaws
 pub mod EndLaws
@@ -26,3 +24,4 @@ pub mod PlaceLaws
 pub mod NearLaws
 pub mod FarLaws
 pub mod OwnLaws
+pub mod PhaseLaws

@@ -10,10 +10,11 @@ use Rattle.mq_spec_network.specs.Lawful.{IsCarried}
 use Rattle.mq_spec_network.specs.Story.{entries_at}
 use Rattle.mq_core.specs.Values.{CoreValue}
 use Rattle.mq_events.specs.States.{NodeState}
+use Rattle.mq_nodes.specs.Carried.{AllCarried}
 use Rattle.mq_world_begin.specs.Rested.{IsRested, IsRestedAt}
 use Rattle.mq_world.specs.Resting.{manager_in, own_in, rest_of}
-use Rattle.mq_world.specs.Facing.{IsJoined}
-use Rattle.mq_world.specs.Worlds.{IsNetwork, IsNodeAt, NetState, histories_in, history_in}
+use Rattle.mq_shared.specs.Facing.{IsJoined}
+use Rattle.mq_world.specs.Worlds.{IsNetwork, IsNodeAt, NetState, course_in, histories_in, history_in}
 use Rattle.mq_world.proofs.ListLaws.{get_map, long_map, some_is, there}
 
 -- none yet
@@ -67,6 +68,10 @@ carried_in w h k l at =
     let c = there w.cables k (subst (λ (n : ℕ). k < n) (sym h.joined) (slice_get_within w.scenario.cables k l at)) in
     let j : IsJoined k l (entries_at (histories_in w)) c.0 = h.ways k l c.0 at c.1 in
     record { out = j.out.carries; back = j.back.carries }
+
+-- so of the network that its course is of
+pub carried_net : (w : NetState) → IsNetwork w → AllCarried (course_in w).net
+carried_net w h k l at = let x = carried_in w h k l at in record { out = x.out; back = x.back }
 
 pub network_rests : (w : NetState) → IsNetwork w → IsRested (rest_of w.scenario w.nodes)
 network_rests w h = record {

@@ -33,7 +33,8 @@ use Rattle.mq_world.proofs.KeepLaws.{cable_again, did_silent, network_stays, net
 use Rattle.mq_world.proofs.LiftLaws.{Asked, asked_at, did_lifts, ready_set, seen_at, spent_lifts, stays_lifts}
 use Rattle.mq_world.proofs.ListLaws.{some_is, there}
 use Rattle.mq_world.proofs.NodeLaws.{broke_then, did_then, stays_so}
-use Rattle.mq_world.proofs.QuietLaws.{joined_quiet, quiet_behind}
+use Rattle.mq_shared.proofs.QuietLaws.{quiet_behind}
+use Rattle.mq_world.proofs.QuietLaws.{joined_quiet}
 use Rattle.mq_world.proofs.TimeLaws.{IsTimeout, tells_at, timeout_changes, timeout_here, timeout_pushes, timeout_silent, timeout_still, timeout_told as entry_told}
 
 -- AT ITS NODE

@@ -22,14 +22,15 @@ use Rattle.mq_nodes.specs.declared.nodes.Stop.TheVariants as stops
 use Rattle.mq_ways.specs.Ways.{CableState, IsQuietEntry}
 use Rattle.mq_events.specs.States.{NodeState, IsKept, node_in}
 use Rattle.mq_world.specs.Ends.{EndOn, Passes, Sides, StaysStill, far_sides, near_sides}
-use Rattle.mq_world.specs.Facing.{IsJoined}
+use Rattle.mq_shared.specs.Facing.{IsJoined}
+use Rattle.mq_shared.proofs.QuietLaws.{silent_quiet}
 use Rattle.mq_world.specs.Settling.{NodeDid, NodeStays}
 use Rattle.mq_world.specs.Worlds.{IsNetwork, NetState, course_in, history_in, with_cable, with_node}
 use Rattle.mq_world.proofs.KeepLaws.{cable_again, did_silent, network_stays, network_turned}
 use Rattle.mq_world.proofs.LiftLaws.{did_lifts, ready_set, spent_lifts, stays_lifts}
 use Rattle.mq_world.proofs.ListLaws.{itself}
 use Rattle.mq_world.proofs.PassLaws.{Faced}
-use Rattle.mq_world.proofs.QuietLaws.{joined_quiet, joined_same, silent_quiet}
+use Rattle.mq_world.proofs.QuietLaws.{joined_quiet, joined_same}
 use Rattle.mq_world.proofs.SeenLaws.{AreAt}
 
 -- WHAT ITS ENTRY TELLS, at the node as it was

@@ -1,4 +1,3 @@
-pub mod Facing
 pub mod Worlds
 pub mod Resting
 pub mod Starting

@@ -9,6 +9,7 @@ mod lines;
 mod marks;
 mod network;
 mod parts;
+mod phasing;
 mod resting;
 mod settling;
 mod starting;

@@ -7,12 +7,15 @@ use crate::resting::RestRoom;
 use crate::starting::{StartRoom, nodes_of, start_room};
 use mq_base::{Items, NoMemory};
 use mq_disk::Disk;
+use mq_gate::Gate;
 use mq_history::{Scenario, ScriptPart};
 use mq_nodes::{Advanced, Monitored, Nodes, Stop};
 use mq_sc_parse::Command;
 use mq_world_begin::Rested;
 use std::alloc::Global;
 use std::marker::Model;
+use std::sync::Wait;
+use std::thread::Threads;
 
 /// The nodes of a scenario's managers, each with its history, how far its scripts are, and what lies on its cables.
 #[derive(Drop)]
@@ -115,6 +118,31 @@ impl<D: Disk> Network<D> {
             monitors: _,
         } = parts;
         room.fill(scenario, nodes)
+    }
+}
+
+impl<D: Disk + Send> Network<D> {
+    /// Scripts and the ends of channels go on in threads: each manager does lines of these scripts, with turns and timeouts of its
+    /// channels' ends between them. No clock advances. Lines may be left, but no get waits any more. The gate is passed before each
+    /// try of a line.
+    ///
+    /// # Errors
+    ///
+    /// No memory: events that were done stand. A node has made all its events.
+    pub fn phase<R: Threads + Wait + Sync, G: Gate + Sync>(
+        &mut self,
+        rt: &R,
+        gate: &G,
+        scenario: &Scenario,
+        scripts: &[u16],
+    ) -> Result<(), Stop>
+        requires ready { words.Ready (words.course_in self.old).net }
+        requires rests { words.Rests (words.course_in self.old) }
+        requires same { self.old.scenario ≡ scenario.now }
+        requires phased { words.ArePhased scenario.now scripts.now }
+        ensures { words.PhaseTold scripts.now result (words.course_in self.old) (words.course_in self.new) }
+    {
+        self.parts.run_phase(rt, gate, scenario, scripts)
     }
 }
 

@@ -179,12 +179,14 @@ impl<D: Disk> NetParts<D> {
         advance_on(node, part.manager, script, part, progress)
     }
 
-    /// Ends a step: each manager notes how many events it did so far, and whether the step ended idle.
+    /// Ends a step: each manager notes how many events it did so far, and whether the step ended idle. Each end of a cable has
+    /// popped what the other offered, and no more.
     pub fn mark(&mut self, idle: bool)
         requires kept { words.IsNetwork self.old }
         requires room { (m : ℕ) → length ((words.course_in self.old).marks m) < length self.old.scenario.steps }
         ensures kept { words.IsNetwork self.new }
         ensures noted { words.course_in self.new ≡ words.noted idle (words.course_in self.old) }
+        ensures carried { words.AllCarried (words.course_in self.old).net }
         ensures own { D.tells → words.StaysOwnIn self.old self.new }
         ensures long { length self.new.nodes ≡ length self.old.nodes }
     {

@@ -88,7 +88,7 @@ run_tells tells held start s counts l h = pumps_tell l h.lawful
 run_rests : (tells : Type 0) (held : List ℕ → List ℕ → Type 0) (start : ℕ) (s : Scenario) (counts : List ℕ) (l : Left) → IsScenario s → AllFit IsTextCommand s → RunLeaves tells held start s counts l → IsPromised tells PumpsRest l
 run_rests tells held start s counts l is fit h joined own =
     pumps_rest l (subst IsScenario (sym h.scenario) is) (subst (AllFit IsTextOf) (sym h.scenario) (all_text_of s fit)) (open_texts tells held start l h.histories h.openings)
-    (images tells held start l h.histories h.openings) (known tells held start l h.histories h.openings) h.lawful joined (owned tells l h.own own)
+    (images tells held start l h.histories h.openings) (known tells held start l h.histories h.openings) h.lawful h.carried joined (owned tells l h.own own)
 
 pub told_of_pumps : (asked : Option Task) (left : Option (List ℕ)) (tells : Type 0) (held : List ℕ → List ℕ → Type 0) (start before now : ℕ) (old new : Option (List ℕ)) (st : Status) (net : Option Left) (counts : List ℕ)
     → Ends asked left tells held start before now old new st net counts → IfSome net PumpsTell

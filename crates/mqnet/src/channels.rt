@@ -3,10 +3,13 @@
 use crate::top::mqnet;
 use mq_base::{MemSink, MemSource, QName};
 use mq_disk::{Image, MemDisk, MemShelf, Side};
+use mq_gate::OpenGate;
 use mq_history::Apart;
 use mq_run::{Ended, Status};
 use std::alloc::{AllocError, Global};
+use std::sync::Wait;
 use std::test::*;
+use std::thread::Threads;
 
 const HEAD: &str = "NETWORK
 QMGR LONDON
@@ -263,7 +266,8 @@ fn log_at(disks: &[MemDisk], place: usize) -> &[u8] {
 }
 
 /// Runs a scenario over these logs of LONDON and PARIS.
-fn run_over(
+fn run_over<R: Threads + Wait + Sync>(
+    rt: &R,
     alloc: Global,
     text: String,
     image: Image,
@@ -277,7 +281,16 @@ fn run_over(
     let mut shelf = MemShelf::new(alloc, Vec::new(alloc));
     put_disk(alloc, &mut shelf, b"LONDON", image, london);
     put_disk(alloc, &mut shelf, b"PARIS", image, paris);
-    let ended = mqnet(alloc, &words, &mut source, &mut sink, &mut shelf, 0);
+    let ended = mqnet(
+        rt,
+        alloc,
+        &words,
+        &mut source,
+        &mut sink,
+        &mut shelf,
+        0,
+        &OpenGate,
+    );
     let Ended {
         status,
         network,
@@ -298,7 +311,7 @@ fn run_over(
 fn messages_take_the_worked_turns(rt: HostRuntime) -> Result<(), Fail> {
     for case in &CASES {
         let text = scenario(rt.alloc(), case.faults, case.puts, FIRST, case.steps)?;
-        let ran = run_over(rt.alloc(), text, Image::Kept, b"", b"")?;
+        let ran = run_over(&rt, rt.alloc(), text, Image::Kept, b"", b"")?;
         assert!(rt; ran.report.as_str().contains(case.did));
         assert!(rt; ran.report.as_str().ends_with(case.ends));
     }
@@ -312,7 +325,7 @@ fn a_commit_that_is_cut_is_kept_from_its_last_device_call_on(rt: HostRuntime) ->
         steps.push_str(cut.call)?;
         steps.push_str("\nPUMP 1\nRESTART PARIS\nPUMP 100\n")?;
         let text = scenario(rt.alloc(), "", 1, FIRST, steps.as_str())?;
-        let ran = run_over(rt.alloc(), text, cut.image, b"", b"")?;
+        let ran = run_over(&rt, rt.alloc(), text, cut.image, b"", b"")?;
         assert!(rt;
             ran.report.as_str().contains(
                 "0004 PUMP 9 TURNS 9 LIMIT\n0005 CUT PARIS OK\n0006 PUMP 1 TURNS 1 LIMIT\n0007 RESTART PARIS OK\n"
@@ -347,7 +360,7 @@ const RESOLVED: [(&str, u8, &str); 2] = [
 fn a_resolve_that_is_not_borne_out_ends_with_8(rt: HostRuntime) -> Result<(), Fail> {
     for (steps, status, piece) in &RESOLVED {
         let text = scenario(rt.alloc(), " BACK DROP(2)", 1, FIRST, steps)?;
-        let ran = run_over(rt.alloc(), text, Image::Kept, b"", b"")?;
+        let ran = run_over(&rt, rt.alloc(), text, Image::Kept, b"", b"")?;
         assert_eq!(rt; ran.status.number(), *status);
         assert!(rt; ran.report.as_str().contains(piece));
     }
@@ -357,11 +370,12 @@ fn a_resolve_that_is_not_borne_out_ends_with_8(rt: HostRuntime) -> Result<(), Fa
 #[test]
 fn channels_go_on_in_the_next_run(rt: HostRuntime) -> Result<(), Fail> {
     let text = scenario(rt.alloc(), "", 1, FIRST, "PUMP 100\n")?;
-    let first = run_over(rt.alloc(), text, Image::Kept, b"", b"")?;
+    let first = run_over(&rt, rt.alloc(), text, Image::Kept, b"", b"")?;
     let steps = "DO LONDON START CHANNEL(LON.PAR)\nRUN A\nPUMP 100\n";
     let text = scenario(rt.alloc(), "", 1, steps, "")?;
     let logs = first.disks.as_slice();
     let second = run_over(
+        &rt,
         rt.alloc(),
         text,
         Image::Kept,
@@ -381,10 +395,10 @@ fn channels_go_on_in_the_next_run(rt: HostRuntime) -> Result<(), Fail> {
 #[test]
 fn logs_that_do_not_belong_together_are_refused(rt: HostRuntime) -> Result<(), Fail> {
     let text = scenario(rt.alloc(), " BACK DROP(2)", 1, FIRST, "PUMP 100\n")?;
-    let first = run_over(rt.alloc(), text, Image::Kept, b"", b"")?;
+    let first = run_over(&rt, rt.alloc(), text, Image::Kept, b"", b"")?;
     let text = scenario(rt.alloc(), "", 1, "RUN A\n", "")?;
     let paris = log_at(first.disks.as_slice(), 1);
-    let second = run_over(rt.alloc(), text, Image::Kept, b"", paris)?;
+    let second = run_over(&rt, rt.alloc(), text, Image::Kept, b"", paris)?;
     assert!(rt; matches!(second.status, Status::Apart(Apart::Session(0, 0, 2))));
     assert!(rt; second.report.as_str() == "");
     Ok(())

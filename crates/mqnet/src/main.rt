@@ -5,6 +5,7 @@ mod top;
 
 use mq_base::{StdSink, StdSource};
 use mq_disk::FileShelf;
+use mq_gate::OpenGate;
 use std::process::ExitCode;
 use std::rt::Clock;
 use std::time::{SystemTime, UNIX_EPOCH};
@@ -13,6 +14,8 @@ use top::mqnet;
 
 #[cfg(test)]
 mod channels;
+#[cfg(test)]
+mod phases;
 #[cfg(test)]
 mod tests;
 
@@ -37,12 +40,14 @@ fn main(rt: HostRuntime) -> io::Result<ExitCode> {
     let mut shelf = FileShelf::new(&rt);
     let start = moment(&rt);
     let ended = mqnet(
+        &rt,
         rt.alloc(),
         &words,
         &mut source,
         &mut sink,
         &mut shelf,
         start,
+        &OpenGate,
     );
     let number = ended.status.number();
     if number != 0 {

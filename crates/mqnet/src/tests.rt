@@ -3,6 +3,7 @@
 use crate::top::mqnet;
 use mq_base::{MemSink, MemSource, QName};
 use mq_disk::{Image, MemDisk, MemShelf, Side};
+use mq_gate::OpenGate;
 use std::alloc::{AllocError, Global};
 use std::test::*;
 
@@ -144,6 +145,18 @@ fn source(alloc: Global, case: &Case) -> Result<MemSource, AllocError> {
     Ok(MemSource::new(text.into_bytes(), calls(alloc, case.failing_read)?))
 }
 
+/// An empty disk on a shelf, under a manager's name.
+fn put_disk(alloc: Global, shelf: &mut MemShelf<MemDisk>, manager: &[u8]) -> Result<(), Fail> {
+    let Ok(name) = QName::of(manager) else {
+        return Ok(());
+    };
+    let Ok(disk) = MemDisk::new(alloc, b"", 4_194_304, Image::Kept, Vec::new(alloc)) else {
+        return Ok(());
+    };
+    let _put = shelf.put(name, Side::A, disk);
+    Ok(())
+}
+
 fn shelf(alloc: Global, case: &Case) -> Result<MemShelf<MemDisk>, Fail> {
     let mut shelf = MemShelf::new(alloc, calls(alloc, case.failing_take)?);
     let Ok(name) = QName::of(b"LONDON") else {
@@ -157,6 +170,52 @@ fn shelf(alloc: Global, case: &Case) -> Result<MemShelf<MemDisk>, Fail> {
     Ok(shelf)
 }
 
+/// The large run of a number: the words, the status, and the line.
+const SOAKS: [(&str, &str, u8, &str); 9] = [
+    ("soak", "1", 0, "SOAK 1 PUTS 20 M1 0 M2 0 M3 20 STATUS 0\n"),
+    (
+        "soak",
+        "20",
+        0,
+        "SOAK 20 PUTS 400 M1 0 M2 0 M3 400 STATUS 0\n",
+    ),
+    ("soak", "0", 1, ""),
+    ("soak", "1001", 1, ""),
+    ("soak", "01", 1, ""),
+    ("soak", "", 1, ""),
+    ("soak", "+1", 1, ""),
+    ("run", "1", 1, ""),
+    ("SOAK", "1", 1, ""),
+];
+
+#[test]
+fn a_number_makes_a_large_run(rt: HostRuntime) -> Result<(), Fail> {
+    for (word, number, status, line) in &SOAKS {
+        let mut words = Vec::new(rt.alloc());
+        words.push(String::from_str(rt.alloc(), word)?)?;
+        words.push(String::from_str(rt.alloc(), number)?)?;
+        let mut source = MemSource::new(Vec::new(rt.alloc()), Vec::new(rt.alloc()));
+        let mut sink = MemSink::new(rt.alloc(), 4096, Vec::new(rt.alloc()))?;
+        let mut shelf = MemShelf::new(rt.alloc(), Vec::new(rt.alloc()));
+        for manager in [b"M1", b"M2", b"M3"] {
+            put_disk(rt.alloc(), &mut shelf, manager)?;
+        }
+        let ended = mqnet(
+            &rt,
+            rt.alloc(),
+            &words,
+            &mut source,
+            &mut sink,
+            &mut shelf,
+            0,
+            &OpenGate,
+        );
+        assert_eq!(rt; ended.status.number(), *status);
+        assert!(rt; str::from_utf8(sink.held())? == *line);
+    }
+    Ok(())
+}
+
 #[test]
 fn each_status_comes_by_its_cause(rt: HostRuntime) -> Result<(), Fail> {
     let cases = cases();
@@ -166,7 +225,16 @@ fn each_status_comes_by_its_cause(rt: HostRuntime) -> Result<(), Fail> {
         let mut source = source(rt.alloc(), case)?;
         let mut sink = MemSink::new(rt.alloc(), 4096, calls(rt.alloc(), case.failing_write)?)?;
         let mut shelf = shelf(rt.alloc(), case)?;
-        let ended = mqnet(rt.alloc(), &words, &mut source, &mut sink, &mut shelf, 0);
+        let ended = mqnet(
+            &rt,
+            rt.alloc(),
+            &words,
+            &mut source,
+            &mut sink,
+            &mut shelf,
+            0,
+            &OpenGate,
+        );
         assert_eq!(rt; ended.status.number(), case.status);
         let output = str::from_utf8(sink.held())?;
         match case.piece {

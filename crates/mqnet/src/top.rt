@@ -7,6 +7,7 @@ ghost use Rattle.mqnet.specs.Words as terms;
 
 use mq_base::{ReadStop, Sink, Source, read_all, write_all};
 use mq_disk::Shelf;
+use mq_gate::Gate;
 use mq_hints::fault_text;
 use mq_history::Scenario;
 use mq_run::{BadCause, Ended, Form, Status, ended_early, run_scenario};
@@ -14,6 +15,8 @@ use mq_scn_text::{ScenarioFault, read_scenario};
 use mq_soak::scenario;
 use mq_text::number;
 use std::alloc::Global;
+use std::sync::Wait;
+use std::thread::Threads;
 
 /// What a scenario is read for.
 #[derive(Clone, Copy, Debug, PartialEq, Eq)]
@@ -167,54 +170,84 @@ fn told(alloc: Global, text: &[u8], status: &Status) -> Option<String> {
 }
 
 /// Does what is left to do.
-fn do_work<K: Sink, H: Shelf>(
+fn do_work<K: Sink, H: Shelf, R: Threads + Wait + Sync, G: Gate + Sync>(
+    rt: &R,
     alloc: Global,
     left: Work,
     shelf: &mut H,
     start: u64,
     sink: &mut K,
+    gate: &G,
 ) -> Ended<H::D>
+where
+    H::D: Send,
     requires { terms.FitsWork left }
     ensures ends { terms.WorkEnds left H.D.tells (λ n b. H.holds shelf.old n sides.A b) start (H.faults shelf.old) (H.faults shelf.new) (K.held sink.old) (K.held sink.new) result.status (option_map terms.left_of result.network) (map H.D.faults result.disks.items) }
     ensures risen { IfSome result.network terms.IsRisen }
     ensures write_fault { (n : ℕ) → result.status ≡ terms.WriteFault n → terms.Rose (K.faults sink.old) (K.faults sink.new) }
 {
     match left {
-        Work::Run(scenario) => run_scenario(alloc, Form::Report, &scenario, shelf, start, sink),
+        Work::Run(scenario) => run_scenario(
+            rt,
+            alloc,
+            Form::Report,
+            &scenario,
+            shelf,
+            start,
+            sink,
+            gate,
+        ),
         Work::Check => ended_early(alloc, write_text(b"CHECK OK\n", sink), None),
     }
 }
 
 /// Makes the scenario of a number and runs it, with its one line to the sink.
 #[tactic(auto, using(crate::proofs::Soaking::no_memory, crate::proofs::Soaking::ran))]
-fn run_soak<K: Sink, H: Shelf>(
+fn run_soak<K: Sink, H: Shelf, R: Threads + Wait + Sync, G: Gate + Sync>(
+    rt: &R,
     alloc: Global,
     n: u32,
     shelf: &mut H,
     start: u64,
     sink: &mut K,
+    gate: &G,
 ) -> Ended<H::D>
+where
+    H::D: Send,
     requires few { n ≤ 1000 }
     ensures ends { terms.SoakEnds n H.D.tells (λ n b. H.holds shelf.old n sides.A b) start (H.faults shelf.old) (H.faults shelf.new) (K.held sink.old) (K.held sink.new) result.status (option_map terms.left_of result.network) (map H.D.faults result.disks.items) }
     ensures risen { IfSome result.network terms.IsRisen }
     ensures write_fault { (n : ℕ) → result.status ≡ terms.WriteFault n → terms.Rose (K.faults sink.old) (K.faults sink.new) }
 {
     match scenario(alloc, n) {
-        Ok(scenario) => run_scenario(alloc, Form::Line(n), &scenario, shelf, start, sink),
+        Ok(scenario) => run_scenario(
+            rt,
+            alloc,
+            Form::Line(n),
+            &scenario,
+            shelf,
+            start,
+            sink,
+            gate,
+        ),
         Err(_) => ended_early(alloc, Status::NoMemory, None),
     }
 }
 
 /// Reads a scenario, and does with it what is asked.
 #[tactic(auto, using(crate::proofs::Ending::done_ends, crate::proofs::Ending::early_ends))]
-fn obey_text<S: Source, K: Sink, H: Shelf>(
+fn obey_text<S: Source, K: Sink, H: Shelf, R: Threads + Wait + Sync, G: Gate + Sync>(
+    rt: &R,
     alloc: Global,
     purpose: Purpose,
     source: &mut S,
     sink: &mut K,
     shelf: &mut H,
     start: u64,
+    gate: &G,
 ) -> Ended<H::D>
+where
+    H::D: Send,
     ensures ends { terms.Ends (Some (terms.Read purpose)) (S.left source.old) H.D.tells (λ n b. H.holds shelf.old n sides.A b) start (H.faults shelf.old) (H.faults shelf.new) (K.held sink.old) (K.held sink.new) result.status (option_map terms.left_of result.network) (map H.D.faults result.disks.items) }
     ensures risen { IfSome result.network terms.IsRisen }
     ensures bad_scenario { (line : ℕ) (cause : terms.BadCause) → result.status ≡ terms.BadScenario line cause → terms.ReadNoScenario (S.left source.old) line cause }
@@ -227,7 +260,7 @@ fn obey_text<S: Source, K: Sink, H: Shelf>(
         Err(status) => return ended_early(alloc, status, None),
     };
     match work_in(alloc, purpose, text.as_slice()) {
-        Ok(left) => do_work(alloc, left, shelf, start, sink),
+        Ok(left) => do_work(rt, alloc, left, shelf, start, sink, gate),
         Err(status) => {
             let told = told(alloc, text.as_slice(), &status);
             ended_early(alloc, status, told)
@@ -237,14 +270,18 @@ fn obey_text<S: Source, K: Sink, H: Shelf>(
 
 /// Does what is asked.
 #[tactic(auto, using(crate::proofs::Soaking::no_bad_scenario, crate::proofs::Soaking::no_read_fault, crate::proofs::Soaking::not_too_long))]
-fn do_task<S: Source, K: Sink, H: Shelf>(
+fn do_task<S: Source, K: Sink, H: Shelf, R: Threads + Wait + Sync, G: Gate + Sync>(
+    rt: &R,
     alloc: Global,
     task: Task,
     source: &mut S,
     sink: &mut K,
     shelf: &mut H,
     start: u64,
+    gate: &G,
 ) -> Ended<H::D>
+where
+    H::D: Send,
     requires fits { terms.FitsTask task }
     ensures ends { terms.Ends (Some task) (S.left source.old) H.D.tells (λ n b. H.holds shelf.old n sides.A b) start (H.faults shelf.old) (H.faults shelf.new) (K.held sink.old) (K.held sink.new) result.status (option_map terms.left_of result.network) (map H.D.faults result.disks.items) }
     ensures risen { IfSome result.network terms.IsRisen }
@@ -255,20 +292,24 @@ fn do_task<S: Source, K: Sink, H: Shelf>(
     ensures unread { terms.IsUnread (Some task) (S.left source.old) (S.left source.new) (S.faults source.old) (S.faults source.new) }
 {
     match task {
-        Task::Read(purpose) => obey_text(alloc, purpose, source, sink, shelf, start),
-        Task::Soak(n) => run_soak(alloc, n, shelf, start, sink),
+        Task::Read(purpose) => obey_text(rt, alloc, purpose, source, sink, shelf, start, gate),
+        Task::Soak(n) => run_soak(rt, alloc, n, shelf, start, sink, gate),
     }
 }
 
 /// Does what the words say.
-fn obey_words<S: Source, K: Sink, H: Shelf>(
+fn obey_words<S: Source, K: Sink, H: Shelf, R: Threads + Wait + Sync, G: Gate + Sync>(
+    rt: &R,
     alloc: Global,
     words: &[String],
     source: &mut S,
     sink: &mut K,
     shelf: &mut H,
     start: u64,
+    gate: &G,
 ) -> Ended<H::D>
+where
+    H::D: Send,
     ensures ends { terms.Ends (terms.task_of (map string_bytes words.now)) (S.left source.old) H.D.tells (λ n b. H.holds shelf.old n sides.A b) start (H.faults shelf.old) (H.faults shelf.new) (K.held sink.old) (K.held sink.new) result.status (option_map terms.left_of result.network) (map H.D.faults result.disks.items) }
     ensures risen { IfSome result.network terms.IsRisen }
     ensures bad_scenario { (line : ℕ) (cause : terms.BadCause) → result.status ≡ terms.BadScenario line cause → terms.ReadNoScenario (S.left source.old) line cause }
@@ -280,22 +321,27 @@ fn obey_words<S: Source, K: Sink, H: Shelf>(
     let Some(task) = task_of(words) else {
         return ended_early(alloc, Status::BadWords, None);
     };
-    do_task(alloc, task, source, sink, shelf, start)
+    do_task(rt, alloc, task, source, sink, shelf, start, gate)
 }
 
 /// Runs the program: by the word `run`, the scenario that the source gives, over the shelf's disks, with its report to the sink; by
 /// the word `check` the scenario is read alone, and CHECK OK written; by the word `soak` and a number from 1 to 1000 the scenario of
 /// that number is run, which reads nothing and writes one line. `start` is the moment of its beginning in milliseconds since
-/// 1970; a moment above 253,300,000,000,000 is taken as that number.
-#[tactic(auto, using(crate::proofs::Ending::own_of, crate::proofs::Ending::rows_of, crate::proofs::Ending::once_of, crate::proofs::Ending::got_once_of, crate::proofs::Ending::order_of, crate::proofs::Resting::told_of_pumps, crate::proofs::Resting::rest_of_pumps, crate::proofs::Ending::bad_words, crate::proofs::Ending::completes, crate::proofs::Disks::disk_of))]
-pub fn mqnet<S: Source, K: Sink, H: Shelf>(
+/// 1970; a moment above 253,300,000,000,000 is taken as that number. The scripts of a PHASE run in threads of the runtime, and pass
+/// the gate before each try of a line.
+#[tactic(auto, using(crate::proofs::Ending::own_of, crate::proofs::Ending::rows_of, crate::proofs::Ending::once_of, crate::proofs::Ending::got_once_of, crate::proofs::Ending::order_of, crate::proofs::Resting::told_of_pumps, crate::proofs::Resting::rest_of_pumps, crate::proofs::Ending::bad_words, crate::proofs::Ending::completes))]
+pub fn mqnet<S: Source, K: Sink, H: Shelf, R: Threads + Wait + Sync, G: Gate + Sync>(
+    rt: &R,
     alloc: Global,
     words: &[String],
     source: &mut S,
     sink: &mut K,
     shelf: &mut H,
     start: u64,
+    gate: &G,
 ) -> Ended<H::D>
+where
+    H::D: Send,
     // By words and status: each history opens with what its disk told, and replays; all make a lawful story of the scenario of the
     // bytes read, or of the number, with every step whole where the run was not broken off; the bytes written are the report of
     // scenario, story, standing and ledger, or the number's line, or its front, or none; the verdict is what the story says.
@@ -332,5 +378,5 @@ pub fn mqnet<S: Source, K: Sink, H: Shelf>(
     // 0; or it is want of memory. By `soak` the status is one of a run where the sink doesn't fail.
     ensures complete { terms.Completes (terms.task_of (map string_bytes words.now)) (S.left source.old) (S.faults source.old) (S.faults source.new) (K.faults sink.old) (K.faults sink.new) result.status }
 {
-    obey_words(alloc, words, source, sink, shelf, start)
+    obey_words(rt, alloc, words, source, sink, shelf, start, gate)
 }

@@ -1,10 +1,14 @@
 use Rattle.std.proofs.Common.{◌∙◌}
 use Rattle.mq_nodes.proofs.Onward.{same}
-use Rattle.mq_steps.proofs.PhaseLaws.{phase_begins, phase_off, phase_on, phase_over}
+use Rattle.mq_nodes.proofs.PhasedLaws.{phase_broke, phase_told}
+use Rattle.mq_steps.proofs.PhaseLaws.{phase_off, phase_on, phase_over}
 use Rattle.mq_steps.proofs.phases.phase.Goals as goal
 
+pub returns-in_err-go : goal.returns-in_err-go
+returns-in_err-go g c = phase_broke c.args.scripts.now _ _ (g.N.Nodes.course c.args.nodes.now) (g.N.Nodes.course c.go.new.arg2) c.from_residual.ensures.1 (c.requires.phase_told _ _ _ _ c.in_err-go.ensures)
+
 pub loop-script-init : goal.loop-script-init
-loop-script-init g c = phase_begins c.args.scripts.now (g.N.Nodes.course c.args.nodes.now) c.requires.ready
+loop-script-init g c = phase_told c.args.scripts.now (g.N.Nodes.course c.args.nodes.now) (g.N.Nodes.course c.go.new.arg2) _ (c.requires.phase_told _ _ _ _ c.in_ok-go.ensures)
 
 pub run-requires-clause-rests : goal.run-requires-clause-rests
 run-requires-clause-rests g c = c.loop-script.invariant.rests c.requires.rests
@@ -18,7 +22,7 @@ loop-script-preserved g c =
 
 pub returns-in_err-run : goal.returns-in_err-run
 returns-in_err-run g c =
-    phase_off c.args.scenario.now c.args.scripts.now c.loop-script.script-index c.from_residual.result (g.N.Nodes.course c.args.nodes.now) (g.N.Nodes.course c.loop-script.nodes) (g.N.Nodes.course c.run.new.nodes) _ c.from_residual.ensures.1 c.requires.same c.requires.phased c.loop-script-test.true c.loop-script.invariant c.in_err-run.ensures
+    phase_off c.args.scenario.now c.args.scripts.now c.loop-script.script-index c.from_residual-in_err-run.result (g.N.Nodes.course c.args.nodes.now) (g.N.Nodes.course c.loop-script.nodes) (g.N.Nodes.course c.run.new.nodes) _ c.from_residual-in_err-run.ensures.1 c.requires.same c.requires.phased c.loop-script-test.true c.loop-script.invariant c.in_err-run.ensures
 
 pub returns : goal.returns
 returns g c = phase_over c.args.scripts.now c.loop-script.script-index (g.N.Nodes.course c.args.nodes.now) (g.N.Nodes.course c.loop-script.nodes) tt c.loop-script-test.false c.loop-script.invariant

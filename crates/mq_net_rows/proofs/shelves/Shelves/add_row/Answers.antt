@@ -19,9 +19,9 @@ invariant_of-self-in_err-seat c =
 pub invariant_of-self-2 : goal.invariant_of-self-2
 invariant_of-self-2 c =
     filled c.self.inside.store c.self.inside.queues (home_of c.self.inside.homes) c.self.inside.doubled c.args.self.now c.self.invariant c.self.view_is c.args.row c.either-self-inside.result c.has.result c.either-self-inside.ensures c.has.ensures
-    c.push.new.self c.fill.new.store c.seat.new.queues (home_of c.note_home.new.homes) c.len-slot.result c.args.at c.in_ok-push.ensures.ok c.len-slot.ensures c.requires c.in_ok-note_home.ensures.home c.in_ok-seat.ensures.seated c.fill.ensures
+    c.push.new.self c.fill.new.self c.seat.new.self (home_of c.note_home.new.homes) c.len-slot.result c.args.at c.in_ok-push.ensures.ok c.len-slot.ensures c.requires c.in_ok-note_home.ensures.home c.in_ok-seat.ensures.seated c.fill.ensures
 
 pub returns : goal.returns
 returns c =
     filled_view c.self.inside.store c.self.inside.queues (home_of c.self.inside.homes) c.self.inside.doubled c.args.self.now c.self.invariant c.self.view_is c.args.row c.either-self-inside.result c.has.result c.either-self-inside.ensures c.has.ensures
-    c.push.new.self c.fill.new.store c.seat.new.queues c.len-slot.result c.args.at c.in_ok-push.ensures.ok c.len-slot.ensures c.in_ok-seat.ensures.seated c.fill.ensures
+    c.push.new.self c.fill.new.self c.seat.new.self c.len-slot.result c.args.at c.in_ok-push.ensures.ok c.len-slot.ensures c.in_ok-seat.ensures.seated c.fill.ensures

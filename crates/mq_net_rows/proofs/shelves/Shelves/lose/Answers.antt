@@ -8,9 +8,9 @@ use Rattle.mq_net_rows.proofs.QueueLaws.{kept_view, kept_store}
 use Rattle.mq_net_rows.proofs.shelves.Shelves.lose.Goals as goal
 
 pub invariant_of-self : goal.invariant_of-self
-invariant_of-self c = subst (λ (st : List (Option Row)). IsStore st c.self.inside.queues (home_of c.self.inside.homes) c.self.inside.doubled) (sym c.clear_each_lost.ensures)
+invariant_of-self c = subst (λ (st : List (Option Row)). IsStore st c.self.inside.queues (home_of c.self.inside.homes) c.self.inside.doubled) (sym c.clear_lost.ensures)
     (kept_store (λ (row : Row). is_persistent row.message) c.self.inside.store c.self.inside.queues (home_of c.self.inside.homes) c.self.inside.doubled c.self.invariant)
 
 pub returns : goal.returns
-returns c = ap (λ (st : List (Option Row)). shelves_of st c.self.inside.queues) c.clear_each_lost.ensures ∙ kept_view (λ (row : Row). is_persistent row.message) c.self.inside.store c.self.inside.queues
+returns c = ap (λ (st : List (Option Row)). shelves_of st c.self.inside.queues) c.clear_lost.ensures ∙ kept_view (λ (row : Row). is_persistent row.message) c.self.inside.store c.self.inside.queues
     ∙ ap (leave_queues (λ (row : Row). is_persistent row.message)) c.self.view_is

@@ -5,6 +5,7 @@ use Rattle.mq_world.specs.Worlds.{IsNetwork, NetState, course_in}
 use Rattle.mq_world.proofs.ListLaws.{long_map}
 use Rattle.mq_world.proofs.MarkLaws.{has_room, marked_so, marks_keep, marks_lift}
 use Rattle.mq_world.proofs.OwnLaws.{marked_own}
+use Rattle.mq_world.proofs.RestLaws.{carried_net}
 use Rattle.mq_world.proofs.parts.NetParts.mark.Goals as goal
 
 pub mark_all-requires : goal.mark_all-requires
@@ -19,6 +20,9 @@ pub returns-clause-noted : goal.returns-clause-noted
 returns-clause-noted g c =
     ap course_in (marked_so c.args.idle c.mark_all.new.nodes c.self.view_is c.mark_all.ensures refl)
     ∙ marks_lift c.args.self.now c.args.idle c.requires.kept
+
+pub returns-clause-carried : goal.returns-clause-carried
+returns-clause-carried g c = carried_net c.args.self.now c.requires.kept
 
 pub returns-clause-long : goal.returns-clause-long
 returns-clause-long g c =

@@ -3,8 +3,8 @@ use Rattle.std.specs.Prelude.{map}
 use Rattle.mq_queue.specs.declared.row.Row.{Row}
 use Rattle.mq_queue.specs.Rows.{is_persistent}
 use Rattle.mq_net_rows.specs.Stored.{kept_slot}
-use Rattle.mq_net_rows.proofs.StoreLaws.{mapped_next, mapped_all, mapped_long}
-use Rattle.mq_net_rows.proofs.store.clear_each_lost.Goals as goal
+use Rattle.mq_net_rows.proofs.StoreLaws.{lasting_start, mapped_next, mapped_all, mapped_long}
+use Rattle.mq_net_rows.proofs.store.clear_lost_from.Goals as goal
 
 pub at_mut-requires : goal.at_mut-requires
 at_mut-requires c =
@@ -27,3 +27,6 @@ returns c =
     let len = c.len-at-end.ensures in
     let end : c.loop-at.at ≡ length c.args.store.now = omega (arith, past, within, len) in
     c.loop-at.invariant ∙ ap (λ n. map (kept_slot (λ (row : Row). is_persistent row.message)) (take n c.args.store.now) ++ drop n c.args.store.now) end ∙ mapped_all (kept_slot (λ (row : Row). is_persistent row.message)) c.args.store.now
+
+pub loop-at-init : goal.loop-at-init
+loop-at-init c = lasting_start c.args.store.now c.args.from c.requires
