@@ -184,7 +184,7 @@ fn either(one: bool, other: bool) -> bool
 
 /// Takes all nodes out of their locks, the first one first, and puts the courses of scripts back: whether an event found no memory. It
 /// takes no memory.
-pub fn take_all<'x, P: PhaseName, D: Disk, R: Wait + 'x>(
+pub fn take_all<'x, P: PhaseName, D: Disk, R: Wait>(
     rt: &'x R,
     mut locks: Vec<Mutex<Locked<'x, P, D, R>>>,
     nodes: &mut Vec<Node<D>>,
@@ -218,5 +218,6 @@ pub fn take_all<'x, P: PhaseName, D: Disk, R: Wait + 'x>(
         ends.push_reserved(held);
         wants = either(wants, wanted);
     }
+    locks.destroy_empty();
     wants
 }

@@ -59,6 +59,3 @@ loop-lock-preserved g c =
       others = on.1;
       back = on.2;
     }
-
-pub drop-locks-requires-lives-T-Destruct : goal.drop-locks-requires-lives-T-Destruct
-drop-locks-requires-lives-T-Destruct g c κs within = within
