@@ -124,13 +124,13 @@ fn calls_of_two_scripts_overlap(rt: HostRuntime) -> Result<(), Fail> {
     Ok(())
 }
 
-/// The tallies of both managers' disks; they are armed when the first script comes to the gate.
+/// The tallies of both managers' disks.
 #[derive(Drop)]
 struct Both {
     london: Arc<Tally>,
     paris: Arc<Tally>,
-    /// Whether the gate holds each script until PARIS's tally shows 1.
-    holds: bool,
+    /// The gate holds each script until PARIS's tally shows so many; with 0 nobody.
+    need: u64,
     held: Tally,
 }
 
@@ -138,21 +138,28 @@ impl Gate for Both {
     fn pass(&self, _point: &Point) {
         self.london.arm();
         self.paris.arm();
-        if self.holds {
-            self.held.wait_for(&self.paris, 1);
-        }
+        self.held.wait_for(&self.paris, self.need);
     }
 }
 
-fn tallied(alloc: Global, holds: bool) -> Result<Both, AllocError> {
+/// Tallies that the first script to come to the gate arms.
+fn tallied(alloc: Global, need: u64) -> Result<Both, AllocError> {
     let held = Tally::new();
     held.arm();
     Ok(Both {
         london: Arc::new(alloc, Tally::new())?,
         paris: Arc::new(alloc, Tally::new())?,
-        holds,
+        need,
         held,
     })
+}
+
+/// Tallies that are armed from the start.
+fn armed(alloc: Global, need: u64) -> Result<Both, AllocError> {
+    let gate = tallied(alloc, need)?;
+    gate.london.arm();
+    gate.paris.arm();
+    Ok(gate)
 }
 
 /// The meet of a manager: its syncs wait until the other's tally shows so many.
@@ -211,7 +218,7 @@ ENDSTEPS
 #[test]
 fn two_managers_force_at_the_same_time(rt: HostRuntime) -> Result<(), Fail> {
     for _ in 0..TIMES {
-        let gate = tallied(rt.alloc(), false)?;
+        let gate = tallied(rt.alloc(), 0)?;
         let meets = meets_of(rt.alloc(), &gate, 1)?;
         let ran = run_over(&rt, rt.alloc(), TWO_MANAGERS, meets, &gate)?;
         assert_eq!(rt; ran.status, 0);
@@ -246,16 +253,21 @@ ENDSCRIPT
 STEPS
 OBEY DP
 OBEY DL
-PHASE A B
-ENDSTEPS
 ";
 
+/// Behind the definitions PARIS forces in the first turns of the channel alone: how often it does before is seen in a run that ends there.
 #[test]
 fn ends_of_channels_take_turns(rt: HostRuntime) -> Result<(), Fail> {
+    let before = armed(rt.alloc(), 0)?;
+    let meets = meets_of(rt.alloc(), &before, 0)?;
+    let text = format!(in rt.alloc(); "{CHANNEL}ENDSTEPS\n")?;
+    let ran = run_over(&rt, rt.alloc(), text.as_str(), meets, &before)?;
+    assert_eq!(rt; ran.status, 0);
+    let text = format!(in rt.alloc(); "{CHANNEL}PHASE A B\nENDSTEPS\n")?;
     for _ in 0..TIMES {
-        let gate = tallied(rt.alloc(), true)?;
+        let gate = armed(rt.alloc(), before.paris.seen().saturating_add(1))?;
         let meets = meets_of(rt.alloc(), &gate, 0)?;
-        let ran = run_over(&rt, rt.alloc(), CHANNEL, meets, &gate)?;
+        let ran = run_over(&rt, rt.alloc(), text.as_str(), meets, &gate)?;
         assert_eq!(rt; ran.status, 0);
         assert!(rt; !gate.held.missed());
     }
