@@ -1,23 +1,21 @@
 -- The ends of cables at their managers: one more, one less, and their names.
-use Rattle.std.proofs.Common.{◌≡◌, ◌≢◌, ◌<◌, ◌≤◌, ◌+◌, ◌*◌, ℕ, zero, suc, Bool, true, false, List, [], ◌∷◌, ◌++◌, length, drop, refl, sym, ap, subst, ◌∙◌, append-nil, inl, inr, ⊎_elim, arith}
-use Rattle.std.specs.Prelude.{◌⊎◌, ◌==◌, if◌then◌else◌, not, IfSome, Option, Some, None, map, slice_get, slice_set}
+use Rattle.std.proofs.Common.{◌≡◌, ◌≢◌, ◌<◌, ◌≤◌, ◌+◌, ◌*◌, ℕ, zero, suc, Bool, true, false, List, [], ◌∷◌, ◌++◌, length, drop, refl, sym, ap, subst, ◌∙◌, append-nil, ⊎_elim, arith}
+use Rattle.std.specs.Prelude.{◌==◌, if◌then◌else◌, not, IfSome, Option, Some, None, map, slice_get, slice_set}
 use Rattle.std.proofs.lemmas.Bool.Decides.{nat_tests}
 use Rattle.atomic_table.specs.Seated.{TableId}
-use Rattle.mq_cable.specs.declared.fault.Fault.{Fault}
-use Rattle.mq_history.specs.declared.calls.Actor.{Actor}
 use Rattle.mq_history.specs.declared.scenario.CableLine.{CableLine}
 use Rattle.mq_spec_node.specs.Terms.{Entry}
-use Rattle.mq_spec_node.specs.Words.{is_receiver, is_sender, stamp_after}
+use Rattle.mq_spec_node.specs.Words.{is_receiver, is_sender}
 use Rattle.mq_ways.specs.Ways.{CableState}
 use Rattle.mq_shared.specs.declared.opening.Passes.{Passes}
 use Rattle.mq_shared.specs.declared.opening.Pipes.{Pipes}
 use Rattle.mq_shared.specs.Facing.{AreJoined, Facing, IsJoined}
 use Rattle.mq_shared.specs.Held.{Begun, EachIs, EndsApart, IsEndAt, acts_as, end_name, entries_begun, faults_at, manager_at, queue_at}
 use Rattle.mq_shared.specs.Joining.{ArePair, JoinsAgain}
-use Rattle.mq_shared.specs.Opening.{IsBare, bare, whole, wholes}
-use Rattle.mq_shared.specs.Parting.{AreEnds, AreEndsAt, AreRows, EndRowState, IsAdded, IsAmong, IsBegunOver, IsJoinedAt, IsRow, IsTaken, Passed, back_queue, backs_of, done_in, ends_by, ends_named, named_at, names_from, none_since, out_queue, outs_of}
-use Rattle.mq_shared.specs.Took.{EndKept, EndState, Took, way}
-use Rattle.mq_shared.proofs.PlaceLaws.{at_end, drop_at, drop_past, get_first, get_last, get_map, get_set, long_snoc, map_snoc, set_long, set_mine, set_other, set_same, snoc_first, some_is, there, within}
+use Rattle.mq_shared.specs.Opening.{IsBare, whole, wholes}
+use Rattle.mq_shared.specs.Parting.{AreEnds, AreEndsAt, AreRows, EndRowState, IsAdded, IsAmong, IsBegunOver, IsJoinedAt, IsRow, IsTaken, Passed, back_queue, done_in, ends_by, ends_named, named_at, names_from, none_since, out_queue}
+use Rattle.mq_shared.specs.Took.{EndKept, EndState, way}
+use Rattle.mq_shared.proofs.PlaceLaws.{at_end, drop_at, drop_past, get_first, get_last, get_map, get_set, long_snoc, map_snoc, set_long, snoc_first, some_is, there, within}
 
 -- A NAME AT A MANAGER
 same_true : (m : ℕ) → (m == m) ≡ true

@@ -1,6 +1,6 @@
 -- Lists by place: what stands there, at the end, and after a change at one place.
 use Rattle.std.proofs.Common.{◌≡◌, ◌≢◌, ◌<◌, ◌≤◌, ℕ, zero, suc, false, List, [], ◌∷◌, ◌++◌, length, drop, refl, sym, ap, ◌∙◌, inl, inr, ⊎_elim, arith}
-use Rattle.std.specs.Prelude.{◌⊎◌, ◌==◌, Some, None, map, slice_get, slice_set}
+use Rattle.std.specs.Prelude.{◌⊎◌, ◌==◌, Some, map, slice_get, slice_set}
 use Rattle.std.proofs.lemmas.Bool.Decides.{nat_tests}
 
 pub some_is : {A : Type 0} (x y : A) → Some x ≡ Some y → x ≡ y

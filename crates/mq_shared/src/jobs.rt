@@ -163,12 +163,7 @@ pub fn run_all<
     D: Disk + Send,
     R: Threads + Wait + Sync,
     G: Gate + Sync,
->(
-    rt: &R,
-    gate: &G,
-    locks: &[Mutex<Locked<'_, P, D, R>>],
-    jobs: &mut [Job],
-) {
+>(rt: &R, gate: &G, locks: &[Mutex<Locked<'_, P, D, R>>], jobs: &mut [Job]) {
     if jobs.is_empty() {
         return;
     }

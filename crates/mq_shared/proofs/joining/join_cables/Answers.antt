@@ -1,4 +1,4 @@
-use Rattle.std.proofs.Common.{◌≡◌, ◌<◌, ◌≤◌, length, refl, sym, ap, ◌∙◌, arith, rules}
+use Rattle.std.proofs.Common.{◌<◌, ◌≤◌, length, refl, ◌∙◌, arith, rules}
 use Rattle.mq_shared.proofs.PartLaws.{among_still, bare_at, ends_at_line, ends_first, ends_next, joined_all, joined_more}
 use Rattle.mq_shared.proofs.joining.join_cables.Goals as goal
 

@@ -6,4 +6,4 @@ use Rattle.mq_shared.proofs.phasing.join_back.Goals as goal
 
 pub returns-clause-joined : goal.returns-clause-joined
 returns-clause-joined g c =
-    subst (λ (s : ℕ → List Entry). AreJoined c.args.lines.now (λ (m : ℕ). entries_begun g.p.begun m ++ s m) c.join_cables.new.cables) c.requires.since c.join_cables.ensures.joined
+    subst (λ (s : ℕ → List Entry). AreJoined c.args.lines.now (λ (m : ℕ). entries_begun g.p.begun m ++ s m) c.join_cables.new.cables) c.requires.1.1.0 c.join_cables.ensures.joined
