@@ -139,18 +139,17 @@ pub ends_less : (b : Begun) (since : ℕ → List Entry) (names : ℕ → List (
 ends_less b since names at k side e old new h t =
     let mine = h at (t.rest ++ e ∷ []) t.there in
     let named : map end_name t.rest ++ end_name e ∷ [] ≡ names at ++ (k, side) ∷ [] = sym (map_snoc end_name t.rest e) ∙ mine.names_are ∙ ap (λ (xs : List (ℕ × Bool)). names at ++ xs) (named_here at k side) in
-    let parts = snoc_first (map end_name t.rest) (names at) (end_name e) (k, side) named in
-    (
+    let parts = snoc_first (map end_name t.rest) (names at) (end_name e) (k, side) named in (
       (λ m es f.
-      ⊎_elim
-      (λ (q : (m ≡ at) × (t.rest ≡ es)).
-      subst (λ (x : List EndState). AreEndsAt b since names m x) q.1
-      (subst (λ (n : ℕ). AreEndsAt b since names n t.rest) (sym q.0)
-      (record { names_are = parts.0; each = λ i x g. mine.each i x (get_first t.rest (e ∷ []) i x g) })))
-      (λ (q : (m ≢ at) × (slice_get old m ≡ Some es)).
-      let theirs = h m es q.1 in
-      record { names_are = theirs.names_are ∙ ap (λ (xs : List (ℕ × Bool)). names m ++ xs) (named_not at m k side q.0) ∙ append-nil (names m); each = theirs.each })
-      (get_set old at m t.rest es (subst (λ (l : List (List EndState)). slice_get l m ≡ Some es) t.is f))),
+          ⊎_elim
+          (λ (q : (m ≡ at) × (t.rest ≡ es)).
+          subst (λ (x : List EndState). AreEndsAt b since names m x) q.1
+          (subst (λ (n : ℕ). AreEndsAt b since names n t.rest) (sym q.0)
+          (record { names_are = parts.0; each = λ i x g. mine.each i x (get_first t.rest (e ∷ []) i x g) })))
+          (λ (q : (m ≢ at) × (slice_get old m ≡ Some es)).
+          let theirs = h m es q.1 in
+          record { names_are = theirs.names_are ∙ ap (λ (xs : List (ℕ × Bool)). names m ++ xs) (named_not at m k side q.0) ∙ append-nil (names m); each = theirs.each })
+          (get_set old at m t.rest es (subst (λ (l : List (List EndState)). slice_get l m ≡ Some es) t.is f))),
       mine.each (length t.rest) e (get_last t.rest e),
       ap (λ (x : ℕ × Bool). x.0) parts.1,
       ap (λ (x : ℕ × Bool). x.1) parts.1,

@@ -19,8 +19,7 @@ join_at-requires g c κs longer =
     let lt : k < length c.args.lines.now = search rules in
     let pipes = r.1.0.0 in
     let cables = r.1.0.1 in
-    let all = i.so_far.all in
-    (
+    let all = i.so_far.all in (
       search rules,
       (
         (lt, omega (arith, lt, pipes), omega (arith, lt, cables, all)),
