@@ -1,4 +1,4 @@
-use Rattle.std.proofs.Common.{◌≡◌, List, arith, refl, rules, subst, sym, ◌∙◌}
+use Rattle.std.proofs.Common.{List, arith, refl, rules, subst, sym, ◌∙◌}
 use Rattle.std.specs.Prelude.{Err}
 use Rattle.mq_nodes.specs.declared.nodes.Stop.TheVariants as stops
 use Rattle.mq_ways.specs.Ways.{CableState}
@@ -17,12 +17,58 @@ run_in-requires g c κs within =
     let nodes = e.nodes in
     let back = e.back in (
       search rules,
-      (search rules, (search rules, (search rules, (search rules, (search rules, (search rules, (search rules, (search rules,
-      (refl, (r.begun, (r.may, (r.open, (r.all, (r.bare,
-      ((ends.0 ∙ c.len.ensures, (λ i x at. let y = ends.1 i x at in let most = y.1 in (y.0, omega (arith, most, c.len-2.ensures)))),
-      ((rows.0 ∙ c.len.ensures, (λ m x at. let y = rows.1 m x at in let most = y.1 in (y.0, omega (arith, most, c.len-3.ensures)))),
-      ((locks.0, omega (arith, locks.1, c.len.ensures)),
-      ((nodes.0, omega (arith, nodes.1, c.len.ensures)), (back.0, omega (arith, back.1, c.len.ensures)))))))))))))))))))),
+      (
+        search rules,
+        (
+          search rules,
+          (
+            search rules,
+            (
+              search rules,
+              (
+                search rules,
+                (
+                  search rules,
+                  (
+                    search rules,
+                    (
+                      search rules,
+                      (
+                        refl,
+                        (
+                          r.begun,
+                          (
+                            r.may,
+                            (
+                              r.open,
+                              (
+                                r.all,
+                                (
+                                  r.bare,
+                                  (
+                                    (ends.0 ∙ c.len.ensures, (λ i x at. let y = ends.1 i x at in let most = y.1 in (y.0, omega (arith, most, c.len-2.ensures)))),
+                                    (
+                                      (rows.0 ∙ c.len.ensures, (λ m x at. let y = rows.1 m x at in let most = y.1 in (y.0, omega (arith, most, c.len-3.ensures)))),
+                                      (
+                                        (locks.0, omega (arith, locks.1, c.len.ensures)),
+                                        ((nodes.0, omega (arith, nodes.1, c.len.ensures)), (back.0, omega (arith, back.1, c.len.ensures))),
+                                      ),
+                                    ),
+                                  ),
+                                ),
+                              ),
+                            ),
+                          ),
+                        ),
+                      ),
+                    ),
+                  ),
+                ),
+              ),
+            ),
+          ),
+        ),
+      ),
     )
 
 pub returns-in-Err-clause-ran : goal.returns-in-Err-clause-ran
