@@ -1,6 +1,6 @@
 -- Cables whose items lie in their queues, one more and one less.
-use Rattle.std.proofs.Common.{◌≡◌, ◌≢◌, ◌<◌, ◌≤◌, ◌+◌, ℕ, zero, suc, List, [], ◌∷◌, ◌++◌, length, refl, sym, ap, subst, ◌∙◌, inl, inr, ⊎_elim, arith}
-use Rattle.std.specs.Prelude.{◌⊎◌, IfSome, Option, Some, None, OnErr, Result, Ok, Err, slice_get, slice_set}
+use Rattle.std.proofs.Common.{◌≡◌, ◌≢◌, ◌<◌, ◌≤◌, ◌+◌, ℕ, suc, List, [], ◌∷◌, ◌++◌, length, refl, sym, ap, subst, ◌∙◌, ⊎_elim, arith}
+use Rattle.std.specs.Prelude.{IfSome, Option, Some, None, OnErr, Result, Ok, Err, slice_get, slice_set}
 use Rattle.mq_ways.specs.Ways.{CableState}
 use Rattle.mq_shared.specs.declared.opening.Passes.{Passes}
 use Rattle.mq_shared.specs.declared.opening.Pipes.{Pipes}

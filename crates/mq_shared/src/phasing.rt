@@ -121,13 +121,7 @@ fn join_back<'x, D: Disk, R: Wait>(
 }
 
 /// Runs a phase over open directions, in memory that was taken.
-fn run_in<
-    'x,
-    P: PhaseName + Send + Sync,
-    D: Disk + Send,
-    R: Threads + Wait + Sync,
-    G: Gate + Sync,
->(
+fn run_in<'x, P: PhaseName + Send + Sync, D: Disk + Send, R: Threads + Wait + Sync, G: Gate + Sync>(
     rt: &'x R,
     alloc: Global,
     gate: &G,

@@ -1,7 +1,6 @@
-use Rattle.std.proofs.Common.{◌≡◌, ◌<◌, ◌+◌, ◌++◌, false, sym, ◌∙◌, arith}
-use Rattle.mq_shared.specs.Held.{IsEndAt, entries_begun}
+use Rattle.std.proofs.Common.{◌<◌, ◌+◌, ◌++◌, false, ◌∙◌, arith}
 use Rattle.mq_shared.specs.Opening.{whole}
-use Rattle.mq_shared.specs.Parting.{AreRows, back_queue, named_at, out_queue}
+use Rattle.mq_shared.specs.Parting.{back_queue, named_at, out_queue}
 use Rattle.mq_shared.proofs.PartLaws.{far_begins, near_begins, room_at, rows_far, rows_near}
 use Rattle.mq_shared.proofs.parting.part_cable.Goals as goal
 

@@ -1,5 +1,5 @@
-use Rattle.std.proofs.Common.{◌≡◌, ◌+◌, ◌++◌, ℕ, List, length, ap, arith, refl, rules, subst, sym, ◌∙◌}
-use Rattle.std.specs.Prelude.{Some, slice_get}
+use Rattle.std.proofs.Common.{◌≡◌, List, length, ap, arith, refl, rules, subst, sym, ◌∙◌}
+use Rattle.std.specs.Prelude.{slice_get}
 use Rattle.mq_events.specs.States.{NodeState}
 use Rattle.mq_shared.specs.Opening.{wholes}
 use Rattle.mq_shared.specs.Took.{EndState}
@@ -26,8 +26,22 @@ part_cables-requires g c κs within =
     let long_lines = ap length lines in
     let few = few_cables s ks ns cs ws ps b may is in (
       search rules,
-      (c.requires.1.1.1.1.1.1.1.1.1.1.1.1.0, (c.requires.1.1.1.1.1.1.1.1.1.1.1.1.1.1.0, (begun_over s ks ns cs ws ps b may is ls lines, ((omega (arith, long_lines, may.cables, long, all.1), sym all.1, omega (arith, few, long, all.1)), (joined_over s ks ns cs ws ps b may is ls lines,
-      (among_over s ks ns cs ws ps b may is ls (length c.args.room.ends) lines room.0, (λ i x at. let y = room.1 i x at in let most = y.1 in (y.0, omega (arith, most, all.1))))))))),
+      (
+        c.requires.1.1.1.1.1.1.1.1.1.1.1.1.0,
+        (
+          c.requires.1.1.1.1.1.1.1.1.1.1.1.1.1.1.0,
+          (
+            begun_over s ks ns cs ws ps b may is ls lines,
+            (
+              (omega (arith, long_lines, may.cables, long, all.1), sym all.1, omega (arith, few, long, all.1)),
+              (
+                joined_over s ks ns cs ws ps b may is ls lines,
+                (among_over s ks ns cs ws ps b may is ls (length c.args.room.ends) lines room.0, (λ i x at. let y = room.1 i x at in let most = y.1 in (y.0, omega (arith, most, all.1)))),
+              ),
+            ),
+          ),
+        ),
+      ),
     )
 
 pub lock_all-locks-requires-clause-begins : goal.lock_all-locks-requires-clause-begins
@@ -126,8 +140,19 @@ take_all-wants-requires g c κs within =
     let long = c.lock_all-locks.ensures.long in
     let all = ap (λ (x : Asked). length x.scenario.scripts) asked in (
       search rules,
-      (search rules, (search rules, (subst (λ (x : Asked). Begins x b) (sym asked) (begins_over s ks ns cs ws ps b may is), ((nodes.0, back.0),
-      ((omega (arith, locked, taken, none, nodes.1), omega (arith, locked, taken, none, back.1)), omega (arith, long, may.scripts, all)))))),
+      (
+        search rules,
+        (
+          search rules,
+          (
+            subst (λ (x : Asked). Begins x b) (sym asked) (begins_over s ks ns cs ws ps b may is),
+            (
+              (nodes.0, back.0),
+              ((omega (arith, locked, taken, none, nodes.1), omega (arith, locked, taken, none, back.1)), omega (arith, long, may.scripts, all)),
+            ),
+          ),
+        ),
+      ),
     )
 
 pub join_back-requires : goal.join_back-requires
@@ -159,8 +184,19 @@ join_back-requires g c κs within =
     let long = long_whole c.args.passes.items c.args.cables.now in
     let long_lines = ap length lines in (
       search rules,
-      (search rules, (refl, (begun_over s ks ns cs ws ps b may is ls lines, ((omega (arith, all.0, long_lines, may.cables, long), omega (arith, parted.1, long_lines, may.cables, long)),
-      (among_over s ks ns cs ws ps b may is ls (length c.from_vec-2.result) lines count_rows, (ends_over s ks ns cs ws ps b may is ls c.from_vec.result c.from_vec-2.result lines count count_rows out, c.part_cables.ensures.bare)))))),
+      (
+        search rules,
+        (
+          refl,
+          (
+            begun_over s ks ns cs ws ps b may is ls lines,
+            (
+              (omega (arith, all.0, long_lines, may.cables, long), omega (arith, parted.1, long_lines, may.cables, long)),
+              (among_over s ks ns cs ws ps b may is ls (length c.from_vec-2.result) lines count_rows, (ends_over s ks ns cs ws ps b may is ls c.from_vec.result c.from_vec-2.result lines count count_rows out, c.part_cables.ensures.bare)),
+            ),
+          ),
+        ),
+      ),
     )
 
 pub phase_ends-requires-clause-done : goal.phase_ends-requires-clause-done

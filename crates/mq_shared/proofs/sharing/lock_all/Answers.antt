@@ -1,7 +1,6 @@
-use Rattle.std.proofs.Common.{◌≡◌, ◌<◌, ◌+◌, ◌∷◌, ◌++◌, ℕ, [], length, ap, arith, subst, sym, ◌∙◌}
+use Rattle.std.proofs.Common.{◌≡◌, ℕ, [], length, ap, arith, subst, ◌∙◌}
 use Rattle.std.specs.Prelude.{◌≤◌, Some, slice_get}
 use Rattle.mq_events.specs.States.{NodeState}
-use Rattle.mq_progress.specs.Course.{Course}
 use Rattle.mq_shared.specs.Held.{EndsApart}
 use Rattle.mq_shared.specs.Parting.{AreEndsAt, EndRowState, ends_named, none_since}
 use Rattle.mq_shared.specs.Taking.{CoursesBelow, ScriptRowState}

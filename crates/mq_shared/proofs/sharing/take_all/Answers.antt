@@ -1,6 +1,4 @@
-use Rattle.std.proofs.Common.{◌≡◌, ◌+◌, ◌∷◌, ◌++◌, ℕ, List, [], false, length, ap, arith, refl, subst, sym, ◌∙◌}
-use Rattle.std.specs.Prelude.{Some, slice_get, vec_len}
-use Rattle.mq_events.specs.States.{NodeState}
+use Rattle.std.proofs.Common.{◌≡◌, ℕ, length, ap, arith, refl, subst, ◌∙◌}
 use Rattle.mq_acts.specs.Restarts.{StaysOwn}
 use Rattle.mq_shared.specs.Held.{entries_begun}
 use Rattle.mq_shared.proofs.ShareLists.{none_at}
@@ -44,7 +42,7 @@ loop-lock-preserved g c =
     let more = c.push_reserved.ensures.items in
     let more_ends = c.push_reserved-in-Some.ensures.items in
     let on = taken_on g.a b c.len.result c.loop-lock.nodes.items c.push_reserved.new.self.items c.loop-lock.ends.items c.push_reserved-in-Some.new.self.items c.loop-lock.courses c.put_courses.new.courses c.args.courses.now r.node r.ends r.scripts r.wants
-        c.requires.1.1.1.0 place c.take_one-node.ensures.kept c.take_one-node.ensures.history more more_ends same long_old put h.out h.others h.back in
+    c.requires.1.1.1.0 place c.take_one-node.ensures.kept c.take_one-node.ensures.history more more_ends same long_old put h.out h.others h.back in
     let one = longer c.loop-lock.nodes.items c.push_reserved.new.self.items r.node more in
     let one_end = longer c.loop-lock.ends.items c.push_reserved-in-Some.new.self.items r.ends more_ends in
     record {
