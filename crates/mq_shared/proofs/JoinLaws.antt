@@ -1,8 +1,7 @@
 -- Two ends of a cable that are out of their locks: their queues, and what lies on the cable.
-use Rattle.std.proofs.Common.{◌≡◌, ℕ, Bool, true, false, List, [], ◌∷◌, ◌++◌, refl, sym, ap, subst, ◌∙◌}
-use Rattle.std.specs.Prelude.{not, Option, Some, slice_get}
+use Rattle.std.proofs.Common.{◌≡◌, ℕ, Bool, true, false, List, ◌++◌, sym, ap, subst, ◌∙◌}
+use Rattle.std.specs.Prelude.{not, Some, slice_get}
 use Rattle.atomic_table.specs.Seated.{TableId}
-use Rattle.mq_cable.specs.declared.item.Item.{Item}
 use Rattle.mq_history.specs.declared.scenario.CableLine.{CableLine}
 use Rattle.mq_spec_node.specs.Terms.{Entry}
 use Rattle.mq_spec_node.specs.Words.{is_receiver, is_sender}

@@ -8,6 +8,7 @@ pub mod ScriptLaws
 pub mod StampLaws
 pub mod TriedLaws
 pub mod JoinLaws
+pub mod SendLaws
 pub mod OwnKept
 pub mod LineKept
 pub mod TurnKept
@@ -21,3 +22,4 @@ pub mod TakeLaws
 pub mod RanLaws
 pub mod OverLaws
 pub mod PartLaws
+pub mod ReadyLaws

@@ -1,6 +1,6 @@
 -- Cables whose items lie in their queues, one more and one less.
-use Rattle.std.proofs.Common.{◌≡◌, ◌≢◌, ◌<◌, ◌≤◌, ◌+◌, ℕ, zero, suc, List, [], ◌∷◌, ◌++◌, length, refl, sym, ap, subst, ◌∙◌, inl, inr, ⊎_elim, arith}
-use Rattle.std.specs.Prelude.{◌⊎◌, IfSome, Option, Some, None, OnErr, Result, Ok, Err, slice_get, slice_set}
+use Rattle.std.proofs.Common.{◌≡◌, ◌≢◌, ◌<◌, ◌≤◌, ◌+◌, ℕ, suc, List, [], ◌∷◌, ◌++◌, length, refl, sym, ap, subst, ◌∙◌, ⊎_elim, arith}
+use Rattle.std.specs.Prelude.{IfSome, Option, Some, None, OnErr, Result, Ok, Err, slice_get, slice_set}
 use Rattle.mq_ways.specs.Ways.{CableState}
 use Rattle.mq_shared.specs.declared.opening.Passes.{Passes}
 use Rattle.mq_shared.specs.declared.opening.Pipes.{Pipes}
@@ -27,8 +27,7 @@ pub open_more : (ps : List Pipes) (ss : List Passes) (p : Pipes) (s : Passes) �
 open_more ps ss p s long h o k t e =
     ⊎_elim
     (λ (q : slice_get ss k ≡ Some t). let x = h k t q in (x.0, get_first ps (p ∷ []) k x.0 x.1, x.2))
-    (λ (q : (k ≡ length ss) × (s ≡ t)).
-    (
+    (λ (q : (k ≡ length ss) × (s ≡ t)). (
       p,
       subst (λ (n : ℕ). slice_get (ps ++ p ∷ []) n ≡ Some p) (long ∙ sym q.0) (get_last ps p),
       subst (λ (u : Passes). IsOpen p u) q.1 o,

@@ -1,11 +1,9 @@
 -- A phase over open directions: what its parts ask of one another.
-use Rattle.std.proofs.Common.{◌≡◌, ℕ, ◌+◌, ◌≤◌, ◌<◌, Bool, true, false, List, [], ◌∷◌, ◌++◌, length, refl, sym, ap, subst, ◌∙◌, arith}
-use Rattle.std.specs.Prelude.{◌*◌, ◌^◌, Option, Some, None, Result, slice_get}
-use Rattle.atomic_table.specs.Seated.{TableId}
-use Rattle.mq_cable.specs.Lists.{AllLow}
+use Rattle.std.proofs.Common.{◌≡◌, ℕ, ◌≤◌, List, [], ◌∷◌, ◌++◌, length, refl, sym, ap, subst, ◌∙◌, arith}
+use Rattle.std.specs.Prelude.{Some, Result, slice_get}
 use Rattle.mq_history.specs.declared.scenario.CableLine.{CableLine}
 use Rattle.mq_history.specs.declared.scenario.Scenario.{Scenario}
-use Rattle.mq_spec_node.specs.Terms.{Entry, ScriptPart}
+use Rattle.mq_spec_node.specs.Terms.{Entry}
 use Rattle.mq_spec_node.specs.Words.{by, is_receiver, is_sender}
 use Rattle.mq_progress.specs.Course.{Course}
 use Rattle.mq_events.specs.States.{NodeState}

@@ -1,23 +1,21 @@
 -- The ends of cables at their managers: one more, one less, and their names.
-use Rattle.std.proofs.Common.{◌≡◌, ◌≢◌, ◌<◌, ◌≤◌, ◌+◌, ◌*◌, ℕ, zero, suc, Bool, true, false, List, [], ◌∷◌, ◌++◌, length, drop, refl, sym, ap, subst, ◌∙◌, append-nil, inl, inr, ⊎_elim, arith}
-use Rattle.std.specs.Prelude.{◌⊎◌, ◌==◌, if◌then◌else◌, not, IfSome, Option, Some, None, map, slice_get, slice_set}
+use Rattle.std.proofs.Common.{◌≡◌, ◌≢◌, ◌<◌, ◌≤◌, ◌+◌, ◌*◌, ℕ, zero, suc, Bool, true, false, List, [], ◌∷◌, ◌++◌, length, drop, refl, sym, ap, subst, ◌∙◌, append-nil, ⊎_elim, arith}
+use Rattle.std.specs.Prelude.{◌==◌, if◌then◌else◌, not, IfSome, Option, Some, None, map, slice_get, slice_set}
 use Rattle.std.proofs.lemmas.Bool.Decides.{nat_tests}
 use Rattle.atomic_table.specs.Seated.{TableId}
-use Rattle.mq_cable.specs.declared.fault.Fault.{Fault}
-use Rattle.mq_history.specs.declared.calls.Actor.{Actor}
 use Rattle.mq_history.specs.declared.scenario.CableLine.{CableLine}
 use Rattle.mq_spec_node.specs.Terms.{Entry}
-use Rattle.mq_spec_node.specs.Words.{is_receiver, is_sender, stamp_after}
+use Rattle.mq_spec_node.specs.Words.{is_receiver, is_sender}
 use Rattle.mq_ways.specs.Ways.{CableState}
 use Rattle.mq_shared.specs.declared.opening.Passes.{Passes}
 use Rattle.mq_shared.specs.declared.opening.Pipes.{Pipes}
 use Rattle.mq_shared.specs.Facing.{AreJoined, Facing, IsJoined}
 use Rattle.mq_shared.specs.Held.{Begun, EachIs, EndsApart, IsEndAt, acts_as, end_name, entries_begun, faults_at, manager_at, queue_at}
 use Rattle.mq_shared.specs.Joining.{ArePair, JoinsAgain}
-use Rattle.mq_shared.specs.Opening.{IsBare, bare, whole, wholes}
-use Rattle.mq_shared.specs.Parting.{AreEnds, AreEndsAt, AreRows, EndRowState, IsAdded, IsAmong, IsBegunOver, IsJoinedAt, IsRow, IsTaken, Passed, back_queue, backs_of, done_in, ends_by, ends_named, named_at, names_from, none_since, out_queue, outs_of}
-use Rattle.mq_shared.specs.Took.{EndKept, EndState, Took, way}
-use Rattle.mq_shared.proofs.PlaceLaws.{at_end, drop_at, drop_past, get_first, get_last, get_map, get_set, long_snoc, map_snoc, set_long, set_mine, set_other, set_same, snoc_first, some_is, there, within}
+use Rattle.mq_shared.specs.Opening.{IsBare, whole, wholes}
+use Rattle.mq_shared.specs.Parting.{AreEnds, AreEndsAt, AreRows, EndRowState, IsAdded, IsAmong, IsBegunOver, IsJoinedAt, IsRow, IsTaken, Passed, back_queue, done_in, ends_by, ends_named, named_at, names_from, none_since, out_queue}
+use Rattle.mq_shared.specs.Took.{EndKept, EndState, way}
+use Rattle.mq_shared.proofs.PlaceLaws.{at_end, drop_at, drop_past, get_first, get_last, get_map, get_set, long_snoc, map_snoc, set_long, snoc_first, some_is, there, within}
 
 -- A NAME AT A MANAGER
 same_true : (m : ℕ) → (m == m) ≡ true
@@ -141,18 +139,17 @@ pub ends_less : (b : Begun) (since : ℕ → List Entry) (names : ℕ → List (
 ends_less b since names at k side e old new h t =
     let mine = h at (t.rest ++ e ∷ []) t.there in
     let named : map end_name t.rest ++ end_name e ∷ [] ≡ names at ++ (k, side) ∷ [] = sym (map_snoc end_name t.rest e) ∙ mine.names_are ∙ ap (λ (xs : List (ℕ × Bool)). names at ++ xs) (named_here at k side) in
-    let parts = snoc_first (map end_name t.rest) (names at) (end_name e) (k, side) named in
-    (
+    let parts = snoc_first (map end_name t.rest) (names at) (end_name e) (k, side) named in (
       (λ m es f.
-      ⊎_elim
-      (λ (q : (m ≡ at) × (t.rest ≡ es)).
-      subst (λ (x : List EndState). AreEndsAt b since names m x) q.1
-      (subst (λ (n : ℕ). AreEndsAt b since names n t.rest) (sym q.0)
-      (record { names_are = parts.0; each = λ i x g. mine.each i x (get_first t.rest (e ∷ []) i x g) })))
-      (λ (q : (m ≢ at) × (slice_get old m ≡ Some es)).
-      let theirs = h m es q.1 in
-      record { names_are = theirs.names_are ∙ ap (λ (xs : List (ℕ × Bool)). names m ++ xs) (named_not at m k side q.0) ∙ append-nil (names m); each = theirs.each })
-      (get_set old at m t.rest es (subst (λ (l : List (List EndState)). slice_get l m ≡ Some es) t.is f))),
+          ⊎_elim
+          (λ (q : (m ≡ at) × (t.rest ≡ es)).
+          subst (λ (x : List EndState). AreEndsAt b since names m x) q.1
+          (subst (λ (n : ℕ). AreEndsAt b since names n t.rest) (sym q.0)
+          (record { names_are = parts.0; each = λ i x g. mine.each i x (get_first t.rest (e ∷ []) i x g) })))
+          (λ (q : (m ≢ at) × (slice_get old m ≡ Some es)).
+          let theirs = h m es q.1 in
+          record { names_are = theirs.names_are ∙ ap (λ (xs : List (ℕ × Bool)). names m ++ xs) (named_not at m k side q.0) ∙ append-nil (names m); each = theirs.each })
+          (get_set old at m t.rest es (subst (λ (l : List (List EndState)). slice_get l m ≡ Some es) t.is f))),
       mine.each (length t.rest) e (get_last t.rest e),
       ap (λ (x : ℕ × Bool). x.0) parts.1,
       ap (λ (x : ℕ × Bool). x.1) parts.1,

@@ -1,6 +1,7 @@
 -- Lists by place: what stands there, at the end, and after a change at one place.
-use Rattle.std.proofs.Common.{◌≡◌, ◌≢◌, ◌<◌, ◌≤◌, ℕ, zero, suc, List, [], ◌∷◌, ◌++◌, length, drop, refl, sym, ap, ◌∙◌, inl, inr, ⊎_elim, arith}
-use Rattle.std.specs.Prelude.{◌⊎◌, Some, None, map, slice_get, slice_set}
+use Rattle.std.proofs.Common.{◌≡◌, ◌≢◌, ◌<◌, ◌≤◌, ℕ, zero, suc, false, List, [], ◌∷◌, ◌++◌, length, drop, refl, sym, ap, ◌∙◌, inl, inr, ⊎_elim, arith}
+use Rattle.std.specs.Prelude.{◌⊎◌, ◌==◌, Some, map, slice_get, slice_set}
+use Rattle.std.proofs.lemmas.Bool.Decides.{nat_tests}
 
 pub some_is : {A : Type 0} (x y : A) → Some x ≡ Some y → x ≡ y
 some_is x y e = cc
@@ -105,3 +106,6 @@ before zero zero l = inr refl
 before zero (suc b) l = inl (omega arith)
 before (suc a) zero l = absurd (omega (arith, l))
 before (suc a) (suc b) l = ⊎_elim (λ (p : a < b). inl (omega (arith, p))) (λ (p : a ≡ b). inr (ap suc p)) (before a b (omega (arith, l)))
+
+pub some_there : (n : ℕ) → false ≡ (n == 0) → 0 < n
+some_there n h = grind (arith, nat_tests, h)

@@ -1,6 +1,6 @@
 -- Which scripts are a phase's and whose; their courses go out of their places and back.
 use Rattle.std.proofs.Common.{◌≡◌, ◌≢◌, ℕ, zero, suc, ◌+◌, ◌≤◌, ◌<◌, Bool, true, false, List, [], ◌∷◌, ◌++◌, length, map, drop, refl, sym, ap, subst, ◌∙◌, append_assoc, inl, inr, ⊎_elim, arith}
-use Rattle.std.specs.Prelude.{◌⊎◌, ◌==◌, ◌&&◌, ◌^◌, Option, Some, None, slice_get, slice_set, All}
+use Rattle.std.specs.Prelude.{◌==◌, ◌^◌, Option, Some, None, slice_get, slice_set}
 use Rattle.std.proofs.lemmas.Bool.Decides.{nat_tests}
 use Rattle.mq_base.specs.Members.{Mem}
 use Rattle.mq_history.specs.declared.scenario.Scenario.{Scenario}
@@ -10,9 +10,9 @@ use Rattle.mq_progress.specs.Course.{Course}
 use Rattle.mq_events.specs.States.{NodeState}
 use Rattle.mq_shared.specs.Held.{Begun, EachIs, IsScriptIn, ScriptState, ScriptsApart, entries_begun, script_name}
 use Rattle.mq_shared.specs.Phasing.{moment_or, tries_in, tries_one}
-use Rattle.mq_shared.specs.Sharing.{among, by_manager, first_if, is_here, last_if, named, named_from, out_if, put_all, rested, unbegun}
+use Rattle.mq_shared.specs.Sharing.{among, by_manager, first_if, is_here, last_if, named_from, out_if, put_all, rested, unbegun}
 use Rattle.mq_shared.specs.Taking.{Asked, Begins, CoursesAt}
-use Rattle.mq_shared.proofs.ShareLists.{any_mem, are_same, at_front, at_it, at_more, both_so, drop_one, itself, last_at, less, long_more, map_at, map_more, mem_any, mem_at, mem_either, mem_right, set_here, set_long, set_other, so_both, some_is, true_or_false}
+use Rattle.mq_shared.proofs.ShareLists.{any_mem, are_same, at_front, at_it, at_more, both_so, drop_one, last_at, long_more, map_at, map_more, mem_either, mem_right, set_here, set_long, set_other, some_is, true_or_false}
 
 -- WHAT IS TRIED
 tries_are : (s : Scenario) (ns : List NodeState) (k : ℕ) (ks : List ℕ) (p : ScriptPart) → slice_get s.scripts k ≡ Some p → tries_in s ns (k ∷ ks) ≡ record { script = k; part = p; moment = moment_or (slice_get ns p.manager) } ∷ tries_in s ns ks

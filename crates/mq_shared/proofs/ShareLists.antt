@@ -1,6 +1,6 @@
 -- Lists by their places: one value more at the end, one value set.
-use Rattle.std.proofs.Common.{◌≡◌, ◌≢◌, ℕ, zero, suc, ◌+◌, ◌≤◌, ◌<◌, Bool, true, false, List, [], ◌∷◌, ◌++◌, length, map, drop, refl, sym, ap, subst, ◌∙◌, append_assoc, append-nil, inl, inr, ⊎_elim, arith}
-use Rattle.std.specs.Prelude.{◌⊎◌, ◌==◌, ◌&&◌, ◌||◌, Option, Some, None, slice_get, slice_set}
+use Rattle.std.proofs.Common.{◌≡◌, ◌≢◌, ℕ, zero, suc, ◌+◌, ◌≤◌, ◌<◌, Bool, true, false, List, [], ◌∷◌, ◌++◌, length, map, drop, refl, sym, ap, subst, ◌∙◌, inl, inr, ⊎_elim, arith}
+use Rattle.std.specs.Prelude.{◌⊎◌, ◌==◌, ◌&&◌, ◌||◌, Some, None, slice_get, slice_set}
 use Rattle.std.specs.List.{All, list_any}
 use Rattle.std.proofs.lemmas.List.Elements.{All-get_or}
 use Rattle.std.proofs.lemmas.Option.{get_or_from_slice_get, slice_get_within}
@@ -155,3 +155,9 @@ mem_any (j ∷ js) k (inr h) = ⊎_elim
 -- what holds of each of a list, at a place of it
 pub at_it : {A : Type 0} (P : A → Type 0) (xs : List A) (k : ℕ) (x : A) → All P xs → slice_get xs k ≡ Some x → P x
 at_it P xs k x all is = subst P (get_or_from_slice_get xs k x x is) (All-get_or P xs k x (slice_get_within xs k x is) all)
+
+pub none_at : {A : Type 0} (xs : List A) (m : ℕ) (x : A) → xs ≡ [] → slice_get xs m ≡ Some x → ⊥
+none_at xs m x none e = nothing m (ap (λ (ys : List _). slice_get ys m) (sym none) ∙ e)
+  where
+    nothing : {A : Type 0} {y : A} (n : ℕ) → slice_get [] n ≡ Some y → ⊥
+    nothing n h = absurd cc

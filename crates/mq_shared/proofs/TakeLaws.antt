@@ -1,25 +1,24 @@
 -- Nodes go under their locks and come out of them, one by one: what is known of nodes, ends and courses goes on.
-use Rattle.std.proofs.Common.{◌≡◌, ◌≢◌, ℕ, zero, suc, ◌+◌, ◌≤◌, ◌<◌, Bool, true, false, List, [], ◌∷◌, ◌++◌, length, map, refl, sym, ap, subst, ◌∙◌, append-nil, inl, inr, ⊎_elim, arith}
-use Rattle.std.specs.Prelude.{◌⊎◌, ◌==◌, ◌&&◌, Option, Some, None, slice_get}
+use Rattle.std.proofs.Common.{◌≡◌, ◌≢◌, ℕ, ◌+◌, ◌≤◌, ◌<◌, Bool, true, false, List, [], ◌∷◌, ◌++◌, length, map, refl, sym, ap, subst, ◌∙◌, inl, inr, ⊎_elim, arith}
+use Rattle.std.specs.Prelude.{◌⊎◌, ◌==◌, ◌&&◌, Some, slice_get}
 use Rattle.mq_base.specs.Members.{Mem}
 use Rattle.mq_spec_node.specs.Terms.{Entry, ScriptPart}
-use Rattle.mq_spec_node.specs.Words.{Grows}
 use Rattle.mq_spec_network.specs.Tasks.{Trying}
 use Rattle.mq_progress.specs.Course.{Course}
 use Rattle.mq_events.specs.States.{IsKept, NodeState, value_of}
 use Rattle.mq_acts.specs.Serving.{IsDone}
 use Rattle.mq_acts.specs.Restarts.{StaysOwn}
 use Rattle.mq_shared.specs.Took.{EndState}
-use Rattle.mq_shared.specs.Held.{Begun, EachIs, EndsApart, Held, IsScriptIn, Kept, ScriptState, entries_begun, entries_or, script_name}
+use Rattle.mq_shared.specs.Held.{Begun, EachIs, EndsApart, IsScriptIn, Kept, ScriptState, entries_begun, entries_or, script_name}
 use Rattle.mq_shared.specs.Parting.{AreEndsAt, ends_named, none_since}
-use Rattle.mq_shared.specs.Phasing.{IsCourse, entries_in, tries_in}
+use Rattle.mq_shared.specs.Phasing.{IsCourse, entries_in}
 use Rattle.mq_shared.specs.Sharing.{among, is_here, named, named_from, put_all, rested}
-use Rattle.mq_shared.specs.Taking.{AreBack, AreDone, AreOut, Asked, Begins, CoursesAt, CoursesBelow, IsOut, NodesWait, OthersStay, OwnOut}
+use Rattle.mq_shared.specs.Taking.{AreBack, AreDone, AreOut, Asked, Begins, CoursesBelow, IsOut, OthersStay, OwnOut}
 use Rattle.mq_shared.proofs.KeptLaws.{grown_entries}
 use Rattle.mq_shared.proofs.BegunLaws.{kept_begun}
 use Rattle.mq_shared.proofs.OutLaws.{course_back}
 use Rattle.mq_shared.proofs.ShareLists.{are_same, at_front, at_more, itself, last_at, less, long_more, mem_any, mem_at, past, so_both, some_is, there, true_or_false, under_or_not}
-use Rattle.mq_shared.proofs.ShareLaws.{begins_tries, by_at, mem_try, named_has, put_here, put_long, put_other, scripts_apart}
+use Rattle.mq_shared.proofs.ShareLaws.{begins_tries, by_at, mem_try, named_has, put_here, put_other, scripts_apart}
 
 -- PLACES
 pub each_more : {A : Type 0} (P : ℕ → A → Type 0) (xs ys : List A) (x : A) → ys ≡ xs ++ x ∷ [] → P (length xs) x → ((m : ℕ) (y : A) → slice_get xs m ≡ Some y → P m y) → (m : ℕ) (y : A) → slice_get ys m ≡ Some y → P m y

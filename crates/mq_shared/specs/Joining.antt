@@ -1,7 +1,6 @@
 -- The two ends of a cable once they are out of their locks, and what lies on the cable then.
-use Rattle.std.specs.Prelude.{◌≡◌, ℕ, true, false, List, Some, slice_get}
+use Rattle.std.specs.Prelude.{◌≡◌, true, false, Some, slice_get}
 use Rattle.mq_history.specs.declared.scenario.CableLine.{CableLine}
-use Rattle.mq_spec_node.specs.Terms.{Entry}
 use Rattle.mq_ways.specs.Ways.{CableState}
 use Rattle.mq_shared.specs.Facing.{IsJoined}
 use Rattle.mq_shared.specs.Held.{IsEndAt, entries_begun}

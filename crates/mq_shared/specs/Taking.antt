@@ -1,5 +1,5 @@
 -- What is known of nodes and courses while a phase begins and ends: what goes under a lock, and what came out.
-use Rattle.std.specs.Prelude.{◌≡◌, ◌≢◌, ◌<◌, ◌≤◌, ℕ, Bool, true, false, List, [], drop, Some, length, map, slice_get}
+use Rattle.std.specs.Prelude.{◌≡◌, ◌<◌, ◌≤◌, ℕ, Bool, true, false, List, [], drop, Some, length, slice_get}
 use Rattle.mq_history.specs.Scenarios.{IsScenario}
 use Rattle.mq_history.specs.declared.scenario.Scenario.{Scenario}
 use Rattle.mq_spec_node.specs.Terms.{Entry, ScriptPart}
@@ -10,7 +10,7 @@ use Rattle.mq_acts.specs.Serving.{IsDone}
 use Rattle.mq_shared.specs.Took.{EndState}
 use Rattle.mq_shared.specs.Held.{Begun, EndsApart, Kept, ScriptState, entries_begun}
 use Rattle.mq_shared.specs.Parting.{AreEndsAt, EndRowState, ends_named, none_since}
-use Rattle.mq_shared.specs.Phasing.{AreCourses, AreReady, AreTexts, IsCourse, entries_in}
+use Rattle.mq_shared.specs.Phasing.{AreReady, AreTexts, IsCourse, entries_in}
 use Rattle.mq_shared.specs.Sharing.{among, begun_with}
 
 -- the scripts of a phase at a manager, with room for more

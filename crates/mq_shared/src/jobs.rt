@@ -6,7 +6,7 @@ use mq_disk::Disk;
 use mq_gate::{Gate, Point};
 use mq_turns::Turn;
 use std::sync::atomic::{AtomicU64, Ordering};
-use std::sync::{Mutex, Wait};
+use std::sync::{Mutex, MutexGuard, Wait};
 use std::thread;
 use std::thread::Threads;
 
@@ -59,7 +59,9 @@ fn run_script<P: PhaseName, D: Disk, R: Wait, G: Gate>(
             break;
         }
         gate.pass(&point);
-        let tried = lock.lock(rt).advance(at);
+        let mut held = lock.lock(rt);
+        let tried = held.advance(at);
+        MutexGuard::unlock(held);
         match tried {
             Ok(Tried::Done) => {
                 waits = 0;
@@ -88,7 +90,9 @@ fn time_out<P: PhaseName, D: Disk, R: Wait>(
     if still % TIMEOUT_AFTER != 0 {
         return true;
     }
-    let timed = lock.lock(rt).time_out(cable);
+    let mut held = lock.lock(rt);
+    let timed = held.time_out(cable);
+    MutexGuard::unlock(held);
     timed.is_ok()
 }
 
@@ -105,7 +109,9 @@ fn run_end<P: PhaseName, D: Disk, R: Wait>(
         if still >= PATIENCE || scripts.load(Ordering::SeqCst) == 0 {
             break;
         }
-        let turn = lock.lock(rt).turn(at);
+        let mut held = lock.lock(rt);
+        let turn = held.turn(at);
+        MutexGuard::unlock(held);
         match turn {
             Ok(Turn::Changed) => still = 0,
             Ok(Turn::Still) => {
@@ -157,12 +163,7 @@ pub fn run_all<
     D: Disk + Send,
     R: Threads + Wait + Sync,
     G: Gate + Sync,
->(
-    rt: &R,
-    gate: &G,
-    locks: &[Mutex<Locked<'_, P, D, R>>],
-    jobs: &mut [Job],
-) {
+>(rt: &R, gate: &G, locks: &[Mutex<Locked<'_, P, D, R>>], jobs: &mut [Job]) {
     if jobs.is_empty() {
         return;
     }

@@ -98,14 +98,7 @@ fn join_at<'a, R: Wait>(
     let queues = &pipes[at];
     let near = take_end(ends, line.sender);
     let far = take_end(ends, line.receiver);
-    join_again(
-        rt,
-        &queues.out,
-        &queues.back,
-        near,
-        far,
-        cables.at_mut(at),
-    );
+    join_again(rt, &queues.out, &queues.back, near, far, cables.at_mut(at));
 }
 
 /// All cables are joined again, from the first to the last: the ends at each manager stand as they stood when the cables were taken

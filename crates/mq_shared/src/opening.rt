@@ -121,13 +121,7 @@ fn open_at<R: Wait>(
 }
 
 /// Closes both directions of the cable at a place, from which nothing was popped.
-fn close_at<R: Wait>(
-    rt: &R,
-    pipes: &Pipes,
-    passes: Passes,
-    cables: &mut Items<Cable>,
-    at: usize,
-)
+fn close_at<R: Wait>(rt: &R, pipes: &Pipes, passes: Passes, cables: &mut Items<Cable>, at: usize)
     requires open { IsOpen pipes.now passes }
     requires there { at < length cables.old }
     requires bare { IfSome (slice_get cables.old at) IsBare }

@@ -32,7 +32,6 @@ use std::thread::Threads;
 
 /// All the memory of a phase: the rows of ends and of scripts at each manager, the locks, the workers, and the lists for what comes out
 /// of the locks.
-#[derive(Drop)]
 struct PhaseRoom<'x, P: PhaseName, D: Disk, R: Wait> {
     ends: Items<EndRow<'x, R>>,
     rows: Items<ScriptRow<'x>>,
@@ -61,9 +60,6 @@ fn room_for<'x, P: PhaseName, D: Disk, R: Wait>(
 {
     let ends = room_for_ends(alloc, managers, cables)?;
     let rows = room_for_scripts(alloc, managers, scripts)?;
-    let Ok(locks) = Vec::with_capacity(alloc, managers) else {
-        return Err(NoMemory);
-    };
     let Ok(nodes) = Vec::with_capacity(alloc, managers) else {
         return Err(NoMemory);
     };
@@ -71,6 +67,9 @@ fn room_for<'x, P: PhaseName, D: Disk, R: Wait>(
         return Err(NoMemory);
     };
     let jobs = Vec::new(alloc);
+    let Ok(locks) = Vec::with_capacity(alloc, managers) else {
+        return Err(NoMemory);
+    };
     Ok(PhaseRoom {
         ends,
         rows,
@@ -122,13 +121,7 @@ fn join_back<'x, D: Disk, R: Wait>(
 }
 
 /// Runs a phase over open directions, in memory that was taken.
-fn run_in<
-    'x,
-    P: PhaseName + Send + Sync,
-    D: Disk + Send,
-    R: Threads + Wait + Sync,
-    G: Gate + Sync,
->(
+fn run_in<'x, P: PhaseName + Send + Sync, D: Disk + Send, R: Threads + Wait + Sync, G: Gate + Sync>(
     rt: &'x R,
     alloc: Global,
     gate: &G,

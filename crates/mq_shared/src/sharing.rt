@@ -139,7 +139,7 @@ pub fn lock_all<'x, P: PhaseName, D: Disk, R: Wait>(
     requires long { length courses.old ≡ length scenario.now.scripts }
     requires courses { CoursesBelow (record { scenario = scenario.now; scripts = scripts.now }) P.begun (length nodes) courses.old }
     requires room { vec_len locks + length nodes ≤ vec_capacity locks }
-    ensures all { vec_len result ≡ vec_len locks + length nodes }
+    ensures all { vec_len result ≡ vec_len locks.entry + length nodes }
     ensures long { length courses.new ≡ length courses.old }
     ensures others { OthersStay (record { scenario = scenario.now; scripts = scripts.now }) courses.old courses.new }
 {
@@ -158,7 +158,7 @@ pub fn lock_all<'x, P: PhaseName, D: Disk, R: Wait>(
 
 /// Takes a node out of its lock. Each lock has its own node; where one had another's, this would wait for ever.
 fn take_one<'x, P: PhaseName, D: Disk, R: Wait>(
-    rt: &R,
+    rt: &'x R,
     lock: Mutex<Locked<'x, P, D, R>>,
     place: usize,
 ) -> Unlocked<'x, D, R>
@@ -185,7 +185,7 @@ fn either(one: bool, other: bool) -> bool
 /// Takes all nodes out of their locks, the first one first, and puts the courses of scripts back: whether an event found no memory. It
 /// takes no memory.
 pub fn take_all<'x, P: PhaseName, D: Disk, R: Wait>(
-    rt: &R,
+    rt: &'x R,
     mut locks: Vec<Mutex<Locked<'x, P, D, R>>>,
     nodes: &mut Vec<Node<D>>,
     ends: &mut Vec<Items<HeldEnd<'x, R>>>,
@@ -196,7 +196,7 @@ pub fn take_all<'x, P: PhaseName, D: Disk, R: Wait>(
     requires none { (nodes.old.items ≡ []) × (ends.old.items ≡ []) }
     requires room { (vec_len locks ≤ vec_capacity nodes.old) × (vec_len locks ≤ vec_capacity ends.old) }
     requires long { length courses.old ≡ length a.scenario.scripts }
-    ensures all { (length nodes.new.items ≡ vec_len locks) × (length ends.new.items ≡ vec_len locks) }
+    ensures all { (length nodes.new.items ≡ vec_len locks.entry) × (length ends.new.items ≡ vec_len locks.entry) }
     ensures out { AreOut P.begun nodes.new.items ends.new.items }
     ensures own { D.tells → OwnOut P.begun nodes.new.items }
     ensures done { (result ≡ false) → AreDone nodes.new.items }
@@ -218,5 +218,6 @@ pub fn take_all<'x, P: PhaseName, D: Disk, R: Wait>(
         ends.push_reserved(held);
         wants = either(wants, wanted);
     }
+    locks.destroy_empty();
     wants
 }

@@ -13,7 +13,7 @@ use std::thread::Threads;
 
 impl<D: Disk + Send> NetParts<D> {
     /// Scripts, places in the scenario, and the ends of channels go on in threads. Behind it no get waits.
-    #[tactic(auto, using(crate::proofs::PhaseLaws::phase_asks, crate::proofs::PhaseLaws::phase_keeps, crate::proofs::PhaseLaws::phase_tells, crate::proofs::PhaseLaws::phase_owns, crate::proofs::PhaseLaws::phase_long))]
+    #[tactic(auto, using(crate::proofs::PhaseLaws::phase_tells, crate::proofs::PhaseLaws::phase_long))]
     pub fn run_phase<R: Threads + Wait + Sync, G: Gate + Sync>(
         &mut self,
         rt: &R,

@@ -1,5 +1,5 @@
-use Rattle.std.proofs.Common.{◌≡◌, ◌<◌, length, ap, arith, subst, sym, ◌∙◌, refl, rules}
-use Rattle.std.specs.Prelude.{List, Some, slice_get}
+use Rattle.std.proofs.Common.{◌<◌, length, arith, subst, sym, refl, rules}
+use Rattle.std.specs.Prelude.{List}
 use Rattle.mq_shared.specs.Held.{EachIs, IsScriptIn, ScriptState, entries_begun}
 use Rattle.mq_shared.specs.Sharing.{is_here}
 use Rattle.mq_shared.proofs.ShareLists.{there}

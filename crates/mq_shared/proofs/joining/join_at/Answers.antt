@@ -1,5 +1,5 @@
-use Rattle.std.proofs.Common.{◌≡◌, ◌<◌, ℕ, Bool, false, true, List, ◌++◌, length, refl, sym, ap, subst, ◌∙◌, arith, rules}
-use Rattle.std.specs.Prelude.{IfSome, Option, Some, slice_get, slice_set}
+use Rattle.std.proofs.Common.{ℕ, false, true, List, ◌++◌, refl, sym, ap, subst, ◌∙◌, arith, rules}
+use Rattle.std.specs.Prelude.{IfSome, Option, slice_get, slice_set}
 use Rattle.std.proofs.lemmas.Option.{slice_get_read}
 use Rattle.atomic_table.specs.Seated.{TableId}
 use Rattle.mq_history.specs.declared.scenario.CableLine.{CableLine}

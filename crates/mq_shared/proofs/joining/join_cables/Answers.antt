@@ -1,4 +1,4 @@
-use Rattle.std.proofs.Common.{◌≡◌, ◌<◌, ◌≤◌, length, refl, sym, ap, ◌∙◌, arith, rules}
+use Rattle.std.proofs.Common.{◌<◌, ◌≤◌, length, refl, ◌∙◌, arith, rules}
 use Rattle.mq_shared.proofs.PartLaws.{among_still, bare_at, ends_at_line, ends_first, ends_next, joined_all, joined_more}
 use Rattle.mq_shared.proofs.joining.join_cables.Goals as goal
 
@@ -19,8 +19,7 @@ join_at-requires g c κs longer =
     let lt : k < length c.args.lines.now = search rules in
     let pipes = r.1.0.0 in
     let cables = r.1.0.1 in
-    let all = i.so_far.all in
-    (
+    let all = i.so_far.all in (
       search rules,
       (
         (lt, omega (arith, lt, pipes), omega (arith, lt, cables, all)),

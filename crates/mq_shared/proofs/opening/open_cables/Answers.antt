@@ -1,5 +1,4 @@
 use Rattle.std.proofs.Common.{◌≡◌, ◌<◌, ◌≤◌, ◌+◌, ◌++◌, ◌∷◌, [], List, length, sym, subst, rules}
-use Rattle.std.specs.Prelude.{vec_capacity, vec_len}
 use Rattle.mq_shared.specs.declared.opening.Passes.{Passes}
 use Rattle.mq_shared.specs.declared.opening.Pipes.{Pipes}
 use Rattle.mq_shared.specs.Opening.{AreOpen, IsBare}

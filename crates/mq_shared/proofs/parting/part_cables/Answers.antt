@@ -1,5 +1,4 @@
-use Rattle.std.proofs.Common.{◌≡◌, ◌<◌, ◌≤◌, ◌*◌, ℕ, drop, length, refl, sym, ap, subst, ◌∙◌, arith, rules}
-use Rattle.std.specs.Prelude.{slice_get, Some}
+use Rattle.std.proofs.Common.{◌≡◌, ◌<◌, ◌*◌, ℕ, drop, length, refl, subst, ◌∙◌, arith, rules}
 use Rattle.std.proofs.lemmas.Option.{slice_get_read}
 use Rattle.mq_shared.specs.Held.{entries_begun}
 use Rattle.mq_shared.specs.Parting.{AreRows, names_from, none_since}
@@ -43,8 +42,7 @@ part_cable-requires g c κs longer =
     let line_lt : k < length ls = search rules in
     let pipe = slice_get_read ps _ k _ refl lt c.index-pipes-at.is in
     let line = slice_get_read ls _ k _ refl line_lt c.index-lines-at.is in
-    let cable = c.at_mut.ensures.value in
-    (
+    let cable = c.at_mut.ensures.value in (
       search rules,
       (
         open_at_last ps passes rest s k c.index-pipes-at.result i.opened more at pipe,
@@ -100,4 +98,4 @@ pub returns-clause-apart : goal.returns-clause-apart
 returns-clause-apart g c =
     let none : length c.loop-open.passes.items ≡ 0 = search rules in
     λ m r at. ends_are_apart g.b none_since c.args.lines.now m r.ends
-        (rows_end g.b c.args.pipes.now c.args.lines.now (length c.loop-open.passes.items) _ c.loop-open.ends c.requires.1.1.1.0 none c.loop-open.invariant.placed m r at)
+    (rows_end g.b c.args.pipes.now c.args.lines.now (length c.loop-open.passes.items) _ c.loop-open.ends c.requires.1.1.1.0 none c.loop-open.invariant.placed m r at)

@@ -1,6 +1,6 @@
 use Rattle.std.proofs.Common.{◌≡◌, ◌≤◌, ◌+◌, length}
 use Rattle.std.specs.Prelude.{vec_capacity, vec_len}
-use Rattle.mq_shared.specs.Taking.{Asked, CoursesBelow, EndsWait, NodesWait, OthersStay, RowsWait}
+use Rattle.mq_shared.specs.Taking.{CoursesBelow, EndsWait, NodesWait, OthersStay, RowsWait}
 use Rattle.mq_shared.proofs.sharing.lock_all.Given as goal
 
 abbrev pub invariant-loop-node : goal.invariant-loop-node
