@@ -18,3 +18,6 @@ returns-in-Err-clause-own g c = fresh_own g.D.Disk.tells c.args.rested c.in-Err.
 
 pub returns-in-Err-clause-risen : goal.returns-in-Err-clause-risen
 returns-in-Err-clause-risen g c = fresh_risen c.args.rested c.in-Err.rested c.in-Err.ensures c.requires.stands c.requires.fresh
+
+pub run_steps-ran-requires-clause-phase_may : goal.run_steps-ran-requires-clause-phase_may
+run_steps-ran-requires-clause-phase_may g c = λ n ks ready rests same phased. (ready, rests, same, phased)
