@@ -1,5 +1,6 @@
 //! A scenario's run over a shelf: its managers begin, its steps are done, its report is written.
-ghost use Rattle.std.specs.Prelude.{◌≡◌, ℕ, [], Some, None, IfSome, option_map, map};
+ghost use Rattle.std.specs.Prelude.{◌≡◌, ℕ, List, [], Some, None, IfSome, OnOk, option_map, map};
+ghost use Rattle.mq_history.specs.declared.history.History.{History};
 ghost use Rattle.mq_run.specs.Words as words;
 ghost use Rattle.mq_run.specs.declared.status.Status.TheVariants.{WriteFault};
 ghost use Rattle.mq_disk.specs.declared.shelf.Side.TheVariants as sides;
@@ -66,6 +67,37 @@ struct Done<D: Disk> {
     rested: Rested<D>,
 }
 
+/// Does the steps of a scenario over its network; in a PHASE its scripts and the ends of channels go in threads.
+fn go_on<D: Disk + Send, R: Threads + Wait + Sync, G: Gate + Sync>(
+    rt: &R,
+    scenario: &Scenario,
+    network: &mut Network<D>,
+    gate: &G,
+) -> Result<(), Stop>
+    requires ready { words.Ready (words.course_in network.old).net }
+    requires rests { words.Rests (words.course_in network.old) }
+    requires unmarked { words.Unmarked (words.course_in network.old) }
+    requires same { (words.course_in network.old).net.scenario ≡ scenario.now }
+    requires scenario { words.IsScenario scenario.now }
+    requires texts { words.AllFit words.IsTextCommand scenario.now }
+    ensures ran { words.Ran result (words.course_in network.old) (words.course_in network.new) }
+    ensures lawful { (hs : List History) → words.Has scenario.now hs (words.course_in network.old) (words.course_in network.new) → words.AreSteps scenario.now hs }
+    ensures all { OnOk result ((hs : List History) → words.Has scenario.now hs (words.course_in network.old) (words.course_in network.new) → words.IsDone scenario.now hs) }
+    ensures carried { (hs : List History) → words.Has scenario.now hs (words.course_in network.old) (words.course_in network.new) → words.AreCarriedSoFar scenario.now hs }
+{
+    run_steps(
+        network,
+        scenario,
+        &|network: &mut Network<D>, scripts: &[u16]| -> Result<(), Stop>
+            requires ready { words.Ready (words.course_in network.old).net }
+            requires rests { words.Rests (words.course_in network.old) }
+            requires same { (words.course_in network.old).net.scenario ≡ scenario.now }
+            requires phased { words.ArePhased scenario.now scripts.now }
+            ensures { words.PhaseTold scripts.now result (words.course_in network.old) (words.course_in network.new) }
+        { network.phase(rt, gate, scenario, scripts) },
+    )
+}
+
 /// Does the steps of a scenario over its managers, and restarts last those that are down.
 #[tactic(auto, using(crate::proofs::JoinLaws::ran_none, crate::proofs::RunLaws::steps_ran, crate::proofs::RunLaws::steps_end))]
 fn do_steps<D: Disk + Send, R: Threads + Wait + Sync, G: Gate + Sync>(
@@ -95,17 +127,7 @@ fn do_steps<D: Disk + Send, R: Threads + Wait + Sync, G: Gate + Sync>(
             };
         }
     };
-    let ran = run_steps(
-        &mut network,
-        scenario,
-        &|network: &mut Network<D>, scripts: &[u16]| -> Result<(), Stop>
-            requires ready { words.Ready (words.course_in network.old).net }
-            requires rests { words.Rests (words.course_in network.old) }
-            requires same { (words.course_in network.old).net.scenario ≡ scenario.now }
-            requires phased { words.ArePhased scenario.now scripts.now }
-            ensures { words.PhaseTold scripts.now result (words.course_in network.old) (words.course_in network.new) }
-        { network.phase(rt, gate, scenario, scripts) },
-    );
+    let ran = go_on(rt, scenario, &mut network, gate);
     let rested = network.rest();
     let _ = rested.histories();
     Done { ran, rested }
