@@ -6,8 +6,17 @@ use Rattle.mq_spec_network.specs.Apart.{apart}
 use Rattle.mq_run.specs.Ends.{NoneEnds}
 use Rattle.mq_run.specs.declared.status.Status.TheVariants as status
 use Rattle.mq_run.proofs.DiskLaws.{begun_risen}
-use Rattle.mq_run.proofs.RunLaws.{run_apart, run_at, run_none, run_wants, stays}
+use Rattle.mq_run.proofs.JoinLaws.{fresh}
+use Rattle.mq_run.proofs.RunLaws.{begun_timed, run_apart, run_at, run_none, run_wants, stays}
 use Rattle.mq_run.proofs.running.run_scenario.Goals as goal
+
+pub run_whole-requires-clause-fresh : goal.run_whole-requires-clause-fresh
+run_whole-requires-clause-fresh g c κs within =
+    fresh g.H.D.Disk.tells (λ n b. g.H.Shelf.holds c.args.shelf.now n sides.A b) c.args.scenario.now (moment_or c.args.scenario.now.moment c.args.start) c.in-Ok.rested c.histories.ensures.rested c.in-Ok.ensures
+
+pub run_whole-requires-clause-timed : goal.run_whole-requires-clause-timed
+run_whole-requires-clause-timed g c κs within =
+    begun_timed g.H.D.Disk.tells (λ n b. g.H.Shelf.holds c.args.shelf.now n sides.A b) c.args.scenario.now c.args.start c.in-Ok.rested c.requires.scenario c.histories.ensures.rested c.in-Ok.ensures
 
 pub returns-in-Err-clause-ends : goal.returns-in-Err-clause-ends
 returns-in-Err-clause-ends g c =
