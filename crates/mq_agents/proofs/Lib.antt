@@ -1,4 +1,5 @@
 pub mod WalkLaws
+pub mod HeldLaws
 pub mod ExpireLaws
 pub mod EndLaws
 pub mod WriteLaws

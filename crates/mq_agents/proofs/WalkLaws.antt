@@ -1,13 +1,20 @@
 -- Rows that are looked for on a queue.
-use Rattle.std.proofs.Common.{◌≡◌, ℕ, zero, suc, ◌+◌, ◌-◌, ◌<◌, ◌≤◌, Bool, true, false, cond, List, [], ◌∷◌, length, refl, ap, arith, sym, ◌∙◌}
-use Rattle.std.specs.Prelude.{ℤ, pos, negsuc, Option, Some, None, is_some, find, filter, count_by, nat_lt, slice_get, ◌&&◌, ◌||◌}
+use Rattle.std.proofs.Common.{◌≡◌, ℕ, zero, suc, ◌+◌, ◌-◌, ◌<◌, ◌≤◌, Bool, true, false, cond, List, [], ◌∷◌, ◌++◌, length, refl, ap, arith, sym, ◌∙◌}
+use Rattle.std.specs.Prelude.{ℤ, pos, negsuc, Option, Some, None, is_some, find, filter, map, take, count_by, nat_lt, slice_get, ◌&&◌, ◌||◌}
 use Rattle.std.specs.List.{list_any}
 use Rattle.std.proofs.lemmas.Bool.Decides.{nat_tests}
 use Rattle.std.proofs.lemmas.List.Sums.{length-filter}
 use Rattle.mq_message.specs.declared.message.Ident.{Ident}
 use Rattle.mq_queue.specs.declared.row.Row.{Row}
 use Rattle.mq_queue.specs.Rows.{is_free, has_priority}
-use Rattle.mq_queue.specs.Queues.{count_waiting}
+use Rattle.mq_queue.specs.Queues.{AreInOrder, count_waiting}
+use Rattle.mq_message.specs.declared.place.Place.{Place}
+use Rattle.mq_message.specs.declared.place.Holder.{Holder}
+use Rattle.mq_calls.specs.declared.records.Remove.{Remove}
+use Rattle.mq_calls.specs.State.{Queue}
+use Rattle.mq_place.specs.States.{holds, named_row, rows_after}
+use Rattle.mq_place.specs.Held.{held_left}
+use Rattle.mq_place.proofs.HeldLaws.{none_passed, passed_next}
 use Rattle.mq_calls.specs.Reads.{is_past}
 use Rattle.mq_spec_manager.specs.Agents.{at_number}
 use Rattle.mq_agents.specs.Ends.{is_free_past}
@@ -50,3 +57,35 @@ and_true false b e = refl
 -- free rows are counted
 pub waiting_rows : (rows : List Row) → count_waiting 0 rows ≡ length (filter is_free rows)
 waiting_rows rows = (λ i. count_by (λ (row : Row). and_true (is_free row) (has_priority 0 row.message.md.priority) (any_priority row.message.md.priority) i) rows) ∙ sym (length-filter is_free rows)
+
+-- the first rows that a holder has behind a place: from one to the next
+
+take_none : {A : Type 0} (n : ℕ) → take {A = A} n [] ≡ []
+take_none zero = refl
+take_none (suc n) = refl
+
+nothing_more : (xs : List Remove) → xs ++ [] ≡ xs
+nothing_more [] = refl
+nothing_more (x ∷ xs) = ap (λ (zs : List Remove). x ∷ zs) (nothing_more xs)
+
+joined : (xs ys : List Remove) (x : Remove) → (xs ++ x ∷ []) ++ ys ≡ xs ++ x ∷ ys
+joined [] ys x = refl
+joined (y ∷ xs) ys x = ap (λ (zs : List Remove). y ∷ zs) (joined xs ys x)
+
+pub few_none : (so_far : List Remove) (n : ℕ) (by : Holder) (after : Option Place) (q : Queue) → None ≡ find (holds by) (rows_after after q.rows) → so_far ++ take n (held_left by after q) ≡ so_far
+few_none so_far n by after q e =
+    ap (λ (rs : List Row). so_far ++ take n (map (named_row q.name) rs)) (none_passed (holds by) (rows_after after q.rows) (sym e))
+    ∙ ap (λ (rs : List Remove). so_far ++ rs) (take_none n) ∙ nothing_more so_far
+
+pub few_next : (so_far : List Remove) (most n : ℕ) (by : Holder) (after : Option Place) (q : Queue) (row : Row) → AreInOrder q.rows → n < most → Some row ≡ find (holds by) (rows_after after q.rows)
+    → (so_far ++ named_row q.name row ∷ []) ++ take (most - (n + 1)) (held_left by (Some row.place) q) ≡ so_far ++ take (most - n) (held_left by after q)
+few_next so_far most n by after q row order lt e =
+    let one : most - n ≡ suc (most - (n + 1)) = omega (arith, lt) in
+    joined so_far (take (most - (n + 1)) (held_left by (Some row.place) q)) (named_row q.name row)
+    ∙ ap (λ (rs : List Remove). so_far ++ rs)
+    (sym (ap (λ (rs : List Row). take (most - n) (map (named_row q.name) rs)) (passed_next (holds by) after q.rows row order e)
+    ∙ ap (λ (k : ℕ). take k (named_row q.name row ∷ held_left by (Some row.place) q)) one))
+
+pub few_done : (so_far : List Remove) (most n : ℕ) (by : Holder) (after : Option Place) (q : Queue) → most ≤ n → so_far ++ take (most - n) (held_left by after q) ≡ so_far
+few_done so_far most n by after q le =
+    let none : most - n ≡ 0 = omega (arith, le) in ap (λ (k : ℕ). so_far ++ take k (held_left by after q)) none ∙ nothing_more so_far

@@ -3,12 +3,13 @@ use Rattle.std.specs.Prelude.{◌≡◌, ℕ, Bool, true, false, List, [], ◌�
 use Rattle.mq_message.specs.declared.place.Holder.{Holder}
 use Rattle.mq_calls.specs.declared.agents.Note.TheVariants as notes
 use Rattle.mq_calls.specs.declared.deltas.Did.TheVariants as did
-use Rattle.mq_calls.specs.Words.{Luw, Change, SenderData, HeldBy, kept_in, released_in, data_settled, settle_by}
+use Rattle.mq_calls.specs.Words.{Luw, Change, SenderData, Row, HeldBy, Among, kept_in, released_in, data_settled, settle_by}
 use Rattle.mq_calls.specs.declared.records.Remove.{Remove}
 use Rattle.mq_calls.specs.declared.deltas.Did.{Did}
 use Rattle.mq_calls.specs.State.{Queue}
 use Rattle.mq_calls.specs.State.Change.{SetSender}
 use Rattle.mq_spec_manager.specs.Agents.{settle_change, settle_did}
+use Rattle.mq_law_manager.specs.Facts.{Mem, Differ, ident_of, AreNamed}
 use Rattle.mq_place.specs.States.{on_queues}
 use Rattle.mq_core.specs.declared.parts.ChannelEnds.{ChannelEnds}
 use Rattle.mq_core.specs.declared.parts.StoppedWrite.{StoppedWrite}
@@ -24,6 +25,29 @@ settled_in false by = released_in (HeldBy by) false
 
 abbrev pub rows_settled : (commit : Bool) → Holder → PartsValue → PartsValue
 rows_settled commit by x = with_states (on_queues (settled_in commit by) x.queues.states) x
+
+-- a row goes, or is free again; so each of some
+abbrev pub row_in : (commit : Bool) → Remove → Queue → Queue
+row_in true r = kept_in (Among r.queue (r.ident ∷ []))
+row_in false r = released_in (Among r.queue (r.ident ∷ [])) false
+
+abbrev pub each_in : (commit : Bool) → List Remove → Queue → Queue
+each_in commit [] q = q
+each_in commit (r ∷ rs) q = each_in commit rs (row_in commit r q)
+
+abbrev pub row_settled : (commit : Bool) → Remove → PartsValue → PartsValue
+row_settled true r x = with_states (on_queues (kept_in (Among r.queue (r.ident ∷ []))) x.queues.states) x
+row_settled false r x = with_states (on_queues (released_in (Among r.queue (r.ident ∷ [])) false) x.queues.states) x
+
+abbrev pub each_settled : (commit : Bool) → List Remove → PartsValue → PartsValue
+each_settled commit [] x = x
+each_settled commit (r ∷ rs) x = each_settled commit rs (row_settled commit r x)
+
+-- each queue has one name, and each ident one row
+pub record AreLone (qs : List Queue) : Type 0 where
+  pub named : AreNamed qs
+  pub once : (q : Queue) → Mem q qs → Differ ident_of q.rows
+  pub alone : (q d : Queue) (h k : Row) → Mem q qs → Mem d qs → Mem h q.rows → Mem k d.rows → h.message.ident ≡ k.message.ident → q.name ≡ d.name
 
 -- the record was forced, and the rows are handed back; or there was no memory, or its write was stopped
 abbrev pub WritesRows : List Remove → List ℕ → ChannelEnds → StoppedWrite → PartsValue → Result (List Remove) Unwritten → PartsValue → Type 0

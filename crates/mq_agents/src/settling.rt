@@ -1,7 +1,11 @@
 //! A unit in doubt is settled: its rows go, or are free again.
-ghost use Rattle.std.specs.Prelude.{◌≡◌, ◌<◌, ◌≤◌, ◌^◌, Some, true, map, length, IfOk};
-ghost use Rattle.mq_calls.specs.Words.{MeetsOrWants, set_sender, data_settled, settle_by};
-ghost use Rattle.mq_spec_manager.specs.Agents.{IsUp, harden, held_rows, settle_did};
+ghost use Rattle.std.specs.Prelude.{◌≡◌, ◌<◌, ◌≤◌, ◌^◌, Some, true, map, length, take, flat_map, option_copied, IfOk};
+ghost use Rattle.mq_message.specs.declared.place.Holder.TheVariants as holders;
+ghost use Rattle.mq_calls.specs.Words.{MeetsOrWants, set_sender, sender_data, data_settled, settle_by, stored};
+ghost use Rattle.mq_calls.specs.Reads.{in_doubt_of};
+ghost use Rattle.mq_spec_manager.specs.Agents.{IsUp, harden, held_on, held_rows, settle_did};
+ghost use Rattle.mq_law_manager.specs.Facts.{Sound, AreNamed};
+ghost use Rattle.mq_place.specs.States.{queues_of};
 ghost use Rattle.mq_calls.specs.declared.agents.Note.TheVariants as notes;
 ghost use Rattle.mq_calls.specs.declared.records.LogRecord.TheVariants as records;
 ghost use Rattle.mq_record.specs.Records.{record_bytes};
@@ -10,18 +14,19 @@ ghost use Rattle.mq_core.specs.declared.parts.StoppedWrite.TheVariants as writes
 ghost use Rattle.mq_core.specs.Views.{plain_of};
 ghost use Rattle.mq_agents.specs.Ends.{by_agent};
 ghost use Rattle.mq_agents.specs.Written.{IsWhole, with_senders};
-ghost use Rattle.mq_agents.specs.Settling.{WritesRows, rows_settled};
+ghost use Rattle.mq_agents.specs.Settling.{AreLone, WritesRows, each_settled, row_settled, rows_settled};
 ghost use Rattle.mq_core.specs.Values.{manager_of, WritesLog};
 
 use crate::hardening::{Unwritten, agent_of, go_down, sender_now, stop_of};
-use mq_base::{ChName, Items, NoMemory};
+use crate::walking::first_held;
+use mq_base::{ChName, Items, NoMemory, QName};
 use mq_calls::{AgentStop, Did, Note, Remove, SenderSide, Why};
 use mq_core::{Core, Parts, StoppedWrite};
 use mq_disk::Disk;
 use mq_message::Holder;
 use mq_record::resolved_bytes;
-use mq_sides::{swap_side, undo_side};
-use mq_sync::{SenderData, Unit};
+use mq_sides::{sender_of, swap_side, undo_side};
+use mq_sync::{InDoubt, SenderData, Unit};
 use mq_unit::Effects;
 
 /// As many rows as no manager holds.
@@ -44,8 +49,8 @@ fn settled_data(old: SenderData, commit: bool) -> SenderData
     }
 }
 
-/// The rows that a holder has, queue by queue.
-fn rows_held<D: Disk>(parts: &Parts<D>, by: &Holder) -> Result<Items<Remove>, NoMemory>
+/// The rows that a holder has, queue by queue. It walks over the rows of all queues.
+fn all_held<D: Disk>(parts: &Parts<D>, by: &Holder) -> Result<Items<Remove>, NoMemory>
     ensures { IfOk result (λ rows. rows ≡ held_rows by.now (plain_of parts.now)) }
 {
     let mut rows = Items::new(parts.alloc);
@@ -53,6 +58,61 @@ fn rows_held<D: Disk>(parts: &Parts<D>, by: &Holder) -> Result<Items<Remove>, No
         Ok(()) => Ok(rows),
         Err(NoMemory) => Err(NoMemory),
     }
+}
+
+/// The first rows that a holder has on a queue, at most so many. It walks to the last of them.
+#[tactic(auto, using(mq_core::proofs::PlaceLaws::queue_in_state, mq_core::proofs::ReadLaws::queue_none))]
+fn rows_on<D: Disk>(
+    parts: &Parts<D>,
+    queue: &QName,
+    by: &Holder,
+    most: usize,
+) -> Result<Items<Remove>, NoMemory>
+    ensures { IfOk result (λ rows. rows ≡ take most (held_on by.now (stored queue.now (plain_of parts.now)))) }
+{
+    let mut rows = Items::new(parts.alloc);
+    match parts.queues.local(queue) {
+        None => Ok(rows),
+        Some(local) => match first_held(local, by, most, &mut rows) {
+            Ok(()) => Ok(rows),
+            Err(NoMemory) => Err(NoMemory),
+        },
+    }
+}
+
+/// What a channel's sender has in doubt.
+fn doubt_now<'a, D: Disk>(parts: &'a Parts<D>, channel: &ChName) -> Option<&'a InDoubt>
+    ensures { option_copied result ≡ in_doubt_of (sender_data channel.now (plain_of parts.now)) }
+{
+    let Some(data) = sender_of(&parts.ends.senders, channel) else {
+        return None;
+    };
+    match &data.in_doubt {
+        None => None,
+        Some(doubt) => Some(doubt),
+    }
+}
+
+/// The rows that the batch of a channel holds, queue by queue. Where as many of them stand on the queue of the unit in doubt as that
+/// lists, there are no others, and the walk ends with the last of them.
+fn rows_held<D: Disk>(parts: &Parts<D>, channel: &ChName) -> Result<Items<Remove>, NoMemory>
+    requires sound { Sound (plain_of parts.now) }
+    requires named { AreNamed (plain_of parts.now).queues }
+    ensures { IfOk result (λ rows. rows ≡ held_rows (holders.Batch channel.now) (plain_of parts.now)) }
+{
+    let by = Holder::Batch(*channel);
+    let Some(doubt) = doubt_now(parts, channel) else {
+        return all_held(parts, &by);
+    };
+    let most = doubt.idents.len();
+    let rows = match rows_on(parts, &doubt.queue, &by, most) {
+        Ok(rows) => rows,
+        Err(NoMemory) => return Err(NoMemory),
+    };
+    if rows.len() == most {
+        return Ok(rows);
+    }
+    all_held(parts, &by)
 }
 
 /// Forces the record of a unit in doubt that is settled, with what it says of the sender; the rows are handed back. Where its write was
@@ -99,15 +159,33 @@ fn write_settled<D: Disk>(
     Ok(rows)
 }
 
-/// The rows that a holder has go, or are free again at their places. It takes no memory.
-fn settle_rows<D: Disk>(parts: &mut Parts<D>, by: &Holder, commit: bool)
-    ensures { parts.new ≡ rows_settled commit by.now parts.old }
+/// A row goes, or is free again at its place, with no backout counted. It takes no memory.
+fn settle_row<D: Disk>(parts: &mut Parts<D>, row: &Remove, commit: bool)
+    ensures { parts.new ≡ row_settled commit row.now parts.old }
 {
     if commit {
-        parts.queues.remove_held(by);
+        let _message = parts.queues.remove(&row.queue, &row.ident);
     } else {
-        parts.queues.free_held(by);
+        parts.queues.release(&row.queue, &row.ident, false);
     }
+}
+
+/// So each of some rows.
+fn settle_each<D: Disk>(parts: &mut Parts<D>, rows: &[Remove], commit: bool)
+    ensures { parts.new ≡ each_settled commit rows.now parts.old }
+{
+    for row in rows {
+        settle_row(parts, row, commit);
+    }
+}
+
+/// The rows that a holder has, all of them, go, or are free again at their places. It takes no memory.
+fn settle_rows<D: Disk>(parts: &mut Parts<D>, rows: &Items<Remove>, by: &Holder, commit: bool)
+    requires listed { rows.now ≡ flat_map (held_on by.now) (queues_of parts.old.queues.states) }
+    requires lone { AreLone (queues_of parts.old.queues.states) }
+    ensures { parts.new ≡ rows_settled commit by.now parts.old }
+{
+    settle_each(parts, rows.as_slice(), commit);
 }
 
 fn tell_one_settled(effects: &mut Effects, row: &Remove, commit: bool)
@@ -149,6 +227,8 @@ fn settle_unit<D: Disk>(
     bytes: &[u8],
 ) -> Result<(), AgentStop>
     requires up { IsUp core.old.plain }
+    requires sound { Sound core.old.plain }
+    requires named { AreNamed core.old.plain.queues }
     requires bytes { bytes.now ≡ record_bytes (records.Resolved channel.now unit.now commit operator) }
     requires size { IsWhole bytes.now (records.Resolved channel.now unit.now commit operator) }
     requires small { length bytes.now < 2 ^ 32 }
@@ -156,8 +236,7 @@ fn settle_unit<D: Disk>(
     ensures told { WritesLog core.old (harden channel.now (notes.Resolved unit.now commit operator) core.old.plain) (by_agent result) core.new }
 {
     core.begin_call();
-    let by = Holder::Batch(*channel);
-    let rows = match rows_held(&core.parts, &by) {
+    let rows = match rows_held(&core.parts, channel) {
         Ok(rows) => rows,
         Err(NoMemory) => return Err(AgentStop::NoMemory),
     };
@@ -196,7 +275,8 @@ fn settle_unit<D: Disk>(
             return Err(agent);
         }
     };
-    settle_rows(&mut core.parts, &by, commit);
+    let by = Holder::Batch(*channel);
+    settle_rows(&mut core.parts, &gone, &by, commit);
     tell_settled(&mut core.effects, gone.as_slice(), commit);
     core.effects.tell(Did::Hardened {
         channel: *channel,
@@ -223,6 +303,8 @@ pub fn harden_resolved<D: Disk>(
     operator: bool,
 ) -> Result<(), AgentStop>
     requires up { IsUp core.old.plain }
+    requires sound { Sound core.old.plain }
+    requires named { AreNamed core.old.plain.queues }
     ensures meets { MeetsOrWants (manager_of core.old) (harden channel.now (notes.Resolved unit.now commit operator) core.old.plain) (by_agent result) (manager_of core.new) }
     ensures told { WritesLog core.old (harden channel.now (notes.Resolved unit.now commit operator) core.old.plain) (by_agent result) core.new }
 {

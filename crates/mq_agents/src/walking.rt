@@ -1,12 +1,14 @@
 //! Walks over the rows of one queue.
-ghost use Rattle.std.specs.Prelude.{◌≡◌, ◌&&◌, find, nat_lt, length, filter, option_copied};
+ghost use Rattle.std.specs.Prelude.{◌≡◌, ◌++◌, ◌&&◌, find, nat_lt, length, filter, take, option_copied, OnOk};
 ghost use Rattle.std.specs.List.{list_any};
 ghost use Rattle.mq_queue.specs.declared.row.Row.{Row};
 ghost use Rattle.mq_queue.specs.Rows.{is_free};
 ghost use Rattle.mq_calls.specs.Reads.{is_by_other, is_past};
+ghost use Rattle.mq_place.specs.States.{held_on};
 ghost use Rattle.mq_agents.specs.Ends.{is_free_past};
 
-use mq_base::ChName;
+use mq_base::{ChName, Items, NoMemory};
+use mq_calls::Remove;
 use mq_message::Holder;
 use mq_place::LocalRows;
 use mq_queue::{Queue, Row};
@@ -67,6 +69,34 @@ pub(crate) fn has_held_by_other<Q: Queue + Drop>(local: &LocalRows<Q>, channel: 
         return false;
     };
     true
+}
+
+/// Adds the first rows that a holder has, at most so many, in order of place, and walks to the last of them. After a refusal some may be
+/// there.
+pub(crate) fn first_held<Q: Queue + Drop>(
+    local: &LocalRows<Q>,
+    by: &Holder,
+    most: usize,
+    rows: &mut Items<Remove>,
+) -> Result<(), NoMemory>
+    ensures { OnOk result (rows.new ≡ rows.old ++ take most (held_on by.now local.now.queue)) }
+{
+    let _len = local.len();
+    let mut after = None;
+    for seen in 0..most {
+        let Some(row) = local.held_after(by, after) else {
+            return Ok(());
+        };
+        let named = Remove {
+            queue: *local.name(),
+            ident: row.message.ident,
+        };
+        if rows.push(named).is_err() {
+            return Err(NoMemory);
+        }
+        after = Some(row.place);
+    }
+    Ok(())
 }
 
 /// The first free row that has expired.

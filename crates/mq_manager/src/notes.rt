@@ -50,6 +50,8 @@ pub fn harden_note<D: Disk>(
     note: &Note,
 ) -> Result<(), AgentStop>
     requires up { IsUp core.old.plain }
+    requires sound { Sound core.old.plain }
+    requires named { AreNamed core.old.plain.queues }
     ensures meets { MeetsOrWants (manager_of core.old) (harden channel.now note.now core.old.plain) (by_agent result) (manager_of core.new) }
     ensures told { WritesLog core.old (harden channel.now note.now core.old.plain) (by_agent result) core.new }
     ensures unfit { can_harden channel.now note.now ≡ false → core.new ≡ begun_call core.old }
@@ -107,6 +109,8 @@ pub fn receive_named<D: Disk>(
 
 fn harden_kind<D: Disk>(core: &mut Core<D>, channel: &ChName, note: &Note) -> Result<(), AgentStop>
     requires up { IsUp core.old.plain }
+    requires sound { Sound core.old.plain }
+    requires named { AreNamed core.old.plain.queues }
     ensures meets { MeetsOrWants (manager_of core.old) (harden channel.now note.now core.old.plain) (by_agent result) (manager_of core.new) }
     ensures told { WritesLog core.old (harden channel.now note.now core.old.plain) (by_agent result) core.new }
 {

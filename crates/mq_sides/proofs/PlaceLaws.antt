@@ -1,6 +1,6 @@
 -- Lists in order of names: the first place that has a name, or stands behind it.
-use Rattle.std.proofs.Common.{◌≡◌, ℕ, zero, suc, ◌+◌, ◌<◌, ◌≤◌, Bool, true, false, cond, List, [], ◌∷◌, ◌++◌, length, refl, ap, arith, sym, subst, ◌∙◌}
-use Rattle.std.specs.Prelude.{Option, Some, None, IsSome, find, drop, slice_get, slice_set, ◌||◌, option_map}
+use Rattle.std.proofs.Common.{◌≡◌, ℕ, zero, suc, ◌+◌, ◌<◌, ◌≤◌, Bool, true, false, cond, List, [], ◌∷◌, length, refl, ap, arith, sym, subst, ◌∙◌}
+use Rattle.std.specs.Prelude.{Some, None, find, drop, slice_get, slice_set, ◌||◌, option_map}
 use Rattle.std.specs.List.{insert, remove}
 use Rattle.std.specs.Str.{bytes_eq}
 use Rattle.mq_calls.specs.Words.{comes_before, set_named, sender_in, receiver_in, seizure_of, batch_of}
@@ -8,7 +8,7 @@ use Rattle.mq_calls.specs.declared.state.SenderSide.{SenderSide}
 use Rattle.mq_calls.specs.declared.state.ReceiverSide.{ReceiverSide}
 use Rattle.mq_calls.specs.declared.state.Seizure.{Seizure}
 use Rattle.mq_calls.specs.declared.state.Batch.{Batch}
-use Rattle.mq_sides.specs.Places.{is_there, place_in, is_of, CanUndo, undone}
+use Rattle.mq_sides.specs.Places.{is_there, place_in, is_of, CanUndo}
 
 true_false : true ≡ false → ⊥
 true_false e = absurd cc

@@ -88,11 +88,11 @@ pub fn expired<D: Disk>(manager: &mut Manager<D>, channel: &ChName) -> Result<To
     }
 }
 
-/// A batch that is not prepared is released.
+/// A batch that is not prepared is released. It takes no memory.
 ///
 /// # Errors
 ///
-/// No memory; nothing has changed.
+/// None; the answer is as those of the other calls of a turn.
 pub fn released<D: Disk>(manager: &mut Manager<D>, channel: &ChName) -> Result<Told, NoMemory>
     requires up { IsUp manager.old.plain }
     requires batch { HasBatch channel.now manager.old.plain }

@@ -1,5 +1,6 @@
 use Rattle.std.proofs.Common.{◌≡◌, ℕ, ◌+◌, ◌≤◌, ◌<◌, ◌∙◌, true, false, sym, ap, subst, refl, arith}
 use Rattle.std.specs.Prelude.{List, [], ◌∷◌, ◌++◌, length, map, Some, Ok, Err}
+use Rattle.std.specs.List.{flat_map}
 use Rattle.std.proofs.lemmas.List.{length-map}
 use Rattle.mq_message.specs.declared.place.Holder.TheVariants as holders
 use Rattle.mq_calls.specs.declared.agents.Note.TheVariants as notes
@@ -13,7 +14,9 @@ use Rattle.mq_calls.specs.declared.records.LogRecord.{LogRecord}
 use Rattle.mq_calls.specs.State.Change.{SetSender}
 use Rattle.mq_calls.specs.Meeting.Wants.{Anywhere}
 use Rattle.mq_spec_manager.specs.Words.{Never}
-use Rattle.mq_spec_manager.specs.Agents.{harden, held_rows, settle_change, settle_did}
+use Rattle.mq_spec_manager.specs.Agents.{harden, held_on, held_rows, settle_change, settle_did}
+use Rattle.mq_law_manager.specs.Facts.{Sound, AreNamed}
+use Rattle.mq_place.specs.States.{queues_of}
 use Rattle.mq_unit.specs.Told.{Telling}
 use Rattle.mq_core.specs.declared.parts.ChannelEnds.{ChannelEnds}
 use Rattle.mq_core.specs.declared.parts.StoppedWrite.TheVariants as writes
@@ -25,7 +28,8 @@ use Rattle.mq_core.specs.Values.{CoreValue, manager_of, bodies_in, behind_record
 use Rattle.mq_core.proofs.WriteLaws.{writes_as}
 use Rattle.mq_agents.specs.Ends.{halt_of}
 use Rattle.mq_agents.specs.Written.{with_senders}
-use Rattle.mq_agents.specs.Settling.{settled_changes, settled_told}
+use Rattle.mq_agents.specs.Settling.{AreLone, settled_changes, settled_told}
+use Rattle.mq_agents.proofs.HeldLaws.{lone}
 use Rattle.mq_agents.proofs.WriteLaws.{hardened_tied, hardened_bodies, sender_hardened, unwritten_ends, unwritten_told, tied_after, wrote_as}
 use Rattle.mq_agents.proofs.SettleLaws.{settled_part, settled_tied, settled_done, settles_as, settled_noted}
 use Rattle.mq_agents.proofs.settling.settle_unit.Goals as goal
@@ -112,6 +116,30 @@ returns-in-Err-write_settled-clause-told g c =
     writes_as c.args.core.now _ (harden channel (notes.Resolved unit commit operator) p) (Do nothing (settled_part commit operator channel unit rows old ∷ [])) (Err (halt_of {F = Never} c.agent_of-agent.result)) step
     (unwritten_told Never c.in-Err-write_settled.unwritten c.args.core.now _ x x z (writes.Settled channel unit commit operator rows) r (settled_changes commit channel old) (settled_told commit operator channel unit rows) nothing bytes e
     c.agent_of-agent.result c.agent_of-agent.ensures (mode_up (frozen_of x) x.mode (ap (λ (k : CoreValue). is_up k.plain.running) v ∙ c.requires.up)) (more_same x) c.requires.bytes c.requires.size c.in-Err-write_settled.ensures note plain (ap (λ (w : CoreValue). w.log) v) refl refl)
+
+pub rows_held-requires-clause-sound : goal.rows_held-requires-clause-sound
+rows_held-requires-clause-sound g c =
+    let v = c.core.view_is ∙ c.begin_call.ensures in
+    subst Sound (sym (ap (λ (w : CoreValue). w.plain) v)) c.requires.sound
+
+pub rows_held-requires-clause-named : goal.rows_held-requires-clause-named
+rows_held-requires-clause-named g c =
+    let v = c.core.view_is ∙ c.begin_call.ensures in
+    subst (λ (p : Plain). AreNamed p.queues) (sym (ap (λ (w : CoreValue). w.plain) v)) c.requires.named
+
+pub settle_rows-requires-clause-listed : goal.settle_rows-requires-clause-listed
+settle_rows-requires-clause-listed g c =
+    let w = c.in-Ok-write_settled.ensures in
+    w.0 ∙ c.in-Ok.ensures ∙ ap (λ (q : PartsValue). flat_map (held_on (holders.Batch c.args.channel.now)) (queues_of q.queues.states)) (sym w.1.same)
+
+pub settle_rows-requires-clause-lone : goal.settle_rows-requires-clause-lone
+settle_rows-requires-clause-lone g c =
+    let v = c.core.view_is ∙ c.begin_call.ensures in
+    let plain = sym (ap (λ (k : CoreValue). k.plain) v) in
+    let x : PartsValue = c.core.inside.parts in
+    let w = c.in-Ok-write_settled.ensures in
+    subst (λ (q : PartsValue). AreLone (queues_of q.queues.states)) (sym w.1.same)
+    (lone (plain_of x) (subst Sound plain c.requires.sound) (subst (λ (p : Plain). AreNamed p.queues) plain c.requires.named))
 
 pub tell_settled-requires : goal.tell_settled-requires
 tell_settled-requires g c =

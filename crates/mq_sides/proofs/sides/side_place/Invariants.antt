@@ -1,5 +1,5 @@
-use Rattle.std.proofs.Common.{◌≡◌, ℕ, ◌+◌}
-use Rattle.std.specs.Prelude.{drop, List, length}
+use Rattle.std.proofs.Common.{◌≡◌, ◌+◌}
+use Rattle.std.specs.Prelude.{drop, length}
 use Rattle.mq_sides.specs.Places.{place_in}
 use Rattle.mq_sides.proofs.sides.side_place.Given as goal
 

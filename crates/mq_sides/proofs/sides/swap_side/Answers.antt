@@ -1,5 +1,5 @@
-use Rattle.std.proofs.Common.{◌≡◌, ap, sym, subst, ◌∙◌, length, arith}
-use Rattle.std.specs.Prelude.{List, Some, None, ◌≤◌}
+use Rattle.std.proofs.Common.{ap, sym, subst, ◌∙◌, length, arith}
+use Rattle.std.specs.Prelude.{Some, None, ◌≤◌}
 use Rattle.mq_sides.specs.Places.{CanUndo}
 use Rattle.mq_sides.proofs.PlaceLaws.{undo_set, undo_new}
 use Rattle.mq_sides.proofs.sides.swap_side.Goals as goal

@@ -5,5 +5,11 @@ use Rattle.mq_agents.specs.Ends.{by_agent}
 use Rattle.mq_manager.proofs.CallLaws.{kept_hardened}
 use Rattle.mq_manager.proofs.manager.Manager.harden.Goals as goal
 
+pub harden_note-requires-clause-sound : goal.harden_note-requires-clause-sound
+harden_note-requires-clause-sound g c = (c.self.invariant.well.up (subst (λ (v : CoreValue). IsUp v.plain) (sym c.self.view_is) c.requires.up)).facts
+
+pub harden_note-requires-clause-named : goal.harden_note-requires-clause-named
+harden_note-requires-clause-named g c = (c.self.invariant.well.up (subst (λ (v : CoreValue). IsUp v.plain) (sym c.self.view_is) c.requires.up)).named
+
 pub invariant_of-self : goal.invariant_of-self
 invariant_of-self g c = kept_hardened g.D.Disk.tells c.self.inside.read c.self.inside.core c.harden_note.new.core c.self.invariant (subst (λ (v : CoreValue). IsUp v.plain) (sym c.self.view_is) c.requires.up) c.args.channel.now c.args.note.now (by_agent c.harden_note.result) (subst (λ (v : CoreValue). CanHarden c.args.channel.now c.args.note.now v.plain) (sym c.self.view_is) c.requires.can) c.harden_note.ensures.unfit c.harden_note.ensures.meets c.harden_note.ensures.told

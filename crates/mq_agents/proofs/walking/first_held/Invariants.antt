@@ -1,0 +1,8 @@
+use Rattle.std.proofs.Common.{◌≡◌, ◌-◌, ◌++◌}
+use Rattle.std.specs.Prelude.{take}
+use Rattle.mq_place.specs.States.{held_on}
+use Rattle.mq_place.specs.Held.{held_left}
+use Rattle.mq_agents.proofs.walking.first_held.Given as goal
+
+abbrev pub invariant-loop-seen : goal.invariant-loop-seen
+invariant-loop-seen g l = l.rows ++ take (l.most - l.seen) (held_left l.by l.after l.local.queue) ≡ l.fn.rows ++ take l.most (held_on l.by l.local.queue)
