@@ -304,7 +304,8 @@ impl<D: Disk> Log<D> {
     pub fn start(alloc: Global, mut disk: Cutter<D>, max: u64) -> Result<Log<D>, Unstarted<D>>
         ensures read { D.tells → IfOk result (λ log. IsLog (D.seen disk.inner) log.bodies) }
         ensures bad { D.tells → IfErr result (λ e. IsBadOf (D.seen disk.inner) e.fault) }
-        ensures live { IfOk result (λ log. (log.live ≡ true) × (log.pending ≡ None) × (log.reserved ≡ 0) × (log.max ≡ max) × (log.spare ≡ 0)) }
+        ensures live { IfOk result (λ log. (log.live ≡ true) × (log.pending ≡ None) × (log.reserved ≡ 0) × (log.max ≡ max)) }
+        ensures aside { IfOk result (λ log. log.spare ≡ 0) }
         ensures made { IfOk result (λ log. Made (start_calls (D.size disk.inner)) disk.armed disk.stopped log.armed false) }
         ensures refused { IfErr result (λ e. Refused (start_calls (D.size disk.inner)) 1 disk.armed disk.stopped e.fault e.disk.armed e.disk.stopped) }
         ensures images { D.tells → IfErr result (λ e. Reads (D.may_leave disk.inner) (D.may_leave e.disk.inner)) }
