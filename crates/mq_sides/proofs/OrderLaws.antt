@@ -1,6 +1,6 @@
 -- In a list in the order of its names, what is not found at the name's place is nowhere.
 use Rattle.std.proofs.Common.{Ordering, Less, Equal, Greater, ◌≡◌, ℕ, Bool, true, false, List, [], ◌∷◌, refl, ap, sym, ◌∙◌, suc, cond, inl, inr}
-use Rattle.std.specs.Prelude.{Option, Some, None, find, slice_get, ◌||◌}
+use Rattle.std.specs.Prelude.{Some, None, find, slice_get, ◌||◌}
 use Rattle.std.specs.Str.{bytes_eq}
 use Rattle.std.specs.Ordering.{is_lt, is_eq, nat_cmp}
 use Rattle.std.specs.Cmp.{IsTotalOrder}
@@ -9,7 +9,7 @@ use Rattle.std.proofs.lemmas.Cmp.{nat_list_cmp_total}
 use Rattle.std.proofs.lemmas.Map.Text.{is_eq-slice_cmp}
 use Rattle.mq_base.specs.Members.{Mem}
 use Rattle.mq_calls.specs.Words.{comes_before}
-use Rattle.mq_sides.specs.Places.{is_there, place_in, is_of, AreByName}
+use Rattle.mq_sides.specs.Places.{place_in, is_of, AreByName}
 
 is_less : (o : Ordering) → is_lt o ≡ true → o ≡ Less
 is_less Less e = refl
