@@ -10,7 +10,10 @@ use Rattle.mq_spec_node.specs.Terms.{Act, Acted, Actor, Call}
 use Rattle.mq_spec_node.specs.Words.{Deed, deed_of, ended_deed, is_none, mqi_deed}
 use Rattle.mq_events.specs.States.{NodeState, node_in}
 use Rattle.mq_events.specs.Events.{ActsAs, EventIs, IsMqi}
+use Rattle.mq_events.specs.Counts.{IsNode}
 use Rattle.mq_acts.specs.Asks.{Comes, IsGet, happened_if, is_mqi}
+use Rattle.mq_acts.specs.Restarts.{StaysOwn}
+use Rattle.mq_acts.proofs.OwnLaws.{IsNoRestart, own_adds, own_stays}
 
 acts_come_so : (who : Actor) (asked : Act) (old : NodeState) (r : Result Acted NoMemory) (new : NodeState) → ActsAs who (calls.Act asked) old r new → Comes who (calls.Act asked) old (happened_if r) new
 acts_come_so who asked old (Ok a) new h = record { entry = h.0; adds = h.1; deed = λ g. absurd g }
@@ -61,3 +64,27 @@ mqi_comes who (calls.Act act) old r new e h = absurd cc
 mqi_comes who calls.Turn old r new e h = absurd cc
 mqi_comes who calls.Timeout old r new e h = absurd cc
 mqi_comes who calls.Trigger old r new e h = absurd cc
+
+-- none is a restart
+mqi_other : (c : Call) → is_mqi c ≡ true → IsNoRestart c
+mqi_other (calls.Mqconn qmgr appl) e = tt
+mqi_other (calls.Mqdisc hc) e = tt
+mqi_other (calls.Mqopen hc name qmgr how) e = tt
+mqi_other (calls.Mqclose hc ho) e = tt
+mqi_other (calls.Mqput hc ho md body sync) e = tt
+mqi_other (calls.Mqput1 hc name qmgr md body sync) e = tt
+mqi_other (calls.Mqget hc ho get until) e = tt
+mqi_other (calls.Mqcmit hc) e = tt
+mqi_other (calls.Mqback hc) e = tt
+mqi_other (calls.Act act) e = absurd cc
+mqi_other calls.Turn e = absurd cc
+mqi_other calls.Timeout e = absurd cc
+mqi_other calls.Trigger e = absurd cc
+
+own_came : (who : Actor) (what : Call) (s t : NodeState) (r : Result Bool NoMemory) → IsNode t → IsNoRestart what → Comes who what s r t → StaysOwn s.history.entries t.history.entries
+own_came who what s t (Ok true) k other h none = own_adds who what h.entry s t k.kept h.adds other none
+own_came who what s t (Ok false) k other h none = own_stays s t h.stays none
+own_came who what s t (Err e) k other h none = own_stays s t h none
+
+pub mqi_own : (tells : Type 0) (who : Actor) (what : Call) (s t : NodeState) (r : Result Bool NoMemory) → IsNode t → is_mqi what ≡ true → EventIs who what (deed_of (s.stamp + 1) who what items.Nothing (node_in s)) s r t → tells → StaysOwn s.history.entries t.history.entries
+mqi_own tells who what s t r k mqi h is = own_came who what s t r k (mqi_other what mqi) (mqi_comes who what s r t mqi h)

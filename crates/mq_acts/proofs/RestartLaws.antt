@@ -1,26 +1,30 @@
 -- A restart as an event: the history with its entry replays, and leads to the node behind it.
-use Rattle.std.proofs.Common.{◌≡◌, ℕ, ◌+◌, ◌*◌, ◌^◌, ◌≤◌, Bool, true, [], ◌∷◌, ◌++◌, length, refl, ap, sym, subst, ◌∙◌, arith}
-use Rattle.std.specs.Prelude.{Option, Some, None, Ok, Err}
-use Rattle.mq_base.specs.declared.want.NoMemory.{NoMemory as Want}
+use Rattle.std.proofs.Common.{◌≡◌, ℕ, ◌+◌, ◌*◌, ◌^◌, ◌≤◌, Bool, [], ◌∷◌, ◌++◌, length, refl, ap, sym, subst, ◌∙◌, arith}
+use Rattle.std.specs.Prelude.{Option, Some, None, Ok}
+use Rattle.mq_base.specs.Outside.{Rose}
 use Rattle.mq_calls.specs.declared.commands.RestartFault.{RestartFault}
+use Rattle.mq_calls.specs.declared.commands.RestartFault.TheVariants as faults
+use Rattle.mq_history.specs.declared.acts.Acted.TheVariants as acted
 use Rattle.mq_history.specs.declared.acts.Act.TheVariants as acts
 use Rattle.mq_history.specs.declared.acts.Acted.{Acted}
 use Rattle.mq_history.specs.declared.calls.Call.TheVariants as calls
 use Rattle.mq_calls.specs.Images.{raised}
 use Rattle.mq_core.specs.Values.{CoreValue}
-use Rattle.mq_restart.specs.Returned.{IsOfImage}
-use Rattle.mq_spec_node.specs.Terms.{Actor, Call, Entry, Plain}
+use Rattle.mq_spec_node.specs.Terms.{Actor, Entry, Plain}
 use Rattle.mq_history.specs.declared.calls.Reply.TheVariants as replies
 use Rattle.mq_spec_node.specs.Words.{begun_anew, Done, IsReplayed, Own, Tells, node_of, done_by, quiet}
 use Rattle.mq_events.specs.States.{NodeState, IsKept, IsServed, node_in, value_of, with_entry}
 use Rattle.mq_events.specs.Counts.{AreCounted, HasBound, HasFewRows, IsNode, kept_total}
+use Rattle.mq_events.specs.Disks.{RoseBy}
 use Rattle.mq_events.specs.Events.{Stays}
+use Rattle.mq_events.proofs.CallLaws.{silent}
 use Rattle.mq_events.proofs.CountLaws.{fresh_counted, long_more}
 use Rattle.mq_events.proofs.EntryLaws.{entry_kept}
 use Rattle.mq_events.proofs.KeepLaws.{begun_none}
+use Rattle.mq_events.proofs.RiseLaws.{risen_later, risen_with}
 use Rattle.mq_acts.proofs.AnswerLaws.{room_stays, roomed_node}
 use Rattle.mq_acts.specs.declared.restarting.Restarted.{Restarted}
-use Rattle.mq_acts.specs.Restarts.{own_behind, CountsBehind, acted_by, IsRestart, IsUnchanged, restart_entry, TellsActed, TellsAs, BeganFew}
+use Rattle.mq_acts.specs.Restarts.{own_behind, CountsBehind, acted_by, IsRestart, IsUnchanged, restart_entry, TellsAs, BeganFew}
 
 -- ---- where memory lacks, all is as it was
 
@@ -32,6 +36,18 @@ roomed_stays s r e = room_stays s r e
 
 same_value : (s r a : NodeState) → r ≡ record s { room = r.room } → a ≡ record r { manager = a.manager } → a ≡ record s { manager = a.manager; room = r.room }
 same_value s r a e h = h ∙ ap (λ (x : NodeState). let y : NodeState = record x { manager = a.manager } in y) e
+
+later_than : (a b c : ℕ) → b ≡ a → b ≤ c → a ≤ c
+later_than a b c e le = omega (arith, e, le)
+
+-- a restart that a disk refused
+restart_rose : (o : Option RestartFault) (before now : ℕ) → (o ≡ Some faults.Disk → Rose before now) → RoseBy (replies.Acted (acted_by o)) before now
+restart_rose None before now rose = silent (replies.Acted acted.Done) (replies.Acted acted.Done) before now refl refl
+restart_rose (Some faults.NoMemory) before now rose = silent (replies.Acted (acted.Start faults.NoMemory)) (replies.Acted (acted.Start faults.NoMemory)) before now refl refl
+restart_rose (Some faults.Up) before now rose = silent (replies.Acted (acted.Start faults.Up)) (replies.Acted (acted.Start faults.Up)) before now refl refl
+restart_rose (Some faults.Disk) before now rose = λ told. rose refl
+restart_rose (Some faults.Cut) before now rose = silent (replies.Acted (acted.Start faults.Cut)) (replies.Acted (acted.Start faults.Cut)) before now refl refl
+restart_rose (Some (faults.BadLog place)) before now rose = silent (replies.Acted (acted.Start (faults.BadLog place))) (replies.Acted (acted.Start (faults.BadLog place))) before now refl refl
 
 module _ (s r a : NodeState) (e : r ≡ record s { room = r.room }) (h : a ≡ record r { manager = a.manager }) (u : IsUnchanged r.manager a.manager) where
   abbrev unchanged : NodeState
@@ -51,6 +67,7 @@ module _ (s r a : NodeState) (e : r ≡ record s { room = r.room }) (h : a ≡ r
       let k : IsNode unchanged = record {
         kept = subst IsReplayed (sym value_same) n.kept;
         counted = λ few. subst HasBound (sym value_same) (n.counted few);
+        risen = risen_later s.history.entries s.manager.faults a.manager.faults n.risen (later_than s.manager.faults r.manager.faults a.manager.faults (ap (λ (m : CoreValue). m.faults) here) u.later);
       } in
       subst IsNode (sym (same_value s r a e h)) k
 
@@ -110,13 +127,13 @@ module _ (tells : Type 0) (s : NodeState) (m : CoreValue) (few : Bool) (room : �
       }
 
   behind_node : BeganFew r.refused s (record s { manager = m; few = few }) → IsNode behind
-  behind_node b = record { kept = behind_kept; counted = counted_by r.refused h.counts (own_behind r.refused m.plain s.own) refl b }
+  behind_node b = record { kept = behind_kept; counted = counted_by r.refused h.counts (own_behind r.refused m.plain s.own) refl b; risen = risen_with s.history.entries it s.manager.faults m.faults n.risen h.later (restart_rose r.refused s.manager.faults m.faults h.rose) }
 
   behind_told : TellsAs tells who (calls.Act acts.Restart) s (Ok (acted_by r.refused)) behind
   behind_told = (
     it,
     record {
-      adds = record { grows = record { given = refl; history = refl }; actor = refl; call = refl; marks = refl; faults = h.later };
+      adds = record { grows = record { given = refl; history = refl }; actor = refl; call = refl; marks = refl; faults = h.later; rose = restart_rose r.refused s.manager.faults m.faults h.rose };
       answer = refl;
       own = h.own;
     },

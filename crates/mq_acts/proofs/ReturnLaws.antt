@@ -1,13 +1,11 @@
 -- A restart of a manager, as the history keeps it.
-use Rattle.std.proofs.Common.{◌≡◌, ℕ, ◌+◌, ◌≤◌, Bool, true, false, [], refl, ap, sym, subst, ◌∙◌}
+use Rattle.std.proofs.Common.{◌≡◌, ℕ, ◌+◌, Bool, true, false, [], refl, ap, sym, subst, ◌∙◌}
 use Rattle.std.specs.Prelude.{List, Option, Some, None, Result, Ok, Err, MatchResult}
 use Rattle.mq_base.specs.declared.want.NoMemory.{NoMemory as Want}
 use Rattle.mq_calls.specs.declared.choices.Return.{Return}
 use Rattle.mq_calls.specs.declared.choices.Return.TheVariants.{Comes, Fails}
-use Rattle.mq_calls.specs.declared.commands.Kept.{Kept}
 use Rattle.mq_calls.specs.declared.commands.RestartFault.{RestartFault}
 use Rattle.mq_calls.specs.declared.commands.RestartFault.TheVariants as faults
-use Rattle.mq_calls.specs.declared.image.Image.{Image}
 use Rattle.mq_history.specs.declared.acts.Acted.TheVariants as acted
 use Rattle.mq_history.specs.declared.calls.Chance.TheVariants as chances
 use Rattle.mq_history.specs.declared.calls.Reply.TheVariants as replies
@@ -15,7 +13,7 @@ use Rattle.mq_calls.specs.State.{LogState, Noted, Running}
 use Rattle.mq_calls.specs.State.Running.{Up, Down}
 use Rattle.mq_calls.specs.Images.{begun, raised}
 use Rattle.mq_calls.specs.Words.{Plain, is_up}
-use Rattle.mq_spec_manager.specs.Stops.{CanReturn, failed, restart, restart_at}
+use Rattle.mq_spec_manager.specs.Stops.{failed, restart_at}
 use Rattle.mq_law_manager.specs.Facts.{IsSound}
 use Rattle.mq_law_manager.proofs.Beginning.{image_rests}
 use Rattle.mq_law_manager.proofs.Ending.{sound_still, begun_sound}
@@ -28,15 +26,15 @@ use Rattle.mq_restart.specs.Returned.{CanEnd, Ends, IsOfImage, Passes, Stayed}
 use Rattle.mq_restart.specs.Stands.{LogStands}
 use Rattle.mq_restarts.specs.declared.restarting.Back.{Back}
 use Rattle.mq_restarts.specs.declared.restarting.Back.TheVariants as backs
-use Rattle.mq_restarts.specs.Backs.{IsBack, IsBackAs, IsBackFrom}
+use Rattle.mq_restarts.specs.Backs.{IsBack, IsBackFrom}
 use Rattle.mq_manager.specs.Facts.{IsWell}
 use Rattle.mq_manager.specs.Kept.{IsKept}
 use Rattle.mq_manager.proofs.RestartLaws.{kept_restart}
 use Rattle.mq_spec_node.specs.Terms.{Did}
-use Rattle.mq_spec_node.specs.Words.{Own, Node, Done, node_of, begun_anew, quiet, restart_event, restarted, IsReturn, IsToldReturn, IsOwn}
+use Rattle.mq_spec_node.specs.Words.{Own, Done, node_of, begun_anew, quiet, restarted, IsReturn, IsToldReturn}
 use Rattle.mq_events.specs.Counts.{AreBelow}
 use Rattle.mq_acts.specs.declared.restarting.Restarted.{Restarted}
-use Rattle.mq_acts.specs.Restarts.{own_behind, CountsBehind, acted_by, IsRestart, IsUnchanged, RestartsAs, came_as, is_wanting, refused_as, StayedAs}
+use Rattle.mq_acts.specs.Restarts.{IsRestart, RestartsAs, came_as, is_wanting, refused_as, StayedAs}
 
 -- ---- what holds of the manager between its calls
 
@@ -71,6 +69,12 @@ own_does kept started p new delta own (Down n starts) e down is told =
     ap (λ (q : Plain). quiet (replies.Acted acted.Done) (restart_at (Down n starts) (Comes kept started) p).delta (begun_anew q own)) (sym is)
     ∙ ap (λ (ds : List Did). quiet (replies.Acted acted.Done) ds (begun_anew new own)) (sym told)
 
+came_disk : None ≡ Some faults.Disk → ⊥
+came_disk e = absurd cc
+
+fault_is : (a b : RestartFault) → Some a ≡ Some b → a ≡ b
+fault_is a b e = cc
+
 pub came_up : (tells : Type 0) (old new : CoreValue) (b : Back) → IsBack tells old.plain b new → Passes old new → IsRestart tells old (came_as b new.delta) (record new { delta = [] })
 came_up tells old new (backs.Own kept started) b p =
     let ends : Ends tells (Comes kept started) old.plain new = b.ends in
@@ -81,6 +85,7 @@ came_up tells old new (backs.Own kept started) b p =
       own = λ t. tt;
       counts = b.image;
       later = p.later;
+      rose = λ disk. absurd (came_disk disk);
     }
 came_up tells old new (backs.Foreign image length left) b p =
     let from : IsBackFrom tells image length left old.plain new = b.ends in
@@ -92,6 +97,7 @@ came_up tells old new (backs.Foreign image length left) b p =
       own = λ t. absurd (from.untold t);
       counts = b.image;
       later = p.later;
+      rose = λ disk. absurd (came_disk disk);
     }
 
 pub came_told : (tells : Type 0) (old m new : CoreValue) (b : Back) (r : Restarted) (delta : List Did) → IsBack tells old.plain b m → Passes old m → r ≡ came_as b delta → delta ≡ m.delta → new ≡ record m { delta = [] } → IsRestart tells old r new
@@ -165,6 +171,7 @@ refused tells old new e w s p = record {
   own = λ t. tt;
   counts = λ most b. subst (AreBelow most) (sym s.ends.plain) (below_refused old.plain.running e.fault e.in_write e.left old.plain most b);
   later = p.later;
+  rose = λ disk. s.disk (fault_is e.fault faults.Disk disk);
 }
 
 -- there was no memory

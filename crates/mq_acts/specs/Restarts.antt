@@ -1,5 +1,6 @@
 -- Restarts, as events of a node.
 use Rattle.std.specs.Prelude.{◌≡◌, ℕ, ◌≤◌, Bool, true, false, List, [], Option, Some, None, Result, Ok, Err}
+use Rattle.mq_base.specs.Outside.{Rose}
 use Rattle.mq_base.specs.declared.want.NoMemory.{NoMemory as Want}
 use Rattle.mq_calls.specs.declared.commands.RestartFault.{RestartFault}
 use Rattle.mq_calls.specs.declared.commands.RestartFault.TheVariants as faults
@@ -44,6 +45,7 @@ pub record IsRestart (tells : Type 0) (old : CoreValue) (r : Restarted) (new : C
   pub own : tells → IsOwn r.chance
   pub counts : CountsBehind r.refused old.plain new.plain
   pub later : old.faults ≤ new.faults
+  pub rose : r.refused ≡ Some faults.Disk → Rose old.faults new.faults
 
 -- or there was no memory, and nothing has changed
 pub record IsUnchanged (old new : CoreValue) : Type 0 where
@@ -106,3 +108,7 @@ BeganFew (Some fault) old new = new.few ≡ old.few
 abbrev pub RestartIsOwn : Act → List Entry → List Entry → Type 0
 RestartIsOwn acts.Restart old new = NoneForeign old → NoneForeign new
 RestartIsOwn _ old new = Unit {0}
+
+-- the same whatever was asked
+abbrev pub StaysOwn : List Entry → List Entry → Type 0
+StaysOwn old new = NoneForeign old → NoneForeign new

@@ -4,7 +4,7 @@ ghost use Rattle.mq_history.specs.declared.calls.Call.TheVariants as calls;
 ghost use Rattle.mq_events.specs.States.{IsServed};
 ghost use Rattle.mq_events.specs.Events.{ActsAs, MayAct};
 ghost use Rattle.mq_events.specs.Texts.{IsTextAct};
-ghost use Rattle.mq_acts.specs.Restarts.{RestartIsOwn};
+ghost use Rattle.mq_acts.specs.Restarts.{RestartIsOwn, StaysOwn};
 
 use crate::answering::show;
 use crate::restarting::restart;
@@ -29,14 +29,9 @@ fn obey<D: Disk>(node: &mut Node<D>, actor: Actor, asked: Command) -> Result<Act
     }
 }
 
-/// What a step or a script asks of a node beside MQI calls, as one event: a command (on objects, on the ends of channels, DISPLAY CHSTATUS), a
-/// stop, a restart, an armed cut, or a moment that advances. A command on objects has values such as a text of commands gives.
-///
-/// # Errors
-///
-/// No memory; nothing has changed.
+/// What is asked beside MQI calls, with what a restart says of itself.
 #[tactic(auto, using(crate::proofs::OwnLaws::did_told, crate::proofs::OwnLaws::own_told))]
-pub fn act<D: Disk>(node: &mut Node<D>, actor: Actor, asked: Act) -> Result<Acted, NoMemory>
+fn act_as<D: Disk>(node: &mut Node<D>, actor: Actor, asked: Act) -> Result<Acted, NoMemory>
     requires served { IsServed node.old }
     requires may { MayAct node.old }
     requires text { IsTextAct asked }
@@ -50,4 +45,22 @@ pub fn act<D: Disk>(node: &mut Node<D>, actor: Actor, asked: Act) -> Result<Acte
         Act::Cut(k) => node.cut(actor, k),
         Act::Clock(by) => node.advance_clock(actor, by),
     }
+}
+
+/// What a step or a script asks of a node beside MQI calls, as one event: a command (on objects, on the ends of channels, DISPLAY CHSTATUS), a
+/// stop, a restart, an armed cut, or a moment that advances. A command on objects has values such as a text of commands gives.
+///
+/// # Errors
+///
+/// No memory; nothing has changed.
+pub fn act<D: Disk>(node: &mut Node<D>, actor: Actor, asked: Act) -> Result<Acted, NoMemory>
+    requires served { IsServed node.old }
+    requires may { MayAct node.old }
+    requires text { IsTextAct asked }
+    ensures did { ActsAs actor (calls.Act asked) node.old result node.new }
+    ensures own { D.tells → StaysOwn node.old.history.entries node.new.history.entries }
+{
+    let acted = act_as(node, actor, asked);
+    node.facts();
+    acted
 }

@@ -6,6 +6,7 @@ ghost use Rattle.mq_events.specs.States.{IsServed};
 ghost use Rattle.mq_events.specs.Events.{MayAct};
 ghost use Rattle.mq_progress.specs.Course.{Finished, until_in};
 ghost use Rattle.mq_acts.specs.Advances.{Advances, IsTextLine, Keeps, last_entry};
+ghost use Rattle.mq_acts.specs.Restarts.{StaysOwn};
 
 use crate::asking::ask;
 use mq_base::NoMemory;
@@ -80,7 +81,8 @@ fn do_line<D: Disk>(
     requires keeps { Keeps progress.old.until line.now }
     requires room { 0 < progress.old.room }
     requires more { progress.old.done < 2 ^ 32 }
-    ensures { Advances number part.now progress.old node.old result progress.new node.new }
+    ensures advances { Advances number part.now progress.old node.old result progress.new node.new }
+    ensures own { D.tells → StaysOwn node.old.history.entries node.new.history.entries }
 {
     let moment = node.moment();
     let call = match progress.call(part, moment, line) {
@@ -103,7 +105,7 @@ fn do_line<D: Disk>(
 /// # Errors
 ///
 /// No memory; nothing has changed.
-#[tactic(auto, using(crate::proofs::LineLaws::roomed_advances, crate::proofs::LineLaws::none_left, crate::proofs::LineLaws::no_room))]
+#[tactic(auto, using(crate::proofs::LineLaws::roomed_advances, crate::proofs::LineLaws::none_left, crate::proofs::LineLaws::no_room, crate::proofs::OwnLaws::own_same))]
 pub fn advance<D: Disk>(
     node: &mut Node<D>,
     number: u16,
@@ -115,7 +117,8 @@ pub fn advance<D: Disk>(
     requires text { IfSome (slice_get part.now.lines progress.old.done) IsTextLine }
     requires keeps { IfSome (slice_get part.now.lines progress.old.done) (Keeps progress.old.until) }
     requires more { progress.old.done < 2 ^ 32 }
-    ensures { Advances number part.now progress.old node.old result progress.new node.new }
+    ensures advances { Advances number part.now progress.old node.old result progress.new node.new }
+    ensures own { D.tells → StaysOwn node.old.history.entries node.new.history.entries }
 {
     match progress.line(part) {
         None => Ok(Advanced::Ended),

@@ -2,6 +2,7 @@
 ghost use Rattle.mq_events.specs.States.{IsServed};
 ghost use Rattle.mq_events.specs.Events.{MayAct};
 ghost use Rattle.mq_acts.specs.Asks.{IsDoneCall};
+ghost use Rattle.mq_acts.specs.Restarts.{StaysOwn};
 ghost use Rattle.mq_acts.specs.Serving.{Played};
 
 use crate::asking::ask;
@@ -17,12 +18,13 @@ use mq_history::{Actor, Call};
 /// # Errors
 ///
 /// No memory: nothing has changed, or the event stands with some of the turns, and a trigger stays due.
-#[tactic(auto, using(crate::proofs::ServeLaws::played_all, crate::proofs::ServeLaws::played_some, crate::proofs::ServeLaws::played_none))]
+#[tactic(auto, using(crate::proofs::ServeLaws::played_all, crate::proofs::ServeLaws::played_some, crate::proofs::ServeLaws::played_none, crate::proofs::OwnLaws::own_both))]
 pub fn play<D: Disk>(node: &mut Node<D>, actor: Actor, asked: Call) -> Result<bool, NoMemory>
     requires served { IsServed node.old }
     requires may { MayAct node.old }
     requires does { IsDoneCall asked }
-    ensures { Played actor asked node.old result node.new }
+    ensures played { Played actor asked node.old result node.new }
+    ensures own { D.tells → StaysOwn node.old.history.entries node.new.history.entries }
 {
     match ask(node, actor, asked) {
         Err(NoMemory) => Err(NoMemory),

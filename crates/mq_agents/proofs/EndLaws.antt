@@ -1,13 +1,13 @@
 -- What changes the ends of channels alone.
-use Rattle.std.proofs.Common.{◌≡◌, ℕ, ◌+◌, ◌≤◌, Bool, true, false, List, [], ◌∷◌, refl, ap, arith, sym, subst, ◌∙◌}
+use Rattle.std.proofs.Common.{◌≡◌, ◌≤◌, Bool, true, false, List, [], ◌∷◌, refl, ap, arith, sym, ◌∙◌}
 use Rattle.std.specs.Prelude.{Option, Some, None, Ok, map, not, ◌&&◌}
 use Rattle.std.proofs.lemmas.List.{append-nil}
-use Rattle.mq_calls.specs.Words.{Ident, Holder, Row, Which, held_in, released_in, retag_if, release_if, retag, selects, is_free, same_ident, Plain, Channels, Running, Change, ManagerValue, Wants, MeetsDone, silent, apply_all}
+use Rattle.mq_calls.specs.Words.{Ident, Holder, Row, Which, held_in, released_in, retag_if, release_if, retag, selects, is_free, same_ident, Plain, Running, Change, ManagerValue, Wants, MeetsDone, silent, apply_all}
 use Rattle.mq_calls.specs.declared.deltas.Did.{Did}
 use Rattle.mq_calls.specs.State.{Queue as StateQueue}
 use Rattle.mq_place.specs.States.{on_queues}
 use Rattle.mq_core.specs.declared.parts.ChannelEnds.{ChannelEnds}
-use Rattle.mq_core.specs.Views.{PartsValue, plain_of, frozen_of, channels_of, running_of}
+use Rattle.mq_core.specs.Views.{PartsValue, plain_of, frozen_of, channels_of}
 use Rattle.mq_core.specs.Ties.{Tied, mode_is_up, one_if, times_in_rows, state_lanes, pending_at}
 use Rattle.mq_core.specs.Placing.{with_states}
 use Rattle.mq_core.proofs.ForceLaws.{queues_on, seen_on, times_on}

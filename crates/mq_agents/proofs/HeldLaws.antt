@@ -1,5 +1,5 @@
 -- The rows that a channel's batch holds are those that its unit in doubt lists, each once.
-use Rattle.std.proofs.Common.{ℕ, zero, suc, ◌+◌, ◌≤◌, ◌≡◌, ◌≢◌, ◌⊎◌, Bool, true, false, List, [], ◌∷◌, ◌++◌, length, refl, ap, sym, subst, ◌∙◌, arith, inl, inr}
+use Rattle.std.proofs.Common.{ℕ, zero, suc, ◌≤◌, ◌≡◌, ◌≢◌, ◌⊎◌, Bool, true, false, List, [], ◌∷◌, ◌++◌, length, refl, ap, sym, subst, ◌∙◌, arith, inl, inr}
 use Rattle.std.specs.Prelude.{Option, Some, None, if◌then◌else◌, take, map, filter, not, ◌&&◌, ◌||◌}
 use Rattle.std.specs.Str.{bytes_eq}
 use Rattle.std.specs.List.{flat_map, list_any}
@@ -14,8 +14,8 @@ use Rattle.mq_sync.specs.declared.data.InDoubt.{InDoubt}
 use Rattle.mq_calls.specs.State.{Plain, Queue}
 use Rattle.mq_calls.specs.declared.state.Batch.{Batch}
 use Rattle.mq_calls.specs.declared.records.Remove.{Remove}
-use Rattle.mq_calls.specs.State.Which.{Among, HeldBy}
-use Rattle.mq_calls.specs.Changes.{selects, kept_in, released_in, release_if}
+use Rattle.mq_calls.specs.State.Which.{Among}
+use Rattle.mq_calls.specs.Changes.{selects, release_if}
 use Rattle.mq_calls.specs.Reads.{queue_in, stored, batch_of, sender_data, in_doubt_of}
 use Rattle.mq_spec_manager.specs.Agents.{held_on, held_rows}
 use Rattle.mq_place.specs.States.{QueueState, queues_of, on_queue, on_queues}
@@ -24,9 +24,9 @@ use Rattle.mq_core.specs.Placing.{with_states}
 use Rattle.mq_law_manager.specs.View.{view}
 use Rattle.mq_law_manager.specs.Facts.{Mem, Chain, Differ, ident_of, IsOf, AreNamed, Sound}
 use Rattle.mq_agents.specs.Settling.{AreLone, row_in, each_in, settled_in, row_settled, each_settled, rows_settled}
-use Rattle.mq_law_manager.proofs.Lists.{bool_case, mem_append, mem_before, mem_behind, ident_yes, ident_self, name_yes, name_self, one_row}
+use Rattle.mq_law_manager.proofs.Lists.{mem_append, mem_before, mem_behind, ident_yes, ident_self, name_self, one_row}
 use Rattle.mq_law_manager.proofs.Named.{name_turned}
-use Rattle.mq_law_manager.proofs.Batches.{by_batch, is_by_batch}
+use Rattle.mq_law_manager.proofs.Batches.{by_batch}
 
 -- Fewer than those that they differ among.
 

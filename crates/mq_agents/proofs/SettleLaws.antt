@@ -1,15 +1,14 @@
 -- A unit in doubt that is settled: its rows go, or are free again.
-use Rattle.std.proofs.Common.{◌≡◌, ℕ, ◌+◌, ◌≤◌, Bool, true, false, List, [], ◌∷◌, ◌++◌, map, refl, ap, arith, sym, subst, ◌∙◌}
-use Rattle.std.specs.Prelude.{Option, Some, None, not}
+use Rattle.std.proofs.Common.{◌≡◌, ℕ, ◌≤◌, Bool, true, false, List, [], ◌∷◌, map, refl, ap, arith, sym, ◌∙◌}
+use Rattle.std.specs.Prelude.{Some, not}
 use Rattle.mq_message.specs.declared.place.Holder.{Holder}
 use Rattle.mq_message.specs.declared.place.Holder.TheVariants as holders
 use Rattle.mq_calls.specs.declared.agents.Note.TheVariants as notes
 use Rattle.mq_calls.specs.declared.records.LogRecord.TheVariants as records
 use Rattle.mq_calls.specs.State.{Queue as StateQueue}
-use Rattle.mq_calls.specs.Words.{Ident, Row, Luw, Plain, Part, Step, Do, SenderData, HeldBy, kept_in, selects, sender_or, sender_data, apply, apply_all}
+use Rattle.mq_calls.specs.Words.{Ident, Row, Luw, Plain, Part, Do, SenderData, HeldBy, selects, sender_or, sender_data, apply, apply_all}
 use Rattle.mq_calls.specs.declared.records.Remove.{Remove}
 use Rattle.mq_calls.specs.State.Change.{SetSender}
-use Rattle.mq_spec_manager.specs.Words.{Never}
 use Rattle.mq_spec_manager.specs.Agents.{harden, held_rows, settle_change}
 use Rattle.mq_core.specs.declared.parts.StoppedWrite.TheVariants as writes
 use Rattle.mq_core.specs.Views.{PartsValue, plain_of, frozen_of, noted}

@@ -14,6 +14,7 @@ use Rattle.mq_calls.specs.declared.records.Remove.{Remove}
 use Rattle.mq_calls.specs.State.{Queue}
 use Rattle.mq_place.specs.States.{holds, named_row, rows_after}
 use Rattle.mq_place.specs.Held.{held_left}
+use Rattle.mq_place.specs.Deadlines.{NonePast}
 use Rattle.mq_place.proofs.HeldLaws.{none_passed, passed_next}
 use Rattle.mq_calls.specs.Reads.{is_past}
 use Rattle.mq_spec_manager.specs.Agents.{at_number}
@@ -39,6 +40,14 @@ some_past moment (row ∷ rows) = by (is_free row) (some_past moment rows)
     by : (f : Bool) → is_some (find (is_free_past moment) rows) ≡ nat_lt 0 (length (filter (λ (row : Row). is_past moment row.message.deadline) (filter is_free rows)))
         → is_some (cond (f && is_past moment row.message.deadline) (Some row) (find (is_free_past moment) rows)) ≡ nat_lt 0 (length (filter (λ (row : Row). is_past moment row.message.deadline) (cond f (row ∷ filter is_free rows) (filter is_free rows))))
     by true rest = inner (is_past moment row.message.deadline) rest
+    by false rest = rest
+
+pub none_past : (moment : ℕ) (rows : List Row) → NonePast moment rows → filter (λ (row : Row). is_past moment row.message.deadline) (filter is_free rows) ≡ []
+none_past moment [] all = refl
+none_past moment (row ∷ rows) all = by (is_free row) (none_past moment rows all.1)
+  where
+    by : (f : Bool) → filter (λ (row : Row). is_past moment row.message.deadline) (filter is_free rows) ≡ [] → filter (λ (row : Row). is_past moment row.message.deadline) (cond f (row ∷ filter is_free rows) (filter is_free rows)) ≡ []
+    by true rest = ap (λ (b : Bool). cond b (row ∷ filter (λ (row : Row). is_past moment row.message.deadline) (filter is_free rows)) (filter (λ (row : Row). is_past moment row.message.deadline) (filter is_free rows))) all.0 ∙ rest
     by false rest = rest
 
 -- the number of an ident in a batch, from 1

@@ -1,5 +1,5 @@
 -- Records that channel ends force: what stands behind them, and what a stopped one leaves.
-use Rattle.std.proofs.Common.{◌≡◌, ℕ, ◌+◌, ◌-◌, ◌<◌, ◌≤◌, Bool, true, false, List, [], ◌∷◌, ◌++◌, length, refl, ap, arith, sym, subst, ◌∙◌}
+use Rattle.std.proofs.Common.{◌≡◌, ℕ, ◌+◌, ◌<◌, ◌≤◌, true, List, [], ◌∷◌, length, refl, ap, arith, sym, subst, ◌∙◌}
 use Rattle.std.specs.Prelude.{Option, Some, None, Result, Ok, Err, OnOk, is_some}
 use Rattle.std.proofs.lemmas.List.{append-nil}
 use Rattle.mq_base.specs.Outside.{Rose}
@@ -9,14 +9,13 @@ use Rattle.mq_sync.specs.declared.data.End.TheVariants as sync_ends
 use Rattle.mq_log.specs.State.{LogState, Appended}
 use Rattle.mq_log.specs.Force.{Stops}
 use Rattle.mq_record.specs.Records.{record_bytes}
-use Rattle.mq_calls.specs.Words.{Plain, Part, Change, ManagerValue, Wants, MeetsDone, MeetsOrWants, Do, Noted, record_size, need, logged, apply, apply_all, freeze, note_of}
+use Rattle.mq_calls.specs.Words.{Plain, Part, Change, ManagerValue, Wants, MeetsDone, MeetsOrWants, Do, Noted, need, logged, apply, apply_all, freeze, note_of}
 use Rattle.mq_calls.specs.declared.deltas.Did.{Did}
 use Rattle.mq_calls.specs.declared.agents.Note.{Note}
 use Rattle.mq_calls.specs.declared.records.LogRecord.{LogRecord}
 use Rattle.mq_calls.specs.declared.commands.Halt.{Halt}
 use Rattle.mq_calls.specs.declared.agents.AgentStop.{AgentStop}
 use Rattle.mq_calls.specs.declared.agents.Note.TheVariants as notes
-use Rattle.mq_calls.specs.declared.agents.AgentStop.TheVariants as agent_stops
 use Rattle.mq_calls.specs.declared.commands.Halt.TheVariants as halts
 use Rattle.mq_calls.specs.declared.deltas.Did.TheVariants as did
 use Rattle.mq_calls.specs.Meeting.Wants.{Anywhere}
@@ -35,7 +34,7 @@ use Rattle.mq_core.proofs.PutLaws.{tied_roomier, roomier_view}
 use Rattle.mq_agents.specs.Removing.{IsRoomy}
 use Rattle.mq_core.proofs.ForceLaws.{forced_view, frozen_view, tied_downed, stops_at}
 use Rattle.mq_agents.specs.Ends.{halt_of, stopped_agent}
-use Rattle.mq_agents.specs.Written.{IsWhole, IsWritten, IsDowned, Writes, agent_of, stop_of, with_senders, with_receivers, note_record, noted_change}
+use Rattle.mq_agents.specs.Written.{IsWhole, IsWritten, Writes, agent_of, stop_of, with_senders, with_receivers, note_record, noted_change}
 use Rattle.mq_agents.specs.declared.hardening.Unwritten.{Unwritten}
 use Rattle.mq_agents.specs.declared.hardening.Unwritten.TheVariants as unwritten
 use Rattle.mq_agents.specs.Ends.{by_agent}

@@ -1,7 +1,7 @@
 //! What a manager tells channel ends and the handler, without a change.
 ghost use Rattle.std.specs.Prelude.{◌≡◌, ℕ, Some, None, option_copied, option_map, not, filter, nat_lt, length};
 ghost use Rattle.mq_calls.specs.Words.{is_up, free_rows, is_expired, local_of};
-ghost use Rattle.mq_spec_manager.specs.Agents.{IsUp, HasSeized, kept, next_row, batch_row, at_number, stock, queue_of_sender, is_enabled, expired_rows};
+ghost use Rattle.mq_spec_manager.specs.Agents.{kept, next_row, batch_row, at_number, stock, queue_of_sender, is_enabled, expired_rows};
 ghost use Rattle.mq_queue.specs.declared.row.Row.{Row};
 ghost use Rattle.mq_message.specs.declared.message.Message.{Message};
 ghost use Rattle.mq_core.specs.Views.{plain_of};
@@ -137,10 +137,8 @@ fn count_free<D: Disk>(parts: &Parts<D>, queue: &QName) -> u64
     parts.queues.free(queue, 0)
 }
 
-/// What a running sender sees of its queue. It takes no memory.
+/// What a sender sees of its queue, whether it has it open or not. It takes no memory.
 pub fn stock<D: Disk>(core: &Core<D>, channel: &ChName) -> Stock
-    requires up { IsUp core.now.plain }
-    requires seized { HasSeized channel.now core.now.plain }
     ensures { result ≡ stock channel.now core.now.plain }
 {
     let queue = queue_of_sender(&core.parts, channel);

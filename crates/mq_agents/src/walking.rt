@@ -116,10 +116,13 @@ fn row_past<'a, Q: Queue + Drop>(local: &'a LocalRows<Q>, moment: u64) -> Option
     None
 }
 
-/// Whether a free row has expired. It walks to the first.
+/// Whether a free row has expired. It walks to the first, where a message on the queue may have expired.
 pub(crate) fn has_past<Q: Queue + Drop>(local: &LocalRows<Q>, moment: u64) -> bool
     ensures { result ≡ nat_lt 0 (length (filter (λ (row : Row). is_past moment row.message.deadline) (filter is_free local.now.queue.rows))) }
 {
+    if !local.may_be_past(moment) {
+        return false;
+    }
     let Some(_row) = row_past(local, moment) else {
         return false;
     };

@@ -4,11 +4,11 @@ use mq_calls::{Note, ReceiverSide, Remove, Seizure, SenderSide, Why};
 use mq_codes::Reason;
 use mq_disk::Disk;
 use mq_handles::Live;
+use mq_index::IndexedQueue;
 use mq_log::Log;
 use mq_message::{Dest, Ident, Message};
 use mq_objects::Defs;
 use mq_place::Queues;
-use mq_queue::PlainQueue;
 use mq_record::Buffer;
 use mq_sc_apply::Planned;
 use mq_sides::KeptBatch;
@@ -144,7 +144,7 @@ pub struct Parts<D: Disk> {
     /// Its objects.
     pub defs: Defs,
     /// Its local queues by name, with the puts that wait for them.
-    pub queues: Queues<PlainQueue>,
+    pub queues: Queues<IndexedQueue>,
     /// Its live connections by number, and who uses a queue.
     pub live: Live,
     /// What channel ends have here.

@@ -15,6 +15,8 @@ use Rattle.mq_core.specs.Values.{CoreValue}
 use Rattle.mq_events.specs.States.{NodeState, node_in, value_of, IsKept, IsServed, entry_of, told, quietly}
 use Rattle.mq_events.specs.Events.{ActsAs, acted_by, own_by}
 use Rattle.mq_events.proofs.ReplayLaws.{replayed_more, with_more}
+use Rattle.mq_events.specs.Disks.{disk_failed}
+use Rattle.mq_events.proofs.CallLaws.{silent}
 use Rattle.mq_events.proofs.EventLaws.{served_is}
 
 -- room was taken, and nothing else has changed
@@ -35,8 +37,8 @@ module _ (s : NodeState) (room : ℕ) (m : CoreValue) (own : Own) (actor : Actor
       let V : Node → Type 0 = λ n. IsReplayed (record (with_more it (value_of s)) { node = n }) in
       subst V next (replayed_more (value_of s) it k t (served_is s it served))
 
-  act_adds : s.manager.faults ≤ m.faults → ActsAs actor (calls.Act asked) s (Ok a) (told actor (calls.Act asked) (quietly a) (record s { manager = m; own = own; room = room }))
-  act_adds f = (it, record { grows = record { given = refl; history = refl }; actor = refl; call = refl; marks = refl; faults = f }, refl)
+  act_adds : s.manager.faults ≤ m.faults → disk_failed (replies.Acted a) ≡ false → ActsAs actor (calls.Act asked) s (Ok a) (told actor (calls.Act asked) (quietly a) (record s { manager = m; own = own; room = room }))
+  act_adds f quiet = (it, record { grows = record { given = refl; history = refl }; actor = refl; call = refl; marks = refl; faults = f; rose = silent (replies.Acted a) (replies.Acted a) s.manager.faults m.faults refl quiet }, refl)
 
 same_faults : (a b : ℕ) → b ≡ a → a ≤ b
 same_faults a b e = omega (arith, e)
@@ -50,7 +52,7 @@ cut_kept s room m actor k kept served e = act_kept s room m s.own actor (acts.Cu
 
 pub cut_adds : (s : NodeState) (room : ℕ) (m : CoreValue) (actor : Actor) (k : ℕ) → m.faults ≡ s.manager.faults
     → ActsAs actor (calls.Act (acts.Cut k)) s (Ok acted.Done) (told actor (calls.Act (acts.Cut k)) (quietly acted.Done) (record s { manager = m; room = room }))
-cut_adds s room m actor k e = act_adds s room m s.own actor (acts.Cut k) acted.Done (same_faults s.manager.faults m.faults e)
+cut_adds s room m actor k e = act_adds s room m s.own actor (acts.Cut k) acted.Done (same_faults s.manager.faults m.faults e) refl
 
 -- The moment.
 pub clock_kept : (s : NodeState) (room : ℕ) (m : CoreValue) (actor : Actor) (by : ℕ) → IsKept s → IsServed s → m.plain ≡ advance_clock by s.manager.plain
@@ -61,7 +63,7 @@ clock_kept s room m actor by kept served e = act_kept s room m s.own actor (acts
 
 pub clock_adds : (s : NodeState) (room : ℕ) (m : CoreValue) (actor : Actor) (by : ℕ) → m.faults ≡ s.manager.faults
     → ActsAs actor (calls.Act (acts.Clock by)) s (Ok acted.Done) (told actor (calls.Act (acts.Clock by)) (quietly acted.Done) (record s { manager = m; room = room }))
-clock_adds s room m actor by e = act_adds s room m s.own actor (acts.Clock by) acted.Done (same_faults s.manager.faults m.faults e)
+clock_adds s room m actor by e = act_adds s room m s.own actor (acts.Clock by) acted.Done (same_faults s.manager.faults m.faults e) refl
 
 -- A stop: of a manager that is up, and of one that is down.
 crash_reply_is : (up : Bool) (n : Node) (p : Plain) (r : Running) → (stop_at r p).outcome ≡ Answered up → replies.Acted (acted_by up) ≡ (crashed (stop_at r p) n).reply
@@ -95,6 +97,10 @@ stop_kept up s room m actor kept served o e = act_kept s room m (own_by up s.own
     })
     (ap (λ (p : Plain). node_of p (own_crashed (stop s.manager.plain).outcome s.own)) (sym e) ∙ ap (node_of m.plain) (crash_own_is up (node_in s) s.manager.plain s.manager.plain.running o))
 
+no_start : (up : Bool) → disk_failed (replies.Acted (acted_by up)) ≡ false
+no_start true = refl
+no_start false = refl
+
 pub stop_adds : (up : Bool) (s : NodeState) (room : ℕ) (m : CoreValue) (actor : Actor) → m.faults ≡ s.manager.faults
     → ActsAs actor (calls.Act acts.Crash) s (Ok (acted_by up)) (told actor (calls.Act acts.Crash) (quietly (acted_by up)) (record s { manager = m; own = own_by up s.own; room = room }))
-stop_adds up s room m actor e = act_adds s room m (own_by up s.own) actor acts.Crash (acted_by up) (same_faults s.manager.faults m.faults e)
+stop_adds up s room m actor e = act_adds s room m (own_by up s.own) actor acts.Crash (acted_by up) (same_faults s.manager.faults m.faults e) (no_start up)

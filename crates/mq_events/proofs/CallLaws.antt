@@ -4,9 +4,13 @@ use Rattle.std.specs.Prelude.{Option, Some, None, Result, Ok, Err}
 use Rattle.mq_calls.specs.declared.commands.Halt.{Halt}
 use Rattle.mq_calls.specs.declared.commands.Halt.TheVariants as halts
 use Rattle.mq_calls.specs.declared.choices.Choice.{Choice}
-use Rattle.mq_calls.specs.declared.choices.Choice.TheVariants.{Stopped}
+use Rattle.mq_calls.specs.declared.choices.Choice.TheVariants.{Runs, NoMemory, Stopped}
+use Rattle.mq_base.specs.Outside.{Rose}
+use Rattle.mq_codes.specs.declared.reason.Reason.TheVariants as reasons
+use Rattle.mq_calls.specs.declared.answers.Answer.TheVariants as answers
 use Rattle.mq_disk.specs.declared.cutter.Stop.{Stop}
-use Rattle.mq_spec_node.specs.Terms.{Reason, Answer, Did, Reply, Part, Step, Refuse, Do, Possible, Runs, stopped_at, delta_before, do_all}
+use Rattle.mq_disk.specs.declared.cutter.Stop.TheVariants as stops
+use Rattle.mq_spec_node.specs.Terms.{Reason, Answer, Did, Reply, Part, Step, Refuse, Do, Possible, stopped_at, delta_before, do_all}
 use Rattle.mq_calls.specs.Steps.{IsWrite}
 use Rattle.mq_calls.specs.Meeting.{ManagerValue, untouched, Wants, MeetsAs, StoppedIn}
 use Rattle.mq_calls.specs.Meeting.Wants.{Nowhere, Behind, Anywhere}
@@ -25,6 +29,7 @@ use Rattle.mq_spec_manager.specs.Words.{mqconn, mqopen, mqclose, mqput, mqput1, 
 use Rattle.mq_spec_manager.specs.Get.{is_waiting}
 use Rattle.mq_core.specs.Values.{CoreValue, manager_of}
 use Rattle.mq_events.proofs.NumberLaws.{numbered, conn_short, open_short, close_short, put_short, put1_short, commit_short, back_short, disc_short, get_numbered, WaitsOnly, get_waits}
+use Rattle.mq_events.specs.Disks.{RoseBy, RoseIn, RoseWhere, disk_failed}
 use Rattle.mq_events.specs.Outcomes.{part_by, IsNumbered, StepIsNumbered, choice_by, reply_by, is_wanting, outcome_of, Came, EndsAs, Ends, EndsSo}
 
 -- an outcome of these
@@ -133,6 +138,45 @@ later Behind old new (Do reply parts) (Err halts.NoMemory) m = omega (arith, ap 
 later Anywhere old new (Do reply parts) (Err halts.NoMemory) m = omega (arith, ap (λ (v : ManagerValue). v.faults) m)
 later wants old new (Do reply parts) (Err (halts.Stopped by)) m = m.later
 
+-- Where a disk stopped the call's write, its count rose; nothing else tells of one.
+no_disk : false ≡ true → ⊥
+no_disk e = absurd cc
+
+pub silent : (reply other : Reply) (before now : ℕ) → reply ≡ other → disk_failed other ≡ false → RoseBy reply before now
+silent reply other before now e quiet = λ tells. absurd (no_disk (sym quiet ∙ sym (ap disk_failed e) ∙ tells))
+
+pub stopped_disk : (by : Stop) (parts : List Part) (old mid : ManagerValue) → StoppedIn by parts old mid → disk_failed (replies.Stopped by) ≡ true → Rose old.faults mid.faults
+stopped_disk stops.Disk parts old mid m tells = m.rose refl
+stopped_disk stops.Cut parts old mid m tells = absurd (no_disk tells)
+
+pub rose_wider : (a b c d : ℕ) → a ≤ b → Rose b c → c ≤ d → Rose a d
+rose_wider a b c d le rose more = grind (arith, le, rose, more)
+
+-- of parts: what is told of them, and the reply of a choice
+pub where_wider : (choice : Choice) (a b c d : ℕ) → a ≤ b → RoseWhere choice b c → c ≤ d → RoseWhere choice a d
+where_wider Runs a b c d le rose more = tt
+where_wider NoMemory a b c d le rose more = tt
+where_wider (Stopped by part left) a b c d le rose more = λ disk. rose_wider a b c d le (rose disk) more
+
+by_disk : (by : Stop) → disk_failed (replies.Stopped by) ≡ true → by ≡ stops.Disk
+by_disk stops.Disk tells = refl
+by_disk stops.Cut tells = absurd (no_disk tells)
+
+pub rose_by : (by : Stop) (before now : ℕ) → (by ≡ stops.Disk → Rose before now) → RoseBy (replies.Stopped by) before now
+rose_by by before now rose = λ tells. rose (by_disk by tells)
+
+pub rose_then : (by : Stop) (parts : List Part) (old mid new : CoreValue) (reply : Reply) → reply ≡ replies.Stopped by → new ≡ record mid { delta = [] } → StoppedIn by parts (manager_of old) (manager_of mid) → RoseBy reply old.faults new.faults
+rose_then by parts old mid new reply r e m = λ tells.
+    subst (λ (n : ℕ). Rose old.faults n) (sym (ap (λ (v : CoreValue). v.faults) e)) (stopped_disk by parts (manager_of old) (manager_of mid) m (sym (ap disk_failed r) ∙ tells))
+
+pub rose_so : (wants : Wants) {T : Type 0} (f : Answer T → Reply) (old mid new : CoreValue) (step : Step Reason (Answer T)) (ended : Result (Answer T) (Halt Reason)) (reply : Reply) → ((a : Answer T) → disk_failed (f a) ≡ false) → reply ≡ reply_by f ended → new ≡ record mid { delta = [] }
+    → MeetsAs wants (manager_of old) step ended (manager_of mid) → RoseBy reply old.faults new.faults
+rose_so wants f old mid new step (Ok value) reply quiet r e m = silent reply (f value) old.faults new.faults r (quiet value)
+rose_so wants f old mid new step (Err (halts.Refused reason)) reply quiet r e m = silent reply (f (answers.Failed reason)) old.faults new.faults r (quiet (answers.Failed reason))
+rose_so wants f old mid new step (Err halts.NoMemory) reply quiet r e m = silent reply (f (answers.Failed reasons.StorageNotAvailable)) old.faults new.faults r (quiet (answers.Failed reasons.StorageNotAvailable))
+rose_so wants f old mid new (Refuse reason) (Err (halts.Stopped by)) reply quiet r e m = absurd m
+rose_so wants f old mid new (Do answer parts) (Err (halts.Stopped by)) reply quiet r e m = rose_then by parts old mid new reply r e m
+
 -- Each call by the manager's clause for it.
 abbrev IsTold : {T : Type 0} → (Answer T → Reply) → Result (Answer T) (Halt Reason) → CoreValue → Outcome → CoreValue → Type 0
 IsTold f ended mid o new =
@@ -164,6 +208,7 @@ conn_ends qmgr appl old mid new ended o m c r d e = record {
   ends = λ stamp actor own. came_so _ _ _ o mid.plain new.plain (outcome_is replies.Connected ended mid new o (c, r, d, e)) (same_plain mid new e)
       (behind replies.Connected own (manager_of old) (manager_of mid) (mqconn qmgr appl old.plain) ended (numbered _ (conn_short qmgr appl old.plain)) m);
   later = faults_so Behind old mid new (mqconn qmgr appl old.plain) ended e m;
+  rose = rose_so Behind replies.Connected old mid new (mqconn qmgr appl old.plain) ended o.reply (λ a. refl) r e m;
 }
 
 pub open_ends : (hc : Hconn) (name qmgr : List ℕ) (how : Open) (old mid new : CoreValue) (ended : Result (Answer Hobj) (Halt Reason)) (o : Outcome) → MeetsAs Behind (manager_of old) (mqopen hc name qmgr how old.plain) ended (manager_of mid)
@@ -173,6 +218,7 @@ open_ends hc name qmgr how old mid new ended o m c r d e = record {
   ends = λ stamp actor own. came_so _ _ _ o mid.plain new.plain (outcome_is replies.Opened ended mid new o (c, r, d, e)) (same_plain mid new e)
       (behind replies.Opened own (manager_of old) (manager_of mid) (mqopen hc name qmgr how old.plain) ended (numbered _ (open_short hc name qmgr how old.plain)) m);
   later = faults_so Behind old mid new (mqopen hc name qmgr how old.plain) ended e m;
+  rose = rose_so Behind replies.Opened old mid new (mqopen hc name qmgr how old.plain) ended o.reply (λ a. refl) r e m;
 }
 
 pub close_ends : (hc : Hconn) (ho : Hobj) (old mid new : CoreValue) (ended : Result (Answer (Unit {0})) (Halt Reason)) (o : Outcome) → MeetsAs Nowhere (manager_of old) (mqclose hc ho old.plain) ended (manager_of mid)
@@ -182,6 +228,7 @@ close_ends hc ho old mid new ended o m c r d e = record {
   ends = λ stamp actor own. came_so _ _ _ o mid.plain new.plain (outcome_is replies.Ended ended mid new o (c, r, d, e)) (same_plain mid new e)
       (nowhere replies.Ended own (manager_of old) (manager_of mid) (mqclose hc ho old.plain) ended (numbered _ (close_short hc ho old.plain)) m);
   later = faults_so Nowhere old mid new (mqclose hc ho old.plain) ended e m;
+  rose = rose_so Nowhere replies.Ended old mid new (mqclose hc ho old.plain) ended o.reply (λ a. refl) r e m;
 }
 
 pub put_ends : (hc : Hconn) (ho : Hobj) (md : Md) (body : List ℕ) (sync : Bool) (old mid new : CoreValue) (ended : Result (Answer Sent) (Halt Reason)) (o : Outcome) → MeetsAs Behind (manager_of old) (mqput hc ho md body sync old.plain) ended (manager_of mid)
@@ -191,6 +238,7 @@ put_ends hc ho md body sync old mid new ended o m c r d e = record {
   ends = λ stamp actor own. came_so _ _ _ o mid.plain new.plain (outcome_is replies.Put ended mid new o (c, r, d, e)) (same_plain mid new e)
       (behind replies.Put own (manager_of old) (manager_of mid) (mqput hc ho md body sync old.plain) ended (numbered _ (put_short hc ho md body sync old.plain)) m);
   later = faults_so Behind old mid new (mqput hc ho md body sync old.plain) ended e m;
+  rose = rose_so Behind replies.Put old mid new (mqput hc ho md body sync old.plain) ended o.reply (λ a. refl) r e m;
 }
 
 pub put1_ends : (hc : Hconn) (name qmgr : List ℕ) (md : Md) (body : List ℕ) (sync : Bool) (old mid new : CoreValue) (ended : Result (Answer Sent) (Halt Reason)) (o : Outcome) → MeetsAs Behind (manager_of old) (mqput1 hc name qmgr md body sync old.plain) ended (manager_of mid)
@@ -200,6 +248,7 @@ put1_ends hc name qmgr md body sync old mid new ended o m c r d e = record {
   ends = λ stamp actor own. came_so _ _ _ o mid.plain new.plain (outcome_is replies.Put ended mid new o (c, r, d, e)) (same_plain mid new e)
       (behind replies.Put own (manager_of old) (manager_of mid) (mqput1 hc name qmgr md body sync old.plain) ended (numbered _ (put1_short hc name qmgr md body sync old.plain)) m);
   later = faults_so Behind old mid new (mqput1 hc name qmgr md body sync old.plain) ended e m;
+  rose = rose_so Behind replies.Put old mid new (mqput1 hc name qmgr md body sync old.plain) ended o.reply (λ a. refl) r e m;
 }
 
 pub commit_ends : (hc : Hconn) (old mid new : CoreValue) (ended : Result (Answer (Unit {0})) (Halt Reason)) (o : Outcome) → MeetsAs Nowhere (manager_of old) (mqcmit hc old.plain) ended (manager_of mid)
@@ -209,6 +258,7 @@ commit_ends hc old mid new ended o m c r d e = record {
   ends = λ stamp actor own. came_so _ _ _ o mid.plain new.plain (outcome_is replies.Ended ended mid new o (c, r, d, e)) (same_plain mid new e)
       (nowhere replies.Ended own (manager_of old) (manager_of mid) (mqcmit hc old.plain) ended (numbered _ (commit_short hc old.plain)) m);
   later = faults_so Nowhere old mid new (mqcmit hc old.plain) ended e m;
+  rose = rose_so Nowhere replies.Ended old mid new (mqcmit hc old.plain) ended o.reply (λ a. refl) r e m;
 }
 
 pub back_ends : (hc : Hconn) (old mid new : CoreValue) (ended : Result (Answer (Unit {0})) (Halt Reason)) (o : Outcome) → MeetsAs Nowhere (manager_of old) (mqback hc old.plain) ended (manager_of mid)
@@ -218,6 +268,7 @@ back_ends hc old mid new ended o m c r d e = record {
   ends = λ stamp actor own. came_so _ _ _ o mid.plain new.plain (outcome_is replies.Ended ended mid new o (c, r, d, e)) (same_plain mid new e)
       (nowhere replies.Ended own (manager_of old) (manager_of mid) (mqback hc old.plain) ended (numbered _ (back_short hc old.plain)) m);
   later = faults_so Nowhere old mid new (mqback hc old.plain) ended e m;
+  rose = rose_so Nowhere replies.Ended old mid new (mqback hc old.plain) ended o.reply (λ a. refl) r e m;
 }
 
 pub disc_ends : (hc : Hconn) (old mid new : CoreValue) (ended : Result (Answer (Unit {0})) (Halt Reason)) (o : Outcome) → MeetsAs Nowhere (manager_of old) (mqdisc hc old.plain) ended (manager_of mid)
@@ -227,6 +278,7 @@ disc_ends hc old mid new ended o m c r d e = record {
   ends = λ stamp actor own. came_so _ _ _ o mid.plain new.plain (outcome_is replies.Ended ended mid new o (c, r, d, e)) (same_plain mid new e)
       (nowhere replies.Ended own (manager_of old) (manager_of mid) (mqdisc hc old.plain) ended (numbered _ (disc_short hc old.plain)) m);
   later = faults_so Nowhere old mid new (mqdisc hc old.plain) ended e m;
+  rose = rose_so Nowhere replies.Ended old mid new (mqdisc hc old.plain) ended o.reply (λ a. refl) r e m;
 }
 
 -- MQGET, which may be no event.
@@ -259,6 +311,15 @@ ends_so d n a b p q e f c =
 outcome_same : (ended : Result GetAnswer (Halt Reason)) (c k : Choice) (d e : List Did) → c ≡ k → d ≡ e → outcome_of ended c d ≡ outcome_of ended k e
 outcome_same ended c k d e f h = ap (λ (x : Choice). outcome_of ended x d) f ∙ ap (outcome_of ended k) h
 
+got_rose : (old mid new : CoreValue) (step : Step Reason GetAnswer) (ended : Result GetAnswer (Halt Reason)) (choice : Choice) (delta : List Did) → new ≡ record mid { delta = [] } → MeetsAs Behind (manager_of old) step ended (manager_of mid)
+    → RoseIn (Ok (outcome_of ended choice delta)) old.faults new.faults
+got_rose old mid new step (Ok get_answers.NotYet) choice delta e m = tt
+got_rose old mid new step (Ok (get_answers.Done a)) choice delta e m = silent (replies.Got a) (replies.Got a) old.faults new.faults refl refl
+got_rose old mid new step (Err (halts.Refused reason)) choice delta e m = silent (replies.Got (answers.Failed reason)) (replies.Got (answers.Failed reason)) old.faults new.faults refl refl
+got_rose old mid new step (Err halts.NoMemory) choice delta e m = silent (replies.Got (answers.Failed reasons.StorageNotAvailable)) (replies.Got (answers.Failed reasons.StorageNotAvailable)) old.faults new.faults refl refl
+got_rose old mid new (Refuse reason) (Err (halts.Stopped by)) choice delta e m = absurd m
+got_rose old mid new (Do answer parts) (Err (halts.Stopped by)) choice delta e m = rose_then by parts old mid new (replies.Stopped by) refl e m
+
 pub get_ends : (hc : Hconn) (ho : Hobj) (get : Get) (until : Option ℕ) (old mid new : CoreValue) (ended : Result GetAnswer (Halt Reason)) (choice : Choice) (delta : List Did) → MeetsAs Behind (manager_of old) (mqget hc ho get until old.plain) ended (manager_of mid)
     → (is_wanting ended ≡ true → is_waiting until old.plain ≡ false) → (choice ≡ choice_by ended mid.delta mid.plain.log.armed) → (delta ≡ mid.delta) → (new ≡ record mid { delta = [] })
     → Ends (calls.Mqget hc ho get until) old (Ok (outcome_of ended choice delta)) new
@@ -266,6 +327,7 @@ get_ends hc ho get until old mid new ended choice delta m b c d e = record {
   ends = λ stamp actor own. ends_so _ _ _ _ mid.plain new.plain (outcome_same ended choice _ delta _ c d) (same_plain mid new e)
       (got_so own (manager_of old) (manager_of mid) until (mqget hc ho get until old.plain) ended (get_numbered hc ho get until old.plain) (get_waits hc ho get until old.plain) b m);
   later = faults_so Behind old mid new (mqget hc ho get until old.plain) ended e m;
+  rose = got_rose old mid new (mqget hc ho get until old.plain) ended choice delta e m;
 }
 
 pub wants_nothing : (wants : Wants) {F T : Type 0} (old new : ManagerValue) (step : Step F T) (ended : Result T (Halt F)) → is_wanting ended ≡ true → MeetsAs wants old step ended new → new.plain ≡ old.plain
@@ -288,6 +350,7 @@ pub get_wants : (hc : Hconn) (ho : Hobj) (get : Get) (until : Option ℕ) (old n
 get_wants hc ho get until old new x ended m w = record {
   ends = λ stamp actor own. wanted_is (get_deed own (mqget hc ho get until old.plain)) (node_of old.plain own) x new.plain (wants_nothing Behind (manager_of old) (manager_of new) (mqget hc ho get until old.plain) ended w m);
   later = later Behind (manager_of old) (manager_of new) (mqget hc ho get until old.plain) ended m;
+  rose = tt;
 }
 
 pub true_false : true ≡ false → ⊥

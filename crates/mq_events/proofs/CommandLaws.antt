@@ -25,7 +25,8 @@ use Rattle.mq_spec_manager.specs.Commands.{planned_step, uses_of}
 use Rattle.mq_core.specs.Values.{CoreValue, manager_of}
 use Rattle.mq_events.specs.Outcomes.{StepIsNumbered, choice_by, reply_of, acted_of, is_wanting, WantsCopy, Came, ObeysAs}
 use Rattle.mq_events.proofs.NumberLaws.{numbered, command_short}
-use Rattle.mq_events.proofs.CallLaws.{stopped, later, faults_so, same_plain, came_so, outcome_by, nothing_possible}
+use Rattle.mq_events.specs.Disks.{RoseBy}
+use Rattle.mq_events.proofs.CallLaws.{silent, rose_then, stopped, later, faults_so, same_plain, came_so, outcome_by, nothing_possible}
 
 module _ (own : Own) (old new : ManagerValue) where
   came : (step : Step ScRefusal Shown) (ended : Result Shown (Halt ScRefusal)) → StepIsNumbered step → is_wanting ended ≡ false → MeetsAs Anywhere old step ended new
@@ -87,6 +88,7 @@ pub command_wants : (c : Objects) (old new : CoreValue) (x : Want) (ended : Resu
 command_wants c old new x ended m w = record {
   ends = λ stamp actor own. want_same (manager_of old) (manager_of new) (command c old.plain) ended m (lines_or c old.plain) w;
   later = later Anywhere (manager_of old) (manager_of new) (command c old.plain) ended m;
+  rose = tt;
 }
 
 answers : (c : Objects) (ended : Result Shown (Halt ScRefusal)) → is_wanting ended ≡ false → answer_of (calls.Act (acts.Obey (commands.Objects c))) (reply_of ended) ≡ replies.Acted (acted_of ended)
@@ -94,6 +96,13 @@ answers c (Ok shown) w = refl
 answers c (Err (halts.Refused reason)) w = refl
 answers c (Err halts.NoMemory) w = absurd cc
 answers c (Err (halts.Stopped by)) w = refl
+
+command_rose : (old mid new : CoreValue) (step : Step ScRefusal Shown) (ended : Result Shown (Halt ScRefusal)) (reply : Reply) → reply ≡ reply_of ended → new ≡ record mid { delta = [] } → MeetsAs Anywhere (manager_of old) step ended (manager_of mid) → RoseBy reply old.faults new.faults
+command_rose old mid new step (Ok shown) reply r e m = silent reply (replies.Acted (acted.Shown shown)) old.faults new.faults r refl
+command_rose old mid new step (Err (halts.Refused reason)) reply r e m = silent reply (replies.Acted (acted.Sc reason)) old.faults new.faults r refl
+command_rose old mid new step (Err halts.NoMemory) reply r e m = silent reply (replies.Acted (acted.Sc refusals.NoMemory)) old.faults new.faults r refl
+command_rose old mid new (Refuse reason) (Err (halts.Stopped by)) reply r e m = absurd m
+command_rose old mid new (Do shown parts) (Err (halts.Stopped by)) reply r e m = rose_then by parts old mid new reply r e m
 
 pub command_ends : (c : Objects) (old mid new : CoreValue) (ended : Result Shown (Halt ScRefusal)) (choice : Choice) (reply : Reply) (delta : List Did) (a : Acted) → MeetsAs Anywhere (manager_of old) (command c old.plain) ended (manager_of mid)
     → a ≡ acted_of ended → is_wanting ended ≡ false → choice ≡ choice_by ended mid.delta mid.plain.log.armed → reply ≡ reply_of ended → delta ≡ mid.delta → new ≡ record mid { delta = [] }
@@ -105,6 +114,7 @@ command_ends c old mid new ended choice reply delta a m is w ch re de e = (
         (same_plain mid new e)
         (came own (manager_of old) (manager_of mid) (command c old.plain) ended (numbered (command c old.plain) (command_short c old.plain)) w m);
     later = faults_so Anywhere old mid new (command c old.plain) ended e m;
+    rose = command_rose old mid new (command c old.plain) ended reply re e m;
   },
   ap (λ (x : Reply). answer_of (calls.Act (acts.Obey (commands.Objects c))) x) re ∙ answers c ended w ∙ ap (λ (x : Acted). replies.Acted x) (sym is),
 )

@@ -28,6 +28,7 @@ use Rattle.mq_events.specs.Events.{ActsAs, Adds, EventIs, IsMqi, MayAct, ServesO
 use Rattle.mq_events.proofs.KeepLaws.{begun_none}
 use Rattle.mq_events.proofs.ReplayLaws.{after_more}
 use Rattle.mq_events.proofs.MarkLaws.{begun_kept, mark_kept}
+use Rattle.mq_events.proofs.RiseLaws.{risen_event, risen_more, risen_none, risen_still}
 
 -- What the entry of an event did is the node behind it.
 pub next_is : (who : Actor) (what : Call) (e : Entry) (s t : NodeState) → IsKept s → IsKept t → Adds who what e s t → node_in t ≡ (done_by e (node_in s)).next
@@ -197,16 +198,16 @@ counted_event who what None s (Ok false) t k l m b q h = counted_still s t b q h
 counted_event who what (Some d) s (Ok false) t k l m b q h = absurd h
 
 pub applied_counted : (who : Actor) (what : Call) (d : Option Deed) (s : NodeState) (r : Result Bool Want) (t : NodeState) → IsNode s → IsKept t → IsMqi what → KeepsCounts s t → EventIs who what d s r t → IsNode t
-applied_counted who what d s r t n l m q h = record { kept = l; counted = counted_event who what d s r t n.kept l m n.counted q h }
+applied_counted who what d s r t n l m q h = record { kept = l; counted = counted_event who what d s r t n.kept l m n.counted q h; risen = risen_event who what d s r t n.risen h }
 
 pub served_counted : (s : NodeState) (r : Result Bool Want) (t : NodeState) → IsNode s → IsKept t → KeepsCounts s t → ServesOne s r t → IsNode t
-served_counted s (Ok true) t n l q h = record { kept = l; counted = counted_more h.0 calls.Trigger h.1 s t n.kept l tt n.counted q h.2 }
-served_counted s (Ok false) t n l q h = record { kept = l; counted = counted_still s t n.counted q h.0 }
-served_counted s (Err e) t n l q h = record { kept = l; counted = counted_still s t n.counted q h }
+served_counted s (Ok true) t n l q h = record { kept = l; counted = counted_more h.0 calls.Trigger h.1 s t n.kept l tt n.counted q h.2; risen = risen_more h.0 calls.Trigger h.1 s t n.risen h.2 }
+served_counted s (Ok false) t n l q h = record { kept = l; counted = counted_still s t n.counted q h.0; risen = risen_still s t n.risen h.0 }
+served_counted s (Err e) t n l q h = record { kept = l; counted = counted_still s t n.counted q h; risen = risen_still s t n.risen h }
 
 pub acted_counted : (who : Actor) (what : Call) (s : NodeState) (r : Result Acted Want) (t : NodeState) → IsCountedCall what → IsNode s → IsKept t → KeepsCounts s t → ActsAs who what s r t → IsNode t
-acted_counted who what s (Ok a) t c n l q h = record { kept = l; counted = counted_more who what h.0 s t n.kept l c n.counted q h.1 }
-acted_counted who what s (Err e) t c n l q h = record { kept = l; counted = counted_still s t n.counted q h }
+acted_counted who what s (Ok a) t c n l q h = record { kept = l; counted = counted_more who what h.0 s t n.kept l c n.counted q h.1; risen = risen_more who what h.0 s t n.risen h.1 }
+acted_counted who what s (Err e) t c n l q h = record { kept = l; counted = counted_still s t n.counted q h; risen = risen_still s t n.risen h }
 
 -- Where nothing is done, all is as it was.
 same_stays : (s : NodeState) → Stays s s
@@ -220,10 +221,10 @@ same_turn s x = same_stays s
 
 -- marks and openings
 pub marked_counted : (idle : Bool) (s : NodeState) → IsNode s → IsNode (marked idle s)
-marked_counted idle s n = record { kept = mark_kept idle s n.kept; counted = λ is. let h : HasBound (value_of s) = n.counted is in record { most = h.most; below = h.below; fits = h.fits } }
+marked_counted idle s n = record { kept = mark_kept idle s n.kept; counted = λ is. let h : HasBound (value_of s) = n.counted is in record { most = h.most; below = h.below; fits = h.fits }; risen = n.risen }
 
 pub begun_counted : (s : NodeState) → s.history.entries ≡ [] → s.stamp ≡ 0 → s.history.number ≡ s.given.given.number → s.history.name ≡ s.given.given.name → node_in s ≡ opening_node s.given s.history → (few : Bool) → (few ≡ true → HasFewRows s.manager.plain)
     → IsNode (record s { few = few })
 begun_counted s none stamp number name is few rows =
     let t : NodeState = record s { few = few } in
-    record { kept = begun_kept t none stamp number name is; counted = first_counted t is rows }
+    record { kept = begun_kept t none stamp number name is; counted = first_counted t is rows; risen = risen_none t.history.entries t.manager.faults none }

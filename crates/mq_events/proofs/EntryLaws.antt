@@ -1,7 +1,7 @@
 -- One entry more, of any event: the history with it leads to the node behind the event.
 use Rattle.std.proofs.Common.{◌≡◌, sym, ap, subst, ◌∙◌}
 use Rattle.mq_spec_node.specs.Terms.{Entry}
-use Rattle.mq_spec_node.specs.Words.{Node, NodeValue, done_by, IsReplayed, Tells}
+use Rattle.mq_spec_node.specs.Words.{Node, done_by, IsReplayed, Tells}
 use Rattle.mq_events.specs.States.{NodeState, IsKept, IsServed, node_in, value_of}
 use Rattle.mq_events.proofs.EventLaws.{served_is}
 use Rattle.mq_events.proofs.ReplayLaws.{replayed_more, with_more}

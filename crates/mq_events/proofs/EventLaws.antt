@@ -142,7 +142,7 @@ event_adds s m room actor call o c = at (deed_of (s.stamp + 1) actor call items.
   where
     at : (d : Option Deed) → EndsAs d (node_in s) (Ok (Some o)) m.plain → EventIs actor call d s (Ok true) (finished actor call o (record s { manager = m; room = room }))
     at None h = absurd h
-    at (Some d) h = (entry_of (s.stamp + 1) actor call o, record { grows = record { given = refl; history = refl }; actor = refl; call = refl; marks = refl; faults = c.later })
+    at (Some d) h = (entry_of (s.stamp + 1) actor call o, record { grows = record { given = refl; history = refl }; actor = refl; call = refl; marks = refl; faults = c.later; rose = c.rose })
 
 -- where it is no event, or there is no memory, all is as it was
 stays : (s : NodeState) (m : CoreValue) (room : ℕ) → m.plain ≡ s.manager.plain → s.manager.faults ≤ m.faults → Stays s (record s { manager = m; room = room })
@@ -195,7 +195,7 @@ turn_kept s m room actor o k who c =
     came_kept s actor calls.Trigger o it.0 m room k (subst T (sym it.1) (refl, sym who)) it.1 it.2
 
 pub turn_adds : (s : NodeState) (m : CoreValue) (room : ℕ) (actor : Actor) (o : Outcome) → EndsSo calls.Trigger s.manager o m → ServesOne s (Ok true) (finished actor calls.Trigger o (record s { manager = m; room = room }))
-turn_adds s m room actor o c = (actor, entry_of (s.stamp + 1) actor calls.Trigger o, record { grows = record { given = refl; history = refl }; actor = refl; call = refl; marks = refl; faults = c.later })
+turn_adds s m room actor o c = (actor, entry_of (s.stamp + 1) actor calls.Trigger o, record { grows = record { given = refl; history = refl }; actor = refl; call = refl; marks = refl; faults = c.later; rose = c.rose })
 
 pub wanted_turn_stays : (s : NodeState) (m : CoreValue) (room : ℕ) (x : Want) → Ends calls.Trigger s.manager (Err x) m → Stays s (record s { manager = m; room = room })
 wanted_turn_stays s m room x c = at (deed_of 0 actors.Operator calls.Trigger items.Nothing (node_in s)) (c.ends 0 actors.Operator s.own)

@@ -8,6 +8,7 @@ pub mod MarkLaws
 pub mod EntryLaws
 pub mod RowLaws
 pub mod KeepLaws
+pub mod RiseLaws
 pub mod CountLaws
 pub mod NumberLaws
 pub mod CallLaws

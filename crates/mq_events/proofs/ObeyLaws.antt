@@ -29,7 +29,7 @@ module _ (s r a : NodeState) (actor : Actor) (c : Objects) (e : Roomed s r) (h :
   obeyed_adds f o x n w z =
       let E : NodeState → Type 0 = λ y. ActsAs actor (call_of c) s (Ok x) y in
       subst E (sym (z ∙ ap (finished actor (call_of c) o) (roomed_asked s r a e h)))
-      (entry_of (s.stamp + 1) actor (call_of c) o, record { grows = record { given = refl; history = refl }; actor = refl; call = refl; marks = refl; faults = (ends_from s r (call_of c) (Ok (Some o)) a.manager e n).later }, w)
+      (entry_of (s.stamp + 1) actor (call_of c) o, record { grows = record { given = refl; history = refl }; actor = refl; call = refl; marks = refl; faults = (ends_from s r (call_of c) (Ok (Some o)) a.manager e n).later; rose = (ends_from s r (call_of c) (Ok (Some o)) a.manager e n).rose }, w)
 
   pub unobeyed_kept : (x : Want) → IsKept s → Ends (call_of c) r.manager (Err x) a.manager → IsKept a
   unobeyed_kept x k n = subst IsKept (sym (roomed_asked s r a e h)) (want_kept s a.manager r.room (call_of c) x k (ends_from s r (call_of c) (Err x) a.manager e n))

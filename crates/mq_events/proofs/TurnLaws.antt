@@ -20,7 +20,7 @@ use Rattle.mq_spec_manager.specs.Triggers.{Never, first_due, trigger_turn}
 use Rattle.mq_core.specs.Values.{CoreValue, manager_of}
 use Rattle.mq_events.specs.declared.outcome.Outcome.{Outcome}
 use Rattle.mq_events.specs.Outcomes.{Came, EndsAs, Ends, EndsSo, next_due, is_wanting}
-use Rattle.mq_events.proofs.CallLaws.{later, wants_nothing, wanted_is, outcome_by}
+use Rattle.mq_events.proofs.CallLaws.{later, silent, wants_nothing, wanted_is, outcome_by}
 
 -- a call that ran
 pub record Ran {F T : Type 0} (step : Step F T) (old new : ManagerValue) : Type 0 where
@@ -58,6 +58,7 @@ turn_ends old mid new value queue o due m c r d e =
     record {
       ends = λ stamp actor own. turn_at (node_of old.plain own) o new.plain queue old.plain.running (first_due (locals_of old.plain.definitions) old.plain) (due_is (is_up old.plain.running) old.plain ∙ due) (λ q name. came own q name run);
       later = omega (arith, later Behind (manager_of old) (manager_of mid) (trigger_turn old.plain) (Ok value) m, ap (λ (v : CoreValue). v.faults) e);
+      rose = silent o.reply (replies.Triggered queue) old.faults new.faults r refl;
     }
   where
     came : (own : Own) (q : LocalQueue) → q.name ≡ queue → Ran (trigger_turn old.plain) (manager_of old) (manager_of mid)
@@ -85,6 +86,7 @@ pub turn_wants : (old new : CoreValue) (x : Want) (ended : Result Bool (Halt Nev
 turn_wants old new x ended e m = record {
   ends = λ stamp actor own. wanted_is (trigger_deed (node_of old.plain own)) (node_of old.plain own) x new.plain (wants_nothing Behind (manager_of old) (manager_of new) (trigger_turn old.plain) ended (ap is_wanting e) m);
   later = later Behind (manager_of old) (manager_of new) (trigger_turn old.plain) ended m;
+  rose = tt;
 }
 
 -- none is due

@@ -7,6 +7,7 @@ use Rattle.mq_calls.specs.declared.state.Connection.{Connection}
 use Rattle.mq_spec_node.specs.Terms.{Plain}
 use Rattle.mq_spec_node.specs.Words.{ChannelEnd, Own, NodeValue}
 use Rattle.mq_spec_node.specs.Node.ChannelEnd.{Sends, Receives}
+use Rattle.mq_events.specs.Disks.{HasRisen}
 use Rattle.mq_events.specs.States.{NodeState, IsKept, value_of}
 
 -- No counter of a manager is above this. Uncommitted puts count as if they stood.
@@ -40,6 +41,7 @@ AreCounted s = s.few ≡ true → HasBound (value_of s)
 pub record IsNode (s : NodeState) : Type 0 where
   pub kept : IsKept s
   pub counted : AreCounted s
+  pub risen : HasRisen s.history.entries s.manager.faults
 
 -- No queue has more than 2^62 rows: one by one, and by any name.
 abbrev pub HasFew : Plain → LocalQueue → Type 0

@@ -6,6 +6,7 @@ use Rattle.mq_history.specs.declared.acts.Acted.TheVariants as acted
 use Rattle.mq_history.specs.declared.calls.Call.TheVariants as calls
 use Rattle.mq_history.specs.declared.calls.Reply.TheVariants as replies
 use Rattle.mq_spec_node.specs.Words.{Deed, Own, own_at_rest, answer_of, Grows, is_spent}
+use Rattle.mq_events.specs.Disks.{RoseBy}
 use Rattle.mq_events.specs.States.{NodeState, value_of, IsServed}
 
 -- A node may make an event more.
@@ -19,6 +20,7 @@ pub record Adds (who : Actor) (what : Call) (e : Entry) (old new : NodeState) : 
   pub call : e.call ≡ what
   pub marks : new.marks ≡ old.marks
   pub faults : old.manager.faults ≤ new.manager.faults
+  pub rose : RoseBy e.reply old.manager.faults new.manager.faults
 
 -- an MQI call
 abbrev pub IsMqi : Call → Type 0

@@ -1,3 +1,4 @@
+pub mod Disks
 pub mod States
 pub mod Counts
 pub mod Events

@@ -20,6 +20,7 @@ use Rattle.mq_calls.specs.Steps.{IsWrite}
 use Rattle.mq_spec_node.specs.Words.{Node, Own, Deed, done, node_of, CanCome, deed_of, answer_of, sc_stopped}
 use Rattle.mq_core.specs.Values.{CoreValue}
 pub use Rattle.mq_steer.specs.Due.{next_due}
+use Rattle.mq_events.specs.Disks.{RoseIn}
 use Rattle.mq_events.specs.declared.outcome.Outcome.{Outcome}
 use Rattle.mq_events.specs.declared.outcome.Obeyed.{Obeyed}
 
@@ -79,10 +80,11 @@ EndsAs None n (Ok (Some o)) p = ⊥
 EndsAs (Some d) n (Ok None) p = ⊥
 EndsAs (Some d) n (Ok (Some o)) p = Came d n o p
 
--- so at a node with any ends of its own, whoever calls; the disk's count of faults doesn't fall
+-- so at a node with any ends of its own, whoever calls; the disk's count of faults doesn't fall, and rose where a disk failed
 pub record Ends (call : Call) (old : CoreValue) (result : Result (Option Outcome) Want) (new : CoreValue) : Type 0 where
   pub ends : (stamp : ℕ) (actor : Actor) (own : Own) → EndsAs (deed_of stamp actor call items.Nothing (node_of old.plain own)) (node_of old.plain own) result new.plain
   pub later : old.faults ≤ new.faults
+  pub rose : RoseIn result old.faults new.faults
 
 abbrev pub EndsSo : Call → CoreValue → Outcome → CoreValue → Type 0
 EndsSo call old o new = Ends call old (Ok (Some o)) new

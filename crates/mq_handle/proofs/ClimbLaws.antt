@@ -32,6 +32,7 @@ use Rattle.mq_events.specs.States.{IsKept, NodeState, node_in}
 use Rattle.mq_events.specs.Counts.{AreCounted, IsNode, KeepsCounts, kept_total}
 use Rattle.mq_events.specs.Events.{Adds}
 use Rattle.mq_events.proofs.CountLaws.{adds_long, climbs_counted, counted_still, next_is}
+use Rattle.mq_events.proofs.RiseLaws.{risen_more, risen_still}
 use Rattle.mq_handle.specs.Turns.{Turns}
 
 small : (part : Part) (p : Plain) → all_growth part.changes ≤ 3 → PartsClimb 3 (part ∷ []) p
@@ -131,6 +132,6 @@ turn_counted number e s t k l b c a =
     three_more a b le = omega (arith, le)
 
 pub turned_node : (number : ℕ) (s : NodeState) (r : Result Bool Want) (t : NodeState) → IsNode s → IsKept t → KeepsCounts s t → Turns number s r t → IsNode t
-turned_node number s (Ok true) t n l c h = record { kept = l; counted = turn_counted number h.entry s t n.kept l n.counted c h.adds }
+turned_node number s (Ok true) t n l c h = record { kept = l; counted = turn_counted number h.entry s t n.kept l n.counted c h.adds; risen = risen_more (actors.Handler number) calls.Turn h.entry s t n.risen h.adds }
 turned_node number s (Ok false) t n l c h = subst IsNode (sym h.same) n
-turned_node number s (Err e) t n l c h = record { kept = l; counted = counted_still s t n.counted c h }
+turned_node number s (Err e) t n l c h = record { kept = l; counted = counted_still s t n.counted c h; risen = risen_still s t n.risen h }

@@ -9,6 +9,7 @@ use Rattle.mq_calls.specs.declared.agents.PlaceFault.TheVariants as place_faults
 use Rattle.mq_calls.specs.declared.commands.Halt.TheVariants as halts
 use Rattle.mq_calls.specs.declared.deltas.Why.TheVariants as whys
 use Rattle.mq_codes.specs.declared.reason.Reason.TheVariants as reasons
+use Rattle.mq_base.specs.Outside.{Rose}
 use Rattle.mq_disk.specs.declared.cutter.Stop.TheVariants as stops
 use Rattle.mq_history.specs.declared.calls.Reply.TheVariants as replies
 use Rattle.mq_queue.specs.declared.row.Row.{Row}
@@ -29,7 +30,8 @@ use Rattle.mq_core.specs.Values.{CoreValue, manager_of}
 use Rattle.mq_agents.specs.Ends.{by_agent, by_place}
 use Rattle.mq_events.specs.declared.outcome.Outcome.{Outcome}
 use Rattle.mq_events.specs.Outcomes.{Came}
-use Rattle.mq_events.proofs.CallLaws.{came_so, nothing_possible, outcome_by, same_plain}
+use Rattle.mq_events.specs.Disks.{RoseBy}
+use Rattle.mq_events.proofs.CallLaws.{came_so, rose_by, silent, nothing_possible, outcome_by, same_plain}
 use Rattle.mq_events.proofs.NumberLaws.{IsShort, StepIsShort, tested_all}
 use Rattle.mq_handle.specs.declared.choosing.Dispatch.{Dispatch}
 use Rattle.mq_handle.specs.declared.choosing.Ruling.TheVariants as rulings
@@ -45,13 +47,23 @@ told_is s mid new o t =
     ap (λ (c : Choice). outcome_by c o.reply o.delta) t.0 ∙ ap (λ (r : Reply). outcome_by (choice_of s mid.plain.log.armed) r o.delta) t.1
     ∙ ap (λ (d : List Did). outcome_by (choice_of s mid.plain.log.armed) (reply_of s) d) t.2
 
+abbrev RoseStop : Option Stop → (before now : ℕ) → Type 0
+RoseStop None before now = Unit {0}
+RoseStop (Some by) before now = by ≡ stops.Disk → Rose before now
+
+stop_rose : (s : Option Stop) (reply : Reply) (before mid now : ℕ) → reply ≡ reply_of s → RoseStop s before mid → now ≡ mid → RoseBy reply before now
+stop_rose None reply before mid now r rose e = silent reply replies.Tried before now r refl
+stop_rose (Some by) reply before mid now r rose e =
+    subst (λ (n : ℕ). RoseBy reply before n) (sym e) (subst (λ (x : Reply). RoseBy x before mid) (sym r) (rose_by by before mid rose))
+
 treated_by : (t : Treatment) (h : Handler) (old mid new : CoreValue) (o : Outcome) (s : Option Stop) (next : Handler) → Tells s mid o new
     → ((own : Own) → Came (with_parts t.parts own) (node_of old.plain own) (outcome_by (choice_of s mid.plain.log.armed) (reply_of s) mid.delta) mid.plain)
-    → next ≡ handler_after (choice_of s mid.plain.log.armed) t h → old.faults ≤ mid.faults → Treated t h old o next new
-treated_by t h old mid new o s next told came is le = record {
+    → next ≡ handler_after (choice_of s mid.plain.log.armed) t h → old.faults ≤ mid.faults → RoseStop s old.faults mid.faults → Treated t h old o next new
+treated_by t h old mid new o s next told came is le rose = record {
   came = λ own. came_so (with_parts t.parts own) (node_of old.plain own) (outcome_by (choice_of s mid.plain.log.armed) (reply_of s) mid.delta) o mid.plain new.plain (told_is s mid new o told) (same_plain mid new told.3) (came own);
   handler = is ∙ ap (λ (c : Choice). handler_after c t h) (sym told.0);
   faults = omega (arith, le, ap (λ (v : CoreValue). v.faults) told.3);
+  rose = stop_rose s o.reply old.faults mid.faults new.faults told.1 rose (ap (λ (v : CoreValue). v.faults) told.3);
 }
 
 -- the one write
@@ -104,7 +116,7 @@ module _ (q : List ℕ) (i : Ident) (n : ℕ) (h : Handler) (old mid : CoreValue
   gone = removal_parts whys.Discarded q (filter (has_ident i) (stored q old.plain).rows)
 
   pub discard_ran : (r : Result (Unit {0}) AgentStop) (o : Outcome) (new : CoreValue) → ends.Done ≡ discarded r → Gone q i old r mid → Tells None mid o new → TreatsAs (treatment q i rulings.Discard n h old.plain) h old (Ok o) h new
-  discard_ran (Ok done) o new e m t = treated_by (treatment q i rulings.Discard n h old.plain) h old mid new o None h t (λ own. ran_came own old mid gone m.1 m.3) refl m.2
+  discard_ran (Ok done) o new e m t = treated_by (treatment q i rulings.Discard n h old.plain) h old mid new o None h t (λ own. ran_came own old mid gone m.1 m.3) refl m.2 tt
   discard_ran (Err agent_stops.Disk) o new e m t = absurd cc
   discard_ran (Err agent_stops.Cut) o new e m t = absurd cc
   discard_ran (Err agent_stops.NoMemory) o new e m t = absurd cc
@@ -115,11 +127,11 @@ module _ (q : List ℕ) (i : Ident) (n : ℕ) (h : Handler) (old mid : CoreValue
   discard_cut (Err agent_stops.Disk) by o new e m t = cut by (subst (λ (s : Stop). StoppedIn s gone (manager_of old) (manager_of mid)) (sym (stop_is by stops.Disk e)) m) o new t
     where
       cut : (by : Stop) → StoppedIn by gone (manager_of old) (manager_of mid) → (o : Outcome) (new : CoreValue) → Tells (Some by) mid o new → TreatsAs (treatment q i rulings.Discard n h old.plain) h old (Ok o) h new
-      cut by s o new t = treated_by (treatment q i rulings.Discard n h old.plain) h old mid new o (Some by) h t (λ own. cut_came own old mid gone by (short_removal q _) s) refl s.later
+      cut by s o new t = treated_by (treatment q i rulings.Discard n h old.plain) h old mid new o (Some by) h t (λ own. cut_came own old mid gone by (short_removal q _) s) refl s.later s.rose
   discard_cut (Err agent_stops.Cut) by o new e m t = cut by (subst (λ (s : Stop). StoppedIn s gone (manager_of old) (manager_of mid)) (sym (stop_is by stops.Cut e)) m) o new t
     where
       cut : (by : Stop) → StoppedIn by gone (manager_of old) (manager_of mid) → (o : Outcome) (new : CoreValue) → Tells (Some by) mid o new → TreatsAs (treatment q i rulings.Discard n h old.plain) h old (Ok o) h new
-      cut by s o new t = treated_by (treatment q i rulings.Discard n h old.plain) h old mid new o (Some by) h t (λ own. cut_came own old mid gone by (short_removal q _) s) refl s.later
+      cut by s o new t = treated_by (treatment q i rulings.Discard n h old.plain) h old mid new o (Some by) h t (λ own. cut_came own old mid gone by (short_removal q _) s) refl s.later s.rose
 
   pub discard_want : (r : Result (Unit {0}) AgentStop) (x : Want) → ends.NoMemory ≡ discarded r → Gone q i old r mid → TreatsAs (treatment q i rulings.Discard n h old.plain) h old (Err x) h mid
   discard_want (Ok done) x e m = absurd cc
@@ -152,7 +164,7 @@ module _ (q : List ℕ) (i : Ident) (s : Dispatch) (n : ℕ) (h : Handler) (old 
 
   pub move_ran : (step : Step Reason (Unit {0})) (r : Result (Unit {0}) PlaceFault) (o : Outcome) (new : CoreValue) → ends.Done ≡ moved r → Met step r → Tells None mid o new → TreatsAs (moving q i s n h old.plain step) h old (Ok o) h new
   move_ran (Refuse reason) (Ok done) o new e m t = absurd m
-  move_ran (Do reply parts) (Ok done) o new e m t = treated_by (moving q i s n h old.plain (Do reply parts)) h old mid new o None h t (λ own. ran_came own old mid parts m.1 m.3) refl m.2
+  move_ran (Do reply parts) (Ok done) o new e m t = treated_by (moving q i s n h old.plain (Do reply parts)) h old mid new o None h t (λ own. ran_came own old mid parts m.1 m.3) refl m.2 tt
   move_ran step (Err (place_faults.Refused reason)) o new e m t = absurd cc
   move_ran step (Err (place_faults.Stop agent_stops.Disk)) o new e m t = absurd cc
   move_ran step (Err (place_faults.Stop agent_stops.Cut)) o new e m t = absurd cc
@@ -171,7 +183,7 @@ module _ (q : List ℕ) (i : Ident) (s : Dispatch) (n : ℕ) (h : Handler) (old 
         pushed = refl;
         received = refl;
       })
-      is (omega (arith, ap (λ (v : ManagerValue). v.faults) m.1))
+      is (omega (arith, ap (λ (v : ManagerValue). v.faults) m.1)) tt
   move_refused (Do reply parts) (Err (place_faults.Refused other)) o next new e m t is = absurd m
   move_refused step (Err (place_faults.Stop agent_stops.Disk)) o next new e m t is = absurd cc
   move_refused step (Err (place_faults.Stop agent_stops.Cut)) o next new e m t is = absurd cc
@@ -180,7 +192,7 @@ module _ (q : List ℕ) (i : Ident) (s : Dispatch) (n : ℕ) (h : Handler) (old 
   cut_so : (step : Step Reason (Unit {0})) (by : Stop) (o : Outcome) (new : CoreValue) → StepIsShort step → MeetsAs Anywhere (manager_of old) step (Err (halts.Stopped by)) (manager_of mid) → Tells (Some by) mid o new
       → TreatsAs (moving q i s n h old.plain step) h old (Ok o) h new
   cut_so (Refuse reason) by o new short m t = absurd m
-  cut_so (Do reply parts) by o new short m t = treated_by (moving q i s n h old.plain (Do reply parts)) h old mid new o (Some by) h t (λ own. cut_came own old mid parts by short m) refl m.later
+  cut_so (Do reply parts) by o new short m t = treated_by (moving q i s n h old.plain (Do reply parts)) h old mid new o (Some by) h t (λ own. cut_came own old mid parts by short m) refl m.later m.rose
 
   pub move_cut : (step : Step Reason (Unit {0})) (r : Result (Unit {0}) PlaceFault) (by : Stop) (o : Outcome) (new : CoreValue) → StepIsShort step → ends.Stopped by ≡ moved r → Met step r → Tells (Some by) mid o new → TreatsAs (moving q i s n h old.plain step) h old (Ok o) h new
   move_cut step (Ok done) by o new short e m t = absurd cc

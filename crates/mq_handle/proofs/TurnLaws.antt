@@ -22,6 +22,7 @@ use Rattle.mq_core.specs.Values.{CoreValue}
 use Rattle.mq_events.specs.declared.outcome.Outcome.{Outcome}
 use Rattle.mq_events.specs.States.{NodeState, IsKept, IsLow, IsServed, entry_of, finished, forgotten_if, node_in, value_of}
 use Rattle.mq_events.specs.Counts.{KeepsCounts, kept_total}
+use Rattle.mq_events.specs.Disks.{RoseBy}
 use Rattle.mq_events.specs.Events.{Adds, Stays}
 use Rattle.mq_events.proofs.ReplayLaws.{replayed_more, with_more}
 use Rattle.mq_events.proofs.EventLaws.{served_is}
@@ -324,9 +325,9 @@ module _ (number : ℕ) (s : NodeState) (d : DueTurn) (due : IsDue d.letter d.at
       let V : Node → Type 0 = λ x. IsReplayed (record (with_more e (value_of s)) { node = x }) in
       subst V after (replayed_more (value_of s) e k tells (served_is s e served))
 
-  pub treated_adds : (o : Outcome) (next : Handler) (m : CoreValue) (room : ℕ) → s.manager.faults ≤ m.faults
+  pub treated_adds : (o : Outcome) (next : Handler) (m : CoreValue) (room : ℕ) → s.manager.faults ≤ m.faults → RoseBy o.reply s.manager.faults m.faults
       → Adds (actors.Handler number) calls.Turn (it (s.stamp + 1) number o) s (finished (actors.Handler number) calls.Turn o (record s { manager = m; own = at_place d.at next s.own; room = room }))
-  treated_adds o next m room le = record { grows = record { given = refl; history = refl }; actor = refl; call = refl; marks = refl; faults = le }
+  treated_adds o next m room le rose = record { grows = record { given = refl; history = refl }; actor = refl; call = refl; marks = refl; faults = le; rose = rose }
 
 -- Step by step: room is taken, the dead letter is treated, the entry is added.
 abbrev Roomed : NodeState → NodeState → Type 0
@@ -379,7 +380,7 @@ module _ (number : ℕ) (s r : NodeState) (d : DueTurn) (e : Roomed s r) (found 
         let same = w ∙ ap (finished (actors.Handler number) calls.Turn o) (at_all u.next u.set) in
         record {
           entry = it (s.stamp + 1) number o;
-          adds = subst (Adds (actors.Handler number) calls.Turn (it (s.stamp + 1) number o) s) (sym same) (treated_adds number s d is_due o u.next a.manager r.room (treated_at o u).faults);
+          adds = subst (Adds (actors.Handler number) calls.Turn (it (s.stamp + 1) number o) s) (sym same) (treated_adds number s d is_due o u.next a.manager r.room (treated_at o u).faults (treated_at o u).rose);
           deed = found.deed;
         }
 

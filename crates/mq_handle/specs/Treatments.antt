@@ -11,6 +11,7 @@ use Rattle.mq_spec_node.specs.Terms.{Choice, Runs, NoMemory, Stopped, Ident, Par
 use Rattle.mq_spec_node.specs.Words.{Deed, Handler, Own, Tried, node_of, parts_of, told, tried_as}
 use Rattle.mq_core.specs.Values.{CoreValue}
 use Rattle.mq_events.specs.declared.outcome.Outcome.{Outcome}
+use Rattle.mq_events.specs.Disks.{RoseBy}
 use Rattle.mq_events.specs.Outcomes.{Came}
 use Rattle.mq_handle.specs.declared.choosing.Dispatch.{Dispatch}
 use Rattle.mq_handle.specs.declared.choosing.Ruling.{Ruling}
@@ -90,6 +91,7 @@ pub record Treated (t : Treatment) (h : Handler) (old : CoreValue) (o : Outcome)
   pub came : (own : Own) → Came (with_parts t.parts own) (node_of old.plain own) o new.plain
   pub handler : next ≡ handler_after o.choice t h
   pub faults : old.faults ≤ new.faults
+  pub rose : RoseBy o.reply old.faults new.faults
 
 pub record Untreated (h : Handler) (old : CoreValue) (next : Handler) (new : CoreValue) : Type 0 where
   pub plain : new.plain ≡ old.plain

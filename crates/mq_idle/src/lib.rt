@@ -4,7 +4,6 @@
 mod cables;
 mod full;
 mod receiving;
-mod rows;
 mod sending;
 
 pub use cables::cable_idle;

@@ -6,8 +6,7 @@ ghost use Rattle.mq_spec_manager.specs.Agents.{batch_row, stock};
 ghost use Rattle.mq_spec_network.specs.Turns.{rests};
 ghost use Rattle.mq_spec_node.specs.Words.{sender_end};
 
-use crate::rows::stock;
-use mq_agents::batch_row;
+use mq_agents::{batch_row, stock};
 use mq_base::ChName;
 use mq_cabled::sender_of;
 use mq_core::Core;

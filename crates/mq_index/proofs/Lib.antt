@@ -1,5 +1,14 @@
 pub mod ListLaws
 pub mod KeyLaws
-pub mod TrailLaws
+pub mod ChainLaws
+pub mod KeyedLaws
 pub mod LaneLaws
+pub mod MarkLaws
 pub mod WalkLaws
+pub mod SlotLaws
+pub mod OrderLaws
+pub mod FoundLaws
+pub mod RowLaws
+pub mod StoreLaws
+pub mod InsertLaws
+pub mod MoveLaws

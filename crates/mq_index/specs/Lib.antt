@@ -1,4 +1,7 @@
 pub mod Keys
 pub mod Lanes
-pub mod Trails
+pub mod Chains
 pub mod Walks
+pub mod Slots
+pub mod Stores
+pub mod Moves

@@ -2,10 +2,19 @@
 ghost use Rattle.std.specs.Prelude.{◌≡◌, ◌<◌, ◌≤◌, ◌+◌, IsSome, OnOk, Some, None, if◌then◌else◌};
 ghost use Rattle.std.specs.HashMap.{spare};
 ghost use Rattle.mq_index.specs.declared.keys.Key as keys;
-ghost use Rattle.mq_index.specs.Keys.{ends_in, same_key};
+ghost use Rattle.mq_index.specs.Keys.{ends_in, same_key, id_by, key_by};
 
 use mq_base::NoMemory;
+use mq_queue::Row;
 use std::collections::HashMap;
+
+/// By what rows are indexed: by lane alone, or by lane and an id.
+#[derive(Clone, Copy)]
+pub enum Kind {
+    Lane,
+    MsgId,
+    CorrelId,
+}
 
 /// A lane, and an id of a message.
 #[derive(Clone, Copy, PartialEq, Eq, Hash)]
@@ -19,6 +28,26 @@ pub struct Key {
 pub struct Ends {
     pub first: usize,
     pub last: usize,
+}
+
+fn id_by(kind: Kind, row: &Row) -> [u8; 24]
+    ensures { result ≡ id_by kind row.now }
+{
+    match kind {
+        Kind::Lane => [0; 24],
+        Kind::MsgId => row.message.md.msg_id,
+        Kind::CorrelId => row.message.md.correl_id,
+    }
+}
+
+/// The key of a row.
+pub fn key_by(kind: Kind, row: &Row) -> Key
+    ensures { result ≡ key_by kind row.now }
+{
+    Key {
+        lane: row.place.lane,
+        id: id_by(kind, row),
+    }
 }
 
 /// The ends that were noted of a key.
@@ -64,8 +93,8 @@ pub fn reserve_ends(ends: &mut HashMap<Key, Ends>, more: usize) -> Result<(), No
     }
 }
 
-/// A key that is followed begins at a later place.
-pub fn move_first(ends: &mut HashMap<Key, Ends>, key: &Key, to: Ends)
+/// A key that is there has other ends.
+pub fn change_ends(ends: &mut HashMap<Key, Ends>, key: &Key, to: Ends)
     requires known { IsSome (ends_in ends.old key.now) }
     ensures noted { (other : keys.Key) → ends_in ends.new other ≡ (if same_key key.now other then Some to else ends_in ends.old other) }
     ensures spare { spare ends.new ≡ spare ends.old }

@@ -133,14 +133,14 @@ holds : (l : Left) → IsScenario l.scenario → AreImages l.histories → AreDo
 holds l scenario openings doubts law joined own p rest story none =
     promised_in_order l.scenario l.histories (record { scenario = scenario; openings = openings; known = doubts; joined = joined; lawful = law; own = own }) (p ++ rest) p rest story refl none
 
-pub rows_are : (l : Left) → IsScenario l.scenario → AreImages l.histories → AreDoubtsKnown l.histories → IsLawful l.scenario l.histories → RowsAreLedgers l
+pub rows_are : (l : Left) → IsScenario l.scenario → AreImages l.histories → AreDoubtsKnown l.histories → IsLawful l.scenario l.histories → IsJoined l.scenario l.histories → AreOwn l.histories → RowsAreLedgers l
 rows_are l s i k law joined own p rest story none = (holds l s i k law joined own p rest story none).rows
 
-pub once : (l : Left) → IsScenario l.scenario → AreImages l.histories → AreDoubtsKnown l.histories → IsLawful l.scenario l.histories → StandOnce l
+pub once : (l : Left) → IsScenario l.scenario → AreImages l.histories → AreDoubtsKnown l.histories → IsLawful l.scenario l.histories → IsJoined l.scenario l.histories → AreOwn l.histories → StandOnce l
 once l s i k law joined own p rest story none = (holds l s i k law joined own p rest story none).once
 
-pub got_once : (l : Left) → IsScenario l.scenario → AreImages l.histories → AreDoubtsKnown l.histories → IsLawful l.scenario l.histories → GotOnce l
+pub got_once : (l : Left) → IsScenario l.scenario → AreImages l.histories → AreDoubtsKnown l.histories → IsLawful l.scenario l.histories → IsJoined l.scenario l.histories → AreOwn l.histories → GotOnce l
 got_once l s i k law joined own p rest story none = (holds l s i k law joined own p rest story none).got_once
 
-pub order : (l : Left) → IsScenario l.scenario → AreImages l.histories → AreDoubtsKnown l.histories → IsLawful l.scenario l.histories → OrderKept l
+pub order : (l : Left) → IsScenario l.scenario → AreImages l.histories → AreDoubtsKnown l.histories → IsLawful l.scenario l.histories → IsJoined l.scenario l.histories → AreOwn l.histories → OrderKept l
 order l s i k law joined own p rest story none = (holds l s i k law joined own p rest story none).order

@@ -1,5 +1,5 @@
 -- What is promised of each prefix of a run's story.
-use Rattle.std.specs.Prelude.{◌≡◌, ℕ, List, ◌++◌}
+use Rattle.std.specs.Prelude.{◌≡◌, ◌⊎◌, ℕ, List, ◌++◌}
 use Rattle.mq_spec_network.specs.Story.{Line, IsStory}
 use Rattle.mq_spec_network.specs.Conflict.{NoConflict}
 use Rattle.mq_spec_network.specs.Ledger.{Ledger, ledger, ledger_rows}
@@ -10,10 +10,21 @@ use Rattle.mq_spec_network.specs.Lawful.{AreOwn}
 use Rattle.mq_spec_network.specs.Promised.{AreDistinct, all_standing}
 use Rattle.mq_law_ran.specs.Runs.{Left}
 
--- Of a network whose logs belong together, and no restart of which read a log that was changed from outside: after each prefix
--- of its story without a conflict.
+-- Over disks that tell their bytes no restart read a log that was changed from outside.
+abbrev pub RestartsAreOwn : Type 0 → Left → Type 0
+RestartsAreOwn tells l = tells → AreOwn l.histories
+
+-- What is asked of the disks: that they tell their bytes; or at least that no restart read a log that was changed from outside.
+abbrev pub HasOwnLogs : Type 0 → Left → Type 0
+HasOwnLogs tells l = tells ⊎ AreOwn l.histories
+
+-- This is promised of a network whose logs belong together, and of whose disks that is so.
+abbrev pub IsPromised : Type 0 → (Left → Type 0) → Left → Type 0
+IsPromised tells P l = IsJoined l.scenario l.histories → HasOwnLogs tells l → P l
+
+-- After each prefix of its story without a conflict.
 abbrev pub InEachPrefix : Left → (List Line → Type 0) → Type 0
-InEachPrefix l P = IsJoined l.scenario l.histories → AreOwn l.histories → (p rest : List Line) → IsStory l.histories (p ++ rest) → NoConflict l.scenario l.histories p → P p
+InEachPrefix l P = (p rest : List Line) → IsStory l.histories (p ++ rest) → NoConflict l.scenario l.histories p → P p
 
 -- the ledger of a prefix
 abbrev pub ledger_after : Left → List Line → Ledger

@@ -7,11 +7,11 @@ ghost use Rattle.mq_history.specs.declared.history.Mark.{Mark};
 ghost use Rattle.mq_history.specs.declared.scenario.Scenario.{Scenario};
 ghost use Rattle.mq_history.specs.declared.scenario.Step.{Step};
 ghost use Rattle.mq_course.specs.Courses.{net_of};
-ghost use Rattle.mq_spec_network.specs.Apart.{apart};
+ghost use Rattle.mq_spec_network.specs.Apart.{IsJoined, apart};
 ghost use Rattle.mq_spec_network.specs.Tasks.{Task};
 ghost use Rattle.mq_history.specs.Scenarios.{IsScenario};
 ghost use Rattle.mq_story.specs.Spots.{AreRising};
-ghost use Rattle.mq_spec_network.specs.Lawful.{AreSteps, IsLawful, Stands, marks_at};
+ghost use Rattle.mq_spec_network.specs.Lawful.{AreOwn, AreSteps, IsLawful, Stands, marks_at};
 ghost use Rattle.mq_spec_network.specs.Promised.{AreDoubtsKnown, AreImages};
 ghost use Rattle.mq_spec_network.specs.Story.{entries_at};
 ghost use Rattle.mq_law_ran.specs.Runs.{AreCarried, AreHistories, BeginsAs, Left};
@@ -38,11 +38,12 @@ pub fn a_run_keeps_its_beginning()
         → length gs ≡ length hs → apart s gs ≡ apart s hs }
 {}
 
-/// After each prefix of the story of a run the rows of each queue are the ledger's, list for list; each ident stands at most once, and
-/// is in at most one committed get; each receiver's commit keeps the order.
+/// After each prefix of the story of a run whose logs belong together, and no restart of which read a log that was changed from outside,
+/// the rows of each queue are the ledger's, list for list; each ident stands at most once, and is in at most one committed get; each
+/// receiver's commit keeps the order.
 pub fn a_run_is_as_promised()
-    ensures rows { (l : Left) → IsScenario l.scenario → AreImages l.histories → AreDoubtsKnown l.histories → IsLawful l.scenario l.histories → RowsAreLedgers l }
-    ensures once { (l : Left) → IsScenario l.scenario → AreImages l.histories → AreDoubtsKnown l.histories → IsLawful l.scenario l.histories → StandOnce l }
-    ensures got_once { (l : Left) → IsScenario l.scenario → AreImages l.histories → AreDoubtsKnown l.histories → IsLawful l.scenario l.histories → GotOnce l }
-    ensures order { (l : Left) → IsScenario l.scenario → AreImages l.histories → AreDoubtsKnown l.histories → IsLawful l.scenario l.histories → OrderKept l }
+    ensures rows { (l : Left) → IsScenario l.scenario → AreImages l.histories → AreDoubtsKnown l.histories → IsLawful l.scenario l.histories → IsJoined l.scenario l.histories → AreOwn l.histories → RowsAreLedgers l }
+    ensures once { (l : Left) → IsScenario l.scenario → AreImages l.histories → AreDoubtsKnown l.histories → IsLawful l.scenario l.histories → IsJoined l.scenario l.histories → AreOwn l.histories → StandOnce l }
+    ensures got_once { (l : Left) → IsScenario l.scenario → AreImages l.histories → AreDoubtsKnown l.histories → IsLawful l.scenario l.histories → IsJoined l.scenario l.histories → AreOwn l.histories → GotOnce l }
+    ensures order { (l : Left) → IsScenario l.scenario → AreImages l.histories → AreDoubtsKnown l.histories → IsLawful l.scenario l.histories → IsJoined l.scenario l.histories → AreOwn l.histories → OrderKept l }
 {}

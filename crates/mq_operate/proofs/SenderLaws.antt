@@ -50,7 +50,7 @@ refused_from reason refusal choice delta s a r c d was is =
       received = refl;
       brings = tt;
       total = le_self (kept_total s.own);
-      made = record { made = tt; can = λ lt. lt; told = refl; plain = was.plain; later = was.later };
+      made = record { made = tt; can = λ lt. lt; told = refl; plain = was.plain; later = was.later; rose = tt };
       state = is ∙ ap (λ (o : Own). record s { manager = a.manager; own = o }) (sym (none_forgotten s.own));
     } in
     let R : Option OpRefusal → Type 0 = λ x. IsWorked (refused reason s.own) x Runs [] s a in

@@ -1,6 +1,6 @@
 -- The entry of a command: the history with it replays, and leads to the node behind it.
 use Rattle.std.proofs.Common.{◌≡◌, ℕ, ◌+◌, ◌^◌, ◌<◌, ◌≤◌, refl, sym, ap, subst, ◌∙◌, List, [], ◌∷◌, Bool, true, false, map, arith}
-use Rattle.std.specs.Prelude.{Option, None, Result, Ok, Err, ◌==◌, if◌then◌else◌}
+use Rattle.std.specs.Prelude.{Option, None, Some, Result, Ok, Err, ◌==◌, if◌then◌else◌}
 use Rattle.mq_base.specs.declared.want.NoMemory.{NoMemory as Want}
 use Rattle.mq_calls.specs.declared.choices.Choice.{Choice}
 use Rattle.mq_calls.specs.declared.choices.Choice.TheVariants.{Runs, NoMemory, Stopped}
@@ -13,8 +13,11 @@ use Rattle.mq_spec_node.specs.Words.{CanCome, Deed, Monitor, Node, Own, Tells, a
 use Rattle.mq_events.specs.Counts.{IsNode, kept_total}
 use Rattle.mq_events.specs.Events.{ActsAs, MayAct, Stays}
 use Rattle.mq_events.specs.States.{IsKept, IsServed, NodeState, entry_of, node_in, told, value_of}
+use Rattle.mq_events.specs.Disks.{RoseBy, RoseWhere}
+use Rattle.mq_events.proofs.CallLaws.{rose_by, silent}
 use Rattle.mq_events.proofs.CountLaws.{climbs_counted, long_more}
 use Rattle.mq_events.proofs.EntryLaws.{entry_kept}
+use Rattle.mq_events.proofs.RiseLaws.{risen_later, risen_with}
 use Rattle.mq_turns.specs.Turns.{IsMade, delta_by, own_by, plain_by}
 use Rattle.mq_turns.proofs.QuietLaws.{BringNone, none_climb}
 use Rattle.mq_turns.proofs.DueLaws.{may_low}
@@ -58,6 +61,13 @@ reply_is : (d : Deed) (refusal : Option OpRefusal) (choice : Choice) (n : Node) 
 reply_is d refusal Runs n m r = sym r
 reply_is d refusal NoMemory n m r = absurd m
 reply_is d refusal (Stopped by part left) n m r = refl
+
+answer_rose : (refusal : Option OpRefusal) (choice : Choice) (before now : ℕ) → RoseWhere choice before now → RoseBy (reply_by choice refusal) before now
+answer_rose None Runs before now rose = silent (replies.Acted (acted_by None)) (replies.Acted (acted_by None)) before now refl refl
+answer_rose (Some reason) Runs before now rose = silent (replies.Acted (acted_by (Some reason))) (replies.Acted (acted_by (Some reason))) before now refl refl
+answer_rose None NoMemory before now rose = silent (replies.Acted (acted_by None)) (replies.Acted (acted_by None)) before now refl refl
+answer_rose (Some reason) NoMemory before now rose = silent (replies.Acted (acted_by (Some reason))) (replies.Acted (acted_by (Some reason))) before now refl refl
+answer_rose refusal (Stopped by part left) before now rose = rose_by by before now rose
 
 delta_is : (d : Deed) (choice : Choice) (n : Node) → delta_by choice d.parts ≡ (done d choice n).delta
 delta_is d Runs n = refl
@@ -152,12 +162,13 @@ module _ (s a t : NodeState) (actor : Actor) (op : Op) (w : Worked) (k : IsWorke
     counted = climbs_counted 0 s behind n.counted refl (long_more s.history.entries it)
         (subst (λ (p : Plain). Climbs 0 s.manager.plain p) (sym k.made.plain) (climbs_by d.parts choice s.manager.plain k.made.made k.brings))
         (climbs_on (kept_total own) (kept_total s.own) (total_by choice w.told.delta d.own s.own k.total));
+    risen = risen_with s.history.entries it s.manager.faults a.manager.faults n.risen k.made.later (answer_rose w.refusal choice s.manager.faults a.manager.faults k.made.rose);
   })
 
   pub told_did : (b : Acted) → b ≡ answer_by choice w.refusal → ActsAs actor (call_of op) s (Ok b) t
   told_did b is =
       let A : NodeState → Type 0 = λ x. ActsAs actor (call_of op) s (Ok b) x in
-      subst A (sym t_is) (it, record { grows = record { given = refl; history = refl }; actor = refl; call = refl; marks = refl; faults = k.made.later }, answer_is op w.refusal choice ∙ ap (λ (x : Acted). replies.Acted x) (sym is))
+      subst A (sym t_is) (it, record { grows = record { given = refl; history = refl }; actor = refl; call = refl; marks = refl; faults = k.made.later; rose = answer_rose w.refusal choice s.manager.faults a.manager.faults k.made.rose }, answer_is op w.refusal choice ∙ ap (λ (x : Acted). replies.Acted x) (sym is))
 
 -- There was no memory.
 pub unworked_stays : (s a : NodeState) → IsUnworked s a → Stays s a
@@ -168,18 +179,18 @@ unworked_stays s a u =
 pub unworked_node : (s a : NodeState) → IsUnworked s a → IsNode s → IsNode a
 unworked_node s a u n =
     let F : Plain → Type 0 = λ p. IsNode (record s { manager = record a.manager { plain = p } }) in
-    let k : F s.manager.plain = record { kept = n.kept; counted = n.counted } in
+    let k : F s.manager.plain = record { kept = n.kept; counted = n.counted; risen = risen_later s.history.entries s.manager.faults a.manager.faults n.risen u.was.later } in
     subst IsNode (sym u.state) (subst F (sym u.was.plain) k)
 
 -- Room was taken before.
 pub roomed_node : (s r : NodeState) → r ≡ record s { room = r.room } → IsNode s → IsNode r
-roomed_node s r e n = let k : IsNode (record s { room = r.room }) = record { kept = n.kept; counted = n.counted } in subst IsNode (sym e) k
+roomed_node s r e n = let k : IsNode (record s { room = r.room }) = record { kept = n.kept; counted = n.counted; risen = n.risen } in subst IsNode (sym e) k
 
 pub roomed_did : (s r t : NodeState) (actor : Actor) (call : Call) (result : Result Acted Want) → r ≡ record s { room = r.room } → ActsAs actor call r result t → ActsAs actor call s result t
 roomed_did s r t actor call (Ok b) e h =
     let A : NodeState → Type 0 = λ x. ActsAs actor call x (Ok b) t in
     let k : ActsAs actor call (record s { room = r.room }) (Ok b) t = subst A e h in
-    (k.0, record { grows = record { given = k.1.grows.given; history = k.1.grows.history }; actor = k.1.actor; call = k.1.call; marks = k.1.marks; faults = k.1.faults }, k.2)
+    (k.0, record { grows = record { given = k.1.grows.given; history = k.1.grows.history }; actor = k.1.actor; call = k.1.call; marks = k.1.marks; faults = k.1.faults; rose = k.1.rose }, k.2)
 roomed_did s r t actor call (Err x) e h =
     let A : NodeState → Type 0 = λ y. Stays y t in
     let k : Stays (record s { room = r.room }) t = subst A e h in

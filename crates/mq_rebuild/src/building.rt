@@ -7,9 +7,9 @@ use crate::objects::defs_of;
 use crate::shelves::queues_of;
 use mq_base::{Items, NoMemory};
 use mq_calls::{Image, ReceiverSide, SenderSide};
+use mq_index::IndexedQueue;
 use mq_objects::Defs;
 use mq_place::Queues;
-use mq_queue::PlainQueue;
 use std::alloc::Global;
 
 /// What a manager is built of from an image.
@@ -18,7 +18,7 @@ pub struct Built {
     /// Its objects, found by name.
     pub defs: Defs,
     /// Its local queues with their rows.
-    pub queues: Queues<PlainQueue>,
+    pub queues: Queues<IndexedQueue>,
     /// What each sender channel has hardened, in order of the channels' names.
     pub senders: Items<SenderSide>,
     /// What each receiver channel has hardened, in order of the channels' names.

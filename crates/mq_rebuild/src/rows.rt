@@ -3,11 +3,12 @@ ghost use Rattle.std.specs.Prelude.{◌≡◌, OnOk};
 ghost use Rattle.mq_rebuild.specs.Rebuilt.{held_as, row_added, rows_added, CanAdd, CanAddAll};
 
 use mq_base::{Items, NoMemory, QName};
+use mq_index::IndexedQueue;
 use mq_message::{Holder, Ident};
 use mq_place::Queues;
-use mq_queue::{PlainQueue, Row};
+use mq_queue::Row;
 
-fn hold_as(queues: &mut Queues<PlainQueue>, name: &QName, ident: &Ident, by: &Option<Holder>)
+fn hold_as(queues: &mut Queues<IndexedQueue>, name: &QName, ident: &Ident, by: &Option<Holder>)
     ensures { queues.new.states ≡ held_as name.now ident.now by.now queues.old.states }
 {
     match by {
@@ -17,7 +18,7 @@ fn hold_as(queues: &mut Queues<PlainQueue>, name: &QName, ident: &Ident, by: &Op
 }
 
 /// A row takes the last place of its lane, and is held by who held it.
-fn add_row(queues: &mut Queues<PlainQueue>, name: &QName, row: Row) -> Result<(), NoMemory>
+fn add_row(queues: &mut Queues<IndexedQueue>, name: &QName, row: Row) -> Result<(), NoMemory>
     requires can { CanAdd name.now row queues.old.states }
     ensures { OnOk result (queues.new.states ≡ row_added name.now row queues.old.states) }
 {
@@ -37,7 +38,7 @@ fn add_row(queues: &mut Queues<PlainQueue>, name: &QName, row: Row) -> Result<()
 
 /// Rows one after another.
 pub fn add_rows(
-    queues: &mut Queues<PlainQueue>,
+    queues: &mut Queues<IndexedQueue>,
     name: &QName,
     rows: Items<Row>,
 ) -> Result<(), NoMemory>

@@ -7,9 +7,9 @@ ghost use Rattle.mq_rebuild.specs.Rebuilt.{is_laned, state_on, shelf_added, shel
 use crate::rows::add_rows;
 use mq_base::{Items, NoMemory, QName};
 use mq_calls::Shelf;
+use mq_index::IndexedQueue;
 use mq_objects::{Defs, Delivery};
 use mq_place::Queues;
-use mq_queue::PlainQueue;
 use std::alloc::Global;
 
 fn is_by_priority(delivery: Delivery) -> bool
@@ -32,7 +32,7 @@ fn is_laned(defs: &Defs, name: &QName) -> bool
 }
 
 /// A queue with the rows of a shelf stands last.
-fn add_shelf(queues: &mut Queues<PlainQueue>, defs: &Defs, shelf: Shelf) -> Result<(), NoMemory>
+fn add_shelf(queues: &mut Queues<IndexedQueue>, defs: &Defs, shelf: Shelf) -> Result<(), NoMemory>
     requires absent { state_in shelf.name queues.old.states ≡ None }
     requires can { CanAddShelf defs.now.definitions shelf queues.old.states }
     ensures { OnOk result (queues.new.states ≡ shelf_added defs.now.definitions shelf queues.old.states) }
@@ -47,7 +47,7 @@ fn add_shelf(queues: &mut Queues<PlainQueue>, defs: &Defs, shelf: Shelf) -> Resu
 
 /// Queues with the rows of shelves, one after another.
 fn add_shelves(
-    queues: &mut Queues<PlainQueue>,
+    queues: &mut Queues<IndexedQueue>,
     defs: &Defs,
     shelves: Items<Shelf>,
 ) -> Result<(), NoMemory>
@@ -77,7 +77,7 @@ pub fn queues_of(
     alloc: Global,
     defs: &Defs,
     shelves: Items<Shelf>,
-) -> Result<Queues<PlainQueue>, NoMemory>
+) -> Result<Queues<IndexedQueue>, NoMemory>
     requires image { IsRead defs.now.definitions shelves }
     ensures { IfOk result (λ queues. queues.states ≡ map (state_on defs.now.definitions) shelves) }
 {

@@ -10,20 +10,20 @@ use mq_base::{Items, QName};
 use mq_calls::{Did, Why};
 use mq_core::{Arrival, Parts};
 use mq_disk::Disk;
+use mq_index::IndexedQueue;
 use mq_message::Ident;
 use mq_place::Queues;
-use mq_queue::PlainQueue;
 use mq_unit::Effects;
 
 /// A message waits for its place no longer.
-fn unexpect(queues: &mut Queues<PlainQueue>, arrival: &Arrival)
+fn unexpect(queues: &mut Queues<IndexedQueue>, arrival: &Arrival)
     ensures { queues.new ≡ unexpected_in (arrival.now ∷ []) queues.old }
 {
     queues.unpend(&arrival.queue);
 }
 
 /// The messages of a batch wait for their places no longer. It takes no memory.
-pub(crate) fn unexpect_all(queues: &mut Queues<PlainQueue>, landed: &[Arrival])
+pub(crate) fn unexpect_all(queues: &mut Queues<IndexedQueue>, landed: &[Arrival])
     ensures { queues.new ≡ unexpected_in landed.now queues.old }
 {
     for arrival in landed {

@@ -7,8 +7,8 @@ use crate::placing::unexpect_all;
 use mq_base::NoMemory;
 use mq_core::{Arrival, Parts};
 use mq_disk::Disk;
+use mq_index::IndexedQueue;
 use mq_place::Queues;
-use mq_queue::PlainQueue;
 use mq_unit::Effects;
 
 /// The messages of a batch wait for their places from now on, with the memory that they take.
@@ -16,7 +16,7 @@ use mq_unit::Effects;
 /// # Errors
 ///
 /// No memory; none waits.
-fn expect_all(queues: &mut Queues<PlainQueue>, landed: &[Arrival]) -> Result<(), NoMemory>
+fn expect_all(queues: &mut Queues<IndexedQueue>, landed: &[Arrival]) -> Result<(), NoMemory>
     ensures ok { OnOk result (queues.new ≡ record queues.old { states = expected_all landed.now queues.old.states }) }
     ensures err { OnErr result (queues.new ≡ queues.old) }
 {

@@ -1,6 +1,6 @@
 -- A run over managers at rest, from what its steps tell.
 use Rattle.std.proofs.Common.{ℕ, ◌≡◌, ◌≤◌, ◌<◌, true, List, [], refl, ap, sym, subst, ◌∙◌, length, arith}
-use Rattle.std.specs.Prelude.{OnOk, Option, Some, None, Result, Ok, Err, option_map}
+use Rattle.std.specs.Prelude.{IfSome, OnOk, Option, Some, None, Result, Ok, Err, option_map}
 use Rattle.std.specs.Io.KnownBytes.{Keeps}
 use Rattle.mq_history.specs.declared.history.History.{History}
 use Rattle.mq_history.specs.declared.history.Mark.{Mark}
@@ -24,6 +24,7 @@ use Rattle.mq_net_ledger.specs.Opened.{AreOpened, IsOpened}
 use Rattle.mq_run.specs.declared.status.Status.{Status}
 use Rattle.mq_run.specs.declared.status.Status.TheVariants as status
 use Rattle.mq_run.specs.Statuses.{net_status, stop_status}
+use Rattle.mq_run.proofs.OwnLaws.{begun_own}
 use Rattle.mq_run.proofs.JoinLaws as joins
 use Rattle.mq_run.proofs.JoinLaws.{alike}
 use Rattle.mq_nodes.specs.Course.{Course}
@@ -34,6 +35,7 @@ use Rattle.mq_world.specs.Words.{Began, IsRested, RestState}
 use Rattle.mq_begin.specs.Begun.{Held, NotBegan, moment_or}
 use Rattle.mq_begin.specs.declared.faults.NetFault.{NetFault}
 use Rattle.mq_begin.specs.declared.faults.NetFault.TheVariants as faults
+use Rattle.mq_law_ran.specs.Promises.{RestartsAreOwn}
 use Rattle.mq_law_ran.specs.Runs.{AreCarried, AreHistories, AreOpenings, Left, standing_left}
 use Rattle.mq_law_ran.proofs.Keeping.{begins_as, same_apart, same_begun, same_scenario}
 use Rattle.mq_law_ran.proofs.Lawfuls as lawfuls
@@ -180,13 +182,14 @@ pub ends_at : (old new : Option (List ℕ)) (st : Status) (s : Scenario) (w : Re
 ends_at old new st s w same ends = subst (λ (x : Scenario). LeftEnds old new st (left x w.histories)) (sym same) ends
 
 -- what is left where the run was begun with these openings
-pub leaves : (tells : Type 0) (held : List ℕ → List ℕ → Type 0) (start : ℕ) (s : Scenario) (gs : List History) (counts : List ℕ) (l : Left) → AreOpenings tells held start (left s gs) → RanOn s gs l → counts ≡ [] → RunLeaves tells held start s counts l
-leaves tells held start s gs counts l o r none = record {
+pub leaves : (tells : Type 0) (held : List ℕ → List ℕ → Type 0) (start : ℕ) (s : Scenario) (gs : List History) (counts : List ℕ) (l : Left) → AreOpenings tells held start (left s gs) → RanOn s gs l → counts ≡ [] → RestartsAreOwn tells l → RunLeaves tells held start s counts l
+leaves tells held start s gs counts l o r none own = record {
   scenario = r.scenario;
   openings = alike tells held start l.scenario gs l.histories r.begins r.known (subst (λ (x : Scenario). AreOpenings tells held start (left x gs)) (sym r.scenario) o);
   histories = r.histories;
   lawful = r.lawful;
   none = none;
+  own = own;
 }
 
 begun_openings : (tells : Type 0) (held : Held) (s : Scenario) (start : ℕ) (w : RestState) → IsRested w → Began tells held s (moment_or s.moment start) w → AreOpenings tells held start (left s w.histories)
@@ -208,26 +211,26 @@ pub whole_did : (old new : Option (List ℕ)) (s : Scenario) (gs : List History)
 whole_did old new s gs st l r ends = (r, ends)
 
 -- of a run over managers that have begun
-begun_leaves : (tells : Type 0) (held : Held) (start : ℕ) (s : Scenario) (w : RestState) (counts : List ℕ) (l : Left) → IsRested w → Began tells held s (moment_or s.moment start) w → counts ≡ [] → RanOn s w.histories l → RunLeaves tells held start s counts l
-begun_leaves tells held start s w counts l r b none ran = leaves tells held start s w.histories counts l (begun_openings tells held s start w r b) ran none
+begun_leaves : (tells : Type 0) (held : Held) (start : ℕ) (s : Scenario) (w : RestState) (counts : List ℕ) (l : Left) → IsRested w → Began tells held s (moment_or s.moment start) w → counts ≡ [] → RanOn s w.histories l → RestartsAreOwn tells l → RunLeaves tells held start s counts l
+begun_leaves tells held start s w counts l r b none ran own = leaves tells held start s w.histories counts l (begun_openings tells held s start w r b) ran none own
 
 ran_none : (tells : Type 0) (held : Held) (moment : ℕ) (s : Scenario) (w : RestState) → IsRested w → Began tells held s moment w → RanOn s w.histories (left_of w)
 ran_none tells held moment s w r b = subst (λ (x : Scenario). RanOn x w.histories (left_of w)) b.scenario (joins.ran_none w r (joins.fresh tells held s moment w r b))
 
 pub run_whole : (tells : Type 0) (held : Held) (start : ℕ) (s : Scenario) (w : RestState) (before now : ℕ) (old new : Option (List ℕ)) (st : Status) (counts : List ℕ) (o : Option Left)
-    → IsRested w → Began tells held s (moment_or s.moment start) w → counts ≡ [] → WholeEnds old new s w.histories st o → RunEnds tells held start s before now old new st o counts
-run_whole tells held start s w before now old new st counts None r b none ends = absurd ends
-run_whole tells held start s w before now old new st counts (Some l) r b none ends = (begun_leaves tells held start s w counts l r b none ends.0, ends.1)
+    → IsRested w → Began tells held s (moment_or s.moment start) w → counts ≡ [] → WholeEnds old new s w.histories st o → IfSome o (RestartsAreOwn tells) → RunEnds tells held start s before now old new st o counts
+run_whole tells held start s w before now old new st counts None r b none ends own = absurd ends
+run_whole tells held start s w before now old new st counts (Some l) r b none ends own = (begun_leaves tells held start s w counts l r b none ends.0 own, ends.1)
 
 pub run_wants : (tells : Type 0) (held : Held) (start : ℕ) (s : Scenario) (w : RestState) (before now : ℕ) (old new : Option (List ℕ)) (counts : List ℕ)
     → IsRested w → Began tells held s (moment_or s.moment start) w → counts ≡ [] → Keeps old new → RunEnds tells held start s before now old new status.NoMemory (Some (left_of w)) counts
-run_wants tells held start s w before now old new counts r b none kept = (begun_leaves tells held start s w counts (left_of w) r b none (ran_none tells held (moment_or s.moment start) s w r b), kept)
+run_wants tells held start s w before now old new counts r b none kept = (begun_leaves tells held start s w counts (left_of w) r b none (ran_none tells held (moment_or s.moment start) s w r b) (begun_own tells w (joins.fresh tells held s (moment_or s.moment start) w r b)), kept)
 
 pub run_apart : (tells : Type 0) (held : Held) (start : ℕ) (s : Scenario) (w : RestState) (before now : ℕ) (old new : Option (List ℕ)) (counts : List ℕ) (found : Apart)
     → IsRested w → Began tells held s (moment_or s.moment start) w → counts ≡ [] → apart s w.histories ≡ Some found → Keeps old new → RunEnds tells held start s before now old new (status.Apart found) (Some (left_of w)) counts
 run_apart tells held start s w before now old new counts found r b none is kept =
     let ran = ran_none tells held (moment_or s.moment start) s w r b in
-    (begun_leaves tells held start s w counts (left_of w) r b none ran, (ran.apart ∙ is, joins.nothing_done w (joins.fresh tells held s (moment_or s.moment start) w r b), kept))
+    (begun_leaves tells held start s w counts (left_of w) r b none ran (begun_own tells w (joins.fresh tells held s (moment_or s.moment start) w r b)), (ran.apart ∙ is, joins.nothing_done w (joins.fresh tells held s (moment_or s.moment start) w r b), kept))
 
 none_left : (tells : Type 0) (held : Held) (start : ℕ) (s : Scenario) (before now : ℕ) (counts : List ℕ) (fault : NetFault) → NotBegan tells held (moment_or s.moment start) s.managers before now counts fault → NoneLeft tells held start s before now counts fault
 none_left tells held start s before now counts fault h = subst (λ (n : ℕ). NotBegan tells held n s.managers before now counts fault) (joins.first_is s.moment start) h

@@ -18,6 +18,7 @@ use Rattle.mq_nodes.specs.declared.nodes.Stop.{Stop}
 use Rattle.mq_nodes.specs.declared.nodes.Stop.TheVariants as stops
 use Rattle.mq_run.specs.declared.status.Status.{Status}
 use Rattle.mq_run.specs.declared.status.Status.TheVariants as status
+use Rattle.mq_law_ran.specs.Promises.{RestartsAreOwn}
 use Rattle.mq_law_ran.specs.Runs.{Left, AreHistories, AreOpenings, BeginsAs, standing_left}
 use Rattle.mq_run.specs.Leaves.{AreKnownImages}
 
@@ -85,13 +86,15 @@ WholeEnds old new s gs st None = ⊥
 WholeEnds old new s gs st (Some l) = RanOn s gs l × LeftEnds old new st l
 
 -- What is so whatever the status: each history opened with what its disk told, replays, and all make a lawful story of the
--- scenario; no disk is handed back, for the network has them.
+-- scenario; over disks that tell their bytes no restart read a log that was changed from outside; no disk is handed back, for the
+-- network has them.
 pub record RunLeaves (tells : Type 0) (held : List ℕ → List ℕ → Type 0) (start : ℕ) (s : Scenario) (counts : List ℕ) (l : Left) : Type 0 where
   pub scenario : l.scenario ≡ s
   pub openings : AreOpenings tells held start l
   pub histories : AreHistories l.scenario l.histories
   pub lawful : IsLawful l.scenario l.histories
   pub none : counts ≡ []
+  pub own : RestartsAreOwn tells l
 
 -- By status, where not all did: `counts` are those of the disks that are handed back.
 abbrev pub NoneLeft : (tells : Type 0) (held : List ℕ → List ℕ → Type 0) (start : ℕ) (s : Scenario) (before now : ℕ) (counts : List ℕ) → NetFault → Type 0

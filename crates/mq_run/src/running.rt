@@ -1,5 +1,5 @@
 //! A scenario's run over a shelf: its managers begin, its steps are done, its report is written.
-ghost use Rattle.std.specs.Prelude.{◌≡◌, ℕ, [], Some, None, option_map, map};
+ghost use Rattle.std.specs.Prelude.{◌≡◌, ℕ, [], Some, None, IfSome, option_map, map};
 ghost use Rattle.mq_run.specs.Words as words;
 ghost use Rattle.mq_run.specs.declared.status.Status.TheVariants.{WriteFault};
 ghost use Rattle.mq_disk.specs.declared.shelf.Side.TheVariants as sides;
@@ -74,6 +74,7 @@ fn do_steps<D: Disk>(alloc: Global, scenario: &Scenario, rested: Rested<D>) -> D
     ensures on { words.RanOn scenario.now rested.histories (words.left_of result.rested) }
     ensures stands { words.IsRested result.rested }
     ensures ends { words.StepsEnd result.ran (words.left_of result.rested) }
+    ensures own { D.tells → words.AreOwn result.rested.histories }
 {
     let mut network = match Network::start(alloc, scenario, rested) {
         Ok(network) => network,
@@ -114,7 +115,7 @@ fn report<K: Sink, D: Disk>(
 }
 
 /// Does the steps of a scenario whose managers' logs belong together, and writes its report.
-#[tactic(auto, using(crate::proofs::RunLaws::opened_on, crate::proofs::RunLaws::did_all, crate::proofs::RunLaws::whole_did, crate::proofs::RunLaws::stays))]
+#[tactic(auto, using(crate::proofs::RunLaws::opened_on, crate::proofs::RunLaws::did_all, crate::proofs::RunLaws::whole_did, crate::proofs::RunLaws::stays, crate::proofs::OwnLaws::ended_own))]
 fn run_whole<K: Sink, D: Disk>(
     alloc: Global,
     scenario: &Scenario,
@@ -129,6 +130,7 @@ fn run_whole<K: Sink, D: Disk>(
     requires texts { words.AllFit words.IsTextCommand scenario.now }
     requires together { words.apart scenario.now rested.histories ≡ None }
     ensures ends { words.WholeEnds (K.held sink.old) (K.held sink.new) scenario.now rested.histories result.status (option_map words.left_of result.network) }
+    ensures own { IfSome (option_map words.left_of result.network) (words.RestartsAreOwn D.tells) }
     ensures none { result.disks.items ≡ [] }
     ensures write_fault { (n : ℕ) → result.status ≡ WriteFault n → words.Rose (K.faults sink.old) (K.faults sink.new) }
 {

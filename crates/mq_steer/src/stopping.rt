@@ -12,20 +12,20 @@ use mq_base::QName;
 use mq_calls::Batch;
 use mq_core::{Core, Mode, Parts};
 use mq_disk::Disk;
+use mq_index::IndexedQueue;
 use mq_objects::Object;
 use mq_place::Queues;
-use mq_queue::PlainQueue;
 use mq_sides::KeptBatch;
 
 /// The rows of a batch are free again.
-fn release_one(queues: &mut Queues<PlainQueue>, batch: &Batch)
+fn release_one(queues: &mut Queues<IndexedQueue>, batch: &Batch)
     ensures { queues.new ≡ record queues.old { states = batches_released (batch.now ∷ []) queues.old.states } }
 {
     queues.release_each(&batch.queue, batch.idents.as_slice());
 }
 
 /// The rows of batches are free again.
-fn release_batches(queues: &mut Queues<PlainQueue>, batches: &[KeptBatch])
+fn release_batches(queues: &mut Queues<IndexedQueue>, batches: &[KeptBatch])
     ensures { queues.new ≡ record queues.old { states = batches_released batches.now queues.old.states } }
 {
     for batch in batches {
@@ -33,7 +33,7 @@ fn release_batches(queues: &mut Queues<PlainQueue>, batches: &[KeptBatch])
     }
 }
 
-fn pending(queues: &Queues<PlainQueue>, name: &QName) -> u64
+fn pending(queues: &Queues<IndexedQueue>, name: &QName) -> u64
     ensures { result ≡ pending_at (state_in name.now queues.now.states) }
 {
     match queues.local(name) {
@@ -44,7 +44,7 @@ fn pending(queues: &Queues<PlainQueue>, name: &QName) -> u64
 
 /// No put waits any more for a queue.
 #[tactic(auto, using(crate::proofs::RestLaws::none_left, crate::proofs::RestLaws::none_less, crate::proofs::RestLaws::one_less))]
-fn unawait(queues: &mut Queues<PlainQueue>, name: &QName)
+fn unawait(queues: &mut Queues<IndexedQueue>, name: &QName)
     ensures { queues.new ≡ record queues.old { states = change_state name.now unawaited queues.old.states } }
 {
     for waiting in 0..pending(queues, name) {
@@ -52,7 +52,7 @@ fn unawait(queues: &mut Queues<PlainQueue>, name: &QName)
     }
 }
 
-fn unawait_slot(queues: &mut Queues<PlainQueue>, slot: &Option<Object>)
+fn unawait_slot(queues: &mut Queues<IndexedQueue>, slot: &Option<Object>)
     ensures { queues.new ≡ record queues.old { states = objects_unawaited (present (slot.now ∷ [])) queues.old.states } }
 {
     if let Some(Object::Local(queue)) = slot {
@@ -60,7 +60,7 @@ fn unawait_slot(queues: &mut Queues<PlainQueue>, slot: &Option<Object>)
     }
 }
 
-fn unawait_slots(queues: &mut Queues<PlainQueue>, slots: &[Option<Object>])
+fn unawait_slots(queues: &mut Queues<IndexedQueue>, slots: &[Option<Object>])
     ensures { queues.new ≡ record queues.old { states = objects_unawaited (present slots.now) queues.old.states } }
 {
     for slot in slots {
@@ -69,7 +69,7 @@ fn unawait_slots(queues: &mut Queues<PlainQueue>, slots: &[Option<Object>])
 }
 
 /// Rows that units and batches hold are free again, nonpersistent rows go, no trigger is due.
-fn rest_queues(queues: &mut Queues<PlainQueue>, batches: &[KeptBatch])
+fn rest_queues(queues: &mut Queues<IndexedQueue>, batches: &[KeptBatch])
     ensures { queues.new ≡ record queues.old { states = rested batches.now queues.old.states } }
 {
     queues.free_units();

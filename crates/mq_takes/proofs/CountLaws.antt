@@ -35,6 +35,7 @@ use Rattle.mq_events.specs.States.{IsKept, NodeState, node_in}
 use Rattle.mq_events.specs.Counts.{IsNode, kept_in, kept_total}
 use Rattle.mq_events.specs.Events.{Adds}
 use Rattle.mq_events.proofs.CountLaws.{adds_long, climbs_counted, next_is}
+use Rattle.mq_events.proofs.RiseLaws.{risen_more}
 use Rattle.mq_turns.specs.declared.telling.Turn.TheVariants as turns
 use Rattle.mq_turns.specs.declared.telling.Turn.{Turn}
 use Rattle.mq_turns.proofs.CountLaws.{stays_counted}
@@ -249,7 +250,7 @@ receiver_counted cable e s t n k few a =
     let next : (done_by e n0).next ≡ node_in t = sym (next_is (actors.Receiver cable) calls.Turn e s t n.kept k a) in
     let M : Node → Type 0 = λ x. Climbs g.k s.manager.plain x.manager in
     let K : Node → Type 0 = λ x. kept_total x.own + g.k ≤ kept_total s.own + 1024 in
-    record { kept = k; counted = climbs_counted g.k s t n.counted few (adds_long (actors.Receiver cable) calls.Turn e s t a) (subst M next g.climbs) (subst K next g.own) }
+    record { kept = k; counted = climbs_counted g.k s t n.counted few (adds_long (actors.Receiver cable) calls.Turn e s t a) (subst M next g.climbs) (subst K next g.own); risen = risen_more (actors.Receiver cable) calls.Turn e s t n.risen a }
 
 pub taken_node : (s t : NodeState) (cable : ℕ) (reads writes : List Item → Type 0) (empty full : Type 0) (o n : Offering) (result : Result Turn Want) → IsNode s → TakesOne cable reads writes empty full o n s result t → IsNode t
 taken_node s t cable reads writes empty full o n (Ok turns.Changed) node h = receiver_counted cable h.turn.entry s t node h.kept h.few h.turn.adds

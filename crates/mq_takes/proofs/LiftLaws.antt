@@ -103,7 +103,7 @@ module _ (cable : ℕ) (reads writes : List Item → Type 0) (empty full : Type 
 
   -- Room was taken before.
   room_adds : (s : NodeState) (room : ℕ) (t : NodeState) (e : Entry) → Adds (actors.Receiver cable) calls.Turn e (record s { room = room }) t → Adds (actors.Receiver cable) calls.Turn e s t
-  room_adds s room t e a = record { grows = record { given = a.grows.given; history = a.grows.history }; actor = a.actor; call = a.call; marks = a.marks; faults = a.faults }
+  room_adds s room t e a = record { grows = record { given = a.grows.given; history = a.grows.history }; actor = a.actor; call = a.call; marks = a.marks; faults = a.faults; rose = a.rose }
 
   room_stays : (s : NodeState) (room : ℕ) (t : NodeState) → Stays (record s { room = room }) t → Stays s t
   room_stays s room t h = record { same = h.same; marks = h.marks; faults = h.faults }

@@ -25,6 +25,8 @@ use Rattle.mq_core.specs.Values.{CoreValue, manager_of}
 use Rattle.mq_events.proofs.NumberLaws.{StepIsShort}
 use Rattle.mq_events.specs.States.{NodeState, node_in}
 use Rattle.mq_events.specs.declared.outcome.Told.{Told}
+use Rattle.mq_events.proofs.CallLaws.{where_wider}
+use Rattle.mq_turns.proofs.PartLaws.{le_self}
 use Rattle.mq_turns.specs.Turns.{IsAsWas, Made}
 use Rattle.mq_turns.proofs.AgentLaws.{agent_ran, agent_stopped}
 use Rattle.mq_manager.specs.Facts.{IsWell}
@@ -66,7 +68,7 @@ receive_short channel unit last batch p = landed_short channel unit last (landed
 pub closed_from : (e : ReceiverEnd) (choice : Choice) (delta : List Did) (old mid new : CoreValue) → IsAsWas old mid → Made (close_parts e mid.plain) choice delta mid new → Made (close_parts e old.plain) choice delta old new
 closed_from e choice delta old mid new w m =
     let M : Plain → Type 0 = λ p. Made (close_parts e p) choice delta (record old { plain = p }) new in
-    subst M w.plain (record { made = m.made; can = m.can; told = m.told; plain = m.plain; later = omega (arith, w.later, m.later) })
+    subst M w.plain (record { made = m.made; can = m.can; told = m.told; plain = m.plain; later = omega (arith, w.later, m.later); rose = where_wider choice old.faults mid.faults new.faults new.faults w.later m.rose (le_self new.faults) })
 
 pub was_twice : (old mid new : CoreValue) → IsAsWas old mid → IsAsWas mid new → IsAsWas old new
 was_twice old mid new a b = record { plain = b.plain ∙ a.plain; later = omega (arith, a.later, b.later) }

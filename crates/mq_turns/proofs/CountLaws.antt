@@ -16,6 +16,7 @@ use Rattle.mq_events.specs.States.{IsKept, NodeState, node_in}
 use Rattle.mq_events.specs.Counts.{HasBound, IsNode, kept_total}
 use Rattle.mq_events.specs.Events.{Adds, Stays}
 use Rattle.mq_events.proofs.CountLaws.{adds_long, climbs_counted, next_is}
+use Rattle.mq_events.proofs.RiseLaws.{risen_more, risen_still}
 use Rattle.mq_turns.specs.declared.telling.Turn.{Turn}
 use Rattle.mq_turns.specs.declared.telling.Turn.TheVariants as turns
 use Rattle.mq_turns.specs.Turns.{IsSenders, TimeoutIs, TimesOut}
@@ -69,10 +70,10 @@ sender_counted cable what e s t is n k few a =
     let Q : Node → Type 0 = λ x. Climbs 0 s.manager.plain x.manager × (kept_total x.own ≤ kept_total s.own) in
     let done : IsQuietDone (done_by e n0) n0 = subst A (sym a.actor) (subst C (sym a.call) (event_quiet e.stamp cable what e.chance e.effect.popped n0 is)) in
     let q : Q (node_in t) = subst Q (sym (next_is (actors.Sender cable) what e s t n.kept k a)) done in
-    record { kept = k; counted = climbs_counted 0 s t n.counted few (adds_long (actors.Sender cable) what e s t a) q.0 (no_more (kept_total t.own) (kept_total s.own) q.1) }
+    record { kept = k; counted = climbs_counted 0 s t n.counted few (adds_long (actors.Sender cable) what e s t a) q.0 (no_more (kept_total t.own) (kept_total s.own) q.1); risen = risen_more (actors.Sender cable) what e s t n.risen a }
 
 pub stays_counted : (s t : NodeState) → IsNode s → IsKept t → t.few ≡ s.few → Stays s t → IsNode t
-stays_counted s t n k few st = record { kept = k; counted = λ f. subst HasBound (sym st.same) (n.counted (sym few ∙ f)) }
+stays_counted s t n k few st = record { kept = k; counted = λ f. subst HasBound (sym st.same) (n.counted (sym few ∙ f)); risen = risen_still s t n.risen st }
 
 timed_by : (s t : NodeState) (cable : ℕ) (d : Option Deed) (result : Result Turn Want) → IsNode s → IsKept t → t.few ≡ s.few → TimeoutIs cable d s result t → IsNode t
 timed_by s t cable (Some d) (Ok turns.Changed) n k f h = sender_counted cable calls.Timeout h.0 s t tt n k f h.1

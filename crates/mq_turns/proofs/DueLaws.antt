@@ -134,4 +134,4 @@ room_timed s r t cable e h =
   where
     at : (d : Option Deed) → TimeoutIs cable d (record s { room = r.room }) (Ok turns.Changed) t → TimeoutIs cable d s (Ok turns.Changed) t
     at None h = absurd h
-    at (Some d) h = (h.0, record { grows = record { given = h.1.grows.given; history = h.1.grows.history }; actor = h.1.actor; call = h.1.call; marks = h.1.marks; faults = h.1.faults })
+    at (Some d) h = (h.0, record { grows = record { given = h.1.grows.given; history = h.1.grows.history }; actor = h.1.actor; call = h.1.call; marks = h.1.marks; faults = h.1.faults; rose = h.1.rose })

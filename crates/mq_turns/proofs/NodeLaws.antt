@@ -47,7 +47,7 @@ module _ (reads writes : List Item → Type 0) (none full : Type 0) (o n : Offer
   in_room : (who : Actor) (s t : NodeState) (room : ℕ) (d : Option Deed) (result : Result Turn Want) → TurnIs who reads writes none full o n d (record s { room = room }) result t → TurnIs who reads writes none full o n d s result t
   in_room who s t room d (Ok turns.Changed) h = record {
     entry = h.entry;
-    adds = record { grows = h.adds.grows; actor = h.adds.actor; call = h.adds.call; marks = h.adds.marks; faults = h.adds.faults };
+    adds = record { grows = h.adds.grows; actor = h.adds.actor; call = h.adds.call; marks = h.adds.marks; faults = h.adds.faults; rose = h.adds.rose };
     popped = h.popped;
     offered = h.offered;
   }

@@ -1,5 +1,5 @@
 -- Parts one behind the other: what each call of the manager comes to, and what they come to together.
-use Rattle.std.proofs.Common.{◌≡◌, ℕ, zero, suc, ◌+◌, ◌<◌, refl, sym, ap, subst, ◌∙◌, List, [], ◌∷◌, ◌++◌, Bool, true, false, arith}
+use Rattle.std.proofs.Common.{◌≡◌, ℕ, zero, suc, ◌+◌, ◌<◌, ◌≤◌, refl, sym, ap, subst, ◌∙◌, List, [], ◌∷◌, ◌++◌, Bool, true, false, arith}
 use Rattle.std.specs.Prelude.{None, Ok, Err}
 use Rattle.mq_calls.specs.declared.choices.Choice.{Choice}
 use Rattle.mq_calls.specs.declared.choices.Choice.TheVariants.{Runs, NoMemory, Stopped}
@@ -13,7 +13,7 @@ use Rattle.mq_spec_manager.specs.Agents.{leave}
 use Rattle.mq_spec_node.specs.Words.{parts_of}
 use Rattle.mq_core.specs.Values.{CoreValue, manager_of}
 use Rattle.mq_events.proofs.NumberLaws.{IsShort, StepIsShort}
-use Rattle.mq_events.proofs.CallLaws.{later}
+use Rattle.mq_events.proofs.CallLaws.{later, where_wider}
 use Rattle.mq_events.proofs.TurnLaws.{ran}
 use Rattle.mq_turns.specs.Turns.{IsAsWas, IsBehind, Made, has_run, left_parts}
 
@@ -72,6 +72,12 @@ behind_if Runs qs = qs
 behind_if NoMemory qs = []
 behind_if (Stopped by n left) qs = []
 
+pub le_self : (n : ℕ) → n ≤ n
+le_self n = omega arith
+
+same_le : (a b : ℕ) → b ≡ a → a ≤ b
+same_le a b e = omega (arith, e)
+
 -- Parts, and silent ones behind them where all was done.
 pub made_behind : (ps qs : List Part) (choice : Choice) (delta : List Did) (old mid new : CoreValue) → AreSilent qs → Made ps choice delta old mid → IsBehind (behind_if choice qs) mid new → Made (ps ++ qs) choice delta old new
 made_behind ps qs Runs delta old mid new s m b = record {
@@ -80,6 +86,7 @@ made_behind ps qs Runs delta old mid new s m b = record {
   told = m.told ∙ sym (told_append ps qs s);
   plain = b.plain ∙ ap (do_all qs) m.plain ∙ sym (all_append ps qs old.plain);
   later = omega (arith, m.later, b.later);
+  rose = tt;
 }
 made_behind ps qs NoMemory delta old mid new s m b = absurd m.made
 made_behind ps qs (Stopped by n left) delta old mid new s m b =
@@ -91,6 +98,7 @@ made_behind ps qs (Stopped by n left) delta old mid new s m b =
       told = m.told ∙ sym (delta_append n ps qs w);
       plain = b.plain ∙ m.plain ∙ sym (stop_append n ps qs left old.plain w);
       later = omega (arith, m.later, b.later);
+      rose = where_wider (Stopped by n left) old.faults old.faults mid.faults new.faults (le_self old.faults) m.rose b.later;
     }
 
 -- A call of the manager that ran, one whose only write was stopped, one that found no memory.
@@ -104,6 +112,7 @@ ran_made wants step value delta old mid new m d e =
       told = d ∙ ap (λ (v : ManagerValue). v.delta) r.next;
       plain = ap (λ (v : CoreValue). v.plain) e ∙ ap (λ (v : ManagerValue). v.plain) r.next;
       later = omega (arith, later wants (manager_of old) (manager_of mid) step (Ok value) m, ap (λ (v : CoreValue). v.faults) e);
+      rose = tt;
     }
 
 first_write : (n : ℕ) (ps : List Part) → IsShort ps → IsWrite n ps → n ≡ 0
@@ -123,6 +132,7 @@ stopped_first by parts delta old mid new short s d e =
       told = d ∙ ap (λ (v : ManagerValue). v.delta) s.next ∙ ap (λ (n : ℕ). delta_before n parts) zero_is;
       plain = ap (λ (v : CoreValue). v.plain) e ∙ ap (λ (v : ManagerValue). v.plain) s.next ∙ ap (λ (n : ℕ). stopped_at n parts mid.plain.log.armed old.plain) zero_is;
       later = omega (arith, s.later, ap (λ (v : CoreValue). v.faults) e);
+      rose = where_wider (Stopped by 0 mid.plain.log.armed) old.faults old.faults mid.faults new.faults (le_self old.faults) s.rose (same_le mid.faults new.faults (ap (λ (v : CoreValue). v.faults) e));
     }
 
 pub stopped_made : {F T : Type 0} (wants : Wants) (step : Step F T) (by : Stop) (delta : List Did) (old mid new : CoreValue) → StepIsShort step → MeetsAs wants (manager_of old) step (Err (halts.Stopped by)) (manager_of mid) → delta ≡ mid.delta
@@ -147,7 +157,7 @@ behind_none v = record { plain = refl; later = omega arith }
 pub none_made : (choice : Choice) (delta : List Did) (v : CoreValue) → choice ≡ Runs → delta ≡ [] → Made [] choice delta v v
 none_made choice delta v c d =
     let M : Choice → Type 0 = λ x. Made [] x delta v v in
-    subst M (sym c) (record { made = tt; can = λ h. h; told = d; plain = refl; later = omega arith })
+    subst M (sym c) (record { made = tt; can = λ h. h; told = d; plain = refl; later = omega arith; rose = tt })
 
 -- what a sender leaves behind
 pub ran_is : (choice : Choice) → has_run choice ≡ true → choice ≡ Runs

@@ -39,7 +39,8 @@ use Rattle.mq_turns.specs.Told.{Closes}
 use Rattle.mq_turns.specs.Acting.{Acts, SendsTurn}
 use Rattle.mq_turns.specs.Prepares.{IsDone, IsRefused, Prepared, Tries, full_parts, step_of, tried_end}
 use Rattle.mq_turns.proofs.AgentLaws.{agent_ran, agent_stopped}
-use Rattle.mq_turns.proofs.PartLaws.{behind_if, behind_none, made_behind, want_made}
+use Rattle.mq_events.proofs.CallLaws.{where_wider}
+use Rattle.mq_turns.proofs.PartLaws.{le_self, behind_if, behind_none, made_behind, want_made}
 use Rattle.mq_turns.proofs.SendLaws.{turn_is}
 use Rattle.mq_turns.proofs.SettleLaws.{turned_so}
 use Rattle.mq_turns.proofs.WireLaws.{sends_widened}
@@ -107,6 +108,7 @@ as_made ps choice delta old mid new w m = record {
   told = m.told ∙ ap (λ (p : Plain). delta_by choice (ps p)) w.plain;
   plain = m.plain ∙ ap (λ (p : Plain). plain_by choice (ps p) p) w.plain;
   later = omega (arith, w.later, m.later);
+  rose = where_wider choice old.faults mid.faults new.faults new.faults w.later m.rose (le_self new.faults);
 }
 
 pub as_twice : (old mid new : CoreValue) → IsAsWas old mid → IsAsWas mid new → IsAsWas old new

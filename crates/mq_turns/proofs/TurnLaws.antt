@@ -7,6 +7,8 @@ use Rattle.mq_history.specs.declared.calls.Actor.TheVariants as actors
 use Rattle.mq_history.specs.declared.calls.Call.TheVariants as calls
 use Rattle.mq_history.specs.declared.calls.Chance.TheVariants as chances
 use Rattle.mq_history.specs.declared.calls.Reply.TheVariants as replies
+use Rattle.mq_events.specs.Disks.{RoseBy, RoseWhere}
+use Rattle.mq_events.proofs.CallLaws.{rose_by, silent}
 use Rattle.mq_spec_node.specs.Terms.{Message, Did, Actor, Call, Entry, Plain, Possible}
 use Rattle.mq_spec_node.specs.Words.{Node, Own, Deed, Done, done, done_or, done_by, remembering, IsDeed, CanCome, Tells, node_of}
 use Rattle.mq_core.specs.Values.{CoreValue}
@@ -52,6 +54,11 @@ next_is d Runs n m = refl
 next_is d NoMemory n m = absurd m
 next_is d (Stopped by part left) n m = refl
 
+choice_rose : (choice : Choice) (before now : ℕ) → RoseWhere choice before now → RoseBy (reply_for choice) before now
+choice_rose Runs before now rose = silent replies.Changed replies.Changed before now refl refl
+choice_rose NoMemory before now rose = silent replies.Changed replies.Changed before now refl refl
+choice_rose (Stopped by part left) before now rose = rose_by by before now rose
+
 can_come : (d : Deed) (choice : Choice) (n : Node) → IsMade choice → Possible choice d.parts n.manager.log.armed → CanCome d choice n
 can_come d Runs n m p = p
 can_come d NoMemory n m p = absurd m
@@ -96,7 +103,7 @@ module _ (s t : NodeState) (actor : Actor) (call : Call) (d : Deed) (choice : Ch
   pub turn_adds : IsTold s actor call d choice delta w received m → (room : ℕ) → t ≡ with_entry it (record s { manager = m; own = own_by choice delta d.own s.own; room = room }) → Adds actor call it s t
   turn_adds k room e =
       let A : NodeState → Type 0 = λ x. Adds actor call it s x in
-      subst A (sym e) (record { grows = record { given = refl; history = refl }; actor = refl; call = refl; marks = refl; faults = k.made.later })
+      subst A (sym e) (record { grows = record { given = refl; history = refl }; actor = refl; call = refl; marks = refl; faults = k.made.later; rose = choice_rose choice s.manager.faults m.faults k.made.rose })
 
 -- A turn is closed: its entry is added, and its end and the handlers are as it leaves them.
 pub closed_so : (s p q t : NodeState) (actor : Actor) (call : Call) (choice : Choice) (delta : List Did) (behind : Own) (w : Passed) (received : List Message) (d : Deed)

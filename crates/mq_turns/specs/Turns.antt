@@ -14,6 +14,7 @@ use Rattle.mq_spec_manager.specs.Agents.{IsUp}
 use Rattle.mq_spec_node.specs.Words.{Own, Deed, SenderEnd, deed_of, parts_of, forgotten_rows, sender_end}
 use Rattle.mq_core.specs.Values.{CoreValue}
 use Rattle.mq_events.specs.declared.outcome.Told.{Told}
+use Rattle.mq_events.specs.Disks.{RoseWhere}
 use Rattle.mq_events.specs.States.{NodeState, node_in}
 use Rattle.mq_events.specs.Events.{Adds, Stays}
 use Rattle.mq_turns.specs.declared.telling.Passed.{Passed}
@@ -49,6 +50,7 @@ pub record Made (parts : List Part) (choice : Choice) (delta : List Did) (old ne
   pub told : delta ≡ delta_by choice parts
   pub plain : new.plain ≡ plain_by choice parts old.plain
   pub later : old.faults ≤ new.faults
+  pub rose : RoseWhere choice old.faults new.faults
 
 -- a manager that is as it was
 pub record IsAsWas (old new : CoreValue) : Type 0 where

@@ -26,6 +26,7 @@ use Rattle.mq_events.specs.Counts.{IsNode, KeepsCounts}
 use Rattle.mq_events.specs.Events.{Adds, MayAct, Stays}
 use Rattle.mq_events.proofs.StepLaws.{Asked, Roomed, ends_from, roomed_asked, room_same, stamp_same}
 use Rattle.mq_events.proofs.CountLaws.{counted_more, counted_still}
+use Rattle.mq_events.proofs.RiseLaws.{risen_more, risen_still}
 use Rattle.mq_watch.specs.declared.getting.Monitored.{Monitored}
 use Rattle.mq_watch.specs.declared.getting.Monitored.TheVariants as monitors
 use Rattle.mq_watch.specs.declared.getting.Watched.{Watched}
@@ -226,7 +227,7 @@ module _ (k : ℕ) (s r a : NodeState) (w : Watched) (e : Roomed s r) (h : Asked
       record {
         entry = entry;
         call = get_of w;
-        adds = subst A (sym same) (record { grows = record { given = refl; history = refl }; actor = refl; call = refl; marks = refl; faults = (ends_at (Ok (Some o)) n).later });
+        adds = subst A (sym same) (record { grows = record { given = refl; history = refl }; actor = refl; call = refl; marks = refl; faults = (ends_at (Ok (Some o)) n).later; rose = (ends_at (Ok (Some o)) n).rose });
         next = sym (next_some (monitor_in k s.own.monitors) w seat);
         finds = idle_at k s w seat ∙ was_got s.own s.manager.plain a.manager.plain (step_of w s.manager.plain) o shape ((ends_at (Ok (Some o)) n).ends 0 (actors.Monitor k) s.own) is;
         script = sym (b ∙ ap (λ (x : NodeState). begins x.own.scripts x.history.entries o.reply) (roomed_asked s r a e h));
@@ -250,10 +251,10 @@ next_counted None call e = absurd cc
 next_counted (Some m) call e = call_counted m.connection m.handle call e
 
 got_counted : (k : ℕ) (begun : Option ℕ) (s t : NodeState) → IsNode s → IsKept t → KeepsCounts s t → Gets k begun s t → IsNode t
-got_counted k begun s t n l c h = record { kept = l; counted = counted_more (actors.Monitor k) h.call h.entry s t n.kept l (next_counted (monitor_in k s.own.monitors) h.call h.next) n.counted c h.adds }
+got_counted k begun s t n l c h = record { kept = l; counted = counted_more (actors.Monitor k) h.call h.entry s t n.kept l (next_counted (monitor_in k s.own.monitors) h.call h.next) n.counted c h.adds; risen = risen_more (actors.Monitor k) h.call h.entry s t n.risen h.adds }
 
 pub turned_node : (k : ℕ) (s : NodeState) (r : Result Monitored Want) (t : NodeState) → IsNode s → IsKept t → KeepsCounts s t → Turns k s r t → IsNode t
-turned_node k s (Ok monitors.Idle) t n l c h = record { kept = l; counted = counted_still s t n.counted c h.stays }
+turned_node k s (Ok monitors.Idle) t n l c h = record { kept = l; counted = counted_still s t n.counted c h.stays; risen = risen_still s t n.risen h.stays }
 turned_node k s (Ok (monitors.Started script)) t n l c h = got_counted k (Some script) s t n l c h
 turned_node k s (Ok monitors.Got) t n l c h = got_counted k None s t n l c h
-turned_node k s (Err e) t n l c h = record { kept = l; counted = counted_still s t n.counted c h }
+turned_node k s (Err e) t n l c h = record { kept = l; counted = counted_still s t n.counted c h; risen = risen_still s t n.risen h }

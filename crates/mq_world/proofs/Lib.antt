@@ -24,3 +24,4 @@ pub mod TurnedLaws
 pub mod PlaceLaws
 pub mod NearLaws
 pub mod FarLaws
+pub mod OwnLaws

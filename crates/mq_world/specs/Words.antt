@@ -2,6 +2,7 @@
 pub use Rattle.mq_world_begin.specs.Rested.{Began, IsRested, IsRestedAt, OpensWith, RestState}
 pub use Rattle.mq_events.specs.Texts.{IsTextCommand}
 pub use Rattle.mq_acts.specs.Advances.{IsTextLine, Keeps, last_entry}
+pub use Rattle.mq_acts.specs.Restarts.{StaysOwn}
 pub use Rattle.mq_cable.specs.Lists.{AllLow}
 pub use Rattle.mq_events.specs.Events.{MayAct}
 pub use Rattle.mq_events.specs.States.{IsKept, IsServed, marked}
@@ -10,7 +11,7 @@ pub use Rattle.mq_nodes.specs.Course.{Ready, noted}
 pub use Rattle.mq_nodes.specs.Pumps.{AllStill, TurnIn}
 pub use Rattle.mq_nodes.specs.Texts.{AllFit}
 pub use Rattle.mq_nodes.specs.Told.{Does, HandlerTold, LineTold, Part, Says, TurnTold, later}
-pub use Rattle.mq_spec_network.specs.Lawful.{handles_idle}
+pub use Rattle.mq_spec_network.specs.Lawful.{AreOwn, handles_idle}
 pub use Rattle.mq_spec_network.specs.Steps.{Is, is_cut, is_watching}
 pub use Rattle.mq_spec_network.specs.Tasks.{moment_of, watch_by}
 pub use Rattle.mq_spec_network.specs.Tasks.Slot.{Receives, Sends, TimesOut}
@@ -24,5 +25,5 @@ pub use Rattle.mq_world.specs.Resting.{manager_in, own_in, rest_of}
 pub use Rattle.mq_world.specs.Settling.{IsOf, NodeDoes, NodeSays, Settles, cut_or, ended}
 pub use Rattle.mq_world.specs.Starting.{IsFresh, IsRoom, Starts, StartsAt, around, begun_script, begun_state, own_begun}
 pub use Rattle.mq_world.specs.Turning.{HandlerOn, MonitorOn}
-pub use Rattle.mq_world.specs.Worlds.{IsNetwork, NetState, course_in, history_in}
+pub use Rattle.mq_world.specs.Worlds.{IsNetwork, NetState, StaysOwnIn, course_in, histories_in, history_in}
 pub use Rattle.mq_world_begin.specs.Rested.{as_given}

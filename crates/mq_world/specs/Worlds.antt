@@ -13,6 +13,7 @@ use Rattle.mq_ways.specs.Ways.{CableState}
 use Rattle.mq_spec_node.specs.Terms.{Entry}
 use Rattle.mq_spec_node.specs.Words.{wait_of}
 use Rattle.mq_spec_network.specs.Given.{surroundings}
+use Rattle.mq_spec_network.specs.Lawful.{AreOwn}
 use Rattle.mq_spec_network.specs.Story.{entries_at}
 use Rattle.mq_nodes.specs.Course.{Course}
 use Rattle.mq_nodes.specs.Texts.{AllFit}
@@ -94,3 +95,7 @@ with_script k c w = record w { scripts = slice_set w.scripts k c }
 -- and something else lies on a cable
 abbrev pub with_cable : ℕ → CableState → NetState → NetState
 with_cable k c w = record w { cables = slice_set w.cables k c }
+
+-- where no restart of its managers was from a log that was changed from outside, none is
+abbrev pub StaysOwnIn : NetState → NetState → Type 0
+StaysOwnIn old new = AreOwn (histories_in old) → AreOwn (histories_in new)

@@ -86,7 +86,8 @@ fn last_cut(entries: &[Entry]) -> bool
 pub fn restart_on<D: Disk>(node: &mut Node<D>, manager: u16) -> Result<bool, Stop>
     requires served { words.IsServed node.old }
     requires may { words.MayAct node.old }
-    ensures { words.NodeSays (words.IsOf actors.Operator (calls.Act acts.Restart)) (λ cut e. words.is_cut e.reply ≡ cut) manager result node.old node.new }
+    ensures told { words.NodeSays (words.IsOf actors.Operator (calls.Act acts.Restart)) (λ cut e. words.is_cut e.reply ≡ cut) manager result node.old node.new }
+    ensures own { D.tells → words.StaysOwn node.old.history.entries node.new.history.entries }
 {
     match ask(node, Actor::Operator, Call::Act(Act::Restart)) {
         Err(NoMemory) => Err(Stop::NoMemory),

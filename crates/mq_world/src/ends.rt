@@ -111,6 +111,7 @@ impl<D: Disk> NetParts<D> {
         requires there { cable < length self.old.scenario.cables }
         ensures kept { words.IsNetwork self.new }
         ensures told { words.TurnIn words.Sends cable result (words.course_in self.old) (words.course_in self.new) }
+        ensures own { D.tells → words.StaysOwnIn self.old self.new }
         ensures long { length self.new.nodes ≡ length self.old.nodes }
     {
         let manager = line_at(&self.lines, cable).sender;
@@ -128,6 +129,7 @@ impl<D: Disk> NetParts<D> {
         requires there { cable < length self.old.scenario.cables }
         ensures kept { words.IsNetwork self.new }
         ensures told { words.TurnIn words.Receives cable result (words.course_in self.old) (words.course_in self.new) }
+        ensures own { D.tells → words.StaysOwnIn self.old self.new }
         ensures long { length self.new.nodes ≡ length self.old.nodes }
     {
         let manager = line_at(&self.lines, cable).receiver;

@@ -24,7 +24,8 @@ pub fn advance_on<D: Disk>(
     requires text { IfSome (slice_get part.now.lines progress.old.done) words.IsTextLine }
     requires keeps { IfSome (slice_get part.now.lines progress.old.done) (words.Keeps progress.old.until) }
     requires more { progress.old.done < 2 ^ 32 }
-    ensures { words.LineOn script part.now manager progress.old node.old result progress.new node.new }
+    ensures told { words.LineOn script part.now manager progress.old node.old result progress.new node.new }
+    ensures own { D.tells → words.StaysOwn node.old.history.entries node.new.history.entries }
 {
     match mq_acts::advance(node, script, part, progress) {
         Err(NoMemory) => Err(Stop::NoMemory),

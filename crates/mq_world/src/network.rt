@@ -29,7 +29,7 @@ impl<D: Disk> Model for Network<D> {
 
     ghost view = { λ n. n.parts };
 
-    ghost invariant = { λ n. words.IsNetwork n.parts × (length n.parts.nodes ≤ n.room) };
+    ghost invariant = { λ n. words.IsNetwork n.parts × (length n.parts.nodes ≤ n.room) × (D.tells → words.AreOwn (words.histories_in n.parts)) };
 }
 
 impl<D: Disk> Network<D> {
@@ -95,9 +95,11 @@ impl<D: Disk> Network<D> {
         })
     }
 
-    /// The nodes come to rest; what lies on the cables is lost. It takes no memory.
+    /// The nodes come to rest; what lies on the cables is lost. Over disks that tell their bytes, no restart read a log that was
+    /// changed from outside. It takes no memory.
     pub fn rest(self) -> Rested<D>
-        ensures { result ≡ words.rest_of self.scenario self.nodes }
+        ensures rests { result ≡ words.rest_of self.scenario self.nodes }
+        ensures own { D.tells → words.AreOwn result.histories }
     {
         let Network { parts, room } = self;
         let NetParts {

@@ -86,6 +86,7 @@ impl<D: Disk> NetParts<D> {
         requires there { manager < length self.old.scenario.managers }
         ensures kept { words.IsNetwork self.new }
         ensures told { words.Does (words.Is manager actors.Operator (calls.Act acts.Crash)) result (words.course_in self.old) (words.course_in self.new) }
+        ensures own { D.tells → words.StaysOwnIn self.old self.new }
         ensures long { length self.new.nodes ≡ length self.old.nodes }
     {
         act_on(
@@ -103,6 +104,7 @@ impl<D: Disk> NetParts<D> {
         requires there { manager < length self.old.scenario.managers }
         ensures kept { words.IsNetwork self.new }
         ensures told { words.Does (words.Is manager actors.Operator (calls.Act (acts.Cut device_calls))) result (words.course_in self.old) (words.course_in self.new) }
+        ensures own { D.tells → words.StaysOwnIn self.old self.new }
         ensures long { length self.new.nodes ≡ length self.old.nodes }
     {
         act_on(
@@ -121,6 +123,7 @@ impl<D: Disk> NetParts<D> {
         requires text { words.IsTextCommand command.now }
         ensures kept { words.IsNetwork self.new }
         ensures told { words.Does (words.Is manager actors.Operator (calls.Act (acts.Obey command.now))) result (words.course_in self.old) (words.course_in self.new) }
+        ensures own { D.tells → words.StaysOwnIn self.old self.new }
         ensures long { length self.new.nodes ≡ length self.old.nodes }
     {
         obey_on(
@@ -138,6 +141,7 @@ impl<D: Disk> NetParts<D> {
         requires there { manager < length self.old.scenario.managers }
         ensures kept { words.IsNetwork self.new }
         ensures told { words.Says (words.Is manager actors.Operator (calls.Act acts.Restart)) (λ cut e. words.is_cut e.reply ≡ cut) result (words.course_in self.old) (words.course_in self.new) }
+        ensures own { D.tells → words.StaysOwnIn self.old self.new }
         ensures long { length self.new.nodes ≡ length self.old.nodes }
     {
         restart_on(self.nodes.at_mut(usize::from(manager)), manager)
@@ -151,6 +155,7 @@ impl<D: Disk> NetParts<D> {
         ensures kept { words.IsNetwork self.new }
         ensures told { words.Does (words.Is manager actors.Clock (calls.Act (acts.Clock ms))) result (words.course_in self.old) (words.course_in self.new) }
         ensures moment { OnOk result (words.moment_of (words.node_at (words.course_in self.new).net manager) ≡ words.later (words.moment_of (words.node_at (words.course_in self.old).net manager)) ms) }
+        ensures own { D.tells → words.StaysOwnIn self.old self.new }
         ensures long { length self.new.nodes ≡ length self.old.nodes }
     {
         clock_on(self.nodes.at_mut(usize::from(manager)), manager, ms)
@@ -164,6 +169,7 @@ impl<D: Disk> NetParts<D> {
         requires manager { part.now.manager < length self.old.scenario.managers }
         ensures kept { words.IsNetwork self.new }
         ensures told { words.LineTold script part.now result (words.course_in self.old) (words.course_in self.new) }
+        ensures own { D.tells → words.StaysOwnIn self.old self.new }
         ensures long { length self.new.nodes ≡ length self.old.nodes }
     {
         let place = usize::from(part.manager);
@@ -179,6 +185,7 @@ impl<D: Disk> NetParts<D> {
         requires room { (m : ℕ) → length ((words.course_in self.old).marks m) < length self.old.scenario.steps }
         ensures kept { words.IsNetwork self.new }
         ensures noted { words.course_in self.new ≡ words.noted idle (words.course_in self.old) }
+        ensures own { D.tells → words.StaysOwnIn self.old self.new }
         ensures long { length self.new.nodes ≡ length self.old.nodes }
     {
         mark_all(&mut self.nodes, idle);

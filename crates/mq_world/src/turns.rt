@@ -45,6 +45,7 @@ impl<D: Disk> NetParts<D> {
         requires there { rules < length self.old.scenario.rules }
         ensures kept { words.IsNetwork self.new }
         ensures told { words.HandlerTold rules result (words.course_in self.old) (words.course_in self.new) }
+        ensures own { D.tells → words.StaysOwnIn self.old self.new }
         ensures long { length self.new.nodes ≡ length self.old.nodes }
     {
         let manager = manager_of(&self.handlers, rules);
@@ -72,6 +73,7 @@ impl<D: Disk> NetParts<D> {
         requires there { monitor < length self.old.scenario.monitors }
         ensures kept { words.IsNetwork self.new }
         ensures told { words.TurnTold monitor result (words.course_in self.old) (words.course_in self.new) }
+        ensures own { D.tells → words.StaysOwnIn self.old self.new }
         ensures long { length self.new.nodes ≡ length self.old.nodes }
     {
         let line = line_of(&self.monitors, monitor);
@@ -102,6 +104,7 @@ impl<D: Disk> NetParts<D> {
         ensures kept { words.IsNetwork self.new }
         ensures told { words.Says (words.Is line.now.manager (actors.Monitor monitor) (calls.Mqconn [] (words.script_appl line.now.label))) (λ given e. given ≡ words.connection_of e.reply) result (words.course_in self.old) (words.course_in self.new) }
         ensures same { self.new.scenario ≡ self.old.scenario }
+        ensures own { D.tells → words.StaysOwnIn self.old self.new }
         ensures long { length self.new.nodes ≡ length self.old.nodes }
     {
         connect_on(
@@ -120,6 +123,7 @@ impl<D: Disk> NetParts<D> {
         ensures kept { words.IsNetwork self.new }
         ensures told { words.Says (words.Is line.now.manager (actors.Monitor monitor) (calls.Mqopen connection line.now.queue [] words.shared)) (λ opened e. opened ≡ words.is_opened e.reply) result (words.course_in self.old) (words.course_in self.new) }
         ensures same { self.new.scenario ≡ self.old.scenario }
+        ensures own { D.tells → words.StaysOwnIn self.old self.new }
         ensures long { length self.new.nodes ≡ length self.old.nodes }
     {
         open_on(
@@ -138,6 +142,7 @@ impl<D: Disk> NetParts<D> {
         requires there { manager < length self.old.scenario.managers }
         ensures kept { words.IsNetwork self.new }
         ensures told { words.Does (words.Is manager (actors.Monitor monitor) (calls.Mqdisc connection)) result (words.course_in self.old) (words.course_in self.new) }
+        ensures own { D.tells → words.StaysOwnIn self.old self.new }
         ensures long { length self.new.nodes ≡ length self.old.nodes }
     {
         leave_on(
@@ -155,6 +160,7 @@ impl<D: Disk> NetParts<D> {
         requires there { monitor < length self.old.scenario.monitors }
         ensures kept { words.IsNetwork self.new }
         ensures told { words.Part (words.watch_by monitor (slice_get self.old.scenario.monitors monitor)) result (words.course_in self.old) (words.course_in self.new) }
+        ensures own { D.tells → words.StaysOwnIn self.old self.new }
         ensures long { length self.new.nodes ≡ length self.old.nodes }
     {
         let line = line_of(&self.monitors, monitor);

@@ -24,7 +24,7 @@ use Rattle.mq_run.specs.declared.status.BadCause.{BadCause}
 use Rattle.mq_run.specs.declared.status.Status.{Status}
 use Rattle.mq_run.specs.declared.status.Status.TheVariants as status
 use Rattle.mq_run.specs.Ends.{LeftEnds, NoneEnds, RunEnds, RunLeaves}
-use Rattle.mq_run.specs.Words.{GotOnce, IsTextCommand, Left, OrderKept, RowsAreLedgers, StandOnce}
+use Rattle.mq_run.specs.Words.{GotOnce, IsPromised, IsTextCommand, Left, OrderKept, RestartsAreOwn, RowsAreLedgers, StandOnce}
 use Rattle.mq_run.proofs.Promising as promising
 use Rattle.mqnet.specs.declared.top.Task.{Task}
 use Rattle.mqnet.specs.declared.top.Task.TheVariants as tasks
@@ -130,7 +130,7 @@ ran_of : (P : Left → Type 0) (left : Option (List ℕ)) (tells : Type 0) (held
 ran_of P left tells held start before now old new st None counts f r = tt
 ran_of P left tells held start before now old new st (Some l) counts f r = f l r.scenario r.read r.ended.0
 
-promised_of : (P : Left → Type 0) (asked : Option Task) (left : Option (List ℕ)) (tells : Type 0) (held : List ℕ → List ℕ → Type 0) (start before now : ℕ) (old new : Option (List ℕ)) (st : Status) (net : Option Left) (counts : List ℕ)
+pub promised_of : (P : Left → Type 0) (asked : Option Task) (left : Option (List ℕ)) (tells : Type 0) (held : List ℕ → List ℕ → Type 0) (start before now : ℕ) (old new : Option (List ℕ)) (st : Status) (net : Option Left) (counts : List ℕ)
     → ((l : Left) → (s : Scenario) → IsRead left s → RunLeaves tells held start s counts l → P l) → Ends asked left tells held start before now old new st net counts → IfSome net P
 promised_of P None left tells held start before now old new st net counts f e = none_of P net e.1.network
 promised_of P (Some tasks.Run) left tells held start before now old new st net counts f (inl e) = none_of P net e.1.network
@@ -142,24 +142,28 @@ promised_of P (Some tasks.Check) left tells held start before now old new st net
 is_scenario : (left : Option (List ℕ)) (s : Scenario) → IsRead left s → IsScenario s
 is_scenario left s r = text_kept r.bytes s (text_found r.bytes s r.text)
 
+pub own_of : (asked : Option Task) (left : Option (List ℕ)) (tells : Type 0) (held : List ℕ → List ℕ → Type 0) (start before now : ℕ) (old new : Option (List ℕ)) (st : Status) (net : Option Left) (counts : List ℕ)
+    → Ends asked left tells held start before now old new st net counts → IfSome net (RestartsAreOwn tells)
+own_of asked left tells held start before now old new st net counts e = promised_of (RestartsAreOwn tells) asked left tells held start before now old new st net counts (λ l s r h. h.own) e
+
 pub rows_of : (asked : Option Task) (left : Option (List ℕ)) (tells : Type 0) (held : List ℕ → List ℕ → Type 0) (start before now : ℕ) (old new : Option (List ℕ)) (st : Status) (net : Option Left) (counts : List ℕ)
-    → Ends asked left tells held start before now old new st net counts → IfSome net RowsAreLedgers
-rows_of asked left tells held start before now old new st net counts e = promised_of RowsAreLedgers asked left tells held start before now old new st net counts
+    → Ends asked left tells held start before now old new st net counts → IfSome net (IsPromised tells RowsAreLedgers)
+rows_of asked left tells held start before now old new st net counts e = promised_of (IsPromised tells RowsAreLedgers) asked left tells held start before now old new st net counts
     (λ l s r h. promising.rows tells held start s counts l (is_scenario left s r) h) e
 
 pub once_of : (asked : Option Task) (left : Option (List ℕ)) (tells : Type 0) (held : List ℕ → List ℕ → Type 0) (start before now : ℕ) (old new : Option (List ℕ)) (st : Status) (net : Option Left) (counts : List ℕ)
-    → Ends asked left tells held start before now old new st net counts → IfSome net StandOnce
-once_of asked left tells held start before now old new st net counts e = promised_of StandOnce asked left tells held start before now old new st net counts
+    → Ends asked left tells held start before now old new st net counts → IfSome net (IsPromised tells StandOnce)
+once_of asked left tells held start before now old new st net counts e = promised_of (IsPromised tells StandOnce) asked left tells held start before now old new st net counts
     (λ l s r h. promising.once tells held start s counts l (is_scenario left s r) h) e
 
 pub got_once_of : (asked : Option Task) (left : Option (List ℕ)) (tells : Type 0) (held : List ℕ → List ℕ → Type 0) (start before now : ℕ) (old new : Option (List ℕ)) (st : Status) (net : Option Left) (counts : List ℕ)
-    → Ends asked left tells held start before now old new st net counts → IfSome net GotOnce
-got_once_of asked left tells held start before now old new st net counts e = promised_of GotOnce asked left tells held start before now old new st net counts
+    → Ends asked left tells held start before now old new st net counts → IfSome net (IsPromised tells GotOnce)
+got_once_of asked left tells held start before now old new st net counts e = promised_of (IsPromised tells GotOnce) asked left tells held start before now old new st net counts
     (λ l s r h. promising.got_once tells held start s counts l (is_scenario left s r) h) e
 
 pub order_of : (asked : Option Task) (left : Option (List ℕ)) (tells : Type 0) (held : List ℕ → List ℕ → Type 0) (start before now : ℕ) (old new : Option (List ℕ)) (st : Status) (net : Option Left) (counts : List ℕ)
-    → Ends asked left tells held start before now old new st net counts → IfSome net OrderKept
-order_of asked left tells held start before now old new st net counts e = promised_of OrderKept asked left tells held start before now old new st net counts
+    → Ends asked left tells held start before now old new st net counts → IfSome net (IsPromised tells OrderKept)
+order_of asked left tells held start before now old new st net counts e = promised_of (IsPromised tells OrderKept) asked left tells held start before now old new st net counts
     (λ l s r h. promising.order tells held start s counts l (is_scenario left s r) h) e
 
 -- ---- completeness

@@ -177,7 +177,7 @@ fn obey_words<S: Source, K: Sink, H: Shelf>(
 /// Runs the program: by the word `run`, the scenario that the source gives, over the shelf's disks, with its report to the sink; by
 /// the word `check` the scenario is read alone, and CHECK OK written. `start` is the moment of its beginning in milliseconds since
 /// 1970; a moment above 253,300,000,000,000 is taken as that number.
-#[tactic(auto, using(crate::proofs::Ending::rows_of, crate::proofs::Ending::once_of, crate::proofs::Ending::got_once_of, crate::proofs::Ending::order_of, crate::proofs::Ending::bad_words, crate::proofs::Ending::completes))]
+#[tactic(auto, using(crate::proofs::Ending::own_of, crate::proofs::Ending::rows_of, crate::proofs::Ending::once_of, crate::proofs::Ending::got_once_of, crate::proofs::Ending::order_of, crate::proofs::Ending::bad_words, crate::proofs::Ending::completes))]
 pub fn mqnet<S: Source, K: Sink, H: Shelf>(
     alloc: Global,
     words: &[String],
@@ -190,15 +190,17 @@ pub fn mqnet<S: Source, K: Sink, H: Shelf>(
     // bytes read, with every step whole where the run was not broken off; the bytes written are the report of scenario, story,
     // standing and ledger, or its front, or none; the verdict is what the story says.
     ensures ends { terms.Ends (terms.task_of (map string_bytes words.now)) (S.left source.old) H.D.tells (λ n b. H.holds shelf.old n sides.A b) start (H.faults shelf.old) (H.faults shelf.new) (K.held sink.old) (K.held sink.new) result.status (option_map terms.left_of result.network) (map H.D.faults result.disks.items) }
-    // After each prefix of the story without a conflict, where the logs belong together and no restart read a log that was changed
-    // from outside: the standing rows of each queue are the ledger's, list for list,
-    ensures rows { IfSome (option_map terms.left_of result.network) terms.RowsAreLedgers }
+    // Over disks that tell their bytes no restart read a log that was changed from outside.
+    ensures own { IfSome (option_map terms.left_of result.network) (terms.RestartsAreOwn H.D.tells) }
+    // After each prefix of the story without a conflict, where the logs belong together, and where the disks tell their bytes or at
+    // least no restart read a log that was changed from outside: the standing rows of each queue are the ledger's, list for list,
+    ensures rows { IfSome (option_map terms.left_of result.network) (terms.IsPromised H.D.tells terms.RowsAreLedgers) }
     // each ident stands at most once in the network,
-    ensures once { IfSome (option_map terms.left_of result.network) terms.StandOnce }
+    ensures once { IfSome (option_map terms.left_of result.network) (terms.IsPromised H.D.tells terms.StandOnce) }
     // and is in at most one committed get,
-    ensures got_once { IfSome (option_map terms.left_of result.network) terms.GotOnce }
+    ensures got_once { IfSome (option_map terms.left_of result.network) (terms.IsPromised H.D.tells terms.GotOnce) }
     // and each receiver's commit keeps the order of its queue.
-    ensures order { IfSome (option_map terms.left_of result.network) terms.OrderKept }
+    ensures order { IfSome (option_map terms.left_of result.network) (terms.IsPromised H.D.tells terms.OrderKept) }
     ensures bad_words { result.status ≡ terms.BadWords ↔ (terms.task_of (map string_bytes words.now) ≡ None) }
     ensures bad_scenario { (line : ℕ) (cause : terms.BadCause) → result.status ≡ terms.BadScenario line cause → terms.ReadNoScenario (S.left source.old) line cause }
     ensures read_fault { result.status ≡ terms.ReadFault → terms.Rose (S.faults source.old) (S.faults source.new) }

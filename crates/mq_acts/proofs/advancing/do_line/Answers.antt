@@ -13,5 +13,5 @@ wait-requires g c =
     let M : Call → Type 0 = λ x. MayWait (actors.Script c.args.number) x c.args.node.now c.ask.new.node in
     record {
       waits = waits_some (actors.Script c.args.number) c.args.part.now.label c.args.progress.now.memory (until_in c.args.progress.now c.moment-moment.result c.args.line.now) c.args.line.now c.args.node.now c.ask.new.node
-          (subst M c.in-Ok.ensures (subst B c.in-Ok-false.field-0-test c.in-Ok-false.ensures));
+          (subst M c.in-Ok.ensures (subst B c.in-Ok-false.field-0-test c.in-Ok-false.ensures.came));
     }

@@ -1,11 +1,13 @@
-use Rattle.std.specs.Prelude.{◌≡◌, List, length}
+use Rattle.std.specs.Prelude.{◌≡◌, List, length, map}
 use Rattle.std.proofs.Common.{ap, arith, subst, sym, ◌∙◌}
 use Rattle.mq_history.specs.Scenarios.{IsScenario}
 use Rattle.mq_history.specs.declared.scenario.Scenario.{Scenario}
+use Rattle.mq_spec_network.specs.Lawful.{AreOwn}
 use Rattle.mq_events.specs.States.{NodeState}
 use Rattle.mq_world_begin.specs.Rested.{IsRested, RestState}
 use Rattle.mq_world.specs.Starting.{IsFresh, Starts}
-use Rattle.mq_world.specs.Worlds.{IsNetwork, NetState}
+use Rattle.mq_world.specs.Worlds.{IsNetwork, NetState, history_in}
+use Rattle.mq_world.proofs.OwnLaws.{begun_own}
 use Rattle.mq_world.proofs.StartLaws.{started, starts}
 use Rattle.mq_world.proofs.network.Network.start.Goals as goal
 
@@ -30,6 +32,7 @@ invariant_of-result-2 g c =
           (subst IsScenario same c.rested.invariant.0.scenario) c.requires.texts
           c.nodes_of-nodes.ensures.all c.nodes_of-nodes.ensures.each c.in-Ok.ensures.scripts.0 c.in-Ok.ensures.scripts.1 c.in-Ok.ensures.lines c.in-Ok.ensures.cables c.in-Ok.ensures.handlers c.in-Ok.ensures.monitors)),
       omega (arith, ap length c.from_vec.ensures, c.nodes_of-nodes.ensures.all, ap (λ (s : Scenario). length s.managers) same, c.rested.invariant.0.managers, c.rested.inside.managers.ok, c.len-2.ensures, c.in-Ok-take.ensures),
+      λ is. subst (λ (ns : List NodeState). AreOwn (map history_in ns)) (sym c.from_vec.ensures) (begun_own c.nodes_of-nodes.result.items (λ m n known. (c.nodes_of-nodes.ensures.each m n known).undone)),
     )
 
 pub returns : goal.returns

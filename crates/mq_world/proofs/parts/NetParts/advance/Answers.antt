@@ -3,6 +3,7 @@ use Rattle.std.proofs.Common.{ap, arith, refl}
 use Rattle.mq_world.specs.Worlds.{NetState, with_node, with_script}
 use Rattle.mq_world.proofs.LiftLaws.{asked, asked_ready}
 use Rattle.mq_world.proofs.ScriptLaws.{asked_line, line_few, line_kept, line_kept_by, line_told_by, progress_there, script_at, text_line}
+use Rattle.mq_world.proofs.OwnLaws.{line_own}
 use Rattle.mq_world.proofs.parts.NetParts.advance.Goals as goal
 
 pub at_mut-node-requires : goal.at_mut-node-requires
@@ -35,9 +36,12 @@ advance_on-requires-clause-more g c =
 pub returns-clause-kept : goal.returns-clause-kept
 returns-clause-kept g c =
     line_kept_by c.args.self.now _ c.from-place.result c.from-at.result c.args.part.now.manager c.args.script c.args.part.now c.at_mut-progress.result.now c.advance_on.new.progress c.advance_on.result c.at_mut-node.result.now c.advance_on.new.node
-    (asked_line c.self.view_is (asked c.self.view_is c.requires.kept c.requires.ready c.from-place.ensures c.at_mut-node.ensures.value) c.from-at.ensures c.at_mut-progress.ensures.value c.requires.there refl) (ap (λ (w : NetState). with_script c.from-at.result c.advance_on.new.progress (with_node c.from-place.result c.advance_on.new.node w)) c.self.view_is) c.advance_on.ensures
+    (asked_line c.self.view_is (asked c.self.view_is c.requires.kept c.requires.ready c.from-place.ensures c.at_mut-node.ensures.value) c.from-at.ensures c.at_mut-progress.ensures.value c.requires.there refl) (ap (λ (w : NetState). with_script c.from-at.result c.advance_on.new.progress (with_node c.from-place.result c.advance_on.new.node w)) c.self.view_is) c.advance_on.ensures.told
 
 pub returns-clause-told : goal.returns-clause-told
 returns-clause-told g c =
     line_told_by c.args.self.now _ c.from-place.result c.from-at.result c.args.part.now.manager c.args.script c.args.part.now c.at_mut-progress.result.now c.advance_on.new.progress c.advance_on.result c.at_mut-node.result.now c.advance_on.new.node
-    (asked_line c.self.view_is (asked c.self.view_is c.requires.kept c.requires.ready c.from-place.ensures c.at_mut-node.ensures.value) c.from-at.ensures c.at_mut-progress.ensures.value c.requires.there refl) (ap (λ (w : NetState). with_script c.from-at.result c.advance_on.new.progress (with_node c.from-place.result c.advance_on.new.node w)) c.self.view_is) c.advance_on.ensures
+    (asked_line c.self.view_is (asked c.self.view_is c.requires.kept c.requires.ready c.from-place.ensures c.at_mut-node.ensures.value) c.from-at.ensures c.at_mut-progress.ensures.value c.requires.there refl) (ap (λ (w : NetState). with_script c.from-at.result c.advance_on.new.progress (with_node c.from-place.result c.advance_on.new.node w)) c.self.view_is) c.advance_on.ensures.told
+
+pub returns-clause-own : goal.returns-clause-own
+returns-clause-own g c = λ is. line_own c.args.self.now _ c.from-place.result c.from-at.result c.args.part.now.manager c.advance_on.new.progress c.at_mut-node.result.now c.advance_on.new.node (asked c.self.view_is c.requires.kept c.requires.ready c.from-place.ensures c.at_mut-node.ensures.value) (ap (λ (w : NetState). with_script c.from-at.result c.advance_on.new.progress (with_node c.from-place.result c.advance_on.new.node w)) c.self.view_is) (c.advance_on.ensures.own is)

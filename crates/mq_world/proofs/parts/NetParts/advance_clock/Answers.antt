@@ -7,6 +7,7 @@ use Rattle.mq_spec_network.specs.Steps.{Is}
 use Rattle.mq_world.specs.Settling.{IsOf}
 use Rattle.mq_world.specs.Worlds.{NetState, with_node}
 use Rattle.mq_world.proofs.LiftLaws.{asked, asked_kept, asked_ready, clock_fits, does_kept, does_told, moment_told, of_clock}
+use Rattle.mq_world.proofs.OwnLaws.{does_own}
 use Rattle.mq_world.proofs.parts.NetParts.advance_clock.Goals as goal
 
 pub at_mut-requires : goal.at_mut-requires
@@ -34,3 +35,6 @@ returns-clause-moment g c =
     moment_told c.args.self.now _ c.from.result c.args.manager c.at_mut.result.now c.clock_on.new.node c.clock_on.result c.args.ms (asked c.self.view_is c.requires.kept c.requires.ready c.from.ensures c.at_mut.ensures.value) (ap (with_node c.from.result c.clock_on.new.node) c.self.view_is)
     (does_kept c.args.self.now _ c.from.result c.args.manager (IsOf actors.Clock (calls.Act (acts.Clock c.args.ms))) c.clock_on.result c.at_mut.result.now c.clock_on.new.node (asked c.self.view_is c.requires.kept c.requires.ready c.from.ensures c.at_mut.ensures.value) (ap (with_node c.from.result c.clock_on.new.node) c.self.view_is) (of_clock (calls.Act (acts.Clock c.args.ms))) c.clock_on.ensures.told)
     c.clock_on.ensures.moment
+
+pub returns-clause-own : goal.returns-clause-own
+returns-clause-own g c = λ is. does_own c.args.self.now _ c.args.manager actors.Clock (calls.Act (acts.Clock c.args.ms)) c.clock_on.result (returns-clause-kept g c) tt (returns-clause-told g c)

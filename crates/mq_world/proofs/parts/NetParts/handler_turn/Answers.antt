@@ -3,6 +3,7 @@ use Rattle.std.proofs.Common.{ap, arith, sym, ◌∙◌}
 use Rattle.mq_world.specs.Worlds.{NetState, with_node}
 use Rattle.mq_world.proofs.LiftLaws.{asked, asked_ready}
 use Rattle.mq_world.proofs.TurnLaws.{handler_kept, handler_told, rules_low, rules_there}
+use Rattle.mq_world.proofs.OwnLaws.{handler_own}
 use Rattle.mq_world.proofs.parts.NetParts.handler_turn.Goals as goal
 
 pub manager_of-manager-requires : goal.manager_of-manager-requires
@@ -26,3 +27,6 @@ returns-clause-kept g c = handler_kept c.args.self.now _ c.from.result c.manager
 
 pub returns-clause-told : goal.returns-clause-told
 returns-clause-told g c = handler_told c.args.self.now _ c.from.result c.manager_of-manager.result c.args.rules c.handler_on.result c.at_mut.result.now c.handler_on.new.node (asked c.self.view_is c.requires.kept c.requires.ready c.from.ensures c.at_mut.ensures.value) (ap (with_node c.from.result c.handler_on.new.node) c.self.view_is) (ap (λ (w : NetState). slice_get w.handlers c.args.rules) (sym c.self.view_is) ∙ c.manager_of-manager.ensures) c.handler_on.ensures
+
+pub returns-clause-own : goal.returns-clause-own
+returns-clause-own g c = λ is. handler_own c.args.self.now _ c.args.rules c.handler_on.result (returns-clause-kept g c) c.requires.there (returns-clause-told g c)

@@ -6,6 +6,7 @@ use Rattle.mq_spec_network.specs.Steps.{Is}
 use Rattle.mq_world.specs.Settling.{IsOf}
 use Rattle.mq_world.specs.Worlds.{NetState, with_node}
 use Rattle.mq_world.proofs.LiftLaws.{asked, asked_ready, monitor_fits, of_monitor, does_kept, does_told}
+use Rattle.mq_world.proofs.OwnLaws.{does_own}
 use Rattle.mq_world.proofs.parts.NetParts.leave.Goals as goal
 
 pub at_mut-requires : goal.at_mut-requires
@@ -24,3 +25,6 @@ returns-clause-kept g c =
 pub returns-clause-told : goal.returns-clause-told
 returns-clause-told g c =
     does_told c.args.self.now _ c.from.result c.args.manager (IsOf (actors.Monitor c.args.monitor) (calls.Mqdisc c.args.connection)) (Is c.args.manager (actors.Monitor c.args.monitor) (calls.Mqdisc c.args.connection)) c.leave_on.result c.at_mut.result.now c.leave_on.new.node (asked c.self.view_is c.requires.kept c.requires.ready c.from.ensures c.at_mut.ensures.value) (ap (with_node c.from.result c.leave_on.new.node) c.self.view_is) (of_monitor c.args.monitor (calls.Mqdisc c.args.connection)) (monitor_fits c.args.manager c.args.monitor (calls.Mqdisc c.args.connection)) c.leave_on.ensures
+
+pub returns-clause-own : goal.returns-clause-own
+returns-clause-own g c = λ is. does_own c.args.self.now _ c.args.manager (actors.Monitor c.args.monitor) (calls.Mqdisc c.args.connection) c.leave_on.result (returns-clause-kept g c) tt (returns-clause-told g c)

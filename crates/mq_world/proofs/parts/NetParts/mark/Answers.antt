@@ -4,6 +4,7 @@ use Rattle.mq_events.specs.States.{marked}
 use Rattle.mq_world.specs.Worlds.{IsNetwork, NetState, course_in}
 use Rattle.mq_world.proofs.ListLaws.{long_map}
 use Rattle.mq_world.proofs.MarkLaws.{has_room, marked_so, marks_keep, marks_lift}
+use Rattle.mq_world.proofs.OwnLaws.{marked_own}
 use Rattle.mq_world.proofs.parts.NetParts.mark.Goals as goal
 
 pub mark_all-requires : goal.mark_all-requires
@@ -23,3 +24,6 @@ pub returns-clause-long : goal.returns-clause-long
 returns-clause-long g c =
     ap (λ (w : NetState). length w.nodes) (marked_so c.args.idle c.mark_all.new.nodes c.self.view_is c.mark_all.ensures refl)
     ∙ long_map (marked c.args.idle) c.args.self.now.nodes
+
+pub returns-clause-own : goal.returns-clause-own
+returns-clause-own g c = λ is. marked_own c.args.self.now _ c.args.idle (returns-clause-noted g c)

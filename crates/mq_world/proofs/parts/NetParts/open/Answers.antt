@@ -8,6 +8,7 @@ use Rattle.mq_spec_network.specs.Steps.{Is}
 use Rattle.mq_world.specs.Settling.{IsOf}
 use Rattle.mq_world.specs.Worlds.{NetState, with_node}
 use Rattle.mq_world.proofs.LiftLaws.{asked, asked_ready, monitor_fits, of_monitor, says_kept, says_told}
+use Rattle.mq_world.proofs.OwnLaws.{says_own}
 use Rattle.mq_world.proofs.parts.NetParts.open.Goals as goal
 
 pub at_mut-requires : goal.at_mut-requires
@@ -26,3 +27,6 @@ returns-clause-kept g c =
 pub returns-clause-told : goal.returns-clause-told
 returns-clause-told g c =
     says_told c.args.self.now _ c.from.result c.args.line.now.manager (IsOf (actors.Monitor c.args.monitor) (calls.Mqopen c.args.connection c.args.line.now.queue [] shared)) (λ (opened : Bool) (e : Entry). opened ≡ is_opened e.reply) (Is c.args.line.now.manager (actors.Monitor c.args.monitor) (calls.Mqopen c.args.connection c.args.line.now.queue [] shared)) c.open_on.result c.at_mut.result.now c.open_on.new.node (asked c.self.view_is c.requires.kept c.requires.ready c.from.ensures c.at_mut.ensures.value) (ap (with_node c.from.result c.open_on.new.node) c.self.view_is) (of_monitor c.args.monitor (calls.Mqopen c.args.connection c.args.line.now.queue [] shared)) (monitor_fits c.args.line.now.manager c.args.monitor (calls.Mqopen c.args.connection c.args.line.now.queue [] shared)) c.open_on.ensures
+
+pub returns-clause-own : goal.returns-clause-own
+returns-clause-own g c = λ is. says_own c.args.self.now _ c.args.line.now.manager (actors.Monitor c.args.monitor) (calls.Mqopen c.args.connection c.args.line.now.queue [] shared) (λ (opened : Bool) (e : Entry). opened ≡ is_opened e.reply) c.open_on.result (returns-clause-kept g c) tt (returns-clause-told g c)

@@ -1,0 +1,5 @@
+pub mod Calms
+pub mod CalmCalls
+pub mod CalmDeeds
+pub mod Ends
+pub mod Events

@@ -1,0 +1,10 @@
+pub mod Steps
+pub mod Places
+pub mod Within
+pub mod Carried
+pub mod SoFar
+pub mod Standing
+pub mod Fitting
+pub mod Good
+pub mod Resting
+pub mod Turned

@@ -1,0 +1,5 @@
+pub mod Drawn
+pub mod Soak
+pub mod Texts
+pub mod Line
+pub mod Words
