@@ -4,13 +4,15 @@ use Rattle.mq_disk.specs.declared.cutter.Stop.{Stop}
 use Rattle.mq_log.specs.Bodies.{bodies_of, frames, IsLog}
 
 -- the bodies; whether it takes more; the body whose forced write was stopped; what is reserved; the room behind the
--- last gate for which memory was taken; the largest length; the calls before an armed cut; the disk's faults
+-- last gate for which memory was taken, without what is set aside of it, and that; the largest length; the calls before an
+-- armed cut; the disk's faults
 pub record LogState : Type 0 where
   pub bodies : List (List ℕ)
   pub live : Bool
   pub pending : Option (List ℕ)
   pub reserved : ℕ
   pub room : ℕ
+  pub spare : ℕ
   pub max : ℕ
   pub armed : ℕ
   pub faults : ℕ

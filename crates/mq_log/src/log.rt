@@ -31,6 +31,8 @@ pub struct Log<D: Disk> {
     // What is reserved, and the largest length.
     held: u64,
     most: u64,
+    // Bytes of memory that are set aside, and count for no largest length.
+    spare: u64,
 }
 
 /// A log that wasn't started, with its disk for a later restart.
@@ -43,7 +45,7 @@ pub struct Unstarted<D: Disk> {
 }
 
 impl<D: Disk> Model for Log<D> {
-    ghost use Rattle.std.specs.Prelude.{◌-◌, ◌≤◌, vec_capacity, vec_len, if◌then◌else◌, None};
+    ghost use Rattle.std.specs.Prelude.{◌+◌, ◌-◌, ◌≤◌, vec_capacity, vec_len, if◌then◌else◌, None};
     ghost use Rattle.mq_log.specs.declared.log.LogFull.TheVariants.{NoMemory};
     ghost use Rattle.mq_log.specs.State.{LogState, front_bodies, body_behind};
     ghost use Rattle.mq_log.specs.Sound.{Sound};
@@ -55,13 +57,14 @@ impl<D: Disk> Model for Log<D> {
       live = l.live;
       pending = if l.live then None else body_behind l.end l.bytes.items;
       reserved = l.held;
-      room = vec_capacity l.bytes - vec_len l.bytes;
+      room = vec_capacity l.bytes - vec_len l.bytes - l.spare;
+      spare = l.spare;
       max = l.most;
       armed = l.disk.armed;
       faults = D.faults l.disk.inner;
     } };
 
-    ghost invariant = { λ l. Sound D.tells (D.size l.disk.inner) (D.seen l.disk.inner) (D.may_leave l.disk.inner) l.disk.stopped l.bytes.items l.end l.live × (l.held ≤ l.most) };
+    ghost invariant = { λ l. Sound D.tells (D.size l.disk.inner) (D.seen l.disk.inner) (D.may_leave l.disk.inner) l.disk.stopped l.bytes.items l.end l.live × (l.held ≤ l.most) × (vec_len l.bytes + l.spare ≤ vec_capacity l.bytes) };
 }
 
 // Puts the length, the body's parts and a closed gate behind the bytes, in room that is there.
@@ -119,7 +122,10 @@ impl<D: Disk> Log<D> {
         if !self.fits(bytes) {
             return Err(LogFull::Full);
         }
-        self.bytes.reserve((self.held + bytes) as usize)?;
+        let Some(all) = (self.held + bytes).checked_add(self.spare) else {
+            return Err(LogFull::NoMemory);
+        };
+        self.bytes.reserve(all as usize)?;
         self.held += bytes;
         Ok(())
     }
@@ -139,11 +145,37 @@ impl<D: Disk> Log<D> {
         ensures room { self.old.room ≤ self.new.room }
         ensures memory { OnErr result (self.old.room < self.old.reserved + bytes) }
     {
-        let Some(all) = self.held.checked_add(bytes) else {
+        let Some(beside) = self.held.checked_add(bytes) else {
+            return Err(NoMemory);
+        };
+        let Some(all) = beside.checked_add(self.spare) else {
             return Err(NoMemory);
         };
         self.bytes.reserve(all as usize)?;
         Ok(())
+    }
+
+    /// Sets the memory for so many bytes aside. What is reserved and the largest length do not count it.
+    pub fn set_aside(&mut self, bytes: u64) -> Result<(), NoMemory>
+        ensures ok { OnOk result (self.new ≡ record self.old { room = self.new.room; spare = self.old.spare + bytes }) }
+        ensures err { OnErr result (self.new ≡ record self.old { room = self.new.room }) }
+        ensures room { self.old.room ≤ self.new.room }
+    {
+        let free = self.bytes.capacity() - self.bytes.len();
+        let Some(all) = (free as u64).checked_add(bytes) else {
+            return Err(NoMemory);
+        };
+        self.bytes.reserve(all as usize)?;
+        self.spare += bytes;
+        Ok(())
+    }
+
+    /// The memory for so many of the bytes that are set aside is room again. It takes no memory.
+    pub fn draw(&mut self, bytes: u64)
+        requires { bytes ≤ self.old.spare }
+        ensures { self.new ≡ record self.old { room = self.old.room + bytes; spare = self.old.spare - bytes } }
+    {
+        self.spare -= bytes;
     }
 
     /// The k-th `write_at` or `sync` from now isn't made; with 0 no call is stopped.
@@ -209,12 +241,12 @@ impl<D: Disk> Log<D> {
 
     /// The disk restarts, and the log is read from it again. The answer says whether the bodies are those from before,
     /// or these and the one whose forced write was stopped, which then stands at the place behind them; others are found
-    /// only where the bytes were changed from outside. Nothing is reserved then. Where bodies are read, one call counts
+    /// only where the bytes were changed from outside. Nothing is reserved or set aside then. Where bodies are read, one call counts
     /// for an armed cut.
     pub fn restart(&mut self, alloc: Global) -> Result<Found, StartFault>
         ensures found { IfOk result (λ found. IsFound self.old.bodies self.old.pending found self.new.bodies) }
         ensures known { D.tells → IfOk result (λ found. found ≢ Found.Other) }
-        ensures ok { OnOk result (self.new ≡ record self.old { bodies = self.new.bodies; live = true; pending = None; reserved = 0; room = self.new.room; armed = self.new.armed; faults = self.new.faults }) }
+        ensures ok { OnOk result (self.new ≡ record self.old { bodies = self.new.bodies; live = true; pending = None; reserved = 0; room = self.new.room; spare = 0; armed = self.new.armed; faults = self.new.faults }) }
         ensures err { OnErr result (self.new ≡ record self.old { live = false; room = self.new.room; armed = self.new.armed; faults = self.new.faults }) }
         ensures good { D.tells → IfErr result IsNotBad }
         ensures ends { EndsByOneOrThree self.old.armed result self.new.armed }
@@ -233,6 +265,7 @@ impl<D: Disk> Log<D> {
                 self.end = end;
                 self.bytes = bytes;
                 self.held = 0;
+                self.spare = 0;
                 self.live = true;
                 Ok(found)
             }
@@ -272,6 +305,7 @@ impl<D: Disk> Log<D> {
         ensures read { D.tells → IfOk result (λ log. IsLog (D.seen disk.inner) log.bodies) }
         ensures bad { D.tells → IfErr result (λ e. IsBadOf (D.seen disk.inner) e.fault) }
         ensures live { IfOk result (λ log. (log.live ≡ true) × (log.pending ≡ None) × (log.reserved ≡ 0) × (log.max ≡ max)) }
+        ensures aside { IfOk result (λ log. log.spare ≡ 0) }
         ensures made { IfOk result (λ log. Made (start_calls (D.size disk.inner)) disk.armed disk.stopped log.armed false) }
         ensures refused { IfErr result (λ e. Refused (start_calls (D.size disk.inner)) 1 disk.armed disk.stopped e.fault e.disk.armed e.disk.stopped) }
         ensures images { D.tells → IfErr result (λ e. Reads (D.may_leave disk.inner) (D.may_leave e.disk.inner)) }
@@ -288,6 +322,7 @@ impl<D: Disk> Log<D> {
                     live: true,
                     held: 0,
                     most: max,
+                    spare: 0,
                 })
             }
             Err(fault) => Err(Unstarted { fault, disk }),
@@ -309,6 +344,7 @@ impl<D: Disk> Log<D> {
             live: _,
             held: _,
             most: _,
+            spare: _,
         } = self;
         disk
     }

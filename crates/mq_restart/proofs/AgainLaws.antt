@@ -56,7 +56,7 @@ is_unraised b bytes roomy new stop e v x view room appended ends later disk is a
 -- ---- its log was read, or not
 
 pub has_read : (tells : Type 0) (found : Found) (old new : LogState) → IsFound old.bodies old.pending found new.bodies → (tells → found ≢ Other)
-    → new ≡ record old { bodies = new.bodies; live = true; pending = None; reserved = 0; room = new.room; armed = new.armed; faults = new.faults }
+    → new ≡ record old { bodies = new.bodies; live = true; pending = None; reserved = 0; room = new.room; spare = 0; armed = new.armed; faults = new.faults }
     → EndsByOneOrThree {T = Found} old.armed (Ok found) new.armed → (0 < length new.bodies → RestartEnds {T = Found} 1 old.armed (Ok found) new.armed) → old.faults ≤ new.faults → HasRead tells old found new
 has_read tells found old new bodies known same ends one later = record { bodies = bodies; known = known; same = same; ends = ends; one = one; later = later }
 

@@ -54,7 +54,7 @@ stop_fault stops.Disk = faults.Disk
 pub record HasRead (tells : Type 0) (old : LogState) (found : Found) (new : LogState) : Type 0 where
   pub bodies : IsFound old.bodies old.pending found new.bodies
   pub known : tells → found ≢ Other
-  pub same : new ≡ record old { bodies = new.bodies; live = true; pending = None; reserved = 0; room = new.room; armed = new.armed; faults = new.faults }
+  pub same : new ≡ record old { bodies = new.bodies; live = true; pending = None; reserved = 0; room = new.room; spare = 0; armed = new.armed; faults = new.faults }
   pub ends : EndsByOneOrThree {T = Found} old.armed (Ok found) new.armed
   pub one : 0 < length new.bodies → (new.armed ≡ old.armed - 1) × (0 < old.armed → 1 < old.armed)
   pub later : old.faults ≤ new.faults

@@ -1,7 +1,8 @@
 -- Places in a list that is in order of names.
-use Rattle.std.specs.Prelude.{◌≡◌, ℕ, ◌<◌, suc, length, slice_set, Bool, false, ◌||◌, Option, Some, None, List, [], ◌∷◌, if◌then◌else◌}
+use Rattle.std.specs.Prelude.{◌≡◌, ℕ, ◌<◌, suc, length, slice_set, Bool, true, false, ◌||◌, Option, Some, None, List, [], ◌∷◌, if◌then◌else◌}
 use Rattle.std.specs.List.{remove}
 use Rattle.std.specs.Str.{bytes_eq}
+use Rattle.mq_base.specs.Members.{Chain}
 use Rattle.mq_calls.specs.Words.{comes_before}
 
 -- it has the name, or stands behind it
@@ -27,3 +28,7 @@ undone place (Some x) xs = slice_set xs place x
 pub record CanUndo {A : Type 0} (place : ℕ) (before : Option A) (old new : List A) : Type 0 where
   pub within : place < length new
   pub same : undone place before new ≡ old
+
+-- a list in the order of its names, each once
+abbrev pub AreByName : {A : Type 0} → (A → List ℕ) → List A → Type 0
+AreByName {A} name xs = Chain (λ (x y : A). comes_before (name x) (name y) ≡ true) xs

@@ -1,9 +1,9 @@
 //! Lists by channel: found, set and dropped by the channel's name.
-ghost use Rattle.std.specs.Prelude.{◌≡◌, ℕ, List, find, filter, not, option_copied, slice_get, length, ◌<◌, ◌≤◌, IfOk, OnOk, OnErr};
+ghost use Rattle.std.specs.Prelude.{◌≡◌, ℕ, List, find, filter, not, option_copied, slice_get, None, length, ◌<◌, ◌≤◌, IfOk, OnOk, OnErr};
 ghost use Rattle.std.specs.List.{position};
 ghost use Rattle.std.specs.Str.{bytes_eq};
 ghost use Rattle.mq_calls.specs.Words.{comes_before, set_named};
-ghost use Rattle.mq_sides.specs.Places.{is_of, is_there, place_in, CanUndo, undone};
+ghost use Rattle.mq_sides.specs.Places.{is_of, is_there, place_in, AreByName, CanUndo, undone};
 
 use crate::kept::KeptBatch;
 use mq_base::{ChName, Items, NoMemory};
@@ -121,12 +121,13 @@ pub struct Undo<T> {
 ///
 /// # Errors
 ///
-/// No memory; nothing has changed. Where something is kept for the channel, none is taken.
+/// No memory; nothing has changed. Where the list is in the order of its names, none is taken for a channel for which something is kept.
 #[tactic(auto, using(crate::proofs::PlaceLaws::set_there, crate::proofs::PlaceLaws::set_new, crate::proofs::PlaceLaws::there_within))]
 pub fn swap_side<T: OfChannel + Drop>(items: &mut Items<T>, new: T) -> Result<Undo<T>, NoMemory>
     ensures ok { OnOk result (items.new ≡ set_named T.channel_of new items.old) }
     ensures undo { IfOk result (λ u. CanUndo u.place u.before items.old items.new) }
     ensures err { OnErr result (items.new ≡ items.old) }
+    ensures lacks { OnErr result (AreByName T.channel_of items.old → find (λ (x : T). bytes_eq (T.channel_of new) (T.channel_of x)) items.old ≡ None) }
 {
     let place = side_place(items.as_slice(), new.channel());
     if is_standing(items.as_slice(), place, new.channel()) {
@@ -163,10 +164,11 @@ pub fn undo_side<T: Drop>(items: &mut Items<T>, undo: Undo<T>)
 ///
 /// # Errors
 ///
-/// No memory; nothing has changed. Where something is kept for the channel, none is taken.
+/// No memory; nothing has changed. Where the list is in the order of its names, none is taken for a channel for which something is kept.
 pub fn set_side<T: OfChannel + Drop>(items: &mut Items<T>, new: T) -> Result<(), NoMemory>
     ensures ok { OnOk result (items.new ≡ set_named T.channel_of new items.old) }
     ensures err { OnErr result (items.new ≡ items.old) }
+    ensures lacks { OnErr result (AreByName T.channel_of items.old → find (λ (x : T). bytes_eq (T.channel_of new) (T.channel_of x)) items.old ≡ None) }
 {
     match swap_side(items, new) {
         Ok(_) => Ok(()),

@@ -17,6 +17,7 @@ invariant_of-self g c =
       sound_opened _ _ _ _ _ _ _ body _ is_live c.self.invariant.0 _ c.stage.ensures.items _ q_is _ _ _ _ _
           fit n.ends.1 n.size n.written n.durable (omega (arith, c.len.ensures, ap length c.stage.ensures.items)),
       c.self.invariant.1,
+      omega (arith, c.self.invariant.2, ap (λ (v : LogState). v.room) c.self.view_is, c.requires.room, c.stage.ensures.len, c.stage.ensures.capacity),
     )
 
 pub invariant_of-self-in-Err : goal.invariant_of-self-in-Err
@@ -28,7 +29,7 @@ invariant_of-self-in-Err g c =
     let d = c.deref.result.now in
     let q_is = take_rest d (c.self.inside.end + 1) ∙ ap (λ (l : List ℕ). drop (c.self.inside.end + 1) l) c.deref.ensures.value in
     let n = c.in-Err.ensures in
-    (sound_stopped _ _ _ _ _ _ _ body _ is_live c.self.invariant.0 _ c.stage.ensures.items _ q_is _ _ _ _ fit n.images, c.self.invariant.1)
+    (sound_stopped _ _ _ _ _ _ _ body _ is_live c.self.invariant.0 _ c.stage.ensures.items _ q_is _ _ _ _ fit n.images, c.self.invariant.1, omega (arith, c.self.invariant.2, ap (λ (v : LogState). v.room) c.self.view_is, c.requires.room, c.stage.ensures.len, c.stage.ensures.capacity))
 
 pub returns-in-Ok-clause-appended : goal.returns-in-Ok-clause-appended
 unfolding piece
@@ -49,7 +50,8 @@ returns-in-Ok-clause-appended g c =
       live = (v i).live;
       pending = pending i;
       reserved = (v i).reserved;
-      room = c.stage.new.bytes.cap - c.stage.new.bytes.len;
+      room = c.stage.new.bytes.cap - c.stage.new.bytes.len - c.self.inside.spare;
+      spare = (v i).spare;
       max = (v i).max;
       armed = c.force.new.disk.armed;
       faults = g.D.Disk.faults c.force.new.disk.inner;
@@ -70,7 +72,8 @@ returns-in-Err-clause-appended g c =
       live = false;
       pending = pending i;
       reserved = (v i).reserved;
-      room = c.stage.new.bytes.cap - c.stage.new.bytes.len;
+      room = c.stage.new.bytes.cap - c.stage.new.bytes.len - c.self.inside.spare;
+      spare = (v i).spare;
       max = (v i).max;
       armed = c.force.new.disk.armed;
       faults = g.D.Disk.faults c.force.new.disk.inner;

@@ -11,10 +11,10 @@ use Rattle.mq_log.proofs.Imaged.{found_of, not_other}
 use Rattle.mq_log.proofs.log.Log.restart.Goals as goal
 
 pub invariant_of-self : goal.invariant_of-self
-invariant_of-self g c = (dead _ _ _ _ _ _ _ _ c.self.invariant.0 _ _ _ _ (λ t. same_reads _ _ (c.restart.ensures.crash t)), c.self.invariant.1)
+invariant_of-self g c = (dead _ _ _ _ _ _ _ _ c.self.invariant.0 _ _ _ _ (λ t. same_reads _ _ (c.restart.ensures.crash t)), c.self.invariant.1, c.self.invariant.2)
 
 pub invariant_of-self-in-Err : goal.invariant_of-self-in-Err
-invariant_of-self-in-Err g c = (dead _ _ _ _ _ _ _ _ c.self.invariant.0 _ _ _ _ (λ t. reads_after _ _ _ (c.restart.ensures.crash t) (c.open_log.ensures.images t)), c.self.invariant.1)
+invariant_of-self-in-Err g c = (dead _ _ _ _ _ _ _ _ c.self.invariant.0 _ _ _ _ (λ t. reads_after _ _ _ (c.restart.ensures.crash t) (c.open_log.ensures.images t)), c.self.invariant.1, c.self.invariant.2)
 
 pub returns-in-Ok-clause-found : goal.returns-in-Ok-clause-found
 returns-in-Ok-clause-found g c =
