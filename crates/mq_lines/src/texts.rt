@@ -1,11 +1,11 @@
-//! Texts of fields.
+//! Texts of fields: without the blanks at their end, and with blanks behind them.
 ghost use Rattle.std.specs.Prelude.{◌≡◌, ◌≤◌, length};
 ghost use Rattle.mq_base.specs.Name.{padded, trimmed};
 
 use mq_base::Label;
 
 /// A field's text without the blanks at its end.
-pub(crate) fn trimmed(field: &[u8]) -> &[u8]
+pub fn trimmed(field: &[u8]) -> &[u8]
     ensures text { result.now ≡ trimmed field.now }
     ensures within { length result.now ≤ length field.now }
 {
@@ -28,8 +28,8 @@ fn blank_behind<const N: usize>(text: &[u8]) -> [u8; N]
     field
 }
 
-/// A label with blanks behind it.
-pub(crate) fn appl_name(label: &Label) -> [u8; 28]
+/// The name of an application (MQMD ApplName, 28 bytes) that a label gives: the label with blanks behind it.
+pub fn appl_name(label: &Label) -> [u8; 28]
     ensures { result ≡ padded 28 label.now }
 {
     blank_behind::<28>(label.text())

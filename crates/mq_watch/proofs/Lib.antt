@@ -2,4 +2,3 @@ pub mod LookLaws
 pub mod BeginLaws
 pub mod MonitorLaws
 pub mod WatchLaws
-pub mod TrimLemmas

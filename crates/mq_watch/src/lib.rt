@@ -4,7 +4,6 @@
 mod beginning;
 mod getting;
 mod looking;
-mod text;
 mod watching;
 
 pub use getting::{Monitored, monitor_turn};

@@ -7,13 +7,13 @@ ghost use Rattle.mq_events.specs.States.{IsServed, node_in};
 ghost use Rattle.mq_watch.specs.Turns.{Connects, Opens, connection_of, last_entry};
 
 use crate::getting::monitor_in;
-use crate::text::appl_name;
 use mq_base::{Label, NoMemory, QName};
 use mq_calls::{Answer, Appl, Hconn, Input, Open};
 use mq_core::Core;
 use mq_disk::Disk;
 use mq_events::Node;
 use mq_history::{Actor, Call, Entry, MonitorLine, Reply};
+use mq_lines::appl_name;
 use mq_own::Monitor;
 
 /// The last entry.
