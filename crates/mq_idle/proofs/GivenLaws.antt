@@ -16,19 +16,20 @@ use Rattle.mq_spec_network.specs.Given.{end_at, ends_from, receives_at, sends_fr
 use Rattle.mq_spec_network.specs.Lawful.{node_begun}
 use Rattle.mq_spec_network.specs.Turns.{Network, node_at, node_of}
 use Rattle.mq_law_keys.proofs.Starting.{run_keyed}
-use Rattle.mq_idle.specs.Ends.{HasEnds, Role, role_of, roles, sends_of}
-use Rattle.mq_idle.proofs.RoleLaws.{begun_roles, roles_stay}
+use Rattle.mq_law_keys.specs.Keys.{Tag, sends_of, tags}
+use Rattle.mq_law_keys.proofs.Keeping.{begun_tags, tag_histories}
+use Rattle.mq_idle.specs.Ends.{HasEnds}
 
--- the first role for a cable
-abbrev role_in : ℕ → List Role → Option Bool
+-- whether the first end of a cable sends
+abbrev role_in : ℕ → List Tag → Option Bool
 role_in k [] = None
-role_in k (r ∷ rs) = if r.cable == k then Some r.sends else role_in k rs
+role_in k (t ∷ ts) = if t.key.cable == k then Some t.sends else role_in k ts
 
-found_role : (k : ℕ) (es : List ChannelEnd) → option_map sends_of (end_in k es) ≡ role_in k (roles es)
+found_role : (k : ℕ) (es : List ChannelEnd) → option_map sends_of (end_in k es) ≡ role_in k (tags es)
 found_role k [] = refl
 found_role k (e ∷ es) = by (cable_of e == k) (found_role k es)
   where
-    by : (b : Bool) → option_map sends_of (end_in k es) ≡ role_in k (roles es) → option_map sends_of (if b then Some e else end_in k es) ≡ (if b then Some (sends_of e) else role_in k (roles es))
+    by : (b : Bool) → option_map sends_of (end_in k es) ≡ role_in k (tags es) → option_map sends_of (if b then Some e else end_in k es) ≡ (if b then Some (sends_of e) else role_in k (tags es))
     by true h = refl
     by false h = h
 
@@ -49,23 +50,23 @@ self_nat m = grind (arith, nat_tests)
 not_same : (m n : ℕ) → m ≢ n → (m == n) ≡ false
 not_same m n h = grind (arith, nat_tests, h)
 
-sends_here : (s : Scenario) (m k : ℕ) (l : CableLine) (rest : List ChannelEnd) → l.sender ≡ m → role_in k (roles (end_at s m k l ++ rest)) ≡ Some true
+sends_here : (s : Scenario) (m k : ℕ) (l : CableLine) (rest : List ChannelEnd) → l.sender ≡ m → role_in k (tags (end_at s m k l ++ rest)) ≡ Some true
 sends_here s m k l rest is =
-    ap (λ (b : Bool). role_in k (roles ((if b then sends_from s k l else (if l.receiver == m then receives_at s k l else [])) ++ rest))) (ap (λ (n : ℕ). n == m) is ∙ self_nat m)
-    ∙ ap (λ (b : Bool). if b then Some true else role_in k (roles rest)) (self_nat k)
+    ap (λ (b : Bool). role_in k (tags ((if b then sends_from s k l else (if l.receiver == m then receives_at s k l else [])) ++ rest))) (ap (λ (n : ℕ). n == m) is ∙ self_nat m)
+    ∙ ap (λ (b : Bool). if b then Some true else role_in k (tags rest)) (self_nat k)
 
-receives_here : (s : Scenario) (m k : ℕ) (l : CableLine) (rest : List ChannelEnd) → l.receiver ≡ m → l.sender ≢ l.receiver → role_in k (roles (end_at s m k l ++ rest)) ≡ Some false
+receives_here : (s : Scenario) (m k : ℕ) (l : CableLine) (rest : List ChannelEnd) → l.receiver ≡ m → l.sender ≢ l.receiver → role_in k (tags (end_at s m k l ++ rest)) ≡ Some false
 receives_here s m k l rest is apart =
-    ap (λ (b : Bool). role_in k (roles ((if b then sends_from s k l else (if l.receiver == m then receives_at s k l else [])) ++ rest))) (ap (λ (n : ℕ). l.sender == n) (sym is) ∙ not_same l.sender l.receiver apart)
-    ∙ ap (λ (b : Bool). role_in k (roles ((if b then receives_at s k l else []) ++ rest))) (ap (λ (n : ℕ). n == m) is ∙ self_nat m)
-    ∙ ap (λ (b : Bool). if b then Some false else role_in k (roles rest)) (self_nat k)
+    ap (λ (b : Bool). role_in k (tags ((if b then sends_from s k l else (if l.receiver == m then receives_at s k l else [])) ++ rest))) (ap (λ (n : ℕ). l.sender == n) (sym is) ∙ not_same l.sender l.receiver apart)
+    ∙ ap (λ (b : Bool). role_in k (tags ((if b then receives_at s k l else []) ++ rest))) (ap (λ (n : ℕ). n == m) is ∙ self_nat m)
+    ∙ ap (λ (b : Bool). if b then Some false else role_in k (tags rest)) (self_nat k)
 
-passed : (s : Scenario) (m j k : ℕ) (c : CableLine) (rest : List ChannelEnd) → (j == k) ≡ false → role_in k (roles (end_at s m j c ++ rest)) ≡ role_in k (roles rest)
+passed : (s : Scenario) (m j k : ℕ) (c : CableLine) (rest : List ChannelEnd) → (j == k) ≡ false → role_in k (tags (end_at s m j c ++ rest)) ≡ role_in k (tags rest)
 passed s m j k c rest h = by (c.sender == m) (c.receiver == m)
   where
-    by : (a b : Bool) → role_in k (roles ((if a then sends_from s j c else (if b then receives_at s j c else [])) ++ rest)) ≡ role_in k (roles rest)
-    by true b = ap (λ (t : Bool). if t then Some true else role_in k (roles rest)) h
-    by false true = ap (λ (t : Bool). if t then Some false else role_in k (roles rest)) h
+    by : (a b : Bool) → role_in k (tags ((if a then sends_from s j c else (if b then receives_at s j c else [])) ++ rest)) ≡ role_in k (tags rest)
+    by true b = ap (λ (t : Bool). if t then Some true else role_in k (tags rest)) h
+    by false true = ap (λ (t : Bool). if t then Some false else role_in k (tags rest)) h
     by false false = refl
 
 above : (j k i : ℕ) → k ≡ j + suc i → (j == k) ≡ false
@@ -82,13 +83,13 @@ some_is a b e = cc
 
 abbrev GivesFrom : Bool → Scenario → ℕ → List CableLine → Type 0
 GivesFrom b s m cs = (j k i : ℕ) (l : CableLine) → k ≡ j + i → slice_get cs i ≡ Some l
-    → ((rest : List ChannelEnd) → role_in k (roles (end_at s m k l ++ rest)) ≡ Some b) → role_in k (roles (ends_from s m j cs)) ≡ Some b
+    → ((rest : List ChannelEnd) → role_in k (tags (end_at s m k l ++ rest)) ≡ Some b) → role_in k (tags (ends_from s m j cs)) ≡ Some b
 
 given_from : (b : Bool) (s : Scenario) (m : ℕ) (cs : List CableLine) → GivesFrom b s m cs
 given_from b s m [] j k i l e is here = absurd cc
 given_from b s m (c ∷ cs) j k zero l e is here =
-    subst (λ (n : ℕ). role_in k (roles (ends_from s m n (c ∷ cs))) ≡ Some b) (sym (same_place j k e))
-    (subst (λ (x : CableLine). role_in k (roles (end_at s m k x ++ ends_from s m (suc k) cs)) ≡ Some b) (sym (some_is c l is)) (here (ends_from s m (suc k) cs)))
+    subst (λ (n : ℕ). role_in k (tags (ends_from s m n (c ∷ cs))) ≡ Some b) (sym (same_place j k e))
+    (subst (λ (x : CableLine). role_in k (tags (end_at s m k x ++ ends_from s m (suc k) cs)) ≡ Some b) (sym (some_is c l is)) (here (ends_from s m (suc k) cs)))
 given_from b s m (c ∷ cs) j k (suc i) l e is here =
     passed s m j k c (ends_from s m (suc j) cs) (above j k i e) ∙ given_from b s m cs (suc j) k i l (next_place j k i e) is here
 
@@ -100,8 +101,8 @@ module _ (s : Scenario) (m : ℕ) (h : History) (es : List Entry) (is : IsScenar
   abbrev start : Node
   start = opening_node (surroundings s m) h
 
-  now_roles : roles (after start es).own.ends ≡ roles (ends_from s m 0 s.cables)
-  now_roles = roles_stay start es (run_keyed s m h [] is) ∙ begun_roles start.manager (ends_from s m 0 s.cables)
+  now_roles : tags (after start es).own.ends ≡ tags (ends_from s m 0 s.cables)
+  now_roles = tag_histories start es (run_keyed s m h [] is) ∙ begun_tags start.manager (ends_from s m 0 s.cables)
 
   node_sends : (k : ℕ) (l : CableLine) → slice_get s.cables k ≡ Some l → l.sender ≡ m → (e : SenderEnd) × (sender_end k (after start es).own ≡ Some e)
   node_sends k l there at = sender_there (end_in k (after start es).own.ends) (

@@ -1,6 +1,5 @@
 pub mod PushLaws
 pub mod ItemLaws
-pub mod RoleLaws
 pub mod GivenLaws
 pub mod StillLaws
 pub mod LookLaws

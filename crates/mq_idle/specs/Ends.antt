@@ -5,20 +5,6 @@ use Rattle.mq_spec_node.specs.Node.{ChannelEnd, Node, ReceiverEnd, SenderEnd, ca
 use Rattle.mq_spec_node.specs.Node.ChannelEnd.{Receives, Sends}
 use Rattle.mq_spec_network.specs.Turns.{Network, node_at}
 
-pub record Role : Type 0 where
-  pub cable : ℕ
-  pub sends : Bool
-
-abbrev pub sends_of : ChannelEnd → Bool
-sends_of (Sends e) = true
-sends_of (Receives e) = false
-
-abbrev pub role_of : ChannelEnd → Role
-role_of e = record { cable = cable_of e; sends = sends_of e }
-
-abbrev pub roles : List ChannelEnd → List Role
-roles es = map role_of es
-
 -- each end of a cable is at its manager
 pub record HasEnds (w : Network) (k : ℕ) (l : CableLine) : Type 0 where
   pub sender : (n : Node) → node_at w l.sender ≡ Some n → (e : SenderEnd) × (sender_end k n.own ≡ Some e)

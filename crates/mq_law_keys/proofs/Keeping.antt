@@ -1,4 +1,4 @@
--- No event changes the keys of a node's ends.
+-- No event changes the keys of a node's ends, nor which of them send.
 use Rattle.std.proofs.Common.{ℕ, ◌≡◌, Bool, true, false, List, [], ◌∷◌, refl, ap, sym, subst, ◌∙◌, map}
 use Rattle.std.specs.Prelude.{Option, Some, None, ◌-◌, if◌then◌else◌, not}
 use Rattle.mq_base.specs.Members.{Mem}
@@ -46,26 +46,26 @@ use Rattle.mq_spec_node.specs.Replays.{after, done_by}
 use Rattle.mq_law_node.specs.Quiet.{EachQuiet}
 use Rattle.mq_law_node.proofs.NearTotal.{remembered_ends}
 use Rattle.mq_law_node.proofs.Ordinary.{ordinary_is_quiet}
-use Rattle.mq_law_keys.specs.Keys.{AreKeyed, EachKeeps, IsKeyed, Key, key_of, keys}
-use Rattle.mq_law_keys.proofs.Telling.{receiver_end_mem, receiver_mem, sender_end_mem, sender_mem, set_keys}
+use Rattle.mq_law_keys.specs.Keys.{AreKeyed, EachKeeps, IsKeyed, Key, key_of, keys, Tag, tag_of, tags}
+use Rattle.mq_law_keys.proofs.Telling.{receiver_end_mem, receiver_mem, sender_end_mem, sender_mem, set_tags}
 
--- An end changes but for its key
+-- An end changes but for its tag
 
-sender_set : (n : Node) (e : SenderEnd) (m : Sender) → IsKeyed n → Mem (Sends e) n.own.ends → keys (with_end (Sends (record e { machine = m })) n.own).ends ≡ keys n.own.ends
-sender_set n e m h k = set_keys (Sends (record e { machine = m })) (Sends e) n.own.ends h k refl refl
+sender_set : (n : Node) (e : SenderEnd) (m : Sender) → IsKeyed n → Mem (Sends e) n.own.ends → tags (with_end (Sends (record e { machine = m })) n.own).ends ≡ tags n.own.ends
+sender_set n e m h k = set_tags (Sends (record e { machine = m })) (Sends e) n.own.ends h k refl refl
 
-receiver_set : (n : Node) (e : ReceiverEnd) (m : Receiver) (kept : List Message) → IsKeyed n → Mem (Receives e) n.own.ends → keys (with_end (Receives (record e { machine = m; kept = kept })) n.own).ends ≡ keys n.own.ends
-receiver_set n e m kept h k = set_keys (Receives (record e { machine = m; kept = kept })) (Receives e) n.own.ends h k refl refl
+receiver_set : (n : Node) (e : ReceiverEnd) (m : Receiver) (kept : List Message) → IsKeyed n → Mem (Receives e) n.own.ends → tags (with_end (Receives (record e { machine = m; kept = kept })) n.own).ends ≡ tags n.own.ends
+receiver_set n e m kept h k = set_tags (Receives (record e { machine = m; kept = kept })) (Receives e) n.own.ends h k refl refl
 
-sender_turned : (n : Node) (e : SenderEnd) (d : SenderDoes) (out : SenderOut) → IsKeyed n → Mem (Sends e) n.own.ends → keys (senders.sender_end_after e d out n.own).ends ≡ keys n.own.ends
+sender_turned : (n : Node) (e : SenderEnd) (d : SenderDoes) (out : SenderOut) → IsKeyed n → Mem (Sends e) n.own.ends → tags (senders.sender_end_after e d out n.own).ends ≡ tags n.own.ends
 sender_turned n e d out h k = sender_set n e (sender_after e.machine d out) h k
 
-receiver_turned : (n : Node) (e : ReceiverEnd) (d : ReceiverDoes) (seen : Seen) (out : ReceiverOut) (kept : List Message) → IsKeyed n → Mem (Receives e) n.own.ends → keys (receivers.receiver_end_after e d seen out kept n.own).ends ≡ keys n.own.ends
+receiver_turned : (n : Node) (e : ReceiverEnd) (d : ReceiverDoes) (seen : Seen) (out : ReceiverOut) (kept : List Message) → IsKeyed n → Mem (Receives e) n.own.ends → tags (receivers.receiver_end_after e d seen out kept n.own).ends ≡ tags n.own.ends
 receiver_turned n e d seen out kept h k = receiver_set n e (receiver_after e.machine d seen out) kept h k
 
 -- Turns of a sender
 
-prepares : (n : Node) (e : SenderEnd) (step : Step PrepareFault (Unit {0})) → IsKeyed n → Mem (Sends e) n.own.ends → keys (senders.prepare_deed e step n).own.ends ≡ keys n.own.ends
+prepares : (n : Node) (e : SenderEnd) (step : Step PrepareFault (Unit {0})) → IsKeyed n → Mem (Sends e) n.own.ends → tags (senders.prepare_deed e step n).own.ends ≡ tags n.own.ends
 prepares n e (Refuse fault) h k = sender_turned n e sends.Prepare sent_outs.NoRoom h k
 prepares n e (Do reply parts) h k = sender_turned n e sends.Prepare sent_outs.Done h k
 
@@ -97,7 +97,7 @@ times_out n j (Some x) h e = go (awaits x.machine.state)
 
 -- Turns of a receiver
 
-places : (n : Node) (e : ReceiverEnd) (unit : Luw) (seen : Seen) (step : Step Reason (Unit {0})) → IsKeyed n → Mem (Receives e) n.own.ends → keys (receivers.place_deed e unit seen step n).own.ends ≡ keys n.own.ends
+places : (n : Node) (e : ReceiverEnd) (unit : Luw) (seen : Seen) (step : Step Reason (Unit {0})) → IsKeyed n → Mem (Receives e) n.own.ends → tags (receivers.place_deed e unit seen step n).own.ends ≡ tags n.own.ends
 places n e unit seen (Refuse reason) h k = receiver_turned n e (takes.Place unit) seen (taken_outs.Refused (number reason)) [] h k
 places n e unit seen (Do reply parts) h k = receiver_turned n e (takes.Place unit) seen taken_outs.Done [] h k
 
@@ -118,7 +118,7 @@ receiver_turns stamp n j (Some x) seen h e = receiver_by stamp n x seen (receive
 -- Operators
 
 abbrev KeepsDeed : Node → Deed → Type 0
-KeepsDeed n d = keys d.own.ends ≡ keys n.own.ends
+KeepsDeed n d = tags d.own.ends ≡ tags n.own.ends
 
 tested : (n : Node) (ts : List (Test OpRefusal)) (d : Deed) → KeepsDeed n d → KeepsDeed n (operators.tested ts n.own d)
 tested n ts d k = go (refusal ts)
@@ -195,7 +195,7 @@ operates n (ops.Resolve channel settle) h = resolves settle n (sender_named chan
 
 quiet : (n : Node) (o : Option Deed) → EachQuiet n.own o → EachKeeps n o
 quiet n None q = tt
-quiet n (Some d) q = ap keys q.ends
+quiet n (Some d) q = ap tags q.ends
 
 up : (n : Node) (r : Running) (o : Option Deed) → EachKeeps n o → EachKeeps n (where_up r o)
 up n Up o k = k
@@ -210,7 +210,7 @@ times n (actors.Monitor j) h = tt
 times n actors.Operator h = tt
 times n actors.Clock h = tt
 
-pub deeds : (stamp : ℕ) (actor : Actor) (call : Call) (seen : Seen) (n : Node) → IsKeyed n → EachKeeps n (deed_of stamp actor call seen n)
+deeds : (stamp : ℕ) (actor : Actor) (call : Call) (seen : Seen) (n : Node) → IsKeyed n → EachKeeps n (deed_of stamp actor call seen n)
 deeds stamp (actors.Sender j) calls.Turn seen n h = up n n.manager.running (turn_up stamp (actors.Sender j) seen n) (sender_turns stamp n j (sender_end j n.own) seen h refl)
 deeds stamp (actors.Receiver j) calls.Turn seen n h = up n n.manager.running (turn_up stamp (actors.Receiver j) seen n) (receiver_turns stamp n j (receiver_end j n.own) seen h refl)
 deeds stamp (actors.Script j) calls.Turn seen n h = quiet n (deed_of stamp (actors.Script j) calls.Turn seen n) (ordinary_is_quiet stamp (actors.Script j) calls.Turn seen n tt)
@@ -239,73 +239,90 @@ deeds stamp actor (calls.Mqback hc) seen n h = quiet n (deed_of stamp actor (cal
 
 -- Each event
 
-chosen : (n : Node) (d : Deed) (choice : Choice) → KeepsDeed n d → keys (done d choice n).next.own.ends ≡ keys n.own.ends
+chosen : (n : Node) (d : Deed) (choice : Choice) → KeepsDeed n d → tags (done d choice n).next.own.ends ≡ tags n.own.ends
 chosen n d Runs k = k
 chosen n d NoMemory k = refl
 chosen n d (Stopped by_ part left) k = refl
 
-happened : (n : Node) (o : Option Deed) (chance : Chance) → EachKeeps n o → keys (choice_event chance o n).next.own.ends ≡ keys n.own.ends
+happened : (n : Node) (o : Option Deed) (chance : Chance) → EachKeeps n o → tags (choice_event chance o n).next.own.ends ≡ tags n.own.ends
 happened n None (chances.Call choice) k = refl
 happened n (Some d) (chances.Call choice) k = chosen n d choice k
 happened n o (chances.Restart choice) k = refl
 happened n o (chances.Foreign image length left) k = refl
 
-rest_keys : (es : List ChannelEnd) → keys (map end_at_rest es) ≡ keys es
-rest_keys [] = refl
-rest_keys (Sends e ∷ es) = ap (λ (ks : List Key). key_of (Sends e) ∷ ks) (rest_keys es)
-rest_keys (Receives e ∷ es) = ap (λ (ks : List Key). key_of (Receives e) ∷ ks) (rest_keys es)
+rest_tags : (es : List ChannelEnd) → tags (map end_at_rest es) ≡ tags es
+rest_tags [] = refl
+rest_tags (Sends e ∷ es) = ap (λ (ks : List Tag). tag_of (Sends e) ∷ ks) (rest_tags es)
+rest_tags (Receives e ∷ es) = ap (λ (ks : List Tag). tag_of (Receives e) ∷ ks) (rest_tags es)
 
-pub begun_keys : (p : Plain) (es : List ChannelEnd) → keys (map (end_begun p) es) ≡ keys es
-begun_keys p [] = refl
-begun_keys p (Sends e ∷ es) = ap (λ (ks : List Key). key_of (Sends e) ∷ ks) (begun_keys p es)
-begun_keys p (Receives e ∷ es) = ap (λ (ks : List Key). key_of (Receives e) ∷ ks) (begun_keys p es)
+pub begun_tags : (p : Plain) (es : List ChannelEnd) → tags (map (end_begun p) es) ≡ tags es
+begun_tags p [] = refl
+begun_tags p (Sends e ∷ es) = ap (λ (ks : List Tag). tag_of (Sends e) ∷ ks) (begun_tags p es)
+begun_tags p (Receives e ∷ es) = ap (λ (ks : List Tag). tag_of (Receives e) ∷ ks) (begun_tags p es)
 
-crash_keys : (n : Node) (o : Outcome RestartFault Bool) → keys (own_crashed o n.own).ends ≡ keys n.own.ends
-crash_keys n (Answered true) = rest_keys n.own.ends
-crash_keys n (Answered false) = refl
-crash_keys n (Refused fault) = refl
-crash_keys n Wanting = refl
-crash_keys n (Broken by_) = refl
+crash_tags : (n : Node) (o : Outcome RestartFault Bool) → tags (own_crashed o n.own).ends ≡ tags n.own.ends
+crash_tags n (Answered true) = rest_tags n.own.ends
+crash_tags n (Answered false) = refl
+crash_tags n (Refused fault) = refl
+crash_tags n Wanting = refl
+crash_tags n (Broken by_) = refl
 
-restart_keys : (n : Node) (a : After RestartFault Kept) (o : Outcome RestartFault Kept) → keys (restarted_as o a.delta a.next n).next.own.ends ≡ keys n.own.ends
-restart_keys n a (Answered kept) = begun_keys a.next n.own.ends
-restart_keys n a (Refused fault) = refl
-restart_keys n a Wanting = refl
-restart_keys n a (Broken by_) = refl
+restart_tags : (n : Node) (a : After RestartFault Kept) (o : Outcome RestartFault Kept) → tags (restarted_as o a.delta a.next n).next.own.ends ≡ tags n.own.ends
+restart_tags n a (Answered kept) = begun_tags a.next n.own.ends
+restart_tags n a (Refused fault) = refl
+restart_tags n a Wanting = refl
+restart_tags n a (Broken by_) = refl
 
-restarts : (n : Node) (chance : Chance) → keys (restart_event chance n).next.own.ends ≡ keys n.own.ends
+restarts : (n : Node) (chance : Chance) → tags (restart_event chance n).next.own.ends ≡ tags n.own.ends
 restarts n (chances.Call choice) = refl
-restarts n (chances.Restart choice) = restart_keys n (restart choice n.manager) (restart choice n.manager).outcome
-restarts n (chances.Foreign image length left) = begun_keys (resumed image length left n.manager) n.own.ends
+restarts n (chances.Restart choice) = restart_tags n (restart choice n.manager) (restart choice n.manager).outcome
+restarts n (chances.Foreign image length left) = begun_tags (resumed image length left n.manager) n.own.ends
 
 deeds_next : (stamp : ℕ) (actor : Actor) (call : Call) (chance : Chance) (seen : Seen) (n : Node) → IsKeyed n
-    → keys (remembered actor call (choice_event chance (deed_of stamp actor call seen n) n).reply (choice_event chance (deed_of stamp actor call seen n) n).next.own).ends ≡ keys n.own.ends
+    → tags (remembered actor call (choice_event chance (deed_of stamp actor call seen n) n).reply (choice_event chance (deed_of stamp actor call seen n) n).next.own).ends ≡ tags n.own.ends
 deeds_next stamp actor call chance seen n h =
-    ap keys (remembered_ends actor call (choice_event chance (deed_of stamp actor call seen n) n).reply (choice_event chance (deed_of stamp actor call seen n) n).next.own)
+    ap tags (remembered_ends actor call (choice_event chance (deed_of stamp actor call seen n) n).reply (choice_event chance (deed_of stamp actor call seen n) n).next.own)
     ∙ happened n (deed_of stamp actor call seen n) chance (deeds stamp actor call seen n h)
 
+pub tag_events : (stamp : ℕ) (actor : Actor) (call : Call) (chance : Chance) (seen : Seen) (n : Node) → IsKeyed n → tags (event stamp actor call chance seen n).next.own.ends ≡ tags n.own.ends
+tag_events stamp actor (calls.Act acts.Crash) chance seen n h = crash_tags n (stop n.manager).outcome
+tag_events stamp actor (calls.Act acts.Restart) chance seen n h = restarts n chance
+tag_events stamp actor (calls.Act (acts.Cut k)) chance seen n h = refl
+tag_events stamp actor (calls.Act (acts.Clock by_)) chance seen n h = refl
+tag_events stamp actor (calls.Act (acts.Obey c)) chance seen n h = deeds_next stamp actor (calls.Act (acts.Obey c)) chance seen n h
+tag_events stamp actor calls.Turn chance seen n h = deeds_next stamp actor calls.Turn chance seen n h
+tag_events stamp actor calls.Timeout chance seen n h = deeds_next stamp actor calls.Timeout chance seen n h
+tag_events stamp actor calls.Trigger chance seen n h = deeds_next stamp actor calls.Trigger chance seen n h
+tag_events stamp actor (calls.Mqconn qmgr appl) chance seen n h = deeds_next stamp actor (calls.Mqconn qmgr appl) chance seen n h
+tag_events stamp actor (calls.Mqdisc hc) chance seen n h = deeds_next stamp actor (calls.Mqdisc hc) chance seen n h
+tag_events stamp actor (calls.Mqopen hc name qmgr how) chance seen n h = deeds_next stamp actor (calls.Mqopen hc name qmgr how) chance seen n h
+tag_events stamp actor (calls.Mqclose hc ho) chance seen n h = deeds_next stamp actor (calls.Mqclose hc ho) chance seen n h
+tag_events stamp actor (calls.Mqput hc ho md body sync) chance seen n h = deeds_next stamp actor (calls.Mqput hc ho md body sync) chance seen n h
+tag_events stamp actor (calls.Mqput1 hc name qmgr md body sync) chance seen n h = deeds_next stamp actor (calls.Mqput1 hc name qmgr md body sync) chance seen n h
+tag_events stamp actor (calls.Mqget hc ho get until) chance seen n h = deeds_next stamp actor (calls.Mqget hc ho get until) chance seen n h
+tag_events stamp actor (calls.Mqcmit hc) chance seen n h = deeds_next stamp actor (calls.Mqcmit hc) chance seen n h
+tag_events stamp actor (calls.Mqback hc) chance seen n h = deeds_next stamp actor (calls.Mqback hc) chance seen n h
+
+-- and with the tags the keys
+tag_keys : (es : List ChannelEnd) → keys es ≡ map (λ (t : Tag). t.key) (tags es)
+tag_keys [] = refl
+tag_keys (e ∷ es) = ap (λ (ks : List Key). key_of e ∷ ks) (tag_keys es)
+
+keys_by : (as bs : List ChannelEnd) → tags as ≡ tags bs → keys as ≡ keys bs
+keys_by as bs e = tag_keys as ∙ ap (λ (ts : List Tag). map (λ (t : Tag). t.key) ts) e ∙ sym (tag_keys bs)
+
+pub begun_keys : (p : Plain) (es : List ChannelEnd) → keys (map (end_begun p) es) ≡ keys es
+begun_keys p es = keys_by (map (end_begun p) es) es (begun_tags p es)
+
 pub events : (stamp : ℕ) (actor : Actor) (call : Call) (chance : Chance) (seen : Seen) (n : Node) → IsKeyed n → keys (event stamp actor call chance seen n).next.own.ends ≡ keys n.own.ends
-events stamp actor (calls.Act acts.Crash) chance seen n h = crash_keys n (stop n.manager).outcome
-events stamp actor (calls.Act acts.Restart) chance seen n h = restarts n chance
-events stamp actor (calls.Act (acts.Cut k)) chance seen n h = refl
-events stamp actor (calls.Act (acts.Clock by_)) chance seen n h = refl
-events stamp actor (calls.Act (acts.Obey c)) chance seen n h = deeds_next stamp actor (calls.Act (acts.Obey c)) chance seen n h
-events stamp actor calls.Turn chance seen n h = deeds_next stamp actor calls.Turn chance seen n h
-events stamp actor calls.Timeout chance seen n h = deeds_next stamp actor calls.Timeout chance seen n h
-events stamp actor calls.Trigger chance seen n h = deeds_next stamp actor calls.Trigger chance seen n h
-events stamp actor (calls.Mqconn qmgr appl) chance seen n h = deeds_next stamp actor (calls.Mqconn qmgr appl) chance seen n h
-events stamp actor (calls.Mqdisc hc) chance seen n h = deeds_next stamp actor (calls.Mqdisc hc) chance seen n h
-events stamp actor (calls.Mqopen hc name qmgr how) chance seen n h = deeds_next stamp actor (calls.Mqopen hc name qmgr how) chance seen n h
-events stamp actor (calls.Mqclose hc ho) chance seen n h = deeds_next stamp actor (calls.Mqclose hc ho) chance seen n h
-events stamp actor (calls.Mqput hc ho md body sync) chance seen n h = deeds_next stamp actor (calls.Mqput hc ho md body sync) chance seen n h
-events stamp actor (calls.Mqput1 hc name qmgr md body sync) chance seen n h = deeds_next stamp actor (calls.Mqput1 hc name qmgr md body sync) chance seen n h
-events stamp actor (calls.Mqget hc ho get until) chance seen n h = deeds_next stamp actor (calls.Mqget hc ho get until) chance seen n h
-events stamp actor (calls.Mqcmit hc) chance seen n h = deeds_next stamp actor (calls.Mqcmit hc) chance seen n h
-events stamp actor (calls.Mqback hc) chance seen n h = deeds_next stamp actor (calls.Mqback hc) chance seen n h
+events stamp actor call chance seen n h = keys_by (event stamp actor call chance seen n).next.own.ends n.own.ends (tag_events stamp actor call chance seen n h)
 
 -- and all that come
+pub tag_histories : (n : Node) (es : List Entry) → IsKeyed n → tags (after n es).own.ends ≡ tags n.own.ends
+tag_histories n [] h = refl
+tag_histories n (e ∷ es) h =
+    let one : tags (done_by e n).next.own.ends ≡ tags n.own.ends = tag_events e.stamp e.actor e.call e.chance e.effect.popped n h in
+    tag_histories (done_by e n).next es (subst (λ (ks : List Key). AreKeyed ks) (sym (keys_by (done_by e n).next.own.ends n.own.ends one)) h) ∙ one
+
 pub histories : (n : Node) (es : List Entry) → IsKeyed n → keys (after n es).own.ends ≡ keys n.own.ends
-histories n [] h = refl
-histories n (e ∷ es) h =
-    let one : keys (done_by e n).next.own.ends ≡ keys n.own.ends = events e.stamp e.actor e.call e.chance e.effect.popped n h in
-    histories (done_by e n).next es (subst (λ (ks : List Key). AreKeyed ks) (sym one) h) ∙ one
+histories n es h = keys_by (after n es).own.ends n.own.ends (tag_histories n es h)

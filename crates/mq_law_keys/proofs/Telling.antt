@@ -11,7 +11,7 @@ use Rattle.mq_law_manager.proofs.Named.{name_is, name_self}
 use Rattle.mq_law_node.specs.Ends.{Where}
 use Rattle.mq_law_node.specs.Beside.{KeyedNear}
 use Rattle.mq_law_node.proofs.Named.{nat_yes, nat_self}
-use Rattle.mq_law_keys.specs.Keys.{Key, key_of, keys, AreKeyed, IsKeyed, KeyedFar}
+use Rattle.mq_law_keys.specs.Keys.{AreKeyed, IsKeyed, Key, key_of, KeyedFar, keys, sends_of, Tag, tag_of, tags}
 
 pub true_false : true ≡ false → ⊥
 true_false e = cc
@@ -70,15 +70,15 @@ one_channel (x ∷ es) a b h (inl i) (inr n) e = absurd (true_false (sym (name_s
 one_channel (x ∷ es) a b h (inr m) (inl j) e = absurd (true_false (sym (name_self (channel_at a)) ∙ ap (λ k. bytes_eq k (channel_at a)) (e ∙ ap channel_at j) ∙ (h.0 (key_of a) (mem_keys a es m)).1))
 one_channel (x ∷ es) a b h (inr m) (inr n) e = one_channel es a b h.1 m n e
 
--- an end takes the place of the one that has its key
-pub set_keys : (new old : ChannelEnd) (es : List ChannelEnd) → AreKeyed (keys es) → Mem old es → cable_of new ≡ cable_of old → channel_at new ≡ channel_at old → keys (set_end new es) ≡ keys es
-set_keys new old [] h n c d = refl
-set_keys new old (x ∷ es) h (inl e) c d =
-    ap (λ t. keys (if t then new ∷ es else x ∷ set_end new es)) (ap (λ k. cable_of x == k) (c ∙ ap cable_of e) ∙ nat_self (cable_of x))
-    ∙ (λ i. record { cable = (c ∙ ap cable_of e) i; channel = (d ∙ ap channel_at e) i } ∷ keys es)
-set_keys new old (x ∷ es) h (inr n) c d =
-    ap (λ t. keys (if t then new ∷ es else x ∷ set_end new es)) (ap (λ k. cable_of x == k) c ∙ (h.0 (key_of old) (mem_keys old es n)).0)
-    ∙ ap (λ (ks : List Key). key_of x ∷ ks) (set_keys new old es h.1 n c d)
+-- an end takes the place of the one that has its tag
+pub set_tags : (new old : ChannelEnd) (es : List ChannelEnd) → AreKeyed (keys es) → Mem old es → key_of new ≡ key_of old → sends_of new ≡ sends_of old → tags (set_end new es) ≡ tags es
+set_tags new old [] h n c d = refl
+set_tags new old (x ∷ es) h (inl e) c d =
+    ap (λ t. tags (if t then new ∷ es else x ∷ set_end new es)) (ap (λ k. cable_of x == k) (ap (λ (k : Key). k.cable) c ∙ ap cable_of e) ∙ nat_self (cable_of x))
+    ∙ (λ i. record { key = (c ∙ ap key_of e) i; sends = (d ∙ ap sends_of e) i } ∷ tags es)
+set_tags new old (x ∷ es) h (inr n) c d =
+    ap (λ t. tags (if t then new ∷ es else x ∷ set_end new es)) (ap (λ k. cable_of x == k) (ap (λ (k : Key). k.cable) c) ∙ (h.0 (key_of old) (mem_keys old es n)).0)
+    ∙ ap (λ (ts : List Tag). tag_of x ∷ ts) (set_tags new old es h.1 n c d)
 
 -- What is asked of the ends of a node for one of its senders' ends
 

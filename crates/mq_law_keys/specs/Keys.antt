@@ -1,9 +1,9 @@
 -- What ends of channels are told apart by: the cable, and the channel's name.
-use Rattle.std.specs.Prelude.{ℕ, ◌≡◌, ◌==◌, true, false, List, map, Option, Some, None}
+use Rattle.std.specs.Prelude.{ℕ, ◌≡◌, ◌==◌, Bool, true, false, List, map, Option, Some, None}
 use Rattle.std.specs.Str.{bytes_eq}
 use Rattle.mq_base.specs.Members.{Chain}
 use Rattle.mq_spec_node.specs.Node.{ChannelEnd, Node, ReceiverEnd, SenderEnd, cable_of, end_in, receiver_end, receiver_named, sender_end, sender_named}
-use Rattle.mq_spec_node.specs.Node.ChannelEnd.{Receives}
+use Rattle.mq_spec_node.specs.Node.ChannelEnd.{Receives, Sends}
 use Rattle.mq_spec_node.specs.Status.{channel_at}
 use Rattle.mq_spec_node.specs.Deeds.{Deed}
 use Rattle.mq_law_channel.specs.Channel.{Channel, Past}
@@ -27,10 +27,25 @@ AreKeyed ks = Chain (λ (a b : Key). ((a.cable == b.cable) ≡ false) × (bytes_
 abbrev pub IsKeyed : Node → Type 0
 IsKeyed n = AreKeyed (keys n.own.ends)
 
--- a deed leaves the keys
+-- An end's key, and whether it sends.
+pub record Tag : Type 0 where
+  pub key : Key
+  pub sends : Bool
+
+abbrev pub sends_of : ChannelEnd → Bool
+sends_of (Sends e) = true
+sends_of (Receives e) = false
+
+abbrev pub tag_of : ChannelEnd → Tag
+tag_of e = record { key = key_of e; sends = sends_of e }
+
+abbrev pub tags : List ChannelEnd → List Tag
+tags es = map tag_of es
+
+-- a deed leaves the tags
 abbrev pub EachKeeps : Node → Option Deed → Type 0
 EachKeeps n None = Unit {0}
-EachKeeps n (Some d) = keys d.own.ends ≡ keys n.own.ends
+EachKeeps n (Some d) = tags d.own.ends ≡ tags n.own.ends
 
 -- What is asked of the ends of a node for one of its receivers' ends: they are found by cable and by name, and no other is.
 pub record KeyedFar (w : Where) (n : Node) : Type 0 where
