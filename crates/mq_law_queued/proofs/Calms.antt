@@ -9,7 +9,9 @@ use Rattle.mq_message.specs.declared.message.Message.{Message}
 use Rattle.mq_objects.specs.Names.{local_of}
 use Rattle.mq_sync.specs.declared.data.End.TheVariants as ends
 use Rattle.mq_sync.specs.declared.unit.Unit.{Unit as Luw}
+use Rattle.mq_queue.specs.declared.row.Row.{Row}
 use Rattle.mq_calls.specs.declared.agents.Note.{Note}
+use Rattle.mq_calls.specs.declared.deltas.Why.{Why}
 use Rattle.mq_calls.specs.declared.agents.Note.TheVariants as notes
 use Rattle.mq_calls.specs.declared.records.LogRecord.{LogRecord}
 use Rattle.mq_calls.specs.declared.state.Batch.{Batch}
@@ -22,6 +24,7 @@ use Rattle.mq_calls.specs.Condition.{condition}
 use Rattle.mq_calls.specs.Sizes.{need}
 use Rattle.mq_calls.specs.Steps.{Part, Step, Test, do_all, do_part, logged, refusal, refused_or, tested, when}
 use Rattle.mq_calls.specs.Steps.Step.{Do, Refuse}
+use Rattle.mq_spec_manager.specs.Get.{removal_parts}
 use Rattle.mq_spec_manager.specs.Landing.{Landing, land}
 use Rattle.mq_spec_manager.specs.Agents.{Absent, InDoubtAt, Landed, Present, Standing, before, drop_changes, harden_part, is_present, land_changes, landed, landed_by, landed_unless, receive_landed, received_record, standing_at, undoubted}
 use Rattle.mq_spec_node.specs.Deeds.{parts_of}
@@ -43,9 +46,9 @@ pub calm_behind : (xs ys : List Change) → all_calm xs ≡ true → all_calm ys
 calm_behind [] ys a b = b
 calm_behind (x ∷ xs) ys a b = let z = both_true (is_calm x) (all_calm xs) a in ap (λ (t : Bool). t && all_calm (xs ++ ys)) z.0 ∙ calm_behind xs ys z.1 b
 
-pub calm_parts_behind : (xs ys : List Part) → parts_calm xs ≡ true → parts_calm ys ≡ true → parts_calm (xs ++ ys) ≡ true
-calm_parts_behind [] ys a b = b
-calm_parts_behind (x ∷ xs) ys a b = let z = both_true (all_calm x.changes) (parts_calm xs) a in ap (λ (t : Bool). t && parts_calm (xs ++ ys)) z.0 ∙ calm_parts_behind xs ys z.1 b
+pub removal_calm : (why : Why) (queue : List ℕ) (rows : List Row) → parts_calm (removal_parts why queue rows) ≡ true
+removal_calm why queue [] = refl
+removal_calm why queue (row ∷ rows) = refl
 
 pub for_behind : (c : List ℕ) (xs ys : List Part) → parts_calm_for c xs ≡ true → parts_calm_for c ys ≡ true → parts_calm_for c (xs ++ ys) ≡ true
 for_behind c [] ys a b = b

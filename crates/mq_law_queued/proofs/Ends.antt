@@ -83,8 +83,7 @@ use Rattle.mq_law_channel.proofs.Told.{by_lines}
 use Rattle.mq_law_seized.proofs.Changing.{both_true}
 use Rattle.mq_law_unshared.proofs.Opening.{idles}
 use Rattle.mq_law_queued.specs.Queued.{AreQueued, HaveSome, IsKindSome, IsQueued, parts_bare, parts_calm, parts_calm_for}
-use Rattle.mq_law_queued.proofs.CalmCalls.{removal_calm}
-use Rattle.mq_law_queued.proofs.Calms.{Same, bare_behind, bare_parts, batch_at, batch_gone, for_behind, for_parts, harden_calm, landed_calm, parts_none, parts_same, receive_calm, step_parts}
+use Rattle.mq_law_queued.proofs.Calms.{Same, bare_behind, bare_parts, batch_at, batch_gone, for_behind, for_parts, harden_calm, landed_calm, parts_none, parts_same, receive_calm, removal_calm, step_parts}
 
 -- behind a deed
 abbrev pub EachQueued : Node → Option Deed → Type 0

@@ -2,7 +2,6 @@ pub mod Ends
 pub mod Ordinary
 pub mod Deeds
 pub mod Stills
-pub mod StillCalls
 pub mod StillDeeds
 pub mod Opening
 pub mod Events

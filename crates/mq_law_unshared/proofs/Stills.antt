@@ -27,14 +27,6 @@ not_true true e = absurd cc
 not_true false e = refl
 
 -- LISTS
-pub still_behind : (xs ys : List Change) → all_still xs ≡ true → all_still ys ≡ true → all_still (xs ++ ys) ≡ true
-still_behind [] ys a b = b
-still_behind (x ∷ xs) ys a b = let z = both_true (is_still x) (all_still xs) a in ap (λ (t : Bool). t && all_still (xs ++ ys)) z.0 ∙ still_behind xs ys z.1 b
-
-pub still_parts_behind : (xs ys : List Part) → parts_still xs ≡ true → parts_still ys ≡ true → parts_still (xs ++ ys) ≡ true
-still_parts_behind [] ys a b = b
-still_parts_behind (x ∷ xs) ys a b = let z = both_true (all_still x.changes) (parts_still xs) a in ap (λ (t : Bool). t && parts_still (xs ++ ys)) z.0 ∙ still_parts_behind xs ys z.1 b
-
 pub for_behind : (c : List ℕ) (xs ys : List Part) → parts_still_for c xs ≡ true → parts_still_for c ys ≡ true → parts_still_for c (xs ++ ys) ≡ true
 for_behind c [] ys a b = b
 for_behind c (x ∷ xs) ys a b = let z = both_true (all_still_for c x.changes) (parts_still_for c xs) a in ap (λ (t : Bool). t && parts_still_for c (xs ++ ys)) z.0 ∙ for_behind c xs ys z.1 b
