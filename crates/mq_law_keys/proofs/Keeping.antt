@@ -308,8 +308,8 @@ tag_keys : (es : List ChannelEnd) → keys es ≡ map (λ (t : Tag). t.key) (tag
 tag_keys [] = refl
 tag_keys (e ∷ es) = ap (λ (ks : List Key). key_of e ∷ ks) (tag_keys es)
 
-keys_by : (as bs : List ChannelEnd) → tags as ≡ tags bs → keys as ≡ keys bs
-keys_by as bs e = tag_keys as ∙ ap (λ (ts : List Tag). map (λ (t : Tag). t.key) ts) e ∙ sym (tag_keys bs)
+keys_by : (new old : List ChannelEnd) → tags new ≡ tags old → keys new ≡ keys old
+keys_by new old e = tag_keys new ∙ ap (λ (ts : List Tag). map (λ (t : Tag). t.key) ts) e ∙ sym (tag_keys old)
 
 pub begun_keys : (p : Plain) (es : List ChannelEnd) → keys (map (end_begun p) es) ≡ keys es
 begun_keys p es = keys_by (map (end_begun p) es) es (begun_tags p es)
