@@ -32,8 +32,9 @@ fn place_of(ends: &Items<ChannelEnd>, cable: u16) -> Option<usize>
     place_in(ends.as_slice(), cable)
 }
 
+/// The end of a cable; none where there is none. It takes no memory.
 #[tactic(auto, using(crate::proofs::EndLaws::at_none, crate::proofs::EndLaws::at_get))]
-fn end_in(ends: &Items<ChannelEnd>, cable: u16) -> Option<&ChannelEnd>
+pub fn end_in(ends: &Items<ChannelEnd>, cable: u16) -> Option<&ChannelEnd>
     ensures { option_copied result ≡ end_in cable ends.now }
 {
     match place_of(ends, cable) {

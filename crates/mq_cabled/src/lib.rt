@@ -3,4 +3,4 @@
 
 mod ends;
 
-pub use ends::{lift_receiver, sender_of, set_end};
+pub use ends::{end_in, lift_receiver, sender_of, set_end};

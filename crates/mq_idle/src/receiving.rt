@@ -1,47 +1,14 @@
 //! What a receiver's end owes, and whether it is idle.
-ghost use Rattle.std.specs.Prelude.{◌≡◌, ◌==◌, Some, position, option_copied};
+ghost use Rattle.std.specs.Prelude.{◌≡◌, Some};
 ghost use Rattle.mq_events.specs.States.{node_in};
 ghost use Rattle.mq_idle.specs.Idle.{owing_settles, receiver_looks_idle, receiver_settles};
-ghost use Rattle.mq_spec_node.specs.Node as nodes;
-ghost use Rattle.mq_spec_node.specs.Node.{as_receiver, cable_of, end_in, receiver_end};
+ghost use Rattle.mq_spec_node.specs.Node.{as_receiver, receiver_end};
 
-use mq_base::Items;
+use mq_cabled::end_in;
 use mq_disk::Disk;
 use mq_events::Node;
 use mq_own::{ChannelEnd, EndKind, Own};
 use mq_receiver::Owed;
-
-fn cable_of(end: &ChannelEnd) -> u16
-    ensures { result ≡ cable_of end.now }
-{
-    match &end.kind {
-        EndKind::Sends(end) => end.cable,
-        EndKind::Receives(end) => end.cable,
-    }
-}
-
-fn place_in(ends: &[ChannelEnd], cable: u16) -> Option<usize>
-    ensures { result ≡ position (λ (e : nodes.ChannelEnd). cable_of e == cable) ends.now }
-{
-    ends.iter().position(|end| cable_of(end) == cable)
-}
-
-fn place_of(ends: &Items<ChannelEnd>, cable: u16) -> Option<usize>
-    ensures { result ≡ position (λ (e : nodes.ChannelEnd). cable_of e == cable) ends.now }
-{
-    place_in(ends.as_slice(), cable)
-}
-
-/// The end of a cable.
-#[tactic(auto, using(mq_cabled::proofs::EndLaws::at_none, mq_cabled::proofs::EndLaws::at_get))]
-fn end_in(ends: &Items<ChannelEnd>, cable: u16) -> Option<&ChannelEnd>
-    ensures { option_copied result ≡ end_in cable ends.now }
-{
-    match place_of(ends, cable) {
-        None => None,
-        Some(at) => ends.get(at),
-    }
-}
 
 /// Where a frame is owed the end is blocked; else nothing is there to read.
 fn owing_settles(owes: &Option<Owed>, near: bool, empty: bool, refused: bool) -> bool
