@@ -1,14 +1,12 @@
 -- What is asked of the ends and of what lies on the cable says whether it is idle.
-use Rattle.std.proofs.Common.{◌≡◌, ℕ, zero, suc, ◌+◌, Bool, true, false, List, [], ◌∷◌, ◌++◌, length, refl, sym, ap, ◌∙◌, arith}
-use Rattle.std.specs.Prelude.{◌&&◌, ◌||◌, ◌==◌, not, nat_le, if◌then◌else◌, Option, Some, None, is_some}
+use Rattle.std.proofs.Common.{◌≡◌, ℕ, suc, ◌+◌, Bool, true, false, List, [], ◌∷◌, ◌++◌, length, refl, sym, ap, ◌∙◌, arith}
+use Rattle.std.specs.Prelude.{◌&&◌, ◌||◌, ◌==◌, not, nat_le, Option, Some, None, is_some}
 use Rattle.std.proofs.lemmas.Bool.Decides.{nat_tests}
 use Rattle.mq_cable.specs.declared.fault.Fault.{Fault}
 use Rattle.mq_cable.specs.declared.fault.Fault.TheVariants as faults
 use Rattle.mq_cable.specs.declared.item.Item.{Item}
-use Rattle.mq_cable.specs.Faults.{Offer, comes_after, due_after, due_from, due_if, fault_of, made_after, now_of, offered_of, pushed_by}
+use Rattle.mq_cable.specs.Faults.{fault_of, now_of, offered_of}
 use Rattle.mq_frame.specs.declared.frame.Frame.{Frame}
-use Rattle.mq_frame.specs.declared.frame.Seen.{Seen}
-use Rattle.mq_frame.specs.Sight.{waits}
 use Rattle.mq_history.specs.declared.calls.Actor.TheVariants as actors
 use Rattle.mq_history.specs.declared.calls.Call.TheVariants as calls
 use Rattle.mq_history.specs.declared.calls.Entry.{Entry}
@@ -22,7 +20,7 @@ use Rattle.mq_spec_node.specs.Words.{Deed, Node, ReceiverEnd, SenderEnd, by, is_
 use Rattle.mq_spec_node.specs.Calls.{receiver_turn, sender_turn, turn_up, where_up}
 use Rattle.mq_spec_node.specs.Receivers.{receiver_deed}
 use Rattle.mq_spec_node.specs.Senders.{sender_deed}
-use Rattle.mq_spec_network.specs.Cables.{Lying, lying, offered_by, offered_if, pops_of, spoiled, whole}
+use Rattle.mq_spec_network.specs.Cables.{Lying, lying, offered_by, offered_if, spoiled, whole}
 use Rattle.mq_spec_network.specs.Steps.{pushed_of}
 use Rattle.mq_spec_network.specs.Turns.{Direction, Network, back_of, back_way, cable_idle, deed_at, is_empty, is_refused, is_up_at, node_at, out_of, out_way, owes_nothing, push_refused, receiver_idle, rests, sender_idle, sender_rests, waiting}
 use Rattle.mq_ways.specs.Ways.{AreSeen, AreShown, CableState, IsWay, WayState}

@@ -1,10 +1,9 @@
 -- What a turn of an end pushes, and where an end has none.
-use Rattle.std.proofs.Common.{◌≡◌, ℕ, zero, suc, ◌+◌, Bool, true, false, List, [], ◌∷◌, length, map, refl, sym, ap, subst, ◌∙◌, arith, inl, inr}
-use Rattle.std.specs.Prelude.{◌⊎◌, ◌&&◌, ◌||◌, ◌==◌, not, nat_lt, min, if◌then◌else◌, Option, Some, None, is_some, find, filter, take}
+use Rattle.std.proofs.Common.{◌≡◌, ℕ, zero, suc, ◌+◌, Bool, true, false, List, [], ◌∷◌, length, map, refl, sym, ap, ◌∙◌, arith, inl, inr}
+use Rattle.std.specs.Prelude.{◌⊎◌, ◌&&◌, ◌==◌, nat_lt, min, if◌then◌else◌, Option, Some, None, is_some, find, filter, take}
 use Rattle.std.specs.Option.{option_map}
 use Rattle.std.specs.Str.{bytes_eq}
 use Rattle.std.proofs.lemmas.Bool.Decides.{nat_tests}
-use Rattle.mq_frame.specs.declared.frame.Frame.{Frame}
 use Rattle.mq_frame.specs.declared.frame.Seen.{Seen}
 use Rattle.mq_frame.specs.declared.frame.Seen.TheVariants as items
 use Rattle.mq_frame.specs.Sight.{waits}
@@ -17,13 +16,10 @@ use Rattle.mq_message.specs.declared.place.Holder.{Holder}
 use Rattle.mq_message.specs.declared.place.Holder.TheVariants as holders
 use Rattle.mq_queue.specs.declared.row.Row.{Row}
 use Rattle.mq_queue.specs.Rows.{has_ident, is_free, retag, same_ident}
-use Rattle.mq_receiver.specs.declared.state.Owed.{Owed}
-use Rattle.mq_receiver.specs.declared.state.Receiver.{Receiver}
 use Rattle.mq_receiver.specs.declared.turns.ReceiverDoes.{ReceiverDoes}
 use Rattle.mq_receiver.specs.declared.turns.ReceiverDoes.TheVariants as takes
 use Rattle.mq_receiver.specs.After.{last_by}
 use Rattle.mq_receiver.specs.Table.{receiver_lines, receiver_next, unit_seen}
-use Rattle.mq_sender.specs.declared.state.Sender.{Sender}
 use Rattle.mq_sender.specs.declared.state.SenderState.{SenderState}
 use Rattle.mq_sender.specs.declared.state.SenderState.TheVariants as states
 use Rattle.mq_sender.specs.declared.turns.SenderDoes.{SenderDoes}
@@ -36,20 +32,20 @@ use Rattle.mq_sync.specs.declared.unit.Unit.{Unit as Luw}
 use Rattle.mq_sync.specs.Units.{unit_named}
 use Rattle.mq_calls.specs.State.{Plain, Queue}
 use Rattle.mq_calls.specs.State.Which.{Among}
-use Rattle.mq_calls.specs.Changes.{held_in, retag_if, selects, set_named}
+use Rattle.mq_calls.specs.Changes.{held_in, retag_if, selects}
 use Rattle.mq_calls.specs.Reads.{batch_of, free_rows, queue_in, stored}
 use Rattle.mq_calls.specs.Steps.{Step, do_all}
 use Rattle.mq_calls.specs.Steps.Step.{Do, Refuse}
 use Rattle.mq_spec_manager.specs.Words.{idents_of}
 use Rattle.mq_spec_manager.specs.Agents.{at_number, batch_idents, batch_queue, batch_row, hold_batch, prepare, queue_of_sender, receive, row_with, stock}
-use Rattle.mq_spec_node.specs.Words.{Deed, Node, ReceiverEnd, SenderEnd, carried, parts_of}
-use Rattle.mq_spec_node.specs.Receivers.{is_receiver_defined, place_deed, receiver_deed, receiver_deed_by}
-use Rattle.mq_spec_node.specs.Senders.{begin_deed, prepare_deed, sender_deed, sender_deed_by}
+use Rattle.mq_spec_node.specs.Words.{Node, ReceiverEnd, SenderEnd, carried, parts_of}
+use Rattle.mq_spec_node.specs.Receivers.{is_receiver_defined, place_deed, receiver_deed_by}
+use Rattle.mq_spec_node.specs.Senders.{prepare_deed, sender_deed_by}
 use Rattle.mq_spec_network.specs.Steps.{pushed_of}
 use Rattle.mq_spec_network.specs.Turns.{rests}
 use Rattle.mq_law_channel.proofs.Told.{by_lines}
 use Rattle.mq_law_manager.proofs.Named.{batch_set, name_self}
-use Rattle.mq_idle.specs.Idle.{begins_unit, pushes, pushes_in}
+use Rattle.mq_idle.specs.Idle.{begins_unit, pushes_in}
 
 -- A BATCH THAT IS BEGUN
 self_ident : (i : Ident) → same_ident i i ≡ true

@@ -45,6 +45,7 @@ use Rattle.mq_law_manager.proofs.Lists.{bool_case, mem_append}
 use Rattle.mq_law_manager.proofs.Removals.{mem_filter}
 use Rattle.mq_law_rows.proofs.Lists.{map_mem, mem_map}
 use Rattle.mq_law_events.specs.Tied.{IsTold, connections_told}
+use Rattle.mq_law_events.proofs.Taking.{gone_users}
 use Rattle.mq_law_events.proofs.Telling.{here_changed}
 use Rattle.mq_law_receipts.specs.Receipts.{AreNumbered}
 use Rattle.mq_law_deeds.specs.Numbers.{AreCounted, AreCountedAt, IsNext, numbers_of}
@@ -139,14 +140,6 @@ placed_users m (Take q i lasting ∷ items) l = placed_users m items l
 when_users : (t : Bool) (f : Ledger → Ledger) (l : Ledger) → (f l).users ≡ l.users → (ledgers.when t f l).users ≡ l.users
 when_users true f l e = e
 when_users false f l e = refl
-
-gone_users : (m : ℕ) (d : Did) (l : Ledger) → (ledgers.take_gone m d l).users ≡ l.users
-gone_users m (did.Removed q i why) l = when_users (ledgers.is_taken why) (ledgers.take m i) l (take_users m i l)
-gone_users m d l = refl
-
-all_gone_users : (m : ℕ) (ds : List Did) (l : Ledger) → (ledgers.take_all_gone m ds l).users ≡ l.users
-all_gone_users m [] l = refl
-all_gone_users m (d ∷ ds) l = all_gone_users m ds (ledgers.take_gone m d l) ∙ gone_users m d l
 
 moved_users : (m : ℕ) (x : Message) (r : Result Route Reason) (l : Ledger) → (ledgers.moved_to m x r l).users ≡ l.users
 moved_users m x (Err reason) l = refl
@@ -311,13 +304,13 @@ post_kept n k m calls.Timeout reply ms ds l e h = raised n k m l e h
 post_kept n k m calls.Trigger reply ms ds l e h = raised n k m _ e (same_users n m l (ledgers.trigger m reply ds l) (trigger_users m reply ds l) h)
 
 pub calls_kept : (n k m : ℕ) (call : Call) (reply : Reply) (ms : List Message) (ds : List Did) (l : Ledger) → IsNext call reply n k → AreCountedAt n m l → AreCountedAt k m (ledgers.post_call m call reply ms ds (ledgers.take_all_gone m ds l))
-calls_kept n k m call reply ms ds l e h = post_kept n k m call reply ms ds (ledgers.take_all_gone m ds l) e (same_users n m l (ledgers.take_all_gone m ds l) (all_gone_users m ds l) h)
+calls_kept n k m call reply ms ds l e h = post_kept n k m call reply ms ds (ledgers.take_all_gone m ds l) e (same_users n m l (ledgers.take_all_gone m ds l) (gone_users m ds l) h)
 
 -- a write that is stopped
 pub cut_kept : (n k m : ℕ) (e : Entry) (l : Ledger) → n ≤ k → AreCountedAt n m l → AreCountedAt k m (ledgers.cut m e l)
 cut_kept n k m e l le h =
     let gone : Ledger = ledgers.take_all_gone m e.effect.delta l in
-    let g = same_users n m l gone (all_gone_users m e.effect.delta l) h in
+    let g = same_users n m l gone (gone_users m e.effect.delta l) h in
     let f : Users → Users = λ u. record u { cut = Some (record { entry = e; moment = u.moment }) } in
     same_users k m (ledgers.with_users m f gone) (ledgers.cut m e l) refl (with_users n m f gone g k (higher n k (numbers_of g.users.connections) le g.counted))
 

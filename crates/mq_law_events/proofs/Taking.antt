@@ -59,6 +59,25 @@ pub taken_users : (t : Bool) (m : ℕ) (i : Ident) (l : Ledger) → (take_if t m
 taken_users true m i l = refl
 taken_users false m i l = refl
 
+-- nor does what goes of a delta touch a connection
+pub gone_users : (m : ℕ) (ds : List Did) (l : Ledger) → (take_all_gone m ds l).users ≡ l.users
+gone_users m [] l = refl
+gone_users m (d ∷ ds) l = gone_users m ds (ledgers.take_gone m d l) ∙ one d
+  where
+    taken : (t : Bool) (i : Ident) → (ledgers.when t (ledgers.take m i) l).users ≡ l.users
+    taken true i = taken_users (is_placed_at i (places_at m l)) m i l
+    taken false i = refl
+
+    one : (d : Did) → (ledgers.take_gone m d l).users ≡ l.users
+    one (did.Removed q i why) = taken (is_taken why) i
+    one (did.Placed q i dead) = refl
+    one (did.Moved q i to target bare) = refl
+    one (did.Held q i by_) = refl
+    one (did.Released q i) = refl
+    one (did.Hardened c note) = refl
+    one (did.Prepared c u) = refl
+    one (did.Received c u) = refl
+
 pub take_told : (t : Bool) (m : ℕ) (i : Ident) (p : Plain) (l : Ledger) → IsTold m p l → IsTold m p (take_if t m i l)
 take_told false m i p l t = t
 take_told true m i p l t =

@@ -27,7 +27,6 @@ use Rattle.mq_calls.specs.declared.commands.ScRefusal.{ScRefusal}
 use Rattle.mq_calls.specs.declared.commands.ScRefusal.TheVariants as refusals
 use Rattle.mq_calls.specs.declared.commands.RestartFault.TheVariants as faults
 use Rattle.mq_calls.specs.declared.deltas.Did.{Did}
-use Rattle.mq_calls.specs.declared.deltas.Did.TheVariants as did
 use Rattle.mq_calls.specs.declared.records.LogRecord.{LogRecord}
 use Rattle.mq_calls.specs.declared.records.LogRecord.TheVariants as records
 use Rattle.mq_history.specs.declared.acts.Acted.TheVariants as acted
@@ -71,7 +70,7 @@ use Rattle.mq_law_events.specs.Posting.{StepFollows, IsTimed}
 use Rattle.mq_law_events.proofs.Telling.{here_changed, else_users, else_then}
 use Rattle.mq_law_events.proofs.Locals.{stays_leads}
 use Rattle.mq_law_events.proofs.Locals.{behind as leads_behind}
-use Rattle.mq_law_events.proofs.Taking.{taken_users}
+use Rattle.mq_law_events.proofs.Taking.{gone_users}
 use Rattle.mq_law_events.specs.Local.{side_of, sheet_of}
 use Rattle.mq_law_events.proofs.Events as events
 use Rattle.mq_law_events.proofs.Halting as halting
@@ -301,25 +300,6 @@ fails_in : {E : ledgers.Stopped → Noted → Plain → Type 0} (m : ℕ) (given
     → Became E m given n l (record n { manager = record n.manager { running = Down noted (starts + 1); log = record n.manager.log { armed = left } } }) l
 fails_in {E} m given n l noted starts left a z = aside_happens m given n l n.own (Down noted (starts + 1)) (record n.manager.log { armed = left }) a (ap is_up z)
     (more_noted E m noted starts (starts + 1) n.manager l (subst (λ r. IsNotedAt E m r n.manager l) z a.noted))
-
--- what a restart posts of its own touches no connection
-gone_users : (m : ℕ) (ds : List Did) (l : Ledger) → (take_all_gone m ds l).users ≡ l.users
-gone_users m [] l = refl
-gone_users m (d ∷ ds) l = gone_users m ds (ledgers.take_gone m d l) ∙ one d
-  where
-    taken : (t : Bool) (i : Ident) → (ledgers.when t (ledgers.take m i) l).users ≡ l.users
-    taken true i = taken_users (ledgers.is_placed_at i (ledgers.places_at m l)) m i l
-    taken false i = refl
-
-    one : (d : Did) → (ledgers.take_gone m d l).users ≡ l.users
-    one (did.Removed q i why) = taken (ledgers.is_taken why) i
-    one (did.Placed q i dead) = refl
-    one (did.Moved q i to target bare) = refl
-    one (did.Held q i by_) = refl
-    one (did.Released q i) = refl
-    one (did.Hardened c note) = refl
-    one (did.Prepared c u) = refl
-    one (did.Received c u) = refl
 
 -- One that finds the stopped write: it does what the note says, and then comes up.
 comes_back : {E : ledgers.Stopped → Noted → Plain → Type 0} (m : ℕ) (given : Ident → Bool) (n : Node) (l : Ledger) (noted : Noted) (starts started : ℕ) → IsAt E m given n l → n.manager.channels.batches ≡ [] → (x : (s : ledgers.Stopped) × ((users_at m l).cut ≡ Some s) × IsNoted m s noted n.manager) → n.manager.running ≡ Down (Some noted) starts

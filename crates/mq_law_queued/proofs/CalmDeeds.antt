@@ -2,19 +2,18 @@
 use Rattle.std.proofs.Common.{ℕ, ◌≡◌, true, List, [], ◌∷◌, refl, ap, ◌∙◌}
 use Rattle.std.specs.Prelude.{Option, Some, None, ◌&&◌}
 use Rattle.mq_frame.specs.declared.frame.Seen.{Seen}
-use Rattle.mq_message.specs.declared.place.Holder.TheVariants as holders
 use Rattle.mq_history.specs.declared.calls.Actor.{Actor}
 use Rattle.mq_history.specs.declared.calls.Call.{Call}
 use Rattle.mq_calls.specs.State.{Change}
-use Rattle.mq_calls.specs.State.Change.{AddBatch, DropBatch, ForgetAll, Hold, Seize, SetReceiver, SetSender, Undoubt, Unseize}
+use Rattle.mq_calls.specs.State.Change.{AddBatch, DropBatch, ForgetAll, Seize, Unseize}
 use Rattle.mq_calls.specs.Steps.{Part}
 use Rattle.mq_spec_node.specs.Node.{Node, Own}
 use Rattle.mq_spec_node.specs.Deeds.{Deed}
 use Rattle.mq_spec_node.specs.Happens.{deed_of}
 use Rattle.mq_law_channel.proofs.Told.{and_both}
-use Rattle.mq_law_node.specs.Quiet.{all_call, EachCall, is_call, IsCallDeed, IsOrdinary, parts_call}
+use Rattle.mq_law_node.specs.Quiet.{all_call, EachCall, is_call, IsOrdinary, parts_call}
 use Rattle.mq_law_node.proofs.Ordinary.{ordinary_is_call}
-use Rattle.mq_law_queued.specs.Queued.{all_calm, EachCalm, is_calm, IsCalmDeed, parts_calm}
+use Rattle.mq_law_queued.specs.Queued.{all_calm, EachCalm, is_calm, parts_calm}
 
 call_calm : (c : Change) → is_call c ≡ true → is_calm c ≡ true
 call_calm (Seize s) e = absurd cc

@@ -24,7 +24,7 @@ use Rattle.mq_spec_node.specs.Node.ChannelEnd.{Receives}
 use Rattle.mq_spec_node.specs.Deeds.{Done}
 use Rattle.mq_spec_node.specs.Replays.{done_by}
 use Rattle.mq_spec_network.specs.Ledger as ledgers
-use Rattle.mq_spec_network.specs.Ledger.{Ledger, Users, ledger, posted}
+use Rattle.mq_spec_network.specs.Ledger.{Ledger, ledger, posted}
 use Rattle.mq_spec_network.specs.Standing.{managers_at, node_after, opening_ledger, opening_managers}
 use Rattle.mq_law_node.specs.Ends.{receiver_of}
 use Rattle.mq_law_node.specs.Nodes.{FarNode, NearNode, SameFar, SameNear, SendsDown, TakesDown}
@@ -59,7 +59,8 @@ use Rattle.mq_spec_network.specs.Ledger.{change_at}
 use Rattle.mq_law_node.specs.Ends.{told_receives, told_sends}
 use Rattle.mq_message.specs.declared.message.Ident.{Ident}
 use Rattle.mq_sync.specs.declared.unit.Unit.{Unit as Luw}
-use Rattle.mq_law_run.proofs.Returning.{alone, clear, gone_users, none_counted}
+use Rattle.mq_law_events.proofs.Taking.{gone_users}
+use Rattle.mq_law_run.proofs.Returning.{alone, clear, none_counted}
 use Rattle.mq_sender.specs.declared.state.Sender.{Sender}
 use Rattle.mq_sender.specs.States as senders
 use Rattle.mq_sync.specs.Units.{Upto, no_unit, same_unit}

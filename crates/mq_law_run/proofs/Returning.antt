@@ -1,5 +1,5 @@
 -- A restart of a manager that finds a call's write, as a move of the network: it does what the note says, and then comes up.
-use Rattle.std.proofs.Common.{ℕ, ◌≡◌, true, false, List, [], ◌∷◌, ◌++◌, refl, ap, sym, subst, ◌∙◌}
+use Rattle.std.proofs.Common.{ℕ, ◌≡◌, true, List, [], ◌∷◌, ◌++◌, refl, ap, sym, subst, ◌∙◌}
 use Rattle.std.specs.Prelude.{Bool, Option, Some, None, ◌==◌, filter, if◌then◌else◌, slice_get}
 use Rattle.mq_frame.specs.declared.frame.Frame.{Frame}
 use Rattle.mq_sync.specs.declared.unit.Unit.{Unit as Luw}
@@ -78,8 +78,7 @@ use Rattle.mq_law_events.proofs.Telling.{else_changed}
 use Rattle.mq_law_found.specs.Finds.{IsNoted}
 use Rattle.mq_law_cables.proofs.Unprepared.{IsOne}
 use Rattle.mq_law_deeds.specs.Numbers.{AreCounted}
-use Rattle.mq_law_events.proofs.Taking.{taken_users}
-use Rattle.mq_message.specs.declared.message.Ident.{Ident}
+use Rattle.mq_law_events.proofs.Taking.{gone_users}
 use Rattle.mq_calls.specs.declared.deltas.Did.TheVariants as did
 use Rattle.mq_law_rows.proofs.Lists.{bool_case}
 use Rattle.mq_law_run.proofs.Cabled.{same_batches}
@@ -113,24 +112,6 @@ filter_quiet f (did.Held q i by_ ∷ ds) a = bool_case (f (did.Held q i by_)) (�
 filter_quiet f (did.Released q i ∷ ds) a = bool_case (f (did.Released q i)) (λ t. IsQuiet (if t then did.Released q i ∷ filter f ds else filter f ds)) (λ e. filter_quiet f ds a) (λ e. filter_quiet f ds a)
 filter_quiet f (did.Hardened c note ∷ ds) a = bool_case (f (did.Hardened c note)) (λ t. IsQuiet (if t then did.Hardened c note ∷ filter f ds else filter f ds)) (λ e. filter_quiet f ds a) (λ e. filter_quiet f ds a)
 filter_quiet f (did.Prepared c u ∷ ds) a = bool_case (f (did.Prepared c u)) (λ t. IsQuiet (if t then did.Prepared c u ∷ filter f ds else filter f ds)) (λ e. filter_quiet f ds a) (λ e. filter_quiet f ds a)
-
-pub gone_users : (m : ℕ) (ds : List Did) (l : Ledger) → (ledgers.take_all_gone m ds l).users ≡ l.users
-gone_users m [] l = refl
-gone_users m (d ∷ ds) l = gone_users m ds (ledgers.take_gone m d l) ∙ one d
-  where
-    taken : (t : Bool) (i : Ident) → (ledgers.when t (ledgers.take m i) l).users ≡ l.users
-    taken true i = taken_users (ledgers.is_placed_at i (ledgers.places_at m l)) m i l
-    taken false i = refl
-
-    one : (d : Did) → (ledgers.take_gone m d l).users ≡ l.users
-    one (did.Removed q i why) = taken (ledgers.is_taken why) i
-    one (did.Placed q i dead) = refl
-    one (did.Moved q i to target bare) = refl
-    one (did.Held q i by_) = refl
-    one (did.Released q i) = refl
-    one (did.Hardened c note) = refl
-    one (did.Prepared c u) = refl
-    one (did.Received c u) = refl
 
 pub one_redone : (p r : Plain) → IsSame p r → IsOne p → IsOne r
 one_redone p r same one c b e = (λ i. in_doubt_of (sender_in c (same.senders i))) ∙ one c b ((λ i. batch_of c (sym same.batches i)) ∙ e)

@@ -21,7 +21,7 @@ use Rattle.mq_law_story.specs.Needs.{IsTied}
 use Rattle.mq_law_turns.specs.Turns.{AreBegun, IsJoint, Scene, Taken, TurnedBy, world_in}
 
 -- what of a network a channel is tied to
-tied_on : (w v : World) (g h : Ghost) (m t : ℕ) (c : List ℕ) (x : Channel) (y : Past) → v.holds m c ≡ w.holds m c → v.doubt m c ≡ w.doubt m c → v.last m c ≡ w.last m c → ((u : Luw) → h.sent m c u ≡ g.sent m c u) → ((u : Luw) → h.operated m c u ≡ g.operated m c u)
+pub tied_on : (w v : World) (g h : Ghost) (m t : ℕ) (c : List ℕ) (x : Channel) (y : Past) → v.holds m c ≡ w.holds m c → v.doubt m c ≡ w.doubt m c → v.last m c ≡ w.last m c → ((u : Luw) → h.sent m c u ≡ g.sent m c u) → ((u : Luw) → h.operated m c u ≡ g.operated m c u)
     → IsTied w g m t c x y → IsTied v h m t c x y
 tied_on w v g h m t c x y holds doubt last sent operated k = record {
   apart = k.apart;
@@ -36,13 +36,13 @@ begun_on : (g h : Ghost) (m : ℕ) (c : List ℕ) (y : Past) → ((u : Luw) → 
 begun_on g h m c y operated k u e = k u (sym (operated u) ∙ e)
 
 -- EVENTS OF NO CHANNEL
-holds_same : (a m : ℕ) (p q : Plain) (ps qs : List Plain) (c : List ℕ) → IsNext a p q ps qs → IsSame p q → holds_of c (slice_get qs m) ≡ holds_of c (slice_get ps m)
+pub holds_same : (a m : ℕ) (p q : Plain) (ps qs : List Plain) (c : List ℕ) → IsNext a p q ps qs → IsSame p q → holds_of c (slice_get qs m) ≡ holds_of c (slice_get ps m)
 holds_same a m p q ps qs c n k = bool_case (m == a) (λ t. (m == a) ≡ t → holds_of c (slice_get qs m) ≡ holds_of c (slice_get ps m))
     (λ z e. let is : m ≡ a = eqb_yes m a e in
     ap (holds_of c) (ap (slice_get qs) is ∙ n.to) ∙ (λ i. held_unit (in_doubt_of (sender_in c (k.senders i))) (batch_of c (k.batches i))) ∙ sym (ap (holds_of c) (ap (slice_get ps) is ∙ n.at)))
     (λ z e. ap (holds_of c) (n.others m e)) refl
 
-doubt_same : (a m : ℕ) (p q : Plain) (ps qs : List Plain) (c : List ℕ) → IsNext a p q ps qs → IsSame p q → doubt_of c (slice_get qs m) ≡ doubt_of c (slice_get ps m)
+pub doubt_same : (a m : ℕ) (p q : Plain) (ps qs : List Plain) (c : List ℕ) → IsNext a p q ps qs → IsSame p q → doubt_of c (slice_get qs m) ≡ doubt_of c (slice_get ps m)
 doubt_same a m p q ps qs c n k = bool_case (m == a) (λ t. (m == a) ≡ t → doubt_of c (slice_get qs m) ≡ doubt_of c (slice_get ps m))
     (λ z e. let is : m ≡ a = eqb_yes m a e in
     ap (doubt_of c) (ap (slice_get qs) is ∙ n.to) ∙ (λ i. is_some (in_doubt_of (sender_in c (k.senders i)))) ∙ sym (ap (doubt_of c) (ap (slice_get ps) is ∙ n.at)))
