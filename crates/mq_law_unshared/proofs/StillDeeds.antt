@@ -10,7 +10,7 @@ use Rattle.mq_calls.specs.Steps.{Part}
 use Rattle.mq_spec_node.specs.Node.{Node, Own}
 use Rattle.mq_spec_node.specs.Deeds.{Deed}
 use Rattle.mq_spec_node.specs.Happens.{deed_of}
-use Rattle.mq_law_channel.proofs.Told.{and_both}
+use Rattle.mq_law_seized.proofs.Changing.{both_true}
 use Rattle.mq_law_node.specs.Quiet.{all_call, EachCall, is_call, IsOrdinary, parts_call}
 use Rattle.mq_law_node.proofs.Ordinary.{ordinary_is_call}
 use Rattle.mq_law_unshared.specs.Ordinary.{EachHas}
@@ -23,12 +23,12 @@ call_still c e = refl
 
 all_call_still : (cs : List Change) → all_call cs ≡ true → all_still cs ≡ true
 all_call_still [] e = refl
-all_call_still (c ∷ cs) e = let b = and_both (is_call c) (all_call cs) e in
+all_call_still (c ∷ cs) e = let b = both_true (is_call c) (all_call cs) e in
     ap (λ t. t && all_still cs) (call_still c b.0) ∙ all_call_still cs b.1
 
 parts_call_still : (parts : List Part) → parts_call parts ≡ true → parts_still parts ≡ true
 parts_call_still [] e = refl
-parts_call_still (part ∷ parts) e = let b = and_both (all_call part.changes) (parts_call parts) e in
+parts_call_still (part ∷ parts) e = let b = both_true (all_call part.changes) (parts_call parts) e in
     ap (λ t. t && parts_still parts) (all_call_still part.changes b.0) ∙ parts_call_still parts b.1
 
 each_still : (own : Own) (o : Option Deed) → EachCall own o → EachHas (λ parts. parts_still parts ≡ true) o
