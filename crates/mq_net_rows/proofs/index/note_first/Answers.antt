@@ -1,8 +1,7 @@
-use Rattle.std.proofs.Common.{ℕ, List, [], ◌∷◌, ◌++◌, Some, cond, refl, sym, ap, ◌∙◌}
+use Rattle.std.proofs.Common.{ℕ, [], ◌∷◌, ◌++◌, Some, cond, refl, sym, ap, ◌∙◌}
 use Rattle.std.specs.Prelude.{is_some}
 use Rattle.std.specs.Str.{bytes_eq}
 use Rattle.indexmap.specs.IndexMap.{get}
-use Rattle.mq_calls.specs.declared.image.Shelf.{Shelf}
 use Rattle.mq_net_rows.specs.Rolls.{shelf_name}
 use Rattle.mq_net_rows.proofs.RollLaws.{known, fresh}
 use Rattle.mq_net_rows.proofs.QueueLaws.{ok_then}
