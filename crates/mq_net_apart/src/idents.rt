@@ -94,7 +94,7 @@ fn row_idents(alloc: Global, histories: &[History]) -> Result<Items<Ident>, NoMe
     ensures { IfOk result (λ idents. idents ≡ flat_map all_of histories.now) }
 {
     let mut idents = Items::new(alloc);
-    put_row_idents(&mut idents, histories)?;
+    put_row_idents(alloc, &mut idents, histories)?;
     Ok(idents)
 }
 
@@ -106,7 +106,7 @@ fn standing_idents(
     ensures { IfOk result (λ idents. idents ≡ opened_standing scenario.now (opening_managers scenario.now histories.now) 0 histories.now) }
 {
     let mut idents = Items::new(alloc);
-    put_standing_idents(&mut idents, scenario, histories)?;
+    put_standing_idents(alloc, &mut idents, scenario, histories)?;
     Ok(idents)
 }
 

@@ -1,31 +1,19 @@
 //! The idents of the rows that logs had at the first starts: of all, and of those that count where they stand.
 ghost use Rattle.std.specs.Prelude.{◌≡◌, ◌+◌, ◌++◌, ◌∷◌, [], OnOk, map, option_copied};
 ghost use Rattle.std.specs.List.{flat_map};
-ghost use Rattle.mq_spec_network.specs.Ledger.{rows_in};
 ghost use Rattle.mq_spec_network.specs.Standing.{cable_from, last_unit, opening_managers, is_doubted};
 ghost use Rattle.mq_net_apart.specs.Opened.{opened_counts, opened_held, opened_standing, ident_of, all_object, standing_object, all_of, standing_of, standing_if, is_cable};
 
 use crate::hardened::sender_in;
-use mq_base::{ChName, Items, NoMemory, QName};
-use mq_calls::Shelf;
+use mq_base::{ChName, Items, NoMemory};
 use mq_history::{CableLine, History, Scenario};
 use mq_message::{Holder, Ident};
 use mq_net_conflict::opened_receiver;
+use mq_net_rows::ShelfIndex;
 use mq_objects::Object;
 use mq_queue::Row;
 use mq_sync::{InDoubt, Unit};
-
-/// The rows of a queue by its name.
-fn rows_in<'a>(shelves: &'a [Shelf], name: &QName) -> &'a [Row]
-    ensures { result.now ≡ rows_in name.now shelves.now }
-{
-    for shelf in shelves {
-        if *name == shelf.name {
-            return shelf.rows.as_slice();
-        }
-    }
-    &[]
-}
+use std::alloc::Global;
 
 /// Whether a cable is the one of a channel on which the manager at a place sends.
 #[tactic(auto, using(crate::proofs::RowLaws::same_next))]
@@ -158,20 +146,18 @@ fn put_standing(
     Ok(())
 }
 
+/// The idents of a local queue's rows; the index is of the history's queues.
 fn put_all_object(
     out: &mut Items<Ident>,
+    index: &ShelfIndex,
     history: &History,
     object: &Object,
 ) -> Result<(), NoMemory>
+    requires { index.now ≡ history.now.opening.shelves }
     ensures { OnOk result (out.new ≡ out.old ++ all_object history.now object.now) }
 {
     match object {
-        Object::Local(queue) => {
-            put_all(
-                out,
-                rows_in(history.opening.shelves.as_slice(), &queue.name),
-            )
-        }
+        Object::Local(queue) => put_all(out, index.rows_in(&queue.name)),
         _ => Ok(()),
     }
 }
@@ -181,14 +167,16 @@ fn put_standing_object(
     scenario: &Scenario,
     histories: &[History],
     at: usize,
+    index: &ShelfIndex,
     history: &History,
     object: &Object,
 ) -> Result<(), NoMemory>
+    requires { index.now ≡ history.now.opening.shelves }
     ensures { OnOk result (out.new ≡ out.old ++ standing_object scenario.now (opening_managers scenario.now histories.now) (at + 1) history.now object.now) }
 {
     match object {
         Object::Local(queue) => {
-            let rows = rows_in(history.opening.shelves.as_slice(), &queue.name);
+            let rows = index.rows_in(&queue.name);
             put_standing(out, scenario, histories, at, history, rows)
         }
         _ => Ok(()),
@@ -197,13 +185,15 @@ fn put_standing_object(
 
 fn put_all_objects(
     out: &mut Items<Ident>,
+    index: &ShelfIndex,
     history: &History,
     objects: &[Object],
 ) -> Result<(), NoMemory>
+    requires { index.now ≡ history.now.opening.shelves }
     ensures { OnOk result (out.new ≡ out.old ++ flat_map (all_object history.now) objects.now) }
 {
     'objects: for object in objects {
-        put_all_object(out, history, object)?;
+        put_all_object(out, index, history, object)?;
     }
     Ok(())
 }
@@ -213,28 +203,43 @@ fn put_standing_objects(
     scenario: &Scenario,
     histories: &[History],
     at: usize,
+    index: &ShelfIndex,
     history: &History,
     objects: &[Object],
 ) -> Result<(), NoMemory>
+    requires { index.now ≡ history.now.opening.shelves }
     ensures { OnOk result (out.new ≡ out.old ++ flat_map (standing_object scenario.now (opening_managers scenario.now histories.now) (at + 1) history.now) objects.now) }
 {
     'objects: for object in objects {
-        put_standing_object(out, scenario, histories, at, history, object)?;
+        put_standing_object(out, scenario, histories, at, index, history, object)?;
     }
     Ok(())
 }
 
+fn put_all_history(alloc: Global, out: &mut Items<Ident>, history: &History) -> Result<(), NoMemory>
+    ensures { OnOk result (out.new ≡ out.old ++ all_of history.now) }
+{
+    let index = ShelfIndex::new(alloc, history.opening.shelves.as_slice())?;
+    let objects = history.opening.definitions.objects.as_slice();
+    put_all_objects(out, &index, history, objects)
+}
+
 /// The idents of all rows, manager by manager, queue by queue in order of definition.
-pub fn put_row_idents(out: &mut Items<Ident>, histories: &[History]) -> Result<(), NoMemory>
+pub fn put_row_idents(
+    alloc: Global,
+    out: &mut Items<Ident>,
+    histories: &[History],
+) -> Result<(), NoMemory>
     ensures { OnOk result (out.new ≡ out.old ++ flat_map all_of histories.now) }
 {
     'managers: for history in histories {
-        put_all_objects(out, history, history.opening.definitions.objects.as_slice())?;
+        put_all_history(alloc, out, history)?;
     }
     Ok(())
 }
 
 fn put_standing_history(
+    alloc: Global,
     out: &mut Items<Ident>,
     scenario: &Scenario,
     histories: &[History],
@@ -243,12 +248,14 @@ fn put_standing_history(
 ) -> Result<(), NoMemory>
     ensures { OnOk result (out.new ≡ out.old ++ standing_of scenario.now (opening_managers scenario.now histories.now) at history.now) }
 {
+    let index = ShelfIndex::new(alloc, history.opening.shelves.as_slice())?;
     let objects = history.opening.definitions.objects.as_slice();
-    put_standing_objects(out, scenario, histories, at, history, objects)
+    put_standing_objects(out, scenario, histories, at, &index, history, objects)
 }
 
 /// The idents of the rows that count where they stand.
 pub fn put_standing_idents(
+    alloc: Global,
     out: &mut Items<Ident>,
     scenario: &Scenario,
     histories: &[History],
@@ -256,7 +263,7 @@ pub fn put_standing_idents(
     ensures { OnOk result (out.new ≡ out.old ++ opened_standing scenario.now (opening_managers scenario.now histories.now) 0 histories.now) }
 {
     'managers: for (at, history) in histories.iter().enumerate() {
-        put_standing_history(out, scenario, histories, at, history)?;
+        put_standing_history(alloc, out, scenario, histories, at, history)?;
     }
     Ok(())
 }

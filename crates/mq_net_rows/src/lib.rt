@@ -3,7 +3,9 @@
 
 mod copies;
 mod homes;
+mod index;
 mod lanes;
+mod places;
 mod roll;
 mod shelves;
 mod slots;
@@ -11,4 +13,5 @@ mod store;
 
 pub use copies::copy_message;
 pub use homes::{IdentKey, home_of, note_home};
+pub use index::ShelfIndex;
 pub use shelves::Shelves;

@@ -1,11 +1,11 @@
 //! The queues of one manager in order, found by their names.
-ghost use Rattle.std.specs.Prelude.{◌≡◌, ◌<◌, ◌++◌, ◌∷◌, [], ℕ, List, Some, if◌then◌else◌, length, position, OnOk, OnErr};
+ghost use Rattle.std.specs.Prelude.{◌≡◌, ◌<◌, ◌++◌, ◌∷◌, [], length, position, OnOk, OnErr};
 ghost use Rattle.std.specs.Str.{bytes_eq};
-ghost use Rattle.indexmap.specs.IndexMap.{get as found_in};
 ghost use Rattle.mq_spec_network.specs.Ledger.{change_at};
 ghost use Rattle.mq_net_rows.specs.Stored.{seat_on};
 
 use crate::lanes::{Named, put_slot};
+use crate::places::{found, note_name};
 use indexmap::IndexMap;
 use mq_base::{Items, NoMemory, QName};
 use std::alloc::Global;
@@ -24,31 +24,13 @@ impl Model for Roll {
     ghost use Rattle.std.specs.Str.{bytes_eq};
     ghost use Rattle.indexmap.specs.IndexMap.{get};
     ghost use Rattle.mq_net_rows.specs.declared.lanes.Named.{Named};
-    ghost use Rattle.mq_net_rows.specs.Rolls.{AreFound};
+    ghost use Rattle.mq_net_rows.specs.Rolls.{AreFound, queue_name};
 
     ghost Value = { List Named };
 
     ghost view = { λ r. r.queues };
 
-    ghost invariant = { λ r. AreFound (get bytes_eq r.places) r.queues };
-}
-
-/// The place that was noted of a name.
-fn found(places: &IndexMap<QName, usize>, name: &QName) -> Option<usize>
-    ensures { result ≡ found_in bytes_eq places.now name.now }
-{
-    places.get(name).copied()
-}
-
-/// Notes the place of a name.
-fn note_name(places: &mut IndexMap<QName, usize>, name: &QName, at: usize) -> Result<(), NoMemory>
-    ensures noted { OnOk result ((other : List ℕ) → found_in bytes_eq places.new other ≡ (if bytes_eq name.now other then Some at else found_in bytes_eq places.old other)) }
-    ensures same { OnErr result ((other : List ℕ) → found_in bytes_eq places.new other ≡ found_in bytes_eq places.old other) }
-{
-    match places.insert(*name, at) {
-        Ok(_) => Ok(()),
-        Err(_) => Err(NoMemory),
-    }
+    ghost invariant = { λ r. AreFound queue_name (get bytes_eq r.places) r.queues };
 }
 
 /// A slot more stands last in its lane on the queue at a place.

@@ -8,9 +8,9 @@ use crate::standing::{
 };
 use crate::writing::{Text, put, put_ident, put_number, put_unit, put_word};
 use mq_base::{ChName, NoMemory, QName};
-use mq_calls::Shelf;
 use mq_history::ManagerPlaces;
 use mq_message::Holder;
+use mq_net_rows::ShelfIndex;
 use mq_objects::Object;
 use mq_queue::Row;
 use mq_receiver::ReceiverState;
@@ -293,15 +293,11 @@ fn put_cable(alloc: Global, out: &mut Text, cable: &CableStanding) -> Result<(),
 }
 
 /// The rows of a queue by its name.
-fn rows_of<'a>(shelves: &'a [Shelf], name: &QName) -> &'a [Row]
-    ensures { result.now ≡ rows_of name.now shelves.now }
+#[tactic(auto, using(crate::proofs::RowLaws::same_rows))]
+fn rows_of<'a>(index: &ShelfIndex<'a>, name: &QName) -> &'a [Row]
+    ensures { result.now ≡ rows_of name.now index.now }
 {
-    for shelf in shelves {
-        if *name == shelf.name {
-            return shelf.rows.as_slice();
-        }
-    }
-    &[]
+    index.rows_in(name)
 }
 
 fn put_ident_part(alloc: Global, out: &mut Text, row: &Row) -> Result<(), NoMemory>
@@ -339,18 +335,20 @@ fn put_ledger_line(
     put_word(out, "\n")
 }
 
-/// An object where it is a local queue.
+/// An object where it is a local queue; the index is of the manager's queues.
 fn put_ledger_object(
     alloc: Global,
     out: &mut Text,
+    index: &ShelfIndex,
     places: &ManagerPlaces,
     object: &Object,
 ) -> Result<(), NoMemory>
+    requires { index.now ≡ places.now.queues }
     ensures { OnOk result (out.new ≡ out.old ++ ledger_object places.now object.now) }
 {
     match object {
         Object::Local(queue) => {
-            let rows = rows_of(places.queues.as_slice(), &queue.name);
+            let rows = rows_of(index, &queue.name);
             put_ledger_line(alloc, out, &places.name, &queue.name, rows)
         }
         _ => Ok(()),
@@ -360,15 +358,31 @@ fn put_ledger_object(
 fn put_ledger_objects(
     alloc: Global,
     out: &mut Text,
+    index: &ShelfIndex,
     places: &ManagerPlaces,
     objects: &[Object],
 ) -> Result<(), NoMemory>
+    requires { index.now ≡ places.now.queues }
     ensures { OnOk result (out.new ≡ out.old ++ flat_map (ledger_object places.now) objects.now) }
 {
     for object in objects {
-        put_ledger_object(alloc, out, places, object)?;
+        put_ledger_object(alloc, out, index, places, object)?;
     }
     Ok(())
+}
+
+/// The ledger of a manager that is up.
+fn put_ledger_up(alloc: Global, out: &mut Text, places: &ManagerPlaces) -> Result<(), NoMemory>
+    ensures { OnOk result (out.new ≡ out.old ++ flat_map (ledger_object places.now) places.now.definitions.objects) }
+{
+    let index = ShelfIndex::new(alloc, places.queues.as_slice())?;
+    put_ledger_objects(
+        alloc,
+        out,
+        &index,
+        places,
+        places.definitions.objects.as_slice(),
+    )
 }
 
 fn put_ledger_manager(
@@ -380,7 +394,7 @@ fn put_ledger_manager(
     ensures { OnOk result (out.new ≡ out.old ++ ledger_manager is_up places.now) }
 {
     if is_up {
-        put_ledger_objects(alloc, out, places, places.definitions.objects.as_slice())
+        put_ledger_up(alloc, out, places)
     } else {
         Ok(())
     }
