@@ -1,5 +1,5 @@
 -- The reason of each ident is found where it is told first.
-use Rattle.std.proofs.Common.{ℕ, zero, suc, ◌≡◌, ◌+◌, ◌<◌, ◌≤◌, Bool, true, false, eqb, cond, List, [], ◌∷◌, Option, Some, None, refl, ap, sym, subst, ◌∙◌, arith, length, drop}
+use Rattle.std.proofs.Common.{ℕ, zero, suc, ◌≡◌, ◌+◌, Bool, true, false, eqb, cond, List, [], ◌∷◌, Option, Some, None, refl, ap, sym, ◌∙◌, arith, drop}
 use Rattle.std.specs.Prelude.{slice_get, ◌&&◌}
 use Rattle.std.proofs.lemmas.Bool.Decides.{nat_tests}
 use Rattle.mq_codes.specs.declared.reason.Reason.{Reason}
@@ -8,7 +8,7 @@ use Rattle.mq_queue.specs.Rows.{same_ident}
 use Rattle.mq_calls.specs.declared.deltas.Did.{Did}
 use Rattle.mq_calls.specs.declared.deltas.Did.TheVariants as did
 use Rattle.mq_spec_network.specs.Ledger.{dead_reason}
-use Rattle.mq_net_ledger.specs.Reasons.{now_told, told_by, told_if, reason_of, reason_by, AreTo, AreTold}
+use Rattle.mq_net_ledger.specs.Reasons.{now_told, told_by, told_if, reason_of, reason_by, AreTo}
 
 swap : (a b : Ident) → same_ident a b ≡ same_ident b a
 swap a b = by a.manager b.manager a.incarnation b.incarnation a.number b.number
@@ -56,10 +56,3 @@ told_next ds n m home now before e notes = λ i.
   where
     add : (n : ℕ) → n + 1 ≡ suc n
     add n = omega arith
-
-pub told_none : (ds : List Did) (home : Ident → Option ℕ) (n : ℕ) → n ≡ length ds → ((i : Ident) → home i ≡ None) → AreTo n home ds
-told_none ds home n e none = λ i. ap (reason_by ds) (none i) ∙ sym (ap (dead_reason i) (ap (λ k. drop k ds) e ∙ all ds))
-  where
-    all : (xs : List Did) → drop (length xs) xs ≡ []
-    all [] = refl
-    all (x ∷ xs) = all xs

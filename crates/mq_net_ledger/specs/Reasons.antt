@@ -1,5 +1,5 @@
 -- Where a delta tells idents as placed, noted from its end on.
-use Rattle.std.specs.Prelude.{◌≡◌, ℕ, Bool, true, false, List, [], ◌∷◌, if◌then◌else◌, Option, Some, None, slice_get, drop}
+use Rattle.std.specs.Prelude.{◌≡◌, ℕ, List, if◌then◌else◌, Option, Some, None, slice_get, drop}
 use Rattle.mq_codes.specs.declared.reason.Reason.{Reason}
 use Rattle.mq_message.specs.declared.message.Ident.{Ident}
 use Rattle.mq_queue.specs.Rows.{same_ident}

@@ -3,7 +3,7 @@ ghost use Rattle.std.specs.Prelude.{◌≡◌, OnOk, IfOk, option_copied};
 ghost use Rattle.mq_message.specs.declared.message.Ident.{Ident};
 ghost use Rattle.mq_net_rows.specs.Homes.{home_of};
 ghost use Rattle.mq_spec_network.specs.Ledger.{dead_reason};
-ghost use Rattle.mq_net_ledger.specs.Reasons.{now_told, told_if, reason_of, reason_by, AreTold, AreTo};
+ghost use Rattle.mq_net_ledger.specs.Reasons.{now_told, told_if, reason_of, reason_by, AreTold};
 
 use indexmap::IndexMap;
 use mq_base::NoMemory;
