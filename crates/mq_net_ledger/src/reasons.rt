@@ -65,7 +65,11 @@ fn reason_at(delta: &[Did], place: Option<usize>) -> Option<Reason>
 }
 
 /// The reason with which a delta tells an ident as a dead letter.
-pub fn dead_reason(delta: &[Did], known: &IndexMap<IdentKey, usize>, ident: &Ident) -> Option<Reason>
+pub fn dead_reason(
+    delta: &[Did],
+    known: &IndexMap<IdentKey, usize>,
+    ident: &Ident,
+) -> Option<Reason>
     requires { AreTold (home_of known.now) delta.now }
     ensures { result ≡ dead_reason ident.now delta.now }
 {
