@@ -49,7 +49,7 @@ fn place_of(handles: &[Handle], number: u64) -> Option<usize>
 }
 
 /// The handle of a number, by halving.
-#[tactic(auto, using(mq_handles::proofs::SeatLaws::handle_none, mq_handles::proofs::SeatLaws::handle_get))]
+#[tactic(auto, using(mq_handles::proofs::SeatLaws::handle_none))]
 fn halve(handles: &[Handle], number: u64) -> Option<&Handle>
     requires { AreRising handle_number handles.now }
     ensures { option_copied result ≡ handle_at number handles.now }
@@ -89,6 +89,12 @@ fn rises(so_far: bool, last: u64, number: u64) -> bool
     so_far && last < number
 }
 
+fn drop_handle(handles: &mut Vec<Handle>, number: u64)
+    ensures { handles.new.items ≡ filter (λ (h : Handle). not (h.number == number)) handles.old.items }
+{
+    handles.retain(|handle| handle.number != number);
+}
+
 impl Handles {
     /// None is open.
     pub fn new(alloc: Global) -> Handles
@@ -125,6 +131,6 @@ impl Handles {
     pub fn remove(&mut self, number: u64)
         ensures { self.new ≡ filter (λ (h : Handle). not (h.number == number)) self.old }
     {
-        self.list.retain(|handle| handle.number != number);
+        drop_handle(&mut self.list, number);
     }
 }
