@@ -48,7 +48,7 @@ impl<D: Disk> Fresh<D> {
     /// The managers, at rest.
     pub fn into_rested(self) -> Rested<D>
         ensures same { result ≡ self }
-        ensures rested { IsRested self }
+        ensures rested { IsRested result }
     {
         let Fresh { rested, found: _ } = self;
         rested
