@@ -1,5 +1,6 @@
 pub mod BookLaws
 pub mod CallerLaws
+pub mod HandleLaws
 pub mod ObjectLaws
 pub mod PlacedLaws
 pub mod GoneLaws

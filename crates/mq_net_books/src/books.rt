@@ -15,10 +15,11 @@ ghost use Rattle.mq_objects.specs.Names.{local_of, process_of};
 ghost use Rattle.mq_spec_network.specs.Ledger.{Users, row_in, place, take_from, take, take_got, lose, connection_of, connect, disconnect, resolved_at, opened_by, close, on_connection, pend, unit_of, back_out, row_at, placed_idents, take_everywhere, places_at, users_at, here_at, with_places, with_users, at_moment, is_admitted, is_placed_at, is_one_of, leave_queues};
 
 use crate::accounts::Account;
+use crate::caller::Caller;
 use crate::callers;
 use crate::gone::Gone;
 use mq_base::{Items, NoMemory, QName};
-use mq_calls::{Appl, Connection, Hconn, Hobj, Item, Open};
+use mq_calls::{Appl, Hconn, Hobj, Item, Open};
 use mq_codes::Reason;
 use mq_history::Entry;
 use mq_message::{Bytes, Ident, Md, Message};
@@ -44,7 +45,7 @@ pub struct Halted<'a> {
 #[derive(Drop)]
 pub struct User<'a> {
     moment: u64,
-    connections: Items<Connection>,
+    connections: Items<Caller>,
     cut: Option<Halted<'a>>,
 }
 
@@ -91,10 +92,10 @@ impl<'a> User<'a> {
         callers::open(&mut self.connections, hc, how, ho, route)
     }
 
-    fn close(&mut self, alloc: Global, hc: &Hconn, ho: &Hobj)
+    fn close(&mut self, hc: &Hconn, ho: &Hobj)
         ensures { self.new ≡ record self.old { connections = change_connection hc.now.number (close ho.now) self.old.connections } }
     {
-        callers::close(alloc, &mut self.connections, hc, ho);
+        callers::close(&mut self.connections, hc, ho);
     }
 
     fn pend(&mut self, hc: &Hconn, item: Item) -> Result<(), NoMemory>
@@ -209,7 +210,7 @@ impl<'a> Books<'a> {
     }
 
     /// The connection of a handle at a manager.
-    pub fn connection(&self, m: usize, hc: &Hconn) -> Option<&Connection>
+    pub fn connection(&self, m: usize, hc: &Hconn) -> Option<&Caller>
         ensures { option_copied result ≡ connection_of m hc.now self.now }
     {
         match self.users.get(m) {
@@ -470,11 +471,11 @@ impl<'a> Books<'a> {
 
     /// A handle of a connection goes.
     #[tactic(auto, using(crate::proofs::BookLaws::changed, crate::proofs::BookLaws::get_far))]
-    pub fn close(&mut self, alloc: Global, m: usize, hc: &Hconn, ho: &Hobj)
+    pub fn close(&mut self, m: usize, hc: &Hconn, ho: &Hobj)
         ensures { self.new ≡ on_connection m hc.now (close ho.now) self.old }
     {
         if m < self.users.len() {
-            self.users.at_mut(m).close(alloc, hc, ho);
+            self.users.at_mut(m).close(hc, ho);
         }
     }
 

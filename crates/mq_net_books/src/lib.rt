@@ -4,10 +4,12 @@
 
 mod accounts;
 mod books;
+mod caller;
 mod callers;
 mod gone;
+mod handles;
 mod no_use;
 
 pub use accounts::Account;
 pub use books::{Books, Halted, User};
-pub use callers::handle_at;
+pub use caller::Caller;

@@ -6,3 +6,4 @@ pub mod OpenLaws
 pub mod PostLaws
 pub mod SpotLaws
 pub mod UnitLaws
+pub mod ReasonLaws

@@ -3,3 +3,4 @@ pub mod Posts
 pub mod Arrivals
 pub mod Opened
 pub mod Spots
+pub mod Reasons

@@ -1,6 +1,6 @@
 //! What replies and deltas say.
 ghost use Rattle.std.specs.Prelude.{◌≡◌};
-ghost use Rattle.mq_spec_network.specs.Ledger.{first_placed, first_got, sent_ident, got_unless_left, got_ident, is_ended, is_obeyed, is_taken, dead_reason, received_on};
+ghost use Rattle.mq_spec_network.specs.Ledger.{first_placed, first_got, sent_ident, got_unless_left, got_ident, is_ended, is_obeyed, is_taken, received_on};
 ghost use Rattle.mq_net_ledger.specs.Answers.{is_stopped, is_done, kept_of};
 
 use mq_base::ChName;
@@ -33,25 +33,6 @@ fn first_got(delta: &[Did]) -> Option<Ident>
         } = did
         {
             return Some(*ident);
-        }
-    }
-    None
-}
-
-/// The reason with which a delta tells an ident as a dead letter.
-pub fn dead_reason(ident: &Ident, delta: &[Did]) -> Option<Reason>
-    ensures { result ≡ dead_reason ident.now delta.now }
-{
-    for did in delta {
-        if let Did::Placed {
-            ident: other,
-            dead,
-            ..
-        } = did
-        {
-            if *ident == *other {
-                return *dead;
-            }
         }
     }
     None

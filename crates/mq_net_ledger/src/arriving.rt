@@ -2,17 +2,21 @@
 ghost use Rattle.std.specs.Prelude.{◌≡◌, ◌++◌, OnOk, IfOk};
 ghost use Rattle.mq_message.specs.declared.message.Message.{Message};
 ghost use Rattle.mq_spec_network.specs.Ledger.{own_row, place_received, receive, received_on, receive_if, idents_of};
+ghost use Rattle.mq_net_rows.specs.Homes.{home_of};
 ghost use Rattle.mq_net_ledger.specs.Posts.{place_posted};
+ghost use Rattle.mq_net_ledger.specs.Reasons.{AreTold};
 ghost use Rattle.mq_net_ledger.specs.Arrivals.{arrival_of, arrivals_of, arrivals, place_arrivals};
 
-use crate::answers::{dead_reason, received_on};
+use crate::answers::received_on;
 use crate::messages::copy_with_route;
 use crate::posts::{Arrival, Posted, received_of};
+use crate::reasons::{dead_reason, places_told};
+use indexmap::IndexMap;
 use mq_base::{ChName, Items, NoMemory};
 use mq_calls::{Did, Messages};
 use mq_message::{Ident, Message};
 use mq_net_books::Books;
-use mq_net_rows::copy_message;
+use mq_net_rows::{IdentKey, copy_message};
 use std::alloc::Global;
 
 /// The content that the ledger has of a message that came, with the names that came; else what came.
@@ -30,11 +34,13 @@ fn arrival_of(
     books: &Books<'_>,
     alloc: Global,
     delta: &[Did],
+    told: &IndexMap<IdentKey, usize>,
     message: &Message,
 ) -> Result<Arrival, NoMemory>
+    requires { AreTold (home_of told.now) delta.now }
     ensures { IfOk result (λ a. a ≡ arrival_of delta.now books.now message.now) }
 {
-    let dead = dead_reason(&message.ident, delta);
+    let dead = dead_reason(delta, told, &message.ident);
     let message = own_row(books, alloc, message)?;
     Ok(Arrival { message, dead })
 }
@@ -45,12 +51,14 @@ fn list_arrival(
     books: &Books<'_>,
     alloc: Global,
     delta: &[Did],
+    told: &IndexMap<IdentKey, usize>,
     message: &Message,
 ) -> Result<(), NoMemory>
+    requires { AreTold (home_of told.now) delta.now }
     ensures { OnOk result (out.new ≡ out.old ++ arrivals_of delta.now books.now message.now) }
 {
     if books.is_admitted(message) {
-        let arrival = arrival_of(books, alloc, delta, message)?;
+        let arrival = arrival_of(books, alloc, delta, told, message)?;
         out.push(arrival)?;
     }
     Ok(())
@@ -61,12 +69,14 @@ fn list_arrivals(
     books: &Books<'_>,
     alloc: Global,
     delta: &[Did],
+    told: &IndexMap<IdentKey, usize>,
     messages: &[Message],
 ) -> Result<(), NoMemory>
+    requires { AreTold (home_of told.now) delta.now }
     ensures { OnOk result (out.new ≡ out.old ++ arrivals delta.now books.now messages.now) }
 {
     'listing: for message in messages {
-        list_arrival(out, books, alloc, delta, message)?;
+        list_arrival(out, books, alloc, delta, told, message)?;
     }
     Ok(())
 }
@@ -80,8 +90,9 @@ fn arrivals(
 ) -> Result<Items<Arrival>, NoMemory>
     ensures { IfOk result (λ list. list ≡ arrivals delta.now books.now messages.now) }
 {
+    let told = places_told(alloc, delta)?;
     let mut out = Items::new(alloc);
-    list_arrivals(&mut out, books, alloc, delta, messages)?;
+    list_arrivals(&mut out, books, alloc, delta, &told, messages)?;
     Ok(out)
 }
 

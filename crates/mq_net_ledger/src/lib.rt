@@ -8,6 +8,7 @@ mod messages;
 mod opening;
 mod posting;
 mod posts;
+mod reasons;
 mod units;
 
 pub use ledger::ledger_of;

@@ -287,18 +287,11 @@ fn open_if<'a>(
 }
 
 /// MQCLOSE.
-fn close_if<'a>(
-    books: &mut Books<'a>,
-    alloc: Global,
-    m: usize,
-    hc: &Hconn,
-    ho: &Hobj,
-    reply: &Reply,
-)
+fn close_if<'a>(books: &mut Books<'a>, m: usize, hc: &Hconn, ho: &Hobj, reply: &Reply)
     ensures { books.new ≡ close_if m hc.now ho.now reply.now books.old }
 {
     match reply {
-        Reply::Ended(Answer::Ok(())) => books.close(alloc, m, hc, ho),
+        Reply::Ended(Answer::Ok(())) => books.close(m, hc, ho),
         _ => {}
     }
 }
@@ -325,7 +318,7 @@ fn post_call<'a>(
             how,
         } => open_if(books, alloc, m, hc, name, qmgr, how, reply),
         Call::Mqclose { hc, ho } => {
-            close_if(books, alloc, m, hc, ho, reply);
+            close_if(books, m, hc, ho, reply);
             Ok(())
         }
         Call::Mqput {

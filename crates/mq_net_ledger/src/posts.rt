@@ -9,10 +9,10 @@ ghost use Rattle.mq_net_ledger.specs.Posts.{put_by_of, put_of, put1_by_of, put1_
 
 use crate::messages::{bare_if, dead_message, names_of};
 use mq_base::{ChName, NoMemory, QName};
-use mq_calls::{Connection, Hconn, Hobj};
+use mq_calls::{Hconn, Hobj};
 use mq_codes::Reason;
 use mq_message::{Bytes, Dest, Ident, Md, Message};
-use mq_net_books::{Books, handle_at};
+use mq_net_books::{Books, Caller};
 use mq_objects::LocalQueue;
 use mq_resolve::{PathStep, RouteEnd};
 use mq_trigger::trigger_message;
@@ -60,7 +60,7 @@ fn put_by(
     books: &Books<'_>,
     alloc: Global,
     m: usize,
-    connection: &Connection,
+    connection: &Caller,
     end: &RouteEnd,
     path: &[PathStep],
     ident: &Ident,
@@ -69,7 +69,7 @@ fn put_by(
 ) -> Result<Posted, NoMemory>
     ensures { IfOk result (λ p. p ≡ put_by_of m connection.now (record { end = end.now; path = path.now }) ident.now md.now body.now books.now) }
 {
-    let message = books.message_put(alloc, m, ident, &connection.appl, end, path, md, body)?;
+    let message = books.message_put(alloc, m, ident, connection.appl(), end, path, md, body)?;
     Ok(Posted {
         queue: queue_at(end),
         message,
@@ -81,7 +81,7 @@ fn put_through(
     books: &Books<'_>,
     alloc: Global,
     m: usize,
-    connection: &Connection,
+    connection: &Caller,
     ho: &Hobj,
     ident: &Ident,
     md: &Md,
@@ -89,7 +89,7 @@ fn put_through(
 ) -> Result<Option<Posted>, NoMemory>
     ensures { IfOk result (λ p. p ≡ put_of m ho.now (Some connection.now) (Some ident.now) md.now body.now books.now) }
 {
-    match handle_at(connection.handles.as_slice(), ho.number) {
+    match connection.handle(ho.number) {
         None => Ok(None),
         Some(handle) => {
             let path = handle.path.as_slice();
@@ -136,7 +136,7 @@ fn put1_by(
     books: &Books<'_>,
     alloc: Global,
     m: usize,
-    connection: &Connection,
+    connection: &Caller,
     name: &QName,
     qmgr: &QName,
     ident: &Ident,
