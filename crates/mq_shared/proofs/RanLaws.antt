@@ -11,10 +11,11 @@ use Rattle.mq_progress.specs.Course.{Course}
 use Rattle.mq_events.specs.States.{NodeState}
 use Rattle.mq_nodes.specs.declared.nodes.Stop.{Stop}
 use Rattle.mq_ways.specs.Ways.{CableState}
-use Rattle.mq_shared.specs.Facing.{AreJoined}
-use Rattle.mq_shared.specs.Took.{EndState}
-use Rattle.mq_shared.specs.Held.{Begun, EachIs, entries_begun, entries_or}
-use Rattle.mq_shared.specs.Parting.{AreEnds, IsAmong, ends_named}
+use Rattle.mq_split.specs.Facing.{AreJoined}
+use Rattle.mq_split.specs.Took.{EndState}
+use Rattle.mq_split.specs.Ends.{EachIs}
+use Rattle.mq_shared.specs.Held.{Begun, cables_begun, entries_begun, entries_or}
+use Rattle.mq_split.specs.Parting.{AreEnds, IsAmong, ends_named}
 use Rattle.mq_shared.specs.Phasing.{IsCourse, MayPhase, NodeRan, PhaseEnds, PhaseOwn, PhaseRan, entries_in, tries_in}
 use Rattle.mq_shared.specs.Sharing.{among, begun_with}
 use Rattle.mq_shared.specs.Taking.{AreBack, AreOut, Asked, Begins, IsOut, OthersStay, OwnOut, since_of}
@@ -44,9 +45,6 @@ nothing_ran s ks ns cs ws r may ends = record {
       keeps = may.kept m n at;
     }
 
-pub nothing_own : (ns : List NodeState) → PhaseOwn ns ns
-nothing_own ns m n new at again none = subst (λ (x : NodeState). NoneForeign x.history.entries) (some_is n new (sym at ∙ again)) none
-
 -- IT RAN
 pub begins_so : (s : Scenario) (ks : List ℕ) (ns : List NodeState) (cs : List Course) (ws : List CableState) (outs backs : List TableId) → MayPhase s ks ns cs ws → Begins (record { scenario = s; scripts = ks }) (begun_with s ks ns outs backs)
 begins_so s ks ns cs ws outs backs may = record { scenario = may.scenario; texts = may.texts; all = may.managers; ready = may.ready; begun = refl }
@@ -66,7 +64,7 @@ module _ (s : Scenario) (ks : List ℕ) (old : List NodeState) (was : List Cable
   abbrev asked : Asked
   asked = record { scenario = s; scripts = ks }
 
-  pub ends_out : (ns : List NodeState) (rows : List (List EndState)) → length ns ≡ length old → length rows ≡ length old → AreOut begun ns rows → AreEnds begun (since_of begun ns) (ends_named s.cables) rows
+  pub ends_out : (ns : List NodeState) (rows : List (List EndState)) → length ns ≡ length old → length rows ≡ length old → AreOut begun ns rows → AreEnds (cables_begun begun) (since_of begun ns) (ends_named s.cables) rows
   ends_out ns rows count count_rows out = out_ends begun ns rows s.cables (count ∙ sym count_rows) out (λ m lt. by_at (ends_named s.cables) (length s.managers) m (omega (arith, lt, count, may.managers)))
 
   pub own_out : (ns : List NodeState) → OwnOut begun ns → PhaseOwn old ns

@@ -8,9 +8,10 @@ use Rattle.mq_progress.specs.Course.{Course}
 use Rattle.mq_events.specs.States.{IsKept, NodeState, value_of}
 use Rattle.mq_acts.specs.Serving.{IsDone}
 use Rattle.mq_acts.specs.Restarts.{StaysOwn}
-use Rattle.mq_shared.specs.Took.{EndState}
-use Rattle.mq_shared.specs.Held.{Begun, EachIs, EndsApart, IsScriptIn, Kept, ScriptState, entries_begun, entries_or, script_name}
-use Rattle.mq_shared.specs.Parting.{AreEndsAt, ends_named, none_since}
+use Rattle.mq_split.specs.Took.{EndState}
+use Rattle.mq_split.specs.Ends.{EachIs, EndsApart}
+use Rattle.mq_shared.specs.Held.{Begun, IsScriptIn, Kept, ScriptState, cables_begun, entries_begun, entries_or, script_name}
+use Rattle.mq_split.specs.Parting.{AreEndsAt, ends_named, none_since}
 use Rattle.mq_shared.specs.Phasing.{IsCourse, entries_in}
 use Rattle.mq_shared.specs.Sharing.{among, is_here, named, named_from, put_all, rested}
 use Rattle.mq_shared.specs.Taking.{AreBack, AreDone, AreOut, Asked, Begins, CoursesBelow, IsOut, OthersStay, OwnOut}
@@ -154,7 +155,7 @@ pub done_more : (ns new_ns : List NodeState) (n : NodeState) → new_ns ≡ ns +
 done_more ns new_ns n more one done = each_more (λ m x. IsDone x) ns new_ns n more one done
 
 -- a manager's node goes under its lock
-pub lock_kept : (a : Asked) (b : Begun) (m : ℕ) (n : NodeState) (es : List EndState) (ss : List ScriptState) → Begins a b → slice_get b.nodes m ≡ Some n → AreEndsAt b none_since (ends_named a.scenario.cables) m es → EndsApart es → map script_name ss ≡ named a.scenario a.scripts m
+pub lock_kept : (a : Asked) (b : Begun) (m : ℕ) (n : NodeState) (es : List EndState) (ss : List ScriptState) → Begins a b → slice_get b.nodes m ≡ Some n → AreEndsAt (cables_begun b) none_since (ends_named a.scenario.cables) m es → EndsApart es → map script_name ss ≡ named a.scenario a.scripts m
     → EachIs (IsScriptIn b m (entries_begun b m)) ss → Kept b (record { manager = m; node = n; ends = es; scripts = ss; wants = false })
 lock_kept a b m n es ss begins at ends apart names each =
     let lt : m < length a.scenario.managers = (let l = less b.nodes m n at in omega (arith, l, begins.all)) in

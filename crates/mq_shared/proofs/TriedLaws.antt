@@ -24,8 +24,9 @@ use Rattle.mq_turns.specs.Turns.{TimeoutIs}
 use Rattle.mq_turns.specs.Unseen.{EndTurn}
 use Rattle.mq_turns.specs.Wired.{ChangedBy, IsStill, TurnIs, Untaken}
 use Rattle.mq_ruled.specs.Ends.{PipeTook, PipeWrote}
-use Rattle.mq_shared.specs.Took.{EndState}
-use Rattle.mq_shared.specs.Held.{ScriptState, end_actor}
+use Rattle.mq_split.specs.Took.{EndState}
+use Rattle.mq_split.specs.Ends.{end_actor}
+use Rattle.mq_shared.specs.Held.{ScriptState}
 use Rattle.mq_shared.specs.Events.{LineMade, LineNot, Made, SameEnd, Stayed, TurnMade, TurnNot}
 use Rattle.mq_shared.proofs.KeptLaws.{grows_on}
 

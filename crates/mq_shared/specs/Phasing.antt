@@ -14,7 +14,7 @@ use Rattle.mq_acts.specs.Restarts.{StaysOwn}
 use Rattle.mq_nodes.specs.declared.nodes.Stop.{Stop}
 use Rattle.mq_nodes.specs.declared.nodes.Stop.TheVariants as stops
 use Rattle.mq_ways.specs.Ways.{CableState}
-use Rattle.mq_shared.specs.Facing.{AreJoined}
+use Rattle.mq_split.specs.Facing.{AreJoined}
 use Rattle.mq_shared.specs.Held.{entries_or}
 
 -- what the manager at a place did

@@ -1,20 +1,17 @@
 //! A phase: each node goes under a lock with the ends of its cables and its scripts, workers run them in threads, and all comes back.
 ghost use Rattle.std.specs.Prelude.{◌≡◌, ◌≤◌, ◌++◌, ◌*◌, ◌<◌, ◌^◌, ℕ, [], false, IfOk, length, vec_capacity, vec_len};
-ghost use Rattle.mq_shared.specs.Facing.{AreJoined};
-ghost use Rattle.mq_shared.specs.Held.{EachIs, entries_begun};
-ghost use Rattle.mq_shared.specs.Opening.{AreOpen, EachCable, IsBare, wholes};
-ghost use Rattle.mq_shared.specs.Parting.{AreEnds, EndRowState, IsAmong, IsBegunOver, Passed, backs_of, ends_named, outs_of};
+ghost use Rattle.mq_split.specs.Facing.{AreJoined};
+ghost use Rattle.mq_split.specs.Ends.{EachIs};
+ghost use Rattle.mq_shared.specs.Held.{Begun, cables_begun, entries_begun};
+ghost use Rattle.mq_split.specs.Opening.{AreOpen, EachCable, IsBare, wholes};
+ghost use Rattle.mq_split.specs.Parting.{AreEnds, EndRowState, IsAmong, IsBegunOver, backs_of, ends_named, outs_of};
 ghost use Rattle.mq_shared.specs.Phasing.{MayPhase, PhaseEnds, PhaseOwn, PhaseRan};
 ghost use Rattle.mq_shared.specs.Sharing.{begun_with};
 ghost use Rattle.mq_shared.specs.Taking.{AreDone, Asked, RowsWait, since_of};
 
 use crate::courses::{ScriptRow, room_for_scripts};
-use crate::held::HeldEnd;
 use crate::jobs::{Job, run_all};
-use crate::joining::join_cables;
 use crate::locked::{Locked, PhaseName};
-use crate::opening::{Passes, Pipes, are_short, close_cables, open_cables};
-use crate::parting::{EndRow, part_cables, room_for_ends};
 use crate::sharing::{lock_all, take_all};
 use mq_base::{Items, NoMemory};
 use mq_disk::Disk;
@@ -23,6 +20,10 @@ use mq_gate::Gate;
 use mq_history::{CableLine, Scenario};
 use mq_nodes::Stop;
 use mq_progress::Progress;
+use mq_split::{
+    EndRow, HeldEnd, Passes, Pipes, are_short, close_cables, join_cables, open_cables, part_cables,
+    room_for_ends,
+};
 use mq_ways::Cable;
 use std::alloc::Global;
 use std::marker::Brand;
@@ -106,14 +107,13 @@ fn join_back<'x, D: Disk, R: Wait>(
     mut rows: Items<Items<HeldEnd<'x, R>>>,
     cables: &mut Items<Cable>,
 )
-    ghost p: { Passed }
-    requires since { p.since ≡ since_of p.begun nodes.now }
-    requires begun { IsBegunOver p.begun pipes.now lines.now }
+    ghost b: { Begun }
+    requires begun { IsBegunOver (cables_begun b) pipes.now lines.now }
     requires all { (length pipes.now ≡ length lines.now) × (length cables.old ≡ length lines.now) }
     requires managers { EachIs (IsAmong (length rows)) lines.now }
-    requires ends { AreEnds p.begun p.since (ends_named lines.now) rows }
+    requires ends { AreEnds (cables_begun b) (since_of b nodes.now) (ends_named lines.now) rows }
     requires bare { EachCable IsBare cables.old }
-    ensures joined { AreJoined lines.now (λ (m : ℕ). entries_begun p.begun m ++ since_of p.begun nodes.now m) cables.new }
+    ensures joined { AreJoined lines.now (λ (m : ℕ). entries_begun b m ++ since_of b nodes.now m) cables.new }
     ensures all { length cables.new ≡ length cables.old }
 {
     let _ = nodes;

@@ -1,8 +1,8 @@
-use Rattle.std.proofs.Common.{◌≡◌, List, length, ap, arith, refl, rules, subst, sym, ◌∙◌}
+use Rattle.std.proofs.Common.{◌≡◌, List, length, ap, arith, rules, subst, sym, ◌∙◌}
 use Rattle.std.specs.Prelude.{slice_get}
 use Rattle.mq_events.specs.States.{NodeState}
-use Rattle.mq_shared.specs.Opening.{wholes}
-use Rattle.mq_shared.specs.Took.{EndState}
+use Rattle.mq_split.specs.Opening.{wholes}
+use Rattle.mq_split.specs.Took.{EndState}
 use Rattle.mq_shared.specs.Taking.{AreBack, AreOut, Asked, Begins, OwnOut}
 use Rattle.mq_shared.proofs.OverLaws.{among_over, begins_over, begun_over, courses_over, ends_over, few_cables, few_managers, joined_over, long_whole, nodes_over, own_over, ran_over, wait_over}
 use Rattle.mq_shared.proofs.phasing.run_in.Goals as goal
@@ -187,13 +187,10 @@ join_back-requires g c κs within =
       (
         search rules,
         (
-          refl,
+          begun_over s ks ns cs ws ps b may is ls lines,
           (
-            begun_over s ks ns cs ws ps b may is ls lines,
-            (
-              (omega (arith, all.0, long_lines, may.cables, long), omega (arith, parted.1, long_lines, may.cables, long)),
-              (among_over s ks ns cs ws ps b may is ls (length c.from_vec-2.result) lines count_rows, (ends_over s ks ns cs ws ps b may is ls c.from_vec.result c.from_vec-2.result lines count count_rows out, c.part_cables.ensures.bare)),
-            ),
+            (omega (arith, all.0, long_lines, may.cables, long), omega (arith, parted.1, long_lines, may.cables, long)),
+            (among_over s ks ns cs ws ps b may is ls (length c.from_vec-2.result) lines count_rows, (ends_over s ks ns cs ws ps b may is ls c.from_vec.result c.from_vec-2.result lines count count_rows out, c.part_cables.ensures.bare)),
           ),
         ),
       ),

@@ -2,7 +2,8 @@ use Rattle.std.proofs.Common.{Bool, [], subst, sym}
 use Rattle.std.specs.Prelude.{slice_set}
 use Rattle.mq_turns.specs.Unseen.{IsUnseen, turn_deed}
 use Rattle.mq_ruled.specs.Ends.{PipeEmpty, PipeEnds, PipeFull, PipeTook}
-use Rattle.mq_shared.specs.Held.{Kept, end_actor}
+use Rattle.mq_split.specs.Ends.{end_actor}
+use Rattle.mq_shared.specs.Held.{Kept}
 use Rattle.mq_shared.proofs.KeptLaws.{served_at}
 use Rattle.mq_shared.proofs.OwnKept.{turn_own}
 use Rattle.mq_shared.proofs.TurnKept.{turn_kept}
