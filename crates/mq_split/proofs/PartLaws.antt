@@ -10,10 +10,10 @@ use Rattle.mq_ways.specs.Ways.{CableState}
 use Rattle.mq_split.specs.declared.opening.Passes.{Passes}
 use Rattle.mq_split.specs.declared.opening.Pipes.{Pipes}
 use Rattle.mq_split.specs.Facing.{AreJoined, Facing, IsJoined}
-use Rattle.mq_split.specs.Ends.{EachIs, EndsApart, IsEndAt, Parted, acts_as, end_name, faults_at, manager_at, queue_at}
+use Rattle.mq_split.specs.Ends.{AreFree, EachIs, EndsApart, IsEndAt, Parted, acts_as, end_name, faults_at, manager_at, queue_at}
 use Rattle.mq_split.specs.Joining.{ArePair, JoinsAgain}
-use Rattle.mq_split.specs.Opening.{IsBare, whole, wholes}
-use Rattle.mq_split.specs.Parting.{AreEnds, AreEndsAt, AreRows, EndRowState, IsAdded, IsAmong, IsBegunOver, IsJoinedAt, IsRow, IsTaken, Passed, back_queue, done_in, ends_by, ends_named, named_at, names_from, none_since, out_queue}
+use Rattle.mq_split.specs.Opening.{IsBare, IsShort, whole, wholes}
+use Rattle.mq_split.specs.Parting.{AllFree, AreEnds, AreEndsAt, AreRows, EndRowState, IsAdded, IsAmong, IsBegunOver, IsJoinedAt, IsRow, IsTaken, Passed, back_queue, done_in, ends_by, ends_named, named_at, names_from, none_since, out_queue}
 use Rattle.mq_split.specs.Took.{EndKept, EndState, way}
 use Rattle.mq_split.proofs.PlaceLaws.{at_end, drop_at, drop_past, get_first, get_last, get_map, get_set, long_snoc, map_snoc, set_long, snoc_first, some_is, there, within}
 
@@ -34,13 +34,14 @@ named_not at m k side apart = ap (λ (t : Bool). if t then (k, side) ∷ [] else
 pub each_end : (P : EndState → Type 0) (es : List EndState) (e : EndState) → EachIs P es → P e → EachIs P (es ++ e ∷ [])
 each_end P es e h p i x f = ⊎_elim (λ (q : slice_get es i ≡ Some x). h i x q) (λ (q : (i ≡ length es) × (e ≡ x)). subst P q.1 p) (at_end es e x i f)
 
-pub row_more : (b : Parted) (names : ℕ → List (ℕ × Bool)) (room m left : ℕ) (r : EndRowState) (e : EndState) → IsRow b names (room + 1) m r → left + 1 ≡ r.room → IsEndAt b m (b.done m) [] e
+pub row_more : (b : Parted) (names : ℕ → List (ℕ × Bool)) (room m left : ℕ) (r : EndRowState) (e : EndState) → IsRow b names (room + 1) m r → left + 1 ≡ r.room → IsEndAt b m (b.done m) [] e → e.wire.fetched ≡ None
     → IsRow b (λ n. names n ++ named_at m n e.cable e.sends) room m (record { ends = r.ends ++ e ∷ []; room = left })
-row_more b names room m left r e h is end = record {
+row_more b names room m left r e h is end free = record {
   ends = record {
     names_are = map_snoc end_name r.ends e ∙ ap (λ (xs : List (ℕ × Bool)). xs ++ end_name e ∷ []) h.ends.names_are ∙ ap (λ (xs : List (ℕ × Bool)). names m ++ xs) (sym (named_here m e.cable e.sends));
     each = each_end (IsEndAt b m (b.done m) []) r.ends e h.ends.each end;
   };
+  free = each_end (λ (x : EndState). x.wire.fetched ≡ None) r.ends e h.free free;
   room_is = let l = h.room_is in omega (arith, l, is);
 }
 
@@ -50,17 +51,18 @@ row_other b names room at m k side r apart h = record {
     names_are = h.ends.names_are ∙ sym (append-nil (names m)) ∙ ap (λ (xs : List (ℕ × Bool)). names m ++ xs) (sym (named_not at m k side apart));
     each = h.ends.each;
   };
+  free = h.free;
   room_is = let l = h.room_is in omega (arith, l);
 }
 
-pub rows_more : (b : Parted) (names : ℕ → List (ℕ × Bool)) (room at : ℕ) (e : EndState) (old new : List EndRowState) → AreRows b names (room + 1) old → IsEndAt b at (b.done at) [] e → IsAdded at e old new
+pub rows_more : (b : Parted) (names : ℕ → List (ℕ × Bool)) (room at : ℕ) (e : EndState) (old new : List EndRowState) → AreRows b names (room + 1) old → IsEndAt b at (b.done at) [] e → e.wire.fetched ≡ None → IsAdded at e old new
     → AreRows b (λ n. names n ++ named_at at n e.cable e.sends) room new
-rows_more b names room at e old new h end a m r f =
+rows_more b names room at e old new h end free a m r f =
     ⊎_elim
     (λ (q : (m ≡ at) × (record { ends = a.row.ends ++ e ∷ []; room = a.room } ≡ r)).
     subst (λ (x : EndRowState). IsRow b (λ n. names n ++ named_at at n e.cable e.sends) room m x) q.1
     (subst (λ (n : ℕ). IsRow b (λ j. names j ++ named_at at j e.cable e.sends) room n (record { ends = a.row.ends ++ e ∷ []; room = a.room })) (sym q.0)
-    (row_more b names room at a.room a.row e (h at a.row a.there) a.left end)))
+    (row_more b names room at a.room a.row e (h at a.row a.there) a.left end free)))
     (λ (q : (m ≢ at) × (slice_get old m ≡ Some r)). row_other b names room at m e.cable e.sends r q.0 (h m r q.1))
     (get_set old at m (record { ends = a.row.ends ++ e ∷ []; room = a.room }) r (subst (λ (l : List EndRowState). slice_get l m ≡ Some r) a.is f))
 
@@ -76,16 +78,16 @@ module _ (b : Parted) (names : ℕ → List (ℕ × Bool)) (room k r s : ℕ) (f
   abbrev after_far : ℕ → List (ℕ × Bool)
   after_far m = names m ++ named_at r m k false
 
-  pub rows_far : AreRows b names (room + 2) old → IsEndAt b r (b.done r) [] far → far.cable ≡ k → far.sends ≡ false → IsAdded r far old mid → AreRows b after_far (room + 1) mid
-  rows_far h end cable side a =
+  pub rows_far : AreRows b names (room + 2) old → IsEndAt b r (b.done r) [] far → far.wire.fetched ≡ None → far.cable ≡ k → far.sends ≡ false → IsAdded r far old mid → AreRows b after_far (room + 1) mid
+  rows_far h end free cable side a =
       subst (λ (t : Bool). AreRows b (λ m. names m ++ named_at r m k t) (room + 1) mid) side
       (subst (λ (n : ℕ). AreRows b (λ m. names m ++ named_at r m n far.sends) (room + 1) mid) cable
-      (rows_more b names (room + 1) r far old mid (subst (λ (n : ℕ). AreRows b names n old) (let e : room + 2 ≡ room + 1 + 1 = omega arith in e) h) end a))
+      (rows_more b names (room + 1) r far old mid (subst (λ (n : ℕ). AreRows b names n old) (let e : room + 2 ≡ room + 1 + 1 = omega arith in e) h) end free a))
 
-  pub rows_near : AreRows b after_far (room + 1) mid → IsEndAt b s (b.done s) [] near → near.cable ≡ k → near.sends ≡ true → IsAdded s near mid new → AreRows b (λ m. names m ++ named_at r m k false ++ named_at s m k true) room new
-  rows_near h end cable side a =
+  pub rows_near : AreRows b after_far (room + 1) mid → IsEndAt b s (b.done s) [] near → near.wire.fetched ≡ None → near.cable ≡ k → near.sends ≡ true → IsAdded s near mid new → AreRows b (λ m. names m ++ named_at r m k false ++ named_at s m k true) room new
+  rows_near h end free cable side a =
       subst (λ (t : Bool). AreRows b (λ m. after_far m ++ named_at s m k t) room new) side
-      (subst (λ (n : ℕ). AreRows b (λ m. after_far m ++ named_at s m n near.sends) room new) cable (rows_more b after_far room s near mid new h end a))
+      (subst (λ (n : ℕ). AreRows b (λ m. after_far m ++ named_at s m n near.sends) room new) cable (rows_more b after_far room s near mid new h end free a))
 
 -- AN END AS A PHASE BEGINS
 -- of the sender
@@ -266,7 +268,7 @@ FirstJoined n ls done ds = (j : ℕ) (l : CableLine) (c : CableState) → j < n 
 
 pub rows_named : (b : Parted) (names names' : ℕ → List (ℕ × Bool)) (room : ℕ) (rows : List EndRowState) → ((m : ℕ) → names m ≡ names' m) → AreRows b names room rows → AreRows b names' room rows
 rows_named b names names' room rows same h m r f =
-    let x = h m r f in record { ends = record { names_are = x.ends.names_are ∙ same m; each = x.ends.each }; room_is = x.room_is }
+    let x = h m r f in record { ends = record { names_are = x.ends.names_are ∙ same m; each = x.ends.each }; free = x.free; room_is = x.room_is }
 
 module _ (b : Parted) (ps : List Pipes) (ls : List CableLine) (begun : IsBegunOver b ps ls) (passes rest : List Passes) (s : Passes) (k : ℕ) (is : passes ≡ rest ++ s ∷ []) (at : k ≡ length rest) where
   long : length passes ≡ suc k
@@ -319,6 +321,7 @@ rows_begin b ps ls n rows begun long h m r f =
         names_are = ap (λ (es : List EndState). map end_name es) x.0 ∙ sym (ap (λ (l : List CableLine). names_from n l m) past);
         each = λ i e g. absurd (let bad : None ≡ Some e = ap (λ (es : List EndState). slice_get es i) (sym x.0) ∙ g in cc bad);
       };
+      free = λ i e g. absurd (let bad : None ≡ Some e = ap (λ (es : List EndState). slice_get es i) (sym x.0) ∙ g in cc bad);
       room_is = x.1;
     }
 
@@ -429,6 +432,29 @@ joined_more p ls k long cs ds lt h x =
 
 pub joined_all : (p : Passed) (ls : List CableLine) (n long : ℕ) (cs : List CableState) → length ls ≤ n → SoFar p ls n long cs → AreJoined ls (done_in p) cs
 joined_all p ls n long cs past h k l c line found = let lt = within ls k l line in h.joined k l c (omega (arith, past, lt)) line found
+
+-- WHERE NO END HOLDS AN ITEM THAT IT DID NOT TAKE
+-- an end less
+pub free_less : (at : ℕ) (e : EndState) (old new : List (List EndState)) → IsTaken at e old new → AllFree old → AllFree new × (e.wire.fetched ≡ None)
+free_less at e old new t h = (
+  (λ m es f.
+      ⊎_elim
+      (λ (q : (m ≡ at) × (t.rest ≡ es)). subst AreFree q.1 (λ i x g. h at (t.rest ++ e ∷ []) t.there i x (get_first t.rest (e ∷ []) i x g)))
+      (λ (q : (m ≢ at) × (slice_get old m ≡ Some es)). h m es q.1)
+      (get_set old at m t.rest es (subst (λ (l : List (List EndState)). slice_get l m ≡ Some es) t.is f))),
+  h at (t.rest ++ e ∷ []) t.there (length t.rest) e (get_last t.rest e),
+)
+
+-- a cable more on which at most 64 items lie
+pub short_more : (p : Passed) (ls : List CableLine) (k : ℕ) (cs ds : List CableState) → k < length ls → IfSome (slice_get ls k) (λ (l : CableLine). IsJoinedAt p k l cs ds) → IfSome (slice_get ds k) IsShort
+    → ((j : ℕ) (c : CableState) → j < k → slice_get cs j ≡ Some c → IsShort c) → (j : ℕ) (c : CableState) → j < k + 1 → slice_get ds j ≡ Some c → IsShort c
+short_more p ls k cs ds lt x here h i c less found =
+    let at = there ls k lt in
+    let j : IsJoinedAt p k at.0 cs ds = subst (λ (o : Option CableLine). IfSome o (λ (l : CableLine). IsJoinedAt p k l cs ds)) at.1 x in
+    ⊎_elim
+    (λ (q : (i ≡ k) × (j.cable ≡ c)). subst (λ (o : Option CableState). IfSome o IsShort) (ap (λ (n : ℕ). slice_get ds n) (sym q.0) ∙ found) here)
+    (λ (q : (i ≢ k) × (slice_get cs i ≡ Some c)). let apart = q.0 in h i c (omega (arith, less, apart)) q.1)
+    (get_set cs k i j.cable c (subst (λ (l : List CableState). slice_get l i ≡ Some c) j.is found))
 
 -- one row more, with its room
 pub rows_room : (room : ℕ) (rows : List EndRowState) (r : EndRowState) → EachIs (λ (x : EndRowState). (x.ends ≡ []) × (room ≤ x.room)) rows → (r.ends ≡ []) × (room ≤ r.room) → EachIs (λ (x : EndRowState). (x.ends ≡ []) × (room ≤ x.room)) (rows ++ r ∷ [])

@@ -1,5 +1,5 @@
 -- The ends of cables that were split: what was known as they were, and what holds of each end at its manager.
-use Rattle.std.specs.Prelude.{◌≡◌, ℕ, Bool, true, false, not, List, Option, Some, slice_get}
+use Rattle.std.specs.Prelude.{◌≡◌, ℕ, Bool, true, false, not, List, Option, Some, None, slice_get}
 use Rattle.atomic_table.specs.Seated.{TableId}
 use Rattle.mq_cable.specs.declared.fault.Fault.{Fault}
 use Rattle.mq_history.specs.declared.calls.Actor.{Actor}
@@ -53,6 +53,10 @@ pub record IsEndAt (b : Parted) (m : ℕ) (first since : List Entry) (e : EndSta
 -- each of a list, by its place
 abbrev pub EachIs : {A : Type 0} → (A → Type 0) → List A → Type 0
 EachIs {A} P xs = (i : ℕ) (x : A) → slice_get xs i ≡ Some x → P x
+
+-- none of these ends holds an item that it looked at and did not take
+abbrev pub AreFree : List EndState → Type 0
+AreFree es = EachIs (λ (e : EndState). e.wire.fetched ≡ None) es
 
 -- no end stands twice
 abbrev pub EndsApart : List EndState → Type 0

@@ -6,7 +6,7 @@ use Rattle.mq_spec_node.specs.Terms.{Entry}
 use Rattle.mq_ways.specs.Ways.{CableState}
 use Rattle.mq_split.specs.declared.opening.Pipes.{Pipes}
 use Rattle.mq_split.specs.Facing.{IsJoined}
-use Rattle.mq_split.specs.Ends.{EachIs, IsEndAt, Parted, end_name}
+use Rattle.mq_split.specs.Ends.{AreFree, EachIs, IsEndAt, Parted, end_name}
 use Rattle.mq_split.specs.Took.{EndState}
 
 -- the queues of the cables' directions by name
@@ -63,12 +63,17 @@ pub record AreEndsAt (b : Parted) (since : ℕ → List Entry) (names : ℕ → 
 abbrev pub AreEnds : Parted → (ℕ → List Entry) → (ℕ → List (ℕ × Bool)) → List (List EndState) → Type 0
 AreEnds b since names rows = (m : ℕ) (es : List EndState) → slice_get rows m ≡ Some es → AreEndsAt b since names m es
 
+-- no end holds an item that it did not take
+abbrev pub AllFree : List (List EndState) → Type 0
+AllFree rows = (m : ℕ) (es : List EndState) → slice_get rows m ≡ Some es → AreFree es
+
 abbrev pub none_since : ℕ → List Entry
 none_since m = []
 
 -- as a phase begins, with room for so many more
 pub record IsRow (b : Parted) (names : ℕ → List (ℕ × Bool)) (room m : ℕ) (r : EndRowState) : Type 0 where
   pub ends : AreEndsAt b none_since names m r.ends
+  pub free : AreFree r.ends
   pub room_is : room ≤ r.room
 
 abbrev pub AreRows : Parted → (ℕ → List (ℕ × Bool)) → ℕ → List EndRowState → Type 0

@@ -1,10 +1,10 @@
 //! The cables of a network after a phase: their ends are out of their locks, and what is left on their directions lies there again.
-ghost use Rattle.std.specs.Prelude.{◌≡◌, ◌≢◌, ◌<◌, ◌++◌, [], false, true, IfSome, Some, length, slice_get};
+ghost use Rattle.std.specs.Prelude.{◌≡◌, ◌≢◌, ◌<◌, ◌++◌, [], false, true, IfSome, None, Some, length, slice_get};
 ghost use Rattle.mq_split.specs.Facing.{AreJoined};
 ghost use Rattle.mq_split.specs.Ends.{EachIs};
 ghost use Rattle.mq_split.specs.Joining.{ArePair, JoinsAgain};
-ghost use Rattle.mq_split.specs.Opening.{EachCable, IsBare};
-ghost use Rattle.mq_split.specs.Parting.{AreEnds, IsAmong, IsBegunOver, IsJoinedAt, IsTaken, Leaving, Passed, done_in, ends_named, named_at};
+ghost use Rattle.mq_split.specs.Opening.{EachCable, IsBare, IsShort};
+ghost use Rattle.mq_split.specs.Parting.{AllFree, AreEnds, IsAmong, IsBegunOver, IsJoinedAt, IsTaken, Leaving, Passed, done_in, ends_named, named_at};
 
 use crate::ends::HeldEnd;
 use crate::opening::Pipes;
@@ -27,7 +27,8 @@ fn join_again<R: Wait>(
     requires pair { ArePair p near far }
     requires queues { (slice_get p.begun.outs near.cable ≡ Some out.now.table.shared.table_id) × (slice_get p.begun.backs near.cable ≡ Some back.now.table.shared.table_id) }
     requires empty { IsBare cable.old }
-    ensures { JoinsAgain p near.entry cable.new }
+    ensures joined { JoinsAgain p near.entry cable.new }
+    ensures short { near.entry.wire.fetched ≡ None → far.entry.wire.fetched ≡ None → IsShort cable.new }
 {
     let HeldEnd {
         cable: _,
@@ -92,6 +93,7 @@ fn join_at<'a, R: Wait>(
     requires bare { IfSome (slice_get cables.old at) IsBare }
     ensures joined { IfSome (slice_get lines.now at) (λ l. IsJoinedAt p.passed at l cables.old cables.new) }
     ensures ends { AreEnds p.passed.begun p.passed.since p.names ends.new }
+    ensures free { AllFree ends.old → AllFree ends.new × IfSome (slice_get cables.new at) IsShort }
     ensures all { length ends.new ≡ length ends.old }
 {
     let line = &lines[at];
@@ -102,7 +104,7 @@ fn join_at<'a, R: Wait>(
 }
 
 /// All cables are joined again, from the first to the last: the ends at each manager stand as they stood when the cables were taken
-/// apart. It takes no memory.
+/// apart. Where no end holds an item that it did not take, at most 64 items lie on each direction then. It takes no memory.
 pub fn join_cables<'a, R: Wait>(
     rt: &R,
     pipes: &[Pipes],
@@ -117,6 +119,7 @@ pub fn join_cables<'a, R: Wait>(
     requires ends { AreEnds p.begun p.since (ends_named lines.now) ends.old }
     requires bare { EachCable IsBare cables.old }
     ensures joined { AreJoined lines.now (done_in p) cables.new }
+    ensures short { AllFree ends.old → EachCable IsShort cables.new }
     ensures all { length cables.new ≡ length cables.old }
 {
     for at in 0..lines.len() {

@@ -1,8 +1,8 @@
 //! The cables of a network are taken apart for a phase: each manager gets its ends.
-ghost use Rattle.std.specs.Prelude.{◌≡◌, ◌<◌, ◌≤◌, ◌+◌, ◌*◌, ◌^◌, ◌++◌, ◌∷◌, ℕ, [], false, true, IfOk, IfSome, Some, length, slice_get, vec_len};
+ghost use Rattle.std.specs.Prelude.{◌≡◌, ◌<◌, ◌≤◌, ◌+◌, ◌*◌, ◌^◌, ◌++◌, ◌∷◌, ℕ, [], false, true, IfOk, IfSome, None, Some, length, slice_get, vec_len};
 ghost use Rattle.crossbeam_queue.specs.Passes.{IsPassOf, ruled_capacity, view};
 ghost use Rattle.mq_split.specs.Facing.{AreJoined, IsJoined};
-ghost use Rattle.mq_split.specs.Ends.{EachIs, EndsApart, Parted};
+ghost use Rattle.mq_split.specs.Ends.{AreFree, EachIs, EndsApart, Parted};
 ghost use Rattle.mq_split.specs.Opening.{AreOpen, EachCable, IsBare, IsOpen, whole, wholes};
 ghost use Rattle.mq_split.specs.Parting.{AreEndsAt, AreRows, EndRowState, IsAdded, IsAmong, IsBegunOver, Placing, back_queue, ends_named, named_at, none_since, out_queue};
 
@@ -110,7 +110,7 @@ fn end_over<'a, R: Wait>(
     requires from { IsPassOf from.now popper × ((view popper).pops ≡ true) }
     ensures is { (result.cable ≡ cable) × (result.sends ≡ sends) × (result.offers ≡ offers) }
     ensures queues { (result.wire.out ≡ pusher.table_id) × (result.wire.from ≡ popper.table_id) }
-    ensures items { (result.wire.sent ≡ (view pusher).sent) × (result.wire.taken ≡ (view popper).received) }
+    ensures items { (result.wire.sent ≡ (view pusher).sent) × (result.wire.taken ≡ (view popper).received) × (result.wire.fetched ≡ None) }
 {
     HeldEnd {
         cable,
@@ -213,6 +213,7 @@ pub fn part_cables<'a, R: Wait>(
     requires room { EachIs (λ (r : EndRowState). (r.ends ≡ []) × (2 * vec_len passes ≤ r.room)) ends.old }
     ensures ends { (m : ℕ) (r : EndRowState) → slice_get ends.new m ≡ Some r → AreEndsAt b none_since (ends_named lines.now) m r.ends }
     ensures apart { EachIs (λ (r : EndRowState). EndsApart r.ends) ends.new }
+    ensures free { EachIs (λ (r : EndRowState). AreFree r.ends) ends.new }
     ensures all { (length ends.new ≡ length ends.old) × (length cables.new ≡ length cables.old) }
     ensures bare { EachCable IsBare cables.new }
 {

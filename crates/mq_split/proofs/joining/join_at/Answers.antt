@@ -4,10 +4,10 @@ use Rattle.std.proofs.lemmas.Option.{slice_get_read}
 use Rattle.atomic_table.specs.Seated.{TableId}
 use Rattle.mq_history.specs.declared.scenario.CableLine.{CableLine}
 use Rattle.mq_ways.specs.Ways.{CableState}
-use Rattle.mq_split.specs.Opening.{IsBare}
+use Rattle.mq_split.specs.Opening.{IsBare, IsShort}
 use Rattle.mq_split.specs.Parting.{AreEnds, IsJoinedAt, back_queue, named_at, out_queue}
-use Rattle.mq_split.proofs.PlaceLaws.{get_map}
-use Rattle.mq_split.proofs.PartLaws.{are_left, are_pair, far_some, joined_here, near_is, some_end, taken_long}
+use Rattle.mq_split.proofs.PlaceLaws.{get_map, set_mine}
+use Rattle.mq_split.proofs.PartLaws.{are_left, are_pair, far_some, free_less, joined_here, near_is, some_end, taken_long}
 use Rattle.mq_split.proofs.joining.join_at.Goals as goal
 
 pub take_end-near-requires-clause-some : goal.take_end-near-requires-clause-some
@@ -98,7 +98,7 @@ returns-clause-joined g c =
     let there = ap (λ (xs : List CableLine). slice_get xs k) r.1.0.lines ∙ line in
     let c2 = c.join_again.new.cable in
     subst (λ (o : Option CableLine). IfSome o (λ (x : CableLine). IsJoinedAt P k x c.args.cables.now (slice_set c.args.cables.now k c2))) (sym line)
-    (joined_here P g.p.names k l near far old mid new h t c2 c.args.cables.now there c.join_again.ensures)
+    (joined_here P g.p.names k l near far old mid new h t c2 c.args.cables.now there c.join_again.ensures.joined)
 
 pub returns-clause-ends : goal.returns-clause-ends
 returns-clause-ends g c =
@@ -118,3 +118,11 @@ returns-clause-ends g c =
     let u = c.take_end-far.ensures in
     let there = ap (λ (xs : List CableLine). slice_get xs k) r.1.0.lines ∙ line in
     are_left P g.p.names k l near far old mid new h t u
+
+pub returns-clause-free : goal.returns-clause-free
+returns-clause-free g c h =
+    let l = c.index-lines-at.result in
+    let one = free_less l.sender c.take_end-near.result c.args.ends.now c.take_end-near.new.ends c.take_end-near.ensures h in
+    let two = free_less l.receiver c.take_end-far.result c.take_end-near.new.ends c.take_end-far.new.ends c.take_end-far.ensures one.0 in
+    let cable = set_mine c.args.cables.now c.args.at c.join_again.new.cable c.at_mut.result.now c.at_mut.ensures.value in
+    (two.0, subst (λ (o : Option CableState). IfSome o IsShort) (sym cable) (c.join_again.ensures.short one.1 two.1))

@@ -1,5 +1,6 @@
 use Rattle.std.proofs.Common.{◌<◌, ◌≤◌, length, refl, ◌∙◌, arith, rules}
-use Rattle.mq_split.proofs.PartLaws.{among_still, bare_at, ends_at_line, ends_first, ends_next, joined_all, joined_more}
+use Rattle.mq_split.proofs.PartLaws.{among_still, bare_at, ends_at_line, ends_first, ends_next, joined_all, joined_more, short_more}
+use Rattle.mq_split.proofs.PlaceLaws.{within}
 use Rattle.mq_split.proofs.joining.join_cables.Goals as goal
 
 pub loop-at-init : goal.loop-at-init
@@ -9,6 +10,8 @@ loop-at-init g c =
       rows = refl;
       left = ends_first g.p.begun c.args.pipes.now c.args.lines.now g.p.since c.args.ends.now r.0 r.1.1.1.0;
       so_far = record { all = refl; joined = λ k x d lt. absurd (omega (arith, lt)); bare_are = λ k d past found. r.1.1.1.1 k d found };
+      free = λ h. h;
+      short = λ h k d lt. absurd (omega (arith, lt));
     }
 
 pub join_at-requires : goal.join_at-requires
@@ -42,9 +45,19 @@ loop-at-preserved g c =
       rows = c.join_at.ensures.all ∙ i.rows;
       left = ends_next g.p.begun g.p.since k c.join_at.new.ends c.join_at.ensures.ends;
       so_far = joined_more g.p c.args.lines.now k (length c.args.cables.now) c.loop-at.cables c.join_at.new.cables lt i.so_far c.join_at.ensures.joined;
+      free = λ h. (c.join_at.ensures.free (i.free h)).0;
+      short = λ h. short_more g.p c.args.lines.now k c.loop-at.cables c.join_at.new.cables lt c.join_at.ensures.joined (c.join_at.ensures.free (i.free h)).1 (i.short h);
     }
 
 pub returns-clause-joined : goal.returns-clause-joined
 returns-clause-joined g c =
     let past : length c.args.lines.now ≤ c.loop-at.at = search rules in
     joined_all g.p c.args.lines.now c.loop-at.at (length c.args.cables.now) c.loop-at.cables past c.loop-at.invariant.so_far
+
+pub returns-clause-short : goal.returns-clause-short
+returns-clause-short g c h k d found =
+    let past : length c.args.lines.now ≤ c.loop-at.at = search rules in
+    let lt = within c.loop-at.cables k d found in
+    let all = c.loop-at.invariant.so_far.all in
+    let cables = c.requires.1.1.0.1 in
+    c.loop-at.invariant.short h k d (omega (arith, past, lt, all, cables)) found

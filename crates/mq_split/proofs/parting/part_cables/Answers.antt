@@ -98,3 +98,6 @@ returns-clause-apart g c =
     let none : length c.loop-open.passes.items ≡ 0 = search rules in
     λ m r at. ends_are_apart g.b none_since c.args.lines.now m r.ends
     (rows_end g.b c.args.pipes.now c.args.lines.now (length c.loop-open.passes.items) _ c.loop-open.ends c.requires.1.1.1.0 none c.loop-open.invariant.placed m r at)
+
+pub returns-clause-free : goal.returns-clause-free
+returns-clause-free g c = λ m r at. (c.loop-open.invariant.placed m r at).free
