@@ -7,14 +7,14 @@ use Rattle.mq_spec_node.specs.Terms.{Entry, ScriptPart}
 use Rattle.mq_spec_network.specs.Tasks.{Trying}
 use Rattle.mq_events.specs.States.{NodeState, IsServed}
 use Rattle.mq_split.specs.Took.{EndState}
-use Rattle.mq_split.specs.Ends.{EachIs, EndsApart, IsEndAt, end_name}
+use Rattle.mq_split.specs.Ends.{AreFree, EachIs, EndsApart, IsEndAt, end_name}
 use Rattle.mq_shared.specs.Held.{Begun, IsScriptIn, Kept, ScriptState, ScriptsApart, cables_begun, entries_begun, entries_or, script_name}
 use Rattle.mq_shared.specs.Phasing.{moment_or, tries_in, tries_one}
 use Rattle.mq_shared.proofs.ShareLists.{mem_right}
 
 pub kept_begun : (b : Begun) (m : ℕ) (n : NodeState) (ends : List EndState) (scripts : List ScriptState) → slice_get b.nodes m ≡ Some n → IsServed n → EachIs (IsEndAt (cables_begun b) m (entries_begun b m) []) ends → EndsApart ends → slice_get b.ends m ≡ Some (map end_name ends)
-    → EachIs (IsScriptIn b m (entries_begun b m)) scripts → ScriptsApart scripts → slice_get b.scripts m ≡ Some (map script_name scripts) → Kept b (record { manager = m; node = n; ends = ends; scripts = scripts; wants = false })
-kept_begun b m n ends scripts there served are apart ends_named tried single scripts_named =
+    → EachIs (IsScriptIn b m (entries_begun b m)) scripts → ScriptsApart scripts → slice_get b.scripts m ≡ Some (map script_name scripts) → AreFree ends → Kept b (record { manager = m; node = n; ends = ends; scripts = scripts; wants = false })
+kept_begun b m n ends scripts there served are apart ends_named tried single scripts_named free =
     let begun : entries_begun b m ≡ n.history.entries = ap entries_or there in
     record {
       first = n;
@@ -30,6 +30,7 @@ kept_begun b m n ends scripts there served are apart ends_named tried single scr
       scripts_apart = single;
       script_names = scripts_named;
       ready = λ q. inl served;
+      free = λ q. free;
     }
 
 -- THE SCRIPTS OF A PHASE

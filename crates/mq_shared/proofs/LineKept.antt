@@ -45,7 +45,7 @@ other_script j k n = apart (k == j) refl
     apart true e = absurd (n (let same : j ≡ k = grind (arith, nat_tests) in same))
     apart false e = refl
 
-module _ (b : Begun) (h : Held) (at : ℕ) (s t : ScriptState) (new : NodeState) (k : Kept b h) (is : slice_get h.scripts at ≡ Some s) (kept : IsKept h.node) (later : IsKept new) where
+module _ (b : Begun) (h : Held) (at : ℕ) (s t : ScriptState) (new : NodeState) (k : Kept b h) (is : slice_get h.scripts at ≡ Some s) (kept : IsKept h.node) (later : IsKept new) (calm : h.wants ≡ false) where
   -- the lock's value behind it
   abbrev behind_it : Bool → Held
   behind_it wants = record { manager = h.manager; node = new; ends = h.ends; scripts = slice_set h.scripts at t; wants = wants }
@@ -74,7 +74,7 @@ module _ (b : Begun) (h : Held) (at : ℕ) (s t : ScriptState) (new : NodeState)
       (λ j u apart there. script_others b h.manager h.node.history.entries behind e u
       (ap (is_script u.script) x.made.actor ∙ other_script u.script s.script (λ same. apart (k.scripts_apart j at u s there is same))) x.made.turns
       (subst (λ (d : List Entry). IsScriptIn b h.manager d u) (sym entries) (k.scripts j u there))))
-      (single x.same) (named x.same) ready
+      (single x.same) (named x.same) ready (λ q. k.free calm)
     where
       e : Entry
       e = x.made.entry
@@ -88,7 +88,7 @@ module _ (b : Begun) (h : Held) (at : ℕ) (s t : ScriptState) (new : NodeState)
       (λ i d there. subst (λ (es : List Entry). IsEndAt (cables_begun b) h.manager k.first.history.entries es d) (sym (append-nil k.since)) (k.ends i d there)) k.ends_apart refl
       (each_set (IsScriptIn b h.manager (h.node.history.entries ++ [])) h.scripts at t (none_more t (script_waits b h.manager h.node.history.entries s t x.same x.memory x.done x.until mine))
       (λ j u apart there. none_more u (subst (λ (d : List Entry). IsScriptIn b h.manager d u) (sym entries) (k.scripts j u there))))
-      (single x.same) (named x.same) ready
+      (single x.same) (named x.same) ready (λ q. k.free calm)
     where
       none_more : (u : ScriptState) → IsScriptIn b h.manager h.node.history.entries u → IsScriptIn b h.manager (h.node.history.entries ++ []) u
       none_more u y = subst (λ (d : List Entry). IsScriptIn b h.manager d u) (sym (append-nil h.node.history.entries)) y

@@ -14,7 +14,7 @@ use Rattle.mq_split.specs.declared.opening.Passes.{Passes}
 use Rattle.mq_split.specs.declared.opening.Pipes.{Pipes}
 use Rattle.mq_split.specs.Facing.{AreJoined}
 use Rattle.mq_split.specs.Took.{EndState}
-use Rattle.mq_split.specs.Ends.{EachIs, EndsApart}
+use Rattle.mq_split.specs.Ends.{AreFree, EachIs, EndsApart}
 use Rattle.mq_shared.specs.Held.{Begun, cables_begun, entries_begun, entries_or}
 use Rattle.mq_split.specs.Opening.{EachCable, IsLow, wholes}
 use Rattle.mq_split.specs.Parting.{AreEnds, AreEndsAt, EndRowState, IsAmong, IsBegunOver, backs_of, ends_named, none_since, outs_of}
@@ -59,8 +59,8 @@ module _ (s : Scenario) (ks : List ℕ) (ns : List NodeState) (cs : List Course)
   pub among_over : (ls : List CableLine) (n : ℕ) → ls ≡ s.cables → n ≡ length ns → EachIs (IsAmong n) ls
   among_over ls n lines count = subst (λ (l : List CableLine). EachIs (IsAmong n) l) (sym lines) (cables_among s ks ns cs ws n may (sym count))
 
-  pub wait_over : (ls : List CableLine) (rows : List EndRowState) → ls ≡ s.cables → ((m : ℕ) (r : EndRowState) → slice_get rows m ≡ Some r → AreEndsAt (cables_begun b) none_since (ends_named ls) m r.ends) → EachIs (λ (r : EndRowState). EndsApart r.ends) rows → EndsWait b (record { scenario = s; scripts = ks }) rows
-  wait_over ls rows lines ends apart m r at = (subst (λ (l : List CableLine). AreEndsAt (cables_begun b) none_since (ends_named l) m r.ends) lines (ends m r at), apart m r at)
+  pub wait_over : (ls : List CableLine) (rows : List EndRowState) → ls ≡ s.cables → ((m : ℕ) (r : EndRowState) → slice_get rows m ≡ Some r → AreEndsAt (cables_begun b) none_since (ends_named ls) m r.ends) → EachIs (λ (r : EndRowState). EndsApart r.ends) rows → EachIs (λ (r : EndRowState). AreFree r.ends) rows → EndsWait b (record { scenario = s; scripts = ks }) rows
+  wait_over ls rows lines ends apart free m r at = (subst (λ (l : List CableLine). AreEndsAt (cables_begun b) none_since (ends_named l) m r.ends) lines (ends m r at), apart m r at, free m r at)
 
   pub few_managers : length ns ≤ 8
   few_managers = let few = may.scenario.few.managers.1 in omega (arith, few, may.managers)

@@ -13,7 +13,7 @@ use Rattle.mq_acts.specs.Advances.{IsTextLine}
 use Rattle.mq_acts.specs.Restarts.{StaysOwn}
 use Rattle.mq_acts.specs.Serving.{IsDone}
 use Rattle.mq_split.specs.Took.{EndState}
-use Rattle.mq_split.specs.Ends.{EachIs, EndsApart, IsEndAt, Parted, end_name}
+use Rattle.mq_split.specs.Ends.{AreFree, EachIs, EndsApart, IsEndAt, Parted, end_name}
 
 -- A script of the phase: its place in the scenario, its lines, the moment with which the phase began at its manager, how far it is.
 pub record ScriptState : Type 0 where
@@ -78,7 +78,8 @@ abbrev pub ScriptsApart : List ScriptState → Type 0
 ScriptsApart ss = (i j : ℕ) (s t : ScriptState) → slice_get ss i ≡ Some s → slice_get ss j ≡ Some t → s.script ≡ t.script → i ≡ j
 
 -- What the type of a lock's value keeps: the history is the one from before the phase, and then what a phase may have; each end and
--- each script is as the history says, in the places that they had; and where no event lacked memory, no trigger is due.
+-- each script is as the history says, in the places that they had; and where no event lacked memory, no trigger is due, and no end holds
+-- an item that it did not take.
 pub record Kept (b : Begun) (h : Held) : Type 0 where
   pub first : NodeState
   pub there : slice_get b.nodes h.manager ≡ Some first
@@ -93,6 +94,7 @@ pub record Kept (b : Begun) (h : Held) : Type 0 where
   pub scripts_apart : ScriptsApart h.scripts
   pub script_names : slice_get b.scripts h.manager ≡ Some (map script_name h.scripts)
   pub ready : h.wants ≡ false → IsDone h.node
+  pub free : h.wants ≡ false → AreFree h.ends
 
 -- Over a disk that tells its bytes, no restart in the phase was from a log that was changed from outside.
 abbrev pub KeptOwn : Type 0 → Begun → Held → Type 0
