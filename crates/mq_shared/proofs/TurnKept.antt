@@ -45,7 +45,7 @@ use Rattle.mq_shared.proofs.StampLaws.{pushed_low, timeout_silent}
 same_number : (k : ℕ) → (k == k) ≡ true
 same_number k = grind (arith, nat_tests)
 
-acts_here : (k : ℕ) (sends : Bool) → acts_as k sends (end_actor k sends) ≡ true
+pub acts_here : (k : ℕ) (sends : Bool) → acts_as k sends (end_actor k sends) ≡ true
 acts_here k true = same_number k
 acts_here k false = same_number k
 
@@ -66,7 +66,7 @@ no_script : (k j : ℕ) (sends : Bool) → is_script k (end_actor j sends) ≡ f
 no_script k j true = refl
 no_script k j false = refl
 
-an_end : (k : ℕ) (sends : Bool) → IsEnd (end_actor k sends)
+pub an_end : (k : ℕ) (sends : Bool) → IsEnd (end_actor k sends)
 an_end k true = a_sender k
 an_end k false = a_receiver k
 
