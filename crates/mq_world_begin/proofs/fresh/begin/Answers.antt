@@ -1,9 +1,7 @@
-use Rattle.std.specs.Prelude.{◌≡◌}
-use Rattle.std.proofs.Common.{arith, sym, ◌∙◌}
+use Rattle.std.proofs.Common.{arith}
 use Rattle.mq_begin.specs.Begun.{moment_or}
 use Rattle.mq_disk.specs.declared.shelf.Side.TheVariants as sides
-use Rattle.mq_spec_network.specs.Apart.{apart}
-use Rattle.mq_world_begin.proofs.RestLaws.{not_begun}
+use Rattle.mq_world_begin.proofs.RestLaws.{found_at, not_begun}
 use Rattle.mq_world_begin.proofs.fresh.begin.Goals as goal
 
 pub compare-requires : goal.compare-requires
@@ -11,8 +9,10 @@ compare-requires g c = let few = c.requires.scenario.few.cables in omega (arith,
 
 pub invariant_of-result : goal.invariant_of-result
 invariant_of-result g c =
-    let told = c.in-Ok.ensures.told in
-    (c.histories.ensures.rested, c.in-Ok-compare.ensures ∙ (λ i. apart (sym told.scenario i) (c.histories.ensures.histories i)))
+    (
+      c.histories.ensures.rested,
+      found_at c.in-Ok-compare.found c.args.scenario.now c.in-Ok.rested.scenario c.histories.result.now c.in-Ok.rested.histories c.in-Ok-compare.ensures c.in-Ok.ensures.told.scenario c.histories.ensures.histories,
+    )
 
 pub returns-in-Err-compare : goal.returns-in-Err-compare
 returns-in-Err-compare g c =
