@@ -1,6 +1,6 @@
 -- Numbers that rise do so with a handle more, and without one.
 use Rattle.std.proofs.Common.{ℕ, ◌≡◌, ◌+◌, ◌<◌, Bool, true, false, List, [], ◌∷◌, ◌++◌, refl, arith}
-use Rattle.std.specs.Prelude.{◌&&◌, nat_lt, filter}
+use Rattle.std.specs.Prelude.{◌&&◌, if◌then◌else◌, nat_lt, filter, Result, Ok, Err, is_err, is_ok}
 use Rattle.std.proofs.lemmas.Bool.Decides.{nat_tests}
 use Rattle.mq_calls.specs.declared.state.Handle.{Handle}
 use Rattle.mq_handles.specs.Rising.{AreBelow, handle_number}
@@ -28,3 +28,8 @@ so_more true h hs last k = by (nat_lt last h.number) refl
 pub so_less : (b : Bool) (test : Handle → Bool) (hs : List Handle) (last : ℕ) → RiseSo b last hs → RiseSo b last (filter test hs)
 so_less true test hs last k = handles_kept test hs last k
 so_less false test hs last k = tt
+
+-- what a list is where memory for one more was found
+pub kept_there : {T E : Type 0} (r : Result T E) (more less : List Handle) → is_err r ≡ false → (if is_ok r then more else less) ≡ more
+kept_there (Ok t) more less e = refl
+kept_there (Err x) more less e = absurd cc

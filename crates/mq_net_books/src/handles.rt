@@ -49,14 +49,14 @@ fn place_of(handles: &[Handle], number: u64) -> Option<usize>
 }
 
 /// The handle of a number, by halving.
-#[tactic(auto, using(mq_handles::proofs::SeatLaws::handle_none))]
+#[tactic(auto, using(mq_handles::proofs::SeatLaws::handle_none, mq_handles::proofs::SeatLaws::handle_within))]
 fn halve(handles: &[Handle], number: u64) -> Option<&Handle>
     requires { AreRising handle_number handles.now }
     ensures { option_copied result ≡ handle_at number handles.now }
 {
     match place_of(handles, number) {
         None => None,
-        Some(at) => handles.get(at),
+        Some(at) => Some(&handles[at]),
     }
 }
 
