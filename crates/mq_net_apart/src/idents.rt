@@ -146,7 +146,7 @@ fn rows_apart(
 /// # Errors
 ///
 /// No memory.
-pub fn compare(
+pub fn apart(
     alloc: Global,
     scenario: &Scenario,
     histories: &[History],

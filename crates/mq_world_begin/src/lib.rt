@@ -2,11 +2,10 @@
 #![tactic(auto)]
 
 mod beginning;
-mod fresh;
 mod opened;
 mod rested;
 mod rewinding;
 
-pub use fresh::{Fresh, begin};
+pub use beginning::begin;
 pub use rested::Rested;
 pub use rewinding::rewind;
