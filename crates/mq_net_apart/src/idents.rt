@@ -146,7 +146,7 @@ fn rows_apart(
 /// # Errors
 ///
 /// No memory.
-pub fn apart(
+pub fn compare(
     alloc: Global,
     scenario: &Scenario,
     histories: &[History],

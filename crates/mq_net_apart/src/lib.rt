@@ -7,5 +7,5 @@ mod idents;
 mod rows;
 mod twice;
 
-pub use idents::apart;
+pub use idents::compare;
 pub use rows::is_held_there;

@@ -232,10 +232,6 @@ pub run_whole : (form : Form) (tells : Type 0) (held : Held) (start : ℕ) (s : 
 run_whole form tells held start s w before now old new st counts None r b none ends own = absurd ends
 run_whole form tells held start s w before now old new st counts (Some l) r b none ends own = (begun_leaves tells held start s w counts l r b none ends.0 own, ends.1)
 
-pub run_wants : (form : Form) (tells : Type 0) (held : Held) (start : ℕ) (s : Scenario) (w : RestState) (before now : ℕ) (old new : Option (List ℕ)) (counts : List ℕ)
-    → IsRested w → Began tells held s (moment_or s.moment start) w → counts ≡ [] → Keeps old new → RunEnds form tells held start s before now old new status.NoMemory (Some (left_of w)) counts
-run_wants form tells held start s w before now old new counts r b none kept = (begun_leaves tells held start s w counts (left_of w) r b none (ran_none tells held (moment_or s.moment start) s w r b) (begun_own tells w (joins.fresh tells held s (moment_or s.moment start) w r b)), kept)
-
 pub run_apart : (form : Form) (tells : Type 0) (held : Held) (start : ℕ) (s : Scenario) (w : RestState) (before now : ℕ) (old new : Option (List ℕ)) (counts : List ℕ) (found : Apart)
     → IsRested w → Began tells held s (moment_or s.moment start) w → counts ≡ [] → apart s w.histories ≡ Some found → Keeps old new → RunEnds form tells held start s before now old new (status.Apart found) (Some (left_of w)) counts
 run_apart form tells held start s w before now old new counts found r b none is kept =

@@ -12,7 +12,6 @@ use mq_base::Sink;
 use mq_disk::{Disk, Shelf};
 use mq_gate::Gate;
 use mq_history::Scenario;
-use mq_net_apart::apart;
 use mq_nodes::Stop;
 use mq_steps::run_steps;
 use mq_world::{Network, Rested, begin};
@@ -195,7 +194,7 @@ fn run_whole<K: Sink, D: Disk + Send, R: Threads + Wait + Sync, G: Gate + Sync>(
 /// Runs a scenario over a shelf: its managers begin, their logs are checked to belong together, its steps are done,
 /// those that are down are restarted, and the report is written, or the line of a large run. The scripts of a PHASE run in threads,
 /// and pass the gate before each try of a line.
-#[tactic(auto, using(crate::proofs::JoinLaws::fresh, crate::proofs::RunLaws::begun_timed, crate::proofs::RunLaws::run_whole, crate::proofs::RunLaws::run_wants, crate::proofs::RunLaws::run_apart, crate::proofs::RunLaws::run_none, crate::proofs::RunLaws::net_no_write, crate::proofs::RunLaws::few_cables))]
+#[tactic(auto, using(crate::proofs::JoinLaws::fresh, crate::proofs::RunLaws::begun_timed, crate::proofs::RunLaws::run_whole, crate::proofs::RunLaws::run_apart, crate::proofs::RunLaws::run_none, crate::proofs::RunLaws::net_no_write))]
 pub fn run_scenario<K: Sink, H: Shelf, R: Threads + Wait + Sync, G: Gate + Sync>(
     rt: &R,
     alloc: Global,
@@ -215,8 +214,8 @@ where
     ensures risen { IfSome result.network words.IsRisen }
     ensures write_fault { (n : ℕ) → result.status ≡ WriteFault n → words.Rose (K.faults sink.old) (K.faults sink.new) }
 {
-    let rested = match begin(alloc, scenario, shelf, start) {
-        Ok(rested) => rested,
+    let fresh = match begin(alloc, scenario, shelf, start) {
+        Ok(fresh) => fresh,
         Err(none) => {
             return Ended {
                 status: net_status(none.fault),
@@ -226,9 +225,10 @@ where
             };
         }
     };
-    match apart(alloc, scenario, rested.histories()) {
-        Err(_) => ended_with(alloc, Status::NoMemory, rested),
-        Ok(Some(found)) => ended_with(alloc, Status::Apart(found), rested),
-        Ok(None) => run_whole(rt, alloc, form, scenario, rested, sink, gate),
+    let apart = fresh.apart();
+    let rested = fresh.into_rested();
+    match apart {
+        Some(found) => ended_with(alloc, Status::Apart(found), rested),
+        None => run_whole(rt, alloc, form, scenario, rested, sink, gate),
     }
 }

@@ -17,5 +17,5 @@ mod timing;
 mod turning;
 mod turns;
 
-pub use mq_world_begin::{Rested, begin};
+pub use mq_world_begin::{Fresh, Rested, begin};
 pub use network::Network;

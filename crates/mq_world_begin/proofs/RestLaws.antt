@@ -8,12 +8,14 @@ use Rattle.mq_history.specs.declared.history.History.{History}
 use Rattle.mq_history.specs.declared.scenario.CableLine.{CableLine}
 use Rattle.mq_history.specs.declared.scenario.ManagerLine.{ManagerLine}
 use Rattle.mq_history.specs.declared.scenario.Scenario.{Scenario}
+use Rattle.mq_history.specs.declared.story.Apart.{Apart}
 use Rattle.mq_calls.specs.declared.image.Image.{Image}
 use Rattle.mq_calls.specs.Recovery.{AreKnown, IsImage}
 use Rattle.mq_calls.specs.State.{Given, Plain}
 use Rattle.mq_spec_manager.specs.Stops.{first_start}
 use Rattle.mq_spec_node.specs.Terms.{Entry}
 use Rattle.mq_spec_node.specs.Words.{Follows, Own, TriggersStand, after, begun_anew, by, is_receiver, is_sender, node_of, opening_node}
+use Rattle.mq_spec_network.specs.Apart.{apart}
 use Rattle.mq_spec_network.specs.Cables.{Carries, made}
 use Rattle.mq_spec_network.specs.Given.{log_max_or, name_or, own_at, surroundings}
 use Rattle.mq_spec_network.specs.Given.{given_at as given_of}
@@ -79,6 +81,10 @@ not_begun tells held moment ls vs old new counts fault h is counted le =
     want faults.DiskFault e = absurd cc
     want (faults.BadLog k gate) e = absurd cc
     want faults.NoMemory e = tt
+
+-- What was found of these histories is so of the managers at rest.
+pub found_at : (found : Option Apart) (s t : Scenario) (gs hs : List History) → found ≡ apart s gs → t ≡ s → gs ≡ hs → found ≡ apart t hs
+found_at found s t gs hs e same all = e ∙ (λ i. apart (sym same i) (all i))
 
 -- Nothing lies on a cable, and nothing was popped.
 carries_none : (fs : List Fault) (pushes pops : Actor → Bool) → Carries fs (by pushes []) pops []

@@ -1,5 +1,5 @@
 //! The managers of a scenario begin over a shelf.
-ghost use Rattle.std.specs.Prelude.{◌≡◌, ◌+◌, ◌<◌, [], MatchResult, map, vec_len, vec_capacity};
+ghost use Rattle.std.specs.Prelude.{◌≡◌, ◌+◌, ◌<◌, ◌≤◌, [], MatchResult, map, vec_len, vec_capacity};
 ghost use Rattle.mq_begin.specs.declared.faults.NetFault.TheVariants as faults;
 ghost use Rattle.mq_history.specs.Scenarios.{IsScenario};
 ghost use Rattle.mq_disk.specs.declared.shelf.Side.TheVariants as sides;
@@ -35,14 +35,15 @@ fn no_memory<D: Disk>(begun: Begun<D>) -> NoNet<D>
 ///
 /// The first fault: the shelf or a disk failed, a manager's bytes are no log of it, or there was no memory. The disks that
 /// were taken are handed back.
-pub fn begin<H: Shelf>(
+pub fn begin_at_rest<H: Shelf>(
     alloc: Global,
     scenario: &Scenario,
     shelf: &mut H,
     start: u64,
 ) -> Result<Rested<H::D>, NoNet<H::D>>
     requires scenario { IsScenario scenario.now }
-    ensures { MatchResult result (λ rested. Began H.D.tells (λ n b. H.holds shelf.old n sides.A b) scenario.now (moment_or scenario.now.moment start) rested) (λ e. NotBegan H.D.tells (λ n b. H.holds shelf.old n sides.A b) (moment_or scenario.now.moment start) scenario.now.managers (H.faults shelf.old) (H.faults shelf.new) (map H.D.faults e.disks.items) e.fault) }
+    ensures told { MatchResult result (λ rested. Began H.D.tells (λ n b. H.holds shelf.old n sides.A b) scenario.now (moment_or scenario.now.moment start) rested) (λ e. NotBegan H.D.tells (λ n b. H.holds shelf.old n sides.A b) (moment_or scenario.now.moment start) scenario.now.managers (H.faults shelf.old) (H.faults shelf.new) (map H.D.faults e.disks.items) e.fault) }
+    ensures later { H.faults shelf.old ≤ H.faults shelf.new }
 {
     let begun = match begin_managers(alloc, scenario, shelf, start) {
         Ok(begun) => begun,

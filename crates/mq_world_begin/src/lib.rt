@@ -2,10 +2,11 @@
 #![tactic(auto)]
 
 mod beginning;
+mod fresh;
 mod opened;
 mod rested;
 mod rewinding;
 
-pub use beginning::begin;
+pub use fresh::{Fresh, begin};
 pub use rested::Rested;
 pub use rewinding::rewind;

@@ -7,7 +7,7 @@ use Rattle.mq_begin.proofs.BeganLaws.{as_many}
 use Rattle.mq_disk.specs.declared.shelf.Side.TheVariants as sides
 use Rattle.mq_world_begin.specs.Rested.{IsRested}
 use Rattle.mq_world_begin.proofs.RestLaws.{all_rested, began_at, just_begun, not_begun}
-use Rattle.mq_world_begin.proofs.beginning.begin.Goals as goal
+use Rattle.mq_world_begin.proofs.beginning.begin_at_rest.Goals as goal
 
 pub histories_of-requires : goal.histories_of-requires
 histories_of-requires g c =
@@ -18,13 +18,13 @@ histories_of-requires g c =
       begun = λ m v at. just_begun g.H.D.Disk.tells held moment (0 + m) c.args.scenario.now.managers m v (began_at g.H.D.Disk.tells held moment 0 c.args.scenario.now.managers c.in-Ok.begun.managers.items m v c.in-Ok.ensures.told (there m v at));
     }
 
-pub returns-in-Err-histories_of : goal.returns-in-Err-histories_of
-returns-in-Err-histories_of g c =
+pub returns-in-Err-histories_of-clause-told : goal.returns-in-Err-histories_of-clause-told
+returns-in-Err-histories_of-clause-told g c =
     not_begun g.H.D.Disk.tells (λ n b. g.H.Shelf.holds c.args.shelf.now n sides.A b) (moment_or c.args.scenario.now.moment c.args.start) c.args.scenario.now.managers c.in-Ok.begun.managers.items _ _ _ _
     c.in-Ok.ensures.told c.no_memory.ensures.fault c.no_memory.ensures.counts c.in-Ok.ensures.later
 
-pub returns-in-Err-owns_of : goal.returns-in-Err-owns_of
-returns-in-Err-owns_of g c =
+pub returns-in-Err-owns_of-clause-told : goal.returns-in-Err-owns_of-clause-told
+returns-in-Err-owns_of-clause-told g c =
     not_begun g.H.D.Disk.tells (λ n b. g.H.Shelf.holds c.args.shelf.now n sides.A b) (moment_or c.args.scenario.now.moment c.args.start) c.args.scenario.now.managers c.in-Ok.begun.managers.items _ _ _ _
     c.in-Ok.ensures.told c.no_memory-in-Err-owns_of.ensures.fault c.no_memory-in-Err-owns_of.ensures.counts c.in-Ok.ensures.later
 
@@ -56,8 +56,8 @@ invariant_of-result g c =
       c.in-Ok.ensures.room.2,
     )
 
-pub returns : goal.returns
-returns g c =
+pub returns-clause-told : goal.returns-clause-told
+returns-clause-told g c =
     record {
       scenario = c.of.ensures;
       began = c.in-Ok.ensures.told;
